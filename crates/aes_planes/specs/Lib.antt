@@ -1,0 +1,4 @@
+pub mod Fips197
+pub mod Each
+pub mod Bits
+pub mod Planes

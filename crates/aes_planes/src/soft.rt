@@ -1,0 +1,3 @@
+//! The cipher's steps on eight words of bit planes, once for every word.
+
+pub mod word;
