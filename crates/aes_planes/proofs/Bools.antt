@@ -1,5 +1,5 @@
 -- Claims on a few bits by all cases, and lists of eight and of sixteen by their elements.
-use Rattle.std.proofs.Common.{◌≡◌, ℕ, zero, suc, ◌+◌, ◌<◌, Bool, true, false, not, ◌&&◌, List, [], ◌∷◌, length, get_or, refl, sym, arith}
+use Rattle.std.proofs.Common.{◌≡◌, ℕ, zero, suc, Bool, true, false, not, ◌&&◌, List, [], ◌∷◌, length, get_or, refl, sym, arith}
 use Rattle.aes_planes.proofs.Cases.{both}
 
 -- whether two bits are the same

@@ -1,13 +1,14 @@
 -- The blocks that planes hold: from facts on the bytes at places to equations on blocks.
-use Rattle.std.proofs.Common.{◌≡◌, ℕ, zero, suc, ◌+◌, ◌-◌, ◌*◌, ◌/◌, ◌%◌, ◌<◌, ◌≤◌, Bool, List, [], ◌∷◌, length, map, replicate, refl, ap, sym, subst, ◌∙◌, arith, ◌⊎◌, inl, inr}
+use Rattle.std.proofs.Common.{◌≡◌, ℕ, zero, suc, ◌+◌, ◌-◌, ◌*◌, ◌/◌, ◌%◌, ◌<◌, ◌≤◌, Bool, List, [], ◌∷◌, length, get_or, map, replicate, refl, ap, sym, subst, ◌∙◌, arith, ◌⊎◌, inl, inr}
 use Rattle.std.proofs.Math.Nat.{mod-eq_of_lt, add-mod_right}
 use Rattle.std.proofs.lemmas.Nat.{mul-add-lt}
 use Rattle.std.proofs.lemmas.Bool.{cases_lt}
-use Rattle.aes_planes.specs.Fips197.{build, build_from, state, field_add, byte_at, add_round_key, shift_rows}
+use lib.Arith.{digits_div, digits_mod}
+use Rattle.aes_planes.specs.Fips197.{byte_at, build, build_from, state, field_add, add_round_key}
 use Rattle.aes_planes.specs.Planes.{held, held_byte, place, zip_with}
-use Rattle.aes_planes.proofs.Above.{byte_at-state, state_same}
+use Rattle.aes_planes.proofs.Above.{byte_at-state, state_is, state_same}
 use Rattle.aes_planes.proofs.Blocks.{state_length}
-use Rattle.aes_planes.proofs.Cases.{length-build}
+use Rattle.aes_planes.proofs.Cases.{build_is, length-build}
 
 -- ---- lists that are built of a function
 
@@ -98,6 +99,13 @@ row_on n r c k d h i j l =
     let f : 16 * n ≡ 4 * (4 * n) = omega arith in
     rw (e, f) (turned (4 * n) (c * n + k) (r + d) x (cases_lt (r + d) 4) (omega arith))
 
+-- the column of a place, where a row has R bits and a column Q
+pub column_of : (n R Q r c k : ℕ) → R ≡ 4 * n → Q ≡ n → r < 4 → c < 4 → k < n → place n r c k % R / Q ≡ c
+column_of n R Q r c k eR eQ h l kn =
+    let x : c * n + k < 4 * n = omega (arith, mul-add-lt c n k 4 l kn) in
+    let rest : place n r c k % R ≡ c * n + k = ap (λ v. place n r c k % v) eR ∙ digits_mod r x in
+    (λ t. rest t / eQ t) ∙ digits_div c kn
+
 -- ---- from bytes at places to blocks
 
 -- planes whose byte at each place is f of the old one
@@ -124,3 +132,30 @@ unfolding held
 stepped_held step at n new old e h =
     build-ext n _ _ (λ k l. state_same _ _ (λ r c i j. h r c k i j l) ∙ e (λ r c. held_byte old (place n r c k)))
     ∙ sym (map-build step n (λ k. state (λ r c. held_byte old (place n r c k))))
+
+-- ---- from the bytes of blocks to the blocks
+
+-- planes hold the blocks whose bytes they have
+pub held_of : (n : ℕ) (planes : List (List Bool)) (blocks : List (List ℕ)) → length blocks ≡ n
+    → ((k : ℕ) → k < n → length (get_or blocks k []) ≡ 16)
+    → ((r c k : ℕ) → r < 4 → c < 4 → k < n → held_byte planes (place n r c k) ≡ byte_at (get_or blocks k []) r c)
+    → held n planes ≡ blocks
+unfolding held
+held_of n planes blocks l sized h =
+    build_is n _ blocks [] l (λ k lt. state_is _ (get_or blocks k []) (sized k lt) (λ r c i j. h r c k i j lt))
+
+pub single : {A : Type 0} (xs : List A) (d : A) → length xs ≡ 1 → xs ≡ get_or xs 0 d ∷ []
+single [] d e = absurd (omega arith)
+single (x ∷ []) d e = refl
+single (x ∷ y ∷ xs) d e = absurd (omega arith)
+
+-- words of one block
+pub one_held : (planes : List (List Bool)) (block : List ℕ) → length block ≡ 16
+    → ((r c : ℕ) → r < 4 → c < 4 → held_byte planes (r * 4 + c) ≡ byte_at block r c) → held 1 planes ≡ block ∷ []
+one_held planes block l h = held_of 1 planes (block ∷ []) refl
+    (elim [ zero ↦ λ lt. l | suc k ↦ λ lt. absurd (omega arith) ])
+    (λ r c k i j lt. go r c k i j lt)
+  where
+    go : (r c k : ℕ) → r < 4 → c < 4 → k < 1 → held_byte planes (place 1 r c k) ≡ byte_at (get_or (block ∷ []) k []) r c
+    go r c zero i j lt = let e : place 1 r c 0 ≡ r * 4 + c = omega arith in ap (held_byte planes) e ∙ h r c i j
+    go r c (suc k) i j lt = absurd (omega arith)

@@ -1,4 +1,9 @@
-pub mod Fips197
-pub mod Each
+pub mod BigEndian
 pub mod Bits
+pub mod Each
+pub mod Fips197
+pub mod Mixing
 pub mod Planes
+pub mod SBoxTables
+pub mod Swaps
+pub mod Words

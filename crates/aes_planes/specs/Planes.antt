@@ -1,5 +1,5 @@
 -- Eight words as bit planes: which bit of which word is which bit of which block.
-use Rattle.std.specs.Prelude.{◌≡◌, ℕ, zero, suc, ◌+◌, ◌*◌, ◌^◌, ◌<◌, ◌%◌, ◌==◌, ◌&&◌, Bool, cond, List, [], ◌∷◌, length, map, get_or, take, drop}
+use Rattle.std.specs.Prelude.{◌≡◌, ℕ, zero, suc, ◌+◌, ◌*◌, ◌<◌, ◌%◌, ◌==◌, ◌&&◌, Bool, cond, List, [], ◌∷◌, length, map, get_or, take, drop}
 use Rattle.aes_planes.specs.Bits.{at, bit, number}
 use Rattle.aes_planes.specs.Fips197 as fips
 

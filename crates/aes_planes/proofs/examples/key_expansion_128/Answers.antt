@@ -1,0 +1,7 @@
+use Rattle.std.proofs.Common.{refl}
+use Rattle.aes_planes.proofs.OnLiterals.{aes_on_literals}
+use Rattle.aes_planes.proofs.examples.key_expansion_128.Goals as goal
+
+pub returns : goal.returns
+unfolding aes_on_literals
+returns c = refl

@@ -1,0 +1,7 @@
+use Rattle.std.proofs.Common.{◌∙◌}
+use Rattle.aes_planes.proofs.Held.{map-same}
+use Rattle.aes_planes.proofs.Swaps.{shifted_back_2}
+use Rattle.aes_planes.proofs.soft.utils.inv_shift_rows_2.Goals as goal
+
+pub returns : goal.returns
+returns g c = c.shift_rows_2.ensures ∙ map-same _ _ _ shifted_back_2

@@ -1,0 +1,10 @@
+use Rattle.std.proofs.Common.{◌*◌, ◌%◌, refl, rules}
+use Rattle.aes_planes.specs.Bits.{bit}
+use Rattle.aes_planes.proofs.Bools.{same}
+use Rattle.aes_planes.proofs.Cases.{all_below}
+use Rattle.aes_planes.proofs.WordBits.{places_by_cases}
+use Rattle.aes_planes.proofs.soft.word.word16.U16Word.byte_repeat.Goals as goal
+
+pub returns : goal.returns
+unfolding all_below same bit
+returns c = places_by_cases 256 16 (λ b. b * 0x0101) (λ b i. bit b (i % 8)) refl c.args.b (search rules)
