@@ -1,0 +1,28 @@
+//! Making a value from a key.
+
+ghost use Rattle.std.specs.Prelude.{◌≡◌, ◌≢◌, ◌↔◌, ℕ, List, length, IsErr, IfOk};
+
+use super::sizes::KeySizeUser;
+
+/// A slice that should have been a key has another length than a key.
+#[derive(Debug, Clone, Copy, PartialEq, Eq)]
+pub struct InvalidLength;
+
+/// A type whose values are made from a key, and are seen by contracts with that key.
+pub trait KeyInit: KeySizeUser {
+    /// The bytes of the key that a value was made from.
+    ghost own_key: { Self → List ℕ };
+
+    /// The value of a key.
+    fn new(key: &Self::Key) -> Self
+        ensures { own_key result ≡ Self.key_bytes key.now };
+
+    /// The value of a key given as a slice.
+    ///
+    /// # Errors
+    ///
+    /// `InvalidLength` exactly where the slice's length is not KEY_SIZE.
+    fn new_from_slice(key: &[u8]) -> Result<Self, InvalidLength>
+        ensures refusal { IsErr result ↔ (length key.now ≢ Self.KEY_SIZE) }
+        ensures made { IfOk result (λ made. own_key made ≡ key.now) };
+}

@@ -1,0 +1,48 @@
+//! What no clause says: that the calls answer, through their bounds.
+
+use super::{InvalidLength, KeyInit, KeySizeUser};
+
+/// A key of three bytes, and nothing else.
+#[derive(Drop)]
+struct Plain {
+    key: [u8; 3],
+}
+
+impl KeySizeUser for Plain {
+    type Key = [u8; 3];
+
+    ghost KEY_SIZE = { 3 };
+
+    ghost key_bytes = { λ key. key };
+
+    const KEY_SIZE: usize = 3;
+}
+
+impl KeyInit for Plain {
+    ghost own_key = { λ plain. plain.key };
+
+    fn new(key: &[u8; 3]) -> Plain {
+        Plain { key: *key }
+    }
+
+    fn new_from_slice(key: &[u8]) -> Result<Plain, InvalidLength> {
+        match <[u8; 3]>::try_from(key) {
+            Ok(key) => Ok(Plain::new(&key)),
+            Err(_) => Err(InvalidLength),
+        }
+    }
+}
+
+/// Whether a slice is refused as a key.
+fn is_refused<K: KeyInit + Drop>(key: &[u8]) -> bool {
+    K::new_from_slice(key).is_err()
+}
+
+#[test]
+fn keys_of_another_length_are_refused(rt: HostRuntime) {
+    assert_eq!(rt; Plain::KEY_SIZE, 3);
+    assert!(rt; is_refused::<Plain>(&[]));
+    assert!(rt; is_refused::<Plain>(&[1, 2]));
+    assert!(rt; is_refused::<Plain>(&[1, 2, 3, 4]));
+    assert!(rt; !is_refused::<Plain>(&[1, 2, 3]));
+}

@@ -1,0 +1,4 @@
+//! The traits of block ciphers.
+#![tactic(auto)]
+
+pub mod cipher;
