@@ -1,0 +1,5 @@
+pub mod Slots
+pub mod Expansion
+pub mod Keyed
+pub mod Rounds
+pub mod Schedules
