@@ -1,0 +1,2 @@
+pub mod SingleRounds
+pub mod Words

@@ -1,0 +1,8 @@
+use Rattle.std.proofs.Common.{ap, ◌∷◌, [], ◌-◌, arith}
+use Rattle.aes_planes.specs.Fips197 as fips
+use Rattle.aes_rounds.proofs.Words.{constants_are_powers}
+use Rattle.aes_rounds.proofs.rounds.expand.round_constant.Goals as goal
+
+pub returns : goal.returns
+unfolding fips.round_constant
+returns c = ap (λ x. x ∷ 0 ∷ 0 ∷ 0 ∷ []) (constants_are_powers (c.args.i - 1) (omega arith))

@@ -1,0 +1,4 @@
+//! AES round by round.
+#![tactic(auto)]
+
+pub mod rounds;
