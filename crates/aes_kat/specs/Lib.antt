@@ -1,0 +1,5 @@
+pub mod Lines
+pub mod Reply
+pub mod Steps
+pub mod Answers
+pub mod Status

@@ -1,0 +1,170 @@
+// The engine: from the bytes of a reader to the bytes of a writer.
+ghost use Rattle.std.specs.Prelude.{◌≡◌, ◌++◌, ◌∷◌, [], OnOk, OnErr, IfOk, IfSome, vec_len};
+ghost use Rattle.std.specs.Io.KnownBytes.{Appends, IsAtEnd};
+ghost use Rattle.aes_kat.specs.Lines.{Lacks};
+ghost use Rattle.aes_kat.specs.Status.{status_of};
+ghost use Rattle.aes_kat.specs.Reply.{reply_to, is_fault};
+ghost use Rattle.aes_kat.specs.Answers.{answers_to, has_fault, AppendsBeginning, Gathers};
+
+use crate::cut::cut_at;
+use crate::replies::reply;
+use std::alloc::{AllocError, Allocator, Global};
+use std::io;
+use std::io::{Read, Write};
+
+/// The input, the output or the memory gave out.
+#[derive(Debug, Clone, Copy, PartialEq, Eq)]
+pub struct Failed;
+
+impl From<AllocError> for Failed {
+    fn from(_: AllocError) -> Failed {
+        Failed
+    }
+}
+
+impl From<io::Error> for Failed {
+    fn from(_: io::Error) -> Failed {
+        Failed
+    }
+}
+
+const LINE_END: u8 = b'\n';
+
+// How many bytes one read may give.
+const CHUNK: usize = 64 * 1024;
+
+// Writes all of `bytes`. A write that takes no byte fails, and so does one that was interrupted.
+fn write_whole<W: Write>(output: &mut W, bytes: &[u8]) -> Result<(), Failed>
+    ensures all { OnOk result (Appends (W.contents output.old) (W.contents output.new) bytes.now) }
+    ensures beginning { OnErr result (AppendsBeginning (W.contents output.old) (W.contents output.new) bytes.now) }
+{
+    let mut rest = bytes;
+    while !rest.is_empty() {
+        let count = output.write(rest)?;
+        if count == 0 {
+            return Err(Failed);
+        }
+        rest = &rest[count..];
+    }
+    Ok(())
+}
+
+// Adds the reply to a line and its line end to `answers`.
+fn answer<A: Allocator>(line: &[u8], answers: &mut Vec<u8, A>) -> Result<bool, Failed>
+    ensures text { OnOk result (answers.new.items ≡ answers.old.items ++ (reply_to line.now ++ 10 ∷ [])) }
+    ensures fault { IfOk result (λ fault. fault ≡ is_fault line.now) }
+{
+    let mut text = [0u8; 2048];
+    let (length, fault) = reply(line, &mut text);
+    answers.extend_from_slice(&text[..length])?;
+    answers.extend_from_slice(&[LINE_END])?;
+    Ok(fault)
+}
+
+// Answers each line that `chunk` ends, the first of them begun in `line`, and leaves in `line` what the last one has begun.
+fn feed<A: Allocator>(
+    chunk: &[u8],
+    line: &mut Vec<u8, A>,
+    answers: &mut Vec<u8, A>,
+) -> Result<bool, Failed>
+    requires { Lacks 10 line.old.items }
+    ensures begun { OnOk result (Lacks 10 line.new.items) }
+    ensures gathers { IfOk result (λ fault. Gathers answers.old.items answers.new.items
+        (line.old.items ++ chunk.now) line.new.items fault) }
+{
+    let mut rest = chunk;
+    let mut fault = false;
+    while let Some((front, after)) = cut_at(rest, LINE_END) {
+        line.extend_from_slice(front)?;
+        fault |= answer(line.as_slice(), answers)?;
+        line.clear();
+        rest = after;
+    }
+    line.extend_from_slice(rest)?;
+    Ok(fault)
+}
+
+// Answers what the input ends with after its last line end.
+fn finish<A: Allocator>(line: &[u8], answers: &mut Vec<u8, A>) -> Result<bool, Failed>
+    requires { Lacks 10 line.now }
+    ensures text { OnOk result (answers.new.items ≡ answers.old.items ++ answers_to line.now) }
+    ensures fault { IfOk result (λ fault. fault ≡ has_fault line.now) }
+{
+    if line.is_empty() {
+        return Ok(false);
+    }
+    answer(line, answers)
+}
+
+// Room for `size` bytes.
+fn zeros<A: Allocator>(alloc: A, size: usize) -> Result<Vec<u8, A>, Failed>
+    ensures { IfOk result (λ room. vec_len room ≡ size) }
+{
+    Ok(Vec::from_elem(alloc, 0u8, size)?)
+}
+
+/// Answers each line of the input, to its end, and says whether some line was a fault.
+///
+/// The answers to the lines that a read has ended are written before the next read.
+///
+/// # Errors
+///
+/// `Failed` where a read or a write failed, an interrupted one and a write that takes no byte
+/// among them, where memory was refused, or where `u64::MAX` reads did not reach the end.
+/// What was written is then a beginning of the answers.
+pub fn run<R: Read, W: Write>(alloc: Global, input: &mut R, output: &mut W) -> Result<bool, Failed>
+    ensures ended { OnOk result (IsAtEnd (R.remaining input.new)) }
+    ensures answered { OnOk result (IfSome (R.remaining input.old) (λ text.
+        Appends (W.contents output.old) (W.contents output.new) (answers_to text))) }
+    ensures fault { IfOk result (λ fault. IfSome (R.remaining input.old) (λ text. fault ≡ has_fault text)) }
+    ensures failed { OnErr result (IfSome (R.remaining input.old) (λ text.
+        AppendsBeginning (W.contents output.old) (W.contents output.new) (answers_to text))) }
+{
+    run_in(alloc, input, output)
+}
+
+// The same over any memory.
+pub(crate) fn run_in<A: Allocator, R: Read, W: Write>(
+    alloc: A,
+    input: &mut R,
+    output: &mut W,
+) -> Result<bool, Failed>
+    ensures ended { OnOk result (IsAtEnd (R.remaining input.new)) }
+    ensures answered { OnOk result (IfSome (R.remaining input.old) (λ text.
+        Appends (W.contents output.old) (W.contents output.new) (answers_to text))) }
+    ensures fault { IfOk result (λ fault. IfSome (R.remaining input.old) (λ text. fault ≡ has_fault text)) }
+    ensures failed { OnErr result (IfSome (R.remaining input.old) (λ text.
+        AppendsBeginning (W.contents output.old) (W.contents output.new) (answers_to text))) }
+{
+    let mut room = zeros(&alloc, CHUNK)?;
+    let chunk = room.as_mut_slice();
+    let mut line = Vec::new(&alloc);
+    let mut answers = Vec::new(&alloc);
+    let mut fault = false;
+    'reads: for _ in 0..u64::MAX {
+        answers.clear();
+        let count = input.read(chunk)?;
+        if count == 0 {
+            let last = finish(line.as_slice(), &mut answers)?;
+            write_whole(output, answers.as_slice())?;
+            output.flush()?;
+            return Ok(fault | last);
+        }
+        let more = feed(&chunk[..count], &mut line, &mut answers)?;
+        write_whole(output, answers.as_slice())?;
+        fault |= more;
+    }
+    Err(Failed)
+}
+
+/// The status that the program ends with: 0 where every line was answered, 1 where some line was
+/// a fault, 2 where the run failed.
+pub fn status(answer: &Result<bool, Failed>) -> u8
+    ensures { result ≡ status_of answer.now }
+{
+    match answer {
+        Ok(false) => 0,
+        Ok(true) => 1,
+        Err(Failed) => 2,
+    }
+}

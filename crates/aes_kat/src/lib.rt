@@ -1,0 +1,19 @@
+//! The engine of the program `aes-kat`: a reply to each line of an input.
+#![tactic(auto)]
+
+mod commands;
+mod cut;
+mod engine;
+mod faults;
+mod laws;
+mod library;
+mod operands;
+mod replies;
+mod requests;
+
+pub use engine::{Failed, run, status};
+pub use laws::parts_are_unique;
+pub use replies::reply;
+
+#[cfg(test)]
+mod tests;

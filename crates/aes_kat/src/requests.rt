@@ -1,0 +1,65 @@
+// A line, cut into its command and the words after it.
+ghost use Rattle.std.specs.Prelude.{◌≡◌, ◌∷◌, [], MatchResult};
+ghost use Rattle.std.specs.Option.{option_map_or};
+ghost use Rattle.aes_kat.specs.Lines.{words_of};
+ghost use Rattle.aes_kat.specs.Reply.{request_of};
+
+use crate::commands::Command;
+use crate::cut::cut_at;
+use crate::faults::Fault;
+
+const SPACE: u8 = b' ';
+
+// A command and the words after it, of which the second may be missing and is then empty.
+#[derive(Clone, Copy)]
+pub(crate) struct Request<'a> {
+    pub(crate) command: Command,
+    pub(crate) first: &'a [u8],
+    pub(crate) second: &'a [u8],
+}
+
+// The first word, and what stands after the space that ends it.
+fn first_word(text: &[u8]) -> (&[u8], Option<&[u8]>)
+    ensures { words_of text.now ≡ result.0.now ∷ option_map_or (λ rest. words_of rest.now) result.1 [] }
+{
+    match cut_at(text, SPACE) {
+        Some((word, rest)) => (word, Some(rest)),
+        None => (text, None),
+    }
+}
+
+// What a line asks for.
+pub(crate) fn parse(line: &[u8]) -> Result<Request<'_>, Fault>
+    ensures { MatchResult result
+        (λ asked. request_of (words_of line.now) ≡
+        Ok (record { command = asked.command; first = asked.first.now; second = asked.second.now }))
+        (λ fault. request_of (words_of line.now) ≡ Err fault) }
+{
+    let (name, after_name) = first_word(line);
+    let Some(command) = Command::named(name) else {
+        return Err(Fault::Command);
+    };
+    let Some(operands) = after_name else {
+        return Err(Fault::Command);
+    };
+    let (first, after_first) = first_word(operands);
+    let Some(last) = after_first else {
+        if !command.takes_one() {
+            return Err(Fault::Command);
+        }
+        return Ok(Request {
+            command,
+            first,
+            second: &[],
+        });
+    };
+    let (second, after_second) = first_word(last);
+    if after_second.is_some() || !command.takes_two() {
+        return Err(Fault::Command);
+    }
+    Ok(Request {
+        command,
+        first,
+        second,
+    })
+}
