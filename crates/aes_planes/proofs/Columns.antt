@@ -13,15 +13,10 @@ use Rattle.aes_planes.proofs.Above.{byte_at-state, state_same}
 use Rattle.aes_planes.proofs.Bools.{same, same_tells}
 use Rattle.aes_planes.proofs.Cases.{all_below, all_below_tells}
 use Rattle.aes_planes.proofs.FieldLaws.{add_swap, field_mul_add, agree_by_powers}
-use Rattle.aes_planes.proofs.Held.{place_lt, row_on}
+use Rattle.aes_planes.proofs.Held.{row_on}
 use Rattle.aes_planes.proofs.Numbers.{number_lt}
 
 -- ---- turns by rows and columns
-
-pub distance_lt : (n B R Q rows cols : ℕ) → R ≡ 4 * n → Q ≡ n → B ≡ 16 * n → 1 ≤ n → rows ≤ 3 → cols ≤ 3 → rows * R + cols * Q < B
-distance_lt n B R Q rows cols eR eQ eB some h l =
-    let e : rows * R + cols * Q ≡ place n rows cols 0 = (λ t. rows * eR t + cols * eQ t) ∙ omega arith in
-    omega (arith, e, place_lt n rows cols 0 (omega arith) (omega arith) (omega arith))
 
 -- the place so many rows and columns on, where the column stays in its row
 pub turned_place : (n B R Q r c k rows cols : ℕ) → R ≡ 4 * n → Q ≡ n → B ≡ 16 * n → r < 4 → c + cols < 4 → k < n → rows ≤ 3
