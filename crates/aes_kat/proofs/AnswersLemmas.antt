@@ -1,5 +1,6 @@
 -- Lemmas on what a part of the work has done.
 use Rattle.std.proofs.Common.{◌≡◌, ℕ, List, [], ◌∷◌, ◌++◌, Bool, true, false, ◌||◌, Option, None, Some, IfSome, Result, Ok, Err, OnErr, refl, sym, ap, ◌∙◌, subst, append_assoc, append-nil, length, take, ◌<◌, arith}
+use Rattle.std.proofs.Math.Bool.{or-false}
 use Rattle.std.specs.List.{flat_map, list_any}
 use Rattle.std.specs.Io.KnownBytes.{Appends, Consumes, IsAtEnd}
 use Rattle.std.proofs.KnownBytes.{Appends-trans, Consumes-trans, Consumes-whole}
@@ -42,10 +43,6 @@ answers_to-empty (x ∷ text) none = absurd (omega arith)
 pub has_fault-empty : (text : List ℕ) → length text ≡ 0 → has_fault text ≡ false
 has_fault-empty [] none = has_fault-nil
 has_fault-empty (x ∷ text) none = absurd (omega arith)
-
-or-false : (a : Bool) → (a || false) ≡ a
-or-false true = refl
-or-false false = refl
 
 or-assoc : (a b c : Bool) → ((a || b) || c) ≡ (a || (b || c))
 or-assoc true b c = refl

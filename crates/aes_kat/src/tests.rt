@@ -1,7 +1,7 @@
 // The rows of the line protocol, on `run` over memory.
 mod failures;
 
-use crate::{reply, run, status};
+use crate::{parts_are_unique, reply, run, status};
 use std::alloc::Global;
 use std::process::Abort;
 use std::test::Fail;
@@ -300,4 +300,10 @@ fn replies_at_the_front(rt: HostRuntime) -> Result<(), Fail> {
     assert_eq!(&rt; reply(b"mix 0", &mut out), (9, true));
     assert!(&rt; out.as_slice().starts_with(b"error hex"));
     Ok(())
+}
+
+// The law is the contract of a function that does nothing.
+#[test]
+fn the_law_of_parts_can_be_called() {
+    parts_are_unique();
 }

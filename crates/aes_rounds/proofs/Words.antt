@@ -1,5 +1,6 @@
 -- The words of the key expansion.
 use Rattle.std.proofs.Common.{◌≡◌, ◌≢◌, ◌⊎◌, inl, inr, ℕ, suc, ◌+◌, ◌-◌, ◌*◌, ◌/◌, ◌%◌, ◌<◌, ◌≤◌, ◌==◌, ◌&&◌, nat_lt, Bool, true, false, List, [], ◌∷◌, ◌++◌, length, get_or, set, take, slice_index, slice_index_or, refl, sym, ap, ◌∙◌, subst, arith, below_more, get_or-set_other, get_or-set_same}
+use Rattle.std.proofs.Math.Bool.{and-false}
 use Rattle.std.proofs.lemmas.Bool.{eqb-true, eq-eqb, lt-ltb, le-ltb}
 use Rattle.std.proofs.lemmas.List.{take_more_set, get_or-take}
 use Rattle.aes_planes.specs.Fips197 as fips
@@ -25,10 +26,6 @@ first_column_substituted w l =
     subst (λ v. (let s = fips.shift_rows (fips.sub_bytes (fips.state (λ r c. slice_index (slice_index_or (v ∷ v ∷ v ∷ v ∷ []) c []) r))) in
     slice_index s 0 ∷ slice_index s 1 ∷ slice_index s 2 ∷ slice_index s 3 ∷ []) ≡ fips.sub_word v) (built 4 w 0 l) refl
 
-and_false : (p : Bool) → (p && false) ≡ false
-and_false true = refl
-and_false false = refl
-
 module _ (nk i : ℕ) (w : List ℕ) where
   pub added_word_constant : i % nk ≡ 0 → fips.added_word nk i w ≡ fips.add_words (fips.sub_word (fips.rot_word w)) (fips.round_constant (i / nk))
   unfolding fips.added_word_if
@@ -47,7 +44,7 @@ module _ (nk i : ℕ) (w : List ℕ) where
   pub added_word_same : i % nk ≢ 0 → (nk ≤ 6) ⊎ (i % nk ≢ 4) → fips.added_word nk i w ≡ w
   unfolding fips.added_word_if
   added_word_same n (inl le) = added_word_later false n (ap (λ v. v && (i % nk == 4)) (le-ltb 6 nk le))
-  added_word_same n (inr ne) = added_word_later false n (ap (λ v. nat_lt 6 nk && v) (eq_false (i % nk) 4 ne) ∙ and_false (nat_lt 6 nk))
+  added_word_same n (inr ne) = added_word_later false n (ap (λ v. nat_lt 6 nk && v) (eq_false (i % nk) 4 ne) ∙ and-false (nat_lt 6 nk))
 
 -- ---- the loop that writes the words
 

@@ -242,3 +242,15 @@ pub fn every_slot<B: Batch>(block: &Block) -> B
     }
     blocks
 }
+
+/// The sum of a block and a round key, byte by byte: AddRoundKey (FIPS 197, 5.1.4).
+#[inline(always)]
+pub fn sum_of_blocks(block: &Block, round_key: &Block) -> Block
+    ensures { result ≡ fips.add_round_key block.now round_key.now }
+{
+    let mut bytes = *block;
+    'bytes: for i in 0..16 {
+        bytes[i] ^= round_key[i];
+    }
+    bytes
+}

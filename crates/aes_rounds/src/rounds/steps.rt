@@ -4,6 +4,7 @@ ghost use Rattle.std.specs.Prelude.{◌≡◌};
 ghost use Rattle.aes_planes.specs.Fips197 as fips;
 
 use aes::hazmat::{cipher_round, inv_mix_columns};
+use aes_planes::soft::utils::sum_of_blocks;
 use aes_planes::soft::word::Block;
 
 /// The round key that changes nothing.
@@ -13,9 +14,7 @@ const ZERO_KEY: Block = [0; 16];
 pub fn add_round_key(block: &mut Block, round_key: &Block)
     ensures { block.new ≡ fips.add_round_key block.old round_key.now }
 {
-    for i in 0..16usize {
-        block[i] ^= round_key[i];
-    }
+    *block = sum_of_blocks(block, round_key);
 }
 
 /// Leaves ShiftRows of SubBytes of the block: a round whose mixing is undone and whose key is zero.

@@ -15,4 +15,4 @@ returns g c =
     let whole = stepped n (map plus63) _ _ _ c.sub_bytes_nots.ensures substituted ∙ ap (replicate n) (with63 b) in
     let shifted = stepped n (shift_times 1) _ _ (sub_bytes b) c.shift_rows_1.ensures whole in
     let mixed = stepped n (between_shifts 0 mix_columns) _ _ _ c.mix_columns_0.ensures shifted in
-    c.sum.ensures ∙ ap (λ v. add_round_key v key) (c.first_slot-mixed.ensures ∙ ap (λ v. get_or v 0 []) mixed ∙ get_or-replicate n 0 _ [] g.met.W.Word.some_block)
+    c.sum_of_blocks.ensures ∙ ap (λ v. add_round_key v key) (c.first_slot-mixed.ensures ∙ ap (λ v. get_or v 0 []) mixed ∙ get_or-replicate n 0 _ [] g.met.W.Word.some_block)

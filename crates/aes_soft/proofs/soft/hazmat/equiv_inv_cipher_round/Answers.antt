@@ -15,4 +15,4 @@ returns g c =
     let substituted = stepped n (map (λ b. inv_sbox (plus63 b))) _ _ _ c.inv_sub_bytes.ensures without ∙ ap (replicate n) (without63 b) in
     let shifted = stepped n (inv_shift_times 1) _ _ (inv_sub_bytes b) c.inv_shift_rows_1.ensures substituted in
     let mixed = stepped n (between_shifts 0 inv_mix_columns) _ _ _ c.inv_mix_columns_0.ensures shifted in
-    c.sum.ensures ∙ ap (λ v. add_round_key v key) (c.first_slot-unmixed.ensures ∙ ap (λ v. get_or v 0 []) mixed ∙ get_or-replicate n 0 _ [] g.met.W.Word.some_block)
+    c.sum_of_blocks.ensures ∙ ap (λ v. add_round_key v key) (c.first_slot-unmixed.ensures ∙ ap (λ v. get_or v 0 []) mixed ∙ get_or-replicate n 0 _ [] g.met.W.Word.some_block)
