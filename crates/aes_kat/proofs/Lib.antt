@@ -1,3 +1,4 @@
+-- The files of lemmas.
 pub mod LinesLemmas
 pub mod CommandLemmas
 pub mod OperandLemmas

@@ -1,3 +1,4 @@
+-- The files of definitions.
 pub mod Lines
 pub mod Reply
 pub mod Steps

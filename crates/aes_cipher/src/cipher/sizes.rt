@@ -19,6 +19,6 @@ pub trait KeySizeUser {
 
 /// A type that works on blocks of the standard.
 pub trait BlockSizeUser {
-    /// How many bytes a block has (FIPS 197, 3.4). No type gives another number.
+    /// How many bytes a block has: 16 (FIPS 197, 3.4).
     const BLOCK_SIZE: usize = 16;
 }

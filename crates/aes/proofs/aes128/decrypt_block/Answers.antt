@@ -1,3 +1,4 @@
+-- What is left to show of `aes128::decrypt_block`.
 use Rattle.std.proofs.Common.{◌∙◌, ap, map, slice_index_or, []}
 use Rattle.aes_planes.specs.Fips197 as fips
 use Rattle.aes.specs.Keys.{stored_key_of}

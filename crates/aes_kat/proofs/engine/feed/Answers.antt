@@ -1,3 +1,4 @@
+-- What is left to show of `engine::feed`.
 use Rattle.std.proofs.Common.{ℕ, List, ◌++◌, ◌∷◌, ◌==◌, ◌≡◌, false, subst, sym, ap, ◌∙◌, append_assoc}
 use Rattle.std.proofs.lemmas.List.Elements.{All-append, All-nil}
 use Rattle.aes_kat.specs.Lines.{Lacks}

@@ -1,3 +1,4 @@
+-- What holds in the loops of `engine::feed`.
 use Rattle.std.proofs.Common.{◌++◌, length}
 use Rattle.aes_kat.specs.Lines.{Lacks}
 use Rattle.aes_kat.specs.Answers.{Gathers}

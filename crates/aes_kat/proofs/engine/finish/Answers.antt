@@ -1,3 +1,4 @@
+-- What is left to show of `engine::finish`.
 use Rattle.std.proofs.Common.{◌≢◌, ◌<◌, ◌++◌, ◌∙◌, length, sym, ap, append-nil, arith}
 use Rattle.std.proofs.lemmas.Bool.{eqb-true, eqb-false}
 use Rattle.aes_kat.proofs.AnswersLemmas.{answers_to-empty, has_fault-empty, answers_to-last, has_fault-last}

@@ -1,3 +1,4 @@
+-- What is left to show of `engine::run_in`.
 use Rattle.std.proofs.Common.{◌≡◌, ◌<◌, ◌||◌, ◌++◌, take, length, ap, ◌∙◌, arith}
 use Rattle.std.specs.Io.KnownBytes.{Appends}
 use Rattle.std.proofs.KnownBytes.{Consumes-trans, Appends-kept}

@@ -1,3 +1,4 @@
+-- What is left to show of `laws::parts_are_unique`.
 use Rattle.std.proofs.Common.{ℕ, List, ◌∷◌, ◌≡◌, All, ap, sym, ◌∙◌}
 use Rattle.std.specs.List.{join_with_byte}
 use Rattle.aes_kat.specs.Lines.{parts_at, without_empty_last, lines_of, Lacks}

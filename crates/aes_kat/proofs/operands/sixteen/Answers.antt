@@ -1,3 +1,4 @@
+-- What is left to show of `operands::sixteen`.
 use Rattle.aes_kat.proofs.OperandLemmas.{sixteen-decoded}
 use Rattle.aes_kat.proofs.operands.sixteen.Goals as goal
 

@@ -1,3 +1,4 @@
+-- What is left to show of `replies::answer`.
 use Rattle.std.proofs.Common.{rules, sym}
 use Rattle.aes_kat.specs.Steps.{decoded}
 use Rattle.aes_kat.proofs.RequestLemmas.{outcome_of-unasked, outcome_of-first_hex, outcome_of-second_hex, outcome_of-command, answer_of-mix, answer_of-inverse_mix, answer_of-schedule}

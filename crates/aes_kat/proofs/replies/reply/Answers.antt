@@ -1,3 +1,4 @@
+-- What is left to show of `replies::reply`.
 use Rattle.std.proofs.Common.{sym, ap, ◌∙◌, length}
 use Rattle.aes_kat.specs.Reply.{reply_to, is_fault, text_of, is_err}
 use Rattle.aes_kat.proofs.OperandLemmas.{take_front}

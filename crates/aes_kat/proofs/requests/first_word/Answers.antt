@@ -1,3 +1,4 @@
+-- What is left to show of `requests::first_word`.
 use Rattle.std.proofs.Common.{◌==◌, ap, ◌∙◌, refl}
 use Rattle.std.proofs.lemmas.List.Splits.{slice_split_at, slice_split_none}
 use Rattle.aes_kat.specs.Lines.{words_of}

@@ -1,3 +1,4 @@
+-- What is left to show of `requests::parse`.
 use Rattle.std.proofs.Common.{[], ◌∷◌, sym, ap, ◌∙◌}
 use Rattle.aes_kat.specs.Reply.{asked_if}
 use Rattle.aes_kat.proofs.RequestLemmas.{request_of-none, request_of-one, request_of-two, request_of-many, request_of-unknown, words-two}

@@ -1,3 +1,4 @@
+-- What is left to show of `commands::Command::named`.
 use Rattle.std.proofs.Common.{sym, ap, ◌∙◌}
 use Rattle.std.specs.Str.{bytes_eq}
 use Rattle.aes_kat.specs.Reply.{commands}

@@ -1,3 +1,4 @@
+-- What holds in the loops of `commands::Command::named`.
 use Rattle.std.proofs.Common.{◌≡◌, drop}
 use Rattle.aes_kat.specs.Reply.{command_of, commands, first_named}
 use Rattle.aes_kat.proofs.commands.Command.named.Given as goal

@@ -1,3 +1,4 @@
+-- What is left to show of `rounds::expand::added_word`.
 use Rattle.std.proofs.Common.{◌∙◌, ◌≡◌, ◌/◌, inl, inr, ap, sym}
 use Rattle.aes_planes.specs.Fips197 as fips
 use Rattle.aes_rounds.proofs.Words.{added_word_constant, added_word_substituted, added_word_same}

@@ -1,3 +1,4 @@
+-- What is left to show of `rounds::expand::expand_words`.
 use Rattle.std.proofs.Common.{◌≡◌, ◌∙◌, ◌<◌, ◌-◌, nat_lt, slice_index_or, [], sym, ap, refl, length, length-set, arith}
 use Rattle.std.proofs.lemmas.List.{length-replicate}
 use Rattle.aes_planes.specs.Fips197 as fips

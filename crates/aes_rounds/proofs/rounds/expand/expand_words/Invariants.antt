@@ -1,3 +1,4 @@
+-- What holds in the loops of `rounds::expand::expand_words`.
 use Rattle.std.proofs.Common.{◌≡◌, length, take}
 use Rattle.aes_planes.specs.Fips197 as fips
 use Rattle.aes_rounds.proofs.rounds.expand.expand_words.Given as goal

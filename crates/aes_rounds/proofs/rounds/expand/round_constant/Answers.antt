@@ -1,3 +1,4 @@
+-- What is left to show of `rounds::expand::round_constant`.
 use Rattle.std.proofs.Common.{ap, ◌∷◌, [], ◌-◌, arith}
 use Rattle.aes_planes.specs.Fips197 as fips
 use Rattle.aes_rounds.proofs.Words.{constants_are_powers}

@@ -1,3 +1,4 @@
+-- What is left to show of `rounds::expand::round_keys`.
 use Rattle.std.proofs.Common.{◌≡◌, ◌∙◌, ◌<◌, ◌*◌, ◌+◌, slice_index, slice_index_or, [], ap, refl, length, length-set, arith}
 use Rattle.aes_planes.specs.Fips197 as fips
 use Rattle.aes_rounds.proofs.Words.{blocks_of_words, state_of_words, written_more}

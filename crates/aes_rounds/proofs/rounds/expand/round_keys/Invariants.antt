@@ -1,3 +1,4 @@
+-- What holds in the loops of `rounds::expand::round_keys`.
 use Rattle.std.proofs.Common.{◌≡◌, ◌*◌, ◌+◌, ◌<◌, ℕ, length, slice_index, slice_index_or, []}
 use Rattle.aes_planes.specs.Fips197 as fips
 use Rattle.aes_rounds.proofs.rounds.expand.round_keys.Given as goal

@@ -1,3 +1,4 @@
+-- What is left to show of `rounds::expand::sub_word`.
 use Rattle.std.proofs.Common.{◌∙◌, ap, ◌∷◌, [], slice_index}
 use Rattle.aes_planes.specs.Fips197 as fips
 use Rattle.aes_rounds.proofs.Words.{first_column_substituted}

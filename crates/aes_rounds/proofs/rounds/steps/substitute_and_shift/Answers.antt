@@ -1,3 +1,4 @@
+-- What is left to show of `rounds::steps::substitute_and_shift`.
 use Rattle.std.proofs.Common.{◌∙◌, ap}
 use Rattle.aes_planes.specs.Fips197 as fips
 use Rattle.aes_rounds.proofs.SingleRounds.{inv_mix_columns_of_round}

@@ -1,3 +1,4 @@
+-- What is left to show of `rounds::encrypt::AesEnc::encrypt_block`.
 use Rattle.std.proofs.Common.{◌≡◌, ◌∙◌, ◌+◌, ◌-◌, ap, arith}
 use Rattle.aes_planes.specs.Fips197 as fips
 use Rattle.aes_rounds.proofs.SingleRounds.{state_after_round}

@@ -1,3 +1,4 @@
+-- What holds in the loops of `rounds::encrypt::AesEnc::encrypt_block`.
 use Rattle.std.proofs.Common.{◌≡◌, ◌-◌}
 use Rattle.aes_planes.specs.Fips197 as fips
 use Rattle.aes_rounds.proofs.rounds.encrypt.AesEnc.encrypt_block.Given as goal
