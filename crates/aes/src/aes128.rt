@@ -1,6 +1,6 @@
 //! AES with keys of 16 bytes: what its three types share.
 
-ghost use Rattle.std.specs.Prelude.{◌≡◌};
+ghost use Rattle.std.specs.Prelude.{◌≡◌, length};
 ghost use Rattle.aes_planes.specs.Fips197 as fips;
 ghost use Rattle.aes.specs.Keys.{stored_key_of, AreKeyed};
 
@@ -11,6 +11,7 @@ mod enciphering;
 mod tests;
 
 use crate::inputs::batch_of;
+use aes_planes::laws;
 use aes_planes::soft::word::{Batch, Block};
 use aes_soft::soft::compact::aes128::{RoundKeys, decrypt, encrypt, key_schedule};
 pub use both_ways::Aes128;
@@ -23,6 +24,15 @@ fn schedule(key: &[u8; 16]) -> RoundKeys<u16>
     ensures key { stored_key_of 16 result ≡ key.now }
 {
     key_schedule::<u16>(key)
+}
+
+/// What proofs need to know of round keys: they are those of a key.
+fn has_round_keys(round_keys: &RoundKeys<u16>)
+    ensures sized { length (stored_key_of 16 round_keys.now) ≡ 16 }
+    ensures bytes { fips.IsBytes (stored_key_of 16 round_keys.now) }
+    ensures round_keys { fips.AreRoundKeys (fips.key_expansion (stored_key_of 16 round_keys.now)) }
+{
+    laws::expanded_keys();
 }
 
 /// Leaves Cipher of the block, under the key of the round keys.

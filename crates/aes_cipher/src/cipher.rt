@@ -3,11 +3,14 @@
 mod decrypt;
 mod encrypt;
 mod init;
+mod round_keys;
 mod sizes;
 #[cfg(test)]
 mod tests;
 
+pub use aes_planes::soft::utils::sum_of_blocks;
 pub use decrypt::BlockCipherDecrypt;
 pub use encrypt::BlockCipherEncrypt;
 pub use init::{InvalidLength, KeyInit};
+pub use round_keys::RoundKeysUser;
 pub use sizes::{BlockSizeUser, KeySizeUser};

@@ -2,5 +2,7 @@
 #![tactic(auto)]
 
 pub mod callers;
+pub mod cbc;
+pub mod generic;
 #[cfg(test)]
 mod tests;

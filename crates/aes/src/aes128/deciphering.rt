@@ -1,14 +1,15 @@
 //! A key of 16 bytes, for deciphering.
 
-ghost use Rattle.std.specs.Prelude.{ℕ, List};
-ghost use Rattle.std.proofs.Common.{arith};
+ghost use Rattle.std.specs.Prelude.{ℕ, List, refl};
 ghost use Rattle.aes_planes.specs.Fips197 as fips;
-ghost use Rattle.aes_planes.proofs.Keys.{expansion_length};
+ghost use Rattle.aes_planes.proofs.LawProofs.{two_keys};
 ghost use Rattle.aes.specs.Keys.{stored_key_of, AreKeyed};
 
-use super::{RoundKeys, decrypt_block, schedule};
+use super::{RoundKeys, decrypt_block, has_round_keys, schedule};
 use crate::inputs::key_array;
-use aes_cipher::cipher::{BlockCipherDecrypt, BlockSizeUser, InvalidLength, KeyInit, KeySizeUser};
+use aes_cipher::cipher::{
+    BlockCipherDecrypt, BlockSizeUser, InvalidLength, KeyInit, KeySizeUser, RoundKeysUser,
+};
 use aes_planes::soft::word::Block;
 use std::marker::Model;
 
@@ -38,6 +39,16 @@ impl KeySizeUser for Aes128Dec {
 
 impl BlockSizeUser for Aes128Dec {}
 
+impl RoundKeysUser for Aes128Dec {
+    ghost round_keys = { fips.key_expansion };
+
+    fn has_round_keys(&self) {
+        has_round_keys(&self.round_keys);
+    }
+
+    ghost two_round_keys = { two_keys };
+}
+
 impl KeyInit for Aes128Dec {
     ghost own_key = { λ key. key };
 
@@ -50,14 +61,16 @@ impl KeyInit for Aes128Dec {
     fn new_from_slice(key: &[u8]) -> Result<Aes128Dec, InvalidLength> {
         Ok(Aes128Dec::new(&key_array(key)?))
     }
+
+    fn has_key(&self) {
+        has_round_keys(&self.round_keys);
+    }
+
+    ghost expanded = { λ key. refl };
 }
 
 impl BlockCipherDecrypt for Aes128Dec {
-    ghost w = { fips.key_expansion };
-
     fn decrypt_block(&self, block: &mut Block) {
         decrypt_block(&self.round_keys, block);
     }
-
-    ghost two_round_keys = { λ key. Prim.omega (arith, expansion_length key) };
 }

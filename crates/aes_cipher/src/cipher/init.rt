@@ -1,7 +1,9 @@
 //! Making a value from a key.
 
 ghost use Rattle.std.specs.Prelude.{◌≡◌, ◌≢◌, ◌↔◌, ℕ, List, length, IsErr, IfOk};
+ghost use Rattle.aes_planes.specs.Fips197 as fips;
 
+use super::round_keys::RoundKeysUser;
 use super::sizes::KeySizeUser;
 
 /// A slice that should have been a key has another length than a key.
@@ -9,7 +11,7 @@ use super::sizes::KeySizeUser;
 pub struct InvalidLength;
 
 /// A type whose values are made from a key, and are seen by contracts with that key.
-pub trait KeyInit: KeySizeUser {
+pub trait KeyInit: KeySizeUser + RoundKeysUser {
     /// The bytes of the key that a value was made from.
     ghost own_key: { Self → List ℕ };
 
@@ -25,4 +27,12 @@ pub trait KeyInit: KeySizeUser {
     fn new_from_slice(key: &[u8]) -> Result<Self, InvalidLength>
         ensures refusal { IsErr result ↔ (length key.now ≢ Self.KEY_SIZE) }
         ensures made { IfOk result (λ made. own_key made ≡ key.now) };
+
+    /// Nothing: a call has in its contract what proofs need to know of a value's key.
+    fn has_key(&self)
+        ensures sized { length (own_key self.now) ≡ Self.KEY_SIZE }
+        ensures bytes { fips.IsBytes (own_key self.now) };
+
+    /// The round keys of a value are the expansion of its key (FIPS 197, 5.2).
+    ghost expanded: { (cipher : Self) → Self.round_keys cipher ≡ fips.key_expansion (own_key cipher) };
 }

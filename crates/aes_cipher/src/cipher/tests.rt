@@ -1,12 +1,23 @@
 //! What no clause says: that the calls answer, through their bounds.
 
-use super::{InvalidLength, KeyInit, KeySizeUser};
+ghost use Rattle.std.specs.Prelude.{◌≡◌, length, refl};
+ghost use Rattle.aes_planes.specs.Fips197 as fips;
+ghost use Rattle.aes_planes.proofs.LawProofs.{two_keys};
+
+use super::{InvalidLength, KeyInit, KeySizeUser, RoundKeysUser};
+use aes_planes::laws;
 
 /// A key of three bytes, and nothing else.
 #[derive(Drop)]
 struct Plain {
     key: [u8; 3],
 }
+
+/// The bytes of a key are bytes.
+fn has_bytes(key: [u8; 3])
+    ensures sized { length key ≡ 3 }
+    ensures bytes { fips.IsBytes key }
+{}
 
 impl KeySizeUser for Plain {
     type Key = [u8; 3];
@@ -16,6 +27,17 @@ impl KeySizeUser for Plain {
     ghost key_bytes = { λ key. key };
 
     const KEY_SIZE: usize = 3;
+}
+
+impl RoundKeysUser for Plain {
+    ghost round_keys = { λ plain. fips.key_expansion plain.key };
+
+    fn has_round_keys(&self) {
+        has_bytes(self.key);
+        laws::expanded_keys();
+    }
+
+    ghost two_round_keys = { λ plain. two_keys plain.key };
 }
 
 impl KeyInit for Plain {
@@ -31,6 +53,12 @@ impl KeyInit for Plain {
             Err(_) => Err(InvalidLength),
         }
     }
+
+    fn has_key(&self) {
+        has_bytes(self.key);
+    }
+
+    ghost expanded = { λ plain. refl };
 }
 
 /// Whether a slice is refused as a key.

@@ -5,6 +5,8 @@ ghost use Rattle.aes_planes.specs.Fips197 as fips;
 
 use super::steps::{add_round_key, last_round};
 use aes::hazmat::cipher_round;
+use aes_cipher::cipher::RoundKeysUser;
+use aes_planes::laws;
 use aes_planes::soft::word::Block;
 
 /// Enciphers round by round, under a list of RK round keys in the standard's order.
@@ -34,4 +36,14 @@ impl<const RK: usize> AesEnc<RK> {
         }
         last_round(block, &self.keys[RK - 1]);
     }
+}
+
+impl<const RK: usize> RoundKeysUser for AesEnc<RK> {
+    ghost round_keys = { λ cipher. cipher.keys };
+
+    fn has_round_keys(&self) {
+        laws::are_blocks(&self.keys);
+    }
+
+    ghost two_round_keys = { λ cipher. cipher.two_round_keys };
 }

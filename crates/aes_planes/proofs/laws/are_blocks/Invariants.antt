@@ -1,0 +1,7 @@
+-- What holds in the loops of `laws::are_blocks`.
+use Rattle.std.proofs.Common.{ℕ, ◌<◌, slice_index_or, []}
+use Rattle.aes_planes.specs.Fips197.{IsBlock}
+use Rattle.aes_planes.proofs.laws.are_blocks.Given as goal
+
+abbrev pub invariant-loop-i : goal.invariant-loop-i
+invariant-loop-i l = (k : ℕ) → k < l.i → IsBlock (slice_index_or l.blocks k [])
