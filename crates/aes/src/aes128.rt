@@ -5,8 +5,8 @@ ghost use Rattle.aes_planes.specs.Fips197 as fips;
 ghost use Rattle.aes.specs.Keys.{stored_key_of, AreKeyed};
 
 mod both_ways;
-mod deciphering;
-mod enciphering;
+mod decrypting;
+mod encrypting;
 #[cfg(test)]
 mod tests;
 
@@ -15,8 +15,8 @@ use aes_planes::laws;
 use aes_planes::soft::word::{Batch, Block};
 use aes_soft::soft::compact::aes128::{RoundKeys, decrypt, encrypt, key_schedule};
 pub use both_ways::Aes128;
-pub use deciphering::Aes128Dec;
-pub use enciphering::Aes128Enc;
+pub use decrypting::Aes128Dec;
+pub use encrypting::Aes128Enc;
 
 /// The round keys of a key.
 fn schedule(key: &[u8; 16]) -> RoundKeys<u16>

@@ -1,4 +1,4 @@
-//! AES with keys of 16 bytes (FIPS 197): the types that encipher and decipher, and the single
+//! AES with keys of 16 bytes (FIPS 197): the types that encrypt and decrypt, and the single
 //! rounds.
 #![tactic(auto)]
 

@@ -5,14 +5,14 @@ ghost use Rattle.aes_planes.specs.Fips197 as fips;
 use aes::{Aes128Dec, Aes128Enc, Block};
 use aes_cipher::cipher::{BlockCipherDecrypt, BlockCipherEncrypt, KeyInit};
 
-// Enciphers a block under a key.
+// Encrypts a block under a key.
 pub(crate) fn encrypt(key: &[u8; 16], block: &mut Block)
     ensures { block.new ≡ fips.cipher key.now block.old }
 {
     Aes128Enc::new(key).encrypt_block(block);
 }
 
-// Deciphers a block under a key.
+// Decrypts a block under a key.
 pub(crate) fn decrypt(key: &[u8; 16], block: &mut Block)
     ensures { block.new ≡ fips.inv_cipher key.now block.old }
 {

@@ -34,7 +34,7 @@ fn check<R: Abort + AllocGlobal>(rt: &R, rows: &[(&str, &str)], status: u8) -> R
 
 // FIPS 197, appendices C.1 and B; the zero block is the hash key of the first test case of GCM's specification.
 #[test]
-fn enciphers(rt: HostRuntime) -> Result<(), Fail> {
+fn encrypts(rt: HostRuntime) -> Result<(), Fail> {
     let rows = [
         (
             "enc 000102030405060708090a0b0c0d0e0f 00112233445566778899aabbccddeeff",
@@ -58,7 +58,7 @@ fn enciphers(rt: HostRuntime) -> Result<(), Fail> {
 
 // FIPS 197, appendices C.1 and B.
 #[test]
-fn deciphers(rt: HostRuntime) -> Result<(), Fail> {
+fn decrypts(rt: HostRuntime) -> Result<(), Fail> {
     let rows = [
         (
             "dec 000102030405060708090a0b0c0d0e0f 69c4e0d86a7b0430d8cdb78070b4c55a",

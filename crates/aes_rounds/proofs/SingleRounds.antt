@@ -2,9 +2,9 @@
 use Rattle.std.proofs.Common.{◌≡◌, ℕ, zero, suc, ◌-◌, ◌<◌, List, length, replicate, ap, ◌∙◌, arith}
 use Rattle.std.specs.Int.Bits.{xor_zero_r}
 use Rattle.aes_planes.specs.Fips197 as fips
-use Rattle.aes_planes.proofs.Cases.{built}
-use Rattle.aes_planes.proofs.Mix.{AllBytes, inv_mix_of_mix}
-use Rattle.aes_planes.proofs.Blocks.{sub_bytes_bytes, shift_bytes, shift_length, mix_length}
+use Rattle.aes_planes.proofs.Lists.Built.{built}
+use Rattle.aes_planes.proofs.Mixing.MixColumns.{AllBytes, inv_mix_of_mix}
+use Rattle.aes_planes.proofs.Standard.Steps.{sub_bytes_bytes, shift_bytes, shift_length, mix_length}
 
 pub add_round_key_zero : (s : List ℕ) → length s ≡ 16 → fips.add_round_key s (replicate 16 0) ≡ s
 unfolding fips.add_round_key fips.state fips.build

@@ -4,7 +4,8 @@ use Rattle.std.proofs.Math.Bool.{and-false}
 use Rattle.std.proofs.lemmas.Bool.{eqb-true, eq-eqb, lt-ltb, le-ltb}
 use Rattle.std.proofs.lemmas.List.{take_more_set, get_or-take}
 use Rattle.aes_planes.specs.Fips197 as fips
-use Rattle.aes_planes.proofs.Cases.{all_below, all_below_tells, built, build_is, eq_false}
+use Rattle.aes_planes.proofs.Bits.ByteCases.{all_below, all_below_tells, eq_false}
+use Rattle.aes_planes.proofs.Lists.Built.{built, build_is}
 
 abbrev pub constants : List ℕ
 constants = 1 ∷ 2 ∷ 4 ∷ 8 ∷ 16 ∷ 32 ∷ 64 ∷ 128 ∷ 27 ∷ 54 ∷ []

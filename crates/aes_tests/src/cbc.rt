@@ -7,7 +7,7 @@ use aes::Block;
 use aes_cipher::cipher::{BlockCipherDecrypt, BlockCipherEncrypt, RoundKeysUser, sum_of_blocks};
 use aes_planes::laws;
 
-/// Enciphers the blocks in a chain that starts at `start`.
+/// Encrypts the blocks in a chain that starts at `start`.
 pub fn cbc_encrypt<C: BlockCipherEncrypt>(cipher: &C, start: &Block, blocks: &mut [Block])
     ensures { blocks.new ≡ chained (C.round_keys cipher.now) start.now blocks.old }
 {
@@ -19,7 +19,7 @@ pub fn cbc_encrypt<C: BlockCipherEncrypt>(cipher: &C, start: &Block, blocks: &mu
     }
 }
 
-/// Deciphers the blocks of a chain that starts at `start`.
+/// Decrypts the blocks of a chain that starts at `start`.
 pub fn cbc_decrypt<C: BlockCipherDecrypt>(cipher: &C, start: &Block, blocks: &mut [Block])
     ensures { blocks.new ≡ unchained (C.round_keys cipher.now) start.now blocks.old }
 {

@@ -7,7 +7,7 @@ use aes::{Aes128, Block};
 use aes_cipher::cipher::{BlockCipherDecrypt, BlockCipherEncrypt, KeyInit, RoundKeysUser};
 use aes_planes::laws;
 
-/// Enciphers a block under a key, and deciphers it again: the block comes back.
+/// Encrypts a block under a key, and decrypts it again: the block comes back.
 pub fn back<C: KeyInit + BlockCipherEncrypt + BlockCipherDecrypt + Drop>(
     key: &C::Key,
     block: &mut Block,
@@ -37,14 +37,14 @@ pub fn there_and_back<C: KeyInit + BlockCipherEncrypt + BlockCipherDecrypt + Dro
     there
 }
 
-/// Enciphers a block under a key.
+/// Encrypts a block under a key.
 pub fn under_key<C: KeyInit + BlockCipherEncrypt + Drop>(key: &C::Key, block: &mut Block)
     ensures { block.new ≡ fips.cipher (C.key_bytes key.now) block.old }
 {
     C::new(key).encrypt_block(block);
 }
 
-/// Enciphers and deciphers by a value that somebody else made.
+/// Encrypts and decrypts by a value that somebody else made.
 pub fn undo(cipher: &Aes128, block: &mut Block)
     ensures { block.new ≡ block.old }
 {

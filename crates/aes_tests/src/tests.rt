@@ -9,7 +9,7 @@ use aes_planes::soft::planes::held_holds;
 use aes_planes::{examples, laws};
 use aes_rounds::rounds::{AesEnc, expand_128};
 
-/// The key, the block and the block enciphered of FIPS 197, appendix B.
+/// The key, the block and the block encrypted of FIPS 197, appendix B.
 const KEY: u128 = 0x2b7e151628aed2a6abf7158809cf4f3c;
 
 const PLAIN: u128 = 0x3243f6a8885a308d313198a2e0370734;

@@ -2,7 +2,7 @@
 
 ghost use Rattle.std.specs.Prelude.{ℕ, List, refl};
 ghost use Rattle.aes_planes.specs.Fips197 as fips;
-ghost use Rattle.aes_planes.proofs.LawProofs.{two_keys};
+ghost use Rattle.aes_planes.proofs.Standard.CipherLaws.{two_keys};
 ghost use Rattle.aes.specs.Keys.{stored_key_of, AreKeyed};
 
 use super::{RoundKeys, decrypt_block, encrypt_block, has_round_keys, schedule};

@@ -7,7 +7,7 @@ use aes_cipher::cipher::{
     BlockCipherDecrypt, BlockCipherEncrypt, BlockSizeUser, InvalidLength, KeyInit, KeySizeUser,
 };
 
-/// A key, a block, and the block enciphered: FIPS 197, appendices C.1 and B; the first two blocks
+/// A key, a block, and the block encrypted: FIPS 197, appendices C.1 and B; the first two blocks
 /// of SP 800-38A, F.1.1; and the hash key of test case 1 of the specification of GCM.
 const EXAMPLES: [(u128, u128, u128); 5] = [
     (
@@ -34,7 +34,7 @@ const EXAMPLES: [(u128, u128, u128); 5] = [
 ];
 
 /// What both block calls leave of a block.
-fn enciphered<C: BlockCipherEncrypt>(cipher: &C, block: u128) -> (u128, u128) {
+fn encrypted<C: BlockCipherEncrypt>(cipher: &C, block: u128) -> (u128, u128) {
     let input = block.to_be_bytes();
     let mut in_place = input;
     cipher.encrypt_block(&mut in_place);
@@ -44,7 +44,7 @@ fn enciphered<C: BlockCipherEncrypt>(cipher: &C, block: u128) -> (u128, u128) {
 }
 
 /// What both block calls leave of a block.
-fn deciphered<C: BlockCipherDecrypt>(cipher: &C, block: u128) -> (u128, u128) {
+fn decrypted<C: BlockCipherDecrypt>(cipher: &C, block: u128) -> (u128, u128) {
     let input = block.to_be_bytes();
     let mut in_place = input;
     cipher.decrypt_block(&mut in_place);
@@ -68,10 +68,10 @@ fn is_refused<C: KeyInit + Drop>(size: usize) -> bool
 fn leaves_the_blocks_of_the_standards(rt: HostRuntime) {
     for (key, plain, cipher) in EXAMPLES {
         let key = key.to_be_bytes();
-        assert_eq!(rt; enciphered(&Aes128::new(&key), plain), (cipher, cipher));
-        assert_eq!(rt; enciphered(&Aes128Enc::new(&key), plain), (cipher, cipher));
-        assert_eq!(rt; deciphered(&Aes128::new(&key), cipher), (plain, plain));
-        assert_eq!(rt; deciphered(&Aes128Dec::new(&key), cipher), (plain, plain));
+        assert_eq!(rt; encrypted(&Aes128::new(&key), plain), (cipher, cipher));
+        assert_eq!(rt; encrypted(&Aes128Enc::new(&key), plain), (cipher, cipher));
+        assert_eq!(rt; decrypted(&Aes128::new(&key), cipher), (plain, plain));
+        assert_eq!(rt; decrypted(&Aes128Dec::new(&key), cipher), (plain, plain));
     }
 }
 
@@ -80,13 +80,13 @@ fn takes_a_slice_of_sixteen_bytes_as_a_key(rt: HostRuntime) {
     let (key, plain, cipher) = EXAMPLES[0];
     let key = key.to_be_bytes();
     assert!(rt;
-        Aes128::new_from_slice(&key).is_ok_and(|both| enciphered(&both, plain).0 == cipher)
+        Aes128::new_from_slice(&key).is_ok_and(|both| encrypted(&both, plain).0 == cipher)
     );
     assert!(rt;
-        Aes128Enc::new_from_slice(&key).is_ok_and(|enc| enciphered(&enc, plain).0 == cipher)
+        Aes128Enc::new_from_slice(&key).is_ok_and(|enc| encrypted(&enc, plain).0 == cipher)
     );
     assert!(rt;
-        Aes128Dec::new_from_slice(&key).is_ok_and(|dec| deciphered(&dec, cipher).0 == plain)
+        Aes128Dec::new_from_slice(&key).is_ok_and(|dec| decrypted(&dec, cipher).0 == plain)
     );
     for size in [0, 15, 17, 24, 32] {
         assert!(rt; is_refused::<Aes128>(size), "{size} bytes");

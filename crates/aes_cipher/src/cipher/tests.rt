@@ -2,7 +2,7 @@
 
 ghost use Rattle.std.specs.Prelude.{◌≡◌, length, refl};
 ghost use Rattle.aes_planes.specs.Fips197 as fips;
-ghost use Rattle.aes_planes.proofs.LawProofs.{two_keys};
+ghost use Rattle.aes_planes.proofs.Standard.CipherLaws.{two_keys};
 
 use super::{InvalidLength, KeyInit, KeySizeUser, RoundKeysUser};
 use aes_planes::laws;

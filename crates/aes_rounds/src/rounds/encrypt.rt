@@ -9,7 +9,7 @@ use aes_cipher::cipher::RoundKeysUser;
 use aes_planes::laws;
 use aes_planes::soft::word::Block;
 
-/// Enciphers round by round, under a list of RK round keys in the standard's order.
+/// Encrypts round by round, under a list of RK round keys in the standard's order.
 #[derive(Drop)]
 pub struct AesEnc<const RK: usize> {
     keys: [Block; RK],

@@ -2,7 +2,7 @@
 
 use super::{AesEnc, expand_128};
 
-/// The key and the block of FIPS 197, appendix C.1, and the block enciphered.
+/// The key and the block of FIPS 197, appendix C.1, and the block encrypted.
 const KEY_C1: u128 = 0x000102030405060708090a0b0c0d0e0f;
 
 const PLAIN_C1: u128 = 0x00112233445566778899aabbccddeeff;
@@ -30,7 +30,7 @@ fn expands_keys_of_the_standard(rt: HostRuntime) {
 }
 
 #[test]
-fn enciphers_the_block_of_the_standard(rt: HostRuntime) {
+fn encrypts_the_block_of_the_standard(rt: HostRuntime) {
     let cipher = AesEnc::new(&expand_128(&KEY_C1.to_be_bytes()));
     let mut block = PLAIN_C1.to_be_bytes();
     cipher.encrypt_block(&mut block);

@@ -1,5 +1,5 @@
 -- What is left to show of `laws::sums_of_blocks`.
-use Rattle.aes_planes.proofs.LawProofs.{cipher_block, sum_block, sum_twice}
+use Rattle.aes_planes.proofs.Standard.CipherLaws.{cipher_block, sum_block, sum_twice}
 use Rattle.aes_planes.proofs.laws.sums_of_blocks.Goals as goal
 
 pub returns-clause-cipher : goal.returns-clause-cipher

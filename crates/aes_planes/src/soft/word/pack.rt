@@ -2,7 +2,7 @@
 
 ghost use Rattle.std.specs.Prelude.{◌≡◌, ℕ, ◌+◌, ◌-◌, ◌*◌, ◌/◌, ◌%◌, ◌^◌, ◌<◌, ◌≤◌, ◌&&◌, cond, nat_le, length, slice_index};
 ghost use Rattle.aes_planes.specs.Bits.{bit};
-ghost use Rattle.aes_planes.specs.Packing.{byte_of, lane_byte, source_place, source_word};
+ghost use Rattle.aes_planes.specs.Private.Packing.{byte_of, lane_byte, source_place, source_word};
 ghost use Rattle.aes_planes.specs.Planes.{place};
 ghost use Rattle.aes_planes.specs.Fips197 as fips;
 

@@ -4,8 +4,9 @@
 ghost use Rattle.std.specs.Prelude.{◌≡◌};
 ghost use Rattle.std.proofs.Common.{refl, rules};
 ghost use Rattle.aes_planes.specs.Bits.{bit};
-ghost use Rattle.aes_planes.specs.Lanes.{lane_bits};
-ghost use Rattle.aes_planes.specs.Words.{word_bits, length-build};
+ghost use Rattle.aes_planes.specs.Private.Lanes.{lane_bits};
+ghost use Rattle.aes_planes.specs.Private.BuiltLength.{length-build};
+ghost use Rattle.aes_planes.specs.Words.{word_bits};
 
 use super::Word;
 use super::batch::{Blocks, Blocks8};

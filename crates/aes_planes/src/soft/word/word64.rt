@@ -2,7 +2,8 @@
 
 ghost use Rattle.std.proofs.Common.{refl, rules};
 ghost use Rattle.aes_planes.specs.Bits.{bit};
-ghost use Rattle.aes_planes.specs.Words.{word_bits, length-build};
+ghost use Rattle.aes_planes.specs.Private.BuiltLength.{length-build};
+ghost use Rattle.aes_planes.specs.Words.{word_bits};
 
 use super::Word;
 use super::batch::{Batch, Blocks, Blocks4};

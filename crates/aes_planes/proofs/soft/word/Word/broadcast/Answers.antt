@@ -1,6 +1,6 @@
 -- What is left to show of `soft::word::Word::broadcast`.
 use Rattle.std.proofs.Common.{◌/◌, ◌%◌, ◌∙◌}
-use Rattle.aes_planes.proofs.Constants.{nibble_bit, row_of_place, column_of_place}
+use Rattle.aes_planes.proofs.Words.Constants.{nibble_bit, row_of_place, column_of_place}
 use Rattle.aes_planes.proofs.soft.word.Word.broadcast.Goals as goal
 
 pub returns : goal.returns

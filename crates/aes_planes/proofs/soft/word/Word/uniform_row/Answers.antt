@@ -1,7 +1,7 @@
 -- What is left to show of `soft::word::Word::uniform_row`.
 use Rattle.std.proofs.Common.{◌/◌, ◌%◌, ap, ◌∙◌}
 use Rattle.aes_planes.specs.Bits.{bit}
-use Rattle.aes_planes.proofs.Constants.{same_nibble, row_of_place}
+use Rattle.aes_planes.proofs.Words.Constants.{same_nibble, row_of_place}
 use Rattle.aes_planes.proofs.soft.word.Word.uniform_row.Goals as goal
 
 pub returns : goal.returns

@@ -1,9 +1,9 @@
 -- What is left to show of `soft::word::pack::block_of`.
 use Rattle.std.proofs.Common.{◌≡◌, [], ◌∷◌, ap, ◌∙◌, arith}
 use Rattle.aes_planes.specs.Fips197.{byte_at}
-use Rattle.aes_planes.specs.Packing.{lane_byte}
+use Rattle.aes_planes.specs.Private.Packing.{lane_byte}
 use Rattle.aes_planes.specs.Planes.{place}
-use Rattle.aes_planes.proofs.Transpose.{by_four}
+use Rattle.aes_planes.proofs.Words.Transpose.{by_four}
 use Rattle.aes_planes.proofs.soft.word.pack.block_of.Goals as goal
 
 pub returns : goal.returns

@@ -1,9 +1,9 @@
 -- What is left to show of `soft::word::pack::exchange`.
 use Rattle.std.proofs.Common.{◌≡◌, ◌+◌, ◌-◌, ◌&&◌, nat_le, [], ◌∷◌, get_or, ◌∙◌}
 use Rattle.aes_planes.specs.Bits.{bit}
-use Rattle.aes_planes.specs.Packing.{source_word, source_place}
-use Rattle.aes_planes.proofs.Packing.{choice}
-use Rattle.aes_planes.proofs.Transpose.{by_eight}
+use Rattle.aes_planes.specs.Private.Packing.{source_word, source_place}
+use Rattle.aes_planes.proofs.Words.Packing.{choice}
+use Rattle.aes_planes.proofs.Words.Transpose.{by_eight}
 use Rattle.aes_planes.proofs.soft.word.pack.exchange.Goals as goal
 
 pub returns : goal.returns

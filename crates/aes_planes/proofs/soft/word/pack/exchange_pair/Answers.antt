@@ -1,5 +1,5 @@
 -- What is left to show of `soft::word::pack::exchange_pair`.
-use Rattle.aes_planes.proofs.Packing.{exchanged_low, exchanged_high}
+use Rattle.aes_planes.proofs.Words.Packing.{exchanged_low, exchanged_high}
 use Rattle.aes_planes.proofs.soft.word.pack.exchange_pair.Goals as goal
 
 pub returns-clause-low : goal.returns-clause-low

@@ -1,8 +1,8 @@
 -- What is left to show of `soft::word::pack::lane`.
 use Rattle.std.proofs.Common.{◌≡◌, ◌+◌, ◌*◌, ◌<◌, [], ◌∷◌, get_or, refl, ap, ◌∙◌, arith, rules}
 use Rattle.aes_planes.specs.Bits.{bit}
-use Rattle.aes_planes.specs.Packing.{byte_of}
-use Rattle.aes_planes.proofs.Transpose.{by_eight, from_bytes_bit}
+use Rattle.aes_planes.specs.Private.Packing.{byte_of}
+use Rattle.aes_planes.proofs.Words.Transpose.{by_eight, from_bytes_bit}
 use Rattle.aes_planes.proofs.soft.word.pack.lane.Goals as goal
 
 pub returns : goal.returns

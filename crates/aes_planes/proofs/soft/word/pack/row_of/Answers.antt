@@ -1,5 +1,5 @@
 -- What is left to show of `soft::word::pack::row_of`.
-use Rattle.aes_planes.proofs.Constants.{row_small, row_fits, row_bit}
+use Rattle.aes_planes.proofs.Words.Constants.{row_small, row_fits, row_bit}
 use Rattle.aes_planes.proofs.soft.word.pack.row_of.Goals as goal
 
 pub overflow_mul-result-3 : goal.overflow_mul-result-3

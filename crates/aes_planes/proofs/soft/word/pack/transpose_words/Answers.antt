@@ -1,5 +1,5 @@
 -- What is left to show of `soft::word::pack::transpose_words`.
-use Rattle.aes_planes.proofs.Packing.{transposed_words}
+use Rattle.aes_planes.proofs.Words.Packing.{transposed_words}
 use Rattle.aes_planes.proofs.soft.word.pack.transpose_words.Goals as goal
 
 pub returns : goal.returns

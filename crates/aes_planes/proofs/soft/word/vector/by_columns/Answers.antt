@@ -1,6 +1,6 @@
 -- What is left to show of `soft::word::vector::by_columns`.
 use Rattle.std.proofs.Common.{rules}
-use Rattle.aes_planes.proofs.LanePacking.{turned_back_at, turned_small}
+use Rattle.aes_planes.proofs.Words.LanePacking.{turned_back_at, turned_small}
 use Rattle.aes_planes.proofs.soft.word.vector.by_columns.Goals as goal
 
 pub returns-clause-typed : goal.returns-clause-typed

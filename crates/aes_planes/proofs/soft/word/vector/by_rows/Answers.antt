@@ -1,6 +1,6 @@
 -- What is left to show of `soft::word::vector::by_rows`.
 use Rattle.std.proofs.Common.{rules}
-use Rattle.aes_planes.proofs.LanePacking.{turned_at}
+use Rattle.aes_planes.proofs.Words.LanePacking.{turned_at}
 use Rattle.aes_planes.proofs.soft.word.vector.by_rows.Goals as goal
 
 pub returns-clause-typed : goal.returns-clause-typed

@@ -1,9 +1,9 @@
 -- What is left to show of `soft::word::vector::exchange`.
 use Rattle.std.proofs.Common.{◌≡◌, ◌+◌, ◌-◌, ◌&&◌, nat_le, [], ◌∷◌, get_or, ◌∙◌}
 use Rattle.aes_planes.specs.Bits.{bit}
-use Rattle.aes_planes.specs.Lanes.{source_vector, source_bit}
-use Rattle.aes_planes.proofs.LanePacking.{choice}
-use Rattle.aes_planes.proofs.Transpose.{by_eight}
+use Rattle.aes_planes.specs.Private.Lanes.{source_vector, source_bit}
+use Rattle.aes_planes.proofs.Words.LanePacking.{choice}
+use Rattle.aes_planes.proofs.Words.Transpose.{by_eight}
 use Rattle.aes_planes.proofs.soft.word.vector.exchange.Goals as goal
 
 pub returns : goal.returns

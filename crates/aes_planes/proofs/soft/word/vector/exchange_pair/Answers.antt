@@ -1,5 +1,5 @@
 -- What is left to show of `soft::word::vector::exchange_pair`.
-use Rattle.aes_planes.proofs.LanePacking.{low_lanes, high_lanes}
+use Rattle.aes_planes.proofs.Words.LanePacking.{low_lanes, high_lanes}
 use Rattle.aes_planes.proofs.soft.word.vector.exchange_pair.Goals as goal
 
 pub returns-clause-low : goal.returns-clause-low

@@ -2,8 +2,8 @@
 use Rattle.std.proofs.Common.{◌≡◌, ◌+◌, ◌*◌, [], ◌∷◌, get_or, ap, ◌∙◌, arith}
 use Rattle.aes_planes.specs.Bits.{bit}
 use Rattle.aes_planes.specs.Fips197.{byte_at, IsBlock}
-use Rattle.aes_planes.proofs.LanePacking.{lane_at}
-use Rattle.aes_planes.proofs.Transpose.{by_eight}
+use Rattle.aes_planes.proofs.Words.LanePacking.{lane_at}
+use Rattle.aes_planes.proofs.Words.Transpose.{by_eight}
 use Rattle.aes_planes.proofs.soft.word.vector.planes_of.Goals as goal
 
 pub returns-clause-typed : goal.returns-clause-typed

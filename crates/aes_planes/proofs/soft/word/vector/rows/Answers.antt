@@ -1,6 +1,6 @@
 -- What is left to show of `soft::word::vector::rows`.
 use Rattle.std.proofs.Common.{arith}
-use Rattle.aes_planes.proofs.LaneBits.{pack_places}
+use Rattle.aes_planes.proofs.Words.LaneBits.{pack_places}
 use Rattle.aes_planes.proofs.soft.word.vector.rows.Goals as goal
 
 pub returns : goal.returns

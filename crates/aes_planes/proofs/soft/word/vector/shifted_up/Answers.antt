@@ -1,6 +1,6 @@
 -- What is left to show of `soft::word::vector::shifted_up`.
 use Rattle.std.proofs.Common.{arith}
-use Rattle.aes_planes.proofs.LaneBits.{shl_whole, shl_part}
+use Rattle.aes_planes.proofs.Words.LaneBits.{shl_whole, shl_part}
 use Rattle.aes_planes.proofs.soft.word.vector.shifted_up.Goals as goal
 
 pub returns-then-part-eq0 : goal.returns-then-part-eq0

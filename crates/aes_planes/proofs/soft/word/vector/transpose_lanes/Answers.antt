@@ -1,5 +1,5 @@
 -- What is left to show of `soft::word::vector::transpose_lanes`.
-use Rattle.aes_planes.proofs.LanePacking.{transposed_lanes}
+use Rattle.aes_planes.proofs.Words.LanePacking.{transposed_lanes}
 use Rattle.aes_planes.proofs.soft.word.vector.transpose_lanes.Goals as goal
 
 pub returns : goal.returns

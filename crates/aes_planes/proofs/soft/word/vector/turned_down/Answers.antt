@@ -1,6 +1,6 @@
 -- What is left to show of `soft::word::vector::turned_down`.
 use Rattle.std.proofs.Common.{arith}
-use Rattle.aes_planes.proofs.LaneBits.{ror_whole, ror_part}
+use Rattle.aes_planes.proofs.Words.LaneBits.{ror_whole, ror_part}
 use Rattle.aes_planes.proofs.soft.word.vector.turned_down.Goals as goal
 
 pub returns-then-part-eq0 : goal.returns-then-part-eq0

@@ -1,5 +1,5 @@
 -- What is left to show of `soft::word::word128::word`.
-use Rattle.aes_planes.proofs.LaneBits.{number_bits}
+use Rattle.aes_planes.proofs.Words.LaneBits.{number_bits}
 use Rattle.aes_planes.proofs.soft.word.word128.word.Goals as goal
 
 pub returns : goal.returns

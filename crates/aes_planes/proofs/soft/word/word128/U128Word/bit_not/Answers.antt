@@ -1,6 +1,6 @@
 -- What is left to show of `soft::word::word128::U128Word::bit_not`.
 use Rattle.std.proofs.Common.{sym, arith}
-use Rattle.aes_planes.proofs.LaneBits.{lanes_not}
+use Rattle.aes_planes.proofs.Words.LaneBits.{lanes_not}
 use Rattle.aes_planes.proofs.soft.word.word128.U128Word.bit_not.Goals as goal
 
 pub returns : goal.returns

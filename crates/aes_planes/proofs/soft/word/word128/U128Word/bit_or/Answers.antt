@@ -1,7 +1,7 @@
 -- What is left to show of `soft::word::word128::U128Word::bit_or`.
 use Rattle.std.proofs.Common.{◌||◌, sym, arith, bit_or}
-use Rattle.aes_planes.proofs.LaneBits.{lanes_two}
-use Rattle.aes_planes.proofs.WordBits.{bit_of_or}
+use Rattle.aes_planes.proofs.Words.LaneBits.{lanes_two}
+use Rattle.aes_planes.proofs.Bits.NumberBits.{bit_of_or}
 use Rattle.aes_planes.proofs.soft.word.word128.U128Word.bit_or.Goals as goal
 
 pub returns : goal.returns

@@ -1,11 +1,11 @@
 -- What is left to show of `soft::word::word128::U128Word::bitslice`.
 use Rattle.std.proofs.Common.{◌≡◌, [], ◌∷◌, get_or, map, refl, ap, ◌∙◌, rules}
 use Rattle.aes_planes.specs.Bits.{at}
-use Rattle.aes_planes.specs.Lanes.{lane_bits}
+use Rattle.aes_planes.specs.Private.Lanes.{lane_bits}
 use Rattle.aes_planes.specs.Planes.{place}
 use Rattle.aes_planes.specs.Words.{word_bits}
-use Rattle.aes_planes.proofs.Holding.{holds_held}
-use Rattle.aes_planes.proofs.Transpose.{by_eight}
+use Rattle.aes_planes.proofs.Planes.Holds.{holds_held}
+use Rattle.aes_planes.proofs.Words.Transpose.{by_eight}
 use Rattle.aes_planes.proofs.soft.word.word128.U128Word.bitslice.Goals as goal
 
 pub returns : goal.returns

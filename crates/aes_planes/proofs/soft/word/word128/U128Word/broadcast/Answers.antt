@@ -1,6 +1,6 @@
 -- What is left to show of `soft::word::word128::U128Word::broadcast`.
 use Rattle.std.proofs.Common.{◌/◌, ◌%◌, ◌∙◌, arith}
-use Rattle.aes_planes.proofs.LaneBits.{nibble_bit}
+use Rattle.aes_planes.proofs.Words.LaneBits.{nibble_bit}
 use Rattle.aes_planes.proofs.soft.word.word128.U128Word.broadcast.Goals as goal
 
 pub returns : goal.returns

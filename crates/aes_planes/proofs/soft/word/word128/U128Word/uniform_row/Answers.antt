@@ -1,7 +1,7 @@
 -- What is left to show of `soft::word::word128::U128Word::uniform_row`.
 use Rattle.std.proofs.Common.{◌/◌, ◌%◌, ap, ◌∙◌, arith}
 use Rattle.aes_planes.specs.Bits.{bit}
-use Rattle.aes_planes.proofs.LaneBits.{same_rows}
+use Rattle.aes_planes.proofs.Words.LaneBits.{same_rows}
 use Rattle.aes_planes.proofs.soft.word.word128.U128Word.uniform_row.Goals as goal
 
 pub returns : goal.returns

@@ -2,11 +2,11 @@
 use Rattle.std.proofs.Common.{◌≡◌, ◌%◌, ◌^◌, [], ◌∷◌, length, get_or, refl, ap, ◌∙◌, arith, rules}
 use Rattle.aes_planes.specs.Bits.{bit}
 use Rattle.aes_planes.specs.Fips197.{IsBytes}
-use Rattle.aes_planes.specs.Packing.{byte_of}
-use Rattle.aes_planes.proofs.Packing.{packed, two_blocks}
-use Rattle.aes_planes.proofs.WordBits.{bit_low}
-use Rattle.aes_planes.proofs.Packing.{by_two}
-use Rattle.aes_planes.proofs.Transpose.{by_eight}
+use Rattle.aes_planes.specs.Private.Packing.{byte_of}
+use Rattle.aes_planes.proofs.Words.Packing.{packed, two_blocks}
+use Rattle.aes_planes.proofs.Bits.NumberBits.{bit_low}
+use Rattle.aes_planes.proofs.Words.Packing.{by_two}
+use Rattle.aes_planes.proofs.Words.Transpose.{by_eight}
 use Rattle.aes_planes.proofs.soft.word.word32.U32Word.bitslice.Goals as goal
 
 pub returns : goal.returns

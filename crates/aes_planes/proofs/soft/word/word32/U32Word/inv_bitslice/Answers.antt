@@ -1,13 +1,13 @@
 -- What is left to show of `soft::word::word32::U32Word::inv_bitslice`.
 use Rattle.std.proofs.Common.{◌≡◌, [], ◌∷◌, length, get_or, map, replicate, refl, sym, ap, ◌∙◌, arith, rules}
 use Rattle.aes_planes.specs.Fips197.{byte_at}
-use Rattle.aes_planes.specs.Packing.{lane_byte}
+use Rattle.aes_planes.specs.Private.Packing.{lane_byte}
 use Rattle.aes_planes.specs.Planes.{held, place}
 use Rattle.aes_planes.specs.Words.{word_bits}
-use Rattle.aes_planes.proofs.Bools.{eight}
-use Rattle.aes_planes.proofs.Held.{held_of, place_lt}
-use Rattle.aes_planes.proofs.Packing.{low_lanes, lane_held}
-use Rattle.aes_planes.proofs.Packing.{by_two}
+use Rattle.aes_planes.proofs.Bits.BitCases.{eight}
+use Rattle.aes_planes.proofs.Planes.Held.{held_of, place_lt}
+use Rattle.aes_planes.proofs.Words.Packing.{low_lanes, lane_held}
+use Rattle.aes_planes.proofs.Words.Packing.{by_two}
 use Rattle.aes_planes.proofs.soft.word.word32.U32Word.inv_bitslice.Goals as goal
 
 pub returns : goal.returns

@@ -1,5 +1,5 @@
 -- What is left to show of `soft::word::word32::U32Word::shift_right`.
-use Rattle.aes_planes.proofs.WordBits.{word_shr}
+use Rattle.aes_planes.proofs.Bits.NumberBits.{word_shr}
 use Rattle.aes_planes.proofs.soft.word.word32.U32Word.shift_right.Goals as goal
 
 pub returns : goal.returns

@@ -1,5 +1,5 @@
 -- What is left to show of `soft::word::word64::U64Word::bit_and`.
-use Rattle.aes_planes.proofs.WordBits.{word_and}
+use Rattle.aes_planes.proofs.Bits.NumberBits.{word_and}
 use Rattle.aes_planes.proofs.soft.word.word64.U64Word.bit_and.Goals as goal
 
 pub returns : goal.returns

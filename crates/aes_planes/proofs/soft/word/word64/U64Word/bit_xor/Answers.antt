@@ -1,5 +1,5 @@
 -- What is left to show of `soft::word::word64::U64Word::bit_xor`.
-use Rattle.aes_planes.proofs.WordBits.{word_xor}
+use Rattle.aes_planes.proofs.Bits.NumberBits.{word_xor}
 use Rattle.aes_planes.proofs.soft.word.word64.U64Word.bit_xor.Goals as goal
 
 pub returns : goal.returns

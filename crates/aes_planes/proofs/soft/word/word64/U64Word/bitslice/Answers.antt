@@ -2,9 +2,9 @@
 use Rattle.std.proofs.Common.{◌≡◌, [], ◌∷◌, length, get_or, refl, ap, ◌∙◌, arith, rules}
 use Rattle.aes_planes.specs.Bits.{bit}
 use Rattle.aes_planes.specs.Fips197.{IsBytes}
-use Rattle.aes_planes.specs.Packing.{byte_of}
-use Rattle.aes_planes.proofs.Packing.{packed, four_blocks}
-use Rattle.aes_planes.proofs.Transpose.{by_four}
+use Rattle.aes_planes.specs.Private.Packing.{byte_of}
+use Rattle.aes_planes.proofs.Words.Packing.{packed, four_blocks}
+use Rattle.aes_planes.proofs.Words.Transpose.{by_four}
 use Rattle.aes_planes.proofs.soft.word.word64.U64Word.bitslice.Goals as goal
 
 pub returns : goal.returns

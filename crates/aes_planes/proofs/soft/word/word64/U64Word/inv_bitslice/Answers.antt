@@ -1,11 +1,11 @@
 -- What is left to show of `soft::word::word64::U64Word::inv_bitslice`.
 use Rattle.std.proofs.Common.{◌≡◌, [], ◌∷◌, length, get_or, replicate, refl, sym, ◌∙◌, rules}
 use Rattle.aes_planes.specs.Fips197.{byte_at}
-use Rattle.aes_planes.specs.Packing.{lane_byte}
+use Rattle.aes_planes.specs.Private.Packing.{lane_byte}
 use Rattle.aes_planes.specs.Planes.{place}
-use Rattle.aes_planes.proofs.Held.{held_of, place_lt}
-use Rattle.aes_planes.proofs.Packing.{low_lanes, lane_held}
-use Rattle.aes_planes.proofs.Transpose.{by_four}
+use Rattle.aes_planes.proofs.Planes.Held.{held_of, place_lt}
+use Rattle.aes_planes.proofs.Words.Packing.{low_lanes, lane_held}
+use Rattle.aes_planes.proofs.Words.Transpose.{by_four}
 use Rattle.aes_planes.proofs.soft.word.word64.U64Word.inv_bitslice.Goals as goal
 
 pub returns : goal.returns

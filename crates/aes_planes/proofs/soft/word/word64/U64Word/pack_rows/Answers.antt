@@ -1,6 +1,6 @@
 -- What is left to show of `soft::word::word64::U64Word::pack_rows`.
 use Rattle.std.proofs.Common.{refl, arith}
-use Rattle.aes_planes.proofs.Constants.{rows_packed}
+use Rattle.aes_planes.proofs.Words.Constants.{rows_packed}
 use Rattle.aes_planes.proofs.soft.word.word64.U64Word.pack_rows.Goals as goal
 
 pub returns : goal.returns

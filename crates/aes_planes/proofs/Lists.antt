@@ -1,0 +1,2 @@
+-- Lists that are built of a function.
+pub mod Built

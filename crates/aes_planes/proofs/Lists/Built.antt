@@ -1,0 +1,36 @@
+-- Lists that are built of a function: their elements.
+use Rattle.std.proofs.Common.{◌≡◌, ℕ, zero, suc, ◌+◌, ◌<◌, List, [], ◌∷◌, length, get_or, refl, ap, ◌∙◌, arith}
+use Rattle.aes_planes.specs.Fips197.{build, build_from}
+pub use Rattle.aes_planes.specs.Private.BuiltLength.{length-build}
+
+get_or-build_from : {A : Type 0} (a n i : ℕ) (f : ℕ → A) (d : A) → i < n → get_or (build_from a n f) i d ≡ f (a + i)
+unfolding build_from
+get_or-build_from a zero i f d h = absurd (omega arith)
+get_or-build_from a (suc n) zero f d h = ap f (omega arith)
+get_or-build_from a (suc n) (suc i) f d h = get_or-build_from (a + 1) n i f d (omega arith) ∙ ap f (omega arith)
+
+pub get_or-build : {A : Type 0} (n i : ℕ) (f : ℕ → A) (d : A) → i < n → get_or (build n f) i d ≡ f i
+unfolding build
+get_or-build n i f d h = get_or-build_from 0 n i f d h ∙ ap f (omega arith)
+
+-- a list that has f's values is the list built of f
+pub build_from_is : {A : Type 0} (a n : ℕ) (f : ℕ → A) (xs : List A) (d : A) → length xs ≡ n
+    → ((i : ℕ) → i < n → f (a + i) ≡ get_or xs i d) → build_from a n f ≡ xs
+unfolding build_from
+build_from_is a zero f [] d l h = refl
+build_from_is a zero f (x ∷ xs) d l h = absurd (omega arith)
+build_from_is a (suc n) f [] d l h = absurd (omega arith)
+build_from_is a (suc n) f (x ∷ xs) d l h =
+    let e : a ≡ a + 0 = omega arith in
+    let t : build_from (a + 1) n f ≡ xs = build_from_is (a + 1) n f xs d (omega arith)
+    (λ i lt. let s : a + 1 + i ≡ a + suc i = omega arith in ap f s ∙ h (suc i) (omega arith)) in
+    (λ j. (ap f e ∙ h 0 (omega arith)) j ∷ t j)
+
+pub build_is : {A : Type 0} (n : ℕ) (f : ℕ → A) (xs : List A) (d : A) → length xs ≡ n
+    → ((i : ℕ) → i < n → f i ≡ get_or xs i d) → build n f ≡ xs
+unfolding build
+build_is n f xs d l h = build_from_is 0 n f xs d l (λ i lt. let s : 0 + i ≡ i = omega arith in ap f s ∙ h i lt)
+
+-- a list is built of its elements
+pub built : {A : Type 0} (n : ℕ) (xs : List A) (d : A) → length xs ≡ n → build n (λ i. get_or xs i d) ≡ xs
+built n xs d l = build_is n (λ i. get_or xs i d) xs d l (λ i lt. refl)

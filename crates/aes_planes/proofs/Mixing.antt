@@ -1,0 +1,3 @@
+-- Column mixing.
+pub mod Matrices
+pub mod MixColumns

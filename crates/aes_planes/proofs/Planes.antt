@@ -1,0 +1,4 @@
+-- Eight planes and the blocks that they hold.
+pub mod EightWords
+pub mod Held
+pub mod Holds

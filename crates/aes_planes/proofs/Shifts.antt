@@ -1,0 +1,3 @@
+-- Shifts of rows on planes, and the shifts that a round owes.
+pub mod ColumnSwaps
+pub mod Owed

@@ -1,0 +1,8 @@
+-- The standard: its field, its steps and its ciphers.
+pub mod CipherInverses
+pub mod CipherLaws
+pub mod FieldInverses
+pub mod FieldLaws
+pub mod LinearSteps
+pub mod States
+pub mod Steps
