@@ -52,28 +52,28 @@ fn sum_columns<W: Word>(before: W, substituted: W, idx_ror: u32) -> W
 /// The words `idx_xor` earlier are the round key that is added, and a rotation by `idx_ror` brings
 /// to column 0 of each row the byte that starts its sums (FIPS 197, 5.2).
 #[inline(always)]
-pub fn xor_columns<W: Word>(rkeys: &mut [W], offset: usize, idx_xor: usize, idx_ror: u32)
+pub fn xor_columns<W: Word>(round_keys: &mut [W], offset: usize, idx_xor: usize, idx_ror: u32)
     requires apart { 8 ≤ idx_xor }
     requires inside { idx_xor ≤ offset }
-    requires room { offset + 8 ≤ length rkeys.old }
+    requires room { offset + 8 ≤ length round_keys.old }
     requires below_bits { idx_ror < W.BITS }
-    ensures others { (i : ℕ) (d : _) → (i < offset) ⊎ (offset + 8 ≤ i) → slice_index_or rkeys.new i d ≡ slice_index_or rkeys.old i d }
+    ensures others { (i : ℕ) (d : _) → (i < offset) ⊎ (offset + 8 ≤ i) → slice_index_or round_keys.new i d ≡ slice_index_or round_keys.old i d }
     ensures sums { (i : ℕ) (d : _) (r c k : ℕ) → i < 8 → r < 4 → c < 4 → k < W.BLOCKS
-        → at (W.bits (slice_index_or rkeys.new (offset + i) d)) (place W.BLOCKS r c k)
-        ≡ summed xor (λ e. at (W.bits (slice_index_or rkeys.old (offset + i - idx_xor) d)) (place W.BLOCKS r e k))
-        (at (W.bits (slice_index_or rkeys.old (offset + i) d)) ((place W.BLOCKS r 0 k + idx_ror) % W.BITS)) c }
+        → at (W.bits (slice_index_or round_keys.new (offset + i) d)) (place W.BLOCKS r c k)
+        ≡ summed xor (λ e. at (W.bits (slice_index_or round_keys.old (offset + i - idx_xor) d)) (place W.BLOCKS r e k))
+        (at (W.bits (slice_index_or round_keys.old (offset + i) d)) ((place W.BLOCKS r 0 k + idx_ror) % W.BITS)) c }
     ensures blocks { (rows cols : ℕ) → rows < 4 → cols < 4 → idx_ror ≡ rows * (4 * W.BLOCKS) + cols * W.BLOCKS
-        → held W.BLOCKS (map W.bits (words_at rkeys.new offset))
-        ≡ zip_with (columns_summed rows cols) (held W.BLOCKS (map W.bits (words_at rkeys.old (offset - idx_xor))))
-        (held W.BLOCKS (map W.bits (words_at rkeys.old offset))) }
-    ensures same_length { length rkeys.new ≡ length rkeys.old }
+        → held W.BLOCKS (map W.bits (words_at round_keys.new offset))
+        ≡ zip_with (columns_summed rows cols) (held W.BLOCKS (map W.bits (words_at round_keys.old (offset - idx_xor))))
+        (held W.BLOCKS (map W.bits (words_at round_keys.old offset))) }
+    ensures same_length { length round_keys.new ≡ length round_keys.old }
 {
     for i in 0..8 {
         let place = offset + i;
-        let before = rkeys[place - idx_xor];
-        let substituted = rkeys[place];
+        let before = round_keys[place - idx_xor];
+        let substituted = round_keys[place];
         let sum = sum_columns(before, substituted, idx_ror);
-        rkeys[place] = sum;
+        round_keys[place] = sum;
     }
 }
 

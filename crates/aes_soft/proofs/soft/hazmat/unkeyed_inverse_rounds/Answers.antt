@@ -11,7 +11,7 @@ returns g c =
     let n = g.W.Word.BLOCKS in
     let blocks = g.W.Blocks.Batch.blocks c.args.input.now in
     let without = c.sub_bytes_nots.ensures ∙ (λ t. map (map plus63) (c.bitslice.ensures t)) in
-    let substituted = stepped_map n (map (λ b. inv_sbox (plus63 b))) (map plus63) _ _ blocks c.inv_sub_bytes.ensures without ∙ without63s blocks in
+    let substituted = stepped_map n (map (λ b. inv_sbox (plus63 b))) (map plus63) _ _ blocks c.inv_sub_bytes.ensures.blocks without ∙ without63s blocks in
     let shifted = stepped_map n (inv_shift_times 1) inv_sub_bytes _ _ blocks c.inv_shift_rows_1.ensures substituted in
     let mixed = stepped_map n (between_shifts 0 inv_mix_columns) (λ b. inv_shift_rows (inv_sub_bytes b)) _ _ blocks c.inv_mix_columns_0.ensures shifted in
     c.inv_bitslice.ensures ∙ mixed
