@@ -1,16 +1,25 @@
 //! What the block ciphers of this library have in common.
 
+mod batches;
 mod decrypt;
+mod decrypt_backend;
 mod encrypt;
+mod encrypt_backend;
+mod errors;
 mod init;
+mod names;
 mod round_keys;
 mod sizes;
 #[cfg(test)]
 mod tests;
 
-pub use aes_planes::soft::utils::sum_of_blocks;
+pub use batches::{BatchSize, BatchSizeUser, ParBlocksSizeUser};
 pub use decrypt::BlockCipherDecrypt;
+pub use decrypt_backend::{BlockCipherDecBackend, BlockCipherDecClosure};
 pub use encrypt::BlockCipherEncrypt;
-pub use init::{InvalidLength, KeyInit};
+pub use encrypt_backend::{BlockCipherEncBackend, BlockCipherEncClosure};
+pub use errors::{InvalidLength, NotEqualError};
+pub use init::KeyInit;
+pub use names::AlgorithmName;
 pub use round_keys::RoundKeysUser;
 pub use sizes::{BlockSizeUser, KeySizeUser};

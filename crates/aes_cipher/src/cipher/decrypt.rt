@@ -1,14 +1,21 @@
-//! Block ciphers that decipher.
+//! Block ciphers that decrypt.
 
-ghost use Rattle.std.specs.Prelude.{◌≡◌};
+ghost use Rattle.std.specs.Prelude.{◌≡◌, ◌≢◌, ◌↔◌, length, IsErr, OnOk, OnErr};
+ghost use Rattle.aes_planes.specs.Each.{Each};
 ghost use Rattle.aes_planes.specs.Fips197 as fips;
 
+use super::decrypt_backend::BlockCipherDecClosure;
+use super::errors::NotEqualError;
 use super::round_keys::RoundKeysUser;
 use super::sizes::BlockSizeUser;
 use aes_planes::soft::word::Block;
 
-/// A block cipher that deciphers.
+/// A block cipher that decrypts.
 pub trait BlockCipherDecrypt: BlockSizeUser + RoundKeysUser {
+    /// Calls the closure once, with a backend of the value's round keys.
+    fn decrypt_with_backend<F: BlockCipherDecClosure>(&self, f: &mut F)
+        ensures { F.did f.old (Self.round_keys self.now) f.new };
+
     /// Leaves InvCipher of the block, under the value's round keys (FIPS 197, 5.3).
     fn decrypt_block(&self, block: &mut Block)
         ensures { block.new ≡ fips.inv_cipher_with (Self.round_keys self.now) block.old };
@@ -19,5 +26,28 @@ pub trait BlockCipherDecrypt: BlockSizeUser + RoundKeysUser {
     {
         *output = *input;
         self.decrypt_block(output);
+    }
+
+    /// Leaves InvCipher of each block in its place, under the value's round keys (FIPS 197, 5.3).
+    fn decrypt_blocks(&self, blocks: &mut [Block])
+        ensures { Each (fips.inv_cipher_with (Self.round_keys self.now)) blocks.old blocks.new };
+
+    /// Leaves InvCipher of each block of one slice at its place in another, under the value's round keys
+    /// (FIPS 197, 5.3).
+    ///
+    /// # Errors
+    ///
+    /// `NotEqualError` exactly where the slices differ in length; the output is then what it was.
+    fn decrypt_blocks_b2b(&self, input: &[Block], output: &mut [Block]) -> Result<(), NotEqualError>
+        ensures refusal { IsErr result ↔ (length input.now ≢ length output.old) }
+        ensures written { OnOk result (Each (fips.inv_cipher_with (Self.round_keys self.now)) input.now output.new) }
+        ensures untouched { OnErr result (output.new ≡ output.old) }
+    {
+        if input.len() != output.len() {
+            return Err(NotEqualError);
+        }
+        output.copy_from_slice(input);
+        self.decrypt_blocks(output);
+        Ok(())
     }
 }

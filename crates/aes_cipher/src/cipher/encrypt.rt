@@ -1,14 +1,21 @@
-//! Block ciphers that encipher.
+//! Block ciphers that encrypt.
 
-ghost use Rattle.std.specs.Prelude.{◌≡◌};
+ghost use Rattle.std.specs.Prelude.{◌≡◌, ◌≢◌, ◌↔◌, length, IsErr, OnOk, OnErr};
+ghost use Rattle.aes_planes.specs.Each.{Each};
 ghost use Rattle.aes_planes.specs.Fips197 as fips;
 
+use super::encrypt_backend::BlockCipherEncClosure;
+use super::errors::NotEqualError;
 use super::round_keys::RoundKeysUser;
 use super::sizes::BlockSizeUser;
 use aes_planes::soft::word::Block;
 
-/// A block cipher that enciphers.
+/// A block cipher that encrypts.
 pub trait BlockCipherEncrypt: BlockSizeUser + RoundKeysUser {
+    /// Calls the closure once, with a backend of the value's round keys.
+    fn encrypt_with_backend<F: BlockCipherEncClosure>(&self, f: &mut F)
+        ensures { F.did f.old (Self.round_keys self.now) f.new };
+
     /// Leaves Cipher of the block, under the value's round keys (FIPS 197, 5.1).
     fn encrypt_block(&self, block: &mut Block)
         ensures { block.new ≡ fips.cipher_with (Self.round_keys self.now) block.old };
@@ -19,5 +26,28 @@ pub trait BlockCipherEncrypt: BlockSizeUser + RoundKeysUser {
     {
         *output = *input;
         self.encrypt_block(output);
+    }
+
+    /// Leaves Cipher of each block in its place, under the value's round keys (FIPS 197, 5.1).
+    fn encrypt_blocks(&self, blocks: &mut [Block])
+        ensures { Each (fips.cipher_with (Self.round_keys self.now)) blocks.old blocks.new };
+
+    /// Leaves Cipher of each block of one slice at its place in another, under the value's round keys
+    /// (FIPS 197, 5.1).
+    ///
+    /// # Errors
+    ///
+    /// `NotEqualError` exactly where the slices differ in length; the output is then what it was.
+    fn encrypt_blocks_b2b(&self, input: &[Block], output: &mut [Block]) -> Result<(), NotEqualError>
+        ensures refusal { IsErr result ↔ (length input.now ≢ length output.old) }
+        ensures written { OnOk result (Each (fips.cipher_with (Self.round_keys self.now)) input.now output.new) }
+        ensures untouched { OnErr result (output.new ≡ output.old) }
+    {
+        if input.len() != output.len() {
+            return Err(NotEqualError);
+        }
+        output.copy_from_slice(input);
+        self.encrypt_blocks(output);
+        Ok(())
     }
 }

@@ -3,12 +3,9 @@
 ghost use Rattle.std.specs.Prelude.{◌≡◌, ◌≢◌, ◌↔◌, ℕ, List, length, IsErr, IfOk};
 ghost use Rattle.aes_planes.specs.Fips197 as fips;
 
+use super::errors::InvalidLength;
 use super::round_keys::RoundKeysUser;
 use super::sizes::KeySizeUser;
-
-/// A slice that should have been a key has another length than a key.
-#[derive(Debug, Clone, Copy, PartialEq, Eq)]
-pub struct InvalidLength;
 
 /// A type whose values are made from a key, and are seen by contracts with that key.
 pub trait KeyInit: KeySizeUser + RoundKeysUser {

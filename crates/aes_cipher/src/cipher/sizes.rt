@@ -1,6 +1,9 @@
 //! The sizes of keys and blocks.
 
-ghost use Rattle.std.specs.Prelude.{ℕ, List};
+ghost use Rattle.std.specs.Prelude.{◌≡◌, ℕ, List};
+ghost use Rattle.std.proofs.Common.{refl};
+
+use super::round_keys::RoundKeysUser;
 
 /// A type that is made from a key.
 pub trait KeySizeUser {
@@ -19,6 +22,21 @@ pub trait KeySizeUser {
 
 /// A type that works on blocks of the standard.
 pub trait BlockSizeUser {
+    /// How many bytes a block has.
+    ghost BLOCK_SIZE: { ℕ };
+
     /// How many bytes a block has: 16 (FIPS 197, 3.4).
+    const BLOCK_SIZE: usize;
+
+    /// A block has sixteen bytes.
+    ghost sixteen: { BLOCK_SIZE ≡ 16 };
+}
+
+/// Round keys are blocks, so whoever has them works on blocks.
+impl<T: RoundKeysUser> BlockSizeUser for T {
+    ghost BLOCK_SIZE = { 16 };
+
     const BLOCK_SIZE: usize = 16;
+
+    ghost sixteen = { refl };
 }

@@ -1,11 +1,17 @@
 //! What no clause says: that the calls answer, through their bounds.
 
-ghost use Rattle.std.specs.Prelude.{◌≡◌, length, refl};
+ghost use Rattle.std.specs.Prelude.{◌≡◌, ℕ, ◌≤◌, length, refl};
+ghost use Rattle.std.proofs.Common.{arith};
+ghost use Rattle.aes_planes.specs.Each.{Each};
 ghost use Rattle.aes_planes.specs.Fips197 as fips;
 ghost use Rattle.aes_planes.proofs.Standard.CipherLaws.{two_keys};
 
-use super::{InvalidLength, KeyInit, KeySizeUser, RoundKeysUser};
+use super::{
+    BatchSize, BatchSizeUser, BlockCipherEncBackend, BlockCipherEncClosure, BlockCipherEncrypt,
+    InvalidLength, KeyInit, KeySizeUser, ParBlocksSizeUser, RoundKeysUser,
+};
 use aes_planes::laws;
+use aes_planes::soft::word::Block;
 
 /// A key of three bytes, and nothing else.
 #[derive(Drop)]
@@ -73,4 +79,84 @@ fn keys_of_another_length_are_refused(rt: HostRuntime) {
     assert!(rt; is_refused::<Plain>(&[1, 2]));
     assert!(rt; is_refused::<Plain>(&[1, 2, 3, 4]));
     assert!(rt; !is_refused::<Plain>(&[1, 2, 3]));
+}
+
+/// Batches of three blocks.
+struct Three;
+
+impl BatchSize for Three {
+    ghost PAR_BLOCKS = { 3 };
+
+    const PAR_BLOCKS: usize = 3;
+
+    ghost at_least_one = { Prim.omega arith };
+}
+
+/// A cipher, lent as a backend.
+#[derive(Drop)]
+struct Lent<'a, C: BlockCipherEncrypt> {
+    cipher: &'a C,
+}
+
+impl<'a, C: BlockCipherEncrypt> RoundKeysUser for Lent<'a, C> {
+    ghost round_keys = { λ lent. C.round_keys lent.cipher.now };
+
+    fn has_round_keys(&self) {
+        self.cipher.has_round_keys();
+    }
+
+    ghost two_round_keys = { λ lent. C.two_round_keys lent.cipher.now };
+}
+
+impl<C: BlockCipherEncrypt> BatchSizeUser for Lent<'_, C> {
+    type Par = Three;
+}
+
+impl<C: BlockCipherEncrypt> BlockCipherEncBackend for Lent<'_, C> {
+    fn encrypt_block(&self, block: &mut Block) {
+        self.cipher.encrypt_block(block);
+    }
+
+    fn encrypt_par_blocks(&self, blocks: &mut [Block]) {
+        blocks[2] = blocks[2];
+        self.cipher.encrypt_blocks(blocks);
+    }
+}
+
+/// Encrypts every block: batches while one fits, then single blocks.
+fn encrypt_all<B: BlockCipherEncBackend>(backend: &B, blocks: &mut [Block])
+    ensures { Each (fips.cipher_with (B.round_keys backend.now)) blocks.old blocks.new }
+{
+    let par = B::PAR_BLOCKS;
+    let mut done = 0;
+    while par <= blocks.len() - done {
+        backend.encrypt_par_blocks(&mut blocks[done..done + par]);
+        done += par;
+    }
+    while done < blocks.len() {
+        backend.encrypt_block(&mut blocks[done]);
+        done += 1;
+    }
+}
+
+/// Five blocks to be encrypted.
+#[derive(Drop)]
+struct Five {
+    blocks: [Block; 5],
+}
+
+impl BlockCipherEncClosure for Five {
+    ghost did = { λ before w after. Each (fips.cipher_with w) before.blocks after.blocks };
+
+    fn call<B: BlockCipherEncBackend>(&mut self, backend: &B) {
+        encrypt_all(backend, &mut self.blocks);
+    }
+}
+
+/// Work with a lent cipher.
+fn with_lent<C: BlockCipherEncrypt, F: BlockCipherEncClosure>(cipher: &C, f: &mut F)
+    ensures { F.did f.old (C.round_keys cipher.now) f.new }
+{
+    let lent = Lent { cipher };
+    f.call(&lent);
 }

@@ -1,0 +1,47 @@
+//! How many blocks a backend works on at once.
+
+ghost use Rattle.std.specs.Prelude.{ℕ, ◌≤◌};
+
+use super::round_keys::RoundKeysUser;
+use super::sizes::BlockSizeUser;
+
+/// A number of blocks, as a type.
+pub trait BatchSize {
+    /// How many blocks a batch has.
+    ghost PAR_BLOCKS: { ℕ };
+
+    /// How many blocks a batch has.
+    const PAR_BLOCKS: usize;
+
+    /// A batch has a block or more.
+    ghost at_least_one: { 1 ≤ PAR_BLOCKS };
+}
+
+/// A type that says by another type how many blocks a batch has.
+///
+/// A backend that borrows its round keys has a lifetime, and the number of a constant in an `impl` for a type with a
+/// lifetime can't be stated today. So a backend names a type without one, and has its number from there.
+pub trait BatchSizeUser: RoundKeysUser {
+    /// The type that has the number.
+    type Par: BatchSize;
+}
+
+/// A type that works on batches of blocks.
+pub trait ParBlocksSizeUser: BlockSizeUser {
+    /// How many blocks a batch has.
+    ghost PAR_BLOCKS: { ℕ };
+
+    /// How many blocks a batch has.
+    const PAR_BLOCKS: usize;
+
+    /// A batch has a block or more.
+    ghost at_least_one: { 1 ≤ PAR_BLOCKS };
+}
+
+impl<T: BatchSizeUser> ParBlocksSizeUser for T {
+    ghost PAR_BLOCKS = { T.Par.PAR_BLOCKS };
+
+    const PAR_BLOCKS: usize = T::Par::PAR_BLOCKS;
+
+    ghost at_least_one = { T.Par.at_least_one };
+}
