@@ -19,19 +19,19 @@ module _ (f : List ℕ → List ℕ) (L t s : ℕ) (before now new keys batch do
     (earlier : (i : ℕ) → i < t * L → get_or now i [] ≡ add_round_key (f (get_or before i [])) (get_or keys i []))
     (rest : (i : ℕ) → t * L ≤ i → get_or now i [] ≡ get_or before i [])
   where
-  here : (k : ℕ) → k < L → get_or new (s + k) [] ≡ add_round_key (f (get_or before (s + k) [])) (get_or keys (s + k) [])
-  here k h =
-      put k h ∙ ap (λ v. add_round_key v (get_or keys (s + k) []))
-      (ap (λ v. get_or v k []) stepped ∙ map_at f batch k (omega (arith, sized)) ∙ ap f (each k h ∙ rest (s + k) (omega (arith, start))))
+    here : (k : ℕ) → k < L → get_or new (s + k) [] ≡ add_round_key (f (get_or before (s + k) [])) (get_or keys (s + k) [])
+    here k h =
+        put k h ∙ ap (λ v. add_round_key v (get_or keys (s + k) []))
+        (ap (λ v. get_or v k []) stepped ∙ map_at f batch k (omega (arith, sized)) ∙ ap f (each k h ∙ rest (s + k) (omega (arith, start))))
 
-  go : (i : ℕ) → i < t * L + L → (i < s) ⊎ (s ≤ i) → get_or new i [] ≡ add_round_key (f (get_or before i [])) (get_or keys i [])
-  go i h (inl lt) = others i (inl lt) ∙ earlier i (omega (arith, start))
-  go i h (inr le) =
-      let e : s + (i - s) ≡ i = omega arith in
-      subst (λ i. get_or new i [] ≡ add_round_key (f (get_or before i [])) (get_or keys i [])) e (here (i - s) (omega (arith, start)))
+    go : (i : ℕ) → i < t * L + L → (i < s) ⊎ (s ≤ i) → get_or new i [] ≡ add_round_key (f (get_or before i [])) (get_or keys i [])
+    go i h (inl lt) = others i (inl lt) ∙ earlier i (omega (arith, start))
+    go i h (inr le) =
+        let e : s + (i - s) ≡ i = omega arith in
+        subst (λ i. get_or new i [] ≡ add_round_key (f (get_or before i [])) (get_or keys i [])) e (here (i - s) (omega (arith, start)))
 
-  pub more_done : (i : ℕ) → i < (t + 1) * L → get_or new i [] ≡ add_round_key (f (get_or before i [])) (get_or keys i [])
-  more_done i h = go i (omega (arith, next_turn t L)) (cases_lt i s)
+    pub more_done : (i : ℕ) → i < (t + 1) * L → get_or new i [] ≡ add_round_key (f (get_or before i [])) (get_or keys i [])
+    more_done i h = go i (omega (arith, next_turn t L)) (cases_lt i s)
 
 pub less_rest : (L t s : ℕ) (before now new : List (List ℕ)) → s ≡ t * L
     → ((i : ℕ) → (i < s) ⊎ (s + L ≤ i) → get_or new i [] ≡ get_or now i [])

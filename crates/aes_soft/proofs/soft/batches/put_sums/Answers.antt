@@ -14,5 +14,5 @@ put-preserved g c =
       long = search (rules, length-set);
       others = others_still c.put.blocks c.args.blocks.now s k c.sum_of_blocks-sum.result c.put.invariant.others;
       done = one_more c.put.blocks s k c.sum_of_blocks-sum.result (λ j. add_round_key (get_or (g.B.Batch.blocks c.args.batch.now) j []) (get_or keys (s + j) []))
-      (omega (arith, c.put.invariant.long, c.requires.room, c.put-test.true, c.LEN-k-end.ensures)) (c.sum_of_blocks-sum.ensures ∙ ap (λ b. add_round_key b (get_or keys (s + k) [])) c.get.ensures.at) c.put.invariant.done;
+          (omega (arith, c.put.invariant.long, c.requires.room, c.put-test.true, c.LEN-k-end.ensures)) (c.sum_of_blocks-sum.ensures ∙ ap (λ b. add_round_key b (get_or keys (s + k) [])) c.get.ensures.at) c.put.invariant.done;
     }
