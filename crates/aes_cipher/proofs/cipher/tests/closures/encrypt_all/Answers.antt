@@ -1,6 +1,7 @@
-use Rattle.std.proofs.Common.{rules, arith, length-set, ◌∙◌, length, ◌≡◌, ap, sym, ◌+◌, ◌≤◌, []}
+-- What is left to show of `cipher::tests::closures::encrypt_all`.
+use Rattle.std.proofs.Common.{arith, length-set, ◌∙◌, length, ◌+◌, ◌≤◌, []}
 use Rattle.aes_cipher.proofs.SliceRuns.{finished_run, finished_one}
-use Rattle.aes_cipher.proofs.cipher.tests.encrypt_all.Goals as goal
+use Rattle.aes_cipher.proofs.cipher.tests.closures.encrypt_all.Goals as goal
 
 pub loop-blocks-preserved : goal.loop-blocks-preserved
 loop-blocks-preserved g c =

@@ -1,7 +1,8 @@
-use Rattle.std.proofs.Common.{length, ◌-◌, ◌≡◌, ℕ, ◌≤◌, List, map}
+-- What holds in the loops of `cipher::tests::closures::encrypt_all`.
+use Rattle.std.proofs.Common.{length, ◌-◌, ◌≡◌, ◌≤◌, map}
 use Rattle.aes_planes.specs.Fips197.{cipher_with}
 use Rattle.aes_cipher.proofs.SliceRuns.{finished}
-use Rattle.aes_cipher.proofs.cipher.tests.encrypt_all.Given as goal
+use Rattle.aes_cipher.proofs.cipher.tests.closures.encrypt_all.Given as goal
 
 abbrev pub invariant-loop-blocks : goal.invariant-loop-blocks
 invariant-loop-blocks g l =
