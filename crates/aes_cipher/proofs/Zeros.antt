@@ -5,7 +5,7 @@ use Rattle.std.proofs.lemmas.List.{set_at, drop_more, drop_all, replicate_more, 
 use Rattle.std.proofs.lemmas.Nat.Bits.{bit_at-lt, bit_at-zero, same_from_bits_below}
 use Rattle.aes_planes.specs.Bits.{bit, Places}
 use Rattle.aes_planes.specs.Words.{word_bits}
-use Rattle.aes_planes.proofs.WordBits.{reads}
+use Rattle.aes_planes.proofs.Bits.NumberBits.{reads}
 
 -- one more element is written over by v
 pub filled_more : {X : Type 0} (n : ℕ) (v : X) (d : List X) → n < length d → set (replicate n v ++ drop n d) n v ≡ replicate (n + 1) v ++ drop (n + 1) d
