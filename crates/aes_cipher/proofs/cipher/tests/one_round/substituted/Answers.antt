@@ -2,7 +2,7 @@
 use Rattle.std.proofs.Common.{◌≡◌, ℕ, List, [], ◌∷◌, map, slice_index_or, refl, ap, ◌∙◌}
 use Rattle.aes_planes.specs.Fips197.{sbox, sub_bytes, shift_times}
 use Rattle.aes_planes.specs.Planes.{plus63}
-use Rattle.aes_planes.proofs.FieldLaws.{add_twice}
+use Rattle.aes_planes.proofs.Standard.FieldLaws.{add_twice}
 use Rattle.aes_cipher.proofs.cipher.tests.one_round.substituted.Goals as goal
 
 with63 : (s : List ℕ) → map plus63 (map (λ b. plus63 (sbox b)) s) ≡ sub_bytes s

@@ -2,7 +2,7 @@
 use Rattle.std.proofs.Common.{◌≡◌, ℕ, List, [], ◌∷◌, map, slice_index_or, refl, ap, ◌∙◌}
 use Rattle.aes_planes.specs.Fips197.{inv_sbox, inv_sub_bytes, inv_shift_rows, inv_shift_times}
 use Rattle.aes_planes.specs.Planes.{plus63}
-use Rattle.aes_planes.proofs.FieldLaws.{add_twice}
+use Rattle.aes_planes.proofs.Standard.FieldLaws.{add_twice}
 use Rattle.aes_cipher.proofs.cipher.tests.one_round.unsubstituted.Goals as goal
 
 without63 : (s : List ℕ) → map (λ b. inv_sbox (plus63 b)) (map plus63 s) ≡ inv_sub_bytes s
