@@ -11,7 +11,7 @@ use crate::cipher::{
     RoundKeysUser,
 };
 use aes_planes::laws;
-use aes_planes::soft::sbox::{inv_sub_bytes, sub_bytes, sub_bytes_nots};
+use aes_planes::soft::sbox::{Layers, inv_sub_bytes, sub_bytes, sub_bytes_nots};
 use aes_planes::soft::utils::{inv_shift_rows_1, shift_rows_1, sum_of_blocks};
 use aes_planes::soft::word::{Batch, Block, Blocks1, Word};
 use std::fmt;
@@ -40,7 +40,7 @@ fn substituted(block: &Block) -> Block
 {
     let mut planes = [0; 8];
     u16::bitslice(&mut planes, &batch_of(block));
-    sub_bytes(&mut planes);
+    sub_bytes(&mut planes, &mut Layers::new());
     sub_bytes_nots(&mut planes);
     shift_rows_1(&mut planes);
     u16::inv_bitslice(&planes).get(0)
@@ -54,7 +54,7 @@ fn unsubstituted(block: &Block) -> Block
     u16::bitslice(&mut planes, &batch_of(block));
     inv_shift_rows_1(&mut planes);
     sub_bytes_nots(&mut planes);
-    inv_sub_bytes(&mut planes);
+    inv_sub_bytes(&mut planes, &mut Layers::new());
     u16::inv_bitslice(&planes).get(0)
 }
 

@@ -14,7 +14,7 @@ pub returns : goal.returns
 unfolding shift_times
 returns c =
     let loaded = c.bitslice.ensures ∙ c.batch_of.ensures in
-    let bare = c.sub_bytes.ensures ∙ ap (map (map (λ b. plus63 (sbox b)))) loaded in
+    let bare = c.sub_bytes.ensures.blocks ∙ ap (map (map (λ b. plus63 (sbox b)))) loaded in
     let whole = c.sub_bytes_nots.ensures ∙ ap (map (map plus63)) bare ∙ ap (λ s. s ∷ []) (with63 c.args.block.now) in
     c.get.ensures.at
     ∙ ap (λ blocks. slice_index_or blocks 0 []) (c.inv_bitslice.ensures ∙ c.shift_rows_1.ensures ∙ ap (map (shift_times 1)) whole)

@@ -16,5 +16,5 @@ returns c =
     let loaded = c.bitslice.ensures ∙ c.batch_of.ensures in
     let shifted = c.inv_shift_rows_1.ensures ∙ ap (map (inv_shift_times 1)) loaded in
     let without = c.sub_bytes_nots.ensures ∙ ap (map (map plus63)) shifted in
-    let whole = c.inv_sub_bytes.ensures ∙ ap (map (map (λ b. inv_sbox (plus63 b)))) without ∙ ap (λ s. s ∷ []) (without63 (inv_shift_rows c.args.block.now)) in
+    let whole = c.inv_sub_bytes.ensures.blocks ∙ ap (map (map (λ b. inv_sbox (plus63 b)))) without ∙ ap (λ s. s ∷ []) (without63 (inv_shift_rows c.args.block.now)) in
     c.get.ensures.at ∙ ap (λ blocks. slice_index_or blocks 0 []) (c.inv_bitslice.ensures ∙ whole)
