@@ -1,6 +1,6 @@
--- What is left to show of `soft::word::pack::row_of`.
+-- What is left to show of `soft::word::rows::row_of`.
 use Rattle.aes_planes.proofs.Words.Constants.{row_small, row_fits, row_bit}
-use Rattle.aes_planes.proofs.soft.word.pack.row_of.Goals as goal
+use Rattle.aes_planes.proofs.soft.word.rows.row_of.Goals as goal
 
 pub overflow_mul-result-3 : goal.overflow_mul-result-3
 overflow_mul-result-3 c = record { fits = row_fits c.args.b c.args.n c.requires.nibble c.requires.some c.requires.few }
