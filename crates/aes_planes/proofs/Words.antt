@@ -2,4 +2,5 @@
 pub mod Constants
 pub mod LaneBits
 pub mod Packing
+pub mod Spread
 pub mod Transpose

@@ -337,20 +337,5 @@ pack_places r0 r1 r2 r3 h0 h1 h2 h3 = Places-build 128 _ _ (λ i l.
     nibbles (suc (suc (suc zero))) = h3
     nibbles (suc (suc (suc (suc q)))) = omega arith
 
-pub same_rows : (b i : ℕ) → i < 4 → get_or (b ∷ b ∷ b ∷ b ∷ []) i 0 ≡ b
-same_rows b zero h = refl
-same_rows b (suc zero) h = refl
-same_rows b (suc (suc zero)) h = refl
-same_rows b (suc (suc (suc zero))) h = refl
-same_rows b (suc (suc (suc (suc i)))) h = absurd (omega arith)
-
--- the nibbles of sixteen bits
-pub nibble_bit : (x j q : ℕ) → j < 4 → q < 4 → bit (get_or (x % 16 ∷ x / 16 % 16 ∷ x / 256 % 16 ∷ x / 4096 ∷ []) j 0) q ≡ bit x (4 * j + q)
-nibble_bit x zero q hj hq = bit_low x 4 q hq ∙ ap (bit x) (omega arith)
-nibble_bit x (suc zero) q hj hq = bit_low (x / 16) 4 q hq ∙ bit_shr x 4 q ∙ ap (bit x) (omega arith)
-nibble_bit x (suc (suc zero)) q hj hq = bit_low (x / 256) 4 q hq ∙ bit_shr x 8 q ∙ ap (bit x) (omega arith)
-nibble_bit x (suc (suc (suc zero))) q hj hq = bit_shr x 12 q ∙ ap (bit x) (omega arith)
-nibble_bit x (suc (suc (suc (suc j)))) q hj hq = absurd (omega arith)
-
 pub repeated_places : (b : ℕ) → Places 128 (lane_bits (replicate 16 b)) (λ i. bit b (i % 8))
 repeated_places b = Places-build 128 _ _ (λ i h. ap (λ v. bit v (i % 8)) (get_or-replicate 16 (i / 8) b 0 (omega arith)))

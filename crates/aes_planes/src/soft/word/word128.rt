@@ -11,7 +11,9 @@ ghost use Rattle.aes_planes.specs.Words.{word_bits};
 use super::Word;
 use super::batch::{Batch, Blocks, Blocks8};
 use super::transpose::transpose;
-use super::vector::{by_columns, by_rows, rows, shifted_down, shifted_up, turned_down};
+use super::vector::{
+    by_columns, by_rows, byte_for_each_bit, rows, shifted_down, shifted_up, turned_down,
+};
 use std::simd::prelude::*;
 
 /// The lanes of a word, by its halves.
@@ -120,12 +122,7 @@ impl Word for u128 {
 
     #[inline(always)]
     fn broadcast(x: u16) -> u128 {
-        word(rows(
-            (x % 16) as u8,
-            ((x >> 4) % 16) as u8,
-            ((x >> 8) % 16) as u8,
-            (x >> 12) as u8,
-        ))
+        word(byte_for_each_bit((x % 256) as u8, (x >> 8) as u8))
     }
 
     #[inline(always)]
