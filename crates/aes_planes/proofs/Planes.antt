@@ -2,3 +2,4 @@
 pub mod EightWords
 pub mod Held
 pub mod Holds
+pub mod Packed

@@ -79,8 +79,11 @@ repeated_bit : (m b i : ℕ) → b < 256 → i < 8 * m → bit (repeated m b) i 
 repeated_bit zero b i f h = absurd (omega arith)
 repeated_bit (suc m) b i f h = repeated_at m b i f h (cases_lt i 8) (λ i h. repeated_bit m b i f h)
 
+pub repeats : (w m b x : ℕ) → w ≡ 8 * m → b < 256 → x ≡ repeated m b → (i : ℕ) → i < w → bit x i ≡ bit b (i % 8)
+repeats w m b x e f r i h = ap (λ v. bit v i) r ∙ repeated_bit m b i f (omega arith)
+
 pub byte_repeated : (w m b x : ℕ) → w ≡ 8 * m → b < 256 → x ≡ repeated m b → Places w (build w (bit x)) (λ i. bit b (i % 8))
-byte_repeated w m b x e f r = Places-build w _ _ (λ i h. ap (λ v. bit v i) r ∙ repeated_bit m b i f (omega arith))
+byte_repeated w m b x e f r = Places-build w _ _ (repeats w m b x e f r)
 
 -- ---- rows and columns of places
 

@@ -19,38 +19,48 @@ use Rattle.aes_planes.proofs.Bits.NumberBits.{Places-build, bit_of_or, bit_of_xo
 
 -- ---- lanes as a number
 
--- the lanes of a number
-digit_bit : (n x j r : ℕ) → j < n → r < 8 → bit (get_or (digits_l (2 ^ 8) n x) j 0) r ≡ bit x (8 * j + r)
-digit_bit zero x j r h k = absurd (omega arith)
-digit_bit (suc n) x zero r h k = bit_low x 8 r k ∙ ap (bit x) (omega arith)
-digit_bit (suc n) x (suc j) r h k = digit_bit n (x / 2 ^ 8) j r (omega arith) k ∙ bit_shr x 8 (8 * j + r) ∙ ap (bit x) (omega arith)
+pub lane_small : (x : List ℕ) (j : ℕ) → Each1 (Fits w8) x → get_or x j 0 < 2 ^ 8
+lane_small [] j h = omega arith
+lane_small (x ∷ xs) zero h = h.0.fits
+lane_small (x ∷ xs) (suc j) h = lane_small xs j h.1
+
+-- the digits of a number, in base 2 ^ b
+pub digit_bit : (b n x j r : ℕ) → j < n → r < b → bit (get_or (digits_l (2 ^ b) n x) j 0) r ≡ bit x (b * j + r)
+digit_bit b zero x j r h k = absurd (omega arith)
+digit_bit b (suc n) x zero r h k = bit_low x b r k ∙ ap (bit x) (grind arith)
+digit_bit b (suc n) x (suc j) r h k = digit_bit b n (x / 2 ^ b) j r (omega arith) k ∙ bit_shr x b (b * j + r) ∙ ap (bit x) (grind arith)
+
+pub digit_small : (n x j : ℕ) → get_or (digits_l (2 ^ 8) n x) j 0 < 2 ^ 8
+digit_small zero x j = omega arith
+digit_small (suc n) x zero = omega arith
+digit_small (suc n) x (suc j) = digit_small n (x / 2 ^ 8) j
 
 -- lanes that are the digits of a number have its bits
 pub digits_bits : (n x : ℕ) → n ≡ x → lane_bits (digits_l (2 ^ 8) 16 n) ≡ build 128 (bit x)
 digits_bits n x e = build-ext 128 _ _ (λ i h.
     let spot : 8 * (i / 8) + i % 8 ≡ i = omega arith in
-    digit_bit 16 n (i / 8) (i % 8) (omega arith) (omega arith) ∙ (λ t. bit (e t) (spot t)))
+    digit_bit 8 16 n (i / 8) (i % 8) (omega arith) (omega arith) ∙ (λ t. bit (e t) (spot t)))
 
-first_bit : (x y r : ℕ) → r < 8 → bit (x + 2 ^ 8 * y) r ≡ bit x r
+first_bit : (b x y r : ℕ) → r < b → bit (x + 2 ^ b * y) r ≡ bit x r
 unfolding bit
-first_bit x y r h =
-    let e : x + 2 ^ 8 * y ≡ y * 2 ^ 8 + x = omega arith in
-    ap (λ v. v == 1) (ap (λ v. bit_at v r) e ∙ bit_at_cat_low y 8 x r h)
+first_bit b x y r h =
+    let e : x + 2 ^ b * y ≡ y * 2 ^ b + x = grind arith in
+    ap (λ v. v == 1) (ap (λ v. bit_at v r) e ∙ bit_at_cat_low y b x r h)
 
-later_bit : (x y i : ℕ) → x < 2 ^ 8 → bit (x + 2 ^ 8 * y) (i + 8) ≡ bit y i
+later_bit : (b x y i : ℕ) → x < 2 ^ b → bit (x + 2 ^ b * y) (i + b) ≡ bit y i
 unfolding bit
-later_bit x y i h =
-    let e : x + 2 ^ 8 * y ≡ y * 2 ^ 8 + x = omega arith in
-    let d : i + 8 - 8 ≡ i = omega arith in
-    ap (λ v. v == 1) (ap (λ v. bit_at v (i + 8)) e ∙ bit_at_cat_high y 8 x (i + 8) h (omega arith) ∙ ap (bit_at y) d)
+later_bit b x y i h =
+    let e : x + 2 ^ b * y ≡ y * 2 ^ b + x = grind arith in
+    let d : i + b - b ≡ i = omega arith in
+    ap (λ v. v == 1) (ap (λ v. bit_at v (i + b)) e ∙ bit_at_cat_high y b x (i + b) h (omega arith) ∙ ap (bit_at y) d)
 
--- the number of lanes
-number_bit : (xs : List ℕ) (j r : ℕ) → Each1 (Fits w8) xs → j < length xs → r < 8 → bit (number_l (2 ^ 8) xs) (8 * j + r) ≡ bit (get_or xs j 0) r
-number_bit [] j r f h k = absurd (omega arith)
-number_bit (x ∷ xs) zero r f h k = ap (bit (x + 2 ^ 8 * number_l (2 ^ 8) xs)) (omega arith) ∙ first_bit x (number_l (2 ^ 8) xs) r k
-number_bit (x ∷ xs) (suc j) r f h k =
-    ap (bit (x + 2 ^ 8 * number_l (2 ^ 8) xs)) (omega arith) ∙ later_bit x (number_l (2 ^ 8) xs) (8 * j + r) f.0.fits
-    ∙ number_bit xs j r f.1 (omega arith) k
+-- the number with these digits, in base 2 ^ b
+pub number_bit : (b : ℕ) (xs : List ℕ) (j r : ℕ) → ((i : ℕ) → get_or xs i 0 < 2 ^ b) → j < length xs → r < b → bit (number_l (2 ^ b) xs) (b * j + r) ≡ bit (get_or xs j 0) r
+number_bit b [] j r f h k = absurd (omega arith)
+number_bit b (x ∷ xs) zero r f h k = ap (bit (x + 2 ^ b * number_l (2 ^ b) xs)) (grind arith) ∙ first_bit b x (number_l (2 ^ b) xs) r k
+number_bit b (x ∷ xs) (suc j) r f h k =
+    ap (bit (x + 2 ^ b * number_l (2 ^ b) xs)) (grind arith) ∙ later_bit b x (number_l (2 ^ b) xs) (b * j + r) (f 0)
+    ∙ number_bit b xs j r (λ i. f (suc i)) (omega arith) k
 
 abbrev pub by_halves : ℕ → ℕ
 by_halves n = bit_or (n / 2 ^ 64 % 2 ^ 64 * 2 ^ 64 % 2 ^ 128) (n % 2 ^ 64)
@@ -71,7 +81,7 @@ pub number_bits : (xs : List ℕ) → length xs ≡ 16 → Each1 (Fits w8) xs �
 number_bits xs d f = build-ext 128 _ _ (λ i h.
     let spot : i ≡ 8 * (i / 8) + i % 8 = omega arith in
     half_bit (number_l (2 ^ 8) xs) i h (cases_lt i 64) ∙ ap (bit (number_l (2 ^ 8) xs)) spot
-    ∙ number_bit xs (i / 8) (i % 8) f (omega (arith, d)) (omega arith))
+    ∙ number_bit 8 xs (i / 8) (i % 8) (λ j. lane_small xs j f) (omega (arith, d)) (omega arith))
 
 -- ---- lanes that move
 
@@ -79,7 +89,7 @@ abbrev pub sixteen : List ℕ
 sixteen = 0 ∷ 1 ∷ 2 ∷ 3 ∷ 4 ∷ 5 ∷ 6 ∷ 7 ∷ 8 ∷ 9 ∷ 10 ∷ 11 ∷ 12 ∷ 13 ∷ 14 ∷ 15 ∷ []
 
 -- a claim on m below a and j below b, checked
-checked : (a b : ℕ) (p : ℕ → ℕ → Bool) → all_below a (λ m. all_below b (λ j. p m j)) ≡ true → (m j : ℕ) → m < a → j < b → p m j ≡ true
+pub checked : (a b : ℕ) (p : ℕ → ℕ → Bool) → all_below a (λ m. all_below b (λ j. p m j)) ≡ true → (m j : ℕ) → m < a → j < b → p m j ≡ true
 checked a b p h m j k l = all_below_tells b (λ j. p m j) (all_below_tells a (λ m. all_below b (λ j. p m j)) h m k) j l
 
 abbrev pub turn_to : ℕ → List ℕ
@@ -159,6 +169,10 @@ reads xs i h = sym (get_or-build 128 i (lane_bit xs) false h)
 pub reads_of : (xs : List ℕ) (j r i : ℕ) → i < 128 → i ≡ 8 * j + r → r < 8 → bit (get_or xs j 0) r ≡ at (lane_bits xs) i
 reads_of xs j r i h e k = ap (λ v. bit (get_or xs v 0) r) (omega (arith, e)) ∙ ap (bit (get_or xs (i / 8) 0)) (omega (arith, e)) ∙ reads xs i h
 
+-- bit p of lane j
+pub lane_at : (xs : List ℕ) (j p : ℕ) → j < 16 → p < 8 → at (lane_bits xs) (8 * j + p) ≡ bit (get_or xs j 0) p
+lane_at xs j p h k = sym (reads_of xs j p (8 * j + p) (omega arith) refl k)
+
 -- an operator on two vectors
 pub lanes_two : (f : ℕ → ℕ → ℕ) (g : Bool → Bool → Bool) → ((a b i : ℕ) → bit (f a b) i ≡ g (bit a i) (bit b i)) → (xs ys : List ℕ) → length xs ≡ 16 → length ys ≡ 16
     → Places 128 (lane_bits (zip2 f xs ys)) (λ i. g (at (lane_bits xs) i) (at (lane_bits ys) i))
@@ -218,11 +232,6 @@ joined_places p q a b f s d e small low high = Places-build 128 _ _ (λ i l.
     ∙ joined_bit p q (get_or a (i / 8) 0) (get_or b (i / 8) 0) (i % 8) (f i) s (small (i / 8) (omega arith)) (omega arith) (low i l) (high i l) (cases_lt (i % 8 + p) 8))
 
 -- ---- rotations and shifts
-
-pub lane_small : (x : List ℕ) (j : ℕ) → Each1 (Fits w8) x → get_or x j 0 < 2 ^ 8
-lane_small [] j h = omega arith
-lane_small (x ∷ xs) zero h = h.0.fits
-lane_small (x ∷ xs) (suc j) h = lane_small xs j h.1
 
 abbrev Turned : ℕ → List ℕ → List ℕ → Type 0
 Turned m x y = (j : ℕ) → j < 16 → get_or y j 0 ≡ get_or x ((j + m) % 16) 0
@@ -327,21 +336,6 @@ pack_places r0 r1 r2 r3 h0 h1 h2 h3 = Places-build 128 _ _ (λ i l.
     nibbles (suc (suc zero)) = h2
     nibbles (suc (suc (suc zero))) = h3
     nibbles (suc (suc (suc (suc q)))) = omega arith
-
-pub same_rows : (b i : ℕ) → i < 4 → get_or (b ∷ b ∷ b ∷ b ∷ []) i 0 ≡ b
-same_rows b zero h = refl
-same_rows b (suc zero) h = refl
-same_rows b (suc (suc zero)) h = refl
-same_rows b (suc (suc (suc zero))) h = refl
-same_rows b (suc (suc (suc (suc i)))) h = absurd (omega arith)
-
--- the nibbles of sixteen bits
-pub nibble_bit : (x j q : ℕ) → j < 4 → q < 4 → bit (get_or (x % 16 ∷ x / 16 % 16 ∷ x / 256 % 16 ∷ x / 4096 ∷ []) j 0) q ≡ bit x (4 * j + q)
-nibble_bit x zero q hj hq = bit_low x 4 q hq ∙ ap (bit x) (omega arith)
-nibble_bit x (suc zero) q hj hq = bit_low (x / 16) 4 q hq ∙ bit_shr x 4 q ∙ ap (bit x) (omega arith)
-nibble_bit x (suc (suc zero)) q hj hq = bit_low (x / 256) 4 q hq ∙ bit_shr x 8 q ∙ ap (bit x) (omega arith)
-nibble_bit x (suc (suc (suc zero))) q hj hq = bit_shr x 12 q ∙ ap (bit x) (omega arith)
-nibble_bit x (suc (suc (suc (suc j)))) q hj hq = absurd (omega arith)
 
 pub repeated_places : (b : ℕ) → Places 128 (lane_bits (replicate 16 b)) (λ i. bit b (i % 8))
 repeated_places b = Places-build 128 _ _ (λ i h. ap (λ v. bit v (i % 8)) (get_or-replicate 16 (i / 8) b 0 (omega arith)))

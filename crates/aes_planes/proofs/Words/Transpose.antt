@@ -1,19 +1,35 @@
--- Eight bytes in 64 bits as a square of bits: its transpose by three swaps.
-use Rattle.std.proofs.Common.{◌≡◌, ℕ, zero, suc, ◌+◌, ◌-◌, ◌*◌, ◌/◌, ◌%◌, ◌^◌, ◌<◌, ◌≤◌, ◌==◌, Bool, true, false, ◌&&◌, cond, nat_le, nat_lt, bit_and, bit_xor, List, [], ◌∷◌, length, get_or, refl, ap, sym, ◌∙◌, arith, ◌⊎◌, inl, inr}
-use Rattle.std.specs.Int.{to_le_bytes, from_le_bytes, w16, w64}
-use Rattle.std.proofs.Math.Bool.{and-false}
+-- Eight words as squares of bits, one for each lane: their transpose by three exchanges, at every width.
+use Rattle.std.proofs.Common.{◌≡◌, ℕ, zero, suc, ◌+◌, ◌-◌, ◌*◌, ◌/◌, ◌%◌, ◌^◌, ◌<◌, ◌≤◌, ◌==◌, Bool, true, false, ◌&&◌, cond, nat_le, nat_lt, bit_and, bit_xor, List, [], get_or, refl, ap, sym, ◌∙◌, arith, ◌⊎◌, inl, inr, length, replicate}
 use Rattle.std.proofs.lemmas.Bool.{cases_lt, eqb-true}
 use Rattle.std.proofs.lemmas.Bool.Decides.{leb_tells}
-use Rattle.std.proofs.lemmas.Nat.{le_bytes_2, le_bytes_8}
+use Rattle.std.proofs.lemmas.Simd.{get_or-zip2, get_or-replicate, length-zip2}
+use lib.Lanes.{zip2}
 use Rattle.aes_planes.specs.Bits.{at, bit, xor}
-use Rattle.aes_planes.specs.Fips197 as fips
-use Rattle.aes_planes.proofs.Bits.BitCases.{same, same_tells, swapped}
+use Rattle.aes_planes.specs.Private.Lanes.{lane_bits}
+use Rattle.aes_planes.specs.Private.Packing.{source_word, source_bit}
+use Rattle.aes_planes.specs.Words.{word_bits}
 use Rattle.aes_planes.proofs.Bits.ByteCases.{all_below, all_below_tells, both, nat_lt_tells}
-use Rattle.aes_planes.proofs.Bits.NumberBits.{bit_low, bit_shl_high, bit_shl_low, bit_shr, bit_of_and, bit_of_xor, reads}
+use Rattle.aes_planes.proofs.Bits.NumberBits.{bit_low, bit_shl_high, bit_shl_low, bit_shr, bit_above, bit_of_and, bit_of_xor, reads}
+use Rattle.aes_planes.proofs.Words.LaneBits.{lane_at, shr8, shl8}
 
--- ---- bytes
+-- ---- claims on each number below one, two, four and eight
 
--- a claim on each number below 8
+pub by_one : (P : ℕ → Type 0) → P 0 → (r : ℕ) → r < 1 → P r
+by_one P a zero l = a
+by_one P a (suc r) l = absurd (omega arith)
+
+pub by_two : (P : ℕ → Type 0) → P 0 → P 1 → (r : ℕ) → r < 2 → P r
+by_two P a b zero l = a
+by_two P a b (suc zero) l = b
+by_two P a b (suc (suc r)) l = absurd (omega arith)
+
+pub by_four : (P : ℕ → Type 0) → P 0 → P 1 → P 2 → P 3 → (r : ℕ) → r < 4 → P r
+by_four P a b c d zero l = a
+by_four P a b c d (suc zero) l = b
+by_four P a b c d (suc (suc zero)) l = c
+by_four P a b c d (suc (suc (suc zero))) l = d
+by_four P a b c d (suc (suc (suc (suc r)))) l = absurd (omega arith)
+
 pub by_eight : (P : ℕ → Type 0) → P 0 → P 1 → P 2 → P 3 → P 4 → P 5 → P 6 → P 7 → (r : ℕ) → r < 8 → P r
 by_eight P a b c d e f g h zero l = a
 by_eight P a b c d e f g h (suc zero) l = b
@@ -25,162 +41,203 @@ by_eight P a b c d e f g h (suc (suc (suc (suc (suc (suc zero)))))) l = g
 by_eight P a b c d e f g h (suc (suc (suc (suc (suc (suc (suc zero))))))) l = h
 by_eight P a b c d e f g h (suc (suc (suc (suc (suc (suc (suc (suc r)))))))) l = absurd (omega arith)
 
--- bit p of byte k of a number
-bit_of_byte : (x s p : ℕ) → p < 8 → bit (x / 2 ^ s % 2 ^ 8) p ≡ bit x (s + p)
-bit_of_byte x s p h = bit_low (x / 2 ^ s) 8 p h ∙ bit_shr x s p ∙ ap (bit x) (omega arith)
+-- ---- one exchange between two numbers
 
-bit_of_lowest : (x p : ℕ) → p < 8 → bit (x % 2 ^ 8) p ≡ bit x (0 + p)
-bit_of_lowest x p h = bit_low x 8 p h ∙ ap (bit x) (omega arith)
+chosen : (a b k : Bool) → xor a (xor a b && k) ≡ cond k b a
+chosen true true true = refl
+chosen true true false = refl
+chosen true false true = refl
+chosen true false false = refl
+chosen false true true = refl
+chosen false true false = refl
+chosen false false true = refl
+chosen false false false = refl
 
-pub to_bytes_bit : (x k p : ℕ) → k < 8 → p < 8 → bit (get_or (to_le_bytes w64 x) k 0) p ≡ bit x (8 * k + p)
-to_bytes_bit x k p i h = by_eight (λ k. bit (get_or (to_le_bytes w64 x) k 0) p ≡ bit x (8 * k + p))
-    (bit_of_lowest x p h) (bit_of_byte x 8 p h) (bit_of_byte x 16 p h) (bit_of_byte x 24 p h)
-    (bit_of_byte x 32 p h) (bit_of_byte x 40 p h) (bit_of_byte x 48 p h) (bit_of_byte x 56 p h) k i
+chosen_back : (a b k : Bool) → xor a (xor b a && k) ≡ cond k b a
+chosen_back true true true = refl
+chosen_back true true false = refl
+chosen_back true false true = refl
+chosen_back true false false = refl
+chosen_back false true true = refl
+chosen_back false true false = refl
+chosen_back false false true = refl
+chosen_back false false false = refl
 
-pub from_bytes_bit : (bs : List ℕ) (x k p : ℕ) → length bs ≡ 8 → ((i : ℕ) → get_or bs i 0 < 256) → x ≡ from_le_bytes w64 bs → k < 8 → p < 8
-    → bit x (8 * k + p) ≡ bit (get_or bs k 0) p
-from_bytes_bit bs x k p l s e i h = sym (to_bytes_bit x k p i h) ∙ ap (λ ys. bit (get_or ys k 0) p) (le_bytes_8 bs x l s e)
+xor_false : (a : Bool) → xor a false ≡ a
+xor_false true = refl
+xor_false false = refl
 
-pub to_pair_bit : (x k p : ℕ) → k < 2 → p < 8 → bit (get_or (to_le_bytes w16 x) k 0) p ≡ bit x (8 * k + p)
-to_pair_bit x zero p i h = bit_of_lowest x p h
-to_pair_bit x (suc zero) p i h = bit_of_byte x 8 p h
-to_pair_bit x (suc (suc k)) p i h = absurd (omega arith)
+-- the bits of high under the mask m that differ from those of low s places up
+abbrev pub differing : ℕ → ℕ → ℕ → ℕ → ℕ
+differing s m low high = bit_and (bit_xor high (low / 2 ^ s)) m
 
-pub from_pair_bit : (bs : List ℕ) (x k p : ℕ) → length bs ≡ 2 → ((i : ℕ) → get_or bs i 0 < 256) → x ≡ from_le_bytes w16 bs → k < 2 → p < 8
-    → bit x (8 * k + p) ≡ bit (get_or bs k 0) p
-from_pair_bit bs x k p l s e i h = sym (to_pair_bit x k p i h) ∙ ap (λ ys. bit (get_or ys k 0) p) (le_bytes_2 bs x l s e)
+differing_bit : (s m low high j : ℕ) → bit (differing s m low high) j ≡ (xor (bit high j) (bit low (j + s)) && bit m j)
+differing_bit s m low high j = bit_of_and (bit_xor high (low / 2 ^ s)) m j
+    ∙ ap (λ v. v && bit m j) (bit_of_xor high (low / 2 ^ s) j ∙ ap (xor (bit high j)) (bit_shr low s j))
 
--- ---- one swap
+pub exchanged_high : (s m low high i : ℕ) → bit (bit_xor high (differing s m low high)) i ≡ cond (bit m i) (bit low (i + s)) (bit high i)
+exchanged_high s m low high i = bit_of_xor high (differing s m low high) i ∙ ap (xor (bit high i)) (differing_bit s m low high i)
+    ∙ chosen (bit high i) (bit low (i + s)) (bit m i)
 
--- the bits of x that the mask names, exchanged with those s places up
-abbrev pub moved : ℕ → ℕ → ℕ → ℕ
-moved s m x = bit_and (bit_xor x (x / 2 ^ s)) m
-
-abbrev pub swap : ℕ → ℕ → ℕ → ℕ
-swap s m x = bit_xor (bit_xor x (moved s m x)) (moved s m x * 2 ^ s % 2 ^ 64)
-
--- where bit i comes from
-abbrev pub partner : ℕ → ℕ → ℕ → ℕ
-partner s m i = cond (bit m i) (i + s) (cond (nat_le s i && bit m (i - s)) (i - s) i)
-
-of_choice : (f : ℕ → Bool) (a b : Bool) (p q r : ℕ) → cond a (f p) (cond b (f q) (f r)) ≡ f (cond a p (cond b q r))
-of_choice f true b p q r = refl
-of_choice f false true p q r = refl
-of_choice f false false p q r = refl
-
-moved_bit : (s m x j : ℕ) → bit (moved s m x) j ≡ (xor (bit x j) (bit x (j + s)) && bit m j)
-moved_bit s m x j = bit_of_and (bit_xor x (x / 2 ^ s)) m j ∙ ap (λ v. v && bit m j) (bit_of_xor x (x / 2 ^ s) j ∙ ap (xor (bit x j)) (bit_shr x s j))
-
-back_bit : (s m x i : ℕ) → i < 64 → ((nat_le s i ≡ true) × (s ≤ i)) ⊎ ((nat_le s i ≡ false) × (i < s))
-    → bit (moved s m x * 2 ^ s % 2 ^ 64) i ≡ (xor (bit x (i - s)) (bit x i) && (nat_le s i && bit m (i - s)))
-back_bit s m x i h (inl t) =
+low_part : (w s m low high i : ℕ) → i < w → ((nat_le s i ≡ true) × (s ≤ i)) ⊎ ((nat_le s i ≡ false) × (i < s))
+    → bit (bit_xor low (differing s m low high * 2 ^ s % 2 ^ w)) i ≡ cond (nat_le s i && bit m (i - s)) (bit high (i - s)) (bit low i)
+low_part w s m low high i h (inl t) =
     let e : i - s + s ≡ i = omega (arith, t.1) in
-    bit_low (moved s m x * 2 ^ s) 64 i h ∙ bit_shl_high (moved s m x) s i t.1 ∙ moved_bit s m x (i - s)
-    ∙ (λ v. xor (bit x (i - s)) (bit x (e v)) && (sym t.0 v && bit m (i - s)))
-back_bit s m x i h (inr t) =
-    bit_low (moved s m x * 2 ^ s) 64 i h ∙ bit_shl_low (moved s m x) s i t.1 ∙ sym (and-false (xor (bit x (i - s)) (bit x i)))
-    ∙ ap (λ v. xor (bit x (i - s)) (bit x i) && (v && bit m (i - s))) (sym t.0)
+    bit_of_xor low (differing s m low high * 2 ^ s % 2 ^ w) i
+    ∙ ap (xor (bit low i)) (bit_low (differing s m low high * 2 ^ s) w i h ∙ bit_shl_high (differing s m low high) s i t.1 ∙ differing_bit s m low high (i - s)
+    ∙ (λ v. xor (bit high (i - s)) (bit low (e v)) && bit m (i - s)))
+    ∙ chosen_back (bit low i) (bit high (i - s)) (bit m (i - s))
+    ∙ ap (λ b. cond (b && bit m (i - s)) (bit high (i - s)) (bit low i)) (sym t.0)
+low_part w s m low high i h (inr t) =
+    bit_of_xor low (differing s m low high * 2 ^ s % 2 ^ w) i
+    ∙ ap (xor (bit low i)) (bit_low (differing s m low high * 2 ^ s) w i h ∙ bit_shl_low (differing s m low high) s i t.1)
+    ∙ xor_false (bit low i)
+    ∙ ap (λ b. cond (b && bit m (i - s)) (bit high (i - s)) (bit low i)) (sym t.0)
 
--- no bit is on both sides of an exchange, and none leaves the word
-apart : ℕ → ℕ → ℕ → Bool
-apart s m i = nat_lt (partner s m i) 64 && same (bit m i && (nat_le s i && bit m (i - s))) false
+pub exchanged_low : (w s m low high i : ℕ) → i < w
+    → bit (bit_xor low (differing s m low high * 2 ^ s % 2 ^ w)) i ≡ cond (nat_le s i && bit m (i - s)) (bit high (i - s)) (bit low i)
+exchanged_low w s m low high i h = low_part w s m low high i h (leb_tells s i)
 
-module _ (s m : ℕ) (test : all_below 64 (apart s m) ≡ true) where
-  swap_bit : (x i : ℕ) → i < 64 → bit (swap s m x) i ≡ bit x (partner s m i)
-  unfolding apart
-  swap_bit x i h =
-      let t = both _ _ (all_below_tells 64 (apart s m) test i h) in
-      bit_of_xor (bit_xor x (moved s m x)) (moved s m x * 2 ^ s % 2 ^ 64) i
-      ∙ (λ v. xor ((bit_of_xor x (moved s m x) i ∙ ap (xor (bit x i)) (moved_bit s m x i)) v) (back_bit s m x i h (leb_tells s i) v))
-      ∙ swapped (bit x i) (bit x (i + s)) (bit x (i - s)) (bit m i) (nat_le s i && bit m (i - s)) (same_tells _ _ t.1)
-      ∙ of_choice (bit x) (bit m i) (nat_le s i && bit m (i - s)) (i + s) (i - s) i
+-- ---- the same in each lane, under a byte that shifts none of its bits out of a lane
 
-  partner_lt : (i : ℕ) → i < 64 → partner s m i < 64
-  unfolding apart
-  partner_lt i h = nat_lt_tells _ _ (both _ _ (all_below_tells 64 (apart s m) test i h)).0
+outside : (s m r : ℕ) → m * 2 ^ s < 2 ^ 8 → 8 ≤ r + s → bit m r ≡ false
+outside s m r f h =
+    let e : r ≡ r + s - s = omega arith in
+    ap (bit m) e ∙ sym (bit_shl_high m s (r + s) (omega arith)) ∙ bit_above (m * 2 ^ s) 8 (r + s) f h
 
--- ---- three swaps
+pub inside : (s m r : ℕ) → m * 2 ^ s < 2 ^ 8 → bit m r ≡ true → r + s < 8
+inside s m r f h = elim (cases_lt (r + s) 8) as (λ _. r + s < 8) [ inl lt ↦ lt | inr le ↦ absurd (grind (arith, h, outside s m r f le)) ]
 
-apart_7 : all_below 64 (apart 7 0x00aa00aa00aa00aa) ≡ true
-unfolding all_below apart same bit
-apart_7 = refl
+-- choices between bits that are the same where they are taken
+pub chosen_same : (a b : Bool) (x y u v : Bool) → a ≡ b → (b ≡ true → x ≡ u) → y ≡ v → cond a x y ≡ cond b u v
+chosen_same a true x y u v e f g = ap (λ c. cond c x y) e ∙ f refl
+chosen_same a false x y u v e f g = ap (λ c. cond c x y) e ∙ g
 
-apart_14 : all_below 64 (apart 14 0x0000cccc0000cccc) ≡ true
-unfolding all_below apart same bit
-apart_14 = refl
+-- the bit of a mask that repeats a byte, s places below bit r of a lane
+below : (w s m M j r : ℕ) → m * 2 ^ s < 2 ^ 8 → s < 8 → ((i : ℕ) → i < w → bit M i ≡ bit m (i % 8)) → 8 * j + 8 ≤ w → r < 8
+    → ((nat_le s r ≡ true) × (s ≤ r)) ⊎ ((nat_le s r ≡ false) × (r < s)) → ((nat_le s (8 * j + r) ≡ true) × (s ≤ 8 * j + r)) ⊎ ((nat_le s (8 * j + r) ≡ false) × (8 * j + r < s))
+    → (nat_le s (8 * j + r) && bit M (8 * j + r - s)) ≡ (nat_le s r && bit m (r - s))
+below w s m M j r f k rep hj hr (inl t) (inl u) =
+    let e : (8 * j + r - s) % 8 ≡ r - s = omega (arith, t.1, u.1) in
+    (λ i. u.0 i && (rep (8 * j + r - s) (omega arith) ∙ ap (bit m) e) i) ∙ ap (λ b. b && bit m (r - s)) (sym t.0)
+below w s m M j r f k rep hj hr (inl t) (inr u) = absurd (omega (arith, t.1, u.1))
+below w s m M j r f k rep hj hr (inr t) (inl u) =
+    let e : (8 * j + r - s) % 8 ≡ 8 + r - s = omega (arith, t.1, u.1) in
+    (λ i. u.0 i && (rep (8 * j + r - s) (omega arith) ∙ ap (bit m) e ∙ outside s m (8 + r - s) f (omega (arith, t.1))) i) ∙ ap (λ b. b && bit m (r - s)) (sym t.0)
+below w s m M j r f k rep hj hr (inr t) (inr u) = ap (λ b. b && bit M (8 * j + r - s)) u.0 ∙ ap (λ b. b && bit m (r - s)) (sym t.0)
 
-apart_28 : all_below 64 (apart 28 0x00000000f0f0f0f0) ≡ true
-unfolding all_below apart same bit
-apart_28 = refl
+module _ (w s m M low high : ℕ) (f : m * 2 ^ s < 2 ^ 8) (k : s < 8) (rep : (i : ℕ) → i < w → bit M i ≡ bit m (i % 8)) where
+  pub word_high : (j r : ℕ) → 8 * j + 8 ≤ w → r < 8
+      → at (word_bits w (bit_xor high (differing s M low high))) (8 * j + r)
+      ≡ cond (bit m r) (at (word_bits w low) (8 * j + (r + s))) (at (word_bits w high) (8 * j + r))
+  word_high j r hj hr =
+      let byte : (8 * j + r) % 8 ≡ r = omega arith in
+      let spot : 8 * j + r + s ≡ 8 * j + (r + s) = omega arith in
+      sym (reads w (bit_xor high (differing s M low high)) (8 * j + r) (omega arith)) ∙ exchanged_high s M low high (8 * j + r)
+      ∙ chosen_same _ _ _ _ _ _ (rep (8 * j + r) (omega arith) ∙ ap (bit m) byte)
+      (λ e. ap (bit low) spot ∙ reads w low (8 * j + (r + s)) (omega (arith, hj, inside s m r f e)))
+      (reads w high (8 * j + r) (omega arith))
 
-from_place : ℕ → Bool
-from_place i = partner 7 0x00aa00aa00aa00aa (partner 14 0x0000cccc0000cccc (partner 28 0x00000000f0f0f0f0 i)) == 8 * (i % 8) + i / 8
+  pub word_low : (j r : ℕ) → 8 * j + 8 ≤ w → r < 8
+      → at (word_bits w (bit_xor low (differing s M low high * 2 ^ s % 2 ^ w))) (8 * j + r)
+      ≡ cond (nat_le s r && bit m (r - s)) (at (word_bits w high) (8 * j + (r - s))) (at (word_bits w low) (8 * j + r))
+  word_low j r hj hr =
+      let i = 8 * j + r in
+      sym (reads w (bit_xor low (differing s M low high * 2 ^ s % 2 ^ w)) i (omega arith)) ∙ exchanged_low w s M low high i (omega arith)
+      ∙ chosen_same _ _ _ _ _ _ (below w s m M j r f k rep hj hr (leb_tells s r) (leb_tells s i))
+      (λ e. let le : s ≤ r = under s r (bit m (r - s)) e (leb_tells s r) in let spot : i - s ≡ 8 * j + (r - s) = omega (arith, le) in ap (bit high) spot ∙ reads w high (8 * j + (r - s)) (omega arith))
+      (reads w low i (omega arith))
+    where
+      under : (s r : ℕ) (b : Bool) → (nat_le s r && b) ≡ true → ((nat_le s r ≡ true) × (s ≤ r)) ⊎ ((nat_le s r ≡ false) × (r < s)) → s ≤ r
+      under s r b e (inl t) = t.1
+      under s r b e (inr t) = absurd (grind (arith, e, t.0))
 
-from_places : all_below 64 from_place ≡ true
-unfolding all_below from_place bit
-from_places = refl
+-- ---- the same on vectors, lane by lane
 
-pub transposed : (x i : ℕ) → i < 64
-    → bit (swap 28 0x00000000f0f0f0f0 (swap 14 0x0000cccc0000cccc (swap 7 0x00aa00aa00aa00aa x))) i ≡ bit x (8 * (i % 8) + i / 8)
-unfolding from_place
-transposed x i h =
-    let y = swap 7 0x00aa00aa00aa00aa x in
-    let z = swap 14 0x0000cccc0000cccc y in
-    let j = partner 28 0x00000000f0f0f0f0 i in
-    let jl = partner_lt 28 0x00000000f0f0f0f0 apart_28 i h in
-    let k = partner 14 0x0000cccc0000cccc j in
-    let kl = partner_lt 14 0x0000cccc0000cccc apart_14 j jl in
-    swap_bit 28 0x00000000f0f0f0f0 apart_28 z i h ∙ swap_bit 14 0x0000cccc0000cccc apart_14 y j jl ∙ swap_bit 7 0x00aa00aa00aa00aa apart_7 x k kl
-    ∙ ap (bit x) (eqb-true _ _ (all_below_tells 64 from_place from_places i h))
+two_lanes : (f : ℕ → ℕ → ℕ) (xs ys : List ℕ) (j : ℕ) → length xs ≡ 16 → length ys ≡ 16 → j < 16 → get_or (zip2 f xs ys) j 0 ≡ f (get_or xs j 0) (get_or ys j 0)
+two_lanes f xs ys j d e h = get_or-zip2 f xs ys j 0 0 0 (omega (arith, d)) (omega (arith, e))
 
--- ---- blocks as two halves of eight bytes
+splat_lane : (f : ℕ → ℕ → ℕ) (xs : List ℕ) (s j : ℕ) → length xs ≡ 16 → j < 16 → get_or (zip2 f xs (replicate 16 s)) j 0 ≡ f (get_or xs j 0) s
+splat_lane f xs s j d h = two_lanes f xs (replicate 16 s) j d refl h ∙ ap (f (get_or xs j 0)) (get_or-replicate 16 j s 0 h)
 
-pair_small : (a b : ℕ) → a < 256 → b < 256 → (i : ℕ) → get_or (a ∷ b ∷ []) i 0 < 256
-pair_small a b h k zero = h
-pair_small a b h k (suc zero) = k
-pair_small a b h k (suc (suc i)) = omega arith
+module _ (s m : ℕ) (low high : List ℕ) (dl : length low ≡ 16) (dh : length high ≡ 16) (f : m * 2 ^ s < 2 ^ 8) where
+  abbrev shifted : List ℕ
+  shifted = zip2 shr8 low (replicate 16 s)
 
--- the bit in row r and column q of the plane that is joined of two bytes
-pub plane_bit : (low high plane p r q : ℕ) (block : List ℕ) → low < 256 → high < 256 → plane ≡ from_le_bytes w16 (low ∷ high ∷ [])
-    → ((j : ℕ) → j < 8 → bit low j ≡ bit (fips.byte_at block (2 * 0 + j / 4) (j % 4)) p)
-    → ((j : ℕ) → j < 8 → bit high j ≡ bit (fips.byte_at block (2 * 1 + j / 4) (j % 4)) p)
-    → r < 4 → q < 4 → at (fips.build 16 (bit plane)) (r * 4 + q) ≡ bit (fips.byte_at block r q) p
-plane_bit low high plane p r q block sl sh e el eh hr hq = sym (reads 16 plane (r * 4 + q) (omega arith)) ∙ go (cases_lt r 2)
-  where
-    go : (r < 2) ⊎ (2 ≤ r) → bit plane (r * 4 + q) ≡ bit (fips.byte_at block r q) p
-    go (inl lt) =
-        let j = r * 4 + q in
-        let place : r * 4 + q ≡ 8 * 0 + j = omega arith in
-        let row : 2 * 0 + (r * 4 + q) / 4 ≡ r = omega arith in
-        let column : (r * 4 + q) % 4 ≡ q = omega arith in
-        ap (bit plane) place ∙ from_pair_bit (low ∷ high ∷ []) plane 0 j refl (pair_small low high sl sh) e (omega arith) (omega arith)
-        ∙ el j (omega arith) ∙ (λ t. bit (fips.byte_at block (row t) (column t)) p)
-    go (inr le) =
-        let j = (r - 2) * 4 + q in
-        let place : r * 4 + q ≡ 8 * 1 + ((r - 2) * 4 + q) = omega arith in
-        let row : 2 * 1 + ((r - 2) * 4 + q) / 4 ≡ r = omega arith in
-        let column : ((r - 2) * 4 + q) % 4 ≡ q = omega arith in
-        ap (bit plane) place ∙ from_pair_bit (low ∷ high ∷ []) plane 1 j refl (pair_small low high sl sh) e (omega arith) (omega arith)
-        ∙ eh j (omega arith) ∙ (λ t. bit (fips.byte_at block (row t) (column t)) p)
+  abbrev pub moved : List ℕ
+  moved = zip2 bit_and (zip2 bit_xor high shifted) (replicate 16 m)
 
-pub by_four : (P : ℕ → Type 0) → P 0 → P 1 → P 2 → P 3 → (r : ℕ) → r < 4 → P r
-by_four P a b c d zero l = a
-by_four P a b c d (suc zero) l = b
-by_four P a b c d (suc (suc zero)) l = c
-by_four P a b c d (suc (suc (suc zero))) l = d
-by_four P a b c d (suc (suc (suc (suc r)))) l = absurd (omega arith)
+  length-shifted : length shifted ≡ 16
+  length-shifted = length-zip2 shr8 low (replicate 16 s) dl ∙ dl
 
--- the block of two halves, row by row
-abbrev pub joined : List ℕ → List ℕ → List ℕ
-joined low high =
-    get_or low 0 0 ∷ get_or low 4 0 ∷ get_or high 0 0 ∷ get_or high 4 0 ∷ get_or low 1 0 ∷ get_or low 5 0 ∷ get_or high 1 0 ∷ get_or high 5 0
-    ∷ get_or low 2 0 ∷ get_or low 6 0 ∷ get_or high 2 0 ∷ get_or high 6 0 ∷ get_or low 3 0 ∷ get_or low 7 0 ∷ get_or high 3 0 ∷ get_or high 7 0 ∷ []
+  length-differ : length (zip2 bit_xor high shifted) ≡ 16
+  length-differ = length-zip2 bit_xor high shifted (dh ∙ sym length-shifted) ∙ dh
 
-pub joined_byte : (low high : List ℕ) (f : ℕ → ℕ) → ((j : ℕ) → j < 8 → get_or low j 0 ≡ f (8 * 0 + j)) → ((j : ℕ) → j < 8 → get_or high j 0 ≡ f (8 * 1 + j))
-    → (r q : ℕ) → r < 4 → q < 4 → f (r * 4 + q) ≡ fips.byte_at (joined low high) r q
-joined_byte low high f l h r q hr hq = by_four (λ r. f (r * 4 + q) ≡ fips.byte_at (joined low high) r q)
-    (by_four (λ q. f (0 * 4 + q) ≡ fips.byte_at (joined low high) 0 q) (sym (l 0 (omega arith))) (sym (l 1 (omega arith))) (sym (l 2 (omega arith))) (sym (l 3 (omega arith))) q hq)
-    (by_four (λ q. f (1 * 4 + q) ≡ fips.byte_at (joined low high) 1 q) (sym (l 4 (omega arith))) (sym (l 5 (omega arith))) (sym (l 6 (omega arith))) (sym (l 7 (omega arith))) q hq)
-    (by_four (λ q. f (2 * 4 + q) ≡ fips.byte_at (joined low high) 2 q) (sym (h 0 (omega arith))) (sym (h 1 (omega arith))) (sym (h 2 (omega arith))) (sym (h 3 (omega arith))) q hq)
-    (by_four (λ q. f (3 * 4 + q) ≡ fips.byte_at (joined low high) 3 q) (sym (h 4 (omega arith))) (sym (h 5 (omega arith))) (sym (h 6 (omega arith))) (sym (h 7 (omega arith))) q hq)
-    r hr
+  length-moved : length moved ≡ 16
+  length-moved = length-zip2 bit_and (zip2 bit_xor high shifted) (replicate 16 m) length-differ ∙ length-differ
+
+  moved_lane : (j : ℕ) → j < 16 → get_or moved j 0 ≡ differing s m (get_or low j 0) (get_or high j 0)
+  moved_lane j h = splat_lane bit_and (zip2 bit_xor high shifted) m j length-differ h
+      ∙ ap (λ v. bit_and v m) (two_lanes bit_xor high shifted j dh length-shifted h ∙ ap (bit_xor (get_or high j 0)) (splat_lane shr8 low s j dl h))
+
+  pub lanes_high : (j r : ℕ) → 8 * j + 8 ≤ 128 → r < 8
+      → at (lane_bits (zip2 bit_xor high moved)) (8 * j + r) ≡ cond (bit m r) (at (lane_bits low) (8 * j + (r + s))) (at (lane_bits high) (8 * j + r))
+  lanes_high j r hj hr =
+      let h : j < 16 = omega arith in
+      lane_at (zip2 bit_xor high moved) j r h hr
+      ∙ ap (λ v. bit v r) (two_lanes bit_xor high moved j dh length-moved h ∙ ap (bit_xor (get_or high j 0)) (moved_lane j h))
+      ∙ exchanged_high s m (get_or low j 0) (get_or high j 0) r
+      ∙ chosen_same _ _ _ _ _ _ refl (λ e. sym (lane_at low j (r + s) h (inside s m r f e))) (sym (lane_at high j r h hr))
+
+  pub lanes_low : (j r : ℕ) → 8 * j + 8 ≤ 128 → r < 8
+      → at (lane_bits (zip2 bit_xor low (zip2 shl8 moved (replicate 16 s)))) (8 * j + r)
+      ≡ cond (nat_le s r && bit m (r - s)) (at (lane_bits high) (8 * j + (r - s))) (at (lane_bits low) (8 * j + r))
+  lanes_low j r hj hr =
+      let h : j < 16 = omega arith in
+      lane_at (zip2 bit_xor low (zip2 shl8 moved (replicate 16 s))) j r h hr
+      ∙ ap (λ v. bit v r) (two_lanes bit_xor low (zip2 shl8 moved (replicate 16 s)) j dl (length-zip2 shl8 moved (replicate 16 s) length-moved ∙ length-moved) h
+      ∙ ap (bit_xor (get_or low j 0)) (splat_lane shl8 moved s j length-moved h ∙ ap (λ v. v * 2 ^ s % 2 ^ 8) (moved_lane j h)))
+      ∙ exchanged_low 8 s m (get_or low j 0) (get_or high j 0) r hr
+      ∙ chosen_same _ _ _ _ _ _ refl (λ e. sym (lane_at high j (r - s) h (omega arith))) (sym (lane_at low j r h hr))
+
+-- ---- three exchanges
+
+-- a choice between bits of words is a bit of the chosen word
+pub choice : (words : List (List Bool)) (j : ℕ) (b : Bool) (p q u v : ℕ)
+    → cond b (at (get_or words p []) (8 * j + u)) (at (get_or words q []) (8 * j + v)) ≡ at (get_or words (cond b p q) []) (8 * j + cond b u v)
+choice words j true p q u v = refl
+choice words j false p q u v = refl
+
+chain : ℕ → ℕ → Bool
+chain w r =
+    let w3 = source_word 4 0x0f w r in
+    let r3 = source_bit 4 0x0f w r in
+    let w2 = source_word 2 0x33 w3 r3 in
+    let r2 = source_bit 2 0x33 w3 r3 in
+    (nat_lt w3 8 && nat_lt r3 8) && ((nat_lt w2 8 && nat_lt r2 8) && ((source_word 1 0x55 w2 r2 == r) && (source_bit 1 0x55 w2 r2 == w)))
+
+chains : all_below 8 (λ w. all_below 8 (chain w)) ≡ true
+unfolding all_below chain bit
+chains = refl
+
+abbrev Exchanged : ℕ → ℕ → ℕ → List (List Bool) → List (List Bool) → Type 0
+Exchanged n s m before after = (w j r : ℕ) → w < 8 → 8 * j + 8 ≤ n → r < 8
+    → at (get_or after w []) (8 * j + r) ≡ at (get_or before (source_word s m w r) []) (8 * j + source_bit s m w r)
+
+pub transposed : (n : ℕ) (words ones twos last : List (List Bool)) → Exchanged n 1 0x55 words ones → Exchanged n 2 0x33 ones twos → Exchanged n 4 0x0f twos last
+    → (w j r : ℕ) → w < 8 → 8 * j + 8 ≤ n → r < 8 → at (get_or last w []) (8 * j + r) ≡ at (get_or words r []) (8 * j + w)
+unfolding chain
+transposed n words ones twos last f g h w j r hw hj hr =
+    let w3 = source_word 4 0x0f w r in
+    let r3 = source_bit 4 0x0f w r in
+    let w2 = source_word 2 0x33 w3 r3 in
+    let r2 = source_bit 2 0x33 w3 r3 in
+    let t = both _ _ (all_below_tells 8 (chain w) (all_below_tells 8 (λ w. all_below 8 (chain w)) chains w hw) r hr) in
+    let a = both _ _ t.0 in
+    let u = both _ _ t.1 in
+    let b = both _ _ u.0 in
+    let w1 = source_word 1 0x55 w2 r2 in
+    let r1 = source_bit 1 0x55 w2 r2 in
+    let e = both (w1 == r) (r1 == w) u.1 in
+    h w j r hw hj hr ∙ g w3 j r3 (nat_lt_tells _ _ a.0) hj (nat_lt_tells _ _ a.1) ∙ f w2 j r2 (nat_lt_tells _ _ b.0) hj (nat_lt_tells _ _ b.1)
+    ∙ (λ v. at (get_or words (eqb-true w1 r e.0 v) []) (8 * j + eqb-true r1 w e.1 v))

@@ -1,6 +1,6 @@
 -- How long a list is that is built of a function: the one proof among the definitions, since the law of an
 -- implementation may cite no file of proofs of its own crate.
-use Rattle.std.proofs.Common.{◌≡◌, ℕ, zero, suc, ◌+◌, List, length, refl, ap}
+use Rattle.std.proofs.Common.{◌≡◌, ℕ, zero, suc, ◌+◌, length, refl, ap}
 use Rattle.aes_planes.specs.Fips197.{build, build_from}
 
 length-build_from : {A : Type 0} (a n : ℕ) (f : ℕ → A) → length (build_from a n f) ≡ n

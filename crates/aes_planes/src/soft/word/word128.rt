@@ -9,8 +9,11 @@ ghost use Rattle.aes_planes.specs.Private.BuiltLength.{length-build};
 ghost use Rattle.aes_planes.specs.Words.{word_bits};
 
 use super::Word;
-use super::batch::{Blocks, Blocks8};
-use super::vector::{blocks_of, planes_of, rows, shifted_down, shifted_up, turned_down};
+use super::batch::{Batch, Blocks, Blocks8};
+use super::transpose::transpose;
+use super::vector::{
+    by_columns, by_rows, byte_for_each_bit, rows, shifted_down, shifted_up, turned_down,
+};
 use std::simd::prelude::*;
 
 /// The lanes of a word, by its halves.
@@ -119,12 +122,7 @@ impl Word for u128 {
 
     #[inline(always)]
     fn broadcast(x: u16) -> u128 {
-        word(rows(
-            (x % 16) as u8,
-            ((x >> 4) % 16) as u8,
-            ((x >> 8) % 16) as u8,
-            (x >> 12) as u8,
-        ))
+        word(byte_for_each_bit((x % 256) as u8, (x >> 8) as u8))
     }
 
     #[inline(always)]
@@ -134,32 +132,63 @@ impl Word for u128 {
 
     #[inline(always)]
     fn bitslice(output: &mut [u128; 8], input: &Blocks8) {
-        let [p0, p1, p2, p3, p4, p5, p6, p7] = planes_of(&input.blocks);
-        let w0 = word(p0);
-        let w1 = word(p1);
-        let w2 = word(p2);
-        let w3 = word(p3);
-        let w4 = word(p4);
-        let w5 = word(p5);
-        let w6 = word(p6);
-        let w7 = word(p7);
-        let planes = [w0, w1, w2, w3, w4, w5, w6, w7];
+        let b0 = input.get(0);
+        let b1 = input.get(1);
+        let b2 = input.get(2);
+        let b3 = input.get(3);
+        let b4 = input.get(4);
+        let b5 = input.get(5);
+        let b6 = input.get(6);
+        let b7 = input.get(7);
+        let rows = [
+            by_rows(b0),
+            by_rows(b1),
+            by_rows(b2),
+            by_rows(b3),
+            by_rows(b4),
+            by_rows(b5),
+            by_rows(b6),
+            by_rows(b7),
+        ];
+        let [p0, p1, p2, p3, p4, p5, p6, p7] = transpose(rows);
+        let planes = [
+            word(p0),
+            word(p1),
+            word(p2),
+            word(p3),
+            word(p4),
+            word(p5),
+            word(p6),
+            word(p7),
+        ];
         *output = planes;
     }
 
     #[inline(always)]
     fn inv_bitslice(input: &[u128; 8]) -> Blocks8 {
-        let [w0, w1, w2, w3, w4, w5, w6, w7] = *input;
-        let p0 = lanes(w0);
-        let p1 = lanes(w1);
-        let p2 = lanes(w2);
-        let p3 = lanes(w3);
-        let p4 = lanes(w4);
-        let p5 = lanes(w5);
-        let p6 = lanes(w6);
-        let p7 = lanes(w7);
+        let [p0, p1, p2, p3, p4, p5, p6, p7] = *input;
+        let planes = [
+            lanes(p0),
+            lanes(p1),
+            lanes(p2),
+            lanes(p3),
+            lanes(p4),
+            lanes(p5),
+            lanes(p6),
+            lanes(p7),
+        ];
+        let [r0, r1, r2, r3, r4, r5, r6, r7] = transpose(planes);
         Blocks {
-            blocks: blocks_of([p0, p1, p2, p3, p4, p5, p6, p7]),
+            blocks: [
+                by_columns(r0),
+                by_columns(r1),
+                by_columns(r2),
+                by_columns(r3),
+                by_columns(r4),
+                by_columns(r5),
+                by_columns(r6),
+                by_columns(r7),
+            ],
         }
     }
 

@@ -1,13 +1,16 @@
 //! A word of thirty-two bits, eight of which hold two blocks.
 
+ghost use Rattle.std.specs.Prelude.{◌≡◌, ℕ, ◌+◌, ◌*◌, ◌<◌, [], ◌∷◌, slice_index};
 ghost use Rattle.std.proofs.Common.{refl, rules};
-ghost use Rattle.aes_planes.specs.Bits.{bit};
+ghost use Rattle.aes_planes.specs.Bits.{at, bit};
 ghost use Rattle.aes_planes.specs.Private.BuiltLength.{length-build};
+ghost use Rattle.aes_planes.specs.Private.Packing.{row_byte};
 ghost use Rattle.aes_planes.specs.Words.{word_bits};
 
 use super::Word;
-use super::batch::{Batch, Blocks, Blocks2};
-use super::pack::{block_of, planes_of, row_of, transpose_words};
+use super::batch::{Batch, Block, Blocks, Blocks2};
+use super::rows::row_of;
+use super::transpose::transpose;
 
 impl Word for u32 {
     ghost bits = { λ x. word_bits 32 x };
@@ -102,36 +105,24 @@ impl Word for u32 {
     fn bitslice(output: &mut [u32; 8], input: &Blocks2) {
         let b0 = input.get(0);
         let b1 = input.get(1);
-        let blocks = [b0, b1];
-        let [p0, p1, p2, p3, p4, p5, p6, p7] = planes_of(&blocks, 0);
-        let planes = [
-            (p0 % 0x1_0000_0000) as u32,
-            (p1 % 0x1_0000_0000) as u32,
-            (p2 % 0x1_0000_0000) as u32,
-            (p3 % 0x1_0000_0000) as u32,
-            (p4 % 0x1_0000_0000) as u32,
-            (p5 % 0x1_0000_0000) as u32,
-            (p6 % 0x1_0000_0000) as u32,
-            (p7 % 0x1_0000_0000) as u32,
-        ];
+        let w0 = column_of(&b0, 0);
+        let w1 = column_of(&b1, 0);
+        let w2 = column_of(&b0, 1);
+        let w3 = column_of(&b1, 1);
+        let w4 = column_of(&b0, 2);
+        let w5 = column_of(&b1, 2);
+        let w6 = column_of(&b0, 3);
+        let w7 = column_of(&b1, 3);
+        let planes = transpose([w0, w1, w2, w3, w4, w5, w6, w7]);
         *output = planes;
     }
 
     #[inline(always)]
     fn inv_bitslice(input: &[u32; 8]) -> Blocks2 {
-        let [p0, p1, p2, p3, p4, p5, p6, p7] = *input;
-        let lanes = [
-            transpose_words([
-                p0 as u64, p1 as u64, p2 as u64, p3 as u64, p4 as u64, p5 as u64, p6 as u64,
-                p7 as u64,
-            ]),
-            [0; 8],
-        ];
-        let block0 = block_of(&lanes, 2, 0);
-        let block1 = block_of(&lanes, 2, 1);
-        Blocks {
-            blocks: [block0, block1],
-        }
+        let [w0, w1, w2, w3, w4, w5, w6, w7] = transpose(*input);
+        let b0 = block_of(w0, w2, w4, w6);
+        let b1 = block_of(w1, w3, w5, w7);
+        Blocks { blocks: [b0, b1] }
     }
 
     ghost sized = { λ x. length-build 32 (bit x) };
@@ -149,4 +140,34 @@ impl Word for u32 {
     ghost as_many = { refl };
 
     ghost small = { Prim.search rules };
+}
+
+// A column of a block, its first row lowest.
+#[inline(always)]
+fn column_of(block: &Block, column: usize) -> u32
+    requires four_columns { column < 4 }
+    ensures { (j p : ℕ) → j < 4 → p < 8 → at (word_bits 32 result) (8 * j + p) ≡ bit (row_byte block.now (4 * j + column)) p }
+{
+    let start = 4 * column;
+    u32::from_le_bytes([
+        block[start],
+        block[start + 1],
+        block[start + 2],
+        block[start + 3],
+    ])
+}
+
+// The block of these columns.
+#[inline(always)]
+fn block_of(column0: u32, column1: u32, column2: u32, column3: u32) -> Block
+    ensures { (j c p : ℕ) → j < 4 → c < 4 → p < 8
+        → bit (row_byte result (4 * j + c)) p ≡ at (word_bits 32 (slice_index (column0 ∷ column1 ∷ column2 ∷ column3 ∷ []) c)) (8 * j + p) }
+{
+    let [a0, a1, a2, a3] = column0.to_le_bytes();
+    let [b0, b1, b2, b3] = column1.to_le_bytes();
+    let [c0, c1, c2, c3] = column2.to_le_bytes();
+    let [d0, d1, d2, d3] = column3.to_le_bytes();
+    [
+        a0, a1, a2, a3, b0, b1, b2, b3, c0, c1, c2, c3, d0, d1, d2, d3,
+    ]
 }

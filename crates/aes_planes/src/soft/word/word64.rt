@@ -1,13 +1,18 @@
 //! A word of sixty-four bits, eight of which hold four blocks.
 
+ghost use Rattle.std.specs.Prelude.{◌≡◌, ℕ, ◌+◌, ◌-◌, ◌*◌, ◌/◌, ◌^◌, ◌<◌, ◌&&◌, ◌||◌, nat_le, [], ◌∷◌, slice_index};
 ghost use Rattle.std.proofs.Common.{refl, rules};
-ghost use Rattle.aes_planes.specs.Bits.{bit};
+ghost use Rattle.aes_planes.specs.Bits.{at, bit};
 ghost use Rattle.aes_planes.specs.Private.BuiltLength.{length-build};
+ghost use Rattle.aes_planes.specs.Private.Packing.{row_byte};
 ghost use Rattle.aes_planes.specs.Words.{word_bits};
+ghost use Rattle.aes_planes.specs.Fips197 as fips;
 
 use super::Word;
-use super::batch::{Batch, Blocks, Blocks4};
-use super::pack::{block_of, planes_of, row_of, transpose_words};
+use super::batch::{Batch, Block, Blocks, Blocks4};
+use super::rows::row_of;
+use super::transpose::transpose;
+use std::simd::prelude::*;
 
 impl Word for u64 {
     ghost bits = { λ x. word_bits 64 x };
@@ -99,25 +104,33 @@ impl Word for u64 {
     }
 
     #[inline(always)]
+    fn broadcast(x: u16) -> u64 {
+        each_four_times(x as u64)
+    }
+
+    #[inline(always)]
     fn bitslice(output: &mut [u64; 8], input: &Blocks4) {
         let b0 = input.get(0);
         let b1 = input.get(1);
         let b2 = input.get(2);
         let b3 = input.get(3);
-        let blocks = [b0, b1, b2, b3];
-        let planes = planes_of(&blocks, 0);
+        let [even0, odd0] = columns_apart(b0);
+        let [even1, odd1] = columns_apart(b1);
+        let [even2, odd2] = columns_apart(b2);
+        let [even3, odd3] = columns_apart(b3);
+        let planes = transpose([even0, even1, even2, even3, odd0, odd1, odd2, odd3]);
         *output = planes;
     }
 
     #[inline(always)]
     fn inv_bitslice(input: &[u64; 8]) -> Blocks4 {
-        let lanes = [transpose_words(*input), [0; 8]];
-        let block0 = block_of(&lanes, 4, 0);
-        let block1 = block_of(&lanes, 4, 1);
-        let block2 = block_of(&lanes, 4, 2);
-        let block3 = block_of(&lanes, 4, 3);
+        let [even0, even1, even2, even3, odd0, odd1, odd2, odd3] = transpose(*input);
+        let b0 = columns_together(even0, odd0);
+        let b1 = columns_together(even1, odd1);
+        let b2 = columns_together(even2, odd2);
+        let b3 = columns_together(even3, odd3);
         Blocks {
-            blocks: [block0, block1, block2, block3],
+            blocks: [b0, b1, b2, b3],
         }
     }
 
@@ -136,4 +149,49 @@ impl Word for u64 {
     ghost as_many = { refl };
 
     ghost small = { Prim.search rules };
+}
+
+// The even columns of a block, row by row, and the odd ones.
+#[inline(always)]
+fn columns_apart(block: Block) -> [u64; 2]
+    ensures { (j o p : ℕ) → j < 8 → o < 2 → p < 8 → at (word_bits 64 (slice_index result o)) (8 * j + p) ≡ bit (row_byte block (2 * j + o)) p }
+{
+    let bytes = u8x16::from_array(block);
+    let apart = bytes.swizzle([0, 8, 1, 9, 2, 10, 3, 11, 4, 12, 5, 13, 6, 14, 7, 15]);
+    u64x2::from_le_bytes(apart).to_array()
+}
+
+// The block of these columns.
+#[inline(always)]
+fn columns_together(even: u64, odd: u64) -> Block
+    ensures typed { fips.IsBlock result }
+    ensures bits { (j o p : ℕ) → j < 8 → o < 2 → p < 8
+        → bit (row_byte result (2 * j + o)) p ≡ at (word_bits 64 (slice_index (even ∷ odd ∷ []) o)) (8 * j + p) }
+{
+    let apart = u64x2::from_array([even, odd]).to_le_bytes();
+    let bytes = apart.swizzle([0, 2, 4, 6, 8, 10, 12, 14, 1, 3, 5, 7, 9, 11, 13, 15]);
+    bytes.to_array()
+}
+
+// The lowest sixteen bits, each four times: halves are drawn apart until each bit has four places, and then fills them.
+#[inline(always)]
+fn each_four_times(x: u64) -> u64
+    requires sixteen_bits { x < 2 ^ 16 }
+    ensures { (i : ℕ) → i < 64 → bit result i ≡ bit x (i / 4) }
+{
+    let eights = drawn_apart(x, 24, 0x0000_00ff_0000_00ff);
+    let fours = drawn_apart(eights, 12, 0x000f_000f_000f_000f);
+    let twos = drawn_apart(fours, 6, 0x0303_0303_0303_0303);
+    let ones = drawn_apart(twos, 3, 0x1111_1111_1111_1111);
+    let twice = drawn_apart(ones, 1, 0x3333_3333_3333_3333);
+    drawn_apart(twice, 2, 0xffff_ffff_ffff_ffff)
+}
+
+// The bits here and those so far below, where the mask has a bit.
+#[inline(always)]
+fn drawn_apart(x: u64, shift: u32, mask: u64) -> u64
+    requires below_bits { shift < 64 }
+    ensures { (i : ℕ) → i < 64 → bit result i ≡ ((bit x i || (nat_le shift i && bit x (i - shift))) && bit mask i) }
+{
+    (x | x << shift) & mask
 }

@@ -1,23 +1,30 @@
 -- What is left to show of `soft::word::word128::U128Word::bitslice`.
-use Rattle.std.proofs.Common.{◌≡◌, [], ◌∷◌, get_or, map, refl, ap, ◌∙◌, rules}
-use Rattle.aes_planes.specs.Bits.{at}
+use Rattle.std.proofs.Common.{◌≡◌, ◌+◌, ◌*◌, ◌/◌, ◌%◌, [], ◌∷◌, length, get_or, map, refl, ap, sym, ◌∙◌, arith, rules}
+use Rattle.std.proofs.lemmas.List.{length-map}
+use Rattle.aes_planes.specs.Bits.{at, bit}
+use Rattle.aes_planes.specs.Fips197.{IsBytes}
 use Rattle.aes_planes.specs.Private.Lanes.{lane_bits}
-use Rattle.aes_planes.specs.Planes.{place}
-use Rattle.aes_planes.specs.Words.{word_bits}
-use Rattle.aes_planes.proofs.Planes.Holds.{holds_held}
+use Rattle.aes_planes.specs.Private.Packing.{row_byte}
+use Rattle.aes_planes.specs.Planes.{held}
+use Rattle.aes_planes.proofs.Bits.BitCases.{eight}
+use Rattle.aes_planes.proofs.Words.LaneBits.{lane_at}
+use Rattle.aes_planes.proofs.Words.Packing.{packed, eight_blocks}
 use Rattle.aes_planes.proofs.Words.Transpose.{by_eight}
 use Rattle.aes_planes.proofs.soft.word.word128.U128Word.bitslice.Goals as goal
 
 pub returns : goal.returns
 returns c =
-    let vs = c.planes_of.result in
-    holds_held 8 _ _ (record {
-      planes_count = refl;
-      blocks_count = search rules;
-      block_length = λ k h. (c.planes_of.ensures.typed k h).0;
-      bytes = λ k h. (c.planes_of.ensures.typed k h).1;
-      bits = λ p r q k hp hr hq hk. let i = place 8 r q k in
-          by_eight (λ p. at (get_or (map (word_bits 128) (c.word-w0.result ∷ c.word-w1.result ∷ c.word-w2.result ∷ c.word-w3.result ∷ c.word-w4.result ∷ c.word-w5.result ∷ c.word-w6.result ∷ c.word-w7.result ∷ [])) p []) i ≡ at (lane_bits (get_or vs p [])) i)
-          (ap (λ x. at x i) c.word-w0.ensures) (ap (λ x. at x i) c.word-w1.ensures) (ap (λ x. at x i) c.word-w2.ensures) (ap (λ x. at x i) c.word-w3.ensures) (ap (λ x. at x i) c.word-w4.ensures) (ap (λ x. at x i) c.word-w5.ensures) (ap (λ x. at x i) c.word-w6.ensures) (ap (λ x. at x i) c.word-w7.ensures) p hp
-          ∙ c.planes_of.ensures.bits p r q k hp hr hq hk;
-    }) ∙ search rules
+    let blocks = c.get-b0.result ∷ c.get-b1.result ∷ c.get-b2.result ∷ c.get-b3.result ∷ c.get-b4.result ∷ c.get-b5.result ∷ c.get-b6.result ∷ c.get-b7.result ∷ [] in
+    let words = lane_bits c.by_rows.result ∷ lane_bits c.by_rows-2.result ∷ lane_bits c.by_rows-3.result ∷ lane_bits c.by_rows-4.result ∷ lane_bits c.by_rows-5.result ∷ lane_bits c.by_rows-6.result ∷ lane_bits c.by_rows-7.result ∷ lane_bits c.by_rows-8.result ∷ [] in
+    let planes = c.transpose.result in
+    (λ t. held 8 (c.word.ensures t ∷ c.word-2.ensures t ∷ c.word-3.ensures t ∷ c.word-4.ensures t ∷ c.word-5.ensures t ∷ c.word-6.ensures t ∷ c.word-7.ensures t ∷ c.word-8.ensures t ∷ []))
+    ∙ ap (λ ys. held 8 (map lane_bits ys)) (sym (eight planes [] [] [] [] [] [] [] [] (search rules)))
+    ∙ packed 8 1 (map lane_bits planes) words blocks (length-map planes lane_bits ∙ search rules) refl
+    (by_eight (λ k. length (get_or blocks k []) ≡ 16) (search rules) (search rules) (search rules) (search rules) (search rules) (search rules) (search rules) (search rules))
+    (by_eight (λ k. IsBytes (get_or blocks k [])) (search rules) (search rules) (search rules) (search rules) (search rules) (search rules) (search rules) (search rules))
+    (λ r q k hr hq hk. (omega arith, omega arith))
+    c.transpose.ensures
+    (λ j t p hj ht hp. by_eight (λ t. at (get_or words t []) (8 * j + p) ≡ bit (row_byte (get_or blocks (t % 8) []) (1 * j + t / 8)) p)
+    (lane_at c.by_rows.result j p (omega (arith, hj)) hp ∙ ap (λ v. bit v p) (c.by_rows.ensures j (omega (arith, hj)) ∙ ap (row_byte (get_or blocks 0 [])) (omega arith))) (lane_at c.by_rows-2.result j p (omega (arith, hj)) hp ∙ ap (λ v. bit v p) (c.by_rows-2.ensures j (omega (arith, hj)) ∙ ap (row_byte (get_or blocks 1 [])) (omega arith))) (lane_at c.by_rows-3.result j p (omega (arith, hj)) hp ∙ ap (λ v. bit v p) (c.by_rows-3.ensures j (omega (arith, hj)) ∙ ap (row_byte (get_or blocks 2 [])) (omega arith))) (lane_at c.by_rows-4.result j p (omega (arith, hj)) hp ∙ ap (λ v. bit v p) (c.by_rows-4.ensures j (omega (arith, hj)) ∙ ap (row_byte (get_or blocks 3 [])) (omega arith))) (lane_at c.by_rows-5.result j p (omega (arith, hj)) hp ∙ ap (λ v. bit v p) (c.by_rows-5.ensures j (omega (arith, hj)) ∙ ap (row_byte (get_or blocks 4 [])) (omega arith))) (lane_at c.by_rows-6.result j p (omega (arith, hj)) hp ∙ ap (λ v. bit v p) (c.by_rows-6.ensures j (omega (arith, hj)) ∙ ap (row_byte (get_or blocks 5 [])) (omega arith))) (lane_at c.by_rows-7.result j p (omega (arith, hj)) hp ∙ ap (λ v. bit v p) (c.by_rows-7.ensures j (omega (arith, hj)) ∙ ap (row_byte (get_or blocks 6 [])) (omega arith))) (lane_at c.by_rows-8.result j p (omega (arith, hj)) hp ∙ ap (λ v. bit v p) (c.by_rows-8.ensures j (omega (arith, hj)) ∙ ap (row_byte (get_or blocks 7 [])) (omega arith))) t ht)
+    ∙ (λ t. c.get-b0.ensures.at t ∷ c.get-b1.ensures.at t ∷ c.get-b2.ensures.at t ∷ c.get-b3.ensures.at t ∷ c.get-b4.ensures.at t ∷ c.get-b5.ensures.at t ∷ c.get-b6.ensures.at t ∷ c.get-b7.ensures.at t ∷ [])
+    ∙ eight_blocks c.args.input.now c.get-b0.ensures.sized

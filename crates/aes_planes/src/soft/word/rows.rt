@@ -1,0 +1,21 @@
+//! A nibble as a row of a word: each of its bits once for every block.
+
+ghost use Rattle.std.specs.Prelude.{◌≡◌, ℕ, ◌*◌, ◌/◌, ◌^◌, ◌<◌, ◌≤◌};
+ghost use Rattle.aes_planes.specs.Bits.{bit};
+
+/// A nibble's bits, each `n` times, lowest first.
+#[inline(always)]
+pub(crate) fn row_of(b: u8, n: u32) -> u32
+    requires nibble { b ≤ 15 }
+    requires some { 1 ≤ n }
+    requires few { n ≤ 8 }
+    ensures small { result < 2 ^ (4 * n) }
+    ensures bits { (q : ℕ) → q < 4 * n → bit result q ≡ bit b (q / n) }
+{
+    let ones = (1 << n) - 1;
+    let b0 = (b & 1) as u32;
+    let b1 = (b >> 1 & 1) as u32;
+    let b2 = (b >> 2 & 1) as u32;
+    let b3 = (b >> 3) as u32;
+    (b0 | b1 << n | b2 << 2 * n | b3 << 3 * n) * ones
+}
