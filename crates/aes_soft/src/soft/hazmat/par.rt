@@ -2,7 +2,7 @@
 
 ghost use Rattle.std.specs.Prelude.{◌≡◌, ◌%◌, map};
 ghost use Rattle.aes_planes.specs.Fips197 as fips;
-ghost use Rattle.aes_soft.specs.SingleRounds.{cipher_round, equiv_inv_cipher_round, rounds_by_place};
+ghost use Rattle.aes_planes.specs.SingleRounds.{cipher_round, equiv_inv_cipher_round, rounds_by_place};
 
 use super::steps::{InverseRound, Round, Step};
 use crate::soft::batches::{batch_from, put_sums};

@@ -1,4 +1,4 @@
--- Single rounds of a block, and of the blocks of a list with the round keys of another.
+-- What single rounds leave: of a block, and of a list of blocks place by place, each under the round key of its own.
 use Rattle.std.specs.Prelude.{ℕ, List}
 use Rattle.aes_planes.specs.Planes.{zip_with}
 use Rattle.aes_planes.specs.Fips197 as fips
