@@ -1,3 +1,4 @@
+-- What is left to show of `batches::add_in_batches`.
 use Rattle.std.proofs.Common.{◌∙◌, ◌%◌, ◌+◌, arith, length-take}
 use Rattle.aes_ctr.specs.CounterMode.{keystream_byte}
 use Rattle.aes_ctr.specs.Private.{byte_of_blocks}

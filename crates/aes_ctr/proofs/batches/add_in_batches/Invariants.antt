@@ -1,3 +1,4 @@
+-- What holds in the loop of `batches::add_in_batches`.
 use Rattle.std.proofs.Common.{◌≡◌, ◌≤◌, ◌-◌, length}
 use Rattle.aes_ctr.specs.CounterMode.{keystream_byte, plus_stream}
 use Rattle.aes_ctr.proofs.Runs.{added_from}
