@@ -1,3 +1,4 @@
+-- What is left to show of `keystream::put_half`.
 use Rattle.std.proofs.Common.{◌≡◌, ◌∙◌, ◌+◌, ◌++◌, take, drop, ap, arith, length, length-set, get_or}
 use Rattle.aes_ctr.proofs.Counters.{copied_one, left_one, copied_all}
 use Rattle.aes_ctr.proofs.keystream.put_half.Goals as goal

@@ -1,3 +1,4 @@
+-- What holds in the loop of `keystream::put_half`.
 use Rattle.std.proofs.Common.{◌≡◌, ◌+◌, ◌++◌, take, drop, length}
 use Rattle.aes_ctr.proofs.keystream.put_half.Given as goal
 

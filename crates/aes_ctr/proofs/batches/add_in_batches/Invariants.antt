@@ -1,7 +1,8 @@
+-- What holds in the loop of `batches::add_in_batches`.
 use Rattle.std.proofs.Common.{◌≡◌, ◌≤◌, ◌-◌, length}
 use Rattle.aes_ctr.specs.CounterMode.{keystream_byte, plus_stream}
 use Rattle.aes_ctr.proofs.Runs.{added_from}
-use Rattle.aes_ctr.proofs.mode.add_keystream.Given as goal
+use Rattle.aes_ctr.proofs.batches.add_in_batches.Given as goal
 
 abbrev pub invariant-loop-done : goal.invariant-loop-done
 invariant-loop-done g l =

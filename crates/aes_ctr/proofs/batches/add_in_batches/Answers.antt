@@ -1,9 +1,10 @@
+-- What is left to show of `batches::add_in_batches`.
 use Rattle.std.proofs.Common.{◌∙◌, ◌%◌, ◌+◌, arith, length-take}
 use Rattle.aes_ctr.specs.CounterMode.{keystream_byte}
 use Rattle.aes_ctr.specs.Private.{byte_of_blocks}
 use Rattle.aes_ctr.proofs.Places.{byte_of_keystream}
 use Rattle.aes_ctr.proofs.Runs.{added_run, added_all}
-use Rattle.aes_ctr.proofs.mode.add_keystream.Goals as goal
+use Rattle.aes_ctr.proofs.batches.add_in_batches.Goals as goal
 
 pub loop-done-preserved : goal.loop-done-preserved
 loop-done-preserved g c =
@@ -15,7 +16,7 @@ loop-done-preserved g c =
       within = omega arith;
       value =
           added_run (keystream_byte w iv) (byte_of_blocks blocks) c.args.position (place % 16) c.loop-done.done c.min-part.result _ c.loop-done.bytes _
-          (omega arith) (omega arith) c.add_blocks.ensures (λ j inside. byte_of_keystream w iv blocks _ place j c.fill_with_keystream.ensures (omega (arith, c.div_ceil.array_long, length-take c.div_ceil.result c.loop-done.batch)))
+          (omega arith) (omega arith) c.add_blocks.ensures (λ j inside. byte_of_keystream w iv blocks _ place j c.fill_with_keystream.ensures (omega (arith, length-take c.blocks_for.result c.loop-done.room)))
           ∙ c.loop-done.invariant.value;
     }
 
