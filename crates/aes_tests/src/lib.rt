@@ -1,8 +1,6 @@
 //! Callers of the library, and tests over several of its crates.
 #![tactic(auto)]
 
-pub mod callers;
 pub mod cbc;
+pub mod closures;
 pub mod generic;
-#[cfg(test)]
-mod tests;
