@@ -104,7 +104,7 @@ impl BlockCipherDecClosure for Mixed {
     }
 }
 
-/// Encrypts the blocks by a closure of this module.
+/// Encrypts the blocks, batch by batch where batches fit, by any cipher's backend.
 pub fn encrypt_row<C: BlockCipherEncrypt>(cipher: &C, blocks: &mut [Block])
     ensures { Each (fips.cipher_with (C.round_keys cipher.now)) blocks.old blocks.new }
 {

@@ -1,6 +1,7 @@
 //! Callers of the library, and tests over several of its crates.
 #![tactic(auto)]
 
+pub mod by_backend;
 pub mod cbc;
 pub mod closures;
 pub mod generic;
