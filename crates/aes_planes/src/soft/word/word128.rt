@@ -128,6 +128,11 @@ impl Word for u128 {
     }
 
     #[inline(always)]
+    fn low_byte(self) -> u8 {
+        (self % 256) as u8
+    }
+
+    #[inline(always)]
     fn bitslice(output: &mut [u128; 8], input: &Blocks8) {
         let [p0, p1, p2, p3, p4, p5, p6, p7] = planes_of(&input.blocks);
         let w0 = word(p0);
