@@ -2,6 +2,10 @@
 #![tactic(auto)]
 
 pub mod by_backend;
+pub mod callers;
 pub mod cbc;
 pub mod closures;
 pub mod generic;
+pub mod layers;
+#[cfg(test)]
+mod tests;
