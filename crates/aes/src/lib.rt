@@ -2,6 +2,8 @@
 //! rounds.
 #![tactic(auto)]
 
+ghost use Rattle.std.specs.Prelude.{◌≡◌, false};
+
 mod ciphers;
 pub mod hazmat;
 mod names;

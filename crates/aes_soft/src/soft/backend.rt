@@ -12,7 +12,7 @@ use aes_cipher::cipher::{
     BatchSize, BatchSizeUser, BlockCipherDecBackend, BlockCipherEncBackend, RoundKeysUser,
 };
 use aes_planes::soft::sbox::Layers;
-use aes_planes::soft::word::{Block};
+use aes_planes::soft::word::Block;
 use std::marker::Model;
 
 /// The backend of a key of 16 bytes.

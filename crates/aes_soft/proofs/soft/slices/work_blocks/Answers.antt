@@ -12,7 +12,7 @@ returns-clause-blocks g c =
     let n : ℕ = length c.args.blocks.now in
     let whole : ℕ = n - n % c.LEN.result in
     let batches : finished f whole c.if-whole-gt0.blocks ≡ map f c.args.blocks.now = elim c.if-whole-gt0.branch [
-      then-whole-gt0 w ↦ ap (finished f whole) w.blocks-is ∙ front_finished f whole c.args.blocks.now _ (omega arith) (w.work_batches.ensures.blocks ∙ ap (λ key. map (g.D.Way.worked key) (take whole c.args.blocks.now)) w.widen-wide.ensures.key)
+      | then-whole-gt0 w ↦ ap (finished f whole) w.blocks-is ∙ front_finished f whole c.args.blocks.now _ (omega arith) (w.work_batches.ensures.blocks ∙ ap (λ key. map (g.D.Way.worked key) (take whole c.args.blocks.now)) w.widen-wide.ensures.key)
       | else-whole-gt0 w ↦ ap (finished f whole) w.blocks-is ∙ none_finished f whole c.args.blocks.now (omega arith)
     ] in
     let both : n ≡ whole + (n - whole) = omega arith in
