@@ -1,0 +1,5 @@
+use Rattle.aes_ctr.proofs.Counters.{halves}
+use Rattle.aes_ctr.proofs.keystream.block_of.Goals as goal
+
+pub returns : goal.returns
+returns c = rw (c.put_half-2.ensures, c.put_half.ensures) (halves c.args.number)
