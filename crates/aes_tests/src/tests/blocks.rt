@@ -26,7 +26,9 @@ pub fn different_blocks() -> [Block; 24] {
     let mut block = 0x00112233445566778899aabbccddeeff_u128;
     for i in 0..24usize {
         blocks[i] = block.to_be_bytes();
-        block = block.wrapping_mul(0x5851f42d4c957f2d14057b7ef767814f).wrapping_add(1);
+        block = block
+            .wrapping_mul(0x5851f42d4c957f2d14057b7ef767814f)
+            .wrapping_add(1);
     }
     blocks
 }

@@ -70,11 +70,17 @@ impl Living {
 
     // Whether every value that is left works as the standard has it.
     fn are_right(&self) -> bool {
-        let enc = self.enc.as_ref().is_none_or(|enc| encrypts(enc, PLAIN, BY_KEY_128));
+        let enc = self
+            .enc
+            .as_ref()
+            .is_none_or(|enc| encrypts(enc, PLAIN, BY_KEY_128));
         let both = self.both.as_ref().is_none_or(|both| {
             encrypts(both, PLAIN, BY_KEY_128) && decrypts(both, BY_KEY_128, PLAIN)
         });
-        let dec = self.dec.as_ref().is_none_or(|dec| decrypts(dec, BY_KEY_128, PLAIN));
+        let dec = self
+            .dec
+            .as_ref()
+            .is_none_or(|dec| decrypts(dec, BY_KEY_128, PLAIN));
         enc && both && dec
     }
 }
@@ -131,7 +137,11 @@ fn a_refused_writer_leaves_the_value_as_it_was(rt: HostRuntime) {
     let cipher = Aes256Enc::new(&KEY_256);
     for left in 0..17usize {
         let mut room = Room { left };
-        assert_eq!(rt; write!(room, "{cipher:?}").is_ok(), left == 16, "room for {left} bytes");
+        assert_eq!(rt;
+            write!(room, "{cipher:?}").is_ok(),
+            left == 16,
+            "room for {left} bytes"
+        );
         assert!(rt; encrypts(&cipher, PLAIN, BY_KEY_256));
     }
 }
@@ -141,6 +151,10 @@ fn a_refused_writer_leaves_the_value_as_it_was(rt: HostRuntime) {
 fn a_name_is_refused_without_room_for_it(rt: HostRuntime) {
     for left in 0..10usize {
         let mut room = Room { left };
-        assert_eq!(rt; write!(room, "{Name}").is_ok(), left == 9, "room for {left} bytes");
+        assert_eq!(rt;
+            write!(room, "{Name}").is_ok(),
+            left == 9,
+            "room for {left} bytes"
+        );
     }
 }
