@@ -1,12 +1,9 @@
 -- Eight blocks, batch after batch.
-use Rattle.std.proofs.Common.{◌≡◌, ℕ, zero, suc, ◌+◌, ◌-◌, ◌*◌, ◌/◌, ◌%◌, ◌<◌, ◌≤◌, List, [], ◌∷◌, length, get_or, map, set, refl, ap, sym, subst, ◌∙◌, arith, ◌⊎◌, inl, inr}
+use Rattle.std.proofs.Common.{◌≡◌, ℕ, zero, suc, ◌+◌, ◌-◌, ◌*◌, ◌/◌, ◌%◌, ◌<◌, ◌≤◌, List, [], ◌∷◌, length, get_or, map, set, refl, ap, sym, subst, ◌∙◌, arith, ◌⊎◌, inl, inr, below_more, get_or-set_same, get_or-set_other}
 use Rattle.std.proofs.lemmas.Bool.{cases_lt}
+use Rattle.std.proofs.lemmas.List.{get_or-map}
 use Rattle.aes_planes.specs.Fips197.{add_round_key}
-
-map_at : (f : List ℕ → List ℕ) (xs : List (List ℕ)) (k : ℕ) → k < length xs → get_or (map f xs) k [] ≡ f (get_or xs k [])
-map_at f [] k h = absurd (omega arith)
-map_at f (x ∷ xs) zero h = refl
-map_at f (x ∷ xs) (suc k) h = map_at f xs k (omega arith)
+use Rattle.aes_planes.specs.Planes.{zip_with}
 
 next_turn : (t L : ℕ) → (t + 1) * L ≡ t * L + L
 next_turn t L = grind arith
@@ -22,7 +19,7 @@ module _ (f : List ℕ → List ℕ) (L t s : ℕ) (before now new keys batch do
     here : (k : ℕ) → k < L → get_or new (s + k) [] ≡ add_round_key (f (get_or before (s + k) [])) (get_or keys (s + k) [])
     here k h =
         put k h ∙ ap (λ v. add_round_key v (get_or keys (s + k) []))
-        (ap (λ v. get_or v k []) stepped ∙ map_at f batch k (omega (arith, sized)) ∙ ap f (each k h ∙ rest (s + k) (omega (arith, start))))
+        (ap (λ v. get_or v k []) stepped ∙ get_or-map f batch k [] [] (omega (arith, sized)) ∙ ap f (each k h ∙ rest (s + k) (omega (arith, start))))
 
     go : (i : ℕ) → i < t * L + L → (i < s) ⊎ (s ≤ i) → get_or new i [] ≡ add_round_key (f (get_or before i [])) (get_or keys i [])
     go i h (inl lt) = others i (inl lt) ∙ earlier i (omega (arith, start))
@@ -60,33 +57,29 @@ all_done i t L l n h el eL p d le =
 
 -- ---- a block that is put
 
-set_here : (xs : List (List ℕ)) (i : ℕ) (x : List ℕ) → i < length xs → get_or (set xs i x) i [] ≡ x
-set_here [] i x h = absurd (omega arith)
-set_here (y ∷ xs) zero x h = refl
-set_here (y ∷ xs) (suc i) x h = set_here xs i x (omega arith)
-
-set_other : (xs : List (List ℕ)) (i j : ℕ) (x : List ℕ) → (i < j) ⊎ (j < i) → get_or (set xs i x) j [] ≡ get_or xs j []
-set_other [] i j x h = refl
-set_other (y ∷ xs) zero zero x (inl lt) = absurd (omega arith)
-set_other (y ∷ xs) zero zero x (inr lt) = absurd (omega arith)
-set_other (y ∷ xs) zero (suc j) x h = refl
-set_other (y ∷ xs) (suc i) zero x h = refl
-set_other (y ∷ xs) (suc i) (suc j) x (inl lt) = set_other xs i j x (inl (omega arith))
-set_other (y ∷ xs) (suc i) (suc j) x (inr lt) = set_other xs i j x (inr (omega arith))
-
-set_next : (xs : List (List ℕ)) (s k j : ℕ) (x : List ℕ) (f : ℕ → List ℕ) → s + k < length xs → x ≡ f k
-    → ((j : ℕ) → j < k → get_or xs (s + j) [] ≡ f j) → j < k + 1 → (j < k) ⊎ (k ≤ j) → get_or (set xs (s + k) x) (s + j) [] ≡ f j
-set_next xs s k j x f h e done l (inl lt) = set_other xs (s + k) (s + j) x (inr (omega arith)) ∙ done j lt
-set_next xs s k j x f h e done l (inr le) =
-    let same : k ≡ j = omega arith in
-    subst (λ j. get_or (set xs (s + k) x) (s + j) [] ≡ f j) same (set_here xs (s + k) x h ∙ e)
-
 pub one_more : (xs : List (List ℕ)) (s k : ℕ) (x : List ℕ) (f : ℕ → List ℕ) → s + k < length xs → x ≡ f k
     → ((j : ℕ) → j < k → get_or xs (s + j) [] ≡ f j) → (j : ℕ) → j < k + 1 → get_or (set xs (s + k) x) (s + j) [] ≡ f j
-one_more xs s k x f h e done j l = set_next xs s k j x f h e done l (cases_lt j k)
+one_more xs s k x f h e done =
+    below_more (λ j. get_or (set xs (s + k) x) (s + j) [] ≡ f j) k
+    (λ j lt. get_or-set_other xs (s + k) (s + j) x [] (omega arith) ∙ done j lt)
+    (get_or-set_same xs (s + k) x [] h ∙ e)
 
 pub others_still : (xs before : List (List ℕ)) (s k : ℕ) (x : List ℕ)
     → ((i : ℕ) → (i < s) ⊎ (s + k ≤ i) → get_or xs i [] ≡ get_or before i [])
     → (i : ℕ) → (i < s) ⊎ (s + (k + 1) ≤ i) → get_or (set xs (s + k) x) i [] ≡ get_or before i []
-others_still xs before s k x o i (inl lt) = set_other xs (s + k) i x (inr (omega arith)) ∙ o i (inl lt)
-others_still xs before s k x o i (inr le) = set_other xs (s + k) i x (inl (omega arith)) ∙ o i (inr (omega arith))
+others_still xs before s k x o i (inl lt) = get_or-set_other xs (s + k) i x [] (omega arith) ∙ o i (inl lt)
+others_still xs before s k x o i (inr le) = get_or-set_other xs (s + k) i x [] (omega arith) ∙ o i (inr (omega arith))
+
+-- ---- two lists, place by place
+
+-- a list that has f of both elements at each place
+pub zipped : (f : List ℕ → List ℕ → List ℕ) (n : ℕ) (xs ks ys : List (List ℕ)) → length xs ≡ n → length ks ≡ n → length ys ≡ n
+    → ((i : ℕ) → i < n → get_or ys i [] ≡ f (get_or xs i []) (get_or ks i [])) → ys ≡ zip_with f xs ks
+zipped f zero [] ks [] p q r h = refl
+zipped f zero (x ∷ xs) ks ys p q r h = absurd (omega arith)
+zipped f zero [] ks (y ∷ ys) p q r h = absurd (omega arith)
+zipped f (suc n) [] ks ys p q r h = absurd (omega arith)
+zipped f (suc n) (x ∷ xs) [] ys p q r h = absurd (omega arith)
+zipped f (suc n) (x ∷ xs) (k ∷ ks) [] p q r h = absurd (omega arith)
+zipped f (suc n) (x ∷ xs) (k ∷ ks) (y ∷ ys) p q r h =
+    λ j. h 0 (omega arith) j ∷ zipped f n xs ks ys (omega arith) (omega arith) (omega arith) (λ i lt. h (suc i) (omega arith)) j

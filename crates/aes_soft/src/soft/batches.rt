@@ -1,11 +1,12 @@
 //! Eight blocks in batches.
-ghost use Rattle.std.specs.Prelude.{◌≡◌, ℕ, ◌+◌, ◌<◌, ◌≤◌, ◌⊎◌, List, [], length, slice_index_or};
+
+ghost use Rattle.std.specs.Prelude.{◌≡◌, ℕ, ◌+◌, ◌<◌, ◌≤◌, ◌⊎◌, [], length, slice_index_or};
 ghost use Rattle.aes_planes.specs.Fips197 as fips;
 
 use aes_planes::soft::utils::sum_of_blocks;
 use aes_planes::soft::word::{Batch, Block};
 
-/// The blocks from a place on, as many as a batch has.
+// The blocks from a place on, as many as a batch has.
 #[inline(always)]
 pub(crate) fn batch_from<B: Batch>(blocks: &[Block; 8], start: usize) -> B
     requires room { start + B.LEN ≤ 8 }
@@ -19,7 +20,7 @@ pub(crate) fn batch_from<B: Batch>(blocks: &[Block; 8], start: usize) -> B
     batch
 }
 
-/// Puts the sums of a batch and the round keys from a place on there, and leaves the other blocks.
+// Puts the sums of a batch and the round keys from a place on there, and leaves the other blocks.
 #[inline(always)]
 pub(crate) fn put_sums<B: Batch>(
     blocks: &mut [Block; 8],
