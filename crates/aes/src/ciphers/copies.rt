@@ -42,6 +42,6 @@ impl<K: KeySize, D: Decrypts> From<AesCipher<K, Encrypting>> for AesCipher<K, D>
     ghost from_gives = { λ enc made. made ≡ enc };
 
     fn from(enc: AesCipher<K, Encrypting>) -> AesCipher<K, D> {
-        enc.turned()
+        AesCipher::from(&enc)
     }
 }

@@ -5,6 +5,9 @@ ghost use Rattle.aes_planes.specs.Fips197 as fips;
 ghost use Rattle.aes_planes.proofs.Standard.CipherLaws.{two_keys};
 ghost use Rattle.aes_soft.specs.Batches.{batch_blocks};
 
+#[cfg(test)]
+mod tests;
+
 use super::sizes::{BATCH_BLOCKS, BatchWord, Bits128, Bits192, Bits256, KeySize, has_round_keys};
 use super::slices::{work_batch, work_block};
 use super::ways::{Decryption, Encryption};
