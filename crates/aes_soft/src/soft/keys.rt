@@ -5,6 +5,7 @@ ghost use Rattle.aes_planes.specs.Words.{word_bits};
 ghost use Rattle.aes_soft.specs.Stored.{full, key_of, IsKeyed};
 
 use super::full::{aes128, aes192, aes256};
+use super::sizes::BatchWord;
 use aes_planes::soft::sbox::Layers;
 use aes_planes::soft::word::Word;
 
@@ -32,56 +33,136 @@ pub trait StoredKeys<W: Word>: Drop {
         ensures layers { layers.new ≡ layers.old + ROUNDS };
 }
 
-impl<W: Word> StoredKeys<W> for aes128::RoundKeys<W> {
-    ghost key = { λ words. key_of 16 W.BLOCKS (full 10) (map W.bits words) };
+// The impls are written at each word, and not once over every word: a type whose view names an impl with a type parameter
+// can't be passed on or dropped where nothing else of it is called.
+impl StoredKeys<u16> for aes128::RoundKeys<u16> {
+    ghost key = { λ words. key_of 16 ⟦<u16 as Word>⟧.BLOCKS (full 10) (map ⟦<u16 as Word>⟧.bits words) };
 
-    ghost AreKeyed = { λ words. IsKeyed 16 W.BLOCKS (full 10) (map W.bits words) };
+    ghost AreKeyed = { λ words. IsKeyed 16 ⟦<u16 as Word>⟧.BLOCKS (full 10) (map ⟦<u16 as Word>⟧.bits words) };
 
     ghost ROUNDS = { 10 };
 
     #[inline(always)]
-    fn encrypt(&self, input: &W::Blocks, layers: &mut Layers) -> W::Blocks {
-        aes128::encrypt(self, input, layers)
+    fn encrypt(&self, input: &<u16 as Word>::Blocks, layers: &mut Layers) -> <u16 as Word>::Blocks {
+        aes128::encrypt::<u16>(self, input, layers)
     }
 
     #[inline(always)]
-    fn decrypt(&self, input: &W::Blocks, layers: &mut Layers) -> W::Blocks {
-        aes128::decrypt(self, input, layers)
+    fn decrypt(&self, input: &<u16 as Word>::Blocks, layers: &mut Layers) -> <u16 as Word>::Blocks {
+        aes128::decrypt::<u16>(self, input, layers)
     }
 }
 
-impl<W: Word> StoredKeys<W> for aes192::RoundKeys<W> {
-    ghost key = { λ words. key_of 24 W.BLOCKS (full 12) (map W.bits words) };
+impl StoredKeys<BatchWord> for aes128::RoundKeys<BatchWord> {
+    ghost key = { λ words. key_of 16 ⟦<BatchWord as Word>⟧.BLOCKS (full 10) (map ⟦<BatchWord as Word>⟧.bits words) };
 
-    ghost AreKeyed = { λ words. IsKeyed 24 W.BLOCKS (full 12) (map W.bits words) };
+    ghost AreKeyed = { λ words. IsKeyed 16 ⟦<BatchWord as Word>⟧.BLOCKS (full 10) (map ⟦<BatchWord as Word>⟧.bits words) };
+
+    ghost ROUNDS = { 10 };
+
+    #[inline(always)]
+    fn encrypt(
+        &self,
+        input: &<BatchWord as Word>::Blocks,
+        layers: &mut Layers,
+    ) -> <BatchWord as Word>::Blocks {
+        aes128::encrypt::<BatchWord>(self, input, layers)
+    }
+
+    #[inline(always)]
+    fn decrypt(
+        &self,
+        input: &<BatchWord as Word>::Blocks,
+        layers: &mut Layers,
+    ) -> <BatchWord as Word>::Blocks {
+        aes128::decrypt::<BatchWord>(self, input, layers)
+    }
+}
+
+impl StoredKeys<u16> for aes192::RoundKeys<u16> {
+    ghost key = { λ words. key_of 24 ⟦<u16 as Word>⟧.BLOCKS (full 12) (map ⟦<u16 as Word>⟧.bits words) };
+
+    ghost AreKeyed = { λ words. IsKeyed 24 ⟦<u16 as Word>⟧.BLOCKS (full 12) (map ⟦<u16 as Word>⟧.bits words) };
 
     ghost ROUNDS = { 12 };
 
     #[inline(always)]
-    fn encrypt(&self, input: &W::Blocks, layers: &mut Layers) -> W::Blocks {
-        aes192::encrypt(self, input, layers)
+    fn encrypt(&self, input: &<u16 as Word>::Blocks, layers: &mut Layers) -> <u16 as Word>::Blocks {
+        aes192::encrypt::<u16>(self, input, layers)
     }
 
     #[inline(always)]
-    fn decrypt(&self, input: &W::Blocks, layers: &mut Layers) -> W::Blocks {
-        aes192::decrypt(self, input, layers)
+    fn decrypt(&self, input: &<u16 as Word>::Blocks, layers: &mut Layers) -> <u16 as Word>::Blocks {
+        aes192::decrypt::<u16>(self, input, layers)
     }
 }
 
-impl<W: Word> StoredKeys<W> for aes256::RoundKeys<W> {
-    ghost key = { λ words. key_of 32 W.BLOCKS (full 14) (map W.bits words) };
+impl StoredKeys<BatchWord> for aes192::RoundKeys<BatchWord> {
+    ghost key = { λ words. key_of 24 ⟦<BatchWord as Word>⟧.BLOCKS (full 12) (map ⟦<BatchWord as Word>⟧.bits words) };
 
-    ghost AreKeyed = { λ words. IsKeyed 32 W.BLOCKS (full 14) (map W.bits words) };
+    ghost AreKeyed = { λ words. IsKeyed 24 ⟦<BatchWord as Word>⟧.BLOCKS (full 12) (map ⟦<BatchWord as Word>⟧.bits words) };
+
+    ghost ROUNDS = { 12 };
+
+    #[inline(always)]
+    fn encrypt(
+        &self,
+        input: &<BatchWord as Word>::Blocks,
+        layers: &mut Layers,
+    ) -> <BatchWord as Word>::Blocks {
+        aes192::encrypt::<BatchWord>(self, input, layers)
+    }
+
+    #[inline(always)]
+    fn decrypt(
+        &self,
+        input: &<BatchWord as Word>::Blocks,
+        layers: &mut Layers,
+    ) -> <BatchWord as Word>::Blocks {
+        aes192::decrypt::<BatchWord>(self, input, layers)
+    }
+}
+
+impl StoredKeys<u16> for aes256::RoundKeys<u16> {
+    ghost key = { λ words. key_of 32 ⟦<u16 as Word>⟧.BLOCKS (full 14) (map ⟦<u16 as Word>⟧.bits words) };
+
+    ghost AreKeyed = { λ words. IsKeyed 32 ⟦<u16 as Word>⟧.BLOCKS (full 14) (map ⟦<u16 as Word>⟧.bits words) };
 
     ghost ROUNDS = { 14 };
 
     #[inline(always)]
-    fn encrypt(&self, input: &W::Blocks, layers: &mut Layers) -> W::Blocks {
-        aes256::encrypt(self, input, layers)
+    fn encrypt(&self, input: &<u16 as Word>::Blocks, layers: &mut Layers) -> <u16 as Word>::Blocks {
+        aes256::encrypt::<u16>(self, input, layers)
     }
 
     #[inline(always)]
-    fn decrypt(&self, input: &W::Blocks, layers: &mut Layers) -> W::Blocks {
-        aes256::decrypt(self, input, layers)
+    fn decrypt(&self, input: &<u16 as Word>::Blocks, layers: &mut Layers) -> <u16 as Word>::Blocks {
+        aes256::decrypt::<u16>(self, input, layers)
+    }
+}
+
+impl StoredKeys<BatchWord> for aes256::RoundKeys<BatchWord> {
+    ghost key = { λ words. key_of 32 ⟦<BatchWord as Word>⟧.BLOCKS (full 14) (map ⟦<BatchWord as Word>⟧.bits words) };
+
+    ghost AreKeyed = { λ words. IsKeyed 32 ⟦<BatchWord as Word>⟧.BLOCKS (full 14) (map ⟦<BatchWord as Word>⟧.bits words) };
+
+    ghost ROUNDS = { 14 };
+
+    #[inline(always)]
+    fn encrypt(
+        &self,
+        input: &<BatchWord as Word>::Blocks,
+        layers: &mut Layers,
+    ) -> <BatchWord as Word>::Blocks {
+        aes256::encrypt::<BatchWord>(self, input, layers)
+    }
+
+    #[inline(always)]
+    fn decrypt(
+        &self,
+        input: &<BatchWord as Word>::Blocks,
+        layers: &mut Layers,
+    ) -> <BatchWord as Word>::Blocks {
+        aes256::decrypt::<BatchWord>(self, input, layers)
     }
 }
