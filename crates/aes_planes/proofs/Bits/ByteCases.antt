@@ -30,3 +30,32 @@ unequal a b (inr t) h = t.0
 
 pub eq_false : (a b : ℕ) → a ≢ b → a == b ≡ false
 eq_false a b h = unequal a b (eqb_tells a b) h
+
+-- ---- claims on each number below one, two, four and eight
+
+pub by_one : (P : ℕ → Type 0) → P 0 → (r : ℕ) → r < 1 → P r
+by_one P a zero l = a
+by_one P a (suc r) l = absurd (omega arith)
+
+pub by_two : (P : ℕ → Type 0) → P 0 → P 1 → (r : ℕ) → r < 2 → P r
+by_two P a b zero l = a
+by_two P a b (suc zero) l = b
+by_two P a b (suc (suc r)) l = absurd (omega arith)
+
+pub by_four : (P : ℕ → Type 0) → P 0 → P 1 → P 2 → P 3 → (r : ℕ) → r < 4 → P r
+by_four P a b c d zero l = a
+by_four P a b c d (suc zero) l = b
+by_four P a b c d (suc (suc zero)) l = c
+by_four P a b c d (suc (suc (suc zero))) l = d
+by_four P a b c d (suc (suc (suc (suc r)))) l = absurd (omega arith)
+
+pub by_eight : (P : ℕ → Type 0) → P 0 → P 1 → P 2 → P 3 → P 4 → P 5 → P 6 → P 7 → (r : ℕ) → r < 8 → P r
+by_eight P a b c d e f g h zero l = a
+by_eight P a b c d e f g h (suc zero) l = b
+by_eight P a b c d e f g h (suc (suc zero)) l = c
+by_eight P a b c d e f g h (suc (suc (suc zero))) l = d
+by_eight P a b c d e f g h (suc (suc (suc (suc zero)))) l = e
+by_eight P a b c d e f g h (suc (suc (suc (suc (suc zero))))) l = f
+by_eight P a b c d e f g h (suc (suc (suc (suc (suc (suc zero)))))) l = g
+by_eight P a b c d e f g h (suc (suc (suc (suc (suc (suc (suc zero))))))) l = h
+by_eight P a b c d e f g h (suc (suc (suc (suc (suc (suc (suc (suc r)))))))) l = absurd (omega arith)

@@ -11,7 +11,7 @@ use Rattle.aes_planes.specs.Private.Mixing.{mixed_byte, mixed_state}
 use Rattle.aes_planes.specs.Planes.{held_byte, place, between_shifts}
 use Rattle.aes_planes.proofs.Standard.States.{byte_at-state, state_same}
 use Rattle.aes_planes.proofs.Bits.BitCases.{same, same_tells}
-use Rattle.aes_planes.proofs.Bits.ByteCases.{all_below, all_below_tells}
+use Rattle.aes_planes.proofs.Bits.ByteCases.{all_below, all_below_tells, by_four}
 use Rattle.aes_planes.proofs.Standard.FieldLaws.{add_swap, field_mul_add, agree_by_powers}
 use Rattle.aes_planes.proofs.Planes.Held.{row_on}
 use Rattle.aes_planes.proofs.Bits.BytesByBits.{number_lt}
@@ -207,21 +207,24 @@ inv_mix_around s = state_same (λ r c. row_by_column (row_of 14 11 13 9 r) s c) 
 
 -- the turned form of a mixing, between as many shifts as a row stands columns further on
 module _ (m : List ℕ) (step : List ℕ → List ℕ) (e : (s : List ℕ) → step s ≡ state (around m (byte_at s))) where
-  pub mixed_0 : (s : List ℕ) → mixed_state m 0 s ≡ between_shifts 0 step s
+  mixed_0 : (s : List ℕ) → mixed_state m 0 s ≡ between_shifts 0 step s
   unfolding mixed_state mixed_byte state build shift_times inv_shift_times
   mixed_0 s = sym (e s)
 
-  pub mixed_1 : (s : List ℕ) → mixed_state m 1 s ≡ between_shifts 1 step s
+  mixed_1 : (s : List ℕ) → mixed_state m 1 s ≡ between_shifts 1 step s
   unfolding mixed_state mixed_byte state build shift_times shift_rows inv_shift_times inv_shift_rows
   mixed_1 s = sym (ap (inv_shift_times 1) (e (shift_times 1 s)))
 
-  pub mixed_2 : (s : List ℕ) → mixed_state m 2 s ≡ between_shifts 2 step s
+  mixed_2 : (s : List ℕ) → mixed_state m 2 s ≡ between_shifts 2 step s
   unfolding mixed_state mixed_byte state build shift_times shift_rows inv_shift_times inv_shift_rows
   mixed_2 s = sym (ap (inv_shift_times 2) (e (shift_times 2 s)))
 
-  pub mixed_3 : (s : List ℕ) → mixed_state m 3 s ≡ between_shifts 3 step s
+  mixed_3 : (s : List ℕ) → mixed_state m 3 s ≡ between_shifts 3 step s
   unfolding mixed_state mixed_byte state build shift_times shift_rows inv_shift_times inv_shift_rows
   mixed_3 s = sym (ap (inv_shift_times 3) (e (shift_times 3 s)))
+
+  pub mixed_between : (cols : ℕ) → cols < 4 → (s : List ℕ) → mixed_state m cols s ≡ between_shifts cols step s
+  mixed_between cols h = by_four (λ cols. (s : List ℕ) → mixed_state m cols s ≡ between_shifts cols step s) mixed_0 mixed_1 mixed_2 mixed_3 cols h
 
 -- ---- bytes of the planes
 

@@ -6,8 +6,7 @@ use Rattle.std.proofs.Math.Nat.{div-lt_iff_lt-mul, mod-lt}
 use Rattle.aes_planes.specs.Bits.{bit, Places}
 use Rattle.aes_planes.specs.Fips197.{build}
 use Rattle.aes_planes.proofs.Bits.BitCases.{same, same_tells}
-use Rattle.aes_planes.proofs.Bits.ByteCases.{all_below, all_below_tells, both, nat_lt_tells}
-use Rattle.aes_planes.proofs.Words.Transpose.{by_four}
+use Rattle.aes_planes.proofs.Bits.ByteCases.{all_below, all_below_tells, both, nat_lt_tells, by_four}
 use Rattle.aes_planes.proofs.Bits.NumberBits.{Places-build, bit_low, bit_shr, pack_at}
 
 -- ---- a row of n bits a column

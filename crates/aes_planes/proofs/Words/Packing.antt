@@ -11,13 +11,12 @@ use Rattle.aes_planes.specs.Fips197.{byte_at, build, IsBytes}
 use Rattle.aes_planes.specs.Private.Packing.{row_byte}
 use Rattle.aes_planes.specs.Planes.{held, place}
 use Rattle.aes_planes.specs.Words.{word_bits}
-use Rattle.aes_planes.proofs.Bits.ByteCases.{all_below}
+use Rattle.aes_planes.proofs.Bits.ByteCases.{all_below, by_two, by_four}
 use Rattle.aes_planes.proofs.Lists.Built.{built}
 use Rattle.aes_planes.proofs.Planes.Held.{place_lt}
 use Rattle.aes_planes.proofs.Planes.Holds.{holds_held}
 use Rattle.aes_planes.proofs.Bits.NumberBits.{bit_low, bit_shr, reads}
 use Rattle.aes_planes.proofs.Words.LaneBits.{checked, digit_bit, number_bit}
-use Rattle.aes_planes.proofs.Words.Transpose.{by_two, by_four}
 
 -- ---- planes and the words that they are the transpose of
 

@@ -9,10 +9,9 @@ use lib.Lanes.{top}
 use Rattle.aes_planes.specs.Bits.{bit, Places}
 use Rattle.aes_planes.specs.Private.Lanes.{lane_bits}
 use Rattle.aes_planes.proofs.Bits.BitCases.{same, same_tells}
-use Rattle.aes_planes.proofs.Bits.ByteCases.{all_below, all_below_tells, both}
+use Rattle.aes_planes.proofs.Bits.ByteCases.{all_below, all_below_tells, both, by_two, by_eight}
 use Rattle.aes_planes.proofs.Bits.NumberBits.{Places-build, bit_low, bit_shl_high, bit_shl_low, bit_shr, bit_above, bit_of_and, bit_of_or}
 use Rattle.aes_planes.proofs.Words.LaneBits.{checked}
-use Rattle.aes_planes.proofs.Words.Transpose.{by_two, by_eight}
 
 -- ---- bits drawn apart
 

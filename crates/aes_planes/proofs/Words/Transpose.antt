@@ -1,5 +1,5 @@
 -- Eight words as squares of bits, one for each lane: their transpose by three exchanges, at every width.
-use Rattle.std.proofs.Common.{◌≡◌, ℕ, zero, suc, ◌+◌, ◌-◌, ◌*◌, ◌/◌, ◌%◌, ◌^◌, ◌<◌, ◌≤◌, ◌==◌, Bool, true, false, ◌&&◌, cond, nat_le, nat_lt, bit_and, bit_xor, List, [], get_or, refl, ap, sym, ◌∙◌, arith, ◌⊎◌, inl, inr, length, replicate}
+use Rattle.std.proofs.Common.{◌≡◌, ℕ, ◌+◌, ◌-◌, ◌*◌, ◌/◌, ◌%◌, ◌^◌, ◌<◌, ◌≤◌, ◌==◌, Bool, true, false, ◌&&◌, cond, nat_le, nat_lt, bit_and, bit_xor, List, [], get_or, refl, ap, sym, ◌∙◌, arith, ◌⊎◌, inl, inr, length, replicate}
 use Rattle.std.proofs.lemmas.Bool.{cases_lt, eqb-true}
 use Rattle.std.proofs.lemmas.Bool.Decides.{leb_tells}
 use Rattle.std.proofs.lemmas.Simd.{get_or-zip2, get_or-replicate, length-zip2}
@@ -11,35 +11,6 @@ use Rattle.aes_planes.specs.Words.{word_bits}
 use Rattle.aes_planes.proofs.Bits.ByteCases.{all_below, all_below_tells, both, nat_lt_tells}
 use Rattle.aes_planes.proofs.Bits.NumberBits.{bit_low, bit_shl_high, bit_shl_low, bit_shr, bit_above, bit_of_and, bit_of_xor, reads}
 use Rattle.aes_planes.proofs.Words.LaneBits.{lane_at, shr8, shl8}
-
--- ---- claims on each number below one, two, four and eight
-
-pub by_one : (P : ℕ → Type 0) → P 0 → (r : ℕ) → r < 1 → P r
-by_one P a zero l = a
-by_one P a (suc r) l = absurd (omega arith)
-
-pub by_two : (P : ℕ → Type 0) → P 0 → P 1 → (r : ℕ) → r < 2 → P r
-by_two P a b zero l = a
-by_two P a b (suc zero) l = b
-by_two P a b (suc (suc r)) l = absurd (omega arith)
-
-pub by_four : (P : ℕ → Type 0) → P 0 → P 1 → P 2 → P 3 → (r : ℕ) → r < 4 → P r
-by_four P a b c d zero l = a
-by_four P a b c d (suc zero) l = b
-by_four P a b c d (suc (suc zero)) l = c
-by_four P a b c d (suc (suc (suc zero))) l = d
-by_four P a b c d (suc (suc (suc (suc r)))) l = absurd (omega arith)
-
-pub by_eight : (P : ℕ → Type 0) → P 0 → P 1 → P 2 → P 3 → P 4 → P 5 → P 6 → P 7 → (r : ℕ) → r < 8 → P r
-by_eight P a b c d e f g h zero l = a
-by_eight P a b c d e f g h (suc zero) l = b
-by_eight P a b c d e f g h (suc (suc zero)) l = c
-by_eight P a b c d e f g h (suc (suc (suc zero))) l = d
-by_eight P a b c d e f g h (suc (suc (suc (suc zero)))) l = e
-by_eight P a b c d e f g h (suc (suc (suc (suc (suc zero))))) l = f
-by_eight P a b c d e f g h (suc (suc (suc (suc (suc (suc zero)))))) l = g
-by_eight P a b c d e f g h (suc (suc (suc (suc (suc (suc (suc zero))))))) l = h
-by_eight P a b c d e f g h (suc (suc (suc (suc (suc (suc (suc (suc r)))))))) l = absurd (omega arith)
 
 -- ---- one exchange between two numbers
 

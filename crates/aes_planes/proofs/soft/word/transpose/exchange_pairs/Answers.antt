@@ -2,8 +2,9 @@
 use Rattle.std.proofs.Common.{◌≡◌, ◌+◌, ◌-◌, ◌*◌, ◌&&◌, nat_le, [], ◌∷◌, get_or, map, ap, sym, ◌∙◌, rules}
 use Rattle.aes_planes.specs.Bits.{at, bit}
 use Rattle.aes_planes.specs.Private.Packing.{source_word, source_bit}
+use Rattle.aes_planes.proofs.Bits.ByteCases.{by_eight}
 use Rattle.aes_planes.proofs.Bits.BitCases.{eight}
-use Rattle.aes_planes.proofs.Words.Transpose.{by_eight, choice}
+use Rattle.aes_planes.proofs.Words.Transpose.{choice}
 use Rattle.aes_planes.proofs.soft.word.transpose.exchange_pairs.Goals as goal
 
 pub returns : goal.returns

@@ -2,8 +2,8 @@
 use Rattle.std.proofs.Common.{◌≡◌, ◌+◌, ◌*◌, ◌/◌, ◌%◌, [], ◌∷◌, get_or, refl, ap, ◌∙◌, arith, rules}
 use Rattle.aes_planes.specs.Bits.{bit}
 use Rattle.aes_planes.specs.Private.Packing.{row_byte}
+use Rattle.aes_planes.proofs.Bits.ByteCases.{by_two}
 use Rattle.aes_planes.proofs.Words.Packing.{word_of_two}
-use Rattle.aes_planes.proofs.Words.Transpose.{by_two}
 use Rattle.aes_planes.proofs.soft.word.word16.pair_of.Goals as goal
 
 pub returns : goal.returns

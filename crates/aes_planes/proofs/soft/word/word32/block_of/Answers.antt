@@ -3,8 +3,8 @@ use Rattle.std.proofs.Common.{◌≡◌, ◌+◌, ◌*◌, [], ◌∷◌, get_or
 use Rattle.aes_planes.specs.Bits.{at, bit}
 use Rattle.aes_planes.specs.Private.Packing.{row_byte}
 use Rattle.aes_planes.specs.Words.{word_bits}
+use Rattle.aes_planes.proofs.Bits.ByteCases.{by_four}
 use Rattle.aes_planes.proofs.Words.Packing.{four_bytes}
-use Rattle.aes_planes.proofs.Words.Transpose.{by_four}
 use Rattle.aes_planes.proofs.soft.word.word32.block_of.Goals as goal
 
 pub returns : goal.returns

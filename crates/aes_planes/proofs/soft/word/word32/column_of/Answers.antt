@@ -2,8 +2,8 @@
 use Rattle.std.proofs.Common.{◌≡◌, ◌+◌, ◌*◌, [], ◌∷◌, get_or, refl, ap, ◌∙◌, arith, rules}
 use Rattle.aes_planes.specs.Bits.{bit}
 use Rattle.aes_planes.specs.Private.Packing.{row_byte}
+use Rattle.aes_planes.proofs.Bits.ByteCases.{by_four}
 use Rattle.aes_planes.proofs.Words.Packing.{word_of_four}
-use Rattle.aes_planes.proofs.Words.Transpose.{by_four}
 use Rattle.aes_planes.proofs.soft.word.word32.column_of.Goals as goal
 
 pub returns : goal.returns

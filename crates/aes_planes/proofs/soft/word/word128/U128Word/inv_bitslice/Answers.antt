@@ -7,10 +7,10 @@ use Rattle.aes_planes.specs.Private.Lanes.{lane_bits}
 use Rattle.aes_planes.specs.Private.Packing.{row_byte}
 use Rattle.aes_planes.specs.Planes.{held}
 use Rattle.aes_planes.specs.Words.{word_bits}
+use Rattle.aes_planes.proofs.Bits.ByteCases.{by_eight}
 use Rattle.aes_planes.proofs.Bits.BitCases.{eight}
 use Rattle.aes_planes.proofs.Words.LaneBits.{lane_at}
 use Rattle.aes_planes.proofs.Words.Packing.{packed}
-use Rattle.aes_planes.proofs.Words.Transpose.{by_eight}
 use Rattle.aes_planes.proofs.soft.word.word128.U128Word.inv_bitslice.Goals as goal
 
 pub returns : goal.returns

@@ -5,8 +5,8 @@ use Rattle.aes_planes.specs.Bits.{at, bit}
 use Rattle.aes_planes.specs.Fips197.{IsBytes}
 use Rattle.aes_planes.specs.Private.Packing.{row_byte}
 use Rattle.aes_planes.specs.Words.{word_bits}
+use Rattle.aes_planes.proofs.Bits.ByteCases.{by_two, by_eight}
 use Rattle.aes_planes.proofs.Words.Packing.{packed, two_blocks}
-use Rattle.aes_planes.proofs.Words.Transpose.{by_two, by_eight}
 use Rattle.aes_planes.proofs.soft.word.word32.U32Word.bitslice.Goals as goal
 
 pub returns : goal.returns
