@@ -1,5 +1,5 @@
 -- What is left to show of `soft::full::widening::widen`.
-use Rattle.std.proofs.Common.{◌≡◌, slice_index_or, length-set, ap, ◌∙◌, arith}
+use Rattle.std.proofs.Common.{length-set, ◌∙◌, arith}
 use Rattle.aes_soft.specs.Stored.{full, rounds_of, size_of}
 use Rattle.aes_soft.proofs.Widened.{InEverySlot, put_more, same_key, widened}
 use Rattle.aes_soft.proofs.soft.full.widening.widen.Goals as goal
