@@ -1,8 +1,8 @@
--- What holds in the loops of `engine::feed`.
+-- What holds in the loops of `engine::gather`.
 use Rattle.std.proofs.Common.{◌++◌, length}
 use Rattle.aes_kat.specs.Lines.{Lacks}
 use Rattle.aes_kat.specs.Answers.{Gathers}
-use Rattle.aes_kat.proofs.engine.feed.Given as goal
+use Rattle.aes_kat.proofs.engine.gather.Given as goal
 
 abbrev pub invariant-loop-front : goal.invariant-loop-front
 invariant-loop-front g l = record {

@@ -1,9 +1,9 @@
--- What is left to show of `replies::put_blocks`.
+-- What is left to show of `digits::put_spaced`.
 use Rattle.std.proofs.Common.{◌++◌, ◌∷◌, [], ap, ◌∙◌, arith, take_all}
 use Rattle.std.specs.List.{flat_map}
 use Rattle.hex.specs.Hex.{encode_lower}
 use Rattle.aes_kat.proofs.BlockLemmas.{take-joined}
-use Rattle.aes_kat.proofs.replies.put_blocks.Goals as goal
+use Rattle.aes_kat.proofs.digits.put_spaced.Goals as goal
 
 pub returns-clause-text : goal.returns-clause-text
 returns-clause-text c =

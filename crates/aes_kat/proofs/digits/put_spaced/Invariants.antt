@@ -1,8 +1,8 @@
--- What holds in the loops of `replies::put_blocks`.
+-- What holds in the loops of `digits::put_spaced`.
 use Rattle.std.proofs.Common.{◌≡◌, ◌*◌, ◌∷◌, ◌++◌, [], take, length}
 use Rattle.std.specs.List.{flat_map}
 use Rattle.hex.specs.Hex.{encode_lower}
-use Rattle.aes_kat.proofs.replies.put_blocks.Given as goal
+use Rattle.aes_kat.proofs.digits.put_spaced.Given as goal
 
 abbrev pub invariant-loop-block : goal.invariant-loop-block
 invariant-loop-block l = record {
