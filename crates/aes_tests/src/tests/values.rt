@@ -1,24 +1,11 @@
 //! Values that come from one another, dropped in every order, and values that are written.
 
+use super::keys::{BY_128, BY_256, KEY_128, KEY_256, PLAIN};
 use aes::{Aes128, Aes128Dec, Aes128Enc, Aes256Enc, Block};
 use aes_cipher::cipher::{AlgorithmName, BlockCipherDecrypt, BlockCipherEncrypt, KeyInit};
 use std::fmt;
 use std::fmt::Write;
 use std::test::Fail;
-
-// FIPS 197, appendices C.1 and C.3: the keys count from 00 on.
-const KEY_128: u128 = 0x000102030405060708090a0b0c0d0e0f;
-
-const KEY_256: [u8; 32] = [
-    0x00, 0x01, 0x02, 0x03, 0x04, 0x05, 0x06, 0x07, 0x08, 0x09, 0x0a, 0x0b, 0x0c, 0x0d, 0x0e, 0x0f,
-    0x10, 0x11, 0x12, 0x13, 0x14, 0x15, 0x16, 0x17, 0x18, 0x19, 0x1a, 0x1b, 0x1c, 0x1d, 0x1e, 0x1f,
-];
-
-const PLAIN: u128 = 0x00112233445566778899aabbccddeeff;
-
-const BY_KEY_128: u128 = 0x69c4e0d86a7b0430d8cdb78070b4c55a;
-
-const BY_KEY_256: u128 = 0x8ea2b7ca516745bfeafc49904b496089;
 
 fn encrypts<C: BlockCipherEncrypt>(cipher: &C, plain: u128, wanted: u128) -> bool {
     let mut block = plain.to_be_bytes();
@@ -50,7 +37,7 @@ struct Living {
 
 impl Living {
     fn new() -> Result<Living, Fail> {
-        let enc = Aes128Enc::new(&KEY_128.to_be_bytes());
+        let enc = Aes128Enc::new(&KEY_128);
         let both = Aes128::from(enc.clone()?);
         let dec = Aes128Dec::from(&enc);
         Ok(Living {
@@ -73,14 +60,14 @@ impl Living {
         let enc = self
             .enc
             .as_ref()
-            .is_none_or(|enc| encrypts(enc, PLAIN, BY_KEY_128));
+            .is_none_or(|enc| encrypts(enc, PLAIN, BY_128));
         let both = self.both.as_ref().is_none_or(|both| {
-            encrypts(both, PLAIN, BY_KEY_128) && decrypts(both, BY_KEY_128, PLAIN)
+            encrypts(both, PLAIN, BY_128) && decrypts(both, BY_128, PLAIN)
         });
         let dec = self
             .dec
             .as_ref()
-            .is_none_or(|dec| decrypts(dec, BY_KEY_128, PLAIN));
+            .is_none_or(|dec| decrypts(dec, BY_128, PLAIN));
         enc && both && dec
     }
 }
@@ -142,7 +129,7 @@ fn a_refused_writer_leaves_the_value_as_it_was(rt: HostRuntime) {
             left == 16,
             "room for {left} bytes"
         );
-        assert!(rt; encrypts(&cipher, PLAIN, BY_KEY_256));
+        assert!(rt; encrypts(&cipher, PLAIN, BY_256));
     }
 }
 

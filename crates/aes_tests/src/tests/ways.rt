@@ -1,23 +1,20 @@
 //! Every cipher of the library in each of its directions, so that what is tried with all of them is written once.
 
+ghost use Rattle.std.specs.Prelude.{◌≡◌, ◌⊎◌};
+
+use crate::by_backend::ByBackend;
 use aes::{
     Aes128, Aes128Dec, Aes128Enc, Aes192, Aes192Dec, Aes192Enc, Aes256, Aes256Dec, Aes256Enc, Block,
 };
 use aes_cipher::cipher::{
     BlockCipherDecClosure, BlockCipherDecrypt, BlockCipherEncClosure, BlockCipherEncrypt, KeyInit,
-    NotEqualError,
 };
+use aes_rounds::rounds::{Aes, AesDec, AesEnc, expand_128, expand_192, expand_256};
 
 /// A cipher in one direction.
 pub trait Way {
     /// Works on a block.
     fn on_block(&self, block: &mut Block);
-
-    /// Works on each block.
-    fn on_blocks(&self, blocks: &mut [Block]);
-
-    /// Works on each block of one slice, and leaves the answers in another.
-    fn on_blocks_b2b(&self, input: &[Block], output: &mut [Block]) -> Result<(), NotEqualError>;
 
     /// Calls a closure with a backend.
     fn lend<F: BlockCipherEncClosure + BlockCipherDecClosure>(&self, f: &mut F);
@@ -34,14 +31,6 @@ impl<C: BlockCipherEncrypt> Way for Forward<'_, C> {
         self.cipher.encrypt_block(block);
     }
 
-    fn on_blocks(&self, blocks: &mut [Block]) {
-        self.cipher.encrypt_blocks(blocks);
-    }
-
-    fn on_blocks_b2b(&self, input: &[Block], output: &mut [Block]) -> Result<(), NotEqualError> {
-        self.cipher.encrypt_blocks_b2b(input, output)
-    }
-
     fn lend<F: BlockCipherEncClosure + BlockCipherDecClosure>(&self, f: &mut F) {
         self.cipher.encrypt_with_backend(f);
     }
@@ -56,14 +45,6 @@ pub struct Back<'a, C: BlockCipherDecrypt> {
 impl<C: BlockCipherDecrypt> Way for Back<'_, C> {
     fn on_block(&self, block: &mut Block) {
         self.cipher.decrypt_block(block);
-    }
-
-    fn on_blocks(&self, blocks: &mut [Block]) {
-        self.cipher.decrypt_blocks(blocks);
-    }
-
-    fn on_blocks_b2b(&self, input: &[Block], output: &mut [Block]) -> Result<(), NotEqualError> {
-        self.cipher.decrypt_blocks_b2b(input, output)
     }
 
     fn lend<F: BlockCipherEncClosure + BlockCipherDecClosure>(&self, f: &mut F) {
@@ -93,8 +74,26 @@ where
     ]
 }
 
+// Whether the ciphers that are made of single rounds pass.
+fn pass_by_rounds<T: Trial, const RK: usize>(trial: &T, round_keys: &[Block; RK]) -> [bool; 4]
+    requires { (RK ≡ 11) ⊎ (RK ≡ 13) ⊎ (RK ≡ 15) }
+{
+    pass(
+        trial,
+        &ByBackend {
+            backend: Aes::new(round_keys),
+        },
+        &ByBackend {
+            backend: AesEnc::new(round_keys),
+        },
+        &ByBackend {
+            backend: AesDec::new(round_keys),
+        },
+    )
+}
+
 /// Whether every type passes, by the size of its key, and every round by round cipher.
-pub fn try_all<T: Trial>(trial: &T) -> [(&'static str, [bool; 4]); 3] {
+pub fn try_all<T: Trial>(trial: &T) -> [(&'static str, [bool; 4]); 6] {
     let (short, middle, long) = (&[0x16; 16], &[0x24; 24], &[0x32; 32]);
     [
         (
@@ -124,5 +123,8 @@ pub fn try_all<T: Trial>(trial: &T) -> [(&'static str, [bool; 4]); 3] {
                 &Aes256Dec::new(long),
             ),
         ),
+        ("11 round keys", pass_by_rounds(trial, &expand_128(short))),
+        ("13 round keys", pass_by_rounds(trial, &expand_192(middle))),
+        ("15 round keys", pass_by_rounds(trial, &expand_256(long))),
     ]
 }
