@@ -13,25 +13,25 @@ use Rattle.aes_planes.proofs.Bits.NumberBits.{number_lt}
 -- the gates of sub_bytes, each of which reads the bits so many before it
 unfoldable pub sbox_gates : List Gate
 sbox_gates =
-    Xor 4 2 ∷ Xor 8 2 ∷ Xor 0 1 ∷ Xor 6 0 ∷ Xor 0 6 ∷ Xor 0 5 ∷ Xor 2 12 ∷ Xor 14 11 ∷
-    Xor 1 0 ∷ Xor 9 0 ∷ Xor 17 12 ∷ Xor 17 16 ∷ Xor 7 0 ∷ Xor 0 4 ∷ Xor 1 3 ∷ Xor 3 6 ∷
-    Xor 14 0 ∷ Xor 24 1 ∷ Xor 6 18 ∷ Xor 0 23 ∷ Xor 1 27 ∷ Xor 2 22 ∷ Xor 0 11 ∷ And 20 18 ∷
-    And 16 15 ∷ And 24 11 ∷ Xor 0 1 ∷ And 16 14 ∷ Xor 0 3 ∷ And 27 13 ∷ And 10 30 ∷ Xor 0 7 ∷
-    Xor 0 3 ∷ Xor 0 18 ∷ And 13 24 ∷ Xor 0 5 ∷ Xor 0 7 ∷ Xor 0 19 ∷ And 16 19 ∷ Xor 0 9 ∷
-    Xor 0 13 ∷ Xor 0 24 ∷ And 19 36 ∷ Xor 0 19 ∷ Xor 0 37 ∷ Xor 0 18 ∷ And 0 4 ∷ Xor 9 0 ∷
-    Xor 14 1 ∷ Xor 3 15 ∷ And 0 2 ∷ Xor 0 17 ∷ And 0 31 ∷ And 1 43 ∷ Xor 12 16 ∷ And 6 0 ∷
-    Xor 0 18 ∷ Xor 9 0 ∷ And 20 0 ∷ Xor 11 0 ∷ And 8 0 ∷ Xor 11 0 ∷ Xor 10 0 ∷ And 0 47 ∷
-    And 1 62 ∷ And 3 43 ∷ And 4 47 ∷ Xor 25 10 ∷ Xor 9 0 ∷ Xor 7 0 ∷ And 0 57 ∷ And 1 60 ∷
-    Xor 15 3 ∷ And 0 68 ∷ And 1 71 ∷ And 6 52 ∷ And 7 70 ∷ And 20 57 ∷ Xor 26 21 ∷ Xor 0 9 ∷
-    And 0 66 ∷ And 1 80 ∷ And 3 73 ∷ And 4 75 ∷ And 27 84 ∷ Xor 21 31 ∷ Xor 22 19 ∷ Xor 10 13 ∷
-    Xor 1 0 ∷ Xor 8 2 ∷ Xor 7 0 ∷ Xor 7 0 ∷ Xor 8 10 ∷ Xor 17 0 ∷ Xor 0 16 ∷ Xor 20 1 ∷
-    Xor 0 5 ∷ Xor 1 8 ∷ Xor 0 7 ∷ Xor 33 6 ∷ Xor 26 15 ∷ Xor 36 0 ∷ Xor 31 0 ∷ Xor 13 0 ∷
-    Xor 51 0 ∷ Xor 10 0 ∷ Xor 1 14 ∷ Xor 0 35 ∷ Xor 7 22 ∷ Xor 9 0 ∷ Xor 6 0 ∷ Xor 46 1 ∷
-    Xor 3 14 ∷ []
+    Xor 6 5 ∷ Xor 8 3 ∷ Xor 9 3 ∷ Xor 2 3 ∷ Xor 0 5 ∷ Xor 1 12 ∷ And 1 2 ∷ Xor 2 5 ∷
+    Xor 4 12 ∷ And 0 9 ∷ Xor 14 12 ∷ Xor 18 15 ∷ Xor 9 1 ∷ Xor 16 0 ∷ Xor 0 16 ∷ Xor 1 21 ∷
+    And 3 1 ∷ Xor 7 0 ∷ Xor 3 18 ∷ Xor 4 18 ∷ And 12 1 ∷ Xor 0 4 ∷ Xor 0 6 ∷ Xor 7 11 ∷
+    Xor 23 0 ∷ Xor 32 0 ∷ And 14 2 ∷ Xor 27 3 ∷ And 25 3 ∷ Xor 22 0 ∷ Xor 27 5 ∷ And 25 3 ∷
+    Xor 0 3 ∷ Xor 13 9 ∷ And 23 0 ∷ Xor 0 8 ∷ Xor 6 0 ∷ Xor 14 1 ∷ Xor 1 7 ∷ And 1 0 ∷
+    Xor 20 38 ∷ And 39 21 ∷ Xor 0 15 ∷ Xor 10 0 ∷ Xor 0 18 ∷ Xor 27 2 ∷ Xor 0 5 ∷ Xor 9 0 ∷
+    Xor 3 8 ∷ Xor 2 9 ∷ Xor 11 5 ∷ And 1 0 ∷ Xor 0 7 ∷ Xor 14 0 ∷ And 1 54 ∷ And 2 46 ∷
+    Xor 7 3 ∷ And 12 0 ∷ Xor 0 4 ∷ And 0 51 ∷ Xor 11 2 ∷ And 2 42 ∷ And 14 13 ∷ Xor 0 16 ∷
+    And 0 58 ∷ And 1 4 ∷ Xor 18 0 ∷ And 3 39 ∷ And 1 64 ∷ And 2 64 ∷ Xor 17 11 ∷ Xor 4 12 ∷
+    And 0 70 ∷ And 1 53 ∷ And 3 61 ∷ And 4 60 ∷ Xor 12 9 ∷ Xor 13 24 ∷ Xor 0 6 ∷ Xor 3 24 ∷
+    Xor 18 4 ∷ And 2 47 ∷ And 3 71 ∷ And 6 80 ∷ And 7 59 ∷ Xor 0 17 ∷ Xor 1 17 ∷ And 9 63 ∷
+    And 10 76 ∷ Xor 2 8 ∷ Xor 8 3 ∷ Xor 11 5 ∷ Xor 4 1 ∷ Xor 4 10 ∷ Xor 5 1 ∷ Xor 35 1 ∷
+    Xor 26 2 ∷ Xor 0 5 ∷ Xor 2 42 ∷ Xor 24 3 ∷ Xor 0 10 ∷ Xor 1 8 ∷ Xor 1 9 ∷ Xor 11 2 ∷
+    Xor 20 24 ∷ Xor 31 0 ∷ Xor 15 0 ∷ Xor 23 9 ∷ Xor 43 1 ∷ Xor 2 11 ∷ Xor 11 1 ∷ Xor 2 16 ∷
+    Xor 0 39 ∷ []
 
 -- where its eight results stand, that of plane 0 first
 abbrev pub sbox_places : List ℕ
-sbox_places = 1 ∷ 2 ∷ 7 ∷ 0 ∷ 15 ∷ 5 ∷ 14 ∷ 16 ∷ []
+sbox_places = 5 ∷ 3 ∷ 2 ∷ 9 ∷ 12 ∷ 0 ∷ 10 ∷ 11 ∷ []
 
 sbox_case : List Bool → Bool
 sbox_case bs = number (computed sbox_gates sbox_places bs) == plus63 (sbox (number bs))
@@ -47,25 +47,25 @@ sbox_computed bs l = eqb-true _ _ (all_bools_tells 8 sbox_case sbox_cases bs l)
 -- the gates of inv_sub_bytes
 unfoldable pub inv_sbox_gates : List Gate
 inv_sbox_gates =
-    Xor 7 4 ∷ Xor 7 0 ∷ Xor 5 0 ∷ Xor 9 7 ∷ Xor 11 10 ∷ Xor 9 8 ∷ Xor 6 0 ∷ Xor 10 7 ∷
-    Xor 3 0 ∷ Xor 10 9 ∷ Xor 4 0 ∷ Xor 6 1 ∷ Xor 8 2 ∷ Xor 18 0 ∷ Xor 19 8 ∷ Xor 21 16 ∷
-    Xor 8 0 ∷ Xor 22 19 ∷ Xor 14 0 ∷ Xor 26 1 ∷ Xor 22 21 ∷ Xor 15 0 ∷ Xor 13 0 ∷ Xor 14 2 ∷
-    Xor 29 27 ∷ Xor 9 0 ∷ Xor 15 0 ∷ And 26 25 ∷ And 24 21 ∷ And 24 20 ∷ And 13 16 ∷ And 19 12 ∷
-    And 19 12 ∷ Xor 0 1 ∷ Xor 0 26 ∷ And 29 12 ∷ Xor 6 0 ∷ Xor 2 0 ∷ And 35 16 ∷ Xor 0 3 ∷
-    Xor 16 8 ∷ Xor 0 13 ∷ Xor 0 2 ∷ And 32 17 ∷ Xor 17 0 ∷ Xor 0 16 ∷ Xor 0 6 ∷ And 0 4 ∷
-    Xor 10 0 ∷ Xor 18 5 ∷ Xor 0 13 ∷ Xor 0 36 ∷ Xor 0 4 ∷ Xor 6 1 ∷ And 5 0 ∷ Xor 3 0 ∷
-    And 0 36 ∷ And 1 44 ∷ Xor 4 10 ∷ And 16 7 ∷ Xor 17 22 ∷ And 0 1 ∷ And 9 1 ∷ Xor 25 0 ∷
-    Xor 0 8 ∷ And 0 42 ∷ And 1 60 ∷ And 3 50 ∷ And 4 54 ∷ Xor 8 21 ∷ Xor 8 0 ∷ Xor 7 0 ∷
-    And 0 46 ∷ And 1 62 ∷ And 3 67 ∷ And 4 71 ∷ And 38 29 ∷ And 23 0 ∷ Xor 0 19 ∷ Xor 8 0 ∷
-    Xor 15 0 ∷ And 0 59 ∷ And 1 79 ∷ And 3 74 ∷ And 4 79 ∷ Xor 29 6 ∷ And 0 67 ∷ And 1 75 ∷
-    And 9 86 ∷ And 10 88 ∷ Xor 24 23 ∷ Xor 33 24 ∷ Xor 19 24 ∷ Xor 20 24 ∷ Xor 20 18 ∷ Xor 4 0 ∷
-    Xor 21 14 ∷ Xor 1 0 ∷ Xor 25 15 ∷ Xor 0 1 ∷ Xor 16 17 ∷ Xor 0 5 ∷ Xor 8 0 ∷ Xor 29 2 ∷
-    Xor 20 28 ∷ Xor 18 36 ∷ Xor 21 0 ∷ Xor 1 11 ∷ Xor 21 51 ∷ Xor 0 7 ∷ Xor 22 25 ∷ Xor 0 19 ∷
-    Xor 23 37 ∷ Xor 12 0 ∷ Xor 0 6 ∷ Xor 24 2 ∷ Xor 5 0 ∷ Xor 60 27 ∷ Xor 0 25 ∷ Xor 14 0 ∷
-    Xor 3 0 ∷ Xor 63 3 ∷ Xor 0 15 ∷ Xor 25 0 ∷ Xor 31 2 ∷ Xor 9 0 ∷ Xor 22 0 ∷ []
+    Xor 6 1 ∷ Xor 6 4 ∷ Xor 3 2 ∷ Xor 8 5 ∷ Xor 11 10 ∷ Xor 0 2 ∷ Xor 12 10 ∷ Xor 14 3 ∷
+    Xor 1 4 ∷ And 3 0 ∷ Xor 9 8 ∷ Xor 13 12 ∷ Xor 19 16 ∷ Xor 19 0 ∷ And 1 0 ∷ Xor 18 1 ∷
+    Xor 20 19 ∷ Xor 0 14 ∷ Xor 1 6 ∷ Xor 1 8 ∷ Xor 20 3 ∷ And 3 10 ∷ And 15 1 ∷ And 7 4 ∷
+    Xor 29 7 ∷ Xor 5 3 ∷ Xor 0 3 ∷ Xor 20 24 ∷ Xor 33 0 ∷ And 1 21 ∷ Xor 0 20 ∷ Xor 34 31 ∷
+    Xor 1 0 ∷ Xor 1 32 ∷ And 0 5 ∷ Xor 30 3 ∷ And 31 0 ∷ Xor 1 25 ∷ Xor 3 16 ∷ Xor 1 29 ∷
+    Xor 4 21 ∷ And 24 0 ∷ Xor 5 0 ∷ Xor 19 1 ∷ Xor 17 0 ∷ Xor 12 2 ∷ Xor 7 3 ∷ Xor 7 32 ∷
+    Xor 0 4 ∷ And 4 0 ∷ Xor 1 4 ∷ Xor 0 1 ∷ Xor 5 27 ∷ Xor 0 3 ∷ Xor 8 4 ∷ Xor 10 2 ∷
+    And 2 5 ∷ Xor 11 0 ∷ And 0 24 ∷ And 10 6 ∷ And 5 4 ∷ And 10 1 ∷ Xor 0 10 ∷ Xor 5 0 ∷
+    And 0 46 ∷ And 2 44 ∷ Xor 13 5 ∷ Xor 9 0 ∷ And 0 27 ∷ And 2 41 ∷ And 7 63 ∷ Xor 6 0 ∷
+    Xor 16 22 ∷ And 5 56 ∷ Xor 4 0 ∷ Xor 6 1 ∷ Xor 0 4 ∷ And 10 69 ∷ And 14 67 ∷ Xor 0 20 ∷
+    And 22 51 ∷ Xor 2 0 ∷ And 36 37 ∷ And 27 0 ∷ Xor 0 11 ∷ And 0 72 ∷ Xor 23 1 ∷ Xor 20 2 ∷
+    And 3 74 ∷ And 1 80 ∷ Xor 1 24 ∷ Xor 15 0 ∷ Xor 2 14 ∷ Xor 25 6 ∷ And 0 75 ∷ Xor 29 0 ∷
+    Xor 6 15 ∷ And 3 81 ∷ Xor 21 2 ∷ Xor 2 22 ∷ Xor 21 2 ∷ Xor 0 2 ∷ And 15 66 ∷ Xor 0 32 ∷
+    Xor 1 6 ∷ Xor 40 0 ∷ Xor 1 15 ∷ Xor 0 7 ∷ Xor 3 31 ∷ Xor 27 0 ∷ Xor 17 1 ∷ And 23 105 ∷
+    Xor 34 26 ∷ Xor 0 33 ∷ Xor 10 0 ∷ Xor 45 2 ∷ Xor 36 0 ∷ Xor 25 0 ∷ Xor 12 0 ∷ And 32 114 ∷
+    Xor 0 23 ∷ Xor 5 0 ∷ Xor 10 2 ∷ Xor 0 48 ∷ Xor 25 2 ∷ Xor 2 33 ∷ Xor 0 11 ∷ []
 
 abbrev pub inv_sbox_places : List ℕ
-inv_sbox_places = 15 ∷ 27 ∷ 12 ∷ 3 ∷ 17 ∷ 0 ∷ 6 ∷ 24 ∷ []
+inv_sbox_places = 3 ∷ 25 ∷ 19 ∷ 2 ∷ 16 ∷ 8 ∷ 0 ∷ 17 ∷ []
 
 -- the inverse S-box is a search: the S-box of what comes out is computed in its place
 inv_sbox_case : List Bool → Bool
