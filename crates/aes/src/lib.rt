@@ -1,12 +1,24 @@
-//! AES with keys of 16 bytes (FIPS 197): the types that encrypt and decrypt, and the single
+//! AES with keys of 16, 24 and 32 bytes (FIPS 197): the types that encrypt and decrypt, and the single
 //! rounds.
 #![tactic(auto)]
 
-mod aes128;
-pub mod hazmat;
-mod inputs;
+ghost use Rattle.std.specs.Prelude.{◌≡◌, false};
 
-pub use aes128::{Aes128, Aes128Dec, Aes128Enc};
+mod ciphers;
+pub mod hazmat;
+mod names;
+
+pub use ciphers::{AesCipher, BothWays, Decrypting, Decrypts, Direction, Encrypting, Encrypts};
+pub use names::{
+    Aes128, Aes128Dec, Aes128Enc, Aes192, Aes192Dec, Aes192Enc, Aes256, Aes256Dec, Aes256Enc,
+};
 
 /// A block: sixteen bytes, that of row `r` and column `c` at place `r + 4 * c` (FIPS 197, 3.4).
 pub type Block = [u8; 16];
+
+/// Whether instructions of the processor for AES are used: never, here.
+pub fn hardware_accelerated() -> bool
+    ensures { result ≡ false }
+{
+    false
+}

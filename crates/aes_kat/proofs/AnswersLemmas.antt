@@ -1,12 +1,13 @@
 -- Lemmas on what a part of the work has done.
-use Rattle.std.proofs.Common.{◌≡◌, ℕ, List, [], ◌∷◌, ◌++◌, Bool, true, false, ◌||◌, Option, None, Some, IfSome, Result, Ok, Err, OnErr, refl, sym, ap, ◌∙◌, subst, append_assoc, append-nil, length, take, ◌<◌, arith}
+use Rattle.std.proofs.Common.{◌≡◌, ℕ, List, [], ◌∷◌, ◌++◌, Bool, true, false, ◌||◌, Option, None, Some, IfSome, Result, Ok, Err, OnErr, IsErr, refl, sym, ap, ◌∙◌, subst, append_assoc, append-nil, length, take, ◌<◌, arith}
 use Rattle.std.proofs.Math.Bool.{or-false}
 use Rattle.std.specs.List.{flat_map, list_any}
 use Rattle.std.specs.Io.KnownBytes.{Appends, Consumes, IsAtEnd}
 use Rattle.std.proofs.KnownBytes.{Appends-trans, Consumes-trans, Consumes-whole}
+use Rattle.aes_kat.specs.declared.engine.Failed.{Failed}
 use Rattle.aes_kat.specs.Lines.{Lacks}
 use Rattle.aes_kat.specs.Reply.{reply_to, is_fault}
-use Rattle.aes_kat.specs.Answers.{answers_to, has_fault, AppendsBeginning, Gathers, Advances, StopsWithin}
+use Rattle.aes_kat.specs.Answers.{answers_to, has_fault, AppendsBeginning, Gathers, Advances, StopsWithin, Runs}
 use Rattle.aes_kat.proofs.LinesLemmas.{lines_of-cut, lines_of-last, lines_of-nil}
 
 -- what holds anyway holds on an error
@@ -188,3 +189,11 @@ stops-held None s a b text read stop = tt
 stops-held (Some held) None a b text read stop = absurd read
 stops-held (Some held) (Some rest) a b text read stop =
     let end' = stop.2 rest in (stop.0, stop.1, (end'.0, ap answers_to read ∙ end'.1))
+
+-- ---- what a run has done
+
+-- it fails, and what it has written is a beginning of the answers
+pub Runs-failed : (r : Result Bool Failed) (input left output written : Option (List ℕ)) → IsErr r
+    → IfSome input (λ text. AppendsBeginning output written (answers_to text)) → Runs r input left output written
+Runs-failed (Ok fault) input left output written e h = cc e
+Runs-failed (Err failed) input left output written e h = h

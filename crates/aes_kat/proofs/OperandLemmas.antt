@@ -10,7 +10,7 @@ use Rattle.hex.proofs.HexLemmas.{decode_of-ok, decode_of-digits, decode_sized-tw
 use Rattle.aes_kat.specs.declared.faults.Fault.{Fault}
 use Rattle.aes_kat.specs.declared.faults.Fault.TheVariants as fault
 use Rattle.aes_kat.specs.Steps.{decoded, or_none}
-use Rattle.aes_kat.specs.Reply.{bytes_of, or_hex_fault, sixteen_or}
+use Rattle.aes_kat.specs.Reply.{bytes_of, or_hex_fault}
 
 -- the front of a list of known length
 pub take_front : (n : ℕ) (xs ys : List ℕ) → length xs ≡ n → take n (xs ++ ys) ≡ xs
@@ -52,25 +52,9 @@ bytes_of-err s bad = or_hex_fault-err (decode_of s) bad
 or_none-ok : (r : Result (List ℕ) FromHexError) (bytes : List ℕ) → r ≡ Ok bytes → or_none r ≡ bytes
 or_none-ok r bytes e = rw e refl
 
-sixteen-decoded_as : (s : List ℕ) (problem : Fault) (r : Result Unit FromHexError) (out bytes : List ℕ) → decode_of s ≡ Ok bytes → decoded s ≡ bytes
-    → MatchResult (decode_sized s 16) (λ bytes. (r ≡ Ok tt) × (out ≡ bytes)) (λ e. r ≡ Err e)
-    → MatchResult r (λ done. Ok out ≡ sixteen_or problem (decoded s)) (λ e. Err problem ≡ sixteen_or problem (decoded s))
-sixteen-decoded_as s problem r out bytes e same h =
-    let long = decode_of-ok s bytes e in
-    elim (cases_eq (length bytes) 16) [
-      | inl sixteen ↦
-          let twice : length s ≡ 2 * 16 = omega arith in
-          let fits = rw (decode_sized-twice s 16 twice ∙ e) at h in
-          rw (fits.0, fits.1, same, eq-eqb (length bytes) 16 sixteen) refl
-      | inr other ↦
-          let differs : length s / 2 ≢ 16 = omega arith in
-          rw (rw (decode_sized-other s 16 long.0 differs) at h, same, ne_eqb (length bytes) 16 other) refl
-    ]
-
--- a word of digits, decoded into room for sixteen bytes: it fits, or it is of another length
-pub sixteen-decoded : (s : List ℕ) (problem : Fault) (r : Result Unit FromHexError) (out : List ℕ) → is_ok (decode_of s) ≡ true
-    → MatchResult (decode_sized s 16) (λ bytes. (r ≡ Ok tt) × (out ≡ bytes)) (λ e. r ≡ Err e)
-    → MatchResult r (λ done. Ok out ≡ sixteen_or problem (decoded s)) (λ e. Err problem ≡ sixteen_or problem (decoded s))
-sixteen-decoded s problem r out ok h =
+-- a word has two digits for a byte
+pub length-decoded : (s : List ℕ) → is_ok (decode_of s) ≡ true → length s ≡ 2 * length (decoded s)
+length-decoded s ok =
     let v = ok_value (decode_of s) ok in
-    sixteen-decoded_as s problem r out v.0 v.1 (or_none-ok (decode_of s) v.0 v.1) h
+    let long = decode_of-ok s v.0 v.1 in
+    long.2 ∙ ap (λ bytes. 2 * length bytes) (sym (or_none-ok (decode_of s) v.0 v.1))

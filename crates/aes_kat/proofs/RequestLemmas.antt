@@ -5,9 +5,8 @@ use Rattle.hex.specs.Hex.{decode_of}
 use Rattle.aes_kat.specs.declared.faults.Fault.{Fault}
 use Rattle.aes_kat.specs.declared.faults.Fault.TheVariants as fault
 use Rattle.aes_kat.specs.declared.commands.Command.{Command}
-use Rattle.aes_kat.specs.declared.commands.Command.TheVariants.{Mix, InverseMix, Schedule}
 use Rattle.aes_kat.specs.Lines.{words_of}
-use Rattle.aes_kat.specs.Steps.{decoded, IsPut}
+use Rattle.aes_kat.specs.Steps.{decoded}
 use Rattle.aes_kat.specs.Reply.{Asked, command_of, takes_one, takes_two, asked_if, request_of, answer_of, outcome_of}
 use Rattle.aes_kat.proofs.LinesLemmas.{parts_at-cons}
 use Rattle.aes_kat.proofs.OperandLemmas.{bytes_of-decoded, bytes_of-err}
@@ -75,24 +74,3 @@ pub outcome_of-answer : (line : List ℕ) (asked : Asked) → request_of (words_
     → outcome_of line ≡ answer_of asked.command (decoded asked.first) (decoded asked.second)
 unfolding outcome_of
 outcome_of-answer line asked e first second = rw (e, bytes_of-decoded asked.first first, bytes_of-decoded asked.second second) refl
-
--- what the command answered is the outcome
-pub outcome_of-command : (line first second : List ℕ) (asked command : Command) (r : Result ℕ Fault) (out : List ℕ)
-    → request_of (words_of line) ≡ Ok (record { command = asked; first = first; second = second })
-    → is_ok (decode_of first) ≡ true → is_ok (decode_of second) ≡ true → asked ≡ command
-    → IsPut (answer_of command (decoded first) (decoded second)) r out → IsPut (outcome_of line) r out
-outcome_of-command line first second asked command r out e first_ok second_ok same answered =
-    rw (outcome_of-answer line (record { command = asked; first = first; second = second }) e first_ok second_ok, same) answered
-
--- commands of one word ignore the other
-pub answer_of-mix : (block other : List ℕ) → answer_of Mix block other ≡ answer_of Mix block []
-unfolding answer_of
-answer_of-mix block other = refl
-
-pub answer_of-inverse_mix : (block other : List ℕ) → answer_of InverseMix block other ≡ answer_of InverseMix block []
-unfolding answer_of
-answer_of-inverse_mix block other = refl
-
-pub answer_of-schedule : (key other : List ℕ) → answer_of Schedule key other ≡ answer_of Schedule key []
-unfolding answer_of
-answer_of-schedule key other = refl

@@ -1,7 +1,8 @@
 -- The answers to a text, and what a part of the work on it has done.
-use Rattle.std.specs.Prelude.{ℕ, List, [], ◌∷◌, ◌++◌, ◌≡◌, Bool, ◌||◌, Option}
+use Rattle.std.specs.Prelude.{ℕ, List, [], ◌∷◌, ◌++◌, ◌≡◌, Bool, ◌||◌, Option, Result, Ok, Err, IfSome}
 use Rattle.std.specs.List.{flat_map, list_any}
-use Rattle.std.specs.Io.KnownBytes.{Appends}
+use Rattle.std.specs.Io.KnownBytes.{Appends, IsAtEnd}
+use Rattle.aes_kat.specs.declared.engine.Failed.{Failed}
 use Rattle.aes_kat.specs.Lines.{lines_of}
 use Rattle.aes_kat.specs.Reply.{reply_to, is_fault}
 
@@ -20,6 +21,12 @@ BeginsWith all front = (rest : List ℕ) × (all ≡ front ++ rest)
 -- the known bytes grew by a beginning of `all`
 abbrev pub AppendsBeginning : Option (List ℕ) → Option (List ℕ) → List ℕ → Type 0
 AppendsBeginning old new all = (front : List ℕ) × Appends old new front × BeginsWith all front
+
+-- What a run does to known bytes: it answers all of the input, to its end, and tells whether some line was a fault; or it
+-- fails, and has written a beginning of the answers.
+abbrev pub Runs : Result Bool Failed → Option (List ℕ) → Option (List ℕ) → Option (List ℕ) → Option (List ℕ) → Type 0
+Runs (Ok fault) input left output written = IsAtEnd left × IfSome input (λ text. Appends output written (answers_to text) × (fault ≡ has_fault text))
+Runs (Err failed) input left output written = IfSome input (λ text. AppendsBeginning output written (answers_to text))
 
 -- Whatever bytes come next: the answers to `before` and them are `written`, and then the answers to `after` and them;
 -- and a fault is among the former where `fault` says so or one is among the latter.

@@ -1,5 +1,6 @@
 -- The files of definitions.
 pub mod Lines
+pub mod Keys
 pub mod Reply
 pub mod Steps
 pub mod Answers

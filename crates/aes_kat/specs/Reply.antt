@@ -1,10 +1,12 @@
 -- The reply to one line.
-use Rattle.std.specs.Prelude.{ℕ, List, [], ◌∷◌, Bool, true, false, codes, Option, Some, None, Result, Ok, Err, length, map, ◌==◌, if◌then◌else◌}
+use Rattle.std.specs.Prelude.{ℕ, List, [], ◌∷◌, Bool, true, false, codes, Option, Some, None, Result, Ok, Err, length, map, ◌*◌, ◌/◌, ◌%◌, ◌==◌, ◌&&◌, ◌||◌, nat_le, if◌then◌else◌}
 use Rattle.std.specs.Str.{bytes_eq}
-use Rattle.std.specs.List.{join_with_byte}
+use Rattle.std.specs.List.{join_with_byte, flat_map}
+use Rattle.std.specs.Simd.{first_chunks}
 use Rattle.hex.specs.Hex.{decode_of, encode_lower}
 use Rattle.hex.specs.declared.error.FromHexError.{FromHexError}
 use Rattle.aes_planes.specs.Fips197 as fips
+use Rattle.aes_planes.specs.SingleRounds.{cipher_round, equiv_inv_cipher_round}
 use Rattle.aes_kat.specs.declared.faults.Fault.{Fault}
 use Rattle.aes_kat.specs.declared.faults.Fault.TheVariants as fault
 use Rattle.aes_kat.specs.declared.commands.Command.{Command}
@@ -107,38 +109,55 @@ or_hex_fault (Err error) = Err fault.Hex
 abbrev pub bytes_of : List ℕ → Result (List ℕ) Fault
 bytes_of word = or_hex_fault (decode_of word)
 
--- the bytes, where they are sixteen
-abbrev pub sixteen_or : Fault → List ℕ → Result (List ℕ) Fault
-sixteen_or problem bytes = if length bytes == 16 then Ok bytes else Err problem
+-- whether a key may have this many bytes
+abbrev pub is_key_size : ℕ → Bool
+is_key_size size = (size == 16) || (size == 24) || (size == 32)
+
+-- the bytes, where they are as many as those of a key
+abbrev pub key_of : List ℕ → Result (List ℕ) Fault
+key_of bytes = if is_key_size (length bytes) then Ok bytes else Err fault.Key
+
+-- the bytes, where they are the sixteen of a block
+abbrev pub block_of : List ℕ → Result (List ℕ) Fault
+block_of bytes = if length bytes == 16 then Ok bytes else Err fault.Block
+
+-- whether whole blocks, 64 at most, may have this many bytes
+abbrev pub is_size_of_blocks : ℕ → Bool
+is_size_of_blocks size = (size % 16 == 0) && nat_le size (16 * 64)
+
+-- the blocks that the bytes are, where they are whole blocks and 64 at most
+abbrev pub blocks_of : List ℕ → Result (List (List ℕ)) Fault
+blocks_of bytes = if is_size_of_blocks (length bytes) then Ok (first_chunks 16 (length bytes / 16) bytes) else Err fault.Block
 
 -- ---- answers
 
+-- what a cipher under a key makes of each block, joined
+abbrev pub block_by_block : (List ℕ → List ℕ → List ℕ) → List ℕ → List ℕ → Result (List ℕ) Fault
+block_by_block cipher key_bytes block_bytes = do
+  key ← key_of key_bytes
+  blocks ← blocks_of block_bytes
+  Ok (flat_map encode_lower (map (cipher key) blocks))
+
 -- the answer of a command to the bytes of the words after it
 unfoldable pub answer_of : Command → List ℕ → List ℕ → Result (List ℕ) Fault
-answer_of Encrypt key_bytes block_bytes = do
-  key ← sixteen_or fault.Key key_bytes
-  block ← sixteen_or fault.Block block_bytes
-  Ok (encode_lower (fips.cipher key block))
-answer_of Decrypt key_bytes block_bytes = do
-  key ← sixteen_or fault.Key key_bytes
-  block ← sixteen_or fault.Block block_bytes
-  Ok (encode_lower (fips.inv_cipher key block))
+answer_of Encrypt key_bytes block_bytes = block_by_block fips.cipher key_bytes block_bytes
+answer_of Decrypt key_bytes block_bytes = block_by_block fips.inv_cipher key_bytes block_bytes
 answer_of Round block_bytes key_bytes = do
-  block ← sixteen_or fault.Block block_bytes
-  key ← sixteen_or fault.Block key_bytes
-  Ok (encode_lower (fips.add_round_key (fips.mix_columns (fips.shift_rows (fips.sub_bytes block))) key))
+  block ← block_of block_bytes
+  key ← block_of key_bytes
+  Ok (encode_lower (cipher_round block key))
 answer_of InverseRound block_bytes key_bytes = do
-  block ← sixteen_or fault.Block block_bytes
-  key ← sixteen_or fault.Block key_bytes
-  Ok (encode_lower (fips.add_round_key (fips.inv_mix_columns (fips.inv_shift_rows (fips.inv_sub_bytes block))) key))
+  block ← block_of block_bytes
+  key ← block_of key_bytes
+  Ok (encode_lower (equiv_inv_cipher_round block key))
 answer_of Mix block_bytes none = do
-  block ← sixteen_or fault.Block block_bytes
+  block ← block_of block_bytes
   Ok (encode_lower (fips.mix_columns block))
 answer_of InverseMix block_bytes none = do
-  block ← sixteen_or fault.Block block_bytes
+  block ← block_of block_bytes
   Ok (encode_lower (fips.inv_mix_columns block))
 answer_of Schedule key_bytes none = do
-  key ← sixteen_or fault.Key key_bytes
+  key ← key_of key_bytes
   Ok (join_with_byte 32 (map encode_lower (fips.key_expansion key)))
 
 -- the answer to a line, or the first fault of its command, digits, key and block

@@ -1,10 +1,10 @@
 // The engine: from the bytes of a reader to the bytes of a writer.
-ghost use Rattle.std.specs.Prelude.{◌≡◌, ◌++◌, ◌∷◌, [], OnOk, OnErr, IfOk, IfSome, vec_len};
-ghost use Rattle.std.specs.Io.KnownBytes.{Appends, IsAtEnd};
+ghost use Rattle.std.specs.Prelude.{◌≡◌, ◌++◌, ◌∷◌, [], OnOk, OnErr, IfOk, vec_len};
+ghost use Rattle.std.specs.Io.KnownBytes.{Appends};
 ghost use Rattle.aes_kat.specs.Lines.{Lacks};
 ghost use Rattle.aes_kat.specs.Status.{status_of};
 ghost use Rattle.aes_kat.specs.Reply.{reply_to, is_fault};
-ghost use Rattle.aes_kat.specs.Answers.{answers_to, has_fault, AppendsBeginning, Gathers};
+ghost use Rattle.aes_kat.specs.Answers.{answers_to, has_fault, AppendsBeginning, Gathers, Advances, StopsWithin, Runs};
 
 use crate::cut::cut_at;
 use crate::replies::reply;
@@ -62,7 +62,7 @@ fn answer<A: Allocator>(line: &[u8], answers: &mut Vec<u8, A>) -> Result<bool, F
 }
 
 // Answers each line that `chunk` ends, the first of them begun in `line`, and leaves in `line` what the last one has begun.
-fn feed<A: Allocator>(
+fn gather<A: Allocator>(
     chunk: &[u8],
     line: &mut Vec<u8, A>,
     answers: &mut Vec<u8, A>,
@@ -84,8 +84,28 @@ fn feed<A: Allocator>(
     Ok(fault)
 }
 
+// Writes the answers to the lines that `chunk` ends.
+fn feed<A: Allocator, W: Write>(
+    chunk: &[u8],
+    line: &mut Vec<u8, A>,
+    answers: &mut Vec<u8, A>,
+    output: &mut W,
+) -> Result<bool, Failed>
+    requires { Lacks 10 line.old.items }
+    ensures begun { OnOk result (Lacks 10 line.new.items) }
+    ensures written { IfOk result (λ fault. Advances (W.contents output.old) (W.contents output.new)
+        (line.old.items ++ chunk.now) line.new.items fault) }
+    ensures stopped { OnErr result (StopsWithin (W.contents output.old) (W.contents output.new)
+        (line.old.items ++ chunk.now)) }
+{
+    answers.clear();
+    let fault = gather(chunk, line, answers)?;
+    write_whole(output, answers.as_slice())?;
+    Ok(fault)
+}
+
 // Answers what the input ends with after its last line end.
-fn finish<A: Allocator>(line: &[u8], answers: &mut Vec<u8, A>) -> Result<bool, Failed>
+fn answer_rest<A: Allocator>(line: &[u8], answers: &mut Vec<u8, A>) -> Result<bool, Failed>
     requires { Lacks 10 line.now }
     ensures text { OnOk result (answers.new.items ≡ answers.old.items ++ answers_to line.now) }
     ensures fault { IfOk result (λ fault. fault ≡ has_fault line.now) }
@@ -94,6 +114,24 @@ fn finish<A: Allocator>(line: &[u8], answers: &mut Vec<u8, A>) -> Result<bool, F
         return Ok(false);
     }
     answer(line, answers)
+}
+
+// Writes the answer to what the input ends with after its last line end, and flushes.
+fn finish<A: Allocator, W: Write>(
+    line: &[u8],
+    answers: &mut Vec<u8, A>,
+    output: &mut W,
+) -> Result<bool, Failed>
+    requires { Lacks 10 line.now }
+    ensures written { OnOk result (Appends (W.contents output.old) (W.contents output.new) (answers_to line.now)) }
+    ensures fault { IfOk result (λ fault. fault ≡ has_fault line.now) }
+    ensures stopped { OnErr result (AppendsBeginning (W.contents output.old) (W.contents output.new) (answers_to line.now)) }
+{
+    answers.clear();
+    let fault = answer_rest(line, answers)?;
+    write_whole(output, answers.as_slice())?;
+    output.flush()?;
+    Ok(fault)
 }
 
 // Room for `size` bytes.
@@ -113,12 +151,7 @@ fn zeros<A: Allocator>(alloc: A, size: usize) -> Result<Vec<u8, A>, Failed>
 /// among them, where memory was refused, or where `u64::MAX` reads did not reach the end.
 /// What was written is then a beginning of the answers.
 pub fn run<R: Read, W: Write>(alloc: Global, input: &mut R, output: &mut W) -> Result<bool, Failed>
-    ensures ended { OnOk result (IsAtEnd (R.remaining input.new)) }
-    ensures answered { OnOk result (IfSome (R.remaining input.old) (λ text.
-        Appends (W.contents output.old) (W.contents output.new) (answers_to text))) }
-    ensures fault { IfOk result (λ fault. IfSome (R.remaining input.old) (λ text. fault ≡ has_fault text)) }
-    ensures failed { OnErr result (IfSome (R.remaining input.old) (λ text.
-        AppendsBeginning (W.contents output.old) (W.contents output.new) (answers_to text))) }
+    ensures { Runs result (R.remaining input.old) (R.remaining input.new) (W.contents output.old) (W.contents output.new) }
 {
     run_in(alloc, input, output)
 }
@@ -129,12 +162,7 @@ pub(crate) fn run_in<A: Allocator, R: Read, W: Write>(
     input: &mut R,
     output: &mut W,
 ) -> Result<bool, Failed>
-    ensures ended { OnOk result (IsAtEnd (R.remaining input.new)) }
-    ensures answered { OnOk result (IfSome (R.remaining input.old) (λ text.
-        Appends (W.contents output.old) (W.contents output.new) (answers_to text))) }
-    ensures fault { IfOk result (λ fault. IfSome (R.remaining input.old) (λ text. fault ≡ has_fault text)) }
-    ensures failed { OnErr result (IfSome (R.remaining input.old) (λ text.
-        AppendsBeginning (W.contents output.old) (W.contents output.new) (answers_to text))) }
+    ensures { Runs result (R.remaining input.old) (R.remaining input.new) (W.contents output.old) (W.contents output.new) }
 {
     let mut room = zeros(&alloc, CHUNK)?;
     let chunk = room.as_mut_slice();
@@ -142,16 +170,12 @@ pub(crate) fn run_in<A: Allocator, R: Read, W: Write>(
     let mut answers = Vec::new(&alloc);
     let mut fault = false;
     'reads: for _ in 0..u64::MAX {
-        answers.clear();
         let count = input.read(chunk)?;
         if count == 0 {
-            let last = finish(line.as_slice(), &mut answers)?;
-            write_whole(output, answers.as_slice())?;
-            output.flush()?;
+            let last = finish(line.as_slice(), &mut answers, output)?;
             return Ok(fault | last);
         }
-        let more = feed(&chunk[..count], &mut line, &mut answers)?;
-        write_whole(output, answers.as_slice())?;
+        let more = feed(&chunk[..count], &mut line, &mut answers, output)?;
         fault |= more;
     }
     Err(Failed)

@@ -3,10 +3,11 @@
 
 mod commands;
 mod cut;
+mod digits;
 mod engine;
 mod faults;
+mod keys;
 mod laws;
-mod library;
 mod operands;
 mod replies;
 mod requests;

@@ -1,11 +1,18 @@
 // The words after a command: bytes in hexadecimal digits of either case.
-ghost use Rattle.std.specs.Prelude.{◌≡◌, true, is_ok};
+ghost use Rattle.std.specs.Prelude.{◌≡◌, ◌≤◌, ◌*◌, true, is_ok, length, take, MatchResult};
 ghost use Rattle.std.specs.List.{list_all};
 ghost use Rattle.hex.specs.Hex.{decode_of, is_hex_digit};
-ghost use Rattle.aes_kat.specs.Reply.{sixteen_or};
+ghost use Rattle.aes_kat.specs.Reply.{block_of, blocks_of};
 ghost use Rattle.aes_kat.specs.Steps.{decoded};
 
 use crate::faults::Fault;
+use aes::Block;
+
+// How many bytes a block has.
+const BLOCK_SIZE: usize = 16;
+
+// How many blocks a line may have at most.
+pub(crate) const MOST_BLOCKS: usize = 64;
 
 fn is_digit(byte: u8) -> bool
     ensures { result ≡ is_hex_digit byte }
@@ -26,14 +33,44 @@ pub(crate) fn is_hex(word: &[u8]) -> bool
     word.len() % 2 == 0 && are_digits(word)
 }
 
-// The bytes of a word of digits where they are sixteen, and the fault where they are not.
-pub(crate) fn sixteen(word: &[u8], fault: Fault) -> Result<[u8; 16], Fault>
-    requires { is_ok (decode_of word.now) ≡ true }
-    ensures { result ≡ sixteen_or fault (decoded word.now) }
+// The bytes of a word of twice as many digits.
+pub(crate) fn bytes_of<const SIZE: usize>(word: &[u8]) -> [u8; SIZE]
+    requires digits { is_ok (decode_of word.now) ≡ true }
+    requires sized { length word.now ≡ 2 * SIZE }
+    ensures { result ≡ decoded word.now }
 {
-    let mut bytes = [0u8; 16];
-    match hex::decode_to_slice(word, &mut bytes) {
-        Ok(()) => Ok(bytes),
-        Err(_) => Err(fault),
+    let mut bytes = [0u8; SIZE];
+    hex::decode_to_slice(word, &mut bytes).unwrap();
+    bytes
+}
+
+// The block whose digits the word is.
+pub(crate) fn block_of(word: &[u8]) -> Result<Block, Fault>
+    requires { is_ok (decode_of word.now) ≡ true }
+    ensures { result ≡ block_of (decoded word.now) }
+{
+    if word.len() / 2 != BLOCK_SIZE {
+        return Err(Fault::Block);
     }
+    Ok(bytes_of(word))
+}
+
+// Puts the blocks whose digits the word is at the front of `blocks`, and returns how many they are.
+pub(crate) fn put_blocks_of(word: &[u8], blocks: &mut [Block; MOST_BLOCKS]) -> Result<usize, Fault>
+    requires { is_ok (decode_of word.now) ≡ true }
+    ensures { MatchResult result
+        (λ count. (count ≤ 64) × (blocks_of (decoded word.now) ≡ Ok (take count blocks.new)))
+        (λ fault. blocks_of (decoded word.now) ≡ Err fault) }
+{
+    let mut room = [0u8; BLOCK_SIZE * MOST_BLOCKS];
+    let size = word.len() / 2;
+    if size % BLOCK_SIZE != 0 || size > room.len() {
+        return Err(Fault::Block);
+    }
+    let bytes = &mut room[..size];
+    hex::decode_to_slice(word, bytes).unwrap();
+    let (whole, _) = bytes.as_chunks::<BLOCK_SIZE>();
+    let count = whole.len();
+    blocks[..count].copy_from_slice(whole);
+    Ok(count)
 }

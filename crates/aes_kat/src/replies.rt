@@ -1,141 +1,114 @@
 // The reply to one line.
-ghost use Rattle.std.specs.Prelude.{◌≡◌, ◌≤◌, ◌<◌, ◌+◌, ◌++◌, [], true, is_ok, length, map, take};
-ghost use Rattle.std.specs.List.{join_with_byte};
-ghost use Rattle.hex.specs.Hex.{decode_of, encode_lower};
+ghost use Rattle.std.specs.Prelude.{◌≡◌, ◌≤◌, [], true, is_ok, take};
+ghost use Rattle.hex.specs.Hex.{decode_of};
 ghost use Rattle.aes_kat.specs.Reply.{answer_of, outcome_of, reply_to, is_fault};
 ghost use Rattle.aes_kat.specs.Steps.{decoded, IsPut};
 
 use crate::commands::Command;
+use crate::digits::{Room, put_block, put_joined, put_spaced};
 use crate::faults::Fault;
-use crate::library;
-use crate::operands::{is_hex, sixteen};
-use crate::requests::parse;
-use aes::{Block, hazmat};
-use aes_rounds::rounds::expand_128;
+use crate::keys::Key;
+use crate::operands::{MOST_BLOCKS, block_of, is_hex, put_blocks_of};
+use crate::requests::{Request, parse};
+use aes::hazmat;
+use aes_rounds::rounds::{expand_128, expand_192, expand_256};
 
-const SPACE: u8 = b' ';
-
-// Writes the digits of a block into `out`, from `start` on, and returns where they end.
-fn put_block(block: &Block, start: usize, out: &mut [u8; 2048]) -> usize
-    requires { start + 32 ≤ 2048 }
-    ensures end { result ≡ start + 32 }
-    ensures text { take result out.new ≡ take start out.old ++ encode_lower block.now }
-{
-    let end = start + 2 * block.len();
-    hex::encode_to_slice(block, &mut out[start..end]).unwrap();
-    end
-}
-
-// Writes blocks at the front of `out`, one space between, and returns where they end.
-fn put_blocks(blocks: &[Block], out: &mut [u8; 2048]) -> usize
-    requires some { 0 < length blocks.now }
-    requires few { length blocks.now ≤ 15 }
-    ensures fits { result ≤ 2048 }
-    ensures text { take result out.new ≡ join_with_byte 32 (map encode_lower blocks.now) }
-{
-    let mut end = 0;
-    for block in blocks {
-        let space = put_block(block, end, out);
-        out[space] = SPACE;
-        end = space + 1;
-    }
-    // The space after the last block is not of the text.
-    end - 1
-}
-
-// Answers `enc KEY BLOCK`.
+// Answers `enc KEY BLOCKS`.
 #[tactic(auto, unfolding(crate::specs::Reply::answer_of))]
-fn encrypt(key: &[u8], block: &[u8], out: &mut [u8; 2048]) -> Result<usize, Fault>
+fn encrypt(key: &[u8], blocks: &[u8], out: &mut Room) -> Result<usize, Fault>
     requires key_digits { is_ok (decode_of key.now) ≡ true }
-    requires block_digits { is_ok (decode_of block.now) ≡ true }
-    ensures { IsPut (answer_of Command.Encrypt (decoded key.now) (decoded block.now)) result out.new }
+    requires block_digits { is_ok (decode_of blocks.now) ≡ true }
+    ensures { IsPut (answer_of Command.Encrypt (decoded key.now) (decoded blocks.now)) result out.new }
 {
-    let key = sixteen(key, Fault::Key)?;
-    let mut block = sixteen(block, Fault::Block)?;
-    library::encrypt(&key, &mut block);
-    Ok(put_block(&block, 0, out))
+    let key = Key::of_digits(key)?;
+    let mut room = [[0u8; 16]; MOST_BLOCKS];
+    let count = put_blocks_of(blocks, &mut room)?;
+    key.encrypt(&mut room[..count]);
+    Ok(put_joined(&room[..count], out))
 }
 
-// Answers `dec KEY BLOCK`.
+// Answers `dec KEY BLOCKS`.
 #[tactic(auto, unfolding(crate::specs::Reply::answer_of))]
-fn decrypt(key: &[u8], block: &[u8], out: &mut [u8; 2048]) -> Result<usize, Fault>
+fn decrypt(key: &[u8], blocks: &[u8], out: &mut Room) -> Result<usize, Fault>
     requires key_digits { is_ok (decode_of key.now) ≡ true }
-    requires block_digits { is_ok (decode_of block.now) ≡ true }
-    ensures { IsPut (answer_of Command.Decrypt (decoded key.now) (decoded block.now)) result out.new }
+    requires block_digits { is_ok (decode_of blocks.now) ≡ true }
+    ensures { IsPut (answer_of Command.Decrypt (decoded key.now) (decoded blocks.now)) result out.new }
 {
-    let key = sixteen(key, Fault::Key)?;
-    let mut block = sixteen(block, Fault::Block)?;
-    library::decrypt(&key, &mut block);
-    Ok(put_block(&block, 0, out))
+    let key = Key::of_digits(key)?;
+    let mut room = [[0u8; 16]; MOST_BLOCKS];
+    let count = put_blocks_of(blocks, &mut room)?;
+    key.decrypt(&mut room[..count]);
+    Ok(put_joined(&room[..count], out))
 }
 
 // Answers `round BLOCK KEY`.
 #[tactic(auto, unfolding(crate::specs::Reply::answer_of))]
-fn round(block: &[u8], key: &[u8], out: &mut [u8; 2048]) -> Result<usize, Fault>
+fn round(block: &[u8], key: &[u8], out: &mut Room) -> Result<usize, Fault>
     requires block_digits { is_ok (decode_of block.now) ≡ true }
     requires key_digits { is_ok (decode_of key.now) ≡ true }
     ensures { IsPut (answer_of Command.Round (decoded block.now) (decoded key.now)) result out.new }
 {
-    let mut block = sixteen(block, Fault::Block)?;
-    let key = sixteen(key, Fault::Block)?;
+    let mut block = block_of(block)?;
+    let key = block_of(key)?;
     hazmat::cipher_round(&mut block, &key);
     Ok(put_block(&block, 0, out))
 }
 
 // Answers `invround BLOCK KEY`.
 #[tactic(auto, unfolding(crate::specs::Reply::answer_of))]
-fn inverse_round(block: &[u8], key: &[u8], out: &mut [u8; 2048]) -> Result<usize, Fault>
+fn inverse_round(block: &[u8], key: &[u8], out: &mut Room) -> Result<usize, Fault>
     requires block_digits { is_ok (decode_of block.now) ≡ true }
     requires key_digits { is_ok (decode_of key.now) ≡ true }
     ensures { IsPut (answer_of Command.InverseRound (decoded block.now) (decoded key.now)) result out.new }
 {
-    let mut block = sixteen(block, Fault::Block)?;
-    let key = sixteen(key, Fault::Block)?;
+    let mut block = block_of(block)?;
+    let key = block_of(key)?;
     hazmat::equiv_inv_cipher_round(&mut block, &key);
     Ok(put_block(&block, 0, out))
 }
 
 // Answers `mix BLOCK`.
 #[tactic(auto, unfolding(crate::specs::Reply::answer_of))]
-fn mix(block: &[u8], out: &mut [u8; 2048]) -> Result<usize, Fault>
+fn mix(block: &[u8], out: &mut Room) -> Result<usize, Fault>
     requires { is_ok (decode_of block.now) ≡ true }
     ensures { IsPut (answer_of Command.Mix (decoded block.now) []) result out.new }
 {
-    let mut block = sixteen(block, Fault::Block)?;
+    let mut block = block_of(block)?;
     hazmat::mix_columns(&mut block);
     Ok(put_block(&block, 0, out))
 }
 
 // Answers `invmix BLOCK`.
 #[tactic(auto, unfolding(crate::specs::Reply::answer_of))]
-fn inverse_mix(block: &[u8], out: &mut [u8; 2048]) -> Result<usize, Fault>
+fn inverse_mix(block: &[u8], out: &mut Room) -> Result<usize, Fault>
     requires { is_ok (decode_of block.now) ≡ true }
     ensures { IsPut (answer_of Command.InverseMix (decoded block.now) []) result out.new }
 {
-    let mut block = sixteen(block, Fault::Block)?;
+    let mut block = block_of(block)?;
     hazmat::inv_mix_columns(&mut block);
     Ok(put_block(&block, 0, out))
 }
 
 // Answers `sched KEY`.
 #[tactic(auto, unfolding(crate::specs::Reply::answer_of))]
-fn schedule(key: &[u8], out: &mut [u8; 2048]) -> Result<usize, Fault>
+fn schedule(key: &[u8], out: &mut Room) -> Result<usize, Fault>
     requires { is_ok (decode_of key.now) ≡ true }
     ensures { IsPut (answer_of Command.Schedule (decoded key.now) []) result out.new }
 {
-    let key = sixteen(key, Fault::Key)?;
-    let keys = expand_128(&key);
-    Ok(put_blocks(&keys, out))
+    Ok(match Key::of_digits(key)? {
+        Key::Bits128(key) => put_spaced(&expand_128(&key), out),
+        Key::Bits192(key) => put_spaced(&expand_192(&key), out),
+        Key::Bits256(key) => put_spaced(&expand_256(&key), out),
+    })
 }
 
-// Answers a line at the front of `out`.
-fn answer(line: &[u8], out: &mut [u8; 2048]) -> Result<usize, Fault>
-    ensures { IsPut (outcome_of line.now) result out.new }
+// Answers what a line asks for.
+#[tactic(auto, unfolding(crate::specs::Reply::answer_of))]
+fn answer_asked(asked: &Request<'_>, out: &mut Room) -> Result<usize, Fault>
+    requires first_digits { is_ok (decode_of asked.now.first.now) ≡ true }
+    requires second_digits { is_ok (decode_of asked.now.second.now) ≡ true }
+    ensures { IsPut (answer_of asked.now.command (decoded asked.now.first.now) (decoded asked.now.second.now)) result out.new }
 {
-    let asked = parse(line)?;
-    if !is_hex(asked.first) || !is_hex(asked.second) {
-        return Err(Fault::Hex);
-    }
     match asked.command {
         Command::Encrypt => encrypt(asked.first, asked.second, out),
         Command::Decrypt => decrypt(asked.first, asked.second, out),
@@ -145,6 +118,17 @@ fn answer(line: &[u8], out: &mut [u8; 2048]) -> Result<usize, Fault>
         Command::InverseMix => inverse_mix(asked.first, out),
         Command::Schedule => schedule(asked.first, out),
     }
+}
+
+// Answers a line at the front of `out`.
+fn answer(line: &[u8], out: &mut Room) -> Result<usize, Fault>
+    ensures { IsPut (outcome_of line.now) result out.new }
+{
+    let asked = parse(line)?;
+    if !is_hex(asked.first) || !is_hex(asked.second) {
+        return Err(Fault::Hex);
+    }
+    answer_asked(&asked, out)
 }
 
 /// Puts the reply to a line, without its line end, at the front of `out`, which has room for every reply.

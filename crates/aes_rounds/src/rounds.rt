@@ -1,10 +1,21 @@
-//! The key expansion and the cipher, made of single rounds.
+//! The key expansion, and the cipher and its inverse under any list of round keys, made of single
+//! rounds.
 
+mod both_keys;
+mod both_ways;
+mod decrypt;
+mod directions;
+mod eight;
 mod encrypt;
 mod expand;
-mod steps;
+mod inverted_keys;
+mod runs;
+mod states;
 #[cfg(test)]
 mod tests;
 
+pub use both_ways::Aes;
+pub use decrypt::AesDec;
+pub use eight::Eight;
 pub use encrypt::AesEnc;
-pub use expand::expand_128;
+pub use expand::{expand_128, expand_192, expand_256};

@@ -1,42 +1,43 @@
-//! Cipher block chaining over any block cipher.
+//! Cipher block chaining over any block cipher (SP 800-38A, 6.2): a mode as users write one, on blocks that are whole.
 
 ghost use Rattle.std.specs.Prelude.{◌≡◌};
 ghost use Rattle.aes_tests.specs.Cbc.{chained, unchained};
 
-use aes::Block;
-use aes_cipher::cipher::{BlockCipherDecrypt, BlockCipherEncrypt, RoundKeysUser, sum_of_blocks};
+use aes_cipher::cipher::{BlockCipherDecrypt, BlockCipherEncrypt, RoundKeysUser};
 use aes_planes::laws;
+use aes_planes::soft::utils::sum_of_blocks;
+use aes_planes::soft::word::Block;
 
-/// Encrypts the blocks in a chain that starts at `start`.
-pub fn cbc_encrypt<C: BlockCipherEncrypt>(cipher: &C, start: &Block, blocks: &mut [Block])
-    ensures { blocks.new ≡ chained (C.round_keys cipher.now) start.now blocks.old }
+/// Encrypts the blocks in a chain that begins with an initialization vector.
+pub fn cbc_encrypt<C: BlockCipherEncrypt>(cipher: &C, iv: &Block, blocks: &mut [Block])
+    ensures { blocks.new ≡ chained (C.round_keys cipher.now) iv.now blocks.old }
 {
-    let mut before = *start;
+    let mut previous = *iv;
     for i in 0..blocks.len() {
-        before = sum_of_blocks(&blocks[i], &before);
-        cipher.encrypt_block(&mut before);
-        blocks[i] = before;
+        previous = sum_of_blocks(&blocks[i], &previous);
+        cipher.encrypt_block(&mut previous);
+        blocks[i] = previous;
     }
 }
 
-/// Decrypts the blocks of a chain that starts at `start`.
-pub fn cbc_decrypt<C: BlockCipherDecrypt>(cipher: &C, start: &Block, blocks: &mut [Block])
-    ensures { blocks.new ≡ unchained (C.round_keys cipher.now) start.now blocks.old }
+/// Decrypts the blocks of a chain that begins with an initialization vector.
+pub fn cbc_decrypt<C: BlockCipherDecrypt>(cipher: &C, iv: &Block, blocks: &mut [Block])
+    ensures { blocks.new ≡ unchained (C.round_keys cipher.now) iv.now blocks.old }
 {
-    let mut before = *start;
+    let mut previous = *iv;
     for i in 0..blocks.len() {
-        let block = blocks[i];
-        let mut plain = block;
+        let mut plain = blocks[i];
         cipher.decrypt_block(&mut plain);
-        blocks[i] = sum_of_blocks(&plain, &before);
-        before = block;
+        plain = sum_of_blocks(&plain, &previous);
+        previous = blocks[i];
+        blocks[i] = plain;
     }
 }
 
-/// A chain there and back.
+/// Encrypts the blocks and decrypts them again: the blocks come back.
 pub fn cbc_there_and_back<C: BlockCipherEncrypt + BlockCipherDecrypt>(
     cipher: &C,
-    start: &Block,
+    iv: &Block,
     blocks: &mut [Block],
 )
     ensures { blocks.new ≡ blocks.old }
@@ -45,6 +46,6 @@ pub fn cbc_there_and_back<C: BlockCipherEncrypt + BlockCipherDecrypt>(
     laws::are_blocks(blocks);
     cipher.has_inverse_ciphers();
     cipher.has_round_keys();
-    cbc_encrypt(cipher, start, blocks);
-    cbc_decrypt(cipher, start, blocks);
+    cbc_encrypt(cipher, iv, blocks);
+    cbc_decrypt(cipher, iv, blocks);
 }

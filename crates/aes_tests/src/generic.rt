@@ -1,35 +1,23 @@
 //! Programs over any block cipher, with what they can prove.
 
-ghost use Rattle.std.specs.Prelude.{◌≡◌, ◌↔◌, IsTrue, length};
+ghost use Rattle.std.specs.Prelude.{◌≡◌, ◌≢◌, ◌↔◌, length, IsErr, IfOk};
 ghost use Rattle.aes_planes.specs.Fips197 as fips;
 
-use aes::{Aes128, Block};
-use aes_cipher::cipher::{BlockCipherDecrypt, BlockCipherEncrypt, KeyInit, RoundKeysUser};
+use aes_cipher::cipher::{
+    BlockCipherDecrypt, BlockCipherEncrypt, InvalidLength, KeyInit, RoundKeysUser,
+};
 use aes_planes::laws;
+use aes_planes::soft::word::Block;
 
-/// Encrypts a block under a key, and decrypts it again: the block comes back.
-pub fn back<C: KeyInit + BlockCipherEncrypt + BlockCipherDecrypt + Drop>(
-    key: &C::Key,
-    block: &mut Block,
-)
-    ensures { block.new ≡ block.old }
-{
-    laws::inverse_ciphers_with();
-    let cipher = C::new(key);
-    cipher.has_round_keys();
-    cipher.encrypt_block(block);
-    cipher.decrypt_block(block);
-}
-
-/// The same, with the block that stands between.
-pub fn there_and_back<C: KeyInit + BlockCipherEncrypt + BlockCipherDecrypt + Drop>(
-    key: &C::Key,
+/// Encrypts a block by a value that somebody else made, and decrypts it again: the block comes back. There is no key in
+/// sight, so the contract speaks of the value's round keys.
+pub fn there_and_back_by<C: BlockCipherEncrypt + BlockCipherDecrypt>(
+    cipher: &C,
     block: &mut Block,
 ) -> Block
-    ensures there { result ≡ fips.cipher (C.key_bytes key.now) block.old }
+    ensures there { result ≡ fips.cipher_with (C.round_keys cipher.now) block.old }
     ensures back { block.new ≡ block.old }
 {
-    let cipher = C::new(key);
     cipher.has_inverse_ciphers();
     cipher.encrypt_block(block);
     let there = *block;
@@ -37,53 +25,49 @@ pub fn there_and_back<C: KeyInit + BlockCipherEncrypt + BlockCipherDecrypt + Dro
     there
 }
 
-/// Encrypts a block under a key.
-pub fn under_key<C: KeyInit + BlockCipherEncrypt + Drop>(key: &C::Key, block: &mut Block)
-    ensures { block.new ≡ fips.cipher (C.key_bytes key.now) block.old }
+/// The same by a value made from a key. What stands between is the standard's cipher of that key.
+pub fn there_and_back<C: KeyInit + BlockCipherEncrypt + BlockCipherDecrypt + Drop>(
+    key: &C::Key,
+    block: &mut Block,
+) -> Block
+    ensures there { result ≡ fips.cipher (C.key_bytes key.now) block.old }
+    ensures back { block.new ≡ block.old }
 {
-    C::new(key).encrypt_block(block);
+    there_and_back_by(&C::new(key), block)
 }
 
-/// Encrypts and decrypts by a value that somebody else made.
-pub fn undo(cipher: &Aes128, block: &mut Block)
-    ensures { block.new ≡ block.old }
-{
-    cipher.has_inverse_ciphers();
-    cipher.encrypt_block(block);
-    cipher.decrypt_block(block);
-}
-
-/// The same over any cipher.
-pub fn undo_any<C: BlockCipherEncrypt + BlockCipherDecrypt>(cipher: &C, block: &mut Block)
-    ensures { block.new ≡ block.old }
-{
-    laws::inverse_ciphers_with();
-    cipher.has_round_keys();
-    cipher.decrypt_block(block);
-    cipher.encrypt_block(block);
-}
-
-/// A block there and back by a key of any size, of which the caller has the bytes alone.
-pub fn from_slice<C: KeyInit + BlockCipherEncrypt + BlockCipherDecrypt + Drop>(
+/// The same by a key that came as a slice.
+///
+/// # Errors
+///
+/// `InvalidLength` exactly where the slice doesn't have the size of a key.
+pub fn there_and_back_from_slice<C: KeyInit + BlockCipherEncrypt + BlockCipherDecrypt + Drop>(
     key: &[u8],
     block: &mut Block,
-) -> bool
+) -> Result<Block, InvalidLength>
+    ensures refusal { IsErr result ↔ (length key.now ≢ C.KEY_SIZE) }
+    ensures there { IfOk result (λ there. there ≡ fips.cipher key.now block.old) }
     ensures back { block.new ≡ block.old }
-    ensures taken { IsTrue result ↔ (length key.now ≡ C.KEY_SIZE) }
 {
-    match C::new_from_slice(key) {
-        Ok(cipher) => {
-            cipher.has_inverse_ciphers();
-            cipher.encrypt_block(block);
-            cipher.decrypt_block(block);
-            true
-        }
-        Err(_) => false,
-    }
+    let cipher = C::new_from_slice(key)?;
+    Ok(there_and_back_by(&cipher, block))
 }
 
-/// The key of a value has so many bytes.
-pub fn key_is_sized<C: KeyInit>(cipher: &C)
+/// Encrypts every block and decrypts every block: the blocks come back.
+pub fn blocks_there_and_back<C: BlockCipherEncrypt + BlockCipherDecrypt>(
+    cipher: &C,
+    blocks: &mut [Block],
+)
+    ensures { blocks.new ≡ blocks.old }
+{
+    laws::are_blocks(blocks);
+    cipher.has_inverse_ciphers();
+    cipher.encrypt_blocks(blocks);
+    cipher.decrypt_blocks(blocks);
+}
+
+/// The key of a value has as many bytes as its type says.
+pub fn has_sized_key<C: KeyInit>(cipher: &C)
     ensures { length (C.own_key cipher.now) ≡ C.KEY_SIZE }
 {
     cipher.has_key();

@@ -1,8 +1,11 @@
 //! Callers of the library, and tests over several of its crates.
 #![tactic(auto)]
 
+pub mod by_backend;
 pub mod callers;
 pub mod cbc;
+pub mod closures;
 pub mod generic;
+pub mod layers;
 #[cfg(test)]
 mod tests;

@@ -95,6 +95,9 @@ pub bit_low : (x w i : ℕ) → i < w → bit (x % 2 ^ w) i ≡ bit x i
 unfolding bit
 bit_low x w i h = ap (λ v. v == 1) (sym (bit_at_cat_low (x / 2 ^ w) w (x % 2 ^ w) i h) ∙ ap (λ v. bit_at v i) (shr_split x w))
 
+pub word_low_byte : (n x : ℕ) → 8 ≤ n → (i : ℕ) → i < 8 → bit (x % 256) i ≡ at (build n (bit x)) i
+word_low_byte n x h i k = bit_low x 8 i k ∙ reads n x i (omega arith)
+
 pub bit_shl_low : (x n i : ℕ) → i < n → bit (x * 2 ^ n) i ≡ false
 unfolding bit
 bit_shl_low x n i h = ap (λ v. v == 1) (ap (λ v. bit_at v i) (sym (add-zero (x * 2 ^ n))) ∙ bit_at_cat_low x n 0 i h ∙ bit_at-zero i)

@@ -1,49 +1,73 @@
-//! The cipher under any list of round keys.
+//! Encryption under any list of round keys.
 
 ghost use Rattle.std.specs.Prelude.{◌≡◌, ◌⊎◌, ◌≤◌, length};
-ghost use Rattle.aes_planes.specs.Fips197 as fips;
 
-use super::steps::{add_round_key, last_round};
-use aes::hazmat::cipher_round;
-use aes_cipher::cipher::RoundKeysUser;
+use super::both_keys::BothKeys;
+use super::both_ways::Aes;
+use super::decrypt::AesDec;
+use super::eight::Eight;
+use super::runs;
+use aes::hazmat::Block8;
+use aes_cipher::cipher::{BatchSizeUser, BlockCipherEncBackend, RoundKeysUser};
 use aes_planes::laws;
 use aes_planes::soft::word::Block;
 
 /// Encrypts round by round, under a list of RK round keys in the standard's order.
 #[derive(Drop)]
 pub struct AesEnc<const RK: usize> {
-    keys: [Block; RK],
-    pub ghost sized: { length keys ≡ RK },
-    pub ghost two_round_keys: { 2 ≤ length keys },
+    round_keys: [Block; RK],
+    ghost two_round_keys: { 2 ≤ length round_keys },
 }
 
 impl<const RK: usize> AesEnc<RK> {
     /// The cipher under these round keys, which need not be an expansion.
-    pub fn new(keys: &[Block; RK]) -> AesEnc<RK>
+    pub fn new(round_keys: &[Block; RK]) -> AesEnc<RK>
         requires { (RK ≡ 11) ⊎ (RK ≡ 13) ⊎ (RK ≡ 15) }
-        ensures { result.keys ≡ keys.now }
+        ensures { ⟦<AesEnc<RK> as RoundKeysUser>⟧.round_keys result ≡ round_keys.now }
     {
-        AesEnc { keys: *keys }
+        AesEnc {
+            round_keys: *round_keys,
+        }
     }
 
-    /// Leaves Cipher of the block, under the round keys (FIPS 197, 5.1).
-    pub fn encrypt_block(&self, block: &mut Block)
-        ensures { block.new ≡ fips.cipher_with self.now.keys block.old }
+    /// The cipher and its inverse under the same round keys.
+    pub fn as_encdec(&self) -> Aes<RK>
+        ensures { ⟦<Aes<RK> as RoundKeysUser>⟧.round_keys result ≡ ⟦<AesEnc<RK> as RoundKeysUser>⟧.round_keys self.now }
     {
-        add_round_key(block, &self.keys[0]);
-        for round in 1..RK - 1 {
-            cipher_round(block, &self.keys[round]);
-        }
-        last_round(block, &self.keys[RK - 1]);
+        let keys = BothKeys::new(&self.round_keys);
+        Aes { keys }
+    }
+
+    /// The inverse cipher under the same round keys.
+    pub fn as_dec(&self) -> AesDec<RK>
+        ensures { ⟦<AesDec<RK> as RoundKeysUser>⟧.round_keys result ≡ ⟦<AesEnc<RK> as RoundKeysUser>⟧.round_keys self.now }
+    {
+        let keys = BothKeys::new(&self.round_keys);
+        AesDec { keys }
     }
 }
 
 impl<const RK: usize> RoundKeysUser for AesEnc<RK> {
-    ghost round_keys = { λ cipher. cipher.keys };
+    ghost round_keys = { λ cipher. cipher.round_keys };
 
     fn has_round_keys(&self) {
-        laws::are_blocks(&self.keys);
+        laws::are_blocks(&self.round_keys);
     }
 
     ghost two_round_keys = { λ cipher. cipher.two_round_keys };
+}
+
+impl<const RK: usize> BatchSizeUser for AesEnc<RK> {
+    type Par = Eight;
+}
+
+impl<const RK: usize> BlockCipherEncBackend for AesEnc<RK> {
+    fn encrypt_block(&self, block: &mut Block) {
+        runs::encrypt(block, &self.round_keys);
+    }
+
+    fn encrypt_par_blocks(&self, blocks: &mut [Block]) {
+        let batch: &mut Block8 = blocks.as_mut_array().unwrap();
+        runs::encrypt(batch, &self.round_keys);
+    }
 }

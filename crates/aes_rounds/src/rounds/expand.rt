@@ -3,24 +3,51 @@
 ghost use Rattle.std.specs.Prelude.{◌≡◌, ◌*◌, ◌+◌, ◌/◌, ◌<◌, ◌≤◌, ℕ, length, slice_index, slice_index_or, []};
 ghost use Rattle.aes_planes.specs.Fips197 as fips;
 
-use super::steps::substitute_and_shift;
+use super::directions::Encrypting;
+use super::runs::last_step;
 use aes_planes::soft::word::Block;
 
-/// Four bytes: a column of a block, and the unit of the key expansion.
+// Four bytes: a column of a block, and the unit of the key expansion.
 type KeyWord = [u8; 4];
 
-/// The first bytes of Rcon, from round 1 on (FIPS 197, 5.2).
+// The first bytes of Rcon, from round 1 on (FIPS 197, 5.2).
 const ROUND_CONSTANTS: [u8; 10] = [0x01, 0x02, 0x04, 0x08, 0x10, 0x20, 0x40, 0x80, 0x1b, 0x36];
 
 /// KeyExpansion of a key of 16 bytes (FIPS 197, 5.2).
 pub fn expand_128(key: &[u8; 16]) -> [Block; 11]
     ensures { result ≡ fips.key_expansion key.now }
 {
-    let words = expand_words::<44>(key);
+    expand::<11, 44>(key)
+}
+
+/// KeyExpansion of a key of 24 bytes (FIPS 197, 5.2).
+pub fn expand_192(key: &[u8; 24]) -> [Block; 13]
+    ensures { result ≡ fips.key_expansion key.now }
+{
+    expand::<13, 52>(key)
+}
+
+/// KeyExpansion of a key of 32 bytes (FIPS 197, 5.2).
+pub fn expand_256(key: &[u8; 32]) -> [Block; 15]
+    ensures { result ≡ fips.key_expansion key.now }
+{
+    expand::<15, 60>(key)
+}
+
+// KeyExpansion of a key whose schedule has RK round keys, made of WORDS words.
+fn expand<const RK: usize, const WORDS: usize>(key: &[u8]) -> [Block; RK]
+    requires whole_words { length key.now ≡ 4 * fips.key_words key.now }
+    requires four_words { 4 ≤ fips.key_words key.now }
+    requires few_words { fips.key_words key.now ≤ 8 }
+    requires rounds { RK ≡ fips.rounds key.now + 1 }
+    requires words { WORDS ≡ 4 * RK }
+    ensures { result ≡ fips.key_expansion key.now }
+{
+    let words = expand_words::<WORDS>(key);
     round_keys(&words)
 }
 
-/// The first WORDS words of the key schedule.
+// The first WORDS words of the key schedule.
 fn expand_words<const WORDS: usize>(key: &[u8]) -> [KeyWord; WORDS]
     requires whole_words { length key.now ≡ 4 * fips.key_words key.now }
     requires some_word { 1 ≤ fips.key_words key.now }
@@ -39,7 +66,7 @@ fn expand_words<const WORDS: usize>(key: &[u8]) -> [KeyWord; WORDS]
     words
 }
 
-/// Word i of a key.
+// Word i of a key.
 fn key_word(key: &[u8], i: usize) -> KeyWord
     requires { 4 * i + 4 ≤ length key.now }
     ensures { result ≡ fips.key_word key.now i }
@@ -47,7 +74,7 @@ fn key_word(key: &[u8], i: usize) -> KeyWord
     [key[4 * i], key[4 * i + 1], key[4 * i + 2], key[4 * i + 3]]
 }
 
-/// What is added to the word `key_words` places before word i, made of the word just before it.
+// What is added to the word `key_words` places before word i, made of the word just before it.
 fn added_word(key_words: usize, i: usize, before: KeyWord) -> KeyWord
     requires some_word { 1 ≤ key_words }
     requires later { key_words ≤ i }
@@ -63,7 +90,7 @@ fn added_word(key_words: usize, i: usize, before: KeyWord) -> KeyWord
     }
 }
 
-/// Rcon.
+// Rcon.
 fn round_constant(i: usize) -> KeyWord
     requires from_one { 1 ≤ i }
     requires to_ten { i ≤ 10 }
@@ -72,30 +99,30 @@ fn round_constant(i: usize) -> KeyWord
     [ROUND_CONSTANTS[i - 1], 0, 0, 0]
 }
 
-/// RotWord.
+// RotWord.
 fn rot_word(word: KeyWord) -> KeyWord
     ensures { result ≡ fips.rot_word word }
 {
     [word[1], word[2], word[3], word[0]]
 }
 
-/// SubWord: SubBytes of the word in four columns, which ShiftRows leaves alone.
+// SubWord: SubBytes of the word in four columns, which ShiftRows leaves alone.
 fn sub_word(word: &KeyWord) -> KeyWord
     ensures { result ≡ fips.sub_word word.now }
 {
     let mut block = block_of([*word; 4]);
-    substitute_and_shift(&mut block);
+    last_step::<Encrypting, Block>(&mut block);
     [block[0], block[1], block[2], block[3]]
 }
 
-/// The sum of two words.
+// The sum of two words.
 fn add_words(v: KeyWord, w: KeyWord) -> KeyWord
     ensures { result ≡ fips.add_words v w }
 {
     [v[0] ^ w[0], v[1] ^ w[1], v[2] ^ w[2], v[3] ^ w[3]]
 }
 
-/// The block with these four columns.
+// The block with these four columns.
 fn block_of(columns: [KeyWord; 4]) -> Block
     ensures { result ≡ fips.state (λ r c. slice_index (slice_index_or columns c []) r) }
 {
@@ -106,7 +133,7 @@ fn block_of(columns: [KeyWord; 4]) -> Block
     ]
 }
 
-/// The words of a key schedule, four to a block.
+// The words of a key schedule, four to a block.
 fn round_keys<const RK: usize>(words: &[KeyWord]) -> [Block; RK]
     requires { length words.now ≡ 4 * RK }
     ensures { result ≡ fips.blocks_of RK words.now }

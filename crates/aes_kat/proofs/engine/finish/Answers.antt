@@ -1,19 +1,18 @@
 -- What is left to show of `engine::finish`.
-use Rattle.std.proofs.Common.{◌≢◌, ◌<◌, ◌++◌, ◌∙◌, length, sym, ap, append-nil, arith}
-use Rattle.std.proofs.lemmas.Bool.{eqb-true, eqb-false}
-use Rattle.aes_kat.proofs.AnswersLemmas.{answers_to-empty, has_fault-empty, answers_to-last, has_fault-last}
+use Rattle.std.proofs.Common.{ap, ◌++◌, ◌∙◌}
+use Rattle.std.proofs.KnownBytes.{Appends-kept}
+use Rattle.aes_kat.specs.Answers.{answers_to}
+use Rattle.aes_kat.proofs.AnswersLemmas.{OnErr-from, AppendsBeginning-whole}
 use Rattle.aes_kat.proofs.engine.finish.Goals as goal
 
-pub returns-then-is_empty : goal.returns-then-is_empty
-returns-then-is_empty g c =
-    let none = eqb-true (length c.args.line.now) 0 (sym c.is_empty.ensures ∙ c.if-is_empty.true) in
-    record {
-      text = sym (ap (λ xs. c.args.answers.now.items ++ xs) (answers_to-empty c.args.line.now none) ∙ append-nil c.args.answers.now.items);
-      fault = sym (has_fault-empty c.args.line.now none);
-    }
+pub returns-in_err-write_whole-clause-stopped : goal.returns-in_err-write_whole-clause-stopped
+returns-in_err-write_whole-clause-stopped g c = let gathered = c.as_slice.ensures.value ∙ c.in_ok-fault.ensures.text ∙ ap (λ xs. xs ++ answers_to c.args.line.now) c.clear.ensures.items in
+    OnErr-from _ _ (rw gathered at c.in_err-write_whole.ensures.beginning)
 
-pub returns : goal.returns
-returns g c =
-    let ne : length c.args.line.now ≢ 0 = eqb-false (length c.args.line.now) 0 (sym c.is_empty.ensures ∙ c.if-is_empty.false) in
-    let some : 0 < length c.args.line.now = omega (arith, ne) in
-    rw (answers_to-last c.args.line.now c.requires some, has_fault-last c.args.line.now c.requires some) c.answer.ensures
+pub returns-in_err-flush-clause-stopped : goal.returns-in_err-flush-clause-stopped
+returns-in_err-flush-clause-stopped g c = let gathered = c.as_slice.ensures.value ∙ c.in_ok-fault.ensures.text ∙ ap (λ xs. xs ++ answers_to c.args.line.now) c.clear.ensures.items in
+    OnErr-from _ _ (AppendsBeginning-whole _ _ _ (Appends-kept _ _ _ _ (rw gathered at c.in_ok-write_whole.ensures.all) c.in_err-flush.ensures.bytes))
+
+pub returns-clause-written : goal.returns-clause-written
+returns-clause-written g c = let gathered = c.as_slice.ensures.value ∙ c.in_ok-fault.ensures.text ∙ ap (λ xs. xs ++ answers_to c.args.line.now) c.clear.ensures.items in
+    Appends-kept _ _ _ _ (rw gathered at c.in_ok-write_whole.ensures.all) c.in_ok-flush.ensures.bytes

@@ -126,6 +126,11 @@ impl Word for u128 {
     }
 
     #[inline(always)]
+    fn low_byte(self) -> u8 {
+        (self % 256) as u8
+    }
+
+    #[inline(always)]
     fn bitslice(output: &mut [u128; 8], input: &Blocks8) {
         let b0 = input.get(0);
         let b1 = input.get(1);

@@ -97,6 +97,11 @@ impl Word for u32 {
     }
 
     #[inline(always)]
+    fn low_byte(self) -> u8 {
+        (self % 256) as u8
+    }
+
+    #[inline(always)]
     fn bitslice(output: &mut [u32; 8], input: &Blocks2) {
         let b0 = input.get(0);
         let b1 = input.get(1);

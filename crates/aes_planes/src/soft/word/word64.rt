@@ -99,6 +99,11 @@ impl Word for u64 {
     }
 
     #[inline(always)]
+    fn low_byte(self) -> u8 {
+        (self % 256) as u8
+    }
+
+    #[inline(always)]
     fn broadcast(x: u16) -> u64 {
         each_four_times(x as u64)
     }

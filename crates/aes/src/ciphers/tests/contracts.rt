@@ -1,0 +1,55 @@
+//! What a user's clauses can name: a type by its name alone.
+
+ghost use Rattle.std.specs.Prelude.{◌≡◌, ◌+◌, length};
+ghost use Rattle.aes_planes.specs.Each.{Each};
+ghost use Rattle.aes_planes.specs.Fips197 as fips;
+ghost use Rattle.aes_soft.specs.Batches.{layers_for};
+
+use super::different_blocks;
+use crate::{Aes128, Aes128Dec, Aes192, Aes256Enc};
+use aes_cipher::cipher::{BlockCipherDecrypt, BlockCipherEncrypt, KeyInit};
+use aes_planes::soft::sbox::Layers;
+use aes_planes::soft::word::Block;
+
+/// A block encrypted under a value's key.
+fn encrypt_192(cipher: &Aes192, block: &mut Block)
+    ensures { block.new ≡ fips.cipher cipher.now block.old }
+{
+    cipher.encrypt_block(block);
+}
+
+/// A block decrypted under a key.
+fn decrypt_128(key: &[u8; 16], block: &mut Block)
+    ensures { block.new ≡ fips.inv_cipher key.now block.old }
+{
+    Aes128Dec::new(key).decrypt_block(block);
+}
+
+/// Blocks encrypted, and the layers that it took.
+fn encrypt_256(cipher: &Aes256Enc, blocks: &mut [Block], layers: &mut Layers)
+    ensures blocks { Each (fips.cipher cipher.now) blocks.old blocks.new }
+    ensures layers { layers.new ≡ layers.old + layers_for 14 (length blocks.old) }
+{
+    cipher.encrypt_blocks_counted(blocks, layers);
+}
+
+/// The layers of a schedule, and of two batches and a block each way: 10 of each.
+fn run_all_calls(key: &[u8; 16], blocks: &mut [Block; 17], layers: &mut Layers)
+    ensures { layers.new ≡ layers.old + 70 }
+{
+    let cipher = Aes128::new_counted(key, layers);
+    cipher.encrypt_blocks_counted(blocks, layers);
+    cipher.decrypt_blocks_counted(blocks, layers);
+}
+
+#[test]
+fn answers_where_clauses_name_a_type(rt: HostRuntime) {
+    let mut layers = Layers::new();
+    let mut blocks = different_blocks();
+    run_all_calls(&[3; 16], &mut blocks, &mut layers);
+    assert!(rt; blocks == different_blocks());
+    encrypt_192(&Aes192::new(&[4; 24]), &mut blocks[0]);
+    encrypt_256(&Aes256Enc::new(&[5; 32]), &mut blocks[1..], &mut layers);
+    decrypt_128(&[6; 16], &mut blocks[1]);
+    assert!(rt; blocks != different_blocks());
+}

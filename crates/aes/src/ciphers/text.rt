@@ -1,0 +1,21 @@
+//! The names of the ciphers, as text. Nothing of a key is written.
+
+use super::{AesCipher, Direction};
+use aes_cipher::cipher::AlgorithmName;
+use aes_soft::soft::sizes::KeySize;
+use std::fmt;
+
+impl<K: KeySize, D: Direction> fmt::Debug for AesCipher<K, D> {
+    fn fmt<W: fmt::Write>(&self, f: &mut fmt::Formatter<W>) -> fmt::Result {
+        f.write_str(K::NAME)?;
+        f.write_str(D::SUFFIX)?;
+        f.write_str(" { .. }")
+    }
+}
+
+impl<K: KeySize, D: Direction> AlgorithmName for AesCipher<K, D> {
+    fn write_alg_name<W: fmt::Write>(f: &mut fmt::Formatter<W>) -> fmt::Result {
+        f.write_str(K::NAME)?;
+        f.write_str(D::SUFFIX)
+    }
+}

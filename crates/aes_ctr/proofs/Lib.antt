@@ -1,0 +1,5 @@
+-- The files of lemmas.
+pub mod Counters
+pub mod Places
+pub mod Runs
+pub mod Sums

@@ -1,0 +1,27 @@
+-- Which block of a row a byte falls in.
+use Rattle.std.proofs.Common.{◌≡◌, ℕ, ◌+◌, ◌*◌, ◌/◌, ◌%◌, ◌<◌, List, [], slice_index, slice_index_or, ap, ◌∙◌, arith}
+use Rattle.aes_planes.specs.Fips197.{cipher_with}
+use Rattle.aes_ctr.specs.CounterMode.{counter_block, keystream_byte}
+use Rattle.aes_ctr.specs.Private.{byte_of_blocks}
+
+-- a byte of the block that place p falls in
+pub byte_of_block : (blocks : List (List ℕ)) (p i : ℕ) → p % 16 + i < 16
+    → slice_index (slice_index_or blocks (p / 16) []) (p % 16 + i) ≡ byte_of_blocks blocks (p + i)
+unfolding byte_of_blocks
+byte_of_block blocks p i inside =
+    let block : p / 16 ≡ (p + i) / 16 = omega arith in
+    let place : p % 16 + i ≡ (p + i) % 16 = omega arith in
+    ap (λ m. slice_index (slice_index_or blocks m []) (p % 16 + i)) block
+    ∙ ap (slice_index (slice_index_or blocks ((p + i) / 16) [])) place
+
+-- blocks of the keystream, from the one that place p falls in, hold the bytes of the keystream
+pub byte_of_keystream : (w : List (List ℕ)) (iv : List ℕ) (blocks : List (List ℕ)) (n p i : ℕ)
+    → ((m : ℕ) → m < n → slice_index_or blocks m [] ≡ cipher_with w (counter_block iv (p / 16 + m)))
+    → p % 16 + i < 16 * n → byte_of_blocks blocks (p % 16 + i) ≡ keystream_byte w iv (p + i)
+unfolding byte_of_blocks keystream_byte
+byte_of_keystream w iv blocks n p i filled inside =
+    let block : p / 16 + (p % 16 + i) / 16 ≡ (p + i) / 16 = omega arith in
+    let place : (p % 16 + i) % 16 ≡ (p + i) % 16 = omega arith in
+    ap (λ b. slice_index b ((p % 16 + i) % 16)) (filled ((p % 16 + i) / 16) (omega arith))
+    ∙ ap (λ m. slice_index (cipher_with w (counter_block iv m)) ((p % 16 + i) % 16)) block
+    ∙ ap (slice_index (cipher_with w (counter_block iv ((p + i) / 16)))) place

@@ -1,0 +1,5 @@
+//! What counter mode refuses.
+
+/// The keystream ends before the bytes do.
+#[derive(Debug, Clone, Copy, PartialEq, Eq)]
+pub struct KeystreamEnd;

@@ -1,0 +1,188 @@
+// Lines that are at fault.
+use super::{answers, check};
+use crate::reply;
+use std::test::Fail;
+
+#[test]
+fn reports_unknown_commands(rt: HostRuntime) -> Result<(), Fail> {
+    let rows = [
+        ("", "error command"),
+        (" ", "error command"),
+        ("enc", "error command"),
+        ("dec", "error command"),
+        ("mix", "error command"),
+        ("invmix", "error command"),
+        ("sched", "error command"),
+        ("round", "error command"),
+        ("invround", "error command"),
+        ("encrypt 00 00", "error command"),
+        (
+            "ENC 000102030405060708090a0b0c0d0e0f 00112233445566778899aabbccddeeff",
+            "error command",
+        ),
+        (
+            " enc 000102030405060708090a0b0c0d0e0f 00112233445566778899aabbccddeeff",
+            "error command",
+        ),
+        (
+            "enc 000102030405060708090a0b0c0d0e0f  00112233445566778899aabbccddeeff",
+            "error command",
+        ),
+        (
+            "enc 000102030405060708090a0b0c0d0e0f 00112233445566778899aabbccddeeff ",
+            "error command",
+        ),
+        ("round 00102030405060708090a0b0c0d0e0f0", "error command"),
+        (
+            "mix 6353e08c0960e104cd70b751bacad0e7 6353e08c0960e104cd70b751bacad0e7",
+            "error command",
+        ),
+        ("sched 000102030405060708090a0b0c0d0e0f ", "error command"),
+        ("mix 0g 0g", "error command"),
+    ];
+    check(&rt, &rows, 1)
+}
+
+#[test]
+fn reports_bad_digits(rt: HostRuntime) -> Result<(), Fail> {
+    let rows = [
+        ("enc 00 0g", "error hex"),
+        ("enc 0g 00", "error hex"),
+        ("enc 0 00", "error hex"),
+        ("mix 000", "error hex"),
+        ("round zz 00", "error hex"),
+    ];
+    check(&rt, &rows, 1)
+}
+
+#[test]
+fn reports_bad_keys(rt: HostRuntime) -> Result<(), Fail> {
+    let rows = [
+        ("enc 00 0000", "error key"),
+        ("enc 00 00", "error key"),
+        ("enc 00", "error key"),
+        // The key is looked at before the blocks.
+        ("enc 00 00112233445566778899aabbccddee", "error key"),
+        ("enc  000102030405060708090a0b0c0d0e0f", "error key"),
+        ("enc ", "error key"),
+        ("dec  ", "error key"),
+        ("sched ", "error key"),
+        ("sched 0001020304050607", "error key"),
+        (
+            "sched 000102030405060708090a0b0c0d0e0f10111213",
+            "error key",
+        ),
+        (
+            "enc 000102030405060708090a0b0c0d0e0f101112131415161718 00112233445566778899aabbccddeeff",
+            "error key",
+        ),
+        (
+            "dec 000102030405060708090a0b0c0d0e0f101112131415161718191a1b1c1d1e1f20 00112233445566778899aabbccddeeff",
+            "error key",
+        ),
+    ];
+    check(&rt, &rows, 1)
+}
+
+// A key has 16, 24 or 32 bytes, and no other number from 0 to 64.
+#[test]
+fn refuses_keys_of_other_sizes(rt: HostRuntime) -> Result<(), Fail> {
+    let digits = [b'5'; 128];
+    for command in ["enc ", "dec ", "sched "] {
+        for size in 0..65usize {
+            let mut line = Vec::new(rt.alloc());
+            line.extend_from_slice(command.as_bytes())?;
+            line.extend_from_slice(&digits[..2 * size])?;
+            let mut out = [0; 2048];
+            let (length, fault) = reply(line.as_slice(), &mut out);
+            let is_key = matches!(size, 16 | 24 | 32);
+            assert_eq!(&rt; fault, !is_key, "at {command}{size}");
+            if fault {
+                assert_eq!(&rt; &out[..length.min(2048)], b"error key".as_slice());
+            }
+        }
+    }
+    Ok(())
+}
+
+#[test]
+fn reports_bad_blocks(rt: HostRuntime) -> Result<(), Fail> {
+    let rows = [
+        (
+            "enc 000102030405060708090a0b0c0d0e0f 00112233445566778899aabbccddee",
+            "error block",
+        ),
+        (
+            "dec 000102030405060708090a0b0c0d0e0f1011121314151617 00112233445566778899aabbccddeeff00",
+            "error block",
+        ),
+        (
+            "enc 000102030405060708090a0b0c0d0e0f101112131415161718191a1b1c1d1e1f 00",
+            "error block",
+        ),
+        ("mix ", "error block"),
+        ("mix 6353e08c0960e104cd70b751bacad0", "error block"),
+        ("invmix 6353e08c0960e104cd70b751bacad0", "error block"),
+        (
+            "mix 00112233445566778899aabbccddeeff00112233445566778899aabbccddeeff",
+            "error block",
+        ),
+        (
+            "round 00102030405060708090a0b0c0d0e0f0 000102030405060708090a0b0c0d0e0f1011121314151617",
+            "error block",
+        ),
+        (
+            "invround 00 13aa29be9c8faff6f770f58000f7bf03",
+            "error block",
+        ),
+    ];
+    check(&rt, &rows, 1)
+}
+
+// 65 blocks are one too many, whatever their digits; so are 1,048,576 digits.
+#[test]
+fn refuses_more_than_64_blocks(rt: HostRuntime) -> Result<(), Fail> {
+    for digits in [65 * 32, 66 * 32, 128 * 32, 1_048_576] {
+        let mut line = Vec::new(rt.alloc());
+        line.extend_from_slice(b"enc 000102030405060708090a0b0c0d0e0f ")?;
+        for _ in 0..digits {
+            line.push(b'0')?;
+        }
+        let (output, status) = answers(rt.alloc(), line.as_slice());
+        assert_eq!(&rt;
+            output.as_slice(),
+            b"error block\n".as_slice(),
+            "at {digits}"
+        );
+        assert_eq!(&rt; status, 1);
+    }
+    Ok(())
+}
+
+// Words are bytes, and need not be text.
+#[test]
+fn reports_bytes_that_are_no_text(rt: HostRuntime) -> Result<(), Fail> {
+    let (output, status) = answers(rt.alloc(), b"mix \xff\n\xff\nmix \x00\xff");
+    assert_eq!(&rt;
+        output.as_slice(),
+        b"error hex\nerror command\nerror hex\n".as_slice()
+    );
+    assert_eq!(&rt; status, 1);
+    Ok(())
+}
+
+// Line ends of two bytes leave a byte 0d in the last word.
+#[test]
+fn reports_carriage_returns(rt: HostRuntime) -> Result<(), Fail> {
+    let rows = [
+        (
+            "enc 000102030405060708090a0b0c0d0e0f 00112233445566778899aabbccddeeff\r",
+            "error hex",
+        ),
+        ("enc 000102030405060708090a0b0c0d0e0f\r", "error hex"),
+        ("enc 000102030405060708090a0b0c0d0e0f \r", "error hex"),
+        ("mix\r", "error command"),
+        ("\r", "error command"),
+    ];
+    check(&rt, &rows, 1)
+}

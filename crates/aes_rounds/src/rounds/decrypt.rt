@@ -1,0 +1,53 @@
+//! Decryption under any list of round keys.
+
+ghost use Rattle.std.specs.Prelude.{◌≡◌, ◌⊎◌};
+
+use super::both_keys::BothKeys;
+use super::eight::Eight;
+use aes::hazmat::Block8;
+use aes_cipher::cipher::{BatchSizeUser, BlockCipherDecBackend, RoundKeysUser};
+use aes_planes::laws;
+use aes_planes::soft::word::Block;
+
+/// Decrypts round by round, under a list of RK round keys in the standard's order.
+#[derive(Drop)]
+pub struct AesDec<const RK: usize> {
+    pub(super) keys: BothKeys<RK>,
+}
+
+impl<const RK: usize> AesDec<RK> {
+    /// The inverse cipher under these round keys, which need not be an expansion.
+    pub fn new(round_keys: &[Block; RK]) -> AesDec<RK>
+        requires { (RK ≡ 11) ⊎ (RK ≡ 13) ⊎ (RK ≡ 15) }
+        ensures { ⟦<AesDec<RK> as RoundKeysUser>⟧.round_keys result ≡ round_keys.now }
+    {
+        AesDec {
+            keys: BothKeys::new(round_keys),
+        }
+    }
+}
+
+impl<const RK: usize> RoundKeysUser for AesDec<RK> {
+    ghost round_keys = { λ cipher. cipher.keys.round_keys };
+
+    fn has_round_keys(&self) {
+        laws::are_blocks(&self.keys.round_keys);
+    }
+
+    ghost two_round_keys = { λ cipher. cipher.keys.two_round_keys };
+}
+
+impl<const RK: usize> BatchSizeUser for AesDec<RK> {
+    type Par = Eight;
+}
+
+impl<const RK: usize> BlockCipherDecBackend for AesDec<RK> {
+    fn decrypt_block(&self, block: &mut Block) {
+        self.keys.decrypt(block);
+    }
+
+    fn decrypt_par_blocks(&self, blocks: &mut [Block]) {
+        let batch: &mut Block8 = blocks.as_mut_array().unwrap();
+        self.keys.decrypt(batch);
+    }
+}

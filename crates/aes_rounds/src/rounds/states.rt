@@ -1,0 +1,76 @@
+//! What goes through the rounds at once: one block, or eight.
+
+ghost use Rattle.std.specs.Prelude.{◌≡◌, ℕ, ◌<◌, List, [], ◌∷◌, length, map, slice_index_or};
+ghost use Rattle.aes_planes.specs.Fips197 as fips;
+
+use super::directions::Direction;
+use aes::hazmat::Block8;
+use aes_planes::laws;
+use aes_planes::soft::utils::sum_of_blocks;
+use aes_planes::soft::word::Block;
+
+// Blocks that go through the rounds together, under the same round keys.
+pub(super) trait States {
+    // The blocks.
+    ghost blocks: { Self → List (List ℕ) };
+
+    // Leaves AddRoundKey of each block (FIPS 197, 5.1.4).
+    fn add_round_key(&mut self, round_key: &Block)
+        ensures { blocks self.new ≡ map (λ b. fips.add_round_key b round_key.now) (blocks self.old) };
+
+    // Leaves a round of each block.
+    fn round<D: Direction>(&mut self, round_key: &Block)
+        ensures { blocks self.new ≡ map (λ b. fips.add_round_key (D.step b) round_key.now) (blocks self.old) };
+
+    // Takes the mixing of a round back in each block.
+    fn unmix<D: Direction>(&mut self)
+        ensures { blocks self.new ≡ map D.unmixed (blocks self.old) };
+
+    // Nothing: a call has in its contract that these are blocks of the standard.
+    fn are_blocks(&self)
+        ensures { (i : ℕ) → i < length (blocks self.now) → fips.IsBlock (slice_index_or (blocks self.now) i []) };
+}
+
+impl States for Block {
+    ghost blocks = { λ block. block ∷ [] };
+
+    fn add_round_key(&mut self, round_key: &Block) {
+        *self = sum_of_blocks(self, round_key);
+    }
+
+    fn round<D: Direction>(&mut self, round_key: &Block) {
+        D::round(self, round_key);
+    }
+
+    fn unmix<D: Direction>(&mut self) {
+        D::unmix(self);
+    }
+
+    fn are_blocks(&self) {
+        laws::are_blocks(&[*self]);
+    }
+}
+
+impl States for Block8 {
+    ghost blocks = { λ blocks. blocks };
+
+    fn add_round_key(&mut self, round_key: &Block) {
+        for block in self.iter_mut() {
+            *block = sum_of_blocks(block, round_key);
+        }
+    }
+
+    fn round<D: Direction>(&mut self, round_key: &Block) {
+        D::round_par(self, &[*round_key; 8]);
+    }
+
+    fn unmix<D: Direction>(&mut self) {
+        for block in self.iter_mut() {
+            D::unmix(block);
+        }
+    }
+
+    fn are_blocks(&self) {
+        laws::are_blocks(self);
+    }
+}

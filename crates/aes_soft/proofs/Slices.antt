@@ -1,0 +1,44 @@
+-- Slices that are copied element by element, and worked batch by batch.
+use Rattle.std.proofs.Common.{◌≡◌, ℕ, ◌+◌, ◌-◌, ◌*◌, ◌/◌, ◌%◌, ◌<◌, ◌≤◌, List, [], ◌∷◌, ◌++◌, length, map, take, drop, set, get_or, refl, sym, ap, subst, ◌∙◌, arith}
+use Rattle.std.proofs.Math.Nat.{add-div_right, mod-eq-sub-mod}
+use Rattle.std.proofs.lemmas.List.{take_more, take_more_set, take_all, drop_all, append-nil}
+use Rattle.aes_cipher.proofs.SliceRuns.{finished, finished_run}
+
+-- one more element is copied
+pub one_more_same : {X : Type 0} (xs ys : List X) (k : ℕ) (y d : X) → k < length xs → k < length ys → y ≡ get_or ys k d
+    → take k xs ≡ take k ys → take (k + 1) (set xs k y) ≡ take (k + 1) ys
+one_more_same xs ys k y d lx ly is e =
+    take_more_set xs k y lx ∙ ap (λ l. l ++ y ∷ []) e ∙ ap (λ z. take k ys ++ z ∷ []) is ∙ sym (take_more ys k d ly)
+
+-- and then all of them are
+pub all_same : {X : Type 0} (xs ys : List X) (n k : ℕ) → length xs ≡ n → length ys ≡ n → n ≤ k → take k xs ≡ take k ys → xs ≡ ys
+all_same xs ys n k lx ly le e = sym (take_all k xs (omega arith)) ∙ e ∙ take_all k ys (omega arith)
+
+-- where whole batches of s are left, and not none, one of them fits
+pub one_fits : (m s : ℕ) → 0 < m → m % s ≡ 0 → s ≤ m
+one_fits m s some e = grind (arith, some, e)
+
+-- where m blocks are left, one batch of s more: what is left are whole batches still
+pub whole_left : (m s : ℕ) → s ≤ m → m % s ≡ 0 → (m - s) % s ≡ 0
+whole_left m s le e = sym (mod-eq-sub-mod le) ∙ e
+
+-- in r rounds each
+pub one_batch_less : (r m s : ℕ) → 0 < s → s ≤ m → r * (m / s) ≡ r + r * ((m - s) / s)
+one_batch_less r m s some le =
+    let same : m - s + s ≡ m = omega arith in
+    let e : m / s ≡ (m - s) / s + 1 = ap (λ v. v / s) (sym same) ∙ add-div_right (m - s) some in
+    ap (λ v. r * v) e ∙ grind arith
+
+-- where nothing is left, every element is finished
+pub all_finished : {X : Type 0} (f : X → X) (n : ℕ) (xs : List X) → length xs ≤ n → finished f n xs ≡ xs
+all_finished f n xs le = ap (λ l. take n xs ++ map f l) (drop_all n xs le) ∙ append-nil (take n xs) ∙ take_all n xs le
+
+-- f of the first n elements, written in their places
+pub front_finished : {X : Type 0} (f : X → X) (n : ℕ) (xs ys : List X) → n ≤ length xs → ys ≡ map f (take n xs) → finished f n (ys ++ drop n xs) ≡ map f xs
+front_finished f n xs ys le is =
+    let e : 0 + n ≡ n = omega arith in
+    subst (λ k. finished f k (ys ++ drop n xs) ≡ map f xs) e (finished_run f 0 n n xs ys refl (omega arith) is)
+
+-- and of none
+pub none_finished : {X : Type 0} (f : X → X) (n : ℕ) (xs : List X) → n ≡ 0 → finished f n xs ≡ map f xs
+none_finished f n xs e = ap (λ k. finished f k xs) e

@@ -1,0 +1,10 @@
+-- What is left to show of `soft::sizes::reads_keys`.
+use Rattle.std.proofs.Common.{arith}
+use Rattle.aes_soft.proofs.Keyed.{key_of-length, key_of-bytes}
+use Rattle.aes_soft.proofs.soft.sizes.reads_keys.Goals as goal
+
+pub returns-clause-sized : goal.returns-clause-sized
+returns-clause-sized c = λ size layout planes le. key_of-length size 1 layout planes (omega arith) le
+
+pub returns-clause-bytes : goal.returns-clause-bytes
+returns-clause-bytes c = λ size layout planes. key_of-bytes size 1 layout planes (omega arith)

@@ -1,0 +1,10 @@
+-- How many S-box layers it takes to work a slice of blocks.
+use Rattle.std.specs.Prelude.{ℕ, ◌+◌, ◌*◌, ◌/◌, ◌%◌}
+
+-- the blocks of a batch
+abbrev pub batch_blocks : ℕ
+batch_blocks = 8
+
+-- so many blocks in so many rounds: whole batches first, then single blocks
+abbrev pub layers_for : ℕ → ℕ → ℕ
+layers_for rounds n = rounds * (n / batch_blocks + n % batch_blocks)

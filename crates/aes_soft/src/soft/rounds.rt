@@ -1,0 +1,99 @@
+//! Rounds that leave their ShiftRows out: what the ciphers of both layouts are made of.
+ghost use Rattle.std.specs.Prelude.{◌≡◌, ℕ, ◌+◌, ◌*◌, ◌<◌, ◌≤◌, length, map};
+ghost use Rattle.aes_planes.specs.Fips197 as fips;
+ghost use Rattle.aes_planes.specs.Planes.{held, between_shifts, plus63, words_at, zip_with};
+
+use aes_planes::soft::mix_columns::{
+    inv_mix_columns_0, inv_mix_columns_1, inv_mix_columns_2, inv_mix_columns_3, mix_columns_0,
+    mix_columns_1, mix_columns_2, mix_columns_3,
+};
+use aes_planes::soft::sbox::{Layers, inv_sub_bytes, sub_bytes};
+use aes_planes::soft::utils::{add_round_key, round_key};
+use aes_planes::soft::word::Word;
+
+// Adds round key `i` to every block.
+#[inline(always)]
+pub(crate) fn add_key<W: Word>(state: &mut [W; 8], round_keys: &[W], i: usize)
+    requires room { 8 * i + 8 ≤ length round_keys.now }
+    ensures { held W.BLOCKS (map W.bits state.new)
+        ≡ zip_with fips.add_round_key (held W.BLOCKS (map W.bits state.old)) (held W.BLOCKS (map W.bits (words_at round_keys.now (8 * i)))) }
+{
+    let key = round_key(round_keys, i);
+    add_round_key(state, &key);
+}
+
+// Mixes the columns of every block between so many shifts of its rows and as many back.
+#[inline(always)]
+fn mix<W: Word>(state: &mut [W; 8], owed: usize)
+    requires below_four { owed < 4 }
+    ensures { held W.BLOCKS (map W.bits state.new) ≡ map (between_shifts owed fips.mix_columns) (held W.BLOCKS (map W.bits state.old)) }
+{
+    if owed == 0 {
+        mix_columns_0(state);
+    } else if owed == 1 {
+        mix_columns_1(state);
+    } else if owed == 2 {
+        mix_columns_2(state);
+    } else {
+        mix_columns_3(state);
+    }
+}
+
+// Undoes the mixing of the columns of every block between so many shifts of its rows and as many back.
+#[inline(always)]
+fn unmix<W: Word>(state: &mut [W; 8], owed: usize)
+    requires below_four { owed < 4 }
+    ensures { held W.BLOCKS (map W.bits state.new) ≡ map (between_shifts owed fips.inv_mix_columns) (held W.BLOCKS (map W.bits state.old)) }
+{
+    if owed == 0 {
+        inv_mix_columns_0(state);
+    } else if owed == 1 {
+        inv_mix_columns_1(state);
+    } else if owed == 2 {
+        inv_mix_columns_2(state);
+    } else {
+        inv_mix_columns_3(state);
+    }
+}
+
+// Round `i` but for its ShiftRows: with it, `owed` are owed.
+#[inline(always)]
+pub(crate) fn round<W: Word>(
+    state: &mut [W; 8],
+    round_keys: &[W],
+    i: usize,
+    owed: usize,
+    layers: &mut Layers,
+)
+    requires room { 8 * i + 8 ≤ length round_keys.now }
+    requires below_four { owed < 4 }
+    ensures blocks { held W.BLOCKS (map W.bits state.new)
+        ≡ zip_with fips.add_round_key (map (between_shifts owed fips.mix_columns) (map (map (λ b. plus63 (fips.sbox b))) (held W.BLOCKS (map W.bits state.old))))
+        (held W.BLOCKS (map W.bits (words_at round_keys.now (8 * i)))) }
+    ensures layers { layers.new ≡ layers.old + 1 }
+{
+    sub_bytes(state, layers);
+    mix(state, owed);
+    add_key(state, round_keys, i);
+}
+
+// Undoes the mixing of round `i`, and the substitution of the next, where `owed` ShiftRows are owed to the round key.
+#[inline(always)]
+pub(crate) fn inv_round<W: Word>(
+    state: &mut [W; 8],
+    round_keys: &[W],
+    i: usize,
+    owed: usize,
+    layers: &mut Layers,
+)
+    requires room { 8 * i + 8 ≤ length round_keys.now }
+    requires below_four { owed < 4 }
+    ensures blocks { held W.BLOCKS (map W.bits state.new)
+        ≡ map (map (λ b. fips.inv_sbox (plus63 b))) (map (between_shifts owed fips.inv_mix_columns)
+        (zip_with fips.add_round_key (held W.BLOCKS (map W.bits state.old)) (held W.BLOCKS (map W.bits (words_at round_keys.now (8 * i)))))) }
+    ensures layers { layers.new ≡ layers.old + 1 }
+{
+    add_key(state, round_keys, i);
+    unmix(state, owed);
+    inv_sub_bytes(state, layers);
+}

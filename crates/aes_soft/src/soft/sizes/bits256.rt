@@ -1,0 +1,39 @@
+//! Keys of 32 bytes.
+ghost use Rattle.std.specs.Prelude.{refl};
+
+use super::{BatchWord, KeySize, reads_keys};
+use crate::soft::full::aes256::{RoundKeys, key_schedule};
+use crate::soft::full::widen;
+use aes_cipher::zeroize::Wiped;
+use aes_planes::soft::sbox::Layers;
+
+/// Keys of 32 bytes.
+pub struct Bits256;
+
+impl KeySize for Bits256 {
+    type Key = [u8; 32];
+
+    type RoundKeys = RoundKeys<u16>;
+
+    type WideKeys = RoundKeys<BatchWord>;
+
+    type Wiped = Wiped<120>;
+
+    ghost SCHEDULE_LAYERS = { 13 };
+
+    const NAME: &'static str = "Aes256";
+
+    fn schedule(key: &[u8; 32], layers: &mut Layers) -> RoundKeys<u16> {
+        key_schedule(key, layers)
+    }
+
+    fn widen(round_keys: &RoundKeys<u16>) -> RoundKeys<BatchWord> {
+        widen(round_keys)
+    }
+
+    fn has_key(_round_keys: &RoundKeys<u16>) {
+        reads_keys();
+    }
+
+    ghost same_rounds = { refl };
+}

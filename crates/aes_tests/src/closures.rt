@@ -1,0 +1,129 @@
+//! Work that is done with a backend, whatever its batch: closures as users write them, each for both directions.
+
+ghost use Rattle.std.specs.Prelude.{◌≡◌, length};
+ghost use Rattle.aes_planes.specs.Each.{Each};
+ghost use Rattle.aes_planes.specs.Fips197 as fips;
+
+mod one_way;
+
+use aes_cipher::cipher::{
+    BlockCipherDecBackend, BlockCipherDecClosure, BlockCipherDecrypt, BlockCipherEncBackend,
+    BlockCipherEncClosure, BlockCipherEncrypt, RoundKeysUser,
+};
+use aes_planes::laws;
+use aes_planes::soft::word::Block;
+use one_way::{Decrypting, Encrypting, work_first_then_all, work_on_all};
+
+/// Leaves the backend alone, and its field as it was.
+#[derive(Drop)]
+pub struct Nothing {
+    pub count: u8,
+}
+
+impl BlockCipherEncClosure for Nothing {
+    ghost did = { λ before w after. after.count ≡ before.count };
+
+    fn call<B: BlockCipherEncBackend>(&mut self, _backend: &B) {}
+}
+
+impl BlockCipherDecClosure for Nothing {
+    ghost did = { λ before w after. after.count ≡ before.count };
+
+    fn call<B: BlockCipherDecBackend>(&mut self, _backend: &B) {}
+}
+
+/// Works on its block, and on what that gave once more.
+#[derive(Drop)]
+pub struct Twice {
+    pub block: Block,
+}
+
+impl BlockCipherEncClosure for Twice {
+    ghost did = { λ before w after. after.block ≡ fips.cipher_with w (fips.cipher_with w before.block) };
+
+    fn call<B: BlockCipherEncBackend>(&mut self, backend: &B) {
+        backend.encrypt_block(&mut self.block);
+        backend.encrypt_block(&mut self.block);
+    }
+}
+
+impl BlockCipherDecClosure for Twice {
+    ghost did = { λ before w after. after.block ≡ fips.inv_cipher_with w (fips.inv_cipher_with w before.block) };
+
+    fn call<B: BlockCipherDecBackend>(&mut self, backend: &B) {
+        backend.decrypt_block(&mut self.block);
+        backend.decrypt_block(&mut self.block);
+    }
+}
+
+/// Works on blocks that somebody lent: batches while a whole one is left, then single blocks.
+#[derive(Drop)]
+pub struct Row<'a> {
+    pub blocks: &'a mut [Block],
+}
+
+impl<'a> BlockCipherEncClosure for Row<'a> {
+    ghost did = { λ before w after.
+        Each (fips.cipher_with w) before.blocks.now after.blocks.now
+        × (after.blocks.ghost_name ≡ before.blocks.ghost_name) };
+
+    fn call<B: BlockCipherEncBackend>(&mut self, backend: &B) {
+        work_on_all(&Encrypting { backend }, self.blocks);
+    }
+}
+
+impl<'a> BlockCipherDecClosure for Row<'a> {
+    ghost did = { λ before w after.
+        Each (fips.inv_cipher_with w) before.blocks.now after.blocks.now
+        × (after.blocks.ghost_name ≡ before.blocks.ghost_name) };
+
+    fn call<B: BlockCipherDecBackend>(&mut self, backend: &B) {
+        work_on_all(&Decrypting { backend }, self.blocks);
+    }
+}
+
+/// Works on 24 blocks of its own: a single one, then batches while a whole one is left, then single blocks.
+#[derive(Drop)]
+pub struct Mixed {
+    pub blocks: [Block; 24],
+}
+
+impl BlockCipherEncClosure for Mixed {
+    ghost did = { λ before w after. Each (fips.cipher_with w) before.blocks after.blocks };
+
+    fn call<B: BlockCipherEncBackend>(&mut self, backend: &B) {
+        work_first_then_all(&Encrypting { backend }, &mut self.blocks);
+    }
+}
+
+impl BlockCipherDecClosure for Mixed {
+    ghost did = { λ before w after. Each (fips.inv_cipher_with w) before.blocks after.blocks };
+
+    fn call<B: BlockCipherDecBackend>(&mut self, backend: &B) {
+        work_first_then_all(&Decrypting { backend }, &mut self.blocks);
+    }
+}
+
+/// Encrypts the blocks, batch by batch where batches fit, by any cipher's backend.
+pub fn encrypt_row<C: BlockCipherEncrypt>(cipher: &C, blocks: &mut [Block])
+    ensures { Each (fips.cipher_with (C.round_keys cipher.now)) blocks.old blocks.new }
+{
+    let mut row = Row { blocks };
+    cipher.encrypt_with_backend(&mut row);
+}
+
+/// Encrypts a block twice and decrypts it twice, by closures: the block comes back.
+pub fn twice_there_and_back<C: BlockCipherEncrypt + BlockCipherDecrypt>(
+    cipher: &C,
+    block: Block,
+) -> Block
+    ensures { result ≡ block }
+{
+    laws::sums_of_blocks();
+    cipher.has_round_keys();
+    cipher.has_inverse_ciphers();
+    let mut twice = Twice { block };
+    cipher.encrypt_with_backend(&mut twice);
+    cipher.decrypt_with_backend(&mut twice);
+    twice.block
+}

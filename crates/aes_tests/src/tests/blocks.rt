@@ -1,0 +1,34 @@
+//! Blocks of the standards, and blocks that differ from one another.
+
+use aes::Block;
+
+/// The four blocks that SP 800-38A encrypts in its examples.
+pub const PLAIN: [u128; 4] = [
+    0x6bc1bee22e409f96e93d7e117393172a,
+    0xae2d8a571e03ac9c9eb76fac45af8e51,
+    0x30c81c46a35ce411e5fbc1191a0a52ef,
+    0xf69f2445df4f9b17ad2b417be66c3710,
+];
+
+/// Blocks by their hexadecimal digits.
+pub fn blocks(digits: &[u128; 4]) -> [Block; 4] {
+    [
+        digits[0].to_be_bytes(),
+        digits[1].to_be_bytes(),
+        digits[2].to_be_bytes(),
+        digits[3].to_be_bytes(),
+    ]
+}
+
+/// 24 blocks, no two of them alike.
+pub fn different_blocks() -> [Block; 24] {
+    let mut blocks = [[0; 16]; 24];
+    let mut block = 0x00112233445566778899aabbccddeeff_u128;
+    for i in 0..24usize {
+        blocks[i] = block.to_be_bytes();
+        block = block
+            .wrapping_mul(0x5851f42d4c957f2d14057b7ef767814f)
+            .wrapping_add(1);
+    }
+    blocks
+}

@@ -1,0 +1,69 @@
+//! The two layouts of round keys and the types, on every word and in every slot.
+
+use super::blocks::different_blocks;
+use aes::{Aes128, Aes192, Aes256, Block};
+use aes_cipher::cipher::{BlockCipherDecrypt, BlockCipherEncrypt, KeyInit};
+use aes_planes::soft::sbox::Layers;
+use aes_planes::soft::word::{Batch, Word};
+use aes_soft::soft::{compact, full};
+
+// As many different blocks as a word holds.
+fn batch<B: Batch>() -> B {
+    let blocks = different_blocks();
+    let mut batch = B::zero();
+    for i in 0..B::LEN {
+        if i < blocks.len() {
+            batch.set(i, blocks[i]);
+        }
+    }
+    batch
+}
+
+// Whether every slot of two batches holds what the type leaves of its block, encrypted and decrypted.
+fn are_right<C: BlockCipherEncrypt + BlockCipherDecrypt, B: Batch>(
+    cipher: &C,
+    encrypted: &B,
+    decrypted: &B,
+) -> bool {
+    let plain = batch::<B>();
+    for i in 0..B::LEN {
+        let mut there = plain.get(i);
+        cipher.encrypt_block(&mut there);
+        let mut back = plain.get(i);
+        cipher.decrypt_block(&mut back);
+        if encrypted.get(i) != there || decrypted.get(i) != back {
+            return false;
+        }
+    }
+    true
+}
+
+// Whether a layout at a size of keys leaves in every slot what the type of that size leaves.
+macro_rules! agrees {
+    ($layout:ident :: $size:ident, $word:ty, $cipher:expr, $key:expr) => {{
+        let mut layers = Layers::new();
+        let plain = batch::<<$word as Word>::Blocks>();
+        let round_keys = $layout::$size::key_schedule::<$word>($key, &mut layers);
+        let encrypted = $layout::$size::encrypt::<$word>(&round_keys, &plain, &mut layers);
+        let decrypted = $layout::$size::decrypt::<$word>(&round_keys, &plain, &mut layers);
+        are_right($cipher, &encrypted, &decrypted)
+    }};
+}
+
+fn layouts_agree<W: Word>() -> bool {
+    let (short, middle, long) = (&[0x16; 16], &[0x24; 24], &[0x32; 32]);
+    agrees!(compact::aes128, W, &Aes128::new(short), short)
+        && agrees!(full::aes128, W, &Aes128::new(short), short)
+        && agrees!(compact::aes192, W, &Aes192::new(middle), middle)
+        && agrees!(full::aes192, W, &Aes192::new(middle), middle)
+        && agrees!(compact::aes256, W, &Aes256::new(long), long)
+        && agrees!(full::aes256, W, &Aes256::new(long), long)
+}
+
+#[test]
+fn layouts_agree_with_the_types_in_every_slot(rt: HostRuntime) {
+    assert!(rt; layouts_agree::<u16>());
+    assert!(rt; layouts_agree::<u32>());
+    assert!(rt; layouts_agree::<u64>());
+    assert!(rt; layouts_agree::<u128>());
+}

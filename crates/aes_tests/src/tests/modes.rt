@@ -1,0 +1,72 @@
+//! Modes over several types.
+
+use super::blocks::{PLAIN, blocks};
+use crate::by_backend::ByBackend;
+use crate::cbc::{cbc_decrypt, cbc_encrypt, cbc_there_and_back};
+use aes::{Aes128, Aes192, Aes256};
+use aes_cipher::cipher::{BlockCipherDecrypt, BlockCipherEncrypt, KeyInit};
+use aes_rounds::rounds::{Aes, expand_128};
+
+// The initialization vector of SP 800-38A, F.2.
+const IV: u128 = 0x000102030405060708090a0b0c0d0e0f;
+
+// The keys of SP 800-38A, F.2.
+const KEY_128: [u8; 16] = [
+    0x2b, 0x7e, 0x15, 0x16, 0x28, 0xae, 0xd2, 0xa6, 0xab, 0xf7, 0x15, 0x88, 0x09, 0xcf, 0x4f, 0x3c,
+];
+
+const KEY_192: [u8; 24] = [
+    0x8e, 0x73, 0xb0, 0xf7, 0xda, 0x0e, 0x64, 0x52, 0xc8, 0x10, 0xf3, 0x2b, 0x80, 0x90, 0x79, 0xe5,
+    0x62, 0xf8, 0xea, 0xd2, 0x52, 0x2c, 0x6b, 0x7b,
+];
+
+const KEY_256: [u8; 32] = [
+    0x60, 0x3d, 0xeb, 0x10, 0x15, 0xca, 0x71, 0xbe, 0x2b, 0x73, 0xae, 0xf0, 0x85, 0x7d, 0x77, 0x81,
+    0x1f, 0x35, 0x2c, 0x07, 0x3b, 0x61, 0x08, 0xd7, 0x2d, 0x98, 0x10, 0xa3, 0x09, 0x14, 0xdf, 0xf4,
+];
+
+fn chains<C: BlockCipherEncrypt + BlockCipherDecrypt>(cipher: &C, encrypted: &[u128; 4]) -> bool {
+    let iv = IV.to_be_bytes();
+    let plain = blocks(&PLAIN);
+    let mut row = plain;
+    cbc_encrypt(cipher, &iv, &mut row);
+    let there = row == blocks(encrypted);
+    cbc_decrypt(cipher, &iv, &mut row);
+    let back = row == plain;
+    cbc_there_and_back(cipher, &iv, &mut row);
+    there && back && row == plain
+}
+
+/// SP 800-38A, F.2.1 to F.2.6.
+#[test]
+fn chains_the_blocks_of_the_standard(rt: HostRuntime) {
+    let by_128 = [
+        0x7649abac8119b246cee98e9b12e9197d,
+        0x5086cb9b507219ee95db113a917678b2,
+        0x73bed6b8e3c1743b7116e69e22229516,
+        0x3ff1caa1681fac09120eca307586e1a7,
+    ];
+    let by_192 = [
+        0x4f021db243bc633d7178183a9fa071e8,
+        0xb4d9ada9ad7dedf4e5e738763f69145a,
+        0x571b242012fb7ae07fa9baac3df102e0,
+        0x08b0e27988598881d920a9e64f5615cd,
+    ];
+    let by_256 = [
+        0xf58c4c04d6e5f1ba779eabfb5f7bfbd6,
+        0x9cfc4e967edb808d679f777bc6702c7d,
+        0x39f23369a9d9bacfa530e26304231461,
+        0xb2eb05e2c39be9fcda6c19078c6a9d1b,
+    ];
+    assert!(rt; chains(&Aes128::new(&KEY_128), &by_128));
+    assert!(rt;
+        chains(
+            &ByBackend {
+                backend: Aes::new(&expand_128(&KEY_128))
+            },
+            &by_128
+        )
+    );
+    assert!(rt; chains(&Aes192::new(&KEY_192), &by_192));
+    assert!(rt; chains(&Aes256::new(&KEY_256), &by_256));
+}

@@ -1,0 +1,130 @@
+//! Every cipher of the library in each of its directions, so that what is tried with all of them is written once.
+
+ghost use Rattle.std.specs.Prelude.{◌≡◌, ◌⊎◌};
+
+use crate::by_backend::ByBackend;
+use aes::{
+    Aes128, Aes128Dec, Aes128Enc, Aes192, Aes192Dec, Aes192Enc, Aes256, Aes256Dec, Aes256Enc, Block,
+};
+use aes_cipher::cipher::{
+    BlockCipherDecClosure, BlockCipherDecrypt, BlockCipherEncClosure, BlockCipherEncrypt, KeyInit,
+};
+use aes_rounds::rounds::{Aes, AesDec, AesEnc, expand_128, expand_192, expand_256};
+
+/// A cipher in one direction.
+pub trait Way {
+    /// Works on a block.
+    fn on_block(&self, block: &mut Block);
+
+    /// Calls a closure with a backend.
+    fn lend<F: BlockCipherEncClosure + BlockCipherDecClosure>(&self, f: &mut F);
+}
+
+/// A cipher that encrypts.
+#[derive(Drop)]
+pub struct Forward<'a, C: BlockCipherEncrypt> {
+    pub cipher: &'a C,
+}
+
+impl<C: BlockCipherEncrypt> Way for Forward<'_, C> {
+    fn on_block(&self, block: &mut Block) {
+        self.cipher.encrypt_block(block);
+    }
+
+    fn lend<F: BlockCipherEncClosure + BlockCipherDecClosure>(&self, f: &mut F) {
+        self.cipher.encrypt_with_backend(f);
+    }
+}
+
+/// A cipher that decrypts.
+#[derive(Drop)]
+pub struct Back<'a, C: BlockCipherDecrypt> {
+    pub cipher: &'a C,
+}
+
+impl<C: BlockCipherDecrypt> Way for Back<'_, C> {
+    fn on_block(&self, block: &mut Block) {
+        self.cipher.decrypt_block(block);
+    }
+
+    fn lend<F: BlockCipherEncClosure + BlockCipherDecClosure>(&self, f: &mut F) {
+        self.cipher.decrypt_with_backend(f);
+    }
+}
+
+/// What is tried with a cipher in one direction.
+pub trait Trial {
+    /// Whether the cipher passes.
+    fn passes<W: Way>(&self, way: &W) -> bool;
+}
+
+// Whether the ciphers of one key pass: the one that works both ways in both, the others in theirs.
+fn pass<T, B, E, D>(trial: &T, both: &B, encrypts: &E, decrypts: &D) -> [bool; 4]
+where
+    T: Trial,
+    B: BlockCipherEncrypt + BlockCipherDecrypt,
+    E: BlockCipherEncrypt,
+    D: BlockCipherDecrypt,
+{
+    [
+        trial.passes(&Forward { cipher: both }),
+        trial.passes(&Back { cipher: both }),
+        trial.passes(&Forward { cipher: encrypts }),
+        trial.passes(&Back { cipher: decrypts }),
+    ]
+}
+
+// Whether the ciphers that are made of single rounds pass.
+fn pass_by_rounds<T: Trial, const RK: usize>(trial: &T, round_keys: &[Block; RK]) -> [bool; 4]
+    requires { (RK ≡ 11) ⊎ (RK ≡ 13) ⊎ (RK ≡ 15) }
+{
+    pass(
+        trial,
+        &ByBackend {
+            backend: Aes::new(round_keys),
+        },
+        &ByBackend {
+            backend: AesEnc::new(round_keys),
+        },
+        &ByBackend {
+            backend: AesDec::new(round_keys),
+        },
+    )
+}
+
+/// Whether every type passes, by the size of its key, and every round by round cipher.
+pub fn try_all<T: Trial>(trial: &T) -> [(&'static str, [bool; 4]); 6] {
+    let (short, middle, long) = (&[0x16; 16], &[0x24; 24], &[0x32; 32]);
+    [
+        (
+            "keys of 16 bytes",
+            pass(
+                trial,
+                &Aes128::new(short),
+                &Aes128Enc::new(short),
+                &Aes128Dec::new(short),
+            ),
+        ),
+        (
+            "keys of 24 bytes",
+            pass(
+                trial,
+                &Aes192::new(middle),
+                &Aes192Enc::new(middle),
+                &Aes192Dec::new(middle),
+            ),
+        ),
+        (
+            "keys of 32 bytes",
+            pass(
+                trial,
+                &Aes256::new(long),
+                &Aes256Enc::new(long),
+                &Aes256Dec::new(long),
+            ),
+        ),
+        ("11 round keys", pass_by_rounds(trial, &expand_128(short))),
+        ("13 round keys", pass_by_rounds(trial, &expand_192(middle))),
+        ("15 round keys", pass_by_rounds(trial, &expand_256(long))),
+    ]
+}
