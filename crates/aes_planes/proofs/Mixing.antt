@@ -1,3 +1,4 @@
 -- Column mixing.
 pub mod Matrices
 pub mod MixColumns
+pub mod Pairs

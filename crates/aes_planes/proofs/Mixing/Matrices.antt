@@ -176,7 +176,7 @@ row_of m0 m1 m2 m3 (suc (suc zero)) = m2 ∷ m3 ∷ m0 ∷ m1 ∷ []
 row_of m0 m1 m2 m3 (suc (suc (suc r))) = m1 ∷ m2 ∷ m3 ∷ m0 ∷ []
 
 -- the products of four factors and the bytes from row r on
-abbrev around : List ℕ → (ℕ → ℕ → ℕ) → ℕ → ℕ → ℕ
+abbrev pub around : List ℕ → (ℕ → ℕ → ℕ) → ℕ → ℕ → ℕ
 around m f r c =
     field_add (field_add (field_add (field_mul (slice_index m 0) (f r c)) (field_mul (slice_index m 1) (f ((r + 1) % 4) c)))
     (field_mul (slice_index m 2) (f ((r + 2) % 4) c))) (field_mul (slice_index m 3) (f ((r + 3) % 4) c))

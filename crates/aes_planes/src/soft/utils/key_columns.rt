@@ -7,7 +7,7 @@ ghost use Rattle.aes_planes.specs.Planes.{held, place, zip_with, words_at, const
 
 use crate::soft::word::Word;
 
-/// Adds a power of x to the byte in row 1 and column 3 of every block: one bit of a round constant.
+/// Adds 2 ^ `bit` to the byte in row 1 and column 3 of every block: one bit of a round constant (FIPS 197, 5.2).
 #[inline(always)]
 pub fn add_round_constant_bit<W: Word>(state: &mut [W; 8], bit: usize)
     requires below_8 { bit < 8 }
@@ -20,7 +20,7 @@ pub fn add_round_constant_bit<W: Word>(state: &mut [W; 8], bit: usize)
     state[bit] = flipped;
 }
 
-/// One plane of `xor_columns`: from the same plane of the earlier round key and of the substituted one.
+// One plane of `xor_columns`: from the same plane of the earlier round key and of the substituted one.
 #[inline(always)]
 fn sum_columns<W: Word>(before: W, substituted: W, idx_ror: u32) -> W
     requires below_bits { idx_ror < W.BITS }
@@ -44,10 +44,12 @@ fn sum_columns<W: Word>(before: W, substituted: W, idx_ror: u32) -> W
     sums
 }
 
-/// Makes of the substituted words at `offset` the next round key.
+/// Puts sums of columns in the place of the eight words at `offset`: a round key, where they hold the
+/// substituted last one (FIPS 197, 5.2).
 ///
-/// The words `idx_xor` earlier are the round key that is added, and a rotation by `idx_ror` brings
-/// to column 0 of each row the byte that starts its sums (FIPS 197, 5.2).
+/// Column `c` becomes the sum of columns 0 to `c` of the round key `idx_xor` words earlier and of one
+/// byte for each row: the one that a rotation of the words at `offset` by `idx_ror` brings to column 0.
+/// The other words stay.
 #[inline(always)]
 pub fn xor_columns<W: Word>(round_keys: &mut [W], offset: usize, idx_xor: usize, idx_ror: u32)
     requires apart { 8 ≤ idx_xor }
@@ -74,9 +76,9 @@ pub fn xor_columns<W: Word>(round_keys: &mut [W], offset: usize, idx_xor: usize,
     }
 }
 
-/// The columns of `before` summed from left to right, from a column of `start` on.
+/// The columns of `before` summed from left to right, from a column of `start` on (FIPS 197, 5.2).
 ///
-/// A rotation by `idx_ror` brings to column 0 of each row the byte that starts its sums (FIPS 197, 5.2).
+/// A rotation of `start` by `idx_ror` brings to column 0 of each row the byte that starts its sums.
 #[inline(always)]
 pub fn summed_columns<W: Word>(before: &[W; 8], start: &[W; 8], idx_ror: u32) -> [W; 8]
     requires below_bits { idx_ror < W.BITS }
@@ -91,7 +93,7 @@ pub fn summed_columns<W: Word>(before: &[W; 8], start: &[W; 8], idx_ror: u32) ->
     sums
 }
 
-/// One plane of `straddle_columns`.
+// One plane of `straddle_columns`.
 #[inline(always)]
 fn straddle<W: Word>(left: W, right: W) -> W
     ensures { (r c k : ℕ) → r < 4 → c < 4 → k < W.BLOCKS

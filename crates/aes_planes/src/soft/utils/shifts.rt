@@ -8,7 +8,7 @@ ghost use Rattle.aes_planes.specs.Private.Swaps.{swapped_bit, is_swap_at, column
 
 use crate::soft::word::Word;
 
-/// Swaps the bits under the mask with those so far above them.
+// Swaps the bits under the mask with those so far above them.
 #[inline(always)]
 fn delta_swap_1<W: Word>(x: W, shift: u32, mask: W) -> W
     requires below_bits { shift < W.BITS }
@@ -23,7 +23,7 @@ fn delta_swap_1<W: Word>(x: W, shift: u32, mask: W) -> W
     swapped
 }
 
-/// Swaps in every plane the columns that the mask names in each row with those so far on.
+// Swaps in every plane the columns that the mask names in each row with those so far on.
 #[inline(always)]
 fn swap_columns<W: Word>(state: &mut [W; 8], shift: u32, mask: W)
     requires below_bits { shift < W.BITS }
@@ -58,7 +58,7 @@ pub fn shift_rows_1<W: Word>(state: &mut [W; 8])
     swap_columns(state, W::QUARTER_ROW, by_one);
 }
 
-/// Shifts the rows of every block twice: rows 1 and 3 swap their halves.
+/// Shifts the rows of every block twice (FIPS 197, 5.1.2): rows 1 and 3 swap their halves.
 #[inline(always)]
 pub fn shift_rows_2<W: Word>(state: &mut [W; 8])
     ensures { held W.BLOCKS (map W.bits state.new) ≡ map (fips.shift_times 2) (held W.BLOCKS (map W.bits state.old)) }
@@ -67,7 +67,7 @@ pub fn shift_rows_2<W: Word>(state: &mut [W; 8])
     swap_columns(state, W::HALF_ROW, by_two);
 }
 
-/// Shifts the rows of every block three times.
+/// Shifts the rows of every block three times (FIPS 197, 5.1.2), which undoes one shift.
 #[inline(always)]
 pub fn shift_rows_3<W: Word>(state: &mut [W; 8])
     ensures { held W.BLOCKS (map W.bits state.new) ≡ map (fips.shift_times 3) (held W.BLOCKS (map W.bits state.old)) }
@@ -86,7 +86,7 @@ pub fn inv_shift_rows_1<W: Word>(state: &mut [W; 8])
     shift_rows_3(state);
 }
 
-/// Undoes two shifts of the rows of every block.
+/// Undoes two shifts of the rows of every block (FIPS 197, 5.3.1).
 #[inline(always)]
 pub fn inv_shift_rows_2<W: Word>(state: &mut [W; 8])
     ensures { held W.BLOCKS (map W.bits state.new) ≡ map (fips.inv_shift_times 2) (held W.BLOCKS (map W.bits state.old)) }
@@ -94,7 +94,7 @@ pub fn inv_shift_rows_2<W: Word>(state: &mut [W; 8])
     shift_rows_2(state);
 }
 
-/// Undoes three shifts of the rows of every block.
+/// Undoes three shifts of the rows of every block (FIPS 197, 5.3.1).
 #[inline(always)]
 pub fn inv_shift_rows_3<W: Word>(state: &mut [W; 8])
     ensures { held W.BLOCKS (map W.bits state.new) ≡ map (fips.inv_shift_times 3) (held W.BLOCKS (map W.bits state.old)) }

@@ -6,7 +6,7 @@ ghost use Rattle.aes_planes.specs.Planes.{held, held_byte, zip_with};
 
 use crate::soft::word::{Block, Word};
 
-/// The bytes of one state plus those of another, each in its place.
+// The bytes of one state plus those of another, each in its place.
 #[inline(always)]
 pub(crate) fn sum_planes<W: Word>(x: &[W; 8], y: &[W; 8]) -> [W; 8]
     ensures { (i : ℕ) → i < W.BITS

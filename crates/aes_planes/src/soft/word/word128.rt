@@ -1,5 +1,4 @@
-//! A word of a hundred and twenty-eight bits, eight of which hold eight blocks, and whose operations
-//! work on its bytes as lanes of a vector.
+//! A word of 128 bits, eight of which hold eight blocks: its operations work on its bytes as lanes of a vector.
 
 ghost use Rattle.std.specs.Prelude.{◌≡◌};
 ghost use Rattle.std.proofs.Common.{refl, rules};
@@ -16,7 +15,7 @@ use super::vector::{
 };
 use std::simd::prelude::*;
 
-/// The lanes of a word, by its halves.
+// The lanes of a word, by its halves.
 #[inline(always)]
 fn lanes(x: u128) -> u8x16
     ensures { lane_bits result ≡ word_bits 128 x }
@@ -26,7 +25,7 @@ fn lanes(x: u128) -> u8x16
     u64x2::from_array([low, high]).to_le_bytes()
 }
 
-/// The word of lanes, by its halves.
+// The word of lanes, by its halves.
 #[inline(always)]
 fn word(x: u8x16) -> u128
     ensures { word_bits 128 result ≡ lane_bits x }
