@@ -22,78 +22,123 @@ pub(crate) fn add_key<W: Word>(state: &mut [W; 8], round_keys: &[W], i: usize)
     add_round_key(state, &key);
 }
 
-// Mixes the columns of every block between so many shifts of its rows and as many back.
-#[inline(always)]
-fn mix<W: Word>(state: &mut [W; 8], owed: usize)
-    requires below_four { owed < 4 }
-    ensures { held W.BLOCKS (map W.bits state.new) ≡ map (between_shifts owed fips.mix_columns) (held W.BLOCKS (map W.bits state.old)) }
-{
-    if owed == 0 {
+// How many ShiftRows are owed after a round. A type and no number, so that each round is compiled with its own
+// mixing of columns and no choice between four.
+pub(crate) trait Owed {
+    // The number.
+    ghost OWED: { ℕ };
+
+    // Mixes the columns of every block between so many shifts of its rows and as many back.
+    fn mix<W: Word>(state: &mut [W; 8])
+        ensures { held W.BLOCKS (map W.bits state.new) ≡ map (between_shifts OWED fips.mix_columns) (held W.BLOCKS (map W.bits state.old)) };
+
+    // Undoes the mixing of the columns of every block between so many shifts of its rows and as many back.
+    fn unmix<W: Word>(state: &mut [W; 8])
+        ensures { held W.BLOCKS (map W.bits state.new) ≡ map (between_shifts OWED fips.inv_mix_columns) (held W.BLOCKS (map W.bits state.old)) };
+}
+
+// None is owed.
+pub(crate) struct Owed0;
+
+impl Owed for Owed0 {
+    ghost OWED = { 0 };
+
+    #[inline(always)]
+    fn mix<W: Word>(state: &mut [W; 8]) {
         mix_columns_0(state);
-    } else if owed == 1 {
-        mix_columns_1(state);
-    } else if owed == 2 {
-        mix_columns_2(state);
-    } else {
-        mix_columns_3(state);
+    }
+
+    #[inline(always)]
+    fn unmix<W: Word>(state: &mut [W; 8]) {
+        inv_mix_columns_0(state);
     }
 }
 
-// Undoes the mixing of the columns of every block between so many shifts of its rows and as many back.
-#[inline(always)]
-fn unmix<W: Word>(state: &mut [W; 8], owed: usize)
-    requires below_four { owed < 4 }
-    ensures { held W.BLOCKS (map W.bits state.new) ≡ map (between_shifts owed fips.inv_mix_columns) (held W.BLOCKS (map W.bits state.old)) }
-{
-    if owed == 0 {
-        inv_mix_columns_0(state);
-    } else if owed == 1 {
+// One is owed.
+pub(crate) struct Owed1;
+
+impl Owed for Owed1 {
+    ghost OWED = { 1 };
+
+    #[inline(always)]
+    fn mix<W: Word>(state: &mut [W; 8]) {
+        mix_columns_1(state);
+    }
+
+    #[inline(always)]
+    fn unmix<W: Word>(state: &mut [W; 8]) {
         inv_mix_columns_1(state);
-    } else if owed == 2 {
+    }
+}
+
+// Two are owed.
+pub(crate) struct Owed2;
+
+impl Owed for Owed2 {
+    ghost OWED = { 2 };
+
+    #[inline(always)]
+    fn mix<W: Word>(state: &mut [W; 8]) {
+        mix_columns_2(state);
+    }
+
+    #[inline(always)]
+    fn unmix<W: Word>(state: &mut [W; 8]) {
         inv_mix_columns_2(state);
-    } else {
+    }
+}
+
+// Three are owed.
+pub(crate) struct Owed3;
+
+impl Owed for Owed3 {
+    ghost OWED = { 3 };
+
+    #[inline(always)]
+    fn mix<W: Word>(state: &mut [W; 8]) {
+        mix_columns_3(state);
+    }
+
+    #[inline(always)]
+    fn unmix<W: Word>(state: &mut [W; 8]) {
         inv_mix_columns_3(state);
     }
 }
 
-// Round `i` but for its ShiftRows: with it, `owed` are owed.
+// Round `i` but for its ShiftRows: with it, as many are owed as `O` says.
 #[inline(always)]
-pub(crate) fn round<W: Word>(
+pub(crate) fn round<W: Word, O: Owed>(
     state: &mut [W; 8],
     round_keys: &[W],
     i: usize,
-    owed: usize,
     layers: &mut Layers,
 )
     requires room { 8 * i + 8 ≤ length round_keys.now }
-    requires below_four { owed < 4 }
     ensures blocks { held W.BLOCKS (map W.bits state.new)
-        ≡ zip_with fips.add_round_key (map (between_shifts owed fips.mix_columns) (map (map (λ b. plus63 (fips.sbox b))) (held W.BLOCKS (map W.bits state.old))))
+        ≡ zip_with fips.add_round_key (map (between_shifts O.OWED fips.mix_columns) (map (map (λ b. plus63 (fips.sbox b))) (held W.BLOCKS (map W.bits state.old))))
         (held W.BLOCKS (map W.bits (words_at round_keys.now (8 * i)))) }
     ensures layers { layers.new ≡ layers.old + 1 }
 {
     sub_bytes(state, layers);
-    mix(state, owed);
+    O::mix(state);
     add_key(state, round_keys, i);
 }
 
-// Undoes the mixing of round `i`, and the substitution of the next, where `owed` ShiftRows are owed to the round key.
+// Undoes the mixing of round `i`, and the substitution of the next, where as many ShiftRows are owed to the round key as `O` says.
 #[inline(always)]
-pub(crate) fn inv_round<W: Word>(
+pub(crate) fn inv_round<W: Word, O: Owed>(
     state: &mut [W; 8],
     round_keys: &[W],
     i: usize,
-    owed: usize,
     layers: &mut Layers,
 )
     requires room { 8 * i + 8 ≤ length round_keys.now }
-    requires below_four { owed < 4 }
     ensures blocks { held W.BLOCKS (map W.bits state.new)
-        ≡ map (map (λ b. fips.inv_sbox (plus63 b))) (map (between_shifts owed fips.inv_mix_columns)
+        ≡ map (map (λ b. fips.inv_sbox (plus63 b))) (map (between_shifts O.OWED fips.inv_mix_columns)
         (zip_with fips.add_round_key (held W.BLOCKS (map W.bits state.old)) (held W.BLOCKS (map W.bits (words_at round_keys.now (8 * i)))))) }
     ensures layers { layers.new ≡ layers.old + 1 }
 {
     add_key(state, round_keys, i);
-    unmix(state, owed);
+    O::unmix(state);
     inv_sub_bytes(state, layers);
 }
