@@ -34,18 +34,16 @@ impl<const RK: usize> AesEnc<RK> {
     pub fn as_encdec(&self) -> Aes<RK>
         ensures { ⟦<Aes<RK> as RoundKeysUser>⟧.round_keys result ≡ ⟦<AesEnc<RK> as RoundKeysUser>⟧.round_keys self.now }
     {
-        Aes {
-            keys: BothKeys::new(&self.round_keys),
-        }
+        let keys = BothKeys::new(&self.round_keys);
+        Aes { keys }
     }
 
     /// The inverse cipher under the same round keys.
     pub fn as_dec(&self) -> AesDec<RK>
         ensures { ⟦<AesDec<RK> as RoundKeysUser>⟧.round_keys result ≡ ⟦<AesEnc<RK> as RoundKeysUser>⟧.round_keys self.now }
     {
-        AesDec {
-            keys: BothKeys::new(&self.round_keys),
-        }
+        let keys = BothKeys::new(&self.round_keys);
+        AesDec { keys }
     }
 }
 

@@ -12,7 +12,7 @@ use std::slice;
 
 // The blocks of a slice as a batch.
 #[inline(always)]
-fn batch_of<B: Batch>(blocks: &[Block]) -> B
+pub(super) fn batch_of<B: Batch>(blocks: &[Block]) -> B
     requires one_batch { length blocks.now ≡ B.LEN }
     ensures { B.blocks result ≡ blocks.now }
 {
@@ -25,7 +25,7 @@ fn batch_of<B: Batch>(blocks: &[Block]) -> B
 
 // Leaves the blocks of a batch in a slice.
 #[inline(always)]
-fn put_batch<B: Batch>(batch: &B, blocks: &mut [Block])
+pub(super) fn put_batch<B: Batch>(batch: &B, blocks: &mut [Block])
     requires sized { length (B.blocks batch.now) ≡ B.LEN }
     requires one_batch { length blocks.old ≡ B.LEN }
     ensures { blocks.new ≡ B.blocks batch.now }

@@ -1,11 +1,13 @@
 //! Single rounds of eight blocks, each under the round key of its own, batch after batch.
 
-ghost use Rattle.std.specs.Prelude.{◌≡◌, ◌%◌, map};
+ghost use Rattle.std.specs.Prelude.{◌≡◌, ◌%◌, length, map};
+ghost use Rattle.aes_planes.specs.Each.{Each};
 ghost use Rattle.aes_planes.specs.Fips197 as fips;
 ghost use Rattle.aes_planes.specs.SingleRounds.{cipher_round, equiv_inv_cipher_round, rounds_by_place};
 
 use super::steps::{InverseRound, Round, Step};
-use crate::soft::batches::{batch_from, put_sums};
+use crate::soft::slices::{batch_of, put_batch};
+use aes_planes::soft::utils::sum_of_blocks;
 use aes_planes::soft::word::{Batch, Block, Word};
 
 /// A round of the cipher (FIPS 197, 5.1) of each of eight blocks, under the round key at its own
@@ -32,11 +34,23 @@ fn rounds_par<W: Word, S: Step>(blocks: &mut [Block; 8], round_keys: &[Block; 8]
     requires divides { 8 % W.BLOCKS ≡ 0 }
     ensures { blocks.new ≡ rounds_by_place (λ b k. fips.add_round_key (S.of_block b) k) blocks.old round_keys.now }
 {
-    'batches: for turn in 0..8 / W::Blocks::LEN {
-        let start = turn * W::Blocks::LEN;
-        let batch = batch_from::<W::Blocks>(blocks, start);
-        let done = steps_of::<W, S>(&batch);
-        put_sums(blocks, start, &done, round_keys);
+    step_each::<W, S>(blocks);
+    add_round_keys(blocks, round_keys);
+}
+
+// A step of each block of a slice, batch by batch.
+#[inline(always)]
+fn step_each<W: Word, S: Step>(blocks: &mut [Block])
+    requires whole_batches { length blocks.old % W.Blocks.LEN ≡ 0 }
+    ensures { Each S.of_block blocks.old blocks.new }
+{
+    let size = W::Blocks::LEN;
+    let mut done = 0;
+    while done < blocks.len() {
+        let batch = batch_of::<W::Blocks>(&blocks[done..done + size]);
+        let stepped = steps_of::<W, S>(&batch);
+        put_batch(&stepped, &mut blocks[done..done + size]);
+        done += size;
     }
 }
 
@@ -49,4 +63,14 @@ fn steps_of<W: Word, S: Step>(batch: &W::Blocks) -> W::Blocks
     W::bitslice(&mut state, batch);
     S::on_planes(&mut state);
     W::inv_bitslice(&state)
+}
+
+// AddRoundKey of each of eight blocks, with the round key at its own place (FIPS 197, 5.1.4).
+#[inline(always)]
+fn add_round_keys(blocks: &mut [Block; 8], round_keys: &[Block; 8])
+    ensures { blocks.new ≡ rounds_by_place fips.add_round_key blocks.old round_keys.now }
+{
+    for i in 0..8 {
+        blocks[i] = sum_of_blocks(&blocks[i], &round_keys[i]);
+    }
 }
