@@ -2,6 +2,9 @@
 
 ghost use Rattle.std.specs.Prelude.{◌≡◌, ℕ, ◌<◌, ◌^◌, false, slice_index, length, map, replicate};
 
+#[cfg(test)]
+mod tests;
+
 use aes_planes::soft::word::Word;
 use std::sync::atomic::{AtomicU64, Ordering};
 

@@ -1,5 +1,6 @@
 -- Sums of bytes and a stream: byte by byte, and piece by piece.
 use Rattle.std.proofs.Common.{◌≡◌, ℕ, zero, suc, ◌+◌, ◌<◌, List, [], ◌∷◌, ◌++◌, length, get_or, bit_xor, refl, sym, ap, ◌∙◌, arith}
+use Rattle.std.specs.Int.Bits.{xor_assoc, xor_self, xor_zero_r}
 use Rattle.std.specs.List.{concat}
 use Rattle.aes_planes.proofs.Lists.Built.{build_is, length-build, get_or-build}
 use Rattle.aes_ctr.specs.CounterMode.{plus_stream, pieces_plus_stream}
@@ -42,6 +43,15 @@ pub plus-agree : (s t : ℕ → ℕ) (p q : ℕ) (xs : List ℕ) → ((i : ℕ) 
 plus-agree s t p q xs same =
     plus_is s p xs (plus_stream t q xs) (length-plus t q xs)
     (λ i h. ap (bit_xor (get_or xs i 0)) (same i h) ∙ sym (get_or-plus t q xs i h))
+
+-- the same sum once more undoes it
+pub plus-twice : (s : ℕ → ℕ) (p : ℕ) (xs : List ℕ) → plus_stream s p (plus_stream s p xs) ≡ xs
+plus-twice s p xs =
+    plus_is s p (plus_stream s p xs) xs (sym (length-plus s p xs))
+    (λ i h. ap (λ b. bit_xor b (s (p + i))) (get_or-plus s p xs i (omega (arith, length-plus s p xs)))
+    ∙ xor_assoc (get_or xs i 0) (s (p + i)) (s (p + i))
+    ∙ ap (bit_xor (get_or xs i 0)) (xor_self (s (p + i)))
+    ∙ xor_zero_r (get_or xs i 0))
 
 -- pieces plus a stream, joined, are the joined pieces plus the stream
 pub plus-pieces : (s : ℕ → ℕ) (p : ℕ) (pieces : List (List ℕ)) → concat (pieces_plus_stream s p pieces) ≡ plus_stream s p (concat pieces)

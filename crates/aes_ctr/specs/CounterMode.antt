@@ -1,5 +1,5 @@
--- Counter mode (SP 800-38A, 6.5) with the whole block as its counter. A byte is a number below 2 ^ 8, a block a list of
--- 16 bytes; Cipher and the sum of bytes are those of FIPS 197.
+-- Counter mode (SP 800-38A, 6.5), its counter the whole block, counted on by one (B.1). A byte is a number below 2 ^ 8, a
+-- block a list of 16 bytes; Cipher and the sum of two bytes are those of FIPS 197.
 use Rattle.std.specs.Prelude.{ℕ, ◌+◌, ◌/◌, ◌%◌, ◌^◌, List, [], ◌∷◌, length, slice_index}
 use Rattle.std.specs.Int.{w128, to_be_bytes, from_be_bytes}
 use Rattle.aes_planes.specs.Fips197 as fips

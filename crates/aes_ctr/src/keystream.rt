@@ -11,7 +11,7 @@ use aes_planes::soft::word::Block;
 // Writes half of a number into a block, its highest byte first, from one place on.
 fn put_half(half: u64, from: usize, block: &mut Block)
     requires { from + 8 ≤ 16 }
-    ensures { block.new ≡ take from block.old ++ to_be_bytes w64 half ++ drop (from + 8) block.old }
+    ensures { block.new ≡ take from block.old ++ (to_be_bytes w64 half ++ drop (from + 8) block.old) }
 {
     let bytes = half.to_be_bytes();
     for i in 0..8 {

@@ -2,6 +2,7 @@
 #![tactic(auto)]
 
 mod adding;
+mod batches;
 mod errors;
 mod keystream;
 mod laws;

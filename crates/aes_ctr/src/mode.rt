@@ -3,15 +3,11 @@
 ghost use Rattle.std.specs.Prelude.{◌≡◌, ◌↔◌, ◌+◌, ◌-◌, ◌^◌, ◌<◌, length, IsErr, OnOk, OnErr};
 ghost use Rattle.aes_ctr.specs.CounterMode.{keystream_byte, plus_stream};
 
-use crate::adding::add_blocks;
+use crate::batches::add_keystream;
 use crate::errors::KeystreamEnd;
-use crate::keystream::fill_with_keystream;
 use aes_cipher::cipher::BlockCipherEncrypt;
 use aes_planes::soft::word::Block;
 use std::marker::Model;
-
-// How many blocks the cipher is handed at a time.
-const BATCH: usize = 64;
 
 /// Counter mode over a cipher (SP 800-38A, 6.5). The counter is the whole block, a number with its highest byte first,
 /// modulo 2^128. Contracts see a value as the round keys of its cipher, its initial counter block and its position.
@@ -28,24 +24,6 @@ impl<C: BlockCipherEncrypt> Model for Ctr128BE<C> {
     ghost Value = { CounterMode };
 
     ghost view = { λ mode. record { round_keys = C.round_keys mode.cipher; iv = mode.iv; position = mode.position } };
-}
-
-// Adds to bytes the keystream from one position on.
-fn add_keystream<C: BlockCipherEncrypt>(cipher: &C, iv: &Block, position: u64, bytes: &mut [u8])
-    requires { position + length bytes.old < 2 ^ 64 }
-    ensures { bytes.new ≡ plus_stream (keystream_byte (C.round_keys cipher.now) iv.now) position bytes.old }
-{
-    let mut batch = [[0; 16]; BATCH];
-    let mut done = 0;
-    while done < bytes.len() {
-        let place = position + done as u64;
-        let from = (place % 16) as usize;
-        let part = (16 * BATCH - from).min(bytes.len() - done);
-        let blocks = &mut batch[..(from + part).div_ceil(16)];
-        fill_with_keystream(cipher, iv, place / 16, blocks);
-        add_blocks(blocks, from, &mut bytes[done..done + part]);
-        done += part;
-    }
 }
 
 impl<C: BlockCipherEncrypt> Ctr128BE<C> {

@@ -28,10 +28,11 @@ xor_inward true true false = refl
 xor_inward true false z = refl
 xor_inward false y z = refl
 
--- a word plus what its masks let through of the words one, two and three columns up
-module _ (n B ror r k : ℕ) (before here first out : List Bool)
+-- a word, plus what a mask lets through of it a column up, plus what another mask lets through of that sum two columns up
+module _ (n B ror r k : ℕ) (before here first pairs out : List Bool)
     (firsts : (c : ℕ) → c < 4 → at first (place n r c k) ≡ xor (at before (place n r c k)) (bit 1 c && at here ((place n r c k + ror) % B)))
-    (outs : (c : ℕ) → c < 4 → at out (place n r c k) ≡ xor (xor (xor (at first (place n r c k)) (bit 14 c && (nat_le n (place n r c k) && at first (place n r c k - n)))) (bit 12 c && (nat_le (2 * n) (place n r c k) && at first (place n r c k - 2 * n)))) (bit 8 c && (nat_le (3 * n) (place n r c k) && at first (place n r c k - 3 * n)))) where
+    (seconds : (c : ℕ) → c < 4 → at pairs (place n r c k) ≡ xor (at first (place n r c k)) (bit 14 c && (nat_le n (place n r c k) && at first (place n r c k - n))))
+    (outs : (c : ℕ) → c < 4 → at out (place n r c k) ≡ xor (at pairs (place n r c k)) (bit 12 c && (nat_le (2 * n) (place n r c k) && at pairs (place n r c k - 2 * n)))) where
   first_0 : at first (place n r 0 k) ≡ xor (at before (place n r 0 k)) (at here ((place n r 0 k + ror) % B))
   unfolding bit
   first_0 = firsts 0 (omega arith)
@@ -48,23 +49,28 @@ module _ (n B ror r k : ℕ) (before here first out : List Bool)
   unfolding bit
   first_3 = firsts 3 (omega arith) ∙ xor_none _
 
+  pairs_0 : at pairs (place n r 0 k) ≡ at first (place n r 0 k)
+  unfolding bit
+  pairs_0 = seconds 0 (omega arith) ∙ xor_none _
+
+  pairs_later : (c : ℕ) → c < 3 → at pairs (place n r (suc c) k) ≡ xor (at first (place n r (suc c) k)) (at first (place n r c k))
+  unfolding bit
+  pairs_later zero h = seconds 1 (omega arith) ∙ ap (xor (at first (place n r 1 k))) (bit_below first n (place n r 1 k) (place n r 0 k) (omega arith) (omega arith))
+  pairs_later (suc zero) h = seconds 2 (omega arith) ∙ ap (xor (at first (place n r 2 k))) (bit_below first n (place n r 2 k) (place n r 1 k) (omega arith) (omega arith))
+  pairs_later (suc (suc zero)) h = seconds 3 (omega arith) ∙ ap (xor (at first (place n r 3 k))) (bit_below first n (place n r 3 k) (place n r 2 k) (omega arith) (omega arith))
+  pairs_later (suc (suc (suc c))) h = absurd (omega arith)
+
   pub columns_right : (c : ℕ) → c < 4 → at out (place n r c k) ≡ summed xor (λ e. at before (place n r e k)) (at here ((place n r 0 k + ror) % B)) c
   unfolding bit
-  columns_right zero h = outs 0 h ∙ xor_none _ ∙ xor_none _ ∙ xor_none _ ∙ first_0
-  columns_right (suc zero) h =
-      let up1 = bit_below first n (place n r 1 k) (place n r 0 k) (omega arith) (omega arith) ∙ first_0 in
-      outs 1 h ∙ xor_none _ ∙ xor_none _ ∙ (λ t. xor (first_1 t) (up1 t))
+  columns_right zero h = outs 0 h ∙ xor_none _ ∙ pairs_0 ∙ first_0
+  columns_right (suc zero) h = outs 1 h ∙ xor_none _ ∙ pairs_later 0 (omega arith) ∙ (λ t. xor (first_1 t) (first_0 t))
   columns_right (suc (suc zero)) h =
-      let up1 = bit_below first n (place n r 2 k) (place n r 1 k) (omega arith) (omega arith) ∙ first_1 in
-      let up2 = bit_below first (2 * n) (place n r 2 k) (place n r 0 k) (omega arith) (omega arith) ∙ first_0 in
-      outs 2 h ∙ xor_none _ ∙ (λ t. xor (xor (first_2 t) (up1 t)) (up2 t))
+      let up2 = bit_below pairs (2 * n) (place n r 2 k) (place n r 0 k) (omega arith) (omega arith) ∙ pairs_0 ∙ first_0 in
+      outs 2 h ∙ (λ t. xor ((pairs_later 1 (omega arith) ∙ (λ t. xor (first_2 t) (first_1 t))) t) (up2 t))
       ∙ xor_inward (at before (place n r 2 k)) (at before (place n r 1 k)) (xor (at before (place n r 0 k)) (at here ((place n r 0 k + ror) % B)))
   columns_right (suc (suc (suc zero))) h =
-      let up1 = bit_below first n (place n r 3 k) (place n r 2 k) (omega arith) (omega arith) ∙ first_2 in
-      let up2 = bit_below first (2 * n) (place n r 3 k) (place n r 1 k) (omega arith) (omega arith) ∙ first_1 in
-      let up3 = bit_below first (3 * n) (place n r 3 k) (place n r 0 k) (omega arith) (omega arith) ∙ first_0 in
-      outs 3 h ∙ (λ t. xor (xor (xor (first_3 t) (up1 t)) (up2 t)) (up3 t))
-      ∙ xor_inward (xor (at before (place n r 3 k)) (at before (place n r 2 k))) (at before (place n r 1 k)) (xor (at before (place n r 0 k)) (at here ((place n r 0 k + ror) % B)))
+      let up2 = bit_below pairs (2 * n) (place n r 3 k) (place n r 1 k) (omega arith) (omega arith) ∙ pairs_later 0 (omega arith) ∙ (λ t. xor (first_1 t) (first_0 t)) in
+      outs 3 h ∙ (λ t. xor ((pairs_later 2 (omega arith) ∙ (λ t. xor (first_3 t) (first_2 t))) t) (up2 t))
       ∙ xor_inward (at before (place n r 3 k)) (at before (place n r 2 k)) (xor (at before (place n r 1 k)) (xor (at before (place n r 0 k)) (at here ((place n r 0 k + ror) % B))))
   columns_right (suc (suc (suc (suc c)))) h = absurd (omega arith)
 

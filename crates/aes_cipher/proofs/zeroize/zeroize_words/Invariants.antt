@@ -1,4 +1,4 @@
--- The invariant of the loop of `zeroize::zeroize_words`.
+-- What holds in the loop of `zeroize::zeroize_words`.
 use Rattle.std.proofs.Common.{◌≡◌, ◌++◌, replicate, drop}
 use Rattle.aes_cipher.proofs.zeroize.zeroize_words.Given as goal
 

@@ -1,3 +1,4 @@
+-- What is left to show of `adding::add_blocks`.
 use Rattle.std.proofs.Common.{◌∙◌, ◌+◌, ◌/◌, ◌%◌, [], slice_index, slice_index_or, arith}
 use Rattle.aes_ctr.specs.Private.{byte_of_blocks}
 use Rattle.aes_ctr.proofs.Places.{byte_of_block}

@@ -1,3 +1,4 @@
+-- What holds in the loop of `adding::add_blocks`.
 use Rattle.std.proofs.Common.{◌≡◌, ◌≤◌, ◌-◌, length}
 use Rattle.aes_ctr.specs.CounterMode.{plus_stream}
 use Rattle.aes_ctr.specs.Private.{byte_of_blocks}

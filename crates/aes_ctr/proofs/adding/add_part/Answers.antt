@@ -1,3 +1,4 @@
+-- What is left to show of `adding::add_part`.
 use Rattle.std.proofs.Common.{◌∙◌, slice_index, arith}
 use Rattle.aes_ctr.proofs.Runs.{added_one, added_all}
 use Rattle.aes_ctr.proofs.adding.add_part.Goals as goal

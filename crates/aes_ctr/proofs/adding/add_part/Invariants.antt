@@ -1,3 +1,4 @@
+-- What holds in the loop of `adding::add_part`.
 use Rattle.std.proofs.Common.{◌≡◌, slice_index}
 use Rattle.aes_ctr.specs.CounterMode.{plus_stream}
 use Rattle.aes_ctr.proofs.Runs.{added_from}

@@ -1,3 +1,4 @@
+-- What is left to show of `keystream::block_of`.
 use Rattle.aes_ctr.proofs.Counters.{halves}
 use Rattle.aes_ctr.proofs.keystream.block_of.Goals as goal
 

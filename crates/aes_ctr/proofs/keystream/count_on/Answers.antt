@@ -1,3 +1,4 @@
+-- What is left to show of `keystream::count_on`.
 use Rattle.std.proofs.Common.{◌≡◌, ◌+◌, ◌%◌, ◌^◌, ◌∙◌, [], ap, arith}
 use Rattle.std.proofs.lemmas.List.Edits.{fill_by_more}
 use Rattle.std.specs.Int.{to_be_bytes, w128}

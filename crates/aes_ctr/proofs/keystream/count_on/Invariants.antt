@@ -1,3 +1,4 @@
+-- What holds in the loop of `keystream::count_on`.
 use Rattle.std.proofs.Common.{◌≡◌, ℕ, ◌+◌, ◌<◌, [], get_or}
 use Rattle.aes_ctr.specs.CounterMode.{counter, counter_block}
 use Rattle.aes_ctr.proofs.keystream.count_on.Given as goal

@@ -32,19 +32,16 @@ fn sum_columns<W: Word>(before: W, substituted: W, idx_ror: u32) -> W
     let column0 = W::uniform_row(0x1);
     let start = column0.bit_and(turned);
     let first = before.bit_xor(start);
+    // With the column before each, then with the two before those: four columns are summed in two steps.
     let up1 = first.shift_left(W::QUARTER_ROW);
-    let up2 = first.shift_left(W::HALF_ROW);
-    let up3 = first.shift_left(W::ror_distance(0, 3));
     let from1 = W::uniform_row(0xe);
-    let from2 = W::uniform_row(0xc);
-    let from3 = W::uniform_row(0x8);
     let part1 = from1.bit_and(up1);
+    let pairs = first.bit_xor(part1);
+    let up2 = pairs.shift_left(W::HALF_ROW);
+    let from2 = W::uniform_row(0xc);
     let part2 = from2.bit_and(up2);
-    let part3 = from3.bit_and(up3);
-    let sum1 = first.bit_xor(part1);
-    let sum2 = sum1.bit_xor(part2);
-    let sum3 = sum2.bit_xor(part3);
-    sum3
+    let sums = pairs.bit_xor(part2);
+    sums
 }
 
 /// Makes of the substituted words at `offset` the next round key.

@@ -15,11 +15,11 @@ returns g c = λ r q k h l kn.
     let eB : B ≡ 16 * n = laws.sixteen in
     let e1 : c.QUARTER_ROW.result ≡ n = omega (arith, c.QUARTER_ROW.ensures, laws.one) in
     let e2 : c.HALF_ROW.result ≡ 2 * n = omega (arith, c.HALF_ROW.ensures, laws.two) in
-    let e3 : c.ror_distance.result ≡ 3 * n = omega (arith, c.ror_distance.ensures, laws.one) in
     let first = bits c.bit_xor-first.result in
+    let pairs = bits c.bit_xor-pairs.result in
     let low : (q : ℕ) → q < 4 → place n r q k < B = λ q l. omega (arith, place_lt n r q k h l kn) in
     let col : (q : ℕ) → q < 4 → place n r q k % g.W.Word.ROW_BITS / g.W.Word.QUARTER_ROW ≡ q = λ q l. column_of n _ _ r q k laws.four laws.one h l kn in
-    columns_right n B c.args.idx_ror r k (bits c.args.before) (bits c.args.substituted) first (bits c.bit_xor-sum3.result)
+    columns_right n B c.args.idx_ror r k (bits c.args.before) (bits c.args.substituted) first pairs (bits c.bit_xor-sums.result)
     (λ q l.
     let p = place n r q k in
     c.bit_xor-first.ensures.place p (low q l)
@@ -27,9 +27,12 @@ returns g c = λ r q k h l kn.
     ∙ (λ t. (c.uniform_row-column0.ensures.place p (low q l) ∙ ap (bit 1) (col q l)) t && c.ror-turned.ensures.place p (low q l) t)))
     (λ q l.
     let p = place n r q k in
-    let m1 = c.bit_and-part1.ensures.place p (low q l) ∙ (λ t. (c.uniform_row-from1.ensures.place p (low q l) ∙ ap (bit 14) (col q l)) t && (c.shift_left-up1.ensures.place p (low q l) ∙ ap (λ v. nat_le v p && at first (p - v)) e1) t) in
-    let m2 = c.bit_and-part2.ensures.place p (low q l) ∙ (λ t. (c.uniform_row-from2.ensures.place p (low q l) ∙ ap (bit 12) (col q l)) t && (c.shift_left-up2.ensures.place p (low q l) ∙ ap (λ v. nat_le v p && at first (p - v)) e2) t) in
-    let m3 = c.bit_and-part3.ensures.place p (low q l) ∙ (λ t. (c.uniform_row-from3.ensures.place p (low q l) ∙ ap (bit 8) (col q l)) t && (c.shift_left-up3.ensures.place p (low q l) ∙ ap (λ v. nat_le v p && at first (p - v)) e3) t) in
-    c.bit_xor-sum3.ensures.place p (low q l)
-    ∙ (λ t. xor ((c.bit_xor-sum2.ensures.place p (low q l) ∙ (λ t. xor ((c.bit_xor-sum1.ensures.place p (low q l) ∙ ap (xor (at first p)) m1) t) (m2 t))) t) (m3 t)))
+    c.bit_xor-pairs.ensures.place p (low q l)
+    ∙ ap (xor (at first p)) (c.bit_and-part1.ensures.place p (low q l)
+    ∙ (λ t. (c.uniform_row-from1.ensures.place p (low q l) ∙ ap (bit 14) (col q l)) t && (c.shift_left-up1.ensures.place p (low q l) ∙ ap (λ v. nat_le v p && at first (p - v)) e1) t)))
+    (λ q l.
+    let p = place n r q k in
+    c.bit_xor-sums.ensures.place p (low q l)
+    ∙ ap (xor (at pairs p)) (c.bit_and-part2.ensures.place p (low q l)
+    ∙ (λ t. (c.uniform_row-from2.ensures.place p (low q l) ∙ ap (bit 12) (col q l)) t && (c.shift_left-up2.ensures.place p (low q l) ∙ ap (λ v. nat_le v p && at pairs (p - v)) e2) t)))
     q l

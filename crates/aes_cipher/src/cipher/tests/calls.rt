@@ -1,0 +1,139 @@
+//! Each call of a cipher on a round that the standard works out.
+
+ghost use Rattle.std.specs.Prelude.{◌<◌, length};
+
+use super::closures::{Five, OneAndBatch};
+use super::one_round::{Lent, OneRound};
+use crate::cipher::{
+    AlgorithmName, BlockCipherDecBackend, BlockCipherDecrypt, BlockCipherEncrypt, BlockSizeUser,
+    NotEqualError, ParBlocksSizeUser,
+};
+use aes_planes::soft::word::Block;
+use std::fmt;
+use std::test::Fail;
+
+// FIPS 197, appendix B: the state that round 9 adds its round key to, and the output.
+const INPUT: Block = [
+    0x47, 0x37, 0x94, 0xed, 0x40, 0xd4, 0xe4, 0xa5, 0xa3, 0x70, 0x3a, 0xa6, 0x4c, 0x9f, 0x42, 0xbc,
+];
+
+const OUTPUT: Block = [
+    0x39, 0x25, 0x84, 0x1d, 0x02, 0xdc, 0x09, 0xfb, 0xdc, 0x11, 0x85, 0x97, 0x19, 0x6a, 0x0b, 0x32,
+];
+
+// The cipher that is left of that example: its round keys are 9 and 10 there.
+fn rest_of_the_example() -> OneRound {
+    OneRound {
+        first: [
+            0xac, 0x77, 0x66, 0xf3, 0x19, 0xfa, 0xdc, 0x21, 0x28, 0xd1, 0x29, 0x41, 0x57, 0x5c,
+            0x00, 0x6e,
+        ],
+        last: [
+            0xd0, 0x14, 0xf9, 0xa8, 0xc9, 0xee, 0x25, 0x89, 0xe1, 0x3f, 0x0c, 0xc8, 0xb6, 0x63,
+            0x0c, 0xa6,
+        ],
+    }
+}
+
+// Five blocks that differ, the example's among them.
+fn five() -> [Block; 5] {
+    [[1; 16], INPUT, [2; 16], [3; 16], OUTPUT]
+}
+
+// Each block, encrypted by itself.
+fn encrypted_one_by_one(blocks: [Block; 5]) -> [Block; 5] {
+    let cipher = rest_of_the_example();
+    let mut done = blocks;
+    for i in 0..5 {
+        cipher.encrypt_block(&mut done[i]);
+    }
+    done
+}
+
+#[test]
+fn works_out_the_example(rt: HostRuntime) {
+    let cipher = rest_of_the_example();
+    assert_eq!(rt; OneRound::BLOCK_SIZE, 16);
+    let mut block = INPUT;
+    cipher.encrypt_block(&mut block);
+    assert_eq!(rt; block, OUTPUT);
+    cipher.decrypt_block(&mut block);
+    assert_eq!(rt; block, INPUT);
+    let mut other = [0xee; 16];
+    cipher.encrypt_block_b2b(&INPUT, &mut other);
+    assert_eq!(rt; other, OUTPUT);
+    cipher.decrypt_block_b2b(&OUTPUT, &mut other);
+    assert_eq!(rt; other, INPUT);
+}
+
+#[test]
+fn works_on_slices_block_by_block(rt: HostRuntime) {
+    let cipher = rest_of_the_example();
+    let wanted = encrypted_one_by_one(five());
+    let mut blocks = five();
+    cipher.encrypt_blocks(&mut blocks);
+    assert_eq!(rt; blocks, wanted);
+    assert_eq!(rt; blocks[1], OUTPUT);
+    cipher.decrypt_blocks(&mut blocks);
+    assert_eq!(rt; blocks, five());
+    let mut output = [[0xee; 16]; 5];
+    assert_eq!(rt; cipher.encrypt_blocks_b2b(&five(), &mut output), Ok(()));
+    assert_eq!(rt; output, wanted);
+    assert_eq!(rt; cipher.decrypt_blocks_b2b(&wanted, &mut output), Ok(()));
+    assert_eq!(rt; output, five());
+}
+
+#[test]
+fn leaves_the_output_of_another_length(rt: HostRuntime) {
+    let cipher = rest_of_the_example();
+    let input = [INPUT, [1; 16], OUTPUT];
+    for i in 0..4 {
+        for o in 0..4 {
+            let refused = if i == o { Ok(()) } else { Err(NotEqualError) };
+            let mut output = [[0xee; 16]; 3];
+            let (written, _) = output.split_at_mut(o);
+            assert_eq!(rt; cipher.encrypt_blocks_b2b(&input[..i], written), refused);
+            assert_eq!(rt; output == [[0xee; 16]; 3], i != o || o == 0);
+            let mut output = [[0xee; 16]; 3];
+            let (written, _) = output.split_at_mut(o);
+            assert_eq!(rt; cipher.decrypt_blocks_b2b(&input[..i], written), refused);
+            assert_eq!(rt; output == [[0xee; 16]; 3], i != o || o == 0);
+        }
+    }
+}
+
+#[test]
+fn lends_closures_a_backend(rt: HostRuntime) {
+    let cipher = rest_of_the_example();
+    assert_eq!(rt; Lent::PAR_BLOCKS, 3);
+    let mut closure = Five { blocks: five() };
+    cipher.encrypt_with_backend(&mut closure);
+    assert_eq!(rt; closure.blocks, encrypted_one_by_one(five()));
+    let mut closure = OneAndBatch {
+        one: OUTPUT,
+        batch: [[4; 16], OUTPUT, [5; 16]],
+        fits: false,
+    };
+    cipher.decrypt_with_backend(&mut closure);
+    assert_eq!(rt; closure.one, INPUT);
+    assert!(rt; closure.fits);
+    assert_eq!(rt; closure.batch[1], INPUT);
+    cipher.encrypt_blocks(&mut closure.batch);
+    assert_eq!(rt; closure.batch, [[4; 16], OUTPUT, [5; 16]]);
+}
+
+// A name of an algorithm, as text.
+struct Name;
+
+impl fmt::Display for Name {
+    fn fmt<W: fmt::Write>(&self, f: &mut fmt::Formatter<W>) -> fmt::Result {
+        OneRound::write_alg_name(f)
+    }
+}
+
+#[test]
+fn writes_its_name(rt: HostRuntime) -> Result<(), Fail> {
+    let text = format!(in rt.alloc(); "{}", Name)?;
+    assert_eq!(rt; text.as_str(), "OneRound");
+    Ok(())
+}

@@ -1,0 +1,31 @@
+//! Words that are wiped, by themselves and in a value.
+
+use super::{Wiped, ZeroizeOnDrop, zeroize_words};
+
+#[test]
+fn wipes_words_of_any_width(rt: HostRuntime) {
+    let mut narrow: [u16; 3] = [0xffff, 0x0100, 1];
+    zeroize_words(&mut narrow);
+    assert_eq!(rt; narrow, [0; 3]);
+    let mut wide: [u64; 2] = [u64::MAX, 1 << 63];
+    zeroize_words(&mut wide);
+    assert_eq!(rt; wide, [0; 2]);
+    let mut part: [u64; 3] = [1, 2, 3];
+    zeroize_words(&mut part[1..]);
+    assert_eq!(rt; part, [1, 0, 0]);
+    zeroize_words(&mut part[..0]);
+    assert_eq!(rt; part, [1, 0, 0]);
+}
+
+// Drops a value whose words are wiped by that.
+fn let_go_of<T: ZeroizeOnDrop + Drop>(_value: T) {}
+
+#[test]
+fn wipes_a_value_and_leaves_its_copy(rt: HostRuntime) {
+    let mut value = Wiped { words: [7, 8, 9] };
+    let copy = value.copy();
+    value.wipe();
+    assert_eq!(rt; value.words, [0; 3]);
+    assert_eq!(rt; copy.words, [7, 8, 9]);
+    let_go_of(copy);
+}
