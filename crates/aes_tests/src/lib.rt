@@ -5,6 +5,7 @@ pub mod by_backend;
 pub mod callers;
 pub mod cbc;
 pub mod closures;
+pub mod counter_mode;
 pub mod generic;
 pub mod layers;
 #[cfg(test)]

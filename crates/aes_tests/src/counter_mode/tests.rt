@@ -1,0 +1,236 @@
+//! What no clause says: that the calls answer, and what they answer on the standard's examples.
+
+mod two_keys;
+
+use super::{apply_to_parts, there_and_back};
+use crate::by_backend::ByBackend;
+use aes::{Aes128, Aes128Enc, Aes192Enc, Aes256};
+use aes_cipher::cipher::{BlockCipherEncrypt, KeyInit};
+use aes_ctr::{Ctr128BE, stream_cut};
+use std::test::Fail;
+use two_keys::TwoKeys;
+
+// The key and the initial counter block of SP 800-38A, F.5.1.
+const KEY: u128 = 0x2b7e151628aed2a6abf7158809cf4f3c;
+
+const IV: u128 = 0xf0f1f2f3f4f5f6f7f8f9fafbfcfdfeff;
+
+// Two blocks of its plaintext, and the same two of its ciphertext.
+const PLAIN: [u128; 2] = [
+    0x6bc1bee22e409f96e93d7e117393172a,
+    0xae2d8a571e03ac9c9eb76fac45af8e51,
+];
+
+const ENCRYPTED: [u128; 2] = [
+    0x874d6191b620e3261bef6864990db6ce,
+    0x9806f66b7970fdff8617187bb9fffdff,
+];
+
+// The bytes of two blocks.
+fn bytes_of(blocks: [u128; 2]) -> [u8; 32] {
+    let first = blocks[0].to_be_bytes();
+    let second = blocks[1].to_be_bytes();
+    let mut bytes = [0; 32];
+    for i in 0..16 {
+        bytes[i] = first[i];
+        bytes[16 + i] = second[i];
+    }
+    bytes
+}
+
+// Block `j` of bytes, if they have it.
+fn block_at(bytes: &[u8], j: usize) -> Option<u128> {
+    if bytes.len() / 16 <= j {
+        return None;
+    }
+    let block = <[u8; 16]>::try_from(&bytes[16 * j..16 * j + 16]).ok()?;
+    Some(u128::from_be_bytes(block))
+}
+
+// Bytes that differ from their neighbours.
+fn fill(bytes: &mut [u8]) {
+    for i in 0..bytes.len() {
+        bytes[i] = (i % 251) as u8;
+    }
+}
+
+// Counter mode under the key of the standard's example.
+fn mode_from(iv: u128) -> Ctr128BE<Aes128Enc> {
+    Ctr128BE::new(Aes128Enc::new(&KEY.to_be_bytes()), iv.to_be_bytes())
+}
+
+// Adds the keystream to bytes by calls on pieces of these lengths, and tells whether each call answered and no byte is
+// left.
+fn apply_in_pieces<C: BlockCipherEncrypt>(
+    mode: &mut Ctr128BE<C>,
+    bytes: &mut [u8],
+    pieces: &[usize],
+) -> bool {
+    let mut from = 0;
+    for piece in pieces {
+        if bytes.len() - from < *piece {
+            return false;
+        }
+        let end = from + *piece;
+        if mode.try_apply(&mut bytes[from..end]).is_err() {
+            return false;
+        }
+        from = end;
+    }
+    from == bytes.len()
+}
+
+#[test]
+fn answers_the_example_of_the_standard_however_it_is_cut(rt: HostRuntime) {
+    let cuts: [&[usize]; 4] = [&[32], &[5, 27], &[0, 1, 15, 0, 16], &[1; 32]];
+    for pieces in cuts {
+        let mut mode = mode_from(IV);
+        let mut bytes = bytes_of(PLAIN);
+        assert!(rt; apply_in_pieces(&mut mode, &mut bytes, pieces));
+        assert_eq!(rt; bytes, bytes_of(ENCRYPTED));
+        assert_eq!(rt; mode.position(), 32);
+    }
+    let mut bytes = bytes_of(ENCRYPTED);
+    assert!(rt; mode_from(IV).try_apply(&mut bytes).is_ok());
+    assert_eq!(rt; bytes, bytes_of(PLAIN));
+}
+
+// The first two blocks of the keystream of a cipher.
+fn keystream_of<C: BlockCipherEncrypt + Drop>(cipher: C, iv: u128) -> Option<[u128; 2]> {
+    let mut bytes = [0; 32];
+    let mut mode = Ctr128BE::new(cipher, iv.to_be_bytes());
+    mode.try_apply(&mut bytes).ok()?;
+    Some([block_at(&bytes, 0)?, block_at(&bytes, 1)?])
+}
+
+// The zero block encrypted under the zero key of each size: by OpenSSL.
+#[test]
+fn counts_from_zero_and_past_the_last_number(rt: HostRuntime) -> Result<(), Fail> {
+    let [_, second] = keystream_of(Aes128::new(&[0; 16]), u128::MAX).ok_or("end")?;
+    assert_eq!(rt; second, 0x66e94bd4ef8a2c3b884cfa59ca342b2e);
+    let [first, _] = keystream_of(Aes192Enc::new(&[0; 24]), 0).ok_or("end")?;
+    assert_eq!(rt; first, 0xaae06992acbf52a3e8f4a96ec9300bd7);
+    let [first, _] = keystream_of(Aes256::new(&[0; 32]), 0).ok_or("end")?;
+    assert_eq!(rt; first, 0xdc95c078a2408989ad48a21492842087);
+    Ok(())
+}
+
+// Blocks of the keystream by OpenSSL, where the counter carries into its upper half after block 31, and where it starts
+// anew from zero there. They stand about the ends of batches.
+#[test]
+fn carries_through_the_counter(rt: HostRuntime) {
+    let rows: [(u128, [(usize, u128); 8]); 2] = [
+        (
+            0x0123456789abcdefffffffffffffffe0,
+            [
+                (0, 0x1bbb9e0b98f4a17b94f20920695231bf),
+                (31, 0x140cc58c481a343c004a1dc8ec313ca1),
+                (32, 0x40324c8b9cde30f781f03f71d12d1a8b),
+                (63, 0x97964fd26cf1eb49788f59a71ec08c72),
+                (64, 0xd5295b625bc578363cb4a14e294e56d4),
+                (511, 0x1563e19a7723d1a14575d29f017bf4ab),
+                (512, 0x56357183989d262727a84ee01d3762da),
+                (599, 0xd28f4f6f445a4aec1296d0f381abc366),
+            ],
+        ),
+        (
+            0xffffffffffffffffffffffffffffffe0,
+            [
+                (0, 0x00b8dd2ef2fd203b170faba18a9239a1),
+                (31, 0x8af2860142f786f409307c1a3f7eaaac),
+                (32, 0x7df76b0c1ab899b33e42f047b91b546f),
+                (63, 0x6713c45185cdbd3be7a22b3b0a59b071),
+                (64, 0xcb739dd41e040ac96b849e1c5beddd35),
+                (511, 0x57812e27cc0c4c57bce3583ad12f8c4d),
+                (512, 0xd98cec67877b17e224ebc4ccc5f172c7),
+                (599, 0xbd7fdaac65120e5130d58f97bd1c6480),
+            ],
+        ),
+    ];
+    for (iv, blocks) in rows {
+        let mut whole = [0; 9600];
+        assert!(rt; mode_from(iv).try_apply(&mut whole).is_ok());
+        for (j, block) in blocks {
+            assert!(rt; block_at(&whole, j) == Some(block));
+        }
+        let mut pieces = [0; 9600];
+        assert!(rt;
+            apply_in_pieces(
+                &mut mode_from(iv),
+                &mut pieces,
+                &[1025, 0, 7, 1024, 300, 7244]
+            )
+        );
+        assert!(rt; pieces == whole);
+    }
+}
+
+#[test]
+fn answers_the_same_cut_at_every_place(rt: HostRuntime) {
+    let mut plain = [0; 400];
+    fill(&mut plain);
+    for len in 0..=400 {
+        let mut once = plain;
+        assert!(rt; mode_from(IV).try_apply(&mut once[..len]).is_ok());
+        for cut in 0..=len {
+            let mut twice = plain;
+            let mut mode = mode_from(IV);
+            assert!(rt; mode.try_apply(&mut twice[..cut]).is_ok());
+            assert!(rt; mode.try_apply(&mut twice[cut..len]).is_ok());
+            assert!(rt; twice == once);
+        }
+    }
+}
+
+#[test]
+fn answers_the_same_from_every_position(rt: HostRuntime) {
+    let mut whole = [0; 440];
+    assert!(rt; mode_from(IV).try_apply(&mut whole).is_ok());
+    for start in 0..=40 {
+        for len in 0..=400 {
+            let mut mode = mode_from(IV);
+            let mut bytes = [0; 440];
+            assert!(rt; mode.try_apply(&mut bytes[..start]).is_ok());
+            assert_eq!(rt; mode.position(), start as u64);
+            assert!(rt; mode.try_apply(&mut bytes[start..start + len]).is_ok());
+            assert!(rt; bytes[..start + len] == whole[..start + len]);
+        }
+    }
+}
+
+// A cipher that no key expands to: the crate rests on the trait alone.
+#[test]
+fn adds_what_the_cipher_of_the_counter_is(rt: HostRuntime) {
+    let cipher = ByBackend {
+        backend: TwoKeys {
+            first: KEY.to_be_bytes(),
+            last: IV.to_be_bytes(),
+        },
+    };
+    let mut want = [0; 40];
+    for i in 0..40 {
+        let mut block = u128::MAX.wrapping_add((i / 16) as u128).to_be_bytes();
+        cipher.encrypt_block(&mut block);
+        want[i] = block[i % 16];
+    }
+    let mut bytes = [0; 40];
+    assert!(rt;
+        Ctr128BE::new(cipher, [255; 16])
+            .try_apply(&mut bytes)
+            .is_ok()
+    );
+    assert_eq!(rt; bytes, want);
+}
+
+#[test]
+fn callers_answer(rt: HostRuntime) {
+    let mut bytes = bytes_of(PLAIN);
+    assert!(rt; there_and_back::<Aes128>(&KEY.to_be_bytes(), IV.to_be_bytes(), &mut bytes).is_ok());
+    assert_eq!(rt; bytes, bytes_of(PLAIN));
+    let mut mode = mode_from(IV);
+    let mut rest = [0; 27];
+    let mut head = [0; 5];
+    assert!(rt; apply_to_parts(&mut mode, &mut head, &mut rest).is_ok());
+    assert_eq!(rt; mode.position(), 32);
+    stream_cut();
+}
