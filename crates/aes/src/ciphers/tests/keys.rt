@@ -1,10 +1,7 @@
 //! Making values from keys and from other values, and wiping them.
 
 use super::COUNTED;
-use crate::{
-    Aes128, Aes128Dec, Aes128Enc, Aes192, Aes192Dec, Aes192Enc, Aes256, Aes256Dec, Aes256Enc,
-    AesCipher, BothWays, Decrypting, Encrypting,
-};
+use crate::{AesCipher, BothWays, Decrypting, Encrypting};
 use aes_cipher::cipher::{
     BlockCipherDecrypt, BlockCipherEncrypt, BlockSizeUser, KeyInit, KeySizeUser,
 };
@@ -26,17 +23,18 @@ where
     right
 }
 
+/// The same of the three types of a size.
+fn all_take_their_own_length_alone<K: KeySize>(size: usize) -> bool {
+    takes_its_own_length_alone::<AesCipher<K, BothWays>>(size)
+        && takes_its_own_length_alone::<AesCipher<K, Encrypting>>(size)
+        && takes_its_own_length_alone::<AesCipher<K, Decrypting>>(size)
+}
+
 #[test]
 fn takes_slices_of_the_key_size_alone(rt: HostRuntime) {
-    assert!(rt; takes_its_own_length_alone::<Aes128>(16));
-    assert!(rt; takes_its_own_length_alone::<Aes128Enc>(16));
-    assert!(rt; takes_its_own_length_alone::<Aes128Dec>(16));
-    assert!(rt; takes_its_own_length_alone::<Aes192>(24));
-    assert!(rt; takes_its_own_length_alone::<Aes192Enc>(24));
-    assert!(rt; takes_its_own_length_alone::<Aes192Dec>(24));
-    assert!(rt; takes_its_own_length_alone::<Aes256>(32));
-    assert!(rt; takes_its_own_length_alone::<Aes256Enc>(32));
-    assert!(rt; takes_its_own_length_alone::<Aes256Dec>(32));
+    assert!(rt; all_take_their_own_length_alone::<Bits128>(16));
+    assert!(rt; all_take_their_own_length_alone::<Bits192>(24));
+    assert!(rt; all_take_their_own_length_alone::<Bits256>(32));
 }
 
 /// The block of FIPS 197, appendix C.
