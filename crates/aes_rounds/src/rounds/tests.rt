@@ -10,8 +10,8 @@ use aes_cipher::cipher::{
 };
 use aes_planes::soft::word::Block;
 
-/// The eight blocks of `eight_blocks` encrypted under the key of 16 bytes 00 to 0f: the first is of
-/// FIPS 197, appendix C.1, all are what OpenSSL answers.
+// The eight blocks of `eight_blocks` encrypted under the key of 16 bytes 00 to 0f: the first is of
+// FIPS 197, appendix C.1, all are what OpenSSL answers.
 const ENCRYPTED_128: [u128; 8] = [
     0x69c4e0d86a7b0430d8cdb78070b4c55a,
     0xa9541c06f1c21125e44013531e18f406,
@@ -23,7 +23,7 @@ const ENCRYPTED_128: [u128; 8] = [
     0x4605a49219c3459631f29dcff0a6f7da,
 ];
 
-/// The same under the key of 24 bytes 00 to 17 (appendix C.2).
+// The same under the key of 24 bytes 00 to 17 (appendix C.2).
 const ENCRYPTED_192: [u128; 8] = [
     0xdda97ca4864cdfe06eaf70a0ec0d7191,
     0x2338b5561b17d2fbb2b8cccf212107da,
@@ -35,7 +35,7 @@ const ENCRYPTED_192: [u128; 8] = [
     0x5e18ee87658eead543bbdd07c6f5c612,
 ];
 
-/// The same under the key of 32 bytes 00 to 1f (appendix C.3).
+// The same under the key of 32 bytes 00 to 1f (appendix C.3).
 const ENCRYPTED_256: [u128; 8] = [
     0x8ea2b7ca516745bfeafc49904b496089,
     0x35885e82c64f7b791d932044771160ca,
@@ -47,7 +47,7 @@ const ENCRYPTED_256: [u128; 8] = [
     0x25392f1e278c76e7a85ea6ff6b223ece,
 ];
 
-/// The bytes 00, 01, 02 and so on: the keys of FIPS 197, appendices C.1 to C.3.
+// The bytes 00, 01, 02 and so on: the keys of FIPS 197, appendices C.1 to C.3.
 fn counted<const N: usize>() -> [u8; N] {
     let mut bytes = [0; N];
     for i in 0..N {
@@ -56,8 +56,8 @@ fn counted<const N: usize>() -> [u8; N] {
     bytes
 }
 
-/// Eight different blocks: the first is that of FIPS 197, appendix C, and block i adds i to each of
-/// its bytes.
+// Eight different blocks: the first is that of FIPS 197, appendix C, and block i adds i to each of
+// its bytes.
 fn eight_blocks() -> Block8 {
     let mut blocks = [[0; 16]; 8];
     for i in 0..8u8 {
@@ -69,7 +69,7 @@ fn eight_blocks() -> Block8 {
     blocks
 }
 
-/// A list of round keys that is no expansion: the multiples of a number, from 0 on.
+// A list of round keys that is no expansion: the multiples of a number, from 0 on.
 fn any_round_keys<const RK: usize>() -> [Block; RK] {
     let mut round_keys = [[0; 16]; RK];
     for i in 0..RK {
@@ -80,7 +80,7 @@ fn any_round_keys<const RK: usize>() -> [Block; RK] {
     round_keys
 }
 
-/// The blocks encrypted one by one, and as a batch.
+// The blocks encrypted one by one, and as a batch.
 fn encrypted<B: BlockCipherEncBackend>(backend: &B, blocks: &Block8) -> [Block8; 2]
     requires { B.PAR_BLOCKS ≡ 8 }
 {
@@ -93,7 +93,7 @@ fn encrypted<B: BlockCipherEncBackend>(backend: &B, blocks: &Block8) -> [Block8;
     [one_by_one, at_once]
 }
 
-/// The blocks decrypted one by one, and as a batch.
+// The blocks decrypted one by one, and as a batch.
 fn decrypted<B: BlockCipherDecBackend>(backend: &B, blocks: &Block8) -> [Block8; 2]
     requires { B.PAR_BLOCKS ≡ 8 }
 {
@@ -106,7 +106,7 @@ fn decrypted<B: BlockCipherDecBackend>(backend: &B, blocks: &Block8) -> [Block8;
     [one_by_one, at_once]
 }
 
-/// A block there and back, which the contracts alone tell.
+// A block there and back, which the contracts alone tell.
 fn restored<const RK: usize>(round_keys: &[Block; RK], block: &mut Block)
     requires { (RK ≡ 11) ⊎ (RK ≡ 13) ⊎ (RK ≡ 15) }
     ensures { block.new ≡ block.old }
@@ -117,7 +117,7 @@ fn restored<const RK: usize>(round_keys: &[Block; RK], block: &mut Block)
     cipher.as_dec().decrypt_block(block);
 }
 
-/// Whether every type makes of the blocks, and back, what it should.
+// Whether every type makes of the blocks, and back, what it should.
 fn there_and_back<const RK: usize>(
     round_keys: &[Block; RK],
     plain: &Block8,
@@ -135,7 +135,7 @@ fn there_and_back<const RK: usize>(
         && decrypted(&AesDec::new(round_keys), wanted) == [*plain, *plain]
 }
 
-/// Numbers as blocks.
+// Numbers as blocks.
 fn blocks_of(numbers: &[u128; 8]) -> Block8 {
     let mut blocks = [[0; 16]; 8];
     for i in 0..8usize {
@@ -152,7 +152,7 @@ fn answers_as_openssl_does(rt: HostRuntime) {
     assert!(rt; there_and_back(&expand_256(&counted()), &plain, &blocks_of(&ENCRYPTED_256)));
 }
 
-/// The keys of FIPS 197, appendices A.2 and A.3.
+// The keys of FIPS 197, appendices A.2 and A.3.
 const KEY_A2: [u8; 24] = [
     0x8e, 0x73, 0xb0, 0xf7, 0xda, 0x0e, 0x64, 0x52, 0xc8, 0x10, 0xf3, 0x2b, 0x80, 0x90, 0x79, 0xe5,
     0x62, 0xf8, 0xea, 0xd2, 0x52, 0x2c, 0x6b, 0x7b,
@@ -163,7 +163,7 @@ const KEY_A3: [u8; 32] = [
     0x1f, 0x35, 0x2c, 0x07, 0x3b, 0x61, 0x08, 0xd7, 0x2d, 0x98, 0x10, 0xa3, 0x09, 0x14, 0xdf, 0xf4,
 ];
 
-/// A slice of eight blocks goes through another implementation, on words of eight blocks.
+// A slice of eight blocks goes through another implementation, on words of eight blocks.
 #[test]
 fn agrees_with_the_type_for_keys_of_32_bytes(rt: HostRuntime) {
     let plain = eight_blocks();
@@ -172,7 +172,7 @@ fn agrees_with_the_type_for_keys_of_32_bytes(rt: HostRuntime) {
     assert!(rt; there_and_back(&expand_256(&counted()), &plain, &wanted));
 }
 
-/// FIPS 197, appendices A.1 to A.3: the first words that are not the key's own, and the last round key.
+// FIPS 197, appendices A.1 to A.3: the first words that are not the key's own, and the last round key.
 #[test]
 fn expands_keys_of_the_standard(rt: HostRuntime) {
     let round_keys = expand_128(&0x2b7e151628aed2a6abf7158809cf4f3c_u128.to_be_bytes());
@@ -212,8 +212,8 @@ fn expands_keys_of_the_standard(rt: HostRuntime) {
     );
 }
 
-/// Under round keys of zeros equal bytes stay equal, so that a round is the S-box alone. The S-box
-/// (FIPS 197, figure 7) ten, twelve and fourteen times on 00 is 36, 6b and d2.
+// Under round keys of zeros equal bytes stay equal, so that a round is the S-box alone. The S-box
+// (FIPS 197, figure 7) ten, twelve and fourteen times on 00 is 36, 6b and d2.
 #[test]
 fn takes_round_keys_of_zeros(rt: HostRuntime) {
     let zeros = [[0; 16]; 8];
@@ -222,8 +222,8 @@ fn takes_round_keys_of_zeros(rt: HostRuntime) {
     assert!(rt; there_and_back(&[[0; 16]; 15], &zeros, &[[0xd2; 16]; 8]));
 }
 
-/// Whether the last of the eight blocks becomes `wanted` under the round keys, and all types agree on
-/// each of them, there and back.
+// Whether the last of the eight blocks becomes `wanted` under the round keys, and all types agree on
+// each of them, there and back.
 fn all_agree<const RK: usize>(round_keys: &[Block; RK], wanted: u128) -> bool
     requires { (RK ≡ 11) ⊎ (RK ≡ 13) ⊎ (RK ≡ 15) }
 {
@@ -232,7 +232,7 @@ fn all_agree<const RK: usize>(round_keys: &[Block; RK], wanted: u128) -> bool
     u128::from_be_bytes(one_by_one[7]) == wanted && there_and_back(round_keys, &plain, &one_by_one)
 }
 
-/// The values were computed by the definitions of FIPS 197, 5.1, in Python.
+// The values were computed by the definitions of FIPS 197, 5.1, in Python.
 #[test]
 fn takes_lists_that_are_no_expansions(rt: HostRuntime) {
     assert!(rt; all_agree(&any_round_keys::<11>(), 0xd2bdd1cc4e04650a80014564b6cbc07e));

@@ -64,7 +64,7 @@ fn slices_go_there_and_back(rt: HostRuntime) {
     assert_eq!(rt; blocks, different_blocks());
 }
 
-/// The counters are seen by contracts alone: what is left to see is that the calls answer.
+// The counters are seen by contracts alone: what is left to see is that the calls answer.
 #[test]
 fn counted_calls_answer(rt: HostRuntime) {
     let mut blocks = [PLAIN.to_be_bytes(); 9];

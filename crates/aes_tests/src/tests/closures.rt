@@ -6,7 +6,7 @@ use crate::closures::{Mixed, Nothing, Row, Twice, encrypt_row, twice_there_and_b
 use aes::{Aes128, Block};
 use aes_cipher::cipher::KeyInit;
 
-/// A closure that does nothing, one that works twice, and rows of blocks, by what single calls leave.
+// A closure that does nothing, one that works twice, and rows of blocks, by what single calls leave.
 struct Closures;
 
 fn does_nothing<W: Way>(way: &W) -> bool {
@@ -52,7 +52,7 @@ fn closures_leave_what_single_calls_leave(rt: HostRuntime) {
     }
 }
 
-/// SP 800-38A, F.1.1 and F.1.2: the four blocks, and the first once more.
+// SP 800-38A, F.1.1 and F.1.2: the four blocks, and the first once more.
 #[test]
 fn a_row_of_five_has_the_blocks_of_the_standard(rt: HostRuntime) {
     let [a, b, c, d] = blocks(&PLAIN);

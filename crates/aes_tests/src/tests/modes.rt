@@ -37,7 +37,7 @@ fn chains<C: BlockCipherEncrypt + BlockCipherDecrypt>(cipher: &C, encrypted: &[u
     there && back && row == plain
 }
 
-/// SP 800-38A, F.2.1 to F.2.6.
+// SP 800-38A, F.2.1 to F.2.6.
 #[test]
 fn chains_the_blocks_of_the_standard(rt: HostRuntime) {
     let by_128 = [

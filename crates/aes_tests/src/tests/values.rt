@@ -118,7 +118,7 @@ impl fmt::Display for Name {
     }
 }
 
-/// `Aes256Enc { .. }` has sixteen bytes.
+// `Aes256Enc { .. }` has sixteen bytes.
 #[test]
 fn a_refused_writer_leaves_the_value_as_it_was(rt: HostRuntime) {
     let cipher = Aes256Enc::new(&KEY_256);
@@ -133,7 +133,7 @@ fn a_refused_writer_leaves_the_value_as_it_was(rt: HostRuntime) {
     }
 }
 
-/// `Aes256Enc` has nine bytes.
+// `Aes256Enc` has nine bytes.
 #[test]
 fn a_name_is_refused_without_room_for_it(rt: HostRuntime) {
     for left in 0..10usize {

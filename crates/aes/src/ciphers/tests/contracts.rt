@@ -11,21 +11,21 @@ use aes_cipher::cipher::{BlockCipherDecrypt, BlockCipherEncrypt, KeyInit};
 use aes_planes::soft::sbox::Layers;
 use aes_planes::soft::word::Block;
 
-/// A block encrypted under a value's key.
+// A block encrypted under a value's key.
 fn encrypt_192(cipher: &Aes192, block: &mut Block)
     ensures { block.new ≡ fips.cipher cipher.now block.old }
 {
     cipher.encrypt_block(block);
 }
 
-/// A block decrypted under a key.
+// A block decrypted under a key.
 fn decrypt_128(key: &[u8; 16], block: &mut Block)
     ensures { block.new ≡ fips.inv_cipher key.now block.old }
 {
     Aes128Dec::new(key).decrypt_block(block);
 }
 
-/// Blocks encrypted, and the layers that it took.
+// Blocks encrypted, and the layers that it took.
 fn encrypt_256(cipher: &Aes256Enc, blocks: &mut [Block], layers: &mut Layers)
     ensures blocks { Each (fips.cipher cipher.now) blocks.old blocks.new }
     ensures layers { layers.new ≡ layers.old + layers_for 14 (length blocks.old) }
@@ -33,7 +33,7 @@ fn encrypt_256(cipher: &Aes256Enc, blocks: &mut [Block], layers: &mut Layers)
     cipher.encrypt_blocks_counted(blocks, layers);
 }
 
-/// The layers of a schedule, and of two batches and a block each way: 10 of each.
+// The layers of a schedule, and of two batches and a block each way: 10 of each.
 fn run_all_calls(key: &[u8; 16], blocks: &mut [Block; 17], layers: &mut Layers)
     ensures { layers.new ≡ layers.old + 70 }
 {

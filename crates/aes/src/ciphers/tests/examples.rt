@@ -7,10 +7,10 @@ use crate::{
 };
 use aes_cipher::cipher::{BlockCipherDecrypt, BlockCipherEncrypt, KeyInit};
 
-/// A key, a block, and the block encrypted.
+// A key, a block, and the block encrypted.
 type Example<'a> = (&'a [u8], u128, u128);
 
-/// What both block calls leave of a block.
+// What both block calls leave of a block.
 fn encrypted<C: BlockCipherEncrypt>(cipher: &C, block: u128) -> (u128, u128) {
     let input = block.to_be_bytes();
     let mut in_place = input;
@@ -20,7 +20,7 @@ fn encrypted<C: BlockCipherEncrypt>(cipher: &C, block: u128) -> (u128, u128) {
     (u128::from_be_bytes(in_place), u128::from_be_bytes(output))
 }
 
-/// What both block calls leave of a block.
+// What both block calls leave of a block.
 fn decrypted<C: BlockCipherDecrypt>(cipher: &C, block: u128) -> (u128, u128) {
     let input = block.to_be_bytes();
     let mut in_place = input;
@@ -30,19 +30,19 @@ fn decrypted<C: BlockCipherDecrypt>(cipher: &C, block: u128) -> (u128, u128) {
     (u128::from_be_bytes(in_place), u128::from_be_bytes(output))
 }
 
-/// Whether a type that is made from the key encrypts the block as the example has it.
+// Whether a type that is made from the key encrypts the block as the example has it.
 fn encrypts<C: KeyInit + BlockCipherEncrypt + Drop>(example: Example) -> bool {
     let (key, plain, cipher) = example;
     C::new_from_slice(key).is_ok_and(|made| encrypted(&made, plain) == (cipher, cipher))
 }
 
-/// Whether a type that is made from the key decrypts the block as the example has it.
+// Whether a type that is made from the key decrypts the block as the example has it.
 fn decrypts<C: KeyInit + BlockCipherDecrypt + Drop>(example: Example) -> bool {
     let (key, plain, cipher) = example;
     C::new_from_slice(key).is_ok_and(|made| decrypted(&made, cipher) == (plain, plain))
 }
 
-/// Whether the three types for the size of the key have the example right.
+// Whether the three types for the size of the key have the example right.
 fn hold<Both, Enc, Dec>(example: Example) -> bool
 where
     Both: KeyInit + BlockCipherEncrypt + BlockCipherDecrypt + Drop,
@@ -55,8 +55,8 @@ where
         && decrypts::<Dec>(example)
 }
 
-/// FIPS 197, appendices C.1 to C.3 and B; SP 800-38A, F.1.1, F.1.3 and F.1.5, the first block of each; and blocks of
-/// zeros under keys of zeros, by openssl (the first is the hash key of test case 1 of the specification of GCM).
+// FIPS 197, appendices C.1 to C.3 and B; SP 800-38A, F.1.1, F.1.3 and F.1.5, the first block of each; and blocks of
+// zeros under keys of zeros, by openssl (the first is the hash key of test case 1 of the specification of GCM).
 #[test]
 fn leaves_the_blocks_of_the_standards(rt: HostRuntime) {
     let key128 = 0x2b7e151628aed2a6abf7158809cf4f3cu128.to_be_bytes();

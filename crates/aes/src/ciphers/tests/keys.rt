@@ -9,8 +9,8 @@ use aes_cipher::zeroize::ZeroizeOnDrop;
 use aes_soft::soft::sizes::{Bits128, Bits192, Bits256, KeyBytes, KeySize};
 use std::test::Fail;
 
-/// Whether slices of 0 to 64 bytes are taken as keys exactly where they are as long as a key, and blocks have 16 bytes.
-/// Its bound asks for the mark of types that are wiped when they are dropped.
+// Whether slices of 0 to 64 bytes are taken as keys exactly where they are as long as a key, and blocks have 16 bytes.
+// Its bound asks for the mark of types that are wiped when they are dropped.
 fn takes_its_own_length_alone<C>(size: usize) -> bool
 where
     C: KeyInit + BlockSizeUser + ZeroizeOnDrop + Drop,
@@ -23,7 +23,7 @@ where
     right
 }
 
-/// The same of the three types of a size.
+// The same of the three types of a size.
 fn all_take_their_own_length_alone<K: KeySize>(size: usize) -> bool {
     takes_its_own_length_alone::<AesCipher<K, BothWays>>(size)
         && takes_its_own_length_alone::<AesCipher<K, Encrypting>>(size)
@@ -37,25 +37,25 @@ fn takes_slices_of_the_key_size_alone(rt: HostRuntime) {
     assert!(rt; all_take_their_own_length_alone::<Bits256>(32));
 }
 
-/// The block of FIPS 197, appendix C.
+// The block of FIPS 197, appendix C.
 const PLAIN: u128 = 0x00112233445566778899aabbccddeeff;
 
-/// Whether the block goes to its encryption.
+// Whether the block goes to its encryption.
 fn encrypts<C: BlockCipherEncrypt>(cipher: &C, encrypted: u128) -> bool {
     let mut block = PLAIN.to_be_bytes();
     cipher.encrypt_block(&mut block);
     u128::from_be_bytes(block) == encrypted
 }
 
-/// Whether it comes back from there.
+// Whether it comes back from there.
 fn decrypts<C: BlockCipherDecrypt>(cipher: &C, encrypted: u128) -> bool {
     let mut block = encrypted.to_be_bytes();
     cipher.decrypt_block(&mut block);
     u128::from_be_bytes(block) == PLAIN
 }
 
-/// Clones of the three types of a key and conversions between them, most of them after the value that they came from is
-/// dropped.
+// Clones of the three types of a key and conversions between them, most of them after the value that they came from is
+// dropped.
 fn copies_keep_the_key<K: KeySize>(key: &K::Key, encrypted: u128) -> Result<bool, Fail> {
     let enc = AesCipher::<K, Encrypting>::new(key);
     let copy = enc.clone()?;
@@ -74,7 +74,7 @@ fn copies_keep_the_key<K: KeySize>(key: &K::Key, encrypted: u128) -> Result<bool
     )
 }
 
-/// FIPS 197, appendix C.
+// FIPS 197, appendix C.
 #[test]
 fn clones_and_converts(rt: HostRuntime) -> Result<(), Fail> {
     let encrypted = 0x69c4e0d86a7b0430d8cdb78070b4c55a;
@@ -86,7 +86,7 @@ fn clones_and_converts(rt: HostRuntime) -> Result<(), Fail> {
     Ok(())
 }
 
-/// Whether a wiped value works as one of the zero key, which takes a block of zeros to the block that is given.
+// Whether a wiped value works as one of the zero key, which takes a block of zeros to the block that is given.
 fn wipes_in_place<K: KeySize>(key: &K::Key, zeros_encrypted: u128) -> bool {
     let mut enc = AesCipher::<K, Encrypting>::new(key);
     let mut dec = AesCipher::<K, Decrypting>::from(&enc);
@@ -99,7 +99,7 @@ fn wipes_in_place<K: KeySize>(key: &K::Key, zeros_encrypted: u128) -> bool {
     encrypted == zeros_encrypted && block == [0; 16]
 }
 
-/// The blocks are those of the zero keys in the examples.
+// The blocks are those of the zero keys in the examples.
 #[test]
 fn leaves_the_zero_key_after_a_wipe(rt: HostRuntime) {
     assert!(rt; wipes_in_place::<Bits128>(&[1; 16], 0x66e94bd4ef8a2c3b884cfa59ca342b2e));

@@ -8,7 +8,7 @@ use std::fmt;
 use std::marker::PhantomData;
 use std::test::Fail;
 
-/// A type, whose name is written.
+// A type, whose name is written.
 struct Named<A> {
     of: PhantomData<A>,
 }
@@ -19,7 +19,7 @@ impl<A: AlgorithmName> fmt::Display for Named<A> {
     }
 }
 
-/// Whether a type's name is the one that is given, and its values write the name and dots.
+// Whether a type's name is the one that is given, and its values write the name and dots.
 fn is_named<C>(rt: &HostRuntime, key: &[u8], name: &str) -> Result<bool, Fail>
 where
     C: KeyInit + AlgorithmName + fmt::Debug + Drop,

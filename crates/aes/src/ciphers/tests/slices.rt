@@ -7,7 +7,7 @@ use aes_planes::soft::sbox::Layers;
 use aes_planes::soft::word::Block;
 use aes_soft::soft::sizes::{Bits128, Bits192, Bits256, KeySize};
 
-/// The calls on blocks of one direction.
+// The calls on blocks of one direction.
 trait Calls {
     /// The call on a block.
     fn block(&self, block: &mut Block);
@@ -22,7 +22,7 @@ trait Calls {
     fn from_to(&self, input: &[Block], output: &mut [Block]) -> Result<(), NotEqualError>;
 }
 
-/// A cipher's calls that encrypt.
+// A cipher's calls that encrypt.
 #[derive(Drop)]
 struct Encryption<'a, K: KeySize, D: Encrypts> {
     cipher: &'a AesCipher<K, D>,
@@ -47,7 +47,7 @@ impl<K: KeySize, D: Encrypts> Calls for Encryption<'_, K, D> {
     }
 }
 
-/// A cipher's calls that decrypt.
+// A cipher's calls that decrypt.
 #[derive(Drop)]
 struct Decryption<'a, K: KeySize, D: Decrypts> {
     cipher: &'a AesCipher<K, D>,
@@ -72,11 +72,11 @@ impl<K: KeySize, D: Decrypts> Calls for Decryption<'_, K, D> {
     }
 }
 
-/// A block that no call has written.
+// A block that no call has written.
 const UNTOUCHED: Block = [0xee; 16];
 
-/// Whether slices of 0 to 17 blocks become what the block calls make of them, in every form, and the blocks after them
-/// stay.
+// Whether slices of 0 to 17 blocks become what the block calls make of them, in every form, and the blocks after them
+// stay.
 fn works_slices<C: Calls>(calls: &C) -> bool {
     let blocks = different_blocks();
     let mut right = true;
@@ -99,7 +99,7 @@ fn works_slices<C: Calls>(calls: &C) -> bool {
     right
 }
 
-/// Whether slices of unequal lengths, 0 to 9, are refused, and no block of the output is written.
+// Whether slices of unequal lengths, 0 to 9, are refused, and no block of the output is written.
 fn refuses_unequal_lengths<C: Calls>(calls: &C) -> bool {
     let blocks = different_blocks();
     let mut right = true;
@@ -116,8 +116,8 @@ fn refuses_unequal_lengths<C: Calls>(calls: &C) -> bool {
     right
 }
 
-/// Whether a hundred blocks of one byte come to the same block each, by the slice call, and the block call of the other
-/// direction brings each back.
+// Whether a hundred blocks of one byte come to the same block each, by the slice call, and the block call of the other
+// direction brings each back.
 fn works_a_hundred<C: Calls, B: Calls>(calls: &C, back: &B) -> bool {
     let mut blocks = [[0x2a; 16]; 100];
     calls.slice(&mut blocks);
@@ -129,7 +129,7 @@ fn works_a_hundred<C: Calls, B: Calls>(calls: &C, back: &B) -> bool {
     right
 }
 
-/// Whether the calls of a cipher that encrypts are right.
+// Whether the calls of a cipher that encrypts are right.
 fn encrypts<K: KeySize, D: Encrypts>(key: &[u8]) -> bool {
     AesCipher::<K, D>::new_from_slice(key).is_ok_and(|cipher| {
         let calls = Encryption { cipher: &cipher };
@@ -137,7 +137,7 @@ fn encrypts<K: KeySize, D: Encrypts>(key: &[u8]) -> bool {
     })
 }
 
-/// Whether the calls of a cipher that decrypts are right.
+// Whether the calls of a cipher that decrypts are right.
 fn decrypts<K: KeySize, D: Decrypts>(key: &[u8]) -> bool {
     AesCipher::<K, D>::new_from_slice(key).is_ok_and(|cipher| {
         let calls = Decryption { cipher: &cipher };

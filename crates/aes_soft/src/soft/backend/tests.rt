@@ -8,7 +8,7 @@ use aes_cipher::cipher::{BlockCipherDecBackend, BlockCipherEncBackend, ParBlocks
 use aes_planes::soft::sbox::Layers;
 use aes_planes::soft::word::Block;
 
-/// The block of FIPS 197, appendix C, in slot 5, and other blocks around it.
+// The block of FIPS 197, appendix C, in slot 5, and other blocks around it.
 fn batch() -> [Block; 8] {
     let mut blocks = [[0; 16]; 8];
     let mut byte: u8 = 7;
@@ -23,7 +23,7 @@ fn batch() -> [Block; 8] {
     blocks
 }
 
-/// The batch encrypted, and the same block by block.
+// The batch encrypted, and the same block by block.
 fn encrypted<B: BlockCipherEncBackend>(backend: &B) -> ([Block; 8], [Block; 8])
     requires { B.PAR_BLOCKS ≡ 8 }
 {
@@ -36,7 +36,7 @@ fn encrypted<B: BlockCipherEncBackend>(backend: &B) -> ([Block; 8], [Block; 8])
     (whole, single)
 }
 
-/// Blocks decrypted as a batch, and block by block.
+// Blocks decrypted as a batch, and block by block.
 fn decrypted<B: BlockCipherDecBackend>(backend: &B, blocks: [Block; 8]) -> ([Block; 8], [Block; 8])
     requires { B.PAR_BLOCKS ≡ 8 }
 {
@@ -49,7 +49,7 @@ fn decrypted<B: BlockCipherDecBackend>(backend: &B, blocks: [Block; 8]) -> ([Blo
     (whole, single)
 }
 
-/// Whether a backend works batches as it works blocks, each way, and encrypts the block in slot 5 as it is given.
+// Whether a backend works batches as it works blocks, each way, and encrypts the block in slot 5 as it is given.
 fn works_batches<K: KeySize>(key: &K::Key, slot5: u128) -> bool {
     let round_keys = K::schedule(key, &mut Layers::new());
     let backend = Backend::<K>::new(&round_keys);
@@ -62,7 +62,7 @@ fn works_batches<K: KeySize>(key: &K::Key, slot5: u128) -> bool {
         && single_back == batch()
 }
 
-/// FIPS 197, appendices C.1 to C.3.
+// FIPS 197, appendices C.1 to C.3.
 #[test]
 fn works_batches_of_eight(rt: HostRuntime) {
     let mut key128 = [0; 16];

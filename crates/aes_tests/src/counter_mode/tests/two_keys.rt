@@ -14,7 +14,7 @@ use aes_planes::soft::word::Block;
 // The round key that changes nothing.
 const ZERO_KEY: Block = [0; 16];
 
-/// A cipher whose first round is its last.
+// A cipher whose first round is its last.
 #[derive(Drop)]
 pub(super) struct TwoKeys {
     /// The round key before the round.
@@ -60,7 +60,7 @@ impl RoundKeysUser for TwoKeys {
     ghost two_round_keys = { λ cipher. Prim.omega arith };
 }
 
-/// Batches of one block.
+// Batches of one block.
 pub(super) struct One;
 
 impl BatchSize for One {
