@@ -7,7 +7,8 @@ use Rattle.std.proofs.KnownBytes.{Appends-trans, Consumes-trans, Consumes-whole}
 use Rattle.aes_kat.specs.declared.engine.Failed.{Failed}
 use Rattle.aes_kat.specs.Lines.{Lacks}
 use Rattle.aes_kat.specs.Reply.{reply_to, is_fault}
-use Rattle.aes_kat.specs.Answers.{answers_to, has_fault, AppendsBeginning, Gathers, Advances, StopsWithin, Runs}
+use Rattle.aes_kat.specs.Answers.{answers_to, has_fault, AppendsBeginning, Runs}
+use Rattle.aes_kat.specs.Private.Progress.{Gathers, Advances, StopsWithin}
 use Rattle.aes_kat.proofs.LinesLemmas.{lines_of-cut, lines_of-last, lines_of-nil}
 
 -- what holds anyway holds on an error

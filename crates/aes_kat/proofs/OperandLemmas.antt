@@ -1,15 +1,14 @@
 -- Lemmas on the words after a command.
-use Rattle.std.proofs.Common.{◌≡◌, ◌*◌, ◌%◌, ◌/◌, ◌≢◌, ℕ, List, ◌++◌, true, false, Result, Ok, Err, MatchResult, is_ok, refl, sym, ap, ◌∙◌, inl, inr, length, take, arith, ne_eqb, eq-eqb}
+use Rattle.std.proofs.Common.{◌≡◌, ◌*◌, ◌%◌, ℕ, List, ◌++◌, true, false, Result, Ok, Err, is_ok, refl, sym, ap, ◌∙◌, inl, inr, length, take, arith}
 use Rattle.std.specs.List.{list_all}
 use Rattle.std.proofs.lemmas.Grind.{common_steps}
-use Rattle.std.proofs.lemmas.Bool.{cases_Bool, cases_eq}
+use Rattle.std.proofs.lemmas.Bool.{cases_Bool}
 use Rattle.std.proofs.lemmas.List.Sums.{AllPass-from_list_all, list_all-from_AllPass}
-use Rattle.hex.specs.Hex.{decode_of, decode_sized, is_hex_digit}
+use Rattle.hex.specs.Hex.{decode_of, is_hex_digit}
 use Rattle.hex.specs.declared.error.FromHexError.{FromHexError}
-use Rattle.hex.proofs.HexLemmas.{decode_of-ok, decode_of-digits, decode_sized-twice, decode_sized-other}
-use Rattle.aes_kat.specs.declared.faults.Fault.{Fault}
+use Rattle.hex.proofs.HexLemmas.{decode_of-ok, decode_of-digits}
 use Rattle.aes_kat.specs.declared.faults.Fault.TheVariants as fault
-use Rattle.aes_kat.specs.Steps.{decoded, or_none}
+use Rattle.aes_kat.specs.Private.Steps.{decoded, or_none}
 use Rattle.aes_kat.specs.Reply.{bytes_of, or_hex_fault}
 
 -- the front of a list of known length

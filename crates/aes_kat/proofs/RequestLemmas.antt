@@ -1,12 +1,12 @@
 -- Lemmas on what a line asks for, and its outcome.
-use Rattle.std.proofs.Common.{◌≡◌, ℕ, List, [], ◌∷◌, true, false, Option, Some, None, Bor, is_some, Result, Ok, Err, is_ok, refl, ap, ◌∙◌}
+use Rattle.std.proofs.Common.{◌≡◌, ℕ, List, [], ◌∷◌, true, false, Option, Some, None, Bor, is_some, Ok, Err, is_ok, refl, ap, ◌∙◌}
 use Rattle.std.specs.Option.{option_map_or}
 use Rattle.hex.specs.Hex.{decode_of}
 use Rattle.aes_kat.specs.declared.faults.Fault.{Fault}
 use Rattle.aes_kat.specs.declared.faults.Fault.TheVariants as fault
 use Rattle.aes_kat.specs.declared.commands.Command.{Command}
 use Rattle.aes_kat.specs.Lines.{words_of}
-use Rattle.aes_kat.specs.Steps.{decoded}
+use Rattle.aes_kat.specs.Private.Steps.{decoded}
 use Rattle.aes_kat.specs.Reply.{Asked, command_of, takes_one, takes_two, asked_if, request_of, answer_of, outcome_of}
 use Rattle.aes_kat.proofs.LinesLemmas.{parts_at-cons}
 use Rattle.aes_kat.proofs.OperandLemmas.{bytes_of-decoded, bytes_of-err}

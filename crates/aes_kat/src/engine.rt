@@ -4,7 +4,8 @@ ghost use Rattle.std.specs.Io.KnownBytes.{Appends};
 ghost use Rattle.aes_kat.specs.Lines.{Lacks};
 ghost use Rattle.aes_kat.specs.Status.{status_of};
 ghost use Rattle.aes_kat.specs.Reply.{reply_to, is_fault};
-ghost use Rattle.aes_kat.specs.Answers.{answers_to, has_fault, AppendsBeginning, Gathers, Advances, StopsWithin, Runs};
+ghost use Rattle.aes_kat.specs.Answers.{answers_to, has_fault, AppendsBeginning, Runs};
+ghost use Rattle.aes_kat.specs.Private.Progress.{Gathers, Advances, StopsWithin};
 
 use crate::cut::cut_at;
 use crate::replies::reply;

@@ -3,9 +3,9 @@ ghost use Rattle.std.specs.Prelude.{◌≡◌, true, is_ok, MatchResult};
 ghost use Rattle.hex.specs.Hex.{decode_of};
 ghost use Rattle.aes_planes.specs.Each.{Each};
 ghost use Rattle.aes_planes.specs.Fips197 as fips;
-ghost use Rattle.aes_kat.specs.Keys.{key_bytes};
+ghost use Rattle.aes_kat.specs.Private.Keys.{key_bytes};
 ghost use Rattle.aes_kat.specs.Reply.{key_of};
-ghost use Rattle.aes_kat.specs.Steps.{decoded};
+ghost use Rattle.aes_kat.specs.Private.Steps.{decoded};
 
 use crate::faults::Fault;
 use crate::operands::bytes_of;

@@ -3,7 +3,7 @@ ghost use Rattle.std.specs.Prelude.{◌≡◌, ◌≤◌, ◌*◌, true, is_ok, 
 ghost use Rattle.std.specs.List.{list_all};
 ghost use Rattle.hex.specs.Hex.{decode_of, is_hex_digit};
 ghost use Rattle.aes_kat.specs.Reply.{block_of, blocks_of};
-ghost use Rattle.aes_kat.specs.Steps.{decoded};
+ghost use Rattle.aes_kat.specs.Private.Steps.{decoded};
 
 use crate::faults::Fault;
 use aes::Block;

@@ -2,7 +2,7 @@
 ghost use Rattle.std.specs.Prelude.{◌≡◌, ◌≤◌, [], true, is_ok, take};
 ghost use Rattle.hex.specs.Hex.{decode_of};
 ghost use Rattle.aes_kat.specs.Reply.{answer_of, outcome_of, reply_to, is_fault};
-ghost use Rattle.aes_kat.specs.Steps.{decoded, IsPut};
+ghost use Rattle.aes_kat.specs.Private.Steps.{decoded, IsPut};
 
 use crate::commands::Command;
 use crate::digits::{Room, put_block, put_joined, put_spaced};

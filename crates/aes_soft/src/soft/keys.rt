@@ -2,9 +2,9 @@
 ghost use Rattle.std.specs.Prelude.{◌≡◌, ℕ, ◌+◌, List, map};
 ghost use Rattle.aes_planes.specs.Fips197 as fips;
 ghost use Rattle.aes_planes.specs.Words.{word_bits};
-ghost use Rattle.aes_soft.specs.Stored.{full, key_of, IsKeyed};
+ghost use Rattle.aes_soft.specs.Stored.{full, key_of, rounds_of, size_of, IsStored};
 
-use super::full::{aes128, aes192, aes256};
+use super::full;
 use super::sizes::BatchWord;
 use aes_planes::soft::sbox::Layers;
 use aes_planes::soft::word::Word;
@@ -33,32 +33,32 @@ pub trait StoredKeys<W: Word>: Drop {
         ensures layers { layers.new ≡ layers.old + ROUNDS };
 }
 
-// The impls are written at each word, and not once over every word: a type whose view names an impl with a type parameter
-// can't be passed on or dropped where nothing else of it is called.
-impl StoredKeys<u16> for aes128::RoundKeys<u16> {
-    ghost key = { λ words. key_of 16 ⟦<u16 as Word>⟧.BLOCKS (full 10) (map ⟦<u16 as Word>⟧.bits words) };
+// The number of words tells the size of the key. The impls are written at each word, and not once over every word: a type
+// whose view names an impl with a type parameter can't be passed on or dropped where nothing else of it is called.
+impl<const N: usize> StoredKeys<u16> for [u16; N] {
+    ghost key = { λ words. key_of (size_of N) ⟦<u16 as Word>⟧.BLOCKS (full (rounds_of N)) (map ⟦<u16 as Word>⟧.bits words) };
 
-    ghost AreKeyed = { λ words. IsKeyed 16 ⟦<u16 as Word>⟧.BLOCKS (full 10) (map ⟦<u16 as Word>⟧.bits words) };
+    ghost AreKeyed = { λ words. IsStored N ⟦<u16 as Word>⟧.BLOCKS (map ⟦<u16 as Word>⟧.bits words) };
 
-    ghost ROUNDS = { 10 };
+    ghost ROUNDS = { rounds_of N };
 
     #[inline(always)]
     fn encrypt(&self, input: &<u16 as Word>::Blocks, layers: &mut Layers) -> <u16 as Word>::Blocks {
-        aes128::encrypt::<u16>(self, input, layers)
+        full::encrypt::<u16, N>(self, input, layers)
     }
 
     #[inline(always)]
     fn decrypt(&self, input: &<u16 as Word>::Blocks, layers: &mut Layers) -> <u16 as Word>::Blocks {
-        aes128::decrypt::<u16>(self, input, layers)
+        full::decrypt::<u16, N>(self, input, layers)
     }
 }
 
-impl StoredKeys<BatchWord> for aes128::RoundKeys<BatchWord> {
-    ghost key = { λ words. key_of 16 ⟦<BatchWord as Word>⟧.BLOCKS (full 10) (map ⟦<BatchWord as Word>⟧.bits words) };
+impl<const N: usize> StoredKeys<BatchWord> for [BatchWord; N] {
+    ghost key = { λ words. key_of (size_of N) ⟦<BatchWord as Word>⟧.BLOCKS (full (rounds_of N)) (map ⟦<BatchWord as Word>⟧.bits words) };
 
-    ghost AreKeyed = { λ words. IsKeyed 16 ⟦<BatchWord as Word>⟧.BLOCKS (full 10) (map ⟦<BatchWord as Word>⟧.bits words) };
+    ghost AreKeyed = { λ words. IsStored N ⟦<BatchWord as Word>⟧.BLOCKS (map ⟦<BatchWord as Word>⟧.bits words) };
 
-    ghost ROUNDS = { 10 };
+    ghost ROUNDS = { rounds_of N };
 
     #[inline(always)]
     fn encrypt(
@@ -66,7 +66,7 @@ impl StoredKeys<BatchWord> for aes128::RoundKeys<BatchWord> {
         input: &<BatchWord as Word>::Blocks,
         layers: &mut Layers,
     ) -> <BatchWord as Word>::Blocks {
-        aes128::encrypt::<BatchWord>(self, input, layers)
+        full::encrypt::<BatchWord, N>(self, input, layers)
     }
 
     #[inline(always)]
@@ -75,94 +75,6 @@ impl StoredKeys<BatchWord> for aes128::RoundKeys<BatchWord> {
         input: &<BatchWord as Word>::Blocks,
         layers: &mut Layers,
     ) -> <BatchWord as Word>::Blocks {
-        aes128::decrypt::<BatchWord>(self, input, layers)
-    }
-}
-
-impl StoredKeys<u16> for aes192::RoundKeys<u16> {
-    ghost key = { λ words. key_of 24 ⟦<u16 as Word>⟧.BLOCKS (full 12) (map ⟦<u16 as Word>⟧.bits words) };
-
-    ghost AreKeyed = { λ words. IsKeyed 24 ⟦<u16 as Word>⟧.BLOCKS (full 12) (map ⟦<u16 as Word>⟧.bits words) };
-
-    ghost ROUNDS = { 12 };
-
-    #[inline(always)]
-    fn encrypt(&self, input: &<u16 as Word>::Blocks, layers: &mut Layers) -> <u16 as Word>::Blocks {
-        aes192::encrypt::<u16>(self, input, layers)
-    }
-
-    #[inline(always)]
-    fn decrypt(&self, input: &<u16 as Word>::Blocks, layers: &mut Layers) -> <u16 as Word>::Blocks {
-        aes192::decrypt::<u16>(self, input, layers)
-    }
-}
-
-impl StoredKeys<BatchWord> for aes192::RoundKeys<BatchWord> {
-    ghost key = { λ words. key_of 24 ⟦<BatchWord as Word>⟧.BLOCKS (full 12) (map ⟦<BatchWord as Word>⟧.bits words) };
-
-    ghost AreKeyed = { λ words. IsKeyed 24 ⟦<BatchWord as Word>⟧.BLOCKS (full 12) (map ⟦<BatchWord as Word>⟧.bits words) };
-
-    ghost ROUNDS = { 12 };
-
-    #[inline(always)]
-    fn encrypt(
-        &self,
-        input: &<BatchWord as Word>::Blocks,
-        layers: &mut Layers,
-    ) -> <BatchWord as Word>::Blocks {
-        aes192::encrypt::<BatchWord>(self, input, layers)
-    }
-
-    #[inline(always)]
-    fn decrypt(
-        &self,
-        input: &<BatchWord as Word>::Blocks,
-        layers: &mut Layers,
-    ) -> <BatchWord as Word>::Blocks {
-        aes192::decrypt::<BatchWord>(self, input, layers)
-    }
-}
-
-impl StoredKeys<u16> for aes256::RoundKeys<u16> {
-    ghost key = { λ words. key_of 32 ⟦<u16 as Word>⟧.BLOCKS (full 14) (map ⟦<u16 as Word>⟧.bits words) };
-
-    ghost AreKeyed = { λ words. IsKeyed 32 ⟦<u16 as Word>⟧.BLOCKS (full 14) (map ⟦<u16 as Word>⟧.bits words) };
-
-    ghost ROUNDS = { 14 };
-
-    #[inline(always)]
-    fn encrypt(&self, input: &<u16 as Word>::Blocks, layers: &mut Layers) -> <u16 as Word>::Blocks {
-        aes256::encrypt::<u16>(self, input, layers)
-    }
-
-    #[inline(always)]
-    fn decrypt(&self, input: &<u16 as Word>::Blocks, layers: &mut Layers) -> <u16 as Word>::Blocks {
-        aes256::decrypt::<u16>(self, input, layers)
-    }
-}
-
-impl StoredKeys<BatchWord> for aes256::RoundKeys<BatchWord> {
-    ghost key = { λ words. key_of 32 ⟦<BatchWord as Word>⟧.BLOCKS (full 14) (map ⟦<BatchWord as Word>⟧.bits words) };
-
-    ghost AreKeyed = { λ words. IsKeyed 32 ⟦<BatchWord as Word>⟧.BLOCKS (full 14) (map ⟦<BatchWord as Word>⟧.bits words) };
-
-    ghost ROUNDS = { 14 };
-
-    #[inline(always)]
-    fn encrypt(
-        &self,
-        input: &<BatchWord as Word>::Blocks,
-        layers: &mut Layers,
-    ) -> <BatchWord as Word>::Blocks {
-        aes256::encrypt::<BatchWord>(self, input, layers)
-    }
-
-    #[inline(always)]
-    fn decrypt(
-        &self,
-        input: &<BatchWord as Word>::Blocks,
-        layers: &mut Layers,
-    ) -> <BatchWord as Word>::Blocks {
-        aes256::decrypt::<BatchWord>(self, input, layers)
+        full::decrypt::<BatchWord, N>(self, input, layers)
     }
 }

@@ -1,7 +1,7 @@
 -- What holds in the loops of `engine::gather`.
 use Rattle.std.proofs.Common.{◌++◌, length}
 use Rattle.aes_kat.specs.Lines.{Lacks}
-use Rattle.aes_kat.specs.Answers.{Gathers}
+use Rattle.aes_kat.specs.Private.Progress.{Gathers}
 use Rattle.aes_kat.proofs.engine.gather.Given as goal
 
 abbrev pub invariant-loop-front : goal.invariant-loop-front

@@ -1,9 +1,8 @@
 -- What is left to show of `engine::run_in`.
-use Rattle.std.proofs.Common.{◌<◌, ◌++◌, ◌||◌, ◌≡◌, take, length, ap, ◌∙◌, arith}
-use Rattle.std.specs.Io.KnownBytes.{Appends}
+use Rattle.std.proofs.Common.{◌++◌, take, arith}
 use Rattle.std.proofs.KnownBytes.{Consumes-trans}
-use Rattle.aes_kat.specs.Answers.{answers_to, has_fault, AppendsBeginning}
-use Rattle.aes_kat.proofs.AnswersLemmas.{Runs-failed, Advances-chunk, StopsWithin-here, StopsWithin-chunk, Appends-ended, has_fault-ended, AppendsBeginning-ended, held-ended, stops-held}
+use Rattle.aes_kat.specs.Answers.{answers_to, AppendsBeginning}
+use Rattle.aes_kat.proofs.AnswersLemmas.{Runs-failed, Advances-chunk, StopsWithin-here, StopsWithin-chunk, AppendsBeginning-ended, held-ended, stops-held}
 use Rattle.aes_kat.proofs.engine.run_in.Goals as goal
 
 pub returns-in_err-count : goal.returns-in_err-count

@@ -1,5 +1,5 @@
 -- What is left to show of `operands::block_of`.
-use Rattle.std.proofs.Common.{arith, length}
+use Rattle.std.proofs.Common.{arith}
 use Rattle.aes_kat.proofs.OperandLemmas.{length-decoded}
 use Rattle.aes_kat.proofs.operands.block_of.Goals as goal
 

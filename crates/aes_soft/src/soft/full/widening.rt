@@ -1,16 +1,15 @@
 //! The round keys on `u16` as the round keys of any other word.
-ghost use Rattle.std.specs.Prelude.{◌≡◌, ◌⊎◌, map};
+ghost use Rattle.std.specs.Prelude.{◌≡◌, map};
 ghost use Rattle.aes_planes.specs.Words.{word_bits};
-ghost use Rattle.aes_soft.specs.Stored.{full, key_of, rounds_of, size_of, IsKeyed};
+ghost use Rattle.aes_soft.specs.Stored.{full, key_of, rounds_of, size_of, IsStored};
 
 use aes_planes::soft::word::Word;
 
 /// The stored round keys of a key on `u16` as those of the same key on `W`: each word by
 /// `broadcast`, so that every slot has the block of the one slot.
 pub fn widen<W: Word, const N: usize>(round_keys: &[u16; N]) -> [W; N]
-    requires one_of_three { (N ≡ 88) ⊎ ((N ≡ 104) ⊎ (N ≡ 120)) }
-    requires is_schedule { IsKeyed (size_of N) 1 (full (rounds_of N)) (map (word_bits 16) round_keys.now) }
-    ensures schedule { IsKeyed (size_of N) W.BLOCKS (full (rounds_of N)) (map W.bits result) }
+    requires is_stored { IsStored N 1 (map (word_bits 16) round_keys.now) }
+    ensures schedule { IsStored N W.BLOCKS (map W.bits result) }
     ensures key { key_of (size_of N) W.BLOCKS (full (rounds_of N)) (map W.bits result)
         ≡ key_of (size_of N) 1 (full (rounds_of N)) (map (word_bits 16) round_keys.now) }
 {

@@ -1,5 +1,5 @@
 -- What is left to show of `keys::Key::of_digits`.
-use Rattle.std.proofs.Common.{◌≡◌, arith, length}
+use Rattle.std.proofs.Common.{arith}
 use Rattle.aes_kat.proofs.OperandLemmas.{length-decoded}
 use Rattle.aes_kat.proofs.keys.Key.of_digits.Goals as goal
 

@@ -1,5 +1,5 @@
 -- What holds in the loops of `soft::slices::put_batch`.
-use Rattle.std.proofs.Common.{◌≡◌, length, take}
+use Rattle.std.proofs.Common.{◌≡◌, take}
 use Rattle.aes_soft.proofs.soft.slices.put_batch.Given as goal
 
 abbrev pub invariant-put : goal.invariant-put

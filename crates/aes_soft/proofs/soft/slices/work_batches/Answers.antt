@@ -1,5 +1,5 @@
 -- What is left to show of `soft::slices::work_batches`.
-use Rattle.std.proofs.Common.{◌≡◌, ℕ, ◌+◌, ◌-◌, ◌*◌, ◌/◌, ◌%◌, ◌≤◌, ◌<◌, length, ap, sym, ◌∙◌, arith}
+use Rattle.std.proofs.Common.{◌≡◌, ℕ, ◌+◌, ◌-◌, ◌*◌, ◌/◌, ◌%◌, ◌≤◌, length, ap, ◌∙◌, arith}
 use borrow.Rule.Slice.PartMut.{put_mid}
 use Rattle.aes_cipher.proofs.SliceRuns.{finished_run}
 use Rattle.aes_soft.proofs.Slices.{one_fits, whole_left, one_batch_less}

@@ -1,0 +1,22 @@
+-- What a part of a run has done.
+use Rattle.std.specs.Prelude.{ℕ, List, ◌++◌, ◌≡◌, Bool, ◌||◌, Option}
+use Rattle.std.specs.Io.KnownBytes.{Appends}
+use Rattle.aes_kat.specs.Answers.{answers_to, has_fault, BeginsWith}
+
+-- Whatever bytes come next: the answers to `before` and them are `written`, and then the answers to `after` and them;
+-- and a fault is among the former where `fault` says so or one is among the latter.
+pub record Answered (before after written : List ℕ) (fault : Bool) : Type 0 where
+  pub answers : (next : List ℕ) → answers_to (before ++ next) ≡ written ++ answers_to (after ++ next)
+  pub faults : (next : List ℕ) → has_fault (before ++ next) ≡ (fault || has_fault (after ++ next))
+
+-- what is gathered grew by what `before` asks for and `after` does not ask for any more
+abbrev pub Gathers : List ℕ → List ℕ → List ℕ → List ℕ → Bool → Type 0
+Gathers old new before after fault = (written : List ℕ) × (new ≡ old ++ written) × Answered before after written fault
+
+-- the known bytes grew by what `before` asks for and `after` does not ask for any more
+abbrev pub Advances : Option (List ℕ) → Option (List ℕ) → List ℕ → List ℕ → Bool → Type 0
+Advances old new before after fault = (written : List ℕ) × Appends old new written × Answered before after written fault
+
+-- the known bytes grew by a beginning of the answers to `before` and whatever comes next
+abbrev pub StopsWithin : Option (List ℕ) → Option (List ℕ) → List ℕ → Type 0
+StopsWithin old new before = (front : List ℕ) × Appends old new front × ((next : List ℕ) → BeginsWith (answers_to (before ++ next)) front)
