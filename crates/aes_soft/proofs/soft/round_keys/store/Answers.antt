@@ -3,8 +3,8 @@ use Rattle.std.proofs.Common.{◌≡◌, inl, inr, ℕ, ◌*◌, ◌%◌, map, r
 use Rattle.std.proofs.lemmas.Bool.{cases_lt}
 use Rattle.aes_planes.specs.Fips197.{inv_shift_times}
 use Rattle.aes_planes.specs.Planes.{held, plus63}
-use Rattle.aes_soft.proofs.Layouts.{owed, owed_below, owed_last, stored_none, stored_some, map_none}
-use Rattle.aes_soft.proofs.Schedules.{changed, kept}
+use Rattle.aes_soft.proofs.StoredRoundKeys.{owed, owed_below, owed_last, stored_none, stored_some, map_none}
+use Rattle.aes_soft.proofs.WordsInPlace.{changed, kept}
 use Rattle.aes_soft.proofs.Slots.{stepped_map}
 use Rattle.aes_soft.proofs.soft.round_keys.store.Goals.{then-i-rounds, else-i-rounds}
 use Rattle.aes_soft.proofs.soft.round_keys.store.Goals as goal

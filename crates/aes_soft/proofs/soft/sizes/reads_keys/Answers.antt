@@ -1,6 +1,6 @@
 -- What is left to show of `soft::sizes::reads_keys`.
 use Rattle.std.proofs.Common.{arith}
-use Rattle.aes_soft.proofs.Keyed.{key_of-length, key_of-bytes}
+use Rattle.aes_soft.proofs.KeyOfPlanes.{key_of-length, key_of-bytes}
 use Rattle.aes_soft.proofs.soft.sizes.reads_keys.Goals as goal
 
 pub returns-clause-sized : goal.returns-clause-sized
