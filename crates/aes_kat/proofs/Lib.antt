@@ -1,7 +1,7 @@
 -- The files of lemmas.
-pub mod LinesLemmas
-pub mod CommandLemmas
-pub mod OperandLemmas
-pub mod RequestLemmas
-pub mod BlockLemmas
-pub mod AnswersLemmas
+pub mod Lines
+pub mod Commands
+pub mod Operands
+pub mod Requests
+pub mod Blocks
+pub mod Answers

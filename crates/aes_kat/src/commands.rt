@@ -1,4 +1,4 @@
-// The commands: what the first word of a line may be.
+//! The commands: what the first word of a line may be.
 ghost use Rattle.std.specs.Prelude.{◌≡◌};
 ghost use Rattle.aes_kat.specs.Reply.{command_of, name_of, takes_one, takes_two};
 

@@ -1,4 +1,4 @@
-// Blocks as hexadecimal digits, in room for a reply.
+//! Blocks as hexadecimal digits, in room for a reply.
 ghost use Rattle.std.specs.Prelude.{◌≡◌, ◌≤◌, ◌<◌, ◌+◌, ◌++◌, length, map, take};
 ghost use Rattle.std.specs.List.{flat_map, join_with_byte};
 ghost use Rattle.hex.specs.Hex.{encode_lower};

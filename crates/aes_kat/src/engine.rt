@@ -1,4 +1,4 @@
-// The engine: from the bytes of a reader to the bytes of a writer.
+//! The engine: from the bytes of a reader to the bytes of a writer.
 ghost use Rattle.std.specs.Prelude.{◌≡◌, ◌++◌, ◌∷◌, [], OnOk, OnErr, IfOk, vec_len};
 ghost use Rattle.std.specs.Io.KnownBytes.{Appends};
 ghost use Rattle.aes_kat.specs.Lines.{Lacks};

@@ -1,4 +1,4 @@
-// Why a line has no answer.
+//! Why a line has no answer.
 ghost use Rattle.std.specs.Prelude.{◌≡◌};
 ghost use Rattle.aes_kat.specs.Reply.{message_of};
 

@@ -1,4 +1,4 @@
-// Keys of the three sizes, and the ciphers under them.
+//! Keys of the three sizes, and the ciphers under them.
 ghost use Rattle.std.specs.Prelude.{◌≡◌, true, is_ok, MatchResult};
 ghost use Rattle.hex.specs.Hex.{decode_of};
 ghost use Rattle.aes_planes.specs.Each.{Each};

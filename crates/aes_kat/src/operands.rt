@@ -1,4 +1,4 @@
-// The words after a command: bytes in hexadecimal digits of either case.
+//! The words after a command: bytes in hexadecimal digits of either case.
 ghost use Rattle.std.specs.Prelude.{◌≡◌, ◌≤◌, ◌*◌, true, is_ok, length, take, MatchResult};
 ghost use Rattle.std.specs.List.{list_all};
 ghost use Rattle.hex.specs.Hex.{decode_of, is_hex_digit};
@@ -14,12 +14,14 @@ const BLOCK_SIZE: usize = 16;
 // How many blocks a line may have at most.
 pub(crate) const MOST_BLOCKS: usize = 64;
 
+// Whether a byte is a hexadecimal digit.
 fn is_digit(byte: u8) -> bool
     ensures { result ≡ is_hex_digit byte }
 {
     matches!(byte, b'0'..=b'9' | b'a'..=b'f' | b'A'..=b'F')
 }
 
+// Whether every byte of a word is one.
 fn are_digits(word: &[u8]) -> bool
     ensures { result ≡ list_all is_hex_digit word.now }
 {

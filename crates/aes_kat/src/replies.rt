@@ -1,4 +1,4 @@
-// The reply to one line.
+//! The reply to one line.
 ghost use Rattle.std.specs.Prelude.{◌≡◌, ◌≤◌, [], true, is_ok, take};
 ghost use Rattle.hex.specs.Hex.{decode_of};
 ghost use Rattle.aes_kat.specs.Reply.{answer_of, outcome_of, reply_to, is_fault};
@@ -41,7 +41,7 @@ fn decrypt(key: &[u8], blocks: &[u8], out: &mut Room) -> Result<usize, Fault>
     Ok(put_joined(&room[..count], out))
 }
 
-// Answers `round BLOCK KEY`.
+// Answers `round BLOCK ROUND_KEY`.
 #[tactic(auto, unfolding(crate::specs::Reply::answer_of))]
 fn round(block: &[u8], key: &[u8], out: &mut Room) -> Result<usize, Fault>
     requires block_digits { is_ok (decode_of block.now) ≡ true }
@@ -54,7 +54,7 @@ fn round(block: &[u8], key: &[u8], out: &mut Room) -> Result<usize, Fault>
     Ok(put_block(&block, 0, out))
 }
 
-// Answers `invround BLOCK KEY`.
+// Answers `invround BLOCK ROUND_KEY`.
 #[tactic(auto, unfolding(crate::specs::Reply::answer_of))]
 fn inverse_round(block: &[u8], key: &[u8], out: &mut Room) -> Result<usize, Fault>
     requires block_digits { is_ok (decode_of block.now) ≡ true }

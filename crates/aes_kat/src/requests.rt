@@ -1,4 +1,4 @@
-// A line, cut into its command and the words after it.
+//! A line, cut into its command and the words after it.
 ghost use Rattle.std.specs.Prelude.{◌≡◌, ◌∷◌, [], MatchResult};
 ghost use Rattle.std.specs.Option.{option_map_or};
 ghost use Rattle.aes_kat.specs.Lines.{words_of};

@@ -1,4 +1,4 @@
-// The rows of the line protocol, on `run` over memory.
+//! The rows of the line protocol, on `run` over memory.
 mod answered;
 mod failures;
 mod faults;
@@ -46,6 +46,7 @@ fn check_texts<R: Abort + AllocGlobal>(rt: &R, rows: &[(&str, &str, u8)]) -> Res
     Ok(())
 }
 
+// Equal columns stay under MixColumns; the messages are those of docs/SPECIFICATION.md.
 #[test]
 fn answers_line_by_line(rt: HostRuntime) -> Result<(), Fail> {
     let rows = [
@@ -67,6 +68,7 @@ fn answers_line_by_line(rt: HostRuntime) -> Result<(), Fail> {
     check_texts(&rt, &rows)
 }
 
+// Equal columns stay under MixColumns.
 #[test]
 fn replies_at_the_front(rt: HostRuntime) -> Result<(), Fail> {
     let mut out = [b'-'; 2048];

@@ -1,7 +1,7 @@
 -- All rounds, in either direction.
 use Rattle.std.proofs.Common.{◌≡◌, ℕ, zero, suc, ◌-◌, ◌<◌, ◌≤◌, List, [], ◌∷◌, length, get_or, map, refl, ap, arith}
 use Rattle.aes_planes.specs.Fips197 as fips
-use Rattle.aes_rounds.specs.Rounds.{rounds_after, all_rounds}
+use Rattle.aes_rounds.specs.Private.{rounds_after, all_rounds}
 
 -- one more round
 pub rounds_more : (step : List ℕ → List ℕ) (w : List (List ℕ)) (b : List ℕ) (n : ℕ) → 1 ≤ n

@@ -1,2 +1,2 @@
--- The files of definitions.
-pub mod Rounds
+-- The files of definitions: what private functions do on the way (Private).
+pub mod Private

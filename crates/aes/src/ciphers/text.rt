@@ -1,4 +1,6 @@
-//! The names of the ciphers, as text. Nothing of a key is written.
+//! The names of the ciphers, as text.
+//!
+//! Nothing of a key is written.
 
 use super::{AesCipher, Direction};
 use aes_cipher::cipher::AlgorithmName;

@@ -1,9 +1,9 @@
-// Lines that are answered, by the worked examples of the standards.
+//! Lines that are answered, by the worked examples of the standards.
 use super::{answers, check, check_texts};
 use std::process::Abort;
 use std::test::Fail;
 
-// FIPS 197, appendices C.1 to C.3 and B. The answers for zero blocks under zero keys are openssl's.
+// FIPS 197, appendices C.1 to C.3 and B. The answers for zero blocks under zero keys are OpenSSL's.
 #[test]
 fn encrypts(rt: HostRuntime) -> Result<(), Fail> {
     let rows = [
@@ -130,6 +130,7 @@ fn works_on_up_to_64_blocks(rt: HostRuntime) -> Result<(), Fail> {
     Ok(())
 }
 
+// FIPS 197, appendix C.1, for the line that has a block.
 #[test]
 fn answers_no_blocks_with_an_empty_line(rt: HostRuntime) -> Result<(), Fail> {
     let rows = [

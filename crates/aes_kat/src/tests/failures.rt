@@ -1,4 +1,4 @@
-// A run whose input, output or memory fails: it answers `Failed`, and what it wrote is a beginning of the answers.
+//! A run whose input, output or memory fails: it answers `Failed`, and what it wrote is a beginning of the answers.
 use super::outside::{drip_of, nibble_of};
 use crate::engine::run_in;
 use crate::{run, status};
@@ -6,7 +6,7 @@ use linked_list_allocator::LocalHeap;
 use std::io::ErrorKind;
 use std::test::Fail;
 
-// Three lines that are answered, and a fault.
+// Three lines that are answered, and a fault: FIPS 197, appendix C.1; equal columns stay under both mixings.
 const INPUT: &[u8] = b"mix 63636363636363636363636363636363\n\
     enc 000102030405060708090a0b0c0d0e0f 00112233445566778899aabbccddeeff\n\
     enc 00 00\ninvmix 63636363636363636363636363636363";

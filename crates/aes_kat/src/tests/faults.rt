@@ -1,4 +1,4 @@
-// Lines that are at fault.
+//! Lines that are at fault, by the table of docs/SPECIFICATION.md.
 use super::{answers, check};
 use crate::reply;
 use std::test::Fail;

@@ -1,4 +1,4 @@
-// Readers and writers that give and take little, or fail.
+//! Readers and writers that give and take little, or fail.
 use std::alloc::Global;
 use std::io;
 use std::io::{ErrorKind, Read, Write};

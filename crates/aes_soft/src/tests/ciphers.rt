@@ -208,6 +208,7 @@ fn encrypts_and_decrypts_the_standards_blocks(rt: HostRuntime) {
 
 // Round key 1 of the zero key is 62 63 63 63 in each column (FIPS 197, 5.2): with 0x63 added 01 in row 0, and plane 0
 // is 0x000f. The words of round keys 2 and 3 were worked out in the same way.
+// On `u64` each bit stands four times.
 #[test]
 fn stores_the_round_keys_of_the_zero_key(rt: HostRuntime) {
     let mut layers = Layers::new();

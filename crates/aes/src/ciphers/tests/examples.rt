@@ -56,7 +56,7 @@ where
 }
 
 // FIPS 197, appendices C.1 to C.3 and B; SP 800-38A, F.1.1, F.1.3 and F.1.5, the first block of each; and blocks of
-// zeros under keys of zeros, by openssl (the first is the hash key of test case 1 of the specification of GCM).
+// zeros under keys of zeros, by OpenSSL (the first is the hash key of test case 1 of the specification of GCM).
 #[test]
 fn leaves_the_blocks_of_the_standards(rt: HostRuntime) {
     let key128 = 0x2b7e151628aed2a6abf7158809cf4f3cu128.to_be_bytes();

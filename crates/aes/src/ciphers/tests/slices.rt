@@ -9,16 +9,16 @@ use aes_soft::soft::sizes::{Bits128, Bits192, Bits256, KeySize};
 
 // The calls on blocks of one direction.
 trait Calls {
-    /// The call on a block.
+    // The call on a block.
     fn block(&self, block: &mut Block);
 
-    /// The call on a slice.
+    // The call on a slice.
     fn slice(&self, blocks: &mut [Block]);
 
-    /// The same, counted.
+    // The same, counted.
     fn counted(&self, blocks: &mut [Block]);
 
-    /// The call from one slice to another.
+    // The call from one slice to another.
     fn from_to(&self, input: &[Block], output: &mut [Block]) -> Result<(), NotEqualError>;
 }
 

@@ -2,7 +2,7 @@
 use Rattle.std.proofs.Common.{◌++◌, ◌∷◌, [], ap, ◌∙◌, arith, take_all}
 use Rattle.std.specs.List.{flat_map}
 use Rattle.hex.specs.Hex.{encode_lower}
-use Rattle.aes_kat.proofs.BlockLemmas.{take-joined}
+use Rattle.aes_kat.proofs.Blocks.{take-joined}
 use Rattle.aes_kat.proofs.digits.put_spaced.Goals as goal
 
 pub returns-clause-text : goal.returns-clause-text

@@ -1,7 +1,7 @@
 -- What is left to show of `engine::answer_rest`.
 use Rattle.std.proofs.Common.{◌≢◌, ◌<◌, ◌++◌, ◌∙◌, length, sym, ap, append-nil, arith}
 use Rattle.std.proofs.lemmas.Bool.{eqb-true, eqb-false}
-use Rattle.aes_kat.proofs.AnswersLemmas.{answers_to-empty, has_fault-empty, answers_to-last, has_fault-last}
+use Rattle.aes_kat.proofs.Answers.{answers_to-empty, has_fault-empty, answers_to-last, has_fault-last}
 use Rattle.aes_kat.proofs.engine.answer_rest.Goals as goal
 
 pub returns-then-is_empty : goal.returns-then-is_empty

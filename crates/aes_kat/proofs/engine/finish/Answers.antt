@@ -2,7 +2,7 @@
 use Rattle.std.proofs.Common.{ap, ◌++◌, ◌∙◌}
 use Rattle.std.proofs.KnownBytes.{Appends-kept}
 use Rattle.aes_kat.specs.Answers.{answers_to}
-use Rattle.aes_kat.proofs.AnswersLemmas.{OnErr-from, AppendsBeginning-whole}
+use Rattle.aes_kat.proofs.Answers.{OnErr-from, AppendsBeginning-whole}
 use Rattle.aes_kat.proofs.engine.finish.Goals as goal
 
 pub returns-in_err-write_whole-clause-stopped : goal.returns-in_err-write_whole-clause-stopped

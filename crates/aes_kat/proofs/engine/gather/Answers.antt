@@ -2,7 +2,7 @@
 use Rattle.std.proofs.Common.{ℕ, List, ◌++◌, ◌∷◌, ◌==◌, ◌≡◌, false, subst, sym, ap, ◌∙◌, append_assoc}
 use Rattle.std.proofs.lemmas.List.Elements.{All-append, All-nil}
 use Rattle.aes_kat.specs.Lines.{Lacks}
-use Rattle.aes_kat.proofs.AnswersLemmas.{Gathers-same, Gathers-line}
+use Rattle.aes_kat.proofs.Answers.{Gathers-same, Gathers-line}
 use Rattle.aes_kat.proofs.engine.gather.Goals as goal
 
 -- the bytes begun and the bytes of the chunk, cut at the line end

@@ -2,7 +2,7 @@
 use Rattle.std.proofs.Common.{◌++◌, take, arith}
 use Rattle.std.proofs.KnownBytes.{Consumes-trans}
 use Rattle.aes_kat.specs.Answers.{answers_to, AppendsBeginning}
-use Rattle.aes_kat.proofs.AnswersLemmas.{Runs-failed, Advances-chunk, StopsWithin-here, StopsWithin-chunk, AppendsBeginning-ended, held-ended, stops-held}
+use Rattle.aes_kat.proofs.Answers.{Runs-failed, Advances-chunk, StopsWithin-here, StopsWithin-chunk, AppendsBeginning-ended, held-ended, stops-held}
 use Rattle.aes_kat.proofs.engine.run_in.Goals as goal
 
 pub returns-in_err-count : goal.returns-in_err-count

@@ -2,7 +2,7 @@
 use Rattle.std.proofs.Common.{ℕ, List, ◌∷◌, ◌≡◌, All, ap, sym, ◌∙◌}
 use Rattle.std.specs.List.{join_with_byte}
 use Rattle.aes_kat.specs.Lines.{parts_at, without_empty_last, lines_of, Lacks}
-use Rattle.aes_kat.proofs.LinesLemmas.{parts_at-joined, parts_at-lacking, parts_at-only}
+use Rattle.aes_kat.proofs.Lines.{parts_at-joined, parts_at-lacking, parts_at-only}
 use Rattle.aes_kat.proofs.laws.parts_are_unique.Goals as goal
 
 only : (separator : ℕ) (text first : List ℕ) (more : List (List ℕ)) → All (Lacks separator) (first ∷ more)

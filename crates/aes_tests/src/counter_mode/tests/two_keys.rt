@@ -17,9 +17,9 @@ const ZERO_KEY: Block = [0; 16];
 // A cipher whose first round is its last.
 #[derive(Drop)]
 pub(super) struct TwoKeys {
-    /// The round key before the round.
+    // The round key before the round.
     pub first: Block,
-    /// The round key of the round.
+    // The round key of the round.
     pub last: Block,
 }
 

@@ -2,7 +2,7 @@
 use Rattle.std.proofs.Common.{◌≡◌, ℕ, ◌+◌, ◌-◌, List, map, ap, ◌∙◌, arith}
 use Rattle.aes_planes.specs.Fips197 as fips
 use Rattle.aes_planes.proofs.Planes.Held.{map-map, map-same}
-use Rattle.aes_rounds.specs.Rounds.{rounds_after, all_rounds}
+use Rattle.aes_rounds.specs.Private.{rounds_after, all_rounds}
 use Rattle.aes_rounds.proofs.Runs.{rounds_more}
 use Rattle.aes_rounds.proofs.rounds.runs.run.Goals as goal
 

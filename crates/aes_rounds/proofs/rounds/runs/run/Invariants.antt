@@ -1,6 +1,6 @@
 -- What holds in the loops of `rounds::runs::run`.
 use Rattle.std.proofs.Common.{◌≡◌, ◌-◌, map}
-use Rattle.aes_rounds.specs.Rounds.{rounds_after}
+use Rattle.aes_rounds.specs.Private.{rounds_after}
 use Rattle.aes_rounds.proofs.rounds.runs.run.Given as goal
 
 abbrev pub invariant-loop-number : goal.invariant-loop-number

@@ -1,4 +1,5 @@
--- What Cipher and EqInvCipher have in common (5.1, 5.3.5): one step in each round, another in the last.
+-- What private functions do on the way: no public contract names it. Cipher and EqInvCipher (5.1, 5.3.5) have one step in each
+-- round, and another in the last.
 use Rattle.std.specs.Prelude.{ℕ, zero, suc, ◌-◌, List}
 use Rattle.aes_planes.specs.Fips197 as fips
 

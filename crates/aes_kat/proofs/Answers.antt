@@ -9,7 +9,7 @@ use Rattle.aes_kat.specs.Lines.{Lacks}
 use Rattle.aes_kat.specs.Reply.{reply_to, is_fault}
 use Rattle.aes_kat.specs.Answers.{answers_to, has_fault, AppendsBeginning, Runs}
 use Rattle.aes_kat.specs.Private.Progress.{Gathers, Advances, StopsWithin}
-use Rattle.aes_kat.proofs.LinesLemmas.{lines_of-cut, lines_of-last, lines_of-nil}
+use Rattle.aes_kat.proofs.Lines.{lines_of-cut, lines_of-last, lines_of-nil}
 
 -- what holds anyway holds on an error
 pub OnErr-from : {T E : Type 0} (r : Result T E) (P : Type 0) → P → OnErr r P
