@@ -1,12 +1,12 @@
 //! The sizes of keys, and what the ciphers need of each.
-ghost use Rattle.std.specs.Prelude.{◌≡◌, ℕ, ◌+◌, ◌≤◌, Bool, List, length};
+ghost use Rattle.std.specs.Prelude.{◌≡◌, ℕ, ◌+◌, List, length};
 ghost use Rattle.aes_planes.specs.Fips197 as fips;
-ghost use Rattle.aes_soft.specs.Stored.{key_of};
 
 mod bits128;
 mod bits192;
 mod bits256;
 mod bytes;
+mod reading;
 mod wiped;
 
 use super::keys::StoredKeys;
@@ -73,9 +73,3 @@ pub fn has_round_keys<K: KeySize>(round_keys: &K::RoundKeys)
     laws::expanded_keys();
     K::has_key(round_keys);
 }
-
-// Nothing: a call has in its contract that words of one block are read as a key of bytes, as long as is asked for.
-fn reads_keys()
-    ensures sized { (size : ℕ) (layout : ℕ → ℕ) (planes : List (List Bool)) → size ≤ 32 → length (key_of size 1 layout planes) ≡ size }
-    ensures bytes { (size : ℕ) (layout : ℕ → ℕ) (planes : List (List Bool)) → fips.IsBytes (key_of size 1 layout planes) }
-{}

@@ -1,7 +1,8 @@
 //! Keys of 16 bytes.
 ghost use Rattle.std.specs.Prelude.{refl};
 
-use super::{BatchWord, KeySize, reads_keys};
+use super::reading::reads_keys;
+use super::{BatchWord, KeySize};
 use crate::soft::full::aes128::{RoundKeys, key_schedule};
 use crate::soft::full::widen;
 use aes_cipher::zeroize::Wiped;

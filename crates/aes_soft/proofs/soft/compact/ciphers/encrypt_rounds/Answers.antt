@@ -1,10 +1,10 @@
--- What is left to show of `soft::compact::encrypt_rounds`.
+-- What is left to show of `soft::compact::ciphers::encrypt_rounds`.
 use Rattle.std.proofs.Common.{◌≡◌, ◌+◌, ◌-◌, ◌*◌, map, refl, subst, ◌∙◌, arith}
 use Rattle.aes_planes.specs.Fips197.{inv_shift_times}
 use Rattle.aes_planes.proofs.Shifts.Owed.{leaves_one_next, leaves_one_at_three}
 use Rattle.aes_soft.specs.Stored.{compact}
 use Rattle.aes_soft.proofs.Rounds.{Owes, started, round, shifted, ended}
-use Rattle.aes_soft.proofs.soft.compact.encrypt_rounds.Goals as goal
+use Rattle.aes_soft.proofs.soft.compact.ciphers.encrypt_rounds.Goals as goal
 
 pub turns-init : goal.turns-init
 unfolding inv_shift_times

@@ -1,9 +1,9 @@
--- What is left to show of `soft::full::store_keys`.
+-- What is left to show of `soft::full::ciphers::store_keys`.
 use Rattle.std.proofs.Common.{◌-◌, map, refl, arith}
 use Rattle.aes_soft.specs.Stored.{full, key_size}
 use Rattle.aes_soft.proofs.KeyOfPlanes.{key_of-schedule}
 use Rattle.aes_soft.proofs.StoredRoundKeys.{owed_below, schedule_of}
-use Rattle.aes_soft.proofs.soft.full.store_keys.Goals as goal
+use Rattle.aes_soft.proofs.soft.full.ciphers.store_keys.Goals as goal
 
 pub returns-clause-schedule : goal.returns-clause-schedule
 returns-clause-schedule g c = λ key sized holds.

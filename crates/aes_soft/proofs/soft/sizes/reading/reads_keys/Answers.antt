@@ -1,7 +1,7 @@
--- What is left to show of `soft::sizes::reads_keys`.
+-- What is left to show of `soft::sizes::reading::reads_keys`.
 use Rattle.std.proofs.Common.{arith}
 use Rattle.aes_soft.proofs.KeyOfPlanes.{key_of-length, key_of-bytes}
-use Rattle.aes_soft.proofs.soft.sizes.reads_keys.Goals as goal
+use Rattle.aes_soft.proofs.soft.sizes.reading.reads_keys.Goals as goal
 
 pub returns-clause-sized : goal.returns-clause-sized
 returns-clause-sized c = λ size layout planes le. key_of-length size 1 layout planes (omega arith) le

@@ -1,9 +1,9 @@
--- What is left to show of `soft::compact::store_keys`.
+-- What is left to show of `soft::compact::ciphers::store_keys`.
 use Rattle.std.proofs.Common.{◌-◌, map, refl, arith}
 use Rattle.aes_soft.specs.Stored.{compact, key_size}
 use Rattle.aes_soft.proofs.KeyOfPlanes.{key_of-schedule}
 use Rattle.aes_soft.proofs.StoredRoundKeys.{compact_owed, schedule_of}
-use Rattle.aes_soft.proofs.soft.compact.store_keys.Goals as goal
+use Rattle.aes_soft.proofs.soft.compact.ciphers.store_keys.Goals as goal
 
 pub returns-clause-schedule : goal.returns-clause-schedule
 returns-clause-schedule g c = λ key sized holds.

@@ -1,9 +1,9 @@
--- What holds in the loops of `soft::compact::decrypt_rounds`.
+-- What holds in the loops of `soft::compact::ciphers::decrypt_rounds`.
 use Rattle.std.proofs.Common.{◌≡◌, ◌+◌, ◌*◌, map}
 use Rattle.aes_planes.specs.Fips197.{inv_state_after, inv_sub_bytes, key_expansion}
 use Rattle.aes_planes.specs.Planes.{held}
 use Rattle.aes_soft.specs.Stored.{compact, key_of, key_size}
-use Rattle.aes_soft.proofs.soft.compact.decrypt_rounds.Given as goal
+use Rattle.aes_soft.proofs.soft.compact.ciphers.decrypt_rounds.Given as goal
 
 abbrev pub invariant-turns : goal.invariant-turns
 invariant-turns g l = record {

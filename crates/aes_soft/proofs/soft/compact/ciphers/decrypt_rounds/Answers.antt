@@ -1,10 +1,10 @@
--- What is left to show of `soft::compact::decrypt_rounds`.
+-- What is left to show of `soft::compact::ciphers::decrypt_rounds`.
 use Rattle.std.proofs.Common.{ℕ, ◌+◌, ◌-◌, ◌*◌, refl, ◌∙◌, arith}
 use Rattle.aes_planes.specs.Fips197.{inv_shift_times}
 use Rattle.aes_planes.proofs.Shifts.Owed.{takes_one_next}
 use Rattle.aes_soft.specs.Stored.{compact}
 use Rattle.aes_soft.proofs.Rounds.{inv_started, inv_shifted, inv_round, inv_ended}
-use Rattle.aes_soft.proofs.soft.compact.decrypt_rounds.Goals as goal
+use Rattle.aes_soft.proofs.soft.compact.ciphers.decrypt_rounds.Goals as goal
 
 pub turns-init : goal.turns-init
 unfolding inv_shift_times
