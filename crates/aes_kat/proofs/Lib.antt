@@ -1,7 +1,7 @@
--- The files of lemmas.
+-- The files of lemmas: lines and words, the words of a command, and the answers.
 pub mod Lines
-pub mod Commands
-pub mod Operands
-pub mod Requests
+pub mod CommandNames
+pub mod RequestWords
+pub mod OperandBytes
 pub mod Blocks
 pub mod Answers

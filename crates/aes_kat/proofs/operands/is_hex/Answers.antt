@@ -1,6 +1,6 @@
 -- What is left to show of `operands::is_hex`.
 use Rattle.std.proofs.Common.{◌∙◌}
-use Rattle.aes_kat.proofs.Operands.{all_digits}
+use Rattle.aes_kat.proofs.OperandBytes.{all_digits}
 use Rattle.aes_kat.proofs.operands.is_hex.Goals as goal
 
 pub returns-then-word-eq0 : goal.returns-then-word-eq0

@@ -1,6 +1,6 @@
 -- What is left to show of `operands::put_blocks_of`.
 use Rattle.std.proofs.Common.{arith}
-use Rattle.aes_kat.proofs.Operands.{length-decoded}
+use Rattle.aes_kat.proofs.OperandBytes.{length-decoded}
 use Rattle.aes_kat.proofs.operands.put_blocks_of.Goals as goal
 use Rattle.aes_kat.proofs.operands.put_blocks_of.Goals.{then-size-ne0-via-then-size-ne0, then-size-ne0-via-else-size-ne0+then-size-gt1024}
 

@@ -1,6 +1,6 @@
 -- What is left to show of `replies::answer`.
 use Rattle.std.proofs.Common.{rules, sym}
-use Rattle.aes_kat.proofs.Requests.{outcome_of-unasked, outcome_of-first_hex, outcome_of-second_hex, outcome_of-answer}
+use Rattle.aes_kat.proofs.RequestWords.{outcome_of-unasked, outcome_of-first_hex, outcome_of-second_hex, outcome_of-answer}
 use Rattle.aes_kat.proofs.replies.answer.Goals as goal
 use Rattle.aes_kat.proofs.replies.answer.Goals.{then-not-is_hex-via-then-not-is_hex, then-not-is_hex-via-else-not-is_hex+then-not-is_hex-2}
 

@@ -1,7 +1,7 @@
 -- What is left to show of `replies::reply`.
 use Rattle.std.proofs.Common.{sym, ap, ◌∙◌, length}
 use Rattle.aes_kat.specs.Reply.{reply_to, is_fault, text_of, is_err}
-use Rattle.aes_kat.proofs.Operands.{take_front}
+use Rattle.aes_kat.proofs.OperandBytes.{take_front}
 use Rattle.aes_kat.proofs.replies.reply.Goals as goal
 
 pub returns-in-Ok-clause-text : goal.returns-in-Ok-clause-text

@@ -1,7 +1,7 @@
 -- What is left to show of `requests::parse`.
 use Rattle.std.proofs.Common.{[], ◌∷◌, sym, ap, ◌∙◌}
 use Rattle.aes_kat.specs.Reply.{asked_if}
-use Rattle.aes_kat.proofs.Requests.{request_of-none, request_of-one, request_of-two, request_of-many, request_of-unknown, words-two}
+use Rattle.aes_kat.proofs.RequestWords.{request_of-none, request_of-one, request_of-two, request_of-many, request_of-unknown, words-two}
 use Rattle.aes_kat.proofs.requests.parse.Goals as goal
 use Rattle.aes_kat.proofs.requests.parse.Goals.{then-is_some-via-then-is_some, then-is_some-via-else-is_some+then-not-takes_two}
 

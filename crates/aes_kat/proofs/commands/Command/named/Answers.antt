@@ -2,7 +2,7 @@
 use Rattle.std.proofs.Common.{sym, ap, ◌∙◌}
 use Rattle.std.specs.Str.{bytes_eq}
 use Rattle.aes_kat.specs.Reply.{commands}
-use Rattle.aes_kat.proofs.Commands.{first_named-found, first_named-passed, first_named-none}
+use Rattle.aes_kat.proofs.CommandNames.{first_named-found, first_named-passed, first_named-none}
 use Rattle.aes_kat.proofs.commands.Command.named.Goals as goal
 
 pub returns-then-eq : goal.returns-then-eq

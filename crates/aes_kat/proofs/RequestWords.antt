@@ -9,7 +9,7 @@ use Rattle.aes_kat.specs.Lines.{words_of}
 use Rattle.aes_kat.specs.Private.Steps.{decoded}
 use Rattle.aes_kat.specs.Reply.{Asked, command_of, takes_one, takes_two, asked_if, request_of, answer_of, outcome_of}
 use Rattle.aes_kat.proofs.Lines.{parts_at-cons}
-use Rattle.aes_kat.proofs.Operands.{bytes_of-decoded, bytes_of-err}
+use Rattle.aes_kat.proofs.OperandBytes.{bytes_of-decoded, bytes_of-err}
 
 -- ---- by the number of words
 
