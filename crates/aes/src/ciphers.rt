@@ -1,4 +1,4 @@
-//! The one type of ciphers: a key of any size, in any direction.
+//! The one type of ciphers: a key of any size, in one direction or both.
 
 ghost use Rattle.std.specs.Prelude.{◌≡◌, ◌+◌, ℕ, List, length, replicate, refl};
 ghost use Rattle.aes_planes.specs.Each.{Each};
@@ -17,18 +17,18 @@ mod text;
 use aes_cipher::cipher::{InvalidLength, KeyInit, KeySizeUser, RoundKeysUser};
 use aes_cipher::zeroize::ZeroizeOnDrop;
 use aes_planes::soft::sbox::Layers;
-use aes_soft::soft::sizes::{KeyBytes, KeySize, WipedKeys, has_round_keys};
-pub use directions::{BothWays, Decrypting, Decrypts, Direction, Encrypting, Encrypts};
+use aes_soft::soft::key_sizes::{AesVariant, KeyBytes, WipedKeys, has_round_keys};
+pub use directions::{BothWays, Directions, Includes};
 use std::marker::{Model, PhantomData};
 
-/// AES with a key of some size, in some direction. Contracts see a value as its key.
+/// AES with a key of some size, in one direction or both. Contracts see a value as its key.
 #[derive(Drop)]
-pub struct AesCipher<K: KeySize, D: Direction> {
+pub struct AesCipher<K: AesVariant, D: Directions> {
     round_keys: K::Wiped,
-    direction: PhantomData<D>,
+    directions: PhantomData<D>,
 }
 
-impl<K: KeySize, D: Direction> Model for AesCipher<K, D> {
+impl<K: AesVariant, D: Directions> Model for AesCipher<K, D> {
     ghost Value = { List ℕ };
 
     ghost view = { λ cipher. K.RoundKeys.key (K.Wiped.words cipher.round_keys) };
@@ -36,16 +36,18 @@ impl<K: KeySize, D: Direction> Model for AesCipher<K, D> {
     ghost invariant = { λ cipher. K.RoundKeys.AreKeyed (K.Wiped.words cipher.round_keys) };
 }
 
-impl<K: KeySize, D: Direction> AesCipher<K, D> {
+impl<K: AesVariant, D: Directions> AesCipher<K, D> {
     /// The value of a key, counted: KeyExpansion (FIPS 197, 5.2) runs 10, 8 or 13 S-box layers with a
     /// key of 16, 24 or 32 bytes.
     pub fn new_counted(key: &K::Key, layers: &mut Layers) -> AesCipher<K, D>
         ensures made { result ≡ K.Key.bytes key.now }
         ensures layers { layers.new ≡ layers.old + K.SCHEDULE_LAYERS }
     {
+        let mut round_keys = K::Wiped::zeroed();
+        K::refill(&mut round_keys, key, layers);
         AesCipher {
-            round_keys: K::Wiped::new(K::schedule(key, layers)),
-            direction: PhantomData,
+            round_keys,
+            directions: PhantomData,
         }
     }
 
@@ -53,13 +55,12 @@ impl<K: KeySize, D: Direction> AesCipher<K, D> {
     pub fn zeroize(&mut self)
         ensures { self.new ≡ replicate K.Key.SIZE 0 }
     {
-        let zero = K::schedule(&K::Key::zero(), &mut Layers::new());
         self.round_keys.wipe();
-        self.round_keys.refill(zero);
+        K::refill(&mut self.round_keys, &K::Key::zero(), &mut Layers::new());
     }
 }
 
-impl<K: KeySize, D: Direction> KeySizeUser for AesCipher<K, D> {
+impl<K: AesVariant, D: Directions> KeySizeUser for AesCipher<K, D> {
     type Key = K::Key;
 
     ghost KEY_SIZE = { K.Key.SIZE };
@@ -69,7 +70,7 @@ impl<K: KeySize, D: Direction> KeySizeUser for AesCipher<K, D> {
     const KEY_SIZE: usize = K::Key::SIZE;
 }
 
-impl<K: KeySize, D: Direction> RoundKeysUser for AesCipher<K, D> {
+impl<K: AesVariant, D: Directions> RoundKeysUser for AesCipher<K, D> {
     ghost round_keys = { fips.key_expansion };
 
     fn has_round_keys(&self) {
@@ -79,7 +80,7 @@ impl<K: KeySize, D: Direction> RoundKeysUser for AesCipher<K, D> {
     ghost two_round_keys = { two_keys };
 }
 
-impl<K: KeySize, D: Direction> KeyInit for AesCipher<K, D> {
+impl<K: AesVariant, D: Directions> KeyInit for AesCipher<K, D> {
     ghost own_key = { λ key. key };
 
     fn new(key: &K::Key) -> AesCipher<K, D> {
@@ -97,4 +98,4 @@ impl<K: KeySize, D: Direction> KeyInit for AesCipher<K, D> {
     ghost expanded = { λ key. refl };
 }
 
-impl<K: KeySize, D: Direction> ZeroizeOnDrop for AesCipher<K, D> {}
+impl<K: AesVariant, D: Directions> ZeroizeOnDrop for AesCipher<K, D> {}

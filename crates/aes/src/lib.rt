@@ -8,7 +8,7 @@ mod ciphers;
 pub mod hazmat;
 mod names;
 
-pub use ciphers::{AesCipher, BothWays, Decrypting, Decrypts, Direction, Encrypting, Encrypts};
+pub use ciphers::{AesCipher, BothWays, Directions, Includes};
 pub use names::{
     Aes128, Aes128Dec, Aes128Enc, Aes192, Aes192Dec, Aes192Enc, Aes256, Aes256Dec, Aes256Enc,
 };

@@ -1,31 +1,32 @@
 //! The nine types, as users name them.
 
-use crate::ciphers::{AesCipher, BothWays, Decrypting, Encrypting};
-use aes_soft::soft::sizes::{Bits128, Bits192, Bits256};
+use crate::ciphers::{AesCipher, BothWays};
+use aes_cipher::cipher::{Decrypt, Encrypt};
+use aes_soft::soft::key_sizes::{Bits128, Bits192, Bits256};
 
 /// AES with a key of 16 bytes, both ways.
 pub type Aes128 = AesCipher<Bits128, BothWays>;
 
 /// AES with a key of 16 bytes, encrypting alone.
-pub type Aes128Enc = AesCipher<Bits128, Encrypting>;
+pub type Aes128Enc = AesCipher<Bits128, Encrypt>;
 
 /// AES with a key of 16 bytes, decrypting alone.
-pub type Aes128Dec = AesCipher<Bits128, Decrypting>;
+pub type Aes128Dec = AesCipher<Bits128, Decrypt>;
 
 /// AES with a key of 24 bytes, both ways.
 pub type Aes192 = AesCipher<Bits192, BothWays>;
 
 /// AES with a key of 24 bytes, encrypting alone.
-pub type Aes192Enc = AesCipher<Bits192, Encrypting>;
+pub type Aes192Enc = AesCipher<Bits192, Encrypt>;
 
 /// AES with a key of 24 bytes, decrypting alone.
-pub type Aes192Dec = AesCipher<Bits192, Decrypting>;
+pub type Aes192Dec = AesCipher<Bits192, Decrypt>;
 
 /// AES with a key of 32 bytes, both ways.
 pub type Aes256 = AesCipher<Bits256, BothWays>;
 
 /// AES with a key of 32 bytes, encrypting alone.
-pub type Aes256Enc = AesCipher<Bits256, Encrypting>;
+pub type Aes256Enc = AesCipher<Bits256, Encrypt>;
 
 /// AES with a key of 32 bytes, decrypting alone.
-pub type Aes256Dec = AesCipher<Bits256, Decrypting>;
+pub type Aes256Dec = AesCipher<Bits256, Decrypt>;

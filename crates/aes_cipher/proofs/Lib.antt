@@ -1,3 +1,5 @@
 -- The files of lemmas.
+pub mod BlockNumbers
+pub mod ByteBlocks
 pub mod SliceRuns
 pub mod Zeros

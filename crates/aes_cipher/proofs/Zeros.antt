@@ -21,10 +21,10 @@ filled_whole i n v d xs all long h =
     h ∙ ap (λ l. replicate i v ++ l) (drop_all i d (omega arith)) ∙ append-nil (replicate i v) ∙ ap (λ k. replicate k v) all
 
 -- n bits that are all 0
-pub bits_of_zero : (n : ℕ) (xs : List Bool) → Places n xs (λ i. false) → xs ≡ replicate n false
-bits_of_zero n xs p =
-    ext_get_or false xs (replicate n false) (p.count ∙ sym (length-replicate n false))
-    (λ i h. let k : i < n = omega (arith, p.count) in p.place i k ∙ sym (get_or-replicate n i false false k))
+pub bits_of_zero : (n : ℕ) (xs : List Bool) → length xs ≡ n → Places n xs (λ i. false) → xs ≡ replicate n false
+bits_of_zero n xs l p =
+    ext_get_or false xs (replicate n false) (l ∙ sym (length-replicate n false))
+    (λ i h. let k : i < n = omega (arith, l) in p i k ∙ sym (get_or-replicate n i false false k))
 
 -- f of an element in every place
 pub map_replicate : {X Y : Type 0} (f : X → Y) (n : ℕ) (x : X) → map f (replicate n x) ≡ replicate n (f x)

@@ -3,23 +3,28 @@
 mod batches;
 mod decrypt;
 mod decrypt_backend;
+mod directions;
+mod eight;
 mod encrypt;
 mod encrypt_backend;
 mod errors;
 mod init;
+mod lent;
 mod names;
 mod round_keys;
 mod sizes;
 #[cfg(test)]
-mod tests;
+pub(crate) mod tests;
 
 pub use batches::{BatchSize, BatchSizeUser, ParBlocksSizeUser};
 pub use decrypt::BlockCipherDecrypt;
 pub use decrypt_backend::{BlockCipherDecBackend, BlockCipherDecClosure};
+pub use directions::{Decrypt, Direction, Encrypt};
+pub use eight::BatchOfEight;
 pub use encrypt::BlockCipherEncrypt;
 pub use encrypt_backend::{BlockCipherEncBackend, BlockCipherEncClosure};
 pub use errors::{InvalidLength, NotEqualError};
 pub use init::KeyInit;
 pub use names::AlgorithmName;
 pub use round_keys::RoundKeysUser;
-pub use sizes::{BlockSizeUser, KeySizeUser};
+pub use sizes::{Block, BlockSizeUser, KeySizeUser};

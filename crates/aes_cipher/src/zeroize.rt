@@ -1,11 +1,14 @@
 //! Words that are set to zero when they are no longer needed.
 
-ghost use Rattle.std.specs.Prelude.{◌≡◌, ℕ, ◌<◌, ◌^◌, false, slice_index, length, map, replicate};
+ghost use Rattle.std.specs.Prelude.{◌≡◌, ℕ, List, false, length, map, replicate};
 
+mod held;
 #[cfg(test)]
 mod tests;
 
 use aes_planes::soft::word::Word;
+use held::Held;
+use std::marker::Model;
 use std::sync::atomic::{AtomicU64, Ordering};
 
 /// A mark: the words that a value holds are set to zero when it is dropped.
@@ -19,17 +22,17 @@ pub fn zeroize_words<W: Word>(words: &mut [W])
     ensures { map W.bits words.new ≡ replicate (length words.old) (replicate W.BITS false) }
 {
     let seen = AtomicU64::new(0);
-    look(words, &seen);
+    observe(words, &seen);
     let zero = W::zero();
     for word in words.iter_mut() {
         *word = zero;
     }
-    look(words, &seen);
+    observe(words, &seen);
 }
 
 // Reads the first word, at a place that comes out of an atomic: `seen` holds 0 by then, which no compiler can count on.
 // What it held before, perhaps a byte of a secret, is cleared first: it must not become a place.
-fn look<W: Word>(words: &[W], seen: &AtomicU64) {
+fn observe<W: Word>(words: &[W], seen: &AtomicU64) {
     seen.swap(0, Ordering::SeqCst);
     let place = seen.swap(0, Ordering::SeqCst) as usize;
     if place < words.len() {
@@ -37,48 +40,70 @@ fn look<W: Word>(words: &[W], seen: &AtomicU64) {
     }
 }
 
-/// Words that are set to zero when the value is dropped. They are neither copied nor cloned unawares, and nothing is
-/// claimed of what they hold.
+/// Words that are set to zero when the value is dropped: what stands inside has a drop of its own, which requires that
+/// they are zero by then. They are neither `Copy` nor `Clone`. Contracts see a value as its words.
 pub struct Wiped<const N: usize> {
-    /// The words.
-    pub words: [u16; N],
+    held: Held<N>,
+}
+
+impl<const N: usize> Model for Wiped<N> {
+    ghost Value = { List ℕ };
+
+    ghost view = { λ wiped. wiped.held };
 }
 
 impl<const N: usize> Wiped<N> {
+    ghost use Rattle.std.specs.Borrow.{sem};
+    ghost use Rattle.aes_cipher.specs.Lends.{lends_words};
+
+    /// A value that holds the words.
+    #[inline(always)]
+    pub fn new(words: [u16; N]) -> Wiped<N>
+        ensures { result ≡ words.entry }
+    {
+        Wiped {
+            held: Held::new(words),
+        }
+    }
+
+    /// Lends the words.
+    #[inline(always)]
+    pub fn words(&self) -> &[u16; N]
+        ensures { result.now ≡ self.now }
+    {
+        self.held.words()
+    }
+
     /// Sets every word to zero.
     pub fn wipe(&mut self)
-        ensures { self.new.words ≡ replicate (length self.old.words) 0 }
+        ensures { self.new ≡ replicate N 0 }
     {
-        zeroize_words(&mut self.words);
-        are_words(self.words);
+        self.held.wipe();
+    }
+
+    /// Lends the words to be written over.
+    #[inline(always)]
+    pub fn words_mut(&mut self) -> &mut [u16]
+        ensures* writes_back { sem 𝓛 (lends_words N.row self.entry result) }
+        ensures words { result.now ≡ self.old }
+        ensures sized { length result.now ≡ N }
+    {
+        self.held.words_mut()
     }
 
     /// The same words once more, in a value that is wiped by itself.
     pub fn copy(&self) -> Wiped<N>
-        ensures { result.words ≡ self.now.words }
+        ensures { result ≡ self.now }
     {
-        Wiped { words: self.words }
+        Wiped::new(*self.words())
     }
 }
 
 impl<const N: usize> Drop for Wiped<N> {
     fn drop(mut self) {
         self.wipe();
-        let Wiped { words } = self;
-        let_go(words);
+        let Wiped { held: _ } = self;
     }
 }
 
 impl<const N: usize> ZeroizeOnDrop for Wiped<N> {}
-
-// Words of sixteen bits are numbers below 2 ^ 16. The call does nothing.
-fn are_words<const N: usize>(words: [u16; N])
-    ensures { (i : ℕ) → i < length words.entry → slice_index words.entry i < 2 ^ 16 }
-{}
-
-// Lets go of words that are zero, and of no others: so a drop that forgets to wipe is not proved.
-fn let_go<const N: usize>(words: [u16; N])
-    requires wiped { words ≡ replicate (length words) 0 }
-{
-    let _ = words;
-}

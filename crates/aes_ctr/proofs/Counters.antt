@@ -1,7 +1,8 @@
 -- The bytes of counters, written by halves.
-use Rattle.std.proofs.Common.{◌≡◌, ℕ, ◌+◌, ◌*◌, ◌/◌, ◌%◌, ◌^◌, List, [], ◌∷◌, ◌++◌, sym, ap, ◌∙◌, arith}
+use Rattle.std.proofs.Common.{◌≡◌, ℕ, ◌+◌, ◌*◌, ◌/◌, ◌%◌, ◌^◌, List, [], ◌∷◌, sym, ap, ◌∙◌, arith}
 use Rattle.std.proofs.Math.Nat.{div-div-eq-div-mul}
-use Rattle.std.specs.Int.{w64, w128, to_be_bytes, from_be_bytes}
+use lib.Lanes.{digits_l, pick_l}
+use Rattle.std.specs.Int.{w128, to_be_bytes, from_be_bytes}
 use Rattle.aes_ctr.specs.CounterMode.{counter}
 
 next : (x j : ℕ) → ((x + j) % 2 ^ 128 + 1) % 2 ^ 128 ≡ (x + (j + 1)) % 2 ^ 128
@@ -17,20 +18,27 @@ pub counter_more : (iv : List ℕ) (j k : ℕ) → k ≡ j + 1 → (counter iv j
 unfolding counter
 counter_more iv j k is = next (from_be_bytes w128 iv) j ∙ ap (λ m. (from_be_bytes w128 iv + m) % 2 ^ 128) (sym is)
 
-high_byte : (n d : ℕ) → n / 2 ^ 64 / d % 256 ≡ n / (2 ^ 64 * d) % 256
-high_byte n d = ap (λ m. m % 256) (div-div-eq-div-mul n (2 ^ 64) d)
+-- a number shifted down byte by byte
+further : (n p q : ℕ) → q ≡ n / p → q / 256 ≡ n / (p * 256)
+further n p q is = ap (λ v. v / 256) is ∙ div-div-eq-div-mul n p 256
 
--- the bytes of a number are those of its halves
-pub halves : (n : ℕ) → to_be_bytes w64 (n / 2 ^ 64) ++ to_be_bytes w64 (n % 2 ^ 64) ≡ to_be_bytes w128 n
-halves n =
-    let b7 : n % 2 ^ 64 / 256 ^ 7 % 256 ≡ n / 256 ^ 7 % 256 = omega arith in
-    let b6 : n % 2 ^ 64 / 256 ^ 6 % 256 ≡ n / 256 ^ 6 % 256 = omega arith in
-    let b5 : n % 2 ^ 64 / 256 ^ 5 % 256 ≡ n / 256 ^ 5 % 256 = omega arith in
-    let b4 : n % 2 ^ 64 / 256 ^ 4 % 256 ≡ n / 256 ^ 4 % 256 = omega arith in
-    let b3 : n % 2 ^ 64 / 256 ^ 3 % 256 ≡ n / 256 ^ 3 % 256 = omega arith in
-    let b2 : n % 2 ^ 64 / 256 ^ 2 % 256 ≡ n / 256 ^ 2 % 256 = omega arith in
-    let b1 : n % 2 ^ 64 / 256 ^ 1 % 256 ≡ n / 256 ^ 1 % 256 = omega arith in
-    let b0 : n % 2 ^ 64 % 256 ≡ n % 256 = omega arith in
-    (λ i. high_byte n (256 ^ 7) i ∷ high_byte n (256 ^ 6) i ∷ high_byte n (256 ^ 5) i ∷ high_byte n (256 ^ 4) i
-    ∷ high_byte n (256 ^ 3) i ∷ high_byte n (256 ^ 2) i ∷ high_byte n (256 ^ 1) i ∷ n / 2 ^ 64 % 256
-    ∷ b7 i ∷ b6 i ∷ b5 i ∷ b4 i ∷ b3 i ∷ b2 i ∷ b1 i ∷ b0 i ∷ [])
+-- the digits of a number, the last of them first, are its bytes
+pub bytes_from_last : (m n : ℕ) → m ≡ n
+    → pick_l 0 (digits_l 256 16 m) (15 ∷ 14 ∷ 13 ∷ 12 ∷ 11 ∷ 10 ∷ 9 ∷ 8 ∷ 7 ∷ 6 ∷ 5 ∷ 4 ∷ 3 ∷ 2 ∷ 1 ∷ 0 ∷ []) ≡ to_be_bytes w128 n
+bytes_from_last m n is =
+    let e1 : m / 256 ≡ n / 256 ^ 1 = ap (λ v. v / 256) is in
+    let e2 : m / 256 / 256 ≡ n / 256 ^ 2 = further n (256 ^ 1) (m / 256) e1 in
+    let e3 : m / 256 / 256 / 256 ≡ n / 256 ^ 3 = further n (256 ^ 2) (m / 256 / 256) e2 in
+    let e4 : m / 256 / 256 / 256 / 256 ≡ n / 256 ^ 4 = further n (256 ^ 3) (m / 256 / 256 / 256) e3 in
+    let e5 : m / 256 / 256 / 256 / 256 / 256 ≡ n / 256 ^ 5 = further n (256 ^ 4) (m / 256 / 256 / 256 / 256) e4 in
+    let e6 : m / 256 / 256 / 256 / 256 / 256 / 256 ≡ n / 256 ^ 6 = further n (256 ^ 5) (m / 256 / 256 / 256 / 256 / 256) e5 in
+    let e7 : m / 256 / 256 / 256 / 256 / 256 / 256 / 256 ≡ n / 256 ^ 7 = further n (256 ^ 6) (m / 256 / 256 / 256 / 256 / 256 / 256) e6 in
+    let e8 : m / 256 / 256 / 256 / 256 / 256 / 256 / 256 / 256 ≡ n / 256 ^ 8 = further n (256 ^ 7) (m / 256 / 256 / 256 / 256 / 256 / 256 / 256) e7 in
+    let e9 : m / 256 / 256 / 256 / 256 / 256 / 256 / 256 / 256 / 256 ≡ n / 256 ^ 9 = further n (256 ^ 8) (m / 256 / 256 / 256 / 256 / 256 / 256 / 256 / 256) e8 in
+    let e10 : m / 256 / 256 / 256 / 256 / 256 / 256 / 256 / 256 / 256 / 256 ≡ n / 256 ^ 10 = further n (256 ^ 9) (m / 256 / 256 / 256 / 256 / 256 / 256 / 256 / 256 / 256) e9 in
+    let e11 : m / 256 / 256 / 256 / 256 / 256 / 256 / 256 / 256 / 256 / 256 / 256 ≡ n / 256 ^ 11 = further n (256 ^ 10) (m / 256 / 256 / 256 / 256 / 256 / 256 / 256 / 256 / 256 / 256) e10 in
+    let e12 : m / 256 / 256 / 256 / 256 / 256 / 256 / 256 / 256 / 256 / 256 / 256 / 256 ≡ n / 256 ^ 12 = further n (256 ^ 11) (m / 256 / 256 / 256 / 256 / 256 / 256 / 256 / 256 / 256 / 256 / 256) e11 in
+    let e13 : m / 256 / 256 / 256 / 256 / 256 / 256 / 256 / 256 / 256 / 256 / 256 / 256 / 256 ≡ n / 256 ^ 13 = further n (256 ^ 12) (m / 256 / 256 / 256 / 256 / 256 / 256 / 256 / 256 / 256 / 256 / 256 / 256) e12 in
+    let e14 : m / 256 / 256 / 256 / 256 / 256 / 256 / 256 / 256 / 256 / 256 / 256 / 256 / 256 / 256 ≡ n / 256 ^ 14 = further n (256 ^ 13) (m / 256 / 256 / 256 / 256 / 256 / 256 / 256 / 256 / 256 / 256 / 256 / 256 / 256) e13 in
+    let e15 : m / 256 / 256 / 256 / 256 / 256 / 256 / 256 / 256 / 256 / 256 / 256 / 256 / 256 / 256 / 256 ≡ n / 256 ^ 15 = further n (256 ^ 14) (m / 256 / 256 / 256 / 256 / 256 / 256 / 256 / 256 / 256 / 256 / 256 / 256 / 256 / 256) e14 in
+    (λ i. e15 i % 256 ∷ e14 i % 256 ∷ e13 i % 256 ∷ e12 i % 256 ∷ e11 i % 256 ∷ e10 i % 256 ∷ e9 i % 256 ∷ e8 i % 256 ∷ e7 i % 256 ∷ e6 i % 256 ∷ e5 i % 256 ∷ e4 i % 256 ∷ e3 i % 256 ∷ e2 i % 256 ∷ e1 i % 256 ∷ is i % 256 ∷ [])

@@ -1,5 +1,6 @@
 -- The files of lemmas.
 pub mod Counters
+pub mod OnLiterals
 pub mod Places
 pub mod Runs
 pub mod Sums

@@ -1,5 +1,8 @@
 -- Sums of bytes and a stream: byte by byte, and piece by piece.
-use Rattle.std.proofs.Common.{◌≡◌, ℕ, zero, suc, ◌+◌, ◌<◌, List, [], ◌∷◌, ◌++◌, length, get_or, bit_xor, refl, sym, ap, ◌∙◌, arith}
+use Rattle.std.proofs.Common.{◌≡◌, ℕ, zero, suc, ◌+◌, ◌<◌, List, [], ◌∷◌, ◌++◌, length, get_or, take, bit_xor, slice_index, refl, sym, ap, ◌∙◌, arith}
+use Rattle.std.proofs.lemmas.List.{take_all}
+use Rattle.std.proofs.lemmas.Simd.{length-zip2, get_or-zip2, put_chunk_whole}
+use lib.Lanes.{zip2, put_chunk}
 use Rattle.std.specs.Int.Bits.{xor_assoc, xor_self, xor_zero_r}
 use Rattle.std.specs.List.{concat}
 use Rattle.aes_planes.proofs.Lists.Built.{build_is, length-build, get_or-build}
@@ -59,3 +62,14 @@ unfolding pieces_plus_stream
 plus-pieces s p [] = sym (plus-nil s p)
 plus-pieces s p (piece ∷ pieces) =
     ap (λ l. plus_stream s p piece ++ l) (plus-pieces s (p + length piece) pieces) ∙ sym (plus-append s p piece (concat pieces))
+
+-- the sums of sixteen bytes and a block, as vectors make them
+pub plus-whole : (xs ys : List ℕ) → length xs ≡ 16 → length ys ≡ 16
+    → put_chunk 0 xs (zip2 bit_xor (take 16 xs) ys) ≡ plus_stream (slice_index ys) 0 xs
+plus-whole xs ys d e =
+    let long : length (zip2 bit_xor xs ys) ≡ length xs = length-zip2 bit_xor xs ys (omega (arith, d, e)) in
+    ap (λ l. put_chunk 0 xs (zip2 bit_xor l ys)) (take_all 16 xs (omega (arith, d)))
+    ∙ put_chunk_whole xs (zip2 bit_xor xs ys) (sym long)
+    ∙ sym (plus_is (slice_index ys) 0 xs (zip2 bit_xor xs ys) long
+    (λ i h. ap (λ m. bit_xor (get_or xs i 0) (get_or ys m 0)) (omega arith)
+    ∙ sym (get_or-zip2 bit_xor xs ys i 0 0 0 h (omega (arith, d, e)))))

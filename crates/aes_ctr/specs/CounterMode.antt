@@ -27,9 +27,10 @@ pieces_plus_stream stream position [] = []
 pieces_plus_stream stream position (piece ∷ pieces) =
     plus_stream stream position piece ∷ pieces_plus_stream stream (position + length piece) pieces
 
--- what contracts see of counter mode: the round keys of the cipher, the initial counter block, and the place of the
+-- what contracts see of counter mode: the cipher, its round keys, the initial counter block, and the place of the
 -- keystream's next byte
-pub record CounterMode : Type 0 where
+pub record CounterMode (Cipher : Type 0) : Type 0 where
+  pub cipher : Cipher
   pub round_keys : List (List ℕ)
   pub iv : List ℕ
   pub position : ℕ

@@ -4,25 +4,39 @@ ghost use Rattle.std.specs.Prelude.{◌≡◌, ◌+◌, ◌*◌, ◌≤◌, ◌<
 ghost use Rattle.aes_ctr.specs.CounterMode.{plus_stream};
 ghost use Rattle.aes_ctr.specs.Private.{byte_of_blocks};
 
-use aes_planes::soft::word::Block;
+use aes_cipher::cipher::Block;
+use std::simd::prelude::*;
 
-// Adds to bytes the bytes of a block from one place on.
+// Adds to bytes the bytes of a block from one place on: all sixteen as one vector.
+#[inline(always)]
 fn add_part(block: &Block, from: usize, bytes: &mut [u8])
     requires { from + length bytes.old ≤ 16 }
     ensures { bytes.new ≡ plus_stream (slice_index block.now) from bytes.old }
 {
-    for i in 0..bytes.len() {
-        bytes[i] ^= block[from + i];
+    if bytes.len() == 16 {
+        let sums = u8x16::from_slice(bytes) ^ u8x16::from_array(*block);
+        sums.copy_to_slice(bytes);
+    } else {
+        for i in 0..bytes.len() {
+            bytes[i] ^= block[from + i];
+        }
     }
 }
 
 // Adds to bytes the bytes of a row of blocks from one place on.
+#[inline(always)]
 pub(crate) fn add_blocks(blocks: &[Block], from: usize, bytes: &mut [u8])
     requires { from + length bytes.old ≤ 16 * length blocks.now }
     ensures { bytes.new ≡ plus_stream (byte_of_blocks blocks.now) from bytes.old }
 {
     let mut done = 0;
-    while done < bytes.len() {
+    if from == 0 {
+        'whole: while bytes.len() - done >= 16 {
+            add_part(&blocks[done / 16], 0, &mut bytes[done..done + 16]);
+            done += 16;
+        }
+    }
+    'rest: while done < bytes.len() {
         let place = from + done;
         let block = &blocks[place / 16];
         let part = (16 - place % 16).min(bytes.len() - done);

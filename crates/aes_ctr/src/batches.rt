@@ -1,70 +1,103 @@
 //! The keystream in batches.
 
-ghost use Rattle.std.specs.Prelude.{◌≡◌, ◌+◌, ◌*◌, ◌/◌, ◌%◌, ◌^◌, ◌<◌, ◌≤◌, length};
+ghost use Rattle.std.specs.Prelude.{◌≡◌, ℕ, ◌+◌, ◌*◌, ◌/◌, ◌%◌, ◌^◌, ◌<◌, ◌≤◌, length};
 ghost use Rattle.aes_ctr.specs.CounterMode.{keystream_byte, plus_stream};
 
 use crate::adding::add_blocks;
-use crate::keystream::fill_with_keystream;
-use aes_cipher::cipher::BlockCipherEncrypt;
-use aes_planes::soft::word::Block;
+use crate::keystream::{fill_by_backend, fill_with_keystream};
+use aes_cipher::cipher::{Block, BlockCipherEncBackend, BlockCipherEncClosure, BlockCipherEncrypt};
 
-// How many blocks the cipher is handed at a time: few where they do, since their room is written first, and else many,
-// since a cipher may spread its round keys anew at each call.
-const FEW: usize = 64;
+// How many blocks a backend's batch may have, so that there is room for it.
+const ROOM: usize = 64;
 
-const MANY: usize = 512;
+// A batch is taken to be as quick as a quarter of its blocks one by one: `aes` encrypts eight blocks at once in less
+// time than two one by one.
+const BATCH_SPEED: usize = 4;
 
-// How many blocks of the keystream to make for so many of its bytes. From five on they are made by eights: the ciphers of
-// this library encrypt eight at once in less time than five one by one.
-fn blocks_for(bytes: usize) -> usize
-    ensures enough { bytes ≤ 16 * result }
-    ensures by_eights { result ≤ (bytes + 127) / 128 * 8 }
+// Adds to bytes of one block the keystream from one position on.
+fn add_to_one<C: BlockCipherEncrypt>(cipher: &C, iv: &Block, position: u64, bytes: &mut [u8])
+    requires { position % 16 + length bytes.old ≤ 16 }
+    ensures { bytes.new ≡ plus_stream (keystream_byte (C.round_keys cipher.now) iv.now) position bytes.old }
 {
-    if bytes <= 64 {
-        bytes.div_ceil(16)
+    let mut room = [[0; 16]; 1];
+    fill_with_keystream(cipher, iv, position / 16, &mut room);
+    add_blocks(&room, (position % 16) as usize, bytes);
+}
+
+// How many blocks a backend encrypts next for bytes that begin so many bytes into a block: a batch as soon as that is
+// quicker than one block after the other.
+#[inline(always)]
+fn next_blocks<B: BlockCipherEncBackend>(from: usize, bytes: usize) -> usize
+    requires { from < 16 }
+    ensures some { 1 ≤ result }
+    ensures inside { result ≤ 64 }
+{
+    let needed = (from + bytes.min(16 * ROOM)).div_ceil(16);
+    if B::PAR_BLOCKS <= ROOM && B::PAR_BLOCKS <= BATCH_SPEED * needed {
+        B::PAR_BLOCKS
     } else {
-        bytes.div_ceil(128) * 8
+        1
     }
 }
 
-// Adds to bytes the keystream from one position on, as many blocks at a time as there is room for.
-fn add_in_batches<C: BlockCipherEncrypt>(
-    cipher: &C,
+// Adds to bytes the keystream from one position on, by the backend. A last batch may have more blocks than are left.
+fn add_by_backend<B: BlockCipherEncBackend>(
+    backend: &B,
     iv: &Block,
     position: u64,
     bytes: &mut [u8],
-    room: &mut [Block],
 )
-    requires ends { position + length bytes.old < 2 ^ 64 }
-    requires some_room { 8 ≤ length room.old }
-    requires by_eights { length room.old % 8 ≡ 0 }
-    ensures { bytes.new ≡ plus_stream (keystream_byte (C.round_keys cipher.now) iv.now) position bytes.old }
+    ensures { position + length bytes.old < 2 ^ 64
+        → bytes.new ≡ plus_stream (keystream_byte (B.round_keys backend.now) iv.now) position bytes.old }
 {
+    let mut room = [[0; 16]; ROOM];
     let mut done = 0;
     while done < bytes.len() {
-        let place = position + done as u64;
+        let place = position.wrapping_add(done as u64);
         let from = (place % 16) as usize;
-        let part = (16 * room.len() - from).min(bytes.len() - done);
-        let blocks = &mut room[..blocks_for(from + part)];
-        fill_with_keystream(cipher, iv, place / 16, blocks);
+        let rest = bytes.len() - done;
+        let count = next_blocks::<B>(from, rest);
+        let part = (16 * count - from).min(rest);
+        let blocks = &mut room[..count];
+        fill_by_backend(backend, iv, place / 16, blocks);
         add_blocks(blocks, from, &mut bytes[done..done + part]);
         done += part;
     }
 }
 
-// Adds to bytes the keystream from one position on.
-pub(crate) fn add_keystream<C: BlockCipherEncrypt>(
-    cipher: &C,
-    iv: &Block,
+// The keystream that is due to bytes from one position on.
+#[derive(Drop)]
+struct Due<'a> {
+    iv: Block,
     position: u64,
-    bytes: &mut [u8],
-)
+    bytes: &'a mut [u8],
+}
+
+impl<'a> BlockCipherEncClosure for Due<'a> {
+    ghost did = { λ before w after.
+        (before.position + length before.bytes.now < 2 ^ 64
+        → after.bytes.now ≡ plus_stream (keystream_byte w before.iv) before.position before.bytes.now)
+        × (after.bytes.ghost_name ≡ before.bytes.ghost_name) };
+
+    fn call<B: BlockCipherEncBackend>(&mut self, backend: &B) {
+        add_by_backend(backend, &self.iv, self.position, self.bytes);
+    }
+}
+
+/// Adds to each byte the keystream's byte at its place, the first of them at a position (SP 800-38A, 6.5). It keeps no
+/// position: `Ctr128BE` does.
+pub fn add_keystream<C: BlockCipherEncrypt>(cipher: &C, iv: &Block, position: u64, bytes: &mut [u8])
     requires { position + length bytes.old < 2 ^ 64 }
     ensures { bytes.new ≡ plus_stream (keystream_byte (C.round_keys cipher.now) iv.now) position bytes.old }
 {
-    if bytes.len() <= 16 * FEW {
-        add_in_batches(cipher, iv, position, bytes, &mut [[0; 16]; FEW]);
+    if bytes.len() <= 16 - (position % 16) as usize {
+        add_to_one(cipher, iv, position, bytes);
     } else {
-        add_in_batches(cipher, iv, position, bytes, &mut [[0; 16]; MANY]);
+        let mut due = Due {
+            iv: *iv,
+            position,
+            bytes,
+        };
+        cipher.encrypt_with_backend(&mut due);
     }
 }

@@ -11,3 +11,9 @@ pub fn stream_cut()
         concat (pieces_plus_stream (keystream_byte w iv) position pieces)
         ≡ plus_stream (keystream_byte w iv) position (concat pieces) }
 {}
+
+/// The keystream added twice, from the same place on, changes nothing. No effect: the law is in the contract.
+pub fn stream_twice()
+    ensures { (w : List (List ℕ)) (iv : List ℕ) (position : ℕ) (bytes : List ℕ) →
+        plus_stream (keystream_byte w iv) position (plus_stream (keystream_byte w iv) position bytes) ≡ bytes }
+{}

@@ -4,10 +4,12 @@
 mod adding;
 mod batches;
 mod errors;
+pub mod examples;
 mod keystream;
 mod laws;
 mod mode;
 
+pub use batches::add_keystream;
 pub use errors::KeystreamEnd;
-pub use laws::stream_cut;
+pub use laws::{stream_cut, stream_twice};
 pub use mode::Ctr128BE;

@@ -5,12 +5,12 @@ ghost use Rattle.aes_ctr.specs.CounterMode.{keystream_byte, plus_stream};
 
 use crate::batches::add_keystream;
 use crate::errors::KeystreamEnd;
-use aes_cipher::cipher::BlockCipherEncrypt;
-use aes_planes::soft::word::Block;
+use aes_cipher::cipher::{Block, BlockCipherEncrypt};
 use std::marker::Model;
 
 /// Counter mode over a cipher (SP 800-38A, 6.5). The counter is the whole block, a number with its highest byte first,
-/// modulo 2^128. Contracts see a value as the round keys of its cipher, its initial counter block and its position.
+/// modulo 2^128. Contracts see a value as its cipher, the round keys of that, its initial counter block and its
+/// position.
 #[derive(Drop)]
 pub struct Ctr128BE<C: BlockCipherEncrypt> {
     cipher: C,
@@ -21,26 +21,67 @@ pub struct Ctr128BE<C: BlockCipherEncrypt> {
 impl<C: BlockCipherEncrypt> Model for Ctr128BE<C> {
     ghost use Rattle.aes_ctr.specs.CounterMode.{CounterMode};
 
-    ghost Value = { CounterMode };
+    ghost Value = { CounterMode C };
 
-    ghost view = { λ mode. record { round_keys = C.round_keys mode.cipher; iv = mode.iv; position = mode.position } };
+    ghost view = { λ mode. record {
+      cipher = mode.cipher;
+      round_keys = C.round_keys mode.cipher;
+      iv = mode.iv;
+      position = mode.position;
+    } };
 }
 
 impl<C: BlockCipherEncrypt> Ctr128BE<C> {
-    /// Counter mode over a cipher from an initial counter block on, at position 0.
+    /// Counter mode over a cipher from an initial counter block on, at position 0. A cipher may be lent:
+    /// `Ctr128BE::new(&cipher, iv)`.
     pub fn new(cipher: C, iv: Block) -> Self
         ensures round_keys { result.round_keys ≡ C.round_keys cipher }
         ensures iv { result.iv ≡ iv }
         ensures position { result.position ≡ 0 }
+        ensures cipher { result.cipher ≡ cipher }
+    {
+        Ctr128BE::new_at(cipher, iv, 0)
+    }
+
+    /// Counter mode over a cipher from an initial counter block on, at a position: the next byte of the keystream is
+    /// that at this place.
+    pub fn new_at(cipher: C, iv: Block, position: u64) -> Self
+        ensures round_keys { result.round_keys ≡ C.round_keys cipher }
+        ensures iv { result.iv ≡ iv }
+        ensures position { result.position ≡ position }
+        ensures cipher { result.cipher ≡ cipher }
     {
         Ctr128BE {
             cipher,
             iv,
-            position: 0,
+            position,
         }
     }
 
-    /// How many bytes of the keystream were added so far.
+    /// Moves to a position: the next byte of the keystream is that at this place.
+    pub fn seek(&mut self, position: u64)
+        ensures position { self.new.position ≡ position }
+        ensures round_keys { self.new.round_keys ≡ self.old.round_keys }
+        ensures iv { self.new.iv ≡ self.old.iv }
+        ensures cipher { self.new.cipher ≡ self.old.cipher }
+    {
+        self.position = position;
+    }
+
+    /// Gives the cipher back.
+    pub fn into_inner(self) -> C
+        ensures round_keys { C.round_keys result ≡ self.round_keys }
+        ensures cipher { result ≡ self.cipher }
+    {
+        let Ctr128BE {
+            cipher,
+            iv: _,
+            position: _,
+        } = self;
+        cipher
+    }
+
+    /// The position of the next byte of the keystream.
     pub fn position(&self) -> u64
         ensures { result ≡ self.now.position }
     {
@@ -60,6 +101,7 @@ impl<C: BlockCipherEncrypt> Ctr128BE<C> {
         ensures moved { OnOk result (self.new.position ≡ self.old.position + length bytes.old) }
         ensures round_keys { self.new.round_keys ≡ self.old.round_keys }
         ensures iv { self.new.iv ≡ self.old.iv }
+        ensures cipher { self.new.cipher ≡ self.old.cipher }
         ensures unmoved { OnErr result (self.new.position ≡ self.old.position) }
         ensures untouched { OnErr result (bytes.new ≡ bytes.old) }
     {

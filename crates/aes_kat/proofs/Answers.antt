@@ -1,5 +1,7 @@
 -- Lemmas on what a part of the work has done.
-use Rattle.std.proofs.Common.{◌≡◌, ℕ, List, [], ◌∷◌, ◌++◌, Bool, true, false, ◌||◌, Option, None, Some, IfSome, Result, Ok, Err, OnErr, IsErr, refl, sym, ap, ◌∙◌, subst, append_assoc, append-nil, length, take, ◌<◌, arith}
+use Rattle.std.proofs.Common.{◌≡◌, ℕ, List, [], ◌∷◌, ◌++◌, Bool, true, false, ◌||◌, Option, None, Some, IfSome, Result}
+use Rattle.std.proofs.Common.{Ok, Err, OnErr, IsErr, refl, sym, ap, ◌∙◌, subst, append_assoc, append-nil, length, take}
+use Rattle.std.proofs.Common.{◌<◌, arith}
 use Rattle.std.proofs.Math.Bool.{or-false}
 use Rattle.std.specs.List.{flat_map, list_any}
 use Rattle.std.specs.Io.KnownBytes.{Appends, Consumes, IsAtEnd}
@@ -22,11 +24,13 @@ AppendsBeginning-whole a b xs h = (xs, h, ([], sym (append-nil xs)))
 
 -- ---- the answers to a text, line by line
 
-pub answers_to-cut : (line rest : List ℕ) → Lacks 10 line → answers_to (line ++ 10 ∷ rest) ≡ (reply_to line ++ 10 ∷ []) ++ answers_to rest
+pub answers_to-cut : (line rest : List ℕ) → Lacks 10 line
+    → answers_to (line ++ 10 ∷ rest) ≡ (reply_to line ++ 10 ∷ []) ++ answers_to rest
 unfolding answers_to
 answers_to-cut line rest lacks = ap (flat_map (λ l. reply_to l ++ 10 ∷ [])) (lines_of-cut line rest lacks)
 
-pub has_fault-cut : (line rest : List ℕ) → Lacks 10 line → has_fault (line ++ 10 ∷ rest) ≡ (is_fault line || has_fault rest)
+pub has_fault-cut : (line rest : List ℕ) → Lacks 10 line
+    → has_fault (line ++ 10 ∷ rest) ≡ (is_fault line || has_fault rest)
 unfolding has_fault
 has_fault-cut line rest lacks = ap (list_any is_fault) (lines_of-cut line rest lacks)
 
@@ -53,17 +57,24 @@ or-assoc false b c = refl
 pub answers_to-last : (line : List ℕ) → Lacks 10 line → 0 < length line → answers_to line ≡ reply_to line ++ 10 ∷ []
 unfolding answers_to
 answers_to-last [] lacks some = absurd (omega arith)
-answers_to-last (x ∷ line) lacks some = ap (flat_map (λ l. reply_to l ++ 10 ∷ [])) (lines_of-last x line lacks) ∙ append-nil (reply_to (x ∷ line) ++ 10 ∷ [])
+answers_to-last (x ∷ line) lacks some = ap (flat_map (λ l. reply_to l ++ 10 ∷ [])) (lines_of-last x line lacks)
+    ∙ append-nil (reply_to (x ∷ line) ++ 10 ∷ [])
 
 pub has_fault-last : (line : List ℕ) → Lacks 10 line → 0 < length line → has_fault line ≡ is_fault line
 unfolding has_fault
 has_fault-last [] lacks some = absurd (omega arith)
-has_fault-last (x ∷ line) lacks some = ap (list_any is_fault) (lines_of-last x line lacks) ∙ or-false (is_fault (x ∷ line))
+has_fault-last (x ∷ line) lacks some = ap (list_any is_fault) (lines_of-last x line lacks)
+    ∙ or-false (is_fault (x ∷ line))
 
 -- ---- what is gathered
 
+-- a text that is gathered from nothing is all that a slice of it has
+pub only_gathered : (slice new old text : List ℕ) → slice ≡ new → new ≡ old ++ text → old ≡ [] → slice ≡ text
+only_gathered slice new old text all more none = all ∙ more ∙ ap (λ xs. xs ++ text) none
+
 -- the same bytes, spelled in another way
-pub Gathers-same : (a b before after other : List ℕ) (fault : Bool) → Gathers a b before after fault → after ≡ other → Gathers a b before other fault
+pub Gathers-same : (a b before after other : List ℕ) (fault : Bool) → Gathers a b before after fault → after ≡ other
+    → Gathers a b before other fault
 Gathers-same a b before after other fault h e = subst (λ xs. Gathers a b before xs fault) e h
 
 -- one more line is answered
@@ -95,7 +106,8 @@ pub Advances-written : (a b : Option (List ℕ)) (none all before after : List �
 Advances-written a b none all before after fault e h more = (h.0, rw (h.1, e) at more, h.2)
 
 -- it stops where it stands
-pub StopsWithin-here : (a b : Option (List ℕ)) (before after : List ℕ) (fault : Bool) → Advances a b before after fault → StopsWithin a b before
+pub StopsWithin-here : (a b : Option (List ℕ)) (before after : List ℕ) (fault : Bool) → Advances a b before after fault
+    → StopsWithin a b before
 StopsWithin-here a b before after fault h = (h.0, h.1, λ next. (answers_to (after ++ next), h.2.answers next))
 
 -- it stops within what was gathered from nothing
@@ -114,7 +126,8 @@ StopsWithin-written a b none all before after fault e h stop = (
 
 -- one chunk after the others
 pub Advances-chunk : (a b c : Option (List ℕ)) (before line chunk after : List ℕ) (fault more : Bool)
-    → Advances a b before line fault → Advances b c (line ++ chunk) after more → Advances a c (before ++ chunk) after (fault || more)
+    → Advances a b before line fault → Advances b c (line ++ chunk) after more
+    → Advances a c (before ++ chunk) after (fault || more)
 Advances-chunk a b c before line chunk after fault more h k = (
   h.0 ++ k.0,
   Appends-trans a b c h.0 k.0 h.1 k.1,
@@ -154,18 +167,21 @@ StopsWithin-chunk a b c before line chunk fault h stop = (
 -- ---- the end of the work
 
 -- the text has ended, and what is left of it is answered
-pub Appends-ended : (a b c : Option (List ℕ)) (text line : List ℕ) (fault : Bool) → Advances a b text line fault → Appends b c (answers_to line) → Appends a c (answers_to text)
+pub Appends-ended : (a b c : Option (List ℕ)) (text line : List ℕ) (fault : Bool) → Advances a b text line fault
+    → Appends b c (answers_to line) → Appends a c (answers_to text)
 Appends-ended a b c text line fault h more =
     subst (Appends a c)
     (sym (ap answers_to (sym (append-nil text)) ∙ h.2.answers [] ∙ ap (λ xs. h.0 ++ answers_to xs) (append-nil line)))
     (Appends-trans a b c h.0 (answers_to line) h.1 more)
 
-pub has_fault-ended : (a b : Option (List ℕ)) (text line : List ℕ) (fault : Bool) → Advances a b text line fault → (fault || has_fault line) ≡ has_fault text
+pub has_fault-ended : (a b : Option (List ℕ)) (text line : List ℕ) (fault : Bool) → Advances a b text line fault
+    → (fault || has_fault line) ≡ has_fault text
 has_fault-ended a b text line fault h =
     sym (ap has_fault (sym (append-nil text)) ∙ h.2.faults [] ∙ ap (λ xs. fault || has_fault xs) (append-nil line))
 
 -- it stops within the answers to what is left of the text
-pub AppendsBeginning-ended : (a b c : Option (List ℕ)) (text line : List ℕ) (fault : Bool) → Advances a b text line fault
+pub AppendsBeginning-ended : (a b c : Option (List ℕ)) (text line : List ℕ) (fault : Bool)
+    → Advances a b text line fault
     → AppendsBeginning b c (answers_to line) → AppendsBeginning a c (answers_to text)
 AppendsBeginning-ended a b c text line fault h stop = (
   h.0 ++ stop.0,
@@ -182,10 +198,12 @@ pub held-ended : (r s t : Option (List ℕ)) (text buffer : List ℕ) (count : �
     → Consumes r s text → Consumes s t (take count buffer) → count ≡ 0 → IsAtEnd t → P text → IfSome r P
 held-ended r s t text buffer count P h more none ended p =
     let whole : text ++ take count buffer ≡ text = ap (λ n. text ++ take n buffer) none ∙ append-nil text in
-    Consumes-whole r t text P (subst (Consumes r t) whole (Consumes-trans r s t text (take count buffer) h more)) ended p
+    let all = Consumes-trans r s t text (take count buffer) h more in
+    Consumes-whole r t text P (subst (Consumes r t) whole all) ended p
 
 -- what stops within the answers to the bytes that were read stops within the answers to all that the reader held
-pub stops-held : (r s a b : Option (List ℕ)) (text : List ℕ) → Consumes r s text → StopsWithin a b text → IfSome r (λ held. AppendsBeginning a b (answers_to held))
+pub stops-held : (r s a b : Option (List ℕ)) (text : List ℕ) → Consumes r s text → StopsWithin a b text
+    → IfSome r (λ held. AppendsBeginning a b (answers_to held))
 stops-held None s a b text read stop = tt
 stops-held (Some held) None a b text read stop = absurd read
 stops-held (Some held) (Some rest) a b text read stop =

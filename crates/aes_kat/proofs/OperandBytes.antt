@@ -1,5 +1,6 @@
 -- Lemmas on the words after a command.
-use Rattle.std.proofs.Common.{◌≡◌, ◌*◌, ◌%◌, ℕ, List, ◌++◌, true, false, Result, Ok, Err, is_ok, refl, sym, ap, ◌∙◌, inl, inr, length, take, arith}
+use Rattle.std.proofs.Common.{◌≡◌, ◌*◌, ◌%◌, ℕ, List, ◌++◌, true, false, Result, Ok, Err, is_ok, refl, sym, ap, ◌∙◌}
+use Rattle.std.proofs.Common.{inl, inr, length, take, arith}
 use Rattle.std.specs.List.{list_all}
 use Rattle.std.proofs.lemmas.Grind.{common_steps}
 use Rattle.std.proofs.lemmas.Bool.{cases_Bool}
@@ -19,6 +20,7 @@ pub ok_value : {A E : Type 0} (r : Result A E) → is_ok r ≡ true → (x : A) 
 ok_value (Ok x) h = (x, refl)
 ok_value (Err e) h = cc h
 
+-- a word is pairs of digits exactly if it has as many digits as pairs need, and nothing else
 pub all_digits : (s : List ℕ) → length s % 2 ≡ 0 → list_all is_hex_digit s ≡ is_ok (decode_of s)
 all_digits s even =
     elim (cases_Bool (list_all is_hex_digit s)) [
@@ -52,8 +54,8 @@ or_none-ok : (r : Result (List ℕ) FromHexError) (bytes : List ℕ) → r ≡ O
 or_none-ok r bytes e = rw e refl
 
 -- a word has two digits for a byte
-pub length-decoded : (s : List ℕ) → is_ok (decode_of s) ≡ true → length s ≡ 2 * length (decoded s)
-length-decoded s ok =
+pub length_decoded : (s : List ℕ) → is_ok (decode_of s) ≡ true → length s ≡ 2 * length (decoded s)
+length_decoded s ok =
     let v = ok_value (decode_of s) ok in
     let long = decode_of-ok s v.0 v.1 in
     long.2 ∙ ap (λ bytes. 2 * length bytes) (sym (or_none-ok (decode_of s) v.0 v.1))

@@ -6,12 +6,12 @@ use Rattle.std.specs.List.{slice_split}
 abbrev pub parts_at : ℕ → List ℕ → List (List ℕ)
 parts_at separator text = slice_split (λ b. b == separator) text
 
--- the part alone, or nothing where it is empty
+-- the part alone, or nothing if it is empty
 abbrev pub unless_empty : List ℕ → List (List ℕ)
 unless_empty [] = []
 unless_empty (x ∷ part) = (x ∷ part) ∷ []
 
--- the parts, less the last one where that is empty
+-- the parts, without the last one if that is empty
 abbrev pub without_empty_last : List (List ℕ) → List (List ℕ)
 without_empty_last [] = []
 without_empty_last (part ∷ []) = unless_empty part

@@ -1,5 +1,6 @@
 -- The reply to one line.
-use Rattle.std.specs.Prelude.{ℕ, List, [], ◌∷◌, Bool, true, false, codes, Option, Some, None, Result, Ok, Err, length, map, ◌*◌, ◌/◌, ◌%◌, ◌==◌, ◌&&◌, ◌||◌, nat_le, if◌then◌else◌}
+use Rattle.std.specs.Prelude.{ℕ, List, [], ◌∷◌, Bool, true, false, codes, Option, Some, None, Result, Ok, Err, length}
+use Rattle.std.specs.Prelude.{map, ◌*◌, ◌/◌, ◌%◌, ◌==◌, ◌&&◌, ◌||◌, nat_le, if◌then◌else◌}
 use Rattle.std.specs.Str.{bytes_eq}
 use Rattle.std.specs.List.{join_with_byte, flat_map}
 use Rattle.std.specs.Simd.{first_chunks}
@@ -10,7 +11,8 @@ use Rattle.aes_planes.specs.SingleRounds.{cipher_round, equiv_inv_cipher_round}
 use Rattle.aes_kat.specs.declared.faults.Fault.{Fault}
 use Rattle.aes_kat.specs.declared.faults.Fault.TheVariants as fault
 use Rattle.aes_kat.specs.declared.commands.Command.{Command}
-use Rattle.aes_kat.specs.declared.commands.Command.TheVariants.{Encrypt, Decrypt, Round, InverseRound, Mix, InverseMix, Schedule}
+use Rattle.aes_kat.specs.declared.commands.Command.TheVariants.{Encrypt, Decrypt, Round, InverseRound, Mix, InverseMix}
+use Rattle.aes_kat.specs.declared.commands.Command.TheVariants.{Schedule}
 use Rattle.aes_kat.specs.Lines.{words_of}
 
 -- the line that reports a fault
@@ -51,7 +53,7 @@ first_named name (command ∷ more) = if bytes_eq (name_of command) name then So
 abbrev pub command_of : List ℕ → Option Command
 command_of name = first_named name commands
 
--- the command, or a fault where there is none
+-- the command, or a fault if there is none
 abbrev pub or_command_fault : Option Command → Result Command Fault
 or_command_fault (Some command) = Ok command
 or_command_fault None = Err fault.Command
@@ -76,13 +78,13 @@ takes_two Mix = false
 takes_two InverseMix = false
 takes_two Schedule = false
 
--- what a line asks for: a command and the words after it, the second empty where there is none
+-- what a line asks for: a command and the words after it, the second empty if there is none
 pub record Asked : Type 0 where
   pub command : Command
   pub first : List ℕ
   pub second : List ℕ
 
--- what is asked, where the command takes that many words
+-- what is asked, if the command takes that many words
 abbrev pub asked_if : Bool → Asked → Result Asked Fault
 asked_if true asked = Ok asked
 asked_if false asked = Err fault.Command
@@ -113,11 +115,11 @@ bytes_of word = or_hex_fault (decode_of word)
 abbrev pub is_key_size : ℕ → Bool
 is_key_size size = (size == 16) || (size == 24) || (size == 32)
 
--- the bytes, where they are as many as those of a key
+-- the bytes, if they are as many as those of a key
 abbrev pub key_of : List ℕ → Result (List ℕ) Fault
 key_of bytes = if is_key_size (length bytes) then Ok bytes else Err fault.Key
 
--- the bytes, where they are the sixteen of a block
+-- the bytes, if they are the sixteen of a block
 abbrev pub block_of : List ℕ → Result (List ℕ) Fault
 block_of bytes = if length bytes == 16 then Ok bytes else Err fault.Block
 
@@ -125,9 +127,10 @@ block_of bytes = if length bytes == 16 then Ok bytes else Err fault.Block
 abbrev pub is_size_of_blocks : ℕ → Bool
 is_size_of_blocks size = (size % 16 == 0) && nat_le size (16 * 64)
 
--- the blocks that the bytes are, where they are whole blocks and 64 at most
+-- the blocks that the bytes are, if they are whole blocks and 64 at most
 abbrev pub blocks_of : List ℕ → Result (List (List ℕ)) Fault
-blocks_of bytes = if is_size_of_blocks (length bytes) then Ok (first_chunks 16 (length bytes / 16) bytes) else Err fault.Block
+blocks_of bytes =
+    if is_size_of_blocks (length bytes) then Ok (first_chunks 16 (length bytes / 16) bytes) else Err fault.Block
 
 -- ---- answers
 

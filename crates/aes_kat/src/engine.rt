@@ -7,13 +7,13 @@ ghost use Rattle.aes_kat.specs.Reply.{reply_to, is_fault};
 ghost use Rattle.aes_kat.specs.Answers.{answers_to, has_fault, AppendsBeginning, Runs};
 ghost use Rattle.aes_kat.specs.Private.Progress.{Gathers, Advances, StopsWithin};
 
-use crate::cut::cut_at;
 use crate::replies::reply;
+use crate::split::split_once;
 use std::alloc::{AllocError, Allocator, Global};
 use std::io;
 use std::io::{Read, Write};
 
-/// The input, the output or the memory gave out.
+/// Reading, writing or an allocation failed.
 #[derive(Debug, Clone, Copy, PartialEq, Eq)]
 pub struct Failed;
 
@@ -62,7 +62,8 @@ fn answer<A: Allocator>(line: &[u8], answers: &mut Vec<u8, A>) -> Result<bool, F
     Ok(fault)
 }
 
-// Answers each line that `chunk` ends, the first of them begun in `line`, and leaves in `line` what the last one has begun.
+// Answers each line that ends in `chunk`, the first of which begins with `line`, and leaves in `line` the beginning of
+// the next one.
 fn gather<A: Allocator>(
     chunk: &[u8],
     line: &mut Vec<u8, A>,
@@ -75,7 +76,7 @@ fn gather<A: Allocator>(
 {
     let mut rest = chunk;
     let mut fault = false;
-    while let Some((front, after)) = cut_at(rest, LINE_END) {
+    while let Some((front, after)) = split_once(rest, LINE_END) {
         line.extend_from_slice(front)?;
         fault |= answer(line.as_slice(), answers)?;
         line.clear();
@@ -85,7 +86,7 @@ fn gather<A: Allocator>(
     Ok(fault)
 }
 
-// Writes the answers to the lines that `chunk` ends.
+// Writes the answers to the lines that end in `chunk`.
 fn feed<A: Allocator, W: Write>(
     chunk: &[u8],
     line: &mut Vec<u8, A>,
@@ -105,7 +106,7 @@ fn feed<A: Allocator, W: Write>(
     Ok(fault)
 }
 
-// Answers what the input ends with after its last line end.
+// Answers what follows the last line end of the input.
 fn answer_rest<A: Allocator>(line: &[u8], answers: &mut Vec<u8, A>) -> Result<bool, Failed>
     requires { Lacks 10 line.now }
     ensures text { OnOk result (answers.new.items ≡ answers.old.items ++ answers_to line.now) }
@@ -117,7 +118,7 @@ fn answer_rest<A: Allocator>(line: &[u8], answers: &mut Vec<u8, A>) -> Result<bo
     answer(line, answers)
 }
 
-// Writes the answer to what the input ends with after its last line end, and flushes.
+// Writes the answer to what follows the last line end of the input, and flushes.
 fn finish<A: Allocator, W: Write>(
     line: &[u8],
     answers: &mut Vec<u8, A>,
@@ -126,7 +127,8 @@ fn finish<A: Allocator, W: Write>(
     requires { Lacks 10 line.now }
     ensures written { OnOk result (Appends (W.contents output.old) (W.contents output.new) (answers_to line.now)) }
     ensures fault { IfOk result (λ fault. fault ≡ has_fault line.now) }
-    ensures stopped { OnErr result (AppendsBeginning (W.contents output.old) (W.contents output.new) (answers_to line.now)) }
+    ensures stopped { OnErr result
+        (AppendsBeginning (W.contents output.old) (W.contents output.new) (answers_to line.now)) }
 {
     answers.clear();
     let fault = answer_rest(line, answers)?;
@@ -135,24 +137,24 @@ fn finish<A: Allocator, W: Write>(
     Ok(fault)
 }
 
-// Room for `size` bytes.
+// A buffer of `size` zeros.
 fn zeros<A: Allocator>(alloc: A, size: usize) -> Result<Vec<u8, A>, Failed>
     ensures { IfOk result (λ room. vec_len room ≡ size) }
 {
     Ok(Vec::from_elem(alloc, 0u8, size)?)
 }
 
-/// Answers each line of the input, to its end, and says whether some line was a fault.
+/// Answers each line of the input to its end, and returns whether some line was at fault.
 ///
-/// The answers to the lines that a read has ended are written before the next read.
+/// The answers to the lines that end in one read are written before the next read.
 ///
 /// # Errors
 ///
-/// `Failed` where a read or a write failed, an interrupted one and a write that takes no byte
-/// among them, where memory was refused, or where `u64::MAX` reads did not reach the end.
-/// What was written is then a beginning of the answers.
+/// `Failed` if a read or a write fails (an interrupted one does, and so does a write that takes no byte), if an
+/// allocation fails, or if `u64::MAX` reads don't reach the end. What was written is then a beginning of the answers.
 pub fn run<R: Read, W: Write>(alloc: Global, input: &mut R, output: &mut W) -> Result<bool, Failed>
-    ensures { Runs result (R.remaining input.old) (R.remaining input.new) (W.contents output.old) (W.contents output.new) }
+    ensures { Runs result (R.remaining input.old) (R.remaining input.new)
+        (W.contents output.old) (W.contents output.new) }
 {
     run_in(alloc, input, output)
 }
@@ -163,7 +165,8 @@ pub(crate) fn run_in<A: Allocator, R: Read, W: Write>(
     input: &mut R,
     output: &mut W,
 ) -> Result<bool, Failed>
-    ensures { Runs result (R.remaining input.old) (R.remaining input.new) (W.contents output.old) (W.contents output.new) }
+    ensures { Runs result (R.remaining input.old) (R.remaining input.new)
+        (W.contents output.old) (W.contents output.new) }
 {
     let mut room = zeros(&alloc, CHUNK)?;
     let chunk = room.as_mut_slice();
@@ -182,8 +185,7 @@ pub(crate) fn run_in<A: Allocator, R: Read, W: Write>(
     Err(Failed)
 }
 
-/// The status that the program ends with: 0 where every line was answered, 1 where some line was
-/// a fault, 2 where the run failed.
+/// The exit status of the program: 0 if every line was answered, 1 if some line was at fault, 2 if the run failed.
 pub fn status(answer: &Result<bool, Failed>) -> u8
     ensures { result ≡ status_of answer.now }
 {

@@ -5,7 +5,7 @@ ghost use Rattle.aes_kat.specs.Reply.{message_of};
 // Why a line has no answer.
 #[derive(Clone, Copy, PartialEq, Eq, Debug)]
 pub(crate) enum Fault {
-    // The first word is no command, or the command takes another number of words.
+    // The first word is not a command, or the command takes another number of words.
     Command,
     // A word after the first is not pairs of hexadecimal digits.
     Hex,

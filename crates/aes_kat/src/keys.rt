@@ -21,7 +21,8 @@ pub(crate) enum Key {
 }
 
 impl Key {
-    // The key whose digits the word is.
+    // The key of a word.
+    #[tactic(auto, using(crate::proofs::OperandBytes::length_decoded))]
     pub(crate) fn of_digits(word: &[u8]) -> Result<Key, Fault>
         requires { is_ok (decode_of word.now) ≡ true }
         ensures { MatchResult result

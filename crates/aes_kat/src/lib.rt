@@ -2,15 +2,16 @@
 #![tactic(auto)]
 
 mod commands;
-mod cut;
 mod digits;
 mod engine;
+pub mod examples;
 mod faults;
 mod keys;
 mod laws;
 mod operands;
 mod replies;
 mod requests;
+mod split;
 
 pub use engine::{Failed, run, status};
 pub use laws::parts_are_unique;

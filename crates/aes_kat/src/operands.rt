@@ -8,10 +8,10 @@ ghost use Rattle.aes_kat.specs.Private.Steps.{decoded};
 use crate::faults::Fault;
 use aes::Block;
 
-// How many bytes a block has.
+// The number of bytes of a block.
 const BLOCK_SIZE: usize = 16;
 
-// How many blocks a line may have at most.
+// The most blocks that a line may have.
 pub(crate) const MOST_BLOCKS: usize = 64;
 
 // Whether a byte is a hexadecimal digit.
@@ -21,7 +21,7 @@ fn is_digit(byte: u8) -> bool
     matches!(byte, b'0'..=b'9' | b'a'..=b'f' | b'A'..=b'F')
 }
 
-// Whether every byte of a word is one.
+// Whether every byte of a word is a digit.
 fn are_digits(word: &[u8]) -> bool
     ensures { result ≡ list_all is_hex_digit word.now }
 {
@@ -29,13 +29,14 @@ fn are_digits(word: &[u8]) -> bool
 }
 
 // Whether a word is pairs of digits.
+#[tactic(auto, using(crate::proofs::OperandBytes::all_digits))]
 pub(crate) fn is_hex(word: &[u8]) -> bool
     ensures { result ≡ is_ok (decode_of word.now) }
 {
     word.len() % 2 == 0 && are_digits(word)
 }
 
-// The bytes of a word of twice as many digits.
+// The bytes of a word, which has two digits for each.
 pub(crate) fn bytes_of<const SIZE: usize>(word: &[u8]) -> [u8; SIZE]
     requires digits { is_ok (decode_of word.now) ≡ true }
     requires sized { length word.now ≡ 2 * SIZE }
@@ -46,7 +47,8 @@ pub(crate) fn bytes_of<const SIZE: usize>(word: &[u8]) -> [u8; SIZE]
     bytes
 }
 
-// The block whose digits the word is.
+// The block of a word.
+#[tactic(auto, using(crate::proofs::OperandBytes::length_decoded))]
 pub(crate) fn block_of(word: &[u8]) -> Result<Block, Fault>
     requires { is_ok (decode_of word.now) ≡ true }
     ensures { result ≡ block_of (decoded word.now) }
@@ -57,19 +59,20 @@ pub(crate) fn block_of(word: &[u8]) -> Result<Block, Fault>
     Ok(bytes_of(word))
 }
 
-// Puts the blocks whose digits the word is at the front of `blocks`, and returns how many they are.
-pub(crate) fn put_blocks_of(word: &[u8], blocks: &mut [Block; MOST_BLOCKS]) -> Result<usize, Fault>
+// Decodes the blocks of a word to the front of `blocks`, and returns how many they are.
+#[tactic(auto, using(crate::proofs::OperandBytes::length_decoded))]
+pub(crate) fn decode_blocks(word: &[u8], blocks: &mut [Block; MOST_BLOCKS]) -> Result<usize, Fault>
     requires { is_ok (decode_of word.now) ≡ true }
     ensures { MatchResult result
         (λ count. (count ≤ 64) × (blocks_of (decoded word.now) ≡ Ok (take count blocks.new)))
         (λ fault. blocks_of (decoded word.now) ≡ Err fault) }
 {
-    let mut room = [0u8; BLOCK_SIZE * MOST_BLOCKS];
+    let mut buffer = [0u8; BLOCK_SIZE * MOST_BLOCKS];
     let size = word.len() / 2;
-    if size % BLOCK_SIZE != 0 || size > room.len() {
+    if size % BLOCK_SIZE != 0 || size > buffer.len() {
         return Err(Fault::Block);
     }
-    let bytes = &mut room[..size];
+    let bytes = &mut buffer[..size];
     hex::decode_to_slice(word, bytes).unwrap();
     let (whole, _) = bytes.as_chunks::<BLOCK_SIZE>();
     let count = whole.len();

@@ -2,112 +2,113 @@
 ghost use Rattle.std.specs.Prelude.{◌≡◌, ◌≤◌, [], true, is_ok, take};
 ghost use Rattle.hex.specs.Hex.{decode_of};
 ghost use Rattle.aes_kat.specs.Reply.{answer_of, outcome_of, reply_to, is_fault};
-ghost use Rattle.aes_kat.specs.Private.Steps.{decoded, IsPut};
+ghost use Rattle.aes_kat.specs.Private.Steps.{decoded, IsWritten};
 
 use crate::commands::Command;
-use crate::digits::{Room, put_block, put_joined, put_spaced};
+use crate::digits::{ReplyBuffer, write_block, write_joined, write_spaced};
 use crate::faults::Fault;
 use crate::keys::Key;
-use crate::operands::{MOST_BLOCKS, block_of, is_hex, put_blocks_of};
+use crate::operands::{MOST_BLOCKS, block_of, decode_blocks, is_hex};
 use crate::requests::{Request, parse};
 use aes::hazmat;
 use aes_rounds::rounds::{expand_128, expand_192, expand_256};
 
 // Answers `enc KEY BLOCKS`.
 #[tactic(auto, unfolding(crate::specs::Reply::answer_of))]
-fn encrypt(key: &[u8], blocks: &[u8], out: &mut Room) -> Result<usize, Fault>
+fn encrypt(key: &[u8], blocks: &[u8], out: &mut ReplyBuffer) -> Result<usize, Fault>
     requires key_digits { is_ok (decode_of key.now) ≡ true }
     requires block_digits { is_ok (decode_of blocks.now) ≡ true }
-    ensures { IsPut (answer_of Command.Encrypt (decoded key.now) (decoded blocks.now)) result out.new }
+    ensures { IsWritten (answer_of Command.Encrypt (decoded key.now) (decoded blocks.now)) result out.new }
 {
     let key = Key::of_digits(key)?;
-    let mut room = [[0u8; 16]; MOST_BLOCKS];
-    let count = put_blocks_of(blocks, &mut room)?;
-    key.encrypt(&mut room[..count]);
-    Ok(put_joined(&room[..count], out))
+    let mut buffer = [[0u8; 16]; MOST_BLOCKS];
+    let count = decode_blocks(blocks, &mut buffer)?;
+    key.encrypt(&mut buffer[..count]);
+    Ok(write_joined(&buffer[..count], out))
 }
 
 // Answers `dec KEY BLOCKS`.
 #[tactic(auto, unfolding(crate::specs::Reply::answer_of))]
-fn decrypt(key: &[u8], blocks: &[u8], out: &mut Room) -> Result<usize, Fault>
+fn decrypt(key: &[u8], blocks: &[u8], out: &mut ReplyBuffer) -> Result<usize, Fault>
     requires key_digits { is_ok (decode_of key.now) ≡ true }
     requires block_digits { is_ok (decode_of blocks.now) ≡ true }
-    ensures { IsPut (answer_of Command.Decrypt (decoded key.now) (decoded blocks.now)) result out.new }
+    ensures { IsWritten (answer_of Command.Decrypt (decoded key.now) (decoded blocks.now)) result out.new }
 {
     let key = Key::of_digits(key)?;
-    let mut room = [[0u8; 16]; MOST_BLOCKS];
-    let count = put_blocks_of(blocks, &mut room)?;
-    key.decrypt(&mut room[..count]);
-    Ok(put_joined(&room[..count], out))
+    let mut buffer = [[0u8; 16]; MOST_BLOCKS];
+    let count = decode_blocks(blocks, &mut buffer)?;
+    key.decrypt(&mut buffer[..count]);
+    Ok(write_joined(&buffer[..count], out))
 }
 
 // Answers `round BLOCK ROUND_KEY`.
 #[tactic(auto, unfolding(crate::specs::Reply::answer_of))]
-fn round(block: &[u8], key: &[u8], out: &mut Room) -> Result<usize, Fault>
+fn round(block: &[u8], key: &[u8], out: &mut ReplyBuffer) -> Result<usize, Fault>
     requires block_digits { is_ok (decode_of block.now) ≡ true }
     requires key_digits { is_ok (decode_of key.now) ≡ true }
-    ensures { IsPut (answer_of Command.Round (decoded block.now) (decoded key.now)) result out.new }
+    ensures { IsWritten (answer_of Command.Round (decoded block.now) (decoded key.now)) result out.new }
 {
     let mut block = block_of(block)?;
     let key = block_of(key)?;
     hazmat::cipher_round(&mut block, &key);
-    Ok(put_block(&block, 0, out))
+    Ok(write_block(&block, 0, out))
 }
 
 // Answers `invround BLOCK ROUND_KEY`.
 #[tactic(auto, unfolding(crate::specs::Reply::answer_of))]
-fn inverse_round(block: &[u8], key: &[u8], out: &mut Room) -> Result<usize, Fault>
+fn inverse_round(block: &[u8], key: &[u8], out: &mut ReplyBuffer) -> Result<usize, Fault>
     requires block_digits { is_ok (decode_of block.now) ≡ true }
     requires key_digits { is_ok (decode_of key.now) ≡ true }
-    ensures { IsPut (answer_of Command.InverseRound (decoded block.now) (decoded key.now)) result out.new }
+    ensures { IsWritten (answer_of Command.InverseRound (decoded block.now) (decoded key.now)) result out.new }
 {
     let mut block = block_of(block)?;
     let key = block_of(key)?;
     hazmat::equiv_inv_cipher_round(&mut block, &key);
-    Ok(put_block(&block, 0, out))
+    Ok(write_block(&block, 0, out))
 }
 
 // Answers `mix BLOCK`.
 #[tactic(auto, unfolding(crate::specs::Reply::answer_of))]
-fn mix(block: &[u8], out: &mut Room) -> Result<usize, Fault>
+fn mix(block: &[u8], out: &mut ReplyBuffer) -> Result<usize, Fault>
     requires { is_ok (decode_of block.now) ≡ true }
-    ensures { IsPut (answer_of Command.Mix (decoded block.now) []) result out.new }
+    ensures { IsWritten (answer_of Command.Mix (decoded block.now) []) result out.new }
 {
     let mut block = block_of(block)?;
     hazmat::mix_columns(&mut block);
-    Ok(put_block(&block, 0, out))
+    Ok(write_block(&block, 0, out))
 }
 
 // Answers `invmix BLOCK`.
 #[tactic(auto, unfolding(crate::specs::Reply::answer_of))]
-fn inverse_mix(block: &[u8], out: &mut Room) -> Result<usize, Fault>
+fn inverse_mix(block: &[u8], out: &mut ReplyBuffer) -> Result<usize, Fault>
     requires { is_ok (decode_of block.now) ≡ true }
-    ensures { IsPut (answer_of Command.InverseMix (decoded block.now) []) result out.new }
+    ensures { IsWritten (answer_of Command.InverseMix (decoded block.now) []) result out.new }
 {
     let mut block = block_of(block)?;
     hazmat::inv_mix_columns(&mut block);
-    Ok(put_block(&block, 0, out))
+    Ok(write_block(&block, 0, out))
 }
 
 // Answers `sched KEY`.
 #[tactic(auto, unfolding(crate::specs::Reply::answer_of))]
-fn schedule(key: &[u8], out: &mut Room) -> Result<usize, Fault>
+fn schedule(key: &[u8], out: &mut ReplyBuffer) -> Result<usize, Fault>
     requires { is_ok (decode_of key.now) ≡ true }
-    ensures { IsPut (answer_of Command.Schedule (decoded key.now) []) result out.new }
+    ensures { IsWritten (answer_of Command.Schedule (decoded key.now) []) result out.new }
 {
     Ok(match Key::of_digits(key)? {
-        Key::Bits128(key) => put_spaced(&expand_128(&key), out),
-        Key::Bits192(key) => put_spaced(&expand_192(&key), out),
-        Key::Bits256(key) => put_spaced(&expand_256(&key), out),
+        Key::Bits128(key) => write_spaced(&expand_128(&key), out),
+        Key::Bits192(key) => write_spaced(&expand_192(&key), out),
+        Key::Bits256(key) => write_spaced(&expand_256(&key), out),
     })
 }
 
 // Answers what a line asks for.
 #[tactic(auto, unfolding(crate::specs::Reply::answer_of))]
-fn answer_asked(asked: &Request<'_>, out: &mut Room) -> Result<usize, Fault>
+fn answer_asked(asked: &Request<'_>, out: &mut ReplyBuffer) -> Result<usize, Fault>
     requires first_digits { is_ok (decode_of asked.now.first.now) ≡ true }
     requires second_digits { is_ok (decode_of asked.now.second.now) ≡ true }
-    ensures { IsPut (answer_of asked.now.command (decoded asked.now.first.now) (decoded asked.now.second.now)) result out.new }
+    ensures { IsWritten (answer_of asked.now.command (decoded asked.now.first.now) (decoded asked.now.second.now))
+        result out.new }
 {
     match asked.command {
         Command::Encrypt => encrypt(asked.first, asked.second, out),
@@ -120,9 +121,10 @@ fn answer_asked(asked: &Request<'_>, out: &mut Room) -> Result<usize, Fault>
     }
 }
 
-// Answers a line at the front of `out`.
-fn answer(line: &[u8], out: &mut Room) -> Result<usize, Fault>
-    ensures { IsPut (outcome_of line.now) result out.new }
+// Writes the answer to a line at the front of `out`.
+#[tactic(auto, using(crate::proofs::RequestWords::not_asked))]
+fn answer(line: &[u8], out: &mut ReplyBuffer) -> Result<usize, Fault>
+    ensures { IsWritten (outcome_of line.now) result out.new }
 {
     let asked = parse(line)?;
     if !is_hex(asked.first) || !is_hex(asked.second) {
@@ -131,9 +133,10 @@ fn answer(line: &[u8], out: &mut Room) -> Result<usize, Fault>
     answer_asked(&asked, out)
 }
 
-/// Puts the reply to a line, without its line end, at the front of `out`, which has room for every reply.
+/// Writes the reply to a line, without its line end, at the front of `out`, which is as long as the longest reply.
 ///
-/// Returns its length, and whether it reports a fault.
+/// Returns the length of the reply, and whether it reports a fault.
+#[tactic(auto, using(crate::proofs::RequestWords::answer_told, crate::proofs::RequestWords::is_no_fault, crate::proofs::RequestWords::is_one_fault))]
 pub fn reply(line: &[u8], out: &mut [u8; 2048]) -> (usize, bool)
     ensures fits { result.0 ≤ 2048 }
     ensures text { take result.0 out.new ≡ reply_to line.now }

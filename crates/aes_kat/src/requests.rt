@@ -1,16 +1,16 @@
-//! A line, cut into its command and the words after it.
+//! A line, split into its command and the words after it.
 ghost use Rattle.std.specs.Prelude.{◌≡◌, ◌∷◌, [], MatchResult};
 ghost use Rattle.std.specs.Option.{option_map_or};
 ghost use Rattle.aes_kat.specs.Lines.{words_of};
 ghost use Rattle.aes_kat.specs.Reply.{request_of};
 
 use crate::commands::Command;
-use crate::cut::cut_at;
 use crate::faults::Fault;
+use crate::split::split_once;
 
 const SPACE: u8 = b' ';
 
-// A command and the words after it, of which the second may be missing and is then empty.
+// A command and the words after it. The second is empty if there is none.
 #[derive(Clone, Copy)]
 pub(crate) struct Request<'a> {
     pub(crate) command: Command,
@@ -18,11 +18,12 @@ pub(crate) struct Request<'a> {
     pub(crate) second: &'a [u8],
 }
 
-// The first word, and what stands after the space that ends it.
+// The first word, and what follows the space after it.
+#[tactic(auto, using(crate::proofs::Lines::words_of_split, crate::proofs::Lines::words_of_one))]
 fn first_word(text: &[u8]) -> (&[u8], Option<&[u8]>)
     ensures { words_of text.now ≡ result.0.now ∷ option_map_or (λ rest. words_of rest.now) result.1 [] }
 {
-    match cut_at(text, SPACE) {
+    match split_once(text, SPACE) {
         Some((word, rest)) => (word, Some(rest)),
         None => (text, None),
     }

@@ -59,7 +59,8 @@ fn answers_line_by_line(rt: HostRuntime) -> Result<(), Fail> {
             1,
         ),
         (
-            "enc 00 00\nenc 000102030405060708090a0b0c0d0e0f 0g\nenc 000102030405060708090a0b0c0d0e0f 00112233445566778899aabbccddee\nfoo\n\nmix\n\
+            "enc 00 00\nenc 000102030405060708090a0b0c0d0e0f 0g\n\
+                enc 000102030405060708090a0b0c0d0e0f 00112233445566778899aabbccddee\nfoo\n\nmix\n\
                 round 00112233445566778899aabbccddeeff 000102030405060708090a0b0c0d0e0f1011121314151617",
             "error key\nerror hex\nerror block\nerror command\nerror command\nerror command\nerror block\n",
             1,

@@ -2,4 +2,5 @@
 pub mod BitCases
 pub mod ByteCases
 pub mod BytesByBits
+pub mod Digits
 pub mod NumberBits

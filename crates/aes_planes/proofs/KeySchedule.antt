@@ -1,4 +1,6 @@
--- The key schedule: its words, and sums of columns.
+-- The key schedule: its words, four of them at a time, and sums of columns.
+pub mod AddedWords
+pub mod ExpandedBlocks
 pub mod ExpandedWords
 pub mod ExpansionLength
 pub mod RoundConstantBit

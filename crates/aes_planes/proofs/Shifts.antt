@@ -1,3 +1,3 @@
--- Shifts of rows on planes, and the shifts that a round owes.
+-- Shifts of rows on planes, and rounds whose shifts are deferred.
 pub mod ColumnSwaps
-pub mod Owed
+pub mod Deferred

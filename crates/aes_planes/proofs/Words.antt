@@ -2,5 +2,6 @@
 pub mod Constants
 pub mod LaneBits
 pub mod Packing
+pub mod PlaneLanes
 pub mod Spread
 pub mod Transpose

@@ -1,6 +1,6 @@
 -- What private functions do on the way: no public contract names it.
 pub mod BuiltLength
 pub mod Lanes
-pub mod Mixing
 pub mod Packing
+pub mod Rounds
 pub mod Swaps

@@ -1,22 +1,9 @@
 -- The words of the key expansion.
-use Rattle.std.proofs.Common.{◌≡◌, ◌≢◌, ◌⊎◌, inl, inr, ℕ, suc, ◌+◌, ◌-◌, ◌*◌, ◌/◌, ◌%◌, ◌<◌, ◌≤◌, ◌==◌, ◌&&◌, nat_lt, Bool, true, false, List, [], ◌∷◌, ◌++◌, length, get_or, set, take, slice_index, slice_index_or, refl, sym, ap, ◌∙◌, subst, arith, below_more, get_or-set_other, get_or-set_same}
-use Rattle.std.proofs.Math.Bool.{and-false}
-use Rattle.std.proofs.lemmas.Bool.{eqb-true, eq-eqb, lt-ltb, le-ltb}
+use Rattle.std.proofs.Common.{◌≡◌, ◌≢◌, ℕ, suc, ◌+◌, ◌-◌, ◌*◌, ◌<◌, ◌≤◌, nat_lt, List, [], ◌∷◌, ◌++◌, length, get_or, set, take, slice_index, slice_index_or, refl, sym, ap, ◌∙◌, subst, arith, below_more, get_or-set_other, get_or-set_same}
+use Rattle.std.proofs.lemmas.Bool.{lt-ltb, le-ltb}
 use Rattle.std.proofs.lemmas.List.{take_more_set, get_or-take}
 use Rattle.aes_planes.specs.Fips197 as fips
-use Rattle.aes_planes.proofs.Bits.ByteCases.{all_below, all_below_tells, eq_false}
 use Rattle.aes_planes.proofs.Lists.Built.{built, build_is}
-
-abbrev pub constants : List ℕ
-constants = 1 ∷ 2 ∷ 4 ∷ 8 ∷ 16 ∷ 32 ∷ 64 ∷ 128 ∷ 27 ∷ 54 ∷ []
-
-powers_listed : all_below 10 (λ i. get_or constants i 0 == fips.power_of_x i) ≡ true
-unfolding all_below fips.power_of_x fips.xtime
-powers_listed = refl
-
--- the powers of x are the listed constants
-pub constants_are_powers : (i : ℕ) → i < 10 → get_or constants i 0 ≡ fips.power_of_x i
-constants_are_powers i lt = eqb-true _ _ (all_below_tells 10 (λ i. get_or constants i 0 == fips.power_of_x i) powers_listed i lt)
 
 -- four equal columns stay four equal columns, so that the first is SubWord
 pub first_column_substituted : (w : List ℕ) → length w ≡ 4
@@ -26,26 +13,6 @@ unfolding fips.shift_rows fips.sub_bytes fips.state fips.build fips.build_from
 first_column_substituted w l =
     subst (λ v. (let s = fips.shift_rows (fips.sub_bytes (fips.state (λ r c. slice_index (slice_index_or (v ∷ v ∷ v ∷ v ∷ []) c []) r))) in
     slice_index s 0 ∷ slice_index s 1 ∷ slice_index s 2 ∷ slice_index s 3 ∷ []) ≡ fips.sub_word v) (built 4 w 0 l) refl
-
-module _ (nk i : ℕ) (w : List ℕ) where
-  pub added_word_constant : i % nk ≡ 0 → fips.added_word nk i w ≡ fips.add_words (fips.sub_word (fips.rot_word w)) (fips.round_constant (i / nk))
-  unfolding fips.added_word_if
-  added_word_constant e = ap (λ v. fips.added_word_if v (nat_lt 6 nk && (i % nk == 4)) (i / nk) w) (eq-eqb (i % nk) 0 e)
-
-  pub added_word_later : (again : Bool) → i % nk ≢ 0 → (nat_lt 6 nk && (i % nk == 4)) ≡ again → fips.added_word nk i w ≡ fips.added_word_if false again (i / nk) w
-  added_word_later again n e =
-      ap (λ v. fips.added_word_if v (nat_lt 6 nk && (i % nk == 4)) (i / nk) w) (eq_false (i % nk) 0 n)
-      ∙ ap (λ v. fips.added_word_if false v (i / nk) w) e
-
-  pub added_word_substituted : i % nk ≢ 0 → 6 < nk → i % nk ≡ 4 → fips.added_word nk i w ≡ fips.sub_word w
-  unfolding fips.added_word_if
-  added_word_substituted n lt e =
-      added_word_later true n (ap (λ v. v && (i % nk == 4)) (lt-ltb 6 nk lt) ∙ eq-eqb (i % nk) 4 e)
-
-  pub added_word_same : i % nk ≢ 0 → (nk ≤ 6) ⊎ (i % nk ≢ 4) → fips.added_word nk i w ≡ w
-  unfolding fips.added_word_if
-  added_word_same n (inl le) = added_word_later false n (ap (λ v. v && (i % nk == 4)) (le-ltb 6 nk le))
-  added_word_same n (inr ne) = added_word_later false n (ap (λ v. nat_lt 6 nk && v) (eq_false (i % nk) 4 ne) ∙ and-false (nat_lt 6 nk))
 
 -- ---- the loop that writes the words
 

@@ -5,7 +5,6 @@ mod both_keys;
 mod both_ways;
 mod decrypt;
 mod directions;
-mod eight;
 mod encrypt;
 mod expand;
 mod inverted_keys;
@@ -16,6 +15,5 @@ mod tests;
 
 pub use both_ways::Aes;
 pub use decrypt::AesDec;
-pub use eight::Eight;
 pub use encrypt::AesEnc;
 pub use expand::{expand_128, expand_192, expand_256};

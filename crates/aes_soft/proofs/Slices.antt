@@ -1,18 +1,8 @@
 -- Slices that are copied element by element, and worked batch by batch.
-use Rattle.std.proofs.Common.{◌≡◌, ℕ, ◌+◌, ◌-◌, ◌*◌, ◌/◌, ◌%◌, ◌<◌, ◌≤◌, List, [], ◌∷◌, ◌++◌, length, map, take, drop, set, get_or, refl, sym, ap, subst, ◌∙◌, arith}
+use Rattle.std.proofs.Common.{◌≡◌, ℕ, ◌+◌, ◌-◌, ◌*◌, ◌/◌, ◌%◌, ◌<◌, ◌≤◌, List, ◌++◌, length, map, take, drop, refl, sym, ap, subst, ◌∙◌, arith}
 use Rattle.std.proofs.Math.Nat.{add-div_right, mod-eq-sub-mod}
-use Rattle.std.proofs.lemmas.List.{take_more, take_more_set, take_all, drop_all, append-nil}
+use Rattle.std.proofs.lemmas.List.{take_all, drop_all, append-nil}
 use Rattle.aes_cipher.proofs.SliceRuns.{finished, finished_run}
-
--- one more element is copied
-pub one_more_same : {X : Type 0} (xs ys : List X) (k : ℕ) (y d : X) → k < length xs → k < length ys → y ≡ get_or ys k d
-    → take k xs ≡ take k ys → take (k + 1) (set xs k y) ≡ take (k + 1) ys
-one_more_same xs ys k y d lx ly is e =
-    take_more_set xs k y lx ∙ ap (λ l. l ++ y ∷ []) e ∙ ap (λ z. take k ys ++ z ∷ []) is ∙ sym (take_more ys k d ly)
-
--- and then all of them are
-pub all_same : {X : Type 0} (xs ys : List X) (n k : ℕ) → length xs ≡ n → length ys ≡ n → n ≤ k → take k xs ≡ take k ys → xs ≡ ys
-all_same xs ys n k lx ly le e = sym (take_all k xs (omega arith)) ∙ e ∙ take_all k ys (omega arith)
 
 -- where whole batches of s are left, and not none, one of them fits
 pub one_fits : (m s : ℕ) → 0 < m → m % s ≡ 0 → s ≤ m

@@ -65,7 +65,7 @@ module _ {A : Type 0} (bits : A → List Bool) (w R Q : ℕ) (xs : List ℕ) whe
         (map-map (λ w. at w p) bits ys
         ∙ same_maps (λ y. at (bits y) p) (λ x. at (word_bits 16 x) q) ys xs same_length
         (λ m d lt.
-        (spread m d lt).place p (omega (arith, ew, place_lt n r c k hr hc hk))
+        (spread m d lt) p (omega (arith, ew, place_lt n r c k hr hc hk))
         ∙ ap (bit (slice_index xs m)) (bit_of_place n R Q r c k eR eQ hr hc hk ∙ spot) ∙ sym (get_or-build 16 q (bit (slice_index xs m)) _ (omega arith)))
         ∙ sym (map-map (λ w. at w q) (word_bits 16) xs))
         ∙ words_at-map (λ w. at w q) narrow o)

@@ -3,10 +3,9 @@
 ghost use Rattle.std.specs.Prelude.{◌≡◌};
 ghost use Rattle.aes_tests.specs.Cbc.{chained, unchained};
 
-use aes_cipher::cipher::{BlockCipherDecrypt, BlockCipherEncrypt, RoundKeysUser};
+use aes_cipher::blocks::sum_of_blocks;
+use aes_cipher::cipher::{Block, BlockCipherDecrypt, BlockCipherEncrypt, RoundKeysUser};
 use aes_planes::laws;
-use aes_planes::soft::utils::sum_of_blocks;
-use aes_planes::soft::word::Block;
 
 /// Encrypts the blocks in a chain that begins with an initialization vector.
 pub fn cbc_encrypt<C: BlockCipherEncrypt>(cipher: &C, iv: &Block, blocks: &mut [Block])

@@ -8,11 +8,11 @@ mod one_way;
 
 use aes_cipher::cipher::{
     BlockCipherDecBackend, BlockCipherDecClosure, BlockCipherDecrypt, BlockCipherEncBackend,
-    BlockCipherEncClosure, BlockCipherEncrypt, RoundKeysUser,
+    BlockCipherEncClosure, BlockCipherEncrypt, Decrypt, Encrypt, RoundKeysUser,
 };
 use aes_planes::laws;
 use aes_planes::soft::word::Block;
-use one_way::{Decrypting, Encrypting, work_first_then_all, work_on_all};
+use one_way::{process_all, process_first_then_all};
 
 /// Leaves the backend alone, and its field as it was.
 #[derive(Drop)]
@@ -68,7 +68,7 @@ impl<'a> BlockCipherEncClosure for Row<'a> {
         × (after.blocks.ghost_name ≡ before.blocks.ghost_name) };
 
     fn call<B: BlockCipherEncBackend>(&mut self, backend: &B) {
-        work_on_all(&Encrypting { backend }, self.blocks);
+        process_all::<Encrypt, B>(backend, self.blocks);
     }
 }
 
@@ -78,7 +78,7 @@ impl<'a> BlockCipherDecClosure for Row<'a> {
         × (after.blocks.ghost_name ≡ before.blocks.ghost_name) };
 
     fn call<B: BlockCipherDecBackend>(&mut self, backend: &B) {
-        work_on_all(&Decrypting { backend }, self.blocks);
+        process_all::<Decrypt, B>(backend, self.blocks);
     }
 }
 
@@ -92,7 +92,7 @@ impl BlockCipherEncClosure for Mixed {
     ghost did = { λ before w after. Each (fips.cipher_with w) before.blocks after.blocks };
 
     fn call<B: BlockCipherEncBackend>(&mut self, backend: &B) {
-        work_first_then_all(&Encrypting { backend }, &mut self.blocks);
+        process_first_then_all::<Encrypt, B>(backend, &mut self.blocks);
     }
 }
 
@@ -100,7 +100,7 @@ impl BlockCipherDecClosure for Mixed {
     ghost did = { λ before w after. Each (fips.inv_cipher_with w) before.blocks after.blocks };
 
     fn call<B: BlockCipherDecBackend>(&mut self, backend: &B) {
-        work_first_then_all(&Decrypting { backend }, &mut self.blocks);
+        process_first_then_all::<Decrypt, B>(backend, &mut self.blocks);
     }
 }
 

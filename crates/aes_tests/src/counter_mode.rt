@@ -1,11 +1,11 @@
 //! Callers of counter mode.
 
-ghost use Rattle.std.specs.Prelude.{◌≡◌, ◌++◌, OnOk};
+ghost use Rattle.std.specs.Prelude.{◌≡◌, ◌++◌, IfOk, OnOk};
+ghost use Rattle.aes_planes.specs.Fips197 as fips;
 ghost use Rattle.aes_ctr.specs.CounterMode.{keystream_byte, plus_stream};
 
-use aes_cipher::cipher::{BlockCipherEncrypt, KeyInit};
+use aes_cipher::cipher::{Block, BlockCipherEncrypt, KeyInit};
 use aes_ctr::{Ctr128BE, KeystreamEnd, stream_cut};
-use aes_planes::soft::word::Block;
 
 #[cfg(test)]
 mod tests;
@@ -46,4 +46,43 @@ pub fn apply_to_parts<C: BlockCipherEncrypt>(
     mode.try_apply(head)?;
     mode.try_apply(rest)?;
     Ok(())
+}
+
+/// Adds the keystream of a cipher that is lent, from a position on.
+///
+/// # Errors
+///
+/// `KeystreamEnd` where the keystream ends before the message does.
+pub fn apply_at<C: BlockCipherEncrypt>(
+    cipher: &C,
+    iv: Block,
+    position: u64,
+    message: &mut [u8],
+) -> Result<(), KeystreamEnd>
+    ensures { OnOk result (message.new
+        ≡ plus_stream (keystream_byte (C.round_keys cipher.now) iv) position message.old) }
+{
+    let mut mode = Ctr128BE::new_at(cipher, iv, position);
+    mode.try_apply(message)
+}
+
+/// Adds the keystream to a message and gives the cipher back, which encrypts a block then.
+///
+/// # Errors
+///
+/// `KeystreamEnd` where the keystream ends before the message does.
+pub fn apply_then_encrypt<C: BlockCipherEncrypt + Drop>(
+    cipher: C,
+    iv: Block,
+    message: &mut [u8],
+    block: &mut Block,
+) -> Result<C, KeystreamEnd>
+    ensures cipher { IfOk result (λ back. back ≡ cipher) }
+    ensures block { OnOk result (block.new ≡ fips.cipher_with (C.round_keys cipher) block.old) }
+{
+    let mut mode = Ctr128BE::new(cipher, iv);
+    mode.try_apply(message)?;
+    let back = mode.into_inner();
+    back.encrypt_block(block);
+    Ok(back)
 }

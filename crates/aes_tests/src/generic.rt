@@ -4,10 +4,9 @@ ghost use Rattle.std.specs.Prelude.{◌≡◌, ◌≢◌, ◌↔◌, length, IsE
 ghost use Rattle.aes_planes.specs.Fips197 as fips;
 
 use aes_cipher::cipher::{
-    BlockCipherDecrypt, BlockCipherEncrypt, InvalidLength, KeyInit, RoundKeysUser,
+    Block, BlockCipherDecrypt, BlockCipherEncrypt, InvalidLength, KeyInit, RoundKeysUser,
 };
 use aes_planes::laws;
-use aes_planes::soft::word::Block;
 
 /// Encrypts a block by a value that somebody else made, and decrypts it again: the block comes back. There is no key in
 /// sight, so the contract speaks of the value's round keys.
@@ -61,7 +60,8 @@ pub fn blocks_there_and_back<C: BlockCipherEncrypt + BlockCipherDecrypt>(
     ensures { blocks.new ≡ blocks.old }
 {
     laws::are_blocks(blocks);
-    cipher.has_inverse_ciphers();
+    laws::inverse_ciphers_on_blocks();
+    cipher.has_round_keys();
     cipher.encrypt_blocks(blocks);
     cipher.decrypt_blocks(blocks);
 }

@@ -4,6 +4,7 @@
 pub mod by_backend;
 pub mod callers;
 pub mod cbc;
+pub mod chaining_value;
 pub mod closures;
 pub mod counter_mode;
 pub mod generic;

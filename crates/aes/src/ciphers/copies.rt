@@ -2,25 +2,26 @@
 
 ghost use Rattle.std.specs.Prelude.{◌≡◌, ⊤};
 
-use super::{AesCipher, Decrypts, Direction, Encrypting};
-use aes_soft::soft::sizes::{KeySize, WipedKeys};
+use super::{AesCipher, Directions, Includes};
+use aes_cipher::cipher::{Decrypt, Encrypt};
+use aes_soft::soft::key_sizes::{AesVariant, WipedKeys};
 use std::alloc::AllocError;
 use std::marker::PhantomData;
 
-impl<K: KeySize, D: Direction> AesCipher<K, D> {
-    // The cipher of the same key in another direction.
+impl<K: AesVariant, D: Directions> AesCipher<K, D> {
+    // The cipher of the same key in other directions.
     #[inline(always)]
-    fn turned<E: Direction>(&self) -> AesCipher<K, E>
+    fn turned<E: Directions>(&self) -> AesCipher<K, E>
         ensures { result ≡ self.now }
     {
         AesCipher {
             round_keys: self.round_keys.copy(),
-            direction: PhantomData,
+            directions: PhantomData,
         }
     }
 }
 
-impl<K: KeySize, D: Direction> Clone for AesCipher<K, D> {
+impl<K: AesVariant, D: Directions> Clone for AesCipher<K, D> {
     ghost is_clone = { λ cipher copy. copy ≡ cipher };
 
     ghost is_infallible = { λ _. ⊤ };
@@ -30,18 +31,18 @@ impl<K: KeySize, D: Direction> Clone for AesCipher<K, D> {
     }
 }
 
-impl<K: KeySize, D: Decrypts> From<&AesCipher<K, Encrypting>> for AesCipher<K, D> {
+impl<K: AesVariant, D: Includes<Decrypt>> From<&AesCipher<K, Encrypt>> for AesCipher<K, D> {
     ghost from_gives = { λ enc made. made ≡ enc.now };
 
-    fn from(enc: &AesCipher<K, Encrypting>) -> AesCipher<K, D> {
+    fn from(enc: &AesCipher<K, Encrypt>) -> AesCipher<K, D> {
         enc.turned()
     }
 }
 
-impl<K: KeySize, D: Decrypts> From<AesCipher<K, Encrypting>> for AesCipher<K, D> {
+impl<K: AesVariant, D: Includes<Decrypt>> From<AesCipher<K, Encrypt>> for AesCipher<K, D> {
     ghost from_gives = { λ enc made. made ≡ enc };
 
-    fn from(enc: AesCipher<K, Encrypting>) -> AesCipher<K, D> {
+    fn from(enc: AesCipher<K, Encrypt>) -> AesCipher<K, D> {
         AesCipher::from(&enc)
     }
 }

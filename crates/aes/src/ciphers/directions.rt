@@ -1,42 +1,35 @@
-//! The directions that a cipher works in.
+//! The sets of directions that a cipher works in.
 
-/// A direction: both ways, encrypting alone or decrypting alone.
-pub trait Direction {
+use aes_cipher::cipher::{Decrypt, Direction, Encrypt};
+
+/// A set of directions: both, encryption alone or decryption alone.
+pub trait Directions {
     /// How the name of a type ends.
     const SUFFIX: &'static str;
 }
 
-/// A direction in which blocks are encrypted.
-pub trait Encrypts: Direction {}
+/// A set that has the direction D.
+pub trait Includes<D: Direction>: Directions {}
 
-/// A direction in which blocks are decrypted.
-pub trait Decrypts: Direction {}
-
-/// Both ways.
+/// Encryption and decryption. The set of one direction is that direction itself.
 pub struct BothWays;
 
-/// Encrypting alone.
-pub struct Encrypting;
-
-/// Decrypting alone.
-pub struct Decrypting;
-
-impl Direction for BothWays {
+impl Directions for BothWays {
     const SUFFIX: &'static str = "";
 }
 
-impl Direction for Encrypting {
+impl Directions for Encrypt {
     const SUFFIX: &'static str = "Enc";
 }
 
-impl Direction for Decrypting {
+impl Directions for Decrypt {
     const SUFFIX: &'static str = "Dec";
 }
 
-impl Encrypts for BothWays {}
+impl Includes<Encrypt> for BothWays {}
 
-impl Encrypts for Encrypting {}
+impl Includes<Decrypt> for BothWays {}
 
-impl Decrypts for BothWays {}
+impl Includes<Encrypt> for Encrypt {}
 
-impl Decrypts for Decrypting {}
+impl Includes<Decrypt> for Decrypt {}

@@ -2,12 +2,12 @@
 //!
 //! Nothing of a key is written.
 
-use super::{AesCipher, Direction};
+use super::{AesCipher, Directions};
 use aes_cipher::cipher::AlgorithmName;
-use aes_soft::soft::sizes::KeySize;
+use aes_soft::soft::key_sizes::AesVariant;
 use std::fmt;
 
-impl<K: KeySize, D: Direction> fmt::Debug for AesCipher<K, D> {
+impl<K: AesVariant, D: Directions> fmt::Debug for AesCipher<K, D> {
     fn fmt<W: fmt::Write>(&self, f: &mut fmt::Formatter<W>) -> fmt::Result {
         f.write_str(K::NAME)?;
         f.write_str(D::SUFFIX)?;
@@ -15,7 +15,7 @@ impl<K: KeySize, D: Direction> fmt::Debug for AesCipher<K, D> {
     }
 }
 
-impl<K: KeySize, D: Direction> AlgorithmName for AesCipher<K, D> {
+impl<K: AesVariant, D: Directions> AlgorithmName for AesCipher<K, D> {
     fn write_alg_name<W: fmt::Write>(f: &mut fmt::Formatter<W>) -> fmt::Result {
         f.write_str(K::NAME)?;
         f.write_str(D::SUFFIX)

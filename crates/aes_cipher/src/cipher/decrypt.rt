@@ -7,8 +7,7 @@ ghost use Rattle.aes_planes.specs.Fips197 as fips;
 use super::decrypt_backend::BlockCipherDecClosure;
 use super::errors::NotEqualError;
 use super::round_keys::RoundKeysUser;
-use super::sizes::BlockSizeUser;
-use aes_planes::soft::word::Block;
+use super::sizes::{Block, BlockSizeUser};
 
 /// A block cipher that decrypts.
 pub trait BlockCipherDecrypt: BlockSizeUser + RoundKeysUser {

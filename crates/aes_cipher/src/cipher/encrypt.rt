@@ -7,8 +7,7 @@ ghost use Rattle.aes_planes.specs.Fips197 as fips;
 use super::encrypt_backend::BlockCipherEncClosure;
 use super::errors::NotEqualError;
 use super::round_keys::RoundKeysUser;
-use super::sizes::BlockSizeUser;
-use aes_planes::soft::word::Block;
+use super::sizes::{Block, BlockSizeUser};
 
 /// A block cipher that encrypts.
 pub trait BlockCipherEncrypt: BlockSizeUser + RoundKeysUser {

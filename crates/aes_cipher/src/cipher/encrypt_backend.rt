@@ -6,7 +6,7 @@ ghost use Rattle.aes_planes.specs.Fips197 as fips;
 
 use super::batches::ParBlocksSizeUser;
 use super::round_keys::RoundKeysUser;
-use aes_planes::soft::word::Block;
+use super::sizes::Block;
 
 /// Encrypts single blocks, and batches of them, under round keys that stay with their owner.
 pub trait BlockCipherEncBackend: ParBlocksSizeUser + RoundKeysUser {

@@ -5,6 +5,9 @@ ghost use Rattle.std.proofs.Common.{refl};
 
 use super::round_keys::RoundKeysUser;
 
+/// A block of the standard: sixteen bytes (FIPS 197, 3.4).
+pub type Block = [u8; 16];
+
 /// A type that is made from a key.
 pub trait KeySizeUser {
     /// A key, as an array of KEY_SIZE bytes.

@@ -22,10 +22,12 @@ fn let_go_of<T: ZeroizeOnDrop + Drop>(_value: T) {}
 
 #[test]
 fn wipes_a_value_and_leaves_its_copy(rt: HostRuntime) {
-    let mut value = Wiped { words: [7, 8, 9] };
+    let mut value = Wiped::new([7, 8, 9]);
     let copy = value.copy();
     value.wipe();
-    assert_eq!(rt; value.words, [0; 3]);
-    assert_eq!(rt; copy.words, [7, 8, 9]);
+    assert_eq!(rt; *value.words(), [0; 3]);
+    value.words_mut().copy_from_slice(&[4, 5, 6]);
+    assert_eq!(rt; *value.words(), [4, 5, 6]);
+    assert_eq!(rt; *copy.words(), [7, 8, 9]);
     let_go_of(copy);
 }

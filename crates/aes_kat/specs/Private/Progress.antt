@@ -19,4 +19,5 @@ Advances old new before after fault = (written : List ℕ) × Appends old new wr
 
 -- the known bytes grew by a beginning of the answers to `before` and whatever comes next
 abbrev pub StopsWithin : Option (List ℕ) → Option (List ℕ) → List ℕ → Type 0
-StopsWithin old new before = (front : List ℕ) × Appends old new front × ((next : List ℕ) → BeginsWith (answers_to (before ++ next)) front)
+StopsWithin old new before =
+    (front : List ℕ) × Appends old new front × ((next : List ℕ) → BeginsWith (answers_to (before ++ next)) front)

@@ -13,6 +13,7 @@ or_none (Err error) = []
 abbrev pub decoded : List ℕ → List ℕ
 decoded word = or_none (decode_of word)
 
--- the outcome is the answer of this length at the front of the room, or this fault
-abbrev pub IsPut : Result (List ℕ) Fault → Result ℕ Fault → List ℕ → Type 0
-IsPut outcome put room = MatchResult put (λ n. (n ≤ 2048) × (outcome ≡ Ok (take n room))) (λ problem. outcome ≡ Err problem)
+-- the outcome is the answer of this length at the front of the buffer, or this fault
+abbrev pub IsWritten : Result (List ℕ) Fault → Result ℕ Fault → List ℕ → Type 0
+IsWritten outcome written buffer =
+    MatchResult written (λ n. (n ≤ 2048) × (outcome ≡ Ok (take n buffer))) (λ problem. outcome ≡ Err problem)

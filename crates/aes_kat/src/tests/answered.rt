@@ -146,7 +146,8 @@ fn answers_no_blocks_with_an_empty_line(rt: HostRuntime) -> Result<(), Fail> {
     check_texts(
         &rt,
         &[(
-            "enc 000102030405060708090a0b0c0d0e0f\nenc 000102030405060708090a0b0c0d0e0f \nenc 000102030405060708090a0b0c0d0e0f 00112233445566778899aabbccddeeff\n",
+            "enc 000102030405060708090a0b0c0d0e0f\nenc 000102030405060708090a0b0c0d0e0f \n\
+                enc 000102030405060708090a0b0c0d0e0f 00112233445566778899aabbccddeeff\n",
             "\n\n69c4e0d86a7b0430d8cdb78070b4c55a\n",
             0,
         )],
@@ -240,7 +241,8 @@ fn expands_keys(rt: HostRuntime) -> Result<(), Fail> {
     check(&rt, &rows, 0)
 }
 
-// By section 5.2 of FIPS 197: SubWord of a zero word is four 63, that of four 63 is four fb, and the first round constant is 01.
+// By section 5.2 of FIPS 197: SubWord of a zero word is four 63, that of four 63 is four fb, and the first round
+// constant is 01.
 #[test]
 fn expands_zero_keys(rt: HostRuntime) -> Result<(), Fail> {
     let rows = [

@@ -2,7 +2,7 @@
 use super::outside::{drip_of, nibble_of};
 use crate::engine::run_in;
 use crate::{run, status};
-use linked_list_allocator::LocalHeap;
+use bumpalo::Bump;
 use std::io::ErrorKind;
 use std::test::Fail;
 
@@ -102,32 +102,33 @@ fn writes_answers_before_the_next_read(rt: HostRuntime) -> Result<(), Fail> {
     Ok(())
 }
 
-// A heap of each size refuses another allocation first, until one has room for all.
+// The bytes that one read of a run needs: its first allocation.
+const ROOM: usize = 64 * 1024;
+
+// An arena of one chunk gives out no byte twice while a run lasts, so each allocation needs more of it than all before:
+// with one byte more left in it each time, every allocation of the run is refused in turn, until none is.
 #[test]
-fn stops_where_a_growth_is_refused(rt: HostRuntime) -> Result<(), Fail> {
-    let mut failed = 0usize;
+fn stops_where_each_allocation_is_refused(rt: HostRuntime) -> Result<(), Fail> {
+    let mut refused = 0usize;
     let mut answered = 0usize;
-    for size in 1..150usize {
-        let heap = LocalHeap::new(rt.alloc(), 64 * 1024 + 8 * size)?;
+    for left in ROOM - 8..ROOM + 1024 {
+        let arena = Bump::try_with_capacity(rt.alloc(), 2 * ROOM)?;
+        arena.set_allocation_limit(Some(0));
+        let filled = arena.chunk_capacity().saturating_sub(left);
+        let _ = arena.try_alloc_slice_fill_clone(filled, 0u8)?;
         let mut input = drip_of(INPUT, 9);
         let mut output = Vec::new(rt.alloc());
-        let answer = run_in(&heap, &mut input, &mut output);
-        match status(&answer) {
-            2 => failed = failed.saturating_add(1),
-            _ => {
-                answered = answered.saturating_add(1);
-                assert_eq!(rt; output.as_slice(), OUTPUT);
-            }
+        let answer = run_in(&arena, &mut input, &mut output);
+        if status(&answer) == 2 {
+            refused = refused.saturating_add(1);
+            assert_eq!(rt; answered, 0, "at {left}");
+            assert!(rt; OUTPUT.starts_with(output.as_slice()), "at {left}");
+        } else {
+            answered = answered.saturating_add(1);
+            assert_eq!(rt; output.as_slice(), OUTPUT, "at {left}");
         }
-        assert!(rt; OUTPUT.starts_with(output.as_slice()), "at {size}");
     }
-    assert!(rt; failed > 10);
-    assert!(rt; answered > 10);
-
-    let small = LocalHeap::new(rt.alloc(), 1024)?;
-    let mut input = INPUT;
-    let mut output = Vec::new(rt.alloc());
-    assert_eq!(rt; status(&run_in(&small, &mut input, &mut output)), 2);
-    assert!(rt; output.is_empty());
+    assert!(rt; refused > 100);
+    assert!(rt; answered > 100);
     Ok(())
 }

@@ -1,7 +1,8 @@
 -- Claims on a few bits by all cases, and lists of eight and of sixteen by their elements.
-use Rattle.std.proofs.Common.{◌≡◌, ℕ, zero, suc, Bool, true, false, not, cond, ◌&&◌, ◌||◌, List, [], ◌∷◌, length, get_or, refl, sym, arith}
+use Rattle.std.proofs.Common.{◌≡◌, ℕ, zero, suc, Bool, true, false, not, cond, ◌&&◌, ◌||◌, List, [], ◌∷◌, length}
+use Rattle.std.proofs.Common.{get_or, refl, sym, arith}
+use Rattle.std.proofs.lemmas.Bool.{and_parts}
 use Rattle.aes_planes.specs.Bits.{at, xor}
-use Rattle.aes_planes.proofs.Bits.ByteCases.{both}
 
 -- whether two bits are the same
 unfoldable pub same : Bool → Bool → Bool
@@ -14,23 +15,31 @@ same_tells true b h = sym h
 same_tells false true h = grind arith
 same_tells false false h = refl
 
+-- nothing added
+pub xor_false : (a : Bool) → xor a false ≡ a
+xor_false true = refl
+xor_false false = refl
+
 -- whether p holds of every list of n bits
 unfoldable pub all_bools : ℕ → (List Bool → Bool) → Bool
 all_bools zero p = p []
 all_bools (suc n) p = all_bools n (λ bs. p (true ∷ bs)) && all_bools n (λ bs. p (false ∷ bs))
 
-pub all_bools_tells : (n : ℕ) (p : List Bool → Bool) → all_bools n p ≡ true → (bs : List Bool) → length bs ≡ n → p bs ≡ true
+pub all_bools_tells : (n : ℕ) (p : List Bool → Bool) → all_bools n p ≡ true → (bs : List Bool) → length bs ≡ n
+    → p bs ≡ true
 unfolding all_bools
 all_bools_tells zero p h [] e = h
 all_bools_tells zero p h (b ∷ bs) e = absurd (omega arith)
 all_bools_tells (suc n) p h [] e = absurd (omega arith)
-all_bools_tells (suc n) p h (true ∷ bs) e = all_bools_tells n (λ bs. p (true ∷ bs)) (both _ _ h).0 bs (omega arith)
-all_bools_tells (suc n) p h (false ∷ bs) e = all_bools_tells n (λ bs. p (false ∷ bs)) (both _ _ h).1 bs (omega arith)
+all_bools_tells (suc n) p h (true ∷ bs) e = all_bools_tells n (λ bs. p (true ∷ bs)) (and_parts _ _ h).0 bs (omega arith)
+all_bools_tells (suc n) p h (false ∷ bs) e = all_bools_tells n (λ bs. p (false ∷ bs)) (and_parts _ _ h).1 bs
+    (omega arith)
 
 -- ---- swaps
 
 swaps : List Bool → Bool
-swaps b = (at b 3 && at b 4) || same (xor (xor (at b 0) (xor (at b 0) (at b 1) && at b 3)) (xor (at b 2) (at b 0) && at b 4)) (cond (at b 3) (at b 1) (cond (at b 4) (at b 2) (at b 0)))
+swaps b = (at b 3 && at b 4) || same (xor (xor (at b 0) (xor (at b 0) (at b 1) && at b 3))
+    (xor (at b 2) (at b 0) && at b 4)) (cond (at b 3) (at b 1) (cond (at b 4) (at b 2) (at b 0)))
 
 swaps_all : all_bools 5 swaps ≡ true
 unfolding all_bools swaps same
@@ -41,15 +50,18 @@ neither true v e h = absurd (grind arith)
 neither false v e h = h
 
 -- the bit that a swap by sums leaves: y under its own mask, z under its partner's, else x
-pub swapped : (x y z own partner : Bool) → (own && partner) ≡ false → xor (xor x (xor x y && own)) (xor z x && partner) ≡ cond own y (cond partner z x)
+pub swapped : (x y z own partner : Bool) → (own && partner) ≡ false
+    → xor (xor x (xor x y && own)) (xor z x && partner) ≡ cond own y (cond partner z x)
 unfolding swaps
-swapped x y z own partner e = same_tells _ _ (neither (own && partner) _ e (all_bools_tells 5 swaps swaps_all (x ∷ y ∷ z ∷ own ∷ partner ∷ []) refl))
+swapped x y z own partner e = same_tells _ _ (neither (own && partner) _ e
+    (all_bools_tells 5 swaps swaps_all (x ∷ y ∷ z ∷ own ∷ partner ∷ []) refl))
 
 -- ---- lists
 
 -- a list of eight by its elements
 pub eight : {A : Type 0} (xs : List A) (a b c d e f g h : A) → length xs ≡ 8
-    → xs ≡ get_or xs 0 a ∷ get_or xs 1 b ∷ get_or xs 2 c ∷ get_or xs 3 d ∷ get_or xs 4 e ∷ get_or xs 5 f ∷ get_or xs 6 g ∷ get_or xs 7 h ∷ []
+    → xs ≡ get_or xs 0 a ∷ get_or xs 1 b ∷ get_or xs 2 c ∷ get_or xs 3 d ∷ get_or xs 4 e ∷ get_or xs 5 f ∷ get_or xs 6 g
+    ∷ get_or xs 7 h ∷ []
 eight [] a b c d e f g h l = absurd (omega arith)
 eight (x0 ∷ []) a b c d e f g h l = absurd (omega arith)
 eight (x0 ∷ x1 ∷ []) a b c d e f g h l = absurd (omega arith)

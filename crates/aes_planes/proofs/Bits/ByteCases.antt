@@ -1,35 +1,35 @@
 -- Claims on each number below another, by all cases.
-use Rattle.std.proofs.Common.{◌≡◌, ℕ, zero, suc, ◌<◌, ◌≤◌, ◌==◌, nat_lt, Bool, true, false, ◌&&◌, ◌⊎◌, inl, inr, ◌≢◌, refl, arith}
-use Rattle.std.proofs.lemmas.Bool.{cases_lt}
-use Rattle.std.proofs.lemmas.Bool.Decides.{leb_tells, eqb_tells}
+use Rattle.std.proofs.Common.{◌≡◌, ℕ, zero, suc, ◌<◌, ◌≤◌, Bool, true, ◌&&◌, ◌⊎◌, inl, inr, arith}
+use Rattle.std.proofs.lemmas.Bool.{cases_lt, and_parts}
 
 -- whether p holds of every number below n
 unfoldable pub all_below : ℕ → (ℕ → Bool) → Bool
 all_below zero p = true
 all_below (suc n) p = p n && all_below n p
 
-pub both : (a b : Bool) → (a && b) ≡ true → (a ≡ true) × (b ≡ true)
-both true b h = (refl, h)
-both false b h = absurd (grind arith)
-
-last_below : (n i : ℕ) (p : ℕ → Bool) → p n ≡ true → (i < n → p i ≡ true) → i < suc n → (i < n) ⊎ (n ≤ i) → p i ≡ true
+last_below : (n i : ℕ) (p : ℕ → Bool) → p n ≡ true → (i < n → p i ≡ true) → i < suc n
+    → (i < n) ⊎ (n ≤ i) → p i ≡ true
 last_below n i p here below k (inl lt) = below lt
 last_below n i p here below k (inr le) = let e : i ≡ n = omega arith in rw e here
 
 pub all_below_tells : (n : ℕ) (p : ℕ → Bool) → all_below n p ≡ true → (i : ℕ) → i < n → p i ≡ true
 unfolding all_below
 all_below_tells zero p h i k = absurd (omega arith)
-all_below_tells (suc n) p h i k = last_below n i p (both _ _ h).0 (λ lt. all_below_tells n p (both _ _ h).1 i lt) k (cases_lt i n)
+all_below_tells (suc n) p h i k =
+    last_below n i p (and_parts _ _ h).0 (λ lt. all_below_tells n p (and_parts _ _ h).1 i lt) k (cases_lt i n)
 
-pub nat_lt_tells : (a b : ℕ) → nat_lt a b ≡ true → a < b
-nat_lt_tells a b h = elim (leb_tells (suc a) b) as (λ _. a < b) [ inl t ↦ t.1 | inr t ↦ absurd (grind (arith, t.0, h)) ]
+-- whether p holds of every number below m and every one below n
+abbrev pub all_pairs : ℕ → ℕ → (ℕ → ℕ → Bool) → Bool
+all_pairs m n p = all_below m (λ i. all_below n (λ j. p i j))
 
-unequal : (a b : ℕ) → ((a == b ≡ true) × (a ≡ b)) ⊎ ((a == b ≡ false) × (a ≢ b)) → a ≢ b → a == b ≡ false
-unequal a b (inl t) h = absurd (h t.1)
-unequal a b (inr t) h = t.0
+pub all_pairs_tell : (m n : ℕ) (p : ℕ → ℕ → Bool) → all_pairs m n p ≡ true → (i j : ℕ) → i < m → j < n → p i j ≡ true
+all_pairs_tell m n p h i j k l = all_below_tells n (λ j. p i j)
+    (all_below_tells m (λ i. all_below n (λ j. p i j)) h i k) j l
 
-pub eq_false : (a b : ℕ) → a ≢ b → a == b ≡ false
-eq_false a b h = unequal a b (eqb_tells a b) h
+-- and of each pair of numbers
+pub all_below_both : (n m : ℕ) (p : ℕ → ℕ → Bool) → all_below n (λ r. all_below m (p r)) ≡ true
+    → (r c : ℕ) → r < n → c < m → p r c ≡ true
+all_below_both n m p h r c i j = all_below_tells m (p r) (all_below_tells n (λ r. all_below m (p r)) h r i) c j
 
 -- ---- claims on each number below one, two, four and eight
 

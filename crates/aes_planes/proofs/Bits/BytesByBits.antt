@@ -1,17 +1,32 @@
 -- Bytes by their bits, through sums and doubling.
-use Rattle.std.proofs.Common.{◌≡◌, ℕ, zero, suc, ◌+◌, ◌*◌, ◌^◌, ◌<◌, ◌==◌, Bool, true, false, cond, List, [], ◌∷◌, length, refl, ◌∙◌, arith}
+use Rattle.std.proofs.Common.{◌≡◌, ℕ, suc, ◌+◌, ◌*◌, ◌^◌, ◌<◌, ◌==◌, Bool, true, false, cond, List, [], ◌∷◌, length}
+use Rattle.std.proofs.Common.{get_or, map, refl, ◌∙◌, arith, subst}
 use Rattle.std.proofs.lemmas.Bool.{eqb-true}
 use Rattle.std.proofs.lemmas.Nat.{xor_block}
-use Rattle.std.proofs.Math.Nat.{pow-suc}
 use Rattle.aes_planes.specs.Bits.{at, xor, number}
 use Rattle.aes_planes.specs.Fips197.{field_add, field_mul}
 use Rattle.aes_planes.proofs.Bits.BitCases.{all_bools, all_bools_tells}
+use Rattle.aes_planes.proofs.Bits.NumberBits.{number_lt as number_below}
 
 -- the sum bit by bit
 abbrev pub sum_bits : List Bool → List Bool → List Bool
 sum_bits [] ys = []
 sum_bits (x ∷ xs) [] = []
 sum_bits (x ∷ xs) (y ∷ ys) = xor x y ∷ sum_bits xs ys
+
+-- bits that are the sums of others in their places
+pub sum_bits-map : {A B C : Type 0} (f : A → Bool) (g : B → Bool) (h : C → Bool) (zs : List A) (xs : List B)
+    (ys : List C) (a : A) (b : B) (c : C)
+    → length zs ≡ length xs → length zs ≡ length ys
+    → ((p : ℕ) → p < length zs → f (get_or zs p a) ≡ xor (g (get_or xs p b)) (h (get_or ys p c)))
+    → map f zs ≡ sum_bits (map g xs) (map h ys)
+sum_bits-map f g h [] [] ys a b c d e s = refl
+sum_bits-map f g h [] (x ∷ xs) ys a b c d e s = absurd (omega arith)
+sum_bits-map f g h (z ∷ zs) [] ys a b c d e s = absurd (omega arith)
+sum_bits-map f g h (z ∷ zs) (x ∷ xs) [] a b c d e s = absurd (omega arith)
+sum_bits-map f g h (z ∷ zs) (x ∷ xs) (y ∷ ys) a b c d e s =
+    (λ t. s 0 (omega arith) t ∷ sum_bits-map f g h zs xs ys a b c (omega arith) (omega arith)
+    (λ p l. s (suc p) (omega arith)) t)
 
 sum_value : (x y : Bool) → field_add (cond x 1 0) (cond y 1 0) ≡ cond (xor x y) 1 0
 sum_value true true = refl
@@ -23,26 +38,29 @@ value_lt : (x : Bool) → cond x 1 0 < 2
 value_lt true = omega arith
 value_lt false = omega arith
 
-pub number-sum : (xs ys : List Bool) → length xs ≡ length ys → field_add (number xs) (number ys) ≡ number (sum_bits xs ys)
+pub number-sum : (xs ys : List Bool) → length xs ≡ length ys
+    → field_add (number xs) (number ys) ≡ number (sum_bits xs ys)
 number-sum [] [] e = refl
 number-sum [] (y ∷ ys) e = absurd (omega arith)
 number-sum (x ∷ xs) [] e = absurd (omega arith)
 number-sum (x ∷ xs) (y ∷ ys) e =
     let p : cond x 1 0 + 2 * number xs ≡ number xs * 2 ^ 1 + cond x 1 0 = omega arith in
     let q : cond y 1 0 + 2 * number ys ≡ number ys * 2 ^ 1 + cond y 1 0 = omega arith in
-    let r : field_add (number xs) (number ys) * 2 ^ 1 + field_add (cond x 1 0) (cond y 1 0) ≡ field_add (cond x 1 0) (cond y 1 0) + 2 * field_add (number xs) (number ys) = omega arith in
-    (λ i. field_add (p i) (q i)) ∙ xor_block 1 (number xs) (number ys) (cond x 1 0) (cond y 1 0) (value_lt x) (value_lt y)
-    ∙ r ∙ (λ i. sum_value x y i + 2 * number-sum xs ys (omega arith) i)
+    let s = field_add (cond x 1 0) (cond y 1 0) in
+    let rest = field_add (number xs) (number ys) in
+    let r : rest * 2 ^ 1 + s ≡ s + 2 * rest = omega arith in
+    (λ i. field_add (p i) (q i))
+    ∙ xor_block 1 (number xs) (number ys) (cond x 1 0) (cond y 1 0) (value_lt x) (value_lt y) ∙ r
+    ∙ (λ i. sum_value x y i + 2 * number-sum xs ys (omega arith) i)
 
 pub number_lt : (n : ℕ) (bs : List Bool) → length bs ≡ n → number bs < 2 ^ n
-number_lt zero [] e = omega arith
-number_lt zero (b ∷ bs) e = absurd (omega arith)
-number_lt (suc n) [] e = absurd (omega arith)
-number_lt (suc n) (b ∷ bs) e = omega (arith, value_lt b, number_lt n bs (omega arith), pow-suc 2 n)
+number_lt n bs e = subst (λ (v : ℕ). number bs < 2 ^ v) e (number_below bs)
 
 -- the double of a byte, bit by bit
 abbrev pub double_bits : List Bool → List Bool
-double_bits b = at b 7 ∷ xor (at b 0) (at b 7) ∷ at b 1 ∷ xor (at b 2) (at b 7) ∷ xor (at b 3) (at b 7) ∷ at b 4 ∷ at b 5 ∷ at b 6 ∷ []
+double_bits b =
+    at b 7 ∷ xor (at b 0) (at b 7) ∷ at b 1 ∷ xor (at b 2) (at b 7) ∷ xor (at b 3) (at b 7) ∷ at b 4 ∷ at b 5 ∷ at b 6
+    ∷ []
 
 doubles : List Bool → Bool
 doubles b = number (double_bits b) == field_mul 2 (number b)

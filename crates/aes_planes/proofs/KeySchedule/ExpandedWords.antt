@@ -1,8 +1,10 @@
 -- The words of the key schedule: their recursion, and the round keys that they make.
-use Rattle.std.proofs.Common.{◌≡◌, ℕ, zero, suc, ◌+◌, ◌-◌, ◌*◌, ◌<◌, nat_lt, true, false, List, [], ◌∷◌, length, get_or, slice_index, slice_index_or, refl, ap, sym, ◌∙◌, length-append, arith}
+use Rattle.std.proofs.Common.{◌≡◌, ℕ, zero, suc, ◌+◌, ◌-◌, ◌*◌, ◌<◌, nat_lt, true, false, List, [], ◌∷◌, length, get_or}
+use Rattle.std.proofs.Common.{slice_index, slice_index_or, refl, ap, sym, ◌∙◌, length-append, arith}
 use Rattle.std.proofs.Math.ListN.{get_or-append}
 use Rattle.std.proofs.Math.Seq.{get_or-append_seam}
-use Rattle.aes_planes.specs.Fips197.{state, key_expansion, rounds, key_words, added_word, next_word_if, expanded_words, expanded_word, blocks_of, round_key, key_word, add_words}
+use Rattle.aes_planes.specs.Fips197.{state, key_expansion, rounds, key_words, added_word, next_word_if, expanded_words}
+use Rattle.aes_planes.specs.Fips197.{expanded_word, blocks_of, round_key, key_word, add_words}
 use Rattle.aes_planes.proofs.Lists.Built.{get_or-build}
 use Rattle.aes_planes.proofs.Standard.States.{state_same}
 
@@ -12,7 +14,11 @@ module _ (key : List ℕ) where
   words_length zero = refl
   words_length (suc n) =
       let l = words_length n in
-      omega (arith, length-append (expanded_words key n) (next_word_if (nat_lt n (key_words key)) key (expanded_words key n) n ∷ []))
+      omega (
+        arith,
+        length-append (expanded_words key n)
+            (next_word_if (nat_lt n (key_words key)) key (expanded_words key n) n ∷ []),
+      )
 
   -- word i is the same in every longer list
   word_kept : (d i : ℕ) → get_or (expanded_words key (suc i + d)) i [] ≡ expanded_word key i
@@ -21,27 +27,33 @@ module _ (key : List ℕ) where
   word_kept (suc d) i =
       let e : suc i + suc d ≡ suc (suc i + d) = omega arith in
       ap (λ v. get_or (expanded_words key v) i []) e
-      ∙ get_or-append (expanded_words key (suc i + d)) (next_word_if (nat_lt (suc i + d) (key_words key)) key (expanded_words key (suc i + d)) (suc i + d) ∷ []) [] i
+      ∙ get_or-append (expanded_words key (suc i + d)) (next_word_if (nat_lt (suc i + d) (key_words key)) key
+      (expanded_words key (suc i + d)) (suc i + d) ∷ []) [] i
       (let l = words_length (suc i + d) in omega arith)
       ∙ word_kept d i
 
   pub expanded_at : (n i : ℕ) → i < n → get_or (expanded_words key n) i [] ≡ expanded_word key i
-  expanded_at n i lt = let e : n ≡ suc i + (n - suc i) = omega arith in ap (λ v. get_or (expanded_words key v) i []) e ∙ word_kept (n - suc i) i
+  expanded_at n i lt =
+      let e : n ≡ suc i + (n - suc i) = omega arith in ap (λ v. get_or (expanded_words key v) i []) e
+      ∙ word_kept (n - suc i) i
 
   word_is : (i : ℕ) → expanded_word key i ≡ next_word_if (nat_lt i (key_words key)) key (expanded_words key i) i
   unfolding expanded_word expanded_words
   word_is i = let e : i + 1 ≡ suc i = omega arith in
       ap (λ v. get_or (expanded_words key v) i []) e
       ∙ ap (λ v. get_or (expanded_words key (suc i)) v []) (sym (words_length i))
-      ∙ get_or-append_seam (expanded_words key i) (next_word_if (nat_lt i (key_words key)) key (expanded_words key i) i) [] []
+      ∙ get_or-append_seam (expanded_words key i) (next_word_if (nat_lt i (key_words key)) key (expanded_words key i) i)
+      [] []
 
   -- the recursion of 5.2
   pub expanded_word_next : (i : ℕ) → nat_lt i (key_words key) ≡ false → 0 < key_words key → 0 < i
-      → expanded_word key i ≡ add_words (expanded_word key (i - key_words key)) (added_word (key_words key) i (expanded_word key (i - 1)))
+      → expanded_word key i ≡ add_words (expanded_word key (i - key_words key))
+      (added_word (key_words key) i (expanded_word key (i - 1)))
   unfolding next_word_if
   expanded_word_next i late p q =
       word_is i ∙ ap (λ v. next_word_if v key (expanded_words key i) i) late
-      ∙ (λ j. add_words (expanded_at i (i - key_words key) (omega arith) j) (added_word (key_words key) i (expanded_at i (i - 1) (omega arith) j)))
+      ∙ (λ j. add_words (expanded_at i (i - key_words key) (omega arith) j)
+      (added_word (key_words key) i (expanded_at i (i - 1) (omega arith) j)))
 
   pub expanded_word_key : (i : ℕ) → nat_lt i (key_words key) ≡ true → expanded_word key i ≡ key_word key i
   unfolding next_word_if
@@ -52,7 +64,8 @@ module _ (key : List ℕ) where
       → round_key (key_expansion key) j ≡ state (λ r c. slice_index (expanded_word key (4 * j + c)) r)
   unfolding key_expansion blocks_of
   round_key_words j lt =
-      get_or-build (rounds key + 1) j (λ j. state (λ r c. slice_index (slice_index_or (expanded_words key (4 * (rounds key + 1))) (4 * j + c) []) r)) [] lt
+      get_or-build (rounds key + 1) j (λ j. state (λ r c.
+      slice_index (slice_index_or (expanded_words key (4 * (rounds key + 1))) (4 * j + c) []) r)) [] lt
       ∙ state_same (λ r c. slice_index (slice_index_or (expanded_words key (4 * (rounds key + 1))) (4 * j + c) []) r)
       (λ r c. slice_index (expanded_word key (4 * j + c)) r)
       (λ r c h k. ap (λ v. slice_index v r) (expanded_at (4 * (rounds key + 1)) (4 * j + c) (omega (arith, lt, k))))

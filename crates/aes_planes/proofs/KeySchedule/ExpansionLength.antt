@@ -1,6 +1,9 @@
 -- The key expansion gives Nr + 1 blocks.
-use Rattle.std.proofs.Common.{◌≡◌, ℕ, zero, suc, ◌+◌, ◌-◌, ◌*◌, ◌/◌, ◌%◌, ◌<◌, ◌==◌, ◌&&◌, nat_lt, Bool, true, false, List, [], ◌∷◌, ◌++◌, length, slice_index, slice_index_or, arith}
-use Rattle.aes_planes.specs.Fips197.{IsBytes, sbox, field_add, build, build_from, word, key_words, rounds, power_of_x, round_constant, added_word, added_word_if, next_word_if, expanded_words, key_expansion, sub_word, rot_word, add_words}
+use Rattle.std.proofs.Common.{◌≡◌, ℕ, zero, suc, ◌+◌, ◌-◌, ◌*◌, ◌/◌, ◌%◌, ◌<◌, ◌==◌, ◌&&◌, nat_lt, Bool, true, false}
+use Rattle.std.proofs.Common.{List, [], ◌∷◌, ◌++◌, length, slice_index, slice_index_or, arith}
+use Rattle.aes_planes.specs.Fips197.{IsBytes, sbox, field_add, build, build_from, word, key_words, rounds, power_of_x}
+use Rattle.aes_planes.specs.Fips197.{round_constant, added_word, added_word_if, next_word_if, expanded_words}
+use Rattle.aes_planes.specs.Fips197.{key_expansion, sub_word, rot_word, add_words}
 use Rattle.aes_planes.proofs.SBox.InverseSBox.{sbox_byte}
 use Rattle.aes_planes.proofs.Lists.Built.{length-build}
 use Rattle.aes_planes.proofs.Standard.FieldLaws.{xtime_byte, field_add_byte}
@@ -32,23 +35,30 @@ constant_bytes i (suc (suc (suc zero))) = omega arith
 constant_bytes i (suc (suc (suc (suc j)))) = omega arith
 
 sum_bytes : (v w : List ℕ) → IsBytes v → IsBytes w → IsBytes (add_words v w)
-sum_bytes v w h k = word_bytes (λ i. field_add (slice_index v i) (slice_index w i)) (λ i. field_add_byte (slice_index v i) (slice_index w i) (h i) (k i))
+sum_bytes v w h k =
+    word_bytes (λ i. field_add (slice_index v i) (slice_index w i))
+    (λ i. field_add_byte (slice_index v i) (slice_index w i) (h i) (k i))
 
 rot_bytes : (w : List ℕ) → IsBytes w → IsBytes (rot_word w)
 rot_bytes w h = word_bytes (λ i. slice_index w ((i + 1) % 4)) (λ i. h ((i + 1) % 4))
 
 added_bytes : (p q : Bool) (j : ℕ) (w : List ℕ) → IsBytes w → IsBytes (added_word_if p q j w)
 unfolding added_word_if
-added_bytes true q j w h = sum_bytes (sub_word (rot_word w)) (round_constant j) (map_bytes sbox sbox_byte (rot_word w) (rot_bytes w h)) (constant_bytes j)
+added_bytes true q j w h =
+    sum_bytes (sub_word (rot_word w)) (round_constant j) (map_bytes sbox sbox_byte (rot_word w) (rot_bytes w h))
+    (constant_bytes j)
 added_bytes false true j w h = map_bytes sbox sbox_byte w h
 added_bytes false false j w h = h
 
-next_bytes : (p : Bool) (key : List ℕ) (ws : List (List ℕ)) (i : ℕ) → IsBytes key → RowsBytes ws → IsBytes (next_word_if p key ws i)
+next_bytes : (p : Bool) (key : List ℕ) (ws : List (List ℕ)) (i : ℕ) → IsBytes key → RowsBytes ws
+    → IsBytes (next_word_if p key ws i)
 unfolding next_word_if
 next_bytes true key ws i h g = word_bytes (λ j. slice_index key (4 * i + j)) (λ j. h (4 * i + j))
 next_bytes false key ws i h g =
-    sum_bytes (slice_index_or ws (i - key_words key) []) (added_word (key_words key) i (slice_index_or ws (i - 1) [])) (g (i - key_words key))
-    (added_bytes (i % key_words key == 0) (nat_lt 6 (key_words key) && (i % key_words key == 4)) (i / key_words key) (slice_index_or ws (i - 1) []) (g (i - 1)))
+    sum_bytes (slice_index_or ws (i - key_words key) []) (added_word (key_words key) i (slice_index_or ws (i - 1) []))
+    (g (i - key_words key))
+    (added_bytes (i % key_words key == 0) (nat_lt 6 (key_words key) && (i % key_words key == 4)) (i / key_words key)
+    (slice_index_or ws (i - 1) []) (g (i - 1)))
 
 append_bytes : (ws : List (List ℕ)) (w : List ℕ) → RowsBytes ws → IsBytes w → RowsBytes (ws ++ w ∷ [])
 append_bytes [] w h k zero = k
@@ -59,7 +69,9 @@ append_bytes (v ∷ ws) w h k (suc i) = append_bytes ws w (λ j. h (suc j)) k i
 pub words_bytes : (key : List ℕ) (n : ℕ) → IsBytes key → RowsBytes (expanded_words key n)
 unfolding expanded_words
 words_bytes key zero h = λ i j. omega arith
-words_bytes key (suc n) h = append_bytes (expanded_words key n) (next_word_if (nat_lt n (key_words key)) key (expanded_words key n) n) (words_bytes key n h)
+words_bytes key (suc n) h =
+    append_bytes (expanded_words key n) (next_word_if (nat_lt n (key_words key)) key (expanded_words key n) n)
+    (words_bytes key n h)
     (next_bytes (nat_lt n (key_words key)) key (expanded_words key n) n h (words_bytes key n h))
 
 build_from_all : (a n : ℕ) (f : ℕ → List ℕ) → ((i : ℕ) → IsBytes (f i)) → RowsBytes (build_from a n f)
@@ -70,4 +82,6 @@ build_from_all a (suc n) f h (suc i) = build_from_all (a + 1) n f h i
 
 pub expansion_bytes : (key : List ℕ) → IsBytes key → RowsBytes (key_expansion key)
 unfolding key_expansion build
-expansion_bytes key h = build_from_all 0 (rounds key + 1) _ (λ j. state_bytes _ (λ r c. words_bytes key (4 * (rounds key + 1)) h (4 * j + c) r))
+expansion_bytes key h =
+    build_from_all 0 (rounds key + 1) _ (λ j. state_bytes _
+    (λ r c. words_bytes key (4 * (rounds key + 1)) h (4 * j + c) r))

@@ -1,5 +1,7 @@
 -- The columns of a round key, summed from left to right: in bits, in bytes and in blocks.
 use Rattle.std.proofs.Common.{◌≡◌, ℕ, zero, suc, ◌+◌, ◌-◌, ◌*◌, ◌%◌, ◌<◌, ◌≤◌, ◌&&◌, ◌||◌, nat_le, nat_lt, cond, Bool, true, false, List, [], ◌∷◌, length, get_or, map, refl, ap, sym, ◌∙◌, arith}
+use Rattle.aes_planes.proofs.Bits.BitCases.{xor_false}
+use Rattle.std.proofs.Math.Bool.{or-false}
 use Rattle.std.proofs.lemmas.Bool.{le-leb, lt-ltb}
 use Rattle.std.proofs.lemmas.List.{length-map, get_or-map, ext_get_or}
 use Rattle.aes_planes.specs.Bits.{at, xor, bit, number}
@@ -18,11 +20,7 @@ bit_below rk s p q h e = ap (λ v. v && at rk (p - s)) (le-leb s p h) ∙ ap (at
 bit_above : (x : List Bool) (p s q B : ℕ) → p + s ≡ q → q < B → (nat_lt (p + s) B && at x (p + s)) ≡ at x q
 bit_above x p s q B e h = ap (λ v. nat_lt v B && at x v) e ∙ ap (λ v. v && at x q) (lt-ltb q B h)
 
-xor_none : (x : Bool) → xor x false ≡ x
-xor_none true = refl
-xor_none false = refl
-
-xor_inward : (x y z : Bool) → xor (xor x y) z ≡ xor x (xor y z)
+pub xor_inward : (x y z : Bool) → xor (xor x y) z ≡ xor x (xor y z)
 xor_inward true true true = refl
 xor_inward true true false = refl
 xor_inward true false z = refl
@@ -39,19 +37,19 @@ module _ (n B ror r k : ℕ) (before here first pairs out : List Bool)
 
   first_1 : at first (place n r 1 k) ≡ at before (place n r 1 k)
   unfolding bit
-  first_1 = firsts 1 (omega arith) ∙ xor_none _
+  first_1 = firsts 1 (omega arith) ∙ xor_false _
 
   first_2 : at first (place n r 2 k) ≡ at before (place n r 2 k)
   unfolding bit
-  first_2 = firsts 2 (omega arith) ∙ xor_none _
+  first_2 = firsts 2 (omega arith) ∙ xor_false _
 
   first_3 : at first (place n r 3 k) ≡ at before (place n r 3 k)
   unfolding bit
-  first_3 = firsts 3 (omega arith) ∙ xor_none _
+  first_3 = firsts 3 (omega arith) ∙ xor_false _
 
   pairs_0 : at pairs (place n r 0 k) ≡ at first (place n r 0 k)
   unfolding bit
-  pairs_0 = seconds 0 (omega arith) ∙ xor_none _
+  pairs_0 = seconds 0 (omega arith) ∙ xor_false _
 
   pairs_later : (c : ℕ) → c < 3 → at pairs (place n r (suc c) k) ≡ xor (at first (place n r (suc c) k)) (at first (place n r c k))
   unfolding bit
@@ -62,8 +60,8 @@ module _ (n B ror r k : ℕ) (before here first pairs out : List Bool)
 
   pub columns_right : (c : ℕ) → c < 4 → at out (place n r c k) ≡ summed xor (λ e. at before (place n r e k)) (at here ((place n r 0 k + ror) % B)) c
   unfolding bit
-  columns_right zero h = outs 0 h ∙ xor_none _ ∙ pairs_0 ∙ first_0
-  columns_right (suc zero) h = outs 1 h ∙ xor_none _ ∙ pairs_later 0 (omega arith) ∙ (λ t. xor (first_1 t) (first_0 t))
+  columns_right zero h = outs 0 h ∙ xor_false _ ∙ pairs_0 ∙ first_0
+  columns_right (suc zero) h = outs 1 h ∙ xor_false _ ∙ pairs_later 0 (omega arith) ∙ (λ t. xor (first_1 t) (first_0 t))
   columns_right (suc (suc zero)) h =
       let up2 = bit_below pairs (2 * n) (place n r 2 k) (place n r 0 k) (omega arith) (omega arith) ∙ pairs_0 ∙ first_0 in
       outs 2 h ∙ (λ t. xor ((pairs_later 1 (omega arith) ∙ (λ t. xor (first_2 t) (first_1 t))) t) (up2 t))
@@ -74,17 +72,13 @@ module _ (n B ror r k : ℕ) (before here first pairs out : List Bool)
       ∙ xor_inward (at before (place n r 3 k)) (at before (place n r 2 k)) (xor (at before (place n r 1 k)) (xor (at before (place n r 0 k)) (at here ((place n r 0 k + ror) % B))))
   columns_right (suc (suc (suc (suc c)))) h = absurd (omega arith)
 
-or_none : (x : Bool) → (x || false) ≡ x
-or_none true = refl
-or_none false = refl
-
 -- what two masks let through of one word two columns down and of another two columns up
 pub straddled : (n B r k : ℕ) (left right : List Bool) → B ≡ 16 * n → r < 4 → k < n → (c : ℕ) → c < 4
     → ((bit 3 c && (nat_lt (place n r c k + 2 * n) B && at left (place n r c k + 2 * n))) || (bit 12 c && (nat_le (2 * n) (place n r c k) && at right (place n r c k - 2 * n))))
     ≡ cond (nat_lt c 2) (at left (place n r (c + 2) k)) (at right (place n r (c - 2) k))
 unfolding bit
-straddled n B r k left right eB h kn zero l = or_none _ ∙ bit_above left (place n r 0 k) (2 * n) (place n r 2 k) B (omega arith) (let s = place_lt n r 2 k h (omega arith) kn in omega arith)
-straddled n B r k left right eB h kn (suc zero) l = or_none _ ∙ bit_above left (place n r 1 k) (2 * n) (place n r 3 k) B (omega arith) (let s = place_lt n r 3 k h (omega arith) kn in omega arith)
+straddled n B r k left right eB h kn zero l = or-false _ ∙ bit_above left (place n r 0 k) (2 * n) (place n r 2 k) B (omega arith) (let s = place_lt n r 2 k h (omega arith) kn in omega arith)
+straddled n B r k left right eB h kn (suc zero) l = or-false _ ∙ bit_above left (place n r 1 k) (2 * n) (place n r 3 k) B (omega arith) (let s = place_lt n r 3 k h (omega arith) kn in omega arith)
 straddled n B r k left right eB h kn (suc (suc zero)) l = bit_below right (2 * n) (place n r 2 k) (place n r 0 k) (omega arith) (omega arith)
 straddled n B r k left right eB h kn (suc (suc (suc zero))) l = bit_below right (2 * n) (place n r 3 k) (place n r 1 k) (omega arith) (omega arith)
 straddled n B r k left right eB h kn (suc (suc (suc (suc c)))) l = absurd (omega arith)
@@ -125,7 +119,8 @@ module _ (f : ℕ → List Bool) (y : List Bool) (fs : (e : ℕ) → length (f e
   byte_summed bs c l h =
       ap number (ext_get_or false bs (summed sum_bits f y c) (l ∙ sym (length-summed c)) (λ m lt. h m (omega arith) ∙ sym (at-summed c m))) ∙ number-summed c
 
-summed-ext : {A : Type 0} (op : A → A → A) (f g : ℕ → A) (y z : A) (c : ℕ) → ((e : ℕ) → e ≤ c → f e ≡ g e) → y ≡ z → summed op f y c ≡ summed op g z c
+pub summed-ext : {A : Type 0} (op : A → A → A) (f g : ℕ → A) (y z : A) (c : ℕ) → ((e : ℕ) → e ≤ c → f e ≡ g e) → y ≡ z
+    → summed op f y c ≡ summed op g z c
 summed-ext op f g y z zero h e = (λ t. op (h 0 (omega arith) t) (e t))
 summed-ext op f g y z (suc c) h e = (λ t. op (h (suc c) (omega arith) t) (summed-ext op f g y z c (λ d l. h d (omega arith)) e t))
 

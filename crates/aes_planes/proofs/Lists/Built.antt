@@ -1,5 +1,5 @@
--- Lists that are built of a function: their elements.
-use Rattle.std.proofs.Common.{◌≡◌, ℕ, zero, suc, ◌+◌, ◌<◌, List, [], ◌∷◌, length, get_or, refl, ap, ◌∙◌, arith}
+-- Lists that are built of a function, and lists with the same elements.
+use Rattle.std.proofs.Common.{◌≡◌, ℕ, zero, suc, ◌+◌, ◌<◌, List, [], ◌∷◌, length, get_or, map, refl, ap, ◌∙◌, arith}
 use Rattle.aes_planes.specs.Fips197.{build, build_from}
 pub use Rattle.aes_planes.specs.Private.BuiltLength.{length-build}
 
@@ -34,3 +34,19 @@ build_is n f xs d l h = build_from_is 0 n f xs d l (λ i lt. let s : 0 + i ≡ i
 -- a list is built of its elements
 pub built : {A : Type 0} (n : ℕ) (xs : List A) (d : A) → length xs ≡ n → build n (λ i. get_or xs i d) ≡ xs
 built n xs d l = build_is n (λ i. get_or xs i d) xs d l (λ i lt. refl)
+
+-- ---- what a function makes of lists
+
+pub map-same : {A B : Type 0} (f g : A → B) (xs : List A) → ((x : A) → f x ≡ g x) → map f xs ≡ map g xs
+map-same f g [] e = refl
+map-same f g (x ∷ xs) e = (λ t. e x t ∷ map-same f g xs e t)
+
+-- f of each element of xs is g of the one in its place in ys
+pub map-same_at : {A B C : Type 0} (f : A → C) (g : B → C) (xs : List A) (ys : List B) (a : A) (b : B)
+    → length xs ≡ length ys
+    → ((p : ℕ) → p < length xs → f (get_or xs p a) ≡ g (get_or ys p b)) → map f xs ≡ map g ys
+map-same_at f g [] [] a b e h = refl
+map-same_at f g [] (y ∷ ys) a b e h = absurd (omega arith)
+map-same_at f g (x ∷ xs) [] a b e h = absurd (omega arith)
+map-same_at f g (x ∷ xs) (y ∷ ys) a b e h =
+    (λ t. h 0 (omega arith) t ∷ map-same_at f g xs ys a b (omega arith) (λ p l. h (suc p) (omega arith)) t)

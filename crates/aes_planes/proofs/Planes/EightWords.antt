@@ -1,6 +1,8 @@
 -- Eight words of a list.
-use Rattle.std.proofs.Common.{◌≡◌, ℕ, zero, suc, ◌+◌, ◌-◌, ◌<◌, ◌≤◌, min, List, [], ◌∷◌, ◌++◌, length, get_or, map, take, drop, set, replicate, refl, ap, sym, ◌∙◌, arith, length-take, length-drop, get_or-take, get_or-drop, add-zero}
-use Rattle.std.proofs.lemmas.List.{take-map, drop-map}
+use Rattle.std.proofs.Common.{◌≡◌, ℕ, zero, suc, ◌+◌, ◌-◌, ◌<◌, ◌≤◌, min, List, [], ◌∷◌, ◌++◌, length, get_or, map}
+use Rattle.std.proofs.Common.{take, drop, set, replicate, refl, ap, sym, ◌∙◌, arith, length-take, length-drop}
+use Rattle.std.proofs.Common.{get_or-take, get_or-drop, add-zero}
+use Rattle.std.proofs.lemmas.List.{take-map, drop-map, same_lists}
 use Rattle.aes_planes.specs.Planes.{words_at}
 use Rattle.aes_planes.proofs.Bits.BitCases.{eight}
 
@@ -8,7 +10,8 @@ pub length-words_at : {A : Type 0} (xs : List A) (o : ℕ) → o + 8 ≤ length 
 unfolding words_at
 length-words_at xs o h = simp (length-take, length-drop) (omega arith)
 
-pub get_or-words_at : {A : Type 0} (xs : List A) (o i : ℕ) (d : A) → i < 8 → get_or (words_at xs o) i d ≡ get_or xs (o + i) d
+pub get_or-words_at : {A : Type 0} (xs : List A) (o i : ℕ) (d : A) → i < 8
+    → get_or (words_at xs o) i d ≡ get_or xs (o + i) d
 unfolding words_at
 get_or-words_at xs o i d h = get_or-take 8 (drop o xs) i d h ∙ get_or-drop o xs i d
 
@@ -17,29 +20,21 @@ unfolding words_at
 words_at-map f xs o = ap (take 8) (drop-map f o xs) ∙ take-map f 8 (drop o xs)
 
 pub words_at-is : {A : Type 0} (xs : List A) (o : ℕ) (a b c d e f g h : A) → o + 8 ≤ length xs
-    → a ≡ get_or xs o a → b ≡ get_or xs (o + 1) b → c ≡ get_or xs (o + 2) c → d ≡ get_or xs (o + 3) d → e ≡ get_or xs (o + 4) e → f ≡ get_or xs (o + 5) f → g ≡ get_or xs (o + 6) g → h ≡ get_or xs (o + 7) h
+    → a ≡ get_or xs o a → b ≡ get_or xs (o + 1) b → c ≡ get_or xs (o + 2) c → d ≡ get_or xs (o + 3) d
+    → e ≡ get_or xs (o + 4) e → f ≡ get_or xs (o + 5) f → g ≡ get_or xs (o + 6) g → h ≡ get_or xs (o + 7) h
     → a ∷ b ∷ c ∷ d ∷ e ∷ f ∷ g ∷ h ∷ [] ≡ words_at xs o
-words_at-is xs o a b c d e f g h l ea eb ec ed ee ef eg eh =
+words_at-is {A = A} xs o a b c d e f g h l ea eb ec ed ee ef eg eh =
     let at0 = ea ∙ ap (λ i. get_or xs i a) (sym (add-zero o)) ∙ sym (get_or-words_at xs o 0 a (omega arith)) in
-    let at1 = eb ∙ sym (get_or-words_at xs o 1 b (omega arith)) in
-    let at2 = ec ∙ sym (get_or-words_at xs o 2 c (omega arith)) in
-    let at3 = ed ∙ sym (get_or-words_at xs o 3 d (omega arith)) in
-    let at4 = ee ∙ sym (get_or-words_at xs o 4 e (omega arith)) in
-    let at5 = ef ∙ sym (get_or-words_at xs o 5 f (omega arith)) in
-    let at6 = eg ∙ sym (get_or-words_at xs o 6 g (omega arith)) in
-    let at7 = eh ∙ sym (get_or-words_at xs o 7 h (omega arith)) in
-    (λ t. at0 t ∷ at1 t ∷ at2 t ∷ at3 t ∷ at4 t ∷ at5 t ∷ at6 t ∷ at7 t ∷ [])
+    let at = λ (i : ℕ) (z : A) (lt : i < 8). sym (get_or-words_at xs o i z lt) in
+    (λ t. at0 t ∷ (eb ∙ at 1 b (omega arith)) t ∷ (ec ∙ at 2 c (omega arith)) t ∷ (ed ∙ at 3 d (omega arith)) t
+    ∷ (ee ∙ at 4 e (omega arith)) t ∷ (ef ∙ at 5 f (omega arith)) t ∷ (eg ∙ at 6 g (omega arith)) t
+    ∷ (eh ∙ at 7 h (omega arith)) t ∷ [])
     ∙ sym (eight (words_at xs o) a b c d e f g h (length-words_at xs o l))
 
 -- ---- words that stay, and words that are put
 
-get_or-ext : {A : Type 0} (xs ys : List A) → length xs ≡ length ys → ((i : ℕ) (d : A) → i < length xs → get_or xs i d ≡ get_or ys i d) → xs ≡ ys
-get_or-ext [] [] e h = refl
-get_or-ext [] (y ∷ ys) e h = absurd (omega arith)
-get_or-ext (x ∷ xs) [] e h = absurd (omega arith)
-get_or-ext (x ∷ xs) (y ∷ ys) e h = (λ t. h 0 x (omega arith) t ∷ get_or-ext xs ys (omega arith) (λ i d l. h (suc i) d (omega arith)) t)
-
-length-words : {A : Type 0} (xs ys : List A) (o : ℕ) → length xs ≡ length ys → length (words_at xs o) ≡ length (words_at ys o)
+length-words : {A : Type 0} (xs ys : List A) (o : ℕ) → length xs ≡ length ys
+    → length (words_at xs o) ≡ length (words_at ys o)
 unfolding words_at
 length-words xs ys o e = simp (length-take, length-drop) (ap (λ v. min 8 (v - o)) e)
 
@@ -47,18 +42,21 @@ length-words-le : {A : Type 0} (xs : List A) (o : ℕ) → length (words_at xs o
 unfolding words_at
 length-words-le xs o = simp (length-take, length-drop) (omega arith)
 
-pub words_stay : {A : Type 0} (new old : List A) (o : ℕ) → length new ≡ length old → ((i : ℕ) (d : A) → o ≤ i → i < o + 8 → get_or new i d ≡ get_or old i d) → words_at new o ≡ words_at old o
-words_stay new old o e h = get_or-ext _ _ (length-words new old o e) (λ i d l.
+pub words_stay : {A : Type 0} (new old : List A) (o : ℕ) → length new ≡ length old
+    → ((i : ℕ) (d : A) → o ≤ i → i < o + 8 → get_or new i d ≡ get_or old i d) → words_at new o ≡ words_at old o
+words_stay new old o e h = same_lists _ _ (length-words new old o e) (λ i d l.
     let b : i < 8 = omega (arith, length-words-le new o) in
     get_or-words_at new o i d b ∙ h (o + i) d (omega arith) (omega arith) ∙ sym (get_or-words_at old o i d b))
 
-pub words_put : {A : Type 0} (new ws : List A) (o : ℕ) → o + 8 ≤ length new → length ws ≡ 8 → ((m : ℕ) (d : A) → m < 8 → get_or new (o + m) d ≡ get_or ws m d) → words_at new o ≡ ws
-words_put new ws o room e h = get_or-ext _ _ (length-words_at new o room ∙ sym e) (λ i d l.
+pub words_put : {A : Type 0} (new ws : List A) (o : ℕ) → o + 8 ≤ length new → length ws ≡ 8
+    → ((m : ℕ) (d : A) → m < 8 → get_or new (o + m) d ≡ get_or ws m d) → words_at new o ≡ ws
+words_put new ws o room e h = same_lists _ _ (length-words_at new o room ∙ sym e) (λ i d l.
     let b : i < 8 = omega (arith, length-words_at new o room) in
     get_or-words_at new o i d b ∙ h i d b)
 
 -- ---- the same block in every slot
 
-pub fill_more : {A : Type 0} (b z : A) (i m : ℕ) → set (replicate i b ++ replicate (suc m) z) i b ≡ replicate (suc i) b ++ replicate m z
+pub fill_more : {A : Type 0} (b z : A) (i m : ℕ) → set (replicate i b ++ replicate (suc m) z) i b
+    ≡ replicate (suc i) b ++ replicate m z
 fill_more b z zero m = refl
 fill_more b z (suc i) m = ap (λ xs. b ∷ xs) (fill_more b z i m)

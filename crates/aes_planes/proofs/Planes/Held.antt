@@ -1,17 +1,19 @@
 -- The blocks that planes hold: from facts on the bytes at places to equations on blocks.
-use Rattle.std.proofs.Common.{◌≡◌, ℕ, zero, suc, ◌+◌, ◌-◌, ◌*◌, ◌/◌, ◌%◌, ◌<◌, ◌≤◌, Bool, List, [], ◌∷◌, length, get_or, map, replicate, refl, ap, sym, subst, ◌∙◌, arith, ◌⊎◌, inl, inr}
-use Rattle.std.proofs.Math.Nat.{mod-eq_of_lt, add-mod_right}
+use Rattle.std.proofs.Common.{◌≡◌, ℕ, zero, suc, ◌+◌, ◌*◌, ◌/◌, ◌%◌, ◌<◌, ◌≤◌, Bool, List, [], ◌∷◌, length, get_or, map}
+use Rattle.std.proofs.Common.{replicate, refl, ap, sym, ◌∙◌, arith}
 use Rattle.std.proofs.lemmas.Nat.{mul-add-lt}
-use Rattle.std.proofs.lemmas.Bool.{cases_lt}
-use lib.Arith.{digits_div, digits_mod}
+use Rattle.std.proofs.Math.Arith.{digits_div, digits_mod, mod-mul}
 use Rattle.aes_planes.specs.Fips197.{byte_at, build, build_from, state, field_add, add_round_key}
 use Rattle.aes_planes.specs.Planes.{held, held_byte, place, zip_with}
 use Rattle.aes_planes.proofs.Standard.States.{byte_at-state, state_is, state_same}
 use Rattle.aes_planes.proofs.Lists.Built.{build_is, length-build}
+pub use Rattle.aes_planes.proofs.Lists.Built.{map-same}
+pub use Rattle.std.proofs.lemmas.Simd.{map-map}
 
 -- ---- lists that are built of a function
 
-build_from-ext : {A : Type 0} (a n : ℕ) (f g : ℕ → A) → ((i : ℕ) → a ≤ i → i < a + n → f i ≡ g i) → build_from a n f ≡ build_from a n g
+build_from-ext : {A : Type 0} (a n : ℕ) (f g : ℕ → A) → ((i : ℕ) → a ≤ i → i < a + n → f i ≡ g i)
+    → build_from a n f ≡ build_from a n g
 unfolding build_from
 build_from-ext a zero f g h = refl
 build_from-ext a (suc n) f g h =
@@ -22,7 +24,8 @@ pub build-ext : {A : Type 0} (n : ℕ) (f g : ℕ → A) → ((i : ℕ) → i < 
 unfolding build
 build-ext n f g h = build_from-ext 0 n f g (λ i l r. h i (omega arith))
 
-map-build_from : {A B : Type 0} (m : A → B) (a n : ℕ) (f : ℕ → A) → map m (build_from a n f) ≡ build_from a n (λ i. m (f i))
+map-build_from : {A B : Type 0} (m : A → B) (a n : ℕ) (f : ℕ → A)
+    → map m (build_from a n f) ≡ build_from a n (λ i. m (f i))
 unfolding build_from
 map-build_from m a zero f = refl
 map-build_from m a (suc n) f = ap (λ xs. m (f a) ∷ xs) (map-build_from m (a + 1) n f)
@@ -31,26 +34,21 @@ pub map-build : {A B : Type 0} (m : A → B) (n : ℕ) (f : ℕ → A) → map m
 unfolding build
 map-build m n f = map-build_from m 0 n f
 
-zip_with-build_from : {A B C : Type 0} (f : A → B → C) (a n : ℕ) (g : ℕ → A) (h : ℕ → B) → zip_with f (build_from a n g) (build_from a n h) ≡ build_from a n (λ i. f (g i) (h i))
+zip_with-build_from : {A B C : Type 0} (f : A → B → C) (a n : ℕ) (g : ℕ → A) (h : ℕ → B)
+    → zip_with f (build_from a n g) (build_from a n h) ≡ build_from a n (λ i. f (g i) (h i))
 unfolding build_from
 zip_with-build_from f a zero g h = refl
 zip_with-build_from f a (suc n) g h = ap (λ xs. f (g a) (h a) ∷ xs) (zip_with-build_from f (a + 1) n g h)
 
-pub zip_with-build : {A B C : Type 0} (f : A → B → C) (n : ℕ) (g : ℕ → A) (h : ℕ → B) → zip_with f (build n g) (build n h) ≡ build n (λ i. f (g i) (h i))
+pub zip_with-build : {A B C : Type 0} (f : A → B → C) (n : ℕ) (g : ℕ → A) (h : ℕ → B)
+    → zip_with f (build n g) (build n h) ≡ build n (λ i. f (g i) (h i))
 unfolding build
 zip_with-build f n g h = zip_with-build_from f 0 n g h
 
 -- ---- lists of blocks
 
-pub map-map : {A B C : Type 0} (f : B → C) (g : A → B) (xs : List A) → map f (map g xs) ≡ map (λ x. f (g x)) xs
-map-map f g [] = refl
-map-map f g (x ∷ xs) = ap (λ ys. f (g x) ∷ ys) (map-map f g xs)
-
-pub map-same : {A B : Type 0} (f g : A → B) (xs : List A) → ((x : A) → f x ≡ g x) → map f xs ≡ map g xs
-map-same f g [] e = refl
-map-same f g (x ∷ xs) e = (λ t. e x t ∷ map-same f g xs e t)
-
-pub zip_with-replicate : {A B C : Type 0} (f : A → B → C) (xs : List A) (n : ℕ) (y : B) → length xs ≡ n → zip_with f xs (replicate n y) ≡ map (λ x. f x y) xs
+pub zip_with-replicate : {A B C : Type 0} (f : A → B → C) (xs : List A) (n : ℕ) (y : B) → length xs ≡ n
+    → zip_with f xs (replicate n y) ≡ map (λ x. f x y) xs
 zip_with-replicate f [] n y e = refl
 zip_with-replicate f (x ∷ xs) zero y e = absurd (omega arith)
 zip_with-replicate f (x ∷ xs) (suc n) y e = ap (λ zs. f x y ∷ zs) (zip_with-replicate f xs n y (omega arith))
@@ -64,29 +62,24 @@ length-held n planes = length-build n _
 -- ---- places
 
 pub place_lt : (n r c k : ℕ) → r < 4 → c < 4 → k < n → place n r c k < 16 * n
-place_lt n r c k h i j = omega (arith, mul-add-lt c n k 4 i j, mul-add-lt r (4 * n) (c * n + k) 4 h (omega (arith, mul-add-lt c n k 4 i j)))
+place_lt n r c k h i j =
+    let x = mul-add-lt c n k 4 i j in
+    let y = mul-add-lt r (4 * n) (c * n + k) 4 h (omega (arith, x)) in
+    omega (arith, y)
 
-turned_high : (m x p : ℕ) → x < m → p < 4 → ((p + 4) * m + x) % (4 * m) ≡ ((p + 4) % 4) * m + x
-turned_high m x p h lt =
-    let split : (p + 4) * m + x ≡ p * m + x + 4 * m = omega arith in
-    let e : (p + 4) % 4 ≡ p = omega arith in
-    rw (e, split) (add-mod_right (p * m + x) (4 * m) ∙ mod-eq_of_lt (omega (arith, mul-add-lt p m x 4 lt h)))
-
-turned : (m x q : ℕ) → x < m → (q < 4) ⊎ (4 ≤ q) → q < 8 → (q * m + x) % (4 * m) ≡ (q % 4) * m + x
-turned m x q h (inl lt) b =
-    let e : q % 4 ≡ q = mod-eq_of_lt lt in
-    rw e (mod-eq_of_lt (omega (arith, mul-add-lt q m x 4 lt h)))
-turned m x q h (inr le) b =
-    let e : q - 4 + 4 ≡ q = omega arith in
-    subst (λ (v : ℕ). (v * m + x) % (4 * m) ≡ (v % 4) * m + x) e (turned_high m x (q - 4) h (omega arith))
+wrapped : (m x q : ℕ) → x < m → (q * m + x) % (4 * m) ≡ (q % 4) * m + x
+wrapped m x q h =
+    mod-mul (q * m + x) {m = 4} {c = m} (omega arith) (omega arith)
+    ∙ (λ t. (digits_div q h t % 4) * m + digits_mod q h t)
 
 -- the place so many rows on
-pub row_on : (n r c k d : ℕ) → r < 4 → c < 4 → k < n → d < 4 → (place n r c k + d * (4 * n)) % (16 * n) ≡ place n ((r + d) % 4) c k
+pub row_on : (n r c k d : ℕ) → r < 4 → c < 4 → k < n → d < 4
+    → (place n r c k + d * (4 * n)) % (16 * n) ≡ place n ((r + d) % 4) c k
 row_on n r c k d h i j l =
     let x : c * n + k < 4 * n = omega (arith, mul-add-lt c n k 4 i j) in
     let e : place n r c k + d * (4 * n) ≡ (r + d) * (4 * n) + (c * n + k) = grind arith in
     let f : 16 * n ≡ 4 * (4 * n) = omega arith in
-    rw (e, f) (turned (4 * n) (c * n + k) (r + d) x (cases_lt (r + d) 4) (omega arith))
+    rw (e, f) (wrapped (4 * n) (c * n + k) (r + d) x)
 
 -- the column of a place, where a row has R bits and a column Q
 pub column_of : (n R Q r c k : ℕ) → R ≡ 4 * n → Q ≡ n → r < 4 → c < 4 → k < n → place n r c k % R / Q ≡ c
@@ -98,24 +91,31 @@ column_of n R Q r c k eR eQ h l kn =
 -- ---- from bytes at places to blocks
 
 -- planes whose byte at each place is f of the old one
-pub bytes_held : (f : ℕ → ℕ) (n : ℕ) (new old : List (List Bool)) → ((i : ℕ) → i < 16 * n → held_byte new i ≡ f (held_byte old i)) → held n new ≡ map (map f) (held n old)
+pub bytes_held : (f : ℕ → ℕ) (n : ℕ) (new old : List (List Bool))
+    → ((i : ℕ) → i < 16 * n → held_byte new i ≡ f (held_byte old i)) → held n new ≡ map (map f) (held n old)
 unfolding held state
 bytes_held f n new old h =
-    build-ext n _ _ (λ k l. build-ext 16 _ _ (λ j m. h (place n (j % 4) (j / 4) k) (place_lt n (j % 4) (j / 4) k (omega arith) (omega arith) l)) ∙ sym (map-build f 16 (λ j. held_byte old (place n (j % 4) (j / 4) k))))
+    build-ext n _ _ (λ k l. build-ext 16 _ _ (λ j m. h (place n (j % 4) (j / 4) k)
+    (place_lt n (j % 4) (j / 4) k (omega arith) (omega arith) l))
+    ∙ sym (map-build f 16 (λ j. held_byte old (place n (j % 4) (j / 4) k))))
     ∙ sym (map-build (map f) n (λ k. build 16 (λ j. held_byte old (place n (j % 4) (j / 4) k))))
 
 -- planes whose byte at each place is the sum of two old ones
-pub added_held : (n : ℕ) (new old key : List (List Bool)) → ((i : ℕ) → i < 16 * n → held_byte new i ≡ field_add (held_byte old i) (held_byte key i)) → held n new ≡ zip_with add_round_key (held n old) (held n key)
+pub added_held : (n : ℕ) (new old key : List (List Bool)) →
+    ((i : ℕ) → i < 16 * n → held_byte new i ≡ field_add (held_byte old i) (held_byte key i))
+    → held n new ≡ zip_with add_round_key (held n old) (held n key)
 unfolding held add_round_key
 added_held n new old key h =
     build-ext n _ _ (λ k l. state_same _ _ (λ r c i j. h (place n r c k) (place_lt n r c k i j l)
-    ∙ (λ t. field_add (sym (byte_at-state (λ r c. held_byte old (place n r c k)) r c i j) t) (sym (byte_at-state (λ r c. held_byte key (place n r c k)) r c i j) t))))
+    ∙ (λ t. field_add (sym (byte_at-state (λ r c. held_byte old (place n r c k)) r c i j) t)
+    (sym (byte_at-state (λ r c. held_byte key (place n r c k)) r c i j) t))))
     ∙ sym (zip_with-build add_round_key n _ _)
 
 -- planes whose byte at each place is, in the block of the old bytes, what a step on states puts there
 pub stepped_held : (step : List ℕ → List ℕ) (at : (ℕ → ℕ → ℕ) → ℕ → ℕ → ℕ) (n : ℕ) (new old : List (List Bool))
     → ((f : ℕ → ℕ → ℕ) → state (at f) ≡ step (state f))
-    → ((r c k : ℕ) → r < 4 → c < 4 → k < n → held_byte new (place n r c k) ≡ at (λ r c. held_byte old (place n r c k)) r c)
+    → ((r c k : ℕ) → r < 4 → c < 4 → k < n → held_byte new (place n r c k)
+    ≡ at (λ r c. held_byte old (place n r c k)) r c)
     → held n new ≡ map step (held n old)
 unfolding held
 stepped_held step at n new old e h =
@@ -137,14 +137,3 @@ pub single : {A : Type 0} (xs : List A) (d : A) → length xs ≡ 1 → xs ≡ g
 single [] d e = absurd (omega arith)
 single (x ∷ []) d e = refl
 single (x ∷ y ∷ xs) d e = absurd (omega arith)
-
--- words of one block
-pub one_held : (planes : List (List Bool)) (block : List ℕ) → length block ≡ 16
-    → ((r c : ℕ) → r < 4 → c < 4 → held_byte planes (r * 4 + c) ≡ byte_at block r c) → held 1 planes ≡ block ∷ []
-one_held planes block l h = held_of 1 planes (block ∷ []) refl
-    (elim [ zero ↦ λ lt. l | suc k ↦ λ lt. absurd (omega arith) ])
-    (λ r c k i j lt. go r c k i j lt)
-  where
-    go : (r c k : ℕ) → r < 4 → c < 4 → k < 1 → held_byte planes (place 1 r c k) ≡ byte_at (get_or (block ∷ []) k []) r c
-    go r c zero i j lt = let e : place 1 r c 0 ≡ r * 4 + c = omega arith in ap (held_byte planes) e ∙ h r c i j
-    go r c (suc k) i j lt = absurd (omega arith)

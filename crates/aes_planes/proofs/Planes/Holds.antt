@@ -1,35 +1,25 @@
 -- The relation that planes hold blocks, and the blocks that they hold as a function.
-use Rattle.std.proofs.Common.{◌≡◌, ℕ, zero, suc, ◌+◌, ◌*◌, ◌^◌, ◌<◌, Bool, true, List, [], ◌∷◌, length, get_or, map, refl, ap, sym, subst, ◌∙◌, arith}
+use Rattle.std.proofs.Common.{◌≡◌, ℕ, zero, suc, ◌+◌, ◌*◌, ◌<◌, Bool, List, [], ◌∷◌, length, get_or, map, refl, ap, sym}
+use Rattle.std.proofs.Common.{subst, ◌∙◌, arith}
 use Rattle.std.proofs.lemmas.List.{length-map}
 use Rattle.aes_planes.specs.Bits.{at, bit, number}
 use Rattle.aes_planes.specs.Fips197.{byte_at, state, shift_times}
 use Rattle.aes_planes.specs.Planes.{held, held_byte, place, Holds, HoldsShifted}
 use Rattle.aes_planes.proofs.Standard.States.{byte_at-state}
 use Rattle.aes_planes.proofs.Standard.Steps.{state_length, state_bytes}
-use Rattle.aes_planes.proofs.Bits.BitCases.{all_bools, all_bools_tells, eight, same, same_tells}
-use Rattle.aes_planes.proofs.Bits.ByteCases.{all_below, all_below_tells}
+use Rattle.aes_planes.proofs.Bits.BitCases.{eight}
 use Rattle.aes_planes.proofs.Lists.Built.{get_or-build}
 use Rattle.aes_planes.proofs.Planes.Held.{held_of, length-held}
-use Rattle.aes_planes.proofs.Bits.NumberBits.{number_lt, number_of_bits}
-
-bits_case : List Bool → Bool
-bits_case bs = all_below 8 (λ p. same (bit (number bs) p) (at bs p))
-
-bits_cases : all_bools 8 bits_case ≡ true
-unfolding all_bools all_below bits_case same bit
-bits_cases = refl
-
--- the bits of the number of eight bits
-bit_of_number : (bs : List Bool) (p : ℕ) → length bs ≡ 8 → p < 8 → bit (number bs) p ≡ at bs p
-unfolding bits_case
-bit_of_number bs p l h = same_tells _ _ (all_below_tells 8 (λ p. same (bit (number bs) p) (at bs p)) (all_bools_tells 8 bits_case bits_cases bs l) p h)
+use Rattle.aes_planes.proofs.Bits.NumberBits.{bit_of_number, number_of_bits}
+use Rattle.aes_planes.proofs.Bits.BytesByBits.{number_lt}
 
 at-map : (i : ℕ) (planes : List (List Bool)) (p : ℕ) → at (map (λ w. at w i) planes) p ≡ at (get_or planes p []) i
 at-map i [] p = refl
 at-map i (w ∷ ws) zero = refl
 at-map i (w ∷ ws) (suc p) = at-map i ws p
 
-held_at : (n : ℕ) (planes : List (List Bool)) (k : ℕ) → k < n → get_or (held n planes) k [] ≡ state (λ r c. held_byte planes (place n r c k))
+held_at : (n : ℕ) (planes : List (List Bool)) (k : ℕ) → k < n
+    → get_or (held n planes) k [] ≡ state (λ r c. held_byte planes (place n r c k))
 unfolding held
 held_at n planes k h = get_or-build n k _ [] h
 
@@ -40,13 +30,16 @@ held_holds n planes l =
       planes_count = l;
       blocks_count = length-held n planes;
       block_length = λ k h. ap length (held_at n planes k h) ∙ state_length _;
-      bytes = λ k h. rw (held_at n planes k h) (state_bytes _ (λ r c. subst (λ v. held_byte planes (place n r c k) < 2 ^ v) (long (place n r c k)) (number_lt (map (λ w. at w (place n r c k)) planes))));
+      bytes = λ k h. rw (held_at n planes k h)
+          (state_bytes _ (λ r c. number_lt 8 (map (λ w. at w (place n r c k)) planes) (long (place n r c k))));
       bits = λ p r c k hp hr hc hk. let i = place n r c k in
-          sym (at-map i planes p) ∙ sym (bit_of_number (map (λ w. at w i) planes) p (long i) hp)
-          ∙ ap (λ x. bit x p) (sym (ap (λ b. byte_at b r c) (held_at n planes k hk) ∙ byte_at-state (λ r c. held_byte planes (place n r c k)) r c hr hc));
+          sym (at-map i planes p) ∙ sym (bit_of_number (map (λ w. at w i) planes) p)
+          ∙ ap (λ x. bit x p) (sym (ap (λ b. byte_at b r c) (held_at n planes k hk)
+          ∙ byte_at-state (λ r c. held_byte planes (place n r c k)) r c hr hc));
     }
 
-pub holds_held : (n : ℕ) (planes : List (List Bool)) (blocks : List (List ℕ)) → Holds n planes blocks → held n planes ≡ blocks
+pub holds_held : (n : ℕ) (planes : List (List Bool)) (blocks : List (List ℕ)) → Holds n planes blocks
+    → held n planes ≡ blocks
 holds_held n planes blocks h =
     held_of n planes blocks h.blocks_count h.block_length (λ r c k i j l.
     let spot = place n r c k in
@@ -63,7 +56,8 @@ map-zero_shifts [] = refl
 map-zero_shifts (b ∷ bs) = ap (λ cs. b ∷ cs) (map-zero_shifts bs)
 
 pub unshifted_holds : (n : ℕ) (planes : List (List Bool)) (blocks : List (List ℕ)) → length planes ≡ 8
-    → (HoldsShifted n planes 0 blocks → Holds n planes blocks) × (Holds n planes blocks → HoldsShifted n planes 0 blocks)
+    → (HoldsShifted n planes 0 blocks → Holds n planes blocks)
+    × (Holds n planes blocks → HoldsShifted n planes 0 blocks)
 unshifted_holds n planes blocks l = (
   (λ e. subst (Holds n planes) (sym (map-zero_shifts (held n planes)) ∙ e) (held_holds n planes l)),
   (λ h. map-zero_shifts (held n planes) ∙ holds_held n planes blocks h),

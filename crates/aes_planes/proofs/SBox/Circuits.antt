@@ -1,18 +1,23 @@
 -- Circuits of gates as lists, and the step from a claim on eight bits to every place of eight planes.
-use Rattle.std.proofs.Common.{◌≡◌, ℕ, ◌*◌, ◌<◌, Bool, ◌&&◌, List, [], ◌∷◌, length, map, ap, ◌∙◌}
-use Rattle.std.proofs.lemmas.List.{length-map}
+use Rattle.std.proofs.Common.{◌≡◌, ℕ, ◌*◌, ◌<◌, Bool, true, not, ◌&&◌, ◌==◌, List, [], ◌∷◌, length, get_or, map, refl}
+use Rattle.std.proofs.Common.{ap, sym, ◌∙◌, arith}
+use Rattle.std.proofs.lemmas.Bool.{eqb-true}
 use Rattle.aes_planes.specs.Bits.{at, number, xor}
 use Rattle.aes_planes.specs.Planes.{held}
+use Rattle.aes_planes.proofs.Bits.BitCases.{all_bools, all_bools_tells, eight}
 use Rattle.aes_planes.proofs.Planes.Held.{bytes_held}
 
--- a gate reads two of the bits so far, which are numbered from the newest
+infixr 10 ◌▸◌
+-- a gate reads one or two of the bits so far, which are numbered from the newest
 pub data Gate : Type 0 where
   Xor : ℕ → ℕ → Gate
   And : ℕ → ℕ → Gate
+  Not : ℕ → Gate
 
 abbrev pub gate : Gate → List Bool → Bool
 gate (Xor a b) env = xor (at env a) (at env b)
 gate (And a b) env = at env a && at env b
+gate (Not a) env = not (at env a)
 
 -- the bits at these places
 abbrev pub outs : List ℕ → List Bool → List Bool
@@ -24,19 +29,39 @@ abbrev pub computed : List Gate → List ℕ → List Bool → List Bool
 computed [] places env = outs places env
 computed (g ∷ gs) places env = computed gs places (gate g env ∷ env)
 
--- the results come by these gates from these bits: one step a gate
-pub data Runs : List Gate → List ℕ → List Bool → List Bool → Type 0 where
-  done : {places : List ℕ} {env results : List Bool} → results ≡ outs places env → Runs [] places env results
-  next : {g : Gate} {gs : List Gate} {places : List ℕ} {env results : List Bool} {x : Bool} → x ≡ gate g env → Runs gs places (x ∷ env) results → Runs (g ∷ gs) places env results
+-- a circuit makes f of every byte
+pub record Computes (gates : List Gate) (places : List ℕ) (f : ℕ → ℕ) : Type 0 where
+  pub of_bits : (bs : List Bool) → length bs ≡ 8 → number (computed gates places bs) ≡ f (number bs)
 
-run_is : {gs : List Gate} {places : List ℕ} {env results : List Bool} → Runs gs places env results → results ≡ computed gs places env
-run_is (done e) = e
-run_is (next {gs = gs} {places = places} {env = env} e r) = run_is r ∙ ap (λ x. computed gs places (x ∷ env)) e
+pub computes_by_test : (gates : List Gate) (places : List ℕ) (f : ℕ → ℕ)
+    → all_bools 8 (λ bs. number (computed gates places bs) == f (number bs)) ≡ true → Computes gates places f
+computes_by_test gates places f test = record { of_bits = λ bs l. eqb-true _ _ (all_bools_tells 8 _ test bs l) }
 
--- a circuit that makes f of every byte makes f of every byte that planes hold
-pub circuit_held : (f : ℕ → ℕ) (gates : List Gate) (places : List ℕ) (n : ℕ) (new old : List (List Bool)) → length old ≡ 8
-    → ((bs : List Bool) → length bs ≡ 8 → number (computed gates places bs) ≡ f (number bs))
-    → ((i : ℕ) → i < 16 * n → Runs gates places (map (λ w. at w i) old) (map (λ w. at w i) new))
-    → held n new ≡ map (map f) (held n old)
-circuit_held f gates places n new old l claim ran =
-    bytes_held f n new old (λ i h. ap number (run_is (ran i h)) ∙ claim (map (λ w. at w i) old) (length-map old (λ w. at w i) ∙ l))
+-- the bits of planes at a place
+abbrev pub bits_at : List (List Bool) → ℕ → List Bool
+bits_at planes i = map (λ w. at w i) planes
+
+-- the results come by these gates from these planes of w bits: one step a gate, as the contract of a word's call has it
+pub data Runs (w : ℕ) : List Gate → List ℕ → List (List Bool) → List (List Bool) → Type 0 where
+  done : {places : List ℕ} {env results : List (List Bool)}
+      → ((i : ℕ) → bits_at results i ≡ outs places (bits_at env i)) → Runs w [] places env results
+  ◌▸◌ : {g : Gate} {gs : List Gate} {places : List ℕ} {env results : List (List Bool)} {x : List Bool}
+      → ((i : ℕ) → i < w → at x i ≡ gate g (bits_at env i)) → Runs w gs places (x ∷ env) results
+      → Runs w (g ∷ gs) places env results
+
+run_is : {w : ℕ} {gs : List Gate} {places : List ℕ} {env results : List (List Bool)} → Runs w gs places env results
+    → (i : ℕ) → i < w → bits_at results i ≡ computed gs places (bits_at env i)
+run_is (done e) i h = e i
+run_is (◌▸◌ {gs = gs} {places = places} {env = env} e r) i h =
+    run_is r i h ∙ ap (λ v. computed gs places (v ∷ bits_at env i)) (e i h)
+
+-- a circuit that makes f of every byte makes f of every byte that eight words hold
+module _ {A : Type 0} (bits : A → List Bool) (n w : ℕ) (wide : w ≡ 16 * n) (xs : List A) (l : length xs ≡ 8) where
+  pub circuit_held : {gates : List Gate} {places : List ℕ} {f : ℕ → ℕ} {new : List (List Bool)}
+      → Computes gates places f
+      → (a b c d e u v z : A) → Runs w gates places (map bits (get_or xs 0 a ∷ get_or xs 1 b ∷ get_or xs 2 c
+      ∷ get_or xs 3 d ∷ get_or xs 4 e ∷ get_or xs 5 u ∷ get_or xs 6 v ∷ get_or xs 7 z ∷ [])) new
+      → held n new ≡ map (map f) (held n (map bits xs))
+  circuit_held {f = f} claim a b c d e u v z ran =
+      bytes_held f n _ _ (λ i h. ap number (run_is ran i (omega arith)) ∙ claim.of_bits _ refl)
+      ∙ ap (λ ys. map (map f) (held n (map bits ys))) (sym (eight xs a b c d e u v z l))

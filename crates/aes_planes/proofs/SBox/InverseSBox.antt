@@ -1,89 +1,96 @@
 -- The S-box and its inverse: their tables, and that they undo each other.
-use Rattle.std.proofs.Common.{◌≡◌, ◌⊎◌, inl, inr, ℕ, zero, suc, ◌+◌, ◌<◌, ◌≤◌, ◌==◌, Bool, true, false, ◌&&◌, nat_lt, get_or, refl, sym, ap, ◌∙◌, arith}
-use Rattle.std.proofs.lemmas.Bool.{eqb-true, eq-eqb, cases_lt}
+use Rattle.std.proofs.Common.{◌≡◌, inl, inr, ℕ, zero, suc, ◌+◌, ◌<◌, ◌≤◌, ◌==◌, Bool, true, false, ◌&&◌, nat_lt, get_or}
+use Rattle.std.proofs.Common.{refl, sym, ap, ◌∙◌, arith}
+use Rattle.std.proofs.lemmas.Bool.{cases_lt, eqb-true, eq-eqb, and_parts, ltb-true}
 use Rattle.aes_planes.specs.Fips197.{sbox, inv_sbox, first_from, least_byte}
 use Rattle.aes_planes.specs.SBoxTables.{sbox_table, inv_sbox_table}
-use Rattle.aes_planes.proofs.Bits.ByteCases.{all_below, all_below_tells, both, nat_lt_tells, eq_false}
+use Rattle.aes_planes.proofs.Bits.ByteCases.{all_below, all_below_tells}
 
-listed : ℕ → Bool
-listed b = sbox b == get_or sbox_table b 0
+abbrev pub listed : ℕ → ℕ
+listed b = get_or sbox_table b 0
 
-listed_all : all_below 256 listed ≡ true
-unfolding all_below listed sbox sbox_table
-listed_all = refl
+abbrev pub inv_listed : ℕ → ℕ
+inv_listed b = get_or inv_sbox_table b 0
 
-pub sbox_listed : (b : ℕ) → b < 256 → sbox b ≡ get_or sbox_table b 0
-unfolding listed
-sbox_listed b h = eqb-true _ _ (all_below_tells 256 listed listed_all b h)
+-- the table has the S-box of b, the tables undo each other at b, and have bytes there
+tables : ℕ → Bool
+tables b =
+    (sbox b == listed b) && ((inv_listed (listed b) == b) && ((listed (inv_listed b) == b)
+    && (nat_lt (listed b) 256 && nat_lt (inv_listed b) 256)))
 
-forth : ℕ → Bool
-forth b = get_or inv_sbox_table (get_or sbox_table b 0) 0 == b
+tables_all : all_below 256 tables ≡ true
+unfolding all_below tables sbox sbox_table inv_sbox_table
+tables_all = refl
 
-forth_all : all_below 256 forth ≡ true
-unfolding all_below forth sbox_table inv_sbox_table
-forth_all = refl
+record Listed (b : ℕ) : Type 0 where
+  own : sbox b ≡ listed b
+  back : inv_listed (listed b) ≡ b
+  forth : listed (inv_listed b) ≡ b
+  byte : listed b < 256
+  inv_byte : inv_listed b < 256
 
-sbox_undone : (b : ℕ) → b < 256 → get_or inv_sbox_table (sbox b) 0 ≡ b
-unfolding forth
-sbox_undone b h = ap (λ v. get_or inv_sbox_table v 0) (sbox_listed b h) ∙ eqb-true _ _ (all_below_tells 256 forth forth_all b h)
+in_tables : (b : ℕ) → b < 256 → Listed b
+unfolding tables
+in_tables b h =
+    let p = and_parts _ _ (all_below_tells 256 tables tables_all b h) in
+    let q = and_parts _ _ p.1 in
+    let r = and_parts _ _ q.1 in
+    let s = and_parts _ _ r.1 in
+    record {
+      own = eqb-true _ _ p.0;
+      back = eqb-true _ _ q.0;
+      forth = eqb-true _ _ r.0;
+      byte = ltb-true _ _ s.0;
+      inv_byte = ltb-true _ _ s.1;
+    }
 
-pub sbox_apart : (a b : ℕ) → a < 256 → b < 256 → sbox a ≡ sbox b → a ≡ b
-sbox_apart a b h k e = sym (sbox_undone a h) ∙ ap (λ v. get_or inv_sbox_table v 0) e ∙ sbox_undone b k
-
--- the first number that passes
-first_step : (p : ℕ → Bool) (n a b : ℕ) → a ≤ b → p b ≡ true → ((x : ℕ) → a ≤ x → x < b → p x ≡ false) → (a < b) ⊎ (b ≤ a) → (a < b → first_from p (a + 1) n ≡ b) → first_from p a (suc n) ≡ b
-unfolding first_from
-first_step p n a b le here before (inl l) later = ap (λ v. elim v as (λ _. ℕ) [ true ↦ a | false ↦ first_from p (a + 1) n ]) (before a (omega arith) l) ∙ later l
-first_step p n a b le here before (inr l) later = let e : b ≡ a = omega arith in ap (λ v. elim v as (λ _. ℕ) [ true ↦ a | false ↦ first_from p (a + 1) n ]) (ap p (sym e) ∙ here) ∙ sym e
-
-first_is : (p : ℕ → Bool) (n a b : ℕ) → a ≤ b → b < a + n → p b ≡ true → ((x : ℕ) → a ≤ x → x < b → p x ≡ false) → first_from p a n ≡ b
-first_is p zero a b le lt here before = absurd (omega arith)
-first_is p (suc n) a b le lt here before = first_step p n a b le here before (cases_lt a b) (λ l. first_is p n (a + 1) b (omega arith) (omega arith) here (λ x h k. before x (omega arith) k))
-
-pub least_is : (p : ℕ → Bool) (b : ℕ) → b < 256 → p b ≡ true → ((x : ℕ) → x < b → p x ≡ false) → least_byte p ≡ b
-unfolding least_byte
-least_is p b lt here before = first_is p 256 0 b (omega arith) lt here (λ x l k. before x k)
-
-pub inv_sbox_of_sbox : (b : ℕ) → b < 256 → inv_sbox (sbox b) ≡ b
-unfolding inv_sbox
-inv_sbox_of_sbox b h =
-    least_is (λ x. sbox x == sbox b) b h (eq-eqb (sbox b) (sbox b) refl)
-    (λ x k. eq_false (sbox x) (sbox b) (λ e. let same : x ≡ b = sbox_apart x b (omega arith) h e in omega arith))
-
-back : ℕ → Bool
-back y = (get_or sbox_table (get_or inv_sbox_table y 0) 0 == y) && nat_lt (get_or inv_sbox_table y 0) 256
-
-back_all : all_below 256 back ≡ true
-unfolding all_below back sbox_table inv_sbox_table
-back_all = refl
-
--- every byte is the S-box of a byte
-pub source : (y : ℕ) → y < 256 → (x : ℕ) × (x < 256) × (sbox x ≡ y)
-unfolding back
-source y h =
-    let t = both _ _ (all_below_tells 256 back back_all y h) in
-    let lt : get_or inv_sbox_table y 0 < 256 = nat_lt_tells _ _ t.1 in
-    (get_or inv_sbox_table y 0, lt, sbox_listed _ lt ∙ eqb-true _ _ t.0)
-
-pub sbox_of_inv_sbox : (y : ℕ) → y < 256 → sbox (inv_sbox y) ≡ y
-sbox_of_inv_sbox y h =
-    let s = source y h in
-    ap (λ v. sbox (inv_sbox v)) (sym s.2) ∙ ap sbox (inv_sbox_of_sbox s.0 s.1) ∙ s.2
-
-pub inv_sbox_byte : (y : ℕ) → y < 256 → inv_sbox y < 256
-inv_sbox_byte y h = let s = source y h in let e : inv_sbox y ≡ s.0 = ap inv_sbox (sym s.2) ∙ inv_sbox_of_sbox s.0 s.1 in rw e s.1
-
-small : ℕ → Bool
-small b = nat_lt (get_or sbox_table b 0) 256
-
-small_all : all_below 256 small ≡ true
-unfolding all_below small sbox_table
-small_all = refl
+pub sbox_listed : (b : ℕ) → b < 256 → sbox b ≡ listed b
+sbox_listed b h = (in_tables b h).own
 
 pub sbox_byte : (b : ℕ) → b < 256 → sbox b < 256
-unfolding small
-sbox_byte b h = rw (sbox_listed b h) (nat_lt_tells _ _ (all_below_tells 256 small small_all b h))
+sbox_byte b h = rw (sbox_listed b h) ((in_tables b h).byte)
+
+sbox_undone : (b : ℕ) → b < 256 → inv_listed (sbox b) ≡ b
+sbox_undone b h = ap inv_listed (sbox_listed b h) ∙ (in_tables b h).back
+
+-- ---- the inverse S-box is a search
+
+-- what passes a test and is below a bound
+abbrev Passes : (ℕ → Bool) → ℕ → ℕ → Type 0
+Passes p x bound = (p x ≡ true) × (x < bound)
+
+first_case : (p : ℕ → Bool) (n c b : ℕ) (here : Bool) → p c ≡ here → c ≤ b → p b ≡ true
+    → (c + 1 ≤ b → Passes p (first_from p (c + 1) n) (c + suc n))
+    → Passes p (elim here as (λ _. ℕ) [ true ↦ c | false ↦ first_from p (c + 1) n ]) (c + suc n)
+first_case p n c b true own le e later = (own, omega arith)
+first_case p n c b false own le e later = later (elim (cases_lt c b) [
+  | inl lt ↦ omega arith
+  | inr ge ↦ let same : b ≡ c = omega arith in absurd (grind (arith, sym own ∙ ap p (sym same) ∙ e))
+])
+
+-- the first of n numbers from c on that passes a test does pass it, if one of them does
+first_passes : (p : ℕ → Bool) (n c b : ℕ) → c ≤ b → b < c + n → p b ≡ true → Passes p (first_from p c n) (c + n)
+unfolding first_from
+first_passes p zero c b le lt e = absurd (omega arith)
+first_passes p (suc n) c b le lt e = first_case p n c b (p c) refl le e (λ more.
+    let f = first_passes p n (c + 1) b more (omega arith) e in (f.0, omega (arith, f.1)))
+
+inverted : (y : ℕ) → y < 256 → Passes (λ b. sbox b == y) (inv_sbox y) 256
+unfolding inv_sbox least_byte
+inverted y h =
+    let t = in_tables y h in
+    first_passes (λ b. sbox b == y) 256 0 (inv_listed y) (omega arith) t.inv_byte
+    (eq-eqb _ _ (sbox_listed (inv_listed y) t.inv_byte ∙ t.forth))
+
+pub sbox_of_inv_sbox : (y : ℕ) → y < 256 → sbox (inv_sbox y) ≡ y
+sbox_of_inv_sbox y h = eqb-true _ _ (inverted y h).0
+
+pub inv_sbox_byte : (y : ℕ) → y < 256 → inv_sbox y < 256
+inv_sbox_byte y h = (inverted y h).1
 
 -- the inverse S-box is its table
-pub inv_sbox_listed : (y : ℕ) → y < 256 → inv_sbox y ≡ get_or inv_sbox_table y 0
-inv_sbox_listed y h = let s = source y h in ap inv_sbox (sym s.2) ∙ inv_sbox_of_sbox s.0 s.1 ∙ sym (ap (λ v. get_or inv_sbox_table v 0) (sym s.2) ∙ sbox_undone s.0 s.1)
+pub inv_sbox_listed : (y : ℕ) → y < 256 → inv_sbox y ≡ inv_listed y
+inv_sbox_listed y h = sym (sbox_undone (inv_sbox y) (inv_sbox_byte y h)) ∙ ap inv_listed (sbox_of_inv_sbox y h)
+
+pub inv_sbox_of_sbox : (b : ℕ) → b < 256 → inv_sbox (sbox b) ≡ b
+inv_sbox_of_sbox b h = inv_sbox_listed (sbox b) (sbox_byte b h) ∙ sbox_undone b h

@@ -1,24 +1,30 @@
 -- Swaps of bits under a mask, column by column.
-use Rattle.std.proofs.Common.{◌≡◌, ℕ, zero, suc, ◌+◌, ◌-◌, ◌*◌, ◌/◌, ◌%◌, ◌<◌, ◌≤◌, Bool, true, false, cond, ◌&&◌, ◌||◌, not, nat_le, nat_lt, List, [], ◌∷◌, get_or, refl, ap, sym, ◌∙◌, ◌⊎◌, inl, inr, arith, mul-le-mul_right}
+use Rattle.std.proofs.Common.{◌≡◌, ℕ, zero, suc, ◌+◌, ◌-◌, ◌*◌, ◌/◌, ◌%◌, ◌<◌, ◌≤◌, Bool, true, false, cond, ◌&&◌, ◌||◌}
+use Rattle.std.proofs.Common.{not, nat_le, nat_lt, List, [], ◌∷◌, get_or, length, map, refl, ap, sym, ◌∙◌, ◌⊎◌, inl}
+use Rattle.std.proofs.Common.{inr, arith}
+use Rattle.std.proofs.Common.{mul-le-mul_right}
 use Rattle.std.proofs.Math.Bool.{and-false}
-use Rattle.std.proofs.lemmas.Bool.{cases_lt, le-leb, lt-leb, lt-ltb, leb-true, ltb-true}
+use Rattle.std.proofs.lemmas.Bool.{cases_lt, le-leb, lt-leb, lt-ltb, leb-true, ltb-true, and_parts, not-true}
+use Rattle.std.proofs.lemmas.Bool.{false_from_ne_true}
 use Rattle.std.proofs.lemmas.Nat.{mul-add-lt}
-use Rattle.aes_planes.specs.Bits.{at, bit, xor}
+use Rattle.aes_planes.specs.Bits.{at, bit, xor, Places}
 use Rattle.aes_planes.specs.Fips197.{state, build, shift_rows, inv_shift_rows, shift_times, inv_shift_times}
-use Rattle.aes_planes.specs.Planes.{place}
+use Rattle.aes_planes.specs.Planes.{held, held_byte, place}
 use Rattle.aes_planes.specs.Private.Swaps.{moved_bit, swapped_bit, source, is_swap_at, columns_swapped}
 use Rattle.aes_planes.proofs.Standard.States.{byte_at-state, state_same}
-use Rattle.aes_planes.proofs.Bits.BitCases.{swapped}
-use Rattle.aes_planes.proofs.Bits.ByteCases.{all_below, all_below_tells, both}
-use Rattle.aes_planes.proofs.Planes.Held.{place_lt, column_of}
+use Rattle.aes_planes.proofs.Bits.BitCases.{eight, swapped}
+use Rattle.aes_planes.proofs.Bits.ByteCases.{all_below, all_below_both}
+use Rattle.aes_planes.proofs.Planes.Held.{place_lt, column_of, stepped_held}
 use lib.Arith.{digits_div}
 
+infixr 10 ◌▹◌
 -- ---- one bit
 
 -- the bit that a swap leaves at i, where i is not both under the mask and above a bit under it
 swapped_pick : (B s i : ℕ) (a mask : List Bool) → i < B → (at mask i && (nat_le s i && at mask (i - s))) ≡ false
     → (s ≤ i) ⊎ (nat_le s i ≡ false)
-    → swapped_bit B a mask s i ≡ cond (at mask i) (nat_lt (i + s) B && at a (i + s)) (cond (nat_le s i && at mask (i - s)) (at a (i - s)) (at a i))
+    → swapped_bit B a mask s i ≡ cond (at mask i) (nat_lt (i + s) B && at a (i + s))
+    (cond (nat_le s i && at mask (i - s)) (at a (i - s)) (at a i))
 swapped_pick B s i a mask h e (inl le) =
     let t : nat_le s i ≡ true = le-leb s i le in
     let j : i - s + s ≡ i = omega arith in
@@ -44,8 +50,10 @@ swapped_pick B s i a mask h e (inr f) =
 -- ---- by rows and columns, where the mask has a nibble for each row
 
 -- a nibble for each row, read at a place
-pub row_mask : (n B R Q r c k : ℕ) (nibbles : List ℕ) (mask : List Bool) → R ≡ 4 * n → Q ≡ n → B ≡ 16 * n → r < 4 → c < 4 → k < n
-    → ((i : ℕ) → i < B → at mask i ≡ bit (get_or nibbles (i / R) 0) (i % R / Q)) → at mask (place n r c k) ≡ bit (get_or nibbles r 0) c
+pub row_mask : (n B R Q r c k : ℕ) (nibbles : List ℕ) (mask : List Bool) → R ≡ 4 * n → Q ≡ n → B ≡ 16 * n → r < 4
+    → c < 4 → k < n
+    → ((i : ℕ) → i < B → at mask i ≡ bit (get_or nibbles (i / R) 0) (i % R / Q))
+    → at mask (place n r c k) ≡ bit (get_or nibbles r 0) c
 row_mask n B R Q r c k nibbles mask eR eQ eB h l kn reads =
     let x : c * n + k < 4 * n = omega (arith, mul-add-lt c n k 4 l kn) in
     let p = place n r c k in
@@ -58,26 +66,20 @@ implied : (u v : Bool) → (not u || v) ≡ true → u ≡ true → v ≡ true
 implied true v h e = h
 implied false v h e = absurd (grind arith)
 
-not_true : (b : Bool) → not b ≡ true → b ≡ false
-not_true true h = absurd (grind arith)
-not_true false h = refl
-
-false_from_not : (b : Bool) → (b ≡ true → ⊥) → b ≡ false
-false_from_not true h = absurd (h refl)
-false_from_not false h = refl
-
 -- f of whichever of three numbers two tests choose
-chosen : {A : Type 0} (b q : Bool) (y z w : A) (f : ℕ → A) (u v x : ℕ) → (b ≡ true → y ≡ f u) → (q ≡ true → z ≡ f v) → w ≡ f x → cond b y (cond q z w) ≡ f (cond b u (cond q v x))
+chosen : {A : Type 0} (b q : Bool) (y z w : A) (f : ℕ → A) (u v x : ℕ) → (b ≡ true → y ≡ f u) → (q ≡ true → z ≡ f v)
+    → w ≡ f x → cond b y (cond q z w) ≡ f (cond b u (cond q v x))
 chosen true q y z w f u v x p r s = p refl
 chosen false true y z w f u v x p r s = r refl
 chosen false false y z w f u v x p r s = s
 
 module _ (d : ℕ) (nibbles : List ℕ) (ok : (r c : ℕ) → r < 4 → c < 4 → is_swap_at d nibbles r c ≡ true) where
   inside : (r c : ℕ) → r < 4 → c < 4 → bit (get_or nibbles r 0) c ≡ true → c + d < 4
-  inside r c h l e = ltb-true (c + d) 4 (implied _ _ (both _ _ (ok r c h l)).0 e)
+  inside r c h l e = ltb-true (c + d) 4 (implied _ _ (and_parts _ _ (ok r c h l)).0 e)
 
-  apart : (r c : ℕ) → r < 4 → c < 4 → (bit (get_or nibbles r 0) c && (nat_le d c && bit (get_or nibbles r 0) (c - d))) ≡ false
-  apart r c h l = not_true _ (both _ _ (ok r c h l)).1
+  apart : (r c : ℕ) → r < 4 → c < 4 → (bit (get_or nibbles r 0) c && (nat_le d c && bit (get_or nibbles r 0) (c - d)))
+      ≡ false
+  apart r c h l = not-true _ (and_parts _ _ (ok r c h l)).1
 
   source_lt_if : (r c : ℕ) → c < 4 → (b q : Bool) → (b ≡ true → c + d < 4) → cond b (c + d) (cond q (c - d) c) < 4
   source_lt_if r c l true q e = e refl
@@ -87,19 +89,23 @@ module _ (d : ℕ) (nibbles : List ℕ) (ok : (r c : ℕ) → r < 4 → c < 4 �
   pub source_lt : (r c : ℕ) → r < 4 → c < 4 → source d nibbles r c < 4
   source_lt r c h l = source_lt_if r c l (bit (get_or nibbles r 0) c) _ (inside r c h l)
 
-  pub columns_swapped-state : (f : ℕ → ℕ → ℕ) → state (λ r c. f r (source d nibbles r c)) ≡ columns_swapped d nibbles (state f)
+  pub columns_swapped-state : (f : ℕ → ℕ → ℕ) → state (λ r c. f r (source d nibbles r c))
+      ≡ columns_swapped d nibbles (state f)
   unfolding columns_swapped
-  columns_swapped-state f = state_same _ _ (λ r c h l. sym (byte_at-state f r (source d nibbles r c) h (source_lt r c h l)))
+  columns_swapped-state f =
+      state_same _ _ (λ r c h l. sym (byte_at-state f r (source d nibbles r c) h (source_lt r c h l)))
 
   module _ (n k : ℕ) (a mask : List Bool) (kn : k < n)
       (masked : (r c : ℕ) → r < 4 → c < 4 → at mask (place n r c k) ≡ bit (get_or nibbles r 0) c) where
     -- the bit d columns down, where there are so many
-    below_in : (r c e : ℕ) → r < 4 → c < 4 → c ≡ e + d → (d * n ≤ place n r c k) × (place n r c k - d * n ≡ place n r e k)
+    below_in : (r c e : ℕ) → r < 4 → c < 4 → c ≡ e + d → (d * n ≤ place n r c k)
+        × (place n r c k - d * n ≡ place n r e k)
     below_in r c e h l p =
         let m : c * n ≡ (e + d) * n = ap (λ v. v * n) p in
         (omega arith, omega arith)
 
-    below_out : (r c : ℕ) → r < 4 → c < d → d < 4 → (nat_le (d * n) (place n r c k) && at mask (place n r c k - d * n)) ≡ false
+    below_out : (r c : ℕ) → r < 4 → c < d → d < 4 → (nat_le (d * n) (place n r c k) && at mask (place n r c k - d * n))
+        ≡ false
     below_out zero c h l dl =
         let m : suc c * n ≤ d * n = mul-le-mul_right n l in
         ap (λ v. v && at mask (place n 0 c k - d * n)) (lt-leb (d * n) (place n 0 c k) (omega arith))
@@ -107,11 +113,16 @@ module _ (d : ℕ) (nibbles : List ℕ) (ok : (r c : ℕ) → r < 4 → c < 4 �
         let e : ℕ = c + 4 - d in
         let p : (c + 4) * n ≡ (e + d) * n = ap (λ v. v * n) (omega arith) in
         let j : place n (suc r) c k - d * n ≡ place n r e k = omega arith in
-        let f : bit (get_or nibbles r 0) e ≡ false = false_from_not _ (λ t. let s = inside r e (omega arith) (omega arith) t in omega arith) in
-        ap (λ v. nat_le (d * n) (place n (suc r) c k) && v) (ap (at mask) j ∙ masked r e (omega arith) (omega arith) ∙ f) ∙ and-false _
+        let f : bit (get_or nibbles r 0) e ≡ false = false_from_ne_true _
+        (λ t. let s = inside r e (omega arith) (omega arith) t in omega arith) in
+        ap (λ v. nat_le (d * n) (place n (suc r) c k) && v)
+        (ap (at mask) j ∙ masked r e (omega arith) (omega arith) ∙ f) ∙ and-false _
 
-    partner : (r c : ℕ) → r < 4 → c < 4 → d < 4 → (c < d) ⊎ (d ≤ c) → (nat_le (d * n) (place n r c k) && at mask (place n r c k - d * n)) ≡ (nat_le d c && bit (get_or nibbles r 0) (c - d))
-    partner r c h l dl (inl lt) = below_out r c h lt dl ∙ ap (λ v. v && bit (get_or nibbles r 0) (c - d)) (sym (lt-leb d c lt))
+    partner : (r c : ℕ) → r < 4 → c < 4 → d < 4 → (c < d) ⊎ (d ≤ c)
+        → (nat_le (d * n) (place n r c k) && at mask (place n r c k - d * n))
+        ≡ (nat_le d c && bit (get_or nibbles r 0) (c - d))
+    partner r c h l dl (inl lt) =
+        below_out r c h lt dl ∙ ap (λ v. v && bit (get_or nibbles r 0) (c - d)) (sym (lt-leb d c lt))
     partner r c h l dl (inr le) =
         let w = below_in r c (c - d) h l (omega arith) in
         (λ t. le-leb (d * n) (place n r c k) w.0 t && (ap (at mask) w.1 ∙ masked r (c - d) h (omega arith)) t)
@@ -121,25 +132,58 @@ module _ (d : ℕ) (nibbles : List ℕ) (ok : (r c : ℕ) → r < 4 → c < 4 �
     sides i (inl lt) = inr (lt-leb (d * n) i lt)
     sides i (inr le) = inl le
 
-    pub swapped_rc : (r c : ℕ) → r < 4 → c < 4 → d < 4 → swapped_bit (16 * n) a mask (d * n) (place n r c k) ≡ at a (place n r (source d nibbles r c) k)
+    pub swapped_rc : (r c : ℕ) → r < 4 → c < 4 → d < 4 → swapped_bit (16 * n) a mask (d * n) (place n r c k)
+        ≡ at a (place n r (source d nibbles r c) k)
     swapped_rc r c h l dl =
         let i = place n r c k in
         let q = partner r c h l dl (cases_lt c d) in
         let m = masked r c h l in
-        swapped_pick (16 * n) (d * n) i a mask (place_lt n r c k h l kn) ((λ t. m t && q t) ∙ apart r c h l) (sides i (cases_lt i (d * n)))
+        swapped_pick (16 * n) (d * n) i a mask (place_lt n r c k h l kn) ((λ t. m t && q t) ∙ apart r c h l)
+        (sides i (cases_lt i (d * n)))
         ∙ (λ t. cond (m t) (nat_lt (i + d * n) (16 * n) && at a (i + d * n)) (cond (q t) (at a (i - d * n)) (at a i)))
-        ∙ chosen (bit (get_or nibbles r 0) c) (nat_le d c && bit (get_or nibbles r 0) (c - d)) _ _ _ (λ v. at a (place n r v k)) (c + d) (c - d) c
+        ∙ chosen (bit (get_or nibbles r 0) c) (nat_le d c && bit (get_or nibbles r 0) (c - d)) _ _ _
+        (λ v. at a (place n r v k)) (c + d) (c - d) c
         (λ t.
         let s = inside r c h l t in
         let p : i + d * n ≡ place n r (c + d) k = omega arith in
-        ap (λ v. nat_lt v (16 * n) && at a v) p ∙ ap (λ v. v && at a (place n r (c + d) k)) (lt-ltb _ _ (place_lt n r (c + d) k h s kn)))
-        (λ t. ap (at a) (below_in r c (c - d) h l (let s = leb-true d c (both _ _ t).0 in omega arith)).1)
+        ap (λ v. nat_lt v (16 * n) && at a v) p ∙ ap (λ v. v && at a (place n r (c + d) k))
+        (lt-ltb _ _ (place_lt n r (c + d) k h s kn)))
+        (λ t. ap (at a) (below_in r c (c - d) h l (let s = leb-true d c (and_parts _ _ t).0 in omega arith)).1)
         refl
 
--- ---- the swaps of the shifts
+-- ---- eight words
 
-swaps_all : (d : ℕ) (nibbles : List ℕ) → all_below 4 (λ r. all_below 4 (λ c. is_swap_at d nibbles r c)) ≡ true → (r c : ℕ) → r < 4 → c < 4 → is_swap_at d nibbles r c ≡ true
-swaps_all d nibbles ok r c h l = all_below_tells 4 (λ c. is_swap_at d nibbles r c) (all_below_tells 4 (λ r. all_below 4 (λ c. is_swap_at d nibbles r c)) ok r h) c l
+-- planes whose bits are swapped under one mask with those s above, plane by plane
+pub data Swapped (B s : ℕ) (mask : List Bool) : List (List Bool) → List (List Bool) → Type 0 where
+  none : Swapped B s mask [] []
+  ◌▹◌ : {x y : List Bool} {old new : List (List Bool)} → Places B y (swapped_bit B x mask s) → Swapped B s mask old new
+      → Swapped B s mask (x ∷ old) (y ∷ new)
+
+-- the byte at p is the one at q before, where each bit is
+swapped_byte : {B s : ℕ} {mask : List Bool} {old new : List (List Bool)} (p q : ℕ) → Swapped B s mask old new → p < B
+    → ((x : List Bool) → swapped_bit B x mask s p ≡ at x q) → held_byte new p ≡ held_byte old q
+swapped_byte p q none lt e = refl
+swapped_byte p q (◌▹◌ {x = x} h r) lt e = λ t. cond ((h p lt ∙ e x) t) 1 0 + 2 * swapped_byte p q r lt e t
+
+pub swapped_held : {A : Type 0} (bits : A → List Bool) (n B R Q s d : ℕ) (nibbles : List ℕ) (mask : List Bool)
+    → B ≡ 16 * n → R ≡ 4 * n → Q ≡ n → d < 4 → s ≡ d * n
+    → ((r c : ℕ) → r < 4 → c < 4 → is_swap_at d nibbles r c ≡ true)
+    → Places B mask (λ i. bit (get_or nibbles (i / R) 0) (i % R / Q))
+    → (new : List (List Bool)) (xs : List A) → length xs ≡ 8 → (a b c d' e u v z : A)
+    → Swapped B s mask (map bits (get_or xs 0 a ∷ get_or xs 1 b ∷ get_or xs 2 c ∷ get_or xs 3 d' ∷ get_or xs 4 e
+    ∷ get_or xs 5 u ∷ get_or xs 6 v ∷ get_or xs 7 z ∷ [])) new
+    → held n new ≡ map (columns_swapped d nibbles) (held n (map bits xs))
+swapped_held bits n B R Q s d nibbles mask eB eR eQ dl es ok masked new xs l a b c d' e u v z swaps =
+    stepped_held (columns_swapped d nibbles) (λ f r c. f r (source d nibbles r c)) n new _
+    (columns_swapped-state d nibbles ok)
+    (λ r c k h m kn.
+    let p = place n r c k in
+    let read = λ (r c : ℕ) (h : r < 4) (m : c < 4). row_mask n B R Q r c k nibbles mask eR eQ eB h m kn masked in
+    swapped_byte p (place n r (source d nibbles r c) k) swaps (omega (arith, eB, place_lt n r c k h m kn)) (λ x.
+    (λ t. swapped_bit (eB t) x mask (es t) p) ∙ swapped_rc d nibbles ok n k x mask kn read r c h m dl))
+    ∙ ap (λ ys. map (columns_swapped d nibbles) (held n (map bits ys))) (sym (eight xs a b c d' e u v z l))
+
+-- ---- the swaps of the shifts
 
 abbrev pub halves_1 : List ℕ
 halves_1 = 0 ∷ 1 ∷ 3 ∷ 2 ∷ []
@@ -155,19 +199,19 @@ pairs = 0 ∷ 5 ∷ 0 ∷ 5 ∷ []
 
 pub halves_1_swap : (r c : ℕ) → r < 4 → c < 4 → is_swap_at 2 halves_1 r c ≡ true
 unfolding all_below bit
-halves_1_swap = swaps_all 2 halves_1 refl
+halves_1_swap = all_below_both 4 4 (is_swap_at 2 halves_1) refl
 
 pub halves_2_swap : (r c : ℕ) → r < 4 → c < 4 → is_swap_at 2 halves_2 r c ≡ true
 unfolding all_below bit
-halves_2_swap = swaps_all 2 halves_2 refl
+halves_2_swap = all_below_both 4 4 (is_swap_at 2 halves_2) refl
 
 pub halves_3_swap : (r c : ℕ) → r < 4 → c < 4 → is_swap_at 2 halves_3 r c ≡ true
 unfolding all_below bit
-halves_3_swap = swaps_all 2 halves_3 refl
+halves_3_swap = all_below_both 4 4 (is_swap_at 2 halves_3) refl
 
 pub pairs_swap : (r c : ℕ) → r < 4 → c < 4 → is_swap_at 1 pairs r c ≡ true
 unfolding all_below bit
-pairs_swap = swaps_all 1 pairs refl
+pairs_swap = all_below_both 4 4 (is_swap_at 1 pairs) refl
 
 pub shifted_1 : (s : List ℕ) → columns_swapped 1 pairs (columns_swapped 2 halves_1 s) ≡ shift_times 1 s
 unfolding columns_swapped build shift_times shift_rows bit

@@ -1,30 +1,135 @@
 -- Cipher and InvCipher undo each other, and EqInvCipher is InvCipher.
-use Rattle.std.proofs.Common.{◌≡◌, ℕ, zero, suc, ◌+◌, ◌-◌, ◌<◌, ◌≤◌, ◌==◌, ◌||◌, Bool, true, false, if◌then◌else◌, List, [], length, refl, ap, sym, ◌∙◌, arith}
-use Rattle.std.proofs.lemmas.Bool.{eq-eqb}
-use Rattle.aes_planes.specs.Fips197.{IsBytes, round_key, last_round, sub_bytes, inv_sub_bytes, shift_rows, inv_shift_rows, mix_columns, inv_mix_columns, add_round_key, state_after, cipher_with, inv_state_after, inv_cipher_with, inverted_keys, eq_inv_state_after, eq_inv_cipher_with}
-use Rattle.aes_planes.proofs.Lists.Built.{get_or-build, length-build}
-use Rattle.aes_planes.proofs.Bits.ByteCases.{eq_false}
-use Rattle.aes_planes.proofs.Standard.States.{RowsBytes}
-use Rattle.aes_planes.proofs.Mixing.MixColumns.{inv_mix_of_mix, mix_of_inv_mix, inv_mix_columns_add}
-use Rattle.aes_planes.proofs.Standard.Steps.{shift_of_inv_shift, inv_shift_of_shift, inv_sub_of_sub, sub_of_inv_sub, inv_sub_shift, add_key_twice, sub_bytes_bytes, inv_sub_bytes_bytes, shift_bytes, inv_shift_bytes, add_bytes, mix_bytes, inv_mix_bytes, shift_length, inv_shift_length, mix_length, inv_mix_length, add_length, sub_length, inv_sub_length}
+use Rattle.std.proofs.Common.{◌≡◌, ℕ, zero, suc, ◌+◌, ◌-◌, ◌<◌, ◌≤◌, List, length, inl, inr, refl, ap, sym, subst, ◌∙◌}
+use Rattle.std.proofs.Common.{arith}
+use Rattle.aes_planes.specs.Fips197.{IsBlock, AreRoundKeys, round_key, last_round, sub_bytes, inv_sub_bytes, shift_rows}
+use Rattle.aes_planes.specs.Fips197.{inv_shift_rows, mix_columns, inv_mix_columns, add_round_key, state_after}
+use Rattle.aes_planes.specs.Fips197.{cipher_with, inv_state_after, inv_cipher_with, inverted_keys, eq_inv_state_after}
+use Rattle.aes_planes.specs.Fips197.{eq_inv_cipher_with}
+use Rattle.aes_planes.proofs.Standard.InvertedKeys.{inverted_length, inverted_end, inverted_middle}
+use Rattle.aes_planes.proofs.Mixing.MixColumns.{inv_mix_block, inv_mix_columns_add}
+use Rattle.aes_planes.proofs.Standard.Steps.{Undoes, both_undone, inv_sub_of_sub, sub_of_inv_sub, inv_shift_undoes}
+use Rattle.aes_planes.proofs.Standard.Steps.{shift_undoes, inv_mix_undoes, mix_undoes, add_undoes, inv_sub_shift}
+use Rattle.aes_planes.proofs.Standard.Steps.{add_length}
 
--- the two first steps of a round, and back
-sub_and_shift : (s : List ℕ) → length s ≡ 16 → IsBytes s → inv_sub_bytes (inv_shift_rows (shift_rows (sub_bytes s))) ≡ s
-sub_and_shift s l h = ap inv_sub_bytes (inv_shift_of_shift (sub_bytes s) (sub_length s ∙ l)) ∙ inv_sub_of_sub s h
+-- ---- a run of steps, and a run of steps that undo them in the other order
 
-inv_sub_and_shift : (s : List ℕ) → length s ≡ 16 → IsBytes s → shift_rows (sub_bytes (inv_sub_bytes (inv_shift_rows s))) ≡ s
-inv_sub_and_shift s l h = ap shift_rows (sub_of_inv_sub (inv_shift_rows s) (inv_shift_bytes s h)) ∙ shift_of_inv_shift s l
+-- the state after step n
+abbrev run : (List ℕ → List ℕ) → (ℕ → List ℕ → List ℕ) → List ℕ → ℕ → List ℕ
+run first step b zero = first b
+run first step b (suc n) = step (suc n) (run first step b n)
 
-module _ (w : List (List ℕ)) (b : List ℕ) (keys : RowsBytes w) (bytes : IsBytes b) where
-  pub after_bytes : (n : ℕ) → IsBytes (state_after w b n)
+-- nr + 1 steps and those that undo them: step i is undone by inverse step nr - i
+record Mirrored (nr : ℕ) (first last inv_first inv_last : List ℕ → List ℕ) (step inv_step : ℕ → List ℕ → List ℕ)
+    : Type 0 where
+  start : Undoes inv_last first
+  middle : (i j : ℕ) → i + j ≡ nr → Undoes (inv_step j) (step i)
+  end : Undoes inv_first last
+
+module _ (nr : ℕ) (first last inv_first inv_last : List ℕ → List ℕ) (step inv_step : ℕ → List ℕ → List ℕ)
+    (m : Mirrored nr first last inv_first inv_last step inv_step) (b : List ℕ) (block : IsBlock b) where
+  run_block : (n : ℕ) → n < nr → IsBlock (run first step b n)
+  run_block zero lt = m.start.block b block
+  run_block (suc n) lt =
+      (m.middle (suc n) (nr - suc n) (omega arith)).block (run first step b n) (run_block n (omega arith))
+
+  -- n steps back from the end of a run stands the state k steps on from its start
+  met : (n k : ℕ) → n + k + 1 ≡ nr → run inv_first inv_step (last (run first step b (nr - 1))) n ≡ run first step b k
+  met zero k e =
+      let i : nr - 1 ≡ k = omega (arith, e) in
+      m.end.undone (run first step b (nr - 1)) (run_block (nr - 1) (omega (arith, e))) ∙ ap (run first step b) i
+  met (suc n) k e =
+      ap (inv_step (suc n)) (met n (suc k) (omega (arith, e)))
+      ∙ (m.middle (suc k) (suc n) (omega (arith, e))).undone (run first step b k) (run_block k (omega (arith, e)))
+
+  run_undone : 1 ≤ nr → inv_last (run inv_first inv_step (last (run first step b (nr - 1))) (nr - 1)) ≡ b
+  run_undone some = ap inv_last (met (nr - 1) 0 (omega arith)) ∙ m.start.undone b block
+
+-- ---- the ciphers as runs
+
+module _ (w : List (List ℕ)) where
+  abbrev add_key : ℕ → List ℕ → List ℕ
+  add_key i s = add_round_key s (round_key w i)
+
+  -- AddRoundKey, SubBytes and ShiftRows, and back
+  abbrev forth : ℕ → List ℕ → List ℕ
+  forth i s = shift_rows (sub_bytes (add_key i s))
+
+  abbrev back : ℕ → List ℕ → List ℕ
+  back i s = add_key i (inv_sub_bytes (inv_shift_rows s))
+
+  -- with MixColumns before that, and after its inverse
+  abbrev mixed_forth : ℕ → List ℕ → List ℕ
+  mixed_forth i s = forth i (mix_columns s)
+
+  abbrev mixed_back : ℕ → List ℕ → List ℕ
+  mixed_back j s = inv_mix_columns (back (last_round w - j) s)
+
+  forth_run : (b : List ℕ) (n : ℕ) → shift_rows (sub_bytes (state_after w b n)) ≡ run (forth 0) mixed_forth b n
   unfolding state_after
-  after_bytes zero = add_bytes b (round_key w 0) bytes (keys 0)
-  after_bytes (suc n) = add_bytes (mix_columns (shift_rows (sub_bytes (state_after w b n)))) (round_key w (suc n)) (mix_bytes (shift_rows (sub_bytes (state_after w b n)))) (keys (suc n))
+  forth_run b zero = refl
+  forth_run b (suc n) = ap (mixed_forth (suc n)) (forth_run b n)
 
-  inv_after_bytes : (n : ℕ) → IsBytes (inv_state_after w b n)
+  back_run : (b : List ℕ) (n : ℕ) → inv_state_after w b n ≡ run (add_key (last_round w)) mixed_back b n
   unfolding inv_state_after
-  inv_after_bytes zero = add_bytes b (round_key w (last_round w)) bytes (keys (last_round w))
-  inv_after_bytes (suc n) = inv_mix_bytes (add_round_key (inv_sub_bytes (inv_shift_rows (inv_state_after w b n))) (round_key w (last_round w - suc n)))
+  back_run b zero = refl
+  back_run b (suc n) = ap (mixed_back (suc n)) (back_run b n)
+
+  cipher_run : (b : List ℕ) → cipher_with w b ≡ add_key (last_round w) (run (forth 0) mixed_forth b (last_round w - 1))
+  unfolding cipher_with
+  cipher_run b = ap (add_key (last_round w)) (forth_run b (last_round w - 1))
+
+  inv_cipher_run : (b : List ℕ)
+      → inv_cipher_with w b ≡ back 0 (run (add_key (last_round w)) mixed_back b (last_round w - 1))
+  unfolding inv_cipher_with
+  inv_cipher_run b = ap (back 0) (back_run b (last_round w - 1))
+
+  module _ (keys : AreRoundKeys w) where
+    key_undoes : (i : ℕ) → i ≤ last_round w → Undoes (add_key i) (add_key i)
+    key_undoes i le = add_undoes (round_key w i) (keys.blocks i (omega (arith, keys.two))).1
+
+    back_undoes : (i : ℕ) → i ≤ last_round w → Undoes (back i) (forth i)
+    back_undoes i le = both_undone (key_undoes i le) (both_undone inv_sub_of_sub inv_shift_undoes)
+
+    forth_undoes : (i : ℕ) → i ≤ last_round w → Undoes (forth i) (back i)
+    forth_undoes i le = both_undone (both_undone shift_undoes sub_of_inv_sub) (key_undoes i le)
+
+    encryption : Mirrored (last_round w) (forth 0) (add_key (last_round w)) (add_key (last_round w)) (back 0)
+        mixed_forth mixed_back
+    encryption = record {
+      start = back_undoes 0 (omega arith);
+      middle = λ i j e. let k : i ≡ last_round w - j = omega arith in
+          subst (λ (v : ℕ). Undoes (λ s. inv_mix_columns (back v s)) (mixed_forth i)) k
+          (both_undone inv_mix_undoes (back_undoes i (omega arith)));
+      end = key_undoes (last_round w) (omega arith);
+    }
+
+    decryption : Mirrored (last_round w) (add_key (last_round w)) (back 0) (forth 0) (add_key (last_round w)) mixed_back
+        mixed_forth
+    decryption = record {
+      start = key_undoes (last_round w) (omega arith);
+      middle = λ i j e. let k : j ≡ last_round w - i = omega arith in
+          subst (λ (v : ℕ). Undoes (mixed_forth j) (λ s. inv_mix_columns (back v s))) k
+          (both_undone (forth_undoes j (omega arith)) mix_undoes);
+      end = forth_undoes 0 (omega arith);
+    }
+
+    pub inv_cipher_of_cipher : (b : List ℕ) → IsBlock b → inv_cipher_with w (cipher_with w b) ≡ b
+    inv_cipher_of_cipher b h =
+        inv_cipher_run (cipher_with w b)
+        ∙ ap (λ v. back 0 (run (add_key (last_round w)) mixed_back v (last_round w - 1))) (cipher_run b)
+        ∙ run_undone _ _ _ _ _ _ _ encryption b h (omega (arith, keys.two))
+
+    pub cipher_of_inv_cipher : (b : List ℕ) → IsBlock b → cipher_with w (inv_cipher_with w b) ≡ b
+    cipher_of_inv_cipher b h =
+        cipher_run (inv_cipher_with w b)
+        ∙ ap (λ v. add_key (last_round w) (run (forth 0) mixed_forth v (last_round w - 1))) (inv_cipher_run b)
+        ∙ run_undone _ _ _ _ _ _ _ decryption b h (omega (arith, keys.two))
+
+    pub cipher_block : (b : List ℕ) → IsBlock b → IsBlock (cipher_with w b)
+    cipher_block b h = rw (cipher_run b) (encryption.end.block (run (forth 0) mixed_forth b (last_round w - 1))
+        (run_block _ _ _ _ _ _ _ encryption b h (last_round w - 1) (omega (arith, keys.two))))
+
+-- ---- the equivalent inverse cipher
 
 pub after_length : (w : List (List ℕ)) (b : List ℕ) (n : ℕ) → length (state_after w b n) ≡ 16
 unfolding state_after
@@ -34,110 +139,31 @@ after_length w b (suc n) = add_length (mix_columns (shift_rows (sub_bytes (state
 pub inv_after_length : (w : List (List ℕ)) (b : List ℕ) (n : ℕ) → length (inv_state_after w b n) ≡ 16
 unfolding inv_state_after
 inv_after_length w b zero = add_length b (round_key w (last_round w))
-inv_after_length w b (suc n) = inv_mix_length (add_round_key (inv_sub_bytes (inv_shift_rows (inv_state_after w b n))) (round_key w (last_round w - suc n)))
+inv_after_length w b (suc n) = (inv_mix_block _).0
 
-module _ (w : List (List ℕ)) (b : List ℕ) (keys : RowsBytes w) (bytes : IsBytes b) where
-  -- n rounds back from the cipher of b
-  undone : (n m : ℕ) → n + m + 1 ≡ last_round w → inv_state_after w (cipher_with w b) n ≡ shift_rows (sub_bytes (state_after w b m))
-  unfolding inv_state_after cipher_with
-  undone zero m e =
-      let k : last_round w - 1 ≡ m = omega (arith, e) in
-      add_key_twice (shift_rows (sub_bytes (state_after w b (last_round w - 1)))) (round_key w (last_round w)) (shift_length (sub_bytes (state_after w b (last_round w - 1))))
-      ∙ ap (λ v. shift_rows (sub_bytes (state_after w b v))) k
-  undone (suc n) m e =
-      let k : last_round w - suc n ≡ suc m = omega (arith, e) in
-      let x : List ℕ = mix_columns (shift_rows (sub_bytes (state_after w b m))) in
-      (λ i. inv_mix_columns (add_round_key (inv_sub_bytes (inv_shift_rows (undone n (suc m) (omega (arith, e)) i))) (round_key w (k i))))
-      ∙ ap (λ v. inv_mix_columns (add_round_key v (round_key w (suc m)))) (sub_and_shift (state_after w b (suc m)) (after_length w b (suc m)) (after_bytes w b keys bytes (suc m)))
-      ∙ ap inv_mix_columns (add_key_twice x (round_key w (suc m)) (mix_length (shift_rows (sub_bytes (state_after w b m)))))
-      ∙ inv_mix_of_mix (shift_rows (sub_bytes (state_after w b m))) (shift_length (sub_bytes (state_after w b m)))
-      (shift_bytes (sub_bytes (state_after w b m)) (sub_bytes_bytes (state_after w b m) (after_bytes w b keys bytes m)))
-
-  pub inv_cipher_of_cipher : 2 ≤ length w → length b ≡ 16 → inv_cipher_with w (cipher_with w b) ≡ b
-  unfolding inv_cipher_with state_after
-  inv_cipher_of_cipher two l =
-      (λ i. add_round_key (inv_sub_bytes (inv_shift_rows (undone (last_round w - 1) 0 (omega arith) i))) (round_key w 0))
-      ∙ ap (λ v. add_round_key v (round_key w 0)) (sub_and_shift (state_after w b 0) (after_length w b 0) (after_bytes w b keys bytes 0))
-      ∙ add_key_twice b (round_key w 0) l
-
-  -- m rounds on from the inverse cipher of b
-  redone : (m n : ℕ) → n + m + 1 ≡ last_round w → state_after w (inv_cipher_with w b) m ≡ inv_sub_bytes (inv_shift_rows (inv_state_after w b n))
-  unfolding state_after inv_cipher_with
-  redone zero n e =
-      let k : last_round w - 1 ≡ n = omega (arith, e) in
-      let q : List ℕ = inv_state_after w b (last_round w - 1) in
-      add_key_twice (inv_sub_bytes (inv_shift_rows q)) (round_key w 0) (inv_sub_length (inv_shift_rows q) ∙ inv_shift_length q)
-      ∙ ap (λ v. inv_sub_bytes (inv_shift_rows (inv_state_after w b v))) k
-  redone (suc m) n e =
-      let k : last_round w - suc n ≡ suc m = omega (arith, e) in
-      let q : List ℕ = inv_state_after w b n in
-      let x : List ℕ = inv_sub_bytes (inv_shift_rows q) in
-      let y : List ℕ = add_round_key x (round_key w (last_round w - suc n)) in
-      (λ i. add_round_key (mix_columns (shift_rows (sub_bytes (redone m (suc n) (omega (arith, e)) i)))) (round_key w (sym k i)))
-      ∙ ap (λ v. add_round_key (mix_columns v) (round_key w (last_round w - suc n))) (inv_sub_and_shift (inv_state_after w b (suc n)) (inv_after_length w b (suc n)) (inv_after_bytes w b keys bytes (suc n)))
-      ∙ ap (λ v. add_round_key v (round_key w (last_round w - suc n))) (mix_of_inv_mix y (add_length x (round_key w (last_round w - suc n)))
-      (add_bytes x (round_key w (last_round w - suc n)) (inv_sub_bytes_bytes (inv_shift_rows q) (inv_shift_bytes q (inv_after_bytes w b keys bytes n))) (keys (last_round w - suc n))))
-      ∙ add_key_twice x (round_key w (last_round w - suc n)) (inv_sub_length (inv_shift_rows q) ∙ inv_shift_length q)
-
-  pub cipher_of_inv_cipher : 2 ≤ length w → length b ≡ 16 → cipher_with w (inv_cipher_with w b) ≡ b
-  unfolding cipher_with inv_state_after
-  cipher_of_inv_cipher two l =
-      (λ i. add_round_key (shift_rows (sub_bytes (redone (last_round w - 1) 0 (omega arith) i))) (round_key w (last_round w)))
-      ∙ ap (λ v. add_round_key v (round_key w (last_round w))) (inv_sub_and_shift (inv_state_after w b 0) (inv_after_length w b 0) (inv_after_bytes w b keys bytes 0))
-      ∙ add_key_twice b (round_key w (last_round w)) l
-
--- ---- the equivalent inverse cipher
-
-or_true : (p : Bool) → (p || true) ≡ true
-or_true true = refl
-or_true false = refl
-
-module _ (w : List (List ℕ)) where
-  inverted_key : ℕ → List ℕ
-  inverted_key i = if (i == 0) || (i == last_round w) then round_key w (last_round w - i) else inv_mix_columns (round_key w (last_round w - i))
-
-  inverted_length : length (inverted_keys w) ≡ length w
-  unfolding inverted_keys inverted_key
-  inverted_length = length-build (length w) inverted_key
-
-  inverted_at : (i : ℕ) → i < length w → round_key (inverted_keys w) i ≡ inverted_key i
-  unfolding inverted_keys inverted_key
-  inverted_at i lt = get_or-build (length w) i inverted_key [] lt
-
-  inverted_first : 0 < length w → round_key (inverted_keys w) 0 ≡ round_key w (last_round w)
-  unfolding inverted_key
-  inverted_first lt = let z : last_round w - 0 ≡ last_round w = omega arith in inverted_at 0 lt ∙ ap (round_key w) z
-
-  inverted_last : 0 < length w → round_key (inverted_keys w) (last_round w) ≡ round_key w 0
-  unfolding inverted_key
-  inverted_last lt =
-      let z : last_round w - last_round w ≡ 0 = omega arith in
-      inverted_at (last_round w) (omega arith)
-      ∙ (λ j. if (last_round w == 0) || eq-eqb (last_round w) (last_round w) refl j
-      then round_key w (last_round w - last_round w) else inv_mix_columns (round_key w (last_round w - last_round w)))
-      ∙ (λ j. if or_true (last_round w == 0) j then round_key w (z j) else inv_mix_columns (round_key w (last_round w - last_round w)))
-
-  inverted_middle : (n : ℕ) → suc n < last_round w → round_key (inverted_keys w) (suc n) ≡ inv_mix_columns (round_key w (last_round w - suc n))
-  unfolding inverted_key
-  inverted_middle n lt =
-      inverted_at (suc n) (omega arith)
-      ∙ (λ j. if eq_false (suc n) 0 (omega arith) j || eq_false (suc n) (last_round w) (omega arith) j
-      then round_key w (last_round w - suc n) else inv_mix_columns (round_key w (last_round w - suc n)))
-
+-- the last steps of a round of EqInvCipher are those of InvCipher
 module _ (w : List (List ℕ)) (b : List ℕ) where
   equivalent : (n : ℕ) → n < last_round w → eq_inv_state_after (inverted_keys w) b n ≡ inv_state_after w b n
   unfolding eq_inv_state_after inv_state_after
-  equivalent zero lt = ap (add_round_key b) (inverted_first w (omega arith))
+  equivalent zero lt =
+      let all : last_round w - 0 ≡ last_round w = omega arith in
+      ap (add_round_key b) (sym (inverted_end w 0 (omega arith) (inl refl)) ∙ ap (round_key w) all)
   equivalent (suc n) lt =
       let q : List ℕ = inv_state_after w b n in
-      (λ i. add_round_key (inv_mix_columns (inv_shift_rows (inv_sub_bytes (equivalent n (omega arith) i)))) (inverted_middle w n lt i))
-      ∙ ap (λ v. add_round_key (inv_mix_columns v) (inv_mix_columns (round_key w (last_round w - suc n)))) (inv_sub_shift q (inv_after_length w b n))
+      let key = inverted_middle w (suc n) (omega arith) (omega arith) (omega arith) in
+      (λ i. add_round_key (inv_mix_columns (inv_shift_rows (inv_sub_bytes (equivalent n (omega arith) i)))) (sym key i))
+      ∙ ap (λ v. add_round_key (inv_mix_columns v) (inv_mix_columns (round_key w (last_round w - suc n))))
+      (inv_sub_shift q (inv_after_length w b n))
       ∙ sym (inv_mix_columns_add (inv_sub_bytes (inv_shift_rows q)) (round_key w (last_round w - suc n)))
 
   pub eq_inv_is_inv : 2 ≤ length w → eq_inv_cipher_with (inverted_keys w) b ≡ inv_cipher_with w b
   unfolding eq_inv_cipher_with inv_cipher_with
   eq_inv_is_inv two =
+      let q = λ (n : ℕ). inv_shift_rows (inv_sub_bytes (eq_inv_state_after (inverted_keys w) b (n - 1))) in
       let n : last_round (inverted_keys w) ≡ last_round w = ap (λ v. v - 1) (inverted_length w) in
-      (λ i. add_round_key (inv_shift_rows (inv_sub_bytes (eq_inv_state_after (inverted_keys w) b (n i - 1)))) (round_key (inverted_keys w) (n i)))
-      ∙ (λ i. add_round_key (inv_shift_rows (inv_sub_bytes (equivalent (last_round w - 1) (omega arith) i))) (inverted_last w (omega arith) i))
-      ∙ ap (λ v. add_round_key v (round_key w 0)) (inv_sub_shift (inv_state_after w b (last_round w - 1)) (inv_after_length w b (last_round w - 1)))
+      let none : last_round w - last_round w ≡ 0 = omega arith in
+      let key = sym (inverted_end w (last_round w) (omega arith) (inr refl)) ∙ ap (round_key w) none in
+      (λ i. add_round_key (q (n i)) (round_key (inverted_keys w) (n i)))
+      ∙ (λ i. add_round_key (inv_shift_rows (inv_sub_bytes (equivalent (last_round w - 1) (omega arith) i))) (key i))
+      ∙ ap (λ v. add_round_key v (round_key w 0))
+      (inv_sub_shift (inv_state_after w b (last_round w - 1)) (inv_after_length w b (last_round w - 1)))

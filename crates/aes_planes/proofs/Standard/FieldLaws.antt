@@ -1,46 +1,32 @@
 -- Sums and products in the field.
-use Rattle.std.proofs.Common.{◌≡◌, ℕ, zero, suc, ◌/◌, ◌%◌, ◌+◌, ◌*◌, ◌-◌, ◌≤◌, ◌⊎◌, inl, inr, ◌^◌, ◌<◌, ◌==◌, Bool, true, false, if◌then◌else◌, nat_lt, bit_xor, refl, ap, sym, ◌∙◌, arith}
+use Rattle.std.proofs.Common.{◌≡◌, ℕ, zero, suc, ◌/◌, ◌%◌, ◌+◌, ◌*◌, ◌-◌, ◌≤◌, ◌⊎◌, inl, inr, ◌^◌, ◌<◌, ◌==◌, ◌&&◌}
+use Rattle.std.proofs.Common.{Bool, true, false, if◌then◌else◌, nat_lt, bit_xor, refl, ap, sym, ◌∙◌, arith}
 use Rattle.std.specs.Int.Bits.{xor_assoc, xor_zero_l, xor_zero_r, xor_self}
 use Rattle.std.proofs.lemmas.Nat.{xor_comm, xor_shr, xor_mod, xor_lt, xor_block, pow_pos}
-use Rattle.std.proofs.lemmas.Bool.{eqb-true, cases_lt}
+use Rattle.std.proofs.lemmas.Bool.{eqb-true, cases_lt, and_parts, ltb-true}
 use Rattle.std.proofs.Math.Nat.{mod-lt, pow-suc}
-use Rattle.aes_planes.proofs.Bits.ByteCases.{all_below, all_below_tells, nat_lt_tells}
+use Rattle.aes_planes.proofs.Bits.ByteCases.{all_below, all_below_tells}
 use Rattle.aes_planes.specs.Fips197.{field_add, field_mul, low_product, xtime}
 
--- ---- sums: commutative, associative, and each byte its own inverse
-
-pub add_comm : (a b : ℕ) → field_add a b ≡ field_add b a
-add_comm a b = xor_comm a b
-
-pub add_assoc : (a b c : ℕ) → field_add (field_add a b) c ≡ field_add a (field_add b c)
-add_assoc a b c = xor_assoc a b c
+-- ---- sums
 
 pub add_zero : (a : ℕ) → field_add a 0 ≡ a
 add_zero a = xor_zero_r a
 
-pub zero_add : (a : ℕ) → field_add 0 a ≡ a
-zero_add a = xor_zero_l a
-
-pub add_self : (a : ℕ) → field_add a a ≡ 0
-add_self a = xor_self a
-
 -- the exchange of the two inner ones of four
 pub add_swap : (a b c d : ℕ) → field_add (field_add a b) (field_add c d) ≡ field_add (field_add a c) (field_add b d)
 add_swap a b c d =
-    add_assoc a b (field_add c d)
-    ∙ ap (field_add a) (sym (add_assoc b c d) ∙ ap (λ v. field_add v d) (add_comm b c) ∙ add_assoc c b d)
-    ∙ sym (add_assoc a c (field_add b d))
-
--- the exchange of the first two of three
-pub add_left_comm : (a b c : ℕ) → field_add a (field_add b c) ≡ field_add b (field_add a c)
-add_left_comm a b c = sym (add_assoc a b c) ∙ ap (λ v. field_add v c) (add_comm a b) ∙ add_assoc b a c
+    xor_assoc a b (field_add c d)
+    ∙ ap (field_add a) (sym (xor_assoc b c d) ∙ ap (λ v. field_add v d) (xor_comm b c) ∙ xor_assoc c b d)
+    ∙ sym (xor_assoc a c (field_add b d))
 
 pub add_twice : (a b : ℕ) → field_add (field_add a b) b ≡ a
-add_twice a b = add_assoc a b b ∙ ap (field_add a) (add_self b) ∙ add_zero a
+add_twice a b = xor_assoc a b b ∙ ap (field_add a) (xor_self b) ∙ xor_zero_r a
 
 -- ---- products
 
-chosen : (a p q : ℕ) → p < 2 → q < 2 → (if bit_xor p q == 1 then a else 0) ≡ field_add (if p == 1 then a else 0) (if q == 1 then a else 0)
+chosen : (a p q : ℕ) → p < 2 → q < 2 → (if bit_xor p q == 1 then a else 0)
+    ≡ field_add (if p == 1 then a else 0) (if q == 1 then a else 0)
 chosen a zero zero h k = sym (xor_zero_r 0)
 chosen a zero (suc zero) h k = sym (xor_zero_l a)
 chosen a (suc zero) zero h k = sym (xor_zero_r a)
@@ -56,23 +42,30 @@ low_product_add (suc n) a b c =
     let p : bit_xor b c % 2 ≡ bit_xor (b % 2) (c % 2) = xor_mod b c 1 in
     let q : bit_xor b c / 2 ≡ bit_xor (b / 2) (c / 2) = xor_shr b c 1 in
     (λ i. field_add (if p i == 1 then a else 0) (low_product n (xtime a) (q i)))
-    ∙ (λ i. field_add (chosen a (b % 2) (c % 2) (mod-lt b (omega arith)) (mod-lt c (omega arith)) i) (low_product_add n (xtime a) (b / 2) (c / 2) i))
-    ∙ add_swap (if b % 2 == 1 then a else 0) (if c % 2 == 1 then a else 0) (low_product n (xtime a) (b / 2)) (low_product n (xtime a) (c / 2))
+    ∙ (λ i. field_add (chosen a (b % 2) (c % 2) (mod-lt b (omega arith)) (mod-lt c (omega arith)) i)
+    (low_product_add n (xtime a) (b / 2) (c / 2) i))
+    ∙ add_swap (if b % 2 == 1 then a else 0) (if c % 2 == 1 then a else 0) (low_product n (xtime a) (b / 2))
+    (low_product n (xtime a) (c / 2))
 
 pub field_mul_add : (a b c : ℕ) → field_mul a (field_add b c) ≡ field_add (field_mul a b) (field_mul a c)
 unfolding field_mul
 field_mul_add a b c = low_product_add 8 a b c
 
-xtime_small : ℕ → Bool
-xtime_small a = nat_lt (xtime a) 256
+-- doubling: a byte again, and the product with 2
+doubles : ℕ → Bool
+doubles a = nat_lt (xtime a) 256 && (xtime a == field_mul 2 a)
 
-xtime_all : all_below 256 xtime_small ≡ true
-unfolding all_below xtime_small xtime
-xtime_all = refl
+doubles_all : all_below 256 doubles ≡ true
+unfolding all_below doubles xtime field_mul
+doubles_all = refl
 
 pub xtime_byte : (a : ℕ) → a < 256 → xtime a < 256
-unfolding xtime_small
-xtime_byte a h = nat_lt_tells _ _ (all_below_tells 256 xtime_small xtime_all a h)
+unfolding doubles
+xtime_byte a h = ltb-true _ _ (and_parts _ _ (all_below_tells 256 doubles doubles_all a h)).0
+
+xtime_is : (a : ℕ) → a < 256 → xtime a ≡ field_mul 2 a
+unfolding doubles
+xtime_is a h = eqb-true _ _ (and_parts _ _ (all_below_tells 256 doubles doubles_all a h)).1
 
 chosen_byte : (b : Bool) (a : ℕ) → a < 256 → (if b then a else 0) < 256
 chosen_byte true a h = h
@@ -81,7 +74,8 @@ chosen_byte false a h = omega arith
 low_product_byte : (n a b : ℕ) → a < 256 → low_product n a b < 256
 unfolding low_product
 low_product_byte zero a b h = omega arith
-low_product_byte (suc n) a b h = xor_lt 8 _ _ (chosen_byte (b % 2 == 1) a h) (low_product_byte n (xtime a) (b / 2) (xtime_byte a h))
+low_product_byte (suc n) a b h =
+    xor_lt 8 _ _ (chosen_byte (b % 2 == 1) a h) (low_product_byte n (xtime a) (b / 2) (xtime_byte a h))
 
 pub field_mul_byte : (a b : ℕ) → a < 256 → field_mul a b < 256
 unfolding field_mul
@@ -93,6 +87,53 @@ field_add_byte a b h k = xor_lt 8 a b h k
 pub field_mul_one : (a : ℕ) → field_mul a 1 ≡ a
 unfolding field_mul
 field_mul_one a = xor_zero_r a
+
+-- ---- products are linear in the first factor too
+
+chosen_add : (b : Bool) (m k : ℕ) → (if b then field_add m k else 0)
+    ≡ field_add (if b then m else 0) (if b then k else 0)
+chosen_add true m k = refl
+chosen_add false m k = refl
+
+low_product_factors : (n m k a : ℕ) → m < 256 → k < 256
+    → low_product n (field_add m k) a ≡ field_add (low_product n m a) (low_product n k a)
+unfolding low_product
+low_product_factors zero m k a h l = refl
+low_product_factors (suc n) m k a h l =
+    let e : xtime (field_add m k) ≡ field_add (xtime m) (xtime k) = xtime_is (field_add m k) (field_add_byte m k h l)
+    ∙ field_mul_add 2 m k ∙ sym (λ i. field_add (xtime_is m h i) (xtime_is k l i)) in
+    let own = λ (v : ℕ). if a % 2 == 1 then v else 0 in
+    (λ i. field_add (chosen_add (a % 2 == 1) m k i) (low_product n (e i) (a / 2)))
+    ∙ ap (field_add (field_add (own m) (own k)))
+    (low_product_factors n (xtime m) (xtime k) (a / 2) (xtime_byte m h) (xtime_byte k l))
+    ∙ add_swap (own m) (own k) (low_product n (xtime m) (a / 2)) (low_product n (xtime k) (a / 2))
+
+pub field_mul_factors : (m k a : ℕ) → m < 256 → k < 256
+    → field_mul (field_add m k) a ≡ field_add (field_mul m a) (field_mul k a)
+unfolding field_mul
+field_mul_factors m k a h l = low_product_factors 8 m k a h l
+
+chosen_double : (b : Bool) (m : ℕ) → field_mul 2 (if b then m else 0) ≡ (if b then field_mul 2 m else 0)
+unfolding field_mul
+chosen_double true m = refl
+chosen_double false m = refl
+
+low_product_double : (n m a : ℕ) → m < 256 → field_mul 2 (low_product n m a) ≡ low_product n (field_mul 2 m) a
+unfolding low_product
+low_product_double zero m a h = chosen_double false m
+low_product_double (suc n) m a h =
+    let e : field_mul 2 (xtime m) ≡ xtime (field_mul 2 m) = sym (xtime_is (xtime m) (xtime_byte m h))
+    ∙ ap xtime (xtime_is m h) in
+    field_mul_add 2 (if a % 2 == 1 then m else 0) (low_product n (xtime m) (a / 2))
+    ∙ (λ i. field_add (chosen_double (a % 2 == 1) m i)
+    ((low_product_double n (xtime m) (a / 2) (xtime_byte m h) ∙ ap (λ v. low_product n v (a / 2)) e) i))
+
+pub field_mul_double : (m a : ℕ) → m < 256 → field_mul 2 (field_mul m a) ≡ field_mul (field_mul 2 m) a
+unfolding field_mul
+field_mul_double m a h = low_product_double 8 m a h
+
+pub field_mul_zero : (a : ℕ) → field_mul 0 a ≡ 0
+field_mul_zero a = field_mul_factors 0 0 a (omega arith) (omega arith) ∙ xor_self (field_mul 0 a)
 
 -- ---- functions that are linear over sums agree where they agree on the powers of x
 
@@ -119,11 +160,18 @@ module _ (f g : ℕ → ℕ) (p : Linear f) (q : Linear g) where
       ∙ sym (q (2 ^ k) (x - 2 ^ k)) ∙ ap g (top_bit k x h lt)
 
   agree_below : (k : ℕ) → ((i : ℕ) → i < k → f (2 ^ i) ≡ g (2 ^ i)) → (x : ℕ) → x < 2 ^ k → f x ≡ g x
-  agree_below zero same x lt = let z : x ≡ 0 = omega arith in ap f z ∙ linear_zero f p ∙ sym (linear_zero g q) ∙ ap g (sym z)
+  agree_below zero same x lt =
+      let z : x ≡ 0 = omega arith in ap f z ∙ linear_zero f p ∙ sym (linear_zero g q) ∙ ap g (sym z)
   agree_below (suc k) same x lt =
       let e : 2 ^ suc k ≡ 2 ^ k + 2 ^ k = omega (arith, pow-suc 2 k) in
       agree_step k same (agree_below k (λ i l. same i (omega arith))) x (omega (arith, lt, e)) (cases_lt x (2 ^ k))
 
   -- whether they agree on the powers of x below 2 ^ 8
   pub agree_by_powers : all_below 8 (λ i. f (2 ^ i) == g (2 ^ i)) ≡ true → (x : ℕ) → x < 256 → f x ≡ g x
-  agree_by_powers test x lt = agree_below 8 (λ i l. eqb-true (f (2 ^ i)) (g (2 ^ i)) (all_below_tells 8 (λ i. f (2 ^ i) == g (2 ^ i)) test i l)) x lt
+  agree_by_powers test x lt =
+      agree_below 8 (λ i l. eqb-true (f (2 ^ i)) (g (2 ^ i)) (all_below_tells 8 (λ i. f (2 ^ i) == g (2 ^ i)) test i l))
+      x lt
+
+pub field_mul_one_left : (a : ℕ) → a < 256 → field_mul 1 a ≡ a
+unfolding all_below field_mul
+field_mul_one_left = agree_by_powers (field_mul 1) (λ x. x) (field_mul_add 1) (λ x y. refl) refl

@@ -1,7 +1,10 @@
 -- What is linear over sums, and what commutes with the shifts.
-use Rattle.std.proofs.Common.{◌≡◌, ℕ, zero, suc, ◌+◌, ◌*◌, ◌^◌, ◌<◌, ◌==◌, Bool, true, List, length, slice_index, refl, ap, sym, ◌∙◌, subst, arith}
+use Rattle.std.proofs.Common.{◌≡◌, ℕ, zero, suc, ◌+◌, ◌*◌, ◌^◌, ◌<◌, ◌==◌, Bool, true, List, length, map, slice_index}
+use Rattle.std.proofs.Common.{refl, ap, sym, ◌∙◌, subst, arith}
 use Rattle.std.specs.Int.Bits.{xor_zero_r, xor_self}
-use Rattle.aes_planes.specs.Fips197.{field_add, field_mul, byte_at, build, state, row_by_column, mix_row, inv_mix_row, mix_columns, inv_mix_columns, add_round_key, shift_rows, inv_shift_rows, sub_bytes, inv_sub_bytes, IsBytes}
+use Rattle.aes_planes.specs.Fips197.{field_add, field_mul, byte_at, build, state, row_by_column, mix_row, inv_mix_row}
+use Rattle.aes_planes.specs.Fips197.{mix_columns, inv_mix_columns, add_round_key, shift_rows, inv_shift_rows, inv_sbox}
+use Rattle.aes_planes.specs.Fips197.{inv_sub_bytes, IsBytes}
 use Rattle.aes_planes.proofs.Bits.ByteCases.{all_below, all_below_tells}
 use Rattle.aes_planes.proofs.Lists.Built.{built}
 use Rattle.aes_planes.proofs.Standard.FieldLaws.{add_swap, field_mul_add, agree_by_powers}
@@ -9,19 +12,18 @@ use Rattle.aes_planes.proofs.Standard.States.{state_same}
 
 -- ---- shifts
 
--- the shifts commute with sums
-pub shift_add : (s k : List ℕ) → shift_rows (add_round_key s k) ≡ add_round_key (shift_rows s) (shift_rows k)
-unfolding shift_rows add_round_key
-shift_add s k = refl
+-- a function of each byte commutes with the shifts
+pub shift_map : (f : ℕ → ℕ) (s : List ℕ) → length s ≡ 16 → shift_rows (map f s) ≡ map f (shift_rows s)
+unfolding shift_rows build
+shift_map f s l = subst (λ (v : List ℕ). shift_rows (map f v) ≡ map f (shift_rows v)) (built 16 s 0 l) refl
 
--- the substitution commutes with the shifts
-pub sub_shift : (s : List ℕ) → length s ≡ 16 → shift_rows (sub_bytes s) ≡ sub_bytes (shift_rows s)
-unfolding shift_rows sub_bytes build
-sub_shift s l = subst (λ v. shift_rows (sub_bytes v) ≡ sub_bytes (shift_rows v)) (built 16 s 0 l) refl
+pub inv_shift_map : (f : ℕ → ℕ) (s : List ℕ) → length s ≡ 16 → inv_shift_rows (map f s) ≡ map f (inv_shift_rows s)
+unfolding inv_shift_rows build
+inv_shift_map f s l = subst (λ (v : List ℕ). inv_shift_rows (map f v) ≡ map f (inv_shift_rows v)) (built 16 s 0 l) refl
 
 pub inv_sub_shift : (s : List ℕ) → length s ≡ 16 → inv_shift_rows (inv_sub_bytes s) ≡ inv_sub_bytes (inv_shift_rows s)
-unfolding inv_shift_rows inv_sub_bytes build
-inv_sub_shift s l = subst (λ v. inv_shift_rows (inv_sub_bytes v) ≡ inv_sub_bytes (inv_shift_rows v)) (built 16 s 0 l) refl
+unfolding inv_sub_bytes
+inv_sub_shift = inv_shift_map inv_sbox
 
 -- ---- a matrix times a column, which is a function of the row
 
@@ -32,29 +34,28 @@ add_columns v w i = field_add (v i) (w i)
 abbrev pub LinearMap : ((ℕ → ℕ) → ℕ → ℕ) → Type 0
 LinearMap f = (v w : ℕ → ℕ) → f (add_columns v w) ≡ add_columns (f v) (f w)
 
+-- the sum of a column's rows 0 to n
+abbrev pub sum_to : ℕ → (ℕ → ℕ) → ℕ
+sum_to zero v = v 0
+sum_to (suc n) v = field_add (sum_to n v) (v (suc n))
+
+sum_to_add : (n : ℕ) (v w : ℕ → ℕ) → sum_to n (add_columns v w) ≡ field_add (sum_to n v) (sum_to n w)
+sum_to_add zero v w = refl
+sum_to_add (suc n) v w =
+    ap (λ s. field_add s (add_columns v w (suc n))) (sum_to_add n v w)
+    ∙ add_swap (sum_to n v) (sum_to n w) (v (suc n)) (w (suc n))
+
 -- a row of a matrix times a column
 abbrev pub row_times : List ℕ → (ℕ → ℕ) → ℕ
-row_times m v =
-    field_add (field_add (field_add (field_mul (slice_index m 0) (v 0)) (field_mul (slice_index m 1) (v 1)))
-    (field_mul (slice_index m 2) (v 2))) (field_mul (slice_index m 3) (v 3))
+row_times m v = sum_to 3 (λ j. field_mul (slice_index m j) (v j))
 
 abbrev pub matrix : (ℕ → List ℕ) → (ℕ → ℕ) → ℕ → ℕ
 matrix m v r = row_times (m r) v
 
-add_four : (p q : ℕ → ℕ)
-    → field_add (field_add (field_add (add_columns p q 0) (add_columns p q 1)) (add_columns p q 2)) (add_columns p q 3)
-    ≡ field_add (field_add (field_add (field_add (p 0) (p 1)) (p 2)) (p 3)) (field_add (field_add (field_add (q 0) (q 1)) (q 2)) (q 3))
-add_four p q =
-    ap (λ v. field_add (field_add v (add_columns p q 2)) (add_columns p q 3)) (add_swap (p 0) (q 0) (p 1) (q 1))
-    ∙ ap (λ v. field_add v (add_columns p q 3)) (add_swap (field_add (p 0) (p 1)) (field_add (q 0) (q 1)) (p 2) (q 2))
-    ∙ add_swap (field_add (field_add (p 0) (p 1)) (p 2)) (field_add (field_add (q 0) (q 1)) (q 2)) (p 3) (q 3)
-
 row_times_add : (m : List ℕ) (v w : ℕ → ℕ) → row_times m (add_columns v w) ≡ field_add (row_times m v) (row_times m w)
 row_times_add m v w =
-    let e : (j : ℕ) → field_mul (slice_index m j) (field_add (v j) (w j)) ≡ field_add (field_mul (slice_index m j) (v j)) (field_mul (slice_index m j) (w j))
-    = λ j. field_mul_add (slice_index m j) (v j) (w j) in
-    (λ i. field_add (field_add (field_add (e 0 i) (e 1 i)) (e 2 i)) (e 3 i))
-    ∙ add_four (λ j. field_mul (slice_index m j) (v j)) (λ j. field_mul (slice_index m j) (w j))
+    (λ i. sum_to 3 (λ j. field_mul_add (slice_index m j) (v j) (w j) i))
+    ∙ sum_to_add 3 (λ j. field_mul (slice_index m j) (v j)) (λ j. field_mul (slice_index m j) (w j))
 
 pub matrix_add : (m : ℕ → List ℕ) → LinearMap (matrix m)
 matrix_add m v w = λ i r. row_times_add (m r) v w i
@@ -109,7 +110,8 @@ module _ (f g : (ℕ → ℕ) → ℕ) (p : LinearForm f) (q : LinearForm g) whe
 
 -- whether two maps agree in four rows on the powers of x below 2 ^ 8 in each of four rows
 unfoldable pub agree_on_powers : ((ℕ → ℕ) → ℕ → ℕ) → ((ℕ → ℕ) → ℕ → ℕ) → Bool
-agree_on_powers f g = all_below 4 (λ r. all_below 4 (λ j. all_below 8 (λ k. f (only j (2 ^ k)) r == g (only j (2 ^ k)) r)))
+agree_on_powers f g =
+    all_below 4 (λ r. all_below 4 (λ j. all_below 8 (λ k. f (only j (2 ^ k)) r == g (only j (2 ^ k)) r)))
 
 maps_agree : (f g : (ℕ → ℕ) → ℕ → ℕ) → LinearMap f → LinearMap g → agree_on_powers f g ≡ true
     → (v : ℕ → ℕ) → ((i : ℕ) → v i < 256) → (r : ℕ) → r < 4 → f (first_rows 4 v) r ≡ g (first_rows 4 v) r
@@ -120,7 +122,8 @@ maps_agree f g p q test v h r lt =
     (λ x y. ap (λ u. f u r) (λ i l. only_add j x y l i) ∙ (λ i. p (only j x) (only j y) i r))
     (λ x y. ap (λ u. g u r) (λ i l. only_add j x y l i) ∙ (λ i. q (only j x) (only j y) i r))
     (all_below_tells 4 (λ j. all_below 8 (λ k. f (only j (2 ^ k)) r == g (only j (2 ^ k)) r))
-    (all_below_tells 4 (λ r. all_below 4 (λ j. all_below 8 (λ k. f (only j (2 ^ k)) r == g (only j (2 ^ k)) r))) test r lt) j k))
+    (all_below_tells 4 (λ r. all_below 4 (λ j. all_below 8 (λ k. f (only j (2 ^ k)) r == g (only j (2 ^ k)) r))) test r
+    lt) j k))
     v h
 
 -- ---- a matrix times each column of a state
@@ -141,21 +144,25 @@ pub mix_columns_add : (s t : List ℕ) → mix_columns (add_round_key s t) ≡ a
 unfolding mix_columns times
 mix_columns_add s t = times_add mix_row s t
 
-pub inv_mix_columns_add : (s t : List ℕ) → inv_mix_columns (add_round_key s t) ≡ add_round_key (inv_mix_columns s) (inv_mix_columns t)
+pub inv_mix_columns_add : (s t : List ℕ) → inv_mix_columns (add_round_key s t)
+    ≡ add_round_key (inv_mix_columns s) (inv_mix_columns t)
 unfolding inv_mix_columns times
 inv_mix_columns_add s t = times_add inv_mix_row s t
 
-times_times : (m n : ℕ → List ℕ) (s : List ℕ) → times m (times n s) ≡ state (λ r c. matrix m (matrix n (first_rows 4 (column s c))) r)
+times_times : (m n : ℕ → List ℕ) (s : List ℕ) → times m (times n s)
+    ≡ state (λ r c. matrix m (matrix n (first_rows 4 (column s c))) r)
 unfolding times first_rows
 times_times m n s = refl
 
 -- a product of two matrices, by what it is on the powers of x
-times_as : (m n : ℕ → List ℕ) (f : (ℕ → ℕ) → ℕ → ℕ) → LinearMap f → agree_on_powers (λ v. matrix m (matrix n v)) f ≡ true
+times_as : (m n : ℕ → List ℕ) (f : (ℕ → ℕ) → ℕ → ℕ) → LinearMap f
+    → agree_on_powers (λ v. matrix m (matrix n v)) f ≡ true
     → (s : List ℕ) → IsBytes s → times m (times n s) ≡ state (λ r c. f (first_rows 4 (column s c)) r)
 times_as m n f p test s h =
     times_times m n s
     ∙ state_same (λ r c. matrix m (matrix n (first_rows 4 (column s c))) r) (λ r c. f (first_rows 4 (column s c)) r)
-    (λ r c lt _. maps_agree (λ v. matrix m (matrix n v)) f (product_add (matrix m) (matrix n) (matrix_add m) (matrix_add n)) p test
+    (λ r c lt _. maps_agree (λ v. matrix m (matrix n v)) f
+    (product_add (matrix m) (matrix n) (matrix_add m) (matrix_add n)) p test
     (column s c) (λ j. h (j + 4 * c)) r lt)
 
 pub times_undone : (m n : ℕ → List ℕ) → agree_on_powers (λ v. matrix m (matrix n v)) (λ v. v) ≡ true

@@ -1,9 +1,10 @@
 -- A state by its bytes, and lists of bytes.
-use Rattle.std.proofs.Common.{◌≡◌, ℕ, zero, suc, ◌+◌, ◌*◌, ◌/◌, ◌%◌, ◌<◌, nat_lt, true, List, [], ◌∷◌, length, get_or, slice_index_or, refl, ap, sym, ◌∙◌, arith}
+use Rattle.std.proofs.Common.{◌≡◌, ℕ, zero, suc, ◌+◌, ◌*◌, ◌/◌, ◌%◌, ◌<◌, nat_lt, true, List, [], ◌∷◌, length, get_or}
+use Rattle.std.proofs.Common.{slice_index_or, refl, ap, sym, ◌∙◌, arith}
+use Rattle.std.proofs.lemmas.Bool.{and_parts, ltb-true}
 use Rattle.std.proofs.Math.Nat.{mod-lt}
 use Rattle.std.specs.List.{list_all}
-use Rattle.aes_planes.specs.Fips197.{byte_at, state, IsBytes}
-use Rattle.aes_planes.proofs.Bits.ByteCases.{both, nat_lt_tells}
+use Rattle.aes_planes.specs.Fips197.{byte_at, build, build_from, state, IsBytes, IsBlock}
 use Rattle.aes_planes.proofs.Lists.Built.{get_or-build, build_is}
 
 pub state_length : (f : ℕ → ℕ → ℕ) → length (state f) ≡ 16
@@ -19,14 +20,30 @@ byte_at-state f r c h k =
     get_or-build 16 (r + 4 * c) (λ i. f (i % 4) (i / 4)) 0 (omega arith) ∙ (λ i. f (p i) (q i))
 
 -- a block is the state of its bytes
-pub state_is : (f : ℕ → ℕ → ℕ) (s : List ℕ) → length s ≡ 16 → ((r c : ℕ) → r < 4 → c < 4 → f r c ≡ byte_at s r c) → state f ≡ s
+pub state_is : (f : ℕ → ℕ → ℕ) (s : List ℕ) → length s ≡ 16 → ((r c : ℕ) → r < 4 → c < 4 → f r c ≡ byte_at s r c)
+    → state f ≡ s
 unfolding state
 state_is f s l h = build_is 16 (λ i. f (i % 4) (i / 4)) s 0 l
-    (λ i lt. h (i % 4) (i / 4) (mod-lt i (omega arith)) (omega arith) ∙ (let e : i % 4 + 4 * (i / 4) ≡ i = omega arith in ap (λ v. get_or s v 0) e))
+    (λ i lt. h (i % 4) (i / 4) (mod-lt i (omega arith)) (omega arith)
+    ∙ (let e : i % 4 + 4 * (i / 4) ≡ i = omega arith in ap (λ v. get_or s v 0) e))
 
 -- states with the same bytes
 pub state_same : (f g : ℕ → ℕ → ℕ) → ((r c : ℕ) → r < 4 → c < 4 → f r c ≡ g r c) → state f ≡ state g
 state_same f g h = state_is f (state g) (state_length g) (λ r c p q. h r c p q ∙ sym (byte_at-state g r c p q))
+
+-- states of bytes
+build_from_bytes : (a n : ℕ) (f : ℕ → ℕ) → ((i : ℕ) → f i < 256) → IsBytes (build_from a n f)
+unfolding build_from
+build_from_bytes a zero f h i = omega arith
+build_from_bytes a (suc n) f h zero = h a
+build_from_bytes a (suc n) f h (suc i) = build_from_bytes (a + 1) n f h i
+
+pub state_bytes : (f : ℕ → ℕ → ℕ) → ((r c : ℕ) → f r c < 256) → IsBytes (state f)
+unfolding state build
+state_bytes f h = build_from_bytes 0 16 (λ i. f (i % 4) (i / 4)) (λ i. h (i % 4) (i / 4))
+
+pub state_block : (f : ℕ → ℕ → ℕ) → ((r c : ℕ) → f r c < 256) → IsBlock (state f)
+state_block f h = (state_length f, state_bytes f h)
 
 -- lists of bytes in each place
 abbrev pub RowsBytes : List (List ℕ) → Type 0
@@ -35,11 +52,13 @@ RowsBytes m = (i : ℕ) → IsBytes (slice_index_or m i [])
 -- a list of bytes, by a test of each
 pub bytes_by_test : (s : List ℕ) → list_all (λ x. nat_lt x 256) s ≡ true → IsBytes s
 bytes_by_test [] h i = omega arith
-bytes_by_test (x ∷ s) h zero = nat_lt_tells x 256 (both (nat_lt x 256) (list_all (λ x. nat_lt x 256) s) h).0
-bytes_by_test (x ∷ s) h (suc i) = bytes_by_test s (both (nat_lt x 256) (list_all (λ x. nat_lt x 256) s) h).1 i
+bytes_by_test (x ∷ s) h zero = ltb-true x 256 (and_parts (nat_lt x 256) (list_all (λ x. nat_lt x 256) s) h).0
+bytes_by_test (x ∷ s) h (suc i) = bytes_by_test s (and_parts (nat_lt x 256) (list_all (λ x. nat_lt x 256) s) h).1 i
 
 -- the rows of a matrix of bytes
 pub rows_by_test : (m : List (List ℕ)) → list_all (list_all (λ x. nat_lt x 256)) m ≡ true → RowsBytes m
 rows_by_test [] h r = λ i. omega arith
-rows_by_test (row ∷ m) h zero = bytes_by_test row (both (list_all (λ x. nat_lt x 256) row) (list_all (list_all (λ x. nat_lt x 256)) m) h).0
-rows_by_test (row ∷ m) h (suc r) = rows_by_test m (both (list_all (λ x. nat_lt x 256) row) (list_all (list_all (λ x. nat_lt x 256)) m) h).1 r
+rows_by_test (row ∷ m) h zero =
+    bytes_by_test row (and_parts (list_all (λ x. nat_lt x 256) row) (list_all (list_all (λ x. nat_lt x 256)) m) h).0
+rows_by_test (row ∷ m) h (suc r) =
+    rows_by_test m (and_parts (list_all (λ x. nat_lt x 256) row) (list_all (list_all (λ x. nat_lt x 256)) m) h).1 r

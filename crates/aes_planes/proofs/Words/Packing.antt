@@ -1,74 +1,142 @@
 -- Packing at every width: planes that hold blocks, words as bytes, and the bytes of a block by swizzles.
-use Rattle.std.proofs.Common.{◌≡◌, ℕ, zero, suc, ◌+◌, ◌*◌, ◌/◌, ◌%◌, ◌^◌, ◌<◌, ◌≤◌, ◌==◌, Bool, true, List, [], ◌∷◌, ◌++◌, length, get_or, refl, ap, sym, subst, ◌∙◌, arith}
-use Rattle.std.specs.Int.{to_le_bytes, from_le_bytes, w16, w32}
-use Rattle.std.proofs.lemmas.List.{get_or-map}
-use Rattle.std.proofs.lemmas.Nat.{le_bytes_2, le_bytes_4}
-use Rattle.std.proofs.lemmas.Simd.{pick_l_left}
+use Rattle.std.proofs.Common.{◌≡◌, ℕ, zero, suc, ◌+◌, ◌*◌, ◌/◌, ◌%◌, ◌^◌, ◌<◌, ◌≤◌, ◌==◌, Bool, true, List, [], ◌∷◌}
+use Rattle.std.proofs.Common.{◌++◌, length, map, get_or, T, refl, ap, sym, subst, ◌∙◌, arith}
+use Rattle.std.specs.Int.{to_le_bytes, from_le_bytes, w32}
+use Rattle.std.proofs.lemmas.List.{ext_get_or, get_or-map, length-map}
+use Rattle.std.proofs.lemmas.Nat.{le_bytes_4}
+use Rattle.std.proofs.lemmas.Simd.{pick_l_left, Each1-get_or, Each1-from_get_or}
 use Rattle.std.proofs.lemmas.Bool.{eqb-true}
-use lib.Lanes.{pick_l, digits_l, number_l}
+use lib.Lanes.{Each1, pick_l, digits_l, number_l, all_below as all_lanes_below}
 use Rattle.aes_planes.specs.Bits.{at, bit}
-use Rattle.aes_planes.specs.Fips197.{byte_at, build, IsBytes}
+use Rattle.aes_planes.specs.Fips197.{byte_at, IsBlock, IsBytes}
+use Rattle.aes_planes.specs.Private.Lanes.{lane_bits}
 use Rattle.aes_planes.specs.Private.Packing.{row_byte}
 use Rattle.aes_planes.specs.Planes.{held, place}
 use Rattle.aes_planes.specs.Words.{word_bits}
-use Rattle.aes_planes.proofs.Bits.ByteCases.{all_below, by_two, by_four}
-use Rattle.aes_planes.proofs.Lists.Built.{built}
+use Rattle.aes_planes.proofs.Bits.ByteCases.{all_below, all_below_tells, all_pairs, all_pairs_tell, by_one, by_four}
+use Rattle.aes_planes.proofs.Bits.Digits.{field_bit, regrouped}
+use Rattle.aes_planes.proofs.Bits.NumberBits.{bit_low, reads}
 use Rattle.aes_planes.proofs.Planes.Held.{place_lt}
 use Rattle.aes_planes.proofs.Planes.Holds.{holds_held}
-use Rattle.aes_planes.proofs.Bits.NumberBits.{bit_low, bit_shr, reads}
-use Rattle.aes_planes.proofs.Words.LaneBits.{checked, digit_bit, number_bit}
+use Rattle.aes_planes.proofs.Words.LaneBits.{lane_at}
 
 -- ---- planes and the words that they are the transpose of
 
--- word t has in lane j byte m * j + t / n of block t % n, and n blocks m bytes in each word
-pub packed : (n m : ℕ) (planes words : List (List Bool)) (blocks : List (List ℕ)) → length planes ≡ 8 → length blocks ≡ n
-    → ((k : ℕ) → k < n → length (get_or blocks k []) ≡ 16) → ((k : ℕ) → k < n → IsBytes (get_or blocks k []))
-    → ((r c k : ℕ) → r < 4 → c < 4 → k < n → (place n r c k % 8 % n ≡ k) × (m * (place n r c k / 8) + place n r c k % 8 / n ≡ 4 * r + c))
-    → ((p j t : ℕ) → p < 8 → 8 * j + 8 ≤ 16 * n → t < 8 → at (get_or planes p []) (8 * j + t) ≡ at (get_or words t []) (8 * j + p))
-    → ((j t p : ℕ) → 8 * j + 8 ≤ 16 * n → t < 8 → p < 8 → at (get_or words t []) (8 * j + p) ≡ bit (row_byte (get_or blocks (t % n) []) (m * j + t / n)) p)
-    → held n planes ≡ blocks
-packed n m planes words blocks lp lb sized bytes spots turned loaded = holds_held n planes blocks (record {
+-- word t of eight that n blocks are loaded into has in each lane j byte `from j t`, row by row, of block t % n
+abbrev IsLoaded : ℕ → (ℕ → ℕ → ℕ) → List (List ℕ) → List Bool → ℕ → Type 0
+IsLoaded n from blocks word t =
+    (j p : ℕ) → j < 2 * n → p < 8 → bit (row_byte (get_or blocks (t % n) []) (from j t)) p ≡ at word (8 * j + p)
+
+-- lane i / 8 of word i % 8 has the byte whose place is i
+abbrev IsPlaced : ℕ → (ℕ → ℕ → ℕ) → Type 0
+IsPlaced n from = (r c k : ℕ) → r < 4 → c < 4 → k < n
+    → (place n r c k % 8 % n ≡ k) × (from (place n r c k / 8) (place n r c k % 8) ≡ 4 * r + c)
+
+abbrev IsTransposed : ℕ → List (List Bool) → List (List Bool) → Type 0
+IsTransposed n planes words = (p j t : ℕ) → p < 8 → 8 * j + 8 ≤ 16 * n → t < 8
+    → at (get_or planes p []) (8 * j + t) ≡ at (get_or words t []) (8 * j + p)
+
+transposed_held : (n : ℕ) (from : ℕ → ℕ → ℕ) (planes words : List (List Bool)) (blocks : List (List ℕ))
+    → length planes ≡ 8
+    → length blocks ≡ n → ((k : ℕ) → k < n → IsBlock (get_or blocks k [])) → IsPlaced n from
+    → IsTransposed n planes words
+    → ((t : ℕ) → t < 8 → IsLoaded n from blocks (get_or words t []) t) → held n planes ≡ blocks
+transposed_held n from planes words blocks lp lb typed placed turned loaded = holds_held n planes blocks (record {
   planes_count = lp;
   blocks_count = lb;
-  block_length = sized;
-  bytes = bytes;
+  block_length = λ k h. (typed k h).0;
+  bytes = λ k h. (typed k h).1;
   bits = λ p r c k hp hr hc hk.
       let i = place n r c k in
       let lt : i < 16 * n = place_lt n r c k hr hc hk in
-      let room : 8 * (i / 8) + 8 ≤ 16 * n = omega (arith, lt) in
-      let small : i % 8 < 8 = omega arith in
       let spot : i ≡ 8 * (i / 8) + i % 8 = omega arith in
-      let s = spots r c k hr hc hk in
+      let s = placed r c k hr hc hk in
       let row : (4 * r + c) / 4 ≡ r = omega (arith, hc) in
       let column : (4 * r + c) % 4 ≡ c = omega (arith, hc) in
-      ap (at (get_or planes p [])) spot ∙ turned p (i / 8) (i % 8) hp room small ∙ loaded (i / 8) (i % 8) p room small hp
-      ∙ (λ t. bit (row_byte (get_or blocks (s.0 t) []) (s.1 t)) p) ∙ (λ t. bit (byte_at (get_or blocks k []) (row t) (column t)) p);
+      ap (at (get_or planes p [])) spot ∙ turned p (i / 8) (i % 8) hp (omega (arith, lt)) (omega arith)
+      ∙ sym (loaded (i % 8) (omega arith) (i / 8) p (omega (arith, lt)) hp)
+      ∙ (λ t. bit (row_byte (get_or blocks (s.0 t) []) (s.1 t)) p)
+      ∙ (λ t. bit (byte_at (get_or blocks k []) (row t) (column t)) p);
 })
 
--- ---- words of two and of four bytes
+-- the blocks of a batch, read from place i on
+abbrev IsRead : ℕ → List (List ℕ) → List (List ℕ) → Type 0
+IsRead i [] batch = Unit {0}
+IsRead i (b ∷ bs) batch = (IsBlock b × (b ≡ get_or batch i [])) × IsRead (suc i) bs batch
 
-bit_of_byte : (x s p : ℕ) → p < 8 → bit (x / 2 ^ s % 2 ^ 8) p ≡ bit x (s + p)
-bit_of_byte x s p h = bit_low (x / 2 ^ s) 8 p h ∙ bit_shr x s p ∙ ap (bit x) (omega arith)
+read_at : (i : ℕ) (bs batch : List (List ℕ)) (k : ℕ) → IsRead i bs batch → k < length bs
+    → IsBlock (get_or bs k []) × (get_or bs k [] ≡ get_or batch (i + k) [])
+read_at i [] batch k h l = absurd (omega arith)
+read_at i (b ∷ bs) batch zero h l = (h.0.0, h.0.1 ∙ ap (λ v. get_or batch v []) (omega arith))
+read_at i (b ∷ bs) batch (suc k) h l =
+    let t = read_at (suc i) bs batch k h.1 (omega arith) in
+    (t.0, t.1 ∙ ap (λ v. get_or batch v []) (omega arith))
 
-bit_of_lowest : (x p : ℕ) → p < 8 → bit (x % 2 ^ 8) p ≡ bit x (0 + p)
-bit_of_lowest x p h = bit_low x 8 p h ∙ ap (bit x) (omega arith)
+module _ {A : Type 0} (bits : A → List Bool) (n : ℕ) (from : ℕ → ℕ → ℕ) (placed : IsPlaced n from) where
+  -- the transpose of the words that a batch is loaded into holds the batch
+  pub packed : (planes words : List A) (blocks batch : List (List ℕ)) → length planes ≡ 8 → length blocks ≡ n
+      → length batch ≡ n
+      → IsRead 0 blocks batch → IsTransposed n (map bits planes) (map bits words)
+      → ((t : ℕ) → t < 8 → IsLoaded n from blocks (get_or (map bits words) t []) t) → held n (map bits planes) ≡ batch
+  packed planes words blocks batch lp lb lh h turned loaded =
+      let read : (k : ℕ) → k < n → IsBlock (get_or blocks k []) × (get_or blocks k [] ≡ get_or batch (0 + k) []) =
+      λ k l. read_at 0 blocks batch k h (omega (arith, lb, l)) in
+      transposed_held n from (map bits planes) (map bits words) blocks (length-map planes bits ∙ lp) lb
+      (λ k l. (read k l).0)
+      placed turned loaded
+      ∙ ext_get_or [] blocks batch (lb ∙ sym lh) (λ k l. (read k (omega (arith, lb, l))).1
+      ∙ ap (λ v. get_or batch v []) (omega arith))
 
-pub two_bytes : (x j p : ℕ) → j < 2 → p < 8 → bit (get_or (to_le_bytes w16 x) j 0) p ≡ at (word_bits 16 x) (8 * j + p)
-two_bytes x j p hj hp = by_two (λ j. bit (get_or (to_le_bytes w16 x) j 0) p ≡ bit x (8 * j + p)) (bit_of_lowest x p hp) (bit_of_byte x 8 p hp) j hj
-    ∙ reads 16 x (8 * j + p) (omega arith)
+  -- and the blocks that the transpose of planes is loaded from are the ones that they hold
+  pub unpacked : (planes : List (List Bool)) (words : List A) (d : A) (blocks : List (List ℕ)) → length planes ≡ 8
+      → length words ≡ 8 → length blocks ≡ n → Each1 IsBlock blocks
+      → ((t j p : ℕ) → t < 8 → 8 * j + 8 ≤ 16 * n → p < 8 → at (get_or (map bits words) t []) (8 * j + p)
+      ≡ at (get_or planes p []) (8 * j + t))
+      → ((t : ℕ) → t < 8 → IsLoaded n from blocks (bits (get_or words t d)) t) → blocks ≡ held n planes
+  unpacked planes words d blocks lp lw lb typed turned loaded =
+      sym (transposed_held n from planes (map bits words) blocks lp lb
+      (λ k l. Each1-get_or IsBlock blocks k [] (omega (arith, lb, l)) typed) placed
+      (λ p j t hp hj ht. sym (turned t j p ht hj hp))
+      (λ t ht j p hj hp. loaded t ht j p hj hp ∙ ap (λ x. at x (8 * j + p))
+      (sym (get_or-map bits words t d [] (omega (arith, lw, ht))))))
 
-pub four_bytes : (x j p : ℕ) → j < 4 → p < 8 → bit (get_or (to_le_bytes w32 x) j 0) p ≡ at (word_bits 32 x) (8 * j + p)
-four_bytes x j p hj hp = by_four (λ j. bit (get_or (to_le_bytes w32 x) j 0) p ≡ bit x (8 * j + p))
-    (bit_of_lowest x p hp) (bit_of_byte x 8 p hp) (bit_of_byte x 16 p hp) (bit_of_byte x 24 p hp) j hj
+-- planes of one block, each a word
+pub one_packed : (planes block : List ℕ) → length planes ≡ 8 → IsBlock block
+    → ((p i : ℕ) → p < 8 → i < 16 → bit (get_or planes p 0) i ≡ bit (row_byte block i) p)
+    → held 1 (map (word_bits 16) planes) ≡ block ∷ []
+one_packed planes block lp typed turned = holds_held 1 (map (word_bits 16) planes) (block ∷ []) (record {
+  planes_count = length-map planes (word_bits 16) ∙ lp;
+  blocks_count = refl;
+  block_length = by_one (λ k. length (get_or (block ∷ []) k []) ≡ 16) typed.0;
+  bytes = by_one (λ k. IsBytes (get_or (block ∷ []) k [])) typed.1;
+  bits = λ p r c k hp hr hc.
+      let spot : place 1 r c 0 ≡ 4 * r + c = omega arith in
+      let row : (4 * r + c) / 4 ≡ r = omega (arith, hc) in
+      let column : (4 * r + c) % 4 ≡ c = omega (arith, hc) in
+      by_one (λ k. at (get_or (map (word_bits 16) planes) p []) (place 1 r c k)
+      ≡ bit (byte_at (get_or (block ∷ []) k []) r c) p)
+      (ap (λ w. at w (place 1 r c 0)) (get_or-map (word_bits 16) planes p 0 [] (omega (arith, lp)))
+      ∙ ap (at (word_bits 16 (get_or planes p 0))) spot ∙ sym (reads 16 (get_or planes p 0) (4 * r + c) (omega arith))
+      ∙ turned p (4 * r + c) hp (omega arith) ∙ (λ t. bit (byte_at block (row t) (column t)) p)) k;
+})
+
+-- ---- words of four bytes
+
+pub word_to_four : (f : ℕ → ℕ) (bs : List ℕ) (x : ℕ) → bs ≡ to_le_bytes w32 x
+    → f 0 ≡ get_or bs 0 0 → f 1 ≡ get_or bs 1 0 → f 2 ≡ get_or bs 2 0 → f 3 ≡ get_or bs 3 0
+    → (j p : ℕ) → j < 4 → p < 8 → bit (f j) p ≡ at (word_bits 32 x) (8 * j + p)
+word_to_four f bs x e a b c d j p hj hp = by_four (λ j. bit (f j) p ≡ bit x (8 * j + p))
+    ((λ t. bit ((a ∙ ap (λ v. get_or v 0 0) e) t) p) ∙ bit_low x 8 p hp ∙ ap (bit x) (omega arith))
+    ((λ t. bit ((b ∙ ap (λ v. get_or v 1 0) e) t) p) ∙ field_bit x 8 8 p hp)
+    ((λ t. bit ((c ∙ ap (λ v. get_or v 2 0) e) t) p) ∙ field_bit x 16 8 p hp)
+    ((λ t. bit ((d ∙ ap (λ v. get_or v 3 0) e) t) p) ∙ field_bit x 24 8 p hp) j hj
     ∙ reads 32 x (8 * j + p) (omega arith)
 
-pub word_of_two : (bs : List ℕ) (x j p : ℕ) → length bs ≡ 2 → ((i : ℕ) → get_or bs i 0 < 256) → x ≡ from_le_bytes w16 bs → j < 2 → p < 8
-    → at (word_bits 16 x) (8 * j + p) ≡ bit (get_or bs j 0) p
-word_of_two bs x j p l s e hj hp = sym (two_bytes x j p hj hp) ∙ ap (λ ys. bit (get_or ys j 0) p) (le_bytes_2 bs x l s e)
-
-pub word_of_four : (bs : List ℕ) (x j p : ℕ) → length bs ≡ 4 → ((i : ℕ) → get_or bs i 0 < 256) → x ≡ from_le_bytes w32 bs → j < 4 → p < 8
-    → at (word_bits 32 x) (8 * j + p) ≡ bit (get_or bs j 0) p
-word_of_four bs x j p l s e hj hp = sym (four_bytes x j p hj hp) ∙ ap (λ ys. bit (get_or ys j 0) p) (le_bytes_4 bs x l s e)
+pub word_of_four : (f : ℕ → ℕ) (bs : List ℕ) (x : ℕ) → length bs ≡ 4 → ((i : ℕ) → get_or bs i 0 < 256)
+    → x ≡ from_le_bytes w32 bs
+    → f 0 ≡ get_or bs 0 0 → f 1 ≡ get_or bs 1 0 → f 2 ≡ get_or bs 2 0 → f 3 ≡ get_or bs 3 0
+    → (j p : ℕ) → j < 4 → p < 8 → bit (f j) p ≡ at (word_bits 32 x) (8 * j + p)
+word_of_four f bs x l s e = word_to_four f bs x (sym (le_bytes_4 bs x l s e))
 
 -- ---- the bytes of a block by swizzles
 
@@ -77,36 +145,41 @@ picked_small xs [] i f = omega arith
 picked_small xs (k ∷ ks) zero f = f k
 picked_small xs (k ∷ ks) (suc i) f = picked_small xs ks i f
 
-pub swizzled_small : (xs ks : List ℕ) (i : ℕ) → pick_l 0 (xs ++ xs) ks ≡ pick_l 0 xs ks → ((i : ℕ) → get_or xs i 0 < 2 ^ 8) → get_or (pick_l 0 (xs ++ xs) ks) i 0 < 2 ^ 8
-swizzled_small xs ks i e f = subst (λ (v : List ℕ). get_or v i 0 < 2 ^ 8) (sym e) (picked_small xs ks i f)
+module _ (xs ks : List ℕ) (d : length xs ≡ 16) (within : T (all_lanes_below 16 ks)) where
+  pub swizzled_small : ((i : ℕ) → get_or xs i 0 < 2 ^ 8) → (i : ℕ) → get_or (pick_l 0 (xs ++ xs) ks) i 0 < 2 ^ 8
+  swizzled_small f i = subst (λ (v : List ℕ). get_or v i 0 < 2 ^ 8) (sym (pick_l_left 0 xs xs 16 ks d within))
+      (picked_small xs ks i f)
 
-swizzled : (xs ks : List ℕ) (i o : ℕ) → pick_l 0 (xs ++ xs) ks ≡ pick_l 0 xs ks → i < length ks → (get_or ks i 0 == o) ≡ true
-    → get_or (pick_l 0 (xs ++ xs) ks) i 0 ≡ get_or xs o 0
-swizzled xs ks i o e h k = ap (λ v. get_or v i 0) e ∙ get_or-map (λ k. get_or xs k 0) ks i 0 0 h ∙ ap (λ v. get_or xs v 0) (eqb-true _ _ k)
+  pub swizzled : (i o : ℕ) → i < length ks → (get_or ks i 0 == o) ≡ true
+      → get_or (pick_l 0 (xs ++ xs) ks) i 0 ≡ get_or xs o 0
+  swizzled i o h k =
+      ap (λ v. get_or v i 0) (pick_l_left 0 xs xs 16 ks d within) ∙ get_or-map (λ k. get_or xs k 0) ks i 0 0 h
+      ∙ ap (λ v. get_or xs v 0) (eqb-true _ _ k)
 
 -- rows for columns, and columns for rows
 
-abbrev pub turned : List ℕ
-turned = 0 ∷ 4 ∷ 8 ∷ 12 ∷ 1 ∷ 5 ∷ 9 ∷ 13 ∷ 2 ∷ 6 ∷ 10 ∷ 14 ∷ 3 ∷ 7 ∷ 11 ∷ 15 ∷ []
+abbrev pub flipped : List ℕ
+flipped = 0 ∷ 4 ∷ 8 ∷ 12 ∷ 1 ∷ 5 ∷ 9 ∷ 13 ∷ 2 ∷ 6 ∷ 10 ∷ 14 ∷ 3 ∷ 7 ∷ 11 ∷ 15 ∷ []
 
-pub turned_within : (xs : List ℕ) → length xs ≡ 16 → pick_l 0 (xs ++ xs) turned ≡ pick_l 0 xs turned
-turned_within xs d = pick_l_left 0 xs xs 16 turned d tt
-
-turned_checked : all_below 1 (λ z. all_below 16 (λ j. get_or turned j 0 == j / 4 + 4 * (j % 4))) ≡ true
+flipped_checked : all_below 16 (λ j. get_or flipped j 0 == j / 4 + 4 * (j % 4)) ≡ true
 unfolding all_below
-turned_checked = refl
+flipped_checked = refl
 
-back_checked : all_below 1 (λ z. all_below 16 (λ j. get_or turned (j / 4 + 4 * (j % 4)) 0 == j)) ≡ true
+back_checked : all_below 16 (λ j. get_or flipped (j / 4 + 4 * (j % 4)) 0 == j) ≡ true
 unfolding all_below
 back_checked = refl
 
-pub turned_at : (xs : List ℕ) (j : ℕ) → length xs ≡ 16 → j < 16 → get_or (pick_l 0 (xs ++ xs) turned) j 0 ≡ row_byte xs j
-turned_at xs j d h = swizzled xs turned j (j / 4 + 4 * (j % 4)) (turned_within xs d) h
-    (checked 1 16 (λ z j. get_or turned j 0 == j / 4 + 4 * (j % 4)) turned_checked 0 j (omega arith) h)
+pub by_rows_at : (xs : List ℕ) (j p : ℕ) → length xs ≡ 16 → j < 16 → p < 8
+    → bit (row_byte xs j) p ≡ at (lane_bits (pick_l 0 (xs ++ xs) flipped)) (8 * j + p)
+by_rows_at xs j p d h hp = sym (lane_at (pick_l 0 (xs ++ xs) flipped) j p h hp
+    ∙ ap (λ v. bit v p) (swizzled xs flipped d tt j (j / 4 + 4 * (j % 4)) h (all_below_tells 16 _ flipped_checked j h)))
 
-pub turned_back_at : (xs : List ℕ) (j : ℕ) → length xs ≡ 16 → j < 16 → row_byte (pick_l 0 (xs ++ xs) turned) j ≡ get_or xs j 0
-turned_back_at xs j d h = swizzled xs turned (j / 4 + 4 * (j % 4)) j (turned_within xs d) (omega (arith, h))
-    (checked 1 16 (λ z j. get_or turned (j / 4 + 4 * (j % 4)) 0 == j) back_checked 0 j (omega arith) h)
+pub by_columns_at : (xs : List ℕ) (j p : ℕ) → length xs ≡ 16 → j < 16 → p < 8
+    → bit (row_byte (pick_l 0 (xs ++ xs) flipped) j) p ≡ at (lane_bits xs) (8 * j + p)
+by_columns_at xs j p d h hp =
+    ap (λ v. bit v p) (swizzled xs flipped d tt (j / 4 + 4 * (j % 4)) j (omega (arith, h))
+    (all_below_tells 16 _ back_checked j h))
+    ∙ sym (lane_at xs j p h hp)
 
 -- even and odd columns apart, and together
 
@@ -116,61 +189,39 @@ apart = 0 ∷ 8 ∷ 1 ∷ 9 ∷ 2 ∷ 10 ∷ 3 ∷ 11 ∷ 4 ∷ 12 ∷ 5 ∷ 13 
 abbrev pub together : List ℕ
 together = 0 ∷ 2 ∷ 4 ∷ 6 ∷ 8 ∷ 10 ∷ 12 ∷ 14 ∷ 1 ∷ 3 ∷ 5 ∷ 7 ∷ 9 ∷ 11 ∷ 13 ∷ 15 ∷ []
 
-pub apart_within : (xs : List ℕ) → length xs ≡ 16 → pick_l 0 (xs ++ xs) apart ≡ pick_l 0 xs apart
-apart_within xs d = pick_l_left 0 xs xs 16 apart d tt
-
-pub together_within : (xs : List ℕ) → length xs ≡ 16 → pick_l 0 (xs ++ xs) together ≡ pick_l 0 xs together
-together_within xs d = pick_l_left 0 xs xs 16 together d tt
-
-apart_checked : all_below 2 (λ o. all_below 8 (λ j. get_or apart (8 * o + j) 0 == (2 * j + o) / 4 + 4 * ((2 * j + o) % 4))) ≡ true
+apart_checked : all_pairs 2 8 (λ o j. get_or apart (8 * o + j) 0 == (2 * j + o) / 4 + 4 * ((2 * j + o) % 4)) ≡ true
 unfolding all_below
 apart_checked = refl
 
-together_checked : all_below 2 (λ o. all_below 8 (λ j. get_or together ((2 * j + o) / 4 + 4 * ((2 * j + o) % 4)) 0 == 8 * o + j)) ≡ true
+together_checked : all_pairs 2 8 (λ o j. get_or together ((2 * j + o) / 4 + 4 * ((2 * j + o) % 4)) 0 == 8 * o + j)
+    ≡ true
 unfolding all_below
 together_checked = refl
 
--- bit i of digit j, in base 2 ^ a, of the number with digits xs in base 2 ^ b
-regrouped : (a b n : ℕ) (xs : List ℕ) (j r u v : ℕ) → ((i : ℕ) → get_or xs i 0 < 2 ^ b) → j < n → r < a → u < length xs → v < b → a * j + r ≡ b * u + v
-    → bit (get_or (digits_l (2 ^ a) n (number_l (2 ^ b) xs)) j 0) r ≡ bit (get_or xs u 0) v
-regrouped a b n xs j r u v small hj hr hu hv e =
-    digit_bit a n (number_l (2 ^ b) xs) j r hj hr ∙ ap (bit (number_l (2 ^ b) xs)) e ∙ number_bit b xs u v small hu hv
-
-pub apart_at : (xs : List ℕ) (j o p : ℕ) → length xs ≡ 16 → ((i : ℕ) → get_or xs i 0 < 2 ^ 8) → j < 8 → o < 2 → p < 8
-    → at (word_bits 64 (get_or (digits_l (2 ^ 64) 2 (number_l (2 ^ 8) (pick_l 0 (xs ++ xs) apart))) o 0)) (8 * j + p) ≡ bit (row_byte xs (2 * j + o)) p
-apart_at xs j o p d f hj ho hp =
+pub apart_at : (xs : List ℕ) → length xs ≡ 16 → ((i : ℕ) → get_or xs i 0 < 2 ^ 8) → (o : ℕ) → o < 2 → (j p : ℕ) → j < 8
+    → p < 8
+    → bit (row_byte xs (2 * j + o)) p ≡ at (word_bits 64 (get_or
+    (digits_l (2 ^ 64) 2 (number_l (2 ^ 8) (pick_l 0 (xs ++ xs) apart))) o 0)) (8 * j + p)
+apart_at xs d f o ho j p hj hp =
     let ys = pick_l 0 (xs ++ xs) apart in
-    sym (reads 64 (get_or (digits_l (2 ^ 64) 2 (number_l (2 ^ 8) ys)) o 0) (8 * j + p) (omega arith))
-    ∙ regrouped 64 8 2 ys o (8 * j + p) (8 * o + j) p (λ i. swizzled_small xs apart i (apart_within xs d) f) ho (omega arith) (omega arith) hp (omega arith)
-    ∙ ap (λ v. bit v p) (swizzled xs apart (8 * o + j) ((2 * j + o) / 4 + 4 * ((2 * j + o) % 4)) (apart_within xs d) (omega arith)
-    (checked 2 8 (λ o j. get_or apart (8 * o + j) 0 == (2 * j + o) / 4 + 4 * ((2 * j + o) % 4)) apart_checked o j ho hj))
+    let small = Each1-from_get_or (λ (v : ℕ). v < 2 ^ 8) ys 0 (λ i l. swizzled_small xs apart d tt f i) in
+    sym (ap (λ v. bit v p) (swizzled xs apart d tt (8 * o + j) ((2 * j + o) / 4 + 4 * ((2 * j + o) % 4)) (omega arith)
+    (all_pairs_tell 2 8 (λ o j. get_or apart (8 * o + j) 0 == (2 * j + o) / 4 + 4 * ((2 * j + o) % 4)) apart_checked o j
+    ho hj)))
+    ∙ sym (regrouped 64 8 2 ys o (8 * j + p) (8 * o + j) p small ho (omega arith) (omega arith) hp (omega arith))
+    ∙ reads 64 (get_or (digits_l (2 ^ 64) 2 (number_l (2 ^ 8) ys)) o 0) (8 * j + p) (omega arith)
 
-pub together_at : (even odd j o p : ℕ) → even < 2 ^ 64 → odd < 2 ^ 64 → j < 8 → o < 2 → p < 8
-    → bit (row_byte (pick_l 0 (digits_l (2 ^ 8) 16 (number_l (2 ^ 64) (even ∷ odd ∷ [])) ++ digits_l (2 ^ 8) 16 (number_l (2 ^ 64) (even ∷ odd ∷ []))) together) (2 * j + o)) p
+abbrev pub bytes_of : ℕ → ℕ → List ℕ
+bytes_of even odd = digits_l (2 ^ 8) 16 (number_l (2 ^ 64) (even ∷ odd ∷ []))
+
+pub together_at : (even odd : ℕ) → even < 2 ^ 64 → odd < 2 ^ 64 → (o : ℕ) → o < 2 → (j p : ℕ) → j < 8 → p < 8
+    → bit (row_byte (pick_l 0 (bytes_of even odd ++ bytes_of even odd) together) (2 * j + o)) p
     ≡ at (word_bits 64 (get_or (even ∷ odd ∷ []) o 0)) (8 * j + p)
-together_at even odd j o p fe fo hj ho hp =
-    let xs = digits_l (2 ^ 8) 16 (number_l (2 ^ 64) (even ∷ odd ∷ [])) in
-    ap (λ v. bit v p) (swizzled xs together ((2 * j + o) / 4 + 4 * ((2 * j + o) % 4)) (8 * o + j) (together_within xs refl) (omega arith)
-    (checked 2 8 (λ o j. get_or together ((2 * j + o) / 4 + 4 * ((2 * j + o) % 4)) 0 == 8 * o + j) together_checked o j ho hj))
-    ∙ regrouped 8 64 16 (even ∷ odd ∷ []) (8 * o + j) p o (8 * j + p) small (omega arith) hp ho (omega arith) (omega arith)
+together_at even odd fe fo o ho j p hj hp =
+    ap (λ v. bit v p) (swizzled (bytes_of even odd) together refl tt ((2 * j + o) / 4 + 4 * ((2 * j + o) % 4))
+    (8 * o + j) (omega arith)
+    (all_pairs_tell 2 8 (λ o j. get_or together ((2 * j + o) / 4 + 4 * ((2 * j + o) % 4)) 0 == 8 * o + j)
+    together_checked o j ho hj))
+    ∙ regrouped 8 64 16 (even ∷ odd ∷ []) (8 * o + j) p o (8 * j + p) (fe, (fo, tt)) (omega arith) hp ho (omega arith)
+    (omega arith)
     ∙ reads 64 (get_or (even ∷ odd ∷ []) o 0) (8 * j + p) (omega arith)
-  where
-    small : (i : ℕ) → get_or (even ∷ odd ∷ []) i 0 < 2 ^ 64
-    small zero = fe
-    small (suc zero) = fo
-    small (suc (suc i)) = omega arith
-
--- ---- batches by their blocks
-
-pub two_blocks : (xs : List (List ℕ)) → length xs ≡ 2 → get_or xs 0 [] ∷ get_or xs 1 [] ∷ [] ≡ xs
-unfolding build
-two_blocks xs l = built 2 xs [] l
-
-pub four_blocks : (xs : List (List ℕ)) → length xs ≡ 4 → get_or xs 0 [] ∷ get_or xs 1 [] ∷ get_or xs 2 [] ∷ get_or xs 3 [] ∷ [] ≡ xs
-unfolding build
-four_blocks xs l = built 4 xs [] l
-
-pub eight_blocks : (xs : List (List ℕ)) → length xs ≡ 8
-    → get_or xs 0 [] ∷ get_or xs 1 [] ∷ get_or xs 2 [] ∷ get_or xs 3 [] ∷ get_or xs 4 [] ∷ get_or xs 5 [] ∷ get_or xs 6 [] ∷ get_or xs 7 [] ∷ [] ≡ xs
-unfolding build
-eight_blocks xs l = built 8 xs [] l

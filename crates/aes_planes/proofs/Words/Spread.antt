@@ -1,27 +1,24 @@
 -- The bits of a block's word spread over the slots of a wider one.
-use Rattle.std.proofs.Common.{◌≡◌, ℕ, suc, ◌+◌, ◌-◌, ◌*◌, ◌/◌, ◌%◌, ◌^◌, ◌<◌, ◌≤◌, ◌==◌, Bool, true, false, not, ◌&&◌, ◌||◌, cond, nat_le, nat_lt, bit_and, bit_or, List, [], ◌∷◌, ◌++◌, get_or, nat_eq, refl, ap, sym, ◌∙◌, arith, ◌⊎◌, inl, inr}
+use Rattle.std.proofs.Common.{◌≡◌, ℕ, suc, ◌+◌, ◌-◌, ◌*◌, ◌/◌, ◌%◌, ◌^◌, ◌<◌, ◌≤◌, ◌==◌, Bool, true, false, not, ◌&&◌}
+use Rattle.std.proofs.Common.{◌||◌, cond, nat_le, nat_lt, bit_and, bit_or, List, [], ◌∷◌, ◌++◌, get_or, nat_eq, refl}
+use Rattle.std.proofs.Common.{ap, sym, ◌∙◌, arith, ◌⊎◌, inl, inr}
 use Rattle.std.proofs.Math.Bool.{and-false, and-true, and_assoc, or-false, or_self}
-use Rattle.std.proofs.Math.Seq.{get_or-append_right}
-use Rattle.std.proofs.lemmas.List.{get_or_append_left}
-use Rattle.std.proofs.lemmas.Bool.{eqb-true, cases_lt}
+use Rattle.std.proofs.lemmas.Bool.{eqb-true, and_parts, not-true}
 use Rattle.std.proofs.lemmas.Bool.Decides.{leb_tells}
 use lib.Lanes.{top}
 use Rattle.aes_planes.specs.Bits.{bit, Places}
 use Rattle.aes_planes.specs.Private.Lanes.{lane_bits}
-use Rattle.aes_planes.proofs.Bits.BitCases.{same, same_tells}
-use Rattle.aes_planes.proofs.Bits.ByteCases.{all_below, all_below_tells, both, by_two, by_eight}
-use Rattle.aes_planes.proofs.Bits.NumberBits.{Places-build, bit_low, bit_shl_high, bit_shl_low, bit_shr, bit_above, bit_of_and, bit_of_or}
-use Rattle.aes_planes.proofs.Words.LaneBits.{checked}
+use Rattle.aes_planes.proofs.Bits.ByteCases.{all_below, all_below_tells, all_pairs_tell, by_two, by_eight}
+use Rattle.aes_planes.proofs.Bits.NumberBits.{Places-build, bit_low, bit_shl, bit_shr, bit_above, bit_zero, bit_ones}
+use Rattle.aes_planes.proofs.Bits.NumberBits.{bit_of_and, bit_of_or, word_zero, word_low_byte}
+use Rattle.aes_planes.proofs.Words.LaneBits.{lane_operators}
 
 -- ---- bits drawn apart
 
-below : (s x i : ℕ) → i < 64 → ((nat_le s i ≡ true) × (s ≤ i)) ⊎ ((nat_le s i ≡ false) × (i < s)) → bit (x * 2 ^ s % 2 ^ 64) i ≡ (nat_le s i && bit x (i - s))
-below s x i h (inl t) = bit_low (x * 2 ^ s) 64 i h ∙ bit_shl_high x s i t.1 ∙ ap (λ b. b && bit x (i - s)) (sym t.0)
-below s x i h (inr t) = bit_low (x * 2 ^ s) 64 i h ∙ bit_shl_low x s i t.1 ∙ ap (λ b. b && bit x (i - s)) (sym t.0)
-
-pub drawn_bit : (s m x i : ℕ) → i < 64 → bit (bit_and (bit_or x (x * 2 ^ s % 2 ^ 64)) m) i ≡ ((bit x i || (nat_le s i && bit x (i - s))) && bit m i)
+pub drawn_bit : (s m x i : ℕ) → i < 64 → bit (bit_and (bit_or x (x * 2 ^ s % 2 ^ 64)) m) i
+    ≡ ((bit x i || (nat_le s i && bit x (i - s))) && bit m i)
 drawn_bit s m x i h = bit_of_and (bit_or x (x * 2 ^ s % 2 ^ 64)) m i
-    ∙ ap (λ b. b && bit m i) (bit_of_or x (x * 2 ^ s % 2 ^ 64) i ∙ ap (λ b. bit x i || b) (below s x i h (leb_tells s i)))
+    ∙ ap (λ b. b && bit m i) (bit_of_or x (x * 2 ^ s % 2 ^ 64) i ∙ ap (λ b. bit x i || b) (bit_shl 64 x s i h))
 
 -- the first of two bits that may stand here, or the second, under a mask: the bit that shall stand here
 joined_right : Bool → Bool → Bool → Bool → Bool → Bool → Bool
@@ -30,39 +27,39 @@ joined_right p q true false e f = not p && not q
 joined_right true q true true e f = e && (not q || f)
 joined_right false q true true e f = q && f
 
-not_tells : (b : Bool) → not b ≡ true → b ≡ false
-not_tells true h = absurd (grind arith)
-not_tells false h = refl
-
 second : (q : Bool) (x : ℕ → Bool) (v w : ℕ) → (not q || (v == w)) ≡ true → (x w || (q && x v)) ≡ x w
 second true x v w h = ap (λ k. x w || x k) (eqb-true v w h) ∙ or_self (x w)
 second false x v w h = or-false (x w)
 
-joined : (p q b o : Bool) (x : ℕ → Bool) (u v w : ℕ) → joined_right p q b o (u == w) (v == w) ≡ true → (((p && x u) || (q && x v)) && b) ≡ (o && x w)
+joined : (p q b o : Bool) (x : ℕ → Bool) (u v w : ℕ) → joined_right p q b o (u == w) (v == w) ≡ true
+    → (((p && x u) || (q && x v)) && b) ≡ (o && x w)
 unfolding joined_right
-joined p q false o x u v w h = and-false _ ∙ ap (λ c. c && x w) (sym (not_tells o h))
+joined p q false o x u v w h = and-false _ ∙ ap (λ c. c && x w) (sym (not-true o h))
 joined p q true false x u v w h =
-    let t = both (not p) (not q) h in
-    (λ i. ((not_tells p t.0 i && x u) || (not_tells q t.1 i && x v)) && true)
+    let t = and_parts (not p) (not q) h in
+    (λ i. ((not-true p t.0 i && x u) || (not-true q t.1 i && x v)) && true)
 joined true q true true x u v w h =
-    let t = both (u == w) _ h in
+    let t = and_parts (u == w) _ h in
     and-true _ ∙ ap (λ k. x k || (q && x v)) (eqb-true u w t.0) ∙ second q x v w t.1
 joined false q true true x u v w h =
-    let t = both q (v == w) h in
+    let t = and_parts q (v == w) h in
     and-true _ ∙ (λ i. t.0 i && x (eqb-true v w t.1 i))
 
 step : ℕ → ℕ → (ℕ → Bool) → (ℕ → Bool) → (ℕ → ℕ) → (ℕ → ℕ) → ℕ → Bool
 step s m on on-next from from-next i =
-    joined_right (on i) (nat_le s i && on (i - s)) (bit m i) (on-next i) (from i == from-next i) (from (i - s) == from-next i)
+    joined_right (on i) (nat_le s i && on (i - s)) (bit m i) (on-next i) (from i == from-next i)
+    (from (i - s) == from-next i)
 
-module _ (s m : ℕ) (on on-next : ℕ → Bool) (from from-next : ℕ → ℕ) (right : all_below 64 (step s m on on-next from from-next) ≡ true) where
+module _ (s m : ℕ) (on on-next : ℕ → Bool) (from from-next : ℕ
+    → ℕ) (right : all_below 64 (step s m on on-next from from-next) ≡ true) where
   drawn : (x a b : ℕ) → ((i : ℕ) → i < 64 → bit a i ≡ (on i && bit x (from i)))
       → ((i : ℕ) → i < 64 → bit b i ≡ ((bit a i || (nat_le s i && bit a (i - s))) && bit m i))
       → (i : ℕ) → i < 64 → bit b i ≡ (on-next i && bit x (from-next i))
   unfolding step
   drawn x a b f g i h =
       g i h ∙ (λ t. (f i h t || (nat_le s i && f (i - s) (omega arith) t)) && bit m i)
-      ∙ ap (λ v. ((on i && bit x (from i)) || v) && bit m i) (sym (and_assoc (nat_le s i) (on (i - s)) (bit x (from (i - s)))))
+      ∙ ap (λ v. ((on i && bit x (from i)) || v) && bit m i)
+      (sym (and_assoc (nat_le s i) (on (i - s)) (bit x (from (i - s)))))
       ∙ joined (on i) (nat_le s i && on (i - s)) (bit m i) (on-next i) (bit x) (from i) (from (i - s)) (from-next i)
       (all_below_tells 64 (step s m on on-next from from-next) right i h)
 
@@ -73,23 +70,28 @@ first_places l q i = nat_lt (i % l) q
 abbrev from_place : ℕ → ℕ → ℕ → ℕ
 from_place l q i = q * (i / l) + i % l
 
-to_eights : all_below 64 (step 24 0x000000ff000000ff (first_places 64 16) (first_places 32 8) (from_place 64 16) (from_place 32 8)) ≡ true
+to_eights : all_below 64 (step 24 0x000000ff000000ff (first_places 64 16) (first_places 32 8) (from_place 64 16)
+    (from_place 32 8)) ≡ true
 unfolding all_below step joined_right bit
 to_eights = refl
 
-to_fours : all_below 64 (step 12 0x000f000f000f000f (first_places 32 8) (first_places 16 4) (from_place 32 8) (from_place 16 4)) ≡ true
+to_fours : all_below 64 (step 12 0x000f000f000f000f (first_places 32 8) (first_places 16 4) (from_place 32 8)
+    (from_place 16 4)) ≡ true
 unfolding all_below step joined_right bit
 to_fours = refl
 
-to_twos : all_below 64 (step 6 0x0303030303030303 (first_places 16 4) (first_places 8 2) (from_place 16 4) (from_place 8 2)) ≡ true
+to_twos : all_below 64 (step 6 0x0303030303030303 (first_places 16 4) (first_places 8 2) (from_place 16 4)
+    (from_place 8 2)) ≡ true
 unfolding all_below step joined_right bit
 to_twos = refl
 
-to_ones : all_below 64 (step 3 0x1111111111111111 (first_places 8 2) (first_places 4 1) (from_place 8 2) (from_place 4 1)) ≡ true
+to_ones : all_below 64 (step 3 0x1111111111111111 (first_places 8 2) (first_places 4 1) (from_place 8 2)
+    (from_place 4 1)) ≡ true
 unfolding all_below step joined_right bit
 to_ones = refl
 
-to_twice : all_below 64 (step 1 0x3333333333333333 (first_places 4 1) (first_places 4 2) (from_place 4 1) (λ i. i / 4)) ≡ true
+to_twice : all_below 64 (step 1 0x3333333333333333 (first_places 4 1) (first_places 4 2) (from_place 4 1) (λ i. i / 4))
+    ≡ true
 unfolding all_below step joined_right bit
 to_twice = refl
 
@@ -106,18 +108,23 @@ start x i f h =
     go : ((nat_lt (i % 64) 16 ≡ true) × (suc (i % 64) ≤ 16)) ⊎ ((nat_lt (i % 64) 16 ≡ false) × (16 < suc (i % 64)))
         → bit x (from_place 64 16 i) ≡ (first_places 64 16 i && bit x (from_place 64 16 i))
     go (inl t) = ap (λ b. b && bit x (from_place 64 16 i)) (sym t.0)
-    go (inr t) = bit_above x 16 (from_place 64 16 i) f (omega (arith, t.1)) ∙ ap (λ b. b && bit x (from_place 64 16 i)) (sym t.0)
+    go (inr t) = bit_above x 16 (from_place 64 16 i) f (omega (arith, t.1))
+        ∙ ap (λ b. b && bit x (from_place 64 16 i)) (sym t.0)
 
 abbrev Drawn : ℕ → ℕ → ℕ → ℕ → Type 0
 Drawn s m a b = (i : ℕ) → i < 64 → bit b i ≡ ((bit a i || (nat_le s i && bit a (i - s))) && bit m i)
 
 pub each_four_times : (x eights fours twos ones twice last : ℕ) → x < 2 ^ 16
-    → Drawn 24 0x000000ff000000ff x eights → Drawn 12 0x000f000f000f000f eights fours → Drawn 6 0x0303030303030303 fours twos
-    → Drawn 3 0x1111111111111111 twos ones → Drawn 1 0x3333333333333333 ones twice → Drawn 2 0xffffffffffffffff twice last
+    → Drawn 24 0x000000ff000000ff x eights → Drawn 12 0x000f000f000f000f eights fours
+    → Drawn 6 0x0303030303030303 fours twos
+    → Drawn 3 0x1111111111111111 twos ones → Drawn 1 0x3333333333333333 ones twice
+    → Drawn 2 0xffffffffffffffff twice last
     → (i : ℕ) → i < 64 → bit last i ≡ bit x (i / 4)
 each_four_times x eights fours twos ones twice last f d24 d12 d6 d3 d1 d2 =
-    drawn _ _ _ _ _ _ to_whole x twice last (drawn _ _ _ _ _ _ to_twice x ones twice (drawn _ _ _ _ _ _ to_ones x twos ones
-    (drawn _ _ _ _ _ _ to_twos x fours twos (drawn _ _ _ _ _ _ to_fours x eights fours (drawn _ _ _ _ _ _ to_eights x x eights (λ i h. start x i f h) d24) d12) d6) d3) d1) d2
+    drawn _ _ _ _ _ _ to_whole x twice last (drawn _ _ _ _ _ _ to_twice x ones twice
+    (drawn _ _ _ _ _ _ to_ones x twos ones
+    (drawn _ _ _ _ _ _ to_twos x fours twos (drawn _ _ _ _ _ _ to_fours x eights fours
+    (drawn _ _ _ _ _ _ to_eights x x eights (λ i h. start x i f h) d24) d12) d6) d3) d1) d2
 
 -- ---- a lane for each bit
 
@@ -130,40 +137,35 @@ unfolding all_below bit
 lanes_checked = refl
 
 lane_right : (b q : ℕ) → b < 256 → q < 8 → lane_if b (2 ^ q) ≡ cond (bit b q) 255 0
-lane_right b q h k = eqb-true _ _ (checked 256 8 (λ b q. lane_if b (2 ^ q) == cond (bit b q) 255 0) lanes_checked b q h k)
+lane_right b q h k = eqb-true _ _ (all_pairs_tell 256 8 (λ b q. lane_if b (2 ^ q) == cond (bit b q) 255 0) lanes_checked
+    b q h k)
 
 abbrev eight_lanes : ℕ → List ℕ
-eight_lanes b = lane_if b 1 ∷ lane_if b 2 ∷ lane_if b 4 ∷ lane_if b 8 ∷ lane_if b 16 ∷ lane_if b 32 ∷ lane_if b 64 ∷ lane_if b 128 ∷ []
-
-eight_right : (b q : ℕ) → b < 256 → q < 8 → get_or (eight_lanes b) q 0 ≡ cond (bit b q) 255 0
-eight_right b q h k = by_eight (λ q. get_or (eight_lanes b) q 0 ≡ cond (bit b q) 255 0)
-    (lane_right b 0 h (omega arith)) (lane_right b 1 h (omega arith)) (lane_right b 2 h (omega arith)) (lane_right b 3 h (omega arith))
-    (lane_right b 4 h (omega arith)) (lane_right b 5 h (omega arith)) (lane_right b 6 h (omega arith)) (lane_right b 7 h (omega arith)) q k
+eight_lanes b = lane_if b 1 ∷ lane_if b 2 ∷ lane_if b 4 ∷ lane_if b 8 ∷ lane_if b 16 ∷ lane_if b 32 ∷ lane_if b 64
+    ∷ lane_if b 128 ∷ []
 
 pub lane_of_bit : (low high j : ℕ) → low < 256 → high < 256 → j < 16
     → get_or (eight_lanes low ++ eight_lanes high) j 0 ≡ cond (bit (get_or (low ∷ high ∷ []) (j / 8) 0) (j % 8)) 255 0
-lane_of_bit low high j f g h = go (cases_lt j 8)
-  where
-    go : (j < 8) ⊎ (8 ≤ j) → get_or (eight_lanes low ++ eight_lanes high) j 0 ≡ cond (bit (get_or (low ∷ high ∷ []) (j / 8) 0) (j % 8)) 255 0
-    go (inl lt) =
-        let byte : 0 ≡ j / 8 = omega arith in
-        let place : j ≡ j % 8 = omega arith in
-        get_or_append_left (eight_lanes low) (eight_lanes high) 0 j lt ∙ eight_right low j f lt ∙ (λ t. cond (bit (get_or (low ∷ high ∷ []) (byte t) 0) (place t)) 255 0)
-    go (inr le) =
-        let byte : 1 ≡ j / 8 = omega arith in
-        let place : j - 8 ≡ j % 8 = omega arith in
-        get_or-append_right (eight_lanes low) (eight_lanes high) j 0 le ∙ eight_right high (j - 8) g (omega arith) ∙ (λ t. cond (bit (get_or (low ∷ high ∷ []) (byte t) 0) (place t)) 255 0)
-
-lane_bit_checked : all_below 2 (λ v. all_below 8 (λ p. same (bit (cond (v == 1) 255 0) p) (v == 1))) ≡ true
-unfolding all_below same bit
-lane_bit_checked = refl
+lane_of_bit low high j f g h =
+    let both = eight_lanes low ++ eight_lanes high in
+    let spot : j ≡ 8 * (j / 8) + j % 8 = omega arith in
+    ap (λ v. get_or both v 0) spot
+    ∙ by_two (λ q. get_or both (8 * q + j % 8) 0 ≡ cond (bit (get_or (low ∷ high ∷ []) q 0) (j % 8)) 255 0)
+    (by_eight (λ r. get_or both (8 * 0 + r) 0 ≡ cond (bit low r) 255 0)
+    (lane_right low 0 f (omega arith)) (lane_right low 1 f (omega arith)) (lane_right low 2 f (omega arith))
+    (lane_right low 3 f (omega arith)) (lane_right low 4 f (omega arith)) (lane_right low 5 f (omega arith))
+    (lane_right low 6 f (omega arith)) (lane_right low 7 f (omega arith)) (j % 8) (omega arith))
+    (by_eight (λ r. get_or both (8 * 1 + r) 0 ≡ cond (bit high r) 255 0)
+    (lane_right high 0 g (omega arith)) (lane_right high 1 g (omega arith)) (lane_right high 2 g (omega arith))
+    (lane_right high 3 g (omega arith)) (lane_right high 4 g (omega arith)) (lane_right high 5 g (omega arith))
+    (lane_right high 6 g (omega arith)) (lane_right high 7 g (omega arith)) (j % 8) (omega arith)) (j / 8) (omega arith)
 
 lane_of_ones : (b : Bool) (p : ℕ) → p < 8 → bit (cond b 255 0) p ≡ b
-lane_of_ones true p h = same_tells _ _ (checked 2 8 (λ v p. same (bit (cond (v == 1) 255 0) p) (v == 1)) lane_bit_checked 1 p (omega arith) h)
-lane_of_ones false p h = same_tells _ _ (checked 2 8 (λ v p. same (bit (cond (v == 1) 255 0) p) (v == 1)) lane_bit_checked 0 p (omega arith) h)
+lane_of_ones true p h = bit_ones 8 p h
+lane_of_ones false p h = bit_zero p
 
-byte_of_two : (x q p : ℕ) → x < 2 ^ 16 → q < 2 → p < 8 → bit (get_or (x % 256 ∷ x / 256 ∷ []) q 0) p ≡ bit x (8 * q + p)
-byte_of_two x q p f hq hp = by_two (λ q. bit (get_or (x % 256 ∷ x / 256 ∷ []) q 0) p ≡ bit x (8 * q + p))
+byte_of_two : (x q p : ℕ) → q < 2 → p < 8 → bit (get_or (x % 256 ∷ x / 256 ∷ []) q 0) p ≡ bit x (8 * q + p)
+byte_of_two x q p hq hp = by_two (λ q. bit (get_or (x % 256 ∷ x / 256 ∷ []) q 0) p ≡ bit x (8 * q + p))
     (bit_low x 8 p hp ∙ ap (bit x) (omega arith)) (bit_shr x 8 p ∙ ap (bit x) (omega arith)) q hq
 
 -- lanes of ones where sixteen bits have a bit: that bit in every slot
@@ -172,4 +174,7 @@ pub lanes_spread : (x : ℕ) (xs : List ℕ) → x < 2 ^ 16
     → Places 128 (lane_bits xs) (λ i. bit x (4 * (i / 32) + i % 32 / 8))
 lanes_spread x xs f h = Places-build 128 _ _ (λ i l.
     ap (λ v. bit v (i % 8)) (h (i / 8) (omega arith)) ∙ lane_of_ones _ (i % 8) (omega arith)
-    ∙ byte_of_two x (i / 8 / 8) (i / 8 % 8) f (omega arith) (omega arith) ∙ ap (bit x) (omega arith))
+    ∙ byte_of_two x (i / 8 / 8) (i / 8 % 8) (omega arith) (omega arith) ∙ ap (bit x) (omega arith))
+
+-- what the calls of a word leave, where it is lanes
+pub ruleset lane_calls = (lane_operators, lanes_spread, word_zero, word_low_byte)

@@ -3,10 +3,9 @@
 ghost use Rattle.std.specs.Prelude.{◌≡◌, ◌⊎◌};
 
 use super::both_keys::BothKeys;
-use super::eight::Eight;
 use aes::hazmat::Block8;
 use aes_cipher::cipher::{
-    BatchSizeUser, BlockCipherDecBackend, BlockCipherEncBackend, RoundKeysUser,
+    BatchOfEight, BatchSizeUser, BlockCipherDecBackend, BlockCipherEncBackend, RoundKeysUser,
 };
 use aes_planes::laws;
 use aes_planes::soft::word::Block;
@@ -40,7 +39,7 @@ impl<const RK: usize> RoundKeysUser for Aes<RK> {
 }
 
 impl<const RK: usize> BatchSizeUser for Aes<RK> {
-    type Par = Eight;
+    type Par = BatchOfEight;
 }
 
 impl<const RK: usize> BlockCipherEncBackend for Aes<RK> {

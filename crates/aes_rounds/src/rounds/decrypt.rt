@@ -3,9 +3,8 @@
 ghost use Rattle.std.specs.Prelude.{◌≡◌, ◌⊎◌};
 
 use super::both_keys::BothKeys;
-use super::eight::Eight;
 use aes::hazmat::Block8;
-use aes_cipher::cipher::{BatchSizeUser, BlockCipherDecBackend, RoundKeysUser};
+use aes_cipher::cipher::{BatchOfEight, BatchSizeUser, BlockCipherDecBackend, RoundKeysUser};
 use aes_planes::laws;
 use aes_planes::soft::word::Block;
 
@@ -38,7 +37,7 @@ impl<const RK: usize> RoundKeysUser for AesDec<RK> {
 }
 
 impl<const RK: usize> BatchSizeUser for AesDec<RK> {
-    type Par = Eight;
+    type Par = BatchOfEight;
 }
 
 impl<const RK: usize> BlockCipherDecBackend for AesDec<RK> {

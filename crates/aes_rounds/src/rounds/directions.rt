@@ -1,4 +1,4 @@
-//! The two directions: the rounds of Cipher, and those of EqInvCipher.
+//! The single rounds of each direction: those of Cipher, and those of EqInvCipher.
 
 ghost use Rattle.std.specs.Prelude.{◌≡◌, ℕ, List, replicate};
 ghost use Rattle.aes_planes.specs.Fips197 as fips;
@@ -8,10 +8,11 @@ use aes::hazmat::{
     Block8, cipher_round, cipher_round_par, equiv_inv_cipher_round, equiv_inv_cipher_round_par,
     inv_mix_columns, mix_columns,
 };
+use aes_cipher::cipher::{Decrypt, Direction, Encrypt};
 use aes_planes::soft::word::Block;
 
-// A cipher, by the single rounds that it is made of.
-pub(super) trait Direction {
+// A direction, by the single rounds that it is made of.
+pub(super) trait SingleRounds: Direction {
     // A round without its key.
     ghost step: { List ℕ → List ℕ };
 
@@ -40,12 +41,7 @@ pub(super) trait Direction {
 }
 
 // Cipher (FIPS 197, 5.1).
-pub(super) struct Encrypting;
-
-// EqInvCipher (FIPS 197, 5.3.5).
-pub(super) struct Decrypting;
-
-impl Direction for Encrypting {
+impl SingleRounds for Encrypt {
     ghost step = { λ b. fips.mix_columns (fips.shift_rows (fips.sub_bytes b)) };
 
     ghost last_step = { λ b. fips.shift_rows (fips.sub_bytes b) };
@@ -64,10 +60,12 @@ impl Direction for Encrypting {
         inv_mix_columns(block);
     }
 
+    #[tactic(auto, using(crate::proofs::SingleRounds::mixing_undone))]
     fn is_unmixed() {}
 }
 
-impl Direction for Decrypting {
+// EqInvCipher (FIPS 197, 5.3.5).
+impl SingleRounds for Decrypt {
     ghost step = { λ b. fips.inv_mix_columns (fips.inv_shift_rows (fips.inv_sub_bytes b)) };
 
     ghost last_step = { λ b. fips.inv_shift_rows (fips.inv_sub_bytes b) };
@@ -86,5 +84,6 @@ impl Direction for Decrypting {
         mix_columns(block);
     }
 
+    #[tactic(auto, using(crate::proofs::SingleRounds::inverse_mixing_undone))]
     fn is_unmixed() {}
 }

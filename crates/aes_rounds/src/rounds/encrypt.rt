@@ -5,10 +5,9 @@ ghost use Rattle.std.specs.Prelude.{◌≡◌, ◌⊎◌, ◌≤◌, length};
 use super::both_keys::BothKeys;
 use super::both_ways::Aes;
 use super::decrypt::AesDec;
-use super::eight::Eight;
 use super::runs;
 use aes::hazmat::Block8;
-use aes_cipher::cipher::{BatchSizeUser, BlockCipherEncBackend, RoundKeysUser};
+use aes_cipher::cipher::{BatchOfEight, BatchSizeUser, BlockCipherEncBackend, RoundKeysUser};
 use aes_planes::laws;
 use aes_planes::soft::word::Block;
 
@@ -58,7 +57,7 @@ impl<const RK: usize> RoundKeysUser for AesEnc<RK> {
 }
 
 impl<const RK: usize> BatchSizeUser for AesEnc<RK> {
-    type Par = Eight;
+    type Par = BatchOfEight;
 }
 
 impl<const RK: usize> BlockCipherEncBackend for AesEnc<RK> {

@@ -3,8 +3,8 @@
 ghost use Rattle.std.specs.Prelude.{◌≡◌, ◌*◌, ◌+◌, ◌/◌, ◌<◌, ◌≤◌, ℕ, length, slice_index, slice_index_or, []};
 ghost use Rattle.aes_planes.specs.Fips197 as fips;
 
-use super::directions::Encrypting;
 use super::runs::last_step;
+use aes_cipher::cipher::Encrypt;
 use aes_planes::soft::word::Block;
 
 // Four bytes: a column of a block, and the unit of the key expansion.
@@ -35,6 +35,7 @@ pub fn expand_256(key: &[u8; 32]) -> [Block; 15]
 }
 
 // KeyExpansion of a key whose schedule has RK round keys, made of WORDS words.
+#[tactic(auto, using(crate::proofs::Words::blocks_of_expanded_words))]
 fn expand<const RK: usize, const WORDS: usize>(key: &[u8]) -> [Block; RK]
     requires whole_words { length key.now ≡ 4 * fips.key_words key.now }
     requires four_words { 4 ≤ fips.key_words key.now }
@@ -111,7 +112,7 @@ fn sub_word(word: &KeyWord) -> KeyWord
     ensures { result ≡ fips.sub_word word.now }
 {
     let mut block = block_of([*word; 4]);
-    last_step::<Encrypting, Block>(&mut block);
+    last_step::<Encrypt, Block>(&mut block);
     [block[0], block[1], block[2], block[3]]
 }
 

@@ -3,33 +3,36 @@
 ghost use Rattle.std.specs.Prelude.{◌≡◌, ◌≤◌, length, map};
 ghost use Rattle.aes_planes.specs.Each.{Each};
 ghost use Rattle.aes_planes.specs.Fips197 as fips;
-ghost use Rattle.aes_rounds.specs.Private.{all_rounds};
+ghost use Rattle.aes_planes.specs.Private.Rounds.{all_rounds};
 
-use super::directions::{Decrypting, Direction, Encrypting};
+use super::directions::SingleRounds;
 use super::states::States;
+use aes_cipher::cipher::{Decrypt, Encrypt};
 use aes_planes::soft::word::Block;
 
 // The round key that changes nothing.
 const ZERO_KEY: Block = [0; 16];
 
 // Leaves Cipher of each block (FIPS 197, 5.1).
+#[tactic(auto, using(aes_planes::proofs::Standard::AllRounds::is_cipher))]
 pub(super) fn encrypt<S: States>(states: &mut S, round_keys: &[Block])
     requires { 2 ≤ length round_keys.now }
     ensures { Each (fips.cipher_with round_keys.now) (S.blocks states.old) (S.blocks states.new) }
 {
-    run::<Encrypting, S>(states, round_keys);
+    run::<Encrypt, S>(states, round_keys);
 }
 
 // Leaves EqInvCipher of each block, under inverted round keys (FIPS 197, 5.3.5).
+#[tactic(auto, using(aes_planes::proofs::Standard::AllRounds::is_eq_inv_cipher))]
 pub(super) fn decrypt<S: States>(states: &mut S, inverted_keys: &[Block])
     requires { 2 ≤ length inverted_keys.now }
     ensures { Each (fips.eq_inv_cipher_with inverted_keys.now) (S.blocks states.old) (S.blocks states.new) }
 {
-    run::<Decrypting, S>(states, inverted_keys);
+    run::<Decrypt, S>(states, inverted_keys);
 }
 
 // Leaves each block as all rounds leave it.
-fn run<D: Direction, S: States>(states: &mut S, round_keys: &[Block])
+fn run<D: SingleRounds, S: States>(states: &mut S, round_keys: &[Block])
     requires { 2 ≤ length round_keys.now }
     ensures { S.blocks states.new ≡ map (all_rounds D.step D.last_step round_keys.now) (S.blocks states.old) }
 {
@@ -44,7 +47,7 @@ fn run<D: Direction, S: States>(states: &mut S, round_keys: &[Block])
 
 // Leaves the last round of each block without its key: a round under the zero key whose mixing is
 // taken back.
-pub(super) fn last_step<D: Direction, S: States>(states: &mut S)
+pub(super) fn last_step<D: SingleRounds, S: States>(states: &mut S)
     ensures { S.blocks states.new ≡ map D.last_step (S.blocks states.old) }
 {
     D::is_unmixed();

@@ -3,7 +3,7 @@
 ghost use Rattle.std.specs.Prelude.{◌≡◌, ℕ, ◌<◌, List, [], ◌∷◌, length, map, slice_index_or};
 ghost use Rattle.aes_planes.specs.Fips197 as fips;
 
-use super::directions::Direction;
+use super::directions::SingleRounds;
 use aes::hazmat::Block8;
 use aes_planes::laws;
 use aes_planes::soft::utils::sum_of_blocks;
@@ -19,11 +19,11 @@ pub(super) trait States {
         ensures { blocks self.new ≡ map (λ b. fips.add_round_key b round_key.now) (blocks self.old) };
 
     // Leaves a round of each block.
-    fn round<D: Direction>(&mut self, round_key: &Block)
+    fn round<D: SingleRounds>(&mut self, round_key: &Block)
         ensures { blocks self.new ≡ map (λ b. fips.add_round_key (D.step b) round_key.now) (blocks self.old) };
 
     // Takes the mixing of a round back in each block.
-    fn unmix<D: Direction>(&mut self)
+    fn unmix<D: SingleRounds>(&mut self)
         ensures { blocks self.new ≡ map D.unmixed (blocks self.old) };
 
     // Nothing: a call has in its contract that these are blocks of the standard.
@@ -38,11 +38,11 @@ impl States for Block {
         *self = sum_of_blocks(self, round_key);
     }
 
-    fn round<D: Direction>(&mut self, round_key: &Block) {
+    fn round<D: SingleRounds>(&mut self, round_key: &Block) {
         D::round(self, round_key);
     }
 
-    fn unmix<D: Direction>(&mut self) {
+    fn unmix<D: SingleRounds>(&mut self) {
         D::unmix(self);
     }
 
@@ -60,11 +60,11 @@ impl States for Block8 {
         }
     }
 
-    fn round<D: Direction>(&mut self, round_key: &Block) {
+    fn round<D: SingleRounds>(&mut self, round_key: &Block) {
         D::round_par(self, &[*round_key; 8]);
     }
 
-    fn unmix<D: Direction>(&mut self) {
+    fn unmix<D: SingleRounds>(&mut self) {
         for block in self.iter_mut() {
             D::unmix(block);
         }

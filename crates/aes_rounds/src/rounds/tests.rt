@@ -172,7 +172,7 @@ fn agrees_with_the_type_for_keys_of_32_bytes(rt: HostRuntime) {
     assert!(rt; there_and_back(&expand_256(&counted()), &plain, &wanted));
 }
 
-// FIPS 197, appendices A.1 to A.3: the first words that are not the key's own, and the last round key.
+// FIPS 197, appendices A.1 to A.3 and C.1: the first words that are not the key's own, and the last round key.
 #[test]
 fn expands_keys_of_the_standard(rt: HostRuntime) {
     let round_keys = expand_128(&0x2b7e151628aed2a6abf7158809cf4f3c_u128.to_be_bytes());
@@ -187,6 +187,12 @@ fn expands_keys_of_the_standard(rt: HostRuntime) {
     assert_eq!(rt;
         u128::from_be_bytes(round_keys[10]),
         0xd014f9a8c9ee2589e13f0cc8b6630ca6
+    );
+    // The key of appendix C.1.
+    let round_keys = expand_128(&counted());
+    assert_eq!(rt;
+        u128::from_be_bytes(round_keys[10]),
+        0x13111d7fe3944a17f307a78b4d2b30c5
     );
     let round_keys = expand_192(&KEY_A2);
     assert_eq!(rt;

@@ -2,11 +2,11 @@
 
 mod two_keys;
 
-use super::{apply_to_parts, there_and_back};
+use super::{apply_at, apply_then_encrypt, apply_to_parts, there_and_back};
 use crate::by_backend::ByBackend;
 use aes::{Aes128, Aes128Enc, Aes192Enc, Aes256};
 use aes_cipher::cipher::{BlockCipherEncrypt, KeyInit};
-use aes_ctr::{Ctr128BE, stream_cut};
+use aes_ctr::{Ctr128BE, stream_cut, stream_twice};
 use std::test::Fail;
 use two_keys::TwoKeys;
 
@@ -233,4 +233,39 @@ fn callers_answer(rt: HostRuntime) {
     assert!(rt; apply_to_parts(&mut mode, &mut head, &mut rest).is_ok());
     assert_eq!(rt; mode.position(), 32);
     stream_cut();
+    stream_twice();
+}
+
+#[test]
+fn starts_and_goes_on_at_any_position(rt: HostRuntime) {
+    let cipher = Aes128Enc::new(&KEY.to_be_bytes());
+    for at in [0, 1, 15, 16, 17, 31, 32] {
+        let mut bytes = bytes_of(PLAIN);
+        assert!(rt; apply_at(&cipher, IV.to_be_bytes(), at as u64, &mut bytes[at..]).is_ok());
+        let mut mode = Ctr128BE::new(&cipher, IV.to_be_bytes());
+        assert!(rt; mode.try_apply(&mut bytes[..at]).is_ok());
+        assert_eq!(rt; bytes, bytes_of(ENCRYPTED));
+        mode.seek(at as u64);
+        assert_eq!(rt; mode.position(), at as u64);
+        assert!(rt; mode.try_apply(&mut bytes[at..]).is_ok());
+        mode.seek(0);
+        assert!(rt; mode.try_apply(&mut bytes[..at]).is_ok());
+        assert_eq!(rt; bytes, bytes_of(PLAIN));
+    }
+    let mut end = [0; 2];
+    assert!(rt; apply_at(&cipher, [0; 16], u64::MAX - 1, &mut end[..1]).is_ok());
+    assert!(rt; apply_at(&cipher, [0; 16], u64::MAX - 1, &mut end).is_err());
+}
+
+#[test]
+fn gives_its_cipher_back(rt: HostRuntime) {
+    let cipher = Aes128Enc::new(&KEY.to_be_bytes());
+    let mut bytes = bytes_of(PLAIN);
+    let mut block = IV.to_be_bytes();
+    let back = apply_then_encrypt(&cipher, IV.to_be_bytes(), &mut bytes, &mut block);
+    assert_eq!(rt; bytes, bytes_of(ENCRYPTED));
+    let mut wanted = IV.to_be_bytes();
+    assert!(rt; back.is_ok());
+    cipher.encrypt_block(&mut wanted);
+    assert_eq!(rt; block, wanted);
 }

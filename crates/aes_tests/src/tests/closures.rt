@@ -1,47 +1,51 @@
 //! Closures on the backends of every type, and on the round by round ciphers with their batch of eight.
 
 use super::blocks::{PLAIN, blocks, different_blocks};
-use super::ways::{Back, Forward, Trial, Way, try_all};
+use super::ways::{OneWay, Trial, try_all};
 use crate::closures::{Mixed, Nothing, Row, Twice, encrypt_row, twice_there_and_back};
 use aes::{Aes128, Block};
-use aes_cipher::cipher::KeyInit;
+use aes_cipher::cipher::{
+    BlockCipherDecrypt, BlockCipherEncrypt, Decrypt, Direction, Encrypt, KeyInit,
+};
 
 // A closure that does nothing, one that works twice, and rows of blocks, by what single calls leave.
 struct Closures;
 
-fn does_nothing<W: Way>(way: &W) -> bool {
+fn does_nothing<D: Direction, C: OneWay<D>>(cipher: &C) -> bool {
     let mut nothing = Nothing { count: 7 };
-    way.lend(&mut nothing);
+    cipher.lend(&mut nothing);
     nothing.count == 7
 }
 
-fn works_twice<W: Way>(way: &W, block: Block) -> bool {
+fn works_twice<D: Direction, C: OneWay<D>>(cipher: &C, block: Block) -> bool {
     let mut twice = Twice { block };
-    way.lend(&mut twice);
+    cipher.lend(&mut twice);
     let mut wanted = block;
-    way.on_block(&mut wanted);
-    way.on_block(&mut wanted);
+    cipher.process_block(&mut wanted);
+    cipher.process_block(&mut wanted);
     twice.block == wanted
 }
 
-fn works_on_rows<W: Way>(way: &W) -> bool {
+fn works_on_rows<D: Direction, C: OneWay<D>>(cipher: &C) -> bool {
     let plain = different_blocks();
     let mut wanted = plain;
     for i in 0..wanted.len() {
-        way.on_block(&mut wanted[i]);
+        cipher.process_block(&mut wanted[i]);
     }
     let mut mixed = Mixed { blocks: plain };
-    way.lend(&mut mixed);
+    cipher.lend(&mut mixed);
     let mut five = plain;
-    way.lend(&mut Row {
+    cipher.lend(&mut Row {
         blocks: &mut five[..5],
     });
     mixed.blocks == wanted && five[..5] == wanted[..5] && five[5..] == plain[5..]
 }
 
 impl Trial for Closures {
-    fn passes<W: Way>(&self, way: &W) -> bool {
-        does_nothing(way) && works_twice(way, different_blocks()[3]) && works_on_rows(way)
+    fn passes<D: Direction, C: OneWay<D>>(&self, cipher: &C) -> bool {
+        does_nothing::<D, C>(cipher)
+            && works_twice::<D, C>(cipher, different_blocks()[3])
+            && works_on_rows::<D, C>(cipher)
     }
 }
 
@@ -66,9 +70,9 @@ fn a_row_of_five_has_the_blocks_of_the_standard(rt: HostRuntime) {
     let wanted = [wanted_a, wanted_b, wanted_c, wanted_d, wanted_a];
     let plain = [a, b, c, d, a];
     let mut row = plain;
-    Forward { cipher: &cipher }.lend(&mut Row { blocks: &mut row });
+    cipher.encrypt_with_backend(&mut Row { blocks: &mut row });
     assert_eq!(rt; row, wanted);
-    Back { cipher: &cipher }.lend(&mut Row { blocks: &mut row });
+    cipher.decrypt_with_backend(&mut Row { blocks: &mut row });
     assert_eq!(rt; row, plain);
     encrypt_row(&cipher, &mut row);
     assert_eq!(rt; row, wanted);

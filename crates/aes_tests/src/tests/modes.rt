@@ -3,7 +3,9 @@
 use super::blocks::{PLAIN, blocks};
 use crate::by_backend::ByBackend;
 use crate::cbc::{cbc_decrypt, cbc_encrypt, cbc_there_and_back};
+use crate::chaining_value::{chaining_value, chaining_value_under};
 use aes::{Aes128, Aes192, Aes256};
+use aes_cipher::blocks::{block_of_number, blocks_equal};
 use aes_cipher::cipher::{BlockCipherDecrypt, BlockCipherEncrypt, KeyInit};
 use aes_rounds::rounds::{Aes, expand_128};
 
@@ -69,4 +71,14 @@ fn chains_the_blocks_of_the_standard(rt: HostRuntime) {
     );
     assert!(rt; chains(&Aes192::new(&KEY_192), &by_192));
     assert!(rt; chains(&Aes256::new(&KEY_256), &by_256));
+}
+
+// NIST's example of CMAC with a key of 16 bytes, on an empty message (SP 800-38B, D.1): its one block is the padding
+// summed with the second subkey.
+#[test]
+fn chains_to_a_value(rt: HostRuntime) {
+    let last = [block_of_number(0x80 << 120 ^ 0xf7ddac306ae266ccf90bc11ee46d513b)];
+    let tag = block_of_number(0xbb1d6929e95937287fa37d129b756746);
+    assert!(rt; blocks_equal(&chaining_value_under(&KEY_128, &last), &tag));
+    assert!(rt; blocks_equal(&chaining_value(&Aes128::new(&KEY_128), &[]), &[0; 16]));
 }

@@ -7,55 +7,44 @@ use aes::{
     Aes128, Aes128Dec, Aes128Enc, Aes192, Aes192Dec, Aes192Enc, Aes256, Aes256Dec, Aes256Enc, Block,
 };
 use aes_cipher::cipher::{
-    BlockCipherDecClosure, BlockCipherDecrypt, BlockCipherEncClosure, BlockCipherEncrypt, KeyInit,
+    BlockCipherDecClosure, BlockCipherDecrypt, BlockCipherEncClosure, BlockCipherEncrypt, Decrypt,
+    Direction, Encrypt, KeyInit,
 };
 use aes_rounds::rounds::{Aes, AesDec, AesEnc, expand_128, expand_192, expand_256};
 
-/// A cipher in one direction.
-pub trait Way {
-    /// Works on a block.
-    fn on_block(&self, block: &mut Block);
+/// A cipher that processes blocks in the direction D.
+pub trait OneWay<D: Direction> {
+    /// Processes the block in its place.
+    fn process_block(&self, block: &mut Block);
 
     /// Calls a closure with a backend.
     fn lend<F: BlockCipherEncClosure + BlockCipherDecClosure>(&self, f: &mut F);
 }
 
-/// A cipher that encrypts.
-#[derive(Drop)]
-pub struct Forward<'a, C: BlockCipherEncrypt> {
-    pub cipher: &'a C,
-}
-
-impl<C: BlockCipherEncrypt> Way for Forward<'_, C> {
-    fn on_block(&self, block: &mut Block) {
-        self.cipher.encrypt_block(block);
+impl<C: BlockCipherEncrypt> OneWay<Encrypt> for C {
+    fn process_block(&self, block: &mut Block) {
+        self.encrypt_block(block);
     }
 
     fn lend<F: BlockCipherEncClosure + BlockCipherDecClosure>(&self, f: &mut F) {
-        self.cipher.encrypt_with_backend(f);
+        self.encrypt_with_backend(f);
     }
 }
 
-/// A cipher that decrypts.
-#[derive(Drop)]
-pub struct Back<'a, C: BlockCipherDecrypt> {
-    pub cipher: &'a C,
-}
-
-impl<C: BlockCipherDecrypt> Way for Back<'_, C> {
-    fn on_block(&self, block: &mut Block) {
-        self.cipher.decrypt_block(block);
+impl<C: BlockCipherDecrypt> OneWay<Decrypt> for C {
+    fn process_block(&self, block: &mut Block) {
+        self.decrypt_block(block);
     }
 
     fn lend<F: BlockCipherEncClosure + BlockCipherDecClosure>(&self, f: &mut F) {
-        self.cipher.decrypt_with_backend(f);
+        self.decrypt_with_backend(f);
     }
 }
 
 /// What is tried with a cipher in one direction.
 pub trait Trial {
     /// Whether the cipher passes.
-    fn passes<W: Way>(&self, way: &W) -> bool;
+    fn passes<D: Direction, C: OneWay<D>>(&self, cipher: &C) -> bool;
 }
 
 // Whether the ciphers of one key pass: the one that works both ways in both, the others in theirs.
@@ -67,10 +56,10 @@ where
     D: BlockCipherDecrypt,
 {
     [
-        trial.passes(&Forward { cipher: both }),
-        trial.passes(&Back { cipher: both }),
-        trial.passes(&Forward { cipher: encrypts }),
-        trial.passes(&Back { cipher: decrypts }),
+        trial.passes::<Encrypt, B>(both),
+        trial.passes::<Decrypt, B>(both),
+        trial.passes::<Encrypt, E>(encrypts),
+        trial.passes::<Decrypt, D>(decrypts),
     ]
 }
 

@@ -51,5 +51,14 @@ fn answers_where_clauses_name_a_type(rt: HostRuntime) {
     encrypt_192(&Aes192::new(&[4; 24]), &mut blocks[0]);
     encrypt_256(&Aes256Enc::new(&[5; 32]), &mut blocks[1..], &mut layers);
     decrypt_128(&[6; 16], &mut blocks[1]);
-    assert!(rt; blocks != different_blocks());
+    // By OpenSSL.
+    let wanted = [
+        (0, 0x2b41f8dedeb1cb501d55c235a8f04ff3),
+        (1, 0x3aebc7c9d0f658dca9fae4ebcfa4d363),
+        (2, 0xe6f34aa69e58ab35095b2f7e68c893bb),
+        (16, 0x504800f4d7badcf42b9b9defa1dcfa85),
+    ];
+    for (place, block) in wanted {
+        assert_eq!(rt; u128::from_be_bytes(blocks[place]), block, "block {place}");
+    }
 }

@@ -1,12 +1,12 @@
 //! Making values from keys and from other values, and wiping them.
 
 use super::COUNTED;
-use crate::{AesCipher, BothWays, Decrypting, Encrypting};
+use crate::{AesCipher, BothWays};
 use aes_cipher::cipher::{
-    BlockCipherDecrypt, BlockCipherEncrypt, BlockSizeUser, KeyInit, KeySizeUser,
+    BlockCipherDecrypt, BlockCipherEncrypt, BlockSizeUser, Decrypt, Encrypt, KeyInit, KeySizeUser,
 };
 use aes_cipher::zeroize::ZeroizeOnDrop;
-use aes_soft::soft::sizes::{Bits128, Bits192, Bits256, KeyBytes, KeySize};
+use aes_soft::soft::key_sizes::{AesVariant, Bits128, Bits192, Bits256, KeyBytes};
 use std::test::Fail;
 
 // Whether slices of 0 to 64 bytes are taken as keys exactly where they are as long as a key, and blocks have 16 bytes.
@@ -24,10 +24,10 @@ where
 }
 
 // The same of the three types of a size.
-fn all_take_their_own_length_alone<K: KeySize>(size: usize) -> bool {
+fn all_take_their_own_length_alone<K: AesVariant>(size: usize) -> bool {
     takes_its_own_length_alone::<AesCipher<K, BothWays>>(size)
-        && takes_its_own_length_alone::<AesCipher<K, Encrypting>>(size)
-        && takes_its_own_length_alone::<AesCipher<K, Decrypting>>(size)
+        && takes_its_own_length_alone::<AesCipher<K, Encrypt>>(size)
+        && takes_its_own_length_alone::<AesCipher<K, Decrypt>>(size)
 }
 
 #[test]
@@ -56,12 +56,12 @@ fn decrypts<C: BlockCipherDecrypt>(cipher: &C, encrypted: u128) -> bool {
 
 // Clones of the three types of a key and conversions between them, most of them after the value that they came from is
 // dropped.
-fn copies_keep_the_key<K: KeySize>(key: &K::Key, encrypted: u128) -> Result<bool, Fail> {
-    let enc = AesCipher::<K, Encrypting>::new(key);
+fn copies_keep_the_key<K: AesVariant>(key: &K::Key, encrypted: u128) -> Result<bool, Fail> {
+    let enc = AesCipher::<K, Encrypt>::new(key);
     let copy = enc.clone()?;
-    let lent_dec = AesCipher::<K, Decrypting>::from(&enc);
+    let lent_dec = AesCipher::<K, Decrypt>::from(&enc);
     let lent_both = AesCipher::<K, BothWays>::from(&enc);
-    let dec = AesCipher::<K, Decrypting>::from(enc);
+    let dec = AesCipher::<K, Decrypt>::from(enc);
     let both = AesCipher::<K, BothWays>::from(copy.clone()?);
     Ok(
         encrypts(&copy, encrypted)
@@ -87,9 +87,9 @@ fn clones_and_converts(rt: HostRuntime) -> Result<(), Fail> {
 }
 
 // Whether a wiped value works as one of the zero key, which takes a block of zeros to the block that is given.
-fn wipes_in_place<K: KeySize>(key: &K::Key, zeros_encrypted: u128) -> bool {
-    let mut enc = AesCipher::<K, Encrypting>::new(key);
-    let mut dec = AesCipher::<K, Decrypting>::from(&enc);
+fn wipes_in_place<K: AesVariant>(key: &K::Key, zeros_encrypted: u128) -> bool {
+    let mut enc = AesCipher::<K, Encrypt>::new(key);
+    let mut dec = AesCipher::<K, Decrypt>::from(&enc);
     enc.zeroize();
     dec.zeroize();
     let mut block = [0; 16];

@@ -1,14 +1,16 @@
 //! Slices of blocks, in every form, against the calls on single blocks.
 
 use super::{COUNTED, different_blocks};
-use crate::{Aes128, AesCipher, BothWays, Decrypting, Decrypts, Encrypting, Encrypts};
-use aes_cipher::cipher::{BlockCipherDecrypt, BlockCipherEncrypt, KeyInit, NotEqualError};
+use crate::{Aes128, AesCipher, BothWays, Includes};
+use aes_cipher::cipher::{
+    BlockCipherDecrypt, BlockCipherEncrypt, Decrypt, Direction, Encrypt, KeyInit, NotEqualError,
+};
 use aes_planes::soft::sbox::Layers;
 use aes_planes::soft::word::Block;
-use aes_soft::soft::sizes::{Bits128, Bits192, Bits256, KeySize};
+use aes_soft::soft::key_sizes::{AesVariant, Bits128, Bits192, Bits256};
 
-// The calls on blocks of one direction.
-trait Calls {
+// The calls on blocks of a direction.
+trait Calls<D: Direction> {
     // The call on a block.
     fn block(&self, block: &mut Block);
 
@@ -22,53 +24,39 @@ trait Calls {
     fn from_to(&self, input: &[Block], output: &mut [Block]) -> Result<(), NotEqualError>;
 }
 
-// A cipher's calls that encrypt.
-#[derive(Drop)]
-struct Encryption<'a, K: KeySize, D: Encrypts> {
-    cipher: &'a AesCipher<K, D>,
-}
-
-impl<K: KeySize, D: Encrypts> Calls for Encryption<'_, K, D> {
+impl<K: AesVariant, S: Includes<Encrypt>> Calls<Encrypt> for AesCipher<K, S> {
     fn block(&self, block: &mut Block) {
-        self.cipher.encrypt_block(block);
+        self.encrypt_block(block);
     }
 
     fn slice(&self, blocks: &mut [Block]) {
-        self.cipher.encrypt_blocks(blocks);
+        self.encrypt_blocks(blocks);
     }
 
     fn counted(&self, blocks: &mut [Block]) {
-        self.cipher
-            .encrypt_blocks_counted(blocks, &mut Layers::new());
+        self.encrypt_blocks_counted(blocks, &mut Layers::new());
     }
 
     fn from_to(&self, input: &[Block], output: &mut [Block]) -> Result<(), NotEqualError> {
-        self.cipher.encrypt_blocks_b2b(input, output)
+        self.encrypt_blocks_b2b(input, output)
     }
 }
 
-// A cipher's calls that decrypt.
-#[derive(Drop)]
-struct Decryption<'a, K: KeySize, D: Decrypts> {
-    cipher: &'a AesCipher<K, D>,
-}
-
-impl<K: KeySize, D: Decrypts> Calls for Decryption<'_, K, D> {
+impl<K: AesVariant, S: Includes<Decrypt>> Calls<Decrypt> for AesCipher<K, S> {
     fn block(&self, block: &mut Block) {
-        self.cipher.decrypt_block(block);
+        self.decrypt_block(block);
     }
 
     fn slice(&self, blocks: &mut [Block]) {
-        self.cipher.decrypt_blocks(blocks);
+        self.decrypt_blocks(blocks);
     }
 
     fn counted(&self, blocks: &mut [Block]) {
-        self.cipher
-            .decrypt_blocks_counted(blocks, &mut Layers::new());
+        self.decrypt_blocks_counted(blocks, &mut Layers::new());
     }
 
     fn from_to(&self, input: &[Block], output: &mut [Block]) -> Result<(), NotEqualError> {
-        self.cipher.decrypt_blocks_b2b(input, output)
+        self.decrypt_blocks_b2b(input, output)
     }
 }
 
@@ -77,7 +65,7 @@ const UNTOUCHED: Block = [0xee; 16];
 
 // Whether slices of 0 to 17 blocks become what the block calls make of them, in every form, and the blocks after them
 // stay.
-fn works_slices<C: Calls>(calls: &C) -> bool {
+fn processes_slices<D: Direction, C: Calls<D>>(calls: &C) -> bool {
     let blocks = different_blocks();
     let mut right = true;
     for count in 0..=17 {
@@ -100,7 +88,7 @@ fn works_slices<C: Calls>(calls: &C) -> bool {
 }
 
 // Whether slices of unequal lengths, 0 to 9, are refused, and no block of the output is written.
-fn refuses_unequal_lengths<C: Calls>(calls: &C) -> bool {
+fn refuses_unequal_lengths<D: Direction, C: Calls<D>>(calls: &C) -> bool {
     let blocks = different_blocks();
     let mut right = true;
     for from in 0..10 {
@@ -118,7 +106,13 @@ fn refuses_unequal_lengths<C: Calls>(calls: &C) -> bool {
 
 // Whether a hundred blocks of one byte come to the same block each, by the slice call, and the block call of the other
 // direction brings each back.
-fn works_a_hundred<C: Calls, B: Calls>(calls: &C, back: &B) -> bool {
+fn processes_a_hundred<D, E, C, B>(calls: &C, back: &B) -> bool
+where
+    D: Direction,
+    E: Direction,
+    C: Calls<D>,
+    B: Calls<E>,
+{
     let mut blocks = [[0x2a; 16]; 100];
     calls.slice(&mut blocks);
     let mut right = blocks.iter().all(|block| *block != [0x2a; 16]);
@@ -130,46 +124,42 @@ fn works_a_hundred<C: Calls, B: Calls>(calls: &C, back: &B) -> bool {
 }
 
 // Whether the calls of a cipher that encrypts are right.
-fn encrypts<K: KeySize, D: Encrypts>(key: &[u8]) -> bool {
-    AesCipher::<K, D>::new_from_slice(key).is_ok_and(|cipher| {
-        let calls = Encryption { cipher: &cipher };
-        works_slices(&calls) && refuses_unequal_lengths(&calls)
+fn encrypts<K: AesVariant, S: Includes<Encrypt>>(key: &[u8]) -> bool {
+    AesCipher::<K, S>::new_from_slice(key).is_ok_and(|cipher| {
+        processes_slices::<Encrypt, _>(&cipher) && refuses_unequal_lengths::<Encrypt, _>(&cipher)
     })
 }
 
 // Whether the calls of a cipher that decrypts are right.
-fn decrypts<K: KeySize, D: Decrypts>(key: &[u8]) -> bool {
-    AesCipher::<K, D>::new_from_slice(key).is_ok_and(|cipher| {
-        let calls = Decryption { cipher: &cipher };
-        works_slices(&calls) && refuses_unequal_lengths(&calls)
+fn decrypts<K: AesVariant, S: Includes<Decrypt>>(key: &[u8]) -> bool {
+    AesCipher::<K, S>::new_from_slice(key).is_ok_and(|cipher| {
+        processes_slices::<Decrypt, _>(&cipher) && refuses_unequal_lengths::<Decrypt, _>(&cipher)
     })
 }
 
 #[test]
 fn encrypts_slices_as_single_blocks(rt: HostRuntime) {
     assert!(rt; encrypts::<Bits128, BothWays>(&COUNTED[..16]));
-    assert!(rt; encrypts::<Bits128, Encrypting>(&COUNTED[..16]));
+    assert!(rt; encrypts::<Bits128, Encrypt>(&COUNTED[..16]));
     assert!(rt; encrypts::<Bits192, BothWays>(&COUNTED[..24]));
-    assert!(rt; encrypts::<Bits192, Encrypting>(&COUNTED[..24]));
+    assert!(rt; encrypts::<Bits192, Encrypt>(&COUNTED[..24]));
     assert!(rt; encrypts::<Bits256, BothWays>(&COUNTED));
-    assert!(rt; encrypts::<Bits256, Encrypting>(&COUNTED));
+    assert!(rt; encrypts::<Bits256, Encrypt>(&COUNTED));
 }
 
 #[test]
 fn decrypts_slices_as_single_blocks(rt: HostRuntime) {
     assert!(rt; decrypts::<Bits128, BothWays>(&COUNTED[..16]));
-    assert!(rt; decrypts::<Bits128, Decrypting>(&COUNTED[..16]));
+    assert!(rt; decrypts::<Bits128, Decrypt>(&COUNTED[..16]));
     assert!(rt; decrypts::<Bits192, BothWays>(&COUNTED[..24]));
-    assert!(rt; decrypts::<Bits192, Decrypting>(&COUNTED[..24]));
+    assert!(rt; decrypts::<Bits192, Decrypt>(&COUNTED[..24]));
     assert!(rt; decrypts::<Bits256, BothWays>(&COUNTED));
-    assert!(rt; decrypts::<Bits256, Decrypting>(&COUNTED));
+    assert!(rt; decrypts::<Bits256, Decrypt>(&COUNTED));
 }
 
 #[test]
 fn brings_back_a_hundred_blocks(rt: HostRuntime) {
     let cipher = Aes128::new(&[0; 16]);
-    let encryption = Encryption { cipher: &cipher };
-    let decryption = Decryption { cipher: &cipher };
-    assert!(rt; works_a_hundred(&encryption, &decryption));
-    assert!(rt; works_a_hundred(&decryption, &encryption));
+    assert!(rt; processes_a_hundred::<Encrypt, Decrypt, _, _>(&cipher, &cipher));
+    assert!(rt; processes_a_hundred::<Decrypt, Encrypt, _, _>(&cipher, &cipher));
 }

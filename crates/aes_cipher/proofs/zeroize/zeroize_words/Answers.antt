@@ -15,4 +15,4 @@ returns g c =
     let zero = c.zero-zero.result in
     ap (map bits) (filled_whole c.loop-word.word-index n zero c.args.words.now c.loop-word.words (omega arith) (omega arith) c.loop-word.invariant)
     ∙ map_replicate bits n zero
-    ∙ ap (replicate n) (bits_of_zero g.W.Word.BITS (bits zero) c.zero-zero.ensures)
+    ∙ ap (replicate n) (bits_of_zero g.W.Word.BITS (bits zero) (g.met.W.Word.shape.sized zero) c.zero-zero.ensures)

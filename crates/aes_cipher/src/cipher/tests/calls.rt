@@ -5,10 +5,9 @@ ghost use Rattle.std.specs.Prelude.{◌<◌, length};
 use super::closures::{Five, OneAndBatch};
 use super::one_round::{Lent, OneRound};
 use crate::cipher::{
-    AlgorithmName, BlockCipherDecBackend, BlockCipherDecrypt, BlockCipherEncrypt, BlockSizeUser,
-    NotEqualError, ParBlocksSizeUser,
+    AlgorithmName, Block, BlockCipherDecBackend, BlockCipherDecClosure, BlockCipherDecrypt,
+    BlockCipherEncClosure, BlockCipherEncrypt, BlockSizeUser, NotEqualError, ParBlocksSizeUser,
 };
-use aes_planes::soft::word::Block;
 use std::fmt;
 use std::test::Fail;
 
@@ -22,7 +21,7 @@ const OUTPUT: Block = [
 ];
 
 // The cipher that is left of that example: its round keys are 9 and 10 there.
-fn rest_of_the_example() -> OneRound {
+pub(crate) fn rest_of_the_example() -> OneRound {
     OneRound {
         first: [
             0xac, 0x77, 0x66, 0xf3, 0x19, 0xfa, 0xdc, 0x21, 0x28, 0xd1, 0x29, 0x41, 0x57, 0x5c,
@@ -136,4 +135,59 @@ fn writes_its_name(rt: HostRuntime) -> Result<(), Fail> {
     let text = format!(in rt.alloc(); "{}", Name)?;
     assert_eq!(rt; text.as_str(), "OneRound");
     Ok(())
+}
+
+// Encrypts blocks and decrypts them again, by ciphers that are handed over.
+fn work_by<E: BlockCipherEncrypt + Drop, D: BlockCipherDecrypt + Drop>(
+    encrypting: E,
+    decrypting: D,
+    blocks: &mut [Block; 5],
+) -> [Block; 5] {
+    encrypting.encrypt_blocks(blocks);
+    let encrypted = *blocks;
+    decrypting.decrypt_blocks(blocks);
+    encrypted
+}
+
+#[test]
+fn works_where_it_is_lent(rt: HostRuntime) {
+    let cipher = rest_of_the_example();
+    let wanted = encrypted_one_by_one(five());
+    let mut blocks = five();
+    assert_eq!(rt; work_by(&cipher, &cipher, &mut blocks), wanted);
+    assert_eq!(rt; blocks, five());
+    let lent = &cipher;
+    let mut block = INPUT;
+    BlockCipherEncrypt::encrypt_block(&lent, &mut block);
+    assert_eq!(rt; block, OUTPUT);
+    BlockCipherDecrypt::decrypt_block(&lent, &mut block);
+    assert_eq!(rt; block, INPUT);
+    let mut closure = Five { blocks: five() };
+    BlockCipherEncrypt::encrypt_with_backend(&lent, &mut closure);
+    assert_eq!(rt; closure.blocks, wanted);
+    let mut closure = OneAndBatch {
+        one: OUTPUT,
+        batch: [[4; 16], OUTPUT, [5; 16]],
+        fits: false,
+    };
+    BlockCipherDecrypt::decrypt_with_backend(&lent, &mut closure);
+    assert_eq!(rt; closure.one, INPUT);
+}
+
+#[test]
+fn lends_a_backend_on(rt: HostRuntime) {
+    let cipher = rest_of_the_example();
+    let backend = &Lent { cipher: &cipher };
+    let mut closure = Five { blocks: five() };
+    closure.call(&backend);
+    assert_eq!(rt; closure.blocks, encrypted_one_by_one(five()));
+    let mut closure = OneAndBatch {
+        one: OUTPUT,
+        batch: [[4; 16], OUTPUT, [5; 16]],
+        fits: false,
+    };
+    closure.call(&backend);
+    assert_eq!(rt; closure.one, INPUT);
+    assert!(rt; closure.fits);
+    assert_eq!(rt; closure.batch[1], INPUT);
 }

@@ -5,10 +5,9 @@ ghost use Rattle.aes_planes.specs.Each.{Each};
 ghost use Rattle.aes_planes.specs.Fips197 as fips;
 
 use crate::cipher::{
-    BlockCipherDecBackend, BlockCipherDecClosure, BlockCipherEncBackend, BlockCipherEncClosure,
-    ParBlocksSizeUser,
+    Block, BlockCipherDecBackend, BlockCipherDecClosure, BlockCipherEncBackend,
+    BlockCipherEncClosure, ParBlocksSizeUser,
 };
-use aes_planes::soft::word::Block;
 
 // Encrypts every block: batches while one fits, then single blocks.
 fn encrypt_all<B: BlockCipherEncBackend>(backend: &B, blocks: &mut [Block])

@@ -6,14 +6,14 @@ ghost use Rattle.aes_planes.specs.Each.{Each};
 ghost use Rattle.aes_planes.specs.Fips197 as fips;
 
 use crate::cipher::{
-    AlgorithmName, BatchSize, BatchSizeUser, BlockCipherDecBackend, BlockCipherDecClosure,
+    AlgorithmName, BatchSize, BatchSizeUser, Block, BlockCipherDecBackend, BlockCipherDecClosure,
     BlockCipherDecrypt, BlockCipherEncBackend, BlockCipherEncClosure, BlockCipherEncrypt,
     RoundKeysUser,
 };
 use aes_planes::laws;
 use aes_planes::soft::sbox::{Layers, inv_sub_bytes, sub_bytes, sub_bytes_nots};
 use aes_planes::soft::utils::{inv_shift_rows_1, shift_rows_1, sum_of_blocks};
-use aes_planes::soft::word::{Batch, Block, Blocks1, Word};
+use aes_planes::soft::word::{Batch, Blocks1, Word};
 use std::fmt;
 
 /// A cipher of one round, which is the last: it has no MixColumns.

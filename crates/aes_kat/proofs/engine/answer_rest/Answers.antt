@@ -6,14 +6,17 @@ use Rattle.aes_kat.proofs.engine.answer_rest.Goals as goal
 
 pub returns-then-is_empty : goal.returns-then-is_empty
 returns-then-is_empty g c =
-    let none = eqb-true (length c.args.line.now) 0 (sym c.is_empty.ensures ∙ c.if-is_empty.true) in
+    let line = c.args.line.now in
+    let answers = c.args.answers.now.items in
+    let none = eqb-true (length line) 0 (sym c.is_empty.ensures ∙ c.if-is_empty.true) in
     record {
-      text = sym (ap (λ xs. c.args.answers.now.items ++ xs) (answers_to-empty c.args.line.now none) ∙ append-nil c.args.answers.now.items);
-      fault = sym (has_fault-empty c.args.line.now none);
+      text = sym (ap (λ xs. answers ++ xs) (answers_to-empty line none) ∙ append-nil answers);
+      fault = sym (has_fault-empty line none);
     }
 
 pub returns : goal.returns
 returns g c =
-    let ne : length c.args.line.now ≢ 0 = eqb-false (length c.args.line.now) 0 (sym c.is_empty.ensures ∙ c.if-is_empty.false) in
-    let some : 0 < length c.args.line.now = omega (arith, ne) in
-    rw (answers_to-last c.args.line.now c.requires some, has_fault-last c.args.line.now c.requires some) c.answer.ensures
+    let line = c.args.line.now in
+    let ne : length line ≢ 0 = eqb-false (length line) 0 (sym c.is_empty.ensures ∙ c.if-is_empty.false) in
+    let some : 0 < length line = omega (arith, ne) in
+    rw (answers_to-last line c.requires some, has_fault-last line c.requires some) c.answer.ensures

@@ -4,5 +4,6 @@ use Rattle.aes_kat.proofs.engine.feed.Goals as goal
 
 pub returns-in_err-write_whole-clause-stopped : goal.returns-in_err-write_whole-clause-stopped
 returns-in_err-write_whole-clause-stopped g c =
-    OnErr-from _ _ (StopsWithin-written _ _ _ _ _ _ c.in_ok-fault.fault c.clear.ensures.items c.in_ok-fault.ensures.gathers
+    let fault = c.in_ok-fault in
+    OnErr-from _ _ (StopsWithin-written _ _ _ _ _ _ fault.fault c.clear.ensures.items fault.ensures.gathers
     (rw c.as_slice.ensures.value at c.in_err-write_whole.ensures.beginning))

@@ -6,7 +6,8 @@ use Rattle.aes_kat.proofs.Answers.{Gathers-same, Gathers-line}
 use Rattle.aes_kat.proofs.engine.gather.Goals as goal
 
 -- the bytes begun and the bytes of the chunk, cut at the line end
-joined : (begun rest front after line : List ℕ) → rest ≡ front ++ 10 ∷ after → line ≡ begun ++ front → begun ++ rest ≡ line ++ 10 ∷ after
+joined : (begun rest front after line : List ℕ) → rest ≡ front ++ 10 ∷ after → line ≡ begun ++ front
+    → begun ++ rest ≡ line ++ 10 ∷ after
 joined begun rest front after line cut whole =
     ap (λ xs. begun ++ xs) cut ∙ sym (append_assoc begun front (10 ∷ after)) ∙ ap (λ xs. xs ++ 10 ∷ after) (sym whole)
 
@@ -15,8 +16,9 @@ lacks begun front line p q whole = subst (Lacks 10) (sym whole) (All-append (λ 
 
 pub loop-front-preserved : goal.loop-front-preserved
 loop-front-preserved g c =
-    let whole : c.as_slice.result.now ≡ c.loop-front.line.items ++ c.in-Some.front.now = c.as_slice.ensures.value ∙ c.in_ok-extend_from_slice.ensures.items in
-    let same = joined c.loop-front.line.items c.loop-front.rest.now c.in-Some.front.now c.in-Some.after.now c.as_slice.result.now c.in-Some.ensures.0 whole in
+    let whole : c.as_slice.result.now ≡ c.loop-front.line.items ++ c.in-Some.front.now =
+    c.as_slice.ensures.value ∙ c.in_ok-extend_from_slice.ensures.items in
+    let same = joined _ c.loop-front.rest.now _ c.in-Some.after.now _ c.in-Some.ensures.0 whole in
     record {
       begun = subst (Lacks 10) (sym c.clear.ensures.items) (All-nil (λ b. (b == 10) ≡ false));
       gathers =

@@ -2,28 +2,33 @@
 use Rattle.std.proofs.Common.{◌++◌, take, arith}
 use Rattle.std.proofs.KnownBytes.{Consumes-trans}
 use Rattle.aes_kat.specs.Answers.{answers_to, AppendsBeginning}
-use Rattle.aes_kat.proofs.Answers.{Runs-failed, Advances-chunk, StopsWithin-here, StopsWithin-chunk, AppendsBeginning-ended, held-ended, stops-held}
+use Rattle.aes_kat.proofs.Answers.{Runs-failed, Advances-chunk, StopsWithin-here, StopsWithin-chunk}
+use Rattle.aes_kat.proofs.Answers.{AppendsBeginning-ended, held-ended, stops-held}
 use Rattle.aes_kat.proofs.engine.run_in.Goals as goal
 
 pub returns-in_err-count : goal.returns-in_err-count
 returns-in_err-count g c =
     let i = c.reads.invariant.read in
-    Runs-failed _ _ _ _ _ c.from_residual-in_err-count.ensures.0 (stops-held _ _ _ _ i.0 i.1 (StopsWithin-here _ _ _ _ _ i.2))
+    Runs-failed _ _ _ _ _ c.from_residual-in_err-count.ensures.0
+    (stops-held _ _ _ _ i.0 i.1 (StopsWithin-here _ _ _ _ _ i.2))
 
 pub returns-in_err-last : goal.returns-in_err-last
 returns-in_err-last g c =
     let i = c.reads.invariant.read in
     let read = c.in_ok-count.ensures.bytes in
+    let written = g.W.Write.contents in
+    let stopped = rw c.as_slice.ensures.value at c.in_err-last.ensures.stopped in
     Runs-failed _ _ _ _ _ c.from_residual-in_err-last.ensures.0 (held-ended _ _ _ i.0 c.read.new.buf c.in_ok-count.count
-    (λ text. AppendsBeginning (g.W.Write.contents c.args.output.now) (g.W.Write.contents c.finish.new.output) (answers_to text))
+    (λ text. AppendsBeginning (written c.args.output.now) (written c.finish.new.output) (answers_to text))
     i.1 read.0 c.if-count-eq0.true (read.1 c.if-count-eq0.true (omega arith))
-    (AppendsBeginning-ended _ _ _ i.0 c.reads.line.items c.reads.fault i.2 (rw c.as_slice.ensures.value at c.in_err-last.ensures.stopped)))
+    (AppendsBeginning-ended _ _ _ i.0 c.reads.line.items c.reads.fault i.2 stopped))
 
 pub returns-in_err-more : goal.returns-in_err-more
 returns-in_err-more g c =
     let i = c.reads.invariant.read in
     Runs-failed _ _ _ _ _ c.from_residual-in_err-more.ensures.0
-    (stops-held _ _ _ _ (i.0 ++ take c.in_ok-count.count c.read.new.buf) (Consumes-trans _ _ _ i.0 _ i.1 c.in_ok-count.ensures.bytes.0)
+    (stops-held _ _ _ _ (i.0 ++ take c.in_ok-count.count c.read.new.buf)
+    (Consumes-trans _ _ _ i.0 _ i.1 c.in_ok-count.ensures.bytes.0)
     (StopsWithin-chunk _ _ _ i.0 c.reads.line.items _ c.reads.fault i.2 c.in_err-more.ensures.stopped))
 
 pub reads-preserved : goal.reads-preserved
@@ -35,7 +40,8 @@ reads-preserved g c =
       read = (
         i.0 ++ take c.in_ok-count.count c.read.new.buf,
         Consumes-trans _ _ _ i.0 _ i.1 c.in_ok-count.ensures.bytes.0,
-        Advances-chunk _ _ _ i.0 c.reads.line.items _ _ c.reads.fault c.in_ok-more.more i.2 c.in_ok-more.ensures.written,
+        Advances-chunk _ _ _ i.0 c.reads.line.items _ _ c.reads.fault c.in_ok-more.more i.2
+            c.in_ok-more.ensures.written,
       );
     }
 

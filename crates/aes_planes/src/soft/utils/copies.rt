@@ -5,7 +5,7 @@ ghost use Rattle.aes_planes.specs.Planes.{words_at};
 
 use crate::soft::word::{Batch, Block, Word};
 
-/// The planes of round key `i`: the words from `8 * i` on.
+/// Returns the planes of round key `i`: the words from `8 * i` on.
 #[inline(always)]
 pub fn round_key<W: Word>(round_keys: &[W], i: usize) -> [W; 8]
     requires room { 8 * i + 8 ≤ length round_keys.now }
@@ -23,12 +23,13 @@ pub fn round_key<W: Word>(round_keys: &[W], i: usize) -> [W; 8]
     [k0, k1, k2, k3, k4, k5, k6, k7]
 }
 
-/// Puts planes in the place of round key `i`, and leaves the other words.
+/// Stores the planes of round key `i`. The other words stay.
 #[inline(always)]
 pub fn put_round_key<W: Word>(round_keys: &mut [W], i: usize, planes: &[W; 8])
     requires room { 8 * i + 8 ≤ length round_keys.old }
     ensures put { words_at round_keys.new (8 * i) ≡ planes.now }
-    ensures others { (o : ℕ) → (o + 8 ≤ 8 * i) ⊎ (8 * i + 8 ≤ o) → words_at round_keys.new o ≡ words_at round_keys.old o }
+    ensures others { (o : ℕ) → (o + 8 ≤ 8 * i) ⊎ (8 * i + 8 ≤ o)
+        → words_at round_keys.new o ≡ words_at round_keys.old o }
     ensures same_length { length round_keys.new ≡ length round_keys.old }
 {
     let start = 8 * i;
@@ -37,7 +38,7 @@ pub fn put_round_key<W: Word>(round_keys: &mut [W], i: usize, planes: &[W; 8])
     }
 }
 
-/// The same block in every slot.
+/// Returns a batch that has the block in every slot.
 #[inline(always)]
 pub fn every_slot<B: Batch>(block: &Block) -> B
     ensures { B.blocks result ≡ replicate B.LEN block.now }

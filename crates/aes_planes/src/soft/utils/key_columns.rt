@@ -20,30 +20,6 @@ pub fn add_round_constant_bit<W: Word>(state: &mut [W; 8], bit: usize)
     state[bit] = flipped;
 }
 
-// One plane of `xor_columns`: from the same plane of the earlier round key and of the substituted one.
-#[inline(always)]
-fn sum_columns<W: Word>(before: W, substituted: W, idx_ror: u32) -> W
-    requires below_bits { idx_ror < W.BITS }
-    ensures { (r c k : ℕ) → r < 4 → c < 4 → k < W.BLOCKS
-        → at (W.bits result) (place W.BLOCKS r c k)
-        ≡ summed xor (λ e. at (W.bits before) (place W.BLOCKS r e k)) (at (W.bits substituted) ((place W.BLOCKS r 0 k + idx_ror) % W.BITS)) c }
-{
-    let turned = substituted.ror(idx_ror);
-    let column0 = W::uniform_row(0x1);
-    let start = column0.bit_and(turned);
-    let first = before.bit_xor(start);
-    // With the column before each, then with the two before those: four columns are summed in two steps.
-    let up1 = first.shift_left(W::QUARTER_ROW);
-    let from1 = W::uniform_row(0xe);
-    let part1 = from1.bit_and(up1);
-    let pairs = first.bit_xor(part1);
-    let up2 = pairs.shift_left(W::HALF_ROW);
-    let from2 = W::uniform_row(0xc);
-    let part2 = from2.bit_and(up2);
-    let sums = pairs.bit_xor(part2);
-    sums
-}
-
 /// Puts sums of columns in the place of the eight words at `offset`: a round key, where they hold the
 /// substituted last one (FIPS 197, 5.2).
 ///
@@ -71,7 +47,7 @@ pub fn xor_columns<W: Word>(round_keys: &mut [W], offset: usize, idx_xor: usize,
         let place = offset + i;
         let before = round_keys[place - idx_xor];
         let substituted = round_keys[place];
-        let sum = sum_columns(before, substituted, idx_ror);
+        let sum = before.sum_columns(substituted, idx_ror);
         round_keys[place] = sum;
     }
 }
@@ -86,11 +62,7 @@ pub fn summed_columns<W: Word>(before: &[W; 8], start: &[W; 8], idx_ror: u32) ->
         → held W.BLOCKS (map W.bits result)
         ≡ zip_with (columns_summed rows cols) (held W.BLOCKS (map W.bits before.now)) (held W.BLOCKS (map W.bits start.now)) }
 {
-    let mut sums = *before;
-    'planes: for p in 0..8 {
-        sums[p] = sum_columns(before[p], start[p], idx_ror);
-    }
-    sums
+    W::sum_columns_of_planes(before, start, idx_ror)
 }
 
 // One plane of `straddle_columns`.
@@ -111,6 +83,7 @@ fn straddle<W: Word>(left: W, right: W) -> W
 }
 
 /// The last two columns of one state and the first two of another.
+#[tactic(auto, using(crate::proofs::KeySchedule::SummedColumns::straddled_of_eight))]
 #[inline(always)]
 pub fn straddle_columns<W: Word>(left: &[W; 8], right: &[W; 8]) -> [W; 8]
     ensures { held W.BLOCKS (map W.bits result)

@@ -30,7 +30,8 @@ fn swap_columns<W: Word>(state: &mut [W; 8], shift: u32, mask: W)
     ensures { (d : ℕ) (nibbles : List ℕ) → d < 4 → shift ≡ d * W.BLOCKS
         → ((r c : ℕ) → r < 4 → c < 4 → is_swap_at d nibbles r c ≡ true)
         → Places W.BITS (W.bits mask) (λ i. bit (get_or nibbles (i / W.ROW_BITS) 0) (i % W.ROW_BITS / W.QUARTER_ROW))
-        → held W.BLOCKS (map W.bits state.new) ≡ map (columns_swapped d nibbles) (held W.BLOCKS (map W.bits state.old)) }
+        → held W.BLOCKS (map W.bits state.new)
+        ≡ map (columns_swapped d nibbles) (held W.BLOCKS (map W.bits state.old)) }
 {
     let [x0, x1, x2, x3, x4, x5, x6, x7] = *state;
     let swapped0 = delta_swap_1(x0, shift, mask);
@@ -79,25 +80,31 @@ pub fn shift_rows_3<W: Word>(state: &mut [W; 8])
 }
 
 /// Undoes one shift of the rows of every block: InvShiftRows (FIPS 197, 5.3.1).
+#[tactic(auto, using(crate::proofs::Shifts::ColumnSwaps::shifted_back_1))]
 #[inline(always)]
 pub fn inv_shift_rows_1<W: Word>(state: &mut [W; 8])
-    ensures { held W.BLOCKS (map W.bits state.new) ≡ map (fips.inv_shift_times 1) (held W.BLOCKS (map W.bits state.old)) }
+    ensures { held W.BLOCKS (map W.bits state.new)
+        ≡ map (fips.inv_shift_times 1) (held W.BLOCKS (map W.bits state.old)) }
 {
     shift_rows_3(state);
 }
 
 /// Undoes two shifts of the rows of every block (FIPS 197, 5.3.1).
+#[tactic(auto, using(crate::proofs::Shifts::ColumnSwaps::shifted_back_2))]
 #[inline(always)]
 pub fn inv_shift_rows_2<W: Word>(state: &mut [W; 8])
-    ensures { held W.BLOCKS (map W.bits state.new) ≡ map (fips.inv_shift_times 2) (held W.BLOCKS (map W.bits state.old)) }
+    ensures { held W.BLOCKS (map W.bits state.new)
+        ≡ map (fips.inv_shift_times 2) (held W.BLOCKS (map W.bits state.old)) }
 {
     shift_rows_2(state);
 }
 
 /// Undoes three shifts of the rows of every block (FIPS 197, 5.3.1).
+#[tactic(auto, using(crate::proofs::Shifts::ColumnSwaps::shifted_back_3))]
 #[inline(always)]
 pub fn inv_shift_rows_3<W: Word>(state: &mut [W; 8])
-    ensures { held W.BLOCKS (map W.bits state.new) ≡ map (fips.inv_shift_times 3) (held W.BLOCKS (map W.bits state.old)) }
+    ensures { held W.BLOCKS (map W.bits state.new)
+        ≡ map (fips.inv_shift_times 3) (held W.BLOCKS (map W.bits state.old)) }
 {
     shift_rows_1(state);
 }

@@ -1,21 +1,21 @@
 //! A word of 128 bits, eight of which hold eight blocks: its operations work on its bytes as lanes of a vector.
 
 ghost use Rattle.std.specs.Prelude.{◌≡◌};
-ghost use Rattle.std.proofs.Common.{refl, rules};
-ghost use Rattle.aes_planes.specs.Bits.{bit};
+ghost use Rattle.std.proofs.Common.{rules};
 ghost use Rattle.aes_planes.specs.Private.Lanes.{lane_bits};
-ghost use Rattle.aes_planes.specs.Private.BuiltLength.{length-build};
+ghost use Rattle.aes_planes.specs.Private.BuiltLength.{number_shape};
 ghost use Rattle.aes_planes.specs.Words.{word_bits};
 
 use super::Word;
 use super::batch::{Batch, Blocks, Blocks8};
 use super::transpose::transpose;
 use super::vector::{
-    by_columns, by_rows, byte_for_each_bit, rows, shifted_down, shifted_up, turned_down,
+    by_columns, by_rows, byte_for_each_bit, rotate_right, rows, shift_left, shift_right,
 };
 use std::simd::prelude::*;
 
 // The lanes of a word, by its halves.
+#[tactic(auto, using(crate::proofs::Words::LaneBits::digits_bits))]
 #[inline(always)]
 fn lanes(x: u128) -> u8x16
     ensures { lane_bits result ≡ word_bits 128 x }
@@ -26,6 +26,7 @@ fn lanes(x: u128) -> u8x16
 }
 
 // The word of lanes, by its halves.
+#[tactic(auto, using(crate::proofs::Words::LaneBits::number_bits))]
 #[inline(always)]
 fn word(x: u8x16) -> u128
     ensures { word_bits 128 result ≡ lane_bits x }
@@ -34,6 +35,7 @@ fn word(x: u8x16) -> u128
     (high as u128) << 64 | low as u128
 }
 
+#[tactic(auto, using(crate::proofs::Words::Spread::lane_calls))]
 impl Word for u128 {
     ghost bits = { λ x. word_bits 128 x };
 
@@ -81,17 +83,17 @@ impl Word for u128 {
 
     #[inline(always)]
     fn shift_left(self, n: u32) -> u128 {
-        word(shifted_up(lanes(self), n))
+        word(shift_left(lanes(self), n))
     }
 
     #[inline(always)]
     fn shift_right(self, n: u32) -> u128 {
-        word(shifted_down(lanes(self), n))
+        word(shift_right(lanes(self), n))
     }
 
     #[inline(always)]
     fn ror(self, n: u32) -> u128 {
-        word(turned_down(lanes(self), n))
+        word(rotate_right(lanes(self), n))
     }
 
     #[inline(always)]
@@ -99,6 +101,7 @@ impl Word for u128 {
         rows * Self::ROW_BITS + cols * Self::QUARTER_ROW
     }
 
+    #[tactic(auto, using(crate::proofs::Words::Constants::same_nibble))]
     #[inline(always)]
     fn uniform_row(b: u8) -> u128 {
         word(rows(b, b, b, b))
@@ -191,19 +194,5 @@ impl Word for u128 {
         }
     }
 
-    ghost sized = { λ x. length-build 128 (bit x) };
-
-    ghost some_block = { Prim.search rules };
-
-    ghost sixteen = { refl };
-
-    ghost four = { refl };
-
-    ghost two = { refl };
-
-    ghost one = { refl };
-
-    ghost as_many = { refl };
-
-    ghost small = { Prim.search rules };
+    ghost shape = { number_shape 8 _ (Prim.search rules) (Prim.search rules) };
 }

@@ -1,9 +1,9 @@
 //! A word of thirty-two bits, eight of which hold two blocks.
 
 ghost use Rattle.std.specs.Prelude.{◌≡◌, ℕ, ◌+◌, ◌*◌, ◌<◌, [], ◌∷◌, slice_index};
-ghost use Rattle.std.proofs.Common.{refl, rules};
+ghost use Rattle.std.proofs.Common.{rules};
 ghost use Rattle.aes_planes.specs.Bits.{at, bit};
-ghost use Rattle.aes_planes.specs.Private.BuiltLength.{length-build};
+ghost use Rattle.aes_planes.specs.Private.BuiltLength.{number_shape};
 ghost use Rattle.aes_planes.specs.Private.Packing.{row_byte};
 ghost use Rattle.aes_planes.specs.Words.{word_bits};
 
@@ -12,6 +12,7 @@ use super::batch::{Batch, Block, Blocks, Blocks2};
 use super::rows::row_of;
 use super::transpose::transpose;
 
+#[tactic(auto, using(crate::proofs::Words::Constants::word_calls))]
 impl Word for u32 {
     ghost bits = { λ x. word_bits 32 x };
 
@@ -125,28 +126,15 @@ impl Word for u32 {
         Blocks { blocks: [b0, b1] }
     }
 
-    ghost sized = { λ x. length-build 32 (bit x) };
-
-    ghost some_block = { Prim.search rules };
-
-    ghost sixteen = { refl };
-
-    ghost four = { refl };
-
-    ghost two = { refl };
-
-    ghost one = { refl };
-
-    ghost as_many = { refl };
-
-    ghost small = { Prim.search rules };
+    ghost shape = { number_shape 2 _ (Prim.search rules) (Prim.search rules) };
 }
 
 // A column of a block, its first row lowest.
 #[inline(always)]
 fn column_of(block: &Block, column: usize) -> u32
     requires four_columns { column < 4 }
-    ensures { (j p : ℕ) → j < 4 → p < 8 → at (word_bits 32 result) (8 * j + p) ≡ bit (row_byte block.now (4 * j + column)) p }
+    ensures { (j p : ℕ) → j < 4 → p < 8
+        → bit (row_byte block.now (4 * j + column)) p ≡ at (word_bits 32 result) (8 * j + p) }
 {
     let start = 4 * column;
     u32::from_le_bytes([
@@ -160,8 +148,9 @@ fn column_of(block: &Block, column: usize) -> u32
 // The block of these columns.
 #[inline(always)]
 fn block_of(column0: u32, column1: u32, column2: u32, column3: u32) -> Block
-    ensures { (j c p : ℕ) → j < 4 → c < 4 → p < 8
-        → bit (row_byte result (4 * j + c)) p ≡ at (word_bits 32 (slice_index (column0 ∷ column1 ∷ column2 ∷ column3 ∷ []) c)) (8 * j + p) }
+    ensures { (c : ℕ) → c < 4 → (j p : ℕ) → j < 4 → p < 8
+        → bit (row_byte result (4 * j + c)) p
+        ≡ at (word_bits 32 (slice_index (column0 ∷ column1 ∷ column2 ∷ column3 ∷ []) c)) (8 * j + p) }
 {
     let [a0, a1, a2, a3] = column0.to_le_bytes();
     let [b0, b1, b2, b3] = column1.to_le_bytes();

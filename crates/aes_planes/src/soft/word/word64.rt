@@ -1,9 +1,9 @@
 //! A word of sixty-four bits, eight of which hold four blocks.
 
 ghost use Rattle.std.specs.Prelude.{◌≡◌, ℕ, ◌+◌, ◌-◌, ◌*◌, ◌/◌, ◌^◌, ◌<◌, ◌&&◌, ◌||◌, nat_le, [], ◌∷◌, slice_index};
-ghost use Rattle.std.proofs.Common.{refl, rules};
+ghost use Rattle.std.proofs.Common.{rules};
 ghost use Rattle.aes_planes.specs.Bits.{at, bit};
-ghost use Rattle.aes_planes.specs.Private.BuiltLength.{length-build};
+ghost use Rattle.aes_planes.specs.Private.BuiltLength.{number_shape};
 ghost use Rattle.aes_planes.specs.Private.Packing.{row_byte};
 ghost use Rattle.aes_planes.specs.Words.{word_bits};
 ghost use Rattle.aes_planes.specs.Fips197 as fips;
@@ -14,6 +14,7 @@ use super::rows::row_of;
 use super::transpose::transpose;
 use std::simd::prelude::*;
 
+#[tactic(auto, using(crate::proofs::Words::Constants::word_calls))]
 impl Word for u64 {
     ghost bits = { λ x. word_bits 64 x };
 
@@ -134,27 +135,14 @@ impl Word for u64 {
         }
     }
 
-    ghost sized = { λ x. length-build 64 (bit x) };
-
-    ghost some_block = { Prim.search rules };
-
-    ghost sixteen = { refl };
-
-    ghost four = { refl };
-
-    ghost two = { refl };
-
-    ghost one = { refl };
-
-    ghost as_many = { refl };
-
-    ghost small = { Prim.search rules };
+    ghost shape = { number_shape 4 _ (Prim.search rules) (Prim.search rules) };
 }
 
 // The even columns of a block, row by row, and the odd ones.
 #[inline(always)]
 fn columns_apart(block: Block) -> [u64; 2]
-    ensures { (j o p : ℕ) → j < 8 → o < 2 → p < 8 → at (word_bits 64 (slice_index result o)) (8 * j + p) ≡ bit (row_byte block (2 * j + o)) p }
+    ensures { (o : ℕ) → o < 2 → (j p : ℕ) → j < 8 → p < 8
+        → bit (row_byte block (2 * j + o)) p ≡ at (word_bits 64 (slice_index result o)) (8 * j + p) }
 {
     let bytes = u8x16::from_array(block);
     let apart = bytes.swizzle([0, 8, 1, 9, 2, 10, 3, 11, 4, 12, 5, 13, 6, 14, 7, 15]);
@@ -165,7 +153,7 @@ fn columns_apart(block: Block) -> [u64; 2]
 #[inline(always)]
 fn columns_together(even: u64, odd: u64) -> Block
     ensures typed { fips.IsBlock result }
-    ensures bits { (j o p : ℕ) → j < 8 → o < 2 → p < 8
+    ensures bits { (o : ℕ) → o < 2 → (j p : ℕ) → j < 8 → p < 8
         → bit (row_byte result (2 * j + o)) p ≡ at (word_bits 64 (slice_index (even ∷ odd ∷ []) o)) (8 * j + p) }
 {
     let apart = u64x2::from_array([even, odd]).to_le_bytes();
@@ -188,6 +176,7 @@ fn each_four_times(x: u64) -> u64
 }
 
 // The bits here and those so far below, where the mask has a bit.
+#[tactic(auto, using(crate::proofs::Words::Spread::drawn_bit))]
 #[inline(always)]
 fn drawn_apart(x: u64, shift: u32, mask: u64) -> u64
     requires below_bits { shift < 64 }

@@ -5,8 +5,21 @@ ghost use Rattle.aes_soft.specs.Stored.{full, key_of, rounds_of, size_of, IsStor
 
 use aes_planes::soft::word::Word;
 
-/// The stored round keys of a key on `u16` as those of the same key on `W`: each word by
-/// `broadcast`, so that every slot has the block of the one slot.
+/// Leaves in words of `W` the stored round keys of the same key on `u16`: each word by `broadcast`, so that every slot has
+/// the block of the one slot.
+#[inline(always)]
+pub fn put_wide<W: Word, const N: usize>(wide: &mut [W; N], round_keys: &[u16; N])
+    requires is_stored { IsStored N 1 (map (word_bits 16) round_keys.now) }
+    ensures schedule { IsStored N W.BLOCKS (map W.bits wide.new) }
+    ensures key { key_of (size_of N) W.BLOCKS (full (rounds_of N)) (map W.bits wide.new)
+        ≡ key_of (size_of N) 1 (full (rounds_of N)) (map (word_bits 16) round_keys.now) }
+{
+    'widen: for i in 0..N {
+        wide[i] = W::broadcast(round_keys[i]);
+    }
+}
+
+/// The stored round keys of a key on `u16` as those of the same key on `W`: see `put_wide`.
 pub fn widen<W: Word, const N: usize>(round_keys: &[u16; N]) -> [W; N]
     requires is_stored { IsStored N 1 (map (word_bits 16) round_keys.now) }
     ensures schedule { IsStored N W.BLOCKS (map W.bits result) }
@@ -14,8 +27,6 @@ pub fn widen<W: Word, const N: usize>(round_keys: &[u16; N]) -> [W; N]
         ≡ key_of (size_of N) 1 (full (rounds_of N)) (map (word_bits 16) round_keys.now) }
 {
     let mut wide = [W::zero(); N];
-    'widen: for i in 0..N {
-        wide[i] = W::broadcast(round_keys[i]);
-    }
+    put_wide(&mut wide, round_keys);
     wide
 }

@@ -6,7 +6,7 @@ ghost use Rattle.aes_planes.specs.Fips197 as fips;
 ghost use Rattle.aes_planes.specs.SingleRounds.{cipher_round, equiv_inv_cipher_round, rounds_by_place};
 
 use super::steps::{InverseRound, Round, Step};
-use crate::soft::slices::{batch_of, put_batch};
+use crate::soft::blocks::{batch_of, put_batch};
 use aes_planes::soft::utils::sum_of_blocks;
 use aes_planes::soft::word::{Batch, Block, Word};
 

@@ -7,10 +7,11 @@ use Rattle.aes_planes.proofs.soft.planes.pack_unpacked.Goals as goal
 pub returns : goal.returns
 returns g c =
     let w = g.W.Word in
-    let m = g.met.W.Word in
+    let m = g.met.W.Word.shape in
     let made = c.bitslice.new.output in
     let planes = c.args.planes.now in
-    same_planes w.BLOCKS (map w.bits made) (map w.bits planes) (length-map made w.bits ∙ c.are_eight.ensures) (length-map planes w.bits ∙ c.told-planes)
+    same_planes w.BLOCKS (map w.bits made) (map w.bits planes)
+    (length-map made w.bits ∙ c.are_eight.ensures) (length-map planes w.bits ∙ c.told-planes)
     (λ p hp. (
       words_sized w.bits w.BITS m.sized made p (omega (arith, hp, c.are_eight.ensures)) ∙ m.sixteen,
       words_sized w.bits w.BITS m.sized planes p (omega (arith, hp, c.told-planes)) ∙ m.sixteen,

@@ -1,7 +1,7 @@
 -- What is left to show of `rounds::expand::added_word`.
 use Rattle.std.proofs.Common.{◌∙◌, ◌≡◌, ◌/◌, inl, inr, ap, sym}
 use Rattle.aes_planes.specs.Fips197 as fips
-use Rattle.aes_rounds.proofs.Words.{added_word_constant, added_word_substituted, added_word_same}
+use Rattle.aes_planes.proofs.KeySchedule.AddedWords.{added_word_constant, added_word_substituted, added_word_same}
 use Rattle.aes_rounds.proofs.rounds.expand.added_word.Goals.{else-key_words-gt6-via-then-key_words-gt6+else-i-key_words-eq4, else-key_words-gt6-via-else-key_words-gt6}
 use Rattle.aes_rounds.proofs.rounds.expand.added_word.Goals as goal
 

@@ -1,6 +1,6 @@
 -- What is left to show of `rounds::inverted_keys::inverted_key`.
 use Rattle.std.proofs.Common.{◌∙◌, inl, inr}
-use Rattle.aes_rounds.proofs.InvertedKeys.{inverted_end, inverted_middle}
+use Rattle.aes_planes.proofs.Standard.InvertedKeys.{inverted_end, inverted_middle}
 use Rattle.aes_rounds.proofs.rounds.inverted_keys.inverted_key.Goals.{else-i-ne0-via-then-i-ne0+else-i-last, else-i-ne0-via-else-i-ne0}
 use Rattle.aes_rounds.proofs.rounds.inverted_keys.inverted_key.Goals as goal
 

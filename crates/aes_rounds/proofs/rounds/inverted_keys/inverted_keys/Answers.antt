@@ -2,7 +2,7 @@
 use Rattle.std.proofs.Common.{[], sym, ◌∙◌, arith}
 use Rattle.std.proofs.lemmas.List.{ext_get_or}
 use Rattle.aes_planes.specs.Fips197 as fips
-use Rattle.aes_rounds.proofs.InvertedKeys.{inverted_length}
+use Rattle.aes_planes.proofs.Standard.InvertedKeys.{inverted_length}
 use Rattle.aes_rounds.proofs.rounds.inverted_keys.inverted_keys.Goals as goal
 
 pub returns : goal.returns

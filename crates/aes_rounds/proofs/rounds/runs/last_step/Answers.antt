@@ -8,6 +8,6 @@ use Rattle.aes_rounds.proofs.rounds.runs.last_step.Goals as goal
 pub returns : goal.returns
 returns g c =
     let blocks = g.S.States.blocks c.args.states.now in
-    let keyed : List ℕ → List ℕ = λ b. fips.add_round_key (g.D.Direction.step b) (replicate 16 0) in
-    c.unmix.ensures ∙ ap (map g.D.Direction.unmixed) c.round.ensures ∙ map-map g.D.Direction.unmixed keyed blocks
+    let keyed : List ℕ → List ℕ = λ b. fips.add_round_key (g.D.SingleRounds.step b) (replicate 16 0) in
+    c.unmix.ensures ∙ ap (map g.D.SingleRounds.unmixed) c.round.ensures ∙ map-map g.D.SingleRounds.unmixed keyed blocks
     ∙ same_of_blocks _ _ c.is_unmixed.ensures blocks c.are_blocks.ensures

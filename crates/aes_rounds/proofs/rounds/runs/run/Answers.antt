@@ -2,8 +2,8 @@
 use Rattle.std.proofs.Common.{◌≡◌, ℕ, ◌+◌, ◌-◌, List, map, ap, ◌∙◌, arith}
 use Rattle.aes_planes.specs.Fips197 as fips
 use Rattle.aes_planes.proofs.Planes.Held.{map-map, map-same}
-use Rattle.aes_rounds.specs.Private.{rounds_after, all_rounds}
-use Rattle.aes_rounds.proofs.Runs.{rounds_more}
+use Rattle.aes_planes.specs.Private.Rounds.{rounds_after, all_rounds}
+use Rattle.aes_planes.proofs.Standard.AllRounds.{rounds_more}
 use Rattle.aes_rounds.proofs.rounds.runs.run.Goals as goal
 
 pub loop-number-init : goal.loop-number-init
@@ -15,17 +15,17 @@ loop-number-preserved g c =
     let w = c.args.round_keys.now in
     let n = c.loop-number.number in
     let blocks = g.S.States.blocks c.args.states.now in
-    let round : List ℕ → List ℕ = λ b. fips.add_round_key (g.D.Direction.step b) (fips.round_key w n) in
+    let round : List ℕ → List ℕ = λ b. fips.add_round_key (g.D.SingleRounds.step b) (fips.round_key w n) in
     let e : n ≡ n + 1 - 1 = omega arith in
-    c.round.ensures ∙ ap (map round) c.loop-number.invariant ∙ map-map round (λ b. rounds_after g.D.Direction.step w b (n - 1)) blocks
-    ∙ map-same _ _ blocks (λ b. rounds_more g.D.Direction.step w b n (omega arith) ∙ ap (rounds_after g.D.Direction.step w b) e)
+    c.round.ensures ∙ ap (map round) c.loop-number.invariant ∙ map-map round (λ b. rounds_after g.D.SingleRounds.step w b (n - 1)) blocks
+    ∙ map-same _ _ blocks (λ b. rounds_more g.D.SingleRounds.step w b n (omega arith) ∙ ap (rounds_after g.D.SingleRounds.step w b) e)
 
 pub returns : goal.returns
 unfolding all_rounds
 returns g c =
     let w = c.args.round_keys.now in
-    let last = g.D.Direction.last_step in
-    let after : ℕ → List ℕ → List ℕ = λ n b. rounds_after g.D.Direction.step w b n in
+    let last = g.D.SingleRounds.last_step in
+    let after : ℕ → List ℕ → List ℕ = λ n b. rounds_after g.D.SingleRounds.step w b n in
     let add : List ℕ → List ℕ = λ b. fips.add_round_key b (fips.round_key w (fips.last_round w)) in
     let blocks = g.S.States.blocks c.args.states.now in
     let e : c.loop-number.number ≡ fips.last_round w = omega arith in

@@ -11,4 +11,5 @@ loop-i-preserved g c =
     let m = g.B.Batch.LEN - (i + 1) in
     let left : g.B.Batch.LEN - i ≡ suc m = omega (arith, c.LEN-i-end.ensures) in
     let more : suc i ≡ i + 1 = omega arith in
-    c.set.ensures.put ∙ ap (λ v. set v i b) (c.loop-i.invariant ∙ ap (λ v. replicate i b ++ replicate v z) left) ∙ fill_more b z i m ∙ ap (λ v. replicate v b ++ replicate m z) more
+    c.set.ensures.put ∙ ap (λ v. set v i b) (c.loop-i.invariant ∙ ap (λ v. replicate i b ++ replicate v z) left)
+    ∙ fill_more b z i m ∙ ap (λ v. replicate v b ++ replicate m z) more

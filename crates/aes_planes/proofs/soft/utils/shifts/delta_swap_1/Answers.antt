@@ -11,12 +11,10 @@ returns g c =
     let mask = g.W.Word.bits c.args.mask in
     let s = c.args.shift in
     let moved : (j : ℕ) → j < B → at (g.W.Word.bits c.bit_and-moved.result) j ≡ moved_bit B x mask s j =
-    (λ j h. c.bit_and-moved.ensures.place j h ∙ ap (λ v. v && at mask j) (c.bit_xor-differ.ensures.place j h ∙ ap (xor (at x j)) (c.shift_right-above.ensures.place j h))) in
-    record {
-      count = c.bit_xor-swapped.ensures.count;
-      place = λ i h.
-          let low = c.bit_xor-low.ensures.place i h ∙ ap (xor (at x i)) (moved i h) in
-          let under : i - s < B = omega arith in
-          let up = c.shift_left-up.ensures.place i h ∙ ap (λ v. nat_le s i && v) (moved (i - s) under) in
-          c.bit_xor-swapped.ensures.place i h ∙ (λ t. xor (low t) (up t));
-    }
+    (λ j h. c.bit_and-moved.ensures j h ∙ ap (λ v. v && at mask j)
+    (c.bit_xor-differ.ensures j h ∙ ap (xor (at x j)) (c.shift_right-above.ensures j h))) in
+    λ i h.
+    let low = c.bit_xor-low.ensures i h ∙ ap (xor (at x i)) (moved i h) in
+    let under : i - s < B = omega arith in
+    let up = c.shift_left-up.ensures i h ∙ ap (λ v. nat_le s i && v) (moved (i - s) under) in
+    c.bit_xor-swapped.ensures i h ∙ (λ t. xor (low t) (up t))

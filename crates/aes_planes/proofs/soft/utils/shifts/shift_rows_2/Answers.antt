@@ -6,5 +6,6 @@ use Rattle.aes_planes.proofs.soft.utils.shifts.shift_rows_2.Goals as goal
 
 pub returns : goal.returns
 returns g c =
-    let two : c.HALF_ROW.result ≡ 2 * g.W.Word.BLOCKS = omega (arith, c.HALF_ROW.ensures, g.met.W.Word.two) in
-    c.swap_columns.ensures 2 halves_2 (omega arith) two halves_2_swap c.pack_rows-by_two.ensures ∙ map-same _ _ _ shifted_2
+    let two : c.HALF_ROW.result ≡ 2 * g.W.Word.BLOCKS = omega (arith, c.HALF_ROW.ensures, g.met.W.Word.shape.two) in
+    c.swap_columns.ensures 2 halves_2 (omega arith) two halves_2_swap c.pack_rows-by_two.ensures
+    ∙ map-same _ _ _ shifted_2

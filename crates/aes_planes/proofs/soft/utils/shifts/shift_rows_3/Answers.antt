@@ -8,8 +8,9 @@ use Rattle.aes_planes.proofs.soft.utils.shifts.shift_rows_3.Goals as goal
 pub returns : goal.returns
 returns g c =
     let n = g.W.Word.BLOCKS in
-    let two : c.HALF_ROW.result ≡ 2 * n = omega (arith, c.HALF_ROW.ensures, g.met.W.Word.two) in
-    let one : c.QUARTER_ROW.result ≡ 1 * n = omega (arith, c.QUARTER_ROW.ensures, g.met.W.Word.one) in
+    let two : c.HALF_ROW.result ≡ 2 * n = omega (arith, c.HALF_ROW.ensures, g.met.W.Word.shape.two) in
+    let one : c.QUARTER_ROW.result ≡ 1 * n = omega (arith, c.QUARTER_ROW.ensures, g.met.W.Word.shape.one) in
     c.swap_columns-2.ensures 1 pairs (omega arith) one pairs_swap c.pack_rows-by_one.ensures
-    ∙ ap (map (columns_swapped 1 pairs)) (c.swap_columns.ensures 2 halves_3 (omega arith) two halves_3_swap c.pack_rows-by_two.ensures)
+    ∙ ap (map (columns_swapped 1 pairs)) (c.swap_columns.ensures 2 halves_3 (omega arith) two halves_3_swap
+    c.pack_rows-by_two.ensures)
     ∙ map-map (columns_swapped 1 pairs) (columns_swapped 2 halves_3) _ ∙ map-same _ _ _ shifted_3

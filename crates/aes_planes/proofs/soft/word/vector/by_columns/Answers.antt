@@ -1,11 +1,16 @@
 -- What is left to show of `soft::word::vector::by_columns`.
-use Rattle.std.proofs.Common.{rules}
-use Rattle.aes_planes.proofs.Words.LaneBits.{lane_small}
-use Rattle.aes_planes.proofs.Words.Packing.{turned_back_at, turned_within, turned, swizzled_small}
+use Rattle.std.proofs.Common.{rules, w8}
+use Rattle.std.proofs.lemmas.Simd.{below_from_Fits}
+use Rattle.aes_planes.proofs.Bits.Digits.{each_small}
+use Rattle.aes_planes.proofs.Words.Packing.{flipped, by_columns_at, swizzled_small}
 use Rattle.aes_planes.proofs.soft.word.vector.by_columns.Goals as goal
 
 pub returns-clause-typed : goal.returns-clause-typed
-returns-clause-typed c = (search rules, λ i. swizzled_small c.args.x turned i (turned_within c.args.x c.fits-x.0) (λ i. lane_small c.args.x i c.fits-x.1))
+returns-clause-typed c = (
+  search rules,
+  swizzled_small c.args.x flipped c.fits-x.0 tt
+      (each_small 8 c.args.x (below_from_Fits w8 c.args.x c.fits-x.1)),
+)
 
-pub returns-clause-bytes : goal.returns-clause-bytes
-returns-clause-bytes c j h = turned_back_at c.args.x j c.fits-x.0 h
+pub returns-clause-bits : goal.returns-clause-bits
+returns-clause-bits c j p hj hp = by_columns_at c.args.x j p c.fits-x.0 hj hp

@@ -4,4 +4,4 @@ use Rattle.aes_planes.proofs.Words.Packing.{apart_at}
 use Rattle.aes_planes.proofs.soft.word.word64.columns_apart.Goals as goal
 
 pub returns : goal.returns
-returns c j o p hj ho hp = apart_at c.args.block j o p (search rules) (search rules) hj ho hp
+returns c = apart_at c.args.block (search rules) (search rules)

@@ -1,13 +1,13 @@
 -- What is left to show of `soft::word::transpose::U32Lanes::exchange`.
-use Rattle.std.proofs.Common.{refl, arith}
-use Rattle.aes_planes.proofs.Words.Constants.{repeated, repeats}
+use Rattle.std.proofs.Common.{arith}
+use Rattle.aes_planes.proofs.Words.Constants.{bytes_of_32}
 use Rattle.aes_planes.proofs.Words.Transpose.{word_low, word_high}
 use Rattle.aes_planes.proofs.soft.word.transpose.U32Lanes.exchange.Goals as goal
 
 pub returns-clause-low : goal.returns-clause-low
-unfolding repeated
-returns-clause-low c = word_low 32 c.args.shift c.args.mask _ c.args.low c.args.high c.requires.inside c.requires.below_8 (repeats 32 4 c.args.mask _ refl (omega arith) (omega arith))
+returns-clause-low c = let a = c.args in
+    word_low 32 a.shift a.mask _ a.low a.high c.requires.inside c.requires.below_8 (bytes_of_32 a.mask (omega arith))
 
 pub returns-clause-high : goal.returns-clause-high
-unfolding repeated
-returns-clause-high c = word_high 32 c.args.shift c.args.mask _ c.args.low c.args.high c.requires.inside c.requires.below_8 (repeats 32 4 c.args.mask _ refl (omega arith) (omega arith))
+returns-clause-high c = let a = c.args in
+    word_high 32 a.shift a.mask _ a.low a.high c.requires.inside c.requires.below_8 (bytes_of_32 a.mask (omega arith))

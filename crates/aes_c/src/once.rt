@@ -1,0 +1,100 @@
+//! Calls that take a key and keep none of it.
+
+ghost use Rattle.std.specs.Prelude.{◌≡◌, ◌≢◌, ◌↔◌, ◌+◌, ◌-◌, ◌^◌, ◌<◌, ◌≤◌, length, replicate};
+ghost use Rattle.aes_planes.specs.Each.{Each};
+ghost use Rattle.aes_planes.specs.Fips197 as fips;
+ghost use Rattle.aes_ctr.specs.CounterMode.{keystream_byte, plus_stream};
+ghost use Rattle.aes_c.specs.Kept.{IsKeyLength};
+
+use crate::blocks::process_under;
+use crate::kept::{Aes, fotsgure_aes_set_key, fotsgure_aes_wipe};
+use crate::status::{DONE, KEY_LENGTH, KEYSTREAM_END};
+use crate::stream::{Ctr, fotsgure_aes_add_keystream};
+use aes_cipher::cipher::{Decrypt, Encrypt};
+use aes_planes::soft::word::Block;
+use aes_soft::soft::FullCipher;
+
+// Takes a struct that is wiped, and no other: a body that ends in this call is proved to have wiped it. No contract asks
+// for the call.
+fn consume_wiped(aes: &Aes)
+    requires wiped { aes.now.words ≡ replicate 120 0 }
+{
+    let _ = aes;
+}
+
+// Encrypts or decrypts every block of a slice under a key, whose schedule is wiped before the call returns.
+fn process_with<D: FullCipher>(key: &[u8], blocks: &mut [Block]) -> u32
+    ensures done { result ≡ DONE ↔ IsKeyLength (length key.now) }
+    ensures refused { result ≢ DONE → result ≡ KEY_LENGTH }
+    ensures blocks { result ≡ DONE → Each (D.processed (fips.key_expansion key.now)) blocks.old blocks.new }
+    ensures untouched { result ≢ DONE → blocks.new ≡ blocks.old }
+{
+    let mut kept = Aes {
+        key_length: 0,
+        words: [0; 120],
+    };
+    if fotsgure_aes_set_key(&mut kept, key) != DONE {
+        return KEY_LENGTH;
+    }
+    let status = process_under::<D>(&kept, blocks);
+    fotsgure_aes_wipe(&mut kept);
+    consume_wiped(&kept);
+    status
+}
+
+/// Encrypts each block in place under a key (Cipher, FIPS 197, 5.1). Returns `DONE` exactly if the key has 16, 24 or 32
+/// bytes, else `KEY_LENGTH`.
+#[unsafe(no_mangle)]
+pub extern "C" fn fotsgure_aes_encrypt_blocks_with(key: &[u8], blocks: &mut [Block]) -> u32
+    ensures done { result ≡ DONE ↔ IsKeyLength (length key.now) }
+    ensures refused { result ≢ DONE → result ≡ KEY_LENGTH }
+    ensures blocks { result ≡ DONE → Each (fips.cipher key.now) blocks.old blocks.new }
+    ensures untouched { result ≢ DONE → blocks.new ≡ blocks.old }
+{
+    process_with::<Encrypt>(key, blocks)
+}
+
+/// Decrypts each block in place under a key (InvCipher, FIPS 197, 5.3). Returns `DONE` exactly if the key has 16, 24 or
+/// 32 bytes, else `KEY_LENGTH`.
+#[unsafe(no_mangle)]
+pub extern "C" fn fotsgure_aes_decrypt_blocks_with(key: &[u8], blocks: &mut [Block]) -> u32
+    ensures done { result ≡ DONE ↔ IsKeyLength (length key.now) }
+    ensures refused { result ≢ DONE → result ≡ KEY_LENGTH }
+    ensures blocks { result ≡ DONE → Each (fips.inv_cipher key.now) blocks.old blocks.new }
+    ensures untouched { result ≢ DONE → blocks.new ≡ blocks.old }
+{
+    process_with::<Decrypt>(key, blocks)
+}
+
+/// Adds to each byte the keystream's byte at its place and moves the position on, as `fotsgure_aes_add_keystream`,
+/// under a key. Returns `KEY_LENGTH` exactly if the key doesn't have 16, 24 or 32 bytes, and else `KEYSTREAM_END` or
+/// `DONE`.
+#[unsafe(no_mangle)]
+pub extern "C" fn fotsgure_aes_add_keystream_with(
+    key: &[u8],
+    ctr: &mut Ctr,
+    bytes: &mut [u8],
+) -> u32
+    ensures done { result ≡ DONE ↔ IsKeyLength (length key.now) × (ctr.old.position + length bytes.old ≤ 2 ^ 64 - 1) }
+    ensures ended { result ≡ KEYSTREAM_END
+        ↔ IsKeyLength (length key.now) × (2 ^ 64 - 1 < ctr.old.position + length bytes.old) }
+    ensures refused { result ≢ DONE → result ≢ KEYSTREAM_END → result ≡ KEY_LENGTH }
+    ensures bytes { result ≡ DONE → bytes.new
+        ≡ plus_stream (keystream_byte (fips.key_expansion key.now) ctr.old.iv) ctr.old.position bytes.old }
+    ensures moved { result ≡ DONE → ctr.new.position ≡ ctr.old.position + length bytes.old }
+    ensures iv { ctr.new.iv ≡ ctr.old.iv }
+    ensures unmoved { result ≢ DONE → ctr.new.position ≡ ctr.old.position }
+    ensures untouched { result ≢ DONE → bytes.new ≡ bytes.old }
+{
+    let mut aes = Aes {
+        key_length: 0,
+        words: [0; 120],
+    };
+    if fotsgure_aes_set_key(&mut aes, key) != DONE {
+        return KEY_LENGTH;
+    }
+    let status = fotsgure_aes_add_keystream(&aes, ctr, bytes);
+    fotsgure_aes_wipe(&mut aes);
+    consume_wiped(&aes);
+    status
+}

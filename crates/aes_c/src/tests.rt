@@ -1,0 +1,134 @@
+//! Each export once, on rows of the standards.
+
+ghost use Rattle.std.specs.Prelude.{◌≡◌};
+
+use super::{
+    Aes, Ctr, DONE, KEY_LENGTH, KEYSTREAM_END, NO_KEY, UNEQUAL_COUNTS, VERSION,
+    fotsgure_aes_add_keystream, fotsgure_aes_add_keystream_to, fotsgure_aes_add_keystream_with,
+    fotsgure_aes_decrypt_blocks, fotsgure_aes_decrypt_blocks_to, fotsgure_aes_decrypt_blocks_with,
+    fotsgure_aes_encrypt_blocks, fotsgure_aes_encrypt_blocks_to, fotsgure_aes_encrypt_blocks_with,
+    fotsgure_aes_key_length, fotsgure_aes_set_key, fotsgure_aes_version, fotsgure_aes_wipe,
+};
+
+// FIPS 197, appendix C: the bytes 00 01 02 and so on, whose beginnings are the keys, the block, and what comes of it.
+const COUNTED: [u8; 33] = [
+    0x00, 0x01, 0x02, 0x03, 0x04, 0x05, 0x06, 0x07, 0x08, 0x09, 0x0a, 0x0b, 0x0c, 0x0d, 0x0e, 0x0f,
+    0x10, 0x11, 0x12, 0x13, 0x14, 0x15, 0x16, 0x17, 0x18, 0x19, 0x1a, 0x1b, 0x1c, 0x1d, 0x1e, 0x1f,
+    0x20,
+];
+
+const PLAIN: u128 = 0x00112233445566778899aabbccddeeff;
+
+const OF_16: u128 = 0x69c4e0d86a7b0430d8cdb78070b4c55a;
+
+const OF_24: u128 = 0xdda97ca4864cdfe06eaf70a0ec0d7191;
+
+const OF_32: u128 = 0x8ea2b7ca516745bfeafc49904b496089;
+
+fn no_key() -> Aes
+    ensures { result.key_length ≡ 0 }
+{
+    Aes {
+        key_length: 0,
+        words: [0; 120],
+    }
+}
+
+// Whether nine blocks, a batch and one more, come out as the standard says and come back, in place and in one call.
+fn in_place(key: &[u8], wanted: u128) -> bool {
+    let plain = [PLAIN.to_be_bytes(); 9];
+    let cipher = [wanted.to_be_bytes(); 9];
+    let mut aes = no_key();
+    let mut blocks = plain;
+    fotsgure_aes_set_key(&mut aes, key) == DONE
+        && fotsgure_aes_key_length(&aes) == key.len()
+        && fotsgure_aes_encrypt_blocks(&aes, &mut blocks) == DONE
+        && blocks == cipher
+        && fotsgure_aes_decrypt_blocks(&aes, &mut blocks) == DONE
+        && blocks == plain
+        && fotsgure_aes_encrypt_blocks_with(key, &mut blocks) == DONE
+        && blocks == cipher
+        && fotsgure_aes_decrypt_blocks_with(key, &mut blocks) == DONE
+        && blocks == plain
+}
+
+// Whether a block goes from buffer to buffer as the standard says, and comes back.
+fn between_buffers(key: &[u8], wanted: u128) -> bool {
+    let plain = [PLAIN.to_be_bytes()];
+    let mut aes = no_key();
+    let mut there = [[0; 16]];
+    let mut back = [[0; 16]];
+    fotsgure_aes_set_key(&mut aes, key) == DONE
+        && fotsgure_aes_encrypt_blocks_to(&aes, &plain, &mut there) == DONE
+        && there == [wanted.to_be_bytes()]
+        && fotsgure_aes_decrypt_blocks_to(&aes, &there, &mut back) == DONE
+        && back == plain
+        && fotsgure_aes_encrypt_blocks_to(&aes, &plain, &mut []) == UNEQUAL_COUNTS
+}
+
+#[test]
+fn encrypts_and_decrypts_under_keys_of_every_size(rt: HostRuntime) {
+    assert!(rt; in_place(&COUNTED[..16], OF_16));
+    assert!(rt; in_place(&COUNTED[..24], OF_24));
+    assert!(rt; in_place(&COUNTED[..32], OF_32));
+    assert!(rt; between_buffers(&COUNTED[..16], OF_16));
+    assert!(rt; between_buffers(&COUNTED[..24], OF_24));
+    assert!(rt; between_buffers(&COUNTED[..32], OF_32));
+}
+
+#[test]
+fn adds_the_keystream(rt: HostRuntime) {
+    // SP 800-38A, F.5.1: the key, the initial counter block, and the first block there and back.
+    let key = 0x2b7e151628aed2a6abf7158809cf4f3cu128.to_be_bytes();
+    let iv = 0xf0f1f2f3f4f5f6f7f8f9fafbfcfdfeffu128.to_be_bytes();
+    let plain = 0x6bc1bee22e409f96e93d7e117393172au128.to_be_bytes();
+    let cipher = 0x874d6191b620e3261bef6864990db6ceu128.to_be_bytes();
+    let mut aes = no_key();
+    let mut ctr = Ctr { iv, position: 0 };
+    let mut bytes = plain;
+    assert_eq!(rt; fotsgure_aes_set_key(&mut aes, &key), DONE);
+    assert_eq!(rt;
+        fotsgure_aes_add_keystream(&aes, &mut ctr, &mut bytes[..5]),
+        DONE
+    );
+    assert_eq!(rt;
+        fotsgure_aes_add_keystream(&aes, &mut ctr, &mut bytes[5..]),
+        DONE
+    );
+    assert_eq!(rt; bytes, cipher);
+    ctr.position = 0;
+    assert_eq!(rt;
+        fotsgure_aes_add_keystream_with(&key, &mut ctr, &mut bytes),
+        DONE
+    );
+    assert_eq!(rt; bytes, plain);
+    assert_eq!(rt; ctr.position, 16);
+    let mut copied = [0; 11];
+    ctr.position = 5;
+    assert_eq!(rt;
+        fotsgure_aes_add_keystream_to(&aes, &mut ctr, &plain[5..], &mut copied),
+        DONE
+    );
+    assert!(rt; copied.as_slice() == &cipher[5..]);
+    assert_eq!(rt; ctr.position, 16);
+    assert_eq!(rt;
+        fotsgure_aes_add_keystream_to(&aes, &mut ctr, &plain, &mut copied),
+        UNEQUAL_COUNTS
+    );
+    ctr.position = u64::MAX;
+    assert_eq!(rt;
+        fotsgure_aes_add_keystream(&aes, &mut ctr, &mut bytes),
+        KEYSTREAM_END
+    );
+}
+
+#[test]
+fn refuses_other_lengths_and_structs_without_a_key(rt: HostRuntime) {
+    let mut aes = no_key();
+    assert_eq!(rt; fotsgure_aes_set_key(&mut aes, &COUNTED), KEY_LENGTH);
+    assert_eq!(rt; fotsgure_aes_set_key(&mut aes, &COUNTED[..32]), DONE);
+    fotsgure_aes_wipe(&mut aes);
+    assert_eq!(rt; fotsgure_aes_key_length(&aes), 0);
+    assert_eq!(rt; fotsgure_aes_encrypt_blocks(&aes, &mut [[1; 16]]), NO_KEY);
+    assert_eq!(rt; fotsgure_aes_version(), VERSION);
+}

@@ -1,0 +1,11 @@
+-- Bytes as blocks: what the calls on bytes and the laws of blocks speak of.
+use Rattle.std.specs.Prelude.{◌≡◌, ℕ, ◌/◌, ◌<◌, List, [], length, slice_index_or}
+use Rattle.std.specs.Simd.{first_chunks}
+
+-- the blocks that bytes hold, one after another: sixteen bytes each, and those after the last whole block left out
+abbrev pub blocks_of : List ℕ → List (List ℕ)
+blocks_of bytes = first_chunks 16 (length bytes / 16) bytes
+
+-- each of a list of blocks has sixteen bytes
+abbrev pub Sixteens : List (List ℕ) → Type 0
+Sixteens blocks = (i : ℕ) → i < length blocks → length (slice_index_or blocks i []) ≡ 16

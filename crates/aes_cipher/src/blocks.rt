@@ -1,0 +1,99 @@
+//! What modes of operation need of blocks: sums, a comparison for tags, numbers and halves as blocks.
+
+ghost use Rattle.std.specs.Prelude.{◌≡◌, ◌↔◌, ℕ, ◌<◌, ◌^◌, List, ◌++◌, length, take, drop, IsTrue};
+ghost use Rattle.std.specs.Int.{w128, to_be_bytes, from_be_bytes};
+ghost use Rattle.aes_planes.specs.Fips197 as fips;
+
+#[cfg(test)]
+mod tests;
+
+use crate::cipher::Block;
+use aes_planes::laws;
+use std::simd::prelude::*;
+
+/// Returns the sum of two blocks, byte by byte modulo 2: their exclusive or (FIPS 197, 5.1.4).
+#[inline(always)]
+pub fn sum_of_blocks(a: &Block, b: &Block) -> Block
+    ensures { result ≡ fips.add_round_key a.now b.now }
+{
+    let sum = u8x16::from_array(*a) ^ u8x16::from_array(*b);
+    sum.to_array()
+}
+
+/// Tells whether two blocks are equal. Every byte is read, whatever the bytes are: what it costs doesn't tell where two
+/// blocks differ, which a comparison of tags must not.
+pub fn blocks_equal(a: &Block, b: &Block) -> bool
+    ensures { IsTrue result ↔ (a.now ≡ b.now) }
+{
+    let mut difference = 0u8;
+    for i in 0..16 {
+        difference |= a[i] ^ b[i];
+    }
+    difference == 0
+}
+
+/// Returns the block of a number, its highest byte first.
+#[inline(always)]
+pub fn block_of_number(number: u128) -> Block
+    ensures block { result ≡ to_be_bytes w128 number }
+    ensures back { from_be_bytes w128 result ≡ number }
+{
+    numbers_as_blocks();
+    number.to_be_bytes()
+}
+
+/// Returns the number of a block, whose highest byte is the first.
+#[inline(always)]
+pub fn number_of_block(block: &Block) -> u128
+    ensures number { result ≡ from_be_bytes w128 block.now }
+    ensures back { to_be_bytes w128 result ≡ block.now }
+{
+    numbers_as_blocks();
+    laws::is_block(*block);
+    u128::from_be_bytes(*block)
+}
+
+/// Returns the block of two halves, the first of them first.
+#[inline(always)]
+pub fn block_of_halves(first: &[u8; 8], second: &[u8; 8]) -> Block
+    ensures { result ≡ first.now ++ second.now }
+{
+    let mut block = [0; 16];
+    let (high, low) = block.split_at_mut(8);
+    high.copy_from_slice(first);
+    low.copy_from_slice(second);
+    block
+}
+
+/// Returns the two halves of a block.
+#[inline(always)]
+pub fn halves_of_block(block: &Block) -> ([u8; 8], [u8; 8])
+    ensures first { result.0 ≡ take 8 block.now }
+    ensures second { result.1 ≡ drop 8 block.now }
+    ensures back { result.0 ++ result.1 ≡ block.now }
+{
+    halves_and_blocks();
+    let (high, low) = block.split_at(8);
+    let mut first = [0; 8];
+    let mut second = [0; 8];
+    first.copy_from_slice(high);
+    second.copy_from_slice(low);
+    (first, second)
+}
+
+/// No effect; states that numbers below 2^128 and blocks are each other's: the way there and back changes neither.
+pub fn numbers_as_blocks()
+    ensures block { (number : ℕ) → fips.IsBlock (to_be_bytes w128 number) }
+    ensures number { (number : ℕ) → number < 2 ^ 128 → from_be_bytes w128 (to_be_bytes w128 number) ≡ number }
+    ensures back { (block : List ℕ) → fips.IsBlock block → to_be_bytes w128 (from_be_bytes w128 block) ≡ block }
+{}
+
+/// No effect; states that two halves of eight bytes make a block, that it falls into them again, and that a block is
+/// its halves.
+pub fn halves_and_blocks()
+    ensures block { (first second : List ℕ) → length first ≡ 8 → fips.IsBytes first →
+        length second ≡ 8 → fips.IsBytes second → fips.IsBlock (first ++ second) }
+    ensures first { (first second : List ℕ) → length first ≡ 8 → take 8 (first ++ second) ≡ first }
+    ensures second { (first second : List ℕ) → length first ≡ 8 → drop 8 (first ++ second) ≡ second }
+    ensures back { (block : List ℕ) → take 8 block ++ drop 8 block ≡ block }
+{}

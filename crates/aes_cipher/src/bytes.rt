@@ -1,0 +1,64 @@
+//! Bytes that are blocks, one after another: calls that work on them in place, and the laws of such bytes.
+
+ghost use Rattle.std.specs.Prelude.{◌≡◌, ◌≢◌, ◌↔◌, ℕ, ◌*◌, ◌+◌, ◌/◌, ◌%◌, ◌<◌, List, [], length, slice_index, slice_index_or, IsErr, OnOk, OnErr};
+ghost use Rattle.std.specs.List.{concat};
+ghost use Rattle.aes_planes.specs.Each.{Each};
+ghost use Rattle.aes_planes.specs.Fips197 as fips;
+ghost use Rattle.aes_cipher.specs.Blocks.{blocks_of, Sixteens};
+
+#[cfg(test)]
+mod tests;
+mod work;
+
+use crate::cipher::{BlockCipherDecrypt, BlockCipherEncrypt};
+use work::{Decrypting, Encrypting, work_on_bytes};
+
+/// Bytes that should have been blocks end inside one.
+#[derive(Debug, Clone, Copy, PartialEq, Eq)]
+pub struct PartialBlock;
+
+/// Encrypts bytes in place, block by block: leaves Cipher of each, under the value's round keys (FIPS 197, 5.1).
+///
+/// # Errors
+///
+/// `PartialBlock` exactly where the length is no multiple of 16; the bytes are then what they were.
+pub fn encrypt_bytes<C: BlockCipherEncrypt>(
+    cipher: &C,
+    bytes: &mut [u8],
+) -> Result<(), PartialBlock>
+    ensures refusal { IsErr result ↔ (length bytes.old % 16 ≢ 0) }
+    ensures written { OnOk result (Each (fips.cipher_with (C.round_keys cipher.now))
+        (blocks_of bytes.old) (blocks_of bytes.new)) }
+    ensures untouched { OnErr result (bytes.new ≡ bytes.old) }
+{
+    work_on_bytes(&Encrypting { cipher }, bytes)
+}
+
+/// Decrypts bytes in place, block by block: leaves InvCipher of each, under the value's round keys (FIPS 197, 5.3).
+///
+/// # Errors
+///
+/// `PartialBlock` exactly where the length is no multiple of 16; the bytes are then what they were.
+pub fn decrypt_bytes<C: BlockCipherDecrypt>(
+    cipher: &C,
+    bytes: &mut [u8],
+) -> Result<(), PartialBlock>
+    ensures refusal { IsErr result ↔ (length bytes.old % 16 ≢ 0) }
+    ensures written { OnOk result (Each (fips.inv_cipher_with (C.round_keys cipher.now))
+        (blocks_of bytes.old) (blocks_of bytes.new)) }
+    ensures untouched { OnErr result (bytes.new ≡ bytes.old) }
+{
+    work_on_bytes(&Decrypting { cipher }, bytes)
+}
+
+/// No effect; states how bytes and their blocks hang together: whole blocks, joined, are the bytes; joined blocks hold
+/// those blocks; there is a block for every sixteen bytes; byte j of block i, and byte i of joined blocks.
+pub fn blocks_and_bytes()
+    ensures joined { (bytes : List ℕ) → length bytes % 16 ≡ 0 → concat (blocks_of bytes) ≡ bytes }
+    ensures parted { (blocks : List (List ℕ)) → Sixteens blocks → blocks_of (concat blocks) ≡ blocks }
+    ensures count { (bytes : List ℕ) → length (blocks_of bytes) ≡ length bytes / 16 }
+    ensures byte_of_block { (bytes : List ℕ) (i j : ℕ) → i < length bytes / 16 → j < 16 →
+        slice_index (slice_index_or (blocks_of bytes) i []) j ≡ slice_index bytes (16 * i + j) }
+    ensures byte_of_joined { (blocks : List (List ℕ)) (i : ℕ) → Sixteens blocks → i < 16 * length blocks →
+        slice_index (concat blocks) i ≡ slice_index (slice_index_or blocks (i / 16) []) (i % 16) }
+{}

@@ -1,0 +1,52 @@
+//! What no clause says: that the calls on bytes answer, and that a long slice is what its blocks are.
+
+use super::{PartialBlock, blocks_and_bytes, decrypt_bytes, encrypt_bytes};
+use crate::cipher::tests::calls::rest_of_the_example;
+use crate::cipher::{Block, BlockCipherEncrypt};
+
+// Bytes that differ from block to block.
+fn counted() -> [u8; 1056] {
+    let mut bytes = [0; 1056];
+    for i in 0..1056 {
+        bytes[i] = (i % 251) as u8;
+    }
+    bytes
+}
+
+#[test]
+fn works_on_whole_blocks(rt: HostRuntime) {
+    blocks_and_bytes();
+    let cipher = rest_of_the_example();
+    for blocks in [0, 1, 2, 63, 64, 65, 66] {
+        let mut bytes = counted();
+        let (part, rest) = bytes.split_at_mut(16 * blocks);
+        assert_eq!(rt; encrypt_bytes(&cipher, part), Ok(()));
+        for (i, block) in part.as_chunks::<16>().0.iter().enumerate() {
+            let mut wanted: Block = [0; 16];
+            wanted.copy_from_slice(&counted()[16 * i..16 * i + 16]);
+            cipher.encrypt_block(&mut wanted);
+            assert_eq!(rt; *block, wanted);
+        }
+        let untouched = counted();
+        assert!(rt; rest[..] == untouched[16 * blocks..]);
+        assert_eq!(rt; decrypt_bytes(&cipher, part), Ok(()));
+        assert!(rt; bytes == counted());
+    }
+}
+
+#[test]
+fn refuses_bytes_that_end_inside_a_block(rt: HostRuntime) {
+    let cipher = rest_of_the_example();
+    for length in [1, 15, 17, 1055] {
+        let mut bytes = counted();
+        assert_eq!(rt;
+            encrypt_bytes(&cipher, &mut bytes[..length]),
+            Err(PartialBlock)
+        );
+        assert_eq!(rt;
+            decrypt_bytes(&cipher, &mut bytes[..length]),
+            Err(PartialBlock)
+        );
+        assert!(rt; bytes == counted());
+    }
+}

@@ -1,0 +1,71 @@
+//! A reference as what it refers to: a cipher that is lent is a cipher, and so is a backend.
+
+use super::batches::BatchSizeUser;
+use super::decrypt::BlockCipherDecrypt;
+use super::decrypt_backend::{BlockCipherDecBackend, BlockCipherDecClosure};
+use super::encrypt::BlockCipherEncrypt;
+use super::encrypt_backend::{BlockCipherEncBackend, BlockCipherEncClosure};
+use super::round_keys::RoundKeysUser;
+use super::sizes::Block;
+
+impl<C: RoundKeysUser> RoundKeysUser for &C {
+    ghost round_keys = { λ lent. C.round_keys lent.now };
+
+    fn has_round_keys(&self) {
+        (**self).has_round_keys();
+    }
+
+    ghost two_round_keys = { λ lent. C.two_round_keys lent.now };
+}
+
+impl<C: BlockCipherEncrypt> BlockCipherEncrypt for &C {
+    fn encrypt_with_backend<F: BlockCipherEncClosure>(&self, f: &mut F) {
+        (**self).encrypt_with_backend(f);
+    }
+
+    fn encrypt_block(&self, block: &mut Block) {
+        (**self).encrypt_block(block);
+    }
+
+    fn encrypt_blocks(&self, blocks: &mut [Block]) {
+        (**self).encrypt_blocks(blocks);
+    }
+}
+
+impl<C: BlockCipherDecrypt> BlockCipherDecrypt for &C {
+    fn decrypt_with_backend<F: BlockCipherDecClosure>(&self, f: &mut F) {
+        (**self).decrypt_with_backend(f);
+    }
+
+    fn decrypt_block(&self, block: &mut Block) {
+        (**self).decrypt_block(block);
+    }
+
+    fn decrypt_blocks(&self, blocks: &mut [Block]) {
+        (**self).decrypt_blocks(blocks);
+    }
+}
+
+impl<B: BatchSizeUser> BatchSizeUser for &B {
+    type Par = B::Par;
+}
+
+impl<B: BlockCipherEncBackend + BatchSizeUser> BlockCipherEncBackend for &B {
+    fn encrypt_block(&self, block: &mut Block) {
+        (**self).encrypt_block(block);
+    }
+
+    fn encrypt_par_blocks(&self, blocks: &mut [Block]) {
+        (**self).encrypt_par_blocks(blocks);
+    }
+}
+
+impl<B: BlockCipherDecBackend + BatchSizeUser> BlockCipherDecBackend for &B {
+    fn decrypt_block(&self, block: &mut Block) {
+        (**self).decrypt_block(block);
+    }
+
+    fn decrypt_par_blocks(&self, blocks: &mut [Block]) {
+        (**self).decrypt_par_blocks(blocks);
+    }
+}

@@ -1,0 +1,12 @@
+-- What holds in the loops of `digits::write_spaced`.
+use Rattle.std.proofs.Common.{◌≡◌, ◌*◌, ◌∷◌, ◌++◌, [], take, length}
+use Rattle.std.specs.List.{flat_map}
+use Rattle.hex.specs.Hex.{encode_lower}
+use Rattle.aes_kat.proofs.digits.write_spaced.Given as goal
+
+abbrev pub invariant-loop-block : goal.invariant-loop-block
+invariant-loop-block l = record {
+  room : length l.out ≡ 2048;
+  place : l.end ≡ 33 * l.block-index;
+  text : take l.end l.out ≡ flat_map (λ block. encode_lower block ++ 32 ∷ []) (take l.block-index l.blocks);
+}

@@ -1,0 +1,103 @@
+-- Look-ups lane by lane.
+use Rattle.std.proofs.Common.{◌≡◌, ℕ, suc, ◌+◌, ◌*◌, ◌/◌, ◌^◌, ◌≤◌, Bool, true, false, ◌&&◌, ◌||◌, ◌==◌, nat_le, nat_lt, cond, bit_and, List, [], ◌∷◌, length, map, get_or, replicate, refl, ap, ◌∙◌, arith, w8, T}
+use Rattle.std.specs.List.{list_all}
+use Rattle.std.proofs.lemmas.Bool.{and_parts, eqb-true, ltb-true}
+use Rattle.std.proofs.lemmas.Simd.{swz_l, SwzOk, zip2_splat}
+use lib.Lanes.{zip2}
+use Rattle.aes_planes.specs.Fips197.{IsBytes, IsBlock}
+use Rattle.aes_planes.proofs.Bits.ByteCases.{all_below, all_below_tells}
+use Rattle.aes_permute.specs.Lookup.{looked, is_place, low_nibble, high_nibble, Places, Nibbles}
+
+-- ---- one table, at all lanes
+
+pub looked_lanes : (xs js : List ℕ) (i : ℕ) → i + length js ≤ 16 → swz_l w8 16 xs i js ≡ map (looked xs) js
+looked_lanes xs [] i h = refl
+looked_lanes xs (j ∷ js) i h =
+    let e : 16 * (i / 16) + j ≡ j = omega arith in
+    let t = looked_lanes xs js (suc i) (omega arith) in
+    λ k. cond (nat_le 128 j) 0 (get_or xs (e k) 0) ∷ t k
+
+place_ok : (j o : ℕ) → o ≡ j → (nat_le 128 j || nat_lt j 16) ≡ true → T (nat_le 128 j || (nat_lt j 16 && nat_lt o 16))
+place_ok j o e h = go (nat_le 128 j) (nat_lt j 16) (nat_lt o 16) (ap (λ v. nat_lt v 16) e) h
+  where
+    go : (a b c : Bool) → c ≡ b → (a || b) ≡ true → T (a || (b && c))
+    go true b c s h = tt
+    go false true true s h = tt
+    go false true false s h = absurd (grind (arith, s))
+    go false false c s h = absurd (grind (arith, h))
+
+pub places_ok : (js : List ℕ) (i : ℕ) → i + length js ≤ 16 → Places js → SwzOk w8 16 16 i js
+unfolding is_place
+places_ok [] i h p = tt
+places_ok (j ∷ js) i h p =
+    let both = and_parts (is_place j) (list_all is_place js) p in
+    (place_ok j (16 * (i / 16) + j) (omega arith) both.0, places_ok js (suc i) (omega arith) both.1)
+
+-- ---- tests on all bytes and on all nibbles
+
+-- a test that each byte passes, of each element
+pub each_passes : (p : ℕ → Bool) (f : ℕ → ℕ) → all_below 256 (λ b. p (f b)) ≡ true → (xs : List ℕ) → IsBytes xs → list_all p (map f xs) ≡ true
+each_passes p f t [] h = refl
+each_passes p f t (x ∷ xs) h =
+    let e : p (f x) ≡ true = all_below_tells 256 (λ b. p (f b)) t x (h 0) in
+    (λ k. e k && list_all p (map f xs)) ∙ each_passes p f t xs (λ i. h (suc i))
+
+-- two functions that agree on bytes
+pub maps_same : (f g : ℕ → ℕ) → all_below 256 (λ b. f b == g b) ≡ true → (xs : List ℕ) → IsBytes xs → map f xs ≡ map g xs
+maps_same f g t [] h = refl
+maps_same f g t (x ∷ xs) h =
+    let e : f x ≡ g x = eqb-true _ _ (all_below_tells 256 (λ b. f b == g b) t x (h 0)) in
+    λ i. e i ∷ maps_same f g t xs (λ j. h (suc j)) i
+
+nibble_places : all_below 16 is_place ≡ true
+unfolding all_below is_place
+nibble_places = refl
+
+pub nibbles_are_places : (ks : List ℕ) → Nibbles ks → Places ks
+nibbles_are_places [] h = refl
+nibbles_are_places (k ∷ ks) h =
+    let t = and_parts (nat_lt k 16) (list_all (λ k. nat_lt k 16) ks) h in
+    let e : is_place k ≡ true = all_below_tells 16 is_place nibble_places k (ltb-true k 16 t.0) in
+    (λ i. e i && list_all is_place ks) ∙ nibbles_are_places ks t.1
+
+-- a test that each pair of nibbles passes, of each pair
+pub pairs_pass : (p : ℕ → Bool) (f : ℕ → ℕ → ℕ) → all_below 16 (λ h. all_below 16 (λ l. p (f h l))) ≡ true
+    → (hs ls : List ℕ) → Nibbles hs → Nibbles ls → list_all p (zip2 f hs ls) ≡ true
+pairs_pass p f t [] ls h l = refl
+pairs_pass p f t (x ∷ xs) [] h l = refl
+pairs_pass p f t (x ∷ xs) (y ∷ ys) h l =
+    let a = and_parts (nat_lt x 16) (list_all (λ k. nat_lt k 16) xs) h in
+    let b = and_parts (nat_lt y 16) (list_all (λ k. nat_lt k 16) ys) l in
+    let e : p (f x y) ≡ true =
+    all_below_tells 16 (λ l. p (f x l)) (all_below_tells 16 (λ h. all_below 16 (λ l. p (f h l))) t x (ltb-true x 16 a.0)) y (ltb-true y 16 b.0) in
+    (λ i. e i && list_all p (zip2 f xs ys)) ∙ pairs_pass p f t xs ys a.1 b.1
+
+-- ---- the two nibbles
+
+low_cases : all_below 256 (λ b. bit_and b 15 == low_nibble b) ≡ true
+unfolding all_below
+low_cases = refl
+
+pub low_nibbles_are : (x : List ℕ) → IsBlock x → zip2 bit_and x (replicate 16 15) ≡ map low_nibble x
+low_nibbles_are x h = zip2_splat bit_and x 16 15 h.0 ∙ maps_same (λ b. bit_and b 15) low_nibble low_cases x h.1
+
+high_cases : all_below 256 (λ b. b / 16 == high_nibble b) ≡ true
+unfolding all_below
+high_cases = refl
+
+pub high_nibbles_are : (x : List ℕ) → IsBlock x → zip2 (λ a b. a / 2 ^ b) x (replicate 16 4) ≡ map high_nibble x
+high_nibbles_are x h = zip2_splat (λ a b. a / 2 ^ b) x 16 4 h.0 ∙ maps_same (λ b. b / 16) high_nibble high_cases x h.1
+
+low_is_nibble : all_below 256 (λ b. nat_lt (low_nibble b) 16) ≡ true
+unfolding all_below
+low_is_nibble = refl
+
+high_is_nibble : all_below 256 (λ b. nat_lt (high_nibble b) 16) ≡ true
+unfolding all_below
+high_is_nibble = refl
+
+pub low_is : (x s : List ℕ) → IsBytes x → s ≡ map low_nibble x → Nibbles s
+low_is x s h e = ap (list_all (λ k. nat_lt k 16)) e ∙ each_passes (λ k. nat_lt k 16) low_nibble low_is_nibble x h
+
+pub high_is : (x s : List ℕ) → IsBytes x → s ≡ map high_nibble x → Nibbles s
+high_is x s h e = ap (list_all (λ k. nat_lt k 16)) e ∙ each_passes (λ k. nat_lt k 16) high_nibble high_is_nibble x h

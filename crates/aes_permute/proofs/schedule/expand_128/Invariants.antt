@@ -1,0 +1,13 @@
+-- What holds in the loops of `schedule::expand_128`.
+use Rattle.std.proofs.Common.{◌≡◌, ◌+◌, ◌*◌, length}
+use Rattle.aes_planes.specs.Fips197 as fips
+use Rattle.aes_planes.proofs.KeySchedule.ExpandedBlocks.{block_at}
+use Rattle.aes_permute.proofs.Expansion.{Before}
+use Rattle.aes_permute.proofs.schedule.expand_128.Given as goal
+
+abbrev pub invariant-loop-i : goal.invariant-loop-i
+invariant-loop-i l = record {
+  done : Before l.keys (fips.key_expansion l.key) (l.i + 1);
+  last_four : l.words ≡ block_at l.key (4 * l.i);
+  same_length : length l.keys ≡ 11;
+}

@@ -1,0 +1,66 @@
+-- What is left to show of `schedule::expand_256`.
+use Rattle.std.proofs.Common.{◌≡◌, ℕ, ◌+◌, ◌*◌, List, length, set, refl, sym, ◌∙◌, arith}
+use Rattle.std.proofs.lemmas.List.{length-set}
+use Rattle.aes_planes.specs.Fips197.{key_words, key_expansion, sub_bytes, add_round_key, power_of_x}
+use Rattle.aes_planes.specs.Planes.{constant_block, columns_summed}
+use Rattle.aes_planes.proofs.KeySchedule.ExpandedBlocks.{block_at, key_block, round_key_at, first_block, second_block, listed_power}
+use Rattle.aes_permute.proofs.Expansion.{Before, put_first, put_inner, put_last}
+use Rattle.aes_permute.proofs.schedule.expand_256.Goals as goal
+
+pub loop-i-init : goal.loop-i-init
+loop-i-init c =
+    let key = c.args.key.now in
+    let own : key_words key ≡ 8 = omega (arith, c.requires.sized) in
+    let w = key_expansion key in
+    let even : c.part_of-even.result ≡ block_at key 0 = c.part_of-even.ensures ∙ sym (key_block key 8 own (omega arith) 0 0 refl (omega arith) c.requires.sized) in
+    let odd : c.part_of-odd.result ≡ block_at key 4 = c.part_of-odd.ensures ∙ sym (key_block key 8 own (omega arith) 4 16 refl (omega arith) c.requires.sized) in
+    let keys1 : List (List ℕ) = set c.args.keys.now 0 c.part_of-even.result in
+    let l1 : length keys1 ≡ 15 = omega (arith, length-set c.args.keys.now 0 c.part_of-even.result, c.requires.round_keys) in
+    let done1 : Before keys1 w 1 = put_first c.args.keys.now w _ (omega (arith, c.requires.round_keys)) (even ∙ sym (round_key_at key 0 0 refl (omega arith))) in
+    record {
+      done = put_inner keys1 w 1 2 _ (omega arith) (omega (arith, l1)) refl (c.inner_key.ensures ∙ odd ∙ sym (round_key_at key 1 4 refl (omega arith))) done1;
+      first_four = even;
+      last_four = odd;
+      same_length = omega (arith, length-set keys1 1 c.inner_key.result, l1);
+    }
+
+pub loop-i-preserved : goal.loop-i-preserved
+loop-i-preserved c =
+    let key = c.args.key.now in
+    let own : key_words key ≡ 8 = omega (arith, c.requires.sized) in
+    let w = key_expansion key in
+    let i = c.loop-i.i in
+    let inv = c.loop-i.invariant in
+    let even : c.rotated_words-even.result ≡ block_at key (8 * (i + 1)) =
+    c.rotated_words-even.ensures
+    ∙ (λ t. columns_summed 1 3 (inv.first_four t) (add_round_key (sub_bytes (inv.last_four t)) (constant_block (listed_power i (omega arith) t))))
+    ∙ first_block key 8 own (omega arith) i (8 * i) (8 * i + 4) (8 * (i + 1)) (omega arith) (omega arith) (omega arith) in
+    let odd : c.substituted_words-odd.result ≡ block_at key (8 * (i + 1) + 4) =
+    c.substituted_words-odd.ensures ∙ (λ t. columns_summed 0 3 (inv.last_four t) (sub_bytes (even t)))
+    ∙ second_block key 8 own (omega arith) i (8 * i + 4) (8 * (i + 1)) (8 * (i + 1) + 4) refl (omega arith) (omega arith) refl in
+    let keys1 : List (List ℕ) = set c.loop-i.keys (2 * i + 2) c.inner_key-in-loop-i.result in
+    let l1 : length keys1 ≡ 15 = omega (arith, length-set c.loop-i.keys (2 * i + 2) c.inner_key-in-loop-i.result, inv.same_length) in
+    let done1 : Before keys1 w (2 * i + 3) = put_inner c.loop-i.keys w (2 * i + 2) (2 * i + 3) _ (omega arith) (omega (arith, inv.same_length)) (omega arith)
+    (c.inner_key-in-loop-i.ensures ∙ even ∙ sym (round_key_at key (2 * i + 2) (8 * (i + 1)) (omega arith) (omega (arith, own)))) inv.done in
+    record {
+      done = put_inner keys1 w (2 * i + 3) (2 * (i + 1) + 2) _ (omega arith) (omega (arith, l1)) (omega arith)
+          (c.inner_key-in-loop-i-2.ensures ∙ odd ∙ sym (round_key_at key (2 * i + 3) (8 * (i + 1) + 4) (omega arith) (omega (arith, own)))) done1;
+      first_four = even;
+      last_four = odd;
+      same_length = omega (arith, length-set keys1 (2 * i + 3) c.inner_key-in-loop-i-2.result, l1);
+    }
+
+pub returns-clause-keys : goal.returns-clause-keys
+returns-clause-keys c =
+    let key = c.args.key.now in
+    let own : key_words key ≡ 8 = omega (arith, c.requires.sized) in
+    let inv = c.loop-i.invariant in
+    let last : c.loop-i.i ≡ 6 = omega arith in
+    let next : c.rotated_words.result ≡ block_at key 56 =
+    c.rotated_words.ensures
+    ∙ (λ t. columns_summed 1 3 (inv.first_four t) (add_round_key (sub_bytes (inv.last_four t)) (constant_block (listed_power 6 (omega arith) t))))
+    ∙ (λ t. columns_summed 1 3 (block_at key (8 * last t)) (add_round_key (sub_bytes (block_at key (8 * last t + 4))) (constant_block (power_of_x 6))))
+    ∙ first_block key 8 own (omega arith) 6 48 52 56 refl refl refl in
+    put_last key c.loop-i.keys 14 _ (omega arith) inv.same_length (omega (arith, own))
+    (c.last_key.ensures ∙ next ∙ sym (round_key_at key 14 56 refl (omega (arith, own))))
+    (λ k lt. inv.done k (omega arith))

@@ -1,0 +1,20 @@
+-- What is left to show of `schedule::summed_columns`.
+use Rattle.std.proofs.Common.{bit_xor, refl, ◌∙◌}
+use lib.Lanes.{zip2}
+use Rattle.aes_permute.specs.Lookup.{is_place}
+use Rattle.aes_permute.proofs.ScheduleLanes.{summed_is}
+use Rattle.aes_permute.proofs.schedule.summed_columns.Goals as goal
+
+pub lookup-requires : goal.lookup-requires
+unfolding is_place
+lookup-requires c = record { are_places = refl }
+
+pub lookup-requires-2 : goal.lookup-requires-2
+unfolding is_place
+lookup-requires-2 c = record { are_places = refl }
+
+pub returns : goal.returns
+returns c =
+    summed_is c.args.before c.args.start c.args.addend c.sum-pairs.result c.sum-sums.result c.requires.before c.requires.start c.requires.addend
+    (c.sum-pairs.ensures ∙ (λ i. zip2 bit_xor c.args.before (c.lookup.ensures i)))
+    (c.sum-sums.ensures ∙ (λ i. zip2 bit_xor c.sum-pairs.result (c.lookup-2.ensures i)))

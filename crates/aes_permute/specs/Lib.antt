@@ -1,0 +1,5 @@
+-- The files of definitions.
+pub mod Inverse
+pub mod Keys
+pub mod Lookup
+pub mod Stored

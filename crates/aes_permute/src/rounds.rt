@@ -1,0 +1,117 @@
+//! The rounds of Cipher and EqInvCipher on lanes. States are kept in the tower basis, and round keys so that the constant of
+//! the S-box is added with them.
+
+ghost use Rattle.std.specs.Prelude.{◌≡◌, map};
+ghost use Rattle.aes_planes.specs.Fips197 as fips;
+ghost use Rattle.aes_planes.specs.Planes.{plus63};
+ghost use Rattle.aes_permute.specs.Stored.{untower, inv_untower, key_untower};
+
+use crate::lanes::{looked_up_by_nibbles, sum};
+use crate::sbox::{looked_up, places_of};
+use crate::tables::*;
+use std::simd::prelude::*;
+
+/// Adds round key 0 to a block, and returns the state of Cipher (FIPS 197, 5.1).
+#[inline(always)]
+pub fn encrypt_first(block: u8x16, key: u8x16) -> u8x16
+    requires block { fips.IsBlock block }
+    requires key { fips.IsBlock key }
+    ensures { map untower result ≡ fips.add_round_key block key }
+{
+    looked_up_by_nibbles(sum(block, key), TOWER_LOW, TOWER_HIGH)
+}
+
+/// Runs a round of Cipher that is not the last (FIPS 197, 5.1).
+#[inline(always)]
+pub fn encrypt_round(x: u8x16, key: u8x16) -> u8x16
+    requires block { fips.IsBlock x }
+    requires key { fips.IsBlock key }
+    ensures { map untower result ≡ fips.add_round_key (fips.mix_columns (fips.shift_rows (fips.sub_bytes (map untower x)))) (map key_untower key) }
+{
+    let at = places_of(x);
+    let one = looked_up(at, ONE_FIRST, ONE_SECOND);
+    let two = looked_up(at, TWO_FIRST, TWO_SECOND);
+    let three = sum(one, two);
+    let first = two.swizzle([0, 5, 10, 15, 4, 9, 14, 3, 8, 13, 2, 7, 12, 1, 6, 11]);
+    let second = three.swizzle([5, 10, 15, 0, 9, 14, 3, 4, 13, 2, 7, 8, 1, 6, 11, 12]);
+    let third = one.swizzle([10, 15, 0, 5, 14, 3, 4, 9, 2, 7, 8, 13, 6, 11, 12, 1]);
+    let fourth = one.swizzle([15, 0, 5, 10, 3, 4, 9, 14, 7, 8, 13, 2, 11, 12, 1, 6]);
+    ((first ^ key) ^ (third ^ fourth)) ^ second
+}
+
+/// Runs the last round of Cipher, and returns the block (FIPS 197, 5.1).
+#[inline(always)]
+pub fn encrypt_last(x: u8x16, key: u8x16) -> u8x16
+    requires block { fips.IsBlock x }
+    requires key { fips.IsBlock key }
+    ensures { result ≡ fips.add_round_key (fips.shift_rows (fips.sub_bytes (map untower x))) (map plus63 key) }
+{
+    let one = looked_up(places_of(x), SBOX_FIRST, SBOX_SECOND);
+    one.swizzle([0, 5, 10, 15, 4, 9, 14, 3, 8, 13, 2, 7, 12, 1, 6, 11]) ^ key
+}
+
+/// Adds round key 0 of EqInvCipher to a block, and returns the state (FIPS 197, 5.3.5).
+#[inline(always)]
+pub fn decrypt_first(block: u8x16, key: u8x16) -> u8x16
+    requires block { fips.IsBlock block }
+    requires key { fips.IsBlock key }
+    ensures { map inv_untower result ≡ fips.add_round_key block (map plus63 key) }
+{
+    looked_up_by_nibbles(sum(block, key), INV_TOWER_LOW, INV_TOWER_HIGH)
+}
+
+/// Runs a round of EqInvCipher that is not the last (FIPS 197, 5.3.5).
+#[inline(always)]
+pub fn decrypt_round(x: u8x16, key: u8x16) -> u8x16
+    requires block { fips.IsBlock x }
+    requires key { fips.IsBlock key }
+    ensures { map inv_untower result ≡ fips.add_round_key (fips.inv_mix_columns (fips.inv_shift_rows (fips.inv_sub_bytes (map inv_untower x)))) (map inv_untower key) }
+{
+    let at = places_of(x);
+    let by_14 = looked_up(at, INV_14_FIRST, INV_14_SECOND);
+    let by_11 = looked_up(at, INV_11_FIRST, INV_11_SECOND);
+    let by_13 = looked_up(at, INV_13_FIRST, INV_13_SECOND);
+    let by_9 = looked_up(at, INV_9_FIRST, INV_9_SECOND);
+    let first = by_14.swizzle([0, 13, 10, 7, 4, 1, 14, 11, 8, 5, 2, 15, 12, 9, 6, 3]);
+    let second = by_11.swizzle([13, 10, 7, 0, 1, 14, 11, 4, 5, 2, 15, 8, 9, 6, 3, 12]);
+    let third = by_13.swizzle([10, 7, 0, 13, 14, 11, 4, 1, 2, 15, 8, 5, 6, 3, 12, 9]);
+    let fourth = by_9.swizzle([7, 0, 13, 10, 11, 4, 1, 14, 15, 8, 5, 2, 3, 12, 9, 6]);
+    ((first ^ key) ^ (third ^ fourth)) ^ second
+}
+
+/// Runs the last round of EqInvCipher, and returns the block (FIPS 197, 5.3.5).
+#[inline(always)]
+pub fn decrypt_last(x: u8x16, key: u8x16) -> u8x16
+    requires block { fips.IsBlock x }
+    requires key { fips.IsBlock key }
+    ensures { result ≡ fips.add_round_key (fips.inv_shift_rows (fips.inv_sub_bytes (map inv_untower x))) key }
+{
+    let one = looked_up(places_of(x), INV_SBOX_FIRST, INV_SBOX_SECOND);
+    one.swizzle([0, 13, 10, 7, 4, 1, 14, 11, 8, 5, 2, 15, 12, 9, 6, 3]) ^ key
+}
+
+/// InvMixColumns of a round key (FIPS 197, 5.3.3): from the form that Cipher's inner rounds use to that of EqInvCipher's.
+#[inline(always)]
+pub fn unmixed_key(x: u8x16) -> u8x16
+    requires block { fips.IsBlock x }
+    ensures { map inv_untower result ≡ fips.inv_mix_columns (map key_untower x) }
+{
+    let by_14 = looked_up_by_nibbles(x, KEY_14_LOW, KEY_14_HIGH);
+    let by_11 = looked_up_by_nibbles(x, KEY_11_LOW, KEY_11_HIGH);
+    let by_13 = looked_up_by_nibbles(x, KEY_13_LOW, KEY_13_HIGH);
+    let by_9 = looked_up_by_nibbles(x, KEY_9_LOW, KEY_9_HIGH);
+    let second = by_11.swizzle([1, 2, 3, 0, 5, 6, 7, 4, 9, 10, 11, 8, 13, 14, 15, 12]);
+    let third = by_13.swizzle([2, 3, 0, 1, 6, 7, 4, 5, 10, 11, 8, 9, 14, 15, 12, 13]);
+    let fourth = by_9.swizzle([3, 0, 1, 2, 7, 4, 5, 6, 11, 8, 9, 10, 15, 12, 13, 14]);
+    (by_14 ^ (third ^ fourth)) ^ second
+}
+
+/// SubBytes of a block as it is, but for the constant of the S-box (FIPS 197, 5.1.1).
+#[inline(always)]
+pub fn sub_bytes_but_constant(x: u8x16) -> u8x16
+    requires block { fips.IsBlock x }
+    ensures { result ≡ map plus63 (fips.sub_bytes x) }
+{
+    let tower = looked_up_by_nibbles(x, TOWER_LOW, TOWER_HIGH);
+    looked_up(places_of(tower), SBOX_FIRST, SBOX_SECOND)
+}

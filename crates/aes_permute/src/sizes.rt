@@ -1,0 +1,130 @@
+//! The sizes of keys, and the key schedule of each.
+
+ghost use Rattle.std.specs.Prelude.{◌≡◌, ℕ, List, length};
+ghost use Rattle.std.proofs.Common.{arith};
+ghost use Rattle.aes_planes.specs.Fips197 as fips;
+ghost use Rattle.aes_permute.specs.Keys.{encrypting, IsKeySize};
+
+use crate::schedule::{expand_128, expand_192, expand_256};
+use crate::wiped::{Stored, WipedBlocks};
+
+/// A size of keys.
+pub trait KeySize {
+    /// A key.
+    type Key;
+
+    /// Its round keys, as they are stored.
+    type Keys: Stored;
+
+    /// The bytes of a key.
+    ghost bytes: { Self.Key → List ℕ };
+
+    /// How many bytes a key has.
+    ghost SIZE: { ℕ };
+
+    /// How many bytes a key has.
+    const SIZE: usize;
+
+    /// The name of the type that works both ways; those of one direction begin with it.
+    const NAME: &'static str;
+
+    /// Lends the bytes of a key.
+    fn lend(key: &Self::Key) -> &[u8]
+        ensures same { result.now ≡ bytes key.now }
+        ensures sized { length result.now ≡ SIZE };
+
+    /// Leaves the round keys of a key, for Cipher: KeyExpansion (FIPS 197, 5.2).
+    fn expand(keys: &mut Self::Keys, key: &[u8])
+        requires { length key.now ≡ SIZE }
+        ensures { encrypting (Self.Keys.blocks keys.new) ≡ fips.key_expansion key.now };
+
+    /// A key has four to eight words.
+    ghost is_size: { IsKeySize SIZE };
+}
+
+/// Keys of 16 bytes.
+pub struct Bits128;
+
+/// Keys of 24 bytes.
+pub struct Bits192;
+
+/// Keys of 32 bytes.
+pub struct Bits256;
+
+impl KeySize for Bits128 {
+    type Key = [u8; 16];
+
+    type Keys = WipedBlocks<11>;
+
+    ghost bytes = { λ key. key };
+
+    ghost SIZE = { 16 };
+
+    const SIZE: usize = 16;
+
+    const NAME: &'static str = "Aes128";
+
+    #[inline(always)]
+    fn lend(key: &[u8; 16]) -> &[u8] {
+        key
+    }
+
+    #[inline(always)]
+    fn expand(keys: &mut WipedBlocks<11>, key: &[u8]) {
+        expand_128(&mut keys.blocks, key);
+    }
+
+    ghost is_size = { record { words = Prim.omega arith; four = Prim.omega arith; eight = Prim.omega arith } };
+}
+
+impl KeySize for Bits192 {
+    type Key = [u8; 24];
+
+    type Keys = WipedBlocks<13>;
+
+    ghost bytes = { λ key. key };
+
+    ghost SIZE = { 24 };
+
+    const SIZE: usize = 24;
+
+    const NAME: &'static str = "Aes192";
+
+    #[inline(always)]
+    fn lend(key: &[u8; 24]) -> &[u8] {
+        key
+    }
+
+    #[inline(always)]
+    fn expand(keys: &mut WipedBlocks<13>, key: &[u8]) {
+        expand_192(&mut keys.blocks, key);
+    }
+
+    ghost is_size = { record { words = Prim.omega arith; four = Prim.omega arith; eight = Prim.omega arith } };
+}
+
+impl KeySize for Bits256 {
+    type Key = [u8; 32];
+
+    type Keys = WipedBlocks<15>;
+
+    ghost bytes = { λ key. key };
+
+    ghost SIZE = { 32 };
+
+    const SIZE: usize = 32;
+
+    const NAME: &'static str = "Aes256";
+
+    #[inline(always)]
+    fn lend(key: &[u8; 32]) -> &[u8] {
+        key
+    }
+
+    #[inline(always)]
+    fn expand(keys: &mut WipedBlocks<15>, key: &[u8]) {
+        expand_256(&mut keys.blocks, key);
+    }
+
+    ghost is_size = { record { words = Prim.omega arith; four = Prim.omega arith; eight = Prim.omega arith } };
+}

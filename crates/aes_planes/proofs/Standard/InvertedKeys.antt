@@ -1,0 +1,43 @@
+-- The round keys of EqInvCipher, place by place.
+use Rattle.std.proofs.Common.{◌≡◌, ◌≢◌, ◌⊎◌, inl, inr, ℕ, ◌-◌, ◌<◌, ◌==◌, ◌||◌, if◌then◌else◌, Bool, true, List, []}
+use Rattle.std.proofs.Common.{length, slice_index_or, ap, sym, ◌∙◌}
+use Rattle.std.proofs.Math.Bool.{or-true}
+use Rattle.std.proofs.lemmas.Bool.{eq-eqb, ne_eqb}
+use Rattle.aes_planes.specs.Fips197 as fips
+use Rattle.aes_planes.proofs.Lists.Built.{get_or-build, length-build}
+
+pub inverted_length : (w : List (List ℕ)) → length (fips.inverted_keys w) ≡ length w
+unfolding fips.inverted_keys
+inverted_length w =
+    length-build (length w) (λ i. if (i == 0) || (i == fips.last_round w) then fips.round_key w (fips.last_round w - i)
+    else fips.inv_mix_columns (fips.round_key w (fips.last_round w - i)))
+
+module _ (w : List (List ℕ)) (i : ℕ) (lt : i < length w) where
+  -- the key at place i, by whether it stays as it is
+  key_if : Bool → List ℕ
+  key_if same =
+      if same then fips.round_key w (fips.last_round w - i) else fips.inv_mix_columns
+      (fips.round_key w (fips.last_round w - i))
+
+  inverted_at : slice_index_or (fips.inverted_keys w) i [] ≡ key_if ((i == 0) || (i == fips.last_round w))
+  unfolding fips.inverted_keys key_if
+  inverted_at =
+      get_or-build (length w) i (λ i. if (i == 0) || (i == fips.last_round w) then fips.round_key w
+      (fips.last_round w - i)
+      else fips.inv_mix_columns (fips.round_key w (fips.last_round w - i))) [] lt
+
+  is_end : (i ≡ 0) ⊎ (i ≡ fips.last_round w) → ((i == 0) || (i == fips.last_round w)) ≡ true
+  is_end (inl e) = ap (λ v. v || (i == fips.last_round w)) (eq-eqb i 0 e)
+  is_end (inr e) = ap (λ v. (i == 0) || v) (eq-eqb i (fips.last_round w) e) ∙ or-true (i == 0)
+
+  -- the first and the last stay as they are
+  pub inverted_end : (i ≡ 0) ⊎ (i ≡ fips.last_round w) → fips.round_key w (fips.last_round w - i)
+      ≡ slice_index_or (fips.inverted_keys w) i []
+  unfolding key_if
+  inverted_end e = sym (inverted_at ∙ ap key_if (is_end e))
+
+  -- and between them columns are mixed back
+  pub inverted_middle : i ≢ 0 → i ≢ fips.last_round w → fips.inv_mix_columns (fips.round_key w (fips.last_round w - i))
+      ≡ slice_index_or (fips.inverted_keys w) i []
+  unfolding key_if
+  inverted_middle p q = sym (inverted_at ∙ ap key_if (λ j. ne_eqb i 0 p j || ne_eqb i (fips.last_round w) q j))

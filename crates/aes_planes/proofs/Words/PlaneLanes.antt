@@ -1,0 +1,346 @@
+-- Eight words of sixteen bits as lanes of a vector, and their bits through the operations on vectors.
+use Rattle.std.proofs.Common.{◌≡◌, ℕ, ◌+◌, ◌-◌, ◌*◌, ◌/◌, ◌%◌, ◌^◌, ◌<◌, ◌≤◌, Bool, true, ◌&&◌, ◌||◌, not, bit_and}
+use Rattle.std.proofs.Common.{bit_or, bit_xor, List, [], ◌∷◌, ◌++◌, length, map, get_or, replicate, refl, ap, sym, ◌∙◌}
+use Rattle.std.proofs.Common.{arith, w16, Fits}
+use Rattle.std.proofs.Math.Bool.{and-false, and-true}
+use Rattle.std.proofs.lemmas.Bool.{cases_lt, and_parts}
+use Rattle.std.proofs.lemmas.Simd.{below_from_Fits, map-map}
+use Rattle.std.proofs.lemmas.List.{length-map}
+use lib.Lanes.{zip2, pick_l, Each1, number_l, digits_l}
+use Rattle.aes_planes.specs.Bits.{at, bit, xor, number}
+use Rattle.aes_planes.specs.Fips197.{field_add, field_mul}
+use Rattle.aes_planes.specs.Planes.{held_byte, place, summed}
+use Rattle.aes_planes.specs.Words.{word_bits}
+use Rattle.aes_planes.proofs.Bits.BitCases.{eight, same, same_tells, xor_false}
+use Rattle.aes_planes.proofs.Bits.ByteCases.{all_below, all_pairs, all_pairs_tell}
+use Rattle.aes_planes.proofs.Bits.BytesByBits.{number-sum, number-double, sum_bits-map}
+use Rattle.aes_planes.proofs.Bits.Digits.{digits_small, each_small, regrouped}
+use Rattle.aes_planes.proofs.Bits.NumberBits.{reads, bit_rotated, bit_zero, bit_ones, bit_of_and, bit_of_or, bit_of_xor}
+use Rattle.aes_planes.proofs.Lists.Built.{map-same, map-same_at}
+use Rattle.aes_planes.proofs.Mixing.Matrices.{stay_bit, masked_turn}
+use Rattle.aes_planes.proofs.Words.LaneBits.{lane_of_two, lane_of_splats}
+use Rattle.std.proofs.Common.{zero, suc, false, w8, cond, nat_le, ◌==◌}
+use Rattle.std.proofs.lemmas.Simd.{get_or-zip2, get_or-replicate, length-zip2, mask_l-mod, bit_mask_l, tops_compared}
+use lib.Lanes.{mask_l, top}
+use Rattle.aes_planes.proofs.Bits.NumberBits.{word_xor, word_shl}
+use Rattle.aes_planes.proofs.KeySchedule.SummedColumns.{columns_right, summed-ext, xor_inward}
+use Rattle.aes_planes.proofs.Words.LaneBits.{lane_small}
+use Rattle.aes_planes.proofs.Words.Packing.{swizzled}
+
+-- ---- lanes of another width
+
+-- a lane of sixteen bits, of two of sixty-four
+pub narrow_lane : (low high p i : ℕ) → low < 2 ^ 64 → high < 2 ^ 64 → p < 8 → i < 16
+    → bit (get_or (digits_l (2 ^ 16) 8 (number_l (2 ^ 8) (digits_l (2 ^ 8) 16 (number_l (2 ^ 64) (low ∷ high ∷ []))))) p
+    0) i
+    ≡ bit (get_or (low ∷ high ∷ []) (p / 4) 0) (16 * (p % 4) + i)
+narrow_lane low high p i h k hp hi =
+    let wide = number_l (2 ^ 64) (low ∷ high ∷ []) in
+    let m : ℕ = 16 * p + i in
+    regrouped 16 8 8 (digits_l (2 ^ 8) 16 wide) p i (m / 8) (m % 8) (digits_small 8 16 wide) hp hi (omega arith)
+    (omega arith) (omega arith)
+    ∙ regrouped 8 64 16 (low ∷ high ∷ []) (m / 8) (m % 8) (p / 4) (16 * (p % 4) + i) (h, (k, tt))
+    (omega arith) (omega arith) (omega arith) (omega arith) (omega arith)
+
+-- a lane of sixty-four bits, of eight of sixteen
+pub wide_lane : (x : List ℕ) (q p i : ℕ) → length x ≡ 8 → Each1 (Fits w16) x → q < 2 → p < 4 → i < 16
+    → bit (get_or (digits_l (2 ^ 64) 2 (number_l (2 ^ 8) (digits_l (2 ^ 8) 16 (number_l (2 ^ 16) x)))) q 0) (16 * p + i)
+    ≡ bit (get_or x (4 * q + p) 0) i
+wide_lane x q p i d f hq hp hi =
+    let all = number_l (2 ^ 16) x in
+    let m : ℕ = 64 * q + (16 * p + i) in
+    regrouped 64 8 2 (digits_l (2 ^ 8) 16 all) q (16 * p + i) (m / 8) (m % 8) (digits_small 8 16 all) hq (omega arith)
+    (omega arith)
+    (omega arith) (omega arith)
+    ∙ regrouped 8 16 16 x (m / 8) (m % 8) (4 * q + p) i (below_from_Fits w16 x f) (omega arith) (omega arith)
+    (omega (arith, d)) hi (omega arith)
+
+-- the bytes of the lanes
+abbrev pub lane_bytes : List ℕ → List ℕ
+lane_bytes x = digits_l (2 ^ 8) 16 (number_l (2 ^ 16) x)
+
+-- the lower bytes, and the upper ones
+abbrev pub halves : List ℕ
+halves = 0 ∷ 2 ∷ 4 ∷ 6 ∷ 8 ∷ 10 ∷ 12 ∷ 14 ∷ 1 ∷ 3 ∷ 5 ∷ 7 ∷ 9 ∷ 11 ∷ 13 ∷ 15 ∷ []
+
+halves_checked : all_pairs 2 8 (λ j r. get_or halves (8 * j + r) 0 == 2 * r + j) ≡ true
+unfolding all_below
+halves_checked = refl
+
+pub half_bit : (x : List ℕ) (j r i : ℕ) → length x ≡ 8 → Each1 (Fits w16) x → j < 2 → r < 8 → i < 8
+    → bit (get_or (pick_l 0 (lane_bytes x ++ lane_bytes x) halves) (8 * j + r) 0) i ≡ bit (get_or x r 0) (8 * j + i)
+half_bit x j r i d f hj hr hi =
+    ap (λ v. bit v i) (swizzled (lane_bytes x) halves refl tt (8 * j + r) (2 * r + j) (omega arith)
+    (all_pairs_tell 2 8 (λ j r. get_or halves (8 * j + r) 0 == 2 * r + j) halves_checked j r hj hr))
+    ∙ regrouped 8 16 16 x (2 * r + j) i r (8 * j + i) (below_from_Fits w16 x f) (omega arith) hi (omega (arith, d))
+    (omega arith) (omega arith)
+
+-- ---- planes by the top bits of lanes
+
+-- whether a byte's bit p is its top bit once it stands so far up
+top_test : ℕ → ℕ → Bool
+top_test p x = same (nat_le 128 (x * 2 ^ (7 - p) % 2 ^ 8)) (bit x p)
+
+top_checked : all_pairs 8 256 top_test ≡ true
+unfolding all_below top_test same bit
+top_checked = refl
+
+one_if : (b : Bool) → (cond b 1 0 == 1) ≡ b
+one_if true = refl
+one_if false = refl
+
+mask_bit : (ms : List Bool) (i : ℕ) → length ms ≡ 16 → bit (mask_l ms % 2 ^ 64 % 2 ^ 16) i ≡ get_or ms i false
+unfolding bit
+mask_bit ms i d =
+    ap (λ v. v % 2 ^ 16 / 2 ^ i % 2 == 1) (mask_l-mod ms 64 (omega (arith, d)))
+    ∙ ap (λ v. v / 2 ^ i % 2 == 1) (mask_l-mod ms 16 (omega (arith, d)))
+    ∙ ap (λ v. v == 1) (bit_mask_l ms i) ∙ one_if (get_or ms i false)
+
+abbrev shl8 : ℕ → ℕ → ℕ
+shl8 x y = x * 2 ^ y % 2 ^ 8
+
+pub plane_bit : (x : List ℕ) (p i : ℕ) → length x ≡ 16 → Each1 (Fits w8) x → p < 8 → i < 16
+    → bit (mask_l (map (top 7) (zip2 (λ a b. cond (nat_le a b) 255 0) (replicate 16 128)
+    (zip2 shl8 x (replicate 16 (7 - p))))) % 2 ^ 64 % 2 ^ 16) i
+    ≡ bit (get_or x i 0) p
+unfolding top_test
+plane_bit x p i d f hp hi =
+    let up = zip2 shl8 x (replicate 16 (7 - p)) in
+    let tops = zip2 nat_le (replicate 16 128) up in
+    let long : length up ≡ 16 = length-zip2 shl8 x (replicate 16 (7 - p)) d ∙ d in
+    let whole : length tops ≡ 16 = length-zip2 nat_le (replicate 16 128) up (sym long) in
+    ap (λ ms. bit (mask_l ms % 2 ^ 64 % 2 ^ 16) i) (tops_compared w8 nat_le (replicate 16 128) up)
+    ∙ mask_bit tops i whole
+    ∙ get_or-zip2 nat_le (replicate 16 128) up i 0 0 false hi (omega (arith, long))
+    ∙ ap (λ v. nat_le v (get_or up i 0)) (get_or-replicate 16 i 128 0 hi)
+    ∙ ap (nat_le 128) (get_or-zip2 shl8 x (replicate 16 (7 - p)) i 0 0 0 (omega (arith, d)) hi
+    ∙ ap (λ v. get_or x i 0 * 2 ^ v % 2 ^ 8) (get_or-replicate 16 i (7 - p) 0 hi))
+    ∙ same_tells _ _ (all_pairs_tell 8 256 top_test top_checked p (get_or x i 0) hp
+    (lane_small x i (omega (arith, d)) f))
+
+-- what is read inside a list is the same whatever stands for what is not there
+pub same_default : (xs : List ℕ) (p d e : ℕ) → p < length xs → get_or xs p d ≡ get_or xs p e
+same_default [] p d e h = absurd (omega arith)
+same_default (x ∷ xs) zero d e h = refl
+same_default (x ∷ xs) (suc p) d e h = same_default xs p d e (omega arith)
+
+-- ---- operations, lane by lane
+
+abbrev shr16 : ℕ → ℕ → ℕ
+shr16 x y = x / 2 ^ y
+
+abbrev shl16 : ℕ → ℕ → ℕ
+shl16 x y = x * 2 ^ y % 2 ^ 16
+
+pub lanes_rotated : (x : List ℕ) (n p i : ℕ) → length x ≡ 8 → Each1 (Fits w16) x → 1 ≤ n → n < 16 → p < 8 → i < 16
+    → bit (get_or (zip2 bit_or (zip2 shr16 x (replicate 8 n)) (zip2 shl16 x (replicate 8 (16 - n)))) p 0) i
+    ≡ bit (get_or x p 0) ((i + n) % 16)
+lanes_rotated x n p i d f some h hp hi =
+    ap (λ v. bit v i) (lane_of_splats 8 bit_or shr16 shl16 x x n (16 - n) p d d hp)
+    ∙ bit_rotated 16 (get_or x p 0) n i (each_small 16 x (below_from_Fits w16 x f) p) some h hi
+
+pub lanes_summed : (x y : List ℕ) (p i : ℕ) → length x ≡ 8 → length y ≡ 8 → p < 8
+    → bit (get_or (zip2 bit_xor x y) p 0) i ≡ xor (bit (get_or x p 0) i) (bit (get_or y p 0) i)
+lanes_summed x y p i d e h = ap (λ v. bit v i) (lane_of_two 8 bit_xor x y p d e h)
+    ∙ bit_of_xor (get_or x p 0) (get_or y p 0) i
+
+-- the mask of the columns that stay in their row, in each row, and the mask of the others
+mask_test : ℕ → ℕ → Bool
+mask_test cols i =
+    same (bit (15 / 2 ^ cols * 0x1111) i) (bit (15 / 2 ^ cols) (i % 4))
+    && same (bit (0xffff - 15 / 2 ^ cols * 0x1111) i) (not (bit (15 / 2 ^ cols) (i % 4)))
+
+mask_all : all_pairs 4 16 mask_test ≡ true
+unfolding all_below mask_test same bit
+mask_all = refl
+
+mask_bits : (cols i : ℕ) → cols ≤ 3 → i < 16 → (bit (15 / 2 ^ cols * 0x1111) i ≡ bit (15 / 2 ^ cols) (i % 4))
+    × (bit (0xffff - 15 / 2 ^ cols * 0x1111) i ≡ not (bit (15 / 2 ^ cols) (i % 4)))
+unfolding mask_test
+mask_bits cols i h k =
+    let t = and_parts _ _ (all_pairs_tell 4 16 mask_test mask_all cols i (omega arith) k) in
+    (same_tells _ _ t.0, same_tells _ _ t.1)
+
+-- columns that stay in their row from one vector, and those that wrap from another
+pub masked_lanes : (a b : List ℕ) (cols p r c : ℕ) (v : Bool) → length a ≡ 8 → length b ≡ 8 → cols ≤ 3 → p < 8 → r < 4
+    → c < 4
+    → (c + cols < 4 → bit (get_or a p 0) (4 * r + c) ≡ v) → (4 ≤ c + cols → bit (get_or b p 0) (4 * r + c) ≡ v)
+    → bit (get_or (zip2 bit_or (zip2 bit_and a (replicate 8 (15 / 2 ^ cols * 0x1111)))
+    (zip2 bit_and b (replicate 8 (0xffff - 15 / 2 ^ cols * 0x1111)))) p 0) (4 * r + c) ≡ v
+masked_lanes a b cols p r c v d e h hp hr hc low high =
+    let m = 15 / 2 ^ cols * 0x1111 in
+    let i : ℕ = 4 * r + c in
+    let column : i % 4 ≡ c = omega arith in
+    let bits = mask_bits cols i h (omega arith) in
+    ap (λ w. bit w i) (lane_of_splats 8 bit_or bit_and bit_and a b m (0xffff - m) p d e hp)
+    ∙ bit_of_or (bit_and (get_or a p 0) m) (bit_and (get_or b p 0) (0xffff - m)) i
+    ∙ (λ t. bit_of_and (get_or a p 0) m i t || bit_of_and (get_or b p 0) (0xffff - m) i t)
+    ∙ ap (λ w. (bit (get_or a p 0) i && bit m i) || (bit (get_or b p 0) i && w)) (bits.1 ∙ ap not (sym bits.0))
+    ∙ masked_turn (bit (get_or a p 0) i) (bit (get_or b p 0) i) (bit m i) v (c + cols)
+    (bits.0 ∙ ap (bit (15 / 2 ^ cols)) column ∙ stay_bit cols c h hc) low high (cases_lt (c + cols) 4)
+
+-- ---- sums of columns
+
+-- lanes, plus what a mask lets through of them so many places up
+abbrev pub raised : ℕ → ℕ → List ℕ → List ℕ
+raised s m x = zip2 bit_xor x (zip2 bit_and (replicate 8 m) (zip2 shl16 x (replicate 8 s)))
+
+abbrev raised_number : ℕ → ℕ → ℕ → ℕ
+raised_number s m x = bit_xor x (bit_and m (shl16 x s))
+
+raised_lane : (s m : ℕ) (x : List ℕ) (p : ℕ) → length x ≡ 8 → p < 8 → get_or (raised s m x) p 0
+    ≡ raised_number s m (get_or x p 0)
+raised_lane s m x p d h =
+    let up = zip2 shl16 x (replicate 8 s) in
+    let masked = zip2 bit_and (replicate 8 m) up in
+    let long : length up ≡ 8 = length-zip2 shl16 x (replicate 8 s) d ∙ d in
+    let whole : length masked ≡ 8 = length-zip2 bit_and (replicate 8 m) up (sym long) in
+    get_or-zip2 bit_xor x masked p 0 0 0 (omega (arith, d)) (omega (arith, whole))
+    ∙ ap (bit_xor (get_or x p 0))
+    (get_or-zip2 bit_and (replicate 8 m) up p 0 0 0 h (omega (arith, long))
+    ∙ (λ t. bit_and (get_or-replicate 8 p m 0 h t)
+    ((get_or-zip2 shl16 x (replicate 8 s) p 0 0 0 (omega (arith, d)) h
+    ∙ ap (shl16 (get_or x p 0)) (get_or-replicate 8 p s 0 h)) t)))
+
+length-raised : (s m : ℕ) (x : List ℕ) → length x ≡ 8 → length (raised s m x) ≡ 8
+length-raised s m x d =
+    let up = zip2 shl16 x (replicate 8 s) in
+    let long : length up ≡ 8 = length-zip2 shl16 x (replicate 8 s) d ∙ d in
+    let whole : length (zip2 bit_and (replicate 8 m) up) ≡ 8 = length-zip2 bit_and (replicate 8 m) up (sym long) in
+    length-zip2 bit_xor x (zip2 bit_and (replicate 8 m) up) (d ∙ sym whole) ∙ d
+
+raised_bit : (s m x i : ℕ) → i < 16
+    → at (word_bits 16 (raised_number s m x)) i
+    ≡ xor (at (word_bits 16 x) i) (bit m i && (nat_le s i && at (word_bits 16 x) (i - s)))
+raised_bit s m x i h =
+    word_xor 16 x (bit_and m (shl16 x s)) i h
+    ∙ ap (xor (at (word_bits 16 x) i))
+    (sym (reads 16 (bit_and m (shl16 x s)) i h) ∙ bit_of_and m (shl16 x s) i
+    ∙ ap (λ v. bit m i && v) (reads 16 (shl16 x s) i h ∙ word_shl 16 x s i h))
+
+-- the masks of columns 1 to 3 and of columns 2 and 3, in each row
+column_masks : ℕ → ℕ → Bool
+column_masks r c = same (bit 0xeeee (place 1 r c 0)) (bit 14 c) && same (bit 0xcccc (place 1 r c 0)) (bit 12 c)
+
+masks_checked : all_pairs 4 4 column_masks ≡ true
+unfolding all_below column_masks same bit
+masks_checked = refl
+
+pub summed_lane : (x : List ℕ) (p r c : ℕ) → length x ≡ 8 → p < 8 → r < 4 → c < 4
+    → bit (get_or (raised 2 0xcccc (raised 1 0xeeee x)) p 0) (4 * r + c)
+    ≡ summed xor (λ e. bit (get_or x p 0) (4 * r + e)) false c
+unfolding column_masks
+summed_lane x p r c d hp hr hc =
+    let n = get_or x p 0 in
+    let pairs = raised_number 1 0xeeee n in
+    let sums = raised_number 2 0xcccc pairs in
+    let spot : (e : ℕ) → place 1 r e 0 ≡ 4 * r + e = λ e. omega arith in
+    let low : (e : ℕ) → e < 4 → place 1 r e 0 < 16 = λ e h. omega (arith, hr) in
+    let masks : (e : ℕ) → e < 4 → column_masks r e ≡ true = λ e h. all_pairs_tell 4 4 column_masks masks_checked r e hr h in
+    let read : (v e : ℕ) → e < 4 → bit v (4 * r + e) ≡ at (word_bits 16 v) (place 1 r e 0) =
+    λ v e h. ap (bit v) (sym (spot e)) ∙ reads 16 v (place 1 r e 0) (low e h) in
+    ap (λ v. bit v (4 * r + c)) (raised_lane 2 0xcccc (raised 1 0xeeee x) p (length-raised 1 0xeeee x d) hp
+    ∙ ap (raised_number 2 0xcccc) (raised_lane 1 0xeeee x p d hp))
+    ∙ read sums c hc
+    ∙ columns_right 1 16 0 r 0 (word_bits 16 n) [] (word_bits 16 n) (word_bits 16 pairs) (word_bits 16 sums)
+    (λ e h. sym (ap (xor (at (word_bits 16 n) (place 1 r e 0))) (and-false (bit 1 e)) ∙ xor_false _))
+    (λ e h. raised_bit 1 0xeeee n (place 1 r e 0) (low e h)
+    ∙ ap (λ v. xor (at (word_bits 16 n) (place 1 r e 0)) (v && (nat_le 1 (place 1 r e 0) && at (word_bits 16 n)
+    (place 1 r e 0 - 1)))) (same_tells _ _ ((and_parts _ _ (masks e h)).0)))
+    (λ e h. raised_bit 2 0xcccc pairs (place 1 r e 0) (low e h)
+    ∙ ap (λ v. xor (at (word_bits 16 pairs) (place 1 r e 0)) (v && (nat_le 2 (place 1 r e 0) && at (word_bits 16 pairs)
+    (place 1 r e 0 - 2)))) (same_tells _ _ ((and_parts _ _ (masks e h)).1)))
+    c hc
+    ∙ summed-ext xor _ _ _ _ c (λ e le. sym (read n e (omega (arith, le, hc)))) refl
+
+-- two sums of columns, of which the second has a column 0 alone
+pub two_sums : (f g : ℕ → Bool) (y : Bool) → g 0 ≡ y → ((e : ℕ) → e < 3 → g (suc e) ≡ false) → (c : ℕ) → c < 4
+    → xor (summed xor f false c) (summed xor g false c) ≡ summed xor f y c
+two_sums f g y first none c h = ap (xor (summed xor f false c)) (alone c h) ∙ more c
+  where
+    alone : (c : ℕ) → c < 4 → summed xor g false c ≡ y
+    alone zero h = xor_false (g 0) ∙ first
+    alone (suc c) h = (λ t. xor (none c (omega arith) t) (alone c (omega arith) t))
+
+    more : (c : ℕ) → xor (summed xor f false c) y ≡ summed xor f y c
+    more zero = ap (λ v. xor v y) (xor_false (f 0))
+    more (suc c) = xor_inward (f (suc c)) (summed xor f false c) y ∙ ap (xor (f (suc c))) (more c)
+
+-- the mask of column 0
+column0 : ℕ → ℕ → Bool
+column0 r c = same (bit 0x1111 (4 * r + c)) (c == 0)
+
+column0_checked : all_pairs 4 4 column0 ≡ true
+unfolding all_below column0 same bit
+column0_checked = refl
+
+pub column0_bit : (x : List ℕ) (p r c : ℕ) → length x ≡ 8 → p < 8 → r < 4 → c < 4
+    → bit (get_or (zip2 bit_and x (replicate 8 0x1111)) p 0) (4 * r + c) ≡ (bit (get_or x p 0) (4 * r + c) && (c == 0))
+unfolding column0
+column0_bit x p r c d hp hr hc =
+    ap (λ v. bit v (4 * r + c)) (get_or-zip2 bit_and x (replicate 8 0x1111) p 0 0 0 (omega (arith, d)) hp
+    ∙ ap (bit_and (get_or x p 0)) (get_or-replicate 8 p 0x1111 0 hp))
+    ∙ bit_of_and (get_or x p 0) 0x1111 (4 * r + c)
+    ∙ ap (λ v. bit (get_or x p 0) (4 * r + c) && v) (same_tells _ _ (all_pairs_tell 4 4 column0 column0_checked r c hr hc))
+
+-- ---- doubling
+
+-- the lanes as a swizzle and a mask double them
+abbrev pub doubled_lanes : List ℕ → List ℕ
+doubled_lanes x =
+    zip2 bit_xor (pick_l 0 (x ++ x) (7 ∷ 0 ∷ 1 ∷ 2 ∷ 3 ∷ 4 ∷ 5 ∷ 6 ∷ []))
+    (zip2 bit_and (pick_l 0 (x ++ x) (7 ∷ 7 ∷ 7 ∷ 7 ∷ 7 ∷ 7 ∷ 7 ∷ 7 ∷ []))
+    (0 ∷ 0xffff ∷ 0 ∷ 0xffff ∷ 0xffff ∷ 0 ∷ 0 ∷ 0 ∷ []))
+
+kept : (a h i : ℕ) → bit (bit_xor a (bit_and h 0)) i ≡ bit a i
+kept a h i = bit_of_xor a (bit_and h 0) i
+    ∙ ap (xor (bit a i)) (bit_of_and h 0 i ∙ ap (λ v. bit h i && v) (bit_zero i) ∙ and-false (bit h i))
+    ∙ xor_false (bit a i)
+
+added : (a h i : ℕ) → i < 16 → bit (bit_xor a (bit_and h 0xffff)) i ≡ xor (bit a i) (bit h i)
+added a h i l = bit_of_xor a (bit_and h 0xffff) i ∙ ap (xor (bit a i)) (bit_of_and h 0xffff i
+    ∙ ap (λ v. bit h i && v) (bit_ones 16 i l) ∙ and-true (bit h i))
+
+-- what a place holds, by the numbers of the lanes
+abbrev pub held_in : List ℕ → ℕ → ℕ
+held_in xs i = number (map (λ w. bit w i) xs)
+
+doubled_eight : (a b c d e f g h i : ℕ) → i < 16
+    → held_in (doubled_lanes (a ∷ b ∷ c ∷ d ∷ e ∷ f ∷ g ∷ h ∷ [])) i
+    ≡ field_mul 2 (held_in (a ∷ b ∷ c ∷ d ∷ e ∷ f ∷ g ∷ h ∷ []) i)
+doubled_eight a b c d e f g h i l =
+    (λ t. number (kept h h i t ∷ added a h i l t ∷ kept b h i t ∷ added c h i l t ∷ added d h i l t ∷ kept e h i t
+    ∷ kept f h i t
+    ∷ kept g h i t ∷ []))
+    ∙ number-double (bit a i ∷ bit b i ∷ bit c i ∷ bit d i ∷ bit e i ∷ bit f i ∷ bit g i ∷ bit h i ∷ []) refl
+
+pub doubled_held : (xs : List ℕ) (i : ℕ) → length xs ≡ 8 → i < 16
+    → held_in (doubled_lanes xs) i ≡ field_mul 2 (held_in xs i)
+doubled_held xs i d l =
+    let all = eight xs 0 0 0 0 0 0 0 0 d in
+    ap (λ v. held_in (doubled_lanes v) i) all ∙ doubled_eight _ _ _ _ _ _ _ _ i l
+    ∙ ap (λ v. field_mul 2 (held_in v i)) (sym all)
+
+-- ---- what eight words hold
+
+-- the byte that words hold at a place
+pub held_words : (xs : List ℕ) (i : ℕ) → i < 16 → held_byte (map (word_bits 16) xs) i ≡ held_in xs i
+held_words xs i h =
+    ap number (map-map (λ w. at w i) (word_bits 16) xs ∙ map-same (λ w. at (word_bits 16 w) i) (λ w. bit w i) xs
+    (λ x. sym (reads 16 x i h)))
+
+-- words whose bits agree at two places hold the same there
+pub same_held : (xs ys : List ℕ) (i j : ℕ) → length xs ≡ 8 → length ys ≡ 8
+    → ((p : ℕ) → p < 8 → bit (get_or xs p 0) i ≡ bit (get_or ys p 0) j) → held_in xs i ≡ held_in ys j
+same_held xs ys i j d e h =
+    ap number (map-same_at (λ w. bit w i) (λ w. bit w j) xs ys 0 0 (d ∙ sym e) (λ p l. h p (omega (arith, d, l))))
+
+-- words that are the sums of others hold the sums
+pub summed_held : (zs xs ys : List ℕ) (i : ℕ) → length zs ≡ 8 → length xs ≡ 8 → length ys ≡ 8
+    → ((p : ℕ) → p < 8 → bit (get_or zs p 0) i ≡ xor (bit (get_or xs p 0) i) (bit (get_or ys p 0) i))
+    → held_in zs i ≡ field_add (held_in xs i) (held_in ys i)
+summed_held zs xs ys i d e f h =
+    ap number (sum_bits-map (λ w. bit w i) (λ w. bit w i) (λ w. bit w i) zs xs ys 0 0 0 (d ∙ sym e) (d ∙ sym f)
+    (λ p l. h p (omega (arith, d, l))))
+    ∙ sym (number-sum (map (λ w. bit w i) xs) (map (λ w. bit w i) ys)
+    (length-map xs (λ w. bit w i) ∙ e ∙ sym f ∙ sym (length-map ys (λ w. bit w i))))

@@ -1,8 +1,0 @@
--- What is left to show of `soft::utils::shifts::inv_shift_rows_3`.
-use Rattle.std.proofs.Common.{◌∙◌}
-use Rattle.aes_planes.proofs.Planes.Held.{map-same}
-use Rattle.aes_planes.proofs.Shifts.ColumnSwaps.{shifted_back_3}
-use Rattle.aes_planes.proofs.soft.utils.shifts.inv_shift_rows_3.Goals as goal
-
-pub returns : goal.returns
-returns g c = c.shift_rows_1.ensures ∙ map-same _ _ _ shifted_back_3

@@ -1,7 +1,0 @@
--- What is left to show of `soft::word::word32::U32Word::bit_not`.
-use Rattle.std.proofs.Common.{w32}
-use Rattle.aes_planes.proofs.Bits.NumberBits.{word_not}
-use Rattle.aes_planes.proofs.soft.word.word32.U32Word.bit_not.Goals as goal
-
-pub returns : goal.returns
-returns c = word_not w32 c.args.self c.ranges.self.fits

@@ -1,8 +1,0 @@
--- What is left to show of `soft::word::word64::U64Word::byte_repeat`.
-use Rattle.std.proofs.Common.{refl, arith}
-use Rattle.aes_planes.proofs.Words.Constants.{byte_repeated, repeated}
-use Rattle.aes_planes.proofs.soft.word.word64.U64Word.byte_repeat.Goals as goal
-
-pub returns : goal.returns
-unfolding repeated
-returns c = byte_repeated 64 8 c.args.b _ refl (omega arith) (omega arith)

@@ -1,8 +1,0 @@
--- What is left to show of `rounds::runs::encrypt`.
-use Rattle.std.proofs.Common.{◌∙◌}
-use Rattle.aes_planes.proofs.Planes.Held.{map-same}
-use Rattle.aes_rounds.proofs.Runs.{is_cipher}
-use Rattle.aes_rounds.proofs.rounds.runs.encrypt.Goals as goal
-
-pub returns : goal.returns
-returns g c = c.run.ensures ∙ map-same _ _ (g.S.States.blocks c.args.states.now) (is_cipher c.args.round_keys.now)

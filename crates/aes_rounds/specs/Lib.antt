@@ -1,2 +1,0 @@
--- The files of definitions: what private functions do on the way (Private).
-pub mod Private

@@ -1,0 +1,33 @@
+-- What is left to show of `soft::full::widening::put_wide`.
+use Rattle.std.proofs.Common.{length-set, ◌∙◌, arith}
+use Rattle.aes_soft.specs.Stored.{full, rounds_of, size_of}
+use Rattle.aes_soft.proofs.Widened.{InEverySlot, put_more, same_key, widened}
+use Rattle.aes_soft.proofs.soft.full.widening.put_wide.Goals as goal
+
+pub widen-preserved : goal.widen-preserved
+widen-preserved g c =
+    let w = g.W.Word in
+    let same_length = c.widen.invariant.same_length in
+    record {
+      spread = put_more (InEverySlot w.bits w.BITS w.ROW_BITS w.QUARTER_ROW c.args.round_keys.now)
+          c.widen.wide c.widen.i c.broadcast.result (omega (arith, same_length, c.told-round_keys)) c.widen.invariant.spread c.broadcast.ensures;
+      same_length = length-set c.widen.wide c.widen.i c.broadcast.result ∙ same_length;
+    }
+
+pub returns-clause-schedule : goal.returns-clause-schedule
+returns-clause-schedule g c =
+    let w = g.W.Word in
+    let m = g.met.W.Word.shape in
+    let held = c.requires.is_stored in
+    record {
+      one_of_three = held.one_of_three;
+      keyed = widened w.bits w.BITS w.ROW_BITS w.QUARTER_ROW c.args.round_keys.now w.BLOCKS m.some_block m.sixteen m.four m.one c.widen.wide c.widen.invariant.same_length
+          (λ i d lt. c.widen.invariant.spread i d (omega (arith, c.told-round_keys))) (size_of g.row.N) (full (rounds_of g.row.N)) held.keyed;
+    }
+
+pub returns-clause-key : goal.returns-clause-key
+returns-clause-key g c =
+    let w = g.W.Word in
+    let m = g.met.W.Word.shape in
+    same_key w.bits w.BITS w.ROW_BITS w.QUARTER_ROW c.args.round_keys.now w.BLOCKS m.some_block m.sixteen m.four m.one c.widen.wide c.widen.invariant.same_length
+    (λ i d lt. c.widen.invariant.spread i d (omega (arith, c.told-round_keys))) (size_of g.row.N) (full (rounds_of g.row.N))

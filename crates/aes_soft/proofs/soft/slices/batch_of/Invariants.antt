@@ -1,9 +1,0 @@
--- What holds in the loops of `soft::slices::batch_of`.
-use Rattle.std.proofs.Common.{◌≡◌, length, take}
-use Rattle.aes_soft.proofs.soft.slices.batch_of.Given as goal
-
-abbrev pub invariant-fill : goal.invariant-fill
-invariant-fill g l = record {
-  sized : length (g.B.Batch.blocks l.batch) ≡ g.B.Batch.LEN;
-  copied : take l.k (g.B.Batch.blocks l.batch) ≡ take l.k l.blocks;
-}

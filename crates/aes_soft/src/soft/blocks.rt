@@ -1,0 +1,11 @@
+//! Blocks under stored round keys: slices of them, single ones, and backends.
+
+mod backend;
+mod slices;
+
+pub use backend::{
+    Aes128Backend, Aes192Backend, Aes256Backend, Backend, decrypt_with_backend,
+    encrypt_with_backend,
+};
+pub use slices::{process_block, process_blocks};
+pub(crate) use slices::{batch_of, put_batch};

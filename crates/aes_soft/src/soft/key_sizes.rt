@@ -1,0 +1,98 @@
+//! The sizes of keys, and what the schedules and the ciphers need of each.
+ghost use Rattle.std.specs.Prelude.{◌≡◌, ◌⊎◌, ℕ, ◌+◌, ◌*◌, List, length, map};
+ghost use Rattle.aes_planes.specs.Fips197 as fips;
+ghost use Rattle.aes_soft.specs.Stored.{key_size, HoldsBlocks};
+
+mod bits128;
+mod bits192;
+mod bits256;
+mod bytes;
+mod reading;
+mod wiped;
+mod words;
+
+use aes_planes::laws;
+use aes_planes::soft::sbox::Layers;
+use aes_planes::soft::word::Word;
+pub use bits128::Bits128;
+pub use bits192::Bits192;
+pub use bits256::Bits256;
+pub use bytes::KeyBytes;
+pub use wiped::WipedKeys;
+pub use words::{RoundKeyWords, consume_wiped};
+
+/// The word of a batch: eight of them hold as many blocks as are processed at once.
+pub type BatchWord = u128;
+
+/// How the keys of a size are expanded.
+pub trait KeyExpansion {
+    /// A key.
+    type Key: KeyBytes;
+
+    /// Nr: how many rounds the ciphers make (FIPS 197, 5).
+    ghost ROUNDS: { ℕ };
+
+    /// How many S-box layers a schedule runs.
+    ghost SCHEDULE_LAYERS: { ℕ };
+
+    /// Nr: how many rounds the ciphers make (FIPS 197, 5).
+    const ROUNDS: usize;
+
+    /// Leaves in words the round keys of a key, each in every slot: KeyExpansion (FIPS 197, 5.2).
+    fn expand<W: Word>(round_keys: &mut [W], key: &Self::Key, layers: &mut Layers)
+        requires sized { length round_keys.old ≡ 8 * ROUNDS + 8 }
+        ensures blocks { let round_key = fips.round_key (fips.key_expansion (Self.Key.bytes key.now)) in
+            HoldsBlocks W.BLOCKS (ROUNDS + 1) round_key (map W.bits round_keys.new) }
+        ensures layers { layers.new ≡ layers.old + SCHEDULE_LAYERS }
+        ensures same_length { length round_keys.new ≡ length round_keys.old };
+
+    /// No effect; states how many bytes a key has, and that they suit the rounds.
+    fn has_rounds(key: &Self::Key)
+        ensures sized { length (Self.Key.bytes key.now) ≡ key_size ROUNDS }
+        ensures same_size { Self.Key.SIZE ≡ key_size ROUNDS }
+        ensures one_of_three { (ROUNDS ≡ 10) ⊎ ((ROUNDS ≡ 12) ⊎ (ROUNDS ≡ 14)) };
+}
+
+/// A variant of AES: AES-128, AES-192 or AES-256. It says how round keys are stored.
+pub trait AesVariant: KeyExpansion {
+    /// The round keys of a key, as they are stored: in the full layout, on words of one block.
+    type RoundKeys: RoundKeyWords<u16>;
+
+    /// The same, on the words of a batch.
+    type WideKeys: RoundKeyWords<BatchWord>;
+
+    /// Stored round keys that are wiped when they are dropped.
+    type Wiped: WipedKeys<Words = Self::RoundKeys>;
+
+    /// The name of the type that encrypts and decrypts; those of one direction begin with it.
+    const NAME: &'static str;
+
+    /// Puts the stored round keys of a key in the place of words that are wiped.
+    fn refill(round_keys: &mut Self::Wiped, key: &Self::Key, layers: &mut Layers)
+        requires wiped { Self.Wiped.IsWiped round_keys.old }
+        ensures schedule { Self.RoundKeys.AreKeyed (Self.Wiped.words round_keys.new) }
+        ensures key { Self.RoundKeys.key (Self.Wiped.words round_keys.new) ≡ Self.Key.bytes key.now }
+        ensures layers { layers.new ≡ layers.old + Self.SCHEDULE_LAYERS };
+
+    /// Leaves the same round keys on the words of a batch, in words that are there: they stand nowhere else.
+    fn put_wide(wide: &mut Self::WideKeys, round_keys: &Self::RoundKeys)
+        requires is_schedule { Self.RoundKeys.AreKeyed round_keys.now }
+        ensures schedule { Self.WideKeys.AreKeyed wide.new }
+        ensures key { Self.WideKeys.key wide.new ≡ Self.RoundKeys.key round_keys.now };
+
+    /// No effect; states that stored round keys are read as a key.
+    fn has_key(round_keys: &Self::RoundKeys)
+        ensures sized { length (Self.RoundKeys.key round_keys.now) ≡ Self.Key.SIZE }
+        ensures bytes { fips.IsBytes (Self.RoundKeys.key round_keys.now) };
+
+    /// Both forms of round keys are for as many rounds.
+    ghost same_rounds: { Self.WideKeys.ROUNDS ≡ Self.RoundKeys.ROUNDS };
+}
+
+/// No effect; states that the round keys of the key that stored round keys are read as are blocks.
+pub fn has_round_keys<K: AesVariant>(round_keys: &K::RoundKeys)
+    ensures { fips.AreRoundKeys (fips.key_expansion (K.RoundKeys.key round_keys.now)) }
+{
+    laws::expanded_keys();
+    K::has_key(round_keys);
+}

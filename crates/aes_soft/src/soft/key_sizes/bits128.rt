@@ -1,0 +1,57 @@
+//! Keys of 16 bytes.
+ghost use Rattle.std.specs.Prelude.{refl};
+
+use super::reading::reads_keys;
+use super::{AesVariant, BatchWord, KeyExpansion};
+use crate::soft::expand::expand_128;
+use crate::soft::full::aes128::RoundKeys;
+use crate::soft::full::put_wide;
+use crate::soft::key_schedule::put_schedule;
+use aes_cipher::zeroize::Wiped;
+use aes_planes::soft::sbox::Layers;
+use aes_planes::soft::word::Word;
+
+/// AES-128: keys of 16 bytes.
+pub struct Bits128;
+
+impl KeyExpansion for Bits128 {
+    type Key = [u8; 16];
+
+    ghost ROUNDS = { 10 };
+
+    ghost SCHEDULE_LAYERS = { 10 };
+
+    const ROUNDS: usize = 10;
+
+    #[inline(always)]
+    fn expand<W: Word>(round_keys: &mut [W], key: &[u8; 16], layers: &mut Layers) {
+        expand_128(round_keys, key, layers);
+    }
+
+    fn has_rounds(_key: &[u8; 16]) {}
+}
+
+impl AesVariant for Bits128 {
+    type RoundKeys = RoundKeys<u16>;
+
+    type WideKeys = RoundKeys<BatchWord>;
+
+    type Wiped = Wiped<88>;
+
+    const NAME: &'static str = "Aes128";
+
+    fn refill(round_keys: &mut Wiped<88>, key: &[u8; 16], layers: &mut Layers) {
+        put_schedule::<u16, Bits128>(round_keys.words_mut(), key, layers);
+    }
+
+    #[inline(always)]
+    fn put_wide(wide: &mut RoundKeys<BatchWord>, round_keys: &RoundKeys<u16>) {
+        put_wide(wide, round_keys);
+    }
+
+    fn has_key(_round_keys: &RoundKeys<u16>) {
+        reads_keys();
+    }
+
+    ghost same_rounds = { refl };
+}

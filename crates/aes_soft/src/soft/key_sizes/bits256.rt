@@ -1,0 +1,57 @@
+//! Keys of 32 bytes.
+ghost use Rattle.std.specs.Prelude.{refl};
+
+use super::reading::reads_keys;
+use super::{AesVariant, BatchWord, KeyExpansion};
+use crate::soft::expand::expand_256;
+use crate::soft::full::aes256::RoundKeys;
+use crate::soft::full::put_wide;
+use crate::soft::key_schedule::put_schedule;
+use aes_cipher::zeroize::Wiped;
+use aes_planes::soft::sbox::Layers;
+use aes_planes::soft::word::Word;
+
+/// AES-256: keys of 32 bytes.
+pub struct Bits256;
+
+impl KeyExpansion for Bits256 {
+    type Key = [u8; 32];
+
+    ghost ROUNDS = { 14 };
+
+    ghost SCHEDULE_LAYERS = { 13 };
+
+    const ROUNDS: usize = 14;
+
+    #[inline(always)]
+    fn expand<W: Word>(round_keys: &mut [W], key: &[u8; 32], layers: &mut Layers) {
+        expand_256(round_keys, key, layers);
+    }
+
+    fn has_rounds(_key: &[u8; 32]) {}
+}
+
+impl AesVariant for Bits256 {
+    type RoundKeys = RoundKeys<u16>;
+
+    type WideKeys = RoundKeys<BatchWord>;
+
+    type Wiped = Wiped<120>;
+
+    const NAME: &'static str = "Aes256";
+
+    fn refill(round_keys: &mut Wiped<120>, key: &[u8; 32], layers: &mut Layers) {
+        put_schedule::<u16, Bits256>(round_keys.words_mut(), key, layers);
+    }
+
+    #[inline(always)]
+    fn put_wide(wide: &mut RoundKeys<BatchWord>, round_keys: &RoundKeys<u16>) {
+        put_wide(wide, round_keys);
+    }
+
+    fn has_key(_round_keys: &RoundKeys<u16>) {
+        reads_keys();
+    }
+
+    ghost same_rounds = { refl };
+}

@@ -1,0 +1,57 @@
+//! Stored round keys that are wiped when they are dropped.
+ghost use Rattle.std.specs.Prelude.{◌≡◌, replicate};
+
+use aes_cipher::zeroize::Wiped;
+
+/// Words that are wiped when they are dropped. Contracts see the words.
+pub trait WipedKeys: Drop {
+    /// The words as an array.
+    type Words;
+
+    /// The words.
+    ghost words: { Self → Self.Words };
+
+    /// Every word is zero.
+    ghost IsWiped: { Self → Type 0 };
+
+    /// Words of zeros.
+    fn zeroed() -> Self
+        ensures { IsWiped result };
+
+    /// The words, lent.
+    fn lend(&self) -> &Self::Words
+        ensures { result.now ≡ words self.now };
+
+    /// The same words once more.
+    fn copy(&self) -> Self
+        ensures { words result ≡ words self.now };
+
+    /// Sets every word to zero.
+    fn wipe(&mut self)
+        ensures { IsWiped self.new };
+}
+
+impl<const N: usize> WipedKeys for Wiped<N> {
+    type Words = [u16; N];
+
+    ghost words = { λ wiped. wiped };
+
+    ghost IsWiped = { λ wiped. wiped ≡ replicate N 0 };
+
+    fn zeroed() -> Wiped<N> {
+        Wiped::new([0; N])
+    }
+
+    #[inline(always)]
+    fn lend(&self) -> &[u16; N] {
+        self.words()
+    }
+
+    fn copy(&self) -> Wiped<N> {
+        self.copy()
+    }
+
+    fn wipe(&mut self) {
+        self.wipe();
+    }
+}

@@ -1,0 +1,189 @@
+/* AES (FIPS 197) with keys of 16, 24 and 32 bytes, and counter mode (SP 800-38A, 6.5), proved.
+ *
+ * The comment of a call is its contract in words. The proof covers every call that meets the conditions below; nothing
+ * checks a call from C.
+ *
+ * The caller owes, for every call:
+ *  - Valid pointers. A pointer to a struct points to a whole one, aligned as C aligns it; `key` points to `key_length`
+ *    bytes, `bytes` to `count` bytes, `blocks` to `count` blocks of 16 bytes, and `input` and `output` to as many
+ *    blocks or bytes as the count beside them says. Bytes and blocks need no alignment. What a call reads has been
+ *    initialized.
+ *  - No object of more than PTRDIFF_MAX bytes. Counts are in blocks where a parameter is called `blocks`, and where the
+ *    name of the call says so.
+ *  - No overlap: what a call writes overlaps nothing else that it is given, not even in full. To work in place, take
+ *    the calls with one buffer. What a call only reads may overlap.
+ *  - A struct fotsgure_aes in order: fotsgure_aes_set_key or fotsgure_aes_wipe wrote it last, or it is a copy of such a
+ *    struct, or all its bytes are 0.
+ *  - No data race: during the call no other thread writes what it reads, or reads or writes what it writes.
+ *  - FOTSGURE_AES_STACK bytes of stack, and an x86-64 processor with SSE4.2 and SSSE3 (x86-64-v2).
+ *
+ * NULL is allowed for `key`, `blocks`, `bytes`, `input` and `output` if the count is 0.
+ *
+ * In return, no call allocates, prints, aborts, blocks, or keeps a pointer; the library has no state of its own; every
+ * call returns, and writes nothing but what it says. A call that doesn't return FOTSGURE_AES_DONE has changed nothing;
+ * fotsgure_aes_set_key is the exception. What a call returns depends on lengths and positions alone, never on the bytes
+ * of a key or of data.
+ *
+ * Copies and threads: a struct fotsgure_aes may be copied and moved as bytes, and every copy is as secret as the key
+ * and is wiped by itself. Any number of threads may use one struct at the same time by the calls that take it as const.
+ * A struct fotsgure_aes_ctr belongs to one thread at a time; a copy of it would give out the same keystream again.
+ *
+ * A block cipher alone protects no message, and counter mode doesn't show whether a message was changed. Build an
+ * authenticated mode on them, such as GCM, or take one that exists. */
+#ifndef FOTSGURE_AES_H
+#define FOTSGURE_AES_H
+
+#include <stddef.h>
+#include <stdint.h>
+
+/* The version of this header; fotsgure_aes_version() returns that of the library. */
+#define FOTSGURE_AES_VERSION_TEXT "0.1.0"
+#define FOTSGURE_AES_VERSION 100 /* 10000 * 0 + 100 * 1 + 0 */
+
+#define FOTSGURE_AES_BLOCK 16    /* bytes of a block */
+#define FOTSGURE_AES_STACK 16384 /* bytes of stack that are enough for every call */
+
+#ifdef __cplusplus
+#define FOTSGURE_AES_ALONE __restrict
+#define FOTSGURE_AES_NOEXCEPT noexcept
+#define FOTSGURE_AES_ASSERT static_assert
+#define FOTSGURE_AES_CAST(type, value) reinterpret_cast<type>(value)
+extern "C" {
+#else
+#define FOTSGURE_AES_ALONE restrict
+#define FOTSGURE_AES_NOEXCEPT
+#define FOTSGURE_AES_ASSERT _Static_assert
+#define FOTSGURE_AES_CAST(type, value) ((type)(value))
+#endif
+
+#if defined(__GNUC__) || defined(__clang__)
+#define FOTSGURE_AES_CHECK __attribute__((warn_unused_result))
+#else
+#define FOTSGURE_AES_CHECK
+#endif
+
+/* What a call returns. */
+enum fotsgure_aes_status {
+    FOTSGURE_AES_DONE = 0,           /* the work is done */
+    FOTSGURE_AES_KEY_LENGTH = 1,     /* the key doesn't have 16, 24 or 32 bytes */
+    FOTSGURE_AES_NO_KEY = 2,         /* the struct holds no key */
+    FOTSGURE_AES_UNEQUAL_COUNTS = 3, /* input and output differ in length */
+    FOTSGURE_AES_KEYSTREAM_END = 4   /* the position would pass 2^64 - 1 */
+};
+
+/* A key schedule, for both directions and for counter mode. Read and write it by the calls below alone. */
+struct fotsgure_aes {
+    uint32_t key_length; /* 16, 24 or 32; 0: no key */
+    uint16_t words[120];
+};
+
+/* Where a keystream stands. The caller sets both fields, and may set `position` to go on anywhere. Never use a counter
+ * block twice under one key: keystream block i is made of iv + i, so give each message a range of its own. */
+struct fotsgure_aes_ctr {
+    uint8_t iv[16];    /* the initial counter block: one number of 128 bits, highest byte first */
+    uint64_t position; /* how many bytes of the keystream come before the next: 0 at the start */
+};
+
+FOTSGURE_AES_ASSERT(sizeof(enum fotsgure_aes_status) == 4 && sizeof(size_t) == 8, "the ABI of the library: x86-64");
+FOTSGURE_AES_ASSERT(sizeof(struct fotsgure_aes) == 244, "no padding");
+FOTSGURE_AES_ASSERT(sizeof(struct fotsgure_aes_ctr) == 24, "no padding");
+
+/* Returns FOTSGURE_AES_VERSION of the header that the library was built with. */
+uint32_t fotsgure_aes_version(void) FOTSGURE_AES_NOEXCEPT;
+
+/* Expands a key into *aes (KeyExpansion, FIPS 197, 5.2). What *aes held is gone; it may be uninitialized.
+ * DONE if key_length is 16, 24 or 32; else KEY_LENGTH, and *aes then holds no key. */
+FOTSGURE_AES_CHECK enum fotsgure_aes_status fotsgure_aes_set_key(struct fotsgure_aes *FOTSGURE_AES_ALONE aes,
+    const uint8_t *key, size_t key_length) FOTSGURE_AES_NOEXCEPT;
+
+/* Returns how many bytes the key has: 16, 24 or 32, or 0 if *aes holds no key. */
+size_t fotsgure_aes_key_length(const struct fotsgure_aes *aes) FOTSGURE_AES_NOEXCEPT;
+
+/* Overwrites *aes with zeros: it then holds no key. It may be uninitialized. Copies are not wiped. */
+void fotsgure_aes_wipe(struct fotsgure_aes *aes) FOTSGURE_AES_NOEXCEPT;
+
+/* Encrypts (Cipher, FIPS 197, 5.1) or decrypts (InvCipher, 5.3) each of `count` blocks in place under the key of *aes.
+ * DONE, or NO_KEY. Blocks are processed eight at a time: eight in one call take far less time than eight calls. */
+FOTSGURE_AES_CHECK enum fotsgure_aes_status fotsgure_aes_encrypt_blocks(const struct fotsgure_aes *aes,
+    uint8_t *FOTSGURE_AES_ALONE blocks, size_t count) FOTSGURE_AES_NOEXCEPT;
+FOTSGURE_AES_CHECK enum fotsgure_aes_status fotsgure_aes_decrypt_blocks(const struct fotsgure_aes *aes,
+    uint8_t *FOTSGURE_AES_ALONE blocks, size_t count) FOTSGURE_AES_NOEXCEPT;
+
+/* The same from one buffer to another; counts are in blocks. UNEQUAL_COUNTS if they differ, else NO_KEY if there is no
+ * key, else DONE. */
+FOTSGURE_AES_CHECK enum fotsgure_aes_status fotsgure_aes_encrypt_blocks_to(const struct fotsgure_aes *aes,
+    const uint8_t *input, size_t input_count,
+    uint8_t *FOTSGURE_AES_ALONE output, size_t output_count) FOTSGURE_AES_NOEXCEPT;
+FOTSGURE_AES_CHECK enum fotsgure_aes_status fotsgure_aes_decrypt_blocks_to(const struct fotsgure_aes *aes,
+    const uint8_t *input, size_t input_count,
+    uint8_t *FOTSGURE_AES_ALONE output, size_t output_count) FOTSGURE_AES_NOEXCEPT;
+
+/* Counter mode in place: adds (XOR) to each of `count` bytes the keystream's byte at its place, the first at
+ * ctr->position, and moves the position on by `count`. Byte i of the keystream is byte i % 16 of Cipher of the block
+ * (iv + i / 16) modulo 2^128. The same call encrypts and decrypts, and it makes no difference how data is cut into
+ * calls. KEYSTREAM_END if the position would pass 2^64 - 1, else NO_KEY if there is no key, else DONE. */
+FOTSGURE_AES_CHECK enum fotsgure_aes_status fotsgure_aes_add_keystream(const struct fotsgure_aes *aes,
+    struct fotsgure_aes_ctr *FOTSGURE_AES_ALONE ctr,
+    uint8_t *FOTSGURE_AES_ALONE bytes, size_t count) FOTSGURE_AES_NOEXCEPT;
+
+/* The same from one buffer to another; counts are in bytes. UNEQUAL_COUNTS if they differ, else as above. */
+FOTSGURE_AES_CHECK enum fotsgure_aes_status fotsgure_aes_add_keystream_to(const struct fotsgure_aes *aes,
+    struct fotsgure_aes_ctr *FOTSGURE_AES_ALONE ctr,
+    const uint8_t *input, size_t input_count,
+    uint8_t *FOTSGURE_AES_ALONE output, size_t output_count) FOTSGURE_AES_NOEXCEPT;
+
+/* In one call, under a key whose schedule is wiped before the call returns; each costs a key expansion. KEY_LENGTH if
+ * key_length isn't 16, 24 or 32, else as above. */
+FOTSGURE_AES_CHECK enum fotsgure_aes_status fotsgure_aes_encrypt_blocks_with(const uint8_t *key, size_t key_length,
+    uint8_t *FOTSGURE_AES_ALONE blocks, size_t count) FOTSGURE_AES_NOEXCEPT;
+FOTSGURE_AES_CHECK enum fotsgure_aes_status fotsgure_aes_decrypt_blocks_with(const uint8_t *key, size_t key_length,
+    uint8_t *FOTSGURE_AES_ALONE blocks, size_t count) FOTSGURE_AES_NOEXCEPT;
+FOTSGURE_AES_CHECK enum fotsgure_aes_status fotsgure_aes_add_keystream_with(const uint8_t *key, size_t key_length,
+    struct fotsgure_aes_ctr *FOTSGURE_AES_ALONE ctr,
+    uint8_t *FOTSGURE_AES_ALONE bytes, size_t count) FOTSGURE_AES_NOEXCEPT;
+
+/* NULL with a count of 0: the library takes no NULL, so each call below hands on an address that is not NULL instead,
+ * and that nothing reads or writes. Whoever calls the library without this header does the same. A pointer to a
+ * function, and a name in parentheses, is the library's call itself. */
+static inline const uint8_t *fotsgure_aes_not_null(const uint8_t *bytes) FOTSGURE_AES_NOEXCEPT
+{
+    return bytes ? bytes : FOTSGURE_AES_CAST(const uint8_t *, (uintptr_t)FOTSGURE_AES_BLOCK);
+}
+static inline uint8_t *fotsgure_aes_not_null_mut(uint8_t *bytes) FOTSGURE_AES_NOEXCEPT
+{
+    return bytes ? bytes : FOTSGURE_AES_CAST(uint8_t *, (uintptr_t)FOTSGURE_AES_BLOCK);
+}
+
+#define fotsgure_aes_set_key(aes, key, key_length) fotsgure_aes_set_key(aes, fotsgure_aes_not_null(key), key_length)
+#define fotsgure_aes_encrypt_blocks(aes, blocks, count) \
+    fotsgure_aes_encrypt_blocks(aes, fotsgure_aes_not_null_mut(blocks), count)
+#define fotsgure_aes_decrypt_blocks(aes, blocks, count) \
+    fotsgure_aes_decrypt_blocks(aes, fotsgure_aes_not_null_mut(blocks), count)
+#define fotsgure_aes_encrypt_blocks_to(aes, input, input_count, output, output_count) \
+    fotsgure_aes_encrypt_blocks_to(aes, fotsgure_aes_not_null(input), input_count, \
+        fotsgure_aes_not_null_mut(output), output_count)
+#define fotsgure_aes_decrypt_blocks_to(aes, input, input_count, output, output_count) \
+    fotsgure_aes_decrypt_blocks_to(aes, fotsgure_aes_not_null(input), input_count, \
+        fotsgure_aes_not_null_mut(output), output_count)
+#define fotsgure_aes_add_keystream(aes, ctr, bytes, count) \
+    fotsgure_aes_add_keystream(aes, ctr, fotsgure_aes_not_null_mut(bytes), count)
+#define fotsgure_aes_add_keystream_to(aes, ctr, input, input_count, output, output_count) \
+    fotsgure_aes_add_keystream_to(aes, ctr, fotsgure_aes_not_null(input), input_count, \
+        fotsgure_aes_not_null_mut(output), output_count)
+#define fotsgure_aes_encrypt_blocks_with(key, key_length, blocks, count) \
+    fotsgure_aes_encrypt_blocks_with(fotsgure_aes_not_null(key), key_length, fotsgure_aes_not_null_mut(blocks), count)
+#define fotsgure_aes_decrypt_blocks_with(key, key_length, blocks, count) \
+    fotsgure_aes_decrypt_blocks_with(fotsgure_aes_not_null(key), key_length, fotsgure_aes_not_null_mut(blocks), count)
+#define fotsgure_aes_add_keystream_with(key, key_length, ctr, bytes, count) \
+    fotsgure_aes_add_keystream_with(fotsgure_aes_not_null(key), key_length, ctr, \
+        fotsgure_aes_not_null_mut(bytes), count)
+
+#ifdef __cplusplus
+}
+#endif
+#undef FOTSGURE_AES_ALONE
+#undef FOTSGURE_AES_NOEXCEPT
+#undef FOTSGURE_AES_ASSERT
+#undef FOTSGURE_AES_CAST
+#undef FOTSGURE_AES_CHECK
+#endif

@@ -1,0 +1,92 @@
+// AES for C++17 over fotsgure_aes.h: a key that wipes itself, and counter mode. The classes meet the header's
+// conditions, but for valid pointers and data races, which stay with their caller.
+#ifndef FOTSGURE_AES_HPP
+#define FOTSGURE_AES_HPP
+
+#include "fotsgure_aes.h"
+
+#include <array>
+#include <cstddef>
+#include <cstdint>
+#include <stdexcept>
+
+namespace fotsgure {
+
+using Block = std::array<std::uint8_t, 16>;
+static_assert(sizeof(Block) == 16, "a block is its sixteen bytes");
+
+// A key of 16, 24 or 32 bytes. The destructor wipes it. It can't be copied or moved, so that no copy is forgotten.
+// Threads may share one.
+class Aes {
+public:
+    Aes(const std::uint8_t *key, std::size_t length) {
+        if (fotsgure_aes_set_key(&aes, key, length) != FOTSGURE_AES_DONE)
+            throw std::invalid_argument("a key has 16, 24 or 32 bytes");
+    }
+    template <class Bytes> explicit Aes(const Bytes &key) : Aes(key.data(), key.size()) {}
+    ~Aes() { fotsgure_aes_wipe(&aes); }
+    Aes(const Aes &) = delete;
+    Aes &operator=(const Aes &) = delete;
+
+    // Whole blocks in place.
+    void encrypt(std::uint8_t *bytes, std::size_t length) const {
+        done(fotsgure_aes_encrypt_blocks(&aes, bytes, blocks(length)));
+    }
+    void decrypt(std::uint8_t *bytes, std::size_t length) const {
+        done(fotsgure_aes_decrypt_blocks(&aes, bytes, blocks(length)));
+    }
+    // The same for a vector, an array or a string of bytes, or of blocks.
+    template <class Bytes> void encrypt(Bytes &data) const { encrypt(bytes_of(data), size_of(data)); }
+    template <class Bytes> void decrypt(Bytes &data) const { decrypt(bytes_of(data), size_of(data)); }
+
+private:
+    friend class Ctr;
+    fotsgure_aes aes{};
+
+    static std::size_t blocks(std::size_t length) {
+        if (length % 16 != 0)
+            throw std::invalid_argument("whole blocks of 16 bytes");
+        return length / 16;
+    }
+    static void done(fotsgure_aes_status status) {
+        if (status != FOTSGURE_AES_DONE)
+            throw std::logic_error("no key");
+    }
+    template <class Bytes> static std::uint8_t *bytes_of(Bytes &data) {
+        return reinterpret_cast<std::uint8_t *>(data.data());
+    }
+    template <class Bytes> static std::size_t size_of(const Bytes &data) { return data.size() * sizeof *data.data(); }
+};
+
+// Counter mode under a key, which has to outlive it. It can be moved; a copy would give out the same keystream again.
+class Ctr {
+public:
+    Ctr(const Aes &under, const Block &iv) : key(under) {
+        for (std::size_t i = 0; i < 16; ++i)
+            ctr.iv[i] = iv[i];
+    }
+    Ctr(const Ctr &) = delete;
+    Ctr(Ctr &&) = default;
+    Ctr &operator=(const Ctr &) = delete;
+
+    // Encrypts or decrypts in place, and moves the position on.
+    void apply(std::uint8_t *bytes, std::size_t length) {
+        if (fotsgure_aes_add_keystream(&key.aes, &ctr, bytes, length) != FOTSGURE_AES_DONE)
+            throw std::length_error("the keystream ends");
+    }
+    // The same from one buffer to another of the same length, which doesn't overlap it.
+    void apply(const std::uint8_t *input, std::uint8_t *output, std::size_t length) {
+        if (fotsgure_aes_add_keystream_to(&key.aes, &ctr, input, length, output, length) != FOTSGURE_AES_DONE)
+            throw std::length_error("the keystream ends");
+    }
+    template <class Bytes> void apply(Bytes &data) { apply(Aes::bytes_of(data), Aes::size_of(data)); }
+    std::uint64_t position() const { return ctr.position; }
+    void seek(std::uint64_t position) { ctr.position = position; }
+
+private:
+    const Aes &key;
+    fotsgure_aes_ctr ctr{};
+};
+
+} // namespace fotsgure
+#endif
