@@ -1,0 +1,305 @@
+/* The library from C: FIPS 197, appendix C, in both directions; slices of 0 to 40 blocks against single calls;
+ * SP 800-38A, F.5, cut at every place; every status; NULL with a count of 0; the wipe; with WITH_OPENSSL 1 MiB against
+ * OpenSSL. The last line is `N passed, N failed`. */
+#include "fotsgure_aes.h"
+
+#ifdef WITH_OPENSSL
+#include <openssl/evp.h>
+#endif
+#include <stdio.h>
+#include <stdlib.h>
+#include <string.h>
+
+static int passed, failed;
+
+static void expect(int holds, const char *what, size_t size)
+{
+    if (holds) {
+        passed++;
+    } else {
+        failed++;
+        printf("failed: %s (%zu)\n", what, size);
+    }
+}
+
+/* A message of two blocks is encrypted in place, and comes back. */
+static int example(void)
+{
+    uint8_t key[32] = {1, 2, 3}, blocks[32] = "a message as long as two blocks";
+    struct fotsgure_aes aes;
+    if (fotsgure_aes_set_key(&aes, key, sizeof key) != FOTSGURE_AES_DONE)
+        return 0;
+    int done = fotsgure_aes_encrypt_blocks(&aes, blocks, 2) == FOTSGURE_AES_DONE &&
+               fotsgure_aes_decrypt_blocks(&aes, blocks, 2) == FOTSGURE_AES_DONE;
+    fotsgure_aes_wipe(&aes);
+    return done && strcmp((char *)blocks, "a message as long as two blocks") == 0;
+}
+
+static void from_hex(uint8_t *bytes, const char *digits)
+{
+    unsigned byte;
+    for (; sscanf(digits, "%2x", &byte) == 1; digits += 2)
+        *bytes++ = (uint8_t)byte;
+}
+
+/* FIPS 197, appendix C: the key counts from 00 on. */
+static const char *const c_plain = "00112233445566778899aabbccddeeff";
+static const struct { size_t size; const char *cipher; } c_rows[] = {
+    {16, "69c4e0d86a7b0430d8cdb78070b4c55a"},
+    {24, "dda97ca4864cdfe06eaf70a0ec0d7191"},
+    {32, "8ea2b7ca516745bfeafc49904b496089"},
+};
+
+/* SP 800-38A, F.5.1, F.5.3 and F.5.5. */
+static const char *const f_iv = "f0f1f2f3f4f5f6f7f8f9fafbfcfdfeff";
+static const char *const f_plain = "6bc1bee22e409f96e93d7e117393172aae2d8a571e03ac9c9eb76fac45af8e51"
+                                   "30c81c46a35ce411e5fbc1191a0a52eff69f2445df4f9b17ad2b417be66c3710";
+static const struct { size_t size; const char *key, *cipher; } f_rows[] = {
+    {16, "2b7e151628aed2a6abf7158809cf4f3c",
+     "874d6191b620e3261bef6864990db6ce9806f66b7970fdff8617187bb9fffdff"
+     "5ae4df3edbd5d35e5b4f09020db03eab1e031dda2fbe03d1792170a0f3009cee"},
+    {24, "8e73b0f7da0e6452c810f32b809079e562f8ead2522c6b7b",
+     "1abc932417521ca24f2b0459fe7e6e0b090339ec0aa6faefd5ccc2c6f4ce8e94"
+     "1e36b26bd1ebc670d1bd1d665620abf74f78a7f6d29809585a97daec58c6b050"},
+    {32, "603deb1015ca71be2b73aef0857d77811f352c073b6108d72d9810a30914dff4",
+     "601ec313775789a5b7a7f504bbf3d228f443e3ca4d62b59aca84e990cacaf5c5"
+     "2b0930daa23de94ce87017ba2d84988ddfc9c58db67aada613c2dd08457941a6"},
+};
+
+static uint8_t counted[33];
+
+static void fill(uint8_t *bytes, size_t count, uint32_t state)
+{
+    for (size_t i = 0; i < count; i++) {
+        state = state * 1664525u + 1013904223u;
+        bytes[i] = (uint8_t)(state >> 24);
+    }
+}
+
+static void rows_of_appendix_c(size_t size, const char *digits)
+{
+    uint8_t plain[16], cipher[16], block[16], other[16];
+    struct fotsgure_aes aes;
+    from_hex(plain, c_plain);
+    from_hex(cipher, digits);
+    expect(fotsgure_aes_set_key(&aes, counted, size) == FOTSGURE_AES_DONE &&
+        fotsgure_aes_key_length(&aes) == size, "a key is kept", size);
+    memcpy(block, plain, 16);
+    expect(fotsgure_aes_encrypt_blocks(&aes, block, 1) == FOTSGURE_AES_DONE &&
+        !memcmp(block, cipher, 16), "appendix C, encrypted", size);
+    expect(fotsgure_aes_decrypt_blocks(&aes, block, 1) == FOTSGURE_AES_DONE &&
+        !memcmp(block, plain, 16), "appendix C, decrypted", size);
+    expect(fotsgure_aes_encrypt_blocks_to(&aes, plain, 1, other, 1) == FOTSGURE_AES_DONE &&
+        !memcmp(other, cipher, 16), "and to a buffer", size);
+    expect(fotsgure_aes_decrypt_blocks_to(&aes, cipher, 1, other, 1) == FOTSGURE_AES_DONE &&
+        !memcmp(other, plain, 16), "and back", size);
+    expect(fotsgure_aes_encrypt_blocks_with(counted, size, block, 1) == FOTSGURE_AES_DONE &&
+        !memcmp(block, cipher, 16), "in one call", size);
+    expect(fotsgure_aes_decrypt_blocks_with(counted, size, block, 1) == FOTSGURE_AES_DONE &&
+        !memcmp(block, plain, 16), "and back", size);
+}
+
+static void slices(size_t size)
+{
+    enum { MOST = 40 };
+    uint8_t text[16 * MOST + 1], whole[sizeof text], single[sizeof text], other[sizeof text];
+    struct fotsgure_aes aes;
+    int same = fotsgure_aes_set_key(&aes, counted + 1, size) == FOTSGURE_AES_DONE;
+    fill(text, sizeof text, (uint32_t)size);
+    for (size_t count = 0; count <= MOST; count++) {
+        memcpy(whole, text, sizeof text);
+        memcpy(single, text, sizeof text);
+        memcpy(other, text, sizeof text);
+        /* At an odd address, too. */
+        same &= fotsgure_aes_encrypt_blocks(&aes, whole + 1, count) == FOTSGURE_AES_DONE;
+        for (size_t i = 0; i < count; i++)
+            same &= fotsgure_aes_encrypt_blocks(&aes, single + 1 + 16 * i, 1) == FOTSGURE_AES_DONE;
+        same &= fotsgure_aes_encrypt_blocks_to(&aes, text + 1, count, other + 1, count) == FOTSGURE_AES_DONE;
+        same &= !memcmp(whole, single, sizeof text) && !memcmp(whole, other, sizeof text);
+        same &= (count == 0) == !memcmp(whole, text, sizeof text);
+        for (size_t i = 0; i < count; i++)
+            same &= fotsgure_aes_decrypt_blocks(&aes, single + 1 + 16 * i, 1) == FOTSGURE_AES_DONE;
+        same &= fotsgure_aes_decrypt_blocks_to(&aes, whole + 1, count, other + 1, count) == FOTSGURE_AES_DONE;
+        same &= fotsgure_aes_decrypt_blocks(&aes, whole + 1, count) == FOTSGURE_AES_DONE;
+        same &= !memcmp(whole, text, sizeof text) && !memcmp(single, text, sizeof text) &&
+            !memcmp(other, text, sizeof text);
+    }
+    expect(same, "0 to 40 blocks, in place, to a buffer and one by one", size);
+}
+
+static void counter_mode(size_t size, const char *key_digits, const char *digits)
+{
+    uint8_t key[32], plain[64], cipher[64], bytes[64];
+    struct fotsgure_aes aes;
+    struct fotsgure_aes_ctr start = {{0}, 0}, ctr;
+    int cut = 1;
+    from_hex(key, key_digits);
+    from_hex(plain, f_plain);
+    from_hex(cipher, digits);
+    from_hex(start.iv, f_iv);
+    expect(fotsgure_aes_set_key(&aes, key, size) == FOTSGURE_AES_DONE, "a key is kept", size);
+    memcpy(bytes, plain, 64);
+    ctr = start;
+    expect(fotsgure_aes_add_keystream(&aes, &ctr, bytes, 64) == FOTSGURE_AES_DONE && !memcmp(bytes, cipher, 64) &&
+        ctr.position == 64, "F.5", size);
+    ctr = start;
+    expect(fotsgure_aes_add_keystream_with(key, size, &ctr, bytes, 64) == FOTSGURE_AES_DONE &&
+        !memcmp(bytes, plain, 64) && ctr.position == 64, "F.5, in one call", size);
+    for (size_t at = 0; at <= 64; at++) {
+        memcpy(bytes, plain, 64);
+        ctr = start;
+        cut &= fotsgure_aes_add_keystream(&aes, &ctr, bytes, at) == FOTSGURE_AES_DONE && ctr.position == at;
+        cut &= fotsgure_aes_add_keystream(&aes, &ctr, bytes + at, 64 - at) == FOTSGURE_AES_DONE &&
+            !memcmp(bytes, cipher, 64);
+        ctr.position = at;
+        cut &= fotsgure_aes_add_keystream(&aes, &ctr, bytes + at, 64 - at) == FOTSGURE_AES_DONE &&
+            !memcmp(bytes + at, plain + at, 64 - at);
+    }
+    expect(cut, "F.5, cut at each place, and taken up at each place", size);
+    cut = 1;
+    for (size_t at = 0; at <= 64; at++) {
+        memset(bytes, 0, 64);
+        ctr = start;
+        cut &= fotsgure_aes_add_keystream_to(&aes, &ctr, plain, at, bytes, at) == FOTSGURE_AES_DONE &&
+            ctr.position == at;
+        cut &= at == 64 || bytes[at] == 0;
+        cut &= fotsgure_aes_add_keystream_to(&aes, &ctr, plain + at, 64 - at, bytes + at, 64 - at) == FOTSGURE_AES_DONE;
+        cut &= !memcmp(bytes, cipher, 64) && ctr.position == 64;
+    }
+    expect(cut, "F.5 from buffer to buffer, cut at each place", size);
+    ctr = start;
+    ctr.position = UINT64_MAX - 3;
+    memcpy(bytes, plain, 64);
+    expect(fotsgure_aes_add_keystream(&aes, &ctr, bytes, 4) == FOTSGURE_AES_KEYSTREAM_END &&
+        !memcmp(bytes, plain, 64) && ctr.position == UINT64_MAX - 3, "the end is refused", size);
+    expect(fotsgure_aes_add_keystream_to(&aes, &ctr, cipher, 4, bytes, 4) == FOTSGURE_AES_KEYSTREAM_END &&
+           fotsgure_aes_add_keystream_to(&aes, &ctr, cipher, 4, bytes, 3) == FOTSGURE_AES_UNEQUAL_COUNTS &&
+           fotsgure_aes_add_keystream_with(key, size, &ctr, bytes, 4) == FOTSGURE_AES_KEYSTREAM_END &&
+           !memcmp(bytes, plain, 64) && ctr.position == UINT64_MAX - 3, "the other calls refuse it too", size);
+    expect(fotsgure_aes_add_keystream(&aes, &ctr, bytes, 3) == FOTSGURE_AES_DONE &&
+        ctr.position == UINT64_MAX, "up to the end", size);
+}
+
+static void statuses(void)
+{
+    uint8_t text[48], bytes[48];
+    struct fotsgure_aes aes, zeros = {0, {0}}, before;
+    struct fotsgure_aes_ctr ctr = {{0}, 5};
+    int refused = 1, kept = 1;
+    fill(text, sizeof text, 7);
+    memcpy(bytes, text, sizeof text);
+    for (size_t size = 0; size <= 33; size++) {
+        if (size == 16 || size == 24 || size == 32)
+            continue;
+        memset(&aes, 0xff, sizeof aes);
+        refused &= fotsgure_aes_set_key(&aes, counted, size) == FOTSGURE_AES_KEY_LENGTH &&
+            fotsgure_aes_key_length(&aes) == 0;
+        refused &= fotsgure_aes_encrypt_blocks_with(counted, size, bytes, 3) == FOTSGURE_AES_KEY_LENGTH;
+        refused &= fotsgure_aes_decrypt_blocks_with(counted, size, bytes, 3) == FOTSGURE_AES_KEY_LENGTH;
+        refused &= fotsgure_aes_add_keystream_with(counted, size, &ctr, bytes, 48) == FOTSGURE_AES_KEY_LENGTH;
+        kept &= !memcmp(bytes, text, sizeof text) && ctr.position == 5;
+    }
+    expect(refused, "keys of every other length are refused", 0);
+    expect(kept, "and nothing is written", 0);
+    for (int wiped = 0; wiped < 2; wiped++) {
+        aes = zeros;
+        if (wiped) {
+            expect(fotsgure_aes_set_key(&aes, counted, 32) == FOTSGURE_AES_DONE, "a key is kept", 32);
+            fotsgure_aes_wipe(&aes);
+            expect(!memcmp(&aes, &zeros, sizeof aes), "wiped", 32);
+        }
+        expect(fotsgure_aes_encrypt_blocks(&aes, bytes, 3) == FOTSGURE_AES_NO_KEY &&
+            fotsgure_aes_decrypt_blocks(&aes, bytes, 3) == FOTSGURE_AES_NO_KEY &&
+               fotsgure_aes_encrypt_blocks_to(&aes, counted, 2, bytes, 2) == FOTSGURE_AES_NO_KEY &&
+                   fotsgure_aes_decrypt_blocks_to(&aes, counted, 2, bytes, 2) == FOTSGURE_AES_NO_KEY &&
+               fotsgure_aes_add_keystream(&aes, &ctr, bytes, 48) == FOTSGURE_AES_NO_KEY &&
+               fotsgure_aes_add_keystream_to(&aes, &ctr, counted, 9, bytes, 9) == FOTSGURE_AES_NO_KEY &&
+               fotsgure_aes_encrypt_blocks(&aes, NULL, 0) == FOTSGURE_AES_NO_KEY &&
+                   !memcmp(bytes, text, sizeof text) && ctr.position == 5,
+               "no key, nothing written", (size_t)wiped);
+    }
+    expect(fotsgure_aes_set_key(&aes, counted, 24) == FOTSGURE_AES_DONE, "a key is kept", 24);
+    expect(fotsgure_aes_encrypt_blocks_to(&aes, counted, 2, bytes, 3) == FOTSGURE_AES_UNEQUAL_COUNTS &&
+           fotsgure_aes_decrypt_blocks_to(&aes, counted, 1, bytes, 0) == FOTSGURE_AES_UNEQUAL_COUNTS &&
+               !memcmp(bytes, text, sizeof text), "unequal counts, nothing written", 0);
+    expect(fotsgure_aes_encrypt_blocks(&aes, NULL, 0) == FOTSGURE_AES_DONE &&
+        fotsgure_aes_decrypt_blocks(&aes, NULL, 0) == FOTSGURE_AES_DONE &&
+           fotsgure_aes_encrypt_blocks_to(&aes, NULL, 0, NULL, 0) == FOTSGURE_AES_DONE &&
+           fotsgure_aes_decrypt_blocks_to(&aes, NULL, 0, NULL, 0) == FOTSGURE_AES_DONE &&
+           fotsgure_aes_decrypt_blocks_to(&aes, NULL, 0, bytes, 1) == FOTSGURE_AES_UNEQUAL_COUNTS &&
+           fotsgure_aes_add_keystream(&aes, &ctr, NULL, 0) == FOTSGURE_AES_DONE &&
+           fotsgure_aes_add_keystream_to(&aes, &ctr, NULL, 0, NULL, 0) == FOTSGURE_AES_DONE &&
+           fotsgure_aes_encrypt_blocks_with(counted, 16, NULL, 0) == FOTSGURE_AES_DONE &&
+           fotsgure_aes_decrypt_blocks_with(NULL, 0, NULL, 0) == FOTSGURE_AES_KEY_LENGTH &&
+           fotsgure_aes_add_keystream_with(counted, 24, &ctr, NULL, 0) == FOTSGURE_AES_DONE &&
+               ctr.position == 5, "NULL with a count of 0", 0);
+    before = aes;
+    expect(fotsgure_aes_set_key(&aes, NULL, 0) == FOTSGURE_AES_KEY_LENGTH &&
+        fotsgure_aes_key_length(&aes) == 0, "no bytes are no key", 0);
+    memset(&aes, 0xff, sizeof aes);
+    expect(fotsgure_aes_set_key(&aes, counted, 24) == FOTSGURE_AES_DONE &&
+        !memcmp(&aes, &before, sizeof aes), "what was there before does not count", 24);
+    expect(fotsgure_aes_version() == FOTSGURE_AES_VERSION, "header and library are of one version", 0);
+}
+
+#ifdef WITH_OPENSSL
+static int other(const EVP_CIPHER *how, int there, const uint8_t *key, const uint8_t *iv, const uint8_t *in,
+    uint8_t *out, int size)
+{
+    int now = 0, last = 0;
+    EVP_CIPHER_CTX *it = EVP_CIPHER_CTX_new();
+    int done = it && EVP_CipherInit_ex(it, how, NULL, key, iv, there) == 1 && EVP_CIPHER_CTX_set_padding(it, 0) == 1 &&
+               EVP_CipherUpdate(it, out, &now, in, size) == 1 && EVP_CipherFinal_ex(it, out + now, &last) == 1 &&
+                   now + last == size;
+    EVP_CIPHER_CTX_free(it);
+    return done;
+}
+
+static void as_openssl(size_t size)
+{
+    enum { LONG = 1 << 20 };
+    uint8_t *text = malloc(LONG), *ours = malloc(LONG), *theirs = malloc(LONG);
+    const EVP_CIPHER *ecb = size == 16 ? EVP_aes_128_ecb() : size == 24 ? EVP_aes_192_ecb() : EVP_aes_256_ecb();
+    const EVP_CIPHER *mode = size == 16 ? EVP_aes_128_ctr() : size == 24 ? EVP_aes_192_ctr() : EVP_aes_256_ctr();
+    struct fotsgure_aes aes;
+    struct fotsgure_aes_ctr ctr = {{0}, 0};
+    uint8_t key[32];
+    if (!text || !ours || !theirs)
+        exit(2);
+    fill(text, LONG, 11);
+    fill(key, sizeof key, (uint32_t)size + 1);
+    memset(ctr.iv, 0xff, 15); /* it wraps round within the first 256 blocks */
+    ctr.iv[15] = 0x80;
+    expect(fotsgure_aes_set_key(&aes, key, size) == FOTSGURE_AES_DONE, "a key is kept", size);
+    expect(other(ecb, 1, key, NULL, text, theirs, LONG) && fotsgure_aes_encrypt_blocks_to(&aes, text, LONG / 16, ours,
+        LONG / 16) == FOTSGURE_AES_DONE &&
+           !memcmp(ours, theirs, LONG), "1 MiB encrypted as by OpenSSL", size);
+    expect(other(ecb, 0, key, NULL, text, theirs, LONG) && fotsgure_aes_decrypt_blocks_to(&aes, text, LONG / 16, ours,
+        LONG / 16) == FOTSGURE_AES_DONE &&
+           !memcmp(ours, theirs, LONG), "1 MiB decrypted as by OpenSSL", size);
+    expect(other(mode, 1, key, ctr.iv, text, theirs, LONG) && memcpy(ours, text, LONG) &&
+        fotsgure_aes_add_keystream(&aes, &ctr, ours, LONG) == FOTSGURE_AES_DONE &&
+           !memcmp(ours, theirs, LONG), "1 MiB in counter mode as by OpenSSL", size);
+    free(text);
+    free(ours);
+    free(theirs);
+}
+#endif
+
+int main(void)
+{
+    for (size_t i = 0; i < sizeof counted; i++)
+        counted[i] = (uint8_t)i;
+    expect(example(), "the example", 32);
+    for (size_t i = 0; i < 3; i++) {
+        rows_of_appendix_c(c_rows[i].size, c_rows[i].cipher);
+        slices(c_rows[i].size);
+        counter_mode(f_rows[i].size, f_rows[i].key, f_rows[i].cipher);
+#ifdef WITH_OPENSSL
+        as_openssl(c_rows[i].size);
+#endif
+    }
+    statuses();
+    printf("%d passed, %d failed\n", passed, failed);
+    return failed != 0;
+}

@@ -1,0 +1,169 @@
+//! Safe Rust over the C library `fotsgure_aes`: AES with keys of 16, 24 and 32 bytes, and counter mode.
+//!
+//! Every function meets the conditions that the head of `fotsgure_aes.h` asks of callers.
+
+use std::fmt;
+use std::mem::MaybeUninit;
+
+/// The declarations of `fotsgure_aes.h`. Only the checks compare them with the header.
+mod c {
+    use std::mem::MaybeUninit;
+
+    #[repr(C)]
+    pub struct Aes {
+        pub key_length: u32,
+        pub words: [u16; 120],
+    }
+
+    #[repr(C)]
+    pub struct Ctr {
+        pub iv: [u8; 16],
+        pub position: u64,
+    }
+
+    /// FOTSGURE_AES_DONE.
+    pub const DONE: u32 = 0;
+
+    extern "C" {
+        pub fn fotsgure_aes_version() -> u32;
+        pub fn fotsgure_aes_set_key(aes: *mut MaybeUninit<Aes>, key: *const u8, length: usize) -> u32;
+        pub fn fotsgure_aes_wipe(aes: *mut Aes);
+        pub fn fotsgure_aes_encrypt_blocks(aes: *const Aes, blocks: *mut [u8; 16], count: usize) -> u32;
+        pub fn fotsgure_aes_decrypt_blocks(aes: *const Aes, blocks: *mut [u8; 16], count: usize) -> u32;
+        pub fn fotsgure_aes_add_keystream(aes: *const Aes, ctr: *mut Ctr, bytes: *mut u8, count: usize) -> u32;
+        pub fn fotsgure_aes_add_keystream_to(
+            aes: *const Aes,
+            ctr: *mut Ctr,
+            input: *const u8,
+            input_count: usize,
+            output: *mut u8,
+            output_count: usize,
+        ) -> u32;
+    }
+}
+
+/// Returns the version of the library: 10000 times the first number, 100 times the second, plus the third.
+pub fn version() -> u32 {
+    // SAFETY: the call takes nothing.
+    unsafe { c::fotsgure_aes_version() }
+}
+
+/// The key doesn't have 16, 24 or 32 bytes.
+#[derive(Debug, Clone, Copy, PartialEq, Eq)]
+pub struct InvalidLength;
+
+impl fmt::Display for InvalidLength {
+    fn fmt(&self, f: &mut fmt::Formatter<'_>) -> fmt::Result {
+        f.write_str("an AES key has 16, 24 or 32 bytes")
+    }
+}
+
+impl std::error::Error for InvalidLength {}
+
+/// The keystream ends before the bytes do. Nothing was changed.
+#[derive(Debug, Clone, Copy, PartialEq, Eq)]
+pub struct KeystreamEnd;
+
+impl fmt::Display for KeystreamEnd {
+    fn fmt(&self, f: &mut fmt::Formatter<'_>) -> fmt::Result {
+        f.write_str("the keystream ends before the bytes do")
+    }
+}
+
+impl std::error::Error for KeystreamEnd {}
+
+/// An AES key of 16, 24 or 32 bytes. Its key schedule is on the heap, so that a move leaves no copy of it, and is
+/// zeroized when the value is dropped. Threads may share a value.
+pub struct Aes(Box<c::Aes>);
+
+impl Aes {
+    /// Expands a key (KeyExpansion, FIPS 197, 5.2).
+    pub fn new(key: &[u8]) -> Result<Aes, InvalidLength> {
+        let mut schedule = Box::new(MaybeUninit::<c::Aes>::uninit());
+        // SAFETY: both pointers come from references that are valid for the call. The call writes the whole struct,
+        // whether it refuses the key or not, and reads none of it.
+        let (status, schedule) = unsafe {
+            let status = c::fotsgure_aes_set_key(&mut *schedule, key.as_ptr(), key.len());
+            (status, Box::from_raw(Box::into_raw(schedule).cast::<c::Aes>()))
+        };
+        if status == c::DONE {
+            Ok(Aes(schedule))
+        } else {
+            Err(InvalidLength)
+        }
+    }
+
+    /// Encrypts every block in place (Cipher, FIPS 197, 5.1).
+    pub fn encrypt_blocks(&self, blocks: &mut [[u8; 16]]) {
+        // SAFETY: the private field holds a key that `new` set; the slice is borrowed for the call.
+        let status = unsafe { c::fotsgure_aes_encrypt_blocks(&*self.0, blocks.as_mut_ptr(), blocks.len()) };
+        assert_eq!(status, c::DONE);
+    }
+
+    /// Decrypts every block in place (InvCipher, FIPS 197, 5.3).
+    pub fn decrypt_blocks(&self, blocks: &mut [[u8; 16]]) {
+        // SAFETY: as above.
+        let status = unsafe { c::fotsgure_aes_decrypt_blocks(&*self.0, blocks.as_mut_ptr(), blocks.len()) };
+        assert_eq!(status, c::DONE);
+    }
+
+    /// Counter mode from an initial counter block on, at position 0 (SP 800-38A, 6.5).
+    pub fn keystream(&self, iv: [u8; 16]) -> Keystream<'_> {
+        Keystream { aes: self, ctr: c::Ctr { iv, position: 0 } }
+    }
+}
+
+impl Drop for Aes {
+    fn drop(&mut self) {
+        // SAFETY: a whole struct, borrowed for the call.
+        unsafe { c::fotsgure_aes_wipe(&mut *self.0) }
+    }
+}
+
+impl fmt::Debug for Aes {
+    fn fmt(&self, f: &mut fmt::Formatter<'_>) -> fmt::Result {
+        f.write_str("Aes { .. }")
+    }
+}
+
+/// Counter mode under a key that is lent.
+pub struct Keystream<'a> {
+    aes: &'a Aes,
+    ctr: c::Ctr,
+}
+
+impl Keystream<'_> {
+    /// Encrypts or decrypts bytes in place, and moves the position on.
+    pub fn apply(&mut self, bytes: &mut [u8]) -> Result<(), KeystreamEnd> {
+        // SAFETY: the references are valid for the call, and two of them are mutable, so that they don't overlap.
+        let status = unsafe {
+            c::fotsgure_aes_add_keystream(&*self.aes.0, &mut self.ctr, bytes.as_mut_ptr(), bytes.len())
+        };
+        if status == c::DONE { Ok(()) } else { Err(KeystreamEnd) }
+    }
+
+    /// Encrypts or decrypts bytes into a buffer of the same length, and moves the position on.
+    ///
+    /// # Panics
+    ///
+    /// Panics if the slices differ in length.
+    pub fn apply_to(&mut self, input: &[u8], output: &mut [u8]) -> Result<(), KeystreamEnd> {
+        assert_eq!(input.len(), output.len(), "input and output differ in length");
+        // SAFETY: as above.
+        let status = unsafe {
+            let (from, to) = (input.as_ptr(), output.as_mut_ptr());
+            c::fotsgure_aes_add_keystream_to(&*self.aes.0, &mut self.ctr, from, input.len(), to, output.len())
+        };
+        if status == c::DONE { Ok(()) } else { Err(KeystreamEnd) }
+    }
+
+    /// How many bytes of the keystream come before the next.
+    pub fn position(&self) -> u64 {
+        self.ctr.position
+    }
+
+    /// Moves to a position.
+    pub fn seek(&mut self, position: u64) {
+        self.ctr.position = position;
+    }
+}
