@@ -1,0 +1,146 @@
+/* Runs calls on secret bytes under valgrind's memcheck. Secrets are marked undefined, so that memcheck reports each
+   branch and each address that depends on one. calls.h, which calls.py writes, has the calls. */
+#include <stdint.h>
+#include <stdio.h>
+#include <stdlib.h>
+#include <string.h>
+#include <valgrind/memcheck.h>
+
+enum { MOST = 8 };
+
+/* A buffer that a call is given. */
+struct buffer { uint8_t *at, *before; size_t bytes; char kind; };
+static struct buffer buffers[MOST];
+static int held;
+static uint64_t state = 0x9e3779b97f4a7c15u;
+
+static uint8_t next_byte(void) {
+    state ^= state << 13;
+    state ^= state >> 7;
+    state ^= state << 17;
+    return (uint8_t)(state >> 32);
+}
+
+/* kind: s a secret that is read, b a secret that is worked in its place, o bytes that are written, p public bytes, z a
+   secret that must be zero afterwards, t bytes of which some are written. */
+static void *buffer(char kind, size_t bytes) {
+    struct buffer *it = &buffers[held++];
+    it->at = aligned_alloc(16, (bytes + 31) & ~(size_t)15);
+    it->before = malloc(bytes + 1);
+    it->bytes = bytes;
+    it->kind = kind;
+    if (!it->at || !it->before) abort();
+    for (size_t i = 0; i < bytes; i++) it->before[i] = it->at[i] = next_byte();
+    if (kind == 's' || kind == 'b' || kind == 'z') (void)VALGRIND_MAKE_MEM_UNDEFINED(it->at, bytes);
+    return it->at;
+}
+
+static unsigned before, leaks, vacuous, clean, empty, unexpected;
+
+static void begin(const char *name) {
+    VALGRIND_PRINTF("call %s\n", name);
+    before = VALGRIND_COUNT_ERRORS;
+}
+
+/* Says what came of the call. It is vacuous where it did nothing with what it was given: where its answer is not the
+   wanted one, or a block was left as it was, or a byte that it should have written depends on no secret. */
+static void end(const char *name, const char *wanted, uint64_t answer, uint64_t right) {
+    unsigned reports = VALGRIND_COUNT_ERRORS - before;
+    size_t secret = 0, unmoved = 0, due = 0, missed = 0;
+    (void)VALGRIND_MAKE_MEM_DEFINED(&answer, sizeof answer);
+    for (int i = 0; i < held; i++) {
+        struct buffer *it = &buffers[i];
+        size_t tainted = 0, changed = 0;
+        for (size_t k = 0; k < it->bytes; k++) {
+            uint8_t bits = 0;
+            if (VALGRIND_GET_VBITS(it->at + k, &bits, 1) != 1) abort();
+            tainted += bits != 0;
+        }
+        (void)VALGRIND_MAKE_MEM_DEFINED(it->at, it->bytes);
+        /* A block stays as it was by chance once in 2^128 times, a lone byte once in 256: so much is not asked of it. */
+        for (size_t k = 0; k + 16 <= it->bytes; k += 16) changed += memcmp(it->at + k, it->before + k, 16) != 0;
+        if (it->kind == 'b' || it->kind == 'o') {
+            due += it->bytes;
+            secret += tainted;
+            missed += it->bytes - tainted;
+            unmoved += it->bytes / 16 - changed;
+        }
+        if (it->kind == 't') { due += it->bytes; secret += tainted; missed += tainted == 0; }
+        if (it->kind == 'z') {
+            due += it->bytes;
+            for (size_t k = 0; k < it->bytes; k++) missed += it->at[k] != 0;
+            missed += tainted;
+        }
+        free(it->at);
+        free(it->before);
+    }
+    held = 0;
+    const char *verdict = reports ? "LEAK" : answer != right || missed || unmoved ? "VACUOUS" : due ? "clean" : "empty";
+    leaks += reports != 0;
+    vacuous += *verdict == 'V';
+    clean += *verdict == 'c';
+    empty += *verdict == 'e';
+    int wrong = strcmp(verdict, wanted) != 0;
+    unexpected += wrong;
+    printf("%s\t%s\t%s\t%u\t%zu\t%zu\n", name, wanted, verdict, reports, secret, due);
+}
+
+/* What is planted: each has to be found, before the calls and after them. */
+static volatile uint8_t table[256], sink;
+__attribute__((noinline)) static uint64_t planted_address(const uint8_t *s, uint8_t *to) {
+    for (int i = 0; i < 16; i++) to[i] = table[s[i]] ^ s[i];
+    return 1;
+}
+__attribute__((noinline)) static uint64_t planted_branch(const uint8_t *s, uint8_t *to) {
+    if (s[3] & 1) sink = 1;
+    for (int i = 0; i < 16; i++) to[i] = s[i] ^ 0x5a;
+    return 1;
+}
+/* Leaks in the last of its bytes alone. */
+__attribute__((noinline)) static uint64_t planted_early_exit(const uint8_t *s, uint8_t *to) {
+    for (int i = 0; i < 16; i++) to[i] = s[i] ^ 0x5a;
+    if (s[15] == 7) sink = 2;
+    return 1;
+}
+__attribute__((noinline)) static uint64_t planted_nothing(const uint8_t *s, uint8_t *to) {
+    (void)s;
+    memset(to, 1, 16);
+    return 1;
+}
+__attribute__((noinline)) static uint64_t planted_half(const uint8_t *s, uint8_t *to) {
+    for (int i = 0; i < 8; i++) to[i] = s[i] ^ 0x5a;
+    return 1;
+}
+__attribute__((noinline)) static uint64_t planted_refusal(const uint8_t *s, uint8_t *to) {
+    for (int i = 0; i < 16; i++) to[i] = s[i] ^ 0x5a;
+    return 0;
+}
+#define PLANT(name, wanted) do { \
+        uint8_t *s = buffer('s', 16), *to = buffer('o', 16); \
+        begin(#name); \
+        uint64_t answer = name(s, to); \
+        end(#name, wanted, answer, 1); \
+    } while (0)
+static void plants(void) {
+    PLANT(planted_address, "LEAK");
+    PLANT(planted_branch, "LEAK");
+    PLANT(planted_early_exit, "LEAK");
+    PLANT(planted_nothing, "VACUOUS");
+    PLANT(planted_half, "VACUOUS");
+    PLANT(planted_refusal, "VACUOUS");
+    uint8_t public = sink;
+    (void)VALGRIND_MAKE_MEM_DEFINED(&public, 1);
+    (void)VALGRIND_MAKE_MEM_DEFINED((void *)&sink, 1);
+}
+
+#include "calls.h"
+
+int main(void) {
+    setvbuf(stdout, NULL, _IOLBF, 0);
+    if (!RUNNING_ON_VALGRIND) { fprintf(stderr, "not under valgrind: this run shows nothing\n"); return 3; }
+    plants();
+    calls();
+    plants();
+    printf("end\n");
+    return 0;
+}

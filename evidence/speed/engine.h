@@ -1,0 +1,43 @@
+/* One way to run AES that is timed: a library, and how it works its blocks. */
+#ifndef ENGINE_H
+#define ENGINE_H
+
+#include <stddef.h>
+#include <stdint.h>
+
+#ifdef __cplusplus
+extern "C" {
+#endif
+
+struct engine {
+    const char *name;   /* the library */
+    const char *how;    /* what it runs on this machine, in this run */
+    const char *kind;   /* ours, constant (time by design, in software), tables, instructions, planted */
+    /* Takes a key of so many bytes, for encryption and for decryption. */
+    void (*key_encrypt)(const uint8_t *key, size_t bytes);
+    void (*key_decrypt)(const uint8_t *key, size_t bytes);
+    /* Works so many blocks in place, under the key taken last. */
+    void (*encrypt)(uint8_t *blocks, size_t count);
+    void (*decrypt)(uint8_t *blocks, size_t count);
+    /* Takes a key and a counter block, and adds the keystream. */
+    void (*stream)(const uint8_t *key, size_t bytes, const uint8_t *iv, uint8_t *data, size_t length);
+};
+
+/* The run: which instructions of the processor the peers may use. */
+enum run { ALL, NO_AES, NO_AES_NO_SSSE3 };
+
+/* Each file of peers adds its engines for a run. */
+void add(const struct engine *engine);
+void add_library(enum run run);
+void add_library_by_rattle(enum run run);
+void add_openssl(enum run run);
+void add_bearssl(enum run run);
+void add_mbedtls(enum run run);
+void add_nettle(enum run run);
+void add_libgcrypt(enum run run);
+void add_botan(enum run run);
+
+#ifdef __cplusplus
+}
+#endif
+#endif
