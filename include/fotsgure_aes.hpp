@@ -9,6 +9,7 @@
 #include <cstddef>
 #include <cstdint>
 #include <stdexcept>
+#include <utility>
 
 namespace fotsgure {
 
@@ -58,34 +59,44 @@ private:
     template <class Bytes> static std::size_t size_of(const Bytes &data) { return data.size() * sizeof *data.data(); }
 };
 
-// Counter mode under a key, which has to outlive it. It can be moved; a copy would give out the same keystream again.
+// Counter mode under a key, which has to outlive it. It can't be copied: a copy would give out the same keystream again.
+// It can be moved, and what it was moved from has no key then: `apply` throws std::logic_error there.
 class Ctr {
 public:
-    Ctr(const Aes &under, const Block &iv) : key(under) {
+    Ctr(const Aes &under, const Block &iv) : key(&under) {
         for (std::size_t i = 0; i < 16; ++i)
             ctr.iv[i] = iv[i];
     }
+    Ctr(const Aes &&, const Block &) = delete;
     Ctr(const Ctr &) = delete;
-    Ctr(Ctr &&) = default;
+    Ctr(Ctr &&from) noexcept : key(std::exchange(from.key, nullptr)), ctr(from.ctr) {}
     Ctr &operator=(const Ctr &) = delete;
 
     // Encrypts or decrypts in place, and moves the position on.
     void apply(std::uint8_t *bytes, std::size_t length) {
-        if (fotsgure_aes_add_keystream(&key.aes, &ctr, bytes, length) != FOTSGURE_AES_DONE)
-            throw std::length_error("the keystream ends");
+        done(fotsgure_aes_add_keystream(schedule(), &ctr, bytes, length));
     }
     // The same from one buffer to another of the same length, which doesn't overlap it.
     void apply(const std::uint8_t *input, std::uint8_t *output, std::size_t length) {
-        if (fotsgure_aes_add_keystream_to(&key.aes, &ctr, input, length, output, length) != FOTSGURE_AES_DONE)
-            throw std::length_error("the keystream ends");
+        done(fotsgure_aes_add_keystream_to(schedule(), &ctr, input, length, output, length));
     }
     template <class Bytes> void apply(Bytes &data) { apply(Aes::bytes_of(data), Aes::size_of(data)); }
     std::uint64_t position() const { return ctr.position; }
     void seek(std::uint64_t position) { ctr.position = position; }
 
 private:
-    const Aes &key;
+    const Aes *key;
     fotsgure_aes_ctr ctr{};
+
+    const fotsgure_aes *schedule() const {
+        if (key == nullptr)
+            throw std::logic_error("no key");
+        return &key->aes;
+    }
+    static void done(fotsgure_aes_status status) {
+        if (status != FOTSGURE_AES_DONE)
+            throw std::length_error("the keystream ends");
+    }
 };
 
 } // namespace fotsgure

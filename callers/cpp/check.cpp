@@ -2,8 +2,10 @@
 // every place; what it throws. The last line is `N passed, N failed`.
 #include "fotsgure_aes.hpp"
 
+#include <algorithm>
 #include <cstdio>
 #include <string>
+#include <utility>
 #include <vector>
 
 namespace {
@@ -116,6 +118,14 @@ void counter_mode(const Row &row) {
     Bytes one(1), none;
     ctr.apply(none);
     expect(throws<std::length_error>([&] { ctr.apply(one); }) && one[0] == 0, "the end is refused", key.size());
+    ctr.seek(3);
+    fotsgure::Ctr moved(std::move(ctr));
+    Bytes bytes = plain;
+    moved.apply(bytes.data() + 3, 61);
+    expect(std::equal(bytes.begin() + 3, bytes.end(), cipher.begin() + 3) && moved.position() == 64,
+        "a moved stream goes on", key.size());
+    expect(throws<std::logic_error>([&] { ctr.apply(one); }) && one[0] == 0, "what was moved from has no key",
+        key.size());
 }
 
 } // namespace

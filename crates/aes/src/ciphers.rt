@@ -1,4 +1,4 @@
-//! The one type of ciphers: a key of any size, in one direction or both.
+//! The one type behind the nine: AES with a key of any size, in one direction or both.
 
 ghost use Rattle.std.specs.Prelude.{◌≡◌, ◌+◌, ℕ, List, length, replicate, refl};
 ghost use Rattle.aes_planes.specs.Each.{Each};
@@ -21,7 +21,7 @@ use aes_soft::soft::key_sizes::{AesVariant, KeyBytes, WipedKeys, has_round_keys}
 pub use directions::{BothWays, Directions, Includes};
 use std::marker::{Model, PhantomData};
 
-/// AES with a key of some size, in one direction or both. Contracts see a value as its key.
+/// AES with a key of the size K, in the directions D. Contracts see a value as its key.
 #[derive(Drop)]
 pub struct AesCipher<K: AesVariant, D: Directions> {
     round_keys: K::Wiped,
@@ -37,21 +37,21 @@ impl<K: AesVariant, D: Directions> Model for AesCipher<K, D> {
 }
 
 impl<K: AesVariant, D: Directions> AesCipher<K, D> {
-    /// The value of a key, counted: KeyExpansion (FIPS 197, 5.2) runs 10, 8 or 13 S-box layers with a
-    /// key of 16, 24 or 32 bytes.
+    /// Makes a value from a key, and counts the S-box layers of KeyExpansion (FIPS 197, 5.2): 10, 8 or 13 with a key of
+    /// 16, 24 or 32 bytes.
     pub fn new_counted(key: &K::Key, layers: &mut Layers) -> AesCipher<K, D>
         ensures made { result ≡ K.Key.bytes key.now }
         ensures layers { layers.new ≡ layers.old + K.SCHEDULE_LAYERS }
     {
-        let mut round_keys = K::Wiped::zeroed();
-        K::refill(&mut round_keys, key, layers);
-        AesCipher {
-            round_keys,
+        let mut cipher = AesCipher {
+            round_keys: K::Wiped::zeroed(),
             directions: PhantomData,
-        }
+        };
+        K::refill(&mut cipher.round_keys, key, layers);
+        cipher
     }
 
-    /// Wipes the round keys where they are, and leaves the value of the zero key.
+    /// Wipes the round keys in place, and leaves the value of the zero key.
     pub fn zeroize(&mut self)
         ensures { self.new ≡ replicate K.Key.SIZE 0 }
     {

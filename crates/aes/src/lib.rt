@@ -16,7 +16,7 @@ pub use names::{
 /// A block: sixteen bytes, that of row `r` and column `c` at place `r + 4 * c` (FIPS 197, 3.4).
 pub type Block = [u8; 16];
 
-/// Whether instructions of the processor for AES are used: never, here.
+/// Returns whether AES instructions of the processor are used. This library never uses them.
 pub fn hardware_accelerated() -> bool
     ensures { result ≡ false }
 {

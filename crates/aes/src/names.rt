@@ -1,32 +1,32 @@
-//! The nine types, as users name them.
+//! The names of the nine types.
 
 use crate::ciphers::{AesCipher, BothWays};
 use aes_cipher::cipher::{Decrypt, Encrypt};
 use aes_soft::soft::key_sizes::{Bits128, Bits192, Bits256};
 
-/// AES with a key of 16 bytes, both ways.
+/// AES with a key of 16 bytes, for encryption and decryption.
 pub type Aes128 = AesCipher<Bits128, BothWays>;
 
-/// AES with a key of 16 bytes, encrypting alone.
+/// AES with a key of 16 bytes, for encryption only.
 pub type Aes128Enc = AesCipher<Bits128, Encrypt>;
 
-/// AES with a key of 16 bytes, decrypting alone.
+/// AES with a key of 16 bytes, for decryption only.
 pub type Aes128Dec = AesCipher<Bits128, Decrypt>;
 
-/// AES with a key of 24 bytes, both ways.
+/// AES with a key of 24 bytes, for encryption and decryption.
 pub type Aes192 = AesCipher<Bits192, BothWays>;
 
-/// AES with a key of 24 bytes, encrypting alone.
+/// AES with a key of 24 bytes, for encryption only.
 pub type Aes192Enc = AesCipher<Bits192, Encrypt>;
 
-/// AES with a key of 24 bytes, decrypting alone.
+/// AES with a key of 24 bytes, for decryption only.
 pub type Aes192Dec = AesCipher<Bits192, Decrypt>;
 
-/// AES with a key of 32 bytes, both ways.
+/// AES with a key of 32 bytes, for encryption and decryption.
 pub type Aes256 = AesCipher<Bits256, BothWays>;
 
-/// AES with a key of 32 bytes, encrypting alone.
+/// AES with a key of 32 bytes, for encryption only.
 pub type Aes256Enc = AesCipher<Bits256, Encrypt>;
 
-/// AES with a key of 32 bytes, decrypting alone.
+/// AES with a key of 32 bytes, for decryption only.
 pub type Aes256Dec = AesCipher<Bits256, Decrypt>;

@@ -1,13 +1,13 @@
 //! The struct that a caller keeps: a key as its stored round keys.
 
-ghost use Rattle.std.specs.Prelude.{◌≡◌, ◌≢◌, ◌↔◌, ℕ, ◌+◌, ◌*◌, ◌<◌, ◌≤◌, ◌^◌, true};
-ghost use Rattle.std.specs.Prelude.{length, map, take, replicate, slice_index};
+ghost use Rattle.std.specs.Prelude.{◌≡◌, ◌≢◌, ◌↔◌, ◌+◌, ◌*◌, ◌≤◌, true};
+ghost use Rattle.std.specs.Prelude.{length, map, take, replicate};
 ghost use Rattle.aes_planes.specs.Words.{word_bits};
 ghost use Rattle.aes_soft.specs.Stored.{full, key_of, IsStored};
 ghost use Rattle.aes_c.specs.Kept.{key_in, IsKeyLength, IsMade};
 
 use crate::status::{DONE, KEY_LENGTH};
-use aes_cipher::zeroize::zeroize_words;
+use aes_cipher::zeroize::{Zeroize, zeroize_elements};
 use aes_planes::soft::sbox::Layers;
 use aes_soft::soft::key_sizes::{Bits128, Bits192, Bits256, KeyBytes, KeyExpansion};
 use aes_soft::soft::put_schedule;
@@ -20,6 +20,22 @@ pub struct Aes {
     pub key_length: u32,
     /// The stored round keys, in the first 88, 104 or 120 words.
     pub words: [u16; 120],
+}
+
+impl Zeroize for Aes {
+    ghost ZERO = { record { key_length = 0; words = replicate 120 0 } };
+
+    #[inline(always)]
+    fn zero() -> Aes {
+        Aes {
+            key_length: 0,
+            words: [0; 120],
+        }
+    }
+
+    fn zeroize(&mut self) {
+        fotsgure_aes_wipe(self);
+    }
 }
 
 /// The stored round keys of a struct.
@@ -81,9 +97,14 @@ fn keep<K: KeyExpansion>(aes: &mut Aes, key: &K::Key)
 /// Returns how many bytes the key has, or 0 if the struct holds no key.
 #[unsafe(no_mangle)]
 pub extern "C" fn fotsgure_aes_key_length(aes: &Aes) -> usize
-    ensures { result ≡ aes.now.key_length }
+    ensures key { IsKeyLength aes.now.key_length → result ≡ aes.now.key_length }
+    ensures none { ¬ IsKeyLength aes.now.key_length → result ≡ 0 }
 {
-    aes.key_length as usize
+    if holds_key(aes) {
+        aes.key_length as usize
+    } else {
+        0
+    }
 }
 
 /// Overwrites the struct with zeros: it then holds no key.
@@ -93,11 +114,5 @@ pub extern "C" fn fotsgure_aes_wipe(aes: &mut Aes)
     ensures words { aes.new.words ≡ replicate 120 0 }
 {
     aes.key_length = 0;
-    zeroize_words(&mut aes.words);
-    are_words(aes.words);
+    zeroize_elements(&mut aes.words);
 }
-
-// No effect; states that words of sixteen bits are numbers below 2 ^ 16.
-fn are_words(words: [u16; 120])
-    ensures { (i : ℕ) → i < length words → slice_index words i < 2 ^ 16 }
-{}

@@ -1,26 +1,19 @@
 //! Calls that take a key and keep none of it.
 
-ghost use Rattle.std.specs.Prelude.{◌≡◌, ◌≢◌, ◌↔◌, ◌+◌, ◌-◌, ◌^◌, ◌<◌, ◌≤◌, length, replicate};
+ghost use Rattle.std.specs.Prelude.{◌≡◌, ◌≢◌, ◌↔◌, ◌+◌, ◌-◌, ◌^◌, ◌<◌, ◌≤◌, length};
 ghost use Rattle.aes_planes.specs.Each.{Each};
 ghost use Rattle.aes_planes.specs.Fips197 as fips;
 ghost use Rattle.aes_ctr.specs.CounterMode.{keystream_byte, plus_stream};
 ghost use Rattle.aes_c.specs.Kept.{IsKeyLength};
 
 use crate::blocks::process_under;
-use crate::kept::{Aes, fotsgure_aes_set_key, fotsgure_aes_wipe};
+use crate::kept::{Aes, fotsgure_aes_set_key};
 use crate::status::{DONE, KEY_LENGTH, KEYSTREAM_END};
 use crate::stream::{Ctr, fotsgure_aes_add_keystream};
 use aes_cipher::cipher::{Decrypt, Encrypt};
+use aes_cipher::zeroize::Held;
 use aes_planes::soft::word::Block;
 use aes_soft::soft::FullCipher;
-
-// Takes a struct that is wiped, and no other: a body that ends in this call is proved to have wiped it. No contract asks
-// for the call.
-fn consume_wiped(aes: &Aes)
-    requires wiped { aes.now.words ≡ replicate 120 0 }
-{
-    let _ = aes;
-}
 
 // Encrypts or decrypts every block of a slice under a key, whose schedule is wiped before the call returns.
 fn process_with<D: FullCipher>(key: &[u8], blocks: &mut [Block]) -> u32
@@ -29,16 +22,12 @@ fn process_with<D: FullCipher>(key: &[u8], blocks: &mut [Block]) -> u32
     ensures blocks { result ≡ DONE → Each (D.processed (fips.key_expansion key.now)) blocks.old blocks.new }
     ensures untouched { result ≢ DONE → blocks.new ≡ blocks.old }
 {
-    let mut kept = Aes {
-        key_length: 0,
-        words: [0; 120],
-    };
-    if fotsgure_aes_set_key(&mut kept, key) != DONE {
+    let mut kept = Held::<Aes>::zeroed();
+    if fotsgure_aes_set_key(kept.words_mut(), key) != DONE {
         return KEY_LENGTH;
     }
-    let status = process_under::<D>(&kept, blocks);
-    fotsgure_aes_wipe(&mut kept);
-    consume_wiped(&kept);
+    let status = process_under::<D>(kept.words(), blocks);
+    kept.wipe();
     status
 }
 
@@ -86,15 +75,11 @@ pub extern "C" fn fotsgure_aes_add_keystream_with(
     ensures unmoved { result ≢ DONE → ctr.new.position ≡ ctr.old.position }
     ensures untouched { result ≢ DONE → bytes.new ≡ bytes.old }
 {
-    let mut aes = Aes {
-        key_length: 0,
-        words: [0; 120],
-    };
-    if fotsgure_aes_set_key(&mut aes, key) != DONE {
+    let mut kept = Held::<Aes>::zeroed();
+    if fotsgure_aes_set_key(kept.words_mut(), key) != DONE {
         return KEY_LENGTH;
     }
-    let status = fotsgure_aes_add_keystream(&aes, ctr, bytes);
-    fotsgure_aes_wipe(&mut aes);
-    consume_wiped(&aes);
+    let status = fotsgure_aes_add_keystream(kept.words(), ctr, bytes);
+    kept.wipe();
     status
 }

@@ -59,7 +59,7 @@ pub extern "C" fn fotsgure_aes_add_keystream(aes: &Aes, ctr: &mut Ctr, bytes: &m
     status
 }
 
-/// Leaves in one buffer the bytes of another plus the keystream's, and moves the position on. Returns `UNEQUAL_COUNTS`
+/// Writes to one buffer the bytes of another plus the keystream's, and moves the position on. Returns `UNEQUAL_COUNTS`
 /// exactly if the buffers differ in length, and else what `fotsgure_aes_add_keystream` returns.
 #[unsafe(no_mangle)]
 pub extern "C" fn fotsgure_aes_add_keystream_to(

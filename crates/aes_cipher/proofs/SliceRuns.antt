@@ -1,6 +1,9 @@
--- Loops that leave f of every element of a slice, a run of elements at a time or one: what stays the same while they run.
-use Rattle.std.proofs.Common.{◌≡◌, ℕ, ◌+◌, ◌≤◌, ◌<◌, List, [], ◌∷◌, ◌++◌, map, take, drop, set, get_or, length, sym, ap, ◌∙◌, arith, append_assoc}
-use Rattle.std.proofs.lemmas.List.{map-append, drop-drop, take-append-drop, take_more_set, drop_more, length-map, length-take, length-drop, drop-set-lt}
+-- Loops that leave f of every element of a slice, a run of elements at a time or one: what stays the same while they
+-- run.
+use Rattle.std.proofs.Common.{◌≡◌, ℕ, ◌+◌, ◌≤◌, ◌<◌, List, [], ◌∷◌, ◌++◌, map, take, drop, set, get_or, length, sym, ap}
+use Rattle.std.proofs.Common.{◌∙◌, arith, append_assoc}
+use Rattle.std.proofs.lemmas.List.{map-append, drop-drop, take-append-drop, take_more_set, drop_more, length-map}
+use Rattle.std.proofs.lemmas.List.{length-take, length-drop, drop-set-lt}
 use Rattle.std.proofs.lemmas.Slice.{take-put_mid, drop-put_mid}
 use borrow.Rule.Slice.PartMut.{put_mid}
 
@@ -9,17 +12,24 @@ abbrev pub finished : {X : Type 0} → (X → X) → ℕ → List X → List X
 finished f i xs = take i xs ++ map f (drop i xs)
 
 -- f of a run of n elements from place i on, written in their places
-pub finished_run : {X : Type 0} (f : X → X) (i n k : ℕ) (xs ys : List X) → k ≡ n → i + n ≤ length xs → ys ≡ map f (take k (drop i xs)) → finished f (i + n) (put_mid i k xs ys) ≡ finished f i xs
+pub finished_run : {X : Type 0} (f : X → X) (i n k : ℕ) (xs ys : List X) → k ≡ n → i + n ≤ length xs → ys
+    ≡ map f (take k (drop i xs)) → finished f (i + n) (put_mid i k xs ys) ≡ finished f i xs
 finished_run f i n k xs ys same fits is =
-    let long : length ys ≡ n = ap length is ∙ length-map (take k (drop i xs)) f ∙ omega (arith, length-take k (drop i xs), length-drop i xs) in
-    let front : take (i + n) (put_mid i k xs ys) ≡ take i xs ++ ys = take-put_mid i k xs ys (i + n) (omega arith) (omega arith) in
-    let back : drop (i + n) (put_mid i k xs ys) ≡ drop (i + n) xs = drop-put_mid i k xs ys (i + n) (omega arith) (omega arith) (omega arith) in
+    let long : length ys ≡ n = ap length is ∙ length-map (take k (drop i xs)) f
+    ∙ omega (arith, length-take k (drop i xs), length-drop i xs) in
+    let front : take (i + n) (put_mid i k xs ys) ≡ take i xs ++ ys = take-put_mid i k xs ys (i + n) (omega arith)
+    (omega arith) in
+    let back : drop (i + n) (put_mid i k xs ys) ≡ drop (i + n) xs = drop-put_mid i k xs ys (i + n) (omega arith)
+    (omega arith) (omega arith) in
     let split : drop (i + n) xs ≡ drop k (drop i xs) = ap (λ m. drop (i + m) xs) (sym same) ∙ sym (drop-drop k i xs) in
-    let rest : ys ++ map f (drop k (drop i xs)) ≡ map f (drop i xs) = ap (λ l. l ++ map f (drop k (drop i xs))) is ∙ sym (map-append f (take k (drop i xs)) (drop k (drop i xs))) ∙ ap (map f) (take-append-drop k (drop i xs)) in
-    ap (λ l. l ++ map f (drop (i + n) (put_mid i k xs ys))) front ∙ ap (λ l. (take i xs ++ ys) ++ map f l) (back ∙ split) ∙ append_assoc (take i xs) ys _ ∙ ap (λ l. take i xs ++ l) rest
+    let rest : ys ++ map f (drop k (drop i xs)) ≡ map f (drop i xs) = ap (λ l. l ++ map f (drop k (drop i xs))) is
+    ∙ sym (map-append f (take k (drop i xs)) (drop k (drop i xs))) ∙ ap (map f) (take-append-drop k (drop i xs)) in
+    ap (λ l. l ++ map f (drop (i + n) (put_mid i k xs ys))) front ∙ ap (λ l. (take i xs ++ ys) ++ map f l)
+    (back ∙ split) ∙ append_assoc (take i xs) ys _ ∙ ap (λ l. take i xs ++ l) rest
 
 -- f of the element at place i, written there
-pub finished_one : {X : Type 0} (f : X → X) (i : ℕ) (xs : List X) (d : X) → i < length xs → finished f (i + 1) (set xs i (f (get_or xs i d))) ≡ finished f i xs
+pub finished_one : {X : Type 0} (f : X → X) (i : ℕ) (xs : List X) (d : X) → i < length xs
+    → finished f (i + 1) (set xs i (f (get_or xs i d))) ≡ finished f i xs
 finished_one f i xs d fits =
     let y = f (get_or xs i d) in
     ap (λ l. l ++ map f (drop (i + 1) (set xs i y))) (take_more_set xs i y fits)

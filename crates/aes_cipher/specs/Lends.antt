@@ -1,13 +1,14 @@
--- Words that are lent to be written over.
-use Rattle.std.specs.Prelude.{ℕ, List}
-use Rattle.std.specs.Borrow.{Lends, Fml, RattleType, MutBor, Array, u16}
+-- Values that are lent to be written over.
+use Rattle.std.specs.Borrow.{Lends, Fml, RattleType, MutBor}
+use Rattle.aes_cipher.specs.declared.zeroize.Zeroize.{Ghosts}
 use Rattle.aes_cipher.specs.contracts.zeroize.Wiped as wiped
 use Rattle.aes_cipher.specs.contracts.zeroize.held.Held as held
 
--- once the borrow ends, the words are what was written through it
-abbrev pub lends_words : RattleType → MutBor (List ℕ) → MutBor (List ℕ) → Fml
-lends_words N words r = Lends (wiped.the_row N) (Array u16 0) words r (λ written. written)
+module _ (V : RattleType) (zeroize : Ghosts V.Denot) (value : MutBor V.Denot) where
+  -- once the borrow r ends, the value that is wiped when it is dropped is what was written through r
+  abbrev pub lends_words : MutBor V.Denot → Fml
+  lends_words r = Lends (wiped.the_row V zeroize) V value r (λ written. written)
 
--- the same of the words that a wiped value holds
-abbrev pub lends_held : RattleType → MutBor (List ℕ) → MutBor (List ℕ) → Fml
-lends_held N words r = Lends (held.the_row N) (Array u16 0) words r (λ written. written)
+  -- the same of a value that is dropped as zeros alone
+  abbrev pub lends_held : MutBor V.Denot → Fml
+  lends_held r = Lends (held.the_row V zeroize) V value r (λ written. written)

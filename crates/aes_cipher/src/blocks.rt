@@ -1,4 +1,4 @@
-//! What modes of operation need of blocks: sums, a comparison for tags, numbers and halves as blocks.
+//! Operations on blocks for modes of operation: sums, a comparison for tags, numbers and halves as blocks.
 
 ghost use Rattle.std.specs.Prelude.{◌≡◌, ◌↔◌, ℕ, ◌<◌, ◌^◌, List, ◌++◌, length, take, drop, IsTrue};
 ghost use Rattle.std.specs.Int.{w128, to_be_bytes, from_be_bytes};
@@ -20,8 +20,8 @@ pub fn sum_of_blocks(a: &Block, b: &Block) -> Block
     sum.to_array()
 }
 
-/// Tells whether two blocks are equal. Every byte is read, whatever the bytes are: what it costs doesn't tell where two
-/// blocks differ, which a comparison of tags must not.
+/// Returns whether two blocks are equal. It always reads every byte, without an early exit at the first difference, so
+/// it suits comparing tags.
 pub fn blocks_equal(a: &Block, b: &Block) -> bool
     ensures { IsTrue result ↔ (a.now ≡ b.now) }
 {
@@ -32,7 +32,7 @@ pub fn blocks_equal(a: &Block, b: &Block) -> bool
     difference == 0
 }
 
-/// Returns the block of a number, its highest byte first.
+/// Returns the number as a block, its highest byte first.
 #[inline(always)]
 pub fn block_of_number(number: u128) -> Block
     ensures block { result ≡ to_be_bytes w128 number }
@@ -42,7 +42,7 @@ pub fn block_of_number(number: u128) -> Block
     number.to_be_bytes()
 }
 
-/// Returns the number of a block, whose highest byte is the first.
+/// Returns the block as a number, its first byte the highest.
 #[inline(always)]
 pub fn number_of_block(block: &Block) -> u128
     ensures number { result ≡ from_be_bytes w128 block.now }
@@ -53,7 +53,7 @@ pub fn number_of_block(block: &Block) -> u128
     u128::from_be_bytes(*block)
 }
 
-/// Returns the block of two halves, the first of them first.
+/// Returns the block that the two halves form, in this order.
 #[inline(always)]
 pub fn block_of_halves(first: &[u8; 8], second: &[u8; 8]) -> Block
     ensures { result ≡ first.now ++ second.now }
@@ -81,15 +81,15 @@ pub fn halves_of_block(block: &Block) -> ([u8; 8], [u8; 8])
     (first, second)
 }
 
-/// No effect; states that numbers below 2^128 and blocks are each other's: the way there and back changes neither.
+/// No effect; states that numbers below 2^128 and blocks correspond: converting there and back changes neither.
 pub fn numbers_as_blocks()
     ensures block { (number : ℕ) → fips.IsBlock (to_be_bytes w128 number) }
     ensures number { (number : ℕ) → number < 2 ^ 128 → from_be_bytes w128 (to_be_bytes w128 number) ≡ number }
     ensures back { (block : List ℕ) → fips.IsBlock block → to_be_bytes w128 (from_be_bytes w128 block) ≡ block }
 {}
 
-/// No effect; states that two halves of eight bytes make a block, that it falls into them again, and that a block is
-/// its halves.
+/// No effect; states that two halves of eight bytes form a block, that it splits into them again, and that a block is
+/// its halves joined.
 pub fn halves_and_blocks()
     ensures block { (first second : List ℕ) → length first ≡ 8 → fips.IsBytes first →
         length second ≡ 8 → fips.IsBytes second → fips.IsBlock (first ++ second) }

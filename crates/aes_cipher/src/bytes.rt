@@ -1,6 +1,7 @@
-//! Bytes that are blocks, one after another: calls that work on them in place, and the laws of such bytes.
+//! Bytes as blocks, one after another: calls that encrypt and decrypt them in place, and their laws.
 
-ghost use Rattle.std.specs.Prelude.{◌≡◌, ◌≢◌, ◌↔◌, ℕ, ◌*◌, ◌+◌, ◌/◌, ◌%◌, ◌<◌, List, [], length, slice_index, slice_index_or, IsErr, OnOk, OnErr};
+ghost use Rattle.std.specs.Prelude.{◌≡◌, ◌≢◌, ◌↔◌, ℕ, ◌*◌, ◌+◌, ◌/◌, ◌%◌, ◌<◌, List, [], length, slice_index};
+ghost use Rattle.std.specs.Prelude.{slice_index_or, IsErr, OnOk, OnErr};
 ghost use Rattle.std.specs.List.{concat};
 ghost use Rattle.aes_planes.specs.Each.{Each};
 ghost use Rattle.aes_planes.specs.Fips197 as fips;
@@ -13,15 +14,15 @@ mod work;
 use crate::cipher::{BlockCipherDecrypt, BlockCipherEncrypt};
 use work::{Decrypting, Encrypting, work_on_bytes};
 
-/// Bytes that should have been blocks end inside one.
+/// The length of the bytes is no multiple of 16.
 #[derive(Debug, Clone, Copy, PartialEq, Eq)]
 pub struct PartialBlock;
 
-/// Encrypts bytes in place, block by block: leaves Cipher of each, under the value's round keys (FIPS 197, 5.1).
+/// Encrypts bytes in place, block by block, under the value's round keys (Cipher, FIPS 197, 5.1).
 ///
 /// # Errors
 ///
-/// `PartialBlock` exactly where the length is no multiple of 16; the bytes are then what they were.
+/// `PartialBlock` exactly if the length is no multiple of 16; the bytes are then unchanged.
 pub fn encrypt_bytes<C: BlockCipherEncrypt>(
     cipher: &C,
     bytes: &mut [u8],
@@ -34,11 +35,11 @@ pub fn encrypt_bytes<C: BlockCipherEncrypt>(
     work_on_bytes(&Encrypting { cipher }, bytes)
 }
 
-/// Decrypts bytes in place, block by block: leaves InvCipher of each, under the value's round keys (FIPS 197, 5.3).
+/// Decrypts bytes in place, block by block, under the value's round keys (InvCipher, FIPS 197, 5.3).
 ///
 /// # Errors
 ///
-/// `PartialBlock` exactly where the length is no multiple of 16; the bytes are then what they were.
+/// `PartialBlock` exactly if the length is no multiple of 16; the bytes are then unchanged.
 pub fn decrypt_bytes<C: BlockCipherDecrypt>(
     cipher: &C,
     bytes: &mut [u8],
@@ -51,8 +52,8 @@ pub fn decrypt_bytes<C: BlockCipherDecrypt>(
     work_on_bytes(&Decrypting { cipher }, bytes)
 }
 
-/// No effect; states how bytes and their blocks hang together: whole blocks, joined, are the bytes; joined blocks hold
-/// those blocks; there is a block for every sixteen bytes; byte j of block i, and byte i of joined blocks.
+/// No effect; states how bytes and their blocks correspond: whole blocks, joined, are the bytes; joined blocks split
+/// into those blocks again; there is a block for every sixteen bytes; byte j of block i, and byte i of joined blocks.
 pub fn blocks_and_bytes()
     ensures joined { (bytes : List ℕ) → length bytes % 16 ≡ 0 → concat (blocks_of bytes) ≡ bytes }
     ensures parted { (blocks : List (List ℕ)) → Sixteens blocks → blocks_of (concat blocks) ≡ blocks }

@@ -1,18 +1,47 @@
-//! Words that are set to zero when they are no longer needed.
+//! Words, and other values, that are overwritten with zeros when they are no longer needed.
 
-ghost use Rattle.std.specs.Prelude.{◌≡◌, ℕ, List, false, length, map, replicate};
+ghost use Rattle.std.specs.Prelude.{◌≡◌, ℕ, false, length, map, replicate};
 
+mod elements;
 mod held;
 #[cfg(test)]
 mod tests;
 
 use aes_planes::soft::word::Word;
-use held::Held;
+pub use elements::{Element, zeroize_elements};
+pub use held::Held;
 use std::marker::Model;
 use std::sync::atomic::{AtomicU64, Ordering};
 
-/// A mark: the words that a value holds are set to zero when it is dropped.
+/// A mark: what a value holds is overwritten with zeros when it is dropped.
 pub trait ZeroizeOnDrop {}
+
+/// A value that can be overwritten with zeros where it stands.
+pub trait Zeroize: Drop {
+    /// The value whose bits are all 0.
+    ghost ZERO: { Self };
+
+    /// Returns the value whose bits are all 0.
+    fn zero() -> Self
+        ensures { result ≡ ZERO };
+
+    /// Overwrites the value with zeros, in place.
+    fn zeroize(&mut self)
+        ensures { self.new ≡ ZERO };
+}
+
+impl<E: Element, const N: usize> Zeroize for [E; N] {
+    ghost ZERO = { replicate N E.ZERO };
+
+    #[inline(always)]
+    fn zero() -> [E; N] {
+        [E::zero(); N]
+    }
+
+    fn zeroize(&mut self) {
+        zeroize_elements::<E>(self);
+    }
+}
 
 /// Sets every bit of every word to 0.
 ///
@@ -23,87 +52,110 @@ pub fn zeroize_words<W: Word>(words: &mut [W])
 {
     let seen = AtomicU64::new(0);
     observe(words, &seen);
-    let zero = W::zero();
-    for word in words.iter_mut() {
-        *word = zero;
-    }
+    overwrite(words, W::zero());
     observe(words, &seen);
 }
 
-// Reads the first word, at a place that comes out of an atomic: `seen` holds 0 by then, which no compiler can count on.
-// What it held before, perhaps a byte of a secret, is cleared first: it must not become a place.
+// Writes an element over every one of a slice.
+#[inline(always)]
+fn overwrite<E: Copy>(elements: &mut [E], element: E)
+    ensures { elements.new ≡ replicate (length elements.old) element }
+{
+    for place in elements.iter_mut() {
+        *place = element;
+    }
+}
+
+// Reads the first word, at a place that the compiler can't know.
 fn observe<W: Word>(words: &[W], seen: &AtomicU64) {
-    seen.swap(0, Ordering::SeqCst);
-    let place = seen.swap(0, Ordering::SeqCst) as usize;
+    let place = hidden_place(seen);
     if place < words.len() {
         seen.swap(words[place].low_byte() as u64, Ordering::SeqCst);
     }
 }
 
-/// Words that are set to zero when the value is dropped: what stands inside has a drop of its own, which requires that
-/// they are zero by then. They are neither `Copy` nor `Clone`. Contracts see a value as its words.
-pub struct Wiped<const N: usize> {
-    held: Held<N>,
+// Returns 0, which comes out of an atomic: no compiler can count on it. What the atomic held before, perhaps a byte of
+// a secret, is cleared first: it must not become a place.
+fn hidden_place(seen: &AtomicU64) -> usize {
+    seen.swap(0, Ordering::SeqCst);
+    seen.swap(0, Ordering::SeqCst) as usize
 }
 
-impl<const N: usize> Model for Wiped<N> {
-    ghost Value = { List ℕ };
+/// A value that is overwritten with zeros when it is dropped: what stands inside has a drop of its own, which requires
+/// that it is zero by then. It is neither `Copy` nor `Clone`. Contracts see the value.
+pub struct Wiped<V: Zeroize> {
+    held: Held<V>,
+}
+
+impl<V: Zeroize> Model for Wiped<V> {
+    ghost Value = { V };
 
     ghost view = { λ wiped. wiped.held };
 }
 
-impl<const N: usize> Wiped<N> {
+impl<V: Zeroize> Wiped<V> {
     ghost use Rattle.std.specs.Borrow.{sem};
     ghost use Rattle.aes_cipher.specs.Lends.{lends_words};
 
-    /// A value that holds the words.
+    /// Takes a value.
     #[inline(always)]
-    pub fn new(words: [u16; N]) -> Wiped<N>
-        ensures { result ≡ words.entry }
+    pub fn new(value: V) -> Wiped<V>
+        ensures { result ≡ value }
     {
         Wiped {
-            held: Held::new(words),
+            held: Held::new(value),
         }
     }
 
-    /// Lends the words.
+    /// Returns zeros, to be written over.
     #[inline(always)]
-    pub fn words(&self) -> &[u16; N]
+    pub fn zeroed() -> Wiped<V>
+        ensures { result ≡ V.ZERO }
+    {
+        Wiped::new(V::zero())
+    }
+
+    /// Lends the value.
+    #[inline(always)]
+    pub fn words(&self) -> &V
         ensures { result.now ≡ self.now }
     {
         self.held.words()
     }
 
-    /// Sets every word to zero.
+    /// Overwrites the value with zeros.
+    #[inline(always)]
     pub fn wipe(&mut self)
-        ensures { self.new ≡ replicate N 0 }
+        ensures { self.new ≡ V.ZERO }
     {
         self.held.wipe();
     }
 
-    /// Lends the words to be written over.
+    /// Lends the value to be written over.
     #[inline(always)]
-    pub fn words_mut(&mut self) -> &mut [u16]
-        ensures* writes_back { sem 𝓛 (lends_words N.row self.entry result) }
+    pub fn words_mut(&mut self) -> &mut V
+        ensures* writes_back { sem 𝓛 (lends_words V.row V.Zeroize self.entry result) }
         ensures words { result.now ≡ self.old }
-        ensures sized { length result.now ≡ N }
     {
         self.held.words_mut()
     }
+}
 
-    /// The same words once more, in a value that is wiped by itself.
-    pub fn copy(&self) -> Wiped<N>
+impl<V: Zeroize + Copy> Wiped<V> {
+    /// Returns the same value once more, which is wiped by itself.
+    pub fn copy(&self) -> Wiped<V>
         ensures { result ≡ self.now }
     {
         Wiped::new(*self.words())
     }
 }
 
-impl<const N: usize> Drop for Wiped<N> {
+impl<V: Zeroize> Drop for Wiped<V> {
+    #[inline(always)]
     fn drop(mut self) {
         self.wipe();
         let Wiped { held: _ } = self;
     }
 }
 
-impl<const N: usize> ZeroizeOnDrop for Wiped<N> {}
+impl<V: Zeroize> ZeroizeOnDrop for Wiped<V> {}

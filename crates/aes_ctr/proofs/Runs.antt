@@ -1,12 +1,15 @@
 -- Loops that add a stream to a list, a run of bytes at a time or one: what stays the same while they run.
-use Rattle.std.proofs.Common.{◌≡◌, ℕ, ◌+◌, ◌≤◌, ◌<◌, List, [], ◌∷◌, ◌++◌, take, drop, set, get_or, length, bit_xor, sym, ap, ◌∙◌, arith, append_assoc}
-use Rattle.std.proofs.lemmas.List.{append-nil, drop-drop, take-append-drop, take_more_set, drop_more, take_all, drop_all, length-take, length-drop, drop-set-lt}
+use Rattle.std.proofs.Common.{◌≡◌, ℕ, ◌+◌, ◌≤◌, ◌<◌, List, [], ◌∷◌, ◌++◌, take, drop, set, get_or, length, bit_xor, sym}
+use Rattle.std.proofs.Common.{ap, ◌∙◌, arith, append_assoc}
+use Rattle.std.proofs.lemmas.List.{append-nil, drop-drop, take-append-drop, take_more_set, drop_more, take_all}
+use Rattle.std.proofs.lemmas.List.{drop_all, length-take, length-drop, drop-set-lt}
 use Rattle.std.proofs.lemmas.Slice.{take-put_mid, drop-put_mid}
 use Rattle.aes_ctr.specs.CounterMode.{plus_stream}
 use Rattle.aes_ctr.proofs.Sums.{length-plus, plus-agree, plus-nil, plus-cons, plus-append}
 use borrow.Rule.Slice.PartMut.{put_mid}
 
--- what a loop leaves in the end that has come to place i: the bytes before it, and the sum of the stream and those from it on
+-- what a loop leaves in the end that has come to place i: the bytes before it, and the sum of the stream and those from
+-- it on
 abbrev pub added_from : (ℕ → ℕ) → ℕ → ℕ → List ℕ → List ℕ
 added_from s p i xs = take i xs ++ plus_stream s (p + i) (drop i xs)
 
@@ -20,7 +23,8 @@ added_run s t p q i n k xs ys same fits is agree =
     let long : length ys ≡ n = ap length is ∙ length-plus t q (take k (drop i xs)) ∙ part in
     let sum : ys ≡ plus_stream s (p + i) (take k (drop i xs)) =
     is ∙ plus-agree t s q (p + i) (take k (drop i xs)) (λ j inside. agree j (omega arith)) in
-    let front : take (i + n) (put_mid i k xs ys) ≡ take i xs ++ ys = take-put_mid i k xs ys (i + n) (omega arith) (omega arith) in
+    let front : take (i + n) (put_mid i k xs ys) ≡ take i xs ++ ys = take-put_mid i k xs ys (i + n) (omega arith)
+    (omega arith) in
     let back : drop (i + n) (put_mid i k xs ys) ≡ drop (i + n) xs =
     drop-put_mid i k xs ys (i + n) (omega arith) (omega arith) (omega arith) in
     let split : drop (i + n) xs ≡ drop k (drop i xs) = ap (λ m. drop (i + m) xs) (sym same) ∙ sym (drop-drop k i xs) in

@@ -1,5 +1,6 @@
 -- Sums of bytes and a stream: byte by byte, and piece by piece.
-use Rattle.std.proofs.Common.{◌≡◌, ℕ, zero, suc, ◌+◌, ◌<◌, List, [], ◌∷◌, ◌++◌, length, get_or, take, bit_xor, slice_index, refl, sym, ap, ◌∙◌, arith}
+use Rattle.std.proofs.Common.{◌≡◌, ℕ, zero, suc, ◌+◌, ◌<◌, List, [], ◌∷◌, ◌++◌, length, get_or, take, bit_xor}
+use Rattle.std.proofs.Common.{slice_index, refl, sym, ap, ◌∙◌, arith}
 use Rattle.std.proofs.lemmas.List.{take_all}
 use Rattle.std.proofs.lemmas.Simd.{length-zip2, get_or-zip2, put_chunk_whole}
 use lib.Lanes.{zip2, put_chunk}
@@ -26,23 +27,31 @@ plus_is s p xs ys l h = build_is (length xs) _ ys 0 l h
 pub plus-nil : (s : ℕ → ℕ) (p : ℕ) → plus_stream s p [] ≡ []
 plus-nil s p = plus_is s p [] [] refl (λ i h. absurd (omega arith))
 
-pub plus-cons : (s : ℕ → ℕ) (p x : ℕ) (xs : List ℕ) → plus_stream s p (x ∷ xs) ≡ bit_xor x (s p) ∷ plus_stream s (p + 1) xs
-plus-cons s p x xs = plus_is s p (x ∷ xs) (bit_xor x (s p) ∷ plus_stream s (p + 1) xs) (ap suc (length-plus s (p + 1) xs)) places
+pub plus-cons : (s : ℕ → ℕ) (p x : ℕ) (xs : List ℕ) → plus_stream s p (x ∷ xs) ≡ bit_xor x (s p)
+    ∷ plus_stream s (p + 1) xs
+plus-cons s p x xs = plus_is s p (x ∷ xs) (bit_xor x (s p) ∷ plus_stream s (p + 1) xs)
+    (ap suc (length-plus s (p + 1) xs)) places
   where
-    places : (i : ℕ) → i < suc (length xs) → bit_xor (get_or (x ∷ xs) i 0) (s (p + i)) ≡ get_or (bit_xor x (s p) ∷ plus_stream s (p + 1) xs) i 0
+    places : (i : ℕ) → i < suc (length xs) → bit_xor (get_or (x ∷ xs) i 0) (s (p + i))
+        ≡ get_or (bit_xor x (s p) ∷ plus_stream s (p + 1) xs) i 0
     places zero h = ap (λ m. bit_xor x (s m)) (omega arith)
-    places (suc i) h = ap (λ m. bit_xor (get_or xs i 0) (s m)) (omega arith) ∙ sym (get_or-plus s (p + 1) xs i (omega arith))
+    places (suc i) h = ap (λ m. bit_xor (get_or xs i 0) (s m)) (omega arith)
+        ∙ sym (get_or-plus s (p + 1) xs i (omega arith))
 
-pub plus-append : (s : ℕ → ℕ) (p : ℕ) (xs ys : List ℕ) → plus_stream s p (xs ++ ys) ≡ plus_stream s p xs ++ plus_stream s (p + length xs) ys
-plus-append s p [] ys = ap (λ m. plus_stream s m ys) (omega arith) ∙ ap (λ l. l ++ plus_stream s (p + 0) ys) (sym (plus-nil s p))
+pub plus-append : (s : ℕ → ℕ) (p : ℕ) (xs ys : List ℕ) → plus_stream s p (xs ++ ys) ≡ plus_stream s p xs
+    ++ plus_stream s (p + length xs) ys
+plus-append s p [] ys = ap (λ m. plus_stream s m ys) (omega arith) ∙ ap (λ l. l ++ plus_stream s (p + 0) ys)
+    (sym (plus-nil s p))
 plus-append s p (x ∷ xs) ys =
     let first : List ℕ → List ℕ = λ l. bit_xor x (s p) ∷ l in
     let rest : plus_stream s (p + 1) (xs ++ ys) ≡ plus_stream s (p + 1) xs ++ plus_stream s (p + suc (length xs)) ys =
     plus-append s (p + 1) xs ys ∙ ap (λ m. plus_stream s (p + 1) xs ++ plus_stream s m ys) (omega arith) in
-    plus-cons s p x (xs ++ ys) ∙ ap first rest ∙ ap (λ l. l ++ plus_stream s (p + suc (length xs)) ys) (sym (plus-cons s p x xs))
+    plus-cons s p x (xs ++ ys) ∙ ap first rest ∙ ap (λ l. l ++ plus_stream s (p + suc (length xs)) ys)
+    (sym (plus-cons s p x xs))
 
 -- two streams that agree at the places of a list, each at its own, leave the same sum
-pub plus-agree : (s t : ℕ → ℕ) (p q : ℕ) (xs : List ℕ) → ((i : ℕ) → i < length xs → s (p + i) ≡ t (q + i)) → plus_stream s p xs ≡ plus_stream t q xs
+pub plus-agree : (s t : ℕ → ℕ) (p q : ℕ) (xs : List ℕ) → ((i : ℕ) → i < length xs → s (p + i) ≡ t (q + i))
+    → plus_stream s p xs ≡ plus_stream t q xs
 plus-agree s t p q xs same =
     plus_is s p xs (plus_stream t q xs) (length-plus t q xs)
     (λ i h. ap (bit_xor (get_or xs i 0)) (same i h) ∙ sym (get_or-plus t q xs i h))
@@ -57,11 +66,13 @@ plus-twice s p xs =
     ∙ xor_zero_r (get_or xs i 0))
 
 -- pieces plus a stream, joined, are the joined pieces plus the stream
-pub plus-pieces : (s : ℕ → ℕ) (p : ℕ) (pieces : List (List ℕ)) → concat (pieces_plus_stream s p pieces) ≡ plus_stream s p (concat pieces)
+pub plus-pieces : (s : ℕ → ℕ) (p : ℕ) (pieces : List (List ℕ)) → concat (pieces_plus_stream s p pieces)
+    ≡ plus_stream s p (concat pieces)
 unfolding pieces_plus_stream
 plus-pieces s p [] = sym (plus-nil s p)
 plus-pieces s p (piece ∷ pieces) =
-    ap (λ l. plus_stream s p piece ++ l) (plus-pieces s (p + length piece) pieces) ∙ sym (plus-append s p piece (concat pieces))
+    ap (λ l. plus_stream s p piece ++ l) (plus-pieces s (p + length piece) pieces)
+    ∙ sym (plus-append s p piece (concat pieces))
 
 -- the sums of sixteen bytes and a block, as vectors make them
 pub plus-whole : (xs ys : List ℕ) → length xs ≡ 16 → length ys ≡ 16

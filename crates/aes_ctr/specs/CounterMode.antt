@@ -1,5 +1,5 @@
--- Counter mode (SP 800-38A, 6.5), its counter the whole block, counted on by one (B.1). A byte is a number below 2 ^ 8, a
--- block a list of 16 bytes; Cipher and the sum of two bytes are those of FIPS 197.
+-- Counter mode (SP 800-38A, 6.5), its counter the whole block, counted on by one (B.1). A byte is a number below 2 ^ 8,
+-- a block a list of 16 bytes; Cipher and the sum of two bytes are those of FIPS 197.
 use Rattle.std.specs.Prelude.{ℕ, ◌+◌, ◌/◌, ◌%◌, ◌^◌, List, [], ◌∷◌, length, slice_index}
 use Rattle.std.specs.Int.{w128, to_be_bytes, from_be_bytes}
 use Rattle.aes_planes.specs.Fips197 as fips
@@ -19,7 +19,8 @@ keystream_byte w iv i = slice_index (fips.cipher_with w (counter_block iv (i / 1
 
 -- as many bytes, and at place i byte i plus the stream's byte at place position + i
 unfoldable pub plus_stream : (ℕ → ℕ) → ℕ → List ℕ → List ℕ
-plus_stream stream position bytes = fips.build (length bytes) (λ i. fips.field_add (slice_index bytes i) (stream (position + i)))
+plus_stream stream position bytes = fips.build (length bytes)
+    (λ i. fips.field_add (slice_index bytes i) (stream (position + i)))
 
 -- pieces plus the stream, each from the place where the one before ended
 unfoldable pub pieces_plus_stream : (ℕ → ℕ) → ℕ → List (List ℕ) → List (List ℕ)

@@ -1,4 +1,4 @@
-//! What counter mode refuses.
+//! The error of counter mode.
 
 /// The keystream ends before the bytes do.
 #[derive(Debug, Clone, Copy, PartialEq, Eq)]

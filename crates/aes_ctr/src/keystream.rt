@@ -8,7 +8,8 @@ ghost use Rattle.aes_ctr.specs.CounterMode.{counter_block};
 use aes_cipher::cipher::{Block, BlockCipherEncBackend, BlockCipherEncrypt};
 use std::simd::prelude::*;
 
-// The bytes of a number, the highest first: by its halves as lanes, since LLVM makes fifty instructions of `to_be_bytes`.
+// The bytes of a number, the highest first: by its halves as lanes, since LLVM makes fifty instructions of
+// `to_be_bytes`.
 #[inline(always)]
 fn block_of(number: u128) -> Block
     ensures { result ≡ to_be_bytes w128 number }
@@ -38,8 +39,8 @@ pub(crate) fn fill_with_keystream<C: BlockCipherEncrypt>(
     first: u64,
     blocks: &mut [Block],
 )
-    ensures { (i : ℕ) → i < length blocks.old →
-        slice_index_or blocks.new i [] ≡ fips.cipher_with (C.round_keys cipher.now) (counter_block iv.now (first + i)) }
+    ensures { (i : ℕ) → i < length blocks.old → slice_index_or blocks.new i []
+        ≡ fips.cipher_with (C.round_keys cipher.now) (counter_block iv.now (first + i)) }
 {
     count_on(iv, first, blocks);
     cipher.encrypt_blocks(blocks);
@@ -53,8 +54,8 @@ pub(crate) fn fill_by_backend<B: BlockCipherEncBackend>(
     first: u64,
     blocks: &mut [Block],
 )
-    ensures { (i : ℕ) → i < length blocks.old →
-        slice_index_or blocks.new i [] ≡ fips.cipher_with (B.round_keys backend.now) (counter_block iv.now (first + i)) }
+    ensures { (i : ℕ) → i < length blocks.old → slice_index_or blocks.new i []
+        ≡ fips.cipher_with (B.round_keys backend.now) (counter_block iv.now (first + i)) }
 {
     count_on(iv, first, blocks);
     if blocks.len() == B::PAR_BLOCKS {

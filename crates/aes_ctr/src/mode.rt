@@ -68,7 +68,7 @@ impl<C: BlockCipherEncrypt> Ctr128BE<C> {
         self.position = position;
     }
 
-    /// Gives the cipher back.
+    /// Returns the cipher.
     pub fn into_inner(self) -> C
         ensures round_keys { C.round_keys result ≡ self.round_keys }
         ensures cipher { result ≡ self.cipher }
@@ -81,7 +81,7 @@ impl<C: BlockCipherEncrypt> Ctr128BE<C> {
         cipher
     }
 
-    /// The position of the next byte of the keystream.
+    /// Returns the position of the next byte of the keystream.
     pub fn position(&self) -> u64
         ensures { result ≡ self.now.position }
     {
@@ -94,10 +94,11 @@ impl<C: BlockCipherEncrypt> Ctr128BE<C> {
     ///
     /// # Errors
     ///
-    /// `KeystreamEnd` exactly where the position would pass 2^64 - 1; bytes and position are then what they were.
+    /// `KeystreamEnd` exactly if the position would exceed 2^64 - 1; bytes and position are then unchanged.
     pub fn try_apply(&mut self, bytes: &mut [u8]) -> Result<(), KeystreamEnd>
         ensures refusal { IsErr result ↔ (2 ^ 64 - 1 < self.old.position + length bytes.old) }
-        ensures added { OnOk result (bytes.new ≡ plus_stream (keystream_byte self.old.round_keys self.old.iv) self.old.position bytes.old) }
+        ensures added { OnOk result (bytes.new ≡ plus_stream (keystream_byte self.old.round_keys self.old.iv)
+            self.old.position bytes.old) }
         ensures moved { OnOk result (self.new.position ≡ self.old.position + length bytes.old) }
         ensures round_keys { self.new.round_keys ≡ self.old.round_keys }
         ensures iv { self.new.iv ≡ self.old.iv }

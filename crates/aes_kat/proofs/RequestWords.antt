@@ -120,3 +120,5 @@ is_no_fault line text e = sym (ap is_err e)
 pub is_one_fault : (line : List ℕ) (problem : Fault) → outcome_of line ≡ Err problem → true ≡ is_fault line
 unfolding is_fault
 is_one_fault line problem e = sym (ap is_err e)
+
+pub ruleset answer_calls = (answer_told, is_no_fault, is_one_fault)

@@ -144,7 +144,7 @@ fn zeros<A: Allocator>(alloc: A, size: usize) -> Result<Vec<u8, A>, Failed>
     Ok(Vec::from_elem(alloc, 0u8, size)?)
 }
 
-/// Answers each line of the input to its end, and returns whether some line was at fault.
+/// Answers each line of the input to its end, and returns whether some line was invalid.
 ///
 /// The answers to the lines that end in one read are written before the next read.
 ///
@@ -185,7 +185,7 @@ pub(crate) fn run_in<A: Allocator, R: Read, W: Write>(
     Err(Failed)
 }
 
-/// The exit status of the program: 0 if every line was answered, 1 if some line was at fault, 2 if the run failed.
+/// Returns the program's exit status: 0 if every line was answered, 1 if some line was invalid, 2 if the run failed.
 pub fn status(answer: &Result<bool, Failed>) -> u8
     ensures { result ≡ status_of answer.now }
 {

@@ -6,7 +6,7 @@ ghost use Rattle.aes_kat.specs.Lines.{parts_at, without_empty_last, lines_of, wo
 /// The parts of a text are the only list of one or more byte lists without the separator that, joined by it, gives the
 /// text. So a line has only one list of words, and a text only one list of lines, from which an empty last one is
 /// dropped.
-#[tactic(auto, using(crate::proofs::Lines::parts_at_joined, crate::proofs::Lines::parts_at_lacking, crate::proofs::Lines::parts_at_only, crate::proofs::Lines::lines_of_only))]
+#[tactic(auto, using(crate::proofs::Lines::line_laws))]
 pub fn parts_are_unique()
     ensures joined { (separator : ℕ) (text : List ℕ) → join_with_byte separator (parts_at separator text) ≡ text }
     ensures lacking { (separator : ℕ) (text : List ℕ) → All (Lacks separator) (parts_at separator text) }

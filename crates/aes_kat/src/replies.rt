@@ -136,7 +136,7 @@ fn answer(line: &[u8], out: &mut ReplyBuffer) -> Result<usize, Fault>
 /// Writes the reply to a line, without its line end, at the front of `out`, which is as long as the longest reply.
 ///
 /// Returns the length of the reply, and whether it reports a fault.
-#[tactic(auto, using(crate::proofs::RequestWords::answer_told, crate::proofs::RequestWords::is_no_fault, crate::proofs::RequestWords::is_one_fault))]
+#[tactic(auto, using(crate::proofs::RequestWords::answer_calls))]
 pub fn reply(line: &[u8], out: &mut [u8; 2048]) -> (usize, bool)
     ensures fits { result.0 ≤ 2048 }
     ensures text { take result.0 out.new ≡ reply_to line.now }

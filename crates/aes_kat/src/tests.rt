@@ -5,7 +5,7 @@ mod faults;
 mod outside;
 mod patience;
 
-use crate::{parts_are_unique, reply, run, status};
+use crate::{examples, parts_are_unique, reply, run, status};
 use std::alloc::Global;
 use std::process::Abort;
 use std::test::Fail;
@@ -84,8 +84,14 @@ fn replies_at_the_front(rt: HostRuntime) -> Result<(), Fail> {
     Ok(())
 }
 
-// The law is the contract of a function that does nothing.
+// The law and the examples are the contracts of functions that do nothing.
 #[test]
-fn states_the_law_of_parts() {
+fn laws_and_examples_can_be_called() {
     parts_are_unique();
+    examples::cipher_replies();
+    examples::round_replies();
+    examples::schedule_reply();
+    examples::fault_replies();
+    examples::size_examples();
+    examples::text_answers();
 }

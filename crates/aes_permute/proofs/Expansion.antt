@@ -1,76 +1,112 @@
 -- Stored round keys, written one by one.
-use Rattle.std.proofs.Common.{◌≡◌, ◌≢◌, ◌⊎◌, inl, inr, ℕ, zero, suc, ◌+◌, ◌<◌, ◌≤◌, ◌==◌, if◌then◌else◌, List, [], length, map, map-id, get_or, set, refl, ap, sym, ◌∙◌, arith, below_more, get_or-set_other, get_or-set_same}
-use Rattle.std.proofs.lemmas.Bool.{cases_lt, eq-eqb, ne_eqb}
+use Rattle.std.proofs.Common.{◌≡◌, ◌≢◌, ℕ, zero, suc, ◌+◌, ◌<◌, ◌≤◌, Bool, true, false, List, [], length, map, map-id}
+use Rattle.std.proofs.Common.{get_or, set, refl, ap, sym, ◌∙◌, arith, below_more, get_or-set_other, get_or-set_same}
 use Rattle.std.proofs.lemmas.List.{length-set}
 use Rattle.aes_planes.specs.Fips197 as fips
 use Rattle.aes_planes.specs.Planes.{plus63}
-use Rattle.aes_planes.proofs.Lists.Built.{build_is}
 use Rattle.aes_planes.proofs.KeySchedule.ExpansionLength.{expansion_length}
-use Rattle.aes_permute.specs.Stored.{as_is, key_untower, round_keys_of}
+use Rattle.aes_permute.specs.Stored.{as_is, place_of, AreWritten}
 
--- what a byte of round key i stands for, where the last is not written yet
-abbrev pub kind : ℕ → ℕ → ℕ
-kind zero = as_is
-kind (suc i) = key_untower
+-- ---- places
 
--- the first n stored round keys stand for those of a list
-abbrev pub Before : List (List ℕ) → List (List ℕ) → ℕ → Type 0
-Before stored w n = (k : ℕ) → k < n → map (kind k) (get_or stored k []) ≡ fips.round_key w k
+pub place_within : (backward : Bool) (last i : ℕ) → i ≤ last → place_of backward last i ≤ last
+place_within true last i h = omega arith
+place_within false last i h = h
 
--- none of them
-pub before_none : (stored w : List (List ℕ)) → Before stored w 0
-before_none stored w = λ k lt. absurd (omega arith)
+place_apart : (backward : Bool) (last i j : ℕ) → i ≤ last → j ≤ last → i ≢ j → place_of backward last i ≢ place_of
+    backward last j
+place_apart true last i j h k ne = omega arith
+place_apart false last i j h k ne = ne
 
--- one more
-put_one : (stored w : List (List ℕ)) (i n : ℕ) (v : List ℕ) → i < length stored → n ≡ i + 1 → map (kind i) v ≡ fips.round_key w i
-    → Before stored w i → Before (set stored i v) w n
-put_one stored w i n v fits e is before =
-    let more : (k : ℕ) → k < i + 1 → map (kind k) (get_or (set stored i v) k []) ≡ fips.round_key w k =
-    below_more _ _
-    (λ k h. let ne : k ≢ i = omega arith in ap (map (kind k)) (get_or-set_other stored i k v [] ne) ∙ before k h)
-    (ap (map (kind i)) (get_or-set_same stored i v [] fits) ∙ is) in
-    λ k h. more k (omega arith)
+-- ---- round keys before the last
 
-kind_inner : (i : ℕ) → 1 ≤ i → kind i ≡ key_untower
-kind_inner zero some = absurd (omega arith)
-kind_inner (suc i) some = refl
+-- what a byte of round key i stands for
+abbrev pub kind : (ℕ → ℕ) → ℕ → ℕ → ℕ
+kind inner zero = as_is
+kind inner (suc i) = inner
 
--- one more between the first and the last
-pub put_inner : (stored w : List (List ℕ)) (i n : ℕ) (v : List ℕ) → 1 ≤ i → i < length stored → n ≡ i + 1 → map key_untower v ≡ fips.round_key w i
-    → Before stored w i → Before (set stored i v) w n
-put_inner stored w i n v some fits e is before = put_one stored w i n v fits e (ap (λ f. map f v) (kind_inner i some) ∙ is) before
+-- what a round uses of it
+abbrev pub due : (List ℕ → List ℕ) → ℕ → List ℕ → List ℕ
+due used zero key = key
+due used (suc i) key = used key
 
--- the first
-pub put_first : (stored w : List (List ℕ)) (v : List ℕ) → 0 < length stored → v ≡ fips.round_key w 0 → Before (set stored 0 v) w 1
-put_first stored w v fits is = put_one stored w 0 1 v fits refl (map-id v ∙ is) (before_none stored w)
+-- the first n round keys of a list stand in their places
+abbrev pub Before : Bool → (ℕ → ℕ) → (List ℕ → List ℕ) → List (List ℕ) → List (List ℕ) → ℕ → ℕ → Type 0
+Before backward inner used stored w last n =
+    (k : ℕ) → k < n → map (kind inner k) (get_or stored (place_of backward last k) []) ≡ due used k (fips.round_key w k)
 
--- and the last
-pub put_last : (key : List ℕ) (stored : List (List ℕ)) (last : ℕ) (v : List ℕ) → 1 ≤ last → length stored ≡ last + 1 → last ≡ fips.rounds key
-    → map plus63 v ≡ fips.round_key (fips.key_expansion key) last → Before stored (fips.key_expansion key) last
-    → round_keys_of as_is key_untower plus63 (set stored last v) ≡ fips.key_expansion key
-unfolding round_keys_of
-put_last key stored last v some l e is before =
-    let w = fips.key_expansion key in
-    let s = set stored last v in
-    let ls : length s ≡ last + 1 = omega (arith, length-set stored last v, l) in
-    let lw : length w ≡ length s = omega (arith, expansion_length key, ls, e) in
-    build_is (length s) (λ i. map (if i == 0 then as_is else if i == fips.last_round s then plus63 else key_untower) (fips.round_key s i)) w [] lw
-    (λ i lt. stored_at i (elim (cases_lt i last) [ inl a ↦ inl a | inr b ↦ inr (omega (arith, b, lt, ls)) ]) (omega (arith, ls)))
-  where
-    stored_at : (i : ℕ) → (i < last) ⊎ (i ≡ last) → last ≡ fips.last_round (set stored last v)
-        → map (if i == 0 then as_is else if i == fips.last_round (set stored last v) then plus63 else key_untower) (fips.round_key (set stored last v) i)
-        ≡ fips.round_key (fips.key_expansion key) i
-    stored_at zero (inl lt) f =
-        let ne : 0 ≢ last = omega arith in
-        ap (map as_is) (get_or-set_other stored last 0 v [] ne) ∙ before 0 lt
-    stored_at (suc i) (inl lt) f =
-        let ne : suc i ≢ last = omega arith in
-        let nf : suc i ≢ fips.last_round (set stored last v) = omega (arith, f, ne) in
-        (λ j. map (if ne_eqb (suc i) 0 (omega arith) j then as_is else if ne_eqb (suc i) (fips.last_round (set stored last v)) nf j then plus63 else key_untower) (fips.round_key (set stored last v) (suc i)))
-        ∙ ap (map key_untower) (get_or-set_other stored last (suc i) v [] ne) ∙ before (suc i) lt
-    stored_at i (inr at) f =
-        let n0 : i ≢ 0 = omega arith in
-        let fits : last < length stored = omega arith in
-        (λ j. map (if ne_eqb i 0 n0 j then as_is else if eq-eqb i (fips.last_round (set stored last v)) (at ∙ f) j then plus63 else key_untower) (fips.round_key (set stored last v) i))
-        ∙ ap (λ n. map plus63 (fips.round_key (set stored last v) n)) at
-        ∙ ap (map plus63) (get_or-set_same stored last v [] fits) ∙ is ∙ ap (fips.round_key (fips.key_expansion key)) (sym at)
+-- the new one is at its place
+put_same : (stored : List (List ℕ)) (i j : ℕ) (v : List ℕ) → j < length stored → j ≡ i → get_or (set stored j v) i []
+    ≡ v
+put_same stored i j v fits e = ap (λ n. get_or (set stored j v) n []) (sym e) ∙ get_or-set_same stored j v [] fits
+
+module _ (backward : Bool) (inner : ℕ → ℕ) (used : List ℕ → List ℕ) (stored w : List (List ℕ)) (last : ℕ) where
+  -- the others are as they were
+  put_other : (i j k : ℕ) (v : List ℕ) → i ≤ last → k < i → j ≡ place_of backward last i
+      → get_or (set stored j v) (place_of backward last k) [] ≡ get_or stored (place_of backward last k) []
+  put_other i j k v fits below e =
+      let ne : k ≢ i = omega arith in
+      get_or-set_other stored j (place_of backward last k) v []
+      (λ p. place_apart backward last k i (omega arith) fits ne (p ∙ e))
+
+  put_one : (i j n : ℕ) (v : List ℕ) → length stored ≡ last + 1 → i ≤ last → j ≡ place_of backward last i → n ≡ i + 1
+      → map (kind inner i) v ≡ due used i (fips.round_key w i)
+      → Before backward inner used stored w last i → Before backward inner used (set stored j v) w last n
+  put_one i j n v l fits e m is before =
+      let room : j < length stored = omega (arith, place_within backward last i fits, e, l) in
+      let more : (k : ℕ) → k < i + 1 → map (kind inner k) (get_or (set stored j v) (place_of backward last k) [])
+      ≡ due used k (fips.round_key w k) =
+      below_more _ _
+      (λ k h. ap (map (kind inner k)) (put_other i j k v fits h e) ∙ before k h)
+      (ap (map (kind inner i)) (put_same stored (place_of backward last i) j v room e) ∙ is) in
+      λ k h. more k (omega arith)
+
+  -- the first
+  pub put_first : (j : ℕ) (v : List ℕ) → length stored ≡ last + 1 → j ≡ place_of backward last 0 → v
+      ≡ fips.round_key w 0
+      → Before backward inner used (set stored j v) w last 1
+  put_first j v l e is = put_one 0 j 1 v l (omega arith) e refl (map-id v ∙ is) (λ k lt. absurd (omega arith))
+
+  kind_inner : (i : ℕ) → 1 ≤ i → kind inner i ≡ inner
+  kind_inner zero some = absurd (omega arith)
+  kind_inner (suc i) some = refl
+
+  due_inner : (i : ℕ) → 1 ≤ i → due used i ≡ used
+  due_inner zero some = absurd (omega arith)
+  due_inner (suc i) some = refl
+
+  -- one more between the first and the last
+  pub put_inner : (i j n : ℕ) (v : List ℕ) → length stored ≡ last + 1 → 1 ≤ i → i ≤ last → j ≡ place_of backward last i
+      → n ≡ i + 1
+      → map inner v ≡ used (fips.round_key w i)
+      → Before backward inner used stored w last i → Before backward inner used (set stored j v) w last n
+  put_inner i j n v l some fits e m is before =
+      put_one i j n v l fits e m
+      (ap (λ f. map f v) (kind_inner i some) ∙ is ∙ ap (λ f. f (fips.round_key w i)) (sym (due_inner i some))) before
+
+  -- and the last
+  pub put_last : (j : ℕ) (v : List ℕ) → 1 ≤ last → length stored ≡ last + 1 → length w ≡ last + 1 → j
+      ≡ place_of backward last last
+      → map plus63 v ≡ fips.round_key w last → Before backward inner used stored w last last
+      → AreWritten backward inner used w (set stored j v)
+  put_last j v some l m e is before =
+      let n : last ≡ fips.last_round w = omega (arith, m) in
+      let room : j < length stored = omega (arith, place_within backward last last (omega arith), e, l) in
+      let s = set stored j v in
+      record {
+        same_length = omega (arith, length-set stored j v, l, m);
+        first = ap (λ p. fips.round_key s (place_of backward p 0)) (sym n) ∙ put_other last j 0 v (omega arith) some e
+            ∙ sym (map-id _) ∙ before 0 some;
+        between = λ i low high.
+            let below : i < last = omega (arith, high, n) in
+            ap (λ p. map inner (fips.round_key s (place_of backward p i))) (sym n)
+            ∙ ap (map inner) (put_other last j i v (omega arith) below e)
+            ∙ ap (λ f. map f (fips.round_key stored (place_of backward last i))) (sym (kind_inner i low))
+            ∙ before i below ∙ ap (λ f. f (fips.round_key w i)) (due_inner i low);
+        last = ap (λ p. map plus63 (fips.round_key s (place_of backward p p))) (sym n)
+            ∙ ap (map plus63) (put_same stored (place_of backward last last) j v room e) ∙ is ∙ ap (fips.round_key w) n;
+      }
+
+-- a schedule has a round key more than it has rounds
+pub schedule_length : (key : List ℕ) (last : ℕ) → last ≡ fips.rounds key → length (fips.key_expansion key) ≡ last + 1
+schedule_length key last e = omega (arith, expansion_length key, e)

@@ -12,35 +12,41 @@ use Rattle.aes_permute.proofs.Lookups.{each_passes, pairs_pass}
 
 -- ---- what the look-ups make
 
-pub zip_of_maps : (f : ℕ → ℕ → ℕ) (g h : ℕ → ℕ) (xs ys : List ℕ) → zip2 f (map g xs) (map h ys) ≡ zip2 (λ x y. f (g x) (h y)) xs ys
+pub zip_of_maps : (f : ℕ → ℕ → ℕ) (g h : ℕ → ℕ) (xs ys : List ℕ) → zip2 f (map g xs) (map h ys)
+    ≡ zip2 (λ x y. f (g x) (h y)) xs ys
 zip_of_maps f g h [] ys = refl
 zip_of_maps f g h (x ∷ xs) [] = refl
 zip_of_maps f g h (x ∷ xs) (y ∷ ys) = ap (λ v. f (g x) (h y) ∷ v) (zip_of_maps f g h xs ys)
 
-zip_of_zip : (f e : ℕ → ℕ → ℕ) (g h : ℕ → ℕ) (xs ys : List ℕ) → zip2 f (map g (zip2 e xs ys)) (map h ys) ≡ zip2 (λ x y. f (g (e x y)) (h y)) xs ys
+zip_of_zip : (f e : ℕ → ℕ → ℕ) (g h : ℕ → ℕ) (xs ys : List ℕ) → zip2 f (map g (zip2 e xs ys)) (map h ys)
+    ≡ zip2 (λ x y. f (g (e x y)) (h y)) xs ys
 zip_of_zip f e g h [] ys = refl
 zip_of_zip f e g h (x ∷ xs) [] = refl
 zip_of_zip f e g h (x ∷ xs) (y ∷ ys) = ap (λ v. f (g (e x y)) (h y) ∷ v) (zip_of_zip f e g h xs ys)
 
 firsts : (a b : ℕ → ℕ) (xs ys : List ℕ)
-    → zip2 bit_xor (map a (zip2 bit_xor (map a xs) (map b ys))) (zip2 bit_xor xs ys) ≡ zip2 (λ x y. bit_xor (a (bit_xor (a x) (b y))) (bit_xor x y)) xs ys
+    → zip2 bit_xor (map a (zip2 bit_xor (map a xs) (map b ys))) (zip2 bit_xor xs ys)
+    ≡ zip2 (λ x y. bit_xor (a (bit_xor (a x) (b y))) (bit_xor x y)) xs ys
 firsts a b [] ys = refl
 firsts a b (x ∷ xs) [] = refl
 firsts a b (x ∷ xs) (y ∷ ys) = ap (λ v. bit_xor (a (bit_xor (a x) (b y))) (bit_xor x y) ∷ v) (firsts a b xs ys)
 
 seconds : (a b : ℕ → ℕ) (xs ys : List ℕ)
-    → zip2 bit_xor (map a (zip2 bit_xor (map a (zip2 bit_xor xs ys)) (map b ys))) xs ≡ zip2 (λ x y. bit_xor (a (bit_xor (a (bit_xor x y)) (b y))) x) xs ys
+    → zip2 bit_xor (map a (zip2 bit_xor (map a (zip2 bit_xor xs ys)) (map b ys))) xs
+    ≡ zip2 (λ x y. bit_xor (a (bit_xor (a (bit_xor x y)) (b y))) x) xs ys
 seconds a b [] ys = refl
 seconds a b (x ∷ xs) [] = refl
 seconds a b (x ∷ xs) (y ∷ ys) = ap (λ v. bit_xor (a (bit_xor (a (bit_xor x y)) (b y))) x ∷ v) (seconds a b xs ys)
 
 pub firsts_are : (h l : List ℕ)
-    → zip2 bit_xor (map (looked INVERSE) (zip2 bit_xor (map (looked INVERSE) h) (map (looked SCALED_INVERSE) l))) (zip2 bit_xor h l) ≡ zip2 first_place h l
+    → zip2 bit_xor (map (looked INVERSE) (zip2 bit_xor (map (looked INVERSE) h) (map (looked SCALED_INVERSE) l)))
+    (zip2 bit_xor h l) ≡ zip2 first_place h l
 unfolding first_place
 firsts_are h l = firsts (looked INVERSE) (looked SCALED_INVERSE) h l
 
 pub seconds_are : (h l : List ℕ)
-    → zip2 bit_xor (map (looked INVERSE) (zip2 bit_xor (map (looked INVERSE) (zip2 bit_xor h l)) (map (looked SCALED_INVERSE) l))) h ≡ zip2 second_place h l
+    → zip2 bit_xor (map (looked INVERSE) (zip2 bit_xor (map (looked INVERSE) (zip2 bit_xor h l))
+    (map (looked SCALED_INVERSE) l))) h ≡ zip2 second_place h l
 unfolding second_place
 seconds_are h l = seconds (looked INVERSE) (looked SCALED_INVERSE) h l
 
@@ -53,16 +59,19 @@ both_cases = refl
 pub both_places : (h l : List ℕ) → Nibbles h → Nibbles l → Places (zip2 bit_xor h l)
 both_places h l p q = pairs_pass is_place bit_xor both_cases h l p q
 
-over_high_cases : all_below 16 (λ h. all_below 16 (λ l. is_place (bit_xor (looked INVERSE h) (looked SCALED_INVERSE l)))) ≡ true
+over_high_cases : all_below 16
+    (λ h. all_below 16 (λ l. is_place (bit_xor (looked INVERSE h) (looked SCALED_INVERSE l)))) ≡ true
 unfolding all_below is_place
 over_high_cases = refl
 
-pub over_high_places : (h l : List ℕ) → Nibbles h → Nibbles l → Places (zip2 bit_xor (map (looked INVERSE) h) (map (looked SCALED_INVERSE) l))
+pub over_high_places : (h l : List ℕ) → Nibbles h → Nibbles l
+    → Places (zip2 bit_xor (map (looked INVERSE) h) (map (looked SCALED_INVERSE) l))
 over_high_places h l p q =
     ap (list_all is_place) (zip_of_maps bit_xor (looked INVERSE) (looked SCALED_INVERSE) h l)
     ∙ pairs_pass is_place (λ x y. bit_xor (looked INVERSE x) (looked SCALED_INVERSE y)) over_high_cases h l p q
 
-over_both_cases : all_below 16 (λ h. all_below 16 (λ l. is_place (bit_xor (looked INVERSE (bit_xor h l)) (looked SCALED_INVERSE l)))) ≡ true
+over_both_cases : all_below 16
+    (λ h. all_below 16 (λ l. is_place (bit_xor (looked INVERSE (bit_xor h l)) (looked SCALED_INVERSE l)))) ≡ true
 unfolding all_below is_place
 over_both_cases = refl
 
@@ -70,7 +79,8 @@ pub over_both_places : (h l : List ℕ) → Nibbles h → Nibbles l
     → Places (zip2 bit_xor (map (looked INVERSE) (zip2 bit_xor h l)) (map (looked SCALED_INVERSE) l))
 over_both_places h l p q =
     ap (list_all is_place) (zip_of_zip bit_xor bit_xor (looked INVERSE) (looked SCALED_INVERSE) h l)
-    ∙ pairs_pass is_place (λ x y. bit_xor (looked INVERSE (bit_xor x y)) (looked SCALED_INVERSE y)) over_both_cases h l p q
+    ∙ pairs_pass is_place (λ x y. bit_xor (looked INVERSE (bit_xor x y)) (looked SCALED_INVERSE y)) over_both_cases h l
+    p q
 
 -- ---- the places of bytes
 
@@ -92,6 +102,7 @@ pub firsts_of : (x h l : List ℕ) → h ≡ map high_nibble x → l ≡ map low
 unfolding first_of
 firsts_of x h l a b = (λ i. zip2 first_place (a i) (b i)) ∙ zip2-map first_place high_nibble low_nibble x
 
-pub seconds_of : (x h l : List ℕ) → h ≡ map high_nibble x → l ≡ map low_nibble x → zip2 second_place h l ≡ map second_of x
+pub seconds_of : (x h l : List ℕ) → h ≡ map high_nibble x → l ≡ map low_nibble x → zip2 second_place h l
+    ≡ map second_of x
 unfolding second_of
 seconds_of x h l a b = (λ i. zip2 second_place (a i) (b i)) ∙ zip2-map second_place high_nibble low_nibble x

@@ -1,5 +1,6 @@
 -- Maps by nibbles are linear where their tables are.
-use Rattle.std.proofs.Common.{◌≡◌, ℕ, ◌+◌, ◌/◌, ◌%◌, ◌<◌, ◌==◌, true, bit_xor, List, [], ◌∷◌, get_or, refl, ap, sym, ◌∙◌, arith}
+use Rattle.std.proofs.Common.{◌≡◌, ℕ, ◌+◌, ◌/◌, ◌%◌, ◌<◌, ◌==◌, true, bit_xor, List, [], ◌∷◌, get_or, refl, ap, sym}
+use Rattle.std.proofs.Common.{◌∙◌, arith}
 use Rattle.std.proofs.Math.Nat.{mod-lt}
 use Rattle.std.proofs.lemmas.Bool.{eqb-true}
 use Rattle.std.proofs.lemmas.Nat.{xor_mod, xor_shr}
@@ -15,10 +16,12 @@ use Rattle.aes_permute.specs.declared.tables.TheConstants.{UNTOWER_LOW, UNTOWER_
 abbrev pub is_linear : List ℕ → Type 0
 is_linear t = all_below 16 (λ p. all_below 16 (λ q. looked t (bit_xor p q) == bit_xor (looked t p) (looked t q))) ≡ true
 
-looked_sum : (t : List ℕ) → is_linear t → (p q : ℕ) → p < 16 → q < 16 → looked t (bit_xor p q) ≡ bit_xor (looked t p) (looked t q)
+looked_sum : (t : List ℕ) → is_linear t → (p q : ℕ) → p < 16 → q < 16 → looked t (bit_xor p q)
+    ≡ bit_xor (looked t p) (looked t q)
 looked_sum t l p q a b =
     eqb-true _ _ (all_below_tells 16 (λ q. looked t (bit_xor p q) == bit_xor (looked t p) (looked t q))
-    (all_below_tells 16 (λ p. all_below 16 (λ q. looked t (bit_xor p q) == bit_xor (looked t p) (looked t q))) l p a) q b)
+    (all_below_tells 16 (λ p. all_below 16 (λ q. looked t (bit_xor p q) == bit_xor (looked t p) (looked t q))) l p a) q
+    b)
 
 low_sum : (a b : ℕ) → low_nibble (bit_xor a b) ≡ bit_xor (low_nibble a) (low_nibble b)
 low_sum a b = xor_mod a b 4
@@ -26,7 +29,8 @@ low_sum a b = xor_mod a b 4
 high_sum : (a b : ℕ) → high_nibble (bit_xor a b) ≡ bit_xor (high_nibble a) (high_nibble b)
 high_sum a b = ap (λ v. v % 16) (xor_shr a b 4) ∙ xor_mod (a / 16) (b / 16) 4
 
-pub by_nibbles_sum : (t u : List ℕ) → is_linear t → is_linear u → (a b : ℕ) → by_nibbles t u (bit_xor a b) ≡ bit_xor (by_nibbles t u a) (by_nibbles t u b)
+pub by_nibbles_sum : (t u : List ℕ) → is_linear t → is_linear u → (a b : ℕ) → by_nibbles t u (bit_xor a b)
+    ≡ bit_xor (by_nibbles t u a) (by_nibbles t u b)
 by_nibbles_sum t u l m a b =
     (λ i. bit_xor (looked t (low_sum a b i)) (looked u (high_sum a b i)))
     ∙ (λ i. bit_xor
@@ -90,7 +94,8 @@ sum_of_five v l a b c d y =
 
 -- the constants of four products go to the key
 pub constants_gathered : (a b c d y p q r s : ℕ)
-    → in_order (bit_xor a p) (bit_xor b q) (bit_xor c r) (bit_xor d s) y ≡ in_order a b c d (bit_xor y (bit_xor (bit_xor (bit_xor p q) r) s))
+    → in_order (bit_xor a p) (bit_xor b q) (bit_xor c r) (bit_xor d s) y
+    ≡ in_order a b c d (bit_xor y (bit_xor (bit_xor (bit_xor p q) r) s))
 constants_gathered a b c d y p q r s =
     ap (λ v. bit_xor (bit_xor (bit_xor v (bit_xor c r)) (bit_xor d s)) y) (add_swap a p b q)
     ∙ ap (λ v. bit_xor (bit_xor v (bit_xor d s)) y) (add_swap (bit_xor a b) (bit_xor p q) c r)
@@ -109,15 +114,18 @@ turned_row a b c d r i = get_or (get_or (
 
 turn : (a b c d : ℕ) → bit_xor (bit_xor (bit_xor a b) c) d ≡ bit_xor (bit_xor (bit_xor d a) b) c
 turn a b c d =
-    xor_comm (bit_xor (bit_xor a b) c) d ∙ sym (xor_assoc d (bit_xor a b) c) ∙ ap (λ v. bit_xor v c) (sym (xor_assoc d a b))
+    xor_comm (bit_xor (bit_xor a b) c) d ∙ sym (xor_assoc d (bit_xor a b) c)
+    ∙ ap (λ v. bit_xor v c) (sym (xor_assoc d a b))
 
 -- a sum that begins at row r is the sum from row 0 on, of what T makes of a coefficient and a row
 pub rows_turned : (T : ℕ → ℕ → ℕ) (a b c d y r : ℕ) → r < 4
     → in_order (T a (r % 4)) (T b ((r + 1) % 4)) (T c ((r + 2) % 4)) (T d ((r + 3) % 4)) y
-    ≡ in_order (T (turned_row a b c d r 0) 0) (T (turned_row a b c d r 1) 1) (T (turned_row a b c d r 2) 2) (T (turned_row a b c d r 3) 3) y
+    ≡ in_order (T (turned_row a b c d r 0) 0) (T (turned_row a b c d r 1) 1) (T (turned_row a b c d r 2) 2)
+    (T (turned_row a b c d r 3) 3) y
 rows_turned T a b c d y r l =
     by_four (λ r. in_order (T a (r % 4)) (T b ((r + 1) % 4)) (T c ((r + 2) % 4)) (T d ((r + 3) % 4)) y
-    ≡ in_order (T (turned_row a b c d r 0) 0) (T (turned_row a b c d r 1) 1) (T (turned_row a b c d r 2) 2) (T (turned_row a b c d r 3) 3) y)
+    ≡ in_order (T (turned_row a b c d r 0) 0) (T (turned_row a b c d r 1) 1) (T (turned_row a b c d r 2) 2)
+    (T (turned_row a b c d r 3) 3) y)
     refl
     (ap (λ v. bit_xor v y) (turn (T a 1) (T b 2) (T c 3) (T d 0)))
     (ap (λ v. bit_xor v y) (turn (T a 2) (T b 3) (T c 0) (T d 1) ∙ turn (T d 1) (T a 2) (T b 3) (T c 0)))

@@ -1,5 +1,6 @@
 -- Look-ups lane by lane.
-use Rattle.std.proofs.Common.{◌≡◌, ℕ, suc, ◌+◌, ◌*◌, ◌/◌, ◌^◌, ◌≤◌, Bool, true, false, ◌&&◌, ◌||◌, ◌==◌, nat_le, nat_lt, cond, bit_and, List, [], ◌∷◌, length, map, get_or, replicate, refl, ap, ◌∙◌, arith, w8, T}
+use Rattle.std.proofs.Common.{◌≡◌, ℕ, suc, ◌+◌, ◌*◌, ◌/◌, ◌^◌, ◌≤◌, Bool, true, false, ◌&&◌, ◌||◌, ◌==◌, nat_le, nat_lt}
+use Rattle.std.proofs.Common.{cond, bit_and, List, [], ◌∷◌, length, map, get_or, replicate, refl, ap, ◌∙◌, arith, w8, T}
 use Rattle.std.specs.List.{list_all}
 use Rattle.std.proofs.lemmas.Bool.{and_parts, eqb-true, ltb-true}
 use Rattle.std.proofs.lemmas.Simd.{swz_l, SwzOk, zip2_splat}
@@ -36,14 +37,16 @@ places_ok (j ∷ js) i h p =
 -- ---- tests on all bytes and on all nibbles
 
 -- a test that each byte passes, of each element
-pub each_passes : (p : ℕ → Bool) (f : ℕ → ℕ) → all_below 256 (λ b. p (f b)) ≡ true → (xs : List ℕ) → IsBytes xs → list_all p (map f xs) ≡ true
+pub each_passes : (p : ℕ → Bool) (f : ℕ → ℕ) → all_below 256 (λ b. p (f b)) ≡ true → (xs : List ℕ) → IsBytes xs
+    → list_all p (map f xs) ≡ true
 each_passes p f t [] h = refl
 each_passes p f t (x ∷ xs) h =
     let e : p (f x) ≡ true = all_below_tells 256 (λ b. p (f b)) t x (h 0) in
     (λ k. e k && list_all p (map f xs)) ∙ each_passes p f t xs (λ i. h (suc i))
 
 -- two functions that agree on bytes
-pub maps_same : (f g : ℕ → ℕ) → all_below 256 (λ b. f b == g b) ≡ true → (xs : List ℕ) → IsBytes xs → map f xs ≡ map g xs
+pub maps_same : (f g : ℕ → ℕ) → all_below 256 (λ b. f b == g b) ≡ true → (xs : List ℕ) → IsBytes xs → map f xs
+    ≡ map g xs
 maps_same f g t [] h = refl
 maps_same f g t (x ∷ xs) h =
     let e : f x ≡ g x = eqb-true _ _ (all_below_tells 256 (λ b. f b == g b) t x (h 0)) in
@@ -69,7 +72,8 @@ pairs_pass p f t (x ∷ xs) (y ∷ ys) h l =
     let a = and_parts (nat_lt x 16) (list_all (λ k. nat_lt k 16) xs) h in
     let b = and_parts (nat_lt y 16) (list_all (λ k. nat_lt k 16) ys) l in
     let e : p (f x y) ≡ true =
-    all_below_tells 16 (λ l. p (f x l)) (all_below_tells 16 (λ h. all_below 16 (λ l. p (f h l))) t x (ltb-true x 16 a.0)) y (ltb-true y 16 b.0) in
+    all_below_tells 16 (λ l. p (f x l))
+    (all_below_tells 16 (λ h. all_below 16 (λ l. p (f h l))) t x (ltb-true x 16 a.0)) y (ltb-true y 16 b.0) in
     (λ i. e i && list_all p (zip2 f xs ys)) ∙ pairs_pass p f t xs ys a.1 b.1
 
 -- ---- the two nibbles

@@ -1,9 +1,11 @@
 -- The rounds of Cipher on lanes.
-use Rattle.std.proofs.Common.{◌≡◌, ℕ, ◌+◌, ◌%◌, ◌<◌, ◌==◌, true, bit_xor, List, [], ◌∷◌, ◌++◌, length, map, map-id, get_or, refl, ap, sym, ◌∙◌, subst}
+use Rattle.std.proofs.Common.{◌≡◌, ℕ, ◌+◌, ◌%◌, ◌<◌, ◌==◌, true, bit_xor, List, [], ◌∷◌, ◌++◌, length, map, map-id}
+use Rattle.std.proofs.Common.{get_or, refl, ap, sym, ◌∙◌, subst}
 use Rattle.std.proofs.lemmas.Bool.{eqb-true}
 use Rattle.std.proofs.lemmas.Simd.{zip2-map, map-map}
 use lib.Lanes.{zip2, pick_l}
-use Rattle.aes_planes.specs.Fips197.{field_mul, sbox, byte_at, build, state, row_by_column, sub_bytes, shift_rows, mix_columns, add_round_key, IsBytes, IsBlock}
+use Rattle.aes_planes.specs.Fips197.{field_mul, sbox, byte_at, build, state, row_by_column, sub_bytes, shift_rows}
+use Rattle.aes_planes.specs.Fips197.{mix_columns, add_round_key, IsBytes, IsBlock}
 use Rattle.aes_planes.specs.Planes.{plus63}
 use Rattle.aes_planes.proofs.Bits.ByteCases.{all_below, all_below_tells}
 use Rattle.aes_planes.proofs.Lists.Built.{built}
@@ -13,8 +15,10 @@ use Rattle.aes_planes.proofs.Standard.States.{state_same}
 use Rattle.aes_permute.specs.Inverse.{first_of, second_of, at_places}
 use Rattle.aes_permute.specs.Lookup.{by_nibbles}
 use Rattle.aes_permute.specs.Stored.{untower, key_untower}
-use Rattle.aes_permute.specs.declared.tables.TheConstants.{TOWER_LOW, TOWER_HIGH, SBOX_FIRST, SBOX_SECOND, ONE_FIRST, ONE_SECOND, TWO_FIRST, TWO_SECOND}
-use Rattle.aes_permute.proofs.Linear.{untower_sum, added, in_order, sum_of_five, constants_gathered, turned_row, rows_turned}
+use Rattle.aes_permute.specs.declared.tables.TheConstants.{TOWER_LOW, TOWER_HIGH, SBOX_FIRST, SBOX_SECOND, ONE_FIRST}
+use Rattle.aes_permute.specs.declared.tables.TheConstants.{ONE_SECOND, TWO_FIRST, TWO_SECOND}
+use Rattle.aes_permute.proofs.Linear.{untower_sum, added, in_order, sum_of_five, constants_gathered, turned_row}
+use Rattle.aes_permute.proofs.Linear.{rows_turned}
 use Rattle.aes_permute.proofs.Lookups.{maps_same}
 
 -- ---- what is looked up
@@ -23,8 +27,10 @@ use Rattle.aes_permute.proofs.Lookups.{maps_same}
 abbrev pub through : List ℕ → List ℕ → ℕ → ℕ
 through t u b = at_places t u (first_of b) (second_of b)
 
-pub through_lanes : (t u x f s y : List ℕ) → f ≡ map first_of x → s ≡ map second_of x → y ≡ zip2 (at_places t u) f s → y ≡ map (through t u) x
-through_lanes t u x f s y a b e = e ∙ (λ i. zip2 (at_places t u) (a i) (b i)) ∙ zip2-map (at_places t u) first_of second_of x
+pub through_lanes : (t u x f s y : List ℕ) → f ≡ map first_of x → s ≡ map second_of x → y ≡ zip2 (at_places t u) f s → y
+    ≡ map (through t u) x
+through_lanes t u x f s y a b e = e ∙ (λ i. zip2 (at_places t u) (a i) (b i))
+    ∙ zip2-map (at_places t u) first_of second_of x
 
 abbrev pub one : ℕ → ℕ
 one b = through ONE_FIRST ONE_SECOND b
@@ -48,9 +54,11 @@ three_cases : all_below 256 (λ b. untower (three b) == bit_xor (field_mul 3 (sb
 unfolding all_below first_of second_of untower field_mul sbox
 three_cases = refl
 
-product : (f : ℕ → ℕ) (n k : ℕ) → all_below 256 (λ b. untower (f b) == bit_xor (field_mul n (sbox (untower b))) k) ≡ true
+product : (f : ℕ → ℕ) (n k : ℕ) → all_below 256 (λ b. untower (f b) == bit_xor (field_mul n (sbox (untower b))) k)
+    ≡ true
     → (b : ℕ) → b < 256 → untower (f b) ≡ bit_xor (field_mul n (sbox (untower b))) k
-product f n k t b h = eqb-true _ _ (all_below_tells 256 (λ b. untower (f b) == bit_xor (field_mul n (sbox (untower b))) k) t b h)
+product f n k t b h = eqb-true _ _
+    (all_below_tells 256 (λ b. untower (f b) == bit_xor (field_mul n (sbox (untower b))) k) t b h)
 
 -- ---- a lane of a round
 
@@ -59,7 +67,8 @@ abbrev pub term : ℕ → ℕ → ℕ
 term n b = field_mul n (sbox (untower b))
 
 lane_is : (a b c d y : ℕ) → a < 256 → b < 256 → c < 256 → d < 256
-    → untower (added (two a) (three b) (one c) (one d) y) ≡ in_order (term 2 a) (term 3 b) (term 1 c) (term 1 d) (key_untower y)
+    → untower (added (two a) (three b) (one c) (one d) y) ≡ in_order (term 2 a) (term 3 b) (term 1 c) (term 1 d)
+    (key_untower y)
 unfolding key_untower
 lane_is a b c d y ha hb hc hd =
     sum_of_five untower untower_sum (two a) (three b) (one c) (one d) y
@@ -75,17 +84,20 @@ moved x c j = byte_at x j ((c + j) % 4)
 
 abbrev pub lane : List ℕ → List ℕ → ℕ → ℕ → ℕ
 lane x k r c =
-    added (two (moved x c (r % 4))) (three (moved x c ((r + 1) % 4))) (one (moved x c ((r + 2) % 4))) (one (moved x c ((r + 3) % 4))) (byte_at k r c)
+    added (two (moved x c (r % 4))) (three (moved x c ((r + 1) % 4))) (one (moved x c ((r + 2) % 4)))
+    (one (moved x c ((r + 3) % 4))) (byte_at k r c)
 
 abbrev pub sum_of : List ℕ → List ℕ → ℕ → ℕ → ℕ
 sum_of x k r c =
     let T : ℕ → ℕ → ℕ = λ n j. term n (moved x c j) in
-    in_order (T (turned_row 2 3 1 1 r 0) 0) (T (turned_row 2 3 1 1 r 1) 1) (T (turned_row 2 3 1 1 r 2) 2) (T (turned_row 2 3 1 1 r 3) 3)
+    in_order (T (turned_row 2 3 1 1 r 0) 0) (T (turned_row 2 3 1 1 r 1) 1) (T (turned_row 2 3 1 1 r 2) 2)
+    (T (turned_row 2 3 1 1 r 3) 3)
     (key_untower (byte_at k r c))
 
 lane_row : (x k : List ℕ) → IsBytes x → (r c : ℕ) → r < 4 → untower (lane x k r c) ≡ sum_of x k r c
 lane_row x k h r c l =
-    lane_is (moved x c (r % 4)) (moved x c ((r + 1) % 4)) (moved x c ((r + 2) % 4)) (moved x c ((r + 3) % 4)) (byte_at k r c) (h _) (h _) (h _) (h _)
+    lane_is (moved x c (r % 4)) (moved x c ((r + 1) % 4)) (moved x c ((r + 2) % 4)) (moved x c ((r + 3) % 4))
+    (byte_at k r c) (h _) (h _) (h _) (h _)
     ∙ rows_turned (λ n j. term n (moved x c j)) 2 3 1 1 (key_untower (byte_at k r c)) r l
 
 -- the lanes of which the bytes of a column are made, from its own row on
@@ -106,7 +118,8 @@ swizzled xs ks = pick_l 0 (xs ++ xs) ks
 
 abbrev pub round_of : List ℕ → List ℕ → List ℕ → List ℕ → List ℕ
 round_of o t h k =
-    zip2 bit_xor (zip2 bit_xor (zip2 bit_xor (swizzled t same_row) k) (zip2 bit_xor (swizzled o third_row) (swizzled o fourth_row)))
+    zip2 bit_xor (zip2 bit_xor (zip2 bit_xor (swizzled t same_row) k)
+    (zip2 bit_xor (swizzled o third_row) (swizzled o fourth_row)))
     (swizzled h next_row)
 
 abbrev on_lanes : List ℕ → List ℕ → List ℕ
@@ -116,7 +129,8 @@ lanes_are : (x k : List ℕ) → length x ≡ 16 → length k ≡ 16 → on_lane
 unfolding state build
 lanes_are x k l m =
     subst (λ v. on_lanes v k ≡ state (λ r c. untower (lane v k r c))) (built 16 x 0 l)
-    (subst (λ w. on_lanes (build 16 (λ i. get_or x i 0)) w ≡ state (λ r c. untower (lane (build 16 (λ i. get_or x i 0)) w r c))) (built 16 k 0 m) refl)
+    (subst (λ w. on_lanes (build 16 (λ i. get_or x i 0)) w
+    ≡ state (λ r c. untower (lane (build 16 (λ i. get_or x i 0)) w r c))) (built 16 k 0 m) refl)
 
 abbrev standard : List ℕ → List ℕ → List ℕ
 standard x k = add_round_key (mix_columns (shift_rows (sub_bytes (map untower x)))) (map key_untower k)
@@ -125,10 +139,12 @@ sums_are : (x k : List ℕ) → length x ≡ 16 → length k ≡ 16 → state (s
 unfolding state build add_round_key mix_columns row_by_column shift_rows sub_bytes
 sums_are x k l m =
     subst (λ v. state (sum_of v k) ≡ standard v k) (built 16 x 0 l)
-    (subst (λ w. state (sum_of (build 16 (λ i. get_or x i 0)) w) ≡ standard (build 16 (λ i. get_or x i 0)) w) (built 16 k 0 m) refl)
+    (subst (λ w. state (sum_of (build 16 (λ i. get_or x i 0)) w) ≡ standard (build 16 (λ i. get_or x i 0)) w)
+    (built 16 k 0 m) refl)
 
 pub round_is : (x k o t h : List ℕ) → IsBlock x → length k ≡ 16 → o ≡ map one x → t ≡ map two x → h ≡ zip2 bit_xor o t
-    → map untower (round_of o t h k) ≡ add_round_key (mix_columns (shift_rows (sub_bytes (map untower x)))) (map key_untower k)
+    → map untower (round_of o t h k) ≡ add_round_key (mix_columns (shift_rows (sub_bytes (map untower x))))
+    (map key_untower k)
 round_is x k o t h b m p q e =
     (λ i. map untower (round_of (p i) (q i) ((e ∙ (λ j. zip2 bit_xor (p j) (q j))) i) k))
     ∙ lanes_are x k b.0 m ∙ state_same _ _ (λ r c i j. lane_row x k b.1 r c i) ∙ sums_are x k b.0 m
@@ -139,7 +155,8 @@ pub zip_is_sum : (b k : List ℕ) → length b ≡ 16 → length k ≡ 16 → zi
 unfolding add_round_key state build
 zip_is_sum b k l m =
     subst (λ v. zip2 bit_xor v k ≡ add_round_key v k) (built 16 b 0 l)
-    (subst (λ w. zip2 bit_xor (build 16 (λ i. get_or b i 0)) w ≡ add_round_key (build 16 (λ i. get_or b i 0)) w) (built 16 k 0 m) refl)
+    (subst (λ w. zip2 bit_xor (build 16 (λ i. get_or b i 0)) w ≡ add_round_key (build 16 (λ i. get_or b i 0)) w)
+    (built 16 k 0 m) refl)
 
 abbrev tower : ℕ → ℕ
 tower b = by_nibbles TOWER_LOW TOWER_HIGH b
@@ -149,7 +166,8 @@ unfolding all_below untower
 tower_cases = refl
 
 pub untowered : (x y : List ℕ) → IsBytes x → y ≡ map (by_nibbles TOWER_LOW TOWER_HIGH) x → map untower y ≡ x
-untowered x y h e = ap (map untower) e ∙ map-map untower tower x ∙ maps_same (λ b. untower (tower b)) (λ b. b) tower_cases x h ∙ map-id x
+untowered x y h e = ap (map untower) e ∙ map-map untower tower x ∙ maps_same (λ b. untower (tower b)) (λ b. b)
+    tower_cases x h ∙ map-id x
 
 abbrev pub plain : ℕ → ℕ
 plain b = through SBOX_FIRST SBOX_SECOND b
@@ -166,7 +184,9 @@ last_lanes : (x k : List ℕ) → length x ≡ 16 → length k ≡ 16
 unfolding state build
 last_lanes x k l m =
     subst (λ v. last_of (map plain v) k ≡ state (λ r c. bit_xor (plain (moved v c r)) (byte_at k r c))) (built 16 x 0 l)
-    (subst (λ w. last_of (map plain (build 16 (λ i. get_or x i 0))) w ≡ state (λ r c. bit_xor (plain (moved (build 16 (λ i. get_or x i 0)) c r)) (byte_at w r c))) (built 16 k 0 m) refl)
+    (subst (λ w. last_of (map plain (build 16 (λ i. get_or x i 0))) w
+    ≡ state (λ r c. bit_xor (plain (moved (build 16 (λ i. get_or x i 0)) c r)) (byte_at w r c))) (built 16 k 0 m)
+    refl)
 
 abbrev standard_last : List ℕ → List ℕ → List ℕ
 standard_last x k = add_round_key (shift_rows (sub_bytes (map untower x))) (map plus63 k)
@@ -175,13 +195,16 @@ last_sums : (x k : List ℕ) → length x ≡ 16 → length k ≡ 16
     → state (λ r c. bit_xor (sbox (untower (moved x c r))) (plus63 (byte_at k r c))) ≡ standard_last x k
 unfolding state build add_round_key shift_rows sub_bytes
 last_sums x k l m =
-    subst (λ v. state (λ r c. bit_xor (sbox (untower (moved v c r))) (plus63 (byte_at k r c))) ≡ standard_last v k) (built 16 x 0 l)
-    (subst (λ w. state (λ r c. bit_xor (sbox (untower (moved (build 16 (λ i. get_or x i 0)) c r))) (plus63 (byte_at w r c))) ≡ standard_last (build 16 (λ i. get_or x i 0)) w) (built 16 k 0 m) refl)
+    subst (λ v. state (λ r c. bit_xor (sbox (untower (moved v c r))) (plus63 (byte_at k r c))) ≡ standard_last v k)
+    (built 16 x 0 l)
+    (subst (λ w. state (λ r c. bit_xor (sbox (untower (moved (build 16 (λ i. get_or x i 0)) c r)))
+    (plus63 (byte_at w r c))) ≡ standard_last (build 16 (λ i. get_or x i 0)) w) (built 16 k 0 m) refl)
 
 -- the constant goes from the S-box to the key
 last_lane : (b k : ℕ) → b < 256 → bit_xor (plain b) k ≡ bit_xor (sbox (untower b)) (plus63 k)
 last_lane b k h =
-    ap (λ v. bit_xor v k) (eqb-true _ _ (all_below_tells 256 (λ b. plain b == plus63 (sbox (untower b))) plain_cases b h))
+    ap (λ v. bit_xor v k) (eqb-true _ _ (all_below_tells 256 (λ b. plain b == plus63 (sbox (untower b))) plain_cases b
+    h))
     ∙ xor_assoc (sbox (untower b)) 0x63 k ∙ ap (bit_xor (sbox (untower b))) (xor_comm 0x63 k)
 
 pub last_is : (x k p : List ℕ) → IsBlock x → length k ≡ 16 → p ≡ map plain x
@@ -197,7 +220,9 @@ sub_cases : all_below 256 (λ b. plain (tower b) == plus63 (sbox b)) ≡ true
 unfolding all_below first_of second_of sbox
 sub_cases = refl
 
-pub sub_bytes_is : (x y p : List ℕ) → IsBytes x → y ≡ map (by_nibbles TOWER_LOW TOWER_HIGH) x → p ≡ map plain y → p ≡ map plus63 (sub_bytes x)
+pub sub_bytes_is : (x y p : List ℕ) → IsBytes x → y ≡ map (by_nibbles TOWER_LOW TOWER_HIGH) x → p ≡ map plain y → p
+    ≡ map plus63 (sub_bytes x)
 unfolding sub_bytes
 sub_bytes_is x y p h a b =
-    b ∙ ap (map plain) a ∙ map-map plain tower x ∙ maps_same (λ b. plain (tower b)) (λ b. plus63 (sbox b)) sub_cases x h ∙ sym (map-map plus63 sbox x)
+    b ∙ ap (map plain) a ∙ map-map plain tower x ∙ maps_same (λ b. plain (tower b)) (λ b. plus63 (sbox b)) sub_cases x h
+    ∙ sym (map-map plus63 sbox x)

@@ -1,37 +1,26 @@
 -- Slices worked two elements at a time.
-use Rattle.std.proofs.Common.{◌≡◌, ◌≢◌, ℕ, ◌+◌, ◌<◌, ◌≤◌, List, ◌++◌, length, map, take, set, get_or, ap, sym, ◌∙◌, arith, get_or-set_other}
+use Rattle.std.proofs.Common.{◌≡◌, ◌≢◌, ℕ, ◌+◌, ◌<◌, ◌≤◌, List, ◌++◌, length, map, take, set, get_or, ap, sym, ◌∙◌}
+use Rattle.std.proofs.Common.{arith, get_or-set_other}
 use Rattle.std.proofs.lemmas.List.{take_all, drop_all, append-nil, length-set}
 use Rattle.aes_cipher.proofs.SliceRuns.{finished, finished_one}
-use Rattle.aes_planes.specs.Fips197 as fips
-use Rattle.aes_planes.specs.Private.Rounds.{all_rounds}
-use Rattle.aes_planes.proofs.Planes.Held.{map-same}
-use Rattle.aes_planes.proofs.Standard.AllRounds.{is_cipher, is_eq_inv_cipher}
 
 pub finished_is : {X : Type 0} (f : X → X) (i : ℕ) (xs : List X) (y d : X) → i < length xs → y ≡ f (get_or xs i d)
     → finished f (i + 1) (set xs i y) ≡ finished f i xs
 finished_is f i xs y d fits e = ap (λ v. finished f (i + 1) (set xs i v)) e ∙ finished_one f i xs d fits
 
 -- f of two elements, written in their places
-pub finished_two : {X : Type 0} (f : X → X) (i : ℕ) (xs : List X) (y z d : X) → i + 1 < length xs → y ≡ f (get_or xs i d) → z ≡ f (get_or xs (i + 1) d)
+pub finished_two : {X : Type 0} (f : X → X) (i : ℕ) (xs : List X) (y z d : X) → i + 1 < length xs → y
+    ≡ f (get_or xs i d) → z ≡ f (get_or xs (i + 1) d)
     → finished f (i + 2) (set (set xs i y) (i + 1) z) ≡ finished f i xs
 finished_two f i xs y z d fits p q =
     let two : i + 2 ≡ i + 1 + 1 = omega arith in
     let other : i + 1 ≢ i = omega arith in
     ap (λ n. finished f n (set (set xs i y) (i + 1) z)) two
-    ∙ finished_is f (i + 1) (set xs i y) z d (omega (arith, length-set xs i y)) (q ∙ ap f (sym (get_or-set_other xs i (i + 1) y d other)))
+    ∙ finished_is f (i + 1) (set xs i y) z d (omega (arith, length-set xs i y))
+    (q ∙ ap f (sym (get_or-set_other xs i (i + 1) y d other)))
     ∙ finished_is f i xs y d (omega arith) p
 
 -- nothing is left
 pub finished_all : {X : Type 0} (f : X → X) (n : ℕ) (xs zs : List X) → length xs ≤ n → finished f n xs ≡ zs → xs ≡ zs
-finished_all f n xs zs le kept = sym (ap (λ l. take n xs ++ map f l) (drop_all n xs le) ∙ append-nil (take n xs) ∙ take_all n xs le) ∙ kept
-
--- ---- every round of each block
-
-pub each_cipher : (w blocks : List (List ℕ))
-    → map (all_rounds (λ b. fips.mix_columns (fips.shift_rows (fips.sub_bytes b))) (λ b. fips.shift_rows (fips.sub_bytes b)) w) blocks ≡ map (fips.cipher_with w) blocks
-each_cipher w blocks = map-same _ _ blocks (is_cipher w)
-
-pub each_eq_inv_cipher : (w blocks : List (List ℕ))
-    → map (all_rounds (λ b. fips.inv_mix_columns (fips.inv_shift_rows (fips.inv_sub_bytes b))) (λ b. fips.inv_shift_rows (fips.inv_sub_bytes b)) w) blocks
-    ≡ map (fips.eq_inv_cipher_with w) blocks
-each_eq_inv_cipher w blocks = map-same _ _ blocks (is_eq_inv_cipher w)
+finished_all f n xs zs le kept = sym (ap (λ l. take n xs ++ map f l) (drop_all n xs le) ∙ append-nil (take n xs)
+    ∙ take_all n xs le) ∙ kept

@@ -1,5 +1,6 @@
 -- Four words of the key schedule on lanes.
-use Rattle.std.proofs.Common.{◌≡◌, ℕ, ◌+◌, ◌-◌, ◌%◌, ◌<◌, ◌==◌, ◌&&◌, nat_lt, cond, true, bit_and, bit_xor, List, [], ◌∷◌, ◌++◌, length, map, map-id, get_or, replicate, refl, ap, sym, ◌∙◌, subst}
+use Rattle.std.proofs.Common.{◌≡◌, ℕ, ◌+◌, ◌-◌, ◌%◌, ◌<◌, ◌==◌, ◌&&◌, nat_lt, cond, true, bit_and, bit_xor, List, []}
+use Rattle.std.proofs.Common.{◌∷◌, ◌++◌, length, map, map-id, get_or, replicate, refl, ap, sym, ◌∙◌, subst}
 use Rattle.std.proofs.lemmas.Bool.{and_parts, eqb-true}
 use Rattle.std.proofs.lemmas.Simd.{map-map, zip2_splat}
 use lib.Lanes.{zip2, pick_l}
@@ -13,7 +14,7 @@ use Rattle.std.proofs.lemmas.Nat.{xor_comm}
 use Rattle.aes_planes.proofs.Standard.States.{state_same}
 use Rattle.aes_permute.specs.Lookup.{looked, by_nibbles}
 use Rattle.aes_permute.specs.Stored.{key_untower}
-use Rattle.aes_permute.specs.declared.tables.TheConstants.{TOWER_LOW, TOWER_HIGH}
+use Rattle.aes_permute.specs.declared.tables.TheConstants.{TOWER_LOW, TOWER_HIGH, UNTOWER_LOW, UNTOWER_HIGH}
 use Rattle.aes_permute.specs.declared.schedule.TheConstants.{FIRST_ROW, COLUMN_BEFORE, TWO_COLUMNS_BEFORE}
 use Rattle.aes_permute.proofs.Lookups.{maps_same}
 use Rattle.aes_permute.proofs.RoundLanes.{swizzled}
@@ -34,7 +35,8 @@ addend_last v a s = xor_assoc v a s ∙ ap (bit_xor v) (xor_comm a s)
 coded_is : (x : ℕ → ℕ) (s a c : ℕ) → c < 4 → coded x s a c ≡ summed field_add x (bit_xor s a) c
 coded_is x s a c l =
     addend_last (bit_xor (pair x c) (cond (nat_lt c 2) 0 (pair x (c - 2)))) a s
-    ∙ by_four (λ c. bit_xor (bit_xor (pair x c) (cond (nat_lt c 2) 0 (pair x (c - 2)))) (bit_xor s a) ≡ summed field_add x (bit_xor s a) c)
+    ∙ by_four (λ c. bit_xor (bit_xor (pair x c) (cond (nat_lt c 2) 0 (pair x (c - 2)))) (bit_xor s a)
+    ≡ summed field_add x (bit_xor s a) c)
     (ap (λ v. bit_xor v (bit_xor s a)) (add_zero (bit_xor (x 0) 0) ∙ add_zero (x 0)))
     (ap (λ v. bit_xor v (bit_xor s a)) (add_zero (bit_xor (x 1) (x 0))) ∙ xor_assoc (x 1) (x 0) (bit_xor s a))
     (ap (λ v. bit_xor (bit_xor (bit_xor (x 2) (x 1)) v) (bit_xor s a)) (add_zero (x 0))
@@ -60,11 +62,14 @@ columns_are : (x s a : List ℕ) → length x ≡ 16 → length s ≡ 16 → len
 unfolding state build
 columns_are x s a l m n =
     subst (λ v. columns_of v s a ≡ coded_state v s a) (built 16 x 0 l)
-    (subst (λ v. columns_of (build 16 (λ i. get_or x i 0)) v a ≡ coded_state (build 16 (λ i. get_or x i 0)) v a) (built 16 s 0 m)
-    (subst (λ v. columns_of (build 16 (λ i. get_or x i 0)) (build 16 (λ i. get_or s i 0)) v ≡ coded_state (build 16 (λ i. get_or x i 0)) (build 16 (λ i. get_or s i 0)) v) (built 16 a 0 n) refl))
+    (subst (λ v. columns_of (build 16 (λ i. get_or x i 0)) v a ≡ coded_state (build 16 (λ i. get_or x i 0)) v a)
+    (built 16 s 0 m)
+    (subst (λ v. columns_of (build 16 (λ i. get_or x i 0)) (build 16 (λ i. get_or s i 0)) v
+    ≡ coded_state (build 16 (λ i. get_or x i 0)) (build 16 (λ i. get_or s i 0)) v) (built 16 a 0 n) refl))
 
 pub summed_is : (x s a p q : List ℕ) → length x ≡ 16 → length s ≡ 16 → length a ≡ 16 → p ≡ pairs_of x → q ≡ sums_of p
-    → zip2 bit_xor (zip2 bit_xor q a) s ≡ state (λ r c. summed field_add (byte_at x r) (field_add (byte_at s r c) (byte_at a r c)) c)
+    → zip2 bit_xor (zip2 bit_xor q a) s
+    ≡ state (λ r c. summed field_add (byte_at x r) (field_add (byte_at s r c) (byte_at a r c)) c)
 summed_is x s a p q l m n e f =
     ap (λ v. zip2 bit_xor (zip2 bit_xor v a) s) (f ∙ ap sums_of e)
     ∙ columns_are x s a l m n
@@ -74,19 +79,22 @@ summed_is x s a p q l m n e f =
 
 -- the S-box's constant and a round constant, with which they are added
 abbrev pub addend_of : ℕ → List ℕ
-addend_of k = bit_xor k 0x63 ∷ 0x63 ∷ 0x63 ∷ 0x63 ∷ bit_xor k 0x63 ∷ 0x63 ∷ 0x63 ∷ 0x63 ∷ bit_xor k 0x63 ∷ 0x63 ∷ 0x63 ∷ 0x63 ∷ bit_xor k 0x63 ∷ 0x63 ∷ 0x63 ∷ 0x63 ∷ []
+addend_of k = bit_xor k 0x63 ∷ 0x63 ∷ 0x63 ∷ 0x63 ∷ bit_xor k 0x63 ∷ 0x63 ∷ 0x63 ∷ 0x63 ∷ bit_xor k 0x63 ∷ 0x63 ∷ 0x63
+    ∷ 0x63 ∷ bit_xor k 0x63 ∷ 0x63 ∷ 0x63 ∷ 0x63 ∷ []
 
 -- as the code makes them
 abbrev coded_addend : ℕ → List ℕ
 coded_addend k = zip2 bit_xor (zip2 bit_and (replicate 16 k) FIRST_ROW) (replicate 16 0x63)
 
-row_cases : all_below 256 (λ k. (bit_xor (bit_and k 255) 0x63 == bit_xor k 0x63) && (bit_xor (bit_and k 0) 0x63 == 0x63)) ≡ true
+row_cases : all_below 256 (λ k. (bit_xor (bit_and k 255) 0x63 == bit_xor k 0x63)
+    && (bit_xor (bit_and k 0) 0x63 == 0x63)) ≡ true
 unfolding all_below
 row_cases = refl
 
 addend_made : (k : ℕ) → k < 256 → coded_addend k ≡ addend_of k
 addend_made k h =
-    let t = and_parts _ _ (all_below_tells 256 (λ k. (bit_xor (bit_and k 255) 0x63 == bit_xor k 0x63) && (bit_xor (bit_and k 0) 0x63 == 0x63)) row_cases k h) in
+    let t = and_parts _ _ (all_below_tells 256 (λ k. (bit_xor (bit_and k 255) 0x63 == bit_xor k 0x63)
+    && (bit_xor (bit_and k 0) 0x63 == 0x63)) row_cases k h) in
     let e : bit_xor (bit_and k 255) 0x63 ≡ bit_xor k 0x63 = eqb-true _ _ t.0 in
     let z : bit_xor (bit_and k 0) 0x63 ≡ 0x63 = eqb-true _ _ t.1 in
     λ i. e i ∷ z i ∷ z i ∷ z i ∷ e i ∷ z i ∷ z i ∷ z i ∷ e i ∷ z i ∷ z i ∷ z i ∷ e i ∷ z i ∷ z i ∷ z i ∷ []
@@ -121,34 +129,44 @@ abbrev from_start : List ℕ → List ℕ → List ℕ → List ℕ
 from_start x s a = state (λ r c. summed field_add (byte_at x r) (field_add (byte_at s r c) (byte_at a r c)) c)
 
 rotated_state : (x y : List ℕ) (k : ℕ) → length y ≡ 16
-    → from_start x (swizzled (map plus63 y) rotated_column) (addend_of k) ≡ state (λ r c. summed field_add (byte_at x r) (started y k r) c)
+    → from_start x (swizzled (map plus63 y) rotated_column) (addend_of k)
+    ≡ state (λ r c. summed field_add (byte_at x r) (started y k r) c)
 unfolding state build
 rotated_state x y k l =
-    subst (λ v. from_start x (swizzled (map plus63 v) rotated_column) (addend_of k) ≡ state (λ r c. summed field_add (byte_at x r) (started v k r) c)) (built 16 y 0 l) refl
+    subst (λ v. from_start x (swizzled (map plus63 v) rotated_column) (addend_of k)
+    ≡ state (λ r c. summed field_add (byte_at x r) (started v k r) c)) (built 16 y 0 l) refl
 
 rotated_sums : (x y : List ℕ) (k : ℕ) → length y ≡ 16
-    → state (λ r c. summed field_add (byte_at x r) (bit_xor (byte_at y ((r + 1) % 4) 3) (cond (r == 0) k 0)) c) ≡ columns_summed 1 3 x (add_round_key y (constant_block k))
+    → state (λ r c. summed field_add (byte_at x r) (bit_xor (byte_at y ((r + 1) % 4) 3) (cond (r == 0) k 0)) c)
+    ≡ columns_summed 1 3 x (add_round_key y (constant_block k))
 unfolding state build columns_summed add_round_key constant_block
 rotated_sums x y k l =
-    subst (λ v. state (λ r c. summed field_add (byte_at x r) (bit_xor (byte_at v ((r + 1) % 4) 3) (cond (r == 0) k 0)) c) ≡ columns_summed 1 3 x (add_round_key v (constant_block k))) (built 16 y 0 l) refl
+    subst (λ v. state (λ r c. summed field_add (byte_at x r) (bit_xor (byte_at v ((r + 1) % 4) 3) (cond (r == 0) k 0))
+    c) ≡ columns_summed 1 3 x (add_round_key v (constant_block k))) (built 16 y 0 l) refl
 
 summed_from : (x : ℕ → ℕ) (s t c : ℕ) → s ≡ t → summed field_add x s c ≡ summed field_add x t c
 summed_from x s t c e = ap (λ v. summed field_add x v c) e
 
-pub rotated_is : (x y p z : List ℕ) (k : ℕ) → k < 256 → length y ≡ 16 → p ≡ map plus63 y → z ≡ from_start x (swizzled p rotated_column) (coded_addend k)
+pub rotated_is : (x y p z : List ℕ) (k : ℕ) → k < 256 → length y ≡ 16 → p ≡ map plus63 y → z
+    ≡ from_start x (swizzled p rotated_column) (coded_addend k)
     → z ≡ columns_summed 1 3 x (add_round_key y (constant_block k))
 rotated_is x y p z k h l e f =
-    f ∙ ap (from_start x (swizzled p rotated_column)) (addend_made k h) ∙ ap (λ v. from_start x (swizzled v rotated_column) (addend_of k)) e ∙ rotated_state x y k l
+    f ∙ ap (from_start x (swizzled p rotated_column)) (addend_made k h)
+    ∙ ap (λ v. from_start x (swizzled v rotated_column) (addend_of k)) e ∙ rotated_state x y k l
     ∙ state_same _ _ (λ r c i j. summed_from (byte_at x r) _ _ c (started_is y k r i))
     ∙ rotated_sums x y k l
 
 substituted_state : (x y : List ℕ) → length y ≡ 16
-    → from_start x (swizzled (map plus63 y) last_column) (replicate 16 0x63) ≡ state (λ r c. summed field_add (byte_at x r) (plus63 (plus63 (byte_at y ((r + 0) % 4) 3))) c)
+    → from_start x (swizzled (map plus63 y) last_column) (replicate 16 0x63)
+    ≡ state (λ r c. summed field_add (byte_at x r) (plus63 (plus63 (byte_at y ((r + 0) % 4) 3))) c)
 unfolding state build
 substituted_state x y l =
-    subst (λ v. from_start x (swizzled (map plus63 v) last_column) (replicate 16 0x63) ≡ state (λ r c. summed field_add (byte_at x r) (plus63 (plus63 (byte_at v ((r + 0) % 4) 3))) c)) (built 16 y 0 l) refl
+    subst (λ v. from_start x (swizzled (map plus63 v) last_column) (replicate 16 0x63)
+    ≡ state (λ r c. summed field_add (byte_at x r) (plus63 (plus63 (byte_at v ((r + 0) % 4) 3))) c))
+    (built 16 y 0 l) refl
 
-pub substituted_is : (x y p z : List ℕ) → length y ≡ 16 → p ≡ map plus63 y → z ≡ from_start x (swizzled p last_column) (replicate 16 0x63)
+pub substituted_is : (x y p z : List ℕ) → length y ≡ 16 → p ≡ map plus63 y → z ≡ from_start x (swizzled p last_column)
+    (replicate 16 0x63)
     → z ≡ columns_summed 0 3 x y
 unfolding columns_summed
 substituted_is x y p z l e f =
@@ -156,12 +174,15 @@ substituted_is x y p z l e f =
     ∙ state_same _ _ (λ r c i j. summed_from (byte_at x r) _ _ c (add_twice (byte_at y ((r + 0) % 4) 3) 0x63))
 
 plain_state : (x y : List ℕ) → length y ≡ 16
-    → from_start x (swizzled y second_column) (replicate 16 0) ≡ state (λ r c. summed field_add (byte_at x r) (bit_xor (byte_at y ((r + 0) % 4) 1) 0) c)
+    → from_start x (swizzled y second_column) (replicate 16 0)
+    ≡ state (λ r c. summed field_add (byte_at x r) (bit_xor (byte_at y ((r + 0) % 4) 1) 0) c)
 unfolding state build
 plain_state x y l =
-    subst (λ v. from_start x (swizzled v second_column) (replicate 16 0) ≡ state (λ r c. summed field_add (byte_at x r) (bit_xor (byte_at v ((r + 0) % 4) 1) 0) c)) (built 16 y 0 l) refl
+    subst (λ v. from_start x (swizzled v second_column) (replicate 16 0)
+    ≡ state (λ r c. summed field_add (byte_at x r) (bit_xor (byte_at v ((r + 0) % 4) 1) 0) c)) (built 16 y 0 l) refl
 
-pub plain_is : (x y z : List ℕ) → length y ≡ 16 → z ≡ from_start x (swizzled y second_column) (replicate 16 0) → z ≡ columns_summed 0 1 x y
+pub plain_is : (x y z : List ℕ) → length y ≡ 16 → z ≡ from_start x (swizzled y second_column) (replicate 16 0) → z
+    ≡ columns_summed 0 1 x y
 unfolding columns_summed
 plain_is x y z l f =
     f ∙ plain_state x y l
@@ -176,7 +197,8 @@ pub straddled_is : (x y : List ℕ) → length x ≡ 16 → length y ≡ 16 → 
 unfolding state build columns_straddled
 straddled_is x y l m =
     subst (λ v. pick_l 0 (v ++ y) straddling ≡ columns_straddled v y) (built 16 x 0 l)
-    (subst (λ w. pick_l 0 (build 16 (λ i. get_or x i 0) ++ w) straddling ≡ columns_straddled (build 16 (λ i. get_or x i 0)) w) (built 16 y 0 m) refl)
+    (subst (λ w. pick_l 0 (build 16 (λ i. get_or x i 0) ++ w) straddling
+    ≡ columns_straddled (build 16 (λ i. get_or x i 0)) w) (built 16 y 0 m) refl)
 
 -- ---- stored round keys
 
@@ -184,11 +206,20 @@ inner_cases : all_below 256 (λ b. key_untower (bit_xor (by_nibbles TOWER_LOW TO
 unfolding all_below key_untower
 inner_cases = refl
 
-pub inner_is : (x y : List ℕ) → IsBytes x → length y ≡ 16 → y ≡ map (by_nibbles TOWER_LOW TOWER_HIGH) x → map key_untower (zip2 bit_xor y (replicate 16 0x6e)) ≡ x
+pub inner_is : (x y : List ℕ) → IsBytes x → length y ≡ 16 → y ≡ map (by_nibbles TOWER_LOW TOWER_HIGH) x
+    → map key_untower (zip2 bit_xor y (replicate 16 0x6e)) ≡ x
 inner_is x y h l e =
-    ap (map key_untower) (zip2_splat bit_xor y 16 0x6e l ∙ ap (map (λ v. bit_xor v 0x6e)) e ∙ map-map (λ v. bit_xor v 0x6e) (by_nibbles TOWER_LOW TOWER_HIGH) x)
+    ap (map key_untower) (zip2_splat bit_xor y 16 0x6e l ∙ ap (map (λ v. bit_xor v 0x6e)) e
+    ∙ map-map (λ v. bit_xor v 0x6e) (by_nibbles TOWER_LOW TOWER_HIGH) x)
     ∙ map-map key_untower (λ b. bit_xor (by_nibbles TOWER_LOW TOWER_HIGH b) 0x6e) x
-    ∙ maps_same (λ b. key_untower (bit_xor (by_nibbles TOWER_LOW TOWER_HIGH b) 0x6e)) (λ b. b) inner_cases x h ∙ map-id x
+    ∙ maps_same (λ b. key_untower (bit_xor (by_nibbles TOWER_LOW TOWER_HIGH b) 0x6e)) (λ b. b) inner_cases x h
+    ∙ map-id x
+
+pub plain_key_is : (x y : List ℕ) → length y ≡ 16 → y ≡ map (by_nibbles UNTOWER_LOW UNTOWER_HIGH) x
+    → zip2 bit_xor y (replicate 16 0x63) ≡ map key_untower x
+unfolding key_untower
+plain_key_is x y l e =
+    zip2_splat bit_xor y 16 0x63 l ∙ ap (map plus63) e ∙ map-map plus63 (by_nibbles UNTOWER_LOW UNTOWER_HIGH) x
 
 plus63_twice : (x : List ℕ) → map plus63 (map plus63 x) ≡ x
 plus63_twice [] = refl

@@ -1,8 +1,9 @@
 -- States round by round, under stored round keys.
-use Rattle.std.proofs.Common.{◌≡◌, ℕ, ◌+◌, ◌-◌, ◌<◌, ◌≤◌, ◌==◌, if◌then◌else◌, List, [], length, map, refl, ap, sym, ◌∙◌, arith}
+use Rattle.std.proofs.Common.{◌≡◌, ℕ, ◌+◌, ◌-◌, ◌<◌, ◌≤◌, ◌==◌, if◌then◌else◌, List, [], length, map, refl, ap, sym}
+use Rattle.std.proofs.Common.{◌∙◌, arith}
 use Rattle.std.proofs.lemmas.Bool.{eq-eqb, ne_eqb}
 use Rattle.aes_planes.specs.Fips197 as fips
-use Rattle.aes_planes.specs.Private.Rounds.{rounds_after, all_rounds}
+use Rattle.aes_planes.specs.Rounds.{rounds_after, all_rounds}
 use Rattle.aes_planes.proofs.Lists.Built.{get_or-build, length-build}
 use Rattle.aes_planes.proofs.Standard.AllRounds.{rounds_more}
 use Rattle.aes_permute.specs.Stored.{round_keys_of}
@@ -10,7 +11,8 @@ use Rattle.aes_permute.specs.Stored.{round_keys_of}
 module _ (first inner last : ℕ → ℕ) (stored : List (List ℕ)) where
   pub keys_length : length (round_keys_of first inner last stored) ≡ length stored
   unfolding round_keys_of
-  keys_length = length-build (length stored) (λ i. map (if i == 0 then first else if i == fips.last_round stored then last else inner) (fips.round_key stored i))
+  keys_length = length-build (length stored) (λ i.
+      map (if i == 0 then first else if i == fips.last_round stored then last else inner) (fips.round_key stored i))
 
   pub last_is_last : fips.last_round (round_keys_of first inner last stored) ≡ fips.last_round stored
   last_is_last = ap (λ v. v - 1) keys_length
@@ -19,22 +21,26 @@ module _ (first inner last : ℕ → ℕ) (stored : List (List ℕ)) where
       → fips.round_key (round_keys_of first inner last stored) i
       ≡ map (if i == 0 then first else if i == fips.last_round stored then last else inner) (fips.round_key stored i)
   unfolding round_keys_of
-  key_at i lt = get_or-build (length stored) i (λ i. map (if i == 0 then first else if i == fips.last_round stored then last else inner) (fips.round_key stored i)) [] lt
+  key_at i lt = get_or-build (length stored) i (λ i. map
+      (if i == 0 then first else if i == fips.last_round stored then last else inner) (fips.round_key stored i)) [] lt
 
-  pub first_key : 1 ≤ length stored → fips.round_key (round_keys_of first inner last stored) 0 ≡ map first (fips.round_key stored 0)
+  pub first_key : 1 ≤ length stored → fips.round_key (round_keys_of first inner last stored) 0
+      ≡ map first (fips.round_key stored 0)
   first_key some = key_at 0 (omega arith)
 
   pub inner_key : (i : ℕ) → 1 ≤ i → i < fips.last_round stored
       → fips.round_key (round_keys_of first inner last stored) i ≡ map inner (fips.round_key stored i)
   inner_key i some before =
       key_at i (omega arith)
-      ∙ (λ j. map (if ne_eqb i 0 (omega arith) j then first else if ne_eqb i (fips.last_round stored) (omega arith) j then last else inner) (fips.round_key stored i))
+      ∙ (λ j. map (if ne_eqb i 0 (omega arith) j then first else if ne_eqb i (fips.last_round stored) (omega arith) j
+      then last else inner) (fips.round_key stored i))
 
   pub last_key : (i : ℕ) → 2 ≤ length stored → i ≡ fips.last_round stored
       → fips.round_key (round_keys_of first inner last stored) i ≡ map last (fips.round_key stored i)
   last_key i two e =
       key_at i (omega arith)
-      ∙ (λ j. map (if ne_eqb i 0 (omega arith) j then first else if eq-eqb i (fips.last_round stored) e j then last else inner) (fips.round_key stored i))
+      ∙ (λ j. map (if ne_eqb i 0 (omega arith) j then first else if eq-eqb i (fips.last_round stored) e j then last else
+      inner) (fips.round_key stored i))
 
   -- ---- the three kinds of rounds, on what a state stands for
 
@@ -44,7 +50,8 @@ module _ (first inner last : ℕ → ℕ) (stored : List (List ℕ)) where
   unfolding rounds_after
   first_state step state b x some e = e ∙ ap (fips.add_round_key b) (sym (first_key some))
 
-  pub next_state : (step : List ℕ → List ℕ) (state : ℕ → ℕ) (b x y : List ℕ) (i : ℕ) → 1 ≤ i → i < fips.last_round stored
+  pub next_state : (step : List ℕ → List ℕ) (state : ℕ → ℕ) (b x y : List ℕ) (i : ℕ) → 1 ≤ i
+      → i < fips.last_round stored
       → map state y ≡ fips.add_round_key (step (map state x)) (map inner (fips.round_key stored i))
       → map state x ≡ rounds_after step (round_keys_of first inner last stored) b (i - 1)
       → map state y ≡ rounds_after step (round_keys_of first inner last stored) b (i + 1 - 1)
@@ -54,7 +61,8 @@ module _ (first inner last : ℕ → ℕ) (stored : List (List ℕ)) where
       ∙ rounds_more step (round_keys_of first inner last stored) b i some
       ∙ ap (rounds_after step (round_keys_of first inner last stored) b) n
 
-  pub last_state : (step last_step : List ℕ → List ℕ) (state : ℕ → ℕ) (b x y : List ℕ) (i : ℕ) → 2 ≤ length stored → i ≡ fips.last_round stored
+  pub last_state : (step last_step : List ℕ → List ℕ) (state : ℕ → ℕ) (b x y : List ℕ) (i : ℕ) → 2 ≤ length stored → i
+      ≡ fips.last_round stored
       → y ≡ fips.add_round_key (last_step (map state x)) (map last (fips.round_key stored (fips.last_round stored)))
       → map state x ≡ rounds_after step (round_keys_of first inner last stored) b (i - 1)
       → y ≡ all_rounds step last_step (round_keys_of first inner last stored) b

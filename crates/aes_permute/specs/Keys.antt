@@ -20,25 +20,17 @@ key_of size w = take size (fips.round_key w 0 ++ fips.round_key w 1)
 abbrev pub first_two : List (List ℕ) → List (List ℕ)
 first_two v = fips.round_key v (fips.last_round v) ∷ fips.mix_columns (fips.round_key v (fips.last_round v - 1)) ∷ []
 
-unfoldable pub encrypting_key : ℕ → List (List ℕ) → List ℕ
-unfolding round_keys_of
-encrypting_key size stored = key_of size (encrypting stored)
+-- the key of so many bytes that round keys are read as, in their order of use; `first_keys` says which are the
+-- standard's first two
+unfoldable pub key_in : (List (List ℕ) → List (List ℕ)) → ℕ → List (List ℕ) → List ℕ
+key_in first_keys size v = key_of size (first_keys v)
 
-unfoldable pub decrypting_key : ℕ → List (List ℕ) → List ℕ
-unfolding round_keys_of
-decrypting_key size stored = key_of size (first_two (decrypting stored))
-
--- stored round keys of the key of so many bytes that they are read as, for Cipher
-pub record IsEncrypting (size : ℕ) (stored : List (List ℕ)) : Type 0 where
-  pub sized : length (encrypting_key size stored) ≡ size
-  pub bytes : fips.IsBytes (encrypting_key size stored)
-  pub keys : encrypting stored ≡ fips.key_expansion (encrypting_key size stored)
-
--- and for EqInvCipher
-pub record IsDecrypting (size : ℕ) (stored : List (List ℕ)) : Type 0 where
-  pub sized : length (decrypting_key size stored) ≡ size
-  pub bytes : fips.IsBytes (decrypting_key size stored)
-  pub keys : decrypting stored ≡ fips.inverted_keys (fips.key_expansion (decrypting_key size stored))
+-- round keys of the key of so many bytes that they are read as, in their order of use; `used_keys` makes them of the
+-- standard's list
+pub record IsKeyed (used_keys first_keys : List (List ℕ) → List (List ℕ)) (size : ℕ) (v : List (List ℕ)) : Type 0 where
+  pub sized : length (key_in first_keys size v) ≡ size
+  pub bytes : fips.IsBytes (key_in first_keys size v)
+  pub keys : v ≡ used_keys (fips.key_expansion (key_in first_keys size v))
 
 -- a number of bytes that keys have
 pub record IsKeySize (size : ℕ) : Type 0 where

@@ -1,5 +1,5 @@
 -- How states and round keys are kept: what a byte of each stands for.
-use Rattle.std.specs.Prelude.{ℕ, ◌==◌, if◌then◌else◌, List, length, map}
+use Rattle.std.specs.Prelude.{◌≡◌, ℕ, ◌-◌, ◌<◌, ◌≤◌, ◌==◌, Bool, if◌then◌else◌, List, length, map}
 use Rattle.aes_planes.specs.Fips197 as fips
 use Rattle.aes_planes.specs.Planes.{plus63}
 use Rattle.aes_permute.specs.Lookup.{by_nibbles}
@@ -26,4 +26,20 @@ as_is b = b
 unfoldable pub round_keys_of : (ℕ → ℕ) → (ℕ → ℕ) → (ℕ → ℕ) → List (List ℕ) → List (List ℕ)
 unfolding fips.build
 round_keys_of first inner last stored =
-    fips.build (length stored) (λ i. map (if i == 0 then first else if i == fips.last_round stored then last else inner) (fips.round_key stored i))
+    fips.build (length stored) (λ i. map (if i == 0 then first else if i == fips.last_round stored then last else inner)
+    (fips.round_key stored i))
+
+-- where round key i of a list stands, by the number of the last and whether they stand in reverse
+abbrev pub place_of : Bool → ℕ → ℕ → ℕ
+place_of backward last i = if backward then last - i else i
+
+-- stored round keys that were written one by one: the first is as it is, the last has the constant of the S-box, and of
+-- those between `used` makes what `inner` says that their bytes stand for
+pub record AreWritten (backward : Bool) (inner : ℕ → ℕ) (used : List ℕ → List ℕ) (w stored : List (List ℕ)) : Type 0
+  where
+    pub same_length : length stored ≡ length w
+    pub first : fips.round_key stored (place_of backward (fips.last_round w) 0) ≡ fips.round_key w 0
+    pub between : (i : ℕ) → 1 ≤ i → i < fips.last_round w
+        → map inner (fips.round_key stored (place_of backward (fips.last_round w) i)) ≡ used (fips.round_key w i)
+    pub last : map plus63 (fips.round_key stored (place_of backward (fips.last_round w) (fips.last_round w)))
+        ≡ fips.round_key w (fips.last_round w)

@@ -9,6 +9,7 @@ mod copies;
 mod decrypt;
 mod encrypt;
 mod text;
+mod under;
 
 use crate::keys::KeySchedule;
 use crate::sizes::KeySize;

@@ -1,16 +1,18 @@
-//! What ciphers keep of a key: its round keys for Cipher, for EqInvCipher, or for both.
+//! What ciphers keep of a key: its round keys for one direction, or for both.
 
 ghost use Rattle.std.specs.Prelude.{◌≡◌, ℕ, List, length};
 ghost use Rattle.aes_planes.specs.Fips197 as fips;
-ghost use Rattle.aes_permute.specs.Keys.{encrypting, decrypting};
+ghost use Rattle.aes_permute.specs.Stored.{round_keys_of};
 
 mod both_ways;
 mod one_way;
 
+use crate::directions::LaneRounds;
 use crate::sizes::KeySize;
 use aes_planes::soft::word::Block;
 pub use both_ways::BothWays;
-pub use one_way::{Decrypting, Encrypting};
+pub use one_way::OneWay;
+pub(crate) use one_way::turned;
 
 /// The stored round keys of a key. Contracts see the key that they are read as.
 pub trait KeySchedule: Drop {
@@ -32,7 +34,7 @@ pub trait KeySchedule: Drop {
         ensures keyed { AreKeyed result }
         ensures same { key result ≡ bytes.now };
 
-    /// Wipes the round keys where they are, and leaves those of another key.
+    /// Wipes the round keys in place, and replaces them by those of another key.
     fn rekey(&mut self, bytes: &[u8])
         requires { length bytes.now ≡ Self.Size.SIZE }
         ensures keyed { AreKeyed self.new }
@@ -51,20 +53,12 @@ pub trait KeySchedule: Drop {
         ensures bytes { fips.IsBytes (key self.now) };
 }
 
-/// Round keys for Cipher.
-pub trait Encrypts: KeySchedule {
-    /// Lends the round keys for Cipher.
-    fn lend_encrypting(&self) -> &[Block]
+/// Round keys for a direction, among others perhaps.
+pub trait Includes<D: LaneRounds>: KeySchedule {
+    /// Lends the round keys for the direction.
+    fn lend(&self) -> &[Block]
         requires { Self.AreKeyed self.now }
-        ensures keys { encrypting result.now ≡ fips.key_expansion (Self.key self.now) }
-        ensures blocks { fips.AreRoundKeys result.now };
-}
-
-/// Round keys for EqInvCipher.
-pub trait Decrypts: KeySchedule {
-    /// Lends the round keys for EqInvCipher.
-    fn lend_decrypting(&self) -> &[Block]
-        requires { Self.AreKeyed self.now }
-        ensures keys { decrypting result.now ≡ fips.inverted_keys (fips.key_expansion (Self.key self.now)) }
+        ensures keys { round_keys_of D.first_byte D.inner_byte D.last_byte result.now
+            ≡ D.used_keys (fips.key_expansion (Self.key self.now)) }
         ensures blocks { fips.AreRoundKeys result.now };
 }

@@ -1,8 +1,10 @@
-//! AES by vector permutations (FIPS 197): a block in one vector, and the S-box by tables of sixteen bytes that stand in vectors.
+//! AES by vector permutations (FIPS 197): a block in one vector, and the S-box by tables of sixteen bytes that stand in
+//! vectors.
 #![tactic(auto)]
 
 pub mod blocks;
 mod ciphers;
+pub mod directions;
 pub mod keys;
 pub mod lanes;
 mod names;
@@ -10,11 +12,10 @@ pub mod rounds;
 pub mod sbox;
 pub mod schedule;
 pub mod sizes;
+pub mod stored;
 pub mod tables;
 #[cfg(test)]
 mod tests;
-pub mod ways;
-pub mod wiped;
 
 pub use ciphers::{AesCipher, Backend, TwoBlocks};
 pub use names::{

@@ -1,5 +1,5 @@
-//! The rounds of Cipher and EqInvCipher on lanes. States are kept in the tower basis, and round keys so that the constant of
-//! the S-box is added with them.
+//! The rounds of Cipher and EqInvCipher on lanes, and their round keys. States are kept in the tower basis, and round
+//! keys so that the constant of the S-box is added with them.
 
 ghost use Rattle.std.specs.Prelude.{◌≡◌, map};
 ghost use Rattle.aes_planes.specs.Fips197 as fips;
@@ -26,7 +26,8 @@ pub fn encrypt_first(block: u8x16, key: u8x16) -> u8x16
 pub fn encrypt_round(x: u8x16, key: u8x16) -> u8x16
     requires block { fips.IsBlock x }
     requires key { fips.IsBlock key }
-    ensures { map untower result ≡ fips.add_round_key (fips.mix_columns (fips.shift_rows (fips.sub_bytes (map untower x)))) (map key_untower key) }
+    ensures { map untower result ≡ fips.add_round_key
+        (fips.mix_columns (fips.shift_rows (fips.sub_bytes (map untower x)))) (map key_untower key) }
 {
     let at = places_of(x);
     let one = looked_up(at, ONE_FIRST, ONE_SECOND);
@@ -65,13 +66,18 @@ pub fn decrypt_first(block: u8x16, key: u8x16) -> u8x16
 pub fn decrypt_round(x: u8x16, key: u8x16) -> u8x16
     requires block { fips.IsBlock x }
     requires key { fips.IsBlock key }
-    ensures { map inv_untower result ≡ fips.add_round_key (fips.inv_mix_columns (fips.inv_shift_rows (fips.inv_sub_bytes (map inv_untower x)))) (map inv_untower key) }
+    ensures { map inv_untower result ≡ fips.add_round_key
+        (fips.inv_mix_columns (fips.inv_shift_rows (fips.inv_sub_bytes (map inv_untower x)))) (map inv_untower key) }
 {
     let at = places_of(x);
-    let by_14 = looked_up(at, INV_14_FIRST, INV_14_SECOND);
-    let by_11 = looked_up(at, INV_11_FIRST, INV_11_SECOND);
-    let by_13 = looked_up(at, INV_13_FIRST, INV_13_SECOND);
+    let by_1 = looked_up(at, INV_1_FIRST, INV_1_SECOND);
+    let by_4 = looked_up(at, INV_4_FIRST, INV_4_SECOND);
     let by_9 = looked_up(at, INV_9_FIRST, INV_9_SECOND);
+    let by_15 = looked_up(at, INV_15_FIRST, INV_15_SECOND);
+    // Each of these is of use twice. LLVM turns the two look-ups of a sum one by one where nothing else uses the sum.
+    let by_14 = sum(by_1, by_15);
+    let by_11 = sum(by_15, by_4);
+    let by_13 = sum(by_4, by_9);
     let first = by_14.swizzle([0, 13, 10, 7, 4, 1, 14, 11, 8, 5, 2, 15, 12, 9, 6, 3]);
     let second = by_11.swizzle([13, 10, 7, 0, 1, 14, 11, 4, 5, 2, 15, 8, 9, 6, 3, 12]);
     let third = by_13.swizzle([10, 7, 0, 13, 14, 11, 4, 1, 2, 15, 8, 5, 6, 3, 12, 9]);
@@ -90,20 +96,53 @@ pub fn decrypt_last(x: u8x16, key: u8x16) -> u8x16
     one.swizzle([0, 13, 10, 7, 4, 1, 14, 11, 8, 5, 2, 15, 12, 9, 6, 3]) ^ key
 }
 
-/// InvMixColumns of a round key (FIPS 197, 5.3.3): from the form that Cipher's inner rounds use to that of EqInvCipher's.
+/// Returns a round key of Cipher between the first and the last as it is stored.
 #[inline(always)]
-pub fn unmixed_key(x: u8x16) -> u8x16
-    requires block { fips.IsBlock x }
-    ensures { map inv_untower result ≡ fips.inv_mix_columns (map key_untower x) }
+pub fn encrypt_key(key: u8x16) -> u8x16
+    requires { fips.IsBlock key }
+    ensures { map key_untower result ≡ key }
 {
-    let by_14 = looked_up_by_nibbles(x, KEY_14_LOW, KEY_14_HIGH);
-    let by_11 = looked_up_by_nibbles(x, KEY_11_LOW, KEY_11_HIGH);
-    let by_13 = looked_up_by_nibbles(x, KEY_13_LOW, KEY_13_HIGH);
-    let by_9 = looked_up_by_nibbles(x, KEY_9_LOW, KEY_9_HIGH);
+    // The sum is made after the look-up, which the substitution of the next words makes too. It is of what is looked up
+    // for 0x63.
+    looked_up_by_nibbles(key, TOWER_LOW, TOWER_HIGH) ^ u8x16::splat(0x6e)
+}
+
+/// Returns a round key of EqInvCipher between the first and the last as it is stored: InvMixColumns of that of Cipher
+/// (FIPS 197, 5.3.5).
+#[inline(always)]
+pub fn decrypt_key(key: u8x16) -> u8x16
+    requires { fips.IsBlock key }
+    ensures { map inv_untower result ≡ fips.inv_mix_columns key }
+{
+    let by_1 = looked_up_by_nibbles(key, KEY_1_LOW, KEY_1_HIGH);
+    let by_4 = looked_up_by_nibbles(key, KEY_4_LOW, KEY_4_HIGH);
+    let by_9 = looked_up_by_nibbles(key, KEY_9_LOW, KEY_9_HIGH);
+    let by_15 = looked_up_by_nibbles(key, KEY_15_LOW, KEY_15_HIGH);
+    let by_14 = sum(by_1, by_15);
+    let by_11 = sum(by_15, by_4);
+    let by_13 = sum(by_4, by_9);
     let second = by_11.swizzle([1, 2, 3, 0, 5, 6, 7, 4, 9, 10, 11, 8, 13, 14, 15, 12]);
     let third = by_13.swizzle([2, 3, 0, 1, 6, 7, 4, 5, 10, 11, 8, 9, 14, 15, 12, 13]);
     let fourth = by_9.swizzle([3, 0, 1, 2, 7, 4, 5, 6, 11, 8, 9, 10, 15, 12, 13, 14]);
     (by_14 ^ (third ^ fourth)) ^ second
+}
+
+// The round key that a stored one of Cipher stands for, between the first and the last.
+#[inline(always)]
+fn plain_key(stored: u8x16) -> u8x16
+    requires { fips.IsBlock stored }
+    ensures { result ≡ map key_untower stored }
+{
+    looked_up_by_nibbles(stored, UNTOWER_LOW, UNTOWER_HIGH) ^ u8x16::splat(0x63)
+}
+
+/// Turns a stored round key of Cipher into one of EqInvCipher, between the first and the last.
+#[inline(always)]
+pub fn inverted_key(stored: u8x16) -> u8x16
+    requires { fips.IsBlock stored }
+    ensures { map inv_untower result ≡ fips.inv_mix_columns (map key_untower stored) }
+{
+    decrypt_key(plain_key(stored))
 }
 
 /// SubBytes of a block as it is, but for the constant of the S-box (FIPS 197, 5.1.1).

@@ -10,7 +10,8 @@ use crate::lanes::{high_nibbles, lookup, low_nibbles, sum};
 use crate::tables::{INVERSE, SCALED_INVERSE};
 use std::simd::prelude::*;
 
-/// The two places of an inverse in the field, lane by lane. What is linear in the inverse is the sum of two tables' entries.
+/// The two places of an inverse in the field, lane by lane. What is linear in the inverse is the sum of two tables'
+/// entries.
 #[derive(Clone, Copy)]
 pub struct TwoPlaces {
     /// The place in the first table.

@@ -3,11 +3,12 @@
 ghost use Rattle.std.specs.Prelude.{◌≡◌, ◌+◌, ◌≤◌, length, map, take, drop};
 ghost use Rattle.aes_planes.specs.Fips197 as fips;
 ghost use Rattle.aes_planes.specs.Planes.{plus63, constant_block, columns_summed, columns_straddled, summed};
-ghost use Rattle.aes_permute.specs.Stored.{as_is, inv_untower, key_untower, round_keys_of};
+ghost use Rattle.aes_permute.specs.Keys.{encrypting, decrypting};
+ghost use Rattle.aes_permute.specs.Stored.{place_of, round_keys_of};
 
-use crate::lanes::{looked_up_by_nibbles, lookup, sum};
-use crate::rounds::{sub_bytes_but_constant, unmixed_key};
-use crate::tables::{TOWER_HIGH, TOWER_LOW};
+use crate::directions::LaneRounds;
+use crate::lanes::{lookup, sum};
+use crate::rounds::{inverted_key, sub_bytes_but_constant};
 use aes_planes::laws;
 use aes_planes::soft::word::Block;
 use std::simd::prelude::*;
@@ -31,7 +32,8 @@ fn summed_columns(before: u8x16, start: u8x16, addend: u8x16) -> u8x16
     requires before { length before ≡ 16 }
     requires start { length start ≡ 16 }
     requires addend { length addend ≡ 16 }
-    ensures { result ≡ fips.state (λ r c. summed fips.field_add (fips.byte_at before r) (fips.field_add (fips.byte_at start r c) (fips.byte_at addend r c)) c) }
+    ensures { result ≡ fips.state (λ r c. summed fips.field_add (fips.byte_at before r)
+        (fips.field_add (fips.byte_at start r c) (fips.byte_at addend r c)) c) }
 {
     let pairs = sum(
         before,
@@ -97,17 +99,7 @@ fn straddled_columns(left: u8x16, right: u8x16) -> u8x16
     )
 }
 
-// A round key in the form in which Cipher's inner rounds use it.
-#[inline(always)]
-fn inner_key(x: u8x16) -> Block
-    requires { fips.IsBlock x }
-    ensures { map key_untower result ≡ x }
-{
-    // The sum is made after the look-up, which the substitution of the next words makes too. It is of what is looked up for 0x63.
-    (looked_up_by_nibbles(x, TOWER_LOW, TOWER_HIGH) ^ u8x16::splat(0x6e)).to_array()
-}
-
-// The last round key in the form in which Cipher uses it.
+// The last round key as it is stored, in either direction.
 #[inline(always)]
 fn last_key(x: u8x16) -> Block
     requires { length x ≡ 16 }
@@ -125,78 +117,95 @@ fn part_of(key: &[u8], from: usize) -> u8x16
     u8x16::from_array(*key[from..from + 16].as_array::<16>().unwrap())
 }
 
-/// Leaves the round keys of a key of 16 bytes in the form in which Cipher uses them.
-pub fn expand_128(keys: &mut [Block], key: &[u8])
+// Where round key i is stored, if the last has this number.
+#[inline(always)]
+fn place<D: LaneRounds>(i: usize, last: usize) -> usize
+    requires { i ≤ last }
+    ensures at { result ≡ place_of D.BACKWARD last i }
+    ensures within { result ≤ last }
+{
+    if D::BACKWARD { last - i } else { i }
+}
+
+/// Writes the round keys of a key of 16 bytes as a direction uses them.
+pub fn expand_128<D: LaneRounds>(keys: &mut [Block], key: &[u8])
     requires round_keys { length keys.old ≡ 11 }
     requires sized { length key.now ≡ 16 }
-    ensures keys { round_keys_of as_is key_untower plus63 keys.new ≡ fips.key_expansion key.now }
+    ensures keys { round_keys_of D.first_byte D.inner_byte D.last_byte keys.new
+        ≡ D.used_keys (fips.key_expansion key.now) }
     ensures same_length { length keys.new ≡ 11 }
 {
     let mut words = part_of(key, 0);
-    keys[0] = words.to_array();
+    keys[place::<D>(0, 10)] = words.to_array();
     for i in 0..9 {
         words = rotated_words(words, words, POWERS_OF_X[i]);
-        keys[i + 1] = inner_key(words);
+        keys[place::<D>(i + 1, 10)] = D::inner_key(words).to_array();
     }
-    keys[10] = last_key(rotated_words(words, words, POWERS_OF_X[9]));
+    keys[place::<D>(10, 10)] = last_key(rotated_words(words, words, POWERS_OF_X[9]));
+    D::uses_written();
 }
 
-/// Leaves the round keys of a key of 24 bytes in the form in which Cipher uses them.
-pub fn expand_192(keys: &mut [Block], key: &[u8])
+/// Writes the round keys of a key of 24 bytes as a direction uses them.
+pub fn expand_192<D: LaneRounds>(keys: &mut [Block], key: &[u8])
     requires round_keys { length keys.old ≡ 13 }
     requires sized { length key.now ≡ 24 }
-    ensures keys { round_keys_of as_is key_untower plus63 keys.new ≡ fips.key_expansion key.now }
+    ensures keys { round_keys_of D.first_byte D.inner_byte D.last_byte keys.new
+        ≡ D.used_keys (fips.key_expansion key.now) }
     ensures same_length { length keys.new ≡ 13 }
 {
     // Six words at a time: `front` has the first four, and `back` the last four.
     let mut front = part_of(key, 0);
     let mut back = part_of(key, 8);
-    keys[0] = front.to_array();
+    keys[place::<D>(0, 12)] = front.to_array();
     for i in 0..4 {
         let front1 = rotated_words(front, back, POWERS_OF_X[2 * i]);
         let back1 = plain_words(back, front1);
         // Twelve words are three round keys, and the one in the middle has two words of each six.
-        keys[3 * i + 1] = inner_key(straddled_columns(back, front1));
-        keys[3 * i + 2] = inner_key(back1);
+        let middle = straddled_columns(back, front1);
+        keys[place::<D>(3 * i + 1, 12)] = D::inner_key(middle).to_array();
+        keys[place::<D>(3 * i + 2, 12)] = D::inner_key(back1).to_array();
         front = rotated_words(front1, back1, POWERS_OF_X[2 * i + 1]);
         back = plain_words(back1, front);
-        keys[3 * i + 3] = inner_key(front);
+        keys[place::<D>(3 * i + 3, 12)] = D::inner_key(front).to_array();
     }
-    keys[12] = last_key(front);
+    keys[place::<D>(12, 12)] = last_key(front);
+    D::uses_written();
 }
 
-/// Leaves the round keys of a key of 32 bytes in the form in which Cipher uses them.
-pub fn expand_256(keys: &mut [Block], key: &[u8])
+/// Writes the round keys of a key of 32 bytes as a direction uses them.
+pub fn expand_256<D: LaneRounds>(keys: &mut [Block], key: &[u8])
     requires round_keys { length keys.old ≡ 15 }
     requires sized { length key.now ≡ 32 }
-    ensures keys { round_keys_of as_is key_untower plus63 keys.new ≡ fips.key_expansion key.now }
+    ensures keys { round_keys_of D.first_byte D.inner_byte D.last_byte keys.new
+        ≡ D.used_keys (fips.key_expansion key.now) }
     ensures same_length { length keys.new ≡ 15 }
 {
     // Eight words at a time: `even` has the first four, and `odd` the last four.
     let mut even = part_of(key, 0);
     let mut odd = part_of(key, 16);
-    keys[0] = even.to_array();
-    keys[1] = inner_key(odd);
+    keys[place::<D>(0, 14)] = even.to_array();
+    keys[place::<D>(1, 14)] = D::inner_key(odd).to_array();
     for i in 0..6 {
         even = rotated_words(even, odd, POWERS_OF_X[i]);
-        keys[2 * i + 2] = inner_key(even);
+        keys[place::<D>(2 * i + 2, 14)] = D::inner_key(even).to_array();
         odd = substituted_words(odd, even);
-        keys[2 * i + 3] = inner_key(odd);
+        keys[place::<D>(2 * i + 3, 14)] = D::inner_key(odd).to_array();
     }
-    keys[14] = last_key(rotated_words(even, odd, POWERS_OF_X[6]));
+    keys[place::<D>(14, 14)] = last_key(rotated_words(even, odd, POWERS_OF_X[6]));
+    D::uses_written();
 }
 
-/// Turns round keys of Cipher into those of EqInvCipher, in their order of use (FIPS 197, 5.3.5). The first and the last
-/// are as they were.
+/// Turns stored round keys of Cipher into those of EqInvCipher, in their order of use (FIPS 197, 5.3.5). The first and
+/// the last are as they were.
 pub fn invert(keys: &mut [Block])
     requires { 2 ≤ length keys.old }
-    ensures keys { round_keys_of plus63 inv_untower as_is keys.new ≡ fips.inverted_keys (round_keys_of as_is key_untower plus63 keys.old) }
+    ensures keys { decrypting keys.new ≡ fips.inverted_keys (encrypting keys.old) }
     ensures same_length { length keys.new ≡ length keys.old }
 {
     keys.reverse();
     for i in 1..keys.len() - 1 {
         let key = keys[i];
         laws::is_block(key);
-        keys[i] = unmixed_key(u8x16::from_array(key)).to_array();
+        keys[i] = inverted_key(u8x16::from_array(key)).to_array();
     }
 }

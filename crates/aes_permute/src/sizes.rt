@@ -1,12 +1,16 @@
 //! The sizes of keys, and the key schedule of each.
 
-ghost use Rattle.std.specs.Prelude.{◌≡◌, ℕ, List, length};
+ghost use Rattle.std.specs.Prelude.{◌≡◌, ◌≤◌, ℕ, List, length};
 ghost use Rattle.std.proofs.Common.{arith};
 ghost use Rattle.aes_planes.specs.Fips197 as fips;
-ghost use Rattle.aes_permute.specs.Keys.{encrypting, IsKeySize};
+ghost use Rattle.aes_permute.specs.Keys.{encrypting, decrypting, IsKeySize};
+ghost use Rattle.aes_permute.specs.Stored.{round_keys_of};
 
-use crate::schedule::{expand_128, expand_192, expand_256};
-use crate::wiped::{Stored, WipedBlocks};
+use crate::directions::LaneRounds;
+use crate::schedule::{expand_128, expand_192, expand_256, invert};
+use crate::stored::Stored;
+use aes_cipher::zeroize::Wiped;
+use aes_planes::soft::word::Block;
 
 /// A size of keys.
 pub trait KeySize {
@@ -33,10 +37,18 @@ pub trait KeySize {
         ensures same { result.now ≡ bytes key.now }
         ensures sized { length result.now ≡ SIZE };
 
-    /// Leaves the round keys of a key, for Cipher: KeyExpansion (FIPS 197, 5.2).
-    fn expand(keys: &mut Self::Keys, key: &[u8])
+    /// Writes the round keys of a key as a direction uses them: KeyExpansion (FIPS 197, 5.2), and KeyExpansionEIC for
+    /// decrypting (5.3.5).
+    fn expand<D: LaneRounds>(keys: &mut Self::Keys, key: &[u8])
         requires { length key.now ≡ SIZE }
-        ensures { encrypting (Self.Keys.blocks keys.new) ≡ fips.key_expansion key.now };
+        ensures { round_keys_of D.first_byte D.inner_byte D.last_byte (Self.Keys.blocks keys.new)
+            ≡ D.used_keys (fips.key_expansion key.now) };
+
+    /// Turns the round keys of Cipher into those of EqInvCipher.
+    fn invert(keys: &mut Self::Keys)
+        requires { 2 ≤ length (Self.Keys.blocks keys.old) }
+        ensures { decrypting (Self.Keys.blocks keys.new)
+            ≡ fips.inverted_keys (encrypting (Self.Keys.blocks keys.old)) };
 
     /// A key has four to eight words.
     ghost is_size: { IsKeySize SIZE };
@@ -54,7 +66,7 @@ pub struct Bits256;
 impl KeySize for Bits128 {
     type Key = [u8; 16];
 
-    type Keys = WipedBlocks<11>;
+    type Keys = Wiped<[Block; 11]>;
 
     ghost bytes = { λ key. key };
 
@@ -70,8 +82,13 @@ impl KeySize for Bits128 {
     }
 
     #[inline(always)]
-    fn expand(keys: &mut WipedBlocks<11>, key: &[u8]) {
-        expand_128(&mut keys.blocks, key);
+    fn expand<D: LaneRounds>(keys: &mut Wiped<[Block; 11]>, key: &[u8]) {
+        expand_128::<D>(keys.words_mut(), key);
+    }
+
+    #[inline(always)]
+    fn invert(keys: &mut Wiped<[Block; 11]>) {
+        invert(keys.words_mut());
     }
 
     ghost is_size = { record { words = Prim.omega arith; four = Prim.omega arith; eight = Prim.omega arith } };
@@ -80,7 +97,7 @@ impl KeySize for Bits128 {
 impl KeySize for Bits192 {
     type Key = [u8; 24];
 
-    type Keys = WipedBlocks<13>;
+    type Keys = Wiped<[Block; 13]>;
 
     ghost bytes = { λ key. key };
 
@@ -96,8 +113,13 @@ impl KeySize for Bits192 {
     }
 
     #[inline(always)]
-    fn expand(keys: &mut WipedBlocks<13>, key: &[u8]) {
-        expand_192(&mut keys.blocks, key);
+    fn expand<D: LaneRounds>(keys: &mut Wiped<[Block; 13]>, key: &[u8]) {
+        expand_192::<D>(keys.words_mut(), key);
+    }
+
+    #[inline(always)]
+    fn invert(keys: &mut Wiped<[Block; 13]>) {
+        invert(keys.words_mut());
     }
 
     ghost is_size = { record { words = Prim.omega arith; four = Prim.omega arith; eight = Prim.omega arith } };
@@ -106,7 +128,7 @@ impl KeySize for Bits192 {
 impl KeySize for Bits256 {
     type Key = [u8; 32];
 
-    type Keys = WipedBlocks<15>;
+    type Keys = Wiped<[Block; 15]>;
 
     ghost bytes = { λ key. key };
 
@@ -122,8 +144,13 @@ impl KeySize for Bits256 {
     }
 
     #[inline(always)]
-    fn expand(keys: &mut WipedBlocks<15>, key: &[u8]) {
-        expand_256(&mut keys.blocks, key);
+    fn expand<D: LaneRounds>(keys: &mut Wiped<[Block; 15]>, key: &[u8]) {
+        expand_256::<D>(keys.words_mut(), key);
+    }
+
+    #[inline(always)]
+    fn invert(keys: &mut Wiped<[Block; 15]>) {
+        invert(keys.words_mut());
     }
 
     ghost is_size = { record { words = Prim.omega arith; four = Prim.omega arith; eight = Prim.omega arith } };

@@ -1,5 +1,6 @@
 -- The standard: its field, its steps and its ciphers.
 pub mod AllRounds
+pub mod ByTable
 pub mod CipherInverses
 pub mod CipherLaws
 pub mod FieldInverses

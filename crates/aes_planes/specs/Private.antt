@@ -2,5 +2,4 @@
 pub mod BuiltLength
 pub mod Lanes
 pub mod Packing
-pub mod Rounds
 pub mod Swaps

@@ -19,7 +19,8 @@ mixing_undone b h =
     ∙ inv_mix_of_mix s (shift_block (fips.sub_bytes b) (sub_bytes_bytes b h))
 
 pub inverse_mixing_undone : (b : List ℕ) → fips.IsBytes b
-    → fips.mix_columns (fips.add_round_key (fips.inv_mix_columns (fips.inv_shift_rows (fips.inv_sub_bytes b))) (replicate 16 0))
+    → fips.mix_columns (fips.add_round_key (fips.inv_mix_columns (fips.inv_shift_rows (fips.inv_sub_bytes b)))
+    (replicate 16 0))
     ≡ fips.inv_shift_rows (fips.inv_sub_bytes b)
 inverse_mixing_undone b h =
     let s = fips.inv_shift_rows (fips.inv_sub_bytes b) in

@@ -1,5 +1,4 @@
-//! The key expansion, and the cipher and its inverse under any list of round keys, made of single
-//! rounds.
+//! The key expansion, and the cipher and its inverse under any list of round keys, built from single rounds.
 
 mod both_keys;
 mod both_ways;

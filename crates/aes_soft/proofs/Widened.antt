@@ -1,5 +1,6 @@
 -- Words of one block whose bits stand in every slot of wider words.
-use Rattle.std.proofs.Common.{◌≡◌, ℕ, suc, ◌+◌, ◌*◌, ◌/◌, ◌%◌, ◌<◌, ◌≤◌, Bool, List, [], ◌∷◌, ◌++◌, length, map, take, get_or, slice_index, replicate, set, refl, ap, sym, subst, ◌∙◌, arith, inl, inr}
+use Rattle.std.proofs.Common.{◌≡◌, ℕ, suc, ◌+◌, ◌*◌, ◌/◌, ◌%◌, ◌<◌, ◌≤◌, Bool, List, [], ◌∷◌, ◌++◌, length, map, take}
+use Rattle.std.proofs.Common.{get_or, slice_index, replicate, set, refl, ap, sym, subst, ◌∙◌, arith, inl, inr}
 use Rattle.std.proofs.lemmas.Bool.{cases_lt}
 use Rattle.std.proofs.lemmas.List.{get_or-replicate, length-replicate, get_or-set_same, get_or-set_other}
 use Rattle.std.proofs.lemmas.Nat.{mul-add-lt}
@@ -23,15 +24,18 @@ same_maps f g (y ∷ ys) (x ∷ xs) l h =
     (λ t. h 0 y (omega arith) t ∷ same_maps f g ys xs (omega arith) (λ m d lt. h (suc m) d (omega arith)) t)
 
 -- one more member of a list is put, and what holds of it
-pub put_more : {A : Type 0} (P : ℕ → A → Type 0) (ys : List A) (i : ℕ) (y : A) → i < length ys → ((m : ℕ) (d : A) → m < i → P m (get_or ys m d)) → P i y
+pub put_more : {A : Type 0} (P : ℕ → A → Type 0) (ys : List A) (i : ℕ) (y : A) → i < length ys
+    → ((m : ℕ) (d : A) → m < i → P m (get_or ys m d)) → P i y
     → (m : ℕ) (d : A) → m < i + 1 → P m (get_or (set ys i y) m d)
 put_more P ys i y room before here m d lt = elim (cases_lt m i) [
   | inl low ↦ subst (P m) (sym (get_or-set_other ys i m y d (λ e. absurd (omega (arith, e, low))))) (before m d low)
-  | inr ge ↦ let e : i ≡ m = omega arith in subst (λ m. P m (get_or (set ys i y) m d)) e (subst (P i) (sym (get_or-set_same ys i y d room)) here)
+  | inr ge ↦ let e : i ≡ m = omega arith in subst (λ m. P m (get_or (set ys i y) m d)) e
+      (subst (P i) (sym (get_or-set_same ys i y d room)) here)
 ]
 
 -- which of sixteen bits stands at a place, where a row has R bits and a column Q
-bit_of_place : (n R Q r c k : ℕ) → R ≡ 4 * n → Q ≡ n → r < 4 → c < 4 → k < n → 4 * (place n r c k / R) + place n r c k % R / Q ≡ r * 4 + c
+bit_of_place : (n R Q r c k : ℕ) → R ≡ 4 * n → Q ≡ n → r < 4 → c < 4 → k < n → 4 * (place n r c k / R) + place n r c
+    k % R / Q ≡ r * 4 + c
 bit_of_place n R Q r c k eR eQ hr hc hk =
     let x : c * n + k < 4 * n = omega (arith, mul-add-lt c n k 4 hc hk) in
     let row : place n r c k / R ≡ r = ap (λ v. place n r c k / v) eR ∙ digits_div r x in
@@ -42,7 +46,8 @@ module _ {A : Type 0} (bits : A → List Bool) (w R Q : ℕ) (xs : List ℕ) whe
   abbrev pub InEverySlot : ℕ → A → Type 0
   InEverySlot m y = Places w (bits y) (λ i. bit (slice_index xs m) (4 * (i / R) + i % R / Q))
 
-  module _ (n : ℕ) (some : 1 ≤ n) (ew : w ≡ 16 * n) (eR : R ≡ 4 * n) (eQ : Q ≡ n) (ys : List A) (same_length : length ys ≡ length xs)
+  module _ (n : ℕ) (some : 1 ≤ n) (ew : w ≡ 16 * n) (eR : R ≡ 4 * n) (eQ : Q ≡ n) (ys : List A)
+      (same_length : length ys ≡ length xs)
       (spread : (m : ℕ) (d : A) → m < length xs → InEverySlot m (get_or ys m d)) where
     abbrev wide : List (List Bool)
     wide = map bits ys
@@ -54,7 +59,8 @@ module _ {A : Type 0} (bits : A → List Bool) (w R Q : ℕ) (xs : List ℕ) whe
     block : ℕ → List ℕ
     block o = fips.state (λ r c. held_byte (words_at narrow o) (place 1 r c 0))
 
-    same_byte : (o r c k : ℕ) → r < 4 → c < 4 → k < n → held_byte (words_at wide o) (place n r c k) ≡ held_byte (words_at narrow o) (place 1 r c 0)
+    same_byte : (o r c k : ℕ) → r < 4 → c < 4 → k < n → held_byte (words_at wide o) (place n r c k)
+        ≡ held_byte (words_at narrow o) (place 1 r c 0)
     same_byte o r c k hr hc hk =
         let p : ℕ = place n r c k in
         let q : ℕ = place 1 r c 0 in
@@ -66,7 +72,8 @@ module _ {A : Type 0} (bits : A → List Bool) (w R Q : ℕ) (xs : List ℕ) whe
         ∙ same_maps (λ y. at (bits y) p) (λ x. at (word_bits 16 x) q) ys xs same_length
         (λ m d lt.
         (spread m d lt) p (omega (arith, ew, place_lt n r c k hr hc hk))
-        ∙ ap (bit (slice_index xs m)) (bit_of_place n R Q r c k eR eQ hr hc hk ∙ spot) ∙ sym (get_or-build 16 q (bit (slice_index xs m)) _ (omega arith)))
+        ∙ ap (bit (slice_index xs m)) (bit_of_place n R Q r c k eR eQ hr hc hk ∙ spot)
+        ∙ sym (get_or-build 16 q (bit (slice_index xs m)) _ (omega arith)))
         ∙ sym (map-map (λ w. at w q) (word_bits 16) xs))
         ∙ words_at-map (λ w. at w q) narrow o)
 
@@ -87,7 +94,8 @@ module _ {A : Type 0} (bits : A → List Bool) (w R Q : ℕ) (xs : List ℕ) whe
 
     pub same_key : (size : ℕ) (layout : ℕ → ℕ) → key_of size n layout wide ≡ key_of size 1 layout narrow
     unfolding key_of
-    same_key size layout = λ t. take size (same_first_slot 0 t ++ fips.shift_times (layout 1) (map plus63 (same_first_slot 1 t)))
+    same_key size layout = λ t. take size
+        (same_first_slot 0 t ++ fips.shift_times (layout 1) (map plus63 (same_first_slot 1 t)))
 
     same_blocks : (count : ℕ) (f : ℕ → List ℕ) → HoldsBlocks 1 count f narrow → HoldsBlocks n count f wide
     same_blocks count f holds i lt =

@@ -12,7 +12,6 @@ ghost use Rattle.aes_soft.specs.Batches.{layers_for};
 ghost use Rattle.aes_soft.specs.Stored.{compact, full, key_of, size_of, IsSchedule};
 
 /// The expansion of sixteen bytes of zeros, a round key a line.
-#[tactic(auto, unfolding(crate::proofs::OnLiterals::stored_on_literals))]
 pub fn zero_key_expansion()
     ensures { fips.key_expansion (bytes 16 0) ≡ map (bytes 16) (
         0x00000000000000000000000000000000 ∷

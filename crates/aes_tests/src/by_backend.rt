@@ -1,4 +1,4 @@
-//! Backends as ciphers: what has a backend and no slice calls of its own gets them here.
+//! Backends as ciphers: gives slice calls to a value that only has a backend.
 
 ghost use Rattle.std.specs.Prelude.{◌≡◌};
 

@@ -1,4 +1,4 @@
-//! Cipher block chaining over any block cipher (SP 800-38A, 6.2): a mode as users write one, on blocks that are whole.
+//! Cipher block chaining over any block cipher (SP 800-38A, 6.2): a mode as users write one, on whole blocks.
 
 ghost use Rattle.std.specs.Prelude.{◌≡◌};
 ghost use Rattle.aes_tests.specs.Cbc.{chained, unchained};

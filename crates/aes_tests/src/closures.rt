@@ -1,4 +1,4 @@
-//! Work that is done with a backend, whatever its batch: closures as users write them, each for both directions.
+//! Closures as users write them, which work with a backend of any batch size, each for both directions.
 
 ghost use Rattle.std.specs.Prelude.{◌≡◌, length};
 ghost use Rattle.aes_planes.specs.Each.{Each};
@@ -14,7 +14,7 @@ use aes_planes::laws;
 use aes_planes::soft::word::Block;
 use one_way::{process_all, process_first_then_all};
 
-/// Leaves the backend alone, and its field as it was.
+/// Does nothing with the backend, and leaves its own field unchanged.
 #[derive(Drop)]
 pub struct Nothing {
     pub count: u8,
@@ -32,7 +32,7 @@ impl BlockCipherDecClosure for Nothing {
     fn call<B: BlockCipherDecBackend>(&mut self, _backend: &B) {}
 }
 
-/// Works on its block, and on what that gave once more.
+/// Processes its block, and then the result once more.
 #[derive(Drop)]
 pub struct Twice {
     pub block: Block,
@@ -56,7 +56,7 @@ impl BlockCipherDecClosure for Twice {
     }
 }
 
-/// Works on blocks that somebody lent: batches while a whole one is left, then single blocks.
+/// Processes blocks that it borrows: batches while a whole one is left, then single blocks.
 #[derive(Drop)]
 pub struct Row<'a> {
     pub blocks: &'a mut [Block],
@@ -82,7 +82,7 @@ impl<'a> BlockCipherDecClosure for Row<'a> {
     }
 }
 
-/// Works on 24 blocks of its own: a single one, then batches while a whole one is left, then single blocks.
+/// Processes 24 blocks of its own: a single one, then batches while a whole one is left, then single blocks.
 #[derive(Drop)]
 pub struct Mixed {
     pub blocks: [Block; 24],
@@ -104,7 +104,7 @@ impl BlockCipherDecClosure for Mixed {
     }
 }
 
-/// Encrypts the blocks, batch by batch where batches fit, by any cipher's backend.
+/// Encrypts the blocks with any cipher's backend, in batches where batches fit.
 pub fn encrypt_row<C: BlockCipherEncrypt>(cipher: &C, blocks: &mut [Block])
     ensures { Each (fips.cipher_with (C.round_keys cipher.now)) blocks.old blocks.new }
 {

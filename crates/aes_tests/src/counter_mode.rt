@@ -1,6 +1,6 @@
 //! Callers of counter mode.
 
-ghost use Rattle.std.specs.Prelude.{◌≡◌, ◌++◌, IfOk, OnOk};
+ghost use Rattle.std.specs.Prelude.{◌≡◌, ◌↔◌, ◌+◌, ◌-◌, ◌^◌, ◌<◌, ◌++◌, length, IsErr, IfOk, OnOk, OnErr};
 ghost use Rattle.aes_planes.specs.Fips197 as fips;
 ghost use Rattle.aes_ctr.specs.CounterMode.{keystream_byte, plus_stream};
 
@@ -14,13 +14,14 @@ mod tests;
 ///
 /// # Errors
 ///
-/// `KeystreamEnd` where the message has more bytes than the keystream.
+/// `KeystreamEnd` exactly if the message has more bytes than the keystream.
 pub fn there_and_back<C: KeyInit + BlockCipherEncrypt + Drop>(
     key: &C::Key,
     iv: Block,
     message: &mut [u8],
 ) -> Result<(), KeystreamEnd>
-    ensures { OnOk result (message.new ≡ message.old) }
+    ensures refusal { IsErr result ↔ (2 ^ 64 - 1 < length message.old) }
+    ensures back { OnOk result (message.new ≡ message.old) }
 {
     let mut sender = Ctr128BE::new(C::new(key), iv);
     sender.try_apply(message)?;
@@ -33,13 +34,14 @@ pub fn there_and_back<C: KeyInit + BlockCipherEncrypt + Drop>(
 ///
 /// # Errors
 ///
-/// `KeystreamEnd` where the keystream ends before the second part does.
+/// `KeystreamEnd` exactly if the keystream ends before the second part does; the first may be changed by then.
 pub fn apply_to_parts<C: BlockCipherEncrypt>(
     mode: &mut Ctr128BE<C>,
     head: &mut [u8],
     rest: &mut [u8],
 ) -> Result<(), KeystreamEnd>
-    ensures { OnOk result (head.new ++ rest.new
+    ensures refusal { IsErr result ↔ (2 ^ 64 - 1 < mode.old.position + (length head.old + length rest.old)) }
+    ensures added { OnOk result (head.new ++ rest.new
         ≡ plus_stream (keystream_byte mode.old.round_keys mode.old.iv) mode.old.position (head.old ++ rest.old)) }
 {
     stream_cut();
@@ -48,19 +50,21 @@ pub fn apply_to_parts<C: BlockCipherEncrypt>(
     Ok(())
 }
 
-/// Adds the keystream of a cipher that is lent, from a position on.
+/// Adds the keystream of a borrowed cipher, from a position on.
 ///
 /// # Errors
 ///
-/// `KeystreamEnd` where the keystream ends before the message does.
+/// `KeystreamEnd` exactly if the keystream ends before the message does, which is then what it was.
 pub fn apply_at<C: BlockCipherEncrypt>(
     cipher: &C,
     iv: Block,
     position: u64,
     message: &mut [u8],
 ) -> Result<(), KeystreamEnd>
-    ensures { OnOk result (message.new
+    ensures refusal { IsErr result ↔ (2 ^ 64 - 1 < position + length message.old) }
+    ensures added { OnOk result (message.new
         ≡ plus_stream (keystream_byte (C.round_keys cipher.now) iv) position message.old) }
+    ensures untouched { OnErr result (message.new ≡ message.old) }
 {
     let mut mode = Ctr128BE::new_at(cipher, iv, position);
     mode.try_apply(message)
@@ -70,13 +74,16 @@ pub fn apply_at<C: BlockCipherEncrypt>(
 ///
 /// # Errors
 ///
-/// `KeystreamEnd` where the keystream ends before the message does.
+/// `KeystreamEnd` exactly if the keystream ends before the message does.
 pub fn apply_then_encrypt<C: BlockCipherEncrypt + Drop>(
     cipher: C,
     iv: Block,
     message: &mut [u8],
     block: &mut Block,
 ) -> Result<C, KeystreamEnd>
+    ensures refusal { IsErr result ↔ (2 ^ 64 - 1 < length message.old) }
+    ensures added { OnOk result (message.new
+        ≡ plus_stream (keystream_byte (C.round_keys cipher) iv) 0 message.old) }
     ensures cipher { IfOk result (λ back. back ≡ cipher) }
     ensures block { OnOk result (block.new ≡ fips.cipher_with (C.round_keys cipher) block.old) }
 {

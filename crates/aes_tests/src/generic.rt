@@ -8,8 +8,8 @@ use aes_cipher::cipher::{
 };
 use aes_planes::laws;
 
-/// Encrypts a block by a value that somebody else made, and decrypts it again: the block comes back. There is no key in
-/// sight, so the contract speaks of the value's round keys.
+/// Encrypts a block with a value that somebody else made, and decrypts it again: the block comes back. The key is not
+/// known here, so the contract refers to the value's round keys.
 pub fn there_and_back_by<C: BlockCipherEncrypt + BlockCipherDecrypt>(
     cipher: &C,
     block: &mut Block,
@@ -24,7 +24,7 @@ pub fn there_and_back_by<C: BlockCipherEncrypt + BlockCipherDecrypt>(
     there
 }
 
-/// The same by a value made from a key. What stands between is the standard's cipher of that key.
+/// The same with a value made from a key. The result in between is the standard's cipher under that key.
 pub fn there_and_back<C: KeyInit + BlockCipherEncrypt + BlockCipherDecrypt + Drop>(
     key: &C::Key,
     block: &mut Block,
@@ -35,11 +35,11 @@ pub fn there_and_back<C: KeyInit + BlockCipherEncrypt + BlockCipherDecrypt + Dro
     there_and_back_by(&C::new(key), block)
 }
 
-/// The same by a key that came as a slice.
+/// The same with a key given as a slice.
 ///
 /// # Errors
 ///
-/// `InvalidLength` exactly where the slice doesn't have the size of a key.
+/// `InvalidLength` exactly if the slice doesn't have the size of a key.
 pub fn there_and_back_from_slice<C: KeyInit + BlockCipherEncrypt + BlockCipherDecrypt + Drop>(
     key: &[u8],
     block: &mut Block,

@@ -1,4 +1,4 @@
-//! Ciphers of the key of another.
+//! Clones and conversions: ciphers with the key of another.
 
 ghost use Rattle.std.specs.Prelude.{◌≡◌, ⊤};
 

@@ -14,8 +14,8 @@ use aes_soft::soft::decrypt_with_backend;
 use aes_soft::soft::key_sizes::{AesVariant, WipedKeys};
 
 impl<K: AesVariant, D: Includes<Decrypt>> AesCipher<K, D> {
-    /// Decrypts each block in its place (InvCipher, FIPS 197, 5.3), counted: whole batches run as many S-box
-    /// layers as the cipher has rounds, and so does each single block after them.
+    /// Decrypts each block in place (InvCipher, FIPS 197, 5.3), and counts the S-box layers: as many as the cipher
+    /// has rounds for each whole batch, and as many for each block after them.
     pub fn decrypt_blocks_counted(&self, blocks: &mut [Block], layers: &mut Layers)
         ensures blocks { Each (fips.inv_cipher self.now) blocks.old blocks.new }
         ensures layers { layers.new ≡ layers.old + layers_for K.RoundKeys.ROUNDS (length blocks.old) }

@@ -2,13 +2,13 @@
 
 use aes_cipher::cipher::{Decrypt, Direction, Encrypt};
 
-/// A set of directions: both, encryption alone or decryption alone.
+/// A set of directions: both, only encryption or only decryption.
 pub trait Directions {
     /// How the name of a type ends.
     const SUFFIX: &'static str;
 }
 
-/// A set that has the direction D.
+/// A set that contains the direction D.
 pub trait Includes<D: Direction>: Directions {}
 
 /// Encryption and decryption. The set of one direction is that direction itself.

@@ -14,8 +14,8 @@ use aes_soft::soft::encrypt_with_backend;
 use aes_soft::soft::key_sizes::{AesVariant, WipedKeys};
 
 impl<K: AesVariant, D: Includes<Encrypt>> AesCipher<K, D> {
-    /// Encrypts each block in its place (Cipher, FIPS 197, 5.1), counted: whole batches run as many S-box
-    /// layers as the cipher has rounds, and so does each single block after them.
+    /// Encrypts each block in place (Cipher, FIPS 197, 5.1), and counts the S-box layers: as many as the cipher has
+    /// rounds for each whole batch, and as many for each block after them.
     pub fn encrypt_blocks_counted(&self, blocks: &mut [Block], layers: &mut Layers)
         ensures blocks { Each (fips.cipher self.now) blocks.old blocks.new }
         ensures layers { layers.new ≡ layers.old + layers_for K.RoundKeys.ROUNDS (length blocks.old) }

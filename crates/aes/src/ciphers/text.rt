@@ -1,6 +1,4 @@
-//! The names of the ciphers, as text.
-//!
-//! Nothing of a key is written.
+//! The names of the ciphers as text, which shows nothing of a key.
 
 use super::{AesCipher, Directions};
 use aes_cipher::cipher::AlgorithmName;

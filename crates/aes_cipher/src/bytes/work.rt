@@ -17,7 +17,7 @@ pub(super) trait Work {
     /// What becomes of a block.
     ghost worked: { Self → List ℕ → List ℕ };
 
-    /// Leaves it of each block in its place.
+    /// Processes each block in place.
     fn work(&self, blocks: &mut [Block])
         ensures { Each (worked self.now) blocks.old blocks.new };
 }

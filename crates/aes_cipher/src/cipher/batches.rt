@@ -13,14 +13,14 @@ pub trait BatchSize {
     /// How many blocks a batch has.
     const PAR_BLOCKS: usize;
 
-    /// A batch has a block or more.
+    /// A batch has at least one block.
     ghost at_least_one: { 1 ≤ PAR_BLOCKS };
 }
 
-/// A type that says by another type how many blocks a batch has.
+/// A type that names another type for the number of blocks in a batch.
 ///
-/// A backend that borrows its round keys has a lifetime, and the number of a constant in an `impl` for a type with a
-/// lifetime can't be stated today. So a backend names a type without one, and has its number from there.
+/// A backend that borrows its round keys has a lifetime, and the toolchain refuses a constant with a ghost number in an
+/// `impl` for such a type. So a backend names a type without a lifetime that has the number.
 pub trait BatchSizeUser: RoundKeysUser {
     /// The type that has the number.
     type Par: BatchSize;
@@ -34,7 +34,7 @@ pub trait ParBlocksSizeUser: BlockSizeUser {
     /// How many blocks a batch has.
     const PAR_BLOCKS: usize;
 
-    /// A batch has a block or more.
+    /// A batch has at least one block.
     ghost at_least_one: { 1 ≤ PAR_BLOCKS };
 }
 

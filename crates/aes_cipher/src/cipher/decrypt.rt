@@ -15,11 +15,11 @@ pub trait BlockCipherDecrypt: BlockSizeUser + RoundKeysUser {
     fn decrypt_with_backend<F: BlockCipherDecClosure>(&self, f: &mut F)
         ensures { F.did f.old (Self.round_keys self.now) f.new };
 
-    /// Leaves InvCipher of the block, under the value's round keys (FIPS 197, 5.3).
+    /// Decrypts the block in place under the value's round keys (InvCipher, FIPS 197, 5.3).
     fn decrypt_block(&self, block: &mut Block)
         ensures { block.new ≡ fips.inv_cipher_with (Self.round_keys self.now) block.old };
 
-    /// Leaves InvCipher of one block in another, under the value's round keys (FIPS 197, 5.3).
+    /// Decrypts a block from one buffer to another under the value's round keys (InvCipher, FIPS 197, 5.3).
     fn decrypt_block_b2b(&self, input: &Block, output: &mut Block)
         ensures { output.new ≡ fips.inv_cipher_with (Self.round_keys self.now) input.now }
     {
@@ -27,16 +27,16 @@ pub trait BlockCipherDecrypt: BlockSizeUser + RoundKeysUser {
         self.decrypt_block(output);
     }
 
-    /// Leaves InvCipher of each block in its place, under the value's round keys (FIPS 197, 5.3).
+    /// Decrypts each block of a slice in place under the value's round keys (InvCipher, FIPS 197, 5.3).
     fn decrypt_blocks(&self, blocks: &mut [Block])
         ensures { Each (fips.inv_cipher_with (Self.round_keys self.now)) blocks.old blocks.new };
 
-    /// Leaves InvCipher of each block of one slice at its place in another, under the value's round keys
-    /// (FIPS 197, 5.3).
+    /// Decrypts each block of one slice to its place in another, under the value's round keys (InvCipher, FIPS 197,
+    /// 5.3).
     ///
     /// # Errors
     ///
-    /// `NotEqualError` exactly where the slices differ in length; the output is then what it was.
+    /// `NotEqualError` exactly if the slices differ in length; the output is then unchanged.
     fn decrypt_blocks_b2b(&self, input: &[Block], output: &mut [Block]) -> Result<(), NotEqualError>
         ensures refusal { IsErr result ↔ (length input.now ≢ length output.old) }
         ensures written { OnOk result (Each (fips.inv_cipher_with (Self.round_keys self.now)) input.now output.new) }

@@ -5,7 +5,7 @@ ghost use Rattle.aes_planes.specs.Fips197 as fips;
 
 /// A direction in which blocks are processed.
 pub trait Direction {
-    /// What comes of a block under a list of round keys.
+    /// What a block becomes under a list of round keys.
     ghost processed: { List (List ℕ) → List ℕ → List ℕ };
 }
 

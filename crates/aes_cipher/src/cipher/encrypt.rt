@@ -15,11 +15,11 @@ pub trait BlockCipherEncrypt: BlockSizeUser + RoundKeysUser {
     fn encrypt_with_backend<F: BlockCipherEncClosure>(&self, f: &mut F)
         ensures { F.did f.old (Self.round_keys self.now) f.new };
 
-    /// Leaves Cipher of the block, under the value's round keys (FIPS 197, 5.1).
+    /// Encrypts the block in place under the value's round keys (Cipher, FIPS 197, 5.1).
     fn encrypt_block(&self, block: &mut Block)
         ensures { block.new ≡ fips.cipher_with (Self.round_keys self.now) block.old };
 
-    /// Leaves Cipher of one block in another, under the value's round keys (FIPS 197, 5.1).
+    /// Encrypts a block from one buffer to another under the value's round keys (Cipher, FIPS 197, 5.1).
     fn encrypt_block_b2b(&self, input: &Block, output: &mut Block)
         ensures { output.new ≡ fips.cipher_with (Self.round_keys self.now) input.now }
     {
@@ -27,16 +27,16 @@ pub trait BlockCipherEncrypt: BlockSizeUser + RoundKeysUser {
         self.encrypt_block(output);
     }
 
-    /// Leaves Cipher of each block in its place, under the value's round keys (FIPS 197, 5.1).
+    /// Encrypts each block of a slice in place under the value's round keys (Cipher, FIPS 197, 5.1).
     fn encrypt_blocks(&self, blocks: &mut [Block])
         ensures { Each (fips.cipher_with (Self.round_keys self.now)) blocks.old blocks.new };
 
-    /// Leaves Cipher of each block of one slice at its place in another, under the value's round keys
-    /// (FIPS 197, 5.1).
+    /// Encrypts each block of one slice to its place in another, under the value's round keys (Cipher, FIPS 197,
+    /// 5.1).
     ///
     /// # Errors
     ///
-    /// `NotEqualError` exactly where the slices differ in length; the output is then what it was.
+    /// `NotEqualError` exactly if the slices differ in length; the output is then unchanged.
     fn encrypt_blocks_b2b(&self, input: &[Block], output: &mut [Block]) -> Result<(), NotEqualError>
         ensures refusal { IsErr result ↔ (length input.now ≢ length output.old) }
         ensures written { OnOk result (Each (fips.cipher_with (Self.round_keys self.now)) input.now output.new) }

@@ -1,9 +1,9 @@
-//! What calls on ciphers refuse.
+//! The errors of calls on ciphers.
 
-/// A slice that should have been a key has another length than a key.
+/// The slice that was given as a key doesn't have the length of a key.
 #[derive(Debug, Clone, Copy, PartialEq, Eq)]
 pub struct InvalidLength;
 
-/// Two slices of blocks, one to read and one to write, differ in length.
+/// The slices to read from and to write to differ in length.
 #[derive(Debug, Clone, Copy, PartialEq, Eq)]
 pub struct NotEqualError;

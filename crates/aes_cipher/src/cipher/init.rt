@@ -7,25 +7,25 @@ use super::errors::InvalidLength;
 use super::round_keys::RoundKeysUser;
 use super::sizes::KeySizeUser;
 
-/// A type whose values are made from a key, and are seen by contracts with that key.
+/// A type whose values are made from a key. Contracts can name the key of a value.
 pub trait KeyInit: KeySizeUser + RoundKeysUser {
     /// The bytes of the key that a value was made from.
     ghost own_key: { Self → List ℕ };
 
-    /// The value of a key.
+    /// Makes a value from a key.
     fn new(key: &Self::Key) -> Self
         ensures { own_key result ≡ Self.key_bytes key.now };
 
-    /// The value of a key given as a slice.
+    /// Makes a value from a key given as a slice.
     ///
     /// # Errors
     ///
-    /// `InvalidLength` exactly where the slice's length is not KEY_SIZE.
+    /// `InvalidLength` exactly if the slice's length is not KEY_SIZE.
     fn new_from_slice(key: &[u8]) -> Result<Self, InvalidLength>
         ensures refusal { IsErr result ↔ (length key.now ≢ Self.KEY_SIZE) }
         ensures made { IfOk result (λ made. own_key made ≡ key.now) };
 
-    /// Nothing: a call has in its contract what proofs need to know of a value's key.
+    /// No effect; states that the value's key has KEY_SIZE bytes.
     fn has_key(&self)
         ensures sized { length (own_key self.now) ≡ Self.KEY_SIZE }
         ensures bytes { fips.IsBytes (own_key self.now) };

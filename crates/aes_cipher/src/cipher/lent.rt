@@ -1,4 +1,4 @@
-//! A reference as what it refers to: a cipher that is lent is a cipher, and so is a backend.
+//! References: a reference to a cipher is a cipher, and one to a backend is a backend.
 
 use super::batches::BatchSizeUser;
 use super::decrypt::BlockCipherDecrypt;

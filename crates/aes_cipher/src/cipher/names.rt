@@ -8,6 +8,6 @@ pub trait AlgorithmName {
     ///
     /// # Errors
     ///
-    /// `fmt::Error` where the formatter refused; a part of the name may be written by then.
+    /// `fmt::Error` if the formatter fails; part of the name may have been written.
     fn write_alg_name<W: fmt::Write>(f: &mut fmt::Formatter<W>) -> fmt::Result;
 }

@@ -35,7 +35,7 @@ pub trait BlockSizeUser {
     ghost sixteen: { BLOCK_SIZE ≡ 16 };
 }
 
-/// Round keys are blocks, so whoever has them works on blocks.
+/// Round keys are blocks, so every type that has round keys works on blocks.
 impl<T: RoundKeysUser> BlockSizeUser for T {
     ghost BLOCK_SIZE = { 16 };
 

@@ -1,70 +1,74 @@
-//! Words that are dropped as zeros alone: whoever holds them has to wipe them first.
+//! Values that are dropped as zeros alone: whoever holds one has to wipe it first.
 
-ghost use Rattle.std.specs.Prelude.{◌≡◌, ℕ, ◌<◌, ◌^◌, List, length, replicate, slice_index};
+ghost use Rattle.std.specs.Prelude.{◌≡◌};
 
-use super::zeroize_words;
+use super::Zeroize;
 use std::marker::Model;
 
-/// Words whose drop requires that every word is zero, so code outside this module that drops them without a wipe isn't
-/// proved. Contracts see the words.
-pub(super) struct Held<const N: usize> {
-    words: [u16; N],
+/// A value whose drop requires that it is zero, so code that drops it without a wipe isn't proved. It is neither `Copy`
+/// nor
+/// `Clone`. Contracts see the value.
+pub struct Held<V: Zeroize> {
+    value: V,
 }
 
-impl<const N: usize> Model for Held<N> {
-    ghost Value = { List ℕ };
+impl<V: Zeroize> Model for Held<V> {
+    ghost Value = { V };
 
-    ghost view = { λ held. held.words };
+    ghost view = { λ held. held.value };
 }
 
-impl<const N: usize> Held<N> {
+impl<V: Zeroize> Held<V> {
     ghost use Rattle.std.specs.Borrow.{sem};
     ghost use Rattle.aes_cipher.specs.Lends.{lends_held};
 
-    /// Takes words.
+    /// Takes a value.
     #[inline(always)]
-    pub(super) fn new(words: [u16; N]) -> Held<N>
-        ensures { result ≡ words.entry }
+    pub fn new(value: V) -> Held<V>
+        ensures { result ≡ value }
     {
-        Held { words }
+        Held { value }
     }
 
-    /// Lends the words.
+    /// Returns zeros, to be written over.
     #[inline(always)]
-    pub(super) fn words(&self) -> &[u16; N]
+    pub fn zeroed() -> Held<V>
+        ensures { result ≡ V.ZERO }
+    {
+        Held::new(V::zero())
+    }
+
+    /// Lends the value.
+    #[inline(always)]
+    pub fn words(&self) -> &V
         ensures { result.now ≡ self.now }
     {
-        &self.words
+        &self.value
     }
 
-    /// Lends the words to be written over.
+    /// Lends the value to be written over.
     #[inline(always)]
-    pub(super) fn words_mut(&mut self) -> &mut [u16]
-        ensures* writes_back { sem 𝓛 (lends_held N.row self.entry result) }
+    pub fn words_mut(&mut self) -> &mut V
+        ensures* writes_back { sem 𝓛 (lends_held V.row V.Zeroize self.entry result) }
         ensures words { result.now ≡ self.old }
-        ensures sized { length result.now ≡ N }
     {
-        &mut self.words
+        &mut self.value
     }
 
-    /// Sets every word to zero, in place.
-    pub(super) fn wipe(&mut self)
-        ensures { self.new ≡ replicate N 0 }
+    /// Overwrites the value with zeros, in place.
+    #[inline(always)]
+    pub fn wipe(&mut self)
+        ensures { self.new ≡ V.ZERO }
     {
-        zeroize_words(&mut self.words);
-        are_words(self.words);
+        self.value.zeroize();
     }
 }
 
-impl<const N: usize> Drop for Held<N> {
+impl<V: Zeroize> Drop for Held<V> {
+    #[inline(always)]
     fn drop(self)
-        requires wiped { self ≡ replicate N 0 }
+        requires wiped { self ≡ V.ZERO }
     {
-        let Held { words: _ } = self;
+        let Held { value: _ } = self;
     }
 }
-
-// Words of sixteen bits are numbers below 2 ^ 16. No effect.
-fn are_words<const N: usize>(words: [u16; N])
-    ensures { (i : ℕ) → i < length words.entry → slice_index words.entry i < 2 ^ 16 }
-{}

@@ -1,6 +1,6 @@
 //! Words that are wiped, by themselves and in a value.
 
-use super::{Wiped, ZeroizeOnDrop, zeroize_words};
+use super::{Held, Wiped, Zeroize, ZeroizeOnDrop, zeroize_elements, zeroize_words};
 
 #[test]
 fn wipes_words_of_any_width(rt: HostRuntime) {
@@ -17,12 +17,30 @@ fn wipes_words_of_any_width(rt: HostRuntime) {
     assert_eq!(rt; part, [1, 0, 0]);
 }
 
+#[test]
+fn wipes_blocks_where_they_stand(rt: HostRuntime) {
+    let mut blocks = [[7; 16], [8; 16], [9; 16]];
+    zeroize_elements(&mut blocks[1..]);
+    assert_eq!(rt; blocks, [[7; 16], [0; 16], [0; 16]]);
+    blocks.zeroize();
+    assert_eq!(rt; blocks, [[0; 16]; 3]);
+}
+
+#[test]
+fn lets_go_of_what_was_wiped(rt: HostRuntime) {
+    let mut held = Held::<[u128; 2]>::zeroed();
+    *held.words_mut() = [u128::MAX, 1 << 127];
+    assert_eq!(rt; *held.words(), [u128::MAX, 1 << 127]);
+    held.wipe();
+    assert_eq!(rt; *held.words(), [0; 2]);
+}
+
 // Drops a value whose words are wiped by that.
 fn let_go_of<T: ZeroizeOnDrop + Drop>(_value: T) {}
 
 #[test]
 fn wipes_a_value_and_leaves_its_copy(rt: HostRuntime) {
-    let mut value = Wiped::new([7, 8, 9]);
+    let mut value = Wiped::<[u16; 3]>::new([7, 8, 9]);
     let copy = value.copy();
     value.wipe();
     assert_eq!(rt; *value.words(), [0; 3]);

@@ -7,10 +7,10 @@ ghost use Rattle.aes_planes.proofs.Standard.CipherLaws.{two_keys};
 
 use super::AesCipher;
 use crate::blocks::PAR_BLOCKS;
-use crate::keys::{Decrypts, Encrypts, KeySchedule};
+use crate::keys::{Includes, KeySchedule};
 use aes_cipher::cipher::{
     BatchSize, BatchSizeUser, BlockCipherDecBackend, BlockCipherDecrypt, BlockCipherEncBackend,
-    BlockCipherEncrypt, RoundKeysUser,
+    BlockCipherEncrypt, Decrypt, Encrypt, RoundKeysUser,
 };
 use aes_planes::soft::word::Block;
 use std::marker::Model;
@@ -62,7 +62,7 @@ impl<S: KeySchedule> BatchSizeUser for Backend<'_, S> {
     type Par = TwoBlocks;
 }
 
-impl<S: Encrypts> BlockCipherEncBackend for Backend<'_, S> {
+impl<S: Includes<Encrypt>> BlockCipherEncBackend for Backend<'_, S> {
     #[inline(always)]
     fn encrypt_block(&self, block: &mut Block) {
         self.cipher.encrypt_block(block);
@@ -74,7 +74,7 @@ impl<S: Encrypts> BlockCipherEncBackend for Backend<'_, S> {
     }
 }
 
-impl<S: Decrypts> BlockCipherDecBackend for Backend<'_, S> {
+impl<S: Includes<Decrypt>> BlockCipherDecBackend for Backend<'_, S> {
     #[inline(always)]
     fn decrypt_block(&self, block: &mut Block) {
         self.cipher.decrypt_block(block);

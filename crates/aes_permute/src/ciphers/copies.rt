@@ -3,8 +3,9 @@
 ghost use Rattle.std.specs.Prelude.{◌≡◌, ⊤};
 
 use super::AesCipher;
-use crate::keys::{BothWays, Decrypting, Encrypting, KeySchedule};
+use crate::keys::{BothWays, KeySchedule, OneWay, turned};
 use crate::sizes::KeySize;
+use aes_cipher::cipher::{Decrypt, Encrypt};
 use std::alloc::AllocError;
 
 impl<S: KeySchedule> Clone for AesCipher<S> {
@@ -19,38 +20,38 @@ impl<S: KeySchedule> Clone for AesCipher<S> {
     }
 }
 
-impl<K: KeySize> From<&AesCipher<Encrypting<K>>> for AesCipher<Decrypting<K>> {
+impl<K: KeySize> From<&AesCipher<OneWay<K, Encrypt>>> for AesCipher<OneWay<K, Decrypt>> {
     ghost from_gives = { λ enc made. made ≡ enc.now };
 
-    fn from(enc: &AesCipher<Encrypting<K>>) -> AesCipher<Decrypting<K>> {
+    fn from(enc: &AesCipher<OneWay<K, Encrypt>>) -> AesCipher<OneWay<K, Decrypt>> {
         AesCipher {
-            schedule: Decrypting::turned(&enc.schedule),
+            schedule: turned(&enc.schedule),
         }
     }
 }
 
-impl<K: KeySize> From<AesCipher<Encrypting<K>>> for AesCipher<Decrypting<K>> {
+impl<K: KeySize> From<AesCipher<OneWay<K, Encrypt>>> for AesCipher<OneWay<K, Decrypt>> {
     ghost from_gives = { λ enc made. made ≡ enc };
 
-    fn from(enc: AesCipher<Encrypting<K>>) -> AesCipher<Decrypting<K>> {
+    fn from(enc: AesCipher<OneWay<K, Encrypt>>) -> AesCipher<OneWay<K, Decrypt>> {
         AesCipher::from(&enc)
     }
 }
 
-impl<K: KeySize> From<&AesCipher<Encrypting<K>>> for AesCipher<BothWays<K>> {
+impl<K: KeySize> From<&AesCipher<OneWay<K, Encrypt>>> for AesCipher<BothWays<K>> {
     ghost from_gives = { λ enc made. made ≡ enc.now };
 
-    fn from(enc: &AesCipher<Encrypting<K>>) -> AesCipher<BothWays<K>> {
+    fn from(enc: &AesCipher<OneWay<K, Encrypt>>) -> AesCipher<BothWays<K>> {
         AesCipher {
-            schedule: BothWays::turned(&enc.schedule),
+            schedule: BothWays::with_both(&enc.schedule),
         }
     }
 }
 
-impl<K: KeySize> From<AesCipher<Encrypting<K>>> for AesCipher<BothWays<K>> {
+impl<K: KeySize> From<AesCipher<OneWay<K, Encrypt>>> for AesCipher<BothWays<K>> {
     ghost from_gives = { λ enc made. made ≡ enc };
 
-    fn from(enc: AesCipher<Encrypting<K>>) -> AesCipher<BothWays<K>> {
+    fn from(enc: AesCipher<OneWay<K, Encrypt>>) -> AesCipher<BothWays<K>> {
         AesCipher::from(&enc)
     }
 }

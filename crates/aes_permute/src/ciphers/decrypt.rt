@@ -2,25 +2,22 @@
 
 ghost use Rattle.aes_planes.specs.Fips197 as fips;
 
+use super::under::{process_block_under, process_blocks_under};
 use super::{AesCipher, Backend};
-use crate::blocks::{decrypt_block, decrypt_blocks};
-use crate::keys::Decrypts;
-use aes_cipher::cipher::{BlockCipherDecClosure, BlockCipherDecrypt};
-use aes_planes::laws;
+use crate::keys::Includes;
+use aes_cipher::cipher::{BlockCipherDecClosure, BlockCipherDecrypt, Decrypt};
 use aes_planes::soft::word::Block;
 
-impl<S: Decrypts> BlockCipherDecrypt for AesCipher<S> {
+impl<S: Includes<Decrypt>> BlockCipherDecrypt for AesCipher<S> {
     fn decrypt_with_backend<F: BlockCipherDecClosure>(&self, f: &mut F) {
         f.call(&Backend::new(self));
     }
 
     fn decrypt_block(&self, block: &mut Block) {
-        laws::equivalent_inverse();
-        *block = decrypt_block(self.schedule.lend_decrypting(), block);
+        process_block_under::<Decrypt, S>(&self.schedule, block);
     }
 
     fn decrypt_blocks(&self, blocks: &mut [Block]) {
-        laws::equivalent_inverse();
-        decrypt_blocks(self.schedule.lend_decrypting(), blocks);
+        process_blocks_under::<Decrypt, S>(&self.schedule, blocks);
     }
 }

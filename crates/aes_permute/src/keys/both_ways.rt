@@ -2,33 +2,36 @@
 
 ghost use Rattle.std.specs.Prelude.{◌≡◌, length};
 ghost use Rattle.aes_planes.specs.Fips197 as fips;
-ghost use Rattle.aes_permute.specs.Keys.{encrypting_key, decrypting_key, IsEncrypting, IsDecrypting};
 
-use super::{Decrypting, Decrypts, Encrypting, Encrypts, KeySchedule};
+use super::one_way::turned;
+use super::{Includes, KeySchedule, OneWay};
 use crate::sizes::KeySize;
+use aes_cipher::cipher::{Decrypt, Encrypt};
 use aes_planes::soft::word::Block;
 
-/// Round keys for Cipher and for EqInvCipher.
+/// Round keys for encrypting and for decrypting.
 #[derive(Drop)]
 pub struct BothWays<K: KeySize> {
-    encrypting: Encrypting<K>,
-    decrypting: Decrypting<K>,
+    encrypting: OneWay<K, Encrypt>,
+    decrypting: OneWay<K, Decrypt>,
 }
 
 impl<K: KeySize> KeySchedule for BothWays<K> {
     type Size = K;
 
-    ghost key = { λ s. encrypting_key K.SIZE (K.Keys.blocks s.encrypting.keys) };
+    ghost key = { λ s. ⟦<OneWay<K, Encrypt> as KeySchedule>⟧.key s.encrypting };
 
-    ghost AreKeyed = { λ s. IsEncrypting K.SIZE (K.Keys.blocks s.encrypting.keys) × IsDecrypting K.SIZE (K.Keys.blocks s.decrypting.keys)
-        × (decrypting_key K.SIZE (K.Keys.blocks s.decrypting.keys) ≡ encrypting_key K.SIZE (K.Keys.blocks s.encrypting.keys)) };
+    ghost AreKeyed = { λ s. ⟦<OneWay<K, Encrypt> as KeySchedule>⟧.AreKeyed s.encrypting
+        × ⟦<OneWay<K, Decrypt> as KeySchedule>⟧.AreKeyed s.decrypting
+        × (⟦<OneWay<K, Decrypt> as KeySchedule>⟧.key s.decrypting ≡ ⟦<OneWay<K, Encrypt> as KeySchedule>⟧.key
+        s.encrypting) };
 
     const SUFFIX: &'static str = "";
 
     #[inline(always)]
     fn new(bytes: &[u8]) -> BothWays<K> {
-        let encrypting = Encrypting::new(bytes);
-        let decrypting = Decrypting::turned(&encrypting);
+        let encrypting = OneWay::new(bytes);
+        let decrypting = turned(&encrypting);
         BothWays {
             encrypting,
             decrypting,
@@ -48,35 +51,35 @@ impl<K: KeySize> KeySchedule for BothWays<K> {
     }
 
     fn has_key(&self) {
-        let _ = &self.encrypting;
+        self.encrypting.has_key();
     }
 }
 
-impl<K: KeySize> Encrypts for BothWays<K> {
+impl<K: KeySize> Includes<Encrypt> for BothWays<K> {
     #[inline(always)]
-    fn lend_encrypting(&self) -> &[Block] {
-        self.encrypting.lend_encrypting()
+    fn lend(&self) -> &[Block] {
+        self.encrypting.lend()
     }
 }
 
-impl<K: KeySize> Decrypts for BothWays<K> {
+impl<K: KeySize> Includes<Decrypt> for BothWays<K> {
     #[inline(always)]
-    fn lend_decrypting(&self) -> &[Block] {
-        self.decrypting.lend_decrypting()
+    fn lend(&self) -> &[Block] {
+        self.decrypting.lend()
     }
 }
 
 impl<K: KeySize> BothWays<K> {
-    /// Returns the round keys for both directions of the key of those for Cipher.
-    pub(crate) fn turned(encrypting: &Encrypting<K>) -> BothWays<K>
-        requires { IsEncrypting K.SIZE (K.Keys.blocks encrypting.now.keys) }
-        ensures keyed { IsEncrypting K.SIZE (K.Keys.blocks result.encrypting.keys) × IsDecrypting K.SIZE (K.Keys.blocks result.decrypting.keys)
-            × (decrypting_key K.SIZE (K.Keys.blocks result.decrypting.keys) ≡ encrypting_key K.SIZE (K.Keys.blocks result.encrypting.keys)) }
-        ensures same { encrypting_key K.SIZE (K.Keys.blocks result.encrypting.keys) ≡ encrypting_key K.SIZE (K.Keys.blocks encrypting.now.keys) }
+    /// Returns the round keys for both directions of the key of those for encrypting.
+    pub(crate) fn with_both(encrypting: &OneWay<K, Encrypt>) -> BothWays<K>
+        requires { ⟦<OneWay<K, Encrypt> as KeySchedule>⟧.AreKeyed encrypting.now }
+        ensures keyed { ⟦<BothWays<K> as KeySchedule>⟧.AreKeyed result }
+        ensures same { ⟦<BothWays<K> as KeySchedule>⟧.key result ≡ ⟦<OneWay<K, Encrypt> as KeySchedule>⟧.key
+            encrypting.now }
     {
         BothWays {
             encrypting: encrypting.copy(),
-            decrypting: Decrypting::turned(encrypting),
+            decrypting: turned(encrypting),
         }
     }
 }

@@ -2,52 +2,58 @@
 
 ghost use Rattle.std.specs.Prelude.{◌≡◌, length};
 ghost use Rattle.aes_planes.specs.Fips197 as fips;
-ghost use Rattle.aes_permute.specs.Keys.{encrypting_key, decrypting_key, IsEncrypting, IsDecrypting};
+ghost use Rattle.aes_permute.specs.Keys.{key_in, IsKeyed};
+ghost use Rattle.aes_permute.specs.Stored.{round_keys_of};
 
-use super::{Decrypts, Encrypts, KeySchedule};
+use super::{Includes, KeySchedule};
+use crate::directions::LaneRounds;
 use crate::sizes::KeySize;
-use crate::wiped::Stored;
+use crate::stored::Stored;
+use aes_cipher::cipher::{Decrypt, Encrypt};
 use aes_planes::laws;
 use aes_planes::soft::word::Block;
+use std::marker::PhantomData;
 
-/// Round keys for Cipher alone.
+/// Round keys for one direction only.
 #[derive(Drop)]
-pub struct Encrypting<K: KeySize> {
-    /// The round keys, as they are stored.
-    pub(super) keys: K::Keys,
+pub struct OneWay<K: KeySize, D: LaneRounds> {
+    // The round keys, as they are stored.
+    keys: K::Keys,
+    direction: PhantomData<D>,
 }
 
-/// Round keys for EqInvCipher alone.
-#[derive(Drop)]
-pub struct Decrypting<K: KeySize> {
-    /// The round keys, as they are stored.
-    pub(super) keys: K::Keys,
-}
-
-impl<K: KeySize> KeySchedule for Encrypting<K> {
+impl<K: KeySize, D: LaneRounds> KeySchedule for OneWay<K, D> {
     type Size = K;
 
-    ghost key = { λ s. encrypting_key K.SIZE (K.Keys.blocks s.keys) };
+    ghost key = { λ s. key_in D.first_keys K.SIZE
+        (round_keys_of D.first_byte D.inner_byte D.last_byte (K.Keys.blocks s.keys)) };
 
-    ghost AreKeyed = { λ s. IsEncrypting K.SIZE (K.Keys.blocks s.keys) };
+    ghost AreKeyed = { λ s. IsKeyed D.used_keys D.first_keys K.SIZE
+        (round_keys_of D.first_byte D.inner_byte D.last_byte (K.Keys.blocks s.keys)) };
 
-    const SUFFIX: &'static str = "Enc";
+    const SUFFIX: &'static str = D::SUFFIX;
 
     #[inline(always)]
-    fn new(bytes: &[u8]) -> Encrypting<K> {
+    fn new(bytes: &[u8]) -> OneWay<K, D> {
+        D::keeps_key();
         let mut keys = K::Keys::room();
-        K::expand(&mut keys, bytes);
-        Encrypting { keys }
+        K::expand::<D>(&mut keys, bytes);
+        OneWay {
+            keys,
+            direction: PhantomData,
+        }
     }
 
     fn rekey(&mut self, bytes: &[u8]) {
+        D::keeps_key();
         self.keys.wipe();
-        K::expand(&mut self.keys, bytes);
+        K::expand::<D>(&mut self.keys, bytes);
     }
 
-    fn copy(&self) -> Encrypting<K> {
-        Encrypting {
+    fn copy(&self) -> OneWay<K, D> {
+        OneWay {
             keys: self.keys.copy(),
+            direction: PhantomData,
         }
     }
 
@@ -56,67 +62,28 @@ impl<K: KeySize> KeySchedule for Encrypting<K> {
     }
 }
 
-impl<K: KeySize> KeySchedule for Decrypting<K> {
-    type Size = K;
-
-    ghost key = { λ s. decrypting_key K.SIZE (K.Keys.blocks s.keys) };
-
-    ghost AreKeyed = { λ s. IsDecrypting K.SIZE (K.Keys.blocks s.keys) };
-
-    const SUFFIX: &'static str = "Dec";
-
+impl<K: KeySize, D: LaneRounds> Includes<D> for OneWay<K, D> {
     #[inline(always)]
-    fn new(bytes: &[u8]) -> Decrypting<K> {
-        let mut keys = K::Keys::room();
-        K::expand(&mut keys, bytes);
-        keys.invert();
-        Decrypting { keys }
-    }
-
-    fn rekey(&mut self, bytes: &[u8]) {
-        self.keys.wipe();
-        K::expand(&mut self.keys, bytes);
-        self.keys.invert();
-    }
-
-    fn copy(&self) -> Decrypting<K> {
-        Decrypting {
-            keys: self.keys.copy(),
-        }
-    }
-
-    fn has_key(&self) {
-        let _ = &self.keys;
-    }
-}
-
-impl<K: KeySize> Encrypts for Encrypting<K> {
-    #[inline(always)]
-    fn lend_encrypting(&self) -> &[Block] {
+    fn lend(&self) -> &[Block] {
+        D::uses_all();
         let keys = self.keys.lend();
         laws::are_blocks(keys);
         keys
     }
 }
 
-impl<K: KeySize> Decrypts for Decrypting<K> {
-    #[inline(always)]
-    fn lend_decrypting(&self) -> &[Block] {
-        let keys = self.keys.lend();
-        laws::are_blocks(keys);
-        keys
-    }
-}
-
-impl<K: KeySize> Decrypting<K> {
-    /// Returns the round keys for EqInvCipher of the key of those for Cipher.
-    pub(crate) fn turned(encrypting: &Encrypting<K>) -> Decrypting<K>
-        requires { IsEncrypting K.SIZE (K.Keys.blocks encrypting.now.keys) }
-        ensures keyed { IsDecrypting K.SIZE (K.Keys.blocks result.keys) }
-        ensures same { decrypting_key K.SIZE (K.Keys.blocks result.keys) ≡ encrypting_key K.SIZE (K.Keys.blocks encrypting.now.keys) }
-    {
-        let mut keys = encrypting.keys.copy();
-        keys.invert();
-        Decrypting { keys }
+/// Returns the round keys for decrypting of the key of those for encrypting.
+#[inline(always)]
+pub(crate) fn turned<K: KeySize>(encrypting: &OneWay<K, Encrypt>) -> OneWay<K, Decrypt>
+    requires { ⟦<OneWay<K, Encrypt> as KeySchedule>⟧.AreKeyed encrypting.now }
+    ensures keyed { ⟦<OneWay<K, Decrypt> as KeySchedule>⟧.AreKeyed result }
+    ensures same { ⟦<OneWay<K, Decrypt> as KeySchedule>⟧.key result ≡ ⟦<OneWay<K, Encrypt> as KeySchedule>⟧.key
+        encrypting.now }
+{
+    let mut keys = encrypting.keys.copy();
+    K::invert(&mut keys);
+    OneWay {
+        keys,
+        direction: PhantomData,
     }
 }

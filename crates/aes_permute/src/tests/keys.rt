@@ -2,10 +2,10 @@
 
 use super::COUNTED;
 use crate::AesCipher;
-use crate::keys::{BothWays, Decrypting, Encrypting};
+use crate::keys::{BothWays, OneWay};
 use crate::sizes::{Bits128, Bits192, Bits256, KeySize};
 use aes_cipher::cipher::{
-    BlockCipherDecrypt, BlockCipherEncrypt, BlockSizeUser, KeyInit, KeySizeUser,
+    BlockCipherDecrypt, BlockCipherEncrypt, BlockSizeUser, Decrypt, Encrypt, KeyInit, KeySizeUser,
 };
 use aes_cipher::zeroize::ZeroizeOnDrop;
 use std::test::Fail;
@@ -27,8 +27,8 @@ where
 // The same of the three types of a size.
 fn all_take_their_own_length_alone<K: KeySize>(size: usize) -> bool {
     takes_its_own_length_alone::<AesCipher<BothWays<K>>>(size)
-        && takes_its_own_length_alone::<AesCipher<Encrypting<K>>>(size)
-        && takes_its_own_length_alone::<AesCipher<Decrypting<K>>>(size)
+        && takes_its_own_length_alone::<AesCipher<OneWay<K, Encrypt>>>(size)
+        && takes_its_own_length_alone::<AesCipher<OneWay<K, Decrypt>>>(size)
 }
 
 #[test]
@@ -58,11 +58,11 @@ fn decrypts<C: BlockCipherDecrypt>(cipher: &C, encrypted: u128) -> bool {
 // Clones of the three types of a key and conversions between them, most of them after the value that they came from is
 // dropped.
 fn copies_keep_the_key<K: KeySize>(key: &K::Key, encrypted: u128) -> Result<bool, Fail> {
-    let enc = AesCipher::<Encrypting<K>>::new(key);
+    let enc = AesCipher::<OneWay<K, Encrypt>>::new(key);
     let copy = enc.clone()?;
-    let lent_dec = AesCipher::<Decrypting<K>>::from(&enc);
+    let lent_dec = AesCipher::<OneWay<K, Decrypt>>::from(&enc);
     let lent_both = AesCipher::<BothWays<K>>::from(&enc);
-    let dec = AesCipher::<Decrypting<K>>::from(enc);
+    let dec = AesCipher::<OneWay<K, Decrypt>>::from(enc);
     let both = AesCipher::<BothWays<K>>::from(copy.clone()?);
     Ok(
         encrypts(&copy, encrypted)
@@ -89,8 +89,8 @@ fn clones_and_converts(rt: HostRuntime) -> Result<(), Fail> {
 
 // Whether a wiped value works as one of the zero key, which takes a block of zeros to the block that is given.
 fn wipes_in_place<K: KeySize>(key: &K::Key, zeros_encrypted: u128) -> bool {
-    let mut enc = AesCipher::<Encrypting<K>>::new(key);
-    let mut dec = AesCipher::<Decrypting<K>>::from(&enc);
+    let mut enc = AesCipher::<OneWay<K, Encrypt>>::new(key);
+    let mut dec = AesCipher::<OneWay<K, Decrypt>>::from(&enc);
     enc.zeroize();
     dec.zeroize();
     let mut block = [0; 16];

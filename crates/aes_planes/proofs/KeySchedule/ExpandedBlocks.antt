@@ -1,12 +1,17 @@
 -- The key schedule four words at a time, and the bytes of a key in its first round keys.
-use Rattle.std.proofs.Common.{◌≡◌, ◌≢◌, ◌⊎◌, inl, inr, ℕ, zero, suc, ◌+◌, ◌-◌, ◌*◌, ◌/◌, ◌%◌, ◌<◌, ◌≤◌, ◌==◌, ◌&&◌, nat_lt, cond, Bool, true, false, List, [], ◌∷◌, ◌++◌, length, take, drop, get_or, slice_index, refl, ap, sym, subst, ◌∙◌, arith, length-append, length-take, length-drop, get_or-take, get_or-drop}
+use Rattle.std.proofs.Common.{◌≡◌, ◌≢◌, ◌⊎◌, inl, inr, ℕ, zero, suc, ◌+◌, ◌-◌, ◌*◌, ◌/◌, ◌%◌, ◌<◌, ◌≤◌, ◌==◌, ◌&&◌}
+use Rattle.std.proofs.Common.{nat_lt, cond, Bool, true, false, List, [], ◌∷◌, ◌++◌, length, take, drop, get_or}
+use Rattle.std.proofs.Common.{slice_index, refl, ap, sym, subst, ◌∙◌, arith, length-append, length-take, length-drop}
+use Rattle.std.proofs.Common.{get_or-take, get_or-drop}
 use Rattle.std.proofs.Math.Bool.{and-false}
 use Rattle.std.proofs.Math.Nat.{mod-lt}
 use Rattle.std.proofs.lemmas.Bool.{le-ltb, lt-ltb, cases_lt, eqb-true, ne_eqb, ltb-true}
 use Rattle.std.proofs.lemmas.Grind.{same_number_lists}
 use Rattle.std.proofs.lemmas.List.{get_or_append_left, get_or-append_right, length-take-le}
 use Rattle.std.proofs.lemmas.Nat.{mod-mul-add, div-mul-add}
-use Rattle.aes_planes.specs.Fips197.{sbox, field_add, byte_at, state, word, add_words, sub_word, rot_word, sub_bytes, add_round_key, power_of_x, xtime, round_constant, added_word, added_word_if, expanded_word, key_words, key_expansion, rounds, round_key}
+use Rattle.aes_planes.specs.Fips197.{sbox, field_add, byte_at, state, word, add_words, sub_word, rot_word, sub_bytes}
+use Rattle.aes_planes.specs.Fips197.{add_round_key, power_of_x, xtime, round_constant, added_word, added_word_if}
+use Rattle.aes_planes.specs.Fips197.{expanded_word, key_words, key_expansion, rounds, round_key}
 use Rattle.aes_planes.specs.Planes.{constant_block, summed, columns_summed, columns_straddled}
 use Rattle.aes_planes.proofs.Bits.ByteCases.{all_below, all_below_tells}
 use Rattle.aes_planes.proofs.KeySchedule.ExpandedWords.{expanded_word_key, expanded_word_next, round_key_words}
@@ -27,7 +32,8 @@ slice_index-word f (suc (suc (suc zero))) h = refl
 slice_index-word f (suc (suc (suc (suc r)))) h = absurd (omega arith)
 
 -- each word of g is the sum of the word of f there and the word of g before it, and the first takes in a column of y
-module _ (rows cols : ℕ) (f g : ℕ → List ℕ) (y : List ℕ) (first : g 0 ≡ add_words (f 0) (word (λ r. byte_at y ((r + rows) % 4) cols)))
+module _ (rows cols : ℕ) (f g : ℕ → List ℕ) (y : List ℕ)
+    (first : g 0 ≡ add_words (f 0) (word (λ r. byte_at y ((r + rows) % 4) cols)))
     (later : (c : ℕ) → c < 3 → g (suc c) ≡ add_words (f (suc c)) (g c)) where
   start : ℕ → ℕ
   start r = byte_at y ((r + rows) % 4) cols
@@ -52,34 +58,42 @@ module _ (rows cols : ℕ) (f g : ℕ → List ℕ) (y : List ℕ) (first : g 0 
 not_before : (i b nk : ℕ) → i ≡ b + nk → nat_lt i nk ≡ false
 not_before i b nk e = le-ltb i nk (omega arith)
 
-module _ (key : List ℕ) (nk : ℕ) (own : key_words key ≡ nk) (some : 0 < nk) (i b p : ℕ) (back : i ≡ b + nk) (before : i ≡ suc p) where
+module _ (key : List ℕ) (nk : ℕ) (own : key_words key ≡ nk) (some : 0 < nk) (i b p : ℕ) (back : i ≡ b + nk)
+    (before : i ≡ suc p) where
   next : expanded_word key i ≡ add_words (expanded_word key b) (added_word nk i (expanded_word key p))
   next =
       let less : i - key_words key ≡ b = omega (arith, own, back) in
       let one : i - 1 ≡ p = omega (arith, before) in
-      expanded_word_next key i (ap (nat_lt i) own ∙ not_before i b nk back) (omega (arith, own, some)) (omega (arith, before))
+      expanded_word_next key i (ap (nat_lt i) own ∙ not_before i b nk back) (omega (arith, own, some))
+      (omega (arith, before))
       ∙ (λ t. add_words (expanded_word key (less t)) (added_word (own t) i (expanded_word key (one t))))
 
   -- where Nk divides the place
-  pub first_word : (j : ℕ) → i ≡ j * nk → expanded_word key i ≡ add_words (expanded_word key b) (add_words (sub_word (rot_word (expanded_word key p))) (round_constant j))
+  pub first_word : (j : ℕ) → i ≡ j * nk → expanded_word key i
+      ≡ add_words (expanded_word key b) (add_words (sub_word (rot_word (expanded_word key p))) (round_constant j))
   unfolding added_word_if
   first_word j e =
       let at : i ≡ j * nk + 0 = omega arith in
       let none : i % nk ≡ 0 = ap (λ v. v % nk) at ∙ mod-mul-add j nk 0 some in
       let whole : i / nk ≡ j = ap (λ v. v / nk) at ∙ div-mul-add j nk 0 some in
-      next ∙ ap (add_words (expanded_word key b)) (λ t. added_word_if (none t == 0) (nat_lt 6 nk && (i % nk == 4)) (whole t) (expanded_word key p))
+      next ∙ ap (add_words (expanded_word key b)) (λ t. added_word_if (none t == 0) (nat_lt 6 nk && (i % nk == 4))
+      (whole t) (expanded_word key p))
 
   -- where it doesn't, and no substitution is due
-  pub later_word : i % nk ≢ 0 → (nat_lt 6 nk && (i % nk == 4)) ≡ false → expanded_word key i ≡ add_words (expanded_word key b) (expanded_word key p)
+  pub later_word : i % nk ≢ 0 → (nat_lt 6 nk && (i % nk == 4)) ≡ false → expanded_word key i
+      ≡ add_words (expanded_word key b) (expanded_word key p)
   unfolding added_word_if
   later_word some_left plain =
-      next ∙ ap (add_words (expanded_word key b)) (λ t. added_word_if (ne_eqb (i % nk) 0 some_left t) (plain t) (i / nk) (expanded_word key p))
+      next ∙ ap (add_words (expanded_word key b)) (λ t. added_word_if (ne_eqb (i % nk) 0 some_left t) (plain t) (i / nk)
+      (expanded_word key p))
 
   -- where a substitution is due and no rotation
-  pub substituted_word : i % nk ≢ 0 → (nat_lt 6 nk && (i % nk == 4)) ≡ true → expanded_word key i ≡ add_words (expanded_word key b) (sub_word (expanded_word key p))
+  pub substituted_word : i % nk ≢ 0 → (nat_lt 6 nk && (i % nk == 4)) ≡ true → expanded_word key i
+      ≡ add_words (expanded_word key b) (sub_word (expanded_word key p))
   unfolding added_word_if
   substituted_word some_left due =
-      next ∙ ap (add_words (expanded_word key b)) (λ t. added_word_if (ne_eqb (i % nk) 0 some_left t) (due t) (i / nk) (expanded_word key p))
+      next ∙ ap (add_words (expanded_word key b)) (λ t. added_word_if (ne_eqb (i % nk) 0 some_left t) (due t) (i / nk)
+      (expanded_word key p))
 
 -- a word of the key expansion has four bytes
 pub expanded_word_length : (key : List ℕ) (i : ℕ) → 0 < key_words key → length (expanded_word key i) ≡ 4
@@ -94,18 +108,23 @@ expanded_word_length key i some = elim (cases_lt i (key_words key)) [
 abbrev pub block_at : List ℕ → ℕ → List ℕ
 block_at key o = of_words (λ c. expanded_word key (o + c))
 
-pub round_key_at : (key : List ℕ) (j o : ℕ) → o ≡ 4 * j → j < rounds key + 1 → round_key (key_expansion key) j ≡ block_at key o
+pub round_key_at : (key : List ℕ) (j o : ℕ) → o ≡ 4 * j → j < rounds key + 1 → round_key (key_expansion key) j
+    ≡ block_at key o
 round_key_at key j o e lt = round_key_words key j lt ∙ ap (block_at key) (sym e)
 
 -- the last two of four words and the first two of the next four
-pub straddled_at : (key : List ℕ) (o p m : ℕ) → p ≡ o + 4 → m ≡ o + 2 → columns_straddled (block_at key o) (block_at key p) ≡ block_at key m
+pub straddled_at : (key : List ℕ) (o p m : ℕ) → p ≡ o + 4 → m ≡ o + 2 → columns_straddled (block_at key o)
+    (block_at key p) ≡ block_at key m
 unfolding columns_straddled
 straddled_at key o p m ep em = state_same _ _ go
   where
-    there : (r c a : ℕ) → r < 4 → c < 4 → (q d : ℕ) → q + c ≡ m + d → byte_at (block_at key q) r c ≡ slice_index (expanded_word key (m + d)) r
-    there r c a h l q d e = byte_at-state (λ r c. slice_index (expanded_word key (q + c)) r) r c h l ∙ ap (λ v. slice_index (expanded_word key v) r) e
+    there : (r c a : ℕ) → r < 4 → c < 4 → (q d : ℕ) → q + c ≡ m + d → byte_at (block_at key q) r c
+        ≡ slice_index (expanded_word key (m + d)) r
+    there r c a h l q d e = byte_at-state (λ r c. slice_index (expanded_word key (q + c)) r) r c h l
+        ∙ ap (λ v. slice_index (expanded_word key v) r) e
 
-    go : (r c : ℕ) → r < 4 → c < 4 → cond (nat_lt c 2) (byte_at (block_at key o) r (c + 2)) (byte_at (block_at key p) r (c - 2)) ≡ slice_index (expanded_word key (m + c)) r
+    go : (r c : ℕ) → r < 4 → c < 4 → cond (nat_lt c 2) (byte_at (block_at key o) r (c + 2))
+        (byte_at (block_at key p) r (c - 2)) ≡ slice_index (expanded_word key (m + c)) r
     go r zero h l = there r 2 0 h (omega arith) o 0 (omega arith)
     go r (suc zero) h l = there r 3 0 h (omega arith) o 1 (omega arith)
     go r (suc (suc zero)) h l = there r 0 0 h (omega arith) p 2 (omega arith)
@@ -115,18 +134,22 @@ straddled_at key o p m ep em = state_same _ _ go
 -- ---- sums of columns from a column on
 
 -- the constant in row 1 of column 3 and the S-box, a row on
-substituted_column : (f : ℕ → List ℕ) (x : ℕ) → word (λ r. byte_at (add_round_key (sub_bytes (of_words f)) (constant_block x)) ((r + 1) % 4) 3)
+substituted_column : (f : ℕ → List ℕ) (x : ℕ)
+    → word (λ r. byte_at (add_round_key (sub_bytes (of_words f)) (constant_block x)) ((r + 1) % 4) 3)
     ≡ add_words (sub_word (rot_word (f 3))) (x ∷ 0 ∷ 0 ∷ 0 ∷ [])
 unfolding sub_bytes add_round_key constant_block
 substituted_column f x = refl
 
 -- the S-box alone
-substituted_plain : (f : ℕ → List ℕ) → length (f 3) ≡ 4 → word (λ r. byte_at (sub_bytes (of_words f)) ((r + 0) % 4) 3) ≡ sub_word (f 3)
+substituted_plain : (f : ℕ → List ℕ) → length (f 3) ≡ 4 → word (λ r. byte_at (sub_bytes (of_words f)) ((r + 0) % 4) 3)
+    ≡ sub_word (f 3)
 unfolding sub_bytes state sbox
-substituted_plain f l = subst (λ (v : List ℕ). word (λ r. sbox (slice_index (f 3) r)) ≡ sub_word v) (built 4 (f 3) 0 l) refl
+substituted_plain f l = subst (λ (v : List ℕ). word (λ r. sbox (slice_index (f 3) r)) ≡ sub_word v) (built 4 (f 3) 0 l)
+    refl
 
 -- nothing of the kind
-plain_column : (f : ℕ → List ℕ) (v : List ℕ) → add_words v (word (λ r. byte_at (of_words f) ((r + 0) % 4) 1)) ≡ add_words v (f 1)
+plain_column : (f : ℕ → List ℕ) (v : List ℕ) → add_words v (word (λ r. byte_at (of_words f) ((r + 0) % 4) 1))
+    ≡ add_words v (f 1)
 unfolding state
 plain_column f v = refl
 
@@ -139,27 +162,35 @@ module _ (key : List ℕ) (nk : ℕ) (own : key_words key ≡ nk) (four : 4 ≤ 
       later_word key nk own (omega arith) i b p back before (λ z. absurd (omega (arith, left, z, some)))
       (elim which [
         | inl le ↦ ap (λ v. v && (i % nk == 4)) (le-ltb 6 nk le)
-        | inr ne ↦ ap (λ v. nat_lt 6 nk && (v == 4)) left ∙ ap (λ v. nat_lt 6 nk && v) (ne_eqb e 4 ne) ∙ and-false (nat_lt 6 nk)
+        | inr ne ↦ ap (λ v. nat_lt 6 nk && (v == 4)) left ∙ ap (λ v. nat_lt 6 nk && v) (ne_eqb e 4 ne)
+            ∙ and-false (nat_lt 6 nk)
       ])
 
   -- four words of which the first is at place e after a multiple of Nk, where the others are due no substitution
-  sums_at : (rows cols o m q e : ℕ) (y : List ℕ) → m ≡ o + nk → m ≡ q * nk + e → e + 4 ≤ nk → (nk ≤ 6) ⊎ ((e ≡ 0) ⊎ (e ≡ 4))
+  sums_at : (rows cols o m q e : ℕ) (y : List ℕ) → m ≡ o + nk → m ≡ q * nk + e → e + 4 ≤ nk → (nk ≤ 6)
+      ⊎ ((e ≡ 0) ⊎ (e ≡ 4))
       → expanded_word key m ≡ add_words (expanded_word key o) (word (λ r. byte_at y ((r + rows) % 4) cols))
       → columns_summed rows cols (block_at key o) y ≡ block_at key m
   sums_at rows cols o m q e y back at fits which first =
       let o0 : o ≡ o + 0 = omega arith in
       let m0 : m + 0 ≡ m = omega arith in
       summed_words rows cols (λ c. expanded_word key (o + c)) (λ c. expanded_word key (m + c)) y
-      (ap (expanded_word key) m0 ∙ first ∙ ap (λ v. add_words (expanded_word key v) (word (λ r. byte_at y ((r + rows) % 4) cols))) o0)
+      (ap (expanded_word key) m0 ∙ first
+      ∙ ap (λ v. add_words (expanded_word key v) (word (λ r. byte_at y ((r + rows) % 4) cols))) o0)
       (λ c h. plain_word (m + suc c) (o + suc c) (m + c) q (e + suc c) (omega (arith, at)) (omega arith) (omega arith)
       (elim which [
         | inl le ↦ inl le
-        | inr w ↦ inr (λ z. elim w [ inl none ↦ absurd (omega (arith, none, z, h)) | inr is ↦ absurd (omega (arith, is, z)) ])
+        | inr w ↦ inr (λ z. elim w [
+          | inl none ↦ absurd (omega (arith, none, z, h))
+          | inr is ↦ absurd
+              (omega (arith, is, z))
+        ])
       ]) (omega (arith, back)) (omega arith))
 
   -- the four words at the next multiple of Nk, of the four Nk words before and the last four
   pub first_block : (j o p m : ℕ) → o ≡ j * nk → m ≡ o + nk → m ≡ p + 4
-      → columns_summed 1 3 (block_at key o) (add_round_key (sub_bytes (block_at key p)) (constant_block (power_of_x j))) ≡ block_at key m
+      → columns_summed 1 3 (block_at key o) (add_round_key (sub_bytes (block_at key p)) (constant_block (power_of_x j)))
+      ≡ block_at key m
   unfolding round_constant
   first_block j o p m at back before =
       let one : suc j - 1 ≡ j = omega arith in
@@ -180,7 +211,8 @@ module _ (key : List ℕ) (nk : ℕ) (own : key_words key ≡ nk) (four : 4 ≤ 
       sums_at 0 3 o m (suc j) 4 _ back next (omega arith) (inr (inr refl))
       (substituted_word key nk own (omega arith) m o (p + 3) back (omega arith) (λ z. absurd (omega (arith, left, z)))
       ((λ t. nat_lt 6 (eight t) && (left t == 4)))
-      ∙ ap (add_words (expanded_word key o)) (sym (substituted_plain (λ c. expanded_word key (p + c)) (expanded_word_length key (p + 3) (omega (arith, own))))))
+      ∙ ap (add_words (expanded_word key o)) (sym
+      (substituted_plain (λ c. expanded_word key (p + c)) (expanded_word_length key (p + 3) (omega (arith, own))))))
 
   -- the four words two after a multiple of Nk, where Nk is 6
   pub last_block : (j o p m : ℕ) → nk ≡ 6 → o ≡ j * nk + 2 → m ≡ o + nk → m ≡ p + 2
@@ -197,7 +229,8 @@ module _ (key : List ℕ) (nk : ℕ) (own : key_words key ≡ nk) (four : 4 ≤ 
       let long : length (take 16 (drop p key)) ≡ 16 = simp (length-take, length-drop) (omega arith) in
       state_is _ _ long (λ r c h k.
       let place : 4 * (o + c) + r ≡ p + (r + 4 * c) = omega arith in
-      ap (λ v. slice_index v r) (expanded_word_key key (o + c) (lt-ltb (o + c) (key_words key) (omega (arith, own, k, room))))
+      ap (λ v. slice_index v r) (expanded_word_key key (o + c)
+      (lt-ltb (o + c) (key_words key) (omega (arith, own, k, room))))
       ∙ slice_index-word (λ r. slice_index key (4 * (o + c) + r)) r h
       ∙ ap (slice_index key) place
       ∙ sym (get_or-take 16 (drop p key) (r + 4 * c) 0 (omega arith) ∙ get_or-drop p key (r + 4 * c) 0))
@@ -219,7 +252,8 @@ module _ (key : List ℕ) (nk : ℕ) (own : key_words key ≡ nk) where
       ap (λ s. get_or s i 0) (round_key_words key j lt)
       ∙ ap (λ v. get_or (of_words (λ c. expanded_word key (4 * j + c))) v 0) (sym place)
       ∙ byte_at-state (λ r c. slice_index (expanded_word key (4 * j + c)) r) r c four (omega (arith, h))
-      ∙ ap (λ v. slice_index v r) (expanded_word_key key (4 * j + c) (lt-ltb (4 * j + c) (key_words key) (omega (arith, own, k))))
+      ∙ ap (λ v. slice_index v r) (expanded_word_key key (4 * j + c)
+      (lt-ltb (4 * j + c) (key_words key) (omega (arith, own, k))))
       ∙ slice_index-word (λ r. slice_index key (4 * (4 * j + c) + r)) r four
       ∙ ap (λ v. get_or key v 0) whole
 
@@ -237,14 +271,17 @@ module _ (key : List ℕ) (nk : ℕ) (own : key_words key ≡ nk) where
       let y : List ℕ = round_key (key_expansion key) 1 in
       let lx : length x ≡ 16 = round_key_length key 0 (omega arith) in
       let ly : length y ≡ 16 = round_key_length key 1 (omega arith) in
-      let sized : length (take size (x ++ y)) ≡ size = length-take-le size (x ++ y) (simp length-append (omega arith)) in
+      let sized : length (take size (x ++ y)) ≡ size = length-take-le size (x ++ y) (simp length-append (omega arith))
+      in
       same_number_lists (take size (x ++ y)) key (sized ∙ sym l) (λ i h.
       let lt : i < size = omega (arith, h, sized) in
       get_or-take size (x ++ y) i 0 lt ∙ elim (cases_lt i 16) [
-        | inl low ↦ get_or_append_left x y 0 i (omega (arith, low, lx)) ∙ key_byte 0 i i (omega arith) low (omega (arith, lt, e)) (omega arith)
+        | inl low ↦ get_or_append_left x y 0 i (omega (arith, low, lx))
+            ∙ key_byte 0 i i (omega arith) low (omega (arith, lt, e)) (omega arith)
         | inr ge ↦
             get_or-append_right x y 16 i 0 lx ge
-            ∙ key_byte 1 (i - 16) i (omega arith) (omega (arith, lt, e, high)) (omega (arith, lt, e, ge)) (omega (arith, ge))
+            ∙ key_byte 1 (i - 16) i (omega arith) (omega (arith, lt, e, high)) (omega (arith, lt, e, ge))
+            (omega (arith, ge))
       ])
 
 -- ---- powers of x

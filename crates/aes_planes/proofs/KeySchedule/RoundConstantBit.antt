@@ -1,14 +1,15 @@
--- One bit of a round constant, in one plane.
+-- A round constant: one bit of it, in one plane, and all of it.
 use Rattle.std.proofs.Common.{◌≡◌, ℕ, ◌*◌, ◌/◌, ◌%◌, ◌^◌, ◌<◌, ◌==◌, ◌&&◌, cond, Bool, true, false, List, [], ◌∷◌, set}
 use Rattle.std.proofs.Common.{length, get_or, map, refl, ap, sym, ◌∙◌, arith}
-use Rattle.std.proofs.lemmas.Bool.{eqb-true}
-use Rattle.std.proofs.lemmas.List.{length-map, get_or-map, map-set}
+use Rattle.std.proofs.lemmas.Bool.{eqb-true, and_parts}
+use Rattle.std.proofs.lemmas.List.{length-map, get_or-map, map-set, ext_get_or}
 use Rattle.aes_planes.specs.Bits.{at, xor, bit, number}
 use Rattle.aes_planes.specs.Fips197.{field_add, add_round_key}
 use Rattle.aes_planes.specs.Planes.{held, held_byte, place, constant_block}
 use Rattle.aes_planes.proofs.Standard.States.{byte_at-state, state_same}
 use Rattle.aes_planes.proofs.Bits.BitCases.{all_bools, all_bools_tells, same, same_tells}
-use Rattle.aes_planes.proofs.Bits.ByteCases.{all_below, all_below_tells, all_below_both}
+use Rattle.aes_planes.proofs.Bits.ByteCases.{all_below, all_below_tells, all_below_both, by_eight}
+use Rattle.aes_planes.proofs.KeySchedule.SummedColumns.{eight_bits, bit_of_word}
 use Rattle.aes_planes.proofs.Planes.Held.{build-ext, map-build, place_lt}
 use Rattle.aes_planes.proofs.Shifts.ColumnSwaps.{row_mask}
 
@@ -62,4 +63,66 @@ constant_held bits n B R Q b xs v d mask hb len eR eQ eB hv hm =
     ∙ flip_tells b bs ((r == 1) && (c == 3)) hb is8
     ∙ (λ t. field_add (sym (byte_at-state (λ r c. held_byte (map bits xs) (place n r c k)) r c i j) t)
     (sym (byte_at-state (λ r c. cond ((r == 1) && (c == 3)) (2 ^ b) 0) r c i j) t))))
+    ∙ sym (map-build _ n _)
+
+-- ---- all of its bits
+
+-- the bits of a byte where a flag says so
+flagged : ℕ → Bool → List Bool
+flagged x f = (bit x 0 && f) ∷ (bit x 1 && f) ∷ (bit x 2 && f) ∷ (bit x 3 && f) ∷ (bit x 4 && f) ∷ (bit x 5 && f)
+    ∷ (bit x 6 && f) ∷ (bit x 7 && f) ∷ []
+
+flagged_test : ℕ → Bool
+flagged_test x = (number (flagged x true) == x) && (number (flagged x false) == 0)
+
+flagged_all : all_below 256 flagged_test ≡ true
+unfolding all_below flagged_test flagged bit
+flagged_all = refl
+
+number_flagged : (x : ℕ) (f : Bool) → x < 256 → number (flagged x f) ≡ cond f x 0
+unfolding flagged_test
+number_flagged x true h = eqb-true _ _ (and_parts _ _ (all_below_tells 256 flagged_test flagged_all x h)).0
+number_flagged x false h = eqb-true _ _ (and_parts _ _ (all_below_tells 256 flagged_test flagged_all x h)).1
+
+-- eight words that have a byte's bits at a place where a flag says so
+pub flagged_byte : {A : Type 0} (bits : A → List Bool) (xs : List A) (d : A) (x i : ℕ) (f : Bool) → x < 256
+    → length xs ≡ 8 → ((m : ℕ) → m < 8 → at (bits (get_or xs m d)) i ≡ (bit x m && f))
+    → held_byte (map bits xs) i ≡ cond f x 0
+unfolding flagged
+flagged_byte bits xs d x i f hx l h =
+    ap number (ext_get_or false (map (λ w. at w i) (map bits xs)) (flagged x f) (eight_bits bits xs d l i)
+    (λ m lt.
+    let k : m < 8 = omega (arith, lt, eight_bits bits xs d l i) in
+    bit_of_word bits xs d l i m k ∙ h m k
+    ∙ by_eight (λ m. (bit x m && f) ≡ get_or (flagged x f) m false) refl refl refl refl refl refl refl refl m k))
+    ∙ number_flagged x f hx
+
+-- whether a nibble of one bit stands where the constant does
+nibble_test : ℕ → ℕ → ℕ → Bool
+nibble_test v r c = same (bit (get_or (0 ∷ 8 * v ∷ 0 ∷ 0 ∷ []) r 0) c) ((v == 1) && ((r == 1) && (c == 3)))
+
+nibbles_all : all_below 2 (λ v. all_below 4 (λ r. all_below 4 (nibble_test v r))) ≡ true
+unfolding all_below same bit nibble_test
+nibbles_all = refl
+
+pub nibble_is : (v r c : ℕ) → v < 2 → r < 4 → c < 4
+    → bit (get_or (0 ∷ 8 * v ∷ 0 ∷ 0 ∷ []) r 0) c ≡ ((v == 1) && ((r == 1) && (c == 3)))
+unfolding nibble_test
+nibble_is v r c h i j = same_tells _ _ (all_below_both 4 4 (nibble_test v)
+    (all_below_tells 2 (λ v. all_below 4 (λ r. all_below 4 (nibble_test v r))) nibbles_all v h) r c i j)
+
+-- what words hold plus a constant in every block
+pub constant_added : (n B x : ℕ) (new old constants : List (List Bool)) → B ≡ 16 * n
+    → ((i : ℕ) → i < B → held_byte new i ≡ field_add (held_byte old i) (held_byte constants i))
+    → ((r c k : ℕ) → r < 4 → c < 4 → k < n
+    → held_byte constants (place n r c k) ≡ cond ((r == 1) && (c == 3)) x 0)
+    → held n new ≡ map (λ s. add_round_key s (constant_block x)) (held n old)
+unfolding held add_round_key constant_block
+constant_added n B x new old constants eB sums here =
+    build-ext n _ _ (λ k l. state_same _ _ (λ r c i j.
+    let p = place n r c k in
+    let low : p < B = omega (arith, place_lt n r c k i j l) in
+    sums p low
+    ∙ (λ t. field_add (sym (byte_at-state (λ r c. held_byte old (place n r c k)) r c i j) t)
+    ((here r c k i j l ∙ sym (byte_at-state (λ r c. cond ((r == 1) && (c == 3)) x 0) r c i j)) t))))
     ∙ sym (map-build _ n _)

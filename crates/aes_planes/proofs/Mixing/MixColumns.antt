@@ -54,3 +54,5 @@ inv_mix_twice s h = times_twice inv_mix_row mix_row squares s h
 -- InvMixColumns three times is MixColumns
 pub inv_mix_thrice : (s : List ℕ) → IsBlock s → inv_mix_columns (inv_mix_columns (inv_mix_columns s)) ≡ mix_columns s
 inv_mix_thrice s h = ap inv_mix_columns (inv_mix_twice s h.1) ∙ inv_mix_of_mix (mix_columns s) (mix_block s)
+
+pub ruleset inverse_mixes = (inv_mix_of_mix, mix_of_inv_mix, inv_mix_thrice)

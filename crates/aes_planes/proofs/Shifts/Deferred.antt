@@ -91,42 +91,36 @@ unfolding inv_shift_times inv_shift_rows add_round_key
 inv_shift_times_add zero s t = refl
 inv_shift_times_add (suc k) s t = ap inv_shift_rows (inv_shift_times_add k s t)
 
--- k shifts back are one, and j more
-abbrev pub TakesOne : ℕ → ℕ → Type 0
-TakesOne k j = (s : List ℕ) → length s ≡ 16 → inv_shift_times k s ≡ inv_shift_times j (inv_shift_rows s)
+-- how many ShiftRows are deferred before the round after which so many are
+abbrev pub deferred_before : ℕ → ℕ
+deferred_before zero = 3
+deferred_before (suc k) = k
 
-pub takes_one_next : (j : ℕ) → TakesOne (suc j) j
-unfolding inv_shift_times
-takes_one_next zero s l = refl
-takes_one_next (suc j) s l = ap inv_shift_rows (takes_one_next j s l)
-
-pub takes_one_at_three : TakesOne 0 3
+-- so many shifts back are one, and those before it
+takes_one : (j : ℕ) (s : List ℕ) → length s ≡ 16 → inv_shift_times j s ≡ inv_shift_times (deferred_before j)
+    (inv_shift_rows s)
 unfolding inv_shift_times inv_shift_rows
-takes_one_at_three s l = subst (λ (v : List ℕ). v ≡ inv_shift_times 3 (inv_shift_rows v)) (built 16 s 0 l) refl
+takes_one zero s l = subst (λ (v : List ℕ). v ≡ inv_shift_times 3 (inv_shift_rows v)) (built 16 s 0 l) refl
+takes_one (suc zero) s l = refl
+takes_one (suc (suc j)) s l = ap inv_shift_rows (takes_one (suc j) s l)
 
 pub shift_times_of_inv_shift_times : (k : ℕ) (s : List ℕ) → length s ≡ 16 → shift_times k (inv_shift_times k s) ≡ s
 unfolding shift_times inv_shift_times
 shift_times_of_inv_shift_times zero s l = refl
 shift_times_of_inv_shift_times (suc k) s l =
-    ap (λ v. shift_rows (shift_times k v)) (takes_one_next k s l)
+    ap (λ v. shift_rows (shift_times k v)) (takes_one (suc k) s l)
     ∙ ap shift_rows (shift_times_of_inv_shift_times k (inv_shift_rows s) (inv_shift_length s)) ∙ shift_of_inv_shift s l
 
--- after k shifts back, j shifts forth are one
-abbrev pub LeavesOne : ℕ → ℕ → Type 0
-LeavesOne k j = (s : List ℕ) → length s ≡ 16 → shift_times j (inv_shift_times k s) ≡ shift_rows s
-
-pub leaves_one_next : (k : ℕ) → LeavesOne k (suc k)
+-- as many shifts forth leave one of those before
+leaves_one : (j : ℕ) (s : List ℕ) → length s ≡ 16 → shift_times j (inv_shift_times (deferred_before j) s) ≡ shift_rows s
 unfolding shift_times
-leaves_one_next k s l = ap shift_rows (shift_times_of_inv_shift_times k s l)
-
-pub leaves_one_at_three : LeavesOne 3 0
-unfolding shift_times
-leaves_one_at_three s l = sym (shifted_back_3 s)
+leaves_one zero s l = sym (shifted_back_3 s)
+leaves_one (suc k) s l = ap shift_rows (shift_times_of_inv_shift_times k s l)
 
 -- two shifts forth where one is deferred: three are
 pub two_more : (s : List ℕ) → length s ≡ 16 → shift_times 2 (inv_shift_times 1 s) ≡ inv_shift_times 3 s
 unfolding shift_times inv_shift_times
-two_more s l = ap shift_rows (shift_of_inv_shift s l) ∙ sym (leaves_one_at_three s l)
+two_more s l = ap shift_rows (shift_of_inv_shift s l) ∙ sym (leaves_one 0 s l)
 
 -- ---- rounds of the cipher
 
@@ -140,23 +134,26 @@ sub_length : (s : List ℕ) → length s ≡ 16 → length (sub_bytes s) ≡ 16
 unfolding sub_bytes
 sub_length s l = map_length sbox s ∙ l
 
--- the substitution after k shifts back and j shifts forth
-sub_and_shift : (k j : ℕ) → LeavesOne k j → (s : List ℕ) → length s ≡ 16
-    → shift_times j (map (λ b. plus63 (sbox b)) (inv_shift_times k s)) ≡ map plus63 (shift_rows (sub_bytes s))
-sub_and_shift k j leaves s l =
+-- the substitution between shifts back and forth
+sub_and_shift : (j : ℕ) (s : List ℕ) → length s ≡ 16
+    → shift_times j (map (λ b. plus63 (sbox b)) (inv_shift_times (deferred_before j) s))
+    ≡ map plus63 (shift_rows (sub_bytes s))
+sub_and_shift j s l =
     let x = sub_bytes s in
-    ap (shift_times j) (substituted k s l) ∙ leaves (map plus63 x) (map_length plus63 x ∙ sub_length s l)
+    ap (shift_times j) (substituted (deferred_before j) s l)
+    ∙ leaves_one j (map plus63 x) (map_length plus63 x ∙ sub_length s l)
     ∙ shift_map plus63 x (sub_length s l)
 
--- a round on a state of which k shifts are deferred, after which j are
-pub round_deferred : (k j : ℕ) → LeavesOne k j → (s key : List ℕ) → length s ≡ 16 → length key ≡ 16
-    → add_round_key (between_shifts j mix_columns (map (λ b. plus63 (sbox b)) (inv_shift_times k s)))
+-- a round after which j shifts are deferred
+pub round_deferred : (j : ℕ) (s key : List ℕ) → length s ≡ 16 → length key ≡ 16
+    → add_round_key
+    (between_shifts j mix_columns (map (λ b. plus63 (sbox b)) (inv_shift_times (deferred_before j) s)))
     (map plus63 (inv_shift_times j key))
     ≡ inv_shift_times j (add_round_key (mix_columns (shift_rows (sub_bytes s))) key)
-round_deferred k j leaves s key l m =
+round_deferred j s key l m =
     let x = shift_rows (sub_bytes s) in
     let both = λ (v : List ℕ). add_round_key (inv_shift_times j v) (inv_shift_times j (map plus63 key)) in
-    (λ i. add_round_key (inv_shift_times j (mix_columns (sub_and_shift k j leaves s l i)))
+    (λ i. add_round_key (inv_shift_times j (mix_columns (sub_and_shift j s l i)))
     (inv_shift_times_map plus63 j key m i))
     ∙ ap both (mix_plus63 x (shift_length (sub_bytes s)))
     ∙ sym (inv_shift_times_add j (map plus63 (mix_columns x)) (map plus63 key))
@@ -168,7 +165,7 @@ pub last_deferred : (s key : List ℕ) → length s ≡ 16 → length key ≡ 16
     ≡ add_round_key (shift_rows (sub_bytes s)) key
 unfolding shift_times
 last_deferred s key l m =
-    ap (λ v. add_round_key v (map plus63 key)) (sub_and_shift 3 0 leaves_one_at_three s l)
+    ap (λ v. add_round_key v (map plus63 key)) (sub_and_shift 0 s l)
     ∙ add_both63 (shift_rows (sub_bytes s)) key (shift_length (sub_bytes s)) m
 
 -- ---- rounds of the inverse cipher, whose substitution takes 0x63 out by itself
@@ -177,18 +174,19 @@ pub inv_start_deferred : (s key : List ℕ) → length key ≡ 16
     → map (λ b. inv_sbox (plus63 b)) (add_round_key s (map plus63 key)) ≡ inv_sub_bytes (add_round_key s key)
 inv_start_deferred s key m = ap (map (λ b. inv_sbox (plus63 b))) (add_plus63 s key m) ∙ without63 (add_round_key s key)
 
--- an inverse round on a substituted state to which k shifts back are left, after which j are
-pub inv_round_deferred : (k j : ℕ) → TakesOne k j → (s key : List ℕ) → length s ≡ 16 → length key ≡ 16
-    → map (λ b. inv_sbox (plus63 b)) (between_shifts j inv_mix_columns
+-- a round back on a substituted state to which k shifts back are left
+pub inv_round_deferred : (k : ℕ) (s key : List ℕ) → length s ≡ 16 → length key ≡ 16
+    → let j = deferred_before k in map (λ b. inv_sbox (plus63 b)) (between_shifts j inv_mix_columns
     (add_round_key (inv_shift_times k (inv_sub_bytes s)) (map plus63 (inv_shift_times j key))))
     ≡ inv_shift_times j (inv_sub_bytes (inv_mix_columns (add_round_key (inv_sub_bytes (inv_shift_rows s)) key)))
 unfolding inv_sub_bytes
-inv_round_deferred k j takes s key l m =
+inv_round_deferred k s key l m =
+    let j : ℕ = deferred_before k in
     let undo : ℕ → ℕ = λ b. inv_sbox (plus63 b) in
     let x : List ℕ = inv_sub_bytes (inv_shift_rows s) in
     let y : List ℕ = map plus63 (add_round_key x key) in
     let z : List ℕ = inv_mix_columns (add_round_key x key) in
-    let one = takes (inv_sub_bytes s) (map_length inv_sbox s ∙ l) ∙ ap (inv_shift_times j) (inv_sub_shift s l) in
+    let one = takes_one k (inv_sub_bytes s) (map_length inv_sbox s ∙ l) ∙ ap (inv_shift_times j) (inv_sub_shift s l) in
     (λ i. map undo (between_shifts j inv_mix_columns (add_round_key (one i) (inv_shift_times_map plus63 j key m i))))
     ∙ ap (λ v. map undo (between_shifts j inv_mix_columns v))
     (sym (inv_shift_times_add j x (map plus63 key)) ∙ ap (inv_shift_times j) (add_plus63 x key m))

@@ -167,3 +167,5 @@ module _ (w : List (List ℕ)) (b : List ℕ) where
       ∙ (λ i. add_round_key (inv_shift_rows (inv_sub_bytes (equivalent (last_round w - 1) (omega arith) i))) (key i))
       ∙ ap (λ v. add_round_key v (round_key w 0))
       (inv_sub_shift (inv_state_after w b (last_round w - 1)) (inv_after_length w b (last_round w - 1)))
+
+pub ruleset inverse_ciphers_with = (inv_cipher_of_cipher, cipher_of_inv_cipher)

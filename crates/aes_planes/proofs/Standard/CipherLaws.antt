@@ -81,3 +81,5 @@ pub eq_inv_cipher_by : (n k p : ℕ) (c : List ℕ) → cipher (bytes n k) (byte
     → eq_inv_cipher_with (inverted_keys (key_expansion (bytes n k))) c ≡ bytes 16 p
 eq_inv_cipher_by n k p c e =
     eq_inv_is_inv (key_expansion (bytes n k)) c (two_keys (bytes n k)) ∙ inv_cipher_by n k p c e
+
+pub ruleset inverse_ciphers = (inv_cipher_undoes, cipher_undoes)

@@ -1,18 +1,56 @@
--- Each byte but 0 has exactly one inverse.
-use Rattle.std.proofs.Common.{◌≡◌, ◌≢◌, ℕ, zero, suc, ◌^◌, ◌<◌, ◌==◌, Bool, true, ◌&&◌, nat_lt, refl, sym, ap, ◌∙◌}
-use Rattle.std.proofs.Common.{arith}
-use Rattle.std.proofs.lemmas.Bool.{eqb-true, and_parts, ltb-true}
-use Rattle.aes_planes.specs.Fips197.{field_mul, field_inverse}
+-- Each byte but 0 has exactly one inverse, which is its power 254.
+use Rattle.std.proofs.Common.{◌≡◌, ◌≢◌, inl, inr, ℕ, zero, suc, ◌+◌, ◌^◌, ◌<◌, ◌≤◌, ◌==◌, Bool, true, false, ◌&&◌}
+use Rattle.std.proofs.Common.{nat_lt, refl, sym, ap, ◌∙◌, arith}
+use Rattle.std.proofs.lemmas.Bool.{cases_lt, eqb-true, eq-eqb, and_parts, ltb-true}
+use Rattle.aes_planes.specs.Fips197.{field_mul, field_inverse, first_from, least_byte}
 use Rattle.aes_planes.proofs.Bits.ByteCases.{all_below, all_below_tells}
 use Rattle.aes_planes.proofs.Standard.FieldLaws.{field_mul_add, field_mul_one, agree_by_powers}
+
+-- ---- a search finds what it looks for
+
+-- what passes a test and is below a bound
+abbrev pub Passes : (ℕ → Bool) → ℕ → ℕ → Type 0
+Passes p x bound = (p x ≡ true) × (x < bound)
+
+first_case : (p : ℕ → Bool) (n c b : ℕ) (here : Bool) → p c ≡ here → c ≤ b → p b ≡ true
+    → (c + 1 ≤ b → Passes p (first_from p (c + 1) n) (c + suc n))
+    → Passes p (elim here as (λ _. ℕ) [ true ↦ c | false ↦ first_from p (c + 1) n ]) (c + suc n)
+first_case p n c b true own le e later = (own, omega arith)
+first_case p n c b false own le e later = later (elim (cases_lt c b) [
+  | inl lt ↦ omega arith
+  | inr ge ↦ let same : b ≡ c = omega arith in absurd (grind (arith, sym own ∙ ap p (sym same) ∙ e))
+])
+
+-- the first of n numbers from c on that passes a test does pass it, if one of them does
+first_passes : (p : ℕ → Bool) (n c b : ℕ) → c ≤ b → b < c + n → p b ≡ true → Passes p (first_from p c n) (c + n)
+unfolding first_from
+first_passes p zero c b le lt e = absurd (omega arith)
+first_passes p (suc n) c b le lt e = first_case p n c b (p c) refl le e (λ more.
+    let f = first_passes p n (c + 1) b more (omega arith) e in (f.0, omega (arith, f.1)))
+
+pub byte_passes : (p : ℕ → Bool) (b : ℕ) → b < 256 → p b ≡ true → Passes p (least_byte p) 256
+unfolding least_byte
+byte_passes p b h e = first_passes p 256 0 b (omega arith) h e
+
+-- ---- inverses
+
+-- p times the squares s^2, s^4, .. that squaring n times passes
+times_squares : ℕ → ℕ → ℕ → ℕ
+times_squares zero s p = p
+times_squares (suc n) s p = let q : ℕ = field_mul s s in times_squares n q (field_mul q p)
+
+-- b to the power 254, the sum of 2, 4, .. and 128
+unfoldable pub power_254 : ℕ → ℕ
+unfolding field_mul times_squares
+power_254 b = times_squares 7 b 1
 
 -- v is a byte, its product with b is 1, and it takes b away from b times each power of x
 inverse_test : ℕ → ℕ → Bool
 inverse_test b v =
     nat_lt v 256 && ((field_mul b v == 1) && all_below 8 (λ i. field_mul v (field_mul b (2 ^ i)) == 2 ^ i))
 
-inverses : all_below 255 (λ b. inverse_test (suc b) (field_inverse (suc b))) ≡ true
-unfolding all_below inverse_test field_inverse field_mul
+inverses : all_below 255 (λ b. inverse_test (suc b) (power_254 (suc b))) ≡ true
+unfolding all_below inverse_test power_254 times_squares field_mul
 inverses = refl
 
 record Inverse (b v : ℕ) : Type 0 where
@@ -20,21 +58,39 @@ record Inverse (b v : ℕ) : Type 0 where
   product : field_mul b v ≡ 1
   undoes : all_below 8 (λ i. field_mul v (field_mul b (2 ^ i)) == 2 ^ i) ≡ true
 
-has_inverse : (b : ℕ) → b < 256 → b ≢ 0 → Inverse b (field_inverse b)
+has_inverse : (b : ℕ) → b < 256 → b ≢ 0 → Inverse b (power_254 b)
 unfolding inverse_test
 has_inverse zero h n = absurd (n refl)
 has_inverse (suc b) h n =
-    let p = and_parts _ _ (all_below_tells 255 (λ b. inverse_test (suc b) (field_inverse (suc b))) inverses b
+    let p = and_parts _ _ (all_below_tells 255 (λ b. inverse_test (suc b) (power_254 (suc b))) inverses b
     (omega arith)) in
     let q = and_parts _ _ p.1 in
     record { byte = ltb-true _ _ p.0; product = eqb-true _ _ q.0; undoes = q.1 }
 
 pub inverse_right : (b : ℕ) → b < 256 → b ≢ 0 → (field_inverse b < 256) × (field_mul b (field_inverse b) ≡ 1)
-inverse_right b h n = ((has_inverse b h n).byte, (has_inverse b h n).product)
+unfolding field_inverse
+inverse_right b h n =
+    let i = has_inverse b h n in
+    let found = byte_passes (λ c. field_mul b c == 1) (power_254 b) i.byte (eq-eqb _ _ i.product) in
+    (found.1, eqb-true _ _ found.0)
 
-pub inverse_only : (b c : ℕ) → b < 256 → b ≢ 0 → c < 256 → field_mul b c ≡ 1 → c ≡ field_inverse b
-inverse_only b c h n k e =
-    let v : ℕ = field_inverse b in
+power_only : (b c : ℕ) → b < 256 → b ≢ 0 → c < 256 → field_mul b c ≡ 1 → c ≡ power_254 b
+power_only b c h n k e =
+    let v : ℕ = power_254 b in
     sym (agree_by_powers (λ x. field_mul v (field_mul b x)) (λ x. x)
     (λ x y. ap (field_mul v) (field_mul_add b x y) ∙ field_mul_add v (field_mul b x) (field_mul b y)) (λ x y. refl)
     (has_inverse b h n).undoes c k) ∙ ap (field_mul v) e ∙ field_mul_one v
+
+inverse_power_of : (b : ℕ) → b < 256 → b ≢ 0 → field_inverse b ≡ power_254 b
+inverse_power_of b h n = let r = inverse_right b h n in power_only b (field_inverse b) h n r.0 r.1
+
+-- the inverse of a byte, and 0 for 0, without a search
+pub inverse_power : (b : ℕ) → b < 256 → field_inverse b ≡ power_254 b
+unfolding field_inverse field_mul least_byte first_from power_254 times_squares
+inverse_power zero h = refl
+inverse_power (suc b) h = inverse_power_of (suc b) h (λ e. absurd (grind (arith, e)))
+
+pub inverse_only : (b c : ℕ) → b < 256 → b ≢ 0 → c < 256 → field_mul b c ≡ 1 → c ≡ field_inverse b
+inverse_only b c h n k e = power_only b c h n k e ∙ sym (inverse_power_of b h n)
+
+pub ruleset field_inverses = (inverse_right, inverse_only)

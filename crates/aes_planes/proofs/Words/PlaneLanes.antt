@@ -3,7 +3,7 @@ use Rattle.std.proofs.Common.{◌≡◌, ℕ, ◌+◌, ◌-◌, ◌*◌, ◌/◌
 use Rattle.std.proofs.Common.{bit_or, bit_xor, List, [], ◌∷◌, ◌++◌, length, map, get_or, replicate, refl, ap, sym, ◌∙◌}
 use Rattle.std.proofs.Common.{arith, w16, Fits}
 use Rattle.std.proofs.Math.Bool.{and-false, and-true}
-use Rattle.std.proofs.lemmas.Bool.{cases_lt, and_parts}
+use Rattle.std.proofs.lemmas.Bool.{eqb-true, cases_lt, and_parts}
 use Rattle.std.proofs.lemmas.Simd.{below_from_Fits, map-map}
 use Rattle.std.proofs.lemmas.List.{length-map}
 use lib.Lanes.{zip2, pick_l, Each1, number_l, digits_l}
@@ -236,7 +236,8 @@ summed_lane x p r c d hp hr hc =
     let sums = raised_number 2 0xcccc pairs in
     let spot : (e : ℕ) → place 1 r e 0 ≡ 4 * r + e = λ e. omega arith in
     let low : (e : ℕ) → e < 4 → place 1 r e 0 < 16 = λ e h. omega (arith, hr) in
-    let masks : (e : ℕ) → e < 4 → column_masks r e ≡ true = λ e h. all_pairs_tell 4 4 column_masks masks_checked r e hr h in
+    let masks : (e : ℕ) → e < 4 → column_masks r e ≡ true = λ e h. all_pairs_tell 4 4 column_masks masks_checked r e hr
+    h in
     let read : (v e : ℕ) → e < 4 → bit v (4 * r + e) ≡ at (word_bits 16 v) (place 1 r e 0) =
     λ v e h. ap (bit v) (sym (spot e)) ∙ reads 16 v (place 1 r e 0) (low e h) in
     ap (λ v. bit v (4 * r + c)) (raised_lane 2 0xcccc (raised 1 0xeeee x) p (length-raised 1 0xeeee x d) hp
@@ -281,7 +282,30 @@ column0_bit x p r c d hp hr hc =
     ap (λ v. bit v (4 * r + c)) (get_or-zip2 bit_and x (replicate 8 0x1111) p 0 0 0 (omega (arith, d)) hp
     ∙ ap (bit_and (get_or x p 0)) (get_or-replicate 8 p 0x1111 0 hp))
     ∙ bit_of_and (get_or x p 0) 0x1111 (4 * r + c)
-    ∙ ap (λ v. bit (get_or x p 0) (4 * r + c) && v) (same_tells _ _ (all_pairs_tell 4 4 column0 column0_checked r c hr hc))
+    ∙ ap (λ v. bit (get_or x p 0) (4 * r + c) && v)
+    (same_tells _ _ (all_pairs_tell 4 4 column0 column0_checked r c hr hc))
+
+-- ---- a round constant
+
+-- the lanes that hold a byte in row 1 and column 3
+abbrev pub lanes_of_constant : ℕ → List ℕ
+lanes_of_constant x =
+    zip2 bit_and (zip2 shl16 (replicate 8 x) (7 ∷ 6 ∷ 5 ∷ 4 ∷ 3 ∷ 2 ∷ 1 ∷ 0 ∷ [])) (replicate 8 0x80)
+
+constant_test : ℕ → ℕ → Bool
+constant_test x i = number (map (λ w. bit w i) (lanes_of_constant x)) == cond (i == 7) x 0
+
+constants_checked : all_pairs 256 16 constant_test ≡ true
+unfolding all_below constant_test bit
+constants_checked = refl
+
+pub constant_held : (x r c : ℕ) → x < 256 → r < 4 → c < 4
+    → number (map (λ w. bit w (4 * r + c)) (lanes_of_constant x)) ≡ cond ((r == 1) && (c == 3)) x 0
+unfolding constant_test all_below same
+constant_held x r c h i j =
+    eqb-true _ _ (all_pairs_tell 256 16 constant_test constants_checked x (4 * r + c) h (omega arith))
+    ∙ ap (λ v. cond v x 0) (same_tells _ _ (all_pairs_tell 4 4 (λ r c. same (4 * r + c == 7) ((r == 1) && (c == 3)))
+    refl r c i j))
 
 -- ---- doubling
 

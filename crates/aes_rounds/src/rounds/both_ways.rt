@@ -17,7 +17,7 @@ pub struct Aes<const RK: usize> {
 }
 
 impl<const RK: usize> Aes<RK> {
-    /// The cipher and its inverse under these round keys, which need not be an expansion.
+    /// Makes the cipher and its inverse under these round keys, which need not be the expansion of a key.
     pub fn new(round_keys: &[Block; RK]) -> Aes<RK>
         requires { (RK ≡ 11) ⊎ (RK ≡ 13) ⊎ (RK ≡ 15) }
         ensures { ⟦<Aes<RK> as RoundKeysUser>⟧.round_keys result ≡ round_keys.now }

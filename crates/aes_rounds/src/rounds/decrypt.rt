@@ -15,7 +15,7 @@ pub struct AesDec<const RK: usize> {
 }
 
 impl<const RK: usize> AesDec<RK> {
-    /// The inverse cipher under these round keys, which need not be an expansion.
+    /// Makes the inverse cipher under these round keys, which need not be the expansion of a key.
     pub fn new(round_keys: &[Block; RK]) -> AesDec<RK>
         requires { (RK ≡ 11) ⊎ (RK ≡ 13) ⊎ (RK ≡ 15) }
         ensures { ⟦<AesDec<RK> as RoundKeysUser>⟧.round_keys result ≡ round_keys.now }

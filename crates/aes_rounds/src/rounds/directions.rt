@@ -37,7 +37,8 @@ pub(super) trait SingleRounds: Direction {
     // Nothing: a call has in its contract that a round under the zero key is the last round, once
     // its mixing is taken back.
     fn is_unmixed()
-        ensures { (b : List ℕ) → fips.IsBytes b → unmixed (fips.add_round_key (step b) (replicate 16 0)) ≡ last_step b };
+        ensures { (b : List ℕ) → fips.IsBytes b → unmixed (fips.add_round_key (step b) (replicate 16 0))
+            ≡ last_step b };
 }
 
 // Cipher (FIPS 197, 5.1).

@@ -19,7 +19,7 @@ pub struct AesEnc<const RK: usize> {
 }
 
 impl<const RK: usize> AesEnc<RK> {
-    /// The cipher under these round keys, which need not be an expansion.
+    /// Makes the cipher under these round keys, which need not be the expansion of a key.
     pub fn new(round_keys: &[Block; RK]) -> AesEnc<RK>
         requires { (RK ≡ 11) ⊎ (RK ≡ 13) ⊎ (RK ≡ 15) }
         ensures { ⟦<AesEnc<RK> as RoundKeysUser>⟧.round_keys result ≡ round_keys.now }
@@ -29,7 +29,7 @@ impl<const RK: usize> AesEnc<RK> {
         }
     }
 
-    /// The cipher and its inverse under the same round keys.
+    /// Returns the cipher and its inverse under the same round keys.
     pub fn as_encdec(&self) -> Aes<RK>
         ensures { ⟦<Aes<RK> as RoundKeysUser>⟧.round_keys result ≡ ⟦<AesEnc<RK> as RoundKeysUser>⟧.round_keys self.now }
     {
@@ -37,9 +37,10 @@ impl<const RK: usize> AesEnc<RK> {
         Aes { keys }
     }
 
-    /// The inverse cipher under the same round keys.
+    /// Returns the inverse cipher under the same round keys.
     pub fn as_dec(&self) -> AesDec<RK>
-        ensures { ⟦<AesDec<RK> as RoundKeysUser>⟧.round_keys result ≡ ⟦<AesEnc<RK> as RoundKeysUser>⟧.round_keys self.now }
+        ensures { ⟦<AesDec<RK> as RoundKeysUser>⟧.round_keys result ≡ ⟦<AesEnc<RK> as RoundKeysUser>⟧.round_keys
+            self.now }
     {
         let keys = BothKeys::new(&self.round_keys);
         AesDec { keys }

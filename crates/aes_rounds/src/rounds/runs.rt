@@ -3,7 +3,7 @@
 ghost use Rattle.std.specs.Prelude.{◌≡◌, ◌≤◌, length, map};
 ghost use Rattle.aes_planes.specs.Each.{Each};
 ghost use Rattle.aes_planes.specs.Fips197 as fips;
-ghost use Rattle.aes_planes.specs.Private.Rounds.{all_rounds};
+ghost use Rattle.aes_planes.specs.Rounds.{all_rounds};
 
 use super::directions::SingleRounds;
 use super::states::States;

@@ -8,8 +8,8 @@ use super::round_keys::store;
 use aes_planes::soft::sbox::Layers;
 use aes_planes::soft::word::Word;
 
-/// Leaves in words the round keys of a key as the full layout stores them: KeyExpansion (FIPS 197, 5.2), each in every slot,
-/// with the ShiftRows that the ciphers defer and 0x63 that `sub_bytes` leaves out. They stand nowhere else.
+/// Writes the round keys of a key to words, as the full layout stores them: KeyExpansion (FIPS 197, 5.2), each in every
+/// slot, with the ShiftRows that the ciphers defer and 0x63 that `sub_bytes` leaves out. No other copy is made.
 pub fn put_schedule<W: Word, K: KeyExpansion>(
     round_keys: &mut [W],
     key: &K::Key,
@@ -26,7 +26,7 @@ pub fn put_schedule<W: Word, K: KeyExpansion>(
     store_full(round_keys, K::ROUNDS);
 }
 
-/// Leaves in words the round keys of a key as the compact layout stores them.
+/// Writes the round keys of a key to words, as the compact layout stores them.
 pub(crate) fn put_compact_schedule<W: Word, K: KeyExpansion>(
     round_keys: &mut [W],
     key: &K::Key,

@@ -11,6 +11,7 @@ mod reading;
 mod wiped;
 mod words;
 
+use aes_cipher::zeroize::Zeroize;
 use aes_planes::laws;
 use aes_planes::soft::sbox::Layers;
 use aes_planes::soft::word::Word;
@@ -19,7 +20,7 @@ pub use bits192::Bits192;
 pub use bits256::Bits256;
 pub use bytes::KeyBytes;
 pub use wiped::WipedKeys;
-pub use words::{RoundKeyWords, consume_wiped};
+pub use words::RoundKeyWords;
 
 /// The word of a batch: eight of them hold as many blocks as are processed at once.
 pub type BatchWord = u128;
@@ -38,7 +39,7 @@ pub trait KeyExpansion {
     /// Nr: how many rounds the ciphers make (FIPS 197, 5).
     const ROUNDS: usize;
 
-    /// Leaves in words the round keys of a key, each in every slot: KeyExpansion (FIPS 197, 5.2).
+    /// Writes the round keys of a key to words, each in every slot: KeyExpansion (FIPS 197, 5.2).
     fn expand<W: Word>(round_keys: &mut [W], key: &Self::Key, layers: &mut Layers)
         requires sized { length round_keys.old ≡ 8 * ROUNDS + 8 }
         ensures blocks { let round_key = fips.round_key (fips.key_expansion (Self.Key.bytes key.now)) in
@@ -59,7 +60,7 @@ pub trait AesVariant: KeyExpansion {
     type RoundKeys: RoundKeyWords<u16>;
 
     /// The same, on the words of a batch.
-    type WideKeys: RoundKeyWords<BatchWord>;
+    type WideKeys: RoundKeyWords<BatchWord> + Zeroize;
 
     /// Stored round keys that are wiped when they are dropped.
     type Wiped: WipedKeys<Words = Self::RoundKeys>;
@@ -67,14 +68,14 @@ pub trait AesVariant: KeyExpansion {
     /// The name of the type that encrypts and decrypts; those of one direction begin with it.
     const NAME: &'static str;
 
-    /// Puts the stored round keys of a key in the place of words that are wiped.
+    /// Writes the stored round keys of a key to words that are wiped.
     fn refill(round_keys: &mut Self::Wiped, key: &Self::Key, layers: &mut Layers)
         requires wiped { Self.Wiped.IsWiped round_keys.old }
         ensures schedule { Self.RoundKeys.AreKeyed (Self.Wiped.words round_keys.new) }
         ensures key { Self.RoundKeys.key (Self.Wiped.words round_keys.new) ≡ Self.Key.bytes key.now }
         ensures layers { layers.new ≡ layers.old + Self.SCHEDULE_LAYERS };
 
-    /// Leaves the same round keys on the words of a batch, in words that are there: they stand nowhere else.
+    /// Writes the same round keys to words of a batch, in place, without another copy.
     fn put_wide(wide: &mut Self::WideKeys, round_keys: &Self::RoundKeys)
         requires is_schedule { Self.RoundKeys.AreKeyed round_keys.now }
         ensures schedule { Self.WideKeys.AreKeyed wide.new }

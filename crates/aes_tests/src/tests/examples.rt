@@ -1,7 +1,9 @@
 //! Laws and examples: contracts of functions that do nothing, which answer.
 
-use aes_planes::soft::planes::held_holds;
+use aes_ctr::examples as ctr_examples;
+use aes_planes::soft::planes::{held_holds, same_blocks_same_planes};
 use aes_planes::{examples, laws};
+use aes_soft::examples as soft_examples;
 
 #[test]
 fn laws_and_examples_can_be_called() {
@@ -12,11 +14,14 @@ fn laws_and_examples_can_be_called() {
     laws::inverse_ciphers();
     laws::equivalent_inverse();
     laws::inverse_ciphers_with();
+    laws::inverse_ciphers_on_blocks();
     laws::expanded_keys();
     laws::sums_of_blocks();
-    laws::are_blocks(&[]);
+    laws::is_block([0; 16]);
+    laws::are_blocks(&[[0; 16]; 3]);
     laws::each_in_its_place();
     held_holds();
+    same_blocks_same_planes();
     examples::field_examples();
     examples::sbox_examples();
     examples::step_examples();
@@ -31,4 +36,15 @@ fn laws_and_examples_can_be_called() {
     examples::cipher_192();
     examples::cipher_256();
     examples::equivalent_inverse_128();
+    examples::column_examples();
+    examples::deferred_shifts();
+    soft_examples::zero_key_expansion();
+    soft_examples::compact_words();
+    soft_examples::full_words();
+    soft_examples::key_example();
+    soft_examples::layer_examples();
+    ctr_examples::counter_examples();
+    ctr_examples::keystream_128_example();
+    ctr_examples::ctr_128_example();
+    ctr_examples::pieces_example();
 }

@@ -2,7 +2,8 @@
 use Rattle.std.proofs.Common.{◌/◌, ◌∙◌, ap, arith, length}
 use Rattle.std.specs.List.{concat}
 use Rattle.std.specs.Simd.{first_chunks}
-use Rattle.aes_cipher.proofs.ByteBlocks.{byte_in_chunk, byte_of_joined, chunks_joined, chunks_of_joined, length-chunks, length-joined}
+use Rattle.aes_cipher.proofs.ByteBlocks.{byte_in_chunk, byte_of_joined, chunks_joined, chunks_of_joined, length-chunks}
+use Rattle.aes_cipher.proofs.ByteBlocks.{length-joined}
 use Rattle.aes_cipher.proofs.bytes.blocks_and_bytes.Goals as goal
 
 pub returns-clause-joined : goal.returns-clause-joined

@@ -67,6 +67,7 @@ impl OneRound {
         *block = sum_of_blocks(&state, &self.last);
     }
 
+    #[tactic(auto, using(crate::proofs::SliceRuns::finished_one))]
     fn encrypt_each(&self, blocks: &mut [Block])
         ensures { Each (fips.cipher_with (self.now.first ∷ self.now.last ∷ [])) blocks.old blocks.new }
     {
@@ -83,6 +84,7 @@ impl OneRound {
         *block = sum_of_blocks(&state, &self.first);
     }
 
+    #[tactic(auto, using(crate::proofs::SliceRuns::finished_one))]
     fn decrypt_each(&self, blocks: &mut [Block])
         ensures { Each (fips.inv_cipher_with (self.now.first ∷ self.now.last ∷ [])) blocks.old blocks.new }
     {

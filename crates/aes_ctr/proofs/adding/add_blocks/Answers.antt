@@ -11,7 +11,8 @@ whole-preserved c =
     let place = c.whole.done in
     let block = slice_index_or blocks (place / 16) [] in
     let agree : (j : ℕ) → j < 16 → slice_index block (0 + j) ≡ byte_of_blocks blocks (c.args.from + place + j) =
-    λ j inside. ap (slice_index block) (omega (arith, c.whole.invariant.aligned)) ∙ byte_of_block blocks place j (omega (arith, c.whole.invariant.aligned))
+    λ j inside. ap (slice_index block) (omega (arith, c.whole.invariant.aligned))
+    ∙ byte_of_block blocks place j (omega (arith, c.whole.invariant.aligned))
     ∙ ap (byte_of_blocks blocks) (omega (arith, c.if-from-eq0.true)) in
     record {
       within = omega arith;
@@ -30,10 +31,13 @@ rest-preserved c =
     record {
       within = omega arith;
       value =
-          added_run (byte_of_blocks blocks) (slice_index block) c.args.from (place % 16) c.rest.done c.min-part.result _ c.rest.bytes _
-          (omega arith) (omega arith) c.add_part-in-rest.ensures (λ j inside. byte_of_block blocks place j (omega arith))
+          added_run (byte_of_blocks blocks) (slice_index block) c.args.from (place % 16) c.rest.done c.min-part.result _
+          c.rest.bytes _
+          (omega arith) (omega arith) c.add_part-in-rest.ensures
+          (λ j inside. byte_of_block blocks place j (omega arith))
           ∙ c.rest.invariant.value;
     }
 
 pub returns : goal.returns
-returns c = added_all (byte_of_blocks c.args.blocks.now) c.args.from c.rest.done c.rest.bytes _ (omega arith) c.rest.invariant.value
+returns c = added_all (byte_of_blocks c.args.blocks.now) c.args.from c.rest.done c.rest.bytes _ (omega arith)
+    c.rest.invariant.value

@@ -9,7 +9,8 @@ abbrev pub invariant-whole : goal.invariant-whole
 invariant-whole l = record {
   within : l.done ≤ length l.fn.bytes;
   aligned : l.done % 16 ≡ 0;
-  value : added_from (byte_of_blocks l.blocks) l.from l.done l.bytes ≡ plus_stream (byte_of_blocks l.blocks) l.from l.fn.bytes;
+  value : added_from (byte_of_blocks l.blocks) l.from l.done l.bytes ≡ plus_stream (byte_of_blocks l.blocks) l.from
+      l.fn.bytes;
 }
 
 abbrev pub decreases-whole : goal.decreases-whole
@@ -18,7 +19,8 @@ decreases-whole l = length l.initial.bytes - l.done
 abbrev pub invariant-rest : goal.invariant-rest
 invariant-rest l = record {
   within : l.done ≤ length l.fn.bytes;
-  value : added_from (byte_of_blocks l.blocks) l.from l.done l.bytes ≡ plus_stream (byte_of_blocks l.blocks) l.from l.fn.bytes;
+  value : added_from (byte_of_blocks l.blocks) l.from l.done l.bytes ≡ plus_stream (byte_of_blocks l.blocks) l.from
+      l.fn.bytes;
 }
 
 abbrev pub decreases-rest : goal.decreases-rest

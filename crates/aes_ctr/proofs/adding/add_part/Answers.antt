@@ -11,7 +11,9 @@ returns-then-bytes-eq16 c =
     ∙ ap (λ from. plus_stream (slice_index c.args.block.now) from c.args.bytes.now) (omega arith)
 
 pub loop-i-preserved : goal.loop-i-preserved
-loop-i-preserved c = added_one (slice_index c.args.block.now) c.args.from c.loop-i.i c.loop-i.bytes (omega arith) ∙ c.loop-i.invariant
+loop-i-preserved c = added_one (slice_index c.args.block.now) c.args.from c.loop-i.i c.loop-i.bytes (omega arith)
+    ∙ c.loop-i.invariant
 
 pub returns-after-loop-i : goal.returns-after-loop-i
-returns-after-loop-i c = added_all (slice_index c.args.block.now) c.args.from c.loop-i.i c.loop-i.bytes _ (omega arith) c.loop-i.invariant
+returns-after-loop-i c = added_all (slice_index c.args.block.now) c.args.from c.loop-i.i c.loop-i.bytes _ (omega arith)
+    c.loop-i.invariant

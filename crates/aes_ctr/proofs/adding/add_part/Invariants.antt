@@ -5,4 +5,5 @@ use Rattle.aes_ctr.proofs.Runs.{added_from}
 use Rattle.aes_ctr.proofs.adding.add_part.Given as goal
 
 abbrev pub invariant-loop-i : goal.invariant-loop-i
-invariant-loop-i l = added_from (slice_index l.block) l.from l.i l.bytes ≡ plus_stream (slice_index l.block) l.from l.fn.bytes
+invariant-loop-i l = added_from (slice_index l.block) l.from l.i l.bytes ≡ plus_stream (slice_index l.block) l.from
+    l.fn.bytes

@@ -8,7 +8,8 @@ abbrev pub invariant-loop-done : goal.invariant-loop-done
 invariant-loop-done g l =
     let stream = keystream_byte (g.B.RoundKeysUser.round_keys l.backend) l.iv in record {
       within : l.done ≤ length l.fn.bytes;
-      value : l.position + length l.fn.bytes < 2 ^ 64 → added_from stream l.position l.done l.bytes ≡ plus_stream stream l.position l.fn.bytes;
+      value : l.position + length l.fn.bytes < 2 ^ 64 → added_from stream l.position l.done l.bytes
+          ≡ plus_stream stream l.position l.fn.bytes;
     }
 
 abbrev pub decreases-loop-done : goal.decreases-loop-done

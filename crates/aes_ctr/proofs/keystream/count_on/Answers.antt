@@ -16,10 +16,12 @@ pub loop-i-preserved : goal.loop-i-preserved
 unfolding counter_block
 loop-i-preserved c =
     let block = counter_block c.args.iv.now in
-    let counter : c.block_of.result ≡ block (c.args.first + c.loop-i.i) = c.block_of.ensures ∙ ap (to_be_bytes w128) c.loop-i.invariant.at in
+    let counter : c.block_of.result ≡ block (c.args.first + c.loop-i.i) = c.block_of.ensures
+    ∙ ap (to_be_bytes w128) c.loop-i.invariant.at in
     record {
       at =
           ap (λ n. (n + 1) % 2 ^ 128) c.loop-i.invariant.at
           ∙ counter_more c.args.iv.now (c.args.first + c.loop-i.i) (c.args.first + (c.loop-i.i + 1)) (omega arith);
-      counted = rw counter (fill_by_more (λ k. block (c.args.first + k)) c.loop-i.blocks c.loop-i.i [] (omega arith) c.loop-i.invariant.counted);
+      counted = rw counter (fill_by_more (λ k. block (c.args.first + k)) c.loop-i.blocks c.loop-i.i [] (omega arith)
+          c.loop-i.invariant.counted);
     }

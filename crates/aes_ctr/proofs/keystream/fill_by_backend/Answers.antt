@@ -15,6 +15,7 @@ returns-after-loop-i g c k h =
     let n = c.loop-i.i in
     let counted = c.count_on.new.blocks in
     let all : xs ≡ map f counted =
-    sym (ap (λ l. l ++ map f (drop n xs)) (take_all n xs (omega arith)) ∙ ap (λ l. xs ++ map f l) (drop_all n xs (omega arith)) ∙ append-nil xs)
+    sym (ap (λ l. l ++ map f (drop n xs)) (take_all n xs (omega arith))
+    ∙ ap (λ l. xs ++ map f l) (drop_all n xs (omega arith)) ∙ append-nil xs)
     ∙ c.loop-i.invariant in
     ap (λ l. get_or l k []) all ∙ get_or-map f counted k [] [] (omega arith) ∙ ap f (c.count_on.ensures k h)

@@ -5,5 +5,7 @@ use Rattle.aes_permute.proofs.rounds.sub_bytes_but_constant.Goals as goal
 
 pub returns : goal.returns
 returns c =
-    sub_bytes_is c.args.x c.looked_up_by_nibbles-tower.result c.looked_up.result c.requires.block.1 c.looked_up_by_nibbles-tower.ensures
-    (through_lanes SBOX_FIRST SBOX_SECOND c.looked_up_by_nibbles-tower.result _ _ _ c.places_of.ensures.first c.places_of.ensures.second c.looked_up.ensures)
+    sub_bytes_is c.args.x c.looked_up_by_nibbles-tower.result c.looked_up.result c.requires.block.1
+    c.looked_up_by_nibbles-tower.ensures
+    (through_lanes SBOX_FIRST SBOX_SECOND c.looked_up_by_nibbles-tower.result _ _ _ c.places_of.ensures.first
+    c.places_of.ensures.second c.looked_up.ensures)

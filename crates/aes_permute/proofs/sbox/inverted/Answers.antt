@@ -15,31 +15,40 @@ pub lookup-requires : goal.lookup-requires
 lookup-requires c = record { are_places = nibbles_are_places c.args.high c.requires.highs }
 
 pub lookup-requires-2 : goal.lookup-requires-2
-lookup-requires-2 c = record { are_places = ap (list_all is_place) c.sum-both.ensures ∙ both_places c.args.high c.args.low c.requires.highs c.requires.lows }
+lookup-requires-2 c = record {
+  are_places = ap (list_all is_place) c.sum-both.ensures
+      ∙ both_places c.args.high c.args.low c.requires.highs c.requires.lows;
+}
 
 pub lookup-requires-3 : goal.lookup-requires-3
 lookup-requires-3 c = record {
   are_places =
-      ap (list_all is_place) (c.sum-over_high.ensures ∙ (λ i. zip2 bit_xor (c.lookup.ensures i) (c.lookup-scaled.ensures i)))
+      ap (list_all is_place) (c.sum-over_high.ensures
+      ∙ (λ i. zip2 bit_xor (c.lookup.ensures i) (c.lookup-scaled.ensures i)))
       ∙ over_high_places c.args.high c.args.low c.requires.highs c.requires.lows;
 }
 
 pub lookup-requires-4 : goal.lookup-requires-4
 lookup-requires-4 c = record {
   are_places =
-      ap (list_all is_place) (c.sum-over_both.ensures ∙ (λ i. zip2 bit_xor ((c.lookup-2.ensures ∙ ap (map (looked INVERSE)) c.sum-both.ensures) i) (c.lookup-scaled.ensures i)))
+      ap (list_all is_place) (c.sum-over_both.ensures
+      ∙ (λ i. zip2 bit_xor ((c.lookup-2.ensures ∙ ap (map (looked INVERSE)) c.sum-both.ensures) i)
+      (c.lookup-scaled.ensures i)))
       ∙ over_both_places c.args.high c.args.low c.requires.highs c.requires.lows;
 }
 
 pub returns-clause-first : goal.returns-clause-first
 returns-clause-first c =
     c.sum.ensures
-    ∙ (λ i. zip2 bit_xor ((c.lookup-3.ensures ∙ ap (map (looked INVERSE)) (c.sum-over_high.ensures ∙ (λ k. zip2 bit_xor (c.lookup.ensures k) (c.lookup-scaled.ensures k)))) i) (c.sum-both.ensures i))
+    ∙ (λ i. zip2 bit_xor ((c.lookup-3.ensures ∙ ap (map (looked INVERSE))
+    (c.sum-over_high.ensures ∙ (λ k. zip2 bit_xor (c.lookup.ensures k) (c.lookup-scaled.ensures k)))) i)
+    (c.sum-both.ensures i))
     ∙ firsts_are c.args.high c.args.low
 
 pub returns-clause-second : goal.returns-clause-second
 returns-clause-second c =
     c.sum-2.ensures
     ∙ (λ i. zip2 bit_xor ((c.lookup-4.ensures ∙ ap (map (looked INVERSE)) (c.sum-over_both.ensures
-    ∙ (λ k. zip2 bit_xor ((c.lookup-2.ensures ∙ ap (map (looked INVERSE)) c.sum-both.ensures) k) (c.lookup-scaled.ensures k)))) i) c.args.high)
+    ∙ (λ k. zip2 bit_xor ((c.lookup-2.ensures ∙ ap (map (looked INVERSE)) c.sum-both.ensures) k)
+    (c.lookup-scaled.ensures k)))) i) c.args.high)
     ∙ seconds_are c.args.high c.args.low

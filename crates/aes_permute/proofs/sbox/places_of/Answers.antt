@@ -14,12 +14,15 @@ pub returns-clause-first : goal.returns-clause-first
 returns-clause-first c = c.inverted.ensures.first ∙ firsts_of c.args.x _ _ c.high_nibbles.ensures c.low_nibbles.ensures
 
 pub returns-clause-second : goal.returns-clause-second
-returns-clause-second c = c.inverted.ensures.second ∙ seconds_of c.args.x _ _ c.high_nibbles.ensures c.low_nibbles.ensures
+returns-clause-second c = c.inverted.ensures.second ∙ seconds_of c.args.x _ _ c.high_nibbles.ensures
+    c.low_nibbles.ensures
 
 pub returns-clause-first_places : goal.returns-clause-first_places
 returns-clause-first_places c =
-    first_places c.args.x _ c.requires.block.1 (c.inverted.ensures.first ∙ firsts_of c.args.x _ _ c.high_nibbles.ensures c.low_nibbles.ensures)
+    first_places c.args.x _ c.requires.block.1 (c.inverted.ensures.first ∙ firsts_of c.args.x _ _ c.high_nibbles.ensures
+    c.low_nibbles.ensures)
 
 pub returns-clause-second_places : goal.returns-clause-second_places
 returns-clause-second_places c =
-    second_places c.args.x _ c.requires.block.1 (c.inverted.ensures.second ∙ seconds_of c.args.x _ _ c.high_nibbles.ensures c.low_nibbles.ensures)
+    second_places c.args.x _ c.requires.block.1
+    (c.inverted.ensures.second ∙ seconds_of c.args.x _ _ c.high_nibbles.ensures c.low_nibbles.ensures)

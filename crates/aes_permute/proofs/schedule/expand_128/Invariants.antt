@@ -6,8 +6,9 @@ use Rattle.aes_permute.proofs.Expansion.{Before}
 use Rattle.aes_permute.proofs.schedule.expand_128.Given as goal
 
 abbrev pub invariant-loop-i : goal.invariant-loop-i
-invariant-loop-i l = record {
-  done : Before l.keys (fips.key_expansion l.key) (l.i + 1);
+invariant-loop-i g l = record {
+  done : Before g.D.LaneRounds.BACKWARD g.D.LaneRounds.inner_byte g.D.LaneRounds.used_key
+      l.keys (fips.key_expansion l.key) 10 (l.i + 1);
   last_four : l.words ≡ block_at l.key (4 * l.i);
   same_length : length l.keys ≡ 11;
 }

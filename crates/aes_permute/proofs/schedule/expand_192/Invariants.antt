@@ -6,8 +6,9 @@ use Rattle.aes_permute.proofs.Expansion.{Before}
 use Rattle.aes_permute.proofs.schedule.expand_192.Given as goal
 
 abbrev pub invariant-loop-i : goal.invariant-loop-i
-invariant-loop-i l = record {
-  done : Before l.keys (fips.key_expansion l.key) (3 * l.i + 1);
+invariant-loop-i g l = record {
+  done : Before g.D.LaneRounds.BACKWARD g.D.LaneRounds.inner_byte g.D.LaneRounds.used_key
+      l.keys (fips.key_expansion l.key) 12 (3 * l.i + 1);
   first_four : l.front ≡ block_at l.key (12 * l.i);
   last_four : l.back ≡ block_at l.key (12 * l.i + 2);
   same_length : length l.keys ≡ 13;

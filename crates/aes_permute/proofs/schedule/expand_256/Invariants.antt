@@ -6,8 +6,9 @@ use Rattle.aes_permute.proofs.Expansion.{Before}
 use Rattle.aes_permute.proofs.schedule.expand_256.Given as goal
 
 abbrev pub invariant-loop-i : goal.invariant-loop-i
-invariant-loop-i l = record {
-  done : Before l.keys (fips.key_expansion l.key) (2 * l.i + 2);
+invariant-loop-i g l = record {
+  done : Before g.D.LaneRounds.BACKWARD g.D.LaneRounds.inner_byte g.D.LaneRounds.used_key
+      l.keys (fips.key_expansion l.key) 14 (2 * l.i + 2);
   first_four : l.even ≡ block_at l.key (8 * l.i);
   last_four : l.odd ≡ block_at l.key (8 * l.i + 4);
   same_length : length l.keys ≡ 15;

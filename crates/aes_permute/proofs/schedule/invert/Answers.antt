@@ -19,14 +19,17 @@ loop-i-preserved c =
     let inv = c.loop-i.invariant in
     record {
       same_length = omega (arith, length-set {A = List ℕ}, inv.same_length);
-      done = unmixed_more old new i _ (omega (arith, inv.same_length)) c.unmixed_key.ensures (inv.left i (omega (arith, inv.same_length)) (inr (omega arith))) inv.done;
+      done = unmixed_more old new i _ (omega (arith, inv.same_length)) c.inverted_key.ensures
+          (inv.left i (omega (arith, inv.same_length)) (inr (omega arith))) inv.done;
       left = λ k lt w. let ne : k ≢ i = elim w [ inl none ↦ omega (arith, none) | inr le ↦ omega (arith, le) ] in
-          moved_other old new i k _ ne (inv.left k lt (elim w [ inl none ↦ inl none | inr le ↦ inr (omega (arith, le)) ]));
+          moved_other old new i k _ ne (inv.left k lt
+          (elim w [ inl none ↦ inl none | inr le ↦ inr (omega (arith, le)) ]));
     }
 
 pub returns-clause-keys : goal.returns-clause-keys
 returns-clause-keys c =
     let inv = c.loop-i.invariant in
-    inverted_stored c.args.keys.now c.loop-i.keys c.requires inv.same_length (λ k some lt. inv.done k some (omega arith))
+    inverted_stored c.args.keys.now c.loop-i.keys c.requires inv.same_length
+    (λ k some lt. inv.done k some (omega arith))
     (inv.left 0 (omega (arith, c.requires)) (inl refl))
     (inv.left (length c.args.keys.now - 1) (omega (arith, c.requires)) (inr (omega arith)))

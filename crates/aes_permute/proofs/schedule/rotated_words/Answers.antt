@@ -9,5 +9,6 @@ pub returns : goal.returns
 unfolding sub_bytes
 returns c =
     let byte : c.args.constant < 256 = omega arith in
-    rotated_is c.args.before (sub_bytes c.args.last) c.sub_bytes_but_constant.result c.summed_columns.result c.args.constant byte
+    rotated_is c.args.before (sub_bytes c.args.last) c.sub_bytes_but_constant.result c.summed_columns.result
+    c.args.constant byte
     (map_length sbox c.args.last ∙ c.requires.last.0) c.sub_bytes_but_constant.ensures c.summed_columns.ensures

@@ -1,9 +1,11 @@
 //! What a key schedule does to columns: the round constant, sums from left to right, and round keys that straddle two.
 
-ghost use Rattle.std.specs.Prelude.{◌≡◌, ℕ, cond, nat_lt, ◌+◌, ◌-◌, ◌*◌, ◌%◌, ◌^◌, ◌<◌, ◌≤◌, ◌⊎◌, length, map, slice_index_or};
+ghost use Rattle.std.specs.Prelude.{◌≡◌, ℕ, cond, nat_lt, ◌+◌, ◌-◌, ◌*◌, ◌%◌, ◌^◌, ◌<◌, ◌≤◌, ◌⊎◌, length, map};
+ghost use Rattle.std.specs.Prelude.{slice_index_or};
 ghost use Rattle.aes_planes.specs.Bits.{at, xor};
 ghost use Rattle.aes_planes.specs.Fips197 as fips;
-ghost use Rattle.aes_planes.specs.Planes.{held, place, zip_with, words_at, constant_block, summed, columns_summed, columns_straddled};
+ghost use Rattle.aes_planes.specs.Planes.{held, place, zip_with, words_at, constant_block, summed, columns_summed};
+ghost use Rattle.aes_planes.specs.Planes.{columns_straddled};
 
 use crate::soft::word::Word;
 
@@ -20,6 +22,16 @@ pub fn add_round_constant_bit<W: Word>(state: &mut [W; 8], bit: usize)
     state[bit] = flipped;
 }
 
+/// Adds a byte to the byte in row 1 and column 3 of every block: a round constant (FIPS 197, 5.2).
+#[inline(always)]
+pub fn add_round_constant<W: Word>(state: &mut [W; 8], constant: u8)
+    ensures { held W.BLOCKS (map W.bits state.new)
+        ≡ map (λ s. fips.add_round_key s (constant_block constant)) (held W.BLOCKS (map W.bits state.old)) }
+{
+    let sums = W::sum_planes(state, &W::constant_planes(constant), true);
+    *state = sums;
+}
+
 /// Puts sums of columns in the place of the eight words at `offset`: a round key, where they hold the
 /// substituted last one (FIPS 197, 5.2).
 ///
@@ -32,7 +44,8 @@ pub fn xor_columns<W: Word>(round_keys: &mut [W], offset: usize, idx_xor: usize,
     requires inside { idx_xor ≤ offset }
     requires room { offset + 8 ≤ length round_keys.old }
     requires below_bits { idx_ror < W.BITS }
-    ensures others { (i : ℕ) (d : _) → (i < offset) ⊎ (offset + 8 ≤ i) → slice_index_or round_keys.new i d ≡ slice_index_or round_keys.old i d }
+    ensures others { (i : ℕ) (d : _) → (i < offset) ⊎ (offset + 8 ≤ i) → slice_index_or round_keys.new i d
+        ≡ slice_index_or round_keys.old i d }
     ensures sums { (i : ℕ) (d : _) (r c k : ℕ) → i < 8 → r < 4 → c < 4 → k < W.BLOCKS
         → at (W.bits (slice_index_or round_keys.new (offset + i) d)) (place W.BLOCKS r c k)
         ≡ summed xor (λ e. at (W.bits (slice_index_or round_keys.old (offset + i - idx_xor) d)) (place W.BLOCKS r e k))
@@ -60,7 +73,8 @@ pub fn summed_columns<W: Word>(before: &[W; 8], start: &[W; 8], idx_ror: u32) ->
     requires below_bits { idx_ror < W.BITS }
     ensures { (rows cols : ℕ) → rows < 4 → cols < 4 → idx_ror ≡ rows * (4 * W.BLOCKS) + cols * W.BLOCKS
         → held W.BLOCKS (map W.bits result)
-        ≡ zip_with (columns_summed rows cols) (held W.BLOCKS (map W.bits before.now)) (held W.BLOCKS (map W.bits start.now)) }
+        ≡ zip_with (columns_summed rows cols) (held W.BLOCKS (map W.bits before.now))
+        (held W.BLOCKS (map W.bits start.now)) }
 {
     W::sum_columns_of_planes(before, start, idx_ror)
 }
@@ -70,7 +84,8 @@ pub fn summed_columns<W: Word>(before: &[W; 8], start: &[W; 8], idx_ror: u32) ->
 fn straddle<W: Word>(left: W, right: W) -> W
     ensures { (r c k : ℕ) → r < 4 → c < 4 → k < W.BLOCKS
         → at (W.bits result) (place W.BLOCKS r c k)
-        ≡ cond (nat_lt c 2) (at (W.bits left) (place W.BLOCKS r (c + 2) k)) (at (W.bits right) (place W.BLOCKS r (c - 2) k)) }
+        ≡ cond (nat_lt c 2) (at (W.bits left) (place W.BLOCKS r (c + 2) k))
+        (at (W.bits right) (place W.BLOCKS r (c - 2) k)) }
 {
     let down = left.shift_right(W::HALF_ROW);
     let up = right.shift_left(W::HALF_ROW);

@@ -1,6 +1,6 @@
 //! Eight words of sixteen bits as one vector: packing, and what column mixing does to all of them at once.
 
-ghost use Rattle.std.specs.Prelude.{false, ◌≡◌, ℕ, ◌+◌, ◌*◌, ◌%◌, ◌<◌, ◌≤◌, [], ◌∷◌, get_or, map};
+ghost use Rattle.std.specs.Prelude.{false, ◌≡◌, ℕ, ◌+◌, ◌*◌, ◌%◌, ◌<◌, ◌≤◌, ◌==◌, ◌&&◌, cond, [], ◌∷◌, get_or, map};
 ghost use Rattle.aes_planes.specs.Bits.{bit, number, xor};
 ghost use Rattle.aes_planes.specs.Fips197 as fips;
 ghost use Rattle.aes_planes.specs.Planes.{summed};
@@ -49,6 +49,7 @@ pub(super) fn words_of(x: u16x8) -> [u16; 8]
 }
 
 // The bytes of the lanes, the lower one of each first and then the upper ones.
+#[tactic(auto, using(crate::proofs::Words::PlaneLanes::half_bit))]
 #[inline(always)]
 pub(super) fn halves_of(x: u16x8) -> u8x16
     ensures { (j r i : ℕ) → j < 2 → r < 8 → i < 8 → bit (get_or result (8 * j + r) 0) i
@@ -59,6 +60,7 @@ pub(super) fn halves_of(x: u16x8) -> u8x16
 }
 
 // Bit `p` of each of sixteen bytes, as a word.
+#[tactic(auto, using(crate::proofs::Words::PlaneLanes::plane_bit))]
 #[inline(always)]
 pub(super) fn plane_of(bytes: u8x16, p: u32) -> u16
     requires below_8 { p < 8 }
@@ -119,7 +121,8 @@ pub(super) fn turned(x: u16x8, rows: u32, cols: u32) -> u16x8
 #[tactic(auto, using(crate::proofs::Words::PlaneLanes::lanes_summed))]
 #[inline(always)]
 pub(super) fn summed(x: u16x8, y: u16x8) -> u16x8
-    ensures { (p i : ℕ) → p < 8 → i < 16 → bit (get_or result p 0) i ≡ xor (bit (get_or x p 0) i) (bit (get_or y p 0) i) }
+    ensures { (p i : ℕ) → p < 8 → i < 16
+        → bit (get_or result p 0) i ≡ xor (bit (get_or x p 0) i) (bit (get_or y p 0) i) }
 {
     x ^ y
 }
@@ -133,6 +136,16 @@ pub(super) fn doubled(x: u16x8) -> u16x8
     let up = x.swizzle([7, 0, 1, 2, 3, 4, 5, 6]);
     let top = x.swizzle([7, 7, 7, 7, 7, 7, 7, 7]);
     up ^ top & u16x8::from_array([0, 0xffff, 0, 0xffff, 0xffff, 0, 0, 0])
+}
+
+// Lanes that hold a byte in row 1 and column 3, and zeros elsewhere.
+#[inline(always)]
+pub(super) fn constant_lanes(byte: u8) -> u16x8
+    ensures { (r c : ℕ) → r < 4 → c < 4
+        → number (map (λ w. bit w (4 * r + c)) result) ≡ cond ((r == 1) && (c == 3)) byte 0 }
+{
+    let bits = u16x8::splat(byte as u16) << u16x8::from_array([7, 6, 5, 4, 3, 2, 1, 0]);
+    bits & u16x8::splat(0x80)
 }
 
 // The bits of each lane `n` places down, and from the lowest place to the highest; or none of that.

@@ -31,8 +31,8 @@ pub type Aes192Backend<'a> = Backend<'a, Bits192, OwnedWide<Bits192>>;
 /// The backend of a key of 32 bytes.
 pub type Aes256Backend<'a> = Backend<'a, Bits256, OwnedWide<Bits256>>;
 
-/// Encrypts and decrypts under round keys that stay with their owner. It holds the same on the words of a batch, or is lent
-/// them. Contracts see a value as its key.
+/// Encrypts and decrypts under round keys that it borrows. It holds the same on the words of a batch, or borrows them.
+/// Contracts see a value as its key.
 #[derive(Drop)]
 pub struct Backend<'a, K: AesVariant, H: HoldsWide<K>> {
     round_keys: &'a K::RoundKeys,
@@ -51,7 +51,7 @@ impl<'a, K: AesVariant, H: HoldsWide<K>> Model for Backend<'a, K, H> {
 }
 
 impl<'a, K: AesVariant> Backend<'a, K, OwnedWide<K>> {
-    /// The backend of stored round keys. It holds the same, widened, and wipes those when it is dropped.
+    /// Makes the backend of stored round keys. It holds a widened copy, and wipes it when it is dropped.
     #[inline(always)]
     pub fn new(round_keys: &'a K::RoundKeys) -> Backend<'a, K, OwnedWide<K>>
         requires is_schedule { K.RoundKeys.AreKeyed round_keys.now }

@@ -5,7 +5,8 @@ ghost use Rattle.aes_planes.specs.Fips197 as fips;
 ghost use Rattle.aes_soft.specs.Batches.{layers_for};
 
 use crate::soft::ciphers::{FullCipher, process_full, process_full_apart};
-use crate::soft::key_sizes::{AesVariant, BatchWord, RoundKeyWords, consume_wiped};
+use crate::soft::key_sizes::{AesVariant, BatchWord, RoundKeyWords};
+use aes_cipher::zeroize::Held;
 use aes_planes::soft::sbox::Layers;
 use aes_planes::soft::word::{Batch, Block, Word};
 use std::slice;
@@ -78,7 +79,7 @@ fn process_batches<W: Word, R: RoundKeyWords<W>, D: FullCipher>(
     }
 }
 
-/// Processes each block of a slice in its place: whole batches, and then one block after the other.
+/// Processes each block of a slice in place: whole batches first, then one block after the other.
 pub fn process_blocks<K: AesVariant, D: FullCipher>(
     round_keys: &K::RoundKeys,
     blocks: &mut [Block],
@@ -91,16 +92,15 @@ pub fn process_blocks<K: AesVariant, D: FullCipher>(
 {
     let whole = blocks.len() - blocks.len() % <BatchWord as Word>::Blocks::LEN;
     if whole > 0 {
-        let mut wide = K::WideKeys::zeroed();
-        K::put_wide(&mut wide, round_keys);
-        process_batches::<BatchWord, K::WideKeys, D>(&wide, &mut blocks[..whole], layers);
+        let mut wide = Held::<K::WideKeys>::zeroed();
+        K::put_wide(wide.words_mut(), round_keys);
+        process_batches::<BatchWord, K::WideKeys, D>(wide.words(), &mut blocks[..whole], layers);
         wide.wipe();
-        consume_wiped::<BatchWord, K::WideKeys>(&wide);
     }
     process_batches::<u16, K::RoundKeys, D>(round_keys, &mut blocks[whole..], layers);
 }
 
-/// Processes the block in its place.
+/// Processes the block in place.
 #[inline(always)]
 pub fn process_block<K: AesVariant, D: FullCipher>(round_keys: &K::RoundKeys, block: &mut Block)
     requires is_schedule { K.RoundKeys.AreKeyed round_keys.now }

@@ -16,7 +16,8 @@ use aes_planes::soft::word::Word;
 pub(super) fn add_key<W: Word>(state: &mut [W; 8], round_keys: &[W], i: usize)
     requires room { 8 * i + 8 ≤ length round_keys.now }
     ensures { held W.BLOCKS (map W.bits state.new)
-        ≡ zip_with fips.add_round_key (held W.BLOCKS (map W.bits state.old)) (held W.BLOCKS (map W.bits (words_at round_keys.now (8 * i)))) }
+        ≡ zip_with fips.add_round_key (held W.BLOCKS (map W.bits state.old))
+        (held W.BLOCKS (map W.bits (words_at round_keys.now (8 * i)))) }
 {
     let key = round_key(round_keys, i);
     add_round_key(state, &key);
@@ -30,11 +31,13 @@ pub(super) trait Deferred {
 
     // Mixes the columns of every block between so many shifts of its rows and as many back.
     fn mix<W: Word>(state: &mut [W; 8])
-        ensures { held W.BLOCKS (map W.bits state.new) ≡ map (between_shifts DEFERRED fips.mix_columns) (held W.BLOCKS (map W.bits state.old)) };
+        ensures { held W.BLOCKS (map W.bits state.new) ≡ map (between_shifts DEFERRED fips.mix_columns)
+            (held W.BLOCKS (map W.bits state.old)) };
 
     // Undoes the mixing of the columns of every block between so many shifts of its rows and as many back.
     fn unmix<W: Word>(state: &mut [W; 8])
-        ensures { held W.BLOCKS (map W.bits state.new) ≡ map (between_shifts DEFERRED fips.inv_mix_columns) (held W.BLOCKS (map W.bits state.old)) };
+        ensures { held W.BLOCKS (map W.bits state.new) ≡ map (between_shifts DEFERRED fips.inv_mix_columns)
+            (held W.BLOCKS (map W.bits state.old)) };
 }
 
 // None is deferred.
@@ -115,7 +118,8 @@ pub(super) fn round<W: Word, D: Deferred>(
 )
     requires room { 8 * i + 8 ≤ length round_keys.now }
     ensures blocks { held W.BLOCKS (map W.bits state.new)
-        ≡ zip_with fips.add_round_key (map (between_shifts D.DEFERRED fips.mix_columns) (map (map (λ b. plus63 (fips.sbox b))) (held W.BLOCKS (map W.bits state.old))))
+        ≡ zip_with fips.add_round_key (map (between_shifts D.DEFERRED fips.mix_columns)
+        (map (map (λ b. plus63 (fips.sbox b))) (held W.BLOCKS (map W.bits state.old))))
         (held W.BLOCKS (map W.bits (words_at round_keys.now (8 * i)))) }
     ensures layers { layers.new ≡ layers.old + 1 }
 {
@@ -135,7 +139,8 @@ pub(super) fn inv_round<W: Word, D: Deferred>(
     requires room { 8 * i + 8 ≤ length round_keys.now }
     ensures blocks { held W.BLOCKS (map W.bits state.new)
         ≡ map (map (λ b. fips.inv_sbox (plus63 b))) (map (between_shifts D.DEFERRED fips.inv_mix_columns)
-        (zip_with fips.add_round_key (held W.BLOCKS (map W.bits state.old)) (held W.BLOCKS (map W.bits (words_at round_keys.now (8 * i)))))) }
+        (zip_with fips.add_round_key (held W.BLOCKS (map W.bits state.old))
+        (held W.BLOCKS (map W.bits (words_at round_keys.now (8 * i)))))) }
     ensures layers { layers.new ≡ layers.old + 1 }
 {
     add_key(state, round_keys, i);

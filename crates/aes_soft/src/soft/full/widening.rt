@@ -5,8 +5,8 @@ ghost use Rattle.aes_soft.specs.Stored.{full, key_of, rounds_of, size_of, IsStor
 
 use aes_planes::soft::word::Word;
 
-/// Leaves in words of `W` the stored round keys of the same key on `u16`: each word by `broadcast`, so that every slot has
-/// the block of the one slot.
+/// Writes stored round keys on `u16` to words of `W`, for the same key: each word by `broadcast`, so that every slot
+/// has the block of the one slot.
 #[inline(always)]
 pub fn put_wide<W: Word, const N: usize>(wide: &mut [W; N], round_keys: &[u16; N])
     requires is_stored { IsStored N 1 (map (word_bits 16) round_keys.now) }

@@ -36,11 +36,11 @@ impl AesVariant for Bits128 {
 
     type WideKeys = RoundKeys<BatchWord>;
 
-    type Wiped = Wiped<88>;
+    type Wiped = Wiped<RoundKeys<u16>>;
 
     const NAME: &'static str = "Aes128";
 
-    fn refill(round_keys: &mut Wiped<88>, key: &[u8; 16], layers: &mut Layers) {
+    fn refill(round_keys: &mut Wiped<RoundKeys<u16>>, key: &[u8; 16], layers: &mut Layers) {
         put_schedule::<u16, Bits128>(round_keys.words_mut(), key, layers);
     }
 

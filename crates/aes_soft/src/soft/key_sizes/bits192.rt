@@ -36,11 +36,11 @@ impl AesVariant for Bits192 {
 
     type WideKeys = RoundKeys<BatchWord>;
 
-    type Wiped = Wiped<104>;
+    type Wiped = Wiped<RoundKeys<u16>>;
 
     const NAME: &'static str = "Aes192";
 
-    fn refill(round_keys: &mut Wiped<104>, key: &[u8; 24], layers: &mut Layers) {
+    fn refill(round_keys: &mut Wiped<RoundKeys<u16>>, key: &[u8; 24], layers: &mut Layers) {
         put_schedule::<u16, Bits192>(round_keys.words_mut(), key, layers);
     }
 

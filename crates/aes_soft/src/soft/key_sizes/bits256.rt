@@ -36,11 +36,11 @@ impl AesVariant for Bits256 {
 
     type WideKeys = RoundKeys<BatchWord>;
 
-    type Wiped = Wiped<120>;
+    type Wiped = Wiped<RoundKeys<u16>>;
 
     const NAME: &'static str = "Aes256";
 
-    fn refill(round_keys: &mut Wiped<120>, key: &[u8; 32], layers: &mut Layers) {
+    fn refill(round_keys: &mut Wiped<RoundKeys<u16>>, key: &[u8; 32], layers: &mut Layers) {
         put_schedule::<u16, Bits256>(round_keys.words_mut(), key, layers);
     }
 

@@ -18,7 +18,7 @@ pub trait KeyBytes: Drop {
     ///
     /// # Errors
     ///
-    /// `InvalidLength` exactly where the slice's length is not SIZE.
+    /// `InvalidLength` exactly if the slice's length is not SIZE.
     fn from_slice(slice: &[u8]) -> Result<Self, InvalidLength>
         ensures refusal { IsErr result ↔ (length slice.now ≢ SIZE) }
         ensures same { IfOk result (λ key. bytes key ≡ slice.now) };

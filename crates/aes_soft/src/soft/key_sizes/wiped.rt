@@ -31,15 +31,15 @@ pub trait WipedKeys: Drop {
         ensures { IsWiped self.new };
 }
 
-impl<const N: usize> WipedKeys for Wiped<N> {
+impl<const N: usize> WipedKeys for Wiped<[u16; N]> {
     type Words = [u16; N];
 
     ghost words = { λ wiped. wiped };
 
     ghost IsWiped = { λ wiped. wiped ≡ replicate N 0 };
 
-    fn zeroed() -> Wiped<N> {
-        Wiped::new([0; N])
+    fn zeroed() -> Wiped<[u16; N]> {
+        Wiped::zeroed()
     }
 
     #[inline(always)]
@@ -47,7 +47,7 @@ impl<const N: usize> WipedKeys for Wiped<N> {
         self.words()
     }
 
-    fn copy(&self) -> Wiped<N> {
+    fn copy(&self) -> Wiped<[u16; N]> {
         self.copy()
     }
 

@@ -42,6 +42,7 @@ fn encrypt_one(cipher: &TwoKeys, block: &mut Block)
 }
 
 // Leaves Cipher of each block under the two round keys (FIPS 197, 5.1).
+#[tactic(auto, using(aes_cipher::proofs::SliceRuns::finished_one))]
 fn encrypt_each(cipher: &TwoKeys, blocks: &mut [Block])
     ensures { Each (fips.cipher_with (cipher.now.first ∷ cipher.now.last ∷ [])) blocks.old blocks.new }
 {

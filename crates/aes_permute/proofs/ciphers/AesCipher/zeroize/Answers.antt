@@ -7,4 +7,5 @@ pub returns : goal.returns
 returns g c =
     let s = g.met.S.Size.KeySize.is_size in
     let fits : g.S.Size.KeySize.SIZE ≤ 32 = omega (arith, s.words, s.eight) in
-    c.rekey.ensures.same ∙ ap (λ n. take n (replicate 32 0)) c.SIZE.ensures ∙ take-replicate g.S.Size.KeySize.SIZE 32 0 fits
+    c.rekey.ensures.same ∙ ap (λ n. take n (replicate 32 0)) c.SIZE.ensures ∙ take-replicate g.S.Size.KeySize.SIZE 32 0
+    fits

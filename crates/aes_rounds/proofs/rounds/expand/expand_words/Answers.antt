@@ -14,12 +14,16 @@ pub loop-i-preserved : goal.loop-i-preserved
 loop-i-preserved g c =
     let key = c.args.key.now in
     let fits : c.loop-i.i < length c.loop-i.words = omega arith in
-    let is : c.if-i-key_words.words ≡ fips.next_word_if (nat_lt c.loop-i.i (fips.key_words key)) key (fips.expanded_words key c.loop-i.i) c.loop-i.i =
+    let is : c.if-i-key_words.words ≡ fips.next_word_if (nat_lt c.loop-i.i (fips.key_words key)) key
+    (fips.expanded_words key c.loop-i.i) c.loop-i.i =
     elim c.if-i-key_words.branch [
-      | then-i-key_words w ↦ w.words-is ∙ w.key_word.ensures ∙ sym (next_word_key key (fips.expanded_words key c.loop-i.i) c.loop-i.i w.if-i-key_words.true)
+      | then-i-key_words w ↦ w.words-is ∙ w.key_word.ensures
+          ∙ sym (next_word_key key (fips.expanded_words key c.loop-i.i) c.loop-i.i w.if-i-key_words.true)
       | else-i-key_words w ↦ w.words-is ∙ w.add_words.ensures
-          ∙ ap (fips.add_words (slice_index_or c.loop-i.words (c.loop-i.i - fips.key_words key) [])) w.added_word.ensures
-          ∙ sym (next_word_sum key c.loop-i.words c.loop-i.i w.if-i-key_words.false c.requires.some_word c.loop-i.invariant.done)
+          ∙ ap (fips.add_words (slice_index_or c.loop-i.words (c.loop-i.i - fips.key_words key) []))
+          w.added_word.ensures
+          ∙ sym (next_word_sum key c.loop-i.words c.loop-i.i w.if-i-key_words.false c.requires.some_word
+          c.loop-i.invariant.done)
     ] in
     record {
       sized = length-set c.loop-i.words c.loop-i.i c.if-i-key_words.words ∙ c.loop-i.invariant.sized;

@@ -6,5 +6,6 @@ use Rattle.aes_rounds.proofs.rounds.expand.round_keys.Given as goal
 abbrev pub invariant-loop-j : goal.invariant-loop-j
 invariant-loop-j g l = record {
   sized : length l.keys ≡ g.row.RK;
-  done : (k : ℕ) → k < l.j → slice_index_or l.keys k [] ≡ fips.state (λ r c. slice_index (slice_index_or l.words (4 * k + c) []) r);
+  done : (k : ℕ) → k < l.j → slice_index_or l.keys k []
+      ≡ fips.state (λ r c. slice_index (slice_index_or l.words (4 * k + c) []) r);
 }

@@ -8,5 +8,6 @@ use Rattle.aes_rounds.proofs.rounds.inverted_keys.inverted_keys.Goals as goal
 pub returns : goal.returns
 returns g c =
     let w = c.args.round_keys.now in
-    ext_get_or [] c.loop-i.inverted (fips.inverted_keys w) (c.loop-i.invariant.sized ∙ sym (inverted_length w ∙ c.told-round_keys))
+    ext_get_or [] c.loop-i.inverted (fips.inverted_keys w)
+    (c.loop-i.invariant.sized ∙ sym (inverted_length w ∙ c.told-round_keys))
     (λ k lt. c.loop-i.invariant.done k (omega (arith, c.loop-i.invariant.sized, c.loop-i-test.false)))

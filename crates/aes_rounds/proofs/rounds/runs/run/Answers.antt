@@ -2,7 +2,7 @@
 use Rattle.std.proofs.Common.{◌≡◌, ℕ, ◌+◌, ◌-◌, List, map, ap, ◌∙◌, arith}
 use Rattle.aes_planes.specs.Fips197 as fips
 use Rattle.aes_planes.proofs.Planes.Held.{map-map, map-same}
-use Rattle.aes_planes.specs.Private.Rounds.{rounds_after, all_rounds}
+use Rattle.aes_planes.specs.Rounds.{rounds_after, all_rounds}
 use Rattle.aes_planes.proofs.Standard.AllRounds.{rounds_more}
 use Rattle.aes_rounds.proofs.rounds.runs.run.Goals as goal
 
@@ -17,8 +17,10 @@ loop-number-preserved g c =
     let blocks = g.S.States.blocks c.args.states.now in
     let round : List ℕ → List ℕ = λ b. fips.add_round_key (g.D.SingleRounds.step b) (fips.round_key w n) in
     let e : n ≡ n + 1 - 1 = omega arith in
-    c.round.ensures ∙ ap (map round) c.loop-number.invariant ∙ map-map round (λ b. rounds_after g.D.SingleRounds.step w b (n - 1)) blocks
-    ∙ map-same _ _ blocks (λ b. rounds_more g.D.SingleRounds.step w b n (omega arith) ∙ ap (rounds_after g.D.SingleRounds.step w b) e)
+    c.round.ensures ∙ ap (map round) c.loop-number.invariant
+    ∙ map-map round (λ b. rounds_after g.D.SingleRounds.step w b (n - 1)) blocks
+    ∙ map-same _ _ blocks (λ b. rounds_more g.D.SingleRounds.step w b n (omega arith)
+    ∙ ap (rounds_after g.D.SingleRounds.step w b) e)
 
 pub returns : goal.returns
 unfolding all_rounds
@@ -30,5 +32,6 @@ returns g c =
     let blocks = g.S.States.blocks c.args.states.now in
     let e : c.loop-number.number ≡ fips.last_round w = omega arith in
     c.add_round_key-2.ensures
-    ∙ ap (map add) (c.last_step.ensures ∙ ap (map last) (c.loop-number.invariant ∙ ap (λ n. map (after (n - 1)) blocks) e) ∙ map-map last (after (fips.last_round w - 1)) blocks)
+    ∙ ap (map add) (c.last_step.ensures ∙ ap (map last) (c.loop-number.invariant ∙ ap (λ n. map (after (n - 1)) blocks)
+    e) ∙ map-map last (after (fips.last_round w - 1)) blocks)
     ∙ map-map add (λ b. last (after (fips.last_round w - 1) b)) blocks

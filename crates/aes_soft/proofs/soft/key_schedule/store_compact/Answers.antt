@@ -2,14 +2,18 @@
 use Rattle.std.proofs.Common.{◌-◌, map, refl, arith}
 use Rattle.aes_soft.specs.Stored.{compact, key_size}
 use Rattle.aes_soft.proofs.KeyOfPlanes.{key_of-schedule}
-use Rattle.aes_soft.proofs.StoredRoundKeys.{compact_owed, schedule_of}
+use Rattle.aes_soft.proofs.StoredRoundKeys.{compact_deferred, schedule_of}
 use Rattle.aes_soft.proofs.soft.key_schedule.store_compact.Goals as goal
 
 pub returns-clause-schedule : goal.returns-clause-schedule
 returns-clause-schedule g c = λ key sized holds.
-    schedule_of g.W.Word.BLOCKS compact c.args.rounds 2 key (map g.W.Word.bits c.store.new.round_keys) (λ i lt. compact_owed c.args.rounds i c.requires.even lt) (omega (arith, c.requires.ten_at_least)) sized (c.store.ensures.blocks _ holds)
+    schedule_of g.W.Word.BLOCKS compact c.args.rounds 2 key (map g.W.Word.bits c.store.new.round_keys)
+    (λ i lt. compact_deferred c.args.rounds i c.requires.even lt) (omega (arith, c.requires.ten_at_least)) sized
+    (c.store.ensures.blocks _ holds)
 
 pub returns-clause-key : goal.returns-clause-key
 returns-clause-key g c = λ key sized holds.
-    key_of-schedule g.W.Word.BLOCKS compact g.met.W.Word.shape.some_block refl (map g.W.Word.bits c.store.new.round_keys)
-    (key_size c.args.rounds) (c.args.rounds - 6) key refl sized (omega (arith, c.requires.ten_at_least)) (omega (arith, c.requires.fourteen_at_most)) (returns-clause-schedule g c key sized holds)
+    key_of-schedule g.W.Word.BLOCKS compact g.met.W.Word.shape.some_block refl
+    (map g.W.Word.bits c.store.new.round_keys)
+    (key_size c.args.rounds) (c.args.rounds - 6) key refl sized (omega (arith, c.requires.ten_at_least))
+    (omega (arith, c.requires.fourteen_at_most)) (returns-clause-schedule g c key sized holds)

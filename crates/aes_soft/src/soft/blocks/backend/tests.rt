@@ -49,7 +49,8 @@ fn decrypted<B: BlockCipherDecBackend>(backend: &B, blocks: [Block; 8]) -> ([Blo
     (whole, single)
 }
 
-// Whether a backend processes batches as it processes blocks, each way, and encrypts the block in slot 5 as it is given.
+// Whether a backend processes batches as it processes blocks, each way, and encrypts the block in slot 5 as it is
+// given.
 fn processes_batches<K: AesVariant>(key: &K::Key, slot5: u128) -> bool {
     let mut round_keys = K::Wiped::zeroed();
     K::refill(&mut round_keys, key, &mut Layers::new());

@@ -1,7 +1,8 @@
 //! Widened round keys that a backend holds: its own, or lent.
 ghost use Rattle.std.specs.Prelude.{◌≡◌};
 
-use crate::soft::key_sizes::{AesVariant, BatchWord, RoundKeyWords, consume_wiped};
+use crate::soft::key_sizes::{AesVariant, RoundKeyWords};
+use aes_cipher::zeroize::Held;
 
 /// What holds round keys on the words of a batch.
 pub trait HoldsWide<K: AesVariant>: Drop {
@@ -15,7 +16,7 @@ pub trait HoldsWide<K: AesVariant>: Drop {
 
 /// Widened round keys that are wiped when they are dropped.
 pub struct OwnedWide<K: AesVariant> {
-    keys: K::WideKeys,
+    keys: Held<K::WideKeys>,
 }
 
 impl<K: AesVariant> OwnedWide<K> {
@@ -27,9 +28,9 @@ impl<K: AesVariant> OwnedWide<K> {
         ensures key { K.WideKeys.key result.keys ≡ K.RoundKeys.key round_keys.now }
     {
         let mut wide = OwnedWide {
-            keys: K::WideKeys::zeroed(),
+            keys: Held::zeroed(),
         };
-        K::put_wide(&mut wide.keys, round_keys);
+        K::put_wide(wide.keys.words_mut(), round_keys);
         wide
     }
 }
@@ -38,8 +39,7 @@ impl<K: AesVariant> Drop for OwnedWide<K> {
     #[inline(always)]
     fn drop(mut self) {
         self.keys.wipe();
-        let OwnedWide { keys } = self;
-        consume_wiped::<BatchWord, K::WideKeys>(&keys);
+        let OwnedWide { keys: _ } = self;
     }
 }
 
@@ -48,7 +48,7 @@ impl<K: AesVariant> HoldsWide<K> for OwnedWide<K> {
 
     #[inline(always)]
     fn lend(&self) -> &K::WideKeys {
-        &self.keys
+        self.keys.words()
     }
 }
 

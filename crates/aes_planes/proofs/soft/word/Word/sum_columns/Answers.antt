@@ -25,15 +25,18 @@ returns g c = λ r q k h l kn.
     let p = place n r q k in
     c.bit_xor-first.ensures p (low q l)
     ∙ ap (xor (at (bits c.args.self) p)) (c.bit_and-first_column.ensures p (low q l)
-    ∙ (λ t. (c.uniform_row-column0.ensures p (low q l) ∙ ap (bit 1) (col q l)) t && c.ror-turned.ensures p (low q l) t)))
+    ∙ (λ t. (c.uniform_row-column0.ensures p (low q l) ∙ ap (bit 1) (col q l)) t
+    && c.ror-turned.ensures p (low q l) t)))
     (λ q l.
     let p = place n r q k in
     c.bit_xor-pairs.ensures p (low q l)
     ∙ ap (xor (at first p)) (c.bit_and-part1.ensures p (low q l)
-    ∙ (λ t. (c.uniform_row-from1.ensures p (low q l) ∙ ap (bit 14) (col q l)) t && (c.shift_left-up1.ensures p (low q l) ∙ ap (λ v. nat_le v p && at first (p - v)) e1) t)))
+    ∙ (λ t. (c.uniform_row-from1.ensures p (low q l) ∙ ap (bit 14) (col q l)) t
+    && (c.shift_left-up1.ensures p (low q l) ∙ ap (λ v. nat_le v p && at first (p - v)) e1) t)))
     (λ q l.
     let p = place n r q k in
     c.bit_xor-sums.ensures p (low q l)
     ∙ ap (xor (at pairs p)) (c.bit_and-part2.ensures p (low q l)
-    ∙ (λ t. (c.uniform_row-from2.ensures p (low q l) ∙ ap (bit 12) (col q l)) t && (c.shift_left-up2.ensures p (low q l) ∙ ap (λ v. nat_le v p && at pairs (p - v)) e2) t)))
+    ∙ (λ t. (c.uniform_row-from2.ensures p (low q l) ∙ ap (bit 12) (col q l)) t
+    && (c.shift_left-up2.ensures p (low q l) ∙ ap (λ v. nat_le v p && at pairs (p - v)) e2) t)))
     q l

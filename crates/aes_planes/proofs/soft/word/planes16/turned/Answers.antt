@@ -4,11 +4,6 @@ use Rattle.aes_planes.specs.Bits.{bit}
 use Rattle.aes_planes.proofs.Words.PlaneLanes.{masked_lanes}
 use Rattle.aes_planes.proofs.soft.word.planes16.turned.Goals as goal
 
-pub returns-then-cols-eq0 : goal.returns-then-cols-eq0
-returns-then-cols-eq0 c p r q hp hr hq =
-    c.rotated-whole.ensures p (4 * r + q) hp (omega arith)
-    ∙ ap (bit (get_or c.args.x p 0)) (omega (arith, c.if-cols-eq0.true))
-
 pub returns : goal.returns
 returns c p r q hp hr hq =
     masked_lanes c.rotated-ahead.result c.rotated-wrapped.result c.args.cols p r q _ (omega arith)

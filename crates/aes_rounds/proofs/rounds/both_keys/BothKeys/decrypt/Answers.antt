@@ -8,4 +8,5 @@ pub returns : goal.returns
 returns g c =
     let keys = c.args.self.now in
     c.decrypt.ensures
-    ∙ map-same _ _ (g.S.States.blocks c.args.states.now) (λ b. ap (λ v. fips.eq_inv_cipher_with v b) keys.inverted ∙ c.equivalent_inverse.ensures keys.round_keys b keys.two_round_keys)
+    ∙ map-same _ _ (g.S.States.blocks c.args.states.now) (λ b. ap (λ v. fips.eq_inv_cipher_with v b) keys.inverted
+    ∙ c.equivalent_inverse.ensures keys.round_keys b keys.two_round_keys)

@@ -5,4 +5,5 @@ use Rattle.aes_planes.specs.Fips197 as fips
 use Rattle.aes_rounds.proofs.rounds.states.Block8States.add_round_key.Given as goal
 
 abbrev pub invariant-loop-block : goal.invariant-loop-block
-invariant-loop-block l = finished (λ b. fips.add_round_key b l.round_key) l.block-index l.self ≡ map (λ b. fips.add_round_key b l.round_key) l.fn.self
+invariant-loop-block l = finished (λ b. fips.add_round_key b l.round_key) l.block-index l.self
+    ≡ map (λ b. fips.add_round_key b l.round_key) l.fn.self

@@ -10,7 +10,8 @@ widen-preserved g c =
     let same_length = c.widen.invariant.same_length in
     record {
       spread = put_more (InEverySlot w.bits w.BITS w.ROW_BITS w.QUARTER_ROW c.args.round_keys.now)
-          c.widen.wide c.widen.i c.broadcast.result (omega (arith, same_length, c.told-round_keys)) c.widen.invariant.spread c.broadcast.ensures;
+          c.widen.wide c.widen.i c.broadcast.result (omega (arith, same_length, c.told-round_keys))
+          c.widen.invariant.spread c.broadcast.ensures;
       same_length = length-set c.widen.wide c.widen.i c.broadcast.result ∙ same_length;
     }
 
@@ -21,13 +22,17 @@ returns-clause-schedule g c =
     let held = c.requires.is_stored in
     record {
       one_of_three = held.one_of_three;
-      keyed = widened w.bits w.BITS w.ROW_BITS w.QUARTER_ROW c.args.round_keys.now w.BLOCKS m.some_block m.sixteen m.four m.one c.widen.wide c.widen.invariant.same_length
-          (λ i d lt. c.widen.invariant.spread i d (omega (arith, c.told-round_keys))) (size_of g.row.N) (full (rounds_of g.row.N)) held.keyed;
+      keyed = widened w.bits w.BITS w.ROW_BITS w.QUARTER_ROW c.args.round_keys.now w.BLOCKS m.some_block m.sixteen
+          m.four m.one c.widen.wide c.widen.invariant.same_length
+          (λ i d lt. c.widen.invariant.spread i d (omega (arith, c.told-round_keys))) (size_of g.row.N)
+          (full (rounds_of g.row.N)) held.keyed;
     }
 
 pub returns-clause-key : goal.returns-clause-key
 returns-clause-key g c =
     let w = g.W.Word in
     let m = g.met.W.Word.shape in
-    same_key w.bits w.BITS w.ROW_BITS w.QUARTER_ROW c.args.round_keys.now w.BLOCKS m.some_block m.sixteen m.four m.one c.widen.wide c.widen.invariant.same_length
-    (λ i d lt. c.widen.invariant.spread i d (omega (arith, c.told-round_keys))) (size_of g.row.N) (full (rounds_of g.row.N))
+    same_key w.bits w.BITS w.ROW_BITS w.QUARTER_ROW c.args.round_keys.now w.BLOCKS m.some_block m.sixteen m.four m.one
+    c.widen.wide c.widen.invariant.same_length
+    (λ i d lt. c.widen.invariant.spread i d (omega (arith, c.told-round_keys))) (size_of g.row.N)
+    (full (rounds_of g.row.N))

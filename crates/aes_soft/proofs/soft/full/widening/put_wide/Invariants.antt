@@ -5,6 +5,7 @@ use Rattle.aes_soft.proofs.soft.full.widening.put_wide.Given as goal
 
 abbrev pub invariant-widen : goal.invariant-widen
 invariant-widen g l = record {
-  spread : (m : ℕ) (d : _) → m < l.i → InEverySlot g.W.Word.bits g.W.Word.BITS g.W.Word.ROW_BITS g.W.Word.QUARTER_ROW l.round_keys m (slice_index_or l.wide m d);
+  spread : (m : ℕ) (d : _) → m < l.i → InEverySlot g.W.Word.bits g.W.Word.BITS g.W.Word.ROW_BITS g.W.Word.QUARTER_ROW
+      l.round_keys m (slice_index_or l.wide m d);
   same_length : length l.wide ≡ length l.round_keys;
 }

@@ -9,7 +9,8 @@ loop-i-preserved c =
     let long = c.loop-i.invariant.long in
     record {
       long = length-set c.loop-i.blocks c.loop-i.i c.sum_of_blocks.result ∙ long;
-      value = zipped_step add_round_key c.loop-i.i _ c.loop-i.blocks c.args.round_keys.now [] _ (omega arith) (omega (arith, long, c.loop-i-test.true))
+      value = zipped_step add_round_key c.loop-i.i _ c.loop-i.blocks c.args.round_keys.now [] _ (omega arith)
+          (omega (arith, long, c.loop-i-test.true))
           (omega (arith, c.told-round_keys, c.loop-i-test.true)) c.sum_of_blocks.ensures
           ∙ c.loop-i.invariant.value;
     }

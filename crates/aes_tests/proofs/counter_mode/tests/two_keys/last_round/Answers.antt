@@ -8,4 +8,5 @@ pub returns : goal.returns
 returns c =
     c.sum_of_blocks.ensures
     ∙ ap (λ s. fips.add_round_key s c.args.round_key.now)
-    (c.inv_mix_columns.ensures ∙ ap fips.inv_mix_columns c.cipher_round.ensures ∙ mixing_undone c.args.block.now c.fits-block)
+    (c.inv_mix_columns.ensures ∙ ap fips.inv_mix_columns c.cipher_round.ensures
+    ∙ mixing_undone c.args.block.now c.fits-block)

@@ -8,6 +8,7 @@ use Rattle.aes_soft.proofs.soft.ciphers.compact.DecryptCompactCipher.process_pla
 abbrev pub invariant-turns : goal.invariant-turns
 invariant-turns g l = record {
   blocks : held g.W.Word.BLOCKS (map g.W.Word.bits l.state)
-      ≡ map (λ b. inv_sub_bytes (inv_state_after (key_expansion (key_of (key_size l.rounds) g.W.Word.BLOCKS compact (map g.W.Word.bits l.round_keys))) b (2 * l.turn))) (held g.W.Word.BLOCKS (map g.W.Word.bits l.fn.state));
+      ≡ map (λ b. inv_sub_bytes (inv_state_after (key_expansion (key_of (key_size l.rounds) g.W.Word.BLOCKS compact
+      (map g.W.Word.bits l.round_keys))) b (2 * l.turn))) (held g.W.Word.BLOCKS (map g.W.Word.bits l.fn.state));
   layers : l.layers ≡ l.fn.layers + 2 * l.turn + 1;
 }

@@ -10,6 +10,8 @@ unfolding inv_shift_times shift_times
 returns g c =
     let n = g.W.Word.BLOCKS in
     let blocks = held n (map g.W.Word.bits c.args.state.now) in
-    let whole = stepped_map n (map plus63) (map (λ b. plus63 (sbox b))) _ _ blocks c.sub_bytes_nots.ensures c.sub_bytes.ensures.blocks ∙ with63s blocks in
+    let whole = stepped_map n (map plus63) (map (λ b. plus63 (sbox b))) _ _ blocks c.sub_bytes_nots.ensures
+    c.sub_bytes.ensures.blocks ∙ with63s blocks in
     let shifted = stepped_map n (shift_times 1) sub_bytes _ _ blocks c.shift_rows_1.ensures whole in
-    stepped_map n (between_shifts 0 mix_columns) (λ b. shift_rows (sub_bytes b)) _ _ blocks c.mix_columns_0.ensures shifted
+    stepped_map n (between_shifts 0 mix_columns) (λ b. shift_rows (sub_bytes b)) _ _ blocks c.mix_columns_0.ensures
+    shifted

@@ -1,0 +1,110 @@
+//! What a wiped value is made of: words, and blocks of bytes.
+
+ghost use Rattle.std.specs.Prelude.{◌≡◌, length, replicate};
+
+use super::{hidden_place, overwrite};
+use crate::cipher::Block;
+use aes_planes::soft::word::Word;
+use std::sync::atomic::{AtomicU64, Ordering};
+
+/// What an array or a slice can be made of that is overwritten with zeros.
+pub trait Element: Copy {
+    /// The element whose bits are all 0.
+    ghost ZERO: { Self };
+
+    /// Returns the element whose bits are all 0.
+    fn zero() -> Self
+        ensures { result ≡ ZERO };
+
+    /// Returns some byte of the element. Nothing is claimed of it: it is read so that a compiler can't leave out
+    /// writes.
+    fn some_byte(self) -> u8;
+}
+
+impl Element for u16 {
+    ghost ZERO = { 0 };
+
+    #[inline(always)]
+    fn zero() -> u16 {
+        0
+    }
+
+    #[inline(always)]
+    fn some_byte(self) -> u8 {
+        self.low_byte()
+    }
+}
+
+impl Element for u32 {
+    ghost ZERO = { 0 };
+
+    #[inline(always)]
+    fn zero() -> u32 {
+        0
+    }
+
+    #[inline(always)]
+    fn some_byte(self) -> u8 {
+        self.low_byte()
+    }
+}
+
+impl Element for u64 {
+    ghost ZERO = { 0 };
+
+    #[inline(always)]
+    fn zero() -> u64 {
+        0
+    }
+
+    #[inline(always)]
+    fn some_byte(self) -> u8 {
+        self.low_byte()
+    }
+}
+
+impl Element for u128 {
+    ghost ZERO = { 0 };
+
+    #[inline(always)]
+    fn zero() -> u128 {
+        0
+    }
+
+    #[inline(always)]
+    fn some_byte(self) -> u8 {
+        self.low_byte()
+    }
+}
+
+impl Element for Block {
+    ghost ZERO = { replicate 16 0 };
+
+    #[inline(always)]
+    fn zero() -> Block {
+        [0; 16]
+    }
+
+    #[inline(always)]
+    fn some_byte(self) -> u8 {
+        self[0]
+    }
+}
+
+/// Overwrites every element with zeros.
+pub fn zeroize_elements<E: Element>(elements: &mut [E])
+    ensures { elements.new ≡ replicate (length elements.old) E.ZERO }
+{
+    let seen = AtomicU64::new(0);
+    observe(elements, &seen);
+    overwrite(elements, E::zero());
+    observe(elements, &seen);
+}
+
+// Reads the first element, at a place that the compiler can't know.
+fn observe<E: Element>(elements: &[E], seen: &AtomicU64) {
+    let place = hidden_place(seen);
+    if place < elements.len() {
+        seen.swap(elements[place].some_byte() as u64, Ordering::SeqCst);
+    }
+}

@@ -1,0 +1,25 @@
+-- What is left to show of `keys::one_way::turned`.
+use Rattle.std.proofs.Common.{ap, ◌∙◌}
+use Rattle.aes_planes.specs.Fips197.{inverted_keys}
+use Rattle.aes_planes.specs.Planes.{plus63}
+use Rattle.aes_permute.specs.Keys.{encrypting, first_two}
+use Rattle.aes_permute.specs.Stored.{as_is, key_untower}
+use Rattle.aes_permute.proofs.DirectionLaws.{same_forward, key_backward}
+use Rattle.aes_permute.proofs.KeyBytes.{is_keyed, two_stored}
+use Rattle.aes_permute.proofs.keys.one_way.turned.Goals as goal
+
+pub invert-requires : goal.invert-requires
+invert-requires g c =
+    two_stored as_is key_untower plus63 (λ w. w) same_forward _ _ (ap encrypting c.copy-keys.ensures ∙ c.requires.keys)
+
+pub returns-clause-keyed : goal.returns-clause-keyed
+returns-clause-keyed g c =
+    (is_keyed inverted_keys first_two g.K.KeySize.SIZE _ _ g.met.K.KeySize.is_size c.requires.sized c.requires.bytes
+    key_backward
+    (c.invert.ensures ∙ ap inverted_keys (ap encrypting c.copy-keys.ensures ∙ c.requires.keys))).1
+
+pub returns-clause-same : goal.returns-clause-same
+returns-clause-same g c =
+    (is_keyed inverted_keys first_two g.K.KeySize.SIZE _ _ g.met.K.KeySize.is_size c.requires.sized c.requires.bytes
+    key_backward
+    (c.invert.ensures ∙ ap inverted_keys (ap encrypting c.copy-keys.ensures ∙ c.requires.keys))).0

@@ -1,0 +1,10 @@
+-- What is left to show of `rounds::decrypt_key`.
+use Rattle.aes_permute.proofs.InverseLanes.{unmixed_is}
+use Rattle.aes_permute.proofs.rounds.decrypt_key.Goals as goal
+
+pub returns : goal.returns
+returns c =
+    unmixed_is c.args.key _ _ _ _ _ _ _ c.requires c.looked_up_by_nibbles-by_1.ensures
+    c.looked_up_by_nibbles-by_4.ensures
+    c.looked_up_by_nibbles-by_9.ensures c.looked_up_by_nibbles-by_15.ensures
+    c.sum-by_14.ensures c.sum-by_11.ensures c.sum-by_13.ensures

@@ -1,0 +1,215 @@
+//! The two directions, round by round: Cipher, and EqInvCipher for InvCipher.
+
+ghost use Rattle.std.specs.Prelude.{◌≡◌, ◌≤◌, ℕ, Bool, true, false, List, length, map};
+ghost use Rattle.aes_planes.specs.Fips197 as fips;
+ghost use Rattle.aes_planes.specs.Planes.{plus63};
+ghost use Rattle.aes_planes.specs.Rounds.{all_rounds};
+ghost use Rattle.aes_permute.specs.Keys.{IsKeySize, key_of, first_two};
+ghost use Rattle.aes_permute.specs.Stored.{untower, inv_untower, key_untower, as_is, round_keys_of, AreWritten};
+
+use crate::rounds::{
+    decrypt_first, decrypt_key, decrypt_last, decrypt_round, encrypt_first, encrypt_key,
+    encrypt_last, encrypt_round,
+};
+use aes_cipher::cipher::{Decrypt, Direction, Encrypt};
+use std::simd::prelude::*;
+
+/// A direction on lanes: its rounds, and the round keys that they use. States and round keys are kept in a basis of the
+/// direction's own.
+pub trait LaneRounds: Direction {
+    /// What a byte of a state stands for.
+    ghost state_byte: { ℕ → ℕ };
+
+    /// What a byte of the first stored round key stands for.
+    ghost first_byte: { ℕ → ℕ };
+
+    /// What a byte of a stored round key between the first and the last stands for.
+    ghost inner_byte: { ℕ → ℕ };
+
+    /// What a byte of the last stored round key stands for.
+    ghost last_byte: { ℕ → ℕ };
+
+    /// What a round does before it adds its round key.
+    ghost step: { List ℕ → List ℕ };
+
+    /// What the last round does before it adds its round key.
+    ghost last_step: { List ℕ → List ℕ };
+
+    /// What comes of a round key of the standard's list, between the first and the last, before a round uses it.
+    ghost used_key: { List ℕ → List ℕ };
+
+    /// The round keys that the rounds use, in their order.
+    ghost used_keys: { List (List ℕ) → List (List ℕ) };
+
+    /// The first two round keys of the standard's list, by those that the rounds use.
+    ghost first_keys: { List (List ℕ) → List (List ℕ) };
+
+    /// Whether the rounds use the standard's list from its end.
+    ghost BACKWARD: { Bool };
+
+    /// Whether the rounds use the standard's list from its end.
+    const BACKWARD: bool;
+
+    /// How the names of types end that work in this direction alone.
+    const SUFFIX: &'static str;
+
+    /// Adds the first round key to a block, and returns the state.
+    fn first(block: u8x16, key: u8x16) -> u8x16
+        requires block { fips.IsBlock block }
+        requires key { fips.IsBlock key }
+        ensures { map state_byte result ≡ fips.add_round_key block (map first_byte key) };
+
+    /// Runs a round that is not the last.
+    fn round(x: u8x16, key: u8x16) -> u8x16
+        requires block { fips.IsBlock x }
+        requires key { fips.IsBlock key }
+        ensures { map state_byte result ≡ fips.add_round_key (step (map state_byte x)) (map inner_byte key) };
+
+    /// Runs the last round, and returns the block.
+    fn last(x: u8x16, key: u8x16) -> u8x16
+        requires block { fips.IsBlock x }
+        requires key { fips.IsBlock key }
+        ensures { result ≡ fips.add_round_key (last_step (map state_byte x)) (map last_byte key) };
+
+    /// Returns a round key between the first and the last as it is stored.
+    fn inner_key(key: u8x16) -> u8x16
+        requires key { fips.IsBlock key }
+        ensures { map inner_byte result ≡ used_key key };
+
+    /// No effect; states that round keys that are written one by one, each at its place, are those that the rounds use.
+    fn uses_written()
+        ensures { (w stored : List (List ℕ)) → 2 ≤ length w → AreWritten BACKWARD inner_byte used_key w stored
+            → round_keys_of first_byte inner_byte last_byte stored ≡ used_keys w };
+
+    /// No effect; states that the rounds use as many round keys as there are.
+    fn uses_all()
+        ensures { (w : List (List ℕ)) → length (used_keys w) ≡ length w };
+
+    /// No effect; states that all rounds together do what the direction does.
+    fn processes()
+        ensures { (w : List (List ℕ)) (b : List ℕ) → 2 ≤ length w
+            → all_rounds step last_step (used_keys w) b ≡ Self.processed w b };
+
+    /// No effect; states that a key begins its own schedule.
+    fn keeps_key()
+        ensures { (size : ℕ) (key : List ℕ) → IsKeySize size → length key ≡ size → fips.IsBytes key
+            → key_of size (first_keys (used_keys (fips.key_expansion key))) ≡ key };
+}
+
+// Cipher (FIPS 197, 5.1).
+impl LaneRounds for Encrypt {
+    ghost state_byte = { untower };
+
+    ghost first_byte = { as_is };
+
+    ghost inner_byte = { key_untower };
+
+    ghost last_byte = { plus63 };
+
+    ghost step = { λ b. fips.mix_columns (fips.shift_rows (fips.sub_bytes b)) };
+
+    ghost last_step = { λ b. fips.shift_rows (fips.sub_bytes b) };
+
+    ghost used_key = { λ key. key };
+
+    ghost used_keys = { λ w. w };
+
+    ghost first_keys = { λ w. w };
+
+    ghost BACKWARD = { false };
+
+    const BACKWARD: bool = false;
+
+    const SUFFIX: &'static str = "Enc";
+
+    #[inline(always)]
+    fn first(block: u8x16, key: u8x16) -> u8x16 {
+        encrypt_first(block, key)
+    }
+
+    #[inline(always)]
+    fn round(x: u8x16, key: u8x16) -> u8x16 {
+        encrypt_round(x, key)
+    }
+
+    #[inline(always)]
+    fn last(x: u8x16, key: u8x16) -> u8x16 {
+        encrypt_last(x, key)
+    }
+
+    #[inline(always)]
+    fn inner_key(key: u8x16) -> u8x16 {
+        encrypt_key(key)
+    }
+
+    #[tactic(auto, using(crate::proofs::DirectionLaws::written_forward))]
+    fn uses_written() {}
+
+    #[tactic(auto, using(crate::proofs::DirectionLaws::same_forward))]
+    fn uses_all() {}
+
+    #[tactic(auto, using(crate::proofs::DirectionLaws::is_encrypted))]
+    fn processes() {}
+
+    #[tactic(auto, using(crate::proofs::DirectionLaws::key_forward))]
+    fn keeps_key() {}
+}
+
+// EqInvCipher (FIPS 197, 5.3.5).
+impl LaneRounds for Decrypt {
+    ghost state_byte = { inv_untower };
+
+    ghost first_byte = { plus63 };
+
+    ghost inner_byte = { inv_untower };
+
+    ghost last_byte = { as_is };
+
+    ghost step = { λ b. fips.inv_mix_columns (fips.inv_shift_rows (fips.inv_sub_bytes b)) };
+
+    ghost last_step = { λ b. fips.inv_shift_rows (fips.inv_sub_bytes b) };
+
+    ghost used_key = { fips.inv_mix_columns };
+
+    ghost used_keys = { fips.inverted_keys };
+
+    ghost first_keys = { first_two };
+
+    ghost BACKWARD = { true };
+
+    const BACKWARD: bool = true;
+
+    const SUFFIX: &'static str = "Dec";
+
+    #[inline(always)]
+    fn first(block: u8x16, key: u8x16) -> u8x16 {
+        decrypt_first(block, key)
+    }
+
+    #[inline(always)]
+    fn round(x: u8x16, key: u8x16) -> u8x16 {
+        decrypt_round(x, key)
+    }
+
+    #[inline(always)]
+    fn last(x: u8x16, key: u8x16) -> u8x16 {
+        decrypt_last(x, key)
+    }
+
+    #[inline(always)]
+    fn inner_key(key: u8x16) -> u8x16 {
+        decrypt_key(key)
+    }
+
+    #[tactic(auto, using(crate::proofs::DirectionLaws::written_backward))]
+    fn uses_written() {}
+
+    #[tactic(auto, using(crate::proofs::DirectionLaws::same_backward))]
+    fn uses_all() {}
+
+    #[tactic(auto, using(crate::proofs::DirectionLaws::is_decrypted))]
+    fn processes() {}
+
+    #[tactic(auto, using(crate::proofs::DirectionLaws::key_backward))]
+    fn keeps_key() {}
+}

@@ -1,0 +1,54 @@
+//! Stored round keys that are wiped when they are dropped.
+
+ghost use Rattle.std.specs.Prelude.{◌≡◌, ℕ, List, replicate};
+
+use aes_cipher::zeroize::Wiped;
+use aes_planes::soft::word::Block;
+
+/// Stored round keys, which are wiped when they are dropped. Contracts see the blocks.
+pub trait Stored: Drop {
+    /// The blocks.
+    ghost blocks: { Self → List (List ℕ) };
+
+    /// How many blocks there are.
+    ghost COUNT: { ℕ };
+
+    /// Returns blocks to be written over. Nothing is claimed of what they hold.
+    fn room() -> Self;
+
+    /// Lends the blocks.
+    fn lend(&self) -> &[Block]
+        ensures { result.now ≡ blocks self.now };
+
+    /// Returns the same blocks once more.
+    fn copy(&self) -> Self
+        ensures { blocks result ≡ blocks self.now };
+
+    /// Sets every byte to 0.
+    fn wipe(&mut self)
+        ensures { blocks self.new ≡ replicate COUNT (replicate 16 0) };
+}
+
+impl<const N: usize> Stored for Wiped<[Block; N]> {
+    ghost blocks = { λ wiped. wiped };
+
+    ghost COUNT = { N };
+
+    #[inline(always)]
+    fn room() -> Wiped<[Block; N]> {
+        Wiped::zeroed()
+    }
+
+    #[inline(always)]
+    fn lend(&self) -> &[Block] {
+        self.words()
+    }
+
+    fn copy(&self) -> Wiped<[Block; N]> {
+        self.copy()
+    }
+
+    fn wipe(&mut self) {
+        self.wipe();
+    }
+}
