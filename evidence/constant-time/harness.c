@@ -8,6 +8,10 @@
 
 enum { MOST = 8 };
 
+/* The calls of the C library that make ready what others are given. */
+uint32_t fotsgure_aes_set_key(void *, void *, size_t);
+enum { STRUCT = 244, COUNTER = 24, IV = 16 };
+
 /* A buffer that a call is given. */
 struct buffer { uint8_t *at, *before; size_t bytes; char kind; };
 static struct buffer buffers[MOST];
@@ -22,8 +26,13 @@ static uint8_t next_byte(void) {
 }
 
 /* kind: s a secret that is read, b a secret that is worked in its place, o bytes that are written, p public bytes, z a
-   secret that must be zero afterwards, t bytes of which some are written. */
+   secret that must be zero afterwards, t bytes of which some are written; and two structs of the C library: k one that
+   holds a secret key of so many bytes, c a secret counter block at a position. */
+static void *kept(size_t key_bytes);
+static void *counter(uint64_t position);
 static void *buffer(char kind, size_t bytes) {
+    if (kind == 'k') return kept(bytes);
+    if (kind == 'c') return counter(bytes);
     struct buffer *it = &buffers[held++];
     it->at = aligned_alloc(16, (bytes + 31) & ~(size_t)15);
     it->before = malloc(bytes + 1);
@@ -33,6 +42,21 @@ static void *buffer(char kind, size_t bytes) {
     for (size_t i = 0; i < bytes; i++) it->before[i] = it->at[i] = next_byte();
     if (kind == 's' || kind == 'b' || kind == 'z') (void)VALGRIND_MAKE_MEM_UNDEFINED(it->at, bytes);
     return it->at;
+}
+
+static void *kept(size_t key_bytes) {
+    uint8_t key[32], *it = buffer('p', STRUCT);
+    memset(it, 0, STRUCT);
+    for (size_t i = 0; i < key_bytes; i++) key[i] = next_byte();
+    (void)VALGRIND_MAKE_MEM_UNDEFINED(key, key_bytes);
+    if (key_bytes) (void)fotsgure_aes_set_key(it, key, key_bytes);
+    return it;
+}
+static void *counter(uint64_t position) {
+    uint8_t *it = buffer('p', COUNTER);
+    (void)VALGRIND_MAKE_MEM_UNDEFINED(it, IV);
+    memcpy(it + IV, &position, sizeof position);
+    return it;
 }
 
 static unsigned before, leaks, vacuous, clean, empty, unexpected;
@@ -57,7 +81,7 @@ static void end(const char *name, const char *wanted, uint64_t answer, uint64_t 
             tainted += bits != 0;
         }
         (void)VALGRIND_MAKE_MEM_DEFINED(it->at, it->bytes);
-        /* A block stays as it was by chance once in 2^128 times, a lone byte once in 256: so much is not asked of it. */
+        /* A block stays as it was by chance once in 2^128 times, a lone byte once in 256: that is not asked of it. */
         for (size_t k = 0; k + 16 <= it->bytes; k += 16) changed += memcmp(it->at + k, it->before + k, 16) != 0;
         if (it->kind == 'b' || it->kind == 'o') {
             due += it->bytes;
@@ -75,7 +99,8 @@ static void end(const char *name, const char *wanted, uint64_t answer, uint64_t 
         free(it->before);
     }
     held = 0;
-    const char *verdict = reports ? "LEAK" : answer != right || missed || unmoved ? "VACUOUS" : due ? "clean" : "empty";
+    int idle = answer != right || missed || unmoved;
+    const char *verdict = reports ? "LEAK" : idle ? "VACUOUS" : due ? "clean" : "empty";
     leaks += reports != 0;
     vacuous += *verdict == 'V';
     clean += *verdict == 'c';
@@ -115,10 +140,16 @@ __attribute__((noinline)) static uint64_t planted_refusal(const uint8_t *s, uint
     for (int i = 0; i < 16; i++) to[i] = s[i] ^ 0x5a;
     return 0;
 }
+/* What stands in for a planted fault that the command line names, so that one sees what a run says that misses it. */
+static const char *spoiled = "";
+__attribute__((noinline)) static uint64_t no_fault(const uint8_t *s, uint8_t *to) {
+    for (int i = 0; i < 16; i++) to[i] = s[i] ^ 0x5a;
+    return 1;
+}
 #define PLANT(name, wanted) do { \
         uint8_t *s = buffer('s', 16), *to = buffer('o', 16); \
         begin(#name); \
-        uint64_t answer = name(s, to); \
+        uint64_t answer = (strcmp(spoiled, #name) ? name : no_fault)(s, to); \
         end(#name, wanted, answer, 1); \
     } while (0)
 static void plants(void) {
@@ -135,9 +166,10 @@ static void plants(void) {
 
 #include "calls.h"
 
-int main(void) {
+int main(int argc, char **argv) {
     setvbuf(stdout, NULL, _IOLBF, 0);
     if (!RUNNING_ON_VALGRIND) { fprintf(stderr, "not under valgrind: this run shows nothing\n"); return 3; }
+    if (argc > 1) spoiled = argv[1];
     plants();
     calls();
     plants();

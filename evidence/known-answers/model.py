@@ -1,5 +1,5 @@
-"""A cipher written apart from the library (FIPS 197, 5.1 and 5.2), with a place of its S-box that can be made wrong: it shows
-which wrong S-boxes the vectors find."""
+"""A cipher written apart from the library (FIPS 197, 5.1 and 5.2), with a place of its S-box that can be made wrong: it
+shows which wrong S-boxes the vectors find."""
 
 
 def s_box():
@@ -12,7 +12,8 @@ def s_box():
     table = []
     for byte in range(256):
         b = powers[(255 - logs[byte]) % 255] if byte else 0
-        table.append(b ^ (b << 1 | b >> 7) & 255 ^ (b << 2 | b >> 6) & 255 ^ (b << 3 | b >> 5) & 255 ^ (b << 4 | b >> 4) & 255 ^ 0x63)
+        turned = [(b << by | b >> 8 - by) & 0xFF for by in range(1, 5)]
+        table.append(b ^ turned[0] ^ turned[1] ^ turned[2] ^ turned[3] ^ 0x63)
     return table
 
 
@@ -50,14 +51,15 @@ def looked_up(key, block):
             mixed = []
             for c in range(0, 16, 4):
                 a = state[c : c + 4]
-                mixed += [double(a[i]) ^ double(a[(i + 1) % 4]) ^ a[(i + 1) % 4] ^ a[(i + 2) % 4] ^ a[(i + 3) % 4] for i in range(4)]
+                sums = [a[(i + 1) % 4] ^ a[(i + 2) % 4] ^ a[(i + 3) % 4] for i in range(4)]
+                mixed += [double(a[i]) ^ double(a[(i + 1) % 4]) ^ sums[i] for i in range(4)]
             state = mixed
         state = bytes(a ^ b for a, b in zip(state, b"".join(words[4 * r : 4 * r + 4])))
     return bytes(state), read
 
 
-def places_not_found(lines):
-    """The places of the S-box whose byte can be made wrong with no vector noticing."""
+def places_not_found(lines, bit=1):
+    """The places of the S-box in whose byte a bit can be made wrong with no vector noticing."""
     missed = set(range(256))
     for name, command, key, given, wanted in lines:
         if command != "enc" or len(given) != 32 or not missed:
@@ -67,8 +69,8 @@ def places_not_found(lines):
         if answer.hex() != wanted:
             return [f"the model is wrong at {name}"]
         for place in missed & read:
-            S[place] ^= 1
+            S[place] ^= bit
             if looked_up(key, given)[0].hex() != wanted:
                 missed.discard(place)
-            S[place] ^= 1
+            S[place] ^= bit
     return sorted(missed)

@@ -7,9 +7,14 @@
 
 static std::unique_ptr<Botan::BlockCipher> enc[3], dec[3];
 static int now;
-static int size_of(size_t n) { return n == 16 ? 0 : n == 24 ? 1 : 2; }
-static void key_encrypt(const uint8_t *key, size_t n) { now = size_of(n); enc[now]->set_key(key, n); }
-static void key_decrypt(const uint8_t *key, size_t n) { now = size_of(n); dec[now]->set_key(key, n); }
+static void key_encrypt(const uint8_t *key, size_t n) {
+    now = size_of(n);
+    enc[now]->set_key(key, n);
+}
+static void key_decrypt(const uint8_t *key, size_t n) {
+    now = size_of(n);
+    dec[now]->set_key(key, n);
+}
 static void encrypt(uint8_t *b, size_t count) { enc[now]->encrypt_n(b, b, count); }
 static void decrypt(uint8_t *b, size_t count) { dec[now]->decrypt_n(b, b, count); }
 
@@ -18,9 +23,12 @@ extern "C" void add_botan(enum run run) {
     if (run != ALL) Botan::CPUID::clear_cpuid_bit(Botan::CPUID::CPUID_AESNI_BIT);
     if (run == NO_AES_NO_SSSE3) Botan::CPUID::clear_cpuid_bit(Botan::CPUID::CPUID_SSSE3_BIT);
     static const char *const names[] = {"AES-128", "AES-192", "AES-256"};
-    for (int i = 0; i < 3; i++) { enc[i] = Botan::BlockCipher::create_or_throw(names[i]); dec[i] = Botan::BlockCipher::create_or_throw(names[i]); }
+    for (int i = 0; i < 3; i++) {
+        enc[i] = Botan::BlockCipher::create_or_throw(names[i]);
+        dec[i] = Botan::BlockCipher::create_or_throw(names[i]);
+    }
     static const char *const how[] = {"AES instructions", "SSSE3 permutations", "bitsliced"};
-    static const char *const kind[] = {"instructions", "constant", "constant"};
+    static const char *const kind[] = {"instructions", "permutations", "bitsliced"};
     static engine it;
     it = {"Botan", how[run], kind[run], key_encrypt, key_decrypt, encrypt, decrypt, nullptr};
     add(&it);

@@ -1,4 +1,4 @@
-/* One way to run AES that is timed: a library, and how it works its blocks. */
+/* One way to run AES that is timed: a library, and how it works on its blocks. */
 #ifndef ENGINE_H
 #define ENGINE_H
 
@@ -10,21 +10,26 @@ extern "C" {
 #endif
 
 struct engine {
-    const char *name;   /* the library */
-    const char *how;    /* what it runs on this machine, in this run */
-    const char *kind;   /* ours, constant (time by design, in software), tables, instructions, planted */
+    const char *name; /* the library */
+    const char *how;  /* what it runs on this machine, in this run */
+    const char *kind; /* bitsliced, permutations, tables, instructions, planted */
     /* Takes a key of so many bytes, for encryption and for decryption. */
     void (*key_encrypt)(const uint8_t *key, size_t bytes);
     void (*key_decrypt)(const uint8_t *key, size_t bytes);
-    /* Works so many blocks in place, under the key taken last. */
+    /* Works on so many blocks in place, under the key taken last. */
     void (*encrypt)(uint8_t *blocks, size_t count);
     void (*decrypt)(uint8_t *blocks, size_t count);
     /* Takes a key and a counter block, and adds the keystream. */
     void (*stream)(const uint8_t *key, size_t bytes, const uint8_t *iv, uint8_t *data, size_t length);
+    /* If it is there, the calls above keep no key: this one takes a key and works so many times on the blocks. */
+    void (*times)(const uint8_t *key, size_t bytes, int back, uint32_t times, uint8_t *blocks, size_t count);
 };
 
 /* The run: which instructions of the processor the peers may use. */
 enum run { ALL, NO_AES, NO_AES_NO_SSSE3 };
+
+/* How a library keeps what it has for the three sizes of keys. */
+static inline int size_of(size_t key_bytes) { return key_bytes == 16 ? 0 : key_bytes == 24 ? 1 : 2; }
 
 /* Each file of peers adds its engines for a run. */
 void add(const struct engine *engine);

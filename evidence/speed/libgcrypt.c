@@ -4,10 +4,15 @@
 
 static gcry_cipher_hd_t enc[3], dec[3], ctr[3];
 static int now;
-static int size_of(size_t n) { return n == 16 ? 0 : n == 24 ? 1 : 2; }
-static void key_encrypt(const uint8_t *key, size_t n) { now = size_of(n); gcry_cipher_setkey(enc[now], key, n); }
+static void key_encrypt(const uint8_t *key, size_t n) {
+    now = size_of(n);
+    gcry_cipher_setkey(enc[now], key, n);
+}
 /* It makes the round keys of decryption when it first decrypts. */
-static void key_decrypt(const uint8_t *key, size_t n) { now = size_of(n); gcry_cipher_setkey(dec[now], key, n); }
+static void key_decrypt(const uint8_t *key, size_t n) {
+    now = size_of(n);
+    gcry_cipher_setkey(dec[now], key, n);
+}
 static void encrypt(uint8_t *b, size_t count) { gcry_cipher_encrypt(enc[now], b, 16 * count, 0, 0); }
 static void decrypt(uint8_t *b, size_t count) { gcry_cipher_decrypt(dec[now], b, 16 * count, 0, 0); }
 static void stream(const uint8_t *key, size_t n, const uint8_t *iv, uint8_t *data, size_t length) {
@@ -18,7 +23,10 @@ static void stream(const uint8_t *key, size_t n, const uint8_t *iv, uint8_t *dat
 
 void add_libgcrypt(enum run run) {
     static const int algorithm[] = {GCRY_CIPHER_AES128, GCRY_CIPHER_AES192, GCRY_CIPHER_AES256};
-    if (run != ALL) { gcry_control(GCRYCTL_DISABLE_HWF, "intel-aesni", (void *)0); gcry_control(GCRYCTL_DISABLE_HWF, "intel-vaes-vpclmul", (void *)0); }
+    if (run != ALL) {
+        gcry_control(GCRYCTL_DISABLE_HWF, "intel-aesni", (void *)0);
+        gcry_control(GCRYCTL_DISABLE_HWF, "intel-vaes-vpclmul", (void *)0);
+    }
     if (run == NO_AES_NO_SSSE3) gcry_control(GCRYCTL_DISABLE_HWF, "intel-ssse3", (void *)0);
     gcry_check_version(0);
     gcry_control(GCRYCTL_DISABLE_SECMEM, 0);
@@ -28,7 +36,12 @@ void add_libgcrypt(enum run run) {
         gcry_cipher_open(&dec[i], algorithm[i], GCRY_CIPHER_MODE_ECB, 0);
         gcry_cipher_open(&ctr[i], algorithm[i], GCRY_CIPHER_MODE_CTR, 0);
     }
-    if (run == ALL) add(&(struct engine){"Libgcrypt", "AES instructions", "instructions", key_encrypt, key_decrypt, encrypt, decrypt, stream});
-    if (run == NO_AES) add(&(struct engine){"Libgcrypt", "SSSE3 permutations", "constant", key_encrypt, key_decrypt, encrypt, decrypt, stream});
-    if (run == NO_AES_NO_SSSE3) add(&(struct engine){"Libgcrypt", "tables", "tables", key_encrypt, key_decrypt, encrypt, decrypt, stream});
+    if (run == ALL)
+        add(&(struct engine){"Libgcrypt", "AES instructions", "instructions", key_encrypt, key_decrypt, encrypt,
+                             decrypt, stream});
+    if (run == NO_AES)
+        add(&(struct engine){"Libgcrypt", "SSSE3 permutations", "permutations", key_encrypt, key_decrypt, encrypt,
+                             decrypt, stream});
+    if (run == NO_AES_NO_SSSE3)
+        add(&(struct engine){"Libgcrypt", "tables", "tables", key_encrypt, key_decrypt, encrypt, decrypt, stream});
 }

@@ -8,11 +8,22 @@ static EVP_CIPHER_CTX *enc, *dec, *ctr;
 static EVP_CIPHER *ecb_of[3], *ctr_of[3];
 static AES_KEY low_enc, low_dec;
 
-static int size_of(size_t n) { return n == 16 ? 0 : n == 24 ? 1 : 2; }
-static void key_encrypt(const uint8_t *key, size_t n) { EVP_EncryptInit_ex2(enc, ecb_of[size_of(n)], key, 0, 0); EVP_CIPHER_CTX_set_padding(enc, 0); }
-static void key_decrypt(const uint8_t *key, size_t n) { EVP_DecryptInit_ex2(dec, ecb_of[size_of(n)], key, 0, 0); EVP_CIPHER_CTX_set_padding(dec, 0); }
-static void encrypt(uint8_t *b, size_t count) { int l; EVP_EncryptUpdate(enc, b, &l, b, (int)(16 * count)); }
-static void decrypt(uint8_t *b, size_t count) { int l; EVP_DecryptUpdate(dec, b, &l, b, (int)(16 * count)); }
+static void key_encrypt(const uint8_t *key, size_t n) {
+    EVP_EncryptInit_ex2(enc, ecb_of[size_of(n)], key, 0, 0);
+    EVP_CIPHER_CTX_set_padding(enc, 0);
+}
+static void key_decrypt(const uint8_t *key, size_t n) {
+    EVP_DecryptInit_ex2(dec, ecb_of[size_of(n)], key, 0, 0);
+    EVP_CIPHER_CTX_set_padding(dec, 0);
+}
+static void encrypt(uint8_t *b, size_t count) {
+    int l;
+    EVP_EncryptUpdate(enc, b, &l, b, (int)(16 * count));
+}
+static void decrypt(uint8_t *b, size_t count) {
+    int l;
+    EVP_DecryptUpdate(dec, b, &l, b, (int)(16 * count));
+}
 static void stream(const uint8_t *key, size_t n, const uint8_t *iv, uint8_t *data, size_t length) {
     int l;
     EVP_EncryptInit_ex2(ctr, ctr_of[size_of(n)], key, iv, 0);
@@ -20,16 +31,34 @@ static void stream(const uint8_t *key, size_t n, const uint8_t *iv, uint8_t *dat
 }
 static void low_key_encrypt(const uint8_t *key, size_t n) { AES_set_encrypt_key(key, (int)(8 * n), &low_enc); }
 static void low_key_decrypt(const uint8_t *key, size_t n) { AES_set_decrypt_key(key, (int)(8 * n), &low_dec); }
-static void low_encrypt(uint8_t *b, size_t count) { for (size_t i = 0; i < count; i++) AES_encrypt(b + 16 * i, b + 16 * i, &low_enc); }
-static void low_decrypt(uint8_t *b, size_t count) { for (size_t i = 0; i < count; i++) AES_decrypt(b + 16 * i, b + 16 * i, &low_dec); }
+static void low_encrypt(uint8_t *b, size_t count) {
+    for (size_t i = 0; i < count; i++) AES_encrypt(b + 16 * i, b + 16 * i, &low_enc);
+}
+static void low_decrypt(uint8_t *b, size_t count) {
+    for (size_t i = 0; i < count; i++) AES_decrypt(b + 16 * i, b + 16 * i, &low_dec);
+}
 
 void add_openssl(enum run run) {
-    static const char *const ecb[] = {"AES-128-ECB", "AES-192-ECB", "AES-256-ECB"}, *const mode[] = {"AES-128-CTR", "AES-192-CTR", "AES-256-CTR"};
-    for (int i = 0; i < 3; i++) { ecb_of[i] = EVP_CIPHER_fetch(0, ecb[i], 0); ctr_of[i] = EVP_CIPHER_fetch(0, mode[i], 0); }
-    enc = EVP_CIPHER_CTX_new(); dec = EVP_CIPHER_CTX_new(); ctr = EVP_CIPHER_CTX_new();
-    if (run == ALL) add(&(struct engine){"OpenSSL", "AES instructions", "instructions", key_encrypt, key_decrypt, encrypt, decrypt, stream});
-    /* Without AES instructions counter mode and CBC decryption of long inputs are bitsliced, the rest is by vector permutations. */
-    if (run == NO_AES) add(&(struct engine){"OpenSSL", "SSSE3 permutations", "constant", key_encrypt, key_decrypt, encrypt, decrypt, stream});
-    if (run == NO_AES_NO_SSSE3) add(&(struct engine){"OpenSSL", "tables, EVP", "tables", key_encrypt, key_decrypt, encrypt, decrypt, stream});
-    if (run == ALL) add(&(struct engine){"OpenSSL", "tables, AES_encrypt", "tables", low_key_encrypt, low_key_decrypt, low_encrypt, low_decrypt, 0});
+    static const char *const ecb[] = {"AES-128-ECB", "AES-192-ECB", "AES-256-ECB"};
+    static const char *const mode[] = {"AES-128-CTR", "AES-192-CTR", "AES-256-CTR"};
+    for (int i = 0; i < 3; i++) {
+        ecb_of[i] = EVP_CIPHER_fetch(0, ecb[i], 0);
+        ctr_of[i] = EVP_CIPHER_fetch(0, mode[i], 0);
+    }
+    enc = EVP_CIPHER_CTX_new();
+    dec = EVP_CIPHER_CTX_new();
+    ctr = EVP_CIPHER_CTX_new();
+    if (run == ALL)
+        add(&(struct engine){"OpenSSL", "AES instructions", "instructions", key_encrypt, key_decrypt, encrypt, decrypt,
+                             stream});
+    /* Without AES instructions counter mode and CBC decryption of long inputs are bitsliced, and the rest is by vector
+       permutations. */
+    if (run == NO_AES)
+        add(&(struct engine){"OpenSSL", "SSSE3 permutations", "permutations", key_encrypt, key_decrypt, encrypt,
+                             decrypt, stream});
+    if (run == NO_AES_NO_SSSE3)
+        add(&(struct engine){"OpenSSL", "tables, EVP", "tables", key_encrypt, key_decrypt, encrypt, decrypt, stream});
+    if (run == ALL)
+        add(&(struct engine){"OpenSSL", "tables, AES_encrypt", "tables", low_key_encrypt, low_key_decrypt, low_encrypt,
+                             low_decrypt, 0});
 }

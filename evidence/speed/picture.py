@@ -1,85 +1,134 @@
-"""The picture of a run: bars of time a block, one row an engine, in groups by how the engine works its blocks."""
+"""The picture of a run: bars of time a block, one row an engine, in groups by what kind of software it is."""
 import re
 
 import matplotlib
+import tables
 
 matplotlib.use("Agg")
 import matplotlib.pyplot as plt
 
-PANELS = [("encrypt", 4096, "4,096 blocks in one call"), ("encrypt", 1, "one block, the key at hand"), ("key and block", 1, "a key and one block")]
-# Each group, its colour on light ground and on dark.
-GROUPS = [
-    ("ours", "This library", "#0b7a75", "#2fb8ad"),
-    ("constant", "Software without tables", "#6f9fce", "#6f9fce"),
-    ("tables", "Software with tables", "#cf8a55", "#d9965f"),
-    ("instructions", "AES instructions", "#9a8fbf", "#a79ccb"),
+PANELS = [
+    ("encrypt", 4096, "4,096 blocks in one call"),
+    ("encrypt", 1, "one block, the key at hand"),
+    ("key and block", 1, "a key and one block"),
 ]
+# Each group, its colour on light ground and on dark; this library's bars have a colour of their own.
+GROUPS = [
+    ("bitsliced", "Software on bit planes, without tables", "#6f9fce", "#6f9fce"),
+    ("permutations", "Software by vector permutations (SSSE3)", "#8c9a4e", "#a3b25c"),
+    ("tables", "Software with tables in memory", "#cf8a55", "#d9965f"),
+    ("instructions", "AES instructions of the processor", "#9a8fbf", "#a79ccb"),
+]
+OURS = ("ours", "This library", "#0b7a75", "#2fb8ad")
 # Colours that stand for classes, which the page's ground decides: text, lines, and the ground itself.
-CLASSES = {"#010101": ("ink", "#1f2328", "#e6edf3"), "#020202": ("soft", "#59636e", "#9198a1"), "#030303": ("rule", "#d1d9e0", "#3d444d")}
-CLASSES |= {light: (f"bar-{kind}", light, dark) for kind, _, light, dark in GROUPS}
+CLASSES = {
+    "#010101": ("ink", "#1f2328", "#e6edf3"),
+    "#020202": ("soft", "#59636e", "#9198a1"),
+    "#030303": ("rule", "#d1d9e0", "#3d444d"),
+}
+CLASSES |= {light: (f"bar-{kind}", light, dark) for kind, _, light, dark in [*GROUPS, OURS]}
+# What the second compiler builds on bit planes is many times slower: it stands in the table alone, and leaves the bars
+# their room.
+LEFT_OUT = ("aes, by the second compiler",)
+WIDTH, ROW, GAP = 11, 0.27, 0.45
+
+
+def is_ours(engine):
+    return engine[1] == "this library"
+
+
+def times_of(rows, key):
+    """The least nanoseconds a block: {(kind, peer, how): {(call, blocks): time}}."""
+    times = {}
+    for r in rows:
+        if r["key_bytes"] == key and r["kind"] != "planted" and r["how"] not in LEFT_OUT:
+            of = times.setdefault((r["kind"], r["peer"], r["how"]), {})
+            call = (r["call"], r["blocks"])
+            of[call] = min(r["nanoseconds"] / max(r["blocks"], 1), of.get(call, 1e30))
+    return times
+
+
+def places(times):
+    """Where each engine's bar and each group's head stand, from the top down, and how far that goes."""
+    shown, heads, at = [], [], 0.0
+    for kind, title, _, _ in GROUPS:
+        # This library first, then the fastest first.
+        of = [it for it in times if it[0] == kind]
+        of.sort(key=lambda it: (not is_ours(it), times[it].get(PANELS[0][:2], 1e30)))
+        if not of:
+            continue
+        heads.append((at, title))
+        shown += [(at + 1 + i, it) for i, it in enumerate(of)]
+        at += 1 + len(of) + GAP
+    return shown, heads, at
+
+
+def bars(axis, values):
+    """One panel's bars, each with its number."""
+    colours = {kind: light for kind, _, light, _ in GROUPS}
+    most = max(v for _, _, v in values if v)
+    for y, it, value in values:
+        if value is None:
+            axis.text(0.012 * most, y, "no such call", va="center", ha="left", color="#020202", fontsize=8.5)
+            continue
+        axis.barh(y, value, height=0.74, color=OURS[2] if is_ours(it) else colours[it[0]], linewidth=0)
+        text = f"{value:,.0f}" if value >= 10 else f"{value:.1f}"
+        weight = "bold" if is_ours(it) else "normal"
+        place = {"va": "center", "ha": "left", "color": "#010101", "fontsize": 9, "fontweight": weight}
+        axis.text(value + 0.012 * most, y, text, **place)
+    axis.set_xlim(0, most * 1.16)
+
+
+def dress(axis, blocks, title, at):
+    """A panel's title, its scale, and no frame."""
+    unit = "nanoseconds a block, less is faster" if blocks > 1 else "nanoseconds, less is faster"
+    axis.set_ylim(at - 0.7, -0.6)
+    axis.set_title(title, loc="left", fontsize=10.5, fontweight="bold", color="#010101", pad=18)
+    place = {"transform": axis.transAxes, "va": "bottom", "ha": "left"}
+    axis.text(0, 1.0, unit, fontsize=8.5, color="#020202", **place)
+    axis.xaxis.set_major_locator(plt.MaxNLocator(4, prune="upper"))
+    axis.xaxis.set_major_formatter(lambda v, _: f"{v:,.0f}")
+    axis.tick_params(axis="x", colors="#020202", labelsize=8.5, length=0)
+    axis.tick_params(axis="y", length=0)
+    axis.grid(axis="x", color="#030303", linewidth=0.7)
+    axis.set_axisbelow(True)
+    for side in axis.spines.values():
+        side.set_visible(False)
+
+
+def labels(axis, shown, heads):
+    """The names beside the first panel."""
+    axis.set_yticks([y for y, _ in shown])
+    axis.set_yticklabels([])
+    beside = {"transform": axis.get_yaxis_transform(), "va": "center"}
+    for y, it in shown:
+        weight = "bold" if is_ours(it) else "normal"
+        text = f"{it[1]}, {it[2]}".replace("by the ", "").replace("by ", "")
+        axis.text(-0.02, y, text, ha="right", color="#010101", fontsize=9.5, fontweight=weight, **beside)
+    for y, title in heads:
+        axis.text(-1.1, y, title, ha="left", color="#020202", fontsize=9.5, fontstyle="italic", **beside)
 
 
 def draw(rows, to, key=16):
     """Writes the picture of the rows for one size of keys as SVG."""
-    times = {}
-    for r in rows:
-        # What the second compiler builds is many times slower: it stands in the table alone, and leaves the bars their room.
-        if r["key_bytes"] == key and r["kind"] != "planted" and r["how"] != "built by Rattle's compiler":
-            place = times.setdefault((r["kind"], r["peer"], r["how"]), {})
-            call = (r["call"], r["blocks"])
-            place[call] = min(r["nanoseconds"] / max(r["blocks"], 1), place.get(call, 1e30))
-    shown, at, heads = [], 0.0, []
-    for kind, title, _, _ in GROUPS:
-        of = sorted((it for it in times if it[0] == kind), key=lambda it: times[it].get(PANELS[0][:2], 1e30))
-        if not of:
-            continue
-        heads.append((at, title))
-        at += 1.0
-        for it in of:
-            shown.append((at, it))
-            at += 1.0
-        at += 0.45
+    times = times_of(rows, key)
+    shown, heads, at = places(times)
     plt.rcParams.update({"font.family": "DejaVu Sans", "font.size": 10, "svg.fonttype": "none", "svg.hashsalt": "aes"})
-    figure, axes = plt.subplots(1, len(PANELS), figsize=(11, 0.27 * at + 1.5), sharey=True, gridspec_kw={"width_ratios": [1.15, 1, 1], "wspace": 0.16})
-    colours = {kind: light for kind, _, light, _ in GROUPS}
+    ratios = {"width_ratios": [1.15, 1, 1], "wspace": 0.16}
+    figure, axes = plt.subplots(1, len(PANELS), figsize=(WIDTH, ROW * at + 1.5), sharey=True, gridspec_kw=ratios)
     for axis, (call, blocks, title) in zip(axes, PANELS):
-        values = [(y, it, times[it].get((call, blocks))) for y, it in shown]
-        most = max(v for _, _, v in values if v)
-        for y, it, value in values:
-            if value is None:
-                axis.text(0.012 * most, y, "no such call", va="center", ha="left", color="#020202", fontsize=8.5)
-                continue
-            axis.barh(y, value, height=0.74, color=colours[it[0]], linewidth=0)
-            text = f"{value:,.0f}" if value >= 10 else f"{value:.1f}"
-            axis.text(value + 0.012 * most, y, text, va="center", ha="left", color="#010101", fontsize=9, fontweight="bold" if it[0] == "ours" else "normal")
-        axis.set_xlim(0, most * 1.16)
-        axis.set_ylim(at - 0.7, -0.6)
-        axis.set_title(title, loc="left", fontsize=10.5, fontweight="bold", color="#010101", pad=18)
-        axis.text(0, 1.0, "nanoseconds a block, less is faster" if blocks > 1 else "nanoseconds, less is faster", transform=axis.transAxes, va="bottom", ha="left", fontsize=8.5, color="#020202")
-        axis.xaxis.set_major_locator(plt.MaxNLocator(4, prune="upper"))
-        axis.xaxis.set_major_formatter(lambda v, _: f"{v:,.0f}")
-        axis.tick_params(axis="x", colors="#020202", labelsize=8.5, length=0)
-        axis.tick_params(axis="y", length=0)
-        axis.grid(axis="x", color="#030303", linewidth=0.7)
-        axis.set_axisbelow(True)
-        for side in axis.spines.values():
-            side.set_visible(False)
-    first = axes[0]
-    first.set_yticks([y for y, _ in shown])
-    first.set_yticklabels([])
-    for y, (kind, peer, how) in shown:
-        bold = "bold" if kind == "ours" else "normal"
-        label = how if kind == "ours" else f"{peer}, {how}"
-        first.text(-0.02, y, label, transform=first.get_yaxis_transform(), va="center", ha="right", color="#010101", fontsize=9.5, fontweight=bold)
-    for y, title in heads:
-        first.text(-0.78, y, title, transform=first.get_yaxis_transform(), va="center", ha="left", color="#020202", fontsize=9.5, fontstyle="italic")
-    figure.subplots_adjust(left=0.245, right=0.985, top=1 - 0.72 / figure.get_figheight(), bottom=0.42 / figure.get_figheight())
+        bars(axis, [(y, it, times[it].get((call, blocks))) for y, it in shown])
+        dress(axis, blocks, title, at)
+    labels(axes[0], shown, heads)
+    high = figure.get_figheight()
+    figure.subplots_adjust(left=0.315, right=0.985, top=1 - 0.72 / high, bottom=0.42 / high)
     figure.savefig(to, transparent=True, metadata={"Date": None})
     plt.close(figure)
     with open(to, encoding="utf-8") as it:
         text = it.read()
+    title = f"AES encryption with a key of {key} bytes: nanoseconds a block, this library and the libraries of Debian"
     with open(to, "w", encoding="utf-8") as it:
-        it.write(themed(text, f"AES encryption with a key of {key} bytes: nanoseconds a block, this library and the libraries of Debian"))
+        it.write(themed(text, title))
 
 
 def themed(text, title):
@@ -95,11 +144,12 @@ def themed(text, title):
         kept = f' style="{style.strip()}"' if style.strip() else ""
         return f' class="{" ".join(names)}"{kept}' if names else found[0]
 
+    def rules(dark):
+        return " ".join(
+            f".{name}-{what} {{ {what}: {of[dark]} }}" for name, *of in CLASSES.values() for what in ("fill", "stroke")
+        )
+
     text = re.sub(r' style="([^"]*)"', by_class, text)
-
-    def rules(which):
-        return " ".join(f".{name}-{what} {{ {what}: {(light, dark)[which]} }}" for name, light, dark in CLASSES.values() for what in ("fill", "stroke"))
-
     sheet = f"<style>{rules(0)} @media (prefers-color-scheme: dark) {{ {rules(1)} }}</style>"
     # Matplotlib writes six digits of a place where a reader sees one, and a line for each point.
     parts = re.split(r"(scale\([^)]*\))", text)
@@ -108,4 +158,4 @@ def themed(text, title):
     text = re.sub(r"\s*<metadata>.*?</metadata>", "", text, flags=re.S)
     # Whoever lacks that font gets one about as wide.
     text = text.replace("'DejaVu Sans'", "'DejaVu Sans', Verdana, Arial, sans-serif")
-    return re.sub(r"(<svg [^>]*>)", lambda m: f'{m[1]}\n <title>{title}</title>\n {sheet}', text, count=1)
+    return re.sub(r"(<svg [^>]*>)", lambda m: f"{m[1]}\n <title>{title}</title>\n {sheet}", text, count=1)

@@ -11,17 +11,20 @@
 enum { MOST = 4096, ENGINES = 16, WHATS = 16 };
 static struct engine engines[ENGINES];
 static int count, refused[ENGINES];
+void spoil(const char *name);
 void add(const struct engine *engine) { engines[count++] = *engine; }
 
 /* What is timed. `blocks` 0 is a call with no blocks. */
 enum call { ENCRYPT, DECRYPT, STREAM, KEY_ENCRYPT, KEY_DECRYPT, KEY_AND_BLOCK };
 static const struct { const char *name; enum call call; size_t blocks; } whats[] = {
-    {"encrypt", ENCRYPT, 1}, {"encrypt", ENCRYPT, 4}, {"encrypt", ENCRYPT, 8}, {"encrypt", ENCRYPT, 64}, {"encrypt", ENCRYPT, 4096},
-    {"decrypt", DECRYPT, 1}, {"decrypt", DECRYPT, 4}, {"decrypt", DECRYPT, 8}, {"decrypt", DECRYPT, 64}, {"decrypt", DECRYPT, 4096},
-    {"counter mode", STREAM, 64}, {"counter mode", STREAM, 4096}, {"key for encryption", KEY_ENCRYPT, 0}, {"key for decryption", KEY_DECRYPT, 0}, {"key and block", KEY_AND_BLOCK, 1},
+    {"encrypt", ENCRYPT, 1}, {"encrypt", ENCRYPT, 4}, {"encrypt", ENCRYPT, 8}, {"encrypt", ENCRYPT, 64},
+    {"encrypt", ENCRYPT, 4096}, {"decrypt", DECRYPT, 1}, {"decrypt", DECRYPT, 4}, {"decrypt", DECRYPT, 8},
+    {"decrypt", DECRYPT, 64}, {"decrypt", DECRYPT, 4096}, {"counter mode", STREAM, 64}, {"counter mode", STREAM, 4096},
+    {"key for encryption", KEY_ENCRYPT, 0}, {"key for decryption", KEY_DECRYPT, 0}, {"key and block", KEY_AND_BLOCK, 1},
 };
 enum { WHAT = sizeof whats / sizeof *whats };
-static double best[3][ENGINES][WHAT];
+/* The least ticks of all turns of a call, and of what an engine that takes its key in each call needs for no turn. */
+static double best[3][ENGINES][WHAT], none[3][ENGINES][WHAT];
 static uint8_t data[16 * MOST] __attribute__((aligned(64))), key[32], iv[16];
 
 static int can(const struct engine *e, enum call call) {
@@ -32,6 +35,12 @@ static int can(const struct engine *e, enum call call) {
     default: return 1;
     }
 }
+static uint32_t turns_of(int what) {
+    size_t blocks = whats[what].blocks;
+    return blocks >= 64 ? 1 : blocks ? (uint32_t)(64 / blocks) : 16;
+}
+static int is_key(int what) { return whats[what].call >= KEY_ENCRYPT; }
+
 static void call(const struct engine *e, int what, size_t bytes) {
     size_t n = whats[what].blocks;
     switch (whats[what].call) {
@@ -43,6 +52,30 @@ static void call(const struct engine *e, int what, size_t bytes) {
     case KEY_AND_BLOCK: key[7]++; e->key_encrypt(key, bytes); e->encrypt(data, 1); break;
     }
 }
+/* So many turns of a call. An engine that takes its key in each call takes it once for all turns on blocks. */
+static void turn(const struct engine *e, int what, size_t bytes, uint32_t turns) {
+    int back = whats[what].call == DECRYPT || whats[what].call == KEY_DECRYPT;
+    if (!e->times || whats[what].call == STREAM) {
+        for (uint32_t t = 0; t < turns; t++) call(e, what, bytes);
+    } else if (is_key(what)) {
+        for (uint32_t t = 0; t < turns; t++) {
+            key[7]++;
+            e->times(key, bytes, back, whats[what].call == KEY_AND_BLOCK, data, 1);
+        }
+    } else {
+        e->times(key, bytes, back, turns, data, whats[what].blocks);
+    }
+}
+static void least(double *of, const struct engine *e, int what, size_t bytes, uint32_t turns) {
+    unsigned core;
+    _mm_lfence();
+    uint64_t start = __rdtscp(&core);
+    turn(e, what, bytes, turns);
+    uint64_t end = __rdtscp(&core);
+    _mm_lfence();
+    double ticks = (double)(end - start);
+    if (!*of || ticks < *of) *of = ticks;
+}
 static void one_round(void) {
     for (int size = 0; size < 3; size++)
         for (int w = 0; w < WHAT; w++)
@@ -50,23 +83,19 @@ static void one_round(void) {
                 struct engine *e = &engines[i];
                 size_t bytes = 16 + 8 * (size_t)size;
                 if (refused[i] || !can(e, whats[w].call)) continue;
-                int turns = whats[w].blocks >= 64 ? 1 : whats[w].blocks ? (int)(64 / whats[w].blocks) : 16;
                 e->key_encrypt(key, bytes);
                 e->key_decrypt(key, bytes);
                 call(e, w, bytes);
-                unsigned core;
-                _mm_lfence();
-                uint64_t start = __rdtscp(&core);
-                for (int t = 0; t < turns; t++) call(e, w, bytes);
-                uint64_t end = __rdtscp(&core);
-                _mm_lfence();
-                double ticks = (double)(end - start) / turns;
-                if (!best[size][i][w] || ticks < best[size][i][w]) best[size][i][w] = ticks;
+                least(&best[size][i][w], e, w, bytes, turns_of(w));
+                if (e->times && !is_key(w) && whats[w].call != STREAM) least(&none[size][i][w], e, w, bytes, 0);
             }
 }
+static double ticks_a_call(int size, int i, int w) {
+    return (best[size][i][w] - none[size][i][w]) / turns_of(w);
+}
 
-/* An engine is refused whose answers are not this library's, which are the standard's by its proof and by ../known-answers.
-   BearSSL's stand-ins are compared as what they are. */
+/* An engine is refused whose answers are not this library's, which are the standard's by its proof and by
+   ../known-answers. BearSSL's stand-ins are compared as what they are. */
 static int right(const struct engine *e, size_t bytes) {
     enum { N = 21 };
     uint8_t plain[16 * N], ours[16 * N], theirs[16 * N];
@@ -102,11 +131,24 @@ static int right(const struct engine *e, size_t bytes) {
     return 1;
 }
 
+/* The rows of an engine. */
+static void print_rows(int i) {
+    const struct engine *e = &engines[i];
+    if (refused[i]) { printf("refused\t%s\t%s\t%s\n", e->name, e->how, e->kind); return; }
+    for (int size = 0; size < 3; size++)
+        for (int w = 0; w < WHAT; w++) {
+            if (!best[size][i][w]) continue;
+            printf("row\t%s\t%s\t%s\t%d\t%s\t", e->name, e->how, e->kind, 16 + 8 * size, whats[w].name);
+            printf("%zu\t%.2f\n", whats[w].blocks, ticks_a_call(size, i, w));
+        }
+}
+
 int main(int argc, char **argv) {
     enum run run = argc > 1 ? (enum run)atoi(argv[1]) : ALL;
     for (int i = 0; i < 32; i++) key[i] = (uint8_t)(i * 29 + 3);
     for (int i = 0; i < 16; i++) iv[i] = (uint8_t)(0xf0 + i);
     iv[12] = 0;
+    if (argc > 2) spoil(argv[2]);
     add_library(run);
 #ifdef RATTLE
     add_library_by_rattle(run);
@@ -141,12 +183,7 @@ int main(int argc, char **argv) {
             clock_gettime(CLOCK_MONOTONIC, &t1);
             double ns = (double)(t1.tv_sec - t0.tv_sec) * 1e9 + (double)(t1.tv_nsec - t0.tv_nsec);
             printf("ticks_a_nanosecond %.6f\n", (double)(__rdtsc() - c0) / ns);
-            for (int i = 0; i < count; i++) {
-                if (refused[i]) { printf("refused\t%s\t%s\t%s\n", engines[i].name, engines[i].how, engines[i].kind); continue; }
-                for (int size = 0; size < 3; size++)
-                    for (int w = 0; w < WHAT; w++)
-                        if (best[size][i][w]) printf("row\t%s\t%s\t%s\t%d\t%s\t%zu\t%.2f\n", engines[i].name, engines[i].how, engines[i].kind, 16 + 8 * size, whats[w].name, whats[w].blocks, best[size][i][w]);
-            }
+            for (int i = 0; i < count; i++) print_rows(i);
             printf("end\n");
         }
         fflush(stdout);

@@ -1,0 +1,245 @@
+/* Makes calls of the C library on a stack of its own that is filled with a pattern, and searches that stack and the
+ * vector registers for what each call left: 8 bytes of the key, of a stored round key or of a round key of the
+ * expansion, a word that was widened for a batch, a block of keystream. One line a call and a size of keys, with
+ * tabs. */
+#define _GNU_SOURCE
+#include "fotsgure_aes.h"
+
+#include <stdio.h>
+#include <stdlib.h>
+#include <string.h>
+#include <ucontext.h>
+
+enum { STACK = 1 << 16, FILL = 0xa5, KEYS = 3, MOST = 128, BYTES = 16 * MOST, NEEDLES = 1024, REGISTERS = 16 };
+
+/* KeyExpansion, by the exports for measurements. */
+void ev_expand_128(const uint8_t *key, uint8_t *round_keys);
+void ev_expand_192(const uint8_t *key, uint8_t *round_keys);
+void ev_expand_256(const uint8_t *key, uint8_t *round_keys);
+
+static struct fotsgure_aes kept;
+static struct fotsgure_aes_ctr ctr;
+static uint8_t key[32], data[BYTES], other[BYTES], keystream[BYTES], *stack;
+static uint8_t registers[16 * REGISTERS] __attribute__((aligned(64)));
+static size_t size, count;
+static int failed;
+
+static void done(enum fotsgure_aes_status status) { failed |= status != FOTSGURE_AES_DONE; }
+__attribute__((noinline)) static void use(const void *at) { __asm__ volatile("" : : "r"(at) : "memory"); }
+
+/* The control: a struct on the stack that nobody wipes. */
+__attribute__((noinline)) static void not_wiped(void) {
+    struct fotsgure_aes aes;
+    done(fotsgure_aes_set_key(&aes, key, size));
+    use(&aes);
+}
+/* Planted: a wipe of half the words, a copy that is wiped in place of the struct, and what a batch and counter mode
+ * would leave if they left it. */
+__attribute__((noinline)) static void planted_half_wiped(void) {
+    struct fotsgure_aes aes;
+    done(fotsgure_aes_set_key(&aes, key, size));
+    memset(aes.words, 0, (size + 28) * sizeof *aes.words);
+    use(&aes);
+}
+__attribute__((noinline)) static void planted_copy_wiped(void) {
+    struct fotsgure_aes aes, copy;
+    done(fotsgure_aes_set_key(&aes, key, size));
+    copy = aes;
+    use(&copy);
+    fotsgure_aes_wipe(&copy);
+    use(&aes);
+}
+static void widened(uint8_t *word, uint16_t stored) {
+    for (int bit = 0; bit < 16; bit++)
+        word[bit] = stored >> bit & 1 ? 0xff : 0;
+}
+__attribute__((noinline)) static void planted_widened(void) {
+    uint8_t words[4][16];
+    for (int i = 0; i < 4; i++)
+        widened(words[i], kept.words[16 + i]);
+    use(words);
+}
+__attribute__((noinline)) static void planted_keystream(void) {
+    uint8_t blocks[2][16];
+    memcpy(blocks, keystream, sizeof blocks);
+    use(blocks);
+}
+__attribute__((noinline)) static void planted_key(void) {
+    uint8_t bytes[8];
+    memcpy(bytes, key + 3, sizeof bytes);
+    use(bytes);
+}
+/* A struct that is wiped where it stands. */
+__attribute__((noinline)) static void wiped(void) {
+    struct fotsgure_aes aes;
+    done(fotsgure_aes_set_key(&aes, key, size));
+    use(&aes);
+    fotsgure_aes_wipe(&aes);
+    use(&aes);
+}
+
+static void set_key(void) { done(fotsgure_aes_set_key(&kept, key, size)); }
+static void encrypt(void) { done(fotsgure_aes_encrypt_blocks(&kept, data, count)); }
+static void decrypt(void) { done(fotsgure_aes_decrypt_blocks(&kept, data, count)); }
+static void encrypt_to(void) { done(fotsgure_aes_encrypt_blocks_to(&kept, data, count, other, count)); }
+static void decrypt_to(void) { done(fotsgure_aes_decrypt_blocks_to(&kept, data, count, other, count)); }
+static void encrypt_with(void) { done(fotsgure_aes_encrypt_blocks_with(key, size, data, count)); }
+static void decrypt_with(void) { done(fotsgure_aes_decrypt_blocks_with(key, size, data, count)); }
+static void stream(void) { done(fotsgure_aes_add_keystream(&kept, &ctr, data, count)); }
+static void stream_to(void) { done(fotsgure_aes_add_keystream_to(&kept, &ctr, data, count, other, count)); }
+static void stream_with(void) { done(fotsgure_aes_add_keystream_with(key, size, &ctr, data, count)); }
+
+static const struct call { const char *name; void (*it)(void); size_t count; } calls[] = {
+    {"not_wiped", not_wiped, 0}, {"planted_half_wiped", planted_half_wiped, 0},
+    {"planted_copy_wiped", planted_copy_wiped, 0}, {"planted_widened", planted_widened, 0},
+    {"planted_keystream", planted_keystream, 0}, {"planted_key", planted_key, 0}, {"wiped", wiped, 0},
+    {"set_key", set_key, 0}, {"encrypt_1", encrypt, 1}, {"encrypt_7", encrypt, 7}, {"encrypt_8", encrypt, 8},
+    {"encrypt_128", encrypt, 128}, {"decrypt_1", decrypt, 1}, {"decrypt_7", decrypt, 7}, {"decrypt_8", decrypt, 8},
+    {"decrypt_128", decrypt, 128}, {"encrypt_to_128", encrypt_to, 128}, {"decrypt_to_128", decrypt_to, 128},
+    {"encrypt_with_1", encrypt_with, 1}, {"encrypt_with_128", encrypt_with, 128},
+    {"decrypt_with_1", decrypt_with, 1}, {"decrypt_with_128", decrypt_with, 128},
+    {"add_keystream_20", stream, 20}, {"add_keystream_2032", stream, 2032},
+    {"add_keystream_to_20", stream_to, 20}, {"add_keystream_to_2032", stream_to, 2032},
+    {"add_keystream_with_20", stream_with, 20}, {"add_keystream_with_2032", stream_with, 2032},
+};
+
+static void (*called)(void);
+static ucontext_t home, away;
+static void enter(void) {
+    called();
+    /* The vector registers, before anything else runs. */
+    __asm__ volatile(
+        "movdqa %%xmm0, 0(%0)\n movdqa %%xmm1, 16(%0)\n movdqa %%xmm2, 32(%0)\n movdqa %%xmm3, 48(%0)\n"
+        "movdqa %%xmm4, 64(%0)\n movdqa %%xmm5, 80(%0)\n movdqa %%xmm6, 96(%0)\n movdqa %%xmm7, 112(%0)\n"
+        "movdqa %%xmm8, 128(%0)\n movdqa %%xmm9, 144(%0)\n movdqa %%xmm10, 160(%0)\n movdqa %%xmm11, 176(%0)\n"
+        "movdqa %%xmm12, 192(%0)\n movdqa %%xmm13, 208(%0)\n movdqa %%xmm14, 224(%0)\n movdqa %%xmm15, 240(%0)\n"
+        : : "r"(registers) : "memory");
+}
+
+/* A key of its own for each run, its struct, and the keystream that counter mode will add. */
+static void prepare(int number) {
+    static const uint8_t zeros[BYTES];
+    for (size_t i = 0; i < sizeof key; i++)
+        key[i] = (uint8_t)(0x1d * i + 0x35 + 0x47 * (size_t)number + i * i * (size_t)number);
+    memset(&ctr, 0x33, sizeof ctr);
+    ctr.position = 0;
+    memcpy(keystream, zeros, BYTES);
+    done(fotsgure_aes_set_key(&kept, key, size));
+    done(fotsgure_aes_add_keystream(&kept, &ctr, keystream, BYTES));
+    ctr.position = 0;
+    for (size_t i = 0; i < BYTES; i++)
+        data[i] = (uint8_t)(i * 7 + i / 256 + 1);
+}
+static void run(const struct call *call) {
+    count = call->count;
+    called = call->it;
+    memset(stack, FILL, STACK);
+    memset(registers, 0, sizeof registers);
+    getcontext(&away);
+    away.uc_stack.ss_sp = stack;
+    away.uc_stack.ss_size = STACK;
+    away.uc_link = &home;
+    makecontext(&away, enter, 0);
+    swapcontext(&home, &away);
+}
+
+/* What is searched for: 8 bytes, and which piece of which kind they are of. Pieces of equal bytes say nothing. */
+enum { KEY, ROUND_KEYS, EXPANDED, WIDENED, KEYSTREAM, KINDS };
+static struct needle { uint64_t bytes; int kind, piece; } needles[NEEDLES * 2];
+static size_t filled;
+static void add(const uint8_t *at, int kind, int piece) {
+    struct needle *it = &needles[filled];
+    memcpy(&it->bytes, at, 8);
+    it->kind = kind;
+    it->piece = piece;
+    filled += it->bytes != it->bytes % 256 * 0x0101010101010101u;
+}
+static int below(const void *a, const void *b) {
+    uint64_t x = ((const struct needle *)a)->bytes, y = ((const struct needle *)b)->bytes;
+    return (x > y) - (x < y);
+}
+static void collect(void) {
+    uint8_t round_keys[240], wide[16];
+    size_t rounds = size / 4 + 7, words = 8 * rounds;
+    filled = 0;
+    (size == 16 ? ev_expand_128 : size == 24 ? ev_expand_192 : ev_expand_256)(key, round_keys);
+    for (size_t i = 0; i + 8 <= size; i++)
+        add(key + i, KEY, 0);
+    for (size_t i = 0; i + 4 <= words; i++)
+        add((const uint8_t *)(kept.words + i), ROUND_KEYS, (int)(i / 8));
+    /* The first round keys of the expansion are the key itself. */
+    for (size_t i = size; i + 8 <= 16 * rounds; i++)
+        add(round_keys + i, EXPANDED, (int)(i / 16));
+    for (size_t i = 0; i < words; i++) {
+        widened(wide, kept.words[i]);
+        add(wide, WIDENED, (int)i);
+    }
+    for (size_t i = 0; i < BYTES; i += 8)
+        add(keystream + i, KEYSTREAM, (int)(i / 16));
+    qsort(needles, filled, sizeof *needles, below);
+}
+
+/* Which pieces stand in so many bytes. A widened word has to be there whole. */
+static void search(const uint8_t *at, size_t length, uint8_t found[KINDS][256]) {
+    for (size_t i = 0; i + 8 <= length; i++) {
+        struct needle it;
+        uint8_t wide[16];
+        memcpy(&it.bytes, at + i, 8);
+        const struct needle *one = bsearch(&it, needles, filled, sizeof *needles, below);
+        if (!one)
+            continue;
+        while (one > needles && one[-1].bytes == it.bytes)
+            one--;
+        for (; one < needles + filled && one->bytes == it.bytes; one++) {
+            widened(wide, one->kind == WIDENED ? kept.words[one->piece] : 0);
+            if (one->kind != WIDENED || (i + 16 <= length && !memcmp(at + i, wide, 16)))
+                found[one->kind][one->piece] = 1;
+        }
+    }
+}
+static void most(int counts[KINDS], uint8_t found[KINDS][256]) {
+    for (int kind = 0; kind < KINDS; kind++) {
+        int pieces = 0;
+        for (int i = 0; i < 256; i++)
+            pieces += found[kind][i];
+        if (pieces > counts[kind])
+            counts[kind] = pieces;
+    }
+}
+
+static void report(const struct call *call) {
+    int counts[KINDS] = {0}, inside[KINDS] = {0};
+    size_t depth = 0;
+    for (int number = 0; number < KEYS; number++) {
+        static uint8_t image[STACK];
+        uint8_t found[KINDS][256] = {{0}}, held[KINDS][256] = {{0}};
+        prepare(number);
+        run(call);
+        memcpy(image, stack, STACK);
+        prepare(number);
+        collect();
+        search(image, STACK, found);
+        for (int i = 0; i < REGISTERS; i++)
+            search(registers + 16 * i, 16, held);
+        most(counts, found);
+        most(inside, held);
+        size_t first = 0;
+        while (first < STACK && image[first] == FILL)
+            first++;
+        if (STACK - first > depth)
+            depth = STACK - first;
+    }
+    int in_registers = inside[KEY] + inside[ROUND_KEYS] + inside[EXPANDED] + inside[WIDENED];
+    printf("%s\t%zu\t%d\t%d\t%d\t%d\t%d\t%d\t%zu\n", call->name, 8 * size, counts[KEY], counts[ROUND_KEYS],
+        counts[EXPANDED], counts[WIDENED], counts[KEYSTREAM], in_registers, depth);
+}
+
+int main(void) {
+    stack = aligned_alloc(4096, STACK);
+    if (!stack)
+        return 2;
+    for (size = 16; size <= 32; size += 8)
+        for (size_t i = 0; i < sizeof calls / sizeof *calls; i++)
+            report(&calls[i]);
+    return failed;
+}

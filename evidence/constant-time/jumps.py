@@ -1,0 +1,98 @@
+"""Every conditional jump in a build of the library, with what it tests: a look that depends on no run.
+
+A jump is told by the function that it stands in, the comparison before it with its registers left out, and itself.
+jumps.tsv is the list of those that were looked at, with how many there are; reasons.tsv says for the functions which
+public numbers their jumps test. Addresses, registers and the order of the code are left out, since they change with
+every edit of the library.
+"""
+import fnmatch
+import pathlib
+import re
+
+import tools
+
+HERE = pathlib.Path(__file__).resolve().parent
+# The program and its engine read digits and names by tables and branches, and say so; the rest is the library and its
+# callers.
+OTHERS = ("aes_kat", "hex::", "ev_reply", "evidence_exports::program", "core::cmp::slices::groups_equal")
+HEAD = "function\tcompares\tjump\tcount"
+JUMP = re.compile(r"\s(j(?!mp)\w+|loop\w*)\s")
+# The instructions that leave the flags which a jump reads.
+FLAGS = re.compile(
+    r"(cmp|test|bt[src]?|add|adc|sub|sbb|inc|dec|neg|and|or|xor|sh[lr]d?|sa[lr]|rcl|rcr|mul|imul|popcnt|tzcnt|lzcnt"
+    r"|bs[fr]|v?ptest|u?comis[sd]|andn|bextr|bls\w+|cmpxchg|xadd)[bwlq]?\s"
+)
+REGISTER = re.compile(r"%(?:[re]?[abcd]x|[abcd][lh]|[re]?[sd]il?|[re]?[sb]pl?|[sd]il|[sb]pl|r\d+[dwb]?|xmm\d+)\b")
+
+
+def plain(name):
+    """A function's name without the arguments of its types, which are many."""
+    name = re.sub(r"\.(?:llvm|part|cold|isra|constprop)\.?\d*", "", name)
+    return re.sub(r"::<.*", "", name)
+
+
+def compared(line):
+    """A comparison without registers and places: its instruction and the constants that it has."""
+    words = re.sub(r"\s*(?:#|<).*", "", line).split(None, 1)
+    operands = REGISTER.sub("r", words[1] if len(words) > 1 else "")
+    operands = re.sub(r"-?(?:0x)?[0-9a-f]*\([^)]*\)", "memory", operands)
+    return f"{words[0]} {operands}".strip()
+
+
+def jumps(archive):
+    """How often each jump stands in an archive: {(function, comparison, jump): count}."""
+    found, name, last = {}, "", ""
+    for line in tools.run(["objdump", "-d", "--no-show-raw-insn", archive], "objdump").splitlines():
+        if head := re.match(r"[0-9a-f]+ <(.*)>:", line):
+            name, last = plain(head[1]), "nothing"
+            continue
+        code = re.sub(r"^\s*[0-9a-f]+:\s*", "", line)
+        if code == line or not code:
+            continue
+        if jump := JUMP.match(f" {code} "):
+            if not name.startswith(OTHERS):
+                key = (name, last, jump[1])
+                found[key] = found.get(key, 0) + 1
+        elif FLAGS.match(code := code.removeprefix("lock ")):
+            last = compared(code)
+    return found
+
+
+def rows_of(path):
+    return [it.split("\t") for it in path.read_text().splitlines() if it and not it.startswith("#")]
+
+
+def recorded(path):
+    return {(function, compares, jump): int(count) for function, compares, jump, count in rows_of(path)[1:]}
+
+
+def record(found, path):
+    lines = ["\t".join([*key, str(count)]) for key, count in sorted(found.items())]
+    path.write_text("\n".join([HEAD, *lines]) + "\n")
+
+
+def unexplained(found, path):
+    """The functions with jumps that no line of reasons.tsv speaks of, and the lines that speak of none."""
+    reasons, used, missed = rows_of(path), set(), set()
+    for function, compares, jump in found:
+        why = [i for i, row in enumerate(reasons) if speaks_of(row, function, compares, jump)]
+        used.update(why[:1])
+        if not why:
+            missed.add(f"{function}: {compares}, {jump}")
+    return sorted(missed), [" ".join(it[:2]) for i, it in enumerate(reasons) if i not in used]
+
+
+def speaks_of(row, function, compares, jump):
+    functions, comparisons = row[0].split(" "), row[1].split("|")
+    return any(fnmatch.fnmatchcase(function, it) for it in functions) and any(
+        fnmatch.fnmatchcase(f"{compares}, {jump}", it) for it in comparisons
+    )
+
+
+def changes(found, was):
+    """What is not in the recorded list, or stands there less often."""
+    return [
+        f"{', '.join(key)}: {count} in place of {was.get(key, 0)}"
+        for key, count in sorted(found.items())
+        if count > was.get(key, 0)
+    ]

@@ -1,0 +1,87 @@
+"""The public functions of the library, as its sources have them, and those that no export calls.
+
+A function counts as called if its name stands in the exports or among the calls of the C library. elsewhere.tsv has the
+others, each with the reason why no call of its own is made: a crate; names, or files and names (`rounds.rt:*`), with *
+for any letters; a reason.
+"""
+import fnmatch
+import pathlib
+import re
+
+HERE = pathlib.Path(__file__).resolve().parent
+TOP = HERE.parent.parent
+# The crates whose functions are given secrets. The program and its engine are another matter: see README.md.
+CRATES = "aes_planes aes_cipher aes_soft aes aes_permute aes_rounds aes_ctr aes_c".split()
+# What may stand before `fn`.
+KIND = r'(?:(?:final|const|unsafe|extern "C") )*'
+EXPORTS = HERE.parent / "exports" / "src"
+
+
+def is_test(path):
+    return "tests" in path.parts or path.name == "tests.rt"
+
+
+def functions_of(text):
+    """The names of the public functions of a file, and of the functions of its public traits, but for laws, which have
+    no effect and say so."""
+    found, inside, doc = [], False, ""
+    for line in text.splitlines():
+        words = line.strip()
+        if words.startswith("///"):
+            doc += words[3:]
+            continue
+        if line.startswith("pub trait "):
+            inside = True
+        elif line.startswith("}"):
+            inside = False
+        public = re.match(rf"\s*pub {KIND}fn (\w+)", line)
+        of_trait = inside and re.match(rf"    {KIND}fn (\w+)", line)
+        if (public or of_trait) and "No effect" not in doc and "Nothing:" not in doc:
+            found.append((public or of_trait)[1])
+        if not words.startswith(("#[", "//")):
+            doc = ""
+    return found
+
+
+def public_functions():
+    """The public functions, as (crate, file, name)."""
+    found = []
+    for crate in CRATES:
+        source = TOP / "crates" / crate / "src"
+        for path in sorted(source.rglob("*.rt")):
+            if not is_test(path.relative_to(source)):
+                names = functions_of(path.read_text())
+                found += [(crate, str(path.relative_to(source)), name) for name in names]
+    return found
+
+
+def reasons(table=HERE / "elsewhere.tsv"):
+    rows = [it.split("\t") for it in table.read_text().splitlines() if it and not it.startswith("#")]
+    return [(crate, names.split(" "), why) for crate, names, why in rows]
+
+
+def matches(pattern, path, name):
+    return fnmatch.fnmatch(f"{path}:{name}" if ":" in pattern else name, pattern)
+
+
+def not_called(calls, table=HERE / "elsewhere.tsv"):
+    """The public functions that neither the exports nor the calls name and that no reason stands for, and the reasons
+    that stand for none."""
+    text = calls + "\n".join(path.read_text() for path in sorted(EXPORTS.glob("*.txt")))
+    words = set(re.findall(r"\w+", text))
+    rows, used, missed = reasons(table), set(), []
+    for crate, path, name in public_functions():
+        if name in words:
+            continue
+        of_crate = [(i, names) for i, (of, names, _) in enumerate(rows) if of == crate]
+        why = [i for i, names in of_crate if any(matches(it, path, name) for it in names)]
+        used.update(why)
+        if not why:
+            missed.append(f"{crate}/src/{path}: {name}")
+    idle = [f"{crate} {' '.join(names)}" for i, (crate, names, _) in enumerate(rows) if i not in used]
+    return missed, idle
+
+
+if __name__ == "__main__":
+    for row in public_functions():
+        print("\t".join(row))

@@ -1,0 +1,105 @@
+"""The exports of one build, called from Python: blocks and counter mode by the nine types of both crates and by C."""
+import ctypes
+import random
+
+import tools
+
+# How the exports number the types of a direction: keys of 16, 24 and 32 bytes, of both directions, then of one.
+ONE_WAY, PERMUTE = 3, 6
+SLICE = 2
+STRUCT = 244
+WAYS = ("aes", "aes, both ways", "aes_permute", "aes_permute, both ways", "C", "C to a buffer", "C in one call")
+STREAMS = ("aes", "aes, both ways", "aes_permute", "aes_permute, both ways", "C", "C in one call")
+
+
+def number_of(key):
+    return len(key) // 8 - 2
+
+
+def is_one_way(way):
+    return "both" not in way
+
+
+class Exports:
+    """The exports as one compiler builds them, in a shared library."""
+
+    def __init__(self, archive, name):
+        made = tools.ROOM / f"libmeasured-{name}.so"
+        flags = ["-shared", "-Wl,--whole-archive", archive, "-Wl,--no-whole-archive", "-Wl,-z,defs"]
+        tools.run(["cc", *flags, "-Wl,-z,noexecstack", "-o", made], "a shared library of the exports")
+        self.calls = ctypes.CDLL(str(made))
+
+    def call(self, name, *arguments):
+        it = getattr(self.calls, name)
+        it.restype = ctypes.c_uint32
+        return it(*[ctypes.c_size_t(a) if isinstance(a, int) else a for a in arguments])
+
+    def work(self, way, command, key, given):
+        """The blocks of a line, encrypted or decrypted in one way."""
+        direction = {"enc": "encrypt", "dec": "decrypt"}[command]
+        if way.startswith("C"):
+            return self.by_c(way, direction, key, given)
+        crate = "permute" if "permute" in way else "aes"
+        count, output = len(given) // 16, ctypes.create_string_buffer(len(given))
+        of = number_of(key) + ONE_WAY * is_one_way(way)
+        name = f"ev_{crate}_{direction}"
+        done = self.call(name, key, len(key), of, SLICE, given, count, output, count)
+        return done == 1 and output.raw
+
+    def struct(self, key):
+        """A struct of the C library that holds a key."""
+        it = ctypes.create_string_buffer(STRUCT)
+        return it if self.call("fotsgure_aes_set_key", it, key, len(key)) == 0 else None
+
+    def by_c(self, way, direction, key, given):
+        name, count = f"fotsgure_aes_{direction}_blocks", len(given) // 16
+        blocks = ctypes.create_string_buffer(given, len(given))
+        if way == "C":
+            done = self.call(name, self.struct(key), blocks, count)
+        elif way == "C to a buffer":
+            done = self.call(f"{name}_to", self.struct(key), given, count, blocks, count)
+        else:
+            done = self.call(f"{name}_with", key, len(key), blocks, count)
+        return done == 0 and blocks.raw
+
+    def stream(self, way, key, iv, data, cut):
+        """Data with its keystream added in two calls."""
+        first = ctypes.create_string_buffer(data[:cut], cut)
+        rest = ctypes.create_string_buffer(data[cut:], len(data) - cut)
+        if not way.startswith("C"):
+            of = number_of(key) + ONE_WAY * is_one_way(way) + PERMUTE * ("permute" in way)
+            done = self.call("ev_ctr", key, len(key), of, iv, first, cut, rest, len(data) - cut)
+            return done == 1 and first.raw + rest.raw
+        counter = ctypes.create_string_buffer(iv + bytes(8), 24)
+        for part, n in ((first, cut), (rest, len(data) - cut)):
+            if way == "C":
+                done = self.call("fotsgure_aes_add_keystream", self.struct(key), counter, part, n)
+            else:
+                done = self.call("fotsgure_aes_add_keystream_with", key, len(key), counter, part, n)
+            if done != 0:
+                return None
+        return first.raw + rest.raw
+
+
+def wrong_blocks(work, lines):
+    """The lines that are not answered as wanted."""
+    return [
+        name
+        for name, command, key, given, wanted in lines
+        if work(command, bytes.fromhex(key), bytes.fromhex(given)) != bytes.fromhex(wanted)
+    ]
+
+
+def wrong_streams(apply, found):
+    """The vectors that are not met in both directions, with the cuts of each, and how many calls were made."""
+    wrong, calls, numbers = [], 0, random.Random(1)
+    for name, *digits in found:
+        key, iv, plain, cipher = (bytes.fromhex(it) for it in digits)
+        n = len(plain)
+        cuts = {0, n, *(it for it in (1, 15, 16, 17, 128, 1024, 1025) if it < n), numbers.randrange(n + 1)}
+        for cut in cuts:
+            for way in STREAMS:
+                calls += 2
+                if apply(way, key, iv, plain, cut) != cipher or apply(way, key, iv, cipher, cut) != plain:
+                    wrong.append(f"{way}: {name}, cut at {cut}")
+    return wrong, calls
