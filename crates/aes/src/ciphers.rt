@@ -10,8 +10,6 @@ mod copies;
 mod decrypt;
 mod directions;
 mod encrypt;
-#[cfg(test)]
-mod tests;
 mod text;
 
 use aes_cipher::cipher::{InvalidLength, KeyInit, KeySizeUser, RoundKeysUser};

@@ -1,10 +1,24 @@
--- The bytes of a number below 2 ^ 128, the highest first, and the number of a block.
+-- What the operations on blocks compute: sums, and the bytes of a number below 2 ^ 128, the highest first.
 use Rattle.std.proofs.Common.{◌≡◌, ℕ, zero, suc, ◌+◌, ◌*◌, ◌/◌, ◌%◌, ◌^◌, ◌<◌, List, [], ◌∷◌, map, get_or, refl, sym}
-use Rattle.std.proofs.Common.{ap, ◌∙◌, arith}
+use Rattle.std.proofs.Common.{ap, ◌∙◌, arith, bit_xor, length}
 use Rattle.std.proofs.Math.Nat.{div-div-eq-div-mul}
+use Rattle.std.proofs.lemmas.Simd.{get_or-zip2, length-zip2}
 use Rattle.std.specs.Int.{w128, to_be_bytes, from_be_bytes}
-use Rattle.aes_planes.specs.Fips197.{IsBytes, IsBlock, build, build_from}
+use lib.Lanes.{zip2}
+use Rattle.aes_planes.specs.Fips197.{IsBytes, IsBlock, add_round_key, build, build_from}
 use Rattle.aes_planes.proofs.Lists.Built.{built}
+use Rattle.aes_planes.proofs.Standard.States.{state_is}
+
+-- the sum of two blocks on a vector
+pub blocks_summed : (a b : List ℕ) → length a ≡ 16 → length b ≡ 16 → zip2 bit_xor a b ≡ add_round_key a b
+unfolding add_round_key
+blocks_summed a b la lb =
+    sym (state_is _ (zip2 bit_xor a b) (length-zip2 bit_xor a b (la ∙ sym lb) ∙ la)
+    (λ r k h l. sym (get_or-zip2 bit_xor a b (r + 4 * k) 0 0 0 (omega (arith, la)) (omega (arith, lb)))))
+
+-- the number of the bytes of a number
+pub number_back : (n : ℕ) (x : List ℕ) → n < 2 ^ 128 → x ≡ to_be_bytes w128 n → from_be_bytes w128 x ≡ n
+number_back n x small e = ap (from_be_bytes w128) e ∙ omega arith
 
 -- remainders by 256 are bytes
 remainders : (xs : List ℕ) → IsBytes (map (λ x. x % 256) xs)

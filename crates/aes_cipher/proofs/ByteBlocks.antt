@@ -11,6 +11,21 @@ use Rattle.std.specs.List.{concat}
 use Rattle.std.specs.Simd.{first_chunks}
 use Rattle.aes_cipher.specs.Blocks.{Sixteens}
 
+-- the first and the second of two lists that are joined
+pub first_part : {X : Type 0} (n : ℕ) (xs ys : List X) → length xs ≡ n → take n (xs ++ ys) ≡ xs
+first_part n xs ys l = ap (λ k. take k (xs ++ ys)) (sym l) ∙ take-append_seam xs ys
+
+pub second_part : {X : Type 0} (n : ℕ) (xs ys : List X) → length xs ≡ n → drop n (xs ++ ys) ≡ ys
+second_part n xs ys l = ap (λ k. drop k (xs ++ ys)) (sym l) ∙ drop-append_seam xs ys
+
+pub first_half : (xs ys : List ℕ) → length xs ≡ 8 → take 8 (xs ++ ys) ≡ xs
+first_half xs ys l = first_part 8 xs ys l
+
+pub second_half : (xs ys : List ℕ) → length xs ≡ 8 → drop 8 (xs ++ ys) ≡ ys
+second_half xs ys l = second_part 8 xs ys l
+
+pub ruleset halves = (first_half, second_half)
+
 -- so many blocks are so many
 pub length-chunks : (m : ℕ) (xs : List ℕ) → length (first_chunks 16 m xs) ≡ m
 length-chunks zero xs = refl
@@ -54,13 +69,10 @@ pub chunks_of_joined : (bs : List (List ℕ)) → Sixteens bs → first_chunks 1
 chunks_of_joined [] h = refl
 chunks_of_joined (b ∷ bs) h =
     let l : length b ≡ 16 = h 0 (omega arith) in
-    let front : take 16 (b ++ concat bs) ≡ b =
-    ap (λ k. take k (b ++ concat bs)) (sym l) ∙ take-append_seam b (concat bs) in
-    let back : drop 16 (b ++ concat bs) ≡ concat bs =
-    ap (λ k. drop k (b ++ concat bs)) (sym l) ∙ drop-append_seam b (concat bs) in
     let rest : first_chunks 16 (length bs) (drop 16 (b ++ concat bs)) ≡ bs =
-    ap (first_chunks 16 (length bs)) back ∙ chunks_of_joined bs (λ i lt. h (suc i) (omega arith)) in
-    (λ i. front i ∷ rest i)
+    ap (first_chunks 16 (length bs)) (second_part 16 b (concat bs) l)
+    ∙ chunks_of_joined bs (λ i lt. h (suc i) (omega arith)) in
+    (λ i. first_part 16 b (concat bs) l i ∷ rest i)
 
 pub length-joined : (bs : List (List ℕ)) → Sixteens bs → length (concat bs) ≡ 16 * length bs
 length-joined [] h = refl
@@ -68,6 +80,10 @@ length-joined (b ∷ bs) h =
     let l : length b ≡ 16 = h 0 (omega arith) in
     let rest = length-joined bs (λ i lt. h (suc i) (omega arith)) in
     length-append b (concat bs) ∙ omega (arith, l, rest)
+
+-- where their bytes are counted
+pub parted : (bs : List (List ℕ)) → Sixteens bs → first_chunks 16 (length (concat bs) / 16) (concat bs) ≡ bs
+parted bs h = ap (λ m. first_chunks 16 m (concat bs)) (omega (arith, length-joined bs h)) ∙ chunks_of_joined bs h
 
 -- byte j of block i
 pub byte_in_chunk : (i j m : ℕ) (xs : List ℕ) → i < m → j < 16
@@ -86,16 +102,18 @@ byte_of_joined bs i h lt =
     ∙ sym (byte_in_chunk (i / 16) (i % 16) (length bs) (concat bs) (omega (arith, lt)) (omega arith))
     ∙ ap (λ l. get_or (get_or l (i / 16) []) (i % 16) 0) (chunks_of_joined bs h)
 
+pub ruleset byte_laws = (chunks_joined, parted, length-chunks, byte_in_chunk, byte_of_joined)
+
 -- what a loop leaves in the end that has come to block i: the blocks before it, and f of each from it on
-abbrev pub worked_from : (List ℕ → List ℕ) → ℕ → ℕ → List ℕ → List (List ℕ)
-worked_from f m i xs = first_chunks 16 i xs ++ map f (first_chunks 16 (m - i) (drop (16 * i) xs))
+abbrev pub processed_from : (List ℕ → List ℕ) → ℕ → ℕ → List ℕ → List (List ℕ)
+processed_from f m i xs = first_chunks 16 i xs ++ map f (first_chunks 16 (m - i) (drop (16 * i) xs))
 
 -- f of each of n blocks from block i on, written in their places
-pub worked_run : (f : List ℕ → List ℕ) (m i n p k : ℕ) (xs ys : List ℕ) → p ≡ 16 * i → k ≡ 16 * n → i + n ≤ m
+pub processed_run : (f : List ℕ → List ℕ) (m i n p k : ℕ) (xs ys : List ℕ) → p ≡ 16 * i → k ≡ 16 * n → i + n ≤ m
     → 16 * m ≤ length xs
     → length ys ≡ 16 * n → first_chunks 16 n ys ≡ map f (first_chunks 16 n (take k (drop p xs)))
-    → worked_from f m (i + n) (put_mid p k xs ys) ≡ worked_from f m i xs
-worked_run f m i n p k xs ys at size fits l long is =
+    → processed_from f m (i + n) (put_mid p k xs ys) ≡ processed_from f m i xs
+processed_run f m i n p k xs ys at size fits l long is =
     let zs = put_mid p k xs ys in
     let chunk : ℕ → List ℕ → List (List ℕ) = first_chunks 16 in
     let r = m - (i + n) in
@@ -106,10 +124,8 @@ worked_run f m i n p k xs ys at size fits l long is =
     let front : take (p + k) zs ≡ take p xs ++ ys = take-put_mid p k xs ys (p + k) (omega (arith, size, long)) inside in
     let rest : drop (p + k) zs ≡ drop (p + k) xs =
     drop-put_mid p k xs ys (p + k) (omega arith) inside (omega (arith, size, long)) in
-    let taken : length (take p xs) ≡ p = omega (arith, length-take p xs, inside) in
-    let mid : take k (drop p zs) ≡ ys =
-    sym (drop-take p k zs) ∙ ap (drop p) front ∙ ap (λ q. drop q (take p xs ++ ys)) (sym taken)
-    ∙ drop-append_seam (take p xs) ys in
+    let mid : take k (drop p zs) ≡ ys = sym (drop-take p k zs) ∙ ap (drop p) front
+    ∙ second_part p (take p xs) ys (omega (arith, length-take p xs, inside)) in
     let done : chunk n (drop (16 * i) zs) ≡ map f (chunk n (drop (16 * i) xs)) =
     ap (λ q. chunk n (drop q zs)) (sym at) ∙ sym (chunks_take n k (drop p zs) (omega (arith, size)))
     ∙ ap (chunk n) mid ∙ is

@@ -12,6 +12,7 @@ use aes_planes::laws;
 use std::simd::prelude::*;
 
 /// Returns the sum of two blocks, byte by byte modulo 2: their exclusive or (FIPS 197, 5.1.4).
+#[tactic(auto, using(crate::proofs::BlockNumbers::blocks_summed))]
 #[inline(always)]
 pub fn sum_of_blocks(a: &Block, b: &Block) -> Block
     ensures { result ≡ fips.add_round_key a.now b.now }
@@ -33,6 +34,7 @@ pub fn blocks_equal(a: &Block, b: &Block) -> bool
 }
 
 /// Returns the number as a block, its highest byte first.
+#[tactic(auto, using(crate::proofs::BlockNumbers::number_back))]
 #[inline(always)]
 pub fn block_of_number(number: u128) -> Block
     ensures block { result ≡ to_be_bytes w128 number }
@@ -90,6 +92,7 @@ pub fn numbers_as_blocks()
 
 /// No effect; states that two halves of eight bytes form a block, that it splits into them again, and that a block is
 /// its halves joined.
+#[tactic(auto, using(crate::proofs::ByteBlocks::halves))]
 pub fn halves_and_blocks()
     ensures block { (first second : List ℕ) → length first ≡ 8 → fips.IsBytes first →
         length second ≡ 8 → fips.IsBytes second → fips.IsBlock (first ++ second) }

@@ -7,12 +7,12 @@ ghost use Rattle.aes_planes.specs.Each.{Each};
 ghost use Rattle.aes_planes.specs.Fips197 as fips;
 ghost use Rattle.aes_cipher.specs.Blocks.{blocks_of, Sixteens};
 
+mod processing;
 #[cfg(test)]
 mod tests;
-mod work;
 
 use crate::cipher::{BlockCipherDecrypt, BlockCipherEncrypt};
-use work::{Decrypting, Encrypting, work_on_bytes};
+use processing::{Decrypting, Encrypting, process_bytes};
 
 /// The length of the bytes is no multiple of 16.
 #[derive(Debug, Clone, Copy, PartialEq, Eq)]
@@ -32,7 +32,7 @@ pub fn encrypt_bytes<C: BlockCipherEncrypt>(
         (blocks_of bytes.old) (blocks_of bytes.new)) }
     ensures untouched { OnErr result (bytes.new ≡ bytes.old) }
 {
-    work_on_bytes(&Encrypting { cipher }, bytes)
+    process_bytes(&Encrypting { cipher }, bytes)
 }
 
 /// Decrypts bytes in place, block by block, under the value's round keys (InvCipher, FIPS 197, 5.3).
@@ -49,11 +49,12 @@ pub fn decrypt_bytes<C: BlockCipherDecrypt>(
         (blocks_of bytes.old) (blocks_of bytes.new)) }
     ensures untouched { OnErr result (bytes.new ≡ bytes.old) }
 {
-    work_on_bytes(&Decrypting { cipher }, bytes)
+    process_bytes(&Decrypting { cipher }, bytes)
 }
 
 /// No effect; states how bytes and their blocks correspond: whole blocks, joined, are the bytes; joined blocks split
 /// into those blocks again; there is a block for every sixteen bytes; byte j of block i, and byte i of joined blocks.
+#[tactic(auto, using(crate::proofs::ByteBlocks::byte_laws))]
 pub fn blocks_and_bytes()
     ensures joined { (bytes : List ℕ) → length bytes % 16 ≡ 0 → concat (blocks_of bytes) ≡ bytes }
     ensures parted { (blocks : List (List ℕ)) → Sixteens blocks → blocks_of (concat blocks) ≡ blocks }

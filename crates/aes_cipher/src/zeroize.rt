@@ -44,16 +44,39 @@ impl<E: Element, const N: usize> Zeroize for [E; N] {
 }
 
 /// Sets every bit of every word to 0.
-///
-/// A compiler may leave out writes that nothing reads. So a word is read before the writes and after them, at a place
-/// that the compiler can't know.
 pub fn zeroize_words<W: Word>(words: &mut [W])
     ensures { map W.bits words.new ≡ replicate (length words.old) (replicate W.BITS false) }
 {
+    wipe(words, W::zero(), |word| word.low_byte());
+}
+
+// Writes zeros over every element of a slice. `some_byte` returns some byte of an element.
+//
+// A compiler may leave out writes that nothing reads. So an element is read before the writes and after them, at a
+// place that no compiler can count on: 0, but it comes out of an atomic. What was read goes into the atomic by an
+// exchange, which no compiler leaves out. It is 0 too, so that no byte of a secret stays there.
+fn wipe<E: Copy, F: Fn(E) -> u8>(elements: &mut [E], zero: E, some_byte: F)
+    requires { F.IsAlwaysCallable some_byte }
+    ensures { elements.new ≡ replicate (length elements.old) zero }
+{
     let seen = AtomicU64::new(0);
-    observe(words, &seen);
-    overwrite(words, W::zero());
-    observe(words, &seen);
+    let place = seen.load(Ordering::SeqCst) as usize;
+    let before = observe(elements, place, &some_byte);
+    overwrite(elements, zero);
+    let after = observe(elements, place, &some_byte);
+    seen.swap((before & after) as u64, Ordering::SeqCst);
+}
+
+// Returns some byte of the element at a place, if there is one.
+#[inline(always)]
+fn observe<E: Copy, F: Fn(E) -> u8>(elements: &[E], place: usize, some_byte: &F) -> u8
+    requires { F.IsAlwaysCallable some_byte.now }
+{
+    if place < elements.len() {
+        some_byte(elements[place])
+    } else {
+        0
+    }
 }
 
 // Writes an element over every one of a slice.
@@ -64,21 +87,6 @@ fn overwrite<E: Copy>(elements: &mut [E], element: E)
     for place in elements.iter_mut() {
         *place = element;
     }
-}
-
-// Reads the first word, at a place that the compiler can't know.
-fn observe<W: Word>(words: &[W], seen: &AtomicU64) {
-    let place = hidden_place(seen);
-    if place < words.len() {
-        seen.swap(words[place].low_byte() as u64, Ordering::SeqCst);
-    }
-}
-
-// Returns 0, which comes out of an atomic: no compiler can count on it. What the atomic held before, perhaps a byte of
-// a secret, is cleared first: it must not become a place.
-fn hidden_place(seen: &AtomicU64) -> usize {
-    seen.swap(0, Ordering::SeqCst);
-    seen.swap(0, Ordering::SeqCst) as usize
 }
 
 /// A value that is overwritten with zeros when it is dropped: what stands inside has a drop of its own, which requires

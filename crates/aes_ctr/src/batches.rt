@@ -4,11 +4,11 @@ ghost use Rattle.std.specs.Prelude.{◌≡◌, ℕ, ◌+◌, ◌*◌, ◌/◌, �
 ghost use Rattle.aes_ctr.specs.CounterMode.{keystream_byte, plus_stream};
 
 use crate::adding::add_blocks;
-use crate::keystream::{fill_by_backend, fill_with_keystream};
+use crate::keystream::{count_on, fill_by_backend, fill_with_keystream};
 use aes_cipher::cipher::{Block, BlockCipherEncBackend, BlockCipherEncClosure, BlockCipherEncrypt};
 
 // How many blocks a backend's batch may have, so that there is room for it.
-const ROOM: usize = 64;
+const ROOM: usize = 16;
 
 // A batch is taken to be as quick as a quarter of its blocks one by one: `aes` encrypts eight blocks at once in less
 // time than two one by one.
@@ -30,7 +30,7 @@ fn add_to_one<C: BlockCipherEncrypt>(cipher: &C, iv: &Block, position: u64, byte
 fn next_blocks<B: BlockCipherEncBackend>(from: usize, bytes: usize) -> usize
     requires { from < 16 }
     ensures some { 1 ≤ result }
-    ensures inside { result ≤ 64 }
+    ensures inside { result ≤ 16 }
 {
     let needed = (from + bytes.min(16 * ROOM)).div_ceil(16);
     if B::PAR_BLOCKS <= ROOM && B::PAR_BLOCKS <= BATCH_SPEED * needed {
@@ -40,7 +40,23 @@ fn next_blocks<B: BlockCipherEncBackend>(from: usize, bytes: usize) -> usize
     }
 }
 
-// Adds to bytes the keystream from one position on, by the backend. A last batch may have more blocks than are left.
+// Adds to the bytes of one batch the keystream from a block on. How many there are is a constant, so that counters and
+// blocks of the keystream stay in registers.
+#[inline(always)]
+fn add_batch<B: BlockCipherEncBackend>(backend: &B, iv: &Block, first: u64, bytes: &mut [u8])
+    requires fits { B.PAR_BLOCKS ≤ 16 }
+    requires one_batch { length bytes.old ≡ 16 * B.PAR_BLOCKS }
+    ensures { bytes.new ≡ plus_stream (keystream_byte (B.round_keys backend.now) iv.now) (16 * first) bytes.old }
+{
+    let mut room = [[0; 16]; ROOM];
+    let blocks = &mut room[..B::PAR_BLOCKS];
+    count_on(iv, first, blocks);
+    backend.encrypt_par_blocks(blocks);
+    add_blocks(blocks, 0, bytes);
+}
+
+// Adds to bytes the keystream from one position on, by the backend: whole batches first if the position is the start
+// of a block. A last batch may have more blocks than are left.
 fn add_by_backend<B: BlockCipherEncBackend>(
     backend: &B,
     iv: &Block,
@@ -50,9 +66,17 @@ fn add_by_backend<B: BlockCipherEncBackend>(
     ensures { position + length bytes.old < 2 ^ 64
         → bytes.new ≡ plus_stream (keystream_byte (B.round_keys backend.now) iv.now) position bytes.old }
 {
-    let mut room = [[0; 16]; ROOM];
     let mut done = 0;
-    while done < bytes.len() {
+    if position % 16 == 0 && B::PAR_BLOCKS <= ROOM {
+        let size = 16 * B::PAR_BLOCKS;
+        'whole: while bytes.len() - done >= size {
+            let place = position.wrapping_add(done as u64);
+            add_batch(backend, iv, place / 16, &mut bytes[done..done + size]);
+            done += size;
+        }
+    }
+    let mut room = [[0; 16]; ROOM];
+    'rest: while done < bytes.len() {
         let place = position.wrapping_add(done as u64);
         let from = (place % 16) as usize;
         let rest = bytes.len() - done;

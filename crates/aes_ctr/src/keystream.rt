@@ -22,7 +22,7 @@ fn block_of(number: u128) -> Block
 
 // Leaves the counter blocks from the first on.
 #[inline(always)]
-fn count_on(iv: &Block, first: u64, blocks: &mut [Block])
+pub(crate) fn count_on(iv: &Block, first: u64, blocks: &mut [Block])
     ensures { (i : ℕ) → i < length blocks.old → slice_index_or blocks.new i [] ≡ counter_block iv.now (first + i) }
 {
     let mut counter = u128::from_be_bytes(*iv).wrapping_add(first as u128);
@@ -46,8 +46,8 @@ pub(crate) fn fill_with_keystream<C: BlockCipherEncrypt>(
     cipher.encrypt_blocks(blocks);
 }
 
-// The same by a backend: a batch at once, and else block by block.
-#[inline(always)]
+// The same by a backend: a batch at once, and else block by block. A call of its own, so that whole batches, which
+// don't need it, are inlined.
 pub(crate) fn fill_by_backend<B: BlockCipherEncBackend>(
     backend: &B,
     iv: &Block,

@@ -1,6 +1,6 @@
 -- Lemmas on blocks that are written one after the other.
 use Rattle.std.proofs.Common.{◌≡◌, ◌<◌, ◌≤◌, ◌+◌, ◌-◌, ℕ, List, [], ◌∷◌, ◌++◌, sym, ap, ◌∙◌, length, take, drop, map}
-use Rattle.std.proofs.Common.{append_assoc, length-append, take-append-drop, take_all, arith}
+use Rattle.std.proofs.Common.{append_assoc, length-append, take-append-drop, arith}
 use Rattle.std.specs.List.{flat_map, join_with_byte}
 use Rattle.std.proofs.lemmas.List.{length-take-le}
 use Rattle.std.proofs.Math.Seq.{take-append_seam}
@@ -15,14 +15,14 @@ flat_map-joined c f x (y ∷ xs) =
     ∙ sym (append_assoc (f x) (c ∷ join_with_byte c (map f (y ∷ xs))) (c ∷ []))
 
 -- all but the last separator of all the elements
-pub take_joined : (end n c : ℕ) (out : List ℕ) (f : List ℕ → List ℕ) (xs : List (List ℕ)) → 0 < length xs
-    → length xs ≤ n → end ≤ length out
-    → take end out ≡ flat_map (λ y. f y ++ c ∷ []) (take n xs) → take (end - 1) out ≡ join_with_byte c (map f xs)
-take_joined end n c out f [] some all within h = absurd (omega arith)
-take_joined end n c out f (x ∷ xs) some all within h =
+pub take_joined : (end c : ℕ) (out : List ℕ) (f : List ℕ → List ℕ) (xs : List (List ℕ)) → 0 < length xs
+    → end ≤ length out → take end out ≡ flat_map (λ y. f y ++ c ∷ []) xs
+    → take (end - 1) out ≡ join_with_byte c (map f xs)
+take_joined end c out f [] some within h = absurd (omega arith)
+take_joined end c out f (x ∷ xs) some within h =
     let joined = join_with_byte c (map f (x ∷ xs)) in
     let whole : take end out ≡ joined ++ c ∷ [] =
-    h ∙ ap (flat_map (λ y. f y ++ c ∷ [])) (take_all n (x ∷ xs) all) ∙ flat_map-joined c f x xs in
+    h ∙ flat_map-joined c f x xs in
     let long : end ≡ length joined + 1 =
     sym (length-take-le end out within) ∙ ap length whole ∙ length-append joined (c ∷ []) in
     let short : end - 1 ≡ length joined = omega (arith, long) in

@@ -1,8 +1,6 @@
--- The files of lemmas: lines and words, the words of a command, and the answers.
+-- The files of lemmas: lines and words, blocks, and what a part of the work has done.
 pub mod Lines
-pub mod CommandNames
 pub mod OnLiterals
-pub mod RequestWords
 pub mod OperandBytes
 pub mod Blocks
-pub mod Answers
+pub mod Progress

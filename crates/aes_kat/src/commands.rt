@@ -42,7 +42,7 @@ impl Command {
     }
 
     // The command of this name.
-    #[tactic(auto, using(crate::proofs::CommandNames::named_nowhere))]
+    #[tactic(auto, unfolding(crate::specs::Reply::first_named))]
     pub(crate) fn named(name: &[u8]) -> Option<Command>
         ensures { result ≡ command_of name.now }
     {

@@ -35,6 +35,7 @@ pub(crate) fn write_joined(blocks: &[Block], out: &mut ReplyBuffer) -> usize
 }
 
 // Writes blocks at the front of `out`, one space between, and returns where they end.
+#[tactic(auto, using(crate::proofs::Blocks::take_joined, std::proofs::lemmas::Grind::common_steps))]
 pub(crate) fn write_spaced(blocks: &[Block], out: &mut ReplyBuffer) -> usize
     requires some { 0 < length blocks.now }
     requires few { length blocks.now ≤ 15 }

@@ -107,6 +107,7 @@ fn feed<A: Allocator, W: Write>(
 }
 
 // Answers what follows the last line end of the input.
+#[tactic(auto, using(crate::proofs::Progress::rest_calls))]
 fn answer_rest<A: Allocator>(line: &[u8], answers: &mut Vec<u8, A>) -> Result<bool, Failed>
     requires { Lacks 10 line.now }
     ensures text { OnOk result (answers.new.items ≡ answers.old.items ++ answers_to line.now) }

@@ -10,6 +10,7 @@ ghost use Rattle.aes_kat.specs.Reply.{reply_to, is_fault, is_key_size, is_size_o
 use aes_planes::examples;
 
 /// Appendix C.1: its block encrypted, and decrypted again.
+#[tactic(auto, unfolding(crate::proofs::OnLiterals::replies_on_literals))]
 pub fn cipher_replies()
     ensures enc { reply_to (codes "enc 000102030405060708090a0b0c0d0e0f 00112233445566778899aabbccddeeff")
         ≡ codes "69c4e0d86a7b0430d8cdb78070b4c55a" }
@@ -22,6 +23,7 @@ pub fn cipher_replies()
 }
 
 /// Appendix C.1: round 1 of the cipher and of the equivalent inverse cipher, and the column mixing of both.
+#[tactic(auto, unfolding(crate::proofs::OnLiterals::replies_on_literals))]
 pub fn round_replies()
     ensures round { reply_to (codes "round 00102030405060708090a0b0c0d0e0f0 d6aa74fdd2af72fadaa678f1d6ab76fe")
         ≡ codes "89d810e8855ace682d1843d8cb128fe4" }
@@ -36,6 +38,7 @@ pub fn round_replies()
 }
 
 /// Appendix A.1: the expansion of its key.
+#[tactic(auto, unfolding(crate::proofs::OnLiterals::replies_on_literals))]
 pub fn schedule_reply()
     ensures { reply_to (codes "sched 2b7e151628aed2a6abf7158809cf4f3c") ≡ codes "2b7e151628aed2a6abf7158809cf4f3c"
         ++ codes " a0fafe1788542cb123a339392a6c7605 f2c295f27a96b9435935807a7359f67f 3d80477d4716fe3e1e237e446d7a883b"

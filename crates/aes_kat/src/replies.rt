@@ -122,7 +122,7 @@ fn answer_asked(asked: &Request<'_>, out: &mut ReplyBuffer) -> Result<usize, Fau
 }
 
 // Writes the answer to a line at the front of `out`.
-#[tactic(auto, using(crate::proofs::RequestWords::not_asked))]
+#[tactic(auto, unfolding(crate::specs::Reply::outcome_of))]
 fn answer(line: &[u8], out: &mut ReplyBuffer) -> Result<usize, Fault>
     ensures { IsWritten (outcome_of line.now) result out.new }
 {
@@ -136,7 +136,7 @@ fn answer(line: &[u8], out: &mut ReplyBuffer) -> Result<usize, Fault>
 /// Writes the reply to a line, without its line end, at the front of `out`, which is as long as the longest reply.
 ///
 /// Returns the length of the reply, and whether it reports a fault.
-#[tactic(auto, using(crate::proofs::RequestWords::answer_calls))]
+#[tactic(auto, unfolding(crate::specs::Reply::reply_to, crate::specs::Reply::is_fault))]
 pub fn reply(line: &[u8], out: &mut [u8; 2048]) -> (usize, bool)
     ensures fits { result.0 ≤ 2048 }
     ensures text { take result.0 out.new ≡ reply_to line.now }

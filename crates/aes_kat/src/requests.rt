@@ -30,6 +30,7 @@ fn first_word(text: &[u8]) -> (&[u8], Option<&[u8]>)
 }
 
 // What a line asks for.
+#[tactic(auto, using(crate::proofs::Lines::words_after_some), unfolding(crate::specs::Reply::request_of))]
 pub(crate) fn parse(line: &[u8]) -> Result<Request<'_>, Fault>
     ensures { MatchResult result
         (λ asked. request_of (words_of line.now) ≡

@@ -3,7 +3,7 @@ ghost use Rattle.std.specs.Prelude.{◌≡◌, ◌∷◌, ◌++◌, MatchOption}
 ghost use Rattle.aes_kat.specs.Lines.{Lacks};
 
 // The bytes before the first `separator` and those after it, or `None` if there is none.
-#[tactic(auto, using(crate::proofs::Lines::lacks_more, crate::proofs::Lines::lacks_all))]
+#[tactic(auto, using(crate::proofs::Lines::split_calls))]
 pub(crate) fn split_once(text: &[u8], separator: u8) -> Option<(&[u8], &[u8])>
     ensures { MatchOption result (Lacks separator text.now)
         (λ parts. (text.now ≡ parts.0.now ++ separator ∷ parts.1.now) × Lacks separator parts.0.now) }

@@ -30,10 +30,20 @@ abbrev pub due : (List ℕ → List ℕ) → ℕ → List ℕ → List ℕ
 due used zero key = key
 due used (suc i) key = used key
 
--- the first n round keys of a list stand in their places
-abbrev pub Before : Bool → (ℕ → ℕ) → (List ℕ → List ℕ) → List (List ℕ) → List (List ℕ) → ℕ → ℕ → Type 0
-Before backward inner used stored w last n =
-    (k : ℕ) → k < n → map (kind inner k) (get_or stored (place_of backward last k) []) ≡ due used k (fips.round_key w k)
+kind_inner : (inner : ℕ → ℕ) (i : ℕ) → 1 ≤ i → kind inner i ≡ inner
+kind_inner inner zero some = absurd (omega arith)
+kind_inner inner (suc i) some = refl
+
+due_inner : (used : List ℕ → List ℕ) (i : ℕ) → 1 ≤ i → due used i ≡ used
+due_inner used zero some = absurd (omega arith)
+due_inner used (suc i) some = refl
+
+-- the first n round keys of a list stand in their places, and there are places for the others
+pub record Before (backward : Bool) (inner : ℕ → ℕ) (used : List ℕ → List ℕ) (stored w : List (List ℕ)) (last n : ℕ)
+    : Type 0 where
+  pub sized : length stored ≡ last + 1
+  pub each : (k : ℕ) → k < n → map (kind inner k) (get_or stored (place_of backward last k) [])
+      ≡ due used k (fips.round_key w k)
 
 -- the new one is at its place
 put_same : (stored : List (List ℕ)) (i j : ℕ) (v : List ℕ) → j < length stored → j ≡ i → get_or (set stored j v) i []
@@ -51,7 +61,9 @@ module _ (backward : Bool) (inner : ℕ → ℕ) (used : List ℕ → List ℕ) 
 
   put_one : (i j n : ℕ) (v : List ℕ) → length stored ≡ last + 1 → i ≤ last → j ≡ place_of backward last i → n ≡ i + 1
       → map (kind inner i) v ≡ due used i (fips.round_key w i)
-      → Before backward inner used stored w last i → Before backward inner used (set stored j v) w last n
+      → ((k : ℕ) → k < i → map (kind inner k) (get_or stored (place_of backward last k) [])
+      ≡ due used k (fips.round_key w k))
+      → Before backward inner used (set stored j v) w last n
   put_one i j n v l fits e m is before =
       let room : j < length stored = omega (arith, place_within backward last i fits, e, l) in
       let more : (k : ℕ) → k < i + 1 → map (kind inner k) (get_or (set stored j v) (place_of backward last k) [])
@@ -59,7 +71,7 @@ module _ (backward : Bool) (inner : ℕ → ℕ) (used : List ℕ → List ℕ) 
       below_more _ _
       (λ k h. ap (map (kind inner k)) (put_other i j k v fits h e) ∙ before k h)
       (ap (map (kind inner i)) (put_same stored (place_of backward last i) j v room e) ∙ is) in
-      λ k h. more k (omega arith)
+      record { sized = omega (arith, length-set stored j v, l); each = λ k h. more k (omega arith) }
 
   -- the first
   pub put_first : (j : ℕ) (v : List ℕ) → length stored ≡ last + 1 → j ≡ place_of backward last 0 → v
@@ -67,42 +79,36 @@ module _ (backward : Bool) (inner : ℕ → ℕ) (used : List ℕ → List ℕ) 
       → Before backward inner used (set stored j v) w last 1
   put_first j v l e is = put_one 0 j 1 v l (omega arith) e refl (map-id v ∙ is) (λ k lt. absurd (omega arith))
 
-  kind_inner : (i : ℕ) → 1 ≤ i → kind inner i ≡ inner
-  kind_inner zero some = absurd (omega arith)
-  kind_inner (suc i) some = refl
-
-  due_inner : (i : ℕ) → 1 ≤ i → due used i ≡ used
-  due_inner zero some = absurd (omega arith)
-  due_inner (suc i) some = refl
-
+module _ {backward : Bool} {inner : ℕ → ℕ} {used : List ℕ → List ℕ} {stored w : List (List ℕ)} {last i : ℕ} where
   -- one more between the first and the last
-  pub put_inner : (i j n : ℕ) (v : List ℕ) → length stored ≡ last + 1 → 1 ≤ i → i ≤ last → j ≡ place_of backward last i
-      → n ≡ i + 1
-      → map inner v ≡ used (fips.round_key w i)
-      → Before backward inner used stored w last i → Before backward inner used (set stored j v) w last n
-  put_inner i j n v l some fits e m is before =
-      put_one i j n v l fits e m
-      (ap (λ f. map f v) (kind_inner i some) ∙ is ∙ ap (λ f. f (fips.round_key w i)) (sym (due_inner i some))) before
+  pub put_inner : Before backward inner used stored w last i → (j n : ℕ) (v x : List ℕ) → 1 ≤ i → i ≤ last
+      → j ≡ place_of backward last i → n ≡ i + 1 → map inner v ≡ used x → x ≡ fips.round_key w i
+      → Before backward inner used (set stored j v) w last n
+  put_inner before j n v x some fits e m is same =
+      put_one backward inner used stored w last i j n v before.sized fits e m
+      (ap (λ f. map f v) (kind_inner inner i some) ∙ is ∙ ap used same
+      ∙ ap (λ f. f (fips.round_key w i)) (sym (due_inner used i some))) before.each
 
   -- and the last
-  pub put_last : (j : ℕ) (v : List ℕ) → 1 ≤ last → length stored ≡ last + 1 → length w ≡ last + 1 → j
-      ≡ place_of backward last last
-      → map plus63 v ≡ fips.round_key w last → Before backward inner used stored w last last
+  pub put_last : Before backward inner used stored w last i → (j : ℕ) (v : List ℕ) → 1 ≤ last → last ≤ i
+      → length w ≡ last + 1 → j ≡ place_of backward last last → map plus63 v ≡ fips.round_key w last
       → AreWritten backward inner used w (set stored j v)
-  put_last j v some l m e is before =
+  put_last before j v some end m e is =
+      let l = before.sized in
       let n : last ≡ fips.last_round w = omega (arith, m) in
       let room : j < length stored = omega (arith, place_within backward last last (omega arith), e, l) in
       let s = set stored j v in
       record {
         same_length = omega (arith, length-set stored j v, l, m);
-        first = ap (λ p. fips.round_key s (place_of backward p 0)) (sym n) ∙ put_other last j 0 v (omega arith) some e
-            ∙ sym (map-id _) ∙ before 0 some;
-        between = λ i low high.
-            let below : i < last = omega (arith, high, n) in
-            ap (λ p. map inner (fips.round_key s (place_of backward p i))) (sym n)
-            ∙ ap (map inner) (put_other last j i v (omega arith) below e)
-            ∙ ap (λ f. map f (fips.round_key stored (place_of backward last i))) (sym (kind_inner i low))
-            ∙ before i below ∙ ap (λ f. f (fips.round_key w i)) (due_inner i low);
+        first = ap (λ p. fips.round_key s (place_of backward p 0)) (sym n)
+            ∙ put_other backward inner used stored w last last j 0 v (omega arith) some e
+            ∙ sym (map-id _) ∙ before.each 0 (omega arith);
+        between = λ k low high.
+            let below : k < last = omega (arith, high, n) in
+            ap (λ p. map inner (fips.round_key s (place_of backward p k))) (sym n)
+            ∙ ap (map inner) (put_other backward inner used stored w last last j k v (omega arith) below e)
+            ∙ ap (λ f. map f (fips.round_key stored (place_of backward last k))) (sym (kind_inner inner k low))
+            ∙ before.each k (omega arith) ∙ ap (λ f. f (fips.round_key w k)) (due_inner used k low);
         last = ap (λ p. map plus63 (fips.round_key s (place_of backward p p))) (sym n)
             ∙ ap (map plus63) (put_same stored (place_of backward last last) j v room e) ∙ is ∙ ap (fips.round_key w) n;
       }

@@ -3,16 +3,16 @@ use Rattle.std.proofs.Common.{◌≡◌, ℕ, true, bit_xor, List, [], ◌∷◌
 use Rattle.std.specs.List.{list_all}
 use Rattle.std.proofs.lemmas.Simd.{zip2-map}
 use lib.Lanes.{zip2}
-use Rattle.aes_planes.specs.Fips197.{IsBytes}
+use Rattle.aes_planes.specs.Fips197.{IsBlock}
 use Rattle.aes_planes.proofs.Bits.ByteCases.{all_below}
 use Rattle.aes_permute.specs.Lookup.{looked, is_place, low_nibble, high_nibble, Places, Nibbles}
-use Rattle.aes_permute.specs.Inverse.{first_place, second_place, first_of, second_of}
+use Rattle.aes_permute.specs.Inverse.{first_place, second_place, first_of, second_of, at_places}
 use Rattle.aes_permute.specs.declared.tables.TheConstants.{INVERSE, SCALED_INVERSE}
-use Rattle.aes_permute.proofs.Lookups.{each_passes, pairs_pass}
+use Rattle.aes_permute.proofs.Lookups.{each_passes, pairs_pass, nibbles_are_places, low_is, high_is}
 
 -- ---- what the look-ups make
 
-pub zip_of_maps : (f : ℕ → ℕ → ℕ) (g h : ℕ → ℕ) (xs ys : List ℕ) → zip2 f (map g xs) (map h ys)
+zip_of_maps : (f : ℕ → ℕ → ℕ) (g h : ℕ → ℕ) (xs ys : List ℕ) → zip2 f (map g xs) (map h ys)
     ≡ zip2 (λ x y. f (g x) (h y)) xs ys
 zip_of_maps f g h [] ys = refl
 zip_of_maps f g h (x ∷ xs) [] = refl
@@ -82,6 +82,10 @@ over_both_places h l p q =
     ∙ pairs_pass is_place (λ x y. bit_xor (looked INVERSE (bit_xor x y)) (looked SCALED_INVERSE y)) over_both_cases h l
     p q
 
+-- what the inverse by halves takes
+pub ruleset inverse_lookups =
+    (nibbles_are_places, both_places, over_high_places, over_both_places, firsts_are, seconds_are)
+
 -- ---- the places of bytes
 
 first_cases : all_below 256 (λ b. is_place (first_of b)) ≡ true
@@ -92,17 +96,25 @@ second_cases : all_below 256 (λ b. is_place (second_of b)) ≡ true
 unfolding all_below is_place second_of
 second_cases = refl
 
-pub first_places : (x s : List ℕ) → IsBytes x → s ≡ map first_of x → Places s
-first_places x s h e = ap (list_all is_place) e ∙ each_passes is_place first_of first_cases x h
+pub first_places : (x : List ℕ) → IsBlock x → Places (map first_of x)
+first_places x h = each_passes is_place first_of first_cases x h.1
 
-pub second_places : (x s : List ℕ) → IsBytes x → s ≡ map second_of x → Places s
-second_places x s h e = ap (list_all is_place) e ∙ each_passes is_place second_of second_cases x h
+pub second_places : (x : List ℕ) → IsBlock x → Places (map second_of x)
+second_places x h = each_passes is_place second_of second_cases x h.1
 
-pub firsts_of : (x h l : List ℕ) → h ≡ map high_nibble x → l ≡ map low_nibble x → zip2 first_place h l ≡ map first_of x
+pub firsts_of : (x : List ℕ) → zip2 first_place (map high_nibble x) (map low_nibble x) ≡ map first_of x
 unfolding first_of
-firsts_of x h l a b = (λ i. zip2 first_place (a i) (b i)) ∙ zip2-map first_place high_nibble low_nibble x
+firsts_of x = zip2-map first_place high_nibble low_nibble x
 
-pub seconds_of : (x h l : List ℕ) → h ≡ map high_nibble x → l ≡ map low_nibble x → zip2 second_place h l
-    ≡ map second_of x
+pub seconds_of : (x : List ℕ) → zip2 second_place (map high_nibble x) (map low_nibble x) ≡ map second_of x
 unfolding second_of
-seconds_of x h l a b = (λ i. zip2 second_place (a i) (b i)) ∙ zip2-map second_place high_nibble low_nibble x
+seconds_of x = zip2-map second_place high_nibble low_nibble x
+
+-- what the places of bytes take
+pub ruleset places_of_bytes = (low_is, high_is, firsts_of, seconds_of, first_places, second_places)
+
+-- ---- what is looked up at two places
+
+pub places_looked_up : (t u xs ys : List ℕ)
+    → zip2 bit_xor (map (looked t) xs) (map (looked u) ys) ≡ zip2 (at_places t u) xs ys
+places_looked_up t u xs ys = zip_of_maps bit_xor (looked t) (looked u) xs ys

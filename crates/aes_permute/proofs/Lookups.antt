@@ -1,22 +1,26 @@
 -- Look-ups lane by lane.
-use Rattle.std.proofs.Common.{◌≡◌, ℕ, suc, ◌+◌, ◌*◌, ◌/◌, ◌^◌, ◌≤◌, Bool, true, false, ◌&&◌, ◌||◌, ◌==◌, nat_le, nat_lt}
-use Rattle.std.proofs.Common.{cond, bit_and, List, [], ◌∷◌, length, map, get_or, replicate, refl, ap, ◌∙◌, arith, w8, T}
+use Rattle.std.proofs.Common.{◌≡◌, ℕ, suc, ◌+◌, ◌*◌, ◌/◌, ◌^◌, ◌<◌, ◌≤◌, Bool, true, false, ◌&&◌, ◌||◌, ◌==◌, nat_le}
+use Rattle.std.proofs.Common.{nat_lt, cond, bit_and, bit_xor, List, [], ◌∷◌, length, map, get_or, replicate, refl, ap}
+use Rattle.std.proofs.Common.{◌∙◌, arith, w8, T}
 use Rattle.std.specs.List.{list_all}
 use Rattle.std.proofs.lemmas.Bool.{and_parts, eqb-true, ltb-true}
-use Rattle.std.proofs.lemmas.Simd.{swz_l, SwzOk, zip2_splat}
+use Rattle.std.proofs.lemmas.Simd.{swz_l, SwzOk, map-map, zip2_of_maps, zip2_splat}
 use lib.Lanes.{zip2}
 use Rattle.aes_planes.specs.Fips197.{IsBytes, IsBlock}
 use Rattle.aes_planes.proofs.Bits.ByteCases.{all_below, all_below_tells}
-use Rattle.aes_permute.specs.Lookup.{looked, is_place, low_nibble, high_nibble, Places, Nibbles}
+use Rattle.aes_permute.specs.Lookup.{looked, is_place, low_nibble, high_nibble, by_nibbles, Places, Nibbles}
 
 -- ---- one table, at all lanes
 
-pub looked_lanes : (xs js : List ℕ) (i : ℕ) → i + length js ≤ 16 → swz_l w8 16 xs i js ≡ map (looked xs) js
-looked_lanes xs [] i h = refl
-looked_lanes xs (j ∷ js) i h =
+looked_from : (xs js : List ℕ) (i : ℕ) → i + length js ≤ 16 → swz_l w8 16 xs i js ≡ map (looked xs) js
+looked_from xs [] i h = refl
+looked_from xs (j ∷ js) i h =
     let e : 16 * (i / 16) + j ≡ j = omega arith in
-    let t = looked_lanes xs js (suc i) (omega arith) in
+    let t = looked_from xs js (suc i) (omega arith) in
     λ k. cond (nat_le 128 j) 0 (get_or xs (e k) 0) ∷ t k
+
+pub looked_lanes : (xs js : List ℕ) → length js ≡ 16 → swz_l w8 16 xs 0 js ≡ map (looked xs) js
+looked_lanes xs js l = looked_from xs js 0 (omega arith)
 
 place_ok : (j o : ℕ) → o ≡ j → (nat_le 128 j || nat_lt j 16) ≡ true → T (nat_le 128 j || (nat_lt j 16 && nat_lt o 16))
 place_ok j o e h = go (nat_le 128 j) (nat_lt j 16) (nat_lt o 16) (ap (λ v. nat_lt v 16) e) h
@@ -27,12 +31,15 @@ place_ok j o e h = go (nat_le 128 j) (nat_lt j 16) (nat_lt o 16) (ap (λ v. nat_
     go false true false s h = absurd (grind (arith, s))
     go false false c s h = absurd (grind (arith, h))
 
-pub places_ok : (js : List ℕ) (i : ℕ) → i + length js ≤ 16 → Places js → SwzOk w8 16 16 i js
+places_from : (js : List ℕ) (i : ℕ) → i + length js ≤ 16 → Places js → SwzOk w8 16 16 i js
 unfolding is_place
-places_ok [] i h p = tt
-places_ok (j ∷ js) i h p =
+places_from [] i h p = tt
+places_from (j ∷ js) i h p =
     let both = and_parts (is_place j) (list_all is_place js) p in
-    (place_ok j (16 * (i / 16) + j) (omega arith) both.0, places_ok js (suc i) (omega arith) both.1)
+    (place_ok j (16 * (i / 16) + j) (omega arith) both.0, places_from js (suc i) (omega arith) both.1)
+
+pub places_ok : (js : List ℕ) → length js ≡ 16 → Places js → SwzOk w8 16 16 0 js
+places_ok js l p = places_from js 0 (omega arith) p
 
 -- ---- tests on all bytes and on all nibbles
 
@@ -45,12 +52,13 @@ each_passes p f t (x ∷ xs) h =
     (λ k. e k && list_all p (map f xs)) ∙ each_passes p f t xs (λ i. h (suc i))
 
 -- two functions that agree on bytes
+pub maps_agree : (f g : ℕ → ℕ) → ((b : ℕ) → b < 256 → f b ≡ g b) → (xs : List ℕ) → IsBytes xs → map f xs ≡ map g xs
+maps_agree f g e [] h = refl
+maps_agree f g e (x ∷ xs) h = λ i. e x (h 0) i ∷ maps_agree f g e xs (λ j. h (suc j)) i
+
 pub maps_same : (f g : ℕ → ℕ) → all_below 256 (λ b. f b == g b) ≡ true → (xs : List ℕ) → IsBytes xs → map f xs
     ≡ map g xs
-maps_same f g t [] h = refl
-maps_same f g t (x ∷ xs) h =
-    let e : f x ≡ g x = eqb-true _ _ (all_below_tells 256 (λ b. f b == g b) t x (h 0)) in
-    λ i. e i ∷ maps_same f g t xs (λ j. h (suc j)) i
+maps_same f g t xs h = maps_agree f g (λ b l. eqb-true _ _ (all_below_tells 256 (λ b. f b == g b) t b l)) xs h
 
 nibble_places : all_below 16 is_place ≡ true
 unfolding all_below is_place
@@ -100,8 +108,18 @@ high_is_nibble : all_below 256 (λ b. nat_lt (high_nibble b) 16) ≡ true
 unfolding all_below
 high_is_nibble = refl
 
-pub low_is : (x s : List ℕ) → IsBytes x → s ≡ map low_nibble x → Nibbles s
-low_is x s h e = ap (list_all (λ k. nat_lt k 16)) e ∙ each_passes (λ k. nat_lt k 16) low_nibble low_is_nibble x h
+pub low_is : (x : List ℕ) → IsBlock x → Nibbles (map low_nibble x)
+low_is x h = each_passes (λ k. nat_lt k 16) low_nibble low_is_nibble x h.1
 
-pub high_is : (x s : List ℕ) → IsBytes x → s ≡ map high_nibble x → Nibbles s
-high_is x s h e = ap (list_all (λ k. nat_lt k 16)) e ∙ each_passes (λ k. nat_lt k 16) high_nibble high_is_nibble x h
+pub high_is : (x : List ℕ) → IsBlock x → Nibbles (map high_nibble x)
+high_is x h = each_passes (λ k. nat_lt k 16) high_nibble high_is_nibble x h.1
+
+-- two tables, each read at one of the nibbles
+pub nibbles_looked_up : (t u x : List ℕ)
+    → zip2 bit_xor (map (looked t) (map low_nibble x)) (map (looked u) (map high_nibble x)) ≡ map (by_nibbles t u) x
+nibbles_looked_up t u x =
+    zip2_of_maps bit_xor (λ b. looked t (low_nibble b)) (λ b. looked u (high_nibble b)) x
+    (map-map (looked t) low_nibble x) (map-map (looked u) high_nibble x)
+
+-- what look-ups by nibbles take
+pub ruleset nibble_lookups = (nibbles_are_places, low_is, high_is, nibbles_looked_up)

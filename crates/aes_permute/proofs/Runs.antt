@@ -1,4 +1,4 @@
--- Slices worked two elements at a time.
+-- Slices processed two elements at a time.
 use Rattle.std.proofs.Common.{◌≡◌, ◌≢◌, ℕ, ◌+◌, ◌<◌, ◌≤◌, List, ◌++◌, length, map, take, set, get_or, ap, sym, ◌∙◌}
 use Rattle.std.proofs.Common.{arith, get_or-set_other}
 use Rattle.std.proofs.lemmas.List.{take_all, drop_all, append-nil, length-set}

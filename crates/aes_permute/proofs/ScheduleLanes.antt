@@ -4,7 +4,7 @@ use Rattle.std.proofs.Common.{◌∷◌, ◌++◌, length, map, map-id, get_or, 
 use Rattle.std.proofs.lemmas.Bool.{and_parts, eqb-true}
 use Rattle.std.proofs.lemmas.Simd.{map-map, zip2_splat}
 use lib.Lanes.{zip2, pick_l}
-use Rattle.aes_planes.specs.Fips197.{field_add, byte_at, build, state, add_round_key, IsBytes}
+use Rattle.aes_planes.specs.Fips197.{field_add, byte_at, build, state, add_round_key, IsBlock}
 use Rattle.aes_planes.specs.Planes.{plus63, constant_block, summed, columns_summed, columns_straddled}
 use Rattle.aes_planes.proofs.Bits.ByteCases.{all_below, all_below_tells, by_four}
 use Rattle.aes_planes.proofs.Lists.Built.{built}
@@ -12,10 +12,12 @@ use Rattle.aes_planes.proofs.Standard.FieldLaws.{add_zero, add_twice, add_swap}
 use Rattle.std.specs.Int.Bits.{xor_assoc}
 use Rattle.std.proofs.lemmas.Nat.{xor_comm}
 use Rattle.aes_planes.proofs.Standard.States.{state_same}
+use Rattle.aes_planes.proofs.Standard.Steps.{map_length}
 use Rattle.aes_permute.specs.Lookup.{looked, by_nibbles}
 use Rattle.aes_permute.specs.Stored.{key_untower}
 use Rattle.aes_permute.specs.declared.tables.TheConstants.{TOWER_LOW, TOWER_HIGH, UNTOWER_LOW, UNTOWER_HIGH}
 use Rattle.aes_permute.specs.declared.schedule.TheConstants.{FIRST_ROW, COLUMN_BEFORE, TWO_COLUMNS_BEFORE}
+use Rattle.aes_permute.proofs.Linear.{same_on_block, same_on_blocks}
 use Rattle.aes_permute.proofs.Lookups.{maps_same}
 use Rattle.aes_permute.proofs.RoundLanes.{swizzled}
 
@@ -62,10 +64,8 @@ columns_are : (x s a : List ℕ) → length x ≡ 16 → length s ≡ 16 → len
 unfolding state build
 columns_are x s a l m n =
     subst (λ v. columns_of v s a ≡ coded_state v s a) (built 16 x 0 l)
-    (subst (λ v. columns_of (build 16 (λ i. get_or x i 0)) v a ≡ coded_state (build 16 (λ i. get_or x i 0)) v a)
-    (built 16 s 0 m)
-    (subst (λ v. columns_of (build 16 (λ i. get_or x i 0)) (build 16 (λ i. get_or s i 0)) v
-    ≡ coded_state (build 16 (λ i. get_or x i 0)) (build 16 (λ i. get_or s i 0)) v) (built 16 a 0 n) refl))
+    (same_on_blocks (columns_of (build 16 (λ i. get_or x i 0))) (coded_state (build 16 (λ i. get_or x i 0)))
+    (λ f g. refl) s a m n)
 
 pub summed_is : (x s a p q : List ℕ) → length x ≡ 16 → length s ≡ 16 → length a ≡ 16 → p ≡ pairs_of x → q ≡ sums_of p
     → zip2 bit_xor (zip2 bit_xor q a) s
@@ -132,17 +132,16 @@ rotated_state : (x y : List ℕ) (k : ℕ) → length y ≡ 16
     → from_start x (swizzled (map plus63 y) rotated_column) (addend_of k)
     ≡ state (λ r c. summed field_add (byte_at x r) (started y k r) c)
 unfolding state build
-rotated_state x y k l =
-    subst (λ v. from_start x (swizzled (map plus63 v) rotated_column) (addend_of k)
-    ≡ state (λ r c. summed field_add (byte_at x r) (started v k r) c)) (built 16 y 0 l) refl
+rotated_state x y k = same_on_block (λ y. from_start x (swizzled (map plus63 y) rotated_column) (addend_of k))
+    (λ y. state (λ r c. summed field_add (byte_at x r) (started y k r) c)) (λ f. refl) y
 
 rotated_sums : (x y : List ℕ) (k : ℕ) → length y ≡ 16
     → state (λ r c. summed field_add (byte_at x r) (bit_xor (byte_at y ((r + 1) % 4) 3) (cond (r == 0) k 0)) c)
     ≡ columns_summed 1 3 x (add_round_key y (constant_block k))
 unfolding state build columns_summed add_round_key constant_block
-rotated_sums x y k l =
-    subst (λ v. state (λ r c. summed field_add (byte_at x r) (bit_xor (byte_at v ((r + 1) % 4) 3) (cond (r == 0) k 0))
-    c) ≡ columns_summed 1 3 x (add_round_key v (constant_block k))) (built 16 y 0 l) refl
+rotated_sums x y k = same_on_block (λ y. state (λ r c. summed field_add (byte_at x r)
+    (bit_xor (byte_at y ((r + 1) % 4) 3) (cond (r == 0) k 0)) c))
+    (λ y. columns_summed 1 3 x (add_round_key y (constant_block k))) (λ f. refl) y
 
 summed_from : (x : ℕ → ℕ) (s t c : ℕ) → s ≡ t → summed field_add x s c ≡ summed field_add x t c
 summed_from x s t c e = ap (λ v. summed field_add x v c) e
@@ -160,10 +159,8 @@ substituted_state : (x y : List ℕ) → length y ≡ 16
     → from_start x (swizzled (map plus63 y) last_column) (replicate 16 0x63)
     ≡ state (λ r c. summed field_add (byte_at x r) (plus63 (plus63 (byte_at y ((r + 0) % 4) 3))) c)
 unfolding state build
-substituted_state x y l =
-    subst (λ v. from_start x (swizzled (map plus63 v) last_column) (replicate 16 0x63)
-    ≡ state (λ r c. summed field_add (byte_at x r) (plus63 (plus63 (byte_at v ((r + 0) % 4) 3))) c))
-    (built 16 y 0 l) refl
+substituted_state x y = same_on_block (λ y. from_start x (swizzled (map plus63 y) last_column) (replicate 16 0x63))
+    (λ y. state (λ r c. summed field_add (byte_at x r) (plus63 (plus63 (byte_at y ((r + 0) % 4) 3))) c)) (λ f. refl) y
 
 pub substituted_is : (x y p z : List ℕ) → length y ≡ 16 → p ≡ map plus63 y → z ≡ from_start x (swizzled p last_column)
     (replicate 16 0x63)
@@ -177,9 +174,8 @@ plain_state : (x y : List ℕ) → length y ≡ 16
     → from_start x (swizzled y second_column) (replicate 16 0)
     ≡ state (λ r c. summed field_add (byte_at x r) (bit_xor (byte_at y ((r + 0) % 4) 1) 0) c)
 unfolding state build
-plain_state x y l =
-    subst (λ v. from_start x (swizzled v second_column) (replicate 16 0)
-    ≡ state (λ r c. summed field_add (byte_at x r) (bit_xor (byte_at v ((r + 0) % 4) 1) 0) c)) (built 16 y 0 l) refl
+plain_state x y = same_on_block (λ y. from_start x (swizzled y second_column) (replicate 16 0))
+    (λ y. state (λ r c. summed field_add (byte_at x r) (bit_xor (byte_at y ((r + 0) % 4) 1) 0) c)) (λ f. refl) y
 
 pub plain_is : (x y z : List ℕ) → length y ≡ 16 → z ≡ from_start x (swizzled y second_column) (replicate 16 0) → z
     ≡ columns_summed 0 1 x y
@@ -195,10 +191,7 @@ straddling = 8 ∷ 9 ∷ 10 ∷ 11 ∷ 12 ∷ 13 ∷ 14 ∷ 15 ∷ 16 ∷ 17 ∷
 
 pub straddled_is : (x y : List ℕ) → length x ≡ 16 → length y ≡ 16 → pick_l 0 (x ++ y) straddling ≡ columns_straddled x y
 unfolding state build columns_straddled
-straddled_is x y l m =
-    subst (λ v. pick_l 0 (v ++ y) straddling ≡ columns_straddled v y) (built 16 x 0 l)
-    (subst (λ w. pick_l 0 (build 16 (λ i. get_or x i 0) ++ w) straddling
-    ≡ columns_straddled (build 16 (λ i. get_or x i 0)) w) (built 16 y 0 m) refl)
+straddled_is = same_on_blocks (λ x y. pick_l 0 (x ++ y) straddling) columns_straddled (λ f g. refl)
 
 -- ---- stored round keys
 
@@ -206,20 +199,21 @@ inner_cases : all_below 256 (λ b. key_untower (bit_xor (by_nibbles TOWER_LOW TO
 unfolding all_below key_untower
 inner_cases = refl
 
-pub inner_is : (x y : List ℕ) → IsBytes x → length y ≡ 16 → y ≡ map (by_nibbles TOWER_LOW TOWER_HIGH) x
-    → map key_untower (zip2 bit_xor y (replicate 16 0x6e)) ≡ x
-inner_is x y h l e =
-    ap (map key_untower) (zip2_splat bit_xor y 16 0x6e l ∙ ap (map (λ v. bit_xor v 0x6e)) e
-    ∙ map-map (λ v. bit_xor v 0x6e) (by_nibbles TOWER_LOW TOWER_HIGH) x)
-    ∙ map-map key_untower (λ b. bit_xor (by_nibbles TOWER_LOW TOWER_HIGH b) 0x6e) x
-    ∙ maps_same (λ b. key_untower (bit_xor (by_nibbles TOWER_LOW TOWER_HIGH b) 0x6e)) (λ b. b) inner_cases x h
-    ∙ map-id x
+pub inner_is : (x : List ℕ) → IsBlock x
+    → map key_untower (zip2 bit_xor (map (by_nibbles TOWER_LOW TOWER_HIGH) x) (replicate 16 0x6e)) ≡ x
+inner_is x h =
+    let f = by_nibbles TOWER_LOW TOWER_HIGH in
+    ap (map key_untower) (zip2_splat bit_xor (map f x) 16 0x6e (map_length f x ∙ h.0)
+    ∙ map-map (λ v. bit_xor v 0x6e) f x)
+    ∙ map-map key_untower (λ b. bit_xor (f b) 0x6e) x
+    ∙ maps_same (λ b. key_untower (bit_xor (f b) 0x6e)) (λ b. b) inner_cases x h.1 ∙ map-id x
 
-pub plain_key_is : (x y : List ℕ) → length y ≡ 16 → y ≡ map (by_nibbles UNTOWER_LOW UNTOWER_HIGH) x
-    → zip2 bit_xor y (replicate 16 0x63) ≡ map key_untower x
+pub plain_key_is : (x : List ℕ) → length x ≡ 16
+    → zip2 bit_xor (map (by_nibbles UNTOWER_LOW UNTOWER_HIGH) x) (replicate 16 0x63) ≡ map key_untower x
 unfolding key_untower
-plain_key_is x y l e =
-    zip2_splat bit_xor y 16 0x63 l ∙ ap (map plus63) e ∙ map-map plus63 (by_nibbles UNTOWER_LOW UNTOWER_HIGH) x
+plain_key_is x l =
+    let f = by_nibbles UNTOWER_LOW UNTOWER_HIGH in
+    zip2_splat bit_xor (map f x) 16 0x63 (map_length f x ∙ l) ∙ map-map plus63 f x
 
 plus63_twice : (x : List ℕ) → map plus63 (map plus63 x) ≡ x
 plus63_twice [] = refl

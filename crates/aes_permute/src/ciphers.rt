@@ -12,7 +12,7 @@ mod text;
 mod under;
 
 use crate::keys::KeySchedule;
-use crate::sizes::KeySize;
+use crate::sizes::AesVariant;
 use aes_cipher::cipher::{InvalidLength, KeyInit, KeySizeUser, RoundKeysUser};
 use aes_cipher::zeroize::ZeroizeOnDrop;
 use aes_planes::laws;
@@ -39,20 +39,21 @@ impl<S: KeySchedule> Model for AesCipher<S> {
 impl<S: KeySchedule> AesCipher<S> {
     /// Wipes the round keys in place, and leaves the value of the zero key.
     pub fn zeroize(&mut self)
-        ensures { self.new ≡ replicate S.Size.SIZE 0 }
+        ensures { self.new ≡ replicate S.Variant.SIZE 0 }
     {
-        self.schedule.rekey(&ZEROS[..<S::Size as KeySize>::SIZE]);
+        self.schedule
+            .rekey(&ZEROS[..<S::Variant as AesVariant>::SIZE]);
     }
 }
 
 impl<S: KeySchedule> KeySizeUser for AesCipher<S> {
-    type Key = <S::Size as KeySize>::Key;
+    type Key = <S::Variant as AesVariant>::Key;
 
-    ghost KEY_SIZE = { S.Size.SIZE };
+    ghost KEY_SIZE = { S.Variant.SIZE };
 
-    ghost key_bytes = { S.Size.bytes };
+    ghost key_bytes = { S.Variant.bytes };
 
-    const KEY_SIZE: usize = <S::Size as KeySize>::SIZE;
+    const KEY_SIZE: usize = <S::Variant as AesVariant>::SIZE;
 }
 
 impl<S: KeySchedule> RoundKeysUser for AesCipher<S> {
@@ -69,14 +70,14 @@ impl<S: KeySchedule> RoundKeysUser for AesCipher<S> {
 impl<S: KeySchedule> KeyInit for AesCipher<S> {
     ghost own_key = { λ key. key };
 
-    fn new(key: &<S::Size as KeySize>::Key) -> AesCipher<S> {
+    fn new(key: &<S::Variant as AesVariant>::Key) -> AesCipher<S> {
         AesCipher {
-            schedule: S::new(<S::Size as KeySize>::lend(key)),
+            schedule: S::new(<S::Variant as AesVariant>::lend(key)),
         }
     }
 
     fn new_from_slice(key: &[u8]) -> Result<AesCipher<S>, InvalidLength> {
-        if key.len() != <S::Size as KeySize>::SIZE {
+        if key.len() != <S::Variant as AesVariant>::SIZE {
             return Err(InvalidLength);
         }
         Ok(AesCipher {

@@ -8,7 +8,7 @@ mod both_ways;
 mod one_way;
 
 use crate::directions::LaneRounds;
-use crate::sizes::KeySize;
+use crate::sizes::AesVariant;
 use aes_planes::soft::word::Block;
 pub use both_ways::BothWays;
 pub use one_way::OneWay;
@@ -16,8 +16,8 @@ pub(crate) use one_way::turned;
 
 /// The stored round keys of a key. Contracts see the key that they are read as.
 pub trait KeySchedule: Drop {
-    /// The size of the key.
-    type Size: KeySize;
+    /// The variant of AES.
+    type Variant: AesVariant;
 
     /// The key that the round keys are read as.
     ghost key: { Self → List ℕ };
@@ -30,13 +30,13 @@ pub trait KeySchedule: Drop {
 
     /// Returns the round keys of a key.
     fn new(bytes: &[u8]) -> Self
-        requires { length bytes.now ≡ Self.Size.SIZE }
+        requires { length bytes.now ≡ Self.Variant.SIZE }
         ensures keyed { AreKeyed result }
         ensures same { key result ≡ bytes.now };
 
     /// Wipes the round keys in place, and replaces them by those of another key.
     fn rekey(&mut self, bytes: &[u8])
-        requires { length bytes.now ≡ Self.Size.SIZE }
+        requires { length bytes.now ≡ Self.Variant.SIZE }
         ensures keyed { AreKeyed self.new }
         ensures same { key self.new ≡ bytes.now };
 
@@ -49,7 +49,7 @@ pub trait KeySchedule: Drop {
     /// No effect; states what proofs need to know of the key.
     fn has_key(&self)
         requires { AreKeyed self.now }
-        ensures sized { length (key self.now) ≡ Self.Size.SIZE }
+        ensures sized { length (key self.now) ≡ Self.Variant.SIZE }
         ensures bytes { fips.IsBytes (key self.now) };
 }
 

@@ -8,6 +8,7 @@ ghost use Rattle.aes_permute.specs.Lookup.{looked, low_nibble, high_nibble, by_n
 use std::simd::prelude::*;
 
 /// Returns the entry of a table at each lane, and 0 at a lane from 128 on.
+#[tactic(auto, using(crate::proofs::Lookups::looked_lanes, crate::proofs::Lookups::places_ok))]
 #[inline(always)]
 pub fn lookup(table: [u8; 16], places: u8x16) -> u8x16
     requires are_places { Places places }
@@ -25,6 +26,7 @@ pub fn sum(x: u8x16, y: u8x16) -> u8x16
 }
 
 /// Returns the low nibble of each lane.
+#[tactic(auto, using(crate::proofs::Lookups::low_nibbles_are))]
 #[inline(always)]
 pub fn low_nibbles(x: u8x16) -> u8x16
     requires block { fips.IsBlock x }
@@ -43,6 +45,7 @@ pub fn high_nibbles(x: u8x16) -> u8x16
 }
 
 /// Returns the sum of what two tables have for the two nibbles of each lane.
+#[tactic(auto, using(crate::proofs::Lookups::nibble_lookups))]
 #[inline(always)]
 pub fn looked_up_by_nibbles(x: u8x16, low: [u8; 16], high: [u8; 16]) -> u8x16
     requires block { fips.IsBlock x }

@@ -14,8 +14,6 @@ pub mod schedule;
 pub mod sizes;
 pub mod stored;
 pub mod tables;
-#[cfg(test)]
-mod tests;
 
 pub use ciphers::{AesCipher, Backend, TwoBlocks};
 pub use names::{

@@ -1,7 +1,8 @@
 //! The rounds of Cipher and EqInvCipher on lanes, and their round keys. States are kept in the tower basis, and round
 //! keys so that the constant of the S-box is added with them.
 
-ghost use Rattle.std.specs.Prelude.{◌≡◌, map};
+ghost use Rattle.std.specs.Prelude.{◌≡◌, map, bit_xor};
+ghost use Rattle.std.specs.Simd.Lanes.{zip2};
 ghost use Rattle.aes_planes.specs.Fips197 as fips;
 ghost use Rattle.aes_planes.specs.Planes.{plus63};
 ghost use Rattle.aes_permute.specs.Stored.{untower, inv_untower, key_untower};
@@ -12,6 +13,7 @@ use crate::tables::*;
 use std::simd::prelude::*;
 
 /// Adds round key 0 to a block, and returns the state of Cipher (FIPS 197, 5.1).
+#[tactic(auto, using(crate::proofs::RoundLanes::first_is))]
 #[inline(always)]
 pub fn encrypt_first(block: u8x16, key: u8x16) -> u8x16
     requires block { fips.IsBlock block }
@@ -52,6 +54,7 @@ pub fn encrypt_last(x: u8x16, key: u8x16) -> u8x16
 }
 
 /// Adds round key 0 of EqInvCipher to a block, and returns the state (FIPS 197, 5.3.5).
+#[tactic(auto, using(crate::proofs::InverseLanes::first_is))]
 #[inline(always)]
 pub fn decrypt_first(block: u8x16, key: u8x16) -> u8x16
     requires block { fips.IsBlock block }
@@ -59,6 +62,17 @@ pub fn decrypt_first(block: u8x16, key: u8x16) -> u8x16
     ensures { map inv_untower result ≡ fips.add_round_key block (map plus63 key) }
 {
     looked_up_by_nibbles(sum(block, key), INV_TOWER_LOW, INV_TOWER_HIGH)
+}
+
+// The products with the coefficients 14, 11 and 13 of InvMixColumns (FIPS 197, 5.3.3), of those with 1, 4, 9 and 15.
+#[inline(always)]
+fn coefficients(by_1: u8x16, by_4: u8x16, by_9: u8x16, by_15: u8x16) -> (u8x16, u8x16, u8x16)
+    ensures by_14 { result.0 ≡ zip2 bit_xor by_1 by_15 }
+    ensures by_11 { result.1 ≡ zip2 bit_xor by_15 by_4 }
+    ensures by_13 { result.2 ≡ zip2 bit_xor by_4 by_9 }
+{
+    // Each product is of use twice. LLVM turns the two look-ups of a sum one by one where nothing else uses the sum.
+    (sum(by_1, by_15), sum(by_15, by_4), sum(by_4, by_9))
 }
 
 /// Runs a round of EqInvCipher that is not the last (FIPS 197, 5.3.5).
@@ -74,10 +88,7 @@ pub fn decrypt_round(x: u8x16, key: u8x16) -> u8x16
     let by_4 = looked_up(at, INV_4_FIRST, INV_4_SECOND);
     let by_9 = looked_up(at, INV_9_FIRST, INV_9_SECOND);
     let by_15 = looked_up(at, INV_15_FIRST, INV_15_SECOND);
-    // Each of these is of use twice. LLVM turns the two look-ups of a sum one by one where nothing else uses the sum.
-    let by_14 = sum(by_1, by_15);
-    let by_11 = sum(by_15, by_4);
-    let by_13 = sum(by_4, by_9);
+    let (by_14, by_11, by_13) = coefficients(by_1, by_4, by_9, by_15);
     let first = by_14.swizzle([0, 13, 10, 7, 4, 1, 14, 11, 8, 5, 2, 15, 12, 9, 6, 3]);
     let second = by_11.swizzle([13, 10, 7, 0, 1, 14, 11, 4, 5, 2, 15, 8, 9, 6, 3, 12]);
     let third = by_13.swizzle([10, 7, 0, 13, 14, 11, 4, 1, 2, 15, 8, 5, 6, 3, 12, 9]);
@@ -97,6 +108,7 @@ pub fn decrypt_last(x: u8x16, key: u8x16) -> u8x16
 }
 
 /// Returns a round key of Cipher between the first and the last as it is stored.
+#[tactic(auto, using(crate::proofs::ScheduleLanes::inner_is))]
 #[inline(always)]
 pub fn encrypt_key(key: u8x16) -> u8x16
     requires { fips.IsBlock key }
@@ -118,9 +130,7 @@ pub fn decrypt_key(key: u8x16) -> u8x16
     let by_4 = looked_up_by_nibbles(key, KEY_4_LOW, KEY_4_HIGH);
     let by_9 = looked_up_by_nibbles(key, KEY_9_LOW, KEY_9_HIGH);
     let by_15 = looked_up_by_nibbles(key, KEY_15_LOW, KEY_15_HIGH);
-    let by_14 = sum(by_1, by_15);
-    let by_11 = sum(by_15, by_4);
-    let by_13 = sum(by_4, by_9);
+    let (by_14, by_11, by_13) = coefficients(by_1, by_4, by_9, by_15);
     let second = by_11.swizzle([1, 2, 3, 0, 5, 6, 7, 4, 9, 10, 11, 8, 13, 14, 15, 12]);
     let third = by_13.swizzle([2, 3, 0, 1, 6, 7, 4, 5, 10, 11, 8, 9, 14, 15, 12, 13]);
     let fourth = by_9.swizzle([3, 0, 1, 2, 7, 4, 5, 6, 11, 8, 9, 10, 15, 12, 13, 14]);
@@ -128,6 +138,7 @@ pub fn decrypt_key(key: u8x16) -> u8x16
 }
 
 // The round key that a stored one of Cipher stands for, between the first and the last.
+#[tactic(auto, using(crate::proofs::ScheduleLanes::plain_key_is))]
 #[inline(always)]
 fn plain_key(stored: u8x16) -> u8x16
     requires { fips.IsBlock stored }
@@ -146,6 +157,7 @@ pub fn inverted_key(stored: u8x16) -> u8x16
 }
 
 /// SubBytes of a block as it is, but for the constant of the S-box (FIPS 197, 5.1.1).
+#[tactic(auto, using(crate::proofs::RoundLanes::sub_bytes_is))]
 #[inline(always)]
 pub fn sub_bytes_but_constant(x: u8x16) -> u8x16
     requires block { fips.IsBlock x }

@@ -21,6 +21,7 @@ pub struct TwoPlaces {
 }
 
 // The places of the inverses of the bytes with these halves in the tower basis.
+#[tactic(auto, using(crate::proofs::Inverses::inverse_lookups))]
 #[inline(always)]
 fn inverted(high: u8x16, low: u8x16) -> TwoPlaces
     requires highs { Nibbles high }
@@ -39,6 +40,7 @@ fn inverted(high: u8x16, low: u8x16) -> TwoPlaces
 }
 
 /// Returns the places of the inverses of bytes in the tower basis.
+#[tactic(auto, using(crate::proofs::Inverses::places_of_bytes))]
 #[inline(always)]
 pub fn places_of(x: u8x16) -> TwoPlaces
     requires block { fips.IsBlock x }
@@ -51,6 +53,7 @@ pub fn places_of(x: u8x16) -> TwoPlaces
 }
 
 /// Returns the sum of the entries of two tables at the places.
+#[tactic(auto, using(crate::proofs::Inverses::places_looked_up))]
 #[inline(always)]
 pub fn looked_up(at: TwoPlaces, first: [u8; 16], second: [u8; 16]) -> u8x16
     requires first_places { Places at.first }

@@ -27,6 +27,7 @@ const TWO_COLUMNS_BEFORE: [u8; 16] = [
 ];
 
 // Each column of the result is the sum of the columns up to it, of `start` there, and of `addend` there.
+#[tactic(auto, unfolding(crate::specs::Lookup::is_place))]
 #[inline(always)]
 fn summed_columns(before: u8x16, start: u8x16, addend: u8x16) -> u8x16
     requires before { length before ≡ 16 }
@@ -87,6 +88,7 @@ fn plain_words(before: u8x16, last: u8x16) -> u8x16
 }
 
 // The last two columns of one block and the first two of the next.
+#[tactic(auto, using(crate::proofs::ScheduleLanes::straddled_is))]
 #[inline(always)]
 fn straddled_columns(left: u8x16, right: u8x16) -> u8x16
     requires left { length left ≡ 16 }
@@ -100,6 +102,7 @@ fn straddled_columns(left: u8x16, right: u8x16) -> u8x16
 }
 
 // The last round key as it is stored, in either direction.
+#[tactic(auto, using(crate::proofs::ScheduleLanes::last_key_is))]
 #[inline(always)]
 fn last_key(x: u8x16) -> Block
     requires { length x ≡ 16 }

@@ -12,8 +12,8 @@ use crate::stored::Stored;
 use aes_cipher::zeroize::Wiped;
 use aes_planes::soft::word::Block;
 
-/// A size of keys.
-pub trait KeySize {
+/// A variant of AES: AES-128, AES-192 or AES-256. It says how round keys are stored.
+pub trait AesVariant {
     /// A key.
     type Key;
 
@@ -63,7 +63,7 @@ pub struct Bits192;
 /// Keys of 32 bytes.
 pub struct Bits256;
 
-impl KeySize for Bits128 {
+impl AesVariant for Bits128 {
     type Key = [u8; 16];
 
     type Keys = Wiped<[Block; 11]>;
@@ -94,7 +94,7 @@ impl KeySize for Bits128 {
     ghost is_size = { record { words = Prim.omega arith; four = Prim.omega arith; eight = Prim.omega arith } };
 }
 
-impl KeySize for Bits192 {
+impl AesVariant for Bits192 {
     type Key = [u8; 24];
 
     type Keys = Wiped<[Block; 13]>;
@@ -125,7 +125,7 @@ impl KeySize for Bits192 {
     ghost is_size = { record { words = Prim.omega arith; four = Prim.omega arith; eight = Prim.omega arith } };
 }
 
-impl KeySize for Bits256 {
+impl AesVariant for Bits256 {
     type Key = [u8; 32];
 
     type Keys = Wiped<[Block; 15]>;

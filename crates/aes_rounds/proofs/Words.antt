@@ -1,10 +1,12 @@
 -- The words of the key expansion.
 use Rattle.std.proofs.Common.{◌≡◌, ◌≢◌, ℕ, suc, ◌+◌, ◌-◌, ◌*◌, ◌<◌, ◌≤◌, nat_lt, List, [], ◌∷◌, ◌++◌, length, get_or}
 use Rattle.std.proofs.Common.{set, take, slice_index, slice_index_or, refl, sym, ap, ◌∙◌, subst, arith, below_more}
+use Rattle.std.specs.Prelude.{⊤}
 use Rattle.std.proofs.Common.{get_or-set_other, get_or-set_same}
 use Rattle.std.proofs.lemmas.Bool.{lt-ltb, le-ltb}
 use Rattle.std.proofs.lemmas.List.{take_more_set, get_or-take}
 use Rattle.aes_planes.specs.Fips197 as fips
+use Rattle.aes_planes.proofs.KeySchedule.AddedWords.{listed_power}
 use Rattle.aes_planes.proofs.Lists.Built.{built, build_is}
 
 -- four equal columns stay four equal columns, so that the first is SubWord
@@ -82,3 +84,10 @@ written_more f xs i v fits is before =
     below_more _ _
     (λ k h. let ne : k ≢ i = omega arith in rw get_or-set_other (before k h))
     (rw get_or-set_same is)
+
+pub ruleset powers = (listed_power)
+
+-- what a lemma unfolds to compute the bytes of a state from its words
+unfoldable pub state_on_words : ⊤
+unfolding fips.state fips.build fips.build_from
+state_on_words = tt

@@ -9,8 +9,6 @@ mod expand;
 mod inverted_keys;
 mod runs;
 mod states;
-#[cfg(test)]
-mod tests;
 
 pub use both_ways::Aes;
 pub use decrypt::AesDec;

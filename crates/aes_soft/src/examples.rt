@@ -12,6 +12,7 @@ ghost use Rattle.aes_soft.specs.Batches.{layers_for};
 ghost use Rattle.aes_soft.specs.Stored.{compact, full, key_of, size_of, IsSchedule};
 
 /// The expansion of sixteen bytes of zeros, a round key a line.
+#[tactic(auto, using(aes_planes::proofs::OnLiterals::keys), unfolding(aes_planes::proofs::OnLiterals::aes_by_table))]
 pub fn zero_key_expansion()
     ensures { fips.key_expansion (bytes 16 0) ≡ map (bytes 16) (
         0x00000000000000000000000000000000 ∷

@@ -2,10 +2,9 @@
 
 ghost use Rattle.std.specs.Prelude.{◌≡◌, length, replicate};
 
-use super::{hidden_place, overwrite};
+use super::wipe;
 use crate::cipher::Block;
 use aes_planes::soft::word::Word;
-use std::sync::atomic::{AtomicU64, Ordering};
 
 /// What an array or a slice can be made of that is overwritten with zeros.
 pub trait Element: Copy {
@@ -95,16 +94,5 @@ impl Element for Block {
 pub fn zeroize_elements<E: Element>(elements: &mut [E])
     ensures { elements.new ≡ replicate (length elements.old) E.ZERO }
 {
-    let seen = AtomicU64::new(0);
-    observe(elements, &seen);
-    overwrite(elements, E::zero());
-    observe(elements, &seen);
-}
-
-// Reads the first element, at a place that the compiler can't know.
-fn observe<E: Element>(elements: &[E], seen: &AtomicU64) {
-    let place = hidden_place(seen);
-    if place < elements.len() {
-        seen.swap(elements[place].some_byte() as u64, Ordering::SeqCst);
-    }
+    wipe(elements, E::zero(), |element| element.some_byte());
 }

@@ -27,6 +27,16 @@ fn wipes_blocks_where_they_stand(rt: HostRuntime) {
 }
 
 #[test]
+fn wipes_arrays_of_numbers_where_they_stand(rt: HostRuntime) {
+    let mut narrow: [u32; 3] = [u32::MAX, 1 << 31, 1];
+    narrow.zeroize();
+    assert_eq!(rt; narrow, [0; 3]);
+    let mut wide: [u64; 2] = [u64::MAX, 1 << 63];
+    wide.zeroize();
+    assert_eq!(rt; wide, [0; 2]);
+}
+
+#[test]
 fn lets_go_of_what_was_wiped(rt: HostRuntime) {
     let mut held = Held::<[u128; 2]>::zeroed();
     *held.words_mut() = [u128::MAX, 1 << 127];

@@ -26,7 +26,7 @@ impl BatchSize for TwoBlocks {
     ghost at_least_one = { Prim.omega arith };
 }
 
-/// Works blocks with a cipher that stays with its owner. Contracts see a value as the cipher's key.
+/// Processes blocks with a cipher that stays with its owner. Contracts see a value as the cipher's key.
 #[derive(Drop)]
 pub struct Backend<'a, S: KeySchedule> {
     cipher: &'a AesCipher<S>,

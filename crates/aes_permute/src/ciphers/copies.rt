@@ -4,7 +4,7 @@ ghost use Rattle.std.specs.Prelude.{◌≡◌, ⊤};
 
 use super::AesCipher;
 use crate::keys::{BothWays, KeySchedule, OneWay, turned};
-use crate::sizes::KeySize;
+use crate::sizes::AesVariant;
 use aes_cipher::cipher::{Decrypt, Encrypt};
 use std::alloc::AllocError;
 
@@ -20,7 +20,7 @@ impl<S: KeySchedule> Clone for AesCipher<S> {
     }
 }
 
-impl<K: KeySize> From<&AesCipher<OneWay<K, Encrypt>>> for AesCipher<OneWay<K, Decrypt>> {
+impl<K: AesVariant> From<&AesCipher<OneWay<K, Encrypt>>> for AesCipher<OneWay<K, Decrypt>> {
     ghost from_gives = { λ enc made. made ≡ enc.now };
 
     fn from(enc: &AesCipher<OneWay<K, Encrypt>>) -> AesCipher<OneWay<K, Decrypt>> {
@@ -30,7 +30,7 @@ impl<K: KeySize> From<&AesCipher<OneWay<K, Encrypt>>> for AesCipher<OneWay<K, De
     }
 }
 
-impl<K: KeySize> From<AesCipher<OneWay<K, Encrypt>>> for AesCipher<OneWay<K, Decrypt>> {
+impl<K: AesVariant> From<AesCipher<OneWay<K, Encrypt>>> for AesCipher<OneWay<K, Decrypt>> {
     ghost from_gives = { λ enc made. made ≡ enc };
 
     fn from(enc: AesCipher<OneWay<K, Encrypt>>) -> AesCipher<OneWay<K, Decrypt>> {
@@ -38,7 +38,7 @@ impl<K: KeySize> From<AesCipher<OneWay<K, Encrypt>>> for AesCipher<OneWay<K, Dec
     }
 }
 
-impl<K: KeySize> From<&AesCipher<OneWay<K, Encrypt>>> for AesCipher<BothWays<K>> {
+impl<K: AesVariant> From<&AesCipher<OneWay<K, Encrypt>>> for AesCipher<BothWays<K>> {
     ghost from_gives = { λ enc made. made ≡ enc.now };
 
     fn from(enc: &AesCipher<OneWay<K, Encrypt>>) -> AesCipher<BothWays<K>> {
@@ -48,7 +48,7 @@ impl<K: KeySize> From<&AesCipher<OneWay<K, Encrypt>>> for AesCipher<BothWays<K>>
     }
 }
 
-impl<K: KeySize> From<AesCipher<OneWay<K, Encrypt>>> for AesCipher<BothWays<K>> {
+impl<K: AesVariant> From<AesCipher<OneWay<K, Encrypt>>> for AesCipher<BothWays<K>> {
     ghost from_gives = { λ enc made. made ≡ enc };
 
     fn from(enc: AesCipher<OneWay<K, Encrypt>>) -> AesCipher<BothWays<K>> {

@@ -4,13 +4,13 @@
 
 use super::AesCipher;
 use crate::keys::KeySchedule;
-use crate::sizes::KeySize;
+use crate::sizes::AesVariant;
 use aes_cipher::cipher::AlgorithmName;
 use std::fmt;
 
 impl<S: KeySchedule> fmt::Debug for AesCipher<S> {
     fn fmt<W: fmt::Write>(&self, f: &mut fmt::Formatter<W>) -> fmt::Result {
-        f.write_str(<S::Size as KeySize>::NAME)?;
+        f.write_str(<S::Variant as AesVariant>::NAME)?;
         f.write_str(S::SUFFIX)?;
         f.write_str(" { .. }")
     }
@@ -18,7 +18,7 @@ impl<S: KeySchedule> fmt::Debug for AesCipher<S> {
 
 impl<S: KeySchedule> AlgorithmName for AesCipher<S> {
     fn write_alg_name<W: fmt::Write>(f: &mut fmt::Formatter<W>) -> fmt::Result {
-        f.write_str(<S::Size as KeySize>::NAME)?;
+        f.write_str(<S::Variant as AesVariant>::NAME)?;
         f.write_str(S::SUFFIX)
     }
 }

@@ -10,6 +10,7 @@ use crate::keys::Includes;
 use aes_planes::soft::word::Block;
 
 // Leaves what comes of a block under the round keys.
+#[tactic(auto, using(aes_planes::proofs::Standard::CipherLaws::two_keys))]
 #[inline(always)]
 pub(super) fn process_block_under<D: LaneRounds, S: Includes<D>>(schedule: &S, block: &mut Block)
     requires { S.AreKeyed schedule.now }

@@ -5,19 +5,19 @@ ghost use Rattle.aes_planes.specs.Fips197 as fips;
 
 use super::one_way::turned;
 use super::{Includes, KeySchedule, OneWay};
-use crate::sizes::KeySize;
+use crate::sizes::AesVariant;
 use aes_cipher::cipher::{Decrypt, Encrypt};
 use aes_planes::soft::word::Block;
 
 /// Round keys for encrypting and for decrypting.
 #[derive(Drop)]
-pub struct BothWays<K: KeySize> {
+pub struct BothWays<K: AesVariant> {
     encrypting: OneWay<K, Encrypt>,
     decrypting: OneWay<K, Decrypt>,
 }
 
-impl<K: KeySize> KeySchedule for BothWays<K> {
-    type Size = K;
+impl<K: AesVariant> KeySchedule for BothWays<K> {
+    type Variant = K;
 
     ghost key = { λ s. ⟦<OneWay<K, Encrypt> as KeySchedule>⟧.key s.encrypting };
 
@@ -55,21 +55,21 @@ impl<K: KeySize> KeySchedule for BothWays<K> {
     }
 }
 
-impl<K: KeySize> Includes<Encrypt> for BothWays<K> {
+impl<K: AesVariant> Includes<Encrypt> for BothWays<K> {
     #[inline(always)]
     fn lend(&self) -> &[Block] {
         self.encrypting.lend()
     }
 }
 
-impl<K: KeySize> Includes<Decrypt> for BothWays<K> {
+impl<K: AesVariant> Includes<Decrypt> for BothWays<K> {
     #[inline(always)]
     fn lend(&self) -> &[Block] {
         self.decrypting.lend()
     }
 }
 
-impl<K: KeySize> BothWays<K> {
+impl<K: AesVariant> BothWays<K> {
     /// Returns the round keys for both directions of the key of those for encrypting.
     pub(crate) fn with_both(encrypting: &OneWay<K, Encrypt>) -> BothWays<K>
         requires { ⟦<OneWay<K, Encrypt> as KeySchedule>⟧.AreKeyed encrypting.now }

@@ -7,7 +7,7 @@ ghost use Rattle.aes_permute.specs.Stored.{round_keys_of};
 
 use super::{Includes, KeySchedule};
 use crate::directions::LaneRounds;
-use crate::sizes::KeySize;
+use crate::sizes::AesVariant;
 use crate::stored::Stored;
 use aes_cipher::cipher::{Decrypt, Encrypt};
 use aes_planes::laws;
@@ -16,14 +16,14 @@ use std::marker::PhantomData;
 
 /// Round keys for one direction only.
 #[derive(Drop)]
-pub struct OneWay<K: KeySize, D: LaneRounds> {
+pub struct OneWay<K: AesVariant, D: LaneRounds> {
     // The round keys, as they are stored.
     keys: K::Keys,
     direction: PhantomData<D>,
 }
 
-impl<K: KeySize, D: LaneRounds> KeySchedule for OneWay<K, D> {
-    type Size = K;
+impl<K: AesVariant, D: LaneRounds> KeySchedule for OneWay<K, D> {
+    type Variant = K;
 
     ghost key = { λ s. key_in D.first_keys K.SIZE
         (round_keys_of D.first_byte D.inner_byte D.last_byte (K.Keys.blocks s.keys)) };
@@ -35,9 +35,8 @@ impl<K: KeySize, D: LaneRounds> KeySchedule for OneWay<K, D> {
 
     #[inline(always)]
     fn new(bytes: &[u8]) -> OneWay<K, D> {
-        D::keeps_key();
         let mut keys = K::Keys::room();
-        K::expand::<D>(&mut keys, bytes);
+        write_keys::<K, D>(&mut keys, bytes);
         OneWay {
             keys,
             direction: PhantomData,
@@ -45,9 +44,8 @@ impl<K: KeySize, D: LaneRounds> KeySchedule for OneWay<K, D> {
     }
 
     fn rekey(&mut self, bytes: &[u8]) {
-        D::keeps_key();
         self.keys.wipe();
-        K::expand::<D>(&mut self.keys, bytes);
+        write_keys::<K, D>(&mut self.keys, bytes);
     }
 
     fn copy(&self) -> OneWay<K, D> {
@@ -62,7 +60,7 @@ impl<K: KeySize, D: LaneRounds> KeySchedule for OneWay<K, D> {
     }
 }
 
-impl<K: KeySize, D: LaneRounds> Includes<D> for OneWay<K, D> {
+impl<K: AesVariant, D: LaneRounds> Includes<D> for OneWay<K, D> {
     #[inline(always)]
     fn lend(&self) -> &[Block] {
         D::uses_all();
@@ -72,9 +70,22 @@ impl<K: KeySize, D: LaneRounds> Includes<D> for OneWay<K, D> {
     }
 }
 
+// Writes the round keys of a key over stored ones.
+#[inline(always)]
+fn write_keys<K: AesVariant, D: LaneRounds>(keys: &mut K::Keys, bytes: &[u8])
+    requires { length bytes.now ≡ K.SIZE }
+    ensures keyed { IsKeyed D.used_keys D.first_keys K.SIZE
+        (round_keys_of D.first_byte D.inner_byte D.last_byte (K.Keys.blocks keys.new)) }
+    ensures same { key_in D.first_keys K.SIZE
+        (round_keys_of D.first_byte D.inner_byte D.last_byte (K.Keys.blocks keys.new)) ≡ bytes.now }
+{
+    D::keeps_key();
+    K::expand::<D>(keys, bytes);
+}
+
 /// Returns the round keys for decrypting of the key of those for encrypting.
 #[inline(always)]
-pub(crate) fn turned<K: KeySize>(encrypting: &OneWay<K, Encrypt>) -> OneWay<K, Decrypt>
+pub(crate) fn turned<K: AesVariant>(encrypting: &OneWay<K, Encrypt>) -> OneWay<K, Decrypt>
     requires { ⟦<OneWay<K, Encrypt> as KeySchedule>⟧.AreKeyed encrypting.now }
     ensures keyed { ⟦<OneWay<K, Decrypt> as KeySchedule>⟧.AreKeyed result }
     ensures same { ⟦<OneWay<K, Decrypt> as KeySchedule>⟧.key result ≡ ⟦<OneWay<K, Encrypt> as KeySchedule>⟧.key

@@ -2,7 +2,10 @@
 use Rattle.std.proofs.Common.{◌≡◌, ℕ, zero, suc, Bool, true, false, not, cond, ◌&&◌, ◌||◌, List, [], ◌∷◌, length}
 use Rattle.std.proofs.Common.{get_or, refl, sym, arith}
 use Rattle.std.proofs.lemmas.Bool.{and_parts}
+use Rattle.std.proofs.lemmas.List.{get_or_default}
 use Rattle.aes_planes.specs.Bits.{at, xor}
+use Rattle.aes_planes.specs.Fips197.{build}
+use Rattle.aes_planes.proofs.Lists.Built.{build_is}
 
 -- whether two bits are the same
 unfoldable pub same : Bool → Bool → Bool
@@ -62,13 +65,7 @@ swapped x y z own partner e = same_tells _ _ (neither (own && partner) _ e
 pub eight : {A : Type 0} (xs : List A) (a b c d e f g h : A) → length xs ≡ 8
     → xs ≡ get_or xs 0 a ∷ get_or xs 1 b ∷ get_or xs 2 c ∷ get_or xs 3 d ∷ get_or xs 4 e ∷ get_or xs 5 f ∷ get_or xs 6 g
     ∷ get_or xs 7 h ∷ []
-eight [] a b c d e f g h l = absurd (omega arith)
-eight (x0 ∷ []) a b c d e f g h l = absurd (omega arith)
-eight (x0 ∷ x1 ∷ []) a b c d e f g h l = absurd (omega arith)
-eight (x0 ∷ x1 ∷ x2 ∷ []) a b c d e f g h l = absurd (omega arith)
-eight (x0 ∷ x1 ∷ x2 ∷ x3 ∷ []) a b c d e f g h l = absurd (omega arith)
-eight (x0 ∷ x1 ∷ x2 ∷ x3 ∷ x4 ∷ []) a b c d e f g h l = absurd (omega arith)
-eight (x0 ∷ x1 ∷ x2 ∷ x3 ∷ x4 ∷ x5 ∷ []) a b c d e f g h l = absurd (omega arith)
-eight (x0 ∷ x1 ∷ x2 ∷ x3 ∷ x4 ∷ x5 ∷ x6 ∷ []) a b c d e f g h l = absurd (omega arith)
-eight (x0 ∷ x1 ∷ x2 ∷ x3 ∷ x4 ∷ x5 ∷ x6 ∷ x7 ∷ []) a b c d e f g h l = refl
-eight (x0 ∷ x1 ∷ x2 ∷ x3 ∷ x4 ∷ x5 ∷ x6 ∷ x7 ∷ x8 ∷ xs) a b c d e f g h l = absurd (omega arith)
+unfolding build
+eight xs a b c d e f g h l =
+    sym (build_is 8 (λ i. get_or xs i (get_or (a ∷ b ∷ c ∷ d ∷ e ∷ f ∷ g ∷ h ∷ []) i a)) xs a l
+    (λ i lt. get_or_default xs i _ a (omega arith)))

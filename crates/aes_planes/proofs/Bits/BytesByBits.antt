@@ -3,6 +3,7 @@ use Rattle.std.proofs.Common.{◌≡◌, ℕ, suc, ◌+◌, ◌*◌, ◌^◌, �
 use Rattle.std.proofs.Common.{get_or, map, refl, ◌∙◌, arith, subst}
 use Rattle.std.proofs.lemmas.Bool.{eqb-true}
 use Rattle.std.proofs.lemmas.Nat.{xor_block}
+use lib.Lanes.{zip2}
 use Rattle.aes_planes.specs.Bits.{at, xor, number}
 use Rattle.aes_planes.specs.Fips197.{field_add, field_mul}
 use Rattle.aes_planes.proofs.Bits.BitCases.{all_bools, all_bools_tells}
@@ -10,9 +11,7 @@ use Rattle.aes_planes.proofs.Bits.NumberBits.{number_lt as number_below}
 
 -- the sum bit by bit
 abbrev pub sum_bits : List Bool → List Bool → List Bool
-sum_bits [] ys = []
-sum_bits (x ∷ xs) [] = []
-sum_bits (x ∷ xs) (y ∷ ys) = xor x y ∷ sum_bits xs ys
+sum_bits = zip2 xor
 
 -- bits that are the sums of others in their places
 pub sum_bits-map : {A B C : Type 0} (f : A → Bool) (g : B → Bool) (h : C → Bool) (zs : List A) (xs : List B)

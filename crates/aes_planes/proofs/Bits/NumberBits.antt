@@ -15,7 +15,7 @@ use Rattle.std.proofs.Math.Nat.{mod-eq_of_lt, mod_self, mod-eq-sub-mod, zero-mod
 use Rattle.std.proofs.lemmas.Bool.{cases_lt, eqb-true, lt-ltb, le-ltb, le-leb, lt-leb}
 use Rattle.aes_planes.specs.Bits.{at, bit, number, xor, Places}
 use Rattle.aes_planes.specs.Fips197.{build}
-use Rattle.aes_planes.proofs.Bits.ByteCases.{all_below, all_below_tells, by_two}
+use Rattle.aes_planes.proofs.Bits.ByteCases.{all_below, all_below_tells, by_two, by_pairs}
 use Rattle.aes_planes.proofs.Lists.Built.{get_or-build}
 
 -- the bits of a number, place by place
@@ -23,17 +23,14 @@ pub Places-build : (n : ℕ) (g f : ℕ → Bool) → ((i : ℕ) → i < n → g
 Places-build n g f h i lt = get_or-build n i g false lt ∙ h i lt
 
 -- the tests of bits that are numbers, by all cases
-two_bits : (P : ℕ → ℕ → Type 0) → P 0 0 → P 0 1 → P 1 0 → P 1 1 → (p q : ℕ) → p < 2 → q < 2 → P p q
-two_bits P a b c d p q h k = by_two (λ p. P p q) (by_two (P 0) a b q k) (by_two (P 1) c d q k) p h
-
 and_test : (p q : ℕ) → p < 2 → q < 2 → (min p q == 1) ≡ ((p == 1) && (q == 1))
-and_test = two_bits _ refl refl refl refl
+and_test = by_pairs _ refl refl refl refl
 
 or_test : (p q : ℕ) → p < 2 → q < 2 → (max p q == 1) ≡ ((p == 1) || (q == 1))
-or_test = two_bits _ refl refl refl refl
+or_test = by_pairs _ refl refl refl refl
 
 xor_test : (p q : ℕ) → p < 2 → q < 2 → ((p + q) % 2 == 1) ≡ xor (p == 1) (q == 1)
-xor_test = two_bits _ refl refl refl refl
+xor_test = by_pairs _ refl refl refl refl
 
 not_test : (p : ℕ) → p < 2 → (1 - p == 1) ≡ not (p == 1)
 not_test = by_two _ refl refl

@@ -1,19 +1,19 @@
 -- The key schedule four words at a time, and the bytes of a key in its first round keys.
-use Rattle.std.proofs.Common.{◌≡◌, ◌≢◌, ◌⊎◌, inl, inr, ℕ, zero, suc, ◌+◌, ◌-◌, ◌*◌, ◌/◌, ◌%◌, ◌<◌, ◌≤◌, ◌==◌, ◌&&◌}
-use Rattle.std.proofs.Common.{nat_lt, cond, Bool, true, false, List, [], ◌∷◌, ◌++◌, length, take, drop, get_or}
+use Rattle.std.proofs.Common.{◌≡◌, ◌≢◌, ◌⊎◌, inl, inr, ℕ, zero, suc, ◌+◌, ◌-◌, ◌*◌, ◌/◌, ◌%◌, ◌<◌, ◌≤◌}
+use Rattle.std.proofs.Common.{nat_lt, cond, false, List, [], ◌∷◌, ◌++◌, length, take, drop, get_or}
 use Rattle.std.proofs.Common.{slice_index, refl, ap, sym, subst, ◌∙◌, arith, length-append, length-take, length-drop}
 use Rattle.std.proofs.Common.{get_or-take, get_or-drop}
-use Rattle.std.proofs.Math.Bool.{and-false}
 use Rattle.std.proofs.Math.Nat.{mod-lt}
-use Rattle.std.proofs.lemmas.Bool.{le-ltb, lt-ltb, cases_lt, eqb-true, ne_eqb, ltb-true}
+use Rattle.std.proofs.lemmas.Bool.{le-ltb, lt-ltb, cases_lt}
 use Rattle.std.proofs.lemmas.Grind.{same_number_lists}
 use Rattle.std.proofs.lemmas.List.{get_or_append_left, get_or-append_right, length-take-le}
 use Rattle.std.proofs.lemmas.Nat.{mod-mul-add, div-mul-add}
 use Rattle.aes_planes.specs.Fips197.{sbox, field_add, byte_at, state, word, add_words, sub_word, rot_word, sub_bytes}
-use Rattle.aes_planes.specs.Fips197.{add_round_key, power_of_x, xtime, round_constant, added_word, added_word_if}
+use Rattle.aes_planes.specs.Fips197.{add_round_key, power_of_x, round_constant, added_word}
 use Rattle.aes_planes.specs.Fips197.{expanded_word, key_words, key_expansion, rounds, round_key}
 use Rattle.aes_planes.specs.Planes.{constant_block, summed, columns_summed, columns_straddled}
-use Rattle.aes_planes.proofs.Bits.ByteCases.{all_below, all_below_tells}
+use Rattle.aes_planes.proofs.Bits.ByteCases.{by_four}
+use Rattle.aes_planes.proofs.KeySchedule.AddedWords.{added_word_constant, added_word_same, added_word_substituted}
 use Rattle.aes_planes.proofs.KeySchedule.ExpandedWords.{expanded_word_key, expanded_word_next, round_key_words}
 use Rattle.aes_planes.proofs.Lists.Built.{built}
 use Rattle.aes_planes.proofs.Standard.States.{byte_at-state, state_is, state_same, state_length}
@@ -25,11 +25,7 @@ abbrev pub of_words : (ℕ → List ℕ) → List ℕ
 of_words f = state (λ r c. slice_index (f c) r)
 
 pub slice_index-word : (f : ℕ → ℕ) (r : ℕ) → r < 4 → slice_index (word f) r ≡ f r
-slice_index-word f zero h = refl
-slice_index-word f (suc zero) h = refl
-slice_index-word f (suc (suc zero)) h = refl
-slice_index-word f (suc (suc (suc zero))) h = refl
-slice_index-word f (suc (suc (suc (suc r)))) h = absurd (omega arith)
+slice_index-word f = by_four (λ r. slice_index (word f) r ≡ f r) refl refl refl refl
 
 -- each word of g is the sum of the word of f there and the word of g before it, and the first takes in a column of y
 module _ (rows cols : ℕ) (f g : ℕ → List ℕ) (y : List ℕ)
@@ -71,29 +67,13 @@ module _ (key : List ℕ) (nk : ℕ) (own : key_words key ≡ nk) (some : 0 < nk
   -- where Nk divides the place
   pub first_word : (j : ℕ) → i ≡ j * nk → expanded_word key i
       ≡ add_words (expanded_word key b) (add_words (sub_word (rot_word (expanded_word key p))) (round_constant j))
-  unfolding added_word_if
   first_word j e =
       let at : i ≡ j * nk + 0 = omega arith in
       let none : i % nk ≡ 0 = ap (λ v. v % nk) at ∙ mod-mul-add j nk 0 some in
       let whole : i / nk ≡ j = ap (λ v. v / nk) at ∙ div-mul-add j nk 0 some in
-      next ∙ ap (add_words (expanded_word key b)) (λ t. added_word_if (none t == 0) (nat_lt 6 nk && (i % nk == 4))
-      (whole t) (expanded_word key p))
-
-  -- where it doesn't, and no substitution is due
-  pub later_word : i % nk ≢ 0 → (nat_lt 6 nk && (i % nk == 4)) ≡ false → expanded_word key i
-      ≡ add_words (expanded_word key b) (expanded_word key p)
-  unfolding added_word_if
-  later_word some_left plain =
-      next ∙ ap (add_words (expanded_word key b)) (λ t. added_word_if (ne_eqb (i % nk) 0 some_left t) (plain t) (i / nk)
-      (expanded_word key p))
-
-  -- where a substitution is due and no rotation
-  pub substituted_word : i % nk ≢ 0 → (nat_lt 6 nk && (i % nk == 4)) ≡ true → expanded_word key i
-      ≡ add_words (expanded_word key b) (sub_word (expanded_word key p))
-  unfolding added_word_if
-  substituted_word some_left due =
-      next ∙ ap (add_words (expanded_word key b)) (λ t. added_word_if (ne_eqb (i % nk) 0 some_left t) (due t) (i / nk)
-      (expanded_word key p))
+      let w : List ℕ = expanded_word key p in
+      next ∙ ap (add_words (expanded_word key b))
+      (added_word_constant nk i w none ∙ ap (λ v. add_words (sub_word (rot_word w)) (round_constant v)) whole)
 
 -- a word of the key expansion has four bytes
 pub expanded_word_length : (key : List ℕ) (i : ℕ) → 0 < key_words key → length (expanded_word key i) ≡ 4
@@ -159,12 +139,11 @@ module _ (key : List ℕ) (nk : ℕ) (own : key_words key ≡ nk) (four : 4 ≤ 
       → expanded_word key i ≡ add_words (expanded_word key b) (expanded_word key p)
   plain_word i b p q e at some lt which back before =
       let left : i % nk ≡ e = ap (λ v. v % nk) at ∙ mod-mul-add q nk e lt in
-      later_word key nk own (omega arith) i b p back before (λ z. absurd (omega (arith, left, z, some)))
-      (elim which [
-        | inl le ↦ ap (λ v. v && (i % nk == 4)) (le-ltb 6 nk le)
-        | inr ne ↦ ap (λ v. nat_lt 6 nk && (v == 4)) left ∙ ap (λ v. nat_lt 6 nk && v) (ne_eqb e 4 ne)
-            ∙ and-false (nat_lt 6 nk)
-      ])
+      next key nk own (omega arith) i b p back before ∙ ap (add_words (expanded_word key b))
+      (added_word_same nk i (expanded_word key p) (λ z. absurd (omega (arith, left, z, some))) (elim which [
+        | inl le ↦ inl le
+        | inr ne ↦ inr (λ z. ne (sym left ∙ z))
+      ]))
 
   -- four words of which the first is at place e after a multiple of Nk, where the others are due no substitution
   sums_at : (rows cols o m q e : ℕ) (y : List ℕ) → m ≡ o + nk → m ≡ q * nk + e → e + 4 ≤ nk → (nk ≤ 6)
@@ -206,13 +185,14 @@ module _ (key : List ℕ) (nk : ℕ) (own : key_words key ≡ nk) (four : 4 ≤ 
   pub second_block : (j o p m : ℕ) → nk ≡ 8 → o ≡ j * nk + 4 → m ≡ o + nk → m ≡ p + 4
       → columns_summed 0 3 (block_at key o) (sub_bytes (block_at key p)) ≡ block_at key m
   second_block j o p m eight at back before =
-      let next : m ≡ suc j * nk + 4 = omega (arith, at, back) in
-      let left : m % nk ≡ 4 = ap (λ v. v % nk) next ∙ mod-mul-add (suc j) nk 4 (omega arith) in
-      sums_at 0 3 o m (suc j) 4 _ back next (omega arith) (inr (inr refl))
-      (substituted_word key nk own (omega arith) m o (p + 3) back (omega arith) (λ z. absurd (omega (arith, left, z)))
-      ((λ t. nat_lt 6 (eight t) && (left t == 4)))
-      ∙ ap (add_words (expanded_word key o)) (sym
-      (substituted_plain (λ c. expanded_word key (p + c)) (expanded_word_length key (p + 3) (omega (arith, own))))))
+      let spot : m ≡ suc j * nk + 4 = omega (arith, at, back) in
+      let left : m % nk ≡ 4 = ap (λ v. v % nk) spot ∙ mod-mul-add (suc j) nk 4 (omega arith) in
+      let w : List ℕ = expanded_word key (p + 3) in
+      sums_at 0 3 o m (suc j) 4 _ back spot (omega arith) (inr (inr refl))
+      (next key nk own (omega arith) m o (p + 3) back (omega arith) ∙ ap (add_words (expanded_word key o))
+      (added_word_substituted nk m w (λ z. absurd (omega (arith, left, z))) (omega arith) left
+      ∙ sym (substituted_plain (λ c. expanded_word key (p + c))
+      (expanded_word_length key (p + 3) (omega (arith, own))))))
 
   -- the four words two after a multiple of Nk, where Nk is 6
   pub last_block : (j o p m : ℕ) → nk ≡ 6 → o ≡ j * nk + 2 → m ≡ o + nk → m ≡ p + 2
@@ -283,22 +263,3 @@ module _ (key : List ℕ) (nk : ℕ) (own : key_words key ≡ nk) where
             ∙ key_byte 1 (i - 16) i (omega arith) (omega (arith, lt, e, high)) (omega (arith, lt, e, ge))
             (omega (arith, ge))
       ])
-
--- ---- powers of x
-
-abbrev pub listed_powers : List ℕ
-listed_powers = 0x01 ∷ 0x02 ∷ 0x04 ∷ 0x08 ∷ 0x10 ∷ 0x20 ∷ 0x40 ∷ 0x80 ∷ 0x1b ∷ 0x36 ∷ []
-
-all_powers : all_below 10 (λ i. slice_index listed_powers i == power_of_x i) ≡ true
-unfolding all_below power_of_x xtime
-all_powers = refl
-
-pub listed_power : (i : ℕ) → i < 10 → slice_index listed_powers i ≡ power_of_x i
-listed_power i h = eqb-true _ _ (all_below_tells 10 (λ i. slice_index listed_powers i == power_of_x i) all_powers i h)
-
-bytes_listed : all_below 10 (λ i. nat_lt (slice_index listed_powers i) 256) ≡ true
-unfolding all_below
-bytes_listed = refl
-
-pub listed_power_lt : (i : ℕ) → i < 10 → slice_index listed_powers i < 256
-listed_power_lt i h = ltb-true _ _ (all_below_tells 10 (λ i. nat_lt (slice_index listed_powers i) 256) bytes_listed i h)

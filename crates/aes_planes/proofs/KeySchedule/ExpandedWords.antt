@@ -1,6 +1,6 @@
 -- The words of the key schedule: their recursion, and the round keys that they make.
 use Rattle.std.proofs.Common.{◌≡◌, ℕ, zero, suc, ◌+◌, ◌-◌, ◌*◌, ◌<◌, nat_lt, true, false, List, [], ◌∷◌, length, get_or}
-use Rattle.std.proofs.Common.{slice_index, slice_index_or, refl, ap, sym, ◌∙◌, length-append, arith}
+use Rattle.std.proofs.Common.{slice_index, refl, ap, sym, ◌∙◌, length-append, arith}
 use Rattle.std.proofs.Math.ListN.{get_or-append}
 use Rattle.std.proofs.Math.Seq.{get_or-append_seam}
 use Rattle.aes_planes.specs.Fips197.{state, key_expansion, rounds, key_words, added_word, next_word_if, expanded_words}
@@ -64,8 +64,6 @@ module _ (key : List ℕ) where
       → round_key (key_expansion key) j ≡ state (λ r c. slice_index (expanded_word key (4 * j + c)) r)
   unfolding key_expansion blocks_of
   round_key_words j lt =
-      get_or-build (rounds key + 1) j (λ j. state (λ r c.
-      slice_index (slice_index_or (expanded_words key (4 * (rounds key + 1))) (4 * j + c) []) r)) [] lt
-      ∙ state_same (λ r c. slice_index (slice_index_or (expanded_words key (4 * (rounds key + 1))) (4 * j + c) []) r)
-      (λ r c. slice_index (expanded_word key (4 * j + c)) r)
-      (λ r c h k. ap (λ v. slice_index v r) (expanded_at (4 * (rounds key + 1)) (4 * j + c) (omega (arith, lt, k))))
+      get_or-build (rounds key + 1) j _ [] lt
+      ∙ state_same _ _ (λ r c h k. ap (λ v. slice_index v r)
+      (expanded_at (4 * (rounds key + 1)) (4 * j + c) (omega (arith, lt, k))))

@@ -1,11 +1,11 @@
 -- The key expansion gives Nr + 1 blocks.
 use Rattle.std.proofs.Common.{◌≡◌, ℕ, zero, suc, ◌+◌, ◌-◌, ◌*◌, ◌/◌, ◌%◌, ◌<◌, ◌==◌, ◌&&◌, nat_lt, Bool, true, false}
 use Rattle.std.proofs.Common.{List, [], ◌∷◌, ◌++◌, length, slice_index, slice_index_or, arith}
-use Rattle.aes_planes.specs.Fips197.{IsBytes, sbox, field_add, build, build_from, word, key_words, rounds, power_of_x}
+use Rattle.aes_planes.specs.Fips197.{IsBytes, sbox, field_add, word, key_words, rounds, power_of_x}
 use Rattle.aes_planes.specs.Fips197.{round_constant, added_word, added_word_if, next_word_if, expanded_words}
 use Rattle.aes_planes.specs.Fips197.{key_expansion, sub_word, rot_word, add_words}
 use Rattle.aes_planes.proofs.SBox.InverseSBox.{sbox_byte}
-use Rattle.aes_planes.proofs.Lists.Built.{length-build}
+use Rattle.aes_planes.proofs.Lists.Built.{length-build, build_each}
 use Rattle.aes_planes.proofs.Standard.FieldLaws.{xtime_byte, field_add_byte}
 use Rattle.aes_planes.proofs.Standard.States.{RowsBytes}
 use Rattle.aes_planes.proofs.Standard.Steps.{map_bytes, state_bytes}
@@ -74,14 +74,8 @@ words_bytes key (suc n) h =
     (words_bytes key n h)
     (next_bytes (nat_lt n (key_words key)) key (expanded_words key n) n h (words_bytes key n h))
 
-build_from_all : (a n : ℕ) (f : ℕ → List ℕ) → ((i : ℕ) → IsBytes (f i)) → RowsBytes (build_from a n f)
-unfolding build_from
-build_from_all a zero f h i = λ j. omega arith
-build_from_all a (suc n) f h zero = h a
-build_from_all a (suc n) f h (suc i) = build_from_all (a + 1) n f h i
-
 pub expansion_bytes : (key : List ℕ) → IsBytes key → RowsBytes (key_expansion key)
-unfolding key_expansion build
+unfolding key_expansion
 expansion_bytes key h =
-    build_from_all 0 (rounds key + 1) _ (λ j. state_bytes _
+    build_each IsBytes [] (λ i. omega arith) (rounds key + 1) _ (λ j. state_bytes _
     (λ r c. words_bytes key (4 * (rounds key + 1)) h (4 * j + c) r))

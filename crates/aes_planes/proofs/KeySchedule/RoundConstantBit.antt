@@ -2,13 +2,13 @@
 use Rattle.std.proofs.Common.{◌≡◌, ℕ, ◌*◌, ◌/◌, ◌%◌, ◌^◌, ◌<◌, ◌==◌, ◌&&◌, cond, Bool, true, false, List, [], ◌∷◌, set}
 use Rattle.std.proofs.Common.{length, get_or, map, refl, ap, sym, ◌∙◌, arith}
 use Rattle.std.proofs.lemmas.Bool.{eqb-true, and_parts}
-use Rattle.std.proofs.lemmas.List.{length-map, get_or-map, map-set, ext_get_or}
+use Rattle.std.proofs.lemmas.List.{map-set, ext_get_or}
 use Rattle.aes_planes.specs.Bits.{at, xor, bit, number}
 use Rattle.aes_planes.specs.Fips197.{field_add, add_round_key}
 use Rattle.aes_planes.specs.Planes.{held, held_byte, place, constant_block}
 use Rattle.aes_planes.proofs.Standard.States.{byte_at-state, state_same}
 use Rattle.aes_planes.proofs.Bits.BitCases.{all_bools, all_bools_tells, same, same_tells}
-use Rattle.aes_planes.proofs.Bits.ByteCases.{all_below, all_below_tells, all_below_both, by_eight}
+use Rattle.aes_planes.proofs.Bits.ByteCases.{all_below, all_below_tells, all_pairs_tell, by_eight}
 use Rattle.aes_planes.proofs.KeySchedule.SummedColumns.{eight_bits, bit_of_word}
 use Rattle.aes_planes.proofs.Planes.Held.{build-ext, map-build, place_lt}
 use Rattle.aes_planes.proofs.Shifts.ColumnSwaps.{row_mask}
@@ -26,19 +26,42 @@ flip_tells : (b : ℕ) (bs : List Bool) (f : Bool) → b < 8 → length bs ≡ 8
     → number (set bs b (xor (at bs b) f)) ≡ field_add (number bs) (cond f (2 ^ b) 0)
 unfolding flips
 flip_tells b bs f h l = eqb-true _ _
-    (all_bools_tells 9 (flips b) (all_below_tells 8 (λ b. all_bools 9 (flips b)) flips_all b h) (f ∷ bs) (omega arith))
+    (all_bools_tells 9 (flips b) (all_below_tells 8 _ flips_all b h) (f ∷ bs) (omega arith))
 
--- whether the mask has a bit where the constant stands
-flag_test : ℕ → ℕ → Bool
-flag_test r c = same (bit (get_or (0 ∷ 8 ∷ 0 ∷ 0 ∷ []) r 0) c) ((r == 1) && (c == 3))
+-- whether a nibble of one bit stands where the constant does
+nibble_test : ℕ → ℕ → ℕ → Bool
+nibble_test v r c = same (bit (get_or (0 ∷ 8 * v ∷ 0 ∷ 0 ∷ []) r 0) c) ((v == 1) && ((r == 1) && (c == 3)))
 
-flags_all : all_below 4 (λ r. all_below 4 (flag_test r)) ≡ true
-unfolding all_below same bit flag_test
-flags_all = refl
+nibbles_all : all_below 2 (λ v. all_below 4 (λ r. all_below 4 (nibble_test v r))) ≡ true
+unfolding all_below same bit nibble_test
+nibbles_all = refl
 
-flag_is : (r c : ℕ) → r < 4 → c < 4 → bit (get_or (0 ∷ 8 ∷ 0 ∷ 0 ∷ []) r 0) c ≡ ((r == 1) && (c == 3))
-unfolding flag_test
-flag_is r c h l = same_tells _ _ (all_below_both 4 4 flag_test flags_all r c h l)
+pub nibble_is : (v r c : ℕ) → v < 2 → r < 4 → c < 4
+    → bit (get_or (0 ∷ 8 * v ∷ 0 ∷ 0 ∷ []) r 0) c ≡ ((v == 1) && ((r == 1) && (c == 3)))
+unfolding nibble_test
+nibble_is v r c h i j =
+    same_tells _ _ (all_pairs_tell 4 4 (nibble_test v) (all_below_tells 2 _ nibbles_all v h) r c i j)
+
+-- what words hold plus a constant in every block
+added_at : (n x : ℕ) (new old : List (List Bool)) → ((r c k : ℕ) → r < 4 → c < 4 → k < n
+    → held_byte new (place n r c k) ≡ field_add (held_byte old (place n r c k)) (cond ((r == 1) && (c == 3)) x 0))
+    → held n new ≡ map (λ s. add_round_key s (constant_block x)) (held n old)
+unfolding held add_round_key constant_block
+added_at n x new old sums =
+    build-ext n _ _ (λ k l. state_same _ _ (λ r c i j. sums r c k i j l
+    ∙ (λ t. field_add (sym (byte_at-state (λ r c. held_byte old (place n r c k)) r c i j) t)
+    (sym (byte_at-state (λ r c. cond ((r == 1) && (c == 3)) x 0) r c i j) t))))
+    ∙ sym (map-build _ n _)
+
+pub constant_added : (n B x : ℕ) (new old constants : List (List Bool)) → B ≡ 16 * n
+    → ((i : ℕ) → i < B → held_byte new i ≡ field_add (held_byte old i) (held_byte constants i))
+    → ((r c k : ℕ) → r < 4 → c < 4 → k < n
+    → held_byte constants (place n r c k) ≡ cond ((r == 1) && (c == 3)) x 0)
+    → held n new ≡ map (λ s. add_round_key s (constant_block x)) (held n old)
+constant_added n B x new old constants eB sums here =
+    added_at n x new old (λ r c k i j l.
+    let p = place n r c k in
+    sums p (omega (arith, eB, place_lt n r c k i j l)) ∙ ap (field_add (held_byte old p)) (here r c k i j l))
 
 -- eight words of which one has its bits of row 1 and column 3 flipped
 pub constant_held : {A : Type 0} (bits : A → List Bool) (n B R Q b : ℕ) (xs : List A) (v d : A) (mask : List Bool)
@@ -46,24 +69,17 @@ pub constant_held : {A : Type 0} (bits : A → List Bool) (n B R Q b : ℕ) (xs 
     → ((i : ℕ) → i < B → at (bits v) i ≡ xor (at (bits (get_or xs b d)) i) (at mask i))
     → ((i : ℕ) → i < B → at mask i ≡ bit (get_or (0 ∷ 8 ∷ 0 ∷ 0 ∷ []) (i / R) 0) (i % R / Q))
     → held n (map bits (set xs b v)) ≡ map (λ s. add_round_key s (constant_block (2 ^ b))) (held n (map bits xs))
-unfolding held add_round_key constant_block
 constant_held bits n B R Q b xs v d mask hb len eR eQ eB hv hm =
-    build-ext n _ _ (λ k l. state_same _ _ (λ r c i j.
+    added_at n (2 ^ b) _ _ (λ r c k i j l.
     let p = place n r c k in
-    let low : p < B = omega (arith, place_lt n r c k i j l) in
     let look = λ (w : List Bool). at w p in
     let bs = map look (map bits xs) in
-    let is8 : length bs ≡ 8 = length-map (map bits xs) look ∙ length-map xs bits ∙ len in
-    let own : at bs b ≡ look (bits (get_or xs b d)) = get_or-map look (map bits xs) b (bits d) false
-    (omega (arith, length-map xs bits)) ∙ ap look (get_or-map bits xs b d (bits d) (omega arith)) in
-    let flag = row_mask n B R Q r c k (0 ∷ 8 ∷ 0 ∷ 0 ∷ []) mask eR eQ eB i j l hm ∙ flag_is r c i j in
+    let flag = row_mask n B R Q r c k (0 ∷ 8 ∷ 0 ∷ 0 ∷ []) mask eR eQ eB i j l hm ∙ nibble_is 1 r c (omega arith) i j in
     ap (λ ws. held_byte ws p) (map-set bits xs b v)
     ∙ ap number (map-set look (map bits xs) b (bits v))
-    ∙ ap (λ u. number (set bs b u)) (hv p low ∙ (λ t. xor (sym own t) (flag t)))
-    ∙ flip_tells b bs ((r == 1) && (c == 3)) hb is8
-    ∙ (λ t. field_add (sym (byte_at-state (λ r c. held_byte (map bits xs) (place n r c k)) r c i j) t)
-    (sym (byte_at-state (λ r c. cond ((r == 1) && (c == 3)) (2 ^ b) 0) r c i j) t))))
-    ∙ sym (map-build _ n _)
+    ∙ ap (λ u. number (set bs b u)) (hv p (omega (arith, place_lt n r c k i j l))
+    ∙ (λ t. xor (sym (bit_of_word bits xs d len p b hb) t) (flag t)))
+    ∙ flip_tells b bs ((r == 1) && (c == 3)) hb (eight_bits bits xs d len p))
 
 -- ---- all of its bits
 
@@ -96,33 +112,3 @@ flagged_byte bits xs d x i f hx l h =
     bit_of_word bits xs d l i m k ∙ h m k
     ∙ by_eight (λ m. (bit x m && f) ≡ get_or (flagged x f) m false) refl refl refl refl refl refl refl refl m k))
     ∙ number_flagged x f hx
-
--- whether a nibble of one bit stands where the constant does
-nibble_test : ℕ → ℕ → ℕ → Bool
-nibble_test v r c = same (bit (get_or (0 ∷ 8 * v ∷ 0 ∷ 0 ∷ []) r 0) c) ((v == 1) && ((r == 1) && (c == 3)))
-
-nibbles_all : all_below 2 (λ v. all_below 4 (λ r. all_below 4 (nibble_test v r))) ≡ true
-unfolding all_below same bit nibble_test
-nibbles_all = refl
-
-pub nibble_is : (v r c : ℕ) → v < 2 → r < 4 → c < 4
-    → bit (get_or (0 ∷ 8 * v ∷ 0 ∷ 0 ∷ []) r 0) c ≡ ((v == 1) && ((r == 1) && (c == 3)))
-unfolding nibble_test
-nibble_is v r c h i j = same_tells _ _ (all_below_both 4 4 (nibble_test v)
-    (all_below_tells 2 (λ v. all_below 4 (λ r. all_below 4 (nibble_test v r))) nibbles_all v h) r c i j)
-
--- what words hold plus a constant in every block
-pub constant_added : (n B x : ℕ) (new old constants : List (List Bool)) → B ≡ 16 * n
-    → ((i : ℕ) → i < B → held_byte new i ≡ field_add (held_byte old i) (held_byte constants i))
-    → ((r c k : ℕ) → r < 4 → c < 4 → k < n
-    → held_byte constants (place n r c k) ≡ cond ((r == 1) && (c == 3)) x 0)
-    → held n new ≡ map (λ s. add_round_key s (constant_block x)) (held n old)
-unfolding held add_round_key constant_block
-constant_added n B x new old constants eB sums here =
-    build-ext n _ _ (λ k l. state_same _ _ (λ r c i j.
-    let p = place n r c k in
-    let low : p < B = omega (arith, place_lt n r c k i j l) in
-    sums p low
-    ∙ (λ t. field_add (sym (byte_at-state (λ r c. held_byte old (place n r c k)) r c i j) t)
-    ((here r c k i j l ∙ sym (byte_at-state (λ r c. cond ((r == 1) && (c == 3)) x 0) r c i j)) t))))
-    ∙ sym (map-build _ n _)

@@ -5,6 +5,7 @@ use Rattle.aes_planes.proofs.Bits.BitCases.{xor_false}
 use Rattle.std.proofs.Math.Bool.{or-false}
 use Rattle.std.proofs.lemmas.Bool.{le-leb, lt-ltb}
 use Rattle.std.proofs.lemmas.List.{length-map, get_or-map, ext_get_or}
+use Rattle.std.proofs.lemmas.Simd.{length-zip2, get_or-zip2}
 use Rattle.aes_planes.specs.Bits.{at, xor, bit, number}
 use Rattle.aes_planes.specs.Fips197.{field_add, byte_at, state}
 use Rattle.aes_planes.specs.Planes.{held, held_byte, place, zip_with, words_at, summed, columns_summed}
@@ -105,24 +106,12 @@ straddled n B r k left right eB h kn (suc (suc (suc (suc c)))) l = absurd (omega
 
 -- ---- a byte of the planes
 
-length-sum_bits : (n : ℕ) (xs ys : List Bool) → length xs ≡ n → length ys ≡ n → length (sum_bits xs ys) ≡ n
-length-sum_bits n [] ys h k = h
-length-sum_bits n (x ∷ xs) [] h k = absurd (omega arith)
-length-sum_bits zero (x ∷ xs) (y ∷ ys) h k = absurd (omega arith)
-length-sum_bits (suc n) (x ∷ xs) (y ∷ ys) h k = ap suc (length-sum_bits n xs ys (omega arith) (omega arith))
-
-at-sum_bits : (xs ys : List Bool) (i : ℕ) → length xs ≡ length ys → at (sum_bits xs ys) i ≡ xor (at xs i) (at ys i)
-at-sum_bits [] [] i e = refl
-at-sum_bits [] (y ∷ ys) i e = absurd (omega arith)
-at-sum_bits (x ∷ xs) [] i e = absurd (omega arith)
-at-sum_bits (x ∷ xs) (y ∷ ys) zero e = refl
-at-sum_bits (x ∷ xs) (y ∷ ys) (suc i) e = at-sum_bits xs ys i (omega arith)
-
 -- a sum of columns, bit by bit
 module _ (f : ℕ → List Bool) (y : List Bool) (fs : (e : ℕ) → length (f e) ≡ 8) (ys : length y ≡ 8) where
   length-summed : (c : ℕ) → length (summed sum_bits f y c) ≡ 8
-  length-summed zero = length-sum_bits 8 (f 0) y (fs 0) ys
-  length-summed (suc c) = length-sum_bits 8 (f (suc c)) (summed sum_bits f y c) (fs (suc c)) (length-summed c)
+  length-summed zero = length-zip2 xor (f 0) y (fs 0 ∙ sym ys) ∙ fs 0
+  length-summed (suc c) =
+      length-zip2 xor (f (suc c)) (summed sum_bits f y c) (fs (suc c) ∙ sym (length-summed c)) ∙ fs (suc c)
 
   number-summed : (c : ℕ) → number (summed sum_bits f y c) ≡ summed field_add (λ e. number (f e)) (number y) c
   number-summed zero = sym (number-sum (f 0) y (fs 0 ∙ sym ys))
@@ -130,10 +119,11 @@ module _ (f : ℕ → List Bool) (y : List Bool) (fs : (e : ℕ) → length (f e
       sym (number-sum (f (suc c)) (summed sum_bits f y c) (fs (suc c) ∙ sym (length-summed c)))
       ∙ ap (field_add (number (f (suc c)))) (number-summed c)
 
-  at-summed : (c m : ℕ) → at (summed sum_bits f y c) m ≡ summed xor (λ e. at (f e) m) (at y m) c
-  at-summed zero m = at-sum_bits (f 0) y m (fs 0 ∙ sym ys)
-  at-summed (suc c) m = at-sum_bits (f (suc c)) (summed sum_bits f y c) m (fs (suc c) ∙ sym (length-summed c))
-      ∙ ap (xor (at (f (suc c)) m)) (at-summed c m)
+  at-summed : (c m : ℕ) → m < 8 → at (summed sum_bits f y c) m ≡ summed xor (λ e. at (f e) m) (at y m) c
+  at-summed zero m h = get_or-zip2 xor (f 0) y m false false false (omega (arith, fs 0)) (omega (arith, ys))
+  at-summed (suc c) m h =
+      get_or-zip2 xor (f (suc c)) (summed sum_bits f y c) m false false false (omega (arith, fs (suc c)))
+      (omega (arith, length-summed c)) ∙ ap (xor (at (f (suc c)) m)) (at-summed c m h)
 
   -- the byte whose bits are sums of columns is the sum of the bytes
   byte_summed : (bs : List Bool) (c : ℕ) → length bs ≡ 8
@@ -141,7 +131,7 @@ module _ (f : ℕ → List Bool) (y : List Bool) (fs : (e : ℕ) → length (f e
       → number bs ≡ summed field_add (λ e. number (f e)) (number y) c
   byte_summed bs c l h =
       ap number (ext_get_or false bs (summed sum_bits f y c) (l ∙ sym (length-summed c))
-      (λ m lt. h m (omega arith) ∙ sym (at-summed c m))) ∙ number-summed c
+      (λ m lt. let k : m < 8 = omega arith in h m k ∙ sym (at-summed c m k))) ∙ number-summed c
 
 pub summed-ext : {A : Type 0} (op : A → A → A) (f g : ℕ → A) (y z : A) (c : ℕ) → ((e : ℕ) → e ≤ c → f e ≡ g e) → y ≡ z
     → summed op f y c ≡ summed op g z c

@@ -13,6 +13,19 @@ pub get_or-build : {A : Type 0} (n i : ℕ) (f : ℕ → A) (d : A) → i < n �
 unfolding build
 get_or-build n i f d h = get_or-build_from 0 n i f d h ∙ ap f (omega arith)
 
+-- what holds of each of f's values, and of what stands past the end, holds in each place
+build_from_each : {A : Type 0} (P : A → Type 0) (d : A) → P d → (a n : ℕ) (f : ℕ → A) → ((i : ℕ) → P (f i)) → (i : ℕ)
+    → P (get_or (build_from a n f) i d)
+unfolding build_from
+build_from_each P d past a zero f h i = past
+build_from_each P d past a (suc n) f h zero = h a
+build_from_each P d past a (suc n) f h (suc i) = build_from_each P d past (a + 1) n f h i
+
+pub build_each : {A : Type 0} (P : A → Type 0) (d : A) → P d → (n : ℕ) (f : ℕ → A) → ((i : ℕ) → P (f i)) → (i : ℕ)
+    → P (get_or (build n f) i d)
+unfolding build
+build_each P d past = build_from_each P d past 0
+
 -- a list that has f's values is the list built of f
 pub build_from_is : {A : Type 0} (a n : ℕ) (f : ℕ → A) (xs : List A) (d : A) → length xs ≡ n
     → ((i : ℕ) → i < n → f (a + i) ≡ get_or xs i d) → build_from a n f ≡ xs

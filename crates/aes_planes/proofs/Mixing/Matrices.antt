@@ -13,7 +13,7 @@ use Rattle.aes_planes.specs.Fips197.{inv_shift_times}
 use Rattle.aes_planes.specs.Planes.{place, between_shifts}
 use Rattle.aes_planes.proofs.Standard.States.{state_same}
 use Rattle.aes_planes.proofs.Bits.BitCases.{same, same_tells}
-use Rattle.aes_planes.proofs.Bits.ByteCases.{all_below, all_below_both, by_four}
+use Rattle.aes_planes.proofs.Bits.ByteCases.{all_below, all_pairs_tell, by_four}
 use Rattle.aes_planes.proofs.Planes.Held.{row_on}
 
 -- ---- turns by rows and columns
@@ -53,7 +53,7 @@ stay_all = refl
 
 pub stay_bit : (cols c : ℕ) → cols ≤ 3 → c < 4 → bit (15 / 2 ^ cols) c ≡ nat_lt (c + cols) 4
 unfolding stay_test
-stay_bit cols c h l = same_tells _ _ (all_below_both 4 4 stay_test stay_all cols c (omega arith) l)
+stay_bit cols c h l = same_tells _ _ (all_pairs_tell 4 4 stay_test stay_all cols c (omega arith) l)
 
 masked_in : (a b : Bool) → (a && true) || (b && not true) ≡ a
 masked_in a b = (λ t. and-true a t || and-false b t) ∙ or-false a

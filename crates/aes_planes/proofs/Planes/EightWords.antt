@@ -19,11 +19,11 @@ pub words_at-map : {A B : Type 0} (f : A → B) (xs : List A) (o : ℕ) → word
 unfolding words_at
 words_at-map f xs o = ap (take 8) (drop-map f o xs) ∙ take-map f 8 (drop o xs)
 
-pub words_at-is : {A : Type 0} (xs : List A) (o : ℕ) (a b c d e f g h : A) → o + 8 ≤ length xs
+pub eight_words : {A : Type 0} (xs : List A) (o : ℕ) (a b c d e f g h : A) → o + 8 ≤ length xs
     → a ≡ get_or xs o a → b ≡ get_or xs (o + 1) b → c ≡ get_or xs (o + 2) c → d ≡ get_or xs (o + 3) d
     → e ≡ get_or xs (o + 4) e → f ≡ get_or xs (o + 5) f → g ≡ get_or xs (o + 6) g → h ≡ get_or xs (o + 7) h
     → a ∷ b ∷ c ∷ d ∷ e ∷ f ∷ g ∷ h ∷ [] ≡ words_at xs o
-words_at-is {A = A} xs o a b c d e f g h l ea eb ec ed ee ef eg eh =
+eight_words {A = A} xs o a b c d e f g h l ea eb ec ed ee ef eg eh =
     let at0 = ea ∙ ap (λ i. get_or xs i a) (sym (add-zero o)) ∙ sym (get_or-words_at xs o 0 a (omega arith)) in
     let at = λ (i : ℕ) (z : A) (lt : i < 8). sym (get_or-words_at xs o i z lt) in
     (λ t. at0 t ∷ (eb ∙ at 1 b (omega arith)) t ∷ (ec ∙ at 2 c (omega arith)) t ∷ (ed ∙ at 3 d (omega arith)) t
@@ -56,7 +56,15 @@ words_put new ws o room e h = same_lists _ _ (length-words_at new o room ∙ sym
 
 -- ---- the same block in every slot
 
-pub fill_more : {A : Type 0} (b z : A) (i m : ℕ) → set (replicate i b ++ replicate (suc m) z) i b
+fill_more : {A : Type 0} (b z : A) (i m : ℕ) → set (replicate i b ++ replicate (suc m) z) i b
     ≡ replicate (suc i) b ++ replicate m z
 fill_more b z zero m = refl
 fill_more b z (suc i) m = ap (λ xs. b ∷ xs) (fill_more b z i m)
+
+pub filled_more : {A : Type 0} (b z : A) (i n : ℕ) → i < n
+    → set (replicate i b ++ replicate (n - i) z) i b ≡ replicate (i + 1) b ++ replicate (n - (i + 1)) z
+filled_more b z i n h =
+    let left : n - i ≡ suc (n - (i + 1)) = omega arith in
+    let more : suc i ≡ i + 1 = omega arith in
+    ap (λ v. set (replicate i b ++ replicate v z) i b) left ∙ fill_more b z i (n - (i + 1))
+    ∙ ap (λ v. replicate v b ++ replicate (n - (i + 1)) z) more

@@ -1,28 +1,22 @@
 -- The blocks that planes hold: from facts on the bytes at places to equations on blocks.
-use Rattle.std.proofs.Common.{◌≡◌, ℕ, zero, suc, ◌+◌, ◌*◌, ◌/◌, ◌%◌, ◌<◌, ◌≤◌, Bool, List, [], ◌∷◌, length, get_or, map}
+use Rattle.std.proofs.Common.{◌≡◌, ℕ, zero, suc, ◌+◌, ◌*◌, ◌/◌, ◌%◌, ◌<◌, Bool, List, [], ◌∷◌, length, get_or, map}
 use Rattle.std.proofs.Common.{replicate, refl, ap, sym, ◌∙◌, arith}
+use Rattle.std.proofs.lemmas.List.{same_lists}
 use Rattle.std.proofs.lemmas.Nat.{mul-add-lt}
 use Rattle.std.proofs.Math.Arith.{digits_div, digits_mod, mod-mul}
 use Rattle.aes_planes.specs.Fips197.{byte_at, build, build_from, state, field_add, add_round_key}
 use Rattle.aes_planes.specs.Planes.{held, held_byte, place, zip_with}
 use Rattle.aes_planes.proofs.Standard.States.{byte_at-state, state_is, state_same}
-use Rattle.aes_planes.proofs.Lists.Built.{build_is, length-build}
+use Rattle.aes_planes.proofs.Lists.Built.{build_is, get_or-build, length-build}
 pub use Rattle.aes_planes.proofs.Lists.Built.{map-same}
 pub use Rattle.std.proofs.lemmas.Simd.{map-map}
 
 -- ---- lists that are built of a function
 
-build_from-ext : {A : Type 0} (a n : ℕ) (f g : ℕ → A) → ((i : ℕ) → a ≤ i → i < a + n → f i ≡ g i)
-    → build_from a n f ≡ build_from a n g
-unfolding build_from
-build_from-ext a zero f g h = refl
-build_from-ext a (suc n) f g h =
-    ap (λ x. x ∷ build_from (a + 1) n f) (h a (omega arith) (omega arith))
-    ∙ ap (λ xs. g a ∷ xs) (build_from-ext (a + 1) n f g (λ i l r. h i (omega arith) (omega arith)))
-
 pub build-ext : {A : Type 0} (n : ℕ) (f g : ℕ → A) → ((i : ℕ) → i < n → f i ≡ g i) → build n f ≡ build n g
-unfolding build
-build-ext n f g h = build_from-ext 0 n f g (λ i l r. h i (omega arith))
+build-ext n f g h = same_lists _ _ (length-build n f ∙ sym (length-build n g)) (λ i d l.
+    let k : i < n = omega (arith, l, length-build n f) in
+    get_or-build n i f d k ∙ h i k ∙ sym (get_or-build n i g d k))
 
 map-build_from : {A B : Type 0} (m : A → B) (a n : ℕ) (f : ℕ → A)
     → map m (build_from a n f) ≡ build_from a n (λ i. m (f i))
@@ -110,6 +104,12 @@ added_held n new old key h =
     ∙ (λ t. field_add (sym (byte_at-state (λ r c. held_byte old (place n r c k)) r c i j) t)
     (sym (byte_at-state (λ r c. held_byte key (place n r c k)) r c i j) t))))
     ∙ sym (zip_with-build add_round_key n _ _)
+
+-- the sum of two blocks, byte by byte
+pub summed_block : (bs block key : List ℕ) → length bs ≡ 16
+    → ((k : ℕ) → k < 16 → get_or bs k 0 ≡ field_add (get_or block k 0) (get_or key k 0)) → bs ≡ add_round_key block key
+unfolding add_round_key
+summed_block bs block key l h = sym (state_is _ bs l (λ r c i j. sym (h (r + 4 * c) (omega arith))))
 
 -- planes whose byte at each place is, in the block of the old bytes, what a step on states puts there
 pub stepped_held : (step : List ℕ → List ℕ) (at : (ℕ → ℕ → ℕ) → ℕ → ℕ → ℕ) (n : ℕ) (new old : List (List Bool))

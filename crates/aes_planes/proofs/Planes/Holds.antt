@@ -1,9 +1,10 @@
 -- The relation that planes hold blocks, and the blocks that they hold as a function.
 use Rattle.std.proofs.Common.{◌≡◌, ℕ, zero, suc, ◌+◌, ◌*◌, ◌<◌, Bool, List, [], ◌∷◌, length, get_or, map, refl, ap, sym}
 use Rattle.std.proofs.Common.{subst, ◌∙◌, arith}
-use Rattle.std.proofs.lemmas.List.{length-map}
+use Rattle.std.proofs.lemmas.List.{length-map, map-id}
+use Rattle.std.proofs.lemmas.Simd.{map-map}
 use Rattle.aes_planes.specs.Bits.{at, bit, number}
-use Rattle.aes_planes.specs.Fips197.{byte_at, state, shift_times}
+use Rattle.aes_planes.specs.Fips197.{byte_at, state, shift_rows, shift_times}
 use Rattle.aes_planes.specs.Planes.{held, held_byte, place, Holds, HoldsShifted}
 use Rattle.aes_planes.proofs.Standard.States.{byte_at-state}
 use Rattle.aes_planes.proofs.Standard.Steps.{state_length, state_bytes}
@@ -52,8 +53,7 @@ holds_held n planes blocks h =
 
 map-zero_shifts : (bs : List (List ℕ)) → map (shift_times 0) bs ≡ bs
 unfolding shift_times
-map-zero_shifts [] = refl
-map-zero_shifts (b ∷ bs) = ap (λ cs. b ∷ cs) (map-zero_shifts bs)
+map-zero_shifts bs = map-id bs
 
 pub unshifted_holds : (n : ℕ) (planes : List (List Bool)) (blocks : List (List ℕ)) → length planes ≡ 8
     → (HoldsShifted n planes 0 blocks → Holds n planes blocks)
@@ -62,3 +62,16 @@ unshifted_holds n planes blocks l = (
   (λ e. subst (Holds n planes) (sym (map-zero_shifts (held n planes)) ∙ e) (held_holds n planes l)),
   (λ h. map-zero_shifts (held n planes) ∙ holds_held n planes blocks h),
 )
+
+pub none_deferred : (n : ℕ) (planes : List (List Bool)) → HoldsShifted n planes 0 (held n planes)
+none_deferred n planes = map-zero_shifts (held n planes)
+
+pub one_more_deferred : (n s : ℕ) (planes : List (List Bool)) (blocks : List (List ℕ)) → HoldsShifted n planes s blocks
+    → HoldsShifted n planes (s + 1) (map shift_rows blocks)
+unfolding shift_times
+one_more_deferred n s planes blocks is =
+    let next : s + 1 ≡ suc s = omega arith in
+    ap (λ k. map (shift_times k) (held n planes)) next
+    ∙ sym (map-map shift_rows (shift_times s) (held n planes)) ∙ ap (map shift_rows) is
+
+pub ruleset laws_of_deferring = (none_deferred, one_more_deferred)

@@ -13,8 +13,8 @@ use Rattle.aes_planes.specs.Planes.{held, held_byte, place}
 use Rattle.aes_planes.specs.Private.Swaps.{moved_bit, swapped_bit, source, is_swap_at, columns_swapped}
 use Rattle.aes_planes.proofs.Standard.States.{byte_at-state, state_same}
 use Rattle.aes_planes.proofs.Bits.BitCases.{eight, swapped}
-use Rattle.aes_planes.proofs.Bits.ByteCases.{all_below, all_below_both}
-use Rattle.aes_planes.proofs.Planes.Held.{place_lt, column_of, stepped_held}
+use Rattle.aes_planes.proofs.Bits.ByteCases.{all_below, all_pairs_tell}
+use Rattle.aes_planes.proofs.Planes.Held.{place_lt, column_of, stepped_held, map-map, map-same}
 use lib.Arith.{digits_div}
 
 infixr 10 ◌▹◌
@@ -199,31 +199,33 @@ pairs = 0 ∷ 5 ∷ 0 ∷ 5 ∷ []
 
 pub halves_1_swap : (r c : ℕ) → r < 4 → c < 4 → is_swap_at 2 halves_1 r c ≡ true
 unfolding all_below bit
-halves_1_swap = all_below_both 4 4 (is_swap_at 2 halves_1) refl
+halves_1_swap = all_pairs_tell 4 4 (is_swap_at 2 halves_1) refl
 
 pub halves_2_swap : (r c : ℕ) → r < 4 → c < 4 → is_swap_at 2 halves_2 r c ≡ true
 unfolding all_below bit
-halves_2_swap = all_below_both 4 4 (is_swap_at 2 halves_2) refl
+halves_2_swap = all_pairs_tell 4 4 (is_swap_at 2 halves_2) refl
 
 pub halves_3_swap : (r c : ℕ) → r < 4 → c < 4 → is_swap_at 2 halves_3 r c ≡ true
 unfolding all_below bit
-halves_3_swap = all_below_both 4 4 (is_swap_at 2 halves_3) refl
+halves_3_swap = all_pairs_tell 4 4 (is_swap_at 2 halves_3) refl
 
 pub pairs_swap : (r c : ℕ) → r < 4 → c < 4 → is_swap_at 1 pairs r c ≡ true
 unfolding all_below bit
-pairs_swap = all_below_both 4 4 (is_swap_at 1 pairs) refl
+pairs_swap = all_pairs_tell 4 4 (is_swap_at 1 pairs) refl
 
-pub shifted_1 : (s : List ℕ) → columns_swapped 1 pairs (columns_swapped 2 halves_1 s) ≡ shift_times 1 s
+pub shifted_1 : (bs : List (List ℕ))
+    → map (shift_times 1) bs ≡ map (columns_swapped 1 pairs) (map (columns_swapped 2 halves_1) bs)
 unfolding columns_swapped build shift_times shift_rows bit
-shifted_1 s = refl
+shifted_1 bs = sym (map-map (columns_swapped 1 pairs) (columns_swapped 2 halves_1) bs ∙ map-same _ _ bs (λ s. refl))
 
-pub shifted_2 : (s : List ℕ) → columns_swapped 2 halves_2 s ≡ shift_times 2 s
+pub shifted_2 : (bs : List (List ℕ)) → map (shift_times 2) bs ≡ map (columns_swapped 2 halves_2) bs
 unfolding columns_swapped build shift_times shift_rows bit
-shifted_2 s = refl
+shifted_2 bs = map-same _ _ bs (λ s. refl)
 
-pub shifted_3 : (s : List ℕ) → columns_swapped 1 pairs (columns_swapped 2 halves_3 s) ≡ shift_times 3 s
+pub shifted_3 : (bs : List (List ℕ))
+    → map (shift_times 3) bs ≡ map (columns_swapped 1 pairs) (map (columns_swapped 2 halves_3) bs)
 unfolding columns_swapped build shift_times shift_rows bit
-shifted_3 s = refl
+shifted_3 bs = sym (map-map (columns_swapped 1 pairs) (columns_swapped 2 halves_3) bs ∙ map-same _ _ bs (λ s. refl))
 
 pub shifted_back_1 : (s : List ℕ) → shift_times 3 s ≡ inv_shift_times 1 s
 unfolding shift_times shift_rows inv_shift_times inv_shift_rows build

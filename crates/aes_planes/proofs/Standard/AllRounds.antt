@@ -1,5 +1,5 @@
 -- All rounds, in either direction: Cipher's and EqInvCipher's.
-use Rattle.std.proofs.Common.{◌≡◌, ℕ, zero, suc, ◌-◌, ◌≤◌, List, refl, ap, arith}
+use Rattle.std.proofs.Common.{◌≡◌, ℕ, zero, suc, ◌-◌, ◌≤◌, List, refl, ap, ◌∙◌, arith}
 use Rattle.aes_planes.specs.Fips197 as fips
 use Rattle.aes_planes.specs.Rounds.{rounds_after, all_rounds}
 
@@ -12,33 +12,29 @@ rounds_more step w b (suc n) h =
     let e : suc n - 1 ≡ n = omega arith in
     ap (λ m. fips.add_round_key (step (rounds_after step w b m)) (fips.round_key w (suc n))) e
 
--- Cipher has these rounds
-encrypted_after : (w : List (List ℕ)) (b : List ℕ) (n : ℕ)
-    → rounds_after (λ b. fips.mix_columns (fips.shift_rows (fips.sub_bytes b))) w b n ≡ fips.state_after w b n
-unfolding rounds_after fips.state_after
-encrypted_after w b zero = refl
-encrypted_after w b (suc n) = ap (λ s. fips.add_round_key (fips.mix_columns (fips.shift_rows (fips.sub_bytes s)))
-    (fips.round_key w (suc n))) (encrypted_after w b n)
+-- states that go by these rounds
+after_is : (step : List ℕ → List ℕ) (w : List (List ℕ)) (b : List ℕ) (state : ℕ → List ℕ)
+    → fips.add_round_key b (fips.round_key w 0) ≡ state 0
+    → ((n : ℕ) → fips.add_round_key (step (state n)) (fips.round_key w (suc n)) ≡ state (suc n))
+    → (n : ℕ) → rounds_after step w b n ≡ state n
+unfolding rounds_after
+after_is step w b state first next zero = first
+after_is step w b state first next (suc n) =
+    ap (λ s. fips.add_round_key (step s) (fips.round_key w (suc n))) (after_is step w b state first next n) ∙ next n
 
+-- Cipher has these rounds
 pub is_cipher : (w : List (List ℕ)) (b : List ℕ)
     → all_rounds (λ b. fips.mix_columns (fips.shift_rows (fips.sub_bytes b))) (λ b. fips.shift_rows (fips.sub_bytes b))
     w b ≡ fips.cipher_with w b
 unfolding all_rounds fips.cipher_with
 is_cipher w b = ap (λ s. fips.add_round_key (fips.shift_rows (fips.sub_bytes s)) (fips.round_key w (fips.last_round w)))
-    (encrypted_after w b (fips.last_round w - 1))
+    (after_is _ w b (fips.state_after w b) refl (λ n. refl) (fips.last_round w - 1))
 
 -- and so has EqInvCipher
-decrypted_after : (w : List (List ℕ)) (b : List ℕ) (n : ℕ) → rounds_after
-    (λ b. fips.inv_mix_columns (fips.inv_shift_rows (fips.inv_sub_bytes b))) w b n ≡ fips.eq_inv_state_after w b n
-unfolding rounds_after fips.eq_inv_state_after
-decrypted_after w b zero = refl
-decrypted_after w b (suc n) =
-    ap (λ s. fips.add_round_key (fips.inv_mix_columns (fips.inv_shift_rows (fips.inv_sub_bytes s)))
-    (fips.round_key w (suc n))) (decrypted_after w b n)
-
 pub is_eq_inv_cipher : (w : List (List ℕ)) (b : List ℕ)
     → all_rounds (λ b. fips.inv_mix_columns (fips.inv_shift_rows (fips.inv_sub_bytes b)))
     (λ b. fips.inv_shift_rows (fips.inv_sub_bytes b)) w b ≡ fips.eq_inv_cipher_with w b
 unfolding all_rounds fips.eq_inv_cipher_with
 is_eq_inv_cipher w b = ap (λ s. fips.add_round_key (fips.inv_shift_rows (fips.inv_sub_bytes s))
-    (fips.round_key w (fips.last_round w))) (decrypted_after w b (fips.last_round w - 1))
+    (fips.round_key w (fips.last_round w)))
+    (after_is _ w b (fips.eq_inv_state_after w b) refl (λ n. refl) (fips.last_round w - 1))

@@ -1,24 +1,24 @@
--- The cipher and the key expansion by the table of the S-box, for examples: by the definition, each byte takes a
+-- The ciphers and the key expansion by the tables of the S-boxes, for examples: by the definition, each byte takes a
 -- search.
 use mathlib.Core.Path.{fun_ext}
-use Rattle.std.proofs.Common.{◌≡◌, ℕ, zero, suc, ◌+◌, ◌-◌, ◌*◌, ◌/◌, ◌%◌, ◌==◌, Bool, true, false, ◌&&◌, nat_lt}
-use Rattle.std.proofs.Common.{List, [], ◌∷◌, ◌++◌, map, slice_index_or, refl, ap, ◌∙◌}
-use Rattle.std.proofs.lemmas.Bool.{ltb-true}
-use Rattle.aes_planes.specs.Fips197.{sbox, sub_bytes, shift_rows, mix_columns, add_round_key, round_key, last_round}
-use Rattle.aes_planes.specs.Fips197.{state_after, cipher_with, cipher, rot_word, add_words, round_constant, key_words}
-use Rattle.aes_planes.specs.Fips197.{key_word, rounds, added_word_if, next_word_if, expanded_words, expanded_word}
-use Rattle.aes_planes.specs.Fips197.{blocks_of, key_expansion}
-use Rattle.aes_planes.proofs.SBox.InverseSBox.{listed, sbox_listed}
+use Rattle.std.proofs.Common.{◌≡◌, ℕ, zero, suc, ◌+◌, ◌-◌, ◌*◌, ◌/◌, ◌%◌, ◌<◌, ◌==◌, Bool, true, false, ◌&&◌, cond}
+use Rattle.std.proofs.Common.{nat_lt, List, [], ◌∷◌, ◌++◌, map, slice_index_or, refl, ap, sym, ◌∙◌}
+use Rattle.std.proofs.lemmas.Bool.{cond_both, ltb-true}
+use Rattle.aes_planes.specs.Fips197.{sbox, inv_sbox, sub_bytes, inv_sub_bytes, shift_rows, inv_shift_rows, mix_columns}
+use Rattle.aes_planes.specs.Fips197.{inv_mix_columns, add_round_key, round_key, last_round, inv_state_after}
+use Rattle.aes_planes.specs.Fips197.{cipher_with, cipher, inv_cipher_with, inv_cipher, rot_word, add_words}
+use Rattle.aes_planes.specs.Fips197.{round_constant, key_words, key_word, rounds, added_word_if, next_word_if}
+use Rattle.aes_planes.specs.Fips197.{expanded_words, expanded_word, blocks_of, key_expansion}
+use Rattle.aes_planes.specs.Rounds.{all_rounds}
+use Rattle.aes_planes.proofs.SBox.InverseSBox.{listed, inv_listed, sbox_listed, inv_sbox_listed}
+use Rattle.aes_planes.proofs.Standard.AllRounds.{is_cipher}
 
 -- ---- the definitions, with any function in the place of the S-box
 
-state_by : (ℕ → ℕ) → List (List ℕ) → List ℕ → ℕ → List ℕ
-state_by s w b zero = add_round_key b (round_key w 0)
-state_by s w b (suc n) = add_round_key (mix_columns (shift_rows (map s (state_by s w b n)))) (round_key w (suc n))
-
-cipher_by : (ℕ → ℕ) → List (List ℕ) → List ℕ → List ℕ
-cipher_by s w b =
-    add_round_key (shift_rows (map s (state_by s w b (last_round w - 1)))) (round_key w (last_round w))
+inv_state_by : (ℕ → ℕ) → List (List ℕ) → List ℕ → ℕ → List ℕ
+inv_state_by s w b zero = add_round_key b (round_key w (last_round w))
+inv_state_by s w b (suc n) =
+    inv_mix_columns (add_round_key (map s (inv_shift_rows (inv_state_by s w b n))) (round_key w (last_round w - suc n)))
 
 added_by : (ℕ → ℕ) → Bool → Bool → ℕ → List ℕ → List ℕ
 added_by s true b j w = add_words (map s (rot_word w)) (round_constant j)
@@ -41,17 +41,11 @@ expansion_by s key = blocks_of (rounds key + 1) (words_by s key (4 * (rounds key
 
 -- ---- with the S-box they are the standard's
 
-state_by_sbox : (w : List (List ℕ)) (b : List ℕ) (n : ℕ) → state_after w b n ≡ state_by sbox w b n
-unfolding state_after sub_bytes state_by
-state_by_sbox w b zero = refl
-state_by_sbox w b (suc n) =
-    ap (λ x. add_round_key (mix_columns (shift_rows (map sbox x))) (round_key w (suc n))) (state_by_sbox w b n)
-
-cipher_by_sbox : (w : List (List ℕ)) (b : List ℕ) → cipher_with w b ≡ cipher_by sbox w b
-unfolding cipher_with sub_bytes cipher_by
-cipher_by_sbox w b =
-    let nr : ℕ = last_round w in
-    ap (λ x. add_round_key (shift_rows (map sbox x)) (round_key w nr)) (state_by_sbox w b (nr - 1))
+inv_state_by_sbox : (w : List (List ℕ)) (b : List ℕ) (n : ℕ) → inv_state_after w b n ≡ inv_state_by inv_sbox w b n
+unfolding inv_state_after inv_sub_bytes inv_state_by
+inv_state_by_sbox w b zero = refl
+inv_state_by_sbox w b (suc n) = ap (λ x. inv_mix_columns (add_round_key (inv_sub_bytes (inv_shift_rows x))
+    (round_key w (last_round w - suc n)))) (inv_state_by_sbox w b n)
 
 added_by_sbox : (a b : Bool) (j : ℕ) (w : List ℕ) → added_word_if a b j w ≡ added_by sbox a b j w
 unfolding added_word_if added_by
@@ -79,48 +73,75 @@ expansion_by_sbox : (key : List ℕ) → key_expansion key ≡ expansion_by sbox
 unfolding key_expansion expansion_by
 expansion_by_sbox key = ap (blocks_of (rounds key + 1)) (words_by_sbox key (4 * (rounds key + 1)))
 
--- ---- with the table too
+-- ---- with the tables too
 
-looked_up_if : Bool → ℕ → ℕ
-looked_up_if true b = listed b
-looked_up_if false b = sbox b
+-- of a byte what a table has, and of any other number what a function has
+looked_up : (ℕ → ℕ) → (ℕ → ℕ) → ℕ → ℕ
+looked_up f table b = cond (nat_lt b 256) (table b) (f b)
 
--- the S-box of a number: of a byte what the table has
-looked_up : ℕ → ℕ
-looked_up b = looked_up_if (nat_lt b 256) b
-
-is_looked_up : (b : ℕ) (byte : Bool) → nat_lt b 256 ≡ byte → sbox b ≡ looked_up_if byte b
-unfolding looked_up_if
-is_looked_up b true e = sbox_listed b (ltb-true _ _ e)
-is_looked_up b false e = refl
-
-sbox_looked_up : sbox ≡ looked_up
+is_looked_up : (f table : ℕ → ℕ) → ((b : ℕ) → b < 256 → f b ≡ table b) → f ≡ looked_up f table
 unfolding looked_up
-sbox_looked_up = fun_ext (λ b. is_looked_up b (nat_lt b 256) refl)
+is_looked_up f table e = fun_ext (λ b. cond_both (nat_lt b 256) (table b) (f b) (λ v. f b ≡ v)
+    (λ t. e b (ltb-true b 256 t)) (λ t. refl))
 
 unfoldable pub expansion_by_table : List ℕ → List (List ℕ)
-unfolding expansion_by words_by next_by added_by looked_up looked_up_if
-expansion_by_table key = expansion_by looked_up key
-
-unfoldable pub cipher_by_table : List ℕ → List ℕ → List ℕ
-unfolding expansion_by_table cipher_by state_by
-cipher_by_table key b = cipher_by looked_up (expansion_by_table key) b
+unfolding expansion_by words_by next_by added_by looked_up
+expansion_by_table key = expansion_by (looked_up sbox listed) key
 
 unfoldable pub word_by_table : List ℕ → ℕ → List ℕ
-unfolding words_by next_by added_by looked_up looked_up_if
-word_by_table key i = slice_index_or (words_by looked_up key (i + 1)) i []
+unfolding words_by next_by added_by looked_up
+word_by_table key i = slice_index_or (words_by (looked_up sbox listed) key (i + 1)) i []
+
+unfoldable pub cipher_by_table : List ℕ → List ℕ → List ℕ
+unfolding expansion_by_table all_rounds looked_up
+cipher_by_table key b =
+    let sub = map (looked_up sbox listed) in
+    all_rounds (λ b. mix_columns (shift_rows (sub b))) (λ b. shift_rows (sub b)) (expansion_by_table key) b
+
+unfoldable pub inv_sub_by_table : List ℕ → List ℕ
+unfolding looked_up
+inv_sub_by_table b = map (looked_up inv_sbox inv_listed) b
+
+unfoldable pub inv_cipher_by_table : List ℕ → List ℕ → List ℕ
+unfolding expansion_by_table inv_state_by inv_sub_by_table
+inv_cipher_by_table key b =
+    let w : List (List ℕ) = expansion_by_table key in
+    add_round_key (inv_sub_by_table (inv_shift_rows (inv_state_by (looked_up inv_sbox inv_listed) w b
+    (last_round w - 1)))) (round_key w 0)
+
+-- ---- so an example is what the tables compute
 
 pub word_tells : (key : List ℕ) (i : ℕ) (v : List ℕ) → word_by_table key i ≡ v → expanded_word key i ≡ v
 unfolding expanded_word word_by_table
-word_tells key i v e =
-    ap (λ ws. slice_index_or ws i []) (words_by_sbox key (i + 1) ∙ ap (λ s. words_by s key (i + 1)) sbox_looked_up) ∙ e
+word_tells key i v e = ap (λ ws. slice_index_or ws i []) (words_by_sbox key (i + 1)
+    ∙ ap (λ s. words_by s key (i + 1)) (is_looked_up sbox listed sbox_listed)) ∙ e
 
 pub expansion_tells : (key : List ℕ) (w : List (List ℕ)) → expansion_by_table key ≡ w → key_expansion key ≡ w
 unfolding expansion_by_table
-expansion_tells key w e = expansion_by_sbox key ∙ ap (λ s. expansion_by s key) sbox_looked_up ∙ e
+expansion_tells key w e =
+    expansion_by_sbox key ∙ ap (λ s. expansion_by s key) (is_looked_up sbox listed sbox_listed) ∙ e
+
+pub cipher_is : (key b : List ℕ) → cipher key b ≡ cipher_by_table key b
+unfolding cipher_by_table sub_bytes
+cipher_is key b =
+    let w : List (List ℕ) = expansion_by_table key in
+    ap (λ w. cipher_with w b) (expansion_tells key w refl) ∙ sym (is_cipher w b)
+    ∙ ap (λ s. all_rounds (λ b. mix_columns (shift_rows (map s b))) (λ b. shift_rows (map s b)) w b)
+    (is_looked_up sbox listed sbox_listed)
 
 pub cipher_tells : (key b c : List ℕ) → cipher_by_table key b ≡ c → cipher key b ≡ c
-unfolding cipher_by_table
-cipher_tells key b c e =
-    ap (λ w. cipher_with w b) (expansion_tells key _ refl) ∙ cipher_by_sbox (expansion_by_table key) b
-    ∙ ap (λ s. cipher_by s (expansion_by_table key) b) sbox_looked_up ∙ e
+cipher_tells key b c e = cipher_is key b ∙ e
+
+pub inv_sub_bytes_tells : (b c : List ℕ) → inv_sub_by_table b ≡ c → inv_sub_bytes b ≡ c
+unfolding inv_sub_by_table inv_sub_bytes
+inv_sub_bytes_tells b c e = ap (λ s. map s b) (is_looked_up inv_sbox inv_listed inv_sbox_listed) ∙ e
+
+pub inv_cipher_is : (key b : List ℕ) → inv_cipher key b ≡ inv_cipher_by_table key b
+unfolding inv_cipher_by_table inv_cipher_with inv_sub_by_table inv_sub_bytes
+inv_cipher_is key b =
+    let w : List (List ℕ) = expansion_by_table key in
+    let n : ℕ = last_round w - 1 in
+    ap (λ w. inv_cipher_with w b) (expansion_tells key w refl)
+    ∙ ap (λ x. add_round_key (inv_sub_bytes (inv_shift_rows x)) (round_key w 0)) (inv_state_by_sbox w b n)
+    ∙ ap (λ s. add_round_key (map s (inv_shift_rows (inv_state_by s w b n))) (round_key w 0))
+    (is_looked_up inv_sbox inv_listed inv_sbox_listed)

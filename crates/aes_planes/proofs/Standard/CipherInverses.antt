@@ -1,6 +1,6 @@
 -- Cipher and InvCipher undo each other, and EqInvCipher is InvCipher.
-use Rattle.std.proofs.Common.{◌≡◌, ℕ, zero, suc, ◌+◌, ◌-◌, ◌<◌, ◌≤◌, List, length, inl, inr, refl, ap, sym, subst, ◌∙◌}
-use Rattle.std.proofs.Common.{arith}
+use Rattle.std.proofs.Common.{◌≡◌, ℕ, zero, suc, ◌+◌, ◌-◌, ◌<◌, ◌≤◌, List, [], ◌∷◌, length, map, inl, inr, refl}
+use Rattle.std.proofs.Common.{◌^◌, slice_index, slice_index_or, ap, sym, subst, ◌∙◌, arith}
 use Rattle.aes_planes.specs.Fips197.{IsBlock, AreRoundKeys, round_key, last_round, sub_bytes, inv_sub_bytes, shift_rows}
 use Rattle.aes_planes.specs.Fips197.{inv_shift_rows, mix_columns, inv_mix_columns, add_round_key, state_after}
 use Rattle.aes_planes.specs.Fips197.{cipher_with, inv_state_after, inv_cipher_with, inverted_keys, eq_inv_state_after}
@@ -125,9 +125,30 @@ module _ (w : List (List ℕ)) where
         ∙ ap (λ v. add_key (last_round w) (run (forth 0) mixed_forth v (last_round w - 1))) (inv_cipher_run b)
         ∙ run_undone _ _ _ _ _ _ _ decryption b h (omega (arith, keys.two))
 
-    pub cipher_block : (b : List ℕ) → IsBlock b → IsBlock (cipher_with w b)
-    cipher_block b h = rw (cipher_run b) (encryption.end.block (run (forth 0) mixed_forth b (last_round w - 1))
-        (run_block _ _ _ _ _ _ _ encryption b h (last_round w - 1) (omega (arith, keys.two))))
+    pub cipher_bytes : (b : List ℕ) (i : ℕ) → IsBlock b → slice_index (cipher_with w b) i < 2 ^ 8
+    cipher_bytes b i h = rw (cipher_run b) ((encryption.end.block (run (forth 0) mixed_forth b (last_round w - 1))
+        (run_block _ _ _ _ _ _ _ encryption b h (last_round w - 1) (omega (arith, keys.two)))).1 i)
+
+  pub cipher_length : (b : List ℕ) → length (cipher_with w b) ≡ 16
+  unfolding cipher_with
+  cipher_length b = add_length _ _
+
+-- where one function undoes another on blocks, it does so on lists of them
+undone_each : (f g : List ℕ → List ℕ) → ((b : List ℕ) → IsBlock b → g (f b) ≡ b)
+    → (bs : List (List ℕ)) → ((i : ℕ) → i < length bs → IsBlock (slice_index_or bs i [])) → map g (map f bs) ≡ bs
+undone_each f g undone [] blocks = refl
+undone_each f g undone (b ∷ bs) blocks =
+    λ j. undone b (blocks 0 (omega arith)) j ∷ undone_each f g undone bs (λ i lt. blocks (suc i) (omega arith)) j
+
+module _ (w : List (List ℕ)) (bs : List (List ℕ)) (keys : AreRoundKeys w)
+    (blocks : (i : ℕ) → i < length bs → IsBlock (slice_index_or bs i [])) where
+  pub inv_ciphers_of_ciphers : map (inv_cipher_with w) (map (cipher_with w) bs) ≡ bs
+  inv_ciphers_of_ciphers = undone_each (cipher_with w) (inv_cipher_with w) (inv_cipher_of_cipher w keys) bs blocks
+
+  pub ciphers_of_inv_ciphers : map (cipher_with w) (map (inv_cipher_with w) bs) ≡ bs
+  ciphers_of_inv_ciphers = undone_each (inv_cipher_with w) (cipher_with w) (cipher_of_inv_cipher w keys) bs blocks
+
+pub ruleset inverse_ciphers_on_blocks = (inv_ciphers_of_ciphers, ciphers_of_inv_ciphers)
 
 -- ---- the equivalent inverse cipher
 

@@ -62,8 +62,7 @@ has_inverse : (b : ℕ) → b < 256 → b ≢ 0 → Inverse b (power_254 b)
 unfolding inverse_test
 has_inverse zero h n = absurd (n refl)
 has_inverse (suc b) h n =
-    let p = and_parts _ _ (all_below_tells 255 (λ b. inverse_test (suc b) (power_254 (suc b))) inverses b
-    (omega arith)) in
+    let p = and_parts _ _ (all_below_tells 255 _ inverses b (omega arith)) in
     let q = and_parts _ _ p.1 in
     record { byte = ltb-true _ _ p.0; product = eqb-true _ _ q.0; undoes = q.1 }
 

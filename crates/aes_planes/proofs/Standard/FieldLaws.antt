@@ -5,7 +5,7 @@ use Rattle.std.specs.Int.Bits.{xor_assoc, xor_zero_l, xor_zero_r, xor_self}
 use Rattle.std.proofs.lemmas.Nat.{xor_comm, xor_shr, xor_mod, xor_lt, xor_block, pow_pos}
 use Rattle.std.proofs.lemmas.Bool.{eqb-true, cases_lt, and_parts, ltb-true}
 use Rattle.std.proofs.Math.Nat.{mod-lt, pow-suc}
-use Rattle.aes_planes.proofs.Bits.ByteCases.{all_below, all_below_tells}
+use Rattle.aes_planes.proofs.Bits.ByteCases.{all_below, all_below_tells, by_pairs}
 use Rattle.aes_planes.specs.Fips197.{field_add, field_mul, low_product, xtime}
 
 -- ---- sums
@@ -27,13 +27,7 @@ add_twice a b = xor_assoc a b b ∙ ap (field_add a) (xor_self b) ∙ xor_zero_r
 
 chosen : (a p q : ℕ) → p < 2 → q < 2 → (if bit_xor p q == 1 then a else 0)
     ≡ field_add (if p == 1 then a else 0) (if q == 1 then a else 0)
-chosen a zero zero h k = sym (xor_zero_r 0)
-chosen a zero (suc zero) h k = sym (xor_zero_l a)
-chosen a (suc zero) zero h k = sym (xor_zero_r a)
-chosen a (suc zero) (suc zero) h k = sym (xor_self a)
-chosen a (suc (suc p)) q h k = absurd (omega arith)
-chosen a zero (suc (suc q)) h k = absurd (omega arith)
-chosen a (suc zero) (suc (suc q)) h k = absurd (omega arith)
+chosen a = by_pairs _ (sym (xor_zero_r 0)) (sym (xor_zero_l a)) (sym (xor_zero_r a)) (sym (xor_self a))
 
 low_product_add : (n a b c : ℕ) → low_product n a (field_add b c) ≡ field_add (low_product n a b) (low_product n a c)
 unfolding low_product
@@ -169,8 +163,7 @@ module _ (f g : ℕ → ℕ) (p : Linear f) (q : Linear g) where
   -- whether they agree on the powers of x below 2 ^ 8
   pub agree_by_powers : all_below 8 (λ i. f (2 ^ i) == g (2 ^ i)) ≡ true → (x : ℕ) → x < 256 → f x ≡ g x
   agree_by_powers test x lt =
-      agree_below 8 (λ i l. eqb-true (f (2 ^ i)) (g (2 ^ i)) (all_below_tells 8 (λ i. f (2 ^ i) == g (2 ^ i)) test i l))
-      x lt
+      agree_below 8 (λ i l. eqb-true (f (2 ^ i)) (g (2 ^ i)) (all_below_tells 8 _ test i l)) x lt
 
 pub field_mul_one_left : (a : ℕ) → a < 256 → field_mul 1 a ≡ a
 unfolding all_below field_mul

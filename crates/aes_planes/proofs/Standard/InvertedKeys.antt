@@ -8,9 +8,7 @@ use Rattle.aes_planes.proofs.Lists.Built.{get_or-build, length-build}
 
 pub inverted_length : (w : List (List ℕ)) → length (fips.inverted_keys w) ≡ length w
 unfolding fips.inverted_keys
-inverted_length w =
-    length-build (length w) (λ i. if (i == 0) || (i == fips.last_round w) then fips.round_key w (fips.last_round w - i)
-    else fips.inv_mix_columns (fips.round_key w (fips.last_round w - i)))
+inverted_length w = length-build (length w) _
 
 module _ (w : List (List ℕ)) (i : ℕ) (lt : i < length w) where
   -- the key at place i, by whether it stays as it is
@@ -21,10 +19,7 @@ module _ (w : List (List ℕ)) (i : ℕ) (lt : i < length w) where
 
   inverted_at : slice_index_or (fips.inverted_keys w) i [] ≡ key_if ((i == 0) || (i == fips.last_round w))
   unfolding fips.inverted_keys key_if
-  inverted_at =
-      get_or-build (length w) i (λ i. if (i == 0) || (i == fips.last_round w) then fips.round_key w
-      (fips.last_round w - i)
-      else fips.inv_mix_columns (fips.round_key w (fips.last_round w - i))) [] lt
+  inverted_at = get_or-build (length w) i _ [] lt
 
   is_end : (i ≡ 0) ⊎ (i ≡ fips.last_round w) → ((i == 0) || (i == fips.last_round w)) ≡ true
   is_end (inl e) = ap (λ v. v || (i == fips.last_round w)) (eq-eqb i 0 e)

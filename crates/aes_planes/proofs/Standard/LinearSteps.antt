@@ -121,9 +121,7 @@ maps_agree f g p q test v h r lt =
     (λ j k. agree_by_powers (λ x. f (only j x) r) (λ x. g (only j x) r)
     (λ x y. ap (λ u. f u r) (λ i l. only_add j x y l i) ∙ (λ i. p (only j x) (only j y) i r))
     (λ x y. ap (λ u. g u r) (λ i l. only_add j x y l i) ∙ (λ i. q (only j x) (only j y) i r))
-    (all_below_tells 4 (λ j. all_below 8 (λ k. f (only j (2 ^ k)) r == g (only j (2 ^ k)) r))
-    (all_below_tells 4 (λ r. all_below 4 (λ j. all_below 8 (λ k. f (only j (2 ^ k)) r == g (only j (2 ^ k)) r))) test r
-    lt) j k))
+    (all_below_tells 4 _ (all_below_tells 4 _ test r lt) j k))
     v h
 
 -- ---- a matrix times each column of a state
@@ -160,8 +158,7 @@ times_as : (m n : ℕ → List ℕ) (f : (ℕ → ℕ) → ℕ → ℕ) → Line
     → (s : List ℕ) → IsBytes s → times m (times n s) ≡ state (λ r c. f (first_rows 4 (column s c)) r)
 times_as m n f p test s h =
     times_times m n s
-    ∙ state_same (λ r c. matrix m (matrix n (first_rows 4 (column s c))) r) (λ r c. f (first_rows 4 (column s c)) r)
-    (λ r c lt _. maps_agree (λ v. matrix m (matrix n v)) f
+    ∙ state_same _ _ (λ r c lt _. maps_agree (λ v. matrix m (matrix n v)) f
     (product_add (matrix m) (matrix n) (matrix_add m) (matrix_add n)) p test
     (column s c) (λ j. h (j + 4 * c)) r lt)
 

@@ -4,8 +4,8 @@ use Rattle.std.proofs.Common.{slice_index_or, refl, ap, sym, ◌∙◌, arith}
 use Rattle.std.proofs.lemmas.Bool.{and_parts, ltb-true}
 use Rattle.std.proofs.Math.Nat.{mod-lt}
 use Rattle.std.specs.List.{list_all}
-use Rattle.aes_planes.specs.Fips197.{byte_at, build, build_from, state, IsBytes, IsBlock}
-use Rattle.aes_planes.proofs.Lists.Built.{get_or-build, build_is}
+use Rattle.aes_planes.specs.Fips197.{byte_at, state, IsBytes, IsBlock}
+use Rattle.aes_planes.proofs.Lists.Built.{get_or-build, build_is, build_each}
 
 pub state_length : (f : ℕ → ℕ → ℕ) → length (state f) ≡ 16
 unfolding state
@@ -32,15 +32,10 @@ pub state_same : (f g : ℕ → ℕ → ℕ) → ((r c : ℕ) → r < 4 → c < 
 state_same f g h = state_is f (state g) (state_length g) (λ r c p q. h r c p q ∙ sym (byte_at-state g r c p q))
 
 -- states of bytes
-build_from_bytes : (a n : ℕ) (f : ℕ → ℕ) → ((i : ℕ) → f i < 256) → IsBytes (build_from a n f)
-unfolding build_from
-build_from_bytes a zero f h i = omega arith
-build_from_bytes a (suc n) f h zero = h a
-build_from_bytes a (suc n) f h (suc i) = build_from_bytes (a + 1) n f h i
-
 pub state_bytes : (f : ℕ → ℕ → ℕ) → ((r c : ℕ) → f r c < 256) → IsBytes (state f)
-unfolding state build
-state_bytes f h = build_from_bytes 0 16 (λ i. f (i % 4) (i / 4)) (λ i. h (i % 4) (i / 4))
+unfolding state
+state_bytes f h =
+    build_each (λ x. x < 256) 0 (omega arith) 16 (λ i. f (i % 4) (i / 4)) (λ i. h (i % 4) (i / 4))
 
 pub state_block : (f : ℕ → ℕ → ℕ) → ((r c : ℕ) → f r c < 256) → IsBlock (state f)
 state_block f h = (state_length f, state_bytes f h)

@@ -1,14 +1,16 @@
 -- Words that are made of nibbles and bytes, at every width.
 use Rattle.std.proofs.Common.{◌≡◌, ℕ, zero, suc, ◌+◌, ◌-◌, ◌*◌, ◌/◌, ◌%◌, ◌^◌, ◌<◌, ◌≤◌, Bool, true, ◌&&◌, nat_lt}
-use Rattle.std.proofs.Common.{bit_and, bit_or, [], ◌∷◌, get_or, refl, ap, ◌∙◌, arith}
+use Rattle.std.proofs.Common.{bit_and, bit_or, [], ◌∷◌, get_or, refl, ap, sym, ◌∙◌, arith}
 use Rattle.std.proofs.lemmas.Bool.{and_parts, ltb-true}
+use Rattle.std.proofs.lemmas.Nat.{div-add-mod'}
 use Rattle.std.proofs.Math.Nat.{div-lt_iff_lt-mul, mod-lt}
-use Rattle.aes_planes.specs.Bits.{bit}
+use Rattle.aes_planes.specs.Bits.{at, bit}
+use Rattle.aes_planes.specs.Words.{word_bits}
 use Rattle.aes_planes.proofs.Bits.BitCases.{same, same_tells}
 use Rattle.aes_planes.proofs.Bits.ByteCases.{all_below, all_below_tells, all_pairs, all_pairs_tell, by_four}
 use Rattle.aes_planes.proofs.Lists.Built.{get_or-build}
 use Rattle.aes_planes.proofs.Bits.Digits.{field_bit, rows_joined, byte_repeated}
-use Rattle.aes_planes.proofs.Bits.NumberBits.{bit_low, bit_shr, number_calls, number_nots}
+use Rattle.aes_planes.proofs.Bits.NumberBits.{bit_low, bit_shr, reads, number_calls, number_nots}
 
 -- ---- a row of n bits a column
 
@@ -48,27 +50,66 @@ row_bit b n q h some few = (row_right b n h some few).2 q
 
 pub ruleset row_calls = (row_small, row_fits, row_bit)
 
--- four rows joined, each of a nibble's bits
+-- ---- rows and columns of places
+
+-- the row and the column of a place, where a row has R bits and a column Q
+pub row_below : (i R : ℕ) → i < 4 * R → i / R < 4
+row_below i R h = (div-lt_iff_lt-mul {k = R} (omega (arith, h))).1 h
+
+pub column_below : (i R Q : ℕ) → 1 ≤ Q → R ≡ 4 * Q → i % R / Q < 4
+column_below i R Q some e =
+    let m : i % R < R = mod-lt i (omega (arith, e, some)) in
+    row_below (i % R) Q (omega (arith, m, e))
+
+-- one nibble in every row
+pub same_nibble : (b j : ℕ) → j < 4 → get_or (b ∷ b ∷ b ∷ b ∷ []) j 0 ≡ b
+same_nibble b j h = by_four (λ j. get_or (b ∷ b ∷ b ∷ b ∷ []) j 0 ≡ b) refl refl refl refl j h
+
+-- four rows joined, in a word of n blocks: each has a nibble's bits, n times each
 pub rows_packed : (n x0 x1 x2 x3 r0 r1 r2 r3 : ℕ) → x0 < 2 ^ (4 * n) → x1 < 2 ^ (4 * n) → x2 < 2 ^ (4 * n)
     → x3 < 2 ^ (4 * n)
     → ((q : ℕ) → q < 4 * n → bit x0 q ≡ bit r0 (q / n)) → ((q : ℕ) → q < 4 * n → bit x1 q ≡ bit r1 (q / n))
     → ((q : ℕ) → q < 4 * n → bit x2 q ≡ bit r2 (q / n)) → ((q : ℕ) → q < 4 * n → bit x3 q ≡ bit r3 (q / n))
-    → (i : ℕ) → i / (4 * n) < 4 → i % (4 * n) < 4 * n → i ≡ i / (4 * n) * (4 * n) + i % (4 * n)
-    → bit (bit_or (bit_or (bit_or x0 (x1 * 2 ^ (4 * n) % 2 ^ (16 * n))) (x2 * 2 ^ (2 * (4 * n)) % 2 ^ (16 * n)))
-    (x3 * 2 ^ (3 * (4 * n)) % 2 ^ (16 * n))) i ≡ bit (get_or (r0 ∷ r1 ∷ r2 ∷ r3 ∷ []) (i / (4 * n)) 0) (i % (4 * n) / n)
-rows_packed n x0 x1 x2 x3 r0 r1 r2 r3 f0 f1 f2 f3 b0 b1 b2 b3 i row column place =
+    → (i : ℕ) → i < 16 * n
+    → at (word_bits (16 * n) (bit_or (bit_or (bit_or x0 (x1 * 2 ^ (4 * n) % 2 ^ (16 * n)))
+    (x2 * 2 ^ (2 * (4 * n)) % 2 ^ (16 * n))) (x3 * 2 ^ (3 * (4 * n)) % 2 ^ (16 * n)))) i
+    ≡ bit (get_or (r0 ∷ r1 ∷ r2 ∷ r3 ∷ []) (i / (4 * n)) 0) (i % (4 * n) / n)
+rows_packed n x0 x1 x2 x3 r0 r1 r2 r3 f0 f1 f2 f3 b0 b1 b2 b3 i h =
     let q = i % (4 * n) in
-    rows_joined (16 * n) (4 * n) x0 x1 x2 x3 (i / (4 * n)) q i (omega arith) f0 f1 f2 f3 row column place
+    let row : i / (4 * n) < 4 = row_below i (4 * n) (omega arith) in
+    let column : q < 4 * n = mod-lt i (omega arith) in
+    sym (reads (16 * n) _ i h)
+    ∙ rows_joined (16 * n) (4 * n) x0 x1 x2 x3 (i / (4 * n)) q i (omega arith) f0 f1 f2 f3 row column
+    (sym (div-add-mod' i (4 * n)))
     ∙ by_four (λ j. bit (get_or (x0 ∷ x1 ∷ x2 ∷ x3 ∷ []) j 0) q ≡ bit (get_or (r0 ∷ r1 ∷ r2 ∷ r3 ∷ []) j 0) (q / n))
     (b0 q column) (b1 q column) (b2 q column) (b3 q column) (i / (4 * n)) row
 
--- the nibbles of sixteen bits
+-- a number in four parts of w bits
+quarter_bit : (w x p i : ℕ) → p < 4 → i < w
+    → bit (get_or (x % 2 ^ w ∷ x / 2 ^ w % 2 ^ w ∷ x / 2 ^ (2 * w) % 2 ^ w ∷ x / 2 ^ (3 * w) ∷ []) p 0) i
+    ≡ bit x (w * p + i)
+quarter_bit w x p i hp hi =
+    by_four (λ p. bit (get_or (x % 2 ^ w ∷ x / 2 ^ w % 2 ^ w ∷ x / 2 ^ (2 * w) % 2 ^ w ∷ x / 2 ^ (3 * w) ∷ []) p 0) i
+    ≡ bit x (w * p + i))
+    (bit_low x w i hi ∙ ap (bit x) (omega arith)) (field_bit x w w i hi ∙ ap (bit x) (omega arith))
+    (field_bit x (2 * w) w i hi ∙ ap (bit x) (omega arith)) (bit_shr x (3 * w) i ∙ ap (bit x) (omega arith)) p hp
+
 pub nibble_bit : (x j q : ℕ) → j < 4 → q < 4 → bit (get_or (x % 16 ∷ x / 16 % 16 ∷ x / 256 % 16 ∷ x / 4096 ∷ []) j 0) q
     ≡ bit x (4 * j + q)
-nibble_bit x j q hj hq = by_four (λ j. bit (get_or (x % 16 ∷ x / 16 % 16 ∷ x / 256 % 16 ∷ x / 4096 ∷ []) j 0) q
-    ≡ bit x (4 * j + q))
-    (bit_low x 4 q hq ∙ ap (bit x) (omega arith)) (field_bit x 4 4 q hq) (field_bit x 8 4 q hq)
-    (bit_shr x 12 q ∙ ap (bit x) (omega arith)) j hj
+nibble_bit = quarter_bit 4
+
+pub ruleset row_places = (same_nibble, nibble_bit, row_below, column_below)
+
+pub parted_bit : (x p i : ℕ) → p < 4 → i < 16
+    → bit (get_or (x % 2 ^ 16 ∷ x / 2 ^ 16 % 2 ^ 16 ∷ x / 2 ^ 32 % 2 ^ 16 ∷ x / 2 ^ 48 ∷ []) p 0) i ≡ bit x (16 * p + i)
+parted_bit = quarter_bit 16
+
+-- and such parts joined
+pub joined_bit : (a b c d p i : ℕ) → a < 2 ^ 16 → b < 2 ^ 16 → c < 2 ^ 16 → d < 2 ^ 16 → p < 4 → i < 16
+    → bit (bit_or (bit_or (bit_or a (b * 2 ^ 16 % 2 ^ 64)) (c * 2 ^ 32 % 2 ^ 64)) (d * 2 ^ 48 % 2 ^ 64)) (16 * p + i)
+    ≡ bit (get_or (a ∷ b ∷ c ∷ d ∷ []) p 0) i
+joined_bit a b c d p i f0 f1 f2 f3 hp hi =
+    rows_joined 64 16 a b c d p i (16 * p + i) refl f0 f1 f2 f3 hp hi (omega arith)
 
 -- a byte in every byte of a word
 pub bytes_of_16 : (b : ℕ) → b < 256 → (i : ℕ) → i < 16 → bit (b * 0x0101) i ≡ bit b (i % 8)
@@ -91,21 +132,3 @@ nibbles_of_16 b f i h = same_tells _ _ (all_pairs_tell 16 16
 
 -- what most calls of a word leave, where it is a number
 pub ruleset word_calls = (number_calls, number_nots, get_or-build, bytes_of_16, bytes_of_32, bytes_of_64, nibbles_of_16)
-
--- ---- rows and columns of places
-
-four_rows : (i R : ℕ) → 1 ≤ R → i < 4 * R → i / R < 4
-four_rows i R p h = (div-lt_iff_lt-mul {k = R} p).1 h
-
--- the row and the column of a place, where a row has R bits, a column Q and a word w
-pub row_of_place : (n w R Q i : ℕ) → 1 ≤ n → w ≡ 16 * n → R ≡ 4 * n → Q ≡ n → i < w → i / R < 4
-row_of_place n w R Q i p ew eR eQ h = four_rows i R (omega (arith, eR, p)) (omega (arith, ew, eR))
-
-pub column_of_place : (n w R Q i : ℕ) → 1 ≤ n → w ≡ 16 * n → R ≡ 4 * n → Q ≡ n → i < w → i % R / Q < 4
-column_of_place n w R Q i p ew eR eQ h =
-    let m : i % R < R = mod-lt i (omega (arith, eR, p)) in
-    four_rows (i % R) Q (omega (arith, eQ, p)) (omega (arith, m, eR, eQ))
-
--- one nibble in every row
-pub same_nibble : (b j : ℕ) → j < 4 → get_or (b ∷ b ∷ b ∷ b ∷ []) j 0 ≡ b
-same_nibble b j h = by_four (λ j. get_or (b ∷ b ∷ b ∷ b ∷ []) j 0 ≡ b) refl refl refl refl j h

@@ -1,10 +1,10 @@
 -- Packing at every width: planes that hold blocks, words as bytes, and the bytes of a block by swizzles.
 use Rattle.std.proofs.Common.{◌≡◌, ℕ, zero, suc, ◌+◌, ◌*◌, ◌/◌, ◌%◌, ◌^◌, ◌<◌, ◌≤◌, ◌==◌, Bool, true, List, [], ◌∷◌}
-use Rattle.std.proofs.Common.{◌++◌, length, map, get_or, T, refl, ap, sym, subst, ◌∙◌, arith}
+use Rattle.std.proofs.Common.{◌++◌, length, map, get_or, T, refl, ap, sym, subst, ◌∙◌, arith, w8, Fits}
 use Rattle.std.specs.Int.{to_le_bytes, from_le_bytes, w32}
 use Rattle.std.proofs.lemmas.List.{ext_get_or, get_or-map, length-map}
 use Rattle.std.proofs.lemmas.Nat.{le_bytes_4}
-use Rattle.std.proofs.lemmas.Simd.{pick_l_left, Each1-get_or, Each1-from_get_or}
+use Rattle.std.proofs.lemmas.Simd.{pick_l_left, Each1-get_or, Each1-from_get_or, below_from_Fits}
 use Rattle.std.proofs.lemmas.Bool.{eqb-true}
 use lib.Lanes.{Each1, pick_l, digits_l, number_l, all_below as all_lanes_below}
 use Rattle.aes_planes.specs.Bits.{at, bit}
@@ -14,7 +14,7 @@ use Rattle.aes_planes.specs.Private.Packing.{row_byte}
 use Rattle.aes_planes.specs.Planes.{held, place}
 use Rattle.aes_planes.specs.Words.{word_bits}
 use Rattle.aes_planes.proofs.Bits.ByteCases.{all_below, all_below_tells, all_pairs, all_pairs_tell, by_one, by_four}
-use Rattle.aes_planes.proofs.Bits.Digits.{field_bit, regrouped}
+use Rattle.aes_planes.proofs.Bits.Digits.{field_bit, regrouped, digits_small, each_small}
 use Rattle.aes_planes.proofs.Bits.NumberBits.{bit_low, reads}
 use Rattle.aes_planes.proofs.Planes.Held.{place_lt}
 use Rattle.aes_planes.proofs.Planes.Holds.{holds_held}
@@ -146,7 +146,7 @@ picked_small xs (k ∷ ks) zero f = f k
 picked_small xs (k ∷ ks) (suc i) f = picked_small xs ks i f
 
 module _ (xs ks : List ℕ) (d : length xs ≡ 16) (within : T (all_lanes_below 16 ks)) where
-  pub swizzled_small : ((i : ℕ) → get_or xs i 0 < 2 ^ 8) → (i : ℕ) → get_or (pick_l 0 (xs ++ xs) ks) i 0 < 2 ^ 8
+  swizzled_small : ((i : ℕ) → get_or xs i 0 < 2 ^ 8) → (i : ℕ) → get_or (pick_l 0 (xs ++ xs) ks) i 0 < 2 ^ 8
   swizzled_small f i = subst (λ (v : List ℕ). get_or v i 0 < 2 ^ 8) (sym (pick_l_left 0 xs xs 16 ks d within))
       (picked_small xs ks i f)
 
@@ -180,6 +180,9 @@ by_columns_at xs j p d h hp =
     ap (λ v. bit v p) (swizzled xs flipped d tt (j / 4 + 4 * (j % 4)) j (omega (arith, h))
     (all_below_tells 16 _ back_checked j h))
     ∙ sym (lane_at xs j p h hp)
+
+pub by_columns_typed : (xs : List ℕ) → length xs ≡ 16 → Each1 (Fits w8) xs → IsBlock (pick_l 0 (xs ++ xs) flipped)
+by_columns_typed xs d f = (refl, swizzled_small xs flipped d tt (each_small 8 xs (below_from_Fits w8 xs f)))
 
 -- even and odd columns apart, and together
 
@@ -225,3 +228,10 @@ together_at even odd fe fo o ho j p hj hp =
     ∙ regrouped 8 64 16 (even ∷ odd ∷ []) (8 * o + j) p o (8 * j + p) (fe, (fo, tt)) (omega arith) hp ho (omega arith)
     (omega arith)
     ∙ reads 64 (get_or (even ∷ odd ∷ []) o 0) (8 * j + p) (omega arith)
+
+pub together_typed : (even odd : ℕ) → IsBlock (pick_l 0 (bytes_of even odd ++ bytes_of even odd) together)
+together_typed even odd = (
+  refl,
+  swizzled_small (bytes_of even odd) together refl tt (each_small 8 (bytes_of even odd)
+      (digits_small 8 16 (number_l (2 ^ 64) (even ∷ odd ∷ [])))),
+)

@@ -1,12 +1,11 @@
 -- Eight words of sixteen bits as lanes of a vector, and their bits through the operations on vectors.
 use Rattle.std.proofs.Common.{◌≡◌, ℕ, ◌+◌, ◌-◌, ◌*◌, ◌/◌, ◌%◌, ◌^◌, ◌<◌, ◌≤◌, Bool, true, ◌&&◌, ◌||◌, not, bit_and}
 use Rattle.std.proofs.Common.{bit_or, bit_xor, List, [], ◌∷◌, ◌++◌, length, map, get_or, replicate, refl, ap, sym, ◌∙◌}
-use Rattle.std.proofs.Common.{arith, w16, Fits}
+use Rattle.std.proofs.Common.{arith, w8, w16, Fits, zero, suc, false, cond, nat_le, ◌==◌}
 use Rattle.std.proofs.Math.Bool.{and-false, and-true}
 use Rattle.std.proofs.lemmas.Bool.{eqb-true, cases_lt, and_parts}
-use Rattle.std.proofs.lemmas.Simd.{below_from_Fits, map-map}
 use Rattle.std.proofs.lemmas.List.{length-map}
-use lib.Lanes.{zip2, pick_l, Each1, number_l, digits_l}
+use lib.Lanes.{zip2, pick_l, Each1, number_l, digits_l, mask_l, top}
 use Rattle.aes_planes.specs.Bits.{at, bit, xor, number}
 use Rattle.aes_planes.specs.Fips197.{field_add, field_mul}
 use Rattle.aes_planes.specs.Planes.{held_byte, place, summed}
@@ -16,16 +15,14 @@ use Rattle.aes_planes.proofs.Bits.ByteCases.{all_below, all_pairs, all_pairs_tel
 use Rattle.aes_planes.proofs.Bits.BytesByBits.{number-sum, number-double, sum_bits-map}
 use Rattle.aes_planes.proofs.Bits.Digits.{digits_small, each_small, regrouped}
 use Rattle.aes_planes.proofs.Bits.NumberBits.{reads, bit_rotated, bit_zero, bit_ones, bit_of_and, bit_of_or, bit_of_xor}
+use Rattle.aes_planes.proofs.Bits.NumberBits.{word_xor, word_shl}
 use Rattle.aes_planes.proofs.Lists.Built.{map-same, map-same_at}
 use Rattle.aes_planes.proofs.Mixing.Matrices.{stay_bit, masked_turn}
-use Rattle.aes_planes.proofs.Words.LaneBits.{lane_of_two, lane_of_splats}
-use Rattle.std.proofs.Common.{zero, suc, false, w8, cond, nat_le, ◌==◌}
-use Rattle.std.proofs.lemmas.Simd.{get_or-zip2, get_or-replicate, length-zip2, mask_l-mod, bit_mask_l, tops_compared}
-use lib.Lanes.{mask_l, top}
-use Rattle.aes_planes.proofs.Bits.NumberBits.{word_xor, word_shl}
+use Rattle.aes_planes.proofs.Words.LaneBits.{lane_of_two, lane_of_splat, lane_of_splats, length-splat, lane_small, shl8}
+use Rattle.std.proofs.lemmas.Simd.{below_from_Fits, map-map, get_or-zip2, get_or-replicate, length-zip2, mask_l-mod}
+use Rattle.std.proofs.lemmas.Simd.{bit_mask_l, tops_compared}
 use Rattle.aes_planes.proofs.KeySchedule.SummedColumns.{columns_right, summed-ext, xor_inward}
-use Rattle.aes_planes.proofs.Words.LaneBits.{lane_small}
-use Rattle.aes_planes.proofs.Words.Packing.{swizzled}
+use Rattle.aes_planes.proofs.Words.Packing.{swizzled, together}
 
 -- ---- lanes of another width
 
@@ -60,18 +57,15 @@ abbrev pub lane_bytes : List ℕ → List ℕ
 lane_bytes x = digits_l (2 ^ 8) 16 (number_l (2 ^ 16) x)
 
 -- the lower bytes, and the upper ones
-abbrev pub halves : List ℕ
-halves = 0 ∷ 2 ∷ 4 ∷ 6 ∷ 8 ∷ 10 ∷ 12 ∷ 14 ∷ 1 ∷ 3 ∷ 5 ∷ 7 ∷ 9 ∷ 11 ∷ 13 ∷ 15 ∷ []
-
-halves_checked : all_pairs 2 8 (λ j r. get_or halves (8 * j + r) 0 == 2 * r + j) ≡ true
+halves_checked : all_pairs 2 8 (λ j r. get_or together (8 * j + r) 0 == 2 * r + j) ≡ true
 unfolding all_below
 halves_checked = refl
 
 pub half_bit : (x : List ℕ) (j r i : ℕ) → length x ≡ 8 → Each1 (Fits w16) x → j < 2 → r < 8 → i < 8
-    → bit (get_or (pick_l 0 (lane_bytes x ++ lane_bytes x) halves) (8 * j + r) 0) i ≡ bit (get_or x r 0) (8 * j + i)
+    → bit (get_or (pick_l 0 (lane_bytes x ++ lane_bytes x) together) (8 * j + r) 0) i ≡ bit (get_or x r 0) (8 * j + i)
 half_bit x j r i d f hj hr hi =
-    ap (λ v. bit v i) (swizzled (lane_bytes x) halves refl tt (8 * j + r) (2 * r + j) (omega arith)
-    (all_pairs_tell 2 8 (λ j r. get_or halves (8 * j + r) 0 == 2 * r + j) halves_checked j r hj hr))
+    ap (λ v. bit v i) (swizzled (lane_bytes x) together refl tt (8 * j + r) (2 * r + j) (omega arith)
+    (all_pairs_tell 2 8 (λ j r. get_or together (8 * j + r) 0 == 2 * r + j) halves_checked j r hj hr))
     ∙ regrouped 8 16 16 x (2 * r + j) i r (8 * j + i) (below_from_Fits w16 x f) (omega arith) hi (omega (arith, d))
     (omega arith) (omega arith)
 
@@ -96,9 +90,6 @@ mask_bit ms i d =
     ∙ ap (λ v. v / 2 ^ i % 2 == 1) (mask_l-mod ms 16 (omega (arith, d)))
     ∙ ap (λ v. v == 1) (bit_mask_l ms i) ∙ one_if (get_or ms i false)
 
-abbrev shl8 : ℕ → ℕ → ℕ
-shl8 x y = x * 2 ^ y % 2 ^ 8
-
 pub plane_bit : (x : List ℕ) (p i : ℕ) → length x ≡ 16 → Each1 (Fits w8) x → p < 8 → i < 16
     → bit (mask_l (map (top 7) (zip2 (λ a b. cond (nat_le a b) 255 0) (replicate 16 128)
     (zip2 shl8 x (replicate 16 (7 - p))))) % 2 ^ 64 % 2 ^ 16) i
@@ -107,14 +98,13 @@ unfolding top_test
 plane_bit x p i d f hp hi =
     let up = zip2 shl8 x (replicate 16 (7 - p)) in
     let tops = zip2 nat_le (replicate 16 128) up in
-    let long : length up ≡ 16 = length-zip2 shl8 x (replicate 16 (7 - p)) d ∙ d in
+    let long : length up ≡ 16 = length-splat 16 shl8 x (7 - p) d in
     let whole : length tops ≡ 16 = length-zip2 nat_le (replicate 16 128) up (sym long) in
     ap (λ ms. bit (mask_l ms % 2 ^ 64 % 2 ^ 16) i) (tops_compared w8 nat_le (replicate 16 128) up)
     ∙ mask_bit tops i whole
     ∙ get_or-zip2 nat_le (replicate 16 128) up i 0 0 false hi (omega (arith, long))
     ∙ ap (λ v. nat_le v (get_or up i 0)) (get_or-replicate 16 i 128 0 hi)
-    ∙ ap (nat_le 128) (get_or-zip2 shl8 x (replicate 16 (7 - p)) i 0 0 0 (omega (arith, d)) hi
-    ∙ ap (λ v. get_or x i 0 * 2 ^ v % 2 ^ 8) (get_or-replicate 16 i (7 - p) 0 hi))
+    ∙ ap (nat_le 128) (lane_of_splat 16 shl8 x (7 - p) i d hi)
     ∙ same_tells _ _ (all_pairs_tell 8 256 top_test top_checked p (get_or x i 0) hp
     (lane_small x i (omega (arith, d)) f))
 
@@ -192,21 +182,15 @@ raised_lane : (s m : ℕ) (x : List ℕ) (p : ℕ) → length x ≡ 8 → p < 8 
     ≡ raised_number s m (get_or x p 0)
 raised_lane s m x p d h =
     let up = zip2 shl16 x (replicate 8 s) in
-    let masked = zip2 bit_and (replicate 8 m) up in
-    let long : length up ≡ 8 = length-zip2 shl16 x (replicate 8 s) d ∙ d in
-    let whole : length masked ≡ 8 = length-zip2 bit_and (replicate 8 m) up (sym long) in
-    get_or-zip2 bit_xor x masked p 0 0 0 (omega (arith, d)) (omega (arith, whole))
-    ∙ ap (bit_xor (get_or x p 0))
-    (get_or-zip2 bit_and (replicate 8 m) up p 0 0 0 h (omega (arith, long))
-    ∙ (λ t. bit_and (get_or-replicate 8 p m 0 h t)
-    ((get_or-zip2 shl16 x (replicate 8 s) p 0 0 0 (omega (arith, d)) h
-    ∙ ap (shl16 (get_or x p 0)) (get_or-replicate 8 p s 0 h)) t)))
+    let long = length-splat 8 shl16 x s d in
+    lane_of_two 8 bit_xor x (zip2 bit_and (replicate 8 m) up) p d (length-zip2 bit_and (replicate 8 m) up (sym long)) h
+    ∙ ap (bit_xor (get_or x p 0)) (lane_of_two 8 bit_and (replicate 8 m) up p refl long h
+    ∙ (λ t. bit_and (get_or-replicate 8 p m 0 h t) (lane_of_splat 8 shl16 x s p d h t)))
 
 length-raised : (s m : ℕ) (x : List ℕ) → length x ≡ 8 → length (raised s m x) ≡ 8
 length-raised s m x d =
     let up = zip2 shl16 x (replicate 8 s) in
-    let long : length up ≡ 8 = length-zip2 shl16 x (replicate 8 s) d ∙ d in
-    let whole : length (zip2 bit_and (replicate 8 m) up) ≡ 8 = length-zip2 bit_and (replicate 8 m) up (sym long) in
+    let whole = length-zip2 bit_and (replicate 8 m) up (sym (length-splat 8 shl16 x s d)) in
     length-zip2 bit_xor x (zip2 bit_and (replicate 8 m) up) (d ∙ sym whole) ∙ d
 
 raised_bit : (s m x i : ℕ) → i < 16
@@ -279,8 +263,7 @@ pub column0_bit : (x : List ℕ) (p r c : ℕ) → length x ≡ 8 → p < 8 → 
     → bit (get_or (zip2 bit_and x (replicate 8 0x1111)) p 0) (4 * r + c) ≡ (bit (get_or x p 0) (4 * r + c) && (c == 0))
 unfolding column0
 column0_bit x p r c d hp hr hc =
-    ap (λ v. bit v (4 * r + c)) (get_or-zip2 bit_and x (replicate 8 0x1111) p 0 0 0 (omega (arith, d)) hp
-    ∙ ap (bit_and (get_or x p 0)) (get_or-replicate 8 p 0x1111 0 hp))
+    ap (λ v. bit v (4 * r + c)) (lane_of_splat 8 bit_and x 0x1111 p d hp)
     ∙ bit_of_and (get_or x p 0) 0x1111 (4 * r + c)
     ∙ ap (λ v. bit (get_or x p 0) (4 * r + c) && v)
     (same_tells _ _ (all_pairs_tell 4 4 column0 column0_checked r c hr hc))
@@ -359,12 +342,21 @@ pub same_held : (xs ys : List ℕ) (i j : ℕ) → length xs ≡ 8 → length ys
 same_held xs ys i j d e h =
     ap number (map-same_at (λ w. bit w i) (λ w. bit w j) xs ys 0 0 (d ∙ sym e) (λ p l. h p (omega (arith, d, l))))
 
--- words that are the sums of others hold the sums
-pub summed_held : (zs xs ys : List ℕ) (i : ℕ) → length zs ≡ 8 → length xs ≡ 8 → length ys ≡ 8
-    → ((p : ℕ) → p < 8 → bit (get_or zs p 0) i ≡ xor (bit (get_or xs p 0) i) (bit (get_or ys p 0) i))
-    → held_in zs i ≡ field_add (held_in xs i) (held_in ys i)
-summed_held zs xs ys i d e f h =
-    ap number (sum_bits-map (λ w. bit w i) (λ w. bit w i) (λ w. bit w i) zs xs ys 0 0 0 (d ∙ sym e) (d ∙ sym f)
-    (λ p l. h p (omega (arith, d, l))))
-    ∙ sym (number-sum (map (λ w. bit w i) xs) (map (λ w. bit w i) ys)
-    (length-map xs (λ w. bit w i) ∙ e ∙ sym f ∙ sym (length-map ys (λ w. bit w i))))
+abbrev Same : List ℕ → List ℕ → Type 0
+Same xs ys = (p i : ℕ) → p < 8 → i < 16 → bit (get_or xs p 0) i ≡ bit (get_or ys p 0) i
+
+-- words that are loaded and summed hold the sums
+pub sums_held : (new sum lx ly x y : List ℕ) → length new ≡ 8 → length x ≡ 8 → length y ≡ 8 → Same new sum
+    → ((p i : ℕ) → p < 8 → i < 16 → bit (get_or sum p 0) i ≡ xor (bit (get_or lx p 0) i) (bit (get_or ly p 0) i))
+    → Same lx x → Same ly y → (i : ℕ) → i < 16
+    → held_byte (map (word_bits 16) new) i
+    ≡ field_add (held_byte (map (word_bits 16) x) i) (held_byte (map (word_bits 16) y) i)
+sums_held new sum lx ly x y d e f out summed left right i h =
+    held_words new i h
+    ∙ ap number (sum_bits-map (λ w. bit w i) (λ w. bit w i) (λ w. bit w i) new x y 0 0 0 (d ∙ sym e) (d ∙ sym f)
+    (λ p l.
+    let k : p < 8 = omega (arith, d, l) in
+    out p i k h ∙ summed p i k h ∙ (λ t. xor (left p i k h t) (right p i k h t))))
+    ∙ sym (number-sum (map (λ w. bit w i) x) (map (λ w. bit w i) y)
+    (length-map x (λ w. bit w i) ∙ e ∙ sym f ∙ sym (length-map y (λ w. bit w i))))
+    ∙ (λ t. field_add (sym (held_words x i h) t) (sym (held_words y i h) t))

@@ -12,6 +12,7 @@ use Rattle.aes_planes.specs.Words.{word_bits}
 use Rattle.aes_planes.proofs.Bits.BitCases.{all_bools, all_bools_tells, same, same_tells, xor_false}
 use Rattle.aes_planes.proofs.Bits.ByteCases.{all_below, all_pairs, all_pairs_tell}
 use Rattle.aes_planes.proofs.Bits.NumberBits.{bit_shl, bit_shl_high, bit_shr, bit_above, bit_of_and, bit_of_xor, reads}
+use Rattle.aes_planes.proofs.Words.Constants.{bytes_of_32, bytes_of_64}
 use Rattle.aes_planes.proofs.Words.LaneBits.{lane_at, lane_of_two, lane_of_splat, length-splat, shr8, shl8}
 
 -- ---- one exchange between two numbers
@@ -122,6 +123,8 @@ module _ (w s m M low high : ℕ) (f : m * 2 ^ s < 2 ^ 8) (k : s < 8)
           let le : s ≤ r = leb-true s r (and_parts _ _ e).0 in
           let spot : 8 * j + r - s ≡ 8 * j + (r - s) = omega (arith, le) in
           ap (bit high) spot ∙ reads w high (8 * j + (r - s)) (omega arith)
+
+pub ruleset exchange_calls = (word_high, word_low, bytes_of_32, bytes_of_64)
 
 -- ---- the same on vectors, lane by lane
 

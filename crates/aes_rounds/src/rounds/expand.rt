@@ -76,6 +76,7 @@ fn key_word(key: &[u8], i: usize) -> KeyWord
 }
 
 // What is added to the word `key_words` places before word i, made of the word just before it.
+#[tactic(auto, unfolding(aes_planes::specs::Fips197::KeyExpansion::added_word_if))]
 fn added_word(key_words: usize, i: usize, before: KeyWord) -> KeyWord
     requires some_word { 1 ≤ key_words }
     requires later { key_words ≤ i }
@@ -92,6 +93,7 @@ fn added_word(key_words: usize, i: usize, before: KeyWord) -> KeyWord
 }
 
 // Rcon.
+#[tactic(auto, using(crate::proofs::Words::powers), unfolding(aes_planes::specs::Fips197::round_constant))]
 fn round_constant(i: usize) -> KeyWord
     requires from_one { 1 ≤ i }
     requires to_ten { i ≤ 10 }
@@ -124,6 +126,7 @@ fn add_words(v: KeyWord, w: KeyWord) -> KeyWord
 }
 
 // The block with these four columns.
+#[tactic(auto, unfolding(crate::proofs::Words::state_on_words))]
 fn block_of(columns: [KeyWord; 4]) -> Block
     ensures { result ≡ fips.state (λ r c. slice_index (slice_index_or columns c []) r) }
 {

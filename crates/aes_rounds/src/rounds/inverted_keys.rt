@@ -19,6 +19,7 @@ pub(super) fn inverted_keys<const RK: usize>(round_keys: &[Block; RK]) -> [Block
 }
 
 // The one of them at a place.
+#[tactic(auto, using(crate::proofs::Runs::inverted_calls))]
 fn inverted_key(round_keys: &[Block], i: usize) -> Block
     requires { i < length round_keys.now }
     ensures { result ≡ slice_index_or (fips.inverted_keys round_keys.now) i [] }

@@ -8,14 +8,25 @@ use aes::{
 };
 use aes_cipher::cipher::{
     BlockCipherDecClosure, BlockCipherDecrypt, BlockCipherEncClosure, BlockCipherEncrypt, Decrypt,
-    Direction, Encrypt, KeyInit,
+    Direction, Encrypt, KeyInit, NotEqualError,
 };
+use aes_permute as permute;
 use aes_rounds::rounds::{Aes, AesDec, AesEnc, expand_128, expand_192, expand_256};
 
 /// A cipher that processes blocks in the direction D.
 pub trait OneWay<D: Direction> {
     /// Processes the block in its place.
     fn process_block(&self, block: &mut Block);
+
+    /// Processes the blocks in their place.
+    fn process_blocks(&self, blocks: &mut [Block]);
+
+    /// Processes blocks from one slice to another.
+    fn process_blocks_b2b(
+        &self,
+        input: &[Block],
+        output: &mut [Block],
+    ) -> Result<(), NotEqualError>;
 
     /// Calls a closure with a backend.
     fn lend<F: BlockCipherEncClosure + BlockCipherDecClosure>(&self, f: &mut F);
@@ -26,6 +37,18 @@ impl<C: BlockCipherEncrypt> OneWay<Encrypt> for C {
         self.encrypt_block(block);
     }
 
+    fn process_blocks(&self, blocks: &mut [Block]) {
+        self.encrypt_blocks(blocks);
+    }
+
+    fn process_blocks_b2b(
+        &self,
+        input: &[Block],
+        output: &mut [Block],
+    ) -> Result<(), NotEqualError> {
+        self.encrypt_blocks_b2b(input, output)
+    }
+
     fn lend<F: BlockCipherEncClosure + BlockCipherDecClosure>(&self, f: &mut F) {
         self.encrypt_with_backend(f);
     }
@@ -34,6 +57,18 @@ impl<C: BlockCipherEncrypt> OneWay<Encrypt> for C {
 impl<C: BlockCipherDecrypt> OneWay<Decrypt> for C {
     fn process_block(&self, block: &mut Block) {
         self.decrypt_block(block);
+    }
+
+    fn process_blocks(&self, blocks: &mut [Block]) {
+        self.decrypt_blocks(blocks);
+    }
+
+    fn process_blocks_b2b(
+        &self,
+        input: &[Block],
+        output: &mut [Block],
+    ) -> Result<(), NotEqualError> {
+        self.decrypt_blocks_b2b(input, output)
     }
 
     fn lend<F: BlockCipherEncClosure + BlockCipherDecClosure>(&self, f: &mut F) {
@@ -63,6 +98,24 @@ where
     ]
 }
 
+// Whether the three types for a key pass.
+fn pass_under<T, B, E, D>(trial: &T, key: &[u8]) -> [bool; 4]
+where
+    T: Trial,
+    B: KeyInit + BlockCipherEncrypt + BlockCipherDecrypt + Drop,
+    E: KeyInit + BlockCipherEncrypt + Drop,
+    D: KeyInit + BlockCipherDecrypt + Drop,
+{
+    let (Ok(both), Ok(encrypts), Ok(decrypts)) = (
+        B::new_from_slice(key),
+        E::new_from_slice(key),
+        D::new_from_slice(key),
+    ) else {
+        return [false; 4];
+    };
+    pass(trial, &both, &encrypts, &decrypts)
+}
+
 // Whether the ciphers that are made of single rounds pass.
 fn pass_by_rounds<T: Trial, const RK: usize>(trial: &T, round_keys: &[Block; RK]) -> [bool; 4]
     requires { (RK ≡ 11) ⊎ (RK ≡ 13) ⊎ (RK ≡ 15) }
@@ -81,36 +134,33 @@ fn pass_by_rounds<T: Trial, const RK: usize>(trial: &T, round_keys: &[Block; RK]
     )
 }
 
-/// Whether every type passes, by the size of its key, and every round by round cipher.
-pub fn try_all<T: Trial>(trial: &T) -> [(&'static str, [bool; 4]); 6] {
+/// Whether every type passes, by the size of its key, of either crate, and every round by round cipher.
+pub fn try_all<T: Trial>(trial: &T) -> [(&'static str, [bool; 4]); 9] {
     let (short, middle, long) = (&[0x16; 16], &[0x24; 24], &[0x32; 32]);
     [
         (
             "keys of 16 bytes",
-            pass(
-                trial,
-                &Aes128::new(short),
-                &Aes128Enc::new(short),
-                &Aes128Dec::new(short),
-            ),
+            pass_under::<T, Aes128, Aes128Enc, Aes128Dec>(trial, short),
         ),
         (
             "keys of 24 bytes",
-            pass(
-                trial,
-                &Aes192::new(middle),
-                &Aes192Enc::new(middle),
-                &Aes192Dec::new(middle),
-            ),
+            pass_under::<T, Aes192, Aes192Enc, Aes192Dec>(trial, middle),
         ),
         (
             "keys of 32 bytes",
-            pass(
-                trial,
-                &Aes256::new(long),
-                &Aes256Enc::new(long),
-                &Aes256Dec::new(long),
-            ),
+            pass_under::<T, Aes256, Aes256Enc, Aes256Dec>(trial, long),
+        ),
+        (
+            "keys of 16 bytes, by permutations",
+            pass_under::<T, permute::Aes128, permute::Aes128Enc, permute::Aes128Dec>(trial, short),
+        ),
+        (
+            "keys of 24 bytes, by permutations",
+            pass_under::<T, permute::Aes192, permute::Aes192Enc, permute::Aes192Dec>(trial, middle),
+        ),
+        (
+            "keys of 32 bytes, by permutations",
+            pass_under::<T, permute::Aes256, permute::Aes256Enc, permute::Aes256Dec>(trial, long),
         ),
         ("11 round keys", pass_by_rounds(trial, &expand_128(short))),
         ("13 round keys", pass_by_rounds(trial, &expand_192(middle))),

@@ -8,6 +8,6 @@ returns g c =
     let n = length c.args.words.now in
     let bits = g.W.Word.bits in
     let zero = c.zero.result in
-    ap (map bits) c.overwrite.ensures
+    ap (map bits) c.wipe.ensures
     ∙ map_replicate bits n zero
     ∙ ap (replicate n) (bits_of_zero g.W.Word.BITS (bits zero) (g.met.W.Word.shape.sized zero) c.zero.ensures)

@@ -138,7 +138,7 @@ fn writes_its_name(rt: HostRuntime) -> Result<(), Fail> {
 }
 
 // Encrypts blocks and decrypts them again, by ciphers that are handed over.
-fn work_by<E: BlockCipherEncrypt + Drop, D: BlockCipherDecrypt + Drop>(
+fn encrypt_and_decrypt<E: BlockCipherEncrypt + Drop, D: BlockCipherDecrypt + Drop>(
     encrypting: E,
     decrypting: D,
     blocks: &mut [Block; 5],
@@ -154,7 +154,7 @@ fn works_where_it_is_lent(rt: HostRuntime) {
     let cipher = rest_of_the_example();
     let wanted = encrypted_one_by_one(five());
     let mut blocks = five();
-    assert_eq!(rt; work_by(&cipher, &cipher, &mut blocks), wanted);
+    assert_eq!(rt; encrypt_and_decrypt(&cipher, &cipher, &mut blocks), wanted);
     assert_eq!(rt; blocks, five());
     let lent = &cipher;
     let mut block = INPUT;

@@ -1,16 +1,28 @@
--- What holds in the loop of `batches::add_by_backend`.
-use Rattle.std.proofs.Common.{◌≡◌, ◌≤◌, ◌<◌, ◌-◌, ◌+◌, ◌^◌, length}
+-- What holds in the loops of `batches::add_by_backend`.
+use Rattle.std.proofs.Common.{◌≡◌, ◌≤◌, ◌<◌, ◌-◌, ◌+◌, ◌%◌, ◌^◌, length}
 use Rattle.aes_ctr.specs.CounterMode.{keystream_byte, plus_stream}
 use Rattle.aes_ctr.proofs.Runs.{added_from}
 use Rattle.aes_ctr.proofs.batches.add_by_backend.Given as goal
 
-abbrev pub invariant-loop-done : goal.invariant-loop-done
-invariant-loop-done g l =
+abbrev pub invariant-whole : goal.invariant-whole
+invariant-whole g l =
+    let stream = keystream_byte (g.B.RoundKeysUser.round_keys l.backend) l.iv in record {
+      within : l.done ≤ length l.fn.bytes;
+      aligned : l.done % 16 ≡ 0;
+      value : l.position + length l.fn.bytes < 2 ^ 64 → added_from stream l.position l.done l.bytes
+          ≡ plus_stream stream l.position l.fn.bytes;
+    }
+
+abbrev pub decreases-whole : goal.decreases-whole
+decreases-whole g l = length l.initial.bytes - l.done
+
+abbrev pub invariant-rest : goal.invariant-rest
+invariant-rest g l =
     let stream = keystream_byte (g.B.RoundKeysUser.round_keys l.backend) l.iv in record {
       within : l.done ≤ length l.fn.bytes;
       value : l.position + length l.fn.bytes < 2 ^ 64 → added_from stream l.position l.done l.bytes
           ≡ plus_stream stream l.position l.fn.bytes;
     }
 
-abbrev pub decreases-loop-done : goal.decreases-loop-done
-decreases-loop-done g l = length l.initial.bytes - l.done
+abbrev pub decreases-rest : goal.decreases-rest
+decreases-rest g l = length l.initial.bytes - l.done

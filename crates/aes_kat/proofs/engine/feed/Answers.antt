@@ -1,5 +1,5 @@
 -- What is left to show of `engine::feed`.
-use Rattle.aes_kat.proofs.Answers.{OnErr-from, StopsWithin-written}
+use Rattle.aes_kat.proofs.Progress.{OnErr-from, StopsWithin-written}
 use Rattle.aes_kat.proofs.engine.feed.Goals as goal
 
 pub returns-in_err-write_whole-clause-stopped : goal.returns-in_err-write_whole-clause-stopped

@@ -2,8 +2,8 @@
 use Rattle.std.proofs.Common.{◌++◌, take, arith}
 use Rattle.std.proofs.KnownBytes.{Consumes-trans}
 use Rattle.aes_kat.specs.Answers.{answers_to, AppendsBeginning}
-use Rattle.aes_kat.proofs.Answers.{Runs-failed, Advances-chunk, StopsWithin-here, StopsWithin-chunk}
-use Rattle.aes_kat.proofs.Answers.{AppendsBeginning-ended, held-ended, stops-held}
+use Rattle.aes_kat.proofs.Progress.{Runs-failed, Advances-chunk, StopsWithin-here, StopsWithin-chunk}
+use Rattle.aes_kat.proofs.Progress.{AppendsBeginning-ended, held-ended, stops-held}
 use Rattle.aes_kat.proofs.engine.run_in.Goals as goal
 
 pub returns-in_err-count : goal.returns-in_err-count
@@ -29,7 +29,7 @@ returns-in_err-more g c =
     Runs-failed _ _ _ _ _ c.from_residual-in_err-more.ensures.0
     (stops-held _ _ _ _ (i.0 ++ take c.in_ok-count.count c.read.new.buf)
     (Consumes-trans _ _ _ i.0 _ i.1 c.in_ok-count.ensures.bytes.0)
-    (StopsWithin-chunk _ _ _ i.0 c.reads.line.items _ c.reads.fault i.2 c.in_err-more.ensures.stopped))
+    (StopsWithin-chunk _ _ _ i.0 c.reads.line.items c.reads.fault i.2 _ c.in_err-more.ensures.stopped))
 
 pub reads-preserved : goal.reads-preserved
 reads-preserved g c =
@@ -40,7 +40,7 @@ reads-preserved g c =
       read = (
         i.0 ++ take c.in_ok-count.count c.read.new.buf,
         Consumes-trans _ _ _ i.0 _ i.1 c.in_ok-count.ensures.bytes.0,
-        Advances-chunk _ _ _ i.0 c.reads.line.items _ _ c.reads.fault c.in_ok-more.more i.2
+        Advances-chunk _ _ _ i.0 c.reads.line.items c.reads.fault i.2 _ _ c.in_ok-more.more
             c.in_ok-more.ensures.written,
       );
     }

@@ -7,4 +7,4 @@ returns c =
     unmixed_is c.args.key _ _ _ _ _ _ _ c.requires c.looked_up_by_nibbles-by_1.ensures
     c.looked_up_by_nibbles-by_4.ensures
     c.looked_up_by_nibbles-by_9.ensures c.looked_up_by_nibbles-by_15.ensures
-    c.sum-by_14.ensures c.sum-by_11.ensures c.sum-by_13.ensures
+    c.coefficients.ensures.by_14 c.coefficients.ensures.by_11 c.coefficients.ensures.by_13

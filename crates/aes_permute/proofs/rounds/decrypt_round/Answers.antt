@@ -14,4 +14,4 @@ returns c =
     (through_lanes INV_4_FIRST INV_4_SECOND c.args.x _ _ _ f s c.looked_up-by_4.ensures)
     (through_lanes INV_9_FIRST INV_9_SECOND c.args.x _ _ _ f s c.looked_up-by_9.ensures)
     (through_lanes INV_15_FIRST INV_15_SECOND c.args.x _ _ _ f s c.looked_up-by_15.ensures)
-    c.sum-by_14.ensures c.sum-by_11.ensures c.sum-by_13.ensures
+    c.coefficients.ensures.by_14 c.coefficients.ensures.by_11 c.coefficients.ensures.by_13

@@ -1,9 +1,9 @@
 -- What is left to show of `schedule::expand_128`.
-use Rattle.std.proofs.Common.{◌≡◌, ℕ, ◌+◌, ◌*◌, List, refl, sym, ◌∙◌, arith}
-use Rattle.std.proofs.lemmas.List.{length-set}
+use Rattle.std.proofs.Common.{◌≡◌, ◌+◌, ◌*◌, refl, sym, ◌∙◌, arith}
 use Rattle.aes_planes.specs.Fips197.{key_words, key_expansion, sub_bytes, add_round_key, power_of_x}
 use Rattle.aes_planes.specs.Planes.{constant_block, columns_summed}
-use Rattle.aes_planes.proofs.KeySchedule.ExpandedBlocks.{block_at, key_block, round_key_at, first_block, listed_power}
+use Rattle.aes_planes.proofs.KeySchedule.AddedWords.{listed_power}
+use Rattle.aes_planes.proofs.KeySchedule.ExpandedBlocks.{block_at, key_block, round_key_at, first_block}
 use Rattle.aes_planes.proofs.Standard.CipherLaws.{two_keys}
 use Rattle.aes_permute.proofs.Expansion.{put_first, put_inner, put_last, schedule_length}
 use Rattle.aes_permute.proofs.schedule.expand_128.Goals as goal
@@ -19,7 +19,6 @@ loop-i-init g c =
           (key_expansion key) 10
           _ _ c.requires.round_keys c.place.ensures.at (four ∙ sym (round_key_at key 0 0 refl (omega arith)));
       last_four = four;
-      same_length = omega (arith, length-set {A = List ℕ}, c.requires.round_keys);
     }
 
 pub loop-i-preserved : goal.loop-i-preserved
@@ -34,13 +33,9 @@ loop-i-preserved g c =
     (add_round_key (sub_bytes (inv.last_four t)) (constant_block (listed_power i (omega arith) t))))
     ∙ first_block key 4 own (omega arith) i (4 * i) (4 * i) (4 * (i + 1)) (omega arith) (omega arith) (omega arith) in
     record {
-      done = put_inner g.D.LaneRounds.BACKWARD g.D.LaneRounds.inner_byte g.D.LaneRounds.used_key c.loop-i.keys
-          (key_expansion key) 10
-          (i + 1) _ (i + 1 + 1) _ inv.same_length (omega arith) (omega arith) c.place-in-loop-i.ensures.at refl
-          (c.inner_key.ensures ∙ (λ t. g.D.LaneRounds.used_key
-          ((next ∙ sym (round_key_at key (i + 1) (4 * (i + 1)) refl (omega (arith, own)))) t))) inv.done;
+      done = put_inner inv.done _ _ _ _ (omega arith) (omega arith) c.place-in-loop-i.ensures.at refl
+          c.inner_key.ensures (next ∙ sym (round_key_at key (i + 1) (4 * (i + 1)) refl (omega (arith, own))));
       last_four = next;
-      same_length = omega (arith, length-set {A = List ℕ}, inv.same_length);
     }
 
 pub returns-clause-keys : goal.returns-clause-keys
@@ -57,8 +52,5 @@ returns-clause-keys g c =
     (add_round_key (sub_bytes (block_at key (4 * last t))) (constant_block (power_of_x 9))))
     ∙ first_block key 4 own (omega arith) 9 36 36 40 refl refl refl in
     c.uses_written.ensures (key_expansion key) _ (two_keys key)
-    (put_last g.D.LaneRounds.BACKWARD g.D.LaneRounds.inner_byte g.D.LaneRounds.used_key c.loop-i.keys
-    (key_expansion key) 10
-    _ _ (omega arith) inv.same_length (schedule_length key 10 (omega (arith, own))) c.place-2.ensures.at
-    (c.last_key.ensures ∙ next ∙ sym (round_key_at key 10 40 refl (omega (arith, own))))
-    (λ k lt. inv.done k (omega arith)))
+    (put_last inv.done _ _ (omega arith) (omega arith) (schedule_length key 10 (omega (arith, own)))
+    c.place-2.ensures.at (c.last_key.ensures ∙ next ∙ sym (round_key_at key 10 40 refl (omega (arith, own)))))

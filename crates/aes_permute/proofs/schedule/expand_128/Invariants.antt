@@ -1,5 +1,5 @@
 -- What holds in the loops of `schedule::expand_128`.
-use Rattle.std.proofs.Common.{◌≡◌, ◌+◌, ◌*◌, length}
+use Rattle.std.proofs.Common.{◌≡◌, ◌+◌, ◌*◌}
 use Rattle.aes_planes.specs.Fips197 as fips
 use Rattle.aes_planes.proofs.KeySchedule.ExpandedBlocks.{block_at}
 use Rattle.aes_permute.proofs.Expansion.{Before}
@@ -10,5 +10,4 @@ invariant-loop-i g l = record {
   done : Before g.D.LaneRounds.BACKWARD g.D.LaneRounds.inner_byte g.D.LaneRounds.used_key
       l.keys (fips.key_expansion l.key) 10 (l.i + 1);
   last_four : l.words ≡ block_at l.key (4 * l.i);
-  same_length : length l.keys ≡ 11;
 }

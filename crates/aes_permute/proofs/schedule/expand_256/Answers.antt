@@ -1,48 +1,35 @@
 -- What is left to show of `schedule::expand_256`.
-use Rattle.std.proofs.Common.{◌≡◌, ℕ, ◌+◌, ◌*◌, List, length, set, refl, sym, ◌∙◌, arith}
-use Rattle.std.proofs.lemmas.List.{length-set}
+use Rattle.std.proofs.Common.{◌≡◌, ◌+◌, ◌*◌, refl, sym, ◌∙◌, arith}
 use Rattle.aes_planes.specs.Fips197.{key_words, key_expansion, sub_bytes, add_round_key, power_of_x}
 use Rattle.aes_planes.specs.Planes.{constant_block, columns_summed}
 use Rattle.aes_planes.proofs.KeySchedule.ExpandedBlocks.{block_at, key_block, round_key_at, first_block, second_block}
-use Rattle.aes_planes.proofs.KeySchedule.ExpandedBlocks.{listed_power}
+use Rattle.aes_planes.proofs.KeySchedule.AddedWords.{listed_power}
 use Rattle.aes_planes.proofs.Standard.CipherLaws.{two_keys}
-use Rattle.aes_permute.proofs.Expansion.{Before, put_first, put_inner, put_last, schedule_length}
+use Rattle.aes_permute.proofs.Expansion.{put_first, put_inner, put_last, schedule_length}
 use Rattle.aes_permute.proofs.schedule.expand_256.Goals as goal
 
 pub loop-i-init : goal.loop-i-init
 loop-i-init g c =
     let key = c.args.key.now in
     let own : key_words key ≡ 8 = omega (arith, c.requires.sized) in
-    let w = key_expansion key in
     let even : c.part_of-even.result ≡ block_at key 0 = c.part_of-even.ensures
     ∙ sym (key_block key 8 own (omega arith) 0 0 refl (omega arith) c.requires.sized) in
     let odd : c.part_of-odd.result ≡ block_at key 4 = c.part_of-odd.ensures
     ∙ sym (key_block key 8 own (omega arith) 4 16 refl (omega arith) c.requires.sized) in
-    let keys1 : List (List ℕ) = set c.args.keys.now c.place.result c.part_of-even.result in
-    let l1 : length keys1 ≡ 15 = omega (
-      arith,
-      length-set c.args.keys.now c.place.result c.part_of-even.result,
-      c.requires.round_keys,
-    ) in
-    let kept = Before g.D.LaneRounds.BACKWARD g.D.LaneRounds.inner_byte g.D.LaneRounds.used_key in
-    let done1 : kept keys1 w 14 1 = put_first g.D.LaneRounds.BACKWARD g.D.LaneRounds.inner_byte g.D.LaneRounds.used_key
-    c.args.keys.now w 14
-    _ _ c.requires.round_keys c.place.ensures.at (even ∙ sym (round_key_at key 0 0 refl (omega arith))) in
+    let done1 = put_first g.D.LaneRounds.BACKWARD g.D.LaneRounds.inner_byte g.D.LaneRounds.used_key c.args.keys.now
+    (key_expansion key) 14 _ _ c.requires.round_keys c.place.ensures.at
+    (even ∙ sym (round_key_at key 0 0 refl (omega arith))) in
     record {
-      done = put_inner g.D.LaneRounds.BACKWARD g.D.LaneRounds.inner_byte g.D.LaneRounds.used_key keys1 w 14
-          1 _ 2 _ l1 (omega arith) (omega arith) c.place-2.ensures.at refl
-          (c.inner_key.ensures ∙ (λ t. g.D.LaneRounds.used_key
-          ((odd ∙ sym (round_key_at key 1 4 refl (omega arith))) t))) done1;
+      done = put_inner done1 _ _ _ _ (omega arith) (omega arith) c.place-2.ensures.at refl c.inner_key.ensures
+          (odd ∙ sym (round_key_at key 1 4 refl (omega arith)));
       first_four = even;
       last_four = odd;
-      same_length = omega (arith, length-set keys1 c.place-2.result c.inner_key.result, l1);
     }
 
 pub loop-i-preserved : goal.loop-i-preserved
 loop-i-preserved g c =
     let key = c.args.key.now in
     let own : key_words key ≡ 8 = omega (arith, c.requires.sized) in
-    let w = key_expansion key in
     let i = c.loop-i.i in
     let inv = c.loop-i.invariant in
     let even : c.rotated_words-even.result ≡ block_at key (8 * (i + 1)) =
@@ -55,24 +42,15 @@ loop-i-preserved g c =
     c.substituted_words-odd.ensures ∙ (λ t. columns_summed 0 3 (inv.last_four t) (sub_bytes (even t)))
     ∙ second_block key 8 own (omega arith) i (8 * i + 4) (8 * (i + 1)) (8 * (i + 1) + 4) refl (omega arith)
     (omega arith) refl in
-    let keys1 : List (List ℕ) = set c.loop-i.keys c.place-in-loop-i.result c.inner_key-in-loop-i.result in
-    let l1 : length keys1 ≡ 15 = omega
-    (arith, length-set c.loop-i.keys c.place-in-loop-i.result c.inner_key-in-loop-i.result, inv.same_length) in
-    let kept = Before g.D.LaneRounds.BACKWARD g.D.LaneRounds.inner_byte g.D.LaneRounds.used_key in
-    let done1 : kept keys1 w 14 (2 * i + 3) = put_inner g.D.LaneRounds.BACKWARD g.D.LaneRounds.inner_byte
-    g.D.LaneRounds.used_key c.loop-i.keys w 14
-    (2 * i + 2) _ (2 * i + 3) _ inv.same_length (omega arith) (omega arith) c.place-in-loop-i.ensures.at (omega arith)
-    (c.inner_key-in-loop-i.ensures ∙ (λ t. g.D.LaneRounds.used_key
-    ((even ∙ sym (round_key_at key (2 * i + 2) (8 * (i + 1)) (omega arith) (omega (arith, own)))) t))) inv.done in
+    let done1 = put_inner inv.done _ (2 * i + 3) _ _ (omega arith) (omega arith) c.place-in-loop-i.ensures.at
+    (omega arith) c.inner_key-in-loop-i.ensures
+    (even ∙ sym (round_key_at key (2 * i + 2) (8 * (i + 1)) (omega arith) (omega (arith, own)))) in
     record {
-      done = put_inner g.D.LaneRounds.BACKWARD g.D.LaneRounds.inner_byte g.D.LaneRounds.used_key keys1 w 14
-          (2 * i + 3) _ (2 * (i + 1) + 2) _ l1 (omega arith) (omega arith) c.place-in-loop-i-2.ensures.at (omega arith)
-          (c.inner_key-in-loop-i-2.ensures ∙ (λ t. g.D.LaneRounds.used_key
-          ((odd ∙ sym (round_key_at key (2 * i + 3) (8 * (i + 1) + 4) (omega arith) (omega (arith, own)))) t)))
-          done1;
+      done = put_inner done1 _ _ _ _ (omega arith) (omega arith) c.place-in-loop-i-2.ensures.at (omega arith)
+          c.inner_key-in-loop-i-2.ensures
+          (odd ∙ sym (round_key_at key (2 * i + 3) (8 * (i + 1) + 4) (omega arith) (omega (arith, own))));
       first_four = even;
       last_four = odd;
-      same_length = omega (arith, length-set keys1 c.place-in-loop-i-2.result c.inner_key-in-loop-i-2.result, l1);
     }
 
 pub returns-clause-keys : goal.returns-clause-keys
@@ -89,8 +67,5 @@ returns-clause-keys g c =
     (add_round_key (sub_bytes (block_at key (8 * last t + 4))) (constant_block (power_of_x 6))))
     ∙ first_block key 8 own (omega arith) 6 48 52 56 refl refl refl in
     c.uses_written.ensures (key_expansion key) _ (two_keys key)
-    (put_last g.D.LaneRounds.BACKWARD g.D.LaneRounds.inner_byte g.D.LaneRounds.used_key c.loop-i.keys
-    (key_expansion key) 14
-    _ _ (omega arith) inv.same_length (schedule_length key 14 (omega (arith, own))) c.place-3.ensures.at
-    (c.last_key.ensures ∙ next ∙ sym (round_key_at key 14 56 refl (omega (arith, own))))
-    (λ k lt. inv.done k (omega arith)))
+    (put_last inv.done _ _ (omega arith) (omega arith) (schedule_length key 14 (omega (arith, own)))
+    c.place-3.ensures.at (c.last_key.ensures ∙ next ∙ sym (round_key_at key 14 56 refl (omega (arith, own)))))

@@ -1,5 +1,5 @@
 -- What holds in the loops of `schedule::expand_256`.
-use Rattle.std.proofs.Common.{◌≡◌, ◌+◌, ◌*◌, length}
+use Rattle.std.proofs.Common.{◌≡◌, ◌+◌, ◌*◌}
 use Rattle.aes_planes.specs.Fips197 as fips
 use Rattle.aes_planes.proofs.KeySchedule.ExpandedBlocks.{block_at}
 use Rattle.aes_permute.proofs.Expansion.{Before}
@@ -11,5 +11,4 @@ invariant-loop-i g l = record {
       l.keys (fips.key_expansion l.key) 14 (2 * l.i + 2);
   first_four : l.even ≡ block_at l.key (8 * l.i);
   last_four : l.odd ≡ block_at l.key (8 * l.i + 4);
-  same_length : length l.keys ≡ 15;
 }

@@ -1,17 +1,8 @@
 -- What is left to show of `schedule::summed_columns`.
-use Rattle.std.proofs.Common.{bit_xor, refl, ◌∙◌}
+use Rattle.std.proofs.Common.{bit_xor, ◌∙◌}
 use lib.Lanes.{zip2}
-use Rattle.aes_permute.specs.Lookup.{is_place}
 use Rattle.aes_permute.proofs.ScheduleLanes.{summed_is}
 use Rattle.aes_permute.proofs.schedule.summed_columns.Goals as goal
-
-pub lookup-requires : goal.lookup-requires
-unfolding is_place
-lookup-requires c = record { are_places = refl }
-
-pub lookup-requires-2 : goal.lookup-requires-2
-unfolding is_place
-lookup-requires-2 c = record { are_places = refl }
 
 pub returns : goal.returns
 returns c =

@@ -6,6 +6,7 @@ ghost use Rattle.aes_planes.specs.Planes.{words_at};
 use crate::soft::word::{Batch, Block, Word};
 
 /// Returns the planes of round key `i`: the words from `8 * i` on.
+#[tactic(auto, using(crate::proofs::Planes::EightWords::eight_words))]
 #[inline(always)]
 pub fn round_key<W: Word>(round_keys: &[W], i: usize) -> [W; 8]
     requires room { 8 * i + 8 ≤ length round_keys.now }
@@ -24,6 +25,7 @@ pub fn round_key<W: Word>(round_keys: &[W], i: usize) -> [W; 8]
 }
 
 /// Stores the planes of round key `i`. The other words stay.
+#[tactic(auto, using(crate::proofs::Planes::EightWords::words_put, crate::proofs::Planes::EightWords::words_stay))]
 #[inline(always)]
 pub fn put_round_key<W: Word>(round_keys: &mut [W], i: usize, planes: &[W; 8])
     requires room { 8 * i + 8 ≤ length round_keys.old }
@@ -39,6 +41,7 @@ pub fn put_round_key<W: Word>(round_keys: &mut [W], i: usize, planes: &[W; 8])
 }
 
 /// Returns a batch that has the block in every slot.
+#[tactic(auto, using(crate::proofs::Planes::EightWords::filled_more))]
 #[inline(always)]
 pub fn every_slot<B: Batch>(block: &Block) -> B
     ensures { B.blocks result ≡ replicate B.LEN block.now }

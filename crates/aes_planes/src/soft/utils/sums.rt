@@ -19,6 +19,7 @@ pub fn add_round_key<W: Word>(state: &mut [W; 8], round_key: &[W; 8])
 }
 
 /// Returns the sum of a block and a round key, byte by byte: AddRoundKey (FIPS 197, 5.1.4).
+#[tactic(auto, using(crate::proofs::Planes::Held::summed_block))]
 #[inline(always)]
 pub fn sum_of_blocks(block: &Block, round_key: &Block) -> Block
     ensures { result ≡ fips.add_round_key block.now round_key.now }

@@ -8,6 +8,7 @@ ghost use Rattle.aes_planes.specs.Planes.{summed};
 use std::simd::prelude::*;
 
 // Four words as one number, the first lowest.
+#[tactic(auto, using(crate::proofs::Words::Constants::joined_bit))]
 #[inline(always)]
 fn joined(w0: u16, w1: u16, w2: u16, w3: u16) -> u64
     ensures { (p i : ℕ) → p < 4 → i < 16 → bit result (16 * p + i) ≡ bit (get_or (w0 ∷ w1 ∷ w2 ∷ w3 ∷ []) p 0) i }
@@ -16,6 +17,7 @@ fn joined(w0: u16, w1: u16, w2: u16, w3: u16) -> u64
 }
 
 // The four words of a number.
+#[tactic(auto, using(crate::proofs::Words::Constants::parted_bit))]
 #[inline(always)]
 fn parted(x: u64) -> [u16; 4]
     ensures { (p i : ℕ) → p < 4 → i < 16 → bit (get_or result p 0) i ≡ bit x (16 * p + i) }
@@ -139,6 +141,7 @@ pub(super) fn doubled(x: u16x8) -> u16x8
 }
 
 // Lanes that hold a byte in row 1 and column 3, and zeros elsewhere.
+#[tactic(auto, using(crate::proofs::Words::PlaneLanes::constant_held))]
 #[inline(always)]
 pub(super) fn constant_lanes(byte: u8) -> u16x8
     ensures { (r c : ℕ) → r < 4 → c < 4

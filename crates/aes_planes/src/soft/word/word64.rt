@@ -150,6 +150,7 @@ fn columns_apart(block: Block) -> [u64; 2]
 }
 
 // The block of these columns.
+#[tactic(auto, using(crate::proofs::Words::Packing::together_at))]
 #[inline(always)]
 fn columns_together(even: u64, odd: u64) -> Block
     ensures typed { fips.IsBlock result }

@@ -5,8 +5,6 @@ ghost use Rattle.aes_planes.proofs.Standard.CipherLaws.{two_keys};
 
 mod decrypt;
 mod encrypt;
-#[cfg(test)]
-mod tests;
 mod wide;
 
 use super::slices::{process_batch, process_block};

@@ -76,6 +76,7 @@ impl CompactCipher for Decrypt {
 }
 
 // Processes each block of a batch.
+#[tactic(auto, using(crate::proofs::Slots::batch_processed))]
 #[inline(always)]
 pub(crate) fn process_compact<W: Word, D: CompactCipher>(
     round_keys: &[W],

@@ -92,6 +92,7 @@ impl FullCipher for Decrypt {
 }
 
 // Processes each block of a batch. Inlined, so that most copies of blocks go where there are many.
+#[tactic(auto, using(crate::proofs::Slots::batch_processed))]
 #[inline(always)]
 pub(crate) fn process_full<W: Word, D: FullCipher>(
     round_keys: &[W],

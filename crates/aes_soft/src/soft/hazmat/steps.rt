@@ -35,6 +35,7 @@ pub(super) struct InverseMixing;
 impl Step for Round {
     ghost of_block = { λ b. fips.mix_columns (fips.shift_rows (fips.sub_bytes b)) };
 
+    #[tactic(auto, using(crate::proofs::Slots::round_stepped))]
     #[inline(always)]
     fn on_planes<W: Word>(state: &mut [W; 8]) {
         sub_bytes(state, &mut Layers::new());
@@ -47,6 +48,7 @@ impl Step for Round {
 impl Step for InverseRound {
     ghost of_block = { λ b. fips.inv_mix_columns (fips.inv_shift_rows (fips.inv_sub_bytes b)) };
 
+    #[tactic(auto, using(crate::proofs::Slots::inv_round_stepped))]
     #[inline(always)]
     fn on_planes<W: Word>(state: &mut [W; 8]) {
         sub_bytes_nots(state);

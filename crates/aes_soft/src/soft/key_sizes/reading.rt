@@ -4,6 +4,7 @@ ghost use Rattle.aes_planes.specs.Fips197 as fips;
 ghost use Rattle.aes_soft.specs.Stored.{key_of};
 
 // No effect; states that words of one block are read as a key of bytes, as long as is asked for.
+#[tactic(auto, using(crate::proofs::KeyOfPlanes::read_keys))]
 pub(super) fn reads_keys()
     ensures sized { (size : ℕ) (layout : ℕ → ℕ) (planes : List (List Bool))
         → size ≤ 32 → length (key_of size 1 layout planes) ≡ size }

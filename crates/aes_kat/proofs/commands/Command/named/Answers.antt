@@ -1,11 +1,19 @@
 -- What is left to show of `commands::Command::named`.
-use Rattle.aes_kat.proofs.CommandNames.{named_here, named_later}
+use Rattle.std.proofs.Common.{◌≡◌, ◌<◌, ◌+◌, ℕ, List, false, refl, sym, ap, ◌∙◌, length, get_or, drop}
+use Rattle.std.proofs.lemmas.List.{drop_more}
+use Rattle.std.specs.Str.{bytes_eq}
+use Rattle.aes_kat.specs.declared.commands.Command.{Command}
+use Rattle.aes_kat.specs.Reply.{name_of, commands, first_named}
 use Rattle.aes_kat.proofs.commands.Command.named.Goals as goal
 
-pub returns-then-eq : goal.returns-then-eq
-returns-then-eq c =
-    named_here _ _ _ _ c.loop-command.invariant c.loop-command-test.true c.name.ensures c.if-eq.ensures
+-- the command at place i has another name
+named_later : (name spelled : List ℕ) (i : ℕ) (d : Command) → i < length commands
+    → spelled ≡ name_of (get_or commands i d) → false ≡ bytes_eq spelled name
+    → first_named name (drop i commands) ≡ first_named name (drop (i + 1) commands)
+unfolding first_named
+named_later name spelled i d within is other =
+    ap (first_named name) (drop_more commands i d within) ∙ rw (sym (other ∙ ap (λ s. bytes_eq s name) is)) refl
 
 pub loop-command-preserved : goal.loop-command-preserved
 loop-command-preserved c =
-    named_later _ _ _ _ c.loop-command.invariant c.loop-command-test.true c.name.ensures c.if-eq.ensures
+    c.loop-command.invariant ∙ named_later _ _ _ _ c.loop-command-test.true c.name.ensures c.if-eq.ensures

@@ -5,7 +5,7 @@ use Rattle.aes_permute.proofs.ciphers.AesCipher.zeroize.Goals as goal
 
 pub returns : goal.returns
 returns g c =
-    let s = g.met.S.Size.KeySize.is_size in
-    let fits : g.S.Size.KeySize.SIZE ≤ 32 = omega (arith, s.words, s.eight) in
-    c.rekey.ensures.same ∙ ap (λ n. take n (replicate 32 0)) c.SIZE.ensures ∙ take-replicate g.S.Size.KeySize.SIZE 32 0
-    fits
+    let s = g.met.S.Variant.AesVariant.is_size in
+    let fits : g.S.Variant.AesVariant.SIZE ≤ 32 = omega (arith, s.words, s.eight) in
+    c.rekey.ensures.same ∙ ap (λ n. take n (replicate 32 0)) c.SIZE.ensures
+    ∙ take-replicate g.S.Variant.AesVariant.SIZE 32 0 fits

@@ -14,12 +14,12 @@ invert-requires g c =
 
 pub returns-clause-keyed : goal.returns-clause-keyed
 returns-clause-keyed g c =
-    (is_keyed inverted_keys first_two g.K.KeySize.SIZE _ _ g.met.K.KeySize.is_size c.requires.sized c.requires.bytes
-    key_backward
+    (is_keyed inverted_keys first_two g.K.AesVariant.SIZE _ _ g.met.K.AesVariant.is_size c.requires.sized
+    c.requires.bytes key_backward
     (c.invert.ensures ∙ ap inverted_keys (ap encrypting c.copy-keys.ensures ∙ c.requires.keys))).1
 
 pub returns-clause-same : goal.returns-clause-same
 returns-clause-same g c =
-    (is_keyed inverted_keys first_two g.K.KeySize.SIZE _ _ g.met.K.KeySize.is_size c.requires.sized c.requires.bytes
-    key_backward
+    (is_keyed inverted_keys first_two g.K.AesVariant.SIZE _ _ g.met.K.AesVariant.is_size c.requires.sized
+    c.requires.bytes key_backward
     (c.invert.ensures ∙ ap inverted_keys (ap encrypting c.copy-keys.ensures ∙ c.requires.keys))).0

@@ -1,7 +1,6 @@
 -- What is left to show of `soft::utils::shifts::shift_rows_3`.
-use Rattle.std.proofs.Common.{◌≡◌, ◌*◌, map, ap, ◌∙◌, arith}
+use Rattle.std.proofs.Common.{◌≡◌, ◌*◌, map, ap, sym, ◌∙◌, arith}
 use Rattle.aes_planes.specs.Private.Swaps.{columns_swapped}
-use Rattle.aes_planes.proofs.Planes.Held.{map-map, map-same}
 use Rattle.aes_planes.proofs.Shifts.ColumnSwaps.{halves_3, halves_3_swap, pairs, pairs_swap, shifted_3}
 use Rattle.aes_planes.proofs.soft.utils.shifts.shift_rows_3.Goals as goal
 
@@ -12,5 +11,4 @@ returns g c =
     let one : c.QUARTER_ROW.result ≡ 1 * n = omega (arith, c.QUARTER_ROW.ensures, g.met.W.Word.shape.one) in
     c.swap_columns-2.ensures 1 pairs (omega arith) one pairs_swap c.pack_rows-by_one.ensures
     ∙ ap (map (columns_swapped 1 pairs)) (c.swap_columns.ensures 2 halves_3 (omega arith) two halves_3_swap
-    c.pack_rows-by_two.ensures)
-    ∙ map-map (columns_swapped 1 pairs) (columns_swapped 2 halves_3) _ ∙ map-same _ _ _ shifted_3
+    c.pack_rows-by_two.ensures) ∙ sym (shifted_3 _)

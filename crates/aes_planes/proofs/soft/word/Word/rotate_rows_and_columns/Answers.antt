@@ -1,7 +1,7 @@
 -- What is left to show of `soft::word::Word::rotate_rows_and_columns`.
-use Rattle.std.proofs.Common.{◌≡◌, ◌+◌, ◌%◌, ◌/◌, ◌^◌, ◌<◌, ◌&&◌, ◌||◌, ap, sym, ◌∙◌, arith}
+use Rattle.std.proofs.Common.{◌+◌, ◌%◌, ◌<◌, ap, sym, ◌∙◌, arith}
 use Rattle.std.proofs.lemmas.Bool.{cases_lt}
-use Rattle.aes_planes.specs.Bits.{at, bit}
+use Rattle.aes_planes.specs.Bits.{at}
 use Rattle.aes_planes.specs.Planes.{place}
 use Rattle.aes_planes.proofs.Planes.Held.{place_lt, column_of}
 use Rattle.aes_planes.proofs.Mixing.Matrices.{turned_place, wrapped_place, stay_bit, masked_turn}
@@ -30,16 +30,18 @@ returns g c = λ r q k h l kn.
     let x = g.Self.Word.bits c.args.self in
     let p = place n r q k in
     let low : p < B = omega (arith, laws.sixteen, place_lt n r q k h l kn) in
-    let stays : at (g.Self.Word.bits c.uniform_row-stays.result) p ≡ bit (15 / 2 ^ cols) q =
-    c.uniform_row-stays.ensures p low ∙ ap (bit (15 / 2 ^ cols)) (column_of n _ _ r q k laws.four laws.one h l kn) in
-    let left = c.bit_and-left.ensures p low in
-    let right = c.bit_and-right.ensures p low ∙ ap (λ v. at (g.Self.Word.bits c.ror-wrapped.result) p && v)
-    (c.bit_not-wraps.ensures p low) in
-    c.bit_or-turned.ensures p low ∙ (λ t. left t || right t)
-    ∙ masked_turn _ _ _ _ (q + cols) (stays ∙ stay_bit cols q c.requires.four_columns l)
+    rw (
+      c.bit_or-turned.ensures p low,
+      c.bit_and-left.ensures p low,
+      c.bit_and-right.ensures p low,
+      c.bit_not-wraps.ensures p low,
+      c.uniform_row-stays.ensures p low,
+      column_of n _ _ r q k laws.four laws.one h l kn,
+    )
+    (masked_turn _ _ _ _ (q + cols) (stay_bit cols q c.requires.four_columns l)
     (λ lt. c.ror-ahead.ensures p low ∙ (λ t. at x ((p + c.ror_distance-2.ensures t) % B))
     ∙ ap (at x) (turned_place n B _ _ r q k rows cols laws.four laws.one laws.sixteen h lt kn c.requires.four_rows))
     (λ le. c.ror-wrapped.ensures p low ∙ (λ t. at x ((p + c.ror_distance-3.ensures t) % B))
     ∙ ap (at x) (wrapped_place n B _ _ r q k rows cols laws.four laws.one laws.sixteen h l le kn c.requires.some_rows
     c.requires.four_rows c.requires.four_columns))
-    (cases_lt (q + cols) 4)
+    (cases_lt (q + cols) 4))

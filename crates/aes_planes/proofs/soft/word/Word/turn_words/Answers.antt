@@ -1,6 +1,5 @@
 -- What is left to show of `soft::word::Word::turn_words`.
-use Rattle.std.proofs.Common.{◌+◌, ◌%◌, [], ◌∷◌, map, ap, sym, ◌∙◌}
-use Rattle.aes_planes.specs.Bits.{number}
+use Rattle.std.proofs.Common.{◌+◌, ◌%◌, map, ap, sym}
 use Rattle.aes_planes.specs.Planes.{held_byte, place}
 use Rattle.aes_planes.proofs.Bits.BitCases.{eight}
 use Rattle.aes_planes.proofs.soft.word.Word.turn_words.Goals as goal
@@ -8,12 +7,14 @@ use Rattle.aes_planes.proofs.soft.word.Word.turn_words.Goals as goal
 pub returns : goal.returns
 returns g c = λ r q k h l kn.
     let there = place g.Self.Word.BLOCKS ((r + c.args.rows) % 4) ((q + c.args.cols) % 4) k in
-    (λ t. number (c.rotate_rows_and_columns-turned0.ensures r q k h l kn t
-    ∷ c.rotate_rows_and_columns-turned1.ensures r q k h l kn t
-    ∷ c.rotate_rows_and_columns-turned2.ensures r q k h l kn t
-    ∷ c.rotate_rows_and_columns-turned3.ensures r q k h l kn t
-    ∷ c.rotate_rows_and_columns-turned4.ensures r q k h l kn t
-    ∷ c.rotate_rows_and_columns-turned5.ensures r q k h l kn t
-    ∷ c.rotate_rows_and_columns-turned6.ensures r q k h l kn t
-    ∷ c.rotate_rows_and_columns-turned7.ensures r q k h l kn t ∷ []))
-    ∙ ap (λ ys. held_byte (map g.Self.Word.bits ys) there) (sym (eight c.args.x.now _ _ _ _ _ _ _ _ c.told-x))
+    rw (
+      c.rotate_rows_and_columns-turned0.ensures r q k h l kn,
+      c.rotate_rows_and_columns-turned1.ensures r q k h l kn,
+      c.rotate_rows_and_columns-turned2.ensures r q k h l kn,
+      c.rotate_rows_and_columns-turned3.ensures r q k h l kn,
+      c.rotate_rows_and_columns-turned4.ensures r q k h l kn,
+      c.rotate_rows_and_columns-turned5.ensures r q k h l kn,
+      c.rotate_rows_and_columns-turned6.ensures r q k h l kn,
+      c.rotate_rows_and_columns-turned7.ensures r q k h l kn,
+    )
+    (ap (λ ys. held_byte (map g.Self.Word.bits ys) there) (sym (eight c.args.x.now _ _ _ _ _ _ _ _ c.told-x)))

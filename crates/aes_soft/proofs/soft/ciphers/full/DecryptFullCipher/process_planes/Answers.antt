@@ -42,22 +42,8 @@ turns-init g c =
           inv_round run 2 _ _ m (rounds - 1 - 4 * (fours - 0)) (4 * fours + 1) (omega arith) (omega arith) (omega arith)
           (omega arith) two c.inv_round-2.ensures.blocks;
       layers = elim c.if-rounds-eq0.branch [
-        | then-rounds-eq0 t ↦ omega (
-          arith,
-          t.if-rounds-eq0.true,
-          t.layers-is,
-          c.inv_sub_bytes.ensures.layers,
-          c.inv_round-2.ensures.layers,
-          t.inv_round.ensures.layers,
-          t.inv_round-then-rounds-eq0.ensures.layers,
-        )
-        | else-rounds-eq0 t ↦ omega (
-          arith,
-          t.if-rounds-eq0.false,
-          t.layers-is,
-          c.inv_sub_bytes.ensures.layers,
-          c.inv_round-2.ensures.layers,
-        )
+        | then-rounds-eq0 t ↦ omega arith
+        | else-rounds-eq0 t ↦ omega arith
       ];
     }
 

@@ -1,0 +1,254 @@
+//! The types that work round by round, on worked examples of the standard and through their bounds.
+
+ghost use Rattle.std.specs.Prelude.{◌≡◌, ◌⊎◌};
+
+use aes::Aes256;
+use aes::hazmat::Block8;
+use aes_cipher::cipher::{
+    BlockCipherDecBackend, BlockCipherEncBackend, BlockCipherEncrypt, KeyInit, RoundKeysUser,
+};
+use aes_planes::soft::word::Block;
+use aes_rounds::rounds::{Aes, AesDec, AesEnc, expand_128, expand_192, expand_256};
+
+// The eight blocks of `eight_blocks` encrypted under the key of 16 bytes 00 to 0f: the first is of
+// FIPS 197, appendix C.1, all are what OpenSSL answers.
+const ENCRYPTED_128: [u128; 8] = [
+    0x69c4e0d86a7b0430d8cdb78070b4c55a,
+    0xa9541c06f1c21125e44013531e18f406,
+    0xecb43335dce496e839f75536304d1630,
+    0x042735ab9246a07bdeb21dfeb6ad1192,
+    0x9662f54d756d02c274271598b73e0da6,
+    0x02fae729219b2edd2dae2781f25be87e,
+    0xcb136c6a2138d878218a4a0d65563358,
+    0x4605a49219c3459631f29dcff0a6f7da,
+];
+
+// The same under the key of 24 bytes 00 to 17 (appendix C.2).
+const ENCRYPTED_192: [u128; 8] = [
+    0xdda97ca4864cdfe06eaf70a0ec0d7191,
+    0x2338b5561b17d2fbb2b8cccf212107da,
+    0x56db4857ec1a35f98c9ce3ddbc6c9d0a,
+    0x38988fd35904763f1207b2abc98ec844,
+    0xd880c3ba12bef949a296e7c6b3ad81ab,
+    0x2549472cf12fec81110f48b6a7931d48,
+    0x0fc2343f54db55c38452329331f25dfa,
+    0x5e18ee87658eead543bbdd07c6f5c612,
+];
+
+// The same under the key of 32 bytes 00 to 1f (appendix C.3).
+const ENCRYPTED_256: [u128; 8] = [
+    0x8ea2b7ca516745bfeafc49904b496089,
+    0x35885e82c64f7b791d932044771160ca,
+    0x60582a35cd24c679b64233f5e5054f3b,
+    0xebd7bd74d11d1e83e20888a827d5f130,
+    0x62e25990acdb371870fb426e39063aea,
+    0xa770e3e099ae756e6f46866904a3ac64,
+    0xab36cee89fe0cfb391927d0f096ceeea,
+    0x25392f1e278c76e7a85ea6ff6b223ece,
+];
+
+// The bytes 00, 01, 02 and so on: the keys of FIPS 197, appendices C.1 to C.3.
+fn counted<const N: usize>() -> [u8; N] {
+    let mut bytes = [0; N];
+    for i in 0..N {
+        bytes[i] = (i % 256) as u8;
+    }
+    bytes
+}
+
+// Eight different blocks: the first is that of FIPS 197, appendix C, and block i adds i to each of
+// its bytes.
+fn eight_blocks() -> Block8 {
+    let mut blocks = [[0; 16]; 8];
+    for i in 0..8u8 {
+        blocks[i as usize] = 0x00112233445566778899aabbccddeeff_u128.to_be_bytes();
+        for j in 0..16usize {
+            blocks[i as usize][j] ^= i;
+        }
+    }
+    blocks
+}
+
+// A list of round keys that is no expansion: the multiples of a number, from 0 on.
+fn any_round_keys<const RK: usize>() -> [Block; RK] {
+    let mut round_keys = [[0; 16]; RK];
+    for i in 0..RK {
+        round_keys[i] = 0x0f1e2d3c4b5a69788796a5b4c3d2e1f1_u128
+            .wrapping_mul(i as u128)
+            .to_be_bytes();
+    }
+    round_keys
+}
+
+// The blocks encrypted one by one, and as a batch.
+fn encrypted<B: BlockCipherEncBackend>(backend: &B, blocks: &Block8) -> [Block8; 2]
+    requires { B.PAR_BLOCKS ≡ 8 }
+{
+    let mut one_by_one = *blocks;
+    for i in 0..8usize {
+        backend.encrypt_block(&mut one_by_one[i]);
+    }
+    let mut at_once = *blocks;
+    backend.encrypt_par_blocks(&mut at_once);
+    [one_by_one, at_once]
+}
+
+// The blocks decrypted one by one, and as a batch.
+fn decrypted<B: BlockCipherDecBackend>(backend: &B, blocks: &Block8) -> [Block8; 2]
+    requires { B.PAR_BLOCKS ≡ 8 }
+{
+    let mut one_by_one = *blocks;
+    for i in 0..8usize {
+        backend.decrypt_block(&mut one_by_one[i]);
+    }
+    let mut at_once = *blocks;
+    backend.decrypt_par_blocks(&mut at_once);
+    [one_by_one, at_once]
+}
+
+// A block there and back, which the contracts alone tell.
+fn restored<const RK: usize>(round_keys: &[Block; RK], block: &mut Block)
+    requires { (RK ≡ 11) ⊎ (RK ≡ 13) ⊎ (RK ≡ 15) }
+    ensures { block.new ≡ block.old }
+{
+    let cipher = AesEnc::new(round_keys);
+    cipher.has_inverse_ciphers();
+    cipher.encrypt_block(block);
+    cipher.as_dec().decrypt_block(block);
+}
+
+// Whether every type makes of the blocks, and back, what it should.
+fn there_and_back<const RK: usize>(
+    round_keys: &[Block; RK],
+    plain: &Block8,
+    wanted: &Block8,
+) -> bool
+    requires { (RK ≡ 11) ⊎ (RK ≡ 13) ⊎ (RK ≡ 15) }
+{
+    let cipher = AesEnc::new(round_keys);
+    encrypted(&cipher, plain) == [*wanted, *wanted]
+        && encrypted(&cipher.as_encdec(), plain) == [*wanted, *wanted]
+        && encrypted(&Aes::new(round_keys), plain) == [*wanted, *wanted]
+        && decrypted(&cipher.as_dec(), wanted) == [*plain, *plain]
+        && decrypted(&cipher.as_encdec(), wanted) == [*plain, *plain]
+        && decrypted(&Aes::new(round_keys), wanted) == [*plain, *plain]
+        && decrypted(&AesDec::new(round_keys), wanted) == [*plain, *plain]
+}
+
+// Numbers as blocks.
+fn blocks_of(numbers: &[u128; 8]) -> Block8 {
+    let mut blocks = [[0; 16]; 8];
+    for i in 0..8usize {
+        blocks[i] = numbers[i].to_be_bytes();
+    }
+    blocks
+}
+
+#[test]
+fn answers_as_openssl_does(rt: HostRuntime) {
+    let plain = eight_blocks();
+    assert!(rt; there_and_back(&expand_128(&counted()), &plain, &blocks_of(&ENCRYPTED_128)));
+    assert!(rt; there_and_back(&expand_192(&counted()), &plain, &blocks_of(&ENCRYPTED_192)));
+    assert!(rt; there_and_back(&expand_256(&counted()), &plain, &blocks_of(&ENCRYPTED_256)));
+}
+
+// The keys of FIPS 197, appendices A.2 and A.3.
+const KEY_A2: [u8; 24] = [
+    0x8e, 0x73, 0xb0, 0xf7, 0xda, 0x0e, 0x64, 0x52, 0xc8, 0x10, 0xf3, 0x2b, 0x80, 0x90, 0x79, 0xe5,
+    0x62, 0xf8, 0xea, 0xd2, 0x52, 0x2c, 0x6b, 0x7b,
+];
+
+const KEY_A3: [u8; 32] = [
+    0x60, 0x3d, 0xeb, 0x10, 0x15, 0xca, 0x71, 0xbe, 0x2b, 0x73, 0xae, 0xf0, 0x85, 0x7d, 0x77, 0x81,
+    0x1f, 0x35, 0x2c, 0x07, 0x3b, 0x61, 0x08, 0xd7, 0x2d, 0x98, 0x10, 0xa3, 0x09, 0x14, 0xdf, 0xf4,
+];
+
+// A slice of eight blocks goes through another implementation, on words of eight blocks.
+#[test]
+fn agrees_with_the_type_for_keys_of_32_bytes(rt: HostRuntime) {
+    let plain = eight_blocks();
+    let mut wanted = plain;
+    Aes256::new(&counted()).encrypt_blocks(&mut wanted);
+    assert!(rt; there_and_back(&expand_256(&counted()), &plain, &wanted));
+}
+
+// FIPS 197, appendices A.1 to A.3 and C.1: the first words that are not the key's own, and the last round key.
+#[test]
+fn expands_keys_of_the_standard(rt: HostRuntime) {
+    let round_keys = expand_128(&0x2b7e151628aed2a6abf7158809cf4f3c_u128.to_be_bytes());
+    assert_eq!(rt;
+        u128::from_be_bytes(round_keys[0]),
+        0x2b7e151628aed2a6abf7158809cf4f3c
+    );
+    assert_eq!(rt;
+        u128::from_be_bytes(round_keys[1]),
+        0xa0fafe1788542cb123a339392a6c7605
+    );
+    assert_eq!(rt;
+        u128::from_be_bytes(round_keys[10]),
+        0xd014f9a8c9ee2589e13f0cc8b6630ca6
+    );
+    // The key of appendix C.1.
+    let round_keys = expand_128(&counted());
+    assert_eq!(rt;
+        u128::from_be_bytes(round_keys[10]),
+        0x13111d7fe3944a17f307a78b4d2b30c5
+    );
+    let round_keys = expand_192(&KEY_A2);
+    assert_eq!(rt;
+        u128::from_be_bytes(round_keys[1]),
+        0x62f8ead2522c6b7bfe0c91f72402f5a5
+    );
+    assert_eq!(rt;
+        u128::from_be_bytes(round_keys[12]),
+        0xe98ba06f448c773c8ecc720401002202
+    );
+    let round_keys = expand_256(&KEY_A3);
+    assert_eq!(rt;
+        u128::from_be_bytes(round_keys[2]),
+        0x9ba354118e6925afa51a8b5f2067fcde
+    );
+    assert_eq!(rt;
+        u128::from_be_bytes(round_keys[3]),
+        0xa8b09c1a93d194cdbe49846eb75d5b9a
+    );
+    assert_eq!(rt;
+        u128::from_be_bytes(round_keys[14]),
+        0xfe4890d1e6188d0b046df344706c631e
+    );
+}
+
+// Under round keys of zeros equal bytes stay equal, so that a round is the S-box alone. The S-box
+// (FIPS 197, figure 7) ten, twelve and fourteen times on 00 is 36, 6b and d2.
+#[test]
+fn takes_round_keys_of_zeros(rt: HostRuntime) {
+    let zeros = [[0; 16]; 8];
+    assert!(rt; there_and_back(&[[0; 16]; 11], &zeros, &[[0x36; 16]; 8]));
+    assert!(rt; there_and_back(&[[0; 16]; 13], &zeros, &[[0x6b; 16]; 8]));
+    assert!(rt; there_and_back(&[[0; 16]; 15], &zeros, &[[0xd2; 16]; 8]));
+}
+
+// Whether the last of the eight blocks becomes `wanted` under the round keys, and all types agree on
+// each of them, there and back.
+fn all_agree<const RK: usize>(round_keys: &[Block; RK], wanted: u128) -> bool
+    requires { (RK ≡ 11) ⊎ (RK ≡ 13) ⊎ (RK ≡ 15) }
+{
+    let plain = eight_blocks();
+    let [one_by_one, _] = encrypted(&AesEnc::new(round_keys), &plain);
+    u128::from_be_bytes(one_by_one[7]) == wanted && there_and_back(round_keys, &plain, &one_by_one)
+}
+
+// The values were computed by the definitions of FIPS 197, 5.1, in Python.
+#[test]
+fn takes_lists_that_are_no_expansions(rt: HostRuntime) {
+    assert!(rt; all_agree(&any_round_keys::<11>(), 0xd2bdd1cc4e04650a80014564b6cbc07e));
+    assert!(rt; all_agree(&any_round_keys::<13>(), 0xfa14d6498d5779aff01750a24f04843e));
+    assert!(rt; all_agree(&any_round_keys::<15>(), 0x2ed4432cf50ede08a34fc4cd8a7d01aa));
+}
+
+#[test]
+fn restores_a_block(rt: HostRuntime) {
+    let mut block = counted();
+    restored(&any_round_keys::<13>(), &mut block);
+    assert_eq!(rt; block, counted());
+}

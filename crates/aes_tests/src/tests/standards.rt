@@ -1,0 +1,146 @@
+//! Worked examples of the standards, by each call on blocks and each type.
+
+use super::blocks::blocks;
+use super::keys::{BY_128, BY_192, BY_256, KEY_128, KEY_192, KEY_256, PLAIN};
+use aes::{
+    Aes128, Aes128Dec, Aes128Enc, Aes192, Aes192Dec, Aes192Enc, Aes256, Aes256Dec, Aes256Enc,
+    Block, hardware_accelerated,
+};
+use aes_cipher::cipher::{BlockCipherDecrypt, BlockCipherEncrypt, KeyInit};
+use aes_permute as permute;
+
+// A key, a block, and the block encrypted.
+type Example<'a> = (&'a [u8], u128, u128);
+
+// What both block calls leave of a block.
+fn encrypted<C: BlockCipherEncrypt>(cipher: &C, block: u128) -> (u128, u128) {
+    let input = block.to_be_bytes();
+    let mut in_place = input;
+    cipher.encrypt_block(&mut in_place);
+    let mut output = [0xee; 16];
+    cipher.encrypt_block_b2b(&input, &mut output);
+    (u128::from_be_bytes(in_place), u128::from_be_bytes(output))
+}
+
+// What both block calls leave of a block.
+fn decrypted<C: BlockCipherDecrypt>(cipher: &C, block: u128) -> (u128, u128) {
+    let input = block.to_be_bytes();
+    let mut in_place = input;
+    cipher.decrypt_block(&mut in_place);
+    let mut output = [0xee; 16];
+    cipher.decrypt_block_b2b(&input, &mut output);
+    (u128::from_be_bytes(in_place), u128::from_be_bytes(output))
+}
+
+// Whether a type that is made from the key encrypts the block as the example has it.
+fn encrypts<C: KeyInit + BlockCipherEncrypt + Drop>(example: Example) -> bool {
+    let (key, plain, cipher) = example;
+    C::new_from_slice(key).is_ok_and(|made| encrypted(&made, plain) == (cipher, cipher))
+}
+
+// Whether a type that is made from the key decrypts the block as the example has it.
+fn decrypts<C: KeyInit + BlockCipherDecrypt + Drop>(example: Example) -> bool {
+    let (key, plain, cipher) = example;
+    C::new_from_slice(key).is_ok_and(|made| decrypted(&made, cipher) == (plain, plain))
+}
+
+// Whether the three types for the size of the key have the example right.
+fn hold<Both, Enc, Dec>(example: Example) -> bool
+where
+    Both: KeyInit + BlockCipherEncrypt + BlockCipherDecrypt + Drop,
+    Enc: KeyInit + BlockCipherEncrypt + Drop,
+    Dec: KeyInit + BlockCipherDecrypt + Drop,
+{
+    encrypts::<Both>(example)
+        && encrypts::<Enc>(example)
+        && decrypts::<Both>(example)
+        && decrypts::<Dec>(example)
+}
+
+// FIPS 197, appendices C.1 to C.3 and B; SP 800-38A, F.1.1, F.1.3 and F.1.5, the first block of each; and blocks of
+// zeros under keys of zeros, by OpenSSL (the first is the hash key of test case 1 of the specification of GCM).
+#[test]
+fn leaves_the_blocks_of_the_standards(rt: HostRuntime) {
+    let key128 = 0x2b7e151628aed2a6abf7158809cf4f3cu128.to_be_bytes();
+    let key192 = [
+        0x8e, 0x73, 0xb0, 0xf7, 0xda, 0x0e, 0x64, 0x52, 0xc8, 0x10, 0xf3, 0x2b, 0x80, 0x90, 0x79,
+        0xe5, 0x62, 0xf8, 0xea, 0xd2, 0x52, 0x2c, 0x6b, 0x7b,
+    ];
+    let key256 = [
+        0x60, 0x3d, 0xeb, 0x10, 0x15, 0xca, 0x71, 0xbe, 0x2b, 0x73, 0xae, 0xf0, 0x85, 0x7d, 0x77,
+        0x81, 0x1f, 0x35, 0x2c, 0x07, 0x3b, 0x61, 0x08, 0xd7, 0x2d, 0x98, 0x10, 0xa3, 0x09, 0x14,
+        0xdf, 0xf4,
+    ];
+    let first = 0x6bc1bee22e409f96e93d7e117393172a;
+    let examples: [Example; 10] = [
+        (&KEY_128, PLAIN, BY_128),
+        (&KEY_192, PLAIN, BY_192),
+        (&KEY_256, PLAIN, BY_256),
+        (
+            &key128,
+            0x3243f6a8885a308d313198a2e0370734,
+            0x3925841d02dc09fbdc118597196a0b32,
+        ),
+        (&key128, first, 0x3ad77bb40d7a3660a89ecaf32466ef97),
+        (&key192, first, 0xbd334f1d6e45f25ff712a214571fa5cc),
+        (&key256, first, 0xf3eed1bdb5d2a03c064b5a7e3db181f8),
+        (&[0; 16], 0, 0x66e94bd4ef8a2c3b884cfa59ca342b2e),
+        (&[0; 24], 0, 0xaae06992acbf52a3e8f4a96ec9300bd7),
+        (&[0; 32], 0, 0xdc95c078a2408989ad48a21492842087),
+    ];
+    for example in examples {
+        let right = match example.0.len() {
+            16 => {
+                hold::<Aes128, Aes128Enc, Aes128Dec>(example)
+                    && hold::<permute::Aes128, permute::Aes128Enc, permute::Aes128Dec>(example)
+            }
+            24 => {
+                hold::<Aes192, Aes192Enc, Aes192Dec>(example)
+                    && hold::<permute::Aes192, permute::Aes192Enc, permute::Aes192Dec>(example)
+            }
+            _ => {
+                hold::<Aes256, Aes256Enc, Aes256Dec>(example)
+                    && hold::<permute::Aes256, permute::Aes256Enc, permute::Aes256Dec>(example)
+            }
+        };
+        assert!(rt; right, "{} bytes", example.0.len());
+    }
+}
+
+// Whether slices of four blocks go to others and back.
+fn encrypts_four<Enc, Dec>(key: &[u8], plain: [Block; 4], encrypted: [Block; 4]) -> bool
+where
+    Enc: KeyInit + BlockCipherEncrypt + Drop,
+    Dec: KeyInit + BlockCipherDecrypt + Drop,
+{
+    let mut blocks = plain;
+    let there = Enc::new_from_slice(key).is_ok_and(|cipher| {
+        cipher.encrypt_blocks(&mut blocks);
+        blocks == encrypted
+    });
+    let back = Dec::new_from_slice(key).is_ok_and(|cipher| {
+        cipher.decrypt_blocks(&mut blocks);
+        blocks == plain
+    });
+    there && back
+}
+
+// SP 800-38A, F.1.1 and F.1.2: four blocks under the key of FIPS 197, appendix A.1.
+#[test]
+fn leaves_the_four_blocks_of_the_standard(rt: HostRuntime) {
+    let key = 0x2b7e151628aed2a6abf7158809cf4f3cu128.to_be_bytes();
+    let plain = blocks(&super::blocks::PLAIN);
+    let encrypted = blocks(&[
+        0x3ad77bb40d7a3660a89ecaf32466ef97,
+        0xf5d3d58503b9699de785895a96fdbaaf,
+        0x43b1cd7f598ece23881b00e3ed030688,
+        0x7b0c785e27e8ad3f8223207104725dd4,
+    ]);
+    assert!(rt; encrypts_four::<Aes128Enc, Aes128Dec>(&key, plain, encrypted));
+    assert!(rt; encrypts_four::<permute::Aes128Enc, permute::Aes128Dec>(&key, plain, encrypted));
+}
+
+#[test]
+fn runs_without_instructions_for_aes(rt: HostRuntime) {
+    assert!(rt; !hardware_accelerated());
+}
