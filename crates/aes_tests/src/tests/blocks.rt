@@ -10,14 +10,21 @@ pub const PLAIN: [u128; 4] = [
     0xf69f2445df4f9b17ad2b417be66c3710,
 ];
 
+/// The same, encrypted under the key of 16 bytes there (F.1.1).
+pub const ENCRYPTED: [u128; 4] = [
+    0x3ad77bb40d7a3660a89ecaf32466ef97,
+    0xf5d3d58503b9699de785895a96fdbaaf,
+    0x43b1cd7f598ece23881b00e3ed030688,
+    0x7b0c785e27e8ad3f8223207104725dd4,
+];
+
 /// Blocks by their hexadecimal digits.
-pub fn blocks(digits: &[u128; 4]) -> [Block; 4] {
-    [
-        digits[0].to_be_bytes(),
-        digits[1].to_be_bytes(),
-        digits[2].to_be_bytes(),
-        digits[3].to_be_bytes(),
-    ]
+pub fn blocks<const N: usize>(digits: &[u128; N]) -> [Block; N] {
+    let mut blocks = [[0; 16]; N];
+    for i in 0..N {
+        blocks[i] = digits[i].to_be_bytes();
+    }
+    blocks
 }
 
 /// 24 blocks, no two of them alike.

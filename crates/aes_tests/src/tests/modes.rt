@@ -1,6 +1,7 @@
 //! Modes over several types.
 
 use super::blocks::{PLAIN, blocks};
+use super::keys::{KEY_A1, KEY_A2, KEY_A3};
 use crate::by_backend::ByBackend;
 use crate::cbc::{cbc_decrypt, cbc_encrypt, cbc_there_and_back};
 use crate::chaining_value::{chaining_value, chaining_value_under};
@@ -11,21 +12,6 @@ use aes_rounds::rounds::{Aes, expand_128};
 
 // The initialization vector of SP 800-38A, F.2.
 const IV: u128 = 0x000102030405060708090a0b0c0d0e0f;
-
-// The keys of SP 800-38A, F.2.
-const KEY_128: [u8; 16] = [
-    0x2b, 0x7e, 0x15, 0x16, 0x28, 0xae, 0xd2, 0xa6, 0xab, 0xf7, 0x15, 0x88, 0x09, 0xcf, 0x4f, 0x3c,
-];
-
-const KEY_192: [u8; 24] = [
-    0x8e, 0x73, 0xb0, 0xf7, 0xda, 0x0e, 0x64, 0x52, 0xc8, 0x10, 0xf3, 0x2b, 0x80, 0x90, 0x79, 0xe5,
-    0x62, 0xf8, 0xea, 0xd2, 0x52, 0x2c, 0x6b, 0x7b,
-];
-
-const KEY_256: [u8; 32] = [
-    0x60, 0x3d, 0xeb, 0x10, 0x15, 0xca, 0x71, 0xbe, 0x2b, 0x73, 0xae, 0xf0, 0x85, 0x7d, 0x77, 0x81,
-    0x1f, 0x35, 0x2c, 0x07, 0x3b, 0x61, 0x08, 0xd7, 0x2d, 0x98, 0x10, 0xa3, 0x09, 0x14, 0xdf, 0xf4,
-];
 
 fn chains<C: BlockCipherEncrypt + BlockCipherDecrypt>(cipher: &C, encrypted: &[u128; 4]) -> bool {
     let iv = IV.to_be_bytes();
@@ -60,17 +46,17 @@ fn chains_the_blocks_of_the_standard(rt: HostRuntime) {
         0x39f23369a9d9bacfa530e26304231461,
         0xb2eb05e2c39be9fcda6c19078c6a9d1b,
     ];
-    assert!(rt; chains(&Aes128::new(&KEY_128), &by_128));
+    assert!(rt; chains(&Aes128::new(&KEY_A1), &by_128));
     assert!(rt;
         chains(
             &ByBackend {
-                backend: Aes::new(&expand_128(&KEY_128))
+                backend: Aes::new(&expand_128(&KEY_A1))
             },
             &by_128
         )
     );
-    assert!(rt; chains(&Aes192::new(&KEY_192), &by_192));
-    assert!(rt; chains(&Aes256::new(&KEY_256), &by_256));
+    assert!(rt; chains(&Aes192::new(&KEY_A2), &by_192));
+    assert!(rt; chains(&Aes256::new(&KEY_A3), &by_256));
 }
 
 // NIST's example of CMAC with a key of 16 bytes, on an empty message (SP 800-38B, D.1): its one block is the padding
@@ -79,6 +65,6 @@ fn chains_the_blocks_of_the_standard(rt: HostRuntime) {
 fn chains_to_a_value(rt: HostRuntime) {
     let last = [block_of_number(0x80 << 120 ^ 0xf7ddac306ae266ccf90bc11ee46d513b)];
     let tag = block_of_number(0xbb1d6929e95937287fa37d129b756746);
-    assert!(rt; blocks_equal(&chaining_value_under(&KEY_128, &last), &tag));
-    assert!(rt; blocks_equal(&chaining_value(&Aes128::new(&KEY_128), &[]), &[0; 16]));
+    assert!(rt; blocks_equal(&chaining_value_under(&KEY_A1, &last), &tag));
+    assert!(rt; blocks_equal(&chaining_value(&Aes128::new(&KEY_A1), &[]), &[0; 16]));
 }

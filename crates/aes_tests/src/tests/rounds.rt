@@ -2,6 +2,8 @@
 
 ghost use Rattle.std.specs.Prelude.{◌≡◌, ◌⊎◌};
 
+use super::blocks::blocks;
+use super::keys::{KEY_128, KEY_192, KEY_256, KEY_A1, KEY_A2, KEY_A3, PLAIN};
 use aes::Aes256;
 use aes::hazmat::Block8;
 use aes_cipher::cipher::{
@@ -47,21 +49,12 @@ const ENCRYPTED_256: [u128; 8] = [
     0x25392f1e278c76e7a85ea6ff6b223ece,
 ];
 
-// The bytes 00, 01, 02 and so on: the keys of FIPS 197, appendices C.1 to C.3.
-fn counted<const N: usize>() -> [u8; N] {
-    let mut bytes = [0; N];
-    for i in 0..N {
-        bytes[i] = (i % 256) as u8;
-    }
-    bytes
-}
-
 // Eight different blocks: the first is that of FIPS 197, appendix C, and block i adds i to each of
 // its bytes.
 fn eight_blocks() -> Block8 {
     let mut blocks = [[0; 16]; 8];
     for i in 0..8u8 {
-        blocks[i as usize] = 0x00112233445566778899aabbccddeeff_u128.to_be_bytes();
+        blocks[i as usize] = PLAIN.to_be_bytes();
         for j in 0..16usize {
             blocks[i as usize][j] ^= i;
         }
@@ -135,47 +128,27 @@ fn there_and_back<const RK: usize>(
         && decrypted(&AesDec::new(round_keys), wanted) == [*plain, *plain]
 }
 
-// Numbers as blocks.
-fn blocks_of(numbers: &[u128; 8]) -> Block8 {
-    let mut blocks = [[0; 16]; 8];
-    for i in 0..8usize {
-        blocks[i] = numbers[i].to_be_bytes();
-    }
-    blocks
-}
-
 #[test]
 fn answers_as_openssl_does(rt: HostRuntime) {
     let plain = eight_blocks();
-    assert!(rt; there_and_back(&expand_128(&counted()), &plain, &blocks_of(&ENCRYPTED_128)));
-    assert!(rt; there_and_back(&expand_192(&counted()), &plain, &blocks_of(&ENCRYPTED_192)));
-    assert!(rt; there_and_back(&expand_256(&counted()), &plain, &blocks_of(&ENCRYPTED_256)));
+    assert!(rt; there_and_back(&expand_128(&KEY_128), &plain, &blocks(&ENCRYPTED_128)));
+    assert!(rt; there_and_back(&expand_192(&KEY_192), &plain, &blocks(&ENCRYPTED_192)));
+    assert!(rt; there_and_back(&expand_256(&KEY_256), &plain, &blocks(&ENCRYPTED_256)));
 }
-
-// The keys of FIPS 197, appendices A.2 and A.3.
-const KEY_A2: [u8; 24] = [
-    0x8e, 0x73, 0xb0, 0xf7, 0xda, 0x0e, 0x64, 0x52, 0xc8, 0x10, 0xf3, 0x2b, 0x80, 0x90, 0x79, 0xe5,
-    0x62, 0xf8, 0xea, 0xd2, 0x52, 0x2c, 0x6b, 0x7b,
-];
-
-const KEY_A3: [u8; 32] = [
-    0x60, 0x3d, 0xeb, 0x10, 0x15, 0xca, 0x71, 0xbe, 0x2b, 0x73, 0xae, 0xf0, 0x85, 0x7d, 0x77, 0x81,
-    0x1f, 0x35, 0x2c, 0x07, 0x3b, 0x61, 0x08, 0xd7, 0x2d, 0x98, 0x10, 0xa3, 0x09, 0x14, 0xdf, 0xf4,
-];
 
 // A slice of eight blocks goes through another implementation, on words of eight blocks.
 #[test]
 fn agrees_with_the_type_for_keys_of_32_bytes(rt: HostRuntime) {
     let plain = eight_blocks();
     let mut wanted = plain;
-    Aes256::new(&counted()).encrypt_blocks(&mut wanted);
-    assert!(rt; there_and_back(&expand_256(&counted()), &plain, &wanted));
+    Aes256::new(&KEY_256).encrypt_blocks(&mut wanted);
+    assert!(rt; there_and_back(&expand_256(&KEY_256), &plain, &wanted));
 }
 
 // FIPS 197, appendices A.1 to A.3 and C.1: the first words that are not the key's own, and the last round key.
 #[test]
 fn expands_keys_of_the_standard(rt: HostRuntime) {
-    let round_keys = expand_128(&0x2b7e151628aed2a6abf7158809cf4f3c_u128.to_be_bytes());
+    let round_keys = expand_128(&KEY_A1);
     assert_eq!(rt;
         u128::from_be_bytes(round_keys[0]),
         0x2b7e151628aed2a6abf7158809cf4f3c
@@ -189,7 +162,7 @@ fn expands_keys_of_the_standard(rt: HostRuntime) {
         0xd014f9a8c9ee2589e13f0cc8b6630ca6
     );
     // The key of appendix C.1.
-    let round_keys = expand_128(&counted());
+    let round_keys = expand_128(&KEY_128);
     assert_eq!(rt;
         u128::from_be_bytes(round_keys[10]),
         0x13111d7fe3944a17f307a78b4d2b30c5
@@ -248,7 +221,7 @@ fn takes_lists_that_are_no_expansions(rt: HostRuntime) {
 
 #[test]
 fn restores_a_block(rt: HostRuntime) {
-    let mut block = counted();
+    let mut block = KEY_128;
     restored(&any_round_keys::<13>(), &mut block);
-    assert_eq!(rt; block, counted());
+    assert_eq!(rt; block, KEY_128);
 }

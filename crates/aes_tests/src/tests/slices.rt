@@ -3,13 +3,14 @@
 use super::blocks::different_blocks;
 use super::keys::{KEY_128, KEY_192, KEY_256};
 use super::ways::{OneWay, Trial, try_all};
-use aes::{Aes128, Aes192, Aes256, AesCipher, Block, BothWays};
+use aes::{Aes128, AesCipher, Block, BothWays};
 use aes_cipher::cipher::{
-    BlockCipherDecrypt, BlockCipherEncrypt, Direction, KeyInit, NotEqualError, ParBlocksSizeUser,
+    BlockCipherDecrypt, BlockCipherEncrypt, Decrypt, Direction, Encrypt, KeyInit, NotEqualError,
+    ParBlocksSizeUser,
 };
 use aes_permute as permute;
 use aes_planes::soft::sbox::Layers;
-use aes_soft::soft::key_sizes::AesVariant;
+use aes_soft::soft::key_sizes::{AesVariant, Bits128, Bits192, Bits256};
 
 // A block that no call has written.
 const UNTOUCHED: Block = [0xee; 16];
@@ -68,28 +69,34 @@ fn processes_slices_as_single_blocks(rt: HostRuntime) {
     }
 }
 
-// Whether slices of 0 to 17 blocks become the same by the counted calls.
-fn counts_slices<K: AesVariant>(cipher: &AesCipher<K, BothWays>) -> bool {
+// Whether slices of 0 to 17 blocks become the same by the counted calls of the three types for a key, and come back.
+fn counts_slices<K: AesVariant>(key: &K::Key) -> bool {
+    let both = AesCipher::<K, BothWays>::new(key);
+    let encrypts = AesCipher::<K, Encrypt>::new(key);
+    let decrypts = AesCipher::<K, Decrypt>::new(key);
     let blocks = different_blocks();
     let mut layers = Layers::new();
     let mut right = true;
     for count in 0..=17 {
         let mut wanted = blocks;
-        cipher.encrypt_blocks(&mut wanted[..count]);
-        let mut counted = blocks;
-        cipher.encrypt_blocks_counted(&mut counted[..count], &mut layers);
-        right &= counted == wanted;
-        cipher.decrypt_blocks_counted(&mut counted[..count], &mut layers);
-        right &= counted == blocks;
+        both.encrypt_blocks(&mut wanted[..count]);
+        let mut by_both = blocks;
+        both.encrypt_blocks_counted(&mut by_both[..count], &mut layers);
+        let mut by_each = blocks;
+        encrypts.encrypt_blocks_counted(&mut by_each[..count], &mut layers);
+        right &= by_both == wanted && by_each == wanted;
+        both.decrypt_blocks_counted(&mut by_both[..count], &mut layers);
+        decrypts.decrypt_blocks_counted(&mut by_each[..count], &mut layers);
+        right &= by_both == blocks && by_each == blocks;
     }
     right
 }
 
 #[test]
 fn counted_calls_process_the_same(rt: HostRuntime) {
-    assert!(rt; counts_slices(&Aes128::new(&KEY_128)));
-    assert!(rt; counts_slices(&Aes192::new(&KEY_192)));
-    assert!(rt; counts_slices(&Aes256::new(&KEY_256)));
+    assert!(rt; counts_slices::<Bits128>(&KEY_128));
+    assert!(rt; counts_slices::<Bits192>(&KEY_192));
+    assert!(rt; counts_slices::<Bits256>(&KEY_256));
 }
 
 // Whether a hundred blocks of one byte come to other blocks by the call on slices that encrypts, and each comes back by

@@ -1,7 +1,9 @@
 //! Worked examples of the standards, by each call on blocks and each type.
 
-use super::blocks::blocks;
-use super::keys::{BY_128, BY_192, BY_256, KEY_128, KEY_192, KEY_256, PLAIN};
+use super::blocks::{ENCRYPTED, blocks};
+use super::keys::{
+    BY_128, BY_192, BY_256, KEY_128, KEY_192, KEY_256, KEY_A1, KEY_A2, KEY_A3, PLAIN,
+};
 use aes::{
     Aes128, Aes128Dec, Aes128Enc, Aes192, Aes192Dec, Aes192Enc, Aes256, Aes256Dec, Aes256Enc,
     Block, hardware_accelerated,
@@ -61,29 +63,19 @@ where
 // zeros under keys of zeros, by OpenSSL (the first is the hash key of test case 1 of the specification of GCM).
 #[test]
 fn leaves_the_blocks_of_the_standards(rt: HostRuntime) {
-    let key128 = 0x2b7e151628aed2a6abf7158809cf4f3cu128.to_be_bytes();
-    let key192 = [
-        0x8e, 0x73, 0xb0, 0xf7, 0xda, 0x0e, 0x64, 0x52, 0xc8, 0x10, 0xf3, 0x2b, 0x80, 0x90, 0x79,
-        0xe5, 0x62, 0xf8, 0xea, 0xd2, 0x52, 0x2c, 0x6b, 0x7b,
-    ];
-    let key256 = [
-        0x60, 0x3d, 0xeb, 0x10, 0x15, 0xca, 0x71, 0xbe, 0x2b, 0x73, 0xae, 0xf0, 0x85, 0x7d, 0x77,
-        0x81, 0x1f, 0x35, 0x2c, 0x07, 0x3b, 0x61, 0x08, 0xd7, 0x2d, 0x98, 0x10, 0xa3, 0x09, 0x14,
-        0xdf, 0xf4,
-    ];
-    let first = 0x6bc1bee22e409f96e93d7e117393172a;
+    let first = super::blocks::PLAIN[0];
     let examples: [Example; 10] = [
         (&KEY_128, PLAIN, BY_128),
         (&KEY_192, PLAIN, BY_192),
         (&KEY_256, PLAIN, BY_256),
         (
-            &key128,
+            &KEY_A1,
             0x3243f6a8885a308d313198a2e0370734,
             0x3925841d02dc09fbdc118597196a0b32,
         ),
-        (&key128, first, 0x3ad77bb40d7a3660a89ecaf32466ef97),
-        (&key192, first, 0xbd334f1d6e45f25ff712a214571fa5cc),
-        (&key256, first, 0xf3eed1bdb5d2a03c064b5a7e3db181f8),
+        (&KEY_A1, first, ENCRYPTED[0]),
+        (&KEY_A2, first, 0xbd334f1d6e45f25ff712a214571fa5cc),
+        (&KEY_A3, first, 0xf3eed1bdb5d2a03c064b5a7e3db181f8),
         (&[0; 16], 0, 0x66e94bd4ef8a2c3b884cfa59ca342b2e),
         (&[0; 24], 0, 0xaae06992acbf52a3e8f4a96ec9300bd7),
         (&[0; 32], 0, 0xdc95c078a2408989ad48a21492842087),
@@ -128,16 +120,10 @@ where
 // SP 800-38A, F.1.1 and F.1.2: four blocks under the key of FIPS 197, appendix A.1.
 #[test]
 fn leaves_the_four_blocks_of_the_standard(rt: HostRuntime) {
-    let key = 0x2b7e151628aed2a6abf7158809cf4f3cu128.to_be_bytes();
     let plain = blocks(&super::blocks::PLAIN);
-    let encrypted = blocks(&[
-        0x3ad77bb40d7a3660a89ecaf32466ef97,
-        0xf5d3d58503b9699de785895a96fdbaaf,
-        0x43b1cd7f598ece23881b00e3ed030688,
-        0x7b0c785e27e8ad3f8223207104725dd4,
-    ]);
-    assert!(rt; encrypts_four::<Aes128Enc, Aes128Dec>(&key, plain, encrypted));
-    assert!(rt; encrypts_four::<permute::Aes128Enc, permute::Aes128Dec>(&key, plain, encrypted));
+    let encrypted = blocks(&ENCRYPTED);
+    assert!(rt; encrypts_four::<Aes128Enc, Aes128Dec>(&KEY_A1, plain, encrypted));
+    assert!(rt; encrypts_four::<permute::Aes128Enc, permute::Aes128Dec>(&KEY_A1, plain, encrypted));
 }
 
 #[test]

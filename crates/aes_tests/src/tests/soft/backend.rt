@@ -2,24 +2,23 @@
 
 ghost use Rattle.std.specs.Prelude.{◌≡◌};
 
+use crate::tests::blocks::different_blocks;
+use crate::tests::keys::{BY_128, BY_192, BY_256, KEY_128, KEY_192, KEY_256, PLAIN};
 use aes_cipher::cipher::{BlockCipherDecBackend, BlockCipherEncBackend, ParBlocksSizeUser};
 use aes_planes::soft::sbox::Layers;
 use aes_planes::soft::word::Block;
 use aes_soft::soft::Backend;
 use aes_soft::soft::key_sizes::{AesVariant, Bits128, Bits192, Bits256, WipedKeys};
 
-// The block of FIPS 197, appendix C, in slot 5, and other blocks around it.
+// Eight different blocks, in slot 5 that of FIPS 197, appendix C.
 fn batch() -> [Block; 8] {
-    let mut blocks = [[0; 16]; 8];
-    let mut byte: u8 = 7;
-    for block in blocks.iter_mut() {
-        for place in block.iter_mut() {
-            *place = byte;
-            byte = byte.wrapping_mul(5).wrapping_add(3);
+    let different = different_blocks();
+    let mut blocks = [PLAIN.to_be_bytes(); 8];
+    for i in 0..8usize {
+        if i != 5 {
+            blocks[i] = different[i + 1];
         }
-        byte ^= 0x5a;
     }
-    blocks[5] = 0x00112233445566778899aabbccddeeffu128.to_be_bytes();
     blocks
 }
 
@@ -66,20 +65,7 @@ fn processes_batches<K: AesVariant>(key: &K::Key, slot5: u128) -> bool {
 // FIPS 197, appendices C.1 to C.3.
 #[test]
 fn processes_batches_of_eight(rt: HostRuntime) {
-    let mut key128 = [0; 16];
-    let mut key192 = [0; 24];
-    let mut key256 = [0; 32];
-    for i in 0..32u8 {
-        let place = i as usize;
-        if place < 16 {
-            key128[place] = i;
-        }
-        if place < 24 {
-            key192[place] = i;
-        }
-        key256[place] = i;
-    }
-    assert!(rt; processes_batches::<Bits128>(&key128, 0x69c4e0d86a7b0430d8cdb78070b4c55a));
-    assert!(rt; processes_batches::<Bits192>(&key192, 0xdda97ca4864cdfe06eaf70a0ec0d7191));
-    assert!(rt; processes_batches::<Bits256>(&key256, 0x8ea2b7ca516745bfeafc49904b496089));
+    assert!(rt; processes_batches::<Bits128>(&KEY_128, BY_128));
+    assert!(rt; processes_batches::<Bits192>(&KEY_192, BY_192));
+    assert!(rt; processes_batches::<Bits256>(&KEY_256, BY_256));
 }

@@ -1,8 +1,10 @@
 //! Schedules and ciphers of both layouts and three sizes, on four words, against values from outside.
 
-ghost use Rattle.std.specs.Prelude.{◌≤◌};
-
 use super::block;
+use crate::tests::blocks::blocks;
+use crate::tests::keys::{
+    BY_128, BY_192, BY_256, KEY_128, KEY_192, KEY_256, KEY_A1, KEY_A2, KEY_A3, PLAIN,
+};
 use aes_planes::soft::sbox::Layers;
 use aes_planes::soft::word::{Batch, Block, Word};
 use aes_soft::soft::full::widen;
@@ -64,30 +66,8 @@ macro_rules! assert_on_words {
     };
 }
 
-// Blocks by their hexadecimal digits.
-fn blocks(digits: [u128; 8]) -> [Block; 8] {
-    let mut made = [[0; 16]; 8];
-    for i in 0..8usize {
-        made[i] = block(digits[i]);
-    }
-    made
-}
-
-// A key of two blocks by its hexadecimal digits, cut to its first bytes.
-fn key<const N: usize>(first: u128, second: u128) -> [u8; N]
-    requires { N ≤ 32 }
-{
-    let front = block(first);
-    let back = block(second);
-    let mut bytes = [0; N];
-    for i in 0..N {
-        bytes[i] = if i < 16 { front[i] } else { back[i - 16] };
-    }
-    bytes
-}
-
 // The four blocks of SP 800-38A, appendix F, and four more.
-const PLAIN: [u128; 8] = [
+const EXAMPLES: [u128; 8] = [
     0x6bc1bee22e409f96e93d7e117393172a,
     0xae2d8a571e03ac9c9eb76fac45af8e51,
     0x30c81c46a35ce411e5fbc1191a0a52ef,
@@ -136,53 +116,37 @@ const WANTED_256: [u128; 8] = [
 
 #[test]
 fn encrypts_and_decrypts_under_keys_of_16_bytes(rt: HostRuntime) {
-    let key = key::<16>(0x2b7e151628aed2a6abf7158809cf4f3c, 0);
-    let plain = blocks(PLAIN);
-    let wanted = blocks(WANTED_128);
-    assert_on_words!(rt, compact_128, &key, &plain, &wanted);
-    assert_on_words!(rt, full_128, &key, &plain, &wanted);
+    let plain = blocks(&EXAMPLES);
+    let wanted = blocks(&WANTED_128);
+    assert_on_words!(rt, compact_128, &KEY_A1, &plain, &wanted);
+    assert_on_words!(rt, full_128, &KEY_A1, &plain, &wanted);
 }
 
 #[test]
 fn encrypts_and_decrypts_under_keys_of_24_bytes(rt: HostRuntime) {
-    let key = key::<24>(0x8e73b0f7da0e6452c810f32b809079e5, 0x62f8ead2522c6b7b << 64);
-    let plain = blocks(PLAIN);
-    let wanted = blocks(WANTED_192);
-    assert_on_words!(rt, compact_192, &key, &plain, &wanted);
-    assert_on_words!(rt, full_192, &key, &plain, &wanted);
+    let plain = blocks(&EXAMPLES);
+    let wanted = blocks(&WANTED_192);
+    assert_on_words!(rt, compact_192, &KEY_A2, &plain, &wanted);
+    assert_on_words!(rt, full_192, &KEY_A2, &plain, &wanted);
 }
 
 #[test]
 fn encrypts_and_decrypts_under_keys_of_32_bytes(rt: HostRuntime) {
-    let key = key::<32>(
-        0x603deb1015ca71be2b73aef0857d7781,
-        0x1f352c073b6108d72d9810a30914dff4,
-    );
-    let plain = blocks(PLAIN);
-    let wanted = blocks(WANTED_256);
-    assert_on_words!(rt, compact_256, &key, &plain, &wanted);
-    assert_on_words!(rt, full_256, &key, &plain, &wanted);
+    let plain = blocks(&EXAMPLES);
+    let wanted = blocks(&WANTED_256);
+    assert_on_words!(rt, compact_256, &KEY_A3, &plain, &wanted);
+    assert_on_words!(rt, full_256, &KEY_A3, &plain, &wanted);
 }
 
 // FIPS 197, appendices C.1 to C.3, and the zero block under the zero keys, by OpenSSL.
 #[test]
 fn encrypts_and_decrypts_the_standards_blocks(rt: HostRuntime) {
-    let counted = [
-        0x000102030405060708090a0b0c0d0e0f,
-        0x101112131415161718191a1b1c1d1e1f,
-    ];
-    let rows: [([u128; 2], u128, [u128; 3]); 2] = [
+    let rows = [
+        (KEY_128, KEY_192, KEY_256, PLAIN, [BY_128, BY_192, BY_256]),
         (
-            counted,
-            0x00112233445566778899aabbccddeeff,
-            [
-                0x69c4e0d86a7b0430d8cdb78070b4c55a,
-                0xdda97ca4864cdfe06eaf70a0ec0d7191,
-                0x8ea2b7ca516745bfeafc49904b496089,
-            ],
-        ),
-        (
-            [0, 0],
+            [0; 16],
+            [0; 24],
+            [0; 32],
             0,
             [
                 0x66e94bd4ef8a2c3b884cfa59ca342b2e,
@@ -191,12 +155,9 @@ fn encrypts_and_decrypts_the_standards_blocks(rt: HostRuntime) {
             ],
         ),
     ];
-    for (digits, start, wanted) in rows {
+    for (key_128, key_192, key_256, start, wanted) in rows {
         let plain = [block(start); 8];
         let [by_128, by_192, by_256] = wanted;
-        let key_128 = key::<16>(digits[0], digits[1]);
-        let key_192 = key::<24>(digits[0], digits[1]);
-        let key_256 = key::<32>(digits[0], digits[1]);
         assert_on_words!(rt, compact_128, &key_128, &plain, &[block(by_128); 8]);
         assert_on_words!(rt, full_128, &key_128, &plain, &[block(by_128); 8]);
         assert_on_words!(rt, compact_192, &key_192, &plain, &[block(by_192); 8]);
@@ -237,23 +198,16 @@ fn stores_the_round_keys_of_the_zero_key(rt: HostRuntime) {
 #[test]
 fn widens_round_keys_to_those_of_the_same_key(rt: HostRuntime) {
     let mut layers = Layers::new();
-    let digits = [
-        0x000102030405060708090a0b0c0d0e0f,
-        0x101112131415161718191a1b1c1d1e1f,
-    ];
-    let key_128 = key::<16>(digits[0], digits[1]);
-    let key_192 = key::<24>(digits[0], digits[1]);
-    let key_256 = key::<32>(digits[0], digits[1]);
-    let of_128 = full::aes128::key_schedule::<u16>(&key_128, &mut layers);
-    let of_192 = full::aes192::key_schedule::<u16>(&key_192, &mut layers);
-    let of_256 = full::aes256::key_schedule::<u16>(&key_256, &mut layers);
+    let of_128 = full::aes128::key_schedule::<u16>(&KEY_128, &mut layers);
+    let of_192 = full::aes192::key_schedule::<u16>(&KEY_192, &mut layers);
+    let of_256 = full::aes256::key_schedule::<u16>(&KEY_256, &mut layers);
     assert!(rt;
-        widen::<u32, 88>(&of_128) == full::aes128::key_schedule::<u32>(&key_128, &mut layers)
+        widen::<u32, 88>(&of_128) == full::aes128::key_schedule::<u32>(&KEY_128, &mut layers)
     );
     assert!(rt;
-        widen::<u64, 104>(&of_192) == full::aes192::key_schedule::<u64>(&key_192, &mut layers)
+        widen::<u64, 104>(&of_192) == full::aes192::key_schedule::<u64>(&KEY_192, &mut layers)
     );
     assert!(rt;
-        widen::<u128, 120>(&of_256) == full::aes256::key_schedule::<u128>(&key_256, &mut layers)
+        widen::<u128, 120>(&of_256) == full::aes256::key_schedule::<u128>(&KEY_256, &mut layers)
     );
 }
