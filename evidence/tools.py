@@ -121,8 +121,9 @@ def library(backend, given=None):
     say(f"proving and building by {backend} in {tree}: minutes, if the crates below are not built yet")
     made.unlink(missing_ok=True)
     for crate, names in LIBRARIES.items():
-        joined = ROOM / f"{crate}-{backend}.o"
-        run(["ld", "-r", "-o", joined, "--whole-archive", build(crate, backend)], f"joining {crate}")
+        joined, alone = ROOM / f"{crate}-{backend}.o", ROOM / f"lib{crate}-{backend}.a"
+        shutil.copy(build(crate, backend), alone)
+        run(["ld", "-r", "-o", joined, "--whole-archive", alone], f"joining {crate}")
         # Both have copies of what they call: the names of those are for debuggers alone.
         run(["objcopy", "--wildcard", f"--keep-global-symbol={names}", joined], f"the names of {crate}")
         run(["ar", "rcs", made, joined], "the archive")

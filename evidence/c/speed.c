@@ -113,7 +113,7 @@ static void start(void) {
 }
 
 /* Whether every engine that makes a call gives the same answer; a planted answer, with one bit changed, is another. */
-static void compare(const struct row *row) {
+static void compare(const struct row *row, int planted) {
     static uint8_t answers[2][16 * 1024];
     size_t length = row->count < 1024 ? 16 * row->count : 1024, n = row->repeat == 1 ? length : row->count;
     int is_blocks = strncmp(row->name, "stream", 6) != 0;
@@ -127,10 +127,10 @@ static void compare(const struct row *row) {
             row->by[turn ? engine : 0](is_blocks ? length / 16 : n);
             memcpy(answers[turn], strstr(row->name, "_to_") ? other : data, length);
         }
-        answers[1][length / 2] ^= 1;
+        answers[1][length / 2] ^= planted;
         if (!memcmp(answers[0], answers[1], length))
             printf("planted\t%zu\t%s\tnot seen\n", 8 * size, row->name);
-        answers[1][length / 2] ^= 1;
+        answers[1][length / 2] ^= planted;
         if (memcmp(answers[0], answers[1], length))
             printf("differs\t%zu\t%s\t%s\n", 8 * size, row->name, engines[engine]);
     }
@@ -146,6 +146,7 @@ static uint64_t now(void) {
 
 int main(int count, char **arguments) {
     int rounds = count > 1 ? atoi(arguments[1]) : 100;
+    const char *spoiled = count > 2 ? arguments[2] : "";
     data = aligned_alloc(64, LONG);
     other = aligned_alloc(64, LONG);
     if (!data || !other)
@@ -156,13 +157,15 @@ int main(int count, char **arguments) {
         static double least[ROWS][ENGINES];
         start();
         for (int row = 0; row < ROWS; row++)
-            compare(&rows[row]);
+            compare(&rows[row], strcmp(spoiled, "planted_bit") != 0);
         for (int round = 0; round < rounds; round++)
             for (int row = 0; row < ROWS; row++)
                 for (int engine = 0; engine < ENGINES; engine++) {
                     call it = rows[row].by[engine];
                     if (!it || (rows[row].count > 1024 && round % LONG_EVERY))
                         continue;
+                    if (it == c_encrypt_twice && !strcmp(spoiled, "planted_twice_64"))
+                        it = c_encrypt;
                     uint64_t begin = now();
                     for (size_t i = 0; i < rows[row].repeat; i++)
                         it(rows[row].count);
