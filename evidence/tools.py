@@ -115,15 +115,17 @@ def library(backend, given=None):
     for it in sources():
         total.update(str(it.relative_to(TOP)).encode() + it.read_bytes())
     made, stamp = ROOM / f"libmeasured-{backend}.a", ROOM / f"libmeasured-{backend}.stamp"
-    if made.exists() and stamp.exists() and stamp.read_text() == total.hexdigest():
+    parts = {crate: ROOM / f"lib{crate}-{backend}.a" for crate in LIBRARIES}
+    kept = all(it.exists() for it in (made, stamp, *parts.values()))
+    if kept and stamp.read_text() == total.hexdigest():
         return made
     tree, start = copy_of_the_crates(), time.time()
     say(f"proving and building by {backend} in {tree}: minutes, if the crates below are not built yet")
     made.unlink(missing_ok=True)
     for crate, names in LIBRARIES.items():
-        joined, alone = ROOM / f"{crate}-{backend}.o", ROOM / f"lib{crate}-{backend}.a"
-        shutil.copy(build(crate, backend), alone)
-        run(["ld", "-r", "-o", joined, "--whole-archive", alone], f"joining {crate}")
+        joined = ROOM / f"{crate}-{backend}.o"
+        shutil.copy(build(crate, backend), parts[crate])
+        run(["ld", "-r", "-o", joined, "--whole-archive", parts[crate]], f"joining {crate}")
         # Both have copies of what they call: the names of those are for debuggers alone.
         run(["objcopy", "--wildcard", f"--keep-global-symbol={names}", joined], f"the names of {crate}")
         run(["ar", "rcs", made, joined], "the archive")
