@@ -6,7 +6,7 @@ use Rattle.std.proofs.lemmas.Simd.{get_or-zip2, length-zip2}
 use Rattle.std.specs.Int.{w128, to_be_bytes, from_be_bytes}
 use lib.Lanes.{zip2}
 use Rattle.aes_planes.specs.Fips197.{IsBytes, IsBlock, add_round_key, build, build_from}
-use Rattle.aes_planes.proofs.Lists.Built.{built}
+use Rattle.aes_planes.proofs.Lists.{built}
 use Rattle.aes_planes.proofs.Standard.States.{state_is}
 
 -- the sum of two blocks on a vector

@@ -6,7 +6,7 @@ use Rattle.std.proofs.lemmas.Simd.{length-zip2, get_or-zip2, put_chunk_whole}
 use lib.Lanes.{zip2, put_chunk}
 use Rattle.std.specs.Int.Bits.{xor_assoc, xor_self, xor_zero_r}
 use Rattle.std.specs.List.{concat}
-use Rattle.aes_planes.proofs.Lists.Built.{build_is, length-build, get_or-build}
+use Rattle.aes_planes.proofs.Lists.{build_is, length-build, get_or-build}
 use Rattle.aes_ctr.specs.CounterMode.{plus_stream, pieces_plus_stream}
 
 pub length-plus : (s : ℕ → ℕ) (p : ℕ) (xs : List ℕ) → length (plus_stream s p xs) ≡ length xs

@@ -9,7 +9,7 @@ use Rattle.aes_planes.specs.Fips197.{field_mul, sbox, inv_sbox, byte_at, build, 
 use Rattle.aes_planes.specs.Fips197.{inv_shift_rows, inv_mix_columns, add_round_key, IsBytes, IsBlock}
 use Rattle.aes_planes.specs.Planes.{plus63}
 use Rattle.aes_planes.proofs.Bits.ByteCases.{all_below, all_below_tells}
-use Rattle.aes_planes.proofs.Lists.Built.{map-same}
+use Rattle.aes_planes.proofs.Lists.{map-same}
 use Rattle.aes_planes.proofs.Mixing.MixColumns.{inv_mix_block}
 use Rattle.aes_planes.proofs.SBox.InverseSBox.{inv_sbox_of_sbox}
 use Rattle.aes_planes.proofs.Standard.FieldLaws.{add_zero}

@@ -8,7 +8,7 @@ use Rattle.std.proofs.lemmas.Nat.{xor_comm, xor_mod, xor_shr}
 use Rattle.aes_planes.specs.Fips197.{field_mul, build, state}
 use Rattle.aes_planes.specs.Planes.{plus63}
 use Rattle.aes_planes.proofs.Bits.ByteCases.{all_below, all_below_tells, by_four}
-use Rattle.aes_planes.proofs.Lists.Built.{built}
+use Rattle.aes_planes.proofs.Lists.{built}
 use Rattle.aes_planes.proofs.Standard.FieldLaws.{add_swap, add_zero}
 use Rattle.aes_planes.proofs.Standard.States.{state_same}
 use Rattle.aes_permute.specs.Lookup.{looked, low_nibble, high_nibble, by_nibbles}

@@ -7,7 +7,7 @@ use lib.Lanes.{zip2, pick_l}
 use Rattle.aes_planes.specs.Fips197.{field_add, byte_at, build, state, add_round_key, IsBlock}
 use Rattle.aes_planes.specs.Planes.{plus63, constant_block, summed, columns_summed, columns_straddled}
 use Rattle.aes_planes.proofs.Bits.ByteCases.{all_below, all_below_tells, by_four}
-use Rattle.aes_planes.proofs.Lists.Built.{built}
+use Rattle.aes_planes.proofs.Lists.{built}
 use Rattle.aes_planes.proofs.Standard.FieldLaws.{add_zero, add_twice, add_swap}
 use Rattle.std.specs.Int.Bits.{xor_assoc}
 use Rattle.std.proofs.lemmas.Nat.{xor_comm}

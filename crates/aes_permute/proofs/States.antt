@@ -4,7 +4,7 @@ use Rattle.std.proofs.Common.{◌∙◌, arith}
 use Rattle.std.proofs.lemmas.Bool.{eq-eqb, ne_eqb}
 use Rattle.aes_planes.specs.Fips197 as fips
 use Rattle.aes_planes.specs.Rounds.{rounds_after, all_rounds}
-use Rattle.aes_planes.proofs.Lists.Built.{get_or-build, length-build}
+use Rattle.aes_planes.proofs.Lists.{get_or-build, length-build}
 use Rattle.aes_planes.proofs.Standard.AllRounds.{rounds_more}
 use Rattle.aes_permute.specs.Stored.{round_keys_of}
 

@@ -1,2 +1,65 @@
--- Lists that are built of a function.
-pub mod Built
+-- Lists that are built of a function, and lists with the same elements.
+use Rattle.std.proofs.Common.{◌≡◌, ℕ, zero, suc, ◌+◌, ◌<◌, List, [], ◌∷◌, length, get_or, map, refl, ap, ◌∙◌, arith}
+use Rattle.aes_planes.specs.Fips197.{build, build_from}
+pub use Rattle.aes_planes.specs.Private.BuiltLength.{length-build}
+
+get_or-build_from : {A : Type 0} (a n i : ℕ) (f : ℕ → A) (d : A) → i < n → get_or (build_from a n f) i d ≡ f (a + i)
+unfolding build_from
+get_or-build_from a zero i f d h = absurd (omega arith)
+get_or-build_from a (suc n) zero f d h = ap f (omega arith)
+get_or-build_from a (suc n) (suc i) f d h = get_or-build_from (a + 1) n i f d (omega arith) ∙ ap f (omega arith)
+
+pub get_or-build : {A : Type 0} (n i : ℕ) (f : ℕ → A) (d : A) → i < n → get_or (build n f) i d ≡ f i
+unfolding build
+get_or-build n i f d h = get_or-build_from 0 n i f d h ∙ ap f (omega arith)
+
+-- what holds of each of f's values, and of what stands past the end, holds in each place
+build_from_each : {A : Type 0} (P : A → Type 0) (d : A) → P d → (a n : ℕ) (f : ℕ → A) → ((i : ℕ) → P (f i)) → (i : ℕ)
+    → P (get_or (build_from a n f) i d)
+unfolding build_from
+build_from_each P d past a zero f h i = past
+build_from_each P d past a (suc n) f h zero = h a
+build_from_each P d past a (suc n) f h (suc i) = build_from_each P d past (a + 1) n f h i
+
+pub build_each : {A : Type 0} (P : A → Type 0) (d : A) → P d → (n : ℕ) (f : ℕ → A) → ((i : ℕ) → P (f i)) → (i : ℕ)
+    → P (get_or (build n f) i d)
+unfolding build
+build_each P d past = build_from_each P d past 0
+
+-- a list that has f's values is the list built of f
+pub build_from_is : {A : Type 0} (a n : ℕ) (f : ℕ → A) (xs : List A) (d : A) → length xs ≡ n
+    → ((i : ℕ) → i < n → f (a + i) ≡ get_or xs i d) → build_from a n f ≡ xs
+unfolding build_from
+build_from_is a zero f [] d l h = refl
+build_from_is a zero f (x ∷ xs) d l h = absurd (omega arith)
+build_from_is a (suc n) f [] d l h = absurd (omega arith)
+build_from_is a (suc n) f (x ∷ xs) d l h =
+    let e : a ≡ a + 0 = omega arith in
+    let t : build_from (a + 1) n f ≡ xs = build_from_is (a + 1) n f xs d (omega arith)
+    (λ i lt. let s : a + 1 + i ≡ a + suc i = omega arith in ap f s ∙ h (suc i) (omega arith)) in
+    (λ j. (ap f e ∙ h 0 (omega arith)) j ∷ t j)
+
+pub build_is : {A : Type 0} (n : ℕ) (f : ℕ → A) (xs : List A) (d : A) → length xs ≡ n
+    → ((i : ℕ) → i < n → f i ≡ get_or xs i d) → build n f ≡ xs
+unfolding build
+build_is n f xs d l h = build_from_is 0 n f xs d l (λ i lt. let s : 0 + i ≡ i = omega arith in ap f s ∙ h i lt)
+
+-- a list is built of its elements
+pub built : {A : Type 0} (n : ℕ) (xs : List A) (d : A) → length xs ≡ n → build n (λ i. get_or xs i d) ≡ xs
+built n xs d l = build_is n (λ i. get_or xs i d) xs d l (λ i lt. refl)
+
+-- ---- what a function makes of lists
+
+pub map-same : {A B : Type 0} (f g : A → B) (xs : List A) → ((x : A) → f x ≡ g x) → map f xs ≡ map g xs
+map-same f g [] e = refl
+map-same f g (x ∷ xs) e = (λ t. e x t ∷ map-same f g xs e t)
+
+-- f of each element of xs is g of the one in its place in ys
+pub map-same_at : {A B C : Type 0} (f : A → C) (g : B → C) (xs : List A) (ys : List B) (a : A) (b : B)
+    → length xs ≡ length ys
+    → ((p : ℕ) → p < length xs → f (get_or xs p a) ≡ g (get_or ys p b)) → map f xs ≡ map g ys
+map-same_at f g [] [] a b e h = refl
+map-same_at f g [] (y ∷ ys) a b e h = absurd (omega arith)
+map-same_at f g (x ∷ xs) [] a b e h = absurd (omega arith)
+map-same_at f g (x ∷ xs) (y ∷ ys) a b e h =
+    (λ t. h 0 (omega arith) t ∷ map-same_at f g xs ys a b (omega arith) (λ p l. h (suc p) (omega arith)) t)

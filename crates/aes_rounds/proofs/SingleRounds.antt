@@ -2,7 +2,7 @@
 use Rattle.std.proofs.Common.{◌≡◌, ℕ, List, length, replicate, ap, ◌∙◌}
 use Rattle.std.specs.Int.Bits.{xor_zero_r}
 use Rattle.aes_planes.specs.Fips197 as fips
-use Rattle.aes_planes.proofs.Lists.Built.{built}
+use Rattle.aes_planes.proofs.Lists.{built}
 use Rattle.aes_planes.proofs.Mixing.MixColumns.{mix_block, inv_mix_block, inv_mix_of_mix, mix_of_inv_mix}
 use Rattle.aes_planes.proofs.Standard.Steps.{sub_bytes_bytes, inv_sub_bytes_bytes, shift_block, inv_shift_block}
 

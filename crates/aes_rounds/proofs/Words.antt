@@ -7,7 +7,7 @@ use Rattle.std.proofs.lemmas.Bool.{lt-ltb, le-ltb}
 use Rattle.std.proofs.lemmas.List.{take_more_set, get_or-take}
 use Rattle.aes_planes.specs.Fips197 as fips
 use Rattle.aes_planes.proofs.KeySchedule.AddedWords.{listed_power}
-use Rattle.aes_planes.proofs.Lists.Built.{built, build_is}
+use Rattle.aes_planes.proofs.Lists.{built, build_is}
 
 -- four equal columns stay four equal columns, so that the first is SubWord
 pub first_column_substituted : (w : List ℕ) → length w ≡ 4

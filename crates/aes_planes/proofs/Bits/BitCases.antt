@@ -5,7 +5,7 @@ use Rattle.std.proofs.lemmas.Bool.{and_parts}
 use Rattle.std.proofs.lemmas.List.{get_or_default}
 use Rattle.aes_planes.specs.Bits.{at, xor}
 use Rattle.aes_planes.specs.Fips197.{build}
-use Rattle.aes_planes.proofs.Lists.Built.{build_is}
+use Rattle.aes_planes.proofs.Lists.{build_is}
 
 -- whether two bits are the same
 unfoldable pub same : Bool → Bool → Bool

@@ -16,7 +16,7 @@ use Rattle.std.proofs.lemmas.Bool.{cases_lt, eqb-true, lt-ltb, le-ltb, le-leb, l
 use Rattle.aes_planes.specs.Bits.{at, bit, number, xor, Places}
 use Rattle.aes_planes.specs.Fips197.{build}
 use Rattle.aes_planes.proofs.Bits.ByteCases.{all_below, all_below_tells, by_two, by_pairs}
-use Rattle.aes_planes.proofs.Lists.Built.{get_or-build}
+use Rattle.aes_planes.proofs.Lists.{get_or-build}
 
 -- the bits of a number, place by place
 pub Places-build : (n : ℕ) (g f : ℕ → Bool) → ((i : ℕ) → i < n → g i ≡ f i) → Places n (build n g) f

@@ -15,7 +15,7 @@ use Rattle.aes_planes.specs.Planes.{constant_block, summed, columns_summed, colu
 use Rattle.aes_planes.proofs.Bits.ByteCases.{by_four}
 use Rattle.aes_planes.proofs.KeySchedule.AddedWords.{added_word_constant, added_word_same, added_word_substituted}
 use Rattle.aes_planes.proofs.KeySchedule.ExpandedWords.{expanded_word_key, expanded_word_next, round_key_words}
-use Rattle.aes_planes.proofs.Lists.Built.{built}
+use Rattle.aes_planes.proofs.Lists.{built}
 use Rattle.aes_planes.proofs.Standard.States.{byte_at-state, state_is, state_same, state_length}
 
 -- ---- blocks of four words

@@ -5,7 +5,7 @@ use Rattle.std.proofs.Math.ListN.{get_or-append}
 use Rattle.std.proofs.Math.Seq.{get_or-append_seam}
 use Rattle.aes_planes.specs.Fips197.{state, key_expansion, rounds, key_words, added_word, next_word_if, expanded_words}
 use Rattle.aes_planes.specs.Fips197.{expanded_word, blocks_of, round_key, key_word, add_words}
-use Rattle.aes_planes.proofs.Lists.Built.{get_or-build}
+use Rattle.aes_planes.proofs.Lists.{get_or-build}
 use Rattle.aes_planes.proofs.Standard.States.{state_same}
 
 module _ (key : List ℕ) where

@@ -5,7 +5,7 @@ use Rattle.aes_planes.specs.Fips197.{IsBytes, sbox, field_add, word, key_words, 
 use Rattle.aes_planes.specs.Fips197.{round_constant, added_word, added_word_if, next_word_if, expanded_words}
 use Rattle.aes_planes.specs.Fips197.{key_expansion, sub_word, rot_word, add_words}
 use Rattle.aes_planes.proofs.SBox.InverseSBox.{sbox_byte}
-use Rattle.aes_planes.proofs.Lists.Built.{length-build, build_each}
+use Rattle.aes_planes.proofs.Lists.{length-build, build_each}
 use Rattle.aes_planes.proofs.Standard.FieldLaws.{xtime_byte, field_add_byte}
 use Rattle.aes_planes.proofs.Standard.States.{RowsBytes}
 use Rattle.aes_planes.proofs.Standard.Steps.{map_bytes, state_bytes}

@@ -7,8 +7,8 @@ use Rattle.std.proofs.Math.Arith.{digits_div, digits_mod, mod-mul}
 use Rattle.aes_planes.specs.Fips197.{byte_at, build, build_from, state, field_add, add_round_key}
 use Rattle.aes_planes.specs.Planes.{held, held_byte, place, zip_with}
 use Rattle.aes_planes.proofs.Standard.States.{byte_at-state, state_is, state_same}
-use Rattle.aes_planes.proofs.Lists.Built.{build_is, get_or-build, length-build}
-pub use Rattle.aes_planes.proofs.Lists.Built.{map-same}
+use Rattle.aes_planes.proofs.Lists.{build_is, get_or-build, length-build}
+pub use Rattle.aes_planes.proofs.Lists.{map-same}
 pub use Rattle.std.proofs.lemmas.Simd.{map-map}
 
 -- ---- lists that are built of a function

@@ -9,7 +9,7 @@ use Rattle.aes_planes.specs.Planes.{held, held_byte, place, Holds, HoldsShifted}
 use Rattle.aes_planes.proofs.Standard.States.{byte_at-state}
 use Rattle.aes_planes.proofs.Standard.Steps.{state_length, state_bytes}
 use Rattle.aes_planes.proofs.Bits.BitCases.{eight}
-use Rattle.aes_planes.proofs.Lists.Built.{get_or-build}
+use Rattle.aes_planes.proofs.Lists.{get_or-build}
 use Rattle.aes_planes.proofs.Planes.Held.{held_of, length-held}
 use Rattle.aes_planes.proofs.Bits.NumberBits.{bit_of_number, number_of_bits}
 use Rattle.aes_planes.proofs.Bits.BytesByBits.{number_lt}

@@ -5,7 +5,7 @@ use Rattle.aes_planes.specs.Fips197.{field_add, field_mul, sbox, inv_sbox, byte_
 use Rattle.aes_planes.specs.Fips197.{shift_rows, inv_shift_rows, shift_times, inv_shift_times, mix_columns}
 use Rattle.aes_planes.specs.Fips197.{inv_mix_columns, add_round_key}
 use Rattle.aes_planes.specs.Planes.{plus63, between_shifts}
-use Rattle.aes_planes.proofs.Lists.Built.{built}
+use Rattle.aes_planes.proofs.Lists.{built}
 use Rattle.aes_planes.proofs.Mixing.MixColumns.{mix_block, inv_mix_block, mix_columns_add, inv_mix_columns_add}
 use Rattle.aes_planes.proofs.Planes.Held.{map-map}
 use Rattle.aes_planes.proofs.Shifts.ColumnSwaps.{shifted_back_3}

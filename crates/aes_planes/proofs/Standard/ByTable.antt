@@ -8,7 +8,7 @@ use Rattle.aes_planes.specs.Fips197.{sbox, inv_sbox, sub_bytes, inv_sub_bytes, s
 use Rattle.aes_planes.specs.Fips197.{inv_mix_columns, add_round_key, round_key, last_round, inv_state_after}
 use Rattle.aes_planes.specs.Fips197.{cipher_with, cipher, inv_cipher_with, inv_cipher, rot_word, add_words}
 use Rattle.aes_planes.specs.Fips197.{round_constant, key_words, key_word, rounds, added_word_if, next_word_if}
-use Rattle.aes_planes.specs.Fips197.{expanded_words, expanded_word, blocks_of, key_expansion}
+use Rattle.aes_planes.specs.Fips197.{expanded_words, expanded_word, blocks_of, key_expansion, inverted_keys}
 use Rattle.aes_planes.specs.Rounds.{all_rounds}
 use Rattle.aes_planes.proofs.SBox.InverseSBox.{listed, inv_listed, sbox_listed, inv_sbox_listed}
 use Rattle.aes_planes.proofs.Standard.AllRounds.{is_cipher}
@@ -120,6 +120,10 @@ pub expansion_tells : (key : List ℕ) (w : List (List ℕ)) → expansion_by_ta
 unfolding expansion_by_table
 expansion_tells key w e =
     expansion_by_sbox key ∙ ap (λ s. expansion_by s key) (is_looked_up sbox listed sbox_listed) ∙ e
+
+pub inverted_key_tells : (key : List ℕ) (i : ℕ) (k : List ℕ) → round_key (inverted_keys (expansion_by_table key)) i ≡ k
+    → round_key (inverted_keys (key_expansion key)) i ≡ k
+inverted_key_tells key i k e = ap (λ w. round_key (inverted_keys w) i) (expansion_tells key _ refl) ∙ e
 
 pub cipher_is : (key b : List ℕ) → cipher key b ≡ cipher_by_table key b
 unfolding cipher_by_table sub_bytes

@@ -1,20 +1,24 @@
 -- The laws in the words of their contracts.
-use Rattle.std.proofs.Common.{◌≡◌, ℕ, ◌+◌, ◌<◌, ◌≤◌, ◌↔◌, List, [], length, map, get_or, slice_index_or, ap, sym, ◌∙◌}
+use Rattle.std.proofs.Common.{◌≡◌, ℕ, ◌+◌, ◌<◌, ◌≤◌, List, [], length, map, get_or, slice_index_or, ap, sym, ◌∙◌}
 use Rattle.std.proofs.Common.{◌^◌, slice_index, arith}
 use Rattle.std.proofs.lemmas.List.{get_or-map, length-map, same_lists, get_or_default}
 use Rattle.aes_planes.specs.Each.{Each}
 use Rattle.aes_planes.specs.Fips197.{IsBytes, IsBlock, AreRoundKeys, add_round_key, cipher, inv_cipher, rounds}
-use Rattle.aes_planes.specs.Fips197.{key_expansion}
+use Rattle.aes_planes.specs.Fips197.{key_expansion, eq_inv_cipher_with, inverted_keys}
 use Rattle.aes_planes.proofs.KeySchedule.ExpandedWords.{round_key_words}
 use Rattle.aes_planes.proofs.KeySchedule.ExpansionLength.{expansion_length, expansion_bytes}
 use Rattle.aes_planes.proofs.Standard.CipherInverses.{inv_cipher_of_cipher, cipher_of_inv_cipher, cipher_length}
-use Rattle.aes_planes.proofs.Standard.CipherInverses.{cipher_bytes}
+use Rattle.aes_planes.proofs.Standard.CipherInverses.{cipher_bytes, eq_inv_is_inv}
 use Rattle.aes_planes.proofs.Standard.States.{state_length}
 use Rattle.aes_planes.proofs.Standard.Steps.{add_block, add_length, add_key_twice}
 
 -- a key expansion has two blocks and more
 pub two_keys : (key : List ℕ) → 2 ≤ length (key_expansion key)
 two_keys key = let e = expansion_length key in omega arith
+
+pub inverse_of_expansion : (key b : List ℕ)
+    → eq_inv_cipher_with (inverted_keys (key_expansion key)) b ≡ inv_cipher key b
+inverse_of_expansion key b = eq_inv_is_inv (key_expansion key) b (two_keys key)
 
 pub expansion_round_keys : (key : List ℕ) → IsBytes key → AreRoundKeys (key_expansion key)
 expansion_round_keys key h = record {
@@ -35,19 +39,17 @@ sum_bytes b k i h g = (add_block b k h.1 g.1).1 i
 pub sum_twice : (b k : List ℕ) → IsBlock b → add_round_key (add_round_key b k) k ≡ b
 sum_twice b k h = add_key_twice b k h.0
 
--- as many after as before, and in each place f of what was there
-abbrev pub InPlace : (List ℕ → List ℕ) → List (List ℕ) → List (List ℕ) → Type 0
-InPlace f before after =
-    (length after ≡ length before) × ((i : ℕ) → i < length before
-    → slice_index_or after i [] ≡ f (slice_index_or before i []))
+pub each_at : (f : List ℕ → List ℕ) (before after : List (List ℕ)) (i : ℕ) → Each f before after → i < length before
+    → slice_index_or after i [] ≡ f (slice_index_or before i [])
+each_at f before after i e h = ap (λ v. get_or v i []) e ∙ get_or-map f before i [] [] h
 
-pub each_in_place : (f : List ℕ → List ℕ) (before after : List (List ℕ)) → Each f before after ↔ InPlace f before after
-each_in_place f before after = (
-  λ e. (ap length e ∙ length-map before f, λ i h. ap (λ v. get_or v i []) e ∙ get_or-map f before i [] [] h),
-  λ p. same_lists after (map f before) (p.0 ∙ sym (length-map before f))
-      (λ i d h. let k : i < length before = omega (arith, p.0) in
-      get_or_default after i d [] h ∙ p.1 i k ∙ sym (get_or-map f before i [] d k)),
-)
+pub each_of : (f : List ℕ → List ℕ) (before after : List (List ℕ)) → length after ≡ length before
+    → ((i : ℕ) → i < length before → slice_index_or after i [] ≡ f (slice_index_or before i [])) → Each f before after
+each_of f before after l p = same_lists after (map f before) (l ∙ sym (length-map before f))
+    (λ i d h. let k : i < length before = omega (arith, l) in
+    get_or_default after i d [] h ∙ p i k ∙ sym (get_or-map f before i [] d k))
+
+pub ruleset places_of_each = (each_at, each_of, length-map)
 
 pub ruleset inverse_ciphers = (inv_cipher_undoes, cipher_undoes)
 

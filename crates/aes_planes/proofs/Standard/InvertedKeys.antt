@@ -4,7 +4,7 @@ use Rattle.std.proofs.Common.{length, slice_index_or, ap, sym, ◌∙◌}
 use Rattle.std.proofs.Math.Bool.{or-true}
 use Rattle.std.proofs.lemmas.Bool.{eq-eqb, ne_eqb}
 use Rattle.aes_planes.specs.Fips197 as fips
-use Rattle.aes_planes.proofs.Lists.Built.{get_or-build, length-build}
+use Rattle.aes_planes.proofs.Lists.{get_or-build, length-build}
 
 pub inverted_length : (w : List (List ℕ)) → length (fips.inverted_keys w) ≡ length w
 unfolding fips.inverted_keys

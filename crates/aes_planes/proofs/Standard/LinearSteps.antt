@@ -6,7 +6,7 @@ use Rattle.aes_planes.specs.Fips197.{field_add, field_mul, byte_at, build, state
 use Rattle.aes_planes.specs.Fips197.{mix_columns, inv_mix_columns, add_round_key, shift_rows, inv_shift_rows, inv_sbox}
 use Rattle.aes_planes.specs.Fips197.{inv_sub_bytes, IsBytes}
 use Rattle.aes_planes.proofs.Bits.ByteCases.{all_below, all_below_tells}
-use Rattle.aes_planes.proofs.Lists.Built.{built}
+use Rattle.aes_planes.proofs.Lists.{built}
 use Rattle.aes_planes.proofs.Standard.FieldLaws.{add_swap, field_mul_add, agree_by_powers}
 use Rattle.aes_planes.proofs.Standard.States.{state_same}
 

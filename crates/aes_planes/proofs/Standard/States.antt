@@ -5,7 +5,7 @@ use Rattle.std.proofs.lemmas.Bool.{and_parts, ltb-true}
 use Rattle.std.proofs.Math.Nat.{mod-lt}
 use Rattle.std.specs.List.{list_all}
 use Rattle.aes_planes.specs.Fips197.{byte_at, state, IsBytes, IsBlock}
-use Rattle.aes_planes.proofs.Lists.Built.{get_or-build, build_is, build_each}
+use Rattle.aes_planes.proofs.Lists.{get_or-build, build_is, build_each}
 
 pub state_length : (f : ℕ → ℕ → ℕ) → length (state f) ≡ 16
 unfolding state

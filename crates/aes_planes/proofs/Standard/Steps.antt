@@ -5,7 +5,7 @@ use Rattle.aes_planes.specs.Fips197.{field_add, sbox, inv_sbox, byte_at, build, 
 use Rattle.aes_planes.specs.Fips197.{shift_rows, inv_shift_rows, shift_times, mix_columns, inv_mix_columns}
 use Rattle.aes_planes.specs.Fips197.{add_round_key, IsBytes, IsBlock}
 use Rattle.aes_planes.proofs.SBox.InverseSBox.{sbox_byte, inv_sbox_byte, sbox_of_inv_sbox, inv_sbox_of_sbox}
-use Rattle.aes_planes.proofs.Lists.Built.{built}
+use Rattle.aes_planes.proofs.Lists.{built}
 use Rattle.aes_planes.proofs.Mixing.MixColumns.{mix_block, inv_mix_block, inv_mix_of_mix, mix_of_inv_mix}
 use Rattle.aes_planes.proofs.Standard.FieldLaws.{add_twice, field_add_byte}
 pub use Rattle.aes_planes.proofs.Standard.LinearSteps.{inv_sub_shift}

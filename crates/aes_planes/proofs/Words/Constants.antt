@@ -8,7 +8,7 @@ use Rattle.aes_planes.specs.Bits.{at, bit}
 use Rattle.aes_planes.specs.Words.{word_bits}
 use Rattle.aes_planes.proofs.Bits.BitCases.{same, same_tells}
 use Rattle.aes_planes.proofs.Bits.ByteCases.{all_below, all_below_tells, all_pairs, all_pairs_tell, by_four}
-use Rattle.aes_planes.proofs.Lists.Built.{get_or-build}
+use Rattle.aes_planes.proofs.Lists.{get_or-build}
 use Rattle.aes_planes.proofs.Bits.Digits.{field_bit, rows_joined, byte_repeated}
 use Rattle.aes_planes.proofs.Bits.NumberBits.{bit_low, bit_shr, reads, number_calls, number_nots}
 
@@ -83,6 +83,14 @@ rows_packed n x0 x1 x2 x3 r0 r1 r2 r3 f0 f1 f2 f3 b0 b1 b2 b3 i h =
     (sym (div-add-mod' i (4 * n)))
     ∙ by_four (λ j. bit (get_or (x0 ∷ x1 ∷ x2 ∷ x3 ∷ []) j 0) q ≡ bit (get_or (r0 ∷ r1 ∷ r2 ∷ r3 ∷ []) j 0) (q / n))
     (b0 q column) (b1 q column) (b2 q column) (b3 q column) (i / (4 * n)) row
+
+pub rows_packed_16 : (r0 r1 r2 r3 i : ℕ) → r0 ≤ 15 → r1 ≤ 15 → r2 ≤ 15 → r3 ≤ 15 → i < 16
+    → at (word_bits 16 (bit_or (bit_or (bit_or r0 (r1 * 2 ^ 4 % 2 ^ 16)) (r2 * 2 ^ 8 % 2 ^ 16))
+    (r3 * 2 ^ 12 % 2 ^ 16))) i
+    ≡ bit (get_or (r0 ∷ r1 ∷ r2 ∷ r3 ∷ []) (i / 4) 0) (i % 4 / 1)
+rows_packed_16 r0 r1 r2 r3 i h0 h1 h2 h3 = rows_packed 1 r0 r1 r2 r3 r0 r1 r2 r3
+    (omega arith) (omega arith) (omega arith) (omega arith) (λ q l. ap (bit r0) (omega arith))
+    (λ q l. ap (bit r1) (omega arith)) (λ q l. ap (bit r2) (omega arith)) (λ q l. ap (bit r3) (omega arith)) i
 
 -- a number in four parts of w bits
 quarter_bit : (w x p i : ℕ) → p < 4 → i < w

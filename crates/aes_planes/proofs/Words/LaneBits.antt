@@ -2,8 +2,8 @@
 use Rattle.std.proofs.Common.{◌≡◌, ℕ, ◌+◌, ◌-◌, ◌*◌, ◌/◌, ◌%◌, ◌^◌, ◌<◌, ◌≤◌, ◌==◌, Bool, true, false, ◌&&◌, ◌||◌, not}
 use Rattle.std.proofs.Common.{cond, nat_le, nat_lt, bit_and, bit_or, bit_xor, List, [], ◌∷◌, length, map, get_or}
 use Rattle.std.proofs.Common.{replicate, refl, ap, sym, ◌∙◌, arith, w8, Fits, leb-true, le-leb, ◌⊎◌, inl, inr, T}
-use Rattle.std.proofs.lemmas.Simd.{swz_l, SwzOk, get_or-swz_l, get_or-zip2, get_or-replicate, length-zip2}
-use Rattle.std.proofs.lemmas.Simd.{length-replicate, SwzOk-from_Each1, Each1-from_get_or, Each1-get_or, below_from_Fits}
+use Rattle.std.proofs.lemmas.Simd.{swz_l, get_or-swz_l, get_or-zip2, get_or-replicate, length-zip2}
+use Rattle.std.proofs.lemmas.Simd.{length-replicate, Each1-get_or, below_from_Fits}
 use Rattle.std.proofs.lemmas.List.{get_or_past, get_or-map}
 use Rattle.std.proofs.lemmas.Bool.{cases_lt, lt-leb, lt-ltb, le-ltb, eqb-true}
 use Rattle.std.proofs.lemmas.Bool.Decides.{leb_tells}
@@ -13,9 +13,9 @@ use Rattle.aes_planes.specs.Bits.{at, bit, xor, Places}
 use Rattle.aes_planes.specs.Fips197.{build}
 use Rattle.aes_planes.specs.Private.Lanes.{lane_bit, lane_bits, row_of}
 use Rattle.aes_planes.proofs.Bits.BitCases.{same, same_tells}
-use Rattle.aes_planes.proofs.Bits.ByteCases.{all_below, all_pairs, all_pairs_tell, by_four}
+use Rattle.aes_planes.proofs.Bits.ByteCases.{all_below, all_below_tells, all_pairs, all_pairs_tell, by_four}
 use Rattle.aes_planes.proofs.Bits.Digits.{digit_bit, number_bit}
-use Rattle.aes_planes.proofs.Lists.Built.{get_or-build}
+use Rattle.aes_planes.proofs.Lists.{get_or-build}
 use Rattle.aes_planes.proofs.Planes.Held.{build-ext}
 use Rattle.aes_planes.proofs.Bits.NumberBits.{Places-build, bit_of_and, bit_of_or, bit_of_xor, bit_low, bit_funnel}
 use Rattle.aes_planes.proofs.Bits.NumberBits.{bit_zero, bit_ones}
@@ -200,16 +200,16 @@ t_of : (b : Bool) → b ≡ true → T b
 t_of true e = tt
 t_of false e = absurd (grind arith)
 
-down_within : all_pairs 17 16 (λ m j. nat_le 128 (get_or (down_to m) j 0) || nat_lt (get_or (down_to m) j 0) 16) ≡ true
-unfolding all_below
-down_within = refl
+-- a lane that a swizzle may name: one that there is, or one from 128 on, which gives zero
+abbrev place_ok : ℕ → Bool
+place_ok k = nat_le 128 k || (nat_lt k 16 && nat_lt (0 + k) 16)
 
-pub down_ok : (m : ℕ) → m ≤ 16 → SwzOk w8 16 16 0 (down_to m)
-down_ok m h = SwzOk-from_Each1 w8 16 1 16 0 (down_to m) refl (omega arith)
-    (Each1-from_get_or (λ k. T (nat_le 128 k || nat_lt k 16)) (down_to m) 0 (λ j k.
-    t_of _ (all_pairs_tell 17 16 (λ m j. nat_le 128 (get_or (down_to m) j 0) || nat_lt (get_or (down_to m) j 0) 16)
-    down_within
-    m j (omega arith) k)))
+places_checked : all_below 256 (λ v. place_ok (bit_and v 143)) ≡ true
+unfolding all_below
+places_checked = refl
+
+pub place_within : (x : ℕ) → T (place_ok (bit_and (x % 256) 143))
+place_within x = t_of _ (all_below_tells 256 (λ v. place_ok (bit_and v 143)) places_checked (x % 256) (omega arith))
 
 abbrev pub up_to : ℕ → List ℕ
 up_to m = map (λ j. (j + (256 - m)) % 256) sixteen

@@ -16,7 +16,7 @@ use Rattle.aes_planes.proofs.Bits.BytesByBits.{number-sum, number-double, sum_bi
 use Rattle.aes_planes.proofs.Bits.Digits.{digits_small, each_small, regrouped}
 use Rattle.aes_planes.proofs.Bits.NumberBits.{reads, bit_rotated, bit_zero, bit_ones, bit_of_and, bit_of_or, bit_of_xor}
 use Rattle.aes_planes.proofs.Bits.NumberBits.{word_xor, word_shl}
-use Rattle.aes_planes.proofs.Lists.Built.{map-same, map-same_at}
+use Rattle.aes_planes.proofs.Lists.{map-same, map-same_at}
 use Rattle.aes_planes.proofs.Mixing.Matrices.{stay_bit, masked_turn}
 use Rattle.aes_planes.proofs.Words.LaneBits.{lane_of_two, lane_of_splat, lane_of_splats, length-splat, lane_small, shl8}
 use Rattle.std.proofs.lemmas.Simd.{below_from_Fits, map-map, get_or-zip2, get_or-replicate, length-zip2, mask_l-mod}
