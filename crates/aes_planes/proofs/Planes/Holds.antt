@@ -1,10 +1,10 @@
 -- The relation that planes hold blocks, and the blocks that they hold as a function.
 use Rattle.std.proofs.Common.{◌≡◌, ℕ, zero, suc, ◌+◌, ◌*◌, ◌<◌, Bool, List, [], ◌∷◌, length, get_or, map, refl, ap, sym}
-use Rattle.std.proofs.Common.{subst, ◌∙◌, arith}
+use Rattle.std.proofs.Common.{◌^◌, slice_index, ◌∙◌, arith}
 use Rattle.std.proofs.lemmas.List.{length-map, map-id}
 use Rattle.std.proofs.lemmas.Simd.{map-map}
 use Rattle.aes_planes.specs.Bits.{at, bit, number}
-use Rattle.aes_planes.specs.Fips197.{byte_at, state, shift_rows, shift_times}
+use Rattle.aes_planes.specs.Fips197.{IsBytes, byte_at, state, shift_rows, shift_times}
 use Rattle.aes_planes.specs.Planes.{held, held_byte, place, Holds, HoldsShifted}
 use Rattle.aes_planes.proofs.Standard.States.{byte_at-state}
 use Rattle.aes_planes.proofs.Standard.Steps.{state_length, state_bytes}
@@ -24,20 +24,33 @@ held_at : (n : ℕ) (planes : List (List Bool)) (k : ℕ) → k < n
 unfolding held
 held_at n planes k h = get_or-build n k _ [] h
 
-pub held_holds : (n : ℕ) (planes : List (List Bool)) → length planes ≡ 8 → Holds n planes (held n planes)
-held_holds n planes l =
+pub held_length : (n : ℕ) (planes : List (List Bool)) (k : ℕ) → k < n → length (get_or (held n planes) k []) ≡ 16
+held_length n planes k h = ap length (held_at n planes k h) ∙ state_length _
+
+pub held_bytes : (n : ℕ) (planes : List (List Bool)) (k i : ℕ) → length planes ≡ 8 → k < n
+    → slice_index (get_or (held n planes) k []) i < 2 ^ 8
+held_bytes n planes k i l h =
     let long : (i : ℕ) → length (map (λ w. at w i) planes) ≡ 8 = (λ i. length-map planes (λ w. at w i) ∙ l) in
-    record {
-      planes_count = l;
-      blocks_count = length-held n planes;
-      block_length = λ k h. ap length (held_at n planes k h) ∙ state_length _;
-      bytes = λ k h. rw (held_at n planes k h)
-          (state_bytes _ (λ r c. number_lt 8 (map (λ w. at w (place n r c k)) planes) (long (place n r c k))));
-      bits = λ p r c k hp hr hc hk. let i = place n r c k in
-          sym (at-map i planes p) ∙ sym (bit_of_number (map (λ w. at w i) planes) p)
-          ∙ ap (λ x. bit x p) (sym (ap (λ b. byte_at b r c) (held_at n planes k hk)
-          ∙ byte_at-state (λ r c. held_byte planes (place n r c k)) r c hr hc));
-    }
+    let bytes : IsBytes (get_or (held n planes) k []) = rw (held_at n planes k h)
+    (state_bytes _ (λ r c. number_lt 8 (map (λ w. at w (place n r c k)) planes) (long (place n r c k)))) in
+    bytes i
+
+pub held_bits : (n : ℕ) (planes : List (List Bool)) (p r c k : ℕ) → p < 8 → r < 4 → c < 4 → k < n
+    → at (get_or planes p []) (place n r c k) ≡ bit (byte_at (get_or (held n planes) k []) r c) p
+held_bits n planes p r c k hp hr hc hk =
+    let i = place n r c k in
+    sym (at-map i planes p) ∙ sym (bit_of_number (map (λ w. at w i) planes) p)
+    ∙ ap (λ x. bit x p) (sym (ap (λ b. byte_at b r c) (held_at n planes k hk)
+    ∙ byte_at-state (λ r c. held_byte planes (place n r c k)) r c hr hc))
+
+pub held_holds : (n : ℕ) (planes : List (List Bool)) → length planes ≡ 8 → Holds n planes (held n planes)
+held_holds n planes l = record {
+  planes_count = l;
+  blocks_count = length-held n planes;
+  block_length = held_length n planes;
+  bytes = λ k h i. held_bytes n planes k i l h;
+  bits = held_bits n planes;
+}
 
 pub holds_held : (n : ℕ) (planes : List (List Bool)) (blocks : List (List ℕ)) → Holds n planes blocks
     → held n planes ≡ blocks
@@ -51,17 +64,9 @@ holds_held n planes blocks h =
     ∷ b 4 (omega arith) t ∷ b 5 (omega arith) t ∷ b 6 (omega arith) t ∷ b 7 (omega arith) t ∷ []))
     ∙ number_of_bits byte (h.bytes k l (r + 4 * c)))
 
-map-zero_shifts : (bs : List (List ℕ)) → map (shift_times 0) bs ≡ bs
+pub map-zero_shifts : (bs : List (List ℕ)) → map (shift_times 0) bs ≡ bs
 unfolding shift_times
 map-zero_shifts bs = map-id bs
-
-pub unshifted_holds : (n : ℕ) (planes : List (List Bool)) (blocks : List (List ℕ)) → length planes ≡ 8
-    → (HoldsShifted n planes 0 blocks → Holds n planes blocks)
-    × (Holds n planes blocks → HoldsShifted n planes 0 blocks)
-unshifted_holds n planes blocks l = (
-  (λ e. subst (Holds n planes) (sym (map-zero_shifts (held n planes)) ∙ e) (held_holds n planes l)),
-  (λ h. map-zero_shifts (held n planes) ∙ holds_held n planes blocks h),
-)
 
 pub none_deferred : (n : ℕ) (planes : List (List Bool)) → HoldsShifted n planes 0 (held n planes)
 none_deferred n planes = map-zero_shifts (held n planes)
@@ -75,3 +80,5 @@ one_more_deferred n s planes blocks is =
     ∙ sym (map-map shift_rows (shift_times s) (held n planes)) ∙ ap (map shift_rows) is
 
 pub ruleset laws_of_deferring = (none_deferred, one_more_deferred)
+
+pub ruleset laws_of_holding = (length-held, held_length, held_bytes, held_bits, holds_held, map-zero_shifts)

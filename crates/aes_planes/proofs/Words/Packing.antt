@@ -132,11 +132,24 @@ word_to_four f bs x e a b c d j p hj hp = by_four (λ j. bit (f j) p ≡ bit x (
     ((λ t. bit ((d ∙ ap (λ v. get_or v 3 0) e) t) p) ∙ field_bit x 24 8 p hp) j hj
     ∙ reads 32 x (8 * j + p) (omega arith)
 
-pub word_of_four : (f : ℕ → ℕ) (bs : List ℕ) (x : ℕ) → length bs ≡ 4 → ((i : ℕ) → get_or bs i 0 < 256)
+word_of_four : (f : ℕ → ℕ) (bs : List ℕ) (x : ℕ) → length bs ≡ 4 → ((i : ℕ) → get_or bs i 0 < 256)
     → x ≡ from_le_bytes w32 bs
     → f 0 ≡ get_or bs 0 0 → f 1 ≡ get_or bs 1 0 → f 2 ≡ get_or bs 2 0 → f 3 ≡ get_or bs 3 0
     → (j p : ℕ) → j < 4 → p < 8 → bit (f j) p ≡ at (word_bits 32 x) (8 * j + p)
 word_of_four f bs x l s e = word_to_four f bs x (sym (le_bytes_4 bs x l s e))
+
+-- a column of a block as a word
+pub column_word : (xs : List ℕ) (c j p x : ℕ) → ((i : ℕ) → get_or xs i 0 < 256) → c < 4 → j < 4 → p < 8
+    → x ≡ from_le_bytes w32 (get_or xs (4 * c) 0 ∷ get_or xs (4 * c + 1) 0 ∷ get_or xs (4 * c + 2) 0
+    ∷ get_or xs (4 * c + 3) 0 ∷ [])
+    → bit (row_byte xs (4 * j + c)) p ≡ at (word_bits 32 x) (8 * j + p)
+column_word xs c j p x f hc hj hp e =
+    let bytes = get_or xs (4 * c) 0 ∷ get_or xs (4 * c + 1) 0 ∷ get_or xs (4 * c + 2) 0
+    ∷ get_or xs (4 * c + 3) 0 ∷ [] in
+    let small : (i : ℕ) → get_or bytes i 0 < 256 = each_small 8 bytes (f _, (f _, (f _, (f _, tt)))) in
+    word_of_four (λ j. row_byte xs (4 * j + c)) bytes x refl small e
+    (ap (λ i. get_or xs i 0) (omega arith)) (ap (λ i. get_or xs i 0) (omega arith))
+    (ap (λ i. get_or xs i 0) (omega arith)) (ap (λ i. get_or xs i 0) (omega arith)) j p hj hp
 
 -- ---- the bytes of a block by swizzles
 

@@ -130,6 +130,7 @@ impl Word for u32 {
 }
 
 // A column of a block, its first row lowest.
+#[tactic(auto, using(std::proofs::Common::rules, crate::proofs::Words::Packing::column_word))]
 #[inline(always)]
 fn column_of(block: &Block, column: usize) -> u32
     requires four_columns { column < 4 }

@@ -139,6 +139,7 @@ impl Word for u64 {
 }
 
 // The even columns of a block, row by row, and the odd ones.
+#[tactic(auto, using(std::proofs::Common::rules, crate::proofs::Words::Packing::apart_at))]
 #[inline(always)]
 fn columns_apart(block: Block) -> [u64; 2]
     ensures { (o : ℕ) → o < 2 → (j p : ℕ) → j < 8 → p < 8
