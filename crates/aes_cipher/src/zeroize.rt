@@ -80,6 +80,7 @@ fn observe<E: Copy, F: Fn(E) -> u8>(elements: &[E], place: usize, some_byte: &F)
 }
 
 // Writes an element over every one of a slice.
+#[tactic(auto, using(crate::proofs::Zeros::filled_more, crate::proofs::Zeros::filled_whole))]
 #[inline(always)]
 fn overwrite<E: Copy>(elements: &mut [E], element: E)
     ensures { elements.new ≡ replicate (length elements.old) element }

@@ -5,7 +5,7 @@ use Rattle.std.proofs.lemmas.List.{append-nil, drop-drop, take-append-drop, take
 use Rattle.std.proofs.lemmas.List.{drop_all, length-take, length-drop, drop-set-lt}
 use Rattle.std.proofs.lemmas.Slice.{take-put_mid, drop-put_mid}
 use Rattle.aes_ctr.specs.CounterMode.{plus_stream}
-use Rattle.aes_ctr.proofs.Sums.{length-plus, plus-agree, plus-nil, plus-cons, plus-append}
+use Rattle.aes_ctr.proofs.Sums.{length-plus, plus-agree, plus-nil, plus-cons, plus-append, plus-whole}
 use borrow.Rule.Slice.PartMut.{put_mid}
 
 -- what a loop leaves in the end that has come to place i: the bytes before it, and the sum of the stream and those from
@@ -40,13 +40,12 @@ added_run s t p q i n k xs ys same fits is agree =
     ∙ ap (λ l. take i xs ++ l) rest
 
 -- the sum of the stream and the byte at place i, written there
-pub added_one : (s : ℕ → ℕ) (p i : ℕ) (xs : List ℕ) → i < length xs
-    → added_from s p (i + 1) (set xs i (bit_xor (get_or xs i 0) (s (p + i)))) ≡ added_from s p i xs
-added_one s p i xs fits =
-    let y = bit_xor (get_or xs i 0) (s (p + i)) in
+pub added_one : (s : ℕ → ℕ) (p i y : ℕ) (xs : List ℕ) → i < length xs → y ≡ bit_xor (get_or xs i 0) (s (p + i))
+    → added_from s p (i + 1) (set xs i y) ≡ added_from s p i xs
+added_one s p i y xs fits is =
     let place : p + (i + 1) ≡ p + i + 1 = omega arith in
     let rest : y ∷ plus_stream s (p + (i + 1)) (drop (i + 1) xs) ≡ plus_stream s (p + i) (drop i xs) =
-    ap (λ m. y ∷ plus_stream s m (drop (i + 1) xs)) place
+    (λ t. is t ∷ plus_stream s (place t) (drop (i + 1) xs))
     ∙ sym (plus-cons s (p + i) (get_or xs i 0) (drop (i + 1) xs))
     ∙ ap (plus_stream s (p + i)) (sym (drop_more xs i 0 fits)) in
     ap (λ l. l ++ plus_stream s (p + (i + 1)) (drop (i + 1) (set xs i y))) (take_more_set xs i y fits)
@@ -55,8 +54,12 @@ added_one s p i xs fits =
     ∙ ap (λ l. take i xs ++ l) rest
 
 -- a loop that has come to the end leaves what it was to leave
-pub added_all : (s : ℕ → ℕ) (p i : ℕ) (xs zs : List ℕ) → length xs ≤ i → added_from s p i xs ≡ zs → xs ≡ zs
+pub added_all : (s : ℕ → ℕ) (p i : ℕ) (xs zs : List ℕ) → length xs ≤ i
+    → added_from s p i xs ≡ plus_stream s p zs → xs ≡ plus_stream s p zs
 added_all s p i xs zs end kept =
     sym (ap (λ l. l ++ plus_stream s (p + i) (drop i xs)) (take_all i xs end)
     ∙ ap (λ l. xs ++ plus_stream s (p + i) l) (drop_all i xs end)
     ∙ ap (λ l. xs ++ l) (plus-nil s (p + i)) ∙ append-nil xs) ∙ kept
+
+-- what adding a part of a block rests on
+pub ruleset part_calls = (added_one, added_all, plus-whole)

@@ -1,6 +1,6 @@
 -- Sums of bytes and a stream: byte by byte, and piece by piece.
-use Rattle.std.proofs.Common.{◌≡◌, ℕ, zero, suc, ◌+◌, ◌<◌, List, [], ◌∷◌, ◌++◌, length, get_or, take, bit_xor}
-use Rattle.std.proofs.Common.{slice_index, refl, sym, ap, ◌∙◌, arith}
+use Rattle.std.proofs.Common.{◌≡◌, ℕ, zero, suc, ◌+◌, ◌<◌, ◌≤◌, List, [], ◌∷◌, ◌++◌, length, get_or, take}
+use Rattle.std.proofs.Common.{bit_xor, slice_index, refl, sym, ap, ◌∙◌, arith}
 use Rattle.std.proofs.lemmas.List.{take_all}
 use Rattle.std.proofs.lemmas.Simd.{length-zip2, get_or-zip2, put_chunk_whole}
 use lib.Lanes.{zip2, put_chunk}
@@ -57,8 +57,8 @@ plus-agree s t p q xs same =
     (λ i h. ap (bit_xor (get_or xs i 0)) (same i h) ∙ sym (get_or-plus t q xs i h))
 
 -- the same sum once more undoes it
-pub plus-twice : (s : ℕ → ℕ) (p : ℕ) (xs : List ℕ) → plus_stream s p (plus_stream s p xs) ≡ xs
-plus-twice s p xs =
+pub summed_twice : (s : ℕ → ℕ) (p : ℕ) (xs : List ℕ) → plus_stream s p (plus_stream s p xs) ≡ xs
+summed_twice s p xs =
     plus_is s p (plus_stream s p xs) xs (sym (length-plus s p xs))
     (λ i h. ap (λ b. bit_xor b (s (p + i))) (get_or-plus s p xs i (omega (arith, length-plus s p xs)))
     ∙ xor_assoc (get_or xs i 0) (s (p + i)) (s (p + i))
@@ -66,21 +66,21 @@ plus-twice s p xs =
     ∙ xor_zero_r (get_or xs i 0))
 
 -- pieces plus a stream, joined, are the joined pieces plus the stream
-pub plus-pieces : (s : ℕ → ℕ) (p : ℕ) (pieces : List (List ℕ)) → concat (pieces_plus_stream s p pieces)
+pub pieces_summed : (s : ℕ → ℕ) (p : ℕ) (pieces : List (List ℕ)) → concat (pieces_plus_stream s p pieces)
     ≡ plus_stream s p (concat pieces)
 unfolding pieces_plus_stream
-plus-pieces s p [] = sym (plus-nil s p)
-plus-pieces s p (piece ∷ pieces) =
-    ap (λ l. plus_stream s p piece ++ l) (plus-pieces s (p + length piece) pieces)
+pieces_summed s p [] = sym (plus-nil s p)
+pieces_summed s p (piece ∷ pieces) =
+    ap (λ l. plus_stream s p piece ++ l) (pieces_summed s (p + length piece) pieces)
     ∙ sym (plus-append s p piece (concat pieces))
 
 -- the sums of sixteen bytes and a block, as vectors make them
-pub plus-whole : (xs ys : List ℕ) → length xs ≡ 16 → length ys ≡ 16
-    → put_chunk 0 xs (zip2 bit_xor (take 16 xs) ys) ≡ plus_stream (slice_index ys) 0 xs
-plus-whole xs ys d e =
+pub plus-whole : (p : ℕ) (xs ys : List ℕ) → p + length xs ≤ 16 → length xs ≡ 16 → length ys ≡ 16
+    → plus_stream (slice_index ys) p xs ≡ put_chunk 0 xs (zip2 bit_xor (take 16 xs) ys)
+plus-whole p xs ys none d e =
     let long : length (zip2 bit_xor xs ys) ≡ length xs = length-zip2 bit_xor xs ys (omega (arith, d, e)) in
-    ap (λ l. put_chunk 0 xs (zip2 bit_xor l ys)) (take_all 16 xs (omega (arith, d)))
-    ∙ put_chunk_whole xs (zip2 bit_xor xs ys) (sym long)
-    ∙ sym (plus_is (slice_index ys) 0 xs (zip2 bit_xor xs ys) long
+    plus_is (slice_index ys) p xs (zip2 bit_xor xs ys) long
     (λ i h. ap (λ m. bit_xor (get_or xs i 0) (get_or ys m 0)) (omega arith)
-    ∙ sym (get_or-zip2 bit_xor xs ys i 0 0 0 h (omega (arith, d, e)))))
+    ∙ sym (get_or-zip2 bit_xor xs ys i 0 0 0 h (omega (arith, d, e))))
+    ∙ sym (ap (λ l. put_chunk 0 xs (zip2 bit_xor l ys)) (take_all 16 xs (omega (arith, d)))
+    ∙ put_chunk_whole xs (zip2 bit_xor xs ys) (sym long))

@@ -8,6 +8,7 @@ use aes_cipher::cipher::Block;
 use std::simd::prelude::*;
 
 // Adds to bytes the bytes of a block from one place on: all sixteen as one vector.
+#[tactic(auto, using(crate::proofs::Runs::part_calls))]
 #[inline(always)]
 fn add_part(block: &Block, from: usize, bytes: &mut [u8])
     requires { from + length bytes.old ≤ 16 }

@@ -15,6 +15,7 @@ const ROOM: usize = 16;
 const BATCH_SPEED: usize = 4;
 
 // Adds to bytes of one block the keystream from one position on.
+#[tactic(auto, using(crate::proofs::Places::plus_blocks))]
 fn add_to_one<C: BlockCipherEncrypt>(cipher: &C, iv: &Block, position: u64, bytes: &mut [u8])
     requires { position % 16 + length bytes.old ≤ 16 }
     ensures { bytes.new ≡ plus_stream (keystream_byte (C.round_keys cipher.now) iv.now) position bytes.old }

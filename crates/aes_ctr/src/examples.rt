@@ -24,6 +24,7 @@ pub fn counter_examples()
 {}
 
 /// The keystream of SP 800-38A, F.5.1: the cipher of each of the four counter blocks.
+#[tactic(auto, using(aes_planes::proofs::OnLiterals::ciphers), unfolding(crate::proofs::OnLiterals::ctr_by_table))]
 pub fn keystream_128_example()
     ensures first { fips.cipher_with (fips.key_expansion (bytes 16 0x2b7e151628aed2a6abf7158809cf4f3c))
         (counter_block (bytes 16 0xf0f1f2f3f4f5f6f7f8f9fafbfcfdfeff) 0) ≡ bytes 16 0xec8cdf7398607cb0f2d21675ea9ea1e4 }

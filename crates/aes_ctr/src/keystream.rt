@@ -10,6 +10,7 @@ use std::simd::prelude::*;
 
 // The bytes of a number, the highest first: by its halves as lanes, since LLVM makes fifty instructions of
 // `to_be_bytes`.
+#[tactic(auto, using(crate::proofs::Counters::bytes_of_halves))]
 #[inline(always)]
 fn block_of(number: u128) -> Block
     ensures { result ≡ to_be_bytes w128 number }
@@ -21,6 +22,7 @@ fn block_of(number: u128) -> Block
 }
 
 // Leaves the counter blocks from the first on.
+#[tactic(auto, using(crate::proofs::Counters::counted))]
 #[inline(always)]
 pub(crate) fn count_on(iv: &Block, first: u64, blocks: &mut [Block])
     ensures { (i : ℕ) → i < length blocks.old → slice_index_or blocks.new i [] ≡ counter_block iv.now (first + i) }

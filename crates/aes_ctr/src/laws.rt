@@ -6,6 +6,7 @@ ghost use Rattle.aes_ctr.specs.CounterMode.{keystream_byte, plus_stream, pieces_
 
 /// No effect; states that it makes no difference how data is cut: pieces plus the keystream, each from where the one
 /// before ended, joined, are the joined pieces plus the keystream.
+#[tactic(auto, using(crate::proofs::Sums::pieces_summed))]
 pub fn stream_cut()
     ensures { (w : List (List ℕ)) (iv : List ℕ) (position : ℕ) (pieces : List (List ℕ)) →
         concat (pieces_plus_stream (keystream_byte w iv) position pieces)
@@ -13,6 +14,7 @@ pub fn stream_cut()
 {}
 
 /// No effect; states that adding the keystream twice, from the same place on, changes nothing.
+#[tactic(auto, using(crate::proofs::Sums::summed_twice))]
 pub fn stream_twice()
     ensures { (w : List (List ℕ)) (iv : List ℕ) (position : ℕ) (bytes : List ℕ) →
         plus_stream (keystream_byte w iv) position (plus_stream (keystream_byte w iv) position bytes) ≡ bytes }

@@ -1,7 +1,10 @@
--- Steps on lists of blocks.
-use Rattle.std.proofs.Common.{◌≡◌, ℕ, suc, ◌<◌, List, [], ◌∷◌, length, get_or, map, refl, arith}
+-- Steps on lists of blocks, and the round keys of EqInvCipher.
+use Rattle.std.proofs.Common.{◌≡◌, ℕ, suc, ◌<◌, ◌≤◌, List, [], ◌∷◌, length, get_or, map, refl, sym, ap, ◌∙◌, arith}
+use Rattle.std.proofs.lemmas.List.{ext_get_or}
 use Rattle.aes_planes.specs.Fips197 as fips
-use Rattle.aes_planes.proofs.Standard.InvertedKeys.{inverted_end, inverted_middle}
+use Rattle.aes_planes.proofs.Planes.Held.{map-same}
+use Rattle.aes_planes.proofs.Standard.CipherInverses.{eq_inv_is_inv}
+use Rattle.aes_planes.proofs.Standard.InvertedKeys.{inverted_end, inverted_length, inverted_middle}
 
 -- two steps that agree on blocks agree on a list of blocks
 pub same_of_blocks : (f g : List ℕ → List ℕ) → ((b : List ℕ) → fips.IsBytes b → f b ≡ g b) → (blocks : List (List ℕ))
@@ -9,5 +12,17 @@ pub same_of_blocks : (f g : List ℕ → List ℕ) → ((b : List ℕ) → fips.
 same_of_blocks f g same [] h = refl
 same_of_blocks f g same (b ∷ blocks) h =
     λ j. same b (h 0 (omega arith)).1 j ∷ same_of_blocks f g same blocks (λ i lt. h (suc i) (omega arith)) j
+
+-- blocks decrypted by EqInvCipher under inverted round keys
+pub inverse_of_each : (w v : List (List ℕ)) (xs ys : List (List ℕ)) → v ≡ fips.inverted_keys w → 2 ≤ length w
+    → ys ≡ map (fips.eq_inv_cipher_with v) xs → ys ≡ map (fips.inv_cipher_with w) xs
+inverse_of_each w v xs ys is two e = e ∙ map-same _ _ xs (λ b. ap (λ u. fips.eq_inv_cipher_with u b) is
+    ∙ eq_inv_is_inv w b two)
+
+-- a list that has each of the inverted round keys
+pub all_inverted : (n : ℕ) (w xs : List (List ℕ)) → length xs ≡ n → length w ≡ n
+    → ((k : ℕ) → k < n → get_or xs k [] ≡ get_or (fips.inverted_keys w) k []) → xs ≡ fips.inverted_keys w
+all_inverted n w xs l m each =
+    ext_get_or [] xs (fips.inverted_keys w) (l ∙ sym (inverted_length w ∙ m)) (λ k lt. each k (omega (arith, l)))
 
 pub ruleset inverted_calls = (inverted_end, inverted_middle)

@@ -10,13 +10,15 @@ use Rattle.aes_planes.proofs.KeySchedule.AddedWords.{listed_power}
 use Rattle.aes_planes.proofs.Lists.{built, build_is}
 
 -- four equal columns stay four equal columns, so that the first is SubWord
-pub first_column_substituted : (w : List ℕ) → length w ≡ 4
-    → (let s = fips.shift_rows (fips.sub_bytes
-    (fips.state (λ r c. slice_index (slice_index_or (w ∷ w ∷ w ∷ w ∷ []) c []) r))) in
-    slice_index s 0 ∷ slice_index s 1 ∷ slice_index s 2 ∷ slice_index s 3 ∷ []) ≡ fips.sub_word w
+pub first_column_substituted : (w b s : List ℕ) → length w ≡ 4
+    → b ≡ fips.state (λ r c. slice_index (slice_index_or (w ∷ w ∷ w ∷ w ∷ []) c []) r)
+    → s ∷ [] ≡ fips.shift_rows (fips.sub_bytes b) ∷ []
+    → slice_index s 0 ∷ slice_index s 1 ∷ slice_index s 2 ∷ slice_index s 3 ∷ [] ≡ fips.sub_word w
 unfolding fips.shift_rows fips.sub_bytes fips.state fips.build fips.build_from
-first_column_substituted w l =
-    subst (λ v. (let s = fips.shift_rows
+first_column_substituted w b s l is e =
+    ap (λ x. slice_index x 0 ∷ slice_index x 1 ∷ slice_index x 2 ∷ slice_index x 3 ∷ [])
+    (ap (λ l. slice_index_or l 0 []) e ∙ ap (λ x. fips.shift_rows (fips.sub_bytes x)) is)
+    ∙ subst (λ v. (let s = fips.shift_rows
     (fips.sub_bytes (fips.state (λ r c. slice_index (slice_index_or (v ∷ v ∷ v ∷ v ∷ []) c []) r))) in
     slice_index s 0 ∷ slice_index s 1 ∷ slice_index s 2 ∷ slice_index s 3 ∷ []) ≡ fips.sub_word v) (built 4 w 0 l) refl
 

@@ -39,6 +39,7 @@ impl<const RK: usize> BothKeys<RK> {
     }
 
     // Leaves InvCipher of each block, by EqInvCipher under the inverted keys (FIPS 197, 5.3.5).
+    #[tactic(auto, using(crate::proofs::Runs::inverse_of_each))]
     pub(super) fn decrypt<S: States>(&self, states: &mut S)
         ensures { Each (fips.inv_cipher_with self.now.round_keys) (S.blocks states.old) (S.blocks states.new) }
     {

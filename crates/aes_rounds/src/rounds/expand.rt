@@ -110,6 +110,7 @@ fn rot_word(word: KeyWord) -> KeyWord
 }
 
 // SubWord: SubBytes of the word in four columns, which ShiftRows leaves alone.
+#[tactic(auto, using(crate::proofs::Words::first_column_substituted))]
 fn sub_word(word: &KeyWord) -> KeyWord
     ensures { result ≡ fips.sub_word word.now }
 {

@@ -8,6 +8,7 @@ use aes_planes::soft::word::Block;
 
 // The round keys of EqInvCipher in their order of use: reversed, and InvMixColumns of all but the
 // first and the last (FIPS 197, 5.3.5).
+#[tactic(auto, using(crate::proofs::Runs::all_inverted))]
 pub(super) fn inverted_keys<const RK: usize>(round_keys: &[Block; RK]) -> [Block; RK]
     ensures { result ≡ fips.inverted_keys round_keys.now }
 {

@@ -35,6 +35,7 @@ fn batch_of(block: &Block) -> Blocks1
 }
 
 // SubBytes and ShiftRows of a block.
+#[tactic(auto, using(aes_planes::proofs::Shifts::Deferred::with63), unfolding(aes_planes::specs::Fips197::shift_times))]
 fn substituted(block: &Block) -> Block
     ensures { result ≡ fips.shift_rows (fips.sub_bytes block.now) }
 {

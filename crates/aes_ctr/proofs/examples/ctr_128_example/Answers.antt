@@ -5,7 +5,7 @@ use Rattle.aes_planes.specs.Fips197.{build, build_from, cipher_with, key_expansi
 use Rattle.aes_planes.proofs.Bits.ByteCases.{by_two, by_four}
 use Rattle.aes_ctr.specs.CounterMode.{counter_block, plus_stream}
 use Rattle.aes_ctr.specs.Private.{byte_of_blocks}
-use Rattle.aes_ctr.proofs.OnLiterals.{plus_blocks}
+use Rattle.aes_ctr.proofs.Places.{plus_blocks}
 use Rattle.aes_ctr.proofs.examples.ctr_128_example.Goals as goal
 
 abbrev round_keys : List (List ℕ)

@@ -2,7 +2,7 @@
 use Rattle.std.proofs.Common.{◌≡◌, ◌∙◌, ap}
 use Rattle.aes_planes.specs.Fips197 as fips
 use Rattle.aes_ctr.specs.CounterMode.{keystream_byte, plus_stream}
-use Rattle.aes_ctr.proofs.Sums.{plus-twice}
+use Rattle.aes_ctr.proofs.Sums.{summed_twice}
 use Rattle.aes_tests.proofs.counter_mode.there_and_back.Goals as goal
 
 pub returns-clause-back : goal.returns-clause-back
@@ -22,4 +22,4 @@ returns-clause-back g c =
     c.in_ok-try_apply-2.ensures.added
     ∙ (λ i. plus_stream (keystream_byte (receiver i) (c.new-receiver.ensures.iv i)) (c.new-receiver.ensures.position i)
     c.try_apply.new.bytes) in
-    back ∙ ap (plus_stream stream 0) there ∙ plus-twice stream 0 c.args.message.now
+    back ∙ ap (plus_stream stream 0) there ∙ summed_twice stream 0 c.args.message.now
