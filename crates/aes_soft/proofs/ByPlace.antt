@@ -1,6 +1,6 @@
 -- Two lists, place by place.
-use Rattle.std.proofs.Common.{◌≡◌, ℕ, zero, suc, ◌<◌, List, [], ◌∷◌, ◌++◌, length, map, take, drop, get_or, set, refl}
-use Rattle.std.proofs.Common.{ap, ◌∙◌, arith}
+use Rattle.std.proofs.Common.{◌≡◌, ℕ, zero, suc, ◌+◌, ◌<◌, List, [], ◌∷◌, ◌++◌, length, map, take, drop, get_or, set}
+use Rattle.std.proofs.Common.{refl, ap, ◌∙◌, arith}
 use Rattle.aes_planes.specs.Planes.{zip_with}
 
 -- what a loop leaves in the end that has come to place i: the elements before it, and f of both from it on
@@ -23,8 +23,9 @@ zipped_next f zero (x ∷ xs) (y ∷ ys) d lt le = refl
 zipped_next f (suc i) (x ∷ xs) (y ∷ ys) d lt le =
     ap (λ zs. x ∷ zs) (zipped_next f i xs ys d (omega arith) (omega arith))
 
-pub zipped_step : {X : Type 0} (f : X → X → X) (i j : ℕ) (xs ys : List X) (d x : X) → j ≡ suc i → i < length xs
-    → i < length ys
-    → x ≡ f (get_or xs i d) (get_or ys i d) → zipped_from f j (set xs i x) ys ≡ zipped_from f i xs ys
-zipped_step f i j xs ys d x next lt le e = (λ t. zipped_from f (next t) (set xs i (e t)) ys)
-    ∙ zipped_next f i xs ys d lt le
+pub zipped_step : (f : List ℕ → List ℕ → List ℕ) (i : ℕ) (xs ys : List (List ℕ)) (x : List ℕ) → i < length xs
+    → i < length ys → x ≡ f (get_or xs i []) (get_or ys i [])
+    → zipped_from f (i + 1) (set xs i x) ys ≡ zipped_from f i xs ys
+zipped_step f i xs ys x lt le e =
+    let next : i + 1 ≡ suc i = omega arith in
+    (λ t. zipped_from f (next t) (set xs i (e t)) ys) ∙ zipped_next f i xs ys [] lt le

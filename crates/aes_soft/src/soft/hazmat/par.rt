@@ -66,6 +66,7 @@ fn steps_of<W: Word, S: Step>(batch: &W::Blocks) -> W::Blocks
 }
 
 // AddRoundKey of each of eight blocks, with the round key at its own place (FIPS 197, 5.1.4).
+#[tactic(auto, using(crate::proofs::ByPlace::zipped_step))]
 #[inline(always)]
 fn add_round_keys(blocks: &mut [Block; 8], round_keys: &[Block; 8])
     ensures { blocks.new ≡ rounds_by_place fips.add_round_key blocks.old round_keys.now }
