@@ -1,7 +1,9 @@
 -- Which block of a row a byte falls in, and sums of data and a row of blocks.
-use Rattle.std.proofs.Common.{◌≡◌, ℕ, ◌+◌, ◌*◌, ◌/◌, ◌%◌, ◌<◌, ◌≤◌, List, [], length, slice_index, slice_index_or, ap}
-use Rattle.std.proofs.Common.{◌∙◌, sym, arith}
+use Rattle.std.proofs.Common.{◌≡◌, ℕ, ◌+◌, ◌*◌, ◌/◌, ◌%◌, ◌<◌, ◌≤◌, List, [], ◌++◌, length, slice_index, slice_index_or}
+use Rattle.std.proofs.Common.{map, drop, ap, ◌∙◌, sym, arith}
+use Rattle.std.proofs.lemmas.List.{append-nil, drop_all, get_or-map, take_all}
 use Rattle.aes_planes.specs.Fips197.{cipher_with}
+use Rattle.aes_cipher.proofs.SliceRuns.{finished}
 use Rattle.aes_ctr.specs.CounterMode.{counter_block, keystream_byte, plus_stream}
 use Rattle.aes_ctr.specs.Private.{byte_of_blocks}
 use Rattle.aes_ctr.proofs.Sums.{plus-agree}
@@ -36,3 +38,28 @@ pub plus_blocks : (w : List (List ℕ)) (iv : List ℕ) (blocks : List (List ℕ
 plus_blocks w iv blocks p data_bytes filled within =
     plus-agree (keystream_byte w iv) (byte_of_blocks blocks) p (p % 16) data_bytes
     (λ i h. sym (byte_of_keystream w iv blocks (length blocks) p i filled (omega arith)))
+
+-- the same where the blocks are the cipher of counter blocks from one on, and place p begins the first of them
+pub plus_batch : (w : List (List ℕ)) (iv : List ℕ) (blocks counted : List (List ℕ)) (first n : ℕ) (data_bytes : List ℕ)
+    → blocks ≡ map (cipher_with w) counted → length counted ≡ n
+    → ((m : ℕ) → m < n → slice_index_or counted m [] ≡ counter_block iv (first + m)) → length data_bytes ≡ 16 * n
+    → plus_stream (keystream_byte w iv) (16 * first) data_bytes ≡ plus_stream (byte_of_blocks blocks) 0 data_bytes
+plus_batch w iv blocks counted first n data_bytes all long at sized =
+    let filled : (m : ℕ) → m < n → slice_index_or blocks m [] ≡ cipher_with w (counter_block iv (16 * first / 16 + m)) =
+    λ m h. ap (λ l. slice_index_or l m []) all ∙ get_or-map (cipher_with w) counted m [] [] (omega (arith, long))
+    ∙ ap (cipher_with w) (at m h ∙ ap (λ q. counter_block iv (q + m)) (omega arith)) in
+    plus-agree (keystream_byte w iv) (byte_of_blocks blocks) (16 * first) 0 data_bytes
+    (λ j inside. sym (ap (byte_of_blocks blocks) (omega arith)
+    ∙ byte_of_keystream w iv blocks n (16 * first) j filled (omega arith)))
+
+-- a loop over all counter blocks leaves the cipher of each
+pub ciphered : (w : List (List ℕ)) (iv : List ℕ) (first n k m : ℕ) (xs counted : List (List ℕ)) → length xs ≤ n
+    → finished (cipher_with w) n xs ≡ map (cipher_with w) counted → m ≤ length counted
+    → ((i : ℕ) → i < m → slice_index_or counted i [] ≡ counter_block iv (first + i)) → k < m
+    → slice_index_or xs k [] ≡ cipher_with w (counter_block iv (first + k))
+ciphered w iv first n k m xs counted end kept long at lt =
+    let f = cipher_with w in
+    let all : finished f n xs ≡ xs = ap (λ l. l ++ map f (drop n xs)) (take_all n xs end)
+    ∙ ap (λ l. xs ++ map f l) (drop_all n xs end) ∙ append-nil xs in
+    ap (λ l. slice_index_or l k []) (sym all ∙ kept) ∙ get_or-map f counted k [] [] (omega (arith, long))
+    ∙ ap f (at k lt)

@@ -43,6 +43,7 @@ fn next_blocks<B: BlockCipherEncBackend>(from: usize, bytes: usize) -> usize
 
 // Adds to the bytes of one batch the keystream from a block on. How many there are is a constant, so that counters and
 // blocks of the keystream stay in registers.
+#[tactic(auto, using(crate::proofs::Places::plus_batch, std::proofs::lemmas::Grind::common_steps))]
 #[inline(always)]
 fn add_batch<B: BlockCipherEncBackend>(backend: &B, iv: &Block, first: u64, bytes: &mut [u8])
     requires fits { B.PAR_BLOCKS ≤ 16 }

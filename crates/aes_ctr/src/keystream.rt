@@ -50,6 +50,7 @@ pub(crate) fn fill_with_keystream<C: BlockCipherEncrypt>(
 
 // The same by a backend: a batch at once, and else block by block. A call of its own, so that whole batches, which
 // don't need it, are inlined.
+#[tactic(auto, using(crate::proofs::Places::ciphered, aes_cipher::proofs::SliceRuns::finished_one))]
 pub(crate) fn fill_by_backend<B: BlockCipherEncBackend>(
     backend: &B,
     iv: &Block,
