@@ -43,6 +43,7 @@ impl<B: BlockCipherDecBackend> OneWay<Decrypt> for B {
 }
 
 /// Processes every block: batches while a whole one is left, then single blocks.
+#[tactic(auto, using(aes_cipher::proofs::SliceRuns::finished_run, aes_cipher::proofs::SliceRuns::finished_one))]
 pub fn process_all<D: Direction, B: OneWay<D>>(backend: &B, blocks: &mut [Block])
     ensures { Each (D.processed (B.round_keys backend.now)) blocks.old blocks.new }
 {

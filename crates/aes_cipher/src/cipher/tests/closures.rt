@@ -10,6 +10,7 @@ use crate::cipher::{
 };
 
 // Encrypts every block: batches while one fits, then single blocks.
+#[tactic(auto, using(crate::proofs::SliceRuns::finished_run, crate::proofs::SliceRuns::finished_one))]
 fn encrypt_all<B: BlockCipherEncBackend>(backend: &B, blocks: &mut [Block])
     ensures { Each (fips.cipher_with (B.round_keys backend.now)) blocks.old blocks.new }
 {
