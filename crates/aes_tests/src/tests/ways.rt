@@ -134,36 +134,68 @@ fn pass_by_rounds<T: Trial, const RK: usize>(trial: &T, round_keys: &[Block; RK]
     )
 }
 
-/// Whether every type passes, by the size of its key, of either crate, and every round by round cipher.
-pub fn try_all<T: Trial>(trial: &T) -> [(&'static str, [bool; 4]); 9] {
-    let (short, middle, long) = (&[0x16; 16], &[0x24; 24], &[0x32; 32]);
+// The keys that are tried, one of each size.
+const SHORT: [u8; 16] = [0x16; 16];
+
+const MIDDLE: [u8; 24] = [0x24; 24];
+
+const LONG: [u8; 32] = [0x32; 32];
+
+/// What ciphers are called, and whether they passed: the one for both directions in each of them, then the others.
+pub type Passed = (&'static str, [bool; 4]);
+
+// Whether the types of `aes` pass.
+fn try_planes<T: Trial>(trial: &T) -> [Passed; 3] {
     [
         (
             "keys of 16 bytes",
-            pass_under::<T, Aes128, Aes128Enc, Aes128Dec>(trial, short),
+            pass_under::<T, Aes128, Aes128Enc, Aes128Dec>(trial, &SHORT),
         ),
         (
             "keys of 24 bytes",
-            pass_under::<T, Aes192, Aes192Enc, Aes192Dec>(trial, middle),
+            pass_under::<T, Aes192, Aes192Enc, Aes192Dec>(trial, &MIDDLE),
         ),
         (
             "keys of 32 bytes",
-            pass_under::<T, Aes256, Aes256Enc, Aes256Dec>(trial, long),
+            pass_under::<T, Aes256, Aes256Enc, Aes256Dec>(trial, &LONG),
         ),
+    ]
+}
+
+// Whether those of `aes_permute` do.
+fn try_permutations<T: Trial>(trial: &T) -> [Passed; 3] {
+    [
         (
             "keys of 16 bytes, by permutations",
-            pass_under::<T, permute::Aes128, permute::Aes128Enc, permute::Aes128Dec>(trial, short),
+            pass_under::<T, permute::Aes128, permute::Aes128Enc, permute::Aes128Dec>(trial, &SHORT),
         ),
         (
             "keys of 24 bytes, by permutations",
-            pass_under::<T, permute::Aes192, permute::Aes192Enc, permute::Aes192Dec>(trial, middle),
+            pass_under::<T, permute::Aes192, permute::Aes192Enc, permute::Aes192Dec>(
+                trial, &MIDDLE,
+            ),
         ),
         (
             "keys of 32 bytes, by permutations",
-            pass_under::<T, permute::Aes256, permute::Aes256Enc, permute::Aes256Dec>(trial, long),
+            pass_under::<T, permute::Aes256, permute::Aes256Enc, permute::Aes256Dec>(trial, &LONG),
         ),
-        ("11 round keys", pass_by_rounds(trial, &expand_128(short))),
-        ("13 round keys", pass_by_rounds(trial, &expand_192(middle))),
-        ("15 round keys", pass_by_rounds(trial, &expand_256(long))),
+    ]
+}
+
+// Whether every round by round cipher does.
+fn try_rounds<T: Trial>(trial: &T) -> [Passed; 3] {
+    [
+        ("11 round keys", pass_by_rounds(trial, &expand_128(&SHORT))),
+        ("13 round keys", pass_by_rounds(trial, &expand_192(&MIDDLE))),
+        ("15 round keys", pass_by_rounds(trial, &expand_256(&LONG))),
+    ]
+}
+
+/// Whether every type passes, by the size of its key, of either crate, and every round by round cipher.
+pub fn try_all<T: Trial>(trial: &T) -> [[Passed; 3]; 3] {
+    [
+        try_planes(trial),
+        try_permutations(trial),
+        try_rounds(trial),
     ]
 }
