@@ -53,8 +53,9 @@ pub fn zeroize_words<W: Word>(words: &mut [W])
 // Writes zeros over every element of a slice. `some_byte` returns some byte of an element.
 //
 // A compiler may leave out writes that nothing reads. So an element is read before the writes and after them, at a
-// place that no compiler can count on: 0, but it comes out of an atomic. What was read goes into the atomic by an
-// exchange, which no compiler leaves out. It is 0 too, so that no byte of a secret stays there.
+// place that comes out of an atomic: it is 0, but neither of the two compilers works that out. What was read goes into
+// the atomic by an exchange, which both keep. It is 0 too, so that no byte of a secret stays there. No clause says that
+// the writes are kept: what was compiled is searched.
 fn wipe<E: Copy, F: Fn(E) -> u8>(elements: &mut [E], zero: E, some_byte: F)
     requires { F.IsAlwaysCallable some_byte }
     ensures { elements.new ≡ replicate (length elements.old) zero }
