@@ -1,5 +1,5 @@
-//! The keys of FIPS 197: those of appendix C, which count from 00 on, with the block there and that block encrypted, and
-//! those of appendix A, under which SP 800-38A has its examples.
+//! The keys of FIPS 197: those of appendix C, which count from 00 on, with the block there and that block encrypted;
+//! and those of appendix A, under which SP 800-38A has its examples.
 
 /// Appendix C.1.
 pub const KEY_128: [u8; 16] = [
