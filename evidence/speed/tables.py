@@ -1,9 +1,19 @@
 """The times of a run as a file, as a table with everything, and as the table of docs/MEASUREMENTS.md."""
 import csv
+import subprocess
 
 import tools
 
 HEADING = "Time, beside the libraries of Debian"
+# The peers by the packages that they come from.
+PACKAGES = {
+    "libssl-dev": "OpenSSL",
+    "libbearssl-dev": "BearSSL",
+    "libmbedtls-dev": "mbedtls",
+    "nettle-dev": "Nettle",
+    "libgcrypt20-dev": "Libgcrypt",
+    "libbotan-2-dev": "Botan",
+}
 # The engine that all ratios are to, which stands in every run.
 BASE = "aes, by LLVM"
 KINDS = ["bitsliced", "permutations", "tables", "instructions"]
@@ -132,6 +142,14 @@ def whole(rows):
     return "\n".join(parts)
 
 
+def versions():
+    """The peers with their versions, as Debian's packages name them."""
+    shown = ["dpkg-query", "-W", "-f", "${Package} ${source:Upstream-Version}\\n", *PACKAGES]
+    lines = subprocess.run(shown, capture_output=True, text=True).stdout.splitlines()
+    found = [f"{PACKAGES[package]} {version.split('+')[0]}" for package, version in map(str.split, lines)]
+    return " and ".join([", ".join(found[:-1]), found[-1]]) if len(found) > 1 else "".join(found)
+
+
 def published(where, rows):
     """The section of docs/MEASUREMENTS.md that a run writes: a paragraph, and a table."""
     few = ("bitsliced", "tables", "instructions")
@@ -140,8 +158,7 @@ def published(where, rows):
     text = (
         f"`evidence/speed/run`, {tools.briefly(where)}. Keys of 16 bytes; "
         "[results.csv](../evidence/speed/results.csv) has every time. First row: nanoseconds a block, or a "
-        "call; below: time divided by that, so above 1 is slower than `aes`. OpenSSL 3.0.19, BearSSL 0.6, "
-        "mbedtls 2.28.3, Nettle 3.8.1, Libgcrypt 1.10.1 and Botan 2.19.3, as Debian 12 has them."
+        "call; below: time divided by that, so above 1 is slower than `aes`."
     )
     return text, lines
 
