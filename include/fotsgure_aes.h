@@ -74,7 +74,7 @@ enum fotsgure_aes_status {
 /* A key schedule, for both directions and for counter mode. Read and write it by the calls below alone. */
 struct fotsgure_aes {
     uint32_t key_length; /* 16, 24 or 32; 0: no key */
-    uint16_t words[120];
+    uint8_t round_keys[480];
 };
 
 /* Where a keystream stands. The caller sets both fields, and may set `position` to go on anywhere. Never use a counter
@@ -85,7 +85,7 @@ struct fotsgure_aes_ctr {
 };
 
 FOTSGURE_AES_ASSERT(sizeof(enum fotsgure_aes_status) == 4 && sizeof(size_t) == 8, "the ABI of the library: x86-64");
-FOTSGURE_AES_ASSERT(sizeof(struct fotsgure_aes) == 244, "no padding");
+FOTSGURE_AES_ASSERT(sizeof(struct fotsgure_aes) == 484, "no padding");
 FOTSGURE_AES_ASSERT(sizeof(struct fotsgure_aes_ctr) == 24, "no padding");
 
 /* Returns FOTSGURE_AES_VERSION of the header that the library was built with. */
@@ -103,7 +103,7 @@ size_t fotsgure_aes_key_length(const struct fotsgure_aes *aes) FOTSGURE_AES_NOEX
 void fotsgure_aes_wipe(struct fotsgure_aes *aes) FOTSGURE_AES_NOEXCEPT;
 
 /* Encrypts (Cipher, FIPS 197, 5.1) or decrypts (InvCipher, 5.3) each of `count` blocks in place under the key of *aes.
- * DONE, or NO_KEY. Blocks are processed eight at a time: eight in one call take far less time than eight calls. */
+ * DONE, or NO_KEY. Many blocks in one call take less time than as many calls. */
 FOTSGURE_AES_CHECK enum fotsgure_aes_status fotsgure_aes_encrypt_blocks(const struct fotsgure_aes *aes,
     uint8_t *FOTSGURE_AES_ALONE blocks, size_t count) FOTSGURE_AES_NOEXCEPT;
 FOTSGURE_AES_CHECK enum fotsgure_aes_status fotsgure_aes_decrypt_blocks(const struct fotsgure_aes *aes,

@@ -13,7 +13,7 @@ import os
 
 
 class _Key(ctypes.Structure):
-    _fields_ = [("key_length", ctypes.c_uint32), ("words", ctypes.c_uint16 * 120)]
+    _fields_ = [("key_length", ctypes.c_uint32), ("round_keys", ctypes.c_uint8 * 480)]
 
 
 class _Ctr(ctypes.Structure):

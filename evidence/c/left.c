@@ -10,15 +10,20 @@
 #include <string.h>
 #include <ucontext.h>
 
-enum { STACK = 1 << 16, FILL = 0xa5, KEYS = 3, MOST = 128, BYTES = 16 * MOST, NEEDLES = 1024, REGISTERS = 16 };
+enum { STACK = 1 << 16, FILL = 0xa5, KEYS = 3, MOST = 128, BYTES = 16 * MOST, NEEDLES = 2048, REGISTERS = 16 };
 
 /* KeyExpansion, by the exports for measurements. */
 void ev_expand_128(const uint8_t *key, uint8_t *round_keys);
 void ev_expand_192(const uint8_t *key, uint8_t *round_keys);
 void ev_expand_256(const uint8_t *key, uint8_t *round_keys);
+/* The stored words of planes, of which the library makes those of a batch. */
+void ev_128_schedule(const uint8_t *key, uint16_t *words);
+void ev_192_schedule(const uint8_t *key, uint16_t *words);
+void ev_256_schedule(const uint8_t *key, uint16_t *words);
 
 static struct fotsgure_aes kept;
 static struct fotsgure_aes_ctr ctr;
+static uint16_t planes[120];
 static uint8_t key[32], data[BYTES], other[BYTES], keystream[BYTES], *stack;
 static uint8_t registers[16 * REGISTERS] __attribute__((aligned(64)));
 static size_t size, count;
@@ -33,12 +38,12 @@ __attribute__((noinline)) static void not_wiped(void) {
     done(fotsgure_aes_set_key(&aes, key, size));
     use(&aes);
 }
-/* Planted: a wipe of half the words, a copy that is wiped in place of the struct, and what a batch and counter mode
+/* Planted: a wipe of half the round keys, a copy that is wiped in place of the struct, and what a batch and counter mode
  * would leave if they left it. */
 __attribute__((noinline)) static void planted_half_wiped(void) {
     struct fotsgure_aes aes;
     done(fotsgure_aes_set_key(&aes, key, size));
-    memset(aes.words, 0, (size + 28) * sizeof *aes.words);
+    memset(aes.round_keys, 0, sizeof aes.round_keys / 2);
     use(&aes);
 }
 __attribute__((noinline)) static void planted_copy_wiped(void) {
@@ -56,7 +61,7 @@ static void widened(uint8_t *word, uint16_t stored) {
 __attribute__((noinline)) static void planted_widened(void) {
     uint8_t words[4][16];
     for (int i = 0; i < 4; i++)
-        widened(words[i], kept.words[16 + i]);
+        widened(words[i], planes[16 + i]);
     use(words);
 }
 __attribute__((noinline)) static void planted_keystream(void) {
@@ -94,11 +99,12 @@ static const struct call { const char *name; void (*it)(void); size_t count; } c
     {"planted_copy_wiped", planted_copy_wiped, 0}, {"planted_widened", planted_widened, 0},
     {"planted_keystream", planted_keystream, 0}, {"planted_key", planted_key, 0}, {"wiped", wiped, 0},
     {"set_key", set_key, 0}, {"encrypt_1", encrypt, 1}, {"encrypt_7", encrypt, 7}, {"encrypt_8", encrypt, 8},
+    {"encrypt_23", encrypt, 23}, {"decrypt_23", decrypt, 23},
     {"encrypt_128", encrypt, 128}, {"decrypt_1", decrypt, 1}, {"decrypt_7", decrypt, 7}, {"decrypt_8", decrypt, 8},
     {"decrypt_128", decrypt, 128}, {"encrypt_to_128", encrypt_to, 128}, {"decrypt_to_128", decrypt_to, 128},
     {"encrypt_with_1", encrypt_with, 1}, {"encrypt_with_128", encrypt_with, 128},
     {"decrypt_with_1", decrypt_with, 1}, {"decrypt_with_128", decrypt_with, 128},
-    {"add_keystream_20", stream, 20}, {"add_keystream_2032", stream, 2032},
+    {"add_keystream_20", stream, 20}, {"add_keystream_300", stream, 300}, {"add_keystream_2032", stream, 2032},
     {"add_keystream_to_20", stream_to, 20}, {"add_keystream_to_2032", stream_to, 2032},
     {"add_keystream_with_20", stream_with, 20}, {"add_keystream_with_2032", stream_with, 2032},
 };
@@ -125,6 +131,7 @@ static void prepare(int number) {
     ctr.position = 0;
     memcpy(keystream, zeros, BYTES);
     done(fotsgure_aes_set_key(&kept, key, size));
+    (size == 16 ? ev_128_schedule : size == 24 ? ev_192_schedule : ev_256_schedule)(key, planes);
     done(fotsgure_aes_add_keystream(&kept, &ctr, keystream, BYTES));
     ctr.position = 0;
     for (size_t i = 0; i < BYTES; i++)
@@ -165,13 +172,15 @@ static void collect(void) {
     (size == 16 ? ev_expand_128 : size == 24 ? ev_expand_192 : ev_expand_256)(key, round_keys);
     for (size_t i = 0; i + 8 <= size; i++)
         add(key + i, KEY, 0);
-    for (size_t i = 0; i + 4 <= words; i++)
-        add((const uint8_t *)(kept.words + i), ROUND_KEYS, (int)(i / 8));
+    for (size_t i = 0; i + 8 <= 16 * rounds; i++) {
+        add(kept.round_keys + i, ROUND_KEYS, (int)(i / 16));
+        add(kept.round_keys + sizeof kept.round_keys / 2 + i, ROUND_KEYS, (int)(rounds + i / 16));
+    }
     /* The first round keys of the expansion are the key itself. */
     for (size_t i = size; i + 8 <= 16 * rounds; i++)
         add(round_keys + i, EXPANDED, (int)(i / 16));
     for (size_t i = 0; i < words; i++) {
-        widened(wide, kept.words[i]);
+        widened(wide, planes[i]);
         add(wide, WIDENED, (int)i);
     }
     for (size_t i = 0; i < BYTES; i += 8)
@@ -191,7 +200,7 @@ static void search(const uint8_t *at, size_t length, uint8_t found[KINDS][256]) 
         while (one > needles && one[-1].bytes == it.bytes)
             one--;
         for (; one < needles + filled && one->bytes == it.bytes; one++) {
-            widened(wide, one->kind == WIDENED ? kept.words[one->piece] : 0);
+            widened(wide, one->kind == WIDENED ? planes[one->piece] : 0);
             if (one->kind != WIDENED || (i + 16 <= length && !memcmp(at + i, wide, 16)))
                 found[one->kind][one->piece] = 1;
         }

@@ -170,8 +170,8 @@ DONE, KEY_LENGTH, NO_KEY, UNEQUAL, END = range(5)
 C = "fotsgure_aes_"
 call(f"{C}version", returns=100, wanted="empty")
 for key in KEYS:
-    call(f"{C}set_key", ("t", 244), ("s", key, key), label=str(8 * key), returns=DONE)
-    call(f"{C}set_key", ("z", 244), ("s", key + 1, key + 1), label=f"{8 * key} refused", returns=KEY_LENGTH)
+    call(f"{C}set_key", ("t", 484), ("s", key, key), label=str(8 * key), returns=DONE)
+    call(f"{C}set_key", ("z", 484), ("s", key + 1, key + 1), label=f"{8 * key} refused", returns=KEY_LENGTH)
     call(f"{C}key_length", ("k", key), label=str(8 * key), returns=key, wanted="empty")
     for direction in ("encrypt", "decrypt"):
         for n in SLICES:
@@ -201,7 +201,7 @@ for direction in ("encrypt", "decrypt"):
         label="unequal", returns=UNEQUAL, wanted="empty",
     )
 call(f"{C}add_keystream", ("k", 16), ("c", f"{2**64 - 9}u"), ("p", 9, 9), label="end", returns=END, wanted="empty")
-call(f"{C}wipe", ("z", 244))
+call(f"{C}wipe", ("z", 484))
 
 # Wipes.
 for word, width in (("u16", 2), ("u32", 4), ("u64", 8)):

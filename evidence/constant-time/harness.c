@@ -10,7 +10,7 @@ enum { MOST = 8 };
 
 /* The calls of the C library that make ready what others are given. */
 uint32_t fotsgure_aes_set_key(void *, void *, size_t);
-enum { STRUCT = 244, COUNTER = 24, IV = 16 };
+enum { STRUCT = 484, COUNTER = 24, IV = 16 };
 
 /* A buffer that a call is given. */
 struct buffer { uint8_t *at, *before; size_t bytes; char kind; };

@@ -7,7 +7,7 @@ import tools
 # How the exports number the types of a direction: keys of 16, 24 and 32 bytes, of both directions, then of one.
 ONE_WAY, PERMUTE = 3, 6
 SLICE = 2
-STRUCT = 244
+STRUCT = 484
 WAYS = ("aes", "aes, both ways", "aes_permute", "aes_permute, both ways", "C", "C to a buffer", "C in one call")
 STREAMS = ("aes", "aes, both ways", "aes_permute", "aes_permute, both ways", "C", "C in one call")
 

@@ -12,7 +12,7 @@ mod c {
     #[repr(C)]
     pub struct Aes {
         pub key_length: u32,
-        pub words: [u16; 120],
+        pub round_keys: [u8; 480],
     }
 
     #[repr(C)]

@@ -1,2 +1,1 @@
--- The lemmas.
-mod Fronts
+-- The files of lemmas.

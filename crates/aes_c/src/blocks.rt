@@ -3,37 +3,55 @@
 ghost use Rattle.std.specs.Prelude.{◌≡◌, ◌≢◌, ◌↔◌, length};
 ghost use Rattle.aes_planes.specs.Each.{Each};
 ghost use Rattle.aes_planes.specs.Fips197 as fips;
-ghost use Rattle.aes_c.specs.Kept.{key_in, IsKeyLength, IsMade};
+ghost use Rattle.aes_permute.specs.Keys.{encrypting};
+ghost use Rattle.aes_permute.specs.Stored.{round_keys_of};
+ghost use Rattle.aes_c.specs.Kept.{first_keys, key_in, IsKeyLength, IsMade};
 
-use crate::kept::{Aes, first_words, holds_key};
+use crate::kept::{Aes, holds_key, keys_of};
 use crate::status::{DONE, NO_KEY, UNEQUAL_COUNTS};
 use aes_cipher::cipher::{Decrypt, Encrypt};
-use aes_planes::soft::sbox::Layers;
+use aes_hybrid::blocks::process_blocks;
+use aes_permute::directions::LaneRounds;
 use aes_planes::soft::word::Block;
 use aes_soft::soft::FullCipher;
-use aes_soft::soft::blocks::process_blocks;
-use aes_soft::soft::key_sizes::{Bits128, Bits192, Bits256};
+
+/// A direction whose round keys a struct has.
+pub(crate) trait KeptDirection: LaneRounds + FullCipher {
+    /// Lends them.
+    fn lend(aes: &Aes) -> &[Block]
+        requires holds_key { IsKeyLength aes.now.key_length }
+        requires made { IsMade aes.now.key_length aes.now.encrypting aes.now.decrypting }
+        ensures { round_keys_of Self.first_byte Self.inner_byte Self.last_byte result.now
+            ≡ Self.used_keys (encrypting (first_keys aes.now.key_length aes.now.encrypting)) };
+}
+
+impl KeptDirection for Encrypt {
+    #[inline(always)]
+    fn lend(aes: &Aes) -> &[Block] {
+        keys_of(&aes.encrypting, aes.key_length as usize)
+    }
+}
+
+impl KeptDirection for Decrypt {
+    #[inline(always)]
+    fn lend(aes: &Aes) -> &[Block] {
+        keys_of(&aes.decrypting, aes.key_length as usize)
+    }
+}
 
 /// Encrypts or decrypts every block of a slice in place. Returns `DONE` exactly if the struct holds a key, else
 /// `NO_KEY`.
-pub(crate) fn process_under<D: FullCipher>(aes: &Aes, blocks: &mut [Block]) -> u32
-    requires made { IsMade aes.now.key_length aes.now.words }
+pub(crate) fn process_under<D: KeptDirection>(aes: &Aes, blocks: &mut [Block]) -> u32
+    requires made { IsMade aes.now.key_length aes.now.encrypting aes.now.decrypting }
     ensures done { result ≡ DONE ↔ IsKeyLength aes.now.key_length }
     ensures refused { result ≢ DONE → result ≡ NO_KEY }
-    ensures blocks { let w = fips.key_expansion (key_in aes.now.key_length aes.now.words) in
+    ensures blocks { let w = fips.key_expansion (key_in aes.now.key_length aes.now.encrypting) in
         result ≡ DONE → Each (D.processed w) blocks.old blocks.new }
     ensures untouched { result ≢ DONE → blocks.new ≡ blocks.old }
 {
-    if aes.key_length == 16 {
-        process_blocks::<Bits128, D>(first_words(&aes.words), blocks, &mut Layers::new());
-        return DONE;
-    }
-    if aes.key_length == 24 {
-        process_blocks::<Bits192, D>(first_words(&aes.words), blocks, &mut Layers::new());
-        return DONE;
-    }
-    if aes.key_length == 32 {
-        process_blocks::<Bits256, D>(first_words(&aes.words), blocks, &mut Layers::new());
+    if holds_key(aes) {
+        let keys = keys_of(&aes.encrypting, aes.key_length as usize);
+        process_blocks::<D>(keys, D::lend(aes), blocks);
         return DONE;
     }
     NO_KEY
@@ -41,12 +59,12 @@ pub(crate) fn process_under<D: FullCipher>(aes: &Aes, blocks: &mut [Block]) -> u
 
 /// Encrypts or decrypts every block of one slice into another. Returns `UNEQUAL_COUNTS` exactly if they differ in
 /// length, and else what `process_under` returns.
-fn process_under_to<D: FullCipher>(aes: &Aes, input: &[Block], output: &mut [Block]) -> u32
-    requires made { IsMade aes.now.key_length aes.now.words }
+fn process_under_to<D: KeptDirection>(aes: &Aes, input: &[Block], output: &mut [Block]) -> u32
+    requires made { IsMade aes.now.key_length aes.now.encrypting aes.now.decrypting }
     ensures unequal { result ≡ UNEQUAL_COUNTS ↔ (length input.now ≢ length output.old) }
     ensures done { result ≡ DONE ↔ IsKeyLength aes.now.key_length × (length input.now ≡ length output.old) }
     ensures refused { result ≢ DONE → result ≢ UNEQUAL_COUNTS → result ≡ NO_KEY }
-    ensures blocks { let w = fips.key_expansion (key_in aes.now.key_length aes.now.words) in
+    ensures blocks { let w = fips.key_expansion (key_in aes.now.key_length aes.now.encrypting) in
         result ≡ DONE → Each (D.processed w) input.now output.new }
     ensures untouched { result ≢ DONE → output.new ≡ output.old }
 {
@@ -63,10 +81,10 @@ fn process_under_to<D: FullCipher>(aes: &Aes, input: &[Block], output: &mut [Blo
 /// Encrypts each block in place (Cipher, FIPS 197, 5.1).
 #[unsafe(no_mangle)]
 pub extern "C" fn fotsgure_aes_encrypt_blocks(aes: &Aes, blocks: &mut [Block]) -> u32
-    requires made { IsMade aes.now.key_length aes.now.words }
+    requires made { IsMade aes.now.key_length aes.now.encrypting aes.now.decrypting }
     ensures done { result ≡ DONE ↔ IsKeyLength aes.now.key_length }
     ensures refused { result ≢ DONE → result ≡ NO_KEY }
-    ensures blocks { let key = key_in aes.now.key_length aes.now.words in
+    ensures blocks { let key = key_in aes.now.key_length aes.now.encrypting in
         result ≡ DONE → Each (fips.cipher key) blocks.old blocks.new }
     ensures untouched { result ≢ DONE → blocks.new ≡ blocks.old }
 {
@@ -76,10 +94,10 @@ pub extern "C" fn fotsgure_aes_encrypt_blocks(aes: &Aes, blocks: &mut [Block]) -
 /// Decrypts each block in place (InvCipher, FIPS 197, 5.3).
 #[unsafe(no_mangle)]
 pub extern "C" fn fotsgure_aes_decrypt_blocks(aes: &Aes, blocks: &mut [Block]) -> u32
-    requires made { IsMade aes.now.key_length aes.now.words }
+    requires made { IsMade aes.now.key_length aes.now.encrypting aes.now.decrypting }
     ensures done { result ≡ DONE ↔ IsKeyLength aes.now.key_length }
     ensures refused { result ≢ DONE → result ≡ NO_KEY }
-    ensures blocks { let key = key_in aes.now.key_length aes.now.words in
+    ensures blocks { let key = key_in aes.now.key_length aes.now.encrypting in
         result ≡ DONE → Each (fips.inv_cipher key) blocks.old blocks.new }
     ensures untouched { result ≢ DONE → blocks.new ≡ blocks.old }
 {
@@ -93,11 +111,11 @@ pub extern "C" fn fotsgure_aes_encrypt_blocks_to(
     input: &[Block],
     output: &mut [Block],
 ) -> u32
-    requires made { IsMade aes.now.key_length aes.now.words }
+    requires made { IsMade aes.now.key_length aes.now.encrypting aes.now.decrypting }
     ensures unequal { result ≡ UNEQUAL_COUNTS ↔ (length input.now ≢ length output.old) }
     ensures done { result ≡ DONE ↔ IsKeyLength aes.now.key_length × (length input.now ≡ length output.old) }
     ensures refused { result ≢ DONE → result ≢ UNEQUAL_COUNTS → result ≡ NO_KEY }
-    ensures blocks { let key = key_in aes.now.key_length aes.now.words in
+    ensures blocks { let key = key_in aes.now.key_length aes.now.encrypting in
         result ≡ DONE → Each (fips.cipher key) input.now output.new }
     ensures untouched { result ≢ DONE → output.new ≡ output.old }
 {
@@ -111,11 +129,11 @@ pub extern "C" fn fotsgure_aes_decrypt_blocks_to(
     input: &[Block],
     output: &mut [Block],
 ) -> u32
-    requires made { IsMade aes.now.key_length aes.now.words }
+    requires made { IsMade aes.now.key_length aes.now.encrypting aes.now.decrypting }
     ensures unequal { result ≡ UNEQUAL_COUNTS ↔ (length input.now ≢ length output.old) }
     ensures done { result ≡ DONE ↔ IsKeyLength aes.now.key_length × (length input.now ≡ length output.old) }
     ensures refused { result ≢ DONE → result ≢ UNEQUAL_COUNTS → result ≡ NO_KEY }
-    ensures blocks { let key = key_in aes.now.key_length aes.now.words in
+    ensures blocks { let key = key_in aes.now.key_length aes.now.encrypting in
         result ≡ DONE → Each (fips.inv_cipher key) input.now output.new }
     ensures untouched { result ≢ DONE → output.new ≡ output.old }
 {

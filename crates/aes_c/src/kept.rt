@@ -1,35 +1,40 @@
 //! The struct that a caller keeps: a key as its stored round keys.
 
-ghost use Rattle.std.specs.Prelude.{◌≡◌, ◌≢◌, ◌↔◌, ◌+◌, ◌*◌, ◌≤◌, true};
-ghost use Rattle.std.specs.Prelude.{length, map, take, replicate};
-ghost use Rattle.aes_planes.specs.Words.{word_bits};
-ghost use Rattle.aes_soft.specs.Stored.{full, key_of, IsStored};
-ghost use Rattle.aes_c.specs.Kept.{key_in, IsKeyLength, IsMade};
+ghost use Rattle.std.specs.Prelude.{◌≡◌, ◌≢◌, ◌↔◌, true};
+ghost use Rattle.std.specs.Prelude.{length, replicate};
+ghost use Rattle.aes_hybrid.specs.Lanes.{lanes_key, IsLanes, AreInverse};
+ghost use Rattle.aes_c.specs.Kept.{first_keys, key_in, IsKeyLength, IsMade};
 
 use crate::status::{DONE, KEY_LENGTH};
 use aes_cipher::zeroize::{Zeroize, zeroize_elements};
-use aes_planes::soft::sbox::Layers;
-use aes_soft::soft::key_sizes::{Bits128, Bits192, Bits256, KeyBytes, KeyExpansion};
-use aes_soft::soft::put_schedule;
+use aes_hybrid::keys::{put_decrypting, put_encrypting};
+use aes_planes::soft::word::Block;
 
-/// A key schedule that the caller owns: `struct fotsgure_aes`. Its words are as secret as the key.
+/// A key schedule that the caller owns: `struct fotsgure_aes`. Its blocks are as secret as the key.
 #[repr(C)]
 #[derive(Drop)]
 pub struct Aes {
     /// How many bytes the key has: 16, 24 or 32; 0 if there is no key.
     pub key_length: u32,
-    /// The stored round keys, in the first 88, 104 or 120 words.
-    pub words: [u16; 120],
+    /// The stored round keys of Cipher, in the first 11, 13 or 15 blocks.
+    pub encrypting: [Block; 15],
+    /// Those of EqInvCipher.
+    pub decrypting: [Block; 15],
 }
 
 impl Zeroize for Aes {
-    ghost ZERO = { record { key_length = 0; words = replicate 120 0 } };
+    ghost ZERO = { record {
+      key_length = 0;
+      encrypting = replicate 15 (replicate 16 0);
+      decrypting = replicate 15 (replicate 16 0);
+    } };
 
     #[inline(always)]
     fn zero() -> Aes {
         Aes {
             key_length: 0,
-            words: [0; 120],
+            encrypting: [[0; 16]; 15],
+            decrypting: [[0; 16]; 15],
         }
     }
 
@@ -38,20 +43,50 @@ impl Zeroize for Aes {
     }
 }
 
-/// The stored round keys of a struct.
+/// The stored round keys of a key of so many bytes.
 #[inline(always)]
-pub(crate) fn first_words<const N: usize>(words: &[u16; 120]) -> &[u16; N]
-    requires { N ≤ 120 }
-    ensures { result.now ≡ take N words.now }
+pub(crate) fn keys_of(blocks: &[Block; 15], key_length: usize) -> &[Block]
+    requires { IsKeyLength key_length }
+    ensures { result.now ≡ first_keys key_length blocks.now }
 {
-    words.first_chunk::<N>().unwrap()
+    &blocks[..key_length / 4 + 7]
+}
+
+/// Writes the stored round keys of Cipher of a key.
+#[inline(always)]
+pub(crate) fn put_keys(blocks: &mut [Block; 15], key: &[u8])
+    requires { IsKeyLength (length key.now) }
+    ensures lanes { IsLanes (first_keys (length key.now) blocks.new) }
+    ensures key { key_in (length key.now) blocks.new ≡ key.now }
+{
+    put_encrypting(&mut blocks[..key.len() / 4 + 7], key);
+}
+
+// Writes the stored round keys of EqInvCipher of the same key.
+#[inline(always)]
+fn put_inverse(inverse: &mut [Block; 15], blocks: &[Block; 15], key_length: usize)
+    requires length { IsKeyLength key_length }
+    requires lanes { IsLanes (first_keys key_length blocks.now) }
+    ensures { AreInverse (first_keys key_length inverse.new) (first_keys key_length blocks.now) }
+{
+    put_decrypting(
+        &mut inverse[..key_length / 4 + 7],
+        keys_of(blocks, key_length),
+    );
+}
+
+/// Whether a key can have so many bytes.
+pub(crate) fn is_key_length(bytes: usize) -> bool
+    ensures { result ≡ true ↔ IsKeyLength bytes }
+{
+    bytes == 16 || bytes == 24 || bytes == 32
 }
 
 /// Whether a struct holds a key.
 pub(crate) fn holds_key(aes: &Aes) -> bool
     ensures { result ≡ true ↔ IsKeyLength aes.now.key_length }
 {
-    aes.key_length == 16 || aes.key_length == 24 || aes.key_length == 32
+    is_key_length(aes.key_length as usize)
 }
 
 /// Expands a key into the struct (KeyExpansion, FIPS 197, 5.2). Returns `DONE` exactly if the key has 16, 24 or 32
@@ -60,38 +95,21 @@ pub(crate) fn holds_key(aes: &Aes) -> bool
 pub extern "C" fn fotsgure_aes_set_key(aes: &mut Aes, key: &[u8]) -> u32
     ensures done { result ≡ DONE ↔ IsKeyLength (length key.now) }
     ensures refused { result ≢ DONE → result ≡ KEY_LENGTH }
-    ensures made { IsMade aes.new.key_length aes.new.words }
-    ensures key { result ≡ DONE → key_in aes.new.key_length aes.new.words ≡ key.now }
+    ensures made { IsMade aes.new.key_length aes.new.encrypting aes.new.decrypting }
+    ensures key { result ≡ DONE → key_in aes.new.key_length aes.new.encrypting ≡ key.now }
     ensures length { result ≡ DONE → aes.new.key_length ≡ length key.now }
     ensures none { result ≢ DONE → aes.new.key_length ≡ 0 }
-    ensures wiped { result ≢ DONE → aes.new.words ≡ replicate 120 0 }
+    ensures wiped_encrypting { result ≢ DONE → aes.new.encrypting ≡ replicate 15 (replicate 16 0) }
+    ensures wiped_decrypting { result ≢ DONE → aes.new.decrypting ≡ replicate 15 (replicate 16 0) }
 {
     fotsgure_aes_wipe(aes);
-    if let Some(key) = key.as_array::<16>() {
-        keep::<Bits128>(aes, key);
-        return DONE;
+    if !is_key_length(key.len()) {
+        return KEY_LENGTH;
     }
-    if let Some(key) = key.as_array::<24>() {
-        keep::<Bits192>(aes, key);
-        return DONE;
-    }
-    if let Some(key) = key.as_array::<32>() {
-        keep::<Bits256>(aes, key);
-        return DONE;
-    }
-    KEY_LENGTH
-}
-
-// Expands a key of one size into a struct.
-fn keep<K: KeyExpansion>(aes: &mut Aes, key: &K::Key)
-    ensures length { aes.new.key_length ≡ K.Key.SIZE }
-    ensures stored { let n = 8 * K.ROUNDS + 8 in IsStored n 1 (map (word_bits 16) (take n aes.new.words)) }
-    ensures key { let planes = map (word_bits 16) (take (8 * K.ROUNDS + 8) aes.new.words) in
-        key_of K.Key.SIZE 1 (full K.ROUNDS) planes ≡ K.Key.bytes key.now }
-{
-    K::has_rounds(key);
-    aes.key_length = K::Key::SIZE as u32;
-    put_schedule::<u16, K>(&mut aes.words[..8 * K::ROUNDS + 8], key, &mut Layers::new());
+    put_keys(&mut aes.encrypting, key);
+    put_inverse(&mut aes.decrypting, &aes.encrypting, key.len());
+    aes.key_length = key.len() as u32;
+    DONE
 }
 
 /// Returns how many bytes the key has, or 0 if the struct holds no key.
@@ -111,8 +129,10 @@ pub extern "C" fn fotsgure_aes_key_length(aes: &Aes) -> usize
 #[unsafe(no_mangle)]
 pub extern "C" fn fotsgure_aes_wipe(aes: &mut Aes)
     ensures none { aes.new.key_length ≡ 0 }
-    ensures words { aes.new.words ≡ replicate 120 0 }
+    ensures encrypting { aes.new.encrypting ≡ replicate 15 (replicate 16 0) }
+    ensures decrypting { aes.new.decrypting ≡ replicate 15 (replicate 16 0) }
 {
     aes.key_length = 0;
-    zeroize_elements(&mut aes.words);
+    zeroize_elements(&mut aes.encrypting);
+    zeroize_elements(&mut aes.decrypting);
 }

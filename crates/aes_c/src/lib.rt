@@ -8,7 +8,6 @@ ghost use Rattle.std.specs.Prelude.{◌≡◌};
 
 mod blocks;
 mod kept;
-mod lent;
 mod once;
 mod status;
 mod stream;

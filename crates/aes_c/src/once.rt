@@ -7,29 +7,14 @@ ghost use Rattle.aes_ctr.specs.CounterMode.{keystream_byte, plus_stream};
 ghost use Rattle.aes_c.specs.Kept.{IsKeyLength};
 
 use crate::blocks::process_under;
-use crate::kept::{Aes, fotsgure_aes_set_key};
+use crate::kept::{Aes, fotsgure_aes_set_key, is_key_length, keys_of, put_keys};
 use crate::status::{DONE, KEY_LENGTH, KEYSTREAM_END};
-use crate::stream::{Ctr, fotsgure_aes_add_keystream};
+use crate::stream::Ctr;
 use aes_cipher::cipher::{Decrypt, Encrypt};
 use aes_cipher::zeroize::Held;
+use aes_hybrid::add_keystream;
+use aes_hybrid::blocks::process_blocks;
 use aes_planes::soft::word::Block;
-use aes_soft::soft::FullCipher;
-
-// Encrypts or decrypts every block of a slice under a key, whose schedule is wiped before the call returns.
-fn process_with<D: FullCipher>(key: &[u8], blocks: &mut [Block]) -> u32
-    ensures done { result ≡ DONE ↔ IsKeyLength (length key.now) }
-    ensures refused { result ≢ DONE → result ≡ KEY_LENGTH }
-    ensures blocks { result ≡ DONE → Each (D.processed (fips.key_expansion key.now)) blocks.old blocks.new }
-    ensures untouched { result ≢ DONE → blocks.new ≡ blocks.old }
-{
-    let mut kept = Held::<Aes>::zeroed();
-    if fotsgure_aes_set_key(kept.words_mut(), key) != DONE {
-        return KEY_LENGTH;
-    }
-    let status = process_under::<D>(kept.words(), blocks);
-    kept.wipe();
-    status
-}
 
 /// Encrypts each block in place under a key (Cipher, FIPS 197, 5.1). Returns `DONE` exactly if the key has 16, 24 or 32
 /// bytes, else `KEY_LENGTH`.
@@ -40,7 +25,15 @@ pub extern "C" fn fotsgure_aes_encrypt_blocks_with(key: &[u8], blocks: &mut [Blo
     ensures blocks { result ≡ DONE → Each (fips.cipher key.now) blocks.old blocks.new }
     ensures untouched { result ≢ DONE → blocks.new ≡ blocks.old }
 {
-    process_with::<Encrypt>(key, blocks)
+    if !is_key_length(key.len()) {
+        return KEY_LENGTH;
+    }
+    let mut kept = Held::<[Block; 15]>::zeroed();
+    put_keys(kept.words_mut(), key);
+    let keys = keys_of(kept.words(), key.len());
+    process_blocks::<Encrypt>(keys, keys, blocks);
+    kept.wipe();
+    DONE
 }
 
 /// Decrypts each block in place under a key (InvCipher, FIPS 197, 5.3). Returns `DONE` exactly if the key has 16, 24 or
@@ -52,7 +45,13 @@ pub extern "C" fn fotsgure_aes_decrypt_blocks_with(key: &[u8], blocks: &mut [Blo
     ensures blocks { result ≡ DONE → Each (fips.inv_cipher key.now) blocks.old blocks.new }
     ensures untouched { result ≢ DONE → blocks.new ≡ blocks.old }
 {
-    process_with::<Decrypt>(key, blocks)
+    let mut kept = Held::<Aes>::zeroed();
+    if fotsgure_aes_set_key(kept.words_mut(), key) != DONE {
+        return KEY_LENGTH;
+    }
+    let status = process_under::<Decrypt>(kept.words(), blocks);
+    kept.wipe();
+    status
 }
 
 /// Adds to each byte the keystream's byte at its place and moves the position on, as `fotsgure_aes_add_keystream`,
@@ -75,11 +74,17 @@ pub extern "C" fn fotsgure_aes_add_keystream_with(
     ensures unmoved { result ≢ DONE → ctr.new.position ≡ ctr.old.position }
     ensures untouched { result ≢ DONE → bytes.new ≡ bytes.old }
 {
-    let mut kept = Held::<Aes>::zeroed();
-    if fotsgure_aes_set_key(kept.words_mut(), key) != DONE {
+    if !is_key_length(key.len()) {
         return KEY_LENGTH;
     }
-    let status = fotsgure_aes_add_keystream(kept.words(), ctr, bytes);
+    if bytes.len() as u64 > u64::MAX - ctr.position {
+        return KEYSTREAM_END;
+    }
+    let mut kept = Held::<[Block; 15]>::zeroed();
+    put_keys(kept.words_mut(), key);
+    let keys = keys_of(kept.words(), key.len());
+    add_keystream(keys, &ctr.iv, ctr.position, bytes);
     kept.wipe();
-    status
+    ctr.position += bytes.len() as u64;
+    DONE
 }

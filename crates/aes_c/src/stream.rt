@@ -5,10 +5,9 @@ ghost use Rattle.aes_planes.specs.Fips197 as fips;
 ghost use Rattle.aes_ctr.specs.CounterMode.{keystream_byte, plus_stream};
 ghost use Rattle.aes_c.specs.Kept.{key_in, IsKeyLength, IsMade};
 
-use crate::kept::{Aes, holds_key};
-use crate::lent::LentKey;
+use crate::kept::{Aes, holds_key, keys_of};
 use crate::status::{DONE, KEYSTREAM_END, NO_KEY, UNEQUAL_COUNTS};
-use aes_ctr::add_keystream;
+use aes_hybrid::add_keystream;
 
 /// Where a keystream stands: `struct fotsgure_aes_ctr`.
 #[repr(C)]
@@ -40,11 +39,11 @@ fn refusal(aes: &Aes, position: u64, count: usize) -> u32
 /// key, and `DONE` in all other cases.
 #[unsafe(no_mangle)]
 pub extern "C" fn fotsgure_aes_add_keystream(aes: &Aes, ctr: &mut Ctr, bytes: &mut [u8]) -> u32
-    requires made { IsMade aes.now.key_length aes.now.words }
+    requires made { IsMade aes.now.key_length aes.now.encrypting aes.now.decrypting }
     ensures ended { result ≡ KEYSTREAM_END ↔ (2 ^ 64 - 1 < ctr.old.position + length bytes.old) }
     ensures done { result ≡ DONE ↔ IsKeyLength aes.now.key_length × (ctr.old.position + length bytes.old ≤ 2 ^ 64 - 1) }
     ensures refused { result ≢ DONE → result ≢ KEYSTREAM_END → result ≡ NO_KEY }
-    ensures bytes { let w = fips.key_expansion (key_in aes.now.key_length aes.now.words) in
+    ensures bytes { let w = fips.key_expansion (key_in aes.now.key_length aes.now.encrypting) in
         result ≡ DONE → bytes.new ≡ plus_stream (keystream_byte w ctr.old.iv) ctr.old.position bytes.old }
     ensures moved { result ≡ DONE → ctr.new.position ≡ ctr.old.position + length bytes.old }
     ensures iv { ctr.new.iv ≡ ctr.old.iv }
@@ -53,7 +52,8 @@ pub extern "C" fn fotsgure_aes_add_keystream(aes: &Aes, ctr: &mut Ctr, bytes: &m
 {
     let status = refusal(aes, ctr.position, bytes.len());
     if status == DONE {
-        add_keystream(&LentKey::new(aes), &ctr.iv, ctr.position, bytes);
+        let keys = keys_of(&aes.encrypting, aes.key_length as usize);
+        add_keystream(keys, &ctr.iv, ctr.position, bytes);
         ctr.position += bytes.len() as u64;
     }
     status
@@ -68,14 +68,14 @@ pub extern "C" fn fotsgure_aes_add_keystream_to(
     input: &[u8],
     output: &mut [u8],
 ) -> u32
-    requires made { IsMade aes.now.key_length aes.now.words }
+    requires made { IsMade aes.now.key_length aes.now.encrypting aes.now.decrypting }
     ensures unequal { result ≡ UNEQUAL_COUNTS ↔ (length input.now ≢ length output.old) }
     ensures ended { result ≡ KEYSTREAM_END
         ↔ (length input.now ≡ length output.old) × (2 ^ 64 - 1 < ctr.old.position + length input.now) }
     ensures done { result ≡ DONE ↔ IsKeyLength aes.now.key_length
         × ((length input.now ≡ length output.old) × (ctr.old.position + length input.now ≤ 2 ^ 64 - 1)) }
     ensures refused { result ≢ DONE → result ≢ UNEQUAL_COUNTS → result ≢ KEYSTREAM_END → result ≡ NO_KEY }
-    ensures bytes { let w = fips.key_expansion (key_in aes.now.key_length aes.now.words) in
+    ensures bytes { let w = fips.key_expansion (key_in aes.now.key_length aes.now.encrypting) in
         result ≡ DONE → output.new ≡ plus_stream (keystream_byte w ctr.old.iv) ctr.old.position input.now }
     ensures moved { result ≡ DONE → ctr.new.position ≡ ctr.old.position + length input.now }
     ensures iv { ctr.new.iv ≡ ctr.old.iv }

@@ -30,7 +30,8 @@ fn no_key() -> Aes
 {
     Aes {
         key_length: 0,
-        words: [0; 120],
+        encrypting: [[0; 16]; 15],
+        decrypting: [[0; 16]; 15],
     }
 }
 

@@ -26,7 +26,7 @@ fn add_to_one<C: BlockCipherEncrypt>(cipher: &C, iv: &Block, position: u64, byte
 }
 
 // How many blocks a backend encrypts next for bytes that begin so many bytes into a block: a batch as soon as that is
-// quicker than one block after the other.
+// quicker than one block after the other, and never for one block.
 #[inline(always)]
 fn next_blocks<B: BlockCipherEncBackend>(from: usize, bytes: usize) -> usize
     requires { from < 16 }
@@ -34,7 +34,7 @@ fn next_blocks<B: BlockCipherEncBackend>(from: usize, bytes: usize) -> usize
     ensures inside { result ≤ 16 }
 {
     let needed = (from + bytes.min(16 * ROOM)).div_ceil(16);
-    if B::PAR_BLOCKS <= ROOM && B::PAR_BLOCKS <= BATCH_SPEED * needed {
+    if needed > 1 && B::PAR_BLOCKS <= ROOM && B::PAR_BLOCKS <= BATCH_SPEED * needed {
         B::PAR_BLOCKS
     } else {
         1

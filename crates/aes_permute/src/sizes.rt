@@ -1,7 +1,7 @@
 //! The sizes of keys, and the key schedule of each.
 
 ghost use Rattle.std.specs.Prelude.{◌≡◌, ◌≤◌, ℕ, List, length};
-ghost use Rattle.std.proofs.Common.{arith};
+ghost use Rattle.std.proofs.Common.{arith, inl, inr, refl};
 ghost use Rattle.aes_planes.specs.Fips197 as fips;
 ghost use Rattle.aes_permute.specs.Keys.{encrypting, decrypting, IsKeySize};
 ghost use Rattle.aes_permute.specs.Stored.{round_keys_of};
@@ -91,7 +91,12 @@ impl AesVariant for Bits128 {
         invert(keys.words_mut());
     }
 
-    ghost is_size = { record { words = Prim.omega arith; four = Prim.omega arith; eight = Prim.omega arith } };
+    ghost is_size = { record {
+      words = Prim.omega arith;
+      four = Prim.omega arith;
+      eight = Prim.omega arith;
+      one_of_three = inl refl;
+    } };
 }
 
 impl AesVariant for Bits192 {
@@ -122,7 +127,12 @@ impl AesVariant for Bits192 {
         invert(keys.words_mut());
     }
 
-    ghost is_size = { record { words = Prim.omega arith; four = Prim.omega arith; eight = Prim.omega arith } };
+    ghost is_size = { record {
+      words = Prim.omega arith;
+      four = Prim.omega arith;
+      eight = Prim.omega arith;
+      one_of_three = inr (inl refl);
+    } };
 }
 
 impl AesVariant for Bits256 {
@@ -153,5 +163,10 @@ impl AesVariant for Bits256 {
         invert(keys.words_mut());
     }
 
-    ghost is_size = { record { words = Prim.omega arith; four = Prim.omega arith; eight = Prim.omega arith } };
+    ghost is_size = { record {
+      words = Prim.omega arith;
+      four = Prim.omega arith;
+      eight = Prim.omega arith;
+      one_of_three = inr (inr refl);
+    } };
 }

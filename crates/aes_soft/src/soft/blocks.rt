@@ -7,5 +7,5 @@ pub use backend::{
     Aes128Backend, Aes192Backend, Aes256Backend, Backend, decrypt_with_backend,
     encrypt_with_backend,
 };
-pub use slices::{process_block, process_blocks};
+pub use slices::{process_batch_under, process_batches_under, process_block, process_blocks};
 pub(crate) use slices::{batch_of, put_batch};

@@ -39,17 +39,18 @@ fn takes_slices_of_the_key_size_alone(rt: HostRuntime) {
     assert!(rt; all_take_their_own_length_alone::<Bits256>(32));
 }
 
+// The same of the three types of `aes_permute`.
+fn all_permutations_take_their_own_length_alone<K: sizes::AesVariant>(size: usize) -> bool {
+    takes_its_own_length_alone::<permute::AesCipher<keys::BothWays<K>>>(size)
+        && takes_its_own_length_alone::<permute::AesCipher<keys::OneWay<K, Encrypt>>>(size)
+        && takes_its_own_length_alone::<permute::AesCipher<keys::OneWay<K, Decrypt>>>(size)
+}
+
 #[test]
 fn permutations_take_slices_of_the_key_size_alone(rt: HostRuntime) {
-    assert!(rt; takes_its_own_length_alone::<permute::Aes128>(16));
-    assert!(rt; takes_its_own_length_alone::<permute::Aes128Enc>(16));
-    assert!(rt; takes_its_own_length_alone::<permute::Aes128Dec>(16));
-    assert!(rt; takes_its_own_length_alone::<permute::Aes192>(24));
-    assert!(rt; takes_its_own_length_alone::<permute::Aes192Enc>(24));
-    assert!(rt; takes_its_own_length_alone::<permute::Aes192Dec>(24));
-    assert!(rt; takes_its_own_length_alone::<permute::Aes256>(32));
-    assert!(rt; takes_its_own_length_alone::<permute::Aes256Enc>(32));
-    assert!(rt; takes_its_own_length_alone::<permute::Aes256Dec>(32));
+    assert!(rt; all_permutations_take_their_own_length_alone::<sizes::Bits128>(16));
+    assert!(rt; all_permutations_take_their_own_length_alone::<sizes::Bits192>(24));
+    assert!(rt; all_permutations_take_their_own_length_alone::<sizes::Bits256>(32));
 }
 
 // Whether the block goes to its encryption.

@@ -4,12 +4,11 @@ use super::blocks::{ENCRYPTED, blocks};
 use super::keys::{
     BY_128, BY_192, BY_256, KEY_128, KEY_192, KEY_256, KEY_A1, KEY_A2, KEY_A3, PLAIN,
 };
-use aes::{
-    Aes128, Aes128Dec, Aes128Enc, Aes192, Aes192Dec, Aes192Enc, Aes256, Aes256Dec, Aes256Enc,
-    Block, hardware_accelerated,
-};
-use aes_cipher::cipher::{BlockCipherDecrypt, BlockCipherEncrypt, KeyInit};
+use aes::{Aes128Dec, Aes128Enc, AesCipher, Block, BothWays, hardware_accelerated};
+use aes_cipher::cipher::{BlockCipherDecrypt, BlockCipherEncrypt, Decrypt, Encrypt, KeyInit};
 use aes_permute as permute;
+use aes_permute::{keys, sizes};
+use aes_soft::soft::key_sizes::{AesVariant, Bits128, Bits192, Bits256};
 
 // A key, a block, and the block encrypted.
 type Example<'a> = (&'a [u8], u128, u128);
@@ -59,6 +58,20 @@ where
         && decrypts::<Dec>(example)
 }
 
+// Whether the three types of `aes` for a size do. With the size as a parameter, they are proved once for all sizes.
+fn planes_hold<K: AesVariant>(example: Example) -> bool {
+    hold::<AesCipher<K, BothWays>, AesCipher<K, Encrypt>, AesCipher<K, Decrypt>>(example)
+}
+
+// The same of those of `aes_permute`.
+fn permutations_hold<K: sizes::AesVariant>(example: Example) -> bool {
+    hold::<
+        permute::AesCipher<keys::BothWays<K>>,
+        permute::AesCipher<keys::OneWay<K, Encrypt>>,
+        permute::AesCipher<keys::OneWay<K, Decrypt>>,
+    >(example)
+}
+
 // FIPS 197, appendices C.1 to C.3 and B; SP 800-38A, F.1.1, F.1.3 and F.1.5, the first block of each; and blocks of
 // zeros under keys of zeros, by OpenSSL (the first is the hash key of test case 1 of the specification of GCM).
 #[test]
@@ -82,18 +95,9 @@ fn leaves_the_blocks_of_the_standards(rt: HostRuntime) {
     ];
     for example in examples {
         let right = match example.0.len() {
-            16 => {
-                hold::<Aes128, Aes128Enc, Aes128Dec>(example)
-                    && hold::<permute::Aes128, permute::Aes128Enc, permute::Aes128Dec>(example)
-            }
-            24 => {
-                hold::<Aes192, Aes192Enc, Aes192Dec>(example)
-                    && hold::<permute::Aes192, permute::Aes192Enc, permute::Aes192Dec>(example)
-            }
-            _ => {
-                hold::<Aes256, Aes256Enc, Aes256Dec>(example)
-                    && hold::<permute::Aes256, permute::Aes256Enc, permute::Aes256Dec>(example)
-            }
+            16 => planes_hold::<Bits128>(example) && permutations_hold::<sizes::Bits128>(example),
+            24 => planes_hold::<Bits192>(example) && permutations_hold::<sizes::Bits192>(example),
+            _ => planes_hold::<Bits256>(example) && permutations_hold::<sizes::Bits256>(example),
         };
         assert!(rt; right, "{} bytes", example.0.len());
     }

@@ -3,15 +3,15 @@
 ghost use Rattle.std.specs.Prelude.{◌≡◌, ◌⊎◌};
 
 use crate::by_backend::ByBackend;
-use aes::{
-    Aes128, Aes128Dec, Aes128Enc, Aes192, Aes192Dec, Aes192Enc, Aes256, Aes256Dec, Aes256Enc, Block,
-};
+use aes::{AesCipher, Block, BothWays};
 use aes_cipher::cipher::{
     BlockCipherDecClosure, BlockCipherDecrypt, BlockCipherEncClosure, BlockCipherEncrypt, Decrypt,
     Direction, Encrypt, KeyInit, NotEqualError,
 };
 use aes_permute as permute;
+use aes_permute::{keys, sizes};
 use aes_rounds::rounds::{Aes, AesDec, AesEnc, expand_128, expand_192, expand_256};
+use aes_soft::soft::key_sizes::{AesVariant, Bits128, Bits192, Bits256};
 
 /// A cipher that processes blocks in the direction D.
 pub trait OneWay<D: Direction> {
@@ -147,19 +147,20 @@ pub type Passed = (&'static str, [bool; 4]);
 // Whether the types of `aes` pass.
 fn try_planes<T: Trial>(trial: &T) -> [Passed; 3] {
     [
-        (
-            "keys of 16 bytes",
-            pass_under::<T, Aes128, Aes128Enc, Aes128Dec>(trial, &SHORT),
-        ),
+        ("keys of 16 bytes", planes_pass::<T, Bits128>(trial, &SHORT)),
         (
             "keys of 24 bytes",
-            pass_under::<T, Aes192, Aes192Enc, Aes192Dec>(trial, &MIDDLE),
+            planes_pass::<T, Bits192>(trial, &MIDDLE),
         ),
-        (
-            "keys of 32 bytes",
-            pass_under::<T, Aes256, Aes256Enc, Aes256Dec>(trial, &LONG),
-        ),
+        ("keys of 32 bytes", planes_pass::<T, Bits256>(trial, &LONG)),
     ]
+}
+
+// The three types for a size. With the size as a parameter, they are proved once for all sizes.
+fn planes_pass<T: Trial, K: AesVariant>(trial: &T, key: &[u8]) -> [bool; 4] {
+    pass_under::<T, AesCipher<K, BothWays>, AesCipher<K, Encrypt>, AesCipher<K, Decrypt>>(
+        trial, key,
+    )
 }
 
 // Whether those of `aes_permute` do.
@@ -167,19 +168,26 @@ fn try_permutations<T: Trial>(trial: &T) -> [Passed; 3] {
     [
         (
             "keys of 16 bytes, by permutations",
-            pass_under::<T, permute::Aes128, permute::Aes128Enc, permute::Aes128Dec>(trial, &SHORT),
+            permutations_pass::<T, sizes::Bits128>(trial, &SHORT),
         ),
         (
             "keys of 24 bytes, by permutations",
-            pass_under::<T, permute::Aes192, permute::Aes192Enc, permute::Aes192Dec>(
-                trial, &MIDDLE,
-            ),
+            permutations_pass::<T, sizes::Bits192>(trial, &MIDDLE),
         ),
         (
             "keys of 32 bytes, by permutations",
-            pass_under::<T, permute::Aes256, permute::Aes256Enc, permute::Aes256Dec>(trial, &LONG),
+            permutations_pass::<T, sizes::Bits256>(trial, &LONG),
         ),
     ]
+}
+
+fn permutations_pass<T: Trial, K: sizes::AesVariant>(trial: &T, key: &[u8]) -> [bool; 4] {
+    pass_under::<
+        T,
+        permute::AesCipher<keys::BothWays<K>>,
+        permute::AesCipher<keys::OneWay<K, Encrypt>>,
+        permute::AesCipher<keys::OneWay<K, Decrypt>>,
+    >(trial, key)
 }
 
 // Whether every round by round cipher does.

@@ -1,8 +1,9 @@
 //! Blocks in slices, processed in batches.
-ghost use Rattle.std.specs.Prelude.{◌≡◌, ◌+◌, ◌*◌, ◌/◌, ◌%◌, length};
+ghost use Rattle.std.specs.Prelude.{◌≡◌, ◌+◌, ◌*◌, ◌/◌, ◌%◌, ◌≤◌, length, map};
 ghost use Rattle.aes_planes.specs.Each.{Each};
 ghost use Rattle.aes_planes.specs.Fips197 as fips;
 ghost use Rattle.aes_soft.specs.Batches.{layers_for};
+ghost use Rattle.aes_soft.specs.Stored.{full, key_of, rounds_of, size_of, IsKeyed};
 
 use crate::soft::ciphers::{FullCipher, process_full, process_full_apart};
 use crate::soft::key_sizes::{AesVariant, BatchWord, RoundKeyWords};
@@ -36,6 +37,61 @@ pub(crate) fn put_batch<B: Batch>(batch: &B, blocks: &mut [Block])
     }
 }
 
+/// Processes each block of one batch in its place, under stored round keys in a slice of words.
+#[inline(always)]
+pub fn process_batch_under<W: Word, D: FullCipher>(
+    words: &[W],
+    blocks: &mut [Block],
+    layers: &mut Layers,
+)
+    requires least { 88 ≤ length words.now }
+    requires most { length words.now ≤ 120 }
+    requires half_over { length words.now % 16 ≡ 8 }
+    requires is_schedule { let n = length words.now in
+        IsKeyed (size_of n) W.BLOCKS (full (rounds_of n)) (map W.bits words.now) }
+    requires one_batch { length blocks.old ≡ W.Blocks.LEN }
+    ensures blocks { let n = length words.now in
+        let key = key_of (size_of n) W.BLOCKS (full (rounds_of n)) (map W.bits words.now) in
+        Each (D.processed (fips.key_expansion key)) blocks.old blocks.new }
+    ensures layers { layers.new ≡ layers.old + rounds_of (length words.now) }
+{
+    let rounds = words.len() / 8 - 1;
+    let input = batch_of::<W::Blocks>(blocks);
+    let output = if W::Blocks::LEN == 1 {
+        process_full_apart::<W, D>(words, rounds, &input, layers)
+    } else {
+        process_full::<W, D>(words, rounds, &input, layers)
+    };
+    put_batch(&output, blocks);
+}
+
+/// Processes the blocks of a slice, batch by batch, under stored round keys in a slice of words.
+#[inline(always)]
+pub fn process_batches_under<W: Word, D: FullCipher>(
+    words: &[W],
+    blocks: &mut [Block],
+    layers: &mut Layers,
+)
+    requires least { 88 ≤ length words.now }
+    requires most { length words.now ≤ 120 }
+    requires half_over { length words.now % 16 ≡ 8 }
+    requires is_schedule { let n = length words.now in
+        IsKeyed (size_of n) W.BLOCKS (full (rounds_of n)) (map W.bits words.now) }
+    requires whole_batches { length blocks.old % W.Blocks.LEN ≡ 0 }
+    ensures blocks { let n = length words.now in
+        let key = key_of (size_of n) W.BLOCKS (full (rounds_of n)) (map W.bits words.now) in
+        Each (D.processed (fips.key_expansion key)) blocks.old blocks.new }
+    ensures layers { layers.new
+        ≡ layers.old + rounds_of (length words.now) * (length blocks.old / W.Blocks.LEN) }
+{
+    let size = W::Blocks::LEN;
+    let mut done = 0;
+    while done < blocks.len() {
+        process_batch_under::<W, D>(words, &mut blocks[done..done + size], layers);
+        done += size;
+    }
+}
+
 // Processes each block of one batch in its place.
 #[inline(always)]
 pub(super) fn process_batch<W: Word, R: RoundKeyWords<W>, D: FullCipher>(
@@ -48,15 +104,7 @@ pub(super) fn process_batch<W: Word, R: RoundKeyWords<W>, D: FullCipher>(
     ensures blocks { Each (D.processed (fips.key_expansion (R.key round_keys.now))) blocks.old blocks.new }
     ensures layers { layers.new ≡ layers.old + R.ROUNDS }
 {
-    let words = round_keys.words();
-    let rounds = words.len() / 8 - 1;
-    let input = batch_of::<W::Blocks>(blocks);
-    let output = if W::Blocks::LEN == 1 {
-        process_full_apart::<W, D>(words, rounds, &input, layers)
-    } else {
-        process_full::<W, D>(words, rounds, &input, layers)
-    };
-    put_batch(&output, blocks);
+    process_batch_under::<W, D>(round_keys.words(), blocks, layers);
 }
 
 // Processes the blocks of a slice, batch by batch.
@@ -71,12 +119,7 @@ fn process_batches<W: Word, R: RoundKeyWords<W>, D: FullCipher>(
     ensures blocks { Each (D.processed (fips.key_expansion (R.key round_keys.now))) blocks.old blocks.new }
     ensures layers { layers.new ≡ layers.old + R.ROUNDS * (length blocks.old / W.Blocks.LEN) }
 {
-    let size = W::Blocks::LEN;
-    let mut done = 0;
-    while done < blocks.len() {
-        process_batch::<W, R, D>(round_keys, &mut blocks[done..done + size], layers);
-        done += size;
-    }
+    process_batches_under::<W, D>(round_keys.words(), blocks, layers);
 }
 
 /// Processes each block of a slice in place: whole batches first, then one block after the other.

@@ -1,0 +1,10 @@
+-- What holds in the loops of `keys::put_decrypting`.
+use Rattle.std.proofs.Common.{◌≡◌, ◌≤◌, ◌<◌, ℕ, length}
+use Rattle.aes_permute.proofs.Inversion.{Unmixed}
+use Rattle.aes_hybrid.proofs.keys.put_decrypting.Given as goal
+
+abbrev pub invariant-keys : goal.invariant-keys
+invariant-keys l = record {
+  same_length : length l.inverse ≡ length l.keys;
+  done : (k : ℕ) → 1 ≤ k → k < l.i → Unmixed l.keys l.inverse k;
+}

@@ -1,0 +1,46 @@
+//! Stored round keys of a key of any length that the standard has.
+
+ghost use Rattle.std.specs.Prelude.{◌≡◌, ◌⊎◌, ◌+◌, ◌/◌, length};
+ghost use Rattle.aes_hybrid.specs.Lanes.{lanes_key, IsLanes, AreInverse};
+
+use aes_cipher::cipher::Encrypt;
+use aes_permute::rounds::inverted_key;
+use aes_permute::schedule::{expand_128, expand_192, expand_256};
+use aes_planes::laws;
+use aes_planes::soft::word::Block;
+use std::simd::prelude::*;
+
+/// Writes the stored round keys of Cipher of a key: KeyExpansion (FIPS 197, 5.2).
+pub fn put_encrypting(keys: &mut [Block], key: &[u8])
+    requires one_of_three { (length key.now ≡ 16) ⊎ ((length key.now ≡ 24) ⊎ (length key.now ≡ 32)) }
+    requires sized { length keys.old ≡ length key.now / 4 + 7 }
+    ensures same_length { length keys.new ≡ length keys.old }
+    ensures is_lanes { IsLanes keys.new }
+    ensures key { lanes_key keys.new ≡ key.now }
+{
+    if key.len() == 16 {
+        expand_128::<Encrypt>(keys, key);
+    } else if key.len() == 24 {
+        expand_192::<Encrypt>(keys, key);
+    } else {
+        expand_256::<Encrypt>(keys, key);
+    }
+}
+
+/// Writes the stored round keys of EqInvCipher, of the same key (FIPS 197, 5.3.5).
+pub fn put_decrypting(inverse: &mut [Block], keys: &[Block])
+    requires is_lanes { IsLanes keys.now }
+    requires sized { length inverse.old ≡ length keys.now }
+    ensures same_length { length inverse.new ≡ length inverse.old }
+    ensures inverse { AreInverse inverse.new keys.now }
+{
+    // Each is written once, in its place: a list that is turned where it stands leaves a round key on the stack.
+    let last = keys.len() - 1;
+    'keys: for i in 1..last {
+        let key = keys[last - i];
+        laws::is_block(key);
+        inverse[i] = inverted_key(u8x16::from_array(key)).to_array();
+    }
+    inverse[0] = keys[last];
+    inverse[last] = keys[0];
+}

@@ -1,0 +1,149 @@
+//! Stored round keys, lent as a cipher that encrypts: to few blocks at once, or to many.
+
+ghost use Rattle.std.specs.Prelude.{◌≡◌, ℕ, ◌*◌, ◌≤◌, List, length};
+ghost use Rattle.aes_planes.specs.Fips197 as fips;
+ghost use Rattle.aes_planes.proofs.Standard.CipherLaws.{two_keys};
+ghost use Rattle.aes_hybrid.specs.Lanes.{lanes_key, IsLanes};
+
+mod backends;
+
+use crate::blocks::process_blocks;
+use crate::wide::put_wide;
+use aes_cipher::cipher::{BlockCipherEncClosure, BlockCipherEncrypt, Encrypt, RoundKeysUser};
+use aes_cipher::zeroize::Held;
+use aes_planes::laws;
+use aes_planes::soft::word::Block;
+use aes_soft::soft::key_sizes::BatchWord;
+use backends::{Batches, Pairs};
+use std::marker::Model;
+use std::slice;
+
+/// Stored round keys of Cipher, lent to encrypt few blocks: its backend has vector permutations alone. Contracts see a
+/// value as its key.
+#[derive(Drop)]
+pub struct Few<'a> {
+    keys: &'a [Block],
+}
+
+impl<'a> Model for Few<'a> {
+    ghost Value = { List ℕ };
+
+    ghost view = { λ few. lanes_key few.keys.now };
+
+    ghost invariant = { λ few. IsLanes few.keys.now };
+}
+
+impl<'a> Few<'a> {
+    /// Lends stored round keys.
+    #[inline(always)]
+    pub fn new(keys: &'a [Block]) -> Few<'a>
+        requires { IsLanes keys.now }
+        ensures { result ≡ lanes_key keys.now }
+    {
+        Few { keys }
+    }
+}
+
+impl RoundKeysUser for Few<'_> {
+    ghost round_keys = { fips.key_expansion };
+
+    fn has_round_keys(&self) {
+        laws::expanded_keys();
+        let _ = &self.keys;
+    }
+
+    ghost two_round_keys = { two_keys };
+}
+
+impl BlockCipherEncrypt for Few<'_> {
+    #[inline(always)]
+    fn encrypt_with_backend<F: BlockCipherEncClosure>(&self, f: &mut F) {
+        f.call(&Pairs::new(self.keys));
+    }
+
+    #[inline(always)]
+    fn encrypt_block(&self, block: &mut Block) {
+        process_blocks::<Encrypt>(self.keys, self.keys, slice::from_mut(block));
+    }
+
+    #[inline(always)]
+    fn encrypt_blocks(&self, blocks: &mut [Block]) {
+        process_blocks::<Encrypt>(self.keys, self.keys, blocks);
+    }
+}
+
+/// Stored round keys of Cipher, lent to encrypt many blocks: its backend has planes for whole batches. Contracts see a
+/// value as its key.
+#[derive(Drop)]
+pub struct Many<'a> {
+    keys: &'a [Block],
+}
+
+impl<'a> Model for Many<'a> {
+    ghost Value = { List ℕ };
+
+    ghost view = { λ many. lanes_key many.keys.now };
+
+    ghost invariant = { λ many. IsLanes many.keys.now };
+}
+
+impl<'a> Many<'a> {
+    /// Lends stored round keys.
+    #[inline(always)]
+    pub fn new(keys: &'a [Block]) -> Many<'a>
+        requires { IsLanes keys.now }
+        ensures { result ≡ lanes_key keys.now }
+    {
+        Many { keys }
+    }
+}
+
+impl RoundKeysUser for Many<'_> {
+    ghost round_keys = { fips.key_expansion };
+
+    fn has_round_keys(&self) {
+        laws::expanded_keys();
+        let _ = &self.keys;
+    }
+
+    ghost two_round_keys = { two_keys };
+}
+
+impl BlockCipherEncrypt for Many<'_> {
+    #[inline(always)]
+    fn encrypt_with_backend<F: BlockCipherEncClosure>(&self, f: &mut F) {
+        let keys = self.keys;
+        if keys.len() == 11 {
+            call_with_planes::<88, F>(keys, f);
+        } else if keys.len() == 13 {
+            call_with_planes::<104, F>(keys, f);
+        } else {
+            call_with_planes::<120, F>(keys, f);
+        }
+    }
+
+    #[inline(always)]
+    fn encrypt_block(&self, block: &mut Block) {
+        process_blocks::<Encrypt>(self.keys, self.keys, slice::from_mut(block));
+    }
+
+    #[inline(always)]
+    fn encrypt_blocks(&self, blocks: &mut [Block]) {
+        process_blocks::<Encrypt>(self.keys, self.keys, blocks);
+    }
+}
+
+// Calls a closure with a backend on planes, which are wiped before the call returns.
+#[inline(always)]
+fn call_with_planes<const N: usize, F: BlockCipherEncClosure>(keys: &[Block], f: &mut F)
+    requires room { 8 * length keys.now ≤ N }
+    requires most { N ≤ 120 }
+    requires is_lanes { IsLanes keys.now }
+    ensures { F.did f.old (fips.key_expansion (lanes_key keys.now)) f.new }
+{
+    let mut wide = Held::<[BatchWord; N]>::zeroed();
+    put_wide(wide.words_mut(), keys);
+    let words = &wide.words()[..8 * keys.len()];
+    f.call(&Batches::new(keys, words));
+    wide.wipe();
+}

@@ -1,0 +1,137 @@
+//! Backends that encrypt: pairs by vector permutations, and batches of eight on planes.
+
+ghost use Rattle.std.specs.Prelude.{◌≡◌, ℕ, ◌%◌, ◌≤◌, List, length, map};
+ghost use Rattle.aes_planes.specs.Fips197 as fips;
+ghost use Rattle.aes_planes.specs.Words.{word_bits};
+ghost use Rattle.aes_planes.proofs.Standard.CipherLaws.{two_keys};
+ghost use Rattle.aes_soft.specs.Stored as soft;
+ghost use Rattle.aes_hybrid.specs.Lanes.{lanes_key, IsLanes};
+
+use crate::blocks::process_blocks;
+use aes_cipher::cipher::{
+    BatchOfEight, BatchSizeUser, BlockCipherEncBackend, Encrypt, RoundKeysUser,
+};
+use aes_permute::TwoBlocks;
+use aes_planes::laws;
+use aes_planes::soft::sbox::Layers;
+use aes_planes::soft::word::Block;
+use aes_soft::soft::blocks::process_batch_under;
+use aes_soft::soft::key_sizes::BatchWord;
+use std::marker::Model;
+use std::slice;
+
+// Encrypts single blocks and pairs by vector permutations.
+#[derive(Drop)]
+pub(super) struct Pairs<'a> {
+    keys: &'a [Block],
+}
+
+impl<'a> Model for Pairs<'a> {
+    ghost Value = { List ℕ };
+
+    ghost view = { λ pairs. lanes_key pairs.keys.now };
+
+    ghost invariant = { λ pairs. IsLanes pairs.keys.now };
+}
+
+impl<'a> Pairs<'a> {
+    #[inline(always)]
+    pub(super) fn new(keys: &'a [Block]) -> Pairs<'a>
+        requires { IsLanes keys.now }
+        ensures { result ≡ lanes_key keys.now }
+    {
+        Pairs { keys }
+    }
+}
+
+impl RoundKeysUser for Pairs<'_> {
+    ghost round_keys = { fips.key_expansion };
+
+    fn has_round_keys(&self) {
+        laws::expanded_keys();
+        let _ = &self.keys;
+    }
+
+    ghost two_round_keys = { two_keys };
+}
+
+impl BatchSizeUser for Pairs<'_> {
+    type Par = TwoBlocks;
+}
+
+impl BlockCipherEncBackend for Pairs<'_> {
+    #[inline(always)]
+    fn encrypt_block(&self, block: &mut Block) {
+        process_blocks::<Encrypt>(self.keys, self.keys, slice::from_mut(block));
+    }
+
+    #[inline(always)]
+    fn encrypt_par_blocks(&self, blocks: &mut [Block]) {
+        process_blocks::<Encrypt>(self.keys, self.keys, blocks);
+    }
+}
+
+// Encrypts single blocks by vector permutations, and batches of eight on planes of the same round keys.
+#[derive(Drop)]
+pub(super) struct Batches<'a> {
+    keys: &'a [Block],
+    words: &'a [BatchWord],
+}
+
+impl<'a> Model for Batches<'a> {
+    ghost Value = { List ℕ };
+
+    ghost view = { λ batches. lanes_key batches.keys.now };
+
+    ghost invariant = { λ batches.
+        let n = length batches.words.now in
+        let planes = map (word_bits 128) batches.words.now in
+        IsLanes batches.keys.now × (88 ≤ n) × (n ≤ 120) × (n % 16 ≡ 8)
+        × soft.IsKeyed (soft.size_of n) 8 (soft.full (soft.rounds_of n)) planes
+        × (soft.key_of (soft.size_of n) 8 (soft.full (soft.rounds_of n)) planes ≡ lanes_key batches.keys.now) };
+}
+
+impl<'a> Batches<'a> {
+    #[inline(always)]
+    pub(super) fn new(keys: &'a [Block], words: &'a [BatchWord]) -> Batches<'a>
+        requires is_lanes { IsLanes keys.now }
+        requires least { 88 ≤ length words.now }
+        requires most { length words.now ≤ 120 }
+        requires half_over { length words.now % 16 ≡ 8 }
+        requires is_schedule { let n = length words.now in
+            soft.IsKeyed (soft.size_of n) 8 (soft.full (soft.rounds_of n)) (map (word_bits 128) words.now) }
+        requires key { let n = length words.now in
+            soft.key_of (soft.size_of n) 8 (soft.full (soft.rounds_of n)) (map (word_bits 128) words.now)
+            ≡ lanes_key keys.now }
+        ensures { result ≡ lanes_key keys.now }
+    {
+        Batches { keys, words }
+    }
+}
+
+impl RoundKeysUser for Batches<'_> {
+    ghost round_keys = { fips.key_expansion };
+
+    fn has_round_keys(&self) {
+        laws::expanded_keys();
+        let _ = &self.keys;
+    }
+
+    ghost two_round_keys = { two_keys };
+}
+
+impl BatchSizeUser for Batches<'_> {
+    type Par = BatchOfEight;
+}
+
+impl BlockCipherEncBackend for Batches<'_> {
+    #[inline(always)]
+    fn encrypt_block(&self, block: &mut Block) {
+        process_blocks::<Encrypt>(self.keys, self.keys, slice::from_mut(block));
+    }
+
+    #[inline(always)]
+    fn encrypt_par_blocks(&self, blocks: &mut [Block]) {
+        process_batch_under::<BatchWord, Encrypt>(self.words, blocks, &mut Layers::new());
+    }
+}

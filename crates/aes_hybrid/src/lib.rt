@@ -1,0 +1,17 @@
+//! AES in both forms under one list of stored round keys (FIPS 197): few blocks by vector permutations, many on bit
+//! planes. The number of blocks decides, which is no secret.
+#![tactic(auto)]
+
+pub mod blocks;
+mod ciphers;
+pub mod keys;
+pub mod lent;
+mod spread;
+mod stream;
+#[cfg(test)]
+mod tests;
+mod wide;
+
+pub use ciphers::{Aes128, Aes128Enc, Aes192, Aes192Enc, Aes256, Aes256Enc, Hybrid};
+pub use stream::add_keystream;
+pub use wide::put_planes;

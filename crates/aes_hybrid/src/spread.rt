@@ -1,0 +1,69 @@
+//! One block in every slot of the planes of a batch: a lane of ones for each byte that has a bit.
+
+ghost use Rattle.std.specs.Prelude.{◌≡◌, ℕ, ◌+◌, ◌*◌, ◌^◌, ◌<◌, cond, get_or, map, replicate};
+ghost use Rattle.aes_planes.specs.Bits.{bit};
+ghost use Rattle.aes_planes.specs.Fips197 as fips;
+ghost use Rattle.aes_planes.specs.Planes.{held};
+ghost use Rattle.aes_planes.specs.Private.Lanes.{lane_bits};
+ghost use Rattle.aes_planes.specs.Words.{word_bits};
+
+use aes_soft::soft::key_sizes::BatchWord;
+use std::simd::prelude::*;
+
+// The bytes of a block, row by row.
+#[inline(always)]
+fn by_rows(block: u8x16) -> u8x16
+    requires { fips.IsBlock block }
+    ensures { (r c : ℕ) → r < 4 → c < 4 → get_or result (4 * r + c) 0 ≡ fips.byte_at block r c }
+{
+    block.swizzle([0, 4, 8, 12, 1, 5, 9, 13, 2, 6, 10, 14, 3, 7, 11, 15])
+}
+
+// A lane of ones for each byte that has a bit.
+#[inline(always)]
+fn lanes_with(bytes: u8x16, power: u8) -> u8x16
+    ensures { (p j : ℕ) → power ≡ 2 ^ p → p < 8 → j < 16
+        → get_or result j 0 ≡ cond (bit (get_or bytes j 0) p) 255 0 }
+{
+    let bits = u8x16::splat(power);
+    (bytes & bits)
+        .simd_eq(bits)
+        .select(u8x16::splat(255), u8x16::splat(0))
+}
+
+// The word of lanes, by its halves.
+#[tactic(auto, using(aes_planes::proofs::Words::LaneBits::number_bits))]
+#[inline(always)]
+fn word(x: u8x16) -> BatchWord
+    ensures { word_bits 128 result ≡ lane_bits x }
+{
+    let [low, high] = u64x2::from_le_bytes(x).to_array();
+    (high as u128) << 64 | low as u128
+}
+
+/// Returns the planes that hold a block in every slot.
+#[inline(always)]
+pub(crate) fn in_every_slot(block: u8x16) -> [BatchWord; 8]
+    requires { fips.IsBlock block }
+    ensures { held 8 (map (word_bits 128) result) ≡ replicate 8 block }
+{
+    let bytes = by_rows(block);
+    let x0 = lanes_with(bytes, 0x01);
+    let x1 = lanes_with(bytes, 0x02);
+    let x2 = lanes_with(bytes, 0x04);
+    let x3 = lanes_with(bytes, 0x08);
+    let x4 = lanes_with(bytes, 0x10);
+    let x5 = lanes_with(bytes, 0x20);
+    let x6 = lanes_with(bytes, 0x40);
+    let x7 = lanes_with(bytes, 0x80);
+    [
+        word(x0),
+        word(x1),
+        word(x2),
+        word(x3),
+        word(x4),
+        word(x5),
+        word(x6),
+        word(x7),
+    ]
+}

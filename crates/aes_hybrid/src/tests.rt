@@ -1,0 +1,49 @@
+//! The types on the examples of FIPS 197, appendix C, in few blocks and in many, and counter mode from a place on.
+
+use crate::{Aes128, Aes192, Aes256, Aes256Enc};
+use aes_cipher::cipher::{Block, BlockCipherDecrypt, BlockCipherEncrypt, KeyInit};
+
+const COUNTED: [u8; 32] = [
+    0x00, 0x01, 0x02, 0x03, 0x04, 0x05, 0x06, 0x07, 0x08, 0x09, 0x0a, 0x0b, 0x0c, 0x0d, 0x0e, 0x0f,
+    0x10, 0x11, 0x12, 0x13, 0x14, 0x15, 0x16, 0x17, 0x18, 0x19, 0x1a, 0x1b, 0x1c, 0x1d, 0x1e, 0x1f,
+];
+
+const PLAIN: u128 = 0x00112233445566778899aabbccddeeff;
+
+// Whether seven blocks and nineteen come out as the standard says, and come back.
+fn there_and_back<C: BlockCipherEncrypt + BlockCipherDecrypt>(cipher: &C, wanted: u128) -> bool {
+    let plain = [PLAIN.to_be_bytes(); 19];
+    let ciphered = [wanted.to_be_bytes(); 19];
+    let mut few: [Block; 7] = [PLAIN.to_be_bytes(); 7];
+    let mut many = plain;
+    cipher.encrypt_blocks(&mut few);
+    cipher.encrypt_blocks(&mut many);
+    let there = few == [wanted.to_be_bytes(); 7] && many == ciphered;
+    cipher.decrypt_blocks(&mut few);
+    cipher.decrypt_blocks(&mut many);
+    there && few == [PLAIN.to_be_bytes(); 7] && many == plain
+}
+
+#[test]
+fn encrypts_and_decrypts_few_and_many(rt: HostRuntime) {
+    let aes128 = Aes128::new(COUNTED[..16].as_array::<16>().unwrap());
+    let aes192 = Aes192::new(COUNTED[..24].as_array::<24>().unwrap());
+    let aes256 = Aes256::new(&COUNTED);
+    assert!(rt; there_and_back(&aes128, 0x69c4e0d86a7b0430d8cdb78070b4c55a));
+    assert!(rt; there_and_back(&aes192, 0xdda97ca4864cdfe06eaf70a0ec0d7191));
+    assert!(rt; there_and_back(&aes256, 0x8ea2b7ca516745bfeafc49904b496089));
+}
+
+#[test]
+fn adds_the_same_keystream_whole_and_cut(rt: HostRuntime) {
+    let cipher = Aes256Enc::new(&COUNTED);
+    let iv = PLAIN.to_be_bytes();
+    let mut whole = [0; 400];
+    let mut cut = [0; 400];
+    cipher.add_keystream(&iv, 5, &mut whole);
+    cipher.add_keystream(&iv, 5, &mut cut[..30]);
+    cipher.add_keystream(&iv, 35, &mut cut[30..]);
+    assert!(rt; whole == cut);
+    cipher.add_keystream(&iv, 5, &mut whole);
+    assert!(rt; whole == [0; 400]);
+}
