@@ -4,4 +4,5 @@
 pub mod blocks;
 pub mod bytes;
 pub mod cipher;
+pub mod examples;
 pub mod zeroize;
