@@ -7,6 +7,7 @@ pub mod Inversion
 pub mod KeyBytes
 pub mod Linear
 pub mod Lookups
+pub mod OnLiterals
 pub mod RoundLanes
 pub mod Runs
 pub mod ScheduleLanes

@@ -5,6 +5,7 @@
 pub mod blocks;
 mod ciphers;
 pub mod directions;
+pub mod examples;
 pub mod keys;
 pub mod lanes;
 mod names;

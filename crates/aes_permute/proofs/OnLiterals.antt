@@ -1,0 +1,9 @@
+-- What a proof unfolds to compute what stored bytes stand for.
+use Rattle.std.specs.Prelude.{⊤}
+use Rattle.aes_planes.specs.BigEndian.{bytes}
+use Rattle.aes_planes.specs.Fips197.{build}
+use Rattle.aes_permute.specs.Stored.{untower, inv_untower, key_untower, round_keys_of}
+
+unfoldable pub stored_on_literals : ⊤
+unfolding bytes build untower inv_untower key_untower round_keys_of
+stored_on_literals = tt

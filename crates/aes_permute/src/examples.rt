@@ -1,0 +1,83 @@
+//! Stored round keys at values from outside, as contracts, so that a slip in a definition is refused. The calls have no
+//! effect.
+//!
+//! `bytes n 0x..` is the n bytes that these digits write. What is stored was computed by a separate model in Python, from
+//! the standard and the basis that `tools/permutation-tables` describes.
+
+ghost use Rattle.std.specs.Prelude.{◌≡◌, ◌∷◌, [], map, true, false};
+ghost use Rattle.aes_planes.specs.BigEndian.{bytes};
+ghost use Rattle.aes_planes.specs.Fips197 as fips;
+ghost use Rattle.aes_permute.specs.Keys.{encrypting, decrypting};
+ghost use Rattle.aes_permute.specs.Lookup.{looked};
+ghost use Rattle.aes_permute.specs.Stored.{untower, inv_untower, key_untower, place_of};
+
+/// What bytes stand for. 0x15 is 0x53 in the tower basis; in a state of decryption it stands for the affine transformation
+/// of 0x53 (FIPS 197, 5.1.1), and in a round key for the sum of 0x53 and 0x63.
+#[tactic(auto, unfolding(crate::proofs::OnLiterals::stored_on_literals))]
+pub fn byte_examples()
+    ensures tower { untower 0x15 ≡ 0x53 }
+    ensures key { key_untower 0x15 ≡ 0x30 }
+    ensures inverse { inv_untower 0x15 ≡ 0x74 }
+    ensures zero { map untower (0x00 ∷ 0x01 ∷ []) ≡ 0x00 ∷ 0x01 ∷ [] }
+{}
+
+/// An entry of a table of sixteen bytes, and none from place 128 on, as byte shuffles have it.
+#[tactic(auto, unfolding(crate::proofs::OnLiterals::stored_on_literals))]
+pub fn lookup_examples()
+    ensures entry { looked (bytes 16 0xf0f1f2f3f4f5f6f7f8f9fafbfcfdfeff) 15 ≡ 0xff }
+    ensures none { looked (bytes 16 0xf0f1f2f3f4f5f6f7f8f9fafbfcfdfeff) 128 ≡ 0 }
+{}
+
+/// Round key 3 of 11, forward and backward.
+pub fn place_examples()
+    ensures forward { place_of false 10 3 ≡ 3 }
+    ensures backward { place_of true 10 3 ≡ 7 }
+{}
+
+/// The stored round keys of Cipher for the key of FIPS 197, C.1, and that key.
+#[tactic(auto, using(aes_planes::proofs::OnLiterals::keys), unfolding(aes_planes::proofs::OnLiterals::aes_by_table, crate::proofs::OnLiterals::stored_on_literals))]
+pub fn encrypting_keys()
+    ensures stored { encrypting (map (bytes 16) (
+        0x000102030405060708090a0b0c0d0e0f ∷
+        0x20dfb6e70df387d72ad5bced20deaafa ∷
+        0x53838054301e69ed74a5bb6e3a157ffa ∷
+        0x53fbb6f60d8bb17517406475433b75e1 ∷
+        0xd0dcdc68b3390373ca170968e74212e7 ∷
+        0x1fdff94dc288945066f1f356efdd8fdf ∷
+        0x70337990dcd583aed44a1e9655f9ff27 ∷
+        0xc5ca9bd377717613cd5506ebf6c297a2 ∷
+        0xd0fd2939c9e231446ad959c1f275a00d ∷
+        0x4bb90910ec35563ae88261957499aff6 ∷
+        0x70727e1c80f729749064c4e82e4853a6 ∷
+        [])) ≡ fips.key_expansion (bytes 16 0x000102030405060708090a0b0c0d0e0f) }
+{}
+
+/// The stored round keys of EqInvCipher for the same key, and the round keys that C.1 prints for it.
+#[tactic(auto, unfolding(crate::proofs::OnLiterals::stored_on_literals))]
+pub fn decrypting_keys()
+    ensures stored { decrypting (map (bytes 16) (
+        0x70727e1c80f729749064c4e82e4853a6 ∷
+        0xe29d25e1955bf318adce71fd2cad5445 ∷
+        0xe2b58e005beafad514b9aec9ad4f0994 ∷
+        0x8721d015957358f9637f783095da8b71 ∷
+        0x12d18d873e7ea4c0da200ce5da89df6d ∷
+        0x97cb8b360083056bc87284092c85ffa4 ∷
+        0x418971f7bb64a271e4ddad4ec8db5781 ∷
+        0xa217d1efd6c1ffaa73952313002ad6e3 ∷
+        0x55caf0fb58fa02698978f0955f93d9dc ∷
+        0x3261111f211cdebefdaeded0fac70565 ∷
+        0x000102030405060708090a0b0c0d0e0f ∷
+        [])) ≡ map (bytes 16) (
+        0x13111d7fe3944a17f307a78b4d2b30c5 ∷
+        0x13aa29be9c8faff6f770f58000f7bf03 ∷
+        0x1362a4638f2586486bff5a76f7874a83 ∷
+        0x8d82fc749c47222be4dadc3e9c7810f5 ∷
+        0x72e3098d11c5de5f789dfe1578a2cccb ∷
+        0x2ec410276326d7d26958204a003f32de ∷
+        0xa8a2f5044de2c7f50a7ef79869671294 ∷
+        0xc7c6e391e54032f1479c306d6319e50c ∷
+        0xa0db02992286d160a2dc029c2485d561 ∷
+        0x8c56dff0825dd3f9805ad3fc8659d7fd ∷
+        0x000102030405060708090a0b0c0d0e0f ∷
+        []) }
+{}
