@@ -1,0 +1,93 @@
+/* A plugin of qemu that follows what runs between two marks: how many instructions, which ones in which order, and which
+ * addresses they read and write. Each time it meets the second mark it writes a line with tabs: instructions, a hash of
+ * their addresses, reads and writes, a hash of the addresses of those, and byte shuffles (`tbl`).
+ * usage: qemu-aarch64 -plugin plugin.so,out=FILE PROGRAM .. */
+#include <stdbool.h>
+#include <stddef.h>
+#include <stdint.h>
+#include <stdio.h>
+#include <string.h>
+
+/* Debian's packages have no qemu-plugin.h, so what is used of version 1 of the interface stands here. */
+typedef uint64_t qemu_plugin_id_t;
+typedef uint32_t qemu_plugin_meminfo_t;
+struct qemu_plugin_tb;
+struct qemu_plugin_insn;
+enum { NO_REGISTERS = 0, READS_AND_WRITES = 3 };
+void qemu_plugin_register_vcpu_tb_trans_cb(qemu_plugin_id_t, void (*)(qemu_plugin_id_t, struct qemu_plugin_tb *));
+void qemu_plugin_register_vcpu_insn_exec_cb(struct qemu_plugin_insn *, void (*)(unsigned, void *), int, void *);
+void qemu_plugin_register_vcpu_mem_cb(struct qemu_plugin_insn *,
+    void (*)(unsigned, qemu_plugin_meminfo_t, uint64_t, void *), int, int, void *);
+void qemu_plugin_register_atexit_cb(qemu_plugin_id_t, void (*)(qemu_plugin_id_t, void *), void *);
+size_t qemu_plugin_tb_n_insns(const struct qemu_plugin_tb *);
+struct qemu_plugin_insn *qemu_plugin_tb_get_insn(const struct qemu_plugin_tb *, size_t);
+const void *qemu_plugin_insn_data(const struct qemu_plugin_insn *);
+uint64_t qemu_plugin_insn_vaddr(const struct qemu_plugin_insn *);
+__attribute__((visibility("default"))) int qemu_plugin_version = 1;
+
+/* The marks are hints that no processor knows, so that they do nothing: see marks.h. */
+enum { HINT = 0xd503201f, BEGIN = HINT | 112 << 5, END = HINT | 113 << 5 };
+/* tbl by one to four registers, of eight or sixteen bytes. */
+enum { TBL = 0x0e000000, TBL_BITS = 0xbfe09c00 };
+
+static FILE *out;
+static bool on;
+static uint64_t instructions, order, accesses, places, shuffles;
+
+static uint64_t mixed(uint64_t hash, uint64_t with) {
+    hash = (hash ^ with) * 0x9e3779b97f4a7c15u;
+    return hash ^ hash >> 29;
+}
+static void executed(unsigned cpu, void *at) {
+    (void)cpu;
+    instructions += on;
+    order = mixed(order, (uintptr_t)at);
+}
+static void shuffled(unsigned cpu, void *at) {
+    shuffles += on;
+    executed(cpu, at);
+}
+static void accessed(unsigned cpu, qemu_plugin_meminfo_t how, uint64_t address, void *at) {
+    (void)cpu, (void)at;
+    accesses += on;
+    places = mixed(places, address ^ (uint64_t)how << 48);
+}
+static void began(unsigned cpu, void *at) {
+    (void)cpu, (void)at;
+    instructions = order = accesses = places = shuffles = 0;
+    on = true;
+}
+static void ended(unsigned cpu, void *at) {
+    (void)cpu, (void)at;
+    on = false;
+    fprintf(out, "%llu\t%016llx\t%llu\t%016llx\t%llu\n", (unsigned long long)instructions, (unsigned long long)order,
+        (unsigned long long)accesses, (unsigned long long)places, (unsigned long long)shuffles);
+}
+
+static void translated(qemu_plugin_id_t id, struct qemu_plugin_tb *block) {
+    (void)id;
+    for (size_t i = 0; i < qemu_plugin_tb_n_insns(block); i++) {
+        struct qemu_plugin_insn *it = qemu_plugin_tb_get_insn(block, i);
+        uint32_t code;
+        memcpy(&code, qemu_plugin_insn_data(it), sizeof code);
+        void (*call)(unsigned, void *) = code == BEGIN ? began : code == END ? ended :
+            (code & TBL_BITS) == TBL ? shuffled : executed;
+        void *at = (void *)(uintptr_t)qemu_plugin_insn_vaddr(it);
+        qemu_plugin_register_vcpu_insn_exec_cb(it, call, NO_REGISTERS, at);
+        qemu_plugin_register_vcpu_mem_cb(it, accessed, NO_REGISTERS, READS_AND_WRITES, at);
+    }
+}
+static void closed(qemu_plugin_id_t id, void *nothing) {
+    (void)id, (void)nothing;
+    fclose(out);
+}
+
+__attribute__((visibility("default"))) int qemu_plugin_install(qemu_plugin_id_t id, const void *about, int count,
+    char **words) {
+    (void)about;
+    if (count != 1 || strncmp(words[0], "out=", 4) || !(out = fopen(words[0] + 4, "w")))
+        return 1;
+    qemu_plugin_register_vcpu_tb_trans_cb(id, translated);
+    qemu_plugin_register_atexit_cb(id, closed, NULL);
+    return 0;
+}
