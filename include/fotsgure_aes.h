@@ -37,8 +37,8 @@
 #include <stdint.h>
 
 /* The version of this header; fotsgure_aes_version() returns that of the library. */
-#define FOTSGURE_AES_VERSION_TEXT "0.1.0"
-#define FOTSGURE_AES_VERSION 100 /* 10000 * 0 + 100 * 1 + 0 */
+#define FOTSGURE_AES_VERSION_TEXT "0.2.0"
+#define FOTSGURE_AES_VERSION 200 /* 10000 * 0 + 100 * 2 + 0 */
 
 #define FOTSGURE_AES_BLOCK 16    /* bytes of a block */
 #define FOTSGURE_AES_STACK 16384 /* bytes of stack that are enough for every call */
@@ -91,15 +91,17 @@ FOTSGURE_AES_ASSERT(sizeof(struct fotsgure_aes_ctr) == 24, "no padding");
 /* Returns FOTSGURE_AES_VERSION of the header that the library was built with. */
 uint32_t fotsgure_aes_version(void) FOTSGURE_AES_NOEXCEPT;
 
-/* Expands a key into *aes (KeyExpansion, FIPS 197, 5.2). What *aes held is gone; it may be uninitialized.
- * DONE if key_length is 16, 24 or 32; else KEY_LENGTH, and *aes then holds no key. */
+/* Expands a key into *aes (KeyExpansion, FIPS 197, 5.2). *aes may be uninitialized: none of it is read. What it held is
+ * gone: every byte that no round key of the new key takes is 0.
+ * DONE if key_length is 16, 24 or 32; else KEY_LENGTH, and *aes then is all zeros and holds no key. */
 FOTSGURE_AES_CHECK enum fotsgure_aes_status fotsgure_aes_set_key(struct fotsgure_aes *FOTSGURE_AES_ALONE aes,
     const uint8_t *key, size_t key_length) FOTSGURE_AES_NOEXCEPT;
 
 /* Returns how many bytes the key has: 16, 24 or 32, or 0 if *aes holds no key. */
 size_t fotsgure_aes_key_length(const struct fotsgure_aes *aes) FOTSGURE_AES_NOEXCEPT;
 
-/* Overwrites *aes with zeros: it then holds no key. It may be uninitialized. Copies are not wiped. */
+/* Overwrites *aes with zeros: it then holds no key. It may be uninitialized: zeros are written before any of it is
+ * read. Copies are not wiped. */
 void fotsgure_aes_wipe(struct fotsgure_aes *aes) FOTSGURE_AES_NOEXCEPT;
 
 /* Encrypts (Cipher, FIPS 197, 5.1) or decrypts (InvCipher, 5.3) each of `count` blocks in place under the key of *aes.
@@ -132,8 +134,8 @@ FOTSGURE_AES_CHECK enum fotsgure_aes_status fotsgure_aes_add_keystream_to(const 
     const uint8_t *input, size_t input_count,
     uint8_t *FOTSGURE_AES_ALONE output, size_t output_count) FOTSGURE_AES_NOEXCEPT;
 
-/* In one call, under a key whose schedule is wiped before the call returns; each costs a key expansion. KEY_LENGTH if
- * key_length isn't 16, 24 or 32, else as above. */
+/* In one call, under a key; each costs a key expansion. The round keys that the call keeps for its work are wiped before
+ * it returns. KEY_LENGTH if key_length isn't 16, 24 or 32, else as above. */
 FOTSGURE_AES_CHECK enum fotsgure_aes_status fotsgure_aes_encrypt_blocks_with(const uint8_t *key, size_t key_length,
     uint8_t *FOTSGURE_AES_ALONE blocks, size_t count) FOTSGURE_AES_NOEXCEPT;
 FOTSGURE_AES_CHECK enum fotsgure_aes_status fotsgure_aes_decrypt_blocks_with(const uint8_t *key, size_t key_length,

@@ -1,5 +1,5 @@
 -- The struct that a caller keeps: how many bytes the key has, and its stored round keys for both directions.
-use Rattle.std.specs.Prelude.{◌≡◌, ◌⊎◌, ℕ, ◌+◌, ◌/◌, List, take}
+use Rattle.std.specs.Prelude.{◌≡◌, ◌⊎◌, ℕ, ◌+◌, ◌-◌, ◌/◌, List, take, drop, replicate}
 use Rattle.aes_hybrid.specs.Lanes.{lanes_key, IsLanes, AreInverse}
 
 -- a number of bytes that a key can have
@@ -9,6 +9,10 @@ IsKeyLength n = (n ≡ 16) ⊎ ((n ≡ 24) ⊎ (n ≡ 32))
 -- the stored round keys of a key of n bytes: the first 11, 13 or 15 blocks
 abbrev pub first_keys : ℕ → List (List ℕ) → List (List ℕ)
 first_keys n blocks = take (n / 4 + 7) blocks
+
+-- the blocks after those of a key of n bytes are zero, so that none of another key's is left there
+abbrev pub AreZeroAfter : ℕ → List (List ℕ) → Type 0
+AreZeroAfter n blocks = drop (n / 4 + 7) blocks ≡ replicate (15 - (n / 4 + 7)) (replicate 16 0)
 
 -- the key of n bytes that blocks are read as
 abbrev pub key_in : ℕ → List (List ℕ) → List ℕ

@@ -1,9 +1,9 @@
 //! The struct that a caller keeps: a key as its stored round keys.
 
-ghost use Rattle.std.specs.Prelude.{◌≡◌, ◌≢◌, ◌↔◌, true};
-ghost use Rattle.std.specs.Prelude.{length, replicate};
+ghost use Rattle.std.specs.Prelude.{◌≡◌, ◌≢◌, ◌↔◌, ◌+◌, ◌/◌, true};
+ghost use Rattle.std.specs.Prelude.{drop, length, replicate};
 ghost use Rattle.aes_hybrid.specs.Lanes.{lanes_key, IsLanes, AreInverse};
-ghost use Rattle.aes_c.specs.Kept.{first_keys, key_in, IsKeyLength, IsMade};
+ghost use Rattle.aes_c.specs.Kept.{first_keys, key_in, AreZeroAfter, IsKeyLength, IsMade};
 
 use crate::status::{DONE, KEY_LENGTH};
 use aes_cipher::zeroize::{Zeroize, zeroize_elements};
@@ -38,8 +38,11 @@ impl Zeroize for Aes {
         }
     }
 
+    #[inline(always)]
     fn zeroize(&mut self) {
-        fotsgure_aes_wipe(self);
+        self.key_length = 0;
+        zeroize_elements(&mut self.encrypting);
+        zeroize_elements(&mut self.decrypting);
     }
 }
 
@@ -58,6 +61,7 @@ pub(crate) fn put_keys(blocks: &mut [Block; 15], key: &[u8])
     requires { IsKeyLength (length key.now) }
     ensures lanes { IsLanes (first_keys (length key.now) blocks.new) }
     ensures key { key_in (length key.now) blocks.new ≡ key.now }
+    ensures after { drop (length key.now / 4 + 7) blocks.new ≡ drop (length key.now / 4 + 7) blocks.old }
 {
     put_encrypting(&mut blocks[..key.len() / 4 + 7], key);
 }
@@ -67,7 +71,8 @@ pub(crate) fn put_keys(blocks: &mut [Block; 15], key: &[u8])
 fn put_inverse(inverse: &mut [Block; 15], blocks: &[Block; 15], key_length: usize)
     requires length { IsKeyLength key_length }
     requires lanes { IsLanes (first_keys key_length blocks.now) }
-    ensures { AreInverse (first_keys key_length inverse.new) (first_keys key_length blocks.now) }
+    ensures inverse { AreInverse (first_keys key_length inverse.new) (first_keys key_length blocks.now) }
+    ensures after { drop (key_length / 4 + 7) inverse.new ≡ drop (key_length / 4 + 7) inverse.old }
 {
     put_decrypting(
         &mut inverse[..key_length / 4 + 7],
@@ -90,7 +95,8 @@ pub(crate) fn holds_key(aes: &Aes) -> bool
 }
 
 /// Expands a key into the struct (KeyExpansion, FIPS 197, 5.2). Returns `DONE` exactly if the key has 16, 24 or 32
-/// bytes, else `KEY_LENGTH`; the struct then holds no key, whatever it held before.
+/// bytes, else `KEY_LENGTH`; the struct then holds no key. Nothing of what it held before is left in either case: its
+/// blocks are the round keys of the new key, and zeros after them.
 #[unsafe(no_mangle)]
 pub extern "C" fn fotsgure_aes_set_key(aes: &mut Aes, key: &[u8]) -> u32
     ensures done { result ≡ DONE ↔ IsKeyLength (length key.now) }
@@ -98,11 +104,15 @@ pub extern "C" fn fotsgure_aes_set_key(aes: &mut Aes, key: &[u8]) -> u32
     ensures made { IsMade aes.new.key_length aes.new.encrypting aes.new.decrypting }
     ensures key { result ≡ DONE → key_in aes.new.key_length aes.new.encrypting ≡ key.now }
     ensures length { result ≡ DONE → aes.new.key_length ≡ length key.now }
+    ensures after_encrypting { result ≡ DONE → AreZeroAfter (length key.now) aes.new.encrypting }
+    ensures after_decrypting { result ≡ DONE → AreZeroAfter (length key.now) aes.new.decrypting }
     ensures none { result ≢ DONE → aes.new.key_length ≡ 0 }
     ensures wiped_encrypting { result ≢ DONE → aes.new.encrypting ≡ replicate 15 (replicate 16 0) }
     ensures wiped_decrypting { result ≢ DONE → aes.new.decrypting ≡ replicate 15 (replicate 16 0) }
 {
-    fotsgure_aes_wipe(aes);
+    // Nothing is read of a struct that may be uninitialized. No compiler takes these zeros away where they stay: the
+    // caller owns the struct, and can read what the call leaves in it.
+    *aes = Aes::zero();
     if !is_key_length(key.len()) {
         return KEY_LENGTH;
     }
@@ -132,7 +142,7 @@ pub extern "C" fn fotsgure_aes_wipe(aes: &mut Aes)
     ensures encrypting { aes.new.encrypting ≡ replicate 15 (replicate 16 0) }
     ensures decrypting { aes.new.decrypting ≡ replicate 15 (replicate 16 0) }
 {
-    aes.key_length = 0;
-    zeroize_elements(&mut aes.encrypting);
-    zeroize_elements(&mut aes.decrypting);
+    // A wipe looks at what it overwrites, and the struct may be uninitialized: so zeros are written first.
+    *aes = Zeroize::zero();
+    aes.zeroize();
 }

@@ -7,6 +7,7 @@
 ghost use Rattle.std.specs.Prelude.{◌≡◌};
 
 mod blocks;
+pub mod examples;
 mod kept;
 mod once;
 mod status;
@@ -27,7 +28,7 @@ pub use status::{DONE, KEY_LENGTH, KEYSTREAM_END, NO_KEY, UNEQUAL_COUNTS};
 pub use stream::{Ctr, fotsgure_aes_add_keystream, fotsgure_aes_add_keystream_to};
 
 /// The version of the interface: 10000 times the first number, 100 times the second, plus the third.
-pub const VERSION: u32 = 100;
+pub const VERSION: u32 = 200;
 
 /// Returns the version of the library; programs compare it with that of their header.
 #[unsafe(no_mangle)]

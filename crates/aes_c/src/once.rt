@@ -1,10 +1,11 @@
 //! Calls that take a key and keep none of it.
 
-ghost use Rattle.std.specs.Prelude.{◌≡◌, ◌≢◌, ◌↔◌, ◌+◌, ◌-◌, ◌^◌, ◌<◌, ◌≤◌, length};
+ghost use Rattle.std.specs.Prelude.{◌≡◌, ◌≢◌, ◌↔◌, ◌+◌, ◌-◌, ◌/◌, ◌^◌, ◌<◌, ◌≤◌, length};
 ghost use Rattle.aes_planes.specs.Each.{Each};
 ghost use Rattle.aes_planes.specs.Fips197 as fips;
 ghost use Rattle.aes_ctr.specs.CounterMode.{keystream_byte, plus_stream};
-ghost use Rattle.aes_c.specs.Kept.{IsKeyLength};
+ghost use Rattle.aes_permute.specs.Stored.{round_keys_of};
+ghost use Rattle.aes_c.specs.Kept.{first_keys, IsKeyLength};
 
 use crate::blocks::process_under;
 use crate::kept::{Aes, fotsgure_aes_set_key, is_key_length, keys_of, put_keys};
@@ -13,8 +14,45 @@ use crate::stream::Ctr;
 use aes_cipher::cipher::{Decrypt, Encrypt};
 use aes_cipher::zeroize::Held;
 use aes_hybrid::add_keystream;
-use aes_hybrid::blocks::process_blocks;
+use aes_hybrid::blocks::{BATCH, process_blocks};
+use aes_permute::blocks::process_blocks as process_on_lanes;
+use aes_permute::directions::LaneRounds;
+use aes_permute::schedule::{expand_128, expand_192, expand_256};
+use aes_planes::laws;
 use aes_planes::soft::word::Block;
+
+// Writes the stored round keys of a key as a direction uses them: KeyExpansion (FIPS 197, 5.2), and KeyExpansionEIC for
+// decrypting (5.3.5).
+#[inline(always)]
+fn put_used<D: LaneRounds>(blocks: &mut [Block; 15], key: &[u8])
+    requires { IsKeyLength (length key.now) }
+    ensures { round_keys_of D.first_byte D.inner_byte D.last_byte (first_keys (length key.now) blocks.new)
+        ≡ D.used_keys (fips.key_expansion key.now) }
+{
+    let keys = &mut blocks[..key.len() / 4 + 7];
+    if key.len() == 16 {
+        expand_128::<D>(keys, key);
+    } else if key.len() == 24 {
+        expand_192::<D>(keys, key);
+    } else {
+        expand_256::<D>(keys, key);
+    }
+}
+
+// Processes each of few blocks in place, which takes the round keys of that direction alone.
+fn process_few<D: LaneRounds>(key: &[u8], blocks: &mut [Block])
+    requires { IsKeyLength (length key.now) }
+    ensures { Each (D.processed (fips.key_expansion key.now)) blocks.old blocks.new }
+{
+    D::processes();
+    D::uses_all();
+    let mut kept = Held::<[Block; 15]>::zeroed();
+    put_used::<D>(kept.words_mut(), key);
+    let used = keys_of(kept.words(), key.len());
+    laws::are_blocks(used);
+    process_on_lanes::<D>(used, blocks);
+    kept.wipe();
+}
 
 /// Encrypts each block in place under a key (Cipher, FIPS 197, 5.1). Returns `DONE` exactly if the key has 16, 24 or 32
 /// bytes, else `KEY_LENGTH`.
@@ -45,6 +83,10 @@ pub extern "C" fn fotsgure_aes_decrypt_blocks_with(key: &[u8], blocks: &mut [Blo
     ensures blocks { result ≡ DONE → Each (fips.inv_cipher key.now) blocks.old blocks.new }
     ensures untouched { result ≢ DONE → blocks.new ≡ blocks.old }
 {
+    if is_key_length(key.len()) && blocks.len() < BATCH {
+        process_few::<Decrypt>(key, blocks);
+        return DONE;
+    }
     let mut kept = Held::<Aes>::zeroed();
     if fotsgure_aes_set_key(kept.words_mut(), key) != DONE {
         return KEY_LENGTH;

@@ -1,0 +1,26 @@
+-- What is left to show of `once::process_few`.
+use Rattle.std.proofs.Common.{rules, ◌≡◌, map, ap, ◌∙◌}
+use Rattle.aes_planes.specs.Fips197 as fips
+use Rattle.aes_planes.specs.Rounds.{all_rounds}
+use Rattle.aes_planes.proofs.Planes.Held.{map-same}
+use Rattle.aes_planes.proofs.Standard.CipherLaws.{two_keys}
+use Rattle.aes_permute.proofs.KeyBytes.{two_stored}
+use Rattle.aes_permute.specs.Stored.{round_keys_of}
+use Rattle.aes_c.proofs.once.process_few.Goals as goal
+
+pub process_blocks-requires : goal.process_blocks-requires
+process_blocks-requires g c =
+    let used : round_keys_of g.D.LaneRounds.first_byte g.D.LaneRounds.inner_byte g.D.LaneRounds.last_byte
+    c.keys_of-used.result.now ≡ g.D.LaneRounds.used_keys (fips.key_expansion c.args.key.now) = search rules in
+    record {
+      two = two_stored _ _ _ _ c.uses_all.ensures _ c.args.key.now used;
+      blocks = c.are_blocks.ensures;
+    }
+
+pub returns : goal.returns
+returns g c =
+    let used : round_keys_of g.D.LaneRounds.first_byte g.D.LaneRounds.inner_byte g.D.LaneRounds.last_byte
+    c.keys_of-used.result.now ≡ g.D.LaneRounds.used_keys (fips.key_expansion c.args.key.now) = search rules in
+    c.process_blocks.ensures
+    ∙ ap (λ v. map (all_rounds g.D.LaneRounds.step g.D.LaneRounds.last_step v) c.args.blocks.now) used
+    ∙ map-same _ _ c.args.blocks.now (λ b. c.processes.ensures _ b (two_keys _))
