@@ -1,8 +1,10 @@
 //! Blocks under stored round keys: few by vector permutations, whole batches of many on planes.
 
-ghost use Rattle.std.specs.Prelude.{◌≡◌, ◌*◌, ◌%◌, ◌≤◌, length};
+ghost use Rattle.std.specs.Prelude.{◌≡◌, ◌⊎◌, ◌-◌, ◌*◌, ◌%◌, ◌<◌, ◌≤◌, ◌++◌, length, map, take, drop};
 ghost use Rattle.aes_planes.specs.Each.{Each};
 ghost use Rattle.aes_planes.specs.Fips197 as fips;
+ghost use Rattle.aes_planes.specs.Words.{word_bits};
+ghost use Rattle.aes_soft.specs.Stored as soft;
 ghost use Rattle.aes_permute.specs.Keys.{encrypting};
 ghost use Rattle.aes_permute.specs.Stored.{round_keys_of};
 ghost use Rattle.aes_hybrid.specs.Lanes.{lanes_key, IsLanes};
@@ -15,13 +17,66 @@ use aes_planes::laws;
 use aes_planes::soft::sbox::Layers;
 use aes_planes::soft::word::Block;
 use aes_soft::soft::FullCipher;
-use aes_soft::soft::blocks::process_batches_under;
+use aes_soft::soft::blocks::{process_batch_under, process_batches_under};
 use aes_soft::soft::key_sizes::BatchWord;
 
 /// How many blocks planes hold.
 pub const BATCH: usize = 8;
 
-// Processes each block of whole batches on planes, which are wiped before the call returns.
+// The most blocks for which vector permutations take less time than a batch on planes, once the planes of the round keys
+// are made.
+pub(crate) const FEW: usize = 5;
+
+// Processes the last blocks, six or seven, as a batch with those before them, which then get back what they held.
+#[inline(never)]
+fn process_last<D: FullCipher>(words: &[BatchWord], blocks: &mut [Block], count: usize)
+    requires least { 88 ≤ length words.now }
+    requires most { length words.now ≤ 120 }
+    requires half_over { length words.now % 16 ≡ 8 }
+    requires is_schedule { let n = length words.now in
+        soft.IsKeyed (soft.size_of n) 8 (soft.full (soft.rounds_of n)) (map (word_bits 128) words.now) }
+    requires batch { 8 ≤ length blocks.old }
+    requires some { 6 ≤ count }
+    requires fewer { count ≤ 7 }
+    ensures { let n = length words.now in
+        let key = soft.key_of (soft.size_of n) 8 (soft.full (soft.rounds_of n)) (map (word_bits 128) words.now) in
+        let before = length blocks.old - count in
+        blocks.new
+        ≡ take before blocks.old ++ map (D.processed (fips.key_expansion key)) (drop before blocks.old) }
+{
+    let start = blocks.len() - BATCH;
+    let first = blocks[start];
+    let second = blocks[start + 1];
+    process_batch_under::<BatchWord, D>(words, &mut blocks[start..], &mut Layers::new());
+    blocks[start] = first;
+    if count == 6 {
+        blocks[start + 1] = second;
+    }
+}
+
+// Processes each block on planes of round keys: what is left after whole batches, and these.
+#[inline(always)]
+fn process_in_batches<D: FullCipher>(words: &[BatchWord], blocks: &mut [Block])
+    requires least { 88 ≤ length words.now }
+    requires most { length words.now ≤ 120 }
+    requires half_over { length words.now % 16 ≡ 8 }
+    requires is_schedule { let n = length words.now in
+        soft.IsKeyed (soft.size_of n) 8 (soft.full (soft.rounds_of n)) (map (word_bits 128) words.now) }
+    requires batch { 8 ≤ length blocks.old }
+    requires rest { (length blocks.old % 8 ≡ 0) ⊎ (6 ≤ length blocks.old % 8) }
+    ensures { let n = length words.now in
+        let key = soft.key_of (soft.size_of n) 8 (soft.full (soft.rounds_of n)) (map (word_bits 128) words.now) in
+        Each (D.processed (fips.key_expansion key)) blocks.old blocks.new }
+{
+    let rest = blocks.len() % BATCH;
+    let whole = blocks.len() - rest;
+    if rest > 0 {
+        process_last::<D>(words, blocks, rest);
+    }
+    process_batches_under::<BatchWord, D>(words, &mut blocks[..whole], &mut Layers::new());
+}
+
+// Processes each block on planes, which are wiped before the call returns.
 #[inline(always)]
 fn process_with_planes<const N: usize, D: LaneRounds + FullCipher>(
     keys: &[Block],
@@ -30,20 +85,23 @@ fn process_with_planes<const N: usize, D: LaneRounds + FullCipher>(
     requires room { 8 * length keys.now ≤ N }
     requires most { N ≤ 120 }
     requires is_lanes { IsLanes keys.now }
-    requires whole { length blocks.old % 8 ≡ 0 }
+    requires batch { 8 ≤ length blocks.old }
+    requires rest { (length blocks.old % 8 ≡ 0) ⊎ (6 ≤ length blocks.old % 8) }
     ensures { Each (D.processed (fips.key_expansion (lanes_key keys.now))) blocks.old blocks.new }
 {
     let mut wide = Held::<[BatchWord; N]>::zeroed();
     put_wide(wide.words_mut(), keys);
     let words = &wide.words()[..8 * keys.len()];
-    process_batches_under::<BatchWord, D>(words, blocks, &mut Layers::new());
+    process_in_batches::<D>(words, blocks);
     wide.wipe();
 }
 
-// The same, with no more room than the round keys take.
+// The same, with no more room than the round keys take. A call of its own, so that few blocks need no large frame.
+#[inline(never)]
 fn process_on_planes<D: LaneRounds + FullCipher>(keys: &[Block], blocks: &mut [Block])
     requires is_lanes { IsLanes keys.now }
-    requires whole { length blocks.old % 8 ≡ 0 }
+    requires batch { 8 ≤ length blocks.old }
+    requires rest { (length blocks.old % 8 ≡ 0) ⊎ (6 ≤ length blocks.old % 8) }
     ensures { Each (D.processed (fips.key_expansion (lanes_key keys.now))) blocks.old blocks.new }
 {
     if keys.len() == 11 {
@@ -55,8 +113,39 @@ fn process_on_planes<D: LaneRounds + FullCipher>(keys: &[Block], blocks: &mut [B
     }
 }
 
-/// Processes each block of a slice in place: whole batches on planes, and the others by vector permutations, since fewer
-/// than eight take less time so. `keys` are the stored round keys of Cipher, and `used` those of the direction.
+// Processes each block by vector permutations.
+#[inline(always)]
+pub(crate) fn process_few<D: LaneRounds>(keys: &[Block], used: &[Block], blocks: &mut [Block])
+    requires is_lanes { IsLanes keys.now }
+    requires used { round_keys_of D.first_byte D.inner_byte D.last_byte used.now ≡ D.used_keys (encrypting keys.now) }
+    ensures { Each (D.processed (fips.key_expansion (lanes_key keys.now))) blocks.old blocks.new }
+{
+    let _ = keys;
+    D::processes();
+    D::uses_all();
+    laws::are_blocks(used);
+    process_on_lanes::<D>(used, blocks);
+}
+
+// How many of a number of blocks are processed on planes: whole batches, and what is left after them if it is more than
+// few.
+#[inline(always)]
+fn blocks_on_planes(count: usize) -> usize
+    ensures inside { result ≤ count }
+    ensures batch { 0 < result → 8 ≤ result }
+    ensures rest { (result % 8 ≡ 0) ⊎ (6 ≤ result % 8) }
+{
+    let rest = count % BATCH;
+    if rest > FEW && count > BATCH {
+        count
+    } else {
+        count - rest
+    }
+}
+
+/// Processes each block of a slice in place: whole batches on planes, and the others by vector permutations where they
+/// are few, since these take less time so. `keys` are the stored round keys of Cipher, and `used` those of the
+/// direction.
 pub fn process_blocks<D: LaneRounds + FullCipher>(
     keys: &[Block],
     used: &[Block],
@@ -66,12 +155,9 @@ pub fn process_blocks<D: LaneRounds + FullCipher>(
     requires used { round_keys_of D.first_byte D.inner_byte D.last_byte used.now ≡ D.used_keys (encrypting keys.now) }
     ensures { Each (D.processed (fips.key_expansion (lanes_key keys.now))) blocks.old blocks.new }
 {
-    D::processes();
-    D::uses_all();
-    laws::are_blocks(used);
-    let whole = blocks.len() - blocks.len() % BATCH;
+    let whole = blocks_on_planes(blocks.len());
     if whole > 0 {
         process_on_planes::<D>(keys, &mut blocks[..whole]);
     }
-    process_on_lanes::<D>(used, &mut blocks[whole..]);
+    process_few::<D>(keys, used, &mut blocks[whole..]);
 }
