@@ -1,6 +1,6 @@
 //! The sets of directions that a cipher works in.
 
-use aes_cipher::cipher::{Decrypt, Direction, Encrypt};
+use crate::cipher::{Decrypt, Direction, Encrypt};
 
 /// A set of directions: both, only encryption or only decryption.
 pub trait Directions {
