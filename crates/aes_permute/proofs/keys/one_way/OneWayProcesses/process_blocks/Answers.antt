@@ -1,9 +1,9 @@
--- What is left to show of `ciphers::under::process_blocks_under`.
+-- What is left to show of `keys::one_way::OneWayProcesses::process_blocks`.
 use Rattle.std.proofs.Common.{map, ap, ◌∙◌}
 use Rattle.aes_planes.specs.Rounds.{all_rounds}
 use Rattle.aes_planes.proofs.Planes.Held.{map-same}
 use Rattle.aes_planes.proofs.Standard.CipherLaws.{two_keys}
-use Rattle.aes_permute.proofs.ciphers.under.process_blocks_under.Goals as goal
+use Rattle.aes_permute.proofs.keys.one_way.OneWayProcesses.process_blocks.Goals as goal
 
 pub returns : goal.returns
 returns g c =
