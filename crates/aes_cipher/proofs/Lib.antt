@@ -1,5 +1,6 @@
 -- The files of lemmas.
 pub mod BlockNumbers
 pub mod ByteBlocks
+pub mod FirstBlocks
 pub mod SliceRuns
 pub mod Zeros

@@ -1,8 +1,9 @@
 -- Which block of a row a byte falls in, and sums of data and a row of blocks.
 use Rattle.std.proofs.Common.{◌≡◌, ℕ, ◌+◌, ◌*◌, ◌/◌, ◌%◌, ◌<◌, ◌≤◌, List, [], ◌++◌, length, slice_index, slice_index_or}
-use Rattle.std.proofs.Common.{map, drop, ap, ◌∙◌, sym, arith}
+use Rattle.std.proofs.Common.{map, take, drop, ap, ◌∙◌, sym, arith}
 use Rattle.std.proofs.lemmas.List.{append-nil, drop_all, get_or-map, take_all}
 use Rattle.aes_planes.specs.Fips197.{cipher_with}
+use Rattle.aes_cipher.proofs.FirstBlocks.{first_at}
 use Rattle.aes_cipher.proofs.SliceRuns.{finished}
 use Rattle.aes_ctr.specs.CounterMode.{counter_block, keystream_byte, plus_stream}
 use Rattle.aes_ctr.specs.Private.{byte_of_blocks}
@@ -63,3 +64,11 @@ ciphered w iv first n k m xs counted end kept long at lt =
     ∙ ap (λ l. xs ++ map f l) (drop_all n xs end) ∙ append-nil xs in
     ap (λ l. slice_index_or l k []) (sym all ∙ kept) ∙ get_or-map f counted k [] [] (omega (arith, long))
     ∙ ap f (at k lt)
+
+-- where the first counter blocks of a batch are ciphered, they are blocks of the keystream
+pub ciphered_first : (w : List (List ℕ)) (iv : List ℕ) (first n k : ℕ) (xs ys : List (List ℕ))
+    → take n ys ≡ map (cipher_with w) (take n xs) → n ≤ length xs
+    → ((i : ℕ) → i < n → slice_index_or xs i [] ≡ counter_block iv (first + i)) → k < n
+    → slice_index_or ys k [] ≡ cipher_with w (counter_block iv (first + k))
+ciphered_first w iv first n k xs ys firsts fits at lt =
+    first_at (cipher_with w) n k xs ys [] firsts lt fits ∙ ap (cipher_with w) (at k lt)

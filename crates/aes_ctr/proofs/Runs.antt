@@ -5,13 +5,9 @@ use Rattle.std.proofs.lemmas.List.{append-nil, drop-drop, take-append-drop, take
 use Rattle.std.proofs.lemmas.List.{drop_all, length-take, length-drop, drop-set-lt}
 use Rattle.std.proofs.lemmas.Slice.{take-put_mid, drop-put_mid}
 use Rattle.aes_ctr.specs.CounterMode.{plus_stream}
+use Rattle.aes_ctr.specs.Private.{added_from}
 use Rattle.aes_ctr.proofs.Sums.{length-plus, plus-agree, plus-nil, plus-cons, plus-append, plus-whole}
 use borrow.Rule.Slice.PartMut.{put_mid}
-
--- what a loop leaves in the end that has come to place i: the bytes before it, and the sum of the stream and those from
--- it on
-abbrev pub added_from : (ℕ → ℕ) → ℕ → ℕ → List ℕ → List ℕ
-added_from s p i xs = take i xs ++ plus_stream s (p + i) (drop i xs)
 
 -- the sum of the stream and a run of n bytes from place i on, written in their places; what adds it may take the stream
 -- from elsewhere

@@ -2,6 +2,7 @@
 
 ghost use Rattle.std.specs.Prelude.{◌≡◌, ℕ, ◌+◌, ◌*◌, ◌/◌, ◌%◌, ◌^◌, ◌<◌, ◌≤◌, length};
 ghost use Rattle.aes_ctr.specs.CounterMode.{keystream_byte, plus_stream};
+ghost use Rattle.aes_ctr.specs.Private.{added_from};
 
 use crate::adding::add_blocks;
 use crate::keystream::{count_on, fill_by_backend, fill_with_keystream};
@@ -9,10 +10,6 @@ use aes_cipher::cipher::{Block, BlockCipherEncBackend, BlockCipherEncClosure, Bl
 
 // How many blocks a backend's batch may have, so that there is room for it.
 const ROOM: usize = 16;
-
-// A batch is taken to be as quick as a quarter of its blocks one by one: `aes` encrypts eight blocks at once in less
-// time than two one by one.
-const BATCH_SPEED: usize = 4;
 
 // Adds to bytes of one block the keystream from one position on.
 #[tactic(auto, using(crate::proofs::Places::plus_blocks))]
@@ -25,16 +22,13 @@ fn add_to_one<C: BlockCipherEncrypt>(cipher: &C, iv: &Block, position: u64, byte
     add_blocks(&room, (position % 16) as usize, bytes);
 }
 
-// How many blocks a backend encrypts next for bytes that begin so many bytes into a block: a batch as soon as that is
-// quicker than one block after the other, and never for one block.
+// How many blocks a backend gets at once: a batch, or one block if there is no room for a batch.
 #[inline(always)]
-fn next_blocks<B: BlockCipherEncBackend>(from: usize, bytes: usize) -> usize
-    requires { from < 16 }
+fn blocks_at_once<B: BlockCipherEncBackend>() -> usize
     ensures some { 1 ≤ result }
     ensures inside { result ≤ 16 }
 {
-    let needed = (from + bytes.min(16 * ROOM)).div_ceil(16);
-    if needed > 1 && B::PAR_BLOCKS <= ROOM && B::PAR_BLOCKS <= BATCH_SPEED * needed {
+    if B::PAR_BLOCKS <= ROOM {
         B::PAR_BLOCKS
     } else {
         1
@@ -57,8 +51,36 @@ fn add_batch<B: BlockCipherEncBackend>(backend: &B, iv: &Block, first: u64, byte
     add_blocks(blocks, 0, bytes);
 }
 
-// Adds to bytes the keystream from one position on, by the backend: whole batches first if the position is the start
-// of a block. A last batch may have more blocks than are left.
+// Adds the keystream from one position on to the bytes from place `done` on, up to the end of a batch that begins with
+// the block of the first, or to all if there are fewer. Returns the place that it has come to.
+fn add_next<B: BlockCipherEncBackend>(
+    backend: &B,
+    iv: &Block,
+    position: u64,
+    done: usize,
+    bytes: &mut [u8],
+) -> usize
+    requires { done ≤ length bytes.old }
+    ensures inside { result ≤ length bytes.old }
+    ensures some { done < length bytes.old → done < result }
+    ensures to_a_block { result < length bytes.old → (position + result) % 16 ≡ 0 }
+    ensures added { let stream = keystream_byte (B.round_keys backend.now) iv.now in
+        position + length bytes.old < 2 ^ 64
+        → added_from stream position result bytes.new ≡ added_from stream position done bytes.old }
+{
+    let place = position.wrapping_add(done as u64);
+    let from = (place % 16) as usize;
+    let mut room = [[0; 16]; ROOM];
+    let blocks = &mut room[..blocks_at_once::<B>()];
+    let part = (16 * blocks.len() - from).min(bytes.len() - done);
+    let count = (from + part).div_ceil(16);
+    fill_by_backend(backend, iv, place / 16, count, blocks);
+    add_blocks(blocks, from, &mut bytes[done..done + part]);
+    done + part
+}
+
+// Adds to bytes the keystream from one position on, by the backend: to the end of a block if the position is inside one,
+// then in whole batches, and then to what is left.
 fn add_by_backend<B: BlockCipherEncBackend>(
     backend: &B,
     iv: &Block,
@@ -69,7 +91,10 @@ fn add_by_backend<B: BlockCipherEncBackend>(
         → bytes.new ≡ plus_stream (keystream_byte (B.round_keys backend.now) iv.now) position bytes.old }
 {
     let mut done = 0;
-    if position % 16 == 0 && B::PAR_BLOCKS <= ROOM {
+    if position % 16 != 0 {
+        done = add_next(backend, iv, position, 0, bytes);
+    }
+    if B::PAR_BLOCKS <= ROOM {
         let size = 16 * B::PAR_BLOCKS;
         'whole: while bytes.len() - done >= size {
             let place = position.wrapping_add(done as u64);
@@ -77,17 +102,8 @@ fn add_by_backend<B: BlockCipherEncBackend>(
             done += size;
         }
     }
-    let mut room = [[0; 16]; ROOM];
     'rest: while done < bytes.len() {
-        let place = position.wrapping_add(done as u64);
-        let from = (place % 16) as usize;
-        let rest = bytes.len() - done;
-        let count = next_blocks::<B>(from, rest);
-        let part = (16 * count - from).min(rest);
-        let blocks = &mut room[..count];
-        fill_by_backend(backend, iv, place / 16, blocks);
-        add_blocks(blocks, from, &mut bytes[done..done + part]);
-        done += part;
+        done = add_next(backend, iv, position, done, bytes);
     }
 }
 
@@ -116,14 +132,16 @@ pub fn add_keystream<C: BlockCipherEncrypt>(cipher: &C, iv: &Block, position: u6
     requires { position + length bytes.old < 2 ^ 64 }
     ensures { bytes.new ≡ plus_stream (keystream_byte (C.round_keys cipher.now) iv.now) position bytes.old }
 {
-    if bytes.len() <= 16 - (position % 16) as usize {
+    let from = (position % 16) as usize;
+    if bytes.len() <= 16 - from {
         add_to_one(cipher, iv, position, bytes);
     } else {
+        let blocks = (from + bytes.len()).div_ceil(16);
         let mut due = Due {
             iv: *iv,
             position,
             bytes,
         };
-        cipher.encrypt_with_backend(&mut due);
+        cipher.encrypt_with_backend_for(blocks, &mut due);
     }
 }

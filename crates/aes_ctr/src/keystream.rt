@@ -1,6 +1,6 @@
 //! Blocks of the keystream.
 
-ghost use Rattle.std.specs.Prelude.{◌≡◌, ℕ, [], ◌+◌, ◌<◌, length, slice_index_or};
+ghost use Rattle.std.specs.Prelude.{◌≡◌, ℕ, [], ◌+◌, ◌<◌, ◌≤◌, length, slice_index_or};
 ghost use Rattle.std.specs.Int.{w128, to_be_bytes};
 ghost use Rattle.aes_planes.specs.Fips197 as fips;
 ghost use Rattle.aes_ctr.specs.CounterMode.{counter_block};
@@ -48,23 +48,25 @@ pub(crate) fn fill_with_keystream<C: BlockCipherEncrypt>(
     cipher.encrypt_blocks(blocks);
 }
 
-// The same by a backend: a batch at once, and else block by block. A call of its own, so that whole batches, which
-// don't need it, are inlined.
-#[tactic(auto, using(crate::proofs::Places::ciphered, aes_cipher::proofs::SliceRuns::finished_one))]
+// Leaves the first blocks of the keystream from one on, `count` of them, by a backend: as the first of a batch, or one
+// by one. A call of its own, so that whole batches, which don't need it, are inlined.
+#[tactic(auto, using(crate::proofs::Places::ciphered, crate::proofs::Places::ciphered_first, aes_cipher::proofs::SliceRuns::finished_one))]
 pub(crate) fn fill_by_backend<B: BlockCipherEncBackend>(
     backend: &B,
     iv: &Block,
     first: u64,
+    count: usize,
     blocks: &mut [Block],
 )
-    ensures { (i : ℕ) → i < length blocks.old → slice_index_or blocks.new i []
+    requires { count ≤ length blocks.old }
+    ensures { (i : ℕ) → i < count → slice_index_or blocks.new i []
         ≡ fips.cipher_with (B.round_keys backend.now) (counter_block iv.now (first + i)) }
 {
-    count_on(iv, first, blocks);
+    count_on(iv, first, &mut blocks[..count]);
     if blocks.len() == B::PAR_BLOCKS {
-        backend.encrypt_par_blocks(blocks);
+        backend.encrypt_first_blocks(count, blocks);
     } else {
-        for i in 0..blocks.len() {
+        for i in 0..count {
             backend.encrypt_block(&mut blocks[i]);
         }
     }

@@ -1,6 +1,6 @@
 -- The files of lemmas.
+pub mod Fronts
 pub mod Shifted
 pub mod PlaneKeys
 pub mod LaneKeys
-pub mod Pieces
 pub mod SpreadLanes

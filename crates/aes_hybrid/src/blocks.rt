@@ -1,8 +1,10 @@
 //! Blocks under stored round keys: few by vector permutations, whole batches of many on planes.
 
-ghost use Rattle.std.specs.Prelude.{◌≡◌, ◌*◌, ◌%◌, ◌≤◌, length};
+ghost use Rattle.std.specs.Prelude.{◌≡◌, ◌*◌, ◌%◌, ◌≤◌, length, map};
 ghost use Rattle.aes_planes.specs.Each.{Each};
 ghost use Rattle.aes_planes.specs.Fips197 as fips;
+ghost use Rattle.aes_planes.specs.Words.{word_bits};
+ghost use Rattle.aes_soft.specs.Stored as soft;
 ghost use Rattle.aes_permute.specs.Keys.{encrypting};
 ghost use Rattle.aes_permute.specs.Stored.{round_keys_of};
 ghost use Rattle.aes_hybrid.specs.Lanes.{lanes_key, IsLanes};
@@ -15,13 +17,56 @@ use aes_planes::laws;
 use aes_planes::soft::sbox::Layers;
 use aes_planes::soft::word::Block;
 use aes_soft::soft::FullCipher;
-use aes_soft::soft::blocks::process_batches_under;
+use aes_soft::soft::blocks::{process_batch_under, process_batches_under};
 use aes_soft::soft::key_sizes::BatchWord;
 
 /// How many blocks planes hold.
 pub const BATCH: usize = 8;
 
-// Processes each block of whole batches on planes, which are wiped before the call returns.
+// So many blocks take vector permutations less time than planes take a batch, where the planes of the round keys are
+// made anyway.
+pub(crate) const FEW: usize = 5;
+
+// Processes fewer blocks than a batch has as a batch on planes, whose other blocks are zeros.
+#[inline(always)]
+fn process_padded<D: FullCipher>(words: &[BatchWord], blocks: &mut [Block])
+    requires least { 88 ≤ length words.now }
+    requires most { length words.now ≤ 120 }
+    requires half_over { length words.now % 16 ≡ 8 }
+    requires is_schedule { let n = length words.now in
+        soft.IsKeyed (soft.size_of n) 8 (soft.full (soft.rounds_of n)) (map (word_bits 128) words.now) }
+    requires fewer { length blocks.old ≤ 8 }
+    ensures { let n = length words.now in
+        let key = soft.key_of (soft.size_of n) 8 (soft.full (soft.rounds_of n)) (map (word_bits 128) words.now) in
+        Each (D.processed (fips.key_expansion key)) blocks.old blocks.new }
+{
+    let count = blocks.len();
+    let mut batch = [[0; 16]; BATCH];
+    batch[..count].copy_from_slice(blocks);
+    process_batch_under::<BatchWord, D>(words, &mut batch, &mut Layers::new());
+    blocks.copy_from_slice(&batch[..count]);
+}
+
+// Processes each block on planes of round keys: whole batches, and what is left after them as one more.
+#[inline(always)]
+fn process_in_batches<D: FullCipher>(words: &[BatchWord], blocks: &mut [Block])
+    requires least { 88 ≤ length words.now }
+    requires most { length words.now ≤ 120 }
+    requires half_over { length words.now % 16 ≡ 8 }
+    requires is_schedule { let n = length words.now in
+        soft.IsKeyed (soft.size_of n) 8 (soft.full (soft.rounds_of n)) (map (word_bits 128) words.now) }
+    ensures { let n = length words.now in
+        let key = soft.key_of (soft.size_of n) 8 (soft.full (soft.rounds_of n)) (map (word_bits 128) words.now) in
+        Each (D.processed (fips.key_expansion key)) blocks.old blocks.new }
+{
+    let whole = blocks.len() - blocks.len() % BATCH;
+    process_batches_under::<BatchWord, D>(words, &mut blocks[..whole], &mut Layers::new());
+    if whole < blocks.len() {
+        process_padded::<D>(words, &mut blocks[whole..]);
+    }
+}
+
+// Processes each block on planes, which are wiped before the call returns.
 #[inline(always)]
 fn process_with_planes<const N: usize, D: LaneRounds + FullCipher>(
     keys: &[Block],
@@ -30,20 +75,18 @@ fn process_with_planes<const N: usize, D: LaneRounds + FullCipher>(
     requires room { 8 * length keys.now ≤ N }
     requires most { N ≤ 120 }
     requires is_lanes { IsLanes keys.now }
-    requires whole { length blocks.old % 8 ≡ 0 }
     ensures { Each (D.processed (fips.key_expansion (lanes_key keys.now))) blocks.old blocks.new }
 {
     let mut wide = Held::<[BatchWord; N]>::zeroed();
     put_wide(wide.words_mut(), keys);
     let words = &wide.words()[..8 * keys.len()];
-    process_batches_under::<BatchWord, D>(words, blocks, &mut Layers::new());
+    process_in_batches::<D>(words, blocks);
     wide.wipe();
 }
 
 // The same, with no more room than the round keys take.
 fn process_on_planes<D: LaneRounds + FullCipher>(keys: &[Block], blocks: &mut [Block])
     requires is_lanes { IsLanes keys.now }
-    requires whole { length blocks.old % 8 ≡ 0 }
     ensures { Each (D.processed (fips.key_expansion (lanes_key keys.now))) blocks.old blocks.new }
 {
     if keys.len() == 11 {
@@ -55,8 +98,37 @@ fn process_on_planes<D: LaneRounds + FullCipher>(keys: &[Block], blocks: &mut [B
     }
 }
 
-/// Processes each block of a slice in place: whole batches on planes, and the others by vector permutations, since fewer
-/// than eight take less time so. `keys` are the stored round keys of Cipher, and `used` those of the direction.
+// Processes each block by vector permutations.
+#[inline(always)]
+pub(crate) fn process_few<D: LaneRounds>(keys: &[Block], used: &[Block], blocks: &mut [Block])
+    requires is_lanes { IsLanes keys.now }
+    requires used { round_keys_of D.first_byte D.inner_byte D.last_byte used.now ≡ D.used_keys (encrypting keys.now) }
+    ensures { Each (D.processed (fips.key_expansion (lanes_key keys.now))) blocks.old blocks.new }
+{
+    let _ = keys;
+    D::processes();
+    D::uses_all();
+    laws::are_blocks(used);
+    process_on_lanes::<D>(used, blocks);
+}
+
+// How many of a number of blocks are processed on planes: whole batches, and what is left after them if it is more than
+// few.
+#[inline(always)]
+fn blocks_on_planes(count: usize) -> usize
+    ensures { result ≤ count }
+{
+    let rest = count % BATCH;
+    if rest > FEW && count > BATCH {
+        count
+    } else {
+        count - rest
+    }
+}
+
+/// Processes each block of a slice in place: whole batches on planes, and the others by vector permutations where they
+/// are few, since these take less time so. `keys` are the stored round keys of Cipher, and `used` those of the
+/// direction.
 pub fn process_blocks<D: LaneRounds + FullCipher>(
     keys: &[Block],
     used: &[Block],
@@ -66,12 +138,9 @@ pub fn process_blocks<D: LaneRounds + FullCipher>(
     requires used { round_keys_of D.first_byte D.inner_byte D.last_byte used.now ≡ D.used_keys (encrypting keys.now) }
     ensures { Each (D.processed (fips.key_expansion (lanes_key keys.now))) blocks.old blocks.new }
 {
-    D::processes();
-    D::uses_all();
-    laws::are_blocks(used);
-    let whole = blocks.len() - blocks.len() % BATCH;
+    let whole = blocks_on_planes(blocks.len());
     if whole > 0 {
         process_on_planes::<D>(keys, &mut blocks[..whole]);
     }
-    process_on_lanes::<D>(used, &mut blocks[whole..]);
+    process_few::<D>(keys, used, &mut blocks[whole..]);
 }

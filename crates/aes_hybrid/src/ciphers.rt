@@ -132,6 +132,10 @@ impl<S: Includes<Encrypt>> BlockCipherEncrypt for Hybrid<S> {
         Many::new(self.keys()).encrypt_with_backend(f);
     }
 
+    fn encrypt_with_backend_for<F: BlockCipherEncClosure>(&self, blocks: usize, f: &mut F) {
+        Many::new(self.keys()).encrypt_with_backend_for(blocks, f);
+    }
+
     fn encrypt_block(&self, block: &mut Block) {
         self.cipher.encrypt_block(block);
     }

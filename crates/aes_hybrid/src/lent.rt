@@ -7,7 +7,7 @@ ghost use Rattle.aes_hybrid.specs.Lanes.{lanes_key, IsLanes};
 
 mod backends;
 
-use crate::blocks::process_blocks;
+use crate::blocks::{BATCH, process_blocks};
 use crate::wide::put_wide;
 use aes_cipher::cipher::{BlockCipherEncClosure, BlockCipherEncrypt, Encrypt, RoundKeysUser};
 use aes_cipher::zeroize::Held;
@@ -119,6 +119,15 @@ impl BlockCipherEncrypt for Many<'_> {
             call_with_planes::<104, F>(keys, f);
         } else {
             call_with_planes::<120, F>(keys, f);
+        }
+    }
+
+    #[inline(always)]
+    fn encrypt_with_backend_for<F: BlockCipherEncClosure>(&self, blocks: usize, f: &mut F) {
+        if blocks < BATCH {
+            f.call(&Pairs::new(self.keys));
+        } else {
+            self.encrypt_with_backend(f);
         }
     }
 

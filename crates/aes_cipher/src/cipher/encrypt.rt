@@ -15,6 +15,16 @@ pub trait BlockCipherEncrypt: BlockSizeUser + RoundKeysUser {
     fn encrypt_with_backend<F: BlockCipherEncClosure>(&self, f: &mut F)
         ensures { F.did f.old (Self.round_keys self.now) f.new };
 
+    /// Calls the closure once, with a backend of the value's round keys that suits so many blocks. The number decides
+    /// how long the work takes, and nothing else.
+    #[inline(always)]
+    fn encrypt_with_backend_for<F: BlockCipherEncClosure>(&self, blocks: usize, f: &mut F)
+        ensures { F.did f.old (Self.round_keys self.now) f.new }
+    {
+        let _ = blocks;
+        self.encrypt_with_backend(f);
+    }
+
     /// Encrypts the block in place under the value's round keys (Cipher, FIPS 197, 5.1).
     fn encrypt_block(&self, block: &mut Block)
         ensures { block.new ≡ fips.cipher_with (Self.round_keys self.now) block.old };

@@ -1,6 +1,6 @@
 //! Backends that encrypt, and closures that work with one.
 
-ghost use Rattle.std.specs.Prelude.{◌≡◌, ℕ, List, length};
+ghost use Rattle.std.specs.Prelude.{◌≡◌, ℕ, ◌≤◌, List, length, take};
 ghost use Rattle.aes_planes.specs.Each.{Each};
 ghost use Rattle.aes_planes.specs.Fips197 as fips;
 
@@ -18,6 +18,22 @@ pub trait BlockCipherEncBackend: ParBlocksSizeUser + RoundKeysUser {
     fn encrypt_par_blocks(&self, blocks: &mut [Block])
         requires one_batch { length blocks.old ≡ Self.PAR_BLOCKS }
         ensures { Each (fips.cipher_with (Self.round_keys self.now)) blocks.old blocks.new };
+
+    /// Encrypts the first blocks of one batch in place, `count` of them, under the value's round keys (Cipher, FIPS 197,
+    /// 5.1). What the others are afterwards is not said, since the whole batch may take less time than its first blocks.
+    #[tactic(auto, using(crate::proofs::FirstBlocks::first_of_all, crate::proofs::FirstBlocks::first_alone))]
+    #[inline(always)]
+    fn encrypt_first_blocks(&self, count: usize, blocks: &mut [Block])
+        requires one_batch { length blocks.old ≡ Self.PAR_BLOCKS }
+        requires inside { count ≤ length blocks.old }
+        ensures { Each (fips.cipher_with (Self.round_keys self.now)) (take count blocks.old) (take count blocks.new) }
+    {
+        if count == 1 {
+            self.encrypt_block(&mut blocks[0]);
+        } else {
+            self.encrypt_par_blocks(blocks);
+        }
+    }
 }
 
 /// A caller's own work with a backend of any type and any batch size.

@@ -23,6 +23,10 @@ impl<C: BlockCipherEncrypt> BlockCipherEncrypt for &C {
         (**self).encrypt_with_backend(f);
     }
 
+    fn encrypt_with_backend_for<F: BlockCipherEncClosure>(&self, blocks: usize, f: &mut F) {
+        (**self).encrypt_with_backend_for(blocks, f);
+    }
+
     fn encrypt_block(&self, block: &mut Block) {
         (**self).encrypt_block(block);
     }
@@ -57,6 +61,10 @@ impl<B: BlockCipherEncBackend + BatchSizeUser> BlockCipherEncBackend for &B {
 
     fn encrypt_par_blocks(&self, blocks: &mut [Block]) {
         (**self).encrypt_par_blocks(blocks);
+    }
+
+    fn encrypt_first_blocks(&self, count: usize, blocks: &mut [Block]) {
+        (**self).encrypt_first_blocks(count, blocks);
     }
 }
 

@@ -7,7 +7,7 @@ ghost use Rattle.aes_planes.proofs.Standard.CipherLaws.{two_keys};
 ghost use Rattle.aes_soft.specs.Stored as soft;
 ghost use Rattle.aes_hybrid.specs.Lanes.{lanes_key, IsLanes};
 
-use crate::blocks::process_blocks;
+use crate::blocks::{FEW, process_few};
 use aes_cipher::cipher::{
     BatchOfEight, BatchSizeUser, BlockCipherEncBackend, Encrypt, RoundKeysUser,
 };
@@ -62,12 +62,12 @@ impl BatchSizeUser for Pairs<'_> {
 impl BlockCipherEncBackend for Pairs<'_> {
     #[inline(always)]
     fn encrypt_block(&self, block: &mut Block) {
-        process_blocks::<Encrypt>(self.keys, self.keys, slice::from_mut(block));
+        process_few::<Encrypt>(self.keys, self.keys, slice::from_mut(block));
     }
 
     #[inline(always)]
     fn encrypt_par_blocks(&self, blocks: &mut [Block]) {
-        process_blocks::<Encrypt>(self.keys, self.keys, blocks);
+        process_few::<Encrypt>(self.keys, self.keys, blocks);
     }
 }
 
@@ -127,11 +127,21 @@ impl BatchSizeUser for Batches<'_> {
 impl BlockCipherEncBackend for Batches<'_> {
     #[inline(always)]
     fn encrypt_block(&self, block: &mut Block) {
-        process_blocks::<Encrypt>(self.keys, self.keys, slice::from_mut(block));
+        process_few::<Encrypt>(self.keys, self.keys, slice::from_mut(block));
     }
 
     #[inline(always)]
     fn encrypt_par_blocks(&self, blocks: &mut [Block]) {
         process_batch_under::<BatchWord, Encrypt>(self.words, blocks, &mut Layers::new());
+    }
+
+    #[tactic(auto, using(aes_cipher::proofs::FirstBlocks::first_of_all))]
+    #[inline(always)]
+    fn encrypt_first_blocks(&self, count: usize, blocks: &mut [Block]) {
+        if count <= FEW {
+            process_few::<Encrypt>(self.keys, self.keys, &mut blocks[..count]);
+        } else {
+            self.encrypt_par_blocks(blocks);
+        }
     }
 }

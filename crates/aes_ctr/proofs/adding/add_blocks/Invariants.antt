@@ -1,8 +1,7 @@
 -- What holds in the loops of `adding::add_blocks`.
 use Rattle.std.proofs.Common.{◌≡◌, ◌≤◌, ◌-◌, ◌%◌, length}
 use Rattle.aes_ctr.specs.CounterMode.{plus_stream}
-use Rattle.aes_ctr.specs.Private.{byte_of_blocks}
-use Rattle.aes_ctr.proofs.Runs.{added_from}
+use Rattle.aes_ctr.specs.Private.{added_from, byte_of_blocks}
 use Rattle.aes_ctr.proofs.adding.add_blocks.Given as goal
 
 abbrev pub invariant-whole : goal.invariant-whole

@@ -1,7 +1,7 @@
 -- What holds in the loop of `adding::add_part`.
 use Rattle.std.proofs.Common.{◌≡◌, slice_index}
 use Rattle.aes_ctr.specs.CounterMode.{plus_stream}
-use Rattle.aes_ctr.proofs.Runs.{added_from}
+use Rattle.aes_ctr.specs.Private.{added_from}
 use Rattle.aes_ctr.proofs.adding.add_part.Given as goal
 
 abbrev pub invariant-loop-i : goal.invariant-loop-i

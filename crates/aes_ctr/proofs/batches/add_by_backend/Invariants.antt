@@ -1,14 +1,14 @@
 -- What holds in the loops of `batches::add_by_backend`.
 use Rattle.std.proofs.Common.{◌≡◌, ◌≤◌, ◌<◌, ◌-◌, ◌+◌, ◌%◌, ◌^◌, length}
 use Rattle.aes_ctr.specs.CounterMode.{keystream_byte, plus_stream}
-use Rattle.aes_ctr.proofs.Runs.{added_from}
+use Rattle.aes_ctr.specs.Private.{added_from}
 use Rattle.aes_ctr.proofs.batches.add_by_backend.Given as goal
 
 abbrev pub invariant-whole : goal.invariant-whole
 invariant-whole g l =
     let stream = keystream_byte (g.B.RoundKeysUser.round_keys l.backend) l.iv in record {
       within : l.done ≤ length l.fn.bytes;
-      aligned : l.done % 16 ≡ 0;
+      aligned : l.done < length l.fn.bytes → (l.position + l.done) % 16 ≡ 0;
       value : l.position + length l.fn.bytes < 2 ^ 64 → added_from stream l.position l.done l.bytes
           ≡ plus_stream stream l.position l.fn.bytes;
     }

@@ -1,0 +1,23 @@
+-- What is left to show of `batches::add_next`.
+use Rattle.std.proofs.Common.{◌≡◌, ℕ, ◌<◌, ◌∙◌, ◌+◌, ◌%◌, ◌^◌, ap, arith}
+use Rattle.aes_ctr.specs.CounterMode.{keystream_byte}
+use Rattle.aes_ctr.specs.Private.{byte_of_blocks}
+use Rattle.aes_ctr.proofs.Places.{byte_of_keystream}
+use Rattle.aes_ctr.proofs.Runs.{added_run}
+use Rattle.aes_ctr.proofs.batches.add_next.Goals as goal
+
+pub returns-clause-added : goal.returns-clause-added
+returns-clause-added g c = λ ends.
+    let w = g.B.RoundKeysUser.round_keys c.args.backend.now in
+    let iv = c.args.iv.now in
+    let place : ℕ = (c.args.position + c.args.done) % 2 ^ 64 in
+    let blocks = c.fill_by_backend.new.blocks in
+    let n = c.div_ceil-count.result in
+    let part = c.min-part.result in
+    let is : place ≡ c.args.position + c.args.done = omega (arith, ends, c.requires) in
+    let agree : (j : ℕ) → j < part → byte_of_blocks blocks (place % 16 + j)
+    ≡ keystream_byte w iv (c.args.position + c.args.done + j) =
+    λ j inside. byte_of_keystream w iv blocks n place j c.fill_by_backend.ensures (omega arith)
+    ∙ ap (λ m. keystream_byte w iv (m + j)) is in
+    added_run (keystream_byte w iv) (byte_of_blocks blocks) c.args.position (place % 16) c.args.done part _
+    c.args.bytes.now _ (omega arith) (omega arith) c.add_blocks.ensures agree
