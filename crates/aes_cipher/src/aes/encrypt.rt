@@ -12,6 +12,11 @@ impl<S: Encrypts, D: Includes<Encrypt>> BlockCipherEncrypt for AesCipher<S, D> {
     }
 
     #[inline(always)]
+    fn encrypt_with_backend_for<F: BlockCipherEncClosure>(&self, blocks: usize, f: &mut F) {
+        self.schedule.encrypt_with_backend_for(blocks, f);
+    }
+
+    #[inline(always)]
     fn encrypt_block(&self, block: &mut Block) {
         self.schedule.process_block(block);
     }

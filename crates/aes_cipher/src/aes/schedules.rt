@@ -71,6 +71,17 @@ pub trait Encrypts: Processes<Encrypt> {
     fn encrypt_with_backend<F: BlockCipherEncClosure>(&self, f: &mut F)
         requires keyed { Self.AreKeyed self.now }
         ensures { F.did f.old (fips.key_expansion (Self.key self.now)) f.new };
+
+    /// Calls the closure once, with a backend of the round keys that suits so many blocks. The number decides how long
+    /// the work takes, and nothing else.
+    #[inline(always)]
+    fn encrypt_with_backend_for<F: BlockCipherEncClosure>(&self, blocks: usize, f: &mut F)
+        requires keyed { Self.AreKeyed self.now }
+        ensures { F.did f.old (fips.key_expansion (Self.key self.now)) f.new }
+    {
+        let _ = blocks;
+        self.encrypt_with_backend(f);
+    }
 }
 
 /// Stored round keys under which blocks are decrypted.
