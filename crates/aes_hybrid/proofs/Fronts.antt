@@ -1,16 +1,36 @@
--- Slices whose front is processed first, and then what is left.
-use Rattle.std.proofs.Common.{◌≡◌, ℕ, ◌-◌, ◌+◌, ◌≤◌, List, length, map, take, drop, refl, sym, ap, ◌∙◌, arith}
+-- Slices of which a part is processed first, and then what is left.
+use Rattle.std.proofs.Common.{◌≡◌, ℕ, zero, suc, ◌-◌, ◌+◌, ◌<◌, ◌≤◌, List, [], ◌∷◌, ◌++◌, length, map, take, drop}
+use Rattle.std.proofs.Common.{get_or, set, refl, sym, ap, ◌∙◌, arith}
 use Rattle.std.proofs.lemmas.List.{length-map}
 use borrow.Rule.Slice.PartMut.{put_mid, same_len_mid}
 use Rattle.aes_cipher.proofs.SliceRuns.{finished, finished_run}
 use Rattle.aes_soft.proofs.Slices.{all_finished}
 
--- where the front is finished, and f of each element that is left is written in its place, all are
-pub both_finished : {X : Type 0} (f : X → X) (n k : ℕ) (xs ys zs : List X) → finished f n ys ≡ map f xs
-    → n ≤ length ys → k ≡ length ys - n → zs ≡ map f (take k (drop n ys)) → put_mid n k ys zs ≡ map f xs
-both_finished f n k xs ys zs front within rest is =
+-- f of each element from place n on, written in its place
+pub end_finished : {X : Type 0} (f : X → X) (n k : ℕ) (ys zs : List X) → n ≤ length ys → k ≡ length ys - n
+    → zs ≡ map f (take k (drop n ys)) → put_mid n k ys zs ≡ finished f n ys
+end_finished f n k ys zs within rest is =
     let sized : length (put_mid n k ys zs) ≡ length ys =
     same_len_mid n k ys zs (ap length is ∙ length-map (take k (drop n ys)) f) in
     let long : length (put_mid n k ys zs) ≤ n + k = omega (arith, sized, rest, within) in
     sym (all_finished f (n + k) (put_mid n k ys zs) long)
-    ∙ finished_run f n k k ys zs refl (omega (arith, rest, within)) is ∙ front
+    ∙ finished_run f n k k ys zs refl (omega (arith, rest, within)) is
+
+-- where f of each element from place i on stands in its place, the element at that place, written back
+pub one_back : {X : Type 0} (f : X → X) (i k : ℕ) (xs ys : List X) (d : X) → i < length xs → i + 1 ≡ k
+    → ys ≡ finished f i xs → set ys i (get_or xs i d) ≡ finished f k xs
+one_back f i k xs ys d below next is =
+    let same : suc i ≡ k = omega (arith, next) in
+    ap (λ l. set l i (get_or xs i d)) is ∙ back i xs below ∙ ap (λ m. finished f m xs) same
+  where
+    back : (i : ℕ) (xs : List _) → i < length xs → set (finished f i xs) i (get_or xs i d) ≡ finished f (suc i) xs
+    back i [] h = absurd (omega (arith, h))
+    back zero (x ∷ xs) h = refl
+    back (suc i) (x ∷ xs) h = ap (λ l. x ∷ l) (back i xs (omega (arith, h)))
+
+-- where f of each element from place n on stands in its place, f of those before makes all
+pub front_after : {X : Type 0} (f : X → X) (n : ℕ) (xs : List X)
+    → map f (take n (finished f n xs)) ++ drop n (finished f n xs) ≡ map f xs
+front_after f zero xs = refl
+front_after f (suc n) [] = refl
+front_after f (suc n) (x ∷ xs) = ap (λ l. f x ∷ l) (front_after f n xs)

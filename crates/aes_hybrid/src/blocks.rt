@@ -1,6 +1,6 @@
 //! Blocks under stored round keys: few by vector permutations, whole batches of many on planes.
 
-ghost use Rattle.std.specs.Prelude.{◌≡◌, ◌*◌, ◌%◌, ◌≤◌, length, map};
+ghost use Rattle.std.specs.Prelude.{◌≡◌, ◌⊎◌, ◌-◌, ◌*◌, ◌%◌, ◌<◌, ◌≤◌, ◌++◌, length, map, take, drop};
 ghost use Rattle.aes_planes.specs.Each.{Each};
 ghost use Rattle.aes_planes.specs.Fips197 as fips;
 ghost use Rattle.aes_planes.specs.Words.{word_bits};
@@ -22,31 +22,38 @@ use aes_soft::soft::key_sizes::BatchWord;
 /// How many blocks planes hold.
 pub const BATCH: usize = 8;
 
-// So many blocks take vector permutations less time than planes take a batch, where the planes of the round keys are
-// made anyway.
+// The most blocks for which vector permutations take less time than a batch on planes, once the planes of the round keys
+// are made.
 pub(crate) const FEW: usize = 5;
 
-// Processes fewer blocks than a batch has as a batch on planes, whose other blocks are zeros.
-#[inline(always)]
-fn process_padded<D: FullCipher>(words: &[BatchWord], blocks: &mut [Block])
+// Processes the last blocks, six or seven, as a batch with those before them, which then get back what they held.
+#[inline(never)]
+fn process_last<D: FullCipher>(words: &[BatchWord], blocks: &mut [Block], count: usize)
     requires least { 88 ≤ length words.now }
     requires most { length words.now ≤ 120 }
     requires half_over { length words.now % 16 ≡ 8 }
     requires is_schedule { let n = length words.now in
         soft.IsKeyed (soft.size_of n) 8 (soft.full (soft.rounds_of n)) (map (word_bits 128) words.now) }
-    requires fewer { length blocks.old ≤ 8 }
+    requires batch { 8 ≤ length blocks.old }
+    requires some { 6 ≤ count }
+    requires fewer { count ≤ 7 }
     ensures { let n = length words.now in
         let key = soft.key_of (soft.size_of n) 8 (soft.full (soft.rounds_of n)) (map (word_bits 128) words.now) in
-        Each (D.processed (fips.key_expansion key)) blocks.old blocks.new }
+        let before = length blocks.old - count in
+        blocks.new
+        ≡ take before blocks.old ++ map (D.processed (fips.key_expansion key)) (drop before blocks.old) }
 {
-    let count = blocks.len();
-    let mut batch = [[0; 16]; BATCH];
-    batch[..count].copy_from_slice(blocks);
-    process_batch_under::<BatchWord, D>(words, &mut batch, &mut Layers::new());
-    blocks.copy_from_slice(&batch[..count]);
+    let start = blocks.len() - BATCH;
+    let first = blocks[start];
+    let second = blocks[start + 1];
+    process_batch_under::<BatchWord, D>(words, &mut blocks[start..], &mut Layers::new());
+    blocks[start] = first;
+    if count == 6 {
+        blocks[start + 1] = second;
+    }
 }
 
-// Processes each block on planes of round keys: whole batches, and what is left after them as one more.
+// Processes each block on planes of round keys: what is left after whole batches, and these.
 #[inline(always)]
 fn process_in_batches<D: FullCipher>(words: &[BatchWord], blocks: &mut [Block])
     requires least { 88 ≤ length words.now }
@@ -54,15 +61,18 @@ fn process_in_batches<D: FullCipher>(words: &[BatchWord], blocks: &mut [Block])
     requires half_over { length words.now % 16 ≡ 8 }
     requires is_schedule { let n = length words.now in
         soft.IsKeyed (soft.size_of n) 8 (soft.full (soft.rounds_of n)) (map (word_bits 128) words.now) }
+    requires batch { 8 ≤ length blocks.old }
+    requires rest { (length blocks.old % 8 ≡ 0) ⊎ (6 ≤ length blocks.old % 8) }
     ensures { let n = length words.now in
         let key = soft.key_of (soft.size_of n) 8 (soft.full (soft.rounds_of n)) (map (word_bits 128) words.now) in
         Each (D.processed (fips.key_expansion key)) blocks.old blocks.new }
 {
-    let whole = blocks.len() - blocks.len() % BATCH;
-    process_batches_under::<BatchWord, D>(words, &mut blocks[..whole], &mut Layers::new());
-    if whole < blocks.len() {
-        process_padded::<D>(words, &mut blocks[whole..]);
+    let rest = blocks.len() % BATCH;
+    let whole = blocks.len() - rest;
+    if rest > 0 {
+        process_last::<D>(words, blocks, rest);
     }
+    process_batches_under::<BatchWord, D>(words, &mut blocks[..whole], &mut Layers::new());
 }
 
 // Processes each block on planes, which are wiped before the call returns.
@@ -74,6 +84,8 @@ fn process_with_planes<const N: usize, D: LaneRounds + FullCipher>(
     requires room { 8 * length keys.now ≤ N }
     requires most { N ≤ 120 }
     requires is_lanes { IsLanes keys.now }
+    requires batch { 8 ≤ length blocks.old }
+    requires rest { (length blocks.old % 8 ≡ 0) ⊎ (6 ≤ length blocks.old % 8) }
     ensures { Each (D.processed (fips.key_expansion (lanes_key keys.now))) blocks.old blocks.new }
 {
     let mut wide = Held::<[BatchWord; N]>::zeroed();
@@ -83,9 +95,12 @@ fn process_with_planes<const N: usize, D: LaneRounds + FullCipher>(
     wide.wipe();
 }
 
-// The same, with no more room than the round keys take.
+// The same, with no more room than the round keys take. A call of its own, so that few blocks need no large frame.
+#[inline(never)]
 fn process_on_planes<D: LaneRounds + FullCipher>(keys: &[Block], blocks: &mut [Block])
     requires is_lanes { IsLanes keys.now }
+    requires batch { 8 ≤ length blocks.old }
+    requires rest { (length blocks.old % 8 ≡ 0) ⊎ (6 ≤ length blocks.old % 8) }
     ensures { Each (D.processed (fips.key_expansion (lanes_key keys.now))) blocks.old blocks.new }
 {
     if keys.len() == 11 {
@@ -114,7 +129,9 @@ pub(crate) fn process_few<D: LaneRounds>(keys: &[Block], used: &[Block], blocks:
 // few.
 #[inline(always)]
 fn blocks_on_planes(count: usize) -> usize
-    ensures { result ≤ count }
+    ensures inside { result ≤ count }
+    ensures batch { 0 < result → 8 ≤ result }
+    ensures rest { (result % 8 ≡ 0) ⊎ (6 ≤ result % 8) }
 {
     let rest = count % BATCH;
     if rest > FEW && count > BATCH {

@@ -4,7 +4,7 @@ use Rattle.aes_cipher.proofs.SliceRuns.{finished}
 use Rattle.aes_planes.specs.Fips197.{key_expansion}
 use Rattle.aes_soft.proofs.Slices.{front_finished, none_finished}
 use Rattle.aes_hybrid.specs.Lanes.{lanes_key}
-use Rattle.aes_hybrid.proofs.Fronts.{both_finished}
+use Rattle.aes_hybrid.proofs.Fronts.{end_finished}
 use Rattle.aes_hybrid.proofs.blocks.process_blocks.Goals as goal
 use Rattle.aes_hybrid.proofs.blocks.process_blocks.Goals.{then-whole-gt0, else-whole-gt0}
 
@@ -15,10 +15,10 @@ returns g c =
     let batches : finished f whole c.if-whole-gt0.blocks ≡ map f c.args.blocks.now = elim c.if-whole-gt0.branch [
       | then-whole-gt0 w ↦
           ap (finished f whole) w.blocks-is
-          ∙ front_finished f whole c.args.blocks.now _ c.blocks_on_planes-whole.ensures w.process_on_planes.ensures
+          ∙ front_finished f whole c.args.blocks.now _ c.blocks_on_planes-whole.ensures.inside w.process_on_planes.ensures
       | else-whole-gt0 w ↦ ap (finished f whole) w.blocks-is
           ∙ none_finished f whole c.args.blocks.now (omega (arith, w.if-whole-gt0.false))
     ] in
-    both_finished f whole (length c.if-whole-gt0.blocks - whole) c.args.blocks.now c.if-whole-gt0.blocks
-    c.process_few.new.blocks batches (omega (arith, c.if-whole-gt0.auto.blocks, c.blocks_on_planes-whole.ensures)) refl
-    c.process_few.ensures
+    end_finished f whole (length c.if-whole-gt0.blocks - whole) c.if-whole-gt0.blocks c.process_few.new.blocks
+    (omega (arith, c.if-whole-gt0.auto.blocks, c.blocks_on_planes-whole.ensures.inside)) refl c.process_few.ensures
+    ∙ batches
