@@ -1,99 +1,110 @@
-//! The one type behind the nine: AES with a key of any size, in one direction or both.
+//! The form of the nine types: round keys in the full layout of bit planes, on words of one block.
 
-ghost use Rattle.std.specs.Prelude.{◌≡◌, ◌+◌, ℕ, List, length, replicate, refl};
-ghost use Rattle.aes_planes.specs.Each.{Each};
-ghost use Rattle.aes_planes.specs.Fips197 as fips;
-ghost use Rattle.aes_planes.proofs.Standard.CipherLaws.{two_keys};
 ghost use Rattle.aes_soft.specs.Batches.{layers_for};
 
-mod copies;
-mod decrypt;
-mod directions;
-mod encrypt;
-mod text;
-
-use aes_cipher::cipher::{InvalidLength, KeyInit, KeySizeUser, RoundKeysUser};
-use aes_cipher::zeroize::ZeroizeOnDrop;
+use aes_cipher::aes;
+use aes_cipher::aes::{CountsLayers, Decrypts, Encrypts, KeySchedule, Processes, TurnedFrom};
+use aes_cipher::cipher::{BlockCipherDecClosure, BlockCipherEncClosure, Decrypt, Encrypt};
 use aes_planes::soft::sbox::Layers;
-use aes_soft::soft::key_sizes::{AesVariant, KeyBytes, WipedKeys, has_round_keys};
-pub use directions::{BothWays, Directions, Includes};
-use std::marker::{Model, PhantomData};
+use aes_planes::soft::word::Block;
+use aes_soft::soft::blocks::{process_block, process_blocks};
+use aes_soft::soft::key_sizes::{AesVariant, WipedKeys};
+use aes_soft::soft::{FullCipher, decrypt_with_backend, encrypt_with_backend};
 
-/// AES with a key of the size K, in the directions D. Contracts see a value as its key.
+/// AES with a key of the size K, in the directions D.
+pub type AesCipher<K, D> = aes::AesCipher<Fixsliced<K>, D>;
+
+/// Stored round keys of a key of the size K. They serve both directions.
 #[derive(Drop)]
-pub struct AesCipher<K: AesVariant, D: Directions> {
+pub struct Fixsliced<K: AesVariant> {
     round_keys: K::Wiped,
-    directions: PhantomData<D>,
 }
 
-impl<K: AesVariant, D: Directions> Model for AesCipher<K, D> {
-    ghost Value = { List ℕ };
+impl<K: AesVariant> KeySchedule for Fixsliced<K> {
+    type Size = K;
 
-    ghost view = { λ cipher. K.RoundKeys.key (K.Wiped.words cipher.round_keys) };
+    ghost key = { λ schedule. K.RoundKeys.key (K.Wiped.words schedule.round_keys) };
 
-    ghost invariant = { λ cipher. K.RoundKeys.AreKeyed (K.Wiped.words cipher.round_keys) };
-}
+    ghost AreKeyed = { λ schedule. K.RoundKeys.AreKeyed (K.Wiped.words schedule.round_keys) };
 
-impl<K: AesVariant, D: Directions> AesCipher<K, D> {
-    /// Makes a value from a key, and counts the S-box layers of KeyExpansion (FIPS 197, 5.2): 10, 8 or 13 with a key of
-    /// 16, 24 or 32 bytes.
-    pub fn new_counted(key: &K::Key, layers: &mut Layers) -> AesCipher<K, D>
-        ensures made { result ≡ K.Key.bytes key.now }
-        ensures layers { layers.new ≡ layers.old + K.SCHEDULE_LAYERS }
-    {
-        let mut cipher = AesCipher {
+    ghost IsWiped = { λ schedule. K.Wiped.IsWiped schedule.round_keys };
+
+    #[inline(always)]
+    fn zeroed() -> Fixsliced<K> {
+        Fixsliced {
             round_keys: K::Wiped::zeroed(),
-            directions: PhantomData,
-        };
-        K::refill(&mut cipher.round_keys, key, layers);
-        cipher
+        }
     }
 
-    /// Wipes the round keys in place, and leaves the value of the zero key.
-    pub fn zeroize(&mut self)
-        ensures { self.new ≡ replicate K.Key.SIZE 0 }
-    {
+    #[inline(always)]
+    fn wipe(&mut self) {
         self.round_keys.wipe();
-        K::refill(&mut self.round_keys, &K::Key::zero(), &mut Layers::new());
-    }
-}
-
-impl<K: AesVariant, D: Directions> KeySizeUser for AesCipher<K, D> {
-    type Key = K::Key;
-
-    ghost KEY_SIZE = { K.Key.SIZE };
-
-    ghost key_bytes = { K.Key.bytes };
-
-    const KEY_SIZE: usize = K::Key::SIZE;
-}
-
-impl<K: AesVariant, D: Directions> RoundKeysUser for AesCipher<K, D> {
-    ghost round_keys = { fips.key_expansion };
-
-    fn has_round_keys(&self) {
-        has_round_keys::<K>(self.round_keys.lend());
     }
 
-    ghost two_round_keys = { two_keys };
-}
-
-impl<K: AesVariant, D: Directions> KeyInit for AesCipher<K, D> {
-    ghost own_key = { λ key. key };
-
-    fn new(key: &K::Key) -> AesCipher<K, D> {
-        AesCipher::new_counted(key, &mut Layers::new())
+    #[inline(always)]
+    fn refill(&mut self, new_key: &K::Key) {
+        self.refill_counted(new_key, &mut Layers::new());
     }
 
-    fn new_from_slice(key: &[u8]) -> Result<AesCipher<K, D>, InvalidLength> {
-        Ok(AesCipher::new(&K::Key::from_slice(key)?))
+    #[inline(always)]
+    fn copy(&self) -> Fixsliced<K> {
+        Fixsliced {
+            round_keys: self.round_keys.copy(),
+        }
     }
 
     fn has_key(&self) {
         K::has_key(self.round_keys.lend());
     }
-
-    ghost expanded = { λ key. refl };
 }
 
-impl<K: AesVariant, D: Directions> ZeroizeOnDrop for AesCipher<K, D> {}
+impl<K: AesVariant> TurnedFrom<Fixsliced<K>> for Fixsliced<K> {
+    #[inline(always)]
+    fn turned(schedule: &Fixsliced<K>) -> Fixsliced<K> {
+        schedule.copy()
+    }
+}
+
+impl<K: AesVariant, D: FullCipher> Processes<D> for Fixsliced<K> {
+    fn process_block(&self, block: &mut Block) {
+        process_block::<K, D>(self.round_keys.lend(), block);
+    }
+
+    #[inline(always)]
+    fn process_blocks(&self, blocks: &mut [Block]) {
+        process_blocks::<K, D>(self.round_keys.lend(), blocks, &mut Layers::new());
+    }
+}
+
+impl<K: AesVariant> Encrypts for Fixsliced<K> {
+    fn encrypt_with_backend<F: BlockCipherEncClosure>(&self, f: &mut F) {
+        encrypt_with_backend::<K, F>(self.round_keys.lend(), f);
+    }
+}
+
+impl<K: AesVariant> Decrypts for Fixsliced<K> {
+    fn decrypt_with_backend<F: BlockCipherDecClosure>(&self, f: &mut F) {
+        decrypt_with_backend::<K, F>(self.round_keys.lend(), f);
+    }
+}
+
+impl<K: AesVariant> CountsLayers for Fixsliced<K> {
+    ghost SCHEDULE_LAYERS = { K.SCHEDULE_LAYERS };
+
+    ghost layers_for = { λ count. layers_for K.RoundKeys.ROUNDS count };
+
+    #[inline(always)]
+    fn refill_counted(&mut self, new_key: &K::Key, layers: &mut Layers) {
+        K::refill(&mut self.round_keys, new_key, layers);
+    }
+
+    #[inline(always)]
+    fn encrypt_blocks_counted(&self, blocks: &mut [Block], layers: &mut Layers) {
+        process_blocks::<K, Encrypt>(self.round_keys.lend(), blocks, layers);
+    }
+
+    #[inline(always)]
+    fn decrypt_blocks_counted(&self, blocks: &mut [Block], layers: &mut Layers) {
+        process_blocks::<K, Decrypt>(self.round_keys.lend(), blocks, layers);
+    }
+}

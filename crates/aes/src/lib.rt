@@ -8,7 +8,8 @@ mod ciphers;
 pub mod hazmat;
 mod names;
 
-pub use ciphers::{AesCipher, BothWays, Directions, Includes};
+pub use aes_cipher::aes::{BothWays, Directions, Includes};
+pub use ciphers::{AesCipher, Fixsliced};
 pub use names::{
     Aes128, Aes128Dec, Aes128Enc, Aes192, Aes192Dec, Aes192Enc, Aes256, Aes256Dec, Aes256Enc,
 };

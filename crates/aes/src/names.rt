@@ -1,8 +1,8 @@
 //! The names of the nine types.
 
-use crate::ciphers::{AesCipher, BothWays};
+use crate::ciphers::AesCipher;
+use aes_cipher::aes::{Bits128, Bits192, Bits256, BothWays};
 use aes_cipher::cipher::{Decrypt, Encrypt};
-use aes_soft::soft::key_sizes::{Bits128, Bits192, Bits256};
 
 /// AES with a key of 16 bytes, for encryption and decryption.
 pub type Aes128 = AesCipher<Bits128, BothWays>;

@@ -1,3 +1,4 @@
 -- The files of definitions.
 pub mod Blocks
+pub mod KeySizes
 pub mod Lends

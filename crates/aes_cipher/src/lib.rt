@@ -1,6 +1,7 @@
-//! The traits of block ciphers, and words that are wiped.
+//! The traits of block ciphers, words that are wiped, and the one type behind the nine names.
 #![tactic(auto)]
 
+pub mod aes;
 pub mod blocks;
 pub mod bytes;
 pub mod cipher;

@@ -1,7 +1,8 @@
 -- The key that stored round keys of vector permutations are read as.
 use Rattle.std.proofs.Common.{◌≡◌, ◌≢◌, ◌⊎◌, inl, inr, ℕ, ◌+◌, ◌/◌, List, length, ap, subst, arith}
 use Rattle.aes_planes.specs.Fips197 as fips
-use Rattle.aes_permute.specs.Keys.{encrypting, IsKeyed, IsKeySize}
+use Rattle.aes_cipher.specs.KeySizes.{IsKeySize}
+use Rattle.aes_permute.specs.Keys.{encrypting, IsKeyed}
 use Rattle.aes_permute.proofs.DirectionLaws.{key_forward}
 use Rattle.aes_permute.proofs.KeyBytes.{is_keyed}
 use Rattle.aes_permute.proofs.States.{keys_length}

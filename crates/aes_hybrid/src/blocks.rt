@@ -13,7 +13,6 @@ use crate::wide::put_wide;
 use aes_cipher::zeroize::Held;
 use aes_permute::blocks::process_blocks as process_on_lanes;
 use aes_permute::directions::LaneRounds;
-use aes_planes::laws;
 use aes_planes::soft::sbox::Layers;
 use aes_planes::soft::word::Block;
 use aes_soft::soft::FullCipher;
@@ -123,7 +122,6 @@ pub(crate) fn process_few<D: LaneRounds>(keys: &[Block], used: &[Block], blocks:
     let _ = keys;
     D::processes();
     D::uses_all();
-    laws::are_blocks(used);
     process_on_lanes::<D>(used, blocks);
 }
 

@@ -4,11 +4,8 @@ ghost use Rattle.std.specs.Prelude.{◌≡◌, ◌⊎◌, ◌+◌, ◌/◌, leng
 ghost use Rattle.aes_hybrid.specs.Lanes.{lanes_key, IsLanes, AreInverse};
 
 use aes_cipher::cipher::Encrypt;
-use aes_permute::rounds::inverted_key;
-use aes_permute::schedule::{expand_128, expand_192, expand_256};
-use aes_planes::laws;
+use aes_permute::schedule::{expand_128, expand_192, expand_256, invert};
 use aes_planes::soft::word::Block;
-use std::simd::prelude::*;
 
 /// Writes the stored round keys of Cipher of a key: KeyExpansion (FIPS 197, 5.2).
 pub fn put_encrypting(keys: &mut [Block], key: &[u8])
@@ -34,13 +31,5 @@ pub fn put_decrypting(inverse: &mut [Block], keys: &[Block])
     ensures same_length { length inverse.new ≡ length inverse.old }
     ensures inverse { AreInverse inverse.new keys.now }
 {
-    // Each is written once, in its place: a list that is turned where it stands leaves a round key on the stack.
-    let last = keys.len() - 1;
-    'keys: for i in 1..last {
-        let key = keys[last - i];
-        laws::is_block(key);
-        inverse[i] = inverted_key(u8x16::from_array(key)).to_array();
-    }
-    inverse[0] = keys[last];
-    inverse[last] = keys[0];
+    invert(inverse, keys);
 }

@@ -6,12 +6,17 @@ pub mod blocks;
 mod ciphers;
 pub mod keys;
 pub mod lent;
+mod names;
 mod spread;
 mod stream;
 #[cfg(test)]
 mod tests;
 mod wide;
 
-pub use ciphers::{Aes128, Aes128Enc, Aes192, Aes192Enc, Aes256, Aes256Enc, Hybrid};
+pub use aes_cipher::aes::AesCipher;
+pub use ciphers::Hybrid;
+pub use names::{
+    Aes128, Aes128Dec, Aes128Enc, Aes192, Aes192Dec, Aes192Enc, Aes256, Aes256Dec, Aes256Enc,
+};
 pub use stream::add_keystream;
 pub use wide::put_planes;

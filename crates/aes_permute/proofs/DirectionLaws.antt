@@ -9,7 +9,8 @@ use Rattle.aes_planes.specs.Rounds.{all_rounds}
 use Rattle.aes_planes.proofs.Standard.AllRounds.{is_cipher, is_eq_inv_cipher}
 use Rattle.aes_planes.proofs.Standard.CipherInverses.{eq_inv_is_inv}
 use Rattle.aes_planes.proofs.Standard.InvertedKeys.{inverted_length, inverted_end, inverted_middle}
-use Rattle.aes_permute.specs.Keys.{IsKeySize, key_of, first_two}
+use Rattle.aes_cipher.specs.KeySizes.{IsKeySize}
+use Rattle.aes_permute.specs.Keys.{key_of, first_two}
 use Rattle.aes_permute.specs.Stored.{as_is, inv_untower, key_untower, round_keys_of, AreWritten}
 use Rattle.aes_permute.proofs.KeyBytes.{own_key, two_back}
 use Rattle.aes_permute.proofs.States.{keys_length, first_key, inner_key, last_key}

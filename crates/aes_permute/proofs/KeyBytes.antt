@@ -7,7 +7,8 @@ use Rattle.aes_planes.proofs.KeySchedule.ExpansionLength.{expansion_length, expa
 use Rattle.aes_planes.proofs.Mixing.MixColumns.{mix_of_inv_mix}
 use Rattle.aes_planes.proofs.Standard.CipherLaws.{two_keys}
 use Rattle.aes_planes.proofs.Standard.InvertedKeys.{inverted_length, inverted_end, inverted_middle}
-use Rattle.aes_permute.specs.Keys.{key_of, first_two, key_in, IsKeyed, IsKeySize}
+use Rattle.aes_cipher.specs.KeySizes.{IsKeySize}
+use Rattle.aes_permute.specs.Keys.{key_of, first_two, key_in, IsKeyed}
 use Rattle.aes_permute.specs.Stored.{round_keys_of}
 use Rattle.aes_permute.proofs.States.{keys_length}
 

@@ -1,5 +1,5 @@
 -- Stored round keys of a key, and the key that they are read as.
-use Rattle.std.specs.Prelude.{◌≡◌, ◌⊎◌, ℕ, ◌-◌, ◌*◌, ◌/◌, ◌≤◌, List, [], ◌∷◌, ◌++◌, length, take}
+use Rattle.std.specs.Prelude.{◌≡◌, ℕ, ◌-◌, List, [], ◌∷◌, ◌++◌, length, take}
 use Rattle.aes_planes.specs.Fips197 as fips
 use Rattle.aes_planes.specs.Planes.{plus63}
 use Rattle.aes_permute.specs.Stored.{as_is, inv_untower, key_untower, round_keys_of}
@@ -31,10 +31,3 @@ pub record IsKeyed (used_keys first_keys : List (List ℕ) → List (List ℕ)) 
   pub sized : length (key_in first_keys size v) ≡ size
   pub bytes : fips.IsBytes (key_in first_keys size v)
   pub keys : v ≡ used_keys (fips.key_expansion (key_in first_keys size v))
-
--- a number of bytes that keys have
-pub record IsKeySize (size : ℕ) : Type 0 where
-  pub words : size ≡ 4 * (size / 4)
-  pub four : 4 ≤ size / 4
-  pub eight : size / 4 ≤ 8
-  pub one_of_three : (size ≡ 16) ⊎ ((size ≡ 24) ⊎ (size ≡ 32))

@@ -4,7 +4,8 @@ ghost use Rattle.std.specs.Prelude.{◌≡◌, ◌≤◌, ℕ, Bool, true, false
 ghost use Rattle.aes_planes.specs.Fips197 as fips;
 ghost use Rattle.aes_planes.specs.Planes.{plus63};
 ghost use Rattle.aes_planes.specs.Rounds.{all_rounds};
-ghost use Rattle.aes_permute.specs.Keys.{IsKeySize, key_of, first_two};
+ghost use Rattle.aes_cipher.specs.KeySizes.{IsKeySize};
+ghost use Rattle.aes_permute.specs.Keys.{key_of, first_two};
 ghost use Rattle.aes_permute.specs.Stored.{untower, inv_untower, key_untower, as_is, round_keys_of, AreWritten};
 
 use crate::rounds::{
@@ -49,9 +50,6 @@ pub trait LaneRounds: Direction {
 
     /// Whether the rounds use the standard's list from its end.
     const BACKWARD: bool;
-
-    /// How the names of types end that work in this direction alone.
-    const SUFFIX: &'static str;
 
     /// Adds the first round key to a block, and returns the state.
     fn first(block: u8x16, key: u8x16) -> u8x16
@@ -120,8 +118,6 @@ impl LaneRounds for Encrypt {
 
     const BACKWARD: bool = false;
 
-    const SUFFIX: &'static str = "Enc";
-
     #[inline(always)]
     fn first(block: u8x16, key: u8x16) -> u8x16 {
         encrypt_first(block, key)
@@ -178,8 +174,6 @@ impl LaneRounds for Decrypt {
     ghost BACKWARD = { true };
 
     const BACKWARD: bool = true;
-
-    const SUFFIX: &'static str = "Dec";
 
     #[inline(always)]
     fn first(block: u8x16, key: u8x16) -> u8x16 {

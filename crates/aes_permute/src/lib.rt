@@ -3,7 +3,6 @@
 #![tactic(auto)]
 
 pub mod blocks;
-mod ciphers;
 pub mod directions;
 pub mod examples;
 pub mod keys;
@@ -16,7 +15,8 @@ pub mod sizes;
 pub mod stored;
 pub mod tables;
 
-pub use ciphers::{AesCipher, Backend, TwoBlocks};
+pub use aes_cipher::aes::AesCipher;
+pub use keys::{LaneBackend, TwoBlocks};
 pub use names::{
     Aes128, Aes128Dec, Aes128Enc, Aes192, Aes192Dec, Aes192Enc, Aes256, Aes256Dec, Aes256Enc,
 };

@@ -198,17 +198,21 @@ pub fn expand_256<D: LaneRounds>(keys: &mut [Block], key: &[u8])
     D::uses_written();
 }
 
-/// Turns stored round keys of Cipher into those of EqInvCipher, in their order of use (FIPS 197, 5.3.5). The first and
-/// the last are as they were.
-pub fn invert(keys: &mut [Block])
-    requires { 2 ≤ length keys.old }
-    ensures keys { decrypting keys.new ≡ fips.inverted_keys (encrypting keys.old) }
-    ensures same_length { length keys.new ≡ length keys.old }
+/// Writes the stored round keys of EqInvCipher, in their order of use, of the same key as those of Cipher (FIPS 197,
+/// 5.3.5). The first is the last of Cipher, and the last the first.
+pub fn invert(inverse: &mut [Block], keys: &[Block])
+    requires two { 2 ≤ length keys.now }
+    requires sized { length inverse.old ≡ length keys.now }
+    ensures keys { decrypting inverse.new ≡ fips.inverted_keys (encrypting keys.now) }
+    ensures same_length { length inverse.new ≡ length inverse.old }
 {
-    keys.reverse();
-    for i in 1..keys.len() - 1 {
-        let key = keys[i];
+    // Each is written once, in its place: a list that is turned where it stands leaves a round key on the stack.
+    let last = keys.len() - 1;
+    'keys: for i in 1..last {
+        let key = keys[last - i];
         laws::is_block(key);
-        keys[i] = inverted_key(u8x16::from_array(key)).to_array();
+        inverse[i] = inverted_key(u8x16::from_array(key)).to_array();
     }
+    inverse[0] = keys[last];
+    inverse[last] = keys[0];
 }

@@ -10,11 +10,12 @@ pub trait Stored: Drop {
     /// The blocks.
     ghost blocks: { Self → List (List ℕ) };
 
-    /// How many blocks there are.
-    ghost COUNT: { ℕ };
+    /// Every byte is zero.
+    ghost IsWiped: { Self → Type 0 };
 
-    /// Returns blocks to be written over. Nothing is claimed of what they hold.
-    fn room() -> Self;
+    /// Returns blocks of zeros, to be written over.
+    fn zeroed() -> Self
+        ensures { IsWiped result };
 
     /// Lends the blocks.
     fn lend(&self) -> &[Block]
@@ -26,16 +27,16 @@ pub trait Stored: Drop {
 
     /// Sets every byte to 0.
     fn wipe(&mut self)
-        ensures { blocks self.new ≡ replicate COUNT (replicate 16 0) };
+        ensures { IsWiped self.new };
 }
 
 impl<const N: usize> Stored for Wiped<[Block; N]> {
     ghost blocks = { λ wiped. wiped };
 
-    ghost COUNT = { N };
+    ghost IsWiped = { λ wiped. wiped ≡ replicate N (replicate 16 0) };
 
     #[inline(always)]
-    fn room() -> Wiped<[Block; N]> {
+    fn zeroed() -> Wiped<[Block; N]> {
         Wiped::zeroed()
     }
 

@@ -6,19 +6,15 @@ ghost use Rattle.aes_soft.specs.Stored.{key_size, HoldsBlocks};
 mod bits128;
 mod bits192;
 mod bits256;
-mod bytes;
 mod reading;
 mod wiped;
 mod words;
 
+pub use aes_cipher::aes::{Bits128, Bits192, Bits256, KeyBytes, KeySize};
 use aes_cipher::zeroize::Zeroize;
 use aes_planes::laws;
 use aes_planes::soft::sbox::Layers;
 use aes_planes::soft::word::Word;
-pub use bits128::Bits128;
-pub use bits192::Bits192;
-pub use bits256::Bits256;
-pub use bytes::KeyBytes;
 pub use wiped::WipedKeys;
 pub use words::RoundKeyWords;
 
@@ -26,32 +22,23 @@ pub use words::RoundKeyWords;
 pub type BatchWord = u128;
 
 /// How the keys of a size are expanded.
-pub trait KeyExpansion {
-    /// A key.
-    type Key: KeyBytes;
-
-    /// Nr: how many rounds the ciphers make (FIPS 197, 5).
-    ghost ROUNDS: { ℕ };
-
+pub trait KeyExpansion: KeySize {
     /// How many S-box layers a schedule runs.
     ghost SCHEDULE_LAYERS: { ℕ };
 
-    /// Nr: how many rounds the ciphers make (FIPS 197, 5).
-    const ROUNDS: usize;
-
     /// Writes the round keys of a key to words, each in every slot: KeyExpansion (FIPS 197, 5.2).
     fn expand<W: Word>(round_keys: &mut [W], key: &Self::Key, layers: &mut Layers)
-        requires sized { length round_keys.old ≡ 8 * ROUNDS + 8 }
+        requires sized { length round_keys.old ≡ 8 * Self.ROUNDS + 8 }
         ensures blocks { let round_key = fips.round_key (fips.key_expansion (Self.Key.bytes key.now)) in
-            HoldsBlocks W.BLOCKS (ROUNDS + 1) round_key (map W.bits round_keys.new) }
+            HoldsBlocks W.BLOCKS (Self.ROUNDS + 1) round_key (map W.bits round_keys.new) }
         ensures layers { layers.new ≡ layers.old + SCHEDULE_LAYERS }
         ensures same_length { length round_keys.new ≡ length round_keys.old };
 
     /// No effect; states how many bytes a key has, and that they suit the rounds.
     fn has_rounds(key: &Self::Key)
-        ensures sized { length (Self.Key.bytes key.now) ≡ key_size ROUNDS }
-        ensures same_size { Self.Key.SIZE ≡ key_size ROUNDS }
-        ensures one_of_three { (ROUNDS ≡ 10) ⊎ ((ROUNDS ≡ 12) ⊎ (ROUNDS ≡ 14)) };
+        ensures sized { length (Self.Key.bytes key.now) ≡ key_size Self.ROUNDS }
+        ensures same_size { Self.Key.SIZE ≡ key_size Self.ROUNDS }
+        ensures one_of_three { (Self.ROUNDS ≡ 10) ⊎ ((Self.ROUNDS ≡ 12) ⊎ (Self.ROUNDS ≡ 14)) };
 }
 
 /// A variant of AES: AES-128, AES-192 or AES-256. It says how round keys are stored.
@@ -64,9 +51,6 @@ pub trait AesVariant: KeyExpansion {
 
     /// Stored round keys that are wiped when they are dropped.
     type Wiped: WipedKeys<Words = Self::RoundKeys>;
-
-    /// The name of the type that encrypts and decrypts; those of one direction begin with it.
-    const NAME: &'static str;
 
     /// Writes the stored round keys of a key to words that are wiped.
     fn refill(round_keys: &mut Self::Wiped, key: &Self::Key, layers: &mut Layers)

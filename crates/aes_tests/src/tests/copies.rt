@@ -40,10 +40,10 @@ fn takes_slices_of_the_key_size_alone(rt: HostRuntime) {
 }
 
 // The same of the three types of `aes_permute`.
-fn all_permutations_take_their_own_length_alone<K: sizes::AesVariant>(size: usize) -> bool {
-    takes_its_own_length_alone::<permute::AesCipher<keys::BothWays<K>>>(size)
-        && takes_its_own_length_alone::<permute::AesCipher<keys::OneWay<K, Encrypt>>>(size)
-        && takes_its_own_length_alone::<permute::AesCipher<keys::OneWay<K, Decrypt>>>(size)
+fn all_permutations_take_their_own_length_alone<K: sizes::LaneKeys>(size: usize) -> bool {
+    takes_its_own_length_alone::<permute::AesCipher<keys::TwoWays<K>, BothWays>>(size)
+        && takes_its_own_length_alone::<permute::AesCipher<keys::OneWay<K, Encrypt>, Encrypt>>(size)
+        && takes_its_own_length_alone::<permute::AesCipher<keys::OneWay<K, Decrypt>, Decrypt>>(size)
 }
 
 #[test]
@@ -93,14 +93,14 @@ fn copies_keep_the_key<K: AesVariant>(key: &K::Key, encrypted: u128) -> Result<b
     copies_keep_the_key!(AesCipher<K, BothWays>, AesCipher<K, Encrypt>, AesCipher<K, Decrypt>, key, encrypted)
 }
 
-fn permuted_copies_keep_the_key<K: sizes::AesVariant>(
+fn permuted_copies_keep_the_key<K: sizes::LaneKeys>(
     key: &K::Key,
     encrypted: u128,
 ) -> Result<bool, Fail> {
     copies_keep_the_key!(
-        permute::AesCipher<keys::BothWays<K>>,
-        permute::AesCipher<keys::OneWay<K, Encrypt>>,
-        permute::AesCipher<keys::OneWay<K, Decrypt>>,
+        permute::AesCipher<keys::TwoWays<K>, BothWays>,
+        permute::AesCipher<keys::OneWay<K, Encrypt>, Encrypt>,
+        permute::AesCipher<keys::OneWay<K, Decrypt>, Decrypt>,
         key,
         encrypted
     )
@@ -137,10 +137,10 @@ fn wipes_in_place<K: AesVariant>(key: &K::Key, zeros_encrypted: u128) -> bool {
     wipes_in_place!(AesCipher<K, Encrypt>, AesCipher<K, Decrypt>, key, zeros_encrypted)
 }
 
-fn wipes_permuted_in_place<K: sizes::AesVariant>(key: &K::Key, zeros_encrypted: u128) -> bool {
+fn wipes_permuted_in_place<K: sizes::LaneKeys>(key: &K::Key, zeros_encrypted: u128) -> bool {
     wipes_in_place!(
-        permute::AesCipher<keys::OneWay<K, Encrypt>>,
-        permute::AesCipher<keys::OneWay<K, Decrypt>>,
+        permute::AesCipher<keys::OneWay<K, Encrypt>, Encrypt>,
+        permute::AesCipher<keys::OneWay<K, Decrypt>, Decrypt>,
         key,
         zeros_encrypted
     )

@@ -64,11 +64,11 @@ fn planes_hold<K: AesVariant>(example: Example) -> bool {
 }
 
 // The same of those of `aes_permute`.
-fn permutations_hold<K: sizes::AesVariant>(example: Example) -> bool {
+fn permutations_hold<K: sizes::LaneKeys>(example: Example) -> bool {
     hold::<
-        permute::AesCipher<keys::BothWays<K>>,
-        permute::AesCipher<keys::OneWay<K, Encrypt>>,
-        permute::AesCipher<keys::OneWay<K, Decrypt>>,
+        permute::AesCipher<keys::TwoWays<K>, BothWays>,
+        permute::AesCipher<keys::OneWay<K, Encrypt>, Encrypt>,
+        permute::AesCipher<keys::OneWay<K, Decrypt>, Decrypt>,
     >(example)
 }
 

@@ -181,12 +181,12 @@ fn try_permutations<T: Trial>(trial: &T) -> [Passed; 3] {
     ]
 }
 
-fn permutations_pass<T: Trial, K: sizes::AesVariant>(trial: &T, key: &[u8]) -> [bool; 4] {
+fn permutations_pass<T: Trial, K: sizes::LaneKeys>(trial: &T, key: &[u8]) -> [bool; 4] {
     pass_under::<
         T,
-        permute::AesCipher<keys::BothWays<K>>,
-        permute::AesCipher<keys::OneWay<K, Encrypt>>,
-        permute::AesCipher<keys::OneWay<K, Decrypt>>,
+        permute::AesCipher<keys::TwoWays<K>, BothWays>,
+        permute::AesCipher<keys::OneWay<K, Encrypt>, Encrypt>,
+        permute::AesCipher<keys::OneWay<K, Decrypt>, Decrypt>,
     >(trial, key)
 }
 

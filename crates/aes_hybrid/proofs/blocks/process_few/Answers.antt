@@ -13,7 +13,6 @@ process_blocks-requires g c = record {
   two = two_stored g.D.LaneRounds.first_byte g.D.LaneRounds.inner_byte g.D.LaneRounds.last_byte g.D.LaneRounds.used_keys
       c.uses_all.ensures _ (lanes_key c.args.keys.now)
       (c.requires.used ∙ ap g.D.LaneRounds.used_keys c.requires.is_lanes.keyed.keys);
-  blocks = c.are_blocks.ensures;
 }
 
 pub returns : goal.returns

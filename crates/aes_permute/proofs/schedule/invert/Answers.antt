@@ -1,35 +1,28 @@
 -- What is left to show of `schedule::invert`.
-use Rattle.std.proofs.Common.{◌≢◌, ◌-◌, inl, inr, ℕ, List, [], length, refl, get_or, ap, ◌∙◌, arith}
-use Rattle.std.proofs.lemmas.List.{get_or-reverse, length-set, length-reverse}
-use Rattle.aes_permute.proofs.Inversion.{inverted_stored, unmixed_more, moved_other}
+use Rattle.std.proofs.Common.{◌≡◌, ◌≢◌, ◌≤◌, ℕ, ◌-◌, List, [], length, map, get_or, set, ap, ◌∙◌, arith}
+use Rattle.std.proofs.lemmas.List.{get_or-set_same, get_or-set_other, length-set}
+use Rattle.aes_permute.specs.Stored.{inv_untower}
+use Rattle.aes_permute.proofs.Inversion.{inverted_stored}
 use Rattle.aes_permute.proofs.schedule.invert.Goals as goal
-
-pub loop-i-init : goal.loop-i-init
-loop-i-init c = record {
-  same_length = ap length c.reverse.ensures.after ∙ length-reverse c.args.keys.now;
-  done = λ k some lt. absurd (omega arith);
-  left = λ k lt w. ap (λ v. get_or v k []) c.reverse.ensures.after ∙ get_or-reverse c.args.keys.now k [] lt;
-}
-
-pub loop-i-preserved : goal.loop-i-preserved
-loop-i-preserved c =
-    let old = c.args.keys.now in
-    let new = c.loop-i.keys in
-    let i = c.loop-i.i in
-    let inv = c.loop-i.invariant in
-    record {
-      same_length = omega (arith, length-set {A = List ℕ}, inv.same_length);
-      done = unmixed_more old new i _ (omega (arith, inv.same_length)) c.inverted_key.ensures
-          (inv.left i (omega (arith, inv.same_length)) (inr (omega arith))) inv.done;
-      left = λ k lt w. let ne : k ≢ i = elim w [ inl none ↦ omega (arith, none) | inr le ↦ omega (arith, le) ] in
-          moved_other old new i k _ ne (inv.left k lt
-          (elim w [ inl none ↦ inl none | inr le ↦ inr (omega (arith, le)) ]));
-    }
 
 pub returns-clause-keys : goal.returns-clause-keys
 returns-clause-keys c =
-    let inv = c.loop-i.invariant in
-    inverted_stored c.args.keys.now c.loop-i.keys c.requires inv.same_length
-    (λ k some lt. inv.done k some (omega arith))
-    (inv.left 0 (omega (arith, c.requires)) (inl refl))
-    (inv.left (length c.args.keys.now - 1) (omega (arith, c.requires)) (inr (omega arith)))
+    let keys = c.args.keys.now in
+    let inverse = c.keys.inverse in
+    let last : ℕ = length keys - 1 in
+    let two : 2 ≤ length keys = c.requires.two in
+    let one : List (List ℕ) = set inverse 0 (get_or keys last []) in
+    let both : List (List ℕ) = set one last (get_or keys 0 []) in
+    let l1 : length one ≡ length keys = length-set inverse 0 _ ∙ c.keys.invariant.same_length in
+    let l2 : length both ≡ length keys = length-set one last _ ∙ l1 in
+    inverted_stored keys both two l2
+    (λ k some lt.
+    let below : k ≢ last = omega arith in
+    let above : k ≢ 0 = omega arith in
+    ap (map inv_untower) (get_or-set_other one last k _ [] below ∙ get_or-set_other inverse 0 k _ [] above)
+    ∙ c.keys.invariant.done k some (omega (arith, lt, c.keys-test.false)))
+    (let apart : 0 ≢ last = omega (arith, two) in
+    get_or-set_other one last 0 _ [] apart
+    ∙ get_or-set_same inverse 0 _ [] (omega (arith, c.keys.invariant.same_length, two))
+    ∙ ap (λ n. get_or keys n []) (omega arith))
+    (get_or-set_same one last _ [] (omega (arith, l1, two)) ∙ ap (λ n. get_or keys n []) (omega arith))

@@ -2,7 +2,7 @@
 ghost use Rattle.std.specs.Prelude.{refl};
 
 use super::reading::reads_keys;
-use super::{AesVariant, BatchWord, KeyExpansion};
+use super::{AesVariant, BatchWord, Bits128, KeyExpansion};
 use crate::soft::expand::expand_128;
 use crate::soft::full::aes128::RoundKeys;
 use crate::soft::full::put_wide;
@@ -11,17 +11,8 @@ use aes_cipher::zeroize::Wiped;
 use aes_planes::soft::sbox::Layers;
 use aes_planes::soft::word::Word;
 
-/// AES-128: keys of 16 bytes.
-pub struct Bits128;
-
 impl KeyExpansion for Bits128 {
-    type Key = [u8; 16];
-
-    ghost ROUNDS = { 10 };
-
     ghost SCHEDULE_LAYERS = { 10 };
-
-    const ROUNDS: usize = 10;
 
     #[inline(always)]
     fn expand<W: Word>(round_keys: &mut [W], key: &[u8; 16], layers: &mut Layers) {
@@ -37,8 +28,6 @@ impl AesVariant for Bits128 {
     type WideKeys = RoundKeys<BatchWord>;
 
     type Wiped = Wiped<RoundKeys<u16>>;
-
-    const NAME: &'static str = "Aes128";
 
     fn refill(round_keys: &mut Wiped<RoundKeys<u16>>, key: &[u8; 16], layers: &mut Layers) {
         put_schedule::<u16, Bits128>(round_keys.words_mut(), key, layers);

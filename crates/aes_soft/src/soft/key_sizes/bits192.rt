@@ -2,7 +2,7 @@
 ghost use Rattle.std.specs.Prelude.{refl};
 
 use super::reading::reads_keys;
-use super::{AesVariant, BatchWord, KeyExpansion};
+use super::{AesVariant, BatchWord, Bits192, KeyExpansion};
 use crate::soft::expand::expand_192;
 use crate::soft::full::aes192::RoundKeys;
 use crate::soft::full::put_wide;
@@ -11,17 +11,8 @@ use aes_cipher::zeroize::Wiped;
 use aes_planes::soft::sbox::Layers;
 use aes_planes::soft::word::Word;
 
-/// AES-192: keys of 24 bytes.
-pub struct Bits192;
-
 impl KeyExpansion for Bits192 {
-    type Key = [u8; 24];
-
-    ghost ROUNDS = { 12 };
-
     ghost SCHEDULE_LAYERS = { 8 };
-
-    const ROUNDS: usize = 12;
 
     #[inline(always)]
     fn expand<W: Word>(round_keys: &mut [W], key: &[u8; 24], layers: &mut Layers) {
@@ -37,8 +28,6 @@ impl AesVariant for Bits192 {
     type WideKeys = RoundKeys<BatchWord>;
 
     type Wiped = Wiped<RoundKeys<u16>>;
-
-    const NAME: &'static str = "Aes192";
 
     fn refill(round_keys: &mut Wiped<RoundKeys<u16>>, key: &[u8; 24], layers: &mut Layers) {
         put_schedule::<u16, Bits192>(round_keys.words_mut(), key, layers);

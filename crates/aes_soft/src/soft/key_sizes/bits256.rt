@@ -2,7 +2,7 @@
 ghost use Rattle.std.specs.Prelude.{refl};
 
 use super::reading::reads_keys;
-use super::{AesVariant, BatchWord, KeyExpansion};
+use super::{AesVariant, BatchWord, Bits256, KeyExpansion};
 use crate::soft::expand::expand_256;
 use crate::soft::full::aes256::RoundKeys;
 use crate::soft::full::put_wide;
@@ -11,17 +11,8 @@ use aes_cipher::zeroize::Wiped;
 use aes_planes::soft::sbox::Layers;
 use aes_planes::soft::word::Word;
 
-/// AES-256: keys of 32 bytes.
-pub struct Bits256;
-
 impl KeyExpansion for Bits256 {
-    type Key = [u8; 32];
-
-    ghost ROUNDS = { 14 };
-
     ghost SCHEDULE_LAYERS = { 13 };
-
-    const ROUNDS: usize = 14;
 
     #[inline(always)]
     fn expand<W: Word>(round_keys: &mut [W], key: &[u8; 32], layers: &mut Layers) {
@@ -37,8 +28,6 @@ impl AesVariant for Bits256 {
     type WideKeys = RoundKeys<BatchWord>;
 
     type Wiped = Wiped<RoundKeys<u16>>;
-
-    const NAME: &'static str = "Aes256";
 
     fn refill(round_keys: &mut Wiped<RoundKeys<u16>>, key: &[u8; 32], layers: &mut Layers) {
         put_schedule::<u16, Bits256>(round_keys.words_mut(), key, layers);

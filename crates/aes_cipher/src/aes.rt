@@ -1,0 +1,98 @@
+//! The one type behind the nine names: AES with a key of any size, in one direction or both, over the form in which it
+//! keeps its round keys.
+
+ghost use Rattle.std.specs.Prelude.{◌≡◌, ℕ, List, replicate, refl};
+ghost use Rattle.aes_planes.specs.Fips197 as fips;
+ghost use Rattle.aes_planes.proofs.Standard.CipherLaws.{two_keys};
+
+mod copies;
+mod counted;
+mod decrypt;
+mod directions;
+mod encrypt;
+mod key_bytes;
+mod key_sizes;
+mod schedules;
+mod text;
+
+use crate::cipher::{InvalidLength, KeyInit, KeySizeUser, RoundKeysUser};
+use crate::zeroize::ZeroizeOnDrop;
+use aes_planes::laws;
+pub use counted::CountsLayers;
+pub use directions::{BothWays, Directions, Includes};
+pub use key_bytes::KeyBytes;
+pub use key_sizes::{Bits128, Bits192, Bits256, KeySize};
+pub use schedules::{Decrypts, Encrypts, KeySchedule, Processes, TurnedFrom};
+use std::marker::{Model, PhantomData};
+
+/// AES with the stored round keys S, in the directions D. Contracts see a value as its key.
+#[derive(Drop)]
+pub struct AesCipher<S: KeySchedule, D: Directions> {
+    schedule: S,
+    directions: PhantomData<D>,
+}
+
+impl<S: KeySchedule, D: Directions> Model for AesCipher<S, D> {
+    ghost Value = { List ℕ };
+
+    ghost view = { λ cipher. S.key cipher.schedule };
+
+    ghost invariant = { λ cipher. S.AreKeyed cipher.schedule };
+}
+
+impl<S: KeySchedule, D: Directions> AesCipher<S, D> {
+    /// Wipes the round keys in place, and leaves the value of the zero key.
+    pub fn zeroize(&mut self)
+        ensures { self.new ≡ replicate S.Size.Key.SIZE 0 }
+    {
+        self.schedule.wipe();
+        self.schedule
+            .refill(&<<S::Size as KeySize>::Key as KeyBytes>::zero());
+    }
+}
+
+impl<S: KeySchedule, D: Directions> KeySizeUser for AesCipher<S, D> {
+    type Key = <S::Size as KeySize>::Key;
+
+    ghost KEY_SIZE = { S.Size.Key.SIZE };
+
+    ghost key_bytes = { S.Size.Key.bytes };
+
+    const KEY_SIZE: usize = <<S::Size as KeySize>::Key as KeyBytes>::SIZE;
+}
+
+impl<S: KeySchedule, D: Directions> RoundKeysUser for AesCipher<S, D> {
+    ghost round_keys = { fips.key_expansion };
+
+    fn has_round_keys(&self) {
+        laws::expanded_keys();
+        self.schedule.has_key();
+    }
+
+    ghost two_round_keys = { two_keys };
+}
+
+impl<S: KeySchedule, D: Directions> KeyInit for AesCipher<S, D> {
+    ghost own_key = { λ key. key };
+
+    fn new(key: &<S::Size as KeySize>::Key) -> AesCipher<S, D> {
+        let mut cipher = AesCipher {
+            schedule: S::zeroed(),
+            directions: PhantomData,
+        };
+        cipher.schedule.refill(key);
+        cipher
+    }
+
+    fn new_from_slice(key: &[u8]) -> Result<AesCipher<S, D>, InvalidLength> {
+        Ok(AesCipher::new(<<S::Size as KeySize>::Key as KeyBytes>::from_slice(key)?))
+    }
+
+    fn has_key(&self) {
+        self.schedule.has_key();
+    }
+
+    ghost expanded = { λ key. refl };
+}
+
+impl<S: KeySchedule, D: Directions> ZeroizeOnDrop for AesCipher<S, D> {}

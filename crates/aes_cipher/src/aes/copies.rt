@@ -1,0 +1,44 @@
+//! Clones and conversions: ciphers with the key of another.
+
+ghost use Rattle.std.specs.Prelude.{◌≡◌, ⊤};
+
+use super::AesCipher;
+use super::directions::{Directions, Includes};
+use super::schedules::{KeySchedule, TurnedFrom};
+use crate::cipher::{Decrypt, Encrypt};
+use std::alloc::AllocError;
+use std::marker::PhantomData;
+
+impl<S: KeySchedule, D: Directions> Clone for AesCipher<S, D> {
+    ghost is_clone = { λ cipher copy. copy ≡ cipher };
+
+    ghost is_infallible = { λ _. ⊤ };
+
+    fn clone(&self) -> Result<AesCipher<S, D>, AllocError> {
+        Ok(AesCipher {
+            schedule: self.schedule.copy(),
+            directions: PhantomData,
+        })
+    }
+}
+
+impl<S: KeySchedule, T: TurnedFrom<S>, D: Includes<Decrypt>> From<&AesCipher<S, Encrypt>>
+    for AesCipher<T, D> {
+    ghost from_gives = { λ enc made. made ≡ enc.now };
+
+    fn from(enc: &AesCipher<S, Encrypt>) -> AesCipher<T, D> {
+        AesCipher {
+            schedule: T::turned(&enc.schedule),
+            directions: PhantomData,
+        }
+    }
+}
+
+impl<S: KeySchedule, T: TurnedFrom<S>, D: Includes<Decrypt>> From<AesCipher<S, Encrypt>>
+    for AesCipher<T, D> {
+    ghost from_gives = { λ enc made. made ≡ enc };
+
+    fn from(enc: AesCipher<S, Encrypt>) -> AesCipher<T, D> {
+        AesCipher::from(&enc)
+    }
+}

@@ -1,0 +1,23 @@
+//! Ciphers that decrypt.
+
+use super::AesCipher;
+use super::directions::Includes;
+use super::schedules::{Decrypts, Processes};
+use crate::cipher::{Block, BlockCipherDecClosure, BlockCipherDecrypt, Decrypt};
+
+impl<S: Decrypts, D: Includes<Decrypt>> BlockCipherDecrypt for AesCipher<S, D> {
+    #[inline(always)]
+    fn decrypt_with_backend<F: BlockCipherDecClosure>(&self, f: &mut F) {
+        self.schedule.decrypt_with_backend(f);
+    }
+
+    #[inline(always)]
+    fn decrypt_block(&self, block: &mut Block) {
+        self.schedule.process_block(block);
+    }
+
+    #[inline(always)]
+    fn decrypt_blocks(&self, blocks: &mut [Block]) {
+        self.schedule.process_blocks(blocks);
+    }
+}

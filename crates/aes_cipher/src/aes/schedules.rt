@@ -1,0 +1,102 @@
+//! The forms in which round keys are stored, and what is done under them.
+
+ghost use Rattle.std.specs.Prelude.{◌≡◌, ℕ, List, length};
+ghost use Rattle.aes_planes.specs.Each.{Each};
+ghost use Rattle.aes_planes.specs.Fips197 as fips;
+
+use super::key_bytes::KeyBytes;
+use super::key_sizes::KeySize;
+use crate::cipher::{
+    Block, BlockCipherDecClosure, BlockCipherEncClosure, Decrypt, Direction, Encrypt,
+};
+
+/// The stored round keys of a key, in some form. They are wiped when they are dropped. Contracts see the key that they
+/// are read as.
+pub trait KeySchedule: Drop {
+    /// The size of the key.
+    type Size: KeySize;
+
+    /// The key that the round keys are read as.
+    ghost key: { Self → List ℕ };
+
+    /// The round keys are those of that key.
+    ghost AreKeyed: { Self → Type 0 };
+
+    /// Nothing of a key is left.
+    ghost IsWiped: { Self → Type 0 };
+
+    /// Returns room for round keys.
+    fn zeroed() -> Self
+        ensures { IsWiped result };
+
+    /// Overwrites everything with zeros, in place.
+    fn wipe(&mut self)
+        ensures { IsWiped self.new };
+
+    /// Writes the round keys of a key to wiped room: KeyExpansion (FIPS 197, 5.2).
+    fn refill(&mut self, new_key: &<Self::Size as KeySize>::Key)
+        requires wiped { IsWiped self.old }
+        ensures keyed { AreKeyed self.new }
+        ensures same { key self.new ≡ Self.Size.Key.bytes new_key.now };
+
+    /// Returns the same round keys once more.
+    fn copy(&self) -> Self
+        requires keyed { AreKeyed self.now }
+        ensures keyed { AreKeyed result }
+        ensures same { key result ≡ key self.now };
+
+    /// No effect; states that the key has as many bytes as its size says.
+    fn has_key(&self)
+        requires keyed { AreKeyed self.now }
+        ensures sized { length (key self.now) ≡ Self.Size.Key.SIZE }
+        ensures bytes { fips.IsBytes (key self.now) };
+}
+
+/// Stored round keys under which blocks are processed in the direction D.
+pub trait Processes<D: Direction>: KeySchedule {
+    /// Processes the block in place.
+    fn process_block(&self, block: &mut Block)
+        requires keyed { Self.AreKeyed self.now }
+        ensures { block.new ≡ D.processed (fips.key_expansion (Self.key self.now)) block.old };
+
+    /// Processes each block of a slice in place.
+    fn process_blocks(&self, blocks: &mut [Block])
+        requires keyed { Self.AreKeyed self.now }
+        ensures { Each (D.processed (fips.key_expansion (Self.key self.now))) blocks.old blocks.new };
+}
+
+/// Stored round keys under which blocks are encrypted.
+pub trait Encrypts: Processes<Encrypt> {
+    /// Calls the closure once, with a backend of the round keys.
+    fn encrypt_with_backend<F: BlockCipherEncClosure>(&self, f: &mut F)
+        requires keyed { Self.AreKeyed self.now }
+        ensures { F.did f.old (fips.key_expansion (Self.key self.now)) f.new };
+
+    /// Calls the closure once, with a backend of the round keys that suits so many blocks. The number decides how long
+    /// the work takes, and nothing else.
+    #[inline(always)]
+    fn encrypt_with_backend_for<F: BlockCipherEncClosure>(&self, blocks: usize, f: &mut F)
+        requires keyed { Self.AreKeyed self.now }
+        ensures { F.did f.old (fips.key_expansion (Self.key self.now)) f.new }
+    {
+        let _ = blocks;
+        self.encrypt_with_backend(f);
+    }
+}
+
+/// Stored round keys under which blocks are decrypted.
+pub trait Decrypts: Processes<Decrypt> {
+    /// Calls the closure once, with a backend of the round keys.
+    fn decrypt_with_backend<F: BlockCipherDecClosure>(&self, f: &mut F)
+        requires keyed { Self.AreKeyed self.now }
+        ensures { F.did f.old (fips.key_expansion (Self.key self.now)) f.new };
+}
+
+/// Stored round keys that are made from those of S, which has the same key.
+pub trait TurnedFrom<S: KeySchedule>: KeySchedule {
+    /// Returns the round keys of the key of others.
+    fn turned(schedule: &S) -> Self
+        requires keyed { S.AreKeyed schedule.now }
+        ensures keyed { Self.AreKeyed result }
+        ensures same { Self.key result ≡ S.key schedule.now };
+}

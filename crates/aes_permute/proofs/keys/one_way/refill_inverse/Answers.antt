@@ -1,0 +1,22 @@
+-- What is left to show of `keys::one_way::refill_inverse`.
+use Rattle.std.proofs.Common.{ap, ◌∙◌}
+use Rattle.aes_planes.specs.Fips197.{inverted_keys}
+use Rattle.aes_planes.specs.Planes.{plus63}
+use Rattle.aes_permute.specs.Keys.{first_two}
+use Rattle.aes_permute.specs.Stored.{as_is, key_untower}
+use Rattle.aes_permute.proofs.DirectionLaws.{same_forward, key_backward}
+use Rattle.aes_permute.proofs.KeyBytes.{is_keyed, two_stored}
+use Rattle.aes_permute.proofs.keys.one_way.refill_inverse.Goals as goal
+
+pub invert-requires : goal.invert-requires
+invert-requires g c = two_stored as_is key_untower plus63 (λ w. w) same_forward _ _ c.requires.keyed.keys
+
+pub returns-clause-keyed : goal.returns-clause-keyed
+returns-clause-keyed g c =
+    (is_keyed inverted_keys first_two g.K.Key.KeyBytes.SIZE _ _ g.met.K.KeySize.is_size c.requires.keyed.sized
+    c.requires.keyed.bytes key_backward (c.invert.ensures ∙ ap inverted_keys c.requires.keyed.keys)).1
+
+pub returns-clause-same : goal.returns-clause-same
+returns-clause-same g c =
+    (is_keyed inverted_keys first_two g.K.Key.KeyBytes.SIZE _ _ g.met.K.KeySize.is_size c.requires.keyed.sized
+    c.requires.keyed.bytes key_backward (c.invert.ensures ∙ ap inverted_keys c.requires.keyed.keys)).0
