@@ -81,7 +81,7 @@ impl Aes {
     pub fn new(key: &[u8]) -> Result<Aes, InvalidLength> {
         let mut schedule = Box::new(MaybeUninit::<c::Aes>::uninit());
         // SAFETY: both pointers come from references that are valid for the call. The call writes the whole struct,
-        // whether it refuses the key or not, and reads none of it.
+        // whether it refuses the key or not, and reads nothing of it before that.
         let (status, schedule) = unsafe {
             let status = c::fotsgure_aes_set_key(&mut *schedule, key.as_ptr(), key.len());
             (status, Box::from_raw(Box::into_raw(schedule).cast::<c::Aes>()))
