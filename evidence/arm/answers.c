@@ -1,6 +1,6 @@
 /* Answers lines of hexadecimal digits by the C library: `enc KEY BLOCKS` and `dec KEY BLOCKS` as the program aes-kat
- * does, in place and from buffer to buffer and in one call, which must agree; and `ctr KEY IV BYTES CUT`, counter mode in
- * two calls. A line that it cannot read, or calls that do not agree, are answered `error`. */
+ * does, in place and from buffer to buffer and in one call, which must agree; and `ctr KEY IV BYTES CUT`, counter mode
+ * in two calls. A line that it cannot read, or calls that do not agree, are answered `error`. */
 #include "fotsgure_aes.h"
 
 #include <stdio.h>
@@ -28,11 +28,16 @@ static long from_hex(uint8_t *to, size_t most, const char *digits) {
 static int blocks(const struct fotsgure_aes *aes, size_t size, int there, size_t count) {
     int wrong = 0;
     memcpy(bytes, given, 16 * count);
-    wrong |= (there ? fotsgure_aes_encrypt_blocks_to : fotsgure_aes_decrypt_blocks_to)(aes, given, count, others, count);
-    wrong |= (int)(there ? fotsgure_aes_encrypt_blocks : fotsgure_aes_decrypt_blocks)(aes, bytes, count);
+    if (there)
+        wrong |= fotsgure_aes_encrypt_blocks_to(aes, given, count, others, count) != FOTSGURE_AES_DONE ||
+            fotsgure_aes_encrypt_blocks(aes, bytes, count) != FOTSGURE_AES_DONE;
+    else
+        wrong |= fotsgure_aes_decrypt_blocks_to(aes, given, count, others, count) != FOTSGURE_AES_DONE ||
+            fotsgure_aes_decrypt_blocks(aes, bytes, count) != FOTSGURE_AES_DONE;
     wrong |= memcmp(bytes, others, 16 * count);
     memcpy(others, given, 16 * count);
-    wrong |= (there ? fotsgure_aes_encrypt_blocks_with : fotsgure_aes_decrypt_blocks_with)(key, size, others, count);
+    wrong |= (there ? fotsgure_aes_encrypt_blocks_with(key, size, others, count) :
+        fotsgure_aes_decrypt_blocks_with(key, size, others, count)) != FOTSGURE_AES_DONE;
     return wrong | memcmp(bytes, others, 16 * count);
 }
 

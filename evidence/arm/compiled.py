@@ -1,6 +1,6 @@
 """The compiled functions of the library for 64-bit ARM, looked at without a run: conditional branches with what they
-test, reads and writes at an index that a register holds, sums of registers, by which an address may be made, and whether
-anything goes from a vector to an address.
+test, reads and writes at an index that a register holds, sums of registers, by which an address may be made, and
+whether anything goes from a vector to an address.
 
 They are told as constant-time/jumps.py tells the jumps of x86-64, whose lists this shares.
 """
@@ -37,8 +37,8 @@ def shape(operands):
 
 
 def looked_at(archive):
-    """How often each branch, indexed access and sum stands in the archive: {(function, what, instruction): count}; the
-    byte shuffles; and what should not be there at all."""
+    """How often each branch, indexed access and sum stands in the archive: {(function, what, instruction): count};
+    the byte shuffles; and what should not be there at all."""
     found, shuffles, strange, last = {}, 0, [], ("", "")
     for name, code in instructions(archive):
         key = None

@@ -1,6 +1,6 @@
-/* Calls of the C library and the same work by OpenSSL, through EVP and by its vector permutations with nothing between,
- * each between the marks that the plugin of qemu counts by. A line for each, with tabs: the call, the bits of the key,
- * the blocks, the engine, and whether its answer is that of the C library. */
+/* Calls of the C library and the same work by OpenSSL, through EVP and by its vector permutations with nothing
+ * between, each between the marks that the plugin of qemu counts by. A line for each, with tabs: the call, the bits of
+ * the key, the blocks, the engine, and whether its answer is that of the C library. */
 #include "fotsgure_aes.h"
 #include "marks.h"
 

@@ -1,5 +1,5 @@
-/* What the search of the stack looks for, written apart from the library: KeyExpansion (FIPS 197, 5.2), and the planes of
- * round keys that a batch of eight blocks works with. On x86-64 the exports for measurements compute both. */
+/* What the search of the stack looks for, written apart from the library: KeyExpansion (FIPS 197, 5.2), and the planes
+ * of round keys that a batch of eight blocks works with. On x86-64 the exports for measurements compute both. */
 #include <stdint.h>
 #include <string.h>
 

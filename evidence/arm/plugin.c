@@ -1,6 +1,6 @@
-/* A plugin of qemu that follows what runs between two marks: how many instructions, which ones in which order, and which
- * addresses they read and write. Each time it meets the second mark it writes a line with tabs: instructions, a hash of
- * their addresses, reads and writes, a hash of the addresses of those, and byte shuffles (`tbl`).
+/* A plugin of qemu that follows what runs between two marks: how many instructions, which ones in which order, and
+ * which addresses they read and write. Each time it meets the second mark it writes a line with tabs: instructions, a
+ * hash of their addresses, reads and writes, a hash of the addresses of those, and byte shuffles (`tbl`).
  * usage: qemu-aarch64 -plugin plugin.so,out=FILE PROGRAM .. */
 #include <stdbool.h>
 #include <stddef.h>

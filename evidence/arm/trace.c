@@ -1,6 +1,6 @@
 /* Makes every call of the C library for many keys and data of one length, between the marks that the plugin of qemu
  * knows. A line for each, with tabs: the call, the bits of the key, the count, the position, and whether the call did
- * its work. Calls with one name, size, count and position must run the same instructions and touch the same places. */
+ * its work. Calls with one name, size, count and position must run the same instructions on the same addresses. */
 #include "fotsgure_aes.h"
 #include "marks.h"
 
@@ -72,8 +72,12 @@ static const struct call { const char *name; void (*it)(void); enum unit unit; s
     {"add_keystream_with", stream_with, BYTES, FOTSGURE_AES_DONE},
     {"add_keystream, no key", stream_no_key, BYTES, FOTSGURE_AES_NO_KEY},
 };
-static const size_t block_counts[] = {0, 1, 2, 3, 4, 5, 6, 7, 8, 9, 10, 11, 12, 13, 14, 15, 16, 17, 23, 24, 40, 64, 127};
-static const size_t byte_counts[] = {0, 1, 15, 16, 17, 31, 33, 64, 81, 96, 100, 127, 128, 129, 207, 255, 256, 300, 2000};
+static const size_t block_counts[] = {
+    0, 1, 2, 3, 4, 5, 6, 7, 8, 9, 10, 11, 12, 13, 14, 15, 16, 17, 23, 24, 40, 64, 127
+};
+static const size_t byte_counts[] = {
+    0, 1, 15, 16, 17, 31, 33, 64, 81, 96, 100, 127, 128, 129, 207, 255, 256, 300, 2000
+};
 static const uint64_t positions[] = {0, 5, 16, 4095, (uint64_t)1 << 40};
 #define OF(list) (sizeof list / sizeof *list)
 
