@@ -160,8 +160,12 @@ pub fn run<R: Read, W: Write>(alloc: Global, input: &mut R, output: &mut W) -> R
     run_in(alloc, input, output)
 }
 
-// The same over any memory.
-pub(crate) fn run_in<A: Allocator, R: Read, W: Write>(
+/// The same as [`run`], over any memory.
+///
+/// # Errors
+///
+/// Those of `run`.
+pub fn run_in<A: Allocator, R: Read, W: Write>(
     alloc: A,
     input: &mut R,
     output: &mut W,

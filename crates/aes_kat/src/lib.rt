@@ -13,9 +13,6 @@ mod replies;
 mod requests;
 mod split;
 
-pub use engine::{Failed, run, status};
+pub use engine::{Failed, run, run_in, status};
 pub use laws::parts_are_unique;
 pub use replies::reply;
-
-#[cfg(test)]
-mod tests;

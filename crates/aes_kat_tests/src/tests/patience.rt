@@ -1,6 +1,6 @@
 //! Long runs: no number of reads, of writes or of bytes makes a run fail, which no clause says.
 use super::outside::{drip_of, nibble_of};
-use crate::{run, status};
+use aes_kat::{run, status};
 use std::alloc::Global;
 use std::io;
 use std::io::{Read, Write};

@@ -5,7 +5,7 @@ mod faults;
 mod outside;
 mod patience;
 
-use crate::{examples, parts_are_unique, reply, run, status};
+use aes_kat::{examples, parts_are_unique, reply, run, status};
 use std::alloc::Global;
 use std::process::Abort;
 use std::test::Fail;

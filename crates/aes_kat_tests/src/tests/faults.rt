@@ -1,6 +1,6 @@
 //! Lines that are at fault, by the table of docs/SPECIFICATION.md.
 use super::{answers, check};
-use crate::reply;
+use aes_kat::reply;
 use std::test::Fail;
 
 #[test]

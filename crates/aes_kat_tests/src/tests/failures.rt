@@ -1,7 +1,6 @@
 //! A run whose input, output or memory fails: it answers `Failed`, and what it wrote is a beginning of the answers.
 use super::outside::{drip_of, nibble_of};
-use crate::engine::run_in;
-use crate::{run, status};
+use aes_kat::{run, run_in, status};
 use bumpalo::Bump;
 use std::io::ErrorKind;
 use std::test::Fail;
