@@ -2,6 +2,7 @@
 #![tactic(auto)]
 
 pub mod by_backend;
+pub mod by_key;
 pub mod callers;
 pub mod cbc;
 pub mod chaining_value;
