@@ -18,7 +18,6 @@ use aes_hybrid::blocks::{BATCH, process_blocks};
 use aes_permute::blocks::process_blocks as process_on_lanes;
 use aes_permute::directions::LaneRounds;
 use aes_permute::schedule::{expand_128, expand_192, expand_256};
-use aes_planes::laws;
 use aes_planes::soft::word::Block;
 
 // Writes the stored round keys of a key as a direction uses them: KeyExpansion (FIPS 197, 5.2), and KeyExpansionEIC for
@@ -48,9 +47,7 @@ fn process_few<D: LaneRounds>(key: &[u8], blocks: &mut [Block])
     D::uses_all();
     let mut kept = Held::<[Block; 15]>::zeroed();
     put_used::<D>(kept.words_mut(), key);
-    let used = keys_of(kept.words(), key.len());
-    laws::are_blocks(used);
-    process_on_lanes::<D>(used, blocks);
+    process_on_lanes::<D>(keys_of(kept.words(), key.len()), blocks);
     kept.wipe();
 }
 
