@@ -75,6 +75,25 @@ fn process_in_batches<D: FullCipher>(words: &[BatchWord], blocks: &mut [Block])
     process_batches_under::<BatchWord, D>(words, &mut blocks[..whole], &mut Layers::new());
 }
 
+// Processes seven blocks as a batch with a block of zeros.
+#[inline(never)]
+fn process_seven<D: FullCipher>(words: &[BatchWord], blocks: &mut [Block])
+    requires least { 88 ≤ length words.now }
+    requires most { length words.now ≤ 120 }
+    requires half_over { length words.now % 16 ≡ 8 }
+    requires is_schedule { let n = length words.now in
+        soft.IsKeyed (soft.size_of n) 8 (soft.full (soft.rounds_of n)) (map (word_bits 128) words.now) }
+    requires seven { length blocks.old ≡ 7 }
+    ensures { let n = length words.now in
+        let key = soft.key_of (soft.size_of n) 8 (soft.full (soft.rounds_of n)) (map (word_bits 128) words.now) in
+        Each (D.processed (fips.key_expansion key)) blocks.old blocks.new }
+{
+    let mut batch = [[0; 16]; BATCH];
+    batch[..7].copy_from_slice(&blocks[..7]);
+    process_batch_under::<BatchWord, D>(words, &mut batch, &mut Layers::new());
+    blocks[..7].copy_from_slice(&batch[..7]);
+}
+
 // Processes each block on planes, which are wiped before the call returns.
 #[inline(always)]
 fn process_with_planes<const N: usize, D: LaneRounds + FullCipher>(
@@ -84,14 +103,18 @@ fn process_with_planes<const N: usize, D: LaneRounds + FullCipher>(
     requires room { 8 * length keys.now ≤ N }
     requires most { N ≤ 120 }
     requires is_lanes { IsLanes keys.now }
-    requires batch { 8 ≤ length blocks.old }
+    requires some { 7 ≤ length blocks.old }
     requires rest { (length blocks.old % 8 ≡ 0) ⊎ (6 ≤ length blocks.old % 8) }
     ensures { Each (D.processed (fips.key_expansion (lanes_key keys.now))) blocks.old blocks.new }
 {
     let mut wide = Held::<[BatchWord; N]>::zeroed();
     put_wide(wide.words_mut(), keys);
     let words = &wide.words()[..8 * keys.len()];
-    process_in_batches::<D>(words, blocks);
+    if blocks.len() < BATCH {
+        process_seven::<D>(words, blocks);
+    } else {
+        process_in_batches::<D>(words, blocks);
+    }
     wide.wipe();
 }
 
@@ -99,7 +122,7 @@ fn process_with_planes<const N: usize, D: LaneRounds + FullCipher>(
 #[inline(never)]
 fn process_on_planes<D: LaneRounds + FullCipher>(keys: &[Block], blocks: &mut [Block])
     requires is_lanes { IsLanes keys.now }
-    requires batch { 8 ≤ length blocks.old }
+    requires some { 7 ≤ length blocks.old }
     requires rest { (length blocks.old % 8 ≡ 0) ⊎ (6 ≤ length blocks.old % 8) }
     ensures { Each (D.processed (fips.key_expansion (lanes_key keys.now))) blocks.old blocks.new }
 {
@@ -126,15 +149,17 @@ pub(crate) fn process_few<D: LaneRounds>(keys: &[Block], used: &[Block], blocks:
 }
 
 // How many of a number of blocks are processed on planes: whole batches, and what is left after them if it is more than
-// few.
+// few. Of seven blocks, those that are decrypted, since their permutations take longer than those of encryption.
 #[inline(always)]
-fn blocks_on_planes(count: usize) -> usize
+fn blocks_on_planes<D: LaneRounds>(count: usize) -> usize
     ensures inside { result ≤ count }
-    ensures batch { 0 < result → 8 ≤ result }
+    ensures some { 0 < result → 7 ≤ result }
     ensures rest { (result % 8 ≡ 0) ⊎ (6 ≤ result % 8) }
 {
     let rest = count % BATCH;
-    if rest > FEW && count > BATCH {
+    if count < BATCH {
+        if D::BACKWARD && count == 7 { 7 } else { 0 }
+    } else if rest > FEW {
         count
     } else {
         count - rest
@@ -153,7 +178,7 @@ pub fn process_blocks<D: LaneRounds + FullCipher>(
     requires used { round_keys_of D.first_byte D.inner_byte D.last_byte used.now ≡ D.used_keys (encrypting keys.now) }
     ensures { Each (D.processed (fips.key_expansion (lanes_key keys.now))) blocks.old blocks.new }
 {
-    let whole = blocks_on_planes(blocks.len());
+    let whole = blocks_on_planes::<D>(blocks.len());
     if whole > 0 {
         process_on_planes::<D>(keys, &mut blocks[..whole]);
     }
