@@ -1,8 +1,14 @@
 //! The types on the examples of FIPS 197, appendix C, in few blocks and in many, and counter mode from a place on.
 
-use crate::{Aes128, Aes192, Aes256, Aes256Enc};
-use aes_cipher::cipher::{Block, BlockCipherDecrypt, BlockCipherEncrypt, KeyInit};
+use crate::{Aes128, Aes192, Aes256, Aes256Dec, Aes256Enc, Hybrid};
+use aes_cipher::aes::{AesCipher, Bits128, Bits192, Bits256, BothWays};
+use aes_cipher::cipher::{
+    Block, BlockCipherDecrypt, BlockCipherEncrypt, Decrypt, Encrypt, KeyInit,
+};
 use aes_ctr::add_keystream;
+use aes_permute::keys::{OneWay, TwoWays};
+use aes_permute::sizes::LaneKeys;
+use std::test::Fail;
 
 const COUNTED: [u8; 32] = [
     0x00, 0x01, 0x02, 0x03, 0x04, 0x05, 0x06, 0x07, 0x08, 0x09, 0x0a, 0x0b, 0x0c, 0x0d, 0x0e, 0x0f,
@@ -47,4 +53,54 @@ fn adds_the_same_keystream_whole_and_cut(rt: HostRuntime) {
     assert!(rt; whole == cut);
     add_keystream(&cipher, &iv, 5, &mut whole);
     assert!(rt; whole == [0; 400]);
+}
+
+// Nineteen blocks, enough for planes and for permutations, encrypted.
+fn encrypted<C: BlockCipherEncrypt>(cipher: &C) -> [Block; 19] {
+    let mut blocks = [PLAIN.to_be_bytes(); 19];
+    cipher.encrypt_blocks(&mut blocks);
+    blocks
+}
+
+// Whether nineteen blocks are decrypted to the plain ones.
+fn decrypts<C: BlockCipherDecrypt>(cipher: &C, wanted: u128) -> bool {
+    let mut blocks = [wanted.to_be_bytes(); 19];
+    cipher.decrypt_blocks(&mut blocks);
+    blocks == [PLAIN.to_be_bytes(); 19]
+}
+
+// Whether a clone of what encrypts and the types made from it, after it is dropped, have its key.
+fn copies_keep_the_key<K: LaneKeys>(key: &K::Key, wanted: u128) -> Result<bool, Fail> {
+    let enc = AesCipher::<Hybrid<OneWay<K, Encrypt>>, Encrypt>::new(key);
+    let copy = enc.clone()?;
+    let lent = AesCipher::<Hybrid<TwoWays<K>>, Decrypt>::from(&enc);
+    let both = AesCipher::<Hybrid<TwoWays<K>>, BothWays>::from(enc);
+    let dec = lent.clone()?;
+    let encrypted_right = encrypted(&copy) == [wanted.to_be_bytes(); 19]
+        && encrypted(&both) == [wanted.to_be_bytes(); 19];
+    Ok(
+        encrypted_right
+            && decrypts(&lent, wanted)
+            && decrypts(&both, wanted)
+            && decrypts(&dec, wanted),
+    )
+}
+
+// FIPS 197, appendix C.
+#[test]
+fn clones_and_converts(rt: HostRuntime) -> Result<(), Fail> {
+    let short = COUNTED[..16].as_array::<16>().unwrap();
+    let middle = COUNTED[..24].as_array::<24>().unwrap();
+    assert!(rt; copies_keep_the_key::<Bits128>(short, 0x69c4e0d86a7b0430d8cdb78070b4c55a)?);
+    assert!(rt; copies_keep_the_key::<Bits192>(middle, 0xdda97ca4864cdfe06eaf70a0ec0d7191)?);
+    assert!(rt; copies_keep_the_key::<Bits256>(&COUNTED, 0x8ea2b7ca516745bfeafc49904b496089)?);
+    Ok(())
+}
+
+// The names are those of the Rust crate.
+#[test]
+fn writes_its_name_and_nothing_of_the_key(rt: HostRuntime) -> Result<(), Fail> {
+    let dec = Aes256Dec::new_from_slice(&COUNTED).unwrap();
+    assert!(rt; format!(in rt.alloc(); "{dec:?}")?.as_str() == "Aes256Dec { .. }");
+    Ok(())
 }

@@ -1,6 +1,6 @@
 -- Stored round keys of Cipher turned into those of EqInvCipher.
-use Rattle.std.proofs.Common.{◌≡◌, ◌≢◌, ◌⊎◌, inl, inr, ℕ, ◌+◌, ◌-◌, ◌<◌, ◌≤◌, List, [], length, map, get_or, set, refl}
-use Rattle.std.proofs.Common.{ap, sym, ◌∙◌, arith, get_or-set_other, get_or-set_same}
+use Rattle.std.proofs.Common.{◌≡◌, ◌⊎◌, inl, inr, ℕ, ◌-◌, ◌<◌, ◌≤◌, List, [], length, map, get_or, refl}
+use Rattle.std.proofs.Common.{ap, sym, ◌∙◌, arith}
 use Rattle.std.proofs.lemmas.Bool.{cases_lt}
 use Rattle.std.proofs.lemmas.List.{ext_get_or}
 use Rattle.aes_planes.specs.Fips197 as fips
@@ -70,23 +70,3 @@ inverted_stored old new two l inner start end =
         ∙ sym (first_key as_is key_untower plus63 old (omega (arith, two))) ∙ ap (fips.round_key w) own
         ∙ inverted_end w (length old - 1) fits (inr (sym last))
         ∙ ap (λ v. get_or (fips.inverted_keys w) v []) (sym at)
-
--- ---- the loop
-
-pub unmixed_more : (old new : List (List ℕ)) (i : ℕ) (v : List ℕ) → i < length new
-    → map inv_untower v ≡ fips.inv_mix_columns (map key_untower (get_or new i [])) → Moved old new i
-    → ((k : ℕ) → 1 ≤ k → k < i → Unmixed old new k) → (k : ℕ) → 1 ≤ k → k < i + 1 → Unmixed old (set new i v) k
-unmixed_more old new i v fits is moved before k some lt = go (cases_lt k i)
-  where
-    go : (k < i) ⊎ (i ≤ k) → Unmixed old (set new i v) k
-    go (inl below) =
-        let ne : k ≢ i = omega arith in ap (map inv_untower) (get_or-set_other new i k v [] ne) ∙ before k some below
-    go (inr ge) =
-        let e : k ≡ i = omega arith in
-        ap (λ n. map inv_untower (get_or (set new i v) n [])) e ∙ ap (map inv_untower) (get_or-set_same new i v [] fits)
-        ∙ is
-        ∙ ap (λ b. fips.inv_mix_columns (map key_untower b)) moved
-        ∙ ap (λ n. fips.inv_mix_columns (map key_untower (get_or old (length old - 1 - n) []))) (sym e)
-
-pub moved_other : (old new : List (List ℕ)) (i k : ℕ) (v : List ℕ) → k ≢ i → Moved old new k → Moved old (set new i v) k
-moved_other old new i k v ne m = get_or-set_other new i k v [] ne ∙ m

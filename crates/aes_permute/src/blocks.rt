@@ -15,8 +15,8 @@ pub const PAR_BLOCKS: usize = 2;
 
 // No effect; states that a stored round key is a block of the standard (FIPS 197, 3.4).
 #[inline(always)]
-fn is_block(_key: Block)
-    ensures { fips.IsBlock _key }
+fn is_block(key: Block)
+    ensures { fips.IsBlock key }
 {}
 
 /// Processes a block under stored round keys.

@@ -4,6 +4,7 @@ use super::blocks::different_blocks;
 use super::keys::{KEY_128, KEY_192, KEY_256};
 use super::ways::{OneWay, Trial, try_all};
 use aes::{Aes128, AesCipher, Block, BothWays};
+use aes_cipher::aes::KeySchedule;
 use aes_cipher::cipher::{
     BlockCipherDecrypt, BlockCipherEncrypt, Decrypt, Direction, Encrypt, KeyInit, NotEqualError,
     ParBlocksSizeUser,
@@ -132,6 +133,7 @@ fn par_blocks<B: ParBlocksSizeUser>(_backend: &B) -> usize {
 
 #[test]
 fn permutations_take_two_blocks_at_once(rt: HostRuntime) {
-    let cipher = permute::Aes128::new(&KEY_128);
-    assert_eq!(rt; par_blocks(&permute::Backend::new(&cipher)), 2);
+    let mut schedule = permute::keys::OneWay::<Bits128, Encrypt>::zeroed();
+    schedule.refill(&KEY_128);
+    assert_eq!(rt; par_blocks(&permute::LaneBackend::new(&schedule)), 2);
 }
