@@ -89,7 +89,8 @@ const DECRYPTING: [u128; 15] = [
     0,
 ];
 
-/// What is stored for the key of A.1: its round keys in both directions, and zeros after them.
+/// What is stored for the key of A.1: its round keys in both directions, and zeros after them. One bit that is left in the
+/// block just after them is found.
 #[tactic(auto, unfolding(crate::proofs::OnLiterals::kept_on_literals))]
 pub fn stored_example()
     ensures round_keys { encrypting (first_keys 16 (map (bytes 16) ENCRYPTING))
@@ -98,6 +99,7 @@ pub fn stored_example()
     ensures key { key_in 16 (map (bytes 16) ENCRYPTING) ≡ bytes 16 0x2b7e151628aed2a6abf7158809cf4f3c }
     ensures after_encrypting { AreZeroAfter 16 (map (bytes 16) ENCRYPTING) }
     ensures after_decrypting { AreZeroAfter 16 (map (bytes 16) DECRYPTING) }
+    ensures left_behind { ¬ AreZeroAfter 16 (map (bytes 16) (0 ∷ 0 ∷ 0 ∷ 0 ∷ 0 ∷ 0 ∷ 0 ∷ 0 ∷ 0 ∷ 0 ∷ 0 ∷ 1 ∷ 0 ∷ 0 ∷ 0 ∷ [])) }
 {
     key_expansion_128();
 }

@@ -14,11 +14,15 @@ use crate::stream::Ctr;
 use aes_cipher::cipher::{Decrypt, Encrypt};
 use aes_cipher::zeroize::Held;
 use aes_hybrid::add_keystream;
-use aes_hybrid::blocks::{BATCH, process_blocks};
+use aes_hybrid::blocks::process_blocks;
 use aes_permute::blocks::process_blocks as process_on_lanes;
 use aes_permute::directions::LaneRounds;
 use aes_permute::schedule::{expand_128, expand_192, expand_256};
 use aes_planes::soft::word::Block;
+
+// The most blocks that are decrypted under a schedule for decrypting alone. More are quicker as a batch on planes, which
+// are made of the round keys of Cipher.
+const FEW: usize = 6;
 
 // Writes the stored round keys of a key as a direction uses them: KeyExpansion (FIPS 197, 5.2), and KeyExpansionEIC for
 // decrypting (5.3.5).
@@ -80,7 +84,7 @@ pub extern "C" fn fotsgure_aes_decrypt_blocks_with(key: &[u8], blocks: &mut [Blo
     ensures blocks { result ≡ DONE → Each (fips.inv_cipher key.now) blocks.old blocks.new }
     ensures untouched { result ≢ DONE → blocks.new ≡ blocks.old }
 {
-    if is_key_length(key.len()) && blocks.len() < BATCH {
+    if is_key_length(key.len()) && blocks.len() <= FEW {
         process_few::<Decrypt>(key, blocks);
         return DONE;
     }

@@ -53,7 +53,7 @@ fn in_place(key: &[u8], wanted: u128) -> bool {
         && blocks == plain
 }
 
-// Whether a block goes from buffer to buffer as the standard says, and comes back.
+// Whether a block goes from buffer to buffer as the standard says, and comes back, also in one call.
 fn between_buffers(key: &[u8], wanted: u128) -> bool {
     let plain = [PLAIN.to_be_bytes()];
     let mut aes = no_key();
@@ -64,6 +64,8 @@ fn between_buffers(key: &[u8], wanted: u128) -> bool {
         && there == [wanted.to_be_bytes()]
         && fotsgure_aes_decrypt_blocks_to(&aes, &there, &mut back) == DONE
         && back == plain
+        && fotsgure_aes_decrypt_blocks_with(key, &mut there) == DONE
+        && there == plain
         && fotsgure_aes_encrypt_blocks_to(&aes, &plain, &mut []) == UNEQUAL_COUNTS
 }
 
