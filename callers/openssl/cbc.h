@@ -16,6 +16,10 @@
 
 #include <fotsgure_aes.h>
 
+#ifdef __cplusplus
+extern "C" {
+#endif
+
 /* How many bytes `length` bytes become: the next multiple of 16 above it. */
 #define AES_CBC_PADDED(length) ((length) / 16 * 16 + 16)
 
@@ -37,4 +41,7 @@ enum aes_cbc_status aes_cbc_encrypt(const struct fotsgure_aes *aes, const uint8_
 enum aes_cbc_status aes_cbc_decrypt(const struct fotsgure_aes *aes, const uint8_t iv[16], const uint8_t *input,
     size_t length, uint8_t *output, size_t *output_length);
 
+#ifdef __cplusplus
+}
+#endif
 #endif

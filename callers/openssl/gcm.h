@@ -12,6 +12,10 @@
 
 #include <fotsgure_aes.h>
 
+#ifdef __cplusplus
+extern "C" {
+#endif
+
 #define AES_GCM_NONCE 12                                      /* bytes of a nonce */
 #define AES_GCM_TAG 16                                        /* bytes of a tag */
 #define AES_GCM_MOST (((uint64_t)1 << 36) - 32)               /* the most bytes of a message (5.2.1.1) */
@@ -37,4 +41,7 @@ enum aes_gcm_status aes_gcm_decrypt(const struct fotsgure_aes *aes, const uint8_
     const uint8_t *extra, size_t extra_length, const uint8_t *input, size_t length, uint8_t *output,
     const uint8_t *tag, size_t tag_length);
 
+#ifdef __cplusplus
+}
+#endif
 #endif

@@ -313,7 +313,8 @@ static void changed_bytes(void)
         wrapped[i / 8] ^= (uint8_t)(1 << i % 8);
         memset(out, 0xa5, 40);
         refused &= aes_unwrap(&aes, wrapped, 40, out, 32) == AES_WRAP_REFUSED && all(out, 32, 0);
-        refused &= aes_unwrap_padded(&aes, wrapped, 40, out, &count) == AES_WRAP_REFUSED && count == 0 && all(out, 40, 0);
+        refused &= aes_unwrap_padded(&aes, wrapped, 40, out, &count) == AES_WRAP_REFUSED && count == 0 &&
+            all(out, 40, 0);
         wrapped[i / 8] ^= (uint8_t)(1 << i % 8);
     }
     expect(refused, "key wrap refuses each changed bit");
@@ -370,7 +371,8 @@ static void errors(void)
         if (n != 32)
             expect(aes_cbc_encrypt(&aes, iv.at, input.at, 16, out, n) == AES_CBC_LENGTH, "CBC's room");
         if (n % 16 != 0 || n == 0)
-            expect(aes_cbc_decrypt(&aes, iv.at, input.at, n, out, &count) == AES_CBC_LENGTH && count == 0, "CBC's length");
+            expect(aes_cbc_decrypt(&aes, iv.at, input.at, n, out, &count) == AES_CBC_LENGTH && count == 0,
+                "CBC's length");
         if (n % 8 != 0 || n < 16)
             expect(aes_wrap(&aes, input.at, n, out, n + 8) == AES_WRAP_LENGTH, "KW's length");
         if (n % 8 != 0 || n < 24)
@@ -395,7 +397,8 @@ static void errors(void)
     expect(aes_gcm_encrypt(&aes, iv.at, 12, NULL, 0, NULL, 0, NULL, tag.at) == AES_GCM_DONE &&
         aes_gcm_decrypt(&aes, iv.at, 12, NULL, 0, NULL, 0, NULL, tag.at, 16) == AES_GCM_DONE &&
         aes_cbc_encrypt(&aes, iv.at, NULL, 0, out, 16) == AES_CBC_DONE &&
-        aes_cbc_decrypt(&aes, iv.at, out, 16, out + 16, &count) == AES_CBC_DONE && count == 0, "NULL with a length of 0");
+        aes_cbc_decrypt(&aes, iv.at, out, 16, out + 16, &count) == AES_CBC_DONE && count == 0,
+        "NULL with a length of 0");
     tag.at[0] ^= 1;
     expect(aes_gcm_decrypt(&aes, iv.at, 12, NULL, 0, none, 0, none, tag.at, 16) == AES_GCM_REFUSED, "an empty message");
 }

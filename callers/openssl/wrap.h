@@ -11,6 +11,10 @@
 
 #include <fotsgure_aes.h>
 
+#ifdef __cplusplus
+extern "C" {
+#endif
+
 #define AES_WRAP_MOST ((size_t)1 << 20) /* the most bytes that are wrapped here; OpenSSL's own limit is 2^31 */
 
 /* How many bytes `length` bytes become by aes_wrap_padded: 8, and the next multiple of 8. */
@@ -44,4 +48,7 @@ enum aes_wrap_status aes_wrap_padded(const struct fotsgure_aes *aes, const uint8
 enum aes_wrap_status aes_unwrap_padded(const struct fotsgure_aes *aes, const uint8_t *input, size_t length,
     uint8_t *output, size_t *output_length);
 
+#ifdef __cplusplus
+}
+#endif
 #endif
