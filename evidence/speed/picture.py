@@ -106,7 +106,7 @@ def labels(axis, shown, heads):
     beside = {"transform": axis.get_yaxis_transform(), "va": "center"}
     for y, it in shown:
         weight = "bold" if is_ours(it) else "normal"
-        text = "Fotsgure" if is_ours(it) else f"{it[1]}, {it[2]}"
+        text = "aes_hybrid, through C" if is_ours(it) else f"{it[1]}, {it[2]}"
         axis.text(-0.02, y, text, ha="right", color="#010101", fontsize=9.5, fontweight=weight, **beside)
     for y, title in heads:
         axis.text(-1.1, y, title, ha="left", color="#020202", fontsize=9.5, fontstyle="italic", **beside)
