@@ -3,15 +3,19 @@
 A status is 0 if all was found as it should be, 1 if something was not, 2 if a planted fault was not found (so the run
 shows nothing), 3 if it could not run, and 4 if a part was left out and what was run is as it should be.
 """
+import argparse
 import hashlib
 import os
 import pathlib
 import platform
+import re
 import shutil
 import subprocess
 import sys
 import textwrap
 import time
+
+import expand
 
 RIGHT, WRONG, BLIND, STOPPED, PARTIAL = range(5)
 HERE = pathlib.Path(__file__).resolve().parent
@@ -21,9 +25,15 @@ MEASUREMENTS = TOP / "docs" / "MEASUREMENTS.md"
 ROOM = pathlib.Path(os.environ.get("AES_EVIDENCE_ROOM") or pathlib.Path.home() / ".cache" / "aes-evidence")
 ROOM.mkdir(parents=True, exist_ok=True)
 BACKENDS = ("llvm", "rattle")
+BITS = ("128", "192", "256")
 # The crates that the exports call, and the two static libraries that are measured with the names that they export.
-CRATES = "aes_planes aes_cipher aes_soft aes aes_permute aes_rounds aes_ctr aes_kat aes_tests"
-LIBRARIES = {"evidence_exports": "ev_*", "aes_c": "fotsgure_aes_*"}
+CRATES = "aes_planes aes_cipher aes_soft aes aes_permute aes_hybrid aes_rounds aes_ctr aes_kat aes_tests"
+# How many jobs a proof gets, if not as many as rt chooses.
+JOBS = ["--jobs", os.environ["AES_EVIDENCE_JOBS"]] if "AES_EVIDENCE_JOBS" in os.environ else []
+LIBRARIES = {"aes_c": "fotsgure_aes_*", "evidence_exports": "ev_*"}
+HEADER = (TOP / "include" / "fotsgure_aes.h").read_text()
+STRUCT = int(re.search(r"sizeof\(struct fotsgure_aes\) == (\d+)", HEADER)[1])
+MOST_STACK = int(re.search(r"FOTSGURE_AES_STACK (\d+)", HEADER)[1])
 
 
 def say(*words):
@@ -59,77 +69,81 @@ def compiles(text, *flags, compiler="cc", suffix=".c"):
     return done.returncode == 0
 
 
-def sources():
-    """The files that the two static libraries are made of."""
-    found = [TOP / "crates.txt"]
-    for folder in (TOP / "crates", HERE / "exports"):
-        for part in ("src", "specs", "proofs"):
-            files = [it for it in folder.glob(f"**/{part}/**/*") if it.is_file()]
-            found += [it for it in files if "out" not in it.relative_to(folder).parts]
-    return sorted(set(found))
+def files_of(*folders):
+    """The files that crates are made of."""
+    parts = ("src", "specs", "proofs")
+    found = [it for folder in folders for part in parts for it in (folder / part).rglob("*") if it.is_file()]
+    return sorted(found)
+
+
+def sum_of(paths, *more):
+    """A hash of files and of what else decides what is built of them."""
+    total = hashlib.sha256("".join(more).encode())
+    for it in paths:
+        total.update(str(it.relative_to(TOP)).encode() + it.read_bytes())
+    return total.hexdigest()
+
+
+def rt_lib(folder, *flags):
+    """Proves and builds a library, over what was proved before."""
+    with open(ROOM / "build.log", "w") as log:
+        words = ["rt", "lib", *flags, *JOBS]
+        done = subprocess.run(words, cwd=folder, stdout=log, stderr=subprocess.STDOUT, stdin=subprocess.DEVNULL)
+    if done.returncode:
+        stop(f"{folder} was not proved or not built: {ROOM}/build.log has why")
 
 
 def copy_of_the_crates():
-    """A copy of the crates outside the repository, with the exports as one crate more. What was proved and built in an
-    earlier copy stays, and rt decides whether it still belongs to these sources."""
+    """A copy of the crates outside the repository, with the exports as one crate more. Everything else is proved where
+    it stands, as ./c-build and ./aes-kat do, and what was proved there is copied too: so a crate is proved once for all
+    of them."""
     tree = ROOM / "tree"
-    for crate in sorted(it for it in (TOP / "crates").iterdir() if it.is_dir()):
-        copy = tree / "crates" / crate.name
-        if not (copy / "out").exists():
-            shutil.copytree(crate, copy, dirs_exist_ok=True, symlinks=True)
+    for crate in ("aes_c", "aes_kat", "aes_tests"):
+        say(f"proving {crate} and what it stands on, as far as that is not proved")
+        rt_lib(TOP / "crates" / crate)
+    for here in sorted(it for it in (TOP / "crates").iterdir() if it.is_dir()):
+        there, stamp, total = tree / "crates" / here.name, ROOM / f"{here.name}.stamp", sum_of(files_of(here))
+        if stamp.exists() and stamp.read_text() == total:
             continue
-        for part in ("src", "specs", "proofs"):
-            shutil.rmtree(copy / part, ignore_errors=True)
-            if (crate / part).exists():
-                shutil.copytree(crate / part, copy / part)
+        shutil.rmtree(there, ignore_errors=True)
+        for part in ("src", "specs", "proofs", "out"):
+            if (here / part).exists():
+                shutil.copytree(here / part, there / part, symlinks=True)
+        stamp.write_text(total)
     exports = tree / "crates" / "evidence_exports" / "src"
     shutil.rmtree(exports, ignore_errors=True)
     exports.mkdir(parents=True)
-    for it in sorted((HERE / "exports" / "src").glob("*.rt.txt")):
-        shutil.copy(it, exports / it.name.removesuffix(".txt"))
+    expand.write(exports)
     shutil.copy(TOP / "HANDLES", tree / "HANDLES")
     (tree / "crates.txt").write_text((TOP / "crates.txt").read_text() + f"evidence_exports staticlib: {CRATES}\n")
     return tree
 
 
-def build(crate, backend):
-    """The archive of a static library, by LLVM or by Rattle's own compiler, proved if it has to be."""
-    folder = ROOM / "tree" / "crates" / crate
-    with open(ROOM / "build.log", "w") as log:
-        words = ["rt", "lib", *(["--backend", "rattle"] if backend == "rattle" else [])]
-        done = subprocess.run(words, cwd=folder, stdout=log, stderr=subprocess.STDOUT, stdin=subprocess.DEVNULL)
-    if done.returncode:
-        stop(f"{crate} was not proved or not built: {ROOM}/build.log has why")
-    return folder / "out" / f"lib{crate}.a"
-
-
-def library(backend, given=None):
+def library(backend):
     """One archive of the exports and of the C library, each an object that shows its exports alone. It is built if it
     is missing or older than its sources."""
-    if given:
-        return pathlib.Path(given).resolve()
     need("rt", None)
     for it in ("ld", "objcopy", "ar"):
         need(it, "binutils")
-    total = hashlib.sha256(run(["rt", "version"], "rt version").encode())
-    for it in sources():
-        total.update(str(it.relative_to(TOP)).encode() + it.read_bytes())
+    of_exports = [*sorted(expand.TEMPLATES.iterdir()), HERE / "expand.py", TOP / "crates.txt"]
+    total = sum_of([*files_of(*(TOP / "crates").iterdir()), *of_exports], run(["rt", "version"], "rt version"))
     made, stamp = ROOM / f"libmeasured-{backend}.a", ROOM / f"libmeasured-{backend}.stamp"
     parts = {crate: ROOM / f"lib{crate}-{backend}.a" for crate in LIBRARIES}
     kept = all(it.exists() for it in (made, stamp, *parts.values()))
-    if kept and stamp.read_text() == total.hexdigest():
+    if kept and stamp.read_text() == total:
         return made
     tree, start = copy_of_the_crates(), time.time()
-    say(f"proving and building by {backend} in {tree}: minutes, if the crates below are not built yet")
+    say(f"proving and building the exports by {backend} in {tree}")
     made.unlink(missing_ok=True)
     for crate, names in LIBRARIES.items():
-        joined = ROOM / f"{crate}-{backend}.o"
-        shutil.copy(build(crate, backend), parts[crate])
+        joined, folder = ROOM / f"{crate}-{backend}.o", tree / "crates" / crate
+        rt_lib(folder, *(["--backend", "rattle"] if backend == "rattle" else []))
+        shutil.copy(folder / "out" / f"lib{crate}.a", parts[crate])
         run(["ld", "-r", "-o", joined, "--whole-archive", parts[crate]], f"joining {crate}")
         # Both have copies of what they call: the names of those are for debuggers alone.
         run(["objcopy", "--wildcard", f"--keep-global-symbol={names}", joined], f"the names of {crate}")
         run(["ar", "rcs", made, joined], "the archive")
-    stamp.write_text(total.hexdigest())
+    stamp.write_text(total)
     say(f"built in {time.time() - start:.0f} seconds")
     return made
 
@@ -183,6 +197,53 @@ def briefly(where):
     """The conditions of a run without the machine and the toolchain, which the page says once."""
     day, _, _, load, _, *rest = where.split(", ")
     return ", ".join([day, load, *rest])
+
+
+def compiled(source, name, archive):
+    """A program of one C file and an archive."""
+    made = ROOM / f"{source.parent.name}-{source.stem}-{name}"
+    flags = ["-std=gnu11", "-O2", "-Wall", "-Wextra", "-Wl,-z,now", f"-I{TOP / 'include'}"]
+    run(["cc", *flags, "-o", made, source, archive], source.name)
+    return made
+
+
+def compared(now, path, kept, record):
+    """Rows {(build, bits, call): counts} that leave more than is recorded; `record` writes them anew first."""
+    if record:
+        rows = ["\t".join([*place, *(str(it[k]) for k in kept)]) for place, it in now.items()]
+        path.write_text("\n".join(["\t".join(["build", "bits", "call", *kept]), *rows]) + "\n")
+        say(f"\nrecorded: {len(now)} rows in {path}")
+    lines = [it.split("\t") for it in path.read_text().splitlines()[1:]] if path.exists() else []
+    was = {tuple(it[:3]): dict(zip(kept, map(int, it[3:]))) for it in lines}
+    for place, counts in now.items():
+        if place not in was:
+            yield f"{', '.join(place)}: not in {path.name}"
+            continue
+        more = [f"{counts[k]} {k} in place of {was[place][k]}" for k in kept if counts[k] > was[place][k]]
+        if more:
+            yield f"{', '.join(place)}: {', '.join(more)}"
+
+
+def asking(text, *parts):
+    """What every command can be asked: to leave parts out."""
+    ask = argparse.ArgumentParser(description=text, formatter_class=argparse.RawDescriptionHelpFormatter)
+    ask.add_argument("--without", nargs="*", default=[], choices=[*BACKENDS, *parts])
+    return ask
+
+
+def finish(blind, found, missing, without, text):
+    """Says what was found and left out, and ends with the status that this makes."""
+    for it in found[:40]:
+        say(f"FOUND: {it}")
+    for it in missing:
+        say(f"left out: {it}")
+    for it in without:
+        say(f"left out as asked: {it}")
+    if blind:
+        end(BLIND, "; ".join(blind[:9]))
+    if found:
+        end(WRONG, f"{len(found)} findings")
+    end(PARTIAL if missing or without else RIGHT, text)
 
 
 def end(status, text):

@@ -1,41 +1,19 @@
 /* Makes calls of the C library on a stack of its own that is filled with a pattern, and searches that stack and the
  * vector registers for what each call left: 8 bytes of the key, of a stored round key or of a round key of the
  * expansion, a word that was widened for a batch, a block of keystream. One line a call and a size of keys, with
- * tabs. A call that the argument names gives way to the struct that is wiped where it stands. */
-#define _GNU_SOURCE
-#include "fotsgure_aes.h"
+ * tabs. */
+#include "../left.h"
 
-#include <stdio.h>
-#include <stdlib.h>
-#include <string.h>
-#include <ucontext.h>
-
-enum { STACK = 1 << 16, FILL = 0xa5, KEYS = 3, MOST = 128, BYTES = 16 * MOST, NEEDLES = 2048 };
-#ifdef __aarch64__
-enum { REGISTERS = 32 };
-#else
-enum { REGISTERS = 16 };
-#endif
-
-/* KeyExpansion, by the exports for measurements. */
-void ev_expand_128(const uint8_t *key, uint8_t *round_keys);
-void ev_expand_192(const uint8_t *key, uint8_t *round_keys);
-void ev_expand_256(const uint8_t *key, uint8_t *round_keys);
-/* The stored words of planes, of which the library makes those of a batch. */
-void ev_128_schedule(const uint8_t *key, uint16_t *words);
-void ev_192_schedule(const uint8_t *key, uint16_t *words);
-void ev_256_schedule(const uint8_t *key, uint16_t *words);
+enum { KEYS = 3, MOST = 128, BYTES = BLOCK * MOST, NEEDLES = 4096 };
 
 static struct fotsgure_aes kept;
 static struct fotsgure_aes_ctr ctr;
-static uint16_t planes[120];
-static uint8_t key[32], data[BYTES], other[BYTES], keystream[BYTES], *stack;
-static uint8_t registers[16 * REGISTERS] __attribute__((aligned(64)));
+static uint16_t planes[MOST_WORDS];
+static uint8_t key[32], data[BYTES], other[BYTES], keystream[BYTES];
 static size_t size, count;
 static int failed;
 
 static void done(enum fotsgure_aes_status status) { failed |= status != FOTSGURE_AES_DONE; }
-__attribute__((noinline)) static void use(const void *at) { __asm__ volatile("" : : "r"(at) : "memory"); }
 
 /* The control: a struct on the stack that nobody wipes. */
 __attribute__((noinline)) static void not_wiped(void) {
@@ -43,8 +21,8 @@ __attribute__((noinline)) static void not_wiped(void) {
     done(fotsgure_aes_set_key(&aes, key, size));
     use(&aes);
 }
-/* Planted: a wipe of half the round keys, a copy that is wiped in place of the struct, and what a batch and counter mode
- * would leave if they left it. */
+/* Planted: a wipe of half the round keys, a copy that is wiped in place of the struct, and what a batch and counter
+ * mode would leave if they left it. */
 __attribute__((noinline)) static void planted_half_wiped(void) {
     struct fotsgure_aes aes;
     done(fotsgure_aes_set_key(&aes, key, size));
@@ -58,10 +36,6 @@ __attribute__((noinline)) static void planted_copy_wiped(void) {
     use(&copy);
     fotsgure_aes_wipe(&copy);
     use(&aes);
-}
-static void widened(uint8_t *word, uint16_t stored) {
-    for (int bit = 0; bit < 16; bit++)
-        word[bit] = stored >> bit & 1 ? 0xff : 0;
 }
 __attribute__((noinline)) static void planted_widened(void) {
     uint8_t words[4][16];
@@ -114,27 +88,6 @@ static const struct call { const char *name; void (*it)(void); size_t count; } c
     {"add_keystream_with_20", stream_with, 20}, {"add_keystream_with_2032", stream_with, 2032},
 };
 
-static void (*called)(void);
-static ucontext_t home, away;
-static void enter(void) {
-    called();
-    /* The vector registers, before anything else runs. */
-#ifdef __aarch64__
-    __asm__ volatile(
-        "stp q0, q1, [%0]\n stp q2, q3, [%0, #32]\n stp q4, q5, [%0, #64]\n stp q6, q7, [%0, #96]\n"
-        "stp q8, q9, [%0, #128]\n stp q10, q11, [%0, #160]\n stp q12, q13, [%0, #192]\n stp q14, q15, [%0, #224]\n"
-        "stp q16, q17, [%0, #256]\n stp q18, q19, [%0, #288]\n stp q20, q21, [%0, #320]\n stp q22, q23, [%0, #352]\n"
-        "stp q24, q25, [%0, #384]\n stp q26, q27, [%0, #416]\n stp q28, q29, [%0, #448]\n stp q30, q31, [%0, #480]\n"
-#else
-    __asm__ volatile(
-        "movdqa %%xmm0, 0(%0)\n movdqa %%xmm1, 16(%0)\n movdqa %%xmm2, 32(%0)\n movdqa %%xmm3, 48(%0)\n"
-        "movdqa %%xmm4, 64(%0)\n movdqa %%xmm5, 80(%0)\n movdqa %%xmm6, 96(%0)\n movdqa %%xmm7, 112(%0)\n"
-        "movdqa %%xmm8, 128(%0)\n movdqa %%xmm9, 144(%0)\n movdqa %%xmm10, 160(%0)\n movdqa %%xmm11, 176(%0)\n"
-        "movdqa %%xmm12, 192(%0)\n movdqa %%xmm13, 208(%0)\n movdqa %%xmm14, 224(%0)\n movdqa %%xmm15, 240(%0)\n"
-#endif
-        : : "r"(registers) : "memory");
-}
-
 /* A key of its own for each run, its struct, and the keystream that counter mode will add. */
 static void prepare(int number) {
     static const uint8_t zeros[BYTES];
@@ -144,28 +97,16 @@ static void prepare(int number) {
     ctr.position = 0;
     memcpy(keystream, zeros, BYTES);
     done(fotsgure_aes_set_key(&kept, key, size));
-    (size == 16 ? ev_128_schedule : size == 24 ? ev_192_schedule : ev_256_schedule)(key, planes);
+    BY_SIZE(ev_planes, size, key, planes);
     done(fotsgure_aes_add_keystream(&kept, &ctr, keystream, BYTES));
     ctr.position = 0;
     for (size_t i = 0; i < BYTES; i++)
         data[i] = (uint8_t)(i * 7 + i / 256 + 1);
 }
-static void run(const struct call *call) {
-    count = call->count;
-    called = call->it;
-    memset(stack, FILL, STACK);
-    memset(registers, 0, sizeof registers);
-    getcontext(&away);
-    away.uc_stack.ss_sp = stack;
-    away.uc_stack.ss_size = STACK;
-    away.uc_link = &home;
-    makecontext(&away, enter, 0);
-    swapcontext(&home, &away);
-}
 
 /* What is searched for: 8 bytes, and which piece of which kind they are of. Pieces of equal bytes say nothing. */
 enum { KEY, ROUND_KEYS, EXPANDED, WIDENED, KEYSTREAM, KINDS };
-static struct needle { uint64_t bytes; int kind, piece; } needles[NEEDLES * 2];
+static struct needle { uint64_t bytes; int kind, piece; } needles[NEEDLES];
 static size_t filled;
 static void add(const uint8_t *at, int kind, int piece) {
     struct needle *it = &needles[filled];
@@ -182,7 +123,7 @@ static void collect(void) {
     uint8_t round_keys[240], wide[16];
     size_t rounds = size / 4 + 7, words = 8 * rounds;
     filled = 0;
-    (size == 16 ? ev_expand_128 : size == 24 ? ev_expand_192 : ev_expand_256)(key, round_keys);
+    BY_SIZE(ev_expand, size, key, round_keys);
     for (size_t i = 0; i + 8 <= size; i++)
         add(key + i, KEY, 0);
     for (size_t i = 0; i + 8 <= 16 * rounds; i++) {
@@ -236,8 +177,8 @@ static void report(const struct call *call) {
         static uint8_t image[STACK];
         uint8_t found[KINDS][256] = {{0}}, held[KINDS][256] = {{0}};
         prepare(number);
-        run(call);
-        memcpy(image, stack, STACK);
+        count = call->count;
+        run(call->it, image);
         prepare(number);
         collect();
         search(image, STACK, found);
@@ -245,27 +186,20 @@ static void report(const struct call *call) {
             search(registers + 16 * i, 16, held);
         most(counts, found);
         most(inside, held);
-        size_t first = 0;
-        while (first < STACK && image[first] == FILL)
-            first++;
-        if (STACK - first > depth)
-            depth = STACK - first;
+        if (depth_of(image) > depth)
+            depth = depth_of(image);
     }
     int in_registers = inside[KEY] + inside[ROUND_KEYS] + inside[EXPANDED] + inside[WIDENED];
     printf("%s\t%zu\t%d\t%d\t%d\t%d\t%d\t%d\t%zu\n", call->name, 8 * size, counts[KEY], counts[ROUND_KEYS],
         counts[EXPANDED], counts[WIDENED], counts[KEYSTREAM], in_registers, depth);
 }
 
-int main(int arguments, char **spoiled) {
+int main(void) {
     stack = aligned_alloc(4096, STACK);
     if (!stack)
         return 2;
     for (size = 16; size <= 32; size += 8)
-        for (size_t i = 0; i < sizeof calls / sizeof *calls; i++) {
-            struct call call = calls[i];
-            if (arguments > 1 && !strcmp(call.name, spoiled[1]))
-                call.it = wiped;
-            report(&call);
-        }
+        for (size_t i = 0; i < sizeof calls / sizeof *calls; i++)
+            report(&calls[i]);
     return failed;
 }

@@ -1,16 +1,12 @@
 /* Runs calls on secret bytes under valgrind's memcheck. Secrets are marked undefined, so that memcheck reports each
    branch and each address that depends on one. calls.h, which calls.py writes, has the calls. */
-#include <stdint.h>
+#include "fotsgure_aes.h"
 #include <stdio.h>
 #include <stdlib.h>
 #include <string.h>
 #include <valgrind/memcheck.h>
 
 enum { MOST = 8 };
-
-/* The calls of the C library that make ready what others are given. */
-uint32_t fotsgure_aes_set_key(void *, void *, size_t);
-enum { STRUCT = 484, COUNTER = 24, IV = 16 };
 
 /* A buffer that a call is given. */
 struct buffer { uint8_t *at, *before; size_t bytes; char kind; };
@@ -45,17 +41,18 @@ static void *buffer(char kind, size_t bytes) {
 }
 
 static void *kept(size_t key_bytes) {
-    uint8_t key[32], *it = buffer('p', STRUCT);
-    memset(it, 0, STRUCT);
+    uint8_t key[32];
+    struct fotsgure_aes *it = buffer('p', sizeof *it);
+    memset(it, 0, sizeof *it);
     for (size_t i = 0; i < key_bytes; i++) key[i] = next_byte();
     (void)VALGRIND_MAKE_MEM_UNDEFINED(key, key_bytes);
-    if (key_bytes) (void)fotsgure_aes_set_key(it, key, key_bytes);
+    if (key_bytes && fotsgure_aes_set_key(it, key, key_bytes)) abort();
     return it;
 }
 static void *counter(uint64_t position) {
-    uint8_t *it = buffer('p', COUNTER);
-    (void)VALGRIND_MAKE_MEM_UNDEFINED(it, IV);
-    memcpy(it + IV, &position, sizeof position);
+    struct fotsgure_aes_ctr *it = buffer('p', sizeof *it);
+    (void)VALGRIND_MAKE_MEM_UNDEFINED(it->iv, sizeof it->iv);
+    it->position = position;
     return it;
 }
 
@@ -140,16 +137,10 @@ __attribute__((noinline)) static uint64_t planted_refusal(const uint8_t *s, uint
     for (int i = 0; i < 16; i++) to[i] = s[i] ^ 0x5a;
     return 0;
 }
-/* What stands in for a planted fault that the command line names, so that one sees what a run says that misses it. */
-static const char *spoiled = "";
-__attribute__((noinline)) static uint64_t no_fault(const uint8_t *s, uint8_t *to) {
-    for (int i = 0; i < 16; i++) to[i] = s[i] ^ 0x5a;
-    return 1;
-}
 #define PLANT(name, wanted) do { \
         uint8_t *s = buffer('s', 16), *to = buffer('o', 16); \
         begin(#name); \
-        uint64_t answer = (strcmp(spoiled, #name) ? name : no_fault)(s, to); \
+        uint64_t answer = name(s, to); \
         end(#name, wanted, answer, 1); \
     } while (0)
 static void plants(void) {
@@ -166,10 +157,9 @@ static void plants(void) {
 
 #include "calls.h"
 
-int main(int argc, char **argv) {
+int main(void) {
     setvbuf(stdout, NULL, _IOLBF, 0);
     if (!RUNNING_ON_VALGRIND) { fprintf(stderr, "not under valgrind: this run shows nothing\n"); return 3; }
-    if (argc > 1) spoiled = argv[1];
     plants();
     calls();
     plants();

@@ -11,7 +11,7 @@ import re
 HERE = pathlib.Path(__file__).resolve().parent
 TOP = HERE.parent.parent
 # The crates whose functions are given secrets. The program and its engine are another matter: see README.md.
-CRATES = "aes_planes aes_cipher aes_soft aes aes_permute aes_rounds aes_ctr aes_c".split()
+CRATES = "aes_planes aes_cipher aes_soft aes aes_permute aes_hybrid aes_rounds aes_ctr aes_c".split()
 # What may stand before `fn`.
 KIND = r'(?:(?:final|const|unsafe|extern "C") )*'
 EXPORTS = HERE.parent / "exports" / "src"
@@ -55,8 +55,8 @@ def public_functions():
     return found
 
 
-def reasons(table=HERE / "elsewhere.tsv"):
-    rows = [it.split("\t") for it in table.read_text().splitlines() if it and not it.startswith("#")]
+def reasons():
+    rows = [it.split("\t") for it in (HERE / "elsewhere.tsv").read_text().splitlines() if it and not it.startswith("#")]
     return [(crate, names.split(" "), why) for crate, names, why in rows]
 
 
@@ -64,12 +64,12 @@ def matches(pattern, path, name):
     return fnmatch.fnmatch(f"{path}:{name}" if ":" in pattern else name, pattern)
 
 
-def not_called(calls, table=HERE / "elsewhere.tsv"):
+def not_called(calls):
     """The public functions that neither the exports nor the calls name and that no reason stands for, and the reasons
     that stand for none."""
     text = calls + "\n".join(path.read_text() for path in sorted(EXPORTS.glob("*.txt")))
     words = set(re.findall(r"\w+", text))
-    rows, used, missed = reasons(table), set(), []
+    rows, used, missed = reasons(), set(), []
     for crate, path, name in public_functions():
         if name in words:
             continue

@@ -2,22 +2,18 @@
 import ctypes
 import random
 
+import expand
 import tools
 
-# How the exports number the types of a direction: keys of 16, 24 and 32 bytes, of both directions, then of one.
-ONE_WAY, PERMUTE = 3, 6
 SLICE = 2
-STRUCT = 484
-WAYS = ("aes", "aes, both ways", "aes_permute", "aes_permute, both ways", "C", "C to a buffer", "C in one call")
-STREAMS = ("aes", "aes, both ways", "aes_permute", "aes_permute, both ways", "C", "C in one call")
+OF_TYPES = tuple(f"{crate}{end}" for crate in expand.CRATES for end in ("", ", both ways"))
+WAYS = (*OF_TYPES, "C", "C to a buffer", "C in one call")
+STREAMS = (*OF_TYPES, "C", "C in one call")
 
 
-def number_of(key):
-    return len(key) // 8 - 2
-
-
-def is_one_way(way):
-    return "both" not in way
+def number_of(way, key):
+    """How the exports number the types: keys of 16, 24 and 32 bytes, of both directions, then of one."""
+    return len(key) // 8 - 2 + (0 if "both" in way else 3)
 
 
 class Exports:
@@ -39,16 +35,14 @@ class Exports:
         direction = {"enc": "encrypt", "dec": "decrypt"}[command]
         if way.startswith("C"):
             return self.by_c(way, direction, key, given)
-        crate = "permute" if "permute" in way else "aes"
         count, output = len(given) // 16, ctypes.create_string_buffer(len(given))
-        of = number_of(key) + ONE_WAY * is_one_way(way)
-        name = f"ev_{crate}_{direction}"
-        done = self.call(name, key, len(key), of, SLICE, given, count, output, count)
+        name = f"ev_{way.split(',')[0]}_{direction}_{number_of(way, key)}"
+        done = self.call(name, key, len(key), SLICE, given, count, output, count)
         return done == 1 and output.raw
 
     def struct(self, key):
         """A struct of the C library that holds a key."""
-        it = ctypes.create_string_buffer(STRUCT)
+        it = ctypes.create_string_buffer(tools.STRUCT)
         return it if self.call("fotsgure_aes_set_key", it, key, len(key)) == 0 else None
 
     def by_c(self, way, direction, key, given):
@@ -67,8 +61,8 @@ class Exports:
         first = ctypes.create_string_buffer(data[:cut], cut)
         rest = ctypes.create_string_buffer(data[cut:], len(data) - cut)
         if not way.startswith("C"):
-            of = number_of(key) + ONE_WAY * is_one_way(way) + PERMUTE * ("permute" in way)
-            done = self.call("ev_ctr", key, len(key), of, iv, first, cut, rest, len(data) - cut)
+            name = f"ev_{way.split(',')[0]}_ctr_{number_of(way, key)}"
+            done = self.call(name, key, len(key), iv, first, cut, rest, len(data) - cut)
             return done == 1 and first.raw + rest.raw
         counter = ctypes.create_string_buffer(iv + bytes(8), 24)
         for part, n in ((first, cut), (rest, len(data) - cut)):

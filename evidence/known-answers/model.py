@@ -58,7 +58,7 @@ def looked_up(key, block):
     return bytes(state), read
 
 
-def places_not_found(lines, bit=1):
+def places_not_found(lines):
     """The places of the S-box in whose byte a bit can be made wrong with no vector noticing."""
     missed = set(range(256))
     for name, command, key, given, wanted in lines:
@@ -69,8 +69,8 @@ def places_not_found(lines, bit=1):
         if answer.hex() != wanted:
             return [f"the model is wrong at {name}"]
         for place in missed & read:
-            S[place] ^= bit
+            S[place] ^= 1
             if looked_up(key, given)[0].hex() != wanted:
                 missed.discard(place)
-            S[place] ^= bit
+            S[place] ^= 1
     return sorted(missed)

@@ -27,7 +27,7 @@ ENGINE(big)
 void add_bearssl(enum run run) {
     if (run != NO_AES) return;
     add(&(struct engine){"BearSSL", "ct64", "bitsliced", ct64_key_encrypt, ct64_key_decrypt, ct64_encrypt, ct64_decrypt,
-                         ct64_stream});
+                         ct64_stream, 0, 0, 0});
     add(&(struct engine){"BearSSL", "big, tables", "tables", big_key_encrypt, big_key_decrypt, big_encrypt, big_decrypt,
-                         big_stream});
+                         big_stream, 0, 0, 0});
 }

@@ -2,10 +2,11 @@
 #include "engine.h"
 #include <botan/block_cipher.h>
 #include <botan/cpuid.h>
+#include <botan/stream_cipher.h>
 #include <memory>
-#include <cstring>
 
 static std::unique_ptr<Botan::BlockCipher> enc[3], dec[3];
+static std::unique_ptr<Botan::StreamCipher> ctr[3];
 static int now;
 static void key_encrypt(const uint8_t *key, size_t n) {
     now = size_of(n);
@@ -17,6 +18,11 @@ static void key_decrypt(const uint8_t *key, size_t n) {
 }
 static void encrypt(uint8_t *b, size_t count) { enc[now]->encrypt_n(b, b, count); }
 static void decrypt(uint8_t *b, size_t count) { dec[now]->decrypt_n(b, b, count); }
+static void stream(const uint8_t *key, size_t n, const uint8_t *iv, uint8_t *data, size_t length) {
+    if (key) ctr[size_of(n)]->set_key(key, n);
+    ctr[size_of(n)]->set_iv(iv, 16);
+    ctr[size_of(n)]->cipher1(data, length);
+}
 
 extern "C" void add_botan(enum run run) {
     Botan::CPUID::initialize();
@@ -26,10 +32,11 @@ extern "C" void add_botan(enum run run) {
     for (int i = 0; i < 3; i++) {
         enc[i] = Botan::BlockCipher::create_or_throw(names[i]);
         dec[i] = Botan::BlockCipher::create_or_throw(names[i]);
+        ctr[i] = Botan::StreamCipher::create_or_throw("CTR-BE(" + std::string(names[i]) + ")");
     }
     static const char *const how[] = {"AES instructions", "SSSE3 permutations", "bitsliced"};
     static const char *const kind[] = {"instructions", "permutations", "bitsliced"};
     static engine it;
-    it = {"Botan", how[run], kind[run], key_encrypt, key_decrypt, encrypt, decrypt, nullptr};
+    it = {"Botan", how[run], kind[run], key_encrypt, key_decrypt, encrypt, decrypt, stream, 1, nullptr, nullptr};
     add(&it);
 }

@@ -1,4 +1,4 @@
-/* One way to run AES that is timed: a library, and how it works on its blocks. */
+/* One way to run AES that is timed: a library, and how it works on its blocks. A call that an engine lacks is 0. */
 #ifndef ENGINE_H
 #define ENGINE_H
 
@@ -19,10 +19,13 @@ struct engine {
     /* Works on so many blocks in place, under the key taken last. */
     void (*encrypt)(uint8_t *blocks, size_t count);
     void (*decrypt)(uint8_t *blocks, size_t count);
-    /* Takes a key and a counter block, and adds the keystream. */
+    /* Takes a key and a counter block, and adds the keystream; without a key (0), that taken last. */
     void (*stream)(const uint8_t *key, size_t bytes, const uint8_t *iv, uint8_t *data, size_t length);
-    /* If it is there, the calls above keep no key: this one takes a key and works so many times on the blocks. */
+    int keeps; /* whether `stream` can do without a key */
+    /* If it is there, the calls on blocks keep no key: this one takes a key and works so many times on the blocks. */
     void (*times)(const uint8_t *key, size_t bytes, int back, uint32_t times, uint8_t *blocks, size_t count);
+    /* Wipes as many bytes as the round keys of a batch take. */
+    void (*wipe)(size_t key_bytes);
 };
 
 /* The run: which instructions of the processor the peers may use. */

@@ -16,7 +16,7 @@ static void key_decrypt(const uint8_t *key, size_t n) {
 static void encrypt(uint8_t *b, size_t count) { gcry_cipher_encrypt(enc[now], b, 16 * count, 0, 0); }
 static void decrypt(uint8_t *b, size_t count) { gcry_cipher_decrypt(dec[now], b, 16 * count, 0, 0); }
 static void stream(const uint8_t *key, size_t n, const uint8_t *iv, uint8_t *data, size_t length) {
-    gcry_cipher_setkey(ctr[size_of(n)], key, n);
+    if (key) gcry_cipher_setkey(ctr[size_of(n)], key, n);
     gcry_cipher_setctr(ctr[size_of(n)], iv, 16);
     gcry_cipher_encrypt(ctr[size_of(n)], data, length, 0, 0);
 }
@@ -36,12 +36,8 @@ void add_libgcrypt(enum run run) {
         gcry_cipher_open(&dec[i], algorithm[i], GCRY_CIPHER_MODE_ECB, 0);
         gcry_cipher_open(&ctr[i], algorithm[i], GCRY_CIPHER_MODE_CTR, 0);
     }
-    if (run == ALL)
-        add(&(struct engine){"Libgcrypt", "AES instructions", "instructions", key_encrypt, key_decrypt, encrypt,
-                             decrypt, stream});
-    if (run == NO_AES)
-        add(&(struct engine){"Libgcrypt", "SSSE3 permutations", "permutations", key_encrypt, key_decrypt, encrypt,
-                             decrypt, stream});
-    if (run == NO_AES_NO_SSSE3)
-        add(&(struct engine){"Libgcrypt", "tables", "tables", key_encrypt, key_decrypt, encrypt, decrypt, stream});
+    static const char *const how[] = {"AES instructions", "SSSE3 permutations", "tables"};
+    static const char *const kind[] = {"instructions", "permutations", "tables"};
+    add(&(struct engine){
+        "Libgcrypt", how[run], kind[run], key_encrypt, key_decrypt, encrypt, decrypt, stream, 1, 0, 0});
 }

@@ -34,7 +34,8 @@ void add_mbedtls(enum run run) {
     instructions = run == ALL;
     if (run == ALL)
         add(&(struct engine){"mbedtls", "AES instructions", "instructions", key_encrypt, key_decrypt, encrypt, decrypt,
-                             stream});
+                             stream, 0, 0, 0});
     if (run == NO_AES)
-        add(&(struct engine){"mbedtls", "tables", "tables", key_encrypt, key_decrypt, encrypt, decrypt, stream});
+        add(&(struct engine){"mbedtls", "tables", "tables", key_encrypt, key_decrypt, encrypt, decrypt, stream,
+                             0, 0, 0});
 }

@@ -51,7 +51,8 @@ static void stream(const uint8_t *key, size_t n, const uint8_t *iv, uint8_t *dat
 void add_nettle(enum run run) {
     if (run == ALL)
         add(&(struct engine){"Nettle", "AES instructions", "instructions", key_encrypt, key_decrypt, encrypt, decrypt,
-                             stream});
+                             stream, 0, 0, 0});
     if (run == NO_AES)
-        add(&(struct engine){"Nettle", "tables", "tables", key_encrypt, key_decrypt, encrypt, decrypt, stream});
+        add(&(struct engine){"Nettle", "tables", "tables", key_encrypt, key_decrypt, encrypt, decrypt, stream,
+                             0, 0, 0});
 }

@@ -1,4 +1,5 @@
-/* OpenSSL by EVP, and the low-level AES_encrypt, which uses tables on every machine. */
+/* OpenSSL by EVP; the low-level AES_encrypt, which uses tables on every machine; and its code by vector permutations,
+   called with nothing between, as its static library lets one. */
 #define OPENSSL_SUPPRESS_DEPRECATED
 #include "engine.h"
 #include <openssl/aes.h>
@@ -6,7 +7,11 @@
 
 static EVP_CIPHER_CTX *enc, *dec, *ctr;
 static EVP_CIPHER *ecb_of[3], *ctr_of[3];
-static AES_KEY low_enc, low_dec;
+static AES_KEY low_enc, low_dec, vpaes_enc, vpaes_dec;
+int vpaes_set_encrypt_key(const uint8_t *key, int bits, AES_KEY *made);
+int vpaes_set_decrypt_key(const uint8_t *key, int bits, AES_KEY *made);
+void vpaes_encrypt(const uint8_t *in, uint8_t *out, const AES_KEY *key);
+void vpaes_decrypt(const uint8_t *in, uint8_t *out, const AES_KEY *key);
 
 static void key_encrypt(const uint8_t *key, size_t n) {
     EVP_EncryptInit_ex2(enc, ecb_of[size_of(n)], key, 0, 0);
@@ -26,7 +31,7 @@ static void decrypt(uint8_t *b, size_t count) {
 }
 static void stream(const uint8_t *key, size_t n, const uint8_t *iv, uint8_t *data, size_t length) {
     int l;
-    EVP_EncryptInit_ex2(ctr, ctr_of[size_of(n)], key, iv, 0);
+    EVP_EncryptInit_ex2(ctr, key ? ctr_of[size_of(n)] : 0, key, iv, 0);
     EVP_EncryptUpdate(ctr, data, &l, data, (int)length);
 }
 static void low_key_encrypt(const uint8_t *key, size_t n) { AES_set_encrypt_key(key, (int)(8 * n), &low_enc); }
@@ -36,6 +41,15 @@ static void low_encrypt(uint8_t *b, size_t count) {
 }
 static void low_decrypt(uint8_t *b, size_t count) {
     for (size_t i = 0; i < count; i++) AES_decrypt(b + 16 * i, b + 16 * i, &low_dec);
+}
+/* One block after another, as its electronic codebook does. */
+static void direct_key_encrypt(const uint8_t *key, size_t n) { vpaes_set_encrypt_key(key, (int)(8 * n), &vpaes_enc); }
+static void direct_key_decrypt(const uint8_t *key, size_t n) { vpaes_set_decrypt_key(key, (int)(8 * n), &vpaes_dec); }
+static void direct_encrypt(uint8_t *b, size_t count) {
+    for (size_t i = 0; i < count; i++) vpaes_encrypt(b + 16 * i, b + 16 * i, &vpaes_enc);
+}
+static void direct_decrypt(uint8_t *b, size_t count) {
+    for (size_t i = 0; i < count; i++) vpaes_decrypt(b + 16 * i, b + 16 * i, &vpaes_dec);
 }
 
 void add_openssl(enum run run) {
@@ -48,17 +62,15 @@ void add_openssl(enum run run) {
     enc = EVP_CIPHER_CTX_new();
     dec = EVP_CIPHER_CTX_new();
     ctr = EVP_CIPHER_CTX_new();
-    if (run == ALL)
-        add(&(struct engine){"OpenSSL", "AES instructions", "instructions", key_encrypt, key_decrypt, encrypt, decrypt,
-                             stream});
     /* Without AES instructions counter mode and CBC decryption of long inputs are bitsliced, and the rest is by vector
        permutations. */
+    static const char *const how[] = {"AES instructions", "SSSE3 permutations", "tables, EVP"};
+    static const char *const kind[] = {"instructions", "permutations", "tables"};
+    add(&(struct engine){"OpenSSL", how[run], kind[run], key_encrypt, key_decrypt, encrypt, decrypt, stream, 1, 0, 0});
     if (run == NO_AES)
-        add(&(struct engine){"OpenSSL", "SSSE3 permutations", "permutations", key_encrypt, key_decrypt, encrypt,
-                             decrypt, stream});
-    if (run == NO_AES_NO_SSSE3)
-        add(&(struct engine){"OpenSSL", "tables, EVP", "tables", key_encrypt, key_decrypt, encrypt, decrypt, stream});
+        add(&(struct engine){"OpenSSL", "its vpaes alone", "permutations", direct_key_encrypt, direct_key_decrypt,
+                             direct_encrypt, direct_decrypt, 0, 0, 0, 0});
     if (run == ALL)
         add(&(struct engine){"OpenSSL", "tables, AES_encrypt", "tables", low_key_encrypt, low_key_decrypt, low_encrypt,
-                             low_decrypt, 0});
+                             low_decrypt, 0, 0, 0, 0});
 }

@@ -12,24 +12,21 @@ PANELS = [
     ("encrypt", 1, "one block, the key at hand"),
     ("key and block", 1, "a key and one block"),
 ]
-# Each group, its colour on light ground and on dark; this library's bars have a colour of their own.
+# Each group, its colour on light ground and on dark.
 GROUPS = [
-    ("bitsliced", "Software on bit planes, without tables", "#6f9fce", "#6f9fce"),
+    ("hybrid", "This library", "#0b7a75", "#2fb8ad"),
     ("permutations", "Software by vector permutations (SSSE3)", "#8c9a4e", "#a3b25c"),
+    ("bitsliced", "Software on bit planes, without tables", "#6f9fce", "#6f9fce"),
     ("tables", "Software with tables in memory", "#cf8a55", "#d9965f"),
     ("instructions", "AES instructions of the processor", "#9a8fbf", "#a79ccb"),
 ]
-OURS = ("ours", "This library", "#0b7a75", "#2fb8ad")
 # Colours that stand for classes, which the page's ground decides: text, lines, and the ground itself.
 CLASSES = {
     "#010101": ("ink", "#1f2328", "#e6edf3"),
     "#020202": ("soft", "#59636e", "#9198a1"),
     "#030303": ("rule", "#d1d9e0", "#3d444d"),
 }
-CLASSES |= {light: (f"bar-{kind}", light, dark) for kind, _, light, dark in [*GROUPS, OURS]}
-# What the second compiler builds on bit planes is many times slower: it stands in the table alone, and leaves the bars
-# their room.
-LEFT_OUT = ("aes, by the second compiler",)
+CLASSES |= {light: (f"bar-{kind}", light, dark) for kind, _, light, dark in GROUPS}
 WIDTH, ROW, GAP = 11, 0.27, 0.45
 
 
@@ -37,14 +34,22 @@ def is_ours(engine):
     return engine[1] == "this library"
 
 
+def is_shown(row):
+    """This library stands here as the C library by LLVM: the table has its parts, and what the second compiler makes,
+    which serves to check the first. So does it for peers' code without their calls around it."""
+    if row["peer"] == "this library":
+        return row["how"] == tables.BASE
+    return row["kind"] != "planted" and "alone" not in row["how"]
+
+
 def times_of(rows, key):
     """The least nanoseconds a block: {(kind, peer, how): {(call, blocks): time}}."""
     times = {}
     for r in rows:
-        if r["key_bytes"] == key and r["kind"] != "planted" and r["how"] not in LEFT_OUT:
+        if r["key_bytes"] == key and is_shown(r):
             of = times.setdefault((r["kind"], r["peer"], r["how"]), {})
-            call = (r["call"], r["blocks"])
-            of[call] = min(r["nanoseconds"] / max(r["blocks"], 1), of.get(call, 1e30))
+            call = (r["call"], r["amount"])
+            of[call] = min(r["nanoseconds"] / r["amount"], of.get(call, 1e30))
     return times
 
 
@@ -52,9 +57,7 @@ def places(times):
     """Where each engine's bar and each group's head stand, from the top down, and how far that goes."""
     shown, heads, at = [], [], 0.0
     for kind, title, _, _ in GROUPS:
-        # This library first, then the fastest first.
-        of = [it for it in times if it[0] == kind]
-        of.sort(key=lambda it: (not is_ours(it), times[it].get(PANELS[0][:2], 1e30)))
+        of = sorted((it for it in times if it[0] == kind), key=lambda it: times[it].get(PANELS[0][:2], 1e30))
         if not of:
             continue
         heads.append((at, title))
@@ -71,7 +74,7 @@ def bars(axis, values):
         if value is None:
             axis.text(0.012 * most, y, "no such call", va="center", ha="left", color="#020202", fontsize=8.5)
             continue
-        axis.barh(y, value, height=0.74, color=OURS[2] if is_ours(it) else colours[it[0]], linewidth=0)
+        axis.barh(y, value, height=0.74, color=colours[it[0]], linewidth=0)
         text = f"{value:,.0f}" if value >= 10 else f"{value:.1f}"
         weight = "bold" if is_ours(it) else "normal"
         place = {"va": "center", "ha": "left", "color": "#010101", "fontsize": 9, "fontweight": weight}
@@ -103,7 +106,7 @@ def labels(axis, shown, heads):
     beside = {"transform": axis.get_yaxis_transform(), "va": "center"}
     for y, it in shown:
         weight = "bold" if is_ours(it) else "normal"
-        text = f"{it[1]}, {it[2]}".replace("by the ", "").replace("by ", "")
+        text = "aes_hybrid, through C" if is_ours(it) else f"{it[1]}, {it[2]}"
         axis.text(-0.02, y, text, ha="right", color="#010101", fontsize=9.5, fontweight=weight, **beside)
     for y, title in heads:
         axis.text(-1.1, y, title, ha="left", color="#020202", fontsize=9.5, fontstyle="italic", **beside)

@@ -1,4 +1,4 @@
-"""The times of a run as a file, as a table with everything, and as the table of docs/MEASUREMENTS.md."""
+"""The times of a run as a file, as tables with everything, and as the tables of docs/MEASUREMENTS.md."""
 import csv
 import subprocess
 
@@ -15,26 +15,37 @@ PACKAGES = {
     "libbotan-2-dev": "Botan",
 }
 # The engine that all ratios are to, which stands in every run.
-BASE = "aes, by LLVM"
-KINDS = ["bitsliced", "permutations", "tables", "instructions"]
+BASE = "C library, by LLVM"
+KINDS = ["hybrid", "bitsliced", "permutations", "tables", "instructions"]
 TITLES = {
     "bitsliced": "bit planes",
     "permutations": "vector permutations (SSSE3)",
     "tables": "tables in memory",
     "instructions": "AES instructions",
 }
-HEAD = ["peer", "how", "kind", "run", "key_bytes", "call", "blocks", "ticks", "nanoseconds", "ratio_to_this_library"]
+# The amount is of blocks, or of bytes for counter mode.
+HEAD = ["peer", "how", "kind", "run", "key_bytes", "call", "amount", "ticks", "nanoseconds", "ratio_to_this_library"]
 DIGITS = {"ticks": 1, "nanoseconds": 1, "ratio_to_this_library": 3}
 COLUMNS = [(call, n) for call in ("encrypt", "decrypt") for n in (1, 4, 8, 64, 4096)]
-COLUMNS += [("counter mode", 4096), ("key for encryption", 0), ("key for decryption", 0), ("key and block", 1)]
-PUBLISHED = [("encrypt", 1), ("encrypt", 4), ("encrypt", 8), ("encrypt", 64), ("encrypt", 4096)]
-PUBLISHED += [("decrypt", 1), ("decrypt", 8), ("decrypt", 4096), ("counter mode", 4096)]
-PUBLISHED += [("key for encryption", 0), ("key for decryption", 0), ("key and block", 1)]
+COLUMNS += [("key and counter mode", 65536), ("key for encryption", 1), ("key for decryption", 1), ("key and block", 1)]
+PUBLISHED = [("encrypt", 1), ("encrypt", 8), ("encrypt", 4096), ("decrypt", 1), ("decrypt", 4096)]
+PUBLISHED += [("key and counter mode", 65536), ("key for encryption", 1), ("key and block", 1)]
+# What is compared with peers that need no AES instructions and read no tables: calls and amounts.
+GROUPS = {
+    "one block": [("encrypt", 1), ("decrypt", 1)],
+    "2 to 16 blocks": [(call, n) for call in ("encrypt", "decrypt") for n in range(2, 17)],
+    "17 to 40 blocks": [(call, n) for call in ("encrypt", "decrypt") for n in range(17, 41)],
+    "64 to 4,096 blocks": [(call, n) for call in ("encrypt", "decrypt") for n in (64, 1024, 4096)],
+    "counter mode, 16 to 1,500 bytes": [("counter mode", n) for n in (*range(16, 257, 16), 320, 384, 512, 1024, 1500)],
+    "counter mode, 4 KiB to 1 MiB": [("counter mode", 1 << n) for n in (12, 14, 16, 20)],
+    "a key, both directions": [("both keys", 1)],
+}
+CONSTANT_TIME = "no AES instructions"
 
 
 def place(row):
     """What a row is about, apart from the engine."""
-    return row["run"], row["key_bytes"], row["call"], row["blocks"]
+    return row["run"], row["key_bytes"], row["call"], row["amount"]
 
 
 def write(path, where, rows):
@@ -52,7 +63,7 @@ def read(path):
         where = it.readline().removeprefix("# ").rstrip("\n")
         rows = list(csv.DictReader(it))
     for row in rows:
-        row.update({k: int(row[k]) for k in ("key_bytes", "blocks")}, **{k: float(row[k]) for k in DIGITS})
+        row.update({k: int(row[k]) for k in ("key_bytes", "amount")}, **{k: float(row[k]) for k in DIGITS})
     return where, rows
 
 
@@ -61,7 +72,7 @@ def drift(rows):
     most = 1.0
     for key in (16, 24, 32):
         its = [r["ticks"] for r in rows if r["how"] == BASE and r["key_bytes"] == key]
-        what = [(r["call"], r["blocks"]) for r in rows if r["how"] == BASE and r["key_bytes"] == key]
+        what = [(r["call"], r["amount"]) for r in rows if r["how"] == BASE and r["key_bytes"] == key]
         bulk = [t for t, it in zip(its, what) if it == ("encrypt", 4096)]
         most = max(most, max(bulk) / min(bulk))
     return most
@@ -73,7 +84,7 @@ def engines(rows, key):
     last = {
         (r["peer"], r["how"]): (r["peer"] != "this library", r["how"] != BASE, KINDS.index(r["kind"]), r["ticks"])
         for r in of
-        if (r["call"], r["blocks"]) == ("encrypt", 4096)
+        if (r["call"], r["amount"]) == ("encrypt", 4096)
     }
     return of, sorted(last, key=last.get)
 
@@ -82,12 +93,12 @@ def ratio(number):
     return f"{number:.2f}" if number < 10 else f"{number:.1f}"
 
 
-def cell(its, how, blocks):
+def cell(its, how, amount):
     """The least time, or the ratio to it."""
     if not its:
         return "–"
     if how == BASE:
-        return f"{min(r['nanoseconds'] for r in its) / max(blocks, 1):,.0f}"
+        return f"{min(r['nanoseconds'] for r in its) / amount:,.0f}"
     return ratio(its[0]["ratio_to_this_library"])
 
 
@@ -96,12 +107,12 @@ def times_of(of, engine):
     its = {}
     for r in of:
         if (r["peer"], r["how"]) == engine:
-            its.setdefault((r["call"], r["blocks"]), []).append(r)
+            its.setdefault((r["call"], r["amount"]), []).append(r)
     return its
 
 
 def heads(columns):
-    names = [f"{call}{f' {n:,}' if n else ''}" for call, n in columns]
+    names = [f"{call}{f' {n:,}' if n > 1 or 'crypt' in call[:7] else ''}" for call, n in columns]
     return ["| | " + " | ".join(names) + " |", "|---|" + "---|" * len(columns)]
 
 
@@ -131,12 +142,56 @@ def together(rows, key, columns, kind):
     return f"| {TITLES[kind]}, {len(its)} engines | " + " | ".join(cells) + " |"
 
 
+def beside(rows):
+    """For each group of calls the ratio to OpenSSL, and to the fastest peer, from the least to the most for each size
+    of keys. A key counts for both directions, as C has it: OpenSSL sets them one by one."""
+    of = {}
+    for r in (r for r in rows if r["run"] == CONSTANT_TIME and r["kind"] in ("hybrid", "permutations")):
+        of.setdefault((r["peer"], r["how"]), {})[r["key_bytes"], r["call"], r["amount"]] = r["ticks"]
+    for (_, how), its in of.items():
+        for key in (16, 24, 32):
+            ends = [its.get((key, f"key for {it}", 1)) for it in ("encryption", "decryption")]
+            if all(ends):
+                its[key, "both keys", 1] = ends[0] if how == BASE else sum(ends)
+    ours = of["this library", BASE]
+    openssl = [its for (peer, how), its in of.items() if peer == "OpenSSL" and "alone" not in how]
+    peers = [its for (peer, how), its in of.items() if peer != "this library" and "alone" not in how]
+    lines = ["| | of OpenSSL's time | of the fastest peer's |", "|---|---|---|"]
+    for group, calls in GROUPS.items():
+        cells = []
+        for those in (openssl, peers):
+            sizes = []
+            for key in (16, 24, 32):
+                places = [(key, *it) for it in calls]
+                least = [min((its[it] for its in those if it in its), default=0) for it in places]
+                ratios = sorted(ours[it] / n for it, n in zip(places, least) if n)
+                ends = dict.fromkeys(f"{it:.2f}" for it in (*ratios[:1], *ratios[-1:])) or ["–"]
+                sizes.append(" to ".join(ends))
+            cells.append("; ".join(sizes))
+        lines.append(f"| {group} | {cells[0]} | {cells[1]} |")
+    return lines
+
+
+def slower_with_fewer(rows):
+    """The counts of blocks, up to 40, at which this library takes over a hundredth more time than with more."""
+    for key in (16, 24, 32):
+        for call in ("encrypt", "decrypt"):
+            place = BASE, CONSTANT_TIME, key, call
+            of = [r for r in rows if (r["how"], r["run"], r["key_bytes"], r["call"]) == place and r["amount"] <= 40]
+            for r in of:
+                least = min((it for it in of if it["amount"] >= r["amount"]), key=lambda it: it["ticks"])
+                if r["ticks"] > 1.01 * least["ticks"]:
+                    counts = " ticks, ".join(f"{it['amount']} blocks {it['ticks']:,.0f}" for it in (r, least))
+                    yield f"{call}, key of {key} bytes: {counts}"
+
+
 def whole(rows):
-    """Ratios for the three sizes of keys, and this library's own times."""
-    parts = []
+    """Ratios for the three sizes of keys, and this library's own times; and what beside() says."""
+    parts = ["\n".join(beside(rows)) + "\n"]
     for key in (16, 24, 32):
         parts.append(
-            f"Keys of {key} bytes. First row: nanoseconds a block (a key: a call); below: time divided by that.\n"
+            f"Keys of {key} bytes. First row: nanoseconds a block (counter mode: a byte, a key: a call); below: time "
+            "divided by that.\n"
         )
         parts.append("\n".join(table(rows, key, COLUMNS)) + "\n")
     return "\n".join(parts)
@@ -151,14 +206,17 @@ def versions():
 
 
 def published(where, rows):
-    """The section of docs/MEASUREMENTS.md that a run writes: a paragraph, and a table."""
-    few = ("bitsliced", "tables", "instructions")
-    lines = table(rows, 16, PUBLISHED, lambda peer, kind: peer != "this library" and kind in few)
+    """The section of docs/MEASUREMENTS.md that a run writes: a paragraph, and two tables."""
+    few = ("tables", "instructions")
+    lines = beside(rows) + [""]
+    lines += table(rows, 16, PUBLISHED, lambda peer, kind: peer != "this library" and kind in few)
     lines += [together(rows, 16, PUBLISHED, kind) for kind in few]
     text = (
-        f"`evidence/speed/run`, {tools.briefly(where)}. Keys of 16 bytes; "
-        "[results.csv](../evidence/speed/results.csv) has every time. First row: nanoseconds a block, or a "
-        "call; below: time divided by that, so above 1 is slower than `aes`."
+        f"`evidence/speed/run`, {tools.briefly(where)}. [results.csv](../evidence/speed/results.csv) has every time. "
+        "The first table divides the time of the C library by that of peers that use no AES instructions and read no "
+        "tables (SSSE3), for keys of 16; 24; 32 bytes, from the least ratio of the calls to the most. In the second, "
+        "with keys of 16 bytes, the first row has nanoseconds a block, a byte of counter mode, or a call; below stands "
+        "time divided by that, so above 1 is slower than the C library."
     )
     return text, lines
 

@@ -8,90 +8,116 @@
 #include <unistd.h>
 #include <x86intrin.h>
 
-enum { MOST = 4096, ENGINES = 16, WHATS = 16 };
+enum { MOST = 65536, ENGINES = 16, WHATS = 192, LONG = 1024, LONG_EVERY = 4 };
 static struct engine engines[ENGINES];
-static int count, refused[ENGINES];
-void spoil(const char *name);
+static int count, refused[ENGINES], many[ENGINES], whats_made;
+static size_t rounds_made;
 void add(const struct engine *engine) { engines[count++] = *engine; }
 
-/* What is timed. `blocks` 0 is a call with no blocks. */
-enum call { ENCRYPT, DECRYPT, STREAM, KEY_ENCRYPT, KEY_DECRYPT, KEY_AND_BLOCK };
-static const struct { const char *name; enum call call; size_t blocks; } whats[] = {
-    {"encrypt", ENCRYPT, 1}, {"encrypt", ENCRYPT, 4}, {"encrypt", ENCRYPT, 8}, {"encrypt", ENCRYPT, 64},
-    {"encrypt", ENCRYPT, 4096}, {"decrypt", DECRYPT, 1}, {"decrypt", DECRYPT, 4}, {"decrypt", DECRYPT, 8},
-    {"decrypt", DECRYPT, 64}, {"decrypt", DECRYPT, 4096}, {"counter mode", STREAM, 64}, {"counter mode", STREAM, 4096},
-    {"key for encryption", KEY_ENCRYPT, 0}, {"key for decryption", KEY_DECRYPT, 0}, {"key and block", KEY_AND_BLOCK, 1},
-};
-enum { WHAT = sizeof whats / sizeof *whats };
+/* What is timed, on so many blocks, or bytes of counter mode. What isn't for all engines is for those without tables
+   that need no AES instructions. */
+enum call { ENCRYPT, DECRYPT, STREAM, KEY_AND_STREAM, KEY_ENCRYPT, KEY_DECRYPT, KEY_AND_BLOCK, WIPE };
+static const char *const names[] = {"encrypt", "decrypt", "counter mode", "key and counter mode", "key for encryption",
+                                    "key for decryption", "key and block", "wipe of a batch's round keys"};
+static struct what { enum call call; size_t amount; int for_all; } whats[WHATS];
+static void what(enum call call, size_t amount, int for_all) {
+    whats[whats_made++] = (struct what){call, amount, for_all};
+}
+static void list(void) {
+    static const size_t bytes[] = {16, 32, 48, 64, 80, 96, 112, 128, 144, 160, 176, 192, 208, 224, 240, 256, 320, 384,
+                                   512, 1024, 1500, 4096, 16384, 65536, 1 << 20};
+    for (enum call it = ENCRYPT; it <= DECRYPT; it++) {
+        for (size_t n = 1; n <= 40; n++) what(it, n, n == 1 || n == 4 || n == 8);
+        what(it, 64, 1);
+        what(it, 1024, 0);
+        what(it, 4096, 1);
+    }
+    for (size_t i = 0; i < sizeof bytes / sizeof *bytes; i++) {
+        what(STREAM, bytes[i], 0);
+        what(KEY_AND_STREAM, bytes[i], bytes[i] == 1024 || bytes[i] == 65536);
+    }
+    for (enum call it = KEY_ENCRYPT; it <= WIPE; it++) what(it, 1, 1);
+}
+static size_t blocks_of(const struct what *it) {
+    return it->call == STREAM || it->call == KEY_AND_STREAM ? (it->amount + 15) / 16 : it->amount;
+}
 /* The least ticks of all turns of a call, and of what an engine that takes its key in each call needs for no turn. */
-static double best[3][ENGINES][WHAT], none[3][ENGINES][WHAT];
+static double best[3][ENGINES][WHATS], none[3][ENGINES][WHATS];
 static uint8_t data[16 * MOST] __attribute__((aligned(64))), key[32], iv[16];
 
-static int can(const struct engine *e, enum call call) {
-    switch (call) {
+static int can(int i, const struct what *it) {
+    const struct engine *e = &engines[i];
+    if (!it->for_all && !many[i]) return 0;
+    switch (it->call) {
     case ENCRYPT: case KEY_AND_BLOCK: return e->encrypt != 0;
     case DECRYPT: return e->decrypt != 0;
-    case STREAM: return e->stream != 0;
+    case STREAM: return e->stream && e->keeps;
+    case KEY_AND_STREAM: return e->stream != 0;
+    case WIPE: return e->wipe != 0;
     default: return 1;
     }
 }
-static uint32_t turns_of(int what) {
-    size_t blocks = whats[what].blocks;
-    return blocks >= 64 ? 1 : blocks ? (uint32_t)(64 / blocks) : 16;
+static uint32_t turns_of(const struct what *it) {
+    size_t blocks = blocks_of(it);
+    return it->call >= KEY_ENCRYPT ? 16 : blocks >= 64 ? 1 : (uint32_t)(64 / blocks);
 }
-static int is_key(int what) { return whats[what].call >= KEY_ENCRYPT; }
 
-static void call(const struct engine *e, int what, size_t bytes) {
-    size_t n = whats[what].blocks;
-    switch (whats[what].call) {
-    case ENCRYPT: e->encrypt(data, n); break;
-    case DECRYPT: e->decrypt(data, n); break;
-    case STREAM: e->stream(key, bytes, iv, data, 16 * n); break;
+static void call(const struct engine *e, const struct what *it, size_t bytes) {
+    switch (it->call) {
+    case ENCRYPT: e->encrypt(data, it->amount); break;
+    case DECRYPT: e->decrypt(data, it->amount); break;
+    case STREAM: e->stream(0, bytes, iv, data, it->amount); break;
+    case KEY_AND_STREAM: e->stream(key, bytes, iv, data, it->amount); break;
     case KEY_ENCRYPT: key[7]++; e->key_encrypt(key, bytes); break;
     case KEY_DECRYPT: key[7]++; e->key_decrypt(key, bytes); break;
     case KEY_AND_BLOCK: key[7]++; e->key_encrypt(key, bytes); e->encrypt(data, 1); break;
+    case WIPE: e->wipe(bytes); break;
     }
 }
 /* So many turns of a call. An engine that takes its key in each call takes it once for all turns on blocks. */
-static void turn(const struct engine *e, int what, size_t bytes, uint32_t turns) {
-    int back = whats[what].call == DECRYPT || whats[what].call == KEY_DECRYPT;
-    if (!e->times || whats[what].call == STREAM) {
-        for (uint32_t t = 0; t < turns; t++) call(e, what, bytes);
-    } else if (is_key(what)) {
+static void turn(const struct engine *e, const struct what *it, size_t bytes, uint32_t turns) {
+    int back = it->call == DECRYPT || it->call == KEY_DECRYPT;
+    if (!e->times || it->call == KEY_AND_STREAM) {
+        for (uint32_t t = 0; t < turns; t++) call(e, it, bytes);
+    } else if (it->call >= KEY_ENCRYPT) {
         for (uint32_t t = 0; t < turns; t++) {
             key[7]++;
-            e->times(key, bytes, back, whats[what].call == KEY_AND_BLOCK, data, 1);
+            e->times(key, bytes, back, it->call == KEY_AND_BLOCK, data, 1);
         }
     } else {
-        e->times(key, bytes, back, turns, data, whats[what].blocks);
+        e->times(key, bytes, back, turns, data, it->amount);
     }
 }
-static void least(double *of, const struct engine *e, int what, size_t bytes, uint32_t turns) {
+static void least(double *of, const struct engine *e, const struct what *it, size_t bytes, uint32_t turns) {
     unsigned core;
     _mm_lfence();
     uint64_t start = __rdtscp(&core);
-    turn(e, what, bytes, turns);
+    turn(e, it, bytes, turns);
     uint64_t end = __rdtscp(&core);
     _mm_lfence();
     double ticks = (double)(end - start);
     if (!*of || ticks < *of) *of = ticks;
 }
+static void measure(int i, int w, int size) {
+    struct engine *e = &engines[i];
+    size_t bytes = 16 + 8 * (size_t)size;
+    e->key_encrypt(key, bytes);
+    e->key_decrypt(key, bytes);
+    if (whats[w].call == STREAM) e->stream(key, bytes, iv, data, 16);
+    call(e, &whats[w], bytes);
+    least(&best[size][i][w], e, &whats[w], bytes, turns_of(&whats[w]));
+    if (e->times && whats[w].call <= DECRYPT) least(&none[size][i][w], e, &whats[w], bytes, 0);
+}
 static void one_round(void) {
+    size_t round = rounds_made++;
     for (int size = 0; size < 3; size++)
-        for (int w = 0; w < WHAT; w++)
-            for (int i = 0; i < count; i++) {
-                struct engine *e = &engines[i];
-                size_t bytes = 16 + 8 * (size_t)size;
-                if (refused[i] || !can(e, whats[w].call)) continue;
-                e->key_encrypt(key, bytes);
-                e->key_decrypt(key, bytes);
-                call(e, w, bytes);
-                least(&best[size][i][w], e, w, bytes, turns_of(w));
-                if (e->times && !is_key(w) && whats[w].call != STREAM) least(&none[size][i][w], e, w, bytes, 0);
-            }
+        for (int w = 0; w < whats_made; w++)
+            for (int i = 0; i < count; i++)
+                if (!refused[i] && can(i, &whats[w]) && (blocks_of(&whats[w]) < LONG || round % LONG_EVERY == 0))
+                    measure(i, w, size);
 }
 static double ticks_a_call(int size, int i, int w) {
-    return (best[size][i][w] - none[size][i][w]) / turns_of(w);
+    return (best[size][i][w] - none[size][i][w]) / turns_of(&whats[w]);
 }
 
 /* An engine is refused whose answers are not this library's, which are the standard's by its proof and by
@@ -101,6 +127,8 @@ static int right(const struct engine *e, size_t bytes) {
     uint8_t plain[16 * N], ours[16 * N], theirs[16 * N];
     const struct engine *us = &engines[0];
     int bear = !strcmp(e->name, "BearSSL");
+    /* One that makes round keys alone has no answers. */
+    if (!e->encrypt) return 1;
     for (int i = 0; i < 16 * N; i++) plain[i] = (uint8_t)(i * 31 + (i >> 4) * 7);
     us->key_encrypt(key, bytes);
     e->key_encrypt(key, bytes);
@@ -126,6 +154,8 @@ static int right(const struct engine *e, size_t bytes) {
         memcpy(theirs, plain, sizeof plain);
         us->stream(key, bytes, iv, ours, sizeof ours - 5);
         e->stream(key, bytes, iv, theirs, sizeof theirs - 5);
+        if (e->keeps) e->stream(0, bytes, iv, theirs, sizeof theirs - 5);
+        if (e->keeps) us->stream(key, bytes, iv, ours, sizeof ours - 5);
         if (memcmp(ours, theirs, sizeof ours)) return 0;
     }
     return 1;
@@ -136,10 +166,10 @@ static void print_rows(int i) {
     const struct engine *e = &engines[i];
     if (refused[i]) { printf("refused\t%s\t%s\t%s\n", e->name, e->how, e->kind); return; }
     for (int size = 0; size < 3; size++)
-        for (int w = 0; w < WHAT; w++) {
+        for (int w = 0; w < whats_made; w++) {
             if (!best[size][i][w]) continue;
-            printf("row\t%s\t%s\t%s\t%d\t%s\t", e->name, e->how, e->kind, 16 + 8 * size, whats[w].name);
-            printf("%zu\t%.2f\n", whats[w].blocks, ticks_a_call(size, i, w));
+            printf("row\t%s\t%s\t%s\t%d\t%s\t", e->name, e->how, e->kind, 16 + 8 * size, names[whats[w].call]);
+            printf("%zu\t%.2f\n", whats[w].amount, ticks_a_call(size, i, w));
         }
 }
 
@@ -148,7 +178,7 @@ int main(int argc, char **argv) {
     for (int i = 0; i < 32; i++) key[i] = (uint8_t)(i * 29 + 3);
     for (int i = 0; i < 16; i++) iv[i] = (uint8_t)(0xf0 + i);
     iv[12] = 0;
-    if (argc > 2) spoil(argv[2]);
+    list();
     add_library(run);
 #ifdef RATTLE
     add_library_by_rattle(run);
@@ -171,6 +201,11 @@ int main(int argc, char **argv) {
 #ifdef BOTAN
     add_botan(run);
 #endif
+    for (int i = 0; i < count; i++) {
+        const struct engine *e = &engines[i];
+        int without_tables = !strcmp(e->kind, "hybrid") || !strcmp(e->kind, "permutations");
+        many[i] = run == NO_AES && without_tables && !strstr(e->how, "second");
+    }
     for (int i = 0; i < count; i++)
         for (size_t bytes = 16; bytes <= 32; bytes += 8) if (!right(&engines[i], bytes)) refused[i] = 1;
     struct timespec t0, t1;

@@ -1,0 +1,77 @@
+/* What both searches of the stack share: a call on a stack of its own that is filled before, the vector registers as
+ * the call left them, and what a key expands to. */
+#define _GNU_SOURCE
+#include "fotsgure_aes.h"
+
+#include <stdio.h>
+#include <stdlib.h>
+#include <string.h>
+#include <ucontext.h>
+
+enum { STACK = 1 << 18, FILL = 0xa5, BLOCK = FOTSGURE_AES_BLOCK, MOST_WORDS = 120 };
+#ifdef __aarch64__
+enum { REGISTERS = 32 };
+#else
+enum { REGISTERS = 16 };
+#endif
+
+/* Of the exports for measurements: KeyExpansion; the stored words of planes, of which a batch's are widened; the stored
+ * round keys of permutations; and a wipe of words. */
+#define OF_SIZE(bits) \
+    void ev_expand_##bits(const uint8_t *key, uint8_t *round_keys); \
+    void ev_planes_##bits(const uint8_t *key, uint16_t *words); \
+    void ev_lanes_##bits(const uint8_t *key, uint8_t *round_keys);
+OF_SIZE(128)
+OF_SIZE(192)
+OF_SIZE(256)
+#define BY_SIZE(name, size, ...) \
+    ((size) == 16 ? name##_128(__VA_ARGS__) : (size) == 24 ? name##_192(__VA_ARGS__) : name##_256(__VA_ARGS__))
+
+static inline void use(const void *at) { __asm__ volatile("" : : "r"(at) : "memory"); }
+/* A stored word of planes as a batch of eight has it. */
+static inline void widened(uint8_t *word, uint16_t stored) {
+    for (int bit = 0; bit < 16; bit++)
+        word[bit] = stored >> bit & 1 ? 0xff : 0;
+}
+
+static uint8_t *stack, registers[BLOCK * REGISTERS] __attribute__((aligned(64)));
+static void (*called)(void);
+static ucontext_t home, away;
+static void enter(void) {
+    called();
+    /* The vector registers, before anything else runs. */
+#ifdef __aarch64__
+    __asm__ volatile(
+        "stp q0, q1, [%0]\n stp q2, q3, [%0, #32]\n stp q4, q5, [%0, #64]\n stp q6, q7, [%0, #96]\n"
+        "stp q8, q9, [%0, #128]\n stp q10, q11, [%0, #160]\n stp q12, q13, [%0, #192]\n stp q14, q15, [%0, #224]\n"
+        "stp q16, q17, [%0, #256]\n stp q18, q19, [%0, #288]\n stp q20, q21, [%0, #320]\n stp q22, q23, [%0, #352]\n"
+        "stp q24, q25, [%0, #384]\n stp q26, q27, [%0, #416]\n stp q28, q29, [%0, #448]\n stp q30, q31, [%0, #480]\n"
+#else
+    __asm__ volatile(
+        "movdqa %%xmm0, 0(%0)\n movdqa %%xmm1, 16(%0)\n movdqa %%xmm2, 32(%0)\n movdqa %%xmm3, 48(%0)\n"
+        "movdqa %%xmm4, 64(%0)\n movdqa %%xmm5, 80(%0)\n movdqa %%xmm6, 96(%0)\n movdqa %%xmm7, 112(%0)\n"
+        "movdqa %%xmm8, 128(%0)\n movdqa %%xmm9, 144(%0)\n movdqa %%xmm10, 160(%0)\n movdqa %%xmm11, 176(%0)\n"
+        "movdqa %%xmm12, 192(%0)\n movdqa %%xmm13, 208(%0)\n movdqa %%xmm14, 224(%0)\n movdqa %%xmm15, 240(%0)\n"
+#endif
+        : : "r"(registers) : "memory");
+}
+/* Makes a call on the stack, and copies what the stack holds afterwards. */
+static void run(void (*it)(void), uint8_t *image) {
+    called = it;
+    memset(stack, FILL, STACK);
+    memset(registers, 0, sizeof registers);
+    getcontext(&away);
+    away.uc_stack.ss_sp = stack;
+    away.uc_stack.ss_size = STACK;
+    away.uc_link = &home;
+    makecontext(&away, enter, 0);
+    swapcontext(&home, &away);
+    memcpy(image, stack, STACK);
+}
+/* How many bytes of the stack were written. */
+static size_t depth_of(const uint8_t *image) {
+    size_t first = 0;
+    while (first < STACK && image[first] == FILL)
+        first++;
+    return STACK - first;
+}
