@@ -50,8 +50,9 @@ stored_are first inner last stored v two l at_first between at_last =
 
 pub written_forward : (w stored : List (List ℕ)) → 2 ≤ length w → AreWritten false key_untower (λ key. key) w stored
     → round_keys_of as_is key_untower plus63 stored ≡ w
-written_forward w stored two h = stored_are as_is key_untower plus63 stored w two h.same_length (map-id _ ∙ h.first)
-    h.between h.last
+written_forward w stored two h =
+    stored_are as_is key_untower plus63 stored w two h.same_length (map-id _ ∙ (h.each 0 (omega arith)).first refl)
+    (λ i some below. (h.each i (omega (arith, below))).between some below) ((h.each _ (omega arith)).at_last refl)
 
 pub same_forward : (w : List (List ℕ)) → length w ≡ length w
 same_forward w = refl
@@ -82,15 +83,15 @@ written_backward w stored two h =
     let both : 2 ≤ length v = omega (arith, two, inverted_length w) in
     let fits : n < length w = omega (arith, two) in
     stored_are plus63 inv_untower as_is stored v both (h.same_length ∙ sym (inverted_length w))
-    (ap (λ m. map plus63 (fips.round_key stored m)) none ∙ h.last ∙ ap (fips.round_key w) back
+    (ap (λ m. map plus63 (fips.round_key stored m)) none ∙ (h.each n (omega arith)).at_last refl ∙ ap (fips.round_key w) back
     ∙ inverted_end w 0 (omega (arith, two)) (inl refl))
     (λ i some below.
     let up : i < n = omega (arith, below, same) in
     let twice : i ≡ n - (n - i) = omega (arith, up) in
     ap (λ m. map inv_untower (fips.round_key stored m)) twice
-    ∙ h.between (n - i) (omega (arith, up)) (omega (arith, some, up))
+    ∙ (h.each (n - i) (omega arith)).between (omega (arith, up)) (omega (arith, some, up))
     ∙ inverted_middle w i (omega (arith, up)) (omega (arith, some)) (omega (arith, up)))
-    (map-id _ ∙ ap (fips.round_key stored) (same ∙ back) ∙ h.first ∙ ap (fips.round_key w) none
+    (map-id _ ∙ ap (fips.round_key stored) (same ∙ back) ∙ (h.each 0 (omega arith)).first refl ∙ ap (fips.round_key w) none
     ∙ inverted_end w n fits (inr refl) ∙ ap (fips.round_key v) (sym same))
 
 pub is_decrypted : (w : List (List ℕ)) (b : List ℕ) → 2 ≤ length w

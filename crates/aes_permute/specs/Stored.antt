@@ -33,13 +33,18 @@ round_keys_of first inner last stored =
 abbrev pub place_of : Bool → ℕ → ℕ → ℕ
 place_of backward last i = if backward then last - i else i
 
--- stored round keys that were written one by one: the first is as it is, the last has the constant of the S-box, and of
--- those between `used` makes what `inner` says that their bytes stand for
+-- of stored round keys that are written one by one, from 0 to a last one, the one of a number stands for a block: the
+-- first is as it is, the last has the constant of the S-box, and of those between `used` makes what `inner` says that
+-- their bytes stand for
+pub record IsWritten (backward : Bool) (inner : ℕ → ℕ) (used : List ℕ → List ℕ) (stored : List (List ℕ)) (last i : ℕ)
+    (x : List ℕ) : Type 0 where
+  pub first : i ≡ 0 → fips.round_key stored (place_of backward last i) ≡ x
+  pub between : 1 ≤ i → i < last → map inner (fips.round_key stored (place_of backward last i)) ≡ used x
+  pub at_last : i ≡ last → map plus63 (fips.round_key stored (place_of backward last i)) ≡ x
+
+-- all round keys of a list are
 pub record AreWritten (backward : Bool) (inner : ℕ → ℕ) (used : List ℕ → List ℕ) (w stored : List (List ℕ)) : Type 0
   where
     pub same_length : length stored ≡ length w
-    pub first : fips.round_key stored (place_of backward (fips.last_round w) 0) ≡ fips.round_key w 0
-    pub between : (i : ℕ) → 1 ≤ i → i < fips.last_round w
-        → map inner (fips.round_key stored (place_of backward (fips.last_round w) i)) ≡ used (fips.round_key w i)
-    pub last : map plus63 (fips.round_key stored (place_of backward (fips.last_round w) (fips.last_round w)))
-        ≡ fips.round_key w (fips.last_round w)
+    pub each : (i : ℕ) → i ≤ fips.last_round w
+        → IsWritten backward inner used stored (fips.last_round w) i (fips.round_key w i)

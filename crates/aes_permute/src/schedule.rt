@@ -1,20 +1,20 @@
 //! The key schedules (FIPS 197, 5.2), four words at a time, and the form in which round keys are stored.
 
-ghost use Rattle.std.specs.Prelude.{◌≡◌, ◌+◌, ◌≤◌, length, map, take, drop};
+ghost use Rattle.std.specs.Prelude.{◌≡◌, ◌+◌, ◌≤◌, length, map};
 ghost use Rattle.aes_planes.specs.Fips197 as fips;
-ghost use Rattle.aes_planes.specs.Planes.{plus63, constant_block, columns_summed, columns_straddled, summed};
+ghost use Rattle.aes_planes.specs.Planes.{plus63, summed};
 ghost use Rattle.aes_permute.specs.Keys.{encrypting, decrypting};
-ghost use Rattle.aes_permute.specs.Stored.{place_of, round_keys_of};
+ghost use Rattle.aes_permute.specs.Stored.{place_of, round_keys_of, IsWritten};
 
 use crate::directions::LaneRounds;
 use crate::lanes::{lookup, sum};
 use crate::rounds::{inverted_key, sub_bytes_but_constant};
+use aes_planes::expansion::{self, KeyForm};
 use aes_planes::laws;
+use aes_planes::soft::sbox::Layers;
 use aes_planes::soft::word::Block;
+use std::marker::PhantomData;
 use std::simd::prelude::*;
-
-// The powers of x in the field, from 0 to 9: the bytes that round constants begin with (FIPS 197, 5.2).
-const POWERS_OF_X: [u8; 10] = [0x01, 0x02, 0x04, 0x08, 0x10, 0x20, 0x40, 0x80, 0x1b, 0x36];
 
 // All bits of the lanes of row 0, and none of the others.
 const FIRST_ROW: [u8; 16] = [0xff, 0, 0, 0, 0xff, 0, 0, 0, 0xff, 0, 0, 0, 0xff, 0, 0, 0];
@@ -47,77 +47,14 @@ fn summed_columns(before: u8x16, start: u8x16, addend: u8x16) -> u8x16
     (sums ^ addend) ^ start
 }
 
-// Four words of which the first is due the rotation, the substitution and a round constant: `before` has the four that
-// are one key earlier, `last` the four just before them. The constant of the S-box is added with the round constant.
-#[inline(always)]
-fn rotated_words(before: u8x16, last: u8x16, constant: u8) -> u8x16
-    requires before { fips.IsBlock before }
-    requires last { fips.IsBlock last }
-    ensures { result ≡ columns_summed 1 3 before (fips.add_round_key (fips.sub_bytes last) (constant_block constant)) }
-{
-    // Every lane is made at once: bytes that are written one by one would be waited for.
-    let addend = (u8x16::splat(constant) & u8x16::from_array(FIRST_ROW)) ^ u8x16::splat(0x63);
-    let start = sub_bytes_but_constant(last).swizzle([
-        13, 14, 15, 12, 13, 14, 15, 12, 13, 14, 15, 12, 13, 14, 15, 12,
-    ]);
-    summed_columns(before, start, addend)
-}
-
-// Four words of which the first is due the substitution alone.
-#[inline(always)]
-fn substituted_words(before: u8x16, last: u8x16) -> u8x16
-    requires before { fips.IsBlock before }
-    requires last { fips.IsBlock last }
-    ensures { result ≡ columns_summed 0 3 before (fips.sub_bytes last) }
-{
-    let start = sub_bytes_but_constant(last).swizzle([
-        12, 13, 14, 15, 12, 13, 14, 15, 12, 13, 14, 15, 12, 13, 14, 15,
-    ]);
-    summed_columns(before, start, u8x16::splat(0x63))
-}
-
-// Four words of which the first is due neither: column 1 of `last` has the word just before them.
-#[inline(always)]
-fn plain_words(before: u8x16, last: u8x16) -> u8x16
-    requires before { fips.IsBlock before }
-    requires last { fips.IsBlock last }
-    ensures { result ≡ columns_summed 0 1 before last }
-{
-    let start = last.swizzle([4, 5, 6, 7, 4, 5, 6, 7, 4, 5, 6, 7, 4, 5, 6, 7]);
-    summed_columns(before, start, u8x16::splat(0))
-}
-
-// The last two columns of one block and the first two of the next.
-#[tactic(auto, using(crate::proofs::ScheduleLanes::straddled_is))]
-#[inline(always)]
-fn straddled_columns(left: u8x16, right: u8x16) -> u8x16
-    requires left { length left ≡ 16 }
-    requires right { length right ≡ 16 }
-    ensures { result ≡ columns_straddled left right }
-{
-    left.shuffle(
-        right,
-        [8, 9, 10, 11, 12, 13, 14, 15, 16, 17, 18, 19, 20, 21, 22, 23],
-    )
-}
-
 // The last round key as it is stored, in either direction.
 #[tactic(auto, using(crate::proofs::ScheduleLanes::last_key_is))]
 #[inline(always)]
-fn last_key(x: u8x16) -> Block
+fn last_key(x: u8x16) -> u8x16
     requires { length x ≡ 16 }
     ensures { map plus63 result ≡ x }
 {
-    (x ^ u8x16::splat(0x63)).to_array()
-}
-
-// Four words of a key from one byte on.
-#[inline(always)]
-fn part_of(key: &[u8], from: usize) -> u8x16
-    requires within { from + 16 ≤ length key.now }
-    ensures { result ≡ take 16 (drop from key.now) }
-{
-    u8x16::from_array(*key[from..from + 16].as_array::<16>().unwrap())
+    x ^ u8x16::splat(0x63)
 }
 
 // Where round key i is stored, if the last has this number.
@@ -130,6 +67,80 @@ fn place<D: LaneRounds>(i: usize, last: usize) -> usize
     if D::BACKWARD { last - i } else { i }
 }
 
+// Round keys as a direction uses them, made in vectors: one has four words.
+struct Lanes<D> {
+    direction: PhantomData<D>,
+}
+
+impl<D: LaneRounds> KeyForm for Lanes<D> {
+    type Words = u8x16;
+
+    type Unit = Block;
+
+    ghost AreWords = { λ words block. words ≡ block };
+
+    ghost IsStored = { IsWritten D.BACKWARD D.inner_byte D.used_key };
+
+    ghost units = { λ last. last + 1 };
+
+    ghost LAYERS = { 0 };
+
+    #[inline(always)]
+    fn load(key: &[u8], from: usize) -> u8x16 {
+        u8x16::from_array(*key[from..from + 16].as_array::<16>().unwrap())
+    }
+
+    // The constant of the S-box is added with the round constant.
+    #[inline(always)]
+    fn rotated(before: u8x16, last: u8x16, constant: u8, _layers: &mut Layers) -> u8x16 {
+        // Every lane is made at once: bytes that are written one by one would be waited for.
+        let addend = (u8x16::splat(constant) & u8x16::from_array(FIRST_ROW)) ^ u8x16::splat(0x63);
+        let start = sub_bytes_but_constant(last).swizzle([
+            13, 14, 15, 12, 13, 14, 15, 12, 13, 14, 15, 12, 13, 14, 15, 12,
+        ]);
+        summed_columns(before, start, addend)
+    }
+
+    #[inline(always)]
+    fn substituted(before: u8x16, last: u8x16, _layers: &mut Layers) -> u8x16 {
+        let start = sub_bytes_but_constant(last).swizzle([
+            12, 13, 14, 15, 12, 13, 14, 15, 12, 13, 14, 15, 12, 13, 14, 15,
+        ]);
+        summed_columns(before, start, u8x16::splat(0x63))
+    }
+
+    #[inline(always)]
+    fn plain(before: u8x16, last: u8x16) -> u8x16 {
+        let start = last.swizzle([4, 5, 6, 7, 4, 5, 6, 7, 4, 5, 6, 7, 4, 5, 6, 7]);
+        summed_columns(before, start, u8x16::splat(0))
+    }
+
+    #[inline(always)]
+    fn straddled(left: u8x16, right: u8x16) -> u8x16 {
+        left.shuffle(
+            right,
+            [8, 9, 10, 11, 12, 13, 14, 15, 16, 17, 18, 19, 20, 21, 22, 23],
+        )
+    }
+
+    #[inline(always)]
+    fn again(_stored: &[Block], _i: usize, _last: usize, words: u8x16) -> u8x16 {
+        words
+    }
+
+    #[inline(always)]
+    fn put(stored: &mut [Block], i: usize, last: usize, words: u8x16) {
+        let key = if i == 0 {
+            words
+        } else if i == last {
+            last_key(words)
+        } else {
+            D::inner_key(words)
+        };
+        stored[place::<D>(i, last)] = key.to_array();
+    }
+}
+
 /// Writes the round keys of a key of 16 bytes as a direction uses them.
 pub fn expand_128<D: LaneRounds>(keys: &mut [Block], key: &[u8])
     requires round_keys { length keys.old ≡ 11 }
@@ -138,13 +149,7 @@ pub fn expand_128<D: LaneRounds>(keys: &mut [Block], key: &[u8])
         ≡ D.used_keys (fips.key_expansion key.now) }
     ensures same_length { length keys.new ≡ 11 }
 {
-    let mut words = part_of(key, 0);
-    keys[place::<D>(0, 10)] = words.to_array();
-    for i in 0..9 {
-        words = rotated_words(words, words, POWERS_OF_X[i]);
-        keys[place::<D>(i + 1, 10)] = D::inner_key(words).to_array();
-    }
-    keys[place::<D>(10, 10)] = last_key(rotated_words(words, words, POWERS_OF_X[9]));
+    expansion::expand_128::<Lanes<D>>(keys, key, &mut Layers::new());
     D::uses_written();
 }
 
@@ -156,22 +161,7 @@ pub fn expand_192<D: LaneRounds>(keys: &mut [Block], key: &[u8])
         ≡ D.used_keys (fips.key_expansion key.now) }
     ensures same_length { length keys.new ≡ 13 }
 {
-    // Six words at a time: `front` has the first four, and `back` the last four.
-    let mut front = part_of(key, 0);
-    let mut back = part_of(key, 8);
-    keys[place::<D>(0, 12)] = front.to_array();
-    for i in 0..4 {
-        let front1 = rotated_words(front, back, POWERS_OF_X[2 * i]);
-        let back1 = plain_words(back, front1);
-        // Twelve words are three round keys, and the one in the middle has two words of each six.
-        let middle = straddled_columns(back, front1);
-        keys[place::<D>(3 * i + 1, 12)] = D::inner_key(middle).to_array();
-        keys[place::<D>(3 * i + 2, 12)] = D::inner_key(back1).to_array();
-        front = rotated_words(front1, back1, POWERS_OF_X[2 * i + 1]);
-        back = plain_words(back1, front);
-        keys[place::<D>(3 * i + 3, 12)] = D::inner_key(front).to_array();
-    }
-    keys[place::<D>(12, 12)] = last_key(front);
+    expansion::expand_192::<Lanes<D>>(keys, key, &mut Layers::new());
     D::uses_written();
 }
 
@@ -183,18 +173,7 @@ pub fn expand_256<D: LaneRounds>(keys: &mut [Block], key: &[u8])
         ≡ D.used_keys (fips.key_expansion key.now) }
     ensures same_length { length keys.new ≡ 15 }
 {
-    // Eight words at a time: `even` has the first four, and `odd` the last four.
-    let mut even = part_of(key, 0);
-    let mut odd = part_of(key, 16);
-    keys[place::<D>(0, 14)] = even.to_array();
-    keys[place::<D>(1, 14)] = D::inner_key(odd).to_array();
-    for i in 0..6 {
-        even = rotated_words(even, odd, POWERS_OF_X[i]);
-        keys[place::<D>(2 * i + 2, 14)] = D::inner_key(even).to_array();
-        odd = substituted_words(odd, even);
-        keys[place::<D>(2 * i + 3, 14)] = D::inner_key(odd).to_array();
-    }
-    keys[place::<D>(14, 14)] = last_key(rotated_words(even, odd, POWERS_OF_X[6]));
+    expansion::expand_256::<Lanes<D>>(keys, key, &mut Layers::new());
     D::uses_written();
 }
 

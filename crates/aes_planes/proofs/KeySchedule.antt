@@ -3,5 +3,6 @@ pub mod AddedWords
 pub mod ExpandedBlocks
 pub mod ExpandedWords
 pub mod ExpansionLength
+pub mod Forms
 pub mod RoundConstantBit
 pub mod SummedColumns

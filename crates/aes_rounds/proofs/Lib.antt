@@ -1,4 +1,4 @@
 -- The files of lemmas.
+pub mod Expansion
 pub mod Runs
 pub mod SingleRounds
-pub mod Words

@@ -1,122 +1,123 @@
 //! The key expansion (FIPS 197, 5.2).
 
-ghost use Rattle.std.specs.Prelude.{◌≡◌, ◌*◌, ◌+◌, ◌/◌, ◌<◌, ◌≤◌, ℕ, length, slice_index, slice_index_or, []};
+ghost use Rattle.std.specs.Prelude.{◌≡◌, ◌+◌, slice_index};
 ghost use Rattle.aes_planes.specs.Fips197 as fips;
+ghost use Rattle.aes_planes.specs.Planes.{summed};
 
 use super::runs::last_step;
 use aes_cipher::cipher::Encrypt;
+use aes_planes::expansion::{self, KeyForm};
+use aes_planes::soft::sbox::Layers;
 use aes_planes::soft::word::Block;
 
 // Four bytes: a column of a block, and the unit of the key expansion.
 type KeyWord = [u8; 4];
 
-// The first bytes of Rcon, from round 1 on (FIPS 197, 5.2).
-const ROUND_CONSTANTS: [u8; 10] = [0x01, 0x02, 0x04, 0x08, 0x10, 0x20, 0x40, 0x80, 0x1b, 0x36];
-
 /// KeyExpansion of a key of 16 bytes (FIPS 197, 5.2).
+#[tactic(auto, using(crate::proofs::Expansion::same_round_keys))]
 pub fn expand_128(key: &[u8; 16]) -> [Block; 11]
     ensures { result ≡ fips.key_expansion key.now }
 {
-    expand::<11, 44>(key)
+    let mut round_keys = [[0; 16]; 11];
+    expansion::expand_128::<Blocks>(&mut round_keys, key, &mut Layers::new());
+    round_keys
 }
 
 /// KeyExpansion of a key of 24 bytes (FIPS 197, 5.2).
+#[tactic(auto, using(crate::proofs::Expansion::same_round_keys))]
 pub fn expand_192(key: &[u8; 24]) -> [Block; 13]
     ensures { result ≡ fips.key_expansion key.now }
 {
-    expand::<13, 52>(key)
+    let mut round_keys = [[0; 16]; 13];
+    expansion::expand_192::<Blocks>(&mut round_keys, key, &mut Layers::new());
+    round_keys
 }
 
 /// KeyExpansion of a key of 32 bytes (FIPS 197, 5.2).
+#[tactic(auto, using(crate::proofs::Expansion::same_round_keys))]
 pub fn expand_256(key: &[u8; 32]) -> [Block; 15]
     ensures { result ≡ fips.key_expansion key.now }
 {
-    expand::<15, 60>(key)
+    let mut round_keys = [[0; 16]; 15];
+    expansion::expand_256::<Blocks>(&mut round_keys, key, &mut Layers::new());
+    round_keys
 }
 
-// KeyExpansion of a key whose schedule has RK round keys, made of WORDS words.
-#[tactic(auto, using(crate::proofs::Words::blocks_of_expanded_words))]
-fn expand<const RK: usize, const WORDS: usize>(key: &[u8]) -> [Block; RK]
-    requires whole_words { length key.now ≡ 4 * fips.key_words key.now }
-    requires four_words { 4 ≤ fips.key_words key.now }
-    requires few_words { fips.key_words key.now ≤ 8 }
-    requires rounds { RK ≡ fips.rounds key.now + 1 }
-    requires words { WORDS ≡ 4 * RK }
-    ensures { result ≡ fips.key_expansion key.now }
-{
-    let words = expand_words::<WORDS>(key);
-    round_keys(&words)
-}
+// Round keys as the blocks that they are.
+struct Blocks;
 
-// The first WORDS words of the key schedule.
-fn expand_words<const WORDS: usize>(key: &[u8]) -> [KeyWord; WORDS]
-    requires whole_words { length key.now ≡ 4 * fips.key_words key.now }
-    requires some_word { 1 ≤ fips.key_words key.now }
-    requires few_words { WORDS ≤ 11 * fips.key_words key.now }
-    ensures { result ≡ fips.expanded_words key.now WORDS }
-{
-    let key_words = key.len() / 4;
-    let mut words = [[0; 4]; WORDS];
-    for i in 0..WORDS {
-        words[i] = if i < key_words {
-            key_word(key, i)
-        } else {
-            add_words(words[i - key_words], added_word(key_words, i, words[i - 1]))
-        };
+impl KeyForm for Blocks {
+    type Words = Block;
+
+    type Unit = Block;
+
+    ghost AreWords = { λ words block. words ≡ block };
+
+    ghost IsStored = { λ round_keys last i block. fips.round_key round_keys i ≡ block };
+
+    ghost units = { λ last. last + 1 };
+
+    ghost LAYERS = { 0 };
+
+    fn load(key: &[u8], from: usize) -> Block {
+        *key[from..from + 16].as_array::<16>().unwrap()
     }
-    words
-}
 
-// Word i of a key.
-fn key_word(key: &[u8], i: usize) -> KeyWord
-    requires { 4 * i + 4 ≤ length key.now }
-    ensures { result ≡ fips.key_word key.now i }
-{
-    [key[4 * i], key[4 * i + 1], key[4 * i + 2], key[4 * i + 3]]
-}
+    fn rotated(before: Block, last: Block, constant: u8, _layers: &mut Layers) -> Block {
+        let word = substituted_word(last);
+        let rotated = [word[1], word[2], word[3], word[0]];
+        summed_columns(before, add_words(rotated, [constant, 0, 0, 0]))
+    }
 
-// What is added to the word `key_words` places before word i, made of the word just before it.
-#[tactic(auto, unfolding(aes_planes::specs::Fips197::KeyExpansion::added_word_if))]
-fn added_word(key_words: usize, i: usize, before: KeyWord) -> KeyWord
-    requires some_word { 1 ≤ key_words }
-    requires later { key_words ≤ i }
-    requires constant { i / key_words ≤ 10 }
-    ensures { result ≡ fips.added_word key_words i before }
-{
-    if i % key_words == 0 {
-        add_words(sub_word(&rot_word(before)), round_constant(i / key_words))
-    } else if key_words > 6 && i % key_words == 4 {
-        sub_word(&before)
-    } else {
-        before
+    fn substituted(before: Block, last: Block, _layers: &mut Layers) -> Block {
+        let word = substituted_word(last);
+        summed_columns(before, word)
+    }
+
+    #[tactic(auto, using(crate::proofs::Expansion::plain_is))]
+    fn plain(before: Block, last: Block) -> Block {
+        summed_columns(before, [last[4], last[5], last[6], last[7]])
+    }
+
+    #[tactic(auto, using(crate::proofs::Expansion::straddled_is))]
+    fn straddled(left: Block, right: Block) -> Block {
+        [
+            left[8], left[9], left[10], left[11], left[12], left[13], left[14], left[15], right[0],
+            right[1], right[2], right[3], right[4], right[5], right[6], right[7],
+        ]
+    }
+
+    fn again(_stored: &[Block], _i: usize, _last: usize, words: Block) -> Block {
+        words
+    }
+
+    fn put(stored: &mut [Block], i: usize, _last: usize, words: Block) {
+        stored[i] = words;
     }
 }
 
-// Rcon.
-#[tactic(auto, using(crate::proofs::Words::powers), unfolding(aes_planes::specs::Fips197::round_constant))]
-fn round_constant(i: usize) -> KeyWord
-    requires from_one { 1 ≤ i }
-    requires to_ten { i ≤ 10 }
-    ensures { result ≡ fips.round_constant i }
+// SubWord of the last of four words. The last round takes its column apart: row r of it stands r columns to the left.
+#[tactic(auto, using(crate::proofs::Expansion::last_word_substituted))]
+fn substituted_word(words: Block) -> KeyWord
+    ensures { result ≡ fips.word (λ r. fips.byte_at (fips.sub_bytes words) r 3) }
 {
-    [ROUND_CONSTANTS[i - 1], 0, 0, 0]
-}
-
-// RotWord.
-fn rot_word(word: KeyWord) -> KeyWord
-    ensures { result ≡ fips.rot_word word }
-{
-    [word[1], word[2], word[3], word[0]]
-}
-
-// SubWord: SubBytes of the word in four columns, which ShiftRows leaves alone.
-#[tactic(auto, using(crate::proofs::Words::first_column_substituted))]
-fn sub_word(word: &KeyWord) -> KeyWord
-    ensures { result ≡ fips.sub_word word.now }
-{
-    let mut block = block_of([*word; 4]);
+    let mut block = words;
     last_step::<Encrypt, Block>(&mut block);
-    [block[0], block[1], block[2], block[3]]
+    [block[12], block[9], block[6], block[3]]
+}
+
+// Each column of the result is the sum of the columns up to it and of a word.
+fn summed_columns(before: Block, start: KeyWord) -> Block
+    ensures { result ≡ fips.state (λ r c. summed fips.field_add (fips.byte_at before r) (slice_index start r) c) }
+{
+    let a = add_words([before[0], before[1], before[2], before[3]], start);
+    let b = add_words([before[4], before[5], before[6], before[7]], a);
+    let c = add_words([before[8], before[9], before[10], before[11]], b);
+    let d = add_words([before[12], before[13], before[14], before[15]], c);
+    [
+        a[0], a[1], a[2], a[3], b[0], b[1], b[2], b[3], c[0], c[1], c[2], c[3], d[0], d[1], d[2],
+        d[3],
+    ]
 }
 
 // The sum of two words.
@@ -124,33 +125,4 @@ fn add_words(v: KeyWord, w: KeyWord) -> KeyWord
     ensures { result ≡ fips.add_words v w }
 {
     [v[0] ^ w[0], v[1] ^ w[1], v[2] ^ w[2], v[3] ^ w[3]]
-}
-
-// The block with these four columns.
-#[tactic(auto, unfolding(crate::proofs::Words::state_on_words))]
-fn block_of(columns: [KeyWord; 4]) -> Block
-    ensures { result ≡ fips.state (λ r c. slice_index (slice_index_or columns c []) r) }
-{
-    let [a, b, c, d] = columns;
-    [
-        a[0], a[1], a[2], a[3], b[0], b[1], b[2], b[3], c[0], c[1], c[2], c[3], d[0], d[1], d[2],
-        d[3],
-    ]
-}
-
-// The words of a key schedule, four to a block.
-fn round_keys<const RK: usize>(words: &[KeyWord]) -> [Block; RK]
-    requires { length words.now ≡ 4 * RK }
-    ensures { result ≡ fips.blocks_of RK words.now }
-{
-    let mut keys = [[0; 16]; RK];
-    for j in 0..RK {
-        keys[j] = block_of([
-            words[4 * j],
-            words[4 * j + 1],
-            words[4 * j + 2],
-            words[4 * j + 3],
-        ]);
-    }
-    keys
 }

@@ -1,0 +1,62 @@
+-- What is left to show of `expansion::expand_256`.
+use Rattle.std.proofs.Common.{◌≡◌, ◌+◌, ◌*◌, refl, ◌∙◌, subst, arith}
+use Rattle.aes_planes.proofs.KeySchedule.Forms.{AreStored, form, loaded, none, stored_at, more, counted_two, all, rotated, substituted}
+use Rattle.aes_planes.proofs.KeySchedule.ExpandedBlocks.{block_at}
+use Rattle.aes_planes.proofs.expansion.expand_256.Goals as goal
+
+pub expand-init : goal.expand-init
+expand-init g c =
+    let s = form g.F.KeyForm.AreWords c.args.key.now 8 (omega arith) c.requires.sized in
+    let even = loaded s _ 0 0 c.load-even.ensures refl (omega arith) in
+    let odd = loaded s _ 4 16 c.load-odd.ensures refl (omega arith) in
+    record {
+      done = more s 2 (more s 1 (none s (g.F.KeyForm.IsStored c.args.stored.now 14)) (omega arith) c.put.ensures.others
+          (c.put.ensures.put _ even) refl refl) (omega arith) c.put-2.ensures.others (c.put-2.ensures.put _ odd) refl
+          refl;
+      first_four = even;
+      last_four = odd;
+      layers = omega arith;
+      same_length = c.put-2.ensures.same_length ∙ c.put.ensures.same_length ∙ c.requires.room;
+    }
+
+pub expand-preserved : goal.expand-preserved
+expand-preserved g c =
+    let i = c.expand.i in
+    let inv = c.expand.invariant in
+    let s = form g.F.KeyForm.AreWords c.args.key.now 8 (omega arith) c.requires.sized in
+    let even_before = c.again-even_before.ensures _ (stored_at s (g.F.KeyForm.IsStored c.expand.stored 14) _ (2 * i)
+    (8 * i) inv.done (omega arith) (omega arith)) inv.first_four in
+    let even = rotated s _ i (8 * i) (8 * i + 4) (8 * (i + 1))
+    (c.rotated-even.ensures.words _ _ even_before inv.last_four) (omega arith) (omega arith) (omega arith)
+    (omega arith) in
+    let one_more = more s (2 * i + 3) inv.done (omega arith) c.put-in-expand.ensures.others
+    (c.put-in-expand.ensures.put _ even) (omega arith) (omega arith) in
+    let odd_before = c.again-odd_before.ensures _ (stored_at s (g.F.KeyForm.IsStored c.put-in-expand.new.stored 14)
+    (2 * i + 3) (2 * i + 1) (8 * i + 4) one_more (omega arith) (omega arith)) inv.last_four in
+    let odd = substituted s _ i (8 * i + 4) (8 * (i + 1)) (8 * (i + 1) + 4)
+    (c.substituted-odd.ensures.words _ _ odd_before even) refl (omega arith) (omega arith) refl in
+    record {
+      done = more s (2 * (i + 1) + 2) one_more (omega arith) c.put-in-expand-2.ensures.others (c.put-in-expand-2.ensures.put _ odd)
+          (omega arith) (omega arith);
+      first_four = even;
+      last_four = odd;
+      layers = counted_two _ _ _ _ i _ inv.layers c.rotated-even.ensures.layers c.substituted-odd.ensures.layers;
+      same_length = c.put-in-expand-2.ensures.same_length ∙ c.put-in-expand.ensures.same_length ∙ inv.same_length;
+    }
+
+pub returns-clause-keys : goal.returns-clause-keys
+returns-clause-keys g c =
+    let i = c.expand.i in
+    let inv = c.expand.invariant in
+    let six : i ≡ 6 = omega arith in
+    let s = form g.F.KeyForm.AreWords c.args.key.now 8 (omega arith) c.requires.sized in
+    let done = subst (λ v. AreStored (g.F.KeyForm.IsStored c.expand.stored 14) c.args.key.now (2 * v + 2)) six
+    inv.done in
+    let before = c.again-before.ensures _ (stored_at s (g.F.KeyForm.IsStored c.expand.stored 14) 14 12 48 done
+    (omega arith) refl)
+    (subst (λ v. g.F.KeyForm.AreWords c.expand.even (block_at c.args.key.now (8 * v))) six inv.first_four) in
+    let last = rotated s _ 6 48 52 56 (c.rotated-even-2.ensures.words _ _ before
+    (subst (λ v. g.F.KeyForm.AreWords c.expand.odd (block_at c.args.key.now (8 * v + 4))) six inv.last_four))
+    (omega arith) refl refl refl in
+    all s (g.F.KeyForm.IsStored c.put-3.new.stored 14) 15 14
+    (more s 15 done (omega arith) c.put-3.ensures.others (c.put-3.ensures.put _ last) refl refl) refl refl

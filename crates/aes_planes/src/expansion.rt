@@ -1,0 +1,151 @@
+//! The key expansion (FIPS 197, 5.2), four words at a time, once for every form in which round keys are made and stored.
+
+ghost use Rattle.std.specs.Prelude.{◌≡◌, ◌≢◌, ◌+◌, ◌*◌, ◌≤◌, ℕ, List, length, take, drop};
+ghost use Rattle.aes_planes.specs.Fips197 as fips;
+ghost use Rattle.aes_planes.specs.Planes.{constant_block, columns_summed, columns_straddled};
+
+use crate::soft::sbox::Layers;
+
+// The powers of x in the field, from 0 to 9: the bytes that round constants begin with (FIPS 197, 5.2).
+const POWERS_OF_X: [u8; 10] = [0x01, 0x02, 0x04, 0x08, 0x10, 0x20, 0x40, 0x80, 0x1b, 0x36];
+
+/// A form of round keys: how four words of the key expansion are made, and how they are stored as a round key.
+pub trait KeyForm {
+    /// Four words.
+    type Words: Copy;
+
+    /// What round keys are stored in.
+    type Unit;
+
+    /// These are the four words of a block.
+    ghost AreWords: { Self.Words → List ℕ → Type 0 };
+
+    /// Of round keys from 0 to a last one, the one of a number is stored for a block.
+    ghost IsStored: { List Self.Unit → ℕ → ℕ → List ℕ → Type 0 };
+
+    /// How many units the round keys from 0 to a last one take.
+    ghost units: { ℕ → ℕ };
+
+    /// How many S-box layers a substitution runs.
+    ghost LAYERS: { ℕ };
+
+    /// Four words of a key, from one byte on.
+    fn load(key: &[u8], from: usize) -> Self::Words
+        requires within { from + 16 ≤ length key.now }
+        ensures { AreWords result (take 16 (drop from key.now)) };
+
+    /// Four words of which the first is due the rotation, the substitution and a round constant: `before` has the four
+    /// that are one key earlier, `last` the four just before them.
+    fn rotated(
+        before: Self::Words,
+        last: Self::Words,
+        constant: u8,
+        layers: &mut Layers,
+    ) -> Self::Words
+        ensures words { (x y : List ℕ) → AreWords before x → AreWords last y → AreWords result
+            (columns_summed 1 3 x (fips.add_round_key (fips.sub_bytes y) (constant_block constant))) }
+        ensures layers { layers.new ≡ layers.old + LAYERS };
+
+    /// Four words of which the first is due the substitution alone.
+    fn substituted(before: Self::Words, last: Self::Words, layers: &mut Layers) -> Self::Words
+        ensures words { (x y : List ℕ) → AreWords before x → AreWords last y
+            → AreWords result (columns_summed 0 3 x (fips.sub_bytes y)) }
+        ensures layers { layers.new ≡ layers.old + LAYERS };
+
+    /// Four words of which the first is due neither: column 1 of `last` has the word just before them.
+    fn plain(before: Self::Words, last: Self::Words) -> Self::Words
+        ensures { (x y : List ℕ) → AreWords before x → AreWords last y
+            → AreWords result (columns_summed 0 1 x y) };
+
+    /// The last two of four words and the first two of the next four.
+    fn straddled(left: Self::Words, right: Self::Words) -> Self::Words
+        ensures { (x y : List ℕ) → AreWords left x → AreWords right y
+            → AreWords result (columns_straddled x y) };
+
+    /// The four words of round key `i` of those from 0 to `last` once more: read back, where it is slower to keep them.
+    fn again(stored: &[Self::Unit], i: usize, last: usize, words: Self::Words) -> Self::Words
+        requires sized { length stored.now ≡ units last }
+        requires within { i ≤ last }
+        ensures { (x : List ℕ) → IsStored stored.now last i x → AreWords words x → AreWords result x };
+
+    /// Stores four words as round key `i` of those from 0 to `last`. The others stay.
+    fn put(stored: &mut [Self::Unit], i: usize, last: usize, words: Self::Words)
+        requires sized { length stored.old ≡ units last }
+        requires within { i ≤ last }
+        requires two { 1 ≤ last }
+        ensures put { (x : List ℕ) → AreWords words x → IsStored stored.new last i x }
+        ensures others { (j : ℕ) (x : List ℕ) → j ≤ last → j ≢ i
+            → IsStored stored.old last j x → IsStored stored.new last j x }
+        ensures same_length { length stored.new ≡ length stored.old };
+}
+
+/// Stores the round keys of a key of 16 bytes (FIPS 197, 5.2).
+#[inline(always)]
+pub fn expand_128<F: KeyForm>(stored: &mut [F::Unit], key: &[u8], layers: &mut Layers)
+    requires room { length stored.old ≡ F.units 10 }
+    requires sized { length key.now ≡ 16 }
+    ensures keys { (i : ℕ) → i ≤ 10 → F.IsStored stored.new 10 i (fips.round_key (fips.key_expansion key.now) i) }
+    ensures layers { layers.new ≡ layers.old + 10 * F.LAYERS }
+    ensures same_length { length stored.new ≡ F.units 10 }
+{
+    let mut words = F::load(key, 0);
+    F::put(stored, 0, 10, words);
+    'expand: for i in 0..10 {
+        let before = F::again(stored, i, 10, words);
+        words = F::rotated(before, words, POWERS_OF_X[i], layers);
+        F::put(stored, i + 1, 10, words);
+    }
+}
+
+/// Stores the round keys of a key of 24 bytes (FIPS 197, 5.2).
+#[inline(always)]
+pub fn expand_192<F: KeyForm>(stored: &mut [F::Unit], key: &[u8], layers: &mut Layers)
+    requires room { length stored.old ≡ F.units 12 }
+    requires sized { length key.now ≡ 24 }
+    ensures keys { (i : ℕ) → i ≤ 12 → F.IsStored stored.new 12 i (fips.round_key (fips.key_expansion key.now) i) }
+    ensures layers { layers.new ≡ layers.old + 8 * F.LAYERS }
+    ensures same_length { length stored.new ≡ F.units 12 }
+{
+    // Six words at a time: `front` has the first four, and `back` the last four.
+    let mut front = F::load(key, 0);
+    let mut back = F::load(key, 8);
+    F::put(stored, 0, 12, front);
+    'expand: for i in 0..4 {
+        let front1 = F::rotated(front, back, POWERS_OF_X[2 * i], layers);
+        let back1 = F::plain(back, front1);
+        // Twelve words are three round keys, and the one in the middle has two words of each six.
+        let middle = F::straddled(back, front1);
+        F::put(stored, 3 * i + 1, 12, middle);
+        F::put(stored, 3 * i + 2, 12, back1);
+        front = F::rotated(front1, back1, POWERS_OF_X[2 * i + 1], layers);
+        back = F::plain(back1, front);
+        F::put(stored, 3 * i + 3, 12, front);
+    }
+}
+
+/// Stores the round keys of a key of 32 bytes (FIPS 197, 5.2).
+#[inline(always)]
+pub fn expand_256<F: KeyForm>(stored: &mut [F::Unit], key: &[u8], layers: &mut Layers)
+    requires room { length stored.old ≡ F.units 14 }
+    requires sized { length key.now ≡ 32 }
+    ensures keys { (i : ℕ) → i ≤ 14 → F.IsStored stored.new 14 i (fips.round_key (fips.key_expansion key.now) i) }
+    ensures layers { layers.new ≡ layers.old + 13 * F.LAYERS }
+    ensures same_length { length stored.new ≡ F.units 14 }
+{
+    // Eight words at a time: `even` has the first four, and `odd` the last four.
+    let mut even = F::load(key, 0);
+    let mut odd = F::load(key, 16);
+    F::put(stored, 0, 14, even);
+    F::put(stored, 1, 14, odd);
+    'expand: for i in 0..6 {
+        let even_before = F::again(stored, 2 * i, 14, even);
+        even = F::rotated(even_before, odd, POWERS_OF_X[i], layers);
+        F::put(stored, 2 * i + 2, 14, even);
+        let odd_before = F::again(stored, 2 * i + 1, 14, odd);
+        odd = F::substituted(odd_before, even, layers);
+        F::put(stored, 2 * i + 3, 14, odd);
+    }
+    let before = F::again(stored, 12, 14, even);
+    even = F::rotated(before, odd, POWERS_OF_X[6], layers);
+    F::put(stored, 14, 14, even);
+}
