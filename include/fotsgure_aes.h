@@ -3,7 +3,7 @@
  * The comment of a call is its contract in words. The proof covers every call that meets the conditions below; nothing
  * checks a call from C.
  *
- * The caller owes, for every call:
+ * For every call, the caller must ensure:
  *  - Valid pointers. A pointer to a struct points to a whole one, aligned as C aligns it; `key` points to `key_length`
  *    bytes, `bytes` to `count` bytes, `blocks` to `count` blocks of 16 bytes, and `input` and `output` to as many
  *    blocks or bytes as the count beside them says. Bytes and blocks need no alignment. What a call reads has been
@@ -15,7 +15,8 @@
  *  - A struct fotsgure_aes in order: fotsgure_aes_set_key or fotsgure_aes_wipe wrote it last, or it is a copy of such a
  *    struct, or all its bytes are 0.
  *  - No data race: during the call no other thread writes what it reads, or reads or writes what it writes.
- *  - FOTSGURE_AES_STACK bytes of stack, and an x86-64 processor with SSE4.2 and SSSE3 (x86-64-v2).
+ *  - FOTSGURE_AES_STACK bytes of stack. On x86-64 a processor with SSE4.2 and SSSE3 (x86-64-v2); on 64-bit ARM any
+ *    processor, little-endian. The library is for Linux.
  *
  * NULL is allowed for `key`, `blocks`, `bytes`, `input` and `output` if the count is 0.
  *
@@ -84,7 +85,7 @@ struct fotsgure_aes_ctr {
     uint64_t position; /* how many bytes of the keystream come before the next: 0 at the start */
 };
 
-FOTSGURE_AES_ASSERT(sizeof(enum fotsgure_aes_status) == 4 && sizeof(size_t) == 8, "the ABI of the library: x86-64");
+FOTSGURE_AES_ASSERT(sizeof(enum fotsgure_aes_status) == 4 && sizeof(size_t) == 8, "the ABI of the library: 64-bit");
 FOTSGURE_AES_ASSERT(sizeof(struct fotsgure_aes) == 484, "no padding");
 FOTSGURE_AES_ASSERT(sizeof(struct fotsgure_aes_ctr) == 24, "no padding");
 
