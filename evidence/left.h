@@ -8,7 +8,12 @@
 #include <string.h>
 #include <ucontext.h>
 
-enum { STACK = 1 << 18, FILL = 0xa5, BLOCK = FOTSGURE_AES_BLOCK, REGISTERS = 16, MOST_WORDS = 120 };
+enum { STACK = 1 << 18, FILL = 0xa5, BLOCK = FOTSGURE_AES_BLOCK, MOST_WORDS = 120 };
+#ifdef __aarch64__
+enum { REGISTERS = 32 };
+#else
+enum { REGISTERS = 16 };
+#endif
 
 /* Of the exports for measurements: KeyExpansion; the stored words of planes, of which a batch's are widened; the stored
  * round keys of permutations; and a wipe of words. */
@@ -35,11 +40,19 @@ static ucontext_t home, away;
 static void enter(void) {
     called();
     /* The vector registers, before anything else runs. */
+#ifdef __aarch64__
+    __asm__ volatile(
+        "stp q0, q1, [%0]\n stp q2, q3, [%0, #32]\n stp q4, q5, [%0, #64]\n stp q6, q7, [%0, #96]\n"
+        "stp q8, q9, [%0, #128]\n stp q10, q11, [%0, #160]\n stp q12, q13, [%0, #192]\n stp q14, q15, [%0, #224]\n"
+        "stp q16, q17, [%0, #256]\n stp q18, q19, [%0, #288]\n stp q20, q21, [%0, #320]\n stp q22, q23, [%0, #352]\n"
+        "stp q24, q25, [%0, #384]\n stp q26, q27, [%0, #416]\n stp q28, q29, [%0, #448]\n stp q30, q31, [%0, #480]\n"
+#else
     __asm__ volatile(
         "movdqa %%xmm0, 0(%0)\n movdqa %%xmm1, 16(%0)\n movdqa %%xmm2, 32(%0)\n movdqa %%xmm3, 48(%0)\n"
         "movdqa %%xmm4, 64(%0)\n movdqa %%xmm5, 80(%0)\n movdqa %%xmm6, 96(%0)\n movdqa %%xmm7, 112(%0)\n"
         "movdqa %%xmm8, 128(%0)\n movdqa %%xmm9, 144(%0)\n movdqa %%xmm10, 160(%0)\n movdqa %%xmm11, 176(%0)\n"
         "movdqa %%xmm12, 192(%0)\n movdqa %%xmm13, 208(%0)\n movdqa %%xmm14, 224(%0)\n movdqa %%xmm15, 240(%0)\n"
+#endif
         : : "r"(registers) : "memory");
 }
 /* Makes a call on the stack, and copies what the stack holds afterwards. */
