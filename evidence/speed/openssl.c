@@ -5,8 +5,9 @@
 #include <openssl/aes.h>
 #include <openssl/evp.h>
 
-static EVP_CIPHER_CTX *enc, *dec, *ctr;
-static EVP_CIPHER *ecb_of[3], *ctr_of[3];
+/* A context for each size of keys, which knows its cipher before the clock starts. */
+static EVP_CIPHER_CTX *enc[3], *dec[3], *ctr[3];
+static int now;
 static AES_KEY low_enc, low_dec, vpaes_enc, vpaes_dec;
 int vpaes_set_encrypt_key(const uint8_t *key, int bits, AES_KEY *made);
 int vpaes_set_decrypt_key(const uint8_t *key, int bits, AES_KEY *made);
@@ -14,25 +15,32 @@ void vpaes_encrypt(const uint8_t *in, uint8_t *out, const AES_KEY *key);
 void vpaes_decrypt(const uint8_t *in, uint8_t *out, const AES_KEY *key);
 
 static void key_encrypt(const uint8_t *key, size_t n) {
-    EVP_EncryptInit_ex2(enc, ecb_of[size_of(n)], key, 0, 0);
-    EVP_CIPHER_CTX_set_padding(enc, 0);
+    now = size_of(n);
+    EVP_EncryptInit_ex2(enc[now], 0, key, 0, 0);
 }
 static void key_decrypt(const uint8_t *key, size_t n) {
-    EVP_DecryptInit_ex2(dec, ecb_of[size_of(n)], key, 0, 0);
-    EVP_CIPHER_CTX_set_padding(dec, 0);
+    now = size_of(n);
+    EVP_DecryptInit_ex2(dec[now], 0, key, 0, 0);
 }
 static void encrypt(uint8_t *b, size_t count) {
     int l;
-    EVP_EncryptUpdate(enc, b, &l, b, (int)(16 * count));
+    EVP_EncryptUpdate(enc[now], b, &l, b, (int)(16 * count));
 }
 static void decrypt(uint8_t *b, size_t count) {
     int l;
-    EVP_DecryptUpdate(dec, b, &l, b, (int)(16 * count));
+    EVP_DecryptUpdate(dec[now], b, &l, b, (int)(16 * count));
 }
 static void stream(const uint8_t *key, size_t n, const uint8_t *iv, uint8_t *data, size_t length) {
     int l;
-    EVP_EncryptInit_ex2(ctr, key ? ctr_of[size_of(n)] : 0, key, iv, 0);
-    EVP_EncryptUpdate(ctr, data, &l, data, (int)length);
+    EVP_EncryptInit_ex2(ctr[size_of(n)], 0, key, iv, 0);
+    EVP_EncryptUpdate(ctr[size_of(n)], data, &l, data, (int)length);
+}
+static EVP_CIPHER_CTX *context(const char *name, int encrypts) {
+    static const uint8_t zeros[32];
+    EVP_CIPHER_CTX *it = EVP_CIPHER_CTX_new();
+    EVP_CipherInit_ex2(it, EVP_CIPHER_fetch(0, name, 0), zeros, zeros, encrypts, 0);
+    EVP_CIPHER_CTX_set_padding(it, 0);
+    return it;
 }
 static void low_key_encrypt(const uint8_t *key, size_t n) { AES_set_encrypt_key(key, (int)(8 * n), &low_enc); }
 static void low_key_decrypt(const uint8_t *key, size_t n) { AES_set_decrypt_key(key, (int)(8 * n), &low_dec); }
@@ -56,12 +64,10 @@ void add_openssl(enum run run) {
     static const char *const ecb[] = {"AES-128-ECB", "AES-192-ECB", "AES-256-ECB"};
     static const char *const mode[] = {"AES-128-CTR", "AES-192-CTR", "AES-256-CTR"};
     for (int i = 0; i < 3; i++) {
-        ecb_of[i] = EVP_CIPHER_fetch(0, ecb[i], 0);
-        ctr_of[i] = EVP_CIPHER_fetch(0, mode[i], 0);
+        enc[i] = context(ecb[i], 1);
+        dec[i] = context(ecb[i], 0);
+        ctr[i] = context(mode[i], 1);
     }
-    enc = EVP_CIPHER_CTX_new();
-    dec = EVP_CIPHER_CTX_new();
-    ctr = EVP_CIPHER_CTX_new();
     /* Without AES instructions counter mode and CBC decryption of long inputs are bitsliced, and the rest is by vector
        permutations. */
     static const char *const how[] = {"AES instructions", "SSSE3 permutations", "tables, EVP"};

@@ -98,7 +98,8 @@ def cell(its, how, amount):
     if not its:
         return "–"
     if how == BASE:
-        return f"{min(r['nanoseconds'] for r in its) / amount:,.0f}"
+        least = min(r["nanoseconds"] for r in its) / amount
+        return f"{least:,.0f}" if least >= 10 else f"{least:.2f}"
     return ratio(its[0]["ratio_to_this_library"])
 
 
