@@ -1,6 +1,6 @@
 -- Loops that add a stream to a list, a run of bytes at a time or one: what stays the same while they run.
 use Rattle.std.proofs.Common.{◌≡◌, ℕ, ◌+◌, ◌≤◌, ◌<◌, List, [], ◌∷◌, ◌++◌, take, drop, set, get_or, length, bit_xor, sym}
-use Rattle.std.proofs.Common.{ap, ◌∙◌, arith, append_assoc}
+use Rattle.std.proofs.Common.{ap, subst, refl, ◌∙◌, arith, append_assoc}
 use Rattle.std.proofs.lemmas.List.{append-nil, drop-drop, take-append-drop, take_more_set, drop_more, take_all}
 use Rattle.std.proofs.lemmas.List.{drop_all, length-take, length-drop, drop-set-lt}
 use Rattle.std.proofs.lemmas.Slice.{take-put_mid, drop-put_mid}
@@ -34,6 +34,16 @@ added_run s t p q i n k xs ys same fits is agree =
     ∙ ap (λ l. (take i xs ++ ys) ++ plus_stream s (p + (i + n)) l) (back ∙ split)
     ∙ append_assoc (take i xs) ys _
     ∙ ap (λ l. take i xs ++ l) rest
+
+-- the same of the first n bytes
+pub first_run : (s t : ℕ → ℕ) (p q n : ℕ) (xs ys : List ℕ) → n ≤ length xs → ys ≡ plus_stream t q (take n xs)
+    → ((j : ℕ) → j < n → t (q + j) ≡ s (p + j)) → added_from s p n (ys ++ drop n xs) ≡ plus_stream s p xs
+first_run s t p q n xs ys fits is agree =
+    let here : 0 + n ≡ n = omega arith in
+    let start : p + 0 ≡ p = omega arith in
+    let run : added_from s p (0 + n) (put_mid 0 n xs ys) ≡ added_from s p 0 xs =
+    added_run s t p q 0 n n xs ys refl (omega (arith, fits)) is (λ j h. agree j h ∙ ap (λ m. s (m + j)) (sym start)) in
+    subst (λ k. added_from s p k (ys ++ drop n xs) ≡ plus_stream s p xs) here (run ∙ ap (λ m. plus_stream s m xs) start)
 
 -- the sum of the stream and the byte at place i, written there
 pub added_one : (s : ℕ → ℕ) (p i y : ℕ) (xs : List ℕ) → i < length xs → y ≡ bit_xor (get_or xs i 0) (s (p + i))

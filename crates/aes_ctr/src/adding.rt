@@ -31,17 +31,15 @@ pub(crate) fn add_blocks(blocks: &[Block], from: usize, bytes: &mut [u8])
     ensures { bytes.new ≡ plus_stream (byte_of_blocks blocks.now) from bytes.old }
 {
     let mut done = 0;
-    if from == 0 {
-        'whole: while bytes.len() - done >= 16 {
-            add_part(&blocks[done / 16], 0, &mut bytes[done..done + 16]);
-            done += 16;
-        }
+    if from % 16 != 0 {
+        done = (16 - from % 16).min(bytes.len());
+        add_part(&blocks[from / 16], from % 16, &mut bytes[..done]);
     }
-    'rest: while done < bytes.len() {
-        let place = from + done;
-        let block = &blocks[place / 16];
-        let part = (16 - place % 16).min(bytes.len() - done);
-        add_part(block, place % 16, &mut bytes[done..done + part]);
-        done += part;
+    'whole: while bytes.len() - done >= 16 {
+        add_part(&blocks[(from + done) / 16], 0, &mut bytes[done..done + 16]);
+        done += 16;
+    }
+    if done < bytes.len() {
+        add_part(&blocks[(from + done) / 16], 0, &mut bytes[done..]);
     }
 }

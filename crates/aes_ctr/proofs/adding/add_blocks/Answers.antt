@@ -1,43 +1,80 @@
 -- What is left to show of `adding::add_blocks`.
-use Rattle.std.proofs.Common.{◌≡◌, ℕ, ◌<◌, ◌∙◌, ◌+◌, ◌/◌, ◌%◌, [], slice_index, slice_index_or, ap, arith}
-use Rattle.aes_ctr.specs.Private.{byte_of_blocks}
+use Rattle.std.proofs.Common.{◌≡◌, ℕ, ◌<◌, ◌∙◌, ◌+◌, ◌-◌, ◌/◌, ◌%◌, List, [], slice_index, slice_index_or}
+use Rattle.std.proofs.Common.{length, refl, ap, arith}
+use borrow.Rule.Slice.PartMut.{put_mid, same_len_mid}
+use Rattle.aes_ctr.specs.CounterMode.{plus_stream}
+use Rattle.aes_ctr.specs.Private.{added_from, byte_of_blocks}
 use Rattle.aes_ctr.proofs.Places.{byte_of_block}
-use Rattle.aes_ctr.proofs.Runs.{added_run, added_all}
+use Rattle.aes_ctr.proofs.Runs.{added_run, added_all, first_run}
 use Rattle.aes_ctr.proofs.adding.add_blocks.Goals as goal
+use Rattle.aes_ctr.proofs.adding.add_blocks.Goals.{then-from-ne0, else-from-ne0}
+
+-- a byte of the block that begins at a place
+from_its_start : (blocks : List (List ℕ)) (place j : ℕ) → place % 16 ≡ 0 → j < 16
+    → slice_index (slice_index_or blocks (place / 16) []) (0 + j) ≡ byte_of_blocks blocks (place + j)
+from_its_start blocks place j aligned inside =
+    let same : 0 + j ≡ place % 16 + j = omega (arith, aligned) in
+    ap (slice_index (slice_index_or blocks (place / 16) [])) same
+    ∙ byte_of_block blocks place j (omega (arith, aligned, inside))
+
+pub whole-init : goal.whole-init
+whole-init c =
+    let blocks = c.args.blocks.now in
+    let stream = byte_of_blocks blocks in
+    let from = c.args.from in
+    elim c.if-from-ne0.branch [
+      | then-from-ne0 w ↦ record {
+        within = omega (arith, w.done-is, w.min-done.ensures);
+        aligned = λ below. omega (arith, below, w.done-is, w.min-done.ensures);
+        value = (λ i. added_from stream from (w.done-is i) (w.bytes-is i))
+            ∙ first_run stream (slice_index (slice_index_or blocks (from / 16) [])) from (from % 16) w.min-done.result
+            c.args.bytes.now w.add_part.new.bytes (omega (arith, w.min-done.ensures)) w.add_part.ensures
+            (λ j inside. byte_of_block blocks from j (omega (arith, inside, w.min-done.ensures)));
+      }
+      | else-from-ne0 w ↦
+          let start : from + 0 ≡ from = omega arith in
+          record {
+            within = omega (arith, w.done-is);
+            aligned = λ below. omega (arith, w.done-is, w.if-from-ne0.false);
+            value = (λ i. added_from stream from (w.done-is i) (w.bytes-is i))
+                ∙ ap (λ m. plus_stream stream m c.args.bytes.now) start;
+          }
+    ]
 
 pub whole-preserved : goal.whole-preserved
 whole-preserved c =
     let blocks = c.args.blocks.now in
-    let place = c.whole.done in
-    let block = slice_index_or blocks (place / 16) [] in
-    let agree : (j : ℕ) → j < 16 → slice_index block (0 + j) ≡ byte_of_blocks blocks (c.args.from + place + j) =
-    λ j inside. ap (slice_index block) (omega (arith, c.whole.invariant.aligned))
-    ∙ byte_of_block blocks place j (omega (arith, c.whole.invariant.aligned))
-    ∙ ap (byte_of_blocks blocks) (omega (arith, c.if-from-eq0.true)) in
+    let done = c.whole.done in
+    let place : ℕ = c.args.from + done in
+    let aligned : place % 16 ≡ 0 = c.whole.invariant.aligned (omega arith) in
     record {
       within = omega arith;
-      aligned = omega (arith, c.whole.invariant.aligned);
+      aligned = λ below. omega (arith, aligned);
       value =
-          added_run (byte_of_blocks blocks) (slice_index block) c.args.from 0 place 16 _ c.whole.bytes _
-          (omega arith) (omega arith) c.add_part.ensures agree
+          added_run (byte_of_blocks blocks) (slice_index (slice_index_or blocks (place / 16) [])) c.args.from 0 done 16 _
+          c.whole.bytes _ (omega arith) (omega arith) c.add_part-in-whole.ensures
+          (λ j inside. from_its_start blocks place j aligned inside)
           ∙ c.whole.invariant.value;
     }
 
-pub rest-preserved : goal.rest-preserved
-rest-preserved c =
+pub returns-then-done-bytes : goal.returns-then-done-bytes
+returns-then-done-bytes c =
     let blocks = c.args.blocks.now in
-    let place = c.args.from + c.rest.done in
-    let block = slice_index_or blocks (place / 16) [] in
-    record {
-      within = omega arith;
-      value =
-          added_run (byte_of_blocks blocks) (slice_index block) c.args.from (place % 16) c.rest.done c.min-part.result _
-          c.rest.bytes _
-          (omega arith) (omega arith) c.add_part-in-rest.ensures
-          (λ j inside. byte_of_block blocks place j (omega arith))
-          ∙ c.rest.invariant.value;
-    }
+    let stream = byte_of_blocks blocks in
+    let bytes = c.whole.bytes in
+    let done = c.whole.done in
+    let n : ℕ = length bytes - done in
+    let place : ℕ = c.args.from + done in
+    let aligned : place % 16 ≡ 0 = c.whole.invariant.aligned (omega arith) in
+    let long : length (put_mid done n bytes c.add_part-then-done-bytes.new.bytes) ≡ length bytes =
+    same_len_mid done n bytes c.add_part-then-done-bytes.new.bytes c.add_part-then-done-bytes.auto.bytes in
+    added_all stream c.args.from (done + n) (put_mid done n bytes c.add_part-then-done-bytes.new.bytes)
+    c.args.bytes.now (omega (arith, long))
+    (added_run stream (slice_index (slice_index_or blocks (place / 16) [])) c.args.from 0 done n n bytes _ refl
+    (omega arith) c.add_part-then-done-bytes.ensures
+    (λ j inside. from_its_start blocks place j aligned (omega arith))
+    ∙ c.whole.invariant.value)
 
-pub returns : goal.returns
-returns c = added_all (byte_of_blocks c.args.blocks.now) c.args.from c.rest.done c.rest.bytes _ (omega arith)
-    c.rest.invariant.value
+pub returns-else-done-bytes : goal.returns-else-done-bytes
+returns-else-done-bytes c = added_all (byte_of_blocks c.args.blocks.now) c.args.from c.whole.done c.whole.bytes _
+    (omega arith) c.whole.invariant.value

@@ -1,5 +1,5 @@
--- What holds in the loops of `adding::add_blocks`.
-use Rattle.std.proofs.Common.{◌≡◌, ◌≤◌, ◌-◌, ◌%◌, length}
+-- What holds in the loop of `adding::add_blocks`.
+use Rattle.std.proofs.Common.{◌≡◌, ◌≤◌, ◌<◌, ◌-◌, ◌+◌, ◌%◌, length}
 use Rattle.aes_ctr.specs.CounterMode.{plus_stream}
 use Rattle.aes_ctr.specs.Private.{added_from, byte_of_blocks}
 use Rattle.aes_ctr.proofs.adding.add_blocks.Given as goal
@@ -7,20 +7,10 @@ use Rattle.aes_ctr.proofs.adding.add_blocks.Given as goal
 abbrev pub invariant-whole : goal.invariant-whole
 invariant-whole l = record {
   within : l.done ≤ length l.fn.bytes;
-  aligned : l.done % 16 ≡ 0;
+  aligned : l.done < length l.fn.bytes → (l.from + l.done) % 16 ≡ 0;
   value : added_from (byte_of_blocks l.blocks) l.from l.done l.bytes ≡ plus_stream (byte_of_blocks l.blocks) l.from
       l.fn.bytes;
 }
 
 abbrev pub decreases-whole : goal.decreases-whole
 decreases-whole l = length l.initial.bytes - l.done
-
-abbrev pub invariant-rest : goal.invariant-rest
-invariant-rest l = record {
-  within : l.done ≤ length l.fn.bytes;
-  value : added_from (byte_of_blocks l.blocks) l.from l.done l.bytes ≡ plus_stream (byte_of_blocks l.blocks) l.from
-      l.fn.bytes;
-}
-
-abbrev pub decreases-rest : goal.decreases-rest
-decreases-rest l = length l.initial.bytes - l.done
