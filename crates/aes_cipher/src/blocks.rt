@@ -4,9 +4,6 @@ ghost use Rattle.std.specs.Prelude.{◌≡◌, ◌↔◌, ℕ, ◌<◌, ◌^◌,
 ghost use Rattle.std.specs.Int.{w128, to_be_bytes, from_be_bytes};
 ghost use Rattle.aes_planes.specs.Fips197 as fips;
 
-#[cfg(test)]
-mod tests;
-
 use crate::cipher::Block;
 use aes_planes::laws;
 use std::simd::prelude::*;

@@ -8,8 +8,6 @@ ghost use Rattle.aes_planes.specs.Fips197 as fips;
 ghost use Rattle.aes_cipher.specs.Blocks.{blocks_of, Sixteens};
 
 mod processing;
-#[cfg(test)]
-mod tests;
 
 use crate::cipher::{BlockCipherDecrypt, BlockCipherEncrypt};
 use processing::{Decrypting, Encrypting, process_bytes};

@@ -13,8 +13,6 @@ mod lent;
 mod names;
 mod round_keys;
 mod sizes;
-#[cfg(test)]
-pub(crate) mod tests;
 
 pub use batches::{BatchSize, BatchSizeUser, ParBlocksSizeUser};
 pub use decrypt::BlockCipherDecrypt;

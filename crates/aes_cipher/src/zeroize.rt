@@ -4,8 +4,6 @@ ghost use Rattle.std.specs.Prelude.{◌≡◌, ℕ, false, length, map, replicat
 
 mod elements;
 mod held;
-#[cfg(test)]
-mod tests;
 
 use aes_planes::soft::word::Word;
 pub use elements::{Element, zeroize_elements};

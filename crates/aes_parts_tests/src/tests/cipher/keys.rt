@@ -4,7 +4,7 @@ ghost use Rattle.std.specs.Prelude.{◌≡◌, length, refl};
 ghost use Rattle.aes_planes.specs.Fips197 as fips;
 ghost use Rattle.aes_planes.proofs.Standard.CipherLaws.{two_keys};
 
-use crate::cipher::{BlockSizeUser, InvalidLength, KeyInit, KeySizeUser, RoundKeysUser};
+use aes_cipher::cipher::{BlockSizeUser, InvalidLength, KeyInit, KeySizeUser, RoundKeysUser};
 use aes_planes::laws;
 
 // A key of three bytes, and nothing else.

@@ -1,6 +1,6 @@
 //! Words that are wiped, by themselves and in a value.
 
-use super::{Held, Wiped, Zeroize, ZeroizeOnDrop, zeroize_elements, zeroize_words};
+use aes_cipher::zeroize::{Held, Wiped, Zeroize, ZeroizeOnDrop, zeroize_elements, zeroize_words};
 
 #[test]
 fn wipes_words_of_any_width(rt: HostRuntime) {

@@ -1,9 +1,9 @@
--- What is left to show of `cipher::tests::one_round::unsubstituted`.
+-- What is left to show of `tests::cipher::one_round::unsubstituted`.
 use Rattle.std.proofs.Common.{[], ◌∷◌, map, slice_index_or, ap, ◌∙◌}
 use Rattle.aes_planes.specs.Fips197.{inv_sbox, inv_shift_rows, inv_shift_times}
 use Rattle.aes_planes.specs.Planes.{plus63}
 use Rattle.aes_planes.proofs.Shifts.Deferred.{without63}
-use Rattle.aes_cipher.proofs.cipher.tests.one_round.unsubstituted.Goals as goal
+use Rattle.aes_parts_tests.proofs.tests.cipher.one_round.unsubstituted.Goals as goal
 
 pub returns : goal.returns
 unfolding inv_shift_times

@@ -1,8 +1,8 @@
--- What holds in the loop of `cipher::tests::one_round::OneRound::decrypt_each`.
+-- What holds in the loop of `tests::cipher::one_round::OneRound::decrypt_each`.
 use Rattle.std.proofs.Common.{◌≡◌, [], ◌∷◌, map}
 use Rattle.aes_planes.specs.Fips197.{inv_cipher_with}
 use Rattle.aes_cipher.proofs.SliceRuns.{finished}
-use Rattle.aes_cipher.proofs.cipher.tests.one_round.OneRound.decrypt_each.Given as goal
+use Rattle.aes_parts_tests.proofs.tests.cipher.one_round.OneRound.decrypt_each.Given as goal
 
 abbrev pub invariant-loop-block : goal.invariant-loop-block
 invariant-loop-block l =

@@ -1,8 +1,8 @@
 //! Schedules and ciphers of both layouts and three sizes, on four words, against values from outside.
 
 use super::block;
-use crate::tests::blocks::blocks;
-use crate::tests::keys::{
+use crate::blocks::blocks;
+use crate::keys::{
     BY_128, BY_192, BY_256, KEY_128, KEY_192, KEY_256, KEY_A1, KEY_A2, KEY_A3, PLAIN,
 };
 use aes_planes::soft::sbox::Layers;

@@ -1,8 +1,8 @@
--- What holds in the loops of `cipher::tests::closures::encrypt_all`.
+-- What holds in the loops of `tests::cipher::closures::encrypt_all`.
 use Rattle.std.proofs.Common.{length, ◌-◌, ◌≡◌, ◌≤◌, map}
 use Rattle.aes_planes.specs.Fips197.{cipher_with}
 use Rattle.aes_cipher.proofs.SliceRuns.{finished}
-use Rattle.aes_cipher.proofs.cipher.tests.closures.encrypt_all.Given as goal
+use Rattle.aes_parts_tests.proofs.tests.cipher.closures.encrypt_all.Given as goal
 
 abbrev pub invariant-loop-blocks : goal.invariant-loop-blocks
 invariant-loop-blocks g l =

@@ -1,6 +1,6 @@
 //! What no clause says: that the calls answer, through their bounds.
 
-pub(crate) mod calls;
+pub mod calls;
 mod closures;
 mod keys;
 mod one_round;

@@ -1,6 +1,6 @@
 //! Blocks of the standards, and blocks that differ from one another.
 
-use aes::Block;
+use aes_cipher::cipher::Block;
 
 /// The four blocks that SP 800-38A encrypts in its examples.
 pub const PLAIN: [u128; 4] = [

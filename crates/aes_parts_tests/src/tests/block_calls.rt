@@ -1,10 +1,10 @@
 //! What no clause says: that the calls on blocks answer.
 
-use super::{
+use aes_cipher::blocks::{
     block_of_halves, block_of_number, blocks_equal, halves_and_blocks, halves_of_block,
     number_of_block, numbers_as_blocks, sum_of_blocks,
 };
-use crate::cipher::Block;
+use aes_cipher::cipher::Block;
 
 // Sixteen bytes that differ, and the number that they are.
 const COUNTED: Block = [0, 1, 2, 3, 4, 5, 6, 7, 8, 9, 10, 11, 12, 13, 14, 15];

@@ -4,7 +4,7 @@ ghost use Rattle.std.specs.Prelude.{◌<◌, length};
 
 use super::closures::{Five, OneAndBatch};
 use super::one_round::{Lent, OneRound};
-use crate::cipher::{
+use aes_cipher::cipher::{
     AlgorithmName, Block, BlockCipherDecBackend, BlockCipherDecClosure, BlockCipherDecrypt,
     BlockCipherEncClosure, BlockCipherEncrypt, BlockSizeUser, NotEqualError, ParBlocksSizeUser,
 };

@@ -5,7 +5,7 @@ ghost use Rattle.std.proofs.Common.{arith};
 ghost use Rattle.aes_planes.specs.Each.{Each};
 ghost use Rattle.aes_planes.specs.Fips197 as fips;
 
-use crate::cipher::{
+use aes_cipher::cipher::{
     AlgorithmName, BatchSize, BatchSizeUser, Block, BlockCipherDecBackend, BlockCipherDecClosure,
     BlockCipherDecrypt, BlockCipherEncBackend, BlockCipherEncClosure, BlockCipherEncrypt,
     RoundKeysUser,
@@ -68,7 +68,7 @@ impl OneRound {
         *block = sum_of_blocks(&state, &self.last);
     }
 
-    #[tactic(auto, using(crate::proofs::SliceRuns::finished_one))]
+    #[tactic(auto, using(aes_cipher::proofs::SliceRuns::finished_one))]
     fn encrypt_each(&self, blocks: &mut [Block])
         ensures { Each (fips.cipher_with (self.now.first ∷ self.now.last ∷ [])) blocks.old blocks.new }
     {
@@ -85,7 +85,7 @@ impl OneRound {
         *block = sum_of_blocks(&state, &self.first);
     }
 
-    #[tactic(auto, using(crate::proofs::SliceRuns::finished_one))]
+    #[tactic(auto, using(aes_cipher::proofs::SliceRuns::finished_one))]
     fn decrypt_each(&self, blocks: &mut [Block])
         ensures { Each (fips.inv_cipher_with (self.now.first ∷ self.now.last ∷ [])) blocks.old blocks.new }
     {

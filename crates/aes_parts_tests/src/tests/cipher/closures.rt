@@ -4,13 +4,13 @@ ghost use Rattle.std.specs.Prelude.{◌≡◌, ℕ, ◌≤◌, length};
 ghost use Rattle.aes_planes.specs.Each.{Each};
 ghost use Rattle.aes_planes.specs.Fips197 as fips;
 
-use crate::cipher::{
+use aes_cipher::cipher::{
     Block, BlockCipherDecBackend, BlockCipherDecClosure, BlockCipherEncBackend,
     BlockCipherEncClosure, ParBlocksSizeUser,
 };
 
 // Encrypts every block: batches while one fits, then single blocks.
-#[tactic(auto, using(crate::proofs::SliceRuns::finished_run, crate::proofs::SliceRuns::finished_one))]
+#[tactic(auto, using(aes_cipher::proofs::SliceRuns::finished_run, aes_cipher::proofs::SliceRuns::finished_one))]
 fn encrypt_all<B: BlockCipherEncBackend>(backend: &B, blocks: &mut [Block])
     ensures { Each (fips.cipher_with (B.round_keys backend.now)) blocks.old blocks.new }
 {

@@ -1,8 +1,8 @@
 //! What no clause says: that the calls on bytes answer, and that a long slice is what its blocks are.
 
-use super::{PartialBlock, blocks_and_bytes, decrypt_bytes, encrypt_bytes};
-use crate::cipher::tests::calls::rest_of_the_example;
-use crate::cipher::{Block, BlockCipherEncrypt};
+use super::cipher::calls::rest_of_the_example;
+use aes_cipher::bytes::{PartialBlock, blocks_and_bytes, decrypt_bytes, encrypt_bytes};
+use aes_cipher::cipher::{Block, BlockCipherEncrypt};
 
 // Bytes that differ from block to block.
 fn counted() -> [u8; 1056] {
