@@ -27,7 +27,7 @@ ROOM.mkdir(parents=True, exist_ok=True)
 BACKENDS = ("llvm", "rattle")
 BITS = ("128", "192", "256")
 # The crates that the exports call, and the two static libraries that are measured with the names that they export.
-CRATES = "aes_planes aes_cipher aes_soft aes aes_permute aes_hybrid aes_rounds aes_ctr aes_kat aes_tests"
+CRATES = "aes_planes aes_cipher aes_soft aes aes_permute aes_hybrid aes_rounds aes_ctr aes_kat aes_parts_tests aes_tests"
 # How many jobs a proof gets, if not as many as rt chooses.
 JOBS = ["--jobs", os.environ["AES_EVIDENCE_JOBS"]] if "AES_EVIDENCE_JOBS" in os.environ else []
 LIBRARIES = {"aes_c": "fotsgure_aes_*", "evidence_exports": "ev_*"}

@@ -9,8 +9,6 @@ pub mod lent;
 mod names;
 mod spread;
 mod stream;
-#[cfg(test)]
-mod tests;
 mod wide;
 
 pub use aes_cipher::aes::AesCipher;

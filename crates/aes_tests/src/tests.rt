@@ -8,6 +8,7 @@ mod contracts;
 mod copies;
 mod examples;
 mod hazmat;
+mod hybrid;
 mod layouts;
 mod modes;
 mod names;

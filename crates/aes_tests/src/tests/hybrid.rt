@@ -1,11 +1,11 @@
-//! The types on the examples of FIPS 197, appendix C, in few blocks and in many, and counter mode from a place on.
+//! The types of `aes_hybrid` on the examples of FIPS 197, appendix C, in few blocks and in many, and counter mode from a place on.
 
-use crate::{Aes128, Aes192, Aes256, Aes256Dec, Aes256Enc, Hybrid};
 use aes_cipher::aes::{AesCipher, Bits128, Bits192, Bits256, BothWays};
 use aes_cipher::cipher::{
     Block, BlockCipherDecrypt, BlockCipherEncrypt, Decrypt, Encrypt, KeyInit,
 };
 use aes_ctr::add_keystream;
+use aes_hybrid::{Aes128, Aes192, Aes256, Aes256Dec, Aes256Enc, Hybrid};
 use aes_permute::keys::{OneWay, TwoWays};
 use aes_permute::sizes::LaneKeys;
 use std::test::Fail;
