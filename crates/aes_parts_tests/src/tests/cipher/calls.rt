@@ -6,7 +6,8 @@ use super::closures::{Five, OneAndBatch};
 use super::one_round::{Lent, OneRound};
 use aes_cipher::cipher::{
     AlgorithmName, Block, BlockCipherDecBackend, BlockCipherDecClosure, BlockCipherDecrypt,
-    BlockCipherEncClosure, BlockCipherEncrypt, BlockSizeUser, NotEqualError, ParBlocksSizeUser,
+    BlockCipherEncBackend, BlockCipherEncClosure, BlockCipherEncrypt, BlockSizeUser, NotEqualError,
+    ParBlocksSizeUser,
 };
 use std::fmt;
 use std::test::Fail;
@@ -108,6 +109,9 @@ fn lends_closures_a_backend(rt: HostRuntime) {
     let mut closure = Five { blocks: five() };
     cipher.encrypt_with_backend(&mut closure);
     assert_eq!(rt; closure.blocks, encrypted_one_by_one(five()));
+    let mut closure = Five { blocks: five() };
+    cipher.encrypt_with_backend_for(5, &mut closure);
+    assert_eq!(rt; closure.blocks, encrypted_one_by_one(five()));
     let mut closure = OneAndBatch {
         one: OUTPUT,
         batch: [[4; 16], OUTPUT, [5; 16]],
@@ -165,6 +169,9 @@ fn works_where_it_is_lent(rt: HostRuntime) {
     let mut closure = Five { blocks: five() };
     BlockCipherEncrypt::encrypt_with_backend(&lent, &mut closure);
     assert_eq!(rt; closure.blocks, wanted);
+    let mut closure = Five { blocks: five() };
+    BlockCipherEncrypt::encrypt_with_backend_for(&lent, 5, &mut closure);
+    assert_eq!(rt; closure.blocks, wanted);
     let mut closure = OneAndBatch {
         one: OUTPUT,
         batch: [[4; 16], OUTPUT, [5; 16]],
@@ -181,6 +188,12 @@ fn lends_a_backend_on(rt: HostRuntime) {
     let mut closure = Five { blocks: five() };
     closure.call(&backend);
     assert_eq!(rt; closure.blocks, encrypted_one_by_one(five()));
+    let mut batch = [INPUT, [6; 16], [7; 16]];
+    BlockCipherEncBackend::encrypt_first_blocks(&backend, 1, &mut batch);
+    assert_eq!(rt; batch[0], OUTPUT);
+    let mut batch = [[6; 16], INPUT, [7; 16]];
+    backend.encrypt_first_blocks(2, &mut batch);
+    assert_eq!(rt; batch[1], OUTPUT);
     let mut closure = OneAndBatch {
         one: OUTPUT,
         batch: [[4; 16], OUTPUT, [5; 16]],
