@@ -1,6 +1,6 @@
 //! Each call of a cipher on a round that the standard works out.
 
-ghost use Rattle.std.specs.Prelude.{◌<◌, length};
+ghost use Rattle.std.specs.Prelude.{◌<◌, ◌≤◌, length};
 
 use super::closures::{Five, OneAndBatch};
 use super::one_round::{Lent, OneRound};
@@ -83,21 +83,49 @@ fn works_on_slices_block_by_block(rt: HostRuntime) {
     assert_eq!(rt; output, five());
 }
 
+// Blocks that are input, and as many that show whether they were written.
+const SENT: [Block; 3] = [INPUT, [1; 16], OUTPUT];
+
+const UNWRITTEN: [Block; 3] = [[0xee; 16]; 3];
+
+// Whether an answer and an output are right where the lengths were equal or not.
+fn is_right(
+    answer: Result<(), NotEqualError>,
+    output: &[Block; 3],
+    equal: bool,
+    length: usize,
+) -> bool {
+    answer.is_ok() == equal && (*output == UNWRITTEN) == (!equal || length == 0)
+}
+
+// Whether the lengths of input and output decide what encryption answers and writes.
+fn encrypts_equal_lengths(from: usize, to: usize) -> bool
+    requires from { from ≤ 3 }
+    requires to { to ≤ 3 }
+{
+    let mut output = UNWRITTEN;
+    let (written, _) = output.split_at_mut(to);
+    let answer = rest_of_the_example().encrypt_blocks_b2b(&SENT[..from], written);
+    is_right(answer, &output, from == to, to)
+}
+
+// The same of decryption.
+fn decrypts_equal_lengths(from: usize, to: usize) -> bool
+    requires from { from ≤ 3 }
+    requires to { to ≤ 3 }
+{
+    let mut output = UNWRITTEN;
+    let (written, _) = output.split_at_mut(to);
+    let answer = rest_of_the_example().decrypt_blocks_b2b(&SENT[..from], written);
+    is_right(answer, &output, from == to, to)
+}
+
 #[test]
 fn leaves_the_output_of_another_length(rt: HostRuntime) {
-    let cipher = rest_of_the_example();
-    let input = [INPUT, [1; 16], OUTPUT];
-    for i in 0..4 {
-        for o in 0..4 {
-            let refused = if i == o { Ok(()) } else { Err(NotEqualError) };
-            let mut output = [[0xee; 16]; 3];
-            let (written, _) = output.split_at_mut(o);
-            assert_eq!(rt; cipher.encrypt_blocks_b2b(&input[..i], written), refused);
-            assert_eq!(rt; output == [[0xee; 16]; 3], i != o || o == 0);
-            let mut output = [[0xee; 16]; 3];
-            let (written, _) = output.split_at_mut(o);
-            assert_eq!(rt; cipher.decrypt_blocks_b2b(&input[..i], written), refused);
-            assert_eq!(rt; output == [[0xee; 16]; 3], i != o || o == 0);
+    for from in 0..4usize {
+        for to in 0..4usize {
+            assert!(rt; encrypts_equal_lengths(from, to), "{from} to {to}");
+            assert!(rt; decrypts_equal_lengths(from, to), "{from} to {to}");
         }
     }
 }

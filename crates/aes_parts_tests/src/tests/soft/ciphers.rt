@@ -193,27 +193,22 @@ fn encrypts_and_decrypts_the_standards_blocks(rt: HostRuntime) {
 
 // Round key 1 of the zero key is 62 63 63 63 in each column (FIPS 197, 5.2): with 0x63 added 01 in row 0, and plane 0
 // is 0x000f. The words of round keys 2 and 3 were worked out in the same way.
+fn are_of_the_zero_key(words: &[u16; 88], word_24: u16) -> bool {
+    words[..8] == [0; 8]
+        && words[8] == 0x000f
+        && words[9..16] == [0; 7]
+        && words[16] == 0xa550
+        && words[24] == word_24
+}
+
 // On `u64` each bit stands four times.
 #[test]
 fn stores_the_round_keys_of_the_zero_key(rt: HostRuntime) {
     let mut layers = Layers::new();
     let compact = compact::aes128::key_schedule::<u16>(&[0; 16], &mut layers);
     let full = full::aes128::key_schedule::<u16>(&[0; 16], &mut layers);
-    for i in 0..8usize {
-        assert_eq!(rt; [compact[i], full[i]], [0, 0], "word {i}");
-    }
-    for i in 9..16usize {
-        assert_eq!(rt; [compact[i], full[i]], [0, 0], "word {i}");
-    }
-    let rows = [
-        (8, 0x000f, 0x000f),
-        (16, 0xa550, 0xa550),
-        (24, 0x96c5, 0x6635),
-    ];
-    for (i, in_compact, in_full) in rows {
-        assert_eq!(rt; compact[i], in_compact, "word {i}");
-        assert_eq!(rt; full[i], in_full, "word {i}");
-    }
+    assert!(rt; are_of_the_zero_key(&compact, 0x96c5));
+    assert!(rt; are_of_the_zero_key(&full, 0x6635));
     let of_four = full::aes128::key_schedule::<u64>(&[0; 16], &mut layers);
     assert_eq!(rt; of_four[24], 0x0ff00ff000ff0f0f);
     assert_eq!(rt; widen::<u64, 88>(&full)[24], 0x0ff00ff000ff0f0f);
