@@ -122,8 +122,9 @@ fn brings_back_a_hundred<C: BlockCipherEncrypt + BlockCipherDecrypt>(cipher: &C)
 
 #[test]
 fn brings_back_hundreds_of_blocks(rt: HostRuntime) {
-    assert!(rt; brings_back_a_hundred(&Aes128::new(&KEY_128)));
-    assert!(rt; brings_back_a_hundred(&permute::Aes128::new(&KEY_128)));
+    let zero_key = [0; 16];
+    assert!(rt; brings_back_a_hundred(&Aes128::new(&zero_key)));
+    assert!(rt; brings_back_a_hundred(&permute::Aes128::new(&zero_key)));
 }
 
 // How many blocks a type of backends takes at once.
