@@ -174,23 +174,33 @@ def conditions():
 
 
 def section(heading):
-    """A section of docs/MEASUREMENTS.md: what stands before it, its lines, and what comes after."""
-    before, rest = MEASUREMENTS.read_text().split(f"## {heading}\n")
-    body, mark, after = rest.partition("\n## ")
-    return before, body.strip("\n"), mark + after
+    """A section of docs/MEASUREMENTS.md, by its heading with its marks: what stands before, its text, and what comes
+    after, from the next heading of that level or a higher one."""
+    parts = re.split(rf"^{re.escape(heading)}\n", MEASUREMENTS.read_text(), flags=re.M)
+    if len(parts) != 2:
+        stop(f"{MEASUREMENTS} has the heading {heading} {len(parts) - 1} times")
+    level = len(heading.split()[0])
+    after = re.search(rf"^#{{1,{level}}} |\Z", parts[1], re.M).start()
+    return parts[0], parts[1][:after].strip("\n"), parts[1][after:]
 
 
-def section_text(text, lines):
-    """A paragraph and the lines of a table."""
-    wrapped = textwrap.wrap(text, 118, break_long_words=False, break_on_hyphens=False)
-    return "\n".join([*wrapped, *(["", *lines] if lines else [])])
+def section_text(*parts):
+    """Paragraphs, each a text, and tables, each a list of lines."""
+    wide = {"width": 118, "break_long_words": False, "break_on_hyphens": False}
+    return "\n\n".join("\n".join(textwrap.wrap(it, **wide) if isinstance(it, str) else it) for it in parts)
 
 
-def publish(heading, text, lines=()):
-    """Writes a section of docs/MEASUREMENTS.md."""
+def publish(heading, *parts):
+    """Writes a section of docs/MEASUREMENTS.md: its paragraphs and tables."""
     before, _, after = section(heading)
-    MEASUREMENTS.write_text(f"{before}## {heading}\n{section_text(text, lines)}\n{after}")
+    MEASUREMENTS.write_text(f"{before}{heading}\n{section_text(*parts)}\n" + (after and f"\n{after}"))
     say(f"published: {heading}, in {MEASUREMENTS}")
+
+
+def table(heads, *rows):
+    """The lines of a table, whose first head is empty if its first column says what a row is about."""
+    lines = [f"| {' | '.join(it)} |".replace("|  |", "| |") for it in (heads, *rows)]
+    return [lines[0], "|---" * len(heads) + "|", *lines[1:]]
 
 
 def briefly(where):

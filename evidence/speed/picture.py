@@ -14,7 +14,7 @@ PANELS = [
 ]
 # Each group, its colour on light ground and on dark.
 GROUPS = [
-    ("hybrid", "This library", "#0b7a75", "#2fb8ad"),
+    ("hybrid", "Software by permutations and on bit planes", "#0b7a75", "#2fb8ad"),
     ("permutations", "Software by vector permutations (SSSE3)", "#8c9a4e", "#a3b25c"),
     ("bitsliced", "Software on bit planes, without tables", "#6f9fce", "#6f9fce"),
     ("tables", "Software with tables in memory", "#cf8a55", "#d9965f"),
@@ -35,8 +35,8 @@ def is_ours(engine):
 
 
 def is_shown(row):
-    """This library stands here as the C library by LLVM: the table has its parts, and what the second compiler makes,
-    which serves to check the first. So does it for peers' code without their calls around it."""
+    """This library stands here once, as the C library by LLVM. Its other types, what the second compiler makes of it
+    (which serves to check the first), and peers' code without their calls around it are in results.csv."""
     if row["peer"] == "this library":
         return row["how"] == tables.BASE
     return row["kind"] != "planted" and "alone" not in row["how"]
@@ -106,7 +106,7 @@ def labels(axis, shown, heads):
     beside = {"transform": axis.get_yaxis_transform(), "va": "center"}
     for y, it in shown:
         weight = "bold" if is_ours(it) else "normal"
-        text = "aes_hybrid, through C" if is_ours(it) else f"{it[1]}, {it[2]}"
+        text = "this library, aes_hybrid" if is_ours(it) else f"{it[1]}, {it[2]}"
         axis.text(-0.02, y, text, ha="right", color="#010101", fontsize=9.5, fontweight=weight, **beside)
     for y, title in heads:
         axis.text(-1.1, y, title, ha="left", color="#020202", fontsize=9.5, fontstyle="italic", **beside)

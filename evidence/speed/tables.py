@@ -1,10 +1,11 @@
-"""The times of a run as a file, as tables with everything, and as the tables of docs/MEASUREMENTS.md."""
+"""The times of a run as a file, as tables with everything, and as the table of docs/MEASUREMENTS.md."""
 import csv
+import re
 import subprocess
 
 import tools
 
-HEADING = "Time, beside the libraries of Debian"
+HEADING = "## How fast is it beside what I use now?"
 # The peers by the packages that they come from.
 PACKAGES = {
     "libssl-dev": "OpenSSL",
@@ -28,8 +29,26 @@ HEAD = ["peer", "how", "kind", "run", "key_bytes", "call", "amount", "ticks", "n
 DIGITS = {"ticks": 1, "nanoseconds": 1, "ratio_to_this_library": 3}
 COLUMNS = [(call, n) for call in ("encrypt", "decrypt") for n in (1, 4, 8, 64, 4096)]
 COLUMNS += [("key and counter mode", 65536), ("key for encryption", 1), ("key for decryption", 1), ("key and block", 1)]
-PUBLISHED = [("encrypt", 1), ("encrypt", 8), ("encrypt", 4096), ("decrypt", 1), ("decrypt", 4096)]
-PUBLISHED += [("key and counter mode", 65536), ("key for encryption", 1), ("key and block", 1)]
+# The rows of docs/MEASUREMENTS.md, and its columns beside this library: peers, and the run in which they are taken.
+BOTH_KEYS = "both keys"
+PUBLISHED = {
+    "a key, for both directions": (BOTH_KEYS, 1),
+    "1 block encrypted": ("encrypt", 1),
+    "1 block decrypted": ("decrypt", 1),
+    "8 blocks encrypted": ("encrypt", 8),
+    "8 blocks decrypted": ("decrypt", 8),
+    "64 blocks encrypted": ("encrypt", 64),
+    "64 blocks decrypted": ("decrypt", 64),
+    "4,096 blocks encrypted": ("encrypt", 4096),
+    "4,096 blocks decrypted": ("decrypt", 4096),
+    "counter mode, 64 bytes": ("counter mode", 64),
+    "counter mode, 1,500 bytes": ("counter mode", 1500),
+    "counter mode, 1 MiB": ("counter mode", 1 << 20),
+}
+CONSTANT_TIME, WITH_INSTRUCTIONS = "no AES instructions", "all instructions"
+WITH_THEM = ("OpenSSL", "AES instructions")
+COLUMNS_PUBLISHED = [(CONSTANT_TIME, (it, "SSSE3 permutations")) for it in ("OpenSSL", "Botan", "Libgcrypt")]
+COLUMNS_PUBLISHED.append((WITH_INSTRUCTIONS, WITH_THEM))
 # What is compared with peers that need no AES instructions and read no tables: calls and amounts.
 GROUPS = {
     "one block": [("encrypt", 1), ("decrypt", 1)],
@@ -38,9 +57,8 @@ GROUPS = {
     "64 to 4,096 blocks": [(call, n) for call in ("encrypt", "decrypt") for n in (64, 1024, 4096)],
     "counter mode, 16 to 1,500 bytes": [("counter mode", n) for n in (*range(16, 257, 16), 320, 384, 512, 1024, 1500)],
     "counter mode, 4 KiB to 1 MiB": [("counter mode", 1 << n) for n in (12, 14, 16, 20)],
-    "a key, both directions": [("both keys", 1)],
+    "a key, both directions": [(BOTH_KEYS, 1)],
 }
-CONSTANT_TIME = "no AES instructions"
 
 
 def place(row):
@@ -117,43 +135,35 @@ def heads(columns):
     return ["| | " + " | ".join(names) + " |", "|---|" + "---|" * len(columns)]
 
 
-def table(rows, key, columns, left=lambda peer, kind: False):
-    """A row an engine, but for those of the kinds that are left out."""
+def table(rows, key, columns):
+    """A row an engine."""
     of, order = engines(rows, key)
-    kinds = {(r["peer"], r["how"]): r["kind"] for r in of}
     lines = heads(columns)
     for peer, how in order:
-        if not left(peer, kinds[peer, how]):
-            its = times_of(of, (peer, how))
-            cells = [cell(its.get(it), how, it[1]) for it in columns]
-            lines.append(f"| {peer}, {how} | " + " | ".join(cells) + " |")
+        its = times_of(of, (peer, how))
+        cells = [cell(its.get(it), how, it[1]) for it in columns]
+        lines.append(f"| {peer}, {how} | " + " | ".join(cells) + " |")
     return lines
 
 
-def together(rows, key, columns, kind):
-    """One row for all peers of a kind: from the least ratio to the most."""
-    of, order = engines(rows, key)
-    peers = {(r["peer"], r["how"]) for r in of if r["kind"] == kind and r["peer"] != "this library"}
-    its = [times_of(of, it) for it in order if it in peers]
-    cells = []
-    for it in columns:
-        ratios = [row[it][0]["ratio_to_this_library"] for row in its if it in row]
-        ends = sorted({ratio(min(ratios)), ratio(max(ratios))}, key=float) if ratios else ["–"]
-        cells.append(" to ".join(ends))
-    return f"| {TITLES[kind]}, {len(its)} engines | " + " | ".join(cells) + " |"
-
-
-def beside(rows):
-    """For each group of calls the ratio to OpenSSL, and to the fastest peer, from the least to the most for each size
-    of keys. A key counts for both directions, as C has it: OpenSSL sets them one by one."""
+def of_run(rows, run):
+    """The ticks of each engine in one run: {(peer, how): {(size of the key, call, amount): ticks}}. A key counts for
+    both directions, as C has it: others set them one by one."""
     of = {}
-    for r in (r for r in rows if r["run"] == CONSTANT_TIME and r["kind"] in ("hybrid", "permutations")):
+    for r in (r for r in rows if r["run"] == run):
         of.setdefault((r["peer"], r["how"]), {})[r["key_bytes"], r["call"], r["amount"]] = r["ticks"]
     for (_, how), its in of.items():
         for key in (16, 24, 32):
             ends = [its.get((key, f"key for {it}", 1)) for it in ("encryption", "decryption")]
             if all(ends):
-                its[key, "both keys", 1] = ends[0] if how == BASE else sum(ends)
+                its[key, BOTH_KEYS, 1] = ends[0] if how == BASE else sum(ends)
+    return of
+
+
+def beside(rows):
+    """For each group of calls the ratio to OpenSSL, and to the fastest peer, from the least to the most for each size
+    of keys."""
+    of = of_run([r for r in rows if r["kind"] in ("hybrid", "permutations")], CONSTANT_TIME)
     ours = of["this library", BASE]
     openssl = [its for (peer, how), its in of.items() if peer == "OpenSSL" and "alone" not in how]
     peers = [its for (peer, how), its in of.items() if peer != "this library" and "alone" not in how]
@@ -206,20 +216,66 @@ def versions():
     return " and ".join([", ".join(found[:-1]), found[-1]]) if len(found) > 1 else "".join(found)
 
 
-def published(where, rows):
-    """The section of docs/MEASUREMENTS.md that a run writes: a paragraph, and two tables."""
-    few = ("tables", "instructions")
-    lines = beside(rows) + [""]
-    lines += table(rows, 16, PUBLISHED, lambda peer, kind: peer != "this library" and kind in few)
-    lines += [together(rows, 16, PUBLISHED, kind) for kind in few]
-    text = (
-        f"`evidence/speed/run`, {tools.briefly(where)}. [results.csv](../evidence/speed/results.csv) has every time. "
-        "The first table divides the time of the C library by that of peers that use no AES instructions and read no "
-        "tables (SSSE3), for keys of 16; 24; 32 bytes, from the least ratio of the calls to the most. In the second, "
-        "with keys of 16 bytes, the first row has nanoseconds a block, a byte of counter mode, or a call; below stands "
-        "time divided by that, so above 1 is slower than the C library."
+def span(nanoseconds):
+    """A time with the unit that suits it."""
+    for least, unit in ((1e6, "ms"), (1e3, "µs"), (0, "ns")):
+        if nanoseconds >= least:
+            break
+    number = nanoseconds / (least or 1)
+    return f"{number:.1f} {unit}" if number < 10 else f"{number:,.0f} {unit}"
+
+
+def ratios_of(rows, key):
+    """For each row and column of docs/MEASUREMENTS.md the time divided by this library's in the same run; and this
+    library's own time for each row."""
+    runs = {run: of_run(rows, run) for run in (CONSTANT_TIME, WITH_INSTRUCTIONS)}
+    ratios = {}
+    for title, call in PUBLISHED.items():
+        for run, peer in COLUMNS_PUBLISHED:
+            ours, theirs = (runs[run].get(it, {}).get((key, *call)) for it in (("this library", BASE), peer))
+            if theirs:
+                ratios[title, peer] = theirs / ours
+    ticks = runs[CONSTANT_TIME]["this library", BASE]
+    rate = sum(r["nanoseconds"] for r in rows) / sum(r["ticks"] for r in rows)
+    return ratios, {title: span(rate * ticks[key, *call]) for title, call in PUBLISHED.items()}
+
+
+def ends(ratios, rows, without):
+    """The least and the most of some rows and columns."""
+    found = [it for (title, peer), it in ratios.items() if title.startswith(rows) and (peer != WITH_THEM) == without]
+    return f"{ratio(min(found))} to {ratio(max(found))}" if found else "–"
+
+
+def published(where, rows, key=16):
+    """The section of docs/MEASUREMENTS.md that a run writes: what it means, a table, and how it was measured."""
+    ratios, times = ratios_of(rows, key)
+    lines = []
+    for title in PUBLISHED:
+        cells = [ratios.get((title, peer)) for _, peer in COLUMNS_PUBLISHED]
+        lines.append([title, times[title], *(ratio(it) if it else "–" for it in cells)])
+    conditions, _, versions_there = tools.briefly(where).partition(", beside ")
+    peers = {peer for _, (peer, _) in COLUMNS_PUBLISHED}
+    shown = [it for it in re.split(", | and ", versions_there) if it.split()[0] in peers]
+    meaning = (
+        f"Without AES instructions, other libraries take {ends(ratios, '1 block', True)} times as long as this one for "
+        f"one block, and {ends(ratios, '4,096', True)} times as long for 4,096; OpenSSL with AES instructions takes "
+        f"{ends(ratios, '4,096', False)} times as long for 4,096, so take that if your processor has them and speed is "
+        "all that you need."
     )
-    return text, lines
+    how = (
+        "The first column is the time of a call from C with a key of 16 bytes. The others are the time of the same work "
+        "divided by it, so below 1 is faster than this library. Without AES instructions these libraries use SSSE3, and "
+        "read no tables. Counter mode has its key at hand."
+    )
+    measured = (
+        f"Measured by `evidence/speed/run`: {conditions}, beside {', '.join(shown)}. "
+        "[results.csv](../evidence/speed/results.csv) has keys of 24 and 32 bytes, every count of blocks from 1 to 40, "
+        "counter mode from 16 bytes on, the types of Rattle, three more libraries, and the build of the second "
+        "compiler. That build is for checking: the gate compares what programs print in both builds. Nothing uses it "
+        "for speed, so the picture leaves it out."
+    )
+    heads = ["", "this library", "OpenSSL", "Botan", "Libgcrypt", "OpenSSL with AES instructions"]
+    return meaning, tools.table(heads, *lines), how, measured
 
 
 def publish(where, rows):

@@ -33,7 +33,7 @@ static void list(void) {
         what(it, 4096, 1);
     }
     for (size_t i = 0; i < sizeof bytes / sizeof *bytes; i++) {
-        what(STREAM, bytes[i], 0);
+        what(STREAM, bytes[i], bytes[i] == 64 || bytes[i] == 1500 || bytes[i] == 1 << 20);
         what(KEY_AND_STREAM, bytes[i], bytes[i] == 1024 || bytes[i] == 65536);
     }
     for (enum call it = KEY_ENCRYPT; it <= WIPE; it++) what(it, 1, 1);
