@@ -14,7 +14,7 @@ PANELS = [
 ]
 # Each group, its colour on light ground and on dark.
 GROUPS = [
-    ("hybrid", "Software by permutations and on bit planes", "#0b7a75", "#2fb8ad"),
+    ("hybrid", "Permutations and bit planes", "#0b7a75", "#2fb8ad"),
     ("permutations", "Software by vector permutations (SSSE3)", "#8c9a4e", "#a3b25c"),
     ("bitsliced", "Software on bit planes, without tables", "#6f9fce", "#6f9fce"),
     ("tables", "Software with tables in memory", "#cf8a55", "#d9965f"),

@@ -18,12 +18,6 @@ PACKAGES = {
 # The engine that all ratios are to, which stands in every run.
 BASE = "C library, by LLVM"
 KINDS = ["hybrid", "bitsliced", "permutations", "tables", "instructions"]
-TITLES = {
-    "bitsliced": "bit planes",
-    "permutations": "vector permutations (SSSE3)",
-    "tables": "tables in memory",
-    "instructions": "AES instructions",
-}
 # The amount is of blocks, or of bytes for counter mode.
 HEAD = ["peer", "how", "kind", "run", "key_bytes", "call", "amount", "ticks", "nanoseconds", "ratio_to_this_library"]
 DIGITS = {"ticks": 1, "nanoseconds": 1, "ratio_to_this_library": 3}
@@ -240,7 +234,7 @@ def ratios_of(rows, key):
     return ratios, {title: span(rate * ticks[key, *call]) for title, call in PUBLISHED.items()}
 
 
-def ends(ratios, rows, without):
+def least_to_most(ratios, rows, without):
     """The least and the most of some rows and columns."""
     found = [it for (title, peer), it in ratios.items() if title.startswith(rows) and (peer != WITH_THEM) == without]
     return f"{ratio(min(found))} to {ratio(max(found))}" if found else "–"
@@ -255,17 +249,18 @@ def published(where, rows, key=16):
         lines.append([title, times[title], *(ratio(it) if it else "–" for it in cells)])
     conditions, _, versions_there = tools.briefly(where).partition(", beside ")
     peers = {peer for _, (peer, _) in COLUMNS_PUBLISHED}
-    shown = [it for it in re.split(", | and ", versions_there) if it.split()[0] in peers]
+    shown = [it for it in re.split(", | and ", versions_there) if it.partition(" ")[0] in peers]
+    one, many = (least_to_most(ratios, it, True) for it in ("1 block", "4,096"))
+    with_them = least_to_most(ratios, "4,096", False)
     meaning = (
-        f"Without AES instructions, other libraries take {ends(ratios, '1 block', True)} times as long as this one for "
-        f"one block, and {ends(ratios, '4,096', True)} times as long for 4,096; OpenSSL with AES instructions takes "
-        f"{ends(ratios, '4,096', False)} times as long for 4,096, so take that if your processor has them and speed is "
-        "all that you need."
+        f"Without AES instructions, other libraries take {one} times as long as this one for one block, and {many} "
+        f"times as long for 4,096; OpenSSL with AES instructions takes {with_them} times as long for 4,096, so take "
+        "that if your processor has them and speed is all that you need."
     )
     how = (
-        "The first column is the time of a call from C with a key of 16 bytes. The others are the time of the same work "
-        "divided by it, so below 1 is faster than this library. Without AES instructions these libraries use SSSE3, and "
-        "read no tables. Counter mode has its key at hand."
+        "The first column is the time of a call from C with a key of 16 bytes. The others are the time of the same "
+        "work divided by it, so below 1 is faster than this library. Without AES instructions these libraries use "
+        "SSSE3, and read no tables once a key is set. Counter mode has its key at hand."
     )
     measured = (
         f"Measured by `evidence/speed/run`: {conditions}, beside {', '.join(shown)}. "
