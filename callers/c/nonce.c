@@ -4,8 +4,8 @@
 #include <stdio.h>
 #include <string.h>
 
-/* Encrypts or decrypts a message in place. Never use a nonce for two messages under one key. A message of 64 GiB or more
- * is refused, since its last counter blocks would be those of another nonce. */
+/* Encrypts or decrypts a message in place. Never use a nonce for two messages under one key. A message of 64 GiB
+ * less 16 bytes, or more, is refused: its last counter blocks would be those of another nonce. */
 static enum fotsgure_aes_status add_message_keystream(const struct fotsgure_aes *aes, const uint8_t nonce[12],
     uint8_t *bytes, size_t count)
 {
