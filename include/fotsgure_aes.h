@@ -20,11 +20,11 @@
  *
  * NULL is allowed for `key`, `blocks`, `bytes`, `input` and `output` if the count is 0.
  *
- * In return, no call allocates, prints, aborts, blocks, or keeps a pointer; the library has no state of its own; every
- * call returns, and writes nothing but what it says. (Proved is what calls return and write, and that they return; read
- * and measured is that they allocate nothing, that the stack suffices, and what they read of an unwritten struct.) A call that doesn't return FOTSGURE_AES_DONE has changed nothing;
- * fotsgure_aes_set_key is the exception. What a call returns depends on lengths and positions alone, never on the bytes
- * of a key or of data.
+ * In return, no call allocates, prints, aborts, blocks, or keeps a pointer; the library has no state of its own;
+ * every call returns, and writes nothing but what it says. (Proved is what calls return and write, and that they
+ * return; read and measured is that they allocate nothing, that the stack suffices, and what they read of an
+ * unwritten struct.) A call that doesn't return FOTSGURE_AES_DONE has changed nothing; fotsgure_aes_set_key is the
+ * exception. What a call returns depends on lengths and positions alone, never on the bytes of a key or of data.
  *
  * Copies and threads: a struct fotsgure_aes may be copied and moved as bytes, and every copy is as secret as the key
  * and is wiped by itself. Any number of threads may use one struct at the same time by the calls that take it as const.
