@@ -13,8 +13,9 @@ use crate::status::{DONE, KEY_LENGTH, KEYSTREAM_END};
 use crate::stream::Ctr;
 use aes_cipher::cipher::{Decrypt, Encrypt};
 use aes_cipher::zeroize::Held;
-use aes_hybrid::add_keystream;
+use aes_ctr::add_keystream;
 use aes_hybrid::blocks::process_blocks;
+use aes_hybrid::lent::LentKeys;
 use aes_permute::blocks::process_blocks as process_on_lanes;
 use aes_permute::directions::LaneRounds;
 use aes_permute::schedule::{expand_128, expand_192, expand_256};
@@ -126,7 +127,7 @@ pub extern "C" fn fotsgure_aes_add_keystream_with(
     let mut kept = Held::<[Block; 15]>::zeroed();
     put_keys(kept.words_mut(), key);
     let keys = keys_of(kept.words(), key.len());
-    add_keystream(keys, &ctr.iv, ctr.position, bytes);
+    add_keystream(&LentKeys::new(keys), &ctr.iv, ctr.position, bytes);
     kept.wipe();
     ctr.position += bytes.len() as u64;
     DONE

@@ -8,7 +8,7 @@ ghost use Rattle.aes_c.specs.Kept.{key_in, IsKeyLength, IsMade};
 use crate::kept::{Aes, holds_key, keys_of};
 use crate::status::{DONE, KEYSTREAM_END, NO_KEY, UNEQUAL_COUNTS};
 use aes_ctr::add_keystream;
-use aes_hybrid::lent::Many;
+use aes_hybrid::lent::LentKeys;
 
 /// Where a keystream stands: `struct fotsgure_aes_ctr`.
 #[repr(C)]
@@ -54,7 +54,7 @@ pub extern "C" fn fotsgure_aes_add_keystream(aes: &Aes, ctr: &mut Ctr, bytes: &m
     let status = refusal(aes, ctr.position, bytes.len());
     if status == DONE {
         let keys = keys_of(&aes.encrypting, aes.key_length as usize);
-        add_keystream(&Many::new(keys), &ctr.iv, ctr.position, bytes);
+        add_keystream(&LentKeys::new(keys), &ctr.iv, ctr.position, bytes);
         ctr.position += bytes.len() as u64;
     }
     status

@@ -4,7 +4,7 @@ ghost use Rattle.std.specs.Prelude.{◌≡◌};
 ghost use Rattle.aes_hybrid.specs.Lanes.{lanes_key, IsLanes};
 
 use crate::blocks::process_blocks;
-use crate::lent::Many;
+use crate::lent::LentKeys;
 use aes_cipher::aes::{Decrypts, Encrypts, KeySchedule, KeySize, Processes, TurnedFrom};
 use aes_cipher::cipher::{
     BlockCipherDecClosure, BlockCipherEncClosure, BlockCipherEncrypt, Decrypt, Encrypt,
@@ -92,11 +92,11 @@ impl<S: LendsKeys<Encrypt> + Processes<Encrypt>> Processes<Encrypt> for Hybrid<S
 
 impl<S: LendsKeys<Encrypt> + Processes<Encrypt>> Encrypts for Hybrid<S> {
     fn encrypt_with_backend<F: BlockCipherEncClosure>(&self, f: &mut F) {
-        Many::new(self.keys()).encrypt_with_backend(f);
+        LentKeys::new(self.keys()).encrypt_with_backend(f);
     }
 
     fn encrypt_with_backend_for<F: BlockCipherEncClosure>(&self, blocks: usize, f: &mut F) {
-        Many::new(self.keys()).encrypt_with_backend_for(blocks, f);
+        LentKeys::new(self.keys()).encrypt_with_backend_for(blocks, f);
     }
 }
 

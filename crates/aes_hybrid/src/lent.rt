@@ -1,4 +1,4 @@
-//! Stored round keys, lent as a cipher that encrypts: to few blocks at once, or to many.
+//! Stored round keys, lent as a cipher that encrypts.
 
 ghost use Rattle.std.specs.Prelude.{◌≡◌, ℕ, ◌*◌, ◌≤◌, List, length};
 ghost use Rattle.aes_planes.specs.Fips197 as fips;
@@ -18,33 +18,33 @@ use backends::{Batches, Pairs};
 use std::marker::Model;
 use std::slice;
 
-/// Stored round keys of Cipher, lent to encrypt few blocks: its backend has vector permutations alone. Contracts see a
-/// value as its key.
+/// Stored round keys of Cipher, lent to encrypt. The backend for eight blocks or more has planes for whole batches, and
+/// that for fewer vector permutations alone. Contracts see a value as its key.
 #[derive(Drop)]
-pub struct Few<'a> {
+pub struct LentKeys<'a> {
     keys: &'a [Block],
 }
 
-impl<'a> Model for Few<'a> {
+impl<'a> Model for LentKeys<'a> {
     ghost Value = { List ℕ };
 
-    ghost view = { λ few. lanes_key few.keys.now };
+    ghost view = { λ lent. lanes_key lent.keys.now };
 
-    ghost invariant = { λ few. IsLanes few.keys.now };
+    ghost invariant = { λ lent. IsLanes lent.keys.now };
 }
 
-impl<'a> Few<'a> {
+impl<'a> LentKeys<'a> {
     /// Lends stored round keys.
     #[inline(always)]
-    pub fn new(keys: &'a [Block]) -> Few<'a>
+    pub fn new(keys: &'a [Block]) -> LentKeys<'a>
         requires { IsLanes keys.now }
         ensures { result ≡ lanes_key keys.now }
     {
-        Few { keys }
+        LentKeys { keys }
     }
 }
 
-impl RoundKeysUser for Few<'_> {
+impl RoundKeysUser for LentKeys<'_> {
     ghost round_keys = { fips.key_expansion };
 
     fn has_round_keys(&self) {
@@ -55,61 +55,7 @@ impl RoundKeysUser for Few<'_> {
     ghost two_round_keys = { two_keys };
 }
 
-impl BlockCipherEncrypt for Few<'_> {
-    #[inline(always)]
-    fn encrypt_with_backend<F: BlockCipherEncClosure>(&self, f: &mut F) {
-        f.call(&Pairs::new(self.keys));
-    }
-
-    #[inline(always)]
-    fn encrypt_block(&self, block: &mut Block) {
-        process_blocks::<Encrypt>(self.keys, self.keys, slice::from_mut(block));
-    }
-
-    #[inline(always)]
-    fn encrypt_blocks(&self, blocks: &mut [Block]) {
-        process_blocks::<Encrypt>(self.keys, self.keys, blocks);
-    }
-}
-
-/// Stored round keys of Cipher, lent to encrypt many blocks: its backend has planes for whole batches. Contracts see a
-/// value as its key.
-#[derive(Drop)]
-pub struct Many<'a> {
-    keys: &'a [Block],
-}
-
-impl<'a> Model for Many<'a> {
-    ghost Value = { List ℕ };
-
-    ghost view = { λ many. lanes_key many.keys.now };
-
-    ghost invariant = { λ many. IsLanes many.keys.now };
-}
-
-impl<'a> Many<'a> {
-    /// Lends stored round keys.
-    #[inline(always)]
-    pub fn new(keys: &'a [Block]) -> Many<'a>
-        requires { IsLanes keys.now }
-        ensures { result ≡ lanes_key keys.now }
-    {
-        Many { keys }
-    }
-}
-
-impl RoundKeysUser for Many<'_> {
-    ghost round_keys = { fips.key_expansion };
-
-    fn has_round_keys(&self) {
-        laws::expanded_keys();
-        let _ = &self.keys;
-    }
-
-    ghost two_round_keys = { two_keys };
-}
-
-impl BlockCipherEncrypt for Many<'_> {
+impl BlockCipherEncrypt for LentKeys<'_> {
     #[inline(always)]
     fn encrypt_with_backend<F: BlockCipherEncClosure>(&self, f: &mut F) {
         let keys = self.keys;

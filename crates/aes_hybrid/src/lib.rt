@@ -8,7 +8,6 @@ pub mod keys;
 pub mod lent;
 mod names;
 mod spread;
-mod stream;
 mod wide;
 
 pub use aes_cipher::aes::AesCipher;
@@ -16,5 +15,4 @@ pub use ciphers::Hybrid;
 pub use names::{
     Aes128, Aes128Dec, Aes128Enc, Aes192, Aes192Dec, Aes192Enc, Aes256, Aes256Dec, Aes256Enc,
 };
-pub use stream::add_keystream;
 pub use wide::put_planes;
