@@ -13,16 +13,16 @@ struct engine {
     const char *name; /* the library */
     const char *how;  /* what it runs on this machine, in this run */
     const char *kind; /* bitsliced, permutations, tables, instructions, planted */
-    /* Takes a key of so many bytes, for encryption and for decryption. */
+    /* Takes a key of `bytes` bytes, for encryption and for decryption. */
     void (*key_encrypt)(const uint8_t *key, size_t bytes);
     void (*key_decrypt)(const uint8_t *key, size_t bytes);
-    /* Works on so many blocks in place, under the key taken last. */
+    /* Processes `count` blocks in place, under the key taken last. */
     void (*encrypt)(uint8_t *blocks, size_t count);
     void (*decrypt)(uint8_t *blocks, size_t count);
     /* Takes a key and a counter block, and adds the keystream; without a key (0), that taken last. */
     void (*stream)(const uint8_t *key, size_t bytes, const uint8_t *iv, uint8_t *data, size_t length);
     int keeps; /* whether `stream` can do without a key */
-    /* If it is there, the calls on blocks keep no key: this one takes a key and works so many times on the blocks. */
+    /* If it is there, the calls on blocks keep no key: this one takes a key and processes the blocks `times` times. */
     void (*times)(const uint8_t *key, size_t bytes, int back, uint32_t times, uint8_t *blocks, size_t count);
     /* Wipes as many bytes as the round keys of a batch take. */
     void (*wipe)(size_t key_bytes);

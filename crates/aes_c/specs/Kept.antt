@@ -15,8 +15,8 @@ abbrev pub AreZeroAfter : ℕ → List (List ℕ) → Type 0
 AreZeroAfter n blocks = drop (n / 4 + 7) blocks ≡ replicate (15 - (n / 4 + 7)) (replicate 16 0)
 
 -- the key of n bytes that blocks are read as
-abbrev pub key_in : ℕ → List (List ℕ) → List ℕ
-key_in n encrypting = lanes_key (first_keys n encrypting)
+abbrev pub kept_key : ℕ → List (List ℕ) → List ℕ
+kept_key n encrypting = lanes_key (first_keys n encrypting)
 
 -- a struct in order, as set_key and wipe leave it, and as zeros are: if its length is that of a key, its blocks begin
 -- with the stored round keys of one

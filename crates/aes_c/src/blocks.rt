@@ -5,7 +5,7 @@ ghost use Rattle.aes_planes.specs.Each.{Each};
 ghost use Rattle.aes_planes.specs.Fips197 as fips;
 ghost use Rattle.aes_permute.specs.Keys.{encrypting};
 ghost use Rattle.aes_permute.specs.Stored.{round_keys_of};
-ghost use Rattle.aes_c.specs.Kept.{first_keys, key_in, IsKeyLength, IsMade};
+ghost use Rattle.aes_c.specs.Kept.{first_keys, kept_key, IsKeyLength, IsMade};
 
 use crate::kept::{Aes, holds_key, keys_of};
 use crate::status::{DONE, NO_KEY, UNEQUAL_COUNTS};
@@ -45,7 +45,7 @@ pub(crate) fn process_under<D: KeptDirection>(aes: &Aes, blocks: &mut [Block]) -
     requires made { IsMade aes.now.key_length aes.now.encrypting aes.now.decrypting }
     ensures done { result ≡ DONE ↔ IsKeyLength aes.now.key_length }
     ensures refused { result ≢ DONE → result ≡ NO_KEY }
-    ensures blocks { let w = fips.key_expansion (key_in aes.now.key_length aes.now.encrypting) in
+    ensures blocks { let w = fips.key_expansion (kept_key aes.now.key_length aes.now.encrypting) in
         result ≡ DONE → Each (D.processed w) blocks.old blocks.new }
     ensures untouched { result ≢ DONE → blocks.new ≡ blocks.old }
 {
@@ -64,7 +64,7 @@ fn process_under_to<D: KeptDirection>(aes: &Aes, input: &[Block], output: &mut [
     ensures unequal { result ≡ UNEQUAL_COUNTS ↔ (length input.now ≢ length output.old) }
     ensures done { result ≡ DONE ↔ IsKeyLength aes.now.key_length × (length input.now ≡ length output.old) }
     ensures refused { result ≢ DONE → result ≢ UNEQUAL_COUNTS → result ≡ NO_KEY }
-    ensures blocks { let w = fips.key_expansion (key_in aes.now.key_length aes.now.encrypting) in
+    ensures blocks { let w = fips.key_expansion (kept_key aes.now.key_length aes.now.encrypting) in
         result ≡ DONE → Each (D.processed w) input.now output.new }
     ensures untouched { result ≢ DONE → output.new ≡ output.old }
 {
@@ -84,7 +84,7 @@ pub extern "C" fn fotsgure_aes_encrypt_blocks(aes: &Aes, blocks: &mut [Block]) -
     requires made { IsMade aes.now.key_length aes.now.encrypting aes.now.decrypting }
     ensures done { result ≡ DONE ↔ IsKeyLength aes.now.key_length }
     ensures refused { result ≢ DONE → result ≡ NO_KEY }
-    ensures blocks { let key = key_in aes.now.key_length aes.now.encrypting in
+    ensures blocks { let key = kept_key aes.now.key_length aes.now.encrypting in
         result ≡ DONE → Each (fips.cipher key) blocks.old blocks.new }
     ensures untouched { result ≢ DONE → blocks.new ≡ blocks.old }
 {
@@ -97,7 +97,7 @@ pub extern "C" fn fotsgure_aes_decrypt_blocks(aes: &Aes, blocks: &mut [Block]) -
     requires made { IsMade aes.now.key_length aes.now.encrypting aes.now.decrypting }
     ensures done { result ≡ DONE ↔ IsKeyLength aes.now.key_length }
     ensures refused { result ≢ DONE → result ≡ NO_KEY }
-    ensures blocks { let key = key_in aes.now.key_length aes.now.encrypting in
+    ensures blocks { let key = kept_key aes.now.key_length aes.now.encrypting in
         result ≡ DONE → Each (fips.inv_cipher key) blocks.old blocks.new }
     ensures untouched { result ≢ DONE → blocks.new ≡ blocks.old }
 {
@@ -115,7 +115,7 @@ pub extern "C" fn fotsgure_aes_encrypt_blocks_to(
     ensures unequal { result ≡ UNEQUAL_COUNTS ↔ (length input.now ≢ length output.old) }
     ensures done { result ≡ DONE ↔ IsKeyLength aes.now.key_length × (length input.now ≡ length output.old) }
     ensures refused { result ≢ DONE → result ≢ UNEQUAL_COUNTS → result ≡ NO_KEY }
-    ensures blocks { let key = key_in aes.now.key_length aes.now.encrypting in
+    ensures blocks { let key = kept_key aes.now.key_length aes.now.encrypting in
         result ≡ DONE → Each (fips.cipher key) input.now output.new }
     ensures untouched { result ≢ DONE → output.new ≡ output.old }
 {
@@ -133,7 +133,7 @@ pub extern "C" fn fotsgure_aes_decrypt_blocks_to(
     ensures unequal { result ≡ UNEQUAL_COUNTS ↔ (length input.now ≢ length output.old) }
     ensures done { result ≡ DONE ↔ IsKeyLength aes.now.key_length × (length input.now ≡ length output.old) }
     ensures refused { result ≢ DONE → result ≢ UNEQUAL_COUNTS → result ≡ NO_KEY }
-    ensures blocks { let key = key_in aes.now.key_length aes.now.encrypting in
+    ensures blocks { let key = kept_key aes.now.key_length aes.now.encrypting in
         result ≡ DONE → Each (fips.inv_cipher key) input.now output.new }
     ensures untouched { result ≢ DONE → output.new ≡ output.old }
 {

@@ -3,7 +3,7 @@
 ghost use Rattle.std.specs.Prelude.{◌≡◌, ◌≢◌, ◌↔◌, ◌+◌, ◌/◌, true};
 ghost use Rattle.std.specs.Prelude.{drop, length, replicate};
 ghost use Rattle.aes_hybrid.specs.Lanes.{lanes_key, IsLanes, AreInverse};
-ghost use Rattle.aes_c.specs.Kept.{first_keys, key_in, AreZeroAfter, IsKeyLength, IsMade};
+ghost use Rattle.aes_c.specs.Kept.{first_keys, kept_key, AreZeroAfter, IsKeyLength, IsMade};
 
 use crate::status::{DONE, KEY_LENGTH};
 use aes_cipher::zeroize::{Zeroize, zeroize_elements};
@@ -46,7 +46,7 @@ impl Zeroize for Aes {
     }
 }
 
-/// The stored round keys of a key of so many bytes.
+/// Returns the stored round keys of a key of `key_length` bytes: the first of the blocks.
 #[inline(always)]
 pub(crate) fn keys_of(blocks: &[Block; 15], key_length: usize) -> &[Block]
     requires { IsKeyLength key_length }
@@ -60,7 +60,7 @@ pub(crate) fn keys_of(blocks: &[Block; 15], key_length: usize) -> &[Block]
 pub(crate) fn put_keys(blocks: &mut [Block; 15], key: &[u8])
     requires { IsKeyLength (length key.now) }
     ensures lanes { IsLanes (first_keys (length key.now) blocks.new) }
-    ensures key { key_in (length key.now) blocks.new ≡ key.now }
+    ensures key { kept_key (length key.now) blocks.new ≡ key.now }
     ensures after { drop (length key.now / 4 + 7) blocks.new ≡ drop (length key.now / 4 + 7) blocks.old }
 {
     put_encrypting(&mut blocks[..key.len() / 4 + 7], key);
@@ -80,14 +80,14 @@ fn put_inverse(inverse: &mut [Block; 15], blocks: &[Block; 15], key_length: usiz
     );
 }
 
-/// Whether a key can have so many bytes.
+/// Returns whether this is the length of a key: 16, 24 or 32 bytes.
 pub(crate) fn is_key_length(bytes: usize) -> bool
     ensures { result ≡ true ↔ IsKeyLength bytes }
 {
     bytes == 16 || bytes == 24 || bytes == 32
 }
 
-/// Whether a struct holds a key.
+/// Returns whether the struct holds a key.
 pub(crate) fn holds_key(aes: &Aes) -> bool
     ensures { result ≡ true ↔ IsKeyLength aes.now.key_length }
 {
@@ -102,7 +102,7 @@ pub extern "C" fn fotsgure_aes_set_key(aes: &mut Aes, key: &[u8]) -> u32
     ensures done { result ≡ DONE ↔ IsKeyLength (length key.now) }
     ensures refused { result ≢ DONE → result ≡ KEY_LENGTH }
     ensures made { IsMade aes.new.key_length aes.new.encrypting aes.new.decrypting }
-    ensures key { result ≡ DONE → key_in aes.new.key_length aes.new.encrypting ≡ key.now }
+    ensures key { result ≡ DONE → kept_key aes.new.key_length aes.new.encrypting ≡ key.now }
     ensures length { result ≡ DONE → aes.new.key_length ≡ length key.now }
     ensures after_encrypting { result ≡ DONE → AreZeroAfter (length key.now) aes.new.encrypting }
     ensures after_decrypting { result ≡ DONE → AreZeroAfter (length key.now) aes.new.decrypting }

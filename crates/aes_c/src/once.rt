@@ -85,7 +85,8 @@ pub extern "C" fn fotsgure_aes_decrypt_blocks_with(key: &[u8], blocks: &mut [Blo
     ensures blocks { result ≡ DONE → Each (fips.inv_cipher key.now) blocks.old blocks.new }
     ensures untouched { result ≢ DONE → blocks.new ≡ blocks.old }
 {
-    if is_key_length(key.len()) && blocks.len() <= FEW {
+    // Not for keys of 24 bytes: their round keys straddle blocks, and LLVM would leave a piece of one on the stack.
+    if is_key_length(key.len()) && key.len() != 24 && blocks.len() <= FEW {
         process_few::<Decrypt>(key, blocks);
         return DONE;
     }

@@ -3,7 +3,7 @@
 ghost use Rattle.std.specs.Prelude.{◌≡◌, ◌≢◌, ◌↔◌, ◌+◌, ◌-◌, ◌^◌, ◌<◌, ◌≤◌, length};
 ghost use Rattle.aes_planes.specs.Fips197 as fips;
 ghost use Rattle.aes_ctr.specs.CounterMode.{keystream_byte, plus_stream};
-ghost use Rattle.aes_c.specs.Kept.{key_in, IsKeyLength, IsMade};
+ghost use Rattle.aes_c.specs.Kept.{kept_key, IsKeyLength, IsMade};
 
 use crate::kept::{Aes, holds_key, keys_of};
 use crate::status::{DONE, KEYSTREAM_END, NO_KEY, UNEQUAL_COUNTS};
@@ -20,7 +20,7 @@ pub struct Ctr {
     pub position: u64,
 }
 
-// What refuses so many bytes from a position on, or `DONE`.
+// Returns the status that refuses `count` bytes of keystream from a position on, or `DONE`.
 fn refusal(aes: &Aes, position: u64, count: usize) -> u32
     ensures ended { result ≡ KEYSTREAM_END ↔ (2 ^ 64 - 1 < position + count) }
     ensures done { result ≡ DONE ↔ IsKeyLength aes.now.key_length × (position + count ≤ 2 ^ 64 - 1) }
@@ -44,7 +44,7 @@ pub extern "C" fn fotsgure_aes_add_keystream(aes: &Aes, ctr: &mut Ctr, bytes: &m
     ensures ended { result ≡ KEYSTREAM_END ↔ (2 ^ 64 - 1 < ctr.old.position + length bytes.old) }
     ensures done { result ≡ DONE ↔ IsKeyLength aes.now.key_length × (ctr.old.position + length bytes.old ≤ 2 ^ 64 - 1) }
     ensures refused { result ≢ DONE → result ≢ KEYSTREAM_END → result ≡ NO_KEY }
-    ensures bytes { let w = fips.key_expansion (key_in aes.now.key_length aes.now.encrypting) in
+    ensures bytes { let w = fips.key_expansion (kept_key aes.now.key_length aes.now.encrypting) in
         result ≡ DONE → bytes.new ≡ plus_stream (keystream_byte w ctr.old.iv) ctr.old.position bytes.old }
     ensures moved { result ≡ DONE → ctr.new.position ≡ ctr.old.position + length bytes.old }
     ensures iv { ctr.new.iv ≡ ctr.old.iv }
@@ -76,7 +76,7 @@ pub extern "C" fn fotsgure_aes_add_keystream_to(
     ensures done { result ≡ DONE ↔ IsKeyLength aes.now.key_length
         × ((length input.now ≡ length output.old) × (ctr.old.position + length input.now ≤ 2 ^ 64 - 1)) }
     ensures refused { result ≢ DONE → result ≢ UNEQUAL_COUNTS → result ≢ KEYSTREAM_END → result ≡ NO_KEY }
-    ensures bytes { let w = fips.key_expansion (key_in aes.now.key_length aes.now.encrypting) in
+    ensures bytes { let w = fips.key_expansion (kept_key aes.now.key_length aes.now.encrypting) in
         result ≡ DONE → output.new ≡ plus_stream (keystream_byte w ctr.old.iv) ctr.old.position input.now }
     ensures moved { result ≡ DONE → ctr.new.position ≡ ctr.old.position + length input.now }
     ensures iv { ctr.new.iv ≡ ctr.old.iv }

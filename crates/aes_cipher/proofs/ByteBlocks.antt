@@ -15,18 +15,22 @@ use Rattle.aes_cipher.specs.Blocks.{Sixteens}
 pub first_part : {X : Type 0} (n : ℕ) (xs ys : List X) → length xs ≡ n → take n (xs ++ ys) ≡ xs
 first_part n xs ys l = ap (λ k. take k (xs ++ ys)) (sym l) ∙ take-append_seam xs ys
 
+-- what is left of two joined lists after the length of the first is the second
 pub second_part : {X : Type 0} (n : ℕ) (xs ys : List X) → length xs ≡ n → drop n (xs ++ ys) ≡ ys
 second_part n xs ys l = ap (λ k. drop k (xs ++ ys)) (sym l) ∙ drop-append_seam xs ys
 
+-- of two lists that are joined, the first eight elements are the first list, if it has eight
 pub first_half : (xs ys : List ℕ) → length xs ≡ 8 → take 8 (xs ++ ys) ≡ xs
 first_half xs ys l = first_part 8 xs ys l
 
+-- and those after the first eight are the second
 pub second_half : (xs ys : List ℕ) → length xs ≡ 8 → drop 8 (xs ++ ys) ≡ ys
 second_half xs ys l = second_part 8 xs ys l
 
+-- both halves of sixteen bytes
 pub ruleset halves = (first_half, second_half)
 
--- so many blocks are so many
+-- m chunks are m blocks
 pub length-chunks : (m : ℕ) (xs : List ℕ) → length (first_chunks 16 m xs) ≡ m
 length-chunks zero xs = refl
 length-chunks (suc m) xs = ap suc (length-chunks m (drop 16 xs))
@@ -74,6 +78,7 @@ chunks_of_joined (b ∷ bs) h =
     ∙ chunks_of_joined bs (λ i lt. h (suc i) (omega arith)) in
     (λ i. first_part 16 b (concat bs) l i ∷ rest i)
 
+-- joined blocks have sixteen bytes for each block
 pub length-joined : (bs : List (List ℕ)) → Sixteens bs → length (concat bs) ≡ 16 * length bs
 length-joined [] h = refl
 length-joined (b ∷ bs) h =
@@ -102,6 +107,7 @@ byte_of_joined bs i h lt =
     ∙ sym (byte_in_chunk (i / 16) (i % 16) (length bs) (concat bs) (omega (arith, lt)) (omega arith))
     ∙ ap (λ l. get_or (get_or l (i / 16) []) (i % 16) 0) (chunks_of_joined bs h)
 
+-- what relates bytes and blocks: joining and cutting undo each other, and where each byte stands
 pub ruleset byte_laws = (chunks_joined, parted, length-chunks, byte_in_chunk, byte_of_joined)
 
 -- what a loop leaves in the end that has come to block i: the blocks before it, and f of each from it on

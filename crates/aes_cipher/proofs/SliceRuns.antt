@@ -1,15 +1,19 @@
 -- Loops that leave f of every element of a slice, a run of elements at a time or one: what stays the same while they
 -- run.
 use Rattle.std.proofs.Common.{◌≡◌, ℕ, ◌+◌, ◌≤◌, ◌<◌, List, [], ◌∷◌, ◌++◌, map, take, drop, set, get_or, length, sym, ap}
-use Rattle.std.proofs.Common.{◌∙◌, arith, append_assoc}
+use Rattle.std.proofs.Common.{◌∙◌, ◌-◌, arith, append_assoc, refl}
 use Rattle.std.proofs.lemmas.List.{map-append, drop-drop, take-append-drop, take_more_set, drop_more, length-map}
-use Rattle.std.proofs.lemmas.List.{length-take, length-drop, drop-set-lt}
+use Rattle.std.proofs.lemmas.List.{length-take, length-drop, drop-set-lt, take_all, drop_all, append-nil}
 use Rattle.std.proofs.lemmas.Slice.{take-put_mid, drop-put_mid}
-use borrow.Rule.Slice.PartMut.{put_mid}
+use borrow.Rule.Slice.PartMut.{put_mid, same_len_mid}
 
 -- what a loop leaves in the end that has come to place i: the elements before it, and f of each from it on
 abbrev pub finished : {X : Type 0} → (X → X) → ℕ → List X → List X
 finished f i xs = take i xs ++ map f (drop i xs)
+
+-- where nothing is left, every element is finished
+pub all_finished : {X : Type 0} (f : X → X) (n : ℕ) (xs : List X) → length xs ≤ n → finished f n xs ≡ xs
+all_finished f n xs le = ap (λ l. take n xs ++ map f l) (drop_all n xs le) ∙ append-nil (take n xs) ∙ take_all n xs le
 
 -- f of a run of n elements from place i on, written in their places
 pub finished_run : {X : Type 0} (f : X → X) (i n k : ℕ) (xs ys : List X) → k ≡ n → i + n ≤ length xs → ys
@@ -36,3 +40,13 @@ finished_one f i xs d fits =
     ∙ ap (λ l. (take i xs ++ y ∷ []) ++ map f l) (drop-set-lt (i + 1) xs i y (omega arith))
     ∙ append_assoc (take i xs) (y ∷ []) _
     ∙ ap (λ l. take i xs ++ map f l) (sym (drop_more xs i d fits))
+
+-- f of each element from place n on, written in its place
+pub end_finished : {X : Type 0} (f : X → X) (n k : ℕ) (ys zs : List X) → n ≤ length ys → k ≡ length ys - n
+    → zs ≡ map f (take k (drop n ys)) → put_mid n k ys zs ≡ finished f n ys
+end_finished f n k ys zs within rest is =
+    let sized : length (put_mid n k ys zs) ≡ length ys =
+    same_len_mid n k ys zs (ap length is ∙ length-map (take k (drop n ys)) f) in
+    let long : length (put_mid n k ys zs) ≤ n + k = omega (arith, sized, rest, within) in
+    sym (all_finished f (n + k) (put_mid n k ys zs) long)
+    ∙ finished_run f n k k ys zs refl (omega (arith, rest, within)) is

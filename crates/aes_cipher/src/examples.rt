@@ -18,10 +18,19 @@ pub fn block_examples()
     ensures none { blocks_of (bytes 15 0x000102030405060708090a0b0c0d0e) ≡ [] }
 {}
 
-/// Encryption is Cipher, and decryption InvCipher (FIPS 197, 5.1 and 5.3).
+/// Encryption is Cipher, and decryption InvCipher; their rounds are those of Cipher and of EqInvCipher (FIPS 197, 5.1, 5.3
+/// and 5.3.5).
 pub fn direction_examples()
     ensures encrypt { (w : List (List ℕ)) (block : List ℕ) → ⟦<Encrypt as Direction>⟧.processed w block
         ≡ fips.cipher_with w block }
     ensures decrypt { (w : List (List ℕ)) (block : List ℕ) → ⟦<Decrypt as Direction>⟧.processed w block
         ≡ fips.inv_cipher_with w block }
+    ensures encrypt_step { (b : List ℕ) → ⟦<Encrypt as Direction>⟧.step b
+        ≡ fips.mix_columns (fips.shift_rows (fips.sub_bytes b)) }
+    ensures encrypt_last { (b : List ℕ) → ⟦<Encrypt as Direction>⟧.last_step b
+        ≡ fips.shift_rows (fips.sub_bytes b) }
+    ensures decrypt_step { (b : List ℕ) → ⟦<Decrypt as Direction>⟧.step b
+        ≡ fips.inv_mix_columns (fips.inv_shift_rows (fips.inv_sub_bytes b)) }
+    ensures decrypt_last { (b : List ℕ) → ⟦<Decrypt as Direction>⟧.last_step b
+        ≡ fips.inv_shift_rows (fips.inv_sub_bytes b) }
 {}

@@ -1,22 +1,22 @@
 -- Which block of a row a byte falls in, and sums of data and a row of blocks.
 use Rattle.std.proofs.Common.{◌≡◌, ℕ, ◌+◌, ◌*◌, ◌/◌, ◌%◌, ◌<◌, ◌≤◌, List, [], ◌++◌, length, slice_index, slice_index_or}
 use Rattle.std.proofs.Common.{map, take, drop, ap, ◌∙◌, sym, arith}
-use Rattle.std.proofs.lemmas.List.{append-nil, drop_all, get_or-map, take_all}
+use Rattle.std.proofs.lemmas.List.{get_or-map}
 use Rattle.aes_planes.specs.Fips197.{cipher_with}
 use Rattle.aes_cipher.proofs.FirstBlocks.{first_at}
-use Rattle.aes_cipher.proofs.SliceRuns.{finished}
+use Rattle.aes_cipher.proofs.SliceRuns.{finished, all_finished}
 use Rattle.aes_ctr.specs.CounterMode.{counter_block, keystream_byte, plus_stream}
 use Rattle.aes_ctr.specs.Private.{byte_of_blocks}
 use Rattle.aes_ctr.proofs.Sums.{plus-agree}
 
--- a byte of the block that place p falls in
-pub byte_of_block : (blocks : List (List ℕ)) (p i : ℕ) → p % 16 + i < 16
-    → slice_index (slice_index_or blocks (p / 16) []) (p % 16 + i) ≡ byte_of_blocks blocks (p + i)
+-- a byte of the block that place p falls in, as its byte q
+pub byte_of_block : (blocks : List (List ℕ)) (p q i : ℕ) → q ≡ p % 16 → q + i < 16
+    → slice_index (slice_index_or blocks (p / 16) []) (q + i) ≡ byte_of_blocks blocks (p + i)
 unfolding byte_of_blocks
-byte_of_block blocks p i inside =
+byte_of_block blocks p q i at inside =
     let block : p / 16 ≡ (p + i) / 16 = omega arith in
-    let place : p % 16 + i ≡ (p + i) % 16 = omega arith in
-    ap (λ m. slice_index (slice_index_or blocks m []) (p % 16 + i)) block
+    let place : q + i ≡ (p + i) % 16 = omega arith in
+    ap (λ m. slice_index (slice_index_or blocks m []) (q + i)) block
     ∙ ap (slice_index (slice_index_or blocks ((p + i) / 16) [])) place
 
 -- blocks of the keystream, from the one that place p falls in, hold the bytes of the keystream
@@ -60,9 +60,8 @@ pub ciphered : (w : List (List ℕ)) (iv : List ℕ) (first n k m : ℕ) (xs cou
     → slice_index_or xs k [] ≡ cipher_with w (counter_block iv (first + k))
 ciphered w iv first n k m xs counted end kept long at lt =
     let f = cipher_with w in
-    let all : finished f n xs ≡ xs = ap (λ l. l ++ map f (drop n xs)) (take_all n xs end)
-    ∙ ap (λ l. xs ++ map f l) (drop_all n xs end) ∙ append-nil xs in
-    ap (λ l. slice_index_or l k []) (sym all ∙ kept) ∙ get_or-map f counted k [] [] (omega (arith, long))
+    ap (λ l. slice_index_or l k []) (sym (all_finished f n xs end) ∙ kept)
+    ∙ get_or-map f counted k [] [] (omega (arith, long))
     ∙ ap f (at k lt)
 
 -- where the first counter blocks of a batch are ciphered, they are blocks of the keystream

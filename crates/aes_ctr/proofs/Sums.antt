@@ -9,10 +9,12 @@ use Rattle.std.specs.List.{concat}
 use Rattle.aes_planes.proofs.Lists.{build_is, length-build, get_or-build}
 use Rattle.aes_ctr.specs.CounterMode.{plus_stream, pieces_plus_stream}
 
+-- a list plus a stream has the length of the list
 pub length-plus : (s : ℕ → ℕ) (p : ℕ) (xs : List ℕ) → length (plus_stream s p xs) ≡ length xs
 unfolding plus_stream
 length-plus s p xs = length-build (length xs) _
 
+-- byte i of it is byte i of the list plus what the stream has i places on
 pub get_or-plus : (s : ℕ → ℕ) (p : ℕ) (xs : List ℕ) (i : ℕ) → i < length xs
     → get_or (plus_stream s p xs) i 0 ≡ bit_xor (get_or xs i 0) (s (p + i))
 unfolding plus_stream
@@ -24,9 +26,11 @@ pub plus_is : (s : ℕ → ℕ) (p : ℕ) (xs ys : List ℕ) → length ys ≡ l
 unfolding plus_stream
 plus_is s p xs ys l h = build_is (length xs) _ ys 0 l h
 
+-- no bytes plus a stream are none
 pub plus-nil : (s : ℕ → ℕ) (p : ℕ) → plus_stream s p [] ≡ []
 plus-nil s p = plus_is s p [] [] refl (λ i h. absurd (omega arith))
 
+-- the first byte is summed with the stream's first, and the rest with the stream from the next place on
 pub plus-cons : (s : ℕ → ℕ) (p x : ℕ) (xs : List ℕ) → plus_stream s p (x ∷ xs) ≡ bit_xor x (s p)
     ∷ plus_stream s (p + 1) xs
 plus-cons s p x xs = plus_is s p (x ∷ xs) (bit_xor x (s p) ∷ plus_stream s (p + 1) xs)
@@ -38,6 +42,7 @@ plus-cons s p x xs = plus_is s p (x ∷ xs) (bit_xor x (s p) ∷ plus_stream s (
     places (suc i) h = ap (λ m. bit_xor (get_or xs i 0) (s m)) (omega arith)
         ∙ sym (get_or-plus s (p + 1) xs i (omega arith))
 
+-- two lists, joined, are summed one after the other, the second from where the first ends
 pub plus-append : (s : ℕ → ℕ) (p : ℕ) (xs ys : List ℕ) → plus_stream s p (xs ++ ys) ≡ plus_stream s p xs
     ++ plus_stream s (p + length xs) ys
 plus-append s p [] ys = ap (λ m. plus_stream s m ys) (omega arith) ∙ ap (λ l. l ++ plus_stream s (p + 0) ys)

@@ -21,7 +21,7 @@ fn block_of(number: u128) -> Block
     bytes.reverse().to_array()
 }
 
-// Leaves the counter blocks from the first on.
+// Writes counter blocks, from number `first` on.
 #[tactic(auto, using(crate::proofs::Counters::counted))]
 #[inline(always)]
 pub(crate) fn count_on(iv: &Block, first: u64, blocks: &mut [Block])
@@ -34,7 +34,7 @@ pub(crate) fn count_on(iv: &Block, first: u64, blocks: &mut [Block])
     }
 }
 
-// Leaves the blocks of the keystream from the first on: the cipher of each counter block.
+// Writes blocks of the keystream, from number `first` on: each counter block encrypted.
 pub(crate) fn fill_with_keystream<C: BlockCipherEncrypt>(
     cipher: &C,
     iv: &Block,
@@ -48,8 +48,8 @@ pub(crate) fn fill_with_keystream<C: BlockCipherEncrypt>(
     cipher.encrypt_blocks(blocks);
 }
 
-// Leaves the first blocks of the keystream from one on, `count` of them, by a backend: as the first of a batch, or one
-// by one. A call of its own, so that whole batches, which don't need it, are inlined.
+// Writes `count` blocks of the keystream, from number `first` on, with a backend: as the first of a batch, or one by
+// one. A call of its own, so that whole batches, which don't need it, are inlined.
 #[tactic(auto, using(crate::proofs::Places::ciphered, crate::proofs::Places::ciphered_first, aes_cipher::proofs::SliceRuns::finished_one))]
 pub(crate) fn fill_by_backend<B: BlockCipherEncBackend>(
     backend: &B,

@@ -1,20 +1,7 @@
 -- Slices of which a part is processed first, and then what is left.
 use Rattle.std.proofs.Common.{◌≡◌, ℕ, zero, suc, ◌-◌, ◌+◌, ◌<◌, ◌≤◌, List, [], ◌∷◌, ◌++◌, length, map, take, drop}
 use Rattle.std.proofs.Common.{get_or, set, refl, sym, ap, ◌∙◌, arith}
-use Rattle.std.proofs.lemmas.List.{length-map}
-use borrow.Rule.Slice.PartMut.{put_mid, same_len_mid}
-use Rattle.aes_cipher.proofs.SliceRuns.{finished, finished_run}
-use Rattle.aes_soft.proofs.Slices.{all_finished}
-
--- f of each element from place n on, written in its place
-pub end_finished : {X : Type 0} (f : X → X) (n k : ℕ) (ys zs : List X) → n ≤ length ys → k ≡ length ys - n
-    → zs ≡ map f (take k (drop n ys)) → put_mid n k ys zs ≡ finished f n ys
-end_finished f n k ys zs within rest is =
-    let sized : length (put_mid n k ys zs) ≡ length ys =
-    same_len_mid n k ys zs (ap length is ∙ length-map (take k (drop n ys)) f) in
-    let long : length (put_mid n k ys zs) ≤ n + k = omega (arith, sized, rest, within) in
-    sym (all_finished f (n + k) (put_mid n k ys zs) long)
-    ∙ finished_run f n k k ys zs refl (omega (arith, rest, within)) is
+use Rattle.aes_cipher.proofs.SliceRuns.{finished}
 
 -- where f of each element from place i on stands in its place, the element at that place, written back
 pub one_back : {X : Type 0} (f : X → X) (i k : ℕ) (xs ys : List X) (d : X) → i < length xs → i + 1 ≡ k

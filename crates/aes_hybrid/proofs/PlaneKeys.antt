@@ -1,12 +1,13 @@
 -- Round keys of vector permutations, as planes store them.
 use Rattle.std.proofs.Common.{◌≡◌, inl, inr, ℕ, ◌-◌, ◌*◌, ◌%◌, ◌<◌, ◌≤◌, Bool, List, [], ◌∷◌, length}
-use Rattle.std.proofs.Common.{map, map-id, replicate, refl, ap, sym, ◌∙◌, arith}
+use Rattle.std.proofs.Common.{map, map-id, replicate, refl, ap, subst, sym, ◌∙◌, arith}
 use Rattle.aes_planes.specs.Fips197 as fips
 use Rattle.aes_planes.specs.Planes.{held, plus63, words_at}
+use Rattle.aes_planes.proofs.Shifts.Deferred.{plus63_twice}
 use Rattle.aes_planes.proofs.Standard.FieldLaws.{add_twice}
 use Rattle.aes_planes.proofs.Standard.Steps.{map_length}
 use Rattle.aes_soft.specs.Stored.{full, key_of, rounds_of, size_of, stored_key, IsKeyed, IsSchedule, HoldsBlocks}
-use Rattle.aes_soft.proofs.KeyOfPlanes.{key_of-schedule, keyed}
+use Rattle.aes_soft.proofs.KeyOfPlanes.{key_of-schedule}
 use Rattle.aes_soft.proofs.StoredRoundKeys.{deferred_below, deferred_last, stored_first, stored_later}
 use Rattle.aes_soft.proofs.WordsInPlace.{held_at, HoldsAt}
 use Rattle.aes_permute.specs.Keys.{encrypting}
@@ -15,16 +16,13 @@ use Rattle.aes_permute.proofs.States.{keys_length, first_key, inner_key, last_ke
 use Rattle.aes_hybrid.specs.Lanes.{lanes_key, IsLanes}
 use Rattle.aes_hybrid.proofs.Shifted.{times_map}
 
-plus63_twice : (x : List ℕ) → map plus63 (map plus63 x) ≡ x
-plus63_twice [] = refl
-plus63_twice (b ∷ x) = λ i. add_twice b 0x63 i ∷ plus63_twice x i
-
 untower_of_key : (x : List ℕ) → map plus63 (map key_untower x) ≡ map untower x
 unfolding key_untower
 untower_of_key [] = refl
 untower_of_key (b ∷ x) = λ i. add_twice (untower b) 0x63 i ∷ untower_of_key x i
 
 module _ (stored : List (List ℕ)) (two : 2 ≤ length stored) where
+  -- how many rounds these stored round keys serve
   abbrev pub rounds_made : ℕ
   rounds_made = length stored - 1
 
@@ -32,25 +30,25 @@ module _ (stored : List (List ℕ)) (two : 2 ≤ length stored) where
   abbrev pub wanted : ℕ → List ℕ
   wanted i = stored_key (full rounds_made) (encrypting stored) i
 
+  -- the first is as planes store it
   pub first_wanted : fips.round_key stored 0 ≡ wanted 0
   first_wanted =
       sym (stored_first (full rounds_made) (encrypting stored) (deferred_below rounds_made 4 0 0 (omega arith) refl)
       ∙ first_key as_is key_untower plus63 stored (omega (arith, two)) ∙ map-id (fips.round_key stored 0))
 
+  -- one between is, once it is taken out of the tower basis and shifted back i mod 4 times
   pub inner_wanted : (i : ℕ) → 1 ≤ i → i < rounds_made → length (fips.round_key stored i) ≡ 16
       → fips.inv_shift_times (i % 4) (map untower (fips.round_key stored i)) ≡ wanted i
   inner_wanted i some below sized =
       let s = fips.round_key stored i in
-      let long : length (map key_untower s) ≡ 16 = map_sized s sized in
+      let long : length (map key_untower s) ≡ 16 = map_length key_untower s ∙ sized in
       sym (stored_later (full rounds_made) (encrypting stored) i (i % 4) (omega (arith, some))
       (deferred_below rounds_made 4 i (i % 4) below refl)
       ∙ ap (λ v. map plus63 (fips.inv_shift_times (i % 4) v))
       (inner_key as_is key_untower plus63 stored i some below)
       ∙ times_map plus63 (i % 4) (map key_untower s) long ∙ ap (fips.inv_shift_times (i % 4)) (untower_of_key s))
-    where
-      map_sized : (s : List ℕ) → length s ≡ 16 → length (map key_untower s) ≡ 16
-      map_sized s l = map_length key_untower s ∙ l
 
+  -- and the last is as planes store it
   pub last_wanted : (i : ℕ) → i ≡ rounds_made → fips.round_key stored i ≡ wanted i
   unfolding fips.inv_shift_times
   last_wanted i e =
@@ -65,26 +63,17 @@ put_at bits n rk o p x y at h e = held_at bits n rk (words_at rk o) o p y at ref
 
 -- there are two round keys and more
 pub two_lanes : (stored : List (List ℕ)) → IsLanes stored → 2 ≤ length stored
-two_lanes stored lanes = elim lanes.one_of_three [
-  | inl e ↦ omega (arith, e)
-  | inr other ↦ elim other [ inl e ↦ omega (arith, e) | inr e ↦ omega (arith, e) ]
-]
+two_lanes stored lanes = omega (arith, lanes.one_of_three)
 
 -- words that hold all of them
 module _ (n : ℕ) (some : 1 ≤ n) (planes : List (List Bool)) (stored : List (List ℕ)) (lanes : IsLanes stored) (words : ℕ)
     (sized : words ≡ 8 * length stored)
     (holds : HoldsBlocks n (length stored) (stored_key (full (length stored - 1)) (encrypting stored)) planes) where
   least : 11 ≤ length stored
-  least = elim lanes.one_of_three [
-    | inl e ↦ omega (arith, e)
-    | inr other ↦ elim other [ inl e ↦ omega (arith, e) | inr e ↦ omega (arith, e) ]
-  ]
+  least = omega (arith, lanes.one_of_three)
 
   most : length stored ≤ 15
-  most = elim lanes.one_of_three [
-    | inl e ↦ omega (arith, e)
-    | inr other ↦ elim other [ inl e ↦ omega (arith, e) | inr e ↦ omega (arith, e) ]
-  ]
+  most = omega (arith, lanes.one_of_three)
 
   is_schedule : IsSchedule n (full (rounds_of words)) (lanes_key stored) planes
   is_schedule i lt =
@@ -96,16 +85,15 @@ module _ (n : ℕ) (some : 1 ≤ n) (planes : List (List Bool)) (stored : List (
   same_size : length (lanes_key stored) ≡ size_of words
   same_size = lanes.keyed.sized ∙ omega (arith, sized)
 
-  pub planes_keyed : IsKeyed (size_of words) n (full (rounds_of words)) planes
-  planes_keyed =
-      keyed n (full (rounds_of words)) some
-      (deferred_below (rounds_of words) 4 0 0 (omega (arith, sized, least)) refl) planes (size_of words)
-      (rounds_of words - 6) (lanes_key stored) refl same_size (omega (arith, sized, least)) (omega (arith, sized, most))
-      is_schedule
-
+  -- planes that hold them in the full layout are read as the key that the stored round keys are read as
   pub planes_key : key_of (size_of words) n (full (rounds_of words)) planes ≡ lanes_key stored
   planes_key =
       key_of-schedule n (full (rounds_of words)) some
       (deferred_below (rounds_of words) 4 0 0 (omega (arith, sized, least)) refl) planes (size_of words)
       (rounds_of words - 6) (lanes_key stored) refl same_size (omega (arith, sized, least)) (omega (arith, sized, most))
       is_schedule
+
+  -- and are the schedule of that key
+  pub planes_keyed : IsKeyed (size_of words) n (full (rounds_of words)) planes
+  planes_keyed =
+      subst (λ key. IsSchedule n (full (rounds_of words)) key planes) (sym planes_key) is_schedule

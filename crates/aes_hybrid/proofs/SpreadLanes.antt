@@ -2,6 +2,7 @@
 use Rattle.std.proofs.Common.{◌≡◌, ℕ, ◌+◌, ◌*◌, ◌^◌, ◌<◌, ◌==◌, Bool, true, false, cond, nat_eq, bit_and}
 use Rattle.std.proofs.Common.{List, [], ◌∷◌, ◌++◌, length, map, get_or, replicate, refl, ap, sym, subst, ◌∙◌, arith, w8, Fits}
 use Rattle.std.proofs.lemmas.Bool.{eqb-true}
+use Rattle.std.proofs.lemmas.List.{get_or-map, length-map}
 use Rattle.std.proofs.lemmas.Simd.{get_or-zip2, get_or-replicate, get_or-sel_l, length-zip2, tops_compared}
 use lib.Lanes.{zip2, pick_l, sel_l, top, Each1}
 use Rattle.aes_planes.specs.Bits.{at, bit}
@@ -9,10 +10,10 @@ use Rattle.aes_planes.specs.Fips197 as fips
 use Rattle.aes_planes.specs.Planes.{held, place}
 use Rattle.aes_planes.specs.Private.Lanes.{lane_bits}
 use Rattle.aes_planes.proofs.Bits.ByteCases.{all_below, all_pairs_tell, by_four, by_eight}
-use Rattle.aes_planes.proofs.Bits.NumberBits.{bit_zero, bit_ones}
 use Rattle.aes_planes.proofs.Lists.{built}
 use Rattle.aes_planes.proofs.Planes.Holds.{holds_held}
 use Rattle.aes_planes.proofs.Words.LaneBits.{lane_at, lane_of_splat, length-splat, lane_small}
+use Rattle.aes_planes.proofs.Words.Spread.{lane_of_ones}
 
 -- a lane of ones where a byte has a bit
 abbrev lane_if : ℕ → ℕ → ℕ
@@ -36,6 +37,7 @@ ones_where x m = chosen (map (top 7) (zip2 (λ a b. cond (nat_eq a b) 255 0) (zi
 abbrev one_or_none : Bool → ℕ
 one_or_none b = cond b 255 0
 
+-- a test of each lane for bit p leaves 255 where the byte has that bit, and 0 elsewhere
 pub lane_with : (x : List ℕ) (m p j : ℕ) → length x ≡ 16 → Each1 (Fits w8) x → m ≡ 2 ^ p → p < 8 → j < 16
     → get_or (ones_where x m) j 0 ≡ one_or_none (bit (get_or x j 0) p)
 lane_with x m p j d f e hp hj =
@@ -56,6 +58,7 @@ lane_with x m p j d f e hp hj =
 abbrev pub row_by_row : List ℕ
 row_by_row = 0 ∷ 4 ∷ 8 ∷ 12 ∷ 1 ∷ 5 ∷ 9 ∷ 13 ∷ 2 ∷ 6 ∷ 10 ∷ 14 ∷ 3 ∷ 7 ∷ 11 ∷ 15 ∷ []
 
+-- byte r, c of a block stands in lane 4 r + c, once its lanes are picked row by row
 abbrev pub AtRow : List ℕ → ℕ → ℕ → Type 0
 AtRow x r c = get_or (pick_l 0 (x ++ x) row_by_row) (4 * r + c) 0 ≡ fips.byte_at x r c
 
@@ -68,12 +71,9 @@ place_of_built f r c hr hc =
     (by_four (AtRow (fips.build 16 f) 2) refl refl refl refl c hc)
     (by_four (AtRow (fips.build 16 f) 3) refl refl refl refl c hc) r hr
 
+-- and so it is for each block
 pub row_place : (x : List ℕ) → length x ≡ 16 → (r c : ℕ) → r < 4 → c < 4 → AtRow x r c
 row_place x l r c hr hc = subst (λ y. AtRow y r c) (built 16 x 0 l) (place_of_built (λ i. get_or x i 0) r c hr hc)
-
-lane_of_ones : (b : Bool) (p : ℕ) → p < 8 → bit (cond b 255 0) p ≡ b
-lane_of_ones true p h = bit_ones 8 p h
-lane_of_ones false p h = bit_zero p
 
 -- lanes of ones where the bytes of a block, row by row, have bit p
 abbrev pub HasBit : List ℕ → ℕ → List ℕ → Type 0
@@ -88,22 +88,16 @@ module _ (block rows : List ℕ) (typed : fips.IsBlock block)
       ∙ ap (λ v. bit v k) (has (4 * r + c) (omega arith)) ∙ lane_of_ones _ k hk
       ∙ ap (λ v. bit v p) (by_row r c hr hc ∙ ap (λ b. fips.byte_at b r c) (sym (get_or-replicate 8 k block [] hk)))
 
-  pub spread_held : (x0 x1 x2 x3 x4 x5 x6 x7 : List ℕ) → HasBit rows 0 x0 → HasBit rows 1 x1 → HasBit rows 2 x2
-      → HasBit rows 3 x3 → HasBit rows 4 x4 → HasBit rows 5 x5 → HasBit rows 6 x6 → HasBit rows 7 x7
-      → held 8 (lane_bits x0 ∷ lane_bits x1 ∷ lane_bits x2 ∷ lane_bits x3 ∷ lane_bits x4 ∷ lane_bits x5 ∷ lane_bits x6
-      ∷ lane_bits x7 ∷ []) ≡ replicate 8 block
-  spread_held x0 x1 x2 x3 x4 x5 x6 x7 h0 h1 h2 h3 h4 h5 h6 h7 =
-      let planes : List (List Bool) = lane_bits x0 ∷ lane_bits x1 ∷ lane_bits x2 ∷ lane_bits x3 ∷ lane_bits x4
-      ∷ lane_bits x5 ∷ lane_bits x6 ∷ lane_bits x7 ∷ [] in
-      holds_held 8 planes (replicate 8 block) (record {
-        planes_count = refl;
+  -- eight words, of which word p has ones where the bytes have bit p, hold the block in each of eight slots
+  pub spread_held : (xs : List (List ℕ)) → length xs ≡ 8 → ((p : ℕ) → p < 8 → HasBit rows p (get_or xs p []))
+      → held 8 (map lane_bits xs) ≡ replicate 8 block
+  spread_held xs eight has =
+      holds_held 8 (map lane_bits xs) (replicate 8 block) (record {
+        planes_count = length-map xs lane_bits ∙ eight;
         blocks_count = refl;
         block_length = λ k hk. ap length (get_or-replicate 8 k block [] hk) ∙ typed.0;
         bytes = λ k hk. subst fips.IsBytes (sym (get_or-replicate 8 k block [] hk)) typed.1;
-        bits = λ p r c k hp hr hc hk. by_eight (λ p. at (get_or planes p []) (place 8 r c k)
-            ≡ bit (fips.byte_at (get_or (replicate 8 block) k []) r c) p)
-            (spread_bit x0 0 h0 r c k hr hc hk) (spread_bit x1 1 h1 r c k hr hc hk)
-            (spread_bit x2 2 h2 r c k hr hc hk) (spread_bit x3 3 h3 r c k hr hc hk)
-            (spread_bit x4 4 h4 r c k hr hc hk) (spread_bit x5 5 h5 r c k hr hc hk)
-            (spread_bit x6 6 h6 r c k hr hc hk) (spread_bit x7 7 h7 r c k hr hc hk) p hp;
+        bits = λ p r c k hp hr hc hk.
+            ap (λ w. at w (place 8 r c k)) (get_or-map lane_bits xs p [] [] (omega (arith, eight, hp)))
+            ∙ spread_bit (get_or xs p []) p (has p hp) r c k hr hc hk;
       })

@@ -118,7 +118,7 @@ fn process_with_planes<const N: usize, D: LaneRounds + FullCipher>(
     wide.wipe();
 }
 
-// The same, with no more room than the round keys take. A call of its own, so that few blocks need no large frame.
+// Does the same in an array no larger than the round keys. Not inlined, so that few blocks need no large stack frame.
 #[inline(never)]
 fn process_on_planes<D: LaneRounds + FullCipher>(keys: &[Block], blocks: &mut [Block])
     requires is_lanes { IsLanes keys.now }

@@ -8,6 +8,7 @@ use aes_permute::schedule::{expand_128, expand_192, expand_256, invert};
 use aes_planes::soft::word::Block;
 
 /// Writes the stored round keys of Cipher of a key: KeyExpansion (FIPS 197, 5.2).
+#[tactic(auto, using(crate::proofs::LaneKeys::keyed_lanes))]
 pub fn put_encrypting(keys: &mut [Block], key: &[u8])
     requires one_of_three { (length key.now ≡ 16) ⊎ ((length key.now ≡ 24) ⊎ (length key.now ≡ 32)) }
     requires sized { length keys.old ≡ length key.now / 4 + 7 }
@@ -25,6 +26,7 @@ pub fn put_encrypting(keys: &mut [Block], key: &[u8])
 }
 
 /// Writes the stored round keys of EqInvCipher, of the same key (FIPS 197, 5.3.5).
+#[tactic(auto, using(crate::proofs::PlaneKeys::two_lanes))]
 pub fn put_decrypting(inverse: &mut [Block], keys: &[Block])
     requires is_lanes { IsLanes keys.now }
     requires sized { length inverse.old ≡ length keys.now }

@@ -18,6 +18,7 @@ use aes_soft::soft::key_sizes::BatchWord;
 use std::simd::prelude::*;
 
 // InvShiftRows of a block (FIPS 197, 5.3.1).
+#[tactic(auto, using(crate::proofs::Shifted::shifted_is))]
 #[inline(always)]
 fn shifted_back(x: u8x16) -> u8x16
     requires { length x ≡ 16 }
@@ -26,7 +27,8 @@ fn shifted_back(x: u8x16) -> u8x16
     x.swizzle([0, 13, 10, 7, 4, 1, 14, 11, 8, 5, 2, 15, 12, 9, 6, 3])
 }
 
-// InvShiftRows of a block so many times.
+// Applies InvShiftRows to a block `times` times.
+#[tactic(auto, using(crate::proofs::Shifted::one_by_one))]
 #[inline(always)]
 fn shifted_back_times(x: u8x16, times: usize) -> u8x16
     requires below_four { times < 4 }
@@ -34,14 +36,15 @@ fn shifted_back_times(x: u8x16, times: usize) -> u8x16
     ensures { result ≡ fips.inv_shift_times times x }
 {
     if times == 1 {
-        shifted_back(x)
-    } else if times == 2 {
-        shifted_back(shifted_back(x))
-    } else if times == 3 {
-        shifted_back(shifted_back(shifted_back(x)))
-    } else {
-        x
+        return shifted_back(x);
     }
+    if times == 2 {
+        return shifted_back(shifted_back(x));
+    }
+    if times == 3 {
+        return shifted_back(shifted_back(shifted_back(x)));
+    }
+    x
 }
 
 // The block that planes hold for a stored round key of Cipher between the first and the last: it has the constant of
@@ -88,7 +91,7 @@ pub fn put_planes(words: &mut [BatchWord], keys: &[Block])
     put_block(words, last, u8x16::from_array(keys[last]));
 }
 
-// The same, to the first words of an array.
+// Writes the same to the first words of an array.
 #[inline(always)]
 pub(crate) fn put_wide<const N: usize>(wide: &mut [BatchWord; N], keys: &[Block])
     requires room { 8 * length keys.now ≤ N }

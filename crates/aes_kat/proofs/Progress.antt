@@ -47,6 +47,7 @@ rest_answered (x ∷ line) lacks =
     ∙ append-nil (reply_to (x ∷ line) ++ 10 ∷ [])
     ∙ ap (λ b. if b then [] else reply_to (x ∷ line) ++ 10 ∷ []) (sym (some_byte x line))
 
+-- and it is at fault if it is not empty and its line is
 pub rest_faults : (line : List ℕ) → Lacks 10 line
     → has_fault line ≡ (if length line == 0 then false else is_fault line)
 unfolding has_fault lines_of
@@ -55,6 +56,7 @@ rest_faults (x ∷ line) lacks =
     ap (list_any is_fault) (lines_of-last x line lacks) ∙ or-false (is_fault (x ∷ line))
     ∙ ap (λ b. if b then false else is_fault (x ∷ line)) (sym (some_byte x line))
 
+-- both, and the steps that are common to all proofs
 pub ruleset rest_calls = (rest_answered, rest_faults, common_steps)
 
 -- one line is answered

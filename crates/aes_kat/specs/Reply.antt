@@ -79,25 +79,25 @@ takes_two InverseMix = false
 takes_two Schedule = false
 
 -- what a line asks for: a command and the words after it, the second empty if there is none
-pub record Asked : Type 0 where
+pub record Request : Type 0 where
   pub command : Command
   pub first : List ℕ
   pub second : List ℕ
 
 -- what is asked, if the command takes that many words
-abbrev pub asked_if : Bool → Asked → Result Asked Fault
-asked_if true asked = Ok asked
-asked_if false asked = Err fault.Command
+abbrev pub request_if : Bool → Request → Result Request Fault
+request_if true asked = Ok asked
+request_if false asked = Err fault.Command
 
 -- what a line of these words asks for
-unfoldable pub request_of : List (List ℕ) → Result Asked Fault
+unfoldable pub request_of : List (List ℕ) → Result Request Fault
 unfolding first_named
 request_of (name ∷ first ∷ []) = do
   command ← or_command_fault (command_of name)
-  asked_if (takes_one command) (record { command = command; first = first; second = [] })
+  request_if (takes_one command) (record { command = command; first = first; second = [] })
 request_of (name ∷ first ∷ second ∷ []) = do
   command ← or_command_fault (command_of name)
-  asked_if (takes_two command) (record { command = command; first = first; second = second })
+  request_if (takes_two command) (record { command = command; first = first; second = second })
 request_of _ = Err fault.Command
 
 -- ---- the bytes of the words after a command
@@ -116,29 +116,29 @@ abbrev pub is_key_size : ℕ → Bool
 is_key_size size = (size == 16) || (size == 24) || (size == 32)
 
 -- the bytes, if they are as many as those of a key
-abbrev pub key_of : List ℕ → Result (List ℕ) Fault
-key_of bytes = if is_key_size (length bytes) then Ok bytes else Err fault.Key
+abbrev pub key_operand : List ℕ → Result (List ℕ) Fault
+key_operand bytes = if is_key_size (length bytes) then Ok bytes else Err fault.Key
 
 -- the bytes, if they are the sixteen of a block
-abbrev pub block_of : List ℕ → Result (List ℕ) Fault
-block_of bytes = if length bytes == 16 then Ok bytes else Err fault.Block
+abbrev pub block_operand : List ℕ → Result (List ℕ) Fault
+block_operand bytes = if length bytes == 16 then Ok bytes else Err fault.Block
 
 -- whether whole blocks, 64 at most, may have this many bytes
 abbrev pub is_size_of_blocks : ℕ → Bool
 is_size_of_blocks size = (size % 16 == 0) && nat_le size (16 * 64)
 
 -- the blocks that the bytes are, if they are whole blocks and 64 at most
-abbrev pub blocks_of : List ℕ → Result (List (List ℕ)) Fault
-blocks_of bytes =
+abbrev pub blocks_operand : List ℕ → Result (List (List ℕ)) Fault
+blocks_operand bytes =
     if is_size_of_blocks (length bytes) then Ok (first_chunks 16 (length bytes / 16) bytes) else Err fault.Block
 
 -- ---- answers
 
--- what a cipher under a key makes of each block, joined
+-- a cipher of each block under a key, in hexadecimal digits, joined
 abbrev pub block_by_block : (List ℕ → List ℕ → List ℕ) → List ℕ → List ℕ → Result (List ℕ) Fault
 block_by_block cipher key_bytes block_bytes = do
-  key ← key_of key_bytes
-  blocks ← blocks_of block_bytes
+  key ← key_operand key_bytes
+  blocks ← blocks_operand block_bytes
   Ok (flat_map encode_lower (map (cipher key) blocks))
 
 -- the answer of a command to the bytes of the words after it
@@ -146,21 +146,21 @@ unfoldable pub answer_of : Command → List ℕ → List ℕ → Result (List �
 answer_of Encrypt key_bytes block_bytes = block_by_block fips.cipher key_bytes block_bytes
 answer_of Decrypt key_bytes block_bytes = block_by_block fips.inv_cipher key_bytes block_bytes
 answer_of Round block_bytes key_bytes = do
-  block ← block_of block_bytes
-  key ← block_of key_bytes
+  block ← block_operand block_bytes
+  key ← block_operand key_bytes
   Ok (encode_lower (cipher_round block key))
 answer_of InverseRound block_bytes key_bytes = do
-  block ← block_of block_bytes
-  key ← block_of key_bytes
+  block ← block_operand block_bytes
+  key ← block_operand key_bytes
   Ok (encode_lower (equiv_inv_cipher_round block key))
 answer_of Mix block_bytes none = do
-  block ← block_of block_bytes
+  block ← block_operand block_bytes
   Ok (encode_lower (fips.mix_columns block))
 answer_of InverseMix block_bytes none = do
-  block ← block_of block_bytes
+  block ← block_operand block_bytes
   Ok (encode_lower (fips.inv_mix_columns block))
 answer_of Schedule key_bytes none = do
-  key ← key_of key_bytes
+  key ← key_operand key_bytes
   Ok (join_with_byte 32 (map encode_lower (fips.key_expansion key)))
 
 -- the answer to a line, or the first fault of its command, digits, key and block

@@ -2,7 +2,7 @@
 ghost use Rattle.std.specs.Prelude.{◌≡◌};
 ghost use Rattle.aes_kat.specs.Reply.{command_of, name_of, takes_one, takes_two};
 
-// What a line asks for.
+// A command.
 #[derive(Clone, Copy, PartialEq, Eq, Debug)]
 pub(crate) enum Command {
     Encrypt,

@@ -4,13 +4,14 @@ ghost use Rattle.hex.specs.Hex.{decode_of};
 ghost use Rattle.aes_planes.specs.Each.{Each};
 ghost use Rattle.aes_planes.specs.Fips197 as fips;
 ghost use Rattle.aes_kat.specs.Private.Keys.{key_bytes};
-ghost use Rattle.aes_kat.specs.Reply.{key_of};
+ghost use Rattle.aes_kat.specs.Reply.{key_operand};
 ghost use Rattle.aes_kat.specs.Private.Steps.{decoded};
 
 use crate::faults::Fault;
 use crate::operands::bytes_of;
-use aes::{Aes128Dec, Aes128Enc, Aes192Dec, Aes192Enc, Aes256Dec, Aes256Enc, Block};
-use aes_cipher::cipher::{BlockCipherDecrypt, BlockCipherEncrypt, KeyInit};
+use aes::{AesCipher, Block};
+use aes_cipher::cipher::{BlockCipherDecrypt, BlockCipherEncrypt, Decrypt, Encrypt, KeyInit};
+use aes_soft::soft::key_sizes::{AesVariant, Bits128, Bits192, Bits256};
 
 // A key, by how many bits it has.
 #[derive(Clone, Copy)]
@@ -26,8 +27,8 @@ impl Key {
     pub(crate) fn of_digits(word: &[u8]) -> Result<Key, Fault>
         requires { is_ok (decode_of word.now) ≡ true }
         ensures { MatchResult result
-            (λ key. key_of (decoded word.now) ≡ Ok (key_bytes key))
-            (λ fault. key_of (decoded word.now) ≡ Err fault) }
+            (λ key. key_operand (decoded word.now) ≡ Ok (key_bytes key))
+            (λ fault. key_operand (decoded word.now) ≡ Err fault) }
     {
         // Two digits are a byte.
         match word.len() {
@@ -43,9 +44,9 @@ impl Key {
         ensures { Each (fips.cipher (key_bytes self.now)) blocks.old blocks.new }
     {
         match self {
-            Key::Bits128(key) => encrypt_with::<Aes128Enc>(key, blocks),
-            Key::Bits192(key) => encrypt_with::<Aes192Enc>(key, blocks),
-            Key::Bits256(key) => encrypt_with::<Aes256Enc>(key, blocks),
+            Key::Bits128(key) => encrypt_with::<Bits128>(key, blocks),
+            Key::Bits192(key) => encrypt_with::<Bits192>(key, blocks),
+            Key::Bits256(key) => encrypt_with::<Bits256>(key, blocks),
         }
     }
 
@@ -54,23 +55,24 @@ impl Key {
         ensures { Each (fips.inv_cipher (key_bytes self.now)) blocks.old blocks.new }
     {
         match self {
-            Key::Bits128(key) => decrypt_with::<Aes128Dec>(key, blocks),
-            Key::Bits192(key) => decrypt_with::<Aes192Dec>(key, blocks),
-            Key::Bits256(key) => decrypt_with::<Aes256Dec>(key, blocks),
+            Key::Bits128(key) => decrypt_with::<Bits128>(key, blocks),
+            Key::Bits192(key) => decrypt_with::<Bits192>(key, blocks),
+            Key::Bits256(key) => decrypt_with::<Bits256>(key, blocks),
         }
     }
 }
 
-// Encrypts each block by a cipher of the library.
-fn encrypt_with<C: KeyInit + BlockCipherEncrypt + Drop>(key: &C::Key, blocks: &mut [Block])
-    ensures { Each (fips.cipher (C.key_bytes key.now)) blocks.old blocks.new }
+// Encrypts each block by the library's type for a size. With the size as a parameter, the type is proved to be a cipher
+// once for all sizes.
+fn encrypt_with<K: AesVariant>(key: &K::Key, blocks: &mut [Block])
+    ensures { Each (fips.cipher (K.Key.bytes key.now)) blocks.old blocks.new }
 {
-    C::new(key).encrypt_blocks(blocks);
+    AesCipher::<K, Encrypt>::new(key).encrypt_blocks(blocks);
 }
 
-// Decrypts each block by a cipher of the library.
-fn decrypt_with<C: KeyInit + BlockCipherDecrypt + Drop>(key: &C::Key, blocks: &mut [Block])
-    ensures { Each (fips.inv_cipher (C.key_bytes key.now)) blocks.old blocks.new }
+// Decrypts each block by the library's type for a size.
+fn decrypt_with<K: AesVariant>(key: &K::Key, blocks: &mut [Block])
+    ensures { Each (fips.inv_cipher (K.Key.bytes key.now)) blocks.old blocks.new }
 {
-    C::new(key).decrypt_blocks(blocks);
+    AesCipher::<K, Decrypt>::new(key).decrypt_blocks(blocks);
 }

@@ -2,7 +2,7 @@
 ghost use Rattle.std.specs.Prelude.{◌≡◌, ◌≤◌, ◌*◌, true, is_ok, length, take, MatchResult};
 ghost use Rattle.std.specs.List.{list_all};
 ghost use Rattle.hex.specs.Hex.{decode_of, is_hex_digit};
-ghost use Rattle.aes_kat.specs.Reply.{block_of, blocks_of};
+ghost use Rattle.aes_kat.specs.Reply.{block_operand, blocks_operand};
 ghost use Rattle.aes_kat.specs.Private.Steps.{decoded};
 
 use crate::faults::Fault;
@@ -55,9 +55,9 @@ pub(crate) fn bytes_of<const SIZE: usize>(word: &[u8]) -> [u8; SIZE]
 
 // The block of a word.
 #[tactic(auto, using(crate::proofs::OperandBytes::length_decoded))]
-pub(crate) fn block_of(word: &[u8]) -> Result<Block, Fault>
+pub(crate) fn block_operand(word: &[u8]) -> Result<Block, Fault>
     requires { is_ok (decode_of word.now) ≡ true }
-    ensures { result ≡ block_of (decoded word.now) }
+    ensures { result ≡ block_operand (decoded word.now) }
 {
     if word.len() / 2 != BLOCK_SIZE {
         return Err(Fault::Block);
@@ -70,8 +70,8 @@ pub(crate) fn block_of(word: &[u8]) -> Result<Block, Fault>
 pub(crate) fn decode_blocks(word: &[u8], blocks: &mut [Block; MOST_BLOCKS]) -> Result<usize, Fault>
     requires { is_ok (decode_of word.now) ≡ true }
     ensures { MatchResult result
-        (λ count. (count ≤ 64) × (blocks_of (decoded word.now) ≡ Ok (take count blocks.new)))
-        (λ fault. blocks_of (decoded word.now) ≡ Err fault) }
+        (λ count. (count ≤ 64) × (blocks_operand (decoded word.now) ≡ Ok (take count blocks.new)))
+        (λ fault. blocks_operand (decoded word.now) ≡ Err fault) }
 {
     let mut buffer = [0u8; BLOCK_SIZE * MOST_BLOCKS];
     let size = word.len() / 2;

@@ -2,23 +2,23 @@
 ghost use Rattle.std.specs.Prelude.{◌≡◌, ◌≤◌, [], true, is_ok, take};
 ghost use Rattle.hex.specs.Hex.{decode_of};
 ghost use Rattle.aes_kat.specs.Reply.{answer_of, outcome_of, reply_to, is_fault};
-ghost use Rattle.aes_kat.specs.Private.Steps.{decoded, IsWritten};
+ghost use Rattle.aes_kat.specs.Private.Steps.{decoded, IsAnswered};
 
 use crate::commands::Command;
 use crate::digits::{ReplyBuffer, write_block, write_joined, write_spaced};
 use crate::faults::Fault;
 use crate::keys::Key;
-use crate::operands::{MOST_BLOCKS, block_of, decode_blocks, is_hex};
+use crate::operands::{MOST_BLOCKS, block_operand, decode_blocks, is_hex};
 use crate::requests::{Request, parse};
+use aes::expansion::{expand_128, expand_192, expand_256};
 use aes::hazmat;
-use aes_rounds::rounds::{expand_128, expand_192, expand_256};
 
 // Answers `enc KEY BLOCKS`.
 #[tactic(auto, unfolding(crate::specs::Reply::answer_of))]
 fn encrypt(key: &[u8], blocks: &[u8], out: &mut ReplyBuffer) -> Result<usize, Fault>
     requires key_digits { is_ok (decode_of key.now) ≡ true }
     requires block_digits { is_ok (decode_of blocks.now) ≡ true }
-    ensures { IsWritten (answer_of Command.Encrypt (decoded key.now) (decoded blocks.now)) result out.new }
+    ensures { IsAnswered (answer_of Command.Encrypt (decoded key.now) (decoded blocks.now)) result out.new }
 {
     let key = Key::of_digits(key)?;
     let mut buffer = [[0u8; 16]; MOST_BLOCKS];
@@ -32,7 +32,7 @@ fn encrypt(key: &[u8], blocks: &[u8], out: &mut ReplyBuffer) -> Result<usize, Fa
 fn decrypt(key: &[u8], blocks: &[u8], out: &mut ReplyBuffer) -> Result<usize, Fault>
     requires key_digits { is_ok (decode_of key.now) ≡ true }
     requires block_digits { is_ok (decode_of blocks.now) ≡ true }
-    ensures { IsWritten (answer_of Command.Decrypt (decoded key.now) (decoded blocks.now)) result out.new }
+    ensures { IsAnswered (answer_of Command.Decrypt (decoded key.now) (decoded blocks.now)) result out.new }
 {
     let key = Key::of_digits(key)?;
     let mut buffer = [[0u8; 16]; MOST_BLOCKS];
@@ -46,10 +46,10 @@ fn decrypt(key: &[u8], blocks: &[u8], out: &mut ReplyBuffer) -> Result<usize, Fa
 fn round(block: &[u8], key: &[u8], out: &mut ReplyBuffer) -> Result<usize, Fault>
     requires block_digits { is_ok (decode_of block.now) ≡ true }
     requires key_digits { is_ok (decode_of key.now) ≡ true }
-    ensures { IsWritten (answer_of Command.Round (decoded block.now) (decoded key.now)) result out.new }
+    ensures { IsAnswered (answer_of Command.Round (decoded block.now) (decoded key.now)) result out.new }
 {
-    let mut block = block_of(block)?;
-    let key = block_of(key)?;
+    let mut block = block_operand(block)?;
+    let key = block_operand(key)?;
     hazmat::cipher_round(&mut block, &key);
     Ok(write_block(&block, 0, out))
 }
@@ -59,10 +59,10 @@ fn round(block: &[u8], key: &[u8], out: &mut ReplyBuffer) -> Result<usize, Fault
 fn inverse_round(block: &[u8], key: &[u8], out: &mut ReplyBuffer) -> Result<usize, Fault>
     requires block_digits { is_ok (decode_of block.now) ≡ true }
     requires key_digits { is_ok (decode_of key.now) ≡ true }
-    ensures { IsWritten (answer_of Command.InverseRound (decoded block.now) (decoded key.now)) result out.new }
+    ensures { IsAnswered (answer_of Command.InverseRound (decoded block.now) (decoded key.now)) result out.new }
 {
-    let mut block = block_of(block)?;
-    let key = block_of(key)?;
+    let mut block = block_operand(block)?;
+    let key = block_operand(key)?;
     hazmat::equiv_inv_cipher_round(&mut block, &key);
     Ok(write_block(&block, 0, out))
 }
@@ -71,9 +71,9 @@ fn inverse_round(block: &[u8], key: &[u8], out: &mut ReplyBuffer) -> Result<usiz
 #[tactic(auto, unfolding(crate::specs::Reply::answer_of))]
 fn mix(block: &[u8], out: &mut ReplyBuffer) -> Result<usize, Fault>
     requires { is_ok (decode_of block.now) ≡ true }
-    ensures { IsWritten (answer_of Command.Mix (decoded block.now) []) result out.new }
+    ensures { IsAnswered (answer_of Command.Mix (decoded block.now) []) result out.new }
 {
-    let mut block = block_of(block)?;
+    let mut block = block_operand(block)?;
     hazmat::mix_columns(&mut block);
     Ok(write_block(&block, 0, out))
 }
@@ -82,9 +82,9 @@ fn mix(block: &[u8], out: &mut ReplyBuffer) -> Result<usize, Fault>
 #[tactic(auto, unfolding(crate::specs::Reply::answer_of))]
 fn inverse_mix(block: &[u8], out: &mut ReplyBuffer) -> Result<usize, Fault>
     requires { is_ok (decode_of block.now) ≡ true }
-    ensures { IsWritten (answer_of Command.InverseMix (decoded block.now) []) result out.new }
+    ensures { IsAnswered (answer_of Command.InverseMix (decoded block.now) []) result out.new }
 {
-    let mut block = block_of(block)?;
+    let mut block = block_operand(block)?;
     hazmat::inv_mix_columns(&mut block);
     Ok(write_block(&block, 0, out))
 }
@@ -93,7 +93,7 @@ fn inverse_mix(block: &[u8], out: &mut ReplyBuffer) -> Result<usize, Fault>
 #[tactic(auto, unfolding(crate::specs::Reply::answer_of))]
 fn schedule(key: &[u8], out: &mut ReplyBuffer) -> Result<usize, Fault>
     requires { is_ok (decode_of key.now) ≡ true }
-    ensures { IsWritten (answer_of Command.Schedule (decoded key.now) []) result out.new }
+    ensures { IsAnswered (answer_of Command.Schedule (decoded key.now) []) result out.new }
 {
     Ok(match Key::of_digits(key)? {
         Key::Bits128(key) => write_spaced(&expand_128(&key), out),
@@ -107,7 +107,7 @@ fn schedule(key: &[u8], out: &mut ReplyBuffer) -> Result<usize, Fault>
 fn answer_asked(asked: &Request<'_>, out: &mut ReplyBuffer) -> Result<usize, Fault>
     requires first_digits { is_ok (decode_of asked.now.first.now) ≡ true }
     requires second_digits { is_ok (decode_of asked.now.second.now) ≡ true }
-    ensures { IsWritten (answer_of asked.now.command (decoded asked.now.first.now) (decoded asked.now.second.now))
+    ensures { IsAnswered (answer_of asked.now.command (decoded asked.now.first.now) (decoded asked.now.second.now))
         result out.new }
 {
     match asked.command {
@@ -124,7 +124,7 @@ fn answer_asked(asked: &Request<'_>, out: &mut ReplyBuffer) -> Result<usize, Fau
 // Writes the answer to a line at the front of `out`.
 #[tactic(auto, unfolding(crate::specs::Reply::outcome_of))]
 fn answer(line: &[u8], out: &mut ReplyBuffer) -> Result<usize, Fault>
-    ensures { IsWritten (outcome_of line.now) result out.new }
+    ensures { IsAnswered (outcome_of line.now) result out.new }
 {
     let asked = parse(line)?;
     if !is_hex(asked.first) || !is_hex(asked.second) {

@@ -29,7 +29,7 @@ fn first_word(text: &[u8]) -> (&[u8], Option<&[u8]>)
     }
 }
 
-// What a line asks for.
+// Parses a line into its command and the words after it.
 #[tactic(auto, using(crate::proofs::Lines::words_after_some), unfolding(crate::specs::Reply::request_of))]
 pub(crate) fn parse(line: &[u8]) -> Result<Request<'_>, Fault>
     ensures { MatchResult result

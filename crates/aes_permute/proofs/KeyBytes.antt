@@ -8,12 +8,12 @@ use Rattle.aes_planes.proofs.Mixing.MixColumns.{mix_of_inv_mix}
 use Rattle.aes_planes.proofs.Standard.CipherLaws.{two_keys}
 use Rattle.aes_planes.proofs.Standard.InvertedKeys.{inverted_length, inverted_end, inverted_middle}
 use Rattle.aes_cipher.specs.KeySizes.{IsKeySize}
-use Rattle.aes_permute.specs.Keys.{key_of, first_two, key_in, IsKeyed}
+use Rattle.aes_permute.specs.Keys.{leading_key, first_two, key_read, IsLaneSchedule}
 use Rattle.aes_permute.specs.Stored.{round_keys_of}
 use Rattle.aes_permute.proofs.States.{keys_length}
 
 -- the key that begins its own schedule
-pub own_key : (size : ℕ) (key : List ℕ) → IsKeySize size → length key ≡ size → key_of size (fips.key_expansion key)
+pub own_key : (size : ℕ) (key : List ℕ) → IsKeySize size → length key ≡ size → leading_key size (fips.key_expansion key)
     ≡ key
 own_key size key s l = first_bytes key (size / 4) (ap (λ v. v / 4) l) size s.words l s.four s.eight
 
@@ -45,33 +45,29 @@ module _ (key : List ℕ) (bytes : fips.IsBytes key) where
 
 -- the key, out of them
 pub two_back : (size : ℕ) (key : List ℕ) → fips.IsBytes key
-    → key_of size (first_two (fips.inverted_keys (fips.key_expansion key))) ≡ key_of size (fips.key_expansion key)
+    → leading_key size (first_two (fips.inverted_keys (fips.key_expansion key)))
+    ≡ leading_key size (fips.key_expansion key)
 two_back size key b = λ i. take size (first_back key b i ++ second_back key b i)
 
 -- ---- the key that stored round keys are read as, in either direction
 
-module _ (used_keys first_keys : List (List ℕ) → List (List ℕ)) (size : ℕ) (v : List (List ℕ)) (key : List ℕ) where
+module _ (used_keys first_keys : List (List ℕ) → List (List ℕ)) (size : ℕ) (v : List (List ℕ)) (key : List ℕ)
+    (s : IsKeySize size) (l : length key ≡ size) (b : fips.IsBytes key)
+    (keeps : (size : ℕ) (key : List ℕ) → IsKeySize size → length key ≡ size → fips.IsBytes key
+    → leading_key size (first_keys (used_keys (fips.key_expansion key))) ≡ key)
+    (e : v ≡ used_keys (fips.key_expansion key)) where
   -- round keys of a key are read as that key
-  read_as : IsKeySize size → length key ≡ size → fips.IsBytes key
-      → ((size : ℕ) (key : List ℕ) → IsKeySize size → length key ≡ size → fips.IsBytes key
-      → key_of size (first_keys (used_keys (fips.key_expansion key))) ≡ key)
-      → v ≡ used_keys (fips.key_expansion key) → key_in first_keys size v ≡ key
-  unfolding key_in
-  read_as s l b keeps e = ap (λ v. key_of size (first_keys v)) e ∙ keeps size key s l b
+  pub read_as : key_read first_keys size v ≡ key
+  unfolding key_read
+  read_as = ap (λ v. leading_key size (first_keys v)) e ∙ keeps size key s l b
 
-  pub is_keyed : IsKeySize size → length key ≡ size → fips.IsBytes key
-      → ((size : ℕ) (key : List ℕ) → IsKeySize size → length key ≡ size → fips.IsBytes key
-      → key_of size (first_keys (used_keys (fips.key_expansion key))) ≡ key)
-      → v ≡ used_keys (fips.key_expansion key) → (key_in first_keys size v ≡ key) × IsKeyed used_keys first_keys size v
-  is_keyed s l b keeps e =
-      let k = read_as s l b keeps e in (
-        k,
-        record {
-          sized = ap length k ∙ l;
-          bytes = subst fips.IsBytes (sym k) b;
-          keys = e ∙ ap (λ key. used_keys (fips.key_expansion key)) (sym k);
-        },
-      )
+  -- and are those of the key that they are read as
+  pub is_lane_schedule : IsLaneSchedule used_keys first_keys size v
+  is_lane_schedule = record {
+    sized = ap length read_as ∙ l;
+    bytes = subst fips.IsBytes (sym read_as) b;
+    keys = e ∙ ap (λ key. used_keys (fips.key_expansion key)) (sym read_as);
+  }
 
 -- stored round keys of a key are two or more
 pub two_stored : (first inner last : ℕ → ℕ) (used_keys : List (List ℕ) → List (List ℕ))

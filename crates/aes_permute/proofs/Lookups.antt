@@ -8,7 +8,7 @@ use Rattle.std.proofs.lemmas.Simd.{swz_l, SwzOk, map-map, zip2_of_maps, zip2_spl
 use lib.Lanes.{zip2}
 use Rattle.aes_planes.specs.Fips197.{IsBytes, IsBlock}
 use Rattle.aes_planes.proofs.Bits.ByteCases.{all_below, all_below_tells}
-use Rattle.aes_permute.specs.Lookup.{looked, is_place, low_nibble, high_nibble, by_nibbles, Places, Nibbles}
+use Rattle.aes_permute.specs.Lookup.{looked, is_index, low_nibble, high_nibble, by_nibbles, AreIndices, Nibbles}
 
 -- ---- one table, at all lanes
 
@@ -19,11 +19,12 @@ looked_from xs (j ∷ js) i h =
     let t = looked_from xs js (suc i) (omega arith) in
     λ k. cond (nat_le 128 j) 0 (get_or xs (e k) 0) ∷ t k
 
+-- a byte shuffle reads a table of sixteen bytes at each lane's byte
 pub looked_lanes : (xs js : List ℕ) → length js ≡ 16 → swz_l w8 16 xs 0 js ≡ map (looked xs) js
 looked_lanes xs js l = looked_from xs js 0 (omega arith)
 
-place_ok : (j o : ℕ) → o ≡ j → (nat_le 128 j || nat_lt j 16) ≡ true → T (nat_le 128 j || (nat_lt j 16 && nat_lt o 16))
-place_ok j o e h = go (nat_le 128 j) (nat_lt j 16) (nat_lt o 16) (ap (λ v. nat_lt v 16) e) h
+index_ok : (j o : ℕ) → o ≡ j → (nat_le 128 j || nat_lt j 16) ≡ true → T (nat_le 128 j || (nat_lt j 16 && nat_lt o 16))
+index_ok j o e h = go (nat_le 128 j) (nat_lt j 16) (nat_lt o 16) (ap (λ v. nat_lt v 16) e) h
   where
     go : (a b c : Bool) → c ≡ b → (a || b) ≡ true → T (a || (b && c))
     go true b c s h = tt
@@ -31,15 +32,16 @@ place_ok j o e h = go (nat_le 128 j) (nat_lt j 16) (nat_lt o 16) (ap (λ v. nat_
     go false true false s h = absurd (grind (arith, s))
     go false false c s h = absurd (grind (arith, h))
 
-places_from : (js : List ℕ) (i : ℕ) → i + length js ≤ 16 → Places js → SwzOk w8 16 16 i js
-unfolding is_place
-places_from [] i h p = tt
-places_from (j ∷ js) i h p =
-    let both = and_parts (is_place j) (list_all is_place js) p in
-    (place_ok j (16 * (i / 16) + j) (omega arith) both.0, places_from js (suc i) (omega arith) both.1)
+indices_from : (js : List ℕ) (i : ℕ) → i + length js ≤ 16 → AreIndices js → SwzOk w8 16 16 i js
+unfolding is_index
+indices_from [] i h p = tt
+indices_from (j ∷ js) i h p =
+    let both = and_parts (is_index j) (list_all is_index js) p in
+    (index_ok j (16 * (i / 16) + j) (omega arith) both.0, indices_from js (suc i) (omega arith) both.1)
 
-pub places_ok : (js : List ℕ) → length js ≡ 16 → Places js → SwzOk w8 16 16 0 js
-places_ok js l p = places_from js 0 (omega arith) p
+-- sixteen places are indices that a byte shuffle takes
+pub indices_ok : (js : List ℕ) → length js ≡ 16 → AreIndices js → SwzOk w8 16 16 0 js
+indices_ok js l p = indices_from js 0 (omega arith) p
 
 -- ---- tests on all bytes and on all nibbles
 
@@ -56,20 +58,22 @@ pub maps_agree : (f g : ℕ → ℕ) → ((b : ℕ) → b < 256 → f b ≡ g b)
 maps_agree f g e [] h = refl
 maps_agree f g e (x ∷ xs) h = λ i. e x (h 0) i ∷ maps_agree f g e xs (λ j. h (suc j)) i
 
+-- two functions that agree in a test of all 256 bytes make the same of each byte of a list
 pub maps_same : (f g : ℕ → ℕ) → all_below 256 (λ b. f b == g b) ≡ true → (xs : List ℕ) → IsBytes xs → map f xs
     ≡ map g xs
 maps_same f g t xs h = maps_agree f g (λ b l. eqb-true _ _ (all_below_tells 256 (λ b. f b == g b) t b l)) xs h
 
-nibble_places : all_below 16 is_place ≡ true
-unfolding all_below is_place
-nibble_places = refl
+nibble_indices : all_below 16 is_index ≡ true
+unfolding all_below is_index
+nibble_indices = refl
 
-pub nibbles_are_places : (ks : List ℕ) → Nibbles ks → Places ks
-nibbles_are_places [] h = refl
-nibbles_are_places (k ∷ ks) h =
+-- each nibble is a place of a table
+pub nibbles_are_indices : (ks : List ℕ) → Nibbles ks → AreIndices ks
+nibbles_are_indices [] h = refl
+nibbles_are_indices (k ∷ ks) h =
     let t = and_parts (nat_lt k 16) (list_all (λ k. nat_lt k 16) ks) h in
-    let e : is_place k ≡ true = all_below_tells 16 is_place nibble_places k (ltb-true k 16 t.0) in
-    (λ i. e i && list_all is_place ks) ∙ nibbles_are_places ks t.1
+    let e : is_index k ≡ true = all_below_tells 16 is_index nibble_indices k (ltb-true k 16 t.0) in
+    (λ i. e i && list_all is_index ks) ∙ nibbles_are_indices ks t.1
 
 -- a test that each pair of nibbles passes, of each pair
 pub pairs_pass : (p : ℕ → Bool) (f : ℕ → ℕ → ℕ) → all_below 16 (λ h. all_below 16 (λ l. p (f h l))) ≡ true
@@ -90,6 +94,7 @@ low_cases : all_below 256 (λ b. bit_and b 15 == low_nibble b) ≡ true
 unfolding all_below
 low_cases = refl
 
+-- bytes and-ed with 15 are their low nibbles
 pub low_nibbles_are : (x : List ℕ) → IsBlock x → zip2 bit_and x (replicate 16 15) ≡ map low_nibble x
 low_nibbles_are x h = zip2_splat bit_and x 16 15 h.0 ∙ maps_same (λ b. bit_and b 15) low_nibble low_cases x h.1
 
@@ -97,6 +102,7 @@ high_cases : all_below 256 (λ b. b / 16 == high_nibble b) ≡ true
 unfolding all_below
 high_cases = refl
 
+-- bytes shifted right by 4 bits are their high nibbles
 pub high_nibbles_are : (x : List ℕ) → IsBlock x → zip2 (λ a b. a / 2 ^ b) x (replicate 16 4) ≡ map high_nibble x
 high_nibbles_are x h = zip2_splat (λ a b. a / 2 ^ b) x 16 4 h.0 ∙ maps_same (λ b. b / 16) high_nibble high_cases x h.1
 
@@ -108,9 +114,11 @@ high_is_nibble : all_below 256 (λ b. nat_lt (high_nibble b) 16) ≡ true
 unfolding all_below
 high_is_nibble = refl
 
+-- the low nibbles of a block are below 16
 pub low_is : (x : List ℕ) → IsBlock x → Nibbles (map low_nibble x)
 low_is x h = each_passes (λ k. nat_lt k 16) low_nibble low_is_nibble x h.1
 
+-- and so are the high ones
 pub high_is : (x : List ℕ) → IsBlock x → Nibbles (map high_nibble x)
 high_is x h = each_passes (λ k. nat_lt k 16) high_nibble high_is_nibble x h.1
 
@@ -122,4 +130,4 @@ nibbles_looked_up t u x =
     (map-map (looked t) low_nibble x) (map-map (looked u) high_nibble x)
 
 -- what look-ups by nibbles take
-pub ruleset nibble_lookups = (nibbles_are_places, low_is, high_is, nibbles_looked_up)
+pub ruleset nibble_lookups = (nibbles_are_indices, low_is, high_is, nibbles_looked_up)

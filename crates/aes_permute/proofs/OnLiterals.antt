@@ -4,6 +4,7 @@ use Rattle.aes_planes.specs.BigEndian.{bytes}
 use Rattle.aes_planes.specs.Fips197.{build}
 use Rattle.aes_permute.specs.Stored.{untower, inv_untower, key_untower, round_keys_of}
 
+-- the definitions to unfold, so that what literal round keys stand for is computed
 unfoldable pub stored_on_literals : ⊤
 unfolding bytes build untower inv_untower key_untower round_keys_of
 stored_on_literals = tt

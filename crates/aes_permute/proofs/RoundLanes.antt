@@ -9,14 +9,16 @@ use Rattle.aes_planes.specs.Fips197.{field_mul, sbox, byte_at, build, state, row
 use Rattle.aes_planes.specs.Fips197.{mix_columns, add_round_key, IsBytes, IsBlock}
 use Rattle.aes_planes.specs.Planes.{plus63}
 use Rattle.aes_planes.proofs.Bits.ByteCases.{all_below}
+use Rattle.aes_planes.proofs.Standard.FieldLaws.{add_swap}
+use Rattle.aes_planes.proofs.Standard.States.{state_same}
 use Rattle.aes_planes.proofs.Standard.Steps.{map_length, add_block}
 use Rattle.aes_permute.specs.Inverse.{first_of, second_of, at_places}
 use Rattle.aes_permute.specs.Lookup.{by_nibbles}
 use Rattle.aes_permute.specs.Stored.{untower, key_untower}
 use Rattle.aes_permute.specs.declared.tables.TheConstants.{TOWER_LOW, TOWER_HIGH, SBOX_FIRST, SBOX_SECOND, ONE_FIRST}
 use Rattle.aes_permute.specs.declared.tables.TheConstants.{ONE_SECOND, TWO_FIRST, TWO_SECOND}
-use Rattle.aes_permute.proofs.Linear.{untower_three, Makes, rows_added, rows_multiplied, rows_mixed, same_on_block}
-use Rattle.aes_permute.proofs.Linear.{same_on_blocks}
+use Rattle.aes_permute.proofs.Linear.{untower_three, Product, row, Makes, rows_added, rows_multiplied, rows_mixed}
+use Rattle.aes_permute.proofs.Linear.{same_on_block, same_on_blocks}
 use Rattle.aes_permute.proofs.Lookups.{maps_same}
 
 -- ---- what is looked up
@@ -25,11 +27,13 @@ use Rattle.aes_permute.proofs.Lookups.{maps_same}
 abbrev pub through : List ℕ → List ℕ → ℕ → ℕ
 through t u b = at_places t u (first_of b) (second_of b)
 
-pub through_lanes : (t u x f s y : List ℕ) → f ≡ map first_of x → s ≡ map second_of x → y ≡ zip2 (at_places t u) f s → y
-    ≡ map (through t u) x
-through_lanes t u x f s y a b e = e ∙ (λ i. zip2 (at_places t u) (a i) (b i))
+-- the sums of the entries at the two places of each byte are what the two tables make of the bytes
+pub through_lanes : (t u x : List ℕ) {f s y : List ℕ} → f ≡ map first_of x → s ≡ map second_of x
+    → y ≡ zip2 (at_places t u) f s → y ≡ map (through t u) x
+through_lanes t u x a b e = e ∙ (λ i. zip2 (at_places t u) (a i) (b i))
     ∙ zip2-map (at_places t u) first_of second_of x
 
+-- what is looked up for the coefficients 1 and 2 of MixColumns; 3 is the sum of both
 abbrev pub one : ℕ → ℕ
 one b = through ONE_FIRST ONE_SECOND b
 
@@ -43,18 +47,17 @@ three b = bit_xor (one b) (two b)
 abbrev pub boxed : ℕ → ℕ
 boxed b = sbox (untower b)
 
--- the products with it, each with what the constant makes of it
-one_made : Makes untower boxed one 1 0x63
-unfolding all_below first_of second_of untower field_mul sbox
-one_made = refl
+-- row 0 of MixColumns: the products with it, each with what the constant makes of it
+abbrev products : ℕ → Product
+products = row
+    (record { coefficient = 2; look_up = two; constant = 0xc6 })
+    (record { coefficient = 3; look_up = three; constant = 0xa5 })
+    (record { coefficient = 1; look_up = one; constant = 0x63 })
+    (record { coefficient = 1; look_up = one; constant = 0x63 })
 
-two_made : Makes untower boxed two 2 0xc6
+products_made : Makes untower boxed products
 unfolding all_below first_of second_of untower field_mul sbox
-two_made = refl
-
-three_made : Makes untower boxed three 3 0xa5
-unfolding all_below first_of second_of untower field_mul sbox
-three_made = refl
+products_made = refl
 
 -- ---- the round
 
@@ -66,60 +69,90 @@ moved x c j = byte_at x j ((c + j) % 4)
 abbrev pub same_row : List ℕ
 same_row = 0 ∷ 5 ∷ 10 ∷ 15 ∷ 4 ∷ 9 ∷ 14 ∷ 3 ∷ 8 ∷ 13 ∷ 2 ∷ 7 ∷ 12 ∷ 1 ∷ 6 ∷ 11 ∷ []
 
+-- and those of one, two and three rows further down
 abbrev pub next_row : List ℕ
 next_row = 5 ∷ 10 ∷ 15 ∷ 0 ∷ 9 ∷ 14 ∷ 3 ∷ 4 ∷ 13 ∷ 2 ∷ 7 ∷ 8 ∷ 1 ∷ 6 ∷ 11 ∷ 12 ∷ []
-
-abbrev pub third_row : List ℕ
-third_row = 10 ∷ 15 ∷ 0 ∷ 5 ∷ 14 ∷ 3 ∷ 4 ∷ 9 ∷ 2 ∷ 7 ∷ 8 ∷ 13 ∷ 6 ∷ 11 ∷ 12 ∷ 1 ∷ []
 
 abbrev pub fourth_row : List ℕ
 fourth_row = 15 ∷ 0 ∷ 5 ∷ 10 ∷ 3 ∷ 4 ∷ 9 ∷ 14 ∷ 7 ∷ 8 ∷ 13 ∷ 2 ∷ 11 ∷ 12 ∷ 1 ∷ 6 ∷ []
 
+-- the bytes of a block, taken from the lanes of a list
 abbrev pub swizzled : List ℕ → List ℕ → List ℕ
 swizzled xs ks = pick_l 0 (xs ++ xs) ks
 
-abbrev pub round_of : List ℕ → List ℕ → List ℕ → List ℕ → List ℕ
-round_of o t h k =
-    zip2 bit_xor (zip2 bit_xor (zip2 bit_xor (swizzled t same_row) k)
-    (zip2 bit_xor (swizzled o third_row) (swizzled o fourth_row)))
-    (swizzled h next_row)
+-- the lanes of the next row, before the rows are shifted
+abbrev pub row_before : List ℕ
+row_before = 5 ∷ 6 ∷ 7 ∷ 4 ∷ 9 ∷ 10 ∷ 11 ∷ 8 ∷ 13 ∷ 14 ∷ 15 ∷ 12 ∷ 1 ∷ 2 ∷ 3 ∷ 0 ∷ []
+
+-- the doubles, each with the byte of the next row
+abbrev pub paired : List ℕ → List ℕ → List ℕ
+paired o t = zip2 bit_xor t (swizzled o row_before)
+
+-- the sum that a round makes of what it looked up for 1, the pairs, and a round key
+abbrev pub round_of : List ℕ → List ℕ → List ℕ → List ℕ
+round_of o p k =
+    zip2 bit_xor (zip2 bit_xor (zip2 bit_xor (swizzled o fourth_row) k) (swizzled p same_row)) (swizzled p next_row)
 
 abbrev on_lanes : List ℕ → List ℕ → List ℕ
-on_lanes x k = map untower (round_of (map one x) (map two x) (zip2 bit_xor (map one x) (map two x)) k)
+on_lanes x k = map untower (round_of (map one x) (paired (map one x) (map two x)) k)
 
 abbrev standard : List ℕ → List ℕ → List ℕ
 standard x k = add_round_key (mix_columns (shift_rows (sub_bytes (map untower x)))) (map key_untower k)
 
+-- the sum of a byte, in the order in which a round on lanes makes it, and in that of `added`
+abbrev pub pairs_summed : ℕ → ℕ → ℕ → ℕ → ℕ → ℕ → ℕ
+pairs_summed a o t c d y = bit_xor (bit_xor (bit_xor d y) (bit_xor a o)) (bit_xor t c)
+
+pairs_parted : (a o t c d y : ℕ)
+    → pairs_summed a o t c d y ≡ bit_xor (bit_xor (bit_xor a y) (bit_xor c d)) (bit_xor o t)
+pairs_parted a o t c d y =
+    ap (λ v. bit_xor v (bit_xor t c)) (xor_comm (bit_xor d y) (bit_xor a o) ∙ ap (bit_xor (bit_xor a o)) (xor_comm d y)
+    ∙ add_swap a o y d)
+    ∙ xor_assoc (bit_xor a y) (bit_xor o d) (bit_xor t c)
+    ∙ ap (bit_xor (bit_xor a y)) (add_swap o d t c ∙ ap (bit_xor (bit_xor o t)) (xor_comm d c)
+    ∙ xor_comm (bit_xor o t) (bit_xor c d))
+    ∙ sym (xor_assoc (bit_xor a y) (bit_xor c d) (bit_xor o t))
+
+abbrev rows_by_pairs : List ℕ → List ℕ → List ℕ
+rows_by_pairs x k = state (λ r c. untower (pairs_summed (two (moved x c (r % 4))) (one (moved x c ((r + 1) % 4)))
+    (two (moved x c ((r + 1) % 4))) (one (moved x c ((r + 2) % 4))) (one (moved x c ((r + 3) % 4))) (byte_at k r c)))
+
 lanes_are : (x k : List ℕ) → length x ≡ 16 → length k ≡ 16
-    → on_lanes x k ≡ rows_added untower two three one one (moved x) (byte_at k)
+    → on_lanes x k ≡ rows_added untower products (moved x) (byte_at k)
 unfolding state build
-lanes_are = same_on_blocks on_lanes (λ x k. rows_added untower two three one one (moved x) (byte_at k)) (λ f g. refl)
+lanes_are x k l m =
+    same_on_blocks on_lanes rows_by_pairs (λ f g. refl) x k l m
+    ∙ state_same _ _ (λ r c i j. ap untower (pairs_parted (two (moved x c (r % 4))) (one (moved x c ((r + 1) % 4)))
+    (two (moved x c ((r + 1) % 4))) (one (moved x c ((r + 2) % 4))) (one (moved x c ((r + 3) % 4))) (byte_at k r c)))
 
 sums_are : (x k : List ℕ) → length x ≡ 16 → length k ≡ 16
-    → rows_multiplied boxed 2 3 1 1 (moved x) (λ r c. key_untower (byte_at k r c)) ≡ standard x k
+    → rows_multiplied boxed products (moved x) (λ r c. key_untower (byte_at k r c)) ≡ standard x k
 unfolding state build add_round_key mix_columns row_by_column shift_rows sub_bytes
-sums_are = same_on_blocks (λ x k. rows_multiplied boxed 2 3 1 1 (moved x) (λ r c. key_untower (byte_at k r c))) standard
-    (λ f g. refl)
+sums_are = same_on_blocks (λ x k. rows_multiplied boxed products (moved x) (λ r c. key_untower (byte_at k r c)))
+    standard (λ f g. refl)
 
-pub round_is : (x k o t h : List ℕ) → IsBlock x → length k ≡ 16 → o ≡ map one x → t ≡ map two x → h ≡ zip2 bit_xor o t
-    → map untower (round_of o t h k) ≡ add_round_key (mix_columns (shift_rows (sub_bytes (map untower x))))
-    (map key_untower k)
+-- a round on lanes is SubBytes, ShiftRows, MixColumns and AddRoundKey of what the lanes stand for
+pub round_is : (x k : List ℕ) {o t p : List ℕ} → IsBlock x → length k ≡ 16 → o ≡ map one x → t ≡ map two x
+    → p ≡ paired o t → map untower (round_of o p k)
+    ≡ add_round_key (mix_columns (shift_rows (sub_bytes (map untower x)))) (map key_untower k)
 unfolding key_untower
-round_is x k o t h b m p q e =
-    (λ i. map untower (round_of (p i) (q i) ((e ∙ (λ j. zip2 bit_xor (p j) (q j))) i) k))
+round_is x k b m q s e =
+    (λ i. map untower (round_of (q i) ((e ∙ (λ j. paired (q j) (s j))) i) k))
     ∙ lanes_are x k b.0 m
-    ∙ rows_mixed untower boxed untower_three two three one one 2 3 1 1 0xc6 0xa5 0x63 0x63 two_made three_made one_made
-    one_made (moved x) (byte_at k) (λ r c. key_untower (byte_at k r c)) (λ c j. b.1 _) (λ r c. refl)
+    ∙ rows_mixed untower boxed products untower_three products_made (moved x) (byte_at k)
+    (λ r c. key_untower (byte_at k r c)) (λ c j. b.1 _) (λ r c. refl)
     ∙ sums_are x k b.0 m
 
 -- ---- the first round key, and the last round
 
+-- the sum of two blocks lane by lane is AddRoundKey
 pub zip_is_sum : (b k : List ℕ) → length b ≡ 16 → length k ≡ 16 → zip2 bit_xor b k ≡ add_round_key b k
 unfolding add_round_key state build
 zip_is_sum = same_on_blocks (zip2 bit_xor) add_round_key (λ f g. refl)
 
-pub sum_bytes : (b k : List ℕ) → IsBlock b → IsBlock k → IsBytes (zip2 bit_xor b k)
-sum_bytes b k h m = subst IsBytes (sym (zip_is_sum b k h.0 m.0)) (add_block b k h.1 m.1).1
+-- the sum of two blocks consists of bytes
+pub zip_sum_bytes : (b k : List ℕ) → IsBlock b → IsBlock k → IsBytes (zip2 bit_xor b k)
+zip_sum_bytes b k h m = subst IsBytes (sym (zip_is_sum b k h.0 m.0)) (add_block b k h.1 m.1).1
 
 abbrev tower : ℕ → ℕ
 tower b = by_nibbles TOWER_LOW TOWER_HIGH b
@@ -131,10 +164,12 @@ tower_cases = refl
 untowered : (x : List ℕ) → IsBytes x → map untower (map tower x) ≡ x
 untowered x h = map-map untower tower x ∙ maps_same (λ b. untower (tower b)) (λ b. b) tower_cases x h ∙ map-id x
 
+-- a block plus the first round key, brought into the tower basis, stands for AddRoundKey
 pub first_is : (b k : List ℕ) → IsBlock b → IsBlock k
     → map untower (map (by_nibbles TOWER_LOW TOWER_HIGH) (zip2 bit_xor b k)) ≡ add_round_key b k
-first_is b k h m = untowered (zip2 bit_xor b k) (sum_bytes b k h m) ∙ zip_is_sum b k h.0 m.0
+first_is b k h m = untowered (zip2 bit_xor b k) (zip_sum_bytes b k h m) ∙ zip_is_sum b k h.0 m.0
 
+-- the S-box without its constant, by two look-ups, of what a byte stands for
 abbrev pub plain : ℕ → ℕ
 plain b = through SBOX_FIRST SBOX_SECOND b
 
@@ -148,6 +183,7 @@ unfolding sub_bytes
 plain_is x h = maps_same plain (λ b. plus63 (boxed b)) plain_cases x h ∙ sym (map-map plus63 boxed x)
     ∙ ap (map plus63) (sym (map-map sbox untower x))
 
+-- the sum of the last round: the substituted bytes, shifted, and a round key
 abbrev pub last_of : List ℕ → List ℕ → List ℕ
 last_of p k = zip2 bit_xor (swizzled p same_row) k
 
@@ -167,10 +203,11 @@ plus63_across (x ∷ xs) [] = refl
 plus63_across (x ∷ xs) (y ∷ ys) =
     λ i. (xor_assoc x 0x63 y ∙ ap (bit_xor x) (xor_comm 0x63 y)) i ∷ plus63_across xs ys i
 
-pub last_is : (x k p : List ℕ) → IsBlock x → length k ≡ 16 → p ≡ map plain x
+-- the last round on lanes is SubBytes, ShiftRows and AddRoundKey of a round key with 0x63 in it
+pub last_is : (x k : List ℕ) {p : List ℕ} → IsBlock x → length k ≡ 16 → p ≡ map plain x
     → last_of p k ≡ add_round_key (shift_rows (sub_bytes (map untower x))) (map plus63 k)
 unfolding sub_bytes
-last_is x k p h m e =
+last_is x k h m e =
     let y = sub_bytes (map untower x) in
     let l : length y ≡ 16 = map_length sbox (map untower x) ∙ map_length untower x ∙ h.0 in
     ap (λ v. last_of v k) (e ∙ plain_is x h.1) ∙ ap (λ v. zip2 bit_xor v k) (swizzled_plus63 y l)
@@ -182,6 +219,7 @@ sub_cases : all_below 256 (λ b. plain (tower b) == plus63 (sbox b)) ≡ true
 unfolding all_below first_of second_of sbox
 sub_cases = refl
 
+-- bytes brought into the tower basis and looked up at two places are SubBytes of them without its constant
 pub sub_bytes_is : (x : List ℕ) → IsBlock x
     → zip2 (at_places SBOX_FIRST SBOX_SECOND) (map first_of (map (by_nibbles TOWER_LOW TOWER_HIGH) x))
     (map second_of (map (by_nibbles TOWER_LOW TOWER_HIGH) x)) ≡ map plus63 (sub_bytes x)

@@ -1,9 +1,10 @@
 -- Slices processed two elements at a time.
-use Rattle.std.proofs.Common.{◌≡◌, ◌≢◌, ℕ, ◌+◌, ◌<◌, ◌≤◌, List, ◌++◌, length, map, take, set, get_or, ap, sym, ◌∙◌}
+use Rattle.std.proofs.Common.{◌≡◌, ◌≢◌, ℕ, ◌+◌, ◌<◌, List, length, set, get_or, ap, sym, ◌∙◌}
 use Rattle.std.proofs.Common.{arith, get_or-set_other}
-use Rattle.std.proofs.lemmas.List.{take_all, drop_all, append-nil, length-set}
+use Rattle.std.proofs.lemmas.List.{length-set}
 use Rattle.aes_cipher.proofs.SliceRuns.{finished, finished_one}
 
+-- once place i has f of its element, what is left to finish from place i + 1 on is as it was from i
 pub finished_is : {X : Type 0} (f : X → X) (i : ℕ) (xs : List X) (y d : X) → i < length xs → y ≡ f (get_or xs i d)
     → finished f (i + 1) (set xs i y) ≡ finished f i xs
 finished_is f i xs y d fits e = ap (λ v. finished f (i + 1) (set xs i v)) e ∙ finished_one f i xs d fits
@@ -19,8 +20,3 @@ finished_two f i xs y z d fits p q =
     ∙ finished_is f (i + 1) (set xs i y) z d (omega (arith, length-set xs i y))
     (q ∙ ap f (sym (get_or-set_other xs i (i + 1) y d other)))
     ∙ finished_is f i xs y d (omega arith) p
-
--- nothing is left
-pub finished_all : {X : Type 0} (f : X → X) (n : ℕ) (xs zs : List X) → length xs ≤ n → finished f n xs ≡ zs → xs ≡ zs
-finished_all f n xs zs le kept = sym (ap (λ l. take n xs ++ map f l) (drop_all n xs le) ∙ append-nil (take n xs)
-    ∙ take_all n xs le) ∙ kept

@@ -4,10 +4,11 @@ use Rattle.std.proofs.Common.{◌∷◌, ◌++◌, length, map, map-id, get_or, 
 use Rattle.std.proofs.lemmas.Bool.{and_parts, eqb-true}
 use Rattle.std.proofs.lemmas.Simd.{map-map, zip2_splat}
 use lib.Lanes.{zip2, pick_l}
-use Rattle.aes_planes.specs.Fips197.{field_add, byte_at, build, state, add_round_key, IsBlock}
+use Rattle.aes_planes.specs.Fips197.{field_add, byte_at, build, state, add_round_key, sbox, sub_bytes, IsBlock}
 use Rattle.aes_planes.specs.Planes.{plus63, constant_block, summed, columns_summed, columns_straddled}
 use Rattle.aes_planes.proofs.Bits.ByteCases.{all_below, all_below_tells, by_four}
 use Rattle.aes_planes.proofs.Lists.{built}
+use Rattle.aes_planes.proofs.Shifts.Deferred.{plus63_twice}
 use Rattle.aes_planes.proofs.Standard.FieldLaws.{add_zero, add_twice, add_swap}
 use Rattle.std.specs.Int.Bits.{xor_assoc}
 use Rattle.std.proofs.lemmas.Nat.{xor_comm}
@@ -48,9 +49,11 @@ coded_is x s a c l =
     ∙ xor_assoc (x 3) (x 2) (bit_xor (x 1) (bit_xor (x 0) (bit_xor s a))))
     c l
 
+-- the sums of each column and the one before it
 abbrev pub pairs_of : List ℕ → List ℕ
 pairs_of x = zip2 bit_xor x (map (looked x) COLUMN_BEFORE)
 
+-- and of each column and the one two before it
 abbrev pub sums_of : List ℕ → List ℕ
 sums_of x = zip2 bit_xor x (map (looked x) TWO_COLUMNS_BEFORE)
 
@@ -67,10 +70,11 @@ columns_are x s a l m n =
     (same_on_blocks (columns_of (build 16 (λ i. get_or x i 0))) (coded_state (build 16 (λ i. get_or x i 0)))
     (λ f g. refl) s a m n)
 
-pub summed_is : (x s a p q : List ℕ) → length x ≡ 16 → length s ≡ 16 → length a ≡ 16 → p ≡ pairs_of x → q ≡ sums_of p
-    → zip2 bit_xor (zip2 bit_xor q a) s
+-- two steps of such sums make each column the sum of all columns up to it, an addend and a constant
+pub summed_is : (x s a : List ℕ) {p q : List ℕ} → length x ≡ 16 → length s ≡ 16 → length a ≡ 16
+    → p ≡ pairs_of x → q ≡ sums_of p → zip2 bit_xor (zip2 bit_xor q a) s
     ≡ state (λ r c. summed field_add (byte_at x r) (field_add (byte_at s r c) (byte_at a r c)) c)
-summed_is x s a p q l m n e f =
+summed_is x s a l m n e f =
     ap (λ v. zip2 bit_xor (zip2 bit_xor v a) s) (f ∙ ap sums_of e)
     ∙ columns_are x s a l m n
     ∙ state_same _ _ (λ r c i j. coded_is (byte_at x r) (byte_at s r c) (byte_at a r c) c j)
@@ -99,12 +103,15 @@ addend_made k h =
     let z : bit_xor (bit_and k 0) 0x63 ≡ 0x63 = eqb-true _ _ t.1 in
     λ i. e i ∷ z i ∷ z i ∷ z i ∷ e i ∷ z i ∷ z i ∷ z i ∷ e i ∷ z i ∷ z i ∷ z i ∷ e i ∷ z i ∷ z i ∷ z i ∷ []
 
+-- the lanes of the last column, rotated by one row, in each of the four columns
 abbrev pub rotated_column : List ℕ
 rotated_column = 13 ∷ 14 ∷ 15 ∷ 12 ∷ 13 ∷ 14 ∷ 15 ∷ 12 ∷ 13 ∷ 14 ∷ 15 ∷ 12 ∷ 13 ∷ 14 ∷ 15 ∷ 12 ∷ []
 
+-- the same lanes in their order
 abbrev pub last_column : List ℕ
 last_column = 12 ∷ 13 ∷ 14 ∷ 15 ∷ 12 ∷ 13 ∷ 14 ∷ 15 ∷ 12 ∷ 13 ∷ 14 ∷ 15 ∷ 12 ∷ 13 ∷ 14 ∷ 15 ∷ []
 
+-- and those of the second column
 abbrev pub second_column : List ℕ
 second_column = 4 ∷ 5 ∷ 6 ∷ 7 ∷ 4 ∷ 5 ∷ 6 ∷ 7 ∷ 4 ∷ 5 ∷ 6 ∷ 7 ∷ 4 ∷ 5 ∷ 6 ∷ 7 ∷ []
 
@@ -146,14 +153,18 @@ rotated_sums x y k = same_on_block (λ y. state (λ r c. summed field_add (byte_
 summed_from : (x : ℕ → ℕ) (s t c : ℕ) → s ≡ t → summed field_add x s c ≡ summed field_add x t c
 summed_from x s t c e = ap (λ v. summed field_add x v c) e
 
-pub rotated_is : (x y p z : List ℕ) (k : ℕ) → k < 256 → length y ≡ 16 → p ≡ map plus63 y → z
-    ≡ from_start x (swizzled p rotated_column) (coded_addend k)
-    → z ≡ columns_summed 1 3 x (add_round_key y (constant_block k))
-rotated_is x y p z k h l e f =
-    f ∙ ap (from_start x (swizzled p rotated_column)) (addend_made k h)
-    ∙ ap (λ v. from_start x (swizzled v rotated_column) (addend_of k)) e ∙ rotated_state x y k l
-    ∙ state_same _ _ (λ r c i j. summed_from (byte_at x r) _ _ c (started_is y k r i))
-    ∙ rotated_sums x y k l
+-- SubWord of RotWord of the last column and a round constant, summed onto the columns of a block
+pub rotated_is : {x y u v p z : List ℕ} (k : ℕ) → u ≡ x → v ≡ y → k < 256 → length v ≡ 16 → p ≡ map plus63 (sub_bytes v)
+    → z ≡ from_start u (swizzled p rotated_column) (coded_addend k)
+    → z ≡ columns_summed 1 3 x (add_round_key (sub_bytes y) (constant_block k))
+unfolding sub_bytes
+rotated_is {u = u} {v = v} {p = p} k hx hy h l e f =
+    let s = sub_bytes v in
+    let sized : length s ≡ 16 = map_length sbox v ∙ l in
+    f ∙ ap (from_start u (swizzled p rotated_column)) (addend_made k h)
+    ∙ ap (λ p. from_start u (swizzled p rotated_column) (addend_of k)) e ∙ rotated_state u s k sized
+    ∙ state_same _ _ (λ r c i j. summed_from (byte_at u r) _ _ c (started_is s k r i))
+    ∙ rotated_sums u s k sized ∙ (λ i. columns_summed 1 3 (hx i) (add_round_key (sub_bytes (hy i)) (constant_block k)))
 
 substituted_state : (x y : List ℕ) → length y ≡ 16
     → from_start x (swizzled (map plus63 y) last_column) (replicate 16 0x63)
@@ -162,13 +173,16 @@ unfolding state build
 substituted_state x y = same_on_block (λ y. from_start x (swizzled (map plus63 y) last_column) (replicate 16 0x63))
     (λ y. state (λ r c. summed field_add (byte_at x r) (plus63 (plus63 (byte_at y ((r + 0) % 4) 3))) c)) (λ f. refl) y
 
-pub substituted_is : (x y p z : List ℕ) → length y ≡ 16 → p ≡ map plus63 y → z ≡ from_start x (swizzled p last_column)
-    (replicate 16 0x63)
-    → z ≡ columns_summed 0 3 x y
-unfolding columns_summed
-substituted_is x y p z l e f =
-    f ∙ ap (λ v. from_start x (swizzled v last_column) (replicate 16 0x63)) e ∙ substituted_state x y l
-    ∙ state_same _ _ (λ r c i j. summed_from (byte_at x r) _ _ c (add_twice (byte_at y ((r + 0) % 4) 3) 0x63))
+-- SubWord of the last column, summed onto the columns of a block
+pub substituted_is : {x y u v p z : List ℕ} → u ≡ x → v ≡ y → length v ≡ 16 → p ≡ map plus63 (sub_bytes v)
+    → z ≡ from_start u (swizzled p last_column) (replicate 16 0x63) → z ≡ columns_summed 0 3 x (sub_bytes y)
+unfolding columns_summed sub_bytes
+substituted_is {u = u} {v = v} hx hy l e f =
+    let s = sub_bytes v in
+    f ∙ ap (λ p. from_start u (swizzled p last_column) (replicate 16 0x63)) e
+    ∙ substituted_state u s (map_length sbox v ∙ l)
+    ∙ state_same _ _ (λ r c i j. summed_from (byte_at u r) _ _ c (add_twice (byte_at s ((r + 0) % 4) 3) 0x63))
+    ∙ (λ i. columns_summed 0 3 (hx i) (sub_bytes (hy i)))
 
 plain_state : (x y : List ℕ) → length y ≡ 16
     → from_start x (swizzled y second_column) (replicate 16 0)
@@ -177,21 +191,28 @@ unfolding state build
 plain_state x y = same_on_block (λ y. from_start x (swizzled y second_column) (replicate 16 0))
     (λ y. state (λ r c. summed field_add (byte_at x r) (bit_xor (byte_at y ((r + 0) % 4) 1) 0) c)) (λ f. refl) y
 
-pub plain_is : (x y z : List ℕ) → length y ≡ 16 → z ≡ from_start x (swizzled y second_column) (replicate 16 0) → z
-    ≡ columns_summed 0 1 x y
+-- the second column as it is, summed onto the columns of a block
+pub plain_is : {x y u v z : List ℕ} → u ≡ x → v ≡ y → length v ≡ 16
+    → z ≡ from_start u (swizzled v second_column) (replicate 16 0) → z ≡ columns_summed 0 1 x y
 unfolding columns_summed
-plain_is x y z l f =
-    f ∙ plain_state x y l
-    ∙ state_same _ _ (λ r c i j. summed_from (byte_at x r) _ _ c (add_zero (byte_at y ((r + 0) % 4) 1)))
+plain_is {u = u} {v = v} hx hy l f =
+    f ∙ plain_state u v l
+    ∙ state_same _ _ (λ r c i j. summed_from (byte_at u r) _ _ c (add_zero (byte_at v ((r + 0) % 4) 1)))
+    ∙ (λ i. columns_summed 0 1 (hx i) (hy i))
 
 -- ---- the last columns of one block and the first of the next
 
+-- the lanes of the last two columns of one block and of the first two of the next
 abbrev pub straddling : List ℕ
 straddling = 8 ∷ 9 ∷ 10 ∷ 11 ∷ 12 ∷ 13 ∷ 14 ∷ 15 ∷ 16 ∷ 17 ∷ 18 ∷ 19 ∷ 20 ∷ 21 ∷ 22 ∷ 23 ∷ []
 
-pub straddled_is : (x y : List ℕ) → length x ≡ 16 → length y ≡ 16 → pick_l 0 (x ++ y) straddling ≡ columns_straddled x y
+-- those lanes of two blocks are the block that straddles them
+pub straddled_is : (x y u v : List ℕ) → u ≡ x → v ≡ y → length u ≡ 16 → length v ≡ 16
+    → pick_l 0 (u ++ v) straddling ≡ columns_straddled x y
 unfolding state build columns_straddled
-straddled_is = same_on_blocks (λ x y. pick_l 0 (x ++ y) straddling) columns_straddled (λ f g. refl)
+straddled_is x y u v hx hy l m =
+    same_on_blocks (λ x y. pick_l 0 (x ++ y) straddling) columns_straddled (λ f g. refl) u v l m
+    ∙ (λ i. columns_straddled (hx i) (hy i))
 
 -- ---- stored round keys
 
@@ -199,6 +220,7 @@ inner_cases : all_below 256 (λ b. key_untower (bit_xor (by_nibbles TOWER_LOW TO
 unfolding all_below key_untower
 inner_cases = refl
 
+-- a round key in the tower basis, with a constant added, stands for that round key
 pub inner_is : (x : List ℕ) → IsBlock x
     → map key_untower (zip2 bit_xor (map (by_nibbles TOWER_LOW TOWER_HIGH) x) (replicate 16 0x6e)) ≡ x
 inner_is x h =
@@ -208,6 +230,7 @@ inner_is x h =
     ∙ map-map key_untower (λ b. bit_xor (f b) 0x6e) x
     ∙ maps_same (λ b. key_untower (bit_xor (f b) 0x6e)) (λ b. b) inner_cases x h.1 ∙ map-id x
 
+-- an inner round key as stored, taken out of the tower basis with 0x63 added, is what it stands for
 pub plain_key_is : (x : List ℕ) → length x ≡ 16
     → zip2 bit_xor (map (by_nibbles UNTOWER_LOW UNTOWER_HIGH) x) (replicate 16 0x63) ≡ map key_untower x
 unfolding key_untower
@@ -215,9 +238,6 @@ plain_key_is x l =
     let f = by_nibbles UNTOWER_LOW UNTOWER_HIGH in
     zip2_splat bit_xor (map f x) 16 0x63 (map_length f x ∙ l) ∙ map-map plus63 f x
 
-plus63_twice : (x : List ℕ) → map plus63 (map plus63 x) ≡ x
-plus63_twice [] = refl
-plus63_twice (b ∷ x) = λ i. add_twice b 0x63 i ∷ plus63_twice x i
-
+-- the last round key is stored with 0x63 added, and stands for itself
 pub last_key_is : (x : List ℕ) → length x ≡ 16 → map plus63 (zip2 bit_xor x (replicate 16 0x63)) ≡ x
 last_key_is x l = ap (map plus63) (zip2_splat bit_xor x 16 0x63 l) ∙ plus63_twice x

@@ -9,11 +9,13 @@ use Rattle.aes_planes.proofs.Standard.AllRounds.{rounds_more}
 use Rattle.aes_permute.specs.Stored.{round_keys_of}
 
 module _ (first inner last : ℕ → ℕ) (stored : List (List ℕ)) where
+  -- as many round keys are stored as they stand for
   pub keys_length : length (round_keys_of first inner last stored) ≡ length stored
   unfolding round_keys_of
   keys_length = length-build (length stored) (λ i.
       map (if i == 0 then first else if i == fips.last_round stored then last else inner) (fips.round_key stored i))
 
+  -- and the last of both has the same number
   pub last_is_last : fips.last_round (round_keys_of first inner last stored) ≡ fips.last_round stored
   last_is_last = ap (λ v. v - 1) keys_length
 
@@ -24,10 +26,12 @@ module _ (first inner last : ℕ → ℕ) (stored : List (List ℕ)) where
   key_at i lt = get_or-build (length stored) i (λ i. map
       (if i == 0 then first else if i == fips.last_round stored then last else inner) (fips.round_key stored i)) [] lt
 
+  -- the first stored round key stands for the bytes that `first` makes of it
   pub first_key : 1 ≤ length stored → fips.round_key (round_keys_of first inner last stored) 0
       ≡ map first (fips.round_key stored 0)
   first_key some = key_at 0 (omega arith)
 
+  -- one between the first and the last stands for what `inner` makes of it
   pub inner_key : (i : ℕ) → 1 ≤ i → i < fips.last_round stored
       → fips.round_key (round_keys_of first inner last stored) i ≡ map inner (fips.round_key stored i)
   inner_key i some before =
@@ -35,6 +39,7 @@ module _ (first inner last : ℕ → ℕ) (stored : List (List ℕ)) where
       ∙ (λ j. map (if ne_eqb i 0 (omega arith) j then first else if ne_eqb i (fips.last_round stored) (omega arith) j
       then last else inner) (fips.round_key stored i))
 
+  -- and the last for what `last` makes of it
   pub last_key : (i : ℕ) → 2 ≤ length stored → i ≡ fips.last_round stored
       → fips.round_key (round_keys_of first inner last stored) i ≡ map last (fips.round_key stored i)
   last_key i two e =
@@ -44,12 +49,14 @@ module _ (first inner last : ℕ → ℕ) (stored : List (List ℕ)) where
 
   -- ---- the three kinds of rounds, on what a state stands for
 
+  -- a block plus the first round key is the state before any round
   pub first_state : (step : List ℕ → List ℕ) (state : ℕ → ℕ) (b x : List ℕ) → 1 ≤ length stored
       → map state x ≡ fips.add_round_key b (map first (fips.round_key stored 0))
       → map state x ≡ rounds_after step (round_keys_of first inner last stored) b 0
   unfolding rounds_after
   first_state step state b x some e = e ∙ ap (fips.add_round_key b) (sym (first_key some))
 
+  -- a step and an inner round key lead from the state before round i to the state after it
   pub next_state : (step : List ℕ → List ℕ) (state : ℕ → ℕ) (b x y : List ℕ) (i : ℕ) → 1 ≤ i
       → i < fips.last_round stored
       → map state y ≡ fips.add_round_key (step (map state x)) (map inner (fips.round_key stored i))
@@ -61,6 +68,7 @@ module _ (first inner last : ℕ → ℕ) (stored : List (List ℕ)) where
       ∙ rounds_more step (round_keys_of first inner last stored) b i some
       ∙ ap (rounds_after step (round_keys_of first inner last stored) b) n
 
+  -- the last step and the last round key lead from the state before it to the end of all rounds
   pub last_state : (step last_step : List ℕ → List ℕ) (state : ℕ → ℕ) (b x y : List ℕ) (i : ℕ) → 2 ≤ length stored → i
       ≡ fips.last_round stored
       → y ≡ fips.add_round_key (last_step (map state x)) (map last (fips.round_key stored (fips.last_round stored)))

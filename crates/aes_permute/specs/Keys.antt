@@ -12,22 +12,23 @@ encrypting stored = round_keys_of as_is key_untower plus63 stored
 abbrev pub decrypting : List (List ℕ) → List (List ℕ)
 decrypting stored = round_keys_of plus63 inv_untower as_is stored
 
--- the key of so many bytes that begins a key schedule
-abbrev pub key_of : ℕ → List (List ℕ) → List ℕ
-key_of size w = take size (fips.round_key w 0 ++ fips.round_key w 1)
+-- the key of `size` bytes with which a key schedule begins
+abbrev pub leading_key : ℕ → List (List ℕ) → List ℕ
+leading_key size w = take size (fips.round_key w 0 ++ fips.round_key w 1)
 
 -- the first two round keys, from those of EqInvCipher
 abbrev pub first_two : List (List ℕ) → List (List ℕ)
 first_two v = fips.round_key v (fips.last_round v) ∷ fips.mix_columns (fips.round_key v (fips.last_round v - 1)) ∷ []
 
--- the key of so many bytes that round keys are read as, in their order of use; `first_keys` says which are the
+-- the key of `size` bytes that round keys are read as, in their order of use; `first_keys` says which are the
 -- standard's first two
-unfoldable pub key_in : (List (List ℕ) → List (List ℕ)) → ℕ → List (List ℕ) → List ℕ
-key_in first_keys size v = key_of size (first_keys v)
+unfoldable pub key_read : (List (List ℕ) → List (List ℕ)) → ℕ → List (List ℕ) → List ℕ
+key_read first_keys size v = leading_key size (first_keys v)
 
--- round keys of the key of so many bytes that they are read as, in their order of use; `used_keys` makes them of the
+-- round keys of the key of `size` bytes that they are read as, in their order of use; `used_keys` makes them from the
 -- standard's list
-pub record IsKeyed (used_keys first_keys : List (List ℕ) → List (List ℕ)) (size : ℕ) (v : List (List ℕ)) : Type 0 where
-  pub sized : length (key_in first_keys size v) ≡ size
-  pub bytes : fips.IsBytes (key_in first_keys size v)
-  pub keys : v ≡ used_keys (fips.key_expansion (key_in first_keys size v))
+pub record IsLaneSchedule (used_keys first_keys : List (List ℕ) → List (List ℕ)) (size : ℕ) (v : List (List ℕ)) : Type 0
+  where
+    pub sized : length (key_read first_keys size v) ≡ size
+    pub bytes : fips.IsBytes (key_read first_keys size v)
+    pub keys : v ≡ used_keys (fips.key_expansion (key_read first_keys size v))

@@ -6,13 +6,13 @@ use Rattle.std.specs.List.{list_all}
 abbrev pub looked : List ℕ → ℕ → ℕ
 looked t k = cond (nat_le 128 k) 0 (get_or t k 0)
 
--- whether a byte is a place of a table: below 16, or from 128 on
-unfoldable pub is_place : ℕ → Bool
-is_place k = nat_le 128 k || nat_lt k 16
+-- whether a byte is an index into a table: below 16, or from 128 on, where the entry is 0
+unfoldable pub is_index : ℕ → Bool
+is_index k = nat_le 128 k || nat_lt k 16
 
--- a list of places
-abbrev pub Places : List ℕ → Type 0
-Places ks = list_all is_place ks ≡ true
+-- a list of indices
+abbrev pub AreIndices : List ℕ → Type 0
+AreIndices ks = list_all is_index ks ≡ true
 
 -- a list of nibbles
 abbrev pub Nibbles : List ℕ → Type 0

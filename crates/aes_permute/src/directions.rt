@@ -5,7 +5,7 @@ ghost use Rattle.aes_planes.specs.Fips197 as fips;
 ghost use Rattle.aes_planes.specs.Planes.{plus63};
 ghost use Rattle.aes_planes.specs.Rounds.{all_rounds};
 ghost use Rattle.aes_cipher.specs.KeySizes.{IsKeySize};
-ghost use Rattle.aes_permute.specs.Keys.{key_of, first_two};
+ghost use Rattle.aes_permute.specs.Keys.{leading_key, first_two};
 ghost use Rattle.aes_permute.specs.Stored.{untower, inv_untower, key_untower, as_is, round_keys_of, AreWritten};
 
 use crate::rounds::{
@@ -30,13 +30,7 @@ pub trait LaneRounds: Direction {
     /// What a byte of the last stored round key stands for.
     ghost last_byte: { ℕ → ℕ };
 
-    /// What a round does before it adds its round key.
-    ghost step: { List ℕ → List ℕ };
-
-    /// What the last round does before it adds its round key.
-    ghost last_step: { List ℕ → List ℕ };
-
-    /// What comes of a round key of the standard's list, between the first and the last, before a round uses it.
+    /// How a round key of the standard's list, between the first and the last, is changed before a round uses it.
     ghost used_key: { List ℕ → List ℕ };
 
     /// The round keys that the rounds use, in their order.
@@ -61,13 +55,13 @@ pub trait LaneRounds: Direction {
     fn round(x: u8x16, key: u8x16) -> u8x16
         requires block { fips.IsBlock x }
         requires key { fips.IsBlock key }
-        ensures { map state_byte result ≡ fips.add_round_key (step (map state_byte x)) (map inner_byte key) };
+        ensures { map state_byte result ≡ fips.add_round_key (Self.step (map state_byte x)) (map inner_byte key) };
 
     /// Runs the last round, and returns the block.
     fn last(x: u8x16, key: u8x16) -> u8x16
         requires block { fips.IsBlock x }
         requires key { fips.IsBlock key }
-        ensures { result ≡ fips.add_round_key (last_step (map state_byte x)) (map last_byte key) };
+        ensures { result ≡ fips.add_round_key (Self.last_step (map state_byte x)) (map last_byte key) };
 
     /// Returns a round key between the first and the last as it is stored.
     fn inner_key(key: u8x16) -> u8x16
@@ -86,12 +80,12 @@ pub trait LaneRounds: Direction {
     /// No effect; states that all rounds together do what the direction does.
     fn processes()
         ensures { (w : List (List ℕ)) (b : List ℕ) → 2 ≤ length w
-            → all_rounds step last_step (used_keys w) b ≡ Self.processed w b };
+            → all_rounds Self.step Self.last_step (used_keys w) b ≡ Self.processed w b };
 
     /// No effect; states that a key begins its own schedule.
     fn keeps_key()
         ensures { (size : ℕ) (key : List ℕ) → IsKeySize size → length key ≡ size → fips.IsBytes key
-            → key_of size (first_keys (used_keys (fips.key_expansion key))) ≡ key };
+            → leading_key size (first_keys (used_keys (fips.key_expansion key))) ≡ key };
 }
 
 // Cipher (FIPS 197, 5.1).
@@ -103,10 +97,6 @@ impl LaneRounds for Encrypt {
     ghost inner_byte = { key_untower };
 
     ghost last_byte = { plus63 };
-
-    ghost step = { λ b. fips.mix_columns (fips.shift_rows (fips.sub_bytes b)) };
-
-    ghost last_step = { λ b. fips.shift_rows (fips.sub_bytes b) };
 
     ghost used_key = { λ key. key };
 
@@ -160,10 +150,6 @@ impl LaneRounds for Decrypt {
     ghost inner_byte = { inv_untower };
 
     ghost last_byte = { as_is };
-
-    ghost step = { λ b. fips.inv_mix_columns (fips.inv_shift_rows (fips.inv_sub_bytes b)) };
-
-    ghost last_step = { λ b. fips.inv_shift_rows (fips.inv_sub_bytes b) };
 
     ghost used_key = { fips.inv_mix_columns };
 

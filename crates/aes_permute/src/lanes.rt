@@ -3,15 +3,15 @@
 ghost use Rattle.std.specs.Prelude.{◌≡◌, map, bit_xor};
 ghost use Rattle.std.specs.Simd.Lanes.{zip2};
 ghost use Rattle.aes_planes.specs.Fips197 as fips;
-ghost use Rattle.aes_permute.specs.Lookup.{looked, low_nibble, high_nibble, by_nibbles, Places};
+ghost use Rattle.aes_permute.specs.Lookup.{looked, low_nibble, high_nibble, by_nibbles, AreIndices};
 
 use std::simd::prelude::*;
 
 /// Returns the entry of a table at each lane, and 0 at a lane from 128 on.
-#[tactic(auto, using(crate::proofs::Lookups::looked_lanes, crate::proofs::Lookups::places_ok))]
+#[tactic(auto, using(crate::proofs::Lookups::looked_lanes, crate::proofs::Lookups::indices_ok))]
 #[inline(always)]
 pub fn lookup(table: [u8; 16], places: u8x16) -> u8x16
-    requires are_places { Places places }
+    requires are_indices { AreIndices places }
     ensures { result ≡ map (looked table) places }
 {
     u8x16::from_array(table).swizzle_dyn(places)

@@ -34,12 +34,15 @@ pub fn encrypt_round(x: u8x16, key: u8x16) -> u8x16
     let at = places_of(x);
     let one = looked_up(at, ONE_FIRST, ONE_SECOND);
     let two = looked_up(at, TWO_FIRST, TWO_SECOND);
-    let three = sum(one, two);
-    let first = two.swizzle([0, 5, 10, 15, 4, 9, 14, 3, 8, 13, 2, 7, 12, 1, 6, 11]);
-    let second = three.swizzle([5, 10, 15, 0, 9, 14, 3, 4, 13, 2, 7, 8, 1, 6, 11, 12]);
-    let third = one.swizzle([10, 15, 0, 5, 14, 3, 4, 9, 2, 7, 8, 13, 6, 11, 12, 1]);
+    // A byte's double with the next row's byte: a row further on, the same sums hold the rest of the product with 3.
+    let pairs = sum(
+        two,
+        one.swizzle([5, 6, 7, 4, 9, 10, 11, 8, 13, 14, 15, 12, 1, 2, 3, 0]),
+    );
+    let first = pairs.swizzle([0, 5, 10, 15, 4, 9, 14, 3, 8, 13, 2, 7, 12, 1, 6, 11]);
+    let second = pairs.swizzle([5, 10, 15, 0, 9, 14, 3, 4, 13, 2, 7, 8, 1, 6, 11, 12]);
     let fourth = one.swizzle([15, 0, 5, 10, 3, 4, 9, 14, 7, 8, 13, 2, 11, 12, 1, 6]);
-    ((first ^ key) ^ (third ^ fourth)) ^ second
+    ((fourth ^ key) ^ first) ^ second
 }
 
 /// Runs the last round of Cipher, and returns the block (FIPS 197, 5.1).

@@ -3,7 +3,7 @@
 ghost use Rattle.std.specs.Prelude.{◌≡◌, map};
 ghost use Rattle.std.specs.Simd.Lanes.{zip2};
 ghost use Rattle.aes_planes.specs.Fips197 as fips;
-ghost use Rattle.aes_permute.specs.Lookup.{Nibbles, Places};
+ghost use Rattle.aes_permute.specs.Lookup.{Nibbles, AreIndices};
 ghost use Rattle.aes_permute.specs.Inverse.{first_place, second_place, first_of, second_of, at_places};
 
 use crate::lanes::{high_nibbles, lookup, low_nibbles, sum};
@@ -46,8 +46,8 @@ pub fn places_of(x: u8x16) -> TwoPlaces
     requires block { fips.IsBlock x }
     ensures first { result.first ≡ map first_of x }
     ensures second { result.second ≡ map second_of x }
-    ensures first_places { Places result.first }
-    ensures second_places { Places result.second }
+    ensures first_places { AreIndices result.first }
+    ensures second_places { AreIndices result.second }
 {
     inverted(high_nibbles(x), low_nibbles(x))
 }
@@ -56,8 +56,8 @@ pub fn places_of(x: u8x16) -> TwoPlaces
 #[tactic(auto, using(crate::proofs::Inverses::places_looked_up))]
 #[inline(always)]
 pub fn looked_up(at: TwoPlaces, first: [u8; 16], second: [u8; 16]) -> u8x16
-    requires first_places { Places at.first }
-    requires second_places { Places at.second }
+    requires first_places { AreIndices at.first }
+    requires second_places { AreIndices at.second }
     ensures { result ≡ zip2 (at_places first second) at.first at.second }
 {
     sum(lookup(first, at.first), lookup(second, at.second))

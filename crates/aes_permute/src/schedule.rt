@@ -27,7 +27,7 @@ const TWO_COLUMNS_BEFORE: [u8; 16] = [
 ];
 
 // Each column of the result is the sum of the columns up to it, of `start` there, and of `addend` there.
-#[tactic(auto, unfolding(crate::specs::Lookup::is_place))]
+#[tactic(auto, unfolding(crate::specs::Lookup::is_index))]
 #[inline(always)]
 fn summed_columns(before: u8x16, start: u8x16, addend: u8x16) -> u8x16
     requires before { length before ≡ 16 }
@@ -115,6 +115,7 @@ impl<D: LaneRounds> KeyForm for Lanes<D> {
         summed_columns(before, start, u8x16::splat(0))
     }
 
+    #[tactic(auto, using(crate::proofs::ScheduleLanes::straddled_is))]
     #[inline(always)]
     fn straddled(left: u8x16, right: u8x16) -> u8x16 {
         left.shuffle(

@@ -6,6 +6,9 @@ use aes_cipher::zeroize::Wiped;
 use aes_planes::soft::word::Block;
 
 /// Stored round keys, which are wiped when they are dropped. Contracts see the blocks.
+///
+/// This is `Wiped` over an array of blocks of any length, so that each size of keys can name its own. It lends a slice,
+/// as vector permutations take round keys. `WipedKeys` of `aes_soft` is the like for words, and lends the array.
 pub trait Stored: Drop {
     /// The blocks.
     ghost blocks: { Self → List (List ℕ) };

@@ -9,6 +9,7 @@ get_or-build_from a zero i f d h = absurd (omega arith)
 get_or-build_from a (suc n) zero f d h = ap f (omega arith)
 get_or-build_from a (suc n) (suc i) f d h = get_or-build_from (a + 1) n i f d (omega arith) ∙ ap f (omega arith)
 
+-- element i of the list built of f is f i
 pub get_or-build : {A : Type 0} (n i : ℕ) (f : ℕ → A) (d : A) → i < n → get_or (build n f) i d ≡ f i
 unfolding build
 get_or-build n i f d h = get_or-build_from 0 n i f d h ∙ ap f (omega arith)
@@ -21,6 +22,7 @@ build_from_each P d past a zero f h i = past
 build_from_each P d past a (suc n) f h zero = h a
 build_from_each P d past a (suc n) f h (suc i) = build_from_each P d past (a + 1) n f h i
 
+-- what holds of each f i, and of what stands past the end, holds at every place of the list built of f
 pub build_each : {A : Type 0} (P : A → Type 0) (d : A) → P d → (n : ℕ) (f : ℕ → A) → ((i : ℕ) → P (f i)) → (i : ℕ)
     → P (get_or (build n f) i d)
 unfolding build
@@ -39,6 +41,7 @@ build_from_is a (suc n) f (x ∷ xs) d l h =
     (λ i lt. let s : a + 1 + i ≡ a + suc i = omega arith in ap f s ∙ h (suc i) (omega arith)) in
     (λ j. (ap f e ∙ h 0 (omega arith)) j ∷ t j)
 
+-- a list that has f's values from place 0 on is the list built of f
 pub build_is : {A : Type 0} (n : ℕ) (f : ℕ → A) (xs : List A) (d : A) → length xs ≡ n
     → ((i : ℕ) → i < n → f i ≡ get_or xs i d) → build n f ≡ xs
 unfolding build
@@ -50,6 +53,7 @@ built n xs d l = build_is n (λ i. get_or xs i d) xs d l (λ i lt. refl)
 
 -- ---- what a function makes of lists
 
+-- two functions with the same values leave the same of each element
 pub map-same : {A B : Type 0} (f g : A → B) (xs : List A) → ((x : A) → f x ≡ g x) → map f xs ≡ map g xs
 map-same f g [] e = refl
 map-same f g (x ∷ xs) e = (λ t. e x t ∷ map-same f g xs e t)

@@ -1,4 +1,4 @@
--- What single rounds leave: of a block, and of a list of blocks place by place, each under the round key of its own.
+-- Single rounds: of a block, and of a list of blocks, each under the round key at the same place.
 use Rattle.std.specs.Prelude.{ℕ, List}
 use Rattle.aes_planes.specs.Planes.{zip_with}
 use Rattle.aes_planes.specs.Fips197 as fips
@@ -12,6 +12,6 @@ abbrev pub equiv_inv_cipher_round : List ℕ → List ℕ → List ℕ
 equiv_inv_cipher_round block round_key =
     fips.add_round_key (fips.inv_mix_columns (fips.inv_shift_rows (fips.inv_sub_bytes block))) round_key
 
--- at each place what a round leaves of the block there under the round key there
+-- a round of each block of a list, under the round key at the same place
 abbrev pub rounds_by_place : (List ℕ → List ℕ → List ℕ) → List (List ℕ) → List (List ℕ) → List (List ℕ)
 rounds_by_place round blocks round_keys = zip_with round blocks round_keys

@@ -1,17 +1,10 @@
 -- Steps on lists of blocks, and the round keys of EqInvCipher.
-use Rattle.std.proofs.Common.{◌≡◌, ℕ, suc, ◌<◌, ◌≤◌, List, [], ◌∷◌, length, get_or, map, refl, sym, ap, ◌∙◌, arith}
+use Rattle.std.proofs.Common.{◌≡◌, ℕ, ◌<◌, ◌≤◌, List, [], length, get_or, map, sym, ap, ◌∙◌, arith}
 use Rattle.std.proofs.lemmas.List.{ext_get_or}
 use Rattle.aes_planes.specs.Fips197 as fips
 use Rattle.aes_planes.proofs.Planes.Held.{map-same}
 use Rattle.aes_planes.proofs.Standard.CipherInverses.{eq_inv_is_inv}
 use Rattle.aes_planes.proofs.Standard.InvertedKeys.{inverted_end, inverted_length, inverted_middle}
-
--- two steps that agree on blocks agree on a list of blocks
-pub same_of_blocks : (f g : List ℕ → List ℕ) → ((b : List ℕ) → fips.IsBytes b → f b ≡ g b) → (blocks : List (List ℕ))
-    → ((i : ℕ) → i < length blocks → fips.IsBlock (get_or blocks i [])) → map f blocks ≡ map g blocks
-same_of_blocks f g same [] h = refl
-same_of_blocks f g same (b ∷ blocks) h =
-    λ j. same b (h 0 (omega arith)).1 j ∷ same_of_blocks f g same blocks (λ i lt. h (suc i) (omega arith)) j
 
 -- blocks decrypted by EqInvCipher under inverted round keys
 pub inverse_of_each : (w v : List (List ℕ)) (xs ys : List (List ℕ)) → v ≡ fips.inverted_keys w → 2 ≤ length w
@@ -25,4 +18,5 @@ pub all_inverted : (n : ℕ) (w xs : List (List ℕ)) → length xs ≡ n → le
 all_inverted n w xs l m each =
     ext_get_or [] xs (fips.inverted_keys w) (l ∙ sym (inverted_length w ∙ m)) (λ k lt. each k (omega (arith, l)))
 
+-- each of the inverted round keys: the ends as they are, and those between mixed back
 pub ruleset inverted_calls = (inverted_end, inverted_middle)

@@ -5,12 +5,11 @@ mod both_ways;
 mod decrypt;
 mod directions;
 mod encrypt;
-mod expand;
 mod inverted_keys;
 mod runs;
 mod states;
 
+pub use aes::expansion::{expand_128, expand_192, expand_256};
 pub use both_ways::Aes;
 pub use decrypt::AesDec;
 pub use encrypt::AesEnc;
-pub use expand::{expand_128, expand_192, expand_256};

@@ -23,6 +23,7 @@ zipped_next f zero (x ∷ xs) (y ∷ ys) d lt le = refl
 zipped_next f (suc i) (x ∷ xs) (y ∷ ys) d lt le =
     ap (λ zs. x ∷ zs) (zipped_next f i xs ys d (omega arith) (omega arith))
 
+-- once place i has f of both elements there, the loop leaves the same from place i + 1 on as it did from i
 pub zipped_step : (f : List ℕ → List ℕ → List ℕ) (i : ℕ) (xs ys : List (List ℕ)) (x : List ℕ) → i < length xs
     → i < length ys → x ≡ f (get_or xs i []) (get_or ys i [])
     → zipped_from f (i + 1) (set xs i x) ys ≡ zipped_from f i xs ys

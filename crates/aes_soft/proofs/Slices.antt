@@ -2,7 +2,7 @@
 use Rattle.std.proofs.Common.{◌≡◌, ℕ, ◌+◌, ◌-◌, ◌*◌, ◌/◌, ◌%◌, ◌<◌, ◌≤◌, List, ◌++◌, length, map, take, drop, refl, sym}
 use Rattle.std.proofs.Common.{ap, subst, ◌∙◌, arith}
 use Rattle.std.proofs.Math.Nat.{add-div_right, mod-eq-sub-mod}
-use Rattle.std.proofs.lemmas.List.{take_all, drop_all, append-nil, length-map}
+use Rattle.std.proofs.lemmas.List.{length-map}
 use borrow.Rule.Slice.PartMut.{put_mid, same_len_mid}
 use Rattle.aes_cipher.proofs.SliceRuns.{finished, finished_run}
 
@@ -21,13 +21,14 @@ one_batch_less r m s some le =
     let e : m / s ≡ (m - s) / s + 1 = ap (λ v. v / s) (sym same) ∙ add-div_right (m - s) some in
     ap (λ v. r * v) e ∙ grind arith
 
--- a loop that leaves f of each element of a list, so many at a time, and has come to a place
+-- a loop that applies f to each element of a list, `size` at a time, and has come to the place `done`
 pub record Batched {X : Type 0} (f : X → X) (size done : ℕ) (old now : List X) : Type 0 where
   pub some : 0 < size
   pub within : done ≤ length now
   pub whole : (length now - done) % size ≡ 0
   pub value : finished f done now ≡ map f old
 
+-- one more whole batch is replaced by f of each of its elements, and the loop has come that much further
 pub next_batch : {X : Type 0} (f : X → X) (size done k : ℕ) (old now ys : List X) → Batched f size done old now
     → done < length now → k ≡ size → ys ≡ map f (take k (drop done now))
     → Batched f size (done + size) old (put_mid done k now ys)
@@ -42,10 +43,6 @@ next_batch f size done k old now ys b some same is =
       whole = ap (λ v. v % size) left ∙ whole_left (length now - done) size (omega arith) b.whole;
       value = finished_run f done size k now ys same fits is ∙ b.value;
     }
-
--- where nothing is left, every element is finished
-pub all_finished : {X : Type 0} (f : X → X) (n : ℕ) (xs : List X) → length xs ≤ n → finished f n xs ≡ xs
-all_finished f n xs le = ap (λ l. take n xs ++ map f l) (drop_all n xs le) ∙ append-nil (take n xs) ∙ take_all n xs le
 
 -- f of the first n elements, written in their places
 pub front_finished : {X : Type 0} (f : X → X) (n : ℕ) (xs ys : List X) → n ≤ length xs → ys ≡ map f (take n xs)

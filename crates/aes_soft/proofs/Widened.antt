@@ -5,7 +5,7 @@ use Rattle.std.proofs.lemmas.Bool.{cases_lt}
 use Rattle.std.proofs.lemmas.List.{get_or-replicate, length-replicate, get_or-set_same, get_or-set_other}
 use Rattle.std.proofs.lemmas.Nat.{mul-add-lt}
 use lib.Arith.{digits_div}
-use Rattle.aes_planes.specs.Bits.{at, bit, number, Places}
+use Rattle.aes_planes.specs.Bits.{at, bit, number, IsShape, Places}
 use Rattle.aes_planes.specs.Words.{word_bits}
 use Rattle.aes_planes.specs.Fips197 as fips
 use Rattle.aes_planes.specs.Planes.{held, held_byte, place, plus63, words_at}
@@ -46,7 +46,7 @@ module _ {A : Type 0} (bits : A → List Bool) (w R Q : ℕ) (xs : List ℕ) whe
   abbrev pub InEverySlot : ℕ → A → Type 0
   InEverySlot m y = Places w (bits y) (λ i. bit (slice_index xs m) (4 * (i / R) + i % R / Q))
 
-  module _ (n : ℕ) (some : 1 ≤ n) (ew : w ≡ 16 * n) (eR : R ≡ 4 * n) (eQ : Q ≡ n) (ys : List A)
+  module _ (n h b s : ℕ) (shape : IsShape bits n w R h Q b s) (ys : List A)
       (same_length : length ys ≡ length xs)
       (spread : (m : ℕ) (d : A) → m < length xs → InEverySlot m (get_or ys m d)) where
     abbrev wide : List (List Bool)
@@ -71,8 +71,8 @@ module _ {A : Type 0} (bits : A → List Bool) (w R Q : ℕ) (xs : List ℕ) whe
         (map-map (λ w. at w p) bits ys
         ∙ same_maps (λ y. at (bits y) p) (λ x. at (word_bits 16 x) q) ys xs same_length
         (λ m d lt.
-        (spread m d lt) p (omega (arith, ew, place_lt n r c k hr hc hk))
-        ∙ ap (bit (slice_index xs m)) (bit_of_place n R Q r c k eR eQ hr hc hk ∙ spot)
+        (spread m d lt) p (omega (arith, shape.sixteen, place_lt n r c k hr hc hk))
+        ∙ ap (bit (slice_index xs m)) (bit_of_place n R Q r c k shape.four shape.one hr hc hk ∙ spot)
         ∙ sym (get_or-build 16 q (bit (slice_index xs m)) _ (omega arith)))
         ∙ sym (map-map (λ w. at w q) (word_bits 16) xs))
         ∙ words_at-map (λ w. at w q) narrow o)
@@ -89,9 +89,10 @@ module _ {A : Type 0} (bits : A → List Bool) (w R Q : ℕ) (xs : List ℕ) whe
     same_first_slot : (i : ℕ) → first_slot n wide i ≡ first_slot 1 narrow i
     unfolding first_slot
     same_first_slot i =
-        ap (λ v. get_or v 0 []) (in_every_slot (8 * i)) ∙ get_or-replicate n 0 (block (8 * i)) [] some
+        ap (λ v. get_or v 0 []) (in_every_slot (8 * i)) ∙ get_or-replicate n 0 (block (8 * i)) [] shape.some_block
         ∙ sym (ap (λ v. get_or v 0 []) (in_one_slot (8 * i)))
 
+    -- words with one block in every slot are read as the key that the words of that one block are read as
     pub same_key : (size : ℕ) (layout : ℕ → ℕ) → key_of size n layout wide ≡ key_of size 1 layout narrow
     unfolding key_of
     same_key size layout = λ t. take size
@@ -101,5 +102,6 @@ module _ {A : Type 0} (bits : A → List Bool) (w R Q : ℕ) (xs : List ℕ) whe
     same_blocks count f holds i lt =
         in_every_slot (8 * i) ∙ ap (replicate n) (ap (λ v. get_or v 0 []) (sym (in_one_slot (8 * i)) ∙ holds i lt))
 
+    -- and if those are the schedule of that key, so are the wider words
     pub widened : (size : ℕ) (layout : ℕ → ℕ) → IsKeyed size 1 layout narrow → IsKeyed size n layout wide
     widened size layout keyed = rw (same_key size layout) (same_blocks _ _ keyed)

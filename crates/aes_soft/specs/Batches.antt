@@ -5,6 +5,6 @@ use Rattle.std.specs.Prelude.{ℕ, ◌+◌, ◌*◌, ◌/◌, ◌%◌}
 abbrev pub batch_blocks : ℕ
 batch_blocks = 8
 
--- so many blocks in so many rounds: whole batches first, then single blocks
+-- the layers of n blocks with that many rounds each: whole batches first, then single blocks
 abbrev pub layers_for : ℕ → ℕ → ℕ
 layers_for rounds n = rounds * (n / batch_blocks + n % batch_blocks)

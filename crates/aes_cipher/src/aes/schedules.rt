@@ -72,8 +72,8 @@ pub trait Encrypts: Processes<Encrypt> {
         requires keyed { Self.AreKeyed self.now }
         ensures { F.did f.old (fips.key_expansion (Self.key self.now)) f.new };
 
-    /// Calls the closure once, with a backend of the round keys that suits so many blocks. The number decides how long
-    /// the work takes, and nothing else.
+    /// Calls the closure once, with a backend that suits this number of blocks. The number affects speed and nothing
+    /// else.
     #[inline(always)]
     fn encrypt_with_backend_for<F: BlockCipherEncClosure>(&self, blocks: usize, f: &mut F)
         requires keyed { Self.AreKeyed self.now }

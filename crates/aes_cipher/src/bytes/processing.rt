@@ -14,7 +14,7 @@ const ROOM: usize = 64;
 
 /// A cipher in one direction.
 pub(super) trait ProcessBlocks {
-    /// What becomes of a block.
+    /// A block, encrypted or decrypted.
     ghost processed: { Self → List ℕ → List ℕ };
 
     /// Processes each block in place.

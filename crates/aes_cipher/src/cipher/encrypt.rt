@@ -15,8 +15,8 @@ pub trait BlockCipherEncrypt: BlockSizeUser + RoundKeysUser {
     fn encrypt_with_backend<F: BlockCipherEncClosure>(&self, f: &mut F)
         ensures { F.did f.old (Self.round_keys self.now) f.new };
 
-    /// Calls the closure once, with a backend of the value's round keys that suits so many blocks. The number decides
-    /// how long the work takes, and nothing else.
+    /// Calls the closure once, with a backend of the value's round keys that suits this number of blocks. The number
+    /// affects speed and nothing else.
     #[inline(always)]
     fn encrypt_with_backend_for<F: BlockCipherEncClosure>(&self, blocks: usize, f: &mut F)
         ensures { F.did f.old (Self.round_keys self.now) f.new }

@@ -4,9 +4,7 @@ ghost use Rattle.std.specs.Prelude.{◌≡◌, ℕ, List};
 ghost use Rattle.std.proofs.Common.{refl};
 
 use super::round_keys::RoundKeysUser;
-
-/// A block of the standard: sixteen bytes (FIPS 197, 3.4).
-pub type Block = [u8; 16];
+pub use aes_planes::soft::word::Block;
 
 /// A type that is made from a key.
 pub trait KeySizeUser {

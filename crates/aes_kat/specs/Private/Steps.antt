@@ -14,6 +14,6 @@ abbrev pub decoded : List ℕ → List ℕ
 decoded word = or_none (decode_of word)
 
 -- the outcome is the answer of this length at the front of the buffer, or this fault
-abbrev pub IsWritten : Result (List ℕ) Fault → Result ℕ Fault → List ℕ → Type 0
-IsWritten outcome written buffer =
+abbrev pub IsAnswered : Result (List ℕ) Fault → Result ℕ Fault → List ℕ → Type 0
+IsAnswered outcome written buffer =
     MatchResult written (λ n. (n ≤ 2048) × (outcome ≡ Ok (take n buffer))) (λ problem. outcome ≡ Err problem)

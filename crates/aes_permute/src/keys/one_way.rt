@@ -2,7 +2,7 @@
 
 ghost use Rattle.std.specs.Prelude.{◌≡◌, ◌≤◌, length};
 ghost use Rattle.aes_planes.specs.Fips197 as fips;
-ghost use Rattle.aes_permute.specs.Keys.{key_in, IsKeyed};
+ghost use Rattle.aes_permute.specs.Keys.{key_read, IsLaneSchedule};
 ghost use Rattle.aes_permute.specs.Stored.{round_keys_of};
 
 use super::LendsKeys;
@@ -27,10 +27,10 @@ pub struct OneWay<K: LaneKeys, D: LaneRounds> {
 impl<K: LaneKeys, D: LaneRounds> KeySchedule for OneWay<K, D> {
     type Size = K;
 
-    ghost key = { λ s. key_in D.first_keys K.Key.SIZE
+    ghost key = { λ s. key_read D.first_keys K.Key.SIZE
         (round_keys_of D.first_byte D.inner_byte D.last_byte (K.Keys.blocks s.keys)) };
 
-    ghost AreKeyed = { λ s. IsKeyed D.used_keys D.first_keys K.Key.SIZE
+    ghost AreKeyed = { λ s. IsLaneSchedule D.used_keys D.first_keys K.Key.SIZE
         (round_keys_of D.first_byte D.inner_byte D.last_byte (K.Keys.blocks s.keys)) };
 
     ghost IsWiped = { λ s. K.Keys.IsWiped s.keys };
@@ -119,9 +119,9 @@ impl<K: LaneKeys> Decrypts for OneWay<K, Decrypt> {
 fn write_keys<K: LaneKeys, D: LaneRounds>(keys: &mut K::Keys, bytes: &[u8])
     requires wiped { K.Keys.IsWiped keys.old }
     requires sized { length bytes.now ≡ K.Key.SIZE }
-    ensures keyed { IsKeyed D.used_keys D.first_keys K.Key.SIZE
+    ensures keyed { IsLaneSchedule D.used_keys D.first_keys K.Key.SIZE
         (round_keys_of D.first_byte D.inner_byte D.last_byte (K.Keys.blocks keys.new)) }
-    ensures same { key_in D.first_keys K.Key.SIZE
+    ensures same { key_read D.first_keys K.Key.SIZE
         (round_keys_of D.first_byte D.inner_byte D.last_byte (K.Keys.blocks keys.new)) ≡ bytes.now }
 {
     D::keeps_key();

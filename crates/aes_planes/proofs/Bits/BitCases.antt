@@ -1,7 +1,7 @@
 -- Claims on a few bits by all cases, and lists of eight and of sixteen by their elements.
 use Rattle.std.proofs.Common.{◌≡◌, ℕ, zero, suc, Bool, true, false, not, cond, ◌&&◌, ◌||◌, List, [], ◌∷◌, length}
-use Rattle.std.proofs.Common.{get_or, refl, sym, arith}
-use Rattle.std.proofs.lemmas.Bool.{and_parts}
+use Rattle.std.proofs.Common.{get_or, refl, sym, arith, inl, inr}
+use Rattle.std.proofs.lemmas.Bool.{and_parts, or_cases, both_ways}
 use Rattle.std.proofs.lemmas.List.{get_or_default}
 use Rattle.aes_planes.specs.Bits.{at, xor}
 use Rattle.aes_planes.specs.Fips197.{build}
@@ -12,6 +12,7 @@ unfoldable pub same : Bool → Bool → Bool
 same true b = b
 same false b = not b
 
+-- bits that test the same are the same
 pub same_tells : (a b : Bool) → same a b ≡ true → a ≡ b
 unfolding same
 same_tells true b h = sym h
@@ -28,6 +29,7 @@ unfoldable pub all_bools : ℕ → (List Bool → Bool) → Bool
 all_bools zero p = p []
 all_bools (suc n) p = all_bools n (λ bs. p (true ∷ bs)) && all_bools n (λ bs. p (false ∷ bs))
 
+-- a test that holds of every list of n bits holds of each
 pub all_bools_tells : (n : ℕ) (p : List Bool → Bool) → all_bools n p ≡ true → (bs : List Bool) → length bs ≡ n
     → p bs ≡ true
 unfolding all_bools
@@ -44,20 +46,15 @@ swaps : List Bool → Bool
 swaps b = (at b 3 && at b 4) || same (xor (xor (at b 0) (xor (at b 0) (at b 1) && at b 3))
     (xor (at b 2) (at b 0) && at b 4)) (cond (at b 3) (at b 1) (cond (at b 4) (at b 2) (at b 0)))
 
-swaps_all : all_bools 5 swaps ≡ true
-unfolding all_bools swaps same
-swaps_all = refl
-
-neither : (u v : Bool) → u ≡ false → (u || v) ≡ true → v ≡ true
-neither true v e h = absurd (grind arith)
-neither false v e h = h
-
 -- the bit that a swap by sums leaves: y under its own mask, z under its partner's, else x
 pub swapped : (x y z own partner : Bool) → (own && partner) ≡ false
     → xor (xor x (xor x y && own)) (xor z x && partner) ≡ cond own y (cond partner z x)
-unfolding swaps
-swapped x y z own partner e = same_tells _ _ (neither (own && partner) _ e
-    (all_bools_tells 5 swaps swaps_all (x ∷ y ∷ z ∷ own ∷ partner ∷ []) refl))
+unfolding all_bools swaps same
+swapped x y z own partner e =
+    elim (or_cases (own && partner) _ (all_bools_tells 5 swaps refl (x ∷ y ∷ z ∷ own ∷ partner ∷ []) refl)) [
+      | inl both ↦ absurd (both_ways _ e both)
+      | inr t ↦ same_tells _ _ t
+    ]
 
 -- ---- lists
 

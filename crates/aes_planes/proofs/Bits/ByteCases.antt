@@ -14,6 +14,7 @@ by_one_more P n below here r h = elim (cases_lt r n) [
   | inr le ↦ let e : r ≡ n = omega arith in rw e here
 ]
 
+-- a test that holds of every number below n holds of each
 pub all_below_tells : (n : ℕ) (p : ℕ → Bool) → all_below n p ≡ true → (i : ℕ) → i < n → p i ≡ true
 unfolding all_below
 all_below_tells zero p h i k = absurd (omega arith)
@@ -24,20 +25,25 @@ all_below_tells (suc n) p h i k =
 abbrev pub all_pairs : ℕ → ℕ → (ℕ → ℕ → Bool) → Bool
 all_pairs m n p = all_below m (λ i. all_below n (λ j. p i j))
 
+-- a test that holds of every pair below m and n holds of each
 pub all_pairs_tell : (m n : ℕ) (p : ℕ → ℕ → Bool) → all_pairs m n p ≡ true → (i j : ℕ) → i < m → j < n → p i j ≡ true
 all_pairs_tell m n p h i j k l = all_below_tells n (p i) (all_below_tells m _ h i k) j l
 
 -- ---- claims on each number below one, two, four and eight
 
+-- what holds at 0 holds at each number below one
 pub by_one : (P : ℕ → Type 0) → P 0 → (r : ℕ) → r < 1 → P r
 by_one P a = by_one_more P 0 (λ r h. absurd (omega arith)) a
 
+-- what holds at 0 and at 1 holds at each number below two
 pub by_two : (P : ℕ → Type 0) → P 0 → P 1 → (r : ℕ) → r < 2 → P r
 by_two P a b = by_one_more P 1 (by_one P a) b
 
+-- the same for the numbers below four
 pub by_four : (P : ℕ → Type 0) → P 0 → P 1 → P 2 → P 3 → (r : ℕ) → r < 4 → P r
 by_four P a b c d = by_one_more P 3 (by_one_more P 2 (by_two P a b) c) d
 
+-- the same for the numbers below eight
 pub by_eight : (P : ℕ → Type 0) → P 0 → P 1 → P 2 → P 3 → P 4 → P 5 → P 6 → P 7 → (r : ℕ) → r < 8 → P r
 by_eight P a b c d e f g h =
     by_one_more P 7 (by_one_more P 6 (by_one_more P 5 (by_one_more P 4 (by_four P a b c d) e) f) g) h

@@ -1,13 +1,13 @@
 -- Bytes by their bits, through sums and doubling.
 use Rattle.std.proofs.Common.{◌≡◌, ℕ, suc, ◌+◌, ◌*◌, ◌^◌, ◌<◌, ◌==◌, Bool, true, false, cond, List, [], ◌∷◌, length}
 use Rattle.std.proofs.Common.{get_or, map, refl, ◌∙◌, arith, subst}
-use Rattle.std.proofs.lemmas.Bool.{eqb-true}
+use Rattle.std.proofs.lemmas.Bool.{eqb-true, cond_both}
 use Rattle.std.proofs.lemmas.Nat.{xor_block}
 use lib.Lanes.{zip2}
 use Rattle.aes_planes.specs.Bits.{at, xor, number}
 use Rattle.aes_planes.specs.Fips197.{field_add, field_mul}
 use Rattle.aes_planes.proofs.Bits.BitCases.{all_bools, all_bools_tells}
-use Rattle.aes_planes.proofs.Bits.NumberBits.{number_lt as number_below}
+use Rattle.aes_planes.proofs.Bits.NumberBits.{number_below}
 
 -- the sum bit by bit
 abbrev pub sum_bits : List Bool → List Bool → List Bool
@@ -33,10 +33,7 @@ sum_value true false = refl
 sum_value false true = refl
 sum_value false false = refl
 
-value_lt : (x : Bool) → cond x 1 0 < 2
-value_lt true = omega arith
-value_lt false = omega arith
-
+-- the sum of two bytes, given by their bits, is the number of the sums of their bits
 pub number-sum : (xs ys : List Bool) → length xs ≡ length ys
     → field_add (number xs) (number ys) ≡ number (sum_bits xs ys)
 number-sum [] [] e = refl
@@ -48,10 +45,12 @@ number-sum (x ∷ xs) (y ∷ ys) e =
     let s = field_add (cond x 1 0) (cond y 1 0) in
     let rest = field_add (number xs) (number ys) in
     let r : rest * 2 ^ 1 + s ≡ s + 2 * rest = omega arith in
+    let small : (b : Bool) → cond b 1 0 < 2 = λ b. cond_both b 1 0 (λ v. v < 2) (λ t. omega arith) (λ t. omega arith) in
     (λ i. field_add (p i) (q i))
-    ∙ xor_block 1 (number xs) (number ys) (cond x 1 0) (cond y 1 0) (value_lt x) (value_lt y) ∙ r
+    ∙ xor_block 1 (number xs) (number ys) (cond x 1 0) (cond y 1 0) (small x) (small y) ∙ r
     ∙ (λ i. sum_value x y i + 2 * number-sum xs ys (omega arith) i)
 
+-- the number of n bits is below 2 ^ n
 pub number_lt : (n : ℕ) (bs : List Bool) → length bs ≡ n → number bs < 2 ^ n
 number_lt n bs e = subst (λ (v : ℕ). number bs < 2 ^ v) e (number_below bs)
 
@@ -61,13 +60,8 @@ double_bits b =
     at b 7 ∷ xor (at b 0) (at b 7) ∷ at b 1 ∷ xor (at b 2) (at b 7) ∷ xor (at b 3) (at b 7) ∷ at b 4 ∷ at b 5 ∷ at b 6
     ∷ []
 
-doubles : List Bool → Bool
-doubles b = number (double_bits b) == field_mul 2 (number b)
-
-doubles_always : all_bools 8 doubles ≡ true
-unfolding all_bools doubles field_mul
-doubles_always = refl
-
+-- the double of a byte, given by its bits, is the number of the doubled bits
 pub number-double : (b : List Bool) → length b ≡ 8 → number (double_bits b) ≡ field_mul 2 (number b)
-unfolding doubles
-number-double b e = eqb-true _ _ (all_bools_tells 8 doubles doubles_always b e)
+unfolding all_bools field_mul
+number-double b e =
+    eqb-true _ _ (all_bools_tells 8 (λ b. number (double_bits b) == field_mul 2 (number b)) refl b e)

@@ -15,12 +15,14 @@ use Rattle.aes_planes.proofs.Bits.NumberBits.{bit_low, bit_shr}
 pub field_bit : (x s w p : ℕ) → p < w → bit (x / 2 ^ s % 2 ^ w) p ≡ bit x (s + p)
 field_bit x s w p h = bit_low (x / 2 ^ s) w p h ∙ bit_shr x s p ∙ ap (bit x) (omega arith)
 
+-- bit r of digit j of a number, in base 2 ^ b, is bit b * j + r of the number
 pub digit_bit : (b n x j r : ℕ) → j < n → r < b → bit (get_or (digits_l (2 ^ b) n x) j 0) r ≡ bit x (b * j + r)
 digit_bit b zero x j r h k = absurd (omega arith)
 digit_bit b (suc n) x zero r h k = bit_low x b r k ∙ ap (bit x) (grind arith)
 digit_bit b (suc n) x (suc j) r h k =
     digit_bit b n (x / 2 ^ b) j r (omega arith) k ∙ bit_shr x b (b * j + r) ∙ ap (bit x) (grind arith)
 
+-- each digit in base 2 ^ b is below 2 ^ b
 pub digits_small : (b n x : ℕ) → Each1 (λ (v : ℕ). v < 2 ^ b) (digits_l (2 ^ b) n x)
 digits_small b zero x = tt
 digits_small b (suc n) x = (mod-lt x (pow_pos b), digits_small b n (x / 2 ^ b))
@@ -31,6 +33,7 @@ each_small b [] h i = pow_pos b
 each_small b (x ∷ xs) h zero = h.0
 each_small b (x ∷ xs) h (suc i) = each_small b xs h.1 i
 
+-- bit b * j + r of the number with digits xs in base 2 ^ b is bit r of digit j
 pub number_bit : (b : ℕ) (xs : List ℕ) (j r : ℕ) → Each1 (λ (v : ℕ). v < 2 ^ b) xs → j < length xs → r < b
     → bit (number_l (2 ^ b) xs) (b * j + r) ≡ bit (get_or xs j 0) r
 unfolding bit
@@ -94,6 +97,7 @@ rows_joined w R x0 x1 x2 x3 j q i e f0 f1 f2 f3 hj hq place =
 
 -- ---- a byte over and over
 
+-- a number of m equal bytes has in each place the byte's bit, by the place modulo 8
 pub byte_repeated : (w m b x : ℕ) → w ≡ 8 * m → b < 256 → x ≡ number_l (2 ^ 8) (replicate m b)
     → (i : ℕ) → i < w → bit x i ≡ bit b (i % 8)
 byte_repeated w m b x e f r i h =

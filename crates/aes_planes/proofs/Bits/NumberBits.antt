@@ -1,7 +1,7 @@
 -- The bits of a number through the operations on numbers.
 use Rattle.std.proofs.Common.{◌≡◌, ℕ, zero, suc, ◌+◌, ◌-◌, ◌*◌, ◌/◌, ◌%◌, ◌^◌, ◌<◌, ◌≤◌, ◌==◌, min, max, Bool, true}
 use Rattle.std.proofs.Common.{false, ◌&&◌, ◌||◌, not, nat_le, nat_lt, bit_and, bit_or, bit_xor, List, [], ◌∷◌, length}
-use Rattle.std.proofs.Common.{refl, ap, sym, ◌∙◌, arith, add-zero, add_comm, pow_pos, ◌⊎◌, inl, inr, w16, w32, w64}
+use Rattle.std.proofs.Common.{refl, ap, sym, ◌∙◌, arith, add-zero, add_comm, pow_pos, inl, inr, w16, w32, w64}
 use Rattle.std.proofs.Common.{cond}
 use Rattle.std.proofs.Math.Bool.{or-false, or_self}
 use Rattle.std.specs.Int.{bit_at, bit_not, Width}
@@ -35,14 +35,17 @@ xor_test = by_pairs _ refl refl refl refl
 not_test : (p : ℕ) → p < 2 → (1 - p == 1) ≡ not (p == 1)
 not_test = by_two _ refl refl
 
+-- bit i of a bitwise and is the and of the two bits i
 pub bit_of_and : (a b i : ℕ) → bit (bit_and a b) i ≡ (bit a i && bit b i)
 unfolding bit
 bit_of_and a b i = ap (λ x. x == 1) (bit_at_and a b i) ∙ and_test _ _ (bit_at-lt a i) (bit_at-lt b i)
 
+-- bit i of a bitwise or is the or of the two bits i
 pub bit_of_or : (a b i : ℕ) → bit (bit_or a b) i ≡ (bit a i || bit b i)
 unfolding bit
 bit_of_or a b i = ap (λ x. x == 1) (bit_at_or a b i) ∙ or_test _ _ (bit_at-lt a i) (bit_at-lt b i)
 
+-- bit i of a bitwise xor is the sum of the two bits i
 pub bit_of_xor : (a b i : ℕ) → bit (bit_xor a b) i ≡ xor (bit a i) (bit b i)
 unfolding bit
 bit_of_xor a b i = ap (λ x. x == 1) (bit_at_xor a b i) ∙ xor_test _ _ (bit_at-lt a i) (bit_at-lt b i)
@@ -51,16 +54,19 @@ bit_of_not : (w : Width) (a i : ℕ) → a < 2 ^ bits w → i < bits w → bit (
 unfolding bit
 bit_of_not w a i h k = ap (λ x. x == 1) (bit_at_not w a i h k) ∙ not_test _ (bit_at-lt a i)
 
+-- no bit of 0 is set
 pub bit_zero : (i : ℕ) → bit 0 i ≡ false
 unfolding bit
 bit_zero i = ap (λ v. v == 1) (bit_at-zero i)
 
+-- the lowest k bits of 2 ^ k - 1 are all set
 pub bit_ones : (k i : ℕ) → i < k → bit (2 ^ k - 1) i ≡ true
 unfolding bit
 bit_ones k i h = ap (λ v. v == 1) (bit_at_ones k i h)
 
 -- ---- a word of n bits
 
+-- below n, bit i of a number is element i of the list of its lowest n bits
 pub reads : (n a i : ℕ) → i < n → bit a i ≡ at (build n (bit a)) i
 reads n a i h = sym (get_or-build n i (bit a) false h)
 
@@ -69,14 +75,17 @@ word_by : (f : ℕ → ℕ → ℕ) (g : Bool → Bool → Bool) → ((a b i : �
     → (n a b : ℕ) → Places n (build n (bit (f a b))) (λ i. g (at (build n (bit a)) i) (at (build n (bit b)) i))
 word_by f g h n a b = Places-build n _ _ (λ i l. h a b i ∙ (λ t. g (reads n a i l t) (reads n b i l t)))
 
+-- a word of the bitwise and has in each place the and of the two words' bits
 pub word_and : (n a b : ℕ) → Places n (build n (bit (bit_and a b)))
     (λ i. at (build n (bit a)) i && at (build n (bit b)) i)
 word_and = word_by bit_and (λ x y. x && y) bit_of_and
 
+-- a word of the bitwise or has in each place the or of the two words' bits
 pub word_or : (n a b : ℕ) → Places n (build n (bit (bit_or a b)))
     (λ i. at (build n (bit a)) i || at (build n (bit b)) i)
 word_or = word_by bit_or (λ x y. x || y) bit_of_or
 
+-- a word of the bitwise xor has in each place the sum of the two words' bits
 pub word_xor : (n a b : ℕ) → Places n (build n (bit (bit_xor a b)))
     (λ i. xor (at (build n (bit a)) i) (at (build n (bit b)) i))
 word_xor = word_by bit_xor xor bit_of_xor
@@ -85,29 +94,36 @@ word_not : (w : Width) (a : ℕ) → a < 2 ^ bits w
     → Places (bits w) (build (bits w) (bit (bit_not w a))) (λ i. not (at (build (bits w) (bit a)) i))
 word_not w a h = Places-build (bits w) _ _ (λ i k. bit_of_not w a i h k ∙ ap not (reads (bits w) a i k))
 
+-- the complement of a number of 16 bits has in each place the opposite bit
 pub word_not_16 : (a : ℕ) → a < 2 ^ 16 → Places 16 (build 16 (bit (bit_not w16 a))) (λ i. not (at (build 16 (bit a)) i))
 word_not_16 = word_not w16
 
+-- the same at 32 bits
 pub word_not_32 : (a : ℕ) → a < 2 ^ 32 → Places 32 (build 32 (bit (bit_not w32 a))) (λ i. not (at (build 32 (bit a)) i))
 word_not_32 = word_not w32
 
+-- the same at 64 bits
 pub word_not_64 : (a : ℕ) → a < 2 ^ 64 → Places 64 (build 64 (bit (bit_not w64 a))) (λ i. not (at (build 64 (bit a)) i))
 word_not_64 = word_not w64
 
+-- a word of 0 has no bit set
 pub word_zero : (n : ℕ) → Places n (build n (bit 0)) (λ i. false)
 word_zero n = Places-build n _ _ (λ i h. bit_zero i)
 
 -- ---- shifts
 
+-- the remainder modulo 2 ^ w has the number's own bits below w
 pub bit_low : (x w i : ℕ) → i < w → bit (x % 2 ^ w) i ≡ bit x i
 unfolding bit
 bit_low x w i h =
     ap (λ v. v == 1) (sym (bit_at_cat_low (x / 2 ^ w) w (x % 2 ^ w) i h) ∙ ap (λ v. bit_at v i) (shr_split x w))
 
+-- a number below 2 ^ w has no bit set from w on
 pub bit_above : (x w i : ℕ) → x < 2 ^ w → w ≤ i → bit x i ≡ false
 unfolding bit
 bit_above x w i h k = ap (λ v. v == 1) (bit_at_above x w i h k)
 
+-- bit i of a number shifted right by n is its bit i + n
 pub bit_shr : (x n i : ℕ) → bit (x / 2 ^ n) i ≡ bit x (i + n)
 unfolding bit
 bit_shr x n i = ap (λ v. v % 2 == 1) (shr-shr x n i ∙ ap (λ k. x / 2 ^ k) (add_comm n i))
@@ -117,6 +133,7 @@ unfolding bit
 bit_shl_low x n i h =
     ap (λ v. v == 1) (ap (λ v. bit_at v i) (sym (add-zero (x * 2 ^ n))) ∙ bit_at_cat_low x n 0 i h ∙ bit_at-zero i)
 
+-- bit i of a number shifted left by n is its bit i - n, from bit n on
 pub bit_shl_high : (x n i : ℕ) → n ≤ i → bit (x * 2 ^ n) i ≡ bit x (i - n)
 unfolding bit
 bit_shl_high x n i h =
@@ -124,29 +141,30 @@ bit_shl_high x n i h =
 
 -- a shift up within w bits
 pub bit_shl : (w x n i : ℕ) → i < w → bit (x * 2 ^ n % 2 ^ w) i ≡ (nat_le n i && bit x (i - n))
-bit_shl w x n i h = bit_low (x * 2 ^ n) w i h ∙ go (cases_lt i n)
-  where
-    go : (i < n) ⊎ (n ≤ i) → bit (x * 2 ^ n) i ≡ (nat_le n i && bit x (i - n))
-    go (inl lt) = bit_shl_low x n i lt ∙ ap (λ b. b && bit x (i - n)) (sym (lt-leb n i lt))
-    go (inr le) = bit_shl_high x n i le ∙ ap (λ b. b && bit x (i - n)) (sym (le-leb n i le))
+bit_shl w x n i h = bit_low (x * 2 ^ n) w i h ∙ elim (cases_lt i n) [
+  | inl lt ↦ bit_shl_low x n i lt ∙ ap (λ b. b && bit x (i - n)) (sym (lt-leb n i lt))
+  | inr le ↦ bit_shl_high x n i le ∙ ap (λ b. b && bit x (i - n)) (sym (le-leb n i le))
+]
 
 -- a number of w bits has none above them
 bit_within : (w x i : ℕ) → x < 2 ^ w → bit x i ≡ (nat_lt i w && at (build w (bit x)) i)
-bit_within w x i f = go (cases_lt i w)
-  where
-    go : (i < w) ⊎ (w ≤ i) → bit x i ≡ (nat_lt i w && at (build w (bit x)) i)
-    go (inl lt) = reads w x i lt ∙ ap (λ b. b && at (build w (bit x)) i) (sym (lt-ltb i w lt))
-    go (inr le) = bit_above x w i f le ∙ ap (λ b. b && at (build w (bit x)) i) (sym (le-ltb i w le))
+bit_within w x i f = elim (cases_lt i w) [
+  | inl lt ↦ reads w x i lt ∙ ap (λ b. b && at (build w (bit x)) i) (sym (lt-ltb i w lt))
+  | inr le ↦ bit_above x w i f le ∙ ap (λ b. b && at (build w (bit x)) i) (sym (le-ltb i w le))
+]
 
+-- a word shifted left by n has in each place the bit n places below, and zeros in the lowest n
 pub word_shl : (w x n : ℕ) → Places w (build w (bit (x * 2 ^ n % 2 ^ w)))
     (λ i. nat_le n i && at (build w (bit x)) (i - n))
 word_shl w x n = Places-build w _ _ (λ i h. bit_shl w x n i h
     ∙ ap (λ b. nat_le n i && b) (reads w x (i - n) (omega arith)))
 
+-- a word shifted right by n has in each place the bit n places above, and zeros in the highest n
 pub word_shr : (w x n : ℕ) → x < 2 ^ w
     → Places w (build w (bit (x / 2 ^ n))) (λ i. nat_lt (i + n) w && at (build w (bit x)) (i + n))
 word_shr w x n f = Places-build w _ _ (λ i h. bit_shr x n i ∙ bit_within w x (i + n) f)
 
+-- the remainder modulo 256 has the bits of the word's lowest byte
 pub word_low_byte : (n x : ℕ) → 8 ≤ n → (i : ℕ) → i < 8 → bit (x % 256) i ≡ at (build n (bit x)) i
 word_low_byte n x h i k = bit_low x 8 i k ∙ reads n x i (omega arith)
 
@@ -155,16 +173,15 @@ word_low_byte n x h i k = bit_low x 8 i k ∙ reads n x i (omega arith)
 -- w bits of which the low ones are a's from p on, and the others b's
 pub bit_funnel : (w p q a b i : ℕ) (v : Bool) → p + q ≡ w → a < 2 ^ w → i < w → (i + p < w → bit a (i + p) ≡ v)
     → (w ≤ i + p → bit b (i - q) ≡ v) → bit (bit_or (a / 2 ^ p) (b * 2 ^ q % 2 ^ w)) i ≡ v
-bit_funnel w p q a b i v e f k low high = bit_of_or (a / 2 ^ p) (b * 2 ^ q % 2 ^ w) i ∙ go (cases_lt (i + p) w)
-  where
-    go : (i + p < w) ⊎ (w ≤ i + p) → (bit (a / 2 ^ p) i || bit (b * 2 ^ q % 2 ^ w) i) ≡ v
-    go (inl lt) =
-        let none = bit_low (b * 2 ^ q) w i k ∙ bit_shl_low b q i (omega arith) in
-        ap (λ x. bit (a / 2 ^ p) i || x) none ∙ or-false _ ∙ bit_shr a p i ∙ low lt
-    go (inr le) =
-        let none = bit_shr a p i ∙ bit_above a w (i + p) f le in
-        ap (λ x. x || bit (b * 2 ^ q % 2 ^ w) i) none ∙ bit_low (b * 2 ^ q) w i k ∙ bit_shl_high b q i (omega arith)
-        ∙ high le
+bit_funnel w p q a b i v e f k low high = bit_of_or (a / 2 ^ p) (b * 2 ^ q % 2 ^ w) i ∙ elim (cases_lt (i + p) w) [
+  | inl lt ↦
+      let none = bit_low (b * 2 ^ q) w i k ∙ bit_shl_low b q i (omega arith) in
+      ap (λ x. bit (a / 2 ^ p) i || x) none ∙ or-false _ ∙ bit_shr a p i ∙ low lt
+  | inr le ↦
+      let none = bit_shr a p i ∙ bit_above a w (i + p) f le in
+      ap (λ x. x || bit (b * 2 ^ q % 2 ^ w) i) none ∙ bit_low (b * 2 ^ q) w i k ∙ bit_shl_high b q i (omega arith)
+      ∙ high le
+]
 
 -- a rotation by n, which is not 0
 pub bit_rotated : (w x n i : ℕ) → x < 2 ^ w → 0 < n → n < w → i < w
@@ -189,6 +206,7 @@ ror_bit w x (suc n) i f h k =
     let s : (w - suc n) % w ≡ w - suc n = mod-eq_of_lt (omega arith) in
     rw (m, s) (bit_rotated w x (suc n) i f (omega arith) h k)
 
+-- a word rotated right by n has in each place the bit n places above, round the end
 pub word_ror : (w x n y : ℕ) → x < 2 ^ w → n < w → y ≡ bit_or (x / 2 ^ (n % w)) (x * 2 ^ ((w - n % w) % w) % 2 ^ w)
     → Places w (build w (bit y)) (λ i. at (build w (bit x)) ((i + n) % w))
 word_ror w x n y f h e = Places-build w _ _ (λ i k.
@@ -201,30 +219,23 @@ pub ruleset number_nots = (word_not_16, word_not_32, word_not_64)
 
 -- ---- a byte by its bits
 
-byte_back : ℕ → Bool
-byte_back x = number (bit x 0 ∷ bit x 1 ∷ bit x 2 ∷ bit x 3 ∷ bit x 4 ∷ bit x 5 ∷ bit x 6 ∷ bit x 7 ∷ []) == x
-
-bytes_back : all_below 256 byte_back ≡ true
-unfolding all_below byte_back bit
-bytes_back = refl
-
+-- the number of a byte's eight bits is the byte
 pub number_of_bits : (x : ℕ) → x < 256
     → number (bit x 0 ∷ bit x 1 ∷ bit x 2 ∷ bit x 3 ∷ bit x 4 ∷ bit x 5 ∷ bit x 6 ∷ bit x 7 ∷ []) ≡ x
-unfolding byte_back
-number_of_bits x h = eqb-true _ _ (all_below_tells 256 byte_back bytes_back x h)
+unfolding all_below bit
+number_of_bits x h = eqb-true _ _ (all_below_tells 256
+    (λ x. number (bit x 0 ∷ bit x 1 ∷ bit x 2 ∷ bit x 3 ∷ bit x 4 ∷ bit x 5 ∷ bit x 6 ∷ bit x 7 ∷ []) == x) refl x h)
 
 number_is : (bs : List Bool) → number bs ≡ mask_l bs
 number_is [] = refl
 number_is (b ∷ bs) = ap (λ v. cond b 1 0 + 2 * v) (number_is bs)
 
-pub number_lt : (bs : List Bool) → number bs < 2 ^ length bs
-number_lt bs = rw (number_is bs) (mask_l-lt bs)
-
-bit_value : (b : Bool) → (cond b 1 0 == 1) ≡ b
-bit_value true = refl
-bit_value false = refl
+-- the number of n bits is below 2 ^ n
+pub number_below : (bs : List Bool) → number bs < 2 ^ length bs
+number_below bs = rw (number_is bs) (mask_l-lt bs)
 
 -- the bits of the number of some bits
 pub bit_of_number : (bs : List Bool) (i : ℕ) → bit (number bs) i ≡ at bs i
 unfolding bit
-bit_of_number bs i = rw (number_is bs) (ap (λ v. v == 1) (bit_mask_l bs i) ∙ bit_value (at bs i))
+bit_of_number bs i = rw (number_is bs) (ap (λ v. v == 1) (bit_mask_l bs i)
+    ∙ elim (at bs i) as (λ b. (cond b 1 0 == 1) ≡ b) [ true ↦ refl | false ↦ refl ])

@@ -1,10 +1,10 @@
 -- The key schedule four words at a time, and the bytes of a key in its first round keys.
 use Rattle.std.proofs.Common.{◌≡◌, ◌≢◌, ◌⊎◌, inl, inr, ℕ, zero, suc, ◌+◌, ◌-◌, ◌*◌, ◌/◌, ◌%◌, ◌<◌, ◌≤◌}
-use Rattle.std.proofs.Common.{nat_lt, cond, false, List, [], ◌∷◌, ◌++◌, length, take, drop, get_or}
+use Rattle.std.proofs.Common.{nat_lt, List, [], ◌∷◌, ◌++◌, length, take, drop, get_or}
 use Rattle.std.proofs.Common.{slice_index, refl, ap, sym, subst, ◌∙◌, arith, length-append, length-take, length-drop}
 use Rattle.std.proofs.Common.{get_or-take, get_or-drop}
 use Rattle.std.proofs.Math.Nat.{mod-lt}
-use Rattle.std.proofs.lemmas.Bool.{le-ltb, lt-ltb, cases_lt}
+use Rattle.std.proofs.lemmas.Bool.{le-ltb, lt-ltb, cases_lt, cond_both, ltb-true, ltb-false}
 use Rattle.std.proofs.lemmas.Grind.{same_number_lists}
 use Rattle.std.proofs.lemmas.List.{get_or_append_left, get_or-append_right, length-take-le}
 use Rattle.std.proofs.lemmas.Nat.{mod-mul-add, div-mul-add}
@@ -24,6 +24,7 @@ use Rattle.aes_planes.proofs.Standard.States.{byte_at-state, state_is, state_sam
 abbrev pub of_words : (ℕ → List ℕ) → List ℕ
 of_words f = state (λ r c. slice_index (f c) r)
 
+-- byte r of the word f 0, .., f 3 is f r
 pub slice_index-word : (f : ℕ → ℕ) (r : ℕ) → r < 4 → slice_index (word f) r ≡ f r
 slice_index-word f = by_four (λ r. slice_index (word f) r ≡ f r) refl refl refl refl
 
@@ -45,14 +46,12 @@ module _ (rows cols : ℕ) (f g : ℕ → List ℕ) (y : List ℕ)
       ∙ sym (slice_index-word (λ r. field_add (slice_index (f (suc c)) r) (slice_index (g c) r)) r h)
       ∙ ap (λ v. slice_index v r) (sym (later c (omega arith)))
 
+  -- the running sums of four words and of a word of y, as blocks, are the sum of columns
   pub summed_words : columns_summed rows cols (of_words f) y ≡ of_words g
   unfolding columns_summed start
   summed_words = state_same _ _ columns
 
 -- ---- the words of the key expansion
-
-not_before : (i b nk : ℕ) → i ≡ b + nk → nat_lt i nk ≡ false
-not_before i b nk e = le-ltb i nk (omega arith)
 
 module _ (key : List ℕ) (nk : ℕ) (own : key_words key ≡ nk) (some : 0 < nk) (i b p : ℕ) (back : i ≡ b + nk)
     (before : i ≡ suc p) where
@@ -60,7 +59,7 @@ module _ (key : List ℕ) (nk : ℕ) (own : key_words key ≡ nk) (some : 0 < nk
   next =
       let less : i - key_words key ≡ b = omega (arith, own, back) in
       let one : i - 1 ≡ p = omega (arith, before) in
-      expanded_word_next key i (ap (nat_lt i) own ∙ not_before i b nk back) (omega (arith, own, some))
+      expanded_word_next key i (le-ltb i (key_words key) (omega (arith, own, back))) (omega (arith, own, some))
       (omega (arith, before))
       ∙ (λ t. add_words (expanded_word key (less t)) (added_word (own t) i (expanded_word key (one t))))
 
@@ -88,6 +87,7 @@ expanded_word_length key i some = elim (cases_lt i (key_words key)) [
 abbrev pub block_at : List ℕ → ℕ → List ℕ
 block_at key o = of_words (λ c. expanded_word key (o + c))
 
+-- round key j of a key is the four words from word 4 j on
 pub round_key_at : (key : List ℕ) (j o : ℕ) → o ≡ 4 * j → j < rounds key + 1 → round_key (key_expansion key) j
     ≡ block_at key o
 round_key_at key j o e lt = round_key_words key j lt ∙ ap (block_at key) (sym e)
@@ -96,20 +96,15 @@ round_key_at key j o e lt = round_key_words key j lt ∙ ap (block_at key) (sym 
 pub straddled_at : (key : List ℕ) (o p m : ℕ) → p ≡ o + 4 → m ≡ o + 2 → columns_straddled (block_at key o)
     (block_at key p) ≡ block_at key m
 unfolding columns_straddled
-straddled_at key o p m ep em = state_same _ _ go
+straddled_at key o p m ep em = state_same _ _ (λ r c h l. cond_both (nat_lt c 2) _ _
+    (λ v. v ≡ slice_index (expanded_word key (m + c)) r)
+    (λ t. let lt : c < 2 = ltb-true c 2 t in there r (c + 2) h (omega arith) o c (omega arith))
+    (λ t. let le : 2 ≤ c = ltb-false c 2 t in there r (c - 2) h (omega arith) p c (omega arith)))
   where
-    there : (r c a : ℕ) → r < 4 → c < 4 → (q d : ℕ) → q + c ≡ m + d → byte_at (block_at key q) r c
+    there : (r c : ℕ) → r < 4 → c < 4 → (q d : ℕ) → q + c ≡ m + d → byte_at (block_at key q) r c
         ≡ slice_index (expanded_word key (m + d)) r
-    there r c a h l q d e = byte_at-state (λ r c. slice_index (expanded_word key (q + c)) r) r c h l
+    there r c h l q d e = byte_at-state (λ r c. slice_index (expanded_word key (q + c)) r) r c h l
         ∙ ap (λ v. slice_index (expanded_word key v) r) e
-
-    go : (r c : ℕ) → r < 4 → c < 4 → cond (nat_lt c 2) (byte_at (block_at key o) r (c + 2))
-        (byte_at (block_at key p) r (c - 2)) ≡ slice_index (expanded_word key (m + c)) r
-    go r zero h l = there r 2 0 h (omega arith) o 0 (omega arith)
-    go r (suc zero) h l = there r 3 0 h (omega arith) o 1 (omega arith)
-    go r (suc (suc zero)) h l = there r 0 0 h (omega arith) p 2 (omega arith)
-    go r (suc (suc (suc zero))) h l = there r 1 0 h (omega arith) p 3 (omega arith)
-    go r (suc (suc (suc (suc c)))) h l = absurd (omega arith)
 
 -- ---- sums of columns from a column on
 
@@ -217,6 +212,7 @@ module _ (key : List ℕ) (nk : ℕ) (own : key_words key ≡ nk) (four : 4 ≤ 
 
 -- ---- the bytes of a key in its first round keys
 
+-- each round key of a key has sixteen bytes
 pub round_key_length : (key : List ℕ) (i : ℕ) → i < rounds key + 1 → length (round_key (key_expansion key) i) ≡ 16
 round_key_length key i lt = ap length (round_key_words key i lt) ∙ state_length _
 
@@ -237,13 +233,7 @@ module _ (key : List ℕ) (nk : ℕ) (own : key_words key ≡ nk) where
       ∙ slice_index-word (λ r. slice_index key (4 * (4 * j + c) + r)) r four
       ∙ ap (λ v. get_or key v 0) whole
 
-  -- round key 0 of a key of one block is that block
-  pub first_round_key : length key ≡ 16 → nk ≡ 4 → round_key (key_expansion key) 0 ≡ key
-  first_round_key l e =
-      let sized : length (round_key (key_expansion key) 0) ≡ 16 = round_key_length key 0 (omega arith) in
-      same_number_lists (round_key (key_expansion key) 0) key (sized ∙ sym l)
-      (λ i h. key_byte 0 i i (omega arith) (omega (arith, h, sized)) (omega (arith, h, sized, e)) (omega arith))
-
+  -- a key of at most two blocks stands at the head of its first two round keys
   pub first_bytes : (size : ℕ) → size ≡ 4 * nk → length key ≡ size → 4 ≤ nk → nk ≤ 8
       → take size (round_key (key_expansion key) 0 ++ round_key (key_expansion key) 1) ≡ key
   first_bytes size e l low high =

@@ -4,7 +4,7 @@ use Rattle.std.proofs.Common.{slice_index, refl, ap, sym, ◌∙◌, length-appe
 use Rattle.std.proofs.Math.ListN.{get_or-append}
 use Rattle.std.proofs.Math.Seq.{get_or-append_seam}
 use Rattle.aes_planes.specs.Fips197.{state, key_expansion, rounds, key_words, added_word, next_word_if, expanded_words}
-use Rattle.aes_planes.specs.Fips197.{expanded_word, blocks_of, round_key, key_word, add_words}
+use Rattle.aes_planes.specs.Fips197.{expanded_word, blocks_of_words, round_key, key_word, add_words}
 use Rattle.aes_planes.proofs.Lists.{get_or-build}
 use Rattle.aes_planes.proofs.Standard.States.{state_same}
 
@@ -32,6 +32,7 @@ module _ (key : List ℕ) where
       (let l = words_length (suc i + d) in omega arith)
       ∙ word_kept d i
 
+  -- word i is the same however many words further the key schedule has come
   pub expanded_at : (n i : ℕ) → i < n → get_or (expanded_words key n) i [] ≡ expanded_word key i
   expanded_at n i lt =
       let e : n ≡ suc i + (n - suc i) = omega arith in ap (λ v. get_or (expanded_words key v) i []) e
@@ -55,6 +56,7 @@ module _ (key : List ℕ) where
       ∙ (λ j. add_words (expanded_at i (i - key_words key) (omega arith) j)
       (added_word (key_words key) i (expanded_at i (i - 1) (omega arith) j)))
 
+  -- the first Nk words are those of the key
   pub expanded_word_key : (i : ℕ) → nat_lt i (key_words key) ≡ true → expanded_word key i ≡ key_word key i
   unfolding next_word_if
   expanded_word_key i early = word_is i ∙ ap (λ v. next_word_if v key (expanded_words key i) i) early
@@ -62,7 +64,7 @@ module _ (key : List ℕ) where
   -- round key j is words 4 j to 4 j + 3
   pub round_key_words : (j : ℕ) → j < rounds key + 1
       → round_key (key_expansion key) j ≡ state (λ r c. slice_index (expanded_word key (4 * j + c)) r)
-  unfolding key_expansion blocks_of
+  unfolding key_expansion blocks_of_words
   round_key_words j lt =
       get_or-build (rounds key + 1) j _ [] lt
       ∙ state_same _ _ (λ r c h k. ap (λ v. slice_index v r)

@@ -1,15 +1,16 @@
 -- The key expansion gives Nr + 1 blocks.
 use Rattle.std.proofs.Common.{◌≡◌, ℕ, zero, suc, ◌+◌, ◌-◌, ◌*◌, ◌/◌, ◌%◌, ◌<◌, ◌==◌, ◌&&◌, nat_lt, Bool, true, false}
-use Rattle.std.proofs.Common.{List, [], ◌∷◌, ◌++◌, length, slice_index, slice_index_or, arith}
+use Rattle.std.proofs.Common.{List, [], ◌∷◌, ◌++◌, length, slice_index, slice_index_or, refl, arith}
 use Rattle.aes_planes.specs.Fips197.{IsBytes, sbox, field_add, word, key_words, rounds, power_of_x}
 use Rattle.aes_planes.specs.Fips197.{round_constant, added_word, added_word_if, next_word_if, expanded_words}
 use Rattle.aes_planes.specs.Fips197.{key_expansion, sub_word, rot_word, add_words}
 use Rattle.aes_planes.proofs.SBox.InverseSBox.{sbox_byte}
 use Rattle.aes_planes.proofs.Lists.{length-build, build_each}
 use Rattle.aes_planes.proofs.Standard.FieldLaws.{xtime_byte, field_add_byte}
-use Rattle.aes_planes.proofs.Standard.States.{RowsBytes}
-use Rattle.aes_planes.proofs.Standard.Steps.{map_bytes, state_bytes}
+use Rattle.aes_planes.proofs.Standard.States.{RowsBytes, bytes_by_test}
+use Rattle.aes_planes.proofs.Standard.Steps.{mapped_bytes, state_bytes}
 
+-- a key of Nr rounds expands to Nr + 1 round keys
 pub expansion_length : (key : List ℕ) → length (key_expansion key) ≡ rounds key + 1
 unfolding key_expansion
 expansion_length key = length-build (rounds key + 1) _
@@ -29,25 +30,19 @@ power_byte (suc n) = xtime_byte (power_of_x n) (power_byte n)
 constant_bytes : (i : ℕ) → IsBytes (round_constant i)
 unfolding round_constant
 constant_bytes i zero = power_byte (i - 1)
-constant_bytes i (suc zero) = omega arith
-constant_bytes i (suc (suc zero)) = omega arith
-constant_bytes i (suc (suc (suc zero))) = omega arith
-constant_bytes i (suc (suc (suc (suc j)))) = omega arith
+constant_bytes i (suc j) = bytes_by_test (0 ∷ 0 ∷ 0 ∷ []) refl j
 
-sum_bytes : (v w : List ℕ) → IsBytes v → IsBytes w → IsBytes (add_words v w)
-sum_bytes v w h k =
+word_sum_bytes : (v w : List ℕ) → IsBytes v → IsBytes w → IsBytes (add_words v w)
+word_sum_bytes v w h k =
     word_bytes (λ i. field_add (slice_index v i) (slice_index w i))
     (λ i. field_add_byte (slice_index v i) (slice_index w i) (h i) (k i))
-
-rot_bytes : (w : List ℕ) → IsBytes w → IsBytes (rot_word w)
-rot_bytes w h = word_bytes (λ i. slice_index w ((i + 1) % 4)) (λ i. h ((i + 1) % 4))
 
 added_bytes : (p q : Bool) (j : ℕ) (w : List ℕ) → IsBytes w → IsBytes (added_word_if p q j w)
 unfolding added_word_if
 added_bytes true q j w h =
-    sum_bytes (sub_word (rot_word w)) (round_constant j) (map_bytes sbox sbox_byte (rot_word w) (rot_bytes w h))
+    word_sum_bytes (sub_word (rot_word w)) (round_constant j) (mapped_bytes sbox sbox_byte (rot_word w))
     (constant_bytes j)
-added_bytes false true j w h = map_bytes sbox sbox_byte w h
+added_bytes false true j w h = mapped_bytes sbox sbox_byte w
 added_bytes false false j w h = h
 
 next_bytes : (p : Bool) (key : List ℕ) (ws : List (List ℕ)) (i : ℕ) → IsBytes key → RowsBytes ws
@@ -55,7 +50,8 @@ next_bytes : (p : Bool) (key : List ℕ) (ws : List (List ℕ)) (i : ℕ) → Is
 unfolding next_word_if
 next_bytes true key ws i h g = word_bytes (λ j. slice_index key (4 * i + j)) (λ j. h (4 * i + j))
 next_bytes false key ws i h g =
-    sum_bytes (slice_index_or ws (i - key_words key) []) (added_word (key_words key) i (slice_index_or ws (i - 1) []))
+    word_sum_bytes (slice_index_or ws (i - key_words key) [])
+    (added_word (key_words key) i (slice_index_or ws (i - 1) []))
     (g (i - key_words key))
     (added_bytes (i % key_words key == 0) (nat_lt 6 (key_words key) && (i % key_words key == 4)) (i / key_words key)
     (slice_index_or ws (i - 1) []) (g (i - 1)))
@@ -66,6 +62,7 @@ append_bytes [] w h k (suc i) = λ j. omega arith
 append_bytes (v ∷ ws) w h k zero = h 0
 append_bytes (v ∷ ws) w h k (suc i) = append_bytes ws w (λ j. h (suc j)) k i
 
+-- the words of the key schedule of a key of bytes are bytes
 pub words_bytes : (key : List ℕ) (n : ℕ) → IsBytes key → RowsBytes (expanded_words key n)
 unfolding expanded_words
 words_bytes key zero h = λ i j. omega arith
@@ -74,6 +71,7 @@ words_bytes key (suc n) h =
     (words_bytes key n h)
     (next_bytes (nat_lt n (key_words key)) key (expanded_words key n) n h (words_bytes key n h))
 
+-- the round keys of a key of bytes are bytes
 pub expansion_bytes : (key : List ℕ) → IsBytes key → RowsBytes (key_expansion key)
 unfolding key_expansion
 expansion_bytes key h =

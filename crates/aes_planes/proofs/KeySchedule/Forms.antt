@@ -27,12 +27,18 @@ AreStored stored key m = (j : ℕ) → j < m → stored j (block_at key (4 * j))
 
 -- a key of nk words, and what says that four words are those of a block
 pub record Form (V : Type 0) : Type 1 where
+  -- whether a value is the four words of a block
   pub are : V → List ℕ → Type 0
+  -- the key's bytes
   pub key : List ℕ
+  -- the number of its words
   pub nk : ℕ
+  -- a key has four words or more
   pub four : 4 ≤ nk
+  -- and four bytes in each
   pub sized : length key ≡ 4 * nk
 
+-- the record of a key of nk words and of what says that a value is the four words of a block
 abbrev pub form : {V : Type 0} → (V → List ℕ → Type 0) → (key : List ℕ) (nk : ℕ) → 4 ≤ nk → length key ≡ 4 * nk → Form V
 form are key nk four sized = record { are = are; key = key; nk = nk; four = four; sized = sized }
 

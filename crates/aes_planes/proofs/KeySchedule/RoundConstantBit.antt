@@ -1,14 +1,14 @@
 -- A round constant: one bit of it, in one plane, and all of it.
 use Rattle.std.proofs.Common.{◌≡◌, ℕ, ◌*◌, ◌/◌, ◌%◌, ◌^◌, ◌<◌, ◌==◌, ◌&&◌, cond, Bool, true, false, List, [], ◌∷◌, set}
 use Rattle.std.proofs.Common.{length, get_or, map, refl, ap, sym, ◌∙◌, arith}
-use Rattle.std.proofs.lemmas.Bool.{eqb-true, and_parts}
+use Rattle.std.proofs.lemmas.Bool.{eqb-true}
 use Rattle.std.proofs.lemmas.List.{map-set, ext_get_or}
-use Rattle.aes_planes.specs.Bits.{at, xor, bit, number}
+use Rattle.aes_planes.specs.Bits.{at, xor, bit, number, IsShape}
 use Rattle.aes_planes.specs.Fips197.{field_add, add_round_key}
 use Rattle.aes_planes.specs.Planes.{held, held_byte, place, constant_block}
 use Rattle.aes_planes.proofs.Standard.States.{byte_at-state, state_same}
 use Rattle.aes_planes.proofs.Bits.BitCases.{all_bools, all_bools_tells, same, same_tells}
-use Rattle.aes_planes.proofs.Bits.ByteCases.{all_below, all_below_tells, all_pairs_tell, by_eight}
+use Rattle.aes_planes.proofs.Bits.ByteCases.{all_below, all_below_tells, all_pairs, all_pairs_tell, by_eight}
 use Rattle.aes_planes.proofs.KeySchedule.SummedColumns.{eight_bits, bit_of_word}
 use Rattle.aes_planes.proofs.Planes.Held.{build-ext, map-build, place_lt}
 use Rattle.aes_planes.proofs.Shifts.ColumnSwaps.{row_mask}
@@ -18,29 +18,19 @@ flips : ℕ → List Bool → Bool
 flips b [] = true
 flips b (f ∷ bs) = number (set bs b (xor (at bs b) f)) == field_add (number bs) (cond f (2 ^ b) 0)
 
-flips_all : all_below 8 (λ b. all_bools 9 (flips b)) ≡ true
-unfolding all_below all_bools flips
-flips_all = refl
-
 flip_tells : (b : ℕ) (bs : List Bool) (f : Bool) → b < 8 → length bs ≡ 8
     → number (set bs b (xor (at bs b) f)) ≡ field_add (number bs) (cond f (2 ^ b) 0)
-unfolding flips
+unfolding all_below all_bools flips
 flip_tells b bs f h l = eqb-true _ _
-    (all_bools_tells 9 (flips b) (all_below_tells 8 _ flips_all b h) (f ∷ bs) (omega arith))
+    (all_bools_tells 9 (flips b) (all_below_tells 8 (λ b. all_bools 9 (flips b)) refl b h) (f ∷ bs) (omega arith))
 
--- whether a nibble of one bit stands where the constant does
-nibble_test : ℕ → ℕ → ℕ → Bool
-nibble_test v r c = same (bit (get_or (0 ∷ 8 * v ∷ 0 ∷ 0 ∷ []) r 0) c) ((v == 1) && ((r == 1) && (c == 3)))
-
-nibbles_all : all_below 2 (λ v. all_below 4 (λ r. all_below 4 (nibble_test v r))) ≡ true
-unfolding all_below same bit nibble_test
-nibbles_all = refl
-
+-- a nibble for each row that is 8 v in row 1 and 0 elsewhere has bit v in row 1 and column 3 alone
 pub nibble_is : (v r c : ℕ) → v < 2 → r < 4 → c < 4
     → bit (get_or (0 ∷ 8 * v ∷ 0 ∷ 0 ∷ []) r 0) c ≡ ((v == 1) && ((r == 1) && (c == 3)))
-unfolding nibble_test
+unfolding all_below same bit
 nibble_is v r c h i j =
-    same_tells _ _ (all_pairs_tell 4 4 (nibble_test v) (all_below_tells 2 _ nibbles_all v h) r c i j)
+    let test = λ (v r c : ℕ). same (bit (get_or (0 ∷ 8 * v ∷ 0 ∷ 0 ∷ []) r 0) c) ((v == 1) && ((r == 1) && (c == 3))) in
+    same_tells _ _ (all_pairs_tell 4 4 (test v) (all_below_tells 2 (λ v. all_pairs 4 4 (test v)) refl v h) r c i j)
 
 -- what words hold plus a constant in every block
 added_at : (n x : ℕ) (new old : List (List Bool)) → ((r c k : ℕ) → r < 4 → c < 4 → k < n
@@ -53,6 +43,7 @@ added_at n x new old sums =
     (sym (byte_at-state (λ r c. cond ((r == 1) && (c == 3)) x 0) r c i j) t))))
     ∙ sym (map-build _ n _)
 
+-- planes that are summed with planes of x in row 1 of column 3 hold the old blocks with x added there
 pub constant_added : (n B x : ℕ) (new old constants : List (List Bool)) → B ≡ 16 * n
     → ((i : ℕ) → i < B → held_byte new i ≡ field_add (held_byte old i) (held_byte constants i))
     → ((r c k : ℕ) → r < 4 → c < 4 → k < n
@@ -64,20 +55,20 @@ constant_added n B x new old constants eB sums here =
     sums p (omega (arith, eB, place_lt n r c k i j l)) ∙ ap (field_add (held_byte old p)) (here r c k i j l))
 
 -- eight words of which one has its bits of row 1 and column 3 flipped
-pub constant_held : {A : Type 0} (bits : A → List Bool) (n B R Q b : ℕ) (xs : List A) (v d : A) (mask : List Bool)
-    → b < 8 → length xs ≡ 8 → R ≡ 4 * n → Q ≡ n → B ≡ 16 * n
+pub constant_bit_held : {A : Type 0} {bits : A → List Bool} {n B R H Q N S : ℕ} (shape : IsShape bits n B R H Q N S) (b : ℕ)
+    (xs : List A) (v d : A) (mask : List Bool) → b < 8 → length xs ≡ 8
     → ((i : ℕ) → i < B → at (bits v) i ≡ xor (at (bits (get_or xs b d)) i) (at mask i))
     → ((i : ℕ) → i < B → at mask i ≡ bit (get_or (0 ∷ 8 ∷ 0 ∷ 0 ∷ []) (i / R) 0) (i % R / Q))
     → held n (map bits (set xs b v)) ≡ map (λ s. add_round_key s (constant_block (2 ^ b))) (held n (map bits xs))
-constant_held bits n B R Q b xs v d mask hb len eR eQ eB hv hm =
+constant_bit_held {bits = bits} {n = n} shape b xs v d mask hb len hv hm =
     added_at n (2 ^ b) _ _ (λ r c k i j l.
     let p = place n r c k in
     let look = λ (w : List Bool). at w p in
     let bs = map look (map bits xs) in
-    let flag = row_mask n B R Q r c k (0 ∷ 8 ∷ 0 ∷ 0 ∷ []) mask eR eQ eB i j l hm ∙ nibble_is 1 r c (omega arith) i j in
+    let flag = row_mask shape r c k (0 ∷ 8 ∷ 0 ∷ 0 ∷ []) mask i j l hm ∙ nibble_is 1 r c (omega arith) i j in
     ap (λ ws. held_byte ws p) (map-set bits xs b v)
     ∙ ap number (map-set look (map bits xs) b (bits v))
-    ∙ ap (λ u. number (set bs b u)) (hv p (omega (arith, place_lt n r c k i j l))
+    ∙ ap (λ u. number (set bs b u)) (hv p (omega (arith, shape.sixteen, place_lt n r c k i j l))
     ∙ (λ t. xor (sym (bit_of_word bits xs d len p b hb) t) (flag t)))
     ∙ flip_tells b bs ((r == 1) && (c == 3)) hb (eight_bits bits xs d len p))
 
@@ -88,17 +79,10 @@ flagged : ℕ → Bool → List Bool
 flagged x f = (bit x 0 && f) ∷ (bit x 1 && f) ∷ (bit x 2 && f) ∷ (bit x 3 && f) ∷ (bit x 4 && f) ∷ (bit x 5 && f)
     ∷ (bit x 6 && f) ∷ (bit x 7 && f) ∷ []
 
-flagged_test : ℕ → Bool
-flagged_test x = (number (flagged x true) == x) && (number (flagged x false) == 0)
-
-flagged_all : all_below 256 flagged_test ≡ true
-unfolding all_below flagged_test flagged bit
-flagged_all = refl
-
 number_flagged : (x : ℕ) (f : Bool) → x < 256 → number (flagged x f) ≡ cond f x 0
-unfolding flagged_test
-number_flagged x true h = eqb-true _ _ (and_parts _ _ (all_below_tells 256 flagged_test flagged_all x h)).0
-number_flagged x false h = eqb-true _ _ (and_parts _ _ (all_below_tells 256 flagged_test flagged_all x h)).1
+unfolding all_below flagged bit
+number_flagged x true h = eqb-true _ _ (all_below_tells 256 (λ x. number (flagged x true) == x) refl x h)
+number_flagged x false h = eqb-true _ _ (all_below_tells 256 (λ x. number (flagged x false) == 0) refl x h)
 
 -- eight words that have a byte's bits at a place where a flag says so
 pub flagged_byte : {A : Type 0} (bits : A → List Bool) (xs : List A) (d : A) (x i : ℕ) (f : Bool) → x < 256

@@ -3,14 +3,15 @@ use Rattle.std.proofs.Common.{◌≡◌, ℕ, zero, suc, ◌+◌, ◌-◌, ◌*�
 use Rattle.std.proofs.Common.{true, false, List, [], ◌∷◌, length, get_or, map, refl, ap, sym, ◌∙◌, arith}
 use Rattle.aes_planes.proofs.Bits.BitCases.{xor_false}
 use Rattle.std.proofs.Math.Bool.{or-false}
-use Rattle.std.proofs.lemmas.Bool.{le-leb, lt-ltb}
+use Rattle.std.proofs.lemmas.Bool.{le-leb, lt-ltb, cond_both, cond-true, cond-false}
 use Rattle.std.proofs.lemmas.List.{length-map, get_or-map, ext_get_or}
 use Rattle.std.proofs.lemmas.Simd.{length-zip2, get_or-zip2}
-use Rattle.aes_planes.specs.Bits.{at, xor, bit, number}
+use Rattle.aes_planes.specs.Bits.{at, xor, bit, number, IsShape}
 use Rattle.aes_planes.specs.Fips197.{field_add, byte_at, state}
 use Rattle.aes_planes.specs.Planes.{held, held_byte, place, zip_with, words_at, summed, columns_summed}
 use Rattle.aes_planes.specs.Planes.{columns_straddled}
 use Rattle.aes_planes.proofs.Standard.States.{byte_at-state, state_same}
+use Rattle.aes_planes.proofs.Bits.ByteCases.{by_four}
 use Rattle.aes_planes.proofs.Planes.Held.{build-ext, zip_with-build, row_on, place_lt}
 use Rattle.aes_planes.proofs.Bits.BytesByBits.{sum_bits, number-sum}
 use Rattle.aes_planes.proofs.Planes.EightWords.{length-words_at, get_or-words_at}
@@ -23,6 +24,7 @@ bit_below rk s p q h e = ap (λ v. v && at rk (p - s)) (le-leb s p h) ∙ ap (at
 bit_above : (x : List Bool) (p s q B : ℕ) → p + s ≡ q → q < B → (nat_lt (p + s) B && at x (p + s)) ≡ at x q
 bit_above x p s q B e h = ap (λ v. nat_lt v B && at x v) e ∙ ap (λ v. v && at x q) (lt-ltb q B h)
 
+-- the sum of bits is associative
 pub xor_inward : (x y z : Bool) → xor (xor x y) z ≡ xor x (xor y z)
 xor_inward true true true = refl
 xor_inward true true false = refl
@@ -38,55 +40,29 @@ module _ (n B ror r k : ℕ) (before here first pairs out : List Bool)
     ≡ xor (at first (place n r c k)) (bit 14 c && (nat_le n (place n r c k) && at first (place n r c k - n))))
     (outs : (c : ℕ) → c < 4 → at out (place n r c k) ≡ xor (at pairs (place n r c k))
     (bit 12 c && (nat_le (2 * n) (place n r c k) && at pairs (place n r c k - 2 * n)))) where
-  first_0 : at first (place n r 0 k) ≡ xor (at before (place n r 0 k)) (at here ((place n r 0 k + ror) % B))
-  unfolding bit
-  first_0 = firsts 0 (omega arith)
-
-  first_1 : at first (place n r 1 k) ≡ at before (place n r 1 k)
-  unfolding bit
-  first_1 = firsts 1 (omega arith) ∙ xor_false _
-
-  first_2 : at first (place n r 2 k) ≡ at before (place n r 2 k)
-  unfolding bit
-  first_2 = firsts 2 (omega arith) ∙ xor_false _
-
-  first_3 : at first (place n r 3 k) ≡ at before (place n r 3 k)
-  unfolding bit
-  first_3 = firsts 3 (omega arith) ∙ xor_false _
-
-  pairs_0 : at pairs (place n r 0 k) ≡ at first (place n r 0 k)
-  unfolding bit
-  pairs_0 = seconds 0 (omega arith) ∙ xor_false _
-
-  pairs_later : (c : ℕ) → c < 3 → at pairs (place n r (suc c) k) ≡ xor (at first (place n r (suc c) k))
-      (at first (place n r c k))
-  unfolding bit
-  pairs_later zero h = seconds 1 (omega arith) ∙ ap (xor (at first (place n r 1 k)))
-      (bit_below first n (place n r 1 k) (place n r 0 k) (omega arith) (omega arith))
-  pairs_later (suc zero) h = seconds 2 (omega arith) ∙ ap (xor (at first (place n r 2 k)))
-      (bit_below first n (place n r 2 k) (place n r 1 k) (omega arith) (omega arith))
-  pairs_later (suc (suc zero)) h = seconds 3 (omega arith) ∙ ap (xor (at first (place n r 3 k)))
-      (bit_below first n (place n r 3 k) (place n r 2 k) (omega arith) (omega arith))
-  pairs_later (suc (suc (suc c))) h = absurd (omega arith)
-
+  -- the bit that comes out is the sum of the old bits of its row up to its column and of one bit of the other word
   pub columns_right : (c : ℕ) → c < 4 → at out (place n r c k) ≡ summed xor (λ e. at before (place n r e k))
       (at here ((place n r 0 k + ror) % B)) c
   unfolding bit
-  columns_right zero h = outs 0 h ∙ xor_false _ ∙ pairs_0 ∙ first_0
-  columns_right (suc zero) h = outs 1 h ∙ xor_false _ ∙ pairs_later 0 (omega arith) ∙ (λ t. xor (first_1 t) (first_0 t))
-  columns_right (suc (suc zero)) h =
-      let up2 = bit_below pairs (2 * n) (place n r 2 k) (place n r 0 k) (omega arith) (omega arith) ∙ pairs_0
-      ∙ first_0 in
-      outs 2 h ∙ (λ t. xor ((pairs_later 1 (omega arith) ∙ (λ t. xor (first_2 t) (first_1 t))) t) (up2 t))
-      ∙ xor_inward (at before (place n r 2 k)) (at before (place n r 1 k))
-      (xor (at before (place n r 0 k)) (at here ((place n r 0 k + ror) % B)))
-  columns_right (suc (suc (suc zero))) h =
-      let up2 = bit_below pairs (2 * n) (place n r 3 k) (place n r 1 k) (omega arith) (omega arith)
-      ∙ pairs_later 0 (omega arith) ∙ (λ t. xor (first_1 t) (first_0 t)) in
-      outs 3 h ∙ (λ t. xor ((pairs_later 2 (omega arith) ∙ (λ t. xor (first_3 t) (first_2 t))) t) (up2 t))
-      ∙ xor_inward (at before (place n r 3 k)) (at before (place n r 2 k))
-      (xor (at before (place n r 1 k)) (xor (at before (place n r 0 k)) (at here ((place n r 0 k + ror) % B))))
-  columns_right (suc (suc (suc (suc c)))) h = absurd (omega arith)
+  columns_right c l =
+      let p = λ (c : ℕ). place n r c k in
+      let b = λ (c : ℕ). at before (p c) in
+      let f0 = firsts 0 (omega arith) in
+      let f1 = firsts 1 (omega arith) ∙ xor_false (b 1) in
+      let f2 = firsts 2 (omega arith) ∙ xor_false (b 2) in
+      let f3 = firsts 3 (omega arith) ∙ xor_false (b 3) in
+      let up = bit_below first n in
+      let p0 = seconds 0 (omega arith) ∙ xor_false (at first (p 0)) ∙ f0 in
+      let p1 = seconds 1 (omega arith) ∙ (λ t. xor (f1 t) ((up (p 1) (p 0) (omega arith) (omega arith) ∙ f0) t)) in
+      let p2 = seconds 2 (omega arith) ∙ (λ t. xor (f2 t) ((up (p 2) (p 1) (omega arith) (omega arith) ∙ f1) t)) in
+      let p3 = seconds 3 (omega arith) ∙ (λ t. xor (f3 t) ((up (p 3) (p 2) (omega arith) (omega arith) ∙ f2) t)) in
+      let up2 = bit_below pairs (2 * n) in
+      by_four (λ c. at out (p c) ≡ summed xor b (at here ((p 0 + ror) % B)) c)
+      (outs 0 (omega arith) ∙ xor_false (at pairs (p 0)) ∙ p0) (outs 1 (omega arith) ∙ xor_false (at pairs (p 1)) ∙ p1)
+      (outs 2 (omega arith) ∙ (λ t. xor (p2 t) ((up2 (p 2) (p 0) (omega arith) (omega arith) ∙ p0) t))
+      ∙ xor_inward (b 2) (b 1) _)
+      (outs 3 (omega arith) ∙ (λ t. xor (p3 t) ((up2 (p 3) (p 1) (omega arith) (omega arith) ∙ p1) t))
+      ∙ xor_inward (b 3) (b 2) _) c l
 
 -- what two masks let through of one word two columns down and of another two columns up
 pub straddled : (n B r k : ℕ) (left right : List Bool) → B ≡ 16 * n → r < 4 → k < n → (c : ℕ) → c < 4
@@ -94,15 +70,13 @@ pub straddled : (n B r k : ℕ) (left right : List Bool) → B ≡ 16 * n → r 
     || (bit 12 c && (nat_le (2 * n) (place n r c k) && at right (place n r c k - 2 * n))))
     ≡ cond (nat_lt c 2) (at left (place n r (c + 2) k)) (at right (place n r (c - 2) k))
 unfolding bit
-straddled n B r k left right eB h kn zero l = or-false _ ∙ bit_above left (place n r 0 k) (2 * n) (place n r 2 k) B
-    (omega arith) (let s = place_lt n r 2 k h (omega arith) kn in omega arith)
-straddled n B r k left right eB h kn (suc zero) l = or-false _ ∙ bit_above left (place n r 1 k) (2 * n) (place n r 3 k)
-    B (omega arith) (let s = place_lt n r 3 k h (omega arith) kn in omega arith)
-straddled n B r k left right eB h kn (suc (suc zero)) l = bit_below right (2 * n) (place n r 2 k) (place n r 0 k)
-    (omega arith) (omega arith)
-straddled n B r k left right eB h kn (suc (suc (suc zero))) l = bit_below right (2 * n) (place n r 3 k) (place n r 1 k)
-    (omega arith) (omega arith)
-straddled n B r k left right eB h kn (suc (suc (suc (suc c)))) l = absurd (omega arith)
+straddled n B r k left right eB h kn =
+    let p = λ (c : ℕ). place n r c k in
+    let most = λ (c : ℕ) (l : c < 4). place_lt n r c k h l kn in
+    by_four _ (or-false _ ∙ bit_above left (p 0) (2 * n) (p 2) B (omega arith) (omega (arith, most 2 (omega arith))))
+    (or-false _ ∙ bit_above left (p 1) (2 * n) (p 3) B (omega arith) (omega (arith, most 3 (omega arith))))
+    (bit_below right (2 * n) (p 2) (p 0) (omega arith) (omega arith))
+    (bit_below right (2 * n) (p 3) (p 1) (omega arith) (omega arith))
 
 -- ---- a byte of the planes
 
@@ -133,6 +107,7 @@ module _ (f : ℕ → List Bool) (y : List Bool) (fs : (e : ℕ) → length (f e
       ap number (ext_get_or false bs (summed sum_bits f y c) (l ∙ sym (length-summed c))
       (λ m lt. let k : m < 8 = omega arith in h m k ∙ sym (at-summed c m k))) ∙ number-summed c
 
+-- sums of equal elements are equal
 pub summed-ext : {A : Type 0} (op : A → A → A) (f g : ℕ → A) (y z : A) (c : ℕ) → ((e : ℕ) → e ≤ c → f e ≡ g e) → y ≡ z
     → summed op f y c ≡ summed op g z c
 summed-ext op f g y z zero h e = (λ t. op (h 0 (omega arith) t) (e t))
@@ -159,9 +134,11 @@ first_of (x ∷ xs) h = x
 
 -- the bits at a place of eight words
 module _ {A : Type 0} (bits : A → List Bool) (xs : List A) (d : A) (l : length xs ≡ 8) where
+  -- eight words have eight bits at a place
   pub eight_bits : (p : ℕ) → length (map (λ w. at w p) (map bits xs)) ≡ 8
   eight_bits p = length-map (map bits xs) (λ w. at w p) ∙ length-map xs bits ∙ l
 
+  -- and bit m of them is that of word m
   pub bit_of_word : (p m : ℕ) → m < 8 → at (map (λ w. at w p) (map bits xs)) m ≡ at (bits (get_or xs m d)) p
   bit_of_word p m h =
       let n : length (map bits xs) ≡ 8 = length-map xs bits ∙ l in
@@ -181,29 +158,28 @@ moved_byte bits d xs ys p q lx ly h =
 -- the last columns of a state and the first of another, by their bytes
 ends : (f g : ℕ → ℕ → ℕ) (r c : ℕ) → r < 4 → c < 4 → cond (nat_lt c 2) (f r (c + 2)) (g r (c - 2))
     ≡ cond (nat_lt c 2) (byte_at (state f) r (c + 2)) (byte_at (state g) r (c - 2))
-ends f g r zero h l = sym (byte_at-state f r 2 h (omega arith))
-ends f g r (suc zero) h l = sym (byte_at-state f r 3 h (omega arith))
-ends f g r (suc (suc zero)) h l = sym (byte_at-state g r 0 h (omega arith))
-ends f g r (suc (suc (suc zero))) h l = sym (byte_at-state g r 1 h (omega arith))
-ends f g r (suc (suc (suc (suc c)))) h l = absurd (omega arith)
+ends f g r c h = by_four (λ c. cond (nat_lt c 2) (f r (c + 2)) (g r (c - 2)) ≡ cond (nat_lt c 2)
+    (byte_at (state f) r (c + 2)) (byte_at (state g) r (c - 2)))
+    (sym (byte_at-state f r 2 h (omega arith))) (sym (byte_at-state f r 3 h (omega arith)))
+    (sym (byte_at-state g r 0 h (omega arith))) (sym (byte_at-state g r 1 h (omega arith))) c
 
-module _ {A : Type 0} (bits : A → List Bool) (n : ℕ) (new x y : List A) (ln : length new ≡ 8) (lx : length x ≡ 8)
-    (ly : length y ≡ 8) where
+module _ {A : Type 0} {bits : A → List Bool} {n B R H Q N S : ℕ} (shape : IsShape bits n B R H Q N S)
+    (new x y : List A) (ln : length new ≡ 8) (lx : length x ≡ 8) (ly : length y ≡ 8) where
   -- eight words that are sums of columns, word by word
-  pub columns_of_eight : (B ror rows cols : ℕ) → B ≡ 16 * n → rows < 4 → cols < 4 → ror ≡ rows * (4 * n) + cols * n
+  pub columns_of_eight : (ror rows cols : ℕ) → rows < 4 → cols < 4 → ror ≡ rows * (4 * n) + cols * n
       → ((m : ℕ) (d : A) (r c k : ℕ) → m < 8 → r < 4 → c < 4 → k < n
       → at (bits (get_or new m d)) (place n r c k)
       ≡ summed xor (λ e. at (bits (get_or x m d)) (place n r e k))
       (at (bits (get_or y m d)) ((place n r 0 k + ror) % B)) c)
       → held n (map bits new) ≡ zip_with (columns_summed rows cols) (held n (map bits x)) (held n (map bits y))
-  columns_of_eight B ror rows cols eB hr hc er h =
+  columns_of_eight ror rows cols hr hc er h =
       let d = first_of new (omega arith) in
       columns_held n rows cols _ _ _ hc (λ r c k i j l.
       let p = place n r c k in
       let q = place n ((r + rows) % 4) cols k in
       let turn : (place n r 0 k + ror) % B ≡ q =
       let e : place n r 0 k + ror ≡ place n r cols k + rows * (4 * n) = omega (arith, er) in
-      (λ t. e t % eB t) ∙ row_on n r cols k rows i hc l hr in
+      (λ t. e t % shape.sixteen t) ∙ row_on n r cols k rows i hc l hr in
       byte_summed (λ e. map (λ w. at w (place n r e k)) (map bits x)) (map (λ w. at w q) (map bits y))
       (λ e. eight_bits bits x d lx (place n r e k)) (eight_bits bits y d ly q)
       (map (λ w. at w p) (map bits new)) c (eight_bits bits new d ln p) (λ m lm.
@@ -211,44 +187,42 @@ module _ {A : Type 0} (bits : A → List Bool) (n : ℕ) (new x y : List A) (ln 
       ∙ summed-ext xor _ _ _ _ c (λ e le. sym (bit_of_word bits x d lx (place n r e k) m lm))
       (ap (at (bits (get_or y m d))) turn ∙ sym (bit_of_word bits y d ly q m lm))))
 
-  -- eight words that are the last columns of x and the first of y, word by word
-  module _ (h : (m : ℕ) (d : A) (r c k : ℕ) → m < 8 → r < 4 → c < 4 → k < n
-      → at (bits (get_or new m d)) (place n r c k) ≡ cond (nat_lt c 2) (at (bits (get_or x m d)) (place n r (c + 2) k))
-      (at (bits (get_or y m d)) (place n r (c - 2) k))) where
-    straddled_byte : (r c k : ℕ) → r < 4 → c < 4 → k < n
-        → held_byte (map bits new) (place n r c k) ≡ cond (nat_lt c 2) (held_byte (map bits x) (place n r (c + 2) k))
-        (held_byte (map bits y) (place n r (c - 2) k))
-    straddled_byte r zero k i j l = let d = first_of new (omega arith) in moved_byte bits d new x _ _ ln lx
-        (λ m lt. h m d r 0 k lt i j l)
-    straddled_byte r (suc zero) k i j l = let d = first_of new (omega arith) in moved_byte bits d new x _ _ ln lx
-        (λ m lt. h m d r 1 k lt i j l)
-    straddled_byte r (suc (suc zero)) k i j l = let d = first_of new (omega arith) in moved_byte bits d new y _ _ ln ly
-        (λ m lt. h m d r 2 k lt i j l)
-    straddled_byte r (suc (suc (suc zero))) k i j l = let d = first_of new (omega arith) in moved_byte bits d new y _ _
-        ln ly (λ m lt. h m d r 3 k lt i j l)
-    straddled_byte r (suc (suc (suc (suc c)))) k i j l = absurd (omega arith)
+-- eight words that are the last columns of x and the first of y, word by word
+module _ {A : Type 0} (bits : A → List Bool) (n : ℕ) (new x y : List A) (ln : length new ≡ 8) (lx : length x ≡ 8)
+    (ly : length y ≡ 8) (h : (m : ℕ) (d : A) (r c k : ℕ) → m < 8 → r < 4 → c < 4 → k < n
+    → at (bits (get_or new m d)) (place n r c k) ≡ cond (nat_lt c 2) (at (bits (get_or x m d)) (place n r (c + 2) k))
+    (at (bits (get_or y m d)) (place n r (c - 2) k))) where
+  straddled_byte : (r c k : ℕ) → r < 4 → c < 4 → k < n
+      → held_byte (map bits new) (place n r c k) ≡ cond (nat_lt c 2) (held_byte (map bits x) (place n r (c + 2) k))
+      (held_byte (map bits y) (place n r (c - 2) k))
+  straddled_byte r c k i j l =
+      let d = first_of new (omega arith) in
+      cond_both (nat_lt c 2) _ _ (λ v. held_byte (map bits new) (place n r c k) ≡ v)
+      (λ t. moved_byte bits d new x _ _ ln lx (λ m lt. h m d r c k lt i j l ∙ cond-true _ _ _ t))
+      (λ t. moved_byte bits d new y _ _ ln ly (λ m lt. h m d r c k lt i j l ∙ cond-false _ _ _ t))
 
-    pub straddled_of_eight : held n (map bits new) ≡ zip_with columns_straddled (held n (map bits x))
-        (held n (map bits y))
-    unfolding held columns_straddled
-    straddled_of_eight = build-ext n _ _ (λ k l. state_same _ _ (λ r c i j. straddled_byte r c k i j l
-        ∙ ends (λ r c. held_byte (map bits x) (place n r c k)) (λ r c. held_byte (map bits y) (place n r c k)) r c i j))
-        ∙ sym (zip_with-build columns_straddled n _ _)
+  -- eight words that straddle x and y, bit by bit, hold the last two columns of x's blocks and the first two of y's
+  pub straddled_of_eight : held n (map bits new) ≡ zip_with columns_straddled (held n (map bits x))
+      (held n (map bits y))
+  unfolding held columns_straddled
+  straddled_of_eight = build-ext n _ _ (λ k l. state_same _ _ (λ r c i j. straddled_byte r c k i j l
+      ∙ ends (λ r c. held_byte (map bits x) (place n r c k)) (λ r c. held_byte (map bits y) (place n r c k)) r c i j))
+      ∙ sym (zip_with-build columns_straddled n _ _)
 
 -- eight words of a list that are sums of columns, word by word
-pub columns_of_words : {A : Type 0} (bits : A → List Bool) (n B ror rows cols o back : ℕ) (new old : List A)
-    → length new ≡ length old → o + 8 ≤ length old → back ≤ o → B ≡ 16 * n → rows < 4 → cols < 4 → ror
-    ≡ rows * (4 * n) + cols * n
+pub columns_of_words : {A : Type 0} {bits : A → List Bool} {n B R H Q N S : ℕ} (shape : IsShape bits n B R H Q N S)
+    (ror rows cols o back : ℕ) (new old : List A) → length new ≡ length old → o + 8 ≤ length old → back ≤ o → rows < 4
+    → cols < 4 → ror ≡ rows * (4 * n) + cols * n
     → ((m : ℕ) (d : A) (r c k : ℕ) → m < 8 → r < 4 → c < 4 → k < n
     → at (bits (get_or new (o + m) d)) (place n r c k)
     ≡ summed xor (λ e. at (bits (get_or old (o + m - back) d)) (place n r e k))
     (at (bits (get_or old (o + m) d)) ((place n r 0 k + ror) % B)) c)
     → held n (map bits (words_at new o)) ≡ zip_with (columns_summed rows cols)
     (held n (map bits (words_at old (o - back)))) (held n (map bits (words_at old o)))
-columns_of_words bits n B ror rows cols o back new old len room le eB hr hc er h =
-    columns_of_eight bits n (words_at new o) (words_at old (o - back)) (words_at old o)
-    (length-words_at new o (omega arith)) (length-words_at old (o - back) (omega arith)) (length-words_at old o room) B
-    ror rows cols eB hr hc er (λ m d r c k lm i j l.
+columns_of_words {bits = bits} {n = n} {B = B} shape ror rows cols o back new old len room le hr hc er h =
+    columns_of_eight shape (words_at new o) (words_at old (o - back)) (words_at old o)
+    (length-words_at new o (omega arith)) (length-words_at old (o - back) (omega arith)) (length-words_at old o room)
+    ror rows cols hr hc er (λ m d r c k lm i j l.
     let s : o + m - back ≡ o - back + m = omega arith in
     ap (λ w. at (bits w) (place n r c k)) (get_or-words_at new o m d lm) ∙ h m d r c k lm i j l
     ∙ summed-ext xor _ _ _ _ c (λ e le. ap (λ v. at (bits (get_or old v d)) (place n r e k)) s

@@ -1,12 +1,12 @@
 -- Column mixing: turns by rows and columns, and matrices whose rows turn.
 use Rattle.std.proofs.Common.{◌≡◌, ℕ, zero, suc, ◌+◌, ◌-◌, ◌*◌, ◌/◌, ◌%◌, ◌^◌, ◌<◌, ◌≤◌, ◌&&◌, ◌||◌, not, nat_lt, Bool}
-use Rattle.std.proofs.Common.{true, false, List, [], ◌∷◌, slice_index, refl, ap, sym, ◌∙◌, ◌⊎◌, inl, inr, arith}
+use Rattle.std.proofs.Common.{List, [], ◌∷◌, slice_index, refl, ap, sym, ◌∙◌, ◌⊎◌, inl, inr, arith}
 use Rattle.std.specs.Int.Bits.{xor_assoc}
 use Rattle.std.proofs.Math.Bool.{and-true, and-false, or-false}
 use Rattle.std.proofs.Math.Nat.{mod-eq_of_lt}
-use Rattle.std.proofs.lemmas.Bool.{lt-ltb, lt-leb}
+use Rattle.std.proofs.lemmas.Bool.{lt-ltb, le-ltb}
 use Rattle.std.proofs.lemmas.Nat.{xor_comm}
-use Rattle.aes_planes.specs.Bits.{bit}
+use Rattle.aes_planes.specs.Bits.{bit, IsShape}
 use Rattle.aes_planes.specs.Fips197.{field_add, field_mul, byte_at, build, state, row_by_column, mix_row, inv_mix_row}
 use Rattle.aes_planes.specs.Fips197.{mix_columns, inv_mix_columns, shift_rows, inv_shift_rows, shift_times}
 use Rattle.aes_planes.specs.Fips197.{inv_shift_times}
@@ -18,55 +18,43 @@ use Rattle.aes_planes.proofs.Planes.Held.{row_on}
 
 -- ---- turns by rows and columns
 
--- the place so many rows and columns on, where the column stays in its row
-pub turned_place : (n B R Q r c k rows cols : ℕ) → R ≡ 4 * n → Q ≡ n → B ≡ 16 * n → r < 4 → c + cols < 4 → k < n
-    → rows ≤ 3 → (place n r c k + (rows * R + cols * Q)) % B ≡ place n ((r + rows) % 4) ((c + cols) % 4) k
-turned_place n B R Q r c k rows cols eR eQ eB h l kn d =
-    let e : place n r c k + (rows * (4 * n) + cols * n) ≡ place n r (c + cols) k + rows * (4 * n) = grind arith in
-    let m : c + cols ≡ (c + cols) % 4 = sym (mod-eq_of_lt l) in
-    (λ t. (place n r c k + (rows * eR t + cols * eQ t)) % eB t) ∙ ap (λ v. v % (16 * n)) e
-    ∙ row_on n r (c + cols) k rows h l kn (omega arith)
-    ∙ ap (λ v. place n ((r + rows) % 4) v k) m
+module _ {A : Type 0} {bits : A → List Bool} {n B R H Q N S : ℕ} (shape : IsShape bits n B R H Q N S) where
+  -- the place `rows` rows and `cols` columns on, if the column doesn't wrap
+  pub turned_place : (r c k rows cols : ℕ) → r < 4 → c + cols < 4 → k < n → rows ≤ 3
+      → (place n r c k + (rows * R + cols * Q)) % B ≡ place n ((r + rows) % 4) ((c + cols) % 4) k
+  turned_place r c k rows cols h l kn d =
+      let e : place n r c k + (rows * (4 * n) + cols * n) ≡ place n r (c + cols) k + rows * (4 * n) = grind arith in
+      (λ t. (place n r c k + (rows * shape.four t + cols * shape.one t)) % shape.sixteen t)
+      ∙ ap (λ v. v % (16 * n)) e ∙ row_on n r (c + cols) k rows h l kn (omega arith)
+      ∙ ap (λ v. place n ((r + rows) % 4) v k) (sym (mod-eq_of_lt l))
 
--- the same where the column wraps, which is a rotation of the word by a row less
-pub wrapped_place : (n B R Q r c k rows cols : ℕ) → R ≡ 4 * n → Q ≡ n → B ≡ 16 * n → r < 4 → c < 4 → 4 ≤ c + cols
-    → k < n
-    → 1 ≤ rows → rows ≤ 3 → cols ≤ 3
-    → (place n r c k + ((rows - 1) * R + cols * Q)) % B ≡ place n ((r + rows) % 4) ((c + cols) % 4) k
-wrapped_place n B R Q r c k rows cols eR eQ eB h i l kn some d dc =
-    let e : ℕ = c + cols - 4 in
-    let m : e ≡ (c + cols) % 4 = omega arith in
-    let a : (c + cols) * n ≡ (e + 4) * n = ap (λ v. v * n) (omega arith) in
-    let b : rows * (4 * n) ≡ (rows - 1 + 1) * (4 * n) = ap (λ v. v * (4 * n)) (omega arith) in
-    let s : place n r c k + ((rows - 1) * (4 * n) + cols * n) ≡ place n r e k + rows * (4 * n) = grind (arith, a, b) in
-    (λ t. (place n r c k + ((rows - 1) * eR t + cols * eQ t)) % eB t) ∙ ap (λ v. v % (16 * n)) s
-    ∙ row_on n r e k rows h (omega arith) kn (omega arith)
-    ∙ ap (λ v. place n ((r + rows) % 4) v k) m
+  -- the same where the column wraps, which is a rotation of the word by a row less
+  pub wrapped_place : (r c k rows cols : ℕ) → r < 4 → c < 4 → 4 ≤ c + cols → k < n → 1 ≤ rows → rows ≤ 3 → cols ≤ 3
+      → (place n r c k + ((rows - 1) * R + cols * Q)) % B ≡ place n ((r + rows) % 4) ((c + cols) % 4) k
+  wrapped_place r c k rows cols h i l kn some d dc =
+      let e : ℕ = c + cols - 4 in
+      let m : e ≡ (c + cols) % 4 = omega arith in
+      let a : (c + cols) * n ≡ (e + 4) * n = ap (λ v. v * n) (omega arith) in
+      let b : rows * (4 * n) ≡ (rows - 1 + 1) * (4 * n) = ap (λ v. v * (4 * n)) (omega arith) in
+      let s : place n r c k + ((rows - 1) * (4 * n) + cols * n) ≡ place n r e k + rows * (4 * n) =
+      grind (arith, a, b) in
+      (λ t. (place n r c k + ((rows - 1) * shape.four t + cols * shape.one t)) % shape.sixteen t)
+      ∙ ap (λ v. v % (16 * n)) s ∙ row_on n r e k rows h (omega arith) kn (omega arith)
+      ∙ ap (λ v. place n ((r + rows) % 4) v k) m
 
--- the mask of the columns that stay in their row
-stay_test : ℕ → ℕ → Bool
-stay_test cols c = same (bit (15 / 2 ^ cols) c) (nat_lt (c + cols) 4)
-
-stay_all : all_below 4 (λ cols. all_below 4 (stay_test cols)) ≡ true
-unfolding all_below stay_test same bit
-stay_all = refl
-
+-- bit c of 15 / 2 ^ cols says whether column c, moved on by cols, stays in its row
 pub stay_bit : (cols c : ℕ) → cols ≤ 3 → c < 4 → bit (15 / 2 ^ cols) c ≡ nat_lt (c + cols) 4
-unfolding stay_test
-stay_bit cols c h l = same_tells _ _ (all_pairs_tell 4 4 stay_test stay_all cols c (omega arith) l)
-
-masked_in : (a b : Bool) → (a && true) || (b && not true) ≡ a
-masked_in a b = (λ t. and-true a t || and-false b t) ∙ or-false a
-
-masked_out : (a b : Bool) → (a && false) || (b && not false) ≡ b
-masked_out a b = (λ t. and-false a t || and-true b t)
+unfolding all_below same bit
+stay_bit cols c h l = same_tells _ _
+    (all_pairs_tell 4 4 (λ cols c. same (bit (15 / 2 ^ cols) c) (nat_lt (c + cols) 4)) refl cols c (omega arith) l)
 
 -- what a mask lets through of one bit and its complement of another, where the mask's bit is whether x is below 4
 pub masked_turn : (a b m w : Bool) (x : ℕ) → m ≡ nat_lt x 4 → (x < 4 → a ≡ w) → (4 ≤ x → b ≡ w) → (x < 4) ⊎ (4 ≤ x)
     → (a && m) || (b && not m) ≡ w
-masked_turn a b m w x e p q (inl lt) = ap (λ v. (a && v) || (b && not v)) (e ∙ lt-ltb x 4 lt) ∙ masked_in a b ∙ p lt
+masked_turn a b m w x e p q (inl lt) =
+    ap (λ v. (a && v) || (b && not v)) (e ∙ lt-ltb x 4 lt) ∙ (λ t. and-true a t || and-false b t) ∙ or-false a ∙ p lt
 masked_turn a b m w x e p q (inr le) =
-    ap (λ v. (a && v) || (b && not v)) (e ∙ lt-leb (suc x) 4 (omega arith)) ∙ masked_out a b ∙ q le
+    ap (λ v. (a && v) || (b && not v)) (e ∙ le-ltb x 4 le) ∙ (λ t. and-false a t || and-true b t) ∙ q le
 
 -- ---- matrices of which each row is the one above, turned by one
 
@@ -104,15 +92,17 @@ around_row m0 m1 m2 m3 s (suc (suc (suc (suc r)))) c h = absurd (omega arith)
 abbrev pub Mixes : List ℕ → (List ℕ → List ℕ) → Type 0
 Mixes m step = (s : List ℕ) → step s ≡ state (around m (byte_at s))
 
+-- MixColumns mixes by the matrix whose rows are its first row turned
 pub mix_around : Mixes (mix_row 0) mix_columns
 unfolding mix_columns
 mix_around s = state_same _ _ (λ r c h l. around_row 2 3 1 1 s r c h)
 
+-- InvMixColumns mixes by the matrix whose rows are its first row turned
 pub inv_mix_around : Mixes (inv_mix_row 0) inv_mix_columns
 unfolding inv_mix_columns
 inv_mix_around s = state_same _ _ (λ r c h l. around_row 14 11 13 9 s r c h)
 
--- ---- mixing where each row of a column stands so many columns further on than the row before
+-- ---- mixing if each row of a column is `cols` columns further on than the row before
 
 -- the products of four factors and the bytes from row r and column c on
 abbrev pub mixed_byte : List ℕ → ℕ → (ℕ → ℕ → ℕ) → ℕ → ℕ → ℕ

@@ -1,8 +1,8 @@
--- Column mixing by pairs: planes that hold so many times each byte and so many times the next in its column.
+-- Column mixing by pairs: planes that hold multiples of each byte plus multiples of the next byte in its column.
 use Rattle.std.proofs.Common.{◌≡◌, ℕ, ◌+◌, ◌*◌, ◌%◌, ◌<◌, Bool, List, [], ◌∷◌, length, map, ap, sym, ◌∙◌, arith}
 use Rattle.std.specs.Int.Bits.{xor_assoc, xor_zero_r}
 use Rattle.std.proofs.lemmas.List.{length-map}
-use Rattle.aes_planes.specs.Bits.{at}
+use Rattle.aes_planes.specs.Bits.{at, IsShape}
 use Rattle.aes_planes.specs.Fips197.{field_add, field_mul}
 use Rattle.aes_planes.specs.Planes.{held, held_byte, place, between_shifts}
 use Rattle.aes_planes.proofs.Bits.BytesByBits.{number_lt}
@@ -12,15 +12,19 @@ use Rattle.aes_planes.proofs.Standard.FieldLaws.{add_swap, field_add_byte, field
 use Rattle.aes_planes.proofs.Standard.FieldLaws.{field_mul_factors, field_mul_double, field_mul_zero}
 use Rattle.aes_planes.proofs.Standard.FieldLaws.{field_mul_one_left}
 
--- in each place m times the old byte and k times the old byte a row and so many columns on
+-- in each place m times the old byte plus k times the old byte one row and `cols` columns on
 pub record Pairs (n cols : ℕ) (old planes : List (List Bool)) (m k : ℕ) : Type 0 where
+  -- the factor of the byte itself
   pub first : m < 256
+  -- the factor of the byte a row on
   pub second : k < 256
+  -- each byte is the sum of the two products
   pub bytes : (r c b : ℕ) → r < 4 → c < 4 → b < n → held_byte planes (place n r c b)
       ≡ field_add (field_mul m (held_byte old (place n r c b)))
       (field_mul k (held_byte old (place n ((r + 1) % 4) ((c + cols) % 4) b)))
 
-module _ (n cols : ℕ) {A : Type 0} (bits : A → List Bool) (xs : List A) (l : length xs ≡ 8) where
+module _ {A : Type 0} {bits : A → List Bool} {n w R H Q N S : ℕ} (shape : IsShape bits n w R H Q N S) (cols : ℕ)
+    (xs : List A) (l : length xs ≡ 8) where
   abbrev old : List (List Bool)
   old = map bits xs
 
@@ -50,16 +54,18 @@ module _ (n cols : ℕ) {A : Type 0} (bits : A → List Bool) (xs : List A) (l :
         (field_mul_one_left _ (byte_lt (place n ((r + 1) % 4) ((c + cols) % 4) b)) t));
   }
 
--- planes of w bits whose byte in each place is the sum of those of two others, or the double of that of another
+-- planes of w bits whose byte in each place is the sum of those of two others
 abbrev pub Sum : ℕ → List (List Bool) → List (List Bool) → List (List Bool) → Type 0
 Sum w x y z = (i : ℕ) → i < w → held_byte z i ≡ field_add (held_byte x i) (held_byte y i)
 
+-- planes of w bits whose byte in each place is the double of that of another
 abbrev pub Double : ℕ → List (List Bool) → List (List Bool) → Type 0
 Double w x z = (i : ℕ) → i < w → held_byte z i ≡ field_mul 2 (held_byte x i)
 
-module _ (n w cols : ℕ) (wide : w ≡ 16 * n) (old : List (List Bool)) where
+module _ {A : Type 0} {bits : A → List Bool} {n w R H Q N S : ℕ} (shape : IsShape bits n w R H Q N S) (cols : ℕ)
+    (old : List (List Bool)) where
   inside : (r c b : ℕ) → r < 4 → c < 4 → b < n → place n r c b < w
-  inside r c b hr hc hb = omega (arith, wide, place_lt n r c b hr hc hb)
+  inside r c b hr hc hb = omega (arith, shape.sixteen, place_lt n r c b hr hc hb)
 
   own : (r c b : ℕ) → ℕ
   own r c b = held_byte old (place n r c b)
@@ -67,6 +73,7 @@ module _ (n w cols : ℕ) (wide : w ≡ 16 * n) (old : List (List Bool)) where
   after : (r c b : ℕ) → ℕ
   after r c b = own ((r + 1) % 4) ((c + cols) % 4) b
 
+  -- the sum of two such pairs has the sums of their factors
   pub summed : {x y z : List (List Bool)} {m k p q : ℕ} → Pairs n cols old x m k → Pairs n cols old y p q → Sum w x y z
       → Pairs n cols old z (field_add m p) (field_add k q)
   unfolding own after
@@ -81,6 +88,7 @@ module _ (n w cols : ℕ) (wide : w ≡ 16 * n) (old : List (List Bool)) where
         (field_mul_factors k q y s.second t.second i));
   }
 
+  -- the double of such a pair has the doubles of its factors
   pub doubled : {x z : List (List Bool)} {m k : ℕ} → Pairs n cols old x m k → Double w x z
       → Pairs n cols old z (field_mul 2 m) (field_mul 2 k)
   unfolding own after

@@ -6,19 +6,23 @@ use Rattle.std.proofs.lemmas.List.{take-map, drop-map, same_lists}
 use Rattle.aes_planes.specs.Planes.{words_at}
 use Rattle.aes_planes.proofs.Bits.BitCases.{eight}
 
+-- the eight words from a place on are eight, if the list goes that far
 pub length-words_at : {A : Type 0} (xs : List A) (o : ℕ) → o + 8 ≤ length xs → length (words_at xs o) ≡ 8
 unfolding words_at
 length-words_at xs o h = simp (length-take, length-drop) (omega arith)
 
+-- and word i of them is the list's word i further on
 pub get_or-words_at : {A : Type 0} (xs : List A) (o i : ℕ) (d : A) → i < 8
     → get_or (words_at xs o) i d ≡ get_or xs (o + i) d
 unfolding words_at
 get_or-words_at xs o i d h = get_or-take 8 (drop o xs) i d h ∙ get_or-drop o xs i d
 
+-- f of eight words is eight words of f of the list
 pub words_at-map : {A B : Type 0} (f : A → B) (xs : List A) (o : ℕ) → words_at (map f xs) o ≡ map f (words_at xs o)
 unfolding words_at
 words_at-map f xs o = ap (take 8) (drop-map f o xs) ∙ take-map f 8 (drop o xs)
 
+-- eight values that are a list's words from a place on are those eight words
 pub eight_words : {A : Type 0} (xs : List A) (o : ℕ) (a b c d e f g h : A) → o + 8 ≤ length xs
     → a ≡ get_or xs o a → b ≡ get_or xs (o + 1) b → c ≡ get_or xs (o + 2) c → d ≡ get_or xs (o + 3) d
     → e ≡ get_or xs (o + 4) e → f ≡ get_or xs (o + 5) f → g ≡ get_or xs (o + 6) g → h ≡ get_or xs (o + 7) h
@@ -33,21 +37,18 @@ eight_words {A = A} xs o a b c d e f g h l ea eb ec ed ee ef eg eh =
 
 -- ---- words that stay, and words that are put
 
-length-words : {A : Type 0} (xs ys : List A) (o : ℕ) → length xs ≡ length ys
-    → length (words_at xs o) ≡ length (words_at ys o)
-unfolding words_at
-length-words xs ys o e = simp (length-take, length-drop) (ap (λ v. min 8 (v - o)) e)
-
-length-words-le : {A : Type 0} (xs : List A) (o : ℕ) → length (words_at xs o) ≤ 8
-unfolding words_at
-length-words-le xs o = simp (length-take, length-drop) (omega arith)
-
+-- a list with the same words from a place on has the same eight words there
 pub words_stay : {A : Type 0} (new old : List A) (o : ℕ) → length new ≡ length old
     → ((i : ℕ) (d : A) → o ≤ i → i < o + 8 → get_or new i d ≡ get_or old i d) → words_at new o ≡ words_at old o
-words_stay new old o e h = same_lists _ _ (length-words new old o e) (λ i d l.
-    let b : i < 8 = omega (arith, length-words-le new o) in
+unfolding words_at
+words_stay {A = A} new old o e h =
+    let sized : (xs : List A) → length (words_at xs o) ≡ min 8 (length xs - o) =
+    λ xs. simp (length-take, length-drop) in
+    same_lists _ _ (sized new ∙ ap (λ v. min 8 (v - o)) e ∙ sym (sized old)) (λ i d l.
+    let b : i < 8 = omega (arith, sized new) in
     get_or-words_at new o i d b ∙ h (o + i) d (omega arith) (omega arith) ∙ sym (get_or-words_at old o i d b))
 
+-- a list with eight given words from a place on has those eight words there
 pub words_put : {A : Type 0} (new ws : List A) (o : ℕ) → o + 8 ≤ length new → length ws ≡ 8
     → ((m : ℕ) (d : A) → m < 8 → get_or new (o + m) d ≡ get_or ws m d) → words_at new o ≡ ws
 words_put new ws o room e h = same_lists _ _ (length-words_at new o room ∙ sym e) (λ i d l.
@@ -61,6 +62,7 @@ fill_more : {A : Type 0} (b z : A) (i m : ℕ) → set (replicate i b ++ replica
 fill_more b z zero m = refl
 fill_more b z (suc i) m = ap (λ xs. b ∷ xs) (fill_more b z i m)
 
+-- a list whose first i elements are b, with b put in place i, has i + 1 of them
 pub filled_more : {A : Type 0} (b z : A) (i n : ℕ) → i < n
     → set (replicate i b ++ replicate (n - i) z) i b ≡ replicate (i + 1) b ++ replicate (n - (i + 1)) z
 filled_more b z i n h =

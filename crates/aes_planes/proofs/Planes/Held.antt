@@ -13,6 +13,7 @@ pub use Rattle.std.proofs.lemmas.Simd.{map-map}
 
 -- ---- lists that are built of a function
 
+-- two functions that agree below n build the same list
 pub build-ext : {A : Type 0} (n : ℕ) (f g : ℕ → A) → ((i : ℕ) → i < n → f i ≡ g i) → build n f ≡ build n g
 build-ext n f g h = same_lists _ _ (length-build n f ∙ sym (length-build n g)) (λ i d l.
     let k : i < n = omega (arith, l, length-build n f) in
@@ -24,6 +25,7 @@ unfolding build_from
 map-build_from m a zero f = refl
 map-build_from m a (suc n) f = ap (λ xs. m (f a) ∷ xs) (map-build_from m (a + 1) n f)
 
+-- m of each element of a built list is the list built of m of each
 pub map-build : {A B : Type 0} (m : A → B) (n : ℕ) (f : ℕ → A) → map m (build n f) ≡ build n (λ i. m (f i))
 unfolding build
 map-build m n f = map-build_from m 0 n f
@@ -34,6 +36,7 @@ unfolding build_from
 zip_with-build_from f a zero g h = refl
 zip_with-build_from f a (suc n) g h = ap (λ xs. f (g a) (h a) ∷ xs) (zip_with-build_from f (a + 1) n g h)
 
+-- f of two built lists, place by place, is the list built of f of both
 pub zip_with-build : {A B C : Type 0} (f : A → B → C) (n : ℕ) (g : ℕ → A) (h : ℕ → B)
     → zip_with f (build n g) (build n h) ≡ build n (λ i. f (g i) (h i))
 unfolding build
@@ -41,6 +44,7 @@ zip_with-build f n g h = zip_with-build_from f 0 n g h
 
 -- ---- lists of blocks
 
+-- f of a list and of one value in every place is f of each element and that value
 pub zip_with-replicate : {A B C : Type 0} (f : A → B → C) (xs : List A) (n : ℕ) (y : B) → length xs ≡ n
     → zip_with f xs (replicate n y) ≡ map (λ x. f x y) xs
 zip_with-replicate f [] n y e = refl
@@ -49,12 +53,14 @@ zip_with-replicate f (x ∷ xs) (suc n) y e = ap (λ zs. f x y ∷ zs) (zip_with
 
 -- ---- blocks in planes
 
+-- eight planes of words of n blocks hold n blocks
 pub length-held : (n : ℕ) (planes : List (List Bool)) → length (held n planes) ≡ n
 unfolding held
 length-held n planes = length-build n _
 
 -- ---- places
 
+-- a place in words of n blocks is below 16 * n
 pub place_lt : (n r c k : ℕ) → r < 4 → c < 4 → k < n → place n r c k < 16 * n
 place_lt n r c k h i j =
     let x = mul-add-lt c n k 4 i j in
@@ -66,7 +72,7 @@ wrapped m x q h =
     mod-mul (q * m + x) {m = 4} {c = m} (omega arith) (omega arith)
     ∙ (λ t. (digits_div q h t % 4) * m + digits_mod q h t)
 
--- the place so many rows on
+-- the place d rows on
 pub row_on : (n r c k d : ℕ) → r < 4 → c < 4 → k < n → d < 4
     → (place n r c k + d * (4 * n)) % (16 * n) ≡ place n ((r + d) % 4) c k
 row_on n r c k d h i j l =
@@ -133,6 +139,7 @@ unfolding held
 held_of n planes blocks l sized h =
     build_is n _ blocks [] l (λ k lt. state_is _ (get_or blocks k []) (sized k lt) (λ r c i j. h r c k i j lt))
 
+-- a list of one is its element
 pub single : {A : Type 0} (xs : List A) (d : A) → length xs ≡ 1 → xs ≡ get_or xs 0 d ∷ []
 single [] d e = absurd (omega arith)
 single (x ∷ []) d e = refl

@@ -24,9 +24,11 @@ held_at : (n : ℕ) (planes : List (List Bool)) (k : ℕ) → k < n
 unfolding held
 held_at n planes k h = get_or-build n k _ [] h
 
+-- each block that planes hold has sixteen bytes
 pub held_length : (n : ℕ) (planes : List (List Bool)) (k : ℕ) → k < n → length (get_or (held n planes) k []) ≡ 16
 held_length n planes k h = ap length (held_at n planes k h) ∙ state_length _
 
+-- and each of them is below 2 ^ 8
 pub held_bytes : (n : ℕ) (planes : List (List Bool)) (k i : ℕ) → length planes ≡ 8 → k < n
     → slice_index (get_or (held n planes) k []) i < 2 ^ 8
 held_bytes n planes k i l h =
@@ -35,6 +37,7 @@ held_bytes n planes k i l h =
     (state_bytes _ (λ r c. number_lt 8 (map (λ w. at w (place n r c k)) planes) (long (place n r c k)))) in
     bytes i
 
+-- a plane's bit at a place is the bit of its number in the byte held there
 pub held_bits : (n : ℕ) (planes : List (List Bool)) (p r c k : ℕ) → p < 8 → r < 4 → c < 4 → k < n
     → at (get_or planes p []) (place n r c k) ≡ bit (byte_at (get_or (held n planes) k []) r c) p
 held_bits n planes p r c k hp hr hc hk =
@@ -43,6 +46,7 @@ held_bits n planes p r c k hp hr hc hk =
     ∙ ap (λ x. bit x p) (sym (ap (λ b. byte_at b r c) (held_at n planes k hk)
     ∙ byte_at-state (λ r c. held_byte planes (place n r c k)) r c hr hc))
 
+-- eight planes hold the blocks that are read of them
 pub held_holds : (n : ℕ) (planes : List (List Bool)) → length planes ≡ 8 → Holds n planes (held n planes)
 held_holds n planes l = record {
   planes_count = l;
@@ -52,6 +56,7 @@ held_holds n planes l = record {
   bits = held_bits n planes;
 }
 
+-- planes that hold these blocks hold no others
 pub holds_held : (n : ℕ) (planes : List (List Bool)) (blocks : List (List ℕ)) → Holds n planes blocks
     → held n planes ≡ blocks
 holds_held n planes blocks h =
@@ -64,13 +69,16 @@ holds_held n planes blocks h =
     ∷ b 4 (omega arith) t ∷ b 5 (omega arith) t ∷ b 6 (omega arith) t ∷ b 7 (omega arith) t ∷ []))
     ∙ number_of_bits byte (h.bytes k l (r + 4 * c)))
 
+-- no ShiftRows leaves each block as it is
 pub map-zero_shifts : (bs : List (List ℕ)) → map (shift_times 0) bs ≡ bs
 unfolding shift_times
 map-zero_shifts bs = map-id bs
 
+-- planes whose blocks are read of them have no ShiftRows deferred
 pub none_deferred : (n : ℕ) (planes : List (List Bool)) → HoldsShifted n planes 0 (held n planes)
 none_deferred n planes = map-zero_shifts (held n planes)
 
+-- a ShiftRows that is left out is one more that is deferred
 pub one_more_deferred : (n s : ℕ) (planes : List (List Bool)) (blocks : List (List ℕ)) → HoldsShifted n planes s blocks
     → HoldsShifted n planes (s + 1) (map shift_rows blocks)
 unfolding shift_times

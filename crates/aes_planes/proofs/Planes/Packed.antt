@@ -25,6 +25,7 @@ at_place n x y f i h =
     ap (at x) (sym spot) ∙ f (i / (4 * n)) (i % (4 * n) / n) (i % (4 * n) % n) row column (mod-lt (i % (4 * n)) p)
     ∙ ap (at y) spot
 
+-- eight planes of words of n blocks that hold the same blocks are the same
 pub same_planes : (n : ℕ) (a b : List (List Bool)) → length a ≡ 8 → length b ≡ 8
     → ((p : ℕ) → p < 8 → (length (get_or a p []) ≡ 16 * n) × (length (get_or b p []) ≡ 16 * n)) → held n a ≡ held n b
     → a ≡ b

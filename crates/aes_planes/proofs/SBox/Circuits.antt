@@ -1,10 +1,11 @@
 -- Circuits of gates as lists, and the step from a claim on eight bits to every place of eight planes.
-use Rattle.std.proofs.Common.{◌≡◌, ℕ, ◌*◌, ◌<◌, Bool, true, not, ◌&&◌, ◌==◌, List, [], ◌∷◌, length, get_or, map, refl}
+use Rattle.std.proofs.Common.{◌≡◌, ℕ, ◌<◌, Bool, true, not, ◌&&◌, ◌==◌, List, [], ◌∷◌, length, map}
 use Rattle.std.proofs.Common.{ap, sym, ◌∙◌, arith}
 use Rattle.std.proofs.lemmas.Bool.{eqb-true}
-use Rattle.aes_planes.specs.Bits.{at, number, xor}
+use Rattle.std.proofs.lemmas.List.{length-map}
+use Rattle.aes_planes.specs.Bits.{at, number, xor, IsShape}
 use Rattle.aes_planes.specs.Planes.{held}
-use Rattle.aes_planes.proofs.Bits.BitCases.{all_bools, all_bools_tells, eight}
+use Rattle.aes_planes.proofs.Bits.BitCases.{all_bools, all_bools_tells}
 use Rattle.aes_planes.proofs.Planes.Held.{bytes_held}
 
 infixr 10 ◌▸◌
@@ -14,6 +15,7 @@ pub data Gate : Type 0 where
   And : ℕ → ℕ → Gate
   Not : ℕ → Gate
 
+-- the bit that a gate makes of the bits so far
 abbrev pub gate : Gate → List Bool → Bool
 gate (Xor a b) env = xor (at env a) (at env b)
 gate (And a b) env = at env a && at env b
@@ -31,8 +33,10 @@ computed (g ∷ gs) places env = computed gs places (gate g env ∷ env)
 
 -- a circuit makes f of every byte
 pub record Computes (gates : List Gate) (places : List ℕ) (f : ℕ → ℕ) : Type 0 where
+  -- of the bits of a byte the gates leave the bits of f of that byte
   pub of_bits : (bs : List Bool) → length bs ≡ 8 → number (computed gates places bs) ≡ f (number bs)
 
+-- a circuit that makes f of each of the 256 bytes, by a test, makes f of every byte
 pub computes_by_test : (gates : List Gate) (places : List ℕ) (f : ℕ → ℕ)
     → all_bools 8 (λ bs. number (computed gates places bs) == f (number bs)) ≡ true → Computes gates places f
 computes_by_test gates places f test = record { of_bits = λ bs l. eqb-true _ _ (all_bools_tells 8 _ test bs l) }
@@ -55,13 +59,12 @@ run_is (done e) i h = e i
 run_is (◌▸◌ {gs = gs} {places = places} {env = env} e r) i h =
     run_is r i h ∙ ap (λ v. computed gs places (v ∷ bits_at env i)) (e i h)
 
--- a circuit that makes f of every byte makes f of every byte that eight words hold
-module _ {A : Type 0} (bits : A → List Bool) (n w : ℕ) (wide : w ≡ 16 * n) (xs : List A) (l : length xs ≡ 8) where
-  pub circuit_held : {gates : List Gate} {places : List ℕ} {f : ℕ → ℕ} {new : List (List Bool)}
-      → Computes gates places f
-      → (a b c d e u v z : A) → Runs w gates places (map bits (get_or xs 0 a ∷ get_or xs 1 b ∷ get_or xs 2 c
-      ∷ get_or xs 3 d ∷ get_or xs 4 e ∷ get_or xs 5 u ∷ get_or xs 6 v ∷ get_or xs 7 z ∷ [])) new
-      → held n new ≡ map (map f) (held n (map bits xs))
-  circuit_held {f = f} claim a b c d e u v z ran =
-      bytes_held f n _ _ (λ i h. ap number (run_is ran i (omega arith)) ∙ claim.of_bits _ refl)
-      ∙ ap (λ ys. map (map f) (held n (map bits ys))) (sym (eight xs a b c d e u v z l))
+-- words made by the gates of a circuit for f, from eight old ones, hold f of each byte of the old blocks
+pub circuit_held : {A : Type 0} {bits : A → List Bool} {n B R H Q N S : ℕ} {gates : List Gate} {places : List ℕ}
+    {f : ℕ → ℕ} {xs ys : List A} {new : List (List Bool)} → IsShape bits n B R H Q N S → Computes gates places f
+    → xs ≡ ys → length ys ≡ 8 → Runs B gates places (map bits ys) new
+    → held n new ≡ map (map f) (held n (map bits xs))
+circuit_held {bits = bits} {n = n} {f = f} {ys = ys} shape claim same l ran =
+    bytes_held f n _ _ (λ i h. ap number (run_is ran i (omega (arith, shape.sixteen)))
+    ∙ claim.of_bits (bits_at (map bits ys) i) (simp length-map l))
+    ∙ ap (λ ys. map (map f) (held n (map bits ys))) (sym same)

@@ -10,7 +10,7 @@ use Rattle.aes_planes.proofs.SBox.Circuits.{Gate, Xor, And, Not, Computes, compu
 use Rattle.aes_planes.proofs.SBox.InverseSBox.{listed, inv_listed, sbox_listed, inv_sbox_listed}
 use Rattle.aes_planes.proofs.Standard.FieldLaws.{field_add_byte}
 
--- the gates of sub_bytes, each of which reads the bits so many before it
+-- the gates of sub_bytes; a gate names its inputs by how many bits they stand before it
 unfoldable pub sbox_gates : List Gate
 sbox_gates =
     Xor 5 6 ∷ Xor 8 5 ∷ Xor 2 1 ∷ Xor 7 0 ∷ And 0 4 ∷ Xor 6 12 ∷ Xor 8 10 ∷ Xor 1 0 ∷
@@ -33,14 +33,12 @@ sbox_gates =
 abbrev pub sbox_places : List ℕ
 sbox_places = 8 ∷ 11 ∷ 4 ∷ 6 ∷ 12 ∷ 0 ∷ 9 ∷ 1 ∷ []
 
-sbox_by_table : Computes sbox_gates sbox_places (λ b. plus63 (listed b))
-unfolding all_bools sbox_gates sbox_table
-sbox_by_table = computes_by_test sbox_gates sbox_places (λ b. plus63 (listed b)) refl
-
+-- those gates leave, at those places, the S-box of a byte without its constant 0x63
 pub sbox_computed : Computes sbox_gates sbox_places (λ b. plus63 (sbox b))
+unfolding all_bools sbox_gates sbox_table
 sbox_computed = record {
-  of_bits = λ bs l.
-      sbox_by_table.of_bits bs l ∙ ap plus63 (sym (sbox_listed (number bs) (number_lt 8 bs l)));
+  of_bits = λ bs l. let by_table = computes_by_test sbox_gates sbox_places (λ b. plus63 (listed b)) refl in
+      by_table.of_bits bs l ∙ ap plus63 (sym (sbox_listed (number bs) (number_lt 8 bs l)));
 }
 
 -- the gates of inv_sub_bytes
@@ -63,27 +61,29 @@ inv_sbox_gates =
     Xor 47 9 ∷ Xor 2 38 ∷ Xor 34 0 ∷ Xor 5 0 ∷ Xor 21 4 ∷ Xor 4 1 ∷ Xor 14 21 ∷ And 34 117 ∷
     Xor 28 0 ∷ Xor 1 30 ∷ Xor 8 0 ∷ Xor 26 0 ∷ Xor 3 25 ∷ Xor 4 15 ∷ Xor 0 9 ∷ []
 
+-- where its eight results stand, that of plane 0 first
 abbrev pub inv_sbox_places : List ℕ
 inv_sbox_places = 2 ∷ 8 ∷ 20 ∷ 3 ∷ 19 ∷ 9 ∷ 0 ∷ 18 ∷ []
 
-inv_sbox_by_table : Computes inv_sbox_gates inv_sbox_places (λ b. inv_listed (plus63 b))
-unfolding all_bools inv_sbox_gates inv_sbox_table
-inv_sbox_by_table = computes_by_test inv_sbox_gates inv_sbox_places (λ b. inv_listed (plus63 b)) refl
-
+-- those gates leave, at those places, the inverse S-box of a byte to which 0x63 is added
 pub inv_sbox_computed : Computes inv_sbox_gates inv_sbox_places (λ b. inv_sbox (plus63 b))
+unfolding all_bools inv_sbox_gates inv_sbox_table
 inv_sbox_computed = record {
   of_bits = λ bs l.
+      let by_table = computes_by_test inv_sbox_gates inv_sbox_places (λ b. inv_listed (plus63 b)) refl in
       let byte = field_add_byte (number bs) 0x63 (number_lt 8 bs l) (omega arith) in
-      inv_sbox_by_table.of_bits bs l ∙ sym (inv_sbox_listed (plus63 (number bs)) byte);
+      by_table.of_bits bs l ∙ sym (inv_sbox_listed (plus63 (number bs)) byte);
 }
 
 -- the gates of sub_bytes_nots, and where its results stand
 abbrev pub nots_gates : List Gate
 nots_gates = Not 0 ∷ Not 2 ∷ Not 7 ∷ Not 9 ∷ []
 
+-- where its eight results stand, that of plane 0 first
 abbrev pub nots_places : List ℕ
 nots_places = 3 ∷ 2 ∷ 6 ∷ 7 ∷ 8 ∷ 1 ∷ 0 ∷ 11 ∷ []
 
+-- those gates leave, at those places, the sum of a byte and 0x63
 pub nots_computed : Computes nots_gates nots_places plus63
 unfolding all_bools
 nots_computed = computes_by_test nots_gates nots_places plus63 refl

@@ -27,6 +27,11 @@ unfolding inv_sub_bytes
 without63 [] = refl
 without63 (b ∷ s) = λ i. inv_sbox (add_twice b 0x63 i) ∷ without63 s i
 
+-- 0x63 added twice is nothing added
+pub plus63_twice : (s : List ℕ) → map plus63 (map plus63 s) ≡ s
+plus63_twice [] = refl
+plus63_twice (b ∷ s) = λ i. add_twice b 0x63 i ∷ plus63_twice s i
+
 -- the block with 0x63 in each byte
 unfoldable all63 : List ℕ
 all63 = state (λ r c. 0x63)
@@ -50,6 +55,7 @@ inv_mix_plus63 : (s : List ℕ) → length s ≡ 16 → inv_mix_columns (map plu
 unfolding all63 inv_mix_columns field_mul
 inv_mix_plus63 = passes63 inv_mix_columns inv_mix_columns_add refl (λ s. (inv_mix_block s).0)
 
+-- the sum of blocks is associative
 pub add_key_assoc : (s t u : List ℕ) → add_round_key s (add_round_key t u) ≡ add_round_key (add_round_key s t) u
 unfolding add_round_key
 add_key_assoc s t u = λ i. state (λ r c. sym (xor_assoc (byte_at s r c) (byte_at t r c) (byte_at u r c)) i)
@@ -60,15 +66,15 @@ add_plus63 s t l =
     ap (add_round_key s) (plus63_sum t l) ∙ add_key_assoc s t all63
     ∙ sym (plus63_sum (add_round_key s t) (add_length s t))
 
-twice63 : (s t : List ℕ) → add_round_key (add_round_key s all63) (add_round_key t all63) ≡ add_round_key s t
+sum_of_both63 : (s t : List ℕ) → add_round_key (add_round_key s all63) (add_round_key t all63) ≡ add_round_key s t
 unfolding all63 add_round_key
-twice63 s t =
+sum_of_both63 s t =
     λ i. state (λ r c. (add_swap (byte_at s r c) 0x63 (byte_at t r c) 0x63
     ∙ xor_zero_r (field_add (byte_at s r c) (byte_at t r c))) i)
 
 add_both63 : (s t : List ℕ) → length s ≡ 16 → length t ≡ 16
     → add_round_key (map plus63 s) (map plus63 t) ≡ add_round_key s t
-add_both63 s t l m = (λ i. add_round_key (plus63_sum s l i) (plus63_sum t m i)) ∙ twice63 s t
+add_both63 s t l m = (λ i. add_round_key (plus63_sum s l i) (plus63_sum t m i)) ∙ sum_of_both63 s t
 
 -- ---- shifts back
 
@@ -91,12 +97,12 @@ unfolding inv_shift_times inv_shift_rows add_round_key
 inv_shift_times_add zero s t = refl
 inv_shift_times_add (suc k) s t = ap inv_shift_rows (inv_shift_times_add k s t)
 
--- how many ShiftRows are deferred before the round after which so many are
+-- how many ShiftRows are deferred before a round, by how many are deferred after it
 abbrev pub deferred_before : ℕ → ℕ
 deferred_before zero = 3
 deferred_before (suc k) = k
 
--- so many shifts back are one, and those before it
+-- j shifts back are one shift back, and then those of the round before
 takes_one : (j : ℕ) (s : List ℕ) → length s ≡ 16 → inv_shift_times j s ≡ inv_shift_times (deferred_before j)
     (inv_shift_rows s)
 unfolding inv_shift_times inv_shift_rows
@@ -104,6 +110,7 @@ takes_one zero s l = subst (λ (v : List ℕ). v ≡ inv_shift_times 3 (inv_shif
 takes_one (suc zero) s l = refl
 takes_one (suc (suc j)) s l = ap inv_shift_rows (takes_one (suc j) s l)
 
+-- k ShiftRows after k InvShiftRows leave a list of sixteen as it was
 pub shift_times_of_inv_shift_times : (k : ℕ) (s : List ℕ) → length s ≡ 16 → shift_times k (inv_shift_times k s) ≡ s
 unfolding shift_times inv_shift_times
 shift_times_of_inv_shift_times zero s l = refl
@@ -170,6 +177,7 @@ last_deferred s key l m =
 
 -- ---- rounds of the inverse cipher, whose substitution takes 0x63 out by itself
 
+-- 0x63 added to the round key and again before the inverse S-box cancel: InvSubBytes of the sum is left
 pub inv_start_deferred : (s key : List ℕ) → length key ≡ 16
     → map (λ b. inv_sbox (plus63 b)) (add_round_key s (map plus63 key)) ≡ inv_sub_bytes (add_round_key s key)
 inv_start_deferred s key m = ap (map (λ b. inv_sbox (plus63 b))) (add_plus63 s key m) ∙ without63 (add_round_key s key)

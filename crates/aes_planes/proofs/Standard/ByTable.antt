@@ -8,7 +8,7 @@ use Rattle.aes_planes.specs.Fips197.{sbox, inv_sbox, sub_bytes, inv_sub_bytes, s
 use Rattle.aes_planes.specs.Fips197.{inv_mix_columns, add_round_key, round_key, last_round, inv_state_after}
 use Rattle.aes_planes.specs.Fips197.{cipher_with, cipher, inv_cipher_with, inv_cipher, rot_word, add_words}
 use Rattle.aes_planes.specs.Fips197.{round_constant, key_words, key_word, rounds, added_word_if, next_word_if}
-use Rattle.aes_planes.specs.Fips197.{expanded_words, expanded_word, blocks_of, key_expansion, inverted_keys}
+use Rattle.aes_planes.specs.Fips197.{expanded_words, expanded_word, blocks_of_words, key_expansion, inverted_keys}
 use Rattle.aes_planes.specs.Rounds.{all_rounds}
 use Rattle.aes_planes.proofs.SBox.InverseSBox.{listed, inv_listed, sbox_listed, inv_sbox_listed}
 use Rattle.aes_planes.proofs.Standard.AllRounds.{is_cipher}
@@ -37,7 +37,7 @@ words_by s key zero = []
 words_by s key (suc n) = let ws = words_by s key n in ws ++ next_by s (nat_lt n (key_words key)) key ws n ∷ []
 
 expansion_by : (ℕ → ℕ) → List ℕ → List (List ℕ)
-expansion_by s key = blocks_of (rounds key + 1) (words_by s key (4 * (rounds key + 1)))
+expansion_by s key = blocks_of_words (rounds key + 1) (words_by s key (4 * (rounds key + 1)))
 
 -- ---- with the S-box they are the standard's
 
@@ -71,7 +71,7 @@ words_by_sbox key (suc n) =
 
 expansion_by_sbox : (key : List ℕ) → key_expansion key ≡ expansion_by sbox key
 unfolding key_expansion expansion_by
-expansion_by_sbox key = ap (blocks_of (rounds key + 1)) (words_by_sbox key (4 * (rounds key + 1)))
+expansion_by_sbox key = ap (blocks_of_words (rounds key + 1)) (words_by_sbox key (4 * (rounds key + 1)))
 
 -- ---- with the tables too
 
@@ -84,24 +84,29 @@ unfolding looked_up
 is_looked_up f table e = fun_ext (λ b. cond_both (nat_lt b 256) (table b) (f b) (λ v. f b ≡ v)
     (λ t. e b (ltb-true b 256 t)) (λ t. refl))
 
+-- the key expansion, by the table of the S-box
 unfoldable pub expansion_by_table : List ℕ → List (List ℕ)
 unfolding expansion_by words_by next_by added_by looked_up
 expansion_by_table key = expansion_by (looked_up sbox listed) key
 
+-- word i of the key expansion, by that table
 unfoldable pub word_by_table : List ℕ → ℕ → List ℕ
 unfolding words_by next_by added_by looked_up
 word_by_table key i = slice_index_or (words_by (looked_up sbox listed) key (i + 1)) i []
 
+-- Cipher under a key, by that table
 unfoldable pub cipher_by_table : List ℕ → List ℕ → List ℕ
 unfolding expansion_by_table all_rounds looked_up
 cipher_by_table key b =
     let sub = map (looked_up sbox listed) in
     all_rounds (λ b. mix_columns (shift_rows (sub b))) (λ b. shift_rows (sub b)) (expansion_by_table key) b
 
+-- InvSubBytes, by the table of the inverse S-box
 unfoldable pub inv_sub_by_table : List ℕ → List ℕ
 unfolding looked_up
 inv_sub_by_table b = map (looked_up inv_sbox inv_listed) b
 
+-- InvCipher under a key, by both tables
 unfoldable pub inv_cipher_by_table : List ℕ → List ℕ → List ℕ
 unfolding expansion_by_table inv_state_by inv_sub_by_table
 inv_cipher_by_table key b =
@@ -111,20 +116,24 @@ inv_cipher_by_table key b =
 
 -- ---- so an example is what the tables compute
 
+-- a word of the key expansion is what the table gives
 pub word_tells : (key : List ℕ) (i : ℕ) (v : List ℕ) → word_by_table key i ≡ v → expanded_word key i ≡ v
 unfolding expanded_word word_by_table
 word_tells key i v e = ap (λ ws. slice_index_or ws i []) (words_by_sbox key (i + 1)
     ∙ ap (λ s. words_by s key (i + 1)) (is_looked_up sbox listed sbox_listed)) ∙ e
 
+-- the key expansion is what the table gives
 pub expansion_tells : (key : List ℕ) (w : List (List ℕ)) → expansion_by_table key ≡ w → key_expansion key ≡ w
 unfolding expansion_by_table
 expansion_tells key w e =
     expansion_by_sbox key ∙ ap (λ s. expansion_by s key) (is_looked_up sbox listed sbox_listed) ∙ e
 
+-- a round key for the equivalent inverse cipher is what the table gives
 pub inverted_key_tells : (key : List ℕ) (i : ℕ) (k : List ℕ) → round_key (inverted_keys (expansion_by_table key)) i ≡ k
     → round_key (inverted_keys (key_expansion key)) i ≡ k
 inverted_key_tells key i k e = ap (λ w. round_key (inverted_keys w) i) (expansion_tells key _ refl) ∙ e
 
+-- Cipher by the table is Cipher
 pub cipher_is : (key b : List ℕ) → cipher key b ≡ cipher_by_table key b
 unfolding cipher_by_table sub_bytes
 cipher_is key b =
@@ -133,13 +142,12 @@ cipher_is key b =
     ∙ ap (λ s. all_rounds (λ b. mix_columns (shift_rows (map s b))) (λ b. shift_rows (map s b)) w b)
     (is_looked_up sbox listed sbox_listed)
 
-pub cipher_tells : (key b c : List ℕ) → cipher_by_table key b ≡ c → cipher key b ≡ c
-cipher_tells key b c e = cipher_is key b ∙ e
-
+-- InvSubBytes of a block is what the table gives
 pub inv_sub_bytes_tells : (b c : List ℕ) → inv_sub_by_table b ≡ c → inv_sub_bytes b ≡ c
 unfolding inv_sub_by_table inv_sub_bytes
 inv_sub_bytes_tells b c e = ap (λ s. map s b) (is_looked_up inv_sbox inv_listed inv_sbox_listed) ∙ e
 
+-- InvCipher by the tables is InvCipher
 pub inv_cipher_is : (key b : List ℕ) → inv_cipher key b ≡ inv_cipher_by_table key b
 unfolding inv_cipher_by_table inv_cipher_with inv_sub_by_table inv_sub_bytes
 inv_cipher_is key b =

@@ -113,22 +113,26 @@ module _ (w : List (List ℕ)) where
       end = forth_undoes 0 (omega arith);
     }
 
+    -- InvCipher undoes Cipher under the same round keys
     pub inv_cipher_of_cipher : (b : List ℕ) → IsBlock b → inv_cipher_with w (cipher_with w b) ≡ b
     inv_cipher_of_cipher b h =
         inv_cipher_run (cipher_with w b)
         ∙ ap (λ v. back 0 (run (add_key (last_round w)) mixed_back v (last_round w - 1))) (cipher_run b)
         ∙ run_undone _ _ _ _ _ _ _ encryption b h (omega (arith, keys.two))
 
+    -- Cipher undoes InvCipher under the same round keys
     pub cipher_of_inv_cipher : (b : List ℕ) → IsBlock b → cipher_with w (inv_cipher_with w b) ≡ b
     cipher_of_inv_cipher b h =
         cipher_run (inv_cipher_with w b)
         ∙ ap (λ v. add_key (last_round w) (run (forth 0) mixed_forth v (last_round w - 1))) (inv_cipher_run b)
         ∙ run_undone _ _ _ _ _ _ _ decryption b h (omega (arith, keys.two))
 
+    -- Cipher of a block has bytes in each place
     pub cipher_bytes : (b : List ℕ) (i : ℕ) → IsBlock b → slice_index (cipher_with w b) i < 2 ^ 8
     cipher_bytes b i h = rw (cipher_run b) ((encryption.end.block (run (forth 0) mixed_forth b (last_round w - 1))
         (run_block _ _ _ _ _ _ _ encryption b h (last_round w - 1) (omega (arith, keys.two)))).1 i)
 
+  -- Cipher leaves sixteen bytes
   pub cipher_length : (b : List ℕ) → length (cipher_with w b) ≡ 16
   unfolding cipher_with
   cipher_length b = add_length _ _
@@ -142,9 +146,11 @@ undone_each f g undone (b ∷ bs) blocks =
 
 module _ (w : List (List ℕ)) (bs : List (List ℕ)) (keys : AreRoundKeys w)
     (blocks : (i : ℕ) → i < length bs → IsBlock (slice_index_or bs i [])) where
+  -- InvCipher of each block undoes Cipher of each block
   pub inv_ciphers_of_ciphers : map (inv_cipher_with w) (map (cipher_with w) bs) ≡ bs
   inv_ciphers_of_ciphers = undone_each (cipher_with w) (inv_cipher_with w) (inv_cipher_of_cipher w keys) bs blocks
 
+  -- Cipher of each block undoes InvCipher of each block
   pub ciphers_of_inv_ciphers : map (cipher_with w) (map (inv_cipher_with w) bs) ≡ bs
   ciphers_of_inv_ciphers = undone_each (inv_cipher_with w) (cipher_with w) (cipher_of_inv_cipher w keys) bs blocks
 
@@ -152,11 +158,13 @@ pub ruleset inverse_ciphers_on_blocks = (inv_ciphers_of_ciphers, ciphers_of_inv_
 
 -- ---- the equivalent inverse cipher
 
+-- the state after a round of Cipher has sixteen bytes
 pub after_length : (w : List (List ℕ)) (b : List ℕ) (n : ℕ) → length (state_after w b n) ≡ 16
 unfolding state_after
 after_length w b zero = add_length b (round_key w 0)
 after_length w b (suc n) = add_length (mix_columns (shift_rows (sub_bytes (state_after w b n)))) (round_key w (suc n))
 
+-- the state after a round of InvCipher has sixteen bytes
 pub inv_after_length : (w : List (List ℕ)) (b : List ℕ) (n : ℕ) → length (inv_state_after w b n) ≡ 16
 unfolding inv_state_after
 inv_after_length w b zero = add_length b (round_key w (last_round w))
@@ -177,6 +185,7 @@ module _ (w : List (List ℕ)) (b : List ℕ) where
       (inv_sub_shift q (inv_after_length w b n))
       ∙ sym (inv_mix_columns_add (inv_sub_bytes (inv_shift_rows q)) (round_key w (last_round w - suc n)))
 
+  -- EqInvCipher under the inverted round keys is InvCipher under the round keys
   pub eq_inv_is_inv : 2 ≤ length w → eq_inv_cipher_with (inverted_keys w) b ≡ inv_cipher_with w b
   unfolding eq_inv_cipher_with inv_cipher_with
   eq_inv_is_inv two =

@@ -28,9 +28,25 @@ first_passes p zero c b le lt e = absurd (omega arith)
 first_passes p (suc n) c b le lt e = first_case p n c b (p c) refl le e (λ more.
     let f = first_passes p n (c + 1) b more (omega arith) e in (f.0, omega (arith, f.1)))
 
+-- if a byte passes a test, then the least that passes is a byte and passes
 pub byte_passes : (p : ℕ → Bool) (b : ℕ) → b < 256 → p b ≡ true → Passes p (least_byte p) 256
 unfolding least_byte
 byte_passes p b h e = first_passes p 256 0 b (omega arith) h e
+
+either_below : (c rest m : ℕ) (here : Bool) → c < m → rest < m → elim here as (λ _. ℕ) [ true ↦ c | false ↦ rest ] < m
+either_below c rest m true h k = h
+either_below c rest m false h k = k
+
+first_below : (p : ℕ → Bool) (n c m : ℕ) → 0 < m → c + n ≤ m → first_from p c n < m
+unfolding first_from
+first_below p zero c m some h = some
+first_below p (suc n) c m some h =
+    either_below c (first_from p (c + 1) n) m (p c) (omega arith) (first_below p n (c + 1) m some (omega arith))
+
+-- the least byte is a byte for every test
+pub least_byte_lt : (p : ℕ → Bool) → least_byte p < 256
+unfolding least_byte
+least_byte_lt p = first_below p 256 0 256 (omega arith) (omega arith)
 
 -- ---- inverses
 
@@ -49,23 +65,20 @@ inverse_test : ℕ → ℕ → Bool
 inverse_test b v =
     nat_lt v 256 && ((field_mul b v == 1) && all_below 8 (λ i. field_mul v (field_mul b (2 ^ i)) == 2 ^ i))
 
-inverses : all_below 255 (λ b. inverse_test (suc b) (power_254 (suc b))) ≡ true
-unfolding all_below inverse_test power_254 times_squares field_mul
-inverses = refl
-
 record Inverse (b v : ℕ) : Type 0 where
   byte : v < 256
   product : field_mul b v ≡ 1
   undoes : all_below 8 (λ i. field_mul v (field_mul b (2 ^ i)) == 2 ^ i) ≡ true
 
 has_inverse : (b : ℕ) → b < 256 → b ≢ 0 → Inverse b (power_254 b)
-unfolding inverse_test
+unfolding all_below inverse_test power_254 times_squares field_mul
 has_inverse zero h n = absurd (n refl)
 has_inverse (suc b) h n =
-    let p = and_parts _ _ (all_below_tells 255 _ inverses b (omega arith)) in
+    let p = and_parts _ _ (all_below_tells 255 (λ b. inverse_test (suc b) (power_254 (suc b))) refl b (omega arith)) in
     let q = and_parts _ _ p.1 in
     record { byte = ltb-true _ _ p.0; product = eqb-true _ _ q.0; undoes = q.1 }
 
+-- a byte that is not 0 times its inverse is 1
 pub inverse_right : (b : ℕ) → b < 256 → b ≢ 0 → (field_inverse b < 256) × (field_mul b (field_inverse b) ≡ 1)
 unfolding field_inverse
 inverse_right b h n =
@@ -89,6 +102,7 @@ unfolding field_inverse field_mul least_byte first_from power_254 times_squares
 inverse_power zero h = refl
 inverse_power (suc b) h = inverse_power_of (suc b) h (λ e. absurd (grind (arith, e)))
 
+-- a byte whose product with b is 1 is the inverse of b
 pub inverse_only : (b c : ℕ) → b < 256 → b ≢ 0 → c < 256 → field_mul b c ≡ 1 → c ≡ field_inverse b
 inverse_only b c h n k e = power_only b c h n k e ∙ sym (inverse_power_of b h n)
 

@@ -1,15 +1,16 @@
 -- Sums and products in the field.
-use Rattle.std.proofs.Common.{◌≡◌, ℕ, zero, suc, ◌/◌, ◌%◌, ◌+◌, ◌*◌, ◌-◌, ◌≤◌, ◌⊎◌, inl, inr, ◌^◌, ◌<◌, ◌==◌, ◌&&◌}
+use Rattle.std.proofs.Common.{◌≡◌, ℕ, zero, suc, ◌/◌, ◌%◌, ◌+◌, ◌*◌, ◌-◌, ◌≤◌, ◌⊎◌, inl, inr, ◌^◌, ◌<◌, ◌==◌}
 use Rattle.std.proofs.Common.{Bool, true, false, if◌then◌else◌, nat_lt, bit_xor, refl, ap, sym, ◌∙◌, arith}
 use Rattle.std.specs.Int.Bits.{xor_assoc, xor_zero_l, xor_zero_r, xor_self}
 use Rattle.std.proofs.lemmas.Nat.{xor_comm, xor_shr, xor_mod, xor_lt, xor_block, pow_pos}
-use Rattle.std.proofs.lemmas.Bool.{eqb-true, cases_lt, and_parts, ltb-true}
+use Rattle.std.proofs.lemmas.Bool.{eqb-true, cases_lt, cond_both, ltb-true}
 use Rattle.std.proofs.Math.Nat.{mod-lt, pow-suc}
 use Rattle.aes_planes.proofs.Bits.ByteCases.{all_below, all_below_tells, by_pairs}
 use Rattle.aes_planes.specs.Fips197.{field_add, field_mul, low_product, xtime}
 
 -- ---- sums
 
+-- the sum of a byte and 0 is the byte
 pub add_zero : (a : ℕ) → field_add a 0 ≡ a
 add_zero a = xor_zero_r a
 
@@ -20,6 +21,7 @@ add_swap a b c d =
     ∙ ap (field_add a) (sym (xor_assoc b c d) ∙ ap (λ v. field_add v d) (xor_comm b c) ∙ xor_assoc c b d)
     ∙ sym (xor_assoc a c (field_add b d))
 
+-- adding the same byte twice leaves a byte as it was
 pub add_twice : (a b : ℕ) → field_add (field_add a b) b ≡ a
 add_twice a b = xor_assoc a b b ∙ ap (field_add a) (xor_self b) ∙ xor_zero_r a
 
@@ -41,43 +43,37 @@ low_product_add (suc n) a b c =
     ∙ add_swap (if b % 2 == 1 then a else 0) (if c % 2 == 1 then a else 0) (low_product n (xtime a) (b / 2))
     (low_product n (xtime a) (c / 2))
 
+-- a product with a sum is the sum of the products
 pub field_mul_add : (a b c : ℕ) → field_mul a (field_add b c) ≡ field_add (field_mul a b) (field_mul a c)
 unfolding field_mul
 field_mul_add a b c = low_product_add 8 a b c
 
--- doubling: a byte again, and the product with 2
-doubles : ℕ → Bool
-doubles a = nat_lt (xtime a) 256 && (xtime a == field_mul 2 a)
-
-doubles_all : all_below 256 doubles ≡ true
-unfolding all_below doubles xtime field_mul
-doubles_all = refl
-
+-- the product of a byte and x is a byte
 pub xtime_byte : (a : ℕ) → a < 256 → xtime a < 256
-unfolding doubles
-xtime_byte a h = ltb-true _ _ (and_parts _ _ (all_below_tells 256 doubles doubles_all a h)).0
+unfolding all_below xtime
+xtime_byte a h = ltb-true _ _ (all_below_tells 256 (λ a. nat_lt (xtime a) 256) refl a h)
 
 xtime_is : (a : ℕ) → a < 256 → xtime a ≡ field_mul 2 a
-unfolding doubles
-xtime_is a h = eqb-true _ _ (and_parts _ _ (all_below_tells 256 doubles doubles_all a h)).1
-
-chosen_byte : (b : Bool) (a : ℕ) → a < 256 → (if b then a else 0) < 256
-chosen_byte true a h = h
-chosen_byte false a h = omega arith
+unfolding all_below xtime field_mul
+xtime_is a h = eqb-true _ _ (all_below_tells 256 (λ a. xtime a == field_mul 2 a) refl a h)
 
 low_product_byte : (n a b : ℕ) → a < 256 → low_product n a b < 256
 unfolding low_product
 low_product_byte zero a b h = omega arith
 low_product_byte (suc n) a b h =
-    xor_lt 8 _ _ (chosen_byte (b % 2 == 1) a h) (low_product_byte n (xtime a) (b / 2) (xtime_byte a h))
+    xor_lt 8 _ _ (cond_both (b % 2 == 1) a 0 (λ v. v < 256) (λ t. h) (λ t. omega arith))
+    (low_product_byte n (xtime a) (b / 2) (xtime_byte a h))
 
+-- the product of a byte and any number is a byte
 pub field_mul_byte : (a b : ℕ) → a < 256 → field_mul a b < 256
 unfolding field_mul
 field_mul_byte a b h = low_product_byte 8 a b h
 
+-- the sum of two bytes is a byte
 pub field_add_byte : (a b : ℕ) → a < 256 → b < 256 → field_add a b < 256
 field_add_byte a b h k = xor_lt 8 a b h k
 
+-- the product with 1 from the right is the number itself
 pub field_mul_one : (a : ℕ) → field_mul a 1 ≡ a
 unfolding field_mul
 field_mul_one a = xor_zero_r a
@@ -102,6 +98,7 @@ low_product_factors (suc n) m k a h l =
     (low_product_factors n (xtime m) (xtime k) (a / 2) (xtime_byte m h) (xtime_byte k l))
     ∙ add_swap (own m) (own k) (low_product n (xtime m) (a / 2)) (low_product n (xtime k) (a / 2))
 
+-- the product of a sum of two bytes and a number is the sum of the products
 pub field_mul_factors : (m k a : ℕ) → m < 256 → k < 256
     → field_mul (field_add m k) a ≡ field_add (field_mul m a) (field_mul k a)
 unfolding field_mul
@@ -122,15 +119,18 @@ low_product_double (suc n) m a h =
     ∙ (λ i. field_add (chosen_double (a % 2 == 1) m i)
     ((low_product_double n (xtime m) (a / 2) (xtime_byte m h) ∙ ap (λ v. low_product n v (a / 2)) e) i))
 
+-- twice a product is the product of the doubled factor
 pub field_mul_double : (m a : ℕ) → m < 256 → field_mul 2 (field_mul m a) ≡ field_mul (field_mul 2 m) a
 unfolding field_mul
 field_mul_double m a h = low_product_double 8 m a h
 
+-- the product of 0 and a number is 0
 pub field_mul_zero : (a : ℕ) → field_mul 0 a ≡ 0
 field_mul_zero a = field_mul_factors 0 0 a (omega arith) (omega arith) ∙ xor_self (field_mul 0 a)
 
 -- ---- functions that are linear over sums agree where they agree on the powers of x
 
+-- f of a sum is the sum of the values of f
 abbrev pub Linear : (ℕ → ℕ) → Type 0
 Linear f = (x y : ℕ) → f (field_add x y) ≡ field_add (f x) (f y)
 
@@ -165,6 +165,7 @@ module _ (f g : ℕ → ℕ) (p : Linear f) (q : Linear g) where
   agree_by_powers test x lt =
       agree_below 8 (λ i l. eqb-true (f (2 ^ i)) (g (2 ^ i)) (all_below_tells 8 _ test i l)) x lt
 
+-- the product of 1 and a byte is the byte
 pub field_mul_one_left : (a : ℕ) → a < 256 → field_mul 1 a ≡ a
 unfolding all_below field_mul
 field_mul_one_left = agree_by_powers (field_mul 1) (λ x. x) (field_mul_add 1) (λ x y. refl) refl

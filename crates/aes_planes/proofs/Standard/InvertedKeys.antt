@@ -6,6 +6,7 @@ use Rattle.std.proofs.lemmas.Bool.{eq-eqb, ne_eqb}
 use Rattle.aes_planes.specs.Fips197 as fips
 use Rattle.aes_planes.proofs.Lists.{get_or-build, length-build}
 
+-- the inverted round keys are as many as the round keys
 pub inverted_length : (w : List (List ℕ)) → length (fips.inverted_keys w) ≡ length w
 unfolding fips.inverted_keys
 inverted_length w = length-build (length w) _

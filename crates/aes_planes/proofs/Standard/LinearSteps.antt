@@ -17,16 +17,19 @@ pub shift_map : (f : ℕ → ℕ) (s : List ℕ) → length s ≡ 16 → shift_r
 unfolding shift_rows build
 shift_map f s l = subst (λ (v : List ℕ). shift_rows (map f v) ≡ map f (shift_rows v)) (built 16 s 0 l) refl
 
+-- and with the inverse shifts
 pub inv_shift_map : (f : ℕ → ℕ) (s : List ℕ) → length s ≡ 16 → inv_shift_rows (map f s) ≡ map f (inv_shift_rows s)
 unfolding inv_shift_rows build
 inv_shift_map f s l = subst (λ (v : List ℕ). inv_shift_rows (map f v) ≡ map f (inv_shift_rows v)) (built 16 s 0 l) refl
 
+-- InvSubBytes and InvShiftRows commute
 pub inv_sub_shift : (s : List ℕ) → length s ≡ 16 → inv_shift_rows (inv_sub_bytes s) ≡ inv_sub_bytes (inv_shift_rows s)
 unfolding inv_sub_bytes
 inv_sub_shift = inv_shift_map inv_sbox
 
 -- ---- a matrix times a column, which is a function of the row
 
+-- the sum of two columns, row by row
 abbrev pub add_columns : (ℕ → ℕ) → (ℕ → ℕ) → ℕ → ℕ
 add_columns v w i = field_add (v i) (w i)
 
@@ -49,6 +52,7 @@ sum_to_add (suc n) v w =
 abbrev pub row_times : List ℕ → (ℕ → ℕ) → ℕ
 row_times m v = sum_to 3 (λ j. field_mul (slice_index m j) (v j))
 
+-- a matrix times a column
 abbrev pub matrix : (ℕ → List ℕ) → (ℕ → ℕ) → ℕ → ℕ
 matrix m v r = row_times (m r) v
 
@@ -57,9 +61,11 @@ row_times_add m v w =
     (λ i. sum_to 3 (λ j. field_mul_add (slice_index m j) (v j) (w j) i))
     ∙ sum_to_add 3 (λ j. field_mul (slice_index m j) (v j)) (λ j. field_mul (slice_index m j) (w j))
 
+-- a matrix times a sum of columns is the sum of the products
 pub matrix_add : (m : ℕ → List ℕ) → LinearMap (matrix m)
 matrix_add m v w = λ i r. row_times_add (m r) v w i
 
+-- one linear map after another is linear
 pub product_add : (f g : (ℕ → ℕ) → ℕ → ℕ) → LinearMap f → LinearMap g → LinearMap (λ v. f (g v))
 product_add f g p q v w = ap f (q v w) ∙ p (g v) (g w)
 
@@ -113,10 +119,10 @@ unfoldable pub agree_on_powers : ((ℕ → ℕ) → ℕ → ℕ) → ((ℕ → �
 agree_on_powers f g =
     all_below 4 (λ r. all_below 4 (λ j. all_below 8 (λ k. f (only j (2 ^ k)) r == g (only j (2 ^ k)) r)))
 
-maps_agree : (f g : (ℕ → ℕ) → ℕ → ℕ) → LinearMap f → LinearMap g → agree_on_powers f g ≡ true
+linear_maps_agree : (f g : (ℕ → ℕ) → ℕ → ℕ) → LinearMap f → LinearMap g → agree_on_powers f g ≡ true
     → (v : ℕ → ℕ) → ((i : ℕ) → v i < 256) → (r : ℕ) → r < 4 → f (first_rows 4 v) r ≡ g (first_rows 4 v) r
 unfolding agree_on_powers LinearForm
-maps_agree f g p q test v h r lt =
+linear_maps_agree f g p q test v h r lt =
     forms_agree (λ u. f u r) (λ u. g u r) (λ u w i. p u w i r) (λ u w i. q u w i r) 4
     (λ j k. agree_by_powers (λ x. f (only j x) r) (λ x. g (only j x) r)
     (λ x y. ap (λ u. f u r) (λ i l. only_add j x y l i) ∙ (λ i. p (only j x) (only j y) i r))
@@ -126,10 +132,12 @@ maps_agree f g p q test v h r lt =
 
 -- ---- a matrix times each column of a state
 
+-- a matrix times each column of a state
 unfoldable pub times : (ℕ → List ℕ) → List ℕ → List ℕ
 unfolding state row_by_column
 times m s = state (λ r c. row_by_column (m r) s c)
 
+-- column c of a state
 abbrev pub column : List ℕ → ℕ → ℕ → ℕ
 column s c j = byte_at s j c
 
@@ -142,6 +150,7 @@ pub mix_columns_add : (s t : List ℕ) → mix_columns (add_round_key s t) ≡ a
 unfolding mix_columns times
 mix_columns_add s t = times_add mix_row s t
 
+-- InvMixColumns of a sum is the sum of the two
 pub inv_mix_columns_add : (s t : List ℕ) → inv_mix_columns (add_round_key s t)
     ≡ add_round_key (inv_mix_columns s) (inv_mix_columns t)
 unfolding inv_mix_columns times
@@ -158,15 +167,17 @@ times_as : (m n : ℕ → List ℕ) (f : (ℕ → ℕ) → ℕ → ℕ) → Line
     → (s : List ℕ) → IsBytes s → times m (times n s) ≡ state (λ r c. f (first_rows 4 (column s c)) r)
 times_as m n f p test s h =
     times_times m n s
-    ∙ state_same _ _ (λ r c lt _. maps_agree (λ v. matrix m (matrix n v)) f
+    ∙ state_same _ _ (λ r c lt _. linear_maps_agree (λ v. matrix m (matrix n v)) f
     (product_add (matrix m) (matrix n) (matrix_add m) (matrix_add n)) p test
     (column s c) (λ j. h (j + 4 * c)) r lt)
 
+-- where one matrix after another leaves the powers of x in each row as they are, the first undoes the second
 pub times_undone : (m n : ℕ → List ℕ) → agree_on_powers (λ v. matrix m (matrix n v)) (λ v. v) ≡ true
     → (s : List ℕ) → length s ≡ 16 → IsBytes s → times m (times n s) ≡ s
 unfolding state build first_rows
 times_undone m n test s l h = times_as m n (λ v. v) (λ v w. refl) test s h ∙ built 16 s 0 l
 
+-- two matrices whose squares agree on the powers of x in each row have equal squares on states of bytes
 pub times_twice : (m n : ℕ → List ℕ) → agree_on_powers (λ v. matrix m (matrix m v)) (λ v. matrix n (matrix n v)) ≡ true
     → (s : List ℕ) → IsBytes s → times m (times m s) ≡ times n (times n s)
 times_twice m n test s h =

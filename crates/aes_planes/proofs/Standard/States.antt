@@ -7,6 +7,7 @@ use Rattle.std.specs.List.{list_all}
 use Rattle.aes_planes.specs.Fips197.{byte_at, state, IsBytes, IsBlock}
 use Rattle.aes_planes.proofs.Lists.{get_or-build, build_is, build_each}
 
+-- a state has sixteen bytes
 pub state_length : (f : ℕ → ℕ → ℕ) → length (state f) ≡ 16
 unfolding state
 state_length f = refl
@@ -37,6 +38,7 @@ unfolding state
 state_bytes f h =
     build_each (λ x. x < 256) 0 (omega arith) 16 (λ i. f (i % 4) (i / 4)) (λ i. h (i % 4) (i / 4))
 
+-- a state of bytes is a block
 pub state_block : (f : ℕ → ℕ → ℕ) → ((r c : ℕ) → f r c < 256) → IsBlock (state f)
 state_block f h = (state_length f, state_bytes f h)
 

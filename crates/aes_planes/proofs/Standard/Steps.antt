@@ -13,22 +13,27 @@ pub use Rattle.aes_planes.proofs.Standard.States.{state_length, state_bytes, sta
 
 -- ---- lengths
 
+-- a function of each byte keeps the length
 pub map_length : (f : ℕ → ℕ) (s : List ℕ) → length (map f s) ≡ length s
 map_length f [] = refl
 map_length f (x ∷ s) = ap suc (map_length f s)
 
+-- ShiftRows leaves sixteen bytes
 pub shift_length : (s : List ℕ) → length (shift_rows s) ≡ 16
 unfolding shift_rows
 shift_length s = refl
 
+-- InvShiftRows leaves sixteen bytes
 pub inv_shift_length : (s : List ℕ) → length (inv_shift_rows s) ≡ 16
 unfolding inv_shift_rows
 inv_shift_length s = refl
 
+-- AddRoundKey leaves sixteen bytes
 pub add_length : (s k : List ℕ) → length (add_round_key s k) ≡ 16
 unfolding add_round_key
 add_length s k = refl
 
+-- any number of ShiftRows of a block leaves sixteen bytes
 pub shift_times_length : (n : ℕ) (s : List ℕ) → length s ≡ 16 → length (shift_times n s) ≡ 16
 unfolding shift_times
 shift_times_length zero s l = l
@@ -36,30 +41,43 @@ shift_times_length (suc n) s l = shift_length (shift_times n s)
 
 -- ---- bytes and blocks
 
+-- a function from bytes to bytes leaves bytes of bytes
 pub map_bytes : (f : ℕ → ℕ) → ((x : ℕ) → x < 256 → f x < 256) → (s : List ℕ) → IsBytes s → IsBytes (map f s)
 map_bytes f u [] h i = omega arith
 map_bytes f u (x ∷ s) h zero = u x (h 0)
 map_bytes f u (x ∷ s) h (suc i) = map_bytes f u s (λ j. h (suc j)) i
 
-pub sub_bytes_bytes : (s : List ℕ) → IsBytes s → IsBytes (sub_bytes s)
+-- a function whose values are bytes makes a list of bytes of every list
+pub mapped_bytes : (f : ℕ → ℕ) → ((x : ℕ) → f x < 256) → (s : List ℕ) → IsBytes (map f s)
+mapped_bytes f u [] i = omega arith
+mapped_bytes f u (x ∷ s) zero = u x
+mapped_bytes f u (x ∷ s) (suc i) = mapped_bytes f u s i
+
+-- SubBytes of every list is a list of bytes
+pub sub_bytes_bytes : (s : List ℕ) → IsBytes (sub_bytes s)
 unfolding sub_bytes
-sub_bytes_bytes s h = map_bytes sbox sbox_byte s h
+sub_bytes_bytes s = mapped_bytes sbox sbox_byte s
 
-pub inv_sub_bytes_bytes : (s : List ℕ) → IsBytes s → IsBytes (inv_sub_bytes s)
+-- InvSubBytes of every list is a list of bytes
+pub inv_sub_bytes_bytes : (s : List ℕ) → IsBytes (inv_sub_bytes s)
 unfolding inv_sub_bytes
-inv_sub_bytes_bytes s h = map_bytes inv_sbox inv_sbox_byte s h
+inv_sub_bytes_bytes s = mapped_bytes inv_sbox inv_sbox_byte s
 
+-- ShiftRows leaves a block
 pub shift_block : (s : List ℕ) → IsBytes s → IsBlock (shift_rows s)
 unfolding shift_rows
 shift_block s h = state_block (λ r c. byte_at s r ((c + r) % 4)) (λ r c. h (r + 4 * ((c + r) % 4)))
 
+-- ShiftRows leaves bytes of bytes
 pub shift_bytes : (s : List ℕ) → IsBytes s → IsBytes (shift_rows s)
 shift_bytes s h = (shift_block s h).1
 
+-- InvShiftRows leaves a block
 pub inv_shift_block : (s : List ℕ) → IsBytes s → IsBlock (inv_shift_rows s)
 unfolding inv_shift_rows
 inv_shift_block s h = state_block (λ r c. byte_at s r ((c + 4 - r) % 4)) (λ r c. h (r + 4 * ((c + 4 - r) % 4)))
 
+-- AddRoundKey of bytes and a key of bytes leaves a block
 pub add_block : (s k : List ℕ) → IsBytes s → IsBytes k → IsBlock (add_round_key s k)
 unfolding add_round_key
 add_block s k h g = state_block (λ r c. field_add (byte_at s r c) (byte_at k r c))
@@ -69,7 +87,9 @@ add_block s k h g = state_block (λ r c. field_add (byte_at s r c) (byte_at k r 
 
 -- g makes blocks of blocks, and f undoes it
 pub record Undoes (f g : List ℕ → List ℕ) : Type 0 where
+  -- g leaves a block of a block
   pub block : (s : List ℕ) → IsBlock s → IsBlock (g s)
+  -- and f leaves of that the block that g was given
   pub undone : (s : List ℕ) → IsBlock s → f (g s) ≡ s
 
 -- one step and then another, undone in the other order
@@ -84,44 +104,54 @@ map_undone : (f g : ℕ → ℕ) → ((x : ℕ) → x < 256 → f (g x) ≡ x) �
 map_undone f g u [] h = refl
 map_undone f g u (x ∷ s) h = λ i. u x (h 0) i ∷ map_undone f g u s (λ j. h (suc j)) i
 
+-- InvSubBytes undoes SubBytes
 pub inv_sub_of_sub : Undoes inv_sub_bytes sub_bytes
 unfolding inv_sub_bytes sub_bytes
 inv_sub_of_sub = record {
-  block = λ s h. (map_length sbox s ∙ h.0, sub_bytes_bytes s h.1);
+  block = λ s h. (map_length sbox s ∙ h.0, sub_bytes_bytes s);
   undone = λ s h. map_undone inv_sbox sbox inv_sbox_of_sbox s h.1;
 }
 
+-- SubBytes undoes InvSubBytes
 pub sub_of_inv_sub : Undoes sub_bytes inv_sub_bytes
 unfolding inv_sub_bytes sub_bytes
 sub_of_inv_sub = record {
-  block = λ s h. (map_length inv_sbox s ∙ h.0, inv_sub_bytes_bytes s h.1);
+  block = λ s h. (map_length inv_sbox s ∙ h.0, inv_sub_bytes_bytes s);
   undone = λ s h. map_undone sbox inv_sbox sbox_of_inv_sbox s h.1;
 }
 
+-- ShiftRows after InvShiftRows leaves a list of sixteen as it was
 pub shift_of_inv_shift : (s : List ℕ) → length s ≡ 16 → shift_rows (inv_shift_rows s) ≡ s
 unfolding inv_shift_rows shift_rows build
 shift_of_inv_shift s l = built 16 s 0 l
 
+-- ShiftRows undoes InvShiftRows
 pub shift_undoes : Undoes shift_rows inv_shift_rows
 shift_undoes = record { block = λ s h. inv_shift_block s h.1; undone = λ s h. shift_of_inv_shift s h.0 }
 
+-- InvShiftRows undoes ShiftRows
 pub inv_shift_undoes : Undoes inv_shift_rows shift_rows
 unfolding inv_shift_rows shift_rows build
 inv_shift_undoes = record { block = λ s h. shift_block s h.1; undone = λ s h. built 16 s 0 h.0 }
 
+-- four ShiftRows leave a list of sixteen as it was
 pub shift_four : (s : List ℕ) → length s ≡ 16 → shift_times 4 s ≡ s
 unfolding shift_times shift_rows state build
 shift_four s l = built 16 s 0 l
 
+-- InvMixColumns undoes MixColumns
 pub inv_mix_undoes : Undoes inv_mix_columns mix_columns
 inv_mix_undoes = record { block = λ s h. mix_block s; undone = inv_mix_of_mix }
 
+-- MixColumns undoes InvMixColumns
 pub mix_undoes : Undoes mix_columns inv_mix_columns
 mix_undoes = record { block = λ s h. inv_mix_block s; undone = mix_of_inv_mix }
 
+-- adding the same round key twice leaves a list of sixteen as it was
 pub add_key_twice : (s k : List ℕ) → length s ≡ 16 → add_round_key (add_round_key s k) k ≡ s
 unfolding add_round_key build
 add_key_twice s k l = (λ i. state (λ r c. add_twice (byte_at s r c) (byte_at k r c) i)) ∙ built 16 s 0 l
 
+-- AddRoundKey undoes itself
 pub add_undoes : (k : List ℕ) → IsBytes k → Undoes (λ s. add_round_key s k) (λ s. add_round_key s k)
 add_undoes k g = record { block = λ s h. add_block s k h.1 g; undone = λ s h. add_key_twice s k h.0 }

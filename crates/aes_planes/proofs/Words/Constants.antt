@@ -1,5 +1,5 @@
 -- Words that are made of nibbles and bytes, at every width.
-use Rattle.std.proofs.Common.{◌≡◌, ℕ, zero, suc, ◌+◌, ◌-◌, ◌*◌, ◌/◌, ◌%◌, ◌^◌, ◌<◌, ◌≤◌, Bool, true, ◌&&◌, nat_lt}
+use Rattle.std.proofs.Common.{◌≡◌, ℕ, zero, suc, ◌+◌, ◌-◌, ◌*◌, ◌/◌, ◌%◌, ◌^◌, ◌<◌, ◌≤◌, Bool, ◌&&◌, nat_lt}
 use Rattle.std.proofs.Common.{bit_and, bit_or, [], ◌∷◌, get_or, refl, ap, sym, ◌∙◌, arith}
 use Rattle.std.proofs.lemmas.Bool.{and_parts, ltb-true}
 use Rattle.std.proofs.lemmas.Nat.{div-add-mod'}
@@ -7,13 +7,14 @@ use Rattle.std.proofs.Math.Nat.{div-lt_iff_lt-mul, mod-lt}
 use Rattle.aes_planes.specs.Bits.{at, bit}
 use Rattle.aes_planes.specs.Words.{word_bits}
 use Rattle.aes_planes.proofs.Bits.BitCases.{same, same_tells}
-use Rattle.aes_planes.proofs.Bits.ByteCases.{all_below, all_below_tells, all_pairs, all_pairs_tell, by_four}
+use Rattle.aes_planes.proofs.Bits.ByteCases.{all_below, all_below_tells, all_pairs_tell, by_four}
 use Rattle.aes_planes.proofs.Lists.{get_or-build}
 use Rattle.aes_planes.proofs.Bits.Digits.{field_bit, rows_joined, byte_repeated}
 use Rattle.aes_planes.proofs.Bits.NumberBits.{bit_low, bit_shr, reads, number_calls, number_nots}
 
 -- ---- a row of n bits a column
 
+-- each bit of a nibble n times, lowest first
 abbrev pub nibble_row : ℕ → ℕ → ℕ
 nibble_row b n =
     bit_or (bit_or (bit_or (bit_and b 1) (bit_and (b / 2) 1 * 2 ^ n % 2 ^ 32))
@@ -25,26 +26,25 @@ row_case n b =
     (nat_lt (nibble_row b n) (2 ^ (4 * n)) && nat_lt (nibble_row b n) (2 ^ 32))
     && all_below (4 * n) (λ q. same (bit (nibble_row b n) q) (bit b (q / n)))
 
-row_cases : all_pairs 8 16 (λ m b. row_case (suc m) b) ≡ true
-unfolding all_below row_case same bit
-row_cases = refl
-
 row_right : (b n : ℕ) → b ≤ 15 → 1 ≤ n → n ≤ 8
     → (nibble_row b n < 2 ^ (4 * n)) × (nibble_row b n < 2 ^ 32)
     × ((q : ℕ) → q < 4 * n → bit (nibble_row b n) q ≡ bit b (q / n))
-unfolding row_case
+unfolding all_below row_case same bit
 row_right b zero h some few = absurd (omega arith)
 row_right b (suc m) h some few =
-    let t = and_parts _ _ (all_pairs_tell 8 16 (λ m b. row_case (suc m) b) row_cases m b (omega arith) (omega arith)) in
+    let t = and_parts _ _ (all_pairs_tell 8 16 (λ m b. row_case (suc m) b) refl m b (omega arith) (omega arith)) in
     let small = and_parts _ _ t.0 in
     (ltb-true _ _ small.0, ltb-true _ _ small.1, λ q l. same_tells _ _ (all_below_tells _ _ t.1 q l))
 
+-- that number has 4 * n bits at most
 pub row_small : (b n : ℕ) → b ≤ 15 → 1 ≤ n → n ≤ 8 → nibble_row b n < 2 ^ (4 * n)
 row_small b n h some few = (row_right b n h some few).0
 
+-- so it fits 32 bits
 pub row_fits : (b n : ℕ) → b ≤ 15 → 1 ≤ n → n ≤ 8 → nibble_row b n < 2 ^ 32
 row_fits b n h some few = (row_right b n h some few).1
 
+-- and its bit q is bit q / n of the nibble
 pub row_bit : (b n q : ℕ) → b ≤ 15 → 1 ≤ n → n ≤ 8 → q < 4 * n → bit (nibble_row b n) q ≡ bit b (q / n)
 row_bit b n q h some few = (row_right b n h some few).2 q
 
@@ -56,6 +56,7 @@ pub ruleset row_calls = (row_small, row_fits, row_bit)
 pub row_below : (i R : ℕ) → i < 4 * R → i / R < 4
 row_below i R h = (div-lt_iff_lt-mul {k = R} (omega (arith, h))).1 h
 
+-- a place is in one of four columns
 pub column_below : (i R Q : ℕ) → 1 ≤ Q → R ≡ 4 * Q → i % R / Q < 4
 column_below i R Q some e =
     let m : i % R < R = mod-lt i (omega (arith, e, some)) in
@@ -65,32 +66,40 @@ column_below i R Q some e =
 pub same_nibble : (b j : ℕ) → j < 4 → get_or (b ∷ b ∷ b ∷ b ∷ []) j 0 ≡ b
 same_nibble b j h = by_four (λ j. get_or (b ∷ b ∷ b ∷ b ∷ []) j 0 ≡ b) refl refl refl refl j h
 
+-- a number has each bit of a nibble n times, and no others
+pub record IsRow (n x nibble : ℕ) : Type 0 where
+  -- it has no more bits than a row of n blocks
+  pub small : x < 2 ^ (4 * n)
+  -- and its bit q is that of column q / n
+  pub bits : (q : ℕ) → q < 4 * n → bit x q ≡ bit nibble (q / n)
+
 -- four rows joined, in a word of n blocks: each has a nibble's bits, n times each
-pub rows_packed : (n x0 x1 x2 x3 r0 r1 r2 r3 : ℕ) → x0 < 2 ^ (4 * n) → x1 < 2 ^ (4 * n) → x2 < 2 ^ (4 * n)
-    → x3 < 2 ^ (4 * n)
-    → ((q : ℕ) → q < 4 * n → bit x0 q ≡ bit r0 (q / n)) → ((q : ℕ) → q < 4 * n → bit x1 q ≡ bit r1 (q / n))
-    → ((q : ℕ) → q < 4 * n → bit x2 q ≡ bit r2 (q / n)) → ((q : ℕ) → q < 4 * n → bit x3 q ≡ bit r3 (q / n))
+pub rows_packed : {n x0 x1 x2 x3 r0 r1 r2 r3 : ℕ} → IsRow n x0 r0 → IsRow n x1 r1 → IsRow n x2 r2 → IsRow n x3 r3
     → (i : ℕ) → i < 16 * n
     → at (word_bits (16 * n) (bit_or (bit_or (bit_or x0 (x1 * 2 ^ (4 * n) % 2 ^ (16 * n)))
     (x2 * 2 ^ (2 * (4 * n)) % 2 ^ (16 * n))) (x3 * 2 ^ (3 * (4 * n)) % 2 ^ (16 * n)))) i
     ≡ bit (get_or (r0 ∷ r1 ∷ r2 ∷ r3 ∷ []) (i / (4 * n)) 0) (i % (4 * n) / n)
-rows_packed n x0 x1 x2 x3 r0 r1 r2 r3 f0 f1 f2 f3 b0 b1 b2 b3 i h =
+rows_packed {n = n} {x0 = x0} {x1 = x1} {x2 = x2} {x3 = x3} {r0 = r0} {r1 = r1} {r2 = r2} {r3 = r3} a b c d i h =
     let q = i % (4 * n) in
     let row : i / (4 * n) < 4 = row_below i (4 * n) (omega arith) in
     let column : q < 4 * n = mod-lt i (omega arith) in
     sym (reads (16 * n) _ i h)
-    ∙ rows_joined (16 * n) (4 * n) x0 x1 x2 x3 (i / (4 * n)) q i (omega arith) f0 f1 f2 f3 row column
-    (sym (div-add-mod' i (4 * n)))
+    ∙ rows_joined (16 * n) (4 * n) x0 x1 x2 x3 (i / (4 * n)) q i (omega arith) a.small b.small c.small d.small row
+    column (sym (div-add-mod' i (4 * n)))
     ∙ by_four (λ j. bit (get_or (x0 ∷ x1 ∷ x2 ∷ x3 ∷ []) j 0) q ≡ bit (get_or (r0 ∷ r1 ∷ r2 ∷ r3 ∷ []) j 0) (q / n))
-    (b0 q column) (b1 q column) (b2 q column) (b3 q column) (i / (4 * n)) row
+    (a.bits q column) (b.bits q column) (c.bits q column) (d.bits q column) (i / (4 * n)) row
 
+-- four nibbles joined to sixteen bits: bit i is that of column i % 4 in nibble i / 4
 pub rows_packed_16 : (r0 r1 r2 r3 i : ℕ) → r0 ≤ 15 → r1 ≤ 15 → r2 ≤ 15 → r3 ≤ 15 → i < 16
     → at (word_bits 16 (bit_or (bit_or (bit_or r0 (r1 * 2 ^ 4 % 2 ^ 16)) (r2 * 2 ^ 8 % 2 ^ 16))
     (r3 * 2 ^ 12 % 2 ^ 16))) i
     ≡ bit (get_or (r0 ∷ r1 ∷ r2 ∷ r3 ∷ []) (i / 4) 0) (i % 4 / 1)
-rows_packed_16 r0 r1 r2 r3 i h0 h1 h2 h3 = rows_packed 1 r0 r1 r2 r3 r0 r1 r2 r3
-    (omega arith) (omega arith) (omega arith) (omega arith) (λ q l. ap (bit r0) (omega arith))
-    (λ q l. ap (bit r1) (omega arith)) (λ q l. ap (bit r2) (omega arith)) (λ q l. ap (bit r3) (omega arith)) i
+rows_packed_16 r0 r1 r2 r3 i h0 h1 h2 h3 =
+    let own : (r : ℕ) → r ≤ 15 → IsRow 1 r r = λ r h. record {
+      small = omega arith;
+      bits = λ q l. ap (bit r) (omega arith);
+    } in
+    rows_packed (own r0 h0) (own r1 h1) (own r2 h2) (own r3 h3) i
 
 -- a number in four parts of w bits
 quarter_bit : (w x p i : ℕ) → p < 4 → i < w
@@ -102,12 +111,14 @@ quarter_bit w x p i hp hi =
     (bit_low x w i hi ∙ ap (bit x) (omega arith)) (field_bit x w w i hi ∙ ap (bit x) (omega arith))
     (field_bit x (2 * w) w i hi ∙ ap (bit x) (omega arith)) (bit_shr x (3 * w) i ∙ ap (bit x) (omega arith)) p hp
 
+-- the four nibbles of a number of sixteen bits have its bits, four each from the lowest on
 pub nibble_bit : (x j q : ℕ) → j < 4 → q < 4 → bit (get_or (x % 16 ∷ x / 16 % 16 ∷ x / 256 % 16 ∷ x / 4096 ∷ []) j 0) q
     ≡ bit x (4 * j + q)
 nibble_bit = quarter_bit 4
 
 pub ruleset row_places = (same_nibble, nibble_bit, row_below, column_below)
 
+-- the four parts of a number of 64 bits have its bits, sixteen each from the lowest on
 pub parted_bit : (x p i : ℕ) → p < 4 → i < 16
     → bit (get_or (x % 2 ^ 16 ∷ x / 2 ^ 16 % 2 ^ 16 ∷ x / 2 ^ 32 % 2 ^ 16 ∷ x / 2 ^ 48 ∷ []) p 0) i ≡ bit x (16 * p + i)
 parted_bit = quarter_bit 16
@@ -123,20 +134,19 @@ joined_bit a b c d p i f0 f1 f2 f3 hp hi =
 pub bytes_of_16 : (b : ℕ) → b < 256 → (i : ℕ) → i < 16 → bit (b * 0x0101) i ≡ bit b (i % 8)
 bytes_of_16 b f = byte_repeated 16 2 b _ refl f (omega arith)
 
+-- the same at 32 bits
 pub bytes_of_32 : (b : ℕ) → b < 256 → (i : ℕ) → i < 32 → bit (b * 0x01010101) i ≡ bit b (i % 8)
 bytes_of_32 b f = byte_repeated 32 4 b _ refl f (omega arith)
 
+-- the same at 64 bits
 pub bytes_of_64 : (b : ℕ) → b < 256 → (i : ℕ) → i < 64 → bit (b * 0x0101010101010101) i ≡ bit b (i % 8)
 bytes_of_64 b f = byte_repeated 64 8 b _ refl f (omega arith)
 
--- a nibble in every row of sixteen bits
-nibbles_checked : all_pairs 16 16 (λ b i. same (bit (b * 0x1111) i) (bit b (i % 4 / 1))) ≡ true
-unfolding all_below same bit
-nibbles_checked = refl
-
+-- a nibble in every nibble of sixteen bits has in each place the nibble's bit of that column
 pub nibbles_of_16 : (b : ℕ) → b < 16 → (i : ℕ) → i < 16 → bit (b * 0x1111) i ≡ bit b (i % 4 / 1)
+unfolding all_below same bit
 nibbles_of_16 b f i h = same_tells _ _ (all_pairs_tell 16 16
-    (λ b i. same (bit (b * 0x1111) i) (bit b (i % 4 / 1))) nibbles_checked b i f h)
+    (λ b i. same (bit (b * 0x1111) i) (bit b (i % 4 / 1))) refl b i f h)
 
 -- what most calls of a word leave, where it is a number
 pub ruleset word_calls = (number_calls, number_nots, get_or-build, bytes_of_16, bytes_of_32, bytes_of_64, nibbles_of_16)

@@ -1,12 +1,11 @@
 -- The bits of sixteen byte lanes through the operations on vectors, and lanes as a word of 128 bits.
 use Rattle.std.proofs.Common.{◌≡◌, ℕ, ◌+◌, ◌-◌, ◌*◌, ◌/◌, ◌%◌, ◌^◌, ◌<◌, ◌≤◌, ◌==◌, Bool, true, false, ◌&&◌, ◌||◌, not}
 use Rattle.std.proofs.Common.{cond, nat_le, nat_lt, bit_and, bit_or, bit_xor, List, [], ◌∷◌, length, map, get_or}
-use Rattle.std.proofs.Common.{replicate, refl, ap, sym, ◌∙◌, arith, w8, Fits, leb-true, le-leb, ◌⊎◌, inl, inr, T}
+use Rattle.std.proofs.Common.{replicate, refl, ap, sym, ◌∙◌, arith, w8, Fits, leb-true, le-leb, inl, inr, T}
 use Rattle.std.proofs.lemmas.Simd.{swz_l, get_or-swz_l, get_or-zip2, get_or-replicate, length-zip2}
 use Rattle.std.proofs.lemmas.Simd.{length-replicate, Each1-get_or, below_from_Fits}
 use Rattle.std.proofs.lemmas.List.{get_or_past, get_or-map}
-use Rattle.std.proofs.lemmas.Bool.{cases_lt, lt-leb, lt-ltb, le-ltb, eqb-true}
-use Rattle.std.proofs.lemmas.Bool.Decides.{leb_tells}
+use Rattle.std.proofs.lemmas.Bool.{cases_lt, lt-leb, lt-ltb, le-ltb, eqb-true, cond_both, cond-true, cond-false}
 use Rattle.std.proofs.lemmas.Nat.{or_shifted, shl_whole}
 use lib.Lanes.{zip2, Each1, number_l, digits_l}
 use Rattle.aes_planes.specs.Bits.{at, bit, xor, Places}
@@ -23,16 +22,19 @@ use Rattle.aes_planes.proofs.Bits.NumberBits.{bit_zero, bit_ones}
 -- ---- a lane of what an operator makes of n lanes
 
 module _ (n : ℕ) where
+  -- lane j of what f makes of two vectors, lane by lane, is f of their lanes j
   pub lane_of_two : (f : ℕ → ℕ → ℕ) (xs ys : List ℕ) (j : ℕ) → length xs ≡ n → length ys ≡ n → j < n
       → get_or (zip2 f xs ys) j 0 ≡ f (get_or xs j 0) (get_or ys j 0)
   lane_of_two f xs ys j d e h = get_or-zip2 f xs ys j 0 0 0 (omega (arith, d)) (omega (arith, e))
 
+  -- lane j of what f makes of a vector and a vector of s in every lane is f of lane j and s
   pub lane_of_splat : (f : ℕ → ℕ → ℕ) (xs : List ℕ) (s j : ℕ) → length xs ≡ n → j < n
       → get_or (zip2 f xs (replicate n s)) j 0 ≡ f (get_or xs j 0) s
   lane_of_splat f xs s j d h =
       lane_of_two f xs (replicate n s) j d (length-replicate n s) h
       ∙ ap (f (get_or xs j 0)) (get_or-replicate n j s 0 h)
 
+  -- and that vector has as many lanes as the first
   pub length-splat : (f : ℕ → ℕ → ℕ) (xs : List ℕ) (s : ℕ) → length xs ≡ n → length (zip2 f xs (replicate n s)) ≡ n
   length-splat f xs s d = length-zip2 f xs (replicate n s) (d ∙ sym (length-replicate n s)) ∙ d
 
@@ -47,6 +49,7 @@ module _ (n : ℕ) where
 
 -- ---- lanes as a number
 
+-- a lane of a vector of bytes is below 2 ^ 8
 pub lane_small : (x : List ℕ) (j : ℕ) → j < length x → Each1 (Fits w8) x → get_or x j 0 < 2 ^ 8
 lane_small x j l h = Each1-get_or (λ (v : ℕ). v < 2 ^ 8) x j 0 l (below_from_Fits w8 x h)
 
@@ -59,6 +62,7 @@ digits_bits x = build-ext 128 _ _ (λ i h.
     digit_bit 8 16 (number_l (2 ^ 64) (x % 2 ^ 64 ∷ x / 2 ^ 64 ∷ [])) (i / 8) (i % 8) (omega arith) (omega arith)
     ∙ (λ t. bit (whole t) (spot t)))
 
+-- a number below 2 ^ 128 put together from its upper and its lower 64 bits
 abbrev pub by_halves : ℕ → ℕ
 by_halves n = bit_or (n / 2 ^ 64 % 2 ^ 64 * 2 ^ 64 % 2 ^ 128) (n % 2 ^ 64)
 
@@ -87,19 +91,18 @@ lane_is xs j r i h e k =
     let place : r ≡ i % 8 = omega (arith, e) in
     (λ t. bit (get_or xs (lane t) 0) (place t)) ∙ reads xs i h
 
+-- bit 8 * j + r of the lanes is bit r of lane j
 pub lane_at : (xs : List ℕ) (j r : ℕ) → j < 16 → r < 8 → at (lane_bits xs) (8 * j + r) ≡ bit (get_or xs j 0) r
 lane_at xs j r h k = sym (lane_is xs j r (8 * j + r) (omega arith) refl k)
 
 -- lanes have no bits past the last
 lane_within : (xs : List ℕ) (j r i : ℕ) → length xs ≡ 16 → i ≡ 8 * j + r → r < 8
     → bit (get_or xs j 0) r ≡ (nat_lt i 128 && at (lane_bits xs) i)
-lane_within xs j r i d e h = go (cases_lt i 128)
-  where
-    go : (i < 128) ⊎ (128 ≤ i) → bit (get_or xs j 0) r ≡ (nat_lt i 128 && at (lane_bits xs) i)
-    go (inl lt) = lane_is xs j r i lt e h ∙ ap (λ v. v && at (lane_bits xs) i) (sym (lt-ltb i 128 lt))
-    go (inr le) =
-        ap (λ v. bit v r) (get_or_past xs j 0 (omega (arith, d, e, le))) ∙ bit_zero r
-        ∙ ap (λ v. v && at (lane_bits xs) i) (sym (le-ltb i 128 le))
+lane_within xs j r i d e h = elim (cases_lt i 128) [
+  | inl lt ↦ lane_is xs j r i lt e h ∙ ap (λ v. v && at (lane_bits xs) i) (sym (lt-ltb i 128 lt))
+  | inr le ↦ ap (λ v. bit v r) (get_or_past xs j 0 (omega (arith, d, e, le))) ∙ bit_zero r
+      ∙ ap (λ v. v && at (lane_bits xs) i) (sym (le-ltb i 128 le))
+]
 
 -- an operator on two vectors
 lanes_by : (f : ℕ → ℕ → ℕ) (g : Bool → Bool → Bool) → ((a b i : ℕ) → bit (f a b) i ≡ g (bit a i) (bit b i))
@@ -109,38 +112,40 @@ lanes_by f g h xs ys d e = Places-build 128 _ _ (λ i l.
     ap (λ v. bit v (i % 8)) (lane_of_two 16 f xs ys (i / 8) d e (omega arith))
     ∙ h (get_or xs (i / 8) 0) (get_or ys (i / 8) 0) (i % 8) ∙ (λ t. g (reads xs i l t) (reads ys i l t)))
 
+-- the lanes of a bitwise and have in each place the and of the two bits there
 pub lanes_and : (xs ys : List ℕ) → length xs ≡ 16 → length ys ≡ 16
     → Places 128 (lane_bits (zip2 bit_and xs ys)) (λ i. at (lane_bits xs) i && at (lane_bits ys) i)
 lanes_and = lanes_by bit_and (λ a b. a && b) bit_of_and
 
+-- the lanes of a bitwise or have in each place the or of the two bits there
 pub lanes_or : (xs ys : List ℕ) → length xs ≡ 16 → length ys ≡ 16
     → Places 128 (lane_bits (zip2 bit_or xs ys)) (λ i. at (lane_bits xs) i || at (lane_bits ys) i)
 lanes_or = lanes_by bit_or (λ a b. a || b) bit_of_or
 
+-- the lanes of a bitwise xor have in each place the sum of the two bits there
 pub lanes_xor : (xs ys : List ℕ) → length xs ≡ 16 → length ys ≡ 16
     → Places 128 (lane_bits (zip2 bit_xor xs ys)) (λ i. xor (at (lane_bits xs) i) (at (lane_bits ys) i))
 lanes_xor = lanes_by bit_xor xor bit_of_xor
 
+-- sixteen lanes of one byte have in each place that byte's bit, by the place modulo 8
 pub repeated_places : (b : ℕ) → Places 128 (lane_bits (replicate 16 b)) (λ i. bit b (i % 8))
 repeated_places b = Places-build 128 _ _ (λ i h. ap (λ v. bit v (i % 8))
     (get_or-replicate 16 (i / 8) b 0 (omega arith)))
 
-xor_true : (b : Bool) → xor b true ≡ not b
-xor_true true = refl
-xor_true false = refl
-
+-- the xor with sixteen lanes of ones has in each place the opposite bit
 pub lanes_not : (xs : List ℕ) → length xs ≡ 16
     → Places 128 (lane_bits (zip2 bit_xor xs (replicate 16 255))) (λ i. not (at (lane_bits xs) i))
 lanes_not xs d i l =
     lanes_xor xs (replicate 16 255) d refl i l
     ∙ ap (xor (at (lane_bits xs) i)) (repeated_places 255 i l
     ∙ bit_ones 8 (i % 8) (omega arith))
-    ∙ xor_true (at (lane_bits xs) i)
+    ∙ elim (at (lane_bits xs) i) as (λ b. xor b true ≡ not b) [ true ↦ refl | false ↦ refl ]
 
 pub ruleset lane_operators = (lanes_and, lanes_or, lanes_xor, lanes_not, repeated_places)
 
 -- ---- lanes that move
 
+-- the numbers of the sixteen lanes
 abbrev pub sixteen : List ℕ
 sixteen = 0 ∷ 1 ∷ 2 ∷ 3 ∷ 4 ∷ 5 ∷ 6 ∷ 7 ∷ 8 ∷ 9 ∷ 10 ∷ 11 ∷ 12 ∷ 13 ∷ 14 ∷ 15 ∷ []
 
@@ -149,14 +154,10 @@ abbrev lane_or_zero : ℕ → ℕ → Bool
 lane_or_zero k i = cond (nat_le 128 k) (nat_le 16 i) (k == i)
 
 lane_picked : (x : List ℕ) (k i o : ℕ) → length x ≡ 16 → o ≡ 0 → lane_or_zero k i ≡ true
-    → ((nat_le 128 k ≡ true) × (128 ≤ k)) ⊎ ((nat_le 128 k ≡ false) × (k < 128))
     → cond (nat_le 128 k) 0 (get_or x (o + k) 0) ≡ get_or x i 0
-lane_picked x k i o e z h (inl t) =
-    let b : nat_le 16 i ≡ true = ap (λ v. cond v (nat_le 16 i) (k == i)) (sym t.0) ∙ h in
-    ap (λ v. cond v 0 (get_or x (o + k) 0)) t.0 ∙ sym (get_or_past x i 0 (omega (arith, e, leb-true _ _ b)))
-lane_picked x k i o e z h (inr t) =
-    let b : (k == i) ≡ true = ap (λ v. cond v (nat_le 16 i) (k == i)) (sym t.0) ∙ h in
-    ap (λ v. cond v 0 (get_or x (o + k) 0)) t.0 ∙ ap (λ v. get_or x v 0) (omega (arith, z, eqb-true _ _ b))
+lane_picked x k i o e z h = cond_both (nat_le 128 k) 0 (get_or x (o + k) 0) (λ v. v ≡ get_or x i 0)
+    (λ t. sym (get_or_past x i 0 (omega (arith, e, leb-true 16 i (sym (cond-true _ _ _ t) ∙ h)))))
+    (λ t. ap (λ v. get_or x v 0) (omega (arith, z, eqb-true k i (sym (cond-false _ _ _ t) ∙ h))))
 
 -- a swizzle by positions that are computed of a number up to sixteen
 lane_moved : (to : ℕ → List ℕ) (from : ℕ → ℕ → ℕ) → all_pairs 17 16 (λ m j. lane_or_zero (get_or (to m) j 0) (from m j))
@@ -167,33 +168,30 @@ lane_moved to from right x m j d e h k =
     get_or-swz_l w8 16 x 0 (to m) j (omega (arith, e))
     ∙ lane_picked x (get_or (to m) j 0) (from m j) (16 * ((0 + j) / 16)) d (omega arith)
     (all_pairs_tell 17 16 (λ m j. lane_or_zero (get_or (to m) j 0) (from m j)) right m j (omega arith) k)
-    (leb_tells 128 (get_or (to m) j 0))
 
+-- for each lane the number of the one m lanes on, round the end
 abbrev pub rotate_to : ℕ → List ℕ
 rotate_to m = map (λ j. bit_and ((j + m) % 256) 15) sixteen
 
-rotate_checked : all_pairs 17 16 (λ m j. lane_or_zero (get_or (rotate_to m) j 0) ((j + m) % 16)) ≡ true
-unfolding all_below
-rotate_checked = refl
-
+-- a swizzle by these numbers has in each place the bit m bytes on, round the end
 pub rotated_lanes : (x : List ℕ) (m : ℕ) → length x ≡ 16 → m < 16
     → Places 128 (lane_bits (swz_l w8 16 x 0 (rotate_to m))) (λ i. at (lane_bits x) ((i + 8 * m) % 128))
+unfolding all_below
 rotated_lanes x m d h = Places-build 128 _ _ (λ i l.
-    ap (λ v. bit v (i % 8)) (lane_moved rotate_to (λ m j. (j + m) % 16) rotate_checked x m (i / 8) d refl (omega arith)
+    ap (λ v. bit v (i % 8)) (lane_moved rotate_to (λ m j. (j + m) % 16) refl x m (i / 8) d refl (omega arith)
     (omega arith))
     ∙ lane_is x ((i / 8 + m) % 16) (i % 8) ((i + 8 * m) % 128) (omega arith) (omega arith) (omega arith))
 
+-- for each lane the number of the one m lanes on, and a number from 128 on where there is none
 abbrev pub down_to : ℕ → List ℕ
 down_to m = map (λ j. bit_and ((j + (m + 112)) % 256) 143) sixteen
 
-down_checked : all_pairs 17 16 (λ m j. lane_or_zero (get_or (down_to m) j 0) (j + m)) ≡ true
-unfolding all_below
-down_checked = refl
-
+-- a swizzle by these numbers has in each place the bit m bytes on, and zeros past the last
 pub lanes_right : (x : List ℕ) (m : ℕ) → length x ≡ 16 → m ≤ 16
     → Places 128 (lane_bits (swz_l w8 16 x 0 (down_to m))) (λ i. nat_lt (i + 8 * m) 128 && at (lane_bits x) (i + 8 * m))
+unfolding all_below
 lanes_right x m d h = Places-build 128 _ _ (λ i l.
-    ap (λ v. bit v (i % 8)) (lane_moved down_to (λ m j. j + m) down_checked x m (i / 8) d refl h (omega arith))
+    ap (λ v. bit v (i % 8)) (lane_moved down_to (λ m j. j + m) refl x m (i / 8) d refl h (omega arith))
     ∙ lane_within x (i / 8 + m) (i % 8) (i + 8 * m) d (omega arith) (omega arith))
 
 t_of : (b : Bool) → b ≡ true → T b
@@ -204,44 +202,38 @@ t_of false e = absurd (grind arith)
 abbrev place_ok : ℕ → Bool
 place_ok k = nat_le 128 k || (nat_lt k 16 && nat_lt (0 + k) 16)
 
-places_checked : all_below 256 (λ v. place_ok (bit_and v 143)) ≡ true
-unfolding all_below
-places_checked = refl
-
+-- a number masked with 143 names a lane that a swizzle may read
 pub place_within : (x : ℕ) → T (place_ok (bit_and (x % 256) 143))
-place_within x = t_of _ (all_below_tells 256 (λ v. place_ok (bit_and v 143)) places_checked (x % 256) (omega arith))
+unfolding all_below
+place_within x = t_of _ (all_below_tells 256 (λ v. place_ok (bit_and v 143)) refl (x % 256) (omega arith))
 
+-- for each lane the number of the one m lanes back, and a number from 128 on where there is none
 abbrev pub up_to : ℕ → List ℕ
 up_to m = map (λ j. (j + (256 - m)) % 256) sixteen
 
-up_checked : all_pairs 17 16 (λ m j. lane_or_zero (get_or (up_to m) j 0) (cond (nat_le m j) (j - m) 16)) ≡ true
-unfolding all_below
-up_checked = refl
-
+-- a swizzle by these numbers has in each place the bit m bytes back, and zeros below the first
 pub lanes_left : (x : List ℕ) (m : ℕ) → length x ≡ 16 → m ≤ 16
     → Places 128 (lane_bits (swz_l w8 16 x 0 (up_to m))) (λ i. nat_le (8 * m) i && at (lane_bits x) (i - 8 * m))
+unfolding all_below
 lanes_left x m d h = Places-build 128 _ _ (λ i l.
-    ap (λ v. bit v (i % 8)) (lane_moved up_to (λ m j. cond (nat_le m j) (j - m) 16) up_checked x m (i / 8) d refl h
+    ap (λ v. bit v (i % 8)) (lane_moved up_to (λ m j. cond (nat_le m j) (j - m) 16) refl x m (i / 8) d refl h
     (omega arith))
-    ∙ below i l (cases_lt i (8 * m)))
-  where
-    below : (i : ℕ) → i < 128 → (i < 8 * m) ⊎ (8 * m ≤ i)
-        → bit (get_or x (cond (nat_le m (i / 8)) (i / 8 - m) 16) 0) (i % 8)
-        ≡ (nat_le (8 * m) i && at (lane_bits x) (i - 8 * m))
-    below i l (inl lt) =
-        (λ t. bit (get_or x (cond (lt-leb m (i / 8) (omega arith) t) (i / 8 - m) 16) 0) (i % 8))
-        ∙ ap (λ v. bit v (i % 8)) (get_or_past x 16 0 (omega arith)) ∙ bit_zero (i % 8)
-        ∙ ap (λ v. v && at (lane_bits x) (i - 8 * m)) (sym (lt-leb (8 * m) i lt))
-    below i l (inr le) =
-        (λ t. bit (get_or x (cond (le-leb m (i / 8) (omega arith) t) (i / 8 - m) 16) 0) (i % 8))
-        ∙ lane_is x (i / 8 - m) (i % 8) (i - 8 * m) (omega arith) (omega arith) (omega arith)
-        ∙ ap (λ v. v && at (lane_bits x) (i - 8 * m)) (sym (le-leb (8 * m) i le))
+    ∙ elim (cases_lt i (8 * m)) [
+      | inl lt ↦ (λ t. bit (get_or x (cond (lt-leb m (i / 8) (omega arith) t) (i / 8 - m) 16) 0) (i % 8))
+          ∙ ap (λ v. bit v (i % 8)) (get_or_past x 16 0 (omega arith)) ∙ bit_zero (i % 8)
+          ∙ ap (λ v. v && at (lane_bits x) (i - 8 * m)) (sym (lt-leb (8 * m) i lt))
+      | inr le ↦ (λ t. bit (get_or x (cond (le-leb m (i / 8) (omega arith) t) (i / 8 - m) 16) 0) (i % 8))
+          ∙ lane_is x (i / 8 - m) (i % 8) (i - 8 * m) (omega arith) (omega arith) (omega arith)
+          ∙ ap (λ v. v && at (lane_bits x) (i - 8 * m)) (sym (le-leb (8 * m) i le))
+    ])
 
 -- ---- rotations and shifts: lanes that move, and in each the high bits of a and then the low ones of b
 
+-- a lane of eight bits shifted right
 abbrev pub shr8 : ℕ → ℕ → ℕ
 shr8 x y = x / 2 ^ y
 
+-- a lane of eight bits shifted left
 abbrev pub shl8 : ℕ → ℕ → ℕ
 shl8 x y = x * 2 ^ y % 2 ^ 8
 
@@ -256,11 +248,13 @@ funnel_places p q a b f s d e fits low high = Places-build 128 _ _ (λ i l.
     (λ lt. lane_is a (i / 8) (i % 8 + p) (i + p) (omega arith) (omega arith) lt ∙ low i l lt)
     (λ le. lane_is b (i / 8) (i % 8 - q) (i - q) (omega arith) (omega (arith, s)) (omega arith) ∙ high i l le))
 
+-- where 8 divides n, a rotation by n / 8 bytes is a rotation by n bits
 pub rotate_whole : (x y : List ℕ) (n : ℕ) → n % 8 ≡ 0 → Places 128 (lane_bits y)
     (λ i. at (lane_bits x) ((i + 8 * (n / 8)) % 128))
     → Places 128 (lane_bits y) (λ i. at (lane_bits x) ((i + n) % 128))
 rotate_whole x y n z t i l = t i l ∙ ap (at (lane_bits x)) (omega arith)
 
+-- the low bits of one rotation by bytes, joined with the high ones of the next, are a rotation by n bits
 pub rotate_part : (x a b : List ℕ) (n : ℕ) → length a ≡ 16 → length b ≡ 16 → Each1 (Fits w8) a
     → Places 128 (lane_bits a) (λ i. at (lane_bits x) ((i + 8 * (n / 8)) % 128))
     → Places 128 (lane_bits b) (λ i. at (lane_bits x) ((i + 8 * ((n / 8 + 1) % 16)) % 128))
@@ -275,9 +269,11 @@ pub ruleset rotate_calls = (rotate_whole, rotate_part)
 abbrev Right : List ℕ → List ℕ → ℕ → Type 0
 Right x y n = Places 128 (lane_bits y) (λ i. nat_lt (i + n) 128 && at (lane_bits x) (i + n))
 
+-- where 8 divides n, a shift right by n / 8 bytes is a shift by n bits
 pub shift_right_whole : (x y : List ℕ) (n : ℕ) → n % 8 ≡ 0 → Right x y (8 * (n / 8)) → Right x y n
 shift_right_whole x y n z t i l = t i l ∙ ap (λ v. nat_lt v 128 && at (lane_bits x) v) (omega arith)
 
+-- two shifts right by neighbouring numbers of bytes, joined within each lane, are a shift by n bits
 pub shift_right_part : (x a b : List ℕ) (n : ℕ) → length a ≡ 16 → length b ≡ 16 → Each1 (Fits w8) a
     → Right x a (8 * (n / 8)) → Right x b (8 * (n / 8 + 1))
     → Right x (zip2 bit_or (zip2 shr8 a (replicate 16 (n % 8))) (zip2 shl8 b (replicate 16 (8 - n % 8)))) n
@@ -293,19 +289,20 @@ Left x y n = Places 128 (lane_bits y) (λ i. nat_le n i && at (lane_bits x) (i -
 -- the same bits, that many places further on
 left_by : (x : List ℕ) (m n i j : ℕ) → i + n ≡ j + m → (nat_le m i && at (lane_bits x) (i - m))
     ≡ (nat_le n j && at (lane_bits x) (j - n))
-left_by x m n i j e = go (cases_lt i m)
-  where
-    go : (i < m) ⊎ (m ≤ i) → (nat_le m i && at (lane_bits x) (i - m)) ≡ (nat_le n j && at (lane_bits x) (j - n))
-    go (inl lt) = (λ t. lt-leb m i lt t && at (lane_bits x) (i - m))
-        ∙ (λ t. sym (lt-leb n j (omega arith)) t && at (lane_bits x) (j - n))
-    go (inr le) =
-        let place : i - m ≡ j - n = omega arith in
-        (λ t. le-leb m i le t && at (lane_bits x) (place t))
-        ∙ (λ t. sym (le-leb n j (omega arith)) t && at (lane_bits x) (j - n))
+left_by x m n i j e = elim (cases_lt i m) [
+  | inl lt ↦ (λ t. lt-leb m i lt t && at (lane_bits x) (i - m))
+      ∙ (λ t. sym (lt-leb n j (omega arith)) t && at (lane_bits x) (j - n))
+  | inr le ↦
+      let place : i - m ≡ j - n = omega arith in
+      (λ t. le-leb m i le t && at (lane_bits x) (place t))
+      ∙ (λ t. sym (le-leb n j (omega arith)) t && at (lane_bits x) (j - n))
+]
 
+-- where 8 divides n, a shift left by n / 8 bytes is a shift by n bits
 pub shift_left_whole : (x y : List ℕ) (n : ℕ) → n % 8 ≡ 0 → Left x y (8 * (n / 8)) → Left x y n
 shift_left_whole x y n z t i l = t i l ∙ left_by x (8 * (n / 8)) n i i (omega arith)
 
+-- two shifts left by neighbouring numbers of bytes, joined within each lane, are a shift by n bits
 pub shift_left_part : (x a b : List ℕ) (n : ℕ) → length a ≡ 16 → length b ≡ 16 → Each1 (Fits w8) a
     → Left x a (8 * (n / 8 + 1)) → Left x b (8 * (n / 8))
     → Left x (zip2 bit_or (zip2 shr8 a (replicate 16 (8 - n % 8))) (zip2 shl8 b (replicate 16 (n % 8)))) n
@@ -317,6 +314,7 @@ pub ruleset shift_left_calls = (shift_left_whole, shift_left_part)
 
 -- ---- rows of bytes
 
+-- the first four lanes of each of four vectors, one after another
 abbrev pub rows_of : List ℕ → List ℕ → List ℕ → List ℕ → List ℕ
 rows_of a b c d =
     get_or a 0 0 ∷ get_or a 1 0 ∷ get_or a 2 0 ∷ get_or a 3 0 ∷ get_or b 0 0 ∷ get_or b 1 0 ∷ get_or b 2 0
@@ -324,36 +322,26 @@ rows_of a b c d =
     ∷ get_or c 0 0 ∷ get_or c 1 0 ∷ get_or c 2 0 ∷ get_or c 3 0 ∷ get_or d 0 0 ∷ get_or d 1 0 ∷ get_or d 2 0
     ∷ get_or d 3 0 ∷ []
 
--- bit r of byte c of the row of a nibble
-row_case : ℕ → ℕ → Bool
-row_case b i = same (bit (get_or (row_of b) (i / 8) 0) (i % 8)) (bit b (i / 8))
-
-row_cases : all_pairs 16 32 row_case ≡ true
-unfolding all_below row_case same bit row_of
-row_cases = refl
-
-row_lane : (a b c d : List ℕ) (q r : ℕ) → q < 4 → r < 4
+row_lane : (a b c d : List ℕ) (q : ℕ) → q < 4 → (r : ℕ) → r < 4
     → get_or (rows_of a b c d) (4 * q + r) 0 ≡ get_or (get_or (a ∷ b ∷ c ∷ d ∷ []) q []) r 0
-row_lane a b c d q r h k = by_four (λ q. get_or (rows_of a b c d) (4 * q + r) 0
-    ≡ get_or (get_or (a ∷ b ∷ c ∷ d ∷ []) q []) r 0)
-    (by_four (λ r. get_or (rows_of a b c d) (4 * 0 + r) 0 ≡ get_or a r 0) refl refl refl refl r k)
-    (by_four (λ r. get_or (rows_of a b c d) (4 * 1 + r) 0 ≡ get_or b r 0) refl refl refl refl r k)
-    (by_four (λ r. get_or (rows_of a b c d) (4 * 2 + r) 0 ≡ get_or c r 0) refl refl refl refl r k)
-    (by_four (λ r. get_or (rows_of a b c d) (4 * 3 + r) 0 ≡ get_or d r 0) refl refl refl refl r k) q h
+row_lane a b c d = by_four _ (by_four _ refl refl refl refl) (by_four _ refl refl refl refl)
+    (by_four _ refl refl refl refl) (by_four _ refl refl refl refl)
 
-pub pack_places : (r0 r1 r2 r3 : ℕ) (a b c d : List ℕ) → a ≡ row_of r0 → b ≡ row_of r1 → c ≡ row_of r2 → d ≡ row_of r3
-    → r0 ≤ 15 → r1 ≤ 15 → r2 ≤ 15 → r3 ≤ 15
-    → Places 128 (lane_bits (rows_of a b c d)) (λ i. bit (get_or (r0 ∷ r1 ∷ r2 ∷ r3 ∷ []) (i / 32) 0) (i % 32 / 8))
-unfolding row_case
-pack_places r0 r1 r2 r3 a b c d e0 e1 e2 e3 h0 h1 h2 h3 = rw (e0, e1, e2, e3) (Places-build 128 _ _ (λ i l.
+-- the rows of four nibbles, one after another, have in place i bit i % 32 / 8 of nibble i / 32
+pub pack_places : (r0 r1 r2 r3 : ℕ) → r0 ≤ 15 → r1 ≤ 15 → r2 ≤ 15 → r3 ≤ 15
+    → Places 128 (lane_bits (rows_of (row_of r0) (row_of r1) (row_of r2) (row_of r3)))
+    (λ i. bit (get_or (r0 ∷ r1 ∷ r2 ∷ r3 ∷ []) (i / 32) 0) (i % 32 / 8))
+unfolding all_below same bit row_of
+pack_places r0 r1 r2 r3 h0 h1 h2 h3 = Places-build 128 _ _ (λ i l.
     let rows = r0 ∷ r1 ∷ r2 ∷ r3 ∷ [] in
     let q = i / 32 in
     let nibble : get_or rows q 0 ≤ 15 = by_four (λ q. get_or rows q 0 ≤ 15) h0 h1 h2 h3 q (omega arith) in
     let lane : i / 8 ≡ 4 * q + i % 32 / 8 = omega arith in
     let place : i % 8 ≡ i % 32 % 8 = omega arith in
     (λ t. bit (get_or (rows_of (row_of r0) (row_of r1) (row_of r2) (row_of r3)) (lane t) 0) (place t))
-    ∙ ap (λ v. bit v (i % 32 % 8)) (row_lane (row_of r0) (row_of r1) (row_of r2) (row_of r3) q (i % 32 / 8)
-    (omega arith) (omega arith)
+    ∙ ap (λ v. bit v (i % 32 % 8)) (row_lane (row_of r0) (row_of r1) (row_of r2) (row_of r3) q (omega arith)
+    (i % 32 / 8) (omega arith)
     ∙ ap (λ v. get_or v (i % 32 / 8) 0) (get_or-map row_of rows q 0 [] (omega arith)))
-    ∙ same_tells _ _ (all_pairs_tell 16 32 row_case row_cases (get_or rows q 0) (i % 32) (omega (arith, nibble))
-    (omega arith))))
+    ∙ same_tells _ _ (all_pairs_tell 16 32
+    (λ b i. same (bit (get_or (row_of b) (i / 8) 0) (i % 8)) (bit b (i / 8))) refl
+    (get_or rows q 0) (i % 32) (omega (arith, nibble)) (omega arith)))

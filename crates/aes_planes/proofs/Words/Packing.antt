@@ -13,7 +13,7 @@ use Rattle.aes_planes.specs.Private.Lanes.{lane_bits}
 use Rattle.aes_planes.specs.Private.Packing.{row_byte}
 use Rattle.aes_planes.specs.Planes.{held, place}
 use Rattle.aes_planes.specs.Words.{word_bits}
-use Rattle.aes_planes.proofs.Bits.ByteCases.{all_below, all_below_tells, all_pairs, all_pairs_tell, by_one, by_four}
+use Rattle.aes_planes.proofs.Bits.ByteCases.{all_below, all_below_tells, all_pairs_tell, by_one, by_four}
 use Rattle.aes_planes.proofs.Bits.Digits.{field_bit, regrouped, digits_small, each_small}
 use Rattle.aes_planes.proofs.Bits.NumberBits.{bit_low, reads}
 use Rattle.aes_planes.proofs.Planes.Held.{place_lt}
@@ -122,6 +122,7 @@ one_packed planes block lp typed turned = holds_held 1 (map (word_bits 16) plane
 
 -- ---- words of four bytes
 
+-- four bytes of a word of 32 bits have the word's bits, eight each from the lowest on
 pub word_to_four : (f : ℕ → ℕ) (bs : List ℕ) (x : ℕ) → bs ≡ to_le_bytes w32 x
     → f 0 ≡ get_or bs 0 0 → f 1 ≡ get_or bs 1 0 → f 2 ≡ get_or bs 2 0 → f 3 ≡ get_or bs 3 0
     → (j p : ℕ) → j < 4 → p < 8 → bit (f j) p ≡ at (word_bits 32 x) (8 * j + p)
@@ -163,6 +164,7 @@ module _ (xs ks : List ℕ) (d : length xs ≡ 16) (within : T (all_lanes_below 
   swizzled_small f i = subst (λ (v : List ℕ). get_or v i 0 < 2 ^ 8) (sym (pick_l_left 0 xs xs 16 ks d within))
       (picked_small xs ks i f)
 
+  -- lane i of what a swizzle reads of a vector is the lane that the swizzle names at i
   pub swizzled : (i o : ℕ) → i < length ks → (get_or ks i 0 == o) ≡ true
       → get_or (pick_l 0 (xs ++ xs) ks) i 0 ≡ get_or xs o 0
   swizzled i o h k =
@@ -171,77 +173,74 @@ module _ (xs ks : List ℕ) (d : length xs ≡ 16) (within : T (all_lanes_below 
 
 -- rows for columns, and columns for rows
 
+-- the swizzle that exchanges rows and columns
 abbrev pub flipped : List ℕ
 flipped = 0 ∷ 4 ∷ 8 ∷ 12 ∷ 1 ∷ 5 ∷ 9 ∷ 13 ∷ 2 ∷ 6 ∷ 10 ∷ 14 ∷ 3 ∷ 7 ∷ 11 ∷ 15 ∷ []
 
-flipped_checked : all_below 16 (λ j. get_or flipped j 0 == j / 4 + 4 * (j % 4)) ≡ true
-unfolding all_below
-flipped_checked = refl
-
-back_checked : all_below 16 (λ j. get_or flipped (j / 4 + 4 * (j % 4)) 0 == j) ≡ true
-unfolding all_below
-back_checked = refl
-
+-- byte j of a block read row by row is lane j of the block swizzled
 pub by_rows_at : (xs : List ℕ) (j p : ℕ) → length xs ≡ 16 → j < 16 → p < 8
     → bit (row_byte xs j) p ≡ at (lane_bits (pick_l 0 (xs ++ xs) flipped)) (8 * j + p)
+unfolding all_below
 by_rows_at xs j p d h hp = sym (lane_at (pick_l 0 (xs ++ xs) flipped) j p h hp
-    ∙ ap (λ v. bit v p) (swizzled xs flipped d tt j (j / 4 + 4 * (j % 4)) h (all_below_tells 16 _ flipped_checked j h)))
+    ∙ ap (λ v. bit v p) (swizzled xs flipped d tt j (j / 4 + 4 * (j % 4)) h
+    (all_below_tells 16 (λ j. get_or flipped j 0 == j / 4 + 4 * (j % 4)) refl j h)))
 
+-- lane j of a vector is byte j, read row by row, of the vector swizzled
 pub by_columns_at : (xs : List ℕ) (j p : ℕ) → length xs ≡ 16 → j < 16 → p < 8
     → bit (row_byte (pick_l 0 (xs ++ xs) flipped) j) p ≡ at (lane_bits xs) (8 * j + p)
+unfolding all_below
 by_columns_at xs j p d h hp =
     ap (λ v. bit v p) (swizzled xs flipped d tt (j / 4 + 4 * (j % 4)) j (omega (arith, h))
-    (all_below_tells 16 _ back_checked j h))
+    (all_below_tells 16 (λ j. get_or flipped (j / 4 + 4 * (j % 4)) 0 == j) refl j h))
     ∙ sym (lane_at xs j p h hp)
 
+-- sixteen bytes, swizzled, are a block
 pub by_columns_typed : (xs : List ℕ) → length xs ≡ 16 → Each1 (Fits w8) xs → IsBlock (pick_l 0 (xs ++ xs) flipped)
 by_columns_typed xs d f = (refl, swizzled_small xs flipped d tt (each_small 8 xs (below_from_Fits w8 xs f)))
 
 -- even and odd columns apart, and together
 
+-- the swizzle that puts the even columns, row by row, into the lower half and the odd ones into the upper
 abbrev pub apart : List ℕ
 apart = 0 ∷ 8 ∷ 1 ∷ 9 ∷ 2 ∷ 10 ∷ 3 ∷ 11 ∷ 4 ∷ 12 ∷ 5 ∷ 13 ∷ 6 ∷ 14 ∷ 7 ∷ 15 ∷ []
 
+-- the swizzle back, which alternates bytes of the two halves
 abbrev pub together : List ℕ
 together = 0 ∷ 2 ∷ 4 ∷ 6 ∷ 8 ∷ 10 ∷ 12 ∷ 14 ∷ 1 ∷ 3 ∷ 5 ∷ 7 ∷ 9 ∷ 11 ∷ 13 ∷ 15 ∷ []
 
-apart_checked : all_pairs 2 8 (λ o j. get_or apart (8 * o + j) 0 == (2 * j + o) / 4 + 4 * ((2 * j + o) % 4)) ≡ true
-unfolding all_below
-apart_checked = refl
-
-together_checked : all_pairs 2 8 (λ o j. get_or together ((2 * j + o) / 4 + 4 * ((2 * j + o) % 4)) 0 == 8 * o + j)
-    ≡ true
-unfolding all_below
-together_checked = refl
-
+-- half o of a block so swizzled, as a word of 64 bits, has in lane j byte 2 * j + o of the block, row by row
 pub apart_at : (xs : List ℕ) → length xs ≡ 16 → ((i : ℕ) → get_or xs i 0 < 2 ^ 8) → (o : ℕ) → o < 2 → (j p : ℕ) → j < 8
     → p < 8
     → bit (row_byte xs (2 * j + o)) p ≡ at (word_bits 64 (get_or
     (digits_l (2 ^ 64) 2 (number_l (2 ^ 8) (pick_l 0 (xs ++ xs) apart))) o 0)) (8 * j + p)
+unfolding all_below
 apart_at xs d f o ho j p hj hp =
     let ys = pick_l 0 (xs ++ xs) apart in
     let small = Each1-from_get_or (λ (v : ℕ). v < 2 ^ 8) ys 0 (λ i l. swizzled_small xs apart d tt f i) in
     sym (ap (λ v. bit v p) (swizzled xs apart d tt (8 * o + j) ((2 * j + o) / 4 + 4 * ((2 * j + o) % 4)) (omega arith)
-    (all_pairs_tell 2 8 (λ o j. get_or apart (8 * o + j) 0 == (2 * j + o) / 4 + 4 * ((2 * j + o) % 4)) apart_checked o j
-    ho hj)))
+    (all_pairs_tell 2 8 (λ o j. get_or apart (8 * o + j) 0 == (2 * j + o) / 4 + 4 * ((2 * j + o) % 4)) refl o j ho hj)))
     ∙ sym (regrouped 64 8 2 ys o (8 * j + p) (8 * o + j) p small ho (omega arith) (omega arith) hp (omega arith))
     ∙ reads 64 (get_or (digits_l (2 ^ 64) 2 (number_l (2 ^ 8) ys)) o 0) (8 * j + p) (omega arith)
 
+-- the sixteen bytes of two words of 64 bits
 abbrev pub bytes_of : ℕ → ℕ → List ℕ
 bytes_of even odd = digits_l (2 ^ 8) 16 (number_l (2 ^ 64) (even ∷ odd ∷ []))
 
+-- byte 2 * j + o, row by row, of the block that two words are swizzled into is lane j of word o
 pub together_at : (even odd : ℕ) → even < 2 ^ 64 → odd < 2 ^ 64 → (o : ℕ) → o < 2 → (j p : ℕ) → j < 8 → p < 8
     → bit (row_byte (pick_l 0 (bytes_of even odd ++ bytes_of even odd) together) (2 * j + o)) p
     ≡ at (word_bits 64 (get_or (even ∷ odd ∷ []) o 0)) (8 * j + p)
+unfolding all_below
 together_at even odd fe fo o ho j p hj hp =
     ap (λ v. bit v p) (swizzled (bytes_of even odd) together refl tt ((2 * j + o) / 4 + 4 * ((2 * j + o) % 4))
     (8 * o + j) (omega arith)
-    (all_pairs_tell 2 8 (λ o j. get_or together ((2 * j + o) / 4 + 4 * ((2 * j + o) % 4)) 0 == 8 * o + j)
-    together_checked o j ho hj))
+    (all_pairs_tell 2 8 (λ o j. get_or together ((2 * j + o) / 4 + 4 * ((2 * j + o) % 4)) 0 == 8 * o + j) refl o j ho
+    hj))
     ∙ regrouped 8 64 16 (even ∷ odd ∷ []) (8 * o + j) p o (8 * j + p) (fe, (fo, tt)) (omega arith) hp ho (omega arith)
     (omega arith)
     ∙ reads 64 (get_or (even ∷ odd ∷ []) o 0) (8 * j + p) (omega arith)
 
+-- two words of 64 bits so swizzled are a block
 pub together_typed : (even odd : ℕ) → IsBlock (pick_l 0 (bytes_of even odd ++ bytes_of even odd) together)
 together_typed even odd = (
   refl,

@@ -3,7 +3,7 @@ use Rattle.std.proofs.Common.{◌≡◌, ℕ, ◌+◌, ◌-◌, ◌*◌, ◌/◌
 use Rattle.std.proofs.Common.{bit_or, bit_xor, List, [], ◌∷◌, ◌++◌, length, map, get_or, replicate, refl, ap, sym, ◌∙◌}
 use Rattle.std.proofs.Common.{arith, w8, w16, Fits, zero, suc, false, cond, nat_le, ◌==◌}
 use Rattle.std.proofs.Math.Bool.{and-false, and-true}
-use Rattle.std.proofs.lemmas.Bool.{eqb-true, cases_lt, and_parts}
+use Rattle.std.proofs.lemmas.Bool.{eqb-true, cases_lt}
 use Rattle.std.proofs.lemmas.List.{length-map}
 use lib.Lanes.{zip2, pick_l, Each1, number_l, digits_l, mask_l, top}
 use Rattle.aes_planes.specs.Bits.{at, bit, xor, number}
@@ -11,7 +11,7 @@ use Rattle.aes_planes.specs.Fips197.{field_add, field_mul}
 use Rattle.aes_planes.specs.Planes.{held_byte, place, summed}
 use Rattle.aes_planes.specs.Words.{word_bits}
 use Rattle.aes_planes.proofs.Bits.BitCases.{eight, same, same_tells, xor_false}
-use Rattle.aes_planes.proofs.Bits.ByteCases.{all_below, all_pairs, all_pairs_tell}
+use Rattle.aes_planes.proofs.Bits.ByteCases.{all_below, all_pairs_tell}
 use Rattle.aes_planes.proofs.Bits.BytesByBits.{number-sum, number-double, sum_bits-map}
 use Rattle.aes_planes.proofs.Bits.Digits.{digits_small, each_small, regrouped}
 use Rattle.aes_planes.proofs.Bits.NumberBits.{reads, bit_rotated, bit_zero, bit_ones, bit_of_and, bit_of_or, bit_of_xor}
@@ -57,44 +57,32 @@ abbrev pub lane_bytes : List ℕ → List ℕ
 lane_bytes x = digits_l (2 ^ 8) 16 (number_l (2 ^ 16) x)
 
 -- the lower bytes, and the upper ones
-halves_checked : all_pairs 2 8 (λ j r. get_or together (8 * j + r) 0 == 2 * r + j) ≡ true
-unfolding all_below
-halves_checked = refl
-
+-- byte 8 * j + r, of all lower bytes and then all upper ones, has bits 8 * j to 8 * j + 7 of lane r
 pub half_bit : (x : List ℕ) (j r i : ℕ) → length x ≡ 8 → Each1 (Fits w16) x → j < 2 → r < 8 → i < 8
     → bit (get_or (pick_l 0 (lane_bytes x ++ lane_bytes x) together) (8 * j + r) 0) i ≡ bit (get_or x r 0) (8 * j + i)
+unfolding all_below
 half_bit x j r i d f hj hr hi =
     ap (λ v. bit v i) (swizzled (lane_bytes x) together refl tt (8 * j + r) (2 * r + j) (omega arith)
-    (all_pairs_tell 2 8 (λ j r. get_or together (8 * j + r) 0 == 2 * r + j) halves_checked j r hj hr))
+    (all_pairs_tell 2 8 (λ j r. get_or together (8 * j + r) 0 == 2 * r + j) refl j r hj hr))
     ∙ regrouped 8 16 16 x (2 * r + j) i r (8 * j + i) (below_from_Fits w16 x f) (omega arith) hi (omega (arith, d))
     (omega arith) (omega arith)
 
 -- ---- planes by the top bits of lanes
-
--- whether a byte's bit p is its top bit once it stands so far up
-top_test : ℕ → ℕ → Bool
-top_test p x = same (nat_le 128 (x * 2 ^ (7 - p) % 2 ^ 8)) (bit x p)
-
-top_checked : all_pairs 8 256 top_test ≡ true
-unfolding all_below top_test same bit
-top_checked = refl
-
-one_if : (b : Bool) → (cond b 1 0 == 1) ≡ b
-one_if true = refl
-one_if false = refl
 
 mask_bit : (ms : List Bool) (i : ℕ) → length ms ≡ 16 → bit (mask_l ms % 2 ^ 64 % 2 ^ 16) i ≡ get_or ms i false
 unfolding bit
 mask_bit ms i d =
     ap (λ v. v % 2 ^ 16 / 2 ^ i % 2 == 1) (mask_l-mod ms 64 (omega (arith, d)))
     ∙ ap (λ v. v / 2 ^ i % 2 == 1) (mask_l-mod ms 16 (omega (arith, d)))
-    ∙ ap (λ v. v == 1) (bit_mask_l ms i) ∙ one_if (get_or ms i false)
+    ∙ ap (λ v. v == 1) (bit_mask_l ms i)
+    ∙ elim (get_or ms i false) as (λ b. (cond b 1 0 == 1) ≡ b) [ true ↦ refl | false ↦ refl ]
 
+-- the mask of the top bits of sixteen lanes whose bit p is shifted to the top has in place i bit p of lane i
 pub plane_bit : (x : List ℕ) (p i : ℕ) → length x ≡ 16 → Each1 (Fits w8) x → p < 8 → i < 16
     → bit (mask_l (map (top 7) (zip2 (λ a b. cond (nat_le a b) 255 0) (replicate 16 128)
     (zip2 shl8 x (replicate 16 (7 - p))))) % 2 ^ 64 % 2 ^ 16) i
     ≡ bit (get_or x i 0) p
-unfolding top_test
+unfolding all_below same bit
 plane_bit x p i d f hp hi =
     let up = zip2 shl8 x (replicate 16 (7 - p)) in
     let tops = zip2 nat_le (replicate 16 128) up in
@@ -105,8 +93,8 @@ plane_bit x p i d f hp hi =
     ∙ get_or-zip2 nat_le (replicate 16 128) up i 0 0 false hi (omega (arith, long))
     ∙ ap (λ v. nat_le v (get_or up i 0)) (get_or-replicate 16 i 128 0 hi)
     ∙ ap (nat_le 128) (lane_of_splat 16 shl8 x (7 - p) i d hi)
-    ∙ same_tells _ _ (all_pairs_tell 8 256 top_test top_checked p (get_or x i 0) hp
-    (lane_small x i (omega (arith, d)) f))
+    ∙ same_tells _ _ (all_pairs_tell 8 256 (λ p x. same (nat_le 128 (x * 2 ^ (7 - p) % 2 ^ 8)) (bit x p)) refl p
+    (get_or x i 0) hp (lane_small x i (omega (arith, d)) f))
 
 -- what is read inside a list is the same whatever stands for what is not there
 pub same_default : (xs : List ℕ) (p d e : ℕ) → p < length xs → get_or xs p d ≡ get_or xs p e
@@ -122,6 +110,7 @@ shr16 x y = x / 2 ^ y
 abbrev shl16 : ℕ → ℕ → ℕ
 shl16 x y = x * 2 ^ y % 2 ^ 16
 
+-- lanes of sixteen bits rotated right by n have in each place the bit n places on, round the end
 pub lanes_rotated : (x : List ℕ) (n p i : ℕ) → length x ≡ 8 → Each1 (Fits w16) x → 1 ≤ n → n < 16 → p < 8 → i < 16
     → bit (get_or (zip2 bit_or (zip2 shr16 x (replicate 8 n)) (zip2 shl16 x (replicate 8 (16 - n)))) p 0) i
     ≡ bit (get_or x p 0) ((i + n) % 16)
@@ -129,27 +118,22 @@ lanes_rotated x n p i d f some h hp hi =
     ap (λ v. bit v i) (lane_of_splats 8 bit_or shr16 shl16 x x n (16 - n) p d d hp)
     ∙ bit_rotated 16 (get_or x p 0) n i (each_small 16 x (below_from_Fits w16 x f) p) some h hi
 
+-- the xor of two vectors of eight lanes has in each place the sum of the two bits
 pub lanes_summed : (x y : List ℕ) (p i : ℕ) → length x ≡ 8 → length y ≡ 8 → p < 8
     → bit (get_or (zip2 bit_xor x y) p 0) i ≡ xor (bit (get_or x p 0) i) (bit (get_or y p 0) i)
 lanes_summed x y p i d e h = ap (λ v. bit v i) (lane_of_two 8 bit_xor x y p d e h)
     ∙ bit_of_xor (get_or x p 0) (get_or y p 0) i
 
 -- the mask of the columns that stay in their row, in each row, and the mask of the others
-mask_test : ℕ → ℕ → Bool
-mask_test cols i =
-    same (bit (15 / 2 ^ cols * 0x1111) i) (bit (15 / 2 ^ cols) (i % 4))
-    && same (bit (0xffff - 15 / 2 ^ cols * 0x1111) i) (not (bit (15 / 2 ^ cols) (i % 4)))
-
-mask_all : all_pairs 4 16 mask_test ≡ true
-unfolding all_below mask_test same bit
-mask_all = refl
-
 mask_bits : (cols i : ℕ) → cols ≤ 3 → i < 16 → (bit (15 / 2 ^ cols * 0x1111) i ≡ bit (15 / 2 ^ cols) (i % 4))
     × (bit (0xffff - 15 / 2 ^ cols * 0x1111) i ≡ not (bit (15 / 2 ^ cols) (i % 4)))
-unfolding mask_test
-mask_bits cols i h k =
-    let t = and_parts _ _ (all_pairs_tell 4 16 mask_test mask_all cols i (omega arith) k) in
-    (same_tells _ _ t.0, same_tells _ _ t.1)
+unfolding all_below same bit
+mask_bits cols i h k = (
+  same_tells _ _ (all_pairs_tell 4 16 (λ cols i. same (bit (15 / 2 ^ cols * 0x1111) i) (bit (15 / 2 ^ cols) (i % 4)))
+      refl cols i (omega arith) k),
+  same_tells _ _ (all_pairs_tell 4 16 (λ cols i. same (bit (0xffff - 15 / 2 ^ cols * 0x1111) i)
+      (not (bit (15 / 2 ^ cols) (i % 4)))) refl cols i (omega arith) k),
+)
 
 -- columns that stay in their row from one vector, and those that wrap from another
 pub masked_lanes : (a b : List ℕ) (cols p r c : ℕ) (v : Bool) → length a ≡ 8 → length b ≡ 8 → cols ≤ 3 → p < 8 → r < 4
@@ -171,7 +155,7 @@ masked_lanes a b cols p r c v d e h hp hr hc low high =
 
 -- ---- sums of columns
 
--- lanes, plus what a mask lets through of them so many places up
+-- lanes, plus the lanes shifted up by s places under the mask m
 abbrev pub raised : ℕ → ℕ → List ℕ → List ℕ
 raised s m x = zip2 bit_xor x (zip2 bit_and (replicate 8 m) (zip2 shl16 x (replicate 8 s)))
 
@@ -202,26 +186,18 @@ raised_bit s m x i h =
     (sym (reads 16 (bit_and m (shl16 x s)) i h) ∙ bit_of_and m (shl16 x s) i
     ∙ ap (λ v. bit m i && v) (reads 16 (shl16 x s) i h ∙ word_shl 16 x s i h))
 
--- the masks of columns 1 to 3 and of columns 2 and 3, in each row
-column_masks : ℕ → ℕ → Bool
-column_masks r c = same (bit 0xeeee (place 1 r c 0)) (bit 14 c) && same (bit 0xcccc (place 1 r c 0)) (bit 12 c)
-
-masks_checked : all_pairs 4 4 column_masks ≡ true
-unfolding all_below column_masks same bit
-masks_checked = refl
-
+-- two raises, by one column and by two, leave in each column the sum of the columns up to it
 pub summed_lane : (x : List ℕ) (p r c : ℕ) → length x ≡ 8 → p < 8 → r < 4 → c < 4
     → bit (get_or (raised 2 0xcccc (raised 1 0xeeee x)) p 0) (4 * r + c)
     ≡ summed xor (λ e. bit (get_or x p 0) (4 * r + e)) false c
-unfolding column_masks
+unfolding all_below same bit
 summed_lane x p r c d hp hr hc =
     let n = get_or x p 0 in
     let pairs = raised_number 1 0xeeee n in
     let sums = raised_number 2 0xcccc pairs in
     let spot : (e : ℕ) → place 1 r e 0 ≡ 4 * r + e = λ e. omega arith in
     let low : (e : ℕ) → e < 4 → place 1 r e 0 < 16 = λ e h. omega (arith, hr) in
-    let masks : (e : ℕ) → e < 4 → column_masks r e ≡ true = λ e h. all_pairs_tell 4 4 column_masks masks_checked r e hr
-    h in
+    let mask = λ (m : ℕ) (r c : ℕ). same (bit (0x1111 * m) (place 1 r c 0)) (bit m c) in
     let read : (v e : ℕ) → e < 4 → bit v (4 * r + e) ≡ at (word_bits 16 v) (place 1 r e 0) =
     λ v e h. ap (bit v) (sym (spot e)) ∙ reads 16 v (place 1 r e 0) (low e h) in
     ap (λ v. bit v (4 * r + c)) (raised_lane 2 0xcccc (raised 1 0xeeee x) p (length-raised 1 0xeeee x d) hp
@@ -231,10 +207,10 @@ summed_lane x p r c d hp hr hc =
     (λ e h. sym (ap (xor (at (word_bits 16 n) (place 1 r e 0))) (and-false (bit 1 e)) ∙ xor_false _))
     (λ e h. raised_bit 1 0xeeee n (place 1 r e 0) (low e h)
     ∙ ap (λ v. xor (at (word_bits 16 n) (place 1 r e 0)) (v && (nat_le 1 (place 1 r e 0) && at (word_bits 16 n)
-    (place 1 r e 0 - 1)))) (same_tells _ _ ((and_parts _ _ (masks e h)).0)))
+    (place 1 r e 0 - 1)))) (same_tells _ _ (all_pairs_tell 4 4 (mask 14) refl r e hr h)))
     (λ e h. raised_bit 2 0xcccc pairs (place 1 r e 0) (low e h)
     ∙ ap (λ v. xor (at (word_bits 16 pairs) (place 1 r e 0)) (v && (nat_le 2 (place 1 r e 0) && at (word_bits 16 pairs)
-    (place 1 r e 0 - 2)))) (same_tells _ _ ((and_parts _ _ (masks e h)).1)))
+    (place 1 r e 0 - 2)))) (same_tells _ _ (all_pairs_tell 4 4 (mask 12) refl r e hr h)))
     c hc
     ∙ summed-ext xor _ _ _ _ c (λ e le. sym (read n e (omega (arith, le, hc)))) refl
 
@@ -251,22 +227,15 @@ two_sums f g y first none c h = ap (xor (summed xor f false c)) (alone c h) ∙ 
     more zero = ap (λ v. xor v y) (xor_false (f 0))
     more (suc c) = xor_inward (f (suc c)) (summed xor f false c) y ∙ ap (xor (f (suc c))) (more c)
 
--- the mask of column 0
-column0 : ℕ → ℕ → Bool
-column0 r c = same (bit 0x1111 (4 * r + c)) (c == 0)
-
-column0_checked : all_pairs 4 4 column0 ≡ true
-unfolding all_below column0 same bit
-column0_checked = refl
-
+-- the mask 0x1111 leaves the bits of column 0 alone
 pub column0_bit : (x : List ℕ) (p r c : ℕ) → length x ≡ 8 → p < 8 → r < 4 → c < 4
     → bit (get_or (zip2 bit_and x (replicate 8 0x1111)) p 0) (4 * r + c) ≡ (bit (get_or x p 0) (4 * r + c) && (c == 0))
-unfolding column0
+unfolding all_below same bit
 column0_bit x p r c d hp hr hc =
     ap (λ v. bit v (4 * r + c)) (lane_of_splat 8 bit_and x 0x1111 p d hp)
     ∙ bit_of_and (get_or x p 0) 0x1111 (4 * r + c)
     ∙ ap (λ v. bit (get_or x p 0) (4 * r + c) && v)
-    (same_tells _ _ (all_pairs_tell 4 4 column0 column0_checked r c hr hc))
+    (same_tells _ _ (all_pairs_tell 4 4 (λ r c. same (bit 0x1111 (4 * r + c)) (c == 0)) refl r c hr hc))
 
 -- ---- a round constant
 
@@ -275,18 +244,13 @@ abbrev pub lanes_of_constant : ℕ → List ℕ
 lanes_of_constant x =
     zip2 bit_and (zip2 shl16 (replicate 8 x) (7 ∷ 6 ∷ 5 ∷ 4 ∷ 3 ∷ 2 ∷ 1 ∷ 0 ∷ [])) (replicate 8 0x80)
 
-constant_test : ℕ → ℕ → Bool
-constant_test x i = number (map (λ w. bit w i) (lanes_of_constant x)) == cond (i == 7) x 0
-
-constants_checked : all_pairs 256 16 constant_test ≡ true
-unfolding all_below constant_test bit
-constants_checked = refl
-
+-- those lanes hold the byte in row 1 of column 3 and zeros elsewhere
 pub constant_held : (x r c : ℕ) → x < 256 → r < 4 → c < 4
     → number (map (λ w. bit w (4 * r + c)) (lanes_of_constant x)) ≡ cond ((r == 1) && (c == 3)) x 0
-unfolding constant_test all_below same
+unfolding all_below same bit
 constant_held x r c h i j =
-    eqb-true _ _ (all_pairs_tell 256 16 constant_test constants_checked x (4 * r + c) h (omega arith))
+    eqb-true _ _ (all_pairs_tell 256 16 (λ x i. number (map (λ w. bit w i) (lanes_of_constant x)) == cond (i == 7) x 0)
+    refl x (4 * r + c) h (omega arith))
     ∙ ap (λ v. cond v x 0) (same_tells _ _ (all_pairs_tell 4 4 (λ r c. same (4 * r + c == 7) ((r == 1) && (c == 3)))
     refl r c i j))
 
@@ -321,6 +285,7 @@ doubled_eight a b c d e f g h i l =
     ∷ kept g h i t ∷ []))
     ∙ number-double (bit a i ∷ bit b i ∷ bit c i ∷ bit d i ∷ bit e i ∷ bit f i ∷ bit g i ∷ bit h i ∷ []) refl
 
+-- doubled lanes hold in each place the double of the byte there
 pub doubled_held : (xs : List ℕ) (i : ℕ) → length xs ≡ 8 → i < 16
     → held_in (doubled_lanes xs) i ≡ field_mul 2 (held_in xs i)
 doubled_held xs i d l =
@@ -342,21 +307,15 @@ pub same_held : (xs ys : List ℕ) (i j : ℕ) → length xs ≡ 8 → length ys
 same_held xs ys i j d e h =
     ap number (map-same_at (λ w. bit w i) (λ w. bit w j) xs ys 0 0 (d ∙ sym e) (λ p l. h p (omega (arith, d, l))))
 
-abbrev Same : List ℕ → List ℕ → Type 0
-Same xs ys = (p i : ℕ) → p < 8 → i < 16 → bit (get_or xs p 0) i ≡ bit (get_or ys p 0) i
-
--- words that are loaded and summed hold the sums
-pub sums_held : (new sum lx ly x y : List ℕ) → length new ≡ 8 → length x ≡ 8 → length y ≡ 8 → Same new sum
-    → ((p i : ℕ) → p < 8 → i < 16 → bit (get_or sum p 0) i ≡ xor (bit (get_or lx p 0) i) (bit (get_or ly p 0) i))
-    → Same lx x → Same ly y → (i : ℕ) → i < 16
+-- words whose bits are the sums of the bits of two others hold the sums
+pub sums_held : (new x y : List ℕ) (i : ℕ) → length new ≡ 8 → length x ≡ 8 → length y ≡ 8 → i < 16
+    → ((p : ℕ) → p < 8 → bit (get_or new p 0) i ≡ xor (bit (get_or x p 0) i) (bit (get_or y p 0) i))
     → held_byte (map (word_bits 16) new) i
     ≡ field_add (held_byte (map (word_bits 16) x) i) (held_byte (map (word_bits 16) y) i)
-sums_held new sum lx ly x y d e f out summed left right i h =
+sums_held new x y i d e f h sums =
     held_words new i h
     ∙ ap number (sum_bits-map (λ w. bit w i) (λ w. bit w i) (λ w. bit w i) new x y 0 0 0 (d ∙ sym e) (d ∙ sym f)
-    (λ p l.
-    let k : p < 8 = omega (arith, d, l) in
-    out p i k h ∙ summed p i k h ∙ (λ t. xor (left p i k h t) (right p i k h t))))
+    (λ p l. sums p (omega (arith, d, l))))
     ∙ sym (number-sum (map (λ w. bit w i) x) (map (λ w. bit w i) y)
     (length-map x (λ w. bit w i) ∙ e ∙ sym f ∙ sym (length-map y (λ w. bit w i))))
     ∙ (λ t. field_add (sym (held_words x i h) t) (sym (held_words y i h) t))

@@ -1,20 +1,21 @@
 -- The bits of a block's word spread over the slots of a wider one.
-use Rattle.std.proofs.Common.{◌≡◌, ℕ, suc, ◌+◌, ◌-◌, ◌*◌, ◌/◌, ◌%◌, ◌^◌, ◌<◌, ◌≤◌, ◌==◌, Bool, true, false, not, ◌&&◌}
+use Rattle.std.proofs.Common.{◌≡◌, ℕ, ◌+◌, ◌-◌, ◌*◌, ◌/◌, ◌%◌, ◌^◌, ◌<◌, ◌==◌, Bool, true, false, not, ◌&&◌}
 use Rattle.std.proofs.Common.{◌||◌, cond, nat_le, nat_lt, bit_and, bit_or, List, [], ◌∷◌, ◌++◌, get_or, nat_eq, refl}
-use Rattle.std.proofs.Common.{ap, sym, ◌∙◌, arith, ◌⊎◌, inl, inr}
+use Rattle.std.proofs.Common.{ap, sym, ◌∙◌, arith, inl, inr}
 use Rattle.std.proofs.Math.Bool.{and-false, and-true, and_assoc, or-false, or_self}
-use Rattle.std.proofs.lemmas.Bool.{eqb-true, and_parts, not-true}
-use Rattle.std.proofs.lemmas.Bool.Decides.{leb_tells}
+use Rattle.std.proofs.lemmas.Bool.{eqb-true, and_parts, not-true, cases_lt, lt-ltb, le-ltb}
+use Rattle.std.proofs.lemmas.List.{get_or_append_left, get_or-append_right}
 use lib.Lanes.{top}
 use Rattle.aes_planes.specs.Bits.{bit, Places}
 use Rattle.aes_planes.specs.Private.Lanes.{lane_bits}
-use Rattle.aes_planes.proofs.Bits.ByteCases.{all_below, all_below_tells, all_pairs_tell, by_two, by_eight}
+use Rattle.aes_planes.proofs.Bits.ByteCases.{all_below, all_below_tells, all_pairs_tell, by_two}
 use Rattle.aes_planes.proofs.Bits.NumberBits.{Places-build, bit_low, bit_shl, bit_shr, bit_above, bit_zero, bit_ones}
 use Rattle.aes_planes.proofs.Bits.NumberBits.{bit_of_and, bit_of_or, word_zero, word_low_byte}
 use Rattle.aes_planes.proofs.Words.LaneBits.{lane_operators}
 
 -- ---- bits drawn apart
 
+-- bit i of a word or-ed with its shift by s, under a mask, is bit i or bit i - s where the mask has a one
 pub drawn_bit : (s m x i : ℕ) → i < 64 → bit (bit_and (bit_or x (x * 2 ^ s % 2 ^ 64)) m) i
     ≡ ((bit x i || (nat_le s i && bit x (i - s))) && bit m i)
 drawn_bit s m x i h = bit_of_and (bit_or x (x * 2 ^ s % 2 ^ 64)) m i
@@ -70,61 +71,37 @@ first_places l q i = nat_lt (i % l) q
 abbrev from_place : ℕ → ℕ → ℕ → ℕ
 from_place l q i = q * (i / l) + i % l
 
-to_eights : all_below 64 (step 24 0x000000ff000000ff (first_places 64 16) (first_places 32 8) (from_place 64 16)
-    (from_place 32 8)) ≡ true
-unfolding all_below step joined_right bit
-to_eights = refl
-
-to_fours : all_below 64 (step 12 0x000f000f000f000f (first_places 32 8) (first_places 16 4) (from_place 32 8)
-    (from_place 16 4)) ≡ true
-unfolding all_below step joined_right bit
-to_fours = refl
-
-to_twos : all_below 64 (step 6 0x0303030303030303 (first_places 16 4) (first_places 8 2) (from_place 16 4)
-    (from_place 8 2)) ≡ true
-unfolding all_below step joined_right bit
-to_twos = refl
-
-to_ones : all_below 64 (step 3 0x1111111111111111 (first_places 8 2) (first_places 4 1) (from_place 8 2)
-    (from_place 4 1)) ≡ true
-unfolding all_below step joined_right bit
-to_ones = refl
-
-to_twice : all_below 64 (step 1 0x3333333333333333 (first_places 4 1) (first_places 4 2) (from_place 4 1) (λ i. i / 4))
-    ≡ true
-unfolding all_below step joined_right bit
-to_twice = refl
-
-to_whole : all_below 64 (step 2 0xffffffffffffffff (first_places 4 2) (λ i. true) (λ i. i / 4) (λ i. i / 4)) ≡ true
-unfolding all_below step joined_right bit
-to_whole = refl
-
 -- a number below 2 ^ 16 has no further bits
 start : (x i : ℕ) → x < 2 ^ 16 → i < 64 → bit x i ≡ (first_places 64 16 i && bit x (from_place 64 16 i))
 start x i f h =
     let e : 16 * (i / 64) + i % 64 ≡ i = omega arith in
-    ap (bit x) (sym e) ∙ go (leb_tells (suc (i % 64)) 16)
-  where
-    go : ((nat_lt (i % 64) 16 ≡ true) × (suc (i % 64) ≤ 16)) ⊎ ((nat_lt (i % 64) 16 ≡ false) × (16 < suc (i % 64)))
-        → bit x (from_place 64 16 i) ≡ (first_places 64 16 i && bit x (from_place 64 16 i))
-    go (inl t) = ap (λ b. b && bit x (from_place 64 16 i)) (sym t.0)
-    go (inr t) = bit_above x 16 (from_place 64 16 i) f (omega (arith, t.1))
-        ∙ ap (λ b. b && bit x (from_place 64 16 i)) (sym t.0)
+    let spot = from_place 64 16 i in
+    ap (bit x) (sym e) ∙ elim (cases_lt (i % 64) 16) [
+      | inl lt ↦ ap (λ b. b && bit x spot) (sym (lt-ltb (i % 64) 16 lt))
+      | inr le ↦ bit_above x 16 spot f (omega (arith, le)) ∙ ap (λ b. b && bit x spot) (sym (le-ltb (i % 64) 16 le))
+    ]
 
 abbrev Drawn : ℕ → ℕ → ℕ → ℕ → Type 0
 Drawn s m a b = (i : ℕ) → i < 64 → bit b i ≡ ((bit a i || (nat_le s i && bit a (i - s))) && bit m i)
 
+-- six such steps leave each of the lowest sixteen bits four times
 pub each_four_times : (x eights fours twos ones twice last : ℕ) → x < 2 ^ 16
     → Drawn 24 0x000000ff000000ff x eights → Drawn 12 0x000f000f000f000f eights fours
     → Drawn 6 0x0303030303030303 fours twos
     → Drawn 3 0x1111111111111111 twos ones → Drawn 1 0x3333333333333333 ones twice
     → Drawn 2 0xffffffffffffffff twice last
     → (i : ℕ) → i < 64 → bit last i ≡ bit x (i / 4)
+unfolding all_below step joined_right bit
 each_four_times x eights fours twos ones twice last f d24 d12 d6 d3 d1 d2 =
-    drawn _ _ _ _ _ _ to_whole x twice last (drawn _ _ _ _ _ _ to_twice x ones twice
-    (drawn _ _ _ _ _ _ to_ones x twos ones
-    (drawn _ _ _ _ _ _ to_twos x fours twos (drawn _ _ _ _ _ _ to_fours x eights fours
-    (drawn _ _ _ _ _ _ to_eights x x eights (λ i h. start x i f h) d24) d12) d6) d3) d1) d2
+    let at = first_places in
+    let to = from_place in
+    let by8 = drawn 24 0x000000ff000000ff (at 64 16) (at 32 8) (to 64 16) (to 32 8) refl x x eights
+    (λ i h. start x i f h) d24 in
+    let by4 = drawn 12 0x000f000f000f000f (at 32 8) (at 16 4) (to 32 8) (to 16 4) refl x eights fours by8 d12 in
+    let by2 = drawn 6 0x0303030303030303 (at 16 4) (at 8 2) (to 16 4) (to 8 2) refl x fours twos by4 d6 in
+    let by1 = drawn 3 0x1111111111111111 (at 8 2) (at 4 1) (to 8 2) (to 4 1) refl x twos ones by2 d3 in
+    let both = drawn 1 0x3333333333333333 (at 4 1) (at 4 2) (to 4 1) (λ i. i / 4) refl x ones twice by1 d1 in
+    drawn 2 0xffffffffffffffff (at 4 2) (λ i. true) (λ i. i / 4) (λ i. i / 4) refl x twice last both d2
 
 -- ---- a lane for each bit
 
@@ -132,35 +109,33 @@ each_four_times x eights fours twos ones twice last f d24 d12 d6 d3 d1 d2 =
 abbrev lane_if : ℕ → ℕ → ℕ
 lane_if b m = cond (top 7 (cond (nat_eq (bit_and b m) m) 255 0)) 255 0
 
-lanes_checked : all_below 256 (λ b. all_below 8 (λ q. lane_if b (2 ^ q) == cond (bit b q) 255 0)) ≡ true
-unfolding all_below bit
-lanes_checked = refl
-
-lane_right : (b q : ℕ) → b < 256 → q < 8 → lane_if b (2 ^ q) ≡ cond (bit b q) 255 0
-lane_right b q h k = eqb-true _ _ (all_pairs_tell 256 8 (λ b q. lane_if b (2 ^ q) == cond (bit b q) 255 0) lanes_checked
-    b q h k)
-
 abbrev eight_lanes : ℕ → List ℕ
 eight_lanes b = lane_if b 1 ∷ lane_if b 2 ∷ lane_if b 4 ∷ lane_if b 8 ∷ lane_if b 16 ∷ lane_if b 32 ∷ lane_if b 64
     ∷ lane_if b 128 ∷ []
 
+lane_right : (b q : ℕ) → b < 256 → q < 8 → get_or (eight_lanes b) q 0 ≡ cond (bit b q) 255 0
+unfolding all_below bit
+lane_right b q h k =
+    eqb-true _ _ (all_pairs_tell 256 8 (λ b q. get_or (eight_lanes b) q 0 == cond (bit b q) 255 0) refl b q h k)
+
+-- lane j of two bytes, each spread over eight lanes, is ones or zeros by bit j of the two
 pub lane_of_bit : (low high j : ℕ) → low < 256 → high < 256 → j < 16
     → get_or (eight_lanes low ++ eight_lanes high) j 0 ≡ cond (bit (get_or (low ∷ high ∷ []) (j / 8) 0) (j % 8)) 255 0
 lane_of_bit low high j f g h =
-    let both = eight_lanes low ++ eight_lanes high in
-    let spot : j ≡ 8 * (j / 8) + j % 8 = omega arith in
-    ap (λ v. get_or both v 0) spot
-    ∙ by_two (λ q. get_or both (8 * q + j % 8) 0 ≡ cond (bit (get_or (low ∷ high ∷ []) q 0) (j % 8)) 255 0)
-    (by_eight (λ r. get_or both (8 * 0 + r) 0 ≡ cond (bit low r) 255 0)
-    (lane_right low 0 f (omega arith)) (lane_right low 1 f (omega arith)) (lane_right low 2 f (omega arith))
-    (lane_right low 3 f (omega arith)) (lane_right low 4 f (omega arith)) (lane_right low 5 f (omega arith))
-    (lane_right low 6 f (omega arith)) (lane_right low 7 f (omega arith)) (j % 8) (omega arith))
-    (by_eight (λ r. get_or both (8 * 1 + r) 0 ≡ cond (bit high r) 255 0)
-    (lane_right high 0 g (omega arith)) (lane_right high 1 g (omega arith)) (lane_right high 2 g (omega arith))
-    (lane_right high 3 g (omega arith)) (lane_right high 4 g (omega arith)) (lane_right high 5 g (omega arith))
-    (lane_right high 6 g (omega arith)) (lane_right high 7 g (omega arith)) (j % 8) (omega arith)) (j / 8) (omega arith)
+    elim (cases_lt j 8) [
+      | inl lt ↦
+          let q : j / 8 ≡ 0 = omega arith in
+          let r : j % 8 ≡ j = omega arith in
+          rw (q, r) (get_or_append_left (eight_lanes low) (eight_lanes high) 0 j lt ∙ lane_right low j f lt)
+      | inr le ↦
+          let q : j / 8 ≡ 1 = omega arith in
+          let r : j % 8 ≡ j - 8 = omega arith in
+          rw (q, r) (get_or-append_right (eight_lanes low) (eight_lanes high) 8 j 0 refl le
+          ∙ lane_right high (j - 8) g (omega arith))
+    ]
 
-lane_of_ones : (b : Bool) (p : ℕ) → p < 8 → bit (cond b 255 0) p ≡ b
+-- each bit of a lane that is all ones or all zeros
+pub lane_of_ones : (b : Bool) (p : ℕ) → p < 8 → bit (cond b 255 0) p ≡ b
 lane_of_ones true p h = bit_ones 8 p h
 lane_of_ones false p h = bit_zero p
 

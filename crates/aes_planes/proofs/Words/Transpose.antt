@@ -10,7 +10,7 @@ use Rattle.aes_planes.specs.Private.Lanes.{lane_bits}
 use Rattle.aes_planes.specs.Private.Packing.{source_word, source_bit}
 use Rattle.aes_planes.specs.Words.{word_bits}
 use Rattle.aes_planes.proofs.Bits.BitCases.{all_bools, all_bools_tells, same, same_tells, xor_false}
-use Rattle.aes_planes.proofs.Bits.ByteCases.{all_below, all_pairs, all_pairs_tell}
+use Rattle.aes_planes.proofs.Bits.ByteCases.{all_below, all_pairs_tell}
 use Rattle.aes_planes.proofs.Bits.NumberBits.{bit_shl, bit_shl_high, bit_shr, bit_above, bit_of_and, bit_of_xor, reads}
 use Rattle.aes_planes.proofs.Words.Constants.{bytes_of_32, bytes_of_64}
 use Rattle.aes_planes.proofs.Words.LaneBits.{lane_at, lane_of_two, lane_of_splat, length-splat, shr8, shl8}
@@ -22,14 +22,10 @@ chooses b =
     same (xor (at b 0) (xor (at b 0) (at b 1) && at b 2)) (cond (at b 2) (at b 1) (at b 0))
     && same (xor (at b 0) (xor (at b 1) (at b 0) && at b 2)) (cond (at b 2) (at b 1) (at b 0))
 
-chooses_all : all_bools 3 chooses ≡ true
-unfolding all_bools chooses same
-chooses_all = refl
-
 chosen : (a b k : Bool) → (xor a (xor a b && k) ≡ cond k b a) × (xor a (xor b a && k) ≡ cond k b a)
-unfolding chooses
+unfolding all_bools chooses same
 chosen a b k =
-    let t = and_parts _ _ (all_bools_tells 3 chooses chooses_all (a ∷ b ∷ k ∷ []) refl) in
+    let t = and_parts _ _ (all_bools_tells 3 chooses refl (a ∷ b ∷ k ∷ []) refl) in
     (same_tells _ _ t.0, same_tells _ _ t.1)
 
 chosen_if : (a b c l k : Bool) → (l ≡ true → c ≡ a) → xor a (l && (xor b c && k)) ≡ cond (l && k) b a
@@ -96,6 +92,7 @@ module _ (w s m M low high : ℕ) (f : m * 2 ^ s < 2 ^ 8) (k : s < 8)
   masked_below j r hj hr (inl lt) (inl u) =
       ap (λ b. b && bit M (8 * j + r - s)) (lt-leb s (8 * j + r) u) ∙ ap (λ b. b && bit m (r - s)) (sym (lt-leb s r lt))
 
+  -- after an exchange the high word has, under the mask, the low word's bit s places up, and else its own
   pub word_high : (j r : ℕ) → 8 * j + 8 ≤ w → r < 8
       → at (word_bits w (bit_xor high (differing s M low high))) (8 * j + r)
       ≡ cond (bit m r) (at (word_bits w low) (8 * j + (r + s))) (at (word_bits w high) (8 * j + r))
@@ -108,6 +105,7 @@ module _ (w s m M low high : ℕ) (f : m * 2 ^ s < 2 ^ 8) (k : s < 8)
       (λ e. ap (bit low) spot ∙ reads w low (8 * j + (r + s)) (omega (arith, hj, inside s m r f e)))
       (reads w high (8 * j + r) (omega arith))
 
+  -- and the low word has, s places above the mask, the high word's bit s places down, and else its own
   pub word_low : (j r : ℕ) → 8 * j + 8 ≤ w → r < 8
       → at (word_bits w (bit_xor low (differing s M low high * 2 ^ s % 2 ^ w))) (8 * j + r)
       ≡ cond (nat_le s r && bit m (r - s)) (at (word_bits w high) (8 * j + (r - s))) (at (word_bits w low) (8 * j + r))
@@ -115,14 +113,10 @@ module _ (w s m M low high : ℕ) (f : m * 2 ^ s < 2 ^ 8) (k : s < 8)
       let i = 8 * j + r in
       sym (reads w (bit_xor low (differing s M low high * 2 ^ s % 2 ^ w)) i (omega arith))
       ∙ exchanged_low w s M low high i (omega arith)
-      ∙ chosen_same _ _ _ _ _ _ (masked_below j r hj hr (cases_lt r s) (cases_lt i s)) above
-      (reads w low i (omega arith))
-    where
-      above : (nat_le s r && bit m (r - s)) ≡ true → bit high (8 * j + r - s) ≡ at (word_bits w high) (8 * j + (r - s))
-      above e =
-          let le : s ≤ r = leb-true s r (and_parts _ _ e).0 in
-          let spot : 8 * j + r - s ≡ 8 * j + (r - s) = omega (arith, le) in
-          ap (bit high) spot ∙ reads w high (8 * j + (r - s)) (omega arith)
+      ∙ chosen_same _ _ _ _ _ _ (masked_below j r hj hr (cases_lt r s) (cases_lt i s)) (λ e.
+      let le : s ≤ r = leb-true s r (and_parts _ _ e).0 in
+      let spot : 8 * j + r - s ≡ 8 * j + (r - s) = omega (arith, le) in
+      ap (bit high) spot ∙ reads w high (8 * j + (r - s)) (omega arith)) (reads w low i (omega arith))
 
 pub ruleset exchange_calls = (word_high, word_low, bytes_of_32, bytes_of_64)
 
@@ -132,6 +126,7 @@ module _ (s m : ℕ) (low high : List ℕ) (dl : length low ≡ 16) (dh : length
   abbrev unequal : List ℕ
   unequal = zip2 bit_xor high (zip2 shr8 low (replicate 16 s))
 
+  -- the bits under the mask in which the high vector differs from the low one shifted right by s
   abbrev pub moved : List ℕ
   moved = zip2 bit_and unequal (replicate 16 m)
 
@@ -148,6 +143,7 @@ module _ (s m : ℕ) (low high : List ℕ) (dl : length low ≡ 16) (dh : length
       (length-splat 16 shr8 low s dl) h
       ∙ ap (bit_xor (get_or high j 0)) (lane_of_splat 16 shr8 low s j dl h))
 
+  -- after an exchange the high vector has, under the mask, the low one's bit s places up, and else its own
   pub lanes_high : (j r : ℕ) → 8 * j + 8 ≤ 128 → r < 8 → at (lane_bits (zip2 bit_xor high moved)) (8 * j + r)
       ≡ cond (bit m r) (at (lane_bits low) (8 * j + (r + s))) (at (lane_bits high) (8 * j + r))
   lanes_high j r hj hr =
@@ -159,6 +155,7 @@ module _ (s m : ℕ) (low high : List ℕ) (dl : length low ≡ 16) (dh : length
       ∙ chosen_same _ _ _ _ _ _ refl (λ e. sym (lane_at low j (r + s) h (inside s m r f e)))
       (sym (lane_at high j r h hr))
 
+  -- and the low vector has, s places above the mask, the high one's bit s places down, and else its own
   pub lanes_low : (j r : ℕ) → 8 * j + 8 ≤ 128 → r < 8
       → at (lane_bits (zip2 bit_xor low (zip2 shl8 moved (replicate 16 s)))) (8 * j + r)
       ≡ cond (nat_le s r && bit m (r - s)) (at (lane_bits high) (8 * j + (r - s))) (at (lane_bits low) (8 * j + r))
@@ -190,25 +187,22 @@ chain w r =
     (nat_lt w3 8 && nat_lt r3 8) && ((nat_lt w2 8 && nat_lt r2 8)
     && ((source_word 1 0x55 w2 r2 == r) && (source_bit 1 0x55 w2 r2 == w)))
 
-chains : all_pairs 8 8 chain ≡ true
-unfolding all_below chain bit
-chains = refl
-
 abbrev Exchanged : ℕ → ℕ → ℕ → List (List Bool) → List (List Bool) → Type 0
 Exchanged n s m before after = (w j r : ℕ) → w < 8 → 8 * j + 8 ≤ n → r < 8
     → at (get_or after w []) (8 * j + r) ≡ at (get_or before (source_word s m w r) []) (8 * j + source_bit s m w r)
 
+-- three exchanges turn eight words over the diagonal of each byte
 pub transposed : (n : ℕ) (words ones twos last : List (List Bool)) → Exchanged n 1 0x55 words ones
     → Exchanged n 2 0x33 ones twos
     → Exchanged n 4 0x0f twos last → (w j r : ℕ) → w < 8 → 8 * j + 8 ≤ n → r < 8
     → at (get_or last w []) (8 * j + r) ≡ at (get_or words r []) (8 * j + w)
-unfolding chain
+unfolding all_below chain bit
 transposed n words ones twos last f g h w j r hw hj hr =
     let w3 = source_word 4 0x0f w r in
     let r3 = source_bit 4 0x0f w r in
     let w2 = source_word 2 0x33 w3 r3 in
     let r2 = source_bit 2 0x33 w3 r3 in
-    let t = and_parts _ _ (all_pairs_tell 8 8 chain chains w r hw hr) in
+    let t = and_parts _ _ (all_pairs_tell 8 8 chain refl w r hw hr) in
     let a = and_parts _ _ t.0 in
     let u = and_parts _ _ t.1 in
     let b = and_parts _ _ u.0 in

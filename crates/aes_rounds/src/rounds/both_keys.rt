@@ -20,7 +20,7 @@ pub(super) struct BothKeys<const RK: usize> {
 }
 
 impl<const RK: usize> BothKeys<RK> {
-    // These round keys, and them inverted.
+    // Keeps the round keys, and computes the inverted ones.
     pub(super) fn new(round_keys: &[Block; RK]) -> BothKeys<RK>
         requires { 2 ≤ RK }
         ensures { result.round_keys ≡ round_keys.now }
@@ -31,14 +31,14 @@ impl<const RK: usize> BothKeys<RK> {
         }
     }
 
-    // Leaves Cipher of each block.
+    // Encrypts each block (Cipher, FIPS 197, 5.1).
     pub(super) fn encrypt<S: States>(&self, states: &mut S)
         ensures { Each (fips.cipher_with self.now.round_keys) (S.blocks states.old) (S.blocks states.new) }
     {
         runs::encrypt(states, &self.round_keys);
     }
 
-    // Leaves InvCipher of each block, by EqInvCipher under the inverted keys (FIPS 197, 5.3.5).
+    // Decrypts each block, by EqInvCipher under the inverted round keys (FIPS 197, 5.3.5).
     #[tactic(auto, using(crate::proofs::Runs::inverse_of_each))]
     pub(super) fn decrypt<S: States>(&self, states: &mut S)
         ensures { Each (fips.inv_cipher_with self.now.round_keys) (S.blocks states.old) (S.blocks states.new) }

@@ -13,7 +13,7 @@ use aes_planes::soft::word::Block;
 // The round key that changes nothing.
 const ZERO_KEY: Block = [0; 16];
 
-// Leaves Cipher of each block (FIPS 197, 5.1).
+// Encrypts each block (Cipher, FIPS 197, 5.1).
 #[tactic(auto, using(aes_planes::proofs::Standard::AllRounds::is_cipher))]
 pub(super) fn encrypt<S: States>(states: &mut S, round_keys: &[Block])
     requires { 2 ≤ length round_keys.now }
@@ -22,7 +22,7 @@ pub(super) fn encrypt<S: States>(states: &mut S, round_keys: &[Block])
     run::<Encrypt, S>(states, round_keys);
 }
 
-// Leaves EqInvCipher of each block, under inverted round keys (FIPS 197, 5.3.5).
+// Decrypts each block under inverted round keys (EqInvCipher, FIPS 197, 5.3.5).
 #[tactic(auto, using(aes_planes::proofs::Standard::AllRounds::is_eq_inv_cipher))]
 pub(super) fn decrypt<S: States>(states: &mut S, inverted_keys: &[Block])
     requires { 2 ≤ length inverted_keys.now }
@@ -31,7 +31,7 @@ pub(super) fn decrypt<S: States>(states: &mut S, inverted_keys: &[Block])
     run::<Decrypt, S>(states, inverted_keys);
 }
 
-// Leaves each block as all rounds leave it.
+// Applies all rounds to each block.
 fn run<D: SingleRounds, S: States>(states: &mut S, round_keys: &[Block])
     requires { 2 ≤ length round_keys.now }
     ensures { S.blocks states.new ≡ map (all_rounds D.step D.last_step round_keys.now) (S.blocks states.old) }
@@ -45,13 +45,12 @@ fn run<D: SingleRounds, S: States>(states: &mut S, round_keys: &[Block])
     states.add_round_key(&round_keys[last]);
 }
 
-// Leaves the last round of each block without its key: a round under the zero key whose mixing is
-// taken back.
-pub(super) fn last_step<D: SingleRounds, S: States>(states: &mut S)
+// Applies the last round without its key to each block: a round under the zero key, and then the inverse of its column
+// mixing.
+fn last_step<D: SingleRounds, S: States>(states: &mut S)
     ensures { S.blocks states.new ≡ map D.last_step (S.blocks states.old) }
 {
     D::is_unmixed();
-    states.are_blocks();
     states.round::<D>(&ZERO_KEY);
     states.unmix::<D>();
 }

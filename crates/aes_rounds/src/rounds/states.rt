@@ -1,11 +1,10 @@
 //! What goes through the rounds at once: one block, or eight.
 
-ghost use Rattle.std.specs.Prelude.{◌≡◌, ℕ, ◌<◌, List, [], ◌∷◌, length, map, slice_index_or};
+ghost use Rattle.std.specs.Prelude.{◌≡◌, ℕ, List, [], ◌∷◌, map};
 ghost use Rattle.aes_planes.specs.Fips197 as fips;
 
 use super::directions::SingleRounds;
 use aes::hazmat::Block8;
-use aes_planes::laws;
 use aes_planes::soft::utils::sum_of_blocks;
 use aes_planes::soft::word::Block;
 
@@ -14,21 +13,17 @@ pub(super) trait States {
     // The blocks.
     ghost blocks: { Self → List (List ℕ) };
 
-    // Leaves AddRoundKey of each block (FIPS 197, 5.1.4).
+    // Applies AddRoundKey to each block (FIPS 197, 5.1.4).
     fn add_round_key(&mut self, round_key: &Block)
         ensures { blocks self.new ≡ map (λ b. fips.add_round_key b round_key.now) (blocks self.old) };
 
-    // Leaves a round of each block.
+    // Applies a round to each block.
     fn round<D: SingleRounds>(&mut self, round_key: &Block)
         ensures { blocks self.new ≡ map (λ b. fips.add_round_key (D.step b) round_key.now) (blocks self.old) };
 
-    // Takes the mixing of a round back in each block.
+    // Undoes the column mixing of a round in each block.
     fn unmix<D: SingleRounds>(&mut self)
         ensures { blocks self.new ≡ map D.unmixed (blocks self.old) };
-
-    // Nothing: a call has in its contract that these are blocks of the standard.
-    fn are_blocks(&self)
-        ensures { (i : ℕ) → i < length (blocks self.now) → fips.IsBlock (slice_index_or (blocks self.now) i []) };
 }
 
 impl States for Block {
@@ -44,10 +39,6 @@ impl States for Block {
 
     fn unmix<D: SingleRounds>(&mut self) {
         D::unmix(self);
-    }
-
-    fn are_blocks(&self) {
-        laws::are_blocks(&[*self]);
     }
 }
 
@@ -68,9 +59,5 @@ impl States for Block8 {
         for block in self.iter_mut() {
             D::unmix(block);
         }
-    }
-
-    fn are_blocks(&self) {
-        laws::are_blocks(self);
     }
 }

@@ -4,9 +4,10 @@ mod two_keys;
 
 use super::{apply_at, apply_then_encrypt, apply_to_parts, there_and_back};
 use crate::by_backend::ByBackend;
-use aes::{Aes128, Aes128Enc, Aes192Enc, Aes256};
-use aes_cipher::cipher::{BlockCipherEncrypt, KeyInit};
+use aes::{Aes128Enc, AesCipher, BothWays};
+use aes_cipher::cipher::{BlockCipherEncrypt, Encrypt, KeyInit};
 use aes_ctr::{Ctr128BE, stream_cut, stream_twice};
+use aes_soft::soft::key_sizes::{AesVariant, Bits128, Bits192, Bits256};
 use std::test::Fail;
 use two_keys::TwoKeys;
 
@@ -54,9 +55,26 @@ fn fill(bytes: &mut [u8]) {
     }
 }
 
-// Counter mode under the key of the standard's example.
-fn mode_from(iv: u128) -> Ctr128BE<Aes128Enc> {
-    Ctr128BE::new(Aes128Enc::new(&KEY.to_be_bytes()), iv.to_be_bytes())
+// What is tried with counter mode over any cipher.
+trait Trial {
+    // Whether the cipher passes.
+    fn passes<C: BlockCipherEncrypt>(&self, cipher: &C) -> bool;
+}
+
+// Whether the type that encrypts passes under a key. With the size as a parameter, it is proved to be a cipher once for
+// all that is tried.
+fn passes_under<K: AesVariant, T: Trial>(trial: &T, key: &K::Key) -> bool {
+    trial.passes(&AesCipher::<K, Encrypt>::new(key))
+}
+
+// Whether it passes under the key of the standard's example.
+fn passes<T: Trial>(trial: &T) -> bool {
+    passes_under::<Bits128, T>(trial, &KEY.to_be_bytes())
+}
+
+// Counter mode over a borrowed cipher.
+fn mode_from<C: BlockCipherEncrypt>(cipher: &C, iv: u128) -> Ctr128BE<&C> {
+    Ctr128BE::new(cipher, iv.to_be_bytes())
 }
 
 // Adds the keystream to bytes by calls on pieces of these lengths, and tells whether each call answered and no byte is
@@ -80,19 +98,28 @@ fn apply_in_pieces<C: BlockCipherEncrypt>(
     from == bytes.len()
 }
 
+// The standard's example, cut in four ways, and back.
+struct Example;
+
+impl Trial for Example {
+    fn passes<C: BlockCipherEncrypt>(&self, cipher: &C) -> bool {
+        let cuts: [&[usize]; 4] = [&[32], &[5, 27], &[0, 1, 15, 0, 16], &[1; 32]];
+        let mut right = true;
+        for pieces in cuts {
+            let mut mode = mode_from(cipher, IV);
+            let mut bytes = bytes_of(PLAIN);
+            right &= apply_in_pieces(&mut mode, &mut bytes, pieces);
+            right &= bytes == bytes_of(ENCRYPTED) && mode.position() == 32;
+        }
+        let mut bytes = bytes_of(ENCRYPTED);
+        right &= mode_from(cipher, IV).try_apply(&mut bytes).is_ok();
+        right && bytes == bytes_of(PLAIN)
+    }
+}
+
 #[test]
 fn answers_the_example_of_the_standard_however_it_is_cut(rt: HostRuntime) {
-    let cuts: [&[usize]; 4] = [&[32], &[5, 27], &[0, 1, 15, 0, 16], &[1; 32]];
-    for pieces in cuts {
-        let mut mode = mode_from(IV);
-        let mut bytes = bytes_of(PLAIN);
-        assert!(rt; apply_in_pieces(&mut mode, &mut bytes, pieces));
-        assert_eq!(rt; bytes, bytes_of(ENCRYPTED));
-        assert_eq!(rt; mode.position(), 32);
-    }
-    let mut bytes = bytes_of(ENCRYPTED);
-    assert!(rt; mode_from(IV).try_apply(&mut bytes).is_ok());
-    assert_eq!(rt; bytes, bytes_of(PLAIN));
+    assert!(rt; passes(&Example));
 }
 
 // The first two blocks of the keystream of a cipher.
@@ -103,16 +130,45 @@ fn keystream_of<C: BlockCipherEncrypt + Drop>(cipher: C, iv: u128) -> Option<[u1
     Some([block_at(&bytes, 0)?, block_at(&bytes, 1)?])
 }
 
+// The same under a key, by the type for both directions.
+fn keystream_under<K: AesVariant>(key: &K::Key, iv: u128) -> Option<[u128; 2]> {
+    keystream_of(AesCipher::<K, BothWays>::new(key), iv)
+}
+
 // The zero block encrypted under the zero key of each size: by OpenSSL.
 #[test]
 fn counts_from_zero_and_past_the_last_number(rt: HostRuntime) -> Result<(), Fail> {
-    let [_, second] = keystream_of(Aes128::new(&[0; 16]), u128::MAX).ok_or("end")?;
+    let [_, second] = keystream_under::<Bits128>(&[0; 16], u128::MAX).ok_or("end")?;
     assert_eq!(rt; second, 0x66e94bd4ef8a2c3b884cfa59ca342b2e);
-    let [first, _] = keystream_of(Aes192Enc::new(&[0; 24]), 0).ok_or("end")?;
+    let [first, _] = keystream_under::<Bits192>(&[0; 24], 0).ok_or("end")?;
     assert_eq!(rt; first, 0xaae06992acbf52a3e8f4a96ec9300bd7);
-    let [first, _] = keystream_of(Aes256::new(&[0; 32]), 0).ok_or("end")?;
+    let [first, _] = keystream_under::<Bits256>(&[0; 32], 0).ok_or("end")?;
     assert_eq!(rt; first, 0xdc95c078a2408989ad48a21492842087);
     Ok(())
+}
+
+// The keystream from a counter block, whole and cut, by some of its blocks.
+#[derive(Drop)]
+struct Carries {
+    iv: u128,
+    blocks: [(usize, u128); 8],
+}
+
+impl Trial for Carries {
+    fn passes<C: BlockCipherEncrypt>(&self, cipher: &C) -> bool {
+        let mut whole = [0; 9600];
+        let mut right = mode_from(cipher, self.iv).try_apply(&mut whole).is_ok();
+        for (j, block) in self.blocks {
+            right &= block_at(&whole, j) == Some(block);
+        }
+        let mut pieces = [0; 9600];
+        right &= apply_in_pieces(
+            &mut mode_from(cipher, self.iv),
+            &mut pieces,
+            &[1025, 0, 7, 1024, 300, 7244],
+        );
+        right && pieces == whole
+    }
 }
 
 // Blocks of the keystream by OpenSSL, where the counter carries into its upper half after block 31, and where it starts
@@ -148,54 +204,62 @@ fn carries_through_the_counter(rt: HostRuntime) {
         ),
     ];
     for (iv, blocks) in rows {
-        let mut whole = [0; 9600];
-        assert!(rt; mode_from(iv).try_apply(&mut whole).is_ok());
-        for (j, block) in blocks {
-            assert!(rt; block_at(&whole, j) == Some(block));
+        assert!(rt; passes(&Carries { iv, blocks }));
+    }
+}
+
+// Every length up to 400 bytes, cut at every place.
+struct EveryCut;
+
+impl Trial for EveryCut {
+    fn passes<C: BlockCipherEncrypt>(&self, cipher: &C) -> bool {
+        let mut plain = [0; 400];
+        fill(&mut plain);
+        let mut right = true;
+        for len in 0..=400 {
+            let mut once = plain;
+            right &= mode_from(cipher, IV).try_apply(&mut once[..len]).is_ok();
+            for cut in 0..=len {
+                let mut twice = plain;
+                let mut mode = mode_from(cipher, IV);
+                right &= mode.try_apply(&mut twice[..cut]).is_ok();
+                right &= mode.try_apply(&mut twice[cut..len]).is_ok();
+                right &= twice == once;
+            }
         }
-        let mut pieces = [0; 9600];
-        assert!(rt;
-            apply_in_pieces(
-                &mut mode_from(iv),
-                &mut pieces,
-                &[1025, 0, 7, 1024, 300, 7244]
-            )
-        );
-        assert!(rt; pieces == whole);
+        right
     }
 }
 
 #[test]
 fn answers_the_same_cut_at_every_place(rt: HostRuntime) {
-    let mut plain = [0; 400];
-    fill(&mut plain);
-    for len in 0..=400 {
-        let mut once = plain;
-        assert!(rt; mode_from(IV).try_apply(&mut once[..len]).is_ok());
-        for cut in 0..=len {
-            let mut twice = plain;
-            let mut mode = mode_from(IV);
-            assert!(rt; mode.try_apply(&mut twice[..cut]).is_ok());
-            assert!(rt; mode.try_apply(&mut twice[cut..len]).is_ok());
-            assert!(rt; twice == once);
+    assert!(rt; passes(&EveryCut));
+}
+
+// Every length up to 400 bytes, from every position up to 40.
+struct EveryPosition;
+
+impl Trial for EveryPosition {
+    fn passes<C: BlockCipherEncrypt>(&self, cipher: &C) -> bool {
+        let mut whole = [0; 440];
+        let mut right = mode_from(cipher, IV).try_apply(&mut whole).is_ok();
+        for start in 0..=40 {
+            for len in 0..=400 {
+                let mut mode = mode_from(cipher, IV);
+                let mut bytes = [0; 440];
+                right &= mode.try_apply(&mut bytes[..start]).is_ok();
+                right &= mode.position() == start as u64;
+                right &= mode.try_apply(&mut bytes[start..start + len]).is_ok();
+                right &= bytes[..start + len] == whole[..start + len];
+            }
         }
+        right
     }
 }
 
 #[test]
 fn answers_the_same_from_every_position(rt: HostRuntime) {
-    let mut whole = [0; 440];
-    assert!(rt; mode_from(IV).try_apply(&mut whole).is_ok());
-    for start in 0..=40 {
-        for len in 0..=400 {
-            let mut mode = mode_from(IV);
-            let mut bytes = [0; 440];
-            assert!(rt; mode.try_apply(&mut bytes[..start]).is_ok());
-            assert_eq!(rt; mode.position(), start as u64);
-            assert!(rt; mode.try_apply(&mut bytes[start..start + len]).is_ok());
-            assert!(rt; bytes[..start + len] == whole[..start + len]);
-        }
-    }
+    assert!(rt; passes(&EveryPosition));
 }
 
 // A cipher that no key expands to: the crate rests on the trait alone.
@@ -222,16 +286,29 @@ fn adds_what_the_cipher_of_the_counter_is(rt: HostRuntime) {
     assert_eq!(rt; bytes, want);
 }
 
+// Whether the caller of a key has the message back.
+fn comes_back<K: AesVariant>(key: &K::Key) -> bool {
+    let mut bytes = bytes_of(PLAIN);
+    there_and_back::<AesCipher<K, Encrypt>>(key, IV.to_be_bytes(), &mut bytes).is_ok()
+        && bytes == bytes_of(PLAIN)
+}
+
+// A message in two parts.
+struct TwoParts;
+
+impl Trial for TwoParts {
+    fn passes<C: BlockCipherEncrypt>(&self, cipher: &C) -> bool {
+        let mut mode = mode_from(cipher, IV);
+        let mut rest = [0; 27];
+        let mut head = [0; 5];
+        apply_to_parts(&mut mode, &mut head, &mut rest).is_ok() && mode.position() == 32
+    }
+}
+
 #[test]
 fn callers_answer(rt: HostRuntime) {
-    let mut bytes = bytes_of(PLAIN);
-    assert!(rt; there_and_back::<Aes128>(&KEY.to_be_bytes(), IV.to_be_bytes(), &mut bytes).is_ok());
-    assert_eq!(rt; bytes, bytes_of(PLAIN));
-    let mut mode = mode_from(IV);
-    let mut rest = [0; 27];
-    let mut head = [0; 5];
-    assert!(rt; apply_to_parts(&mut mode, &mut head, &mut rest).is_ok());
-    assert_eq!(rt; mode.position(), 32);
+    assert!(rt; comes_back::<Bits128>(&KEY.to_be_bytes()));
+    assert!(rt; passes(&TwoParts));
     stream_cut();
     stream_twice();
 }
@@ -257,15 +334,21 @@ fn starts_and_goes_on_at_any_position(rt: HostRuntime) {
     assert!(rt; apply_at(&cipher, [0; 16], u64::MAX - 1, &mut end).is_err());
 }
 
+// A cipher that counter mode gives back.
+struct GivenBack;
+
+impl Trial for GivenBack {
+    fn passes<C: BlockCipherEncrypt>(&self, cipher: &C) -> bool {
+        let mut bytes = bytes_of(PLAIN);
+        let mut block = IV.to_be_bytes();
+        let back = apply_then_encrypt(cipher, IV.to_be_bytes(), &mut bytes, &mut block);
+        let mut wanted = IV.to_be_bytes();
+        cipher.encrypt_block(&mut wanted);
+        back.is_ok() && bytes == bytes_of(ENCRYPTED) && block == wanted
+    }
+}
+
 #[test]
 fn gives_its_cipher_back(rt: HostRuntime) {
-    let cipher = Aes128Enc::new(&KEY.to_be_bytes());
-    let mut bytes = bytes_of(PLAIN);
-    let mut block = IV.to_be_bytes();
-    let back = apply_then_encrypt(&cipher, IV.to_be_bytes(), &mut bytes, &mut block);
-    assert_eq!(rt; bytes, bytes_of(ENCRYPTED));
-    let mut wanted = IV.to_be_bytes();
-    assert!(rt; back.is_ok());
-    cipher.encrypt_block(&mut wanted);
-    assert_eq!(rt; block, wanted);
+    assert!(rt; passes(&GivenBack));
 }

@@ -5,9 +5,10 @@ use super::keys::{BY_128, BY_192, BY_256, KEY_128, KEY_192, KEY_256, PLAIN};
 use crate::callers::{encrypt_and_pass_on, encrypt_by_rounds, there_and_back, there_and_back_by};
 use crate::generic;
 use crate::layers::count_layers;
-use aes::{Aes128, Aes192, Aes192Dec, Aes256, Aes256Enc};
+use aes::{Aes128, Aes192, Aes192Dec, Aes256, Aes256Enc, AesCipher, Block, BothWays};
 use aes_cipher::cipher::{BlockCipherDecrypt, BlockCipherEncrypt, KeyInit, KeySizeUser};
 use aes_planes::soft::sbox::Layers;
+use aes_soft::soft::key_sizes::{AesVariant, Bits128, Bits192, Bits256};
 
 #[test]
 fn callers_have_the_blocks_of_the_standard(rt: HostRuntime) {
@@ -48,20 +49,33 @@ where
     by_key == wanted.to_be_bytes() && by_slice == Ok(by_key) && block == PLAIN.to_be_bytes()
 }
 
+// The type of `aes` for a size. With the size as a parameter, it is proved once for all sizes.
+fn type_goes_there_and_back<K: AesVariant>(key: &K::Key, bytes: &[u8], wanted: u128) -> bool {
+    goes_there_and_back::<AesCipher<K, BothWays>>(key, bytes, wanted)
+}
+
 #[test]
 fn any_cipher_has_the_blocks_of_the_standard(rt: HostRuntime) {
-    assert!(rt; goes_there_and_back::<Aes128>(&KEY_128, &KEY_128, BY_128));
-    assert!(rt; goes_there_and_back::<Aes192>(&KEY_192, &KEY_192, BY_192));
-    assert!(rt; goes_there_and_back::<Aes256>(&KEY_256, &KEY_256, BY_256));
+    assert!(rt; type_goes_there_and_back::<Bits128>(&KEY_128, &KEY_128, BY_128));
+    assert!(rt; type_goes_there_and_back::<Bits192>(&KEY_192, &KEY_192, BY_192));
+    assert!(rt; type_goes_there_and_back::<Bits256>(&KEY_256, &KEY_256, BY_256));
+}
+
+// A slice of blocks that goes there and back by the type of `aes` for a size.
+fn slice_there_and_back<K: AesVariant>(key: &K::Key) -> [Block; 24] {
+    let cipher = AesCipher::<K, BothWays>::new(key);
+    generic::has_sized_key(&cipher);
+    let mut blocks = different_blocks();
+    generic::blocks_there_and_back(&cipher, &mut blocks);
+    blocks
 }
 
 #[test]
 fn slices_go_there_and_back(rt: HostRuntime) {
-    let cipher = Aes256::new(&KEY_256);
-    generic::has_sized_key(&cipher);
-    let mut blocks = different_blocks();
-    generic::blocks_there_and_back(&cipher, &mut blocks);
-    assert_eq!(rt; blocks, different_blocks());
+    assert_eq!(rt;
+        slice_there_and_back::<Bits256>(&KEY_256),
+        different_blocks()
+    );
 }
 
 // The counters are seen by contracts alone: what is left to see is that the calls answer.

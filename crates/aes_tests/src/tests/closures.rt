@@ -4,11 +4,12 @@ use super::blocks::{ENCRYPTED, PLAIN, blocks, different_blocks};
 use super::keys::KEY_A1;
 use super::ways::{OneWay, Trial, try_all};
 use crate::closures::{Mixed, Nothing, Row, Twice, encrypt_row, twice_there_and_back};
-use aes::{Aes128, Block};
+use aes::{AesCipher, Block, BothWays};
 use aes_cipher::cipher::{
     BlockCipherDecrypt, BlockCipherEncrypt, Decrypt, Direction, Encrypt, KeyInit,
 };
 use aes_permute as permute;
+use aes_soft::soft::key_sizes::{AesVariant, Bits128};
 
 // A closure that does nothing, one that works twice, and rows of blocks, by what single calls leave.
 struct Closures;
@@ -79,17 +80,31 @@ fn takes_a_row_of_five<C: BlockCipherEncrypt + BlockCipherDecrypt>(cipher: &C) -
     there && back && row == wanted
 }
 
+// The type of `aes` for both directions, with the size as a parameter.
+fn planes_take_a_row<K: AesVariant>(key: &K::Key) -> bool {
+    takes_a_row_of_five(&AesCipher::<K, BothWays>::new(key))
+}
+
+// The same of that of `aes_permute`.
+fn permutations_take_a_row<K: permute::sizes::LaneKeys>(key: &K::Key) -> bool {
+    takes_a_row_of_five(&permute::AesCipher::<permute::keys::TwoWays<K>, BothWays>::new(key))
+}
+
 // SP 800-38A, F.1.1 and F.1.2.
 #[test]
 fn a_row_of_five_has_the_blocks_of_the_standard(rt: HostRuntime) {
-    assert!(rt; takes_a_row_of_five(&Aes128::new(&KEY_A1)));
-    assert!(rt; takes_a_row_of_five(&permute::Aes128::new(&KEY_A1)));
+    assert!(rt; planes_take_a_row::<Bits128>(&KEY_A1));
+    assert!(rt; permutations_take_a_row::<Bits128>(&KEY_A1));
+}
+
+// A block encrypted twice and decrypted twice by the type of `aes` for a size.
+fn twice_by_planes<K: AesVariant>(key: &K::Key, block: Block) -> Block {
+    twice_there_and_back(&AesCipher::<K, BothWays>::new(key), block)
 }
 
 #[test]
 fn decrypting_twice_gives_back_what_was_encrypted_twice(rt: HostRuntime) {
-    let cipher = Aes128::new(&[0x16; 16]);
     for block in different_blocks() {
-        assert_eq!(rt; twice_there_and_back(&cipher, block), block);
+        assert_eq!(rt; twice_by_planes::<Bits128>(&[0x16; 16], block), block);
     }
 }

@@ -5,7 +5,7 @@ use aes_cipher::cipher::{
     Block, BlockCipherDecrypt, BlockCipherEncrypt, Decrypt, Encrypt, KeyInit,
 };
 use aes_ctr::add_keystream;
-use aes_hybrid::{Aes128, Aes192, Aes256, Aes256Dec, Aes256Enc, Hybrid};
+use aes_hybrid::{Aes256Dec, Hybrid};
 use aes_permute::keys::{OneWay, TwoWays};
 use aes_permute::sizes::LaneKeys;
 use std::test::Fail;
@@ -31,28 +31,40 @@ fn there_and_back<C: BlockCipherEncrypt + BlockCipherDecrypt>(cipher: &C, wanted
     there && few == [PLAIN.to_be_bytes(); 7] && many == plain
 }
 
+// The type for both directions, with the size as a parameter: what it is made of is proved once for all sizes.
+fn goes_there_and_back<K: LaneKeys>(key: &K::Key, wanted: u128) -> bool {
+    there_and_back(&AesCipher::<Hybrid<TwoWays<K>>, BothWays>::new(key), wanted)
+}
+
 #[test]
 fn encrypts_and_decrypts_few_and_many(rt: HostRuntime) {
-    let aes128 = Aes128::new(COUNTED[..16].as_array::<16>().unwrap());
-    let aes192 = Aes192::new(COUNTED[..24].as_array::<24>().unwrap());
-    let aes256 = Aes256::new(&COUNTED);
-    assert!(rt; there_and_back(&aes128, 0x69c4e0d86a7b0430d8cdb78070b4c55a));
-    assert!(rt; there_and_back(&aes192, 0xdda97ca4864cdfe06eaf70a0ec0d7191));
-    assert!(rt; there_and_back(&aes256, 0x8ea2b7ca516745bfeafc49904b496089));
+    let short = COUNTED[..16].as_array::<16>().unwrap();
+    let middle = COUNTED[..24].as_array::<24>().unwrap();
+    assert!(rt; goes_there_and_back::<Bits128>(short, 0x69c4e0d86a7b0430d8cdb78070b4c55a));
+    assert!(rt; goes_there_and_back::<Bits192>(middle, 0xdda97ca4864cdfe06eaf70a0ec0d7191));
+    assert!(rt; goes_there_and_back::<Bits256>(&COUNTED, 0x8ea2b7ca516745bfeafc49904b496089));
+}
+
+// Whether keystream is the same whole and cut, and the same once more takes it away.
+fn adds_the_same_cut<C: BlockCipherEncrypt>(cipher: &C) -> bool {
+    let iv = PLAIN.to_be_bytes();
+    let mut whole = [0; 400];
+    let mut cut = [0; 400];
+    add_keystream(cipher, &iv, 5, &mut whole);
+    add_keystream(cipher, &iv, 5, &mut cut[..30]);
+    add_keystream(cipher, &iv, 35, &mut cut[30..]);
+    let same = whole == cut;
+    add_keystream(cipher, &iv, 5, &mut whole);
+    same && whole == [0; 400]
+}
+
+fn encrypting_adds_the_same_cut<K: LaneKeys>(key: &K::Key) -> bool {
+    adds_the_same_cut(&AesCipher::<Hybrid<OneWay<K, Encrypt>>, Encrypt>::new(key))
 }
 
 #[test]
 fn adds_the_same_keystream_whole_and_cut(rt: HostRuntime) {
-    let cipher = Aes256Enc::new(&COUNTED);
-    let iv = PLAIN.to_be_bytes();
-    let mut whole = [0; 400];
-    let mut cut = [0; 400];
-    add_keystream(&cipher, &iv, 5, &mut whole);
-    add_keystream(&cipher, &iv, 5, &mut cut[..30]);
-    add_keystream(&cipher, &iv, 35, &mut cut[30..]);
-    assert!(rt; whole == cut);
-    add_keystream(&cipher, &iv, 5, &mut whole);
-    assert!(rt; whole == [0; 400]);
+    assert!(rt; encrypting_adds_the_same_cut::<Bits256>(&COUNTED));
 }
 
 // Nineteen blocks, enough for planes and for permutations, encrypted.

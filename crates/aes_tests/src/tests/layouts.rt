@@ -1,10 +1,11 @@
 //! The two layouts of round keys and the types, on every word and in every slot.
 
 use super::blocks::different_blocks;
-use aes::{Aes128, Aes192, Aes256, Block};
+use aes::{AesCipher, Block, BothWays};
 use aes_cipher::cipher::{BlockCipherDecrypt, BlockCipherEncrypt, KeyInit};
 use aes_planes::soft::sbox::Layers;
 use aes_planes::soft::word::{Batch, Word};
+use aes_soft::soft::key_sizes::{AesVariant, Bits128, Bits192, Bits256};
 use aes_soft::soft::{compact, full};
 
 // As many different blocks as a word holds.
@@ -38,26 +39,31 @@ fn are_right<C: BlockCipherEncrypt + BlockCipherDecrypt, B: Batch>(
     true
 }
 
+// The same of the type for a key. With the size as a parameter, the type is proved once for all sizes.
+fn type_agrees<K: AesVariant, B: Batch>(key: &K::Key, encrypted: &B, decrypted: &B) -> bool {
+    are_right(&AesCipher::<K, BothWays>::new(key), encrypted, decrypted)
+}
+
 // Whether a layout at a size of keys leaves in every slot what the type of that size leaves.
 macro_rules! agrees {
-    ($layout:ident :: $size:ident, $word:ty, $cipher:expr, $key:expr) => {{
+    ($layout:ident :: $size:ident, $word:ty, $bits:ty, $key:expr) => {{
         let mut layers = Layers::new();
         let plain = batch::<<$word as Word>::Blocks>();
         let round_keys = $layout::$size::key_schedule::<$word>($key, &mut layers);
         let encrypted = $layout::$size::encrypt::<$word>(&round_keys, &plain, &mut layers);
         let decrypted = $layout::$size::decrypt::<$word>(&round_keys, &plain, &mut layers);
-        are_right($cipher, &encrypted, &decrypted)
+        type_agrees::<$bits, <$word as Word>::Blocks>($key, &encrypted, &decrypted)
     }};
 }
 
 fn layouts_agree<W: Word>() -> bool {
     let (short, middle, long) = (&[0x16; 16], &[0x24; 24], &[0x32; 32]);
-    agrees!(compact::aes128, W, &Aes128::new(short), short)
-        && agrees!(full::aes128, W, &Aes128::new(short), short)
-        && agrees!(compact::aes192, W, &Aes192::new(middle), middle)
-        && agrees!(full::aes192, W, &Aes192::new(middle), middle)
-        && agrees!(compact::aes256, W, &Aes256::new(long), long)
-        && agrees!(full::aes256, W, &Aes256::new(long), long)
+    agrees!(compact::aes128, W, Bits128, short)
+        && agrees!(full::aes128, W, Bits128, short)
+        && agrees!(compact::aes192, W, Bits192, middle)
+        && agrees!(full::aes192, W, Bits192, middle)
+        && agrees!(compact::aes256, W, Bits256, long)
+        && agrees!(full::aes256, W, Bits256, long)
 }
 
 #[test]

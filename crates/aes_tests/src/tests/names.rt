@@ -1,8 +1,12 @@
 //! What is written as text: names, and nothing of a key.
 
 use super::keys::{KEY_128, KEY_192, KEY_256};
-use aes_cipher::cipher::{AlgorithmName, KeyInit, KeySizeUser};
+use aes::{AesCipher, BothWays};
+use aes_cipher::cipher::{AlgorithmName, Decrypt, Encrypt, KeyInit, KeySizeUser};
 use aes_permute as permute;
+use aes_permute::keys::{OneWay, TwoWays};
+use aes_permute::sizes::LaneKeys;
+use aes_soft::soft::key_sizes::{AesVariant, Bits128, Bits192, Bits256};
 use std::fmt;
 use std::marker::PhantomData;
 use std::test::Fail;
@@ -48,25 +52,31 @@ where
     )
 }
 
+// The three types of `aes` for a size. With the size as a parameter, they are proved once for all sizes.
+fn planes_are_named<K: AesVariant>(rt: &HostRuntime, key: &[u8], name: &str) -> Result<bool, Fail> {
+    are_named::<AesCipher<K, BothWays>, AesCipher<K, Encrypt>, AesCipher<K, Decrypt>>(rt, key, name)
+}
+
+// The same of those of `aes_permute`.
+fn permutations_are_named<K: LaneKeys>(
+    rt: &HostRuntime,
+    key: &[u8],
+    name: &str,
+) -> Result<bool, Fail> {
+    are_named::<
+        permute::AesCipher<TwoWays<K>, BothWays>,
+        permute::AesCipher<OneWay<K, Encrypt>, Encrypt>,
+        permute::AesCipher<OneWay<K, Decrypt>, Decrypt>,
+    >(rt, key, name)
+}
+
 #[test]
 fn writes_the_names_of_all_types(rt: HostRuntime) -> Result<(), Fail> {
-    assert!(rt; are_named::<aes::Aes128, aes::Aes128Enc, aes::Aes128Dec>(&rt, &KEY_128, "Aes128")?);
-    assert!(rt; are_named::<aes::Aes192, aes::Aes192Enc, aes::Aes192Dec>(&rt, &KEY_192, "Aes192")?);
-    assert!(rt; are_named::<aes::Aes256, aes::Aes256Enc, aes::Aes256Dec>(&rt, &KEY_256, "Aes256")?);
-    assert!(rt;
-        are_named::<permute::Aes128, permute::Aes128Enc, permute::Aes128Dec>(
-            &rt, &KEY_128, "Aes128"
-        )?
-    );
-    assert!(rt;
-        are_named::<permute::Aes192, permute::Aes192Enc, permute::Aes192Dec>(
-            &rt, &KEY_192, "Aes192"
-        )?
-    );
-    assert!(rt;
-        are_named::<permute::Aes256, permute::Aes256Enc, permute::Aes256Dec>(
-            &rt, &KEY_256, "Aes256"
-        )?
-    );
+    assert!(rt; planes_are_named::<Bits128>(&rt, &KEY_128, "Aes128")?);
+    assert!(rt; planes_are_named::<Bits192>(&rt, &KEY_192, "Aes192")?);
+    assert!(rt; planes_are_named::<Bits256>(&rt, &KEY_256, "Aes256")?);
+    assert!(rt; permutations_are_named::<Bits128>(&rt, &KEY_128, "Aes128")?);
+    assert!(rt; permutations_are_named::<Bits192>(&rt, &KEY_192, "Aes192")?);
+    assert!(rt; permutations_are_named::<Bits256>(&rt, &KEY_256, "Aes256")?);
     Ok(())
 }

@@ -110,7 +110,7 @@ fn restored<const RK: usize>(round_keys: &[Block; RK], block: &mut Block)
     cipher.as_dec().decrypt_block(block);
 }
 
-// Whether every type makes of the blocks, and back, what it should.
+// Whether every type encrypts the blocks as expected and decrypts them again.
 fn there_and_back<const RK: usize>(
     round_keys: &[Block; RK],
     plain: &Block8,

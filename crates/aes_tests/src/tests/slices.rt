@@ -3,7 +3,7 @@
 use super::blocks::different_blocks;
 use super::keys::{KEY_128, KEY_192, KEY_256};
 use super::ways::{OneWay, Trial, try_all};
-use aes::{Aes128, AesCipher, Block, BothWays};
+use aes::{AesCipher, Block, BothWays};
 use aes_cipher::aes::KeySchedule;
 use aes_cipher::cipher::{
     BlockCipherDecrypt, BlockCipherEncrypt, Decrypt, Direction, Encrypt, KeyInit, NotEqualError,
@@ -120,11 +120,21 @@ fn brings_back_a_hundred<C: BlockCipherEncrypt + BlockCipherDecrypt>(cipher: &C)
     right && there == [[0x2a; 16]; 100] && back == there
 }
 
+// The type of `aes` for both directions, with the size as a parameter.
+fn planes_bring_back<K: AesVariant>(key: &K::Key) -> bool {
+    brings_back_a_hundred(&AesCipher::<K, BothWays>::new(key))
+}
+
+// The same of that of `aes_permute`.
+fn permutations_bring_back<K: permute::sizes::LaneKeys>(key: &K::Key) -> bool {
+    brings_back_a_hundred(&permute::AesCipher::<permute::keys::TwoWays<K>, BothWays>::new(key))
+}
+
 #[test]
 fn brings_back_hundreds_of_blocks(rt: HostRuntime) {
     let zero_key = [0; 16];
-    assert!(rt; brings_back_a_hundred(&Aes128::new(&zero_key)));
-    assert!(rt; brings_back_a_hundred(&permute::Aes128::new(&zero_key)));
+    assert!(rt; planes_bring_back::<Bits128>(&zero_key));
+    assert!(rt; permutations_bring_back::<Bits128>(&zero_key));
 }
 
 // How many blocks a type of backends takes at once.

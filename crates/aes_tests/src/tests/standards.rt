@@ -4,7 +4,7 @@ use super::blocks::{ENCRYPTED, blocks};
 use super::keys::{
     BY_128, BY_192, BY_256, KEY_128, KEY_192, KEY_256, KEY_A1, KEY_A2, KEY_A3, PLAIN,
 };
-use aes::{Aes128Dec, Aes128Enc, AesCipher, Block, BothWays, hardware_accelerated};
+use aes::{AesCipher, Block, BothWays, hardware_accelerated};
 use aes_cipher::cipher::{BlockCipherDecrypt, BlockCipherEncrypt, Decrypt, Encrypt, KeyInit};
 use aes_permute as permute;
 use aes_permute::{keys, sizes};
@@ -13,7 +13,7 @@ use aes_soft::soft::key_sizes::{AesVariant, Bits128, Bits192, Bits256};
 // A key, a block, and the block encrypted.
 type Example<'a> = (&'a [u8], u128, u128);
 
-// What both block calls leave of a block.
+// Encrypts a block in place, and from one buffer to another.
 fn encrypted<C: BlockCipherEncrypt>(cipher: &C, block: u128) -> (u128, u128) {
     let input = block.to_be_bytes();
     let mut in_place = input;
@@ -23,7 +23,7 @@ fn encrypted<C: BlockCipherEncrypt>(cipher: &C, block: u128) -> (u128, u128) {
     (u128::from_be_bytes(in_place), u128::from_be_bytes(output))
 }
 
-// What both block calls leave of a block.
+// Decrypts a block in place, and from one buffer to another.
 fn decrypted<C: BlockCipherDecrypt>(cipher: &C, block: u128) -> (u128, u128) {
     let input = block.to_be_bytes();
     let mut in_place = input;
@@ -121,13 +121,34 @@ where
     there && back
 }
 
+// Whether the types of `aes` that work in one direction do, with the size as a parameter.
+fn planes_encrypt_four<K: AesVariant>(
+    key: &[u8],
+    plain: [Block; 4],
+    encrypted: [Block; 4],
+) -> bool {
+    encrypts_four::<AesCipher<K, Encrypt>, AesCipher<K, Decrypt>>(key, plain, encrypted)
+}
+
+// The same of those of `aes_permute`.
+fn permutations_encrypt_four<K: sizes::LaneKeys>(
+    key: &[u8],
+    plain: [Block; 4],
+    encrypted: [Block; 4],
+) -> bool {
+    encrypts_four::<
+        permute::AesCipher<keys::OneWay<K, Encrypt>, Encrypt>,
+        permute::AesCipher<keys::OneWay<K, Decrypt>, Decrypt>,
+    >(key, plain, encrypted)
+}
+
 // SP 800-38A, F.1.1 and F.1.2: four blocks under the key of FIPS 197, appendix A.1.
 #[test]
 fn leaves_the_four_blocks_of_the_standard(rt: HostRuntime) {
     let plain = blocks(&super::blocks::PLAIN);
     let encrypted = blocks(&ENCRYPTED);
-    assert!(rt; encrypts_four::<Aes128Enc, Aes128Dec>(&KEY_A1, plain, encrypted));
-    assert!(rt; encrypts_four::<permute::Aes128Enc, permute::Aes128Dec>(&KEY_A1, plain, encrypted));
+    assert!(rt; planes_encrypt_four::<Bits128>(&KEY_A1, plain, encrypted));
+    assert!(rt; permutations_encrypt_four::<sizes::Bits128>(&KEY_A1, plain, encrypted));
 }
 
 #[test]

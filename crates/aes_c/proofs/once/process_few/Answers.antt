@@ -19,5 +19,5 @@ returns g c =
     let used : round_keys_of g.D.LaneRounds.first_byte g.D.LaneRounds.inner_byte g.D.LaneRounds.last_byte
     c.keys_of.result.now ≡ g.D.LaneRounds.used_keys (fips.key_expansion c.args.key.now) = search rules in
     c.process_blocks.ensures
-    ∙ ap (λ v. map (all_rounds g.D.LaneRounds.step g.D.LaneRounds.last_step v) c.args.blocks.now) used
+    ∙ ap (λ v. map (all_rounds g.D.Direction.step g.D.Direction.last_step v) c.args.blocks.now) used
     ∙ map-same _ _ c.args.blocks.now (λ b. c.processes.ensures _ b (two_keys _))

@@ -9,14 +9,6 @@ use Rattle.aes_ctr.proofs.Runs.{added_run, added_all, first_run}
 use Rattle.aes_ctr.proofs.adding.add_blocks.Goals as goal
 use Rattle.aes_ctr.proofs.adding.add_blocks.Goals.{then-from-ne0, else-from-ne0}
 
--- a byte of the block that begins at a place
-from_its_start : (blocks : List (List ℕ)) (place j : ℕ) → place % 16 ≡ 0 → j < 16
-    → slice_index (slice_index_or blocks (place / 16) []) (0 + j) ≡ byte_of_blocks blocks (place + j)
-from_its_start blocks place j aligned inside =
-    let same : 0 + j ≡ place % 16 + j = omega (arith, aligned) in
-    ap (slice_index (slice_index_or blocks (place / 16) [])) same
-    ∙ byte_of_block blocks place j (omega (arith, aligned, inside))
-
 pub whole-init : goal.whole-init
 whole-init c =
     let blocks = c.args.blocks.now in
@@ -29,7 +21,7 @@ whole-init c =
         value = (λ i. added_from stream from (w.done-is i) (w.bytes-is i))
             ∙ first_run stream (slice_index (slice_index_or blocks (from / 16) [])) from (from % 16) w.min-done.result
             c.args.bytes.now w.add_part.new.bytes (omega (arith, w.min-done.ensures)) w.add_part.ensures
-            (λ j inside. byte_of_block blocks from j (omega (arith, inside, w.min-done.ensures)));
+            (λ j inside. byte_of_block blocks from _ j refl (omega (arith, inside, w.min-done.ensures)));
       }
       | else-from-ne0 w ↦
           let start : from + 0 ≡ from = omega arith in
@@ -53,7 +45,7 @@ whole-preserved c =
       value =
           added_run (byte_of_blocks blocks) (slice_index (slice_index_or blocks (place / 16) [])) c.args.from 0 done 16 _
           c.whole.bytes _ (omega arith) (omega arith) c.add_part-in-whole.ensures
-          (λ j inside. from_its_start blocks place j aligned inside)
+          (λ j inside. byte_of_block blocks place 0 j (omega (arith, aligned)) (omega (arith, inside)))
           ∙ c.whole.invariant.value;
     }
 
@@ -66,13 +58,11 @@ returns-then-done-bytes c =
     let n : ℕ = length bytes - done in
     let place : ℕ = c.args.from + done in
     let aligned : place % 16 ≡ 0 = c.whole.invariant.aligned (omega arith) in
-    let long : length (put_mid done n bytes c.add_part-then-done-bytes.new.bytes) ≡ length bytes =
-    same_len_mid done n bytes c.add_part-then-done-bytes.new.bytes c.add_part-then-done-bytes.auto.bytes in
-    added_all stream c.args.from (done + n) (put_mid done n bytes c.add_part-then-done-bytes.new.bytes)
-    c.args.bytes.now (omega (arith, long))
+    let long = same_len_mid done n bytes c.add_part-then-done-bytes.new.bytes c.add_part-then-done-bytes.auto.bytes in
+    added_all stream c.args.from (done + n) _ c.args.bytes.now (omega (arith, long))
     (added_run stream (slice_index (slice_index_or blocks (place / 16) [])) c.args.from 0 done n n bytes _ refl
     (omega arith) c.add_part-then-done-bytes.ensures
-    (λ j inside. from_its_start blocks place j aligned (omega arith))
+    (λ j inside. byte_of_block blocks place 0 j (omega (arith, aligned)) (omega arith))
     ∙ c.whole.invariant.value)
 
 pub returns-else-done-bytes : goal.returns-else-done-bytes

@@ -1,10 +1,9 @@
 -- What is left to show of `blocks::process_blocks`.
 use Rattle.std.proofs.Common.{◌≡◌, ℕ, ◌-◌, List, length, map, refl, ap, ◌∙◌, arith}
-use Rattle.aes_cipher.proofs.SliceRuns.{finished}
+use Rattle.aes_cipher.proofs.SliceRuns.{finished, end_finished}
 use Rattle.aes_planes.specs.Fips197.{key_expansion}
 use Rattle.aes_soft.proofs.Slices.{front_finished, none_finished}
 use Rattle.aes_hybrid.specs.Lanes.{lanes_key}
-use Rattle.aes_hybrid.proofs.Fronts.{end_finished}
 use Rattle.aes_hybrid.proofs.blocks.process_blocks.Goals as goal
 use Rattle.aes_hybrid.proofs.blocks.process_blocks.Goals.{then-whole-gt0, else-whole-gt0}
 

@@ -18,10 +18,10 @@ process_blocks-requires g c = record {
 pub returns : goal.returns
 returns g c =
     let key : List ℕ = lanes_key c.args.keys.now in
-    let same : (b : List ℕ) → all_rounds g.D.LaneRounds.step g.D.LaneRounds.last_step
+    let same : (b : List ℕ) → all_rounds g.D.Direction.step g.D.Direction.last_step
     (round_keys_of g.D.LaneRounds.first_byte g.D.LaneRounds.inner_byte g.D.LaneRounds.last_byte c.args.used.now) b
     ≡ g.D.Direction.processed (key_expansion key) b = λ b.
-    ap (λ v. all_rounds g.D.LaneRounds.step g.D.LaneRounds.last_step v b)
+    ap (λ v. all_rounds g.D.Direction.step g.D.Direction.last_step v b)
     (c.requires.used ∙ ap g.D.LaneRounds.used_keys c.requires.is_lanes.keyed.keys)
     ∙ c.processes.ensures (key_expansion key) b (two_keys key) in
     c.process_blocks.ensures ∙ (λ i. map (λ b. same b i) c.args.blocks.now)

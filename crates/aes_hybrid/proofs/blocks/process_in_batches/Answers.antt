@@ -1,10 +1,9 @@
 -- What is left to show of `blocks::process_in_batches`.
 use Rattle.std.proofs.Common.{◌≡◌, ℕ, ◌-◌, ◌%◌, List, ◌++◌, take, drop, length, map, sym, ap, ◌∙◌, arith}
-use Rattle.aes_cipher.proofs.SliceRuns.{finished}
+use Rattle.aes_cipher.proofs.SliceRuns.{finished, all_finished}
 use Rattle.aes_planes.specs.Fips197.{key_expansion}
 use Rattle.aes_planes.specs.Words.{word_bits}
 use Rattle.aes_soft.specs.Stored.{full, key_of, rounds_of, size_of}
-use Rattle.aes_soft.proofs.Slices.{all_finished}
 use Rattle.aes_hybrid.proofs.Fronts.{front_after}
 use Rattle.aes_hybrid.proofs.blocks.process_in_batches.Goals.{then-rest-gt0, else-rest-gt0}
 use Rattle.aes_hybrid.proofs.blocks.process_in_batches.Goals as goal

@@ -61,13 +61,9 @@ all_put c j lt =
     ]
 
 pub returns-clause-is_schedule : goal.returns-clause-is_schedule
-returns-clause-is_schedule c =
-    planes_keyed 8 (omega arith) (map (word_bits 128) c.put_block-2.new.words)
-    c.args.keys.now c.requires.is_lanes (length c.put_block-2.new.words)
+returns-clause-is_schedule c = planes_keyed 8 (omega arith) _ c.args.keys.now c.requires.is_lanes _
     (c.put_block-2.ensures.same_length ∙ c.keys.invariant.same_length) (all_put c)
 
 pub returns-clause-key : goal.returns-clause-key
-returns-clause-key c =
-    planes_key 8 (omega arith) (map (word_bits 128) c.put_block-2.new.words)
-    c.args.keys.now c.requires.is_lanes (length c.put_block-2.new.words)
+returns-clause-key c = planes_key 8 (omega arith) _ c.args.keys.now c.requires.is_lanes _
     (c.put_block-2.ensures.same_length ∙ c.keys.invariant.same_length) (all_put c)

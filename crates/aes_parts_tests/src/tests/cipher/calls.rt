@@ -109,7 +109,7 @@ fn encrypts_equal_lengths(from: usize, to: usize) -> bool
     is_right(answer, &output, from == to, to)
 }
 
-// The same of decryption.
+// Whether the lengths of input and output decide what decryption answers and writes.
 fn decrypts_equal_lengths(from: usize, to: usize) -> bool
     requires from { from ≤ 3 }
     requires to { to ≤ 3 }

@@ -107,7 +107,7 @@ fn mixes<W: Word>(blocks: [Block; 4]) -> [Block; 4] {
     ]
 }
 
-// What `mixes` made, undone.
+// Undoes `mixes`.
 fn mixes_back<W: Word>(blocks: [Block; 4]) -> [Block; 4] {
     let mut none = packed::<W>(blocks[0]);
     inv_mix_columns_0(&mut none);
@@ -170,7 +170,7 @@ fn straddled<W: Word>(left: &Block, right: &Block) -> Block {
     last_of(&straddle_columns(&in_every_slot::<W>(left), &in_every_slot::<W>(right)))
 }
 
-// What one bit of a round constant makes of the zero block.
+// The zero block with one bit of a round constant added.
 fn constant<W: Word>(bit: usize) -> Block
     requires { bit < 8 }
 {

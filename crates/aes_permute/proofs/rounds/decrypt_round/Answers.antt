@@ -9,9 +9,10 @@ pub returns : goal.returns
 returns c =
     let f = c.places_of-at.ensures.first in
     let s = c.places_of-at.ensures.second in
-    round_is c.args.x c.args.key _ _ _ _ _ _ _ c.requires.block c.requires.key.0
-    (through_lanes INV_1_FIRST INV_1_SECOND c.args.x _ _ _ f s c.looked_up-by_1.ensures)
-    (through_lanes INV_4_FIRST INV_4_SECOND c.args.x _ _ _ f s c.looked_up-by_4.ensures)
-    (through_lanes INV_9_FIRST INV_9_SECOND c.args.x _ _ _ f s c.looked_up-by_9.ensures)
-    (through_lanes INV_15_FIRST INV_15_SECOND c.args.x _ _ _ f s c.looked_up-by_15.ensures)
-    c.coefficients.ensures.by_14 c.coefficients.ensures.by_11 c.coefficients.ensures.by_13
+    round_is c.args.x c.args.key c.requires.block c.requires.key.0 (record {
+      is_1 = through_lanes INV_1_FIRST INV_1_SECOND _ f s c.looked_up-by_1.ensures;
+      is_4 = through_lanes INV_4_FIRST INV_4_SECOND _ f s c.looked_up-by_4.ensures;
+      is_9 = through_lanes INV_9_FIRST INV_9_SECOND _ f s c.looked_up-by_9.ensures;
+      is_15 = through_lanes INV_15_FIRST INV_15_SECOND _ f s c.looked_up-by_15.ensures;
+      is_14 = c.coefficients.ensures.by_14; is_11 = c.coefficients.ensures.by_11; is_13 = c.coefficients.ensures.by_13;
+    })

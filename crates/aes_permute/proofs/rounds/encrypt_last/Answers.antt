@@ -5,6 +5,6 @@ use Rattle.aes_permute.proofs.rounds.encrypt_last.Goals as goal
 
 pub returns : goal.returns
 returns c =
-    last_is c.args.x c.args.key c.looked_up-one.result c.requires.block c.requires.key.0
-    (through_lanes SBOX_FIRST SBOX_SECOND c.args.x _ _ _ c.places_of.ensures.first c.places_of.ensures.second
+    last_is c.args.x c.args.key c.requires.block c.requires.key.0
+    (through_lanes SBOX_FIRST SBOX_SECOND _ c.places_of.ensures.first c.places_of.ensures.second
     c.looked_up-one.ensures)

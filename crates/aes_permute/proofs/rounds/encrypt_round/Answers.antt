@@ -5,10 +5,8 @@ use Rattle.aes_permute.proofs.rounds.encrypt_round.Goals as goal
 
 pub returns : goal.returns
 returns c =
-    round_is c.args.x c.args.key c.looked_up-one.result c.looked_up-two.result c.sum-three.result c.requires.block
-    c.requires.key.0
-    (through_lanes ONE_FIRST ONE_SECOND c.args.x _ _ _ c.places_of-at.ensures.first c.places_of-at.ensures.second
-    c.looked_up-one.ensures)
-    (through_lanes TWO_FIRST TWO_SECOND c.args.x _ _ _ c.places_of-at.ensures.first c.places_of-at.ensures.second
-    c.looked_up-two.ensures)
-    c.sum-three.ensures
+    let f = c.places_of-at.ensures.first in
+    let s = c.places_of-at.ensures.second in
+    round_is c.args.x c.args.key c.requires.block c.requires.key.0
+    (through_lanes ONE_FIRST ONE_SECOND _ f s c.looked_up-one.ensures)
+    (through_lanes TWO_FIRST TWO_SECOND _ f s c.looked_up-two.ensures) c.sum-pairs.ensures

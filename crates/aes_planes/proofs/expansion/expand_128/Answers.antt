@@ -20,12 +20,12 @@ expand-preserved g c =
     let i = c.expand.i in
     let inv = c.expand.invariant in
     let s = form g.F.KeyForm.AreWords c.args.key.now 4 (omega arith) c.requires.sized in
+    let before = c.again-before.ensures _ (inv.done i (omega arith)) inv.last_four in
     let words = rotated s _ i (4 * i) (4 * i) (4 * (i + 1))
-    (c.rotated-words.ensures.words _ _ (c.again-before.ensures _ (inv.done i (omega arith)) inv.last_four) inv.last_four) (omega arith) (omega arith) (omega arith)
-    (omega arith) in
+    (c.rotated-words.ensures.words _ _ before inv.last_four) (omega arith) (omega arith) (omega arith) (omega arith) in
     record {
-      done = more s (i + 1 + 1) inv.done (omega arith) c.put-in-expand.ensures.others (c.put-in-expand.ensures.put _ words) refl
-          (omega arith);
+      done = more s (i + 1 + 1) inv.done (omega arith) c.put-in-expand.ensures.others
+          (c.put-in-expand.ensures.put _ words) refl (omega arith);
       last_four = words;
       layers = counted _ _ _ i _ inv.layers c.rotated-words.ensures.layers;
       same_length = c.put-in-expand.ensures.same_length ∙ inv.same_length;

@@ -29,13 +29,13 @@ expand-preserved g c =
     (c.straddled-middle.ensures _ _ inv.last_four front1) (omega arith) (omega arith) in
     let front = rotated s _ (2 * i + 1) (12 * i + 6) (12 * i + 8) (12 * (i + 1))
     (c.rotated-front.ensures.words _ _ front1 back1) (omega arith) (omega arith) (omega arith) (omega arith) in
-    let one_more = more s (3 * i + 2) inv.done (omega arith) c.put-in-expand.ensures.others (c.put-in-expand.ensures.put _ middle)
-    (omega arith) (omega arith) in
+    let one_more = more s (3 * i + 2) inv.done (omega arith) c.put-in-expand.ensures.others
+    (c.put-in-expand.ensures.put _ middle) (omega arith) (omega arith) in
     let two_more = more s (3 * i + 3) one_more (omega arith) c.put-in-expand-2.ensures.others
     (c.put-in-expand-2.ensures.put _ back1) (omega arith) (omega arith) in
     record {
-      done = more s (3 * (i + 1) + 1) two_more (omega arith) c.put-in-expand-3.ensures.others (c.put-in-expand-3.ensures.put _ front)
-          (omega arith) (omega arith);
+      done = more s (3 * (i + 1) + 1) two_more (omega arith) c.put-in-expand-3.ensures.others
+          (c.put-in-expand-3.ensures.put _ front) (omega arith) (omega arith);
       first_four = front;
       last_four = plain s _ (2 * i + 1) (12 * i + 8) (12 * (i + 1)) (12 * (i + 1) + 2)
           (c.plain-back.ensures _ _ back1 front) refl (omega arith) (omega arith) (omega arith);

@@ -1,6 +1,7 @@
 -- What is left to show of `expansion::expand_256`.
 use Rattle.std.proofs.Common.{◌≡◌, ◌+◌, ◌*◌, refl, ◌∙◌, subst, arith}
-use Rattle.aes_planes.proofs.KeySchedule.Forms.{AreStored, form, loaded, none, stored_at, more, counted_two, all, rotated, substituted}
+use Rattle.aes_planes.proofs.KeySchedule.Forms.{AreStored, form, loaded, none, stored_at, more, counted_two, all}
+use Rattle.aes_planes.proofs.KeySchedule.Forms.{rotated, substituted}
 use Rattle.aes_planes.proofs.KeySchedule.ExpandedBlocks.{block_at}
 use Rattle.aes_planes.proofs.expansion.expand_256.Goals as goal
 
@@ -36,8 +37,8 @@ expand-preserved g c =
     let odd = substituted s _ i (8 * i + 4) (8 * (i + 1)) (8 * (i + 1) + 4)
     (c.substituted-odd.ensures.words _ _ odd_before even) refl (omega arith) (omega arith) refl in
     record {
-      done = more s (2 * (i + 1) + 2) one_more (omega arith) c.put-in-expand-2.ensures.others (c.put-in-expand-2.ensures.put _ odd)
-          (omega arith) (omega arith);
+      done = more s (2 * (i + 1) + 2) one_more (omega arith) c.put-in-expand-2.ensures.others
+          (c.put-in-expand-2.ensures.put _ odd) (omega arith) (omega arith);
       first_four = even;
       last_four = odd;
       layers = counted_two _ _ _ _ i _ inv.layers c.rotated-even.ensures.layers c.substituted-odd.ensures.layers;

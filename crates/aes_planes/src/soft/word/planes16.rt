@@ -99,7 +99,7 @@ fn rotated(x: u16x8, n: u32) -> u16x8
     x >> u16x8::splat(n as u16) | x << u16x8::splat((16 - n) as u16)
 }
 
-// The bits of each lane so many rows and columns on.
+// Each lane turned by `rows` rows and `cols` columns: the bit of a place comes from that many rows and columns on.
 #[inline(always)]
 pub(super) fn turned(x: u16x8, rows: u32, cols: u32) -> u16x8
     requires some_rows { 1 ≤ rows }

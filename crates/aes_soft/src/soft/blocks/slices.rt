@@ -12,7 +12,7 @@ use aes_planes::soft::sbox::Layers;
 use aes_planes::soft::word::{Batch, Block, Word};
 use std::slice;
 
-// The blocks of a slice as a batch.
+// Copies the blocks of a slice to a batch.
 #[inline(always)]
 pub(crate) fn batch_of<B: Batch>(blocks: &[Block]) -> B
     requires one_batch { length blocks.now ≡ B.LEN }
@@ -25,7 +25,7 @@ pub(crate) fn batch_of<B: Batch>(blocks: &[Block]) -> B
     batch
 }
 
-// Leaves the blocks of a batch in a slice.
+// Copies the blocks of a batch to a slice.
 #[inline(always)]
 pub(crate) fn put_batch<B: Batch>(batch: &B, blocks: &mut [Block])
     requires sized { length (B.blocks batch.now) ≡ B.LEN }

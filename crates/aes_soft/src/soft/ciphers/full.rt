@@ -115,7 +115,7 @@ pub(crate) fn process_full<W: Word, D: FullCipher>(
     W::inv_bitslice(&state)
 }
 
-// The same as a call of its own, which is quicker for a single block.
+// The same in a call that is not inlined, which is quicker for a single block.
 pub(crate) fn process_full_apart<W: Word, D: FullCipher>(
     round_keys: &[W],
     rounds: usize,

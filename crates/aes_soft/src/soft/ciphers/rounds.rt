@@ -29,12 +29,12 @@ pub(super) trait Deferred {
     // The number.
     ghost DEFERRED: { ℕ };
 
-    // Mixes the columns of every block between so many shifts of its rows and as many back.
+    // Applies MixColumns to every block, between the deferred ShiftRows and as many InvShiftRows.
     fn mix<W: Word>(state: &mut [W; 8])
         ensures { held W.BLOCKS (map W.bits state.new) ≡ map (between_shifts DEFERRED fips.mix_columns)
             (held W.BLOCKS (map W.bits state.old)) };
 
-    // Undoes the mixing of the columns of every block between so many shifts of its rows and as many back.
+    // Applies InvMixColumns to every block, between the deferred ShiftRows and as many InvShiftRows.
     fn unmix<W: Word>(state: &mut [W; 8])
         ensures { held W.BLOCKS (map W.bits state.new) ≡ map (between_shifts DEFERRED fips.inv_mix_columns)
             (held W.BLOCKS (map W.bits state.old)) };

@@ -47,11 +47,21 @@ fn step_each<W: Word, S: Step>(blocks: &mut [Block])
     let size = W::Blocks::LEN;
     let mut done = 0;
     while done < blocks.len() {
-        let batch = batch_of::<W::Blocks>(&blocks[done..done + size]);
-        let stepped = steps_of::<W, S>(&batch);
-        put_batch(&stepped, &mut blocks[done..done + size]);
+        step_batch::<W, S>(&mut blocks[done..done + size]);
         done += size;
     }
+}
+
+// A step of each block of one batch, in its place.
+#[tactic(auto, using(crate::proofs::Slots::batch_processed))]
+#[inline(always)]
+fn step_batch<W: Word, S: Step>(blocks: &mut [Block])
+    requires one_batch { length blocks.old ≡ W.Blocks.LEN }
+    ensures { Each S.of_block blocks.old blocks.new }
+{
+    let batch = batch_of::<W::Blocks>(blocks);
+    let stepped = steps_of::<W, S>(&batch);
+    put_batch(&stepped, blocks);
 }
 
 // A step of each block of a batch.

@@ -11,10 +11,10 @@ use aes_planes::soft::word::Word;
 
 // A step of the standard, on every block that planes hold.
 pub(super) trait Step {
-    // What the step makes of a block.
+    // The step, as a function of a block.
     ghost of_block: { List ℕ → List ℕ };
 
-    // Leaves the step of each block.
+    // Applies the step to each block.
     fn on_planes<W: Word>(state: &mut [W; 8])
         ensures { held W.BLOCKS (map W.bits state.new) ≡ map of_block (held W.BLOCKS (map W.bits state.old)) };
 }

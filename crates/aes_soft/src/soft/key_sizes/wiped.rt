@@ -4,6 +4,9 @@ ghost use Rattle.std.specs.Prelude.{◌≡◌, replicate};
 use aes_cipher::zeroize::Wiped;
 
 /// Words that are wiped when they are dropped. Contracts see the words.
+///
+/// This is `Wiped` over an array of any length, so that each size of keys can name its own. It lends the array, whose
+/// length tells the size of the key. `Stored` of `aes_permute` is the like for blocks, and lends a slice.
 pub trait WipedKeys: Drop {
     /// The words as an array.
     type Words;

@@ -1,7 +1,7 @@
 //! Round keys of the full layout as arrays of words, on words of either width.
 ghost use Rattle.std.specs.Prelude.{◌≡◌, ℕ, ◌%◌, ◌≤◌, List, length, map};
 ghost use Rattle.aes_planes.specs.Words.{word_bits};
-ghost use Rattle.aes_soft.specs.Stored.{full, key_of, rounds_of, size_of, IsKeyed, IsStored};
+ghost use Rattle.aes_soft.specs.Stored.{full, key_of, rounds_of, size_of, IsKeyed, IsFullSchedule};
 
 use super::BatchWord;
 use aes_planes::soft::word::Word;
@@ -36,7 +36,7 @@ impl<const N: usize> RoundKeyWords<u16> for [u16; N] {
     ghost key = { λ words.
         key_of (size_of N) ⟦<u16 as Word>⟧.BLOCKS (full (rounds_of N)) (map ⟦<u16 as Word>⟧.bits words) };
 
-    ghost AreKeyed = { λ words. IsStored N ⟦<u16 as Word>⟧.BLOCKS (map ⟦<u16 as Word>⟧.bits words) };
+    ghost AreKeyed = { λ words. IsFullSchedule N ⟦<u16 as Word>⟧.BLOCKS (map ⟦<u16 as Word>⟧.bits words) };
 
     ghost ROUNDS = { rounds_of N };
 
@@ -50,7 +50,7 @@ impl<const N: usize> RoundKeyWords<BatchWord> for [BatchWord; N] {
     ghost key = { λ words.
         key_of (size_of N) ⟦<BatchWord as Word>⟧.BLOCKS (full (rounds_of N)) (map ⟦<BatchWord as Word>⟧.bits words) };
 
-    ghost AreKeyed = { λ words. IsStored N ⟦<BatchWord as Word>⟧.BLOCKS (map ⟦<BatchWord as Word>⟧.bits words) };
+    ghost AreKeyed = { λ words. IsFullSchedule N ⟦<BatchWord as Word>⟧.BLOCKS (map ⟦<BatchWord as Word>⟧.bits words) };
 
     ghost ROUNDS = { rounds_of N };
 

@@ -23,7 +23,7 @@ pub(super) struct TwoKeys {
     pub last: Block,
 }
 
-// Leaves the last round of Cipher, which does not mix columns (FIPS 197, 5.1).
+// Applies the last round of Cipher, which does not mix columns (FIPS 197, 5.1).
 fn last_round(block: &mut Block, round_key: &Block)
     ensures { block.new ≡ fips.add_round_key (fips.shift_rows (fips.sub_bytes block.old)) round_key.now }
 {
@@ -32,7 +32,7 @@ fn last_round(block: &mut Block, round_key: &Block)
     *block = sum_of_blocks(block, round_key);
 }
 
-// Leaves Cipher of the block under the two round keys (FIPS 197, 5.1).
+// Encrypts the block under the two round keys (Cipher, FIPS 197, 5.1).
 #[tactic(auto, unfolding(aes_planes::specs::Fips197::cipher_with, aes_planes::specs::Fips197::state_after))]
 fn encrypt_one(cipher: &TwoKeys, block: &mut Block)
     ensures { block.new ≡ fips.cipher_with (cipher.now.first ∷ cipher.now.last ∷ []) block.old }
@@ -41,7 +41,7 @@ fn encrypt_one(cipher: &TwoKeys, block: &mut Block)
     last_round(block, &cipher.last);
 }
 
-// Leaves Cipher of each block under the two round keys (FIPS 197, 5.1).
+// Encrypts each block under the two round keys (Cipher, FIPS 197, 5.1).
 #[tactic(auto, using(aes_cipher::proofs::SliceRuns::finished_one))]
 fn encrypt_each(cipher: &TwoKeys, blocks: &mut [Block])
     ensures { Each (fips.cipher_with (cipher.now.first ∷ cipher.now.last ∷ [])) blocks.old blocks.new }

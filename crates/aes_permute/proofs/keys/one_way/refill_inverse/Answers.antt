@@ -5,7 +5,7 @@ use Rattle.aes_planes.specs.Planes.{plus63}
 use Rattle.aes_permute.specs.Keys.{first_two}
 use Rattle.aes_permute.specs.Stored.{as_is, key_untower}
 use Rattle.aes_permute.proofs.DirectionLaws.{same_forward, key_backward}
-use Rattle.aes_permute.proofs.KeyBytes.{is_keyed, two_stored}
+use Rattle.aes_permute.proofs.KeyBytes.{read_as, is_lane_schedule, two_stored}
 use Rattle.aes_permute.proofs.keys.one_way.refill_inverse.Goals as goal
 
 pub invert-requires : goal.invert-requires
@@ -13,10 +13,9 @@ invert-requires g c = two_stored as_is key_untower plus63 (λ w. w) same_forward
 
 pub returns-clause-keyed : goal.returns-clause-keyed
 returns-clause-keyed g c =
-    (is_keyed inverted_keys first_two g.K.Key.KeyBytes.SIZE _ _ g.met.K.KeySize.is_size c.requires.keyed.sized
-    c.requires.keyed.bytes key_backward (c.invert.ensures ∙ ap inverted_keys c.requires.keyed.keys)).1
+    is_lane_schedule _ _ _ _ _ g.met.K.KeySize.is_size c.requires.keyed.sized c.requires.keyed.bytes key_backward
+    (c.invert.ensures ∙ ap inverted_keys c.requires.keyed.keys)
 
 pub returns-clause-same : goal.returns-clause-same
-returns-clause-same g c =
-    (is_keyed inverted_keys first_two g.K.Key.KeyBytes.SIZE _ _ g.met.K.KeySize.is_size c.requires.keyed.sized
-    c.requires.keyed.bytes key_backward (c.invert.ensures ∙ ap inverted_keys c.requires.keyed.keys)).0
+returns-clause-same g c = read_as inverted_keys first_two _ _ _ g.met.K.KeySize.is_size c.requires.keyed.sized
+    c.requires.keyed.bytes key_backward (c.invert.ensures ∙ ap inverted_keys c.requires.keyed.keys)

@@ -15,19 +15,19 @@ loop-number-preserved g c =
     let w = c.args.round_keys.now in
     let n = c.loop-number.number in
     let blocks = g.S.States.blocks c.args.states.now in
-    let round : List ℕ → List ℕ = λ b. fips.add_round_key (g.D.SingleRounds.step b) (fips.round_key w n) in
+    let round : List ℕ → List ℕ = λ b. fips.add_round_key (g.D.Direction.step b) (fips.round_key w n) in
     let e : n ≡ n + 1 - 1 = omega arith in
     c.round.ensures ∙ ap (map round) c.loop-number.invariant
-    ∙ map-map round (λ b. rounds_after g.D.SingleRounds.step w b (n - 1)) blocks
-    ∙ map-same _ _ blocks (λ b. rounds_more g.D.SingleRounds.step w b n (omega arith)
-    ∙ ap (rounds_after g.D.SingleRounds.step w b) e)
+    ∙ map-map round (λ b. rounds_after g.D.Direction.step w b (n - 1)) blocks
+    ∙ map-same _ _ blocks (λ b. rounds_more g.D.Direction.step w b n (omega arith)
+    ∙ ap (rounds_after g.D.Direction.step w b) e)
 
 pub returns : goal.returns
 unfolding all_rounds
 returns g c =
     let w = c.args.round_keys.now in
-    let last = g.D.SingleRounds.last_step in
-    let after : ℕ → List ℕ → List ℕ = λ n b. rounds_after g.D.SingleRounds.step w b n in
+    let last = g.D.Direction.last_step in
+    let after : ℕ → List ℕ → List ℕ = λ n b. rounds_after g.D.Direction.step w b n in
     let add : List ℕ → List ℕ = λ b. fips.add_round_key b (fips.round_key w (fips.last_round w)) in
     let blocks = g.S.States.blocks c.args.states.now in
     let e : c.loop-number.number ≡ fips.last_round w = omega arith in

@@ -8,5 +8,5 @@ use Rattle.aes_permute.proofs.keys.one_way.OneWayProcesses.process_blocks.Goals 
 pub returns : goal.returns
 returns g c =
     c.process_blocks.ensures
-    ∙ ap (λ v. map (all_rounds g.D.LaneRounds.step g.D.LaneRounds.last_step v) c.args.blocks.now) c.lend.ensures.keys
+    ∙ ap (λ v. map (all_rounds g.D.Direction.step g.D.Direction.last_step v) c.args.blocks.now) c.lend.ensures.keys
     ∙ map-same _ _ c.args.blocks.now (λ b. c.processes.ensures _ b (two_keys _))

@@ -1,11 +1,9 @@
 -- What is left to show of `soft::utils::key_columns::add_round_constant_bit`.
-use Rattle.aes_planes.proofs.KeySchedule.RoundConstantBit.{constant_held}
+use Rattle.aes_planes.proofs.KeySchedule.RoundConstantBit.{constant_bit_held}
 use Rattle.aes_planes.proofs.soft.utils.key_columns.add_round_constant_bit.Goals as goal
 
 pub returns : goal.returns
 returns g c =
-    let laws = g.met.W.Word.shape in
-    constant_held g.W.Word.bits g.W.Word.BLOCKS g.W.Word.BITS g.W.Word.ROW_BITS g.W.Word.QUARTER_ROW c.args.bit
-    c.args.state.now c.bit_xor-flipped.result c.index-state-bit.result (g.W.Word.bits c.pack_rows-mask.result)
-    c.requires.below_8 c.told-state laws.four laws.one laws.sixteen c.bit_xor-flipped.ensures
+    constant_bit_held g.met.W.Word.shape c.args.bit c.args.state.now c.bit_xor-flipped.result c.index-state-bit.result
+    (g.W.Word.bits c.pack_rows-mask.result) c.requires.below_8 c.told-state c.bit_xor-flipped.ensures
     c.pack_rows-mask.ensures

@@ -16,8 +16,7 @@ returns-then-cols-eq0 g c = λ r q k h l kn.
     let p = place n r q k in
     let low : p < B = omega (arith, laws.sixteen, place_lt n r q k h l kn) in
     c.ror-turned.ensures p low ∙ (λ t. at x ((p + c.ror_distance.ensures t) % B))
-    ∙ ap (at x) (turned_place n B _ _ r q k c.args.rows 0 laws.four laws.one laws.sixteen h
-    (omega arith) kn c.requires.four_rows)
+    ∙ ap (at x) (turned_place laws r q k c.args.rows 0 h (omega arith) kn c.requires.four_rows)
     ∙ ap (λ v. at x (place n ((r + c.args.rows) % 4) ((q + v) % 4) k)) (sym c.if-cols-eq0.true)
 
 pub returns : goal.returns
@@ -40,8 +39,8 @@ returns g c = λ r q k h l kn.
     )
     (masked_turn _ _ _ _ (q + cols) (stay_bit cols q c.requires.four_columns l)
     (λ lt. c.ror-ahead.ensures p low ∙ (λ t. at x ((p + c.ror_distance-2.ensures t) % B))
-    ∙ ap (at x) (turned_place n B _ _ r q k rows cols laws.four laws.one laws.sixteen h lt kn c.requires.four_rows))
+    ∙ ap (at x) (turned_place laws r q k rows cols h lt kn c.requires.four_rows))
     (λ le. c.ror-wrapped.ensures p low ∙ (λ t. at x ((p + c.ror_distance-3.ensures t) % B))
-    ∙ ap (at x) (wrapped_place n B _ _ r q k rows cols laws.four laws.one laws.sixteen h l le kn c.requires.some_rows
-    c.requires.four_rows c.requires.four_columns))
+    ∙ ap (at x) (wrapped_place laws r q k rows cols h l le kn c.requires.some_rows c.requires.four_rows
+    c.requires.four_columns))
     (cases_lt (q + cols) 4))

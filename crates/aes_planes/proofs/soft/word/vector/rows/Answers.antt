@@ -4,6 +4,5 @@ use Rattle.aes_planes.proofs.soft.word.vector.rows.Goals as goal
 
 pub returns : goal.returns
 returns c = let q = c.requires in
-    pack_places c.args.r0 c.args.r1 c.args.r2 c.args.r3 _ _ _ _ c.row_bytes.ensures c.row_bytes-2.ensures
-    c.row_bytes-3.ensures
-    c.row_bytes-4.ensures q.nibble0 q.nibble1 q.nibble2 q.nibble3
+    rw (c.row_bytes.ensures, c.row_bytes-2.ensures, c.row_bytes-3.ensures, c.row_bytes-4.ensures)
+    (pack_places _ _ _ _ q.nibble0 q.nibble1 q.nibble2 q.nibble3)

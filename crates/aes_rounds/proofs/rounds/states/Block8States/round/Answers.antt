@@ -5,5 +5,5 @@ use Rattle.aes_planes.proofs.Planes.Held.{zip_with-replicate}
 use Rattle.aes_rounds.proofs.rounds.states.Block8States.round.Goals as goal
 
 pub returns : goal.returns
-returns g c = c.round_par.ensures ∙ zip_with-replicate (λ b k. fips.add_round_key (g.D.SingleRounds.step b) k)
+returns g c = c.round_par.ensures ∙ zip_with-replicate (λ b k. fips.add_round_key (g.D.Direction.step b) k)
     c.args.self.now 8 c.args.round_key.now c.told-self

@@ -1,9 +1,8 @@
 -- What is left to show of `soft::blocks::slices::process_blocks`.
-use Rattle.std.proofs.Common.{◌≡◌, ◌≤◌, ℕ, ◌-◌, ◌%◌, List, length, map, take, ◌+◌, sym, ap, ◌∙◌, arith}
-use borrow.Rule.Slice.PartMut.{put_mid}
-use Rattle.aes_cipher.proofs.SliceRuns.{finished, finished_run}
+use Rattle.std.proofs.Common.{◌≡◌, ℕ, ◌-◌, ◌%◌, List, length, map, take, refl, ap, ◌∙◌, arith}
+use Rattle.aes_cipher.proofs.SliceRuns.{finished, end_finished}
 use Rattle.aes_planes.specs.Fips197.{key_expansion}
-use Rattle.aes_soft.proofs.Slices.{all_finished, front_finished, none_finished}
+use Rattle.aes_soft.proofs.Slices.{front_finished, none_finished}
 use Rattle.aes_soft.proofs.soft.blocks.slices.process_blocks.Goals as goal
 use Rattle.aes_soft.proofs.soft.blocks.slices.process_blocks.Goals.{then-whole-gt0, else-whole-gt0}
 
@@ -21,9 +20,4 @@ returns-clause-blocks g c =
           ∙ ap (λ k. map (g.D.Direction.processed (key_expansion k)) (take whole c.args.blocks.now)) key)
       | else-whole-gt0 w ↦ ap (finished f whole) w.blocks-is ∙ none_finished f whole c.args.blocks.now (omega arith)
     ] in
-    let both : n ≡ whole + (n - whole) = omega arith in
-    let after : List (List ℕ) = put_mid whole (length c.if-whole-gt0.blocks - whole) c.if-whole-gt0.blocks
-    c.process_batches-2.new.blocks in
-    let long : length after ≤ n = omega arith in
-    sym (all_finished f n after long) ∙ ap (λ k. finished f k after) both ∙ finished_run f whole (n - whole) _
-    c.if-whole-gt0.blocks _ (omega arith) (omega arith) c.process_batches-2.ensures.blocks ∙ batches
+    end_finished f whole _ _ _ (omega arith) refl c.process_batches-2.ensures.blocks ∙ batches

@@ -16,23 +16,14 @@ widen-preserved g c =
     }
 
 pub returns-clause-schedule : goal.returns-clause-schedule
-returns-clause-schedule g c =
-    let w = g.W.Word in
-    let m = g.met.W.Word.shape in
-    let held = c.requires.is_stored in
-    record {
-      one_of_three = held.one_of_three;
-      keyed = widened w.bits w.BITS w.ROW_BITS w.QUARTER_ROW c.args.round_keys.now w.BLOCKS m.some_block m.sixteen
-          m.four m.one c.widen.wide c.widen.invariant.same_length
-          (λ i d lt. c.widen.invariant.spread i d (omega (arith, c.told-round_keys))) (size_of g.row.N)
-          (full (rounds_of g.row.N)) held.keyed;
-    }
+returns-clause-schedule g c = record {
+  one_of_three = c.requires.is_stored.one_of_three;
+  keyed = widened _ _ _ _ _ _ _ _ _ g.met.W.Word.shape c.widen.wide c.widen.invariant.same_length
+      (λ i d lt. c.widen.invariant.spread i d (omega (arith, c.told-round_keys))) (size_of g.row.N)
+      (full (rounds_of g.row.N)) c.requires.is_stored.keyed;
+}
 
 pub returns-clause-key : goal.returns-clause-key
-returns-clause-key g c =
-    let w = g.W.Word in
-    let m = g.met.W.Word.shape in
-    same_key w.bits w.BITS w.ROW_BITS w.QUARTER_ROW c.args.round_keys.now w.BLOCKS m.some_block m.sixteen m.four m.one
-    c.widen.wide c.widen.invariant.same_length
+returns-clause-key g c = same_key _ _ _ _ _ _ _ _ _ g.met.W.Word.shape c.widen.wide c.widen.invariant.same_length
     (λ i d lt. c.widen.invariant.spread i d (omega (arith, c.told-round_keys))) (size_of g.row.N)
     (full (rounds_of g.row.N))

@@ -1,7 +1,7 @@
 -- What is left to show of `counter_mode::tests::two_keys::last_round`.
 use Rattle.std.proofs.Common.{◌∙◌, ap}
 use Rattle.aes_planes.specs.Fips197 as fips
-use Rattle.aes_rounds.proofs.SingleRounds.{mixing_undone}
+use Rattle.aes.proofs.SingleRounds.{mixing_undone}
 use Rattle.aes_tests.proofs.counter_mode.tests.two_keys.last_round.Goals as goal
 
 pub returns : goal.returns
@@ -9,4 +9,4 @@ returns c =
     c.sum_of_blocks.ensures
     ∙ ap (λ s. fips.add_round_key s c.args.round_key.now)
     (c.inv_mix_columns.ensures ∙ ap fips.inv_mix_columns c.cipher_round.ensures
-    ∙ mixing_undone c.args.block.now c.fits-block)
+    ∙ mixing_undone c.args.block.now)

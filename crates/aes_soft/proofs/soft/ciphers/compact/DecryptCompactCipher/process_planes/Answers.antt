@@ -30,9 +30,8 @@ turns-preserved g c =
     let run = call g (goal.at.turns-preserved g c).After-add_key in
     record {
       blocks =
-          inv_round run 1 _ _ (m + 1) (2 * (c.turns.turn + 1)) (odd - 1) (omega arith) (omega arith) (omega arith)
-          (omega arith)
-          (inv_round run 2 _ _ m (m + 1) odd (omega arith) (omega arith) (omega arith) (omega arith)
+          inv_round run 1 _ _ (m + 1) (2 * (c.turns.turn + 1)) (odd - 1) (omega arith)
+          (inv_round run 2 _ _ m (m + 1) odd (omega arith)
           (inv_shifted run _ _ m c.turns.invariant.blocks c.inv_shift_rows_2.ensures) c.inv_round.ensures.blocks)
           c.inv_round-in-turns.ensures.blocks;
       layers = omega arith;
@@ -44,6 +43,6 @@ returns-clause-blocks g c =
     let m = 2 * c.turns.turn in
     let run = call g (goal.at.returns-clause-blocks g c).After-add_key in
     inv_ended run _ _ (m + 1) (omega arith)
-    (inv_round run 2 _ _ m (m + 1) 1 (omega arith) (omega arith) (omega arith) refl
+    (inv_round run 2 _ _ m (m + 1) 1 (omega arith)
     (inv_shifted run _ _ m c.turns.invariant.blocks c.inv_shift_rows_2-2.ensures) c.inv_round-2.ensures.blocks)
     c.add_key-2.ensures

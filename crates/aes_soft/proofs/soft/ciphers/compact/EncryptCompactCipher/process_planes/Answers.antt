@@ -27,10 +27,9 @@ turns-preserved g c =
     let run = call g (goal.at.turns-preserved g c).After-add_key in
     record {
       blocks =
-          round run 0 _ _ (m + 1) (2 * (c.turns.turn + 1)) (m + 2) (omega arith) (omega arith) (omega arith)
-          (omega arith)
+          round run 0 _ _ (m + 1) (2 * (c.turns.turn + 1)) (m + 2) (omega arith)
           (shifted run _ _ (m + 1)
-          (round run 1 _ _ m (m + 1) (m + 1) (omega arith) refl (omega arith) (omega arith)
+          (round run 1 _ _ m (m + 1) (m + 1) (omega arith)
           c.turns.invariant.blocks c.round.ensures.blocks)
           c.shift_rows_2.ensures) c.round-in-turns.ensures.blocks;
       layers = omega arith;
@@ -42,6 +41,6 @@ returns-clause-blocks g c =
     let run = call g (goal.at.returns-clause-blocks g c).After-add_key in
     let m = c.args.rounds - 1 in
     ended run _ _ _ (shifted run _ _ m
-    (round run 1 _ _ (2 * c.turns.turn) m m (omega arith) refl (omega arith) (omega arith)
+    (round run 1 _ _ (2 * c.turns.turn) m m (omega arith)
     c.turns.invariant.blocks c.round-2.ensures.blocks)
     c.shift_rows_2-2.ensures) c.sub_bytes.ensures.blocks c.add_key-2.ensures

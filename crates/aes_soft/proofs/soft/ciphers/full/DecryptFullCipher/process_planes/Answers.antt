@@ -27,9 +27,8 @@ turns-init g c =
       | then-rounds-eq0 t ↦
           let whole = t.if-rounds-eq0.true in
           ap (λ v. held g.W.Word.BLOCKS (map g.W.Word.bits v)) t.planes-is
-          ∙ inv_round run 3 _ _ 1 m (rounds - 2) (omega (arith, whole)) (omega arith) (omega (arith, whole))
-          (omega (arith, whole))
-          (inv_round run 0 _ _ 0 1 (rounds - 1) refl (omega arith) (omega arith) (omega (arith, whole))
+          ∙ inv_round run 3 _ _ 1 m (rounds - 2) (omega (arith, whole))
+          (inv_round run 0 _ _ 0 1 (rounds - 1) (omega (arith, whole))
           start t.inv_round.ensures.blocks) t.inv_round-then-rounds-eq0.ensures.blocks
       | else-rounds-eq0 t ↦
           let none : 0 ≡ m = omega (arith, t.if-rounds-eq0.false) in
@@ -39,8 +38,8 @@ turns-init g c =
     ] in
     record {
       blocks =
-          inv_round run 2 _ _ m (rounds - 1 - 4 * (fours - 0)) (4 * fours + 1) (omega arith) (omega arith) (omega arith)
-          (omega arith) two c.inv_round-2.ensures.blocks;
+          inv_round run 2 _ _ m (rounds - 1 - 4 * (fours - 0)) (4 * fours + 1) (omega arith) two
+          c.inv_round-2.ensures.blocks;
       layers = elim c.if-rounds-eq0.branch [
         | then-rounds-eq0 t ↦ omega arith
         | else-rounds-eq0 t ↦ omega arith
@@ -57,10 +56,9 @@ turns-preserved g c =
     record {
       blocks =
           inv_round run 2 _ _ (m + 3) (c.args.rounds - 1 - 4 * (fours - (c.turns.turn + 1))) (i - 3) (omega arith)
-          (omega arith) (omega arith) (omega arith)
-          (inv_round run 3 _ _ (m + 2) (m + 3) (i - 2) (omega arith) (omega arith) (omega arith) (omega arith)
-          (inv_round run 0 _ _ (m + 1) (m + 2) (i - 1) (omega arith) (omega arith) (omega arith) (omega arith)
-          (inv_round run 1 _ _ m (m + 1) i (omega arith) (omega arith) (omega arith) (omega arith)
+          (inv_round run 3 _ _ (m + 2) (m + 3) (i - 2) (omega arith)
+          (inv_round run 0 _ _ (m + 1) (m + 2) (i - 1) (omega arith)
+          (inv_round run 1 _ _ m (m + 1) i (omega arith)
           c.turns.invariant.blocks c.inv_round-in-turns.ensures.blocks)
           c.inv_round-in-turns-2.ensures.blocks) c.inv_round-in-turns-3.ensures.blocks)
           c.inv_round-in-turns-4.ensures.blocks;

@@ -28,11 +28,10 @@ turns-preserved g c =
     let run = call g (goal.at.turns-preserved g c).After-add_key in
     record {
       blocks =
-          round run 0 _ _ (m + 3) (4 * (c.turns.turn + 1)) (m + 4) (omega arith) (omega arith) (omega arith)
-          (omega arith)
-          (round run 3 _ _ (m + 2) (m + 3) (m + 3) (omega arith) refl (omega arith) (omega arith)
-          (round run 2 _ _ (m + 1) (m + 2) (m + 2) (omega arith) refl (omega arith) (omega arith)
-          (round run 1 _ _ m (m + 1) (m + 1) (omega arith) refl (omega arith) (omega arith)
+          round run 0 _ _ (m + 3) (4 * (c.turns.turn + 1)) (m + 4) (omega arith)
+          (round run 3 _ _ (m + 2) (m + 3) (m + 3) (omega arith)
+          (round run 2 _ _ (m + 1) (m + 2) (m + 2) (omega arith)
+          (round run 1 _ _ m (m + 1) (m + 1) (omega arith)
           c.turns.invariant.blocks c.round.ensures.blocks)
           c.round-in-turns.ensures.blocks) c.round-in-turns-2.ensures.blocks) c.round-in-turns-3.ensures.blocks;
       layers = omega arith;
@@ -44,16 +43,16 @@ returns-clause-blocks g c =
     let run = call g (goal.at.returns-clause-blocks g c).After-add_key in
     let m = c.args.rounds - 1 in
     let q : ℕ = 4 * ((c.args.rounds - 2) / 4) + 1 in
-    let one = λ (l : ℕ) (e : q ≡ l). round run 1 _ _ (4 * c.turns.turn) l q (omega (arith, e)) e (omega arith)
-    (omega arith) c.turns.invariant.blocks c.round-2.ensures.blocks in
+    let one = λ (l : ℕ) (e : q ≡ l). round run 1 _ _ (4 * c.turns.turn) l q (omega (arith, e)) c.turns.invariant.blocks
+    c.round-2.ensures.blocks in
     let three : Reached run (map g.W.Word.bits c.if-rounds-eq0.planes) 3 m =
     elim c.if-rounds-eq0.branch [
       | then-rounds-eq0 t ↦
           let whole = t.if-rounds-eq0.true in
           ap (λ v. held g.W.Word.BLOCKS (map g.W.Word.bits v)) t.planes-is
-          ∙ round run 3 _ _ (m - 1) m m (omega arith) refl (omega arith) (omega (arith, whole))
-          (round run 2 _ _ q (m - 1) (c.args.rounds - 2) (omega (arith, whole)) (omega arith) (omega arith)
-          (omega (arith, whole)) (one q refl) t.round-then-rounds-eq0.ensures.blocks)
+          ∙ round run 3 _ _ (m - 1) m m (omega (arith, whole))
+          (round run 2 _ _ q (m - 1) (c.args.rounds - 2) (omega (arith, whole)) (one q refl)
+          t.round-then-rounds-eq0.ensures.blocks)
           t.round-then-rounds-eq0-2.ensures.blocks
       | else-rounds-eq0 t ↦
           ap (λ v. held g.W.Word.BLOCKS (map g.W.Word.bits v)) t.planes-is

@@ -1,20 +1,22 @@
-//! The key expansion (FIPS 197, 5.2).
+//! The key expansion (FIPS 197, 5.2), on single rounds.
 
 ghost use Rattle.std.specs.Prelude.{◌≡◌, ◌+◌, slice_index};
 ghost use Rattle.aes_planes.specs.Fips197 as fips;
 ghost use Rattle.aes_planes.specs.Planes.{summed};
 
-use super::runs::last_step;
-use aes_cipher::cipher::Encrypt;
+use crate::hazmat::{Block, cipher_round, inv_mix_columns};
 use aes_planes::expansion::{self, KeyForm};
+use aes_planes::laws;
 use aes_planes::soft::sbox::Layers;
-use aes_planes::soft::word::Block;
 
 // Four bytes: a column of a block, and the unit of the key expansion.
 type KeyWord = [u8; 4];
 
+// The round key that changes nothing.
+const ZERO_KEY: Block = [0; 16];
+
 /// KeyExpansion of a key of 16 bytes (FIPS 197, 5.2).
-#[tactic(auto, using(crate::proofs::Expansion::same_round_keys))]
+#[tactic(auto, using(crate::proofs::BlockExpansion::same_round_keys))]
 pub fn expand_128(key: &[u8; 16]) -> [Block; 11]
     ensures { result ≡ fips.key_expansion key.now }
 {
@@ -24,7 +26,7 @@ pub fn expand_128(key: &[u8; 16]) -> [Block; 11]
 }
 
 /// KeyExpansion of a key of 24 bytes (FIPS 197, 5.2).
-#[tactic(auto, using(crate::proofs::Expansion::same_round_keys))]
+#[tactic(auto, using(crate::proofs::BlockExpansion::same_round_keys))]
 pub fn expand_192(key: &[u8; 24]) -> [Block; 13]
     ensures { result ≡ fips.key_expansion key.now }
 {
@@ -34,7 +36,7 @@ pub fn expand_192(key: &[u8; 24]) -> [Block; 13]
 }
 
 /// KeyExpansion of a key of 32 bytes (FIPS 197, 5.2).
-#[tactic(auto, using(crate::proofs::Expansion::same_round_keys))]
+#[tactic(auto, using(crate::proofs::BlockExpansion::same_round_keys))]
 pub fn expand_256(key: &[u8; 32]) -> [Block; 15]
     ensures { result ≡ fips.key_expansion key.now }
 {
@@ -74,12 +76,12 @@ impl KeyForm for Blocks {
         summed_columns(before, word)
     }
 
-    #[tactic(auto, using(crate::proofs::Expansion::plain_is))]
+    #[tactic(auto, using(crate::proofs::BlockExpansion::plain_is))]
     fn plain(before: Block, last: Block) -> Block {
         summed_columns(before, [last[4], last[5], last[6], last[7]])
     }
 
-    #[tactic(auto, using(crate::proofs::Expansion::straddled_is))]
+    #[tactic(auto, using(crate::proofs::BlockExpansion::straddled_is))]
     fn straddled(left: Block, right: Block) -> Block {
         [
             left[8], left[9], left[10], left[11], left[12], left[13], left[14], left[15], right[0],
@@ -96,13 +98,16 @@ impl KeyForm for Blocks {
     }
 }
 
-// SubWord of the last of four words. The last round takes its column apart: row r of it stands r columns to the left.
-#[tactic(auto, using(crate::proofs::Expansion::last_word_substituted))]
+// SubWord of the last of four words: a round under the zero key, with its mixing taken back. ShiftRows takes the column
+// apart: row r of it stands r columns to the left.
+#[tactic(auto, using(crate::proofs::BlockExpansion::last_word_substituted))]
 fn substituted_word(words: Block) -> KeyWord
     ensures { result ≡ fips.word (λ r. fips.byte_at (fips.sub_bytes words) r 3) }
 {
+    laws::is_block(words);
     let mut block = words;
-    last_step::<Encrypt, Block>(&mut block);
+    cipher_round(&mut block, &ZERO_KEY);
+    inv_mix_columns(&mut block);
     [block[12], block[9], block[6], block[3]]
 }
 

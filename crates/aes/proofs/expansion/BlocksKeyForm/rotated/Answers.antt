@@ -1,6 +1,6 @@
--- What is left to show of `rounds::expand::BlocksKeyForm::rotated`.
-use Rattle.aes_rounds.proofs.Expansion.{rotated_is}
-use Rattle.aes_rounds.proofs.rounds.expand.BlocksKeyForm.rotated.Goals as goal
+-- What is left to show of `expansion::BlocksKeyForm::rotated`.
+use Rattle.aes.proofs.BlockExpansion.{rotated_is}
+use Rattle.aes.proofs.expansion.BlocksKeyForm.rotated.Goals as goal
 
 pub returns-clause-words : goal.returns-clause-words
 returns-clause-words c = λ x y hx hy. rotated_is x y _ c.args.before c.args.last hx hy c.substituted_word-word.result _

@@ -1,0 +1,7 @@
+-- What is left to show of `expansion::summed_columns`.
+use Rattle.aes.proofs.BlockExpansion.{summed_is}
+use Rattle.aes.proofs.expansion.summed_columns.Goals as goal
+
+pub returns : goal.returns
+returns c = summed_is c.args.before c.args.start _ _ _ _ c.add_words-a.ensures c.add_words-b.ensures
+    c.add_words-c.ensures c.add_words-d.ensures

@@ -1,7 +1,0 @@
--- What is left to show of `rounds::expand::summed_columns`.
-use Rattle.aes_rounds.proofs.Expansion.{summed_is}
-use Rattle.aes_rounds.proofs.rounds.expand.summed_columns.Goals as goal
-
-pub returns : goal.returns
-returns c = summed_is c.args.before c.args.start _ _ _ _ c.add_words-a.ensures c.add_words-b.ensures
-    c.add_words-c.ensures c.add_words-d.ensures
