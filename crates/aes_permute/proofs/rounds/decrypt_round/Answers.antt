@@ -14,5 +14,7 @@ returns c =
       is_4 = through_lanes INV_4_FIRST INV_4_SECOND _ f s c.looked_up-by_4.ensures;
       is_9 = through_lanes INV_9_FIRST INV_9_SECOND _ f s c.looked_up-by_9.ensures;
       is_15 = through_lanes INV_15_FIRST INV_15_SECOND _ f s c.looked_up-by_15.ensures;
-      is_14 = c.coefficients.ensures.by_14; is_11 = c.coefficients.ensures.by_11; is_13 = c.coefficients.ensures.by_13;
+      is_14 = c.coefficients.ensures.by_14;
+      is_11 = c.coefficients.ensures.by_11;
+      is_13 = c.coefficients.ensures.by_13;
     })
