@@ -16,7 +16,7 @@ use aes_planes::soft::word::Block;
 /// Stored round keys of vector permutations, those of Cipher among them: planes for whole batches are made of these, in
 /// either direction.
 #[derive(Drop)]
-pub struct Hybrid<S: LendsKeys<Encrypt>> {
+pub struct Hybrid<S: KeySchedule> {
     lanes: S,
 }
 
@@ -33,7 +33,7 @@ impl<S: LendsKeys<Encrypt>> Hybrid<S> {
     }
 }
 
-impl<S: LendsKeys<Encrypt>> KeySchedule for Hybrid<S> {
+impl<S: KeySchedule> KeySchedule for Hybrid<S> {
     type Size = S::Size;
 
     ghost key = { λ s. S.key s.lanes };
