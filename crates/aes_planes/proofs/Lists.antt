@@ -57,13 +57,3 @@ built n xs d l = build_is n (λ i. get_or xs i d) xs d l (λ i lt. refl)
 pub map-same : {A B : Type 0} (f g : A → B) (xs : List A) → ((x : A) → f x ≡ g x) → map f xs ≡ map g xs
 map-same f g [] e = refl
 map-same f g (x ∷ xs) e = (λ t. e x t ∷ map-same f g xs e t)
-
--- f of each element of xs is g of the one in its place in ys
-pub map-same_at : {A B C : Type 0} (f : A → C) (g : B → C) (xs : List A) (ys : List B) (a : A) (b : B)
-    → length xs ≡ length ys
-    → ((p : ℕ) → p < length xs → f (get_or xs p a) ≡ g (get_or ys p b)) → map f xs ≡ map g ys
-map-same_at f g [] [] a b e h = refl
-map-same_at f g [] (y ∷ ys) a b e h = absurd (omega arith)
-map-same_at f g (x ∷ xs) [] a b e h = absurd (omega arith)
-map-same_at f g (x ∷ xs) (y ∷ ys) a b e h =
-    (λ t. h 0 (omega arith) t ∷ map-same_at f g xs ys a b (omega arith) (λ p l. h (suc p) (omega arith)) t)

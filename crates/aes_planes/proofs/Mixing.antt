@@ -1,4 +1,4 @@
 -- Column mixing.
-pub mod Matrices
+pub mod Combinations
 pub mod MixColumns
-pub mod Pairs
+pub mod Turns

@@ -5,3 +5,5 @@ pub mod Packing
 pub mod PlaneLanes
 pub mod Spread
 pub mod Transpose
+pub mod Wide
+pub mod WidePacking

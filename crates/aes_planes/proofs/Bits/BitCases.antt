@@ -24,6 +24,11 @@ pub xor_false : (a : Bool) → xor a false ≡ a
 xor_false true = refl
 xor_false false = refl
 
+-- one added
+pub xor_true : (a : Bool) → xor a true ≡ not a
+xor_true true = refl
+xor_true false = refl
+
 -- whether p holds of every list of n bits
 unfoldable pub all_bools : ℕ → (List Bool → Bool) → Bool
 all_bools zero p = p []

@@ -1,58 +1,59 @@
 -- Bytes by their bits, through sums and doubling.
-use Rattle.std.proofs.Common.{◌≡◌, ℕ, suc, ◌+◌, ◌*◌, ◌^◌, ◌<◌, ◌==◌, Bool, true, false, cond, List, [], ◌∷◌, length}
-use Rattle.std.proofs.Common.{get_or, map, refl, ◌∙◌, arith, subst}
-use Rattle.std.proofs.lemmas.Bool.{eqb-true, cond_both}
-use Rattle.std.proofs.lemmas.Nat.{xor_block}
-use lib.Lanes.{zip2}
-use Rattle.aes_planes.specs.Bits.{at, xor, number}
+use Rattle.std.proofs.Common.{◌≡◌, ℕ, ◌^◌, ◌<◌, ◌==◌, Bool, false, List, [], ◌∷◌, length}
+use Rattle.std.proofs.Common.{get_or, map, refl, sym, ◌∙◌, arith, subst}
+use Rattle.std.proofs.lemmas.Bool.{eqb-true}
+use Rattle.std.proofs.lemmas.List.{get_or-map, length-map}
+use Rattle.std.proofs.lemmas.Nat.{xor_lt}
+use Rattle.aes_planes.specs.Bits.{at, bit, xor, number}
 use Rattle.aes_planes.specs.Fips197.{field_add, field_mul}
 use Rattle.aes_planes.proofs.Bits.BitCases.{all_bools, all_bools_tells}
-use Rattle.aes_planes.proofs.Bits.NumberBits.{number_below}
-
--- the sum bit by bit
-abbrev pub sum_bits : List Bool → List Bool → List Bool
-sum_bits = zip2 xor
-
--- bits that are the sums of others in their places
-pub sum_bits-map : {A B C : Type 0} (f : A → Bool) (g : B → Bool) (h : C → Bool) (zs : List A) (xs : List B)
-    (ys : List C) (a : A) (b : B) (c : C)
-    → length zs ≡ length xs → length zs ≡ length ys
-    → ((p : ℕ) → p < length zs → f (get_or zs p a) ≡ xor (g (get_or xs p b)) (h (get_or ys p c)))
-    → map f zs ≡ sum_bits (map g xs) (map h ys)
-sum_bits-map f g h [] [] ys a b c d e s = refl
-sum_bits-map f g h [] (x ∷ xs) ys a b c d e s = absurd (omega arith)
-sum_bits-map f g h (z ∷ zs) [] ys a b c d e s = absurd (omega arith)
-sum_bits-map f g h (z ∷ zs) (x ∷ xs) [] a b c d e s = absurd (omega arith)
-sum_bits-map f g h (z ∷ zs) (x ∷ xs) (y ∷ ys) a b c d e s =
-    (λ t. s 0 (omega arith) t ∷ sum_bits-map f g h zs xs ys a b c (omega arith) (omega arith)
-    (λ p l. s (suc p) (omega arith)) t)
-
-sum_value : (x y : Bool) → field_add (cond x 1 0) (cond y 1 0) ≡ cond (xor x y) 1 0
-sum_value true true = refl
-sum_value true false = refl
-sum_value false true = refl
-sum_value false false = refl
-
--- the sum of two bytes, given by their bits, is the number of the sums of their bits
-pub number-sum : (xs ys : List Bool) → length xs ≡ length ys
-    → field_add (number xs) (number ys) ≡ number (sum_bits xs ys)
-number-sum [] [] e = refl
-number-sum [] (y ∷ ys) e = absurd (omega arith)
-number-sum (x ∷ xs) [] e = absurd (omega arith)
-number-sum (x ∷ xs) (y ∷ ys) e =
-    let p : cond x 1 0 + 2 * number xs ≡ number xs * 2 ^ 1 + cond x 1 0 = omega arith in
-    let q : cond y 1 0 + 2 * number ys ≡ number ys * 2 ^ 1 + cond y 1 0 = omega arith in
-    let s = field_add (cond x 1 0) (cond y 1 0) in
-    let rest = field_add (number xs) (number ys) in
-    let r : rest * 2 ^ 1 + s ≡ s + 2 * rest = omega arith in
-    let small : (b : Bool) → cond b 1 0 < 2 = λ b. cond_both b 1 0 (λ v. v < 2) (λ t. omega arith) (λ t. omega arith) in
-    (λ i. field_add (p i) (q i))
-    ∙ xor_block 1 (number xs) (number ys) (cond x 1 0) (cond y 1 0) (small x) (small y) ∙ r
-    ∙ (λ i. sum_value x y i + 2 * number-sum xs ys (omega arith) i)
+use Rattle.aes_planes.proofs.Bits.NumberBits.{number_below, number_of_bits, bit_of_number, bit_of_xor}
 
 -- the number of n bits is below 2 ^ n
 pub number_lt : (n : ℕ) (bs : List Bool) → length bs ≡ n → number bs < 2 ^ n
 number_lt n bs e = subst (λ (v : ℕ). number bs < 2 ^ v) e (number_below bs)
+
+-- bytes with the same bits are the same
+pub same_byte : (x y : ℕ) → x < 256 → y < 256 → ((p : ℕ) → p < 8 → bit x p ≡ bit y p) → x ≡ y
+same_byte x y h k e =
+    sym (number_of_bits x h)
+    ∙ (λ t. number (e 0 (omega arith) t ∷ e 1 (omega arith) t ∷ e 2 (omega arith) t ∷ e 3 (omega arith) t
+    ∷ e 4 (omega arith) t ∷ e 5 (omega arith) t ∷ e 6 (omega arith) t ∷ e 7 (omega arith) t ∷ []))
+    ∙ number_of_bits y k
+
+-- ---- a bit of each of eight elements
+
+-- eight bits make a byte
+pub mapped_lt : {A : Type 0} (f : A → Bool) (xs : List A) → length xs ≡ 8 → number (map f xs) < 256
+mapped_lt f xs l = number_lt 8 (map f xs) (simp length-map l)
+
+-- and bit p of it is that of element p
+pub mapped_bit : {A : Type 0} (f : A → Bool) (xs : List A) (d : A) (p : ℕ) → p < length xs
+    → bit (number (map f xs)) p ≡ f (get_or xs p d)
+mapped_bit f xs d p h = bit_of_number (map f xs) p ∙ get_or-map f xs p d false h
+
+-- eight elements make the byte whose bits they have
+pub mapped_is : {A : Type 0} (f : A → Bool) (xs : List A) (d : A) (x : ℕ) → length xs ≡ 8 → x < 256
+    → ((p : ℕ) → p < 8 → f (get_or xs p d) ≡ bit x p) → number (map f xs) ≡ x
+mapped_is f xs d x l h e =
+    same_byte _ x (mapped_lt f xs l) h (λ p k. mapped_bit f xs d p (omega (arith, l)) ∙ e p k)
+
+-- the same byte as eight others that have the same bits
+pub mapped_same : {A B : Type 0} (f : A → Bool) (g : B → Bool) (xs : List A) (ys : List B) (a : A) (b : B)
+    → length xs ≡ 8 → length ys ≡ 8 → ((p : ℕ) → p < 8 → f (get_or xs p a) ≡ g (get_or ys p b))
+    → number (map f xs) ≡ number (map g ys)
+mapped_same f g xs ys a b l m e = mapped_is f xs a _ l (mapped_lt g ys m)
+    (λ p k. e p k ∙ sym (mapped_bit g ys b p (omega (arith, m))))
+
+-- and the sum of two bytes where each bit is the sum of theirs
+pub mapped_sum : {A B C : Type 0} (f : A → Bool) (g : B → Bool) (h : C → Bool) (zs : List A) (xs : List B) (ys : List C)
+    (a : A) (b : B) (c : C) → length zs ≡ 8 → length xs ≡ 8 → length ys ≡ 8
+    → ((p : ℕ) → p < 8 → f (get_or zs p a) ≡ xor (g (get_or xs p b)) (h (get_or ys p c)))
+    → number (map f zs) ≡ field_add (number (map g xs)) (number (map h ys))
+mapped_sum f g h zs xs ys a b c l m n e =
+    mapped_is f zs a _ l (xor_lt 8 _ _ (mapped_lt g xs m) (mapped_lt h ys n)) (λ p k. e p k
+    ∙ sym (bit_of_xor _ _ p ∙ (λ t. xor (mapped_bit g xs b p (omega (arith, m)) t)
+    (mapped_bit h ys c p (omega (arith, n)) t))))
 
 -- the double of a byte, bit by bit
 abbrev pub double_bits : List Bool → List Bool

@@ -1,16 +1,17 @@
 -- A round constant: one bit of it, in one plane, and all of it.
 use Rattle.std.proofs.Common.{◌≡◌, ℕ, ◌*◌, ◌/◌, ◌%◌, ◌^◌, ◌<◌, ◌==◌, ◌&&◌, cond, Bool, true, false, List, [], ◌∷◌, set}
 use Rattle.std.proofs.Common.{length, get_or, map, refl, ap, sym, ◌∙◌, arith}
-use Rattle.std.proofs.lemmas.Bool.{eqb-true}
-use Rattle.std.proofs.lemmas.List.{map-set, ext_get_or}
+use Rattle.std.proofs.Math.Bool.{and-true, and-false}
+use Rattle.std.proofs.lemmas.Bool.{eqb-true, cond_both}
+use Rattle.std.proofs.lemmas.List.{map-set, get_or-map, length-map}
 use Rattle.aes_planes.specs.Bits.{at, xor, bit, number, IsShape}
 use Rattle.aes_planes.specs.Fips197.{field_add, add_round_key}
 use Rattle.aes_planes.specs.Planes.{held, held_byte, place, constant_block}
 use Rattle.aes_planes.proofs.Standard.States.{byte_at-state, state_same}
 use Rattle.aes_planes.proofs.Bits.BitCases.{all_bools, all_bools_tells, same, same_tells}
-use Rattle.aes_planes.proofs.Bits.ByteCases.{all_below, all_below_tells, all_pairs, all_pairs_tell, by_eight}
-use Rattle.aes_planes.proofs.KeySchedule.SummedColumns.{eight_bits, bit_of_word}
-use Rattle.aes_planes.proofs.Planes.Held.{build-ext, map-build, place_lt}
+use Rattle.aes_planes.proofs.Bits.ByteCases.{all_below, all_below_tells, all_pairs, all_pairs_tell}
+use Rattle.aes_planes.proofs.Bits.NumberBits.{bit_zero}
+use Rattle.aes_planes.proofs.Planes.Held.{build-ext, map-build, place_lt, held_is}
 use Rattle.aes_planes.proofs.Shifts.ColumnSwaps.{row_mask}
 
 -- bit b flipped where the first bit says so
@@ -69,30 +70,20 @@ constant_bit_held {bits = bits} {n = n} shape b xs v d mask hb len hv hm =
     ap (λ ws. held_byte ws p) (map-set bits xs b v)
     ∙ ap number (map-set look (map bits xs) b (bits v))
     ∙ ap (λ u. number (set bs b u)) (hv p (omega (arith, shape.sixteen, place_lt n r c k i j l))
-    ∙ (λ t. xor (sym (bit_of_word bits xs d len p b hb) t) (flag t)))
-    ∙ flip_tells b bs ((r == 1) && (c == 3)) hb (eight_bits bits xs d len p))
+    ∙ (λ t. xor (sym (get_or-map look (map bits xs) b (bits d) false (omega (arith, length-map xs bits))
+    ∙ ap look (get_or-map bits xs b d (bits d) (omega arith))) t) (flag t)))
+    ∙ flip_tells b bs ((r == 1) && (c == 3)) hb (simp length-map len))
 
 -- ---- all of its bits
 
--- the bits of a byte where a flag says so
-flagged : ℕ → Bool → List Bool
-flagged x f = (bit x 0 && f) ∷ (bit x 1 && f) ∷ (bit x 2 && f) ∷ (bit x 3 && f) ∷ (bit x 4 && f) ∷ (bit x 5 && f)
-    ∷ (bit x 6 && f) ∷ (bit x 7 && f) ∷ []
-
-number_flagged : (x : ℕ) (f : Bool) → x < 256 → number (flagged x f) ≡ cond f x 0
-unfolding all_below flagged bit
-number_flagged x true h = eqb-true _ _ (all_below_tells 256 (λ x. number (flagged x true) == x) refl x h)
-number_flagged x false h = eqb-true _ _ (all_below_tells 256 (λ x. number (flagged x false) == 0) refl x h)
+bit_flagged : (x m : ℕ) (f : Bool) → bit (cond f x 0) m ≡ (bit x m && f)
+bit_flagged x m true = sym (and-true (bit x m))
+bit_flagged x m false = bit_zero m ∙ sym (and-false (bit x m))
 
 -- eight words that have a byte's bits at a place where a flag says so
 pub flagged_byte : {A : Type 0} (bits : A → List Bool) (xs : List A) (d : A) (x i : ℕ) (f : Bool) → x < 256
     → length xs ≡ 8 → ((m : ℕ) → m < 8 → at (bits (get_or xs m d)) i ≡ (bit x m && f))
     → held_byte (map bits xs) i ≡ cond f x 0
-unfolding flagged
 flagged_byte bits xs d x i f hx l h =
-    ap number (ext_get_or false (map (λ w. at w i) (map bits xs)) (flagged x f) (eight_bits bits xs d l i)
-    (λ m lt.
-    let k : m < 8 = omega (arith, lt, eight_bits bits xs d l i) in
-    bit_of_word bits xs d l i m k ∙ h m k
-    ∙ by_eight (λ m. (bit x m && f) ≡ get_or (flagged x f) m false) refl refl refl refl refl refl refl refl m k))
-    ∙ number_flagged x f hx
+    held_is bits xs d i _ l (cond_both f x 0 (λ v. v < 256) (λ t. hx) (λ t. omega arith))
+    (λ m k. h m k ∙ sym (bit_flagged x m f))

@@ -4,16 +4,15 @@ use Rattle.std.proofs.Common.{true, false, List, [], ◌∷◌, length, get_or, 
 use Rattle.aes_planes.proofs.Bits.BitCases.{xor_false}
 use Rattle.std.proofs.Math.Bool.{or-false}
 use Rattle.std.proofs.lemmas.Bool.{le-leb, lt-ltb, cond_both, cond-true, cond-false}
-use Rattle.std.proofs.lemmas.List.{length-map, get_or-map, ext_get_or}
-use Rattle.std.proofs.lemmas.Simd.{length-zip2, get_or-zip2}
-use Rattle.aes_planes.specs.Bits.{at, xor, bit, number, IsShape}
+use Rattle.aes_planes.specs.Bits.{at, xor, bit, IsShape}
 use Rattle.aes_planes.specs.Fips197.{field_add, byte_at, state}
 use Rattle.aes_planes.specs.Planes.{held, held_byte, place, zip_with, words_at, summed, columns_summed}
 use Rattle.aes_planes.specs.Planes.{columns_straddled}
 use Rattle.aes_planes.proofs.Standard.States.{byte_at-state, state_same}
 use Rattle.aes_planes.proofs.Bits.ByteCases.{by_four}
-use Rattle.aes_planes.proofs.Planes.Held.{build-ext, zip_with-build, row_on, place_lt}
-use Rattle.aes_planes.proofs.Bits.BytesByBits.{sum_bits, number-sum}
+use Rattle.aes_planes.proofs.Planes.Held.{build-ext, zip_with-build, row_on, place_lt, held_byte_lt, held_bit, held_is}
+use Rattle.aes_planes.proofs.Bits.NumberBits.{bit_of_xor}
+use Rattle.aes_planes.proofs.Standard.FieldLaws.{field_add_byte}
 use Rattle.aes_planes.proofs.Planes.EightWords.{length-words_at, get_or-words_at}
 
 -- ---- one plane
@@ -80,32 +79,16 @@ straddled n B r k left right eB h kn =
 
 -- ---- a byte of the planes
 
--- a sum of columns, bit by bit
-module _ (f : ℕ → List Bool) (y : List Bool) (fs : (e : ℕ) → length (f e) ≡ 8) (ys : length y ≡ 8) where
-  length-summed : (c : ℕ) → length (summed sum_bits f y c) ≡ 8
-  length-summed zero = length-zip2 xor (f 0) y (fs 0 ∙ sym ys) ∙ fs 0
-  length-summed (suc c) =
-      length-zip2 xor (f (suc c)) (summed sum_bits f y c) (fs (suc c) ∙ sym (length-summed c)) ∙ fs (suc c)
+-- bit m of a sum of bytes is the sum of their bits m
+bit_summed : (f : ℕ → ℕ) (y c m : ℕ) → bit (summed field_add f y c) m ≡ summed xor (λ e. bit (f e) m) (bit y m) c
+bit_summed f y zero m = bit_of_xor (f 0) y m
+bit_summed f y (suc c) m =
+    bit_of_xor (f (suc c)) (summed field_add f y c) m ∙ ap (xor (bit (f (suc c)) m)) (bit_summed f y c m)
 
-  number-summed : (c : ℕ) → number (summed sum_bits f y c) ≡ summed field_add (λ e. number (f e)) (number y) c
-  number-summed zero = sym (number-sum (f 0) y (fs 0 ∙ sym ys))
-  number-summed (suc c) =
-      sym (number-sum (f (suc c)) (summed sum_bits f y c) (fs (suc c) ∙ sym (length-summed c)))
-      ∙ ap (field_add (number (f (suc c)))) (number-summed c)
-
-  at-summed : (c m : ℕ) → m < 8 → at (summed sum_bits f y c) m ≡ summed xor (λ e. at (f e) m) (at y m) c
-  at-summed zero m h = get_or-zip2 xor (f 0) y m false false false (omega (arith, fs 0)) (omega (arith, ys))
-  at-summed (suc c) m h =
-      get_or-zip2 xor (f (suc c)) (summed sum_bits f y c) m false false false (omega (arith, fs (suc c)))
-      (omega (arith, length-summed c)) ∙ ap (xor (at (f (suc c)) m)) (at-summed c m h)
-
-  -- the byte whose bits are sums of columns is the sum of the bytes
-  byte_summed : (bs : List Bool) (c : ℕ) → length bs ≡ 8
-      → ((m : ℕ) → m < 8 → at bs m ≡ summed xor (λ e. at (f e) m) (at y m) c)
-      → number bs ≡ summed field_add (λ e. number (f e)) (number y) c
-  byte_summed bs c l h =
-      ap number (ext_get_or false bs (summed sum_bits f y c) (l ∙ sym (length-summed c))
-      (λ m lt. let k : m < 8 = omega arith in h m k ∙ sym (at-summed c m k))) ∙ number-summed c
+-- a sum of bytes is a byte
+summed_byte : (f : ℕ → ℕ) (y c : ℕ) → ((e : ℕ) → f e < 256) → y < 256 → summed field_add f y c < 256
+summed_byte f y zero h k = field_add_byte (f 0) y (h 0) k
+summed_byte f y (suc c) h k = field_add_byte (f (suc c)) (summed field_add f y c) (h (suc c)) (summed_byte f y c h k)
 
 -- sums of equal elements are equal
 pub summed-ext : {A : Type 0} (op : A → A → A) (f g : ℕ → A) (y z : A) (c : ℕ) → ((e : ℕ) → e ≤ c → f e ≡ g e) → y ≡ z
@@ -132,29 +115,6 @@ first_of : {A : Type 0} (xs : List A) → 0 < length xs → A
 first_of [] h = absurd (omega arith)
 first_of (x ∷ xs) h = x
 
--- the bits at a place of eight words
-module _ {A : Type 0} (bits : A → List Bool) (xs : List A) (d : A) (l : length xs ≡ 8) where
-  -- eight words have eight bits at a place
-  pub eight_bits : (p : ℕ) → length (map (λ w. at w p) (map bits xs)) ≡ 8
-  eight_bits p = length-map (map bits xs) (λ w. at w p) ∙ length-map xs bits ∙ l
-
-  -- and bit m of them is that of word m
-  pub bit_of_word : (p m : ℕ) → m < 8 → at (map (λ w. at w p) (map bits xs)) m ≡ at (bits (get_or xs m d)) p
-  bit_of_word p m h =
-      let n : length (map bits xs) ≡ 8 = length-map xs bits ∙ l in
-      get_or-map (λ w. at w p) (map bits xs) m (bits d) false (omega arith)
-      ∙ ap (λ w. at w p) (get_or-map bits xs m d (bits d) (omega arith))
-
--- the byte at p of eight words is that at q of eight others, where each bit is
-moved_byte : {A : Type 0} (bits : A → List Bool) (d : A) (xs ys : List A) (p q : ℕ) → length xs ≡ 8 → length ys ≡ 8
-    → ((m : ℕ) → m < 8 → at (bits (get_or xs m d)) p ≡ at (bits (get_or ys m d)) q) → held_byte (map bits xs) p
-    ≡ held_byte (map bits ys) q
-moved_byte bits d xs ys p q lx ly h =
-    ap number (ext_get_or false (map (λ w. at w p) (map bits xs)) (map (λ w. at w q) (map bits ys))
-    (eight_bits bits xs d lx p ∙ sym (eight_bits bits ys d ly q)) (λ m lt.
-    let k : m < 8 = omega (arith, lt, eight_bits bits xs d lx p) in
-    bit_of_word bits xs d lx p m k ∙ h m k ∙ sym (bit_of_word bits ys d ly q m k)))
-
 -- the last columns of a state and the first of another, by their bytes
 ends : (f g : ℕ → ℕ → ℕ) (r c : ℕ) → r < 4 → c < 4 → cond (nat_lt c 2) (f r (c + 2)) (g r (c - 2))
     ≡ cond (nat_lt c 2) (byte_at (state f) r (c + 2)) (byte_at (state g) r (c - 2))
@@ -180,12 +140,12 @@ module _ {A : Type 0} {bits : A → List Bool} {n B R H Q N S : ℕ} (shape : Is
       let turn : (place n r 0 k + ror) % B ≡ q =
       let e : place n r 0 k + ror ≡ place n r cols k + rows * (4 * n) = omega (arith, er) in
       (λ t. e t % shape.sixteen t) ∙ row_on n r cols k rows i hc l hr in
-      byte_summed (λ e. map (λ w. at w (place n r e k)) (map bits x)) (map (λ w. at w q) (map bits y))
-      (λ e. eight_bits bits x d lx (place n r e k)) (eight_bits bits y d ly q)
-      (map (λ w. at w p) (map bits new)) c (eight_bits bits new d ln p) (λ m lm.
-      bit_of_word bits new d ln p m lm ∙ h m d r c k lm i j l
-      ∙ summed-ext xor _ _ _ _ c (λ e le. sym (bit_of_word bits x d lx (place n r e k) m lm))
-      (ap (at (bits (get_or y m d))) turn ∙ sym (bit_of_word bits y d ly q m lm))))
+      held_is bits new d p _ ln (summed_byte _ _ c (λ e. held_byte_lt bits x lx (place n r e k))
+      (held_byte_lt bits y ly q)) (λ m lm.
+      h m d r c k lm i j l
+      ∙ summed-ext xor _ _ _ _ c (λ e le. sym (held_bit bits x d lx (place n r e k) m lm))
+      (ap (at (bits (get_or y m d))) turn ∙ sym (held_bit bits y d ly q m lm))
+      ∙ sym (bit_summed (λ e. held_byte (map bits x) (place n r e k)) (held_byte (map bits y) q) c m)))
 
 -- eight words that are the last columns of x and the first of y, word by word
 module _ {A : Type 0} (bits : A → List Bool) (n : ℕ) (new x y : List A) (ln : length new ≡ 8) (lx : length x ≡ 8)
@@ -198,8 +158,10 @@ module _ {A : Type 0} (bits : A → List Bool) (n : ℕ) (new x y : List A) (ln 
   straddled_byte r c k i j l =
       let d = first_of new (omega arith) in
       cond_both (nat_lt c 2) _ _ (λ v. held_byte (map bits new) (place n r c k) ≡ v)
-      (λ t. moved_byte bits d new x _ _ ln lx (λ m lt. h m d r c k lt i j l ∙ cond-true _ _ _ t))
-      (λ t. moved_byte bits d new y _ _ ln ly (λ m lt. h m d r c k lt i j l ∙ cond-false _ _ _ t))
+      (λ t. held_is bits new d _ _ ln (held_byte_lt bits x lx _) (λ m lt. h m d r c k lt i j l ∙ cond-true _ _ _ t
+      ∙ sym (held_bit bits x d lx _ m lt)))
+      (λ t. held_is bits new d _ _ ln (held_byte_lt bits y ly _) (λ m lt. h m d r c k lt i j l ∙ cond-false _ _ _ t
+      ∙ sym (held_bit bits y d ly _ m lt)))
 
   -- eight words that straddle x and y, bit by bit, hold the last two columns of x's blocks and the first two of y's
   pub straddled_of_eight : held n (map bits new) ≡ zip_with columns_straddled (held n (map bits x))

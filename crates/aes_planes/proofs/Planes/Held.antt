@@ -1,11 +1,13 @@
 -- The blocks that planes hold: from facts on the bytes at places to equations on blocks.
 use Rattle.std.proofs.Common.{◌≡◌, ℕ, zero, suc, ◌+◌, ◌*◌, ◌/◌, ◌%◌, ◌<◌, Bool, List, [], ◌∷◌, length, get_or, map}
 use Rattle.std.proofs.Common.{replicate, refl, ap, sym, ◌∙◌, arith}
-use Rattle.std.proofs.lemmas.List.{same_lists}
+use Rattle.std.proofs.lemmas.List.{same_lists, length-map}
 use Rattle.std.proofs.lemmas.Nat.{mul-add-lt}
 use Rattle.std.proofs.Math.Arith.{digits_div, digits_mod, mod-mul}
+use Rattle.aes_planes.specs.Bits.{at, bit, number}
 use Rattle.aes_planes.specs.Fips197.{byte_at, build, build_from, state, field_add, add_round_key}
 use Rattle.aes_planes.specs.Planes.{held, held_byte, place, zip_with}
+use Rattle.aes_planes.proofs.Bits.BytesByBits.{same_byte, mapped_lt, mapped_bit}
 use Rattle.aes_planes.proofs.Standard.States.{byte_at-state, state_is, state_same}
 use Rattle.aes_planes.proofs.Lists.{build_is, get_or-build, length-build}
 pub use Rattle.aes_planes.proofs.Lists.{map-same}
@@ -90,6 +92,24 @@ column_of n R Q r c k eR eQ h l kn =
 
 -- ---- from bytes at places to blocks
 
+-- what eight words hold at a place is a byte
+pub held_byte_lt : {A : Type 0} (bits : A → List Bool) (xs : List A) → length xs ≡ 8 → (i : ℕ)
+    → held_byte (map bits xs) i < 256
+held_byte_lt bits xs l i = mapped_lt (λ w. at w i) (map bits xs) (simp length-map l)
+
+-- and bit p of it is that of word p there
+pub held_bit : {A : Type 0} (bits : A → List Bool) (xs : List A) (d : A) → length xs ≡ 8 → (i p : ℕ) → p < 8
+    → bit (held_byte (map bits xs) i) p ≡ at (bits (get_or xs p d)) i
+held_bit bits xs d l i p h =
+    let k : p < length xs = omega arith in
+    ap (λ ws. bit (number ws) p) (map-map (λ w. at w i) bits xs) ∙ mapped_bit (λ w. at (bits w) i) xs d p k
+
+-- eight words hold the byte whose bits they have
+pub held_is : {A : Type 0} (bits : A → List Bool) (xs : List A) (d : A) (i x : ℕ) → length xs ≡ 8 → x < 256
+    → ((p : ℕ) → p < 8 → at (bits (get_or xs p d)) i ≡ bit x p) → held_byte (map bits xs) i ≡ x
+held_is bits xs d i x l h e =
+    same_byte _ x (held_byte_lt bits xs l i) h (λ p k. held_bit bits xs d l i p k ∙ e p k)
+
 -- planes whose byte at each place is f of the old one
 pub bytes_held : (f : ℕ → ℕ) (n : ℕ) (new old : List (List Bool))
     → ((i : ℕ) → i < 16 * n → held_byte new i ≡ f (held_byte old i)) → held n new ≡ map (map f) (held n old)
@@ -119,13 +139,13 @@ summed_block bs block key l h = sym (state_is _ bs l (λ r c i j. sym (h (r + 4 
 
 -- planes whose byte at each place is, in the block of the old bytes, what a step on states puts there
 pub stepped_held : (step : List ℕ → List ℕ) (at : (ℕ → ℕ → ℕ) → ℕ → ℕ → ℕ) (n : ℕ) (new old : List (List Bool))
-    → ((f : ℕ → ℕ → ℕ) → state (at f) ≡ step (state f))
+    → ((k : ℕ) → state (at (λ r c. held_byte old (place n r c k))) ≡ step (state (λ r c. held_byte old (place n r c k))))
     → ((r c k : ℕ) → r < 4 → c < 4 → k < n → held_byte new (place n r c k)
     ≡ at (λ r c. held_byte old (place n r c k)) r c)
     → held n new ≡ map step (held n old)
 unfolding held
 stepped_held step at n new old e h =
-    build-ext n _ _ (λ k l. state_same _ _ (λ r c i j. h r c k i j l) ∙ e (λ r c. held_byte old (place n r c k)))
+    build-ext n _ _ (λ k l. state_same _ _ (λ r c i j. h r c k i j l) ∙ e k)
     ∙ sym (map-build step n (λ k. state (λ r c. held_byte old (place n r c k))))
 
 -- ---- from the bytes of blocks to the blocks

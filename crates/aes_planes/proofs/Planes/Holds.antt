@@ -1,23 +1,16 @@
 -- The relation that planes hold blocks, and the blocks that they hold as a function.
-use Rattle.std.proofs.Common.{◌≡◌, ℕ, zero, suc, ◌+◌, ◌*◌, ◌<◌, Bool, List, [], ◌∷◌, length, get_or, map, refl, ap, sym}
+use Rattle.std.proofs.Common.{◌≡◌, ℕ, suc, ◌+◌, ◌*◌, ◌<◌, Bool, List, [], length, get_or, map, ap, sym}
 use Rattle.std.proofs.Common.{◌^◌, slice_index, ◌∙◌, arith}
-use Rattle.std.proofs.lemmas.List.{length-map, map-id}
+use Rattle.std.proofs.lemmas.List.{map-id}
 use Rattle.std.proofs.lemmas.Simd.{map-map}
-use Rattle.aes_planes.specs.Bits.{at, bit, number}
+use Rattle.aes_planes.specs.Bits.{at, bit}
 use Rattle.aes_planes.specs.Fips197.{IsBytes, byte_at, state, shift_rows, shift_times}
 use Rattle.aes_planes.specs.Planes.{held, held_byte, place, Holds, HoldsShifted}
 use Rattle.aes_planes.proofs.Standard.States.{byte_at-state}
 use Rattle.aes_planes.proofs.Standard.Steps.{state_length, state_bytes}
-use Rattle.aes_planes.proofs.Bits.BitCases.{eight}
 use Rattle.aes_planes.proofs.Lists.{get_or-build}
 use Rattle.aes_planes.proofs.Planes.Held.{held_of, length-held}
-use Rattle.aes_planes.proofs.Bits.NumberBits.{bit_of_number, number_of_bits}
-use Rattle.aes_planes.proofs.Bits.BytesByBits.{number_lt}
-
-at-map : (i : ℕ) (planes : List (List Bool)) (p : ℕ) → at (map (λ w. at w i) planes) p ≡ at (get_or planes p []) i
-at-map i [] p = refl
-at-map i (w ∷ ws) zero = refl
-at-map i (w ∷ ws) (suc p) = at-map i ws p
+use Rattle.aes_planes.proofs.Bits.BytesByBits.{mapped_lt, mapped_bit, mapped_is}
 
 held_at : (n : ℕ) (planes : List (List Bool)) (k : ℕ) → k < n
     → get_or (held n planes) k [] ≡ state (λ r c. held_byte planes (place n r c k))
@@ -32,17 +25,15 @@ held_length n planes k h = ap length (held_at n planes k h) ∙ state_length _
 pub held_bytes : (n : ℕ) (planes : List (List Bool)) (k i : ℕ) → length planes ≡ 8 → k < n
     → slice_index (get_or (held n planes) k []) i < 2 ^ 8
 held_bytes n planes k i l h =
-    let long : (i : ℕ) → length (map (λ w. at w i) planes) ≡ 8 = (λ i. length-map planes (λ w. at w i) ∙ l) in
     let bytes : IsBytes (get_or (held n planes) k []) = rw (held_at n planes k h)
-    (state_bytes _ (λ r c. number_lt 8 (map (λ w. at w (place n r c k)) planes) (long (place n r c k)))) in
+    (state_bytes _ (λ r c. mapped_lt (λ w. at w (place n r c k)) planes l)) in
     bytes i
 
 -- a plane's bit at a place is the bit of its number in the byte held there
-pub held_bits : (n : ℕ) (planes : List (List Bool)) (p r c k : ℕ) → p < 8 → r < 4 → c < 4 → k < n
+pub held_bits : (n : ℕ) (planes : List (List Bool)) → length planes ≡ 8 → (p r c k : ℕ) → p < 8 → r < 4 → c < 4 → k < n
     → at (get_or planes p []) (place n r c k) ≡ bit (byte_at (get_or (held n planes) k []) r c) p
-held_bits n planes p r c k hp hr hc hk =
-    let i = place n r c k in
-    sym (at-map i planes p) ∙ sym (bit_of_number (map (λ w. at w i) planes) p)
+held_bits n planes l p r c k hp hr hc hk =
+    sym (mapped_bit (λ w. at w (place n r c k)) planes [] p (omega arith))
     ∙ ap (λ x. bit x p) (sym (ap (λ b. byte_at b r c) (held_at n planes k hk)
     ∙ byte_at-state (λ r c. held_byte planes (place n r c k)) r c hr hc))
 
@@ -53,7 +44,7 @@ held_holds n planes l = record {
   blocks_count = length-held n planes;
   block_length = held_length n planes;
   bytes = λ k h i. held_bytes n planes k i l h;
-  bits = held_bits n planes;
+  bits = held_bits n planes l;
 }
 
 -- planes that hold these blocks hold no others
@@ -61,13 +52,8 @@ pub holds_held : (n : ℕ) (planes : List (List Bool)) (blocks : List (List ℕ)
     → held n planes ≡ blocks
 holds_held n planes blocks h =
     held_of n planes blocks h.blocks_count h.block_length (λ r c k i j l.
-    let spot = place n r c k in
-    let byte = byte_at (get_or blocks k []) r c in
-    let b : (p : ℕ) → p < 8 → at (get_or planes p []) spot ≡ bit byte p = (λ p hp. h.bits p r c k hp i j l) in
-    ap (λ ps. held_byte ps spot) (eight planes [] [] [] [] [] [] [] [] h.planes_count)
-    ∙ (λ t. number (b 0 (omega arith) t ∷ b 1 (omega arith) t ∷ b 2 (omega arith) t ∷ b 3 (omega arith) t
-    ∷ b 4 (omega arith) t ∷ b 5 (omega arith) t ∷ b 6 (omega arith) t ∷ b 7 (omega arith) t ∷ []))
-    ∙ number_of_bits byte (h.bytes k l (r + 4 * c)))
+    mapped_is (λ w. at w (place n r c k)) planes [] _ h.planes_count (h.bytes k l (r + 4 * c))
+    (λ p hp. h.bits p r c k hp i j l))
 
 -- no ShiftRows leaves each block as it is
 pub map-zero_shifts : (bs : List (List ℕ)) → map (shift_times 0) bs ≡ bs

@@ -1,12 +1,11 @@
 -- The circuits of the S-box as lists of gates, and what they compute, by all 256 cases.
-use Rattle.std.proofs.Common.{ℕ, List, [], ◌∷◌, refl, sym, ap, ◌∙◌, arith}
-use Rattle.aes_planes.specs.Bits.{number}
+use Rattle.std.proofs.Common.{ℕ, List, [], ◌∷◌, refl, sym, ap, arith}
 use Rattle.aes_planes.specs.Fips197.{sbox, inv_sbox}
 use Rattle.aes_planes.specs.Planes.{plus63}
 use Rattle.aes_planes.specs.SBoxTables.{sbox_table, inv_sbox_table}
-use Rattle.aes_planes.proofs.Bits.BitCases.{all_bools}
-use Rattle.aes_planes.proofs.Bits.BytesByBits.{number_lt}
-use Rattle.aes_planes.proofs.SBox.Circuits.{Gate, Xor, And, Not, Computes, computes_by_test}
+use Rattle.aes_planes.specs.Bits.{bit}
+use Rattle.aes_planes.proofs.Bits.ByteCases.{all_below}
+use Rattle.aes_planes.proofs.SBox.Circuits.{Gate, Xor, And, Not, Computes, computed, agrees, computes_by_test}
 use Rattle.aes_planes.proofs.SBox.InverseSBox.{listed, inv_listed, sbox_listed, inv_sbox_listed}
 use Rattle.aes_planes.proofs.Standard.FieldLaws.{field_add_byte}
 
@@ -35,11 +34,9 @@ sbox_places = 8 ∷ 11 ∷ 4 ∷ 6 ∷ 12 ∷ 0 ∷ 9 ∷ 1 ∷ []
 
 -- those gates leave, at those places, the S-box of a byte without its constant 0x63
 pub sbox_computed : Computes sbox_gates sbox_places (λ b. plus63 (sbox b))
-unfolding all_bools sbox_gates sbox_table
-sbox_computed = record {
-  of_bits = λ bs l. let by_table = computes_by_test sbox_gates sbox_places (λ b. plus63 (listed b)) refl in
-      by_table.of_bits bs l ∙ ap plus63 (sym (sbox_listed (number bs) (number_lt 8 bs l)));
-}
+unfolding all_below agrees bit computed sbox_gates sbox_table
+sbox_computed = computes_by_test sbox_gates sbox_places _ (λ b. plus63 (listed b)) refl
+    (λ v h. ap plus63 (sym (sbox_listed v h)))
 
 -- the gates of inv_sub_bytes
 unfoldable pub inv_sbox_gates : List Gate
@@ -67,13 +64,9 @@ inv_sbox_places = 2 ∷ 8 ∷ 20 ∷ 3 ∷ 19 ∷ 9 ∷ 0 ∷ 18 ∷ []
 
 -- those gates leave, at those places, the inverse S-box of a byte to which 0x63 is added
 pub inv_sbox_computed : Computes inv_sbox_gates inv_sbox_places (λ b. inv_sbox (plus63 b))
-unfolding all_bools inv_sbox_gates inv_sbox_table
-inv_sbox_computed = record {
-  of_bits = λ bs l.
-      let by_table = computes_by_test inv_sbox_gates inv_sbox_places (λ b. inv_listed (plus63 b)) refl in
-      let byte = field_add_byte (number bs) 0x63 (number_lt 8 bs l) (omega arith) in
-      by_table.of_bits bs l ∙ sym (inv_sbox_listed (plus63 (number bs)) byte);
-}
+unfolding all_below agrees bit computed inv_sbox_gates inv_sbox_table
+inv_sbox_computed = computes_by_test inv_sbox_gates inv_sbox_places _ (λ b. inv_listed (plus63 b)) refl
+    (λ v h. sym (inv_sbox_listed (plus63 v) (field_add_byte v 0x63 h (omega arith))))
 
 -- the gates of sub_bytes_nots, and where its results stand
 abbrev pub nots_gates : List Gate
@@ -85,5 +78,5 @@ nots_places = 3 ∷ 2 ∷ 6 ∷ 7 ∷ 8 ∷ 1 ∷ 0 ∷ 11 ∷ []
 
 -- those gates leave, at those places, the sum of a byte and 0x63
 pub nots_computed : Computes nots_gates nots_places plus63
-unfolding all_bools
-nots_computed = computes_by_test nots_gates nots_places plus63 refl
+unfolding all_below agrees bit computed
+nots_computed = computes_by_test nots_gates nots_places plus63 plus63 refl (λ v h. refl)

@@ -1,10 +1,10 @@
 -- The S-box and its inverse: their tables, and that they undo each other.
-use Rattle.std.proofs.Common.{◌≡◌, ℕ, ◌<◌, ◌==◌, Bool, true, ◌&&◌, nat_lt, get_or, refl, sym, ap, ◌∙◌, arith}
+use Rattle.std.proofs.Common.{◌≡◌, ℕ, ◌<◌, ◌==◌, Bool, ◌&&◌, nat_lt, get_or, refl, sym, ap, ◌∙◌, arith}
 use Rattle.std.proofs.lemmas.Bool.{eqb-true, eq-eqb, and_parts, ltb-true}
 use Rattle.aes_planes.specs.Fips197.{affine, sbox, inv_sbox}
 use Rattle.aes_planes.specs.SBoxTables.{sbox_table, inv_sbox_table}
 use Rattle.aes_planes.proofs.Bits.ByteCases.{all_below, all_below_tells}
-use Rattle.aes_planes.proofs.Standard.FieldInverses.{Passes, byte_passes, least_byte_lt, power_254, inverse_power}
+use Rattle.aes_planes.proofs.Standard.FieldInverses.{Passes, byte_passes, least_byte_lt, untransformed, inverse_listed}
 
 -- the S-box by its table
 abbrev pub listed : ℕ → ℕ
@@ -17,7 +17,7 @@ inv_listed b = get_or inv_sbox_table b 0
 -- the table has the S-box of b, the tables undo each other at b, and the inverse table has a byte there
 tables : ℕ → Bool
 tables b =
-    (affine (power_254 b) == listed b) && ((inv_listed (listed b) == b) && ((listed (inv_listed b) == b)
+    (affine (untransformed b) == listed b) && ((inv_listed (listed b) == b) && ((listed (inv_listed b) == b)
     && nat_lt (inv_listed b) 256))
 
 record Listed (b : ℕ) : Type 0 where
@@ -27,13 +27,13 @@ record Listed (b : ℕ) : Type 0 where
   inv_byte : inv_listed b < 256
 
 in_tables : (b : ℕ) → b < 256 → Listed b
-unfolding all_below tables sbox affine power_254 sbox_table inv_sbox_table
+unfolding all_below tables sbox affine untransformed sbox_table inv_sbox_table
 in_tables b h =
     let p = and_parts _ _ (all_below_tells 256 tables refl b h) in
     let q = and_parts _ _ p.1 in
     let r = and_parts _ _ q.1 in
     record {
-      own = ap affine (inverse_power b h) ∙ eqb-true _ _ p.0;
+      own = ap affine (inverse_listed b h) ∙ eqb-true _ _ p.0;
       back = eqb-true _ _ q.0;
       forth = eqb-true _ _ r.0;
       inv_byte = ltb-true _ _ r.1;

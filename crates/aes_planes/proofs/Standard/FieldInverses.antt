@@ -1,8 +1,9 @@
--- Each byte but 0 has exactly one inverse, which is its power 254.
+-- Each byte but 0 has exactly one inverse, which the table of the S-box gives.
 use Rattle.std.proofs.Common.{◌≡◌, ◌≢◌, inl, inr, ℕ, zero, suc, ◌+◌, ◌^◌, ◌<◌, ◌≤◌, ◌==◌, Bool, true, false, ◌&&◌}
-use Rattle.std.proofs.Common.{nat_lt, refl, sym, ap, ◌∙◌, arith}
+use Rattle.std.proofs.Common.{◌*◌, ◌/◌, ◌%◌, ◌-◌, nat_lt, get_or, bit_xor, refl, sym, ap, ◌∙◌, arith}
 use Rattle.std.proofs.lemmas.Bool.{cases_lt, eqb-true, eq-eqb, and_parts, ltb-true}
 use Rattle.aes_planes.specs.Fips197.{field_mul, field_inverse, first_from, least_byte}
+use Rattle.aes_planes.specs.SBoxTables.{sbox_table}
 use Rattle.aes_planes.proofs.Bits.ByteCases.{all_below, all_below_tells}
 use Rattle.aes_planes.proofs.Standard.FieldLaws.{field_mul_add, field_mul_one, agree_by_powers}
 
@@ -50,15 +51,15 @@ least_byte_lt p = first_below p 256 0 256 (omega arith) (omega arith)
 
 -- ---- inverses
 
--- p times the squares s^2, s^4, .. that squaring n times passes
-times_squares : ℕ → ℕ → ℕ → ℕ
-times_squares zero s p = p
-times_squares (suc n) s p = let q : ℕ = field_mul s s in times_squares n q (field_mul q p)
+-- a byte turned left by n bits
+turned_left : ℕ → ℕ → ℕ
+turned_left n c = c * 2 ^ n % 256 + c / 2 ^ (8 - n)
 
--- b to the power 254, the sum of 2, 4, .. and 128
-unfoldable pub power_254 : ℕ → ℕ
-unfolding field_mul times_squares
-power_254 b = times_squares 7 b 1
+-- the inverse of b, since the S-box is the affine transformation of it: its table with that undone
+unfoldable pub untransformed : ℕ → ℕ
+unfolding turned_left
+untransformed b =
+    let c : ℕ = get_or sbox_table b 0 in bit_xor (bit_xor (turned_left 1 c) (turned_left 3 c)) (bit_xor (turned_left 6 c) 5)
 
 -- v is a byte, its product with b is 1, and it takes b away from b times each power of x
 inverse_test : ℕ → ℕ → Bool
@@ -70,11 +71,11 @@ record Inverse (b v : ℕ) : Type 0 where
   product : field_mul b v ≡ 1
   undoes : all_below 8 (λ i. field_mul v (field_mul b (2 ^ i)) == 2 ^ i) ≡ true
 
-has_inverse : (b : ℕ) → b < 256 → b ≢ 0 → Inverse b (power_254 b)
-unfolding all_below inverse_test power_254 times_squares field_mul
+has_inverse : (b : ℕ) → b < 256 → b ≢ 0 → Inverse b (untransformed b)
+unfolding all_below inverse_test untransformed turned_left sbox_table field_mul
 has_inverse zero h n = absurd (n refl)
 has_inverse (suc b) h n =
-    let p = and_parts _ _ (all_below_tells 255 (λ b. inverse_test (suc b) (power_254 (suc b))) refl b (omega arith)) in
+    let p = and_parts _ _ (all_below_tells 255 (λ b. inverse_test (suc b) (untransformed (suc b))) refl b (omega arith)) in
     let q = and_parts _ _ p.1 in
     record { byte = ltb-true _ _ p.0; product = eqb-true _ _ q.0; undoes = q.1 }
 
@@ -83,27 +84,27 @@ pub inverse_right : (b : ℕ) → b < 256 → b ≢ 0 → (field_inverse b < 256
 unfolding field_inverse
 inverse_right b h n =
     let i = has_inverse b h n in
-    let found = byte_passes (λ c. field_mul b c == 1) (power_254 b) i.byte (eq-eqb _ _ i.product) in
+    let found = byte_passes (λ c. field_mul b c == 1) (untransformed b) i.byte (eq-eqb _ _ i.product) in
     (found.1, eqb-true _ _ found.0)
 
-power_only : (b c : ℕ) → b < 256 → b ≢ 0 → c < 256 → field_mul b c ≡ 1 → c ≡ power_254 b
+power_only : (b c : ℕ) → b < 256 → b ≢ 0 → c < 256 → field_mul b c ≡ 1 → c ≡ untransformed b
 power_only b c h n k e =
-    let v : ℕ = power_254 b in
+    let v : ℕ = untransformed b in
     sym (agree_by_powers (λ x. field_mul v (field_mul b x)) (λ x. x)
     (λ x y. ap (field_mul v) (field_mul_add b x y) ∙ field_mul_add v (field_mul b x) (field_mul b y)) (λ x y. refl)
     (has_inverse b h n).undoes c k) ∙ ap (field_mul v) e ∙ field_mul_one v
 
-inverse_power_of : (b : ℕ) → b < 256 → b ≢ 0 → field_inverse b ≡ power_254 b
-inverse_power_of b h n = let r = inverse_right b h n in power_only b (field_inverse b) h n r.0 r.1
+inverse_listed_of : (b : ℕ) → b < 256 → b ≢ 0 → field_inverse b ≡ untransformed b
+inverse_listed_of b h n = let r = inverse_right b h n in power_only b (field_inverse b) h n r.0 r.1
 
 -- the inverse of a byte, and 0 for 0, without a search
-pub inverse_power : (b : ℕ) → b < 256 → field_inverse b ≡ power_254 b
-unfolding field_inverse field_mul least_byte first_from power_254 times_squares
-inverse_power zero h = refl
-inverse_power (suc b) h = inverse_power_of (suc b) h (λ e. absurd (grind (arith, e)))
+pub inverse_listed : (b : ℕ) → b < 256 → field_inverse b ≡ untransformed b
+unfolding field_inverse field_mul least_byte first_from untransformed turned_left sbox_table
+inverse_listed zero h = refl
+inverse_listed (suc b) h = inverse_listed_of (suc b) h (λ e. absurd (grind (arith, e)))
 
 -- a byte whose product with b is 1 is the inverse of b
 pub inverse_only : (b c : ℕ) → b < 256 → b ≢ 0 → c < 256 → field_mul b c ≡ 1 → c ≡ field_inverse b
-inverse_only b c h n k e = power_only b c h n k e ∙ sym (inverse_power_of b h n)
+inverse_only b c h n k e = power_only b c h n k e ∙ sym (inverse_listed_of b h n)
 
 pub ruleset field_inverses = (inverse_right, inverse_only)

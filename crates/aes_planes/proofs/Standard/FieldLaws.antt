@@ -1,6 +1,6 @@
 -- Sums and products in the field.
 use Rattle.std.proofs.Common.{◌≡◌, ℕ, zero, suc, ◌/◌, ◌%◌, ◌+◌, ◌*◌, ◌-◌, ◌≤◌, ◌⊎◌, inl, inr, ◌^◌, ◌<◌, ◌==◌}
-use Rattle.std.proofs.Common.{Bool, true, false, if◌then◌else◌, nat_lt, bit_xor, refl, ap, sym, ◌∙◌, arith}
+use Rattle.std.proofs.Common.{true, if◌then◌else◌, nat_lt, bit_xor, refl, ap, sym, ◌∙◌, arith}
 use Rattle.std.specs.Int.Bits.{xor_assoc, xor_zero_l, xor_zero_r, xor_self}
 use Rattle.std.proofs.lemmas.Nat.{xor_comm, xor_shr, xor_mod, xor_lt, xor_block, pow_pos}
 use Rattle.std.proofs.lemmas.Bool.{eqb-true, cases_lt, cond_both, ltb-true}
@@ -53,10 +53,6 @@ pub xtime_byte : (a : ℕ) → a < 256 → xtime a < 256
 unfolding all_below xtime
 xtime_byte a h = ltb-true _ _ (all_below_tells 256 (λ a. nat_lt (xtime a) 256) refl a h)
 
-xtime_is : (a : ℕ) → a < 256 → xtime a ≡ field_mul 2 a
-unfolding all_below xtime field_mul
-xtime_is a h = eqb-true _ _ (all_below_tells 256 (λ a. xtime a == field_mul 2 a) refl a h)
-
 low_product_byte : (n a b : ℕ) → a < 256 → low_product n a b < 256
 unfolding low_product
 low_product_byte zero a b h = omega arith
@@ -77,56 +73,6 @@ field_add_byte a b h k = xor_lt 8 a b h k
 pub field_mul_one : (a : ℕ) → field_mul a 1 ≡ a
 unfolding field_mul
 field_mul_one a = xor_zero_r a
-
--- ---- products are linear in the first factor too
-
-chosen_add : (b : Bool) (m k : ℕ) → (if b then field_add m k else 0)
-    ≡ field_add (if b then m else 0) (if b then k else 0)
-chosen_add true m k = refl
-chosen_add false m k = refl
-
-low_product_factors : (n m k a : ℕ) → m < 256 → k < 256
-    → low_product n (field_add m k) a ≡ field_add (low_product n m a) (low_product n k a)
-unfolding low_product
-low_product_factors zero m k a h l = refl
-low_product_factors (suc n) m k a h l =
-    let e : xtime (field_add m k) ≡ field_add (xtime m) (xtime k) = xtime_is (field_add m k) (field_add_byte m k h l)
-    ∙ field_mul_add 2 m k ∙ sym (λ i. field_add (xtime_is m h i) (xtime_is k l i)) in
-    let own = λ (v : ℕ). if a % 2 == 1 then v else 0 in
-    (λ i. field_add (chosen_add (a % 2 == 1) m k i) (low_product n (e i) (a / 2)))
-    ∙ ap (field_add (field_add (own m) (own k)))
-    (low_product_factors n (xtime m) (xtime k) (a / 2) (xtime_byte m h) (xtime_byte k l))
-    ∙ add_swap (own m) (own k) (low_product n (xtime m) (a / 2)) (low_product n (xtime k) (a / 2))
-
--- the product of a sum of two bytes and a number is the sum of the products
-pub field_mul_factors : (m k a : ℕ) → m < 256 → k < 256
-    → field_mul (field_add m k) a ≡ field_add (field_mul m a) (field_mul k a)
-unfolding field_mul
-field_mul_factors m k a h l = low_product_factors 8 m k a h l
-
-chosen_double : (b : Bool) (m : ℕ) → field_mul 2 (if b then m else 0) ≡ (if b then field_mul 2 m else 0)
-unfolding field_mul
-chosen_double true m = refl
-chosen_double false m = refl
-
-low_product_double : (n m a : ℕ) → m < 256 → field_mul 2 (low_product n m a) ≡ low_product n (field_mul 2 m) a
-unfolding low_product
-low_product_double zero m a h = chosen_double false m
-low_product_double (suc n) m a h =
-    let e : field_mul 2 (xtime m) ≡ xtime (field_mul 2 m) = sym (xtime_is (xtime m) (xtime_byte m h))
-    ∙ ap xtime (xtime_is m h) in
-    field_mul_add 2 (if a % 2 == 1 then m else 0) (low_product n (xtime m) (a / 2))
-    ∙ (λ i. field_add (chosen_double (a % 2 == 1) m i)
-    ((low_product_double n (xtime m) (a / 2) (xtime_byte m h) ∙ ap (λ v. low_product n v (a / 2)) e) i))
-
--- twice a product is the product of the doubled factor
-pub field_mul_double : (m a : ℕ) → m < 256 → field_mul 2 (field_mul m a) ≡ field_mul (field_mul 2 m) a
-unfolding field_mul
-field_mul_double m a h = low_product_double 8 m a h
-
--- the product of 0 and a number is 0
-pub field_mul_zero : (a : ℕ) → field_mul 0 a ≡ 0
-field_mul_zero a = field_mul_factors 0 0 a (omega arith) (omega arith) ∙ xor_self (field_mul 0 a)
 
 -- ---- functions that are linear over sums agree where they agree on the powers of x
 
@@ -164,8 +110,3 @@ module _ (f g : ℕ → ℕ) (p : Linear f) (q : Linear g) where
   pub agree_by_powers : all_below 8 (λ i. f (2 ^ i) == g (2 ^ i)) ≡ true → (x : ℕ) → x < 256 → f x ≡ g x
   agree_by_powers test x lt =
       agree_below 8 (λ i l. eqb-true (f (2 ^ i)) (g (2 ^ i)) (all_below_tells 8 _ test i l)) x lt
-
--- the product of 1 and a byte is the byte
-pub field_mul_one_left : (a : ℕ) → a < 256 → field_mul 1 a ≡ a
-unfolding all_below field_mul
-field_mul_one_left = agree_by_powers (field_mul 1) (λ x. x) (field_mul_add 1) (λ x y. refl) refl

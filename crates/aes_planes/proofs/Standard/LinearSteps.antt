@@ -119,7 +119,8 @@ unfoldable pub agree_on_powers : ((ℕ → ℕ) → ℕ → ℕ) → ((ℕ → �
 agree_on_powers f g =
     all_below 4 (λ r. all_below 4 (λ j. all_below 8 (λ k. f (only j (2 ^ k)) r == g (only j (2 ^ k)) r)))
 
-linear_maps_agree : (f g : (ℕ → ℕ) → ℕ → ℕ) → LinearMap f → LinearMap g → agree_on_powers f g ≡ true
+-- linear maps that agree there, by the test, agree on every column of bytes
+pub linear_maps_agree : (f g : (ℕ → ℕ) → ℕ → ℕ) → LinearMap f → LinearMap g → agree_on_powers f g ≡ true
     → (v : ℕ → ℕ) → ((i : ℕ) → v i < 256) → (r : ℕ) → r < 4 → f (first_rows 4 v) r ≡ g (first_rows 4 v) r
 unfolding agree_on_powers LinearForm
 linear_maps_agree f g p q test v h r lt =

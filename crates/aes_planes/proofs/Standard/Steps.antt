@@ -72,6 +72,12 @@ shift_block s h = state_block (λ r c. byte_at s r ((c + r) % 4)) (λ r c. h (r 
 pub shift_bytes : (s : List ℕ) → IsBytes s → IsBytes (shift_rows s)
 shift_bytes s h = (shift_block s h).1
 
+-- any number of ShiftRows leaves bytes of bytes
+pub shift_times_bytes : (n : ℕ) (s : List ℕ) → IsBytes s → IsBytes (shift_times n s)
+unfolding shift_times
+shift_times_bytes zero s h = h
+shift_times_bytes (suc n) s h = shift_bytes (shift_times n s) (shift_times_bytes n s h)
+
 -- InvShiftRows leaves a block
 pub inv_shift_block : (s : List ℕ) → IsBytes s → IsBlock (inv_shift_rows s)
 unfolding inv_shift_rows

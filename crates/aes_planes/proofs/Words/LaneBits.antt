@@ -11,7 +11,7 @@ use lib.Lanes.{zip2, Each1, number_l, digits_l}
 use Rattle.aes_planes.specs.Bits.{at, bit, xor, Places}
 use Rattle.aes_planes.specs.Fips197.{build}
 use Rattle.aes_planes.specs.Private.Lanes.{lane_bit, lane_bits, row_of}
-use Rattle.aes_planes.proofs.Bits.BitCases.{same, same_tells}
+use Rattle.aes_planes.proofs.Bits.BitCases.{same, same_tells, xor_true}
 use Rattle.aes_planes.proofs.Bits.ByteCases.{all_below, all_below_tells, all_pairs, all_pairs_tell, by_four}
 use Rattle.aes_planes.proofs.Bits.Digits.{digit_bit, number_bit}
 use Rattle.aes_planes.proofs.Lists.{get_or-build}
@@ -139,7 +139,7 @@ lanes_not xs d i l =
     lanes_xor xs (replicate 16 255) d refl i l
     ∙ ap (xor (at (lane_bits xs) i)) (repeated_places 255 i l
     ∙ bit_ones 8 (i % 8) (omega arith))
-    ∙ elim (at (lane_bits xs) i) as (λ b. xor b true ≡ not b) [ true ↦ refl | false ↦ refl ]
+    ∙ xor_true (at (lane_bits xs) i)
 
 pub ruleset lane_operators = (lanes_and, lanes_or, lanes_xor, lanes_not, repeated_places)
 

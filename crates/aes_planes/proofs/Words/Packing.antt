@@ -60,11 +60,11 @@ transposed_held n from planes words blocks lp lb typed placed turned loaded = ho
 })
 
 -- the blocks of a batch, read from place i on
-abbrev IsRead : ℕ → List (List ℕ) → List (List ℕ) → Type 0
+abbrev pub IsRead : ℕ → List (List ℕ) → List (List ℕ) → Type 0
 IsRead i [] batch = Unit {0}
 IsRead i (b ∷ bs) batch = (IsBlock b × (b ≡ get_or batch i [])) × IsRead (suc i) bs batch
 
-read_at : (i : ℕ) (bs batch : List (List ℕ)) (k : ℕ) → IsRead i bs batch → k < length bs
+pub read_at : (i : ℕ) (bs batch : List (List ℕ)) (k : ℕ) → IsRead i bs batch → k < length bs
     → IsBlock (get_or bs k []) × (get_or bs k [] ≡ get_or batch (i + k) [])
 read_at i [] batch k h l = absurd (omega arith)
 read_at i (b ∷ bs) batch zero h l = (h.0.0, h.0.1 ∙ ap (λ v. get_or batch v []) (omega arith))

@@ -4,7 +4,6 @@ use Rattle.std.proofs.Common.{bit_or, bit_xor, List, [], ◌∷◌, ◌++◌, le
 use Rattle.std.proofs.Common.{arith, w8, w16, Fits, zero, suc, false, cond, nat_le, ◌==◌}
 use Rattle.std.proofs.Math.Bool.{and-false, and-true}
 use Rattle.std.proofs.lemmas.Bool.{eqb-true, cases_lt}
-use Rattle.std.proofs.lemmas.List.{length-map}
 use lib.Lanes.{zip2, pick_l, Each1, number_l, digits_l, mask_l, top}
 use Rattle.aes_planes.specs.Bits.{at, bit, xor, number}
 use Rattle.aes_planes.specs.Fips197.{field_add, field_mul}
@@ -12,12 +11,12 @@ use Rattle.aes_planes.specs.Planes.{held_byte, place, summed}
 use Rattle.aes_planes.specs.Words.{word_bits}
 use Rattle.aes_planes.proofs.Bits.BitCases.{eight, same, same_tells, xor_false}
 use Rattle.aes_planes.proofs.Bits.ByteCases.{all_below, all_pairs_tell}
-use Rattle.aes_planes.proofs.Bits.BytesByBits.{number-sum, number-double, sum_bits-map}
+use Rattle.aes_planes.proofs.Bits.BytesByBits.{number-double, mapped_same, mapped_sum}
 use Rattle.aes_planes.proofs.Bits.Digits.{digits_small, each_small, regrouped}
 use Rattle.aes_planes.proofs.Bits.NumberBits.{reads, bit_rotated, bit_zero, bit_ones, bit_of_and, bit_of_or, bit_of_xor}
 use Rattle.aes_planes.proofs.Bits.NumberBits.{word_xor, word_shl}
-use Rattle.aes_planes.proofs.Lists.{map-same, map-same_at}
-use Rattle.aes_planes.proofs.Mixing.Matrices.{stay_bit, masked_turn}
+use Rattle.aes_planes.proofs.Lists.{map-same}
+use Rattle.aes_planes.proofs.Mixing.Turns.{stay_bit, masked_turn}
 use Rattle.aes_planes.proofs.Words.LaneBits.{lane_of_two, lane_of_splat, lane_of_splats, length-splat, lane_small, shl8}
 use Rattle.std.proofs.lemmas.Simd.{below_from_Fits, map-map, get_or-zip2, get_or-replicate, length-zip2, mask_l-mod}
 use Rattle.std.proofs.lemmas.Simd.{bit_mask_l, tops_compared}
@@ -304,8 +303,8 @@ held_words xs i h =
 -- words whose bits agree at two places hold the same there
 pub same_held : (xs ys : List ℕ) (i j : ℕ) → length xs ≡ 8 → length ys ≡ 8
     → ((p : ℕ) → p < 8 → bit (get_or xs p 0) i ≡ bit (get_or ys p 0) j) → held_in xs i ≡ held_in ys j
-same_held xs ys i j d e h =
-    ap number (map-same_at (λ w. bit w i) (λ w. bit w j) xs ys 0 0 (d ∙ sym e) (λ p l. h p (omega (arith, d, l))))
+same_held xs ys i j d e =
+    mapped_same (λ w. bit w i) (λ w. bit w j) xs ys 0 0 d e
 
 -- words whose bits are the sums of the bits of two others hold the sums
 pub sums_held : (new x y : List ℕ) (i : ℕ) → length new ≡ 8 → length x ≡ 8 → length y ≡ 8 → i < 16
@@ -314,8 +313,5 @@ pub sums_held : (new x y : List ℕ) (i : ℕ) → length new ≡ 8 → length x
     ≡ field_add (held_byte (map (word_bits 16) x) i) (held_byte (map (word_bits 16) y) i)
 sums_held new x y i d e f h sums =
     held_words new i h
-    ∙ ap number (sum_bits-map (λ w. bit w i) (λ w. bit w i) (λ w. bit w i) new x y 0 0 0 (d ∙ sym e) (d ∙ sym f)
-    (λ p l. sums p (omega (arith, d, l))))
-    ∙ sym (number-sum (map (λ w. bit w i) x) (map (λ w. bit w i) y)
-    (length-map x (λ w. bit w i) ∙ e ∙ sym f ∙ sym (length-map y (λ w. bit w i))))
+    ∙ mapped_sum (λ w. bit w i) (λ w. bit w i) (λ w. bit w i) new x y 0 0 0 d e f sums
     ∙ (λ t. field_add (sym (held_words x i h) t) (sym (held_words y i h) t))

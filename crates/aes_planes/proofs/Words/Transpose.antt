@@ -40,13 +40,13 @@ differing_bit : (s m low high j : ℕ) → bit (differing s m low high) j ≡ (x
 differing_bit s m low high j = bit_of_and (bit_xor high (low / 2 ^ s)) m j
     ∙ ap (λ v. v && bit m j) (bit_of_xor high (low / 2 ^ s) j ∙ ap (xor (bit high j)) (bit_shr low s j))
 
-exchanged_high : (s m low high i : ℕ) → bit (bit_xor high (differing s m low high)) i
+pub exchanged_high : (s m low high i : ℕ) → bit (bit_xor high (differing s m low high)) i
     ≡ cond (bit m i) (bit low (i + s)) (bit high i)
 exchanged_high s m low high i = bit_of_xor high (differing s m low high) i
     ∙ ap (xor (bit high i)) (differing_bit s m low high i)
     ∙ (chosen (bit high i) (bit low (i + s)) (bit m i)).0
 
-exchanged_low : (w s m low high i : ℕ) → i < w
+pub exchanged_low : (w s m low high i : ℕ) → i < w
     → bit (bit_xor low (differing s m low high * 2 ^ s % 2 ^ w)) i
     ≡ cond (nat_le s i && bit m (i - s)) (bit high (i - s)) (bit low i)
 exchanged_low w s m low high i h = bit_of_xor low (differing s m low high * 2 ^ s % 2 ^ w) i
@@ -62,7 +62,7 @@ outside s m r f h =
     let e : r ≡ r + s - s = omega arith in
     ap (bit m) e ∙ sym (bit_shl_high m s (r + s) (omega arith)) ∙ bit_above (m * 2 ^ s) 8 (r + s) f h
 
-inside : (s m r : ℕ) → m * 2 ^ s < 2 ^ 8 → bit m r ≡ true → r + s < 8
+pub inside : (s m r : ℕ) → m * 2 ^ s < 2 ^ 8 → bit m r ≡ true → r + s < 8
 inside s m r f h =
     elim (cases_lt (r + s) 8) as (λ _. r + s < 8) [
       | inl lt ↦ lt
@@ -71,7 +71,7 @@ inside s m r f h =
     ]
 
 -- choices between bits that are the same where they are taken
-chosen_same : (a b : Bool) (x y u v : Bool) → a ≡ b → (b ≡ true → x ≡ u) → y ≡ v → cond a x y ≡ cond b u v
+pub chosen_same : (a b : Bool) (x y u v : Bool) → a ≡ b → (b ≡ true → x ≡ u) → y ≡ v → cond a x y ≡ cond b u v
 chosen_same a true x y u v e f g = ap (λ c. cond c x y) e ∙ f refl
 chosen_same a false x y u v e f g = ap (λ c. cond c x y) e ∙ g
 

@@ -1,8 +1,9 @@
 -- How long a list is that is built of a function, and the shape of words that are numbers: the one proof among the
 -- definitions, since the law of an implementation may cite no file of proofs of its own crate.
-use Rattle.std.proofs.Common.{◌≡◌, ℕ, zero, suc, ◌+◌, ◌*◌, ◌≤◌, length, refl, ap}
+use Rattle.std.proofs.Common.{◌≡◌, ℕ, zero, suc, ◌+◌, ◌*◌, ◌≤◌, length, refl, ap, arith}
 use Rattle.aes_planes.specs.Bits.{bit, IsShape}
 use Rattle.aes_planes.specs.Words.{word_bits}
+use Rattle.aes_planes.specs.Private.Lanes.{wide_bit, wide_bits}
 use Rattle.aes_planes.specs.Fips197.{build, build_from}
 
 length-build_from : {A : Type 0} (a n : ℕ) (f : ℕ → A) → length (build_from a n f) ≡ n
@@ -16,10 +17,23 @@ unfolding build
 length-build n f = length-build_from 0 n f
 
 -- numbers of sixteen bits for each of n blocks
-pub number_shape : (n size : ℕ) → 1 ≤ n → size ≤ 16 → IsShape (word_bits (16 * n)) n (16 * n) (4 * n) (2 * n) n n size
+pub number_shape : (n size : ℕ) → 1 ≤ n → size ≤ 32 → IsShape (word_bits (16 * n)) n (16 * n) (4 * n) (2 * n) n n size
 number_shape n size some fits = record {
   sized = λ x. length-build (16 * n) (bit x);
   some_block = some;
+  sixteen = refl;
+  four = refl;
+  two = refl;
+  one = refl;
+  as_many = refl;
+  small = fits;
+}
+
+-- two times sixteen lanes for sixteen blocks
+pub wide_shape : (size : ℕ) → size ≤ 32 → IsShape wide_bits 16 256 64 32 16 16 size
+wide_shape size fits = record {
+  sized = λ x. length-build 256 (wide_bit x);
+  some_block = omega arith;
   sixteen = refl;
   four = refl;
   two = refl;

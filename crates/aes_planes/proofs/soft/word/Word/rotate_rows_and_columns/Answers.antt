@@ -4,7 +4,7 @@ use Rattle.std.proofs.lemmas.Bool.{cases_lt}
 use Rattle.aes_planes.specs.Bits.{at}
 use Rattle.aes_planes.specs.Planes.{place}
 use Rattle.aes_planes.proofs.Planes.Held.{place_lt, column_of}
-use Rattle.aes_planes.proofs.Mixing.Matrices.{turned_place, wrapped_place, stay_bit, masked_turn}
+use Rattle.aes_planes.proofs.Mixing.Turns.{turned_place, wrapped_place, stay_bit, masked_turn}
 use Rattle.aes_planes.proofs.soft.word.Word.rotate_rows_and_columns.Goals as goal
 
 pub returns-then-cols-eq0 : goal.returns-then-cols-eq0

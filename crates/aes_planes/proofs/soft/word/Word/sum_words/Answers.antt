@@ -1,30 +1,23 @@
 -- What is left to show of `soft::word::Word::sum_words`.
-use Rattle.std.proofs.Common.{◌≡◌, map, sym, ◌∙◌}
-use Rattle.std.proofs.lemmas.List.{length-map}
-use Rattle.aes_planes.specs.Bits.{at, number}
+use Rattle.std.proofs.Common.{Bool, List, [], ◌∷◌, map, refl, sym, ◌∙◌}
+use Rattle.aes_planes.specs.Bits.{at}
+use Rattle.aes_planes.specs.Fips197.{field_add}
+use Rattle.aes_planes.specs.Planes.{held_byte}
 use Rattle.aes_planes.proofs.Bits.BitCases.{eight}
-use Rattle.aes_planes.proofs.Bits.BytesByBits.{number-sum, sum_bits}
+use Rattle.aes_planes.proofs.Bits.ByteCases.{by_eight}
+use Rattle.aes_planes.proofs.Bits.BytesByBits.{mapped_sum}
 use Rattle.aes_planes.proofs.soft.word.Word.sum_words.Goals as goal
-
-both : {A B C : Type 0} (f : A → B → C) {x x' : A} {y y' : B} → x ≡ x' → y ≡ y' → f x y ≡ f x' y'
-both f p q = λ t. f (p t) (q t)
 
 pub returns : goal.returns
 returns g c = λ i h.
-    let xs = c.args.x.now in
-    let ys = c.args.y.now in
     let bits = g.Self.Word.bits in
-    rw (
-      c.bit_xor-sum0.ensures i h,
-      c.bit_xor-sum1.ensures i h,
-      c.bit_xor-sum2.ensures i h,
-      c.bit_xor-sum3.ensures i h,
-      c.bit_xor-sum4.ensures i h,
-      c.bit_xor-sum5.ensures i h,
-      c.bit_xor-sum6.ensures i h,
-      c.bit_xor-sum7.ensures i h,
-    )
-    (sym (number-sum (map (λ w. at w i) (map bits xs)) (map (λ w. at w i) (map bits ys))
-    (simp length-map (c.told-x ∙ sym c.told-y))
-    ∙ both (λ xs ys. number (sum_bits (map (λ w. at w i) (map bits xs)) (map (λ w. at w i) (map bits ys))))
-    (eight xs _ _ _ _ _ _ _ _ c.told-x) (eight ys _ _ _ _ _ _ _ _ c.told-y)))
+    let look = λ (w : List Bool). at w i in
+    let x = eight c.args.x.now _ _ _ _ _ _ _ _ c.told-x in
+    let y = eight c.args.y.now _ _ _ _ _ _ _ _ c.told-y in
+    let sums = c.bit_xor-sum0.result ∷ c.bit_xor-sum1.result ∷ c.bit_xor-sum2.result ∷ c.bit_xor-sum3.result
+    ∷ c.bit_xor-sum4.result ∷ c.bit_xor-sum5.result ∷ c.bit_xor-sum6.result ∷ c.bit_xor-sum7.result ∷ [] in
+    mapped_sum look look look (map bits sums) (map bits (x 1)) (map bits (y 1)) [] [] [] refl refl refl
+    (by_eight _ (c.bit_xor-sum0.ensures i h) (c.bit_xor-sum1.ensures i h) (c.bit_xor-sum2.ensures i h)
+    (c.bit_xor-sum3.ensures i h) (c.bit_xor-sum4.ensures i h) (c.bit_xor-sum5.ensures i h)
+    (c.bit_xor-sum6.ensures i h) (c.bit_xor-sum7.ensures i h))
+    ∙ (λ t. field_add (held_byte (map bits (sym x t)) i) (held_byte (map bits (sym y t)) i))

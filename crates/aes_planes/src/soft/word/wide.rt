@@ -1,0 +1,262 @@
+//! Vectors of 32 byte lanes as words of 256 bits: sixteen lanes have the first eight blocks, and sixteen the last.
+
+ghost use Rattle.std.specs.Prelude.{◌≡◌, ℕ, ◌+◌, ◌-◌, ◌*◌, ◌/◌, ◌%◌, ◌<◌, ◌≤◌, ◌&&◌, nat_le, nat_lt, [], ◌∷◌, get_or};
+ghost use Rattle.aes_planes.specs.Bits.{at, bit, Places};
+ghost use Rattle.aes_planes.specs.Private.Lanes.{wide_bits, lane_bits, lanes_of_32};
+ghost use Rattle.aes_planes.specs.Private.Packing.{row_byte};
+ghost use Rattle.aes_planes.specs.Fips197 as fips;
+
+use super::batch::Block;
+use super::vector;
+use std::simd::prelude::*;
+
+// The number of each lane in its half.
+const COLUMNS: [u8; 32] = [
+    0, 1, 2, 3, 4, 5, 6, 7, 8, 9, 10, 11, 12, 13, 14, 15, 0, 1, 2, 3, 4, 5, 6, 7, 8, 9, 10, 11, 12,
+    13, 14, 15,
+];
+
+// Rotates the columns of the word by so many towards the low end.
+#[tactic(auto, using(crate::proofs::Words::Wide::rotated_columns))]
+#[inline(always)]
+fn rotate_columns(x: u8x32, columns: u8) -> u8x32
+    requires within { columns < 16 }
+    ensures { Places 256 (wide_bits result) (λ i. at (wide_bits x) ((i + 16 * columns) % 256)) }
+{
+    x.swizzle_dyn_within::<16>(
+        (u8x32::from_array(COLUMNS) + u8x32::splat(columns)) & u8x32::splat(15),
+    )
+}
+
+// Shifts the columns of the word down by so many. Zeros enter at the high end.
+#[tactic(auto, using(crate::proofs::Words::Wide::columns_right, crate::proofs::Words::Wide::place_low, crate::proofs::Words::Wide::place_high))]
+#[inline(always)]
+fn columns_down(x: u8x32, columns: u8) -> u8x32
+    requires within { columns < 16 }
+    ensures { Places 256 (wide_bits result) (λ i. nat_lt (i + 16 * columns) 256 && at (wide_bits x) (i + 16 * columns)) }
+{
+    x.swizzle_dyn_within::<16>(
+        (u8x32::from_array(COLUMNS) + u8x32::splat(columns + 112)) & u8x32::splat(0x8f),
+    )
+}
+
+// Shifts the columns of the word up by so many. Zeros enter at the low end.
+#[tactic(auto, using(crate::proofs::Words::Wide::columns_left))]
+#[inline(always)]
+fn columns_up(x: u8x32, columns: u8) -> u8x32
+    requires within { columns < 16 }
+    ensures { Places 256 (wide_bits result) (λ i. nat_le (16 * columns) i && at (wide_bits x) (i - 16 * columns)) }
+{
+    x.swizzle_dyn_within::<16>(u8x32::from_array(COLUMNS) - u8x32::splat(columns))
+}
+
+// Rotates the word by a byte towards the low end.
+#[tactic(auto, using(crate::proofs::Words::Wide::rotated_byte))]
+#[inline(always)]
+fn rotate_byte(x: u8x32) -> u8x32
+    ensures { Places 256 (wide_bits result) (λ i. at (wide_bits x) ((i + 8) % 256)) }
+{
+    x.swizzle([
+        16, 17, 18, 19, 20, 21, 22, 23, 24, 25, 26, 27, 28, 29, 30, 31, 1, 2, 3, 4, 5, 6, 7, 8, 9,
+        10, 11, 12, 13, 14, 15, 0,
+    ])
+}
+
+// Shifts the word down by a byte.
+#[tactic(auto, using(crate::proofs::Words::Wide::byte_right))]
+#[inline(always)]
+fn byte_down(x: u8x32) -> u8x32
+    ensures { Places 256 (wide_bits result) (λ i. nat_lt (i + 8) 256 && at (wide_bits x) (i + 8)) }
+{
+    x.shuffle(
+        u8x32::splat(0),
+        [
+            16, 17, 18, 19, 20, 21, 22, 23, 24, 25, 26, 27, 28, 29, 30, 31, 1, 2, 3, 4, 5, 6, 7, 8,
+            9, 10, 11, 12, 13, 14, 15, 32,
+        ],
+    )
+}
+
+// Shifts the word up by a byte.
+#[tactic(auto, using(crate::proofs::Words::Wide::byte_left))]
+#[inline(always)]
+fn byte_up(x: u8x32) -> u8x32
+    ensures { Places 256 (wide_bits result) (λ i. nat_le 8 i && at (wide_bits x) (i - 8)) }
+{
+    x.shuffle(
+        u8x32::splat(0),
+        [
+            32, 16, 17, 18, 19, 20, 21, 22, 23, 24, 25, 26, 27, 28, 29, 30, 0, 1, 2, 3, 4, 5, 6, 7,
+            8, 9, 10, 11, 12, 13, 14, 15,
+        ],
+    )
+}
+
+// Rotates the word by so many bytes towards the low end.
+#[tactic(auto, using(crate::proofs::Words::Wide::rotate_bytes_calls))]
+#[inline(always)]
+fn rotate_bytes(x: u8x32, bytes: u32) -> u8x32
+    requires within { bytes < 32 }
+    ensures { Places 256 (wide_bits result) (λ i. at (wide_bits x) ((i + 8 * bytes) % 256)) }
+{
+    let whole = rotate_columns(x, (bytes / 2) as u8);
+    if bytes % 2 == 0 {
+        return whole;
+    }
+    rotate_byte(whole)
+}
+
+// Shifts the word down by so many bytes.
+#[tactic(auto, using(crate::proofs::Words::Wide::bytes_right_calls))]
+#[inline(always)]
+fn bytes_down(x: u8x32, bytes: u32) -> u8x32
+    requires within { bytes < 32 }
+    ensures { Places 256 (wide_bits result) (λ i. nat_lt (i + 8 * bytes) 256 && at (wide_bits x) (i + 8 * bytes)) }
+{
+    let whole = columns_down(x, (bytes / 2) as u8);
+    if bytes % 2 == 0 {
+        return whole;
+    }
+    byte_down(whole)
+}
+
+// Shifts the word up by so many bytes.
+#[tactic(auto, using(crate::proofs::Words::Wide::bytes_left_calls))]
+#[inline(always)]
+fn bytes_up(x: u8x32, bytes: u32) -> u8x32
+    requires within { bytes < 32 }
+    ensures { Places 256 (wide_bits result) (λ i. nat_le (8 * bytes) i && at (wide_bits x) (i - 8 * bytes)) }
+{
+    let whole = columns_up(x, (bytes / 2) as u8);
+    if bytes % 2 == 0 {
+        return whole;
+    }
+    byte_up(whole)
+}
+
+// Each bit `n` places down, and from the lowest place to the highest.
+#[tactic(auto, using(crate::proofs::Words::Wide::rotate_calls))]
+#[inline(always)]
+pub(crate) fn rotate_right(x: u8x32, n: u32) -> u8x32
+    requires below_bits { n < 256 }
+    ensures { Places 256 (wide_bits result) (λ i. at (wide_bits x) ((i + n) % 256)) }
+{
+    let part = (n % 8) as u8;
+    let whole = rotate_bytes(x, n / 8);
+    if part == 0 {
+        return whole;
+    }
+    let next = rotate_byte(whole);
+    whole >> u8x32::splat(part) | next << u8x32::splat(8 - part)
+}
+
+// Each bit `n` places down, and zeros above.
+#[tactic(auto, using(crate::proofs::Words::Wide::shift_right_calls))]
+#[inline(always)]
+pub(crate) fn shift_right(x: u8x32, n: u32) -> u8x32
+    requires below_bits { n < 256 }
+    ensures { Places 256 (wide_bits result) (λ i. nat_lt (i + n) 256 && at (wide_bits x) (i + n)) }
+{
+    let part = (n % 8) as u8;
+    let whole = bytes_down(x, n / 8);
+    if part == 0 {
+        return whole;
+    }
+    let next = byte_down(whole);
+    whole >> u8x32::splat(part) | next << u8x32::splat(8 - part)
+}
+
+// Each bit `n` places up, and zeros below.
+#[tactic(auto, using(crate::proofs::Words::Wide::shift_left_calls))]
+#[inline(always)]
+pub(crate) fn shift_left(x: u8x32, n: u32) -> u8x32
+    requires below_bits { n < 256 }
+    ensures { Places 256 (wide_bits result) (λ i. nat_le n i && at (wide_bits x) (i - n)) }
+{
+    let part = (n % 8) as u8;
+    let whole = bytes_up(x, n / 8);
+    if part == 0 {
+        return whole;
+    }
+    let next = byte_up(whole);
+    next >> u8x32::splat(8 - part) | whole << u8x32::splat(part)
+}
+
+// A nibble for each row, its bit for each column, the same in every block.
+#[inline(always)]
+pub(crate) fn rows(r0: u8, r1: u8, r2: u8, r3: u8) -> u8x32
+    requires nibble0 { r0 ≤ 15 }
+    requires nibble1 { r1 ≤ 15 }
+    requires nibble2 { r2 ≤ 15 }
+    requires nibble3 { r3 ≤ 15 }
+    ensures { Places 256 (wide_bits result)
+        (λ i. bit (get_or (r0 ∷ r1 ∷ r2 ∷ r3 ∷ []) (i / 64) 0) (i % 64 / 16)) }
+{
+    let half = vector::rows(r0, r1, r2, r3);
+    half.swizzle([
+        0, 1, 2, 3, 4, 5, 6, 7, 8, 9, 10, 11, 12, 13, 14, 15, 0, 1, 2, 3, 4, 5, 6, 7, 8, 9, 10, 11,
+        12, 13, 14, 15,
+    ])
+}
+
+// Two vectors side by side.
+#[inline(always)]
+fn join(low: u8x16, high: u8x16) -> u8x32
+    ensures low { (j p : ℕ) → j < 16 → p < 8 → at (lane_bits low) (8 * j + p) ≡ at (lanes_of_32 result) (8 * j + p) }
+    ensures high { (j p : ℕ) → j < 16 → p < 8 → at (lane_bits high) (8 * j + p) ≡ at (lanes_of_32 result) (8 * (16 + j) + p) }
+{
+    low.shuffle(
+        high,
+        [
+            0, 1, 2, 3, 4, 5, 6, 7, 8, 9, 10, 11, 12, 13, 14, 15, 16, 17, 18, 19, 20, 21, 22, 23,
+            24, 25, 26, 27, 28, 29, 30, 31,
+        ],
+    )
+}
+
+// The lower half of a vector.
+#[tactic(auto, using(crate::proofs::Words::WidePacking::lower))]
+#[inline(always)]
+fn low_half(x: u8x32) -> u8x16
+    ensures { (j p : ℕ) → j < 16 → p < 8 → at (lane_bits result) (8 * j + p) ≡ at (lanes_of_32 x) (8 * j + p) }
+{
+    x.swizzle([0, 1, 2, 3, 4, 5, 6, 7, 8, 9, 10, 11, 12, 13, 14, 15])
+}
+
+// The upper half of a vector.
+#[tactic(auto, using(crate::proofs::Words::WidePacking::upper))]
+#[inline(always)]
+fn high_half(x: u8x32) -> u8x16
+    ensures { (j p : ℕ) → j < 16 → p < 8 → at (lane_bits result) (8 * j + p) ≡ at (lanes_of_32 x) (8 * (16 + j) + p) }
+{
+    x.swizzle([
+        16, 17, 18, 19, 20, 21, 22, 23, 24, 25, 26, 27, 28, 29, 30, 31,
+    ])
+}
+
+// The bytes of two blocks, row by row, one in each half.
+#[inline(always)]
+pub(crate) fn by_rows(low: Block, high: Block) -> u8x32
+    ensures low { (j p : ℕ) → j < 16 → p < 8 → bit (row_byte low j) p ≡ at (lanes_of_32 result) (8 * j + p) }
+    ensures high { (j p : ℕ) → j < 16 → p < 8 → bit (row_byte high j) p ≡ at (lanes_of_32 result) (8 * (16 + j) + p) }
+{
+    join(vector::by_rows(low), vector::by_rows(high))
+}
+
+// The block of the rows in the lower half.
+#[inline(always)]
+pub(crate) fn low_block(x: u8x32) -> Block
+    ensures typed { fips.IsBlock result }
+    ensures bits { (j p : ℕ) → j < 16 → p < 8 → bit (row_byte result j) p ≡ at (lanes_of_32 x) (8 * j + p) }
+{
+    vector::by_columns(low_half(x))
+}
+
+// The block of the rows in the upper half.
+#[inline(always)]
+pub(crate) fn high_block(x: u8x32) -> Block
+    ensures typed { fips.IsBlock result }
+    ensures bits { (j p : ℕ) → j < 16 → p < 8 → bit (row_byte result j) p ≡ at (lanes_of_32 x) (8 * (16 + j) + p) }
+{
+    vector::by_columns(high_half(x))
+}

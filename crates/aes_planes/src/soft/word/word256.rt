@@ -1,0 +1,158 @@
+//! A word of 256 bits, eight of which hold sixteen blocks: for processors with vectors of 256 bits.
+
+ghost use Rattle.std.specs.Prelude.{◌≡◌};
+ghost use Rattle.std.proofs.Common.{rules};
+ghost use Rattle.aes_planes.specs.Private.Lanes.{wide_bits};
+ghost use Rattle.aes_planes.specs.Private.BuiltLength.{wide_shape};
+
+use super::batch::{Batch, Blocks, Blocks16};
+use super::transpose::transpose;
+use super::{Word, wide};
+use std::simd::prelude::*;
+
+#[tactic(auto, using(crate::proofs::Words::Wide::wide_operators))]
+impl Word for u8x32 {
+    ghost bits = { wide_bits };
+
+    ghost BLOCKS = { 16 };
+
+    ghost BITS = { 256 };
+
+    ghost ROW_BITS = { 64 };
+
+    ghost HALF_ROW = { 32 };
+
+    ghost QUARTER_ROW = { 16 };
+
+    type Blocks = Blocks16;
+
+    const BLOCKS: u32 = 16;
+
+    const BITS: u32 = 256;
+
+    const ROW_BITS: u32 = 64;
+
+    const HALF_ROW: u32 = 32;
+
+    const QUARTER_ROW: u32 = 16;
+
+    #[inline(always)]
+    fn bit_and(self, other: u8x32) -> u8x32 {
+        self & other
+    }
+
+    #[inline(always)]
+    fn bit_or(self, other: u8x32) -> u8x32 {
+        self | other
+    }
+
+    #[inline(always)]
+    fn bit_xor(self, other: u8x32) -> u8x32 {
+        self ^ other
+    }
+
+    #[inline(always)]
+    fn bit_not(self) -> u8x32 {
+        self ^ u8x32::splat(255)
+    }
+
+    #[inline(always)]
+    fn shift_left(self, n: u32) -> u8x32 {
+        wide::shift_left(self, n)
+    }
+
+    #[inline(always)]
+    fn shift_right(self, n: u32) -> u8x32 {
+        wide::shift_right(self, n)
+    }
+
+    #[inline(always)]
+    fn ror(self, n: u32) -> u8x32 {
+        wide::rotate_right(self, n)
+    }
+
+    #[inline(always)]
+    fn ror_distance(rows: u32, cols: u32) -> u32 {
+        rows * Self::ROW_BITS + cols * Self::QUARTER_ROW
+    }
+
+    #[inline(always)]
+    fn pack_rows(r0: u8, r1: u8, r2: u8, r3: u8) -> u8x32 {
+        wide::rows(r0, r1, r2, r3)
+    }
+
+    #[inline(always)]
+    fn byte_repeat(b: u8) -> u8x32 {
+        u8x32::splat(b)
+    }
+
+    #[inline(always)]
+    fn zero() -> u8x32 {
+        u8x32::splat(0)
+    }
+
+    #[inline(always)]
+    fn low_byte(self) -> u8 {
+        self.to_array()[0]
+    }
+
+    #[inline(always)]
+    fn bitslice(output: &mut [u8x32; 8], input: &Blocks16) {
+        let b0 = input.get(0);
+        let b1 = input.get(1);
+        let b2 = input.get(2);
+        let b3 = input.get(3);
+        let b4 = input.get(4);
+        let b5 = input.get(5);
+        let b6 = input.get(6);
+        let b7 = input.get(7);
+        let b8 = input.get(8);
+        let b9 = input.get(9);
+        let b10 = input.get(10);
+        let b11 = input.get(11);
+        let b12 = input.get(12);
+        let b13 = input.get(13);
+        let b14 = input.get(14);
+        let b15 = input.get(15);
+        let rows = [
+            wide::by_rows(b0, b8),
+            wide::by_rows(b1, b9),
+            wide::by_rows(b2, b10),
+            wide::by_rows(b3, b11),
+            wide::by_rows(b4, b12),
+            wide::by_rows(b5, b13),
+            wide::by_rows(b6, b14),
+            wide::by_rows(b7, b15),
+        ];
+        let planes = transpose(rows);
+        *output = planes;
+    }
+
+    #[inline(always)]
+    fn inv_bitslice(input: &[u8x32; 8]) -> Blocks16 {
+        let planes = *input;
+        let [r0, r1, r2, r3, r4, r5, r6, r7] = transpose(planes);
+        Blocks {
+            blocks: [
+                wide::low_block(r0),
+                wide::low_block(r1),
+                wide::low_block(r2),
+                wide::low_block(r3),
+                wide::low_block(r4),
+                wide::low_block(r5),
+                wide::low_block(r6),
+                wide::low_block(r7),
+                wide::high_block(r0),
+                wide::high_block(r1),
+                wide::high_block(r2),
+                wide::high_block(r3),
+                wide::high_block(r4),
+                wide::high_block(r5),
+                wide::high_block(r6),
+                wide::high_block(r7),
+            ],
+        }
+    }
+
+    ghost shape = { wide_shape _ (Prim.search rules) };
+}
