@@ -1,5 +1,5 @@
 -- One block in every slot of planes of 128 bits: lanes of ones where its bytes have a bit.
-use Rattle.std.proofs.Common.{◌≡◌, ℕ, ◌+◌, ◌*◌, ◌^◌, ◌<◌, ◌==◌, Bool, true, false, cond, nat_eq, bit_and}
+use Rattle.std.proofs.Common.{◌≡◌, ℕ, ◌+◌, ◌*◌, ◌/◌, ◌%◌, ◌^◌, ◌<◌, ◌==◌, Bool, true, false, cond, nat_eq, bit_and}
 use Rattle.std.proofs.Common.{List, [], ◌∷◌, ◌++◌, length, map, get_or, replicate, refl, ap, sym, subst, ◌∙◌, arith, w8, Fits}
 use Rattle.std.proofs.lemmas.Bool.{eqb-true}
 use Rattle.std.proofs.lemmas.List.{get_or-map, length-map}
@@ -8,7 +8,7 @@ use lib.Lanes.{zip2, pick_l, sel_l, top, Each1}
 use Rattle.aes_planes.specs.Bits.{at, bit}
 use Rattle.aes_planes.specs.Fips197 as fips
 use Rattle.aes_planes.specs.Planes.{held, place}
-use Rattle.aes_planes.specs.Private.Lanes.{lane_bits}
+use Rattle.aes_planes.specs.Private.Lanes.{lane_bits, wide_bits}
 use Rattle.aes_planes.proofs.Bits.ByteCases.{all_below, all_pairs_tell, by_four, by_eight}
 use Rattle.aes_planes.proofs.Lists.{built}
 use Rattle.aes_planes.proofs.Planes.Holds.{holds_held}
@@ -79,6 +79,10 @@ row_place x l r c hr hc = subst (λ y. AtRow y r c) (built 16 x 0 l) (place_of_b
 abbrev pub HasBit : List ℕ → ℕ → List ℕ → Type 0
 HasBit rows p x = (j : ℕ) → j < 16 → get_or x j 0 ≡ cond (bit (get_or rows j 0) p) 255 0
 
+-- the lanes of x in both halves, as a word of 256 bits
+abbrev pub IsTwice : List ℕ → List ℕ → Type 0
+IsTwice x w = (i : ℕ) → i < 256 → at (wide_bits w) i ≡ at (lane_bits x) (8 * (i / 16) + i % 8)
+
 module _ (block rows : List ℕ) (typed : fips.IsBlock block)
     (by_row : (r c : ℕ) → r < 4 → c < 4 → get_or rows (4 * r + c) 0 ≡ fips.byte_at block r c) where
   spread_bit : (x : List ℕ) (p : ℕ) → HasBit rows p x → (r c k : ℕ) → r < 4 → c < 4 → k < 8
@@ -100,4 +104,25 @@ module _ (block rows : List ℕ) (typed : fips.IsBlock block)
         bits = λ p r c k hp hr hc hk.
             ap (λ w. at w (place 8 r c k)) (get_or-map lane_bits xs p [] [] (omega (arith, eight, hp)))
             ∙ spread_bit (get_or xs p []) p (has p hp) r c k hr hc hk;
+      })
+
+  -- and eight words of 256 bits that have those lanes in both halves hold it in each of sixteen slots
+  pub wide_spread_held : (xs ws : List (List ℕ)) → length ws ≡ 8
+      → ((p : ℕ) → p < 8 → HasBit rows p (get_or xs p []))
+      → ((p : ℕ) → p < 8 → IsTwice (get_or xs p []) (get_or ws p []))
+      → held 16 (map wide_bits ws) ≡ replicate 16 block
+  wide_spread_held xs ws eight has twice =
+      holds_held 16 (map wide_bits ws) (replicate 16 block) (record {
+        planes_count = length-map ws wide_bits ∙ eight;
+        blocks_count = refl;
+        block_length = λ k hk. ap length (get_or-replicate 16 k block [] hk) ∙ typed.0;
+        bytes = λ k hk. subst fips.IsBytes (sym (get_or-replicate 16 k block [] hk)) typed.1;
+        bits = λ p r c k hp hr hc hk.
+            let i = place 16 r c k in
+            let spot : 8 * (i / 16) + i % 8 ≡ place 8 r c (k % 8) = omega (arith, hc, hk) in
+            ap (λ w. at w i) (get_or-map wide_bits ws p [] [] (omega (arith, eight, hp)))
+            ∙ twice p hp i (omega (arith, hr, hc, hk)) ∙ ap (at (lane_bits (get_or xs p []))) spot
+            ∙ spread_bit (get_or xs p []) p (has p hp) r c (k % 8) hr hc (omega arith)
+            ∙ ap (λ b. bit (fips.byte_at b r c) p) (get_or-replicate 8 (k % 8) block [] (omega arith)
+            ∙ sym (get_or-replicate 16 k block [] hk));
       })

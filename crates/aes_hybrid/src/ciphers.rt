@@ -10,41 +10,46 @@ use aes_cipher::cipher::{
     BlockCipherDecClosure, BlockCipherEncClosure, BlockCipherEncrypt, Decrypt, Encrypt,
 };
 use aes_permute::keys::{LendsKeys, OneWay, TwoWays};
-use aes_permute::sizes::LaneKeys;
 use aes_planes::soft::word::Block;
 
 /// Stored round keys of vector permutations, those of Cipher among them: planes for whole batches are made of these, in
 /// either direction.
-#[derive(Drop)]
-pub struct Hybrid<S: KeySchedule> {
+pub struct Hybrid<S: Drop> {
     lanes: S,
 }
 
-impl<S: LendsKeys<Encrypt>> Hybrid<S> {
-    // The stored round keys of Cipher.
+impl<S: Drop> Drop for Hybrid<S> {
     #[inline(always)]
-    fn keys(&self) -> &[Block]
-        requires keyed { S.AreKeyed self.now.lanes }
-        ensures is_lanes { IsLanes result.now }
-        ensures key { lanes_key result.now ≡ S.key self.now.lanes }
-    {
-        self.lanes.has_key();
-        self.lanes.lend()
+    fn drop(self) {
+        let Hybrid { lanes: _ } = self;
     }
 }
 
-impl<S: KeySchedule> KeySchedule for Hybrid<S> {
-    type Size = S::Size;
+// The stored round keys of Cipher.
+#[inline(always)]
+fn keys_of<S: LendsKeys<Encrypt>>(lanes: &S) -> &[Block]
+    requires keyed { S.AreKeyed lanes.now }
+    ensures is_lanes { IsLanes result.now }
+    ensures key { lanes_key result.now ≡ S.key lanes.now }
+{
+    lanes.has_key();
+    lanes.lend()
+}
 
-    ghost key = { λ s. S.key s.lanes };
+impl<K: KeySize> KeySchedule for Hybrid<OneWay<K, Encrypt>> {
+    type Size = K;
 
-    ghost AreKeyed = { λ s. S.AreKeyed s.lanes };
+    ghost key = { λ s. ⟦<OneWay<K, Encrypt> as KeySchedule>⟧.key s.lanes };
 
-    ghost IsWiped = { λ s. S.IsWiped s.lanes };
+    ghost AreKeyed = { λ s. ⟦<OneWay<K, Encrypt> as KeySchedule>⟧.AreKeyed s.lanes };
+
+    ghost IsWiped = { λ s. ⟦<OneWay<K, Encrypt> as KeySchedule>⟧.IsWiped s.lanes };
 
     #[inline(always)]
-    fn zeroed() -> Hybrid<S> {
-        Hybrid { lanes: S::zeroed() }
+    fn zeroed() -> Hybrid<OneWay<K, Encrypt>> {
+        Hybrid {
+            lanes: <OneWay<K, Encrypt> as KeySchedule>::zeroed(),
+        }
     }
 
     #[inline(always)]
@@ -53,12 +58,12 @@ impl<S: KeySchedule> KeySchedule for Hybrid<S> {
     }
 
     #[inline(always)]
-    fn refill(&mut self, new_key: &<S::Size as KeySize>::Key) {
+    fn refill(&mut self, new_key: &K::Key) {
         self.lanes.refill(new_key);
     }
 
     #[inline(always)]
-    fn copy(&self) -> Hybrid<S> {
+    fn copy(&self) -> Hybrid<OneWay<K, Encrypt>> {
         Hybrid {
             lanes: self.lanes.copy(),
         }
@@ -69,7 +74,45 @@ impl<S: KeySchedule> KeySchedule for Hybrid<S> {
     }
 }
 
-impl<K: LaneKeys> TurnedFrom<Hybrid<OneWay<K, Encrypt>>> for Hybrid<TwoWays<K>> {
+impl<K: KeySize> KeySchedule for Hybrid<TwoWays<K>> {
+    type Size = K;
+
+    ghost key = { λ s. ⟦<TwoWays<K> as KeySchedule>⟧.key s.lanes };
+
+    ghost AreKeyed = { λ s. ⟦<TwoWays<K> as KeySchedule>⟧.AreKeyed s.lanes };
+
+    ghost IsWiped = { λ s. ⟦<TwoWays<K> as KeySchedule>⟧.IsWiped s.lanes };
+
+    #[inline(always)]
+    fn zeroed() -> Hybrid<TwoWays<K>> {
+        Hybrid {
+            lanes: <TwoWays<K> as KeySchedule>::zeroed(),
+        }
+    }
+
+    #[inline(always)]
+    fn wipe(&mut self) {
+        self.lanes.wipe();
+    }
+
+    #[inline(always)]
+    fn refill(&mut self, new_key: &K::Key) {
+        self.lanes.refill(new_key);
+    }
+
+    #[inline(always)]
+    fn copy(&self) -> Hybrid<TwoWays<K>> {
+        Hybrid {
+            lanes: self.lanes.copy(),
+        }
+    }
+
+    fn has_key(&self) {
+        self.lanes.has_key();
+    }
+}
+
+impl<K: KeySize> TurnedFrom<Hybrid<OneWay<K, Encrypt>>> for Hybrid<TwoWays<K>> {
     #[inline(always)]
     fn turned(schedule: &Hybrid<OneWay<K, Encrypt>>) -> Hybrid<TwoWays<K>> {
         Hybrid {
@@ -78,29 +121,51 @@ impl<K: LaneKeys> TurnedFrom<Hybrid<OneWay<K, Encrypt>>> for Hybrid<TwoWays<K>> 
     }
 }
 
-impl<S: LendsKeys<Encrypt> + Processes<Encrypt>> Processes<Encrypt> for Hybrid<S> {
+impl<K: KeySize> Processes<Encrypt> for Hybrid<OneWay<K, Encrypt>> {
     #[inline(always)]
     fn process_block(&self, block: &mut Block) {
-        self.lanes.process_block(block);
+        <OneWay<K, Encrypt> as Processes<Encrypt>>::process_block(&self.lanes, block);
     }
 
     fn process_blocks(&self, blocks: &mut [Block]) {
-        let keys = self.keys();
+        let keys = keys_of::<OneWay<K, Encrypt>>(&self.lanes);
         process_blocks::<Encrypt>(keys, keys, blocks);
     }
 }
 
-impl<S: LendsKeys<Encrypt> + Processes<Encrypt>> Encrypts for Hybrid<S> {
+impl<K: KeySize> Encrypts for Hybrid<OneWay<K, Encrypt>> {
     fn encrypt_with_backend<F: BlockCipherEncClosure>(&self, f: &mut F) {
-        LentKeys::new(self.keys()).encrypt_with_backend(f);
+        LentKeys::new(keys_of::<OneWay<K, Encrypt>>(&self.lanes)).encrypt_with_backend(f);
     }
 
     fn encrypt_with_backend_for<F: BlockCipherEncClosure>(&self, blocks: usize, f: &mut F) {
-        LentKeys::new(self.keys()).encrypt_with_backend_for(blocks, f);
+        LentKeys::new(keys_of::<OneWay<K, Encrypt>>(&self.lanes)).encrypt_with_backend_for(blocks, f);
     }
 }
 
-impl<K: LaneKeys> Processes<Decrypt> for Hybrid<TwoWays<K>> {
+impl<K: KeySize> Processes<Encrypt> for Hybrid<TwoWays<K>> {
+    #[inline(always)]
+    fn process_block(&self, block: &mut Block) {
+        <TwoWays<K> as Processes<Encrypt>>::process_block(&self.lanes, block);
+    }
+
+    fn process_blocks(&self, blocks: &mut [Block]) {
+        let keys = keys_of::<TwoWays<K>>(&self.lanes);
+        process_blocks::<Encrypt>(keys, keys, blocks);
+    }
+}
+
+impl<K: KeySize> Encrypts for Hybrid<TwoWays<K>> {
+    fn encrypt_with_backend<F: BlockCipherEncClosure>(&self, f: &mut F) {
+        LentKeys::new(keys_of::<TwoWays<K>>(&self.lanes)).encrypt_with_backend(f);
+    }
+
+    fn encrypt_with_backend_for<F: BlockCipherEncClosure>(&self, blocks: usize, f: &mut F) {
+        LentKeys::new(keys_of::<TwoWays<K>>(&self.lanes)).encrypt_with_backend_for(blocks, f);
+    }
+}
+
+impl<K: KeySize> Processes<Decrypt> for Hybrid<TwoWays<K>> {
     #[inline(always)]
     fn process_block(&self, block: &mut Block) {
         <TwoWays<K> as Processes<Decrypt>>::process_block(&self.lanes, block);
@@ -108,11 +173,11 @@ impl<K: LaneKeys> Processes<Decrypt> for Hybrid<TwoWays<K>> {
 
     fn process_blocks(&self, blocks: &mut [Block]) {
         let used = <TwoWays<K> as LendsKeys<Decrypt>>::lend(&self.lanes);
-        process_blocks::<Decrypt>(self.keys(), used, blocks);
+        process_blocks::<Decrypt>(keys_of::<TwoWays<K>>(&self.lanes), used, blocks);
     }
 }
 
-impl<K: LaneKeys> Decrypts for Hybrid<TwoWays<K>> {
+impl<K: KeySize> Decrypts for Hybrid<TwoWays<K>> {
     #[inline(always)]
     fn decrypt_with_backend<F: BlockCipherDecClosure>(&self, f: &mut F) {
         self.lanes.decrypt_with_backend(f);

@@ -7,15 +7,16 @@ ghost use Rattle.aes_hybrid.specs.Lanes.{lanes_key, IsLanes};
 
 mod backends;
 
-use crate::blocks::{BATCH, process_blocks};
+use crate::blocks::{BATCH, WIDE, process_blocks};
 use crate::wide::put_wide;
 use aes_cipher::cipher::{BlockCipherEncClosure, BlockCipherEncrypt, Encrypt, RoundKeysUser};
-use aes_cipher::zeroize::Held;
+use aes_cipher::zeroize::{Held, zeroize_words};
 use aes_planes::laws;
 use aes_planes::soft::word::Block;
 use aes_soft::soft::key_sizes::BatchWord;
-use backends::{Batches, Pairs};
+use backends::{Batches, Pairs, Sixteens};
 use std::marker::Model;
+use std::simd::prelude::*;
 use std::slice;
 
 /// Stored round keys of Cipher, lent to encrypt. The backend for eight blocks or more has planes for whole batches, and
@@ -72,6 +73,8 @@ impl BlockCipherEncrypt for LentKeys<'_> {
     fn encrypt_with_backend_for<F: BlockCipherEncClosure>(&self, blocks: usize, f: &mut F) {
         if blocks < BATCH {
             f.call(&Pairs::new(self.keys));
+        } else if WIDE && blocks >= 16 {
+            call_by_sixteen_of(self.keys, f);
         } else {
             self.encrypt_with_backend(f);
         }
@@ -97,8 +100,37 @@ fn call_with_planes<const N: usize, F: BlockCipherEncClosure>(keys: &[Block], f:
     ensures { F.did f.old (fips.key_expansion (lanes_key keys.now)) f.new }
 {
     let mut wide = Held::<[BatchWord; N]>::zeroed();
-    put_wide(wide.words_mut(), keys);
+    put_wide::<N, BatchWord>(wide.words_mut(), keys);
     let words = &wide.words()[..8 * keys.len()];
     f.call(&Batches::new(keys, words));
     wide.wipe();
+}
+
+// Calls a closure with a backend on words of 256 bits, which are wiped before the call returns.
+#[inline(always)]
+fn call_by_sixteen<const N: usize, F: BlockCipherEncClosure>(keys: &[Block], f: &mut F)
+    requires room { 8 * length keys.now ≤ N }
+    requires most { N ≤ 120 }
+    requires is_lanes { IsLanes keys.now }
+    ensures { F.did f.old (fips.key_expansion (lanes_key keys.now)) f.new }
+{
+    let mut wide = [u8x32::splat(0); N];
+    put_wide::<N, u8x32>(&mut wide, keys);
+    f.call(&Sixteens::new(keys, &wide[..8 * keys.len()]));
+    zeroize_words::<u8x32>(&mut wide);
+}
+
+// Does the same in an array no larger than the round keys.
+#[inline(always)]
+fn call_by_sixteen_of<F: BlockCipherEncClosure>(keys: &[Block], f: &mut F)
+    requires is_lanes { IsLanes keys.now }
+    ensures { F.did f.old (fips.key_expansion (lanes_key keys.now)) f.new }
+{
+    if keys.len() == 11 {
+        call_by_sixteen::<88, F>(keys, f);
+    } else if keys.len() == 13 {
+        call_by_sixteen::<104, F>(keys, f);
+    } else {
+        call_by_sixteen::<120, F>(keys, f);
+    }
 }

@@ -1,12 +1,13 @@
 //! One block in every slot of the planes of a batch: a lane of ones for each byte that has a bit.
 
-ghost use Rattle.std.specs.Prelude.{◌≡◌, ℕ, ◌+◌, ◌*◌, ◌^◌, ◌<◌, cond, get_or, map, replicate};
-ghost use Rattle.aes_planes.specs.Bits.{bit};
+ghost use Rattle.std.specs.Prelude.{◌≡◌, ℕ, ◌+◌, ◌*◌, ◌/◌, ◌%◌, ◌^◌, ◌<◌, cond, get_or, map, replicate};
+ghost use Rattle.aes_planes.specs.Bits.{at, bit};
 ghost use Rattle.aes_planes.specs.Fips197 as fips;
 ghost use Rattle.aes_planes.specs.Planes.{held};
-ghost use Rattle.aes_planes.specs.Private.Lanes.{lane_bits};
+ghost use Rattle.aes_planes.specs.Private.Lanes.{lane_bits, wide_bits};
 ghost use Rattle.aes_planes.specs.Words.{word_bits};
 
+use aes_planes::soft::word::Word;
 use aes_soft::soft::key_sizes::BatchWord;
 use std::simd::prelude::*;
 
@@ -43,29 +44,72 @@ fn word(x: u8x16) -> BatchWord
     (high as u128) << 64 | low as u128
 }
 
-/// Returns the planes that hold a block in every slot.
+/// A word whose planes can be made to hold one block in every slot.
+pub trait SlotWord: Word {
+    /// Returns the planes that hold a block in every slot.
+    fn in_every_slot(block: u8x16) -> [Self; 8]
+        requires { fips.IsBlock block }
+        ensures { held Self.BLOCKS (map Self.bits result) ≡ replicate Self.BLOCKS block };
+}
+
+impl SlotWord for BatchWord {
+    #[inline(always)]
+    fn in_every_slot(block: u8x16) -> [BatchWord; 8] {
+        let bytes = by_rows(block);
+        let x0 = lanes_with(bytes, 0x01);
+        let x1 = lanes_with(bytes, 0x02);
+        let x2 = lanes_with(bytes, 0x04);
+        let x3 = lanes_with(bytes, 0x08);
+        let x4 = lanes_with(bytes, 0x10);
+        let x5 = lanes_with(bytes, 0x20);
+        let x6 = lanes_with(bytes, 0x40);
+        let x7 = lanes_with(bytes, 0x80);
+        [
+            word(x0),
+            word(x1),
+            word(x2),
+            word(x3),
+            word(x4),
+            word(x5),
+            word(x6),
+            word(x7),
+        ]
+    }
+}
+
+// Sixteen lanes in both halves.
+#[tactic(auto, using(aes_planes::proofs::Words::Wide::twice_places))]
 #[inline(always)]
-pub(crate) fn in_every_slot(block: u8x16) -> [BatchWord; 8]
-    requires { fips.IsBlock block }
-    ensures { held 8 (map (word_bits 128) result) ≡ replicate 8 block }
+fn twice(x: u8x16) -> u8x32
+    ensures { (i : ℕ) → i < 256 → at (wide_bits result) i ≡ at (lane_bits x) (8 * (i / 16) + i % 8) }
 {
-    let bytes = by_rows(block);
-    let x0 = lanes_with(bytes, 0x01);
-    let x1 = lanes_with(bytes, 0x02);
-    let x2 = lanes_with(bytes, 0x04);
-    let x3 = lanes_with(bytes, 0x08);
-    let x4 = lanes_with(bytes, 0x10);
-    let x5 = lanes_with(bytes, 0x20);
-    let x6 = lanes_with(bytes, 0x40);
-    let x7 = lanes_with(bytes, 0x80);
-    [
-        word(x0),
-        word(x1),
-        word(x2),
-        word(x3),
-        word(x4),
-        word(x5),
-        word(x6),
-        word(x7),
-    ]
+    x.swizzle([
+        0, 1, 2, 3, 4, 5, 6, 7, 8, 9, 10, 11, 12, 13, 14, 15, 0, 1, 2, 3, 4, 5, 6, 7, 8, 9, 10, 11,
+        12, 13, 14, 15,
+    ])
+}
+
+impl SlotWord for u8x32 {
+    #[inline(always)]
+    fn in_every_slot(block: u8x16) -> [u8x32; 8] {
+        let bytes = by_rows(block);
+        let x0 = lanes_with(bytes, 0x01);
+        let x1 = lanes_with(bytes, 0x02);
+        let x2 = lanes_with(bytes, 0x04);
+        let x3 = lanes_with(bytes, 0x08);
+        let x4 = lanes_with(bytes, 0x10);
+        let x5 = lanes_with(bytes, 0x20);
+        let x6 = lanes_with(bytes, 0x40);
+        let x7 = lanes_with(bytes, 0x80);
+        [
+            twice(x0),
+            twice(x1),
+            twice(x2),
+            twice(x3),
+            twice(x4),
+            twice(x5),
+            twice(x6),
+            twice(x7),
+        ]
+    }
 }

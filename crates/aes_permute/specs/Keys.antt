@@ -1,5 +1,5 @@
 -- Stored round keys of a key, and the key that they are read as.
-use Rattle.std.specs.Prelude.{◌≡◌, ℕ, ◌-◌, List, [], ◌∷◌, ◌++◌, length, take}
+use Rattle.std.specs.Prelude.{◌≡◌, ℕ, ◌+◌, ◌-◌, ◌/◌, List, [], ◌∷◌, ◌++◌, length, take}
 use Rattle.aes_planes.specs.Fips197 as fips
 use Rattle.aes_planes.specs.Planes.{plus63}
 use Rattle.aes_permute.specs.Stored.{as_is, inv_untower, key_untower, round_keys_of}
@@ -11,6 +11,10 @@ encrypting stored = round_keys_of as_is key_untower plus63 stored
 -- the round keys that those of EqInvCipher stand for
 abbrev pub decrypting : List (List ℕ) → List (List ℕ)
 decrypting stored = round_keys_of plus63 inv_untower as_is stored
+
+-- of blocks, the stored round keys of a key of `size` bytes: there are seven more than words of the key
+abbrev pub stored_keys : ℕ → List (List ℕ) → List (List ℕ)
+stored_keys size blocks = take (size / 4 + 7) blocks
 
 -- the key of `size` bytes with which a key schedule begins
 abbrev pub leading_key : ℕ → List (List ℕ) → List ℕ

@@ -1,58 +1,63 @@
-//! Stored round keys that are wiped when they are dropped.
+//! Room for stored round keys of a key of any size, and the first of its blocks, which are the round keys.
 
-ghost use Rattle.std.specs.Prelude.{◌≡◌, ℕ, List, replicate};
+ghost use Rattle.std.specs.Prelude.{◌≡◌, ◌⊎◌, ◌+◌, ◌/◌, length};
+ghost use Rattle.aes_planes.specs.Fips197 as fips;
+ghost use Rattle.aes_permute.specs.Keys.{encrypting, decrypting, stored_keys};
+ghost use Rattle.aes_permute.specs.Stored.{round_keys_of};
 
+use crate::directions::LaneRounds;
+use crate::schedule::{expand_128, expand_192, expand_256, invert};
+use crate::sizes::size_of_key;
+use aes_cipher::aes::KeySize;
 use aes_cipher::zeroize::Wiped;
 use aes_planes::soft::word::Block;
 
-/// Stored round keys, which are wiped when they are dropped. Contracts see the blocks.
-///
-/// This is `Wiped` over an array of blocks of any length, so that each size of keys can name its own. It lends a slice,
-/// as vector permutations take round keys. `WipedKeys` of `aes_soft` is the like for words, and lends the array.
-pub trait Stored: Drop {
-    /// The blocks.
-    ghost blocks: { Self → List (List ℕ) };
+/// Room for the round keys of a key of any size: as many blocks as the largest has.
+pub type Room = [Block; 15];
 
-    /// Every byte is zero.
-    ghost IsWiped: { Self → Type 0 };
-
-    /// Returns blocks of zeros, to be written over.
-    fn zeroed() -> Self
-        ensures { IsWiped result };
-
-    /// Lends the blocks.
-    fn lend(&self) -> &[Block]
-        ensures { result.now ≡ blocks self.now };
-
-    /// Returns the same blocks once more.
-    fn copy(&self) -> Self
-        ensures { blocks result ≡ blocks self.now };
-
-    /// Sets every byte to 0.
-    fn wipe(&mut self)
-        ensures { IsWiped self.new };
+/// Returns the stored round keys of a key: the first of the blocks.
+#[inline(always)]
+pub fn keys_of<K: KeySize>(room: &Wiped<Room>) -> &[Block]
+    ensures keys { result.now ≡ stored_keys K.Key.SIZE room.now }
+    ensures count { length result.now ≡ K.Key.SIZE / 4 + 7 }
+{
+    &room.words()[..size_of_key::<K>() / 4 + 7]
 }
 
-impl<const N: usize> Stored for Wiped<[Block; N]> {
-    ghost blocks = { λ wiped. wiped };
-
-    ghost IsWiped = { λ wiped. wiped ≡ replicate N (replicate 16 0) };
-
-    #[inline(always)]
-    fn zeroed() -> Wiped<[Block; N]> {
-        Wiped::zeroed()
+// Writes the round keys of a key of any length that the standard has.
+#[inline(always)]
+fn expand<D: LaneRounds>(room: &mut Room, key: &[u8])
+    requires one_of_three { (length key.now ≡ 16) ⊎ ((length key.now ≡ 24) ⊎ (length key.now ≡ 32)) }
+    ensures { round_keys_of D.first_byte D.inner_byte D.last_byte (stored_keys (length key.now) room.new)
+        ≡ D.used_keys (fips.key_expansion key.now) }
+{
+    if key.len() == 16 {
+        expand_128::<D>(&mut room[..11], key);
+    } else if key.len() == 24 {
+        expand_192::<D>(&mut room[..13], key);
+    } else {
+        expand_256::<D>(room, key);
     }
+}
 
-    #[inline(always)]
-    fn lend(&self) -> &[Block] {
-        self.words()
-    }
+/// Writes the round keys of a key as a direction uses them: KeyExpansion (FIPS 197, 5.2), and KeyExpansionEIC for
+/// decrypting (5.3.5).
+#[inline(always)]
+pub fn put_keys<K: KeySize, D: LaneRounds>(room: &mut Room, key: &[u8])
+    requires { length key.now ≡ K.Key.SIZE }
+    ensures { round_keys_of D.first_byte D.inner_byte D.last_byte (stored_keys K.Key.SIZE room.new)
+        ≡ D.used_keys (fips.key_expansion key.now) }
+{
+    size_of_key::<K>();
+    expand::<D>(room, key);
+}
 
-    fn copy(&self) -> Wiped<[Block; N]> {
-        self.copy()
-    }
-
-    fn wipe(&mut self) {
-        self.wipe();
-    }
+/// Writes the round keys of EqInvCipher, of the same key as those of Cipher (FIPS 197, 5.3.5).
+#[inline(always)]
+pub fn put_inverse<K: KeySize>(inverse: &mut Room, room: &Wiped<Room>)
+    ensures { decrypting (stored_keys K.Key.SIZE inverse.new)
+        ≡ fips.inverted_keys (encrypting (stored_keys K.Key.SIZE room.now)) }
+{
+    let count = size_of_key::<K>() / 4 + 7;
+    invert(&mut inverse[..count], keys_of::<K>(room));
 }

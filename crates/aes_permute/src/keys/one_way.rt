@@ -1,86 +1,101 @@
 //! Round keys for one direction.
 
-ghost use Rattle.std.specs.Prelude.{◌≡◌, ◌≤◌, length};
+ghost use Rattle.std.specs.Prelude.{◌≡◌, ◌≤◌, length, replicate};
 ghost use Rattle.aes_planes.specs.Fips197 as fips;
-ghost use Rattle.aes_permute.specs.Keys.{key_read, IsLaneSchedule};
+ghost use Rattle.aes_permute.specs.Keys.{key_read, stored_keys, IsLaneSchedule};
 ghost use Rattle.aes_permute.specs.Stored.{round_keys_of};
 
 use super::LendsKeys;
 use super::backend::LaneBackend;
 use crate::blocks::{process_block, process_blocks};
 use crate::directions::LaneRounds;
-use crate::sizes::LaneKeys;
-use crate::stored::Stored;
-use aes_cipher::aes::{Decrypts, Encrypts, KeyBytes, KeySchedule, Processes, TurnedFrom};
+use crate::stored::{Room, keys_of, put_inverse, put_keys};
+use aes_cipher::aes::{
+    Decrypts, Encrypts, KeyBytes, KeySchedule, KeySize, Processes, TurnedFrom,
+};
 use aes_cipher::cipher::{BlockCipherDecClosure, BlockCipherEncClosure, Decrypt, Encrypt};
+use aes_cipher::zeroize::Wiped;
 use aes_planes::soft::word::Block;
 use std::marker::PhantomData;
 
 /// Round keys for one direction only.
-#[derive(Drop)]
-pub struct OneWay<K: LaneKeys, D: LaneRounds> {
-    // The round keys, as they are stored.
-    keys: K::Keys,
+pub struct OneWay<K: KeySize, D: LaneRounds> {
+    // The first blocks are the round keys, as they are stored. The others stay zero.
+    room: Wiped<Room>,
+    size: PhantomData<K>,
     direction: PhantomData<D>,
 }
 
-impl<K: LaneKeys, D: LaneRounds> KeySchedule for OneWay<K, D> {
+impl<K: KeySize, D: LaneRounds> Drop for OneWay<K, D> {
+    #[inline(always)]
+    fn drop(self) {
+        let OneWay {
+            room: _,
+            size: _,
+            direction: _,
+        } = self;
+    }
+}
+
+impl<K: KeySize, D: LaneRounds> KeySchedule for OneWay<K, D> {
     type Size = K;
 
     ghost key = { λ s. key_read D.first_keys K.Key.SIZE
-        (round_keys_of D.first_byte D.inner_byte D.last_byte (K.Keys.blocks s.keys)) };
+        (round_keys_of D.first_byte D.inner_byte D.last_byte (stored_keys K.Key.SIZE s.room)) };
 
     ghost AreKeyed = { λ s. IsLaneSchedule D.used_keys D.first_keys K.Key.SIZE
-        (round_keys_of D.first_byte D.inner_byte D.last_byte (K.Keys.blocks s.keys)) };
+        (round_keys_of D.first_byte D.inner_byte D.last_byte (stored_keys K.Key.SIZE s.room)) };
 
-    ghost IsWiped = { λ s. K.Keys.IsWiped s.keys };
+    ghost IsWiped = { λ s. s.room ≡ replicate 15 (replicate 16 0) };
 
     #[inline(always)]
     fn zeroed() -> OneWay<K, D> {
         OneWay {
-            keys: K::Keys::zeroed(),
+            room: Wiped::zeroed(),
+            size: PhantomData,
             direction: PhantomData,
         }
     }
 
     #[inline(always)]
     fn wipe(&mut self) {
-        self.keys.wipe();
+        self.room.wipe();
     }
 
     #[inline(always)]
     fn refill(&mut self, new_key: &K::Key) {
-        write_keys::<K, D>(&mut self.keys, new_key.as_slice());
+        write_keys::<K, D>(self.room.words_mut(), new_key.as_slice());
     }
 
     fn copy(&self) -> OneWay<K, D> {
         OneWay {
-            keys: self.keys.copy(),
+            room: self.room.copy(),
+            size: PhantomData,
             direction: PhantomData,
         }
     }
 
     fn has_key(&self) {
-        let _ = &self.keys;
+        let _ = &self.room;
     }
 }
 
-impl<K: LaneKeys, D: LaneRounds> LendsKeys<D> for OneWay<K, D> {
+impl<K: KeySize, D: LaneRounds> LendsKeys<D> for OneWay<K, D> {
     #[inline(always)]
     fn lend(&self) -> &[Block] {
         D::uses_all();
-        self.keys.lend()
+        keys_of::<K>(&self.room)
     }
 }
 
-impl<K: LaneKeys> TurnedFrom<OneWay<K, Encrypt>> for OneWay<K, Encrypt> {
+impl<K: KeySize> TurnedFrom<OneWay<K, Encrypt>> for OneWay<K, Encrypt> {
     #[inline(always)]
     fn turned(schedule: &OneWay<K, Encrypt>) -> OneWay<K, Encrypt> {
         schedule.copy()
     }
 }
 
-impl<K: LaneKeys> TurnedFrom<OneWay<K, Encrypt>> for OneWay<K, Decrypt> {
+impl<K: KeySize> TurnedFrom<OneWay<K, Encrypt>> for OneWay<K, Decrypt> {
     #[inline(always)]
     fn turned(schedule: &OneWay<K, Encrypt>) -> OneWay<K, Decrypt> {
         let mut inverse = OneWay::zeroed();
@@ -89,7 +104,7 @@ impl<K: LaneKeys> TurnedFrom<OneWay<K, Encrypt>> for OneWay<K, Decrypt> {
     }
 }
 
-impl<K: LaneKeys, D: LaneRounds> Processes<D> for OneWay<K, D> {
+impl<K: KeySize, D: LaneRounds> Processes<D> for OneWay<K, D> {
     #[tactic(auto, using(aes_planes::proofs::Standard::CipherLaws::two_keys))]
     fn process_block(&self, block: &mut Block) {
         D::processes();
@@ -102,35 +117,34 @@ impl<K: LaneKeys, D: LaneRounds> Processes<D> for OneWay<K, D> {
     }
 }
 
-impl<K: LaneKeys> Encrypts for OneWay<K, Encrypt> {
+impl<K: KeySize> Encrypts for OneWay<K, Encrypt> {
     fn encrypt_with_backend<F: BlockCipherEncClosure>(&self, f: &mut F) {
         f.call(&LaneBackend::new(self));
     }
 }
 
-impl<K: LaneKeys> Decrypts for OneWay<K, Decrypt> {
+impl<K: KeySize> Decrypts for OneWay<K, Decrypt> {
     fn decrypt_with_backend<F: BlockCipherDecClosure>(&self, f: &mut F) {
         f.call(&LaneBackend::new(self));
     }
 }
 
-// Writes the round keys of a key to wiped room.
+// Writes the round keys of a key.
 #[inline(always)]
-fn write_keys<K: LaneKeys, D: LaneRounds>(keys: &mut K::Keys, bytes: &[u8])
-    requires wiped { K.Keys.IsWiped keys.old }
+fn write_keys<K: KeySize, D: LaneRounds>(room: &mut Room, bytes: &[u8])
     requires sized { length bytes.now ≡ K.Key.SIZE }
     ensures keyed { IsLaneSchedule D.used_keys D.first_keys K.Key.SIZE
-        (round_keys_of D.first_byte D.inner_byte D.last_byte (K.Keys.blocks keys.new)) }
+        (round_keys_of D.first_byte D.inner_byte D.last_byte (stored_keys K.Key.SIZE room.new)) }
     ensures same { key_read D.first_keys K.Key.SIZE
-        (round_keys_of D.first_byte D.inner_byte D.last_byte (K.Keys.blocks keys.new)) ≡ bytes.now }
+        (round_keys_of D.first_byte D.inner_byte D.last_byte (stored_keys K.Key.SIZE room.new)) ≡ bytes.now }
 {
     D::keeps_key();
-    K::expand::<D>(keys, bytes);
+    put_keys::<K, D>(room, bytes);
 }
 
 /// Writes the round keys for decrypting, of the key of those for encrypting, to wiped room.
 #[inline(always)]
-pub(super) fn refill_inverse<K: LaneKeys>(
+pub(super) fn refill_inverse<K: KeySize>(
     inverse: &mut OneWay<K, Decrypt>,
     schedule: &OneWay<K, Encrypt>,
 )
@@ -140,5 +154,5 @@ pub(super) fn refill_inverse<K: LaneKeys>(
     ensures same { ⟦<OneWay<K, Decrypt> as KeySchedule>⟧.key inverse.new ≡ ⟦<OneWay<K, Encrypt> as KeySchedule>⟧.key
         schedule.now }
 {
-    K::invert(&mut inverse.keys, &schedule.keys);
+    put_inverse::<K>(inverse.room.words_mut(), &schedule.room);
 }

@@ -5,19 +5,27 @@ ghost use Rattle.aes_planes.specs.Fips197 as fips;
 
 use super::one_way::refill_inverse;
 use super::{LendsKeys, OneWay};
-use crate::sizes::LaneKeys;
-use aes_cipher::aes::{Decrypts, Encrypts, KeySchedule, Processes, TurnedFrom};
+use aes_cipher::aes::{Decrypts, Encrypts, KeySchedule, KeySize, Processes, TurnedFrom};
 use aes_cipher::cipher::{BlockCipherDecClosure, BlockCipherEncClosure, Decrypt, Encrypt};
 use aes_planes::soft::word::Block;
 
 /// Round keys for encrypting and for decrypting.
-#[derive(Drop)]
-pub struct TwoWays<K: LaneKeys> {
+pub struct TwoWays<K: KeySize> {
     encrypting: OneWay<K, Encrypt>,
     decrypting: OneWay<K, Decrypt>,
 }
 
-impl<K: LaneKeys> KeySchedule for TwoWays<K> {
+impl<K: KeySize> Drop for TwoWays<K> {
+    #[inline(always)]
+    fn drop(self) {
+        let TwoWays {
+            encrypting: _,
+            decrypting: _,
+        } = self;
+    }
+}
+
+impl<K: KeySize> KeySchedule for TwoWays<K> {
     type Size = K;
 
     ghost key = { λ s. ⟦<OneWay<K, Encrypt> as KeySchedule>⟧.key s.encrypting };
@@ -62,7 +70,7 @@ impl<K: LaneKeys> KeySchedule for TwoWays<K> {
     }
 }
 
-impl<K: LaneKeys> TurnedFrom<OneWay<K, Encrypt>> for TwoWays<K> {
+impl<K: KeySize> TurnedFrom<OneWay<K, Encrypt>> for TwoWays<K> {
     #[inline(always)]
     fn turned(schedule: &OneWay<K, Encrypt>) -> TwoWays<K> {
         TwoWays {
@@ -72,21 +80,21 @@ impl<K: LaneKeys> TurnedFrom<OneWay<K, Encrypt>> for TwoWays<K> {
     }
 }
 
-impl<K: LaneKeys> LendsKeys<Encrypt> for TwoWays<K> {
+impl<K: KeySize> LendsKeys<Encrypt> for TwoWays<K> {
     #[inline(always)]
     fn lend(&self) -> &[Block] {
         self.encrypting.lend()
     }
 }
 
-impl<K: LaneKeys> LendsKeys<Decrypt> for TwoWays<K> {
+impl<K: KeySize> LendsKeys<Decrypt> for TwoWays<K> {
     #[inline(always)]
     fn lend(&self) -> &[Block] {
         self.decrypting.lend()
     }
 }
 
-impl<K: LaneKeys> Processes<Encrypt> for TwoWays<K> {
+impl<K: KeySize> Processes<Encrypt> for TwoWays<K> {
     #[inline(always)]
     fn process_block(&self, block: &mut Block) {
         self.encrypting.process_block(block);
@@ -98,7 +106,7 @@ impl<K: LaneKeys> Processes<Encrypt> for TwoWays<K> {
     }
 }
 
-impl<K: LaneKeys> Processes<Decrypt> for TwoWays<K> {
+impl<K: KeySize> Processes<Decrypt> for TwoWays<K> {
     #[inline(always)]
     fn process_block(&self, block: &mut Block) {
         self.decrypting.process_block(block);
@@ -110,14 +118,14 @@ impl<K: LaneKeys> Processes<Decrypt> for TwoWays<K> {
     }
 }
 
-impl<K: LaneKeys> Encrypts for TwoWays<K> {
+impl<K: KeySize> Encrypts for TwoWays<K> {
     #[inline(always)]
     fn encrypt_with_backend<F: BlockCipherEncClosure>(&self, f: &mut F) {
         self.encrypting.encrypt_with_backend(f);
     }
 }
 
-impl<K: LaneKeys> Decrypts for TwoWays<K> {
+impl<K: KeySize> Decrypts for TwoWays<K> {
     #[inline(always)]
     fn decrypt_with_backend<F: BlockCipherDecClosure>(&self, f: &mut F) {
         self.decrypting.decrypt_with_backend(f);

@@ -8,14 +8,11 @@ use Rattle.aes_permute.proofs.DirectionLaws.{same_forward, key_backward}
 use Rattle.aes_permute.proofs.KeyBytes.{read_as, is_lane_schedule, two_stored}
 use Rattle.aes_permute.proofs.keys.one_way.refill_inverse.Goals as goal
 
-pub invert-requires : goal.invert-requires
-invert-requires g c = two_stored as_is key_untower plus63 (λ w. w) same_forward _ _ c.requires.keyed.keys
-
 pub returns-clause-keyed : goal.returns-clause-keyed
 returns-clause-keyed g c =
     is_lane_schedule _ _ _ _ _ g.met.K.KeySize.is_size c.requires.keyed.sized c.requires.keyed.bytes key_backward
-    (c.invert.ensures ∙ ap inverted_keys c.requires.keyed.keys)
+    (c.put_inverse.ensures ∙ ap inverted_keys c.requires.keyed.keys)
 
 pub returns-clause-same : goal.returns-clause-same
 returns-clause-same g c = read_as inverted_keys first_two _ _ _ g.met.K.KeySize.is_size c.requires.keyed.sized
-    c.requires.keyed.bytes key_backward (c.invert.ensures ∙ ap inverted_keys c.requires.keyed.keys)
+    c.requires.keyed.bytes key_backward (c.put_inverse.ensures ∙ ap inverted_keys c.requires.keyed.keys)

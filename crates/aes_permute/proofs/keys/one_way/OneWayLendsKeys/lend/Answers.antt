@@ -9,4 +9,4 @@ returns-clause-two g c =
     two_stored g.D.LaneRounds.first_byte g.D.LaneRounds.inner_byte g.D.LaneRounds.last_byte g.D.LaneRounds.used_keys
     c.uses_all.ensures _ _
     (ap (round_keys_of g.D.LaneRounds.first_byte g.D.LaneRounds.inner_byte g.D.LaneRounds.last_byte)
-    c.lend.ensures ∙ c.requires.keys)
+    c.keys_of.ensures.keys ∙ c.requires.keys)
