@@ -7,9 +7,11 @@ use aes_cipher::aes::{CountsLayers, Decrypts, Encrypts, KeySchedule, Processes, 
 use aes_cipher::cipher::{BlockCipherDecClosure, BlockCipherEncClosure, Decrypt, Encrypt};
 use aes_planes::soft::sbox::Layers;
 use aes_planes::soft::word::Block;
-use aes_soft::soft::blocks::{process_block, process_blocks};
+use aes_soft::soft::FullCipher;
+use aes_soft::soft::blocks::{
+    decrypt_with_backend, encrypt_with_backend, process_block, process_blocks,
+};
 use aes_soft::soft::key_sizes::{AesVariant, WipedKeys};
-use aes_soft::soft::{FullCipher, decrypt_with_backend, encrypt_with_backend};
 
 /// AES with a key of the size K, in the directions D.
 pub type AesCipher<K, D> = aes::AesCipher<Fixsliced<K>, D>;

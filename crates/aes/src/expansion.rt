@@ -4,7 +4,8 @@ ghost use Rattle.std.specs.Prelude.{◌≡◌, ◌+◌, slice_index};
 ghost use Rattle.aes_planes.specs.Fips197 as fips;
 ghost use Rattle.aes_planes.specs.Planes.{summed};
 
-use crate::hazmat::{Block, cipher_round, inv_mix_columns};
+use crate::Block;
+use crate::hazmat::{cipher_round, inv_mix_columns};
 use aes_planes::expansion::{self, KeyForm};
 use aes_planes::laws;
 use aes_planes::soft::sbox::Layers;

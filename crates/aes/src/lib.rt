@@ -9,12 +9,13 @@ pub mod expansion;
 pub mod hazmat;
 mod names;
 
-pub use aes_cipher::aes::{BothWays, Directions, Includes};
-pub use aes_cipher::cipher::Block;
 pub use ciphers::{AesCipher, Fixsliced};
 pub use names::{
     Aes128, Aes128Dec, Aes128Enc, Aes192, Aes192Dec, Aes192Enc, Aes256, Aes256Dec, Aes256Enc,
 };
+
+/// A block: sixteen bytes, that of row `r` and column `c` at place `r + 4 * c` (FIPS 197, 3.4).
+pub type Block = [u8; 16];
 
 /// Returns whether AES instructions of the processor are used. This library never uses them.
 pub fn hardware_accelerated() -> bool

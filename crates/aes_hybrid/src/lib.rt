@@ -10,7 +10,6 @@ mod names;
 mod spread;
 mod wide;
 
-pub use aes_cipher::aes::AesCipher;
 pub use ciphers::Hybrid;
 pub use names::{
     Aes128, Aes128Dec, Aes128Enc, Aes192, Aes192Dec, Aes192Enc, Aes256, Aes256Dec, Aes256Enc,

@@ -10,8 +10,9 @@ ghost use Rattle.aes_kat.specs.Private.Steps.{decoded};
 use crate::faults::Fault;
 use crate::operands::bytes_of;
 use aes::{AesCipher, Block};
+use aes_cipher::aes::{Bits128, Bits192, Bits256};
 use aes_cipher::cipher::{BlockCipherDecrypt, BlockCipherEncrypt, Decrypt, Encrypt, KeyInit};
-use aes_soft::soft::key_sizes::{AesVariant, Bits128, Bits192, Bits256};
+use aes_soft::soft::key_sizes::AesVariant;
 
 // A key, by how many bits it has.
 #[derive(Clone, Copy)]

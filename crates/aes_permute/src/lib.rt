@@ -15,8 +15,6 @@ pub mod sizes;
 pub mod stored;
 pub mod tables;
 
-pub use aes_cipher::aes::AesCipher;
-pub use keys::{LaneBackend, TwoBlocks};
 pub use names::{
     Aes128, Aes128Dec, Aes128Enc, Aes192, Aes192Dec, Aes192Enc, Aes256, Aes256Dec, Aes256Enc,
 };

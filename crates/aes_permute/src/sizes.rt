@@ -3,7 +3,6 @@
 ghost use Rattle.std.specs.Prelude.{◌≡◌, ◌⊎◌};
 
 use aes_cipher::aes::{KeyBytes, KeySize};
-pub use aes_cipher::aes::{Bits128, Bits192, Bits256};
 
 /// A size of keys whose round keys are stored for vector permutations: every size.
 pub trait LaneKeys: KeySize {}

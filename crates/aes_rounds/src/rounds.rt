@@ -1,4 +1,4 @@
-//! The key expansion, and the cipher and its inverse under any list of round keys, built from single rounds.
+//! The cipher and its inverse under any list of round keys, built from single rounds.
 
 mod both_keys;
 mod both_ways;
@@ -9,7 +9,6 @@ mod inverted_keys;
 mod runs;
 mod states;
 
-pub use aes::expansion::{expand_128, expand_192, expand_256};
 pub use both_ways::Aes;
 pub use decrypt::AesDec;
 pub use encrypt::AesEnc;

@@ -10,7 +10,6 @@ use aes_cipher::cipher::{
 };
 use aes_hybrid::Hybrid;
 use aes_permute::keys::{OneWay, TwoWays};
-use aes_permute::sizes::LaneKeys;
 use aes_soft::soft::key_sizes::AesVariant;
 
 // Encrypts a block under a key, by the type that only encrypts.
@@ -43,7 +42,7 @@ fn by_aes<K: AesVariant>(key: &K::Key, block: &Block) -> (Block, Block)
     )
 }
 
-fn by_aes_permute<K: LaneKeys>(key: &K::Key, block: &Block) -> (Block, Block)
+fn by_aes_permute<K: KeySize>(key: &K::Key, block: &Block) -> (Block, Block)
     ensures encrypted { result.0 ≡ fips.cipher (K.Key.bytes key.now) block.now }
     ensures decrypted { result.1 ≡ fips.inv_cipher (K.Key.bytes key.now) block.now }
 {
@@ -53,7 +52,7 @@ fn by_aes_permute<K: LaneKeys>(key: &K::Key, block: &Block) -> (Block, Block)
     )
 }
 
-fn by_aes_hybrid<K: LaneKeys>(key: &K::Key, block: &Block) -> (Block, Block)
+fn by_aes_hybrid<K: KeySize>(key: &K::Key, block: &Block) -> (Block, Block)
     ensures encrypted { result.0 ≡ fips.cipher (K.Key.bytes key.now) block.now }
     ensures decrypted { result.1 ≡ fips.inv_cipher (K.Key.bytes key.now) block.now }
 {

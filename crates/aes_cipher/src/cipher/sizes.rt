@@ -4,7 +4,9 @@ ghost use Rattle.std.specs.Prelude.{◌≡◌, ℕ, List};
 ghost use Rattle.std.proofs.Common.{refl};
 
 use super::round_keys::RoundKeysUser;
-pub use aes_planes::soft::word::Block;
+
+/// A block: sixteen bytes, that of row `r` and column `c` at place `r + 4 * c` (FIPS 197, 3.4).
+pub type Block = [u8; 16];
 
 /// A type that is made from a key.
 pub trait KeySizeUser {

@@ -12,7 +12,7 @@ use crate::blocks::{FEW, process_few};
 use aes_cipher::cipher::{
     BatchOfEight, BatchSize, BatchSizeUser, BlockCipherEncBackend, Encrypt, RoundKeysUser,
 };
-use aes_permute::TwoBlocks;
+use aes_permute::keys::TwoBlocks;
 use aes_planes::laws;
 use aes_planes::soft::sbox::Layers;
 use aes_planes::soft::word::{Block, Word};

@@ -10,7 +10,7 @@ mod reading;
 mod wiped;
 mod words;
 
-pub use aes_cipher::aes::{Bits128, Bits192, Bits256, KeyBytes, KeySize};
+use aes_cipher::aes::KeySize;
 use aes_cipher::zeroize::Zeroize;
 use aes_planes::laws;
 use aes_planes::soft::sbox::Layers;

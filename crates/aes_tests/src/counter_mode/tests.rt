@@ -4,10 +4,11 @@ mod two_keys;
 
 use super::{apply_at, apply_then_encrypt, apply_to_parts, there_and_back};
 use crate::by_backend::ByBackend;
-use aes::{Aes128Enc, AesCipher, BothWays};
+use aes::{Aes128Enc, AesCipher};
+use aes_cipher::aes::{Bits128, Bits192, Bits256, BothWays};
 use aes_cipher::cipher::{BlockCipherEncrypt, Encrypt, KeyInit};
 use aes_ctr::{Ctr128BE, stream_cut, stream_twice};
-use aes_soft::soft::key_sizes::{AesVariant, Bits128, Bits192, Bits256};
+use aes_soft::soft::key_sizes::AesVariant;
 use std::test::Fail;
 use two_keys::TwoKeys;
 

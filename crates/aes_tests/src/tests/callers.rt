@@ -5,10 +5,11 @@ use super::keys::{BY_128, BY_192, BY_256, KEY_128, KEY_192, KEY_256, PLAIN};
 use crate::callers::{encrypt_and_pass_on, encrypt_by_rounds, there_and_back, there_and_back_by};
 use crate::generic;
 use crate::layers::count_layers;
-use aes::{Aes128, Aes192, Aes192Dec, Aes256, Aes256Enc, AesCipher, Block, BothWays};
+use aes::{Aes128, Aes192, Aes192Dec, Aes256, Aes256Enc, AesCipher, Block};
+use aes_cipher::aes::{Bits128, Bits192, Bits256, BothWays};
 use aes_cipher::cipher::{BlockCipherDecrypt, BlockCipherEncrypt, KeyInit, KeySizeUser};
 use aes_planes::soft::sbox::Layers;
-use aes_soft::soft::key_sizes::{AesVariant, Bits128, Bits192, Bits256};
+use aes_soft::soft::key_sizes::AesVariant;
 
 #[test]
 fn callers_have_the_blocks_of_the_standard(rt: HostRuntime) {

@@ -4,12 +4,13 @@ use super::blocks::{ENCRYPTED, PLAIN, blocks, different_blocks};
 use super::keys::KEY_A1;
 use super::ways::{OneWay, Trial, try_all};
 use crate::closures::{Mixed, Nothing, Row, Twice, encrypt_row, twice_there_and_back};
-use aes::{AesCipher, Block, BothWays};
+use aes::{AesCipher, Block};
+use aes_cipher::aes::{Bits128, BothWays, KeySize};
 use aes_cipher::cipher::{
     BlockCipherDecrypt, BlockCipherEncrypt, Decrypt, Direction, Encrypt, KeyInit,
 };
-use aes_permute as permute;
-use aes_soft::soft::key_sizes::{AesVariant, Bits128};
+use aes_permute::keys;
+use aes_soft::soft::key_sizes::AesVariant;
 
 // A closure that does nothing, one that works twice, and rows of blocks, by what single calls leave.
 struct Closures;
@@ -86,8 +87,8 @@ fn planes_take_a_row<K: AesVariant>(key: &K::Key) -> bool {
 }
 
 // The same of that of `aes_permute`.
-fn permutations_take_a_row<K: permute::sizes::LaneKeys>(key: &K::Key) -> bool {
-    takes_a_row_of_five(&permute::AesCipher::<permute::keys::TwoWays<K>, BothWays>::new(key))
+fn permutations_take_a_row<K: KeySize>(key: &K::Key) -> bool {
+    takes_a_row_of_five(&aes_cipher::aes::AesCipher::<keys::TwoWays<K>, BothWays>::new(key))
 }
 
 // SP 800-38A, F.1.1 and F.1.2.

@@ -1,14 +1,14 @@
 //! Making values from keys and from other values, and wiping them.
 
 use super::keys::{BY_128, BY_192, BY_256, KEY_128, KEY_192, KEY_256, PLAIN};
-use aes::{AesCipher, BothWays};
+use aes::AesCipher;
+use aes_cipher::aes::{Bits128, Bits192, Bits256, BothWays, KeySize};
 use aes_cipher::cipher::{
     BlockCipherDecrypt, BlockCipherEncrypt, BlockSizeUser, Decrypt, Encrypt, KeyInit, KeySizeUser,
 };
 use aes_cipher::zeroize::ZeroizeOnDrop;
-use aes_permute as permute;
-use aes_permute::{keys, sizes};
-use aes_soft::soft::key_sizes::{AesVariant, Bits128, Bits192, Bits256};
+use aes_permute::keys;
+use aes_soft::soft::key_sizes::AesVariant;
 use std::test::Fail;
 
 // Whether slices of 0 to 64 bytes are taken as keys exactly where they are as long as a key, and blocks have 16 bytes.
@@ -40,17 +40,21 @@ fn takes_slices_of_the_key_size_alone(rt: HostRuntime) {
 }
 
 // The same of the three types of `aes_permute`.
-fn all_permutations_take_their_own_length_alone<K: sizes::LaneKeys>(size: usize) -> bool {
-    takes_its_own_length_alone::<permute::AesCipher<keys::TwoWays<K>, BothWays>>(size)
-        && takes_its_own_length_alone::<permute::AesCipher<keys::OneWay<K, Encrypt>, Encrypt>>(size)
-        && takes_its_own_length_alone::<permute::AesCipher<keys::OneWay<K, Decrypt>, Decrypt>>(size)
+fn all_permutations_take_their_own_length_alone<K: KeySize>(size: usize) -> bool {
+    takes_its_own_length_alone::<aes_cipher::aes::AesCipher<keys::TwoWays<K>, BothWays>>(size)
+        && takes_its_own_length_alone::<
+            aes_cipher::aes::AesCipher<keys::OneWay<K, Encrypt>, Encrypt>,
+        >(size)
+        && takes_its_own_length_alone::<
+            aes_cipher::aes::AesCipher<keys::OneWay<K, Decrypt>, Decrypt>,
+        >(size)
 }
 
 #[test]
 fn permutations_take_slices_of_the_key_size_alone(rt: HostRuntime) {
-    assert!(rt; all_permutations_take_their_own_length_alone::<sizes::Bits128>(16));
-    assert!(rt; all_permutations_take_their_own_length_alone::<sizes::Bits192>(24));
-    assert!(rt; all_permutations_take_their_own_length_alone::<sizes::Bits256>(32));
+    assert!(rt; all_permutations_take_their_own_length_alone::<Bits128>(16));
+    assert!(rt; all_permutations_take_their_own_length_alone::<Bits192>(24));
+    assert!(rt; all_permutations_take_their_own_length_alone::<Bits256>(32));
 }
 
 // Whether the block goes to its encryption.
@@ -93,14 +97,11 @@ fn copies_keep_the_key<K: AesVariant>(key: &K::Key, encrypted: u128) -> Result<b
     copies_keep_the_key!(AesCipher<K, BothWays>, AesCipher<K, Encrypt>, AesCipher<K, Decrypt>, key, encrypted)
 }
 
-fn permuted_copies_keep_the_key<K: sizes::LaneKeys>(
-    key: &K::Key,
-    encrypted: u128,
-) -> Result<bool, Fail> {
+fn permuted_copies_keep_the_key<K: KeySize>(key: &K::Key, encrypted: u128) -> Result<bool, Fail> {
     copies_keep_the_key!(
-        permute::AesCipher<keys::TwoWays<K>, BothWays>,
-        permute::AesCipher<keys::OneWay<K, Encrypt>, Encrypt>,
-        permute::AesCipher<keys::OneWay<K, Decrypt>, Decrypt>,
+        aes_cipher::aes::AesCipher<keys::TwoWays<K>, BothWays>,
+        aes_cipher::aes::AesCipher<keys::OneWay<K, Encrypt>, Encrypt>,
+        aes_cipher::aes::AesCipher<keys::OneWay<K, Decrypt>, Decrypt>,
         key,
         encrypted
     )
@@ -112,9 +113,9 @@ fn clones_and_converts(rt: HostRuntime) -> Result<(), Fail> {
     assert!(rt; copies_keep_the_key::<Bits128>(&KEY_128, BY_128)?);
     assert!(rt; copies_keep_the_key::<Bits192>(&KEY_192, BY_192)?);
     assert!(rt; copies_keep_the_key::<Bits256>(&KEY_256, BY_256)?);
-    assert!(rt; permuted_copies_keep_the_key::<sizes::Bits128>(&KEY_128, BY_128)?);
-    assert!(rt; permuted_copies_keep_the_key::<sizes::Bits192>(&KEY_192, BY_192)?);
-    assert!(rt; permuted_copies_keep_the_key::<sizes::Bits256>(&KEY_256, BY_256)?);
+    assert!(rt; permuted_copies_keep_the_key::<Bits128>(&KEY_128, BY_128)?);
+    assert!(rt; permuted_copies_keep_the_key::<Bits192>(&KEY_192, BY_192)?);
+    assert!(rt; permuted_copies_keep_the_key::<Bits256>(&KEY_256, BY_256)?);
     Ok(())
 }
 
@@ -137,10 +138,10 @@ fn wipes_in_place<K: AesVariant>(key: &K::Key, zeros_encrypted: u128) -> bool {
     wipes_in_place!(AesCipher<K, Encrypt>, AesCipher<K, Decrypt>, key, zeros_encrypted)
 }
 
-fn wipes_permuted_in_place<K: sizes::LaneKeys>(key: &K::Key, zeros_encrypted: u128) -> bool {
+fn wipes_permuted_in_place<K: KeySize>(key: &K::Key, zeros_encrypted: u128) -> bool {
     wipes_in_place!(
-        permute::AesCipher<keys::OneWay<K, Encrypt>, Encrypt>,
-        permute::AesCipher<keys::OneWay<K, Decrypt>, Decrypt>,
+        aes_cipher::aes::AesCipher<keys::OneWay<K, Encrypt>, Encrypt>,
+        aes_cipher::aes::AesCipher<keys::OneWay<K, Decrypt>, Decrypt>,
         key,
         zeros_encrypted
     )
@@ -155,7 +156,7 @@ fn leaves_the_zero_key_after_a_wipe(rt: HostRuntime) {
     assert!(rt; wipes_in_place::<Bits128>(&KEY_128, by_128));
     assert!(rt; wipes_in_place::<Bits192>(&KEY_192, by_192));
     assert!(rt; wipes_in_place::<Bits256>(&KEY_256, by_256));
-    assert!(rt; wipes_permuted_in_place::<sizes::Bits128>(&KEY_128, by_128));
-    assert!(rt; wipes_permuted_in_place::<sizes::Bits192>(&KEY_192, by_192));
-    assert!(rt; wipes_permuted_in_place::<sizes::Bits256>(&KEY_256, by_256));
+    assert!(rt; wipes_permuted_in_place::<Bits128>(&KEY_128, by_128));
+    assert!(rt; wipes_permuted_in_place::<Bits192>(&KEY_192, by_192));
+    assert!(rt; wipes_permuted_in_place::<Bits256>(&KEY_256, by_256));
 }

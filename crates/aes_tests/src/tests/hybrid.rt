@@ -1,13 +1,12 @@
 //! The types of `aes_hybrid` on the examples of FIPS 197, appendix C, in few blocks and in many, and counter mode from a place on.
 
-use aes_cipher::aes::{AesCipher, Bits128, Bits192, Bits256, BothWays};
+use aes_cipher::aes::{AesCipher, Bits128, Bits192, Bits256, BothWays, KeySize};
 use aes_cipher::cipher::{
     Block, BlockCipherDecrypt, BlockCipherEncrypt, Decrypt, Encrypt, KeyInit,
 };
 use aes_ctr::add_keystream;
 use aes_hybrid::{Aes256Dec, Hybrid};
 use aes_permute::keys::{OneWay, TwoWays};
-use aes_permute::sizes::LaneKeys;
 use std::test::Fail;
 
 const COUNTED: [u8; 32] = [
@@ -32,7 +31,7 @@ fn there_and_back<C: BlockCipherEncrypt + BlockCipherDecrypt>(cipher: &C, wanted
 }
 
 // The type for both directions, with the size as a parameter: what it is made of is proved once for all sizes.
-fn goes_there_and_back<K: LaneKeys>(key: &K::Key, wanted: u128) -> bool {
+fn goes_there_and_back<K: KeySize>(key: &K::Key, wanted: u128) -> bool {
     there_and_back(&AesCipher::<Hybrid<TwoWays<K>>, BothWays>::new(key), wanted)
 }
 
@@ -58,7 +57,7 @@ fn adds_the_same_cut<C: BlockCipherEncrypt>(cipher: &C) -> bool {
     same && whole == [0; 400]
 }
 
-fn encrypting_adds_the_same_cut<K: LaneKeys>(key: &K::Key) -> bool {
+fn encrypting_adds_the_same_cut<K: KeySize>(key: &K::Key) -> bool {
     adds_the_same_cut(&AesCipher::<Hybrid<OneWay<K, Encrypt>>, Encrypt>::new(key))
 }
 
@@ -82,7 +81,7 @@ fn decrypts<C: BlockCipherDecrypt>(cipher: &C, wanted: u128) -> bool {
 }
 
 // Whether a clone of what encrypts and the types made from it, after it is dropped, have its key.
-fn copies_keep_the_key<K: LaneKeys>(key: &K::Key, wanted: u128) -> Result<bool, Fail> {
+fn copies_keep_the_key<K: KeySize>(key: &K::Key, wanted: u128) -> Result<bool, Fail> {
     let enc = AesCipher::<Hybrid<OneWay<K, Encrypt>>, Encrypt>::new(key);
     let copy = enc.clone()?;
     let lent = AesCipher::<Hybrid<TwoWays<K>>, Decrypt>::from(&enc);

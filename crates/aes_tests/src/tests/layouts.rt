@@ -1,11 +1,12 @@
 //! The two layouts of round keys and the types, on every word and in every slot.
 
 use super::blocks::different_blocks;
-use aes::{AesCipher, Block, BothWays};
+use aes::{AesCipher, Block};
+use aes_cipher::aes::{Bits128, Bits192, Bits256, BothWays};
 use aes_cipher::cipher::{BlockCipherDecrypt, BlockCipherEncrypt, KeyInit};
 use aes_planes::soft::sbox::Layers;
 use aes_planes::soft::word::{Batch, Word};
-use aes_soft::soft::key_sizes::{AesVariant, Bits128, Bits192, Bits256};
+use aes_soft::soft::key_sizes::AesVariant;
 use aes_soft::soft::{compact, full};
 
 // As many different blocks as a word holds.

@@ -5,11 +5,13 @@ use super::keys::{KEY_A1, KEY_A2, KEY_A3};
 use crate::by_backend::ByBackend;
 use crate::cbc::{cbc_decrypt, cbc_encrypt, cbc_there_and_back};
 use crate::chaining_value::{chaining_value, chaining_value_under};
-use aes::{Aes128, AesCipher, BothWays};
+use aes::expansion::expand_128;
+use aes::{Aes128, AesCipher};
+use aes_cipher::aes::{Bits128, Bits192, Bits256, BothWays};
 use aes_cipher::blocks::{block_of_number, blocks_equal};
 use aes_cipher::cipher::{BlockCipherDecrypt, BlockCipherEncrypt, KeyInit};
-use aes_rounds::rounds::{Aes, expand_128};
-use aes_soft::soft::key_sizes::{AesVariant, Bits128, Bits192, Bits256};
+use aes_rounds::rounds::Aes;
+use aes_soft::soft::key_sizes::AesVariant;
 
 // The initialization vector of SP 800-38A, F.2.
 const IV: u128 = 0x000102030405060708090a0b0c0d0e0f;

@@ -1,12 +1,11 @@
 //! What is written as text: names, and nothing of a key.
 
 use super::keys::{KEY_128, KEY_192, KEY_256};
-use aes::{AesCipher, BothWays};
+use aes::AesCipher;
+use aes_cipher::aes::{Bits128, Bits192, Bits256, BothWays, KeySize};
 use aes_cipher::cipher::{AlgorithmName, Decrypt, Encrypt, KeyInit, KeySizeUser};
-use aes_permute as permute;
 use aes_permute::keys::{OneWay, TwoWays};
-use aes_permute::sizes::LaneKeys;
-use aes_soft::soft::key_sizes::{AesVariant, Bits128, Bits192, Bits256};
+use aes_soft::soft::key_sizes::AesVariant;
 use std::fmt;
 use std::marker::PhantomData;
 use std::test::Fail;
@@ -58,15 +57,15 @@ fn planes_are_named<K: AesVariant>(rt: &HostRuntime, key: &[u8], name: &str) -> 
 }
 
 // The same of those of `aes_permute`.
-fn permutations_are_named<K: LaneKeys>(
+fn permutations_are_named<K: KeySize>(
     rt: &HostRuntime,
     key: &[u8],
     name: &str,
 ) -> Result<bool, Fail> {
     are_named::<
-        permute::AesCipher<TwoWays<K>, BothWays>,
-        permute::AesCipher<OneWay<K, Encrypt>, Encrypt>,
-        permute::AesCipher<OneWay<K, Decrypt>, Decrypt>,
+        aes_cipher::aes::AesCipher<TwoWays<K>, BothWays>,
+        aes_cipher::aes::AesCipher<OneWay<K, Encrypt>, Encrypt>,
+        aes_cipher::aes::AesCipher<OneWay<K, Decrypt>, Decrypt>,
     >(rt, key, name)
 }
 

@@ -5,12 +5,13 @@ ghost use Rattle.std.specs.Prelude.{◌≡◌, ◌⊎◌};
 use super::blocks::blocks;
 use super::keys::{KEY_128, KEY_192, KEY_256, KEY_A1, KEY_A2, KEY_A3, PLAIN};
 use aes::Aes256;
+use aes::expansion::{expand_128, expand_192, expand_256};
 use aes::hazmat::Block8;
 use aes_cipher::cipher::{
     BlockCipherDecBackend, BlockCipherEncBackend, BlockCipherEncrypt, KeyInit, RoundKeysUser,
 };
 use aes_planes::soft::word::Block;
-use aes_rounds::rounds::{Aes, AesDec, AesEnc, expand_128, expand_192, expand_256};
+use aes_rounds::rounds::{Aes, AesDec, AesEnc};
 
 // The eight blocks of `eight_blocks` encrypted under the key of 16 bytes 00 to 0f: the first is of
 // FIPS 197, appendix C.1, all are what OpenSSL answers.

@@ -3,15 +3,15 @@
 use super::blocks::different_blocks;
 use super::keys::{KEY_128, KEY_192, KEY_256};
 use super::ways::{OneWay, Trial, try_all};
-use aes::{AesCipher, Block, BothWays};
-use aes_cipher::aes::KeySchedule;
+use aes::{AesCipher, Block};
+use aes_cipher::aes::{Bits128, Bits192, Bits256, BothWays, KeySchedule, KeySize};
 use aes_cipher::cipher::{
     BlockCipherDecrypt, BlockCipherEncrypt, Decrypt, Direction, Encrypt, KeyInit, NotEqualError,
     ParBlocksSizeUser,
 };
-use aes_permute as permute;
+use aes_permute::keys;
 use aes_planes::soft::sbox::Layers;
-use aes_soft::soft::key_sizes::{AesVariant, Bits128, Bits192, Bits256};
+use aes_soft::soft::key_sizes::AesVariant;
 
 // A block that no call has written.
 const UNTOUCHED: Block = [0xee; 16];
@@ -126,8 +126,8 @@ fn planes_bring_back<K: AesVariant>(key: &K::Key) -> bool {
 }
 
 // The same of that of `aes_permute`.
-fn permutations_bring_back<K: permute::sizes::LaneKeys>(key: &K::Key) -> bool {
-    brings_back_a_hundred(&permute::AesCipher::<permute::keys::TwoWays<K>, BothWays>::new(key))
+fn permutations_bring_back<K: KeySize>(key: &K::Key) -> bool {
+    brings_back_a_hundred(&aes_cipher::aes::AesCipher::<keys::TwoWays<K>, BothWays>::new(key))
 }
 
 #[test]
@@ -144,7 +144,7 @@ fn par_blocks<B: ParBlocksSizeUser>(_backend: &B) -> usize {
 
 #[test]
 fn permutations_take_two_blocks_at_once(rt: HostRuntime) {
-    let mut schedule = permute::keys::OneWay::<Bits128, Encrypt>::zeroed();
+    let mut schedule = keys::OneWay::<Bits128, Encrypt>::zeroed();
     schedule.refill(&KEY_128);
-    assert_eq!(rt; par_blocks(&permute::LaneBackend::new(&schedule)), 2);
+    assert_eq!(rt; par_blocks(&keys::LaneBackend::new(&schedule)), 2);
 }

@@ -4,11 +4,11 @@ use super::blocks::{ENCRYPTED, blocks};
 use super::keys::{
     BY_128, BY_192, BY_256, KEY_128, KEY_192, KEY_256, KEY_A1, KEY_A2, KEY_A3, PLAIN,
 };
-use aes::{AesCipher, Block, BothWays, hardware_accelerated};
+use aes::{AesCipher, Block, hardware_accelerated};
+use aes_cipher::aes::{Bits128, Bits192, Bits256, BothWays, KeySize};
 use aes_cipher::cipher::{BlockCipherDecrypt, BlockCipherEncrypt, Decrypt, Encrypt, KeyInit};
-use aes_permute as permute;
-use aes_permute::{keys, sizes};
-use aes_soft::soft::key_sizes::{AesVariant, Bits128, Bits192, Bits256};
+use aes_permute::keys;
+use aes_soft::soft::key_sizes::AesVariant;
 
 // A key, a block, and the block encrypted.
 type Example<'a> = (&'a [u8], u128, u128);
@@ -64,11 +64,11 @@ fn planes_hold<K: AesVariant>(example: Example) -> bool {
 }
 
 // The same of those of `aes_permute`.
-fn permutations_hold<K: sizes::LaneKeys>(example: Example) -> bool {
+fn permutations_hold<K: KeySize>(example: Example) -> bool {
     hold::<
-        permute::AesCipher<keys::TwoWays<K>, BothWays>,
-        permute::AesCipher<keys::OneWay<K, Encrypt>, Encrypt>,
-        permute::AesCipher<keys::OneWay<K, Decrypt>, Decrypt>,
+        aes_cipher::aes::AesCipher<keys::TwoWays<K>, BothWays>,
+        aes_cipher::aes::AesCipher<keys::OneWay<K, Encrypt>, Encrypt>,
+        aes_cipher::aes::AesCipher<keys::OneWay<K, Decrypt>, Decrypt>,
     >(example)
 }
 
@@ -95,9 +95,9 @@ fn leaves_the_blocks_of_the_standards(rt: HostRuntime) {
     ];
     for example in examples {
         let right = match example.0.len() {
-            16 => planes_hold::<Bits128>(example) && permutations_hold::<sizes::Bits128>(example),
-            24 => planes_hold::<Bits192>(example) && permutations_hold::<sizes::Bits192>(example),
-            _ => planes_hold::<Bits256>(example) && permutations_hold::<sizes::Bits256>(example),
+            16 => planes_hold::<Bits128>(example) && permutations_hold::<Bits128>(example),
+            24 => planes_hold::<Bits192>(example) && permutations_hold::<Bits192>(example),
+            _ => planes_hold::<Bits256>(example) && permutations_hold::<Bits256>(example),
         };
         assert!(rt; right, "{} bytes", example.0.len());
     }
@@ -131,14 +131,14 @@ fn planes_encrypt_four<K: AesVariant>(
 }
 
 // The same of those of `aes_permute`.
-fn permutations_encrypt_four<K: sizes::LaneKeys>(
+fn permutations_encrypt_four<K: KeySize>(
     key: &[u8],
     plain: [Block; 4],
     encrypted: [Block; 4],
 ) -> bool {
     encrypts_four::<
-        permute::AesCipher<keys::OneWay<K, Encrypt>, Encrypt>,
-        permute::AesCipher<keys::OneWay<K, Decrypt>, Decrypt>,
+        aes_cipher::aes::AesCipher<keys::OneWay<K, Encrypt>, Encrypt>,
+        aes_cipher::aes::AesCipher<keys::OneWay<K, Decrypt>, Decrypt>,
     >(key, plain, encrypted)
 }
 
@@ -148,7 +148,7 @@ fn leaves_the_four_blocks_of_the_standard(rt: HostRuntime) {
     let plain = blocks(&super::blocks::PLAIN);
     let encrypted = blocks(&ENCRYPTED);
     assert!(rt; planes_encrypt_four::<Bits128>(&KEY_A1, plain, encrypted));
-    assert!(rt; permutations_encrypt_four::<sizes::Bits128>(&KEY_A1, plain, encrypted));
+    assert!(rt; permutations_encrypt_four::<Bits128>(&KEY_A1, plain, encrypted));
 }
 
 #[test]

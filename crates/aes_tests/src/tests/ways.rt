@@ -3,15 +3,16 @@
 ghost use Rattle.std.specs.Prelude.{◌≡◌, ◌⊎◌};
 
 use crate::by_backend::ByBackend;
-use aes::{AesCipher, Block, BothWays};
+use aes::expansion::{expand_128, expand_192, expand_256};
+use aes::{AesCipher, Block};
+use aes_cipher::aes::{Bits128, Bits192, Bits256, BothWays, KeySize};
 use aes_cipher::cipher::{
     BlockCipherDecClosure, BlockCipherDecrypt, BlockCipherEncClosure, BlockCipherEncrypt, Decrypt,
     Direction, Encrypt, KeyInit, NotEqualError,
 };
-use aes_permute as permute;
-use aes_permute::{keys, sizes};
-use aes_rounds::rounds::{Aes, AesDec, AesEnc, expand_128, expand_192, expand_256};
-use aes_soft::soft::key_sizes::{AesVariant, Bits128, Bits192, Bits256};
+use aes_permute::keys;
+use aes_rounds::rounds::{Aes, AesDec, AesEnc};
+use aes_soft::soft::key_sizes::AesVariant;
 
 /// A cipher that processes blocks in the direction D.
 pub trait OneWay<D: Direction> {
@@ -168,25 +169,25 @@ fn try_permutations<T: Trial>(trial: &T) -> [Passed; 3] {
     [
         (
             "keys of 16 bytes, by permutations",
-            permutations_pass::<T, sizes::Bits128>(trial, &SHORT),
+            permutations_pass::<T, Bits128>(trial, &SHORT),
         ),
         (
             "keys of 24 bytes, by permutations",
-            permutations_pass::<T, sizes::Bits192>(trial, &MIDDLE),
+            permutations_pass::<T, Bits192>(trial, &MIDDLE),
         ),
         (
             "keys of 32 bytes, by permutations",
-            permutations_pass::<T, sizes::Bits256>(trial, &LONG),
+            permutations_pass::<T, Bits256>(trial, &LONG),
         ),
     ]
 }
 
-fn permutations_pass<T: Trial, K: sizes::LaneKeys>(trial: &T, key: &[u8]) -> [bool; 4] {
+fn permutations_pass<T: Trial, K: KeySize>(trial: &T, key: &[u8]) -> [bool; 4] {
     pass_under::<
         T,
-        permute::AesCipher<keys::TwoWays<K>, BothWays>,
-        permute::AesCipher<keys::OneWay<K, Encrypt>, Encrypt>,
-        permute::AesCipher<keys::OneWay<K, Decrypt>, Decrypt>,
+        aes_cipher::aes::AesCipher<keys::TwoWays<K>, BothWays>,
+        aes_cipher::aes::AesCipher<keys::OneWay<K, Encrypt>, Encrypt>,
+        aes_cipher::aes::AesCipher<keys::OneWay<K, Decrypt>, Decrypt>,
     >(trial, key)
 }
 

@@ -4,11 +4,12 @@ ghost use Rattle.std.specs.Prelude.{◌≡◌};
 
 use crate::blocks::different_blocks;
 use crate::keys::{BY_128, BY_192, BY_256, KEY_128, KEY_192, KEY_256, PLAIN};
+use aes_cipher::aes::{Bits128, Bits192, Bits256};
 use aes_cipher::cipher::{BlockCipherDecBackend, BlockCipherEncBackend, ParBlocksSizeUser};
 use aes_planes::soft::sbox::Layers;
 use aes_planes::soft::word::Block;
-use aes_soft::soft::Backend;
-use aes_soft::soft::key_sizes::{AesVariant, Bits128, Bits192, Bits256, WipedKeys};
+use aes_soft::soft::blocks::Backend;
+use aes_soft::soft::key_sizes::{AesVariant, WipedKeys};
 
 // Eight different blocks, in slot 5 that of FIPS 197, appendix C.
 fn batch() -> [Block; 8] {

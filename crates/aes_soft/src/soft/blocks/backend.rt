@@ -8,7 +8,8 @@ mod encrypt;
 mod wide;
 
 use super::slices::{process_batch, process_block};
-use crate::soft::key_sizes::{AesVariant, BatchWord, Bits128, Bits192, Bits256, has_round_keys};
+use crate::soft::key_sizes::{AesVariant, BatchWord, has_round_keys};
+use aes_cipher::aes::{Bits128, Bits192, Bits256};
 use aes_cipher::cipher::{
     BatchOfEight, BatchSizeUser, BlockCipherDecBackend, BlockCipherEncBackend, Decrypt, Encrypt,
     RoundKeysUser,

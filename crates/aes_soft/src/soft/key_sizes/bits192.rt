@@ -2,11 +2,12 @@
 ghost use Rattle.std.specs.Prelude.{refl};
 
 use super::reading::reads_keys;
-use super::{AesVariant, BatchWord, Bits192, KeyExpansion};
+use super::{AesVariant, BatchWord, KeyExpansion};
 use crate::soft::expand::expand_192;
 use crate::soft::full::aes192::RoundKeys;
 use crate::soft::full::put_wide;
 use crate::soft::key_schedule::put_schedule;
+use aes_cipher::aes::Bits192;
 use aes_cipher::zeroize::Wiped;
 use aes_planes::soft::sbox::Layers;
 use aes_planes::soft::word::Word;
