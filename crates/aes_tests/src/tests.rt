@@ -2,6 +2,7 @@
 
 use aes_parts_tests::{blocks, keys};
 
+mod by_key;
 mod callers;
 mod closures;
 mod contracts;

@@ -4,8 +4,8 @@ mod two_keys;
 
 use super::{apply_at, apply_then_encrypt, apply_to_parts, there_and_back};
 use crate::by_backend::ByBackend;
-use aes::{Aes128Enc, AesCipher};
-use aes_cipher::aes::{Bits128, Bits192, Bits256, BothWays};
+use aes::{Aes128Enc, Aes192Enc, AesCipher};
+use aes_cipher::aes::{Bits128, Bits256, BothWays};
 use aes_cipher::cipher::{BlockCipherEncrypt, Encrypt, KeyInit};
 use aes_ctr::{Ctr128BE, stream_cut, stream_twice};
 use aes_soft::soft::key_sizes::AesVariant;
@@ -141,7 +141,7 @@ fn keystream_under<K: AesVariant>(key: &K::Key, iv: u128) -> Option<[u128; 2]> {
 fn counts_from_zero_and_past_the_last_number(rt: HostRuntime) -> Result<(), Fail> {
     let [_, second] = keystream_under::<Bits128>(&[0; 16], u128::MAX).ok_or("end")?;
     assert_eq!(rt; second, 0x66e94bd4ef8a2c3b884cfa59ca342b2e);
-    let [first, _] = keystream_under::<Bits192>(&[0; 24], 0).ok_or("end")?;
+    let [first, _] = keystream_of(Aes192Enc::new(&[0; 24]), 0).ok_or("end")?;
     assert_eq!(rt; first, 0xaae06992acbf52a3e8f4a96ec9300bd7);
     let [first, _] = keystream_under::<Bits256>(&[0; 32], 0).ok_or("end")?;
     assert_eq!(rt; first, 0xdc95c078a2408989ad48a21492842087);
