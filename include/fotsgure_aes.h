@@ -21,9 +21,9 @@
  * NULL is allowed for `key`, `blocks`, `bytes`, `input` and `output` if the count is 0.
  *
  * In return, no call allocates, prints, aborts, blocks, or keeps a pointer; the library has no state of its own;
- * every call returns, and writes nothing but what it says. (Proved is what calls return and write, and that they
- * return; read and measured is that they allocate nothing, that the stack suffices, and what they read of an
- * unwritten struct.) A call that doesn't return FOTSGURE_AES_DONE has changed nothing; fotsgure_aes_set_key is the
+ * every call returns, and writes nothing but what it says. (Proved is what calls return and write, that they return, and
+ * that the calls under a key wipe the schedule that they hold; read and measured is that they hold no other copy of it,
+ * that calls allocate nothing, that the stack suffices, and what they read of an unwritten struct.) A call that doesn't return FOTSGURE_AES_DONE has changed nothing; fotsgure_aes_set_key is the
  * exception. What a call returns depends on lengths and positions alone, never on the bytes of a key or of data.
  *
  * Copies and threads: a struct fotsgure_aes may be copied and moved as bytes, and every copy is as secret as the key
@@ -94,7 +94,7 @@ FOTSGURE_AES_ASSERT(sizeof(struct fotsgure_aes_ctr) == 24, "no padding");
 uint32_t fotsgure_aes_version(void) FOTSGURE_AES_NOEXCEPT;
 
 /* Expands a key into *aes (KeyExpansion, FIPS 197, 5.2). *aes may be uninitialized: none of it is read. What it held is
- * gone: every byte that no round key of the new key takes is 0.
+ * gone: every byte that neither a round key of the new key nor its length takes is 0.
  * DONE if key_length is 16, 24 or 32; else KEY_LENGTH, and *aes then is all zeros and holds no key. */
 FOTSGURE_AES_CHECK enum fotsgure_aes_status fotsgure_aes_set_key(struct fotsgure_aes *FOTSGURE_AES_ALONE aes,
     const uint8_t *key, size_t key_length) FOTSGURE_AES_NOEXCEPT;

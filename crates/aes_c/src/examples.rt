@@ -4,7 +4,7 @@
 //! `bytes n 0x..` is the n bytes that these digits write. What a struct stores was computed by a separate model in Python,
 //! from the standard and the basis that `tools/permutation-tables` describes.
 
-ghost use Rattle.std.specs.Prelude.{◌≡◌, ◌∷◌, [], length, map, replicate};
+ghost use Rattle.std.specs.Prelude.{◌≡◌, ◌∷◌, [], length, map, replicate, slice_set};
 ghost use Rattle.aes_planes.specs.BigEndian.{bytes};
 ghost use Rattle.aes_planes.specs.Fips197 as fips;
 ghost use Rattle.aes_permute.specs.Keys.{encrypting};
@@ -89,8 +89,7 @@ const DECRYPTING: [u128; 15] = [
     0,
 ];
 
-/// What is stored for the key of A.1: its round keys in both directions, and zeros after them. One bit that is left in the
-/// block just after them is found.
+/// What is stored for the key of A.1: its round keys in both directions, and zeros after them.
 #[tactic(auto, unfolding(crate::proofs::OnLiterals::kept_on_literals))]
 pub fn stored_example()
     ensures round_keys { encrypting (first_keys 16 (map (bytes 16) ENCRYPTING))
@@ -99,7 +98,6 @@ pub fn stored_example()
     ensures key { kept_key 16 (map (bytes 16) ENCRYPTING) ≡ bytes 16 0x2b7e151628aed2a6abf7158809cf4f3c }
     ensures after_encrypting { AreZeroAfter 16 (map (bytes 16) ENCRYPTING) }
     ensures after_decrypting { AreZeroAfter 16 (map (bytes 16) DECRYPTING) }
-    ensures left_behind { ¬ AreZeroAfter 16 (map (bytes 16) (0 ∷ 0 ∷ 0 ∷ 0 ∷ 0 ∷ 0 ∷ 0 ∷ 0 ∷ 0 ∷ 0 ∷ 0 ∷ 1 ∷ 0 ∷ 0 ∷ 0 ∷ [])) }
 {
     key_expansion_128();
 }
@@ -110,3 +108,14 @@ pub fn struct_example()
 {
     stored_example();
 }
+
+/// A bit that is left in a block after the round keys is found: in the first of them and in the last. Keys of 32 bytes leave
+/// no block over.
+pub fn left_behind_examples()
+    ensures first_after_16 { ¬ AreZeroAfter 16 (slice_set (replicate 15 (replicate 16 0)) 11 (replicate 16 1)) }
+    ensures last_after_16 { ¬ AreZeroAfter 16 (slice_set (replicate 15 (replicate 16 0)) 14 (replicate 16 1)) }
+    ensures first_after_24 { ¬ AreZeroAfter 24 (slice_set (replicate 15 (replicate 16 0)) 13 (replicate 16 1)) }
+    ensures last_after_24 { ¬ AreZeroAfter 24 (slice_set (replicate 15 (replicate 16 0)) 14 (replicate 16 1)) }
+    ensures none_after_24 { AreZeroAfter 24 (slice_set (replicate 15 (replicate 16 0)) 12 (replicate 16 1)) }
+    ensures none_after_32 { AreZeroAfter 32 (replicate 15 (replicate 16 1)) }
+{}

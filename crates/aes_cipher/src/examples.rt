@@ -3,12 +3,13 @@
 //!
 //! `bytes n 0x..` is the n bytes that these digits write.
 
-ghost use Rattle.std.specs.Prelude.{◌≡◌, ℕ, List, ◌∷◌, []};
+ghost use Rattle.std.specs.Prelude.{◌≡◌, ℕ, List, ◌∷◌, [], replicate};
 ghost use Rattle.aes_planes.specs.BigEndian.{bytes};
 ghost use Rattle.aes_planes.specs.Fips197 as fips;
 ghost use Rattle.aes_cipher.specs.Blocks.{blocks_of};
 
-use crate::cipher::{Decrypt, Direction, Encrypt};
+use crate::cipher::{Block, Decrypt, Direction, Encrypt};
+use crate::zeroize::{Element, Zeroize};
 
 /// The bytes 00 to 21 are two blocks and two bytes that are left out, and fifteen bytes are no block (FIPS 197, 3.1).
 #[tactic(auto, unfolding(aes_planes::specs::BigEndian::bytes))]
@@ -33,4 +34,14 @@ pub fn direction_examples()
         ≡ fips.inv_mix_columns (fips.inv_shift_rows (fips.inv_sub_bytes b)) }
     ensures decrypt_last { (b : List ℕ) → ⟦<Decrypt as Direction>⟧.last_step b
         ≡ fips.inv_shift_rows (fips.inv_sub_bytes b) }
+{}
+
+/// What a wipe leaves: zeros, whatever is wiped.
+pub fn zero_examples()
+    ensures of_16 { ⟦<u16 as Element>⟧.ZERO ≡ 0 }
+    ensures of_32 { ⟦<u32 as Element>⟧.ZERO ≡ 0 }
+    ensures of_64 { ⟦<u64 as Element>⟧.ZERO ≡ 0 }
+    ensures of_128 { ⟦<u128 as Element>⟧.ZERO ≡ 0 }
+    ensures of_block { ⟦<Block as Element>⟧.ZERO ≡ replicate 16 0 }
+    ensures of_array { ⟦<[u64; 3] as Zeroize>⟧.ZERO ≡ 0 ∷ 0 ∷ 0 ∷ [] }
 {}

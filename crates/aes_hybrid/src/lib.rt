@@ -4,6 +4,7 @@
 
 pub mod blocks;
 mod ciphers;
+pub mod examples;
 pub mod keys;
 pub mod lent;
 mod names;

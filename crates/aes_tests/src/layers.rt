@@ -42,3 +42,21 @@ pub fn count_layers(
     middle.decrypt_blocks_counted(blocks, middle_layers);
     long.encrypt_blocks_counted(blocks, long_layers);
 }
+
+/// Makes a value of each size, and counts the layers of each key expansion: 10, 8 and 13.
+pub fn count_schedule_layers(
+    short: &[u8; 16],
+    short_layers: &mut Layers,
+    middle: &[u8; 24],
+    middle_layers: &mut Layers,
+    long: &[u8; 32],
+    long_layers: &mut Layers,
+)
+    ensures short { short_layers.new ≡ short_layers.old + 10 }
+    ensures middle { middle_layers.new ≡ middle_layers.old + 8 }
+    ensures long { long_layers.new ≡ long_layers.old + 13 }
+{
+    Aes128::new_counted(short, short_layers);
+    Aes192Dec::new_counted(middle, middle_layers);
+    Aes256Enc::new_counted(long, long_layers);
+}

@@ -59,10 +59,3 @@ impl<const N: usize> KeyBytes for [u8; N] {
         [0; N]
     }
 }
-
-/// Returns the bytes of a key of 32 bytes: those of the array, in its order.
-pub fn bytes_of_key(key: &[u8; 32]) -> &[u8]
-    ensures { result.now ≡ key.now }
-{
-    key.as_slice()
-}

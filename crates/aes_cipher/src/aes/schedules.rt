@@ -10,8 +10,10 @@ use crate::cipher::{
     Block, BlockCipherDecClosure, BlockCipherEncClosure, Decrypt, Direction, Encrypt,
 };
 
-/// The stored round keys of a key, in some form. They are wiped when they are dropped. Contracts see the key that they
-/// are read as.
+/// The stored round keys of a key, in some form. Contracts see the key that they are read as.
+///
+/// Whoever implements it answers for the wipe: a drop has to overwrite the round keys. No clause asks for it, and
+/// `AesCipher` has the mark `ZeroizeOnDrop` over every form.
 pub trait KeySchedule: Drop {
     /// The size of the key.
     type Size: KeySize;

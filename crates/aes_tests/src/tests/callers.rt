@@ -4,7 +4,7 @@ use super::blocks::different_blocks;
 use super::keys::{BY_128, BY_192, BY_256, KEY_128, KEY_192, KEY_256, PLAIN};
 use crate::callers::{encrypt_and_pass_on, encrypt_by_rounds, there_and_back, there_and_back_by};
 use crate::generic;
-use crate::layers::count_layers;
+use crate::layers::{count_layers, count_schedule_layers};
 use aes::{Aes128, Aes192, Aes192Dec, Aes256, Aes256Enc, AesCipher, Block};
 use aes_cipher::aes::{Bits128, Bits192, Bits256, BothWays};
 use aes_cipher::cipher::{BlockCipherDecrypt, BlockCipherEncrypt, KeyInit, KeySizeUser};
@@ -90,6 +90,14 @@ fn counted_calls_answer(rt: HostRuntime) {
         &Aes192Dec::new(&KEY_192),
         &mut Layers::new(),
         &Aes256Enc::new(&KEY_256),
+        &mut Layers::new(),
+    );
+    count_schedule_layers(
+        &KEY_128,
+        &mut Layers::new(),
+        &KEY_192,
+        &mut Layers::new(),
+        &KEY_256,
         &mut Layers::new(),
     );
     let mut wanted = BY_128.to_be_bytes();
