@@ -8,9 +8,7 @@ use super::backend::LaneBackend;
 use crate::blocks::{process_block, process_blocks};
 use crate::directions::LaneRounds;
 use crate::stored::{Room, keys_of, put_inverse, put_keys};
-use aes_cipher::aes::{
-    Decrypts, Encrypts, KeyBytes, KeySchedule, KeySize, Processes, TurnedFrom,
-};
+use aes_cipher::aes::{Decrypts, Encrypts, KeyBytes, KeySchedule, KeySize, Processes, TurnedFrom};
 use aes_cipher::cipher::{BlockCipherDecClosure, BlockCipherEncClosure, Decrypt, Encrypt};
 use aes_cipher::zeroize::Wiped;
 use aes_planes::soft::word::Block;
