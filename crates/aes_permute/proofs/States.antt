@@ -1,19 +1,19 @@
 -- States round by round, under stored round keys.
-use Rattle.std.proofs.Common.{◌≡◌, ℕ, ◌+◌, ◌-◌, ◌<◌, ◌≤◌, ◌==◌, if◌then◌else◌, List, [], length, map, refl, ap, sym}
+use Rattle.std.proofs.Common.{◌≡◌, ℕ, ◌+◌, ◌-◌, ◌<◌, ◌≤◌, if◌then◌else◌, List, [], length, map, refl, ap, sym}
 use Rattle.std.proofs.Common.{◌∙◌, arith}
 use Rattle.std.proofs.lemmas.Bool.{eq-eqb, ne_eqb}
 use Rattle.aes_planes.specs.Fips197 as fips
 use Rattle.aes_planes.specs.Rounds.{rounds_after, all_rounds}
 use Rattle.aes_planes.proofs.Lists.{get_or-build, length-build}
 use Rattle.aes_planes.proofs.Standard.AllRounds.{rounds_more}
-use Rattle.aes_permute.specs.Stored.{round_keys_of, LaneForm}
+use Rattle.aes_permute.specs.Stored.{key_byte, round_keys_of, LaneForm}
 
 module _ (form : LaneForm) (stored : List (List ℕ)) where
   -- as many round keys are stored as they stand for
   pub keys_length : length (round_keys_of form stored) ≡ length stored
   unfolding round_keys_of
-  keys_length = length-build (length stored) (λ i.
-      map (if i == 0 then form.first_byte else if i == fips.last_round stored then form.last_byte else form.inner_byte) (fips.round_key stored i))
+  keys_length = length-build (length stored)
+      (λ i. map (key_byte form (fips.last_round stored) i) (fips.round_key stored i))
 
   -- and the last of both has the same number
   pub last_is_last : fips.last_round (round_keys_of form stored) ≡ fips.last_round stored
@@ -21,10 +21,10 @@ module _ (form : LaneForm) (stored : List (List ℕ)) where
 
   key_at : (i : ℕ) → i < length stored
       → fips.round_key (round_keys_of form stored) i
-      ≡ map (if i == 0 then form.first_byte else if i == fips.last_round stored then form.last_byte else form.inner_byte) (fips.round_key stored i)
+      ≡ map (key_byte form (fips.last_round stored) i) (fips.round_key stored i)
   unfolding round_keys_of
-  key_at i lt = get_or-build (length stored) i (λ i. map
-      (if i == 0 then form.first_byte else if i == fips.last_round stored then form.last_byte else form.inner_byte) (fips.round_key stored i)) [] lt
+  key_at i lt = get_or-build (length stored) i
+      (λ i. map (key_byte form (fips.last_round stored) i) (fips.round_key stored i)) [] lt
 
   -- the first stored round key stands for the bytes that `first_byte` makes of it
   pub first_key : 1 ≤ length stored → fips.round_key (round_keys_of form stored) 0
@@ -36,16 +36,17 @@ module _ (form : LaneForm) (stored : List (List ℕ)) where
       → fips.round_key (round_keys_of form stored) i ≡ map form.inner_byte (fips.round_key stored i)
   inner_key i some before =
       key_at i (omega arith)
-      ∙ (λ j. map (if ne_eqb i 0 (omega arith) j then form.first_byte else if ne_eqb i (fips.last_round stored) (omega arith) j
-      then form.last_byte else form.inner_byte) (fips.round_key stored i))
+      ∙ (λ j. map (if ne_eqb i 0 (omega arith) j then form.first_byte else
+      if ne_eqb i (fips.last_round stored) (omega arith) j then form.last_byte else form.inner_byte)
+      (fips.round_key stored i))
 
   -- and the last for what `last_byte` makes of it
   pub last_key : (i : ℕ) → 2 ≤ length stored → i ≡ fips.last_round stored
       → fips.round_key (round_keys_of form stored) i ≡ map form.last_byte (fips.round_key stored i)
   last_key i two e =
       key_at i (omega arith)
-      ∙ (λ j. map (if ne_eqb i 0 (omega arith) j then form.first_byte else if eq-eqb i (fips.last_round stored) e j then form.last_byte else
-      form.inner_byte) (fips.round_key stored i))
+      ∙ (λ j. map (if ne_eqb i 0 (omega arith) j then form.first_byte else
+      if eq-eqb i (fips.last_round stored) e j then form.last_byte else form.inner_byte) (fips.round_key stored i))
 
   -- ---- the three kinds of rounds, on what a state stands for
 
@@ -71,7 +72,8 @@ module _ (form : LaneForm) (stored : List (List ℕ)) where
   -- the last step and the last round key lead from the state before it to the end of all rounds
   pub last_state : (step last_step : List ℕ → List ℕ) (state : ℕ → ℕ) (b x y : List ℕ) (i : ℕ) → 2 ≤ length stored → i
       ≡ fips.last_round stored
-      → y ≡ fips.add_round_key (last_step (map state x)) (map form.last_byte (fips.round_key stored (fips.last_round stored)))
+      → y ≡ fips.add_round_key (last_step (map state x))
+      (map form.last_byte (fips.round_key stored (fips.last_round stored)))
       → map state x ≡ rounds_after step (round_keys_of form stored) b (i - 1)
       → y ≡ all_rounds step last_step (round_keys_of form stored) b
   unfolding all_rounds

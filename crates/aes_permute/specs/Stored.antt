@@ -35,12 +35,15 @@ pub record LaneForm : Type 0 where
   -- the first two of the standard's list, of those that the rounds use
   pub leading_keys : List (List ℕ) → List (List ℕ)
 
+-- what a byte of stored round key i stands for, by the number of the last
+abbrev pub key_byte : LaneForm → ℕ → ℕ → ℕ → ℕ
+key_byte form last i = if i == 0 then form.first_byte else if i == last then form.last_byte else form.inner_byte
+
 -- the round keys that stored ones stand for, in their order of use
 unfoldable pub round_keys_of : LaneForm → List (List ℕ) → List (List ℕ)
 unfolding fips.build
 round_keys_of form stored =
-    fips.build (length stored) (λ i. map (if i == 0 then form.first_byte else if i == fips.last_round stored then
-    form.last_byte else form.inner_byte) (fips.round_key stored i))
+    fips.build (length stored) (λ i. map (key_byte form (fips.last_round stored) i) (fips.round_key stored i))
 
 -- where round key i of a list stands, by the number of the last and whether they stand in reverse
 abbrev pub place_of : Bool → ℕ → ℕ → ℕ

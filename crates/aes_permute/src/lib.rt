@@ -11,7 +11,6 @@ mod names;
 pub mod rounds;
 pub mod sbox;
 pub mod schedule;
-pub mod sizes;
 pub mod stored;
 pub mod tables;
 

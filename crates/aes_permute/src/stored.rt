@@ -6,13 +6,21 @@ ghost use Rattle.aes_permute.specs.Keys.{encrypting, decrypting, lane_key, store
 
 use crate::directions::LaneRounds;
 use crate::schedule::{expand, invert};
-use crate::sizes::size_of_key;
-use aes_cipher::aes::KeySize;
+use aes_cipher::aes::{KeyBytes, KeySize};
 use aes_cipher::zeroize::Wiped;
 use aes_planes::soft::word::Block;
 
 /// Room for the round keys of a key of any size: as many blocks as the largest has.
 pub type Room = [Block; 15];
+
+// Returns how many bytes a key has.
+#[inline(always)]
+fn size_of_key<K: KeySize>() -> usize
+    ensures size { result ≡ K.Key.SIZE }
+    ensures one_of_three { (K.Key.SIZE ≡ 16) ⊎ ((K.Key.SIZE ≡ 24) ⊎ (K.Key.SIZE ≡ 32)) }
+{
+    K::Key::SIZE
+}
 
 /// Returns the stored round keys of a key: the first of the blocks.
 #[inline(always)]
