@@ -1,6 +1,6 @@
 //! The key schedules (FIPS 197, 5.2), four words at a time, and the form in which round keys are stored.
 
-ghost use Rattle.std.specs.Prelude.{◌≡◌, ◌+◌, ◌≤◌, length, map};
+ghost use Rattle.std.specs.Prelude.{◌≡◌, ◌⊎◌, ◌+◌, ◌/◌, ◌≤◌, length, map};
 ghost use Rattle.aes_planes.specs.Fips197 as fips;
 ghost use Rattle.aes_planes.specs.Planes.{plus63, summed};
 ghost use Rattle.aes_permute.specs.Keys.{encrypting, decrypting};
@@ -142,39 +142,16 @@ impl<D: LaneRounds> KeyForm for Lanes<D> {
     }
 }
 
-/// Writes the round keys of a key of 16 bytes as a direction uses them.
-pub fn expand_128<D: LaneRounds>(keys: &mut [Block], key: &[u8])
-    requires round_keys { length keys.old ≡ 11 }
-    requires sized { length key.now ≡ 16 }
+/// Writes the round keys of a key of any size as a direction uses them: KeyExpansion (FIPS 197, 5.2), and
+/// KeyExpansionEIC for decrypting (5.3.5).
+pub fn expand<D: LaneRounds>(keys: &mut [Block], key: &[u8])
+    requires one_of_three { (length key.now ≡ 16) ⊎ ((length key.now ≡ 24) ⊎ (length key.now ≡ 32)) }
+    requires sized { length keys.old ≡ length key.now / 4 + 7 }
     ensures keys { round_keys_of D.first_byte D.inner_byte D.last_byte keys.new
         ≡ D.used_keys (fips.key_expansion key.now) }
-    ensures same_length { length keys.new ≡ 11 }
+    ensures same_length { length keys.new ≡ length keys.old }
 {
-    expansion::expand_128::<Lanes<D>>(keys, key, &mut Layers::new());
-    D::uses_written();
-}
-
-/// Writes the round keys of a key of 24 bytes as a direction uses them.
-pub fn expand_192<D: LaneRounds>(keys: &mut [Block], key: &[u8])
-    requires round_keys { length keys.old ≡ 13 }
-    requires sized { length key.now ≡ 24 }
-    ensures keys { round_keys_of D.first_byte D.inner_byte D.last_byte keys.new
-        ≡ D.used_keys (fips.key_expansion key.now) }
-    ensures same_length { length keys.new ≡ 13 }
-{
-    expansion::expand_192::<Lanes<D>>(keys, key, &mut Layers::new());
-    D::uses_written();
-}
-
-/// Writes the round keys of a key of 32 bytes as a direction uses them.
-pub fn expand_256<D: LaneRounds>(keys: &mut [Block], key: &[u8])
-    requires round_keys { length keys.old ≡ 15 }
-    requires sized { length key.now ≡ 32 }
-    ensures keys { round_keys_of D.first_byte D.inner_byte D.last_byte keys.new
-        ≡ D.used_keys (fips.key_expansion key.now) }
-    ensures same_length { length keys.new ≡ 15 }
-{
-    expansion::expand_256::<Lanes<D>>(keys, key, &mut Layers::new());
+    expansion::expand::<Lanes<D>>(keys, key, &mut Layers::new());
     D::uses_written();
 }
 

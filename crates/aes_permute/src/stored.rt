@@ -6,7 +6,7 @@ ghost use Rattle.aes_permute.specs.Keys.{encrypting, decrypting, stored_keys};
 ghost use Rattle.aes_permute.specs.Stored.{round_keys_of};
 
 use crate::directions::LaneRounds;
-use crate::schedule::{expand_128, expand_192, expand_256, invert};
+use crate::schedule::{expand, invert};
 use aes_cipher::aes::{KeyBytes, KeySize};
 use aes_cipher::zeroize::Wiped;
 use aes_planes::soft::word::Block;
@@ -32,22 +32,6 @@ pub fn keys_of<K: KeySize>(room: &Wiped<Room>) -> &[Block]
     &room.words()[..size_of_key::<K>() / 4 + 7]
 }
 
-// Writes the round keys of a key of any length that the standard has.
-#[inline(always)]
-fn expand<D: LaneRounds>(room: &mut Room, key: &[u8])
-    requires one_of_three { (length key.now ≡ 16) ⊎ ((length key.now ≡ 24) ⊎ (length key.now ≡ 32)) }
-    ensures { round_keys_of D.first_byte D.inner_byte D.last_byte (stored_keys (length key.now) room.new)
-        ≡ D.used_keys (fips.key_expansion key.now) }
-{
-    if key.len() == 16 {
-        expand_128::<D>(&mut room[..11], key);
-    } else if key.len() == 24 {
-        expand_192::<D>(&mut room[..13], key);
-    } else {
-        expand_256::<D>(room, key);
-    }
-}
-
 /// Writes the round keys of a key as a direction uses them: KeyExpansion (FIPS 197, 5.2), and KeyExpansionEIC for
 /// decrypting (5.3.5).
 #[inline(always)]
@@ -56,8 +40,8 @@ pub fn put_keys<K: KeySize, D: LaneRounds>(room: &mut Room, key: &[u8])
     ensures { round_keys_of D.first_byte D.inner_byte D.last_byte (stored_keys K.Key.SIZE room.new)
         ≡ D.used_keys (fips.key_expansion key.now) }
 {
-    size_of_key::<K>();
-    expand::<D>(room, key);
+    let count = size_of_key::<K>() / 4 + 7;
+    expand::<D>(&mut room[..count], key);
 }
 
 /// Writes the round keys of EqInvCipher, of the same key as those of Cipher (FIPS 197, 5.3.5).
