@@ -142,62 +142,8 @@ impl<D: LaneRounds> KeyForm for LaneSchedule<D> {
     }
 }
 
-// Writes the round keys of a key of 16 bytes as a direction uses them.
-fn expand_128<D: LaneRounds>(keys: &mut [Block], key: &[u8])
-    requires round_keys { length keys.old ≡ 11 }
-    requires sized { length key.now ≡ 16 }
-    ensures keys { round_keys_of D.form keys.new
-        ≡ D.form.used_keys (fips.key_expansion key.now) }
-    ensures same_length { length keys.new ≡ 11 }
-{
-    expansion::expand_128::<LaneSchedule<D>>(keys, key, &mut Layers::new());
-    D::uses_written();
-}
-
-// Writes the round keys of a key of 24 bytes as a direction uses them.
-fn expand_192<D: LaneRounds>(keys: &mut [Block], key: &[u8])
-    requires round_keys { length keys.old ≡ 13 }
-    requires sized { length key.now ≡ 24 }
-    ensures keys { round_keys_of D.form keys.new
-        ≡ D.form.used_keys (fips.key_expansion key.now) }
-    ensures same_length { length keys.new ≡ 13 }
-{
-    expansion::expand_192::<LaneSchedule<D>>(keys, key, &mut Layers::new());
-    D::uses_written();
-}
-
-// Writes the round keys of a key of 32 bytes as a direction uses them.
-fn expand_256<D: LaneRounds>(keys: &mut [Block], key: &[u8])
-    requires round_keys { length keys.old ≡ 15 }
-    requires sized { length key.now ≡ 32 }
-    ensures keys { round_keys_of D.form keys.new
-        ≡ D.form.used_keys (fips.key_expansion key.now) }
-    ensures same_length { length keys.new ≡ 15 }
-{
-    expansion::expand_256::<LaneSchedule<D>>(keys, key, &mut Layers::new());
-    D::uses_written();
-}
-
-// Writes the round keys of a key of any length.
-#[inline(always)]
-fn write_keys<D: LaneRounds>(keys: &mut [Block], key: &[u8])
-    requires one_of_three { (length key.now ≡ 16) ⊎ ((length key.now ≡ 24) ⊎ (length key.now ≡ 32)) }
-    requires sized { length keys.old ≡ length key.now / 4 + 7 }
-    ensures keys { round_keys_of D.form keys.new ≡ D.form.used_keys (fips.key_expansion key.now) }
-    ensures same_length { length keys.new ≡ length keys.old }
-{
-    if key.len() == 16 {
-        expand_128::<D>(keys, key);
-    } else if key.len() == 24 {
-        expand_192::<D>(keys, key);
-    } else {
-        expand_256::<D>(keys, key);
-    }
-}
-
-/// Writes the round keys of a key as a direction uses them: KeyExpansion (FIPS 197, 5.2), and KeyExpansionEIC for
-/// decrypting (5.3.5).
-#[inline(always)]
+/// Writes the round keys of a key of any size as a direction uses them: KeyExpansion (FIPS 197, 5.2), and
+/// KeyExpansionEIC for decrypting (5.3.5).
 pub fn expand<D: LaneRounds>(keys: &mut [Block], key: &[u8])
     requires one_of_three { (length key.now ≡ 16) ⊎ ((length key.now ≡ 24) ⊎ (length key.now ≡ 32)) }
     requires sized { length keys.old ≡ length key.now / 4 + 7 }
@@ -206,8 +152,9 @@ pub fn expand<D: LaneRounds>(keys: &mut [Block], key: &[u8])
     ensures keys { round_keys_of D.form keys.new ≡ D.form.used_keys (fips.key_expansion key.now) }
     ensures same_length { length keys.new ≡ length keys.old }
 {
+    expansion::expand::<LaneSchedule<D>>(keys, key, &mut Layers::new());
+    D::uses_written();
     D::keeps_key();
-    write_keys::<D>(keys, key);
 }
 
 /// Writes the stored round keys of EqInvCipher, in their order of use, of the same key as those of Cipher (FIPS 197,
