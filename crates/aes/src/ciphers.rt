@@ -1,5 +1,6 @@
 //! The form of the nine types: round keys in the full layout of bit planes, on words of one block.
 
+ghost use Rattle.aes_planes.specs.Expansion.{substitutions};
 ghost use Rattle.aes_soft.specs.Batches.{layers_for};
 
 use aes_cipher::aes;
@@ -91,7 +92,7 @@ impl<K: AesVariant> Decrypts for Fixsliced<K> {
 }
 
 impl<K: AesVariant> CountsLayers for Fixsliced<K> {
-    ghost SCHEDULE_LAYERS = { K.SCHEDULE_LAYERS };
+    ghost SCHEDULE_LAYERS = { substitutions K.Key.SIZE };
 
     ghost layers_for = { λ count. layers_for K.RoundKeys.ROUNDS count };
 

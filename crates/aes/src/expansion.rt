@@ -1,12 +1,12 @@
 //! The key expansion (FIPS 197, 5.2), on single rounds.
 
-ghost use Rattle.std.specs.Prelude.{◌≡◌, ◌+◌, slice_index};
+ghost use Rattle.std.specs.Prelude.{◌≡◌, ◌⊎◌, ◌+◌, length, slice_index};
 ghost use Rattle.aes_planes.specs.Fips197 as fips;
 ghost use Rattle.aes_planes.specs.Planes.{summed};
 
 use crate::Block;
 use crate::hazmat::{cipher_round, inv_mix_columns};
-use aes_planes::expansion::{self, KeyForm};
+use aes_planes::expansion::{KeyForm, expand};
 use aes_planes::laws;
 use aes_planes::soft::sbox::Layers;
 
@@ -17,32 +17,36 @@ type KeyWord = [u8; 4];
 const ZERO_KEY: Block = [0; 16];
 
 /// KeyExpansion of a key of 16 bytes (FIPS 197, 5.2).
-#[tactic(auto, using(crate::proofs::BlockExpansion::same_round_keys))]
 pub fn expand_128(key: &[u8; 16]) -> [Block; 11]
     ensures { result ≡ fips.key_expansion key.now }
 {
-    let mut round_keys = [[0; 16]; 11];
-    expansion::expand_128::<Blocks>(&mut round_keys, key, &mut Layers::new());
-    round_keys
+    expanded(key)
 }
 
 /// KeyExpansion of a key of 24 bytes (FIPS 197, 5.2).
-#[tactic(auto, using(crate::proofs::BlockExpansion::same_round_keys))]
 pub fn expand_192(key: &[u8; 24]) -> [Block; 13]
     ensures { result ≡ fips.key_expansion key.now }
 {
-    let mut round_keys = [[0; 16]; 13];
-    expansion::expand_192::<Blocks>(&mut round_keys, key, &mut Layers::new());
-    round_keys
+    expanded(key)
 }
 
 /// KeyExpansion of a key of 32 bytes (FIPS 197, 5.2).
-#[tactic(auto, using(crate::proofs::BlockExpansion::same_round_keys))]
 pub fn expand_256(key: &[u8; 32]) -> [Block; 15]
     ensures { result ≡ fips.key_expansion key.now }
 {
-    let mut round_keys = [[0; 16]; 15];
-    expansion::expand_256::<Blocks>(&mut round_keys, key, &mut Layers::new());
+    expanded(key)
+}
+
+// KeyExpansion of a key of any size (FIPS 197, 5.2).
+#[tactic(auto, using(crate::proofs::BlockExpansion::same_round_keys))]
+#[inline(always)]
+fn expanded<const COUNT: usize>(key: &[u8]) -> [Block; COUNT]
+    requires one_of_three { (length key.now ≡ 16) ⊎ ((length key.now ≡ 24) ⊎ (length key.now ≡ 32)) }
+    requires sized { COUNT ≡ fips.rounds key.now + 1 }
+    ensures { result ≡ fips.key_expansion key.now }
+{
+    let mut round_keys = [[0; 16]; COUNT];
+    expand::<Blocks>(&mut round_keys, key, &mut Layers::new());
     round_keys
 }
 

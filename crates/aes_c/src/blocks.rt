@@ -21,8 +21,8 @@ pub(crate) trait KeptDirection: LaneRounds + FullCipher {
     fn lend(aes: &Aes) -> &[Block]
         requires holds_key { IsKeyLength aes.now.key_length }
         requires made { IsMade aes.now.key_length aes.now.encrypting aes.now.decrypting }
-        ensures { round_keys_of Self.first_byte Self.inner_byte Self.last_byte result.now
-            ≡ Self.used_keys (encrypting (first_keys aes.now.key_length aes.now.encrypting)) };
+        ensures { round_keys_of Self.form result.now
+            ≡ Self.form.used_keys (encrypting (first_keys aes.now.key_length aes.now.encrypting)) };
 }
 
 impl KeptDirection for Encrypt {

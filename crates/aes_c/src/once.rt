@@ -18,7 +18,7 @@ use aes_hybrid::blocks::process_blocks;
 use aes_hybrid::lent::LentKeys;
 use aes_permute::blocks::process_blocks as process_on_lanes;
 use aes_permute::directions::LaneRounds;
-use aes_permute::schedule::{expand_128, expand_192, expand_256};
+use aes_permute::schedule::expand;
 use aes_planes::soft::word::Block;
 
 // The most blocks that are decrypted under a schedule for decrypting alone. More are quicker as a batch on planes, which
@@ -30,17 +30,10 @@ const FEW: usize = 6;
 #[inline(always)]
 fn put_used<D: LaneRounds>(blocks: &mut [Block; 15], key: &[u8])
     requires { IsKeyLength (length key.now) }
-    ensures { round_keys_of D.first_byte D.inner_byte D.last_byte (first_keys (length key.now) blocks.new)
-        ≡ D.used_keys (fips.key_expansion key.now) }
+    ensures { round_keys_of D.form (first_keys (length key.now) blocks.new)
+        ≡ D.form.used_keys (fips.key_expansion key.now) }
 {
-    let keys = &mut blocks[..key.len() / 4 + 7];
-    if key.len() == 16 {
-        expand_128::<D>(keys, key);
-    } else if key.len() == 24 {
-        expand_192::<D>(keys, key);
-    } else {
-        expand_256::<D>(keys, key);
-    }
+    expand::<D>(&mut blocks[..key.len() / 4 + 7], key);
 }
 
 // Processes each of few blocks in place, which takes the round keys of that direction alone.

@@ -10,8 +10,8 @@ use Rattle.aes_soft.specs.Stored.{full, key_of, rounds_of, size_of, stored_key, 
 use Rattle.aes_soft.proofs.KeyOfPlanes.{key_of-schedule}
 use Rattle.aes_soft.proofs.StoredRoundKeys.{deferred_below, deferred_last, stored_first, stored_later}
 use Rattle.aes_soft.proofs.WordsInPlace.{held_at, HoldsAt}
-use Rattle.aes_permute.specs.Keys.{encrypting}
-use Rattle.aes_permute.specs.Stored.{as_is, untower, key_untower}
+use Rattle.aes_permute.specs.Keys.{encrypting, cipher_form}
+use Rattle.aes_permute.specs.Stored.{untower, key_untower}
 use Rattle.aes_permute.proofs.States.{keys_length, first_key, inner_key, last_key}
 use Rattle.aes_hybrid.specs.Lanes.{lanes_key, IsLanes}
 use Rattle.aes_hybrid.proofs.Shifted.{times_map}
@@ -34,7 +34,7 @@ module _ (stored : List (List ℕ)) (two : 2 ≤ length stored) where
   pub first_wanted : fips.round_key stored 0 ≡ wanted 0
   first_wanted =
       sym (stored_first (full rounds_made) (encrypting stored) (deferred_below rounds_made 4 0 0 (omega arith) refl)
-      ∙ first_key as_is key_untower plus63 stored (omega (arith, two)) ∙ map-id (fips.round_key stored 0))
+      ∙ first_key cipher_form stored (omega (arith, two)) ∙ map-id (fips.round_key stored 0))
 
   -- one between is, once it is taken out of the tower basis and shifted back i mod 4 times
   pub inner_wanted : (i : ℕ) → 1 ≤ i → i < rounds_made → length (fips.round_key stored i) ≡ 16
@@ -45,7 +45,7 @@ module _ (stored : List (List ℕ)) (two : 2 ≤ length stored) where
       sym (stored_later (full rounds_made) (encrypting stored) i (i % 4) (omega (arith, some))
       (deferred_below rounds_made 4 i (i % 4) below refl)
       ∙ ap (λ v. map plus63 (fips.inv_shift_times (i % 4) v))
-      (inner_key as_is key_untower plus63 stored i some below)
+      (inner_key cipher_form stored i some below)
       ∙ times_map plus63 (i % 4) (map key_untower s) long ∙ ap (fips.inv_shift_times (i % 4)) (untower_of_key s))
 
   -- and the last is as planes store it
@@ -54,7 +54,7 @@ module _ (stored : List (List ℕ)) (two : 2 ≤ length stored) where
   last_wanted i e =
       sym (stored_later (full rounds_made) (encrypting stored) i 0 (omega (arith, e, two))
       (deferred_last rounds_made 4 i e)
-      ∙ ap (map plus63) (last_key as_is key_untower plus63 stored i two e) ∙ plus63_twice (fips.round_key stored i))
+      ∙ ap (map plus63) (last_key cipher_form stored i two e) ∙ plus63_twice (fips.round_key stored i))
 
 -- planes that hold a block in every slot are put at a round key's place
 pub put_at : {A : Type 0} (bits : A → List Bool) (n : ℕ) (rk : List A) (o p : ℕ) (x y : List ℕ) → p ≡ o
@@ -77,13 +77,13 @@ module _ (n : ℕ) (some : 1 ≤ n) (planes : List (List Bool)) (stored : List (
 
   is_schedule : IsSchedule n (full (rounds_of words)) (lanes_key stored) planes
   is_schedule i lt =
-      let w : encrypting stored ≡ fips.key_expansion (lanes_key stored) = lanes.keyed.keys in
+      let w : encrypting stored ≡ fips.key_expansion (lanes_key stored) = lanes.keys in
       let r : length stored - 1 ≡ rounds_of words = omega (arith, sized) in
-      let below : i < length stored = omega (arith, lt, ap length w, keys_length as_is key_untower plus63 stored) in
+      let below : i < length stored = omega (arith, lt, ap length w, keys_length cipher_form stored) in
       holds i below ∙ (λ j. replicate n (stored_key (full (r j)) (w j) i))
 
   same_size : length (lanes_key stored) ≡ size_of words
-  same_size = lanes.keyed.sized ∙ omega (arith, sized)
+  same_size = lanes.sized ∙ omega (arith, sized)
 
   -- planes that hold them in the full layout are read as the key that the stored round keys are read as
   pub planes_key : key_of (size_of words) n (full (rounds_of words)) planes ≡ lanes_key stored

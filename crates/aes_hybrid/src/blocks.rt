@@ -147,7 +147,7 @@ fn process_on_planes<D: LaneRounds + FullCipher>(keys: &[Block], blocks: &mut [B
 #[inline(always)]
 pub(crate) fn process_few<D: LaneRounds>(keys: &[Block], used: &[Block], blocks: &mut [Block])
     requires is_lanes { IsLanes keys.now }
-    requires used { round_keys_of D.first_byte D.inner_byte D.last_byte used.now ≡ D.used_keys (encrypting keys.now) }
+    requires used { round_keys_of D.form used.now ≡ D.form.used_keys (encrypting keys.now) }
     ensures { Each (D.processed (fips.key_expansion (lanes_key keys.now))) blocks.old blocks.new }
 {
     let _ = keys;
@@ -227,7 +227,7 @@ pub fn process_blocks<D: LaneRounds + FullCipher>(
     blocks: &mut [Block],
 )
     requires is_lanes { IsLanes keys.now }
-    requires used { round_keys_of D.first_byte D.inner_byte D.last_byte used.now ≡ D.used_keys (encrypting keys.now) }
+    requires used { round_keys_of D.form used.now ≡ D.form.used_keys (encrypting keys.now) }
     ensures { Each (D.processed (fips.key_expansion (lanes_key keys.now))) blocks.old blocks.new }
 {
     let whole = blocks_by_sixteen(blocks.len());
@@ -242,7 +242,7 @@ pub fn process_blocks<D: LaneRounds + FullCipher>(
 // direction.
 fn process_narrow<D: LaneRounds + FullCipher>(keys: &[Block], used: &[Block], blocks: &mut [Block])
     requires is_lanes { IsLanes keys.now }
-    requires used { round_keys_of D.first_byte D.inner_byte D.last_byte used.now ≡ D.used_keys (encrypting keys.now) }
+    requires used { round_keys_of D.form used.now ≡ D.form.used_keys (encrypting keys.now) }
     ensures { Each (D.processed (fips.key_expansion (lanes_key keys.now))) blocks.old blocks.new }
 {
     let whole = blocks_on_planes::<D>(blocks.len());

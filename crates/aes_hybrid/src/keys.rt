@@ -4,11 +4,10 @@ ghost use Rattle.std.specs.Prelude.{◌≡◌, ◌⊎◌, ◌+◌, ◌/◌, leng
 ghost use Rattle.aes_hybrid.specs.Lanes.{lanes_key, IsLanes, AreInverse};
 
 use aes_cipher::cipher::Encrypt;
-use aes_permute::schedule::{expand_128, expand_192, expand_256, invert};
+use aes_permute::schedule::{expand, invert};
 use aes_planes::soft::word::Block;
 
 /// Writes the stored round keys of Cipher of a key: KeyExpansion (FIPS 197, 5.2).
-#[tactic(auto, using(crate::proofs::LaneKeys::keyed_lanes))]
 pub fn put_encrypting(keys: &mut [Block], key: &[u8])
     requires one_of_three { (length key.now ≡ 16) ⊎ ((length key.now ≡ 24) ⊎ (length key.now ≡ 32)) }
     requires sized { length keys.old ≡ length key.now / 4 + 7 }
@@ -16,13 +15,7 @@ pub fn put_encrypting(keys: &mut [Block], key: &[u8])
     ensures is_lanes { IsLanes keys.new }
     ensures key { lanes_key keys.new ≡ key.now }
 {
-    if key.len() == 16 {
-        expand_128::<Encrypt>(keys, key);
-    } else if key.len() == 24 {
-        expand_192::<Encrypt>(keys, key);
-    } else {
-        expand_256::<Encrypt>(keys, key);
-    }
+    expand::<Encrypt>(keys, key);
 }
 
 /// Writes the stored round keys of EqInvCipher, of the same key (FIPS 197, 5.3.5).

@@ -10,44 +10,44 @@ use Rattle.aes_planes.proofs.Standard.AllRounds.{is_cipher, is_eq_inv_cipher}
 use Rattle.aes_planes.proofs.Standard.CipherInverses.{eq_inv_is_inv}
 use Rattle.aes_planes.proofs.Standard.InvertedKeys.{inverted_length, inverted_end, inverted_middle}
 use Rattle.aes_cipher.specs.KeySizes.{IsKeySize}
-use Rattle.aes_permute.specs.Keys.{leading_key, first_two}
-use Rattle.aes_permute.specs.Stored.{as_is, inv_untower, key_untower, round_keys_of, AreWritten}
+use Rattle.aes_permute.specs.Keys.{leading_key, first_two, cipher_form, inverse_form}
+use Rattle.aes_permute.specs.Stored.{inv_untower, round_keys_of, AreWritten, LaneForm}
 use Rattle.aes_permute.proofs.KeyBytes.{own_key, two_back}
 use Rattle.aes_permute.proofs.States.{keys_length, first_key, inner_key, last_key}
 
 -- stored round keys stand for those of a list, if each does
-stored_are : (first inner last : ℕ → ℕ) (stored v : List (List ℕ)) → 2 ≤ length v → length stored ≡ length v
-    → map first (fips.round_key stored 0) ≡ fips.round_key v 0
-    → ((i : ℕ) → 1 ≤ i → i < fips.last_round v → map inner (fips.round_key stored i) ≡ fips.round_key v i)
-    → map last (fips.round_key stored (fips.last_round v)) ≡ fips.round_key v (fips.last_round v)
-    → round_keys_of first inner last stored ≡ v
-stored_are first inner last stored v two l at_first between at_last =
-    let keys = round_keys_of first inner last stored in
+stored_are : (form : LaneForm) (stored v : List (List ℕ)) → 2 ≤ length v → length stored ≡ length v
+    → map form.first_byte (fips.round_key stored 0) ≡ fips.round_key v 0
+    → ((i : ℕ) → 1 ≤ i → i < fips.last_round v → map form.inner_byte (fips.round_key stored i) ≡ fips.round_key v i)
+    → map form.last_byte (fips.round_key stored (fips.last_round v)) ≡ fips.round_key v (fips.last_round v)
+    → round_keys_of form stored ≡ v
+stored_are form stored v two l at_first between at_last =
+    let keys = round_keys_of form stored in
     let same : fips.last_round v ≡ fips.last_round stored = ap (λ n. n - 1) (sym l) in
-    ext_get_or [] keys v (keys_length first inner last stored ∙ l) (λ i lt.
-    let some : i < length v = omega (arith, lt, keys_length first inner last stored, l) in
+    ext_get_or [] keys v (keys_length form stored ∙ l) (λ i lt.
+    let some : i < length v = omega (arith, lt, keys_length form stored, l) in
     elim (cases_lt 0 i) [
       | inl above ↦ elim (cases_lt i (fips.last_round v)) [
-        | inl below ↦ inner_key first inner last stored i (omega (arith, above)) (omega (arith, below, same))
+        | inl below ↦ inner_key form stored i (omega (arith, above)) (omega (arith, below, same))
             ∙ between i (omega (arith, above)) below
         | inr ge ↦
             let at : i ≡ fips.last_round v = omega (arith, ge, some) in
-            ap (fips.round_key keys) at ∙ last_key first inner last stored _ (omega (arith, two, l)) same ∙ at_last
+            ap (fips.round_key keys) at ∙ last_key form stored _ (omega (arith, two, l)) same ∙ at_last
             ∙ ap (fips.round_key v) (sym at)
       ]
       | inr ge ↦
           let none : i ≡ 0 = omega (arith, ge) in
-          ap (fips.round_key keys) none ∙ first_key first inner last stored (omega (arith, two, l)) ∙ at_first
+          ap (fips.round_key keys) none ∙ first_key form stored (omega (arith, two, l)) ∙ at_first
           ∙ ap (fips.round_key v) (sym none)
     ])
 
 -- ---- Cipher
 
 -- round keys written one by one for Cipher stand for the standard's list
-pub written_forward : (w stored : List (List ℕ)) → 2 ≤ length w → AreWritten false key_untower (λ key. key) w stored
-    → round_keys_of as_is key_untower plus63 stored ≡ w
+pub written_forward : (w stored : List (List ℕ)) → 2 ≤ length w → AreWritten false cipher_form w stored
+    → round_keys_of cipher_form stored ≡ w
 written_forward w stored two h =
-    stored_are as_is key_untower plus63 stored w two h.same_length (map-id _ ∙ (h.each 0 (omega arith)).first refl)
+    stored_are cipher_form stored w two h.same_length (map-id _ ∙ (h.each 0 (omega arith)).first refl)
     (λ i some below. (h.each i (omega (arith, below))).between some below) ((h.each _ (omega arith)).at_last refl)
 
 -- Cipher uses as many round keys as the list has
@@ -72,9 +72,8 @@ pub same_backward : (w : List (List ℕ)) → length (fips.inverted_keys w) ≡ 
 same_backward w = inverted_length w
 
 -- round keys written one by one for EqInvCipher stand for the inverted round keys of the standard's list
-pub written_backward : (w stored : List (List ℕ)) → 2 ≤ length w → AreWritten true inv_untower fips.inv_mix_columns w
-    stored
-    → round_keys_of plus63 inv_untower as_is stored ≡ fips.inverted_keys w
+pub written_backward : (w stored : List (List ℕ)) → 2 ≤ length w → AreWritten true inverse_form w stored
+    → round_keys_of inverse_form stored ≡ fips.inverted_keys w
 written_backward w stored two h =
     let v = fips.inverted_keys w in
     let n = fips.last_round w in
@@ -83,7 +82,7 @@ written_backward w stored two h =
     let back : n ≡ n - 0 = omega arith in
     let both : 2 ≤ length v = omega (arith, two, inverted_length w) in
     let fits : n < length w = omega (arith, two) in
-    stored_are plus63 inv_untower as_is stored v both (h.same_length ∙ sym (inverted_length w))
+    stored_are inverse_form stored v both (h.same_length ∙ sym (inverted_length w))
     (ap (λ m. map plus63 (fips.round_key stored m)) none ∙ (h.each n (omega arith)).at_last refl
     ∙ ap (fips.round_key w) back ∙ inverted_end w 0 (omega (arith, two)) (inl refl))
     (λ i some below.

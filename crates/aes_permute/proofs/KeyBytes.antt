@@ -1,6 +1,6 @@
 -- The key that stored round keys are read as.
-use Rattle.std.proofs.Common.{◌≡◌, inr, ℕ, ◌-◌, ◌/◌, ◌<◌, ◌≤◌, List, ◌++◌, length, take, refl, ap, sym, subst, ◌∙◌}
-use Rattle.std.proofs.Common.{arith}
+use Rattle.std.proofs.Common.{◌≡◌, ◌⊎◌, inl, inr, ℕ, ◌+◌, ◌-◌, ◌/◌, ◌<◌, ◌≤◌, List, ◌++◌, length, take}
+use Rattle.std.proofs.Common.{refl, ap, sym, subst, ◌∙◌, arith}
 use Rattle.aes_planes.specs.Fips197 as fips
 use Rattle.aes_planes.proofs.KeySchedule.ExpandedBlocks.{first_bytes, round_key_length}
 use Rattle.aes_planes.proofs.KeySchedule.ExpansionLength.{expansion_length, expansion_bytes}
@@ -8,8 +8,8 @@ use Rattle.aes_planes.proofs.Mixing.MixColumns.{mix_of_inv_mix}
 use Rattle.aes_planes.proofs.Standard.CipherLaws.{two_keys}
 use Rattle.aes_planes.proofs.Standard.InvertedKeys.{inverted_length, inverted_end, inverted_middle}
 use Rattle.aes_cipher.specs.KeySizes.{IsKeySize}
-use Rattle.aes_permute.specs.Keys.{leading_key, first_two, key_read, IsLaneSchedule}
-use Rattle.aes_permute.specs.Stored.{round_keys_of}
+use Rattle.aes_permute.specs.Keys.{leading_key, first_two, lane_key, lane_key_size, IsLaneSchedule}
+use Rattle.aes_permute.specs.Stored.{round_keys_of, LaneForm}
 use Rattle.aes_permute.proofs.States.{keys_length}
 
 -- the key that begins its own schedule
@@ -51,28 +51,52 @@ two_back size key b = λ i. take size (first_back key b i ++ second_back key b i
 
 -- ---- the key that stored round keys are read as, in either direction
 
-module _ (used_keys first_keys : List (List ℕ) → List (List ℕ)) (size : ℕ) (v : List (List ℕ)) (key : List ℕ)
-    (s : IsKeySize size) (l : length key ≡ size) (b : fips.IsBytes key)
+-- a length that keys have
+abbrev pub IsLength : ℕ → Type 0
+IsLength n = (n ≡ 16) ⊎ ((n ≡ 24) ⊎ (n ≡ 32))
+
+key_size : (n : ℕ) → IsLength n → IsKeySize n
+key_size n one = record {
+  words = omega (arith, one);
+  four = omega (arith, one);
+  eight = omega (arith, one);
+  one_of_three = one;
+}
+
+module _ (form : LaneForm) (stored : List (List ℕ)) (key : List ℕ) (one : IsLength (length key))
+    (sized : length stored ≡ length key / 4 + 7) (b : fips.IsBytes key)
     (keeps : (size : ℕ) (key : List ℕ) → IsKeySize size → length key ≡ size → fips.IsBytes key
-    → leading_key size (first_keys (used_keys (fips.key_expansion key))) ≡ key)
-    (e : v ≡ used_keys (fips.key_expansion key)) where
+    → leading_key size (form.leading_keys (form.used_keys (fips.key_expansion key))) ≡ key)
+    (e : round_keys_of form stored ≡ form.used_keys (fips.key_expansion key)) where
+  own_size : lane_key_size stored ≡ length key
+  own_size = omega (arith, sized, one)
+
   -- round keys of a key are read as that key
-  pub read_as : key_read first_keys size v ≡ key
-  unfolding key_read
-  read_as = ap (λ v. leading_key size (first_keys v)) e ∙ keeps size key s l b
+  pub read_as : lane_key form stored ≡ key
+  unfolding lane_key
+  read_as = (λ j. leading_key (own_size j) (form.leading_keys (e j)))
+      ∙ keeps (length key) key (key_size (length key) one) refl b
 
   -- and are those of the key that they are read as
-  pub is_lane_schedule : IsLaneSchedule used_keys first_keys size v
+  pub is_lane_schedule : IsLaneSchedule form stored
   is_lane_schedule = record {
-    sized = ap length read_as ∙ l;
+    one_of_three = elim one [
+      | inl k ↦ inl (omega (arith, sized, k))
+      | inr other ↦ inr (elim other [ inl k ↦ inl (omega (arith, sized, k)) | inr k ↦ inr (omega (arith, sized, k)) ])
+    ];
+    sized = ap length read_as ∙ sym own_size;
     bytes = subst fips.IsBytes (sym read_as) b;
-    keys = e ∙ ap (λ key. used_keys (fips.key_expansion key)) (sym read_as);
+    keys = e ∙ ap (λ key. form.used_keys (fips.key_expansion key)) (sym read_as);
   }
 
+-- the key that they are read as has the size that their number says
+pub stored_size : (form : LaneForm) (size : ℕ) (stored : List (List ℕ)) → IsLength size
+    → length stored ≡ size / 4 + 7 → IsLaneSchedule form stored → length (lane_key form stored) ≡ size
+stored_size form size stored one l s = s.sized ∙ omega (arith, one, l)
+
 -- stored round keys of a key are two or more
-pub two_stored : (first inner last : ℕ → ℕ) (used_keys : List (List ℕ) → List (List ℕ))
-    → ((w : List (List ℕ)) → length (used_keys w) ≡ length w)
-    → (stored : List (List ℕ)) (key : List ℕ) → round_keys_of first inner last stored
-    ≡ used_keys (fips.key_expansion key) → 2 ≤ length stored
-two_stored first inner last used_keys same stored key e =
-    omega (arith, keys_length first inner last stored, ap length e, same (fips.key_expansion key), two_keys key)
+pub two_stored : (form : LaneForm) → ((w : List (List ℕ)) → length (form.used_keys w) ≡ length w)
+    → (stored : List (List ℕ)) (key : List ℕ) → round_keys_of form stored ≡ form.used_keys (fips.key_expansion key)
+    → 2 ≤ length stored
+two_stored form same stored key e =
+    omega (arith, keys_length form stored, ap length e, same (fips.key_expansion key), two_keys key)

@@ -1,82 +1,84 @@
 -- States round by round, under stored round keys.
-use Rattle.std.proofs.Common.{◌≡◌, ℕ, ◌+◌, ◌-◌, ◌<◌, ◌≤◌, ◌==◌, if◌then◌else◌, List, [], length, map, refl, ap, sym}
+use Rattle.std.proofs.Common.{◌≡◌, ℕ, ◌+◌, ◌-◌, ◌<◌, ◌≤◌, if◌then◌else◌, List, [], length, map, refl, ap, sym}
 use Rattle.std.proofs.Common.{◌∙◌, arith}
 use Rattle.std.proofs.lemmas.Bool.{eq-eqb, ne_eqb}
 use Rattle.aes_planes.specs.Fips197 as fips
 use Rattle.aes_planes.specs.Rounds.{rounds_after, all_rounds}
 use Rattle.aes_planes.proofs.Lists.{get_or-build, length-build}
 use Rattle.aes_planes.proofs.Standard.AllRounds.{rounds_more}
-use Rattle.aes_permute.specs.Stored.{round_keys_of}
+use Rattle.aes_permute.specs.Stored.{key_byte, round_keys_of, LaneForm}
 
-module _ (first inner last : ℕ → ℕ) (stored : List (List ℕ)) where
+module _ (form : LaneForm) (stored : List (List ℕ)) where
   -- as many round keys are stored as they stand for
-  pub keys_length : length (round_keys_of first inner last stored) ≡ length stored
+  pub keys_length : length (round_keys_of form stored) ≡ length stored
   unfolding round_keys_of
-  keys_length = length-build (length stored) (λ i.
-      map (if i == 0 then first else if i == fips.last_round stored then last else inner) (fips.round_key stored i))
+  keys_length = length-build (length stored)
+      (λ i. map (key_byte form (fips.last_round stored) i) (fips.round_key stored i))
 
   -- and the last of both has the same number
-  pub last_is_last : fips.last_round (round_keys_of first inner last stored) ≡ fips.last_round stored
+  pub last_is_last : fips.last_round (round_keys_of form stored) ≡ fips.last_round stored
   last_is_last = ap (λ v. v - 1) keys_length
 
   key_at : (i : ℕ) → i < length stored
-      → fips.round_key (round_keys_of first inner last stored) i
-      ≡ map (if i == 0 then first else if i == fips.last_round stored then last else inner) (fips.round_key stored i)
+      → fips.round_key (round_keys_of form stored) i
+      ≡ map (key_byte form (fips.last_round stored) i) (fips.round_key stored i)
   unfolding round_keys_of
-  key_at i lt = get_or-build (length stored) i (λ i. map
-      (if i == 0 then first else if i == fips.last_round stored then last else inner) (fips.round_key stored i)) [] lt
+  key_at i lt = get_or-build (length stored) i
+      (λ i. map (key_byte form (fips.last_round stored) i) (fips.round_key stored i)) [] lt
 
-  -- the first stored round key stands for the bytes that `first` makes of it
-  pub first_key : 1 ≤ length stored → fips.round_key (round_keys_of first inner last stored) 0
-      ≡ map first (fips.round_key stored 0)
+  -- the first stored round key stands for the bytes that `first_byte` makes of it
+  pub first_key : 1 ≤ length stored → fips.round_key (round_keys_of form stored) 0
+      ≡ map form.first_byte (fips.round_key stored 0)
   first_key some = key_at 0 (omega arith)
 
-  -- one between the first and the last stands for what `inner` makes of it
+  -- one between the first and the last stands for what `inner_byte` makes of it
   pub inner_key : (i : ℕ) → 1 ≤ i → i < fips.last_round stored
-      → fips.round_key (round_keys_of first inner last stored) i ≡ map inner (fips.round_key stored i)
+      → fips.round_key (round_keys_of form stored) i ≡ map form.inner_byte (fips.round_key stored i)
   inner_key i some before =
       key_at i (omega arith)
-      ∙ (λ j. map (if ne_eqb i 0 (omega arith) j then first else if ne_eqb i (fips.last_round stored) (omega arith) j
-      then last else inner) (fips.round_key stored i))
+      ∙ (λ j. map (if ne_eqb i 0 (omega arith) j then form.first_byte else
+      if ne_eqb i (fips.last_round stored) (omega arith) j then form.last_byte else form.inner_byte)
+      (fips.round_key stored i))
 
-  -- and the last for what `last` makes of it
+  -- and the last for what `last_byte` makes of it
   pub last_key : (i : ℕ) → 2 ≤ length stored → i ≡ fips.last_round stored
-      → fips.round_key (round_keys_of first inner last stored) i ≡ map last (fips.round_key stored i)
+      → fips.round_key (round_keys_of form stored) i ≡ map form.last_byte (fips.round_key stored i)
   last_key i two e =
       key_at i (omega arith)
-      ∙ (λ j. map (if ne_eqb i 0 (omega arith) j then first else if eq-eqb i (fips.last_round stored) e j then last else
-      inner) (fips.round_key stored i))
+      ∙ (λ j. map (if ne_eqb i 0 (omega arith) j then form.first_byte else
+      if eq-eqb i (fips.last_round stored) e j then form.last_byte else form.inner_byte) (fips.round_key stored i))
 
   -- ---- the three kinds of rounds, on what a state stands for
 
   -- a block plus the first round key is the state before any round
   pub first_state : (step : List ℕ → List ℕ) (state : ℕ → ℕ) (b x : List ℕ) → 1 ≤ length stored
-      → map state x ≡ fips.add_round_key b (map first (fips.round_key stored 0))
-      → map state x ≡ rounds_after step (round_keys_of first inner last stored) b 0
+      → map state x ≡ fips.add_round_key b (map form.first_byte (fips.round_key stored 0))
+      → map state x ≡ rounds_after step (round_keys_of form stored) b 0
   unfolding rounds_after
   first_state step state b x some e = e ∙ ap (fips.add_round_key b) (sym (first_key some))
 
   -- a step and an inner round key lead from the state before round i to the state after it
   pub next_state : (step : List ℕ → List ℕ) (state : ℕ → ℕ) (b x y : List ℕ) (i : ℕ) → 1 ≤ i
       → i < fips.last_round stored
-      → map state y ≡ fips.add_round_key (step (map state x)) (map inner (fips.round_key stored i))
-      → map state x ≡ rounds_after step (round_keys_of first inner last stored) b (i - 1)
-      → map state y ≡ rounds_after step (round_keys_of first inner last stored) b (i + 1 - 1)
+      → map state y ≡ fips.add_round_key (step (map state x)) (map form.inner_byte (fips.round_key stored i))
+      → map state x ≡ rounds_after step (round_keys_of form stored) b (i - 1)
+      → map state y ≡ rounds_after step (round_keys_of form stored) b (i + 1 - 1)
   next_state step state b x y i some before e h =
       let n : i ≡ i + 1 - 1 = omega arith in
       e ∙ (λ j. fips.add_round_key (step (h j)) (sym (inner_key i some before) j))
-      ∙ rounds_more step (round_keys_of first inner last stored) b i some
-      ∙ ap (rounds_after step (round_keys_of first inner last stored) b) n
+      ∙ rounds_more step (round_keys_of form stored) b i some
+      ∙ ap (rounds_after step (round_keys_of form stored) b) n
 
   -- the last step and the last round key lead from the state before it to the end of all rounds
   pub last_state : (step last_step : List ℕ → List ℕ) (state : ℕ → ℕ) (b x y : List ℕ) (i : ℕ) → 2 ≤ length stored → i
       ≡ fips.last_round stored
-      → y ≡ fips.add_round_key (last_step (map state x)) (map last (fips.round_key stored (fips.last_round stored)))
-      → map state x ≡ rounds_after step (round_keys_of first inner last stored) b (i - 1)
-      → y ≡ all_rounds step last_step (round_keys_of first inner last stored) b
+      → y ≡ fips.add_round_key (last_step (map state x))
+      (map form.last_byte (fips.round_key stored (fips.last_round stored)))
+      → map state x ≡ rounds_after step (round_keys_of form stored) b (i - 1)
+      → y ≡ all_rounds step last_step (round_keys_of form stored) b
   unfolding all_rounds
   last_state step last_step state b x y i two n e h =
-      let m : i ≡ fips.last_round (round_keys_of first inner last stored) = n ∙ sym last_is_last in
+      let m : i ≡ fips.last_round (round_keys_of form stored) = n ∙ sym last_is_last in
       e ∙ (λ j. fips.add_round_key (last_step (h j)) (sym (last_key (fips.last_round stored) two refl) j))
-      ∙ (λ j. fips.add_round_key (last_step (rounds_after step (round_keys_of first inner last stored) b (m j - 1)))
-      (fips.round_key (round_keys_of first inner last stored) (sym last_is_last j)))
+      ∙ (λ j. fips.add_round_key (last_step (rounds_after step (round_keys_of form stored) b (m j - 1)))
+      (fips.round_key (round_keys_of form stored) (sym last_is_last j)))

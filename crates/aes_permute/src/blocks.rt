@@ -23,7 +23,7 @@ fn is_block(key: Block)
 #[inline(always)]
 pub fn process_block<D: LaneRounds>(keys: &[Block], block: &Block) -> Block
     requires two { 2 ≤ length keys.now }
-    ensures { result ≡ all_rounds D.step D.last_step (round_keys_of D.first_byte D.inner_byte D.last_byte keys.now)
+    ensures { result ≡ all_rounds D.step D.last_step (round_keys_of D.form keys.now)
         block.now }
 {
     let last = keys.len() - 1;
@@ -42,9 +42,9 @@ pub fn process_block<D: LaneRounds>(keys: &[Block], block: &Block) -> Block
 fn process_two<D: LaneRounds>(keys: &[Block], one: &Block, other: &Block) -> (Block, Block)
     requires two { 2 ≤ length keys.now }
     ensures one { result.0 ≡ all_rounds D.step D.last_step
-        (round_keys_of D.first_byte D.inner_byte D.last_byte keys.now) one.now }
+        (round_keys_of D.form keys.now) one.now }
     ensures other { result.1 ≡ all_rounds D.step D.last_step
-        (round_keys_of D.first_byte D.inner_byte D.last_byte keys.now) other.now }
+        (round_keys_of D.form keys.now) other.now }
 {
     let last = keys.len() - 1;
     is_block(keys[0]);
@@ -63,7 +63,7 @@ fn process_two<D: LaneRounds>(keys: &[Block], one: &Block, other: &Block) -> (Bl
 /// Processes each block of a slice under stored round keys: two at once, and then the last where their number is odd.
 pub fn process_blocks<D: LaneRounds>(keys: &[Block], blocks: &mut [Block])
     requires two { 2 ≤ length keys.now }
-    ensures { Each (all_rounds D.step D.last_step (round_keys_of D.first_byte D.inner_byte D.last_byte keys.now))
+    ensures { Each (all_rounds D.step D.last_step (round_keys_of D.form keys.now))
         blocks.old blocks.new }
 {
     let count = blocks.len();

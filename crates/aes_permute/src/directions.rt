@@ -2,11 +2,10 @@
 
 ghost use Rattle.std.specs.Prelude.{◌≡◌, ◌≤◌, ℕ, Bool, true, false, List, length, map};
 ghost use Rattle.aes_planes.specs.Fips197 as fips;
-ghost use Rattle.aes_planes.specs.Planes.{plus63};
 ghost use Rattle.aes_planes.specs.Rounds.{all_rounds};
 ghost use Rattle.aes_cipher.specs.KeySizes.{IsKeySize};
-ghost use Rattle.aes_permute.specs.Keys.{leading_key, first_two};
-ghost use Rattle.aes_permute.specs.Stored.{untower, inv_untower, key_untower, as_is, round_keys_of, AreWritten};
+ghost use Rattle.aes_permute.specs.Keys.{leading_key, cipher_form, inverse_form};
+ghost use Rattle.aes_permute.specs.Stored.{untower, inv_untower, round_keys_of, AreWritten, LaneForm};
 
 use crate::rounds::{
     decrypt_first, decrypt_key, decrypt_last, decrypt_round, encrypt_first, encrypt_key,
@@ -21,23 +20,8 @@ pub trait LaneRounds: Direction {
     /// What a byte of a state stands for.
     ghost state_byte: { ℕ → ℕ };
 
-    /// What a byte of the first stored round key stands for.
-    ghost first_byte: { ℕ → ℕ };
-
-    /// What a byte of a stored round key between the first and the last stands for.
-    ghost inner_byte: { ℕ → ℕ };
-
-    /// What a byte of the last stored round key stands for.
-    ghost last_byte: { ℕ → ℕ };
-
-    /// How a round key of the standard's list, between the first and the last, is changed before a round uses it.
-    ghost used_key: { List ℕ → List ℕ };
-
-    /// The round keys that the rounds use, in their order.
-    ghost used_keys: { List (List ℕ) → List (List ℕ) };
-
-    /// The first two round keys of the standard's list, by those that the rounds use.
-    ghost first_keys: { List (List ℕ) → List (List ℕ) };
+    /// The form in which round keys are stored, and which of the standard's the rounds use.
+    ghost form: { LaneForm };
 
     /// Whether the rounds use the standard's list from its end.
     ghost BACKWARD: { Bool };
@@ -49,60 +33,50 @@ pub trait LaneRounds: Direction {
     fn first(block: u8x16, key: u8x16) -> u8x16
         requires block { fips.IsBlock block }
         requires key { fips.IsBlock key }
-        ensures { map state_byte result ≡ fips.add_round_key block (map first_byte key) };
+        ensures { map state_byte result ≡ fips.add_round_key block (map form.first_byte key) };
 
     /// Runs a round that is not the last.
     fn round(x: u8x16, key: u8x16) -> u8x16
         requires block { fips.IsBlock x }
         requires key { fips.IsBlock key }
-        ensures { map state_byte result ≡ fips.add_round_key (Self.step (map state_byte x)) (map inner_byte key) };
+        ensures { map state_byte result ≡ fips.add_round_key (Self.step (map state_byte x)) (map form.inner_byte key) };
 
     /// Runs the last round, and returns the block.
     fn last(x: u8x16, key: u8x16) -> u8x16
         requires block { fips.IsBlock x }
         requires key { fips.IsBlock key }
-        ensures { result ≡ fips.add_round_key (Self.last_step (map state_byte x)) (map last_byte key) };
+        ensures { result ≡ fips.add_round_key (Self.last_step (map state_byte x)) (map form.last_byte key) };
 
     /// Returns a round key between the first and the last as it is stored.
     fn inner_key(key: u8x16) -> u8x16
         requires key { fips.IsBlock key }
-        ensures { map inner_byte result ≡ used_key key };
+        ensures { map form.inner_byte result ≡ form.used_key key };
 
     /// No effect; states that round keys that are written one by one, each at its place, are those that the rounds use.
     fn uses_written()
-        ensures { (w stored : List (List ℕ)) → 2 ≤ length w → AreWritten BACKWARD inner_byte used_key w stored
-            → round_keys_of first_byte inner_byte last_byte stored ≡ used_keys w };
+        ensures { (w stored : List (List ℕ)) → 2 ≤ length w → AreWritten BACKWARD form w stored
+            → round_keys_of form stored ≡ form.used_keys w };
 
     /// No effect; states that the rounds use as many round keys as there are.
     fn uses_all()
-        ensures { (w : List (List ℕ)) → length (used_keys w) ≡ length w };
+        ensures { (w : List (List ℕ)) → length (form.used_keys w) ≡ length w };
 
     /// No effect; states that all rounds together do what the direction does.
     fn processes()
         ensures { (w : List (List ℕ)) (b : List ℕ) → 2 ≤ length w
-            → all_rounds Self.step Self.last_step (used_keys w) b ≡ Self.processed w b };
+            → all_rounds Self.step Self.last_step (form.used_keys w) b ≡ Self.processed w b };
 
     /// No effect; states that a key begins its own schedule.
     fn keeps_key()
         ensures { (size : ℕ) (key : List ℕ) → IsKeySize size → length key ≡ size → fips.IsBytes key
-            → leading_key size (first_keys (used_keys (fips.key_expansion key))) ≡ key };
+            → leading_key size (form.leading_keys (form.used_keys (fips.key_expansion key))) ≡ key };
 }
 
 // Cipher (FIPS 197, 5.1).
 impl LaneRounds for Encrypt {
     ghost state_byte = { untower };
 
-    ghost first_byte = { as_is };
-
-    ghost inner_byte = { key_untower };
-
-    ghost last_byte = { plus63 };
-
-    ghost used_key = { λ key. key };
-
-    ghost used_keys = { λ w. w };
-
-    ghost first_keys = { λ w. w };
+    ghost form = { cipher_form };
 
     ghost BACKWARD = { false };
 
@@ -145,17 +119,7 @@ impl LaneRounds for Encrypt {
 impl LaneRounds for Decrypt {
     ghost state_byte = { inv_untower };
 
-    ghost first_byte = { plus63 };
-
-    ghost inner_byte = { inv_untower };
-
-    ghost last_byte = { as_is };
-
-    ghost used_key = { fips.inv_mix_columns };
-
-    ghost used_keys = { fips.inverted_keys };
-
-    ghost first_keys = { first_two };
+    ghost form = { inverse_form };
 
     ghost BACKWARD = { true };
 

@@ -20,7 +20,7 @@ pub trait LendsKeys<D: LaneRounds>: KeySchedule {
     /// Lends the round keys for the direction.
     fn lend(&self) -> &[Block]
         requires { Self.AreKeyed self.now }
-        ensures keys { round_keys_of D.first_byte D.inner_byte D.last_byte result.now
-            ≡ D.used_keys (fips.key_expansion (Self.key self.now)) }
+        ensures keys { round_keys_of D.form result.now
+            ≡ D.form.used_keys (fips.key_expansion (Self.key self.now)) }
         ensures two { 2 ≤ length result.now };
 }

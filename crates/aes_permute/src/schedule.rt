@@ -1,9 +1,9 @@
 //! The key schedules (FIPS 197, 5.2), four words at a time, and the form in which round keys are stored.
 
-ghost use Rattle.std.specs.Prelude.{◌≡◌, ◌+◌, ◌≤◌, length, map};
+ghost use Rattle.std.specs.Prelude.{◌≡◌, ◌⊎◌, ◌+◌, ◌/◌, ◌≤◌, length, map};
 ghost use Rattle.aes_planes.specs.Fips197 as fips;
 ghost use Rattle.aes_planes.specs.Planes.{plus63, summed};
-ghost use Rattle.aes_permute.specs.Keys.{encrypting, decrypting};
+ghost use Rattle.aes_permute.specs.Keys.{encrypting, decrypting, lane_key, IsLaneSchedule};
 ghost use Rattle.aes_permute.specs.Stored.{place_of, round_keys_of, IsWritten};
 
 use crate::directions::LaneRounds;
@@ -67,19 +67,19 @@ fn place<D: LaneRounds>(i: usize, last: usize) -> usize
     if D::BACKWARD { last - i } else { i }
 }
 
-// Round keys as a direction uses them, made in vectors: one has four words.
-struct Lanes<D> {
+// The schedule of the round keys that a direction uses, made in vectors: one has four words.
+struct LaneSchedule<D> {
     direction: PhantomData<D>,
 }
 
-impl<D: LaneRounds> KeyForm for Lanes<D> {
+impl<D: LaneRounds> KeyForm for LaneSchedule<D> {
     type Words = u8x16;
 
     type Unit = Block;
 
     ghost AreWords = { λ words block. words ≡ block };
 
-    ghost IsStored = { IsWritten D.BACKWARD D.inner_byte D.used_key };
+    ghost IsStored = { IsWritten D.BACKWARD D.form };
 
     ghost units = { λ last. last + 1 };
 
@@ -142,40 +142,19 @@ impl<D: LaneRounds> KeyForm for Lanes<D> {
     }
 }
 
-/// Writes the round keys of a key of 16 bytes as a direction uses them.
-pub fn expand_128<D: LaneRounds>(keys: &mut [Block], key: &[u8])
-    requires round_keys { length keys.old ≡ 11 }
-    requires sized { length key.now ≡ 16 }
-    ensures keys { round_keys_of D.first_byte D.inner_byte D.last_byte keys.new
-        ≡ D.used_keys (fips.key_expansion key.now) }
-    ensures same_length { length keys.new ≡ 11 }
+/// Writes the round keys of a key of any size as a direction uses them: KeyExpansion (FIPS 197, 5.2), and
+/// KeyExpansionEIC for decrypting (5.3.5).
+pub fn expand<D: LaneRounds>(keys: &mut [Block], key: &[u8])
+    requires one_of_three { (length key.now ≡ 16) ⊎ ((length key.now ≡ 24) ⊎ (length key.now ≡ 32)) }
+    requires sized { length keys.old ≡ length key.now / 4 + 7 }
+    ensures schedule { IsLaneSchedule D.form keys.new }
+    ensures key { lane_key D.form keys.new ≡ key.now }
+    ensures keys { round_keys_of D.form keys.new ≡ D.form.used_keys (fips.key_expansion key.now) }
+    ensures same_length { length keys.new ≡ length keys.old }
 {
-    expansion::expand_128::<Lanes<D>>(keys, key, &mut Layers::new());
+    expansion::expand::<LaneSchedule<D>>(keys, key, &mut Layers::new());
     D::uses_written();
-}
-
-/// Writes the round keys of a key of 24 bytes as a direction uses them.
-pub fn expand_192<D: LaneRounds>(keys: &mut [Block], key: &[u8])
-    requires round_keys { length keys.old ≡ 13 }
-    requires sized { length key.now ≡ 24 }
-    ensures keys { round_keys_of D.first_byte D.inner_byte D.last_byte keys.new
-        ≡ D.used_keys (fips.key_expansion key.now) }
-    ensures same_length { length keys.new ≡ 13 }
-{
-    expansion::expand_192::<Lanes<D>>(keys, key, &mut Layers::new());
-    D::uses_written();
-}
-
-/// Writes the round keys of a key of 32 bytes as a direction uses them.
-pub fn expand_256<D: LaneRounds>(keys: &mut [Block], key: &[u8])
-    requires round_keys { length keys.old ≡ 15 }
-    requires sized { length key.now ≡ 32 }
-    ensures keys { round_keys_of D.first_byte D.inner_byte D.last_byte keys.new
-        ≡ D.used_keys (fips.key_expansion key.now) }
-    ensures same_length { length keys.new ≡ 15 }
-{
-    expansion::expand_256::<Lanes<D>>(keys, key, &mut Layers::new());
-    D::uses_written();
+    D::keeps_key();
 }
 
 /// Writes the stored round keys of EqInvCipher, in their order of use, of the same key as those of Cipher (FIPS 197,

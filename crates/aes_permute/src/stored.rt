@@ -2,11 +2,10 @@
 
 ghost use Rattle.std.specs.Prelude.{◌≡◌, ◌⊎◌, ◌+◌, ◌/◌, length};
 ghost use Rattle.aes_planes.specs.Fips197 as fips;
-ghost use Rattle.aes_permute.specs.Keys.{encrypting, decrypting, stored_keys};
-ghost use Rattle.aes_permute.specs.Stored.{round_keys_of};
+ghost use Rattle.aes_permute.specs.Keys.{encrypting, decrypting, lane_key, stored_keys, IsLaneSchedule};
 
 use crate::directions::LaneRounds;
-use crate::schedule::{expand_128, expand_192, expand_256, invert};
+use crate::schedule::{expand, invert};
 use aes_cipher::aes::{KeyBytes, KeySize};
 use aes_cipher::zeroize::Wiped;
 use aes_planes::soft::word::Block;
@@ -32,39 +31,24 @@ pub fn keys_of<K: KeySize>(room: &Wiped<Room>) -> &[Block]
     &room.words()[..size_of_key::<K>() / 4 + 7]
 }
 
-// Writes the round keys of a key of any length that the standard has.
-#[inline(always)]
-fn expand<D: LaneRounds>(room: &mut Room, key: &[u8])
-    requires one_of_three { (length key.now ≡ 16) ⊎ ((length key.now ≡ 24) ⊎ (length key.now ≡ 32)) }
-    ensures { round_keys_of D.first_byte D.inner_byte D.last_byte (stored_keys (length key.now) room.new)
-        ≡ D.used_keys (fips.key_expansion key.now) }
-{
-    if key.len() == 16 {
-        expand_128::<D>(&mut room[..11], key);
-    } else if key.len() == 24 {
-        expand_192::<D>(&mut room[..13], key);
-    } else {
-        expand_256::<D>(room, key);
-    }
-}
-
 /// Writes the round keys of a key as a direction uses them: KeyExpansion (FIPS 197, 5.2), and KeyExpansionEIC for
 /// decrypting (5.3.5).
 #[inline(always)]
 pub fn put_keys<K: KeySize, D: LaneRounds>(room: &mut Room, key: &[u8])
     requires { length key.now ≡ K.Key.SIZE }
-    ensures { round_keys_of D.first_byte D.inner_byte D.last_byte (stored_keys K.Key.SIZE room.new)
-        ≡ D.used_keys (fips.key_expansion key.now) }
+    ensures schedule { IsLaneSchedule D.form (stored_keys K.Key.SIZE room.new) }
+    ensures key { lane_key D.form (stored_keys K.Key.SIZE room.new) ≡ key.now }
 {
-    size_of_key::<K>();
-    expand::<D>(room, key);
+    let count = size_of_key::<K>() / 4 + 7;
+    expand::<D>(&mut room[..count], key);
 }
 
 /// Writes the round keys of EqInvCipher, of the same key as those of Cipher (FIPS 197, 5.3.5).
 #[inline(always)]
 pub fn put_inverse<K: KeySize>(inverse: &mut Room, room: &Wiped<Room>)
-    ensures { decrypting (stored_keys K.Key.SIZE inverse.new)
+    ensures keys { decrypting (stored_keys K.Key.SIZE inverse.new)
         ≡ fips.inverted_keys (encrypting (stored_keys K.Key.SIZE room.now)) }
+    ensures count { length (stored_keys K.Key.SIZE inverse.new) ≡ K.Key.SIZE / 4 + 7 }
 {
     let count = size_of_key::<K>() / 4 + 7;
     invert(&mut inverse[..count], keys_of::<K>(room));

@@ -1,6 +1,7 @@
 //! The key expansion (FIPS 197, 5.2), four words at a time, once for every form in which round keys are made and stored.
 
-ghost use Rattle.std.specs.Prelude.{◌≡◌, ◌≢◌, ◌+◌, ◌*◌, ◌≤◌, ℕ, List, length, take, drop};
+ghost use Rattle.std.specs.Prelude.{◌≡◌, ◌≢◌, ◌⊎◌, ◌+◌, ◌*◌, ◌≤◌, ℕ, List, length, take, drop};
+ghost use Rattle.aes_planes.specs.Expansion.{substitutions};
 ghost use Rattle.aes_planes.specs.Fips197 as fips;
 ghost use Rattle.aes_planes.specs.Planes.{constant_block, columns_summed, columns_straddled};
 
@@ -79,9 +80,29 @@ pub trait KeyForm {
         ensures same_length { length stored.new ≡ length stored.old };
 }
 
-/// Stores the round keys of a key of 16 bytes (FIPS 197, 5.2).
+/// Stores the round keys of a key of any size: KeyExpansion (FIPS 197, 5.2). Where the length of the key is a constant,
+/// one of the three loops is compiled.
 #[inline(always)]
-pub fn expand_128<F: KeyForm>(stored: &mut [F::Unit], key: &[u8], layers: &mut Layers)
+pub fn expand<F: KeyForm>(stored: &mut [F::Unit], key: &[u8], layers: &mut Layers)
+    requires one_of_three { (length key.now ≡ 16) ⊎ ((length key.now ≡ 24) ⊎ (length key.now ≡ 32)) }
+    requires room { length stored.old ≡ F.units (fips.rounds key.now) }
+    ensures keys { (i : ℕ) → i ≤ fips.rounds key.now
+        → F.IsStored stored.new (fips.rounds key.now) i (fips.round_key (fips.key_expansion key.now) i) }
+    ensures layers { layers.new ≡ layers.old + substitutions (length key.now) * F.LAYERS }
+    ensures same_length { length stored.new ≡ length stored.old }
+{
+    if key.len() == 16 {
+        expand_128::<F>(stored, key, layers);
+    } else if key.len() == 24 {
+        expand_192::<F>(stored, key, layers);
+    } else {
+        expand_256::<F>(stored, key, layers);
+    }
+}
+
+// Stores the round keys of a key of 16 bytes.
+#[inline(always)]
+fn expand_128<F: KeyForm>(stored: &mut [F::Unit], key: &[u8], layers: &mut Layers)
     requires room { length stored.old ≡ F.units 10 }
     requires sized { length key.now ≡ 16 }
     ensures keys { (i : ℕ) → i ≤ 10 → F.IsStored stored.new 10 i (fips.round_key (fips.key_expansion key.now) i) }
@@ -97,9 +118,9 @@ pub fn expand_128<F: KeyForm>(stored: &mut [F::Unit], key: &[u8], layers: &mut L
     }
 }
 
-/// Stores the round keys of a key of 24 bytes (FIPS 197, 5.2).
+// Stores the round keys of a key of 24 bytes.
 #[inline(always)]
-pub fn expand_192<F: KeyForm>(stored: &mut [F::Unit], key: &[u8], layers: &mut Layers)
+fn expand_192<F: KeyForm>(stored: &mut [F::Unit], key: &[u8], layers: &mut Layers)
     requires room { length stored.old ≡ F.units 12 }
     requires sized { length key.now ≡ 24 }
     ensures keys { (i : ℕ) → i ≤ 12 → F.IsStored stored.new 12 i (fips.round_key (fips.key_expansion key.now) i) }
@@ -123,9 +144,9 @@ pub fn expand_192<F: KeyForm>(stored: &mut [F::Unit], key: &[u8], layers: &mut L
     }
 }
 
-/// Stores the round keys of a key of 32 bytes (FIPS 197, 5.2).
+// Stores the round keys of a key of 32 bytes.
 #[inline(always)]
-pub fn expand_256<F: KeyForm>(stored: &mut [F::Unit], key: &[u8], layers: &mut Layers)
+fn expand_256<F: KeyForm>(stored: &mut [F::Unit], key: &[u8], layers: &mut Layers)
     requires room { length stored.old ≡ F.units 14 }
     requires sized { length key.now ≡ 32 }
     ensures keys { (i : ℕ) → i ≤ 14 → F.IsStored stored.new 14 i (fips.round_key (fips.key_expansion key.now) i) }

@@ -1,9 +1,7 @@
 //! Round keys for one direction.
 
-ghost use Rattle.std.specs.Prelude.{◌≡◌, ◌≤◌, length, replicate};
-ghost use Rattle.aes_planes.specs.Fips197 as fips;
-ghost use Rattle.aes_permute.specs.Keys.{key_read, stored_keys, IsLaneSchedule};
-ghost use Rattle.aes_permute.specs.Stored.{round_keys_of};
+ghost use Rattle.std.specs.Prelude.{◌≡◌, replicate};
+ghost use Rattle.aes_permute.specs.Keys.{lane_key, stored_keys, IsLaneSchedule};
 
 use super::LendsKeys;
 use super::backend::LaneBackend;
@@ -38,11 +36,9 @@ impl<K: KeySize, D: LaneRounds> Drop for OneWay<K, D> {
 impl<K: KeySize, D: LaneRounds> KeySchedule for OneWay<K, D> {
     type Size = K;
 
-    ghost key = { λ s. key_read D.first_keys K.Key.SIZE
-        (round_keys_of D.first_byte D.inner_byte D.last_byte (stored_keys K.Key.SIZE s.room)) };
+    ghost key = { λ s. lane_key D.form (stored_keys K.Key.SIZE s.room) };
 
-    ghost AreKeyed = { λ s. IsLaneSchedule D.used_keys D.first_keys K.Key.SIZE
-        (round_keys_of D.first_byte D.inner_byte D.last_byte (stored_keys K.Key.SIZE s.room)) };
+    ghost AreKeyed = { λ s. IsLaneSchedule D.form (stored_keys K.Key.SIZE s.room) };
 
     ghost IsWiped = { λ s. s.room ≡ replicate 15 (replicate 16 0) };
 
@@ -62,7 +58,7 @@ impl<K: KeySize, D: LaneRounds> KeySchedule for OneWay<K, D> {
 
     #[inline(always)]
     fn refill(&mut self, new_key: &K::Key) {
-        write_keys::<K, D>(self.room.words_mut(), new_key.as_slice());
+        put_keys::<K, D>(self.room.words_mut(), new_key.as_slice());
     }
 
     fn copy(&self) -> OneWay<K, D> {
@@ -74,14 +70,13 @@ impl<K: KeySize, D: LaneRounds> KeySchedule for OneWay<K, D> {
     }
 
     fn has_key(&self) {
-        let _ = &self.room;
+        keys_of::<K>(&self.room);
     }
 }
 
 impl<K: KeySize, D: LaneRounds> LendsKeys<D> for OneWay<K, D> {
     #[inline(always)]
     fn lend(&self) -> &[Block] {
-        D::uses_all();
         keys_of::<K>(&self.room)
     }
 }
@@ -127,19 +122,6 @@ impl<K: KeySize> Decrypts for OneWay<K, Decrypt> {
     }
 }
 
-// Writes the round keys of a key.
-#[inline(always)]
-fn write_keys<K: KeySize, D: LaneRounds>(room: &mut Room, bytes: &[u8])
-    requires sized { length bytes.now ≡ K.Key.SIZE }
-    ensures keyed { IsLaneSchedule D.used_keys D.first_keys K.Key.SIZE
-        (round_keys_of D.first_byte D.inner_byte D.last_byte (stored_keys K.Key.SIZE room.new)) }
-    ensures same { key_read D.first_keys K.Key.SIZE
-        (round_keys_of D.first_byte D.inner_byte D.last_byte (stored_keys K.Key.SIZE room.new)) ≡ bytes.now }
-{
-    D::keeps_key();
-    put_keys::<K, D>(room, bytes);
-}
-
 /// Writes the round keys for decrypting, of the key of those for encrypting, to wiped room.
 #[inline(always)]
 pub(super) fn refill_inverse<K: KeySize>(
@@ -152,5 +134,6 @@ pub(super) fn refill_inverse<K: KeySize>(
     ensures same { ⟦<OneWay<K, Decrypt> as KeySchedule>⟧.key inverse.new ≡ ⟦<OneWay<K, Encrypt> as KeySchedule>⟧.key
         schedule.now }
 {
+    schedule.has_key();
     put_inverse::<K>(inverse.room.words_mut(), &schedule.room);
 }

@@ -1,7 +1,7 @@
 //! The sizes of keys, and what the schedules and the ciphers need of each.
-ghost use Rattle.std.specs.Prelude.{◌≡◌, ◌⊎◌, ℕ, ◌+◌, ◌*◌, List, length, map};
+ghost use Rattle.std.specs.Prelude.{◌≡◌, ◌+◌, length};
+ghost use Rattle.aes_planes.specs.Expansion.{substitutions};
 ghost use Rattle.aes_planes.specs.Fips197 as fips;
-ghost use Rattle.aes_soft.specs.Stored.{key_size, HoldsBlocks};
 
 mod bits128;
 mod bits192;
@@ -14,35 +14,14 @@ use aes_cipher::aes::KeySize;
 use aes_cipher::zeroize::Zeroize;
 use aes_planes::laws;
 use aes_planes::soft::sbox::Layers;
-use aes_planes::soft::word::Word;
 pub use wiped::WipedKeys;
 pub use words::RoundKeyWords;
 
 /// The word of a batch: eight of them hold as many blocks as are processed at once.
 pub type BatchWord = u128;
 
-/// How the keys of a size are expanded.
-pub trait KeyExpansion: KeySize {
-    /// How many S-box layers a schedule runs.
-    ghost SCHEDULE_LAYERS: { ℕ };
-
-    /// Writes the round keys of a key to words, each in every slot: KeyExpansion (FIPS 197, 5.2).
-    fn expand<W: Word>(round_keys: &mut [W], key: &Self::Key, layers: &mut Layers)
-        requires sized { length round_keys.old ≡ 8 * Self.ROUNDS + 8 }
-        ensures blocks { let round_key = fips.round_key (fips.key_expansion (Self.Key.bytes key.now)) in
-            HoldsBlocks W.BLOCKS (Self.ROUNDS + 1) round_key (map W.bits round_keys.new) }
-        ensures layers { layers.new ≡ layers.old + SCHEDULE_LAYERS }
-        ensures same_length { length round_keys.new ≡ length round_keys.old };
-
-    /// No effect; states how many bytes a key has, and that they suit the rounds.
-    fn has_rounds(key: &Self::Key)
-        ensures sized { length (Self.Key.bytes key.now) ≡ key_size Self.ROUNDS }
-        ensures same_size { Self.Key.SIZE ≡ key_size Self.ROUNDS }
-        ensures one_of_three { (Self.ROUNDS ≡ 10) ⊎ ((Self.ROUNDS ≡ 12) ⊎ (Self.ROUNDS ≡ 14)) };
-}
-
 /// A variant of AES: AES-128, AES-192 or AES-256. It says how round keys are stored.
-pub trait AesVariant: KeyExpansion {
+pub trait AesVariant: KeySize {
     /// The round keys of a key, as they are stored: in the full layout, on words of one block.
     type RoundKeys: RoundKeyWords<u16>;
 
@@ -57,7 +36,7 @@ pub trait AesVariant: KeyExpansion {
         requires wiped { Self.Wiped.IsWiped round_keys.old }
         ensures schedule { Self.RoundKeys.AreKeyed (Self.Wiped.words round_keys.new) }
         ensures key { Self.RoundKeys.key (Self.Wiped.words round_keys.new) ≡ Self.Key.bytes key.now }
-        ensures layers { layers.new ≡ layers.old + Self.SCHEDULE_LAYERS };
+        ensures layers { layers.new ≡ layers.old + substitutions Self.Key.SIZE };
 
     /// Writes the same round keys to words of a batch, in place, without another copy.
     fn put_wide(wide: &mut Self::WideKeys, round_keys: &Self::RoundKeys)

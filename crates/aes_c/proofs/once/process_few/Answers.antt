@@ -10,14 +10,14 @@ use Rattle.aes_c.proofs.once.process_few.Goals as goal
 
 pub process_blocks-requires : goal.process_blocks-requires
 process_blocks-requires g c =
-    let used : round_keys_of g.D.LaneRounds.first_byte g.D.LaneRounds.inner_byte g.D.LaneRounds.last_byte
-    c.keys_of.result.now ≡ g.D.LaneRounds.used_keys (fips.key_expansion c.args.key.now) = search rules in
-    record { two = two_stored _ _ _ _ c.uses_all.ensures _ c.args.key.now used }
+    let used : round_keys_of g.D.LaneRounds.form c.keys_of.result.now
+    ≡ g.D.LaneRounds.form.used_keys (fips.key_expansion c.args.key.now) = search rules in
+    record { two = two_stored _ c.uses_all.ensures _ c.args.key.now used }
 
 pub returns : goal.returns
 returns g c =
-    let used : round_keys_of g.D.LaneRounds.first_byte g.D.LaneRounds.inner_byte g.D.LaneRounds.last_byte
-    c.keys_of.result.now ≡ g.D.LaneRounds.used_keys (fips.key_expansion c.args.key.now) = search rules in
+    let used : round_keys_of g.D.LaneRounds.form c.keys_of.result.now
+    ≡ g.D.LaneRounds.form.used_keys (fips.key_expansion c.args.key.now) = search rules in
     c.process_blocks.ensures
     ∙ ap (λ v. map (all_rounds g.D.Direction.step g.D.Direction.last_step v) c.args.blocks.now) used
     ∙ map-same _ _ c.args.blocks.now (λ b. c.processes.ensures _ b (two_keys _))

@@ -10,18 +10,16 @@ use Rattle.aes_hybrid.proofs.blocks.process_few.Goals as goal
 
 pub process_blocks-requires : goal.process_blocks-requires
 process_blocks-requires g c = record {
-  two = two_stored g.D.LaneRounds.first_byte g.D.LaneRounds.inner_byte g.D.LaneRounds.last_byte g.D.LaneRounds.used_keys
-      c.uses_all.ensures _ (lanes_key c.args.keys.now)
-      (c.requires.used ∙ ap g.D.LaneRounds.used_keys c.requires.is_lanes.keyed.keys);
+  two = two_stored g.D.LaneRounds.form c.uses_all.ensures _ (lanes_key c.args.keys.now)
+      (c.requires.used ∙ ap g.D.LaneRounds.form.used_keys c.requires.is_lanes.keys);
 }
 
 pub returns : goal.returns
 returns g c =
     let key : List ℕ = lanes_key c.args.keys.now in
     let same : (b : List ℕ) → all_rounds g.D.Direction.step g.D.Direction.last_step
-    (round_keys_of g.D.LaneRounds.first_byte g.D.LaneRounds.inner_byte g.D.LaneRounds.last_byte c.args.used.now) b
-    ≡ g.D.Direction.processed (key_expansion key) b = λ b.
+    (round_keys_of g.D.LaneRounds.form c.args.used.now) b ≡ g.D.Direction.processed (key_expansion key) b = λ b.
     ap (λ v. all_rounds g.D.Direction.step g.D.Direction.last_step v b)
-    (c.requires.used ∙ ap g.D.LaneRounds.used_keys c.requires.is_lanes.keyed.keys)
+    (c.requires.used ∙ ap g.D.LaneRounds.form.used_keys c.requires.is_lanes.keys)
     ∙ c.processes.ensures (key_expansion key) b (two_keys key) in
     c.process_blocks.ensures ∙ (λ i. map (λ b. same b i) c.args.blocks.now)

@@ -1,6 +1,7 @@
 -- What is left to show of `ciphers::keys_of`.
 use Rattle.std.proofs.Common.{length, subst, sym}
-use Rattle.aes_hybrid.proofs.LaneKeys.{lanes_of, key_is, IsLength}
+use Rattle.aes_permute.proofs.KeyBytes.{IsLength}
+use Rattle.aes_hybrid.proofs.LaneKeys.{lanes_of, key_is}
 use Rattle.aes_hybrid.proofs.ciphers.keys_of.Goals as goal
 
 pub returns-clause-is_lanes : goal.returns-clause-is_lanes

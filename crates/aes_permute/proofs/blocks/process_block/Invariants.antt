@@ -7,5 +7,4 @@ use Rattle.aes_permute.proofs.blocks.process_block.Given as goal
 abbrev pub invariant-loop-i : goal.invariant-loop-i
 invariant-loop-i g l =
     map g.D.LaneRounds.state_byte l.x
-    ≡ rounds_after g.D.Direction.step (round_keys_of g.D.LaneRounds.first_byte g.D.LaneRounds.inner_byte
-    g.D.LaneRounds.last_byte l.keys) l.block (l.i - 1)
+    ≡ rounds_after g.D.Direction.step (round_keys_of g.D.LaneRounds.form l.keys) l.block (l.i - 1)

@@ -10,7 +10,7 @@ use Rattle.aes_permute.proofs.blocks.process_blocks.Goals as goal
 pub loop-done-preserved : goal.loop-done-preserved
 loop-done-preserved g c =
     let f = all_rounds g.D.Direction.step g.D.Direction.last_step
-    (round_keys_of g.D.LaneRounds.first_byte g.D.LaneRounds.inner_byte g.D.LaneRounds.last_byte c.args.keys.now) in
+    (round_keys_of g.D.LaneRounds.form c.args.keys.now) in
     record {
       within = omega arith;
       same_length = omega (arith, length-set {A = List ℕ});
@@ -21,6 +21,6 @@ loop-done-preserved g c =
 pub returns-then-done-count : goal.returns-then-done-count
 returns-then-done-count g c =
     let f = all_rounds g.D.Direction.step g.D.Direction.last_step
-    (round_keys_of g.D.LaneRounds.first_byte g.D.LaneRounds.inner_byte g.D.LaneRounds.last_byte c.args.keys.now) in
+    (round_keys_of g.D.LaneRounds.form c.args.keys.now) in
     sym (all_finished f (c.loop-done.done + 1) _ (omega (arith, length-set {A = List ℕ})))
     ∙ (finished_is f c.loop-done.done _ _ [] (omega arith) c.process_block.ensures ∙ c.loop-done.invariant.value)

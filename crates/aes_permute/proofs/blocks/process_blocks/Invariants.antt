@@ -8,7 +8,7 @@ use Rattle.aes_permute.proofs.blocks.process_blocks.Given as goal
 abbrev pub invariant-loop-done : goal.invariant-loop-done
 invariant-loop-done g l =
     let f = all_rounds g.D.Direction.step g.D.Direction.last_step
-    (round_keys_of g.D.LaneRounds.first_byte g.D.LaneRounds.inner_byte g.D.LaneRounds.last_byte l.keys) in record {
+    (round_keys_of g.D.LaneRounds.form l.keys) in record {
       within : l.done ≤ l.count;
       same_length : length l.blocks ≡ l.count;
       value : finished f l.done l.blocks ≡ map f l.fn.blocks;

@@ -2,26 +2,13 @@
 ghost use Rattle.std.specs.Prelude.{refl};
 
 use super::reading::reads_keys;
-use super::{AesVariant, BatchWord, KeyExpansion};
-use crate::soft::expand::expand_128;
+use super::{AesVariant, BatchWord};
 use crate::soft::full::aes128::RoundKeys;
 use crate::soft::full::put_wide;
 use crate::soft::key_schedule::put_schedule;
 use aes_cipher::aes::Bits128;
 use aes_cipher::zeroize::Wiped;
 use aes_planes::soft::sbox::Layers;
-use aes_planes::soft::word::Word;
-
-impl KeyExpansion for Bits128 {
-    ghost SCHEDULE_LAYERS = { 10 };
-
-    #[inline(always)]
-    fn expand<W: Word>(round_keys: &mut [W], key: &[u8; 16], layers: &mut Layers) {
-        expand_128(round_keys, key, layers);
-    }
-
-    fn has_rounds(_key: &[u8; 16]) {}
-}
 
 impl AesVariant for Bits128 {
     type RoundKeys = RoundKeys<u16>;
@@ -31,7 +18,7 @@ impl AesVariant for Bits128 {
     type Wiped = Wiped<RoundKeys<u16>>;
 
     fn refill(round_keys: &mut Wiped<RoundKeys<u16>>, key: &[u8; 16], layers: &mut Layers) {
-        put_schedule::<u16, Bits128>(round_keys.words_mut(), key, layers);
+        put_schedule::<u16>(round_keys.words_mut(), key, layers);
     }
 
     #[inline(always)]

@@ -2,26 +2,13 @@
 ghost use Rattle.std.specs.Prelude.{refl};
 
 use super::reading::reads_keys;
-use super::{AesVariant, BatchWord, KeyExpansion};
-use crate::soft::expand::expand_256;
+use super::{AesVariant, BatchWord};
 use crate::soft::full::aes256::RoundKeys;
 use crate::soft::full::put_wide;
 use crate::soft::key_schedule::put_schedule;
 use aes_cipher::aes::Bits256;
 use aes_cipher::zeroize::Wiped;
 use aes_planes::soft::sbox::Layers;
-use aes_planes::soft::word::Word;
-
-impl KeyExpansion for Bits256 {
-    ghost SCHEDULE_LAYERS = { 13 };
-
-    #[inline(always)]
-    fn expand<W: Word>(round_keys: &mut [W], key: &[u8; 32], layers: &mut Layers) {
-        expand_256(round_keys, key, layers);
-    }
-
-    fn has_rounds(_key: &[u8; 32]) {}
-}
 
 impl AesVariant for Bits256 {
     type RoundKeys = RoundKeys<u16>;
@@ -31,7 +18,7 @@ impl AesVariant for Bits256 {
     type Wiped = Wiped<RoundKeys<u16>>;
 
     fn refill(round_keys: &mut Wiped<RoundKeys<u16>>, key: &[u8; 32], layers: &mut Layers) {
-        put_schedule::<u16, Bits256>(round_keys.words_mut(), key, layers);
+        put_schedule::<u16>(round_keys.words_mut(), key, layers);
     }
 
     #[inline(always)]

@@ -1,7 +1,7 @@
--- What is left to show of `schedule::LanesKeyForm::substituted`.
+-- What is left to show of `schedule::LaneScheduleKeyForm::substituted`.
 use Rattle.std.proofs.Common.{◌≡◌, length}
 use Rattle.aes_permute.proofs.ScheduleLanes.{substituted_is}
-use Rattle.aes_permute.proofs.schedule.LanesKeyForm.substituted.Goals as goal
+use Rattle.aes_permute.proofs.schedule.LaneScheduleKeyForm.substituted.Goals as goal
 
 pub returns-clause-words : goal.returns-clause-words
 returns-clause-words g c = λ x y hx hy.

@@ -1,7 +1,7 @@
--- What is left to show of `schedule::LanesKeyForm::rotated`.
+-- What is left to show of `schedule::LaneScheduleKeyForm::rotated`.
 use Rattle.std.proofs.Common.{◌≡◌, length, arith}
 use Rattle.aes_permute.proofs.ScheduleLanes.{rotated_is}
-use Rattle.aes_permute.proofs.schedule.LanesKeyForm.rotated.Goals as goal
+use Rattle.aes_permute.proofs.schedule.LaneScheduleKeyForm.rotated.Goals as goal
 
 pub returns-clause-words : goal.returns-clause-words
 returns-clause-words g c = λ x y hx hy.

@@ -1,7 +1,7 @@
--- What is left to show of `schedule::LanesKeyForm::plain`.
+-- What is left to show of `schedule::LaneScheduleKeyForm::plain`.
 use Rattle.std.proofs.Common.{◌≡◌, length}
 use Rattle.aes_permute.proofs.ScheduleLanes.{plain_is}
-use Rattle.aes_permute.proofs.schedule.LanesKeyForm.plain.Goals as goal
+use Rattle.aes_permute.proofs.schedule.LaneScheduleKeyForm.plain.Goals as goal
 
 pub returns : goal.returns
 returns g c = λ x y hx hy.

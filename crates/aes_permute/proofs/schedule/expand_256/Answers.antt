@@ -1,8 +1,0 @@
--- What is left to show of `schedule::expand_256`.
-use Rattle.std.proofs.Common.{arith}
-use Rattle.aes_permute.proofs.Expansion.{written_are_used}
-use Rattle.aes_permute.proofs.schedule.expand_256.Goals as goal
-
-pub returns-clause-keys : goal.returns-clause-keys
-returns-clause-keys g c = written_are_used _ _ _ _ _ _ _ _ 14 c.expand_256.ensures.keys c.uses_written.ensures
-    (omega (arith, c.requires.sized)) c.expand_256.ensures.same_length
