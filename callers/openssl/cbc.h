@@ -3,7 +3,7 @@
  * It doesn't show whether a message was changed, and whoever may send changed messages and learns which of them are
  * refused, by a status, a reply or the time it takes, can read messages with that. So authenticate the initialization
  * vector and the encrypted bytes, under another key (HMAC, CMAC), and check that before aes_cbc_decrypt is called.
- * Take CBC for a format that asks for it; for a format of your own take GCM.
+ * Take CBC for a format that asks for it; for a format of your own take GCM: fotsgure_gcm.h.
  *
  * Copy cbc.h and cbc.c into your program. They need the installed library fotsgure_aes, and libcrypto of OpenSSL:
  *     cc -c cbc.c $(pkg-config --cflags fotsgure_aes libcrypto)

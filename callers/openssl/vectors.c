@@ -2,15 +2,14 @@
  * vectors. With an argument it runs checks of its own instead: errors, lengths, and results beside OpenSSL's own AES.
  *
  * Each buffer has just the bytes that a recipe asks for, between guards that must not change. Each vector runs from
- * buffer to buffer and in place. It takes in gcm.c, to reach GCM with nonces and tags of other sizes; cbc.c and wrap.c
- * are linked. */
-#include "gcm.c"
-
+ * buffer to buffer and in place. cbc.c and wrap.c are linked. */
 #include "cbc.h"
 #include "wrap.h"
 
 #include <openssl/evp.h>
 #include <stdio.h>
+#include <stdlib.h>
+#include <string.h>
 
 enum { MOST = 8192, GUARD = 64 };
 
@@ -74,32 +73,8 @@ static void print_hex(const uint8_t *bytes, size_t count)
         printf("%02x", bytes[i]);
 }
 
-static struct bytes key, iv, extra, input, tag;
+static struct bytes key, iv, input;
 static struct fotsgure_aes aes;
-
-/* GCM with a nonce and a tag of any size: the public call where it takes them; else that call must refuse. */
-static enum aes_gcm_status gcm_any(int there, uint8_t *from, uint8_t *to, uint8_t *tag_bytes, size_t tag_length)
-{
-    enum aes_gcm_status refusal;
-    if (iv.count == AES_GCM_NONCE && tag_length == AES_GCM_TAG)
-        return there ? aes_gcm_encrypt(&aes, iv.at, iv.count, extra.at, extra.count, from, input.count, to, tag_bytes)
-                     : aes_gcm_decrypt(&aes, iv.at, iv.count, extra.at, extra.count, from, input.count, to, tag_bytes,
-                           tag_length);
-    if (there && iv.count != AES_GCM_NONCE) {
-        refusal = aes_gcm_encrypt(&aes, iv.at, iv.count, extra.at, extra.count, from, input.count, to, tag_bytes);
-        if (refusal != AES_GCM_LENGTH || (to != from && !all(to, input.count, 0xa5)))
-            fatal("a nonce of another size was taken");
-    } else if (!there) {
-        refusal = aes_gcm_decrypt(&aes, iv.at, iv.count, extra.at, extra.count, from, input.count, to, tag_bytes,
-            tag_length);
-        if (refusal != AES_GCM_LENGTH || (to != from && !all(to, input.count, 0xa5)))
-            fatal("a nonce or a tag of another size was taken");
-    }
-    return there ? encrypt_checked(&aes, iv.at, iv.count, extra.at, extra.count, from, input.count, to, tag_bytes,
-                       tag_length)
-                 : decrypt_checked(&aes, iv.at, iv.count, extra.at, extra.count, from, input.count, to, tag_bytes,
-                       tag_length);
-}
 
 /* Prints a result, or `refused` if all that came out are zeros. */
 static void report(int done, int refused, int same, const uint8_t *output, size_t count, size_t whole)
@@ -112,25 +87,6 @@ static void report(int done, int refused, int same, const uint8_t *output, size_
         printf(all(output, whole, 0) ? "refused" : "refused, but something was given out");
     else
         printf("length");
-}
-
-static void gcm_line(int there)
-{
-    uint8_t made[16], made_again[16], *output = fresh(arena, input.count), *place = fresh(again, input.count);
-    size_t length = input.count;
-    enum aes_gcm_status status, second;
-    memcpy(place, input.at, length);
-    memset(made, 0, 16);
-    memset(made_again, 0, 16);
-    status = gcm_any(there, input.at, output, there ? made : tag.at, tag.count);
-    second = gcm_any(there, place, place, there ? made_again : tag.at, tag.count);
-    report(status == AES_GCM_DONE, status == AES_GCM_REFUSED,
-        status == second && !memcmp(output, place, length) && !memcmp(made, made_again, 16) && guarded(arena, length) &&
-            guarded(again, length), output, length, length);
-    if (there) {
-        printf(" ");
-        print_hex(made, tag.count);
-    }
 }
 
 static void cbc_line(int there)
@@ -181,9 +137,7 @@ static void line(const char *what)
     int there = what[strlen(what) - 1] == '+';
     if (fotsgure_aes_set_key(&aes, key.at, key.count) != FOTSGURE_AES_DONE)
         fatal("a key of another length");
-    if (strncmp(what, "gcm", 3) == 0)
-        gcm_line(there);
-    else if (strncmp(what, "cbc", 3) == 0)
+    if (strncmp(what, "cbc", 3) == 0)
         cbc_line(there);
     else
         wrap_line(there, strncmp(what, "kwp", 3) == 0);
@@ -210,79 +164,29 @@ static void fill(uint8_t *bytes, size_t count, uint32_t state)
 }
 
 /* OpenSSL's own AES, whole. */
-static int evp(const EVP_CIPHER *how, size_t iv_length, const uint8_t *text, size_t length, uint8_t *output,
-    size_t room, uint8_t *made)
+static int evp(const EVP_CIPHER *how, const uint8_t *text, size_t length, uint8_t *output, size_t room)
 {
     int now = 0, last = 0;
     EVP_CIPHER_CTX *it = EVP_CIPHER_CTX_new();
-    int done = it && EVP_EncryptInit_ex(it, how, NULL, NULL, NULL) == 1 &&
-        (!made || EVP_CIPHER_CTX_ctrl(it, EVP_CTRL_AEAD_SET_IVLEN, (int)iv_length, NULL) == 1) &&
-        EVP_EncryptInit_ex(it, NULL, NULL, key.at, iv.at) == 1 &&
-        (!made || EVP_EncryptUpdate(it, NULL, &now, extra.at, (int)extra.count) == 1) &&
+    int done = it && EVP_EncryptInit_ex(it, how, NULL, key.at, iv.at) == 1 &&
         EVP_EncryptUpdate(it, output, &now, text, (int)length) == 1 &&
-        EVP_EncryptFinal_ex(it, output + now, &last) == 1 && (size_t)(now + last) == room &&
-        (!made || EVP_CIPHER_CTX_ctrl(it, EVP_CTRL_AEAD_GET_TAG, 16, made) == 1);
+        EVP_EncryptFinal_ex(it, output + now, &last) == 1 && (size_t)(now + last) == room;
     EVP_CIPHER_CTX_free(it);
     return done;
 }
 
-/* The counter's 32 bits wrap round after each number of blocks, alone and within a call of OpenSSL. */
-static void counter_wraps(void)
-{
-    uint8_t first[16], block[16], text[16 * 9], ours[sizeof text];
-    int same = 1;
-    fill(text, sizeof text, 3);
-    for (unsigned before = 0; before <= 9; before++) {
-        memset(first, 0xff, 16);
-        first[15] = (uint8_t)(0 - before);
-        if (before == 0)
-            memset(first + 12, 0, 4);
-        many_blocks(text, ours, 9, &aes, first);
-        for (unsigned i = 0; i < 9; i++) {
-            uint32_t low = (uint32_t)0 - before + i;
-            memset(block, 0xff, 12);
-            for (unsigned j = 0; j < 4; j++)
-                block[12 + j] = (uint8_t)(low >> (24 - 8 * j));
-            one_block(block, block, &aes);
-            for (unsigned j = 0; j < 16; j++)
-                same &= ours[16 * i + j] == (text[16 * i + j] ^ block[j]);
-        }
-        many_blocks(ours, ours, 9, &aes, first);
-        same &= !memcmp(ours, text, sizeof text);
-    }
-    expect(same, "GCM's counter wraps round in 32 bits");
-}
-
-/* Beside OpenSSL's own AES, at lengths around blocks and OpenSSL's chunks; a byte changed anywhere is refused. */
+/* Beside OpenSSL's own AES. */
 static void as_openssl(void)
 {
-    static const size_t lengths[] = {0, 1, 15, 16, 17, 31, 32, 33, 127, 128, 255, 256, 3071, 3072, 3073, 6200};
-    const EVP_CIPHER *gcm = key.count == 16 ? EVP_aes_128_gcm() : key.count == 24 ? EVP_aes_192_gcm()
-                                                                                  : EVP_aes_256_gcm();
     const EVP_CIPHER *cbc = key.count == 16 ? EVP_aes_128_cbc() : key.count == 24 ? EVP_aes_192_cbc()
                                                                                   : EVP_aes_256_cbc();
     static uint8_t text[MOST], ours[MOST], theirs[MOST];
-    uint8_t made[16], other[16];
     size_t count;
     int same = 1;
     fill(text, MOST, 5);
-    for (size_t i = 0; i < sizeof lengths / sizeof *lengths; i++) {
-        size_t n = lengths[i];
-        extra.count = n % 48;
-        iv.count = 12;
-        same &= evp(gcm, 12, text, n, theirs, n, other) &&
-            aes_gcm_encrypt(&aes, iv.at, 12, extra.at, extra.count, text, n, ours, made) == AES_GCM_DONE &&
-            !memcmp(ours, theirs, n) && !memcmp(made, other, 16);
-        iv.count = 40;
-        same &= evp(gcm, 40, text, n, theirs, n, other) &&
-            encrypt_checked(&aes, iv.at, 40, extra.at, extra.count, text, n, ours, made, 16) == AES_GCM_DONE &&
-            !memcmp(ours, theirs, n) && !memcmp(made, other, 16);
-    }
-    expect(same, "GCM as by OpenSSL");
-    same = 1;
     for (size_t n = 0; n <= 80; n++) {
         size_t room = AES_CBC_PADDED(n);
-        same &= evp(cbc, 16, text, n, theirs, room, NULL) &&
+        same &= evp(cbc, text, n, theirs, room) &&
             aes_cbc_encrypt(&aes, iv.at, text, n, ours, room) == AES_CBC_DONE && !memcmp(ours, theirs, room) &&
             aes_cbc_decrypt(&aes, iv.at, theirs, room, ours, &count) == AES_CBC_DONE && count == n &&
             !memcmp(ours, text, n) && all(ours + n, room - n, 0);
@@ -292,22 +196,10 @@ static void as_openssl(void)
 
 static void changed_bytes(void)
 {
-    uint8_t sealed[33 + 16], open[33], wrapped[40], out[40];
+    uint8_t wrapped[40], out[40];
     size_t count;
     int refused = 1;
     fill(input.at, 40, 9);
-    expect(aes_gcm_encrypt(&aes, iv.at, 12, extra.at, 20, input.at, 33, sealed, sealed + 33) == AES_GCM_DONE, "sealed");
-    for (size_t i = 0; i < sizeof sealed * 8; i++) {
-        sealed[i / 8] ^= (uint8_t)(1 << i % 8);
-        memset(open, 0xa5, 33);
-        refused &= aes_gcm_decrypt(&aes, iv.at, 12, extra.at, 20, sealed, 33, open, sealed + 33, 16) ==
-                AES_GCM_REFUSED && all(open, 33, 0);
-        sealed[i / 8] ^= (uint8_t)(1 << i % 8);
-    }
-    refused &= aes_gcm_decrypt(&aes, iv.at, 12, extra.at, 19, sealed, 33, open, sealed + 33, 16) == AES_GCM_REFUSED;
-    refused &= aes_gcm_decrypt(&aes, iv.at, 12, extra.at, 20, sealed, 32, open, sealed + 33, 16) == AES_GCM_REFUSED;
-    expect(refused, "GCM refuses each changed bit, and other lengths of data");
-    refused = 1;
     expect(aes_wrap(&aes, input.at, 32, wrapped, 40) == AES_WRAP_DONE, "wrapped");
     for (size_t i = 0; i < 40 * 8; i++) {
         wrapped[i / 8] ^= (uint8_t)(1 << i % 8);
@@ -334,7 +226,8 @@ static void paddings(void)
                 unsigned count = block[15], right = count >= 1 && count <= 16;
                 for (unsigned i = 0; right && i < count; i++)
                     right = block[15 - i] == count;
-                one_block(block, block, &aes);
+                if (fotsgure_aes_encrypt_blocks(&aes, block, 1) != FOTSGURE_AES_DONE)
+                    fatal("no block");
                 same &= aes_cbc_decrypt(&aes, zeros, block, 16, out, &length) ==
                     (right ? AES_CBC_DONE : AES_CBC_REFUSED) && length == (right ? 16 - count : 0) &&
                     all(out + length, 16 - length, 0);
@@ -346,14 +239,12 @@ static void paddings(void)
 
 static void errors(void)
 {
-    uint8_t out[64], none[1];
+    uint8_t out[64];
     size_t count = 7, large = (size_t)1 << 40;
     struct fotsgure_aes empty;
     fotsgure_aes_wipe(&empty);
     memset(out, 0xa5, 64);
-    expect(aes_gcm_encrypt(&empty, iv.at, 12, NULL, 0, input.at, 16, out, out + 16) == AES_GCM_NO_KEY &&
-        aes_gcm_decrypt(&empty, iv.at, 12, NULL, 0, input.at, 16, out, tag.at, 16) == AES_GCM_NO_KEY &&
-        aes_cbc_encrypt(&empty, iv.at, input.at, 16, out, 32) == AES_CBC_NO_KEY &&
+    expect(aes_cbc_encrypt(&empty, iv.at, input.at, 16, out, 32) == AES_CBC_NO_KEY &&
         aes_wrap(&empty, input.at, 16, out, 24) == AES_WRAP_NO_KEY &&
         aes_unwrap(&empty, input.at, 24, out, 16) == AES_WRAP_NO_KEY &&
         aes_wrap_padded(&empty, input.at, 16, out, 24) == AES_WRAP_NO_KEY, "no key");
@@ -361,13 +252,6 @@ static void errors(void)
     count = 7;
     expect(aes_unwrap_padded(&empty, input.at, 16, out, &count) == AES_WRAP_NO_KEY && count == 0, "no key");
     for (size_t n = 0; n < 40; n++) {
-        if (n != 12)
-            expect(aes_gcm_encrypt(&aes, iv.at, n, NULL, 0, input.at, 16, out, out + 16) == AES_GCM_LENGTH &&
-                aes_gcm_decrypt(&aes, iv.at, n, NULL, 0, input.at, 16, out, tag.at, 16) == AES_GCM_LENGTH,
-                "a nonce of another size");
-        if (n != 16)
-            expect(aes_gcm_decrypt(&aes, iv.at, 12, NULL, 0, input.at, 16, out, tag.at, n) == AES_GCM_LENGTH,
-                "a tag of another size");
         if (n != 32)
             expect(aes_cbc_encrypt(&aes, iv.at, input.at, 16, out, n) == AES_CBC_LENGTH, "CBC's room");
         if (n % 16 != 0 || n == 0)
@@ -385,22 +269,15 @@ static void errors(void)
                 aes_wrap_padded(&aes, input.at, 9, out, n) == AES_WRAP_LENGTH, "key wrap's room");
     }
     expect(aes_wrap_padded(&aes, input.at, 0, out, 8) == AES_WRAP_LENGTH, "KWP of nothing");
-    expect(aes_gcm_encrypt(&aes, iv.at, 12, NULL, 0, input.at, (size_t)AES_GCM_MOST + 1, out, out) == AES_GCM_LENGTH &&
-        aes_gcm_encrypt(&aes, iv.at, 12, input.at, (size_t)AES_GCM_MOST_EXTRA + 1, input.at, 0, out, out) ==
-            AES_GCM_LENGTH &&
-        aes_cbc_encrypt(&aes, iv.at, input.at, SIZE_MAX - 3, out, 12) == AES_CBC_LENGTH &&
+    expect(aes_cbc_encrypt(&aes, iv.at, input.at, SIZE_MAX - 3, out, 12) == AES_CBC_LENGTH &&
         aes_wrap(&aes, input.at, large, out, large + 8) == AES_WRAP_LENGTH &&
         aes_unwrap(&aes, input.at, large, out, large - 8) == AES_WRAP_LENGTH &&
         aes_wrap_padded(&aes, input.at, large, out, large + 8) == AES_WRAP_LENGTH &&
         aes_unwrap_padded(&aes, input.at, large, out, &count) == AES_WRAP_LENGTH, "too much");
     expect(all(out, 64, 0xa5), "errors write nothing");
-    expect(aes_gcm_encrypt(&aes, iv.at, 12, NULL, 0, NULL, 0, NULL, tag.at) == AES_GCM_DONE &&
-        aes_gcm_decrypt(&aes, iv.at, 12, NULL, 0, NULL, 0, NULL, tag.at, 16) == AES_GCM_DONE &&
-        aes_cbc_encrypt(&aes, iv.at, NULL, 0, out, 16) == AES_CBC_DONE &&
+    expect(aes_cbc_encrypt(&aes, iv.at, NULL, 0, out, 16) == AES_CBC_DONE &&
         aes_cbc_decrypt(&aes, iv.at, out, 16, out + 16, &count) == AES_CBC_DONE && count == 0,
         "NULL with a length of 0");
-    tag.at[0] ^= 1;
-    expect(aes_gcm_decrypt(&aes, iv.at, 12, NULL, 0, none, 0, none, tag.at, 16) == AES_GCM_REFUSED, "an empty message");
 }
 
 static int own_checks(void)
@@ -408,11 +285,9 @@ static int own_checks(void)
     for (key.count = 16; key.count <= 32; key.count += 8) {
         fill(key.at, 32, (uint32_t)key.count);
         fill(iv.at, 64, 1);
-        fill(extra.at, 64, 2);
         if (fotsgure_aes_set_key(&aes, key.at, key.count) != FOTSGURE_AES_DONE)
             fatal("no key");
         paddings();
-        counter_wraps();
         as_openssl();
         changed_bytes();
         errors();
@@ -424,17 +299,14 @@ static int own_checks(void)
 
 int main(int count, char **arguments)
 {
-    static char what[8], digits[5][2 * MOST + 1];
+    static char what[8], digits[3][2 * MOST + 1];
     (void)arguments;
     if (count > 1)
         return own_checks();
-    while (scanf("%7s %16384s %16384s %16384s %16384s %16384s", what, digits[0], digits[1], digits[2], digits[3],
-        digits[4]) == 6) {
+    while (scanf("%7s %16384s %16384s %16384s", what, digits[0], digits[1], digits[2]) == 4) {
         from_hex(&key, digits[0]);
         from_hex(&iv, digits[1]);
-        from_hex(&extra, digits[2]);
-        from_hex(&input, digits[3]);
-        from_hex(&tag, digits[4]);
+        from_hex(&input, digits[2]);
         line(what);
     }
     return 0;

@@ -1,0 +1,229 @@
+/* The library of GCM from C: test cases 1 to 4, 13 and 16 of the submission of GCM (McGrew and Viega, appendix B);
+ * texts of 0 to 700 bytes there and back, and beside OpenSSL with WITH_OPENSSL; every status; that nothing is written
+ * after a refusal; NULL with a length of 0; counted nonces; the wipe. The last line is `N passed, N failed`. */
+#include <fotsgure_gcm.h>
+
+#ifdef WITH_OPENSSL
+#include <openssl/evp.h>
+#endif
+#include <stdio.h>
+#include <stdlib.h>
+#include <string.h>
+
+static int passed, failed;
+
+static void expect(int holds, const char *what, size_t size)
+{
+    if (holds) {
+        passed++;
+    } else {
+        failed++;
+        printf("failed: %s (%zu)\n", what, size);
+    }
+}
+
+static size_t from_hex(uint8_t *bytes, const char *digits)
+{
+    unsigned byte;
+    size_t count = 0;
+    for (; sscanf(digits, "%2x", &byte) == 1; digits += 2)
+        bytes[count++] = (uint8_t)byte;
+    return count;
+}
+
+static int all(const void *bytes, size_t count, uint8_t value)
+{
+    for (size_t i = 0; i < count; i++)
+        if (((const uint8_t *)bytes)[i] != value)
+            return 0;
+    return 1;
+}
+
+#define ZERO_KEY "00000000000000000000000000000000"
+#define ZERO_NONCE "000000000000000000000000"
+#define KEY "feffe9928665731c6d6a8f9467308308"
+#define NONCE "cafebabefacedbaddecaf888"
+#define ADDITIONAL "feedfacedeadbeeffeedfacedeadbeefabaddad2"
+#define PLAIN "d9313225f88406e5a55909c5aff5269a86a7a9531534f7da2e4c303d8a318a72" \
+    "1c3c0c95956809532fcf0e2449a6b525b16aedf5aa0de657ba637b39"
+#define CIPHER_16 "42831ec2217774244b7221b784d0d49ce3aa212f2c02a4e035c17e2329aca12e" \
+    "21d514b25466931c7d8f6a5aac84aa051ba30b396a0aac973d58e091"
+#define CIPHER_32 "522dc1f099567d07f47f37a32a84427d643a8cdcbfe5c0c97598a2bd2555d1aa" \
+    "8cb08e48590dbb3da7b08b1056828838c5f61e6393ba7a0abcc9f662"
+
+static const struct { const char *key, *nonce, *additional, *plain, *cipher, *tag; } cases[] = {
+    {ZERO_KEY, ZERO_NONCE, "", "", "", "58e2fccefa7e3061367f1d57a4e7455a"},
+    {ZERO_KEY, ZERO_NONCE, "", ZERO_KEY, "0388dace60b6a392f328c2b971b2fe78", "ab6e47d42cec13bdf53a67b21257bddf"},
+    {KEY, NONCE, "", PLAIN "1aafd255", CIPHER_16 "473f5985", "4d5c2af327cd64a62cf35abd2ba6fab4"},
+    {KEY, NONCE, ADDITIONAL, PLAIN, CIPHER_16, "5bc94fbc3221a5db94fae95ae7121a47"},
+    {ZERO_KEY ZERO_KEY, ZERO_NONCE, "", "", "", "530f8afbc74536b9a963b4f1c4cb738b"},
+    {KEY KEY, NONCE, ADDITIONAL, PLAIN, CIPHER_32, "76fc6ece0f4e1768cddf8853bb2d551b"},
+};
+
+static void published(void)
+{
+    for (size_t i = 0; i < sizeof cases / sizeof *cases; i++) {
+        uint8_t key[32], nonce[12], additional[32], plain[64], cipher[64], text[64], wanted[16], tag[16];
+        size_t key_length = from_hex(key, cases[i].key), extra = from_hex(additional, cases[i].additional);
+        size_t length = from_hex(plain, cases[i].plain);
+        struct fotsgure_gcm gcm;
+        from_hex(nonce, cases[i].nonce);
+        from_hex(cipher, cases[i].cipher);
+        from_hex(wanted, cases[i].tag);
+        memcpy(text, plain, sizeof text);
+        expect(fotsgure_gcm_set_key(&gcm, key, key_length) == FOTSGURE_GCM_DONE &&
+            fotsgure_gcm_key_length(&gcm) == key_length, "set_key", key_length);
+        expect(fotsgure_gcm_seal(&gcm, nonce, 12, additional, extra, text, length, tag) == FOTSGURE_GCM_DONE &&
+            memcmp(text, cipher, length) == 0 && memcmp(tag, wanted, 16) == 0, "seal", i);
+        expect(fotsgure_gcm_open(&gcm, nonce, 12, additional, extra, text, length, tag, 16) == FOTSGURE_GCM_DONE &&
+            memcmp(text, plain, length) == 0, "open", i);
+        fotsgure_gcm_wipe(&gcm);
+        expect(all(&gcm, sizeof gcm, 0), "wipe", i);
+    }
+}
+
+#ifdef WITH_OPENSSL
+/* What OpenSSL makes of the same message. */
+static int by_openssl(const uint8_t key[32], const uint8_t nonce[12], const uint8_t *additional, size_t extra,
+    uint8_t *text, size_t length, uint8_t tag[16])
+{
+    EVP_CIPHER_CTX *ctx = EVP_CIPHER_CTX_new();
+    int n;
+    int done = ctx && EVP_EncryptInit_ex(ctx, EVP_aes_256_gcm(), NULL, key, nonce) &&
+        EVP_EncryptUpdate(ctx, NULL, &n, additional, (int)extra) &&
+        EVP_EncryptUpdate(ctx, text, &n, text, (int)length) && EVP_EncryptFinal_ex(ctx, text, &n) &&
+        EVP_CIPHER_CTX_ctrl(ctx, EVP_CTRL_GCM_GET_TAG, 16, tag);
+    EVP_CIPHER_CTX_free(ctx);
+    return done;
+}
+#endif
+
+/* Texts and additional data of many lengths: sealed, refused with a bit changed and then as they were, and opened. */
+static void lengths(void)
+{
+    static uint8_t plain[700], text[700], sealed[700], additional[700];
+    uint8_t key[32], nonce[12] = {7}, tag[16];
+    struct fotsgure_gcm gcm;
+    for (size_t i = 0; i < sizeof plain; i++) {
+        plain[i] = (uint8_t)(i * 7 + i / 256);
+        additional[i] = (uint8_t)(i * 13);
+    }
+    memcpy(key, plain, sizeof key);
+    if (fotsgure_gcm_set_key(&gcm, key, sizeof key) != FOTSGURE_GCM_DONE)
+        abort();
+    for (size_t length = 0; length <= sizeof plain; length += 1 + length / 64) {
+        size_t extra = length * 5 % sizeof additional;
+        memcpy(text, plain, sizeof text);
+        expect(fotsgure_gcm_seal(&gcm, nonce, 12, additional, extra, text, length, tag) == FOTSGURE_GCM_DONE &&
+            memcmp(text + length, plain + length, sizeof text - length) == 0, "nothing after the text", length);
+#ifdef WITH_OPENSSL
+        uint8_t wanted[16];
+        memcpy(sealed, plain, sizeof sealed);
+        expect(by_openssl(key, nonce, additional, extra, sealed, length, wanted) && memcmp(sealed, text, length) == 0 &&
+            memcmp(wanted, tag, 16) == 0, "as OpenSSL", length);
+#endif
+        memcpy(sealed, text, sizeof sealed);
+        tag[length % 16] ^= (uint8_t)(1 << length % 8);
+        expect(fotsgure_gcm_open(&gcm, nonce, 12, additional, extra, text, length, tag, 16) == FOTSGURE_GCM_REFUSED &&
+            memcmp(text, sealed, sizeof text) == 0, "another tag", length);
+        tag[length % 16] ^= (uint8_t)(1 << length % 8);
+        expect(fotsgure_gcm_open(&gcm, nonce, 12, additional, extra, text, length, tag, 16) == FOTSGURE_GCM_DONE &&
+            memcmp(text, plain, sizeof text) == 0, "back", length);
+    }
+    fotsgure_gcm_wipe(&gcm);
+}
+
+/* Every status, in the order in which calls name them, and that nothing is written after one. */
+static void statuses(void)
+{
+    uint8_t key[33] = {1}, nonce[12] = {2}, text[4] = {3, 3, 3, 3}, tag[16], made[16];
+    struct fotsgure_gcm gcm, none;
+    const size_t too_long = (size_t)FOTSGURE_GCM_MOST + 1, too_much = (size_t)FOTSGURE_GCM_MOST_ADDITIONAL + 1;
+    memset(&gcm, 0xa5, sizeof gcm);
+    memset(&none, 0, sizeof none);
+    for (size_t length = 0; length <= 33; length++) {
+        if (length == 16 || length == 24 || length == 32)
+            continue;
+        memset(&gcm, 0xa5, sizeof gcm);
+        expect(fotsgure_gcm_set_key(&gcm, length ? key : NULL, length) == FOTSGURE_GCM_KEY_LENGTH &&
+            all(&gcm, sizeof gcm, 0) && fotsgure_gcm_key_length(&gcm) == 0, "a key of another length", length);
+    }
+    if (fotsgure_gcm_set_key(&gcm, key, 16) != FOTSGURE_GCM_DONE)
+        abort();
+    memset(tag, 9, sizeof tag);
+    expect(fotsgure_gcm_seal(&gcm, NULL, 0, NULL, 0, text, too_long, tag) == FOTSGURE_GCM_NONCE_LENGTH, "no nonce", 0);
+    expect(fotsgure_gcm_seal(&none, nonce, 12, NULL, 0, text, too_long, tag) == FOTSGURE_GCM_TOO_LONG, "long text", 0);
+    expect(fotsgure_gcm_seal(&none, nonce, 12, key, too_much, text, 4, tag) == FOTSGURE_GCM_TOO_LONG, "long data", 0);
+    expect(fotsgure_gcm_seal(&none, nonce, 12, NULL, 0, text, 4, tag) == FOTSGURE_GCM_NO_KEY, "no key", 0);
+    expect(all(text, 4, 3) && all(tag, 16, 9), "seal writes nothing after a refusal", 0);
+    if (fotsgure_gcm_seal(&gcm, nonce, 12, NULL, 0, text, 4, made) != FOTSGURE_GCM_DONE)
+        abort();
+    uint8_t sealed[4];
+    memcpy(sealed, text, 4);
+    for (size_t length = 0; length <= 15; length++)
+        expect(fotsgure_gcm_open(&none, NULL, 0, NULL, 0, text, too_long, length ? made : NULL, length) ==
+            FOTSGURE_GCM_TAG_LENGTH, "a tag of another length", length);
+    expect(fotsgure_gcm_open(&none, NULL, 0, NULL, 0, text, too_long, made, 16) == FOTSGURE_GCM_NONCE_LENGTH, "open",
+        1);
+    expect(fotsgure_gcm_open(&none, nonce, 12, NULL, 0, text, too_long, made, 16) == FOTSGURE_GCM_TOO_LONG, "open", 2);
+    expect(fotsgure_gcm_open(&none, nonce, 12, key, too_much, text, 4, made, 16) == FOTSGURE_GCM_TOO_LONG, "open",
+        3);
+    expect(fotsgure_gcm_open(&none, nonce, 12, NULL, 0, text, 4, made, 16) == FOTSGURE_GCM_NO_KEY, "open", 4);
+    expect(fotsgure_gcm_open(&gcm, nonce, 12, key, 1, text, 4, made, 16) == FOTSGURE_GCM_REFUSED, "open", 5);
+    expect(memcmp(text, sealed, 4) == 0, "open writes nothing after a refusal", 0);
+    expect(fotsgure_gcm_open(&gcm, nonce, 12, NULL, 0, text, 4, made, 16) == FOTSGURE_GCM_DONE && all(text, 4, 3),
+        "open", 6);
+    expect(fotsgure_gcm_seal(&gcm, nonce, 12, NULL, 0, NULL, 0, tag) == FOTSGURE_GCM_DONE &&
+        fotsgure_gcm_open(&gcm, nonce, 12, NULL, 0, NULL, 0, tag, 16) == FOTSGURE_GCM_DONE, "NULL for no bytes", 0);
+    expect(fotsgure_gcm_version() == FOTSGURE_GCM_VERSION, "the version", FOTSGURE_GCM_VERSION);
+    fotsgure_gcm_wipe(&gcm);
+}
+
+/* Counted nonces: each is the one before plus 1, with every carry, and the last number is never used. */
+static void counted(void)
+{
+    uint8_t key[32] = {5}, nonce[12], text[4], tag[16], before[12];
+    struct fotsgure_gcm gcm, none;
+    struct fotsgure_gcm_counter counter;
+    memset(&none, 0, sizeof none);
+    if (fotsgure_gcm_set_key(&gcm, key, sizeof key) != FOTSGURE_GCM_DONE)
+        abort();
+    for (size_t carried = 0; carried < 12; carried++) {
+        memset(counter.next, 0, 12);
+        memset(counter.next + 12 - carried, 0xff, carried);
+        memcpy(before, counter.next, 12);
+        memset(text, 1, 4);
+        expect(fotsgure_gcm_seal_next(&gcm, &counter, nonce, NULL, 0, text, 4, tag) == FOTSGURE_GCM_DONE &&
+            memcmp(nonce, before, 12) == 0 && counter.next[11 - carried] == 1 && all(counter.next, 11 - carried, 0) &&
+            all(counter.next + 12 - carried, carried, 0), "counted on", carried);
+        expect(fotsgure_gcm_open(&gcm, nonce, 12, NULL, 0, text, 4, tag, 16) == FOTSGURE_GCM_DONE && all(text, 4, 1),
+            "under the counter's nonce", carried);
+    }
+    memset(counter.next, 0xff, 12);
+    counter.next[11] = 0xfe;
+    expect(fotsgure_gcm_seal_next(&gcm, &counter, nonce, NULL, 0, text, 4, tag) == FOTSGURE_GCM_DONE &&
+        all(counter.next, 12, 0xff), "the last nonce but one", 0);
+    memset(text, 1, 4);
+    memset(nonce, 2, 12);
+    memset(tag, 3, 16);
+    expect(fotsgure_gcm_seal_next(&none, &counter, nonce, NULL, 0, text, 4, tag) == FOTSGURE_GCM_NONCES_END,
+        "the end", 0);
+    counter.next[0] = 0;
+    memcpy(before, counter.next, 12);
+    expect(fotsgure_gcm_seal_next(&none, &counter, nonce, NULL, 0, text, (size_t)FOTSGURE_GCM_MOST + 1, tag) ==
+        FOTSGURE_GCM_TOO_LONG, "counted, long text", 0);
+    expect(fotsgure_gcm_seal_next(&none, &counter, nonce, NULL, 0, text, 4, tag) == FOTSGURE_GCM_NO_KEY, "no key", 1);
+    expect(memcmp(before, counter.next, 12) == 0 && all(text, 4, 1) && all(nonce, 12, 2) && all(tag, 16, 3),
+        "seal_next writes nothing after a refusal", 0);
+    fotsgure_gcm_wipe(&gcm);
+}
+
+int main(void)
+{
+    published();
+    lengths();
+    statuses();
+    counted();
+    printf("%d passed, %d failed\n", passed, failed);
+    return failed != 0;
+}

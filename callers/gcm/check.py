@@ -1,0 +1,58 @@
+"""The module for Python: test cases 2, 4 and 16 of the submission of GCM (McGrew and Viega, appendix B), texts of 0 to
+300 bytes there and back, and every refusal. The last line is `N passed, N failed`."""
+import sys
+
+from fotsgure_gcm import VERSION, Gcm, Refused
+
+KEY = bytes.fromhex("feffe9928665731c6d6a8f9467308308")
+NONCE = bytes.fromhex("cafebabefacedbaddecaf888")
+ADDITIONAL = bytes.fromhex("feedfacedeadbeeffeedfacedeadbeefabaddad2")
+PLAIN = bytes.fromhex("d9313225f88406e5a55909c5aff5269a86a7a9531534f7da2e4c303d8a318a72"
+                      "1c3c0c95956809532fcf0e2449a6b525b16aedf5aa0de657ba637b39")
+CASES = (
+    (bytes(16), bytes(12), b"", bytes(16), "0388dace60b6a392f328c2b971b2fe78" "ab6e47d42cec13bdf53a67b21257bddf"),
+    (KEY, NONCE, ADDITIONAL, PLAIN, "42831ec2217774244b7221b784d0d49ce3aa212f2c02a4e035c17e2329aca12e"
+     "21d514b25466931c7d8f6a5aac84aa051ba30b396a0aac973d58e091" "5bc94fbc3221a5db94fae95ae7121a47"),
+    (KEY + KEY, NONCE, ADDITIONAL, PLAIN, "522dc1f099567d07f47f37a32a84427d643a8cdcbfe5c0c97598a2bd2555d1aa"
+     "8cb08e48590dbb3da7b08b1056828838c5f61e6393ba7a0abcc9f662" "76fc6ece0f4e1768cddf8853bb2d551b"),
+)
+checks = []
+
+
+def expect(holds, what):
+    checks.append(holds)
+    if not holds:
+        print("failed:", what)
+
+
+def raises(error, call, *arguments):
+    try:
+        call(*arguments)
+    except error:
+        return True
+    return False
+
+
+for key, nonce, additional, plain, sealed in CASES:
+    with Gcm(key) as gcm:
+        expect(gcm.seal(nonce, plain, additional).hex() == sealed, "seal")
+        expect(gcm.open(nonce, bytes.fromhex(sealed), additional) == plain, "open")
+        expect(raises(Refused, gcm.open, nonce, bytes.fromhex(sealed), additional + b"\0"), "other additional data")
+with Gcm(KEY) as gcm:
+    for length in range(301):
+        text = bytes(i % 251 for i in range(length))
+        nonce, sealed = gcm.seal_next(text, text[:length // 3])
+        expect(gcm.open(nonce, sealed, text[:length // 3]) == text, f"{length} bytes")
+        changed = bytearray(sealed)
+        changed[length // 2] ^= 4
+        expect(raises(Refused, gcm.open, nonce, changed, text[:length // 3]), f"{length} bytes, changed")
+    expect(int.from_bytes(gcm.counter, "big") == 301, "the counter")
+    expect(raises(ValueError, gcm.open, NONCE, bytes(15)), "a tag of another length")
+    expect(raises(ValueError, gcm.seal, b"", PLAIN), "no nonce")
+    expect(Gcm(KEY, gcm.counter).seal_next(b"")[0] == bytes(10) + b"\x01\x2d", "the stored counter")
+expect(raises(ValueError, gcm.seal, NONCE, PLAIN), "a wiped key")
+expect(raises(ValueError, Gcm(KEY, b"\xff" * 12).seal_next, PLAIN), "no nonce is left")
+expect(raises(ValueError, Gcm, KEY[1:]), "a key of another length")
+expect(VERSION == 100, "the version")
+print(f"{sum(checks)} passed, {len(checks) - sum(checks)} failed")
+sys.exit(not all(checks))

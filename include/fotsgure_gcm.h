@@ -1,0 +1,171 @@
+/* Authenticated encryption by AES in Galois/Counter Mode (GCM, NIST SP 800-38D), proved. Nobody has certified it under
+ * FIPS 140-3, and nobody has reviewed it independently.
+ *
+ * Each call's results are proved against the standard for all arguments that meet what is asked for here. Nothing
+ * checks a call from C.
+ *
+ * For every call, the caller must ensure:
+ *  - No nonce twice under one key, counted over all messages, programs and machines: a second use gives away the key of
+ *    the tags and the sum of two messages. fotsgure_gcm_seal_next counts nonces up. If you draw them at random, take a
+ *    new key before 2^32 messages.
+ *  - Valid pointers. A pointer to a struct points to a whole one, aligned as C aligns it; every other pointer points to
+ *    as many bytes as the length beside it says, or as its array has. Bytes need no alignment. What a call reads has
+ *    been initialized.
+ *  - No object of more than PTRDIFF_MAX bytes.
+ *  - No overlap: what a call writes overlaps nothing else that it is given. What a call only reads may overlap.
+ *  - A struct fotsgure_gcm in order: fotsgure_gcm_set_key or fotsgure_gcm_wipe wrote it last, or it is a copy of such a
+ *    struct, or all its bytes are 0.
+ *  - No data race: during the call no other thread writes what it reads, or reads or writes what it writes.
+ *  - FOTSGURE_GCM_STACK bytes of stack. On x86-64 a processor with SSE4.2 and SSSE3 (x86-64-v2); on 64-bit ARM any
+ *    processor, little-endian. The library is for Linux.
+ *
+ * NULL is allowed for `key`, `nonce`, `additional`, `text` and a `tag` with a length if the length is 0.
+ *
+ * In return, no call allocates, prints, aborts, blocks, or keeps a pointer; the library has no state of its own;
+ * every call returns, and writes nothing but what it says. (Proved is what calls return and write, and that they
+ * return; read and measured is the rest.) A call that doesn't return FOTSGURE_GCM_DONE has changed nothing;
+ * fotsgure_gcm_set_key is the exception. Where several statuses apply, the call returns the first in the order that it
+ * names them. Whether a tag is right is all that a status says of the bytes of keys and of messages.
+ *
+ * Copies and threads: a struct fotsgure_gcm may be copied and moved as bytes; every copy is as secret as the key and is
+ * wiped by itself. Any number of threads may use one struct at the same time by the calls that take it as const. A
+ * struct fotsgure_gcm_counter belongs to one thread at a time; a copy of it would give out the same nonces again. */
+#ifndef FOTSGURE_GCM_H
+#define FOTSGURE_GCM_H
+
+#include <stddef.h>
+#include <stdint.h>
+
+/* The version of this header; fotsgure_gcm_version() returns that of the library. */
+#define FOTSGURE_GCM_VERSION_TEXT "0.1.0"
+#define FOTSGURE_GCM_VERSION 100 /* 10000 * 0 + 100 * 1 + 0 */
+
+#define FOTSGURE_GCM_NONCE 12                             /* bytes of a counted nonce; take this length if you can */
+#define FOTSGURE_GCM_TAG 16                               /* bytes of a tag */
+#define FOTSGURE_GCM_MOST (((uint64_t)1 << 36) - 32)      /* the most bytes of a text (5.2.1.1) */
+#define FOTSGURE_GCM_MOST_ADDITIONAL (((uint64_t)1 << 61) - 1) /* the most bytes of additional data */
+#define FOTSGURE_GCM_STACK 16384                          /* bytes of stack that are enough for every call */
+
+#ifdef __cplusplus
+#define FOTSGURE_GCM_ALONE __restrict
+#define FOTSGURE_GCM_NOEXCEPT noexcept
+#define FOTSGURE_GCM_ASSERT static_assert
+#define FOTSGURE_GCM_CAST(type, value) reinterpret_cast<type>(value)
+extern "C" {
+#else
+#define FOTSGURE_GCM_ALONE restrict
+#define FOTSGURE_GCM_NOEXCEPT
+#define FOTSGURE_GCM_ASSERT _Static_assert
+#define FOTSGURE_GCM_CAST(type, value) ((type)(value))
+#endif
+
+#if defined(__GNUC__) || defined(__clang__)
+#define FOTSGURE_GCM_CHECK __attribute__((warn_unused_result))
+#else
+#define FOTSGURE_GCM_CHECK
+#endif
+
+/* What a call returns. */
+enum fotsgure_gcm_status {
+    FOTSGURE_GCM_DONE = 0,         /* the work is done */
+    FOTSGURE_GCM_KEY_LENGTH = 1,   /* the key doesn't have 16, 24 or 32 bytes */
+    FOTSGURE_GCM_NO_KEY = 2,       /* the struct holds no key */
+    FOTSGURE_GCM_NONCE_LENGTH = 3, /* the nonce is empty, or has 2^61 bytes or more */
+    FOTSGURE_GCM_TAG_LENGTH = 4,   /* the tag doesn't have 16 bytes */
+    FOTSGURE_GCM_TOO_LONG = 5,     /* more text or additional data than the standard allows */
+    FOTSGURE_GCM_REFUSED = 6,      /* the tag isn't that of this key, nonce, additional data and text */
+    FOTSGURE_GCM_NONCES_END = 7    /* the counter of nonces has come to its end */
+};
+
+/* A key, prepared for messages. Read and write it by the calls below alone. */
+struct fotsgure_gcm {
+    uint32_t key_length; /* 16, 24 or 32; 0: no key */
+    uint8_t round_keys[240];
+    uint8_t multiples[512];
+};
+
+/* The next nonce of a key: 12 bytes, one number, highest byte first. Begin with zeros, or with a number of your own for
+ * each of several senders, and store it before a message is sent. The last number is never used. */
+struct fotsgure_gcm_counter {
+    uint8_t next[FOTSGURE_GCM_NONCE];
+};
+
+FOTSGURE_GCM_ASSERT(sizeof(enum fotsgure_gcm_status) == 4 && sizeof(size_t) == 8, "the ABI of the library: 64-bit");
+FOTSGURE_GCM_ASSERT(sizeof(struct fotsgure_gcm) == 756, "no padding");
+FOTSGURE_GCM_ASSERT(sizeof(struct fotsgure_gcm_counter) == 12, "no padding");
+
+/* Returns FOTSGURE_GCM_VERSION of the header that the library was built with. */
+uint32_t fotsgure_gcm_version(void) FOTSGURE_GCM_NOEXCEPT;
+
+/* Prepares a key in *gcm (KeyExpansion, FIPS 197, 5.2; H, SP 800-38D, 7.1). *gcm may be uninitialized: none of it is
+ * read. Nothing of what it held is left.
+ * DONE if key_length is 16, 24 or 32; else KEY_LENGTH, and *gcm then is all zeros and holds no key. */
+FOTSGURE_GCM_CHECK enum fotsgure_gcm_status fotsgure_gcm_set_key(struct fotsgure_gcm *FOTSGURE_GCM_ALONE gcm,
+    const uint8_t *key, size_t key_length) FOTSGURE_GCM_NOEXCEPT;
+
+/* Returns how many bytes the key has: 16, 24 or 32, or 0 if *gcm holds no key. */
+size_t fotsgure_gcm_key_length(const struct fotsgure_gcm *gcm) FOTSGURE_GCM_NOEXCEPT;
+
+/* Overwrites *gcm with zeros: it then holds no key. It may be uninitialized. Copies are not wiped. */
+void fotsgure_gcm_wipe(struct fotsgure_gcm *gcm) FOTSGURE_GCM_NOEXCEPT;
+
+/* Encrypts `text_length` bytes in place and writes the tag, which shows whether the text or the additional data was
+ * changed (7.1). The additional data isn't encrypted, nor is it part of the text. A nonce has any length; with 12
+ * bytes no time depends on it.
+ * NONCE_LENGTH, TOO_LONG or NO_KEY; else DONE. */
+FOTSGURE_GCM_CHECK enum fotsgure_gcm_status fotsgure_gcm_seal(const struct fotsgure_gcm *gcm,
+    const uint8_t *nonce, size_t nonce_length,
+    const uint8_t *additional, size_t additional_length,
+    uint8_t *FOTSGURE_GCM_ALONE text, size_t text_length,
+    uint8_t tag[FOTSGURE_GCM_TAG]) FOTSGURE_GCM_NOEXCEPT;
+
+/* The same under the counter's next nonce, which it writes to `nonce`; the counter then moves on by one.
+ * NONCES_END, TOO_LONG or NO_KEY; else DONE. */
+FOTSGURE_GCM_CHECK enum fotsgure_gcm_status fotsgure_gcm_seal_next(const struct fotsgure_gcm *gcm,
+    struct fotsgure_gcm_counter *FOTSGURE_GCM_ALONE counter, uint8_t nonce[FOTSGURE_GCM_NONCE],
+    const uint8_t *additional, size_t additional_length,
+    uint8_t *FOTSGURE_GCM_ALONE text, size_t text_length,
+    uint8_t tag[FOTSGURE_GCM_TAG]) FOTSGURE_GCM_NOEXCEPT;
+
+/* Decrypts `text_length` bytes in place if the tag is right (7.2). The tag is compared before anything is decrypted: a
+ * text that is refused stays as it was, and no plain text of a forged message ever exists.
+ * TAG_LENGTH, NONCE_LENGTH, TOO_LONG, NO_KEY or REFUSED; else DONE. */
+FOTSGURE_GCM_CHECK enum fotsgure_gcm_status fotsgure_gcm_open(const struct fotsgure_gcm *gcm,
+    const uint8_t *nonce, size_t nonce_length,
+    const uint8_t *additional, size_t additional_length,
+    uint8_t *FOTSGURE_GCM_ALONE text, size_t text_length,
+    const uint8_t *tag, size_t tag_length) FOTSGURE_GCM_NOEXCEPT;
+
+/* NULL with a length of 0: the library takes no NULL, so each call below hands on an address that is not NULL instead,
+ * and that nothing reads or writes. Whoever calls the library without this header does the same. A pointer to a
+ * function, and a name in parentheses, is the library's call itself. */
+static inline const uint8_t *fotsgure_gcm_not_null(const uint8_t *bytes) FOTSGURE_GCM_NOEXCEPT
+{
+    return bytes ? bytes : FOTSGURE_GCM_CAST(const uint8_t *, (uintptr_t)FOTSGURE_GCM_TAG);
+}
+static inline uint8_t *fotsgure_gcm_not_null_mut(uint8_t *bytes) FOTSGURE_GCM_NOEXCEPT
+{
+    return bytes ? bytes : FOTSGURE_GCM_CAST(uint8_t *, (uintptr_t)FOTSGURE_GCM_TAG);
+}
+
+#define fotsgure_gcm_set_key(gcm, key, key_length) fotsgure_gcm_set_key(gcm, fotsgure_gcm_not_null(key), key_length)
+#define fotsgure_gcm_seal(gcm, nonce, nonce_length, additional, additional_length, text, text_length, tag) \
+    fotsgure_gcm_seal(gcm, fotsgure_gcm_not_null(nonce), nonce_length, \
+        fotsgure_gcm_not_null(additional), additional_length, fotsgure_gcm_not_null_mut(text), text_length, tag)
+#define fotsgure_gcm_seal_next(gcm, counter, nonce, additional, additional_length, text, text_length, tag) \
+    fotsgure_gcm_seal_next(gcm, counter, nonce, \
+        fotsgure_gcm_not_null(additional), additional_length, fotsgure_gcm_not_null_mut(text), text_length, tag)
+#define fotsgure_gcm_open(gcm, nonce, nonce_length, additional, additional_length, text, text_length, tag, tag_length) \
+    fotsgure_gcm_open(gcm, fotsgure_gcm_not_null(nonce), nonce_length, \
+        fotsgure_gcm_not_null(additional), additional_length, fotsgure_gcm_not_null_mut(text), text_length, \
+        fotsgure_gcm_not_null(tag), tag_length)
+
+#ifdef __cplusplus
+}
+#endif
+#undef FOTSGURE_GCM_ALONE
+#undef FOTSGURE_GCM_NOEXCEPT
+#undef FOTSGURE_GCM_ASSERT
+#undef FOTSGURE_GCM_CAST
+#undef FOTSGURE_GCM_CHECK
+#endif
