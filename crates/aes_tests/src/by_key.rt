@@ -10,7 +10,6 @@ use aes_cipher::cipher::{
 };
 use aes_hybrid::Hybrid;
 use aes_permute::keys::{OneWay, TwoWays};
-use aes_soft::soft::key_sizes::AesVariant;
 
 // Encrypts a block under a key, by the type that only encrypts.
 fn encrypted<S: Encrypts>(key: &<S::Size as KeySize>::Key, block: &Block) -> Block
@@ -32,7 +31,7 @@ fn decrypted<S: Decrypts>(key: &<S::Size as KeySize>::Key, block: &Block) -> Blo
 
 // The three crates, with the size of the key as a parameter: what a type is made of is proved once for all sizes.
 
-fn by_aes<K: AesVariant>(key: &K::Key, block: &Block) -> (Block, Block)
+fn by_aes<K: KeySize>(key: &K::Key, block: &Block) -> (Block, Block)
     ensures encrypted { result.0 ≡ fips.cipher (K.Key.bytes key.now) block.now }
     ensures decrypted { result.1 ≡ fips.inv_cipher (K.Key.bytes key.now) block.now }
 {
