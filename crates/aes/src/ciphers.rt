@@ -1,47 +1,65 @@
 //! The form of the nine types: round keys in the full layout of bit planes, on words of one block.
 
+ghost use Rattle.std.specs.Prelude.{◌≡◌, ◌+◌, ◌/◌, map, replicate};
 ghost use Rattle.aes_planes.specs.Expansion.{substitutions};
+ghost use Rattle.aes_planes.specs.Words.{word_bits};
 ghost use Rattle.aes_soft.specs.Batches.{layers_for};
+ghost use Rattle.aes_soft.specs.Stored.{plane_key, stored_words, words_for, IsFullSchedule};
 
 use aes_cipher::aes;
-use aes_cipher::aes::{CountsLayers, Decrypts, Encrypts, KeySchedule, Processes, TurnedFrom};
+use aes_cipher::aes::{
+    CountsLayers, Decrypts, Encrypts, KeyBytes, KeySchedule, KeySize, Processes, TurnedFrom,
+};
 use aes_cipher::cipher::{BlockCipherDecClosure, BlockCipherEncClosure, Decrypt, Encrypt};
+use aes_cipher::zeroize::Wiped;
 use aes_planes::soft::sbox::Layers;
 use aes_planes::soft::word::Block;
 use aes_soft::soft::FullCipher;
 use aes_soft::soft::blocks::{
     decrypt_with_backend, encrypt_with_backend, process_block, process_blocks,
 };
-use aes_soft::soft::key_sizes::{AesVariant, WipedKeys};
+use aes_soft::soft::key_sizes::{Room, put_words, reads_key, words_of};
+use std::marker::PhantomData;
 
 /// AES with a key of the size K, in the directions D.
 pub type AesCipher<K, D> = aes::AesCipher<Fixsliced<K>, D>;
 
 /// Stored round keys of a key of the size K. They serve both directions.
-#[derive(Drop)]
-pub struct Fixsliced<K: AesVariant> {
-    round_keys: K::Wiped,
+pub struct Fixsliced<K: KeySize> {
+    // The first words are the round keys, as they are stored. The others stay zero.
+    room: Wiped<Room>,
+    size: PhantomData<K>,
 }
 
-impl<K: AesVariant> KeySchedule for Fixsliced<K> {
+impl<K: KeySize> Drop for Fixsliced<K> {
+    #[inline(always)]
+    fn drop(self) {
+        let Fixsliced { room: _, size: _ } = self;
+    }
+}
+
+impl<K: KeySize> KeySchedule for Fixsliced<K> {
     type Size = K;
 
-    ghost key = { λ schedule. K.RoundKeys.key (K.Wiped.words schedule.round_keys) };
+    ghost key = { λ schedule.
+        plane_key (words_for K.Key.SIZE) 1 (map (word_bits 16) (stored_words K.Key.SIZE schedule.room)) };
 
-    ghost AreKeyed = { λ schedule. K.RoundKeys.AreKeyed (K.Wiped.words schedule.round_keys) };
+    ghost AreKeyed = { λ schedule.
+        IsFullSchedule (words_for K.Key.SIZE) 1 (map (word_bits 16) (stored_words K.Key.SIZE schedule.room)) };
 
-    ghost IsWiped = { λ schedule. K.Wiped.IsWiped schedule.round_keys };
+    ghost IsWiped = { λ schedule. schedule.room ≡ replicate 120 0 };
 
     #[inline(always)]
     fn zeroed() -> Fixsliced<K> {
         Fixsliced {
-            round_keys: K::Wiped::zeroed(),
+            room: Wiped::zeroed(),
+            size: PhantomData,
         }
     }
 
     #[inline(always)]
     fn wipe(&mut self) {
-        self.round_keys.wipe();
+        self.room.wipe();
     }
 
     #[inline(always)]
@@ -52,62 +70,59 @@ impl<K: AesVariant> KeySchedule for Fixsliced<K> {
     #[inline(always)]
     fn copy(&self) -> Fixsliced<K> {
         Fixsliced {
-            round_keys: self.round_keys.copy(),
+            room: self.room.copy(),
+            size: PhantomData,
         }
     }
 
     fn has_key(&self) {
-        K::has_key(self.round_keys.lend());
+        reads_key(words_of::<K>(&self.room));
     }
 }
 
-impl<K: AesVariant> TurnedFrom<Fixsliced<K>> for Fixsliced<K> {
+impl<K: KeySize> TurnedFrom<Fixsliced<K>> for Fixsliced<K> {
     #[inline(always)]
     fn turned(schedule: &Fixsliced<K>) -> Fixsliced<K> {
         schedule.copy()
     }
 }
 
-impl<K: AesVariant, D: FullCipher> Processes<D> for Fixsliced<K> {
+impl<K: KeySize, D: FullCipher> Processes<D> for Fixsliced<K> {
     fn process_block(&self, block: &mut Block) {
-        process_block::<K, D>(self.round_keys.lend(), block);
+        process_block::<D>(words_of::<K>(&self.room), block);
     }
 
-    #[inline(always)]
     fn process_blocks(&self, blocks: &mut [Block]) {
-        process_blocks::<K, D>(self.round_keys.lend(), blocks, &mut Layers::new());
+        process_blocks::<D>(words_of::<K>(&self.room), blocks, &mut Layers::new());
     }
 }
 
-impl<K: AesVariant> Encrypts for Fixsliced<K> {
+impl<K: KeySize> Encrypts for Fixsliced<K> {
     fn encrypt_with_backend<F: BlockCipherEncClosure>(&self, f: &mut F) {
-        encrypt_with_backend::<K, F>(self.round_keys.lend(), f);
+        encrypt_with_backend(words_of::<K>(&self.room), f);
     }
 }
 
-impl<K: AesVariant> Decrypts for Fixsliced<K> {
+impl<K: KeySize> Decrypts for Fixsliced<K> {
     fn decrypt_with_backend<F: BlockCipherDecClosure>(&self, f: &mut F) {
-        decrypt_with_backend::<K, F>(self.round_keys.lend(), f);
+        decrypt_with_backend(words_of::<K>(&self.room), f);
     }
 }
 
-impl<K: AesVariant> CountsLayers for Fixsliced<K> {
+impl<K: KeySize> CountsLayers for Fixsliced<K> {
     ghost SCHEDULE_LAYERS = { substitutions K.Key.SIZE };
 
-    ghost layers_for = { λ count. layers_for K.RoundKeys.ROUNDS count };
+    ghost layers_for = { λ count. layers_for (K.Key.SIZE / 4 + 6) count };
 
-    #[inline(always)]
     fn refill_counted(&mut self, new_key: &K::Key, layers: &mut Layers) {
-        K::refill(&mut self.round_keys, new_key, layers);
+        put_words::<K>(self.room.words_mut(), new_key.as_slice(), layers);
     }
 
-    #[inline(always)]
     fn encrypt_blocks_counted(&self, blocks: &mut [Block], layers: &mut Layers) {
-        process_blocks::<K, Encrypt>(self.round_keys.lend(), blocks, layers);
+        process_blocks::<Encrypt>(words_of::<K>(&self.room), blocks, layers);
     }
 
-    #[inline(always)]
     fn decrypt_blocks_counted(&self, blocks: &mut [Block], layers: &mut Layers) {
-        process_blocks::<K, Decrypt>(self.round_keys.lend(), blocks, layers);
+        process_blocks::<Decrypt>(words_of::<K>(&self.room), blocks, layers);
     }
 }

@@ -26,13 +26,23 @@ pub use schedules::{Decrypts, Encrypts, KeySchedule, Processes, TurnedFrom};
 use std::marker::{Model, PhantomData};
 
 /// AES with the stored round keys S, in the directions D. Contracts see a value as its key.
-#[derive(Drop)]
-pub struct AesCipher<S: KeySchedule, D: Directions> {
+pub struct AesCipher<S: KeySchedule, D> {
     schedule: S,
     directions: PhantomData<D>,
 }
 
-impl<S: KeySchedule, D: Directions> Model for AesCipher<S, D> {
+// Written out, so that it is proved here once, and not in each crate that drops a value.
+impl<S: KeySchedule, D> Drop for AesCipher<S, D> {
+    #[inline(always)]
+    fn drop(self) {
+        let AesCipher {
+            schedule: _,
+            directions: _,
+        } = self;
+    }
+}
+
+impl<S: KeySchedule, D> Model for AesCipher<S, D> {
     ghost Value = { List ℕ };
 
     ghost view = { λ cipher. S.key cipher.schedule };
@@ -40,7 +50,7 @@ impl<S: KeySchedule, D: Directions> Model for AesCipher<S, D> {
     ghost invariant = { λ cipher. S.AreKeyed cipher.schedule };
 }
 
-impl<S: KeySchedule, D: Directions> AesCipher<S, D> {
+impl<S: KeySchedule, D> AesCipher<S, D> {
     /// Wipes the round keys in place, and leaves the value of the zero key.
     pub fn zeroize(&mut self)
         ensures { self.new ≡ replicate S.Size.Key.SIZE 0 }
@@ -51,7 +61,7 @@ impl<S: KeySchedule, D: Directions> AesCipher<S, D> {
     }
 }
 
-impl<S: KeySchedule, D: Directions> KeySizeUser for AesCipher<S, D> {
+impl<S: KeySchedule, D> KeySizeUser for AesCipher<S, D> {
     type Key = <S::Size as KeySize>::Key;
 
     ghost KEY_SIZE = { S.Size.Key.SIZE };
@@ -61,7 +71,7 @@ impl<S: KeySchedule, D: Directions> KeySizeUser for AesCipher<S, D> {
     const KEY_SIZE: usize = <<S::Size as KeySize>::Key as KeyBytes>::SIZE;
 }
 
-impl<S: KeySchedule, D: Directions> RoundKeysUser for AesCipher<S, D> {
+impl<S: KeySchedule, D> RoundKeysUser for AesCipher<S, D> {
     ghost round_keys = { fips.key_expansion };
 
     fn has_round_keys(&self) {
@@ -72,7 +82,7 @@ impl<S: KeySchedule, D: Directions> RoundKeysUser for AesCipher<S, D> {
     ghost two_round_keys = { two_keys };
 }
 
-impl<S: KeySchedule, D: Directions> KeyInit for AesCipher<S, D> {
+impl<S: KeySchedule, D> KeyInit for AesCipher<S, D> {
     ghost own_key = { λ key. key };
 
     fn new(key: &<S::Size as KeySize>::Key) -> AesCipher<S, D> {
@@ -95,4 +105,4 @@ impl<S: KeySchedule, D: Directions> KeyInit for AesCipher<S, D> {
     ghost expanded = { λ key. refl };
 }
 
-impl<S: KeySchedule, D: Directions> ZeroizeOnDrop for AesCipher<S, D> {}
+impl<S: KeySchedule, D> ZeroizeOnDrop for AesCipher<S, D> {}

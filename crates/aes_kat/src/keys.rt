@@ -10,9 +10,8 @@ ghost use Rattle.aes_kat.specs.Private.Steps.{decoded};
 use crate::faults::Fault;
 use crate::operands::bytes_of;
 use aes::{AesCipher, Block};
-use aes_cipher::aes::{Bits128, Bits192, Bits256};
+use aes_cipher::aes::{Bits128, Bits192, Bits256, KeySize};
 use aes_cipher::cipher::{BlockCipherDecrypt, BlockCipherEncrypt, Decrypt, Encrypt, KeyInit};
-use aes_soft::soft::key_sizes::AesVariant;
 
 // A key, by how many bits it has.
 #[derive(Clone, Copy)]
@@ -65,14 +64,14 @@ impl Key {
 
 // Encrypts each block by the library's type for a size. With the size as a parameter, the type is proved to be a cipher
 // once for all sizes.
-fn encrypt_with<K: AesVariant>(key: &K::Key, blocks: &mut [Block])
+fn encrypt_with<K: KeySize>(key: &K::Key, blocks: &mut [Block])
     ensures { Each (fips.cipher (K.Key.bytes key.now)) blocks.old blocks.new }
 {
     AesCipher::<K, Encrypt>::new(key).encrypt_blocks(blocks);
 }
 
 // Decrypts each block by the library's type for a size.
-fn decrypt_with<K: AesVariant>(key: &K::Key, blocks: &mut [Block])
+fn decrypt_with<K: KeySize>(key: &K::Key, blocks: &mut [Block])
     ensures { Each (fips.inv_cipher (K.Key.bytes key.now)) blocks.old blocks.new }
 {
     AesCipher::<K, Decrypt>::new(key).decrypt_blocks(blocks);

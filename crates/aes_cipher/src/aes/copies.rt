@@ -3,13 +3,13 @@
 ghost use Rattle.std.specs.Prelude.{◌≡◌, ⊤};
 
 use super::AesCipher;
-use super::directions::{Directions, Includes};
+use super::directions::Includes;
 use super::schedules::{KeySchedule, TurnedFrom};
 use crate::cipher::{Decrypt, Encrypt};
 use std::alloc::AllocError;
 use std::marker::PhantomData;
 
-impl<S: KeySchedule, D: Directions> Clone for AesCipher<S, D> {
+impl<S: KeySchedule, D> Clone for AesCipher<S, D> {
     ghost is_clone = { λ cipher copy. copy ≡ cipher };
 
     ghost is_infallible = { λ _. ⊤ };

@@ -5,7 +5,7 @@ ghost use Rattle.aes_planes.specs.Each.{Each};
 ghost use Rattle.aes_planes.specs.Fips197 as fips;
 
 use super::AesCipher;
-use super::directions::{Directions, Includes};
+use super::directions::Includes;
 use super::key_bytes::KeyBytes;
 use super::key_sizes::KeySize;
 use super::schedules::KeySchedule;
@@ -41,7 +41,7 @@ pub trait CountsLayers: KeySchedule {
         ensures layers { layers.new ≡ layers.old + layers_for (length blocks.old) };
 }
 
-impl<S: CountsLayers, D: Directions> AesCipher<S, D> {
+impl<S: CountsLayers, D> AesCipher<S, D> {
     /// Makes a value from a key, and counts the S-box layers of KeyExpansion (FIPS 197, 5.2): 10, 8 or 13 with a key of
     /// 16, 24 or 32 bytes.
     pub fn new_counted(key: &<S::Size as KeySize>::Key, layers: &mut Layers) -> AesCipher<S, D>

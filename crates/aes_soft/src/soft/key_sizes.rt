@@ -1,62 +1,64 @@
-//! The sizes of keys, and what the schedules and the ciphers need of each.
-ghost use Rattle.std.specs.Prelude.{◌≡◌, ◌+◌, length};
+//! Keys of any size: room for their stored round keys, and the first of its words, which are the round keys.
+ghost use Rattle.std.specs.Prelude.{◌≡◌, ◌⊎◌, ◌+◌, ◌*◌, length, map};
 ghost use Rattle.aes_planes.specs.Expansion.{substitutions};
 ghost use Rattle.aes_planes.specs.Fips197 as fips;
+ghost use Rattle.aes_planes.specs.Words.{word_bits};
+ghost use Rattle.aes_soft.specs.Stored.{plane_key, stored_words, words_for, IsFullSchedule};
 
-mod bits128;
-mod bits192;
-mod bits256;
-mod reading;
-mod wiped;
-mod words;
-
-use aes_cipher::aes::KeySize;
-use aes_cipher::zeroize::Zeroize;
+use super::key_schedule::put_schedule;
+use aes_cipher::aes::{KeyBytes, KeySize};
+use aes_cipher::zeroize::Wiped;
 use aes_planes::laws;
 use aes_planes::soft::sbox::Layers;
-pub use wiped::WipedKeys;
-pub use words::RoundKeyWords;
 
 /// The word of a batch: eight of them hold as many blocks as are processed at once.
 pub type BatchWord = u128;
 
-/// A variant of AES: AES-128, AES-192 or AES-256. It says how round keys are stored.
-pub trait AesVariant: KeySize {
-    /// The round keys of a key, as they are stored: in the full layout, on words of one block.
-    type RoundKeys: RoundKeyWords<u16>;
+/// Room for the round keys of a key of any size in the full layout, on words of one block: as many words as the largest
+/// has.
+pub type Room = [u16; 120];
 
-    /// The same, on the words of a batch.
-    type WideKeys: RoundKeyWords<BatchWord> + Zeroize;
-
-    /// Stored round keys that are wiped when they are dropped.
-    type Wiped: WipedKeys<Words = Self::RoundKeys>;
-
-    /// Writes the stored round keys of a key to words that are wiped.
-    fn refill(round_keys: &mut Self::Wiped, key: &Self::Key, layers: &mut Layers)
-        requires wiped { Self.Wiped.IsWiped round_keys.old }
-        ensures schedule { Self.RoundKeys.AreKeyed (Self.Wiped.words round_keys.new) }
-        ensures key { Self.RoundKeys.key (Self.Wiped.words round_keys.new) ≡ Self.Key.bytes key.now }
-        ensures layers { layers.new ≡ layers.old + substitutions Self.Key.SIZE };
-
-    /// Writes the same round keys to words of a batch, in place, without another copy.
-    fn put_wide(wide: &mut Self::WideKeys, round_keys: &Self::RoundKeys)
-        requires is_schedule { Self.RoundKeys.AreKeyed round_keys.now }
-        ensures schedule { Self.WideKeys.AreKeyed wide.new }
-        ensures key { Self.WideKeys.key wide.new ≡ Self.RoundKeys.key round_keys.now };
-
-    /// No effect; states that stored round keys are read as a key.
-    fn has_key(round_keys: &Self::RoundKeys)
-        ensures sized { length (Self.RoundKeys.key round_keys.now) ≡ Self.Key.SIZE }
-        ensures bytes { fips.IsBytes (Self.RoundKeys.key round_keys.now) };
-
-    /// Both forms of round keys are for as many rounds.
-    ghost same_rounds: { Self.WideKeys.ROUNDS ≡ Self.RoundKeys.ROUNDS };
+// Returns how many words are stored.
+#[inline(always)]
+fn count_of<K: KeySize>() -> usize
+    ensures count { result ≡ words_for K.Key.SIZE }
+    ensures one_of_three { (K.Key.SIZE ≡ 16) ⊎ ((K.Key.SIZE ≡ 24) ⊎ (K.Key.SIZE ≡ 32)) }
+{
+    2 * K::Key::SIZE + 56
 }
 
-/// No effect; states that the round keys of the key that stored round keys are read as are blocks.
-pub fn has_round_keys<K: AesVariant>(round_keys: &K::RoundKeys)
-    ensures { fips.AreRoundKeys (fips.key_expansion (K.RoundKeys.key round_keys.now)) }
+/// Returns the stored round keys of a key: the first of the words.
+#[inline(always)]
+pub fn words_of<K: KeySize>(room: &Wiped<Room>) -> &[u16]
+    ensures words { result.now ≡ stored_words K.Key.SIZE room.now }
+    ensures count { length result.now ≡ words_for K.Key.SIZE }
+{
+    &room.words()[..count_of::<K>()]
+}
+
+/// Writes the round keys of a key, as the full layout stores them: KeyExpansion (FIPS 197, 5.2).
+#[inline(always)]
+pub fn put_words<K: KeySize>(room: &mut Room, key: &[u8], layers: &mut Layers)
+    requires sized { length key.now ≡ K.Key.SIZE }
+    ensures schedule { let n = words_for K.Key.SIZE in
+        IsFullSchedule n 1 (map (word_bits 16) (stored_words K.Key.SIZE room.new)) }
+    ensures key { let n = words_for K.Key.SIZE in
+        plane_key n 1 (map (word_bits 16) (stored_words K.Key.SIZE room.new)) ≡ key.now }
+    ensures layers { layers.new ≡ layers.old + substitutions K.Key.SIZE }
+{
+    let count = count_of::<K>();
+    put_schedule::<u16>(&mut room[..count], key, layers);
+}
+
+/// No effect; states that stored round keys are read as a key of bytes, whose round keys are blocks.
+#[tactic(auto, using(crate::proofs::KeyOfPlanes::read_keys))]
+pub fn reads_key(words: &[u16])
+    requires { (length words.now ≡ 88) ⊎ ((length words.now ≡ 104) ⊎ (length words.now ≡ 120)) }
+    ensures sized { let key = plane_key (length words.now) 1 (map (word_bits 16) words.now) in
+        2 * length key + 56 ≡ length words.now }
+    ensures bytes { fips.IsBytes (plane_key (length words.now) 1 (map (word_bits 16) words.now)) }
+    ensures round_keys { let key = plane_key (length words.now) 1 (map (word_bits 16) words.now) in
+        fips.AreRoundKeys (fips.key_expansion key) }
 {
     laws::expanded_keys();
-    K::has_key(round_keys);
 }

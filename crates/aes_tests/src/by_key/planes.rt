@@ -5,13 +5,12 @@ ghost use Rattle.aes_planes.specs.Fips197 as fips;
 
 use super::{both_ways, decrypting, encrypting};
 use aes::Fixsliced;
-use aes_cipher::aes::{AesCipher, Bits128, Bits192, Bits256, BothWays};
+use aes_cipher::aes::{AesCipher, Bits128, Bits192, Bits256, BothWays, KeySize};
 use aes_cipher::cipher::{Block, Decrypt, Encrypt};
-use aes_soft::soft::key_sizes::AesVariant;
 
 // The three types, with the size of the key as a parameter: what they are made of is proved once for all sizes.
 
-fn of_both<K: AesVariant>(
+fn of_both<K: KeySize>(
     key: &K::Key,
     block: &Block,
 ) -> (AesCipher<Fixsliced<K>, BothWays>, Block, Block)
@@ -22,14 +21,14 @@ fn of_both<K: AesVariant>(
     both_ways(key, block)
 }
 
-fn of_enc<K: AesVariant>(key: &K::Key, block: &Block) -> (AesCipher<Fixsliced<K>, Encrypt>, Block)
+fn of_enc<K: KeySize>(key: &K::Key, block: &Block) -> (AesCipher<Fixsliced<K>, Encrypt>, Block)
     ensures value { result.0 ≡ K.Key.bytes key.now }
     ensures encrypted { result.1 ≡ fips.cipher (K.Key.bytes key.now) block.now }
 {
     encrypting(key, block)
 }
 
-fn of_dec<K: AesVariant>(key: &K::Key, block: &Block) -> (AesCipher<Fixsliced<K>, Decrypt>, Block)
+fn of_dec<K: KeySize>(key: &K::Key, block: &Block) -> (AesCipher<Fixsliced<K>, Decrypt>, Block)
     ensures value { result.0 ≡ K.Key.bytes key.now }
     ensures decrypted { result.1 ≡ fips.inv_cipher (K.Key.bytes key.now) block.now }
 {

@@ -5,10 +5,9 @@ mod two_keys;
 use super::{apply_at, apply_then_encrypt, apply_to_parts, there_and_back};
 use crate::by_backend::ByBackend;
 use aes::{Aes128Enc, Aes192Enc, AesCipher};
-use aes_cipher::aes::{Bits128, Bits256, BothWays};
+use aes_cipher::aes::{Bits128, Bits256, BothWays, KeySize};
 use aes_cipher::cipher::{BlockCipherEncrypt, Encrypt, KeyInit};
 use aes_ctr::{Ctr128BE, stream_cut, stream_twice};
-use aes_soft::soft::key_sizes::AesVariant;
 use std::test::Fail;
 use two_keys::TwoKeys;
 
@@ -64,7 +63,7 @@ trait Trial {
 
 // Whether the type that encrypts passes under a key. With the size as a parameter, it is proved to be a cipher once for
 // all that is tried.
-fn passes_under<K: AesVariant, T: Trial>(trial: &T, key: &K::Key) -> bool {
+fn passes_under<K: KeySize, T: Trial>(trial: &T, key: &K::Key) -> bool {
     trial.passes(&AesCipher::<K, Encrypt>::new(key))
 }
 
@@ -132,7 +131,7 @@ fn keystream_of<C: BlockCipherEncrypt + Drop>(cipher: C, iv: u128) -> Option<[u1
 }
 
 // The same under a key, by the type for both directions.
-fn keystream_under<K: AesVariant>(key: &K::Key, iv: u128) -> Option<[u128; 2]> {
+fn keystream_under<K: KeySize>(key: &K::Key, iv: u128) -> Option<[u128; 2]> {
     keystream_of(AesCipher::<K, BothWays>::new(key), iv)
 }
 
@@ -288,7 +287,7 @@ fn adds_what_the_cipher_of_the_counter_is(rt: HostRuntime) {
 }
 
 // Whether the caller of a key has the message back.
-fn comes_back<K: AesVariant>(key: &K::Key) -> bool {
+fn comes_back<K: KeySize>(key: &K::Key) -> bool {
     let mut bytes = bytes_of(PLAIN);
     there_and_back::<AesCipher<K, Encrypt>>(key, IV.to_be_bytes(), &mut bytes).is_ok()
         && bytes == bytes_of(PLAIN)

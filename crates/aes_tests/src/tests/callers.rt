@@ -6,10 +6,9 @@ use crate::callers::{encrypt_and_pass_on, encrypt_by_rounds, there_and_back, the
 use crate::generic;
 use crate::layers::{count_layers, count_schedule_layers};
 use aes::{Aes128, Aes192, Aes192Dec, Aes256, Aes256Enc, AesCipher, Block};
-use aes_cipher::aes::{Bits128, Bits192, Bits256, BothWays};
+use aes_cipher::aes::{Bits128, Bits192, Bits256, BothWays, KeySize};
 use aes_cipher::cipher::{BlockCipherDecrypt, BlockCipherEncrypt, KeyInit, KeySizeUser};
 use aes_planes::soft::sbox::Layers;
-use aes_soft::soft::key_sizes::AesVariant;
 
 #[test]
 fn callers_have_the_blocks_of_the_standard(rt: HostRuntime) {
@@ -51,7 +50,7 @@ where
 }
 
 // The type of `aes` for a size. With the size as a parameter, it is proved once for all sizes.
-fn type_goes_there_and_back<K: AesVariant>(key: &K::Key, bytes: &[u8], wanted: u128) -> bool {
+fn type_goes_there_and_back<K: KeySize>(key: &K::Key, bytes: &[u8], wanted: u128) -> bool {
     goes_there_and_back::<AesCipher<K, BothWays>>(key, bytes, wanted)
 }
 
@@ -63,7 +62,7 @@ fn any_cipher_has_the_blocks_of_the_standard(rt: HostRuntime) {
 }
 
 // A slice of blocks that goes there and back by the type of `aes` for a size.
-fn slice_there_and_back<K: AesVariant>(key: &K::Key) -> [Block; 24] {
+fn slice_there_and_back<K: KeySize>(key: &K::Key) -> [Block; 24] {
     let cipher = AesCipher::<K, BothWays>::new(key);
     generic::has_sized_key(&cipher);
     let mut blocks = different_blocks();

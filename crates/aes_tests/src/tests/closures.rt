@@ -10,7 +10,6 @@ use aes_cipher::cipher::{
     BlockCipherDecrypt, BlockCipherEncrypt, Decrypt, Direction, Encrypt, KeyInit,
 };
 use aes_permute::keys;
-use aes_soft::soft::key_sizes::AesVariant;
 
 // A closure that does nothing, one that works twice, and rows of blocks, by what single calls leave.
 struct Closures;
@@ -82,7 +81,7 @@ fn takes_a_row_of_five<C: BlockCipherEncrypt + BlockCipherDecrypt>(cipher: &C) -
 }
 
 // The type of `aes` for both directions, with the size as a parameter.
-fn planes_take_a_row<K: AesVariant>(key: &K::Key) -> bool {
+fn planes_take_a_row<K: KeySize>(key: &K::Key) -> bool {
     takes_a_row_of_five(&AesCipher::<K, BothWays>::new(key))
 }
 
@@ -99,7 +98,7 @@ fn a_row_of_five_has_the_blocks_of_the_standard(rt: HostRuntime) {
 }
 
 // A block encrypted twice and decrypted twice by the type of `aes` for a size.
-fn twice_by_planes<K: AesVariant>(key: &K::Key, block: Block) -> Block {
+fn twice_by_planes<K: KeySize>(key: &K::Key, block: Block) -> Block {
     twice_there_and_back(&AesCipher::<K, BothWays>::new(key), block)
 }
 

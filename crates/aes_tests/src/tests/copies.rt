@@ -8,7 +8,6 @@ use aes_cipher::cipher::{
 };
 use aes_cipher::zeroize::ZeroizeOnDrop;
 use aes_permute::keys;
-use aes_soft::soft::key_sizes::AesVariant;
 use std::test::Fail;
 
 // Whether slices of 0 to 64 bytes are taken as keys exactly where they are as long as a key, and blocks have 16 bytes.
@@ -26,7 +25,7 @@ where
 }
 
 // The same of the three types of `aes` for a size.
-fn all_take_their_own_length_alone<K: AesVariant>(size: usize) -> bool {
+fn all_take_their_own_length_alone<K: KeySize>(size: usize) -> bool {
     takes_its_own_length_alone::<AesCipher<K, BothWays>>(size)
         && takes_its_own_length_alone::<AesCipher<K, Encrypt>>(size)
         && takes_its_own_length_alone::<AesCipher<K, Decrypt>>(size)
@@ -93,7 +92,7 @@ macro_rules! copies_keep_the_key {
     }};
 }
 
-fn copies_keep_the_key<K: AesVariant>(key: &K::Key, encrypted: u128) -> Result<bool, Fail> {
+fn copies_keep_the_key<K: KeySize>(key: &K::Key, encrypted: u128) -> Result<bool, Fail> {
     copies_keep_the_key!(AesCipher<K, BothWays>, AesCipher<K, Encrypt>, AesCipher<K, Decrypt>, key, encrypted)
 }
 
@@ -134,7 +133,7 @@ macro_rules! wipes_in_place {
     }};
 }
 
-fn wipes_in_place<K: AesVariant>(key: &K::Key, zeros_encrypted: u128) -> bool {
+fn wipes_in_place<K: KeySize>(key: &K::Key, zeros_encrypted: u128) -> bool {
     wipes_in_place!(AesCipher<K, Encrypt>, AesCipher<K, Decrypt>, key, zeros_encrypted)
 }
 

@@ -2,11 +2,10 @@
 
 use super::blocks::different_blocks;
 use aes::{AesCipher, Block};
-use aes_cipher::aes::{Bits128, Bits192, Bits256, BothWays};
+use aes_cipher::aes::{Bits128, Bits192, Bits256, BothWays, KeySize};
 use aes_cipher::cipher::{BlockCipherDecrypt, BlockCipherEncrypt, KeyInit};
 use aes_planes::soft::sbox::Layers;
 use aes_planes::soft::word::{Batch, Word};
-use aes_soft::soft::key_sizes::AesVariant;
 use aes_soft::soft::{compact, full};
 
 // As many different blocks as a word holds.
@@ -41,7 +40,7 @@ fn are_right<C: BlockCipherEncrypt + BlockCipherDecrypt, B: Batch>(
 }
 
 // The same of the type for a key. With the size as a parameter, the type is proved once for all sizes.
-fn type_agrees<K: AesVariant, B: Batch>(key: &K::Key, encrypted: &B, decrypted: &B) -> bool {
+fn type_agrees<K: KeySize, B: Batch>(key: &K::Key, encrypted: &B, decrypted: &B) -> bool {
     are_right(&AesCipher::<K, BothWays>::new(key), encrypted, decrypted)
 }
 

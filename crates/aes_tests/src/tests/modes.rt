@@ -7,11 +7,10 @@ use crate::cbc::{cbc_decrypt, cbc_encrypt, cbc_there_and_back};
 use crate::chaining_value::{chaining_value, chaining_value_under};
 use aes::expansion::expand_128;
 use aes::{Aes128, AesCipher};
-use aes_cipher::aes::{Bits128, Bits192, Bits256, BothWays};
+use aes_cipher::aes::{Bits128, Bits192, Bits256, BothWays, KeySize};
 use aes_cipher::blocks::{block_of_number, blocks_equal};
 use aes_cipher::cipher::{BlockCipherDecrypt, BlockCipherEncrypt, KeyInit};
 use aes_rounds::rounds::Aes;
-use aes_soft::soft::key_sizes::AesVariant;
 
 // The initialization vector of SP 800-38A, F.2.
 const IV: u128 = 0x000102030405060708090a0b0c0d0e0f;
@@ -29,7 +28,7 @@ fn chains<C: BlockCipherEncrypt + BlockCipherDecrypt>(cipher: &C, encrypted: &[u
 }
 
 // Whether the type of `aes` for a size chains them. With the size as a parameter, it is proved once for all sizes.
-fn chains_under<K: AesVariant>(key: &K::Key, encrypted: &[u128; 4]) -> bool {
+fn chains_under<K: KeySize>(key: &K::Key, encrypted: &[u128; 4]) -> bool {
     chains(&AesCipher::<K, BothWays>::new(key), encrypted)
 }
 

@@ -5,7 +5,6 @@ use aes::AesCipher;
 use aes_cipher::aes::{Bits128, Bits192, Bits256, BothWays, KeySize};
 use aes_cipher::cipher::{AlgorithmName, Decrypt, Encrypt, KeyInit, KeySizeUser};
 use aes_permute::keys::{OneWay, TwoWays};
-use aes_soft::soft::key_sizes::AesVariant;
 use std::fmt;
 use std::marker::PhantomData;
 use std::test::Fail;
@@ -52,7 +51,7 @@ where
 }
 
 // The three types of `aes` for a size. With the size as a parameter, they are proved once for all sizes.
-fn planes_are_named<K: AesVariant>(rt: &HostRuntime, key: &[u8], name: &str) -> Result<bool, Fail> {
+fn planes_are_named<K: KeySize>(rt: &HostRuntime, key: &[u8], name: &str) -> Result<bool, Fail> {
     are_named::<AesCipher<K, BothWays>, AesCipher<K, Encrypt>, AesCipher<K, Decrypt>>(rt, key, name)
 }
 

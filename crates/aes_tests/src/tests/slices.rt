@@ -11,7 +11,6 @@ use aes_cipher::cipher::{
 };
 use aes_permute::keys;
 use aes_planes::soft::sbox::Layers;
-use aes_soft::soft::key_sizes::AesVariant;
 
 // A block that no call has written.
 const UNTOUCHED: Block = [0xee; 16];
@@ -73,7 +72,7 @@ fn processes_slices_as_single_blocks(rt: HostRuntime) {
 }
 
 // Whether slices of 0 to 17 blocks become the same by the counted calls of the three types for a key, and come back.
-fn counts_slices<K: AesVariant>(key: &K::Key) -> bool {
+fn counts_slices<K: KeySize>(key: &K::Key) -> bool {
     let both = AesCipher::<K, BothWays>::new(key);
     let encrypts = AesCipher::<K, Encrypt>::new(key);
     let decrypts = AesCipher::<K, Decrypt>::new(key);
@@ -121,7 +120,7 @@ fn brings_back_a_hundred<C: BlockCipherEncrypt + BlockCipherDecrypt>(cipher: &C)
 }
 
 // The type of `aes` for both directions, with the size as a parameter.
-fn planes_bring_back<K: AesVariant>(key: &K::Key) -> bool {
+fn planes_bring_back<K: KeySize>(key: &K::Key) -> bool {
     brings_back_a_hundred(&AesCipher::<K, BothWays>::new(key))
 }
 

@@ -8,7 +8,6 @@ use aes::{AesCipher, Block, hardware_accelerated};
 use aes_cipher::aes::{Bits128, Bits192, Bits256, BothWays, KeySize};
 use aes_cipher::cipher::{BlockCipherDecrypt, BlockCipherEncrypt, Decrypt, Encrypt, KeyInit};
 use aes_permute::keys;
-use aes_soft::soft::key_sizes::AesVariant;
 
 // A key, a block, and the block encrypted.
 type Example<'a> = (&'a [u8], u128, u128);
@@ -59,7 +58,7 @@ where
 }
 
 // Whether the three types of `aes` for a size do. With the size as a parameter, they are proved once for all sizes.
-fn planes_hold<K: AesVariant>(example: Example) -> bool {
+fn planes_hold<K: KeySize>(example: Example) -> bool {
     hold::<AesCipher<K, BothWays>, AesCipher<K, Encrypt>, AesCipher<K, Decrypt>>(example)
 }
 
@@ -122,11 +121,7 @@ where
 }
 
 // Whether the types of `aes` that work in one direction do, with the size as a parameter.
-fn planes_encrypt_four<K: AesVariant>(
-    key: &[u8],
-    plain: [Block; 4],
-    encrypted: [Block; 4],
-) -> bool {
+fn planes_encrypt_four<K: KeySize>(key: &[u8], plain: [Block; 4], encrypted: [Block; 4]) -> bool {
     encrypts_four::<AesCipher<K, Encrypt>, AesCipher<K, Decrypt>>(key, plain, encrypted)
 }
 

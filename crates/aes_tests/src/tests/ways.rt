@@ -12,7 +12,6 @@ use aes_cipher::cipher::{
 };
 use aes_permute::keys;
 use aes_rounds::rounds::{Aes, AesDec, AesEnc};
-use aes_soft::soft::key_sizes::AesVariant;
 
 /// A cipher that processes blocks in the direction D.
 pub trait OneWay<D: Direction> {
@@ -158,7 +157,7 @@ fn try_planes<T: Trial>(trial: &T) -> [Passed; 3] {
 }
 
 // The three types for a size. With the size as a parameter, they are proved once for all sizes.
-fn planes_pass<T: Trial, K: AesVariant>(trial: &T, key: &[u8]) -> [bool; 4] {
+fn planes_pass<T: Trial, K: KeySize>(trial: &T, key: &[u8]) -> [bool; 4] {
     pass_under::<T, AesCipher<K, BothWays>, AesCipher<K, Encrypt>, AesCipher<K, Decrypt>>(
         trial, key,
     )

@@ -4,12 +4,11 @@ ghost use Rattle.std.specs.Prelude.{◌≡◌};
 
 use crate::blocks::different_blocks;
 use crate::keys::{BY_128, BY_192, BY_256, KEY_128, KEY_192, KEY_256, PLAIN};
-use aes_cipher::aes::{Bits128, Bits192, Bits256};
 use aes_cipher::cipher::{BlockCipherDecBackend, BlockCipherEncBackend, ParBlocksSizeUser};
 use aes_planes::soft::sbox::Layers;
 use aes_planes::soft::word::Block;
-use aes_soft::soft::blocks::Backend;
-use aes_soft::soft::key_sizes::{AesVariant, WipedKeys};
+use aes_soft::soft::blocks::{Aes128Backend, Aes192Backend, Aes256Backend};
+use aes_soft::soft::full;
 
 // Eight different blocks, in slot 5 that of FIPS 197, appendix C.
 fn batch() -> [Block; 8] {
@@ -62,17 +61,14 @@ where
     there && [back, single_back] == [batch(), batch()]
 }
 
-// The same of the backend of a key.
-fn processes_batches_under<K: AesVariant>(key: &K::Key, slot5: u128) -> bool {
-    let mut round_keys = K::Wiped::zeroed();
-    K::refill(&mut round_keys, key, &mut Layers::new());
-    processes_batches(&Backend::<K, _>::new(round_keys.lend()), slot5)
-}
-
 // FIPS 197, appendices C.1 to C.3.
 #[test]
 fn processes_batches_of_eight(rt: HostRuntime) {
-    assert!(rt; processes_batches_under::<Bits128>(&KEY_128, BY_128));
-    assert!(rt; processes_batches_under::<Bits192>(&KEY_192, BY_192));
-    assert!(rt; processes_batches_under::<Bits256>(&KEY_256, BY_256));
+    let mut layers = Layers::new();
+    let short = full::aes128::key_schedule(&KEY_128, &mut layers);
+    let middle = full::aes192::key_schedule(&KEY_192, &mut layers);
+    let long = full::aes256::key_schedule(&KEY_256, &mut layers);
+    assert!(rt; processes_batches(&Aes128Backend::new(&short), BY_128));
+    assert!(rt; processes_batches(&Aes192Backend::new(&middle), BY_192));
+    assert!(rt; processes_batches(&Aes256Backend::new(&long), BY_256));
 }

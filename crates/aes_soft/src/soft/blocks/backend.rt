@@ -1,15 +1,16 @@
 //! Backends: round keys that are lent for a while, with what a batch needs.
-ghost use Rattle.std.specs.Prelude.{◌≡◌, ℕ, List};
+ghost use Rattle.std.specs.Prelude.{◌≡◌, ℕ, List, length, map};
 ghost use Rattle.aes_planes.specs.Fips197 as fips;
+ghost use Rattle.aes_planes.specs.Words.{word_bits};
 ghost use Rattle.aes_planes.proofs.Standard.CipherLaws.{two_keys};
+ghost use Rattle.aes_soft.specs.Stored.{plane_key, IsFullSchedule};
 
 mod decrypt;
 mod encrypt;
 mod wide;
 
-use super::slices::{process_batch, process_block};
-use crate::soft::key_sizes::{AesVariant, BatchWord, has_round_keys};
-use aes_cipher::aes::{Bits128, Bits192, Bits256};
+use super::slices::{process_batch_under, process_block};
+use crate::soft::key_sizes::{BatchWord, reads_key};
 use aes_cipher::cipher::{
     BatchOfEight, BatchSizeUser, BlockCipherDecBackend, BlockCipherEncBackend, Decrypt, Encrypt,
     RoundKeysUser,
@@ -22,39 +23,51 @@ use std::marker::Model;
 use wide::{HoldsWide, LentWide, OwnedWide};
 
 /// The backend of a key of 16 bytes.
-pub type Aes128Backend<'a> = Backend<'a, Bits128, OwnedWide<Bits128>>;
+pub type Aes128Backend<'a> = Backend<'a, OwnedWide<88>>;
 
 /// The backend of a key of 24 bytes.
-pub type Aes192Backend<'a> = Backend<'a, Bits192, OwnedWide<Bits192>>;
+pub type Aes192Backend<'a> = Backend<'a, OwnedWide<104>>;
 
 /// The backend of a key of 32 bytes.
-pub type Aes256Backend<'a> = Backend<'a, Bits256, OwnedWide<Bits256>>;
+pub type Aes256Backend<'a> = Backend<'a, OwnedWide<120>>;
 
 /// Encrypts and decrypts under round keys that it borrows. It holds the same on the words of a batch, or borrows them.
 /// Contracts see a value as its key.
-#[derive(Drop)]
-pub struct Backend<'a, K: AesVariant, H: HoldsWide<K>> {
-    round_keys: &'a K::RoundKeys,
+pub struct Backend<'a, H: HoldsWide> {
+    round_keys: &'a [u16],
     wide: H,
 }
 
-impl<'a, K: AesVariant, H: HoldsWide<K>> Model for Backend<'a, K, H> {
-    ghost Value = { List ℕ };
-
-    ghost view = { λ backend. K.RoundKeys.key backend.round_keys.now };
-
-    ghost invariant = { λ backend.
-        K.RoundKeys.AreKeyed backend.round_keys.now
-        × K.WideKeys.AreKeyed (H.wide backend.wide)
-        × (K.WideKeys.key (H.wide backend.wide) ≡ K.RoundKeys.key backend.round_keys.now) };
+impl<H: HoldsWide> Drop for Backend<'_, H> {
+    #[inline(always)]
+    fn drop(self) {
+        let Backend {
+            round_keys: _,
+            wide: _,
+        } = self;
+    }
 }
 
-impl<'a, K: AesVariant> Backend<'a, K, OwnedWide<K>> {
+impl<'a, H: HoldsWide> Model for Backend<'a, H> {
+    ghost Value = { List ℕ };
+
+    ghost view = { λ backend. let n = length backend.round_keys.now in
+        plane_key n 1 (map (word_bits 16) backend.round_keys.now) };
+
+    ghost invariant = { λ backend. let n = length backend.round_keys.now in
+        let wide = map (word_bits 128) (H.words backend.wide) in
+        IsFullSchedule n 1 (map (word_bits 16) backend.round_keys.now)
+        × (length (H.words backend.wide) ≡ n)
+        × IsFullSchedule n 8 wide
+        × (plane_key n 8 wide ≡ plane_key n 1 (map (word_bits 16) backend.round_keys.now)) };
+}
+
+impl<'a, const N: usize> Backend<'a, OwnedWide<N>> {
     /// Makes the backend of stored round keys. It holds a widened copy, and wipes it when it is dropped.
     #[inline(always)]
-    pub fn new(round_keys: &'a K::RoundKeys) -> Backend<'a, K, OwnedWide<K>>
-        requires is_schedule { K.RoundKeys.AreKeyed round_keys.now }
-        ensures { result ≡ K.RoundKeys.key round_keys.now }
+    pub fn new(round_keys: &'a [u16; N]) -> Backend<'a, OwnedWide<N>>
+        requires is_schedule { IsFullSchedule N 1 (map (word_bits 16) round_keys.now) }
+        ensures { result ≡ plane_key N 1 (map (word_bits 16) round_keys.now) }
     {
         Backend {
             round_keys,
@@ -63,14 +76,16 @@ impl<'a, K: AesVariant> Backend<'a, K, OwnedWide<K>> {
     }
 }
 
-impl<'a, K: AesVariant> Backend<'a, K, LentWide<'a, K>> {
+impl<'a> Backend<'a, LentWide<'a>> {
     // The backend of stored round keys and of the same, widened, both lent.
     #[inline(always)]
-    fn lent(round_keys: &'a K::RoundKeys, wide: &'a K::WideKeys) -> Backend<'a, K, LentWide<'a, K>>
-        requires is_schedule { K.RoundKeys.AreKeyed round_keys.now }
-        requires is_wide { K.WideKeys.AreKeyed wide.now }
-        requires same_key { K.WideKeys.key wide.now ≡ K.RoundKeys.key round_keys.now }
-        ensures { result ≡ K.RoundKeys.key round_keys.now }
+    fn lent(round_keys: &'a [u16], wide: &'a [BatchWord]) -> Backend<'a, LentWide<'a>>
+        requires is_schedule { IsFullSchedule (length round_keys.now) 1 (map (word_bits 16) round_keys.now) }
+        requires same_length { length wide.now ≡ length round_keys.now }
+        requires is_wide { IsFullSchedule (length round_keys.now) 8 (map (word_bits 128) wide.now) }
+        requires same_key { let n = length round_keys.now in
+            plane_key n 8 (map (word_bits 128) wide.now) ≡ plane_key n 1 (map (word_bits 16) round_keys.now) }
+        ensures { result ≡ plane_key (length round_keys.now) 1 (map (word_bits 16) round_keys.now) }
     {
         Backend {
             round_keys,
@@ -79,48 +94,40 @@ impl<'a, K: AesVariant> Backend<'a, K, LentWide<'a, K>> {
     }
 }
 
-impl<K: AesVariant, H: HoldsWide<K>> RoundKeysUser for Backend<'_, K, H> {
+impl<H: HoldsWide> RoundKeysUser for Backend<'_, H> {
     ghost round_keys = { fips.key_expansion };
 
     fn has_round_keys(&self) {
-        has_round_keys::<K>(self.round_keys);
+        reads_key(self.round_keys);
     }
 
     ghost two_round_keys = { two_keys };
 }
 
-impl<K: AesVariant, H: HoldsWide<K>> BatchSizeUser for Backend<'_, K, H> {
+impl<H: HoldsWide> BatchSizeUser for Backend<'_, H> {
     type Par = BatchOfEight;
 }
 
-impl<K: AesVariant, H: HoldsWide<K>> BlockCipherEncBackend for Backend<'_, K, H> {
+impl<H: HoldsWide> BlockCipherEncBackend for Backend<'_, H> {
     #[inline(always)]
     fn encrypt_block(&self, block: &mut Block) {
-        process_block::<K, Encrypt>(self.round_keys, block);
+        process_block::<Encrypt>(self.round_keys, block);
     }
 
     #[inline(always)]
     fn encrypt_par_blocks(&self, blocks: &mut [Block]) {
-        process_batch::<BatchWord, K::WideKeys, Encrypt>(
-            self.wide.lend(),
-            blocks,
-            &mut Layers::new(),
-        );
+        process_batch_under::<BatchWord, Encrypt>(self.wide.lend(), blocks, &mut Layers::new());
     }
 }
 
-impl<K: AesVariant, H: HoldsWide<K>> BlockCipherDecBackend for Backend<'_, K, H> {
+impl<H: HoldsWide> BlockCipherDecBackend for Backend<'_, H> {
     #[inline(always)]
     fn decrypt_block(&self, block: &mut Block) {
-        process_block::<K, Decrypt>(self.round_keys, block);
+        process_block::<Decrypt>(self.round_keys, block);
     }
 
     #[inline(always)]
     fn decrypt_par_blocks(&self, blocks: &mut [Block]) {
-        process_batch::<BatchWord, K::WideKeys, Decrypt>(
-            self.wide.lend(),
-            blocks,
-            &mut Layers::new(),
-        );
+        process_batch_under::<BatchWord, Decrypt>(self.wide.lend(), blocks, &mut Layers::new());
     }
 }

@@ -2,11 +2,13 @@
 ghost use Rattle.std.specs.Prelude.{◌≡◌, ◌+◌, ◌*◌, ◌/◌, ◌%◌, ◌≤◌, length, map};
 ghost use Rattle.aes_planes.specs.Each.{Each};
 ghost use Rattle.aes_planes.specs.Fips197 as fips;
+ghost use Rattle.aes_planes.specs.Words.{word_bits};
 ghost use Rattle.aes_soft.specs.Batches.{layers_for};
-ghost use Rattle.aes_soft.specs.Stored.{full, key_of, rounds_of, size_of, IsKeyed};
+ghost use Rattle.aes_soft.specs.Stored.{full, key_of, plane_key, rounds_of, size_of, IsFullSchedule, IsKeyed};
 
 use crate::soft::ciphers::{FullCipher, process_full, process_full_apart};
-use crate::soft::key_sizes::{AesVariant, BatchWord, RoundKeyWords};
+use crate::soft::full::put_wide_first;
+use crate::soft::key_sizes::BatchWord;
 use aes_cipher::zeroize::Held;
 use aes_planes::soft::sbox::Layers;
 use aes_planes::soft::word::{Batch, Block, Word};
@@ -92,62 +94,32 @@ pub fn process_batches_under<W: Word, D: FullCipher>(
     }
 }
 
-// Processes each block of one batch in its place.
+/// Processes each block of a slice in place, under stored round keys: whole batches first, then one block after the
+/// other.
 #[inline(always)]
-pub(super) fn process_batch<W: Word, R: RoundKeyWords<W>, D: FullCipher>(
-    round_keys: &R,
-    blocks: &mut [Block],
-    layers: &mut Layers,
-)
-    requires is_schedule { R.AreKeyed round_keys.now }
-    requires one_batch { length blocks.old ≡ W.Blocks.LEN }
-    ensures blocks { Each (D.processed (fips.key_expansion (R.key round_keys.now))) blocks.old blocks.new }
-    ensures layers { layers.new ≡ layers.old + R.ROUNDS }
-{
-    process_batch_under::<W, D>(round_keys.words(), blocks, layers);
-}
-
-// Processes the blocks of a slice, batch by batch.
-#[inline(always)]
-fn process_batches<W: Word, R: RoundKeyWords<W>, D: FullCipher>(
-    round_keys: &R,
-    blocks: &mut [Block],
-    layers: &mut Layers,
-)
-    requires is_schedule { R.AreKeyed round_keys.now }
-    requires whole_batches { length blocks.old % W.Blocks.LEN ≡ 0 }
-    ensures blocks { Each (D.processed (fips.key_expansion (R.key round_keys.now))) blocks.old blocks.new }
-    ensures layers { layers.new ≡ layers.old + R.ROUNDS * (length blocks.old / W.Blocks.LEN) }
-{
-    process_batches_under::<W, D>(round_keys.words(), blocks, layers);
-}
-
-/// Processes each block of a slice in place: whole batches first, then one block after the other.
-pub fn process_blocks<K: AesVariant, D: FullCipher>(
-    round_keys: &K::RoundKeys,
-    blocks: &mut [Block],
-    layers: &mut Layers,
-)
-    requires is_schedule { K.RoundKeys.AreKeyed round_keys.now }
-    ensures blocks { let key = K.RoundKeys.key round_keys.now in
+pub fn process_blocks<D: FullCipher>(round_keys: &[u16], blocks: &mut [Block], layers: &mut Layers)
+    requires is_schedule { IsFullSchedule (length round_keys.now) 1 (map (word_bits 16) round_keys.now) }
+    ensures blocks { let key = plane_key (length round_keys.now) 1 (map (word_bits 16) round_keys.now) in
         Each (D.processed (fips.key_expansion key)) blocks.old blocks.new }
-    ensures layers { layers.new ≡ layers.old + layers_for K.RoundKeys.ROUNDS (length blocks.old) }
+    ensures layers { layers.new ≡ layers.old + layers_for (rounds_of (length round_keys.now)) (length blocks.old) }
 {
     let whole = blocks.len() - blocks.len() % <BatchWord as Word>::Blocks::LEN;
     if whole > 0 {
-        let mut wide = Held::<K::WideKeys>::zeroed();
-        K::put_wide(wide.words_mut(), round_keys);
-        process_batches::<BatchWord, K::WideKeys, D>(wide.words(), &mut blocks[..whole], layers);
-        wide.wipe();
+        let mut room = Held::<[BatchWord; 120]>::zeroed();
+        put_wide_first(room.words_mut(), round_keys);
+        let wide = &room.words()[..round_keys.len()];
+        process_batches_under::<BatchWord, D>(wide, &mut blocks[..whole], layers);
+        room.wipe();
     }
-    process_batches::<u16, K::RoundKeys, D>(round_keys, &mut blocks[whole..], layers);
+    process_batches_under::<u16, D>(round_keys, &mut blocks[whole..], layers);
 }
 
-/// Processes the block in place.
+/// Processes the block in place, under stored round keys.
 #[inline(always)]
-pub fn process_block<K: AesVariant, D: FullCipher>(round_keys: &K::RoundKeys, block: &mut Block)
-    requires is_schedule { K.RoundKeys.AreKeyed round_keys.now }
-    ensures { block.new ≡ D.processed (fips.key_expansion (K.RoundKeys.key round_keys.now)) block.old }
+pub fn process_block<D: FullCipher>(round_keys: &[u16], block: &mut Block)
+    requires is_schedule { IsFullSchedule (length round_keys.now) 1 (map (word_bits 16) round_keys.now) }
+    ensures { let key = plane_key (length round_keys.now) 1 (map (word_bits 16) round_keys.now) in
+        block.new ≡ D.processed (fips.key_expansion key) block.old }
 {
-    process_batch::<u16, K::RoundKeys, D>(round_keys, slice::from_mut(block), &mut Layers::new());
+    process_batch_under::<u16, D>(round_keys, slice::from_mut(block), &mut Layers::new());
 }

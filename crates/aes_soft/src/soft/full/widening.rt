@@ -1,30 +1,42 @@
 //! The round keys on `u16` as the round keys of any other word.
-ghost use Rattle.std.specs.Prelude.{◌≡◌, map};
+ghost use Rattle.std.specs.Prelude.{◌≡◌, length, map, take};
 ghost use Rattle.aes_planes.specs.Words.{word_bits};
-ghost use Rattle.aes_soft.specs.Stored.{full, key_of, rounds_of, size_of, IsFullSchedule};
+ghost use Rattle.aes_soft.specs.Stored.{plane_key, IsFullSchedule};
 
 use aes_planes::soft::word::Word;
 
-/// Writes stored round keys on `u16` to words of `W`, for the same key: each word by `broadcast`, so that every slot
-/// has the block of the one slot.
+/// Writes stored round keys on `u16` to as many words of `W`, for the same key: each word by `broadcast`, so that every
+/// slot has the block of the one slot.
 #[inline(always)]
-pub fn put_wide<W: Word, const N: usize>(wide: &mut [W; N], round_keys: &[u16; N])
-    requires is_stored { IsFullSchedule N 1 (map (word_bits 16) round_keys.now) }
-    ensures schedule { IsFullSchedule N W.BLOCKS (map W.bits wide.new) }
-    ensures key { key_of (size_of N) W.BLOCKS (full (rounds_of N)) (map W.bits wide.new)
-        ≡ key_of (size_of N) 1 (full (rounds_of N)) (map (word_bits 16) round_keys.now) }
+pub fn put_wide<W: Word>(wide: &mut [W], round_keys: &[u16])
+    requires same_length { length wide.old ≡ length round_keys.now }
+    requires is_stored { IsFullSchedule (length round_keys.now) 1 (map (word_bits 16) round_keys.now) }
+    ensures schedule { IsFullSchedule (length round_keys.now) W.BLOCKS (map W.bits wide.new) }
+    ensures key { let n = length round_keys.now in
+        plane_key n W.BLOCKS (map W.bits wide.new) ≡ plane_key n 1 (map (word_bits 16) round_keys.now) }
+    ensures same_length { length wide.new ≡ length round_keys.now }
 {
-    'widen: for i in 0..N {
+    'widen: for i in 0..round_keys.len() {
         wide[i] = W::broadcast(round_keys[i]);
     }
+}
+
+// Does the same in room for the round keys of the largest key: in as many of its first words.
+#[inline(always)]
+pub(crate) fn put_wide_first<W: Word>(room: &mut [W; 120], round_keys: &[u16])
+    requires is_stored { IsFullSchedule (length round_keys.now) 1 (map (word_bits 16) round_keys.now) }
+    ensures schedule { let n = length round_keys.now in IsFullSchedule n W.BLOCKS (map W.bits (take n room.new)) }
+    ensures key { let n = length round_keys.now in
+        plane_key n W.BLOCKS (map W.bits (take n room.new)) ≡ plane_key n 1 (map (word_bits 16) round_keys.now) }
+{
+    put_wide(&mut room[..round_keys.len()], round_keys);
 }
 
 /// The stored round keys of a key on `u16` as those of the same key on `W`: see `put_wide`.
 pub fn widen<W: Word, const N: usize>(round_keys: &[u16; N]) -> [W; N]
     requires is_stored { IsFullSchedule N 1 (map (word_bits 16) round_keys.now) }
     ensures schedule { IsFullSchedule N W.BLOCKS (map W.bits result) }
-    ensures key { key_of (size_of N) W.BLOCKS (full (rounds_of N)) (map W.bits result)
-        ≡ key_of (size_of N) 1 (full (rounds_of N)) (map (word_bits 16) round_keys.now) }
+    ensures key { plane_key N W.BLOCKS (map W.bits result) ≡ plane_key N 1 (map (word_bits 16) round_keys.now) }
 {
     let mut wide = [W::zero(); N];
     put_wide(&mut wide, round_keys);

@@ -1,23 +1,25 @@
 //! Closures that are lent a backend that decrypts.
+ghost use Rattle.std.specs.Prelude.{length, map};
 ghost use Rattle.aes_planes.specs.Fips197 as fips;
+ghost use Rattle.aes_planes.specs.Words.{word_bits};
+ghost use Rattle.aes_soft.specs.Stored.{plane_key, IsFullSchedule};
 
 use super::Backend;
-use crate::soft::key_sizes::{AesVariant, RoundKeyWords};
+use crate::soft::full::put_wide_first;
+use crate::soft::key_sizes::BatchWord;
 use aes_cipher::cipher::BlockCipherDecClosure;
 use aes_cipher::zeroize::Held;
 
 /// Calls the closure once, with a backend of stored round keys. They are widened for the call, and wiped in place after
 /// it.
 #[inline(always)]
-pub fn decrypt_with_backend<K: AesVariant, F: BlockCipherDecClosure>(
-    round_keys: &K::RoundKeys,
-    f: &mut F,
-)
-    requires is_schedule { K.RoundKeys.AreKeyed round_keys.now }
-    ensures { F.did f.old (fips.key_expansion (K.RoundKeys.key round_keys.now)) f.new }
+pub fn decrypt_with_backend<F: BlockCipherDecClosure>(round_keys: &[u16], f: &mut F)
+    requires is_schedule { IsFullSchedule (length round_keys.now) 1 (map (word_bits 16) round_keys.now) }
+    ensures { let key = plane_key (length round_keys.now) 1 (map (word_bits 16) round_keys.now) in
+        F.did f.old (fips.key_expansion key) f.new }
 {
-    let mut wide = Held::<K::WideKeys>::zeroed();
-    K::put_wide(wide.words_mut(), round_keys);
-    f.call(&Backend::<K, _>::lent(round_keys, wide.words()));
-    wide.wipe();
+    let mut room = Held::<[BatchWord; 120]>::zeroed();
+    put_wide_first(room.words_mut(), round_keys);
+    f.call(&Backend::lent(round_keys, &room.words()[..round_keys.len()]));
+    room.wipe();
 }

@@ -1,41 +1,55 @@
 //! Widened round keys that a backend holds: its own, or lent.
-ghost use Rattle.std.specs.Prelude.{◌≡◌};
+ghost use Rattle.std.specs.Prelude.{◌≡◌, ℕ, List, map};
+ghost use Rattle.aes_planes.specs.Words.{word_bits};
+ghost use Rattle.aes_soft.specs.Stored.{plane_key, IsFullSchedule};
 
-use crate::soft::key_sizes::{AesVariant, RoundKeyWords};
+use crate::soft::full::put_wide;
+use crate::soft::key_sizes::BatchWord;
 use aes_cipher::zeroize::Held;
 
-/// What holds round keys on the words of a batch.
-pub trait HoldsWide<K: AesVariant>: Drop {
-    /// The round keys.
-    ghost wide: { Self → K.WideKeys };
+// Widens stored round keys in place.
+#[inline(always)]
+fn fill<const N: usize>(wide: &mut [BatchWord; N], round_keys: &[u16; N])
+    requires is_schedule { IsFullSchedule N 1 (map (word_bits 16) round_keys.now) }
+    ensures schedule { IsFullSchedule N 8 (map (word_bits 128) wide.new) }
+    ensures key { plane_key N 8 (map (word_bits 128) wide.new) ≡ plane_key N 1 (map (word_bits 16) round_keys.now) }
+{
+    put_wide(wide, round_keys);
+}
 
-    /// The round keys, lent.
-    fn lend(&self) -> &K::WideKeys
-        ensures { result.now ≡ wide self.now };
+/// What holds round keys on the words of a batch.
+pub trait HoldsWide: Drop {
+    /// The words.
+    ghost words: { Self → List ℕ };
+
+    /// The words, lent.
+    fn lend(&self) -> &[BatchWord]
+        ensures { result.now ≡ words self.now };
 }
 
 /// Widened round keys that are wiped when they are dropped.
-pub struct OwnedWide<K: AesVariant> {
-    keys: Held<K::WideKeys>,
+pub struct OwnedWide<const N: usize> {
+    keys: Held<[BatchWord; N]>,
 }
 
-impl<K: AesVariant> OwnedWide<K> {
+impl<const N: usize> OwnedWide<N> {
     // The stored round keys, widened.
     #[inline(always)]
-    pub(super) fn new(round_keys: &K::RoundKeys) -> OwnedWide<K>
-        requires is_schedule { K.RoundKeys.AreKeyed round_keys.now }
-        ensures schedule { K.WideKeys.AreKeyed result.keys }
-        ensures key { K.WideKeys.key result.keys ≡ K.RoundKeys.key round_keys.now }
+    pub(super) fn new(round_keys: &[u16; N]) -> OwnedWide<N>
+        requires is_schedule { IsFullSchedule N 1 (map (word_bits 16) round_keys.now) }
+        ensures schedule { IsFullSchedule N 8 (map (word_bits 128) result.keys) }
+        ensures key { plane_key N 8 (map (word_bits 128) result.keys)
+            ≡ plane_key N 1 (map (word_bits 16) round_keys.now) }
     {
         let mut wide = OwnedWide {
             keys: Held::zeroed(),
         };
-        K::put_wide(wide.keys.words_mut(), round_keys);
+        fill(wide.keys.words_mut(), round_keys);
         wide
     }
 }
 
-impl<K: AesVariant> Drop for OwnedWide<K> {
+impl<const N: usize> Drop for OwnedWide<N> {
     #[inline(always)]
     fn drop(mut self) {
         self.keys.wipe();
@@ -43,26 +57,32 @@ impl<K: AesVariant> Drop for OwnedWide<K> {
     }
 }
 
-impl<K: AesVariant> HoldsWide<K> for OwnedWide<K> {
-    ghost wide = { λ owned. owned.keys };
+impl<const N: usize> HoldsWide for OwnedWide<N> {
+    ghost words = { λ owned. owned.keys };
 
     #[inline(always)]
-    fn lend(&self) -> &K::WideKeys {
+    fn lend(&self) -> &[BatchWord] {
         self.keys.words()
     }
 }
 
 /// Widened round keys that stay with their owner, who wipes them.
-#[derive(Drop)]
-pub struct LentWide<'a, K: AesVariant> {
-    pub(super) keys: &'a K::WideKeys,
+pub struct LentWide<'a> {
+    pub(super) keys: &'a [BatchWord],
 }
 
-impl<'a, K: AesVariant> HoldsWide<K> for LentWide<'a, K> {
-    ghost wide = { λ lent. lent.keys.now };
+impl Drop for LentWide<'_> {
+    #[inline(always)]
+    fn drop(self) {
+        let LentWide { keys: _ } = self;
+    }
+}
+
+impl HoldsWide for LentWide<'_> {
+    ghost words = { λ lent. lent.keys.now };
 
     #[inline(always)]
-    fn lend(&self) -> &K::WideKeys {
+    fn lend(&self) -> &[BatchWord] {
         self.keys
     }
 }

@@ -1,7 +1,9 @@
 -- What is left to show of `soft::blocks::slices::process_blocks`.
-use Rattle.std.proofs.Common.{◌≡◌, ℕ, ◌-◌, ◌%◌, List, length, map, take, refl, ap, ◌∙◌, arith}
+use Rattle.std.proofs.Common.{rules, ◌≡◌, ℕ, ◌-◌, ◌%◌, List, length, map, take, refl, ap, ◌∙◌, arith}
 use Rattle.aes_cipher.proofs.SliceRuns.{finished, end_finished}
 use Rattle.aes_planes.specs.Fips197.{key_expansion}
+use Rattle.aes_planes.specs.Words.{word_bits}
+use Rattle.aes_soft.specs.Stored.{plane_key}
 use Rattle.aes_soft.proofs.Slices.{front_finished, none_finished}
 use Rattle.aes_soft.proofs.soft.blocks.slices.process_blocks.Goals as goal
 use Rattle.aes_soft.proofs.soft.blocks.slices.process_blocks.Goals.{then-whole-gt0, else-whole-gt0}
@@ -9,15 +11,14 @@ use Rattle.aes_soft.proofs.soft.blocks.slices.process_blocks.Goals.{then-whole-g
 pub returns-clause-blocks : goal.returns-clause-blocks
 returns-clause-blocks g c =
     let f : List ℕ → List ℕ = g.D.Direction.processed
-    (key_expansion (g.K.RoundKeys.RoundKeyWords.key c.args.round_keys.now)) in
+    (key_expansion (plane_key (length c.args.round_keys.now) 1 (map (word_bits 16) c.args.round_keys.now))) in
     let n : ℕ = length c.args.blocks.now in
     let whole : ℕ = n - n % c.LEN.result in
     let batches : finished f whole c.if-whole-gt0.blocks ≡ map f c.args.blocks.now = elim c.if-whole-gt0.branch [
       | then-whole-gt0 w ↦
-          let key = ap g.K.WideKeys.RoundKeyWords.key w.words.ensures ∙ w.put_wide.ensures.key in
           ap (finished f whole) w.blocks-is ∙ front_finished f whole c.args.blocks.now _ (omega arith)
-          (w.process_batches.ensures.blocks
-          ∙ ap (λ k. map (g.D.Direction.processed (key_expansion k)) (take whole c.args.blocks.now)) key)
+          (w.process_batches_under.ensures.blocks
+          ∙ ap (λ k. map (g.D.Direction.processed (key_expansion k)) (take whole c.args.blocks.now)) (search rules))
       | else-whole-gt0 w ↦ ap (finished f whole) w.blocks-is ∙ none_finished f whole c.args.blocks.now (omega arith)
     ] in
-    end_finished f whole _ _ _ (omega arith) refl c.process_batches-2.ensures.blocks ∙ batches
+    end_finished f whole _ _ _ (omega arith) refl c.process_batches_under-2.ensures.blocks ∙ batches
