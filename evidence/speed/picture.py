@@ -7,11 +7,8 @@ import tables
 matplotlib.use("Agg")
 import matplotlib.pyplot as plt
 
-PANELS = [
-    ("encrypt", 4096, "4,096 blocks in one call"),
-    ("encrypt", 1, "one block, the key at hand"),
-    ("key and block", 1, "a key and one block"),
-]
+TITLES = ["4,096 blocks in one call", "one block, the key at hand", "a key and one block"]
+PANELS = [(*call, title) for call, title in zip(tables.PICTURED, TITLES)]
 # Each group, its colour on light ground and on dark.
 GROUPS = [
     ("hybrid", "Permutations and bit planes", "#0b7a75", "#2fb8ad"),
@@ -34,19 +31,11 @@ def is_ours(engine):
     return engine[1] == "this library"
 
 
-def is_shown(row):
-    """This library stands here once, as the C library by LLVM. Its other types, what the second compiler makes of it
-    (which serves to check the first), and peers' code without their calls around it are in results.csv."""
-    if row["peer"] == "this library":
-        return row["how"] == tables.BASE
-    return row["kind"] != "planted" and "alone" not in row["how"]
-
-
 def times_of(rows, key):
     """The least nanoseconds a block: {(kind, peer, how): {(call, blocks): time}}."""
     times = {}
     for r in rows:
-        if r["key_bytes"] == key and is_shown(r):
+        if r["key_bytes"] == key and tables.is_shown(r):
             of = times.setdefault((r["kind"], r["peer"], r["how"]), {})
             call = (r["call"], r["amount"])
             of[call] = min(r["nanoseconds"] / r["amount"], of.get(call, 1e30))

@@ -43,6 +43,8 @@ CONSTANT_TIME, WITH_INSTRUCTIONS = "no AES instructions", "all instructions"
 WITH_THEM = ("OpenSSL", "AES instructions")
 COLUMNS_PUBLISHED = [(CONSTANT_TIME, (it, "SSSE3 permutations")) for it in ("OpenSSL", "Botan", "Libgcrypt")]
 COLUMNS_PUBLISHED.append((WITH_INSTRUCTIONS, WITH_THEM))
+# The calls of the picture's panels.
+PICTURED = [("encrypt", 4096), ("encrypt", 1), ("key and block", 1)]
 # What is compared with peers that need no AES instructions and read no tables: calls and amounts.
 GROUPS = {
     "one block": [("encrypt", 1), ("decrypt", 1)],
@@ -53,6 +55,30 @@ GROUPS = {
     "counter mode, 4 KiB to 1 MiB": [("counter mode", 1 << n) for n in (12, 14, 16, 20)],
     "a key, both directions": [(BOTH_KEYS, 1)],
 }
+
+
+def is_shown(row):
+    """Whether the picture shows a row's engine. This library stands there once, as the C library by LLVM: not its other
+    types, what the second compiler makes of it (which serves to check the first), and peers' code without their calls
+    around it."""
+    if row["peer"] == "this library":
+        return row["how"] == BASE
+    return row["kind"] != "planted" and "alone" not in row["how"]
+
+
+def summary(rows, key=16):
+    """The rows that the table of docs/MEASUREMENTS.md and the picture are made from."""
+    engines = {("this library", BASE), *(peer for _, peer in COLUMNS_PUBLISHED)}
+    calls = {*PUBLISHED.values(), ("key for encryption", 1), ("key for decryption", 1)}
+    return [
+        r
+        for r in rows
+        if r["key_bytes"] == key
+        and (
+            (is_shown(r) and (r["call"], r["amount"]) in PICTURED)
+            or ((r["peer"], r["how"]) in engines and (r["call"], r["amount"]) in calls)
+        )
+    ]
 
 
 def place(row):
@@ -265,9 +291,9 @@ def published(where, rows, key=16):
     )
     measured = (
         f"Measured by `evidence/speed/run`: {conditions}, beside {', '.join(shown)}. "
-        "[results.csv](../evidence/speed/results.csv) has keys of 24 and 32 bytes, every count of blocks from 1 to 40, "
-        "counter mode from 16 bytes on, the types of Rattle, three more libraries, and the build of the second "
-        "compiler. That build is for checking: the gate compares what programs print in both builds. Nothing uses it "
+        "[summary.csv](../evidence/speed/summary.csv) has these times and those of the picture. Every time of the run "
+        "is in a release's `speed.csv`: keys of 24 and 32 bytes, every count of blocks from 1 to 40, counter mode from "
+        "16 bytes on, the types of Rattle, three more libraries, and the build of the second compiler. That build is for checking: the gate compares what programs print in both builds. Nothing uses it "
         "for speed, so the picture leaves it out."
     )
     heads = ["", "this library", "OpenSSL", "Botan", "Libgcrypt", "OpenSSL with AES instructions"]
