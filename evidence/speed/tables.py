@@ -279,7 +279,8 @@ def published(where, rows, key=16):
     one, many = (least_to_most(ratios, it, True) for it in ("1 block", "4,096"))
     with_them = least_to_most(ratios, "4,096", False)
     meaning = (
-        f"Without AES instructions, OpenSSL, Botan and Libgcrypt by SSSE3 take {one} times as long as this one for one block, and {many} "
+        f"Without AES instructions, OpenSSL, Botan and Libgcrypt by SSSE3 take {one} times as long as this one for one "
+        f"block, and {many} "
         f"times as long for 4,096; OpenSSL with AES instructions takes {with_them} times as long for 4,096, so take "
         "that if your processor has them and speed is all that you need."
     )
