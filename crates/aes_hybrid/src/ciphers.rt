@@ -139,7 +139,9 @@ impl<K: KeySize> Encrypts for Hybrid<OneWay<K, Encrypt>> {
     }
 
     fn encrypt_with_backend_for<F: BlockCipherEncClosure>(&self, blocks: usize, f: &mut F) {
-        LentKeys::new(keys_of::<OneWay<K, Encrypt>>(&self.lanes)).encrypt_with_backend_for(blocks, f);
+        LentKeys::new(keys_of::<OneWay<K, Encrypt>>(&self.lanes)).encrypt_with_backend_for(
+            blocks, f,
+        );
     }
 }
 
