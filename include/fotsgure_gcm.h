@@ -14,7 +14,9 @@
  *  - No object of more than PTRDIFF_MAX bytes.
  *  - No overlap: what a call writes overlaps nothing else that it is given. What a call only reads may overlap.
  *  - A struct fotsgure_gcm in order: fotsgure_gcm_set_key or fotsgure_gcm_wipe wrote it last, or it is a copy of such a
- *    struct, or all its bytes are 0.
+ *    struct, or all its bytes are 0. A struct fotsgure_gcm_message may hold anything but uninitialized bytes; what
+ *    calls say of a message is so if all its calls had the same key, the first was fotsgure_gcm_begin, and nothing else
+ *    wrote the struct.
  *  - No data race: during the call no other thread writes what it reads, or reads or writes what it writes.
  *  - FOTSGURE_GCM_STACK bytes of stack. On x86-64 a processor with SSE4.2 and SSSE3 (x86-64-v2); on 64-bit ARM any
  *    processor, little-endian. The library is for Linux.
@@ -29,7 +31,8 @@
  *
  * Copies and threads: a struct fotsgure_gcm may be copied and moved as bytes; every copy is as secret as the key and is
  * wiped by itself. Any number of threads may use one struct at the same time by the calls that take it as const. A
- * struct fotsgure_gcm_counter belongs to one thread at a time; a copy of it would give out the same nonces again. */
+ * struct fotsgure_gcm_counter belongs to one thread at a time; a copy of it would give out the same nonces again. So
+ * does a struct fotsgure_gcm_message: a copy of it would encrypt another text under the same nonce. */
 #ifndef FOTSGURE_GCM_H
 #define FOTSGURE_GCM_H
 
@@ -74,7 +77,8 @@ enum fotsgure_gcm_status {
     FOTSGURE_GCM_TAG_LENGTH = 4,   /* the tag doesn't have 16 bytes */
     FOTSGURE_GCM_TOO_LONG = 5,     /* more text or additional data than the standard allows */
     FOTSGURE_GCM_REFUSED = 6,      /* the tag isn't that of this key, nonce, additional data and text */
-    FOTSGURE_GCM_NONCES_END = 7    /* the counter of nonces has come to its end */
+    FOTSGURE_GCM_NONCES_END = 7,   /* the counter of nonces has come to its end */
+    FOTSGURE_GCM_OUT_OF_TURN = 8   /* the message is not where this call may come */
 };
 
 /* A key, prepared for messages. Read and write it by the calls below alone. */
@@ -90,9 +94,21 @@ struct fotsgure_gcm_counter {
     uint8_t next[FOTSGURE_GCM_NONCE];
 };
 
+/* A message of which some has come; as secret as the key. Read and write it by the calls below alone. */
+struct fotsgure_gcm_message {
+    uint64_t additional; /* bytes that have come */
+    uint64_t text;
+    uint64_t decrypted;
+    uint64_t phase; /* 0: no message; 1: additional data; 2: text encrypted; 3: text verified; 4: text decrypted */
+    uint8_t first[16];
+    uint8_t value[16];
+    uint8_t rest[16];
+};
+
 FOTSGURE_GCM_ASSERT(sizeof(enum fotsgure_gcm_status) == 4 && sizeof(size_t) == 8, "the ABI of the library: 64-bit");
 FOTSGURE_GCM_ASSERT(sizeof(struct fotsgure_gcm) == 1780, "no padding");
 FOTSGURE_GCM_ASSERT(sizeof(struct fotsgure_gcm_counter) == 12, "no padding");
+FOTSGURE_GCM_ASSERT(sizeof(struct fotsgure_gcm_message) == 80, "no padding");
 
 /* Returns FOTSGURE_GCM_VERSION of the header that the library was built with. */
 uint32_t fotsgure_gcm_version(void) FOTSGURE_GCM_NOEXCEPT;
@@ -136,6 +152,69 @@ FOTSGURE_GCM_CHECK enum fotsgure_gcm_status fotsgure_gcm_open(const struct fotsg
     uint8_t *FOTSGURE_GCM_ALONE text, size_t text_length,
     const uint8_t *tag, size_t tag_length) FOTSGURE_GCM_NOEXCEPT;
 
+/* A message in pieces of any size. However it is cut, texts and tag are those of fotsgure_gcm_seal and _open.
+ *
+ *   to encrypt: begin, additional .., encrypt .., finish
+ *   to decrypt: begin, additional .., verify .., accept, and then decrypt .., with the same cipher text once more
+ *
+ * A call that comes out of turn is refused and changes nothing, and so is one that would make the message longer than
+ * the standard allows. Nothing of a message is decrypted before its tag is found right, unless you ask for it by
+ * fotsgure_gcm_decrypt_unverified. A message may be left, and begun anew, at any time; wipe it when you are done. */
+
+/* Begins a message under a nonce, which has any length. *message may be uninitialized: none of it is read, and nothing
+ * of what it held is left. A refused call leaves it as it was.
+ * NONCE_LENGTH or NO_KEY; else DONE. */
+FOTSGURE_GCM_CHECK enum fotsgure_gcm_status fotsgure_gcm_begin(const struct fotsgure_gcm *gcm,
+    struct fotsgure_gcm_message *FOTSGURE_GCM_ALONE message,
+    const uint8_t *nonce, size_t nonce_length) FOTSGURE_GCM_NOEXCEPT;
+
+/* Takes a piece of the additional data, all of which comes before the text.
+ * NO_KEY, OUT_OF_TURN or TOO_LONG; else DONE. */
+FOTSGURE_GCM_CHECK enum fotsgure_gcm_status fotsgure_gcm_additional(const struct fotsgure_gcm *gcm,
+    struct fotsgure_gcm_message *FOTSGURE_GCM_ALONE message,
+    const uint8_t *additional, size_t additional_length) FOTSGURE_GCM_NOEXCEPT;
+
+/* Encrypts a piece of the text in place.
+ * NO_KEY, OUT_OF_TURN or TOO_LONG; else DONE. */
+FOTSGURE_GCM_CHECK enum fotsgure_gcm_status fotsgure_gcm_encrypt(const struct fotsgure_gcm *gcm,
+    struct fotsgure_gcm_message *FOTSGURE_GCM_ALONE message,
+    uint8_t *FOTSGURE_GCM_ALONE text, size_t text_length) FOTSGURE_GCM_NOEXCEPT;
+
+/* Ends a message that was encrypted: writes its tag, and overwrites *message with zeros.
+ * NO_KEY or OUT_OF_TURN; else DONE. */
+FOTSGURE_GCM_CHECK enum fotsgure_gcm_status fotsgure_gcm_finish(const struct fotsgure_gcm *gcm,
+    struct fotsgure_gcm_message *FOTSGURE_GCM_ALONE message, uint8_t tag[FOTSGURE_GCM_TAG]) FOTSGURE_GCM_NOEXCEPT;
+
+/* Takes a piece of an encrypted text whose tag is to be compared, and writes nothing to it.
+ * NO_KEY, OUT_OF_TURN or TOO_LONG; else DONE. */
+FOTSGURE_GCM_CHECK enum fotsgure_gcm_status fotsgure_gcm_verify(const struct fotsgure_gcm *gcm,
+    struct fotsgure_gcm_message *FOTSGURE_GCM_ALONE message,
+    const uint8_t *text, size_t text_length) FOTSGURE_GCM_NOEXCEPT;
+
+/* Compares the tag of what has come, without an early exit. If it is right, the encrypted text may come once more, to
+ * be decrypted. If it isn't, wipe the message, and use nothing of it.
+ * TAG_LENGTH, NO_KEY, OUT_OF_TURN or REFUSED; else DONE. */
+FOTSGURE_GCM_CHECK enum fotsgure_gcm_status fotsgure_gcm_accept(const struct fotsgure_gcm *gcm,
+    struct fotsgure_gcm_message *FOTSGURE_GCM_ALONE message,
+    const uint8_t *tag, size_t tag_length) FOTSGURE_GCM_NOEXCEPT;
+
+/* Decrypts a piece in place of the encrypted text whose tag was right: give the same text once more, from its beginning
+ * on, and no more of it. The library doesn't see whether it is the same.
+ * NO_KEY, OUT_OF_TURN or TOO_LONG; else DONE. */
+FOTSGURE_GCM_CHECK enum fotsgure_gcm_status fotsgure_gcm_decrypt(const struct fotsgure_gcm *gcm,
+    struct fotsgure_gcm_message *FOTSGURE_GCM_ALONE message,
+    uint8_t *FOTSGURE_GCM_ALONE text, size_t text_length) FOTSGURE_GCM_NOEXCEPT;
+
+/* Takes a piece as fotsgure_gcm_verify does, and decrypts it in place at once. WHAT IT GIVES OUT IS NOT AUTHENTICATED:
+ * anybody may have written it. Use nothing of it before fotsgure_gcm_accept returns DONE, and forget it if it doesn't.
+ * NO_KEY, OUT_OF_TURN or TOO_LONG; else DONE. */
+FOTSGURE_GCM_CHECK enum fotsgure_gcm_status fotsgure_gcm_decrypt_unverified(const struct fotsgure_gcm *gcm,
+    struct fotsgure_gcm_message *FOTSGURE_GCM_ALONE message,
+    uint8_t *FOTSGURE_GCM_ALONE text, size_t text_length) FOTSGURE_GCM_NOEXCEPT;
+
+/* Overwrites *message with zeros: there is no message then. It may be uninitialized. Copies are not wiped. */
+void fotsgure_gcm_wipe_message(struct fotsgure_gcm_message *message) FOTSGURE_GCM_NOEXCEPT;
+
 /* NULL with a length of 0: the library takes no NULL, so each call below hands on an address that is not NULL instead,
  * and that nothing reads or writes. Whoever calls the library without this header does the same. A pointer to a
  * function, and a name in parentheses, is the library's call itself. */
@@ -159,6 +238,20 @@ static inline uint8_t *fotsgure_gcm_not_null_mut(uint8_t *bytes) FOTSGURE_GCM_NO
     fotsgure_gcm_open(gcm, fotsgure_gcm_not_null(nonce), nonce_length, \
         fotsgure_gcm_not_null(additional), additional_length, fotsgure_gcm_not_null_mut(text), text_length, \
         fotsgure_gcm_not_null(tag), tag_length)
+#define fotsgure_gcm_begin(gcm, message, nonce, nonce_length) \
+    fotsgure_gcm_begin(gcm, message, fotsgure_gcm_not_null(nonce), nonce_length)
+#define fotsgure_gcm_additional(gcm, message, additional, additional_length) \
+    fotsgure_gcm_additional(gcm, message, fotsgure_gcm_not_null(additional), additional_length)
+#define fotsgure_gcm_encrypt(gcm, message, text, text_length) \
+    fotsgure_gcm_encrypt(gcm, message, fotsgure_gcm_not_null_mut(text), text_length)
+#define fotsgure_gcm_verify(gcm, message, text, text_length) \
+    fotsgure_gcm_verify(gcm, message, fotsgure_gcm_not_null(text), text_length)
+#define fotsgure_gcm_accept(gcm, message, tag, tag_length) \
+    fotsgure_gcm_accept(gcm, message, fotsgure_gcm_not_null(tag), tag_length)
+#define fotsgure_gcm_decrypt(gcm, message, text, text_length) \
+    fotsgure_gcm_decrypt(gcm, message, fotsgure_gcm_not_null_mut(text), text_length)
+#define fotsgure_gcm_decrypt_unverified(gcm, message, text, text_length) \
+    fotsgure_gcm_decrypt_unverified(gcm, message, fotsgure_gcm_not_null_mut(text), text_length)
 
 #ifdef __cplusplus
 }

@@ -1,6 +1,7 @@
 /* The library of GCM from C: test cases 1 to 4, 13 and 16 of the submission of GCM (McGrew and Viega, appendix B);
  * texts of 0 to 700 bytes there and back, and beside OpenSSL with WITH_OPENSSL; every status; that nothing is written
- * after a refusal; NULL with a length of 0; counted nonces; the wipe. The last line is `N passed, N failed`. */
+ * after a refusal; NULL with a length of 0; counted nonces; messages in pieces, cut in many ways and out of turn; the
+ * wipe. The last line is `N passed, N failed`. */
 #include <fotsgure_gcm.h>
 
 #ifdef WITH_OPENSSL
@@ -218,12 +219,126 @@ static void counted(void)
     fotsgure_gcm_wipe(&gcm);
 }
 
+static uint8_t plain[300], text[300], sealed[300], additional[300], tag[16], wanted[16];
+
+/* Whether a message in pieces of so many bytes is that of one call, and comes back in pieces, in both ways. */
+static int cut(const struct fotsgure_gcm *gcm, const uint8_t *nonce, size_t nonce_length, size_t piece, size_t extra,
+    size_t length)
+{
+    struct fotsgure_gcm_message message;
+    memcpy(sealed, plain, length);
+    memcpy(text, plain, length);
+    int right = fotsgure_gcm_seal(gcm, nonce, nonce_length, additional, extra, sealed, length, wanted) == 0;
+    for (int way = 0; way < 3; way++) {
+        size_t at, n;
+        if (way == 2)
+            memcpy(text, sealed, length);
+        right &= fotsgure_gcm_begin(gcm, &message, nonce, nonce_length) == FOTSGURE_GCM_DONE;
+        for (at = 0; at < extra; at += n) {
+            n = extra - at < piece ? extra - at : piece;
+            right &= fotsgure_gcm_additional(gcm, &message, additional + at, n) == FOTSGURE_GCM_DONE;
+        }
+        for (at = 0; at < length; at += n) {
+            n = length - at < piece ? length - at : piece;
+            right &= (way == 0 ? fotsgure_gcm_encrypt(gcm, &message, text + at, n)
+                    : way == 1 ? fotsgure_gcm_verify(gcm, &message, text + at, n)
+                               : fotsgure_gcm_decrypt_unverified(gcm, &message, text + at, n)) == FOTSGURE_GCM_DONE;
+        }
+        if (way == 0) {
+            right &= fotsgure_gcm_finish(gcm, &message, tag) == FOTSGURE_GCM_DONE && memcmp(tag, wanted, 16) == 0;
+            right &= memcmp(text, sealed, length) == 0 && all(&message, sizeof message, 0);
+            continue;
+        }
+        tag[length % 16] ^= 8;
+        right &= fotsgure_gcm_accept(gcm, &message, tag, 16) == FOTSGURE_GCM_REFUSED;
+        tag[length % 16] ^= 8;
+        right &= fotsgure_gcm_accept(gcm, &message, tag, 16) == FOTSGURE_GCM_DONE;
+        for (at = 0; way == 1 && at < length; at += n) {
+            n = length - at < piece ? length - at : piece;
+            right &= fotsgure_gcm_decrypt(gcm, &message, text + at, n) == FOTSGURE_GCM_DONE;
+        }
+        right &= memcmp(text, plain, length) == 0;
+        right &= way == 2 || fotsgure_gcm_decrypt(gcm, &message, text, 1) == FOTSGURE_GCM_TOO_LONG;
+    }
+    fotsgure_gcm_wipe_message(&message);
+    return right && all(&message, sizeof message, 0);
+}
+
+/* What each call on a message answers in each phase: additional, encrypt, finish, verify, accept, decrypt. */
+static void out_of_turn(const struct fotsgure_gcm *gcm)
+{
+    enum { DONE = FOTSGURE_GCM_DONE, OUT = FOTSGURE_GCM_OUT_OF_TURN, LONG = FOTSGURE_GCM_TOO_LONG,
+           REFUSED = FOTSGURE_GCM_REFUSED };
+    static const int answers[6][6] = {
+        {OUT, OUT, OUT, OUT, OUT, OUT}, {DONE, DONE, DONE, DONE, REFUSED, OUT}, {OUT, DONE, DONE, OUT, OUT, OUT},
+        {OUT, OUT, OUT, DONE, REFUSED, OUT}, {OUT, OUT, OUT, OUT, OUT, LONG}, {OUT, OUT, OUT, OUT, OUT, OUT},
+    };
+    const uint8_t nonce[12] = {1};
+    for (uint64_t phase = 0; phase < 6; phase++) {
+        for (int call = 0; call < 6; call++) {
+            struct fotsgure_gcm_message message, before;
+            uint8_t bytes[3] = {7, 7, 7}, made[16];
+            memset(made, 9, sizeof made);
+            if (fotsgure_gcm_begin(gcm, &message, nonce, 12) != FOTSGURE_GCM_DONE)
+                abort();
+            message.phase = phase;
+            before = message;
+            int status = call == 0 ? (int)fotsgure_gcm_additional(gcm, &message, bytes, 3)
+                : call == 1 ? (int)fotsgure_gcm_encrypt(gcm, &message, bytes, 3)
+                : call == 2 ? (int)fotsgure_gcm_finish(gcm, &message, made)
+                : call == 3 ? (int)fotsgure_gcm_verify(gcm, &message, bytes, 3)
+                : call == 4 ? (int)fotsgure_gcm_accept(gcm, &message, made, 16)
+                            : (int)fotsgure_gcm_decrypt(gcm, &message, bytes, 3);
+            int same = memcmp(&message, &before, sizeof message) == 0 && all(bytes, 3, 7) && all(made, 16, 9);
+            expect(status == answers[phase][call] && (status == DONE || same), "out of turn", 6 * phase + (size_t)call);
+        }
+    }
+}
+
+static void pieces(void)
+{
+    uint8_t key[32] = {3}, nonce[60] = {4};
+    struct fotsgure_gcm gcm, none;
+    struct fotsgure_gcm_message message, before;
+    memset(&none, 0, sizeof none);
+    for (size_t i = 0; i < sizeof plain; i++) {
+        plain[i] = (uint8_t)(i * 5 + 1);
+        additional[i] = (uint8_t)(i * 3 + 2);
+    }
+    if (fotsgure_gcm_set_key(&gcm, key, sizeof key) != FOTSGURE_GCM_DONE)
+        abort();
+    for (size_t length = 0; length <= sizeof plain; length += 1 + length / 12)
+        for (size_t piece = 1; piece <= 67; piece += 1 + piece / 3)
+            expect(cut(&gcm, nonce, piece % 2 ? 12 : 1 + length % 60, piece, length * 7 % 200, length), "cut", length);
+    out_of_turn(&gcm);
+    if (fotsgure_gcm_begin(&gcm, &message, nonce, 12) != FOTSGURE_GCM_DONE)
+        abort();
+    before = message;
+    expect(fotsgure_gcm_begin(&none, &message, NULL, 0) == FOTSGURE_GCM_NONCE_LENGTH, "begin", 0);
+    expect(fotsgure_gcm_begin(&none, &message, nonce, 12) == FOTSGURE_GCM_NO_KEY, "begin", 1);
+    expect(fotsgure_gcm_additional(&none, &message, NULL, 0) == FOTSGURE_GCM_NO_KEY, "no key", 0);
+    expect(fotsgure_gcm_encrypt(&none, &message, NULL, 0) == FOTSGURE_GCM_NO_KEY, "no key", 1);
+    expect(fotsgure_gcm_finish(&none, &message, tag) == FOTSGURE_GCM_NO_KEY, "no key", 2);
+    expect(fotsgure_gcm_verify(&none, &message, NULL, 0) == FOTSGURE_GCM_NO_KEY, "no key", 3);
+    expect(fotsgure_gcm_accept(&none, &message, tag, 15) == FOTSGURE_GCM_TAG_LENGTH, "no key", 4);
+    expect(fotsgure_gcm_accept(&none, &message, tag, 16) == FOTSGURE_GCM_NO_KEY, "no key", 5);
+    expect(fotsgure_gcm_additional(&gcm, &message, key, (size_t)FOTSGURE_GCM_MOST_ADDITIONAL + 1) ==
+        FOTSGURE_GCM_TOO_LONG, "too long", 0);
+    expect(fotsgure_gcm_encrypt(&gcm, &message, key, (size_t)FOTSGURE_GCM_MOST + 1) == FOTSGURE_GCM_TOO_LONG,
+        "too long", 1);
+    expect(memcmp(&message, &before, sizeof message) == 0, "a message that is refused stays as it was", 0);
+    expect(fotsgure_gcm_encrypt(&gcm, &message, NULL, 0) == FOTSGURE_GCM_DONE, "NULL for no bytes", 1);
+    fotsgure_gcm_wipe_message(&message);
+    fotsgure_gcm_wipe(&gcm);
+}
+
 int main(void)
 {
     published();
     lengths();
     statuses();
     counted();
+    pieces();
     printf("%d passed, %d failed\n", passed, failed);
     return failed != 0;
 }

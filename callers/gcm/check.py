@@ -50,6 +50,26 @@ with Gcm(KEY) as gcm:
     expect(raises(ValueError, gcm.open, NONCE, bytes(15)), "a tag of another length")
     expect(raises(ValueError, gcm.seal, b"", PLAIN), "no nonce")
     expect(Gcm(KEY, gcm.counter).seal_next(b"")[0] == bytes(10) + b"\x01\x2d", "the stored counter")
+with Gcm(KEY) as gcm:
+    for piece in range(1, 40):
+        message = gcm.begin(NONCE)
+        for at in range(0, len(ADDITIONAL), piece):
+            message.additional(ADDITIONAL[at:at + piece])
+        sealed = b"".join(message.encrypt(PLAIN[at:at + piece]) for at in range(0, len(PLAIN), piece))
+        tag = message.finish()
+        expect((sealed + tag).hex() == CASES[1][4], f"pieces of {piece}")
+        expect(raises(ValueError, message.encrypt, b""), "text after the end")
+        message = gcm.begin(NONCE)
+        message.additional(ADDITIONAL)
+        for at in range(0, len(sealed), piece):
+            message.verify(sealed[at:at + piece])
+        expect(raises(ValueError, message.decrypt, sealed[:1]), "text before the tag")
+        message.accept(tag)
+        opened = b"".join(message.decrypt(sealed[at:at + piece]) for at in range(0, len(sealed), piece))
+        expect(opened == PLAIN, f"pieces of {piece}, back")
+        other = gcm.begin(NONCE)
+        other.verify(sealed)
+        expect(raises(Refused, other.accept, tag), "a message without its additional data")
 expect(raises(ValueError, gcm.seal, NONCE, PLAIN), "a wiped key")
 expect(raises(ValueError, Gcm(KEY, b"\xff" * 12).seal_next, PLAIN), "no nonce is left")
 expect(raises(ValueError, Gcm, KEY[1:]), "a key of another length")

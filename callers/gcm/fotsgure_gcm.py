@@ -5,6 +5,10 @@
         text = gcm.open(nonce, sealed, additional)      raises Refused if anything was changed
         nonce, sealed = gcm.seal_next(text, additional) under the next nonce; gcm.counter is what to store
 
+        message = gcm.begin(nonce)                      a message in pieces: message.additional(bytes), and then
+        message.encrypt(bytes) .., message.finish()     the tag, or
+        message.verify(bytes) .., message.accept(tag), message.decrypt(bytes) ..    the same text in both passes
+
 No nonce may be used twice under a key. FOTSGURE_GCM names the library's file; without it the loader searches. Python
 copies bytes as it likes, so only the prepared key is wiped.
 """
@@ -22,6 +26,10 @@ class _Key(ctypes.Structure):
                 ("multiples", ctypes.c_uint8 * 1536)]
 
 
+class _Message(ctypes.Structure):
+    _fields_ = [("numbers", ctypes.c_uint64 * 4), ("blocks", ctypes.c_uint8 * 48)]
+
+
 class _Counter(ctypes.Structure):
     _fields_ = [("next", ctypes.c_uint8 * 12)]
 
@@ -33,7 +41,7 @@ def _load():
     c.fotsgure_gcm_version.restype = ctypes.c_uint32
     if c.fotsgure_gcm_version() // 100 != 1:
         raise ImportError(f"this is a wrapper for version 0.1 of the library, not for {c.fotsgure_gcm_version()}")
-    size, data, key = ctypes.c_size_t, ctypes.c_char_p, ctypes.POINTER(_Key)
+    size, data, key, message = ctypes.c_size_t, ctypes.c_char_p, ctypes.POINTER(_Key), ctypes.POINTER(_Message)
     for name, arguments, result in (
         ("set_key", [key, data, size], ctypes.c_uint32),
         ("wipe", [key], None),
@@ -41,6 +49,14 @@ def _load():
         ("seal_next", [key, ctypes.POINTER(_Counter), ctypes.c_void_p, data, size, ctypes.c_void_p, size,
                        ctypes.c_void_p], ctypes.c_uint32),
         ("open", [key, data, size, data, size, ctypes.c_void_p, size, data, size], ctypes.c_uint32),
+        ("begin", [key, message, data, size], ctypes.c_uint32),
+        ("additional", [key, message, data, size], ctypes.c_uint32),
+        ("encrypt", [key, message, ctypes.c_void_p, size], ctypes.c_uint32),
+        ("finish", [key, message, ctypes.c_void_p], ctypes.c_uint32),
+        ("verify", [key, message, data, size], ctypes.c_uint32),
+        ("accept", [key, message, data, size], ctypes.c_uint32),
+        ("decrypt", [key, message, ctypes.c_void_p, size], ctypes.c_uint32),
+        ("wipe_message", [message], None),
     ):
         call = getattr(c, "fotsgure_gcm_" + name)
         call.argtypes, call.restype = arguments, result
@@ -50,7 +66,8 @@ def _load():
 _c = _load()
 VERSION = _c.fotsgure_gcm_version()
 _STATUSES = ("", "a key has 16, 24 or 32 bytes", "the key was wiped", "the nonce has another length",
-             "a tag has 16 bytes", "more bytes than GCM takes", "the tag is another", "no nonce is left")
+             "a tag has 16 bytes", "more bytes than GCM takes", "the tag is another", "no nonce is left",
+             "it isn't the turn of this call")
 _REFUSED = 6
 
 
@@ -101,6 +118,10 @@ class Gcm:
                                     len(tag)))
         return room.raw[:len(text)]
 
+    def begin(self, nonce):
+        """Begins a message in pieces under a nonce."""
+        return Message(self, bytes(nonce))
+
     def wipe(self):
         _c.fotsgure_gcm_wipe(self._key)
 
@@ -109,3 +130,53 @@ class Gcm:
 
     def __exit__(self, *_):
         self.wipe()
+
+
+class Message:
+    """A message in pieces of any size, which `Gcm.begin` makes. Calls that come out of turn raise ValueError."""
+
+    def __init__(self, gcm, nonce):
+        self._gcm, self._message = gcm, _Message()
+        _check(_c.fotsgure_gcm_begin(gcm._key, self._message, nonce, len(nonce)))
+
+    def _read(self, call, data):
+        data = bytes(data)
+        _check(call(self._gcm._key, self._message, data, len(data)))
+
+    def _written(self, call, data):
+        room = _room(data)
+        _check(call(self._gcm._key, self._message, room, len(data)))
+        return room.raw[:len(data)]
+
+    def additional(self, data):
+        """Takes a piece of the additional data, all of which comes before the text."""
+        self._read(_c.fotsgure_gcm_additional, data)
+
+    def encrypt(self, text):
+        """Encrypts a piece of the text, and returns it."""
+        return self._written(_c.fotsgure_gcm_encrypt, text)
+
+    def finish(self):
+        """Ends a message that was encrypted, and returns its tag."""
+        tag = _room(bytes(16))
+        _check(_c.fotsgure_gcm_finish(self._gcm._key, self._message, tag))
+        return tag.raw[:16]
+
+    def verify(self, sealed):
+        """Takes a piece of an encrypted text, whose tag is to be compared."""
+        self._read(_c.fotsgure_gcm_verify, sealed)
+
+    def accept(self, tag):
+        """Raises Refused, and wipes the message, if the tag is not that of what has come."""
+        try:
+            self._read(_c.fotsgure_gcm_accept, tag)
+        except Refused:
+            self.wipe()
+            raise
+
+    def decrypt(self, sealed):
+        """Decrypts a piece of the text whose tag was right: the same text once more, from its beginning on."""
+        return self._written(_c.fotsgure_gcm_decrypt, sealed)
+
+    def wipe(self):
+        _c.fotsgure_gcm_wipe_message(self._message)
