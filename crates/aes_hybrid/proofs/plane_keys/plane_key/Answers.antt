@@ -1,8 +1,8 @@
--- What is left to show of `wide::plane_key`.
+-- What is left to show of `plane_keys::plane_key`.
 use Rattle.std.proofs.Common.{◌%◌, ap, ◌∙◌}
 use Rattle.aes_planes.specs.Fips197.{inv_shift_times}
 use Rattle.aes_permute.specs.Stored.{untower}
-use Rattle.aes_hybrid.proofs.wide.plane_key.Goals as goal
+use Rattle.aes_hybrid.proofs.plane_keys.plane_key.Goals as goal
 
 pub returns : goal.returns
 unfolding untower

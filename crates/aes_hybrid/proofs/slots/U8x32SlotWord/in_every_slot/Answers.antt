@@ -1,8 +1,8 @@
--- What is left to show of `spread::U8x32SlotWord::in_every_slot`.
+-- What is left to show of `slots::U8x32SlotWord::in_every_slot`.
 use Rattle.std.proofs.Common.{List, [], ◌∷◌, get_or, refl, arith}
 use Rattle.aes_planes.proofs.Bits.ByteCases.{by_eight}
 use Rattle.aes_hybrid.proofs.SpreadLanes.{wide_spread_held, HasBit, IsTwice}
-use Rattle.aes_hybrid.proofs.spread.U8x32SlotWord.in_every_slot.Goals as goal
+use Rattle.aes_hybrid.proofs.slots.U8x32SlotWord.in_every_slot.Goals as goal
 
 pub returns : goal.returns
 returns c =

@@ -1,4 +1,4 @@
--- What is left to show of `wide::put_planes`.
+-- What is left to show of `plane_keys::put_planes`.
 use Rattle.std.proofs.Common.{◌≡◌, inl, inr, ℕ, ◌-◌, ◌*◌, length, map, refl, ap, sym, ◌∙◌, arith}
 use Rattle.std.proofs.lemmas.Bool.{cases_lt}
 use Rattle.aes_soft.specs.Stored.{full, stored_key}
@@ -6,7 +6,7 @@ use Rattle.aes_soft.proofs.WordsInPlace.{kept}
 use Rattle.aes_permute.specs.Keys.{encrypting}
 use Rattle.aes_hybrid.proofs.PlaneKeys.{wanted, first_wanted, inner_wanted, last_wanted, planes_keyed, planes_key}
 use Rattle.aes_hybrid.proofs.PlaneKeys.{two_lanes, put_at}
-use Rattle.aes_hybrid.proofs.wide.put_planes.Goals as goal
+use Rattle.aes_hybrid.proofs.plane_keys.put_planes.Goals as goal
 
 pub keys-init : goal.keys-init
 keys-init g c =
