@@ -187,8 +187,8 @@ fn process_narrow<D: LaneRounds + FullCipher>(keys: &[Block], used: &[Block], bl
     process_few::<D>(keys, used, &mut blocks[whole..]);
 }
 
-/// Processes each block of a slice in place: whole batches of sixteen on words of 256 bits, if the width has these,
-/// whole batches of eight on planes, and few blocks by vector permutations. `keys` are the stored round keys of Cipher,
+/// Processes each block of a slice in place: batches of sixteen on words of 256 bits, if the width has these, batches of
+/// eight on words of 128, and few blocks by vector permutations. `keys` are the stored round keys of Cipher,
 /// and `used` those of the direction.
 pub fn process_blocks<D: LaneRounds + FullCipher, W: Width>(
     keys: &[Block],

@@ -87,7 +87,7 @@ impl<W: Width> BlockCipherEncrypt for Lent<'_, W> {
     fn encrypt_with_backend_for<F: BlockCipherEncClosure>(&self, blocks: usize, f: &mut F) {
         if blocks < BATCH {
             f.call(&Pairs::new(self.keys));
-        } else if W::HAS_SIXTEENS && blocks >= sixteens::BATCH {
+        } else if W::HAS_SIXTEENS && blocks >= sixteens::LEAST {
             call_with_sixteens(self.keys, f);
         } else {
             self.encrypt_with_backend(f);

@@ -1,9 +1,7 @@
 -- What is left to show of `plane_keys::put_planes`.
-use Rattle.std.proofs.Common.{◌≡◌, inl, inr, ℕ, ◌-◌, ◌*◌, length, map, refl, ap, sym, ◌∙◌, arith}
+use Rattle.std.proofs.Common.{◌≡◌, inl, inr, ℕ, ◌-◌, ◌*◌, length, refl, ap, sym, ◌∙◌, arith}
 use Rattle.std.proofs.lemmas.Bool.{cases_lt}
-use Rattle.aes_soft.specs.Stored.{full, stored_key}
 use Rattle.aes_soft.proofs.WordsInPlace.{kept}
-use Rattle.aes_permute.specs.Keys.{encrypting}
 use Rattle.aes_hybrid.proofs.PlaneKeys.{wanted, first_wanted, inner_wanted, last_wanted, planes_keyed, planes_key}
 use Rattle.aes_hybrid.proofs.PlaneKeys.{two_lanes, put_at}
 use Rattle.aes_hybrid.proofs.plane_keys.put_planes.Goals as goal
