@@ -3,12 +3,13 @@
 ghost use Rattle.std.specs.Prelude.{◌≡◌, ◌≢◌, ◌↔◌, ◌+◌, ◌-◌, ◌^◌, ◌<◌, ◌≤◌, length};
 ghost use Rattle.aes_planes.specs.Fips197 as fips;
 ghost use Rattle.aes_ctr.specs.CounterMode.{keystream_byte, plus_stream};
-ghost use Rattle.aes_c.specs.Kept.{kept_key, IsKeyLength, IsMade};
+ghost use Rattle.aes_calls.specs.Kept.{kept_key, IsKeyLength, IsMade};
 
 use crate::kept::{Aes, holds_key, keys_of};
 use crate::status::{DONE, KEYSTREAM_END, NO_KEY, UNEQUAL_COUNTS};
 use aes_ctr::add_keystream;
-use aes_hybrid::lent::LentKeys;
+use aes_hybrid::lent::Lent;
+use aes_hybrid::widths::Width;
 
 /// Where a keystream stands: `struct fotsgure_aes_ctr`.
 #[repr(C)]
@@ -38,8 +39,7 @@ fn refusal(aes: &Aes, position: u64, count: usize) -> u32
 /// Adds to each byte the keystream's byte at its place, the first of them at the position, and moves the position on
 /// (SP 800-38A, 6.5). Returns `KEYSTREAM_END` exactly if the position would pass 2^64 - 1, else `NO_KEY` if there is no
 /// key, and `DONE` in all other cases.
-#[unsafe(no_mangle)]
-pub extern "C" fn fotsgure_aes_add_keystream(aes: &Aes, ctr: &mut Ctr, bytes: &mut [u8]) -> u32
+pub fn add_keystream_under<W: Width>(aes: &Aes, ctr: &mut Ctr, bytes: &mut [u8]) -> u32
     requires made { IsMade aes.now.key_length aes.now.encrypting aes.now.decrypting }
     ensures ended { result ≡ KEYSTREAM_END ↔ (2 ^ 64 - 1 < ctr.old.position + length bytes.old) }
     ensures done { result ≡ DONE ↔ IsKeyLength aes.now.key_length × (ctr.old.position + length bytes.old ≤ 2 ^ 64 - 1) }
@@ -54,16 +54,15 @@ pub extern "C" fn fotsgure_aes_add_keystream(aes: &Aes, ctr: &mut Ctr, bytes: &m
     let status = refusal(aes, ctr.position, bytes.len());
     if status == DONE {
         let keys = keys_of(&aes.encrypting, aes.key_length as usize);
-        add_keystream(&LentKeys::new(keys), &ctr.iv, ctr.position, bytes);
+        add_keystream(&Lent::<W>::new(keys), &ctr.iv, ctr.position, bytes);
         ctr.position += bytes.len() as u64;
     }
     status
 }
 
 /// Writes to one buffer the bytes of another plus the keystream's, and moves the position on. Returns `UNEQUAL_COUNTS`
-/// exactly if the buffers differ in length, and else what `fotsgure_aes_add_keystream` returns.
-#[unsafe(no_mangle)]
-pub extern "C" fn fotsgure_aes_add_keystream_to(
+/// exactly if the buffers differ in length, and else what `add_keystream_under` returns.
+pub fn add_keystream_under_to<W: Width>(
     aes: &Aes,
     ctr: &mut Ctr,
     input: &[u8],
@@ -91,5 +90,5 @@ pub extern "C" fn fotsgure_aes_add_keystream_to(
         return status;
     }
     output.copy_from_slice(input);
-    fotsgure_aes_add_keystream(aes, ctr, output)
+    add_keystream_under::<W>(aes, ctr, output)
 }

@@ -3,7 +3,7 @@
 ghost use Rattle.std.specs.Prelude.{◌≡◌, ◌≢◌, ◌↔◌, ◌+◌, ◌/◌, true};
 ghost use Rattle.std.specs.Prelude.{drop, length, replicate};
 ghost use Rattle.aes_hybrid.specs.Lanes.{lanes_key, IsLanes, AreInverse};
-ghost use Rattle.aes_c.specs.Kept.{first_keys, kept_key, AreZeroAfter, IsKeyLength, IsMade};
+ghost use Rattle.aes_calls.specs.Kept.{first_keys, kept_key, AreZeroAfter, IsKeyLength, IsMade};
 
 use crate::status::{DONE, KEY_LENGTH};
 use aes_cipher::zeroize::{Zeroize, zeroize_elements};
@@ -97,8 +97,7 @@ pub(crate) fn holds_key(aes: &Aes) -> bool
 /// Expands a key into the struct (KeyExpansion, FIPS 197, 5.2). Returns `DONE` exactly if the key has 16, 24 or 32
 /// bytes, else `KEY_LENGTH`; the struct then holds no key. Nothing of what it held before is left in either case: its
 /// blocks are the round keys of the new key, and zeros after them.
-#[unsafe(no_mangle)]
-pub extern "C" fn fotsgure_aes_set_key(aes: &mut Aes, key: &[u8]) -> u32
+pub fn set_key(aes: &mut Aes, key: &[u8]) -> u32
     ensures done { result ≡ DONE ↔ IsKeyLength (length key.now) }
     ensures refused { result ≢ DONE → result ≡ KEY_LENGTH }
     ensures made { IsMade aes.new.key_length aes.new.encrypting aes.new.decrypting }
@@ -123,8 +122,7 @@ pub extern "C" fn fotsgure_aes_set_key(aes: &mut Aes, key: &[u8]) -> u32
 }
 
 /// Returns how many bytes the key has, or 0 if the struct holds no key.
-#[unsafe(no_mangle)]
-pub extern "C" fn fotsgure_aes_key_length(aes: &Aes) -> usize
+pub fn length_of_key(aes: &Aes) -> usize
     ensures key { IsKeyLength aes.now.key_length → result ≡ aes.now.key_length }
     ensures none { ¬ IsKeyLength aes.now.key_length → result ≡ 0 }
 {
@@ -136,8 +134,7 @@ pub extern "C" fn fotsgure_aes_key_length(aes: &Aes) -> usize
 }
 
 /// Overwrites the struct with zeros: it then holds no key.
-#[unsafe(no_mangle)]
-pub extern "C" fn fotsgure_aes_wipe(aes: &mut Aes)
+pub fn wipe(aes: &mut Aes)
     ensures none { aes.new.key_length ≡ 0 }
     ensures encrypting { aes.new.encrypting ≡ replicate 15 (replicate 16 0) }
     ensures decrypting { aes.new.decrypting ≡ replicate 15 (replicate 16 0) }

@@ -1,4 +1,4 @@
-//! What calls return: `enum fotsgure_aes_status`.
+//! What calls return, `enum fotsgure_aes_status`, and the version.
 
 /// The work is done.
 pub const DONE: u32 = 0;
@@ -14,3 +14,6 @@ pub const UNEQUAL_COUNTS: u32 = 3;
 
 /// The keystream ends before the bytes do.
 pub const KEYSTREAM_END: u32 = 4;
+
+/// The version of the interface: 10000 times the first number, 100 times the second, plus the third.
+pub const VERSION: u32 = 200;

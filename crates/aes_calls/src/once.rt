@@ -5,17 +5,18 @@ ghost use Rattle.aes_planes.specs.Each.{Each};
 ghost use Rattle.aes_planes.specs.Fips197 as fips;
 ghost use Rattle.aes_ctr.specs.CounterMode.{keystream_byte, plus_stream};
 ghost use Rattle.aes_permute.specs.Stored.{round_keys_of};
-ghost use Rattle.aes_c.specs.Kept.{first_keys, IsKeyLength};
+ghost use Rattle.aes_calls.specs.Kept.{first_keys, IsKeyLength};
 
 use crate::blocks::process_under;
-use crate::kept::{Aes, fotsgure_aes_set_key, is_key_length, keys_of, put_keys};
+use crate::kept::{Aes, is_key_length, keys_of, put_keys, set_key};
 use crate::status::{DONE, KEY_LENGTH, KEYSTREAM_END};
 use crate::stream::Ctr;
 use aes_cipher::cipher::{Decrypt, Encrypt};
 use aes_cipher::zeroize::Held;
 use aes_ctr::add_keystream;
 use aes_hybrid::blocks::process_blocks;
-use aes_hybrid::lent::LentKeys;
+use aes_hybrid::lent::Lent;
+use aes_hybrid::widths::Width;
 use aes_permute::blocks::process_blocks as process_on_lanes;
 use aes_permute::directions::LaneRounds;
 use aes_permute::schedule::expand;
@@ -51,8 +52,7 @@ fn process_few<D: LaneRounds>(key: &[u8], blocks: &mut [Block])
 
 /// Encrypts each block in place under a key (Cipher, FIPS 197, 5.1). Returns `DONE` exactly if the key has 16, 24 or 32
 /// bytes, else `KEY_LENGTH`.
-#[unsafe(no_mangle)]
-pub extern "C" fn fotsgure_aes_encrypt_blocks_with(key: &[u8], blocks: &mut [Block]) -> u32
+pub fn encrypt_with<W: Width>(key: &[u8], blocks: &mut [Block]) -> u32
     ensures done { result ≡ DONE ↔ IsKeyLength (length key.now) }
     ensures refused { result ≢ DONE → result ≡ KEY_LENGTH }
     ensures blocks { result ≡ DONE → Each (fips.cipher key.now) blocks.old blocks.new }
@@ -64,15 +64,14 @@ pub extern "C" fn fotsgure_aes_encrypt_blocks_with(key: &[u8], blocks: &mut [Blo
     let mut kept = Held::<[Block; 15]>::zeroed();
     put_keys(kept.words_mut(), key);
     let keys = keys_of(kept.words(), key.len());
-    process_blocks::<Encrypt>(keys, keys, blocks);
+    process_blocks::<Encrypt, W>(keys, keys, blocks);
     kept.wipe();
     DONE
 }
 
 /// Decrypts each block in place under a key (InvCipher, FIPS 197, 5.3). Returns `DONE` exactly if the key has 16, 24 or
 /// 32 bytes, else `KEY_LENGTH`.
-#[unsafe(no_mangle)]
-pub extern "C" fn fotsgure_aes_decrypt_blocks_with(key: &[u8], blocks: &mut [Block]) -> u32
+pub fn decrypt_with<W: Width>(key: &[u8], blocks: &mut [Block]) -> u32
     ensures done { result ≡ DONE ↔ IsKeyLength (length key.now) }
     ensures refused { result ≢ DONE → result ≡ KEY_LENGTH }
     ensures blocks { result ≡ DONE → Each (fips.inv_cipher key.now) blocks.old blocks.new }
@@ -84,23 +83,18 @@ pub extern "C" fn fotsgure_aes_decrypt_blocks_with(key: &[u8], blocks: &mut [Blo
         return DONE;
     }
     let mut kept = Held::<Aes>::zeroed();
-    if fotsgure_aes_set_key(kept.words_mut(), key) != DONE {
+    if set_key(kept.words_mut(), key) != DONE {
         return KEY_LENGTH;
     }
-    let status = process_under::<Decrypt>(kept.words(), blocks);
+    let status = process_under::<Decrypt, W>(kept.words(), blocks);
     kept.wipe();
     status
 }
 
-/// Adds to each byte the keystream's byte at its place and moves the position on, as `fotsgure_aes_add_keystream`,
+/// Adds to each byte the keystream's byte at its place and moves the position on, as `add_keystream_under`,
 /// under a key. Returns `KEY_LENGTH` exactly if the key doesn't have 16, 24 or 32 bytes, and else `KEYSTREAM_END` or
 /// `DONE`.
-#[unsafe(no_mangle)]
-pub extern "C" fn fotsgure_aes_add_keystream_with(
-    key: &[u8],
-    ctr: &mut Ctr,
-    bytes: &mut [u8],
-) -> u32
+pub fn add_keystream_with<W: Width>(key: &[u8], ctr: &mut Ctr, bytes: &mut [u8]) -> u32
     ensures done { result ≡ DONE ↔ IsKeyLength (length key.now) × (ctr.old.position + length bytes.old ≤ 2 ^ 64 - 1) }
     ensures ended { result ≡ KEYSTREAM_END
         ↔ IsKeyLength (length key.now) × (2 ^ 64 - 1 < ctr.old.position + length bytes.old) }
@@ -121,7 +115,7 @@ pub extern "C" fn fotsgure_aes_add_keystream_with(
     let mut kept = Held::<[Block; 15]>::zeroed();
     put_keys(kept.words_mut(), key);
     let keys = keys_of(kept.words(), key.len());
-    add_keystream(&LentKeys::new(keys), &ctr.iv, ctr.position, bytes);
+    add_keystream(&Lent::<W>::new(keys), &ctr.iv, ctr.position, bytes);
     kept.wipe();
     ctr.position += bytes.len() as u64;
     DONE

@@ -6,7 +6,7 @@ use Rattle.aes_planes.proofs.Planes.Held.{map-same}
 use Rattle.aes_planes.proofs.Standard.CipherLaws.{two_keys}
 use Rattle.aes_permute.proofs.KeyBytes.{two_stored}
 use Rattle.aes_permute.specs.Stored.{round_keys_of}
-use Rattle.aes_c.proofs.once.process_few.Goals as goal
+use Rattle.aes_calls.proofs.once.process_few.Goals as goal
 
 pub process_blocks-requires : goal.process_blocks-requires
 process_blocks-requires g c =

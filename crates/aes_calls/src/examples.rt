@@ -9,10 +9,9 @@ ghost use Rattle.aes_planes.specs.BigEndian.{bytes};
 ghost use Rattle.aes_planes.specs.Fips197 as fips;
 ghost use Rattle.aes_permute.specs.Keys.{encrypting};
 ghost use Rattle.aes_hybrid.specs.Lanes.{AreInverse};
-ghost use Rattle.aes_c.specs.Kept.{first_keys, kept_key, AreZeroAfter, IsKeyLength, IsMade};
+ghost use Rattle.aes_calls.specs.Kept.{first_keys, kept_key, AreZeroAfter, IsKeyLength, IsMade};
 
-use crate::VERSION;
-use crate::status::{DONE, KEY_LENGTH, KEYSTREAM_END, NO_KEY, UNEQUAL_COUNTS};
+use crate::status::{DONE, KEY_LENGTH, KEYSTREAM_END, NO_KEY, UNEQUAL_COUNTS, VERSION};
 use aes_planes::examples::key_expansion_128;
 
 /// The numbers that the header gives to statuses and to the version.
