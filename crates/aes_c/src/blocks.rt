@@ -13,10 +13,10 @@ use aes_cipher::cipher::{Decrypt, Encrypt};
 use aes_hybrid::blocks::process_blocks;
 use aes_permute::directions::LaneRounds;
 use aes_planes::soft::word::Block;
-use aes_soft::soft::FullCipher;
+use aes_soft::soft::PlaneCipher;
 
 /// A direction whose round keys a struct has.
-pub(crate) trait KeptDirection: LaneRounds + FullCipher {
+pub(crate) trait KeptDirection: LaneRounds + PlaneCipher {
     /// Lends them.
     fn lend(aes: &Aes) -> &[Block]
         requires holds_key { IsKeyLength aes.now.key_length }

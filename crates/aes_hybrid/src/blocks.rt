@@ -15,7 +15,7 @@ use aes_permute::blocks::process_blocks as process_on_lanes;
 use aes_permute::directions::LaneRounds;
 use aes_planes::soft::sbox::Layers;
 use aes_planes::soft::word::Block;
-use aes_soft::soft::FullCipher;
+use aes_soft::soft::PlaneCipher;
 use aes_soft::soft::blocks::{process_batch_under, process_batches_under};
 use aes_soft::soft::key_sizes::BatchWord;
 use std::simd::prelude::*;
@@ -36,7 +36,7 @@ const LEAST_ON_PLANES: usize = 15;
 
 // Processes the last blocks, six or seven, as a batch with those before them, which then get back what they held.
 #[inline(never)]
-fn process_last<D: FullCipher>(words: &[BatchWord], blocks: &mut [Block], count: usize)
+fn process_last<D: PlaneCipher>(words: &[BatchWord], blocks: &mut [Block], count: usize)
     requires least { 88 ≤ length words.now }
     requires most { length words.now ≤ 120 }
     requires half_over { length words.now % 16 ≡ 8 }
@@ -63,7 +63,7 @@ fn process_last<D: FullCipher>(words: &[BatchWord], blocks: &mut [Block], count:
 
 // Processes each block on planes of round keys: what is left after whole batches, and these.
 #[inline(always)]
-fn process_in_batches<D: FullCipher>(words: &[BatchWord], blocks: &mut [Block])
+fn process_in_batches<D: PlaneCipher>(words: &[BatchWord], blocks: &mut [Block])
     requires least { 88 ≤ length words.now }
     requires most { length words.now ≤ 120 }
     requires half_over { length words.now % 16 ≡ 8 }
@@ -85,7 +85,7 @@ fn process_in_batches<D: FullCipher>(words: &[BatchWord], blocks: &mut [Block])
 
 // Processes seven blocks as a batch with a block of zeros.
 #[inline(never)]
-fn process_seven<D: FullCipher>(words: &[BatchWord], blocks: &mut [Block])
+fn process_seven<D: PlaneCipher>(words: &[BatchWord], blocks: &mut [Block])
     requires least { 88 ≤ length words.now }
     requires most { length words.now ≤ 120 }
     requires half_over { length words.now % 16 ≡ 8 }
@@ -104,7 +104,7 @@ fn process_seven<D: FullCipher>(words: &[BatchWord], blocks: &mut [Block])
 
 // Processes each block on planes, which are wiped before the call returns.
 #[inline(always)]
-fn process_with_planes<const N: usize, D: LaneRounds + FullCipher>(
+fn process_with_planes<const N: usize, D: LaneRounds + PlaneCipher>(
     keys: &[Block],
     blocks: &mut [Block],
 )
@@ -128,7 +128,7 @@ fn process_with_planes<const N: usize, D: LaneRounds + FullCipher>(
 
 // Does the same in an array no larger than the round keys. Not inlined, so that few blocks need no large stack frame.
 #[inline(never)]
-fn process_on_planes<D: LaneRounds + FullCipher>(keys: &[Block], blocks: &mut [Block])
+fn process_on_planes<D: LaneRounds + PlaneCipher>(keys: &[Block], blocks: &mut [Block])
     requires is_lanes { IsLanes keys.now }
     requires some { 7 ≤ length blocks.old }
     requires rest { (length blocks.old % 8 ≡ 0) ⊎ (6 ≤ length blocks.old % 8) }
@@ -178,7 +178,7 @@ fn blocks_on_planes<D: LaneRounds>(count: usize) -> usize
 
 // Processes sixteen blocks at a time on words of 256 bits, which are wiped before the call returns.
 #[inline(always)]
-fn process_sixteens<const N: usize, D: LaneRounds + FullCipher>(
+fn process_sixteens<const N: usize, D: LaneRounds + PlaneCipher>(
     keys: &[Block],
     blocks: &mut [Block],
 )
@@ -196,7 +196,7 @@ fn process_sixteens<const N: usize, D: LaneRounds + FullCipher>(
 
 // Does the same in an array no larger than the round keys.
 #[inline(never)]
-fn process_on_wide_planes<D: LaneRounds + FullCipher>(keys: &[Block], blocks: &mut [Block])
+fn process_on_wide_planes<D: LaneRounds + PlaneCipher>(keys: &[Block], blocks: &mut [Block])
     requires is_lanes { IsLanes keys.now }
     requires sixteens { length blocks.old % 16 ≡ 0 }
     ensures { Each (D.processed (fips.key_expansion (lanes_key keys.now))) blocks.old blocks.new }
@@ -221,7 +221,7 @@ fn blocks_by_sixteen(count: usize) -> usize
 
 /// Processes each block of a slice in place, as below, with whole batches of sixteen on words of 256 bits if the library
 /// is built for a processor that has vectors of that size.
-pub fn process_blocks<D: LaneRounds + FullCipher>(
+pub fn process_blocks<D: LaneRounds + PlaneCipher>(
     keys: &[Block],
     used: &[Block],
     blocks: &mut [Block],
@@ -240,7 +240,7 @@ pub fn process_blocks<D: LaneRounds + FullCipher>(
 // Processes each block of a slice in place: whole batches on planes, and the others by vector permutations where they
 // are few, since these take less time so. `keys` are the stored round keys of Cipher, and `used` those of the
 // direction.
-fn process_narrow<D: LaneRounds + FullCipher>(keys: &[Block], used: &[Block], blocks: &mut [Block])
+fn process_narrow<D: LaneRounds + PlaneCipher>(keys: &[Block], used: &[Block], blocks: &mut [Block])
     requires is_lanes { IsLanes keys.now }
     requires used { round_keys_of D.form used.now ≡ D.form.used_keys (encrypting keys.now) }
     ensures { Each (D.processed (fips.key_expansion (lanes_key keys.now))) blocks.old blocks.new }
