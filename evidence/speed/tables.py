@@ -280,9 +280,8 @@ def published(where, rows, key=16):
     with_them = least_to_most(ratios, "4,096", False)
     meaning = (
         f"Without AES instructions, OpenSSL, Botan and Libgcrypt by SSSE3 take {one} times as long as this one for one "
-        f"block, and {many} "
-        f"times as long for 4,096; OpenSSL with AES instructions takes {with_them} times as long for 4,096, so take "
-        "that if your processor has them and speed is all that you need."
+        f"block, and {many} times as long for 4,096; OpenSSL with AES instructions takes {with_them} times as long for "
+        "4,096, so take that if your processor has them and speed is all that you need."
     )
     how = (
         "The first column is the time of a call from C with a key of 16 bytes. The others are the time of the same "
@@ -293,8 +292,9 @@ def published(where, rows, key=16):
         f"Measured by `evidence/speed/run`: {conditions}, beside {', '.join(shown)}. "
         "[summary.csv](../evidence/speed/summary.csv) has these times and those of the picture. Every time of the run "
         "is in a release's `speed.csv`: keys of 24 and 32 bytes, every count of blocks from 1 to 40, counter mode from "
-        "16 bytes on, the types of Rattle, three more libraries, and the build of the second compiler. That build is for checking: the gate compares what programs print in both builds. Nothing uses it "
-        "for speed, so the picture leaves it out."
+        "16 bytes on, the types of Rattle, three more libraries, and the build of the second compiler. That build is "
+        "for checking: the gate compares what programs print in both builds. Nothing uses it for speed, so the picture "
+        "leaves it out."
     )
     heads = ["", "this library", "OpenSSL", "Botan", "Libgcrypt", "OpenSSL with AES instructions"]
     return meaning, tools.table(heads, *lines), how, measured
