@@ -1,39 +1,22 @@
-//! AES for C, and for languages that call C: `include/fotsgure_aes.h` declares these calls.
+//! AES for C, and for languages that call C: `include/fotsgure_aes.h` declares these calls. This library is for every
+//! processor of its target.
 //!
-//! The header states what a `requires` asks of callers; nothing checks a call from C. Keys of 16, 24 and 32 bytes go
-//! through the same exports, since the struct knows how long its key is.
+//! The header states what a `requires` asks of callers; nothing checks a call from C.
 #![tactic(auto)]
 
-ghost use Rattle.std.specs.Prelude.{◌≡◌};
-
-mod blocks;
-pub mod examples;
-mod kept;
-mod once;
-mod status;
-mod stream;
+mod exports;
 #[cfg(test)]
 mod tests;
 
-pub use blocks::{
-    fotsgure_aes_decrypt_blocks, fotsgure_aes_decrypt_blocks_to, fotsgure_aes_encrypt_blocks,
-    fotsgure_aes_encrypt_blocks_to,
+pub use aes_calls::kept::Aes;
+pub use aes_calls::status::{DONE, KEY_LENGTH, KEYSTREAM_END, NO_KEY, UNEQUAL_COUNTS, VERSION};
+pub use aes_calls::stream::Ctr;
+pub use exports::{
+    fotsgure_aes_add_keystream, fotsgure_aes_add_keystream_to, fotsgure_aes_add_keystream_with,
+    fotsgure_aes_decrypt_blocks, fotsgure_aes_decrypt_blocks_to, fotsgure_aes_decrypt_blocks_with,
+    fotsgure_aes_encrypt_blocks, fotsgure_aes_encrypt_blocks_to, fotsgure_aes_encrypt_blocks_with,
+    fotsgure_aes_key_length, fotsgure_aes_set_key, fotsgure_aes_version, fotsgure_aes_wipe,
 };
-pub use kept::{Aes, fotsgure_aes_key_length, fotsgure_aes_set_key, fotsgure_aes_wipe};
-pub use once::{
-    fotsgure_aes_add_keystream_with, fotsgure_aes_decrypt_blocks_with,
-    fotsgure_aes_encrypt_blocks_with,
-};
-pub use status::{DONE, KEY_LENGTH, KEYSTREAM_END, NO_KEY, UNEQUAL_COUNTS};
-pub use stream::{Ctr, fotsgure_aes_add_keystream, fotsgure_aes_add_keystream_to};
 
-/// The version of the interface: 10000 times the first number, 100 times the second, plus the third.
-pub const VERSION: u32 = 200;
-
-/// Returns the version of the library; programs compare it with that of their header.
-#[unsafe(no_mangle)]
-pub extern "C" fn fotsgure_aes_version() -> u32
-    ensures { result ≡ VERSION }
-{
-    VERSION
-}
+/// The width of the words on which the exports process many blocks.
+pub type Chosen = aes_hybrid::widths::Narrow;

@@ -1,6 +1,6 @@
 -- Slices of which a part is processed first, and then what is left.
-use Rattle.std.proofs.Common.{◌≡◌, ℕ, zero, suc, ◌-◌, ◌+◌, ◌<◌, ◌≤◌, List, [], ◌∷◌, ◌++◌, length, map, take, drop}
-use Rattle.std.proofs.Common.{get_or, set, refl, sym, ap, ◌∙◌, arith}
+use Rattle.std.proofs.Common.{◌≡◌, ℕ, zero, suc, ◌+◌, ◌<◌, List, [], ◌∷◌, ◌++◌, length, map, take, drop}
+use Rattle.std.proofs.Common.{get_or, set, refl, ap, ◌∙◌, arith}
 use Rattle.aes_cipher.proofs.SliceRuns.{finished}
 
 -- where f of each element from place i on stands in its place, the element at that place, written back

@@ -9,23 +9,20 @@ ghost use Rattle.aes_permute.specs.Keys.{encrypting};
 ghost use Rattle.aes_permute.specs.Stored.{round_keys_of};
 ghost use Rattle.aes_hybrid.specs.Lanes.{lanes_key, IsLanes};
 
-use crate::wide::put_wide;
-use aes_cipher::zeroize::{Held, zeroize_words};
+use crate::plane_keys::put_first;
+use crate::sixteens::{blocks_by_sixteen, process_sixteens};
+use crate::widths::Width;
+use aes_cipher::zeroize::Held;
 use aes_permute::blocks::process_blocks as process_on_lanes;
 use aes_permute::directions::LaneRounds;
 use aes_planes::soft::sbox::Layers;
 use aes_planes::soft::word::Block;
-use aes_soft::soft::FullCipher;
+use aes_soft::soft::PlaneCipher;
 use aes_soft::soft::blocks::{process_batch_under, process_batches_under};
 use aes_soft::soft::key_sizes::BatchWord;
-use std::simd::prelude::*;
 
 /// How many blocks planes hold.
 pub const BATCH: usize = 8;
-
-/// Whether whole batches of sixteen are processed on words of 256 bits: of use only where the processor has vectors of that
-/// size.
-pub const WIDE: bool = false;
 
 // The most blocks for which vector permutations take less time than a batch on planes, once the planes of the round keys
 // are made.
@@ -36,7 +33,7 @@ const LEAST_ON_PLANES: usize = 15;
 
 // Processes the last blocks, six or seven, as a batch with those before them, which then get back what they held.
 #[inline(never)]
-fn process_last<D: FullCipher>(words: &[BatchWord], blocks: &mut [Block], count: usize)
+fn process_last<D: PlaneCipher>(words: &[BatchWord], blocks: &mut [Block], count: usize)
     requires least { 88 ≤ length words.now }
     requires most { length words.now ≤ 120 }
     requires half_over { length words.now % 16 ≡ 8 }
@@ -63,7 +60,7 @@ fn process_last<D: FullCipher>(words: &[BatchWord], blocks: &mut [Block], count:
 
 // Processes each block on planes of round keys: what is left after whole batches, and these.
 #[inline(always)]
-fn process_in_batches<D: FullCipher>(words: &[BatchWord], blocks: &mut [Block])
+fn process_in_batches<D: PlaneCipher>(words: &[BatchWord], blocks: &mut [Block])
     requires least { 88 ≤ length words.now }
     requires most { length words.now ≤ 120 }
     requires half_over { length words.now % 16 ≡ 8 }
@@ -85,7 +82,7 @@ fn process_in_batches<D: FullCipher>(words: &[BatchWord], blocks: &mut [Block])
 
 // Processes seven blocks as a batch with a block of zeros.
 #[inline(never)]
-fn process_seven<D: FullCipher>(words: &[BatchWord], blocks: &mut [Block])
+fn process_seven<D: PlaneCipher>(words: &[BatchWord], blocks: &mut [Block])
     requires least { 88 ≤ length words.now }
     requires most { length words.now ≤ 120 }
     requires half_over { length words.now % 16 ≡ 8 }
@@ -104,7 +101,7 @@ fn process_seven<D: FullCipher>(words: &[BatchWord], blocks: &mut [Block])
 
 // Processes each block on planes, which are wiped before the call returns.
 #[inline(always)]
-fn process_with_planes<const N: usize, D: LaneRounds + FullCipher>(
+fn process_with_planes<const N: usize, D: LaneRounds + PlaneCipher>(
     keys: &[Block],
     blocks: &mut [Block],
 )
@@ -116,7 +113,7 @@ fn process_with_planes<const N: usize, D: LaneRounds + FullCipher>(
     ensures { Each (D.processed (fips.key_expansion (lanes_key keys.now))) blocks.old blocks.new }
 {
     let mut wide = Held::<[BatchWord; N]>::zeroed();
-    put_wide::<N, BatchWord>(wide.words_mut(), keys);
+    put_first::<N, BatchWord>(wide.words_mut(), keys);
     let words = &wide.words()[..8 * keys.len()];
     if blocks.len() < BATCH {
         process_seven::<D>(words, blocks);
@@ -128,7 +125,7 @@ fn process_with_planes<const N: usize, D: LaneRounds + FullCipher>(
 
 // Does the same in an array no larger than the round keys. Not inlined, so that few blocks need no large stack frame.
 #[inline(never)]
-fn process_on_planes<D: LaneRounds + FullCipher>(keys: &[Block], blocks: &mut [Block])
+fn process_on_planes<D: LaneRounds + PlaneCipher>(keys: &[Block], blocks: &mut [Block])
     requires is_lanes { IsLanes keys.now }
     requires some { 7 ≤ length blocks.old }
     requires rest { (length blocks.old % 8 ≡ 0) ⊎ (6 ≤ length blocks.old % 8) }
@@ -176,71 +173,9 @@ fn blocks_on_planes<D: LaneRounds>(count: usize) -> usize
     }
 }
 
-// Processes sixteen blocks at a time on words of 256 bits, which are wiped before the call returns.
-#[inline(always)]
-fn process_sixteens<const N: usize, D: LaneRounds + FullCipher>(
-    keys: &[Block],
-    blocks: &mut [Block],
-)
-    requires room { 8 * length keys.now ≤ N }
-    requires most { N ≤ 120 }
-    requires is_lanes { IsLanes keys.now }
-    requires sixteens { length blocks.old % 16 ≡ 0 }
-    ensures { Each (D.processed (fips.key_expansion (lanes_key keys.now))) blocks.old blocks.new }
-{
-    let mut wide = [u8x32::splat(0); N];
-    put_wide::<N, u8x32>(&mut wide, keys);
-    process_batches_under::<u8x32, D>(&wide[..8 * keys.len()], blocks, &mut Layers::new());
-    zeroize_words::<u8x32>(&mut wide);
-}
-
-// Does the same in an array no larger than the round keys.
-#[inline(never)]
-fn process_on_wide_planes<D: LaneRounds + FullCipher>(keys: &[Block], blocks: &mut [Block])
-    requires is_lanes { IsLanes keys.now }
-    requires sixteens { length blocks.old % 16 ≡ 0 }
-    ensures { Each (D.processed (fips.key_expansion (lanes_key keys.now))) blocks.old blocks.new }
-{
-    if keys.len() == 11 {
-        process_sixteens::<88, D>(keys, blocks);
-    } else if keys.len() == 13 {
-        process_sixteens::<104, D>(keys, blocks);
-    } else {
-        process_sixteens::<120, D>(keys, blocks);
-    }
-}
-
-// How many of a number of blocks are processed on words of 256 bits: whole batches of sixteen, or none.
-#[inline(always)]
-fn blocks_by_sixteen(count: usize) -> usize
-    ensures inside { result ≤ count }
-    ensures whole { result % 16 ≡ 0 }
-{
-    if WIDE { count - count % 16 } else { 0 }
-}
-
-/// Processes each block of a slice in place, as below, with whole batches of sixteen on words of 256 bits if the library
-/// is built for a processor that has vectors of that size.
-pub fn process_blocks<D: LaneRounds + FullCipher>(
-    keys: &[Block],
-    used: &[Block],
-    blocks: &mut [Block],
-)
-    requires is_lanes { IsLanes keys.now }
-    requires used { round_keys_of D.form used.now ≡ D.form.used_keys (encrypting keys.now) }
-    ensures { Each (D.processed (fips.key_expansion (lanes_key keys.now))) blocks.old blocks.new }
-{
-    let whole = blocks_by_sixteen(blocks.len());
-    if whole > 0 {
-        process_on_wide_planes::<D>(keys, &mut blocks[..whole]);
-    }
-    process_narrow::<D>(keys, used, &mut blocks[whole..]);
-}
-
-// Processes each block of a slice in place: whole batches on planes, and the others by vector permutations where they
-// are few, since these take less time so. `keys` are the stored round keys of Cipher, and `used` those of the
-// direction.
-fn process_narrow<D: LaneRounds + FullCipher>(keys: &[Block], used: &[Block], blocks: &mut [Block])
+// Processes each block of a slice in place: whole batches of eight on planes, and the others by vector permutations where
+// they are few, since these take less time so.
+fn process_narrow<D: LaneRounds + PlaneCipher>(keys: &[Block], used: &[Block], blocks: &mut [Block])
     requires is_lanes { IsLanes keys.now }
     requires used { round_keys_of D.form used.now ≡ D.form.used_keys (encrypting keys.now) }
     ensures { Each (D.processed (fips.key_expansion (lanes_key keys.now))) blocks.old blocks.new }
@@ -250,4 +185,23 @@ fn process_narrow<D: LaneRounds + FullCipher>(keys: &[Block], used: &[Block], bl
         process_on_planes::<D>(keys, &mut blocks[..whole]);
     }
     process_few::<D>(keys, used, &mut blocks[whole..]);
+}
+
+/// Processes each block of a slice in place: batches of sixteen on words of 256 bits, if the width has these, batches of
+/// eight on words of 128, and few blocks by vector permutations. `keys` are the stored round keys of Cipher,
+/// and `used` those of the direction.
+pub fn process_blocks<D: LaneRounds + PlaneCipher, W: Width>(
+    keys: &[Block],
+    used: &[Block],
+    blocks: &mut [Block],
+)
+    requires is_lanes { IsLanes keys.now }
+    requires used { round_keys_of D.form used.now ≡ D.form.used_keys (encrypting keys.now) }
+    ensures { Each (D.processed (fips.key_expansion (lanes_key keys.now))) blocks.old blocks.new }
+{
+    let whole = blocks_by_sixteen::<W>(blocks.len());
+    if whole > 0 {
+        process_sixteens::<D>(keys, &mut blocks[..whole]);
+    }
+    process_narrow::<D>(keys, used, &mut blocks[whole..]);
 }

@@ -4,24 +4,27 @@ ghost use Rattle.std.specs.Prelude.{◌≡◌};
 ghost use Rattle.aes_hybrid.specs.Lanes.{lanes_key, IsLanes};
 
 use crate::blocks::process_blocks;
-use crate::lent::LentKeys;
+use crate::lent::Lent;
+use crate::widths::{Narrow, Width};
 use aes_cipher::aes::{Decrypts, Encrypts, KeySchedule, KeySize, Processes, TurnedFrom};
 use aes_cipher::cipher::{
     BlockCipherDecClosure, BlockCipherEncClosure, BlockCipherEncrypt, Decrypt, Encrypt,
 };
 use aes_permute::keys::{LendsKeys, OneWay, TwoWays};
 use aes_planes::soft::word::Block;
+use std::marker::PhantomData;
 
 /// Stored round keys of vector permutations, those of Cipher among them: planes for whole batches are made of these, in
 /// either direction.
-pub struct Hybrid<S: Drop> {
+pub struct Hybrid<S: Drop, W = Narrow> {
     lanes: S,
+    width: PhantomData<W>,
 }
 
-impl<S: Drop> Drop for Hybrid<S> {
+impl<S: Drop, W> Drop for Hybrid<S, W> {
     #[inline(always)]
     fn drop(self) {
-        let Hybrid { lanes: _ } = self;
+        let Hybrid { lanes: _, width: _ } = self;
     }
 }
 
@@ -36,7 +39,7 @@ fn keys_of<S: LendsKeys<Encrypt>>(lanes: &S) -> &[Block]
     lanes.lend()
 }
 
-impl<K: KeySize> KeySchedule for Hybrid<OneWay<K, Encrypt>> {
+impl<K: KeySize, W> KeySchedule for Hybrid<OneWay<K, Encrypt>, W> {
     type Size = K;
 
     ghost key = { λ s. ⟦<OneWay<K, Encrypt> as KeySchedule>⟧.key s.lanes };
@@ -46,9 +49,10 @@ impl<K: KeySize> KeySchedule for Hybrid<OneWay<K, Encrypt>> {
     ghost IsWiped = { λ s. ⟦<OneWay<K, Encrypt> as KeySchedule>⟧.IsWiped s.lanes };
 
     #[inline(always)]
-    fn zeroed() -> Hybrid<OneWay<K, Encrypt>> {
+    fn zeroed() -> Hybrid<OneWay<K, Encrypt>, W> {
         Hybrid {
             lanes: <OneWay<K, Encrypt> as KeySchedule>::zeroed(),
+            width: PhantomData,
         }
     }
 
@@ -63,9 +67,10 @@ impl<K: KeySize> KeySchedule for Hybrid<OneWay<K, Encrypt>> {
     }
 
     #[inline(always)]
-    fn copy(&self) -> Hybrid<OneWay<K, Encrypt>> {
+    fn copy(&self) -> Hybrid<OneWay<K, Encrypt>, W> {
         Hybrid {
             lanes: self.lanes.copy(),
+            width: PhantomData,
         }
     }
 
@@ -74,7 +79,7 @@ impl<K: KeySize> KeySchedule for Hybrid<OneWay<K, Encrypt>> {
     }
 }
 
-impl<K: KeySize> KeySchedule for Hybrid<TwoWays<K>> {
+impl<K: KeySize, W> KeySchedule for Hybrid<TwoWays<K>, W> {
     type Size = K;
 
     ghost key = { λ s. ⟦<TwoWays<K> as KeySchedule>⟧.key s.lanes };
@@ -84,9 +89,10 @@ impl<K: KeySize> KeySchedule for Hybrid<TwoWays<K>> {
     ghost IsWiped = { λ s. ⟦<TwoWays<K> as KeySchedule>⟧.IsWiped s.lanes };
 
     #[inline(always)]
-    fn zeroed() -> Hybrid<TwoWays<K>> {
+    fn zeroed() -> Hybrid<TwoWays<K>, W> {
         Hybrid {
             lanes: <TwoWays<K> as KeySchedule>::zeroed(),
+            width: PhantomData,
         }
     }
 
@@ -101,9 +107,10 @@ impl<K: KeySize> KeySchedule for Hybrid<TwoWays<K>> {
     }
 
     #[inline(always)]
-    fn copy(&self) -> Hybrid<TwoWays<K>> {
+    fn copy(&self) -> Hybrid<TwoWays<K>, W> {
         Hybrid {
             lanes: self.lanes.copy(),
+            width: PhantomData,
         }
     }
 
@@ -112,16 +119,17 @@ impl<K: KeySize> KeySchedule for Hybrid<TwoWays<K>> {
     }
 }
 
-impl<K: KeySize> TurnedFrom<Hybrid<OneWay<K, Encrypt>>> for Hybrid<TwoWays<K>> {
+impl<K: KeySize, W> TurnedFrom<Hybrid<OneWay<K, Encrypt>, W>> for Hybrid<TwoWays<K>, W> {
     #[inline(always)]
-    fn turned(schedule: &Hybrid<OneWay<K, Encrypt>>) -> Hybrid<TwoWays<K>> {
+    fn turned(schedule: &Hybrid<OneWay<K, Encrypt>, W>) -> Hybrid<TwoWays<K>, W> {
         Hybrid {
             lanes: TwoWays::turned(&schedule.lanes),
+            width: PhantomData,
         }
     }
 }
 
-impl<K: KeySize> Processes<Encrypt> for Hybrid<OneWay<K, Encrypt>> {
+impl<K: KeySize, W: Width> Processes<Encrypt> for Hybrid<OneWay<K, Encrypt>, W> {
     #[inline(always)]
     fn process_block(&self, block: &mut Block) {
         <OneWay<K, Encrypt> as Processes<Encrypt>>::process_block(&self.lanes, block);
@@ -129,23 +137,23 @@ impl<K: KeySize> Processes<Encrypt> for Hybrid<OneWay<K, Encrypt>> {
 
     fn process_blocks(&self, blocks: &mut [Block]) {
         let keys = keys_of::<OneWay<K, Encrypt>>(&self.lanes);
-        process_blocks::<Encrypt>(keys, keys, blocks);
+        process_blocks::<Encrypt, W>(keys, keys, blocks);
     }
 }
 
-impl<K: KeySize> Encrypts for Hybrid<OneWay<K, Encrypt>> {
+impl<K: KeySize, W: Width> Encrypts for Hybrid<OneWay<K, Encrypt>, W> {
     fn encrypt_with_backend<F: BlockCipherEncClosure>(&self, f: &mut F) {
-        LentKeys::new(keys_of::<OneWay<K, Encrypt>>(&self.lanes)).encrypt_with_backend(f);
+        Lent::<W>::new(keys_of::<OneWay<K, Encrypt>>(&self.lanes)).encrypt_with_backend(f);
     }
 
     fn encrypt_with_backend_for<F: BlockCipherEncClosure>(&self, blocks: usize, f: &mut F) {
-        LentKeys::new(keys_of::<OneWay<K, Encrypt>>(&self.lanes)).encrypt_with_backend_for(
+        Lent::<W>::new(keys_of::<OneWay<K, Encrypt>>(&self.lanes)).encrypt_with_backend_for(
             blocks, f,
         );
     }
 }
 
-impl<K: KeySize> Processes<Encrypt> for Hybrid<TwoWays<K>> {
+impl<K: KeySize, W: Width> Processes<Encrypt> for Hybrid<TwoWays<K>, W> {
     #[inline(always)]
     fn process_block(&self, block: &mut Block) {
         <TwoWays<K> as Processes<Encrypt>>::process_block(&self.lanes, block);
@@ -153,21 +161,21 @@ impl<K: KeySize> Processes<Encrypt> for Hybrid<TwoWays<K>> {
 
     fn process_blocks(&self, blocks: &mut [Block]) {
         let keys = keys_of::<TwoWays<K>>(&self.lanes);
-        process_blocks::<Encrypt>(keys, keys, blocks);
+        process_blocks::<Encrypt, W>(keys, keys, blocks);
     }
 }
 
-impl<K: KeySize> Encrypts for Hybrid<TwoWays<K>> {
+impl<K: KeySize, W: Width> Encrypts for Hybrid<TwoWays<K>, W> {
     fn encrypt_with_backend<F: BlockCipherEncClosure>(&self, f: &mut F) {
-        LentKeys::new(keys_of::<TwoWays<K>>(&self.lanes)).encrypt_with_backend(f);
+        Lent::<W>::new(keys_of::<TwoWays<K>>(&self.lanes)).encrypt_with_backend(f);
     }
 
     fn encrypt_with_backend_for<F: BlockCipherEncClosure>(&self, blocks: usize, f: &mut F) {
-        LentKeys::new(keys_of::<TwoWays<K>>(&self.lanes)).encrypt_with_backend_for(blocks, f);
+        Lent::<W>::new(keys_of::<TwoWays<K>>(&self.lanes)).encrypt_with_backend_for(blocks, f);
     }
 }
 
-impl<K: KeySize> Processes<Decrypt> for Hybrid<TwoWays<K>> {
+impl<K: KeySize, W: Width> Processes<Decrypt> for Hybrid<TwoWays<K>, W> {
     #[inline(always)]
     fn process_block(&self, block: &mut Block) {
         <TwoWays<K> as Processes<Decrypt>>::process_block(&self.lanes, block);
@@ -175,11 +183,11 @@ impl<K: KeySize> Processes<Decrypt> for Hybrid<TwoWays<K>> {
 
     fn process_blocks(&self, blocks: &mut [Block]) {
         let used = <TwoWays<K> as LendsKeys<Decrypt>>::lend(&self.lanes);
-        process_blocks::<Decrypt>(keys_of::<TwoWays<K>>(&self.lanes), used, blocks);
+        process_blocks::<Decrypt, W>(keys_of::<TwoWays<K>>(&self.lanes), used, blocks);
     }
 }
 
-impl<K: KeySize> Decrypts for Hybrid<TwoWays<K>> {
+impl<K: KeySize, W: Width> Decrypts for Hybrid<TwoWays<K>, W> {
     #[inline(always)]
     fn decrypt_with_backend<F: BlockCipherDecClosure>(&self, f: &mut F) {
         self.lanes.decrypt_with_backend(f);

@@ -5,28 +5,39 @@ ghost use Rattle.aes_planes.specs.Fips197 as fips;
 ghost use Rattle.aes_planes.proofs.Standard.CipherLaws.{two_keys};
 ghost use Rattle.aes_hybrid.specs.Lanes.{lanes_key, IsLanes};
 
-mod backends;
+pub(crate) mod backends;
 
-use crate::blocks::{BATCH, WIDE, process_blocks};
-use crate::wide::put_wide;
+use crate::blocks::{BATCH, process_blocks};
+use crate::plane_keys::put_first;
+use crate::sixteens::{self, call_with_sixteens};
+use crate::widths::{Narrow, Width};
 use aes_cipher::cipher::{BlockCipherEncClosure, BlockCipherEncrypt, Encrypt, RoundKeysUser};
-use aes_cipher::zeroize::{Held, zeroize_words};
+use aes_cipher::zeroize::Held;
 use aes_planes::laws;
 use aes_planes::soft::word::Block;
 use aes_soft::soft::key_sizes::BatchWord;
-use backends::{Batches, Pairs, Sixteens};
-use std::marker::Model;
-use std::simd::prelude::*;
+use backends::{Batches, Pairs};
+use std::marker::{Model, PhantomData};
 use std::slice;
 
 /// Stored round keys of Cipher, lent to encrypt. The backend for eight blocks or more has planes for whole batches, and
 /// that for fewer vector permutations alone. Contracts see a value as its key.
-#[derive(Drop)]
-pub struct LentKeys<'a> {
+pub struct Lent<'a, W> {
     keys: &'a [Block],
+    width: PhantomData<W>,
 }
 
-impl<'a> Model for LentKeys<'a> {
+/// Those that go on words of 128 bits.
+pub type LentKeys<'a> = Lent<'a, Narrow>;
+
+impl<W> Drop for Lent<'_, W> {
+    #[inline(always)]
+    fn drop(self) {
+        let Lent { keys: _, width: _ } = self;
+    }
+}
+
+impl<'a, W> Model for Lent<'a, W> {
     ghost Value = { List ℕ };
 
     ghost view = { λ lent. lanes_key lent.keys.now };
@@ -34,18 +45,21 @@ impl<'a> Model for LentKeys<'a> {
     ghost invariant = { λ lent. IsLanes lent.keys.now };
 }
 
-impl<'a> LentKeys<'a> {
+impl<'a, W> Lent<'a, W> {
     /// Lends stored round keys.
     #[inline(always)]
-    pub fn new(keys: &'a [Block]) -> LentKeys<'a>
+    pub fn new(keys: &'a [Block]) -> Lent<'a, W>
         requires { IsLanes keys.now }
         ensures { result ≡ lanes_key keys.now }
     {
-        LentKeys { keys }
+        Lent {
+            keys,
+            width: PhantomData,
+        }
     }
 }
 
-impl RoundKeysUser for LentKeys<'_> {
+impl<W> RoundKeysUser for Lent<'_, W> {
     ghost round_keys = { fips.key_expansion };
 
     fn has_round_keys(&self) {
@@ -56,7 +70,7 @@ impl RoundKeysUser for LentKeys<'_> {
     ghost two_round_keys = { two_keys };
 }
 
-impl BlockCipherEncrypt for LentKeys<'_> {
+impl<W: Width> BlockCipherEncrypt for Lent<'_, W> {
     #[inline(always)]
     fn encrypt_with_backend<F: BlockCipherEncClosure>(&self, f: &mut F) {
         let keys = self.keys;
@@ -73,8 +87,8 @@ impl BlockCipherEncrypt for LentKeys<'_> {
     fn encrypt_with_backend_for<F: BlockCipherEncClosure>(&self, blocks: usize, f: &mut F) {
         if blocks < BATCH {
             f.call(&Pairs::new(self.keys));
-        } else if WIDE && blocks >= 16 {
-            call_by_sixteen_of(self.keys, f);
+        } else if W::HAS_SIXTEENS && blocks >= sixteens::LEAST {
+            call_with_sixteens(self.keys, f);
         } else {
             self.encrypt_with_backend(f);
         }
@@ -82,12 +96,12 @@ impl BlockCipherEncrypt for LentKeys<'_> {
 
     #[inline(always)]
     fn encrypt_block(&self, block: &mut Block) {
-        process_blocks::<Encrypt>(self.keys, self.keys, slice::from_mut(block));
+        process_blocks::<Encrypt, W>(self.keys, self.keys, slice::from_mut(block));
     }
 
     #[inline(always)]
     fn encrypt_blocks(&self, blocks: &mut [Block]) {
-        process_blocks::<Encrypt>(self.keys, self.keys, blocks);
+        process_blocks::<Encrypt, W>(self.keys, self.keys, blocks);
     }
 }
 
@@ -100,37 +114,8 @@ fn call_with_planes<const N: usize, F: BlockCipherEncClosure>(keys: &[Block], f:
     ensures { F.did f.old (fips.key_expansion (lanes_key keys.now)) f.new }
 {
     let mut wide = Held::<[BatchWord; N]>::zeroed();
-    put_wide::<N, BatchWord>(wide.words_mut(), keys);
+    put_first::<N, BatchWord>(wide.words_mut(), keys);
     let words = &wide.words()[..8 * keys.len()];
     f.call(&Batches::new(keys, words));
     wide.wipe();
-}
-
-// Calls a closure with a backend on words of 256 bits, which are wiped before the call returns.
-#[inline(always)]
-fn call_by_sixteen<const N: usize, F: BlockCipherEncClosure>(keys: &[Block], f: &mut F)
-    requires room { 8 * length keys.now ≤ N }
-    requires most { N ≤ 120 }
-    requires is_lanes { IsLanes keys.now }
-    ensures { F.did f.old (fips.key_expansion (lanes_key keys.now)) f.new }
-{
-    let mut wide = [u8x32::splat(0); N];
-    put_wide::<N, u8x32>(&mut wide, keys);
-    f.call(&Sixteens::new(keys, &wide[..8 * keys.len()]));
-    zeroize_words::<u8x32>(&mut wide);
-}
-
-// Does the same in an array no larger than the round keys.
-#[inline(always)]
-fn call_by_sixteen_of<F: BlockCipherEncClosure>(keys: &[Block], f: &mut F)
-    requires is_lanes { IsLanes keys.now }
-    ensures { F.did f.old (fips.key_expansion (lanes_key keys.now)) f.new }
-{
-    if keys.len() == 11 {
-        call_by_sixteen::<88, F>(keys, f);
-    } else if keys.len() == 13 {
-        call_by_sixteen::<104, F>(keys, f);
-    } else {
-        call_by_sixteen::<120, F>(keys, f);
-    }
 }

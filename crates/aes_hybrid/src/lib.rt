@@ -8,11 +8,14 @@ pub mod examples;
 pub mod keys;
 pub mod lent;
 mod names;
-mod spread;
-mod wide;
+mod plane_keys;
+mod sixteens;
+mod slots;
+pub mod wide;
+pub mod widths;
 
 pub use ciphers::Hybrid;
 pub use names::{
     Aes128, Aes128Dec, Aes128Enc, Aes192, Aes192Dec, Aes192Enc, Aes256, Aes256Dec, Aes256Enc,
 };
-pub use wide::put_planes;
+pub use plane_keys::put_planes;

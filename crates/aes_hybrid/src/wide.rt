@@ -1,105 +1,39 @@
-//! Round keys of vector permutations as planes: the S-box of their schedule serves both forms.
+//! The nine types on words of 256 bits too, for builds for a processor that has vectors of that size, and round keys
+//! lent so. Contracts are those of the types without this module's name.
 
-ghost use Rattle.std.specs.Prelude.{◌≡◌, ◌⊎◌, ℕ, ◌+◌, ◌*◌, ◌%◌, ◌<◌, ◌≤◌, length, map, replicate, take};
-ghost use Rattle.aes_planes.specs.Fips197 as fips;
-ghost use Rattle.aes_planes.specs.Planes.{held, words_at};
-ghost use Rattle.aes_soft.specs.Stored as soft;
-ghost use Rattle.aes_permute.specs.Stored.{untower};
-ghost use Rattle.aes_hybrid.specs.Lanes.{lanes_key, IsLanes};
+use crate::ciphers::Hybrid;
+use crate::lent::Lent;
+use crate::widths::Wide;
+use aes_cipher::aes::{AesCipher, Bits128, Bits192, Bits256, BothWays};
+use aes_cipher::cipher::{Decrypt, Encrypt};
+use aes_permute::keys::{OneWay, TwoWays};
 
-use crate::spread::SlotWord;
-use aes_permute::lanes::looked_up_by_nibbles;
-use aes_permute::tables::{UNTOWER_HIGH, UNTOWER_LOW};
-use aes_planes::laws;
-use aes_planes::soft::utils::put_round_key;
-use aes_planes::soft::word::Block;
-use std::simd::prelude::*;
+/// AES with a key of 16 bytes, for encryption and decryption.
+pub type Aes128 = AesCipher<Hybrid<TwoWays<Bits128>, Wide>, BothWays>;
 
-// InvShiftRows of a block (FIPS 197, 5.3.1).
-#[tactic(auto, using(crate::proofs::Shifted::shifted_is))]
-#[inline(always)]
-fn shifted_back(x: u8x16) -> u8x16
-    requires { length x ≡ 16 }
-    ensures { result ≡ fips.inv_shift_rows x }
-{
-    x.swizzle([0, 13, 10, 7, 4, 1, 14, 11, 8, 5, 2, 15, 12, 9, 6, 3])
-}
+/// AES with a key of 16 bytes, for encryption only.
+pub type Aes128Enc = AesCipher<Hybrid<OneWay<Bits128, Encrypt>, Wide>, Encrypt>;
 
-// Applies InvShiftRows to a block `times` times.
-#[tactic(auto, using(crate::proofs::Shifted::one_by_one))]
-#[inline(always)]
-fn shifted_back_times(x: u8x16, times: usize) -> u8x16
-    requires below_four { times < 4 }
-    requires sized { length x ≡ 16 }
-    ensures { result ≡ fips.inv_shift_times times x }
-{
-    if times == 1 {
-        return shifted_back(x);
-    }
-    if times == 2 {
-        return shifted_back(shifted_back(x));
-    }
-    if times == 3 {
-        return shifted_back(shifted_back(shifted_back(x)));
-    }
-    x
-}
+/// AES with a key of 16 bytes, for decryption only. It keeps the round keys of Cipher too, of which planes are made.
+pub type Aes128Dec = AesCipher<Hybrid<TwoWays<Bits128>, Wide>, Decrypt>;
 
-// The block that planes hold for a stored round key of Cipher between the first and the last: it has the constant of
-// the S-box twice, which is not at all.
-#[inline(always)]
-fn plane_key(stored: &Block, number: usize) -> u8x16
-    ensures { result ≡ fips.inv_shift_times (number % 4) (map untower stored.now) }
-{
-    laws::is_block(*stored);
-    let x = looked_up_by_nibbles(u8x16::from_array(*stored), UNTOWER_LOW, UNTOWER_HIGH);
-    shifted_back_times(x, number % 4)
-}
+/// AES with a key of 24 bytes, for encryption and decryption.
+pub type Aes192 = AesCipher<Hybrid<TwoWays<Bits192>, Wide>, BothWays>;
 
-// Stores a block in every slot as the planes of round key `i`. The other words stay.
-#[inline(always)]
-fn put_block<W: SlotWord>(words: &mut [W], i: usize, block: u8x16)
-    requires room { 8 * i + 8 ≤ length words.old }
-    ensures put { held W.BLOCKS (map W.bits (words_at words.new (8 * i))) ≡ replicate W.BLOCKS block }
-    ensures others { (o : ℕ) → (o + 8 ≤ 8 * i) ⊎ (8 * i + 8 ≤ o) → words_at words.new o ≡ words_at words.old o }
-    ensures same_length { length words.new ≡ length words.old }
-{
-    let block = block.to_array();
-    laws::is_block(block);
-    let planes = W::in_every_slot(u8x16::from_array(block));
-    put_round_key(words, i, &planes);
-}
+/// AES with a key of 24 bytes, for encryption only.
+pub type Aes192Enc = AesCipher<Hybrid<OneWay<Bits192, Encrypt>, Wide>, Encrypt>;
 
-/// Writes stored round keys of Cipher to words, as the full layout of planes stores those of the same key.
-pub fn put_planes<W: SlotWord>(words: &mut [W], keys: &[Block])
-    requires sized { length words.old ≡ 8 * length keys.now }
-    requires is_lanes { IsLanes keys.now }
-    ensures same_length { length words.new ≡ 8 * length keys.now }
-    ensures is_schedule { let n = length words.new in
-        soft.IsKeyed (soft.size_of n) W.BLOCKS (soft.full (soft.rounds_of n)) (map W.bits words.new) }
-    ensures key { let n = length words.new in
-        soft.key_of (soft.size_of n) W.BLOCKS (soft.full (soft.rounds_of n)) (map W.bits words.new)
-        ≡ lanes_key keys.now }
-{
-    let last = keys.len() - 1;
-    put_block(words, 0, u8x16::from_array(keys[0]));
-    'keys: for i in 1..last {
-        put_block(words, i, plane_key(&keys[i], i));
-    }
-    put_block(words, last, u8x16::from_array(keys[last]));
-}
+/// AES with a key of 24 bytes, for decryption only. It keeps the round keys of Cipher too, of which planes are made.
+pub type Aes192Dec = AesCipher<Hybrid<TwoWays<Bits192>, Wide>, Decrypt>;
 
-// Writes the same to the first words of an array.
-#[inline(always)]
-pub(crate) fn put_wide<const N: usize, W: SlotWord>(wide: &mut [W; N], keys: &[Block])
-    requires room { 8 * length keys.now ≤ N }
-    requires most { N ≤ 120 }
-    requires is_lanes { IsLanes keys.now }
-    ensures is_schedule { let n = 8 * length keys.now in
-        soft.IsKeyed (soft.size_of n) W.BLOCKS (soft.full (soft.rounds_of n)) (map W.bits (take n wide.new)) }
-    ensures key { let n = 8 * length keys.now in
-        soft.key_of (soft.size_of n) W.BLOCKS (soft.full (soft.rounds_of n)) (map W.bits (take n wide.new))
-        ≡ lanes_key keys.now }
-{
-    put_planes(&mut wide[..8 * keys.len()], keys);
-}
+/// AES with a key of 32 bytes, for encryption and decryption.
+pub type Aes256 = AesCipher<Hybrid<TwoWays<Bits256>, Wide>, BothWays>;
+
+/// AES with a key of 32 bytes, for encryption only.
+pub type Aes256Enc = AesCipher<Hybrid<OneWay<Bits256, Encrypt>, Wide>, Encrypt>;
+
+/// AES with a key of 32 bytes, for decryption only. It keeps the round keys of Cipher too, of which planes are made.
+pub type Aes256Dec = AesCipher<Hybrid<TwoWays<Bits256>, Wide>, Decrypt>;
+
+/// Stored round keys of Cipher, lent to encrypt.
+pub type LentKeys<'a> = Lent<'a, Wide>;

@@ -9,6 +9,7 @@ use aes_cipher::cipher::{
 };
 
 pub mod both_forms;
+pub mod both_forms_wide;
 pub mod permutations;
 pub mod planes;
 

@@ -1,4 +1,4 @@
-//! Backends that encrypt: pairs by vector permutations, and batches of eight on planes.
+//! Backends that encrypt: pairs by vector permutations, and batches of eight or sixteen on planes.
 
 ghost use Rattle.std.specs.Prelude.{◌≡◌, ℕ, ◌%◌, ◌≤◌, List, length, map};
 ghost use Rattle.std.proofs.Common.{arith};
@@ -149,7 +149,7 @@ impl BlockCipherEncBackend for Batches<'_> {
 }
 
 /// Batches of sixteen blocks.
-pub(super) struct BatchOfSixteen;
+pub(crate) struct BatchOfSixteen;
 
 impl BatchSize for BatchOfSixteen {
     ghost PAR_BLOCKS = { 16 };
@@ -161,7 +161,7 @@ impl BatchSize for BatchOfSixteen {
 
 // Encrypts single blocks by vector permutations, and batches of sixteen on words of 256 bits.
 #[derive(Drop)]
-pub(super) struct Sixteens<'a> {
+pub(crate) struct Sixteens<'a> {
     keys: &'a [Block],
     words: &'a [u8x32],
 }
@@ -181,7 +181,7 @@ impl<'a> Model for Sixteens<'a> {
 
 impl<'a> Sixteens<'a> {
     #[inline(always)]
-    pub(super) fn new(keys: &'a [Block], words: &'a [u8x32]) -> Sixteens<'a>
+    pub(crate) fn new(keys: &'a [Block], words: &'a [u8x32]) -> Sixteens<'a>
         requires is_lanes { IsLanes keys.now }
         requires least { 88 ≤ length words.now }
         requires most { length words.now ≤ 120 }

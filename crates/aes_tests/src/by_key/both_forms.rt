@@ -7,14 +7,16 @@ use super::{both_ways, decrypting, encrypting};
 use aes_cipher::aes::{AesCipher, Bits128, Bits192, Bits256, BothWays, KeySize};
 use aes_cipher::cipher::{Block, Decrypt, Encrypt};
 use aes_hybrid::Hybrid;
+use aes_hybrid::widths::{Narrow, Width};
 use aes_permute::keys::{OneWay, TwoWays};
 
-// The three types, with the size of the key as a parameter: what they are made of is proved once for all sizes.
+// The three types, with the size of the key and the width of the words as parameters: what they are made of is proved
+// once for all sizes and both widths.
 
-fn of_both<K: KeySize>(
+pub(super) fn of_both<K: KeySize, W: Width>(
     key: &K::Key,
     block: &Block,
-) -> (AesCipher<Hybrid<TwoWays<K>>, BothWays>, Block, Block)
+) -> (AesCipher<Hybrid<TwoWays<K>, W>, BothWays>, Block, Block)
     ensures value { result.0 ≡ K.Key.bytes key.now }
     ensures encrypted { result.1 ≡ fips.cipher (K.Key.bytes key.now) block.now }
     ensures decrypted { result.2 ≡ fips.inv_cipher (K.Key.bytes key.now) block.now }
@@ -22,20 +24,20 @@ fn of_both<K: KeySize>(
     both_ways(key, block)
 }
 
-fn of_enc<K: KeySize>(
+pub(super) fn of_enc<K: KeySize, W: Width>(
     key: &K::Key,
     block: &Block,
-) -> (AesCipher<Hybrid<OneWay<K, Encrypt>>, Encrypt>, Block)
+) -> (AesCipher<Hybrid<OneWay<K, Encrypt>, W>, Encrypt>, Block)
     ensures value { result.0 ≡ K.Key.bytes key.now }
     ensures encrypted { result.1 ≡ fips.cipher (K.Key.bytes key.now) block.now }
 {
     encrypting(key, block)
 }
 
-fn of_dec<K: KeySize>(
+pub(super) fn of_dec<K: KeySize, W: Width>(
     key: &K::Key,
     block: &Block,
-) -> (AesCipher<Hybrid<TwoWays<K>>, Decrypt>, Block)
+) -> (AesCipher<Hybrid<TwoWays<K>, W>, Decrypt>, Block)
     ensures value { result.0 ≡ K.Key.bytes key.now }
     ensures decrypted { result.1 ≡ fips.inv_cipher (K.Key.bytes key.now) block.now }
 {
@@ -48,7 +50,7 @@ pub fn aes_128(key: &[u8; 16], block: &Block) -> (aes_hybrid::Aes128, Block, Blo
     ensures encrypted { result.1 ≡ fips.cipher key.now block.now }
     ensures decrypted { result.2 ≡ fips.inv_cipher key.now block.now }
 {
-    of_both::<Bits128>(key, block)
+    of_both::<Bits128, Narrow>(key, block)
 }
 
 /// Returns the `Aes128Enc` of a key of 16 bytes, and a block encrypted under that key.
@@ -56,7 +58,7 @@ pub fn aes_128_enc(key: &[u8; 16], block: &Block) -> (aes_hybrid::Aes128Enc, Blo
     ensures value { result.0 ≡ key.now }
     ensures encrypted { result.1 ≡ fips.cipher key.now block.now }
 {
-    of_enc::<Bits128>(key, block)
+    of_enc::<Bits128, Narrow>(key, block)
 }
 
 /// Returns the `Aes128Dec` of a key of 16 bytes, and a block decrypted under that key.
@@ -64,7 +66,7 @@ pub fn aes_128_dec(key: &[u8; 16], block: &Block) -> (aes_hybrid::Aes128Dec, Blo
     ensures value { result.0 ≡ key.now }
     ensures decrypted { result.1 ≡ fips.inv_cipher key.now block.now }
 {
-    of_dec::<Bits128>(key, block)
+    of_dec::<Bits128, Narrow>(key, block)
 }
 
 /// Returns the `Aes192` of a key of 24 bytes, and a block encrypted and decrypted under that key.
@@ -73,7 +75,7 @@ pub fn aes_192(key: &[u8; 24], block: &Block) -> (aes_hybrid::Aes192, Block, Blo
     ensures encrypted { result.1 ≡ fips.cipher key.now block.now }
     ensures decrypted { result.2 ≡ fips.inv_cipher key.now block.now }
 {
-    of_both::<Bits192>(key, block)
+    of_both::<Bits192, Narrow>(key, block)
 }
 
 /// Returns the `Aes192Enc` of a key of 24 bytes, and a block encrypted under that key.
@@ -81,7 +83,7 @@ pub fn aes_192_enc(key: &[u8; 24], block: &Block) -> (aes_hybrid::Aes192Enc, Blo
     ensures value { result.0 ≡ key.now }
     ensures encrypted { result.1 ≡ fips.cipher key.now block.now }
 {
-    of_enc::<Bits192>(key, block)
+    of_enc::<Bits192, Narrow>(key, block)
 }
 
 /// Returns the `Aes192Dec` of a key of 24 bytes, and a block decrypted under that key.
@@ -89,7 +91,7 @@ pub fn aes_192_dec(key: &[u8; 24], block: &Block) -> (aes_hybrid::Aes192Dec, Blo
     ensures value { result.0 ≡ key.now }
     ensures decrypted { result.1 ≡ fips.inv_cipher key.now block.now }
 {
-    of_dec::<Bits192>(key, block)
+    of_dec::<Bits192, Narrow>(key, block)
 }
 
 /// Returns the `Aes256` of a key of 32 bytes, and a block encrypted and decrypted under that key.
@@ -98,7 +100,7 @@ pub fn aes_256(key: &[u8; 32], block: &Block) -> (aes_hybrid::Aes256, Block, Blo
     ensures encrypted { result.1 ≡ fips.cipher key.now block.now }
     ensures decrypted { result.2 ≡ fips.inv_cipher key.now block.now }
 {
-    of_both::<Bits256>(key, block)
+    of_both::<Bits256, Narrow>(key, block)
 }
 
 /// Returns the `Aes256Enc` of a key of 32 bytes, and a block encrypted under that key.
@@ -106,7 +108,7 @@ pub fn aes_256_enc(key: &[u8; 32], block: &Block) -> (aes_hybrid::Aes256Enc, Blo
     ensures value { result.0 ≡ key.now }
     ensures encrypted { result.1 ≡ fips.cipher key.now block.now }
 {
-    of_enc::<Bits256>(key, block)
+    of_enc::<Bits256, Narrow>(key, block)
 }
 
 /// Returns the `Aes256Dec` of a key of 32 bytes, and a block decrypted under that key.
@@ -114,5 +116,5 @@ pub fn aes_256_dec(key: &[u8; 32], block: &Block) -> (aes_hybrid::Aes256Dec, Blo
     ensures value { result.0 ≡ key.now }
     ensures decrypted { result.1 ≡ fips.inv_cipher key.now block.now }
 {
-    of_dec::<Bits256>(key, block)
+    of_dec::<Bits256, Narrow>(key, block)
 }

@@ -1,6 +1,6 @@
 //! Each of the nine names of each crate on the examples of FIPS 197, appendix C.
 
-use crate::by_key::{both_forms, permutations, planes};
+use crate::by_key::{both_forms, both_forms_wide, permutations, planes};
 
 const COUNTED: [u8; 32] = [
     0x00, 0x01, 0x02, 0x03, 0x04, 0x05, 0x06, 0x07, 0x08, 0x09, 0x0a, 0x0b, 0x0c, 0x0d, 0x0e, 0x0f,
@@ -70,4 +70,23 @@ fn names_of_aes_hybrid_answer(rt: HostRuntime) {
     assert!(rt; both_forms::aes_256(&COUNTED, &plain).1 == by_256);
     assert!(rt; both_forms::aes_256_enc(&COUNTED, &plain).1 == by_256);
     assert!(rt; both_forms::aes_256_dec(&COUNTED, &by_256).1 == plain);
+}
+
+#[test]
+fn names_of_aes_hybrid_wide_answer(rt: HostRuntime) {
+    let plain = PLAIN.to_be_bytes();
+    let short = COUNTED[..16].as_array::<16>().unwrap();
+    let middle = COUNTED[..24].as_array::<24>().unwrap();
+    let by_128 = BY_128.to_be_bytes();
+    let by_192 = BY_192.to_be_bytes();
+    let by_256 = BY_256.to_be_bytes();
+    assert!(rt; both_forms_wide::aes_128(short, &plain).1 == by_128);
+    assert!(rt; both_forms_wide::aes_128_enc(short, &plain).1 == by_128);
+    assert!(rt; both_forms_wide::aes_128_dec(short, &by_128).1 == plain);
+    assert!(rt; both_forms_wide::aes_192(middle, &plain).1 == by_192);
+    assert!(rt; both_forms_wide::aes_192_enc(middle, &plain).1 == by_192);
+    assert!(rt; both_forms_wide::aes_192_dec(middle, &by_192).1 == plain);
+    assert!(rt; both_forms_wide::aes_256(&COUNTED, &plain).1 == by_256);
+    assert!(rt; both_forms_wide::aes_256_enc(&COUNTED, &plain).1 == by_256);
+    assert!(rt; both_forms_wide::aes_256_dec(&COUNTED, &by_256).1 == plain);
 }

@@ -1,11 +1,13 @@
-//! The types of `aes_hybrid` on the examples of FIPS 197, appendix C, in few blocks and in many, and counter mode from a place on.
+//! The types of `aes_hybrid`, in both widths, on the examples of FIPS 197, appendix C, in few blocks and in many, and
+//! counter mode from a place on.
 
 use aes_cipher::aes::{AesCipher, Bits128, Bits192, Bits256, BothWays, KeySize};
 use aes_cipher::cipher::{
     Block, BlockCipherDecrypt, BlockCipherEncrypt, Decrypt, Encrypt, KeyInit,
 };
 use aes_ctr::add_keystream;
-use aes_hybrid::{Aes256Dec, Hybrid};
+use aes_hybrid::widths::{Narrow, Wide, Width};
+use aes_hybrid::{Aes256, Aes256Dec, Hybrid, wide};
 use aes_permute::keys::{OneWay, TwoWays};
 use std::test::Fail;
 
@@ -31,17 +33,25 @@ fn there_and_back<C: BlockCipherEncrypt + BlockCipherDecrypt>(cipher: &C, wanted
 }
 
 // The type for both directions, with the size as a parameter: what it is made of is proved once for all sizes.
-fn goes_there_and_back<K: KeySize>(key: &K::Key, wanted: u128) -> bool {
-    there_and_back(&AesCipher::<Hybrid<TwoWays<K>>, BothWays>::new(key), wanted)
+fn goes_there_and_back<K: KeySize, W: Width>(key: &K::Key, wanted: u128) -> bool {
+    there_and_back(
+        &AesCipher::<Hybrid<TwoWays<K>, W>, BothWays>::new(key),
+        wanted,
+    )
 }
 
 #[test]
 fn encrypts_and_decrypts_few_and_many(rt: HostRuntime) {
     let short = COUNTED[..16].as_array::<16>().unwrap();
     let middle = COUNTED[..24].as_array::<24>().unwrap();
-    assert!(rt; goes_there_and_back::<Bits128>(short, 0x69c4e0d86a7b0430d8cdb78070b4c55a));
-    assert!(rt; goes_there_and_back::<Bits192>(middle, 0xdda97ca4864cdfe06eaf70a0ec0d7191));
-    assert!(rt; goes_there_and_back::<Bits256>(&COUNTED, 0x8ea2b7ca516745bfeafc49904b496089));
+    assert!(rt; goes_there_and_back::<Bits128, Narrow>(short, 0x69c4e0d86a7b0430d8cdb78070b4c55a));
+    assert!(rt; goes_there_and_back::<Bits128, Wide>(short, 0x69c4e0d86a7b0430d8cdb78070b4c55a));
+    assert!(rt; goes_there_and_back::<Bits192, Narrow>(middle, 0xdda97ca4864cdfe06eaf70a0ec0d7191));
+    assert!(rt; goes_there_and_back::<Bits192, Wide>(middle, 0xdda97ca4864cdfe06eaf70a0ec0d7191));
+    assert!(rt;
+        goes_there_and_back::<Bits256, Narrow>(&COUNTED, 0x8ea2b7ca516745bfeafc49904b496089)
+    );
+    assert!(rt; goes_there_and_back::<Bits256, Wide>(&COUNTED, 0x8ea2b7ca516745bfeafc49904b496089));
 }
 
 // Whether keystream is the same whole and cut, and the same once more takes it away.
@@ -57,13 +67,14 @@ fn adds_the_same_cut<C: BlockCipherEncrypt>(cipher: &C) -> bool {
     same && whole == [0; 400]
 }
 
-fn encrypting_adds_the_same_cut<K: KeySize>(key: &K::Key) -> bool {
-    adds_the_same_cut(&AesCipher::<Hybrid<OneWay<K, Encrypt>>, Encrypt>::new(key))
+fn encrypting_adds_the_same_cut<K: KeySize, W: Width>(key: &K::Key) -> bool {
+    adds_the_same_cut(&AesCipher::<Hybrid<OneWay<K, Encrypt>, W>, Encrypt>::new(key))
 }
 
 #[test]
 fn adds_the_same_keystream_whole_and_cut(rt: HostRuntime) {
-    assert!(rt; encrypting_adds_the_same_cut::<Bits256>(&COUNTED));
+    assert!(rt; encrypting_adds_the_same_cut::<Bits256, Narrow>(&COUNTED));
+    assert!(rt; encrypting_adds_the_same_cut::<Bits256, Wide>(&COUNTED));
 }
 
 // Nineteen blocks, enough for planes and for permutations, encrypted.
@@ -81,11 +92,11 @@ fn decrypts<C: BlockCipherDecrypt>(cipher: &C, wanted: u128) -> bool {
 }
 
 // Whether a clone of what encrypts and the types made from it, after it is dropped, have its key.
-fn copies_keep_the_key<K: KeySize>(key: &K::Key, wanted: u128) -> Result<bool, Fail> {
-    let enc = AesCipher::<Hybrid<OneWay<K, Encrypt>>, Encrypt>::new(key);
+fn copies_keep_the_key<K: KeySize, W: Width>(key: &K::Key, wanted: u128) -> Result<bool, Fail> {
+    let enc = AesCipher::<Hybrid<OneWay<K, Encrypt>, W>, Encrypt>::new(key);
     let copy = enc.clone()?;
-    let lent = AesCipher::<Hybrid<TwoWays<K>>, Decrypt>::from(&enc);
-    let both = AesCipher::<Hybrid<TwoWays<K>>, BothWays>::from(enc);
+    let lent = AesCipher::<Hybrid<TwoWays<K>, W>, Decrypt>::from(&enc);
+    let both = AesCipher::<Hybrid<TwoWays<K>, W>, BothWays>::from(enc);
     let dec = lent.clone()?;
     let encrypted_right = encrypted(&copy) == [wanted.to_be_bytes(); 19]
         && encrypted(&both) == [wanted.to_be_bytes(); 19];
@@ -102,9 +113,18 @@ fn copies_keep_the_key<K: KeySize>(key: &K::Key, wanted: u128) -> Result<bool, F
 fn clones_and_converts(rt: HostRuntime) -> Result<(), Fail> {
     let short = COUNTED[..16].as_array::<16>().unwrap();
     let middle = COUNTED[..24].as_array::<24>().unwrap();
-    assert!(rt; copies_keep_the_key::<Bits128>(short, 0x69c4e0d86a7b0430d8cdb78070b4c55a)?);
-    assert!(rt; copies_keep_the_key::<Bits192>(middle, 0xdda97ca4864cdfe06eaf70a0ec0d7191)?);
-    assert!(rt; copies_keep_the_key::<Bits256>(&COUNTED, 0x8ea2b7ca516745bfeafc49904b496089)?);
+    assert!(rt; copies_keep_the_key::<Bits128, Narrow>(short, 0x69c4e0d86a7b0430d8cdb78070b4c55a)?);
+    assert!(rt; copies_keep_the_key::<Bits128, Wide>(short, 0x69c4e0d86a7b0430d8cdb78070b4c55a)?);
+    assert!(rt;
+        copies_keep_the_key::<Bits192, Narrow>(middle, 0xdda97ca4864cdfe06eaf70a0ec0d7191)?
+    );
+    assert!(rt; copies_keep_the_key::<Bits192, Wide>(middle, 0xdda97ca4864cdfe06eaf70a0ec0d7191)?);
+    assert!(rt;
+        copies_keep_the_key::<Bits256, Narrow>(&COUNTED, 0x8ea2b7ca516745bfeafc49904b496089)?
+    );
+    assert!(rt;
+        copies_keep_the_key::<Bits256, Wide>(&COUNTED, 0x8ea2b7ca516745bfeafc49904b496089)?
+    );
     Ok(())
 }
 
@@ -112,6 +132,35 @@ fn clones_and_converts(rt: HostRuntime) -> Result<(), Fail> {
 #[test]
 fn writes_its_name_and_nothing_of_the_key(rt: HostRuntime) -> Result<(), Fail> {
     let dec = Aes256Dec::new_from_slice(&COUNTED).unwrap();
+    let sixteens = wide::Aes256Dec::new_from_slice(&COUNTED).unwrap();
     assert!(rt; format!(in rt.alloc(); "{dec:?}")?.as_str() == "Aes256Dec { .. }");
+    assert!(rt; format!(in rt.alloc(); "{sixteens:?}")?.as_str() == "Aes256Dec { .. }");
     Ok(())
+}
+
+// Whether each count of blocks up to forty comes out the same in both widths, and comes back.
+fn widths_agree(narrow: &Aes256, sixteens: &wide::Aes256) -> bool {
+    let mut plain = [[0; 16]; 40];
+    for i in 0..40 {
+        plain[i][0] = i as u8;
+    }
+    for count in 0..=40 {
+        let mut blocks = plain;
+        let mut others = plain;
+        narrow.encrypt_blocks(&mut blocks[..count]);
+        sixteens.encrypt_blocks(&mut others[..count]);
+        if blocks != others {
+            return false;
+        }
+        sixteens.decrypt_blocks(&mut others[..count]);
+        if others != plain {
+            return false;
+        }
+    }
+    true
+}
+
+#[test]
+fn both_widths_answer_the_same_for_every_count(rt: HostRuntime) {
+    assert!(rt; widths_agree(&Aes256::new(&COUNTED), &wide::Aes256::new(&COUNTED)));
 }

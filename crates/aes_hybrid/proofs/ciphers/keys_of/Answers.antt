@@ -1,5 +1,5 @@
 -- What is left to show of `ciphers::keys_of`.
-use Rattle.std.proofs.Common.{length, subst, sym}
+use Rattle.std.proofs.Common.{subst, sym}
 use Rattle.aes_permute.proofs.KeyBytes.{IsLength}
 use Rattle.aes_hybrid.proofs.LaneKeys.{lanes_of, key_is}
 use Rattle.aes_hybrid.proofs.ciphers.keys_of.Goals as goal

@@ -1,0 +1,216 @@
+//! The exports, which are the same in both libraries: the root names the width.
+
+ghost use Rattle.std.specs.Prelude.{◌≡◌, ◌≢◌, ◌↔◌, ◌+◌, ◌-◌, ◌^◌, ◌<◌, ◌≤◌, length, replicate};
+ghost use Rattle.aes_planes.specs.Each.{Each};
+ghost use Rattle.aes_planes.specs.Fips197 as fips;
+ghost use Rattle.aes_ctr.specs.CounterMode.{keystream_byte, plus_stream};
+ghost use Rattle.aes_calls.specs.Kept.{kept_key, AreZeroAfter, IsKeyLength, IsMade};
+
+use crate::Chosen;
+use aes_calls::blocks::{process_under, process_under_to};
+use aes_calls::kept::{Aes, length_of_key, set_key, wipe};
+use aes_calls::once::{add_keystream_with, decrypt_with, encrypt_with};
+use aes_calls::status::{DONE, KEY_LENGTH, KEYSTREAM_END, NO_KEY, UNEQUAL_COUNTS, VERSION};
+use aes_calls::stream::{Ctr, add_keystream_under, add_keystream_under_to};
+use aes_cipher::cipher::{Decrypt, Encrypt};
+use aes_planes::soft::word::Block;
+
+/// Returns the version of the library; programs compare it with that of their header.
+#[unsafe(no_mangle)]
+pub extern "C" fn fotsgure_aes_version() -> u32
+    ensures { result ≡ VERSION }
+{
+    VERSION
+}
+
+/// Expands a key into the struct (KeyExpansion, FIPS 197, 5.2). Returns `DONE` exactly if the key has 16, 24 or 32
+/// bytes, else `KEY_LENGTH`; the struct then holds no key. Nothing of what it held before is left in either case: its
+/// blocks are the round keys of the new key, and zeros after them.
+#[unsafe(no_mangle)]
+pub extern "C" fn fotsgure_aes_set_key(aes: &mut Aes, key: &[u8]) -> u32
+    ensures done { result ≡ DONE ↔ IsKeyLength (length key.now) }
+    ensures refused { result ≢ DONE → result ≡ KEY_LENGTH }
+    ensures made { IsMade aes.new.key_length aes.new.encrypting aes.new.decrypting }
+    ensures key { result ≡ DONE → kept_key aes.new.key_length aes.new.encrypting ≡ key.now }
+    ensures length { result ≡ DONE → aes.new.key_length ≡ length key.now }
+    ensures after_encrypting { result ≡ DONE → AreZeroAfter (length key.now) aes.new.encrypting }
+    ensures after_decrypting { result ≡ DONE → AreZeroAfter (length key.now) aes.new.decrypting }
+    ensures none { result ≢ DONE → aes.new.key_length ≡ 0 }
+    ensures wiped_encrypting { result ≢ DONE → aes.new.encrypting ≡ replicate 15 (replicate 16 0) }
+    ensures wiped_decrypting { result ≢ DONE → aes.new.decrypting ≡ replicate 15 (replicate 16 0) }
+{
+    set_key(aes, key)
+}
+
+/// Returns how many bytes the key has, or 0 if the struct holds no key.
+#[unsafe(no_mangle)]
+pub extern "C" fn fotsgure_aes_key_length(aes: &Aes) -> usize
+    ensures key { IsKeyLength aes.now.key_length → result ≡ aes.now.key_length }
+    ensures none { ¬ IsKeyLength aes.now.key_length → result ≡ 0 }
+{
+    length_of_key(aes)
+}
+
+/// Overwrites the struct with zeros: it then holds no key.
+#[unsafe(no_mangle)]
+pub extern "C" fn fotsgure_aes_wipe(aes: &mut Aes)
+    ensures none { aes.new.key_length ≡ 0 }
+    ensures encrypting { aes.new.encrypting ≡ replicate 15 (replicate 16 0) }
+    ensures decrypting { aes.new.decrypting ≡ replicate 15 (replicate 16 0) }
+{
+    wipe(aes);
+}
+
+/// Encrypts each block in place (Cipher, FIPS 197, 5.1).
+#[unsafe(no_mangle)]
+pub extern "C" fn fotsgure_aes_encrypt_blocks(aes: &Aes, blocks: &mut [Block]) -> u32
+    requires made { IsMade aes.now.key_length aes.now.encrypting aes.now.decrypting }
+    ensures done { result ≡ DONE ↔ IsKeyLength aes.now.key_length }
+    ensures refused { result ≢ DONE → result ≡ NO_KEY }
+    ensures blocks { let key = kept_key aes.now.key_length aes.now.encrypting in
+        result ≡ DONE → Each (fips.cipher key) blocks.old blocks.new }
+    ensures untouched { result ≢ DONE → blocks.new ≡ blocks.old }
+{
+    process_under::<Encrypt, Chosen>(aes, blocks)
+}
+
+/// Decrypts each block in place (InvCipher, FIPS 197, 5.3).
+#[unsafe(no_mangle)]
+pub extern "C" fn fotsgure_aes_decrypt_blocks(aes: &Aes, blocks: &mut [Block]) -> u32
+    requires made { IsMade aes.now.key_length aes.now.encrypting aes.now.decrypting }
+    ensures done { result ≡ DONE ↔ IsKeyLength aes.now.key_length }
+    ensures refused { result ≢ DONE → result ≡ NO_KEY }
+    ensures blocks { let key = kept_key aes.now.key_length aes.now.encrypting in
+        result ≡ DONE → Each (fips.inv_cipher key) blocks.old blocks.new }
+    ensures untouched { result ≢ DONE → blocks.new ≡ blocks.old }
+{
+    process_under::<Decrypt, Chosen>(aes, blocks)
+}
+
+/// Encrypts each block of one buffer into another (Cipher, FIPS 197, 5.1).
+#[unsafe(no_mangle)]
+pub extern "C" fn fotsgure_aes_encrypt_blocks_to(
+    aes: &Aes,
+    input: &[Block],
+    output: &mut [Block],
+) -> u32
+    requires made { IsMade aes.now.key_length aes.now.encrypting aes.now.decrypting }
+    ensures unequal { result ≡ UNEQUAL_COUNTS ↔ (length input.now ≢ length output.old) }
+    ensures done { result ≡ DONE ↔ IsKeyLength aes.now.key_length × (length input.now ≡ length output.old) }
+    ensures refused { result ≢ DONE → result ≢ UNEQUAL_COUNTS → result ≡ NO_KEY }
+    ensures blocks { let key = kept_key aes.now.key_length aes.now.encrypting in
+        result ≡ DONE → Each (fips.cipher key) input.now output.new }
+    ensures untouched { result ≢ DONE → output.new ≡ output.old }
+{
+    process_under_to::<Encrypt, Chosen>(aes, input, output)
+}
+
+/// Decrypts each block of one buffer into another (InvCipher, FIPS 197, 5.3).
+#[unsafe(no_mangle)]
+pub extern "C" fn fotsgure_aes_decrypt_blocks_to(
+    aes: &Aes,
+    input: &[Block],
+    output: &mut [Block],
+) -> u32
+    requires made { IsMade aes.now.key_length aes.now.encrypting aes.now.decrypting }
+    ensures unequal { result ≡ UNEQUAL_COUNTS ↔ (length input.now ≢ length output.old) }
+    ensures done { result ≡ DONE ↔ IsKeyLength aes.now.key_length × (length input.now ≡ length output.old) }
+    ensures refused { result ≢ DONE → result ≢ UNEQUAL_COUNTS → result ≡ NO_KEY }
+    ensures blocks { let key = kept_key aes.now.key_length aes.now.encrypting in
+        result ≡ DONE → Each (fips.inv_cipher key) input.now output.new }
+    ensures untouched { result ≢ DONE → output.new ≡ output.old }
+{
+    process_under_to::<Decrypt, Chosen>(aes, input, output)
+}
+
+/// Adds to each byte the keystream's byte at its place, the first of them at the position, and moves the position on
+/// (SP 800-38A, 6.5). Returns `KEYSTREAM_END` exactly if the position would pass 2^64 - 1, else `NO_KEY` if there is no
+/// key, and `DONE` in all other cases.
+#[unsafe(no_mangle)]
+pub extern "C" fn fotsgure_aes_add_keystream(aes: &Aes, ctr: &mut Ctr, bytes: &mut [u8]) -> u32
+    requires made { IsMade aes.now.key_length aes.now.encrypting aes.now.decrypting }
+    ensures ended { result ≡ KEYSTREAM_END ↔ (2 ^ 64 - 1 < ctr.old.position + length bytes.old) }
+    ensures done { result ≡ DONE ↔ IsKeyLength aes.now.key_length × (ctr.old.position + length bytes.old ≤ 2 ^ 64 - 1) }
+    ensures refused { result ≢ DONE → result ≢ KEYSTREAM_END → result ≡ NO_KEY }
+    ensures bytes { let w = fips.key_expansion (kept_key aes.now.key_length aes.now.encrypting) in
+        result ≡ DONE → bytes.new ≡ plus_stream (keystream_byte w ctr.old.iv) ctr.old.position bytes.old }
+    ensures moved { result ≡ DONE → ctr.new.position ≡ ctr.old.position + length bytes.old }
+    ensures iv { ctr.new.iv ≡ ctr.old.iv }
+    ensures unmoved { result ≢ DONE → ctr.new.position ≡ ctr.old.position }
+    ensures untouched { result ≢ DONE → bytes.new ≡ bytes.old }
+{
+    add_keystream_under::<Chosen>(aes, ctr, bytes)
+}
+
+/// Writes to one buffer the bytes of another plus the keystream's, and moves the position on. Returns `UNEQUAL_COUNTS`
+/// exactly if the buffers differ in length, and else what `fotsgure_aes_add_keystream` returns.
+#[unsafe(no_mangle)]
+pub extern "C" fn fotsgure_aes_add_keystream_to(
+    aes: &Aes,
+    ctr: &mut Ctr,
+    input: &[u8],
+    output: &mut [u8],
+) -> u32
+    requires made { IsMade aes.now.key_length aes.now.encrypting aes.now.decrypting }
+    ensures unequal { result ≡ UNEQUAL_COUNTS ↔ (length input.now ≢ length output.old) }
+    ensures ended { result ≡ KEYSTREAM_END
+        ↔ (length input.now ≡ length output.old) × (2 ^ 64 - 1 < ctr.old.position + length input.now) }
+    ensures done { result ≡ DONE ↔ IsKeyLength aes.now.key_length
+        × ((length input.now ≡ length output.old) × (ctr.old.position + length input.now ≤ 2 ^ 64 - 1)) }
+    ensures refused { result ≢ DONE → result ≢ UNEQUAL_COUNTS → result ≢ KEYSTREAM_END → result ≡ NO_KEY }
+    ensures bytes { let w = fips.key_expansion (kept_key aes.now.key_length aes.now.encrypting) in
+        result ≡ DONE → output.new ≡ plus_stream (keystream_byte w ctr.old.iv) ctr.old.position input.now }
+    ensures moved { result ≡ DONE → ctr.new.position ≡ ctr.old.position + length input.now }
+    ensures iv { ctr.new.iv ≡ ctr.old.iv }
+    ensures unmoved { result ≢ DONE → ctr.new.position ≡ ctr.old.position }
+    ensures untouched { result ≢ DONE → output.new ≡ output.old }
+{
+    add_keystream_under_to::<Chosen>(aes, ctr, input, output)
+}
+
+/// Encrypts each block in place under a key (Cipher, FIPS 197, 5.1). Returns `DONE` exactly if the key has 16, 24 or 32
+/// bytes, else `KEY_LENGTH`.
+#[unsafe(no_mangle)]
+pub extern "C" fn fotsgure_aes_encrypt_blocks_with(key: &[u8], blocks: &mut [Block]) -> u32
+    ensures done { result ≡ DONE ↔ IsKeyLength (length key.now) }
+    ensures refused { result ≢ DONE → result ≡ KEY_LENGTH }
+    ensures blocks { result ≡ DONE → Each (fips.cipher key.now) blocks.old blocks.new }
+    ensures untouched { result ≢ DONE → blocks.new ≡ blocks.old }
+{
+    encrypt_with::<Chosen>(key, blocks)
+}
+
+/// Decrypts each block in place under a key (InvCipher, FIPS 197, 5.3). Returns `DONE` exactly if the key has 16, 24 or
+/// 32 bytes, else `KEY_LENGTH`.
+#[unsafe(no_mangle)]
+pub extern "C" fn fotsgure_aes_decrypt_blocks_with(key: &[u8], blocks: &mut [Block]) -> u32
+    ensures done { result ≡ DONE ↔ IsKeyLength (length key.now) }
+    ensures refused { result ≢ DONE → result ≡ KEY_LENGTH }
+    ensures blocks { result ≡ DONE → Each (fips.inv_cipher key.now) blocks.old blocks.new }
+    ensures untouched { result ≢ DONE → blocks.new ≡ blocks.old }
+{
+    decrypt_with::<Chosen>(key, blocks)
+}
+
+/// Adds to each byte the keystream's byte at its place and moves the position on, as `fotsgure_aes_add_keystream`,
+/// under a key. Returns `KEY_LENGTH` exactly if the key doesn't have 16, 24 or 32 bytes, and else `KEYSTREAM_END` or
+/// `DONE`.
+#[unsafe(no_mangle)]
+pub extern "C" fn fotsgure_aes_add_keystream_with(
+    key: &[u8],
+    ctr: &mut Ctr,
+    bytes: &mut [u8],
+) -> u32
+    ensures done { result ≡ DONE ↔ IsKeyLength (length key.now) × (ctr.old.position + length bytes.old ≤ 2 ^ 64 - 1) }
+    ensures ended { result ≡ KEYSTREAM_END
+        ↔ IsKeyLength (length key.now) × (2 ^ 64 - 1 < ctr.old.position + length bytes.old) }
+    ensures refused { result ≢ DONE → result ≢ KEYSTREAM_END → result ≡ KEY_LENGTH }
+    ensures bytes { result ≡ DONE → bytes.new
+        ≡ plus_stream (keystream_byte (fips.key_expansion key.now) ctr.old.iv) ctr.old.position bytes.old }
+    ensures moved { result ≡ DONE → ctr.new.position ≡ ctr.old.position + length bytes.old }
+    ensures iv { ctr.new.iv ≡ ctr.old.iv }
+    ensures unmoved { result ≢ DONE → ctr.new.position ≡ ctr.old.position }
+    ensures untouched { result ≢ DONE → bytes.new ≡ bytes.old }
+{
+    add_keystream_with::<Chosen>(key, ctr, bytes)
+}

@@ -1,0 +1,20 @@
+//! AES for C, and for languages that call C: `include/fotsgure_aes.h` declares these calls. This library is for
+//! processors with vectors of 256 bits.
+//!
+//! The header states what a `requires` asks of callers; nothing checks a call from C.
+#![tactic(auto)]
+
+mod exports;
+
+pub use aes_calls::kept::Aes;
+pub use aes_calls::status::{DONE, KEY_LENGTH, KEYSTREAM_END, NO_KEY, UNEQUAL_COUNTS, VERSION};
+pub use aes_calls::stream::Ctr;
+pub use exports::{
+    fotsgure_aes_add_keystream, fotsgure_aes_add_keystream_to, fotsgure_aes_add_keystream_with,
+    fotsgure_aes_decrypt_blocks, fotsgure_aes_decrypt_blocks_to, fotsgure_aes_decrypt_blocks_with,
+    fotsgure_aes_encrypt_blocks, fotsgure_aes_encrypt_blocks_to, fotsgure_aes_encrypt_blocks_with,
+    fotsgure_aes_key_length, fotsgure_aes_set_key, fotsgure_aes_version, fotsgure_aes_wipe,
+};
+
+/// The width of the words on which the exports process many blocks.
+pub type Chosen = aes_hybrid::widths::Wide;

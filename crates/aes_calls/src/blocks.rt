@@ -1,0 +1,84 @@
+//! Calls that encrypt and decrypt blocks under the key of a struct.
+
+ghost use Rattle.std.specs.Prelude.{◌≡◌, ◌≢◌, ◌↔◌, length};
+ghost use Rattle.aes_planes.specs.Each.{Each};
+ghost use Rattle.aes_planes.specs.Fips197 as fips;
+ghost use Rattle.aes_permute.specs.Keys.{encrypting};
+ghost use Rattle.aes_permute.specs.Stored.{round_keys_of};
+ghost use Rattle.aes_calls.specs.Kept.{first_keys, kept_key, IsKeyLength, IsMade};
+
+use crate::kept::{Aes, holds_key, keys_of};
+use crate::status::{DONE, NO_KEY, UNEQUAL_COUNTS};
+use aes_cipher::cipher::{Decrypt, Encrypt};
+use aes_hybrid::blocks::process_blocks;
+use aes_hybrid::widths::Width;
+use aes_permute::directions::LaneRounds;
+use aes_planes::soft::word::Block;
+use aes_soft::soft::PlaneCipher;
+
+/// A direction whose round keys a struct has.
+pub trait KeptDirection: LaneRounds + PlaneCipher {
+    /// Lends them.
+    fn lend(aes: &Aes) -> &[Block]
+        requires holds_key { IsKeyLength aes.now.key_length }
+        requires made { IsMade aes.now.key_length aes.now.encrypting aes.now.decrypting }
+        ensures { round_keys_of Self.form result.now
+            ≡ Self.form.used_keys (encrypting (first_keys aes.now.key_length aes.now.encrypting)) };
+}
+
+impl KeptDirection for Encrypt {
+    #[inline(always)]
+    fn lend(aes: &Aes) -> &[Block] {
+        keys_of(&aes.encrypting, aes.key_length as usize)
+    }
+}
+
+impl KeptDirection for Decrypt {
+    #[inline(always)]
+    fn lend(aes: &Aes) -> &[Block] {
+        keys_of(&aes.decrypting, aes.key_length as usize)
+    }
+}
+
+/// Encrypts or decrypts every block of a slice in place. Returns `DONE` exactly if the struct holds a key, else
+/// `NO_KEY`.
+pub fn process_under<D: KeptDirection, W: Width>(aes: &Aes, blocks: &mut [Block]) -> u32
+    requires made { IsMade aes.now.key_length aes.now.encrypting aes.now.decrypting }
+    ensures done { result ≡ DONE ↔ IsKeyLength aes.now.key_length }
+    ensures refused { result ≢ DONE → result ≡ NO_KEY }
+    ensures blocks { let w = fips.key_expansion (kept_key aes.now.key_length aes.now.encrypting) in
+        result ≡ DONE → Each (D.processed w) blocks.old blocks.new }
+    ensures untouched { result ≢ DONE → blocks.new ≡ blocks.old }
+{
+    if holds_key(aes) {
+        let keys = keys_of(&aes.encrypting, aes.key_length as usize);
+        process_blocks::<D, W>(keys, D::lend(aes), blocks);
+        return DONE;
+    }
+    NO_KEY
+}
+
+/// Encrypts or decrypts every block of one slice into another. Returns `UNEQUAL_COUNTS` exactly if they differ in
+/// length, and else what `process_under` returns.
+pub fn process_under_to<D: KeptDirection, W: Width>(
+    aes: &Aes,
+    input: &[Block],
+    output: &mut [Block],
+) -> u32
+    requires made { IsMade aes.now.key_length aes.now.encrypting aes.now.decrypting }
+    ensures unequal { result ≡ UNEQUAL_COUNTS ↔ (length input.now ≢ length output.old) }
+    ensures done { result ≡ DONE ↔ IsKeyLength aes.now.key_length × (length input.now ≡ length output.old) }
+    ensures refused { result ≢ DONE → result ≢ UNEQUAL_COUNTS → result ≡ NO_KEY }
+    ensures blocks { let w = fips.key_expansion (kept_key aes.now.key_length aes.now.encrypting) in
+        result ≡ DONE → Each (D.processed w) input.now output.new }
+    ensures untouched { result ≢ DONE → output.new ≡ output.old }
+{
+    if input.len() != output.len() {
+        return UNEQUAL_COUNTS;
+    }
+    if !holds_key(aes) {
+        return NO_KEY;
+    }
+    output.copy_from_slice(input);
+    process_under::<D, W>(aes, output)
+}

@@ -1,0 +1,120 @@
+//! Statuses and the version by number, and a struct at values from outside, as contracts, so that a slip in a constant or a
+//! definition is refused. The calls have no effect.
+//!
+//! `bytes n 0x..` is the n bytes that these digits write. What a struct stores was computed by a separate model in Python,
+//! from the standard and the basis that `tools/permutation-tables` describes.
+
+ghost use Rattle.std.specs.Prelude.{◌≡◌, ◌∷◌, [], length, map, replicate, slice_set};
+ghost use Rattle.aes_planes.specs.BigEndian.{bytes};
+ghost use Rattle.aes_planes.specs.Fips197 as fips;
+ghost use Rattle.aes_permute.specs.Keys.{encrypting};
+ghost use Rattle.aes_hybrid.specs.Lanes.{AreInverse};
+ghost use Rattle.aes_calls.specs.Kept.{first_keys, kept_key, AreZeroAfter, IsKeyLength, IsMade};
+
+use crate::status::{DONE, KEY_LENGTH, KEYSTREAM_END, NO_KEY, UNEQUAL_COUNTS, VERSION};
+use aes_planes::examples::key_expansion_128;
+
+/// The numbers that the header gives to statuses and to the version.
+pub fn numbers_of_the_header()
+    ensures done { DONE ≡ 0 }
+    ensures key_length { KEY_LENGTH ≡ 1 }
+    ensures no_key { NO_KEY ≡ 2 }
+    ensures unequal_counts { UNEQUAL_COUNTS ≡ 3 }
+    ensures keystream_end { KEYSTREAM_END ≡ 4 }
+    ensures version { VERSION ≡ 200 }
+{}
+
+/// The lengths of keys, those on either side of them, and none; and 11, 13 or 15 round keys.
+pub fn length_examples()
+    ensures of_16 { IsKeyLength 16 }
+    ensures of_24 { IsKeyLength 24 }
+    ensures of_32 { IsKeyLength 32 }
+    ensures none { ¬ IsKeyLength 0 }
+    ensures shorter { ¬ IsKeyLength 15 }
+    ensures between { ¬ IsKeyLength 23 }
+    ensures longer { ¬ IsKeyLength 33 }
+    ensures round_keys { map (λ n. length (first_keys n (replicate 15 []))) (16 ∷ 24 ∷ 32 ∷ []) ≡ 11 ∷ 13 ∷ 15 ∷ [] }
+{}
+
+/// The keys of A.1, A.2 and A.3, from the first two of their stored round keys.
+#[tactic(auto, unfolding(crate::proofs::OnLiterals::kept_on_literals))]
+pub fn key_examples()
+    ensures of_16 { kept_key 16 (bytes 16 0x2b7e151628aed2a6abf7158809cf4f3c
+        ∷ bytes 16 0xe4d7fad83e4b99638ef93333a817aa42 ∷ replicate 13 (replicate 16 0))
+        ≡ bytes 16 0x2b7e151628aed2a6abf7158809cf4f3c }
+    ensures of_24 { kept_key 24 (bytes 16 0x8e73b0f7da0e6452c810f32b809079e5
+        ∷ bytes 16 0x01cb510d7a9927a1fa649edcbe72c0c8 ∷ replicate 13 (replicate 16 0))
+        ≡ bytes 24 0x8e73b0f7da0e6452c810f32b809079e562f8ead2522c6b7b }
+    ensures of_32 { kept_key 32 (bytes 16 0x603deb1015ca71be2b73aef0857d7781
+        ∷ bytes 16 0xff39995e2f1c492198b8e8f948c506c1 ∷ replicate 13 (replicate 16 0))
+        ≡ bytes 32 0x603deb1015ca71be2b73aef0857d77811f352c073b6108d72d9810a30914dff4 }
+{}
+
+// The blocks of the struct of the key of A.1, each as one number, highest byte first: the stored round keys of Cipher.
+const ENCRYPTING: [u128; 15] = [
+    0x2b7e151628aed2a6abf7158809cf4f3c,
+    0xe4d7fad83e4b99638ef93333a817aa42,
+    0xf08bb3f0a0ae44fd403919a08640dd8c,
+    0x1e19d090d0d9fa03fe8e8dcd16a03e2f,
+    0x7dcdc8e1c37a5c8c539abf2f2b54ef6e,
+    0x3c10a6cb91049429acf04568e9cac468,
+    0x163ef9a0e95403e72bca28e1ac6e82e7,
+    0xf64bdc787171b1f134d5f77ef6d51bf7,
+    0x510d86924e12590d14a9c01d8c12b584,
+    0xeeab2cf1ced71b92b410b5e1566c6e0b,
+    0xb3779acbaa8d46ea825c6fabd5006fc5,
+    0,
+    0,
+    0,
+    0,
+];
+
+// And those of EqInvCipher.
+const DECRYPTING: [u128; 15] = [
+    0xb3779acbaa8d46ea825c6fabd5006fc5,
+    0xe3b3ae00e22a700cf282e95a6e0e6229,
+    0x11b486ae2db5f2203c84b57ab0a0a75f,
+    0x5710c973102d58a23d1d6b76a0083e09,
+    0x7ad0a3c96b11bdfd011c1ff8b1397953,
+    0x7a3ce4d03ded321846218e299c094a87,
+    0x5ae91ae26bfdfae457e0901df604e882,
+    0x012de2ad1d38cc2a103146d58dc854b3,
+    0xdfa042c5303902ab2125a6d3b1d53e4a,
+    0xf99138e7c3b56c423d308854bcdcb4b5,
+    0x2b7e151628aed2a6abf7158809cf4f3c,
+    0,
+    0,
+    0,
+    0,
+];
+
+/// What is stored for the key of A.1: its round keys in both directions, and zeros after them.
+#[tactic(auto, unfolding(crate::proofs::OnLiterals::kept_on_literals))]
+pub fn stored_example()
+    ensures round_keys { encrypting (first_keys 16 (map (bytes 16) ENCRYPTING))
+        ≡ fips.key_expansion (bytes 16 0x2b7e151628aed2a6abf7158809cf4f3c) }
+    ensures inverse { AreInverse (first_keys 16 (map (bytes 16) DECRYPTING)) (first_keys 16 (map (bytes 16) ENCRYPTING)) }
+    ensures key { kept_key 16 (map (bytes 16) ENCRYPTING) ≡ bytes 16 0x2b7e151628aed2a6abf7158809cf4f3c }
+    ensures after_encrypting { AreZeroAfter 16 (map (bytes 16) ENCRYPTING) }
+    ensures after_decrypting { AreZeroAfter 16 (map (bytes 16) DECRYPTING) }
+{
+    key_expansion_128();
+}
+
+/// That struct is in order.
+pub fn struct_example()
+    ensures { IsMade 16 (map (bytes 16) ENCRYPTING) (map (bytes 16) DECRYPTING) }
+{
+    stored_example();
+}
+
+/// A bit that is left in a block after the round keys is found: in the first of them and in the last. Keys of 32 bytes leave
+/// no block over.
+pub fn left_behind_examples()
+    ensures first_after_16 { ¬ AreZeroAfter 16 (slice_set (replicate 15 (replicate 16 0)) 11 (replicate 16 1)) }
+    ensures last_after_16 { ¬ AreZeroAfter 16 (slice_set (replicate 15 (replicate 16 0)) 14 (replicate 16 1)) }
+    ensures first_after_24 { ¬ AreZeroAfter 24 (slice_set (replicate 15 (replicate 16 0)) 13 (replicate 16 1)) }
+    ensures last_after_24 { ¬ AreZeroAfter 24 (slice_set (replicate 15 (replicate 16 0)) 14 (replicate 16 1)) }
+    ensures none_after_24 { AreZeroAfter 24 (slice_set (replicate 15 (replicate 16 0)) 12 (replicate 16 1)) }
+    ensures none_after_32 { AreZeroAfter 32 (replicate 15 (replicate 16 1)) }
+{}

@@ -1,0 +1,145 @@
+//! The struct that a caller keeps: a key as its stored round keys.
+
+ghost use Rattle.std.specs.Prelude.{◌≡◌, ◌≢◌, ◌↔◌, ◌+◌, ◌/◌, true};
+ghost use Rattle.std.specs.Prelude.{drop, length, replicate};
+ghost use Rattle.aes_hybrid.specs.Lanes.{lanes_key, IsLanes, AreInverse};
+ghost use Rattle.aes_calls.specs.Kept.{first_keys, kept_key, AreZeroAfter, IsKeyLength, IsMade};
+
+use crate::status::{DONE, KEY_LENGTH};
+use aes_cipher::zeroize::{Zeroize, zeroize_elements};
+use aes_hybrid::keys::{put_decrypting, put_encrypting};
+use aes_planes::soft::word::Block;
+
+/// A key schedule that the caller owns: `struct fotsgure_aes`. Its blocks are as secret as the key.
+#[repr(C)]
+#[derive(Drop)]
+pub struct Aes {
+    /// How many bytes the key has: 16, 24 or 32; 0 if there is no key.
+    pub key_length: u32,
+    /// The stored round keys of Cipher, in the first 11, 13 or 15 blocks.
+    pub encrypting: [Block; 15],
+    /// Those of EqInvCipher.
+    pub decrypting: [Block; 15],
+}
+
+impl Zeroize for Aes {
+    ghost ZERO = { record {
+      key_length = 0;
+      encrypting = replicate 15 (replicate 16 0);
+      decrypting = replicate 15 (replicate 16 0);
+    } };
+
+    #[inline(always)]
+    fn zero() -> Aes {
+        Aes {
+            key_length: 0,
+            encrypting: [[0; 16]; 15],
+            decrypting: [[0; 16]; 15],
+        }
+    }
+
+    #[inline(always)]
+    fn zeroize(&mut self) {
+        self.key_length = 0;
+        zeroize_elements(&mut self.encrypting);
+        zeroize_elements(&mut self.decrypting);
+    }
+}
+
+/// Returns the stored round keys of a key of `key_length` bytes: the first of the blocks.
+#[inline(always)]
+pub(crate) fn keys_of(blocks: &[Block; 15], key_length: usize) -> &[Block]
+    requires { IsKeyLength key_length }
+    ensures { result.now ≡ first_keys key_length blocks.now }
+{
+    &blocks[..key_length / 4 + 7]
+}
+
+/// Writes the stored round keys of Cipher of a key.
+#[inline(always)]
+pub(crate) fn put_keys(blocks: &mut [Block; 15], key: &[u8])
+    requires { IsKeyLength (length key.now) }
+    ensures lanes { IsLanes (first_keys (length key.now) blocks.new) }
+    ensures key { kept_key (length key.now) blocks.new ≡ key.now }
+    ensures after { drop (length key.now / 4 + 7) blocks.new ≡ drop (length key.now / 4 + 7) blocks.old }
+{
+    put_encrypting(&mut blocks[..key.len() / 4 + 7], key);
+}
+
+// Writes the stored round keys of EqInvCipher of the same key.
+#[inline(always)]
+fn put_inverse(inverse: &mut [Block; 15], blocks: &[Block; 15], key_length: usize)
+    requires length { IsKeyLength key_length }
+    requires lanes { IsLanes (first_keys key_length blocks.now) }
+    ensures inverse { AreInverse (first_keys key_length inverse.new) (first_keys key_length blocks.now) }
+    ensures after { drop (key_length / 4 + 7) inverse.new ≡ drop (key_length / 4 + 7) inverse.old }
+{
+    put_decrypting(
+        &mut inverse[..key_length / 4 + 7],
+        keys_of(blocks, key_length),
+    );
+}
+
+/// Returns whether this is the length of a key: 16, 24 or 32 bytes.
+pub(crate) fn is_key_length(bytes: usize) -> bool
+    ensures { result ≡ true ↔ IsKeyLength bytes }
+{
+    bytes == 16 || bytes == 24 || bytes == 32
+}
+
+/// Returns whether the struct holds a key.
+pub(crate) fn holds_key(aes: &Aes) -> bool
+    ensures { result ≡ true ↔ IsKeyLength aes.now.key_length }
+{
+    is_key_length(aes.key_length as usize)
+}
+
+/// Expands a key into the struct (KeyExpansion, FIPS 197, 5.2). Returns `DONE` exactly if the key has 16, 24 or 32
+/// bytes, else `KEY_LENGTH`; the struct then holds no key. Nothing of what it held before is left in either case: its
+/// blocks are the round keys of the new key, and zeros after them.
+pub fn set_key(aes: &mut Aes, key: &[u8]) -> u32
+    ensures done { result ≡ DONE ↔ IsKeyLength (length key.now) }
+    ensures refused { result ≢ DONE → result ≡ KEY_LENGTH }
+    ensures made { IsMade aes.new.key_length aes.new.encrypting aes.new.decrypting }
+    ensures key { result ≡ DONE → kept_key aes.new.key_length aes.new.encrypting ≡ key.now }
+    ensures length { result ≡ DONE → aes.new.key_length ≡ length key.now }
+    ensures after_encrypting { result ≡ DONE → AreZeroAfter (length key.now) aes.new.encrypting }
+    ensures after_decrypting { result ≡ DONE → AreZeroAfter (length key.now) aes.new.decrypting }
+    ensures none { result ≢ DONE → aes.new.key_length ≡ 0 }
+    ensures wiped_encrypting { result ≢ DONE → aes.new.encrypting ≡ replicate 15 (replicate 16 0) }
+    ensures wiped_decrypting { result ≢ DONE → aes.new.decrypting ≡ replicate 15 (replicate 16 0) }
+{
+    // Nothing is read of a struct that may be uninitialized. No compiler takes these zeros away where they stay: the
+    // caller owns the struct, and can read what the call leaves in it.
+    *aes = Aes::zero();
+    if !is_key_length(key.len()) {
+        return KEY_LENGTH;
+    }
+    put_keys(&mut aes.encrypting, key);
+    put_inverse(&mut aes.decrypting, &aes.encrypting, key.len());
+    aes.key_length = key.len() as u32;
+    DONE
+}
+
+/// Returns how many bytes the key has, or 0 if the struct holds no key.
+pub fn length_of_key(aes: &Aes) -> usize
+    ensures key { IsKeyLength aes.now.key_length → result ≡ aes.now.key_length }
+    ensures none { ¬ IsKeyLength aes.now.key_length → result ≡ 0 }
+{
+    if holds_key(aes) {
+        aes.key_length as usize
+    } else {
+        0
+    }
+}
+
+/// Overwrites the struct with zeros: it then holds no key.
+pub fn wipe(aes: &mut Aes)
+    ensures none { aes.new.key_length ≡ 0 }
+    ensures encrypting { aes.new.encrypting ≡ replicate 15 (replicate 16 0) }
+    ensures decrypting { aes.new.decrypting ≡ replicate 15 (replicate 16 0) }
+{
+    // A wipe looks at what it overwrites, and the struct may be uninitialized: so zeros are written first.
+    *aes = Zeroize::zero();
+    aes.zeroize();
+}

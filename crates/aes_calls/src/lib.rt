@@ -1,0 +1,11 @@
+//! The calls of the C library, over either width of words: `aes_c` and `aes_c_wide` export them.
+//!
+//! Keys of 16, 24 and 32 bytes go through the same calls, since the struct knows how long its key is.
+#![tactic(auto)]
+
+pub mod blocks;
+pub mod examples;
+pub mod kept;
+pub mod once;
+pub mod status;
+pub mod stream;

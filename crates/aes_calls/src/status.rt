@@ -1,0 +1,19 @@
+//! What calls return, `enum fotsgure_aes_status`, and the version.
+
+/// The work is done.
+pub const DONE: u32 = 0;
+
+/// The key doesn't have 16, 24 or 32 bytes.
+pub const KEY_LENGTH: u32 = 1;
+
+/// The struct holds no key.
+pub const NO_KEY: u32 = 2;
+
+/// Input and output differ in length.
+pub const UNEQUAL_COUNTS: u32 = 3;
+
+/// The keystream ends before the bytes do.
+pub const KEYSTREAM_END: u32 = 4;
+
+/// The version of the interface: 10000 times the first number, 100 times the second, plus the third.
+pub const VERSION: u32 = 200;

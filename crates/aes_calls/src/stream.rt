@@ -1,0 +1,94 @@
+//! Counter mode under the key of a struct.
+
+ghost use Rattle.std.specs.Prelude.{◌≡◌, ◌≢◌, ◌↔◌, ◌+◌, ◌-◌, ◌^◌, ◌<◌, ◌≤◌, length};
+ghost use Rattle.aes_planes.specs.Fips197 as fips;
+ghost use Rattle.aes_ctr.specs.CounterMode.{keystream_byte, plus_stream};
+ghost use Rattle.aes_calls.specs.Kept.{kept_key, IsKeyLength, IsMade};
+
+use crate::kept::{Aes, holds_key, keys_of};
+use crate::status::{DONE, KEYSTREAM_END, NO_KEY, UNEQUAL_COUNTS};
+use aes_ctr::add_keystream;
+use aes_hybrid::lent::Lent;
+use aes_hybrid::widths::Width;
+
+/// Where a keystream stands: `struct fotsgure_aes_ctr`.
+#[repr(C)]
+#[derive(Drop)]
+pub struct Ctr {
+    /// The initial counter block, whole.
+    pub iv: [u8; 16],
+    /// How many bytes of the keystream come before the next.
+    pub position: u64,
+}
+
+// Returns the status that refuses `count` bytes of keystream from a position on, or `DONE`.
+fn refusal(aes: &Aes, position: u64, count: usize) -> u32
+    ensures ended { result ≡ KEYSTREAM_END ↔ (2 ^ 64 - 1 < position + count) }
+    ensures done { result ≡ DONE ↔ IsKeyLength aes.now.key_length × (position + count ≤ 2 ^ 64 - 1) }
+    ensures refused { result ≢ DONE → result ≢ KEYSTREAM_END → result ≡ NO_KEY }
+{
+    if count as u64 > u64::MAX - position {
+        return KEYSTREAM_END;
+    }
+    if !holds_key(aes) {
+        return NO_KEY;
+    }
+    DONE
+}
+
+/// Adds to each byte the keystream's byte at its place, the first of them at the position, and moves the position on
+/// (SP 800-38A, 6.5). Returns `KEYSTREAM_END` exactly if the position would pass 2^64 - 1, else `NO_KEY` if there is no
+/// key, and `DONE` in all other cases.
+pub fn add_keystream_under<W: Width>(aes: &Aes, ctr: &mut Ctr, bytes: &mut [u8]) -> u32
+    requires made { IsMade aes.now.key_length aes.now.encrypting aes.now.decrypting }
+    ensures ended { result ≡ KEYSTREAM_END ↔ (2 ^ 64 - 1 < ctr.old.position + length bytes.old) }
+    ensures done { result ≡ DONE ↔ IsKeyLength aes.now.key_length × (ctr.old.position + length bytes.old ≤ 2 ^ 64 - 1) }
+    ensures refused { result ≢ DONE → result ≢ KEYSTREAM_END → result ≡ NO_KEY }
+    ensures bytes { let w = fips.key_expansion (kept_key aes.now.key_length aes.now.encrypting) in
+        result ≡ DONE → bytes.new ≡ plus_stream (keystream_byte w ctr.old.iv) ctr.old.position bytes.old }
+    ensures moved { result ≡ DONE → ctr.new.position ≡ ctr.old.position + length bytes.old }
+    ensures iv { ctr.new.iv ≡ ctr.old.iv }
+    ensures unmoved { result ≢ DONE → ctr.new.position ≡ ctr.old.position }
+    ensures untouched { result ≢ DONE → bytes.new ≡ bytes.old }
+{
+    let status = refusal(aes, ctr.position, bytes.len());
+    if status == DONE {
+        let keys = keys_of(&aes.encrypting, aes.key_length as usize);
+        add_keystream(&Lent::<W>::new(keys), &ctr.iv, ctr.position, bytes);
+        ctr.position += bytes.len() as u64;
+    }
+    status
+}
+
+/// Writes to one buffer the bytes of another plus the keystream's, and moves the position on. Returns `UNEQUAL_COUNTS`
+/// exactly if the buffers differ in length, and else what `add_keystream_under` returns.
+pub fn add_keystream_under_to<W: Width>(
+    aes: &Aes,
+    ctr: &mut Ctr,
+    input: &[u8],
+    output: &mut [u8],
+) -> u32
+    requires made { IsMade aes.now.key_length aes.now.encrypting aes.now.decrypting }
+    ensures unequal { result ≡ UNEQUAL_COUNTS ↔ (length input.now ≢ length output.old) }
+    ensures ended { result ≡ KEYSTREAM_END
+        ↔ (length input.now ≡ length output.old) × (2 ^ 64 - 1 < ctr.old.position + length input.now) }
+    ensures done { result ≡ DONE ↔ IsKeyLength aes.now.key_length
+        × ((length input.now ≡ length output.old) × (ctr.old.position + length input.now ≤ 2 ^ 64 - 1)) }
+    ensures refused { result ≢ DONE → result ≢ UNEQUAL_COUNTS → result ≢ KEYSTREAM_END → result ≡ NO_KEY }
+    ensures bytes { let w = fips.key_expansion (kept_key aes.now.key_length aes.now.encrypting) in
+        result ≡ DONE → output.new ≡ plus_stream (keystream_byte w ctr.old.iv) ctr.old.position input.now }
+    ensures moved { result ≡ DONE → ctr.new.position ≡ ctr.old.position + length input.now }
+    ensures iv { ctr.new.iv ≡ ctr.old.iv }
+    ensures unmoved { result ≢ DONE → ctr.new.position ≡ ctr.old.position }
+    ensures untouched { result ≢ DONE → output.new ≡ output.old }
+{
+    if input.len() != output.len() {
+        return UNEQUAL_COUNTS;
+    }
+    let status = refusal(aes, ctr.position, input.len());
+    if status != DONE {
+        return status;
+    }
+    output.copy_from_slice(input);
+    add_keystream_under::<W>(aes, ctr, output)
+}

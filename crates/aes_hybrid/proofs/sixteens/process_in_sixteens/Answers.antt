@@ -1,0 +1,12 @@
+-- What is left to show of `sixteens::process_in_sixteens`.
+use Rattle.std.proofs.Common.{ℕ, ◌-◌, ◌%◌, length, refl, ◌∙◌, arith}
+use Rattle.aes_cipher.proofs.SliceRuns.{end_finished}
+use Rattle.aes_soft.proofs.Slices.{front_finished}
+use Rattle.aes_hybrid.proofs.sixteens.process_in_sixteens.Goals as goal
+
+pub returns-then-whole-blocks : goal.returns-then-whole-blocks
+returns-then-whole-blocks g c =
+    let blocks = c.args.blocks.now in
+    let whole : ℕ = length blocks - length blocks % 16 in
+    end_finished _ whole _ _ _ (omega (arith, c.process_batches_under.auto.blocks)) refl c.process_rest.ensures
+    ∙ front_finished _ whole blocks _ (omega arith) c.process_batches_under.ensures.blocks
