@@ -164,6 +164,62 @@ static void open(size_t key_bytes, size_t bytes, size_t extra, size_t length, in
     known(tag, 16);
 }
 
+/* A call on a piece, which has to be done, and to tell something so often. */
+#define PIECE(call, told, works, ...) do { \
+        snprintf(name, sizeof name, #call " %zu %zu %zu+%zu", key_bytes, bytes, at, n); \
+        begin(name); \
+        enum fotsgure_gcm_status status = call(__VA_ARGS__); \
+        known(&status, sizeof status); \
+        end(name, "clean", told, status == FOTSGURE_GCM_DONE && (works)); \
+    } while (0)
+
+/* A message in pieces, there and back. */
+static void in_pieces(size_t key_bytes, size_t bytes, size_t piece, size_t length)
+{
+    char name[80];
+    struct fotsgure_gcm_message message;
+    unsigned wraps = bytes != 12;
+    size_t at = 0, n = 20;
+    prepare(key_bytes, n, length);
+    PIECE(fotsgure_gcm_begin, 0, tainted(&message, 32) == 0, &gcm, &message, nonce, bytes);
+    PIECE(fotsgure_gcm_additional, 0, tainted(&message, sizeof message) >= 16, &gcm, &message, additional, n);
+    for (at = 0; at < length; at += n) {
+        n = length - at < piece ? length - at : piece;
+        PIECE(fotsgure_gcm_encrypt, wraps, tainted(text + at, n) == n, &gcm, &message, text + at, n);
+    }
+    PIECE(fotsgure_gcm_finish, 0, is_secret_tag() && tainted(&message, sizeof message) == 0, &gcm, &message, tag);
+    known(text, MOST);
+    secret(text, length);
+    at = 0;
+    n = 20;
+    PIECE(fotsgure_gcm_begin, 0, 1, &gcm, &message, nonce, bytes);
+    PIECE(fotsgure_gcm_additional, 0, 1, &gcm, &message, additional, n);
+    for (at = 0; at < length; at += n) {
+        n = length - at < piece ? length - at : piece;
+        PIECE(fotsgure_gcm_verify, 0, tainted(&message, sizeof message) >= 16, &gcm, &message, text + at, n);
+    }
+    secret(tag, 16);
+    PIECE(fotsgure_gcm_accept, 1, 1, &gcm, &message, tag, 16);
+    known(tag, 16);
+    for (at = 0; at < length; at += n) {
+        n = length - at < piece ? length - at : piece;
+        PIECE(fotsgure_gcm_decrypt, wraps, tainted(text + at, n) == n, &gcm, &message, text + at, n);
+    }
+    known(text, MOST);
+    at = 0;
+    secret(text, length);
+    if (fotsgure_gcm_begin(&gcm, &message, nonce, bytes) != FOTSGURE_GCM_DONE)
+        abort();
+    n = length;
+    PIECE(fotsgure_gcm_decrypt_unverified, wraps, tainted(text, n) == n, &gcm, &message, text, n);
+    snprintf(name, sizeof name, "fotsgure_gcm_wipe_message %zu %zu", key_bytes, bytes);
+    begin(name);
+    fotsgure_gcm_wipe_message(&message);
+    end(name, "clean", 0, tainted(&message, sizeof message) == 0);
+    known(text, MOST);
+    known(additional, MOST);
+}
+
 /* What is refused before a secret is looked at. */
 static void refused(void)
 {
@@ -244,6 +300,11 @@ int main(void)
                 open(bytes, nonces[i], 20, lengths[i + 3 * k], 1);
             }
     }
+    for (size_t bytes = 16; bytes <= 32; bytes += 8)
+        for (size_t piece = 1; piece <= 400; piece += 1 + piece * 2) {
+            in_pieces(bytes, 12, piece, 130 + piece);
+            in_pieces(bytes, 8, piece, 130 + piece);
+        }
     refused();
     plants();
     printf("end\n");
