@@ -21,10 +21,13 @@
  * NULL is allowed for `key`, `blocks`, `bytes`, `input` and `output` if the count is 0.
  *
  * In return, no call allocates, prints, aborts, blocks, or keeps a pointer; the library has no state of its own;
- * every call returns, and writes nothing but what it says. (Proved is what calls return and write, that they return, and
- * that the calls under a key wipe the schedule that they hold; read and measured is that they hold no other copy of it,
- * that calls allocate nothing, that the stack suffices, and what they read of an unwritten struct.) A call that doesn't return FOTSGURE_AES_DONE has changed nothing; fotsgure_aes_set_key is the
- * exception. What a call returns depends on lengths and positions alone, never on the bytes of a key or of data.
+ * every call returns, and writes nothing but what it says. A call that doesn't return FOTSGURE_AES_DONE has changed
+ * nothing; fotsgure_aes_set_key is the exception. What a call returns depends on lengths and positions alone, never on
+ * the bytes of a key or of data.
+ *
+ * Of this it is proved what calls return and write, that they return, and that the calls that are given a key wipe the
+ * schedule that they keep. Read in the code and measured is that they keep no other copy of it, that no call
+ * allocates, that the stack suffices, and what calls read of an unwritten struct.
  *
  * Copies and threads: a struct fotsgure_aes may be copied and moved as bytes, and every copy is as secret as the key
  * and is wiped by itself. Any number of threads may use one struct at the same time by the calls that take it as const.

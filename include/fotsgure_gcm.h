@@ -81,7 +81,7 @@ enum fotsgure_gcm_status {
 struct fotsgure_gcm {
     uint32_t key_length; /* 16, 24 or 32; 0: no key */
     uint8_t round_keys[240];
-    uint8_t multiples[512];
+    uint8_t multiples[1536];
 };
 
 /* The next nonce of a key: 12 bytes, one number, highest byte first. Begin with zeros, or with a number of your own for
@@ -91,7 +91,7 @@ struct fotsgure_gcm_counter {
 };
 
 FOTSGURE_GCM_ASSERT(sizeof(enum fotsgure_gcm_status) == 4 && sizeof(size_t) == 8, "the ABI of the library: 64-bit");
-FOTSGURE_GCM_ASSERT(sizeof(struct fotsgure_gcm) == 756, "no padding");
+FOTSGURE_GCM_ASSERT(sizeof(struct fotsgure_gcm) == 1780, "no padding");
 FOTSGURE_GCM_ASSERT(sizeof(struct fotsgure_gcm_counter) == 12, "no padding");
 
 /* Returns FOTSGURE_GCM_VERSION of the header that the library was built with. */

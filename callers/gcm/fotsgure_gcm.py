@@ -19,7 +19,7 @@ class Refused(Exception):
 
 class _Key(ctypes.Structure):
     _fields_ = [("key_length", ctypes.c_uint32), ("round_keys", ctypes.c_uint8 * 240),
-                ("multiples", ctypes.c_uint8 * 512)]
+                ("multiples", ctypes.c_uint8 * 1536)]
 
 
 class _Counter(ctypes.Structure):

@@ -73,12 +73,12 @@ def not_called(calls):
     for crate, path, name in public_functions():
         if name in words:
             continue
-        of_crate = [(i, names) for i, (of, names, _) in enumerate(rows) if of == crate]
-        why = [i for i, names in of_crate if any(matches(it, path, name) for it in names)]
+        of_crate = [(crate, it) for of, names, _ in rows if of == crate for it in names]
+        why = [it for it in of_crate if matches(it[1], path, name)]
         used.update(why)
         if not why:
             missed.append(f"{crate}/src/{path}: {name}")
-    idle = [f"{crate} {' '.join(names)}" for i, (crate, names, _) in enumerate(rows) if i not in used]
+    idle = [f"{crate} {it}" for crate, names, _ in rows for it in names if (crate, it) not in used]
     return missed, idle
 
 

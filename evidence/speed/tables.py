@@ -266,6 +266,16 @@ def least_to_most(ratios, rows, without):
     return f"{ratio(min(found))} to {ratio(max(found))}" if found else "–"
 
 
+def quicker_peers(ratios):
+    """The rows in which a peer without AES instructions takes less time than this library, as words."""
+    found = [
+        f"{peer} for {title} ({ratio(it)})"
+        for (title, (peer, how)), it in ratios.items()
+        if (peer, how) != WITH_THEM and it < 1
+    ]
+    return f" Quicker than this library: {', '.join(found)}." if found else ""
+
+
 def published(where, rows, key=16):
     """The section of docs/MEASUREMENTS.md that a run writes: what it means, a table, and how it was measured."""
     ratios, times = ratios_of(rows, key)
@@ -279,22 +289,22 @@ def published(where, rows, key=16):
     one, many = (least_to_most(ratios, it, True) for it in ("1 block", "4,096"))
     with_them = least_to_most(ratios, "4,096", False)
     meaning = (
-        f"Without AES instructions, OpenSSL, Botan and Libgcrypt by SSSE3 take {one} times as long as this one for one "
-        f"block, and {many} "
-        f"times as long for 4,096; OpenSSL with AES instructions takes {with_them} times as long for 4,096, so take "
-        "that if your processor has them and speed is all that you need."
+        f"Without AES instructions, OpenSSL, Botan and Libgcrypt use SSSE3. They take {one} times as long as this "
+        f"library for one block, and {many} times as long for 4,096.{quicker_peers(ratios)} OpenSSL with AES "
+        f"instructions takes {with_them} times as long for 4,096 blocks. Take that if your processor has them and speed "
+        "is all that you need."
     )
     how = (
         "The first column is the time of a call from C with a key of 16 bytes. The others are the time of the same "
-        "work divided by it, so below 1 is faster than this library. Without AES instructions these libraries use "
-        "SSSE3, and read no tables once a key is set. Counter mode has its key at hand."
+        "work divided by it, so below 1 is faster than this library. By SSSE3 these libraries read no tables once a "
+        "key is set. In the rows of counter mode the key is set beforehand."
     )
     measured = (
         f"Measured by `evidence/speed/run`: {conditions}, beside {', '.join(shown)}. "
-        "[summary.csv](../evidence/speed/summary.csv) has these times and those of the picture. Every time of the run "
-        "is in a release's `speed.csv`: keys of 24 and 32 bytes, every count of blocks from 1 to 40, counter mode from "
-        "16 bytes on, the types of Rattle, three more libraries, and the build of the second compiler. That build is for checking: the gate compares what programs print in both builds. Nothing uses it "
-        "for speed, so the picture leaves it out."
+        "[summary.csv](../evidence/speed/summary.csv) has these times and those of the picture. A release's `speed.csv` "
+        "has every time of the run: keys of 24 and 32 bytes, every count of blocks from 1 to 40, counter mode from "
+        "16 bytes on, the types of Rattle, three more libraries, and the build of the second compiler. That build is "
+        "for checking and not for speed, so the picture leaves it out."
     )
     heads = ["", "this library", "OpenSSL", "Botan", "Libgcrypt", "OpenSSL with AES instructions"]
     return meaning, tools.table(heads, *lines), how, measured

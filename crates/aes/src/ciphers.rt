@@ -14,7 +14,7 @@ use aes_cipher::cipher::{BlockCipherDecClosure, BlockCipherEncClosure, Decrypt, 
 use aes_cipher::zeroize::Wiped;
 use aes_planes::soft::sbox::Layers;
 use aes_planes::soft::word::Block;
-use aes_soft::soft::FullCipher;
+use aes_soft::soft::PlaneCipher;
 use aes_soft::soft::blocks::{
     decrypt_with_backend, encrypt_with_backend, process_block, process_blocks,
 };
@@ -87,7 +87,7 @@ impl<K: KeySize> TurnedFrom<Fixsliced<K>> for Fixsliced<K> {
     }
 }
 
-impl<K: KeySize, D: FullCipher> Processes<D> for Fixsliced<K> {
+impl<K: KeySize, D: PlaneCipher> Processes<D> for Fixsliced<K> {
     fn process_block(&self, block: &mut Block) {
         process_block::<D>(words_of::<K>(&self.room), block);
     }

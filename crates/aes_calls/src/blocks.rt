@@ -14,10 +14,10 @@ use aes_hybrid::blocks::process_blocks;
 use aes_hybrid::widths::Width;
 use aes_permute::directions::LaneRounds;
 use aes_planes::soft::word::Block;
-use aes_soft::soft::FullCipher;
+use aes_soft::soft::PlaneCipher;
 
 /// A direction whose round keys a struct has.
-pub trait KeptDirection: LaneRounds + FullCipher {
+pub trait KeptDirection: LaneRounds + PlaneCipher {
     /// Lends them.
     fn lend(aes: &Aes) -> &[Block]
         requires holds_key { IsKeyLength aes.now.key_length }

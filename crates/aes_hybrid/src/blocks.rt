@@ -17,7 +17,7 @@ use aes_permute::blocks::process_blocks as process_on_lanes;
 use aes_permute::directions::LaneRounds;
 use aes_planes::soft::sbox::Layers;
 use aes_planes::soft::word::Block;
-use aes_soft::soft::FullCipher;
+use aes_soft::soft::PlaneCipher;
 use aes_soft::soft::blocks::{process_batch_under, process_batches_under};
 use aes_soft::soft::key_sizes::BatchWord;
 
@@ -33,7 +33,7 @@ const LEAST_ON_PLANES: usize = 15;
 
 // Processes the last blocks, six or seven, as a batch with those before them, which then get back what they held.
 #[inline(never)]
-fn process_last<D: FullCipher>(words: &[BatchWord], blocks: &mut [Block], count: usize)
+fn process_last<D: PlaneCipher>(words: &[BatchWord], blocks: &mut [Block], count: usize)
     requires least { 88 ≤ length words.now }
     requires most { length words.now ≤ 120 }
     requires half_over { length words.now % 16 ≡ 8 }
@@ -60,7 +60,7 @@ fn process_last<D: FullCipher>(words: &[BatchWord], blocks: &mut [Block], count:
 
 // Processes each block on planes of round keys: what is left after whole batches, and these.
 #[inline(always)]
-fn process_in_batches<D: FullCipher>(words: &[BatchWord], blocks: &mut [Block])
+fn process_in_batches<D: PlaneCipher>(words: &[BatchWord], blocks: &mut [Block])
     requires least { 88 ≤ length words.now }
     requires most { length words.now ≤ 120 }
     requires half_over { length words.now % 16 ≡ 8 }
@@ -82,7 +82,7 @@ fn process_in_batches<D: FullCipher>(words: &[BatchWord], blocks: &mut [Block])
 
 // Processes seven blocks as a batch with a block of zeros.
 #[inline(never)]
-fn process_seven<D: FullCipher>(words: &[BatchWord], blocks: &mut [Block])
+fn process_seven<D: PlaneCipher>(words: &[BatchWord], blocks: &mut [Block])
     requires least { 88 ≤ length words.now }
     requires most { length words.now ≤ 120 }
     requires half_over { length words.now % 16 ≡ 8 }
@@ -101,7 +101,7 @@ fn process_seven<D: FullCipher>(words: &[BatchWord], blocks: &mut [Block])
 
 // Processes each block on planes, which are wiped before the call returns.
 #[inline(always)]
-fn process_with_planes<const N: usize, D: LaneRounds + FullCipher>(
+fn process_with_planes<const N: usize, D: LaneRounds + PlaneCipher>(
     keys: &[Block],
     blocks: &mut [Block],
 )
@@ -125,7 +125,7 @@ fn process_with_planes<const N: usize, D: LaneRounds + FullCipher>(
 
 // Does the same in an array no larger than the round keys. Not inlined, so that few blocks need no large stack frame.
 #[inline(never)]
-fn process_on_planes<D: LaneRounds + FullCipher>(keys: &[Block], blocks: &mut [Block])
+fn process_on_planes<D: LaneRounds + PlaneCipher>(keys: &[Block], blocks: &mut [Block])
     requires is_lanes { IsLanes keys.now }
     requires some { 7 ≤ length blocks.old }
     requires rest { (length blocks.old % 8 ≡ 0) ⊎ (6 ≤ length blocks.old % 8) }
@@ -175,7 +175,7 @@ fn blocks_on_planes<D: LaneRounds>(count: usize) -> usize
 
 // Processes each block of a slice in place: whole batches of eight on planes, and the others by vector permutations where
 // they are few, since these take less time so.
-fn process_narrow<D: LaneRounds + FullCipher>(keys: &[Block], used: &[Block], blocks: &mut [Block])
+fn process_narrow<D: LaneRounds + PlaneCipher>(keys: &[Block], used: &[Block], blocks: &mut [Block])
     requires is_lanes { IsLanes keys.now }
     requires used { round_keys_of D.form used.now ≡ D.form.used_keys (encrypting keys.now) }
     ensures { Each (D.processed (fips.key_expansion (lanes_key keys.now))) blocks.old blocks.new }
@@ -190,7 +190,7 @@ fn process_narrow<D: LaneRounds + FullCipher>(keys: &[Block], used: &[Block], bl
 /// Processes each block of a slice in place: batches of sixteen on words of 256 bits, if the width has these, batches of
 /// eight on words of 128, and few blocks by vector permutations. `keys` are the stored round keys of Cipher,
 /// and `used` those of the direction.
-pub fn process_blocks<D: LaneRounds + FullCipher, W: Width>(
+pub fn process_blocks<D: LaneRounds + PlaneCipher, W: Width>(
     keys: &[Block],
     used: &[Block],
     blocks: &mut [Block],

@@ -15,7 +15,7 @@ use aes_cipher::zeroize::zeroize_words;
 use aes_permute::directions::LaneRounds;
 use aes_planes::soft::sbox::Layers;
 use aes_planes::soft::word::{Block, Word};
-use aes_soft::soft::FullCipher;
+use aes_soft::soft::PlaneCipher;
 use aes_soft::soft::blocks::{process_batch_under, process_batches_under};
 use std::simd::prelude::*;
 
@@ -41,7 +41,7 @@ pub(crate) fn blocks_by_sixteen<W: Width>(count: usize) -> usize
 
 // Processes fewer blocks than a batch, as one with blocks of zeros.
 #[inline(never)]
-fn process_rest<D: FullCipher>(words: &[u8x32], blocks: &mut [Block])
+fn process_rest<D: PlaneCipher>(words: &[u8x32], blocks: &mut [Block])
     requires least { 88 ≤ length words.now }
     requires most { length words.now ≤ 120 }
     requires half_over { length words.now % 16 ≡ 8 }
@@ -61,7 +61,7 @@ fn process_rest<D: FullCipher>(words: &[u8x32], blocks: &mut [Block])
 
 // Processes each block on words of round keys: whole batches, and then what is left.
 #[inline(always)]
-fn process_in_sixteens<D: FullCipher>(words: &[u8x32], blocks: &mut [Block])
+fn process_in_sixteens<D: PlaneCipher>(words: &[u8x32], blocks: &mut [Block])
     requires least { 88 ≤ length words.now }
     requires most { length words.now ≤ 120 }
     requires half_over { length words.now % 16 ≡ 8 }
@@ -80,7 +80,7 @@ fn process_in_sixteens<D: FullCipher>(words: &[u8x32], blocks: &mut [Block])
 
 // Processes each block on words that are wiped before the call returns.
 #[inline(always)]
-fn process_under_wide<const N: usize, D: LaneRounds + FullCipher>(
+fn process_under_wide<const N: usize, D: LaneRounds + PlaneCipher>(
     keys: &[Block],
     blocks: &mut [Block],
 )
@@ -98,7 +98,7 @@ fn process_under_wide<const N: usize, D: LaneRounds + FullCipher>(
 /// Processes each block in place, with words in an array no larger than the round keys. Not inlined, so that few blocks
 /// need no large stack frame.
 #[inline(never)]
-pub(crate) fn process_sixteens<D: LaneRounds + FullCipher>(keys: &[Block], blocks: &mut [Block])
+pub(crate) fn process_sixteens<D: LaneRounds + PlaneCipher>(keys: &[Block], blocks: &mut [Block])
     requires is_lanes { IsLanes keys.now }
     ensures { Each (D.processed (fips.key_expansion (lanes_key keys.now))) blocks.old blocks.new }
 {

@@ -1,4 +1,4 @@
-//! Tests of the engine of the program `aes-kat`.
+//! Tests of `aes_kat`, the engine of the program.
 #![tactic(auto)]
 
 #[cfg(test)]

@@ -1,4 +1,5 @@
-//! Keys and blocks of the standards, and tests of what the types are built from: traits, wipes, bit planes, schedules.
+//! Keys and blocks of the standards, and tests of `aes_planes`, `aes_cipher` and `aes_soft`: of traits, wipes, bit planes
+//! and schedules.
 #![tactic(auto)]
 
 pub mod blocks;

@@ -43,7 +43,7 @@ pub(crate) const COMPACT_WORDS: [u16; 88] = [
 
 /// What the compact layout stores for the key of zeros.
 pub fn compact_words()
-    ensures { IsSchedule 1 compact (bytes 16 0) (map (word_bits 16) COMPACT_WORDS) }
+    ensures { IsSchedule 1 (compact 10) (bytes 16 0) (map (word_bits 16) COMPACT_WORDS) }
 {
     zero_key_expansion();
 }

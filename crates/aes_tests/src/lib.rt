@@ -1,4 +1,5 @@
-//! Callers of the library, and tests over several of its crates.
+//! Proved callers and tests of `aes`, `aes_permute`, `aes_hybrid`, `aes_rounds` and `aes_ctr`: the types, and modes over
+//! them.
 #![tactic(auto)]
 
 pub mod by_backend;

@@ -2,9 +2,7 @@
 
 ghost use Rattle.std.specs.Prelude.{◌≡◌, ◌⊎◌, ◌≤◌, length};
 
-use super::both_keys::BothKeys;
-use super::both_ways::Aes;
-use super::decrypt::AesDec;
+use super::inverse::{Aes, AesDec};
 use super::runs;
 use aes::hazmat::Block8;
 use aes_cipher::cipher::{BatchOfEight, BatchSizeUser, BlockCipherEncBackend, RoundKeysUser};
@@ -33,8 +31,7 @@ impl<const RK: usize> AesEnc<RK> {
     pub fn as_encdec(&self) -> Aes<RK>
         ensures { ⟦<Aes<RK> as RoundKeysUser>⟧.round_keys result ≡ ⟦<AesEnc<RK> as RoundKeysUser>⟧.round_keys self.now }
     {
-        let keys = BothKeys::new(&self.round_keys);
-        Aes { keys }
+        Aes::of(&self.round_keys)
     }
 
     /// Returns the inverse cipher under the same round keys.
@@ -42,8 +39,7 @@ impl<const RK: usize> AesEnc<RK> {
         ensures { ⟦<AesDec<RK> as RoundKeysUser>⟧.round_keys result ≡ ⟦<AesEnc<RK> as RoundKeysUser>⟧.round_keys
             self.now }
     {
-        let keys = BothKeys::new(&self.round_keys);
-        AesDec { keys }
+        AesDec::of(&self.round_keys)
     }
 }
 

@@ -1,9 +1,9 @@
-//! The ciphers of both layouts, each with one contract for both directions, every word and every size of key.
+//! The ciphers, with one contract for both directions, every layout, every word and every size of key.
 
-mod compact;
-mod full;
+mod layouts;
+mod planes;
 mod rounds;
 
-pub(crate) use compact::{CompactCipher, process_compact};
-pub use full::FullCipher;
-pub(crate) use full::{process_full, process_full_apart};
+pub use layouts::{Compact, Full, Layout};
+pub use planes::PlaneCipher;
+pub(crate) use planes::{process, process_apart};

@@ -5,6 +5,7 @@ ghost use Rattle.aes_planes.specs.Fips197 as fips;
 ghost use Rattle.aes_planes.specs.Words.{word_bits};
 ghost use Rattle.aes_soft.specs.Stored.{plane_key, stored_words, words_for, IsFullSchedule};
 
+use super::ciphers::Full;
 use super::key_schedule::put_schedule;
 use aes_cipher::aes::{KeyBytes, KeySize};
 use aes_cipher::zeroize::Wiped;
@@ -47,7 +48,7 @@ pub fn put_words<K: KeySize>(room: &mut Room, key: &[u8], layers: &mut Layers)
     ensures layers { layers.new ≡ layers.old + substitutions K.Key.SIZE }
 {
     let count = count_of::<K>();
-    put_schedule::<u16>(&mut room[..count], key, layers);
+    put_schedule::<u16, Full>(&mut room[..count], key, layers);
 }
 
 /// No effect; states that stored round keys are read as a key of bytes, whose round keys are blocks.

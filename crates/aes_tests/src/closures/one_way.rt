@@ -11,7 +11,7 @@ use aes_cipher::cipher::{
 use aes_planes::soft::word::Block;
 
 /// A backend that processes blocks in the direction D.
-pub trait OneWay<D: Direction>: ParBlocksSizeUser + RoundKeysUser {
+pub trait BackendIn<D: Direction>: ParBlocksSizeUser + RoundKeysUser {
     /// Processes the block in its place.
     fn process_block(&self, block: &mut Block)
         ensures { block.new ≡ D.processed (Self.round_keys self.now) block.old };
@@ -22,7 +22,7 @@ pub trait OneWay<D: Direction>: ParBlocksSizeUser + RoundKeysUser {
         ensures { Each (D.processed (Self.round_keys self.now)) blocks.old blocks.new };
 }
 
-impl<B: BlockCipherEncBackend> OneWay<Encrypt> for B {
+impl<B: BlockCipherEncBackend> BackendIn<Encrypt> for B {
     fn process_block(&self, block: &mut Block) {
         self.encrypt_block(block);
     }
@@ -32,7 +32,7 @@ impl<B: BlockCipherEncBackend> OneWay<Encrypt> for B {
     }
 }
 
-impl<B: BlockCipherDecBackend> OneWay<Decrypt> for B {
+impl<B: BlockCipherDecBackend> BackendIn<Decrypt> for B {
     fn process_block(&self, block: &mut Block) {
         self.decrypt_block(block);
     }
@@ -44,7 +44,7 @@ impl<B: BlockCipherDecBackend> OneWay<Decrypt> for B {
 
 /// Processes every block: batches while a whole one is left, then single blocks.
 #[tactic(auto, using(aes_cipher::proofs::SliceRuns::finished_run, aes_cipher::proofs::SliceRuns::finished_one))]
-pub fn process_all<D: Direction, B: OneWay<D>>(backend: &B, blocks: &mut [Block])
+pub fn process_all<D: Direction, B: BackendIn<D>>(backend: &B, blocks: &mut [Block])
     ensures { Each (D.processed (B.round_keys backend.now)) blocks.old blocks.new }
 {
     let size = B::PAR_BLOCKS;
@@ -60,7 +60,7 @@ pub fn process_all<D: Direction, B: OneWay<D>>(backend: &B, blocks: &mut [Block]
 }
 
 /// Processes the first block alone, then all others.
-pub fn process_first_then_all<D: Direction, B: OneWay<D>>(backend: &B, blocks: &mut [Block])
+pub fn process_first_then_all<D: Direction, B: BackendIn<D>>(backend: &B, blocks: &mut [Block])
     ensures { Each (D.processed (B.round_keys backend.now)) blocks.old blocks.new }
 {
     if let Some((first, rest)) = blocks.split_first_mut() {

@@ -56,19 +56,19 @@ fn fill(bytes: &mut [u8]) {
 }
 
 // What is tried with counter mode over any cipher.
-trait Trial {
+trait CounterTrial {
     // Whether the cipher passes.
     fn passes<C: BlockCipherEncrypt>(&self, cipher: &C) -> bool;
 }
 
 // Whether the type that encrypts passes under a key. With the size as a parameter, it is proved to be a cipher once for
 // all that is tried.
-fn passes_under<K: KeySize, T: Trial>(trial: &T, key: &K::Key) -> bool {
+fn passes_under<K: KeySize, T: CounterTrial>(trial: &T, key: &K::Key) -> bool {
     trial.passes(&AesCipher::<K, Encrypt>::new(key))
 }
 
 // Whether it passes under the key of the standard's example.
-fn passes<T: Trial>(trial: &T) -> bool {
+fn passes<T: CounterTrial>(trial: &T) -> bool {
     passes_under::<Bits128, T>(trial, &KEY.to_be_bytes())
 }
 
@@ -101,7 +101,7 @@ fn apply_in_pieces<C: BlockCipherEncrypt>(
 // The standard's example, cut in four ways, and back.
 struct Example;
 
-impl Trial for Example {
+impl CounterTrial for Example {
     fn passes<C: BlockCipherEncrypt>(&self, cipher: &C) -> bool {
         let cuts: [&[usize]; 4] = [&[32], &[5, 27], &[0, 1, 15, 0, 16], &[1; 32]];
         let mut right = true;
@@ -154,7 +154,7 @@ struct Carries {
     blocks: [(usize, u128); 8],
 }
 
-impl Trial for Carries {
+impl CounterTrial for Carries {
     fn passes<C: BlockCipherEncrypt>(&self, cipher: &C) -> bool {
         let mut whole = [0; 9600];
         let mut right = mode_from(cipher, self.iv).try_apply(&mut whole).is_ok();
@@ -211,7 +211,7 @@ fn carries_through_the_counter(rt: HostRuntime) {
 // Every length up to 400 bytes, cut at every place.
 struct EveryCut;
 
-impl Trial for EveryCut {
+impl CounterTrial for EveryCut {
     fn passes<C: BlockCipherEncrypt>(&self, cipher: &C) -> bool {
         let mut plain = [0; 400];
         fill(&mut plain);
@@ -239,7 +239,7 @@ fn answers_the_same_cut_at_every_place(rt: HostRuntime) {
 // Every length up to 400 bytes, from every position up to 40.
 struct EveryPosition;
 
-impl Trial for EveryPosition {
+impl CounterTrial for EveryPosition {
     fn passes<C: BlockCipherEncrypt>(&self, cipher: &C) -> bool {
         let mut whole = [0; 440];
         let mut right = mode_from(cipher, IV).try_apply(&mut whole).is_ok();
@@ -296,7 +296,7 @@ fn comes_back<K: KeySize>(key: &K::Key) -> bool {
 // A message in two parts.
 struct TwoParts;
 
-impl Trial for TwoParts {
+impl CounterTrial for TwoParts {
     fn passes<C: BlockCipherEncrypt>(&self, cipher: &C) -> bool {
         let mut mode = mode_from(cipher, IV);
         let mut rest = [0; 27];
@@ -337,7 +337,7 @@ fn starts_and_goes_on_at_any_position(rt: HostRuntime) {
 // A cipher that counter mode gives back.
 struct GivenBack;
 
-impl Trial for GivenBack {
+impl CounterTrial for GivenBack {
     fn passes<C: BlockCipherEncrypt>(&self, cipher: &C) -> bool {
         let mut bytes = bytes_of(PLAIN);
         let mut block = IV.to_be_bytes();

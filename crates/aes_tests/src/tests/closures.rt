@@ -2,7 +2,7 @@
 
 use super::blocks::{ENCRYPTED, PLAIN, blocks, different_blocks};
 use super::keys::KEY_A1;
-use super::ways::{OneWay, Trial, try_all};
+use super::ways::{CipherIn, Trial, try_all};
 use crate::closures::{Mixed, Nothing, Row, Twice, encrypt_row, twice_there_and_back};
 use aes::{AesCipher, Block};
 use aes_cipher::aes::{Bits128, BothWays, KeySize};
@@ -14,13 +14,13 @@ use aes_permute::keys;
 // A closure that does nothing, one that works twice, and rows of blocks, by what single calls leave.
 struct Closures;
 
-fn does_nothing<D: Direction, C: OneWay<D>>(cipher: &C) -> bool {
+fn does_nothing<D: Direction, C: CipherIn<D>>(cipher: &C) -> bool {
     let mut nothing = Nothing { count: 7 };
     cipher.lend(&mut nothing);
     nothing.count == 7
 }
 
-fn works_twice<D: Direction, C: OneWay<D>>(cipher: &C, block: Block) -> bool {
+fn works_twice<D: Direction, C: CipherIn<D>>(cipher: &C, block: Block) -> bool {
     let mut twice = Twice { block };
     cipher.lend(&mut twice);
     let mut wanted = block;
@@ -29,7 +29,7 @@ fn works_twice<D: Direction, C: OneWay<D>>(cipher: &C, block: Block) -> bool {
     twice.block == wanted
 }
 
-fn works_on_rows<D: Direction, C: OneWay<D>>(cipher: &C) -> bool {
+fn works_on_rows<D: Direction, C: CipherIn<D>>(cipher: &C) -> bool {
     let plain = different_blocks();
     let mut wanted = plain;
     for i in 0..wanted.len() {
@@ -45,7 +45,7 @@ fn works_on_rows<D: Direction, C: OneWay<D>>(cipher: &C) -> bool {
 }
 
 impl Trial for Closures {
-    fn passes<D: Direction, C: OneWay<D>>(&self, cipher: &C) -> bool {
+    fn passes<D: Direction, C: CipherIn<D>>(&self, cipher: &C) -> bool {
         does_nothing::<D, C>(cipher)
             && works_twice::<D, C>(cipher, different_blocks()[3])
             && works_on_rows::<D, C>(cipher)

@@ -2,7 +2,7 @@
 
 use super::blocks::different_blocks;
 use super::keys::{KEY_128, KEY_192, KEY_256};
-use super::ways::{OneWay, Trial, try_all};
+use super::ways::{CipherIn, Trial, try_all};
 use aes::{AesCipher, Block};
 use aes_cipher::aes::{Bits128, Bits192, Bits256, BothWays, KeySchedule, KeySize};
 use aes_cipher::cipher::{
@@ -19,7 +19,7 @@ const UNTOUCHED: Block = [0xee; 16];
 struct Slices;
 
 // Whether slices become what the calls on blocks make of them, in both forms, and the blocks after them stay.
-fn processes_slices<D: Direction, C: OneWay<D>>(cipher: &C) -> bool {
+fn processes_slices<D: Direction, C: CipherIn<D>>(cipher: &C) -> bool {
     let blocks = different_blocks();
     let mut right = true;
     for count in 0..=24 {
@@ -40,7 +40,7 @@ fn processes_slices<D: Direction, C: OneWay<D>>(cipher: &C) -> bool {
 }
 
 // Whether slices of unequal lengths, 0 to 9, are refused, and no block of the output is written.
-fn refuses_unequal_lengths<D: Direction, C: OneWay<D>>(cipher: &C) -> bool {
+fn refuses_unequal_lengths<D: Direction, C: CipherIn<D>>(cipher: &C) -> bool {
     let blocks = different_blocks();
     let mut right = true;
     for from in 0..10 {
@@ -57,7 +57,7 @@ fn refuses_unequal_lengths<D: Direction, C: OneWay<D>>(cipher: &C) -> bool {
 }
 
 impl Trial for Slices {
-    fn passes<D: Direction, C: OneWay<D>>(&self, cipher: &C) -> bool {
+    fn passes<D: Direction, C: CipherIn<D>>(&self, cipher: &C) -> bool {
         processes_slices::<D, C>(cipher) && refuses_unequal_lengths::<D, C>(cipher)
     }
 }

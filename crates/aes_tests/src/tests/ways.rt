@@ -14,7 +14,7 @@ use aes_permute::keys;
 use aes_rounds::rounds::{Aes, AesDec, AesEnc};
 
 /// A cipher that processes blocks in the direction D.
-pub trait OneWay<D: Direction> {
+pub trait CipherIn<D: Direction> {
     /// Processes the block in its place.
     fn process_block(&self, block: &mut Block);
 
@@ -32,7 +32,7 @@ pub trait OneWay<D: Direction> {
     fn lend<F: BlockCipherEncClosure + BlockCipherDecClosure>(&self, f: &mut F);
 }
 
-impl<C: BlockCipherEncrypt> OneWay<Encrypt> for C {
+impl<C: BlockCipherEncrypt> CipherIn<Encrypt> for C {
     fn process_block(&self, block: &mut Block) {
         self.encrypt_block(block);
     }
@@ -54,7 +54,7 @@ impl<C: BlockCipherEncrypt> OneWay<Encrypt> for C {
     }
 }
 
-impl<C: BlockCipherDecrypt> OneWay<Decrypt> for C {
+impl<C: BlockCipherDecrypt> CipherIn<Decrypt> for C {
     fn process_block(&self, block: &mut Block) {
         self.decrypt_block(block);
     }
@@ -79,7 +79,7 @@ impl<C: BlockCipherDecrypt> OneWay<Decrypt> for C {
 /// What is tried with a cipher in one direction.
 pub trait Trial {
     /// Whether the cipher passes.
-    fn passes<D: Direction, C: OneWay<D>>(&self, cipher: &C) -> bool;
+    fn passes<D: Direction, C: CipherIn<D>>(&self, cipher: &C) -> bool;
 }
 
 // Whether the ciphers of one key pass: the one that works both ways in both, the others in theirs.

@@ -6,7 +6,7 @@ ghost use Rattle.aes_planes.specs.Words.{word_bits};
 ghost use Rattle.aes_soft.specs.Batches.{layers_for};
 ghost use Rattle.aes_soft.specs.Stored.{full, key_of, plane_key, rounds_of, size_of, IsFullSchedule, IsKeyed};
 
-use crate::soft::ciphers::{FullCipher, process_full, process_full_apart};
+use crate::soft::ciphers::{Full, PlaneCipher, process, process_apart};
 use crate::soft::full::put_wide_first;
 use crate::soft::key_sizes::BatchWord;
 use aes_cipher::zeroize::Held;
@@ -41,7 +41,7 @@ pub(crate) fn put_batch<B: Batch>(batch: &B, blocks: &mut [Block])
 
 /// Processes each block of one batch in its place, under stored round keys in a slice of words.
 #[inline(always)]
-pub fn process_batch_under<W: Word, D: FullCipher>(
+pub fn process_batch_under<W: Word, D: PlaneCipher>(
     words: &[W],
     blocks: &mut [Block],
     layers: &mut Layers,
@@ -60,16 +60,16 @@ pub fn process_batch_under<W: Word, D: FullCipher>(
     let rounds = words.len() / 8 - 1;
     let input = batch_of::<W::Blocks>(blocks);
     let output = if W::Blocks::LEN == 1 {
-        process_full_apart::<W, D>(words, rounds, &input, layers)
+        process_apart::<W, Full, D>(words, rounds, &input, layers)
     } else {
-        process_full::<W, D>(words, rounds, &input, layers)
+        process::<W, Full, D>(words, rounds, &input, layers)
     };
     put_batch(&output, blocks);
 }
 
 /// Processes the blocks of a slice, batch by batch, under stored round keys in a slice of words.
 #[inline(always)]
-pub fn process_batches_under<W: Word, D: FullCipher>(
+pub fn process_batches_under<W: Word, D: PlaneCipher>(
     words: &[W],
     blocks: &mut [Block],
     layers: &mut Layers,
@@ -97,7 +97,7 @@ pub fn process_batches_under<W: Word, D: FullCipher>(
 /// Processes each block of a slice in place, under stored round keys: whole batches first, then one block after the
 /// other.
 #[inline(always)]
-pub fn process_blocks<D: FullCipher>(round_keys: &[u16], blocks: &mut [Block], layers: &mut Layers)
+pub fn process_blocks<D: PlaneCipher>(round_keys: &[u16], blocks: &mut [Block], layers: &mut Layers)
     requires is_schedule { IsFullSchedule (length round_keys.now) 1 (map (word_bits 16) round_keys.now) }
     ensures blocks { let key = plane_key (length round_keys.now) 1 (map (word_bits 16) round_keys.now) in
         Each (D.processed (fips.key_expansion key)) blocks.old blocks.new }
@@ -116,7 +116,7 @@ pub fn process_blocks<D: FullCipher>(round_keys: &[u16], blocks: &mut [Block], l
 
 /// Processes the block in place, under stored round keys.
 #[inline(always)]
-pub fn process_block<D: FullCipher>(round_keys: &[u16], block: &mut Block)
+pub fn process_block<D: PlaneCipher>(round_keys: &[u16], block: &mut Block)
     requires is_schedule { IsFullSchedule (length round_keys.now) 1 (map (word_bits 16) round_keys.now) }
     ensures { let key = plane_key (length round_keys.now) 1 (map (word_bits 16) round_keys.now) in
         block.new ≡ D.processed (fips.key_expansion key) block.old }

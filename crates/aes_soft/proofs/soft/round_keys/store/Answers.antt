@@ -3,7 +3,8 @@ use Rattle.std.proofs.Common.{◌≡◌, inl, inr, ℕ, ◌*◌, ◌%◌, map, r
 use Rattle.std.proofs.lemmas.Bool.{cases_lt}
 use Rattle.aes_planes.specs.Fips197.{inv_shift_times}
 use Rattle.aes_planes.specs.Planes.{held, plus63}
-use Rattle.aes_soft.proofs.StoredRoundKeys.{deferred_at, deferred_below, deferred_last, stored_none, stored_some}
+use Rattle.aes_soft.specs.Stored.{deferred}
+use Rattle.aes_soft.proofs.StoredRoundKeys.{deferred_below, deferred_last, stored_none, stored_some}
 use Rattle.aes_soft.proofs.StoredRoundKeys.{map_none}
 use Rattle.aes_soft.proofs.WordsInPlace.{changed, kept}
 use Rattle.aes_soft.proofs.Slots.{stepped_map}
@@ -13,8 +14,7 @@ use Rattle.aes_soft.proofs.soft.round_keys.store.Goals as goal
 pub keys-init : goal.keys-init
 keys-init g c = record {
   done = λ f h j lt. h j (omega arith) ∙ ap (replicate g.W.Word.BLOCKS)
-      (stored_none c.args.rounds c.args.period f j (omega arith) (omega (arith, c.requires.some))
-      (omega (arith, c.requires.some_rounds)));
+      (stored_none c.args.rounds g.L.Layout.PERIOD f j (omega arith) (omega (arith, c.requires.some_rounds)));
   rest = λ f h j ge lt. h j lt;
   same_length = refl;
 }
@@ -27,8 +27,8 @@ keys-preserved g c =
     let i = c.keys.i in
     let o = 8 * i in
     let rounds = c.args.rounds in
-    let period = c.args.period in
-    let times : ℕ = deferred_at rounds period i in
+    let period = g.L.Layout.PERIOD in
+    let times : ℕ = deferred period rounds i in
     let rk = c.keys.round_keys in
     let rk1 = c.put_round_key.new.round_keys in
     let stay = c.put_round_key.ensures.others in
@@ -38,7 +38,7 @@ keys-preserved g c =
       | then-i-rounds w ↦
           ap (λ v. held n (map bits v)) w.planes-is ∙ w.shift_back.ensures
           ∙ ap (λ v. map (inv_shift_times v) blocks)
-          (sym (deferred_below rounds period i (i % period) w.if-i-rounds.true refl))
+          (sym (deferred_below rounds period i _ w.if-i-rounds.true (ap (λ v. i % v) (sym c.PERIOD-period.ensures))))
       | else-i-rounds w ↦
           let last : i ≡ rounds = omega (arith, w.if-i-rounds.false) in
           ap (λ v. held n (map bits v)) w.planes-is ∙ sym (map_none blocks) ∙ ap (λ v. map (inv_shift_times v) blocks)
@@ -48,7 +48,7 @@ keys-preserved g c =
       done = λ f h j lt. elim (cases_lt j i) [
         | inl low ↦ kept bits n rk rk1 o (8 * j) _ stay (inl (omega arith)) (c.keys.invariant.done f h j low)
         | inr ge ↦
-            let here : deferred_at rounds period j ≡ times = ap (deferred_at rounds period) (omega arith) in
+            let here : deferred period rounds j ≡ times = ap (deferred period rounds) (omega arith) in
             changed bits n (λ b. map plus63 (inv_shift_times times b)) rk rk1 _ _ o (8 * j) (f j) (omega arith)
             c.round_key-planes.ensures
             (stepped_map n (map plus63) (inv_shift_times times) _ _ blocks c.sub_bytes_nots.ensures shifted)

@@ -1,0 +1,111 @@
+//! Decryption under any list of round keys, alone or beside encryption.
+
+ghost use Rattle.std.specs.Prelude.{◌≡◌, ◌⊎◌, ◌≤◌, length};
+ghost use Rattle.aes_planes.specs.Each.{Each};
+ghost use Rattle.aes_planes.specs.Fips197 as fips;
+
+use super::inverted_keys::inverted_keys;
+use super::runs;
+use super::states::States;
+use aes::hazmat::Block8;
+use aes_cipher::aes::BothWays;
+use aes_cipher::cipher::{
+    BatchOfEight, BatchSizeUser, BlockCipherDecBackend, BlockCipherEncBackend, Decrypt,
+    RoundKeysUser,
+};
+use aes_planes::laws;
+use aes_planes::soft::word::Block;
+use std::marker::PhantomData;
+
+/// Works round by round, under a list of RK round keys in the standard's order. The directions D are both, or decryption
+/// alone.
+pub struct WithInverse<const RK: usize, D> {
+    round_keys: [Block; RK],
+    inverted_keys: [Block; RK],
+    directions: PhantomData<D>,
+    ghost inverted: { inverted_keys ≡ fips.inverted_keys round_keys },
+    ghost two_round_keys: { 2 ≤ length round_keys },
+}
+
+/// Encrypts and decrypts round by round, under a list of RK round keys in the standard's order.
+pub type Aes<const RK: usize> = WithInverse<RK, BothWays>;
+
+/// Decrypts round by round, under a list of RK round keys in the standard's order.
+pub type AesDec<const RK: usize> = WithInverse<RK, Decrypt>;
+
+impl<const RK: usize, D> Drop for WithInverse<RK, D> {
+    fn drop(self) {
+        let WithInverse {
+            round_keys: _,
+            inverted_keys: _,
+            directions: _,
+        } = self;
+    }
+}
+
+impl<const RK: usize, D> WithInverse<RK, D> {
+    /// Makes the cipher under these round keys, which need not be the expansion of a key.
+    pub fn new(round_keys: &[Block; RK]) -> WithInverse<RK, D>
+        requires { (RK ≡ 11) ⊎ (RK ≡ 13) ⊎ (RK ≡ 15) }
+        ensures { ⟦<WithInverse<RK, D> as RoundKeysUser>⟧.round_keys result ≡ round_keys.now }
+    {
+        WithInverse::of(round_keys)
+    }
+
+    // Keeps the round keys, and computes the inverted ones.
+    pub(super) fn of(round_keys: &[Block; RK]) -> WithInverse<RK, D>
+        requires { 2 ≤ RK }
+        ensures { ⟦<WithInverse<RK, D> as RoundKeysUser>⟧.round_keys result ≡ round_keys.now }
+    {
+        WithInverse {
+            round_keys: *round_keys,
+            inverted_keys: inverted_keys(round_keys),
+            directions: PhantomData,
+        }
+    }
+
+    // Decrypts each block, by EqInvCipher under the inverted round keys (FIPS 197, 5.3.5).
+    #[tactic(auto, using(crate::proofs::Runs::inverse_of_each))]
+    fn decrypt<S: States>(&self, states: &mut S)
+        ensures { Each (fips.inv_cipher_with self.now.round_keys) (S.blocks states.old) (S.blocks states.new) }
+    {
+        laws::equivalent_inverse();
+        runs::decrypt(states, &self.inverted_keys);
+    }
+}
+
+impl<const RK: usize, D> RoundKeysUser for WithInverse<RK, D> {
+    ghost round_keys = { λ cipher. cipher.round_keys };
+
+    fn has_round_keys(&self) {
+        laws::are_blocks(&self.round_keys);
+    }
+
+    ghost two_round_keys = { λ cipher. cipher.two_round_keys };
+}
+
+impl<const RK: usize, D> BatchSizeUser for WithInverse<RK, D> {
+    type Par = BatchOfEight;
+}
+
+impl<const RK: usize> BlockCipherEncBackend for WithInverse<RK, BothWays> {
+    fn encrypt_block(&self, block: &mut Block) {
+        runs::encrypt(block, &self.round_keys);
+    }
+
+    fn encrypt_par_blocks(&self, blocks: &mut [Block]) {
+        let batch: &mut Block8 = blocks.as_mut_array().unwrap();
+        runs::encrypt(batch, &self.round_keys);
+    }
+}
+
+impl<const RK: usize, D> BlockCipherDecBackend for WithInverse<RK, D> {
+    fn decrypt_block(&self, block: &mut Block) {
+        self.decrypt(block);
+    }
+
+    fn decrypt_par_blocks(&self, blocks: &mut [Block]) {
+        let batch: &mut Block8 = blocks.as_mut_array().unwrap();
+        self.decrypt(batch);
+    }
+}

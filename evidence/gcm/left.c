@@ -1,0 +1,263 @@
+/* Makes calls of the library of GCM on a stack of its own that is filled with a pattern, and searches that stack and
+ * the vector registers for what each call left: 8 bytes of the key, of a stored round key, of the multiples, of H or
+ * its powers, of the tag's mask, of a hash, of the tag that a refused message should have had, of the first counter
+ * block of a nonce of another length, of keystream. Blocks that are numbers to the library are searched in both orders
+ * of their bytes. One line a call and a size of keys, with tabs. */
+#include "../left.h"
+#include "fotsgure_gcm.h"
+
+enum { KEYS = 3, BYTES = 2048, NEEDLES = 8192, PIECES = 256 };
+enum { KEY, ROUND_KEYS, MULTIPLES, SUBKEY, MASK, HASH, EXPECTED, FIRST, KEYSTREAM, KINDS };
+
+static struct fotsgure_gcm kept;
+static struct fotsgure_gcm_counter counter;
+static uint8_t key[32], nonce[16], additional[BYTES], text[BYTES], keystream[BYTES];
+static uint8_t subkey[3][16], mask[16], hash[16], expected[16], first[16], tag[16];
+static size_t size, length, extra, nonce_length;
+static int failed;
+
+static void done(enum fotsgure_gcm_status status) { failed |= status != FOTSGURE_GCM_DONE; }
+
+/* The control: a struct on the stack that nobody wipes. */
+__attribute__((noinline)) static void not_wiped(void)
+{
+    struct fotsgure_gcm gcm;
+    done(fotsgure_gcm_set_key(&gcm, key, size));
+    use(&gcm);
+}
+__attribute__((noinline)) static void wiped(void)
+{
+    struct fotsgure_gcm gcm;
+    done(fotsgure_gcm_set_key(&gcm, key, size));
+    use(&gcm);
+    fotsgure_gcm_wipe(&gcm);
+    use(&gcm);
+}
+/* Planted: a struct of which half is wiped, and a block of each kind that is left. */
+__attribute__((noinline)) static void planted_half_wiped(void)
+{
+    struct fotsgure_gcm gcm;
+    done(fotsgure_gcm_set_key(&gcm, key, size));
+    memset(&gcm, 0, sizeof gcm / 2);
+    use(&gcm);
+}
+__attribute__((noinline)) static void planted_blocks(void)
+{
+    uint8_t blocks[5][16];
+    memcpy(blocks[0], mask, 16);
+    memcpy(blocks[1], expected, 16);
+    memcpy(blocks[2], first, 16);
+    memcpy(blocks[3], keystream + 32, 16);
+    for (int i = 0; i < 16; i++)
+        blocks[4][i] = subkey[0][15 - i];
+    use(blocks);
+}
+static void set_key(void) { done(fotsgure_gcm_set_key(&kept, key, size)); }
+static void seal(void)
+{
+    done(fotsgure_gcm_seal(&kept, nonce, nonce_length, additional, extra, text, length, tag));
+}
+static void seal_next(void)
+{
+    done(fotsgure_gcm_seal_next(&kept, &counter, nonce, additional, extra, text, length, tag));
+}
+static void open(void)
+{
+    done(fotsgure_gcm_open(&kept, nonce, nonce_length, additional, extra, text, length, expected, 16));
+}
+static void open_refused(void)
+{
+    static uint8_t other[16];
+    failed |= fotsgure_gcm_open(&kept, nonce, nonce_length, additional, extra, text, length, other, 16) !=
+        FOTSGURE_GCM_REFUSED;
+}
+
+static const struct call { const char *name; void (*it)(void); size_t nonce, extra, length; } calls[] = {
+    {"not_wiped", not_wiped, 12, 0, 0}, {"planted_half_wiped", planted_half_wiped, 12, 0, 0},
+    {"planted_blocks", planted_blocks, 16, 0, 64}, {"wiped", wiped, 12, 0, 0}, {"set_key", set_key, 12, 0, 0},
+    {"seal_0", seal, 12, 0, 0}, {"seal_13_additional", seal, 12, 13, 0}, {"seal_64", seal, 12, 20, 64},
+    {"seal_2000", seal, 12, 100, 2000}, {"seal_next_64", seal_next, 12, 20, 64}, {"open_0", open, 12, 20, 0},
+    {"open_64", open, 12, 20, 64}, {"open_2000", open, 12, 100, 2000}, {"open_refused_0", open_refused, 12, 20, 0},
+    {"open_refused_64", open_refused, 12, 20, 64}, {"open_refused_2000", open_refused, 12, 100, 2000},
+    {"seal_64_nonce_of_8", seal, 8, 20, 64}, {"seal_2000_nonce_of_16", seal, 16, 20, 2000},
+    {"open_64_nonce_of_8", open, 8, 20, 64}, {"open_refused_64_nonce_of_16", open_refused, 16, 20, 64},
+};
+
+/* The product of two blocks, bit by bit (SP 800-38D, 6.3). */
+static void times(uint8_t to[16], const uint8_t x[16], const uint8_t y[16])
+{
+    uint8_t z[16] = {0}, v[16];
+    memcpy(v, y, 16);
+    for (int i = 0; i < 128; i++) {
+        int out = v[15] & 1;
+        for (int k = 0; k < 16 && x[i / 8] >> (7 - i % 8) & 1; k++)
+            z[k] ^= v[k];
+        for (int k = 15; k > 0; k--)
+            v[k] = (uint8_t)(v[k] >> 1 | v[k - 1] << 7);
+        v[0] = (uint8_t)(v[0] >> 1 ^ (out ? 0xe1 : 0));
+    }
+    memcpy(to, z, 16);
+}
+
+/* H is read off its multiples: their entry by the nibble 1000. Its powers are computed, and so is the first counter
+ * block of a nonce that doesn't have 12 bytes. */
+static void powers(void)
+{
+    for (int r = 0; r < 16; r++)
+        subkey[0][r] = kept.multiples[16 * r + 8];
+    times(subkey[1], subkey[0], subkey[0]);
+    times(subkey[2], subkey[1], subkey[0]);
+    memset(first, 0, 16);
+    if (nonce_length == 12)
+        return;
+    memcpy(first, nonce, nonce_length);
+    times(first, first, subkey[0]);
+    first[15] ^= (uint8_t)(8 * nonce_length);
+    times(first, first, subkey[0]);
+}
+
+/* A key of its own for each run, its struct, and a message to seal or to open, with all that it is made by. The tag of
+ * no bytes at all is the mask, since their hash is zero. */
+static void prepare(int number, const struct call *call)
+{
+    static const uint8_t zeros[BYTES];
+    int opens = strncmp(call->name, "open", 4) == 0;
+    length = call->length;
+    extra = call->extra;
+    nonce_length = call->nonce;
+    memset(&counter, 0x47, sizeof counter);
+    memset(nonce, 0x47, sizeof nonce);
+    for (size_t i = 0; i < sizeof key; i++)
+        key[i] = (uint8_t)(0x1d * i + 0x35 + 0x47 * (size_t)number + i * i * (size_t)number);
+    for (size_t i = 0; i < BYTES; i++) {
+        text[i] = (uint8_t)(i * 7 + i / 256 + 1);
+        additional[i] = (uint8_t)(i * 11 + i / 128 + 3);
+    }
+    done(fotsgure_gcm_set_key(&kept, key, size));
+    powers();
+    memcpy(keystream, zeros, BYTES);
+    done(fotsgure_gcm_seal(&kept, nonce, nonce_length, additional, 0, keystream, BYTES, tag));
+    done(fotsgure_gcm_seal(&kept, nonce, nonce_length, additional, 0, text, 0, mask));
+    done(fotsgure_gcm_seal(&kept, nonce, nonce_length, additional, extra, text, length, expected));
+    for (int i = 0; i < 16; i++)
+        hash[i] = expected[i] ^ mask[i];
+    for (size_t i = 0; i < length && !opens; i++)
+        text[i] ^= keystream[i];
+}
+
+static struct needle { uint64_t bytes; int kind, piece; } needles[NEEDLES];
+static size_t filled;
+static void add(const uint8_t *at, int kind, int piece)
+{
+    struct needle *it = &needles[filled];
+    if (filled == NEEDLES)
+        abort();
+    memcpy(&it->bytes, at, 8);
+    it->kind = kind;
+    it->piece = piece;
+    filled += it->bytes != it->bytes % 256 * 0x0101010101010101u;
+}
+static void add_block(const uint8_t at[16], int kind, int piece)
+{
+    uint8_t turned[16];
+    for (int i = 0; i < 16; i++)
+        turned[i] = at[15 - i];
+    for (int i = 0; i <= 8; i++) {
+        add(at + i, kind, piece);
+        add(turned + i, kind, piece);
+    }
+}
+static int below(const void *a, const void *b)
+{
+    uint64_t x = ((const struct needle *)a)->bytes, y = ((const struct needle *)b)->bytes;
+    return (x > y) - (x < y);
+}
+static void collect(const struct call *call)
+{
+    int open_done = call->it == open;
+    filled = 0;
+    for (size_t i = 0; i + 8 <= size; i++)
+        add(key + i, KEY, 0);
+    for (size_t i = 0; i < 4 * size + 112; i += 16)
+        add_block(kept.round_keys + i, ROUND_KEYS, (int)(i / 16));
+    for (size_t i = 0; i < sizeof kept.multiples; i += 16)
+        for (size_t k = 0; k <= 8; k++)
+            add(kept.multiples + i + k, MULTIPLES, (int)(i / 16));
+    for (int i = 0; i < 3; i++)
+        add_block(subkey[i], SUBKEY, i);
+    /* The mask of no bytes at all is their tag. */
+    if (extra + length)
+        add_block(mask, MASK, 0);
+    add_block(hash, HASH, 0);
+    /* Who seals or opens a message has its tag; that of a refused one is nobody's. */
+    if (!open_done && call->it != seal && call->it != seal_next)
+        add_block(expected, EXPECTED, 0);
+    add_block(first, FIRST, 0);
+    for (size_t i = 0; i < BYTES; i += 16)
+        for (size_t k = 0; k <= 8; k += 8)
+            add(keystream + i + k, KEYSTREAM, (int)(i / 16));
+    qsort(needles, filled, sizeof *needles, below);
+}
+
+/* Which pieces stand in so many bytes. */
+static void search(const uint8_t *at, size_t bytes, uint8_t found[KINDS][PIECES])
+{
+    for (size_t i = 0; i + 8 <= bytes; i++) {
+        struct needle it;
+        memcpy(&it.bytes, at + i, 8);
+        const struct needle *one = bsearch(&it, needles, filled, sizeof *needles, below);
+        if (!one)
+            continue;
+        while (one > needles && one[-1].bytes == it.bytes)
+            one--;
+        for (; one < needles + filled && one->bytes == it.bytes; one++)
+            found[one->kind][one->piece] = 1;
+    }
+}
+static void most(int counts[KINDS], uint8_t found[KINDS][PIECES])
+{
+    for (int kind = 0; kind < KINDS; kind++) {
+        int pieces = 0;
+        for (int i = 0; i < PIECES; i++)
+            pieces += found[kind][i];
+        if (pieces > counts[kind])
+            counts[kind] = pieces;
+    }
+}
+
+static void report(const struct call *call)
+{
+    int counts[KINDS] = {0}, inside[KINDS] = {0}, in_registers = 0;
+    size_t depth = 0;
+    for (int number = 0; number < KEYS; number++) {
+        static uint8_t image[STACK];
+        uint8_t found[KINDS][PIECES] = {{0}}, held[KINDS][PIECES] = {{0}};
+        prepare(number, call);
+        collect(call);
+        run(call->it, image);
+        search(image, STACK, found);
+        for (int i = 0; i < REGISTERS; i++)
+            search(registers + 16 * i, 16, held);
+        most(counts, found);
+        most(inside, held);
+        if (depth_of(image) > depth)
+            depth = depth_of(image);
+    }
+    printf("%s\t%zu", call->name, 8 * size);
+    for (int kind = 0; kind < KINDS; kind++)
+        printf("\t%d", counts[kind]);
+    for (int kind = 0; kind < KINDS; kind++)
+        in_registers += inside[kind];
+    printf("\t%d\t%zu\n", in_registers, depth);
+}
+
+int main(void)
+{
+    stack = aligned_alloc(4096, STACK);
+    if (!stack)
+        return 2;
+    for (size = 16; size <= 32; size += 8)
+        for (size_t i = 0; i < sizeof calls / sizeof *calls; i++)
+            report(&calls[i]);
+    return failed;
+}
