@@ -13,36 +13,49 @@ TEMPLATES = HERE / "exports" / "src"
 SIZES = {128: (16, 88, 11), 192: (24, 104, 13), 256: (32, 120, 15)}
 CRATES = ("aes", "aes_permute", "aes_hybrid")
 WORDS = {"u16": 1, "u32": 2, "u64": 4, "u128": 8}  # how many blocks a word's planes hold
-
-
-def has_nine(crate):
-    """Whether a crate has types for decryption alone, which come with clones and conversions."""
-    return any("Aes128Dec" in it.read_text() for it in (HERE.parent / "crates" / crate / "src").glob("*.rt"))
-
-
-def types(crate, end):
-    """The six types of one direction as (number, size of keys, name): those of both directions first. A crate that has
-    none for decryption alone has those of both directions twice."""
-    kinds = ("", end if end == "Enc" or crate in NINE else "")
-    return [(of, size, f"Aes{size}{kind}") for of, (kind, size) in enumerate(itertools.product(kinds, SIZES))]
-
-
-NINE = [it for it in CRATES if has_nine(it)]
 ENDS = {"encrypt": "Enc", "decrypt": "Dec"}
+# How the name of a type ends, and its directions.
+WAYS = {"": "BothWays", "Enc": "Encrypt", "Dec": "Decrypt"}
+# The form in which a type of a crate keeps its round keys, for a key of the size K.
+ONE_WAY, TWO_WAYS = "aes_permute::keys::OneWay<K, {}>", "aes_permute::keys::TwoWays<K>"
+FORMS = {
+    "aes": dict.fromkeys(WAYS, "aes::Fixsliced<K>"),
+    "aes_permute": {"": TWO_WAYS, "Enc": ONE_WAY.format("Encrypt"), "Dec": ONE_WAY.format("Decrypt")},
+    "aes_hybrid": {
+        "": f"aes_hybrid::Hybrid<{TWO_WAYS}>",
+        "Enc": f"aes_hybrid::Hybrid<{ONE_WAY.format('Encrypt')}>",
+        "Dec": f"aes_hybrid::Hybrid<{TWO_WAYS}>",
+    },
+}
+
+
+def types(end):
+    """The six types of one direction as (number, size of keys, end of its name): those of both directions first."""
+    return [(of, size, kind) for of, (kind, size) in enumerate(itertools.product(("", end), SIZES))]
+
+
+def of_type(crate, size, kind):
+    """What a template says of a type: it and its form, and what its calls are named after."""
+    form, ways = FORMS[crate][kind], WAYS[kind]
+    named = {"TYPE": f"{crate}::Aes{size}{kind}", "KIND": f"{crate}_{kind.lower() or 'both'}", "SIZE": size}
+    return named | {"FORM": form, "FORM_OF_SIZE": re.sub(r"\bK\b", f"Bits{size}", form), "WAYS": ways}
 
 
 def of_crate(crate):
-    """What a template says of a crate: its name, that of its types for decryption, and all types of a direction."""
-    named = {"CRATE": crate, "NINE": crate, "BACK": "Dec" if crate in NINE else ""}
+    """What a template says of a crate: its name, its forms, all its types, and those of a direction with their numbers,
+    and of each kind one."""
+    named = {"CRATE": crate, "TYPES": [of_type(crate, size, kind) for kind in WAYS for size in SIZES]}
+    named |= {f"FORM_{kind.upper() or 'BOTH'}": form for kind, form in FORMS[crate].items()}
+    named |= {f"FORM_{kind.upper()}_128": of_type(crate, 128, kind)["FORM_OF_SIZE"] for kind in ENDS.values()}
     for end in ENDS.values():
-        named[end.upper()] = [{"OF": of, "TYPE": f"{crate}::{it}"} for of, _, it in types(crate, end)]
+        named[end.upper()] = [{"OF": of} | of_type(crate, size, kind) for of, size, kind in types(end)]
+        named[f"KINDS_{end.upper()}"] = [of_type(crate, 128, kind) for kind in ("", end)]
     return named
 
 
 SETS = {
     "SIZE": [dict(zip(("SIZE", "KEY", "LENGTH", "COUNT"), (size, *of))) for size, of in SIZES.items()],
     "CRATE": [of_crate(it) for it in CRATES],
-    "NINE": [of_crate(it) for it in NINE],
     "WORD": [{"WORD": it, "NUMBER": number} for number, it in enumerate(WORDS)],
     "WIDE": [{"WORD": it, "NUMBER": number} for number, it in enumerate(WORDS) if number],
     "LAYOUT": [{"LAYOUT": it} for it in ("full", "compact")],

@@ -27,7 +27,7 @@ ROOM.mkdir(parents=True, exist_ok=True)
 BACKENDS = ("llvm", "rattle")
 BITS = ("128", "192", "256")
 # The crates that the exports call, and the two static libraries that are measured with the names that they export.
-CRATES = "aes_planes aes_cipher aes_soft aes aes_permute aes_hybrid aes_rounds aes_ctr aes_kat aes_parts_tests aes_tests"
+CRATES = "aes_planes aes_cipher aes_soft aes aes_permute aes_hybrid aes_rounds aes_ctr aes_kat"
 # How many jobs a proof gets, if not as many as rt chooses.
 JOBS = ["--jobs", os.environ["AES_EVIDENCE_JOBS"]] if "AES_EVIDENCE_JOBS" in os.environ else []
 LIBRARIES = {"aes_c": "fotsgure_aes_*", "evidence_exports": "ev_*"}
@@ -94,28 +94,32 @@ def rt_lib(folder, *flags):
 
 
 def copy_of_the_crates():
-    """A copy of the crates outside the repository, with the exports as one crate more. Everything else is proved where
-    it stands, as ./c-build and ./aes-kat do, and what was proved there is copied too: so a crate is proved once for all
-    of them."""
-    tree = ROOM / "tree"
-    for crate in ("aes_c", "aes_kat", "aes_tests"):
+    """A copy of the crates that are measured, outside the repository, with the exports as one crate more. The others are
+    proved where they stand, as ./c-build and ./aes-kat do, and what was proved there is copied too: so a crate is proved
+    once for all of them."""
+    tree, copied = ROOM / "tree", [*CRATES.split(), "aes_calls", "aes_c"]
+    for crate in ("aes_c", "aes_kat", "aes_rounds"):
         say(f"proving {crate} and what it stands on, as far as that is not proved")
         rt_lib(TOP / "crates" / crate)
-    for here in sorted(it for it in (TOP / "crates").iterdir() if it.is_dir()):
-        there, stamp, total = tree / "crates" / here.name, ROOM / f"{here.name}.stamp", sum_of(files_of(here))
-        if stamp.exists() and stamp.read_text() == total:
-            continue
-        shutil.rmtree(there, ignore_errors=True)
-        for part in ("src", "specs", "proofs", "out"):
-            if (here / part).exists():
-                shutil.copytree(here / part, there / part, symlinks=True)
+    stamp = ROOM / "crates.stamp"
+    total = sum_of(files_of(*(TOP / "crates" / it for it in copied)), run(["rt", "version"], "rt version"))
+    if not stamp.exists() or stamp.read_text() != total:
+        for it in copied:
+            here, there = TOP / "crates" / it, tree / "crates" / it
+            shutil.rmtree(there, ignore_errors=True)
+            # A library is cited as it was built; the one for C is built once more, over what its check kept.
+            for part in ("src", "specs", "proofs", "out" if it == "aes_c" else "out/rlib"):
+                if (here / part).exists():
+                    shutil.copytree(here / part, there / part, symlinks=True)
         stamp.write_text(total)
     exports = tree / "crates" / "evidence_exports" / "src"
     shutil.rmtree(exports, ignore_errors=True)
     exports.mkdir(parents=True)
     expand.write(exports)
     shutil.copy(TOP / "HANDLES", tree / "HANDLES")
-    (tree / "crates.txt").write_text((TOP / "crates.txt").read_text() + f"evidence_exports staticlib: {CRATES}\n")
+    lines = (TOP / "crates.txt").read_text().splitlines()
+    named = [it for it in lines if (name := re.match(r"\w+", it)) and name[0] in copied]
+    (tree / "crates.txt").write_text("\n".join([*named, f"evidence_exports staticlib: {CRATES}"]) + "\n")
     return tree
 
 

@@ -9,7 +9,7 @@ import pathlib
 import sys
 
 sys.path.insert(0, str(pathlib.Path(__file__).resolve().parent.parent))
-from expand import CRATES, ENDS, NINE, SIZES, WORDS, types
+from expand import CRATES, ENDS, SIZES, WORDS, types
 
 NUMBERS = {"u32": "uint32_t", "u64": "uint64_t"}
 KEYS = [key for key, _, _ in SIZES.values()]
@@ -68,24 +68,24 @@ WAYS = ["block", "block b2b", "slice", "slice b2b", "backend"]
 OTHERS = ["dec of lent", "dec of given", "both of lent", "both of given"]
 OTHERS += ["clone of enc", "clone of both", "clone of dec", "zeroized"]
 for crate, direction in itertools.product(CRATES, ENDS):
-    for of, size, kind in types(crate, ENDS[direction]):
+    for of, size, end in types(ENDS[direction]):
         name, key = f"ev_{crate}_{direction}_{of}", SIZES[size][0]
         for way, what in enumerate(WAYS):
             for n in SLICES if way >= 2 else (1, 3):
                 call(
                     name, ("s", key, key), ("u32", way), blocks("s", n), blocks("o", n),
-                    label=f"{kind} {what} {n}", returns=1, wanted=slices_wanted(n),
+                    label=f"Aes{size}{end} {what} {n}", returns=1, wanted=slices_wanted(n),
                 )
         # A wrong length is refused before a secret is looked at.
         call(
             name, ("s", key + 1, key + 1), ("u32", 2), blocks("s", 9), blocks("p", 9),
-            label=f"{kind} refused key", returns=0, wanted="empty",
+            label=f"Aes{size}{end} refused key", returns=0, wanted="empty",
         )
     for key in KEYS:
         for n in (1, 11):
             name = f"ev_{crate}_{direction}_times"
             call(name, ("s", key, key), ("u32", 3), blocks("b", n), label=f"{8 * key} {n}")
-for crate in NINE:
+for crate in CRATES:
     for size, (key, _, _) in SIZES.items():
         for way, what in enumerate(OTHERS):
             call(
@@ -131,12 +131,12 @@ for size, (key, _, count) in SIZES.items():
 CUTS = [(0, 0), (1, 0), (5, 11), (16, 0), (16, 5), (64, 0), (65, 3), (200, 0), (129, 1000), (1024, 0), (1025, 0)]
 CUTS += [(8192, 37), (8209, 0)]
 for crate in CRATES:
-    for of, size, kind in types(crate, "Enc"):
+    for of, size, end in types("Enc"):
         key = SIZES[size][0]
         for first, rest in CUTS:
             call(
                 f"ev_{crate}_ctr_{of}", ("s", key, key), ("s", 16), ("b", first, first), ("b", rest, rest),
-                label=f"{kind} {first}+{rest}", returns=1, wanted=slices_wanted(first + rest),
+                label=f"Aes{size}{end} {first}+{rest}", returns=1, wanted=slices_wanted(first + rest),
             )
 FROM = ["new_at", "seek", "add_keystream"]
 for crate in CRATES:
@@ -210,7 +210,7 @@ for size, (key, _, _) in SIZES.items():
     # It works no block: there is nothing to see but a leak.
     call(f"ev_left_words_{size}_wide_wiped", ("s", key), ("p", 16), wanted="empty")
     left = [("words", it) for it in WORDS_LEFT] + list(itertools.product(CRATES, VALUES_LEFT))
-    for crate, of in left + list(itertools.product(NINE, MADE_LEFT)):
+    for crate, of in left + list(itertools.product(CRATES, MADE_LEFT)):
         call(f"ev_left_{crate}_{size}_{of}", ("s", key), ("b", 16))
     for crate in CRATES:
         for of in ("slice_dropped", "slice_zeroized"):

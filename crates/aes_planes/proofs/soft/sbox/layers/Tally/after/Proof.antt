@@ -1,4 +1,5 @@
 -- The proof by hand of `soft::sbox::layers::Tally::after`: a tally one above another is made, of ghost data alone.
+-- By hand, since the borrow checker covers no function that makes a struct that owns anything, as its model says of this.
 use Prim.Native.Nat.{◌+◌}
 use mathlib.Core.Path.{refl}
 use mathlib.Core.List.{[], ◌∷◌}
