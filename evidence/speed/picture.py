@@ -15,8 +15,11 @@ GROUPS = [
     ("permutations", "Software by vector permutations (SSSE3)", "#8c9a4e", "#a3b25c"),
     ("bitsliced", "Software on bit planes, without tables", "#6f9fce", "#6f9fce"),
     ("tables", "Software with tables in memory", "#cf8a55", "#d9965f"),
-    ("instructions", "AES instructions of the processor", "#9a8fbf", "#a79ccb"),
+    ("instructions", "AES instructions of the processor: bars on a scale of their own, in brackets the part of this library's time", "#9a8fbf",
+     "#a79ccb"),
 ]
+# The group whose bars would be too short to be seen beside the others: its longest takes this part of a panel.
+APART, APART_LENGTH = "instructions", 0.5
 # Colours that stand for classes, which the page's ground decides: text, lines, and the ground itself.
 CLASSES = {
     "#010101": ("ink", "#1f2328", "#e6edf3"),
@@ -55,19 +58,35 @@ def places(times):
     return shown, heads, at
 
 
+def drawn_length(it, value, values):
+    """How long an engine's bar is, on the scale of the panel."""
+    if it[0] != APART:
+        return value
+    return APART_LENGTH * longest(values) * value / max(v for _, other, v in values if v and other[0] == APART)
+
+
+def longest(values):
+    """The longest time on the scale of the panel."""
+    return max(v for _, it, v in values if v and it[0] != APART)
+
+
 def bars(axis, values):
-    """One panel's bars, each with its number."""
+    """One panel's bars, each with its number, and those apart with their part of this library's time."""
     colours = {kind: light for kind, _, light, _ in GROUPS}
-    most = max(v for _, _, v in values if v)
+    most = longest(values)
+    ours = next(v for _, it, v in values if is_ours(it))
     for y, it, value in values:
         if value is None:
             axis.text(0.012 * most, y, "no such call", va="center", ha="left", color="#020202", fontsize=8.5)
             continue
-        axis.barh(y, value, height=0.74, color=colours[it[0]], linewidth=0)
+        length = drawn_length(it, value, values)
+        axis.barh(y, length, height=0.74, color=colours[it[0]], linewidth=0)
         text = f"{value:,.0f}" if value >= 10 else f"{value:.1f}"
+        if it[0] == APART:
+            text += f" ({100 * value / ours:.0f} %)"
         weight = "bold" if is_ours(it) else "normal"
         place = {"va": "center", "ha": "left", "color": "#010101", "fontsize": 9, "fontweight": weight}
-        axis.text(value + 0.012 * most, y, text, **place)
+        axis.text(length + 0.012 * most, y, text, **place)
     axis.set_xlim(0, most * 1.16)
 
 
