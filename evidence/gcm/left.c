@@ -11,6 +11,7 @@ enum { KEY, ROUND_KEYS, MULTIPLES, SUBKEY, MASK, HASH, EXPECTED, FIRST, KEYSTREA
 
 static struct fotsgure_gcm kept;
 static struct fotsgure_gcm_counter counter;
+static struct fotsgure_gcm_message message;
 static uint8_t key[32], nonce[16], additional[BYTES], text[BYTES], keystream[BYTES];
 static uint8_t subkey[3][16], mask[16], hash[16], expected[16], first[16], tag[16];
 static size_t size, length, extra, nonce_length;
@@ -72,6 +73,53 @@ static void open_refused(void)
         FOTSGURE_GCM_REFUSED;
 }
 
+/* A message in pieces: the first of five bytes, the second the rest. Its struct isn't on the stack. */
+static void begun(void)
+{
+    size_t some = extra < 5 ? extra : 5;
+    done(fotsgure_gcm_begin(&kept, &message, nonce, nonce_length));
+    done(fotsgure_gcm_additional(&kept, &message, additional, some));
+    done(fotsgure_gcm_additional(&kept, &message, additional + some, extra - some));
+}
+static void in_pieces(enum fotsgure_gcm_status (*call)(const struct fotsgure_gcm *, struct fotsgure_gcm_message *,
+    uint8_t *, size_t))
+{
+    size_t some = length < 5 ? length : 5;
+    done(call(&kept, &message, text, some));
+    done(call(&kept, &message, text + some, length - some));
+}
+static void verified(void)
+{
+    size_t some = length < 5 ? length : 5;
+    begun();
+    done(fotsgure_gcm_verify(&kept, &message, text, some));
+    done(fotsgure_gcm_verify(&kept, &message, text + some, length - some));
+}
+static void seal_pieces(void)
+{
+    begun();
+    in_pieces((fotsgure_gcm_encrypt));
+    done(fotsgure_gcm_finish(&kept, &message, tag));
+}
+static void open_pieces(void)
+{
+    verified();
+    done(fotsgure_gcm_accept(&kept, &message, expected, 16));
+    in_pieces((fotsgure_gcm_decrypt));
+}
+static void open_pieces_refused(void)
+{
+    static uint8_t other[16];
+    verified();
+    failed |= fotsgure_gcm_accept(&kept, &message, other, 16) != FOTSGURE_GCM_REFUSED;
+}
+static void open_pieces_unverified(void)
+{
+    begun();
+    in_pieces((fotsgure_gcm_decrypt_unverified));
+    done(fotsgure_gcm_accept(&kept, &message, expected, 16));
+}
+
 static const struct call { const char *name; void (*it)(void); size_t nonce, extra, length; } calls[] = {
     {"not_wiped", not_wiped, 12, 0, 0}, {"planted_half_wiped", planted_half_wiped, 12, 0, 0},
     {"planted_blocks", planted_blocks, 16, 0, 64}, {"wiped", wiped, 12, 0, 0}, {"set_key", set_key, 12, 0, 0},
@@ -81,6 +129,10 @@ static const struct call { const char *name; void (*it)(void); size_t nonce, ext
     {"open_refused_64", open_refused, 12, 20, 64}, {"open_refused_2000", open_refused, 12, 100, 2000},
     {"seal_64_nonce_of_8", seal, 8, 20, 64}, {"seal_2000_nonce_of_16", seal, 16, 20, 2000},
     {"open_64_nonce_of_8", open, 8, 20, 64}, {"open_refused_64_nonce_of_16", open_refused, 16, 20, 64},
+    {"seal_pieces_64", seal_pieces, 12, 20, 64}, {"seal_pieces_2000", seal_pieces, 12, 100, 2000},
+    {"open_pieces_64", open_pieces, 12, 20, 64}, {"open_pieces_2000", open_pieces, 12, 100, 2000},
+    {"open_pieces_refused_64", open_pieces_refused, 12, 20, 64},
+    {"open_pieces_unverified_64", open_pieces_unverified, 12, 20, 64},
 };
 
 /* The product of two blocks, bit by bit (SP 800-38D, 6.3). */
@@ -174,7 +226,7 @@ static int below(const void *a, const void *b)
 }
 static void collect(const struct call *call)
 {
-    int open_done = call->it == open;
+    int opens = strncmp(call->name, "open", 4) == 0, seals = strncmp(call->name, "seal", 4) == 0;
     filled = 0;
     for (size_t i = 0; i + 8 <= size; i++)
         add(key + i, KEY, 0);
@@ -190,7 +242,7 @@ static void collect(const struct call *call)
         add_block(mask, MASK, 0);
     add_block(hash, HASH, 0);
     /* Who seals or opens a message has its tag; that of a refused one is nobody's. */
-    if (!open_done && call->it != seal && call->it != seal_next)
+    if (!seals && !(opens && !strstr(call->name, "refused")))
         add_block(expected, EXPECTED, 0);
     add_block(first, FIRST, 0);
     for (size_t i = 0; i < BYTES; i += 16)
