@@ -63,6 +63,11 @@ SETS = {
 }
 
 
+def sources():
+    """The files that decide what the library of exports is."""
+    return [*sorted(TEMPLATES.iterdir()), HERE / "expand.py"]
+
+
 def item(lines):
     """How many lines the item or statement at the head of the lines has."""
     inner = len(lines[0]) - len(lines[0].lstrip())
@@ -92,7 +97,12 @@ def expanded(lines, filled=()):
     return made
 
 
-def write(folder):
-    """Writes the sources into a folder."""
+def write(folder, modules=None):
+    """Writes the sources into a folder: all of them, or those of some modules."""
     for it in sorted(TEMPLATES.glob("*.rt.txt")):
-        (folder / it.name.removesuffix(".txt")).write_text("\n".join(expanded(it.read_text().splitlines())) + "\n")
+        lines = expanded(it.read_text().splitlines())
+        name = it.name.removesuffix(".rt.txt")
+        if name == "lib" and modules:
+            lines = [line for line in lines if not (mod := re.fullmatch(r"mod (\w+);", line)) or mod[1] in modules]
+        if modules is None or name in ("lib", *modules):
+            (folder / f"{name}.rt").write_text("\n".join(lines) + "\n")

@@ -12,7 +12,9 @@ enum { STACK = 1 << 18, FILL = 0xa5, BLOCK = FOTSGURE_AES_BLOCK, MOST_WORDS = 12
 #ifdef __aarch64__
 enum { REGISTERS = 32 };
 #else
-enum { REGISTERS = 16 };
+/* The lower halves of sixteen, and then the upper ones where the processor has them. */
+enum { REGISTERS = 32 };
+static int has_upper_halves;
 #endif
 
 /* Of the exports for measurements: KeyExpansion; the stored words of planes, of which a batch's are widened; the stored
@@ -52,14 +54,28 @@ static void enter(void) {
         "movdqa %%xmm4, 64(%0)\n movdqa %%xmm5, 80(%0)\n movdqa %%xmm6, 96(%0)\n movdqa %%xmm7, 112(%0)\n"
         "movdqa %%xmm8, 128(%0)\n movdqa %%xmm9, 144(%0)\n movdqa %%xmm10, 160(%0)\n movdqa %%xmm11, 176(%0)\n"
         "movdqa %%xmm12, 192(%0)\n movdqa %%xmm13, 208(%0)\n movdqa %%xmm14, 224(%0)\n movdqa %%xmm15, 240(%0)\n"
+        "cmpl $0, %1\n je 1f\n"
+        "vextracti128 $1, %%ymm0, 256(%0)\n vextracti128 $1, %%ymm1, 272(%0)\n vextracti128 $1, %%ymm2, 288(%0)\n"
+        "vextracti128 $1, %%ymm3, 304(%0)\n vextracti128 $1, %%ymm4, 320(%0)\n vextracti128 $1, %%ymm5, 336(%0)\n"
+        "vextracti128 $1, %%ymm6, 352(%0)\n vextracti128 $1, %%ymm7, 368(%0)\n vextracti128 $1, %%ymm8, 384(%0)\n"
+        "vextracti128 $1, %%ymm9, 400(%0)\n vextracti128 $1, %%ymm10, 416(%0)\n vextracti128 $1, %%ymm11, 432(%0)\n"
+        "vextracti128 $1, %%ymm12, 448(%0)\n vextracti128 $1, %%ymm13, 464(%0)\n vextracti128 $1, %%ymm14, 480(%0)\n"
+        "vextracti128 $1, %%ymm15, 496(%0)\n 1:\n"
 #endif
-        : : "r"(registers) : "memory");
+        : : "r"(registers)
+#ifndef __aarch64__
+        , "m"(has_upper_halves)
+#endif
+        : "memory", "cc");
 }
 /* Makes a call on the stack, and copies what the stack holds afterwards. */
 static void run(void (*it)(void), uint8_t *image) {
     called = it;
     memset(stack, FILL, STACK);
     memset(registers, 0, sizeof registers);
+#ifndef __aarch64__
+    has_upper_halves = __builtin_cpu_supports("avx2") != 0;
+#endif
     getcontext(&away);
     away.uc_stack.ss_sp = stack;
     away.uc_stack.ss_size = STACK;

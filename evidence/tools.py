@@ -26,11 +26,22 @@ ROOM = pathlib.Path(os.environ.get("AES_EVIDENCE_ROOM") or pathlib.Path.home() /
 ROOM.mkdir(parents=True, exist_ok=True)
 BACKENDS = ("llvm", "rattle")
 BITS = ("128", "192", "256")
-# The crates that the exports call, and the two static libraries that are measured with the names that they export.
+# The crates that the exports call.
 CRATES = "aes_planes aes_cipher aes_soft aes aes_permute aes_hybrid aes_rounds aes_ctr aes_kat"
+# The libraries of exports: the crates that each calls, and its modules. The second has what a key expands to, which is
+# all that the search of the C library's calls needs.
+EXPORTS = {
+    "evidence_exports": (CRATES, None),
+    "evidence_keys": ("aes_planes aes_cipher aes_soft aes", ("keys",)),
+}
 # How many jobs a proof gets, if not as many as rt chooses.
 JOBS = ["--jobs", os.environ["AES_EVIDENCE_JOBS"]] if "AES_EVIDENCE_JOBS" in os.environ else []
-LIBRARIES = {"aes_c": "fotsgure_aes_*", "evidence_exports": "ev_*"}
+# The builds of the C library: its crate, the compiler, and what else `rt lib` is told.
+BUILDS = {
+    "llvm": ("aes_c", "llvm", []),
+    "avx2": ("aes_c_wide", "llvm", ["--cpu", "x86-64-v3"]),
+    "rattle": ("aes_c", "rattle", []),
+}
 HEADER = (TOP / "include" / "fotsgure_aes.h").read_text()
 STRUCT = int(re.search(r"sizeof\(struct fotsgure_aes\) == (\d+)", HEADER)[1])
 MOST_STACK = int(re.search(r"FOTSGURE_AES_STACK (\d+)", HEADER)[1])
@@ -93,63 +104,114 @@ def rt_lib(folder, *flags):
         stop(f"{folder} was not proved or not built: {ROOM}/build.log has why")
 
 
-def copy_of_the_crates():
-    """A copy of the crates that are measured, outside the repository, with the exports as one crate more. The others are
-    proved where they stand, as ./c-build and ./aes-kat do, and what was proved there is copied too: so a crate is proved
-    once for all of them."""
-    tree, copied = ROOM / "tree", [*CRATES.split(), "aes_calls", "aes_c"]
-    for crate in ("aes_c", "aes_kat", "aes_rounds"):
-        say(f"proving {crate} and what it stands on, as far as that is not proved")
+def sources(*more):
+    """A sum of all that decides what is built."""
+    found = files_of(*(TOP / "crates").iterdir())
+    return sum_of([*found, TOP / "crates.txt", *more], run(["rt", "version"], "rt version"))
+
+
+def is_kept(made, total):
+    """Whether a file was made of these sources."""
+    stamp = made.with_suffix(".stamp")
+    return made.exists() and stamp.exists() and stamp.read_text() == total
+
+
+def c_library(build):
+    """The archive of one build of the C library. It is proved and built where it stands, as by ./c-build, over what was
+    proved there; an archive that stood there stays."""
+    crate, compiler, flags = BUILDS[build]
+    made, total = ROOM / f"libfotsgure_aes-{build}.a", sources()
+    if is_kept(made, total):
+        return made
+    say(f"proving and building {crate} by {compiler}, over what is proved already")
+    start, out = time.time(), TOP / "crates" / crate / "out" / f"lib{crate}.a"
+    before = out.read_bytes() if out.exists() else None
+    rt_lib(TOP / "crates" / crate, "--backend", compiler, *flags)
+    shutil.copy(out, made)
+    out.unlink()
+    if before is not None:
+        out.write_bytes(before)
+    made.with_suffix(".stamp").write_text(total)
+    say(f"built in {time.time() - start:.0f} seconds")
+    return made
+
+
+def copy_of_the_crates(library):
+    """A copy of the crates that a library of exports calls, outside the repository, with that library as one crate
+    more. They are proved where they stand, as by ./aes-kat, and what was proved there is copied too: so a crate is
+    proved once."""
+    crates, modules = EXPORTS[library]
+    tree, copied = ROOM / library, crates.split()
+    say(f"proving {crates}, as far as they are not proved")
+    for crate in copied:
         rt_lib(TOP / "crates" / crate)
-    stamp = ROOM / "crates.stamp"
+    stamp = ROOM / f"{library}.stamp"
     total = sum_of(files_of(*(TOP / "crates" / it for it in copied)), run(["rt", "version"], "rt version"))
     if not stamp.exists() or stamp.read_text() != total:
         for it in copied:
             here, there = TOP / "crates" / it, tree / "crates" / it
             shutil.rmtree(there, ignore_errors=True)
-            # A library is cited as it was built; the one for C is built once more, over what its check kept.
-            for part in ("src", "specs", "proofs", "out" if it == "aes_c" else "out/rlib"):
+            for part in ("src", "specs", "proofs", "out/rlib"):
                 if (here / part).exists():
                     shutil.copytree(here / part, there / part, symlinks=True)
         stamp.write_text(total)
-    exports = tree / "crates" / "evidence_exports" / "src"
-    shutil.rmtree(exports, ignore_errors=True)
-    exports.mkdir(parents=True)
-    expand.write(exports)
+    folder = tree / "crates" / library / "src"
+    shutil.rmtree(folder, ignore_errors=True)
+    folder.mkdir(parents=True)
+    expand.write(folder, modules)
     shutil.copy(TOP / "HANDLES", tree / "HANDLES")
     lines = (TOP / "crates.txt").read_text().splitlines()
     named = [it for it in lines if (name := re.match(r"\w+", it)) and name[0] in copied]
-    (tree / "crates.txt").write_text("\n".join([*named, f"evidence_exports staticlib: {CRATES}"]) + "\n")
+    (tree / "crates.txt").write_text("\n".join([*named, f"{library} staticlib: {crates}"]) + "\n")
     return tree
 
 
-def library(backend):
-    """One archive of the exports and of the C library, each an object that shows its exports alone. It is built if it
-    is missing or older than its sources."""
+def exports_library(compiler, library="evidence_exports"):
+    """The archive of a library of exports by one compiler."""
     need("rt", None)
-    for it in ("ld", "objcopy", "ar"):
-        need(it, "binutils")
-    of_exports = [*sorted(expand.TEMPLATES.iterdir()), HERE / "expand.py", TOP / "crates.txt"]
-    total = sum_of([*files_of(*(TOP / "crates").iterdir()), *of_exports], run(["rt", "version"], "rt version"))
-    made, stamp = ROOM / f"libmeasured-{backend}.a", ROOM / f"libmeasured-{backend}.stamp"
-    parts = {crate: ROOM / f"lib{crate}-{backend}.a" for crate in LIBRARIES}
-    kept = all(it.exists() for it in (made, stamp, *parts.values()))
-    if kept and stamp.read_text() == total:
+    made, total = ROOM / f"lib{library}-{compiler}.a", sources(*expand.sources())
+    if is_kept(made, total):
         return made
-    tree, start = copy_of_the_crates(), time.time()
-    say(f"proving and building the exports by {backend} in {tree}")
-    made.unlink(missing_ok=True)
-    for crate, names in LIBRARIES.items():
-        joined, folder = ROOM / f"{crate}-{backend}.o", tree / "crates" / crate
-        rt_lib(folder, *(["--backend", "rattle"] if backend == "rattle" else []))
-        shutil.copy(folder / "out" / f"lib{crate}.a", parts[crate])
-        run(["ld", "-r", "-o", joined, "--whole-archive", parts[crate]], f"joining {crate}")
-        # Both have copies of what they call: the names of those are for debuggers alone.
-        run(["objcopy", "--wildcard", f"--keep-global-symbol={names}", joined], f"the names of {crate}")
-        run(["ar", "rcs", made, joined], "the archive")
-    stamp.write_text(total)
+    tree, start = copy_of_the_crates(library), time.time()
+    say(f"proving and building {library} by {compiler} in {tree}")
+    folder = tree / "crates" / library
+    rt_lib(folder, "--backend", compiler)
+    shutil.copy(folder / "out" / f"lib{library}.a", made)
+    made.with_suffix(".stamp").write_text(total)
     say(f"built in {time.time() - start:.0f} seconds")
     return made
+
+
+def joined(name, c_archive, exports_archive):
+    """One archive of the C library and of exports, each an object that shows its exports alone."""
+    for it in ("ld", "objcopy", "ar"):
+        need(it, "binutils")
+    made = ROOM / f"libmeasured-{name}.a"
+    made.unlink(missing_ok=True)
+    for names, archive in {"fotsgure_aes_*": c_archive, "ev_*": exports_archive}.items():
+        whole = archive.with_suffix(".o")
+        run(["ld", "-r", "-o", whole, "--whole-archive", archive], f"joining {archive.name}")
+        # Both have copies of what they call: the names of those are for debuggers alone.
+        run(["objcopy", "--wildcard", f"--keep-global-symbol={names}", whole], f"the names of {archive.name}")
+        run(["ar", "rcs", made, whole], "the archive")
+    return made
+
+
+def library(build):
+    """All exports and a build of the C library, in one archive. What is missing or older than its sources is built."""
+    return joined(build, c_library(build), exports_library(BUILDS[build][1]))
+
+
+def can_run(build):
+    """Whether this processor runs a build of the C library."""
+    return build != "avx2" or " avx2 " in pathlib.Path("/proc/cpuinfo").read_text()
+
+
+def builds(options):
+    """The builds of the C library that are measured, and what is missing for the others."""
+    wanted = [it for it in BUILDS if it not in options.without]
+    missing = [f"{it}: this processor can't run it" for it in wanted if not can_run(it)]
+    return [it for it in wanted if can_run(it)], missing
 
 
 def exported(archive):

@@ -1,4 +1,5 @@
-"""Writes calls.h: a C function that makes each call once, on secret keys, round keys, blocks and data.
+"""Writes calls.h: a C function that makes each call once, on secret keys, round keys, blocks and data. A word given to
+it takes the calls whose names begin with that word alone.
 
 Each public call of the library that is given a secret is reached by one of these, on every word, layout and size of
 keys, by every type, and on slices of 0 to 17 blocks: two batches of eight and a tail, and every length below. public.py
@@ -16,12 +17,15 @@ KEYS = [key for key, _, _ in SIZES.values()]
 SLICES = range(18)
 
 C = "fotsgure_aes_"
+WANTED = "".join(sys.argv[1:])
 declared, body = {}, []
 
 
 def call(name, *args, label="", returns=None, wanted="clean"):
     """A call of an export. An argument is ('s', bytes) and the like, or with a third number a slice of so many
     elements; ('u32', n) is a number. What the kinds mean is said in harness.c."""
+    if not name.startswith(WANTED):
+        return
     types, passed, lines = [], [], []
     for i, arg in enumerate(args):
         if arg[0] in NUMBERS:
@@ -217,12 +221,14 @@ for size, (key, _, _) in SIZES.items():
             call(f"ev_left_{crate}_{size}_{of}", ("s", key), ("b", 144))
 
 # The program reads and writes digits by tables, and says so: its reply must be found.
-body.append("""    { static const char line[] = "enc 000102030405060708090a0b0c0d0e0f 00112233445566778899aabbccddeeff";
+REPLY = """    { static const char line[] = "enc 000102030405060708090a0b0c0d0e0f 00112233445566778899aabbccddeeff";
       uint8_t *x0 = buffer('p', sizeof line - 1), *x1 = buffer('t', 2048);
       memcpy(x0, line, sizeof line - 1); (void)VALGRIND_MAKE_MEM_UNDEFINED(x0 + 4, 32);
       begin("ev_reply enc, secret key"); (void)ev_reply(x0, sizeof line - 1, x1);
-      end("ev_reply enc, secret key", "LEAK", 0, 0); }""")
-declared["ev_reply"] = "size_t ev_reply(const void *, size_t, void *);"
+      end("ev_reply enc, secret key", "LEAK", 0, 0); }"""
+if "ev_reply".startswith(WANTED):
+    body.append(REPLY)
+    declared["ev_reply"] = "size_t ev_reply(const void *, size_t, void *);"
 
 print("\n".join(declared.values()))
 print("static void calls(void) {\n" + "\n".join(body) + "\n}")

@@ -22,7 +22,7 @@ FLAGS = re.compile(
     r"(cmp|test|bt[src]?|add|adc|sub|sbb|inc|dec|neg|and|or|xor|sh[lr]d?|sa[lr]|rcl|rcr|mul|imul|popcnt|tzcnt|lzcnt"
     r"|bs[fr]|v?ptest|u?comis[sd]|andn|bextr|bls\w+|cmpxchg|xadd)[bwlq]?\s"
 )
-REGISTER = re.compile(r"%(?:[re]?[abcd]x|[abcd][lh]|[re]?[sd]il?|[re]?[sb]pl?|[sd]il|[sb]pl|r\d+[dwb]?|xmm\d+)\b")
+REGISTER = re.compile(r"%(?:[re]?[abcd]x|[abcd][lh]|[re]?[sd]il?|[re]?[sb]pl?|[sd]il|[sb]pl|r\d+[dwb]?|[xy]mm\d+)\b")
 
 
 def plain(name):

@@ -84,7 +84,7 @@ def wrong_blocks(work, lines):
     ]
 
 
-def wrong_streams(apply, found):
+def wrong_streams(apply, found, ways):
     """The vectors that are not met in both directions, with the cuts of each, and how many calls were made."""
     wrong, calls, numbers = [], 0, random.Random(1)
     for name, *digits in found:
@@ -92,7 +92,7 @@ def wrong_streams(apply, found):
         n = len(plain)
         cuts = {0, n, *(it for it in (1, 15, 16, 17, 128, 1024, 1025) if it < n), numbers.randrange(n + 1)}
         for cut in cuts:
-            for way in STREAMS:
+            for way in ways:
                 calls += 2
                 if apply(way, key, iv, plain, cut) != cipher or apply(way, key, iv, cipher, cut) != plain:
                     wrong.append(f"{way}: {name}, cut at {cut}")

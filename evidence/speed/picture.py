@@ -15,8 +15,9 @@ GROUPS = [
     ("permutations", "Software by vector permutations (SSSE3)", "#8c9a4e", "#a3b25c"),
     ("bitsliced", "Software on bit planes, without tables", "#6f9fce", "#6f9fce"),
     ("tables", "Software with tables in memory", "#cf8a55", "#d9965f"),
-    ("instructions", "AES instructions of the processor: bars on a scale of their own, in brackets the part of this library's time", "#9a8fbf",
-     "#a79ccb"),
+    ("instructions",
+     "AES instructions of the processor: bars on a scale of their own, in brackets the part of this library's time",
+     "#9a8fbf", "#a79ccb"),
 ]
 # The group whose bars would be too short to be seen beside the others: its longest takes this part of a panel.
 APART, APART_LENGTH = "instructions", 0.5
