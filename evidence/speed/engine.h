@@ -38,6 +38,7 @@ static inline int size_of(size_t key_bytes) { return key_bytes == 16 ? 0 : key_b
 void add(const struct engine *engine);
 void add_library(enum run run);
 void add_library_by_rattle(enum run run);
+void add_library_for_avx2(enum run run);
 void add_openssl(enum run run);
 void add_bearssl(enum run run);
 void add_mbedtls(enum run run);

@@ -1,6 +1,7 @@
 /* This library as LLVM builds it: the C library, the types that Rattle's callers take, and two planted engines, one
    that leaves the blocks alone and one that works twice. With RATTLE the C library as the second compiler builds it,
-   whose calls get other names once this file is compiled. */
+   and with AVX2 its build for processors with vectors of 256 bits. The calls of those get other names once this file is
+   compiled. */
 #include "engine.h"
 #include "fotsgure_aes.h"
 #include <string.h>
@@ -23,6 +24,12 @@ void add_library_by_rattle(enum run run) {
     if (run == NO_AES)
         add(&(struct engine){"this library", "C library, by the second compiler", "hybrid", key, key, encrypt, decrypt,
                              stream, 1, 0, 0});
+}
+#elif defined AVX2
+void add_library_for_avx2(enum run run) {
+    if (run == NO_AES)
+        add(&(struct engine){"this library", "C library for AVX2, by LLVM", "hybrid", key, key, encrypt, decrypt, stream,
+                             1, 0, 0});
 }
 #else
 /* The types of a crate. C holds no value of them, so a call takes the key too. */

@@ -31,6 +31,9 @@ CLASSES |= {light: (f"bar-{kind}", light, dark) for kind, _, light, dark in GROU
 WIDTH, ROW, GAP = 11, 0.27, 0.45
 
 
+OURS = {tables.BASE: "this library, aes_hybrid", tables.AVX2: "this library, built for AVX2"}
+
+
 def is_ours(engine):
     return engine[1] == "this library"
 
@@ -75,7 +78,7 @@ def bars(axis, values):
     """One panel's bars, each with its number, and those apart with their part of this library's time."""
     colours = {kind: light for kind, _, light, _ in GROUPS}
     most = longest(values)
-    ours = next(v for _, it, v in values if is_ours(it))
+    ours = next(v for _, it, v in values if it[2] == tables.BASE)
     for y, it, value in values:
         if value is None:
             axis.text(0.012 * most, y, "no such call", va="center", ha="left", color="#020202", fontsize=8.5)
@@ -115,7 +118,7 @@ def labels(axis, shown, heads):
     beside = {"transform": axis.get_yaxis_transform(), "va": "center"}
     for y, it in shown:
         weight = "bold" if is_ours(it) else "normal"
-        text = "this library, aes_hybrid" if is_ours(it) else f"{it[1]}, {it[2]}"
+        text = OURS.get(it[2], f"{it[1]}, {it[2]}")
         axis.text(-0.02, y, text, ha="right", color="#010101", fontsize=9.5, fontweight=weight, **beside)
     for y, title in heads:
         axis.text(-1.1, y, title, ha="left", color="#020202", fontsize=9.5, fontstyle="italic", **beside)

@@ -1,11 +1,13 @@
-"""The times of a run as a file, as tables with everything, and as the table of docs/MEASUREMENTS.md."""
+"""The times of a run as a file, as tables with everything, and as two sections of docs/MEASUREMENTS.md."""
 import csv
+import itertools
 import re
 import subprocess
 
 import tools
 
 HEADING = "## How fast is it beside what I use now?"
+HEADING_AVX2 = "## The second build, for processors with AVX2"
 # The peers by the packages that they come from.
 PACKAGES = {
     "libssl-dev": "OpenSSL",
@@ -17,6 +19,8 @@ PACKAGES = {
 }
 # The engine that all ratios are to, which stands in every run.
 BASE = "C library, by LLVM"
+# Its build for processors with AVX2, which stands in the run without AES instructions.
+AVX2 = "C library for AVX2, by LLVM"
 KINDS = ["hybrid", "bitsliced", "permutations", "tables", "instructions"]
 # The amount is of blocks, or of bytes for counter mode.
 HEAD = ["peer", "how", "kind", "run", "key_bytes", "call", "amount", "ticks", "nanoseconds", "ratio_to_this_library"]
@@ -43,6 +47,13 @@ CONSTANT_TIME, WITH_INSTRUCTIONS = "no AES instructions", "all instructions"
 WITH_THEM = ("OpenSSL", "AES instructions")
 COLUMNS_PUBLISHED = [(CONSTANT_TIME, (it, "SSSE3 permutations")) for it in ("OpenSSL", "Botan", "Libgcrypt")]
 COLUMNS_PUBLISHED.append((WITH_INSTRUCTIONS, WITH_THEM))
+# The rows of the section on the build for AVX2: blocks in both directions, and counter mode.
+COUNTS = (1, 2, 4, 8, 12, 15, 16, 24, 32, 40, 64, 4096)
+COMPARED = {f"{n:,} block{'s' * (n > 1)}": [("encrypt", n), ("decrypt", n)] for n in COUNTS}
+COMPARED |= {
+    f"counter mode, {title}": [("counter mode", n)]
+    for title, n in (("64 bytes", 64), ("256 bytes", 256), ("1,500 bytes", 1500), ("1 MiB", 1 << 20))
+}
 # The calls of the picture's panels.
 PICTURED = [("encrypt", 4096), ("encrypt", 1), ("key and block", 1)]
 # What is compared with peers that need no AES instructions and read no tables: calls and amounts.
@@ -58,18 +69,18 @@ GROUPS = {
 
 
 def is_shown(row):
-    """Whether the picture shows a row's engine. This library stands there once, as the C library by LLVM: not its other
-    types, what the second compiler makes of it (which serves to check the first), and peers' code without their calls
-    around it."""
+    """Whether the picture shows a row's engine. This library stands there as the two builds of the C library by LLVM:
+    not its other types, what the second compiler makes of it (which serves to check the first), and peers' code without
+    their calls around it."""
     if row["peer"] == "this library":
-        return row["how"] == BASE
+        return row["how"] in (BASE, AVX2)
     return row["kind"] != "planted" and "alone" not in row["how"]
 
 
 def summary(rows, key=16):
-    """The rows that the table of docs/MEASUREMENTS.md and the picture are made from."""
-    engines = {("this library", BASE), *(peer for _, peer in COLUMNS_PUBLISHED)}
-    calls = {*PUBLISHED.values(), ("key for encryption", 1), ("key for decryption", 1)}
+    """The rows that the tables of docs/MEASUREMENTS.md and the picture are made from."""
+    engines = {("this library", BASE), ("this library", AVX2), *(peer for _, peer in COLUMNS_PUBLISHED)}
+    calls = {*PUBLISHED.values(), ("key for encryption", 1), ("key for decryption", 1), *sum(COMPARED.values(), [])}
     return [
         r
         for r in rows
@@ -176,7 +187,7 @@ def of_run(rows, run):
         for key in (16, 24, 32):
             ends = [its.get((key, f"key for {it}", 1)) for it in ("encryption", "decryption")]
             if all(ends):
-                its[key, BOTH_KEYS, 1] = ends[0] if how == BASE else sum(ends)
+                its[key, BOTH_KEYS, 1] = ends[0] if how in (BASE, AVX2) else sum(ends)
     return of
 
 
@@ -205,15 +216,14 @@ def beside(rows):
 
 def slower_with_fewer(rows):
     """The counts of blocks, up to 40, at which this library takes over a hundredth more time than with more."""
-    for key in (16, 24, 32):
-        for call in ("encrypt", "decrypt"):
-            place = BASE, CONSTANT_TIME, key, call
-            of = [r for r in rows if (r["how"], r["run"], r["key_bytes"], r["call"]) == place and r["amount"] <= 40]
-            for r in of:
-                least = min((it for it in of if it["amount"] >= r["amount"]), key=lambda it: it["ticks"])
-                if r["ticks"] > 1.01 * least["ticks"]:
-                    counts = " ticks, ".join(f"{it['amount']} blocks {it['ticks']:,.0f}" for it in (r, least))
-                    yield f"{call}, key of {key} bytes: {counts}"
+    for how, key, call in itertools.product((BASE, AVX2), (16, 24, 32), ("encrypt", "decrypt")):
+        place = how, CONSTANT_TIME, key, call
+        of = [r for r in rows if (r["how"], r["run"], r["key_bytes"], r["call"]) == place and r["amount"] <= 40]
+        for r in of:
+            least = min((it for it in of if it["amount"] >= r["amount"]), key=lambda it: it["ticks"])
+            if r["ticks"] > 1.01 * least["ticks"]:
+                counts = " ticks, ".join(f"{it['amount']} blocks {it['ticks']:,.0f}" for it in (r, least))
+                yield f"{how}, {call}, key of {key} bytes: {counts}"
 
 
 def whole(rows):
@@ -310,5 +320,39 @@ def published(where, rows, key=16):
     return meaning, tools.table(heads, *lines), how, measured
 
 
+def fastest(of, place):
+    """The least time of a library without AES instructions and without tables, for one call."""
+    peers = [peer for run, peer in COLUMNS_PUBLISHED if run == CONSTANT_TIME]
+    return min(of[it][place] for it in peers if place in of.get(it, {}))
+
+
+def published_avx2(where, rows, key=16):
+    """The section of docs/MEASUREMENTS.md on the build for AVX2: a table of its times divided by others."""
+    of = of_run(rows, CONSTANT_TIME)
+    first, second = of["this library", BASE], of["this library", AVX2]
+    by = {}
+    for title, calls in COMPARED.items():
+        places = [(key, *it) for it in calls]
+        by[title] = [second[it] / first[it] for it in places], [second[it] / fastest(of, it) for it in places]
+    lines = [[title, *(", ".join(map(ratio, its)) for its in both)] for title, both in by.items()]
+    many = [title for title, calls in COMPARED.items() if calls[0][0] == "encrypt" and calls[0][1] >= 16]
+    spans = [sorted(it for title in many for it in by[title][n]) for n in (0, 1)]
+    meaning = (
+        f"From 16 blocks on it takes {ratio(spans[0][0])} to {ratio(spans[0][-1])} of the time of the first build, and "
+        f"{ratio(spans[1][0])} to {ratio(spans[1][-1])} of the fastest of the three libraries without AES instructions."
+    )
+    fewer = " and ".join(ratio(second[key, it, 24] / second[key, it, 32]) for it in ("encrypt", "decrypt"))
+    measured = (
+        "The numbers of blocks are for encryption and decryption, with the key set beforehand. They are of the run above, "
+        f"in one process with both builds. 24 blocks take {fewer} of the time of 32."
+    )
+    return meaning, tools.table(["", "of the first build", "of the fastest library"], *lines), measured
+
+
+# The sections that a run writes, and what makes each.
+SECTIONS = {HEADING: published, HEADING_AVX2: published_avx2}
+
+
 def publish(where, rows):
-    tools.publish(HEADING, *published(where, rows))
+    for heading, made in SECTIONS.items():
+        tools.publish(heading, *made(where, rows))

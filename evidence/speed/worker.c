@@ -8,7 +8,7 @@
 #include <unistd.h>
 #include <x86intrin.h>
 
-enum { MOST = 65536, ENGINES = 16, WHATS = 192, LONG = 1024, LONG_EVERY = 4 };
+enum { MOST = 65536, ENGINES = 24, WHATS = 192, LONG = 1024, LONG_EVERY = 4 };
 static struct engine engines[ENGINES];
 static int count, refused[ENGINES], many[ENGINES], whats_made;
 static size_t rounds_made;
@@ -180,6 +180,9 @@ int main(int argc, char **argv) {
     iv[12] = 0;
     list();
     add_library(run);
+#ifdef AVX2
+    add_library_for_avx2(run);
+#endif
 #ifdef RATTLE
     add_library_by_rattle(run);
 #endif
