@@ -12,8 +12,8 @@
  *    name of the call says so.
  *  - No overlap: what a call writes overlaps nothing else that it is given, not even in full. To work in place, take
  *    the calls with one buffer. What a call only reads may overlap.
- *  - A struct fotsgure_aes in order: fotsgure_aes_set_key or fotsgure_aes_wipe wrote it last, or it is a copy of such a
- *    struct, or all its bytes are 0.
+ *  - A struct fotsgure_aes that fotsgure_aes_set_key or fotsgure_aes_wipe wrote last, or a copy of such a struct, or one
+ *    whose bytes are all 0.
  *  - No data race: during the call no other thread writes what it reads, or reads or writes what it writes.
  *  - FOTSGURE_AES_STACK bytes of stack. On x86-64 a processor with SSE4.2 and SSSE3 (x86-64-v2); on 64-bit ARM any
  *    processor, little-endian. The library is for Linux.

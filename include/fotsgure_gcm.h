@@ -13,10 +13,10 @@
  *    been initialized.
  *  - No object of more than PTRDIFF_MAX bytes.
  *  - No overlap: what a call writes overlaps nothing else that it is given. What a call only reads may overlap.
- *  - A struct fotsgure_gcm in order: fotsgure_gcm_set_key or fotsgure_gcm_wipe wrote it last, or it is a copy of such a
- *    struct, or all its bytes are 0. A struct fotsgure_gcm_message may hold anything but uninitialized bytes; what
- *    calls say of a message is so if all its calls had the same key, the first was fotsgure_gcm_begin, and nothing else
- *    wrote the struct.
+ *  - A struct fotsgure_gcm that fotsgure_gcm_set_key or fotsgure_gcm_wipe wrote last, or a copy of such a struct, or one
+ *    whose bytes are all 0. A struct fotsgure_gcm_message may hold anything but uninitialized bytes. What calls say of
+ *    a message is so if all its calls had the same key, the first was fotsgure_gcm_begin, and nothing else wrote the
+ *    struct.
  *  - No data race: during the call no other thread writes what it reads, or reads or writes what it writes.
  *  - FOTSGURE_GCM_STACK bytes of stack. On x86-64 a processor with SSE4.2 and SSSE3 (x86-64-v2); on 64-bit ARM any
  *    processor, little-endian. The library is for Linux.
