@@ -3,7 +3,6 @@
 ghost use Rattle.std.specs.Prelude.{◌≡◌, ◌⊎◌, ◌+◌, ◌/◌, length};
 ghost use Rattle.aes_hybrid.specs.Lanes.{lanes_key, IsLanes, AreInverse};
 
-use aes_cipher::cipher::Encrypt;
 use aes_permute::schedule::{expand, invert};
 use aes_planes::soft::word::Block;
 
@@ -15,7 +14,7 @@ pub fn put_encrypting(keys: &mut [Block], key: &[u8])
     ensures is_lanes { IsLanes keys.new }
     ensures key { lanes_key keys.new ≡ key.now }
 {
-    expand::<Encrypt>(keys, key);
+    expand(keys, key);
 }
 
 /// Writes the stored round keys of EqInvCipher, of the same key (FIPS 197, 5.3.5).

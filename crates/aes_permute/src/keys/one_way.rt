@@ -7,7 +7,7 @@ use super::LendsKeys;
 use super::backend::LaneBackend;
 use crate::blocks::{process_block, process_blocks};
 use crate::directions::LaneRounds;
-use crate::stored::{Room, keys_of, put_inverse, put_keys};
+use crate::stored::{Room, keys_of, put_inverse};
 use aes_cipher::aes::{Decrypts, Encrypts, KeyBytes, KeySchedule, KeySize, Processes, TurnedFrom};
 use aes_cipher::cipher::{BlockCipherDecClosure, BlockCipherEncClosure, Decrypt, Encrypt};
 use aes_cipher::zeroize::Wiped;
@@ -58,7 +58,7 @@ impl<K: KeySize, D: LaneRounds> KeySchedule for OneWay<K, D> {
 
     #[inline(always)]
     fn refill(&mut self, new_key: &K::Key) {
-        put_keys::<K, D>(self.room.words_mut(), new_key.as_slice());
+        D::put_keys::<K>(self.room.words_mut(), new_key.as_slice());
     }
 
     fn copy(&self) -> OneWay<K, D> {
@@ -70,14 +70,14 @@ impl<K: KeySize, D: LaneRounds> KeySchedule for OneWay<K, D> {
     }
 
     fn has_key(&self) {
-        keys_of::<K>(&self.room);
+        keys_of::<K>(self.room.words());
     }
 }
 
 impl<K: KeySize, D: LaneRounds> LendsKeys<D> for OneWay<K, D> {
     #[inline(always)]
     fn lend(&self) -> &[Block] {
-        keys_of::<K>(&self.room)
+        keys_of::<K>(self.room.words())
     }
 }
 
@@ -134,6 +134,5 @@ pub(super) fn refill_inverse<K: KeySize>(
     ensures same { ⟦<OneWay<K, Decrypt> as KeySchedule>⟧.key inverse.new ≡ ⟦<OneWay<K, Encrypt> as KeySchedule>⟧.key
         schedule.now }
 {
-    schedule.has_key();
-    put_inverse::<K>(inverse.room.words_mut(), &schedule.room);
+    put_inverse::<K>(inverse.room.words_mut(), schedule.room.words());
 }
