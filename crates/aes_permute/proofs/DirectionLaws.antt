@@ -1,5 +1,5 @@
 -- The laws of the two directions.
-use Rattle.std.proofs.Common.{◌≡◌, ℕ, ◌-◌, ◌≤◌, List, length}
+use Rattle.std.proofs.Common.{◌≡◌, ℕ, ◌≤◌, List, length}
 use Rattle.std.proofs.Common.{refl, ◌∙◌}
 use Rattle.aes_planes.specs.Fips197 as fips
 use Rattle.aes_planes.specs.Rounds.{all_rounds}
