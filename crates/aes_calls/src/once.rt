@@ -7,11 +7,11 @@ ghost use Rattle.aes_ctr.specs.CounterMode.{keystream_byte, plus_stream};
 ghost use Rattle.aes_calls.specs.Kept.{IsKeyLength};
 
 use crate::blocks::process_under;
-use crate::kept::{Aes, is_key_length, keys_of, put_keys, set_key};
+use crate::kept::{Aes, expand_keys, is_key_length, keys_of, set_key};
 use crate::status::{DONE, KEY_LENGTH, KEYSTREAM_END};
 use crate::stream::Ctr;
 use aes_cipher::cipher::{Decrypt, Encrypt};
-use aes_cipher::zeroize::Held;
+use aes_cipher::zeroize::MustWipe;
 use aes_ctr::add_keystream;
 use aes_hybrid::blocks::process_blocks;
 use aes_hybrid::lent::Lent;
@@ -29,9 +29,9 @@ pub fn encrypt_with<W: Width>(key: &[u8], blocks: &mut [Block]) -> u32
     if !is_key_length(key.len()) {
         return KEY_LENGTH;
     }
-    let mut kept = Held::<[Block; 15]>::zeroed();
-    put_keys(kept.words_mut(), key);
-    let keys = keys_of(kept.words(), key.len());
+    let mut kept = MustWipe::<[Block; 15]>::zeroed();
+    expand_keys(kept.value_mut(), key);
+    let keys = keys_of(kept.value(), key.len());
     process_blocks::<Encrypt, W>(keys, keys, blocks);
     kept.wipe();
     DONE
@@ -45,11 +45,11 @@ pub fn decrypt_with<W: Width>(key: &[u8], blocks: &mut [Block]) -> u32
     ensures blocks { result ≡ DONE → Each (fips.inv_cipher key.now) blocks.old blocks.new }
     ensures untouched { result ≢ DONE → blocks.new ≡ blocks.old }
 {
-    let mut kept = Held::<Aes>::zeroed();
-    if set_key(kept.words_mut(), key) != DONE {
+    let mut kept = MustWipe::<Aes>::zeroed();
+    if set_key(kept.value_mut(), key) != DONE {
         return KEY_LENGTH;
     }
-    let status = process_under::<Decrypt, W>(kept.words(), blocks);
+    let status = process_under::<Decrypt, W>(kept.value(), blocks);
     kept.wipe();
     status
 }
@@ -75,9 +75,9 @@ pub fn add_keystream_with<W: Width>(key: &[u8], ctr: &mut Ctr, bytes: &mut [u8])
     if bytes.len() as u64 > u64::MAX - ctr.position {
         return KEYSTREAM_END;
     }
-    let mut kept = Held::<[Block; 15]>::zeroed();
-    put_keys(kept.words_mut(), key);
-    let keys = keys_of(kept.words(), key.len());
+    let mut kept = MustWipe::<[Block; 15]>::zeroed();
+    expand_keys(kept.value_mut(), key);
+    let keys = keys_of(kept.value(), key.len());
     add_keystream(&Lent::<W>::new(keys), &ctr.iv, ctr.position, bytes);
     kept.wipe();
     ctr.position += bytes.len() as u64;

@@ -58,6 +58,7 @@ inverted_schedule old new l e s =
       | inr other ↦ inr (elim other [ inl k ↦ inl (omega (arith, k, s.sized)) | inr k ↦ inr (omega (arith, k, s.sized)) ])
     ] in
     let sized : length new ≡ length key / 4 + 7 = omega (arith, s.one_of_three, s.sized, l) in
-    let keys = e ∙ ap fips.inverted_keys s.keys in
-    (is_lane_schedule inverse_form new key one sized s.bytes key_backward keys,
-    read_as inverse_form new key one sized s.bytes key_backward keys)
+    let keys = e ∙ ap fips.inverted_keys s.keys in (
+      is_lane_schedule inverse_form new key one sized s.bytes key_backward keys,
+      read_as inverse_form new key one sized s.bytes key_backward keys,
+    )

@@ -7,7 +7,7 @@ ghost use Rattle.aes_permute.specs.Keys.{encrypting, decrypting, cipher_form, in
 ghost use Rattle.aes_permute.specs.Stored.{IsWritten};
 
 use crate::lanes::{lookup, sum};
-use crate::rounds::{encrypt_key, inverted_key, sub_bytes_but_constant};
+use crate::rounds::{encrypting_key, inverted_key, sub_bytes_but_constant};
 use aes_planes::expansion::{self, KeyForm};
 use aes_planes::laws;
 use aes_planes::soft::sbox::Layers;
@@ -61,13 +61,13 @@ struct LaneSchedule;
 impl KeyForm for LaneSchedule {
     type Words = u8x16;
 
-    type Unit = Block;
+    type StoredIn = Block;
 
     ghost AreWords = { λ words block. words ≡ block };
 
     ghost IsStored = { IsWritten };
 
-    ghost units = { λ last. last + 1 };
+    ghost length_for = { λ last. last + 1 };
 
     ghost LAYERS = { 0 };
 
@@ -111,18 +111,18 @@ impl KeyForm for LaneSchedule {
     }
 
     #[inline(always)]
-    fn again(_stored: &[Block], _i: usize, _last: usize, words: u8x16) -> u8x16 {
+    fn read_back(_stored: &[Block], _i: usize, _last: usize, words: u8x16) -> u8x16 {
         words
     }
 
     #[inline(always)]
-    fn put(stored: &mut [Block], i: usize, last: usize, words: u8x16) {
+    fn store(stored: &mut [Block], i: usize, last: usize, words: u8x16) {
         let key = if i == 0 {
             words
         } else if i == last {
             last_key(words)
         } else {
-            encrypt_key(words)
+            encrypting_key(words)
         };
         stored[i] = key.to_array();
     }

@@ -32,7 +32,7 @@ pub fn keys_of<K: KeySize>(room: &Room) -> &[Block]
 
 /// Writes the round keys of a key as Cipher uses them: KeyExpansion (FIPS 197, 5.2).
 #[inline(always)]
-pub fn put_keys<K: KeySize>(room: &mut Room, key: &[u8])
+pub fn expand_keys<K: KeySize>(room: &mut Room, key: &[u8])
     requires { length key.now ≡ K.Key.SIZE }
     ensures schedule { IsLaneSchedule cipher_form (stored_keys K.Key.SIZE room.new) }
     ensures key { lane_key cipher_form (stored_keys K.Key.SIZE room.new) ≡ key.now }
@@ -43,7 +43,7 @@ pub fn put_keys<K: KeySize>(room: &mut Room, key: &[u8])
 
 /// Writes the round keys of EqInvCipher, of the same key as those of Cipher (FIPS 197, 5.3.5).
 #[inline(always)]
-pub fn put_inverse<K: KeySize>(inverse: &mut Room, room: &Room)
+pub fn invert_keys<K: KeySize>(inverse: &mut Room, room: &Room)
     ensures keys { decrypting (stored_keys K.Key.SIZE inverse.new)
         ≡ fips.inverted_keys (encrypting (stored_keys K.Key.SIZE room.now)) }
     ensures count { length (stored_keys K.Key.SIZE inverse.new) ≡ K.Key.SIZE / 4 + 7 }

@@ -6,9 +6,9 @@ ghost use Rattle.aes_permute.specs.Keys.{lane_key, stored_keys, IsLaneSchedule};
 use super::LendsKeys;
 use super::backend::LaneBackend;
 use crate::blocks::{process_block, process_blocks};
-use crate::directions::LaneRounds;
-use crate::stored::{Room, keys_of, put_inverse};
-use aes_cipher::aes::{Decrypts, Encrypts, KeyBytes, KeySchedule, KeySize, Processes, TurnedFrom};
+use crate::lane_rounds::LaneRounds;
+use crate::stored::{Room, invert_keys, keys_of};
+use aes_cipher::aes::{Decrypts, Encrypts, KeyBytes, KeySchedule, KeySize, MadeFrom, Processes};
 use aes_cipher::cipher::{BlockCipherDecClosure, BlockCipherEncClosure, Decrypt, Encrypt};
 use aes_cipher::zeroize::Wiped;
 use aes_planes::soft::word::Block;
@@ -57,8 +57,8 @@ impl<K: KeySize, D: LaneRounds> KeySchedule for OneWay<K, D> {
     }
 
     #[inline(always)]
-    fn refill(&mut self, new_key: &K::Key) {
-        D::put_keys::<K>(self.room.words_mut(), new_key.as_slice());
+    fn expand(&mut self, new_key: &K::Key) {
+        D::expand_keys::<K>(self.room.value_mut(), new_key.as_slice());
     }
 
     fn copy(&self) -> OneWay<K, D> {
@@ -70,29 +70,29 @@ impl<K: KeySize, D: LaneRounds> KeySchedule for OneWay<K, D> {
     }
 
     fn has_key(&self) {
-        keys_of::<K>(self.room.words());
+        keys_of::<K>(self.room.value());
     }
 }
 
 impl<K: KeySize, D: LaneRounds> LendsKeys<D> for OneWay<K, D> {
     #[inline(always)]
     fn lend(&self) -> &[Block] {
-        keys_of::<K>(self.room.words())
+        keys_of::<K>(self.room.value())
     }
 }
 
-impl<K: KeySize> TurnedFrom<OneWay<K, Encrypt>> for OneWay<K, Encrypt> {
+impl<K: KeySize> MadeFrom<OneWay<K, Encrypt>> for OneWay<K, Encrypt> {
     #[inline(always)]
-    fn turned(schedule: &OneWay<K, Encrypt>) -> OneWay<K, Encrypt> {
+    fn made_from(schedule: &OneWay<K, Encrypt>) -> OneWay<K, Encrypt> {
         schedule.copy()
     }
 }
 
-impl<K: KeySize> TurnedFrom<OneWay<K, Encrypt>> for OneWay<K, Decrypt> {
+impl<K: KeySize> MadeFrom<OneWay<K, Encrypt>> for OneWay<K, Decrypt> {
     #[inline(always)]
-    fn turned(schedule: &OneWay<K, Encrypt>) -> OneWay<K, Decrypt> {
+    fn made_from(schedule: &OneWay<K, Encrypt>) -> OneWay<K, Decrypt> {
         let mut inverse = OneWay::zeroed();
-        refill_inverse(&mut inverse, schedule);
+        invert_schedule(&mut inverse, schedule);
         inverse
     }
 }
@@ -124,7 +124,7 @@ impl<K: KeySize> Decrypts for OneWay<K, Decrypt> {
 
 /// Writes the round keys for decrypting, of the key of those for encrypting, to wiped room.
 #[inline(always)]
-pub(super) fn refill_inverse<K: KeySize>(
+pub(super) fn invert_schedule<K: KeySize>(
     inverse: &mut OneWay<K, Decrypt>,
     schedule: &OneWay<K, Encrypt>,
 )
@@ -134,5 +134,5 @@ pub(super) fn refill_inverse<K: KeySize>(
     ensures same { ⟦<OneWay<K, Decrypt> as KeySchedule>⟧.key inverse.new ≡ ⟦<OneWay<K, Encrypt> as KeySchedule>⟧.key
         schedule.now }
 {
-    put_inverse::<K>(inverse.room.words_mut(), schedule.room.words());
+    invert_keys::<K>(inverse.room.value_mut(), schedule.room.value());
 }

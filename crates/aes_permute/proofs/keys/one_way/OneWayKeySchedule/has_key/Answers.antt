@@ -7,5 +7,5 @@ use Rattle.aes_permute.proofs.keys.one_way.OneWayKeySchedule.has_key.Goals as go
 pub returns-clause-sized : goal.returns-clause-sized
 returns-clause-sized g c =
     stored_size g.D.LaneRounds.form _ _ g.met.K.KeySize.is_size.one_of_three
-    (ap (λ v. length (stored_keys _ v)) (sym c.words.ensures) ∙ ap length (sym c.keys_of.ensures.keys)
+    (ap (λ v. length (stored_keys _ v)) (sym c.value.ensures) ∙ ap length (sym c.keys_of.ensures.keys)
     ∙ c.keys_of.ensures.count) c.requires.keyed

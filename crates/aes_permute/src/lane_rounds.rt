@@ -9,10 +9,10 @@ ghost use Rattle.aes_permute.specs.Stored.{untower, inv_untower, LaneForm};
 use crate::rounds::{
     decrypt_first, decrypt_last, decrypt_round, encrypt_first, encrypt_last, encrypt_round,
 };
-use crate::stored::{self, Room, put_inverse};
+use crate::stored::{self, Room, invert_keys};
 use aes_cipher::aes::KeySize;
 use aes_cipher::cipher::{Decrypt, Direction, Encrypt};
-use aes_cipher::zeroize::Held;
+use aes_cipher::zeroize::MustWipe;
 use std::simd::prelude::*;
 
 /// A direction on lanes: its rounds, and the round keys that they use. States and round keys are kept in a basis of the
@@ -50,7 +50,7 @@ pub trait LaneRounds: Direction {
 
     /// Writes the round keys of a key as the rounds use them: KeyExpansion (FIPS 197, 5.2), and KeyExpansionEIC for
     /// decrypting (5.3.5).
-    fn put_keys<K: KeySize>(room: &mut Room, key: &[u8])
+    fn expand_keys<K: KeySize>(room: &mut Room, key: &[u8])
         requires { length key.now ≡ K.Key.SIZE }
         ensures schedule { IsLaneSchedule form (stored_keys K.Key.SIZE room.new) }
         ensures key { lane_key form (stored_keys K.Key.SIZE room.new) ≡ key.now };
@@ -91,8 +91,8 @@ impl LaneRounds for Encrypt {
     }
 
     #[inline(always)]
-    fn put_keys<K: KeySize>(room: &mut Room, key: &[u8]) {
-        stored::put_keys::<K>(room, key);
+    fn expand_keys<K: KeySize>(room: &mut Room, key: &[u8]) {
+        stored::expand_keys::<K>(room, key);
     }
 
     #[tactic(auto, using(crate::proofs::DirectionLaws::same_forward))]
@@ -129,10 +129,10 @@ impl LaneRounds for Decrypt {
 
     // From a copy of Cipher's, each is written to its place: turned where they stand, they leave one on the stack.
     #[inline(always)]
-    fn put_keys<K: KeySize>(room: &mut Room, key: &[u8]) {
-        let mut forward = Held::<Room>::zeroed();
-        stored::put_keys::<K>(forward.words_mut(), key);
-        put_inverse::<K>(room, forward.words());
+    fn expand_keys<K: KeySize>(room: &mut Room, key: &[u8]) {
+        let mut forward = MustWipe::<Room>::zeroed();
+        stored::expand_keys::<K>(forward.value_mut(), key);
+        invert_keys::<K>(room, forward.value());
         forward.wipe();
     }
 
