@@ -1,8 +1,8 @@
--- What is left to show of `sixteens::process_in_sixteens`.
+-- What is left to show of `batches::process_in_batches`.
 use Rattle.std.proofs.Common.{ℕ, ◌-◌, ◌%◌, length, refl, ◌∙◌, arith}
 use Rattle.aes_cipher.proofs.SliceRuns.{end_finished}
 use Rattle.aes_soft.proofs.Slices.{front_finished}
-use Rattle.aes_hybrid.proofs.sixteens.process_in_sixteens.Goals as goal
+use Rattle.aes_hybrid.proofs.batches.process_in_batches.Goals as goal
 
 pub returns-then-whole-blocks : goal.returns-then-whole-blocks
 returns-then-whole-blocks g c =
