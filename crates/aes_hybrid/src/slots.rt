@@ -1,12 +1,13 @@
 //! One block in every slot of the planes of a batch: a lane of ones for each byte that has a bit.
 
-ghost use Rattle.std.specs.Prelude.{◌≡◌, ℕ, ◌+◌, ◌*◌, ◌/◌, ◌%◌, ◌^◌, ◌<◌, cond, get_or, map, replicate, refl};
+ghost use Rattle.std.specs.Prelude.{◌≡◌, ℕ, ◌+◌, ◌*◌, ◌/◌, ◌%◌, ◌^◌, ◌<◌, ◌≤◌, cond, get_or, map, replicate, refl};
 ghost use Rattle.std.proofs.Common.{arith};
 ghost use Rattle.aes_planes.specs.Bits.{at, bit};
 ghost use Rattle.aes_planes.specs.Fips197 as fips;
 ghost use Rattle.aes_planes.specs.Planes.{held};
 ghost use Rattle.aes_planes.specs.Private.Lanes.{lane_bits, wide_bits};
 ghost use Rattle.aes_planes.specs.Words.{word_bits};
+ghost use Rattle.aes_hybrid.specs.Slots.{PlanesFitInMemory};
 
 use aes_cipher::cipher::{BatchOfEight, BatchSize};
 use aes_planes::soft::word::Word;
@@ -69,6 +70,12 @@ pub trait SlotWord: Word {
 
     /// The type for the number of blocks has the number of the word.
     ghost same_number: { Self.Par.PAR_BLOCKS ≡ Self.Blocks.LEN };
+
+    /// A batch is sixteen blocks at most.
+    ghost at_most_sixteen: { Self.Blocks.LEN ≤ 16 };
+
+    /// Planes of the round keys of the largest key fit in memory.
+    ghost planes_fit: { PlanesFitInMemory Self.row };
 }
 
 impl SlotWord for BatchWord {
@@ -98,6 +105,10 @@ impl SlotWord for BatchWord {
     }
 
     ghost same_number = { refl };
+
+    ghost at_most_sixteen = { Prim.omega arith };
+
+    ghost planes_fit = { Prim.omega arith };
 }
 
 // Sixteen lanes in both halves.
@@ -139,4 +150,8 @@ impl SlotWord for u8x32 {
     }
 
     ghost same_number = { refl };
+
+    ghost at_most_sixteen = { Prim.omega arith };
+
+    ghost planes_fit = { Prim.omega arith };
 }

@@ -7,6 +7,6 @@ use Rattle.aes_hybrid.proofs.batches.process_in_batches.Goals as goal
 pub returns-then-whole-blocks : goal.returns-then-whole-blocks
 returns-then-whole-blocks g c =
     let blocks = c.args.blocks.now in
-    let whole : ℕ = length blocks - length blocks % 16 in
+    let whole : ℕ = length blocks - length blocks % c.LEN.result in
     end_finished _ whole _ _ _ (omega (arith, c.process_batches_under.auto.blocks)) refl c.process_rest.ensures
     ∙ front_finished _ whole blocks _ (omega arith) c.process_batches_under.ensures.blocks
