@@ -4,7 +4,7 @@ ghost use Rattle.std.specs.Prelude.{◌≡◌, ◌%◌, ◌<◌, ◌≤◌, leng
 ghost use Rattle.aes_planes.specs.Each.{Each};
 ghost use Rattle.aes_planes.specs.Fips197 as fips;
 ghost use Rattle.aes_soft.specs.Stored as soft;
-ghost use Rattle.aes_hybrid.specs.Lanes.{lanes_key, IsLanes};
+ghost use Rattle.aes_hybrid.specs.Keys.{cipher_key, IsCipherSchedule};
 
 use crate::plane_keys::PlaneKeys;
 use crate::slots::SlotWord;
@@ -67,8 +67,8 @@ fn process_in_batches<D: PlaneCipher, W: SlotWord>(words: &[W], blocks: &mut [Bl
 /// no large stack frame.
 #[inline(never)]
 pub(crate) fn process_on_planes<D: PlaneCipher, W: SlotWord>(keys: &[Block], blocks: &mut [Block])
-    requires is_lanes { IsLanes keys.now }
-    ensures { Each (D.processed (fips.key_expansion (lanes_key keys.now))) blocks.old blocks.new }
+    requires keyed { IsCipherSchedule keys.now }
+    ensures { Each (D.processed (fips.key_expansion (cipher_key keys.now))) blocks.old blocks.new }
 {
     let mut planes = PlaneKeys::<W>::zeroed();
     planes.put(keys);

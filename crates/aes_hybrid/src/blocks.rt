@@ -5,12 +5,12 @@ ghost use Rattle.aes_planes.specs.Each.{Each};
 ghost use Rattle.aes_planes.specs.Fips197 as fips;
 ghost use Rattle.aes_permute.specs.Keys.{encrypting};
 ghost use Rattle.aes_permute.specs.Stored.{round_keys_of};
-ghost use Rattle.aes_hybrid.specs.Lanes.{lanes_key, IsLanes};
+ghost use Rattle.aes_hybrid.specs.Keys.{cipher_key, IsCipherSchedule};
 
 use crate::batches::process_on_planes;
 use crate::widths::Width;
 use aes_permute::blocks::process_blocks as process_on_lanes;
-use aes_permute::directions::LaneRounds;
+use aes_permute::lane_rounds::LaneRounds;
 use aes_planes::soft::word::Block;
 use aes_soft::soft::PlaneCipher;
 use aes_soft::soft::key_sizes::BatchWord;
@@ -24,7 +24,7 @@ const WIDE_BATCH: usize = 16;
 
 // The most blocks for which vector permutations take less time than a batch on planes, once the planes of the round keys
 // are made.
-pub(crate) const FEW: usize = 5;
+pub(crate) const MOST_ON_LANES: usize = 5;
 
 // From how many blocks on encryption takes less time on planes. Decryption's permutations take longer.
 const LEAST_ON_PLANES: usize = 15;
@@ -41,7 +41,11 @@ fn blocks_in_batches(count: usize, size: usize) -> usize
     ensures inside { result ≤ count }
 {
     let rest = count % size;
-    if rest > FEW { count } else { count - rest }
+    if rest > MOST_ON_LANES {
+        count
+    } else {
+        count - rest
+    }
 }
 
 // How many of a number of blocks are processed on words of 256 bits.
@@ -77,9 +81,9 @@ fn blocks_by_eight<D: LaneRounds>(count: usize) -> usize
 // Processes each block by vector permutations.
 #[inline(always)]
 pub(crate) fn process_few<D: LaneRounds>(keys: &[Block], used: &[Block], blocks: &mut [Block])
-    requires is_lanes { IsLanes keys.now }
+    requires keyed { IsCipherSchedule keys.now }
     requires used { round_keys_of D.form used.now ≡ D.form.used_keys (encrypting keys.now) }
-    ensures { Each (D.processed (fips.key_expansion (lanes_key keys.now))) blocks.old blocks.new }
+    ensures { Each (D.processed (fips.key_expansion (cipher_key keys.now))) blocks.old blocks.new }
 {
     let _ = keys;
     D::processes();
@@ -90,9 +94,9 @@ pub(crate) fn process_few<D: LaneRounds>(keys: &[Block], used: &[Block], blocks:
 // Processes each block of a slice in place: whole batches of eight on planes, and the others by vector permutations where
 // they are few, since these take less time so.
 fn process_narrow<D: LaneRounds + PlaneCipher>(keys: &[Block], used: &[Block], blocks: &mut [Block])
-    requires is_lanes { IsLanes keys.now }
+    requires keyed { IsCipherSchedule keys.now }
     requires used { round_keys_of D.form used.now ≡ D.form.used_keys (encrypting keys.now) }
-    ensures { Each (D.processed (fips.key_expansion (lanes_key keys.now))) blocks.old blocks.new }
+    ensures { Each (D.processed (fips.key_expansion (cipher_key keys.now))) blocks.old blocks.new }
 {
     let whole = blocks_by_eight::<D>(blocks.len());
     if whole > 0 {
@@ -109,9 +113,9 @@ pub fn process_blocks<D: LaneRounds + PlaneCipher, W: Width>(
     used: &[Block],
     blocks: &mut [Block],
 )
-    requires is_lanes { IsLanes keys.now }
+    requires keyed { IsCipherSchedule keys.now }
     requires used { round_keys_of D.form used.now ≡ D.form.used_keys (encrypting keys.now) }
-    ensures { Each (D.processed (fips.key_expansion (lanes_key keys.now))) blocks.old blocks.new }
+    ensures { Each (D.processed (fips.key_expansion (cipher_key keys.now))) blocks.old blocks.new }
 {
     let whole = blocks_by_sixteen::<W>(blocks.len());
     if whole > 0 {

@@ -3,7 +3,7 @@
 ghost use Rattle.std.specs.Prelude.{◌≡◌, ℕ, List};
 ghost use Rattle.aes_planes.specs.Fips197 as fips;
 ghost use Rattle.aes_planes.proofs.Standard.CipherLaws.{two_keys};
-ghost use Rattle.aes_hybrid.specs.Lanes.{lanes_key, IsLanes};
+ghost use Rattle.aes_hybrid.specs.Keys.{cipher_key, IsCipherSchedule};
 
 pub(crate) mod backends;
 
@@ -40,17 +40,17 @@ impl<W> Drop for Lent<'_, W> {
 impl<'a, W> Model for Lent<'a, W> {
     ghost Value = { List ℕ };
 
-    ghost view = { λ lent. lanes_key lent.keys.now };
+    ghost view = { λ lent. cipher_key lent.keys.now };
 
-    ghost invariant = { λ lent. IsLanes lent.keys.now };
+    ghost invariant = { λ lent. IsCipherSchedule lent.keys.now };
 }
 
 impl<'a, W> Lent<'a, W> {
     /// Lends stored round keys.
     #[inline(always)]
     pub fn new(keys: &'a [Block]) -> Lent<'a, W>
-        requires { IsLanes keys.now }
-        ensures { result ≡ lanes_key keys.now }
+        requires { IsCipherSchedule keys.now }
+        ensures { result ≡ cipher_key keys.now }
     {
         Lent {
             keys,
@@ -101,8 +101,8 @@ impl<W: Width> BlockCipherEncrypt for Lent<'_, W> {
 // Calls a closure with a backend on planes, which are wiped before the call returns.
 #[inline(always)]
 fn call_with_planes<P: SlotWord, F: BlockCipherEncClosure>(keys: &[Block], f: &mut F)
-    requires is_lanes { IsLanes keys.now }
-    ensures { F.did f.old (fips.key_expansion (lanes_key keys.now)) f.new }
+    requires keyed { IsCipherSchedule keys.now }
+    ensures { F.did f.old (fips.key_expansion (cipher_key keys.now)) f.new }
 {
     let mut planes = PlaneKeys::<P>::zeroed();
     planes.put(keys);

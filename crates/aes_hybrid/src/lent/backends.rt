@@ -4,12 +4,12 @@ ghost use Rattle.std.specs.Prelude.{◌≡◌, ℕ, List, length, map};
 ghost use Rattle.aes_planes.specs.Fips197 as fips;
 ghost use Rattle.aes_planes.proofs.Standard.CipherLaws.{two_keys};
 ghost use Rattle.aes_soft.specs.Stored as soft;
-ghost use Rattle.aes_hybrid.specs.Lanes.{lanes_key, IsLanes};
+ghost use Rattle.aes_hybrid.specs.Keys.{cipher_key, IsCipherSchedule};
 
-use crate::blocks::{FEW, process_few};
+use crate::blocks::{MOST_ON_LANES, process_few};
 use crate::slots::SlotWord;
 use aes_cipher::cipher::{BatchSizeUser, BlockCipherEncBackend, Encrypt, RoundKeysUser};
-use aes_permute::keys::TwoBlocks;
+use aes_permute::keys::BatchOfTwo;
 use aes_planes::laws;
 use aes_planes::soft::sbox::Layers;
 use aes_planes::soft::word::Block;
@@ -26,16 +26,16 @@ pub(super) struct Pairs<'a> {
 impl<'a> Model for Pairs<'a> {
     ghost Value = { List ℕ };
 
-    ghost view = { λ pairs. lanes_key pairs.keys.now };
+    ghost view = { λ pairs. cipher_key pairs.keys.now };
 
-    ghost invariant = { λ pairs. IsLanes pairs.keys.now };
+    ghost invariant = { λ pairs. IsCipherSchedule pairs.keys.now };
 }
 
 impl<'a> Pairs<'a> {
     #[inline(always)]
     pub(super) fn new(keys: &'a [Block]) -> Pairs<'a>
-        requires { IsLanes keys.now }
-        ensures { result ≡ lanes_key keys.now }
+        requires { IsCipherSchedule keys.now }
+        ensures { result ≡ cipher_key keys.now }
     {
         Pairs { keys }
     }
@@ -53,7 +53,7 @@ impl RoundKeysUser for Pairs<'_> {
 }
 
 impl BatchSizeUser for Pairs<'_> {
-    type Par = TwoBlocks;
+    type Par = BatchOfTwo;
 }
 
 impl BlockCipherEncBackend for Pairs<'_> {
@@ -78,23 +78,23 @@ pub(super) struct Batches<'a, W: SlotWord> {
 impl<'a, W: SlotWord> Model for Batches<'a, W> {
     ghost Value = { List ℕ };
 
-    ghost view = { λ batches. lanes_key batches.keys.now };
+    ghost view = { λ batches. cipher_key batches.keys.now };
 
     ghost invariant = { λ batches.
         let n = length batches.words.now in
         let planes = map W.bits batches.words.now in
-        IsLanes batches.keys.now
+        IsCipherSchedule batches.keys.now
         × soft.IsFullSchedule n W.BLOCKS planes
-        × (soft.plane_key n W.BLOCKS planes ≡ lanes_key batches.keys.now) };
+        × (soft.plane_key n W.BLOCKS planes ≡ cipher_key batches.keys.now) };
 }
 
 impl<'a, W: SlotWord> Batches<'a, W> {
     #[inline(always)]
     pub(super) fn new(keys: &'a [Block], words: &'a [W]) -> Batches<'a, W>
-        requires is_lanes { IsLanes keys.now }
+        requires keyed { IsCipherSchedule keys.now }
         requires is_schedule { soft.IsFullSchedule (length words.now) W.BLOCKS (map W.bits words.now) }
-        requires same_key { soft.plane_key (length words.now) W.BLOCKS (map W.bits words.now) ≡ lanes_key keys.now }
-        ensures { result ≡ lanes_key keys.now }
+        requires same_key { soft.plane_key (length words.now) W.BLOCKS (map W.bits words.now) ≡ cipher_key keys.now }
+        ensures { result ≡ cipher_key keys.now }
     {
         Batches { keys, words }
     }
@@ -129,7 +129,7 @@ impl<W: SlotWord> BlockCipherEncBackend for Batches<'_, W> {
     #[tactic(auto, using(aes_cipher::proofs::FirstBlocks::first_of_all))]
     #[inline(always)]
     fn encrypt_first_blocks(&self, count: usize, blocks: &mut [Block]) {
-        if count <= FEW {
+        if count <= MOST_ON_LANES {
             process_few::<Encrypt>(self.keys, self.keys, &mut blocks[..count]);
         } else {
             self.encrypt_par_blocks(blocks);
