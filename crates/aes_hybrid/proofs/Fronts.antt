@@ -1,7 +1,8 @@
 -- Slices of which whole batches are processed, and what is left as a part of one batch more.
 use Rattle.std.proofs.Common.{◌≡◌, ℕ, ◌-◌, ◌*◌, ◌/◌, ◌%◌, ◌≤◌, List, ◌++◌, length, map, take, drop, ap, sym, ◌∙◌, arith}
 use Rattle.std.proofs.Math.Nat.{div-add-mod, mul-mod_right}
-use Rattle.std.proofs.lemmas.List.{take_all, take-append-le, take-map, take_take, length-map, length-take-le}
+use lib.Seq.{take-take}
+use Rattle.std.proofs.lemmas.List.{take_all, take-append-le, take-map, length-map, length-take-le}
 
 -- m elements but what is left of them after batches of s are whole batches
 pub whole_batches : (m n s : ℕ) → n ≡ m - m % s → n % s ≡ 0
@@ -19,5 +20,5 @@ first_processed f n s xs batch ys zs sized fits room begins done back same =
     let long : length ys ≡ s = ap length done ∙ length-map (take s batch) f ∙ length-take-le s batch room in
     sym (take_all n zs (omega (arith, same)))
     ∙ back ∙ take-append-le n ys (drop s batch) (omega (arith, fits, long))
-    ∙ ap (take n) done ∙ take-map f n (take s batch) ∙ ap (map f) (take_take n s batch fits ∙ begins)
+    ∙ ap (take n) done ∙ take-map f n (take s batch) ∙ ap (map f) (take-take n s batch fits ∙ begins)
     ∙ ap (map f) (take_all n xs (omega (arith, sized)))

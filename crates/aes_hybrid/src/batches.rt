@@ -71,7 +71,7 @@ pub(crate) fn process_on_planes<D: PlaneCipher, W: SlotWord>(keys: &[Block], blo
     ensures { Each (D.processed (fips.key_expansion (cipher_key keys.now))) blocks.old blocks.new }
 {
     let mut planes = PlaneKeys::<W>::zeroed();
-    planes.put(keys);
+    planes.store(keys);
     process_in_batches::<D, W>(planes.lend(keys.len()), blocks);
     planes.wipe();
 }

@@ -105,7 +105,7 @@ fn call_with_planes<P: SlotWord, F: BlockCipherEncClosure>(keys: &[Block], f: &m
     ensures { F.did f.old (fips.key_expansion (cipher_key keys.now)) f.new }
 {
     let mut planes = PlaneKeys::<P>::zeroed();
-    planes.put(keys);
+    planes.store(keys);
     f.call(&Batches::new(keys, planes.lend(keys.len())));
     planes.wipe();
 }

@@ -102,14 +102,14 @@ impl<W: SlotWord> PlaneKeys<W> {
         }
     }
 
-    /// Writes stored round keys of Cipher to the first words.
+    /// Stores round keys of Cipher in the first words.
     #[inline(always)]
-    pub(crate) fn put(&mut self, keys: &[Block])
+    pub(crate) fn store(&mut self, keys: &[Block])
         requires keyed { IsCipherSchedule keys.now }
-        ensures is_schedule { let n = 8 * length keys.now in
-            soft.IsFullSchedule n W.BLOCKS (map W.bits (take n self.new.room)) }
-        ensures key { let n = 8 * length keys.now in
-            soft.plane_key n W.BLOCKS (map W.bits (take n self.new.room)) ≡ cipher_key keys.now }
+        ensures is_schedule { let words = take (8 * length keys.now) self.new.room in
+            soft.IsFullSchedule (length words) W.BLOCKS (map W.bits words) }
+        ensures key { let words = take (8 * length keys.now) self.new.room in
+            soft.plane_key (length words) W.BLOCKS (map W.bits words) ≡ cipher_key keys.now }
     {
         store_planes(&mut self.room[..8 * keys.len()], keys);
     }
