@@ -4,12 +4,15 @@ use Rattle.std.proofs.Math.Nat.{div-add-mod, mul-mod_right}
 use lib.Seq.{take-take}
 use Rattle.std.proofs.lemmas.List.{take_all, take-append-le, take-map, length-map, length-take-le}
 
--- m elements but what is left of them after batches of s are whole batches
-pub whole_batches : (m n s : ℕ) → n ≡ m - m % s → n % s ≡ 0
-whole_batches m n s e =
-    let parts = div-add-mod m s in
-    let product : n ≡ s * (m / s) = omega (arith, e, parts) in
-    ap (λ v. v % s) product ∙ mul-mod_right s (m / s)
+-- elements of a slice, but for what is left of them after batches of s, are whole batches
+pub whole_batches : {X : Type 0} (xs : List X) (s k : ℕ) → k ≡ s
+    → length (take (length xs - length xs % k) xs) % s ≡ 0
+whole_batches xs s k same =
+    let m : ℕ = length xs in
+    let parts = div-add-mod m k in
+    let sized : length (take (m - m % k) xs) ≡ m - m % k = length-take-le (m - m % k) xs (omega arith) in
+    let product : length (take (m - m % k) xs) ≡ k * (m / k) = omega (arith, sized, parts) in
+    (λ i. product i % sym same i) ∙ mul-mod_right k (m / k)
 
 -- where a batch begins with elements, f of each of its own is written in their places, and as many of them are copied back,
 -- they are f of those elements

@@ -14,4 +14,4 @@ returns-then-whole-blocks g c =
 
 pub process_batches_under-requires-clause-whole_batches : goal.process_batches_under-requires-clause-whole_batches
 process_batches_under-requires-clause-whole_batches g c =
-    whole_batches (length c.args.blocks.now) _ g.W.Blocks.Batch.LEN (omega (arith, c.LEN.ensures))
+    whole_batches c.args.blocks.now g.W.Blocks.Batch.LEN c.LEN.result c.LEN.ensures
