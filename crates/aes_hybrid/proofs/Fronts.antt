@@ -1,23 +1,27 @@
--- Slices of which a part is processed first, and then what is left.
-use Rattle.std.proofs.Common.{◌≡◌, ℕ, zero, suc, ◌+◌, ◌<◌, List, [], ◌∷◌, ◌++◌, length, map, take, drop}
-use Rattle.std.proofs.Common.{get_or, set, refl, ap, ◌∙◌, arith}
-use Rattle.aes_cipher.proofs.SliceRuns.{finished}
+-- Slices of which whole batches are processed, and what is left as a part of one batch more.
+use Rattle.std.proofs.Common.{◌≡◌, ℕ, ◌-◌, ◌*◌, ◌/◌, ◌%◌, ◌≤◌, List, ◌++◌, length, map, take, drop, ap, sym, ◌∙◌, arith}
+use Rattle.std.proofs.Math.Nat.{div-add-mod, mul-mod_right}
+use lib.Seq.{take-take}
+use Rattle.std.proofs.lemmas.List.{take_all, take-append-le, take-map, length-map, length-take-le}
 
--- where f of each element from place i on stands in its place, the element at that place, written back
-pub one_back : {X : Type 0} (f : X → X) (i k : ℕ) (xs ys : List X) (d : X) → i < length xs → i + 1 ≡ k
-    → ys ≡ finished f i xs → set ys i (get_or xs i d) ≡ finished f k xs
-one_back f i k xs ys d below next is =
-    let same : suc i ≡ k = omega (arith, next) in
-    ap (λ l. set l i (get_or xs i d)) is ∙ back i xs below ∙ ap (λ m. finished f m xs) same
-  where
-    back : (i : ℕ) (xs : List _) → i < length xs → set (finished f i xs) i (get_or xs i d) ≡ finished f (suc i) xs
-    back i [] h = absurd (omega (arith, h))
-    back zero (x ∷ xs) h = refl
-    back (suc i) (x ∷ xs) h = ap (λ l. x ∷ l) (back i xs (omega (arith, h)))
+-- elements of a slice, but for what is left of them after batches of s, are whole batches
+pub whole_batches : {X : Type 0} (xs : List X) (s k : ℕ) → k ≡ s
+    → length (take (length xs - length xs % k) xs) % s ≡ 0
+whole_batches xs s k same =
+    let m : ℕ = length xs in
+    let parts = div-add-mod m k in
+    let sized : length (take (m - m % k) xs) ≡ m - m % k = length-take-le (m - m % k) xs (omega arith) in
+    let product : length (take (m - m % k) xs) ≡ k * (m / k) = omega (arith, sized, parts) in
+    (λ i. product i % sym same i) ∙ mul-mod_right k (m / k)
 
--- where f of each element from place n on stands in its place, f of those before makes all
-pub front_after : {X : Type 0} (f : X → X) (n : ℕ) (xs : List X)
-    → map f (take n (finished f n xs)) ++ drop n (finished f n xs) ≡ map f xs
-front_after f zero xs = refl
-front_after f (suc n) [] = refl
-front_after f (suc n) (x ∷ xs) = ap (λ l. f x ∷ l) (front_after f n xs)
+-- where a batch begins with elements, f of each of its own is written in their places, and as many of them are copied back,
+-- they are f of those elements
+pub first_processed : {X : Type 0} (f : X → X) (n s : ℕ) (xs batch ys zs : List X) → length xs ≡ n → n ≤ s
+    → s ≤ length batch → take n batch ≡ take n xs → ys ≡ map f (take s batch)
+    → take n zs ≡ take n (ys ++ drop s batch) → length zs ≡ n → zs ≡ map f xs
+first_processed f n s xs batch ys zs sized fits room begins done back same =
+    let long : length ys ≡ s = ap length done ∙ length-map (take s batch) f ∙ length-take-le s batch room in
+    sym (take_all n zs (omega (arith, same)))
+    ∙ back ∙ take-append-le n ys (drop s batch) (omega (arith, fits, long))
+    ∙ ap (take n) done ∙ take-map f n (take s batch) ∙ ap (map f) (take-take n s batch fits ∙ begins)
+    ∙ ap (map f) (take_all n xs (omega (arith, sized)))

@@ -1,15 +1,16 @@
 -- Round keys of vector permutations, as planes store them.
-use Rattle.std.proofs.Common.{◌≡◌, ℕ, ◌-◌, ◌*◌, ◌%◌, ◌<◌, ◌≤◌, Bool, List, [], ◌∷◌, length}
+use Rattle.std.proofs.Common.{◌≡◌, ◌⊎◌, inl, inr, ℕ, ◌+◌, ◌-◌, ◌*◌, ◌%◌, ◌<◌, ◌≤◌, Bool, List, [], ◌∷◌, length}
 use Rattle.std.proofs.Common.{map, map-id, replicate, refl, ap, subst, sym, ◌∙◌, arith}
+use Rattle.std.proofs.lemmas.Bool.{cases_lt}
 use Rattle.aes_planes.specs.Fips197 as fips
 use Rattle.aes_planes.specs.Planes.{held, plus63, words_at}
 use Rattle.aes_planes.proofs.Shifts.Deferred.{plus63_twice}
 use Rattle.aes_planes.proofs.Standard.FieldLaws.{add_twice}
 use Rattle.aes_planes.proofs.Standard.Steps.{map_length}
-use Rattle.aes_soft.specs.Stored.{full, key_of, rounds_of, size_of, stored_key, IsKeyed, IsSchedule, HoldsBlocks}
+use Rattle.aes_soft.specs.Stored.{full, plane_key, rounds_of, size_of, stored_key, IsFullSchedule, IsSchedule, HoldsBlocks}
 use Rattle.aes_soft.proofs.KeyOfPlanes.{key_of-schedule}
 use Rattle.aes_soft.proofs.StoredRoundKeys.{deferred_below, deferred_last, stored_first, stored_later}
-use Rattle.aes_soft.proofs.WordsInPlace.{held_at, HoldsAt}
+use Rattle.aes_soft.proofs.WordsInPlace.{held_at, kept, HoldsAt}
 use Rattle.aes_permute.specs.Keys.{encrypting, cipher_form}
 use Rattle.aes_permute.specs.Stored.{untower, key_untower}
 use Rattle.aes_permute.proofs.States.{keys_length, first_key, inner_key, last_key}
@@ -61,6 +62,24 @@ pub put_at : {A : Type 0} (bits : A → List Bool) (n : ℕ) (rk : List A) (o p 
     → held n (map bits (words_at rk o)) ≡ replicate n x → x ≡ y → HoldsAt bits n rk p y
 put_at bits n rk o p x y at h e = held_at bits n rk (words_at rk o) o p y at refl (h ∙ ap (replicate n) e)
 
+-- where all round keys but the last stand in their places, and the last is put, all stand
+pub all_put : {A : Type 0} (bits : A → List Bool) (n : ℕ) (stored : List (List ℕ)) (two : 2 ≤ length stored)
+    (before after : List A) → (done : (j : ℕ) → j < length stored - 1 → HoldsAt bits n before (8 * j) (wanted stored two j))
+    → (others : (o : ℕ) → (o + 8 ≤ 8 * (length stored - 1)) ⊎ (8 * (length stored - 1) + 8 ≤ o)
+    → words_at after o ≡ words_at before o)
+    → (put : held n (map bits (words_at after (8 * (length stored - 1))))
+    ≡ replicate n (fips.round_key stored (length stored - 1)))
+    → HoldsBlocks n (length stored) (wanted stored two) (map bits after)
+all_put bits n stored two before after done others put j below =
+    let last : ℕ = length stored - 1 in
+    elim (cases_lt j last) [
+      | inl low ↦ kept bits n before after (8 * last) (8 * j) _ others (inl (omega (arith, low))) (done j low)
+      | inr ge ↦
+          let same : last ≡ j = omega (arith, ge, below) in
+          put_at bits n after (8 * last) (8 * j) _ _ (omega (arith, same)) put
+          (last_wanted stored two last refl ∙ ap (wanted stored two) same)
+    ]
+
 -- there are two round keys and more
 pub two_or_more : (stored : List (List ℕ)) → IsCipherSchedule stored → 2 ≤ length stored
 two_or_more stored lanes = omega (arith, lanes.one_of_three)
@@ -86,7 +105,7 @@ module _ (n : ℕ) (some : 1 ≤ n) (planes : List (List Bool)) (stored : List (
   same_size = lanes.sized ∙ omega (arith, sized)
 
   -- planes that hold them in the full layout are read as the key that the stored round keys are read as
-  pub planes_key : key_of (size_of words) n (full (rounds_of words)) planes ≡ cipher_key stored
+  pub planes_key : plane_key words n planes ≡ cipher_key stored
   planes_key =
       key_of-schedule n (full (rounds_of words)) some
       (deferred_below (rounds_of words) 4 0 0 (omega (arith, sized, least)) refl) planes (size_of words)
@@ -94,6 +113,11 @@ module _ (n : ℕ) (some : 1 ≤ n) (planes : List (List Bool)) (stored : List (
       is_schedule
 
   -- and are the schedule of that key
-  pub planes_keyed : IsKeyed (size_of words) n (full (rounds_of words)) planes
-  planes_keyed =
-      subst (λ key. IsSchedule n (full (rounds_of words)) key planes) (sym planes_key) is_schedule
+  pub planes_keyed : IsFullSchedule words n planes
+  planes_keyed = record {
+    one_of_three = elim lanes.one_of_three [
+      | inl k ↦ inl (omega (arith, sized, k))
+      | inr other ↦ inr (elim other [ inl k ↦ inl (omega (arith, sized, k)) | inr k ↦ inr (omega (arith, sized, k)) ])
+    ];
+    keyed = subst (λ key. IsSchedule n (full (rounds_of words)) key planes) (sym planes_key) is_schedule;
+  }

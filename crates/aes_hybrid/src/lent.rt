@@ -1,23 +1,23 @@
 //! Stored round keys, lent as a cipher that encrypts.
 
-ghost use Rattle.std.specs.Prelude.{◌≡◌, ℕ, ◌*◌, ◌≤◌, List, length};
+ghost use Rattle.std.specs.Prelude.{◌≡◌, ℕ, List};
 ghost use Rattle.aes_planes.specs.Fips197 as fips;
 ghost use Rattle.aes_planes.proofs.Standard.CipherLaws.{two_keys};
 ghost use Rattle.aes_hybrid.specs.Keys.{cipher_key, IsCipherSchedule};
 
 pub(crate) mod backends;
 
-use crate::blocks::{BATCH, process_blocks};
-use crate::plane_keys::store_planes_first;
-use crate::sixteens::{self, call_with_sixteens};
+use crate::blocks::{BATCH, LEAST_BY_SIXTEEN, process_blocks};
+use crate::plane_keys::PlaneKeys;
+use crate::slots::SlotWord;
 use crate::widths::{Narrow, Width};
 use aes_cipher::cipher::{BlockCipherEncClosure, BlockCipherEncrypt, Encrypt, RoundKeysUser};
-use aes_cipher::zeroize::MustWipe;
 use aes_planes::laws;
 use aes_planes::soft::word::Block;
 use aes_soft::soft::key_sizes::BatchWord;
 use backends::{Batches, Pairs};
 use std::marker::{Model, PhantomData};
+use std::simd::prelude::*;
 use std::slice;
 
 /// Stored round keys of Cipher, lent to encrypt. The backend for eight blocks or more has planes for whole batches, and
@@ -73,22 +73,15 @@ impl<W> RoundKeysUser for Lent<'_, W> {
 impl<W: Width> BlockCipherEncrypt for Lent<'_, W> {
     #[inline(always)]
     fn encrypt_with_backend<F: BlockCipherEncClosure>(&self, f: &mut F) {
-        let keys = self.keys;
-        if keys.len() == 11 {
-            call_with_planes::<88, F>(keys, f);
-        } else if keys.len() == 13 {
-            call_with_planes::<104, F>(keys, f);
-        } else {
-            call_with_planes::<120, F>(keys, f);
-        }
+        call_with_planes::<BatchWord, F>(self.keys, f);
     }
 
     #[inline(always)]
     fn encrypt_with_backend_for<F: BlockCipherEncClosure>(&self, blocks: usize, f: &mut F) {
         if blocks < BATCH {
             f.call(&Pairs::new(self.keys));
-        } else if W::HAS_SIXTEENS && blocks >= sixteens::LEAST {
-            call_with_sixteens(self.keys, f);
+        } else if W::HAS_SIXTEENS && blocks >= LEAST_BY_SIXTEEN {
+            call_with_planes::<u8x32, F>(self.keys, f);
         } else {
             self.encrypt_with_backend(f);
         }
@@ -107,15 +100,12 @@ impl<W: Width> BlockCipherEncrypt for Lent<'_, W> {
 
 // Calls a closure with a backend on planes, which are wiped before the call returns.
 #[inline(always)]
-fn call_with_planes<const N: usize, F: BlockCipherEncClosure>(keys: &[Block], f: &mut F)
-    requires room { 8 * length keys.now ≤ N }
-    requires most { N ≤ 120 }
+fn call_with_planes<P: SlotWord, F: BlockCipherEncClosure>(keys: &[Block], f: &mut F)
     requires keyed { IsCipherSchedule keys.now }
     ensures { F.did f.old (fips.key_expansion (cipher_key keys.now)) f.new }
 {
-    let mut wide = MustWipe::<[BatchWord; N]>::zeroed();
-    store_planes_first::<N, BatchWord>(wide.value_mut(), keys);
-    let words = &wide.value()[..8 * keys.len()];
-    f.call(&Batches::new(keys, words));
-    wide.wipe();
+    let mut planes = PlaneKeys::<P>::zeroed();
+    planes.store(keys);
+    f.call(&Batches::new(keys, planes.lend(keys.len())));
+    planes.wipe();
 }

@@ -2,6 +2,7 @@
 //! planes. The number of blocks decides, which is no secret.
 #![tactic(auto)]
 
+mod batches;
 pub mod blocks;
 mod ciphers;
 pub mod examples;
@@ -9,7 +10,6 @@ pub mod keys;
 pub mod lent;
 mod names;
 mod plane_keys;
-mod sixteens;
 mod slots;
 pub mod wide;
 pub mod widths;

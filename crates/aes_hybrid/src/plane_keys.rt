@@ -1,6 +1,6 @@
 //! Round keys of vector permutations as planes: the S-box of their schedule serves both forms.
 
-ghost use Rattle.std.specs.Prelude.{◌≡◌, ◌⊎◌, ℕ, ◌+◌, ◌*◌, ◌%◌, ◌<◌, ◌≤◌, length, map, replicate, take};
+ghost use Rattle.std.specs.Prelude.{◌≡◌, ◌⊎◌, ℕ, ◌+◌, ◌*◌, ◌%◌, ◌<◌, ◌≤◌, false, length, map, replicate, take};
 ghost use Rattle.aes_planes.specs.Fips197 as fips;
 ghost use Rattle.aes_planes.specs.Planes.{held, words_at};
 ghost use Rattle.aes_soft.specs.Stored as soft;
@@ -8,6 +8,7 @@ ghost use Rattle.aes_permute.specs.Stored.{untower};
 ghost use Rattle.aes_hybrid.specs.Keys.{cipher_key, IsCipherSchedule};
 
 use crate::slots::SlotWord;
+use aes_cipher::zeroize::zeroize_words;
 use aes_permute::lanes::looked_up_by_nibbles;
 use aes_permute::tables::{UNTOWER_HIGH, UNTOWER_LOW};
 use aes_planes::laws;
@@ -75,11 +76,8 @@ pub fn store_planes<W: SlotWord>(words: &mut [W], keys: &[Block])
     requires sized { length words.old ≡ 8 * length keys.now }
     requires keyed { IsCipherSchedule keys.now }
     ensures same_length { length words.new ≡ 8 * length keys.now }
-    ensures is_schedule { let n = length words.new in
-        soft.IsKeyed (soft.size_of n) W.BLOCKS (soft.full (soft.rounds_of n)) (map W.bits words.new) }
-    ensures key { let n = length words.new in
-        soft.key_of (soft.size_of n) W.BLOCKS (soft.full (soft.rounds_of n)) (map W.bits words.new)
-        ≡ cipher_key keys.now }
+    ensures is_schedule { soft.IsFullSchedule (length words.new) W.BLOCKS (map W.bits words.new) }
+    ensures key { soft.plane_key (length words.new) W.BLOCKS (map W.bits words.new) ≡ cipher_key keys.now }
 {
     let last = keys.len() - 1;
     store_block(words, 0, u8x16::from_array(keys[0]));
@@ -89,17 +87,56 @@ pub fn store_planes<W: SlotWord>(words: &mut [W], keys: &[Block])
     store_block(words, last, u8x16::from_array(keys[last]));
 }
 
-// Writes the same to the first words of an array.
-#[inline(always)]
-pub(crate) fn store_planes_first<const N: usize, W: SlotWord>(wide: &mut [W; N], keys: &[Block])
-    requires room { 8 * length keys.now ≤ N }
-    requires most { N ≤ 120 }
-    requires keyed { IsCipherSchedule keys.now }
-    ensures is_schedule { let n = 8 * length keys.now in
-        soft.IsKeyed (soft.size_of n) W.BLOCKS (soft.full (soft.rounds_of n)) (map W.bits (take n wide.new)) }
-    ensures key { let n = 8 * length keys.now in
-        soft.key_of (soft.size_of n) W.BLOCKS (soft.full (soft.rounds_of n)) (map W.bits (take n wide.new))
-        ≡ cipher_key keys.now }
-{
-    store_planes(&mut wide[..8 * keys.len()], keys);
+/// Round keys on planes, in room for those of the largest key. A drop requires zeros, so code that drops them without a
+/// wipe isn't proved.
+pub(crate) struct PlaneKeys<W: SlotWord> {
+    room: [W; 120],
+}
+
+impl<W: SlotWord> PlaneKeys<W> {
+    /// Returns zeros, to be written over.
+    #[inline(always)]
+    pub(crate) fn zeroed() -> PlaneKeys<W> {
+        PlaneKeys {
+            room: [W::zero(); 120],
+        }
+    }
+
+    /// Stores round keys of Cipher in the first words.
+    #[inline(always)]
+    pub(crate) fn store(&mut self, keys: &[Block])
+        requires keyed { IsCipherSchedule keys.now }
+        ensures is_schedule { let words = take (8 * length keys.now) self.new.room in
+            soft.IsFullSchedule (length words) W.BLOCKS (map W.bits words) }
+        ensures key { let words = take (8 * length keys.now) self.new.room in
+            soft.plane_key (length words) W.BLOCKS (map W.bits words) ≡ cipher_key keys.now }
+    {
+        store_planes(&mut self.room[..8 * keys.len()], keys);
+    }
+
+    /// Lends the words of so many round keys.
+    #[inline(always)]
+    pub(crate) fn lend(&self, count: usize) -> &[W]
+        requires fits { count ≤ 15 }
+        ensures { result.now ≡ take (8 * count) self.now.room }
+    {
+        &self.room[..8 * count]
+    }
+
+    /// Overwrites the words with zeros, in place.
+    #[inline(always)]
+    pub(crate) fn wipe(&mut self)
+        ensures { map W.bits self.new.room ≡ replicate 120 (replicate W.BITS false) }
+    {
+        zeroize_words(&mut self.room);
+    }
+}
+
+impl<W: SlotWord> Drop for PlaneKeys<W> {
+    #[inline(always)]
+    fn drop(self)
+        requires wiped { map W.bits self.room ≡ replicate 120 (replicate W.BITS false) }
+    {
+        let PlaneKeys { room: _ } = self;
+    }
 }

@@ -1,12 +1,15 @@
 //! One block in every slot of the planes of a batch: a lane of ones for each byte that has a bit.
 
-ghost use Rattle.std.specs.Prelude.{◌≡◌, ℕ, ◌+◌, ◌*◌, ◌/◌, ◌%◌, ◌^◌, ◌<◌, cond, get_or, map, replicate};
+ghost use Rattle.std.specs.Prelude.{◌≡◌, ℕ, ◌+◌, ◌*◌, ◌/◌, ◌%◌, ◌^◌, ◌<◌, ◌≤◌, cond, get_or, map, replicate, refl};
+ghost use Rattle.std.proofs.Common.{arith};
 ghost use Rattle.aes_planes.specs.Bits.{at, bit};
 ghost use Rattle.aes_planes.specs.Fips197 as fips;
 ghost use Rattle.aes_planes.specs.Planes.{held};
 ghost use Rattle.aes_planes.specs.Private.Lanes.{lane_bits, wide_bits};
 ghost use Rattle.aes_planes.specs.Words.{word_bits};
+ghost use Rattle.aes_hybrid.specs.Slots.{PlanesFitInMemory};
 
+use aes_cipher::cipher::{BatchOfEight, BatchSize};
 use aes_planes::soft::word::Word;
 use aes_soft::soft::key_sizes::BatchWord;
 use std::simd::prelude::*;
@@ -44,15 +47,40 @@ fn word(x: u8x16) -> BatchWord
     (high as u128) << 64 | low as u128
 }
 
+/// Batches of sixteen blocks.
+pub struct BatchOfSixteen;
+
+impl BatchSize for BatchOfSixteen {
+    ghost PAR_BLOCKS = { 16 };
+
+    const PAR_BLOCKS: usize = 16;
+
+    ghost at_least_one = { Prim.omega arith };
+}
+
 /// A word whose planes can be made to hold one block in every slot.
 pub trait SlotWord: Word {
+    /// How many blocks its planes hold, as a type.
+    type Par: BatchSize;
+
     /// Returns the planes that hold a block in every slot.
     fn in_every_slot(block: u8x16) -> [Self; 8]
         requires { fips.IsBlock block }
         ensures { held Self.BLOCKS (map Self.bits result) ≡ replicate Self.BLOCKS block };
+
+    /// The type for the number of blocks has the number of the word.
+    ghost same_number: { Self.Par.PAR_BLOCKS ≡ Self.Blocks.LEN };
+
+    /// A batch is sixteen blocks at most.
+    ghost at_most_sixteen: { Self.Blocks.LEN ≤ 16 };
+
+    /// Planes of the round keys of the largest key fit in memory.
+    ghost planes_fit: { PlanesFitInMemory Self.row };
 }
 
 impl SlotWord for BatchWord {
+    type Par = BatchOfEight;
+
     #[inline(always)]
     fn in_every_slot(block: u8x16) -> [BatchWord; 8] {
         let bytes = by_rows(block);
@@ -75,6 +103,12 @@ impl SlotWord for BatchWord {
             word(x7),
         ]
     }
+
+    ghost same_number = { refl };
+
+    ghost at_most_sixteen = { Prim.omega arith };
+
+    ghost planes_fit = { Prim.omega arith };
 }
 
 // Sixteen lanes in both halves.
@@ -90,6 +124,8 @@ fn twice(x: u8x16) -> u8x32
 }
 
 impl SlotWord for u8x32 {
+    type Par = BatchOfSixteen;
+
     #[inline(always)]
     fn in_every_slot(block: u8x16) -> [u8x32; 8] {
         let bytes = by_rows(block);
@@ -112,4 +148,10 @@ impl SlotWord for u8x32 {
             twice(x7),
         ]
     }
+
+    ghost same_number = { refl };
+
+    ghost at_most_sixteen = { Prim.omega arith };
+
+    ghost planes_fit = { Prim.omega arith };
 }

@@ -14,7 +14,7 @@ returns g c =
     let batches : finished f whole c.if-whole-gt0.blocks ≡ map f c.args.blocks.now = elim c.if-whole-gt0.branch [
       | then-whole-gt0 w ↦
           ap (finished f whole) w.blocks-is
-          ∙ front_finished f whole c.args.blocks.now _ c.blocks_by_sixteen-whole.ensures.inside w.process_sixteens.ensures
+          ∙ front_finished f whole c.args.blocks.now _ c.blocks_by_sixteen-whole.ensures.inside w.process_on_planes.ensures
       | else-whole-gt0 w ↦ ap (finished f whole) w.blocks-is
           ∙ none_finished f whole c.args.blocks.now (omega (arith, w.if-whole-gt0.false))
     ] in

@@ -10,14 +10,14 @@ use Rattle.aes_hybrid.proofs.blocks.process_narrow.Goals.{then-whole-gt0, else-w
 pub returns : goal.returns
 returns g c =
     let f : List ℕ → List ℕ = g.D.Direction.processed (key_expansion (cipher_key c.args.keys.now)) in
-    let whole : ℕ = c.blocks_on_planes-whole.result in
+    let whole : ℕ = c.blocks_by_eight-whole.result in
     let batches : finished f whole c.if-whole-gt0.blocks ≡ map f c.args.blocks.now = elim c.if-whole-gt0.branch [
       | then-whole-gt0 w ↦
           ap (finished f whole) w.blocks-is
-          ∙ front_finished f whole c.args.blocks.now _ c.blocks_on_planes-whole.ensures.inside w.process_on_planes.ensures
+          ∙ front_finished f whole c.args.blocks.now _ c.blocks_by_eight-whole.ensures.inside w.process_on_planes.ensures
       | else-whole-gt0 w ↦ ap (finished f whole) w.blocks-is
           ∙ none_finished f whole c.args.blocks.now (omega (arith, w.if-whole-gt0.false))
     ] in
     end_finished f whole (length c.if-whole-gt0.blocks - whole) c.if-whole-gt0.blocks c.process_few.new.blocks
-    (omega (arith, c.if-whole-gt0.auto.blocks, c.blocks_on_planes-whole.ensures.inside)) refl c.process_few.ensures
+    (omega (arith, c.if-whole-gt0.auto.blocks, c.blocks_by_eight-whole.ensures.inside)) refl c.process_few.ensures
     ∙ batches

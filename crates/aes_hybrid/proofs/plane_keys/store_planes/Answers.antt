@@ -2,8 +2,8 @@
 use Rattle.std.proofs.Common.{◌≡◌, inl, inr, ℕ, ◌-◌, ◌*◌, length, refl, ap, sym, ◌∙◌, arith}
 use Rattle.std.proofs.lemmas.Bool.{cases_lt}
 use Rattle.aes_soft.proofs.WordsInPlace.{kept}
-use Rattle.aes_hybrid.proofs.PlaneKeys.{wanted, first_wanted, inner_wanted, last_wanted, planes_keyed, planes_key}
-use Rattle.aes_hybrid.proofs.PlaneKeys.{two_or_more, put_at}
+use Rattle.aes_hybrid.proofs.PlaneKeys.{wanted, first_wanted, inner_wanted, planes_keyed, planes_key}
+use Rattle.aes_hybrid.proofs.PlaneKeys.{two_or_more, put_at, all_put}
 use Rattle.aes_hybrid.proofs.plane_keys.store_planes.Goals as goal
 
 pub keys-init : goal.keys-init
@@ -40,33 +40,23 @@ keys-preserved g c =
     }
 
 pub returns-clause-is_schedule : goal.returns-clause-is_schedule
-returns-clause-is_schedule g c = planes_keyed g.W.Word.BLOCKS g.met.W.Word.shape.some_block _ c.args.keys.now c.requires.keyed _
-    (c.store_block-2.ensures.same_length ∙ c.keys.invariant.same_length) (λ j lt.
+returns-clause-is_schedule g c =
+    let n : ℕ = g.W.Word.BLOCKS in
     let keys = c.args.keys.now in
     let two = two_or_more keys c.requires.keyed in
-    let last : ℕ = length keys - 1 in
-    elim (cases_lt j last) [
-      | inl low ↦ kept g.W.Word.bits g.W.Word.BLOCKS c.keys.words c.store_block-2.new.words (8 * last) (8 * j) _
-          c.store_block-2.ensures.others (inl (omega arith))
-          (c.keys.invariant.done j (omega (arith, low, c.keys-test.false)))
-      | inr ge ↦
-          let same : last ≡ j = omega arith in
-          put_at g.W.Word.bits g.W.Word.BLOCKS c.store_block-2.new.words (8 * last) (8 * j) _ _ (omega (arith, same))
-          c.store_block-2.ensures.there (last_wanted keys two last refl ∙ ap (wanted keys two) same)
-    ])
+    planes_keyed n g.met.W.Word.shape.some_block _ keys c.requires.keyed _
+    (c.store_block-2.ensures.same_length ∙ c.keys.invariant.same_length)
+    (all_put g.W.Word.bits n keys two c.keys.words c.store_block-2.new.words
+    (λ j low. c.keys.invariant.done j (omega (arith, low, c.keys-test.false)))
+    c.store_block-2.ensures.others c.store_block-2.ensures.there)
 
 pub returns-clause-key : goal.returns-clause-key
-returns-clause-key g c = planes_key g.W.Word.BLOCKS g.met.W.Word.shape.some_block _ c.args.keys.now c.requires.keyed _
-    (c.store_block-2.ensures.same_length ∙ c.keys.invariant.same_length) (λ j lt.
+returns-clause-key g c =
+    let n : ℕ = g.W.Word.BLOCKS in
     let keys = c.args.keys.now in
     let two = two_or_more keys c.requires.keyed in
-    let last : ℕ = length keys - 1 in
-    elim (cases_lt j last) [
-      | inl low ↦ kept g.W.Word.bits g.W.Word.BLOCKS c.keys.words c.store_block-2.new.words (8 * last) (8 * j) _
-          c.store_block-2.ensures.others (inl (omega arith))
-          (c.keys.invariant.done j (omega (arith, low, c.keys-test.false)))
-      | inr ge ↦
-          let same : last ≡ j = omega arith in
-          put_at g.W.Word.bits g.W.Word.BLOCKS c.store_block-2.new.words (8 * last) (8 * j) _ _ (omega (arith, same))
-          c.store_block-2.ensures.there (last_wanted keys two last refl ∙ ap (wanted keys two) same)
-    ])
+    planes_key n g.met.W.Word.shape.some_block _ keys c.requires.keyed _
+    (c.store_block-2.ensures.same_length ∙ c.keys.invariant.same_length)
+    (all_put g.W.Word.bits n keys two c.keys.words c.store_block-2.new.words
+    (λ j low. c.keys.invariant.done j (omega (arith, low, c.keys-test.false)))
+    c.store_block-2.ensures.others c.store_block-2.ensures.there)

@@ -1,0 +1,10 @@
+-- What holds in the loop of `batches::copy_first`.
+use Rattle.std.proofs.Common.{◌≡◌, ◌≤◌, length, take}
+use Rattle.aes_hybrid.proofs.batches.copy_first.Given as goal
+
+abbrev pub invariant-copy : goal.invariant-copy
+invariant-copy g l = record {
+  inside : l.k ≤ l.count;
+  copied : take l.k l.to ≡ take l.k l.from;
+  sized : length l.to ≡ length l.fn.to;
+}
