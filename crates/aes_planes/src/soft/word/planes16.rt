@@ -122,7 +122,7 @@ pub(super) fn turned(x: u16x8, rows: u32, cols: u32) -> u16x8
 // The sum of two, bit by bit.
 #[tactic(auto, using(crate::proofs::Words::PlaneLanes::lanes_summed))]
 #[inline(always)]
-pub(super) fn summed(x: u16x8, y: u16x8) -> u16x8
+pub(super) fn sum_of_lanes(x: u16x8, y: u16x8) -> u16x8
     ensures { (p i : ℕ) → p < 8 → i < 16
         → bit (get_or result p 0) i ≡ xor (bit (get_or x p 0) i) (bit (get_or y p 0) i) }
 {
@@ -185,5 +185,5 @@ pub(super) fn columns_summed_from(x: u16x8, start: u16x8, idx_ror: u32) -> u16x8
     let sums = columns_summed(x);
     let column0 = turned_by(start, idx_ror) & u16x8::splat(0x1111);
     let added = columns_summed(column0);
-    summed(sums, added)
+    sum_of_lanes(sums, added)
 }

@@ -11,7 +11,7 @@ pub returns : goal.returns
 returns c p r q hp hr hq =
     let turned = c.turned_by.result in
     let first = zip2 bit_and turned (replicate 8 0x1111) in
-    c.summed.ensures p (4 * r + q) hp (omega arith)
+    c.sum_of_lanes.ensures p (4 * r + q) hp (omega arith)
     ∙ (λ t. xor (c.columns_summed-sums.ensures p r q hp hr hq t) (c.columns_summed-added.ensures p r q hp hr hq t))
     ∙ two_sums (λ e. bit (get_or c.args.x p 0) (4 * r + e)) (λ e. bit (get_or first p 0) (4 * r + e)) _
     (column0_bit turned p r 0 (omega arith) hp hr (omega arith) ∙ and-true _
