@@ -1,15 +1,5 @@
-//! Proved callers and tests of `aes`, `aes_permute`, `aes_hybrid`, `aes_rounds` and `aes_ctr`: the types, and modes over
-//! them.
+//! Tests of the types of `aes`, `aes_permute`, `aes_hybrid` and `aes_rounds`, and of the single rounds of `aes`.
 #![tactic(auto)]
 
-pub mod by_backend;
-pub mod by_key;
-pub mod callers;
-pub mod cbc;
-pub mod chaining_value;
-pub mod closures;
-pub mod counter_mode;
-pub mod generic;
-pub mod layers;
 #[cfg(test)]
 mod tests;

@@ -7,6 +7,10 @@ use aes_soft::soft::hazmat::{
     cipher_round, cipher_round_par, equiv_inv_cipher_round, equiv_inv_cipher_round_par,
     inv_mix_columns, mix_columns,
 };
+use standards::keys::PLAIN;
+use standards::rounds::{
+    INVERSE_MIXED, INVERSE_ROUND_KEYS, INVERSE_STATES, MIXED, ROUND_KEYS, STATES,
+};
 
 mod backend;
 mod ciphers;
@@ -45,82 +49,40 @@ fn around<W: Word>(start: Block) -> Block {
     state
 }
 
-// FIPS 197, appendix C.1, rounds 1 to 4 of the cipher.
+// FIPS 197, appendix C.1, rounds 1 to 8 of the cipher. S of 0 is 0x63, and equal bytes stay as they are under the other
+// steps.
 #[test]
 fn makes_rounds_of_the_cipher(rt: HostRuntime) {
-    let rows = [
-        [
-            block(0x00102030405060708090a0b0c0d0e0f0),
-            block(0xd6aa74fdd2af72fadaa678f1d6ab76fe),
-            block(0x89d810e8855ace682d1843d8cb128fe4),
-        ],
-        [
-            block(0x89d810e8855ace682d1843d8cb128fe4),
-            block(0xb692cf0b643dbdf1be9bc5006830b3fe),
-            block(0x4915598f55e5d7a0daca94fa1f0a63f7),
-        ],
-        [
-            block(0x4915598f55e5d7a0daca94fa1f0a63f7),
-            block(0xb6ff744ed2c2c9bf6c590cbf0469bf41),
-            block(0xfa636a2825b339c940668a3157244d17),
-        ],
-        [
-            block(0xfa636a2825b339c940668a3157244d17),
-            block(0x47f7f7bc95353e03f96c32bcfd058dfd),
-            block(0x247240236966b3fa6ed2753288425b6c),
-        ],
-        // S of 0 is 0x63, and equal bytes stay as they are under the other steps.
-        [[0; 16], [0; 16], [0x63; 16]],
-    ];
-    for [start, round_key, wanted] in rows {
-        assert_eq!(rt; rounds::<u16>(start, &round_key)[0], wanted);
+    for i in 0..8usize {
+        let [forward, _] = rounds::<u16>(block(STATES[i]), &block(ROUND_KEYS[i]));
+        assert_eq!(rt; forward, block(STATES[i + 1]), "round {i}");
     }
+    assert_eq!(rt; rounds::<u16>([0; 16], &[0; 16])[0], [0x63; 16]);
 }
 
-// FIPS 197, appendix C.1, rounds 1 to 4 of the equivalent inverse cipher.
+// FIPS 197, appendix C.1, rounds 1 to 8 of the equivalent inverse cipher.
 #[test]
 fn makes_rounds_of_the_equivalent_inverse_cipher(rt: HostRuntime) {
-    let rows = [
-        [
-            block(0x7ad5fda789ef4e272bca100b3d9ff59f),
-            block(0x13aa29be9c8faff6f770f58000f7bf03),
-            block(0x54d990a16ba09ab596bbf40ea111702f),
-        ],
-        [
-            block(0x54d990a16ba09ab596bbf40ea111702f),
-            block(0x1362a4638f2586486bff5a76f7874a83),
-            block(0x3e1c22c0b6fcbf768da85067f6170495),
-        ],
-        [
-            block(0x3e1c22c0b6fcbf768da85067f6170495),
-            block(0x8d82fc749c47222be4dadc3e9c7810f5),
-            block(0xb458124c68b68a014b99f82e5f15554c),
-        ],
-        [
-            block(0xb458124c68b68a014b99f82e5f15554c),
-            block(0x72e3098d11c5de5f789dfe1578a2cccb),
-            block(0xe8dab6901477d4653ff7f5e2e747dd4f),
-        ],
-        [[0x63; 16], [0; 16], [0; 16]],
-    ];
-    for [start, round_key, wanted] in rows {
-        assert_eq!(rt; rounds::<u16>(start, &round_key)[1], wanted);
+    for i in 0..8usize {
+        let [_, back] = rounds::<u16>(block(INVERSE_STATES[i]), &block(INVERSE_ROUND_KEYS[i]));
+        assert_eq!(rt; back, block(INVERSE_STATES[i + 1]), "round {i}");
     }
+    assert_eq!(rt; rounds::<u16>([0x63; 16], &[0; 16])[1], [0; 16]);
 }
 
-// FIPS 197, appendix C.1: round 1 of the cipher, and round 1 of the equivalent inverse cipher.
+// FIPS 197, appendix C.1: round 1 of the cipher, and round 1 of the inverse cipher.
 #[test]
 fn mixes_columns_both_ways(rt: HostRuntime) {
-    let [forward, _] = mixed::<u16>(block(0x6353e08c0960e104cd70b751bacad0e7));
-    assert_eq!(rt; forward, block(0x5f72641557f5bc92f7be3b291db9f91a));
-    let [_, back] = mixed::<u16>(block(0xbd6e7c3df2b5779e0b61216e8b10b689));
-    assert_eq!(rt; back, block(0x4773b91ff72f354361cb018ea1e6cf2c));
+    let [forward, _] = mixed::<u16>(block(MIXED[0]));
+    assert_eq!(rt; forward, block(MIXED[1]));
+    let [_, back] = mixed::<u16>(block(INVERSE_MIXED[0]));
+    assert_eq!(rt; back, block(INVERSE_MIXED[1]));
     assert_eq!(rt; mixed::<u16>([0x63; 16]), [[0x63; 16], [0x63; 16]]);
 }
 
 #[test]
 fn comes_back_around_under_the_zero_key(rt: HostRuntime) {
-    let start = block(0x00112233445566778899aabbccddeeff);
+    let start = block(PLAIN);
     assert_eq!(rt; around::<u16>(start), start);
 }
 
@@ -141,15 +103,15 @@ fn makes_eight_rounds_at_once(rt: HostRuntime) {
     let mut blocks = [[0u8; 16]; 8];
     let mut keys = [[0u8; 16]; 8];
     for i in 0..8usize {
-        blocks[i] = block(0x00102030405060708090a0b0c0d0e0f0 + 77 * i as u128);
-        keys[i] = block(0xd6aa74fdd2af72fadaa678f1d6ab76fe - 991 * i as u128);
+        blocks[i] = block(STATES[0] + 77 * i as u128);
+        keys[i] = block(ROUND_KEYS[0] - 991 * i as u128);
     }
     let wanted = rounds_at_once::<u16>(blocks, &keys);
     for i in 0..8usize {
         assert_eq!(rt; wanted[0][i], rounds::<u16>(blocks[i], &keys[i])[0]);
         assert_eq!(rt; wanted[1][i], rounds::<u16>(blocks[i], &keys[i])[1]);
     }
-    assert_eq!(rt; wanted[0][0], block(0x89d810e8855ace682d1843d8cb128fe4));
+    assert_eq!(rt; wanted[0][0], block(STATES[1]));
     assert_eq!(rt; rounds_at_once::<u32>(blocks, &keys), wanted);
     assert_eq!(rt; rounds_at_once::<u64>(blocks, &keys), wanted);
     assert_eq!(rt; rounds_at_once::<u128>(blocks, &keys), wanted);

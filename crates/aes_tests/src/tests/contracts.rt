@@ -5,12 +5,12 @@ ghost use Rattle.aes_planes.specs.Each.{Each};
 ghost use Rattle.aes_planes.specs.Fips197 as fips;
 ghost use Rattle.aes_soft.specs.Batches.{layers_for};
 
-use super::blocks::different_blocks;
 use aes::{Aes128, Aes128Dec, Aes192, Aes256Enc};
 use aes_cipher::cipher::{BlockCipherDecrypt, BlockCipherEncrypt, KeyInit};
 use aes_permute as permute;
 use aes_planes::soft::sbox::Layers;
 use aes_planes::soft::word::Block;
+use standards::blocks::different_blocks;
 
 // A block encrypted under a value's key.
 fn encrypt_192(cipher: &Aes192, block: &mut Block)

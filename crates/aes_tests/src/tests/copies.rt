@@ -1,6 +1,5 @@
 //! Making values from keys and from other values, and wiping them.
 
-use super::keys::{BY_128, BY_192, BY_256, KEY_128, KEY_192, KEY_256, PLAIN};
 use aes::FixslicedAes;
 use aes_cipher::aes::{Bits128, Bits192, Bits256, BothWays, KeySize};
 use aes_cipher::cipher::{
@@ -8,6 +7,10 @@ use aes_cipher::cipher::{
 };
 use aes_cipher::zeroize::ZeroizeOnDrop;
 use aes_permute::keys;
+use standards::keys::{
+    BY_128, BY_192, BY_256, KEY_128, KEY_192, KEY_256, PLAIN, ZEROS_BY_128, ZEROS_BY_192,
+    ZEROS_BY_256,
+};
 use std::test::Fail;
 
 // Whether slices of 0 to 64 bytes are taken as keys exactly where they are as long as a key, and blocks have 16 bytes.
@@ -146,16 +149,12 @@ fn wipes_permuted_in_place<K: KeySize>(key: &K::Key, zeros_encrypted: u128) -> b
     )
 }
 
-// The blocks are those of the zero keys in `standards`.
 #[test]
 fn leaves_the_zero_key_after_a_wipe(rt: HostRuntime) {
-    let by_128 = 0x66e94bd4ef8a2c3b884cfa59ca342b2e;
-    let by_192 = 0xaae06992acbf52a3e8f4a96ec9300bd7;
-    let by_256 = 0xdc95c078a2408989ad48a21492842087;
-    assert!(rt; wipes_in_place::<Bits128>(&KEY_128, by_128));
-    assert!(rt; wipes_in_place::<Bits192>(&KEY_192, by_192));
-    assert!(rt; wipes_in_place::<Bits256>(&KEY_256, by_256));
-    assert!(rt; wipes_permuted_in_place::<Bits128>(&KEY_128, by_128));
-    assert!(rt; wipes_permuted_in_place::<Bits192>(&KEY_192, by_192));
-    assert!(rt; wipes_permuted_in_place::<Bits256>(&KEY_256, by_256));
+    assert!(rt; wipes_in_place::<Bits128>(&KEY_128, ZEROS_BY_128));
+    assert!(rt; wipes_in_place::<Bits192>(&KEY_192, ZEROS_BY_192));
+    assert!(rt; wipes_in_place::<Bits256>(&KEY_256, ZEROS_BY_256));
+    assert!(rt; wipes_permuted_in_place::<Bits128>(&KEY_128, ZEROS_BY_128));
+    assert!(rt; wipes_permuted_in_place::<Bits192>(&KEY_192, ZEROS_BY_192));
+    assert!(rt; wipes_permuted_in_place::<Bits256>(&KEY_256, ZEROS_BY_256));
 }

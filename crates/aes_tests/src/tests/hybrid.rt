@@ -9,14 +9,8 @@ use aes_ctr::add_keystream;
 use aes_hybrid::widths::{Narrow, Wide, Width};
 use aes_hybrid::{Aes256, Aes256Dec, Hybrid, wide};
 use aes_permute::keys::{OneWay, TwoWays};
+use standards::keys::{BY_128, BY_192, BY_256, KEY_128, KEY_192, KEY_256, PLAIN};
 use std::test::Fail;
-
-const COUNTED: [u8; 32] = [
-    0x00, 0x01, 0x02, 0x03, 0x04, 0x05, 0x06, 0x07, 0x08, 0x09, 0x0a, 0x0b, 0x0c, 0x0d, 0x0e, 0x0f,
-    0x10, 0x11, 0x12, 0x13, 0x14, 0x15, 0x16, 0x17, 0x18, 0x19, 0x1a, 0x1b, 0x1c, 0x1d, 0x1e, 0x1f,
-];
-
-const PLAIN: u128 = 0x00112233445566778899aabbccddeeff;
 
 // Whether seven blocks and nineteen come out as the standard says, and come back.
 fn there_and_back<C: BlockCipherEncrypt + BlockCipherDecrypt>(cipher: &C, wanted: u128) -> bool {
@@ -42,16 +36,12 @@ fn goes_there_and_back<K: KeySize, W: Width>(key: &K::Key, wanted: u128) -> bool
 
 #[test]
 fn encrypts_and_decrypts_few_and_many(rt: HostRuntime) {
-    let short = COUNTED[..16].as_array::<16>().unwrap();
-    let middle = COUNTED[..24].as_array::<24>().unwrap();
-    assert!(rt; goes_there_and_back::<Bits128, Narrow>(short, 0x69c4e0d86a7b0430d8cdb78070b4c55a));
-    assert!(rt; goes_there_and_back::<Bits128, Wide>(short, 0x69c4e0d86a7b0430d8cdb78070b4c55a));
-    assert!(rt; goes_there_and_back::<Bits192, Narrow>(middle, 0xdda97ca4864cdfe06eaf70a0ec0d7191));
-    assert!(rt; goes_there_and_back::<Bits192, Wide>(middle, 0xdda97ca4864cdfe06eaf70a0ec0d7191));
-    assert!(rt;
-        goes_there_and_back::<Bits256, Narrow>(&COUNTED, 0x8ea2b7ca516745bfeafc49904b496089)
-    );
-    assert!(rt; goes_there_and_back::<Bits256, Wide>(&COUNTED, 0x8ea2b7ca516745bfeafc49904b496089));
+    assert!(rt; goes_there_and_back::<Bits128, Narrow>(&KEY_128, BY_128));
+    assert!(rt; goes_there_and_back::<Bits128, Wide>(&KEY_128, BY_128));
+    assert!(rt; goes_there_and_back::<Bits192, Narrow>(&KEY_192, BY_192));
+    assert!(rt; goes_there_and_back::<Bits192, Wide>(&KEY_192, BY_192));
+    assert!(rt; goes_there_and_back::<Bits256, Narrow>(&KEY_256, BY_256));
+    assert!(rt; goes_there_and_back::<Bits256, Wide>(&KEY_256, BY_256));
 }
 
 // Whether keystream is the same whole and cut, and the same once more takes it away.
@@ -73,8 +63,8 @@ fn encrypting_adds_the_same_cut<K: KeySize, W: Width>(key: &K::Key) -> bool {
 
 #[test]
 fn adds_the_same_keystream_whole_and_cut(rt: HostRuntime) {
-    assert!(rt; encrypting_adds_the_same_cut::<Bits256, Narrow>(&COUNTED));
-    assert!(rt; encrypting_adds_the_same_cut::<Bits256, Wide>(&COUNTED));
+    assert!(rt; encrypting_adds_the_same_cut::<Bits256, Narrow>(&KEY_256));
+    assert!(rt; encrypting_adds_the_same_cut::<Bits256, Wide>(&KEY_256));
 }
 
 // Nineteen blocks, enough for planes and for permutations, encrypted.
@@ -111,28 +101,20 @@ fn copies_keep_the_key<K: KeySize, W: Width>(key: &K::Key, wanted: u128) -> Resu
 // FIPS 197, appendix C.
 #[test]
 fn clones_and_converts(rt: HostRuntime) -> Result<(), Fail> {
-    let short = COUNTED[..16].as_array::<16>().unwrap();
-    let middle = COUNTED[..24].as_array::<24>().unwrap();
-    assert!(rt; copies_keep_the_key::<Bits128, Narrow>(short, 0x69c4e0d86a7b0430d8cdb78070b4c55a)?);
-    assert!(rt; copies_keep_the_key::<Bits128, Wide>(short, 0x69c4e0d86a7b0430d8cdb78070b4c55a)?);
-    assert!(rt;
-        copies_keep_the_key::<Bits192, Narrow>(middle, 0xdda97ca4864cdfe06eaf70a0ec0d7191)?
-    );
-    assert!(rt; copies_keep_the_key::<Bits192, Wide>(middle, 0xdda97ca4864cdfe06eaf70a0ec0d7191)?);
-    assert!(rt;
-        copies_keep_the_key::<Bits256, Narrow>(&COUNTED, 0x8ea2b7ca516745bfeafc49904b496089)?
-    );
-    assert!(rt;
-        copies_keep_the_key::<Bits256, Wide>(&COUNTED, 0x8ea2b7ca516745bfeafc49904b496089)?
-    );
+    assert!(rt; copies_keep_the_key::<Bits128, Narrow>(&KEY_128, BY_128)?);
+    assert!(rt; copies_keep_the_key::<Bits128, Wide>(&KEY_128, BY_128)?);
+    assert!(rt; copies_keep_the_key::<Bits192, Narrow>(&KEY_192, BY_192)?);
+    assert!(rt; copies_keep_the_key::<Bits192, Wide>(&KEY_192, BY_192)?);
+    assert!(rt; copies_keep_the_key::<Bits256, Narrow>(&KEY_256, BY_256)?);
+    assert!(rt; copies_keep_the_key::<Bits256, Wide>(&KEY_256, BY_256)?);
     Ok(())
 }
 
 // The names are those of the Rust crate.
 #[test]
 fn writes_its_name_and_nothing_of_the_key(rt: HostRuntime) -> Result<(), Fail> {
-    let dec = Aes256Dec::new_from_slice(&COUNTED).unwrap();
-    let sixteens = wide::Aes256Dec::new_from_slice(&COUNTED).unwrap();
+    let dec = Aes256Dec::new_from_slice(&KEY_256).unwrap();
+    let sixteens = wide::Aes256Dec::new_from_slice(&KEY_256).unwrap();
     assert!(rt; format!(in rt.alloc(); "{dec:?}")?.as_str() == "Aes256Dec { .. }");
     assert!(rt; format!(in rt.alloc(); "{sixteens:?}")?.as_str() == "Aes256Dec { .. }");
     Ok(())
@@ -162,5 +144,5 @@ fn widths_agree(narrow: &Aes256, sixteens: &wide::Aes256) -> bool {
 
 #[test]
 fn both_widths_answer_the_same_for_every_count(rt: HostRuntime) {
-    assert!(rt; widths_agree(&Aes256::new(&COUNTED), &wide::Aes256::new(&COUNTED)));
+    assert!(rt; widths_agree(&Aes256::new(&KEY_256), &wide::Aes256::new(&KEY_256)));
 }

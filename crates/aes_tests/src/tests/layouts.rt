@@ -1,12 +1,12 @@
 //! The two layouts of round keys and the types, on every word and in every slot.
 
-use super::blocks::different_blocks;
 use aes::{Block, FixslicedAes};
 use aes_cipher::aes::{Bits128, Bits192, Bits256, BothWays, KeySize};
 use aes_cipher::cipher::{BlockCipherDecrypt, BlockCipherEncrypt, KeyInit};
 use aes_planes::soft::sbox::Layers;
 use aes_planes::soft::word::{Batch, Word};
 use aes_soft::soft::{compact, full};
+use standards::blocks::different_blocks;
 
 // As many different blocks as a word holds.
 fn batch<B: Batch>() -> B {

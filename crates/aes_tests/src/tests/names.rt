@@ -1,10 +1,10 @@
 //! What is written as text: names, and nothing of a key.
 
-use super::keys::{KEY_128, KEY_192, KEY_256};
 use aes::FixslicedAes;
 use aes_cipher::aes::{Bits128, Bits192, Bits256, BothWays, KeySize};
 use aes_cipher::cipher::{AlgorithmName, Decrypt, Encrypt, KeyInit, KeySizeUser};
 use aes_permute::keys::{OneWay, TwoWays};
+use standards::keys::{KEY_128, KEY_192, KEY_256};
 use std::fmt;
 use std::marker::PhantomData;
 use std::test::Fail;

@@ -1,8 +1,8 @@
 //! Values that come from one another, dropped in every order, and values that are written.
 
-use super::keys::{BY_128, BY_256, KEY_128, KEY_256, PLAIN};
 use aes::{Aes128, Aes128Dec, Aes128Enc, Aes256Enc, Block};
 use aes_cipher::cipher::{AlgorithmName, BlockCipherDecrypt, BlockCipherEncrypt, KeyInit};
+use standards::keys::{BY_128, BY_256, KEY_128, KEY_256, PLAIN};
 use std::fmt;
 use std::fmt::Write;
 use std::test::Fail;

@@ -9,6 +9,7 @@ use aes_cipher::cipher::{
     BlockCipherEncBackend, BlockCipherEncClosure, BlockCipherEncrypt, BlockSizeUser, NotEqualError,
     ParBlocksSizeUser,
 };
+use standards::expansions::ROUND_KEYS_A1;
 use std::fmt;
 use std::test::Fail;
 
@@ -21,17 +22,11 @@ const OUTPUT: Block = [
     0x39, 0x25, 0x84, 0x1d, 0x02, 0xdc, 0x09, 0xfb, 0xdc, 0x11, 0x85, 0x97, 0x19, 0x6a, 0x0b, 0x32,
 ];
 
-// The cipher that is left of that example: its round keys are 9 and 10 there.
+// The cipher that is left of that example, whose key is that of appendix A.1: its round keys are 9 and 10 there.
 pub(crate) fn rest_of_the_example() -> OneRound {
     OneRound {
-        first: [
-            0xac, 0x77, 0x66, 0xf3, 0x19, 0xfa, 0xdc, 0x21, 0x28, 0xd1, 0x29, 0x41, 0x57, 0x5c,
-            0x00, 0x6e,
-        ],
-        last: [
-            0xd0, 0x14, 0xf9, 0xa8, 0xc9, 0xee, 0x25, 0x89, 0xe1, 0x3f, 0x0c, 0xc8, 0xb6, 0x63,
-            0x0c, 0xa6,
-        ],
+        first: ROUND_KEYS_A1[9].to_be_bytes(),
+        last: ROUND_KEYS_A1[10].to_be_bytes(),
     }
 }
 

@@ -14,15 +14,13 @@ use aes_planes::soft::utils::{
     straddle_columns, sum_of_blocks, summed_columns, xor_columns,
 };
 use aes_planes::soft::word::{Batch, Block, Word};
+use standards::expansions::ROUND_KEYS_A1;
+use standards::keys::KEY_A1;
 
-// The key of FIPS 197, appendix A.1, and its round key 1, which is w4 to w7 there.
-const KEY: Block = [
-    0x2b, 0x7e, 0x15, 0x16, 0x28, 0xae, 0xd2, 0xa6, 0xab, 0xf7, 0x15, 0x88, 0x09, 0xcf, 0x4f, 0x3c,
-];
-
-const ROUND_KEY: Block = [
-    0xa0, 0xfa, 0xfe, 0x17, 0x88, 0x54, 0x2c, 0xb1, 0x23, 0xa3, 0x39, 0x39, 0x2a, 0x6c, 0x76, 0x05,
-];
+// Round key 1 of the key of FIPS 197, appendix A.1.
+fn round_key_1() -> Block {
+    ROUND_KEYS_A1[1].to_be_bytes()
+}
 
 // The state in round 1 of FIPS 197, appendix B: after SubBytes, ShiftRows, MixColumns and AddRoundKey.
 const SUBSTITUTED: Block = [
@@ -206,28 +204,28 @@ fn mixes_columns(rt: HostRuntime) {
 
 #[test]
 fn adds_a_round_key(rt: HostRuntime) {
-    assert_eq!(rt; added::<u16>(MIXED, ROUND_KEY), ADDED);
-    assert_eq!(rt; added::<u128>(MIXED, ROUND_KEY), ADDED);
-    assert_eq!(rt; sum_of_blocks(&MIXED, &ROUND_KEY), ADDED);
+    assert_eq!(rt; added::<u16>(MIXED, round_key_1()), ADDED);
+    assert_eq!(rt; added::<u128>(MIXED, round_key_1()), ADDED);
+    assert_eq!(rt; sum_of_blocks(&MIXED, &round_key_1()), ADDED);
 }
 
 #[test]
 fn makes_a_round_key(rt: HostRuntime) {
-    assert_eq!(rt; next_round_key::<u16>(KEY), [ROUND_KEY; 2]);
-    assert_eq!(rt; next_round_key::<u32>(KEY), [ROUND_KEY; 2]);
-    assert_eq!(rt; next_round_key::<u64>(KEY), [ROUND_KEY; 2]);
-    assert_eq!(rt; next_round_key::<u128>(KEY), [ROUND_KEY; 2]);
+    assert_eq!(rt; next_round_key::<u16>(KEY_A1), [round_key_1(); 2]);
+    assert_eq!(rt; next_round_key::<u32>(KEY_A1), [round_key_1(); 2]);
+    assert_eq!(rt; next_round_key::<u64>(KEY_A1), [round_key_1(); 2]);
+    assert_eq!(rt; next_round_key::<u128>(KEY_A1), [round_key_1(); 2]);
 }
 
 #[test]
 fn straddles_columns(rt: HostRuntime) {
     let mut want = [0; 16];
     for i in 0..8usize {
-        want[i] = KEY[8 + i];
-        want[8 + i] = ROUND_KEY[i];
+        want[i] = KEY_A1[8 + i];
+        want[8 + i] = round_key_1()[i];
     }
-    assert_eq!(rt; straddled::<u16>(&KEY, &ROUND_KEY), want);
-    assert_eq!(rt; straddled::<u128>(&KEY, &ROUND_KEY), want);
+    assert_eq!(rt; straddled::<u16>(&KEY_A1, &round_key_1()), want);
+    assert_eq!(rt; straddled::<u128>(&KEY_A1, &round_key_1()), want);
 }
 
 #[test]

@@ -2,13 +2,13 @@
 
 ghost use Rattle.std.specs.Prelude.{◌≡◌};
 
-use crate::blocks::different_blocks;
-use crate::keys::{BY_128, BY_192, BY_256, KEY_128, KEY_192, KEY_256, PLAIN};
 use aes_cipher::cipher::{BlockCipherDecBackend, BlockCipherEncBackend, ParBlocksSizeUser};
 use aes_planes::soft::sbox::Layers;
 use aes_planes::soft::word::Block;
 use aes_soft::soft::blocks::{Aes128Backend, Aes192Backend, Aes256Backend};
 use aes_soft::soft::full;
+use standards::blocks::different_blocks;
+use standards::keys::{BY_128, BY_192, BY_256, KEY_128, KEY_192, KEY_256, PLAIN};
 
 // Eight different blocks, in slot 5 that of FIPS 197, appendix C.
 fn batch() -> [Block; 8] {

@@ -1,14 +1,16 @@
 //! Schedules and ciphers of both layouts and three sizes, on four words, against values from outside.
 
 use super::block;
-use crate::blocks::blocks;
-use crate::keys::{
-    BY_128, BY_192, BY_256, KEY_128, KEY_192, KEY_256, KEY_A1, KEY_A2, KEY_A3, PLAIN,
-};
 use aes_planes::soft::sbox::Layers;
 use aes_planes::soft::word::{Batch, Block, Word};
 use aes_soft::soft::full::widen;
 use aes_soft::soft::{compact, full};
+use standards::blocks;
+use standards::blocks::{ENCRYPTED_128, ENCRYPTED_192, ENCRYPTED_256};
+use standards::keys::{
+    BY_128, BY_192, BY_256, KEY_128, KEY_192, KEY_256, KEY_A1, KEY_A2, KEY_A3, PLAIN, ZEROS_BY_128,
+    ZEROS_BY_192, ZEROS_BY_256,
+};
 
 // Whether eight blocks are encrypted as wanted and decrypted again, each in each slot of a word, beside seven others.
 macro_rules! works {
@@ -90,74 +92,65 @@ fn full_256_on_words(key: &[u8; 32], plain: &[Block; 8], wanted: &[Block; 8]) ->
     on_words!(full_256, key, plain, wanted)
 }
 
-// The four blocks of SP 800-38A, appendix F, and four more.
-const EXAMPLES: [u128; 8] = [
-    0x6bc1bee22e409f96e93d7e117393172a,
-    0xae2d8a571e03ac9c9eb76fac45af8e51,
-    0x30c81c46a35ce411e5fbc1191a0a52ef,
-    0xf69f2445df4f9b17ad2b417be66c3710,
+// Four blocks beside those of SP 800-38A, F.1.
+const MORE: [u128; 4] = [
     0x00112233445566778899aabbccddeeff,
     0xffeeddccbbaa99887766554433221100,
     0x000102030405060708090a0b0c0d0e0f,
     0x00000000000000000000000000000001,
 ];
 
-// The first four under the key of appendix F.1.1 of SP 800-38A, the others by OpenSSL 3.0.
-const WANTED_128: [u128; 8] = [
-    0x3ad77bb40d7a3660a89ecaf32466ef97,
-    0xf5d3d58503b9699de785895a96fdbaaf,
-    0x43b1cd7f598ece23881b00e3ed030688,
-    0x7b0c785e27e8ad3f8223207104725dd4,
+// The same under the key of 16 bytes there, by OpenSSL 3.0.
+const MORE_BY_128: [u128; 4] = [
     0x8df4e9aac5c7573a27d8d055d6e4d64b,
     0x2f49671c7ab81b2f435d9b650e35b8c1,
     0x50fe67cc996d32b6da0937e99bafec60,
     0x57127d4034b1bebfaef466b9c7726fc6,
 ];
 
-// The first four under the key of appendix F.1.3, the others by OpenSSL.
-const WANTED_192: [u128; 8] = [
-    0xbd334f1d6e45f25ff712a214571fa5cc,
-    0x974104846d0ad3ad7734ecb3ecee4eef,
-    0xef7afd2270e2e60adce0ba2face6444e,
-    0x9a4b41ba738d6c72fb16691603c18e0e,
+// Under the key of 24 bytes, by OpenSSL.
+const MORE_BY_192: [u128; 4] = [
     0xeb1b03f2acb64bcf28c9991cc8a4fa50,
     0x753a182b1a858cb50fef422f827f9337,
     0xa609b38df3b1133dddff2718ba09565e,
     0xfeb3c2eea1ccddfa4fd29b0d3ef4173d,
 ];
 
-// The first four under the key of appendix F.1.5, the others by OpenSSL.
-const WANTED_256: [u128; 8] = [
-    0xf3eed1bdb5d2a03c064b5a7e3db181f8,
-    0x591ccb10d410ed26dc5ba74a31362870,
-    0xb6ed21b99ca6f4f9f153e7b1beafed1d,
-    0x23304b7a39f9f3ff067d8d8f9e24ecc7,
+// Under the key of 32 bytes, by OpenSSL.
+const MORE_BY_256: [u128; 4] = [
     0xd83414223d20a0c928b136c884d07ea2,
     0x576436b0ed2a75ef808213d478aa53c1,
     0xb7bf3a5df43989dd97f0fa97ebce2f4a,
     0x91151e5d0b7a1f1bc0d7acd0ae3e51e4,
 ];
 
+// Four blocks and four more, by their digits.
+fn eight(first: &[u128; 4], more: &[u128; 4]) -> [Block; 8] {
+    let [a, b, c, d] = blocks::blocks(first);
+    let [e, f, g, h] = blocks::blocks(more);
+    [a, b, c, d, e, f, g, h]
+}
+
 #[test]
 fn encrypts_and_decrypts_under_keys_of_16_bytes(rt: HostRuntime) {
-    let plain = blocks(&EXAMPLES);
-    let wanted = blocks(&WANTED_128);
+    let plain = eight(&blocks::PLAIN, &MORE);
+    let wanted = eight(&ENCRYPTED_128, &MORE_BY_128);
     assert!(rt; compact_128_on_words(&KEY_A1, &plain, &wanted));
     assert!(rt; full_128_on_words(&KEY_A1, &plain, &wanted));
 }
 
 #[test]
 fn encrypts_and_decrypts_under_keys_of_24_bytes(rt: HostRuntime) {
-    let plain = blocks(&EXAMPLES);
-    let wanted = blocks(&WANTED_192);
+    let plain = eight(&blocks::PLAIN, &MORE);
+    let wanted = eight(&ENCRYPTED_192, &MORE_BY_192);
     assert!(rt; compact_192_on_words(&KEY_A2, &plain, &wanted));
     assert!(rt; full_192_on_words(&KEY_A2, &plain, &wanted));
 }
 
 #[test]
 fn encrypts_and_decrypts_under_keys_of_32_bytes(rt: HostRuntime) {
-    let plain = blocks(&EXAMPLES);
-    let wanted = blocks(&WANTED_256);
+    let plain = eight(&blocks::PLAIN, &MORE);
+    let wanted = eight(&ENCRYPTED_256, &MORE_BY_256);
     assert!(rt; compact_256_on_words(&KEY_A3, &plain, &wanted));
     assert!(rt; full_256_on_words(&KEY_A3, &plain, &wanted));
 }
@@ -172,11 +165,7 @@ fn encrypts_and_decrypts_the_standards_blocks(rt: HostRuntime) {
             [0; 24],
             [0; 32],
             0,
-            [
-                0x66e94bd4ef8a2c3b884cfa59ca342b2e,
-                0xaae06992acbf52a3e8f4a96ec9300bd7,
-                0xdc95c078a2408989ad48a21492842087,
-            ],
+            [ZEROS_BY_128, ZEROS_BY_192, ZEROS_BY_256],
         ),
     ];
     for (key_128, key_192, key_256, start, wanted) in rows {

@@ -1,0 +1,9 @@
+//! What no clause says: that the callers answer, with the standards' values, over every type.
+
+mod by_key;
+mod callers;
+mod closures;
+mod counter_mode;
+mod modes;
+mod slices;
+mod ways;

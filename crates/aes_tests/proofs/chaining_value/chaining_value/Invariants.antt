@@ -1,7 +1,0 @@
--- What holds in the loop of `chaining_value::chaining_value`.
-use Rattle.std.proofs.Common.{◌≡◌}
-use Rattle.aes_tests.specs.ChainingValue.{value_after}
-use Rattle.aes_tests.proofs.chaining_value.chaining_value.Given as goal
-
-abbrev pub invariant-loop-i : goal.invariant-loop-i
-invariant-loop-i g l = l.value ≡ value_after (g.C.RoundKeysUser.round_keys l.cipher) l.blocks l.i

@@ -1,6 +1,0 @@
--- What holds in the loop of `counter_mode::tests::apply_in_pieces`.
-use Rattle.std.proofs.Common.{◌≤◌, length}
-use Rattle.aes_tests.proofs.counter_mode.tests.apply_in_pieces.Given as goal
-
-abbrev pub invariant-loop-piece : goal.invariant-loop-piece
-invariant-loop-piece g l = l.from ≤ length l.bytes

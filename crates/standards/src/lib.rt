@@ -1,0 +1,8 @@
+//! Keys, blocks and answers that the standards print or OpenSSL gives, and blocks that differ, for the tests of all crates.
+#![tactic(auto)]
+
+pub mod blocks;
+pub mod examples;
+pub mod expansions;
+pub mod keys;
+pub mod rounds;
