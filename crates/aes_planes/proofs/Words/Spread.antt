@@ -1,16 +1,109 @@
 -- The bits of a block's word spread over the slots of a wider one.
-use Rattle.std.proofs.Common.{◌≡◌, ℕ, ◌+◌, ◌-◌, ◌*◌, ◌/◌, ◌%◌, ◌^◌, ◌<◌, ◌==◌, Bool, true, false}
-use Rattle.std.proofs.Common.{cond, bit_and, List, [], ◌∷◌, ◌++◌, get_or, nat_eq, refl}
-use Rattle.std.proofs.Common.{ap, ◌∙◌, arith, inl, inr}
-use Rattle.std.proofs.lemmas.Bool.{eqb-true, cases_lt}
+use Rattle.std.proofs.Common.{◌≡◌, ℕ, ◌+◌, ◌-◌, ◌*◌, ◌/◌, ◌%◌, ◌^◌, ◌<◌, ◌==◌, Bool, true, false, not, ◌&&◌}
+use Rattle.std.proofs.Common.{◌||◌, cond, nat_le, nat_lt, bit_and, bit_or, List, [], ◌∷◌, ◌++◌, get_or, nat_eq, refl}
+use Rattle.std.proofs.Common.{ap, sym, ◌∙◌, arith, inl, inr}
+use Rattle.std.proofs.Math.Bool.{and-false, and-true, and_assoc, or-false, or_self}
+use Rattle.std.proofs.lemmas.Bool.{eqb-true, and_parts, not-true, cases_lt, lt-ltb, le-ltb}
 use Rattle.std.proofs.lemmas.List.{get_or_append_left, get_or-append_right}
 use lib.Lanes.{top}
 use Rattle.aes_planes.specs.Bits.{bit, Places}
 use Rattle.aes_planes.specs.Private.Lanes.{lane_bits}
-use Rattle.aes_planes.proofs.Bits.ByteCases.{all_below, all_pairs_tell, by_two}
-use Rattle.aes_planes.proofs.Bits.NumberBits.{Places-build, bit_low, bit_shr, bit_zero, bit_ones}
-use Rattle.aes_planes.proofs.Bits.NumberBits.{word_zero, word_low_byte}
+use Rattle.aes_planes.proofs.Bits.ByteCases.{all_below, all_below_tells, all_pairs_tell, by_two}
+use Rattle.aes_planes.proofs.Bits.NumberBits.{Places-build, bit_low, bit_shl, bit_shr, bit_above, bit_zero, bit_ones}
+use Rattle.aes_planes.proofs.Bits.NumberBits.{bit_of_and, bit_of_or, word_zero, word_low_byte}
 use Rattle.aes_planes.proofs.Words.LaneBits.{lane_operators}
+
+-- ---- bits drawn apart
+
+-- bit i of a word or-ed with its shift by s, under a mask, is bit i or bit i - s where the mask has a one
+pub drawn_bit : (s m x i : ℕ) → i < 64 → bit (bit_and (bit_or x (x * 2 ^ s % 2 ^ 64)) m) i
+    ≡ ((bit x i || (nat_le s i && bit x (i - s))) && bit m i)
+drawn_bit s m x i h = bit_of_and (bit_or x (x * 2 ^ s % 2 ^ 64)) m i
+    ∙ ap (λ b. b && bit m i) (bit_of_or x (x * 2 ^ s % 2 ^ 64) i ∙ ap (λ b. bit x i || b) (bit_shl 64 x s i h))
+
+-- the first of two bits that may stand here, or the second, under a mask: the bit that shall stand here
+joined_right : Bool → Bool → Bool → Bool → Bool → Bool → Bool
+joined_right p q false o e f = not o
+joined_right p q true false e f = not p && not q
+joined_right true q true true e f = e && (not q || f)
+joined_right false q true true e f = q && f
+
+second : (q : Bool) (x : ℕ → Bool) (v w : ℕ) → (not q || (v == w)) ≡ true → (x w || (q && x v)) ≡ x w
+second true x v w h = ap (λ k. x w || x k) (eqb-true v w h) ∙ or_self (x w)
+second false x v w h = or-false (x w)
+
+joined : (p q b o : Bool) (x : ℕ → Bool) (u v w : ℕ) → joined_right p q b o (u == w) (v == w) ≡ true
+    → (((p && x u) || (q && x v)) && b) ≡ (o && x w)
+unfolding joined_right
+joined p q false o x u v w h = and-false _ ∙ ap (λ c. c && x w) (sym (not-true o h))
+joined p q true false x u v w h =
+    let t = and_parts (not p) (not q) h in
+    (λ i. ((not-true p t.0 i && x u) || (not-true q t.1 i && x v)) && true)
+joined true q true true x u v w h =
+    let t = and_parts (u == w) _ h in
+    and-true _ ∙ ap (λ k. x k || (q && x v)) (eqb-true u w t.0) ∙ second q x v w t.1
+joined false q true true x u v w h =
+    let t = and_parts q (v == w) h in
+    and-true _ ∙ (λ i. t.0 i && x (eqb-true v w t.1 i))
+
+step : ℕ → ℕ → (ℕ → Bool) → (ℕ → Bool) → (ℕ → ℕ) → (ℕ → ℕ) → ℕ → Bool
+step s m on on-next from from-next i =
+    joined_right (on i) (nat_le s i && on (i - s)) (bit m i) (on-next i) (from i == from-next i)
+    (from (i - s) == from-next i)
+
+module _ (s m : ℕ) (on on-next : ℕ → Bool) (from from-next : ℕ
+    → ℕ) (right : all_below 64 (step s m on on-next from from-next) ≡ true) where
+  drawn : (x a b : ℕ) → ((i : ℕ) → i < 64 → bit a i ≡ (on i && bit x (from i)))
+      → ((i : ℕ) → i < 64 → bit b i ≡ ((bit a i || (nat_le s i && bit a (i - s))) && bit m i))
+      → (i : ℕ) → i < 64 → bit b i ≡ (on-next i && bit x (from-next i))
+  unfolding step
+  drawn x a b f g i h =
+      g i h ∙ (λ t. (f i h t || (nat_le s i && f (i - s) (omega arith) t)) && bit m i)
+      ∙ ap (λ v. ((on i && bit x (from i)) || v) && bit m i)
+      (sym (and_assoc (nat_le s i) (on (i - s)) (bit x (from (i - s)))))
+      ∙ joined (on i) (nat_le s i && on (i - s)) (bit m i) (on-next i) (bit x) (from i) (from (i - s)) (from-next i)
+      (all_below_tells 64 (step s m on on-next from from-next) right i h)
+
+-- the first q places of each l, which hold the bits in their order
+abbrev first_places : ℕ → ℕ → ℕ → Bool
+first_places l q i = nat_lt (i % l) q
+
+abbrev from_place : ℕ → ℕ → ℕ → ℕ
+from_place l q i = q * (i / l) + i % l
+
+-- a number below 2 ^ 16 has no further bits
+start : (x i : ℕ) → x < 2 ^ 16 → i < 64 → bit x i ≡ (first_places 64 16 i && bit x (from_place 64 16 i))
+start x i f h =
+    let e : 16 * (i / 64) + i % 64 ≡ i = omega arith in
+    let spot = from_place 64 16 i in
+    ap (bit x) (sym e) ∙ elim (cases_lt (i % 64) 16) [
+      | inl lt ↦ ap (λ b. b && bit x spot) (sym (lt-ltb (i % 64) 16 lt))
+      | inr le ↦ bit_above x 16 spot f (omega (arith, le)) ∙ ap (λ b. b && bit x spot) (sym (le-ltb (i % 64) 16 le))
+    ]
+
+abbrev Drawn : ℕ → ℕ → ℕ → ℕ → Type 0
+Drawn s m a b = (i : ℕ) → i < 64 → bit b i ≡ ((bit a i || (nat_le s i && bit a (i - s))) && bit m i)
+
+-- six such steps leave each of the lowest sixteen bits four times
+pub each_four_times : (x eights fours twos ones twice last : ℕ) → x < 2 ^ 16
+    → Drawn 24 0x000000ff000000ff x eights → Drawn 12 0x000f000f000f000f eights fours
+    → Drawn 6 0x0303030303030303 fours twos
+    → Drawn 3 0x1111111111111111 twos ones → Drawn 1 0x3333333333333333 ones twice
+    → Drawn 2 0xffffffffffffffff twice last
+    → (i : ℕ) → i < 64 → bit last i ≡ bit x (i / 4)
+unfolding all_below step joined_right bit
+each_four_times x eights fours twos ones twice last f d24 d12 d6 d3 d1 d2 =
+    let at = first_places in
+    let to = from_place in
+    let by8 = drawn 24 0x000000ff000000ff (at 64 16) (at 32 8) (to 64 16) (to 32 8) refl x x eights
+    (λ i h. start x i f h) d24 in
+    let by4 = drawn 12 0x000f000f000f000f (at 32 8) (at 16 4) (to 32 8) (to 16 4) refl x eights fours by8 d12 in
+    let by2 = drawn 6 0x0303030303030303 (at 16 4) (at 8 2) (to 16 4) (to 8 2) refl x fours twos by4 d6 in
+    let by1 = drawn 3 0x1111111111111111 (at 8 2) (at 4 1) (to 8 2) (to 4 1) refl x twos ones by2 d3 in
+    let both = drawn 1 0x3333333333333333 (at 4 1) (at 4 2) (to 4 1) (λ i. i / 4) refl x ones twice by1 d1 in
+    drawn 2 0xffffffffffffffff (at 4 2) (λ i. true) (λ i. i / 4) (λ i. i / 4) refl x twice last both d2
+
+-- ---- a lane for each bit
 
 -- a lane of ones where a byte has a bit
 abbrev lane_if : ℕ → ℕ → ℕ

@@ -1,6 +1,6 @@
 //! A word of sixty-four bits, eight of which hold four blocks.
 
-ghost use Rattle.std.specs.Prelude.{◌≡◌, ℕ, ◌+◌, ◌-◌, ◌*◌, ◌/◌, ◌^◌, ◌<◌, [], ◌∷◌, slice_index};
+ghost use Rattle.std.specs.Prelude.{◌≡◌, ℕ, ◌+◌, ◌-◌, ◌*◌, ◌/◌, ◌^◌, ◌<◌, ◌&&◌, ◌||◌, nat_le, [], ◌∷◌, slice_index};
 ghost use Rattle.std.proofs.Common.{rules};
 ghost use Rattle.aes_planes.specs.Bits.{at, bit};
 ghost use Rattle.aes_planes.specs.Private.BuiltLength.{number_shape};
@@ -105,6 +105,11 @@ impl Word for u64 {
     }
 
     #[inline(always)]
+    fn broadcast(x: u16) -> u64 {
+        each_four_times(x as u64)
+    }
+
+    #[inline(always)]
     fn bitslice(output: &mut [u64; 8], input: &Blocks4) {
         let b0 = input.get(0);
         let b1 = input.get(1);
@@ -156,4 +161,28 @@ fn columns_together(even: u64, odd: u64) -> Block
     let apart = u64x2::from_array([even, odd]).to_le_bytes();
     let bytes = apart.swizzle([0, 2, 4, 6, 8, 10, 12, 14, 1, 3, 5, 7, 9, 11, 13, 15]);
     bytes.to_array()
+}
+
+// The lowest sixteen bits, each four times: halves are drawn apart until each bit has four places, and then fills them.
+#[inline(always)]
+fn each_four_times(x: u64) -> u64
+    requires sixteen_bits { x < 2 ^ 16 }
+    ensures { (i : ℕ) → i < 64 → bit result i ≡ bit x (i / 4) }
+{
+    let eights = drawn_apart(x, 24, 0x0000_00ff_0000_00ff);
+    let fours = drawn_apart(eights, 12, 0x000f_000f_000f_000f);
+    let twos = drawn_apart(fours, 6, 0x0303_0303_0303_0303);
+    let ones = drawn_apart(twos, 3, 0x1111_1111_1111_1111);
+    let twice = drawn_apart(ones, 1, 0x3333_3333_3333_3333);
+    drawn_apart(twice, 2, 0xffff_ffff_ffff_ffff)
+}
+
+// The bits here and those so far below, where the mask has a bit.
+#[tactic(auto, using(crate::proofs::Words::Spread::drawn_bit))]
+#[inline(always)]
+fn drawn_apart(x: u64, shift: u32, mask: u64) -> u64
+    requires below_bits { shift < 64 }
+    ensures { (i : ℕ) → i < 64 → bit result i ≡ ((bit x i || (nat_le shift i && bit x (i - shift))) && bit mask i) }
+{
+    (x | x << shift) & mask
 }
