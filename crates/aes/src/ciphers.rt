@@ -8,7 +8,7 @@ ghost use Rattle.aes_soft.specs.Stored.{plane_key, stored_words, words_for, IsFu
 
 use aes_cipher::aes;
 use aes_cipher::aes::{
-    CountsLayers, Decrypts, Encrypts, KeyBytes, KeySchedule, KeySize, Processes, TurnedFrom,
+    CountsLayers, Decrypts, Encrypts, KeyBytes, KeySchedule, KeySize, MadeFrom, Processes,
 };
 use aes_cipher::cipher::{BlockCipherDecClosure, BlockCipherEncClosure, Decrypt, Encrypt};
 use aes_cipher::zeroize::Wiped;
@@ -18,11 +18,11 @@ use aes_soft::soft::PlaneCipher;
 use aes_soft::soft::blocks::{
     decrypt_with_backend, encrypt_with_backend, process_block, process_blocks,
 };
-use aes_soft::soft::key_sizes::{Room, put_words, reads_key, words_of};
+use aes_soft::soft::key_sizes::{Room, expand_words, reads_key, words_of};
 use std::marker::PhantomData;
 
 /// AES with a key of the size K, in the directions D.
-pub type AesCipher<K, D> = aes::AesCipher<Fixsliced<K>, D>;
+pub type FixslicedAes<K, D> = aes::AesCipher<Fixsliced<K>, D>;
 
 /// Stored round keys of a key of the size K. They serve both directions.
 pub struct Fixsliced<K: KeySize> {
@@ -63,8 +63,8 @@ impl<K: KeySize> KeySchedule for Fixsliced<K> {
     }
 
     #[inline(always)]
-    fn refill(&mut self, new_key: &K::Key) {
-        self.refill_counted(new_key, &mut Layers::new());
+    fn expand(&mut self, new_key: &K::Key) {
+        self.expand_counted(new_key, &mut Layers::new());
     }
 
     #[inline(always)]
@@ -80,9 +80,9 @@ impl<K: KeySize> KeySchedule for Fixsliced<K> {
     }
 }
 
-impl<K: KeySize> TurnedFrom<Fixsliced<K>> for Fixsliced<K> {
+impl<K: KeySize> MadeFrom<Fixsliced<K>> for Fixsliced<K> {
     #[inline(always)]
-    fn turned(schedule: &Fixsliced<K>) -> Fixsliced<K> {
+    fn made_from(schedule: &Fixsliced<K>) -> Fixsliced<K> {
         schedule.copy()
     }
 }
@@ -114,8 +114,8 @@ impl<K: KeySize> CountsLayers for Fixsliced<K> {
 
     ghost layers_for = { λ count. layers_for (K.Key.SIZE / 4 + 6) count };
 
-    fn refill_counted(&mut self, new_key: &K::Key, layers: &mut Layers) {
-        put_words::<K>(self.room.words_mut(), new_key.as_slice(), layers);
+    fn expand_counted(&mut self, new_key: &K::Key, layers: &mut Layers) {
+        expand_words::<K>(self.room.value_mut(), new_key.as_slice(), layers);
     }
 
     fn encrypt_blocks_counted(&self, blocks: &mut [Block], layers: &mut Layers) {

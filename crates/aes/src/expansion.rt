@@ -56,13 +56,13 @@ struct Blocks;
 impl KeyForm for Blocks {
     type Words = Block;
 
-    type Unit = Block;
+    type StoredIn = Block;
 
     ghost AreWords = { λ words block. words ≡ block };
 
     ghost IsStored = { λ round_keys last i block. fips.round_key round_keys i ≡ block };
 
-    ghost units = { λ last. last + 1 };
+    ghost length_for = { λ last. last + 1 };
 
     ghost LAYERS = { 0 };
 
@@ -94,11 +94,11 @@ impl KeyForm for Blocks {
         ]
     }
 
-    fn again(_stored: &[Block], _i: usize, _last: usize, words: Block) -> Block {
+    fn read_back(_stored: &[Block], _i: usize, _last: usize, words: Block) -> Block {
         words
     }
 
-    fn put(stored: &mut [Block], i: usize, _last: usize, words: Block) {
+    fn store(stored: &mut [Block], i: usize, _last: usize, words: Block) {
         stored[i] = words;
     }
 }

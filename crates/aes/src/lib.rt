@@ -9,7 +9,7 @@ pub mod expansion;
 pub mod hazmat;
 mod names;
 
-pub use ciphers::{AesCipher, Fixsliced};
+pub use ciphers::{Fixsliced, FixslicedAes};
 pub use names::{
     Aes128, Aes128Dec, Aes128Enc, Aes192, Aes192Dec, Aes192Enc, Aes256, Aes256Dec, Aes256Enc,
 };

@@ -1,14 +1,11 @@
 -- The struct that a caller keeps: how many bytes the key has, and its stored round keys for both directions.
-use Rattle.std.specs.Prelude.{◌≡◌, ◌⊎◌, ℕ, ◌+◌, ◌-◌, ◌/◌, List, take, drop, replicate}
-use Rattle.aes_hybrid.specs.Lanes.{lanes_key, IsLanes, AreInverse}
+use Rattle.std.specs.Prelude.{◌≡◌, ◌⊎◌, ℕ, ◌+◌, ◌-◌, ◌/◌, List, drop, replicate}
+use Rattle.aes_permute.specs.Keys.{stored_keys}
+use Rattle.aes_hybrid.specs.Keys.{cipher_key, IsCipherSchedule, AreInverse}
 
 -- a number of bytes that a key can have
 abbrev pub IsKeyLength : ℕ → Type 0
 IsKeyLength n = (n ≡ 16) ⊎ ((n ≡ 24) ⊎ (n ≡ 32))
-
--- the stored round keys of a key of n bytes: the first 11, 13 or 15 blocks
-abbrev pub first_keys : ℕ → List (List ℕ) → List (List ℕ)
-first_keys n blocks = take (n / 4 + 7) blocks
 
 -- the blocks after those of a key of n bytes are zero, so that none of another key's is left there
 abbrev pub AreZeroAfter : ℕ → List (List ℕ) → Type 0
@@ -16,11 +13,11 @@ AreZeroAfter n blocks = drop (n / 4 + 7) blocks ≡ replicate (15 - (n / 4 + 7))
 
 -- the key of n bytes that blocks are read as
 abbrev pub kept_key : ℕ → List (List ℕ) → List ℕ
-kept_key n encrypting = lanes_key (first_keys n encrypting)
+kept_key n encrypting = cipher_key (stored_keys n encrypting)
 
 -- a struct in order, as set_key and wipe leave it, and as zeros are: if its length is that of a key, its blocks begin
 -- with the stored round keys of one
 pub record IsMade (key_length : ℕ) (encrypting decrypting : List (List ℕ)) : Type 0 where
-  pub lanes : IsKeyLength key_length → IsLanes (first_keys key_length encrypting)
+  pub schedule : IsKeyLength key_length → IsCipherSchedule (stored_keys key_length encrypting)
   pub inverse : IsKeyLength key_length
-      → AreInverse (first_keys key_length decrypting) (first_keys key_length encrypting)
+      → AreInverse (stored_keys key_length decrypting) (stored_keys key_length encrypting)

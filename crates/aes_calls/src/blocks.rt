@@ -3,16 +3,16 @@
 ghost use Rattle.std.specs.Prelude.{◌≡◌, ◌≢◌, ◌↔◌, length};
 ghost use Rattle.aes_planes.specs.Each.{Each};
 ghost use Rattle.aes_planes.specs.Fips197 as fips;
-ghost use Rattle.aes_permute.specs.Keys.{encrypting};
+ghost use Rattle.aes_permute.specs.Keys.{encrypting, stored_keys};
 ghost use Rattle.aes_permute.specs.Stored.{round_keys_of};
-ghost use Rattle.aes_calls.specs.Kept.{first_keys, kept_key, IsKeyLength, IsMade};
+ghost use Rattle.aes_calls.specs.Kept.{kept_key, IsKeyLength, IsMade};
 
 use crate::kept::{Aes, holds_key, keys_of};
 use crate::status::{DONE, NO_KEY, UNEQUAL_COUNTS};
 use aes_cipher::cipher::{Decrypt, Encrypt};
 use aes_hybrid::blocks::process_blocks;
 use aes_hybrid::widths::Width;
-use aes_permute::directions::LaneRounds;
+use aes_permute::lane_rounds::LaneRounds;
 use aes_planes::soft::word::Block;
 use aes_soft::soft::PlaneCipher;
 
@@ -23,7 +23,7 @@ pub trait KeptDirection: LaneRounds + PlaneCipher {
         requires holds_key { IsKeyLength aes.now.key_length }
         requires made { IsMade aes.now.key_length aes.now.encrypting aes.now.decrypting }
         ensures { round_keys_of Self.form result.now
-            ≡ Self.form.used_keys (encrypting (first_keys aes.now.key_length aes.now.encrypting)) };
+            ≡ Self.form.used_keys (encrypting (stored_keys aes.now.key_length aes.now.encrypting)) };
 }
 
 impl KeptDirection for Encrypt {

@@ -7,9 +7,9 @@
 ghost use Rattle.std.specs.Prelude.{◌≡◌, ◌∷◌, [], length, map, replicate, slice_set};
 ghost use Rattle.aes_planes.specs.BigEndian.{bytes};
 ghost use Rattle.aes_planes.specs.Fips197 as fips;
-ghost use Rattle.aes_permute.specs.Keys.{encrypting};
-ghost use Rattle.aes_hybrid.specs.Lanes.{AreInverse};
-ghost use Rattle.aes_calls.specs.Kept.{first_keys, kept_key, AreZeroAfter, IsKeyLength, IsMade};
+ghost use Rattle.aes_permute.specs.Keys.{encrypting, stored_keys};
+ghost use Rattle.aes_hybrid.specs.Keys.{AreInverse};
+ghost use Rattle.aes_calls.specs.Kept.{kept_key, AreZeroAfter, IsKeyLength, IsMade};
 
 use crate::status::{DONE, KEY_LENGTH, KEYSTREAM_END, NO_KEY, UNEQUAL_COUNTS, VERSION};
 use aes_planes::examples::key_expansion_128;
@@ -33,7 +33,7 @@ pub fn length_examples()
     ensures shorter { ¬ IsKeyLength 15 }
     ensures between { ¬ IsKeyLength 23 }
     ensures longer { ¬ IsKeyLength 33 }
-    ensures round_keys { map (λ n. length (first_keys n (replicate 15 []))) (16 ∷ 24 ∷ 32 ∷ []) ≡ 11 ∷ 13 ∷ 15 ∷ [] }
+    ensures round_keys { map (λ n. length (stored_keys n (replicate 15 []))) (16 ∷ 24 ∷ 32 ∷ []) ≡ 11 ∷ 13 ∷ 15 ∷ [] }
 {}
 
 /// The keys of A.1, A.2 and A.3, from the first two of their stored round keys.
@@ -91,9 +91,9 @@ const DECRYPTING: [u128; 15] = [
 /// What is stored for the key of A.1: its round keys in both directions, and zeros after them.
 #[tactic(auto, unfolding(crate::proofs::OnLiterals::kept_on_literals))]
 pub fn stored_example()
-    ensures round_keys { encrypting (first_keys 16 (map (bytes 16) ENCRYPTING))
+    ensures round_keys { encrypting (stored_keys 16 (map (bytes 16) ENCRYPTING))
         ≡ fips.key_expansion (bytes 16 0x2b7e151628aed2a6abf7158809cf4f3c) }
-    ensures inverse { AreInverse (first_keys 16 (map (bytes 16) DECRYPTING)) (first_keys 16 (map (bytes 16) ENCRYPTING)) }
+    ensures inverse { AreInverse (stored_keys 16 (map (bytes 16) DECRYPTING)) (stored_keys 16 (map (bytes 16) ENCRYPTING)) }
     ensures key { kept_key 16 (map (bytes 16) ENCRYPTING) ≡ bytes 16 0x2b7e151628aed2a6abf7158809cf4f3c }
     ensures after_encrypting { AreZeroAfter 16 (map (bytes 16) ENCRYPTING) }
     ensures after_decrypting { AreZeroAfter 16 (map (bytes 16) DECRYPTING) }

@@ -2,12 +2,13 @@
 
 ghost use Rattle.std.specs.Prelude.{◌≡◌, ◌≢◌, ◌↔◌, ◌+◌, ◌/◌, true};
 ghost use Rattle.std.specs.Prelude.{drop, length, replicate};
-ghost use Rattle.aes_hybrid.specs.Lanes.{lanes_key, IsLanes, AreInverse};
-ghost use Rattle.aes_calls.specs.Kept.{first_keys, kept_key, AreZeroAfter, IsKeyLength, IsMade};
+ghost use Rattle.aes_permute.specs.Keys.{stored_keys};
+ghost use Rattle.aes_hybrid.specs.Keys.{cipher_key, IsCipherSchedule, AreInverse};
+ghost use Rattle.aes_calls.specs.Kept.{kept_key, AreZeroAfter, IsKeyLength, IsMade};
 
 use crate::status::{DONE, KEY_LENGTH};
 use aes_cipher::zeroize::{Zeroize, zeroize_elements};
-use aes_hybrid::keys::{put_decrypting, put_encrypting};
+use aes_hybrid::keys::{expand_encrypting, invert_encrypting};
 use aes_planes::soft::word::Block;
 
 /// A key schedule that the caller owns: `struct fotsgure_aes`. Its blocks are as secret as the key.
@@ -50,31 +51,31 @@ impl Zeroize for Aes {
 #[inline(always)]
 pub(crate) fn keys_of(blocks: &[Block; 15], key_length: usize) -> &[Block]
     requires { IsKeyLength key_length }
-    ensures { result.now ≡ first_keys key_length blocks.now }
+    ensures { result.now ≡ stored_keys key_length blocks.now }
 {
     &blocks[..key_length / 4 + 7]
 }
 
 /// Writes the stored round keys of Cipher of a key.
 #[inline(always)]
-pub(crate) fn put_keys(blocks: &mut [Block; 15], key: &[u8])
+pub(crate) fn expand_keys(blocks: &mut [Block; 15], key: &[u8])
     requires { IsKeyLength (length key.now) }
-    ensures lanes { IsLanes (first_keys (length key.now) blocks.new) }
+    ensures schedule { IsCipherSchedule (stored_keys (length key.now) blocks.new) }
     ensures key { kept_key (length key.now) blocks.new ≡ key.now }
     ensures after { drop (length key.now / 4 + 7) blocks.new ≡ drop (length key.now / 4 + 7) blocks.old }
 {
-    put_encrypting(&mut blocks[..key.len() / 4 + 7], key);
+    expand_encrypting(&mut blocks[..key.len() / 4 + 7], key);
 }
 
 // Writes the stored round keys of EqInvCipher of the same key.
 #[inline(always)]
-fn put_inverse(inverse: &mut [Block; 15], blocks: &[Block; 15], key_length: usize)
+fn invert_keys(inverse: &mut [Block; 15], blocks: &[Block; 15], key_length: usize)
     requires length { IsKeyLength key_length }
-    requires lanes { IsLanes (first_keys key_length blocks.now) }
-    ensures inverse { AreInverse (first_keys key_length inverse.new) (first_keys key_length blocks.now) }
+    requires schedule { IsCipherSchedule (stored_keys key_length blocks.now) }
+    ensures inverse { AreInverse (stored_keys key_length inverse.new) (stored_keys key_length blocks.now) }
     ensures after { drop (key_length / 4 + 7) inverse.new ≡ drop (key_length / 4 + 7) inverse.old }
 {
-    put_decrypting(
+    invert_encrypting(
         &mut inverse[..key_length / 4 + 7],
         keys_of(blocks, key_length),
     );
@@ -115,8 +116,8 @@ pub fn set_key(aes: &mut Aes, key: &[u8]) -> u32
     if !is_key_length(key.len()) {
         return KEY_LENGTH;
     }
-    put_keys(&mut aes.encrypting, key);
-    put_inverse(&mut aes.decrypting, &aes.encrypting, key.len());
+    expand_keys(&mut aes.encrypting, key);
+    invert_keys(&mut aes.decrypting, &aes.encrypting, key.len());
     aes.key_length = key.len() as u32;
     DONE
 }

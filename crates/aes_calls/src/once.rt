@@ -5,33 +5,34 @@ ghost use Rattle.aes_planes.specs.Each.{Each};
 ghost use Rattle.aes_planes.specs.Fips197 as fips;
 ghost use Rattle.aes_ctr.specs.CounterMode.{keystream_byte, plus_stream};
 ghost use Rattle.aes_permute.specs.Stored.{round_keys_of};
-ghost use Rattle.aes_calls.specs.Kept.{first_keys, IsKeyLength};
+ghost use Rattle.aes_permute.specs.Keys.{stored_keys};
+ghost use Rattle.aes_calls.specs.Kept.{IsKeyLength};
 
 use crate::blocks::process_under;
-use crate::kept::{Aes, is_key_length, keys_of, put_keys, set_key};
+use crate::kept::{Aes, expand_keys, is_key_length, keys_of, set_key};
 use crate::status::{DONE, KEY_LENGTH, KEYSTREAM_END};
 use crate::stream::Ctr;
 use aes_cipher::cipher::{Decrypt, Encrypt};
-use aes_cipher::zeroize::Held;
+use aes_cipher::zeroize::MustWipe;
 use aes_ctr::add_keystream;
 use aes_hybrid::blocks::process_blocks;
 use aes_hybrid::lent::Lent;
 use aes_hybrid::widths::Width;
 use aes_permute::blocks::process_blocks as process_on_lanes;
-use aes_permute::directions::LaneRounds;
+use aes_permute::lane_rounds::LaneRounds;
 use aes_permute::schedule::expand;
 use aes_planes::soft::word::Block;
 
 // The most blocks that are decrypted under a schedule for decrypting alone. More are quicker as a batch on planes, which
 // are made of the round keys of Cipher.
-const FEW: usize = 6;
+const MOST_UNDER_ONE_SCHEDULE: usize = 6;
 
 // Writes the stored round keys of a key as a direction uses them: KeyExpansion (FIPS 197, 5.2), and KeyExpansionEIC for
 // decrypting (5.3.5).
 #[inline(always)]
-fn put_used<D: LaneRounds>(blocks: &mut [Block; 15], key: &[u8])
+fn expand_used<D: LaneRounds>(blocks: &mut [Block; 15], key: &[u8])
     requires { IsKeyLength (length key.now) }
-    ensures { round_keys_of D.form (first_keys (length key.now) blocks.new)
+    ensures { round_keys_of D.form (stored_keys (length key.now) blocks.new)
         ≡ D.form.used_keys (fips.key_expansion key.now) }
 {
     expand::<D>(&mut blocks[..key.len() / 4 + 7], key);
@@ -44,9 +45,9 @@ fn process_few<D: LaneRounds>(key: &[u8], blocks: &mut [Block])
 {
     D::processes();
     D::uses_all();
-    let mut kept = Held::<[Block; 15]>::zeroed();
-    put_used::<D>(kept.words_mut(), key);
-    process_on_lanes::<D>(keys_of(kept.words(), key.len()), blocks);
+    let mut kept = MustWipe::<[Block; 15]>::zeroed();
+    expand_used::<D>(kept.value_mut(), key);
+    process_on_lanes::<D>(keys_of(kept.value(), key.len()), blocks);
     kept.wipe();
 }
 
@@ -61,9 +62,9 @@ pub fn encrypt_with<W: Width>(key: &[u8], blocks: &mut [Block]) -> u32
     if !is_key_length(key.len()) {
         return KEY_LENGTH;
     }
-    let mut kept = Held::<[Block; 15]>::zeroed();
-    put_keys(kept.words_mut(), key);
-    let keys = keys_of(kept.words(), key.len());
+    let mut kept = MustWipe::<[Block; 15]>::zeroed();
+    expand_keys(kept.value_mut(), key);
+    let keys = keys_of(kept.value(), key.len());
     process_blocks::<Encrypt, W>(keys, keys, blocks);
     kept.wipe();
     DONE
@@ -78,15 +79,15 @@ pub fn decrypt_with<W: Width>(key: &[u8], blocks: &mut [Block]) -> u32
     ensures untouched { result ≢ DONE → blocks.new ≡ blocks.old }
 {
     // Not for keys of 24 bytes: their round keys straddle blocks, and LLVM would leave a piece of one on the stack.
-    if is_key_length(key.len()) && key.len() != 24 && blocks.len() <= FEW {
+    if is_key_length(key.len()) && key.len() != 24 && blocks.len() <= MOST_UNDER_ONE_SCHEDULE {
         process_few::<Decrypt>(key, blocks);
         return DONE;
     }
-    let mut kept = Held::<Aes>::zeroed();
-    if set_key(kept.words_mut(), key) != DONE {
+    let mut kept = MustWipe::<Aes>::zeroed();
+    if set_key(kept.value_mut(), key) != DONE {
         return KEY_LENGTH;
     }
-    let status = process_under::<Decrypt, W>(kept.words(), blocks);
+    let status = process_under::<Decrypt, W>(kept.value(), blocks);
     kept.wipe();
     status
 }
@@ -112,9 +113,9 @@ pub fn add_keystream_with<W: Width>(key: &[u8], ctr: &mut Ctr, bytes: &mut [u8])
     if bytes.len() as u64 > u64::MAX - ctr.position {
         return KEYSTREAM_END;
     }
-    let mut kept = Held::<[Block; 15]>::zeroed();
-    put_keys(kept.words_mut(), key);
-    let keys = keys_of(kept.words(), key.len());
+    let mut kept = MustWipe::<[Block; 15]>::zeroed();
+    expand_keys(kept.value_mut(), key);
+    let keys = keys_of(kept.value(), key.len());
     add_keystream(&Lent::<W>::new(keys), &ctr.iv, ctr.position, bytes);
     kept.wipe();
     ctr.position += bytes.len() as u64;

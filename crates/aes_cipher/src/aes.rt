@@ -8,7 +8,7 @@ ghost use Rattle.aes_planes.proofs.Standard.CipherLaws.{two_keys};
 mod copies;
 mod counted;
 mod decrypt;
-mod directions;
+mod direction_sets;
 mod encrypt;
 mod key_bytes;
 mod key_sizes;
@@ -19,10 +19,10 @@ use crate::cipher::{InvalidLength, KeyInit, KeySizeUser, RoundKeysUser};
 use crate::zeroize::ZeroizeOnDrop;
 use aes_planes::laws;
 pub use counted::CountsLayers;
-pub use directions::{BothWays, Directions, Includes};
+pub use direction_sets::{Allows, BothWays, Directions};
 pub use key_bytes::KeyBytes;
 pub use key_sizes::{Bits128, Bits192, Bits256, KeySize};
-pub use schedules::{Decrypts, Encrypts, KeySchedule, Processes, TurnedFrom};
+pub use schedules::{Decrypts, Encrypts, KeySchedule, MadeFrom, Processes};
 use std::marker::{Model, PhantomData};
 
 /// AES with the stored round keys S, in the directions D. Contracts see a value as its key.
@@ -57,7 +57,7 @@ impl<S: KeySchedule, D> AesCipher<S, D> {
     {
         self.schedule.wipe();
         self.schedule
-            .refill(&<<S::Size as KeySize>::Key as KeyBytes>::zero());
+            .expand(&<<S::Size as KeySize>::Key as KeyBytes>::zero());
     }
 }
 
@@ -90,7 +90,7 @@ impl<S: KeySchedule, D> KeyInit for AesCipher<S, D> {
             schedule: S::zeroed(),
             directions: PhantomData,
         };
-        cipher.schedule.refill(key);
+        cipher.schedule.expand(key);
         cipher
     }
 

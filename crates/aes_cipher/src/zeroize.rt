@@ -3,11 +3,11 @@
 ghost use Rattle.std.specs.Prelude.{◌≡◌, ℕ, false, length, map, replicate};
 
 mod elements;
-mod held;
+mod must_wipe;
 
 use aes_planes::soft::word::Word;
 pub use elements::{Element, zeroize_elements};
-pub use held::Held;
+pub use must_wipe::MustWipe;
 use std::marker::Model;
 use std::sync::atomic::{AtomicU64, Ordering};
 
@@ -92,18 +92,18 @@ fn overwrite<E: Copy>(elements: &mut [E], element: E)
 /// A value that is overwritten with zeros when it is dropped: what stands inside has a drop of its own, which requires
 /// that it is zero by then. It is neither `Copy` nor `Clone`. Contracts see the value.
 pub struct Wiped<V: Zeroize> {
-    held: Held<V>,
+    inside: MustWipe<V>,
 }
 
 impl<V: Zeroize> Model for Wiped<V> {
     ghost Value = { V };
 
-    ghost view = { λ wiped. wiped.held };
+    ghost view = { λ wiped. wiped.inside };
 }
 
 impl<V: Zeroize> Wiped<V> {
     ghost use Rattle.std.specs.Borrow.{sem};
-    ghost use Rattle.aes_cipher.specs.Lends.{lends_words};
+    ghost use Rattle.aes_cipher.specs.Lends.{lends_value};
 
     /// Takes a value.
     #[inline(always)]
@@ -111,7 +111,7 @@ impl<V: Zeroize> Wiped<V> {
         ensures { result ≡ value }
     {
         Wiped {
-            held: Held::new(value),
+            inside: MustWipe::new(value),
         }
     }
 
@@ -125,10 +125,10 @@ impl<V: Zeroize> Wiped<V> {
 
     /// Lends the value.
     #[inline(always)]
-    pub fn words(&self) -> &V
+    pub fn value(&self) -> &V
         ensures { result.now ≡ self.now }
     {
-        self.held.words()
+        self.inside.value()
     }
 
     /// Overwrites the value with zeros.
@@ -136,16 +136,16 @@ impl<V: Zeroize> Wiped<V> {
     pub fn wipe(&mut self)
         ensures { self.new ≡ V.ZERO }
     {
-        self.held.wipe();
+        self.inside.wipe();
     }
 
     /// Lends the value to be written over.
     #[inline(always)]
-    pub fn words_mut(&mut self) -> &mut V
-        ensures* writes_back { sem 𝓛 (lends_words V.row V.Zeroize self.entry result) }
-        ensures words { result.now ≡ self.old }
+    pub fn value_mut(&mut self) -> &mut V
+        ensures* writes_back { sem 𝓛 (lends_value V.row V.Zeroize self.entry result) }
+        ensures value { result.now ≡ self.old }
     {
-        self.held.words_mut()
+        self.inside.value_mut()
     }
 }
 
@@ -154,7 +154,7 @@ impl<V: Zeroize + Copy> Wiped<V> {
     pub fn copy(&self) -> Wiped<V>
         ensures { result ≡ self.now }
     {
-        Wiped::new(*self.words())
+        Wiped::new(*self.value())
     }
 }
 
@@ -162,7 +162,7 @@ impl<V: Zeroize> Drop for Wiped<V> {
     #[inline(always)]
     fn drop(mut self) {
         self.wipe();
-        let Wiped { held: _ } = self;
+        let Wiped { inside: _ } = self;
     }
 }
 

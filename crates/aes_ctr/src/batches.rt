@@ -9,7 +9,7 @@ use crate::keystream::{count_on, fill_by_backend, fill_with_keystream};
 use aes_cipher::cipher::{Block, BlockCipherEncBackend, BlockCipherEncClosure, BlockCipherEncrypt};
 
 // How many blocks a backend's batch may have, so that there is room for it.
-const ROOM: usize = 16;
+const LARGEST_BATCH: usize = 16;
 
 // Adds to bytes of one block the keystream from one position on.
 #[tactic(auto, using(crate::proofs::Places::plus_blocks))]
@@ -28,7 +28,7 @@ fn blocks_at_once<B: BlockCipherEncBackend>() -> usize
     ensures some { 1 ≤ result }
     ensures inside { result ≤ 16 }
 {
-    if B::PAR_BLOCKS <= ROOM {
+    if B::PAR_BLOCKS <= LARGEST_BATCH {
         B::PAR_BLOCKS
     } else {
         1
@@ -44,7 +44,7 @@ fn add_batch<B: BlockCipherEncBackend>(backend: &B, iv: &Block, first: u64, byte
     requires one_batch { length bytes.old ≡ 16 * B.PAR_BLOCKS }
     ensures { bytes.new ≡ plus_stream (keystream_byte (B.round_keys backend.now) iv.now) (16 * first) bytes.old }
 {
-    let mut room = [[0; 16]; ROOM];
+    let mut room = [[0; 16]; LARGEST_BATCH];
     let blocks = &mut room[..B::PAR_BLOCKS];
     count_on(iv, first, blocks);
     backend.encrypt_par_blocks(blocks);
@@ -70,7 +70,7 @@ fn add_next<B: BlockCipherEncBackend>(
 {
     let place = position.wrapping_add(done as u64);
     let from = (place % 16) as usize;
-    let mut room = [[0; 16]; ROOM];
+    let mut room = [[0; 16]; LARGEST_BATCH];
     let blocks = &mut room[..blocks_at_once::<B>()];
     let part = (16 * blocks.len() - from).min(bytes.len() - done);
     let count = (from + part).div_ceil(16);
@@ -94,7 +94,7 @@ fn add_by_backend<B: BlockCipherEncBackend>(
     if position % 16 != 0 {
         done = add_next(backend, iv, position, 0, bytes);
     }
-    if B::PAR_BLOCKS <= ROOM {
+    if B::PAR_BLOCKS <= LARGEST_BATCH {
         let size = 16 * B::PAR_BLOCKS;
         'whole: while bytes.len() - done >= size {
             let place = position.wrapping_add(done as u64);

@@ -3,4 +3,4 @@ pub mod Fronts
 pub mod Shifted
 pub mod PlaneKeys
 pub mod LaneKeys
-pub mod SpreadLanes
+pub mod SlotLanes

@@ -13,7 +13,7 @@ use Rattle.aes_soft.proofs.WordsInPlace.{held_at, HoldsAt}
 use Rattle.aes_permute.specs.Keys.{encrypting, cipher_form}
 use Rattle.aes_permute.specs.Stored.{untower, key_untower}
 use Rattle.aes_permute.proofs.States.{keys_length, first_key, inner_key, last_key}
-use Rattle.aes_hybrid.specs.Lanes.{lanes_key, IsLanes}
+use Rattle.aes_hybrid.specs.Keys.{cipher_key, IsCipherSchedule}
 use Rattle.aes_hybrid.proofs.Shifted.{times_map}
 
 untower_of_key : (x : List ℕ) → map plus63 (map key_untower x) ≡ map untower x
@@ -62,11 +62,11 @@ pub put_at : {A : Type 0} (bits : A → List Bool) (n : ℕ) (rk : List A) (o p 
 put_at bits n rk o p x y at h e = held_at bits n rk (words_at rk o) o p y at refl (h ∙ ap (replicate n) e)
 
 -- there are two round keys and more
-pub two_lanes : (stored : List (List ℕ)) → IsLanes stored → 2 ≤ length stored
-two_lanes stored lanes = omega (arith, lanes.one_of_three)
+pub two_or_more : (stored : List (List ℕ)) → IsCipherSchedule stored → 2 ≤ length stored
+two_or_more stored lanes = omega (arith, lanes.one_of_three)
 
 -- words that hold all of them
-module _ (n : ℕ) (some : 1 ≤ n) (planes : List (List Bool)) (stored : List (List ℕ)) (lanes : IsLanes stored) (words : ℕ)
+module _ (n : ℕ) (some : 1 ≤ n) (planes : List (List Bool)) (stored : List (List ℕ)) (lanes : IsCipherSchedule stored) (words : ℕ)
     (sized : words ≡ 8 * length stored)
     (holds : HoldsBlocks n (length stored) (stored_key (full (length stored - 1)) (encrypting stored)) planes) where
   least : 11 ≤ length stored
@@ -75,22 +75,22 @@ module _ (n : ℕ) (some : 1 ≤ n) (planes : List (List Bool)) (stored : List (
   most : length stored ≤ 15
   most = omega (arith, lanes.one_of_three)
 
-  is_schedule : IsSchedule n (full (rounds_of words)) (lanes_key stored) planes
+  is_schedule : IsSchedule n (full (rounds_of words)) (cipher_key stored) planes
   is_schedule i lt =
-      let w : encrypting stored ≡ fips.key_expansion (lanes_key stored) = lanes.keys in
+      let w : encrypting stored ≡ fips.key_expansion (cipher_key stored) = lanes.keys in
       let r : length stored - 1 ≡ rounds_of words = omega (arith, sized) in
       let below : i < length stored = omega (arith, lt, ap length w, keys_length cipher_form stored) in
       holds i below ∙ (λ j. replicate n (stored_key (full (r j)) (w j) i))
 
-  same_size : length (lanes_key stored) ≡ size_of words
+  same_size : length (cipher_key stored) ≡ size_of words
   same_size = lanes.sized ∙ omega (arith, sized)
 
   -- planes that hold them in the full layout are read as the key that the stored round keys are read as
-  pub planes_key : key_of (size_of words) n (full (rounds_of words)) planes ≡ lanes_key stored
+  pub planes_key : key_of (size_of words) n (full (rounds_of words)) planes ≡ cipher_key stored
   planes_key =
       key_of-schedule n (full (rounds_of words)) some
       (deferred_below (rounds_of words) 4 0 0 (omega (arith, sized, least)) refl) planes (size_of words)
-      (rounds_of words - 6) (lanes_key stored) refl same_size (omega (arith, sized, least)) (omega (arith, sized, most))
+      (rounds_of words - 6) (cipher_key stored) refl same_size (omega (arith, sized, least)) (omega (arith, sized, most))
       is_schedule
 
   -- and are the schedule of that key

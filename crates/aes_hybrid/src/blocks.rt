@@ -7,14 +7,14 @@ ghost use Rattle.aes_planes.specs.Words.{word_bits};
 ghost use Rattle.aes_soft.specs.Stored as soft;
 ghost use Rattle.aes_permute.specs.Keys.{encrypting};
 ghost use Rattle.aes_permute.specs.Stored.{round_keys_of};
-ghost use Rattle.aes_hybrid.specs.Lanes.{lanes_key, IsLanes};
+ghost use Rattle.aes_hybrid.specs.Keys.{cipher_key, IsCipherSchedule};
 
-use crate::plane_keys::put_first;
+use crate::plane_keys::store_planes_first;
 use crate::sixteens::{blocks_by_sixteen, process_sixteens};
 use crate::widths::Width;
-use aes_cipher::zeroize::Held;
+use aes_cipher::zeroize::MustWipe;
 use aes_permute::blocks::process_blocks as process_on_lanes;
-use aes_permute::directions::LaneRounds;
+use aes_permute::lane_rounds::LaneRounds;
 use aes_planes::soft::sbox::Layers;
 use aes_planes::soft::word::Block;
 use aes_soft::soft::PlaneCipher;
@@ -26,7 +26,7 @@ pub const BATCH: usize = 8;
 
 // The most blocks for which vector permutations take less time than a batch on planes, once the planes of the round keys
 // are made.
-pub(crate) const FEW: usize = 5;
+pub(crate) const MOST_ON_LANES: usize = 5;
 
 // From how many blocks on encryption takes less time on planes. Decryption's permutations take longer.
 const LEAST_ON_PLANES: usize = 15;
@@ -107,14 +107,14 @@ fn process_with_planes<const N: usize, D: LaneRounds + PlaneCipher>(
 )
     requires room { 8 * length keys.now ≤ N }
     requires most { N ≤ 120 }
-    requires is_lanes { IsLanes keys.now }
+    requires keyed { IsCipherSchedule keys.now }
     requires some { 7 ≤ length blocks.old }
     requires rest { (length blocks.old % 8 ≡ 0) ⊎ (6 ≤ length blocks.old % 8) }
-    ensures { Each (D.processed (fips.key_expansion (lanes_key keys.now))) blocks.old blocks.new }
+    ensures { Each (D.processed (fips.key_expansion (cipher_key keys.now))) blocks.old blocks.new }
 {
-    let mut wide = Held::<[BatchWord; N]>::zeroed();
-    put_first::<N, BatchWord>(wide.words_mut(), keys);
-    let words = &wide.words()[..8 * keys.len()];
+    let mut wide = MustWipe::<[BatchWord; N]>::zeroed();
+    store_planes_first::<N, BatchWord>(wide.value_mut(), keys);
+    let words = &wide.value()[..8 * keys.len()];
     if blocks.len() < BATCH {
         process_seven::<D>(words, blocks);
     } else {
@@ -126,10 +126,10 @@ fn process_with_planes<const N: usize, D: LaneRounds + PlaneCipher>(
 // Does the same in an array no larger than the round keys. Not inlined, so that few blocks need no large stack frame.
 #[inline(never)]
 fn process_on_planes<D: LaneRounds + PlaneCipher>(keys: &[Block], blocks: &mut [Block])
-    requires is_lanes { IsLanes keys.now }
+    requires keyed { IsCipherSchedule keys.now }
     requires some { 7 ≤ length blocks.old }
     requires rest { (length blocks.old % 8 ≡ 0) ⊎ (6 ≤ length blocks.old % 8) }
-    ensures { Each (D.processed (fips.key_expansion (lanes_key keys.now))) blocks.old blocks.new }
+    ensures { Each (D.processed (fips.key_expansion (cipher_key keys.now))) blocks.old blocks.new }
 {
     if keys.len() == 11 {
         process_with_planes::<88, D>(keys, blocks);
@@ -143,9 +143,9 @@ fn process_on_planes<D: LaneRounds + PlaneCipher>(keys: &[Block], blocks: &mut [
 // Processes each block by vector permutations.
 #[inline(always)]
 pub(crate) fn process_few<D: LaneRounds>(keys: &[Block], used: &[Block], blocks: &mut [Block])
-    requires is_lanes { IsLanes keys.now }
+    requires keyed { IsCipherSchedule keys.now }
     requires used { round_keys_of D.form used.now ≡ D.form.used_keys (encrypting keys.now) }
-    ensures { Each (D.processed (fips.key_expansion (lanes_key keys.now))) blocks.old blocks.new }
+    ensures { Each (D.processed (fips.key_expansion (cipher_key keys.now))) blocks.old blocks.new }
 {
     let _ = keys;
     D::processes();
@@ -166,7 +166,7 @@ fn blocks_on_planes<D: LaneRounds>(count: usize) -> usize
         if D::BACKWARD && count == 7 { 7 } else { 0 }
     } else if !D::BACKWARD && count < LEAST_ON_PLANES {
         0
-    } else if rest > FEW {
+    } else if rest > MOST_ON_LANES {
         count
     } else {
         count - rest
@@ -176,9 +176,9 @@ fn blocks_on_planes<D: LaneRounds>(count: usize) -> usize
 // Processes each block of a slice in place: whole batches of eight on planes, and the others by vector permutations where
 // they are few, since these take less time so.
 fn process_narrow<D: LaneRounds + PlaneCipher>(keys: &[Block], used: &[Block], blocks: &mut [Block])
-    requires is_lanes { IsLanes keys.now }
+    requires keyed { IsCipherSchedule keys.now }
     requires used { round_keys_of D.form used.now ≡ D.form.used_keys (encrypting keys.now) }
-    ensures { Each (D.processed (fips.key_expansion (lanes_key keys.now))) blocks.old blocks.new }
+    ensures { Each (D.processed (fips.key_expansion (cipher_key keys.now))) blocks.old blocks.new }
 {
     let whole = blocks_on_planes::<D>(blocks.len());
     if whole > 0 {
@@ -195,9 +195,9 @@ pub fn process_blocks<D: LaneRounds + PlaneCipher, W: Width>(
     used: &[Block],
     blocks: &mut [Block],
 )
-    requires is_lanes { IsLanes keys.now }
+    requires keyed { IsCipherSchedule keys.now }
     requires used { round_keys_of D.form used.now ≡ D.form.used_keys (encrypting keys.now) }
-    ensures { Each (D.processed (fips.key_expansion (lanes_key keys.now))) blocks.old blocks.new }
+    ensures { Each (D.processed (fips.key_expansion (cipher_key keys.now))) blocks.old blocks.new }
 {
     let whole = blocks_by_sixteen::<W>(blocks.len());
     if whole > 0 {

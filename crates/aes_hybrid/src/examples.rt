@@ -7,7 +7,7 @@
 ghost use Rattle.std.specs.Prelude.{◌≡◌, ◌∷◌, [], map, replicate};
 ghost use Rattle.aes_planes.specs.BigEndian.{bytes};
 ghost use Rattle.aes_permute.specs.Keys.{lane_key_size};
-ghost use Rattle.aes_hybrid.specs.Lanes.{AreInverse, IsLanes};
+ghost use Rattle.aes_hybrid.specs.Keys.{AreInverse, IsCipherSchedule};
 
 // The stored round keys of Cipher for that key, each as one number, highest byte first.
 const ENCRYPTING: [u128; 11] = [
@@ -51,5 +51,5 @@ pub fn inverse_examples()
 /// Eleven, thirteen and fifteen round keys are those of keys of 16, 24 and 32 bytes; twelve are of none.
 pub fn size_examples()
     ensures sizes { map (λ n. lane_key_size (replicate n [])) (11 ∷ 13 ∷ 15 ∷ []) ≡ 16 ∷ 24 ∷ 32 ∷ [] }
-    ensures twelve { ¬ IsLanes (replicate 12 []) }
+    ensures twelve { ¬ IsCipherSchedule (replicate 12 []) }
 {}

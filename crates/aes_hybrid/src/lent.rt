@@ -3,16 +3,16 @@
 ghost use Rattle.std.specs.Prelude.{◌≡◌, ℕ, ◌*◌, ◌≤◌, List, length};
 ghost use Rattle.aes_planes.specs.Fips197 as fips;
 ghost use Rattle.aes_planes.proofs.Standard.CipherLaws.{two_keys};
-ghost use Rattle.aes_hybrid.specs.Lanes.{lanes_key, IsLanes};
+ghost use Rattle.aes_hybrid.specs.Keys.{cipher_key, IsCipherSchedule};
 
 pub(crate) mod backends;
 
 use crate::blocks::{BATCH, process_blocks};
-use crate::plane_keys::put_first;
+use crate::plane_keys::store_planes_first;
 use crate::sixteens::{self, call_with_sixteens};
 use crate::widths::{Narrow, Width};
 use aes_cipher::cipher::{BlockCipherEncClosure, BlockCipherEncrypt, Encrypt, RoundKeysUser};
-use aes_cipher::zeroize::Held;
+use aes_cipher::zeroize::MustWipe;
 use aes_planes::laws;
 use aes_planes::soft::word::Block;
 use aes_soft::soft::key_sizes::BatchWord;
@@ -40,17 +40,17 @@ impl<W> Drop for Lent<'_, W> {
 impl<'a, W> Model for Lent<'a, W> {
     ghost Value = { List ℕ };
 
-    ghost view = { λ lent. lanes_key lent.keys.now };
+    ghost view = { λ lent. cipher_key lent.keys.now };
 
-    ghost invariant = { λ lent. IsLanes lent.keys.now };
+    ghost invariant = { λ lent. IsCipherSchedule lent.keys.now };
 }
 
 impl<'a, W> Lent<'a, W> {
     /// Lends stored round keys.
     #[inline(always)]
     pub fn new(keys: &'a [Block]) -> Lent<'a, W>
-        requires { IsLanes keys.now }
-        ensures { result ≡ lanes_key keys.now }
+        requires { IsCipherSchedule keys.now }
+        ensures { result ≡ cipher_key keys.now }
     {
         Lent {
             keys,
@@ -110,12 +110,12 @@ impl<W: Width> BlockCipherEncrypt for Lent<'_, W> {
 fn call_with_planes<const N: usize, F: BlockCipherEncClosure>(keys: &[Block], f: &mut F)
     requires room { 8 * length keys.now ≤ N }
     requires most { N ≤ 120 }
-    requires is_lanes { IsLanes keys.now }
-    ensures { F.did f.old (fips.key_expansion (lanes_key keys.now)) f.new }
+    requires keyed { IsCipherSchedule keys.now }
+    ensures { F.did f.old (fips.key_expansion (cipher_key keys.now)) f.new }
 {
-    let mut wide = Held::<[BatchWord; N]>::zeroed();
-    put_first::<N, BatchWord>(wide.words_mut(), keys);
-    let words = &wide.words()[..8 * keys.len()];
+    let mut wide = MustWipe::<[BatchWord; N]>::zeroed();
+    store_planes_first::<N, BatchWord>(wide.value_mut(), keys);
+    let words = &wide.value()[..8 * keys.len()];
     f.call(&Batches::new(keys, words));
     wide.wipe();
 }

@@ -18,4 +18,4 @@ pub use ciphers::Hybrid;
 pub use names::{
     Aes128, Aes128Dec, Aes128Enc, Aes192, Aes192Dec, Aes192Enc, Aes256, Aes256Dec, Aes256Enc,
 };
-pub use plane_keys::put_planes;
+pub use plane_keys::store_planes;

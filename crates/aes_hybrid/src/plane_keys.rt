@@ -5,13 +5,13 @@ ghost use Rattle.aes_planes.specs.Fips197 as fips;
 ghost use Rattle.aes_planes.specs.Planes.{held, words_at};
 ghost use Rattle.aes_soft.specs.Stored as soft;
 ghost use Rattle.aes_permute.specs.Stored.{untower};
-ghost use Rattle.aes_hybrid.specs.Lanes.{lanes_key, IsLanes};
+ghost use Rattle.aes_hybrid.specs.Keys.{cipher_key, IsCipherSchedule};
 
 use crate::slots::SlotWord;
 use aes_permute::lanes::looked_up_by_nibbles;
 use aes_permute::tables::{UNTOWER_HIGH, UNTOWER_LOW};
 use aes_planes::laws;
-use aes_planes::soft::utils::put_round_key;
+use aes_planes::soft::utils::store_round_key;
 use aes_planes::soft::word::Block;
 use std::simd::prelude::*;
 
@@ -58,48 +58,48 @@ fn plane_key(stored: &Block, number: usize) -> u8x16
 
 // Stores a block in every slot as the planes of round key `i`. The other words stay.
 #[inline(always)]
-fn put_block<W: SlotWord>(words: &mut [W], i: usize, block: u8x16)
+fn store_block<W: SlotWord>(words: &mut [W], i: usize, block: u8x16)
     requires room { 8 * i + 8 ≤ length words.old }
-    ensures put { held W.BLOCKS (map W.bits (words_at words.new (8 * i))) ≡ replicate W.BLOCKS block }
+    ensures there { held W.BLOCKS (map W.bits (words_at words.new (8 * i))) ≡ replicate W.BLOCKS block }
     ensures others { (o : ℕ) → (o + 8 ≤ 8 * i) ⊎ (8 * i + 8 ≤ o) → words_at words.new o ≡ words_at words.old o }
     ensures same_length { length words.new ≡ length words.old }
 {
     let block = block.to_array();
     laws::is_block(block);
     let planes = W::in_every_slot(u8x16::from_array(block));
-    put_round_key(words, i, &planes);
+    store_round_key(words, i, &planes);
 }
 
 /// Writes stored round keys of Cipher to words, as the full layout of planes stores those of the same key.
-pub fn put_planes<W: SlotWord>(words: &mut [W], keys: &[Block])
+pub fn store_planes<W: SlotWord>(words: &mut [W], keys: &[Block])
     requires sized { length words.old ≡ 8 * length keys.now }
-    requires is_lanes { IsLanes keys.now }
+    requires keyed { IsCipherSchedule keys.now }
     ensures same_length { length words.new ≡ 8 * length keys.now }
     ensures is_schedule { let n = length words.new in
         soft.IsKeyed (soft.size_of n) W.BLOCKS (soft.full (soft.rounds_of n)) (map W.bits words.new) }
     ensures key { let n = length words.new in
         soft.key_of (soft.size_of n) W.BLOCKS (soft.full (soft.rounds_of n)) (map W.bits words.new)
-        ≡ lanes_key keys.now }
+        ≡ cipher_key keys.now }
 {
     let last = keys.len() - 1;
-    put_block(words, 0, u8x16::from_array(keys[0]));
+    store_block(words, 0, u8x16::from_array(keys[0]));
     'keys: for i in 1..last {
-        put_block(words, i, plane_key(&keys[i], i));
+        store_block(words, i, plane_key(&keys[i], i));
     }
-    put_block(words, last, u8x16::from_array(keys[last]));
+    store_block(words, last, u8x16::from_array(keys[last]));
 }
 
 // Writes the same to the first words of an array.
 #[inline(always)]
-pub(crate) fn put_first<const N: usize, W: SlotWord>(wide: &mut [W; N], keys: &[Block])
+pub(crate) fn store_planes_first<const N: usize, W: SlotWord>(wide: &mut [W; N], keys: &[Block])
     requires room { 8 * length keys.now ≤ N }
     requires most { N ≤ 120 }
-    requires is_lanes { IsLanes keys.now }
+    requires keyed { IsCipherSchedule keys.now }
     ensures is_schedule { let n = 8 * length keys.now in
         soft.IsKeyed (soft.size_of n) W.BLOCKS (soft.full (soft.rounds_of n)) (map W.bits (take n wide.new)) }
     ensures key { let n = 8 * length keys.now in
         soft.key_of (soft.size_of n) W.BLOCKS (soft.full (soft.rounds_of n)) (map W.bits (take n wide.new))
-        ≡ lanes_key keys.now }
+        ≡ cipher_key keys.now }
 {
-    put_planes(&mut wide[..8 * keys.len()], keys);
+    store_planes(&mut wide[..8 * keys.len()], keys);
 }

@@ -4,15 +4,15 @@ ghost use Rattle.std.specs.Prelude.{◌≡◌, ◌*◌, ◌%◌, ◌<◌, ◌≤
 ghost use Rattle.aes_planes.specs.Each.{Each};
 ghost use Rattle.aes_planes.specs.Fips197 as fips;
 ghost use Rattle.aes_soft.specs.Stored as soft;
-ghost use Rattle.aes_hybrid.specs.Lanes.{lanes_key, IsLanes};
+ghost use Rattle.aes_hybrid.specs.Keys.{cipher_key, IsCipherSchedule};
 
-use crate::blocks::FEW;
+use crate::blocks::MOST_ON_LANES;
 use crate::lent::backends::Sixteens;
-use crate::plane_keys::put_first;
+use crate::plane_keys::store_planes_first;
 use crate::widths::Width;
 use aes_cipher::cipher::BlockCipherEncClosure;
 use aes_cipher::zeroize::zeroize_words;
-use aes_permute::directions::LaneRounds;
+use aes_permute::lane_rounds::LaneRounds;
 use aes_planes::soft::sbox::Layers;
 use aes_planes::soft::word::{Block, Word};
 use aes_soft::soft::PlaneCipher;
@@ -36,7 +36,11 @@ pub(crate) fn blocks_by_sixteen<W: Width>(count: usize) -> usize
         return 0;
     }
     let rest = count % BATCH;
-    if rest > FEW { count } else { count - rest }
+    if rest > MOST_ON_LANES {
+        count
+    } else {
+        count - rest
+    }
 }
 
 // Processes fewer blocks than a batch, as one with blocks of zeros.
@@ -86,11 +90,11 @@ fn process_under_wide<const N: usize, D: LaneRounds + PlaneCipher>(
 )
     requires room { 8 * length keys.now ≤ N }
     requires most { N ≤ 120 }
-    requires is_lanes { IsLanes keys.now }
-    ensures { Each (D.processed (fips.key_expansion (lanes_key keys.now))) blocks.old blocks.new }
+    requires keyed { IsCipherSchedule keys.now }
+    ensures { Each (D.processed (fips.key_expansion (cipher_key keys.now))) blocks.old blocks.new }
 {
     let mut wide = [u8x32::splat(0); N];
-    put_first::<N, u8x32>(&mut wide, keys);
+    store_planes_first::<N, u8x32>(&mut wide, keys);
     process_in_sixteens::<D>(&wide[..8 * keys.len()], blocks);
     zeroize_words::<u8x32>(&mut wide);
 }
@@ -99,8 +103,8 @@ fn process_under_wide<const N: usize, D: LaneRounds + PlaneCipher>(
 /// need no large stack frame.
 #[inline(never)]
 pub(crate) fn process_sixteens<D: LaneRounds + PlaneCipher>(keys: &[Block], blocks: &mut [Block])
-    requires is_lanes { IsLanes keys.now }
-    ensures { Each (D.processed (fips.key_expansion (lanes_key keys.now))) blocks.old blocks.new }
+    requires keyed { IsCipherSchedule keys.now }
+    ensures { Each (D.processed (fips.key_expansion (cipher_key keys.now))) blocks.old blocks.new }
 {
     if keys.len() == 11 {
         process_under_wide::<88, D>(keys, blocks);
@@ -116,11 +120,11 @@ pub(crate) fn process_sixteens<D: LaneRounds + PlaneCipher>(keys: &[Block], bloc
 fn call_with_wide<const N: usize, F: BlockCipherEncClosure>(keys: &[Block], f: &mut F)
     requires room { 8 * length keys.now ≤ N }
     requires most { N ≤ 120 }
-    requires is_lanes { IsLanes keys.now }
-    ensures { F.did f.old (fips.key_expansion (lanes_key keys.now)) f.new }
+    requires keyed { IsCipherSchedule keys.now }
+    ensures { F.did f.old (fips.key_expansion (cipher_key keys.now)) f.new }
 {
     let mut wide = [u8x32::splat(0); N];
-    put_first::<N, u8x32>(&mut wide, keys);
+    store_planes_first::<N, u8x32>(&mut wide, keys);
     f.call(&Sixteens::new(keys, &wide[..8 * keys.len()]));
     zeroize_words::<u8x32>(&mut wide);
 }
@@ -128,8 +132,8 @@ fn call_with_wide<const N: usize, F: BlockCipherEncClosure>(keys: &[Block], f: &
 /// Calls a closure with a backend for sixteen blocks, in an array no larger than the round keys.
 #[inline(always)]
 pub(crate) fn call_with_sixteens<F: BlockCipherEncClosure>(keys: &[Block], f: &mut F)
-    requires is_lanes { IsLanes keys.now }
-    ensures { F.did f.old (fips.key_expansion (lanes_key keys.now)) f.new }
+    requires keyed { IsCipherSchedule keys.now }
+    ensures { F.did f.old (fips.key_expansion (cipher_key keys.now)) f.new }
 {
     if keys.len() == 11 {
         call_with_wide::<88, F>(keys, f);

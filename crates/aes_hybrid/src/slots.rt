@@ -12,7 +12,7 @@ use aes_soft::soft::key_sizes::BatchWord;
 use std::simd::prelude::*;
 
 // The bytes of a block, row by row.
-#[tactic(auto, using(crate::proofs::SpreadLanes::row_place))]
+#[tactic(auto, using(crate::proofs::SlotLanes::row_place))]
 #[inline(always)]
 fn by_rows(block: u8x16) -> u8x16
     requires { fips.IsBlock block }
@@ -22,7 +22,7 @@ fn by_rows(block: u8x16) -> u8x16
 }
 
 // A lane of ones for each byte that has a bit.
-#[tactic(auto, using(crate::proofs::SpreadLanes::lane_with))]
+#[tactic(auto, using(crate::proofs::SlotLanes::lane_with))]
 #[inline(always)]
 fn lanes_with(bytes: u8x16, power: u8) -> u8x16
     ensures { (p j : ℕ) → power ≡ 2 ^ p → p < 8 → j < 16

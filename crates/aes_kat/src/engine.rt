@@ -51,7 +51,7 @@ fn write_whole<W: Write>(output: &mut W, bytes: &[u8]) -> Result<(), Failed>
 }
 
 // Adds the reply to a line and its line end to `answers`.
-fn answer<A: Allocator>(line: &[u8], answers: &mut Vec<u8, A>) -> Result<bool, Failed>
+fn add_reply<A: Allocator>(line: &[u8], answers: &mut Vec<u8, A>) -> Result<bool, Failed>
     ensures text { OnOk result (answers.new.items ≡ answers.old.items ++ (reply_to line.now ++ 10 ∷ [])) }
     ensures fault { IfOk result (λ fault. fault ≡ is_fault line.now) }
 {
@@ -78,7 +78,7 @@ fn gather<A: Allocator>(
     let mut fault = false;
     while let Some((front, after)) = split_once(rest, LINE_END) {
         line.extend_from_slice(front)?;
-        fault |= answer(line.as_slice(), answers)?;
+        fault |= add_reply(line.as_slice(), answers)?;
         line.clear();
         rest = after;
     }
@@ -116,7 +116,7 @@ fn answer_rest<A: Allocator>(line: &[u8], answers: &mut Vec<u8, A>) -> Result<bo
     if line.is_empty() {
         return Ok(false);
     }
-    answer(line, answers)
+    add_reply(line, answers)
 }
 
 // Writes the answer to what follows the last line end of the input, and flushes.

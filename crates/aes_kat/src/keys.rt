@@ -9,7 +9,7 @@ ghost use Rattle.aes_kat.specs.Private.Steps.{decoded};
 
 use crate::faults::Fault;
 use crate::operands::bytes_of;
-use aes::{AesCipher, Block};
+use aes::{Block, FixslicedAes};
 use aes_cipher::aes::{Bits128, Bits192, Bits256, KeySize};
 use aes_cipher::cipher::{BlockCipherDecrypt, BlockCipherEncrypt, Decrypt, Encrypt, KeyInit};
 
@@ -67,12 +67,12 @@ impl Key {
 fn encrypt_with<K: KeySize>(key: &K::Key, blocks: &mut [Block])
     ensures { Each (fips.cipher (K.Key.bytes key.now)) blocks.old blocks.new }
 {
-    AesCipher::<K, Encrypt>::new(key).encrypt_blocks(blocks);
+    FixslicedAes::<K, Encrypt>::new(key).encrypt_blocks(blocks);
 }
 
 // Decrypts each block by the library's type for a size.
 fn decrypt_with<K: KeySize>(key: &K::Key, blocks: &mut [Block])
     ensures { Each (fips.inv_cipher (K.Key.bytes key.now)) blocks.old blocks.new }
 {
-    AesCipher::<K, Decrypt>::new(key).decrypt_blocks(blocks);
+    FixslicedAes::<K, Decrypt>::new(key).decrypt_blocks(blocks);
 }

@@ -106,8 +106,8 @@ products_made = refl
 -- ---- the round
 
 -- the byte of row j after InvShiftRows, in column c
-abbrev pub moved : List ℕ → ℕ → ℕ → ℕ
-moved x c j = byte_at x j ((c + 4 - j) % 4)
+abbrev pub inv_shifted : List ℕ → ℕ → ℕ → ℕ
+inv_shifted x c j = byte_at x j ((c + 4 - j) % 4)
 
 -- the lanes that InvShiftRows brings to each place
 abbrev pub same_row : List ℕ
@@ -124,38 +124,38 @@ abbrev pub fourth_row : List ℕ
 fourth_row = 7 ∷ 0 ∷ 13 ∷ 10 ∷ 11 ∷ 4 ∷ 1 ∷ 14 ∷ 15 ∷ 8 ∷ 5 ∷ 2 ∷ 3 ∷ 12 ∷ 9 ∷ 6 ∷ []
 
 -- the sums that a round makes of four products of the state and a round key
-abbrev pub round_of : List ℕ → List ℕ → List ℕ → List ℕ → List ℕ → List ℕ
-round_of a b c d k =
+abbrev pub inv_round_of : List ℕ → List ℕ → List ℕ → List ℕ → List ℕ → List ℕ
+inv_round_of a b c d k =
     zip2 bit_xor (zip2 bit_xor (zip2 bit_xor (swizzled a same_row) k)
     (zip2 bit_xor (swizzled c third_row) (swizzled d fourth_row)))
     (swizzled b next_row)
 
 abbrev on_lanes : List ℕ → List ℕ → List ℕ
-on_lanes x k = on_products of_bytes (λ a b c d. round_of a b c d k) x
+on_lanes x k = on_products of_bytes (λ a b c d. inv_round_of a b c d k) x
 
 lanes_are : (x k : List ℕ) → length x ≡ 16 → length k ≡ 16
-    → on_lanes x k ≡ rows_added inv_untower (products of_bytes) (moved x) (byte_at k)
+    → on_lanes x k ≡ rows_added inv_untower (products of_bytes) (inv_shifted x) (byte_at k)
 unfolding state build
-lanes_are = same_on_blocks on_lanes (λ x k. rows_added inv_untower (products of_bytes) (moved x) (byte_at k))
+lanes_are = same_on_blocks on_lanes (λ x k. rows_added inv_untower (products of_bytes) (inv_shifted x) (byte_at k))
     (λ f g. refl)
 
 sums_are : (x k : List ℕ) → length x ≡ 16 → length k ≡ 16
-    → rows_multiplied plain (products of_bytes) (moved x) (λ r c. inv_untower (byte_at k r c))
+    → rows_multiplied plain (products of_bytes) (inv_shifted x) (λ r c. inv_untower (byte_at k r c))
     ≡ add_round_key (inv_mix_columns (inv_shift_rows (map plain x))) (map inv_untower k)
 unfolding state build add_round_key inv_mix_columns row_by_column inv_shift_rows
 sums_are = same_on_blocks
-    (λ x k. rows_multiplied plain (products of_bytes) (moved x) (λ r c. inv_untower (byte_at k r c)))
+    (λ x k. rows_multiplied plain (products of_bytes) (inv_shifted x) (λ r c. inv_untower (byte_at k r c)))
     (λ x k. add_round_key (inv_mix_columns (inv_shift_rows (map plain x))) (map inv_untower k)) (λ f g. refl)
 
 -- a round on lanes is InvSubBytes, InvShiftRows, InvMixColumns and AddRoundKey of what the lanes stand for
 pub round_is : (x k : List ℕ) {one four nine fifteen a b c : List ℕ} → IsBlock x → length k ≡ 16
     → AreLooked of_bytes x one four nine fifteen a b c
-    → map inv_untower (round_of a b c nine k)
+    → map inv_untower (inv_round_of a b c nine k)
     ≡ add_round_key (inv_mix_columns (inv_shift_rows (inv_sub_bytes (map inv_untower x)))) (map inv_untower k)
 round_is x k h m l =
-    looked_up (λ a b c d. round_of a b c d k) l
+    looked_up (λ a b c d. inv_round_of a b c d k) l
     ∙ lanes_are x k h.0 m
-    ∙ rows_mixed inv_untower plain (products of_bytes) inv_untower_three products_made (moved x) (byte_at k)
+    ∙ rows_mixed inv_untower plain (products of_bytes) inv_untower_three products_made (inv_shifted x) (byte_at k)
     (λ r c. inv_untower (byte_at k r c)) (λ c j. h.1 _) (λ r c. add_zero (inv_untower (byte_at k r c)))
     ∙ sums_are x k h.0 m
     ∙ ap (λ v. add_round_key (inv_mix_columns (inv_shift_rows v)) (map inv_untower k)) (plain_is x h.1)

@@ -62,8 +62,8 @@ products_made = refl
 -- ---- the round
 
 -- the byte of row j after ShiftRows, in column c
-abbrev pub moved : List ℕ → ℕ → ℕ → ℕ
-moved x c j = byte_at x j ((c + j) % 4)
+abbrev pub shifted : List ℕ → ℕ → ℕ → ℕ
+shifted x c j = byte_at x j ((c + j) % 4)
 
 -- the lanes of which the bytes of a column are made, from its own row on
 abbrev pub same_row : List ℕ
@@ -114,21 +114,21 @@ pairs_parted a o t c d y =
     ∙ sym (xor_assoc (bit_xor a y) (bit_xor c d) (bit_xor o t))
 
 abbrev rows_by_pairs : List ℕ → List ℕ → List ℕ
-rows_by_pairs x k = state (λ r c. untower (pairs_summed (two (moved x c (r % 4))) (one (moved x c ((r + 1) % 4)))
-    (two (moved x c ((r + 1) % 4))) (one (moved x c ((r + 2) % 4))) (one (moved x c ((r + 3) % 4))) (byte_at k r c)))
+rows_by_pairs x k = state (λ r c. untower (pairs_summed (two (shifted x c (r % 4))) (one (shifted x c ((r + 1) % 4)))
+    (two (shifted x c ((r + 1) % 4))) (one (shifted x c ((r + 2) % 4))) (one (shifted x c ((r + 3) % 4))) (byte_at k r c)))
 
 lanes_are : (x k : List ℕ) → length x ≡ 16 → length k ≡ 16
-    → on_lanes x k ≡ rows_added untower products (moved x) (byte_at k)
+    → on_lanes x k ≡ rows_added untower products (shifted x) (byte_at k)
 unfolding state build
 lanes_are x k l m =
     same_on_blocks on_lanes rows_by_pairs (λ f g. refl) x k l m
-    ∙ state_same _ _ (λ r c i j. ap untower (pairs_parted (two (moved x c (r % 4))) (one (moved x c ((r + 1) % 4)))
-    (two (moved x c ((r + 1) % 4))) (one (moved x c ((r + 2) % 4))) (one (moved x c ((r + 3) % 4))) (byte_at k r c)))
+    ∙ state_same _ _ (λ r c i j. ap untower (pairs_parted (two (shifted x c (r % 4))) (one (shifted x c ((r + 1) % 4)))
+    (two (shifted x c ((r + 1) % 4))) (one (shifted x c ((r + 2) % 4))) (one (shifted x c ((r + 3) % 4))) (byte_at k r c)))
 
 sums_are : (x k : List ℕ) → length x ≡ 16 → length k ≡ 16
-    → rows_multiplied boxed products (moved x) (λ r c. key_untower (byte_at k r c)) ≡ standard x k
+    → rows_multiplied boxed products (shifted x) (λ r c. key_untower (byte_at k r c)) ≡ standard x k
 unfolding state build add_round_key mix_columns row_by_column shift_rows sub_bytes
-sums_are = same_on_blocks (λ x k. rows_multiplied boxed products (moved x) (λ r c. key_untower (byte_at k r c)))
+sums_are = same_on_blocks (λ x k. rows_multiplied boxed products (shifted x) (λ r c. key_untower (byte_at k r c)))
     standard (λ f g. refl)
 
 -- a round on lanes is SubBytes, ShiftRows, MixColumns and AddRoundKey of what the lanes stand for
@@ -139,7 +139,7 @@ unfolding key_untower
 round_is x k b m q s e =
     (λ i. map untower (round_of (q i) ((e ∙ (λ j. paired (q j) (s j))) i) k))
     ∙ lanes_are x k b.0 m
-    ∙ rows_mixed untower boxed products untower_three products_made (moved x) (byte_at k)
+    ∙ rows_mixed untower boxed products untower_three products_made (shifted x) (byte_at k)
     (λ r c. key_untower (byte_at k r c)) (λ c j. b.1 _) (λ r c. refl)
     ∙ sums_are x k b.0 m
 

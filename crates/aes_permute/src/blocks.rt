@@ -6,7 +6,7 @@ ghost use Rattle.aes_planes.specs.Fips197 as fips;
 ghost use Rattle.aes_planes.specs.Rounds.{all_rounds};
 ghost use Rattle.aes_permute.specs.Stored.{round_keys_of};
 
-use crate::directions::LaneRounds;
+use crate::lane_rounds::LaneRounds;
 use aes_planes::soft::word::Block;
 use std::simd::prelude::*;
 

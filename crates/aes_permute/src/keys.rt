@@ -8,10 +8,10 @@ mod backend;
 mod one_way;
 mod two_ways;
 
-use crate::directions::LaneRounds;
+use crate::lane_rounds::LaneRounds;
 use aes_cipher::aes::KeySchedule;
 use aes_planes::soft::word::Block;
-pub use backend::{LaneBackend, TwoBlocks};
+pub use backend::{BatchOfTwo, LaneBackend};
 pub use one_way::OneWay;
 pub use two_ways::TwoWays;
 

@@ -3,9 +3,9 @@
 #![tactic(auto)]
 
 pub mod blocks;
-pub mod directions;
 pub mod examples;
 pub mod keys;
+pub mod lane_rounds;
 pub mod lanes;
 mod names;
 pub mod rounds;

@@ -113,7 +113,7 @@ pub fn decrypt_last(x: u8x16, key: u8x16) -> u8x16
 /// Returns a round key of Cipher between the first and the last as it is stored.
 #[tactic(auto, using(crate::proofs::ScheduleLanes::inner_is))]
 #[inline(always)]
-pub fn encrypt_key(key: u8x16) -> u8x16
+pub fn encrypting_key(key: u8x16) -> u8x16
     requires { fips.IsBlock key }
     ensures { map key_untower result ≡ key }
 {
@@ -125,7 +125,7 @@ pub fn encrypt_key(key: u8x16) -> u8x16
 /// Returns a round key of EqInvCipher between the first and the last as it is stored: InvMixColumns of that of Cipher
 /// (FIPS 197, 5.3.5).
 #[inline(always)]
-pub fn decrypt_key(key: u8x16) -> u8x16
+pub fn decrypting_key(key: u8x16) -> u8x16
     requires { fips.IsBlock key }
     ensures { map inv_untower result ≡ fips.inv_mix_columns key }
 {
@@ -156,7 +156,7 @@ pub fn inverted_key(stored: u8x16) -> u8x16
     requires { fips.IsBlock stored }
     ensures { map inv_untower result ≡ fips.inv_mix_columns (map key_untower stored) }
 {
-    decrypt_key(plain_key(stored))
+    decrypting_key(plain_key(stored))
 }
 
 /// SubBytes of a block as it is, but for the constant of the S-box (FIPS 197, 5.1.1).

@@ -6,7 +6,7 @@ ghost use Rattle.aes_planes.specs.Planes.{plus63, summed};
 ghost use Rattle.aes_permute.specs.Keys.{encrypting, decrypting, lane_key, IsLaneSchedule};
 ghost use Rattle.aes_permute.specs.Stored.{place_of, round_keys_of, IsWritten};
 
-use crate::directions::LaneRounds;
+use crate::lane_rounds::LaneRounds;
 use crate::lanes::{lookup, sum};
 use crate::rounds::{inverted_key, sub_bytes_but_constant};
 use aes_planes::expansion::{self, KeyForm};
@@ -75,13 +75,13 @@ struct LaneSchedule<D> {
 impl<D: LaneRounds> KeyForm for LaneSchedule<D> {
     type Words = u8x16;
 
-    type Unit = Block;
+    type StoredIn = Block;
 
     ghost AreWords = { λ words block. words ≡ block };
 
     ghost IsStored = { IsWritten D.BACKWARD D.form };
 
-    ghost units = { λ last. last + 1 };
+    ghost length_for = { λ last. last + 1 };
 
     ghost LAYERS = { 0 };
 
@@ -125,12 +125,12 @@ impl<D: LaneRounds> KeyForm for LaneSchedule<D> {
     }
 
     #[inline(always)]
-    fn again(_stored: &[Block], _i: usize, _last: usize, words: u8x16) -> u8x16 {
+    fn read_back(_stored: &[Block], _i: usize, _last: usize, words: u8x16) -> u8x16 {
         words
     }
 
     #[inline(always)]
-    fn put(stored: &mut [Block], i: usize, last: usize, words: u8x16) {
+    fn store(stored: &mut [Block], i: usize, last: usize, words: u8x16) {
         let key = if i == 0 {
             words
         } else if i == last {

@@ -4,7 +4,7 @@ ghost use Rattle.std.specs.Prelude.{◌≡◌, ◌⊎◌, ◌+◌, ◌/◌, leng
 ghost use Rattle.aes_planes.specs.Fips197 as fips;
 ghost use Rattle.aes_permute.specs.Keys.{encrypting, decrypting, lane_key, stored_keys, IsLaneSchedule};
 
-use crate::directions::LaneRounds;
+use crate::lane_rounds::LaneRounds;
 use crate::schedule::{expand, invert};
 use aes_cipher::aes::{KeyBytes, KeySize};
 use aes_cipher::zeroize::Wiped;
@@ -28,13 +28,13 @@ pub fn keys_of<K: KeySize>(room: &Wiped<Room>) -> &[Block]
     ensures keys { result.now ≡ stored_keys K.Key.SIZE room.now }
     ensures count { length result.now ≡ K.Key.SIZE / 4 + 7 }
 {
-    &room.words()[..size_of_key::<K>() / 4 + 7]
+    &room.value()[..size_of_key::<K>() / 4 + 7]
 }
 
 /// Writes the round keys of a key as a direction uses them: KeyExpansion (FIPS 197, 5.2), and KeyExpansionEIC for
 /// decrypting (5.3.5).
 #[inline(always)]
-pub fn put_keys<K: KeySize, D: LaneRounds>(room: &mut Room, key: &[u8])
+pub fn expand_keys<K: KeySize, D: LaneRounds>(room: &mut Room, key: &[u8])
     requires { length key.now ≡ K.Key.SIZE }
     ensures schedule { IsLaneSchedule D.form (stored_keys K.Key.SIZE room.new) }
     ensures key { lane_key D.form (stored_keys K.Key.SIZE room.new) ≡ key.now }
@@ -45,7 +45,7 @@ pub fn put_keys<K: KeySize, D: LaneRounds>(room: &mut Room, key: &[u8])
 
 /// Writes the round keys of EqInvCipher, of the same key as those of Cipher (FIPS 197, 5.3.5).
 #[inline(always)]
-pub fn put_inverse<K: KeySize>(inverse: &mut Room, room: &Wiped<Room>)
+pub fn invert_keys<K: KeySize>(inverse: &mut Room, room: &Wiped<Room>)
     ensures keys { decrypting (stored_keys K.Key.SIZE inverse.new)
         ≡ fips.inverted_keys (encrypting (stored_keys K.Key.SIZE room.now)) }
     ensures count { length (stored_keys K.Key.SIZE inverse.new) ≡ K.Key.SIZE / 4 + 7 }

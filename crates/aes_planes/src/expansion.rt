@@ -16,16 +16,16 @@ pub trait KeyForm {
     type Words: Copy;
 
     /// What round keys are stored in.
-    type Unit;
+    type StoredIn;
 
     /// These are the four words of a block.
     ghost AreWords: { Self.Words → List ℕ → Type 0 };
 
     /// Of round keys from 0 to a last one, the one of a number is stored for a block.
-    ghost IsStored: { List Self.Unit → ℕ → ℕ → List ℕ → Type 0 };
+    ghost IsStored: { List Self.StoredIn → ℕ → ℕ → List ℕ → Type 0 };
 
-    /// How many units the round keys from 0 to a last one take.
-    ghost units: { ℕ → ℕ };
+    /// How many of these the round keys from 0 to a last one take.
+    ghost length_for: { ℕ → ℕ };
 
     /// How many S-box layers a substitution runs.
     ghost LAYERS: { ℕ };
@@ -64,17 +64,22 @@ pub trait KeyForm {
             → AreWords result (columns_straddled x y) };
 
     /// The four words of round key `i` of those from 0 to `last` once more: read back, where it is slower to keep them.
-    fn again(stored: &[Self::Unit], i: usize, last: usize, words: Self::Words) -> Self::Words
-        requires sized { length stored.now ≡ units last }
+    fn read_back(
+        stored: &[Self::StoredIn],
+        i: usize,
+        last: usize,
+        words: Self::Words,
+    ) -> Self::Words
+        requires sized { length stored.now ≡ length_for last }
         requires within { i ≤ last }
         ensures { (x : List ℕ) → IsStored stored.now last i x → AreWords words x → AreWords result x };
 
     /// Stores four words as round key `i` of those from 0 to `last`. The others stay.
-    fn put(stored: &mut [Self::Unit], i: usize, last: usize, words: Self::Words)
-        requires sized { length stored.old ≡ units last }
+    fn store(stored: &mut [Self::StoredIn], i: usize, last: usize, words: Self::Words)
+        requires sized { length stored.old ≡ length_for last }
         requires within { i ≤ last }
         requires two { 1 ≤ last }
-        ensures put { (x : List ℕ) → AreWords words x → IsStored stored.new last i x }
+        ensures there { (x : List ℕ) → AreWords words x → IsStored stored.new last i x }
         ensures others { (j : ℕ) (x : List ℕ) → j ≤ last → j ≢ i
             → IsStored stored.old last j x → IsStored stored.new last j x }
         ensures same_length { length stored.new ≡ length stored.old };
@@ -83,9 +88,9 @@ pub trait KeyForm {
 /// Stores the round keys of a key of any size: KeyExpansion (FIPS 197, 5.2). Where the length of the key is a constant,
 /// one of the three loops is compiled.
 #[inline(always)]
-pub fn expand<F: KeyForm>(stored: &mut [F::Unit], key: &[u8], layers: &mut Layers)
+pub fn expand<F: KeyForm>(stored: &mut [F::StoredIn], key: &[u8], layers: &mut Layers)
     requires one_of_three { (length key.now ≡ 16) ⊎ ((length key.now ≡ 24) ⊎ (length key.now ≡ 32)) }
-    requires room { length stored.old ≡ F.units (fips.rounds key.now) }
+    requires room { length stored.old ≡ F.length_for (fips.rounds key.now) }
     ensures keys { (i : ℕ) → i ≤ fips.rounds key.now
         → F.IsStored stored.new (fips.rounds key.now) i (fips.round_key (fips.key_expansion key.now) i) }
     ensures layers { layers.new ≡ layers.old + substitutions (length key.now) * F.LAYERS }
@@ -102,71 +107,71 @@ pub fn expand<F: KeyForm>(stored: &mut [F::Unit], key: &[u8], layers: &mut Layer
 
 // Stores the round keys of a key of 16 bytes.
 #[inline(always)]
-fn expand_128<F: KeyForm>(stored: &mut [F::Unit], key: &[u8], layers: &mut Layers)
-    requires room { length stored.old ≡ F.units 10 }
+fn expand_128<F: KeyForm>(stored: &mut [F::StoredIn], key: &[u8], layers: &mut Layers)
+    requires room { length stored.old ≡ F.length_for 10 }
     requires sized { length key.now ≡ 16 }
     ensures keys { (i : ℕ) → i ≤ 10 → F.IsStored stored.new 10 i (fips.round_key (fips.key_expansion key.now) i) }
     ensures layers { layers.new ≡ layers.old + 10 * F.LAYERS }
-    ensures same_length { length stored.new ≡ F.units 10 }
+    ensures same_length { length stored.new ≡ F.length_for 10 }
 {
     let mut words = F::load(key, 0);
-    F::put(stored, 0, 10, words);
+    F::store(stored, 0, 10, words);
     'expand: for i in 0..10 {
-        let before = F::again(stored, i, 10, words);
+        let before = F::read_back(stored, i, 10, words);
         words = F::rotated(before, words, POWERS_OF_X[i], layers);
-        F::put(stored, i + 1, 10, words);
+        F::store(stored, i + 1, 10, words);
     }
 }
 
 // Stores the round keys of a key of 24 bytes.
 #[inline(always)]
-fn expand_192<F: KeyForm>(stored: &mut [F::Unit], key: &[u8], layers: &mut Layers)
-    requires room { length stored.old ≡ F.units 12 }
+fn expand_192<F: KeyForm>(stored: &mut [F::StoredIn], key: &[u8], layers: &mut Layers)
+    requires room { length stored.old ≡ F.length_for 12 }
     requires sized { length key.now ≡ 24 }
     ensures keys { (i : ℕ) → i ≤ 12 → F.IsStored stored.new 12 i (fips.round_key (fips.key_expansion key.now) i) }
     ensures layers { layers.new ≡ layers.old + 8 * F.LAYERS }
-    ensures same_length { length stored.new ≡ F.units 12 }
+    ensures same_length { length stored.new ≡ F.length_for 12 }
 {
     // Six words at a time: `front` has the first four, and `back` the last four.
     let mut front = F::load(key, 0);
     let mut back = F::load(key, 8);
-    F::put(stored, 0, 12, front);
+    F::store(stored, 0, 12, front);
     'expand: for i in 0..4 {
         let front1 = F::rotated(front, back, POWERS_OF_X[2 * i], layers);
         let back1 = F::plain(back, front1);
         // Twelve words are three round keys, and the one in the middle has two words of each six.
         let middle = F::straddled(back, front1);
-        F::put(stored, 3 * i + 1, 12, middle);
-        F::put(stored, 3 * i + 2, 12, back1);
+        F::store(stored, 3 * i + 1, 12, middle);
+        F::store(stored, 3 * i + 2, 12, back1);
         front = F::rotated(front1, back1, POWERS_OF_X[2 * i + 1], layers);
         back = F::plain(back1, front);
-        F::put(stored, 3 * i + 3, 12, front);
+        F::store(stored, 3 * i + 3, 12, front);
     }
 }
 
 // Stores the round keys of a key of 32 bytes.
 #[inline(always)]
-fn expand_256<F: KeyForm>(stored: &mut [F::Unit], key: &[u8], layers: &mut Layers)
-    requires room { length stored.old ≡ F.units 14 }
+fn expand_256<F: KeyForm>(stored: &mut [F::StoredIn], key: &[u8], layers: &mut Layers)
+    requires room { length stored.old ≡ F.length_for 14 }
     requires sized { length key.now ≡ 32 }
     ensures keys { (i : ℕ) → i ≤ 14 → F.IsStored stored.new 14 i (fips.round_key (fips.key_expansion key.now) i) }
     ensures layers { layers.new ≡ layers.old + 13 * F.LAYERS }
-    ensures same_length { length stored.new ≡ F.units 14 }
+    ensures same_length { length stored.new ≡ F.length_for 14 }
 {
     // Eight words at a time: `even` has the first four, and `odd` the last four.
     let mut even = F::load(key, 0);
     let mut odd = F::load(key, 16);
-    F::put(stored, 0, 14, even);
-    F::put(stored, 1, 14, odd);
+    F::store(stored, 0, 14, even);
+    F::store(stored, 1, 14, odd);
     'expand: for i in 0..6 {
-        let even_before = F::again(stored, 2 * i, 14, even);
+        let even_before = F::read_back(stored, 2 * i, 14, even);
         even = F::rotated(even_before, odd, POWERS_OF_X[i], layers);
-        F::put(stored, 2 * i + 2, 14, even);
-        let odd_before = F::again(stored, 2 * i + 1, 14, odd);
+        F::store(stored, 2 * i + 2, 14, even);
+        let odd_before = F::read_back(stored, 2 * i + 1, 14, odd);
         odd = F::substituted(odd_before, even, layers);
-        F::put(stored, 2 * i + 3, 14, odd);
+        F::store(stored, 2 * i + 3, 14, odd);
     }
-    let before = F::again(stored, 12, 14, even);
+    let before = F::read_back(stored, 12, 14, even);
     even = F::rotated(before, odd, POWERS_OF_X[6], layers);
-    F::put(stored, 14, 14, even);
+    F::store(stored, 14, 14, even);
 }

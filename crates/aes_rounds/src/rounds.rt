@@ -1,10 +1,10 @@
 //! The cipher and its inverse under any list of round keys, built from single rounds.
 
-mod directions;
 mod encrypt;
 mod inverse;
 mod inverted_keys;
 mod runs;
+mod single_rounds;
 mod states;
 
 pub use encrypt::AesEnc;

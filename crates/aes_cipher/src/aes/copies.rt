@@ -3,8 +3,8 @@
 ghost use Rattle.std.specs.Prelude.{◌≡◌, ⊤};
 
 use super::AesCipher;
-use super::directions::Includes;
-use super::schedules::{KeySchedule, TurnedFrom};
+use super::direction_sets::Allows;
+use super::schedules::{KeySchedule, MadeFrom};
 use crate::cipher::{Decrypt, Encrypt};
 use std::alloc::AllocError;
 use std::marker::PhantomData;
@@ -22,19 +22,19 @@ impl<S: KeySchedule, D> Clone for AesCipher<S, D> {
     }
 }
 
-impl<S: KeySchedule, T: TurnedFrom<S>, D: Includes<Decrypt>> From<&AesCipher<S, Encrypt>>
+impl<S: KeySchedule, T: MadeFrom<S>, D: Allows<Decrypt>> From<&AesCipher<S, Encrypt>>
     for AesCipher<T, D> {
     ghost from_gives = { λ enc made. made ≡ enc.now };
 
     fn from(enc: &AesCipher<S, Encrypt>) -> AesCipher<T, D> {
         AesCipher {
-            schedule: T::turned(&enc.schedule),
+            schedule: T::made_from(&enc.schedule),
             directions: PhantomData,
         }
     }
 }
 
-impl<S: KeySchedule, T: TurnedFrom<S>, D: Includes<Decrypt>> From<AesCipher<S, Encrypt>>
+impl<S: KeySchedule, T: MadeFrom<S>, D: Allows<Decrypt>> From<AesCipher<S, Encrypt>>
     for AesCipher<T, D> {
     ghost from_gives = { λ enc made. made ≡ enc };
 

@@ -5,7 +5,7 @@ ghost use Rattle.aes_planes.specs.Each.{Each};
 ghost use Rattle.aes_planes.specs.Fips197 as fips;
 
 use super::AesCipher;
-use super::directions::Includes;
+use super::direction_sets::Allows;
 use super::key_bytes::KeyBytes;
 use super::key_sizes::KeySize;
 use super::schedules::KeySchedule;
@@ -22,7 +22,7 @@ pub trait CountsLayers: KeySchedule {
     ghost layers_for: { ℕ → ℕ };
 
     /// Writes the round keys of a key to wiped room, and counts the S-box layers.
-    fn refill_counted(&mut self, new_key: &<Self::Size as KeySize>::Key, layers: &mut Layers)
+    fn expand_counted(&mut self, new_key: &<Self::Size as KeySize>::Key, layers: &mut Layers)
         requires wiped { Self.IsWiped self.old }
         ensures keyed { Self.AreKeyed self.new }
         ensures same { Self.key self.new ≡ Self.Size.Key.bytes new_key.now }
@@ -52,12 +52,12 @@ impl<S: CountsLayers, D> AesCipher<S, D> {
             schedule: S::zeroed(),
             directions: PhantomData,
         };
-        cipher.schedule.refill_counted(key, layers);
+        cipher.schedule.expand_counted(key, layers);
         cipher
     }
 }
 
-impl<S: CountsLayers, D: Includes<Encrypt>> AesCipher<S, D> {
+impl<S: CountsLayers, D: Allows<Encrypt>> AesCipher<S, D> {
     /// Encrypts each block in place (Cipher, FIPS 197, 5.1), and counts the S-box layers: as many as the cipher has
     /// rounds for each whole batch, and as many for each block after them.
     #[inline(always)]
@@ -69,7 +69,7 @@ impl<S: CountsLayers, D: Includes<Encrypt>> AesCipher<S, D> {
     }
 }
 
-impl<S: CountsLayers, D: Includes<Decrypt>> AesCipher<S, D> {
+impl<S: CountsLayers, D: Allows<Decrypt>> AesCipher<S, D> {
     /// Decrypts each block in place (InvCipher, FIPS 197, 5.3), and counts the S-box layers: as many as the cipher has
     /// rounds for each whole batch, and as many for each block after them.
     #[inline(always)]

@@ -1,11 +1,11 @@
 //! Ciphers that decrypt.
 
 use super::AesCipher;
-use super::directions::Includes;
+use super::direction_sets::Allows;
 use super::schedules::{Decrypts, Processes};
 use crate::cipher::{Block, BlockCipherDecClosure, BlockCipherDecrypt, Decrypt};
 
-impl<S: Decrypts, D: Includes<Decrypt>> BlockCipherDecrypt for AesCipher<S, D> {
+impl<S: Decrypts, D: Allows<Decrypt>> BlockCipherDecrypt for AesCipher<S, D> {
     #[inline(always)]
     fn decrypt_with_backend<F: BlockCipherDecClosure>(&self, f: &mut F) {
         self.schedule.decrypt_with_backend(f);

@@ -1,11 +1,11 @@
 //! Ciphers that encrypt.
 
 use super::AesCipher;
-use super::directions::Includes;
+use super::direction_sets::Allows;
 use super::schedules::{Encrypts, Processes};
 use crate::cipher::{Block, BlockCipherEncClosure, BlockCipherEncrypt, Encrypt};
 
-impl<S: Encrypts, D: Includes<Encrypt>> BlockCipherEncrypt for AesCipher<S, D> {
+impl<S: Encrypts, D: Allows<Encrypt>> BlockCipherEncrypt for AesCipher<S, D> {
     #[inline(always)]
     fn encrypt_with_backend<F: BlockCipherEncClosure>(&self, f: &mut F) {
         self.schedule.encrypt_with_backend(f);

@@ -36,7 +36,7 @@ pub trait KeySchedule: Drop {
         ensures { IsWiped self.new };
 
     /// Writes the round keys of a key to wiped room: KeyExpansion (FIPS 197, 5.2).
-    fn refill(&mut self, new_key: &<Self::Size as KeySize>::Key)
+    fn expand(&mut self, new_key: &<Self::Size as KeySize>::Key)
         requires wiped { IsWiped self.old }
         ensures keyed { AreKeyed self.new }
         ensures same { key self.new ≡ Self.Size.Key.bytes new_key.now };
@@ -95,9 +95,9 @@ pub trait Decrypts: Processes<Decrypt> {
 }
 
 /// Stored round keys that are made from those of S, which has the same key.
-pub trait TurnedFrom<S: KeySchedule>: KeySchedule {
+pub trait MadeFrom<S: KeySchedule>: KeySchedule {
     /// Returns the round keys of the key of others.
-    fn turned(schedule: &S) -> Self
+    fn made_from(schedule: &S) -> Self
         requires keyed { S.AreKeyed schedule.now }
         ensures keyed { Self.AreKeyed result }
         ensures same { Self.key result ≡ S.key schedule.now };

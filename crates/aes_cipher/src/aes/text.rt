@@ -1,7 +1,7 @@
 //! The names of the ciphers as text, which shows nothing of a key.
 
 use super::AesCipher;
-use super::directions::Directions;
+use super::direction_sets::Directions;
 use super::key_sizes::KeySize;
 use super::schedules::KeySchedule;
 use crate::cipher::AlgorithmName;

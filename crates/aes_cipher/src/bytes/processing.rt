@@ -10,7 +10,7 @@ use super::PartialBlock;
 use crate::cipher::{Block, BlockCipherDecrypt, BlockCipherEncrypt};
 
 // How many blocks are handed to a cipher at once: batches of any backend here, in a kibibyte of the stack.
-const ROOM: usize = 64;
+const BLOCKS_AT_ONCE: usize = 64;
 
 /// A cipher in one direction.
 pub(super) trait ProcessBlocks {
@@ -81,11 +81,11 @@ pub(super) fn process_bytes<P: ProcessBlocks>(
     if bytes.len() % 16 != 0 {
         return Err(PartialBlock);
     }
-    let mut room = [[0; 16]; ROOM];
+    let mut room = [[0; 16]; BLOCKS_AT_ONCE];
     let whole = bytes.len() / 16;
     let mut done = 0;
     while done < whole {
-        let count = (whole - done).min(ROOM);
+        let count = (whole - done).min(BLOCKS_AT_ONCE);
         let part = &mut bytes[16 * done..16 * (done + count)];
         process_part(cipher, part, &mut room[..count]);
         done += count;

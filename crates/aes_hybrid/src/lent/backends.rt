@@ -6,13 +6,13 @@ ghost use Rattle.aes_planes.specs.Fips197 as fips;
 ghost use Rattle.aes_planes.specs.Words.{word_bits};
 ghost use Rattle.aes_planes.proofs.Standard.CipherLaws.{two_keys};
 ghost use Rattle.aes_soft.specs.Stored as soft;
-ghost use Rattle.aes_hybrid.specs.Lanes.{lanes_key, IsLanes};
+ghost use Rattle.aes_hybrid.specs.Keys.{cipher_key, IsCipherSchedule};
 
-use crate::blocks::{FEW, process_few};
+use crate::blocks::{MOST_ON_LANES, process_few};
 use aes_cipher::cipher::{
     BatchOfEight, BatchSize, BatchSizeUser, BlockCipherEncBackend, Encrypt, RoundKeysUser,
 };
-use aes_permute::keys::TwoBlocks;
+use aes_permute::keys::BatchOfTwo;
 use aes_planes::laws;
 use aes_planes::soft::sbox::Layers;
 use aes_planes::soft::word::{Block, Word};
@@ -31,16 +31,16 @@ pub(super) struct Pairs<'a> {
 impl<'a> Model for Pairs<'a> {
     ghost Value = { List ℕ };
 
-    ghost view = { λ pairs. lanes_key pairs.keys.now };
+    ghost view = { λ pairs. cipher_key pairs.keys.now };
 
-    ghost invariant = { λ pairs. IsLanes pairs.keys.now };
+    ghost invariant = { λ pairs. IsCipherSchedule pairs.keys.now };
 }
 
 impl<'a> Pairs<'a> {
     #[inline(always)]
     pub(super) fn new(keys: &'a [Block]) -> Pairs<'a>
-        requires { IsLanes keys.now }
-        ensures { result ≡ lanes_key keys.now }
+        requires { IsCipherSchedule keys.now }
+        ensures { result ≡ cipher_key keys.now }
     {
         Pairs { keys }
     }
@@ -58,7 +58,7 @@ impl RoundKeysUser for Pairs<'_> {
 }
 
 impl BatchSizeUser for Pairs<'_> {
-    type Par = TwoBlocks;
+    type Par = BatchOfTwo;
 }
 
 impl BlockCipherEncBackend for Pairs<'_> {
@@ -83,20 +83,20 @@ pub(super) struct Batches<'a> {
 impl<'a> Model for Batches<'a> {
     ghost Value = { List ℕ };
 
-    ghost view = { λ batches. lanes_key batches.keys.now };
+    ghost view = { λ batches. cipher_key batches.keys.now };
 
     ghost invariant = { λ batches.
         let n = length batches.words.now in
         let planes = map (word_bits 128) batches.words.now in
-        IsLanes batches.keys.now × (88 ≤ n) × (n ≤ 120) × (n % 16 ≡ 8)
+        IsCipherSchedule batches.keys.now × (88 ≤ n) × (n ≤ 120) × (n % 16 ≡ 8)
         × soft.IsKeyed (soft.size_of n) 8 (soft.full (soft.rounds_of n)) planes
-        × (soft.key_of (soft.size_of n) 8 (soft.full (soft.rounds_of n)) planes ≡ lanes_key batches.keys.now) };
+        × (soft.key_of (soft.size_of n) 8 (soft.full (soft.rounds_of n)) planes ≡ cipher_key batches.keys.now) };
 }
 
 impl<'a> Batches<'a> {
     #[inline(always)]
     pub(super) fn new(keys: &'a [Block], words: &'a [BatchWord]) -> Batches<'a>
-        requires is_lanes { IsLanes keys.now }
+        requires keyed { IsCipherSchedule keys.now }
         requires least { 88 ≤ length words.now }
         requires most { length words.now ≤ 120 }
         requires half_over { length words.now % 16 ≡ 8 }
@@ -104,8 +104,8 @@ impl<'a> Batches<'a> {
             soft.IsKeyed (soft.size_of n) 8 (soft.full (soft.rounds_of n)) (map (word_bits 128) words.now) }
         requires key { let n = length words.now in
             soft.key_of (soft.size_of n) 8 (soft.full (soft.rounds_of n)) (map (word_bits 128) words.now)
-            ≡ lanes_key keys.now }
-        ensures { result ≡ lanes_key keys.now }
+            ≡ cipher_key keys.now }
+        ensures { result ≡ cipher_key keys.now }
     {
         Batches { keys, words }
     }
@@ -140,7 +140,7 @@ impl BlockCipherEncBackend for Batches<'_> {
     #[tactic(auto, using(aes_cipher::proofs::FirstBlocks::first_of_all))]
     #[inline(always)]
     fn encrypt_first_blocks(&self, count: usize, blocks: &mut [Block]) {
-        if count <= FEW {
+        if count <= MOST_ON_LANES {
             process_few::<Encrypt>(self.keys, self.keys, &mut blocks[..count]);
         } else {
             self.encrypt_par_blocks(blocks);
@@ -169,20 +169,20 @@ pub(crate) struct Sixteens<'a> {
 impl<'a> Model for Sixteens<'a> {
     ghost Value = { List ℕ };
 
-    ghost view = { λ batches. lanes_key batches.keys.now };
+    ghost view = { λ batches. cipher_key batches.keys.now };
 
     ghost invariant = { λ batches.
         let n = length batches.words.now in
         let planes = map ⟦<u8x32 as Word>⟧.bits batches.words.now in
-        IsLanes batches.keys.now × (88 ≤ n) × (n ≤ 120) × (n % 16 ≡ 8)
+        IsCipherSchedule batches.keys.now × (88 ≤ n) × (n ≤ 120) × (n % 16 ≡ 8)
         × soft.IsKeyed (soft.size_of n) 16 (soft.full (soft.rounds_of n)) planes
-        × (soft.key_of (soft.size_of n) 16 (soft.full (soft.rounds_of n)) planes ≡ lanes_key batches.keys.now) };
+        × (soft.key_of (soft.size_of n) 16 (soft.full (soft.rounds_of n)) planes ≡ cipher_key batches.keys.now) };
 }
 
 impl<'a> Sixteens<'a> {
     #[inline(always)]
     pub(crate) fn new(keys: &'a [Block], words: &'a [u8x32]) -> Sixteens<'a>
-        requires is_lanes { IsLanes keys.now }
+        requires keyed { IsCipherSchedule keys.now }
         requires least { 88 ≤ length words.now }
         requires most { length words.now ≤ 120 }
         requires half_over { length words.now % 16 ≡ 8 }
@@ -190,8 +190,8 @@ impl<'a> Sixteens<'a> {
             soft.IsKeyed (soft.size_of n) 16 (soft.full (soft.rounds_of n)) (map ⟦<u8x32 as Word>⟧.bits words.now) }
         requires key { let n = length words.now in
             soft.key_of (soft.size_of n) 16 (soft.full (soft.rounds_of n)) (map ⟦<u8x32 as Word>⟧.bits words.now)
-            ≡ lanes_key keys.now }
-        ensures { result ≡ lanes_key keys.now }
+            ≡ cipher_key keys.now }
+        ensures { result ≡ cipher_key keys.now }
     {
         Sixteens { keys, words }
     }
@@ -226,7 +226,7 @@ impl BlockCipherEncBackend for Sixteens<'_> {
     #[tactic(auto, using(aes_cipher::proofs::FirstBlocks::first_of_all))]
     #[inline(always)]
     fn encrypt_first_blocks(&self, count: usize, blocks: &mut [Block]) {
-        if count <= FEW {
+        if count <= MOST_ON_LANES {
             let first = &mut blocks[..count];
             process_few::<Encrypt>(self.keys, self.keys, first);
         } else {

@@ -102,7 +102,7 @@ fn writes_answers_before_the_next_read(rt: HostRuntime) -> Result<(), Fail> {
 }
 
 // The bytes that one read of a run needs: its first allocation.
-const ROOM: usize = 64 * 1024;
+const FIRST_ALLOCATION: usize = 64 * 1024;
 
 // An arena of one chunk gives out no byte twice while a run lasts, so each allocation needs more of it than all before:
 // with one byte more left in it each time, every allocation of the run is refused in turn, until none is.
@@ -110,8 +110,8 @@ const ROOM: usize = 64 * 1024;
 fn stops_where_each_allocation_is_refused(rt: HostRuntime) -> Result<(), Fail> {
     let mut refused = 0usize;
     let mut answered = 0usize;
-    for left in ROOM - 8..ROOM + 1024 {
-        let arena = Bump::try_with_capacity(rt.alloc(), 2 * ROOM)?;
+    for left in FIRST_ALLOCATION - 8..FIRST_ALLOCATION + 1024 {
+        let arena = Bump::try_with_capacity(rt.alloc(), 2 * FIRST_ALLOCATION)?;
         arena.set_allocation_limit(Some(0));
         let filled = arena.chunk_capacity().saturating_sub(left);
         let _ = arena.try_alloc_slice_fill_clone(filled, 0u8)?;

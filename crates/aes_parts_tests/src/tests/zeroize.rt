@@ -1,6 +1,8 @@
-//! Words that are wiped, by themselves and in a value.
+//! Words that are wiped, by themselves and in a wiped.
 
-use aes_cipher::zeroize::{Held, Wiped, Zeroize, ZeroizeOnDrop, zeroize_elements, zeroize_words};
+use aes_cipher::zeroize::{
+    MustWipe, Wiped, Zeroize, ZeroizeOnDrop, zeroize_elements, zeroize_words,
+};
 
 #[test]
 fn wipes_words_of_any_width(rt: HostRuntime) {
@@ -38,11 +40,11 @@ fn wipes_arrays_of_numbers_where_they_stand(rt: HostRuntime) {
 
 #[test]
 fn lets_go_of_what_was_wiped(rt: HostRuntime) {
-    let mut held = Held::<[u128; 2]>::zeroed();
-    *held.words_mut() = [u128::MAX, 1 << 127];
-    assert_eq!(rt; *held.words(), [u128::MAX, 1 << 127]);
-    held.wipe();
-    assert_eq!(rt; *held.words(), [0; 2]);
+    let mut kept = MustWipe::<[u128; 2]>::zeroed();
+    *kept.value_mut() = [u128::MAX, 1 << 127];
+    assert_eq!(rt; *kept.value(), [u128::MAX, 1 << 127]);
+    kept.wipe();
+    assert_eq!(rt; *kept.value(), [0; 2]);
 }
 
 // Drops a value whose words are wiped by that.
@@ -50,12 +52,12 @@ fn let_go_of<T: ZeroizeOnDrop + Drop>(_value: T) {}
 
 #[test]
 fn wipes_a_value_and_leaves_its_copy(rt: HostRuntime) {
-    let mut value = Wiped::<[u16; 3]>::new([7, 8, 9]);
-    let copy = value.copy();
-    value.wipe();
-    assert_eq!(rt; *value.words(), [0; 3]);
-    value.words_mut().copy_from_slice(&[4, 5, 6]);
-    assert_eq!(rt; *value.words(), [4, 5, 6]);
-    assert_eq!(rt; *copy.words(), [7, 8, 9]);
+    let mut wiped = Wiped::<[u16; 3]>::new([7, 8, 9]);
+    let copy = wiped.copy();
+    wiped.wipe();
+    assert_eq!(rt; *wiped.value(), [0; 3]);
+    wiped.value_mut().copy_from_slice(&[4, 5, 6]);
+    assert_eq!(rt; *wiped.value(), [4, 5, 6]);
+    assert_eq!(rt; *copy.value(), [7, 8, 9]);
     let_go_of(copy);
 }

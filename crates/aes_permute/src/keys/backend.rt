@@ -16,9 +16,9 @@ use aes_planes::soft::word::Block;
 use std::marker::Model;
 
 /// Batches of two blocks.
-pub struct TwoBlocks;
+pub struct BatchOfTwo;
 
-impl BatchSize for TwoBlocks {
+impl BatchSize for BatchOfTwo {
     ghost PAR_BLOCKS = { 2 };
 
     const PAR_BLOCKS: usize = PAR_BLOCKS;
@@ -63,7 +63,7 @@ impl<S: KeySchedule> RoundKeysUser for LaneBackend<'_, S> {
 }
 
 impl<S: KeySchedule> BatchSizeUser for LaneBackend<'_, S> {
-    type Par = TwoBlocks;
+    type Par = BatchOfTwo;
 }
 
 impl<S: Processes<Encrypt>> BlockCipherEncBackend for LaneBackend<'_, S> {

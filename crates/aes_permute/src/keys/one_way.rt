@@ -6,9 +6,9 @@ ghost use Rattle.aes_permute.specs.Keys.{lane_key, stored_keys, IsLaneSchedule};
 use super::LendsKeys;
 use super::backend::LaneBackend;
 use crate::blocks::{process_block, process_blocks};
-use crate::directions::LaneRounds;
-use crate::stored::{Room, keys_of, put_inverse, put_keys};
-use aes_cipher::aes::{Decrypts, Encrypts, KeyBytes, KeySchedule, KeySize, Processes, TurnedFrom};
+use crate::lane_rounds::LaneRounds;
+use crate::stored::{Room, expand_keys, invert_keys, keys_of};
+use aes_cipher::aes::{Decrypts, Encrypts, KeyBytes, KeySchedule, KeySize, MadeFrom, Processes};
 use aes_cipher::cipher::{BlockCipherDecClosure, BlockCipherEncClosure, Decrypt, Encrypt};
 use aes_cipher::zeroize::Wiped;
 use aes_planes::soft::word::Block;
@@ -57,8 +57,8 @@ impl<K: KeySize, D: LaneRounds> KeySchedule for OneWay<K, D> {
     }
 
     #[inline(always)]
-    fn refill(&mut self, new_key: &K::Key) {
-        put_keys::<K, D>(self.room.words_mut(), new_key.as_slice());
+    fn expand(&mut self, new_key: &K::Key) {
+        expand_keys::<K, D>(self.room.value_mut(), new_key.as_slice());
     }
 
     fn copy(&self) -> OneWay<K, D> {
@@ -81,18 +81,18 @@ impl<K: KeySize, D: LaneRounds> LendsKeys<D> for OneWay<K, D> {
     }
 }
 
-impl<K: KeySize> TurnedFrom<OneWay<K, Encrypt>> for OneWay<K, Encrypt> {
+impl<K: KeySize> MadeFrom<OneWay<K, Encrypt>> for OneWay<K, Encrypt> {
     #[inline(always)]
-    fn turned(schedule: &OneWay<K, Encrypt>) -> OneWay<K, Encrypt> {
+    fn made_from(schedule: &OneWay<K, Encrypt>) -> OneWay<K, Encrypt> {
         schedule.copy()
     }
 }
 
-impl<K: KeySize> TurnedFrom<OneWay<K, Encrypt>> for OneWay<K, Decrypt> {
+impl<K: KeySize> MadeFrom<OneWay<K, Encrypt>> for OneWay<K, Decrypt> {
     #[inline(always)]
-    fn turned(schedule: &OneWay<K, Encrypt>) -> OneWay<K, Decrypt> {
+    fn made_from(schedule: &OneWay<K, Encrypt>) -> OneWay<K, Decrypt> {
         let mut inverse = OneWay::zeroed();
-        refill_inverse(&mut inverse, schedule);
+        invert_schedule(&mut inverse, schedule);
         inverse
     }
 }
@@ -124,7 +124,7 @@ impl<K: KeySize> Decrypts for OneWay<K, Decrypt> {
 
 /// Writes the round keys for decrypting, of the key of those for encrypting, to wiped room.
 #[inline(always)]
-pub(super) fn refill_inverse<K: KeySize>(
+pub(super) fn invert_schedule<K: KeySize>(
     inverse: &mut OneWay<K, Decrypt>,
     schedule: &OneWay<K, Encrypt>,
 )
@@ -135,5 +135,5 @@ pub(super) fn refill_inverse<K: KeySize>(
         schedule.now }
 {
     schedule.has_key();
-    put_inverse::<K>(inverse.room.words_mut(), &schedule.room);
+    invert_keys::<K>(inverse.room.value_mut(), &schedule.room);
 }

@@ -3,9 +3,9 @@
 ghost use Rattle.std.specs.Prelude.{◌≡◌, length};
 ghost use Rattle.aes_planes.specs.Fips197 as fips;
 
-use super::one_way::refill_inverse;
+use super::one_way::invert_schedule;
 use super::{LendsKeys, OneWay};
-use aes_cipher::aes::{Decrypts, Encrypts, KeySchedule, KeySize, Processes, TurnedFrom};
+use aes_cipher::aes::{Decrypts, Encrypts, KeySchedule, KeySize, MadeFrom, Processes};
 use aes_cipher::cipher::{BlockCipherDecClosure, BlockCipherEncClosure, Decrypt, Encrypt};
 use aes_planes::soft::word::Block;
 
@@ -53,9 +53,9 @@ impl<K: KeySize> KeySchedule for TwoWays<K> {
     }
 
     #[inline(always)]
-    fn refill(&mut self, new_key: &K::Key) {
-        self.encrypting.refill(new_key);
-        refill_inverse(&mut self.decrypting, &self.encrypting);
+    fn expand(&mut self, new_key: &K::Key) {
+        self.encrypting.expand(new_key);
+        invert_schedule(&mut self.decrypting, &self.encrypting);
     }
 
     fn copy(&self) -> TwoWays<K> {
@@ -70,12 +70,12 @@ impl<K: KeySize> KeySchedule for TwoWays<K> {
     }
 }
 
-impl<K: KeySize> TurnedFrom<OneWay<K, Encrypt>> for TwoWays<K> {
+impl<K: KeySize> MadeFrom<OneWay<K, Encrypt>> for TwoWays<K> {
     #[inline(always)]
-    fn turned(schedule: &OneWay<K, Encrypt>) -> TwoWays<K> {
+    fn made_from(schedule: &OneWay<K, Encrypt>) -> TwoWays<K> {
         TwoWays {
             encrypting: schedule.copy(),
-            decrypting: OneWay::turned(schedule),
+            decrypting: OneWay::made_from(schedule),
         }
     }
 }

@@ -5,7 +5,7 @@ ghost use Rattle.aes_planes.specs.Each.{Each};
 ghost use Rattle.aes_planes.specs.Fips197 as fips;
 ghost use Rattle.aes_planes.specs.Rounds.{all_rounds};
 
-use super::directions::SingleRounds;
+use super::single_rounds::SingleRounds;
 use super::states::States;
 use aes_cipher::cipher::{Decrypt, Encrypt};
 use aes_planes::soft::word::Block;

@@ -3,7 +3,7 @@
 ghost use Rattle.std.specs.Prelude.{◌≡◌, ℕ, List, [], ◌∷◌, map};
 ghost use Rattle.aes_planes.specs.Fips197 as fips;
 
-use super::directions::SingleRounds;
+use super::single_rounds::SingleRounds;
 use aes::hazmat::Block8;
 use aes_planes::soft::utils::sum_of_blocks;
 use aes_planes::soft::word::Block;

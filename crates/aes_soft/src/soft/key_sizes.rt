@@ -6,7 +6,7 @@ ghost use Rattle.aes_planes.specs.Words.{word_bits};
 ghost use Rattle.aes_soft.specs.Stored.{plane_key, stored_words, words_for, IsFullSchedule};
 
 use super::ciphers::Full;
-use super::key_schedule::put_schedule;
+use super::key_schedule::expand_stored;
 use aes_cipher::aes::{KeyBytes, KeySize};
 use aes_cipher::zeroize::Wiped;
 use aes_planes::laws;
@@ -34,12 +34,12 @@ pub fn words_of<K: KeySize>(room: &Wiped<Room>) -> &[u16]
     ensures words { result.now ≡ stored_words K.Key.SIZE room.now }
     ensures count { length result.now ≡ words_for K.Key.SIZE }
 {
-    &room.words()[..count_of::<K>()]
+    &room.value()[..count_of::<K>()]
 }
 
 /// Writes the round keys of a key, as the full layout stores them: KeyExpansion (FIPS 197, 5.2).
 #[inline(always)]
-pub fn put_words<K: KeySize>(room: &mut Room, key: &[u8], layers: &mut Layers)
+pub fn expand_words<K: KeySize>(room: &mut Room, key: &[u8], layers: &mut Layers)
     requires sized { length key.now ≡ K.Key.SIZE }
     ensures schedule { let n = words_for K.Key.SIZE in
         IsFullSchedule n 1 (map (word_bits 16) (stored_words K.Key.SIZE room.new)) }
@@ -48,7 +48,7 @@ pub fn put_words<K: KeySize>(room: &mut Room, key: &[u8], layers: &mut Layers)
     ensures layers { layers.new ≡ layers.old + substitutions K.Key.SIZE }
 {
     let count = count_of::<K>();
-    put_schedule::<u16, Full>(&mut room[..count], key, layers);
+    expand_stored::<u16, Full>(&mut room[..count], key, layers);
 }
 
 /// No effect; states that stored round keys are read as a key of bytes, whose round keys are blocks.

@@ -4,7 +4,7 @@ mod two_keys;
 
 use super::{apply_at, apply_then_encrypt, apply_to_parts, there_and_back};
 use crate::by_backend::ByBackend;
-use aes::{Aes128Enc, Aes192Enc, AesCipher};
+use aes::{Aes128Enc, Aes192Enc, FixslicedAes};
 use aes_cipher::aes::{Bits128, Bits256, BothWays, KeySize};
 use aes_cipher::cipher::{BlockCipherEncrypt, Encrypt, KeyInit};
 use aes_ctr::{Ctr128BE, stream_cut, stream_twice};
@@ -64,7 +64,7 @@ trait CounterTrial {
 // Whether the type that encrypts passes under a key. With the size as a parameter, it is proved to be a cipher once for
 // all that is tried.
 fn passes_under<K: KeySize, T: CounterTrial>(trial: &T, key: &K::Key) -> bool {
-    trial.passes(&AesCipher::<K, Encrypt>::new(key))
+    trial.passes(&FixslicedAes::<K, Encrypt>::new(key))
 }
 
 // Whether it passes under the key of the standard's example.
@@ -132,7 +132,7 @@ fn keystream_of<C: BlockCipherEncrypt + Drop>(cipher: C, iv: u128) -> Option<[u1
 
 // The same under a key, by the type for both directions.
 fn keystream_under<K: KeySize>(key: &K::Key, iv: u128) -> Option<[u128; 2]> {
-    keystream_of(AesCipher::<K, BothWays>::new(key), iv)
+    keystream_of(FixslicedAes::<K, BothWays>::new(key), iv)
 }
 
 // The zero block encrypted under the zero key of each size: by OpenSSL.
@@ -289,7 +289,7 @@ fn adds_what_the_cipher_of_the_counter_is(rt: HostRuntime) {
 // Whether the caller of a key has the message back.
 fn comes_back<K: KeySize>(key: &K::Key) -> bool {
     let mut bytes = bytes_of(PLAIN);
-    there_and_back::<AesCipher<K, Encrypt>>(key, IV.to_be_bytes(), &mut bytes).is_ok()
+    there_and_back::<FixslicedAes<K, Encrypt>>(key, IV.to_be_bytes(), &mut bytes).is_ok()
         && bytes == bytes_of(PLAIN)
 }
 

@@ -5,7 +5,7 @@ use super::keys::{BY_128, BY_192, BY_256, KEY_128, KEY_192, KEY_256, PLAIN};
 use crate::callers::{encrypt_and_pass_on, encrypt_by_rounds, there_and_back, there_and_back_by};
 use crate::generic;
 use crate::layers::{count_layers, count_schedule_layers};
-use aes::{Aes128, Aes192, Aes192Dec, Aes256, Aes256Enc, AesCipher, Block};
+use aes::{Aes128, Aes192, Aes192Dec, Aes256, Aes256Enc, Block, FixslicedAes};
 use aes_cipher::aes::{Bits128, Bits192, Bits256, BothWays, KeySize};
 use aes_cipher::cipher::{BlockCipherDecrypt, BlockCipherEncrypt, KeyInit, KeySizeUser};
 use aes_planes::soft::sbox::Layers;
@@ -51,7 +51,7 @@ where
 
 // The type of `aes` for a size. With the size as a parameter, it is proved once for all sizes.
 fn type_goes_there_and_back<K: KeySize>(key: &K::Key, bytes: &[u8], wanted: u128) -> bool {
-    goes_there_and_back::<AesCipher<K, BothWays>>(key, bytes, wanted)
+    goes_there_and_back::<FixslicedAes<K, BothWays>>(key, bytes, wanted)
 }
 
 #[test]
@@ -63,7 +63,7 @@ fn any_cipher_has_the_blocks_of_the_standard(rt: HostRuntime) {
 
 // A slice of blocks that goes there and back by the type of `aes` for a size.
 fn slice_there_and_back<K: KeySize>(key: &K::Key) -> [Block; 24] {
-    let cipher = AesCipher::<K, BothWays>::new(key);
+    let cipher = FixslicedAes::<K, BothWays>::new(key);
     generic::has_sized_key(&cipher);
     let mut blocks = different_blocks();
     generic::blocks_there_and_back(&cipher, &mut blocks);

@@ -4,7 +4,7 @@ use super::blocks::{ENCRYPTED, PLAIN, blocks, different_blocks};
 use super::keys::KEY_A1;
 use super::ways::{CipherIn, Trial, try_all};
 use crate::closures::{Mixed, Nothing, Row, Twice, encrypt_row, twice_there_and_back};
-use aes::{AesCipher, Block};
+use aes::{Block, FixslicedAes};
 use aes_cipher::aes::{Bits128, BothWays, KeySize};
 use aes_cipher::cipher::{
     BlockCipherDecrypt, BlockCipherEncrypt, Decrypt, Direction, Encrypt, KeyInit,
@@ -82,7 +82,7 @@ fn takes_a_row_of_five<C: BlockCipherEncrypt + BlockCipherDecrypt>(cipher: &C) -
 
 // The type of `aes` for both directions, with the size as a parameter.
 fn planes_take_a_row<K: KeySize>(key: &K::Key) -> bool {
-    takes_a_row_of_five(&AesCipher::<K, BothWays>::new(key))
+    takes_a_row_of_five(&FixslicedAes::<K, BothWays>::new(key))
 }
 
 // The same of that of `aes_permute`.
@@ -99,7 +99,7 @@ fn a_row_of_five_has_the_blocks_of_the_standard(rt: HostRuntime) {
 
 // A block encrypted twice and decrypted twice by the type of `aes` for a size.
 fn twice_by_planes<K: KeySize>(key: &K::Key, block: Block) -> Block {
-    twice_there_and_back(&AesCipher::<K, BothWays>::new(key), block)
+    twice_there_and_back(&FixslicedAes::<K, BothWays>::new(key), block)
 }
 
 #[test]

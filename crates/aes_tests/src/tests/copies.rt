@@ -1,7 +1,7 @@
 //! Making values from keys and from other values, and wiping them.
 
 use super::keys::{BY_128, BY_192, BY_256, KEY_128, KEY_192, KEY_256, PLAIN};
-use aes::AesCipher;
+use aes::FixslicedAes;
 use aes_cipher::aes::{Bits128, Bits192, Bits256, BothWays, KeySize};
 use aes_cipher::cipher::{
     BlockCipherDecrypt, BlockCipherEncrypt, BlockSizeUser, Decrypt, Encrypt, KeyInit, KeySizeUser,
@@ -26,9 +26,9 @@ where
 
 // The same of the three types of `aes` for a size.
 fn all_take_their_own_length_alone<K: KeySize>(size: usize) -> bool {
-    takes_its_own_length_alone::<AesCipher<K, BothWays>>(size)
-        && takes_its_own_length_alone::<AesCipher<K, Encrypt>>(size)
-        && takes_its_own_length_alone::<AesCipher<K, Decrypt>>(size)
+    takes_its_own_length_alone::<FixslicedAes<K, BothWays>>(size)
+        && takes_its_own_length_alone::<FixslicedAes<K, Encrypt>>(size)
+        && takes_its_own_length_alone::<FixslicedAes<K, Decrypt>>(size)
 }
 
 #[test]
@@ -93,7 +93,7 @@ macro_rules! copies_keep_the_key {
 }
 
 fn copies_keep_the_key<K: KeySize>(key: &K::Key, encrypted: u128) -> Result<bool, Fail> {
-    copies_keep_the_key!(AesCipher<K, BothWays>, AesCipher<K, Encrypt>, AesCipher<K, Decrypt>, key, encrypted)
+    copies_keep_the_key!(FixslicedAes<K, BothWays>, FixslicedAes<K, Encrypt>, FixslicedAes<K, Decrypt>, key, encrypted)
 }
 
 fn permuted_copies_keep_the_key<K: KeySize>(key: &K::Key, encrypted: u128) -> Result<bool, Fail> {
@@ -134,7 +134,7 @@ macro_rules! wipes_in_place {
 }
 
 fn wipes_in_place<K: KeySize>(key: &K::Key, zeros_encrypted: u128) -> bool {
-    wipes_in_place!(AesCipher<K, Encrypt>, AesCipher<K, Decrypt>, key, zeros_encrypted)
+    wipes_in_place!(FixslicedAes<K, Encrypt>, FixslicedAes<K, Decrypt>, key, zeros_encrypted)
 }
 
 fn wipes_permuted_in_place<K: KeySize>(key: &K::Key, zeros_encrypted: u128) -> bool {

@@ -1,7 +1,7 @@
 //! The two layouts of round keys and the types, on every word and in every slot.
 
 use super::blocks::different_blocks;
-use aes::{AesCipher, Block};
+use aes::{Block, FixslicedAes};
 use aes_cipher::aes::{Bits128, Bits192, Bits256, BothWays, KeySize};
 use aes_cipher::cipher::{BlockCipherDecrypt, BlockCipherEncrypt, KeyInit};
 use aes_planes::soft::sbox::Layers;
@@ -41,7 +41,7 @@ fn are_right<C: BlockCipherEncrypt + BlockCipherDecrypt, B: Batch>(
 
 // The same of the type for a key. With the size as a parameter, the type is proved once for all sizes.
 fn type_agrees<K: KeySize, B: Batch>(key: &K::Key, encrypted: &B, decrypted: &B) -> bool {
-    are_right(&AesCipher::<K, BothWays>::new(key), encrypted, decrypted)
+    are_right(&FixslicedAes::<K, BothWays>::new(key), encrypted, decrypted)
 }
 
 // Whether a layout at a size of keys leaves in every slot what the type of that size leaves.

@@ -6,7 +6,7 @@ use crate::by_backend::ByBackend;
 use crate::cbc::{cbc_decrypt, cbc_encrypt, cbc_there_and_back};
 use crate::chaining_value::{chaining_value, chaining_value_under};
 use aes::expansion::expand_128;
-use aes::{Aes128, AesCipher};
+use aes::{Aes128, FixslicedAes};
 use aes_cipher::aes::{Bits128, Bits192, Bits256, BothWays, KeySize};
 use aes_cipher::blocks::{block_of_number, blocks_equal};
 use aes_cipher::cipher::{BlockCipherDecrypt, BlockCipherEncrypt, KeyInit};
@@ -29,7 +29,7 @@ fn chains<C: BlockCipherEncrypt + BlockCipherDecrypt>(cipher: &C, encrypted: &[u
 
 // Whether the type of `aes` for a size chains them. With the size as a parameter, it is proved once for all sizes.
 fn chains_under<K: KeySize>(key: &K::Key, encrypted: &[u128; 4]) -> bool {
-    chains(&AesCipher::<K, BothWays>::new(key), encrypted)
+    chains(&FixslicedAes::<K, BothWays>::new(key), encrypted)
 }
 
 // SP 800-38A, F.2.1 to F.2.6.

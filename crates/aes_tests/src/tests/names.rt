@@ -1,7 +1,7 @@
 //! What is written as text: names, and nothing of a key.
 
 use super::keys::{KEY_128, KEY_192, KEY_256};
-use aes::AesCipher;
+use aes::FixslicedAes;
 use aes_cipher::aes::{Bits128, Bits192, Bits256, BothWays, KeySize};
 use aes_cipher::cipher::{AlgorithmName, Decrypt, Encrypt, KeyInit, KeySizeUser};
 use aes_permute::keys::{OneWay, TwoWays};
@@ -52,7 +52,9 @@ where
 
 // The three types of `aes` for a size. With the size as a parameter, they are proved once for all sizes.
 fn planes_are_named<K: KeySize>(rt: &HostRuntime, key: &[u8], name: &str) -> Result<bool, Fail> {
-    are_named::<AesCipher<K, BothWays>, AesCipher<K, Encrypt>, AesCipher<K, Decrypt>>(rt, key, name)
+    are_named::<FixslicedAes<K, BothWays>, FixslicedAes<K, Encrypt>, FixslicedAes<K, Decrypt>>(
+        rt, key, name,
+    )
 }
 
 // The same of those of `aes_permute`.

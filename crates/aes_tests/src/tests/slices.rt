@@ -3,7 +3,7 @@
 use super::blocks::different_blocks;
 use super::keys::{KEY_128, KEY_192, KEY_256};
 use super::ways::{CipherIn, Trial, try_all};
-use aes::{AesCipher, Block};
+use aes::{Block, FixslicedAes};
 use aes_cipher::aes::{Bits128, Bits192, Bits256, BothWays, KeySchedule, KeySize};
 use aes_cipher::cipher::{
     BlockCipherDecrypt, BlockCipherEncrypt, Decrypt, Direction, Encrypt, KeyInit, NotEqualError,
@@ -73,9 +73,9 @@ fn processes_slices_as_single_blocks(rt: HostRuntime) {
 
 // Whether slices of 0 to 17 blocks become the same by the counted calls of the three types for a key, and come back.
 fn counts_slices<K: KeySize>(key: &K::Key) -> bool {
-    let both = AesCipher::<K, BothWays>::new(key);
-    let encrypts = AesCipher::<K, Encrypt>::new(key);
-    let decrypts = AesCipher::<K, Decrypt>::new(key);
+    let both = FixslicedAes::<K, BothWays>::new(key);
+    let encrypts = FixslicedAes::<K, Encrypt>::new(key);
+    let decrypts = FixslicedAes::<K, Decrypt>::new(key);
     let blocks = different_blocks();
     let mut layers = Layers::new();
     let mut right = true;
@@ -121,7 +121,7 @@ fn brings_back_a_hundred<C: BlockCipherEncrypt + BlockCipherDecrypt>(cipher: &C)
 
 // The type of `aes` for both directions, with the size as a parameter.
 fn planes_bring_back<K: KeySize>(key: &K::Key) -> bool {
-    brings_back_a_hundred(&AesCipher::<K, BothWays>::new(key))
+    brings_back_a_hundred(&FixslicedAes::<K, BothWays>::new(key))
 }
 
 // The same of that of `aes_permute`.
@@ -144,6 +144,6 @@ fn par_blocks<B: ParBlocksSizeUser>(_backend: &B) -> usize {
 #[test]
 fn permutations_take_two_blocks_at_once(rt: HostRuntime) {
     let mut schedule = keys::OneWay::<Bits128, Encrypt>::zeroed();
-    schedule.refill(&KEY_128);
+    schedule.expand(&KEY_128);
     assert_eq!(rt; par_blocks(&keys::LaneBackend::new(&schedule)), 2);
 }

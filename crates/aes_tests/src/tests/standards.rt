@@ -4,7 +4,7 @@ use super::blocks::{ENCRYPTED, blocks};
 use super::keys::{
     BY_128, BY_192, BY_256, KEY_128, KEY_192, KEY_256, KEY_A1, KEY_A2, KEY_A3, PLAIN,
 };
-use aes::{AesCipher, Block, hardware_accelerated};
+use aes::{Block, FixslicedAes, hardware_accelerated};
 use aes_cipher::aes::{Bits128, Bits192, Bits256, BothWays, KeySize};
 use aes_cipher::cipher::{BlockCipherDecrypt, BlockCipherEncrypt, Decrypt, Encrypt, KeyInit};
 use aes_permute::keys;
@@ -59,7 +59,7 @@ where
 
 // Whether the three types of `aes` for a size do. With the size as a parameter, they are proved once for all sizes.
 fn planes_hold<K: KeySize>(example: Example) -> bool {
-    hold::<AesCipher<K, BothWays>, AesCipher<K, Encrypt>, AesCipher<K, Decrypt>>(example)
+    hold::<FixslicedAes<K, BothWays>, FixslicedAes<K, Encrypt>, FixslicedAes<K, Decrypt>>(example)
 }
 
 // The same of those of `aes_permute`.
@@ -122,7 +122,7 @@ where
 
 // Whether the types of `aes` that work in one direction do, with the size as a parameter.
 fn planes_encrypt_four<K: KeySize>(key: &[u8], plain: [Block; 4], encrypted: [Block; 4]) -> bool {
-    encrypts_four::<AesCipher<K, Encrypt>, AesCipher<K, Decrypt>>(key, plain, encrypted)
+    encrypts_four::<FixslicedAes<K, Encrypt>, FixslicedAes<K, Decrypt>>(key, plain, encrypted)
 }
 
 // The same of those of `aes_permute`.

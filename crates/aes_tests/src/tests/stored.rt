@@ -8,6 +8,6 @@ fn wipes_blocks_and_leaves_their_copy(rt: HostRuntime) {
     let mut stored = Wiped::new(blocks);
     let copy = stored.copy();
     stored.wipe();
-    assert!(rt; *stored.words() == [[0; 16]; 2]);
-    assert!(rt; *copy.words() == blocks);
+    assert!(rt; *stored.value() == [[0; 16]; 2]);
+    assert!(rt; *copy.value() == blocks);
 }

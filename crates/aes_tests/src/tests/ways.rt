@@ -4,7 +4,7 @@ ghost use Rattle.std.specs.Prelude.{◌≡◌, ◌⊎◌};
 
 use crate::by_backend::ByBackend;
 use aes::expansion::{expand_128, expand_192, expand_256};
-use aes::{AesCipher, Block};
+use aes::{Block, FixslicedAes};
 use aes_cipher::aes::{Bits128, Bits192, Bits256, BothWays, KeySize};
 use aes_cipher::cipher::{
     BlockCipherDecClosure, BlockCipherDecrypt, BlockCipherEncClosure, BlockCipherEncrypt, Decrypt,
@@ -158,7 +158,7 @@ fn try_planes<T: Trial>(trial: &T) -> [Passed; 3] {
 
 // The three types for a size. With the size as a parameter, they are proved once for all sizes.
 fn planes_pass<T: Trial, K: KeySize>(trial: &T, key: &[u8]) -> [bool; 4] {
-    pass_under::<T, AesCipher<K, BothWays>, AesCipher<K, Encrypt>, AesCipher<K, Decrypt>>(
+    pass_under::<T, FixslicedAes<K, BothWays>, FixslicedAes<K, Encrypt>, FixslicedAes<K, Decrypt>>(
         trial, key,
     )
 }

@@ -1,11 +1,11 @@
 -- What is left to show of `ciphers::keys_of`.
 use Rattle.std.proofs.Common.{subst, sym}
 use Rattle.aes_permute.proofs.KeyBytes.{IsLength}
-use Rattle.aes_hybrid.proofs.LaneKeys.{lanes_of, key_is}
+use Rattle.aes_hybrid.proofs.LaneKeys.{is_schedule_of, key_is}
 use Rattle.aes_hybrid.proofs.ciphers.keys_of.Goals as goal
 
-pub returns-clause-is_lanes : goal.returns-clause-is_lanes
-returns-clause-is_lanes g c = lanes_of c.lend.result.now _
+pub returns-clause-keyed : goal.returns-clause-keyed
+returns-clause-keyed g c = is_schedule_of c.lend.result.now _
     (subst IsLength (sym c.has_key.ensures.sized) g.met.S.Size.KeySize.is_size.one_of_three) c.has_key.ensures.bytes
     c.lend.ensures.keys
 

@@ -10,7 +10,7 @@ use aes_planes::soft::mix_columns::{
 use aes_planes::soft::sbox::{Layers, sub_bytes, sub_bytes_nots};
 use aes_planes::soft::utils::{
     add_round_constant_bit, add_round_key, every_slot, inv_shift_rows_1, inv_shift_rows_2,
-    inv_shift_rows_3, put_round_key, round_key, shift_rows_1, shift_rows_2, shift_rows_3,
+    inv_shift_rows_3, round_key, shift_rows_1, shift_rows_2, shift_rows_3, store_round_key,
     straddle_columns, sum_of_blocks, summed_columns, xor_columns,
 };
 use aes_planes::soft::word::{Batch, Block, Word};
@@ -154,12 +154,12 @@ fn last_of<W: Word>(planes: &[W; 8]) -> Block {
 fn next_round_key<W: Word>(key: Block) -> [Block; 2] {
     let mut words = [W::zero(); 16];
     let before = in_every_slot::<W>(&key);
-    put_round_key(&mut words, 0, &before);
+    store_round_key(&mut words, 0, &before);
     let mut planes = before;
     sub_bytes(&mut planes, &mut Layers::new());
     sub_bytes_nots(&mut planes);
     add_round_constant_bit(&mut planes, 0);
-    put_round_key(&mut words, 1, &planes);
+    store_round_key(&mut words, 1, &planes);
     xor_columns(&mut words, 8, 8, W::ror_distance(1, 3));
     let own = summed_columns(&before, &planes, W::ror_distance(1, 3));
     [last_of(&round_key(&words, 1)), last_of(&own)]

@@ -8,11 +8,11 @@ expand-init g c =
     let s = form g.F.KeyForm.AreWords c.args.key.now 4 (omega arith) c.requires.sized in
     let words = loaded s _ 0 0 c.load-words.ensures refl (omega arith) in
     record {
-      done = more s 1 (none s (g.F.KeyForm.IsStored c.args.stored.now 10)) (omega arith) c.put.ensures.others
-          (c.put.ensures.put _ words) refl refl;
+      done = more s 1 (none s (g.F.KeyForm.IsStored c.args.stored.now 10)) (omega arith) c.store.ensures.others
+          (c.store.ensures.there _ words) refl refl;
       last_four = words;
       layers = omega arith;
-      same_length = c.put.ensures.same_length ∙ c.requires.room;
+      same_length = c.store.ensures.same_length ∙ c.requires.room;
     }
 
 pub expand-preserved : goal.expand-preserved
@@ -20,15 +20,15 @@ expand-preserved g c =
     let i = c.expand.i in
     let inv = c.expand.invariant in
     let s = form g.F.KeyForm.AreWords c.args.key.now 4 (omega arith) c.requires.sized in
-    let before = c.again-before.ensures _ (inv.done i (omega arith)) inv.last_four in
+    let before = c.read_back-before.ensures _ (inv.done i (omega arith)) inv.last_four in
     let words = rotated s _ i (4 * i) (4 * i) (4 * (i + 1))
     (c.rotated-words.ensures.words _ _ before inv.last_four) (omega arith) (omega arith) (omega arith) (omega arith) in
     record {
-      done = more s (i + 1 + 1) inv.done (omega arith) c.put-in-expand.ensures.others
-          (c.put-in-expand.ensures.put _ words) refl (omega arith);
+      done = more s (i + 1 + 1) inv.done (omega arith) c.store-in-expand.ensures.others
+          (c.store-in-expand.ensures.there _ words) refl (omega arith);
       last_four = words;
       layers = counted _ _ _ i _ inv.layers c.rotated-words.ensures.layers;
-      same_length = c.put-in-expand.ensures.same_length ∙ inv.same_length;
+      same_length = c.store-in-expand.ensures.same_length ∙ inv.same_length;
     }
 
 pub returns-clause-keys : goal.returns-clause-keys

@@ -9,5 +9,5 @@ invariant-expand g l = record {
   done : AreStored (g.F.KeyForm.IsStored l.stored 10) l.key (l.i + 1);
   last_four : g.F.KeyForm.AreWords l.words (block_at l.key (4 * l.i));
   layers : l.layers ≡ l.fn.layers + l.i * g.F.KeyForm.LAYERS;
-  same_length : length l.stored ≡ g.F.KeyForm.units 10;
+  same_length : length l.stored ≡ g.F.KeyForm.length_for 10;
 }

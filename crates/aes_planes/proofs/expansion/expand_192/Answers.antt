@@ -8,12 +8,12 @@ expand-init g c =
     let s = form g.F.KeyForm.AreWords c.args.key.now 6 (omega arith) c.requires.sized in
     let front = loaded s _ 0 0 c.load-front.ensures refl (omega arith) in
     record {
-      done = more s 1 (none s (g.F.KeyForm.IsStored c.args.stored.now 12)) (omega arith) c.put.ensures.others
-          (c.put.ensures.put _ front) refl refl;
+      done = more s 1 (none s (g.F.KeyForm.IsStored c.args.stored.now 12)) (omega arith) c.store.ensures.others
+          (c.store.ensures.there _ front) refl refl;
       first_four = front;
       last_four = loaded s _ 2 8 c.load-back.ensures refl (omega arith);
       layers = omega arith;
-      same_length = c.put.ensures.same_length ∙ c.requires.room;
+      same_length = c.store.ensures.same_length ∙ c.requires.room;
     }
 
 pub expand-preserved : goal.expand-preserved
@@ -29,19 +29,19 @@ expand-preserved g c =
     (c.straddled-middle.ensures _ _ inv.last_four front1) (omega arith) (omega arith) in
     let front = rotated s _ (2 * i + 1) (12 * i + 6) (12 * i + 8) (12 * (i + 1))
     (c.rotated-front.ensures.words _ _ front1 back1) (omega arith) (omega arith) (omega arith) (omega arith) in
-    let one_more = more s (3 * i + 2) inv.done (omega arith) c.put-in-expand.ensures.others
-    (c.put-in-expand.ensures.put _ middle) (omega arith) (omega arith) in
-    let two_more = more s (3 * i + 3) one_more (omega arith) c.put-in-expand-2.ensures.others
-    (c.put-in-expand-2.ensures.put _ back1) (omega arith) (omega arith) in
+    let one_more = more s (3 * i + 2) inv.done (omega arith) c.store-in-expand.ensures.others
+    (c.store-in-expand.ensures.there _ middle) (omega arith) (omega arith) in
+    let two_more = more s (3 * i + 3) one_more (omega arith) c.store-in-expand-2.ensures.others
+    (c.store-in-expand-2.ensures.there _ back1) (omega arith) (omega arith) in
     record {
-      done = more s (3 * (i + 1) + 1) two_more (omega arith) c.put-in-expand-3.ensures.others
-          (c.put-in-expand-3.ensures.put _ front) (omega arith) (omega arith);
+      done = more s (3 * (i + 1) + 1) two_more (omega arith) c.store-in-expand-3.ensures.others
+          (c.store-in-expand-3.ensures.there _ front) (omega arith) (omega arith);
       first_four = front;
       last_four = plain s _ (2 * i + 1) (12 * i + 8) (12 * (i + 1)) (12 * (i + 1) + 2)
           (c.plain-back.ensures _ _ back1 front) refl (omega arith) (omega arith) (omega arith);
       layers = counted_two _ _ _ _ i _ inv.layers c.rotated-front1.ensures.layers c.rotated-front.ensures.layers;
-      same_length = c.put-in-expand-3.ensures.same_length ∙ c.put-in-expand-2.ensures.same_length
-          ∙ c.put-in-expand.ensures.same_length ∙ inv.same_length;
+      same_length = c.store-in-expand-3.ensures.same_length ∙ c.store-in-expand-2.ensures.same_length
+          ∙ c.store-in-expand.ensures.same_length ∙ inv.same_length;
     }
 
 pub returns-clause-keys : goal.returns-clause-keys

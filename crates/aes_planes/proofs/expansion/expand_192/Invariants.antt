@@ -10,5 +10,5 @@ invariant-expand g l = record {
   first_four : g.F.KeyForm.AreWords l.front (block_at l.key (12 * l.i));
   last_four : g.F.KeyForm.AreWords l.back (block_at l.key (12 * l.i + 2));
   layers : l.layers ≡ l.fn.layers + 2 * l.i * g.F.KeyForm.LAYERS;
-  same_length : length l.stored ≡ g.F.KeyForm.units 12;
+  same_length : length l.stored ≡ g.F.KeyForm.length_for 12;
 }

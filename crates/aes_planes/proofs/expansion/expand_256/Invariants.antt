@@ -10,5 +10,5 @@ invariant-expand g l = record {
   first_four : g.F.KeyForm.AreWords l.even (block_at l.key (8 * l.i));
   last_four : g.F.KeyForm.AreWords l.odd (block_at l.key (8 * l.i + 4));
   layers : l.layers ≡ l.fn.layers + 2 * l.i * g.F.KeyForm.LAYERS;
-  same_length : length l.stored ≡ g.F.KeyForm.units 14;
+  same_length : length l.stored ≡ g.F.KeyForm.length_for 14;
 }

@@ -27,9 +27,9 @@ pub fn round_key<W: Word>(round_keys: &[W], i: usize) -> [W; 8]
 /// Stores the planes of round key `i`. The other words stay.
 #[tactic(auto, using(crate::proofs::Planes::EightWords::words_put, crate::proofs::Planes::EightWords::words_stay))]
 #[inline(always)]
-pub fn put_round_key<W: Word>(round_keys: &mut [W], i: usize, planes: &[W; 8])
+pub fn store_round_key<W: Word>(round_keys: &mut [W], i: usize, planes: &[W; 8])
     requires room { 8 * i + 8 ≤ length round_keys.old }
-    ensures put { words_at round_keys.new (8 * i) ≡ planes.now }
+    ensures there { words_at round_keys.new (8 * i) ≡ planes.now }
     ensures others { (o : ℕ) → (o + 8 ≤ 8 * i) ⊎ (8 * i + 8 ≤ o)
         → words_at round_keys.new o ≡ words_at round_keys.old o }
     ensures same_length { length round_keys.new ≡ length round_keys.old }

@@ -7,9 +7,9 @@ ghost use Rattle.aes_soft.specs.Batches.{layers_for};
 ghost use Rattle.aes_soft.specs.Stored.{full, key_of, plane_key, rounds_of, size_of, IsFullSchedule, IsKeyed};
 
 use crate::soft::ciphers::{Full, PlaneCipher, process, process_apart};
-use crate::soft::full::put_wide_first;
+use crate::soft::full::store_wide_first;
 use crate::soft::key_sizes::BatchWord;
-use aes_cipher::zeroize::Held;
+use aes_cipher::zeroize::MustWipe;
 use aes_planes::soft::sbox::Layers;
 use aes_planes::soft::word::{Batch, Block, Word};
 use std::slice;
@@ -105,9 +105,9 @@ pub fn process_blocks<D: PlaneCipher>(round_keys: &[u16], blocks: &mut [Block], 
 {
     let whole = blocks.len() - blocks.len() % <BatchWord as Word>::Blocks::LEN;
     if whole > 0 {
-        let mut room = Held::<[BatchWord; 120]>::zeroed();
-        put_wide_first(room.words_mut(), round_keys);
-        let wide = &room.words()[..round_keys.len()];
+        let mut room = MustWipe::<[BatchWord; 120]>::zeroed();
+        store_wide_first(room.value_mut(), round_keys);
+        let wide = &room.value()[..round_keys.len()];
         process_batches_under::<BatchWord, D>(wide, &mut blocks[..whole], layers);
         room.wipe();
     }

@@ -2,7 +2,7 @@
 use Rattle.std.proofs.Common.{List, [], ◌∷◌, get_or, refl, ◌∙◌, arith}
 use Rattle.aes_planes.specs.Planes.{held}
 use Rattle.aes_planes.proofs.Bits.ByteCases.{by_eight}
-use Rattle.aes_hybrid.proofs.SpreadLanes.{spread_held, HasBit}
+use Rattle.aes_hybrid.proofs.SlotLanes.{spread_held, HasBit}
 use Rattle.aes_hybrid.proofs.slots.BatchWordSlotWord.in_every_slot.Goals as goal
 
 pub returns : goal.returns

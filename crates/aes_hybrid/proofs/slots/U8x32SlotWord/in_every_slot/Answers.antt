@@ -1,7 +1,7 @@
 -- What is left to show of `slots::U8x32SlotWord::in_every_slot`.
 use Rattle.std.proofs.Common.{List, [], ◌∷◌, get_or, refl, arith}
 use Rattle.aes_planes.proofs.Bits.ByteCases.{by_eight}
-use Rattle.aes_hybrid.proofs.SpreadLanes.{wide_spread_held, HasBit, IsTwice}
+use Rattle.aes_hybrid.proofs.SlotLanes.{wide_spread_held, HasBit, IsTwice}
 use Rattle.aes_hybrid.proofs.slots.U8x32SlotWord.in_every_slot.Goals as goal
 
 pub returns : goal.returns

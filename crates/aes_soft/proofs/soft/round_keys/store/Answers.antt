@@ -30,8 +30,8 @@ keys-preserved g c =
     let period = g.L.Layout.PERIOD in
     let times : ℕ = deferred period rounds i in
     let rk = c.keys.round_keys in
-    let rk1 = c.put_round_key.new.round_keys in
-    let stay = c.put_round_key.ensures.others in
+    let rk1 = c.store_round_key.new.round_keys in
+    let stay = c.store_round_key.ensures.others in
     let blocks = held n (map bits c.round_key-planes.result) in
     let shifted : held n (map bits c.if-i-rounds.planes) ≡ map (inv_shift_times times) blocks =
     elim c.if-i-rounds.branch [
@@ -52,12 +52,12 @@ keys-preserved g c =
             changed bits n (λ b. map plus63 (inv_shift_times times b)) rk rk1 _ _ o (8 * j) (f j) (omega arith)
             c.round_key-planes.ensures
             (stepped_map n (map plus63) (inv_shift_times times) _ _ blocks c.sub_bytes_nots.ensures shifted)
-            c.put_round_key.ensures.put (c.keys.invariant.rest f h j ge (omega arith))
+            c.store_round_key.ensures.there (c.keys.invariant.rest f h j ge (omega arith))
             ∙ ap (replicate n) (stored_some rounds period f j times (omega arith) here)
       ];
       rest = λ f h j ge lt. kept bits n rk rk1 o (8 * j) (f j) stay (inr (omega arith))
           (c.keys.invariant.rest f h j (omega arith) lt);
-      same_length = c.put_round_key.ensures.same_length ∙ c.keys.invariant.same_length;
+      same_length = c.store_round_key.ensures.same_length ∙ c.keys.invariant.same_length;
     }
 
 pub returns-clause-blocks : goal.returns-clause-blocks

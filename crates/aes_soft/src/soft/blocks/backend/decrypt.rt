@@ -5,10 +5,10 @@ ghost use Rattle.aes_planes.specs.Words.{word_bits};
 ghost use Rattle.aes_soft.specs.Stored.{plane_key, IsFullSchedule};
 
 use super::Backend;
-use crate::soft::full::put_wide_first;
+use crate::soft::full::store_wide_first;
 use crate::soft::key_sizes::BatchWord;
 use aes_cipher::cipher::BlockCipherDecClosure;
-use aes_cipher::zeroize::Held;
+use aes_cipher::zeroize::MustWipe;
 
 /// Calls the closure once, with a backend of stored round keys. They are widened for the call, and wiped in place after
 /// it.
@@ -18,8 +18,8 @@ pub fn decrypt_with_backend<F: BlockCipherDecClosure>(round_keys: &[u16], f: &mu
     ensures { let key = plane_key (length round_keys.now) 1 (map (word_bits 16) round_keys.now) in
         F.did f.old (fips.key_expansion key) f.new }
 {
-    let mut room = Held::<[BatchWord; 120]>::zeroed();
-    put_wide_first(room.words_mut(), round_keys);
-    f.call(&Backend::lent(round_keys, &room.words()[..round_keys.len()]));
+    let mut room = MustWipe::<[BatchWord; 120]>::zeroed();
+    store_wide_first(room.value_mut(), round_keys);
+    f.call(&Backend::lent(round_keys, &room.value()[..round_keys.len()]));
     room.wipe();
 }

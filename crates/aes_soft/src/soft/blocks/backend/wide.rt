@@ -3,9 +3,9 @@ ghost use Rattle.std.specs.Prelude.{◌≡◌, ℕ, List, map};
 ghost use Rattle.aes_planes.specs.Words.{word_bits};
 ghost use Rattle.aes_soft.specs.Stored.{plane_key, IsFullSchedule};
 
-use crate::soft::full::put_wide;
+use crate::soft::full::store_wide;
 use crate::soft::key_sizes::BatchWord;
-use aes_cipher::zeroize::Held;
+use aes_cipher::zeroize::MustWipe;
 
 // Widens stored round keys in place.
 #[inline(always)]
@@ -14,7 +14,7 @@ fn fill<const N: usize>(wide: &mut [BatchWord; N], round_keys: &[u16; N])
     ensures schedule { IsFullSchedule N 8 (map (word_bits 128) wide.new) }
     ensures key { plane_key N 8 (map (word_bits 128) wide.new) ≡ plane_key N 1 (map (word_bits 16) round_keys.now) }
 {
-    put_wide(wide, round_keys);
+    store_wide(wide, round_keys);
 }
 
 /// What holds round keys on the words of a batch.
@@ -29,7 +29,7 @@ pub trait HoldsWide: Drop {
 
 /// Widened round keys that are wiped when they are dropped.
 pub struct OwnedWide<const N: usize> {
-    keys: Held<[BatchWord; N]>,
+    keys: MustWipe<[BatchWord; N]>,
 }
 
 impl<const N: usize> OwnedWide<N> {
@@ -42,9 +42,9 @@ impl<const N: usize> OwnedWide<N> {
             ≡ plane_key N 1 (map (word_bits 16) round_keys.now) }
     {
         let mut wide = OwnedWide {
-            keys: Held::zeroed(),
+            keys: MustWipe::zeroed(),
         };
-        fill(wide.keys.words_mut(), round_keys);
+        fill(wide.keys.value_mut(), round_keys);
         wide
     }
 }
@@ -62,7 +62,7 @@ impl<const N: usize> HoldsWide for OwnedWide<N> {
 
     #[inline(always)]
     fn lend(&self) -> &[BatchWord] {
-        self.keys.words()
+        self.keys.value()
     }
 }
 

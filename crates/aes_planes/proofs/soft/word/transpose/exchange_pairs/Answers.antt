@@ -9,7 +9,7 @@ use Rattle.aes_planes.proofs.soft.word.transpose.exchange_pairs.Goals as goal
 
 pub returns : goal.returns
 returns g c w j r hw hj hr =
-    let bits = g.L.Lanes.bits in
+    let bits = g.L.ByteLanes.bits in
     let s = c.args.shift in
     let m = c.args.mask in
     let told =

@@ -1,7 +1,7 @@
--- What holds in the loops of `soft::full::widening::put_wide`.
+-- What holds in the loops of `soft::full::widening::store_wide`.
 use Rattle.std.proofs.Common.{◌≡◌, ℕ, ◌<◌, length, slice_index_or}
 use Rattle.aes_soft.proofs.Widened.{InEverySlot}
-use Rattle.aes_soft.proofs.soft.full.widening.put_wide.Given as goal
+use Rattle.aes_soft.proofs.soft.full.widening.store_wide.Given as goal
 
 abbrev pub invariant-widen : goal.invariant-widen
 invariant-widen g l = record {

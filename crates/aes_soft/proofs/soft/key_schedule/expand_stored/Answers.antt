@@ -1,11 +1,11 @@
--- What is left to show of `soft::key_schedule::put_schedule`.
+-- What is left to show of `soft::key_schedule::expand_stored`.
 use Rattle.std.proofs.Common.{map, refl, arith}
 use Rattle.aes_planes.specs.Fips197 as fips
 use Rattle.std.proofs.Math.Nat.{zero-mod}
 use Rattle.aes_soft.specs.Stored.{deferred}
 use Rattle.aes_soft.proofs.KeyOfPlanes.{key_of-schedule}
 use Rattle.aes_soft.proofs.StoredRoundKeys.{deferred_below, schedule_of}
-use Rattle.aes_soft.proofs.soft.key_schedule.put_schedule.Goals as goal
+use Rattle.aes_soft.proofs.soft.key_schedule.expand_stored.Goals as goal
 
 pub returns-clause-schedule : goal.returns-clause-schedule
 returns-clause-schedule g c =

@@ -1,9 +1,9 @@
--- What holds in the loops of `plane_keys::put_planes`.
+-- What holds in the loops of `plane_keys::store_planes`.
 use Rattle.std.proofs.Common.{◌≡◌, ◌*◌, ◌-◌, ◌<◌, ℕ, length}
 use Rattle.aes_soft.specs.Stored.{full, stored_key}
 use Rattle.aes_soft.proofs.WordsInPlace.{HoldsAt}
 use Rattle.aes_permute.specs.Keys.{encrypting}
-use Rattle.aes_hybrid.proofs.plane_keys.put_planes.Given as goal
+use Rattle.aes_hybrid.proofs.plane_keys.store_planes.Given as goal
 
 abbrev pub invariant-keys : goal.invariant-keys
 invariant-keys g l = record {

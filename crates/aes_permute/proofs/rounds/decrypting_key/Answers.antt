@@ -1,6 +1,6 @@
--- What is left to show of `rounds::decrypt_key`.
+-- What is left to show of `rounds::decrypting_key`.
 use Rattle.aes_permute.proofs.InverseLanes.{unmixed_is}
-use Rattle.aes_permute.proofs.rounds.decrypt_key.Goals as goal
+use Rattle.aes_permute.proofs.rounds.decrypting_key.Goals as goal
 
 pub returns : goal.returns
 returns c =

@@ -1,6 +1,6 @@
--- What holds in the loops of `soft::utils::copies::put_round_key`.
+-- What holds in the loops of `soft::utils::copies::store_round_key`.
 use Rattle.std.proofs.Common.{◌≡◌, ℕ, ◌+◌, ◌<◌, ◌≤◌, ◌⊎◌, length, slice_index_or}
-use Rattle.aes_planes.proofs.soft.utils.copies.put_round_key.Given as goal
+use Rattle.aes_planes.proofs.soft.utils.copies.store_round_key.Given as goal
 
 abbrev pub invariant-loop-p : goal.invariant-loop-p
 invariant-loop-p g l = record {

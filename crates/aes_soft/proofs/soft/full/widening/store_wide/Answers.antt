@@ -1,8 +1,8 @@
--- What is left to show of `soft::full::widening::put_wide`.
+-- What is left to show of `soft::full::widening::store_wide`.
 use Rattle.std.proofs.Common.{length, length-set, ◌∙◌, arith}
 use Rattle.aes_soft.specs.Stored.{full, rounds_of, size_of}
 use Rattle.aes_soft.proofs.Widened.{InEverySlot, put_more, same_key, widened}
-use Rattle.aes_soft.proofs.soft.full.widening.put_wide.Goals as goal
+use Rattle.aes_soft.proofs.soft.full.widening.store_wide.Goals as goal
 
 pub widen-preserved : goal.widen-preserved
 widen-preserved g c =

@@ -1,8 +1,8 @@
--- What is left to show of `soft::expand::PlanesKeyForm::again`.
+-- What is left to show of `soft::expand::PlanesKeyForm::read_back`.
 use Rattle.std.proofs.Common.{◌∙◌, ◌*◌, ap, sym, map}
 use Rattle.aes_planes.specs.Planes.{held}
 use Rattle.aes_planes.proofs.Planes.EightWords.{words_at-map}
-use Rattle.aes_soft.proofs.soft.expand.PlanesKeyForm.again.Goals as goal
+use Rattle.aes_soft.proofs.soft.expand.PlanesKeyForm.read_back.Goals as goal
 
 pub returns : goal.returns
 returns g c = λ x there kept.

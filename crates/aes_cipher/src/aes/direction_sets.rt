@@ -9,7 +9,7 @@ pub trait Directions {
 }
 
 /// A set that contains the direction D.
-pub trait Includes<D: Direction>: Directions {}
+pub trait Allows<D: Direction>: Directions {}
 
 /// Encryption and decryption. The set of one direction is that direction itself.
 pub struct BothWays;
@@ -26,10 +26,10 @@ impl Directions for Decrypt {
     const SUFFIX: &'static str = "Dec";
 }
 
-impl Includes<Encrypt> for BothWays {}
+impl Allows<Encrypt> for BothWays {}
 
-impl Includes<Decrypt> for BothWays {}
+impl Allows<Decrypt> for BothWays {}
 
-impl Includes<Encrypt> for Encrypt {}
+impl Allows<Encrypt> for Encrypt {}
 
-impl Includes<Decrypt> for Decrypt {}
+impl Allows<Decrypt> for Decrypt {}

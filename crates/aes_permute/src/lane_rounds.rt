@@ -8,8 +8,8 @@ ghost use Rattle.aes_permute.specs.Keys.{leading_key, cipher_form, inverse_form}
 ghost use Rattle.aes_permute.specs.Stored.{untower, inv_untower, round_keys_of, AreWritten, LaneForm};
 
 use crate::rounds::{
-    decrypt_first, decrypt_key, decrypt_last, decrypt_round, encrypt_first, encrypt_key,
-    encrypt_last, encrypt_round,
+    decrypt_first, decrypt_last, decrypt_round, decrypting_key, encrypt_first, encrypt_last,
+    encrypt_round, encrypting_key,
 };
 use aes_cipher::cipher::{Decrypt, Direction, Encrypt};
 use std::simd::prelude::*;
@@ -99,7 +99,7 @@ impl LaneRounds for Encrypt {
 
     #[inline(always)]
     fn inner_key(key: u8x16) -> u8x16 {
-        encrypt_key(key)
+        encrypting_key(key)
     }
 
     #[tactic(auto, using(crate::proofs::DirectionLaws::written_forward))]
@@ -142,7 +142,7 @@ impl LaneRounds for Decrypt {
 
     #[inline(always)]
     fn inner_key(key: u8x16) -> u8x16 {
-        decrypt_key(key)
+        decrypting_key(key)
     }
 
     #[tactic(auto, using(crate::proofs::DirectionLaws::written_backward))]

@@ -7,39 +7,39 @@ use std::marker::Model;
 
 /// A value whose drop requires that it is zero, so code that drops it without a wipe isn't proved. It is neither `Copy`
 /// nor `Clone`. Contracts see the value.
-pub struct Held<V: Zeroize> {
+pub struct MustWipe<V: Zeroize> {
     value: V,
 }
 
-impl<V: Zeroize> Model for Held<V> {
+impl<V: Zeroize> Model for MustWipe<V> {
     ghost Value = { V };
 
-    ghost view = { λ held. held.value };
+    ghost view = { λ kept. kept.value };
 }
 
-impl<V: Zeroize> Held<V> {
+impl<V: Zeroize> MustWipe<V> {
     ghost use Rattle.std.specs.Borrow.{sem};
-    ghost use Rattle.aes_cipher.specs.Lends.{lends_held};
+    ghost use Rattle.aes_cipher.specs.Lends.{lends_must_wipe};
 
     /// Takes a value.
     #[inline(always)]
-    pub fn new(value: V) -> Held<V>
+    pub fn new(value: V) -> MustWipe<V>
         ensures { result ≡ value }
     {
-        Held { value }
+        MustWipe { value }
     }
 
     /// Returns zeros, to be written over.
     #[inline(always)]
-    pub fn zeroed() -> Held<V>
+    pub fn zeroed() -> MustWipe<V>
         ensures { result ≡ V.ZERO }
     {
-        Held::new(V::zero())
+        MustWipe::new(V::zero())
     }
 
     /// Lends the value.
     #[inline(always)]
-    pub fn words(&self) -> &V
+    pub fn value(&self) -> &V
         ensures { result.now ≡ self.now }
     {
         &self.value
@@ -47,9 +47,9 @@ impl<V: Zeroize> Held<V> {
 
     /// Lends the value to be written over.
     #[inline(always)]
-    pub fn words_mut(&mut self) -> &mut V
-        ensures* writes_back { sem 𝓛 (lends_held V.row V.Zeroize self.entry result) }
-        ensures words { result.now ≡ self.old }
+    pub fn value_mut(&mut self) -> &mut V
+        ensures* writes_back { sem 𝓛 (lends_must_wipe V.row V.Zeroize self.entry result) }
+        ensures value { result.now ≡ self.old }
     {
         &mut self.value
     }
@@ -63,11 +63,11 @@ impl<V: Zeroize> Held<V> {
     }
 }
 
-impl<V: Zeroize> Drop for Held<V> {
+impl<V: Zeroize> Drop for MustWipe<V> {
     #[inline(always)]
     fn drop(self)
         requires wiped { self ≡ V.ZERO }
     {
-        let Held { value: _ } = self;
+        let MustWipe { value: _ } = self;
     }
 }

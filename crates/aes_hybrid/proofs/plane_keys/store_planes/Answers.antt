@@ -1,0 +1,72 @@
+-- What is left to show of `plane_keys::store_planes`.
+use Rattle.std.proofs.Common.{◌≡◌, inl, inr, ℕ, ◌-◌, ◌*◌, length, refl, ap, sym, ◌∙◌, arith}
+use Rattle.std.proofs.lemmas.Bool.{cases_lt}
+use Rattle.aes_soft.proofs.WordsInPlace.{kept}
+use Rattle.aes_hybrid.proofs.PlaneKeys.{wanted, first_wanted, inner_wanted, last_wanted, planes_keyed, planes_key}
+use Rattle.aes_hybrid.proofs.PlaneKeys.{two_or_more, put_at}
+use Rattle.aes_hybrid.proofs.plane_keys.store_planes.Goals as goal
+
+pub keys-init : goal.keys-init
+keys-init g c =
+    let keys = c.args.keys.now in
+    let two = two_or_more keys c.requires.keyed in
+    record {
+      done = λ j lt.
+          let none : j ≡ 0 = omega arith in
+          put_at g.W.Word.bits g.W.Word.BLOCKS c.store_block.new.words 0 (8 * j) _ _ (omega (arith, none))
+          c.store_block.ensures.there (first_wanted keys two ∙ ap (wanted keys two) (sym none));
+      same_length = c.store_block.ensures.same_length ∙ c.requires.sized;
+    }
+
+pub keys-preserved : goal.keys-preserved
+keys-preserved g c =
+    let keys = c.args.keys.now in
+    let two = two_or_more keys c.requires.keyed in
+    let i = c.keys.i in
+    let inv = c.keys.invariant in
+    record {
+      done = λ j lt. elim (cases_lt j i) [
+        | inl low ↦ kept g.W.Word.bits g.W.Word.BLOCKS c.keys.words c.store_block-in-keys.new.words (8 * i) (8 * j) _
+            c.store_block-in-keys.ensures.others (inl (omega arith)) (inv.done j low)
+        | inr ge ↦
+            let same : i ≡ j = omega arith in
+            put_at g.W.Word.bits g.W.Word.BLOCKS c.store_block-in-keys.new.words (8 * i) (8 * j) _ _ (omega (arith, same))
+            c.store_block-in-keys.ensures.there
+            (c.plane_key.ensures
+            ∙ inner_wanted keys two i c.keys.auto.i c.keys-test.true (c.told-keys i (omega (arith, c.keys-test.true)))
+            ∙ ap (wanted keys two) same)
+      ];
+      same_length = c.store_block-in-keys.ensures.same_length ∙ inv.same_length;
+    }
+
+pub returns-clause-is_schedule : goal.returns-clause-is_schedule
+returns-clause-is_schedule g c = planes_keyed g.W.Word.BLOCKS g.met.W.Word.shape.some_block _ c.args.keys.now c.requires.keyed _
+    (c.store_block-2.ensures.same_length ∙ c.keys.invariant.same_length) (λ j lt.
+    let keys = c.args.keys.now in
+    let two = two_or_more keys c.requires.keyed in
+    let last : ℕ = length keys - 1 in
+    elim (cases_lt j last) [
+      | inl low ↦ kept g.W.Word.bits g.W.Word.BLOCKS c.keys.words c.store_block-2.new.words (8 * last) (8 * j) _
+          c.store_block-2.ensures.others (inl (omega arith))
+          (c.keys.invariant.done j (omega (arith, low, c.keys-test.false)))
+      | inr ge ↦
+          let same : last ≡ j = omega arith in
+          put_at g.W.Word.bits g.W.Word.BLOCKS c.store_block-2.new.words (8 * last) (8 * j) _ _ (omega (arith, same))
+          c.store_block-2.ensures.there (last_wanted keys two last refl ∙ ap (wanted keys two) same)
+    ])
+
+pub returns-clause-key : goal.returns-clause-key
+returns-clause-key g c = planes_key g.W.Word.BLOCKS g.met.W.Word.shape.some_block _ c.args.keys.now c.requires.keyed _
+    (c.store_block-2.ensures.same_length ∙ c.keys.invariant.same_length) (λ j lt.
+    let keys = c.args.keys.now in
+    let two = two_or_more keys c.requires.keyed in
+    let last : ℕ = length keys - 1 in
+    elim (cases_lt j last) [
+      | inl low ↦ kept g.W.Word.bits g.W.Word.BLOCKS c.keys.words c.store_block-2.new.words (8 * last) (8 * j) _
+          c.store_block-2.ensures.others (inl (omega arith))
+          (c.keys.invariant.done j (omega (arith, low, c.keys-test.false)))
+      | inr ge ↦
+          let same : last ≡ j = omega arith in
+          put_at g.W.Word.bits g.W.Word.BLOCKS c.store_block-2.new.words (8 * last) (8 * j) _ _ (omega (arith, same))
+          c.store_block-2.ensures.there (last_wanted keys two last refl ∙ ap (wanted keys two) same)
+    ])
