@@ -1,11 +1,9 @@
 //! Calls that take a key and keep none of it.
 
-ghost use Rattle.std.specs.Prelude.{◌≡◌, ◌≢◌, ◌↔◌, ◌+◌, ◌-◌, ◌/◌, ◌^◌, ◌<◌, ◌≤◌, length};
+ghost use Rattle.std.specs.Prelude.{◌≡◌, ◌≢◌, ◌↔◌, ◌+◌, ◌-◌, ◌^◌, ◌<◌, ◌≤◌, length};
 ghost use Rattle.aes_planes.specs.Each.{Each};
 ghost use Rattle.aes_planes.specs.Fips197 as fips;
 ghost use Rattle.aes_ctr.specs.CounterMode.{keystream_byte, plus_stream};
-ghost use Rattle.aes_permute.specs.Stored.{round_keys_of};
-ghost use Rattle.aes_permute.specs.Keys.{stored_keys};
 ghost use Rattle.aes_calls.specs.Kept.{IsKeyLength};
 
 use crate::blocks::process_under;
@@ -18,38 +16,7 @@ use aes_ctr::add_keystream;
 use aes_hybrid::blocks::process_blocks;
 use aes_hybrid::lent::Lent;
 use aes_hybrid::widths::Width;
-use aes_permute::blocks::process_blocks as process_on_lanes;
-use aes_permute::lane_rounds::LaneRounds;
-use aes_permute::schedule::expand;
 use aes_planes::soft::word::Block;
-
-// The most blocks that are decrypted under a schedule for decrypting alone. More are quicker as a batch on planes, which
-// are made of the round keys of Cipher.
-const MOST_UNDER_ONE_SCHEDULE: usize = 6;
-
-// Writes the stored round keys of a key as a direction uses them: KeyExpansion (FIPS 197, 5.2), and KeyExpansionEIC for
-// decrypting (5.3.5).
-#[inline(always)]
-fn expand_used<D: LaneRounds>(blocks: &mut [Block; 15], key: &[u8])
-    requires { IsKeyLength (length key.now) }
-    ensures { round_keys_of D.form (stored_keys (length key.now) blocks.new)
-        ≡ D.form.used_keys (fips.key_expansion key.now) }
-{
-    expand::<D>(&mut blocks[..key.len() / 4 + 7], key);
-}
-
-// Processes each of few blocks in place, which takes the round keys of that direction alone.
-fn process_few<D: LaneRounds>(key: &[u8], blocks: &mut [Block])
-    requires { IsKeyLength (length key.now) }
-    ensures { Each (D.processed (fips.key_expansion key.now)) blocks.old blocks.new }
-{
-    D::processes();
-    D::uses_all();
-    let mut kept = MustWipe::<[Block; 15]>::zeroed();
-    expand_used::<D>(kept.value_mut(), key);
-    process_on_lanes::<D>(keys_of(kept.value(), key.len()), blocks);
-    kept.wipe();
-}
 
 /// Encrypts each block in place under a key (Cipher, FIPS 197, 5.1). Returns `DONE` exactly if the key has 16, 24 or 32
 /// bytes, else `KEY_LENGTH`.
@@ -78,11 +45,6 @@ pub fn decrypt_with<W: Width>(key: &[u8], blocks: &mut [Block]) -> u32
     ensures blocks { result ≡ DONE → Each (fips.inv_cipher key.now) blocks.old blocks.new }
     ensures untouched { result ≢ DONE → blocks.new ≡ blocks.old }
 {
-    // Not for keys of 24 bytes: their round keys straddle blocks, and LLVM would leave a piece of one on the stack.
-    if is_key_length(key.len()) && key.len() != 24 && blocks.len() <= MOST_UNDER_ONE_SCHEDULE {
-        process_few::<Decrypt>(key, blocks);
-        return DONE;
-    }
     let mut kept = MustWipe::<Aes>::zeroed();
     if set_key(kept.value_mut(), key) != DONE {
         return KEY_LENGTH;

@@ -3,7 +3,6 @@
 ghost use Rattle.std.specs.Prelude.{◌≡◌, ◌⊎◌, ◌+◌, ◌/◌, length};
 ghost use Rattle.aes_hybrid.specs.Keys.{cipher_key, IsCipherSchedule, AreInverse};
 
-use aes_cipher::cipher::Encrypt;
 use aes_permute::schedule::{expand, invert};
 use aes_planes::soft::word::Block;
 
@@ -15,7 +14,7 @@ pub fn expand_encrypting(keys: &mut [Block], key: &[u8])
     ensures keyed { IsCipherSchedule keys.new }
     ensures key { cipher_key keys.new ≡ key.now }
 {
-    expand::<Encrypt>(keys, key);
+    expand(keys, key);
 }
 
 /// Writes the stored round keys of EqInvCipher, of the same key (FIPS 197, 5.3.5).

@@ -1,11 +1,14 @@
 -- Stored round keys of Cipher turned into those of EqInvCipher.
-use Rattle.std.proofs.Common.{◌≡◌, ℕ, ◌-◌, ◌<◌, ◌≤◌, List, [], length, map, map-id, get_or, ap, sym, ◌∙◌, arith}
+use Rattle.std.proofs.Common.{◌≡◌, inl, inr, ℕ, ◌+◌, ◌-◌, ◌/◌, ◌<◌, ◌≤◌, List, [], length, map, map-id, get_or}
+use Rattle.std.proofs.Common.{ap, refl, sym, ◌∙◌, arith}
 use Rattle.aes_planes.specs.Fips197 as fips
 use Rattle.aes_planes.specs.Planes.{plus63}
-use Rattle.aes_permute.specs.Keys.{cipher_form, inverse_form}
+use Rattle.aes_planes.proofs.Standard.InvertedKeys.{inverted_length, inverted_end, inverted_middle}
+use Rattle.aes_permute.specs.Keys.{encrypting, decrypting, cipher_form, inverse_form, lane_key, IsLaneSchedule}
 use Rattle.aes_permute.specs.Stored.{inv_untower, key_untower, round_keys_of}
-use Rattle.aes_permute.proofs.DirectionLaws.{written_backward}
-use Rattle.aes_permute.proofs.States.{keys_length, last_is_last, first_key, inner_key, last_key}
+use Rattle.aes_permute.proofs.DirectionLaws.{key_backward}
+use Rattle.aes_permute.proofs.KeyBytes.{read_as, is_lane_schedule, IsLength}
+use Rattle.aes_permute.proofs.States.{keys_length, first_key, inner_key, last_key, stored_are}
 
 -- place k of the new keys is place last - k of the old, its columns mixed back
 abbrev pub Unmixed : List (List ℕ) → List (List ℕ) → ℕ → Type 0
@@ -23,28 +26,39 @@ pub inverted_stored : (old new : List (List ℕ)) → 2 ≤ length old → lengt
     → round_keys_of inverse_form new ≡ fips.inverted_keys (round_keys_of cipher_form old)
 inverted_stored old new two l inner start end =
     let w = round_keys_of cipher_form old in
-    let n = length old - 1 in
+    let v = fips.inverted_keys w in
+    let n = fips.last_round w in
     let long : length w ≡ length old = keys_length cipher_form old in
-    let last : fips.last_round w ≡ n = last_is_last cipher_form old in
-    written_backward w new (omega (arith, long, two)) (record {
-      same_length = l ∙ sym long;
-      each = λ i le. record {
-        first = λ none.
-            let there : fips.last_round w - i ≡ n = omega (arith, none, last) in
-            let here : n - n ≡ 0 = omega arith in
-            ap (fips.round_key new) there ∙ end ∙ ap (fips.round_key old) here ∙ sym (map-id (fips.round_key old 0))
-            ∙ sym (first_key cipher_form old (omega (arith, two))) ∙ ap (fips.round_key w) (sym none);
-        between = λ some below.
-            let back : n - (fips.last_round w - i) ≡ i = omega (arith, le, last) in
-            inner (fips.last_round w - i) (omega (arith, below)) (omega (arith, some, below, last))
-            ∙ ap (λ m. fips.inv_mix_columns (map key_untower (fips.round_key old m))) back
-            ∙ ap fips.inv_mix_columns
-            (sym (inner_key cipher_form old i some (omega (arith, below, last))));
-        at_last = λ at.
-            let there : fips.last_round w - i ≡ 0 = omega (arith, at) in
-            let here : n - 0 ≡ i = omega (arith, at, last) in
-            ap (λ m. map plus63 (fips.round_key new m)) there ∙ ap (map plus63) start
-            ∙ ap (λ m. map plus63 (fips.round_key old m)) here
-            ∙ sym (last_key cipher_form old i two (at ∙ last));
-      };
-    })
+    let back : length v ≡ length w = inverted_length w in
+    let last : n ≡ length old - 1 = ap (λ m. m - 1) long in
+    let same : fips.last_round v ≡ n = ap (λ m. m - 1) back in
+    let none : 0 ≡ n - n = omega arith in
+    stored_are inverse_form new v (omega (arith, long, back, two)) (l ∙ sym (back ∙ long))
+    (ap (map plus63) start ∙ sym (last_key cipher_form old (length old - 1 - 0) two (omega arith))
+    ∙ ap (λ m. fips.round_key w (m - 0)) (sym last) ∙ inverted_end w 0 (omega (arith, long, two)) (inl refl))
+    (λ i some below.
+    let up : i < n = omega (arith, below, same) in
+    inner i some (omega (arith, up, last))
+    ∙ ap fips.inv_mix_columns (sym (inner_key cipher_form old (length old - 1 - i) (omega (arith, up, last))
+    (omega (arith, some, up, last))) ∙ ap (λ m. fips.round_key w (m - i)) (sym last))
+    ∙ inverted_middle w i (omega (arith, up)) (omega (arith, some)) (omega (arith, up)))
+    (map-id _ ∙ ap (fips.round_key new) (same ∙ last) ∙ end ∙ ap (λ m. fips.round_key old (m - m)) (sym last)
+    ∙ ap (fips.round_key old) (sym none) ∙ sym (map-id (fips.round_key old 0))
+    ∙ sym (first_key cipher_form old (omega (arith, two))) ∙ ap (fips.round_key w) none
+    ∙ inverted_end w n (omega (arith, long, two)) (inr refl) ∙ ap (fips.round_key v) (sym same))
+
+-- and have the same key
+pub inverted_schedule : (old new : List (List ℕ)) → length new ≡ length old
+    → decrypting new ≡ fips.inverted_keys (encrypting old) → IsLaneSchedule cipher_form old
+    → IsLaneSchedule inverse_form new × (lane_key inverse_form new ≡ lane_key cipher_form old)
+inverted_schedule old new l e s =
+    let key = lane_key cipher_form old in
+    let one : IsLength (length key) = elim s.one_of_three [
+      | inl k ↦ inl (omega (arith, k, s.sized))
+      | inr other ↦ inr (elim other [ inl k ↦ inl (omega (arith, k, s.sized)) | inr k ↦ inr (omega (arith, k, s.sized)) ])
+    ] in
+    let sized : length new ≡ length key / 4 + 7 = omega (arith, s.one_of_three, s.sized, l) in
+    let keys = e ∙ ap fips.inverted_keys s.keys in (
+      is_lane_schedule inverse_form new key one sized s.bytes key_backward keys,
+      read_as inverse_form new key one sized s.bytes key_backward keys,
+    )

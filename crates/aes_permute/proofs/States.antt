@@ -1,7 +1,8 @@
 -- States round by round, under stored round keys.
-use Rattle.std.proofs.Common.{◌≡◌, ℕ, ◌+◌, ◌-◌, ◌<◌, ◌≤◌, if◌then◌else◌, List, [], length, map, refl, ap, sym}
+use Rattle.std.proofs.Common.{◌≡◌, inl, inr, ℕ, ◌+◌, ◌-◌, ◌<◌, ◌≤◌, if◌then◌else◌, List, [], length, map, refl, ap, sym}
 use Rattle.std.proofs.Common.{◌∙◌, arith}
-use Rattle.std.proofs.lemmas.Bool.{eq-eqb, ne_eqb}
+use Rattle.std.proofs.lemmas.Bool.{cases_lt, eq-eqb, ne_eqb}
+use Rattle.std.proofs.lemmas.List.{ext_get_or}
 use Rattle.aes_planes.specs.Fips197 as fips
 use Rattle.aes_planes.specs.Rounds.{rounds_after, all_rounds}
 use Rattle.aes_planes.proofs.Lists.{get_or-build, length-build}
@@ -82,3 +83,29 @@ module _ (form : LaneForm) (stored : List (List ℕ)) where
       e ∙ (λ j. fips.add_round_key (last_step (h j)) (sym (last_key (fips.last_round stored) two refl) j))
       ∙ (λ j. fips.add_round_key (last_step (rounds_after step (round_keys_of form stored) b (m j - 1)))
       (fips.round_key (round_keys_of form stored) (sym last_is_last j)))
+
+-- stored round keys stand for those of a list, if each does
+pub stored_are : (form : LaneForm) (stored v : List (List ℕ)) → 2 ≤ length v → length stored ≡ length v
+    → map form.first_byte (fips.round_key stored 0) ≡ fips.round_key v 0
+    → ((i : ℕ) → 1 ≤ i → i < fips.last_round v → map form.inner_byte (fips.round_key stored i) ≡ fips.round_key v i)
+    → map form.last_byte (fips.round_key stored (fips.last_round v)) ≡ fips.round_key v (fips.last_round v)
+    → round_keys_of form stored ≡ v
+stored_are form stored v two l at_first between at_last =
+    let keys = round_keys_of form stored in
+    let same : fips.last_round v ≡ fips.last_round stored = ap (λ n. n - 1) (sym l) in
+    ext_get_or [] keys v (keys_length form stored ∙ l) (λ i lt.
+    let some : i < length v = omega (arith, lt, keys_length form stored, l) in
+    elim (cases_lt 0 i) [
+      | inl above ↦ elim (cases_lt i (fips.last_round v)) [
+        | inl below ↦ inner_key form stored i (omega (arith, above)) (omega (arith, below, same))
+            ∙ between i (omega (arith, above)) below
+        | inr ge ↦
+            let at : i ≡ fips.last_round v = omega (arith, ge, some) in
+            ap (fips.round_key keys) at ∙ last_key form stored _ (omega (arith, two, l)) same ∙ at_last
+            ∙ ap (fips.round_key v) (sym at)
+      ]
+      | inr ge ↦
+          let none : i ≡ 0 = omega (arith, ge) in
+          ap (fips.round_key keys) none ∙ first_key form stored (omega (arith, two, l)) ∙ at_first
+          ∙ ap (fips.round_key v) (sym none)
+    ])

@@ -14,7 +14,6 @@ cipher_form = record {
   first_byte = as_is;
   inner_byte = key_untower;
   last_byte = plus63;
-  used_key = λ key. key;
   used_keys = λ w. w;
   leading_keys = λ w. w;
 }
@@ -25,7 +24,6 @@ inverse_form = record {
   first_byte = plus63;
   inner_byte = inv_untower;
   last_byte = as_is;
-  used_key = fips.inv_mix_columns;
   used_keys = fips.inverted_keys;
   leading_keys = first_two;
 }

@@ -4,12 +4,12 @@
 //! `bytes n 0x..` is the n bytes that these digits write. What is stored was computed by a separate model in Python, from
 //! the standard and the basis that `tools/permutation-tables` describes.
 
-ghost use Rattle.std.specs.Prelude.{◌≡◌, ◌∷◌, [], map, true, false};
+ghost use Rattle.std.specs.Prelude.{◌≡◌, ◌∷◌, [], map};
 ghost use Rattle.aes_planes.specs.BigEndian.{bytes};
 ghost use Rattle.aes_planes.specs.Fips197 as fips;
 ghost use Rattle.aes_permute.specs.Keys.{encrypting, decrypting};
 ghost use Rattle.aes_permute.specs.Lookup.{looked};
-ghost use Rattle.aes_permute.specs.Stored.{untower, inv_untower, key_untower, place_of};
+ghost use Rattle.aes_permute.specs.Stored.{untower, inv_untower, key_untower};
 
 /// What bytes stand for. 0x15 is 0x53 in the tower basis; in a state of decryption it stands for the affine transformation
 /// of 0x53 (FIPS 197, 5.1.1), and in a round key for the sum of 0x53 and 0x63.
@@ -26,12 +26,6 @@ pub fn byte_examples()
 pub fn lookup_examples()
     ensures entry { looked (bytes 16 0xf0f1f2f3f4f5f6f7f8f9fafbfcfdfeff) 15 ≡ 0xff }
     ensures none { looked (bytes 16 0xf0f1f2f3f4f5f6f7f8f9fafbfcfdfeff) 128 ≡ 0 }
-{}
-
-/// Round key 3 of 11, forward and backward.
-pub fn place_examples()
-    ensures forward { place_of false 10 3 ≡ 3 }
-    ensures backward { place_of true 10 3 ≡ 7 }
 {}
 
 /// The stored round keys of Cipher for the key of FIPS 197, C.1, and that key.

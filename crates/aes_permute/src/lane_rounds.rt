@@ -3,15 +3,16 @@
 ghost use Rattle.std.specs.Prelude.{◌≡◌, ◌≤◌, ℕ, Bool, true, false, List, length, map};
 ghost use Rattle.aes_planes.specs.Fips197 as fips;
 ghost use Rattle.aes_planes.specs.Rounds.{all_rounds};
-ghost use Rattle.aes_cipher.specs.KeySizes.{IsKeySize};
-ghost use Rattle.aes_permute.specs.Keys.{leading_key, cipher_form, inverse_form};
-ghost use Rattle.aes_permute.specs.Stored.{untower, inv_untower, round_keys_of, AreWritten, LaneForm};
+ghost use Rattle.aes_permute.specs.Keys.{cipher_form, inverse_form, lane_key, stored_keys, IsLaneSchedule};
+ghost use Rattle.aes_permute.specs.Stored.{untower, inv_untower, LaneForm};
 
 use crate::rounds::{
-    decrypt_first, decrypt_last, decrypt_round, decrypting_key, encrypt_first, encrypt_last,
-    encrypt_round, encrypting_key,
+    decrypt_first, decrypt_last, decrypt_round, encrypt_first, encrypt_last, encrypt_round,
 };
+use crate::stored::{self, Room, invert_keys};
+use aes_cipher::aes::KeySize;
 use aes_cipher::cipher::{Decrypt, Direction, Encrypt};
+use aes_cipher::zeroize::MustWipe;
 use std::simd::prelude::*;
 
 /// A direction on lanes: its rounds, and the round keys that they use. States and round keys are kept in a basis of the
@@ -47,15 +48,12 @@ pub trait LaneRounds: Direction {
         requires key { fips.IsBlock key }
         ensures { result ≡ fips.add_round_key (Self.last_step (map state_byte x)) (map form.last_byte key) };
 
-    /// Returns a round key between the first and the last as it is stored.
-    fn inner_key(key: u8x16) -> u8x16
-        requires key { fips.IsBlock key }
-        ensures { map form.inner_byte result ≡ form.used_key key };
-
-    /// No effect; states that round keys that are written one by one, each at its place, are those that the rounds use.
-    fn uses_written()
-        ensures { (w stored : List (List ℕ)) → 2 ≤ length w → AreWritten BACKWARD form w stored
-            → round_keys_of form stored ≡ form.used_keys w };
+    /// Writes the round keys of a key as the rounds use them: KeyExpansion (FIPS 197, 5.2), and KeyExpansionEIC for
+    /// decrypting (5.3.5).
+    fn expand_keys<K: KeySize>(room: &mut Room, key: &[u8])
+        requires { length key.now ≡ K.Key.SIZE }
+        ensures schedule { IsLaneSchedule form (stored_keys K.Key.SIZE room.new) }
+        ensures key { lane_key form (stored_keys K.Key.SIZE room.new) ≡ key.now };
 
     /// No effect; states that the rounds use as many round keys as there are.
     fn uses_all()
@@ -65,11 +63,6 @@ pub trait LaneRounds: Direction {
     fn processes()
         ensures { (w : List (List ℕ)) (b : List ℕ) → 2 ≤ length w
             → all_rounds Self.step Self.last_step (form.used_keys w) b ≡ Self.processed w b };
-
-    /// No effect; states that a key begins its own schedule.
-    fn keeps_key()
-        ensures { (size : ℕ) (key : List ℕ) → IsKeySize size → length key ≡ size → fips.IsBytes key
-            → leading_key size (form.leading_keys (form.used_keys (fips.key_expansion key))) ≡ key };
 }
 
 // Cipher (FIPS 197, 5.1).
@@ -98,21 +91,15 @@ impl LaneRounds for Encrypt {
     }
 
     #[inline(always)]
-    fn inner_key(key: u8x16) -> u8x16 {
-        encrypting_key(key)
+    fn expand_keys<K: KeySize>(room: &mut Room, key: &[u8]) {
+        stored::expand_keys::<K>(room, key);
     }
-
-    #[tactic(auto, using(crate::proofs::DirectionLaws::written_forward))]
-    fn uses_written() {}
 
     #[tactic(auto, using(crate::proofs::DirectionLaws::same_forward))]
     fn uses_all() {}
 
     #[tactic(auto, using(crate::proofs::DirectionLaws::is_encrypted))]
     fn processes() {}
-
-    #[tactic(auto, using(crate::proofs::DirectionLaws::key_forward))]
-    fn keeps_key() {}
 }
 
 // EqInvCipher (FIPS 197, 5.3.5).
@@ -140,20 +127,18 @@ impl LaneRounds for Decrypt {
         decrypt_last(x, key)
     }
 
+    // From a copy of Cipher's, each is written to its place: turned where they stand, they leave one on the stack.
     #[inline(always)]
-    fn inner_key(key: u8x16) -> u8x16 {
-        decrypting_key(key)
+    fn expand_keys<K: KeySize>(room: &mut Room, key: &[u8]) {
+        let mut forward = MustWipe::<Room>::zeroed();
+        stored::expand_keys::<K>(forward.value_mut(), key);
+        invert_keys::<K>(room, forward.value());
+        forward.wipe();
     }
-
-    #[tactic(auto, using(crate::proofs::DirectionLaws::written_backward))]
-    fn uses_written() {}
 
     #[tactic(auto, using(crate::proofs::DirectionLaws::same_backward))]
     fn uses_all() {}
 
     #[tactic(auto, using(crate::proofs::DirectionLaws::is_decrypted))]
     fn processes() {}
-
-    #[tactic(auto, using(crate::proofs::DirectionLaws::key_backward))]
-    fn keeps_key() {}
 }

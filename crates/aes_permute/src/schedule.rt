@@ -3,17 +3,15 @@
 ghost use Rattle.std.specs.Prelude.{◌≡◌, ◌⊎◌, ◌+◌, ◌/◌, ◌≤◌, length, map};
 ghost use Rattle.aes_planes.specs.Fips197 as fips;
 ghost use Rattle.aes_planes.specs.Planes.{plus63, summed};
-ghost use Rattle.aes_permute.specs.Keys.{encrypting, decrypting, lane_key, IsLaneSchedule};
-ghost use Rattle.aes_permute.specs.Stored.{place_of, round_keys_of, IsWritten};
+ghost use Rattle.aes_permute.specs.Keys.{encrypting, decrypting, cipher_form, inverse_form, lane_key, IsLaneSchedule};
+ghost use Rattle.aes_permute.specs.Stored.{IsWritten};
 
-use crate::lane_rounds::LaneRounds;
 use crate::lanes::{lookup, sum};
-use crate::rounds::{inverted_key, sub_bytes_but_constant};
+use crate::rounds::{encrypting_key, inverted_key, sub_bytes_but_constant};
 use aes_planes::expansion::{self, KeyForm};
 use aes_planes::laws;
 use aes_planes::soft::sbox::Layers;
 use aes_planes::soft::word::Block;
-use std::marker::PhantomData;
 use std::simd::prelude::*;
 
 // All bits of the lanes of row 0, and none of the others.
@@ -47,7 +45,7 @@ fn summed_columns(before: u8x16, start: u8x16, addend: u8x16) -> u8x16
     (sums ^ addend) ^ start
 }
 
-// The last round key as it is stored, in either direction.
+// The last round key as it is stored.
 #[tactic(auto, using(crate::proofs::ScheduleLanes::last_key_is))]
 #[inline(always)]
 fn last_key(x: u8x16) -> u8x16
@@ -57,29 +55,17 @@ fn last_key(x: u8x16) -> u8x16
     x ^ u8x16::splat(0x63)
 }
 
-// Where round key i is stored, if the last has this number.
-#[inline(always)]
-fn place<D: LaneRounds>(i: usize, last: usize) -> usize
-    requires { i ≤ last }
-    ensures at { result ≡ place_of D.BACKWARD last i }
-    ensures within { result ≤ last }
-{
-    if D::BACKWARD { last - i } else { i }
-}
+// The schedule of Cipher, made in vectors: one has four words.
+struct LaneSchedule;
 
-// The schedule of the round keys that a direction uses, made in vectors: one has four words.
-struct LaneSchedule<D> {
-    direction: PhantomData<D>,
-}
-
-impl<D: LaneRounds> KeyForm for LaneSchedule<D> {
+impl KeyForm for LaneSchedule {
     type Words = u8x16;
 
     type StoredIn = Block;
 
     ghost AreWords = { λ words block. words ≡ block };
 
-    ghost IsStored = { IsWritten D.BACKWARD D.form };
+    ghost IsStored = { IsWritten };
 
     ghost length_for = { λ last. last + 1 };
 
@@ -136,25 +122,22 @@ impl<D: LaneRounds> KeyForm for LaneSchedule<D> {
         } else if i == last {
             last_key(words)
         } else {
-            D::inner_key(words)
+            encrypting_key(words)
         };
-        stored[place::<D>(i, last)] = key.to_array();
+        stored[i] = key.to_array();
     }
 }
 
-/// Writes the round keys of a key of any size as a direction uses them: KeyExpansion (FIPS 197, 5.2), and
-/// KeyExpansionEIC for decrypting (5.3.5).
-pub fn expand<D: LaneRounds>(keys: &mut [Block], key: &[u8])
+/// Writes the round keys of a key of any size as Cipher uses them: KeyExpansion (FIPS 197, 5.2).
+pub fn expand(keys: &mut [Block], key: &[u8])
     requires one_of_three { (length key.now ≡ 16) ⊎ ((length key.now ≡ 24) ⊎ (length key.now ≡ 32)) }
     requires sized { length keys.old ≡ length key.now / 4 + 7 }
-    ensures schedule { IsLaneSchedule D.form keys.new }
-    ensures key { lane_key D.form keys.new ≡ key.now }
-    ensures keys { round_keys_of D.form keys.new ≡ D.form.used_keys (fips.key_expansion key.now) }
+    ensures schedule { IsLaneSchedule cipher_form keys.new }
+    ensures key { lane_key cipher_form keys.new ≡ key.now }
+    ensures keys { encrypting keys.new ≡ fips.key_expansion key.now }
     ensures same_length { length keys.new ≡ length keys.old }
 {
-    expansion::expand::<LaneSchedule<D>>(keys, key, &mut Layers::new());
-    D::uses_written();
-    D::keeps_key();
+    expansion::expand::<LaneSchedule>(keys, key, &mut Layers::new());
 }
 
 /// Writes the stored round keys of EqInvCipher, in their order of use, of the same key as those of Cipher (FIPS 197,
@@ -163,6 +146,8 @@ pub fn invert(inverse: &mut [Block], keys: &[Block])
     requires two { 2 ≤ length keys.now }
     requires sized { length inverse.old ≡ length keys.now }
     ensures keys { decrypting inverse.new ≡ fips.inverted_keys (encrypting keys.now) }
+    ensures schedule { IsLaneSchedule cipher_form keys.now → IsLaneSchedule inverse_form inverse.new
+        × (lane_key inverse_form inverse.new ≡ lane_key cipher_form keys.now) }
     ensures same_length { length inverse.new ≡ length inverse.old }
 {
     // Each is written once, in its place: a list that is turned where it stands leaves a round key on the stack.

@@ -2,12 +2,11 @@
 
 ghost use Rattle.std.specs.Prelude.{◌≡◌, ◌⊎◌, ◌+◌, ◌/◌, length};
 ghost use Rattle.aes_planes.specs.Fips197 as fips;
-ghost use Rattle.aes_permute.specs.Keys.{encrypting, decrypting, lane_key, stored_keys, IsLaneSchedule};
+ghost use Rattle.aes_permute.specs.Keys.{encrypting, decrypting, cipher_form, inverse_form, lane_key, stored_keys};
+ghost use Rattle.aes_permute.specs.Keys.{IsLaneSchedule};
 
-use crate::lane_rounds::LaneRounds;
 use crate::schedule::{expand, invert};
 use aes_cipher::aes::{KeyBytes, KeySize};
-use aes_cipher::zeroize::Wiped;
 use aes_planes::soft::word::Block;
 
 /// Room for the round keys of a key of any size: as many blocks as the largest has.
@@ -24,31 +23,34 @@ fn size_of_key<K: KeySize>() -> usize
 
 /// Returns the stored round keys of a key: the first of the blocks.
 #[inline(always)]
-pub fn keys_of<K: KeySize>(room: &Wiped<Room>) -> &[Block]
+pub fn keys_of<K: KeySize>(room: &Room) -> &[Block]
     ensures keys { result.now ≡ stored_keys K.Key.SIZE room.now }
     ensures count { length result.now ≡ K.Key.SIZE / 4 + 7 }
 {
-    &room.value()[..size_of_key::<K>() / 4 + 7]
+    &room[..size_of_key::<K>() / 4 + 7]
 }
 
-/// Writes the round keys of a key as a direction uses them: KeyExpansion (FIPS 197, 5.2), and KeyExpansionEIC for
-/// decrypting (5.3.5).
+/// Writes the round keys of a key as Cipher uses them: KeyExpansion (FIPS 197, 5.2).
 #[inline(always)]
-pub fn expand_keys<K: KeySize, D: LaneRounds>(room: &mut Room, key: &[u8])
+pub fn expand_keys<K: KeySize>(room: &mut Room, key: &[u8])
     requires { length key.now ≡ K.Key.SIZE }
-    ensures schedule { IsLaneSchedule D.form (stored_keys K.Key.SIZE room.new) }
-    ensures key { lane_key D.form (stored_keys K.Key.SIZE room.new) ≡ key.now }
+    ensures schedule { IsLaneSchedule cipher_form (stored_keys K.Key.SIZE room.new) }
+    ensures key { lane_key cipher_form (stored_keys K.Key.SIZE room.new) ≡ key.now }
 {
     let count = size_of_key::<K>() / 4 + 7;
-    expand::<D>(&mut room[..count], key);
+    expand(&mut room[..count], key);
 }
 
 /// Writes the round keys of EqInvCipher, of the same key as those of Cipher (FIPS 197, 5.3.5).
 #[inline(always)]
-pub fn invert_keys<K: KeySize>(inverse: &mut Room, room: &Wiped<Room>)
+pub fn invert_keys<K: KeySize>(inverse: &mut Room, room: &Room)
     ensures keys { decrypting (stored_keys K.Key.SIZE inverse.new)
         ≡ fips.inverted_keys (encrypting (stored_keys K.Key.SIZE room.now)) }
     ensures count { length (stored_keys K.Key.SIZE inverse.new) ≡ K.Key.SIZE / 4 + 7 }
+    ensures schedule { IsLaneSchedule cipher_form (stored_keys K.Key.SIZE room.now)
+        → IsLaneSchedule inverse_form (stored_keys K.Key.SIZE inverse.new)
+        × (lane_key inverse_form (stored_keys K.Key.SIZE inverse.new)
+        ≡ lane_key cipher_form (stored_keys K.Key.SIZE room.now)) }
 {
     let count = size_of_key::<K>() / 4 + 7;
     invert(&mut inverse[..count], keys_of::<K>(room));

@@ -7,7 +7,7 @@ use super::LendsKeys;
 use super::backend::LaneBackend;
 use crate::blocks::{process_block, process_blocks};
 use crate::lane_rounds::LaneRounds;
-use crate::stored::{Room, expand_keys, invert_keys, keys_of};
+use crate::stored::{Room, invert_keys, keys_of};
 use aes_cipher::aes::{Decrypts, Encrypts, KeyBytes, KeySchedule, KeySize, MadeFrom, Processes};
 use aes_cipher::cipher::{BlockCipherDecClosure, BlockCipherEncClosure, Decrypt, Encrypt};
 use aes_cipher::zeroize::Wiped;
@@ -58,7 +58,7 @@ impl<K: KeySize, D: LaneRounds> KeySchedule for OneWay<K, D> {
 
     #[inline(always)]
     fn expand(&mut self, new_key: &K::Key) {
-        expand_keys::<K, D>(self.room.value_mut(), new_key.as_slice());
+        D::expand_keys::<K>(self.room.value_mut(), new_key.as_slice());
     }
 
     fn copy(&self) -> OneWay<K, D> {
@@ -70,14 +70,14 @@ impl<K: KeySize, D: LaneRounds> KeySchedule for OneWay<K, D> {
     }
 
     fn has_key(&self) {
-        keys_of::<K>(&self.room);
+        keys_of::<K>(self.room.value());
     }
 }
 
 impl<K: KeySize, D: LaneRounds> LendsKeys<D> for OneWay<K, D> {
     #[inline(always)]
     fn lend(&self) -> &[Block] {
-        keys_of::<K>(&self.room)
+        keys_of::<K>(self.room.value())
     }
 }
 
@@ -134,6 +134,5 @@ pub(super) fn invert_schedule<K: KeySize>(
     ensures same { ⟦<OneWay<K, Decrypt> as KeySchedule>⟧.key inverse.new ≡ ⟦<OneWay<K, Encrypt> as KeySchedule>⟧.key
         schedule.now }
 {
-    schedule.has_key();
-    invert_keys::<K>(inverse.room.value_mut(), &schedule.room);
+    invert_keys::<K>(inverse.room.value_mut(), schedule.room.value());
 }

@@ -1,20 +1,22 @@
 -- What is left to show of `schedule::expand`.
 use Rattle.std.proofs.Common.{rules, refl, ◌∙◌, arith}
 use Rattle.aes_planes.specs.Fips197 as fips
+use Rattle.aes_permute.specs.Keys.{cipher_form}
+use Rattle.aes_permute.proofs.DirectionLaws.{key_forward}
 use Rattle.aes_permute.proofs.Expansion.{written_are_used}
 use Rattle.aes_permute.proofs.KeyBytes.{read_as, is_lane_schedule}
 use Rattle.aes_permute.proofs.schedule.expand.Goals as goal
 
 pub returns-clause-keys : goal.returns-clause-keys
-returns-clause-keys g c = written_are_used _ _ _ _ (fips.rounds c.args.key.now) c.expand.ensures.keys
-    c.uses_written.ensures refl (omega (arith, c.expand.ensures.same_length, c.requires.sized))
+returns-clause-keys c = written_are_used _ _ (fips.rounds c.args.key.now) c.expand.ensures.keys refl
+    (omega (arith, c.expand.ensures.same_length, c.requires.sized))
 
 pub returns-clause-schedule : goal.returns-clause-schedule
-returns-clause-schedule g c =
-    is_lane_schedule g.D.LaneRounds.form _ c.args.key.now c.requires.one_of_three
-    (c.expand.ensures.same_length ∙ c.requires.sized) (search rules) c.keeps_key.ensures (returns-clause-keys g c)
+returns-clause-schedule c =
+    is_lane_schedule cipher_form _ c.args.key.now c.requires.one_of_three
+    (c.expand.ensures.same_length ∙ c.requires.sized) (search rules) key_forward (returns-clause-keys c)
 
 pub returns-clause-key : goal.returns-clause-key
-returns-clause-key g c =
-    read_as g.D.LaneRounds.form _ c.args.key.now c.requires.one_of_three
-    (c.expand.ensures.same_length ∙ c.requires.sized) (search rules) c.keeps_key.ensures (returns-clause-keys g c)
+returns-clause-key c =
+    read_as cipher_form _ c.args.key.now c.requires.one_of_three
+    (c.expand.ensures.same_length ∙ c.requires.sized) (search rules) key_forward (returns-clause-keys c)
