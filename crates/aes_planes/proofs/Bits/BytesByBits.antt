@@ -38,14 +38,7 @@ pub mapped_is : {A : Type 0} (f : A → Bool) (xs : List A) (d : A) (x : ℕ) �
 mapped_is f xs d x l h e =
     same_byte _ x (mapped_lt f xs l) h (λ p k. mapped_bit f xs d p (omega (arith, l)) ∙ e p k)
 
--- the same byte as eight others that have the same bits
-pub mapped_same : {A B : Type 0} (f : A → Bool) (g : B → Bool) (xs : List A) (ys : List B) (a : A) (b : B)
-    → length xs ≡ 8 → length ys ≡ 8 → ((p : ℕ) → p < 8 → f (get_or xs p a) ≡ g (get_or ys p b))
-    → number (map f xs) ≡ number (map g ys)
-mapped_same f g xs ys a b l m e = mapped_is f xs a _ l (mapped_lt g ys m)
-    (λ p k. e p k ∙ sym (mapped_bit g ys b p (omega (arith, m))))
-
--- and the sum of two bytes where each bit is the sum of theirs
+-- the sum of two bytes where each bit is the sum of theirs
 pub mapped_sum : {A B C : Type 0} (f : A → Bool) (g : B → Bool) (h : C → Bool) (zs : List A) (xs : List B) (ys : List C)
     (a : A) (b : B) (c : C) → length zs ≡ 8 → length xs ≡ 8 → length ys ≡ 8
     → ((p : ℕ) → p < 8 → f (get_or zs p a) ≡ xor (g (get_or xs p b)) (h (get_or ys p c)))

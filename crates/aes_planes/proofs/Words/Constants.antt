@@ -118,12 +118,7 @@ nibble_bit = quarter_bit 4
 
 pub ruleset row_places = (same_nibble, nibble_bit, row_below, column_below)
 
--- the four parts of a number of 64 bits have its bits, sixteen each from the lowest on
-pub parted_bit : (x p i : ℕ) → p < 4 → i < 16
-    → bit (get_or (x % 2 ^ 16 ∷ x / 2 ^ 16 % 2 ^ 16 ∷ x / 2 ^ 32 % 2 ^ 16 ∷ x / 2 ^ 48 ∷ []) p 0) i ≡ bit x (16 * p + i)
-parted_bit = quarter_bit 16
-
--- and such parts joined
+-- four words of sixteen bits joined have their bits, sixteen each from the lowest on
 pub joined_bit : (a b c d p i : ℕ) → a < 2 ^ 16 → b < 2 ^ 16 → c < 2 ^ 16 → d < 2 ^ 16 → p < 4 → i < 16
     → bit (bit_or (bit_or (bit_or a (b * 2 ^ 16 % 2 ^ 64)) (c * 2 ^ 32 % 2 ^ 64)) (d * 2 ^ 48 % 2 ^ 64)) (16 * p + i)
     ≡ bit (get_or (a ∷ b ∷ c ∷ d ∷ []) p 0) i

@@ -28,7 +28,7 @@ pub fn add_round_constant<W: Word>(state: &mut [W; 8], constant: u8)
     ensures { held W.BLOCKS (map W.bits state.new)
         ≡ map (λ s. fips.add_round_key s (constant_block constant)) (held W.BLOCKS (map W.bits state.old)) }
 {
-    let sums = W::sum_planes(state, &W::constant_planes(constant), true);
+    let sums = W::sum_planes(state, &W::constant_planes(constant));
     *state = sums;
 }
 

@@ -14,7 +14,7 @@ pub fn add_round_key<W: Word>(state: &mut [W; 8], round_key: &[W; 8])
         ≡ zip_with fips.add_round_key (held W.BLOCKS (map W.bits state.old))
         (held W.BLOCKS (map W.bits round_key.now)) }
 {
-    let sums = W::sum_words(state, round_key);
+    let sums = W::sum_planes(state, round_key);
     *state = sums;
 }
 

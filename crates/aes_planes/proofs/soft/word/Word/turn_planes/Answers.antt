@@ -1,8 +1,8 @@
--- What is left to show of `soft::word::Word::turn_words`.
+-- What is left to show of `soft::word::Word::turn_planes`.
 use Rattle.std.proofs.Common.{◌+◌, ◌%◌, map, ap, sym}
 use Rattle.aes_planes.specs.Planes.{held_byte, place}
 use Rattle.aes_planes.proofs.Bits.BitCases.{eight}
-use Rattle.aes_planes.proofs.soft.word.Word.turn_words.Goals as goal
+use Rattle.aes_planes.proofs.soft.word.Word.turn_planes.Goals as goal
 
 pub returns : goal.returns
 returns g c = λ r q k h l kn.

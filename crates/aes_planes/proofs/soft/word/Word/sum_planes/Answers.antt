@@ -1,4 +1,4 @@
--- What is left to show of `soft::word::Word::sum_words`.
+-- What is left to show of `soft::word::Word::sum_planes`.
 use Rattle.std.proofs.Common.{Bool, List, [], ◌∷◌, map, refl, sym, ◌∙◌}
 use Rattle.aes_planes.specs.Bits.{at}
 use Rattle.aes_planes.specs.Fips197.{field_add}
@@ -6,7 +6,7 @@ use Rattle.aes_planes.specs.Planes.{held_byte}
 use Rattle.aes_planes.proofs.Bits.BitCases.{eight}
 use Rattle.aes_planes.proofs.Bits.ByteCases.{by_eight}
 use Rattle.aes_planes.proofs.Bits.BytesByBits.{mapped_sum}
-use Rattle.aes_planes.proofs.soft.word.Word.sum_words.Goals as goal
+use Rattle.aes_planes.proofs.soft.word.Word.sum_planes.Goals as goal
 
 pub returns : goal.returns
 returns g c = λ i h.

@@ -1,10 +1,10 @@
--- What is left to show of `soft::word::Word::double_words`.
+-- What is left to show of `soft::word::Word::double_planes`.
 use Rattle.std.proofs.Common.{map, ap, sym, ◌∙◌}
 use Rattle.std.proofs.lemmas.List.{length-map}
 use Rattle.aes_planes.specs.Bits.{at, number}
 use Rattle.aes_planes.proofs.Bits.BitCases.{eight}
 use Rattle.aes_planes.proofs.Bits.BytesByBits.{number-double, double_bits}
-use Rattle.aes_planes.proofs.soft.word.Word.double_words.Goals as goal
+use Rattle.aes_planes.proofs.soft.word.Word.double_planes.Goals as goal
 
 pub returns : goal.returns
 returns g c = λ i h.
