@@ -33,8 +33,8 @@
  * and is wiped by itself. Any number of threads may use one struct at the same time by the calls that take it as const.
  * A struct fotsgure_aes_ctr belongs to one thread at a time; a copy of it would give out the same keystream again.
  *
- * A block cipher alone protects no message, and counter mode doesn't show whether a message was changed. Build an
- * authenticated mode on them, such as GCM, or take one that exists. */
+ * A block cipher alone protects no message, and counter mode doesn't show whether a message was changed. For
+ * messages take fotsgure_gcm.h. */
 #ifndef FOTSGURE_AES_H
 #define FOTSGURE_AES_H
 

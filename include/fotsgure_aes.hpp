@@ -1,6 +1,6 @@
 // AES for C++17 over fotsgure_aes.h: a key that wipes itself, and counter mode. The classes meet the header's
-// conditions, but for four that stay with their caller: valid pointers, no overlap of buffers, no data race, and enough
-// stack.
+// conditions, except those that stay with their caller: valid pointers, no overlap of buffers, no data race, enough
+// stack, a processor that fits, and no initial counter block used twice under a key.
 #ifndef FOTSGURE_AES_HPP
 #define FOTSGURE_AES_HPP
 

@@ -126,8 +126,8 @@ size_t fotsgure_gcm_key_length(const struct fotsgure_gcm *gcm) FOTSGURE_GCM_NOEX
 void fotsgure_gcm_wipe(struct fotsgure_gcm *gcm) FOTSGURE_GCM_NOEXCEPT;
 
 /* Encrypts `text_length` bytes in place and writes the tag, which shows whether the text or the additional data was
- * changed (7.1). The additional data isn't encrypted, nor is it part of the text. A nonce has any length; with 12
- * bytes no time depends on it.
+ * changed (7.1). The additional data isn't encrypted, nor is it part of the text. A nonce may have any length from
+ * one byte on. With 12 bytes no time was found to depend on it.
  * NONCE_LENGTH, TOO_LONG or NO_KEY; else DONE. */
 FOTSGURE_GCM_CHECK enum fotsgure_gcm_status fotsgure_gcm_seal(const struct fotsgure_gcm *gcm,
     const uint8_t *nonce, size_t nonce_length,
