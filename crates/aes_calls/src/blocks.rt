@@ -3,46 +3,19 @@
 ghost use Rattle.std.specs.Prelude.{◌≡◌, ◌≢◌, ◌↔◌, length};
 ghost use Rattle.aes_planes.specs.Each.{Each};
 ghost use Rattle.aes_planes.specs.Fips197 as fips;
-ghost use Rattle.aes_permute.specs.Keys.{encrypting, stored_keys};
-ghost use Rattle.aes_permute.specs.Stored.{round_keys_of};
 ghost use Rattle.aes_calls.specs.Kept.{kept_key, IsKeyLength, IsMade};
 
 use crate::kept::{Aes, holds_key, keys_of};
 use crate::status::{DONE, NO_KEY, UNEQUAL_COUNTS};
-use aes_cipher::cipher::{Decrypt, Encrypt};
 use aes_hybrid::blocks::process_blocks;
 use aes_hybrid::widths::Width;
 use aes_permute::lane_rounds::LaneRounds;
 use aes_planes::soft::word::Block;
 use aes_soft::soft::PlaneCipher;
 
-/// A direction whose round keys a struct has.
-pub trait KeptDirection: LaneRounds + PlaneCipher {
-    /// Lends them.
-    fn lend(aes: &Aes) -> &[Block]
-        requires holds_key { IsKeyLength aes.now.key_length }
-        requires made { IsMade aes.now.key_length aes.now.encrypting aes.now.decrypting }
-        ensures { round_keys_of Self.form result.now
-            ≡ Self.form.used_keys (encrypting (stored_keys aes.now.key_length aes.now.encrypting)) };
-}
-
-impl KeptDirection for Encrypt {
-    #[inline(always)]
-    fn lend(aes: &Aes) -> &[Block] {
-        keys_of(&aes.encrypting, aes.key_length as usize)
-    }
-}
-
-impl KeptDirection for Decrypt {
-    #[inline(always)]
-    fn lend(aes: &Aes) -> &[Block] {
-        keys_of(&aes.decrypting, aes.key_length as usize)
-    }
-}
-
 /// Encrypts or decrypts every block of a slice in place. Returns `DONE` exactly if the struct holds a key, else
 /// `NO_KEY`.
-pub fn process_under<D: KeptDirection, W: Width>(aes: &Aes, blocks: &mut [Block]) -> u32
+pub fn process_under<D: LaneRounds + PlaneCipher, W: Width>(aes: &Aes, blocks: &mut [Block]) -> u32
     requires made { IsMade aes.now.key_length aes.now.encrypting aes.now.decrypting }
     ensures done { result ≡ DONE ↔ IsKeyLength aes.now.key_length }
     ensures refused { result ≢ DONE → result ≡ NO_KEY }
@@ -51,8 +24,10 @@ pub fn process_under<D: KeptDirection, W: Width>(aes: &Aes, blocks: &mut [Block]
     ensures untouched { result ≢ DONE → blocks.new ≡ blocks.old }
 {
     if holds_key(aes) {
-        let keys = keys_of(&aes.encrypting, aes.key_length as usize);
-        process_blocks::<D, W>(keys, D::lend(aes), blocks);
+        let length = aes.key_length as usize;
+        let keys = keys_of(&aes.encrypting, length);
+        let inverse = keys_of(&aes.decrypting, length);
+        process_blocks::<D, W>(keys, D::used_of(keys, inverse), blocks);
         return DONE;
     }
     NO_KEY
@@ -60,7 +35,7 @@ pub fn process_under<D: KeptDirection, W: Width>(aes: &Aes, blocks: &mut [Block]
 
 /// Encrypts or decrypts every block of one slice into another. Returns `UNEQUAL_COUNTS` exactly if they differ in
 /// length, and else what `process_under` returns.
-pub fn process_under_to<D: KeptDirection, W: Width>(
+pub fn process_under_to<D: LaneRounds + PlaneCipher, W: Width>(
     aes: &Aes,
     input: &[Block],
     output: &mut [Block],

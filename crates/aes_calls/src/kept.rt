@@ -8,7 +8,7 @@ ghost use Rattle.aes_calls.specs.Kept.{kept_key, AreZeroAfter, IsKeyLength, IsMa
 
 use crate::status::{DONE, KEY_LENGTH};
 use aes_cipher::zeroize::{Zeroize, zeroize_elements};
-use aes_hybrid::keys::{expand_encrypting, invert_encrypting};
+use aes_permute::schedule::{expand, invert};
 use aes_planes::soft::word::Block;
 
 /// A key schedule that the caller owns: `struct fotsgure_aes`. Its blocks are as secret as the key.
@@ -64,10 +64,11 @@ pub(crate) fn expand_keys(blocks: &mut [Block; 15], key: &[u8])
     ensures key { kept_key (length key.now) blocks.new ≡ key.now }
     ensures after { drop (length key.now / 4 + 7) blocks.new ≡ drop (length key.now / 4 + 7) blocks.old }
 {
-    expand_encrypting(&mut blocks[..key.len() / 4 + 7], key);
+    expand(&mut blocks[..key.len() / 4 + 7], key);
 }
 
 // Writes the stored round keys of EqInvCipher of the same key.
+#[tactic(auto, using(aes_hybrid::proofs::PlaneKeys::two_or_more))]
 #[inline(always)]
 fn invert_keys(inverse: &mut [Block; 15], blocks: &[Block; 15], key_length: usize)
     requires length { IsKeyLength key_length }
@@ -75,7 +76,7 @@ fn invert_keys(inverse: &mut [Block; 15], blocks: &[Block; 15], key_length: usiz
     ensures inverse { AreInverse (stored_keys key_length inverse.new) (stored_keys key_length blocks.now) }
     ensures after { drop (key_length / 4 + 7) inverse.new ≡ drop (key_length / 4 + 7) inverse.old }
 {
-    invert_encrypting(
+    invert(
         &mut inverse[..key_length / 4 + 7],
         keys_of(blocks, key_length),
     );

@@ -1,8 +1,10 @@
 -- Slices of which whole batches are processed, and what is left as a part of one batch more.
 use Rattle.std.proofs.Common.{◌≡◌, ℕ, ◌-◌, ◌*◌, ◌/◌, ◌%◌, ◌≤◌, List, ◌++◌, length, map, take, drop, ap, sym, ◌∙◌, arith}
 use Rattle.std.proofs.Math.Nat.{div-add-mod, mul-mod_right}
+use borrow.Rule.Slice.PartMut.{put_mid}
 use lib.Seq.{take-take}
-use Rattle.std.proofs.lemmas.List.{take_all, take-append-le, take-map, length-map, length-take-le}
+use Rattle.std.proofs.lemmas.List.{take_all, take-append-le, take-map, length-map, length-take-le, map-append, take-append-drop}
+use Rattle.aes_cipher.proofs.SliceRuns.{end_finished}
 
 -- elements of a slice, but for what is left of them after batches of s, are whole batches
 pub whole_batches : {X : Type 0} (xs : List X) (s k : ℕ) → k ≡ s
@@ -25,3 +27,12 @@ first_processed f n s xs batch ys zs sized fits room begins done back same =
     ∙ back ∙ take-append-le n ys (drop s batch) (omega (arith, fits, long))
     ∙ ap (take n) done ∙ take-map f n (take s batch) ∙ ap (map f) (take-take n s batch fits ∙ begins)
     ∙ ap (map f) (take_all n xs (omega (arith, sized)))
+
+-- where f of the first n elements is written in their places, and then of those from place n on, it is of all
+pub first_then_others : {X : Type 0} (f : X → X) (n k : ℕ) (xs ys zs : List X) → n ≤ length xs → length ys ≡ length xs
+    → k ≡ length ys - n → take n ys ≡ map f (take n xs) → drop n ys ≡ drop n xs
+    → zs ≡ map f (take k (drop n ys)) → put_mid n k ys zs ≡ map f xs
+first_then_others f n k xs ys zs within sized rest first others is =
+    end_finished f n k ys zs (omega (arith, within, sized)) rest is
+    ∙ (λ i. first i ++ map f (others i))
+    ∙ sym (map-append f (take n xs) (drop n xs)) ∙ ap (map f) (take-append-drop n xs)

@@ -1,5 +1,5 @@
 -- Words whose planes hold one block in every slot.
-use Rattle.std.specs.Prelude.{ℕ, ◌+◌, ◌*◌, ◌^◌, ◌<◌}
+use Rattle.std.specs.Prelude.{◌+◌, ◌*◌, ◌^◌, ◌<◌}
 use Prim.Native.Nat.{max}
 use prog.Memory.{align, size, up}
 use denote.Memory.{lone}

@@ -1,6 +1,6 @@
 //! Blocks under stored round keys: few by vector permutations, whole batches of many on planes.
 
-ghost use Rattle.std.specs.Prelude.{◌≡◌, ◌≤◌, length};
+ghost use Rattle.std.specs.Prelude.{◌≡◌, ◌≤◌, ℕ, List, drop, length, take};
 ghost use Rattle.aes_planes.specs.Each.{Each};
 ghost use Rattle.aes_planes.specs.Fips197 as fips;
 ghost use Rattle.aes_permute.specs.Keys.{encrypting};
@@ -8,6 +8,7 @@ ghost use Rattle.aes_permute.specs.Stored.{round_keys_of};
 ghost use Rattle.aes_hybrid.specs.Keys.{cipher_key, IsCipherSchedule};
 
 use crate::batches::process_on_planes;
+use crate::slots::SlotWord;
 use crate::widths::Width;
 use aes_permute::blocks::process_blocks as process_on_lanes;
 use aes_permute::lane_rounds::LaneRounds;
@@ -78,36 +79,50 @@ fn blocks_by_eight<D: LaneRounds>(count: usize) -> usize
     }
 }
 
-// Processes each block by vector permutations.
+// Processes each block by vector permutations, under any round keys that the stored ones stand for.
 #[inline(always)]
-pub(crate) fn process_few<D: LaneRounds>(keys: &[Block], used: &[Block], blocks: &mut [Block])
-    requires keyed { IsCipherSchedule keys.now }
-    requires used { round_keys_of D.form used.now ≡ D.form.used_keys (encrypting keys.now) }
-    ensures { Each (D.processed (fips.key_expansion (cipher_key keys.now))) blocks.old blocks.new }
+pub(crate) fn process_few<D: LaneRounds>(used: &[Block], blocks: &mut [Block])
+    requires two { 2 ≤ length used.now }
+    ensures { (w : List (List ℕ)) → round_keys_of D.form used.now ≡ D.form.used_keys w
+        → Each (D.processed w) blocks.old blocks.new }
 {
-    let _ = keys;
     D::processes();
     D::uses_all();
     process_on_lanes::<D>(used, blocks);
 }
 
+// Processes the first blocks of a slice on planes, if there are any to be.
+#[inline(always)]
+fn process_first<D: PlaneCipher, W: SlotWord>(keys: &[Block], blocks: &mut [Block], count: usize)
+    requires keyed { IsCipherSchedule keys.now }
+    requires inside { count ≤ length blocks.old }
+    ensures first { Each (D.processed (fips.key_expansion (cipher_key keys.now))) (take count blocks.old)
+        (take count blocks.new) }
+    ensures others { drop count blocks.new ≡ drop count blocks.old }
+{
+    if count > 0 {
+        process_on_planes::<D, W>(keys, &mut blocks[..count]);
+    }
+}
+
 // Processes each block of a slice in place: whole batches of eight on planes, and the others by vector permutations where
 // they are few, since these take less time so.
+#[tactic(auto, using(crate::proofs::Fronts::first_then_others))]
 fn process_narrow<D: LaneRounds + PlaneCipher>(keys: &[Block], used: &[Block], blocks: &mut [Block])
     requires keyed { IsCipherSchedule keys.now }
     requires used { round_keys_of D.form used.now ≡ D.form.used_keys (encrypting keys.now) }
     ensures { Each (D.processed (fips.key_expansion (cipher_key keys.now))) blocks.old blocks.new }
 {
+    D::uses_all();
     let whole = blocks_by_eight::<D>(blocks.len());
-    if whole > 0 {
-        process_on_planes::<D, BatchWord>(keys, &mut blocks[..whole]);
-    }
-    process_few::<D>(keys, used, &mut blocks[whole..]);
+    process_first::<D, BatchWord>(keys, blocks, whole);
+    process_few::<D>(used, &mut blocks[whole..]);
 }
 
 /// Processes each block of a slice in place: batches of sixteen on words of 256 bits, if the width has these, batches of
 /// eight on words of 128, and few blocks by vector permutations. `keys` are the stored round keys of Cipher,
 /// and `used` those of the direction.
+#[tactic(auto, using(crate::proofs::Fronts::first_then_others))]
 pub fn process_blocks<D: LaneRounds + PlaneCipher, W: Width>(
     keys: &[Block],
     used: &[Block],
@@ -118,8 +133,6 @@ pub fn process_blocks<D: LaneRounds + PlaneCipher, W: Width>(
     ensures { Each (D.processed (fips.key_expansion (cipher_key keys.now))) blocks.old blocks.new }
 {
     let whole = blocks_by_sixteen::<W>(blocks.len());
-    if whole > 0 {
-        process_on_planes::<D, u8x32>(keys, &mut blocks[..whole]);
-    }
+    process_first::<D, u8x32>(keys, blocks, whole);
     process_narrow::<D>(keys, used, &mut blocks[whole..]);
 }

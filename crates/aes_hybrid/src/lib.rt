@@ -6,7 +6,6 @@ mod batches;
 pub mod blocks;
 mod ciphers;
 pub mod examples;
-pub mod keys;
 pub mod lent;
 mod names;
 mod plane_keys;

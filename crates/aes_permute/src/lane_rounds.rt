@@ -3,8 +3,9 @@
 ghost use Rattle.std.specs.Prelude.{◌≡◌, ◌≤◌, ℕ, Bool, true, false, List, length, map};
 ghost use Rattle.aes_planes.specs.Fips197 as fips;
 ghost use Rattle.aes_planes.specs.Rounds.{all_rounds};
-ghost use Rattle.aes_permute.specs.Keys.{cipher_form, inverse_form, lane_key, stored_keys, IsLaneSchedule};
-ghost use Rattle.aes_permute.specs.Stored.{untower, inv_untower, LaneForm};
+ghost use Rattle.aes_permute.specs.Keys.{cipher_form, inverse_form, encrypting, decrypting};
+ghost use Rattle.aes_permute.specs.Keys.{lane_key, stored_keys, IsLaneSchedule};
+ghost use Rattle.aes_permute.specs.Stored.{round_keys_of, untower, inv_untower, LaneForm};
 
 use crate::rounds::{
     decrypt_first, decrypt_last, decrypt_round, encrypt_first, encrypt_last, encrypt_round,
@@ -13,6 +14,7 @@ use crate::stored::{self, Room, invert_keys};
 use aes_cipher::aes::KeySize;
 use aes_cipher::cipher::{Decrypt, Direction, Encrypt};
 use aes_cipher::zeroize::MustWipe;
+use aes_planes::soft::word::Block;
 use std::simd::prelude::*;
 
 /// A direction on lanes: its rounds, and the round keys that they use. States and round keys are kept in a basis of the
@@ -55,6 +57,11 @@ pub trait LaneRounds: Direction {
         ensures schedule { IsLaneSchedule form (stored_keys K.Key.SIZE room.new) }
         ensures key { lane_key form (stored_keys K.Key.SIZE room.new) ≡ key.now };
 
+    /// Returns those that the rounds use, of the stored round keys of Cipher and of EqInvCipher of one key.
+    fn used_of<'a>(keys: &'a [Block], inverse: &'a [Block]) -> &'a [Block]
+        requires inverse { decrypting inverse.now ≡ fips.inverted_keys (encrypting keys.now) }
+        ensures { round_keys_of form result.now ≡ form.used_keys (encrypting keys.now) };
+
     /// No effect; states that the rounds use as many round keys as there are.
     fn uses_all()
         ensures { (w : List (List ℕ)) → length (form.used_keys w) ≡ length w };
@@ -93,6 +100,12 @@ impl LaneRounds for Encrypt {
     #[inline(always)]
     fn expand_keys<K: KeySize>(room: &mut Room, key: &[u8]) {
         stored::expand_keys::<K>(room, key);
+    }
+
+    #[inline(always)]
+    fn used_of<'a>(keys: &'a [Block], inverse: &'a [Block]) -> &'a [Block] {
+        let _ = inverse;
+        keys
     }
 
     #[tactic(auto, using(crate::proofs::DirectionLaws::same_forward))]
@@ -134,6 +147,12 @@ impl LaneRounds for Decrypt {
         stored::expand_keys::<K>(forward.value_mut(), key);
         invert_keys::<K>(room, forward.value());
         forward.wipe();
+    }
+
+    #[inline(always)]
+    fn used_of<'a>(keys: &'a [Block], inverse: &'a [Block]) -> &'a [Block] {
+        let _ = keys;
+        inverse
     }
 
     #[tactic(auto, using(crate::proofs::DirectionLaws::same_backward))]

@@ -59,12 +59,12 @@ impl BatchSizeUser for Pairs<'_> {
 impl BlockCipherEncBackend for Pairs<'_> {
     #[inline(always)]
     fn encrypt_block(&self, block: &mut Block) {
-        process_few::<Encrypt>(self.keys, self.keys, slice::from_mut(block));
+        process_few::<Encrypt>(self.keys, slice::from_mut(block));
     }
 
     #[inline(always)]
     fn encrypt_par_blocks(&self, blocks: &mut [Block]) {
-        process_few::<Encrypt>(self.keys, self.keys, blocks);
+        process_few::<Encrypt>(self.keys, blocks);
     }
 }
 
@@ -118,7 +118,7 @@ impl<W: SlotWord> BatchSizeUser for Batches<'_, W> {
 impl<W: SlotWord> BlockCipherEncBackend for Batches<'_, W> {
     #[inline(always)]
     fn encrypt_block(&self, block: &mut Block) {
-        process_few::<Encrypt>(self.keys, self.keys, slice::from_mut(block));
+        process_few::<Encrypt>(self.keys, slice::from_mut(block));
     }
 
     #[inline(always)]
@@ -130,7 +130,7 @@ impl<W: SlotWord> BlockCipherEncBackend for Batches<'_, W> {
     #[inline(always)]
     fn encrypt_first_blocks(&self, count: usize, blocks: &mut [Block]) {
         if count <= MOST_ON_LANES {
-            process_few::<Encrypt>(self.keys, self.keys, &mut blocks[..count]);
+            process_few::<Encrypt>(self.keys, &mut blocks[..count]);
         } else {
             self.encrypt_par_blocks(blocks);
         }

@@ -1,5 +1,5 @@
 -- What is left to show of `plane_keys::store_planes`.
-use Rattle.std.proofs.Common.{◌≡◌, inl, inr, ℕ, ◌-◌, ◌*◌, length, refl, ap, sym, ◌∙◌, arith}
+use Rattle.std.proofs.Common.{◌≡◌, inl, inr, ℕ, ◌*◌, ap, sym, ◌∙◌, arith}
 use Rattle.std.proofs.lemmas.Bool.{cases_lt}
 use Rattle.aes_soft.proofs.WordsInPlace.{kept}
 use Rattle.aes_hybrid.proofs.PlaneKeys.{wanted, first_wanted, inner_wanted, planes_keyed, planes_key}

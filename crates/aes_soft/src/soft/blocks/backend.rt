@@ -10,26 +10,28 @@ mod encrypt;
 mod wide;
 
 use super::slices::{process_batch_under, process_block};
+use crate::soft::full::store_wide;
 use crate::soft::key_sizes::{BatchWord, reads_key};
 use aes_cipher::cipher::{
     BatchOfEight, BatchSizeUser, BlockCipherDecBackend, BlockCipherEncBackend, Decrypt, Encrypt,
     RoundKeysUser,
 };
+use aes_cipher::zeroize::Wiped;
 use aes_planes::soft::sbox::Layers;
 use aes_planes::soft::word::Block;
 pub use decrypt::decrypt_with_backend;
 pub use encrypt::encrypt_with_backend;
 use std::marker::Model;
-use wide::{HoldsWide, LentWide, OwnedWide};
+use wide::{HoldsWide, LentWide};
 
 /// The backend of a key of 16 bytes.
-pub type Aes128Backend<'a> = Backend<'a, OwnedWide<88>>;
+pub type Aes128Backend<'a> = Backend<'a, Wiped<[BatchWord; 88]>>;
 
 /// The backend of a key of 24 bytes.
-pub type Aes192Backend<'a> = Backend<'a, OwnedWide<104>>;
+pub type Aes192Backend<'a> = Backend<'a, Wiped<[BatchWord; 104]>>;
 
 /// The backend of a key of 32 bytes.
-pub type Aes256Backend<'a> = Backend<'a, OwnedWide<120>>;
+pub type Aes256Backend<'a> = Backend<'a, Wiped<[BatchWord; 120]>>;
 
 /// Encrypts and decrypts under round keys that it borrows. It holds the same on the words of a batch, or borrows them.
 /// Contracts see a value as its key.
@@ -62,17 +64,27 @@ impl<'a, H: HoldsWide> Model for Backend<'a, H> {
         × (plane_key n 8 wide ≡ plane_key n 1 (map (word_bits 16) backend.round_keys.now)) };
 }
 
-impl<'a, const N: usize> Backend<'a, OwnedWide<N>> {
+// Widens stored round keys in place.
+#[inline(always)]
+fn fill<const N: usize>(wide: &mut [BatchWord; N], round_keys: &[u16; N])
+    requires is_schedule { IsFullSchedule N 1 (map (word_bits 16) round_keys.now) }
+    ensures same_length { length wide.new ≡ length round_keys.now }
+    ensures schedule { IsFullSchedule N 8 (map (word_bits 128) wide.new) }
+    ensures key { plane_key N 8 (map (word_bits 128) wide.new) ≡ plane_key N 1 (map (word_bits 16) round_keys.now) }
+{
+    store_wide(wide, round_keys);
+}
+
+impl<'a, const N: usize> Backend<'a, Wiped<[BatchWord; N]>> {
     /// Makes the backend of stored round keys. It holds a widened copy, and wipes it when it is dropped.
     #[inline(always)]
-    pub fn new(round_keys: &'a [u16; N]) -> Backend<'a, OwnedWide<N>>
+    pub fn new(round_keys: &'a [u16; N]) -> Backend<'a, Wiped<[BatchWord; N]>>
         requires is_schedule { IsFullSchedule N 1 (map (word_bits 16) round_keys.now) }
         ensures { result ≡ plane_key N 1 (map (word_bits 16) round_keys.now) }
     {
-        Backend {
-            round_keys,
-            wide: OwnedWide::new(round_keys),
-        }
+        let mut wide = Wiped::<[BatchWord; N]>::zeroed();
+        fill(wide.value_mut(), round_keys);
+        Backend { round_keys, wide }
     }
 }
 

@@ -1,10 +1,10 @@
 //! Blocks in slices, processed in batches.
-ghost use Rattle.std.specs.Prelude.{◌≡◌, ◌+◌, ◌*◌, ◌/◌, ◌%◌, ◌≤◌, length, map};
+ghost use Rattle.std.specs.Prelude.{◌≡◌, ◌+◌, ◌*◌, ◌/◌, ◌%◌, length, map};
 ghost use Rattle.aes_planes.specs.Each.{Each};
 ghost use Rattle.aes_planes.specs.Fips197 as fips;
 ghost use Rattle.aes_planes.specs.Words.{word_bits};
 ghost use Rattle.aes_soft.specs.Batches.{layers_for};
-ghost use Rattle.aes_soft.specs.Stored.{full, key_of, plane_key, rounds_of, size_of, IsFullSchedule, IsKeyed};
+ghost use Rattle.aes_soft.specs.Stored.{plane_key, rounds_of, IsFullSchedule};
 
 use crate::soft::ciphers::{Full, PlaneCipher, process, process_apart};
 use crate::soft::full::store_wide_first;
@@ -46,14 +46,9 @@ pub fn process_batch_under<W: Word, D: PlaneCipher>(
     blocks: &mut [Block],
     layers: &mut Layers,
 )
-    requires least { 88 ≤ length words.now }
-    requires most { length words.now ≤ 120 }
-    requires half_over { length words.now % 16 ≡ 8 }
-    requires is_schedule { let n = length words.now in
-        IsKeyed (size_of n) W.BLOCKS (full (rounds_of n)) (map W.bits words.now) }
+    requires is_schedule { IsFullSchedule (length words.now) W.BLOCKS (map W.bits words.now) }
     requires one_batch { length blocks.old ≡ W.Blocks.LEN }
-    ensures blocks { let n = length words.now in
-        let key = key_of (size_of n) W.BLOCKS (full (rounds_of n)) (map W.bits words.now) in
+    ensures blocks { let key = plane_key (length words.now) W.BLOCKS (map W.bits words.now) in
         Each (D.processed (fips.key_expansion key)) blocks.old blocks.new }
     ensures layers { layers.new ≡ layers.old + rounds_of (length words.now) }
 {
@@ -74,14 +69,9 @@ pub fn process_batches_under<W: Word, D: PlaneCipher>(
     blocks: &mut [Block],
     layers: &mut Layers,
 )
-    requires least { 88 ≤ length words.now }
-    requires most { length words.now ≤ 120 }
-    requires half_over { length words.now % 16 ≡ 8 }
-    requires is_schedule { let n = length words.now in
-        IsKeyed (size_of n) W.BLOCKS (full (rounds_of n)) (map W.bits words.now) }
+    requires is_schedule { IsFullSchedule (length words.now) W.BLOCKS (map W.bits words.now) }
     requires whole_batches { length blocks.old % W.Blocks.LEN ≡ 0 }
-    ensures blocks { let n = length words.now in
-        let key = key_of (size_of n) W.BLOCKS (full (rounds_of n)) (map W.bits words.now) in
+    ensures blocks { let key = plane_key (length words.now) W.BLOCKS (map W.bits words.now) in
         Each (D.processed (fips.key_expansion key)) blocks.old blocks.new }
     ensures layers { layers.new
         ≡ layers.old + rounds_of (length words.now) * (length blocks.old / W.Blocks.LEN) }
