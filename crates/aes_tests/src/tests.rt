@@ -1,8 +1,8 @@
 //! What no clause says: that the calls answer, with the standards' values, at every type and by every way to them.
 
-mod contracts;
 mod copies;
 mod examples;
+mod forms;
 mod hazmat;
 mod hybrid;
 mod layouts;

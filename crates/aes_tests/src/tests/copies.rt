@@ -1,16 +1,11 @@
 //! Making values from keys and from other values, and wiping them.
 
-use aes::FixslicedAes;
-use aes_cipher::aes::{Bits128, Bits192, Bits256, BothWays, KeySize};
+use super::forms::{Both, Dec, Enc, Forms, Known, Trial, try_all};
 use aes_cipher::cipher::{
-    BlockCipherDecrypt, BlockCipherEncrypt, BlockSizeUser, Decrypt, Encrypt, KeyInit, KeySizeUser,
+    BlockCipherDecrypt, BlockCipherEncrypt, BlockSizeUser, KeyInit, KeySizeUser,
 };
 use aes_cipher::zeroize::ZeroizeOnDrop;
-use aes_permute::keys;
-use standards::keys::{
-    BY_128, BY_192, BY_256, KEY_128, KEY_192, KEY_256, PLAIN, ZEROS_BY_128, ZEROS_BY_192,
-    ZEROS_BY_256,
-};
+use standards::keys::PLAIN;
 use std::test::Fail;
 
 // Whether slices of 0 to 64 bytes are taken as keys exactly where they are as long as a key, and blocks have 16 bytes.
@@ -27,36 +22,23 @@ where
     right
 }
 
-// The same of the three types of `aes` for a size.
-fn all_take_their_own_length_alone<K: KeySize>(size: usize) -> bool {
-    takes_its_own_length_alone::<FixslicedAes<K, BothWays>>(size)
-        && takes_its_own_length_alone::<FixslicedAes<K, Encrypt>>(size)
-        && takes_its_own_length_alone::<FixslicedAes<K, Decrypt>>(size)
+struct Lengths;
+
+impl Trial for Lengths {
+    fn passes<F: Forms>(&self, known: &Known) -> Result<bool, Fail> {
+        let size = known.key.len();
+        Ok(
+            takes_its_own_length_alone::<Both<F>>(size)
+                && takes_its_own_length_alone::<Enc<F>>(size)
+                && takes_its_own_length_alone::<Dec<F>>(size),
+        )
+    }
 }
 
 #[test]
-fn takes_slices_of_the_key_size_alone(rt: HostRuntime) {
-    assert!(rt; all_take_their_own_length_alone::<Bits128>(16));
-    assert!(rt; all_take_their_own_length_alone::<Bits192>(24));
-    assert!(rt; all_take_their_own_length_alone::<Bits256>(32));
-}
-
-// The same of the three types of `aes_permute`.
-fn all_permutations_take_their_own_length_alone<K: KeySize>(size: usize) -> bool {
-    takes_its_own_length_alone::<aes_cipher::aes::AesCipher<keys::TwoWays<K>, BothWays>>(size)
-        && takes_its_own_length_alone::<
-            aes_cipher::aes::AesCipher<keys::OneWay<K, Encrypt>, Encrypt>,
-        >(size)
-        && takes_its_own_length_alone::<
-            aes_cipher::aes::AesCipher<keys::OneWay<K, Decrypt>, Decrypt>,
-        >(size)
-}
-
-#[test]
-fn permutations_take_slices_of_the_key_size_alone(rt: HostRuntime) {
-    assert!(rt; all_permutations_take_their_own_length_alone::<Bits128>(16));
-    assert!(rt; all_permutations_take_their_own_length_alone::<Bits192>(24));
-    assert!(rt; all_permutations_take_their_own_length_alone::<Bits256>(32));
+fn takes_slices_of_the_key_size_alone(rt: HostRuntime) -> Result<(), Fail> {
+    assert_eq!(rt; try_all(&Lengths)?, [[true; 4]; 3]);
+    Ok(())
 }
 
 // Whether the block goes to its encryption.
@@ -75,86 +57,58 @@ fn decrypts<C: BlockCipherDecrypt>(cipher: &C, encrypted: u128) -> bool {
 
 // Clones of the three types of a key and conversions between them, most of them after the value that they came from is
 // dropped.
-macro_rules! copies_keep_the_key {
-    ($both:ty, $enc:ty, $dec:ty, $key:expr, $encrypted:expr) => {{
-        let enc = <$enc>::new($key);
+struct Copies;
+
+impl Trial for Copies {
+    fn passes<F: Forms>(&self, known: &Known) -> Result<bool, Fail> {
+        let Ok(enc) = Enc::<F>::new_from_slice(known.key) else {
+            return Ok(false);
+        };
         let copy = enc.clone()?;
-        let lent_dec = <$dec>::from(&enc);
-        let lent_both = <$both>::from(&enc);
-        let dec = <$dec>::from(enc);
-        let both = <$both>::from(copy.clone()?);
+        let lent_dec = Dec::<F>::from(&enc);
+        let lent_both = Both::<F>::from(&enc);
+        let dec = Dec::<F>::from(enc);
+        let both = Both::<F>::from(copy.clone()?);
         Ok(
-            encrypts(&copy, $encrypted)
-                && decrypts(&lent_dec, $encrypted)
-                && decrypts(&dec.clone()?, $encrypted)
-                && encrypts(&lent_both, $encrypted)
-                && decrypts(&lent_both, $encrypted)
-                && encrypts(&both.clone()?, $encrypted)
-                && decrypts(&both, $encrypted),
+            encrypts(&copy, known.encrypted)
+                && decrypts(&lent_dec, known.encrypted)
+                && decrypts(&dec.clone()?, known.encrypted)
+                && encrypts(&lent_both, known.encrypted)
+                && decrypts(&lent_both, known.encrypted)
+                && encrypts(&both.clone()?, known.encrypted)
+                && decrypts(&both, known.encrypted),
         )
-    }};
-}
-
-fn copies_keep_the_key<K: KeySize>(key: &K::Key, encrypted: u128) -> Result<bool, Fail> {
-    copies_keep_the_key!(FixslicedAes<K, BothWays>, FixslicedAes<K, Encrypt>, FixslicedAes<K, Decrypt>, key, encrypted)
-}
-
-fn permuted_copies_keep_the_key<K: KeySize>(key: &K::Key, encrypted: u128) -> Result<bool, Fail> {
-    copies_keep_the_key!(
-        aes_cipher::aes::AesCipher<keys::TwoWays<K>, BothWays>,
-        aes_cipher::aes::AesCipher<keys::OneWay<K, Encrypt>, Encrypt>,
-        aes_cipher::aes::AesCipher<keys::OneWay<K, Decrypt>, Decrypt>,
-        key,
-        encrypted
-    )
+    }
 }
 
 // FIPS 197, appendix C.
 #[test]
 fn clones_and_converts(rt: HostRuntime) -> Result<(), Fail> {
-    assert!(rt; copies_keep_the_key::<Bits128>(&KEY_128, BY_128)?);
-    assert!(rt; copies_keep_the_key::<Bits192>(&KEY_192, BY_192)?);
-    assert!(rt; copies_keep_the_key::<Bits256>(&KEY_256, BY_256)?);
-    assert!(rt; permuted_copies_keep_the_key::<Bits128>(&KEY_128, BY_128)?);
-    assert!(rt; permuted_copies_keep_the_key::<Bits192>(&KEY_192, BY_192)?);
-    assert!(rt; permuted_copies_keep_the_key::<Bits256>(&KEY_256, BY_256)?);
+    assert_eq!(rt; try_all(&Copies)?, [[true; 4]; 3]);
     Ok(())
 }
 
-// Whether a wiped value works as one of the zero key, which takes a block of zeros to the block that is given.
-macro_rules! wipes_in_place {
-    ($enc:ty, $dec:ty, $key:expr, $zeros_encrypted:expr) => {{
-        let mut enc = <$enc>::new($key);
-        let mut dec = <$dec>::from(&enc);
+// Whether a wiped value works as one of the zero key, there and back on a block of zeros.
+struct Wipes;
+
+impl Trial for Wipes {
+    fn passes<F: Forms>(&self, known: &Known) -> Result<bool, Fail> {
+        let Ok(mut enc) = Enc::<F>::new_from_slice(known.key) else {
+            return Ok(false);
+        };
+        let mut dec = Dec::<F>::from(&enc);
         enc.zeroize();
         dec.zeroize();
         let mut block = [0; 16];
         enc.encrypt_block(&mut block);
         let encrypted = u128::from_be_bytes(block);
         dec.decrypt_block(&mut block);
-        encrypted == $zeros_encrypted && block == [0; 16]
-    }};
-}
-
-fn wipes_in_place<K: KeySize>(key: &K::Key, zeros_encrypted: u128) -> bool {
-    wipes_in_place!(FixslicedAes<K, Encrypt>, FixslicedAes<K, Decrypt>, key, zeros_encrypted)
-}
-
-fn wipes_permuted_in_place<K: KeySize>(key: &K::Key, zeros_encrypted: u128) -> bool {
-    wipes_in_place!(
-        aes_cipher::aes::AesCipher<keys::OneWay<K, Encrypt>, Encrypt>,
-        aes_cipher::aes::AesCipher<keys::OneWay<K, Decrypt>, Decrypt>,
-        key,
-        zeros_encrypted
-    )
+        Ok(encrypted == known.zeros && block == [0; 16])
+    }
 }
 
 #[test]
-fn leaves_the_zero_key_after_a_wipe(rt: HostRuntime) {
-    assert!(rt; wipes_in_place::<Bits128>(&KEY_128, ZEROS_BY_128));
-    assert!(rt; wipes_in_place::<Bits192>(&KEY_192, ZEROS_BY_192));
-    assert!(rt; wipes_in_place::<Bits256>(&KEY_256, ZEROS_BY_256));
-    assert!(rt; wipes_permuted_in_place::<Bits128>(&KEY_128, ZEROS_BY_128));
-    assert!(rt; wipes_permuted_in_place::<Bits192>(&KEY_192, ZEROS_BY_192));
-    assert!(rt; wipes_permuted_in_place::<Bits256>(&KEY_256, ZEROS_BY_256));
+fn leaves_the_zero_key_after_a_wipe(rt: HostRuntime) -> Result<(), Fail> {
+    assert_eq!(rt; try_all(&Wipes)?, [[true; 4]; 3]);
+    Ok(())
 }

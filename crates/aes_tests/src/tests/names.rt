@@ -1,11 +1,10 @@
 //! What is written as text: names, and nothing of a key.
 
-use aes::FixslicedAes;
-use aes_cipher::aes::{Bits128, Bits192, Bits256, BothWays, KeySize};
-use aes_cipher::cipher::{AlgorithmName, Decrypt, Encrypt, KeyInit, KeySizeUser};
-use aes_permute::keys::{OneWay, TwoWays};
-use standards::keys::{KEY_128, KEY_192, KEY_256};
+use super::forms::{Both, Dec, Enc, Forms, Known, Trial, try_all};
+use aes_cipher::cipher::{AlgorithmName, BlockCipherEncrypt, KeyInit};
+use standards::keys::PLAIN;
 use std::fmt;
+use std::fmt::Write;
 use std::marker::PhantomData;
 use std::test::Fail;
 
@@ -34,49 +33,84 @@ where
     Ok(debug == wanted && written.as_str() == name)
 }
 
-// Whether the three types of a size have the name of the first, and those of one direction a shorter one after it.
-fn are_named<Both, Enc, Dec>(rt: &HostRuntime, key: &[u8], name: &str) -> Result<bool, Fail>
-where
-    Both: KeyInit + AlgorithmName + fmt::Debug + Drop,
-    Enc: KeyInit + AlgorithmName + fmt::Debug + Drop,
-    Dec: KeyInit + AlgorithmName + fmt::Debug + Drop,
-{
-    let encrypts = format!(in rt.alloc(); "{name}Enc")?;
-    let decrypts = format!(in rt.alloc(); "{name}Dec")?;
-    Ok(
-        is_named::<Both>(rt, key, name)?
-            && is_named::<Enc>(rt, key, encrypts.as_str())?
-            && is_named::<Dec>(rt, key, decrypts.as_str())?,
-    )
+// The three types of a size have the name of the first, and those of one direction a shorter one after it.
+#[derive(Drop)]
+struct Names<'a> {
+    rt: &'a HostRuntime,
 }
 
-// The three types of `aes` for a size. With the size as a parameter, they are proved once for all sizes.
-fn planes_are_named<K: KeySize>(rt: &HostRuntime, key: &[u8], name: &str) -> Result<bool, Fail> {
-    are_named::<FixslicedAes<K, BothWays>, FixslicedAes<K, Encrypt>, FixslicedAes<K, Decrypt>>(
-        rt, key, name,
-    )
-}
-
-// The same of those of `aes_permute`.
-fn permutations_are_named<K: KeySize>(
-    rt: &HostRuntime,
-    key: &[u8],
-    name: &str,
-) -> Result<bool, Fail> {
-    are_named::<
-        aes_cipher::aes::AesCipher<TwoWays<K>, BothWays>,
-        aes_cipher::aes::AesCipher<OneWay<K, Encrypt>, Encrypt>,
-        aes_cipher::aes::AesCipher<OneWay<K, Decrypt>, Decrypt>,
-    >(rt, key, name)
+impl<'a> Trial for Names<'a> {
+    fn passes<F: Forms>(&self, known: &Known) -> Result<bool, Fail> {
+        let name = known.name;
+        let encrypts = format!(in self.rt.alloc(); "{name}Enc")?;
+        let decrypts = format!(in self.rt.alloc(); "{name}Dec")?;
+        Ok(
+            is_named::<Both<F>>(self.rt, known.key, name)?
+                && is_named::<Enc<F>>(self.rt, known.key, encrypts.as_str())?
+                && is_named::<Dec<F>>(self.rt, known.key, decrypts.as_str())?,
+        )
+    }
 }
 
 #[test]
 fn writes_the_names_of_all_types(rt: HostRuntime) -> Result<(), Fail> {
-    assert!(rt; planes_are_named::<Bits128>(&rt, &KEY_128, "Aes128")?);
-    assert!(rt; planes_are_named::<Bits192>(&rt, &KEY_192, "Aes192")?);
-    assert!(rt; planes_are_named::<Bits256>(&rt, &KEY_256, "Aes256")?);
-    assert!(rt; permutations_are_named::<Bits128>(&rt, &KEY_128, "Aes128")?);
-    assert!(rt; permutations_are_named::<Bits192>(&rt, &KEY_192, "Aes192")?);
-    assert!(rt; permutations_are_named::<Bits256>(&rt, &KEY_256, "Aes256")?);
+    assert_eq!(rt; try_all(&Names { rt: &rt })?, [[true; 4]; 3]);
+    Ok(())
+}
+
+// Takes as many bytes as it has room for, and refuses whatever passes that.
+#[derive(Drop)]
+struct Room {
+    left: usize,
+}
+
+impl fmt::Write for Room {
+    fn write_str(&mut self, text: &str) -> fmt::Result {
+        if text.len() > self.left {
+            return Err(fmt::Error);
+        }
+        self.left -= text.len();
+        Ok(())
+    }
+}
+
+// Whether a name is written exactly where there is room for its nine bytes, as those of `Aes256Enc`.
+fn name_needs_room<A: AlgorithmName>() -> bool {
+    let mut right = true;
+    for left in 0..10usize {
+        let mut room = Room { left };
+        right &= write!(room, "{}", Named::<A> { of: PhantomData }).is_ok() == (left == 9);
+    }
+    right
+}
+
+// Whether a value is written exactly where there is room for its sixteen bytes, as those of `Aes256Enc { .. }`, and
+// encrypts as before.
+fn value_needs_room<C: BlockCipherEncrypt + fmt::Debug>(cipher: &C, encrypted: u128) -> bool {
+    let mut right = true;
+    for left in 0..17usize {
+        let mut room = Room { left };
+        right &= write!(room, "{cipher:?}").is_ok() == (left == 16);
+        let mut block = PLAIN.to_be_bytes();
+        cipher.encrypt_block(&mut block);
+        right &= u128::from_be_bytes(block) == encrypted;
+    }
+    right
+}
+
+struct NarrowRooms;
+
+impl Trial for NarrowRooms {
+    fn passes<F: Forms>(&self, known: &Known) -> Result<bool, Fail> {
+        let Ok(enc) = Enc::<F>::new_from_slice(known.key) else {
+            return Ok(false);
+        };
+        Ok(name_needs_room::<Enc<F>>() && value_needs_room(&enc, known.encrypted))
+    }
+}
+
+#[test]
+fn refused_writers_leave_the_value_as_it_was(rt: HostRuntime) -> Result<(), Fail> {
+    assert_eq!(rt; try_all(&NarrowRooms)?, [[true; 4]; 3]);
     Ok(())
 }

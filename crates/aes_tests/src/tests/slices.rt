@@ -1,20 +1,28 @@
-//! Slices of blocks by the counted calls, long ones, and the batches of a backend.
+//! Slices of blocks, short and long, those by the counted calls, and the batches of a backend.
 
-use aes::FixslicedAes;
-use aes_cipher::aes::{Bits128, Bits192, Bits256, BothWays, KeySchedule, KeySize};
-use aes_cipher::cipher::{
-    BlockCipherDecrypt, BlockCipherEncrypt, Decrypt, Encrypt, KeyInit, ParBlocksSizeUser,
+use super::forms::{CipherTrial, Forms, Known, Trial, pass_under, try_all};
+use aes::Fixsliced;
+use aes_cipher::aes::{
+    AesCipher, Bits128, Bits192, Bits256, BothWays, CountsLayers, Decrypts, Encrypts, KeySchedule,
+    KeySize,
 };
-use aes_permute::keys;
+use aes_cipher::cipher::{
+    Block, BlockCipherDecrypt, BlockCipherEncrypt, Decrypt, Encrypt, KeyInit, ParBlocksSizeUser,
+};
+use aes_permute::keys::{LaneBackend, OneWay};
 use aes_planes::soft::sbox::Layers;
 use standards::blocks::different_blocks;
-use standards::keys::{KEY_128, KEY_192, KEY_256};
+use standards::keys::{KEY_128, KEY_192, KEY_256, PLAIN};
+use std::test::Fail;
 
 // Whether slices of 0 to 17 blocks become the same by the counted calls of the three types for a key, and come back.
-fn counts_slices<K: KeySize>(key: &K::Key) -> bool {
-    let both = FixslicedAes::<K, BothWays>::new(key);
-    let encrypts = FixslicedAes::<K, Encrypt>::new(key);
-    let decrypts = FixslicedAes::<K, Decrypt>::new(key);
+fn counts_slices<S>(key: &<S::Size as KeySize>::Key) -> bool
+where
+    S: CountsLayers + Encrypts + Decrypts,
+{
+    let both = AesCipher::<S, BothWays>::new(key);
+    let encrypts = AesCipher::<S, Encrypt>::new(key);
+    let decrypts = AesCipher::<S, Decrypt>::new(key);
     let blocks = different_blocks();
     let mut layers = Layers::new();
     let mut right = true;
@@ -33,11 +41,16 @@ fn counts_slices<K: KeySize>(key: &K::Key) -> bool {
     right
 }
 
+// The form of `aes`. With the size as a parameter, it is proved once for all sizes.
+fn planes_count_slices<K: KeySize>(key: &K::Key) -> bool {
+    counts_slices::<Fixsliced<K>>(key)
+}
+
 #[test]
 fn counted_calls_process_the_same(rt: HostRuntime) {
-    assert!(rt; counts_slices::<Bits128>(&KEY_128));
-    assert!(rt; counts_slices::<Bits192>(&KEY_192));
-    assert!(rt; counts_slices::<Bits256>(&KEY_256));
+    assert!(rt; planes_count_slices::<Bits128>(&KEY_128));
+    assert!(rt; planes_count_slices::<Bits192>(&KEY_192));
+    assert!(rt; planes_count_slices::<Bits256>(&KEY_256));
 }
 
 // Whether a hundred blocks of one byte come to other blocks by the call on slices that encrypts, and each comes back by
@@ -58,21 +71,132 @@ fn brings_back_a_hundred<C: BlockCipherEncrypt + BlockCipherDecrypt>(cipher: &C)
     right && there == [[0x2a; 16]; 100] && back == there
 }
 
-// The type of `aes` for both directions, with the size as a parameter.
-fn planes_bring_back<K: KeySize>(key: &K::Key) -> bool {
-    brings_back_a_hundred(&FixslicedAes::<K, BothWays>::new(key))
+// Whether seven blocks and nineteen come out as the standard says, and come back.
+fn there_and_back<E: BlockCipherEncrypt, D: BlockCipherDecrypt>(
+    encrypts: &E,
+    decrypts: &D,
+    wanted: u128,
+) -> bool {
+    let mut few: [Block; 7] = [PLAIN.to_be_bytes(); 7];
+    let mut many: [Block; 19] = [PLAIN.to_be_bytes(); 19];
+    encrypts.encrypt_blocks(&mut few);
+    encrypts.encrypt_blocks(&mut many);
+    let there = few == [wanted.to_be_bytes(); 7] && many == [wanted.to_be_bytes(); 19];
+    decrypts.decrypt_blocks(&mut few);
+    decrypts.decrypt_blocks(&mut many);
+    there && few == [PLAIN.to_be_bytes(); 7] && many == [PLAIN.to_be_bytes(); 19]
 }
 
-// The same of that of `aes_permute`.
-fn permutations_bring_back<K: KeySize>(key: &K::Key) -> bool {
-    brings_back_a_hundred(&aes_cipher::aes::AesCipher::<keys::TwoWays<K>, BothWays>::new(key))
+// A block's encryption, to which slices of it have to come.
+#[derive(Drop)]
+struct Repeated {
+    encrypted: u128,
+}
+
+impl CipherTrial for Repeated {
+    fn passes<B, E, D>(&self, both: &B, encrypts: &E, decrypts: &D) -> bool
+    where
+        B: BlockCipherEncrypt + BlockCipherDecrypt,
+        E: BlockCipherEncrypt,
+        D: BlockCipherDecrypt,
+    {
+        there_and_back(both, both, self.encrypted)
+            && there_and_back(encrypts, decrypts, self.encrypted)
+            && brings_back_a_hundred(both)
+    }
+}
+
+// What 23 different blocks come to, after the first of `different_blocks`, each way: block 15 there, which is in a batch,
+// and block 23, which is in none of planes.
+#[derive(Drop)]
+struct Different {
+    encrypted: [u128; 2],
+    decrypted: [u128; 2],
+}
+
+// Blocks 15 and 23.
+fn two_of(blocks: &[Block; 24]) -> [u128; 2] {
+    [
+        u128::from_be_bytes(blocks[15]),
+        u128::from_be_bytes(blocks[23]),
+    ]
+}
+
+impl CipherTrial for Different {
+    fn passes<B, E, D>(&self, both: &B, encrypts: &E, decrypts: &D) -> bool
+    where
+        B: BlockCipherEncrypt + BlockCipherDecrypt,
+        E: BlockCipherEncrypt,
+        D: BlockCipherDecrypt,
+    {
+        let mut there = [different_blocks(), different_blocks()];
+        both.encrypt_blocks(&mut there[0][1..]);
+        encrypts.encrypt_blocks(&mut there[1][1..]);
+        let mut back = [different_blocks(), different_blocks()];
+        both.decrypt_blocks(&mut back[0][1..]);
+        decrypts.decrypt_blocks(&mut back[1][1..]);
+        there[0] == there[1]
+            && two_of(&there[0]) == self.encrypted
+            && back[0] == back[1]
+            && two_of(&back[0]) == self.decrypted
+    }
+}
+
+// By OpenSSL.
+fn different_by_key(key: &[u8]) -> Different {
+    match key.len() {
+        16 => Different {
+            encrypted: [
+                0x1c41afa46659615b866573ff8ac2b748,
+                0xf4f49f6f6985d47453ee6a81be976126,
+            ],
+            decrypted: [
+                0xe611b913be20fa13a802f053bc8365b7,
+                0x1620dab423d2dc24a711597366d7d3c5,
+            ],
+        },
+        24 => Different {
+            encrypted: [
+                0xf260a0db5d4d789c33004652d8db2999,
+                0xc21075c999667d7fa583a52bb934d1e4,
+            ],
+            decrypted: [
+                0x9e57b1183f41fc51a9e9fe9277666d85,
+                0xbd4eceea4a35507dd79f4819c6866e9f,
+            ],
+        },
+        _ => Different {
+            encrypted: [
+                0xe70c8fee4a1999bc5da7cd016c053d33,
+                0x1bdaa434cac5497117f76ff76cfe39db,
+            ],
+            decrypted: [
+                0xd973bcf180103967b6c582bde6c66d9f,
+                0xcfd0776573d1b453be187885c9af06ba,
+            ],
+        },
+    }
+}
+
+struct Slices;
+
+impl Trial for Slices {
+    fn passes<F: Forms>(&self, known: &Known) -> Result<bool, Fail> {
+        let repeated = Repeated {
+            encrypted: known.encrypted,
+        };
+        let different = different_by_key(known.key);
+        Ok(
+            pass_under::<F, Repeated>(known.key, &repeated)
+                && pass_under::<F, Different>(known.key, &different),
+        )
+    }
 }
 
 #[test]
-fn brings_back_hundreds_of_blocks(rt: HostRuntime) {
-    let zero_key = [0; 16];
-    assert!(rt; planes_bring_back::<Bits128>(&zero_key));
-    assert!(rt; permutations_bring_back::<Bits128>(&zero_key));
+fn slices_go_there_and_back(rt: HostRuntime) -> Result<(), Fail> {
+    assert_eq!(rt; try_all(&Slices)?, [[true; 4]; 3]);
+    Ok(())
 }
 
 // How many blocks a type of backends takes at once.
@@ -82,7 +206,7 @@ fn par_blocks<B: ParBlocksSizeUser>(_backend: &B) -> usize {
 
 #[test]
 fn permutations_take_two_blocks_at_once(rt: HostRuntime) {
-    let mut schedule = keys::OneWay::<Bits128, Encrypt>::zeroed();
+    let mut schedule = OneWay::<Bits128, Encrypt>::zeroed();
     schedule.expand(&KEY_128);
-    assert_eq!(rt; par_blocks(&keys::LaneBackend::new(&schedule)), 2);
+    assert_eq!(rt; par_blocks(&LaneBackend::new(&schedule)), 2);
 }

@@ -1,12 +1,12 @@
 //! Worked examples of the standards, by each call on blocks and each type.
 
-use aes::{Block, FixslicedAes, hardware_accelerated};
-use aes_cipher::aes::{Bits128, Bits192, Bits256, BothWays, KeySize};
-use aes_cipher::cipher::{BlockCipherDecrypt, BlockCipherEncrypt, Decrypt, Encrypt, KeyInit};
-use aes_permute::keys;
-use standards::blocks::{ENCRYPTED_128, PLAIN, blocks};
-use standards::examples::{EXAMPLES, Example};
-use standards::keys::KEY_A1;
+use super::forms::{CipherTrial, Forms, Known, Trial, pass_under, try_all};
+use aes::{Block, hardware_accelerated};
+use aes_cipher::cipher::{BlockCipherDecrypt, BlockCipherEncrypt};
+use standards::blocks::{ENCRYPTED_128, ENCRYPTED_192, ENCRYPTED_256, PLAIN, blocks};
+use standards::examples::EXAMPLES;
+use standards::keys::{KEY_A1, KEY_A2, KEY_A3};
+use std::test::Fail;
 
 // Encrypts a block in place, and from one buffer to another.
 fn encrypted<C: BlockCipherEncrypt>(cipher: &C, block: u128) -> (u128, u128) {
@@ -28,99 +28,95 @@ fn decrypted<C: BlockCipherDecrypt>(cipher: &C, block: u128) -> (u128, u128) {
     (u128::from_be_bytes(in_place), u128::from_be_bytes(output))
 }
 
-// Whether a type that is made from the key encrypts the block as the example has it.
-fn encrypts<C: KeyInit + BlockCipherEncrypt + Drop>(example: Example) -> bool {
-    let (key, plain, cipher) = example;
-    C::new_from_slice(key).is_ok_and(|made| encrypted(&made, plain) == (cipher, cipher))
+// A block and its encryption.
+#[derive(Drop)]
+struct Pair {
+    plain: u128,
+    cipher: u128,
 }
 
-// Whether a type that is made from the key decrypts the block as the example has it.
-fn decrypts<C: KeyInit + BlockCipherDecrypt + Drop>(example: Example) -> bool {
-    let (key, plain, cipher) = example;
-    C::new_from_slice(key).is_ok_and(|made| decrypted(&made, cipher) == (plain, plain))
-}
-
-// Whether the three types for the size of the key have the example right.
-fn hold<Both, Enc, Dec>(example: Example) -> bool
-where
-    Both: KeyInit + BlockCipherEncrypt + BlockCipherDecrypt + Drop,
-    Enc: KeyInit + BlockCipherEncrypt + Drop,
-    Dec: KeyInit + BlockCipherDecrypt + Drop,
-{
-    encrypts::<Both>(example)
-        && encrypts::<Enc>(example)
-        && decrypts::<Both>(example)
-        && decrypts::<Dec>(example)
-}
-
-// Whether the three types of `aes` for a size do. With the size as a parameter, they are proved once for all sizes.
-fn planes_hold<K: KeySize>(example: Example) -> bool {
-    hold::<FixslicedAes<K, BothWays>, FixslicedAes<K, Encrypt>, FixslicedAes<K, Decrypt>>(example)
-}
-
-// The same of those of `aes_permute`.
-fn permutations_hold<K: KeySize>(example: Example) -> bool {
-    hold::<
-        aes_cipher::aes::AesCipher<keys::TwoWays<K>, BothWays>,
-        aes_cipher::aes::AesCipher<keys::OneWay<K, Encrypt>, Encrypt>,
-        aes_cipher::aes::AesCipher<keys::OneWay<K, Decrypt>, Decrypt>,
-    >(example)
-}
-
-#[test]
-fn leaves_the_blocks_of_the_standards(rt: HostRuntime) {
-    for example in EXAMPLES {
-        let right = match example.0.len() {
-            16 => planes_hold::<Bits128>(example) && permutations_hold::<Bits128>(example),
-            24 => planes_hold::<Bits192>(example) && permutations_hold::<Bits192>(example),
-            _ => planes_hold::<Bits256>(example) && permutations_hold::<Bits256>(example),
-        };
-        assert!(rt; right, "{} bytes", example.0.len());
+impl CipherTrial for Pair {
+    fn passes<B, E, D>(&self, both: &B, encrypts: &E, decrypts: &D) -> bool
+    where
+        B: BlockCipherEncrypt + BlockCipherDecrypt,
+        E: BlockCipherEncrypt,
+        D: BlockCipherDecrypt,
+    {
+        encrypted(both, self.plain) == (self.cipher, self.cipher)
+            && encrypted(encrypts, self.plain) == (self.cipher, self.cipher)
+            && decrypted(both, self.cipher) == (self.plain, self.plain)
+            && decrypted(decrypts, self.cipher) == (self.plain, self.plain)
     }
 }
 
-// Whether slices of four blocks go to others and back.
-fn encrypts_four<Enc, Dec>(key: &[u8], plain: [Block; 4], encrypted: [Block; 4]) -> bool
-where
-    Enc: KeyInit + BlockCipherEncrypt + Drop,
-    Dec: KeyInit + BlockCipherDecrypt + Drop,
-{
-    let mut blocks = plain;
-    let there = Enc::new_from_slice(key).is_ok_and(|cipher| {
-        cipher.encrypt_blocks(&mut blocks);
-        blocks == encrypted
-    });
-    let back = Dec::new_from_slice(key).is_ok_and(|cipher| {
-        cipher.decrypt_blocks(&mut blocks);
-        blocks == plain
-    });
-    there && back
+// The examples whose keys have the size.
+struct Examples;
+
+impl Trial for Examples {
+    fn passes<F: Forms>(&self, known: &Known) -> Result<bool, Fail> {
+        let mut right = true;
+        for (key, plain, cipher) in EXAMPLES {
+            if key.len() == known.key.len() {
+                right &= pass_under::<F, Pair>(key, &Pair { plain, cipher });
+            }
+        }
+        Ok(right)
+    }
 }
 
-// Whether the types of `aes` that work in one direction do, with the size as a parameter.
-fn planes_encrypt_four<K: KeySize>(key: &[u8], plain: [Block; 4], encrypted: [Block; 4]) -> bool {
-    encrypts_four::<FixslicedAes<K, Encrypt>, FixslicedAes<K, Decrypt>>(key, plain, encrypted)
+#[test]
+fn leaves_the_blocks_of_the_standards(rt: HostRuntime) -> Result<(), Fail> {
+    assert_eq!(rt; try_all(&Examples)?, [[true; 4]; 3]);
+    Ok(())
 }
 
-// The same of those of `aes_permute`.
-fn permutations_encrypt_four<K: KeySize>(
-    key: &[u8],
+// Four blocks, and their encryption.
+#[derive(Drop)]
+struct FourBlocks {
     plain: [Block; 4],
     encrypted: [Block; 4],
-) -> bool {
-    encrypts_four::<
-        aes_cipher::aes::AesCipher<keys::OneWay<K, Encrypt>, Encrypt>,
-        aes_cipher::aes::AesCipher<keys::OneWay<K, Decrypt>, Decrypt>,
-    >(key, plain, encrypted)
 }
 
-// SP 800-38A, F.1.1 and F.1.2: four blocks under the key of FIPS 197, appendix A.1.
+impl CipherTrial for FourBlocks {
+    fn passes<B, E, D>(&self, both: &B, encrypts: &E, decrypts: &D) -> bool
+    where
+        B: BlockCipherEncrypt + BlockCipherDecrypt,
+        E: BlockCipherEncrypt,
+        D: BlockCipherDecrypt,
+    {
+        let mut by_both = self.plain;
+        both.encrypt_blocks(&mut by_both);
+        let mut by_each = self.plain;
+        encrypts.encrypt_blocks(&mut by_each);
+        let there = by_both == self.encrypted && by_each == self.encrypted;
+        both.decrypt_blocks(&mut by_both);
+        decrypts.decrypt_blocks(&mut by_each);
+        there && by_both == self.plain && by_each == self.plain
+    }
+}
+
+// SP 800-38A, F.1: four blocks under the keys of FIPS 197, appendix A.
+struct Slices;
+
+impl Trial for Slices {
+    fn passes<F: Forms>(&self, known: &Known) -> Result<bool, Fail> {
+        let (key, digits): (&[u8], &[u128; 4]) = match known.key.len() {
+            16 => (&KEY_A1, &ENCRYPTED_128),
+            24 => (&KEY_A2, &ENCRYPTED_192),
+            _ => (&KEY_A3, &ENCRYPTED_256),
+        };
+        let four = FourBlocks {
+            plain: blocks(&PLAIN),
+            encrypted: blocks(digits),
+        };
+        Ok(pass_under::<F, FourBlocks>(key, &four))
+    }
+}
+
 #[test]
-fn leaves_the_four_blocks_of_the_standard(rt: HostRuntime) {
-    let plain = blocks(&PLAIN);
-    let encrypted = blocks(&ENCRYPTED_128);
-    assert!(rt; planes_encrypt_four::<Bits128>(&KEY_A1, plain, encrypted));
-    assert!(rt; permutations_encrypt_four::<Bits128>(&KEY_A1, plain, encrypted));
+fn leaves_the_four_blocks_of_the_standard(rt: HostRuntime) -> Result<(), Fail> {
+    assert_eq!(rt; try_all(&Slices)?, [[true; 4]; 3]);
+    Ok(())
 }
 
 #[test]

@@ -1,0 +1,158 @@
+//! The types of all crates by the forms of their round keys, so that what is tried with each of them is written and
+//! proved once.
+
+use aes::Fixsliced;
+use aes_cipher::aes::{
+    AesCipher, Bits128, Bits192, Bits256, BothWays, Decrypts, Encrypts, KeySize, MadeFrom,
+};
+use aes_cipher::cipher::{BlockCipherDecrypt, BlockCipherEncrypt, Decrypt, Encrypt, KeyInit};
+use aes_hybrid::Hybrid;
+use aes_hybrid::widths::{Narrow, Wide, Width};
+use aes_permute::keys::{OneWay, TwoWays};
+use standards::keys::{
+    BY_128, BY_192, BY_256, KEY_128, KEY_192, KEY_256, ZEROS_BY_128, ZEROS_BY_192, ZEROS_BY_256,
+};
+use std::marker::PhantomData;
+use std::test::Fail;
+
+/// The forms of the three types that a crate has for a size of keys.
+pub trait Forms {
+    /// That of the type for both directions.
+    type Both: Encrypts + Decrypts + MadeFrom<Self::Enc>;
+
+    /// That of the type that encrypts.
+    type Enc: Encrypts;
+
+    /// That of the type that decrypts.
+    type Dec: Decrypts + MadeFrom<Self::Enc>;
+}
+
+/// The type of a crate for both directions.
+pub type Both<F> = AesCipher<<F as Forms>::Both, BothWays>;
+
+/// The one that encrypts.
+pub type Enc<F> = AesCipher<<F as Forms>::Enc, Encrypt>;
+
+/// The one that decrypts.
+pub type Dec<F> = AesCipher<<F as Forms>::Dec, Decrypt>;
+
+// The forms of `aes`.
+struct Planes<K> {
+    size: PhantomData<K>,
+}
+
+impl<K: KeySize> Forms for Planes<K> {
+    type Both = Fixsliced<K>;
+
+    type Enc = Fixsliced<K>;
+
+    type Dec = Fixsliced<K>;
+}
+
+// The forms of `aes_permute`.
+struct Permutations<K> {
+    size: PhantomData<K>,
+}
+
+impl<K: KeySize> Forms for Permutations<K> {
+    type Both = TwoWays<K>;
+
+    type Enc = OneWay<K, Encrypt>;
+
+    type Dec = OneWay<K, Decrypt>;
+}
+
+// The forms of `aes_hybrid`, in one width.
+struct Hybrids<K, W> {
+    size: PhantomData<K>,
+    width: PhantomData<W>,
+}
+
+impl<K: KeySize, W: Width> Forms for Hybrids<K, W> {
+    type Both = Hybrid<TwoWays<K>, W>;
+
+    type Enc = Hybrid<OneWay<K, Encrypt>, W>;
+
+    type Dec = Hybrid<TwoWays<K>, W>;
+}
+
+/// What is known of a size of keys from outside.
+#[derive(Drop)]
+pub struct Known {
+    /// The name of the type for both directions.
+    pub name: &'static str,
+    /// The key of FIPS 197, appendix C.
+    pub key: &'static [u8],
+    /// The block there under that key.
+    pub encrypted: u128,
+    /// A block of zeros under the key of zeros.
+    pub zeros: u128,
+}
+
+/// What is tried with the types of each crate.
+pub trait Trial {
+    /// Whether the types for a size pass.
+    fn passes<F: Forms>(&self, known: &Known) -> Result<bool, Fail>;
+}
+
+/// Whether types passed: those of `aes`, of `aes_permute`, and of `aes_hybrid` in both widths.
+pub type Passed = [bool; 4];
+
+// Whether the types for a size pass. With the size as a parameter, they are proved once for all sizes.
+fn try_size<T: Trial, K: KeySize>(trial: &T, known: &Known) -> Result<Passed, Fail> {
+    Ok([
+        trial.passes::<Planes<K>>(known)?,
+        trial.passes::<Permutations<K>>(known)?,
+        trial.passes::<Hybrids<K, Narrow>>(known)?,
+        trial.passes::<Hybrids<K, Wide>>(known)?,
+    ])
+}
+
+/// Whether the types for keys of 16, 24 and 32 bytes pass.
+pub fn try_all<T: Trial>(trial: &T) -> Result<[Passed; 3], Fail> {
+    let short = Known {
+        name: "Aes128",
+        key: &KEY_128,
+        encrypted: BY_128,
+        zeros: ZEROS_BY_128,
+    };
+    let middle = Known {
+        name: "Aes192",
+        key: &KEY_192,
+        encrypted: BY_192,
+        zeros: ZEROS_BY_192,
+    };
+    let long = Known {
+        name: "Aes256",
+        key: &KEY_256,
+        encrypted: BY_256,
+        zeros: ZEROS_BY_256,
+    };
+    Ok([
+        try_size::<T, Bits128>(trial, &short)?,
+        try_size::<T, Bits192>(trial, &middle)?,
+        try_size::<T, Bits256>(trial, &long)?,
+    ])
+}
+
+/// What is tried with the three ciphers of a key.
+pub trait CipherTrial {
+    /// Whether the ciphers pass.
+    fn passes<B, E, D>(&self, both: &B, encrypts: &E, decrypts: &D) -> bool
+    where
+        B: BlockCipherEncrypt + BlockCipherDecrypt,
+        E: BlockCipherEncrypt,
+        D: BlockCipherDecrypt;
+}
+
+/// Whether the three types pass under a key.
+pub fn pass_under<F: Forms, T: CipherTrial>(key: &[u8], trial: &T) -> bool {
+    let (Ok(both), Ok(encrypts), Ok(decrypts)) = (
+        Both::<F>::new_from_slice(key),
+        Enc::<F>::new_from_slice(key),
+        Dec::<F>::new_from_slice(key),
+    ) else {
+        return false;
+    };
+    trial.passes(&both, &encrypts, &decrypts)
+}
