@@ -3,7 +3,8 @@
 ghost use Rattle.std.specs.Prelude.{◌≡◌};
 ghost use Rattle.aes_hybrid.specs.Keys.{cipher_key, IsCipherSchedule};
 
-use crate::blocks::process_blocks;
+use crate::blocks::{BATCH, process_blocks};
+use crate::closures::call_with_batches;
 use crate::lent::Lent;
 use crate::widths::{Narrow, Width};
 use aes_cipher::aes::{Decrypts, Encrypts, KeySchedule, KeySize, MadeFrom, Processes};
@@ -191,5 +192,14 @@ impl<K: KeySize, W: Width> Decrypts for Hybrid<TwoWays<K>, W> {
     #[inline(always)]
     fn decrypt_with_backend<F: BlockCipherDecClosure>(&self, f: &mut F) {
         self.keys.decrypt_with_backend(f);
+    }
+
+    fn decrypt_with_backend_for<F: BlockCipherDecClosure>(&self, blocks: usize, f: &mut F) {
+        if blocks < BATCH {
+            self.keys.decrypt_with_backend(f);
+        } else {
+            let used = <TwoWays<K> as LendsKeys<Decrypt>>::lend(&self.keys);
+            call_with_batches::<Decrypt, W, F>(keys_of::<TwoWays<K>>(&self.keys), used, blocks, f);
+        }
     }
 }

@@ -5,19 +5,14 @@ ghost use Rattle.aes_planes.specs.Fips197 as fips;
 ghost use Rattle.aes_planes.proofs.Standard.CipherLaws.{two_keys};
 ghost use Rattle.aes_hybrid.specs.Keys.{cipher_key, IsCipherSchedule};
 
-pub(crate) mod backends;
-
-use crate::blocks::{BATCH, LEAST_BY_SIXTEEN, process_blocks};
-use crate::plane_keys::PlaneKeys;
-use crate::slots::SlotWord;
+use crate::backends::Pairs;
+use crate::blocks::{BATCH, process_blocks};
+use crate::closures::call_with_batches;
 use crate::widths::{Narrow, Width};
 use aes_cipher::cipher::{BlockCipherEncClosure, BlockCipherEncrypt, Encrypt, RoundKeysUser};
 use aes_planes::laws;
 use aes_planes::soft::word::Block;
-use aes_soft::soft::key_sizes::BatchWord;
-use backends::{Batches, Pairs};
 use std::marker::{Model, PhantomData};
-use std::simd::prelude::*;
 use std::slice;
 
 /// Stored round keys of Cipher, lent to encrypt. The backend for eight blocks or more has planes for whole batches, and
@@ -73,17 +68,15 @@ impl<W> RoundKeysUser for Lent<'_, W> {
 impl<W: Width> BlockCipherEncrypt for Lent<'_, W> {
     #[inline(always)]
     fn encrypt_with_backend<F: BlockCipherEncClosure>(&self, f: &mut F) {
-        call_with_planes::<BatchWord, F>(self.keys, f);
+        call_with_batches::<Encrypt, W, F>(self.keys, self.keys, BATCH, f);
     }
 
     #[inline(always)]
     fn encrypt_with_backend_for<F: BlockCipherEncClosure>(&self, blocks: usize, f: &mut F) {
         if blocks < BATCH {
             f.call(&Pairs::new(self.keys));
-        } else if W::HAS_SIXTEENS && blocks >= LEAST_BY_SIXTEEN {
-            call_with_planes::<u8x32, F>(self.keys, f);
         } else {
-            self.encrypt_with_backend(f);
+            call_with_batches::<Encrypt, W, F>(self.keys, self.keys, blocks, f);
         }
     }
 
@@ -96,16 +89,4 @@ impl<W: Width> BlockCipherEncrypt for Lent<'_, W> {
     fn encrypt_blocks(&self, blocks: &mut [Block]) {
         process_blocks::<Encrypt, W>(self.keys, self.keys, blocks);
     }
-}
-
-// Calls a closure with a backend on planes, which are wiped before the call returns.
-#[inline(always)]
-fn call_with_planes<P: SlotWord, F: BlockCipherEncClosure>(keys: &[Block], f: &mut F)
-    requires keyed { IsCipherSchedule keys.now }
-    ensures { F.did f.old (fips.key_expansion (cipher_key keys.now)) f.new }
-{
-    let mut planes = PlaneKeys::<P>::zeroed();
-    planes.store(keys);
-    f.call(&Batches::new(keys, planes.lend(keys.len())));
-    planes.wipe();
 }

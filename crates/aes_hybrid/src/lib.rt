@@ -2,9 +2,11 @@
 //! planes. The number of blocks decides, which is no secret.
 #![tactic(auto)]
 
+mod backends;
 mod batches;
 pub mod blocks;
 mod ciphers;
+mod closures;
 pub mod examples;
 pub mod lent;
 mod names;

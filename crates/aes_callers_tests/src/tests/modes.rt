@@ -5,9 +5,12 @@ use aes::{Aes128, FixslicedAes};
 use aes_callers::by_backend::ByBackend;
 use aes_callers::cbc::{cbc_decrypt, cbc_encrypt, cbc_there_and_back};
 use aes_callers::chaining_value::{chaining_value, chaining_value_under};
-use aes_cipher::aes::{Bits128, Bits192, Bits256, BothWays, KeySize};
+use aes_cipher::aes::{AesCipher, Bits128, Bits192, Bits256, BothWays, KeySize};
 use aes_cipher::blocks::{block_of_number, blocks_equal};
 use aes_cipher::cipher::{BlockCipherDecrypt, BlockCipherEncrypt, KeyInit};
+use aes_hybrid::Hybrid;
+use aes_hybrid::widths::{Narrow, Wide, Width};
+use aes_permute::keys::TwoWays;
 use aes_rounds::rounds::Aes;
 use standards::blocks::{PLAIN, blocks};
 use standards::keys::{KEY_A1, KEY_A2, KEY_A3};
@@ -64,6 +67,28 @@ fn chains_the_blocks_of_the_standard(rt: HostRuntime) {
     );
     assert!(rt; chains_under::<Bits192>(&KEY_A2, &by_192));
     assert!(rt; chains_under::<Bits256>(&KEY_A3, &by_256));
+}
+
+// Whether chains of each length up to forty come back. By these types some blocks are decrypted in batches, others alone.
+fn chains_come_back<K: KeySize, W: Width>(key: &K::Key) -> bool {
+    let cipher = AesCipher::<Hybrid<TwoWays<K>, W>, BothWays>::new(key);
+    let iv = IV.to_be_bytes();
+    let plain = [[7; 16]; 40];
+    for count in 0..=40 {
+        let mut row = plain;
+        cbc_encrypt(&cipher, &iv, &mut row[..count]);
+        cbc_decrypt(&cipher, &iv, &mut row[..count]);
+        if row != plain {
+            return false;
+        }
+    }
+    true
+}
+
+#[test]
+fn chains_of_every_length_come_back(rt: HostRuntime) {
+    assert!(rt; chains_come_back::<Bits128, Narrow>(&KEY_A1));
+    assert!(rt; chains_come_back::<Bits128, Wide>(&KEY_A1));
 }
 
 // NIST's example of CMAC with a key of 16 bytes, on an empty message (SP 800-38B, D.1): its one block is the padding

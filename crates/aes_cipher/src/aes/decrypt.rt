@@ -12,6 +12,11 @@ impl<S: Decrypts, D: Allows<Decrypt>> BlockCipherDecrypt for AesCipher<S, D> {
     }
 
     #[inline(always)]
+    fn decrypt_with_backend_for<F: BlockCipherDecClosure>(&self, blocks: usize, f: &mut F) {
+        self.schedule.decrypt_with_backend_for(blocks, f);
+    }
+
+    #[inline(always)]
     fn decrypt_block(&self, block: &mut Block) {
         self.schedule.process_block(block);
     }

@@ -92,6 +92,17 @@ pub trait Decrypts: Processes<Decrypt> {
     fn decrypt_with_backend<F: BlockCipherDecClosure>(&self, f: &mut F)
         requires keyed { Self.AreKeyed self.now }
         ensures { F.did f.old (fips.key_expansion (Self.key self.now)) f.new };
+
+    /// Calls the closure once, with a backend that suits this number of blocks. The number affects speed and nothing
+    /// else.
+    #[inline(always)]
+    fn decrypt_with_backend_for<F: BlockCipherDecClosure>(&self, blocks: usize, f: &mut F)
+        requires keyed { Self.AreKeyed self.now }
+        ensures { F.did f.old (fips.key_expansion (Self.key self.now)) f.new }
+    {
+        let _ = blocks;
+        self.decrypt_with_backend(f);
+    }
 }
 
 /// Stored round keys that are made from those of S, which has the same key.

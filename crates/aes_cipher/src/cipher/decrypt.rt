@@ -15,6 +15,16 @@ pub trait BlockCipherDecrypt: BlockSizeUser + RoundKeysUser {
     fn decrypt_with_backend<F: BlockCipherDecClosure>(&self, f: &mut F)
         ensures { F.did f.old (Self.round_keys self.now) f.new };
 
+    /// Calls the closure once, with a backend of the value's round keys that suits this number of blocks. The number
+    /// affects speed and nothing else.
+    #[inline(always)]
+    fn decrypt_with_backend_for<F: BlockCipherDecClosure>(&self, blocks: usize, f: &mut F)
+        ensures { F.did f.old (Self.round_keys self.now) f.new }
+    {
+        let _ = blocks;
+        self.decrypt_with_backend(f);
+    }
+
     /// Decrypts the block in place under the value's round keys (InvCipher, FIPS 197, 5.3).
     fn decrypt_block(&self, block: &mut Block)
         ensures { block.new ≡ fips.inv_cipher_with (Self.round_keys self.now) block.old };

@@ -41,6 +41,10 @@ impl<C: BlockCipherDecrypt> BlockCipherDecrypt for &C {
         (**self).decrypt_with_backend(f);
     }
 
+    fn decrypt_with_backend_for<F: BlockCipherDecClosure>(&self, blocks: usize, f: &mut F) {
+        (**self).decrypt_with_backend_for(blocks, f);
+    }
+
     fn decrypt_block(&self, block: &mut Block) {
         (**self).decrypt_block(block);
     }

@@ -146,6 +146,14 @@ fn lends_closures_a_backend(rt: HostRuntime) {
     assert_eq!(rt; closure.batch[1], INPUT);
     cipher.encrypt_blocks(&mut closure.batch);
     assert_eq!(rt; closure.batch, [[4; 16], OUTPUT, [5; 16]]);
+    let mut closure = OneAndBatch {
+        one: OUTPUT,
+        batch: [OUTPUT; 3],
+        fits: false,
+    };
+    cipher.decrypt_with_backend_for(4, &mut closure);
+    assert_eq!(rt; closure.one, INPUT);
+    assert_eq!(rt; closure.batch, [INPUT; 3]);
 }
 
 // A name of an algorithm, as text.
@@ -202,6 +210,13 @@ fn works_where_it_is_lent(rt: HostRuntime) {
     };
     BlockCipherDecrypt::decrypt_with_backend(&lent, &mut closure);
     assert_eq!(rt; closure.one, INPUT);
+    let mut closure = OneAndBatch {
+        one: OUTPUT,
+        batch: [OUTPUT; 3],
+        fits: false,
+    };
+    BlockCipherDecrypt::decrypt_with_backend_for(&lent, 4, &mut closure);
+    assert_eq!(rt; closure.batch, [INPUT; 3]);
 }
 
 #[test]

@@ -1,0 +1,83 @@
+//! Closures of either direction, called with a backend on planes.
+
+ghost use Rattle.std.specs.Prelude.{◌≡◌, ℕ, List};
+ghost use Rattle.aes_planes.specs.Fips197 as fips;
+ghost use Rattle.aes_permute.specs.Keys.{encrypting};
+ghost use Rattle.aes_permute.specs.Stored.{round_keys_of};
+ghost use Rattle.aes_hybrid.specs.Keys.{cipher_key, IsCipherSchedule};
+
+use crate::backends::Batches;
+use crate::blocks::LEAST_BY_SIXTEEN;
+use crate::plane_keys::PlaneKeys;
+use crate::slots::SlotWord;
+use crate::widths::Width;
+use aes_cipher::cipher::{BlockCipherDecClosure, BlockCipherEncClosure, Decrypt, Encrypt};
+use aes_permute::lane_rounds::LaneRounds;
+use aes_planes::soft::word::Block;
+use aes_soft::soft::key_sizes::BatchWord;
+use std::simd::prelude::*;
+
+/// A caller's closure that works with a backend of the direction D.
+pub(crate) trait ClosureIn<D: LaneRounds> {
+    /// What the work does.
+    ghost does: { Self → List (List ℕ) → Self → Type 0 };
+
+    /// Does the work.
+    fn work<P: SlotWord>(&mut self, backend: &Batches<'_, D, P>)
+        ensures { does self.old (fips.key_expansion backend.now) self.new };
+}
+
+impl<F: BlockCipherEncClosure> ClosureIn<Encrypt> for F {
+    ghost does = { F.did };
+
+    #[inline(always)]
+    fn work<P: SlotWord>(&mut self, backend: &Batches<'_, Encrypt, P>) {
+        self.call(backend);
+    }
+}
+
+impl<F: BlockCipherDecClosure> ClosureIn<Decrypt> for F {
+    ghost does = { F.did };
+
+    #[inline(always)]
+    fn work<P: SlotWord>(&mut self, backend: &Batches<'_, Decrypt, P>) {
+        self.call(backend);
+    }
+}
+
+// Calls a closure with a backend on planes of some word, which are wiped before the call returns.
+#[inline(always)]
+fn call_with_planes<D: LaneRounds, P: SlotWord, F: ClosureIn<D>>(
+    keys: &[Block],
+    used: &[Block],
+    f: &mut F,
+)
+    requires keyed { IsCipherSchedule keys.now }
+    requires used { round_keys_of D.form used.now ≡ D.form.used_keys (encrypting keys.now) }
+    ensures { F.does f.old (fips.key_expansion (cipher_key keys.now)) f.new }
+{
+    let mut planes = PlaneKeys::<P>::zeroed();
+    planes.store(keys);
+    f.work(&Batches::new(keys, used, planes.lend(keys.len())));
+    planes.wipe();
+}
+
+/// Calls a closure with a backend on planes that suits this number of blocks. `keys` are the stored round keys of Cipher, and
+/// `used` those of the direction.
+#[inline(always)]
+pub(crate) fn call_with_batches<D: LaneRounds, W: Width, F: ClosureIn<D>>(
+    keys: &[Block],
+    used: &[Block],
+    blocks: usize,
+    f: &mut F,
+)
+    requires keyed { IsCipherSchedule keys.now }
+    requires used { round_keys_of D.form used.now ≡ D.form.used_keys (encrypting keys.now) }
+    ensures { F.does f.old (fips.key_expansion (cipher_key keys.now)) f.new }
+{
+    if W::HAS_SIXTEENS && blocks >= LEAST_BY_SIXTEEN {
+        call_with_planes::<D, u8x32, F>(keys, used, f);
+    } else {
+        call_with_planes::<D, BatchWord, F>(keys, used, f);
+    }
+}
