@@ -5,7 +5,6 @@ mod examples;
 mod forms;
 mod hazmat;
 mod hybrid;
-mod layouts;
 mod names;
 mod rounds;
 mod slices;

@@ -13,6 +13,7 @@ use standards::keys::{
     BY_128, BY_192, BY_256, KEY_128, KEY_192, KEY_256, ZEROS_BY_128, ZEROS_BY_192, ZEROS_BY_256,
 };
 use std::marker::PhantomData;
+use std::process::Abort;
 use std::test::Fail;
 
 /// The forms of the three types that a crate has for a size of keys.
@@ -95,44 +96,42 @@ pub trait Trial {
     fn passes<F: Forms>(&self, known: &Known) -> Result<bool, Fail>;
 }
 
-/// Whether types passed: those of `aes`, of `aes_permute`, and of `aes_hybrid` in both widths.
-pub type Passed = [bool; 4];
-
-// Whether the types for a size pass. With the size as a parameter, they are proved once for all sizes.
-fn try_size<T: Trial, K: KeySize>(trial: &T, known: &Known) -> Result<Passed, Fail> {
-    Ok([
+// Asserts that the types for a size pass: those of `aes`, of `aes_permute`, and of `aes_hybrid` in both widths. With the
+// size as a parameter, they are proved once for all sizes.
+fn try_size<T: Trial, K: KeySize>(rt: &impl Abort, trial: &T, known: &Known) -> Result<(), Fail> {
+    let passed = [
         trial.passes::<Planes<K>>(known)?,
         trial.passes::<Permutations<K>>(known)?,
         trial.passes::<Hybrids<K, Narrow>>(known)?,
         trial.passes::<Hybrids<K, Wide>>(known)?,
-    ])
+    ];
+    assert_eq!(rt; passed, [true; 4], "{}", known.name);
+    Ok(())
 }
 
-/// Whether the types for keys of 16, 24 and 32 bytes pass.
-pub fn try_all<T: Trial>(trial: &T) -> Result<[Passed; 3], Fail> {
+/// Asserts that all types pass.
+pub fn try_all<T: Trial>(rt: &impl Abort, trial: &T) -> Result<(), Fail> {
     let short = Known {
         name: "Aes128",
         key: &KEY_128,
         encrypted: BY_128,
         zeros: ZEROS_BY_128,
     };
+    try_size::<T, Bits128>(rt, trial, &short)?;
     let middle = Known {
         name: "Aes192",
         key: &KEY_192,
         encrypted: BY_192,
         zeros: ZEROS_BY_192,
     };
+    try_size::<T, Bits192>(rt, trial, &middle)?;
     let long = Known {
         name: "Aes256",
         key: &KEY_256,
         encrypted: BY_256,
         zeros: ZEROS_BY_256,
     };
-    Ok([
-        try_size::<T, Bits128>(trial, &short)?,
-        try_size::<T, Bits192>(trial, &middle)?,
-        try_size::<T, Bits256>(trial, &long)?,
-    ])
+    try_size::<T, Bits256>(rt, trial, &long)
 }
 
 /// What is tried with the three ciphers of a key.

@@ -33,8 +33,7 @@ impl Trial for Cuts {
 
 #[test]
 fn adds_the_same_keystream_whole_and_cut(rt: HostRuntime) -> Result<(), Fail> {
-    assert_eq!(rt; try_all(&Cuts)?, [[true; 4]; 3]);
-    Ok(())
+    try_all(&rt, &Cuts)
 }
 
 // Whether each count of blocks up to forty comes out the same in both widths, and comes back.

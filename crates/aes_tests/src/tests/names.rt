@@ -1,8 +1,8 @@
 //! What is written as text: names, and nothing of a key.
 
+use super::copies::encrypts;
 use super::forms::{Both, Dec, Enc, Forms, Known, Trial, try_all};
 use aes_cipher::cipher::{AlgorithmName, BlockCipherEncrypt, KeyInit};
-use standards::keys::PLAIN;
 use std::fmt;
 use std::fmt::Write;
 use std::marker::PhantomData;
@@ -19,98 +19,95 @@ impl<A: AlgorithmName> fmt::Display for Named<A> {
     }
 }
 
-// Whether a type's name is the one that is given, and its values write the name and dots.
-fn is_named<C>(rt: &HostRuntime, key: &[u8], name: &str) -> Result<bool, Fail>
-where
-    C: KeyInit + AlgorithmName + fmt::Debug + Drop,
-{
-    let Ok(cipher) = C::new_from_slice(key) else {
-        return Ok(false);
-    };
-    let debug = format!(in rt.alloc(); "{cipher:?}")?;
-    let wanted = format!(in rt.alloc(); "{name} {{ .. }}")?;
-    let written = format!(in rt.alloc(); "{}", Named::<C> { of: PhantomData })?;
-    Ok(debug == wanted && written.as_str() == name)
-}
-
-// The three types of a size have the name of the first, and those of one direction a shorter one after it.
+// A page with room for some bytes, at most sixteen, which refuses whatever passes that.
 #[derive(Drop)]
-struct Names<'a> {
-    rt: &'a HostRuntime,
+struct Page {
+    bytes: [u8; 16],
+    length: usize,
+    room: usize,
 }
 
-impl<'a> Trial for Names<'a> {
-    fn passes<F: Forms>(&self, known: &Known) -> Result<bool, Fail> {
-        let name = known.name;
-        let encrypts = format!(in self.rt.alloc(); "{name}Enc")?;
-        let decrypts = format!(in self.rt.alloc(); "{name}Dec")?;
-        Ok(
-            is_named::<Both<F>>(self.rt, known.key, name)?
-                && is_named::<Enc<F>>(self.rt, known.key, encrypts.as_str())?
-                && is_named::<Dec<F>>(self.rt, known.key, decrypts.as_str())?,
-        )
+impl Page {
+    fn with_room(room: usize) -> Page {
+        Page {
+            bytes: [0; 16],
+            length: 0,
+            room,
+        }
     }
 }
 
-#[test]
-fn writes_the_names_of_all_types(rt: HostRuntime) -> Result<(), Fail> {
-    assert_eq!(rt; try_all(&Names { rt: &rt })?, [[true; 4]; 3]);
-    Ok(())
-}
-
-// Takes as many bytes as it has room for, and refuses whatever passes that.
-#[derive(Drop)]
-struct Room {
-    left: usize,
-}
-
-impl fmt::Write for Room {
+impl fmt::Write for Page {
     fn write_str(&mut self, text: &str) -> fmt::Result {
-        if text.len() > self.left {
-            return Err(fmt::Error);
+        for byte in text.as_bytes() {
+            if self.length >= self.room || self.length >= 16 {
+                return Err(fmt::Error);
+            }
+            self.bytes[self.length] = *byte;
+            self.length += 1;
         }
-        self.left -= text.len();
         Ok(())
     }
 }
 
-// Whether a name is written exactly where there is room for its nine bytes, as those of `Aes256Enc`.
-fn name_needs_room<A: AlgorithmName>() -> bool {
+// Whether a type's name is the one that is given, and a value writes the name and dots.
+fn is_named<C>(cipher: &C, name: &str, suffix: &str) -> bool
+where
+    C: AlgorithmName + fmt::Debug,
+{
+    let mut wanted = Page::with_room(16);
+    let mut named = Page::with_room(16);
+    let mut right = write!(wanted, "{name}{suffix}").is_ok()
+        && write!(named, "{}", Named::<C> { of: PhantomData }).is_ok();
+    right &= named.length == wanted.length && named.bytes == wanted.bytes;
+    let mut written = Page::with_room(16);
+    right &= write!(wanted, " {{ .. }}").is_ok() && write!(written, "{cipher:?}").is_ok();
+    right && written.length == wanted.length && written.bytes == wanted.bytes
+}
+
+// Whether the three types of a size have the name of the first, and those of one direction a longer one.
+fn are_named<B, E, D>(both: &B, enc: &E, dec: &D, name: &str) -> bool
+where
+    B: AlgorithmName + fmt::Debug,
+    E: AlgorithmName + fmt::Debug,
+    D: AlgorithmName + fmt::Debug,
+{
+    is_named(both, name, "") && is_named(enc, name, "Enc") && is_named(dec, name, "Dec")
+}
+
+// Whether a value is written exactly where there is room for its sixteen bytes, as those of `Aes256Enc { .. }`, its name
+// where there is room for nine, and it encrypts as before.
+fn needs_room<C>(cipher: &C, encrypted: u128) -> bool
+where
+    C: BlockCipherEncrypt + AlgorithmName + fmt::Debug,
+{
     let mut right = true;
-    for left in 0..10usize {
-        let mut room = Room { left };
-        right &= write!(room, "{}", Named::<A> { of: PhantomData }).is_ok() == (left == 9);
+    for room in 0..17usize {
+        let mut page = Page::with_room(room);
+        right &= write!(page, "{cipher:?}").is_ok() == (room == 16);
+        let mut page = Page::with_room(room);
+        right &= write!(page, "{}", Named::<C> { of: PhantomData }).is_ok() == (room >= 9);
+        right &= encrypts(cipher, encrypted);
     }
     right
 }
 
-// Whether a value is written exactly where there is room for its sixteen bytes, as those of `Aes256Enc { .. }`, and
-// encrypts as before.
-fn value_needs_room<C: BlockCipherEncrypt + fmt::Debug>(cipher: &C, encrypted: u128) -> bool {
-    let mut right = true;
-    for left in 0..17usize {
-        let mut room = Room { left };
-        right &= write!(room, "{cipher:?}").is_ok() == (left == 16);
-        let mut block = PLAIN.to_be_bytes();
-        cipher.encrypt_block(&mut block);
-        right &= u128::from_be_bytes(block) == encrypted;
-    }
-    right
-}
+struct Names;
 
-struct NarrowRooms;
-
-impl Trial for NarrowRooms {
+impl Trial for Names {
     fn passes<F: Forms>(&self, known: &Known) -> Result<bool, Fail> {
-        let Ok(enc) = Enc::<F>::new_from_slice(known.key) else {
+        let (Ok(both), Ok(enc), Ok(dec)) = (
+            Both::<F>::new_from_slice(known.key),
+            Enc::<F>::new_from_slice(known.key),
+            Dec::<F>::new_from_slice(known.key),
+        ) else {
             return Ok(false);
         };
-        Ok(name_needs_room::<Enc<F>>() && value_needs_room(&enc, known.encrypted))
+        Ok(are_named(&both, &enc, &dec, known.name) && needs_room(&enc, known.encrypted))
     }
 }
 
 #[test]
-fn refused_writers_leave_the_value_as_it_was(rt: HostRuntime) -> Result<(), Fail> {
-    assert_eq!(rt; try_all(&NarrowRooms)?, [[true; 4]; 3]);
-    Ok(())
+fn writes_names_where_there_is_room(rt: HostRuntime) -> Result<(), Fail> {
+    try_all(&rt, &Names)
 }

@@ -66,8 +66,7 @@ impl Trial for Examples {
 
 #[test]
 fn leaves_the_blocks_of_the_standards(rt: HostRuntime) -> Result<(), Fail> {
-    assert_eq!(rt; try_all(&Examples)?, [[true; 4]; 3]);
-    Ok(())
+    try_all(&rt, &Examples)
 }
 
 // Four blocks, and their encryption.
@@ -115,8 +114,7 @@ impl Trial for Slices {
 
 #[test]
 fn leaves_the_four_blocks_of_the_standard(rt: HostRuntime) -> Result<(), Fail> {
-    assert_eq!(rt; try_all(&Slices)?, [[true; 4]; 3]);
-    Ok(())
+    try_all(&rt, &Slices)
 }
 
 #[test]
