@@ -1,6 +1,7 @@
 //! Backends: pairs by vector permutations, and batches on planes in either direction.
 
 ghost use Rattle.std.specs.Prelude.{◌≡◌, ℕ, List, length, map};
+ghost use Rattle.aes_planes.specs.Each.{Each};
 ghost use Rattle.aes_planes.specs.Fips197 as fips;
 ghost use Rattle.aes_planes.proofs.Standard.CipherLaws.{two_keys};
 ghost use Rattle.aes_permute.specs.Keys.{encrypting};
@@ -124,6 +125,15 @@ impl<'a, D: LaneRounds, W: SlotWord> Batches<'a, D, W> {
             direction: PhantomData,
         }
     }
+
+    // Processes blocks by vector permutations.
+    #[inline(always)]
+    fn process_few(&self, blocks: &mut [Block])
+        ensures { Each (D.processed (fips.key_expansion self.now)) blocks.old blocks.new }
+    {
+        D::uses_all();
+        process_few::<D>(self.used, blocks);
+    }
 }
 
 impl<D: LaneRounds, W: SlotWord> RoundKeysUser for Batches<'_, D, W> {
@@ -144,7 +154,7 @@ impl<D: LaneRounds, W: SlotWord> BatchSizeUser for Batches<'_, D, W> {
 impl<W: SlotWord> BlockCipherEncBackend for Batches<'_, Encrypt, W> {
     #[inline(always)]
     fn encrypt_block(&self, block: &mut Block) {
-        process_few::<Encrypt>(self.used, slice::from_mut(block));
+        self.process_few(slice::from_mut(block));
     }
 
     #[inline(always)]
@@ -156,7 +166,7 @@ impl<W: SlotWord> BlockCipherEncBackend for Batches<'_, Encrypt, W> {
     #[inline(always)]
     fn encrypt_first_blocks(&self, count: usize, blocks: &mut [Block]) {
         if count <= MOST_ON_LANES {
-            process_few::<Encrypt>(self.used, &mut blocks[..count]);
+            self.process_few(&mut blocks[..count]);
         } else {
             self.encrypt_par_blocks(blocks);
         }
@@ -166,7 +176,7 @@ impl<W: SlotWord> BlockCipherEncBackend for Batches<'_, Encrypt, W> {
 impl<W: SlotWord> BlockCipherDecBackend for Batches<'_, Decrypt, W> {
     #[inline(always)]
     fn decrypt_block(&self, block: &mut Block) {
-        process_few::<Decrypt>(self.used, slice::from_mut(block));
+        self.process_few(slice::from_mut(block));
     }
 
     #[inline(always)]
