@@ -5,4 +5,5 @@ mod bytes;
 mod cipher;
 mod planes;
 mod soft;
+mod words;
 mod zeroize;

@@ -4,6 +4,7 @@ ghost use Rattle.std.specs.Prelude.{◌<◌};
 
 mod steps;
 
+use crate::tests::words::{WordTrial, try_words};
 use aes_planes::soft::planes::{pack_unpacked, unpack_packed};
 use aes_planes::soft::sbox::{Layers, inv_sub_bytes, sub_bytes, sub_bytes_nots};
 use aes_planes::soft::word::{Batch, Block, Word};
@@ -165,13 +166,17 @@ fn packs_bits_by_row_column_and_block(rt: HostRuntime) {
     );
 }
 
+struct Packs;
+
+impl WordTrial for Packs {
+    fn passes<W: Word>(&self) -> bool {
+        there_and_back::<W>(BLOCK) == [BLOCK; 2]
+    }
+}
+
 #[test]
 fn packs_and_unpacks(rt: HostRuntime) {
-    let want = [BLOCK; 2];
-    assert_eq!(rt; there_and_back::<u16>(BLOCK), want);
-    assert_eq!(rt; there_and_back::<u32>(BLOCK), want);
-    assert_eq!(rt; there_and_back::<u64>(BLOCK), want);
-    assert_eq!(rt; there_and_back::<u128>(BLOCK), want);
+    try_words(&rt, &Packs);
 }
 
 // By the formula of each call in the trait `Word`.
@@ -284,18 +289,20 @@ fn substitutes_zeros_by_the_constant(rt: HostRuntime) {
     assert_eq!(rt; zeros_substituted(), [[0u128; 8], [d, d, 0, 0, 0, d, d, 0]]);
 }
 
+struct Substitutes;
+
+impl WordTrial for Substitutes {
+    fn passes<W: Word>(&self) -> bool {
+        let [bare, whole, back] = substituted::<W>(BLOCK);
+        let mut right = whole == SUBSTITUTED && back == BLOCK;
+        for i in 0..16usize {
+            right &= bare[i] ^ 0x63 == SUBSTITUTED[i];
+        }
+        right
+    }
+}
+
 #[test]
 fn substitutes_and_undoes_it(rt: HostRuntime) {
-    for [bare, whole, back] in [
-        substituted::<u16>(BLOCK),
-        substituted::<u32>(BLOCK),
-        substituted::<u64>(BLOCK),
-        substituted::<u128>(BLOCK),
-    ] {
-        assert_eq!(rt; whole, SUBSTITUTED);
-        assert_eq!(rt; back, BLOCK);
-        for i in 0..16usize {
-            assert_eq!(rt; bare[i] ^ 0x63, SUBSTITUTED[i]);
-        }
-    }
+    try_words(&rt, &Substitutes);
 }

@@ -3,6 +3,7 @@
 ghost use Rattle.std.specs.Prelude.{◌<◌};
 
 use super::{packed, unpacked};
+use crate::tests::words::{WordTrial, try_words};
 use aes_planes::soft::mix_columns::{
     inv_mix_columns_0, inv_mix_columns_1, inv_mix_columns_2, inv_mix_columns_3, mix_columns_0,
     mix_columns_1, mix_columns_2, mix_columns_3,
@@ -177,69 +178,94 @@ fn constant<W: Word>(bit: usize) -> Block
     last_of(&planes)
 }
 
+struct ShiftedRows;
+
+impl WordTrial for ShiftedRows {
+    fn passes<W: Word>(&self) -> bool {
+        let shifted = [SHIFTED, SHIFTED_TWICE, SHIFTED_THRICE];
+        shifts::<W>(SUBSTITUTED) == shifted && shifts_back::<W>(shifted) == [SUBSTITUTED; 3]
+    }
+}
+
 #[test]
 fn shifts_rows(rt: HostRuntime) {
-    let want = [SHIFTED, SHIFTED_TWICE, SHIFTED_THRICE];
-    assert_eq!(rt; shifts::<u16>(SUBSTITUTED), want);
-    assert_eq!(rt; shifts::<u32>(SUBSTITUTED), want);
-    assert_eq!(rt; shifts::<u64>(SUBSTITUTED), want);
-    assert_eq!(rt; shifts::<u128>(SUBSTITUTED), want);
-    assert_eq!(rt; shifts_back::<u16>(want), [SUBSTITUTED; 3]);
-    assert_eq!(rt; shifts_back::<u32>(want), [SUBSTITUTED; 3]);
-    assert_eq!(rt; shifts_back::<u64>(want), [SUBSTITUTED; 3]);
-    assert_eq!(rt; shifts_back::<u128>(want), [SUBSTITUTED; 3]);
+    try_words(&rt, &ShiftedRows);
+}
+
+struct MixedColumns;
+
+impl WordTrial for MixedColumns {
+    fn passes<W: Word>(&self) -> bool {
+        mixes::<W>(DEFERRED) == DEFERRED_MIXED && mixes_back::<W>(DEFERRED_MIXED) == DEFERRED
+    }
 }
 
 #[test]
 fn mixes_columns(rt: HostRuntime) {
-    assert_eq!(rt; mixes::<u16>(DEFERRED), DEFERRED_MIXED);
-    assert_eq!(rt; mixes::<u32>(DEFERRED), DEFERRED_MIXED);
-    assert_eq!(rt; mixes::<u64>(DEFERRED), DEFERRED_MIXED);
-    assert_eq!(rt; mixes::<u128>(DEFERRED), DEFERRED_MIXED);
-    assert_eq!(rt; mixes_back::<u16>(DEFERRED_MIXED), DEFERRED);
-    assert_eq!(rt; mixes_back::<u32>(DEFERRED_MIXED), DEFERRED);
-    assert_eq!(rt; mixes_back::<u64>(DEFERRED_MIXED), DEFERRED);
-    assert_eq!(rt; mixes_back::<u128>(DEFERRED_MIXED), DEFERRED);
+    try_words(&rt, &MixedColumns);
+}
+
+struct Adds;
+
+impl WordTrial for Adds {
+    fn passes<W: Word>(&self) -> bool {
+        added::<W>(MIXED, round_key_1()) == ADDED
+    }
 }
 
 #[test]
 fn adds_a_round_key(rt: HostRuntime) {
-    assert_eq!(rt; added::<u16>(MIXED, round_key_1()), ADDED);
-    assert_eq!(rt; added::<u128>(MIXED, round_key_1()), ADDED);
+    try_words(&rt, &Adds);
     assert_eq!(rt; sum_of_blocks(&MIXED, &round_key_1()), ADDED);
+}
+
+struct MakesRoundKeys;
+
+impl WordTrial for MakesRoundKeys {
+    fn passes<W: Word>(&self) -> bool {
+        next_round_key::<W>(KEY_A1) == [round_key_1(); 2]
+    }
 }
 
 #[test]
 fn makes_a_round_key(rt: HostRuntime) {
-    assert_eq!(rt; next_round_key::<u16>(KEY_A1), [round_key_1(); 2]);
-    assert_eq!(rt; next_round_key::<u32>(KEY_A1), [round_key_1(); 2]);
-    assert_eq!(rt; next_round_key::<u64>(KEY_A1), [round_key_1(); 2]);
-    assert_eq!(rt; next_round_key::<u128>(KEY_A1), [round_key_1(); 2]);
+    try_words(&rt, &MakesRoundKeys);
+}
+
+struct Straddles;
+
+impl WordTrial for Straddles {
+    fn passes<W: Word>(&self) -> bool {
+        let mut want = [0; 16];
+        for i in 0..8usize {
+            want[i] = KEY_A1[8 + i];
+            want[8 + i] = round_key_1()[i];
+        }
+        straddled::<W>(&KEY_A1, &round_key_1()) == want
+    }
 }
 
 #[test]
 fn straddles_columns(rt: HostRuntime) {
-    let mut want = [0; 16];
-    for i in 0..8usize {
-        want[i] = KEY_A1[8 + i];
-        want[8 + i] = round_key_1()[i];
+    try_words(&rt, &Straddles);
+}
+
+struct Constants;
+
+impl WordTrial for Constants {
+    fn passes<W: Word>(&self) -> bool {
+        let values = [0x01, 0x02, 0x04, 0x08, 0x10, 0x20, 0x40, 0x80];
+        let mut right = true;
+        for bit in 0..8usize {
+            let mut want = [0u8; 16];
+            want[13] = values[bit];
+            right &= constant::<W>(bit) == want;
+        }
+        right
     }
-    assert_eq!(rt; straddled::<u16>(&KEY_A1, &round_key_1()), want);
-    assert_eq!(rt; straddled::<u128>(&KEY_A1, &round_key_1()), want);
 }
 
 #[test]
 fn adds_each_bit_of_a_constant(rt: HostRuntime) {
-    let values = [0x01, 0x02, 0x04, 0x08, 0x10, 0x20, 0x40, 0x80];
-    for bit in 0..8usize {
-        let mut want = [0u8; 16];
-        want[13] = values[bit];
-        let made = [
-            constant::<u16>(bit),
-            constant::<u32>(bit),
-            constant::<u64>(bit),
-            constant::<u128>(bit),
-        ];
-        assert_eq!(rt; made, [want; 4], "at bit {bit}");
-    }
+    try_words(&rt, &Constants);
 }

@@ -1,6 +1,7 @@
-//! Schedules and ciphers of both layouts and three sizes, on four words, against values from outside.
+//! Schedules and ciphers of both layouts and three sizes, on every word, against values from outside.
 
 use super::block;
+use crate::tests::words::{WordTrial, try_words};
 use aes_planes::soft::sbox::Layers;
 use aes_planes::soft::word::{Batch, Block, Word};
 use aes_soft::soft::full::widen;
@@ -58,38 +59,27 @@ fn full_256<W: Word>(key: &[u8; 32], plain: &[Block; 8], wanted: &[Block; 8]) ->
     works!(full, aes256, W, key, plain, wanted)
 }
 
-// Whether it works on each word. A function for each layout and size keeps the tests short, which are proved faster then.
-macro_rules! on_words {
-    ($works:ident, $key:expr, $plain:expr, $wanted:expr) => {
-        $works::<u16>($key, $plain, $wanted)
-            && $works::<u32>($key, $plain, $wanted)
-            && $works::<u64>($key, $plain, $wanted)
-            && $works::<u128>($key, $plain, $wanted)
-    };
+// Eight blocks, and their encryption under a key of each size.
+#[derive(Drop)]
+struct Encrypted {
+    plain: [Block; 8],
+    key_128: [u8; 16],
+    by_128: [Block; 8],
+    key_192: [u8; 24],
+    by_192: [Block; 8],
+    key_256: [u8; 32],
+    by_256: [Block; 8],
 }
 
-fn compact_128_on_words(key: &[u8; 16], plain: &[Block; 8], wanted: &[Block; 8]) -> bool {
-    on_words!(compact_128, key, plain, wanted)
-}
-
-fn compact_192_on_words(key: &[u8; 24], plain: &[Block; 8], wanted: &[Block; 8]) -> bool {
-    on_words!(compact_192, key, plain, wanted)
-}
-
-fn compact_256_on_words(key: &[u8; 32], plain: &[Block; 8], wanted: &[Block; 8]) -> bool {
-    on_words!(compact_256, key, plain, wanted)
-}
-
-fn full_128_on_words(key: &[u8; 16], plain: &[Block; 8], wanted: &[Block; 8]) -> bool {
-    on_words!(full_128, key, plain, wanted)
-}
-
-fn full_192_on_words(key: &[u8; 24], plain: &[Block; 8], wanted: &[Block; 8]) -> bool {
-    on_words!(full_192, key, plain, wanted)
-}
-
-fn full_256_on_words(key: &[u8; 32], plain: &[Block; 8], wanted: &[Block; 8]) -> bool {
-    on_words!(full_256, key, plain, wanted)
+impl WordTrial for Encrypted {
+    fn passes<W: Word>(&self) -> bool {
+        compact_128::<W>(&self.key_128, &self.plain, &self.by_128)
+            && full_128::<W>(&self.key_128, &self.plain, &self.by_128)
+            && compact_192::<W>(&self.key_192, &self.plain, &self.by_192)
+            && full_192::<W>(&self.key_192, &self.plain, &self.by_192)
+            && compact_256::<W>(&self.key_256, &self.plain, &self.by_256)
+            && full_256::<W>(&self.key_256, &self.plain, &self.by_256)
+    }
 }
 
 // Four blocks beside those of SP 800-38A, F.1.
@@ -132,52 +122,47 @@ fn eight(first: &[u128; 4], more: &[u128; 4]) -> [Block; 8] {
 }
 
 #[test]
-fn encrypts_and_decrypts_under_keys_of_16_bytes(rt: HostRuntime) {
-    let plain = eight(&blocks::PLAIN, &MORE);
-    let wanted = eight(&ENCRYPTED_128, &MORE_BY_128);
-    assert!(rt; compact_128_on_words(&KEY_A1, &plain, &wanted));
-    assert!(rt; full_128_on_words(&KEY_A1, &plain, &wanted));
+fn encrypts_and_decrypts_different_blocks(rt: HostRuntime) {
+    let encrypted = Encrypted {
+        plain: eight(&blocks::PLAIN, &MORE),
+        key_128: KEY_A1,
+        by_128: eight(&ENCRYPTED_128, &MORE_BY_128),
+        key_192: KEY_A2,
+        by_192: eight(&ENCRYPTED_192, &MORE_BY_192),
+        key_256: KEY_A3,
+        by_256: eight(&ENCRYPTED_256, &MORE_BY_256),
+    };
+    try_words(&rt, &encrypted);
 }
 
+// FIPS 197, appendices C.1 to C.3.
 #[test]
-fn encrypts_and_decrypts_under_keys_of_24_bytes(rt: HostRuntime) {
-    let plain = eight(&blocks::PLAIN, &MORE);
-    let wanted = eight(&ENCRYPTED_192, &MORE_BY_192);
-    assert!(rt; compact_192_on_words(&KEY_A2, &plain, &wanted));
-    assert!(rt; full_192_on_words(&KEY_A2, &plain, &wanted));
+fn encrypts_and_decrypts_the_standards_block(rt: HostRuntime) {
+    let encrypted = Encrypted {
+        plain: [block(PLAIN); 8],
+        key_128: KEY_128,
+        by_128: [block(BY_128); 8],
+        key_192: KEY_192,
+        by_192: [block(BY_192); 8],
+        key_256: KEY_256,
+        by_256: [block(BY_256); 8],
+    };
+    try_words(&rt, &encrypted);
 }
 
+// The zero block under the zero keys, by OpenSSL.
 #[test]
-fn encrypts_and_decrypts_under_keys_of_32_bytes(rt: HostRuntime) {
-    let plain = eight(&blocks::PLAIN, &MORE);
-    let wanted = eight(&ENCRYPTED_256, &MORE_BY_256);
-    assert!(rt; compact_256_on_words(&KEY_A3, &plain, &wanted));
-    assert!(rt; full_256_on_words(&KEY_A3, &plain, &wanted));
-}
-
-// FIPS 197, appendices C.1 to C.3, and the zero block under the zero keys, by OpenSSL.
-#[test]
-fn encrypts_and_decrypts_the_standards_blocks(rt: HostRuntime) {
-    let rows = [
-        (KEY_128, KEY_192, KEY_256, PLAIN, [BY_128, BY_192, BY_256]),
-        (
-            [0; 16],
-            [0; 24],
-            [0; 32],
-            0,
-            [ZEROS_BY_128, ZEROS_BY_192, ZEROS_BY_256],
-        ),
-    ];
-    for (key_128, key_192, key_256, start, wanted) in rows {
-        let plain = [block(start); 8];
-        let [by_128, by_192, by_256] = wanted;
-        assert!(rt; compact_128_on_words(&key_128, &plain, &[block(by_128); 8]));
-        assert!(rt; full_128_on_words(&key_128, &plain, &[block(by_128); 8]));
-        assert!(rt; compact_192_on_words(&key_192, &plain, &[block(by_192); 8]));
-        assert!(rt; full_192_on_words(&key_192, &plain, &[block(by_192); 8]));
-        assert!(rt; compact_256_on_words(&key_256, &plain, &[block(by_256); 8]));
-        assert!(rt; full_256_on_words(&key_256, &plain, &[block(by_256); 8]));
-    }
+fn encrypts_and_decrypts_the_zero_block(rt: HostRuntime) {
+    let encrypted = Encrypted {
+        plain: [[0; 16]; 8],
+        key_128: [0; 16],
+        by_128: [block(ZEROS_BY_128); 8],
+        key_192: [0; 24],
+        by_192: [block(ZEROS_BY_192); 8],
+        key_256: [0; 32],
+        by_256: [block(ZEROS_BY_256); 8],
+    };
+    try_words(&rt, &encrypted);
 }
 
 // Round key 1 of the zero key is 62 63 63 63 in each column (FIPS 197, 5.2): with 0x63 added 01 in row 0, and plane 0
