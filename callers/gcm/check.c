@@ -1,7 +1,7 @@
-/* The library of GCM from C: test cases 1 to 4, 13 and 16 of the submission of GCM (McGrew and Viega, appendix B);
- * texts of 0 to 700 bytes there and back, and beside OpenSSL with WITH_OPENSSL; every status; that nothing is written
- * after a refusal; NULL with a length of 0; counted nonces; messages in pieces, cut in many ways and out of turn; the
- * wipe. The last line is `N passed, N failed`. */
+/* The library of GCM from C: test cases 1 to 4, 13 and 16 of the submission of GCM (McGrew and Viega, appendix B), and
+ * nonces under which the counter wraps; texts of 0 to 700 bytes there and back, and beside OpenSSL with WITH_OPENSSL;
+ * every status; that nothing is written after a refusal; NULL with a length of 0; counted nonces; messages in pieces,
+ * cut in many ways and out of turn; the wipe. The last line is `N passed, N failed`. */
 #include <fotsgure_gcm.h>
 
 #ifdef WITH_OPENSSL
@@ -52,6 +52,21 @@ static int all(const void *bytes, size_t count, uint8_t value)
 #define CIPHER_32 "522dc1f099567d07f47f37a32a84427d643a8cdcbfe5c0c97598a2bd2555d1aa" \
     "8cb08e48590dbb3da7b08b1056828838c5f61e6393ba7a0abcc9f662"
 
+/* Nonces under which the last 32 bits of the counter wrap in the text: a random one does so once in 2^28 times. J_0 was
+ * chosen to end in fffffffd and in ffffffff, so that the third block and the first are those of the counter 0, and the
+ * nonce N of one block follows from J_0 = (N H + L) H, where L is the block of its length. The cipher texts and tags are
+ * those of OpenSSL's libcrypto. */
+enum { WRAPS = 2, WRAP_LENGTH = 70 };
+#define WRAP_THIRD "520f83f07980ff6e39a219f2b2be77da"
+#define WRAP_FIRST "4384f2e1345fa9cc9d0989c25d707885"
+#define WRAP_ADDITIONAL "feedfacedeadbeef"
+#define WRAP_PLAIN "0102030405060708090a0b0c0d0e0f101112131415161718191a1b1c1d1e1f202122232425262728292a2b2c2d2e2f30" \
+    "3132333435363738393a3b3c3d3e3f40414243444546"
+#define WRAP_CIPHER_THIRD "54f22114b4b300e52aa7248e3a109c09bfdcf08b8e235047476de9eb2e771c543e606a19502f0534899807a369e3a335" \
+    "03752b7f09795e9c7486e914ba858b58daf06fa39cb5"
+#define WRAP_CIPHER_FIRST "1e404a39700f2514a9b8278349c3831523550b5f29597ebc54a6c9349aa5ab38ba900fc3fcd555e9c701035e060bdd36" \
+    "543fbb480c00640222b775229ea3141c7cab5b638448"
+
 static const struct { const char *key, *nonce, *additional, *plain, *cipher, *tag; } cases[] = {
     {ZERO_KEY, ZERO_NONCE, "", "", "", "58e2fccefa7e3061367f1d57a4e7455a"},
     {ZERO_KEY, ZERO_NONCE, "", ZERO_KEY, "0388dace60b6a392f328c2b971b2fe78", "ab6e47d42cec13bdf53a67b21257bddf"},
@@ -59,24 +74,25 @@ static const struct { const char *key, *nonce, *additional, *plain, *cipher, *ta
     {KEY, NONCE, ADDITIONAL, PLAIN, CIPHER_16, "5bc94fbc3221a5db94fae95ae7121a47"},
     {ZERO_KEY ZERO_KEY, ZERO_NONCE, "", "", "", "530f8afbc74536b9a963b4f1c4cb738b"},
     {KEY KEY, NONCE, ADDITIONAL, PLAIN, CIPHER_32, "76fc6ece0f4e1768cddf8853bb2d551b"},
+    {KEY, WRAP_THIRD, WRAP_ADDITIONAL, WRAP_PLAIN, WRAP_CIPHER_THIRD, "2bb267d3f606892268029de02d67a467"},
+    {KEY, WRAP_FIRST, WRAP_ADDITIONAL, WRAP_PLAIN, WRAP_CIPHER_FIRST, "7588ddf7ad6e4dc32185f8861ef1b8d8"},
 };
 
 static void published(void)
 {
     for (size_t i = 0; i < sizeof cases / sizeof *cases; i++) {
-        uint8_t key[32], nonce[12], additional[32], plain[64], cipher[64], text[64], wanted[16], tag[16];
+        uint8_t key[32], nonce[16], additional[32], plain[80], cipher[80], text[80], wanted[16], tag[16];
         size_t key_length = from_hex(key, cases[i].key), extra = from_hex(additional, cases[i].additional);
-        size_t length = from_hex(plain, cases[i].plain);
+        size_t length = from_hex(plain, cases[i].plain), bytes = from_hex(nonce, cases[i].nonce);
         struct fotsgure_gcm gcm;
-        from_hex(nonce, cases[i].nonce);
         from_hex(cipher, cases[i].cipher);
         from_hex(wanted, cases[i].tag);
         memcpy(text, plain, sizeof text);
         expect(fotsgure_gcm_set_key(&gcm, key, key_length) == FOTSGURE_GCM_DONE &&
             fotsgure_gcm_key_length(&gcm) == key_length, "set_key", key_length);
-        expect(fotsgure_gcm_seal(&gcm, nonce, 12, additional, extra, text, length, tag) == FOTSGURE_GCM_DONE &&
+        expect(fotsgure_gcm_seal(&gcm, nonce, bytes, additional, extra, text, length, tag) == FOTSGURE_GCM_DONE &&
             memcmp(text, cipher, length) == 0 && memcmp(tag, wanted, 16) == 0, "seal", i);
-        expect(fotsgure_gcm_open(&gcm, nonce, 12, additional, extra, text, length, tag, 16) == FOTSGURE_GCM_DONE &&
+        expect(fotsgure_gcm_open(&gcm, nonce, bytes, additional, extra, text, length, tag, 16) == FOTSGURE_GCM_DONE &&
             memcmp(text, plain, length) == 0, "open", i);
         fotsgure_gcm_wipe(&gcm);
         expect(all(&gcm, sizeof gcm, 0), "wipe", i);
@@ -295,6 +311,21 @@ static void out_of_turn(const struct fotsgure_gcm *gcm)
     }
 }
 
+/* Messages under the nonces of the last cases, in pieces that end before the wrap, there and behind it. */
+static void wraps_in_pieces(void)
+{
+    const size_t count = sizeof cases / sizeof *cases;
+    for (size_t i = count - WRAPS; i < count; i++) {
+        uint8_t key[16], nonce[16];
+        struct fotsgure_gcm gcm;
+        if (fotsgure_gcm_set_key(&gcm, key, from_hex(key, cases[i].key)) != FOTSGURE_GCM_DONE)
+            abort();
+        for (size_t piece = 1; piece <= WRAP_LENGTH; piece++)
+            expect(cut(&gcm, nonce, from_hex(nonce, cases[i].nonce), piece, 20, WRAP_LENGTH), "cut at a wrap", piece);
+        fotsgure_gcm_wipe(&gcm);
+    }
+}
+
 static void pieces(void)
 {
     uint8_t key[32] = {3}, nonce[60] = {4};
@@ -311,6 +342,7 @@ static void pieces(void)
         for (size_t piece = 1; piece <= 67; piece += 1 + piece / 3)
             expect(cut(&gcm, nonce, piece % 2 ? 12 : 1 + length % 60, piece, length * 7 % 200, length), "cut", length);
     out_of_turn(&gcm);
+    wraps_in_pieces();
     if (fotsgure_gcm_begin(&gcm, &message, nonce, 12) != FOTSGURE_GCM_DONE)
         abort();
     before = message;

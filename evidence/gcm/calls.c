@@ -14,6 +14,18 @@ static struct fotsgure_gcm gcm;
 static struct fotsgure_gcm_counter counter;
 static uint8_t key[33], nonce[ROOM], additional[MOST], text[MOST], before[MOST], tag[16];
 static uint64_t state = 0x9e3779b97f4a7c15u;
+
+/* A key and two nonces of 16 bytes under which the counter wraps at the third block of a text and at the first, of
+   callers/gcm/check.c. Where it wraps is told by the lengths of the two runs of counters: with this key known, nothing
+   else may be. */
+static const uint8_t wrap_key[16] = {0xfe, 0xff, 0xe9, 0x92, 0x86, 0x65, 0x73, 0x1c, 0x6d, 0x6a, 0x8f, 0x94, 0x67, 0x30,
+    0x83, 0x08};
+static const uint8_t wrap_nonces[2][16] = {
+    {0x52, 0x0f, 0x83, 0xf0, 0x79, 0x80, 0xff, 0x6e, 0x39, 0xa2, 0x19, 0xf2, 0xb2, 0xbe, 0x77, 0xda},
+    {0x43, 0x84, 0xf2, 0xe1, 0x34, 0x5f, 0xa9, 0xcc, 0x9d, 0x09, 0x89, 0xc2, 0x5d, 0x70, 0x78, 0x85},
+};
+/* Which of them is taken in place of a random key and nonce, from 1 on; and whether its key is known. */
+static int wrapping, known_key;
 static unsigned reports;
 
 static void fill(void *at, size_t bytes)
@@ -58,7 +70,7 @@ static void end(const char *name, const char *wanted, unsigned told, int works)
     printf("%s\t%s\t%s\t%u\n", name, wanted, verdict, now);
 }
 
-/* A secret key, prepared, and secret data. */
+/* A secret key, prepared, and secret data; or the key and a nonce under which the counter wraps. */
 static void prepare(size_t key_bytes, size_t extra, size_t length)
 {
     fill(key, sizeof key);
@@ -66,7 +78,12 @@ static void prepare(size_t key_bytes, size_t extra, size_t length)
     fill(additional, MOST);
     fill(text, MOST);
     memcpy(before, text, MOST);
-    secret(key, key_bytes);
+    if (wrapping) {
+        memcpy(key, wrap_key, 16);
+        memcpy(nonce, wrap_nonces[wrapping - 1], 16);
+    }
+    if (!known_key)
+        secret(key, key_bytes);
     if (fotsgure_gcm_set_key(&gcm, key, key_bytes) != FOTSGURE_GCM_DONE)
         abort();
     secret(additional, extra);
@@ -122,7 +139,7 @@ static void seal(size_t key_bytes, size_t bytes, size_t extra, size_t length)
     prepare(key_bytes, extra, length);
     begin(name);
     int done = fotsgure_gcm_seal(&gcm, nonce, bytes, additional, extra, text, length, tag) == FOTSGURE_GCM_DONE;
-    end(name, "clean", bytes != 12, is_secret_tag() && done && written(length));
+    end(name, "clean", bytes != 12 && !known_key, is_secret_tag() && done && written(length));
 }
 
 static void seal_next(size_t key_bytes, size_t extra, size_t length)
@@ -159,7 +176,7 @@ static void open(size_t key_bytes, size_t bytes, size_t extra, size_t length, in
         known(text, MOST);
         end(name, "clean", 1, status == FOTSGURE_GCM_REFUSED && memcmp(text, before, MOST) == 0);
     } else {
-        end(name, "clean", 1 + (bytes != 12), status == FOTSGURE_GCM_DONE && written(length));
+        end(name, "clean", 1 + (bytes != 12 && !known_key), status == FOTSGURE_GCM_DONE && written(length));
     }
     known(tag, 16);
 }
@@ -178,7 +195,7 @@ static void in_pieces(size_t key_bytes, size_t bytes, size_t piece, size_t lengt
 {
     char name[80];
     struct fotsgure_gcm_message message;
-    unsigned wraps = bytes != 12;
+    unsigned wraps = bytes != 12 && !known_key;
     size_t at = 0, n = 20;
     prepare(key_bytes, n, length);
     PIECE(fotsgure_gcm_begin, 0, tainted(&message, 32) == 0, &gcm, &message, nonce, bytes);
@@ -218,6 +235,22 @@ static void in_pieces(size_t key_bytes, size_t bytes, size_t piece, size_t lengt
     end(name, "clean", 0, tainted(&message, sizeof message) == 0);
     known(text, MOST);
     known(additional, MOST);
+}
+
+/* Texts within which the counter wraps, under a known key. */
+static void wraps(void)
+{
+    known_key = 1;
+    for (wrapping = 1; wrapping <= 2; wrapping++) {
+        for (size_t length = 1; length <= 400; length += 13) {
+            seal(16, 16, 20, length);
+            open(16, 16, 20, length, 0);
+            open(16, 16, 20, length, 1);
+        }
+        for (size_t piece = 1; piece <= 70; piece += 1 + piece / 2)
+            in_pieces(16, 16, piece, 70);
+    }
+    wrapping = known_key = 0;
 }
 
 /* What is refused before a secret is looked at. */
@@ -305,6 +338,7 @@ int main(void)
             in_pieces(bytes, 12, piece, 130 + piece);
             in_pieces(bytes, 8, piece, 130 + piece);
         }
+    wraps();
     refused();
     plants();
     printf("end\n");

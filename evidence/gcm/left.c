@@ -1,8 +1,8 @@
 /* Makes calls of the library of GCM on a stack of its own that is filled with a pattern, and searches that stack and
  * the vector registers for what each call left: 8 bytes of the key, of a stored round key, of the multiples, of H or
- * its powers, of the tag's mask, of a hash, of the tag that a refused message should have had, of the first counter
- * block of a nonce of another length, of keystream. Blocks that are numbers to the library are searched in both orders
- * of their bytes. One line a call and a size of keys, with tabs. */
+ * its powers, of the tag's mask, of a hash, after the message and after each block of it, of the tag that a refused
+ * message should have had, of the first counter block of a nonce of another length, of keystream. Blocks that are
+ * numbers to the library are searched in both orders of their bytes. One line a call and a size of keys, with tabs. */
 #include "../left.h"
 #include "fotsgure_gcm.h"
 
@@ -13,8 +13,8 @@ static struct fotsgure_gcm kept;
 static struct fotsgure_gcm_counter counter;
 static struct fotsgure_gcm_message message;
 static uint8_t key[32], nonce[16], additional[BYTES], text[BYTES], keystream[BYTES];
-static uint8_t subkey[3][16], mask[16], hash[16], expected[16], first[16], tag[16];
-static size_t size, length, extra, nonce_length;
+static uint8_t subkey[3][16], mask[16], hash[16], expected[16], first[16], tag[16], values[PIECES][16];
+static size_t hashed, size, length, extra, nonce_length;
 static int failed;
 
 static void done(enum fotsgure_gcm_status status) { failed |= status != FOTSGURE_GCM_DONE; }
@@ -133,6 +133,7 @@ static const struct call { const char *name; void (*it)(void); size_t nonce, ext
     {"open_pieces_64", open_pieces, 12, 20, 64}, {"open_pieces_2000", open_pieces, 12, 100, 2000},
     {"open_pieces_refused_64", open_pieces_refused, 12, 20, 64},
     {"open_pieces_unverified_64", open_pieces_unverified, 12, 20, 64},
+    {"seal_pieces_64_nonce_of_8", seal_pieces, 8, 20, 64}, {"open_pieces_64_nonce_of_16", open_pieces, 16, 20, 64},
 };
 
 /* The product of two blocks, bit by bit (SP 800-38D, 6.3). */
@@ -168,6 +169,17 @@ static void powers(void)
     times(first, first, subkey[0]);
 }
 
+/* The values of GHASH after each block of additional data or of a cipher text. */
+static void hash_on(uint8_t value[16], const uint8_t *bytes, size_t count)
+{
+    for (size_t i = 0; i < count; i += 16) {
+        for (size_t k = 0; k < 16 && i + k < count; k++)
+            value[k] ^= bytes[i + k];
+        times(value, value, subkey[0]);
+        memcpy(values[hashed++], value, 16);
+    }
+}
+
 /* A key of its own for each run, its struct, and a message to seal or to open, with all that it is made by. The tag of
  * no bytes at all is the mask, since their hash is zero. */
 static void prepare(int number, const struct call *call)
@@ -193,6 +205,10 @@ static void prepare(int number, const struct call *call)
     done(fotsgure_gcm_seal(&kept, nonce, nonce_length, additional, extra, text, length, expected));
     for (int i = 0; i < 16; i++)
         hash[i] = expected[i] ^ mask[i];
+    uint8_t value[16] = {0};
+    hashed = 0;
+    hash_on(value, additional, extra);
+    hash_on(value, text, length);
     for (size_t i = 0; i < length && !opens; i++)
         text[i] ^= keystream[i];
 }
@@ -241,6 +257,8 @@ static void collect(const struct call *call)
     if (extra + length)
         add_block(mask, MASK, 0);
     add_block(hash, HASH, 0);
+    for (size_t i = 0; i < hashed; i++)
+        add_block(values[i], HASH, 1 + (int)i);
     /* Who seals or opens a message has its tag; that of a refused one is nobody's. */
     if (!seals && !(opens && !strstr(call->name, "refused")))
         add_block(expected, EXPECTED, 0);
