@@ -6,17 +6,18 @@
  *
  * For every call, the caller must ensure:
  *  - No nonce twice under one key, counted over all messages, programs and machines: a second use gives away the key of
- *    the tags and the sum of two messages. fotsgure_gcm_seal_next counts nonces up. If you draw them at random, take a
- *    new key before 2^32 messages.
+ *    the tags and the sum of two messages. fotsgure_gcm_seal_next counts nonces up. Random nonces have 12 bytes or more.
+ *    If any nonce of a key is random, or has another length than 12 bytes, take a new key before 2^32 messages
+ *    (8.2.2, 8.3).
  *  - Valid pointers. A pointer to a struct points to a whole one, aligned as C aligns it; every other pointer points to
  *    as many bytes as the length beside it says, or as its array has. Bytes need no alignment. What a call reads has
  *    been initialized.
  *  - No object of more than PTRDIFF_MAX bytes.
  *  - No overlap: what a call writes overlaps nothing else that it is given. What a call only reads may overlap.
  *  - A struct fotsgure_gcm that fotsgure_gcm_set_key or fotsgure_gcm_wipe wrote last, or a copy of such a struct, or one
- *    whose bytes are all 0. A struct fotsgure_gcm_message may hold anything but uninitialized bytes. What calls say of
- *    a message is so if all its calls had the same key, the first was fotsgure_gcm_begin, and nothing else wrote the
- *    struct.
+ *    whose bytes are all 0. A struct fotsgure_gcm_message may hold anything but uninitialized bytes; for
+ *    fotsgure_gcm_begin and fotsgure_gcm_wipe_message it may be uninitialized too. What calls say of a message is so if
+ *    all its calls had the same key, the first was fotsgure_gcm_begin, and nothing else wrote the struct.
  *  - No data race: during the call no other thread writes what it reads, or reads or writes what it writes.
  *  - FOTSGURE_GCM_STACK bytes of stack. On x86-64 a processor with SSE4.2 and SSSE3 (x86-64-v2); on 64-bit ARM any
  *    processor, little-endian. The library is for Linux.
@@ -88,8 +89,11 @@ struct fotsgure_gcm {
     uint8_t multiples[1536];
 };
 
-/* The next nonce of a key: 12 bytes, one number, highest byte first. Begin with zeros, or with a number of your own for
- * each of several senders, and store it before a message is sent. The last number is never used. */
+/* The next nonce of a key: 12 bytes, one number, highest byte first. Begin with zeros. If several senders share a key,
+ * give each a number of its own in the first four bytes, and zeros in the other eight: no call sees where the range of
+ * a sender ends. After each call, and before the message is sent, store `next`: after a restart, begin with what was
+ * stored. fork() copies a counter too: then only one of the two processes may go on with it. The last number of 12
+ * bytes is never used. */
 struct fotsgure_gcm_counter {
     uint8_t next[FOTSGURE_GCM_NONCE];
 };
@@ -99,7 +103,8 @@ struct fotsgure_gcm_message {
     uint64_t additional; /* bytes that have come */
     uint64_t text;
     uint64_t decrypted;
-    uint64_t phase; /* 0: no message; 1: additional data; 2: text encrypted; 3: text verified; 4: text decrypted */
+    uint64_t phase; /* 0: no message; 1: additional data; 2: text to encrypt; 3: text whose tag is to be compared;
+                     * 4: text to decrypt, whose tag was right */
     uint8_t first[16];
     uint8_t value[16];
     uint8_t rest[16];
@@ -127,7 +132,8 @@ void fotsgure_gcm_wipe(struct fotsgure_gcm *gcm) FOTSGURE_GCM_NOEXCEPT;
 
 /* Encrypts `text_length` bytes in place and writes the tag, which shows whether the text or the additional data was
  * changed (7.1). The additional data isn't encrypted, nor is it part of the text. A nonce may have any length from
- * one byte on. With 12 bytes no time was found to depend on it.
+ * one byte on, but take 12 bytes if you can: with another length, the time of a call can tell something of the key,
+ * namely whether a counter of 32 bits wraps within the text, and where.
  * NONCE_LENGTH, TOO_LONG or NO_KEY; else DONE. */
 FOTSGURE_GCM_CHECK enum fotsgure_gcm_status fotsgure_gcm_seal(const struct fotsgure_gcm *gcm,
     const uint8_t *nonce, size_t nonce_length,
@@ -159,10 +165,12 @@ FOTSGURE_GCM_CHECK enum fotsgure_gcm_status fotsgure_gcm_open(const struct fotsg
  *
  * A call that comes out of turn is refused and changes nothing, and so is one that would make the message longer than
  * the standard allows. Nothing of a message is decrypted before its tag is found right, unless you ask for it by
- * fotsgure_gcm_decrypt_unverified. A message may be left, and begun anew, at any time; wipe it when you are done. */
+ * fotsgure_gcm_decrypt_unverified. A message may be given up at any time; wipe it when you are done. Once some of its
+ * text was encrypted, its nonce is used, even if the message was never finished: begin anew under another one. */
 
 /* Begins a message under a nonce, which has any length. *message may be uninitialized: none of it is read, and nothing
- * of what it held is left. A refused call leaves it as it was.
+ * of what it held is left. A refused call leaves it as it was. It moves no counter: never give it the `next` of a
+ * counter that fotsgure_gcm_seal_next goes on with.
  * NONCE_LENGTH or NO_KEY; else DONE. */
 FOTSGURE_GCM_CHECK enum fotsgure_gcm_status fotsgure_gcm_begin(const struct fotsgure_gcm *gcm,
     struct fotsgure_gcm_message *FOTSGURE_GCM_ALONE message,
@@ -185,7 +193,8 @@ FOTSGURE_GCM_CHECK enum fotsgure_gcm_status fotsgure_gcm_encrypt(const struct fo
 FOTSGURE_GCM_CHECK enum fotsgure_gcm_status fotsgure_gcm_finish(const struct fotsgure_gcm *gcm,
     struct fotsgure_gcm_message *FOTSGURE_GCM_ALONE message, uint8_t tag[FOTSGURE_GCM_TAG]) FOTSGURE_GCM_NOEXCEPT;
 
-/* Takes a piece of an encrypted text whose tag is to be compared, and writes nothing to it.
+/* Takes a piece of an encrypted text whose tag is to be compared, and writes nothing to it. DONE doesn't say that the
+ * text is authentic: only fotsgure_gcm_accept says so, of all of it.
  * NO_KEY, OUT_OF_TURN or TOO_LONG; else DONE. */
 FOTSGURE_GCM_CHECK enum fotsgure_gcm_status fotsgure_gcm_verify(const struct fotsgure_gcm *gcm,
     struct fotsgure_gcm_message *FOTSGURE_GCM_ALONE message,
@@ -199,7 +208,8 @@ FOTSGURE_GCM_CHECK enum fotsgure_gcm_status fotsgure_gcm_accept(const struct fot
     const uint8_t *tag, size_t tag_length) FOTSGURE_GCM_NOEXCEPT;
 
 /* Decrypts a piece in place of the encrypted text whose tag was right: give the same text once more, from its beginning
- * on, and no more of it. The library doesn't see whether it is the same.
+ * on, and no more of it. The library doesn't see whether it is the same, nor whether all of it has come: count the
+ * bytes of both passes.
  * NO_KEY, OUT_OF_TURN or TOO_LONG; else DONE. */
 FOTSGURE_GCM_CHECK enum fotsgure_gcm_status fotsgure_gcm_decrypt(const struct fotsgure_gcm *gcm,
     struct fotsgure_gcm_message *FOTSGURE_GCM_ALONE message,
@@ -217,7 +227,8 @@ void fotsgure_gcm_wipe_message(struct fotsgure_gcm_message *message) FOTSGURE_GC
 
 /* NULL with a length of 0: the library takes no NULL, so each call below hands on an address that is not NULL instead,
  * and that nothing reads or writes. Whoever calls the library without this header does the same. A pointer to a
- * function, and a name in parentheses, is the library's call itself. */
+ * function, and a name in parentheses, is the library's call itself. These are macros, so put a compound literal among
+ * the arguments in parentheses: ((uint8_t[12]){1, 2}). */
 static inline const uint8_t *fotsgure_gcm_not_null(const uint8_t *bytes) FOTSGURE_GCM_NOEXCEPT
 {
     return bytes ? bytes : FOTSGURE_GCM_CAST(const uint8_t *, (uintptr_t)FOTSGURE_GCM_TAG);

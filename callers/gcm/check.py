@@ -38,7 +38,7 @@ for key, nonce, additional, plain, sealed in CASES:
         expect(gcm.seal(nonce, plain, additional).hex() == sealed, "seal")
         expect(gcm.open(nonce, bytes.fromhex(sealed), additional) == plain, "open")
         expect(raises(Refused, gcm.open, nonce, bytes.fromhex(sealed), additional + b"\0"), "other additional data")
-with Gcm(KEY) as gcm:
+with Gcm(KEY, bytes(12)) as gcm:
     for length in range(301):
         text = bytes(i % 251 for i in range(length))
         nonce, sealed = gcm.seal_next(text, text[:length // 3])
@@ -47,7 +47,8 @@ with Gcm(KEY) as gcm:
         changed[length // 2] ^= 4
         expect(raises(Refused, gcm.open, nonce, changed, text[:length // 3]), f"{length} bytes, changed")
     expect(int.from_bytes(gcm.counter, "big") == 301, "the counter")
-    expect(raises(ValueError, gcm.open, NONCE, bytes(15)), "a tag of another length")
+    expect(raises(Refused, gcm.open, NONCE, bytes(15)), "a tag that was cut")
+    expect(raises(Refused, gcm.open, b"", bytes(16)), "a nonce that was cut")
     expect(raises(ValueError, gcm.seal, b"", PLAIN), "no nonce")
     expect(Gcm(KEY, gcm.counter).seal_next(b"")[0] == bytes(10) + b"\x01\x2d", "the stored counter")
 with Gcm(KEY) as gcm:
@@ -72,6 +73,8 @@ with Gcm(KEY) as gcm:
         expect(raises(Refused, other.accept, tag), "a message without its additional data")
 expect(raises(ValueError, gcm.seal, NONCE, PLAIN), "a wiped key")
 expect(raises(ValueError, Gcm(KEY, b"\xff" * 12).seal_next, PLAIN), "no nonce is left")
+expect(raises(ValueError, Gcm(KEY).seal_next, PLAIN), "no counter")
+expect(raises(ValueError, Gcm, KEY, bytes(13)), "a counter of another length")
 expect(raises(ValueError, Gcm, KEY[1:]), "a key of another length")
 expect(VERSION == 100, "the version")
 print(f"{sum(checks)} passed, {len(checks) - sum(checks)} failed")

@@ -1,20 +1,22 @@
 """Authenticated encryption by AES-GCM over the shared library by ctypes.
 
-    with Gcm(key) as gcm:
-        sealed = gcm.seal(nonce, text, additional)      the encrypted text and its tag of 16 bytes behind it
+    with Gcm(key, counter) as gcm:                      counter: what was stored, or bytes(12) with a new key
+        nonce, sealed = gcm.seal_next(text, additional) under the next nonce: store gcm.counter, then send both
         text = gcm.open(nonce, sealed, additional)      raises Refused if anything was changed
-        nonce, sealed = gcm.seal_next(text, additional) under the next nonce; gcm.counter is what to store
+        sealed = gcm.seal(nonce, text, additional)      under a nonce of yours; the tag's 16 bytes are the last
 
         message = gcm.begin(nonce)                      a message in pieces: message.additional(bytes), and then
         message.encrypt(bytes) .., message.finish()     the tag, or
         message.verify(bytes) .., message.accept(tag), message.decrypt(bytes) ..    the same text in both passes
 
-No nonce may be used twice under a key. FOTSGURE_GCM names the library's file; without it the loader searches. Python
+No nonce may be used twice under a key. Random ones have 12 bytes or more; if any nonce of a key is random or has another
+length than 12 bytes, take a new key before 2^32 messages. FOTSGURE_GCM names the library's file; without it the loader searches. Python
 copies bytes as it likes, so only the prepared key is wiped.
 """
 import ctypes
 import ctypes.util
 import os
+import threading
 
 
 class Refused(Exception):
@@ -85,16 +87,20 @@ def _room(data):
 
 class Gcm:
     """A key of 16, 24 or 32 bytes. `wipe`, or the end of a `with`, wipes what was prepared of it, not the bytes given.
-    `counter` is the next nonce of `seal_next`: store it, and give it to the next Gcm of the same key."""
+    `counter` is the next nonce of `seal_next`, and None without one: store it before a message is sent, and give it to the
+    next Gcm of the same key. Threads may share a Gcm until it is wiped; processes that fork may not share a counter."""
 
-    def __init__(self, key, counter=bytes(12)):
-        self._key, self._counter = _Key(), _Counter.from_buffer_copy(bytes(counter))
+    def __init__(self, key, counter=None):
+        if counter is not None and len(counter) != 12:
+            raise ValueError("a counter has 12 bytes")
+        self._key, self._turn = _Key(), threading.Lock()
+        self._counter = None if counter is None else _Counter.from_buffer_copy(bytes(counter))
         key = bytes(key)
         _check(_c.fotsgure_gcm_set_key(self._key, key, len(key)))
 
     @property
     def counter(self):
-        return bytes(self._counter.next)
+        return None if self._counter is None else bytes(self._counter.next)
 
     def seal(self, nonce, text, additional=b""):
         """Encrypts: returns the encrypted text and the tag behind it."""
@@ -104,14 +110,19 @@ class Gcm:
 
     def seal_next(self, text, additional=b""):
         """Encrypts under the counter's next nonce: returns that nonce, and what `seal` returns."""
+        if self._counter is None:
+            raise ValueError("no counter was given")
         nonce, additional, room, tag = _room(bytes(12)), bytes(additional), _room(text), _room(bytes(16))
-        _check(_c.fotsgure_gcm_seal_next(self._key, self._counter, nonce, additional, len(additional), room, len(text),
-                                         tag))
+        with self._turn:
+            _check(_c.fotsgure_gcm_seal_next(self._key, self._counter, nonce, additional, len(additional), room,
+                                             len(text), tag))
         return nonce.raw[:12], room.raw[:len(text)] + tag.raw[:16]
 
     def open(self, nonce, sealed, additional=b""):
-        """Decrypts what `seal` returned, or raises Refused."""
+        """Decrypts what `seal` returned, or raises Refused: also if the nonce is empty, or the tag isn't whole."""
         nonce, additional, sealed = bytes(nonce), bytes(additional), bytes(sealed)
+        if not nonce or len(sealed) < 16:
+            raise Refused("the message was cut")
         text, tag = sealed[:-16], sealed[-16:]
         room = _room(text)
         _check(_c.fotsgure_gcm_open(self._key, nonce, len(nonce), additional, len(additional), room, len(text), tag,

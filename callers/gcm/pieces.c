@@ -20,28 +20,32 @@ static int seal_file(const struct fotsgure_gcm *gcm, const uint8_t nonce[12], FI
     if (!status)
         status = fotsgure_gcm_finish(gcm, &message, tag);
     fotsgure_gcm_wipe_message(&message);
-    return status || ferror(in) || fflush(out);
+    return status || ferror(in) || fflush(out) || ferror(out);
 }
 
-/* Reads the file twice. Nobody may write it in between: the second time nothing is compared. */
+/* Reads the file twice. Nobody may write it in between: the second time only its length is compared. */
 static int open_file(const struct fotsgure_gcm *gcm, const uint8_t nonce[12], FILE *in, FILE *out, const uint8_t tag[16])
 {
     struct fotsgure_gcm_message message;
     uint8_t piece[4096];
     size_t n;
+    uint64_t missing = 0;
     enum fotsgure_gcm_status status = fotsgure_gcm_begin(gcm, &message, nonce, 12);
-    while (!status && (n = fread(piece, 1, sizeof piece, in)) > 0)
+    while (!status && (n = fread(piece, 1, sizeof piece, in)) > 0) {
         status = fotsgure_gcm_verify(gcm, &message, piece, n);
+        missing += n;
+    }
     if (!status)
         status = fotsgure_gcm_accept(gcm, &message, tag, 16);
     rewind(in);
     while (!status && (n = fread(piece, 1, sizeof piece, in)) > 0) {
         status = fotsgure_gcm_decrypt(gcm, &message, piece, n);
+        missing -= n;
         if (!status)
             fwrite(piece, 1, n, out);
     }
     fotsgure_gcm_wipe_message(&message);
-    return status || ferror(in) || fflush(out);
+    return status || missing || ferror(in) || fflush(out) || ferror(out);
 }
 
 /* Whether two files have the same bytes. */

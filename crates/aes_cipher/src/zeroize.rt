@@ -90,7 +90,8 @@ fn overwrite<E: Copy>(elements: &mut [E], element: E)
 }
 
 /// A value that is overwritten with zeros when it is dropped: what stands inside has a drop of its own, which requires
-/// that it is zero by then. It is neither `Copy` nor `Clone`. Contracts see the value.
+/// that it is zero by then. It is neither `Copy` nor `Clone`. Contracts see the value. Give it two elements or more: of a
+/// single one a compiler was seen to leave out the zeros.
 pub struct Wiped<V: Zeroize> {
     inside: MustWipe<V>,
 }
