@@ -285,13 +285,14 @@ static void out_of_turn(const struct fotsgure_gcm *gcm)
 {
     enum { DONE = FOTSGURE_GCM_DONE, OUT = FOTSGURE_GCM_OUT_OF_TURN, LONG = FOTSGURE_GCM_TOO_LONG,
            REFUSED = FOTSGURE_GCM_REFUSED };
-    static const int answers[6][6] = {
-        {OUT, OUT, OUT, OUT, OUT, OUT}, {DONE, DONE, DONE, DONE, REFUSED, OUT}, {OUT, DONE, DONE, OUT, OUT, OUT},
-        {OUT, OUT, OUT, DONE, REFUSED, OUT}, {OUT, OUT, OUT, OUT, OUT, LONG}, {OUT, OUT, OUT, OUT, OUT, OUT},
+    static const int answers[6][7] = {
+        {OUT, OUT, OUT, OUT, OUT, OUT, OUT}, {DONE, DONE, DONE, DONE, REFUSED, OUT, DONE},
+        {OUT, DONE, DONE, OUT, OUT, OUT, OUT}, {OUT, OUT, OUT, DONE, REFUSED, OUT, DONE},
+        {OUT, OUT, OUT, OUT, OUT, LONG, OUT}, {OUT, OUT, OUT, OUT, OUT, OUT, OUT},
     };
     const uint8_t nonce[12] = {1};
     for (uint64_t phase = 0; phase < 6; phase++) {
-        for (int call = 0; call < 6; call++) {
+        for (int call = 0; call < 7; call++) {
             struct fotsgure_gcm_message message, before;
             uint8_t bytes[3] = {7, 7, 7}, made[16];
             memset(made, 9, sizeof made);
@@ -304,9 +305,10 @@ static void out_of_turn(const struct fotsgure_gcm *gcm)
                 : call == 2 ? (int)fotsgure_gcm_finish(gcm, &message, made)
                 : call == 3 ? (int)fotsgure_gcm_verify(gcm, &message, bytes, 3)
                 : call == 4 ? (int)fotsgure_gcm_accept(gcm, &message, made, 16)
-                            : (int)fotsgure_gcm_decrypt(gcm, &message, bytes, 3);
+                : call == 5 ? (int)fotsgure_gcm_decrypt(gcm, &message, bytes, 3)
+                            : (int)fotsgure_gcm_decrypt_unverified(gcm, &message, bytes, 3);
             int same = memcmp(&message, &before, sizeof message) == 0 && all(bytes, 3, 7) && all(made, 16, 9);
-            expect(status == answers[phase][call] && (status == DONE || same), "out of turn", 6 * phase + (size_t)call);
+            expect(status == answers[phase][call] && (status == DONE || same), "out of turn", 7 * phase + (size_t)call);
         }
     }
 }
@@ -354,6 +356,8 @@ static void pieces(void)
     expect(fotsgure_gcm_verify(&none, &message, NULL, 0) == FOTSGURE_GCM_NO_KEY, "no key", 3);
     expect(fotsgure_gcm_accept(&none, &message, tag, 15) == FOTSGURE_GCM_TAG_LENGTH, "no key", 4);
     expect(fotsgure_gcm_accept(&none, &message, tag, 16) == FOTSGURE_GCM_NO_KEY, "no key", 5);
+    expect(fotsgure_gcm_decrypt(&none, &message, NULL, 0) == FOTSGURE_GCM_NO_KEY, "no key", 6);
+    expect(fotsgure_gcm_decrypt_unverified(&none, &message, NULL, 0) == FOTSGURE_GCM_NO_KEY, "no key", 7);
     expect(fotsgure_gcm_additional(&gcm, &message, key, (size_t)FOTSGURE_GCM_MOST_ADDITIONAL + 1) ==
         FOTSGURE_GCM_TOO_LONG, "too long", 0);
     expect(fotsgure_gcm_encrypt(&gcm, &message, key, (size_t)FOTSGURE_GCM_MOST + 1) == FOTSGURE_GCM_TOO_LONG,
