@@ -10,8 +10,8 @@
         message.verify(bytes) .., message.accept(tag), message.decrypt(bytes) ..    the same text in both passes
 
 No nonce may be used twice under a key. Random ones have 12 bytes or more; if any nonce of a key is random or has another
-length than 12 bytes, take a new key before 2^32 messages. FOTSGURE_GCM names the library's file; without it the loader searches. Python
-copies bytes as it likes, so only the prepared key is wiped.
+length than 12 bytes, take a new key before 2^32 messages. FOTSGURE_GCM names the library's file; without it the loader
+searches. Python copies bytes as it likes, so only the prepared key is wiped.
 """
 import ctypes
 import ctypes.util
@@ -20,7 +20,7 @@ import threading
 
 
 class Refused(Exception):
-    """The tag isn't that of this key, nonce, additional data and text."""
+    """The tag isn't that of this key, nonce, additional data and text, or they have lengths that no message has."""
 
 
 class _Key(ctypes.Structure):
@@ -70,14 +70,14 @@ VERSION = _c.fotsgure_gcm_version()
 _STATUSES = ("", "a key has 16, 24 or 32 bytes", "the key was wiped", "the nonce has another length",
              "a tag has 16 bytes", "more bytes than GCM takes", "the tag is another", "no nonce is left",
              "it isn't the turn of this call")
-_REFUSED = 6
+# What shows that a message was changed: a nonce, a tag or a text with a length that no message has, or another tag.
+_CHANGED = (3, 4, 5, 6)
 
 
-def _check(status):
-    if status == _REFUSED:
-        raise Refused(_STATUSES[status])
+def _check(status, changed=()):
+    """Raises ValueError for a status but DONE, and Refused for those of `changed`."""
     if status:
-        raise ValueError(_STATUSES[status])
+        raise (Refused if status in changed else ValueError)(_STATUSES[status])
 
 
 def _room(data):
@@ -88,7 +88,8 @@ def _room(data):
 class Gcm:
     """A key of 16, 24 or 32 bytes. `wipe`, or the end of a `with`, wipes what was prepared of it, not the bytes given.
     `counter` is the next nonce of `seal_next`, and None without one: store it before a message is sent, and give it to the
-    next Gcm of the same key. Threads may share a Gcm until it is wiped; processes that fork may not share a counter."""
+    next Gcm of the same key. Threads may share a Gcm until it is wiped; let one at a time call `seal_next` and store
+    `counter`, so that the highest is stored last. Processes that fork may not share a counter."""
 
     def __init__(self, key, counter=None):
         if counter is not None and len(counter) != 12:
@@ -100,7 +101,8 @@ class Gcm:
 
     @property
     def counter(self):
-        return None if self._counter is None else bytes(self._counter.next)
+        with self._turn:
+            return None if self._counter is None else bytes(self._counter.next)
 
     def seal(self, nonce, text, additional=b""):
         """Encrypts: returns the encrypted text and the tag behind it."""
@@ -121,12 +123,10 @@ class Gcm:
     def open(self, nonce, sealed, additional=b""):
         """Decrypts what `seal` returned, or raises Refused: also if the nonce is empty, or the tag isn't whole."""
         nonce, additional, sealed = bytes(nonce), bytes(additional), bytes(sealed)
-        if not nonce or len(sealed) < 16:
-            raise Refused("the message was cut")
         text, tag = sealed[:-16], sealed[-16:]
         room = _room(text)
         _check(_c.fotsgure_gcm_open(self._key, nonce, len(nonce), additional, len(additional), room, len(text), tag,
-                                    len(tag)))
+                                    len(tag)), _CHANGED)
         return room.raw[:len(text)]
 
     def begin(self, nonce):
@@ -150,9 +150,9 @@ class Message:
         self._gcm, self._message = gcm, _Message()
         _check(_c.fotsgure_gcm_begin(gcm._key, self._message, nonce, len(nonce)))
 
-    def _read(self, call, data):
+    def _read(self, call, data, changed=()):
         data = bytes(data)
-        _check(call(self._gcm._key, self._message, data, len(data)))
+        _check(call(self._gcm._key, self._message, data, len(data)), changed)
 
     def _written(self, call, data):
         room = _room(data)
@@ -180,7 +180,7 @@ class Message:
     def accept(self, tag):
         """Raises Refused, and wipes the message, if the tag is not that of what has come."""
         try:
-            self._read(_c.fotsgure_gcm_accept, tag)
+            self._read(_c.fotsgure_gcm_accept, tag, _CHANGED)
         except Refused:
             self.wipe()
             raise
