@@ -62,7 +62,8 @@ pub(crate) fn fill_by_backend<B: BlockCipherEncBackend>(
     ensures { (i : ℕ) → i < count → slice_index_or blocks.new i []
         ≡ fips.cipher_with (B.round_keys backend.now) (counter_block iv.now (first + i)) }
 {
-    count_on(iv, first, &mut blocks[..count]);
+    // All of the batch gets counters: blocks of zeros would be encrypted with it, and their cipher is H of GCM.
+    count_on(iv, first, blocks);
     if blocks.len() == B::PAR_BLOCKS {
         backend.encrypt_first_blocks(count, blocks);
     } else {
