@@ -139,7 +139,7 @@ static void seal(size_t key_bytes, size_t bytes, size_t extra, size_t length)
     prepare(key_bytes, extra, length);
     begin(name);
     int done = fotsgure_gcm_seal(&gcm, nonce, bytes, additional, extra, text, length, tag) == FOTSGURE_GCM_DONE;
-    end(name, "clean", bytes != 12 && !known_key, is_secret_tag() && done && written(length));
+    end(name, "clean", bytes != 12 && length > 0 && !known_key, is_secret_tag() && done && written(length));
 }
 
 static void seal_next(size_t key_bytes, size_t extra, size_t length)
@@ -176,7 +176,7 @@ static void open(size_t key_bytes, size_t bytes, size_t extra, size_t length, in
         known(text, MOST);
         end(name, "clean", 1, status == FOTSGURE_GCM_REFUSED && memcmp(text, before, MOST) == 0);
     } else {
-        end(name, "clean", 1 + (bytes != 12 && !known_key), status == FOTSGURE_GCM_DONE && written(length));
+        end(name, "clean", 1 + (bytes != 12 && length > 0 && !known_key), status == FOTSGURE_GCM_DONE && written(length));
     }
     known(tag, 16);
 }

@@ -1,7 +1,7 @@
 -- The struct that a caller keeps: how many bytes the key has, and its stored round keys for both directions.
 use Rattle.std.specs.Prelude.{◌≡◌, ◌⊎◌, ℕ, ◌+◌, ◌-◌, ◌/◌, List, drop, replicate}
 use Rattle.aes_permute.specs.Keys.{stored_keys}
-use Rattle.aes_hybrid.specs.Keys.{cipher_key, IsCipherSchedule, AreInverse}
+use Rattle.aes_permute.specs.Keys.{cipher_key, IsCipherSchedule, AreInverse}
 
 -- a number of bytes that a key can have
 abbrev pub IsKeyLength : ℕ → Type 0

@@ -3,7 +3,7 @@
 ghost use Rattle.std.specs.Prelude.{◌≡◌, ◌≢◌, ◌↔◌, ◌+◌, ◌/◌, true};
 ghost use Rattle.std.specs.Prelude.{drop, length, replicate};
 ghost use Rattle.aes_permute.specs.Keys.{stored_keys};
-ghost use Rattle.aes_hybrid.specs.Keys.{cipher_key, IsCipherSchedule, AreInverse};
+ghost use Rattle.aes_permute.specs.Keys.{cipher_key, IsCipherSchedule, AreInverse};
 ghost use Rattle.aes_calls.specs.Kept.{kept_key, AreZeroAfter, IsKeyLength, IsMade};
 
 use crate::status::{DONE, KEY_LENGTH};

@@ -2,5 +2,4 @@
 pub mod Fronts
 pub mod Shifted
 pub mod PlaneKeys
-pub mod LaneKeys
 pub mod SlotLanes

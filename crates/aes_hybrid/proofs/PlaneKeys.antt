@@ -14,7 +14,7 @@ use Rattle.aes_soft.proofs.WordsInPlace.{held_at, kept, HoldsAt}
 use Rattle.aes_permute.specs.Keys.{encrypting, cipher_form}
 use Rattle.aes_permute.specs.Stored.{untower, key_untower}
 use Rattle.aes_permute.proofs.States.{keys_length, first_key, inner_key, last_key}
-use Rattle.aes_hybrid.specs.Keys.{cipher_key, IsCipherSchedule}
+use Rattle.aes_permute.specs.Keys.{cipher_key, IsCipherSchedule}
 use Rattle.aes_hybrid.proofs.Shifted.{times_map}
 
 untower_of_key : (x : List ℕ) → map plus63 (map key_untower x) ≡ map untower x

@@ -5,7 +5,7 @@ ghost use Rattle.aes_planes.specs.Each.{Each};
 ghost use Rattle.aes_planes.specs.Fips197 as fips;
 ghost use Rattle.aes_permute.specs.Keys.{encrypting};
 ghost use Rattle.aes_permute.specs.Stored.{round_keys_of};
-ghost use Rattle.aes_hybrid.specs.Keys.{cipher_key, IsCipherSchedule};
+ghost use Rattle.aes_permute.specs.Keys.{cipher_key, IsCipherSchedule};
 
 use crate::batches::process_on_planes;
 use crate::slots::SlotWord;

@@ -1,205 +1,227 @@
-//! The form of the nine types: round keys of vector permutations, of which planes are made where there are many blocks.
+//! The forms of the nine types: round keys of vector permutations, of which planes are made where there are many blocks.
 
-ghost use Rattle.std.specs.Prelude.{◌≡◌};
-ghost use Rattle.aes_hybrid.specs.Keys.{cipher_key, IsCipherSchedule};
+ghost use Rattle.std.specs.Prelude.{◌≡◌, replicate};
+ghost use Rattle.aes_permute.specs.Keys.{stored_keys};
+ghost use Rattle.aes_permute.specs.Keys.{cipher_key, AreInverse, IsCipherSchedule};
 
+use crate::backends::Pairs;
 use crate::blocks::{BATCH, process_blocks};
 use crate::closures::call_with_batches;
 use crate::lent::Lent;
 use crate::widths::{Narrow, Width};
-use aes_cipher::aes::{Decrypts, Encrypts, KeySchedule, KeySize, MadeFrom, Processes};
+use aes_cipher::aes::{Decrypts, Encrypts, KeyBytes, KeySchedule, KeySize, MadeFrom, Processes};
 use aes_cipher::cipher::{
     BlockCipherDecClosure, BlockCipherEncClosure, BlockCipherEncrypt, Decrypt, Encrypt,
 };
-use aes_permute::keys::{LendsKeys, OneWay, TwoWays};
+use aes_cipher::zeroize::Wiped;
+use aes_permute::stored::{Room, expand_keys, invert_keys, keys_of};
 use aes_planes::soft::word::Block;
 use std::marker::PhantomData;
+use std::slice;
 
-/// Stored round keys of vector permutations, those of Cipher among them: planes for whole batches are made of these, in
-/// either direction.
-pub struct Hybrid<S: Drop, W = Narrow> {
-    keys: S,
+/// The stored round keys of Cipher alone, for encryption.
+pub struct Encrypting<K: KeySize, W = Narrow> {
+    // The first blocks are the round keys, as they are stored. The others stay zero.
+    room: Wiped<Room>,
+    size: PhantomData<K>,
     width: PhantomData<W>,
 }
 
-impl<S: Drop, W> Drop for Hybrid<S, W> {
+impl<K: KeySize, W> Drop for Encrypting<K, W> {
     #[inline(always)]
     fn drop(self) {
-        let Hybrid { keys: _, width: _ } = self;
+        let Encrypting {
+            room: _,
+            size: _,
+            width: _,
+        } = self;
     }
 }
 
-// The stored round keys of Cipher.
-#[inline(always)]
-fn keys_of<S: LendsKeys<Encrypt>>(keys: &S) -> &[Block]
-    requires keyed { S.AreKeyed keys.now }
-    ensures keyed { IsCipherSchedule result.now }
-    ensures key { cipher_key result.now ≡ S.key keys.now }
-{
-    keys.has_key();
-    keys.lend()
-}
-
-impl<K: KeySize, W> KeySchedule for Hybrid<OneWay<K, Encrypt>, W> {
+impl<K: KeySize, W> KeySchedule for Encrypting<K, W> {
     type Size = K;
 
-    ghost key = { λ s. ⟦<OneWay<K, Encrypt> as KeySchedule>⟧.key s.keys };
+    ghost key = { λ s. cipher_key (stored_keys K.Key.SIZE s.room) };
 
-    ghost AreKeyed = { λ s. ⟦<OneWay<K, Encrypt> as KeySchedule>⟧.AreKeyed s.keys };
+    ghost AreKeyed = { λ s. IsCipherSchedule (stored_keys K.Key.SIZE s.room) };
 
-    ghost IsWiped = { λ s. ⟦<OneWay<K, Encrypt> as KeySchedule>⟧.IsWiped s.keys };
+    ghost IsWiped = { λ s. s.room ≡ replicate 15 (replicate 16 0) };
 
     #[inline(always)]
-    fn zeroed() -> Hybrid<OneWay<K, Encrypt>, W> {
-        Hybrid {
-            keys: <OneWay<K, Encrypt> as KeySchedule>::zeroed(),
+    fn zeroed() -> Encrypting<K, W> {
+        Encrypting {
+            room: Wiped::zeroed(),
+            size: PhantomData,
             width: PhantomData,
         }
     }
 
     #[inline(always)]
     fn wipe(&mut self) {
-        self.keys.wipe();
+        self.room.wipe();
     }
 
     #[inline(always)]
     fn expand(&mut self, new_key: &K::Key) {
-        self.keys.expand(new_key);
+        expand_keys::<K>(self.room.value_mut(), new_key.as_slice());
     }
 
     #[inline(always)]
-    fn copy(&self) -> Hybrid<OneWay<K, Encrypt>, W> {
-        Hybrid {
-            keys: self.keys.copy(),
+    fn copy(&self) -> Encrypting<K, W> {
+        Encrypting {
+            room: self.room.copy(),
+            size: PhantomData,
             width: PhantomData,
         }
     }
 
     fn has_key(&self) {
-        self.keys.has_key();
+        keys_of::<K>(self.room.value());
     }
 }
 
-impl<K: KeySize, W> KeySchedule for Hybrid<TwoWays<K>, W> {
+impl<K: KeySize, W: Width> Processes<Encrypt> for Encrypting<K, W> {
+    #[inline(always)]
+    fn process_block(&self, block: &mut Block) {
+        let keys = keys_of::<K>(self.room.value());
+        Pairs::<Encrypt>::new(keys, keys).process_few(slice::from_mut(block));
+    }
+
+    fn process_blocks(&self, blocks: &mut [Block]) {
+        let keys = keys_of::<K>(self.room.value());
+        process_blocks::<Encrypt, W>(keys, keys, blocks);
+    }
+}
+
+impl<K: KeySize, W: Width> Encrypts for Encrypting<K, W> {
+    fn encrypt_with_backend<F: BlockCipherEncClosure>(&self, f: &mut F) {
+        Lent::<W>::new(keys_of::<K>(self.room.value())).encrypt_with_backend(f);
+    }
+
+    fn encrypt_with_backend_for<F: BlockCipherEncClosure>(&self, blocks: usize, f: &mut F) {
+        Lent::<W>::new(keys_of::<K>(self.room.value())).encrypt_with_backend_for(blocks, f);
+    }
+}
+
+/// The stored round keys of Cipher, and those of EqInvCipher, for both directions.
+pub struct BothLists<K: KeySize, W = Narrow> {
+    encrypting: Encrypting<K, W>,
+    inverse: Wiped<Room>,
+}
+
+impl<K: KeySize, W> Drop for BothLists<K, W> {
+    #[inline(always)]
+    fn drop(self) {
+        let BothLists {
+            encrypting: _,
+            inverse: _,
+        } = self;
+    }
+}
+
+impl<K: KeySize, W> KeySchedule for BothLists<K, W> {
     type Size = K;
 
-    ghost key = { λ s. ⟦<TwoWays<K> as KeySchedule>⟧.key s.keys };
+    ghost key = { λ s. ⟦<Encrypting<K, W> as KeySchedule>⟧.key s.encrypting };
 
-    ghost AreKeyed = { λ s. ⟦<TwoWays<K> as KeySchedule>⟧.AreKeyed s.keys };
+    ghost AreKeyed = { λ s. ⟦<Encrypting<K, W> as KeySchedule>⟧.AreKeyed s.encrypting
+        × AreInverse (stored_keys K.Key.SIZE s.inverse) (stored_keys K.Key.SIZE s.encrypting.room) };
 
-    ghost IsWiped = { λ s. ⟦<TwoWays<K> as KeySchedule>⟧.IsWiped s.keys };
+    ghost IsWiped = { λ s. ⟦<Encrypting<K, W> as KeySchedule>⟧.IsWiped s.encrypting
+        × (s.inverse ≡ replicate 15 (replicate 16 0)) };
 
     #[inline(always)]
-    fn zeroed() -> Hybrid<TwoWays<K>, W> {
-        Hybrid {
-            keys: <TwoWays<K> as KeySchedule>::zeroed(),
-            width: PhantomData,
+    fn zeroed() -> BothLists<K, W> {
+        BothLists {
+            encrypting: Encrypting::zeroed(),
+            inverse: Wiped::zeroed(),
         }
     }
 
     #[inline(always)]
     fn wipe(&mut self) {
-        self.keys.wipe();
+        self.encrypting.wipe();
+        self.inverse.wipe();
     }
 
     #[inline(always)]
     fn expand(&mut self, new_key: &K::Key) {
-        self.keys.expand(new_key);
+        self.encrypting.expand(new_key);
+        invert_keys::<K>(self.inverse.value_mut(), self.encrypting.room.value());
     }
 
     #[inline(always)]
-    fn copy(&self) -> Hybrid<TwoWays<K>, W> {
-        Hybrid {
-            keys: self.keys.copy(),
-            width: PhantomData,
+    fn copy(&self) -> BothLists<K, W> {
+        BothLists {
+            encrypting: self.encrypting.copy(),
+            inverse: self.inverse.copy(),
         }
     }
 
     fn has_key(&self) {
-        self.keys.has_key();
+        self.encrypting.has_key();
     }
 }
 
-impl<K: KeySize, W> MadeFrom<Hybrid<OneWay<K, Encrypt>, W>> for Hybrid<TwoWays<K>, W> {
+impl<K: KeySize, W> MadeFrom<Encrypting<K, W>> for BothLists<K, W> {
     #[inline(always)]
-    fn made_from(schedule: &Hybrid<OneWay<K, Encrypt>, W>) -> Hybrid<TwoWays<K>, W> {
-        Hybrid {
-            keys: TwoWays::made_from(&schedule.keys),
-            width: PhantomData,
+    fn made_from(schedule: &Encrypting<K, W>) -> BothLists<K, W> {
+        let mut inverse = Wiped::<Room>::zeroed();
+        invert_keys::<K>(inverse.value_mut(), schedule.room.value());
+        BothLists {
+            encrypting: schedule.copy(),
+            inverse,
         }
     }
 }
 
-impl<K: KeySize, W: Width> Processes<Encrypt> for Hybrid<OneWay<K, Encrypt>, W> {
+impl<K: KeySize, W: Width> Processes<Encrypt> for BothLists<K, W> {
     #[inline(always)]
     fn process_block(&self, block: &mut Block) {
-        <OneWay<K, Encrypt> as Processes<Encrypt>>::process_block(&self.keys, block);
+        self.encrypting.process_block(block);
     }
 
     fn process_blocks(&self, blocks: &mut [Block]) {
-        let keys = keys_of::<OneWay<K, Encrypt>>(&self.keys);
-        process_blocks::<Encrypt, W>(keys, keys, blocks);
+        self.encrypting.process_blocks(blocks);
     }
 }
 
-impl<K: KeySize, W: Width> Encrypts for Hybrid<OneWay<K, Encrypt>, W> {
+impl<K: KeySize, W: Width> Encrypts for BothLists<K, W> {
     fn encrypt_with_backend<F: BlockCipherEncClosure>(&self, f: &mut F) {
-        Lent::<W>::new(keys_of::<OneWay<K, Encrypt>>(&self.keys)).encrypt_with_backend(f);
+        self.encrypting.encrypt_with_backend(f);
     }
 
     fn encrypt_with_backend_for<F: BlockCipherEncClosure>(&self, blocks: usize, f: &mut F) {
-        Lent::<W>::new(keys_of::<OneWay<K, Encrypt>>(&self.keys)).encrypt_with_backend_for(
-            blocks, f,
-        );
+        self.encrypting.encrypt_with_backend_for(blocks, f);
     }
 }
 
-impl<K: KeySize, W: Width> Processes<Encrypt> for Hybrid<TwoWays<K>, W> {
+impl<K: KeySize, W: Width> Processes<Decrypt> for BothLists<K, W> {
     #[inline(always)]
     fn process_block(&self, block: &mut Block) {
-        <TwoWays<K> as Processes<Encrypt>>::process_block(&self.keys, block);
+        let keys = keys_of::<K>(self.encrypting.room.value());
+        let used = keys_of::<K>(self.inverse.value());
+        Pairs::<Decrypt>::new(keys, used).process_few(slice::from_mut(block));
     }
 
     fn process_blocks(&self, blocks: &mut [Block]) {
-        let keys = keys_of::<TwoWays<K>>(&self.keys);
-        process_blocks::<Encrypt, W>(keys, keys, blocks);
+        let keys = keys_of::<K>(self.encrypting.room.value());
+        process_blocks::<Decrypt, W>(keys, keys_of::<K>(self.inverse.value()), blocks);
     }
 }
 
-impl<K: KeySize, W: Width> Encrypts for Hybrid<TwoWays<K>, W> {
-    fn encrypt_with_backend<F: BlockCipherEncClosure>(&self, f: &mut F) {
-        Lent::<W>::new(keys_of::<TwoWays<K>>(&self.keys)).encrypt_with_backend(f);
-    }
-
-    fn encrypt_with_backend_for<F: BlockCipherEncClosure>(&self, blocks: usize, f: &mut F) {
-        Lent::<W>::new(keys_of::<TwoWays<K>>(&self.keys)).encrypt_with_backend_for(blocks, f);
-    }
-}
-
-impl<K: KeySize, W: Width> Processes<Decrypt> for Hybrid<TwoWays<K>, W> {
-    #[inline(always)]
-    fn process_block(&self, block: &mut Block) {
-        <TwoWays<K> as Processes<Decrypt>>::process_block(&self.keys, block);
-    }
-
-    fn process_blocks(&self, blocks: &mut [Block]) {
-        let used = <TwoWays<K> as LendsKeys<Decrypt>>::lend(&self.keys);
-        process_blocks::<Decrypt, W>(keys_of::<TwoWays<K>>(&self.keys), used, blocks);
-    }
-}
-
-impl<K: KeySize, W: Width> Decrypts for Hybrid<TwoWays<K>, W> {
-    #[inline(always)]
+impl<K: KeySize, W: Width> Decrypts for BothLists<K, W> {
     fn decrypt_with_backend<F: BlockCipherDecClosure>(&self, f: &mut F) {
-        self.keys.decrypt_with_backend(f);
+        self.decrypt_with_backend_for(0, f);
     }
 
     fn decrypt_with_backend_for<F: BlockCipherDecClosure>(&self, blocks: usize, f: &mut F) {
+        let keys = keys_of::<K>(self.encrypting.room.value());
+        let used = keys_of::<K>(self.inverse.value());
         if blocks < BATCH {
-            self.keys.decrypt_with_backend(f);
+            f.call(&Pairs::<Decrypt>::new(keys, used));
         } else {
-            let used = <TwoWays<K> as LendsKeys<Decrypt>>::lend(&self.keys);
-            call_with_batches::<Decrypt, W, F>(keys_of::<TwoWays<K>>(&self.keys), used, blocks, f);
+            call_with_batches::<Decrypt, W, F>(keys, used, blocks, f);
         }
     }
 }

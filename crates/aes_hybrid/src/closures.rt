@@ -4,9 +4,9 @@ ghost use Rattle.std.specs.Prelude.{◌≡◌, ℕ, List};
 ghost use Rattle.aes_planes.specs.Fips197 as fips;
 ghost use Rattle.aes_permute.specs.Keys.{encrypting};
 ghost use Rattle.aes_permute.specs.Stored.{round_keys_of};
-ghost use Rattle.aes_hybrid.specs.Keys.{cipher_key, IsCipherSchedule};
+ghost use Rattle.aes_permute.specs.Keys.{cipher_key, IsCipherSchedule};
 
-use crate::backends::Batches;
+use crate::backends::{Batches, Pairs};
 use crate::blocks::LEAST_BY_SIXTEEN;
 use crate::plane_keys::PlaneKeys;
 use crate::slots::SlotWord;
@@ -58,7 +58,7 @@ fn call_with_planes<D: LaneRounds, P: SlotWord, F: ClosureIn<D>>(
 {
     let mut planes = PlaneKeys::<P>::zeroed();
     planes.store(keys);
-    f.work(&Batches::new(keys, used, planes.lend(keys.len())));
+    f.work(&Batches::new(Pairs::new(keys, used), planes.lend(keys.len())));
     planes.wipe();
 }
 

@@ -7,7 +7,7 @@
 ghost use Rattle.std.specs.Prelude.{◌≡◌, ◌∷◌, [], map, replicate};
 ghost use Rattle.aes_planes.specs.BigEndian.{bytes};
 ghost use Rattle.aes_permute.specs.Keys.{lane_key_size};
-ghost use Rattle.aes_hybrid.specs.Keys.{AreInverse, IsCipherSchedule};
+ghost use Rattle.aes_permute.specs.Keys.{AreInverse, IsCipherSchedule};
 
 // The stored round keys of Cipher for that key, each as one number, highest byte first.
 const ENCRYPTING: [u128; 11] = [

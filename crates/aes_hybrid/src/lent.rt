@@ -3,7 +3,7 @@
 ghost use Rattle.std.specs.Prelude.{◌≡◌, ℕ, List};
 ghost use Rattle.aes_planes.specs.Fips197 as fips;
 ghost use Rattle.aes_planes.proofs.Standard.CipherLaws.{two_keys};
-ghost use Rattle.aes_hybrid.specs.Keys.{cipher_key, IsCipherSchedule};
+ghost use Rattle.aes_permute.specs.Keys.{cipher_key, IsCipherSchedule};
 
 use crate::backends::Pairs;
 use crate::blocks::{BATCH, process_blocks};
@@ -74,7 +74,7 @@ impl<W: Width> BlockCipherEncrypt for Lent<'_, W> {
     #[inline(always)]
     fn encrypt_with_backend_for<F: BlockCipherEncClosure>(&self, blocks: usize, f: &mut F) {
         if blocks < BATCH {
-            f.call(&Pairs::new(self.keys));
+            f.call(&Pairs::<Encrypt>::new(self.keys, self.keys));
         } else {
             call_with_batches::<Encrypt, W, F>(self.keys, self.keys, blocks, f);
         }

@@ -15,7 +15,7 @@ mod slots;
 pub mod wide;
 pub mod widths;
 
-pub use ciphers::Hybrid;
+pub use ciphers::{BothLists, Encrypting};
 pub use names::{
     Aes128, Aes128Dec, Aes128Enc, Aes192, Aes192Dec, Aes192Enc, Aes256, Aes256Dec, Aes256Enc,
 };

@@ -5,7 +5,7 @@ ghost use Rattle.aes_planes.specs.Fips197 as fips;
 ghost use Rattle.aes_planes.specs.Planes.{held, words_at};
 ghost use Rattle.aes_soft.specs.Stored as soft;
 ghost use Rattle.aes_permute.specs.Stored.{untower};
-ghost use Rattle.aes_hybrid.specs.Keys.{cipher_key, IsCipherSchedule};
+ghost use Rattle.aes_permute.specs.Keys.{cipher_key, IsCipherSchedule};
 
 use crate::slots::SlotWord;
 use aes_cipher::zeroize::zeroize_words;

@@ -6,9 +6,6 @@ use Rattle.aes_planes.specs.Rounds.{all_rounds}
 use Rattle.aes_planes.proofs.Standard.AllRounds.{is_cipher, is_eq_inv_cipher}
 use Rattle.aes_planes.proofs.Standard.CipherInverses.{eq_inv_is_inv}
 use Rattle.aes_planes.proofs.Standard.InvertedKeys.{inverted_length}
-use Rattle.aes_cipher.specs.KeySizes.{IsKeySize}
-use Rattle.aes_permute.specs.Keys.{leading_key, first_two}
-use Rattle.aes_permute.proofs.KeyBytes.{own_key, two_back}
 
 -- ---- Cipher
 
@@ -22,11 +19,6 @@ pub is_encrypted : (w : List (List ℕ)) (b : List ℕ) → 2 ≤ length w
     w b ≡ fips.cipher_with w b
 is_encrypted w b two = is_cipher w b
 
--- the first two round keys of a key's expansion give the key back
-pub key_forward : (size : ℕ) (key : List ℕ) → IsKeySize size → length key ≡ size → fips.IsBytes key
-    → leading_key size (fips.key_expansion key) ≡ key
-key_forward size key s l b = own_key size key s l
-
 -- ---- EqInvCipher
 
 -- EqInvCipher uses as many round keys as the list has
@@ -39,8 +31,3 @@ pub is_decrypted : (w : List (List ℕ)) (b : List ℕ) → 2 ≤ length w
     (λ b. fips.inv_shift_rows (fips.inv_sub_bytes b)) (fips.inverted_keys w) b
     ≡ fips.inv_cipher_with w b
 is_decrypted w b two = is_eq_inv_cipher (fips.inverted_keys w) b ∙ eq_inv_is_inv w b two
-
--- the last two of EqInvCipher's round keys of a key give the key back
-pub key_backward : (size : ℕ) (key : List ℕ) → IsKeySize size → length key ≡ size → fips.IsBytes key
-    → leading_key size (first_two (fips.inverted_keys (fips.key_expansion key))) ≡ key
-key_backward size key s l b = two_back size key b ∙ own_key size key s l

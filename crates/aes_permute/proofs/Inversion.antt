@@ -4,10 +4,8 @@ use Rattle.std.proofs.Common.{ap, refl, sym, ◌∙◌, arith}
 use Rattle.aes_planes.specs.Fips197 as fips
 use Rattle.aes_planes.specs.Planes.{plus63}
 use Rattle.aes_planes.proofs.Standard.InvertedKeys.{inverted_length, inverted_end, inverted_middle}
-use Rattle.aes_permute.specs.Keys.{encrypting, decrypting, cipher_form, inverse_form, lane_key, IsLaneSchedule}
+use Rattle.aes_permute.specs.Keys.{cipher_form, inverse_form}
 use Rattle.aes_permute.specs.Stored.{inv_untower, key_untower, round_keys_of}
-use Rattle.aes_permute.proofs.DirectionLaws.{key_backward}
-use Rattle.aes_permute.proofs.KeyBytes.{read_as, is_lane_schedule, IsLength}
 use Rattle.aes_permute.proofs.States.{keys_length, first_key, inner_key, last_key, stored_are}
 
 -- place k of the new keys is place last - k of the old, its columns mixed back
@@ -46,19 +44,3 @@ inverted_stored old new two l inner start end =
     ∙ ap (fips.round_key old) (sym none) ∙ sym (map-id (fips.round_key old 0))
     ∙ sym (first_key cipher_form old (omega (arith, two))) ∙ ap (fips.round_key w) none
     ∙ inverted_end w n (omega (arith, long, two)) (inr refl) ∙ ap (fips.round_key v) (sym same))
-
--- and have the same key
-pub inverted_schedule : (old new : List (List ℕ)) → length new ≡ length old
-    → decrypting new ≡ fips.inverted_keys (encrypting old) → IsLaneSchedule cipher_form old
-    → IsLaneSchedule inverse_form new × (lane_key inverse_form new ≡ lane_key cipher_form old)
-inverted_schedule old new l e s =
-    let key = lane_key cipher_form old in
-    let one : IsLength (length key) = elim s.one_of_three [
-      | inl k ↦ inl (omega (arith, k, s.sized))
-      | inr other ↦ inr (elim other [ inl k ↦ inl (omega (arith, k, s.sized)) | inr k ↦ inr (omega (arith, k, s.sized)) ])
-    ] in
-    let sized : length new ≡ length key / 4 + 7 = omega (arith, s.one_of_three, s.sized, l) in
-    let keys = e ∙ ap fips.inverted_keys s.keys in (
-      is_lane_schedule inverse_form new key one sized s.bytes key_backward keys,
-      read_as inverse_form new key one sized s.bytes key_backward keys,
-    )

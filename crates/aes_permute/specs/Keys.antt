@@ -4,10 +4,6 @@ use Rattle.aes_planes.specs.Fips197 as fips
 use Rattle.aes_planes.specs.Planes.{plus63}
 use Rattle.aes_permute.specs.Stored.{as_is, inv_untower, key_untower, round_keys_of, LaneForm}
 
--- the first two round keys, from those of EqInvCipher
-abbrev pub first_two : List (List ℕ) → List (List ℕ)
-first_two v = fips.round_key v (fips.last_round v) ∷ fips.mix_columns (fips.round_key v (fips.last_round v - 1)) ∷ []
-
 -- the form of the round keys of Cipher
 abbrev pub cipher_form : LaneForm
 cipher_form = record {
@@ -15,7 +11,6 @@ cipher_form = record {
   inner_byte = key_untower;
   last_byte = plus63;
   used_keys = λ w. w;
-  leading_keys = λ w. w;
 }
 
 -- the form of the round keys of EqInvCipher
@@ -25,7 +20,6 @@ inverse_form = record {
   inner_byte = inv_untower;
   last_byte = as_is;
   used_keys = fips.inverted_keys;
-  leading_keys = first_two;
 }
 
 -- the round keys that those of Cipher stand for
@@ -48,13 +42,17 @@ lane_key_size stored = 4 * (length stored - 7)
 abbrev pub leading_key : ℕ → List (List ℕ) → List ℕ
 leading_key size w = take size (fips.round_key w 0 ++ fips.round_key w 1)
 
--- the key that stored round keys are read as
-unfoldable pub lane_key : LaneForm → List (List ℕ) → List ℕ
-lane_key form stored = leading_key (lane_key_size stored) (form.leading_keys (round_keys_of form stored))
+-- the key that stored round keys of Cipher are read as
+unfoldable pub cipher_key : List (List ℕ) → List ℕ
+cipher_key stored = leading_key (lane_key_size stored) (encrypting stored)
 
--- the stored round keys of the key that they are read as, which has 16, 24 or 32 bytes
-pub record IsLaneSchedule (form : LaneForm) (stored : List (List ℕ)) : Type 0 where
+-- the stored round keys of Cipher of the key that they are read as, which has 16, 24 or 32 bytes
+pub record IsCipherSchedule (stored : List (List ℕ)) : Type 0 where
   pub one_of_three : (length stored ≡ 11) ⊎ ((length stored ≡ 13) ⊎ (length stored ≡ 15))
-  pub sized : length (lane_key form stored) ≡ lane_key_size stored
-  pub bytes : fips.IsBytes (lane_key form stored)
-  pub keys : round_keys_of form stored ≡ form.used_keys (fips.key_expansion (lane_key form stored))
+  pub sized : length (cipher_key stored) ≡ lane_key_size stored
+  pub bytes : fips.IsBytes (cipher_key stored)
+  pub keys : encrypting stored ≡ fips.key_expansion (cipher_key stored)
+
+-- the stored round keys of EqInvCipher, of the same key
+abbrev pub AreInverse : List (List ℕ) → List (List ℕ) → Type 0
+AreInverse inverse stored = decrypting inverse ≡ fips.inverted_keys (encrypting stored)

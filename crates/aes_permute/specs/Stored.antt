@@ -30,8 +30,6 @@ pub record LaneForm : Type 0 where
   pub last_byte : ℕ → ℕ
   -- the round keys that the rounds use, in their order, of the standard's list
   pub used_keys : List (List ℕ) → List (List ℕ)
-  -- the first two of the standard's list, of those that the rounds use
-  pub leading_keys : List (List ℕ) → List (List ℕ)
 
 -- what a byte of stored round key i stands for, by the number of the last
 abbrev pub key_byte : LaneForm → ℕ → ℕ → ℕ → ℕ

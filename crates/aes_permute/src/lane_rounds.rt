@@ -4,16 +4,12 @@ ghost use Rattle.std.specs.Prelude.{◌≡◌, ◌≤◌, ℕ, Bool, true, false
 ghost use Rattle.aes_planes.specs.Fips197 as fips;
 ghost use Rattle.aes_planes.specs.Rounds.{all_rounds};
 ghost use Rattle.aes_permute.specs.Keys.{cipher_form, inverse_form, encrypting, decrypting};
-ghost use Rattle.aes_permute.specs.Keys.{lane_key, stored_keys, IsLaneSchedule};
 ghost use Rattle.aes_permute.specs.Stored.{round_keys_of, untower, inv_untower, LaneForm};
 
 use crate::rounds::{
     decrypt_first, decrypt_last, decrypt_round, encrypt_first, encrypt_last, encrypt_round,
 };
-use crate::stored::{self, Room, invert_keys};
-use aes_cipher::aes::KeySize;
 use aes_cipher::cipher::{Decrypt, Direction, Encrypt};
-use aes_cipher::zeroize::MustWipe;
 use aes_planes::soft::word::Block;
 use std::simd::prelude::*;
 
@@ -49,13 +45,6 @@ pub trait LaneRounds: Direction {
         requires block { fips.IsBlock x }
         requires key { fips.IsBlock key }
         ensures { result ≡ fips.add_round_key (Self.last_step (map state_byte x)) (map form.last_byte key) };
-
-    /// Writes the round keys of a key as the rounds use them: KeyExpansion (FIPS 197, 5.2), and KeyExpansionEIC for
-    /// decrypting (5.3.5).
-    fn expand_keys<K: KeySize>(room: &mut Room, key: &[u8])
-        requires { length key.now ≡ K.Key.SIZE }
-        ensures schedule { IsLaneSchedule form (stored_keys K.Key.SIZE room.new) }
-        ensures key { lane_key form (stored_keys K.Key.SIZE room.new) ≡ key.now };
 
     /// Returns those that the rounds use, of the stored round keys of Cipher and of EqInvCipher of one key.
     fn used_of<'a>(keys: &'a [Block], inverse: &'a [Block]) -> &'a [Block]
@@ -98,11 +87,6 @@ impl LaneRounds for Encrypt {
     }
 
     #[inline(always)]
-    fn expand_keys<K: KeySize>(room: &mut Room, key: &[u8]) {
-        stored::expand_keys::<K>(room, key);
-    }
-
-    #[inline(always)]
     fn used_of<'a>(keys: &'a [Block], inverse: &'a [Block]) -> &'a [Block] {
         let _ = inverse;
         keys
@@ -138,15 +122,6 @@ impl LaneRounds for Decrypt {
     #[inline(always)]
     fn last(x: u8x16, key: u8x16) -> u8x16 {
         decrypt_last(x, key)
-    }
-
-    // From a copy of Cipher's, each is written to its place: turned where they stand, they leave one on the stack.
-    #[inline(always)]
-    fn expand_keys<K: KeySize>(room: &mut Room, key: &[u8]) {
-        let mut forward = MustWipe::<Room>::zeroed();
-        stored::expand_keys::<K>(forward.value_mut(), key);
-        invert_keys::<K>(room, forward.value());
-        forward.wipe();
     }
 
     #[inline(always)]

@@ -3,7 +3,7 @@
 ghost use Rattle.std.specs.Prelude.{◌≡◌, ◌⊎◌, ◌+◌, ◌/◌, ◌≤◌, length, map};
 ghost use Rattle.aes_planes.specs.Fips197 as fips;
 ghost use Rattle.aes_planes.specs.Planes.{plus63, summed};
-ghost use Rattle.aes_permute.specs.Keys.{encrypting, decrypting, cipher_form, inverse_form, lane_key, IsLaneSchedule};
+ghost use Rattle.aes_permute.specs.Keys.{encrypting, cipher_key, AreInverse, IsCipherSchedule};
 ghost use Rattle.aes_permute.specs.Stored.{IsWritten};
 
 use crate::lanes::{lookup, sum};
@@ -132,8 +132,8 @@ impl KeyForm for LaneSchedule {
 pub fn expand(keys: &mut [Block], key: &[u8])
     requires one_of_three { (length key.now ≡ 16) ⊎ ((length key.now ≡ 24) ⊎ (length key.now ≡ 32)) }
     requires sized { length keys.old ≡ length key.now / 4 + 7 }
-    ensures schedule { IsLaneSchedule cipher_form keys.new }
-    ensures key { lane_key cipher_form keys.new ≡ key.now }
+    ensures schedule { IsCipherSchedule keys.new }
+    ensures key { cipher_key keys.new ≡ key.now }
     ensures keys { encrypting keys.new ≡ fips.key_expansion key.now }
     ensures same_length { length keys.new ≡ length keys.old }
 {
@@ -145,9 +145,7 @@ pub fn expand(keys: &mut [Block], key: &[u8])
 pub fn invert(inverse: &mut [Block], keys: &[Block])
     requires two { 2 ≤ length keys.now }
     requires sized { length inverse.old ≡ length keys.now }
-    ensures keys { decrypting inverse.new ≡ fips.inverted_keys (encrypting keys.now) }
-    ensures schedule { IsLaneSchedule cipher_form keys.now → IsLaneSchedule inverse_form inverse.new
-        × (lane_key inverse_form inverse.new ≡ lane_key cipher_form keys.now) }
+    ensures keys { AreInverse inverse.new keys.now }
     ensures same_length { length inverse.new ≡ length inverse.old }
 {
     // Each is written once, in its place: a list that is turned where it stands leaves a round key on the stack.

@@ -1,9 +1,7 @@
 //! Room for stored round keys of a key of any size, and the first of its blocks, which are the round keys.
 
 ghost use Rattle.std.specs.Prelude.{◌≡◌, ◌⊎◌, ◌+◌, ◌/◌, length};
-ghost use Rattle.aes_planes.specs.Fips197 as fips;
-ghost use Rattle.aes_permute.specs.Keys.{encrypting, decrypting, cipher_form, inverse_form, lane_key, stored_keys};
-ghost use Rattle.aes_permute.specs.Keys.{IsLaneSchedule};
+ghost use Rattle.aes_permute.specs.Keys.{cipher_key, stored_keys, AreInverse, IsCipherSchedule};
 
 use crate::schedule::{expand, invert};
 use aes_cipher::aes::{KeyBytes, KeySize};
@@ -34,8 +32,8 @@ pub fn keys_of<K: KeySize>(room: &Room) -> &[Block]
 #[inline(always)]
 pub fn expand_keys<K: KeySize>(room: &mut Room, key: &[u8])
     requires { length key.now ≡ K.Key.SIZE }
-    ensures schedule { IsLaneSchedule cipher_form (stored_keys K.Key.SIZE room.new) }
-    ensures key { lane_key cipher_form (stored_keys K.Key.SIZE room.new) ≡ key.now }
+    ensures schedule { IsCipherSchedule (stored_keys K.Key.SIZE room.new) }
+    ensures key { cipher_key (stored_keys K.Key.SIZE room.new) ≡ key.now }
 {
     let count = size_of_key::<K>() / 4 + 7;
     expand(&mut room[..count], key);
@@ -44,13 +42,7 @@ pub fn expand_keys<K: KeySize>(room: &mut Room, key: &[u8])
 /// Writes the round keys of EqInvCipher, of the same key as those of Cipher (FIPS 197, 5.3.5).
 #[inline(always)]
 pub fn invert_keys<K: KeySize>(inverse: &mut Room, room: &Room)
-    ensures keys { decrypting (stored_keys K.Key.SIZE inverse.new)
-        ≡ fips.inverted_keys (encrypting (stored_keys K.Key.SIZE room.now)) }
-    ensures count { length (stored_keys K.Key.SIZE inverse.new) ≡ K.Key.SIZE / 4 + 7 }
-    ensures schedule { IsLaneSchedule cipher_form (stored_keys K.Key.SIZE room.now)
-        → IsLaneSchedule inverse_form (stored_keys K.Key.SIZE inverse.new)
-        × (lane_key inverse_form (stored_keys K.Key.SIZE inverse.new)
-        ≡ lane_key cipher_form (stored_keys K.Key.SIZE room.now)) }
+    ensures keys { AreInverse (stored_keys K.Key.SIZE inverse.new) (stored_keys K.Key.SIZE room.now) }
 {
     let count = size_of_key::<K>() / 4 + 7;
     invert(&mut inverse[..count], keys_of::<K>(room));

@@ -1,7 +1,7 @@
 -- What is left to show of `blocks::process_narrow`.
 use Rattle.std.proofs.Common.{ap, ◌∙◌}
 use Rattle.aes_permute.proofs.KeyBytes.{two_stored}
-use Rattle.aes_hybrid.specs.Keys.{cipher_key}
+use Rattle.aes_permute.specs.Keys.{cipher_key}
 use Rattle.aes_hybrid.proofs.blocks.process_narrow.Goals as goal
 
 pub process_few-requires : goal.process_few-requires

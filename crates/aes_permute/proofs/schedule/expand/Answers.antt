@@ -1,10 +1,8 @@
 -- What is left to show of `schedule::expand`.
 use Rattle.std.proofs.Common.{rules, refl, ◌∙◌, arith}
 use Rattle.aes_planes.specs.Fips197 as fips
-use Rattle.aes_permute.specs.Keys.{cipher_form}
-use Rattle.aes_permute.proofs.DirectionLaws.{key_forward}
 use Rattle.aes_permute.proofs.Expansion.{written_are_used}
-use Rattle.aes_permute.proofs.KeyBytes.{read_as, is_lane_schedule}
+use Rattle.aes_permute.proofs.KeyBytes.{read_as, is_cipher_schedule}
 use Rattle.aes_permute.proofs.schedule.expand.Goals as goal
 
 pub returns-clause-keys : goal.returns-clause-keys
@@ -13,10 +11,10 @@ returns-clause-keys c = written_are_used _ _ (fips.rounds c.args.key.now) c.expa
 
 pub returns-clause-schedule : goal.returns-clause-schedule
 returns-clause-schedule c =
-    is_lane_schedule cipher_form _ c.args.key.now c.requires.one_of_three
-    (c.expand.ensures.same_length ∙ c.requires.sized) (search rules) key_forward (returns-clause-keys c)
+    is_cipher_schedule _ c.args.key.now c.requires.one_of_three
+    (c.expand.ensures.same_length ∙ c.requires.sized) (search rules) (returns-clause-keys c)
 
 pub returns-clause-key : goal.returns-clause-key
 returns-clause-key c =
-    read_as cipher_form _ c.args.key.now c.requires.one_of_three
-    (c.expand.ensures.same_length ∙ c.requires.sized) (search rules) key_forward (returns-clause-keys c)
+    read_as _ c.args.key.now c.requires.one_of_three
+    (c.expand.ensures.same_length ∙ c.requires.sized) (search rules) (returns-clause-keys c)

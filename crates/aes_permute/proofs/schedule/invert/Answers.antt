@@ -2,7 +2,7 @@
 use Rattle.std.proofs.Common.{◌≡◌, ◌≢◌, ◌≤◌, ℕ, ◌-◌, List, [], length, map, get_or, set, ap, ◌∙◌, arith}
 use Rattle.std.proofs.lemmas.List.{get_or-set_same, get_or-set_other, length-set}
 use Rattle.aes_permute.specs.Stored.{inv_untower}
-use Rattle.aes_permute.proofs.Inversion.{inverted_stored, inverted_schedule}
+use Rattle.aes_permute.proofs.Inversion.{inverted_stored}
 use Rattle.aes_permute.proofs.schedule.invert.Goals as goal
 
 pub returns-clause-keys : goal.returns-clause-keys
@@ -26,7 +26,3 @@ returns-clause-keys c =
     ∙ get_or-set_same inverse 0 _ [] (omega (arith, c.keys.invariant.same_length, two))
     ∙ ap (λ n. get_or keys n []) (omega arith))
     (get_or-set_same one last _ [] (omega (arith, l1, two)) ∙ ap (λ n. get_or keys n []) (omega arith))
-
-pub returns-clause-schedule : goal.returns-clause-schedule
-returns-clause-schedule c = inverted_schedule c.args.keys.now _ (length-set _ (length c.args.keys.now - 1) _
-    ∙ length-set c.keys.inverse 0 _ ∙ c.keys.invariant.same_length) (returns-clause-keys c)
