@@ -8,7 +8,7 @@ use lib.Lanes.{zip2, pick_l, sel_l, top, Each1}
 use Rattle.aes_planes.specs.Bits.{at, bit}
 use Rattle.aes_planes.specs.Fips197 as fips
 use Rattle.aes_planes.specs.Planes.{held, place}
-use Rattle.aes_planes.specs.Private.Lanes.{lane_bits, wide_bits}
+use Rattle.aes_planes.specs.Words.{lane_bits, wide_bits}
 use Rattle.aes_planes.proofs.Bits.ByteCases.{all_below, all_pairs_tell, by_four}
 use Rattle.aes_planes.proofs.Lists.{built}
 use Rattle.aes_planes.proofs.Planes.Holds.{holds_held}

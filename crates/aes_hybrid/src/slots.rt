@@ -5,8 +5,7 @@ ghost use Rattle.std.proofs.Common.{arith};
 ghost use Rattle.aes_planes.specs.Bits.{at, bit};
 ghost use Rattle.aes_planes.specs.Fips197 as fips;
 ghost use Rattle.aes_planes.specs.Planes.{held};
-ghost use Rattle.aes_planes.specs.Private.Lanes.{lane_bits, wide_bits};
-ghost use Rattle.aes_planes.specs.Words.{word_bits};
+ghost use Rattle.aes_planes.specs.Words.{word_bits, lane_bits, wide_bits};
 ghost use Rattle.aes_hybrid.specs.Slots.{PlanesFitInMemory};
 
 use aes_cipher::cipher::{BatchOfEight, BatchSize};

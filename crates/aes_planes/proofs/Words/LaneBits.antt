@@ -10,7 +10,8 @@ use Rattle.std.proofs.lemmas.Nat.{or_shifted, shl_whole}
 use lib.Lanes.{zip2, Each1, number_l, digits_l}
 use Rattle.aes_planes.specs.Bits.{at, bit, xor, Places}
 use Rattle.aes_planes.specs.Fips197.{build}
-use Rattle.aes_planes.specs.Private.Lanes.{lane_bit, lane_bits, row_of}
+use Rattle.aes_planes.specs.Words.{lane_bit, lane_bits}
+use Rattle.aes_planes.specs.Private.Lanes.{row_of}
 use Rattle.aes_planes.proofs.Bits.BitCases.{same, same_tells, xor_true}
 use Rattle.aes_planes.proofs.Bits.ByteCases.{all_below, all_below_tells, all_pairs, all_pairs_tell, by_four}
 use Rattle.aes_planes.proofs.Bits.Digits.{digit_bit, number_bit}

@@ -9,10 +9,9 @@ use Rattle.std.proofs.lemmas.Bool.{eqb-true}
 use lib.Lanes.{Each1, pick_l, digits_l, number_l, all_below as all_lanes_below}
 use Rattle.aes_planes.specs.Bits.{at, bit}
 use Rattle.aes_planes.specs.Fips197.{byte_at, IsBlock, IsBytes}
-use Rattle.aes_planes.specs.Private.Lanes.{lane_bits}
 use Rattle.aes_planes.specs.Private.Packing.{row_byte}
 use Rattle.aes_planes.specs.Planes.{held, place}
-use Rattle.aes_planes.specs.Words.{word_bits}
+use Rattle.aes_planes.specs.Words.{word_bits, lane_bits}
 use Rattle.aes_planes.proofs.Bits.ByteCases.{all_below, all_below_tells, all_pairs_tell, by_one, by_four}
 use Rattle.aes_planes.proofs.Bits.Digits.{field_bit, regrouped, digits_small, each_small}
 use Rattle.aes_planes.proofs.Bits.NumberBits.{bit_low, reads}

@@ -7,7 +7,7 @@ use Rattle.std.proofs.lemmas.Bool.{eqb-true, and_parts, not-true, cases_lt, lt-l
 use Rattle.std.proofs.lemmas.List.{get_or_append_left, get_or-append_right}
 use lib.Lanes.{top}
 use Rattle.aes_planes.specs.Bits.{bit, Places}
-use Rattle.aes_planes.specs.Private.Lanes.{lane_bits}
+use Rattle.aes_planes.specs.Words.{lane_bits}
 use Rattle.aes_planes.proofs.Bits.ByteCases.{all_below, all_below_tells, all_pairs_tell, by_two}
 use Rattle.aes_planes.proofs.Bits.NumberBits.{Places-build, bit_low, bit_shl, bit_shr, bit_above, bit_zero, bit_ones}
 use Rattle.aes_planes.proofs.Bits.NumberBits.{bit_of_and, bit_of_or, word_zero, word_low_byte}

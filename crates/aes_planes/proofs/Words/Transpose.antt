@@ -6,9 +6,8 @@ use Rattle.std.proofs.lemmas.Bool.{cases_lt, eqb-true, and_parts, ltb-true, leb-
 use lib.Lanes.{zip2}
 use Rattle.std.proofs.lemmas.Simd.{length-zip2}
 use Rattle.aes_planes.specs.Bits.{at, bit, xor}
-use Rattle.aes_planes.specs.Private.Lanes.{lane_bits}
 use Rattle.aes_planes.specs.Private.Packing.{source_word, source_bit}
-use Rattle.aes_planes.specs.Words.{word_bits}
+use Rattle.aes_planes.specs.Words.{word_bits, lane_bits}
 use Rattle.aes_planes.proofs.Bits.BitCases.{all_bools, all_bools_tells, same, same_tells, xor_false}
 use Rattle.aes_planes.proofs.Bits.ByteCases.{all_below, all_pairs_tell}
 use Rattle.aes_planes.proofs.Bits.NumberBits.{bit_shl, bit_shl_high, bit_shr, bit_above, bit_of_and, bit_of_xor, reads}

@@ -8,7 +8,7 @@ use Rattle.std.proofs.lemmas.Bool.{cases_lt, lt-leb, lt-ltb, le-ltb, eqb-true, a
 use lib.Lanes.{zip2, Each1, pick_l}
 use Rattle.aes_planes.specs.Bits.{at, bit, xor, Places}
 use Rattle.aes_planes.specs.Fips197.{build}
-use Rattle.aes_planes.specs.Private.Lanes.{lane_bit, lane_bits, wide_bit, wide_bits}
+use Rattle.aes_planes.specs.Words.{lane_bit, lane_bits, wide_bit, wide_bits}
 use Rattle.aes_planes.proofs.Bits.ByteCases.{all_below, all_below_tells, all_pairs, all_pairs_tell}
 use Rattle.aes_planes.proofs.Lists.{get_or-build}
 use Rattle.aes_planes.proofs.Bits.NumberBits.{Places-build, bit_of_and, bit_of_or, bit_of_xor, bit_funnel, bit_zero, bit_ones}

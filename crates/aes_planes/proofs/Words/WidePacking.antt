@@ -9,7 +9,8 @@ use Rattle.std.proofs.lemmas.Simd.{length-zip2, Each1-get_or}
 use Rattle.aes_planes.specs.Bits.{at, bit, xor}
 use Rattle.aes_planes.specs.Fips197.{byte_at, IsBlock}
 use Rattle.aes_planes.specs.Planes.{held, place}
-use Rattle.aes_planes.specs.Private.Lanes.{lane_bit, lane_bits, wide_bits, lanes_of_32}
+use Rattle.aes_planes.specs.Words.{lane_bit, lane_bits, wide_bits}
+use Rattle.aes_planes.specs.Private.Lanes.{lanes_of_32}
 use Rattle.aes_planes.specs.Private.Packing.{row_byte}
 use Rattle.aes_planes.proofs.Bits.ByteCases.{all_below, all_below_tells}
 use Rattle.aes_planes.proofs.Lists.{get_or-build}

@@ -2,8 +2,7 @@
 -- definitions, since the law of an implementation may cite no file of proofs of its own crate.
 use Rattle.std.proofs.Common.{◌≡◌, ℕ, zero, suc, ◌+◌, ◌*◌, ◌≤◌, length, refl, ap, arith}
 use Rattle.aes_planes.specs.Bits.{bit, IsShape}
-use Rattle.aes_planes.specs.Words.{word_bits}
-use Rattle.aes_planes.specs.Private.Lanes.{wide_bit, wide_bits}
+use Rattle.aes_planes.specs.Words.{word_bits, wide_bit, wide_bits}
 use Rattle.aes_planes.specs.Fips197.{build, build_from}
 
 length-build_from : {A : Type 0} (a n : ℕ) (f : ℕ → A) → length (build_from a n f) ≡ n

@@ -2,7 +2,8 @@
 
 ghost use Rattle.std.specs.Prelude.{◌≡◌, ℕ, ◌+◌, ◌-◌, ◌*◌, ◌/◌, ◌%◌, ◌<◌, ◌≤◌, ◌&&◌, nat_le, nat_lt, [], ◌∷◌, get_or};
 ghost use Rattle.aes_planes.specs.Bits.{at, bit, Places};
-ghost use Rattle.aes_planes.specs.Private.Lanes.{wide_bits, lane_bits, lanes_of_32};
+ghost use Rattle.aes_planes.specs.Words.{wide_bits, lane_bits};
+ghost use Rattle.aes_planes.specs.Private.Lanes.{lanes_of_32};
 ghost use Rattle.aes_planes.specs.Private.Packing.{row_byte};
 ghost use Rattle.aes_planes.specs.Fips197 as fips;
 

@@ -2,9 +2,8 @@
 
 ghost use Rattle.std.specs.Prelude.{◌≡◌};
 ghost use Rattle.std.proofs.Common.{rules};
-ghost use Rattle.aes_planes.specs.Private.Lanes.{lane_bits};
 ghost use Rattle.aes_planes.specs.Private.BuiltLength.{number_shape};
-ghost use Rattle.aes_planes.specs.Words.{word_bits};
+ghost use Rattle.aes_planes.specs.Words.{word_bits, lane_bits};
 
 use super::Word;
 use super::batch::{Batch, Blocks, Blocks8};

@@ -2,7 +2,7 @@
 
 ghost use Rattle.std.specs.Prelude.{◌≡◌};
 ghost use Rattle.std.proofs.Common.{rules};
-ghost use Rattle.aes_planes.specs.Private.Lanes.{wide_bits};
+ghost use Rattle.aes_planes.specs.Words.{wide_bits};
 ghost use Rattle.aes_planes.specs.Private.BuiltLength.{wide_shape};
 
 use super::batch::{Batch, Blocks, Blocks16};

@@ -1,8 +1,7 @@
 -- What is left to show of `soft::word::word128::U128Word::inv_bitslice`.
 use Rattle.std.proofs.Common.{[], ◌∷◌, map, refl, ap, sym, ◌∙◌, arith, rules}
-use Rattle.aes_planes.specs.Private.Lanes.{lane_bits}
 use Rattle.aes_planes.specs.Planes.{held}
-use Rattle.aes_planes.specs.Words.{word_bits}
+use Rattle.aes_planes.specs.Words.{word_bits, lane_bits}
 use Rattle.aes_planes.proofs.Bits.BitCases.{eight}
 use Rattle.aes_planes.proofs.Bits.ByteCases.{by_eight}
 use Rattle.aes_planes.proofs.Words.Packing.{unpacked}
