@@ -1,6 +1,5 @@
 //! The sizes of keys: AES-128, AES-192 and AES-256.
 
-ghost use Rattle.std.specs.Prelude.{ℕ};
 ghost use Rattle.std.proofs.Common.{arith, inl, inr, refl};
 ghost use Rattle.aes_cipher.specs.KeySizes.{IsKeySize};
 
@@ -10,12 +9,6 @@ use super::key_bytes::KeyBytes;
 pub trait KeySize {
     /// A key.
     type Key: KeyBytes;
-
-    /// Nr: how many rounds the ciphers make (FIPS 197, 5).
-    ghost ROUNDS: { ℕ };
-
-    /// Nr: how many rounds the ciphers make (FIPS 197, 5).
-    const ROUNDS: usize;
 
     /// The name of the type that encrypts and decrypts; those of one direction begin with it.
     const NAME: &'static str;
@@ -36,10 +29,6 @@ pub struct Bits256;
 impl KeySize for Bits128 {
     type Key = [u8; 16];
 
-    ghost ROUNDS = { 10 };
-
-    const ROUNDS: usize = 10;
-
     const NAME: &'static str = "Aes128";
 
     ghost is_size = { record {
@@ -53,10 +42,6 @@ impl KeySize for Bits128 {
 impl KeySize for Bits192 {
     type Key = [u8; 24];
 
-    ghost ROUNDS = { 12 };
-
-    const ROUNDS: usize = 12;
-
     const NAME: &'static str = "Aes192";
 
     ghost is_size = { record {
@@ -69,10 +54,6 @@ impl KeySize for Bits192 {
 
 impl KeySize for Bits256 {
     type Key = [u8; 32];
-
-    ghost ROUNDS = { 14 };
-
-    const ROUNDS: usize = 14;
 
     const NAME: &'static str = "Aes256";
 
