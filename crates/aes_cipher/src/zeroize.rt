@@ -50,10 +50,12 @@ pub fn zeroize_words<W: Word>(words: &mut [W])
 
 // Writes zeros over every element of a slice. `some_byte` returns some byte of an element.
 //
-// A compiler may leave out writes that nothing reads. So an element is read before the writes and after them, at a
-// place that comes out of an atomic: it is 0, but neither of the two compilers works that out. What was read goes into
-// the atomic by an exchange, which both keep. It is 0 too, so that no byte of a secret stays there. No clause says that
-// the writes are kept: what was compiled is searched.
+// A compiler may leave out writes that nothing reads. So this is a call of its own, whose caller's compiled code can't
+// tell what it wrote, nor leave the call out, since an atomic is exchanged in it. An element is read before the writes
+// and after them too, at a place that comes out of the atomic: it is 0, but neither of the two compilers works that out.
+// What was read goes into the atomic. It is 0 too, so that no byte of a secret stays there. No clause says that the
+// writes are kept: what was compiled is searched.
+#[inline(never)]
 fn wipe<E: Copy, F: Fn(E) -> u8>(elements: &mut [E], zero: E, some_byte: F)
     requires { F.IsAlwaysCallable some_byte }
     ensures { elements.new ≡ replicate (length elements.old) zero }
@@ -90,8 +92,7 @@ fn overwrite<E: Copy>(elements: &mut [E], element: E)
 }
 
 /// A value that is overwritten with zeros when it is dropped: what stands inside has a drop of its own, which requires
-/// that it is zero by then. It is neither `Copy` nor `Clone`. Contracts see the value. Give it two elements or more: of a
-/// single one a compiler was seen to leave out the zeros.
+/// that it is zero by then. It is neither `Copy` nor `Clone`. Contracts see the value.
 pub struct Wiped<V: Zeroize> {
     inside: MustWipe<V>,
 }

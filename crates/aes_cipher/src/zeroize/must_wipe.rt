@@ -6,7 +6,7 @@ use super::Zeroize;
 use std::marker::Model;
 
 /// A value whose drop requires that it is zero, so code that drops it without a wipe isn't proved. It is neither `Copy`
-/// nor `Clone`. Contracts see the value. Give it two elements or more, as a [`Wiped`](super::Wiped).
+/// nor `Clone`. Contracts see the value.
 pub struct MustWipe<V: Zeroize> {
     value: V,
 }
