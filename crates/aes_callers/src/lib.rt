@@ -1,4 +1,4 @@
-//! Proved callers: programs as users write them over the types of `aes`, `aes_permute`, `aes_hybrid` and `aes_rounds`, and
+//! Proved callers: programs as users write them over the types of `aes`, `aes_hybrid` and `aes_rounds`, and
 //! modes over any cipher. `aes_callers_tests` has their tests.
 #![tactic(auto)]
 

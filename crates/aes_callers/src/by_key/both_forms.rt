@@ -6,9 +6,8 @@ ghost use Rattle.aes_planes.specs.Fips197 as fips;
 use super::{both_ways, decrypting, encrypting};
 use aes_cipher::aes::{AesCipher, Bits128, Bits192, Bits256, BothWays, KeySize};
 use aes_cipher::cipher::{Block, Decrypt, Encrypt};
-use aes_hybrid::Hybrid;
 use aes_hybrid::widths::{Narrow, Width};
-use aes_permute::keys::{OneWay, TwoWays};
+use aes_hybrid::{BothLists, Encrypting};
 
 // The three types, with the size of the key and the width of the words as parameters: what they are made of is proved
 // once for all sizes and both widths.
@@ -16,7 +15,7 @@ use aes_permute::keys::{OneWay, TwoWays};
 pub(super) fn of_both<K: KeySize, W: Width>(
     key: &K::Key,
     block: &Block,
-) -> (AesCipher<Hybrid<TwoWays<K>, W>, BothWays>, Block, Block)
+) -> (AesCipher<BothLists<K, W>, BothWays>, Block, Block)
     ensures value { result.0 ≡ K.Key.bytes key.now }
     ensures encrypted { result.1 ≡ fips.cipher (K.Key.bytes key.now) block.now }
     ensures decrypted { result.2 ≡ fips.inv_cipher (K.Key.bytes key.now) block.now }
@@ -27,7 +26,7 @@ pub(super) fn of_both<K: KeySize, W: Width>(
 pub(super) fn of_enc<K: KeySize, W: Width>(
     key: &K::Key,
     block: &Block,
-) -> (AesCipher<Hybrid<OneWay<K, Encrypt>, W>, Encrypt>, Block)
+) -> (AesCipher<Encrypting<K, W>, Encrypt>, Block)
     ensures value { result.0 ≡ K.Key.bytes key.now }
     ensures encrypted { result.1 ≡ fips.cipher (K.Key.bytes key.now) block.now }
 {
@@ -37,7 +36,7 @@ pub(super) fn of_enc<K: KeySize, W: Width>(
 pub(super) fn of_dec<K: KeySize, W: Width>(
     key: &K::Key,
     block: &Block,
-) -> (AesCipher<Hybrid<TwoWays<K>, W>, Decrypt>, Block)
+) -> (AesCipher<BothLists<K, W>, Decrypt>, Block)
     ensures value { result.0 ≡ K.Key.bytes key.now }
     ensures decrypted { result.1 ≡ fips.inv_cipher (K.Key.bytes key.now) block.now }
 {

@@ -3,11 +3,11 @@
 use super::ways::{CipherIn, Trial, try_all};
 use aes::{Block, FixslicedAes};
 use aes_callers::closures::{Mixed, Nothing, Row, Twice, encrypt_row, twice_there_and_back};
-use aes_cipher::aes::{Bits128, BothWays, KeySize};
+use aes_cipher::aes::{AesCipher, Bits128, BothWays, KeySize};
 use aes_cipher::cipher::{
     BlockCipherDecrypt, BlockCipherEncrypt, Decrypt, Direction, Encrypt, KeyInit,
 };
-use aes_permute::keys;
+use aes_hybrid::BothLists;
 use standards::blocks::{ENCRYPTED_128, PLAIN, blocks, different_blocks};
 use standards::keys::KEY_A1;
 
@@ -85,16 +85,16 @@ fn planes_take_a_row<K: KeySize>(key: &K::Key) -> bool {
     takes_a_row_of_five(&FixslicedAes::<K, BothWays>::new(key))
 }
 
-// The same of that of `aes_permute`.
-fn permutations_take_a_row<K: KeySize>(key: &K::Key) -> bool {
-    takes_a_row_of_five(&aes_cipher::aes::AesCipher::<keys::TwoWays<K>, BothWays>::new(key))
+// The same of that of `aes_hybrid`.
+fn both_forms_take_a_row<K: KeySize>(key: &K::Key) -> bool {
+    takes_a_row_of_five(&AesCipher::<BothLists<K>, BothWays>::new(key))
 }
 
 // SP 800-38A, F.1.1 and F.1.2.
 #[test]
 fn a_row_of_five_has_the_blocks_of_the_standard(rt: HostRuntime) {
     assert!(rt; planes_take_a_row::<Bits128>(&KEY_A1));
-    assert!(rt; permutations_take_a_row::<Bits128>(&KEY_A1));
+    assert!(rt; both_forms_take_a_row::<Bits128>(&KEY_A1));
 }
 
 // A block encrypted twice and decrypted twice by the type of `aes` for a size.

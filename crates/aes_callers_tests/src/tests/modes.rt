@@ -8,9 +8,8 @@ use aes_callers::chaining_value::{chaining_value, chaining_value_under};
 use aes_cipher::aes::{AesCipher, Bits128, Bits192, Bits256, BothWays, KeySize};
 use aes_cipher::blocks::{block_of_number, blocks_equal};
 use aes_cipher::cipher::{BlockCipherDecrypt, BlockCipherEncrypt, KeyInit};
-use aes_hybrid::Hybrid;
+use aes_hybrid::BothLists;
 use aes_hybrid::widths::{Narrow, Wide, Width};
-use aes_permute::keys::TwoWays;
 use aes_rounds::rounds::Aes;
 use standards::blocks::{PLAIN, blocks};
 use standards::keys::{KEY_A1, KEY_A2, KEY_A3};
@@ -71,7 +70,7 @@ fn chains_the_blocks_of_the_standard(rt: HostRuntime) {
 
 // Whether chains of each length up to forty come back. By these types some blocks are decrypted in batches, others alone.
 fn chains_come_back<K: KeySize, W: Width>(key: &K::Key) -> bool {
-    let cipher = AesCipher::<Hybrid<TwoWays<K>, W>, BothWays>::new(key);
+    let cipher = AesCipher::<BothLists<K, W>, BothWays>::new(key);
     let iv = IV.to_be_bytes();
     let plain = [[7; 16]; 40];
     for count in 0..=40 {

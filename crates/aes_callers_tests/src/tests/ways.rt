@@ -5,12 +5,12 @@ ghost use Rattle.std.specs.Prelude.{◌≡◌, ◌⊎◌};
 use aes::expansion::{expand_128, expand_192, expand_256};
 use aes::{Block, FixslicedAes};
 use aes_callers::by_backend::ByBackend;
-use aes_cipher::aes::{Bits128, Bits192, Bits256, BothWays, KeySize};
+use aes_cipher::aes::{AesCipher, Bits128, Bits192, Bits256, BothWays, KeySize};
 use aes_cipher::cipher::{
     BlockCipherDecClosure, BlockCipherDecrypt, BlockCipherEncClosure, BlockCipherEncrypt, Decrypt,
     Direction, Encrypt, KeyInit, NotEqualError,
 };
-use aes_permute::keys;
+use aes_hybrid::{BothLists, Encrypting};
 use aes_rounds::rounds::{Aes, AesDec, AesEnc};
 
 /// A cipher that processes blocks in the direction D.
@@ -163,30 +163,30 @@ fn planes_pass<T: Trial, K: KeySize>(trial: &T, key: &[u8]) -> [bool; 4] {
     )
 }
 
-// Whether those of `aes_permute` do.
-fn try_permutations<T: Trial>(trial: &T) -> [Passed; 3] {
+// Whether those of `aes_hybrid` do.
+fn try_both_forms<T: Trial>(trial: &T) -> [Passed; 3] {
     [
         (
-            "keys of 16 bytes, by permutations",
-            permutations_pass::<T, Bits128>(trial, &SHORT),
+            "keys of 16 bytes, in both forms",
+            both_forms_pass::<T, Bits128>(trial, &SHORT),
         ),
         (
-            "keys of 24 bytes, by permutations",
-            permutations_pass::<T, Bits192>(trial, &MIDDLE),
+            "keys of 24 bytes, in both forms",
+            both_forms_pass::<T, Bits192>(trial, &MIDDLE),
         ),
         (
-            "keys of 32 bytes, by permutations",
-            permutations_pass::<T, Bits256>(trial, &LONG),
+            "keys of 32 bytes, in both forms",
+            both_forms_pass::<T, Bits256>(trial, &LONG),
         ),
     ]
 }
 
-fn permutations_pass<T: Trial, K: KeySize>(trial: &T, key: &[u8]) -> [bool; 4] {
+fn both_forms_pass<T: Trial, K: KeySize>(trial: &T, key: &[u8]) -> [bool; 4] {
     pass_under::<
         T,
-        aes_cipher::aes::AesCipher<keys::TwoWays<K>, BothWays>,
-        aes_cipher::aes::AesCipher<keys::OneWay<K, Encrypt>, Encrypt>,
-        aes_cipher::aes::AesCipher<keys::OneWay<K, Decrypt>, Decrypt>,
+        AesCipher<BothLists<K>, BothWays>,
+        AesCipher<Encrypting<K>, Encrypt>,
+        AesCipher<BothLists<K>, Decrypt>,
     >(trial, key)
 }
 
@@ -201,9 +201,5 @@ fn try_rounds<T: Trial>(trial: &T) -> [Passed; 3] {
 
 /// Whether every type passes, by the size of its key, of either crate, and every round by round cipher.
 pub fn try_all<T: Trial>(trial: &T) -> [[Passed; 3]; 3] {
-    [
-        try_planes(trial),
-        try_permutations(trial),
-        try_rounds(trial),
-    ]
+    [try_planes(trial), try_both_forms(trial), try_rounds(trial)]
 }

@@ -6,9 +6,8 @@ use aes_cipher::aes::{
     AesCipher, Bits128, Bits192, Bits256, BothWays, Decrypts, Encrypts, KeySize, MadeFrom,
 };
 use aes_cipher::cipher::{BlockCipherDecrypt, BlockCipherEncrypt, Decrypt, Encrypt, KeyInit};
-use aes_hybrid::Hybrid;
 use aes_hybrid::widths::{Narrow, Wide, Width};
-use aes_permute::keys::{OneWay, TwoWays};
+use aes_hybrid::{BothLists, Encrypting};
 use standards::keys::{
     BY_128, BY_192, BY_256, KEY_128, KEY_192, KEY_256, ZEROS_BY_128, ZEROS_BY_192, ZEROS_BY_256,
 };
@@ -50,19 +49,6 @@ impl<K: KeySize> Forms for Planes<K> {
     type Dec = Fixsliced<K>;
 }
 
-// The forms of `aes_permute`.
-struct Permutations<K> {
-    size: PhantomData<K>,
-}
-
-impl<K: KeySize> Forms for Permutations<K> {
-    type Both = TwoWays<K>;
-
-    type Enc = OneWay<K, Encrypt>;
-
-    type Dec = OneWay<K, Decrypt>;
-}
-
 // The forms of `aes_hybrid`, in one width.
 struct Hybrids<K, W> {
     size: PhantomData<K>,
@@ -70,11 +56,11 @@ struct Hybrids<K, W> {
 }
 
 impl<K: KeySize, W: Width> Forms for Hybrids<K, W> {
-    type Both = Hybrid<TwoWays<K>, W>;
+    type Both = BothLists<K, W>;
 
-    type Enc = Hybrid<OneWay<K, Encrypt>, W>;
+    type Enc = Encrypting<K, W>;
 
-    type Dec = Hybrid<TwoWays<K>, W>;
+    type Dec = BothLists<K, W>;
 }
 
 /// What is known of a size of keys from outside.
@@ -96,16 +82,15 @@ pub trait Trial {
     fn passes<F: Forms>(&self, known: &Known) -> Result<bool, Fail>;
 }
 
-// Asserts that the types for a size pass: those of `aes`, of `aes_permute`, and of `aes_hybrid` in both widths. With the
-// size as a parameter, they are proved once for all sizes.
+// Asserts that the types for a size pass: those of `aes`, and of `aes_hybrid` in both widths. With the size as a
+// parameter, they are proved once for all sizes.
 fn try_size<T: Trial, K: KeySize>(rt: &impl Abort, trial: &T, known: &Known) -> Result<(), Fail> {
     let passed = [
         trial.passes::<Planes<K>>(known)?,
-        trial.passes::<Permutations<K>>(known)?,
         trial.passes::<Hybrids<K, Narrow>>(known)?,
         trial.passes::<Hybrids<K, Wide>>(known)?,
     ];
-    assert_eq!(rt; passed, [true; 4], "{}", known.name);
+    assert_eq!(rt; passed, [true; 3], "{}", known.name);
     Ok(())
 }
 

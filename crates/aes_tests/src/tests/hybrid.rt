@@ -4,9 +4,8 @@ use super::forms::{Enc, Forms, Known, Trial, try_all};
 use aes_cipher::aes::{AesCipher, Bits256, BothWays, KeySize};
 use aes_cipher::cipher::{BlockCipherDecrypt, BlockCipherEncrypt, KeyInit};
 use aes_ctr::add_keystream;
-use aes_hybrid::Hybrid;
+use aes_hybrid::BothLists;
 use aes_hybrid::widths::{Narrow, Wide};
-use aes_permute::keys::TwoWays;
 use standards::keys::{KEY_256, PLAIN};
 use std::test::Fail;
 
@@ -65,8 +64,8 @@ where
 // The types for both directions, with the size as a parameter.
 fn types_agree<K: KeySize>(key: &K::Key) -> bool {
     widths_agree(
-        &AesCipher::<Hybrid<TwoWays<K>, Narrow>, BothWays>::new(key),
-        &AesCipher::<Hybrid<TwoWays<K>, Wide>, BothWays>::new(key),
+        &AesCipher::<BothLists<K, Narrow>, BothWays>::new(key),
+        &AesCipher::<BothLists<K, Wide>, BothWays>::new(key),
     )
 }
 

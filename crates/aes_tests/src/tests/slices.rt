@@ -1,15 +1,18 @@
 //! Slices of blocks, short and long, those by the counted calls, and the batches of a backend.
 
+ghost use Rattle.std.specs.Prelude.{⊤};
+
 use super::forms::{CipherTrial, Forms, Known, Trial, pass_under, try_all};
 use aes::FixslicedAes;
 use aes_cipher::aes::{
     AesCipher, Allows, Bits128, Bits192, Bits256, BothWays, CountsLayers, Decrypts, Encrypts,
-    KeySchedule, KeySize,
+    KeySize,
 };
 use aes_cipher::cipher::{
-    Block, BlockCipherDecrypt, BlockCipherEncrypt, Decrypt, Encrypt, KeyInit, ParBlocksSizeUser,
+    Block, BlockCipherDecrypt, BlockCipherEncBackend, BlockCipherEncClosure, BlockCipherEncrypt,
+    Decrypt, Encrypt, KeyInit,
 };
-use aes_permute::keys::{LaneBackend, OneWay};
+use aes_hybrid::Aes128Enc;
 use aes_planes::soft::sbox::Layers;
 use standards::blocks::different_blocks;
 use standards::keys::{KEY_128, KEY_192, KEY_256, PLAIN};
@@ -199,14 +202,26 @@ fn slices_go_there_and_back(rt: HostRuntime) -> Result<(), Fail> {
     try_all(&rt, &Slices)
 }
 
-// How many blocks a type of backends takes at once.
-fn par_blocks<B: ParBlocksSizeUser>(_backend: &B) -> usize {
-    B::PAR_BLOCKS
+// How many blocks the backend takes at once.
+#[derive(Drop)]
+struct BatchTaken {
+    blocks: usize,
+}
+
+impl BlockCipherEncClosure for BatchTaken {
+    ghost did = { λ before w after. ⊤ };
+
+    fn call<B: BlockCipherEncBackend>(&mut self, _backend: &B) {
+        self.blocks = B::PAR_BLOCKS;
+    }
 }
 
 #[test]
-fn permutations_take_two_blocks_at_once(rt: HostRuntime) {
-    let mut schedule = OneWay::<Bits128, Encrypt>::zeroed();
-    schedule.expand(&KEY_128);
-    assert_eq!(rt; par_blocks(&LaneBackend::new(&schedule)), 2);
+fn few_blocks_are_taken_by_twos_and_many_by_eights(rt: HostRuntime) {
+    let cipher = Aes128Enc::new(&KEY_128);
+    let mut taken = BatchTaken { blocks: 0 };
+    cipher.encrypt_with_backend_for(1, &mut taken);
+    assert_eq!(rt; taken.blocks, 2);
+    cipher.encrypt_with_backend_for(100, &mut taken);
+    assert_eq!(rt; taken.blocks, 8);
 }
