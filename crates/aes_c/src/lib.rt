@@ -8,9 +8,9 @@ mod exports;
 #[cfg(test)]
 mod tests;
 
-pub use aes_calls::kept::Aes;
-pub use aes_calls::status::{DONE, KEY_LENGTH, KEYSTREAM_END, NO_KEY, UNEQUAL_COUNTS, VERSION};
-pub use aes_calls::stream::Ctr;
+pub use c_calls::kept::Aes;
+pub use c_calls::status::{DONE, KEY_LENGTH, KEYSTREAM_END, NO_KEY, UNEQUAL_COUNTS, VERSION};
+pub use c_calls::stream::Ctr;
 pub use exports::{
     fotsgure_aes_add_keystream, fotsgure_aes_add_keystream_to, fotsgure_aes_add_keystream_with,
     fotsgure_aes_decrypt_blocks, fotsgure_aes_decrypt_blocks_to, fotsgure_aes_decrypt_blocks_with,

@@ -4,16 +4,16 @@ ghost use Rattle.std.specs.Prelude.{◌≡◌, ◌≢◌, ◌↔◌, ◌+◌, �
 ghost use Rattle.aes_planes.specs.Each.{Each};
 ghost use Rattle.aes_planes.specs.Fips197 as fips;
 ghost use Rattle.aes_ctr.specs.CounterMode.{keystream_byte, plus_stream};
-ghost use Rattle.aes_calls.specs.Kept.{kept_key, AreZeroAfter, IsKeyLength, IsMade};
+ghost use Rattle.c_calls.specs.Kept.{kept_key, AreZeroAfter, IsKeyLength, IsMade};
 
 use crate::Chosen;
-use aes_calls::blocks::{process_under, process_under_to};
-use aes_calls::kept::{Aes, length_of_key, set_key, wipe};
-use aes_calls::once::{add_keystream_with, decrypt_with, encrypt_with};
-use aes_calls::status::{DONE, KEY_LENGTH, KEYSTREAM_END, NO_KEY, UNEQUAL_COUNTS, VERSION};
-use aes_calls::stream::{Ctr, add_keystream_under, add_keystream_under_to};
 use aes_cipher::cipher::{Decrypt, Encrypt};
 use aes_planes::soft::word::Block;
+use c_calls::blocks::{process_under, process_under_to};
+use c_calls::kept::{Aes, length_of_key, set_key, wipe};
+use c_calls::once::{add_keystream_with, decrypt_with, encrypt_with};
+use c_calls::status::{DONE, KEY_LENGTH, KEYSTREAM_END, NO_KEY, UNEQUAL_COUNTS, VERSION};
+use c_calls::stream::{Ctr, add_keystream_under, add_keystream_under_to};
 
 /// Returns the version of the library; programs compare it with that of their header.
 #[unsafe(no_mangle)]

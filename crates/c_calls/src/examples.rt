@@ -9,7 +9,7 @@ ghost use Rattle.aes_planes.specs.BigEndian.{bytes};
 ghost use Rattle.aes_planes.specs.Fips197 as fips;
 ghost use Rattle.aes_permute.specs.Keys.{encrypting, stored_keys};
 ghost use Rattle.aes_permute.specs.Keys.{AreInverse};
-ghost use Rattle.aes_calls.specs.Kept.{kept_key, AreZeroAfter, IsKeyLength, IsMade};
+ghost use Rattle.c_calls.specs.Kept.{kept_key, AreZeroAfter, IsKeyLength, IsMade};
 
 use crate::status::{DONE, KEY_LENGTH, KEYSTREAM_END, NO_KEY, UNEQUAL_COUNTS, VERSION};
 use aes_planes::examples::key_expansion_128;

@@ -4,7 +4,7 @@ ghost use Rattle.std.specs.Prelude.{◌≡◌, ◌≢◌, ◌↔◌, ◌+◌, �
 ghost use Rattle.std.specs.Prelude.{drop, length, replicate};
 ghost use Rattle.aes_permute.specs.Keys.{stored_keys};
 ghost use Rattle.aes_permute.specs.Keys.{cipher_key, IsCipherSchedule, AreInverse};
-ghost use Rattle.aes_calls.specs.Kept.{kept_key, AreZeroAfter, IsKeyLength, IsMade};
+ghost use Rattle.c_calls.specs.Kept.{kept_key, AreZeroAfter, IsKeyLength, IsMade};
 
 use crate::status::{DONE, KEY_LENGTH};
 use aes_cipher::zeroize::{Zeroize, zeroize_elements};

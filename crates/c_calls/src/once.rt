@@ -4,7 +4,7 @@ ghost use Rattle.std.specs.Prelude.{◌≡◌, ◌≢◌, ◌↔◌, ◌+◌, �
 ghost use Rattle.aes_planes.specs.Each.{Each};
 ghost use Rattle.aes_planes.specs.Fips197 as fips;
 ghost use Rattle.aes_ctr.specs.CounterMode.{keystream_byte, plus_stream};
-ghost use Rattle.aes_calls.specs.Kept.{IsKeyLength};
+ghost use Rattle.c_calls.specs.Kept.{IsKeyLength};
 
 use crate::blocks::process_under;
 use crate::kept::{Aes, expand_keys, is_key_length, keys_of, set_key};
