@@ -11,21 +11,15 @@ HERE = pathlib.Path(__file__).resolve().parent
 TEMPLATES = HERE / "exports" / "src"
 # Bytes of a key, stored words of planes, round keys.
 SIZES = {128: (16, 88, 11), 192: (24, 104, 13), 256: (32, 120, 15)}
-CRATES = ("aes", "aes_permute", "aes_hybrid")
+CRATES = ("aes", "aes_hybrid")
 WORDS = {"u16": 1, "u32": 2, "u64": 4, "u128": 8}  # how many blocks a word's planes hold
 ENDS = {"encrypt": "Enc", "decrypt": "Dec"}
 # How the name of a type ends, and its directions.
 WAYS = {"": "BothWays", "Enc": "Encrypt", "Dec": "Decrypt"}
 # The form in which a type of a crate keeps its round keys, for a key of the size K.
-ONE_WAY, TWO_WAYS = "aes_permute::keys::OneWay<K, {}>", "aes_permute::keys::TwoWays<K>"
 FORMS = {
     "aes": dict.fromkeys(WAYS, "aes::Fixsliced<K>"),
-    "aes_permute": {"": TWO_WAYS, "Enc": ONE_WAY.format("Encrypt"), "Dec": ONE_WAY.format("Decrypt")},
-    "aes_hybrid": {
-        "": f"aes_hybrid::Hybrid<{TWO_WAYS}>",
-        "Enc": f"aes_hybrid::Hybrid<{ONE_WAY.format('Encrypt')}>",
-        "Dec": f"aes_hybrid::Hybrid<{TWO_WAYS}>",
-    },
+    "aes_hybrid": dict.fromkeys(WAYS, "aes_hybrid::BothLists<K>") | {"Enc": "aes_hybrid::Encrypting<K>"},
 }
 
 

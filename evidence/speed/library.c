@@ -60,7 +60,6 @@ static void keep(const uint8_t *bytes, size_t n) {
     at_hand_bytes = n;
 }
 TYPES(aes)
-TYPES(aes_permute)
 TYPES(aes_hybrid)
 
 /* The round keys of permutations in the caller's own room, which nobody wipes. */
@@ -96,7 +95,6 @@ void add_library(enum run run) {
     if (run == NO_AES) {
         add_aes_hybrid("hybrid");
         add_aes("bitsliced");
-        add_aes_permute("permutations");
         add(&(struct engine){"this library", "aes_permute, by LLVM, nothing wiped", "permutations", lanes,
                              inverse_lanes, 0, 0, 0, 0, 0, 0});
     }

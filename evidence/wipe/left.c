@@ -169,7 +169,6 @@ int main(void) {
         EACH(words, not_wiped) EACH(words, words_wiped) EACH(words, wiped_wiped) EACH(words, wiped_dropped)
         EACH(words, wide_wiped)
         VALUES(aes)
-        VALUES(aes_permute)
         VALUES(aes_hybrid)
     }
     return 0;
