@@ -42,8 +42,8 @@
 #include <stdint.h>
 
 /* The version of this header; fotsgure_aes_version() returns that of the library. */
-#define FOTSGURE_AES_VERSION_TEXT "0.2.0"
-#define FOTSGURE_AES_VERSION 200 /* 10000 * 0 + 100 * 2 + 0 */
+#define FOTSGURE_AES_VERSION_TEXT "0.3.0"
+#define FOTSGURE_AES_VERSION 300 /* 10000 * 0 + 100 * 3 + 0 */
 
 #define FOTSGURE_AES_BLOCK 16    /* bytes of a block */
 #define FOTSGURE_AES_STACK 16384 /* bytes of stack that are enough for every call */

@@ -44,7 +44,7 @@ def refused(call):
     return False
 
 
-expect(VERSION == 200, "version")
+expect(VERSION == 300, "version")
 for size, digits in C_ROWS:
     aes = Aes(bytes(range(size)))
     expect(aes.encrypt(C_PLAIN).hex() == digits, f"appendix C, {size} bytes, encrypted")

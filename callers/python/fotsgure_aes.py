@@ -22,11 +22,11 @@ class _Ctr(ctypes.Structure):
 
 def _load():
     found = os.environ.get("FOTSGURE_AES") or ctypes.util.find_library("fotsgure_aes")
-    c = ctypes.CDLL(found or "libfotsgure_aes.so.0.2")
+    c = ctypes.CDLL(found or "libfotsgure_aes.so.0.3")
     # 10000 times the first number, 100 times the second, plus the third. Before 1.0 the struct may grow with the second.
     c.fotsgure_aes_version.restype = ctypes.c_uint32
-    if c.fotsgure_aes_version() // 100 != 2:
-        raise ImportError(f"this is a wrapper for version 0.2 of the library, not for {c.fotsgure_aes_version()}")
+    if c.fotsgure_aes_version() // 100 != 3:
+        raise ImportError(f"this is a wrapper for version 0.3 of the library, not for {c.fotsgure_aes_version()}")
     size, data, key, ctr = ctypes.c_size_t, ctypes.c_void_p, ctypes.POINTER(_Key), ctypes.POINTER(_Ctr)
     for name, arguments, result in (
         ("version", [], ctypes.c_uint32),

@@ -59,7 +59,7 @@ fn slices_agree(aes: &Aes) -> bool {
 
 fn main() {
     let counted: Vec<u8> = (0..34).collect();
-    let mut checks = vec![("version", version() == 200)];
+    let mut checks = vec![("version", version() == 300)];
     for (size, cipher) in C_ROWS {
         let aes = Aes::new(&counted[..size]).unwrap();
         let mut block = [C_PLAIN.to_be_bytes()];

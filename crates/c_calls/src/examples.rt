@@ -21,7 +21,7 @@ pub fn numbers_of_the_header()
     ensures no_key { NO_KEY ≡ 2 }
     ensures unequal_counts { UNEQUAL_COUNTS ≡ 3 }
     ensures keystream_end { KEYSTREAM_END ≡ 4 }
-    ensures version { VERSION ≡ 200 }
+    ensures version { VERSION ≡ 300 }
 {}
 
 /// The lengths of keys, those on either side of them, and none; and 11, 13 or 15 round keys.

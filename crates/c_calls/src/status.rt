@@ -16,4 +16,4 @@ pub const UNEQUAL_COUNTS: u32 = 3;
 pub const KEYSTREAM_END: u32 = 4;
 
 /// The version of the interface: 10000 times the first number, 100 times the second, plus the third.
-pub const VERSION: u32 = 200;
+pub const VERSION: u32 = 300;
