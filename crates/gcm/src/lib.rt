@@ -1,0 +1,22 @@
+//! GCM (SP 800-38D), encryption that shows whether a message was changed, over any block cipher that encrypts.
+#![tactic(auto)]
+
+mod errors;
+pub mod examples;
+mod field;
+mod gctr;
+mod halves;
+mod hash;
+mod lanes;
+mod laws;
+mod message;
+mod mode;
+mod multiples;
+mod pieces;
+mod stack;
+
+pub use errors::{InvalidMessage, InvalidPiece, NotAccepted, OutOfTurn, Refused, TooLong};
+pub use laws::text_twice;
+pub use message::{Message, Phase};
+pub use mode::{Gcm, LentGcm, prepare};
+pub use multiples::{Multiples, Room, put_multiples};

@@ -1,0 +1,148 @@
+//! The struct that a caller keeps: a key as its stored round keys, and the multiples of its H.
+
+ghost use Rattle.std.specs.Prelude.{◌≡◌, ◌≢◌, ◌↔◌, ◌+◌, ◌/◌, true};
+ghost use Rattle.std.specs.Prelude.{drop, length, replicate};
+ghost use Rattle.aes_permute.specs.Keys.{stored_keys, IsCipherSchedule};
+ghost use Rattle.gcm_c.specs.Kept.{kept_key, AreZeroAfter, IsKeyLength, IsMade};
+
+use crate::Chosen;
+use crate::status::{DONE, KEY_LENGTH};
+use aes_cipher::zeroize::{Zeroize, zeroize_elements};
+use aes_hybrid::lent::Lent;
+use aes_permute::schedule::expand;
+use aes_planes::soft::word::Block;
+use gcm::{Room, prepare};
+
+/// A key that the caller owns: `struct fotsgure_gcm`. Its blocks are as secret as the key.
+#[repr(C)]
+#[derive(Drop)]
+pub struct Gcm {
+    /// How many bytes the key has: 16, 24 or 32; 0 if there is no key.
+    pub key_length: u32,
+    /// The stored round keys of Cipher, in the first 11, 13 or 15 blocks.
+    pub round_keys: [Block; 15],
+    /// The multiples of H.
+    pub multiples: Room,
+}
+
+impl Zeroize for Gcm {
+    ghost ZERO = { record {
+      key_length = 0;
+      round_keys = replicate 15 (replicate 16 0);
+      multiples = replicate 96 (replicate 16 0);
+    } };
+
+    #[inline(always)]
+    fn zero() -> Gcm {
+        Gcm {
+            key_length: 0,
+            round_keys: [[0; 16]; 15],
+            multiples: [[0; 16]; 96],
+        }
+    }
+
+    #[inline(always)]
+    fn zeroize(&mut self) {
+        self.key_length = 0;
+        zeroize_elements(&mut self.round_keys);
+        zeroize_elements(&mut self.multiples);
+    }
+}
+
+/// Returns the stored round keys of a key of `key_length` bytes: the first of the blocks.
+#[inline(always)]
+pub(crate) fn keys_of(blocks: &[Block; 15], key_length: usize) -> &[Block]
+    requires { IsKeyLength key_length }
+    ensures { result.now ≡ stored_keys key_length blocks.now }
+{
+    &blocks[..key_length / 4 + 7]
+}
+
+// Writes the stored round keys of Cipher of a key, and zeros behind them, where a longer key may have had more.
+#[inline(always)]
+fn expand_keys(blocks: &mut [Block; 15], key: &[u8])
+    requires { IsKeyLength (length key.now) }
+    ensures schedule { IsCipherSchedule (stored_keys (length key.now) blocks.new) }
+    ensures key { kept_key (length key.now) blocks.new ≡ key.now }
+    ensures after { AreZeroAfter (length key.now) blocks.new }
+{
+    let (used, others) = blocks.split_at_mut(key.len() / 4 + 7);
+    expand(used, key);
+    others.fill([0; 16]);
+}
+
+// Returns whether this is the length of a key: 16, 24 or 32 bytes.
+fn is_key_length(bytes: usize) -> bool
+    ensures { result ≡ true ↔ IsKeyLength bytes }
+{
+    bytes == 16 || bytes == 24 || bytes == 32
+}
+
+/// Returns whether the struct holds a key.
+pub(crate) fn holds_key(gcm: &Gcm) -> bool
+    ensures { result ≡ true ↔ IsKeyLength gcm.now.key_length }
+{
+    is_key_length(gcm.key_length as usize)
+}
+
+/// Lends the key of a struct as a cipher.
+pub(crate) fn cipher_of(gcm: &Gcm) -> Lent<'_, Chosen>
+    requires made { IsMade gcm.now.key_length gcm.now.round_keys gcm.now.multiples }
+    requires key { IsKeyLength gcm.now.key_length }
+    ensures { result ≡ kept_key gcm.now.key_length gcm.now.round_keys }
+{
+    Lent::<Chosen>::new(keys_of(&gcm.round_keys, gcm.key_length as usize))
+}
+
+/// Expands a key into the struct (KeyExpansion, FIPS 197, 5.2) and prepares the multiples of its H (SP 800-38D, 7.1,
+/// step 1). Returns `DONE` exactly if the key has 16, 24 or 32 bytes, else `KEY_LENGTH`; the struct then holds no key.
+/// Nothing of what it held before is left in either case.
+#[unsafe(no_mangle)]
+pub extern "C" fn fotsgure_gcm_set_key(gcm: &mut Gcm, key: &[u8]) -> u32
+    ensures done { result ≡ DONE ↔ IsKeyLength (length key.now) }
+    ensures refused { result ≢ DONE → result ≡ KEY_LENGTH }
+    ensures made { IsMade gcm.new.key_length gcm.new.round_keys gcm.new.multiples }
+    ensures key { result ≡ DONE → kept_key gcm.new.key_length gcm.new.round_keys ≡ key.now }
+    ensures length { result ≡ DONE → gcm.new.key_length ≡ length key.now }
+    ensures after { result ≡ DONE → AreZeroAfter (length key.now) gcm.new.round_keys }
+    ensures none { result ≢ DONE → gcm.new.key_length ≡ 0 }
+    ensures wiped_round_keys { result ≢ DONE → gcm.new.round_keys ≡ replicate 15 (replicate 16 0) }
+    ensures wiped_multiples { result ≢ DONE → gcm.new.multiples ≡ replicate 96 (replicate 16 0) }
+{
+    // Nothing is read of a struct that may be uninitialized. No compiler takes zeros away here: the caller owns the struct,
+    // and can read what the call leaves in it.
+    if !is_key_length(key.len()) {
+        *gcm = Gcm::zero();
+        return KEY_LENGTH;
+    }
+    expand_keys(&mut gcm.round_keys, key);
+    let cipher = Lent::<Chosen>::new(keys_of(&gcm.round_keys, key.len()));
+    prepare(&cipher, &mut gcm.multiples);
+    gcm.key_length = key.len() as u32;
+    DONE
+}
+
+/// Returns how many bytes the key has, or 0 if the struct holds no key.
+#[unsafe(no_mangle)]
+pub extern "C" fn fotsgure_gcm_key_length(gcm: &Gcm) -> usize
+    ensures key { IsKeyLength gcm.now.key_length → result ≡ gcm.now.key_length }
+    ensures none { ¬ IsKeyLength gcm.now.key_length → result ≡ 0 }
+{
+    if holds_key(gcm) {
+        gcm.key_length as usize
+    } else {
+        0
+    }
+}
+
+/// Overwrites the struct with zeros: it then holds no key.
+#[unsafe(no_mangle)]
+pub extern "C" fn fotsgure_gcm_wipe(gcm: &mut Gcm)
+    ensures none { gcm.new.key_length ≡ 0 }
+    ensures round_keys { gcm.new.round_keys ≡ replicate 15 (replicate 16 0) }
+    ensures multiples { gcm.new.multiples ≡ replicate 96 (replicate 16 0) }
+{
+    // A wipe looks at what it overwrites, and the struct may be uninitialized: so zeros are written first.
+    *gcm = Zeroize::zero();
+    gcm.zeroize();
+}

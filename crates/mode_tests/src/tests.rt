@@ -1,0 +1,6 @@
+//! What no clause says: that the modes answer, with the standards' values, over ciphers of each size of keys.
+
+mod pieces;
+mod tags;
+mod whole;
+mod wraps;

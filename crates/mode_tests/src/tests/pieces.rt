@@ -1,0 +1,153 @@
+//! Messages in pieces: however they are cut, the calls agree with those for whole messages, and refuse what isn't their turn.
+
+ghost use Rattle.std.specs.Prelude.{◌<◌, ◌≤◌};
+
+use aes_cipher::cipher::{Block, KeyInit};
+use aes_cipher::zeroize::Wiped;
+use aes_hybrid::Aes128Enc;
+use gcm::{Gcm, InvalidMessage, InvalidPiece, LentGcm, Message, NotAccepted, OutOfTurn};
+use std::test::Fail;
+
+// The bytes 0, 7, 14 and so on, modulo 256: a nonce, additional data, or a text.
+fn bytes() -> [u8; 100] {
+    let mut bytes = [0; 100];
+    for i in 0..100 {
+        bytes[i] = (7 * i % 256) as u8;
+    }
+    bytes
+}
+
+// Where a piece of `size` bytes ends that begins inside of so many.
+fn end_of(from: usize, size: usize, length: usize) -> usize
+    requires { from ≤ length }
+    ensures after { from ≤ result }
+    ensures inside { result ≤ length }
+{
+    from + size.min(length - from)
+}
+
+// Begins a message with additional data, in pieces of `size` bytes.
+fn begins(
+    mode: &LentGcm<'_, Aes128Enc>,
+    message: &mut Message,
+    nonce: &[u8],
+    additional: &[u8],
+    size: usize,
+) -> bool
+    requires { 0 < size }
+{
+    let mut right = mode.begin(message, nonce) == Ok(());
+    for i in 0..additional.len() {
+        if i % size == 0 {
+            let piece = &additional[i..end_of(i, size, additional.len())];
+            right &= mode.additional_piece(message, piece) == Ok(());
+        }
+    }
+    right
+}
+
+// What is done to each piece of a text.
+enum Work {
+    Encrypt,
+    Verify,
+    Decrypt,
+    DecryptUnverified,
+}
+
+// Does it, in pieces of `size` bytes.
+fn goes_on(
+    mode: &LentGcm<'_, Aes128Enc>,
+    message: &mut Message,
+    work: &Work,
+    text: &mut [u8],
+    size: usize,
+) -> bool
+    requires { 0 < size }
+{
+    let length = text.len();
+    let mut right = true;
+    for i in 0..length {
+        if i % size == 0 {
+            let piece = &mut text[i..end_of(i, size, length)];
+            let done = match work {
+                Work::Encrypt => mode.encrypt_piece(message, piece),
+                Work::Verify => mode.verify_piece(message, piece),
+                Work::Decrypt => mode.decrypt_piece(message, piece),
+                Work::DecryptUnverified => mode.decrypt_unverified_piece(message, piece),
+            };
+            right &= done == Ok(());
+        }
+    }
+    right
+}
+
+// Whether a message in pieces of `size` bytes is encrypted as a whole one, and decrypted in two passes and in one.
+pub(crate) fn agrees<const N: usize>(
+    mode: &LentGcm<'_, Aes128Enc>,
+    nonce: &[u8],
+    additional: &[u8],
+    plain: &[u8; N],
+    size: usize,
+) -> bool
+    requires { 0 < size }
+{
+    let mut room = Wiped::zeroed();
+    let message: &mut Message = room.value_mut();
+    let mut whole = *plain;
+    let Ok(tag) = mode.encrypt(nonce, additional, &mut whole) else {
+        return false;
+    };
+    let mut other = tag;
+    other[15] ^= 1;
+    let mut text = *plain;
+    let mut right = begins(mode, message, nonce, additional, size)
+        && goes_on(mode, message, &Work::Encrypt, &mut text, size)
+        && mode.finish(message) == Ok(tag)
+        && text == whole;
+    right &= begins(mode, message, nonce, additional, size)
+        && goes_on(mode, message, &Work::Verify, &mut text, size)
+        && mode.accept(message, &other) == Err(NotAccepted::Refused)
+        && mode.decrypt_piece(message, &mut text) == Err(InvalidPiece::OutOfTurn)
+        && mode.accept(message, &tag) == Ok(())
+        && text == whole
+        && goes_on(mode, message, &Work::Decrypt, &mut text, size)
+        && mode.decrypt_piece(message, &mut other[..1]) == Err(InvalidPiece::TooLong)
+        && text == *plain;
+    right
+        && begins(mode, message, nonce, additional, size)
+        && goes_on(mode, message, &Work::DecryptUnverified, &mut whole, size)
+        && mode.accept(message, &tag) == Ok(())
+        && whole == *plain
+}
+
+#[test]
+fn agrees_however_cut(rt: HostRuntime) {
+    let bytes = bytes();
+    let mode = Gcm::new(Aes128Enc::new(&[3; 16]));
+    for size in 1..40 {
+        assert!(rt; agrees(&mode.lent(), &bytes[..12], &bytes[..20], &bytes, size));
+    }
+    assert!(rt; agrees(&mode.lent(), &bytes[..8], &bytes[..64], &bytes, 7));
+    assert!(rt; agrees(&mode.lent(), &bytes[..60], &[], &bytes, 100));
+}
+
+#[test]
+fn refuses_what_is_out_of_turn(rt: HostRuntime) {
+    let keys = Gcm::new(Aes128Enc::new(&[3; 16]));
+    let mode = keys.lent();
+    let mut room = Wiped::zeroed();
+    let message: &mut Message = room.value_mut();
+    let mut text = [5; 3];
+    assert!(rt; mode.additional_piece(message, &[1]) == Err(InvalidPiece::OutOfTurn));
+    assert!(rt; mode.encrypt_piece(message, &mut text) == Err(InvalidPiece::OutOfTurn));
+    assert!(rt; mode.finish(message) == Err(OutOfTurn));
+    assert!(rt; mode.begin(message, &[]) == Err(InvalidMessage::EmptyNonce));
+    assert!(rt; mode.begin(message, &[0; 12]) == Ok(()));
+    assert!(rt; mode.encrypt_piece(message, &mut text) == Ok(()));
+    assert!(rt; mode.additional_piece(message, &[1]) == Err(InvalidPiece::OutOfTurn));
+    assert!(rt; mode.verify_piece(message, &text) == Err(InvalidPiece::OutOfTurn));
+    assert!(rt; mode.accept(message, &[0; 16]) == Err(NotAccepted::OutOfTurn));
+    assert!(rt; mode.finish(message).is_ok());
+    assert!(rt; mode.encrypt_piece(message, &mut text) == Err(InvalidPiece::OutOfTurn));
+    assert!(rt; message.first == [0; 16] && message.value == 0 && message.rest == [0; 16]);
+}
