@@ -1,5 +1,6 @@
 """The module for Python: FIPS 197, appendix C; slices of 0 to 40 blocks against single calls; SP 800-38A, F.5, cut at
-every place; every refusal. The last line is `N passed, N failed`."""
+every place; every refusal; arguments that are no bytes and no positions. The last line is `N passed, N failed`."""
+import array
 import sys
 
 from fotsgure_aes import VERSION, Aes
@@ -36,10 +37,10 @@ def expect(holds, what):
         print("failed:", what)
 
 
-def refused(call):
+def refused(call, error=ValueError):
     try:
         call()
-    except ValueError:
+    except error:
         return True
     return False
 
@@ -70,5 +71,27 @@ for key, digits in F_ROWS:
             "the end is refused")
 expect(all(refused(lambda: Aes(bytes(size))) for size in range(34) if size not in (16, 24, 32)),
     "other lengths are refused")
+
+# What has no bytes is refused, and not taken as zeros, as bytes(16) and bytes([0] * 16) would be.
+aes = Aes(bytes(range(16)))
+for thing in (16, 0, -1, True, 1.5, None, [0] * 16, (0,) * 16, [256] * 16, range(16), "0123456789abcdef", object()):
+    expect(refused(lambda: Aes(thing), TypeError), f"{thing!r} is no key")
+    expect(refused(lambda: aes.encrypt(thing), TypeError), f"{thing!r} is no text to encrypt")
+    expect(refused(lambda: aes.decrypt(thing), TypeError), f"{thing!r} is no text to decrypt")
+    expect(refused(lambda: aes.keystream(thing), TypeError), f"{thing!r} is no initial counter block")
+    expect(refused(lambda: aes.keystream(F_IV).apply(thing), TypeError), f"{thing!r} is no text for a keystream")
+expect(refused(lambda: aes.encrypt(memoryview(bytes(64))[::2]), TypeError), "bytes with gaps are refused")
+for position in (-1, -16, 2 ** 64, 2 ** 64 + 16, 2 ** 200):
+    expect(refused(lambda: aes.keystream(F_IV, position)), f"no keystream has a position {position}")
+for position in (1.0, "1", None, b"1"):
+    expect(refused(lambda: aes.keystream(F_IV, position), TypeError), f"{position!r} is no position")
+expect(aes.keystream(F_IV, 2 ** 64 - 1).position == 2 ** 64 - 1, "the last position")
+# Whatever has bytes is taken by all of them.
+words, text = array.array("I", range(16)), array.array("I", range(16)).tobytes()
+expect(words.itemsize == 4 and aes.encrypt(words) == aes.encrypt(text) and len(aes.encrypt(words)) == 64, "an array")
+expect(words.tobytes() == text, "an array is not changed in place")
+expect(Aes(memoryview(bytearray(range(16)))).encrypt(C_PLAIN) == aes.encrypt(C_PLAIN), "a key in a memoryview")
+expect(aes.keystream(words[:4]).apply(words) == aes.keystream(text[:16]).apply(text), "an array as a counter block")
+expect(aes.encrypt(b"") == b"" and aes.encrypt(bytearray()) == bytearray(), "no bytes")
 print(f"{sum(checks)} passed, {len(checks) - sum(checks)} failed")
 sys.exit(not all(checks))

@@ -1,0 +1,209 @@
+"""Authenticated encryption by AES-GCM over the shared library by ctypes.
+
+    with Gcm(key, counter) as gcm:                      counter: what was stored, or bytes(12) with a new key
+        nonce, sealed = gcm.seal_next(text, additional) under the next nonce: store gcm.counter, then send both
+        text = gcm.open(nonce, sealed, additional)      raises Refused if anything was changed
+        sealed = gcm.seal(nonce, text, additional)      under a nonce of yours; the tag's 16 bytes are the last
+
+        with gcm.begin(nonce) as message:               a message in pieces: message.additional(bytes), and then
+            message.encrypt(bytes) .., message.finish() the tag, or
+            message.verify(bytes) .., message.accept(tag), message.decrypt(bytes) ..    the same text in both passes
+
+A key is os.urandom(32), kept where nobody else reads it; a password is none. No nonce may be used twice under a key.
+Random ones have 12 bytes or more; if any nonce of a key is random or has another length than 12 bytes, take a new key
+before 2^32 messages. What is bytes-like is taken by its bytes, and anything else is a TypeError: a number is no bytes.
+FOTSGURE_GCM names the library's file; without it the loader searches. Python copies bytes as it likes, so only the
+prepared key is wiped.
+"""
+import contextlib
+import ctypes
+import os
+import threading
+from typing import Any, Iterator, Optional, Sequence, Tuple
+
+from fotsgure_library import Bytes, bytes_of, load, room
+
+
+class Refused(Exception):
+    """The tag isn't that of this key, nonce, additional data and text, or they have lengths that no message has."""
+
+
+class _Key(ctypes.Structure):
+    _fields_ = [("key_length", ctypes.c_uint32), ("round_keys", ctypes.c_uint8 * 240),
+                ("multiples", ctypes.c_uint8 * 1536)]
+
+
+class _Message(ctypes.Structure):
+    _fields_ = [("numbers", ctypes.c_uint64 * 4), ("blocks", ctypes.c_uint8 * 48)]
+
+
+class _Counter(ctypes.Structure):
+    _fields_ = [("next", ctypes.c_uint8 * 12)]
+
+
+_key, _message, _counter = ctypes.POINTER(_Key), ctypes.POINTER(_Message), ctypes.POINTER(_Counter)
+_read, _written = [ctypes.c_char_p, ctypes.c_size_t], [ctypes.c_void_p, ctypes.c_size_t]
+_tag, _status = ctypes.c_void_p, ctypes.c_uint32
+_c = load("fotsgure_gcm", 1, [
+    ("set_key", [_key, *_read], _status),
+    ("wipe", [_key], None),
+    ("seal", [_key, *_read, *_read, *_written, _tag], _status),
+    ("seal_next", [_key, _counter, ctypes.c_void_p, *_read, *_written, _tag], _status),
+    ("open", [_key, *_read, *_read, *_written, *_read], _status),
+    ("begin", [_key, _message, *_read], _status),
+    ("additional", [_key, _message, *_read], _status),
+    ("encrypt", [_key, _message, *_written], _status),
+    ("finish", [_key, _message, _tag], _status),
+    ("verify", [_key, _message, *_read], _status),
+    ("accept", [_key, _message, *_read], _status),
+    ("decrypt", [_key, _message, *_written], _status),
+    ("decrypt_unverified", [_key, _message, *_written], _status),
+    ("wipe_message", [_message], None),
+])
+VERSION: int = _c.fotsgure_gcm_version()
+_STATUSES = ("", "a key has 16, 24 or 32 bytes", "the key was wiped", "the nonce has another length",
+             "a tag has 16 bytes", "more bytes than GCM takes, or more than were verified", "the tag is another",
+             "no nonce is left", "it isn't the turn of this call")
+# What shows that a message was changed: a nonce, a tag or a text with a length that no message has, or another tag.
+_CHANGED = (3, 4, 5, 6)
+
+
+def _check(status: int, changed: Sequence[int] = ()) -> None:
+    """Raises ValueError for a status but DONE, and Refused for those of `changed`."""
+    if status:
+        raise (Refused if status in changed else ValueError)(_STATUSES[status])
+
+
+class Gcm:
+    """A key of 16, 24 or 32 bytes. `wipe`, or the end of a `with`, wipes what was prepared of it, not the bytes given.
+    `counter` is the next nonce of `seal_next`, and None without one: store it before a message is sent, and give it to the
+    next Gcm of the same key. Threads may share a Gcm until it is wiped; let one at a time call `seal_next` and store
+    `counter`, so that the highest is stored last. In a process that was forked, `seal_next` raises ValueError: two
+    processes that counted on from the same number would use the same nonces."""
+
+    def __init__(self, key: Bytes, counter: Optional[Bytes] = None) -> None:
+        key, counter = bytes_of(key), None if counter is None else bytes_of(counter)
+        if counter is not None and len(counter) != 12:
+            raise ValueError("a counter has 12 bytes")
+        self._key, self._turn, self._process = _Key(), threading.Lock(), os.getpid()
+        self._counter = None if counter is None else _Counter.from_buffer_copy(counter)
+        _check(_c.fotsgure_gcm_set_key(self._key, key, len(key)))
+
+    @property
+    def counter(self) -> Optional[bytes]:
+        with self._turn:
+            return None if self._counter is None else bytes(self._counter.next)
+
+    def seal(self, nonce: Bytes, text: Bytes, additional: Bytes = b"") -> bytes:
+        """Encrypts: returns the encrypted text and the tag behind it."""
+        nonce, text, additional = bytes_of(nonce), bytes_of(text), bytes_of(additional)
+        buffer, tag = room(text), room(bytes(16))
+        _check(_c.fotsgure_gcm_seal(self._key, nonce, len(nonce), additional, len(additional), buffer, len(text), tag))
+        return buffer.raw[:len(text)] + tag.raw[:16]
+
+    def seal_next(self, text: Bytes, additional: Bytes = b"") -> Tuple[bytes, bytes]:
+        """Encrypts under the counter's next nonce: returns that nonce, and what `seal` returns."""
+        text, additional = bytes_of(text), bytes_of(additional)
+        nonce, buffer, tag = room(bytes(12)), room(text), room(bytes(16))
+        with self._counting() as counter:
+            _check(_c.fotsgure_gcm_seal_next(self._key, counter, nonce, additional, len(additional), buffer, len(text),
+                                             tag))
+        return nonce.raw[:12], buffer.raw[:len(text)] + tag.raw[:16]
+
+    @contextlib.contextmanager
+    def _counting(self) -> Iterator[_Counter]:
+        """The counter, for one thread of the process that it was given to."""
+        if self._counter is None:
+            raise ValueError("no counter was given")
+        if os.getpid() != self._process:
+            raise ValueError("the counter belongs to the process that this one was forked from")
+        with self._turn:
+            yield self._counter
+
+    def open(self, nonce: Bytes, sealed: Bytes, additional: Bytes = b"") -> bytes:
+        """Decrypts what `seal` returned, or raises Refused: also if the nonce is empty, or the tag isn't whole."""
+        nonce, sealed, additional = bytes_of(nonce), bytes_of(sealed), bytes_of(additional)
+        text, tag = sealed[:-16], sealed[-16:]
+        buffer = room(text)
+        _check(_c.fotsgure_gcm_open(self._key, nonce, len(nonce), additional, len(additional), buffer, len(text), tag,
+                                    len(tag)), _CHANGED)
+        return buffer.raw[:len(text)]
+
+    def begin(self, nonce: Bytes) -> "Message":
+        """Begins a message in pieces under a nonce of yours."""
+        nonce, message = bytes_of(nonce), Message(self)
+        _check(_c.fotsgure_gcm_begin(self._key, message._message, nonce, len(nonce)))
+        return message
+
+    def wipe(self) -> None:
+        _c.fotsgure_gcm_wipe(self._key)
+
+    def __enter__(self) -> "Gcm":
+        return self
+
+    def __exit__(self, *_: Any) -> None:
+        self.wipe()
+
+
+class Message:
+    """A message in pieces of any size, which `Gcm.begin` makes. Calls that come out of turn raise ValueError. `wipe`, or
+    the end of a `with`, wipes it: it is as secret as the key. After an encrypted piece its nonce is used, even if the
+    message is given up."""
+
+    def __init__(self, gcm: Gcm) -> None:
+        self._gcm, self._message = gcm, _Message()
+
+    def _takes(self, call: Any, data: Bytes, changed: Sequence[int] = ()) -> None:
+        data = bytes_of(data)
+        _check(call(self._gcm._key, self._message, data, len(data)), changed)
+
+    def _turns(self, call: Any, data: Bytes) -> bytes:
+        data = bytes_of(data)
+        buffer = room(data)
+        _check(call(self._gcm._key, self._message, buffer, len(data)))
+        return buffer.raw[:len(data)]
+
+    def additional(self, data: Bytes) -> None:
+        """Takes a piece of the additional data, all of which comes before the text."""
+        self._takes(_c.fotsgure_gcm_additional, data)
+
+    def encrypt(self, text: Bytes) -> bytes:
+        """Encrypts a piece of the text, and returns it."""
+        return self._turns(_c.fotsgure_gcm_encrypt, text)
+
+    def finish(self) -> bytes:
+        """Ends a message that was encrypted, and returns its tag."""
+        tag = room(bytes(16))
+        _check(_c.fotsgure_gcm_finish(self._gcm._key, self._message, tag))
+        return tag.raw[:16]
+
+    def verify(self, sealed: Bytes) -> None:
+        """Takes a piece of an encrypted text, whose tag is to be compared."""
+        self._takes(_c.fotsgure_gcm_verify, sealed)
+
+    def accept(self, tag: Bytes) -> None:
+        """Raises Refused, and wipes the message, if the tag is not that of what has come."""
+        try:
+            self._takes(_c.fotsgure_gcm_accept, tag, _CHANGED)
+        except Refused:
+            self.wipe()
+            raise
+
+    def decrypt(self, sealed: Bytes) -> bytes:
+        """Decrypts a piece of the text whose tag was right: the same text once more, from its beginning on. More than
+        was verified raises ValueError; count the bytes of both passes to see whether all of it came."""
+        return self._turns(_c.fotsgure_gcm_decrypt, sealed)
+
+    def decrypt_unverified(self, sealed: Bytes) -> bytes:
+        """Takes a piece as `verify` does and decrypts it at once. NOBODY HAS AUTHENTICATED WHAT IT RETURNS: use nothing
+        of it before `accept` has returned, and forget it if that raises."""
+        return self._turns(_c.fotsgure_gcm_decrypt_unverified, sealed)
+
+    def wipe(self) -> None:
+        _c.fotsgure_gcm_wipe_message(self._message)
+
+    def __enter__(self) -> "Message":
+        return self
+
+    def __exit__(self, *_: Any) -> None:
+        self.wipe()
