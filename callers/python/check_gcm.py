@@ -83,7 +83,7 @@ expect(raises(ValueError, Gcm(KEY, b"\xff" * 12).seal_next, PLAIN), "no nonce is
 expect(raises(ValueError, Gcm(KEY).seal_next, PLAIN), "no counter")
 expect(raises(ValueError, Gcm, KEY, bytes(13)), "a counter of another length")
 expect(raises(ValueError, Gcm, KEY[1:]), "a key of another length")
-expect(VERSION == 100, "the version")
+expect(VERSION == 300, "the version")
 
 # Text is decrypted before its tag is compared only by the call that says so.
 with Gcm(KEY) as gcm:

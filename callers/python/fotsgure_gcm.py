@@ -44,7 +44,7 @@ class _Counter(ctypes.Structure):
 _key, _message, _counter = ctypes.POINTER(_Key), ctypes.POINTER(_Message), ctypes.POINTER(_Counter)
 _read, _written = [ctypes.c_char_p, ctypes.c_size_t], [ctypes.c_void_p, ctypes.c_size_t]
 _tag, _status = ctypes.c_void_p, ctypes.c_uint32
-_c = load("fotsgure_gcm", 1, [
+_c = load("fotsgure_gcm", 3, [
     ("set_key", [_key, *_read], _status),
     ("wipe", [_key], None),
     ("seal", [_key, *_read, *_read, *_written, _tag], _status),

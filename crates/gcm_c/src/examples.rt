@@ -20,7 +20,7 @@ pub fn numbers_of_the_header()
     ensures refused { REFUSED ≡ 6 }
     ensures nonces_end { NONCES_END ≡ 7 }
     ensures out_of_turn { OUT_OF_TURN ≡ 8 }
-    ensures version { VERSION ≡ 100 }
+    ensures version { VERSION ≡ 300 }
 {}
 
 /// The lengths of keys and nonces, those on either side of them, and none; and the most that a message may have.

@@ -38,7 +38,7 @@ pub use whole::{fotsgure_gcm_open, fotsgure_gcm_seal};
 pub type Chosen = aes_hybrid::widths::Narrow;
 
 /// The version of the interface: 10000 times the first number, 100 times the second, plus the third.
-pub const VERSION: u32 = 100;
+pub const VERSION: u32 = 300;
 
 /// Returns the version of the library; programs compare it with that of their header.
 #[unsafe(no_mangle)]
