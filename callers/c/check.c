@@ -22,19 +22,6 @@ static void expect(int holds, const char *what, size_t size)
     }
 }
 
-/* A message of two blocks is encrypted in place, and comes back. */
-static int example(void)
-{
-    uint8_t key[32] = {1, 2, 3}, blocks[32] = "a message as long as two blocks";
-    struct fotsgure_aes aes;
-    if (fotsgure_aes_set_key(&aes, key, sizeof key) != FOTSGURE_AES_DONE)
-        return 0;
-    int done = fotsgure_aes_encrypt_blocks(&aes, blocks, 2) == FOTSGURE_AES_DONE &&
-               fotsgure_aes_decrypt_blocks(&aes, blocks, 2) == FOTSGURE_AES_DONE;
-    fotsgure_aes_wipe(&aes);
-    return done && strcmp((char *)blocks, "a message as long as two blocks") == 0;
-}
-
 static void from_hex(uint8_t *bytes, const char *digits)
 {
     unsigned byte;
@@ -290,7 +277,6 @@ int main(void)
 {
     for (size_t i = 0; i < sizeof counted; i++)
         counted[i] = (uint8_t)i;
-    expect(example(), "the example", 32);
     for (size_t i = 0; i < 3; i++) {
         rows_of_appendix_c(c_rows[i].size, c_rows[i].cipher);
         slices(c_rows[i].size);

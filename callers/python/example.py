@@ -1,8 +1,10 @@
-"""Two blocks are encrypted under a key of 32 bytes, and decrypted again."""
+"""The example of FIPS 197, C.3: a block is encrypted under a key of 32 bytes, and decrypted again. Bare blocks protect no
+message: see example_gcm.py."""
 from fotsgure_aes import Aes
 
-message = b"a message as long as two blocks!"
+plain = bytes.fromhex("00112233445566778899aabbccddeeff")
 with Aes(bytes(range(32))) as aes:  # raises ValueError for a key of another length
-    blocks = aes.encrypt(message)
-    assert aes.decrypt(blocks) == message
+    block = aes.encrypt(plain)
+    assert block.hex() == "8ea2b7ca516745bfeafc49904b496089"
+    assert aes.decrypt(block) == plain
 # the end of `with` wiped the key schedule
