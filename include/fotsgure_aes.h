@@ -57,7 +57,11 @@ extern "C" {
 #else
 #define FOTSGURE_AES_ALONE restrict
 #define FOTSGURE_AES_NOEXCEPT
+#if __STDC_VERSION__ >= 201112L
 #define FOTSGURE_AES_ASSERT _Static_assert
+#else
+#define FOTSGURE_AES_ASSERT(holds, why) extern int fotsgure_aes_assert[(holds) ? 1 : -1]
+#endif
 #define FOTSGURE_AES_CAST(type, value) ((type)(value))
 #endif
 
@@ -150,8 +154,9 @@ FOTSGURE_AES_CHECK enum fotsgure_aes_status fotsgure_aes_add_keystream_with(cons
     uint8_t *FOTSGURE_AES_ALONE bytes, size_t count) FOTSGURE_AES_NOEXCEPT;
 
 /* NULL with a count of 0: the library takes no NULL, so each call below hands on an address that is not NULL instead,
- * and that nothing reads or writes. Whoever calls the library without this header does the same. A pointer to a
- * function, and a name in parentheses, is the library's call itself. */
+ * and that nothing reads or writes. Whoever calls the library without this header does the same. NULL with another
+ * count is a mistake that ends the program: the call reads or writes there, at address 16. A pointer to a function,
+ * and a name in parentheses, is the library's call itself. */
 static inline const uint8_t *fotsgure_aes_not_null(const uint8_t *bytes) FOTSGURE_AES_NOEXCEPT
 {
     return bytes ? bytes : FOTSGURE_AES_CAST(const uint8_t *, (uintptr_t)FOTSGURE_AES_BLOCK);
@@ -161,29 +166,76 @@ static inline uint8_t *fotsgure_aes_not_null_mut(uint8_t *bytes) FOTSGURE_AES_NO
     return bytes ? bytes : FOTSGURE_AES_CAST(uint8_t *, (uintptr_t)FOTSGURE_AES_BLOCK);
 }
 
-#define fotsgure_aes_set_key(aes, key, key_length) fotsgure_aes_set_key(aes, fotsgure_aes_not_null(key), key_length)
-#define fotsgure_aes_encrypt_blocks(aes, blocks, count) \
-    fotsgure_aes_encrypt_blocks(aes, fotsgure_aes_not_null_mut(blocks), count)
-#define fotsgure_aes_decrypt_blocks(aes, blocks, count) \
-    fotsgure_aes_decrypt_blocks(aes, fotsgure_aes_not_null_mut(blocks), count)
-#define fotsgure_aes_encrypt_blocks_to(aes, input, input_count, output, output_count) \
-    fotsgure_aes_encrypt_blocks_to(aes, fotsgure_aes_not_null(input), input_count, \
-        fotsgure_aes_not_null_mut(output), output_count)
-#define fotsgure_aes_decrypt_blocks_to(aes, input, input_count, output, output_count) \
-    fotsgure_aes_decrypt_blocks_to(aes, fotsgure_aes_not_null(input), input_count, \
-        fotsgure_aes_not_null_mut(output), output_count)
-#define fotsgure_aes_add_keystream(aes, ctr, bytes, count) \
-    fotsgure_aes_add_keystream(aes, ctr, fotsgure_aes_not_null_mut(bytes), count)
-#define fotsgure_aes_add_keystream_to(aes, ctr, input, input_count, output, output_count) \
-    fotsgure_aes_add_keystream_to(aes, ctr, fotsgure_aes_not_null(input), input_count, \
-        fotsgure_aes_not_null_mut(output), output_count)
-#define fotsgure_aes_encrypt_blocks_with(key, key_length, blocks, count) \
-    fotsgure_aes_encrypt_blocks_with(fotsgure_aes_not_null(key), key_length, fotsgure_aes_not_null_mut(blocks), count)
-#define fotsgure_aes_decrypt_blocks_with(key, key_length, blocks, count) \
-    fotsgure_aes_decrypt_blocks_with(fotsgure_aes_not_null(key), key_length, fotsgure_aes_not_null_mut(blocks), count)
-#define fotsgure_aes_add_keystream_with(key, key_length, ctr, bytes, count) \
-    fotsgure_aes_add_keystream_with(fotsgure_aes_not_null(key), key_length, ctr, \
-        fotsgure_aes_not_null_mut(bytes), count)
+FOTSGURE_AES_CHECK static inline enum fotsgure_aes_status fotsgure_aes_not_null_set_key(struct fotsgure_aes *aes,
+    const uint8_t *key, size_t key_length) FOTSGURE_AES_NOEXCEPT
+{
+    return fotsgure_aes_set_key(aes, fotsgure_aes_not_null(key), key_length);
+}
+FOTSGURE_AES_CHECK static inline enum fotsgure_aes_status fotsgure_aes_not_null_encrypt_blocks(
+    const struct fotsgure_aes *aes, uint8_t *blocks, size_t count) FOTSGURE_AES_NOEXCEPT
+{
+    return fotsgure_aes_encrypt_blocks(aes, fotsgure_aes_not_null_mut(blocks), count);
+}
+FOTSGURE_AES_CHECK static inline enum fotsgure_aes_status fotsgure_aes_not_null_decrypt_blocks(
+    const struct fotsgure_aes *aes, uint8_t *blocks, size_t count) FOTSGURE_AES_NOEXCEPT
+{
+    return fotsgure_aes_decrypt_blocks(aes, fotsgure_aes_not_null_mut(blocks), count);
+}
+FOTSGURE_AES_CHECK static inline enum fotsgure_aes_status fotsgure_aes_not_null_encrypt_blocks_to(
+    const struct fotsgure_aes *aes, const uint8_t *input, size_t input_count, uint8_t *output,
+    size_t output_count) FOTSGURE_AES_NOEXCEPT
+{
+    return fotsgure_aes_encrypt_blocks_to(aes, fotsgure_aes_not_null(input), input_count,
+        fotsgure_aes_not_null_mut(output), output_count);
+}
+FOTSGURE_AES_CHECK static inline enum fotsgure_aes_status fotsgure_aes_not_null_decrypt_blocks_to(
+    const struct fotsgure_aes *aes, const uint8_t *input, size_t input_count, uint8_t *output,
+    size_t output_count) FOTSGURE_AES_NOEXCEPT
+{
+    return fotsgure_aes_decrypt_blocks_to(aes, fotsgure_aes_not_null(input), input_count,
+        fotsgure_aes_not_null_mut(output), output_count);
+}
+FOTSGURE_AES_CHECK static inline enum fotsgure_aes_status fotsgure_aes_not_null_add_keystream(
+    const struct fotsgure_aes *aes, struct fotsgure_aes_ctr *ctr, uint8_t *bytes, size_t count) FOTSGURE_AES_NOEXCEPT
+{
+    return fotsgure_aes_add_keystream(aes, ctr, fotsgure_aes_not_null_mut(bytes), count);
+}
+FOTSGURE_AES_CHECK static inline enum fotsgure_aes_status fotsgure_aes_not_null_add_keystream_to(
+    const struct fotsgure_aes *aes, struct fotsgure_aes_ctr *ctr, const uint8_t *input, size_t input_count,
+    uint8_t *output, size_t output_count) FOTSGURE_AES_NOEXCEPT
+{
+    return fotsgure_aes_add_keystream_to(aes, ctr, fotsgure_aes_not_null(input), input_count,
+        fotsgure_aes_not_null_mut(output), output_count);
+}
+FOTSGURE_AES_CHECK static inline enum fotsgure_aes_status fotsgure_aes_not_null_encrypt_blocks_with(
+    const uint8_t *key, size_t key_length, uint8_t *blocks, size_t count) FOTSGURE_AES_NOEXCEPT
+{
+    return fotsgure_aes_encrypt_blocks_with(fotsgure_aes_not_null(key), key_length, fotsgure_aes_not_null_mut(blocks),
+        count);
+}
+FOTSGURE_AES_CHECK static inline enum fotsgure_aes_status fotsgure_aes_not_null_decrypt_blocks_with(
+    const uint8_t *key, size_t key_length, uint8_t *blocks, size_t count) FOTSGURE_AES_NOEXCEPT
+{
+    return fotsgure_aes_decrypt_blocks_with(fotsgure_aes_not_null(key), key_length, fotsgure_aes_not_null_mut(blocks),
+        count);
+}
+FOTSGURE_AES_CHECK static inline enum fotsgure_aes_status fotsgure_aes_not_null_add_keystream_with(const uint8_t *key,
+    size_t key_length, struct fotsgure_aes_ctr *ctr, uint8_t *bytes, size_t count) FOTSGURE_AES_NOEXCEPT
+{
+    return fotsgure_aes_add_keystream_with(fotsgure_aes_not_null(key), key_length, ctr,
+        fotsgure_aes_not_null_mut(bytes), count);
+}
+
+#define fotsgure_aes_set_key(...) fotsgure_aes_not_null_set_key(__VA_ARGS__)
+#define fotsgure_aes_encrypt_blocks(...) fotsgure_aes_not_null_encrypt_blocks(__VA_ARGS__)
+#define fotsgure_aes_decrypt_blocks(...) fotsgure_aes_not_null_decrypt_blocks(__VA_ARGS__)
+#define fotsgure_aes_encrypt_blocks_to(...) fotsgure_aes_not_null_encrypt_blocks_to(__VA_ARGS__)
+#define fotsgure_aes_decrypt_blocks_to(...) fotsgure_aes_not_null_decrypt_blocks_to(__VA_ARGS__)
+#define fotsgure_aes_add_keystream(...) fotsgure_aes_not_null_add_keystream(__VA_ARGS__)
+#define fotsgure_aes_add_keystream_to(...) fotsgure_aes_not_null_add_keystream_to(__VA_ARGS__)
+#define fotsgure_aes_encrypt_blocks_with(...) fotsgure_aes_not_null_encrypt_blocks_with(__VA_ARGS__)
+#define fotsgure_aes_decrypt_blocks_with(...) fotsgure_aes_not_null_decrypt_blocks_with(__VA_ARGS__)
+#define fotsgure_aes_add_keystream_with(...) fotsgure_aes_not_null_add_keystream_with(__VA_ARGS__)
 
 #ifdef __cplusplus
 }

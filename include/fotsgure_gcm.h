@@ -59,7 +59,11 @@ extern "C" {
 #else
 #define FOTSGURE_GCM_ALONE restrict
 #define FOTSGURE_GCM_NOEXCEPT
+#if __STDC_VERSION__ >= 201112L
 #define FOTSGURE_GCM_ASSERT _Static_assert
+#else
+#define FOTSGURE_GCM_ASSERT(holds, why) extern int fotsgure_gcm_assert[(holds) ? 1 : -1]
+#endif
 #define FOTSGURE_GCM_CAST(type, value) ((type)(value))
 #endif
 
@@ -76,7 +80,8 @@ enum fotsgure_gcm_status {
     FOTSGURE_GCM_NO_KEY = 2,       /* the struct holds no key */
     FOTSGURE_GCM_NONCE_LENGTH = 3, /* the nonce is empty, or has 2^61 bytes or more */
     FOTSGURE_GCM_TAG_LENGTH = 4,   /* the tag doesn't have 16 bytes */
-    FOTSGURE_GCM_TOO_LONG = 5,     /* more text or additional data than the standard allows */
+    FOTSGURE_GCM_TOO_LONG = 5,     /* more text or additional data than the standard allows, or more text to decrypt
+                                    * than was verified */
     FOTSGURE_GCM_REFUSED = 6,      /* the tag isn't that of this key, nonce, additional data and text */
     FOTSGURE_GCM_NONCES_END = 7,   /* the counter of nonces has come to its end */
     FOTSGURE_GCM_OUT_OF_TURN = 8   /* the message is not where this call may come */
@@ -208,8 +213,8 @@ FOTSGURE_GCM_CHECK enum fotsgure_gcm_status fotsgure_gcm_accept(const struct fot
     const uint8_t *tag, size_t tag_length) FOTSGURE_GCM_NOEXCEPT;
 
 /* Decrypts a piece in place of the encrypted text whose tag was right: give the same text once more, from its beginning
- * on, and no more of it. The library doesn't see whether it is the same, nor whether all of it has come: count the
- * bytes of both passes.
+ * on. More than was verified is TOO_LONG. The library doesn't see whether it is the same text, nor whether all of it has
+ * come: count the bytes of both passes.
  * NO_KEY, OUT_OF_TURN or TOO_LONG; else DONE. */
 FOTSGURE_GCM_CHECK enum fotsgure_gcm_status fotsgure_gcm_decrypt(const struct fotsgure_gcm *gcm,
     struct fotsgure_gcm_message *FOTSGURE_GCM_ALONE message,
@@ -226,9 +231,9 @@ FOTSGURE_GCM_CHECK enum fotsgure_gcm_status fotsgure_gcm_decrypt_unverified(cons
 void fotsgure_gcm_wipe_message(struct fotsgure_gcm_message *message) FOTSGURE_GCM_NOEXCEPT;
 
 /* NULL with a length of 0: the library takes no NULL, so each call below hands on an address that is not NULL instead,
- * and that nothing reads or writes. Whoever calls the library without this header does the same. A pointer to a
- * function, and a name in parentheses, is the library's call itself. These are macros, so put a compound literal among
- * the arguments in parentheses: ((uint8_t[12]){1, 2}). */
+ * and that nothing reads or writes. Whoever calls the library without this header does the same. NULL with another
+ * length is a mistake that ends the program: the call reads or writes there, at address 16. A pointer to a function,
+ * and a name in parentheses, is the library's call itself. */
 static inline const uint8_t *fotsgure_gcm_not_null(const uint8_t *bytes) FOTSGURE_GCM_NOEXCEPT
 {
     return bytes ? bytes : FOTSGURE_GCM_CAST(const uint8_t *, (uintptr_t)FOTSGURE_GCM_TAG);
@@ -238,31 +243,84 @@ static inline uint8_t *fotsgure_gcm_not_null_mut(uint8_t *bytes) FOTSGURE_GCM_NO
     return bytes ? bytes : FOTSGURE_GCM_CAST(uint8_t *, (uintptr_t)FOTSGURE_GCM_TAG);
 }
 
-#define fotsgure_gcm_set_key(gcm, key, key_length) fotsgure_gcm_set_key(gcm, fotsgure_gcm_not_null(key), key_length)
-#define fotsgure_gcm_seal(gcm, nonce, nonce_length, additional, additional_length, text, text_length, tag) \
-    fotsgure_gcm_seal(gcm, fotsgure_gcm_not_null(nonce), nonce_length, \
-        fotsgure_gcm_not_null(additional), additional_length, fotsgure_gcm_not_null_mut(text), text_length, tag)
-#define fotsgure_gcm_seal_next(gcm, counter, nonce, additional, additional_length, text, text_length, tag) \
-    fotsgure_gcm_seal_next(gcm, counter, nonce, \
-        fotsgure_gcm_not_null(additional), additional_length, fotsgure_gcm_not_null_mut(text), text_length, tag)
-#define fotsgure_gcm_open(gcm, nonce, nonce_length, additional, additional_length, text, text_length, tag, tag_length) \
-    fotsgure_gcm_open(gcm, fotsgure_gcm_not_null(nonce), nonce_length, \
-        fotsgure_gcm_not_null(additional), additional_length, fotsgure_gcm_not_null_mut(text), text_length, \
-        fotsgure_gcm_not_null(tag), tag_length)
-#define fotsgure_gcm_begin(gcm, message, nonce, nonce_length) \
-    fotsgure_gcm_begin(gcm, message, fotsgure_gcm_not_null(nonce), nonce_length)
-#define fotsgure_gcm_additional(gcm, message, additional, additional_length) \
-    fotsgure_gcm_additional(gcm, message, fotsgure_gcm_not_null(additional), additional_length)
-#define fotsgure_gcm_encrypt(gcm, message, text, text_length) \
-    fotsgure_gcm_encrypt(gcm, message, fotsgure_gcm_not_null_mut(text), text_length)
-#define fotsgure_gcm_verify(gcm, message, text, text_length) \
-    fotsgure_gcm_verify(gcm, message, fotsgure_gcm_not_null(text), text_length)
-#define fotsgure_gcm_accept(gcm, message, tag, tag_length) \
-    fotsgure_gcm_accept(gcm, message, fotsgure_gcm_not_null(tag), tag_length)
-#define fotsgure_gcm_decrypt(gcm, message, text, text_length) \
-    fotsgure_gcm_decrypt(gcm, message, fotsgure_gcm_not_null_mut(text), text_length)
-#define fotsgure_gcm_decrypt_unverified(gcm, message, text, text_length) \
-    fotsgure_gcm_decrypt_unverified(gcm, message, fotsgure_gcm_not_null_mut(text), text_length)
+FOTSGURE_GCM_CHECK static inline enum fotsgure_gcm_status fotsgure_gcm_not_null_set_key(struct fotsgure_gcm *gcm,
+    const uint8_t *key, size_t key_length) FOTSGURE_GCM_NOEXCEPT
+{
+    return fotsgure_gcm_set_key(gcm, fotsgure_gcm_not_null(key), key_length);
+}
+FOTSGURE_GCM_CHECK static inline enum fotsgure_gcm_status fotsgure_gcm_not_null_seal(const struct fotsgure_gcm *gcm,
+    const uint8_t *nonce, size_t nonce_length, const uint8_t *additional, size_t additional_length, uint8_t *text,
+    size_t text_length, uint8_t tag[FOTSGURE_GCM_TAG]) FOTSGURE_GCM_NOEXCEPT
+{
+    return fotsgure_gcm_seal(gcm, fotsgure_gcm_not_null(nonce), nonce_length, fotsgure_gcm_not_null(additional),
+        additional_length, fotsgure_gcm_not_null_mut(text), text_length, tag);
+}
+FOTSGURE_GCM_CHECK static inline enum fotsgure_gcm_status fotsgure_gcm_not_null_seal_next(
+    const struct fotsgure_gcm *gcm, struct fotsgure_gcm_counter *counter, uint8_t nonce[FOTSGURE_GCM_NONCE],
+    const uint8_t *additional, size_t additional_length, uint8_t *text, size_t text_length,
+    uint8_t tag[FOTSGURE_GCM_TAG]) FOTSGURE_GCM_NOEXCEPT
+{
+    return fotsgure_gcm_seal_next(gcm, counter, nonce, fotsgure_gcm_not_null(additional), additional_length,
+        fotsgure_gcm_not_null_mut(text), text_length, tag);
+}
+FOTSGURE_GCM_CHECK static inline enum fotsgure_gcm_status fotsgure_gcm_not_null_open(const struct fotsgure_gcm *gcm,
+    const uint8_t *nonce, size_t nonce_length, const uint8_t *additional, size_t additional_length, uint8_t *text,
+    size_t text_length, const uint8_t *tag, size_t tag_length) FOTSGURE_GCM_NOEXCEPT
+{
+    return fotsgure_gcm_open(gcm, fotsgure_gcm_not_null(nonce), nonce_length, fotsgure_gcm_not_null(additional),
+        additional_length, fotsgure_gcm_not_null_mut(text), text_length, fotsgure_gcm_not_null(tag), tag_length);
+}
+FOTSGURE_GCM_CHECK static inline enum fotsgure_gcm_status fotsgure_gcm_not_null_begin(const struct fotsgure_gcm *gcm,
+    struct fotsgure_gcm_message *message, const uint8_t *nonce, size_t nonce_length) FOTSGURE_GCM_NOEXCEPT
+{
+    return fotsgure_gcm_begin(gcm, message, fotsgure_gcm_not_null(nonce), nonce_length);
+}
+FOTSGURE_GCM_CHECK static inline enum fotsgure_gcm_status fotsgure_gcm_not_null_additional(
+    const struct fotsgure_gcm *gcm, struct fotsgure_gcm_message *message, const uint8_t *additional,
+    size_t additional_length) FOTSGURE_GCM_NOEXCEPT
+{
+    return fotsgure_gcm_additional(gcm, message, fotsgure_gcm_not_null(additional), additional_length);
+}
+FOTSGURE_GCM_CHECK static inline enum fotsgure_gcm_status fotsgure_gcm_not_null_encrypt(
+    const struct fotsgure_gcm *gcm, struct fotsgure_gcm_message *message, uint8_t *text,
+    size_t text_length) FOTSGURE_GCM_NOEXCEPT
+{
+    return fotsgure_gcm_encrypt(gcm, message, fotsgure_gcm_not_null_mut(text), text_length);
+}
+FOTSGURE_GCM_CHECK static inline enum fotsgure_gcm_status fotsgure_gcm_not_null_verify(const struct fotsgure_gcm *gcm,
+    struct fotsgure_gcm_message *message, const uint8_t *text, size_t text_length) FOTSGURE_GCM_NOEXCEPT
+{
+    return fotsgure_gcm_verify(gcm, message, fotsgure_gcm_not_null(text), text_length);
+}
+FOTSGURE_GCM_CHECK static inline enum fotsgure_gcm_status fotsgure_gcm_not_null_accept(const struct fotsgure_gcm *gcm,
+    struct fotsgure_gcm_message *message, const uint8_t *tag, size_t tag_length) FOTSGURE_GCM_NOEXCEPT
+{
+    return fotsgure_gcm_accept(gcm, message, fotsgure_gcm_not_null(tag), tag_length);
+}
+FOTSGURE_GCM_CHECK static inline enum fotsgure_gcm_status fotsgure_gcm_not_null_decrypt(
+    const struct fotsgure_gcm *gcm, struct fotsgure_gcm_message *message, uint8_t *text,
+    size_t text_length) FOTSGURE_GCM_NOEXCEPT
+{
+    return fotsgure_gcm_decrypt(gcm, message, fotsgure_gcm_not_null_mut(text), text_length);
+}
+FOTSGURE_GCM_CHECK static inline enum fotsgure_gcm_status fotsgure_gcm_not_null_decrypt_unverified(
+    const struct fotsgure_gcm *gcm, struct fotsgure_gcm_message *message, uint8_t *text,
+    size_t text_length) FOTSGURE_GCM_NOEXCEPT
+{
+    return fotsgure_gcm_decrypt_unverified(gcm, message, fotsgure_gcm_not_null_mut(text), text_length);
+}
+
+#define fotsgure_gcm_set_key(...) fotsgure_gcm_not_null_set_key(__VA_ARGS__)
+#define fotsgure_gcm_seal(...) fotsgure_gcm_not_null_seal(__VA_ARGS__)
+#define fotsgure_gcm_seal_next(...) fotsgure_gcm_not_null_seal_next(__VA_ARGS__)
+#define fotsgure_gcm_open(...) fotsgure_gcm_not_null_open(__VA_ARGS__)
+#define fotsgure_gcm_begin(...) fotsgure_gcm_not_null_begin(__VA_ARGS__)
+#define fotsgure_gcm_additional(...) fotsgure_gcm_not_null_additional(__VA_ARGS__)
+#define fotsgure_gcm_encrypt(...) fotsgure_gcm_not_null_encrypt(__VA_ARGS__)
+#define fotsgure_gcm_verify(...) fotsgure_gcm_not_null_verify(__VA_ARGS__)
+#define fotsgure_gcm_accept(...) fotsgure_gcm_not_null_accept(__VA_ARGS__)
+#define fotsgure_gcm_decrypt(...) fotsgure_gcm_not_null_decrypt(__VA_ARGS__)
+#define fotsgure_gcm_decrypt_unverified(...) fotsgure_gcm_not_null_decrypt_unverified(__VA_ARGS__)
 
 #ifdef __cplusplus
 }

@@ -220,6 +220,12 @@ static void statuses(void)
            fotsgure_aes_decrypt_blocks_with(NULL, 0, NULL, 0) == FOTSGURE_AES_KEY_LENGTH &&
            fotsgure_aes_add_keystream_with(counted, 24, &ctr, NULL, 0) == FOTSGURE_AES_DONE &&
                ctr.position == 5, "NULL with a count of 0", 0);
+    /* A compound literal is one argument, however many commas it has. */
+    expect(fotsgure_aes_set_key(&aes, (const uint8_t[]){0, 1, 2, 3, 4, 5, 6, 7, 8, 9, 10, 11, 12, 13, 14, 15}, 16) ==
+        FOTSGURE_AES_DONE && fotsgure_aes_encrypt_blocks_to(&aes, (const uint8_t[16]){1, 2}, 1, bytes, 1) ==
+        FOTSGURE_AES_DONE && fotsgure_aes_decrypt_blocks(&aes, bytes, 1) == FOTSGURE_AES_DONE &&
+        !memcmp(bytes, (const uint8_t[16]){1, 2}, 16), "compound literals", 16);
+    expect(fotsgure_aes_set_key(&aes, counted, 24) == FOTSGURE_AES_DONE, "a key is kept", 24);
     before = aes;
     expect(fotsgure_aes_set_key(&aes, NULL, 0) == FOTSGURE_AES_KEY_LENGTH &&
         fotsgure_aes_key_length(&aes) == 0, "no bytes are no key", 0);

@@ -365,6 +365,11 @@ static void pieces(void)
     expect(memcmp(&message, &before, sizeof message) == 0, "a message that is refused stays as it was", 0);
     expect(fotsgure_gcm_encrypt(&gcm, &message, NULL, 0) == FOTSGURE_GCM_DONE, "NULL for no bytes", 1);
     fotsgure_gcm_wipe_message(&message);
+    /* A compound literal is one argument, however many commas it has. */
+    memset(text, 1, 3);
+    expect(fotsgure_gcm_seal(&gcm, (const uint8_t[12]){1, 2}, 12, (const uint8_t[]){1, 2, 3}, 3, text, 3, tag) ==
+        FOTSGURE_GCM_DONE && fotsgure_gcm_open(&gcm, (const uint8_t[12]){1, 2}, 12, (const uint8_t[]){1, 2, 3}, 3, text, 3,
+        tag, 16) == FOTSGURE_GCM_DONE && all(text, 3, 1), "compound literals", 3);
     fotsgure_gcm_wipe(&gcm);
 }
 
