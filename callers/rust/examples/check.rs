@@ -86,6 +86,16 @@ fn main() {
         checks.push(("the end is refused", stream.apply(&mut bytes) == Err(KeystreamEnd) && bytes == [1, 2] &&
             stream.apply(&mut bytes[..1]) == Ok(())));
     }
+    let aes = Aes::new(&counted[..32]).unwrap();
+    let copy = aes.clone();
+    drop(aes);
+    let mut block = [C_PLAIN.to_be_bytes()];
+    copy.encrypt_blocks(&mut block);
+    checks.push(("a clone outlives the first value", u128::from_be_bytes(block[0]) == C_ROWS[2].1));
+    let mut stream = copy.keystream([7; 16]);
+    stream.seek(21);
+    checks.push(("no key and no counter block is printed", format!("{copy:?}") == "Aes { .. }" &&
+        format!("{stream:?}") == "Keystream { position: 21, .. }"));
     let lengths = (0..=34).filter(|size| !matches!(size, 16 | 24 | 32));
     let refused = lengths.into_iter().all(|size| Aes::new(&counted[..size]).err() == Some(InvalidLength));
     checks.push(("other lengths are refused", refused));

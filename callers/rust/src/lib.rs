@@ -113,6 +113,18 @@ impl Aes {
     }
 }
 
+impl Clone for Aes {
+    /// Copies the key schedule from heap to heap. Each copy is zeroized when it is dropped.
+    fn clone(&self) -> Aes {
+        let mut schedule = Box::new(MaybeUninit::<c::Aes>::uninit());
+        // SAFETY: both pointers come from boxes of whole structs, and the new one is written before it is read.
+        unsafe {
+            schedule.as_mut_ptr().copy_from_nonoverlapping(&*self.0, 1);
+            Aes(Box::from_raw(Box::into_raw(schedule).cast::<c::Aes>()))
+        }
+    }
+}
+
 impl Drop for Aes {
     fn drop(&mut self) {
         // SAFETY: a whole struct, borrowed for the call.
@@ -126,7 +138,7 @@ impl fmt::Debug for Aes {
     }
 }
 
-/// Counter mode under a key that is lent.
+/// Counter mode under a key that is lent. It can't be cloned: a copy would give out the same keystream again.
 pub struct Keystream<'a> {
     aes: &'a Aes,
     ctr: c::Ctr,
@@ -165,5 +177,11 @@ impl Keystream<'_> {
     /// Moves to a position.
     pub fn seek(&mut self, position: u64) {
         self.ctr.position = position;
+    }
+}
+
+impl fmt::Debug for Keystream<'_> {
+    fn fmt(&self, f: &mut fmt::Formatter<'_>) -> fmt::Result {
+        f.debug_struct("Keystream").field("position", &self.ctr.position).finish_non_exhaustive()
     }
 }
