@@ -1,5 +1,5 @@
-// The example of FIPS 197, C.3: a block is encrypted under a key of 32 bytes, and decrypted again. Bare blocks protect no
-// message: see fotsgure_gcm.h.
+// The example of FIPS 197, C.3: a block is encrypted under a key of 32 bytes, and decrypted again. Bare blocks protect
+// no message: see fotsgure_gcm.h.
 #include <fotsgure_aes.hpp>
 int main() {
     const fotsgure::Block plain{0x00, 0x11, 0x22, 0x33, 0x44, 0x55, 0x66, 0x77, 0x88, 0x99, 0xaa, 0xbb, 0xcc, 0xdd, 0xee, 0xff};

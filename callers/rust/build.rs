@@ -9,4 +9,7 @@ fn main() {
     let folder = env::var("FOTSGURE_AES_LIB").unwrap_or_else(|_| installed.display().to_string());
     println!("cargo:rustc-link-search=native={folder}");
     println!("cargo:rustc-link-lib=static=fotsgure_aes");
+    if env::var_os("CARGO_FEATURE_GCM").is_some() {
+        println!("cargo:rustc-link-lib=static=fotsgure_gcm");
+    }
 }

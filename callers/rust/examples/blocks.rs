@@ -1,5 +1,5 @@
-//! The example of FIPS 197, C.3: a block is encrypted under a key of 32 bytes, and decrypted again. Bare blocks protect no
-//! message.
+//! The example of FIPS 197, C.3: a block is encrypted under a key of 32 bytes, and decrypted again. Bare blocks
+//! protect no message.
 
 use fotsgure_aes::{Aes, InvalidLength};
 

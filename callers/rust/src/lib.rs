@@ -1,6 +1,10 @@
-//! Safe Rust over the C library `fotsgure_aes`: AES with keys of 16, 24 and 32 bytes, and counter mode.
+//! Safe Rust over the C library `fotsgure_aes`: AES with keys of 16, 24 and 32 bytes, and counter mode. With the
+//! feature `gcm`, authenticated encryption too, over `fotsgure_gcm`.
 //!
 //! Every function meets the conditions that the head of `fotsgure_aes.h` asks of callers.
+
+#[cfg(feature = "gcm")]
+pub mod gcm;
 
 use std::fmt;
 use std::mem::MaybeUninit;

@@ -1,0 +1,62 @@
+//! GCM in the wrapper for Rust: test case 4 of the submission of GCM (McGrew and Viega, appendix B); texts of 0 to 300
+//! bytes there and back; every refusal. The last line is `N passed, N failed`.
+
+use fotsgure_aes::gcm::{Counter, Gcm, NotSealed, Refused};
+use fotsgure_aes::InvalidLength;
+
+const KEY: &str = "feffe9928665731c6d6a8f9467308308";
+const NONCE: &str = "cafebabefacedbaddecaf888";
+const ADDITIONAL: &str = "feedfacedeadbeeffeedfacedeadbeefabaddad2";
+const PLAIN: &str = concat!(
+    "d9313225f88406e5a55909c5aff5269a86a7a9531534f7da2e4c303d8a318a72",
+    "1c3c0c95956809532fcf0e2449a6b525b16aedf5aa0de657ba637b39",
+);
+const CIPHER: &str = concat!(
+    "42831ec2217774244b7221b784d0d49ce3aa212f2c02a4e035c17e2329aca12e",
+    "21d514b25466931c7d8f6a5aac84aa051ba30b396a0aac973d58e091",
+);
+const TAG: &str = "5bc94fbc3221a5db94fae95ae7121a47";
+
+fn bytes_of(digits: &str) -> Vec<u8> {
+    (0..digits.len()).step_by(2).map(|i| u8::from_str_radix(&digits[i..i + 2], 16).unwrap()).collect()
+}
+
+/// Whether a text of some length comes back, and one that was changed doesn't, and stays as it was.
+fn comes_back(gcm: &Gcm, counter: &mut Counter, length: usize) -> bool {
+    let text: Vec<u8> = (0..length).map(|i| (i % 251) as u8).collect();
+    let (additional, mut sealed) = (&text[..length / 3], text.clone());
+    let (nonce, mut tag) = gcm.seal_next(counter, additional, &mut sealed).unwrap();
+    let mut opened = sealed.clone();
+    let right = gcm.open(&nonce, additional, &mut opened, &tag) == Ok(()) && opened == text;
+    tag[length % 16] ^= 4;
+    opened.copy_from_slice(&sealed);
+    right && gcm.open(&nonce, additional, &mut opened, &tag) == Err(Refused) && opened == sealed
+}
+
+fn main() {
+    let (gcm, nonce, additional) = (Gcm::new(&bytes_of(KEY)).unwrap(), bytes_of(NONCE), bytes_of(ADDITIONAL));
+    let (mut text, tag) = (bytes_of(PLAIN), bytes_of(TAG));
+    let made = gcm.seal(&nonce, &additional, &mut text).unwrap();
+    let mut checks = vec![("case 4, sealed", made[..] == tag[..])];
+    checks.push(("case 4, its text", text == bytes_of(CIPHER)));
+    checks.push(("other additional data", gcm.open(&nonce, b"", &mut text, &tag) == Err(Refused)));
+    checks.push(("a tag that was cut", gcm.open(&nonce, &additional, &mut text, &tag[..15]) == Err(Refused)));
+    checks.push(("no nonce to open", gcm.open(b"", &additional, &mut text, &tag) == Err(Refused)));
+    checks.push(("what is refused stays", text == bytes_of(CIPHER)));
+    checks.push(("no nonce to seal", gcm.seal(b"", &additional, &mut text) == Err(NotSealed::NonceLength)));
+    let opened = gcm.open(&nonce, &additional, &mut text, &tag);
+    checks.push(("case 4, opened", opened == Ok(()) && text == bytes_of(PLAIN)));
+    let mut counter = Counter { next: [0; 12] };
+    checks.push(("0 to 300 bytes", (0..=300).all(|length| comes_back(&gcm, &mut counter, length))));
+    checks.push(("the counter", counter.next == [0, 0, 0, 0, 0, 0, 0, 0, 0, 0, 1, 45]));
+    let mut end = Counter { next: [0xff; 12] };
+    checks.push(("the end", gcm.seal_next(&mut end, b"", &mut text) == Err(NotSealed::NoncesEnd)));
+    checks.push(("a key of 17 bytes", Gcm::new(&[0; 17]).err() == Some(InvalidLength)));
+    checks.push(("no key is printed", format!("{gcm:?}") == "Gcm { .. }"));
+    for (what, _) in checks.iter().filter(|check| !check.1) {
+        println!("failed: {what}");
+    }
+    let passed = checks.iter().filter(|check| check.1).count();
+    println!("{passed} passed, {} failed", checks.len() - passed);
+    std::process::exit((passed != checks.len()) as i32);
+}
