@@ -1,6 +1,6 @@
 //! Blocks in batches on planes, under stored round keys: batches of eight or sixteen, as the words are wide.
 
-ghost use Rattle.std.specs.Prelude.{◌≡◌, ◌%◌, ◌<◌, ◌≤◌, length, map, take};
+ghost use Rattle.std.specs.Prelude.{◌≡◌, ◌-◌, ◌%◌, ◌<◌, ◌≤◌, ◌++◌, [], drop, get_or, length, map, replicate, take};
 ghost use Rattle.aes_planes.specs.Each.{Each};
 ghost use Rattle.aes_planes.specs.Fips197 as fips;
 ghost use Rattle.aes_soft.specs.Stored as soft;
@@ -24,6 +24,7 @@ fn copy_first<W: SlotWord>(to: &mut [Block], from: &[Block], count: usize)
     requires to { count ≤ length to.old }
     requires from { count ≤ length from.now }
     ensures copied { take count to.new ≡ take count from.now }
+    ensures others { drop count to.new ≡ drop count to.old }
     ensures same_length { length to.new ≡ length to.old }
 {
     'copy: for k in 0..W::Blocks::LEN {
@@ -34,19 +35,32 @@ fn copy_first<W: SlotWord>(to: &mut [Block], from: &[Block], count: usize)
     }
 }
 
-// Processes fewer blocks than a batch, as one with blocks of zeros.
+// Returns fewer blocks than a batch, and after them the first of them again and again: so no block is processed that
+// nobody gave. What a block of zeros is encrypted to is a secret of some modes, as of GCM.
+#[tactic(auto, using(crate::proofs::Fronts::filled))]
+#[inline(always)]
+fn filled_up<W: SlotWord>(blocks: &[Block]) -> [Block; LARGEST_BATCH]
+    requires some { 1 ≤ length blocks.now }
+    requires fewer { length blocks.now < W.Blocks.LEN }
+    ensures { result ≡ blocks.now ++ replicate (16 - length blocks.now) (get_or blocks.now 0 []) }
+{
+    let mut batch = [blocks[0]; LARGEST_BATCH];
+    copy_first::<W>(&mut batch, blocks, blocks.len());
+    batch
+}
+
+// Processes fewer blocks than a batch, as a batch that is filled up.
 #[inline(never)]
 fn process_rest<D: PlaneCipher, W: SlotWord>(words: &[W], blocks: &mut [Block])
     requires is_schedule { soft.IsFullSchedule (length words.now) W.BLOCKS (map W.bits words.now) }
+    requires some { 1 ≤ length blocks.old }
     requires fewer { length blocks.old < W.Blocks.LEN }
     ensures { let key = soft.plane_key (length words.now) W.BLOCKS (map W.bits words.now) in
         Each (D.processed (fips.key_expansion key)) blocks.old blocks.new }
 {
-    let count = blocks.len();
-    let mut batch = [[0; 16]; LARGEST_BATCH];
-    copy_first::<W>(&mut batch, blocks, count);
+    let mut batch = filled_up::<W>(blocks);
     process_batch_under::<W, D>(words, &mut batch[..W::Blocks::LEN], &mut Layers::new());
-    copy_first::<W>(blocks, &batch, count);
+    copy_first::<W>(blocks, &batch, blocks.len());
 }
 
 // Processes each block on words of round keys: whole batches, and then what is left.

@@ -1,11 +1,15 @@
 -- What is left to show of `batches::process_rest`.
-use Rattle.std.proofs.Common.{length, refl, arith}
+use Rattle.std.proofs.Common.{ℕ, ◌-◌, [], length, get_or, replicate, arith}
+use Rattle.std.proofs.lemmas.List.{length-replicate}
 use Rattle.aes_hybrid.proofs.Fronts.{first_processed}
 use Rattle.aes_hybrid.proofs.batches.process_rest.Goals as goal
 
 pub returns : goal.returns
 returns g c =
-    first_processed _ (length c.args.blocks.now) _ c.args.blocks.now c.copy_first.new.to _ c.copy_first-2.new.to refl
-    (omega (arith, c.requires.fewer)) (omega (arith, c.copy_first.ensures.same_length, g.met.W.SlotWord.at_most_sixteen))
-    c.copy_first.ensures.copied c.process_batch_under.ensures.blocks c.copy_first-2.ensures.copied
-    c.copy_first-2.ensures.same_length
+    let blocks = c.args.blocks.now in
+    let n : ℕ = 16 - length blocks in
+    let first = get_or blocks 0 [] in
+    first_processed _ _ blocks (replicate n first) c.filled_up-batch.result _ c.copy_first.new.to
+    (omega (arith, c.requires.fewer)) (omega (arith, c.requires.fewer, g.met.W.SlotWord.at_most_sixteen, length-replicate n first))
+    c.filled_up-batch.ensures c.process_batch_under.ensures.blocks c.copy_first.ensures.copied
+    c.copy_first.ensures.same_length
