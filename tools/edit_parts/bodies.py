@@ -1,0 +1,155 @@
+"""Reads edits, and finds the functions whose bodies they change, in files as `rt fmt` lays them out."""
+import os
+import re
+
+FUNCTION = re.compile(r"^( *)(?:pub(?:\([^)]*\))? )?(const )?(?:unsafe )?(?:extern \"C\" )?fn (\w+)")
+BLOCK = re.compile(r"^( *)(?:pub(?:\([^)]*\))? )?(?:unsafe )?(impl|trait|mod)\b")
+NUMBER = re.compile(r"[iu](?:8|16|32|64|128|size)$")
+USE = re.compile(r"(?:(?:pub |ghost )?use [^;]*; ?)+$")
+
+
+class Function:
+    """A function with a body: where it stands, and what the prover calls it. Lines are counted from 1."""
+
+    def __init__(self, path, lines, head, start, end):
+        indent, self.is_const, self.name = FUNCTION.match(lines[head]).groups()
+        self.path, self.start, self.end = path, start + 1, end + 1
+        self.trait, self.type = owner(lines, head, len(indent))
+        self.key = path, self.trait, self.type, self.name
+        while head and re.match(r"\s*(#\[|//)", lines[head - 1]):
+            head -= 1
+        self.first = head + 1
+        module = path[len("src/") : -len(".rt")].split("/")
+        self.module = module[:-1] if module[-1] in ("mod", "lib", "main") else module
+
+    def prover_path(self):
+        """Its path as the prover prints it, where the text tells that, or else that of its module."""
+        kind = self.type.capitalize() if NUMBER.match(self.type) else self.type
+        if kind and not re.fullmatch(r"\w+", kind):
+            return self.module_path()
+        return "::".join([*self.module, *[kind + self.trait] * bool(kind), self.name])
+
+    def module_path(self):
+        return "::".join(self.module)
+
+    def has_place(self, path, line):
+        """Whether a line of a file of src/, or a file of proofs/, is this function's own."""
+        if path == self.path:
+            return self.first <= line <= self.end
+        parts = path.split("/")
+        if parts[0] != "proofs" or len(parts) < 3 or parts[-2] != self.name:
+            return False
+        if not self.type:
+            return parts[1:-2] == self.module
+        # A method's proof stands below the module of its type, wherever the impl is, in a folder whose name begins as the type's.
+        return len(parts) >= 4 and parts[-3].lower().startswith(re.search(r"\w+", self.type)[0].lower())
+
+
+def owner(lines, head, indent):
+    """The trait and the type of the impl that a line stands in; of a trait's own block its name alone; outside of both nothing."""
+    blocks = [at for at in range(head) for found in [BLOCK.match(lines[at])] if found and len(found[1]) < indent]
+    if not blocks or BLOCK.match(lines[blocks[-1]])[2] == "mod":
+        return "", ""
+    text, word = " ".join(lines[blocks[-1] : head]).split("{")[0].replace("->", ""), BLOCK.match(lines[blocks[-1]])[2]
+    while re.search(r"<[^<>]*>", text):
+        text = re.sub(r"<[^<>]*>", "", text)
+    text = re.split(r"\bwhere\b|:(?!:)", text.partition(word)[2])[0]
+    trait, _, of = text.rpartition(" for ")
+    return [it.strip().split("::")[-1] for it in (trait, of)]
+
+
+def body(lines, head, indent):
+    """The first and the last line of the body of the function whose head is a line, or None if it has none."""
+    for start in range(head, len(lines)):
+        line = lines[start]
+        if start == head and line.endswith("}") and "{" in line:
+            return start, start
+        if start > head and (not line or FUNCTION.match(line) or not line.startswith(indent)):
+            return None
+        if line.endswith("{") and not line.startswith(indent + " "):
+            return start, next(end for end in range(start + 1, len(lines)) if lines[end] == indent + "}")
+    return None
+
+
+def functions(path, text):
+    """The functions of a file that have bodies. One within another's body is that one's."""
+    lines, found = text.split("\n"), []
+    for at, line in enumerate(lines):
+        head = FUNCTION.match(line)
+        if head and not (found and at < found[-1].end):
+            ends = body(lines, at, head[1])
+            found += [Function(path, lines, at, *ends)] if ends else []
+    return found
+
+
+class Edit:
+    """A file of edits/: what it says of the bug, and pairs of texts, each 'old:' standing once in its file. A line 'same:' in place of
+    'bug:' says that both texts of each pair mean the same, so that no prover may refuse it."""
+
+    def __init__(self, file):
+        self.name, self.pairs, self.fault = os.path.basename(file).removesuffix(".edit"), [], None
+        with open(file, encoding="utf-8") as it:
+            self.text = it.read()
+        said = [line.partition(":")[::2] for line in self.text.splitlines()]
+        if not re.fullmatch(r"(bug|same)( file( old new)+)+", " ".join(key for key, _ in said)):
+            self.fault = "its lines aren't 'bug:' or 'same:', 'file:' and pairs of 'old:' and 'new:'"
+            return
+        self.is_control = said[0][0] == "same"
+        for key, text in said:
+            if key == "file":
+                path = text.strip()
+            elif key == "old":
+                old = text.removeprefix(" ")
+            elif key == "new":
+                self.pairs.append((path, old, text.removeprefix(" ")))
+
+    def planted(self, folder, texts, note=None):
+        """The given texts of files of a crate's folder with this edit made too, or None where an 'old:' doesn't stand once in its file."""
+        made = dict(texts)
+        for path, old, new in self.pairs:
+            if path not in made:
+                with open(f"{folder}/{path}", encoding="utf-8") as it:
+                    made[path] = it.read()
+            if made[path].count(old) != 1 or old == new:
+                return None
+            if note:
+                note(path, made[path], old, new)
+            made[path] = made[path].replace(old, new)
+        return made
+
+    def place(self, folder):
+        """Notes the functions whose bodies it changes in a crate's folder, and whether it changes nothing else, or why it can't be made."""
+        self.functions, self.is_within = {}, True
+
+        def note(path, text, old, new):
+            changed = changed_by(path, text, old, new)
+            if changed:
+                self.functions[changed.key] = changed
+            elif not (new.startswith(old) and USE.match(new)):
+                # An import that is added changes no other function.
+                self.is_within = False
+
+        try:
+            is_made = self.planted(folder, {}, note)
+        except OSError as error:
+            self.fault = f"{error.filename} can't be read"
+        else:
+            self.fault = None if is_made else "an 'old:' doesn't stand once in its file, or is its 'new:'"
+
+    def has_place(self, texts, path, line):
+        """Whether a line of a file, where the crate has these texts, is one of the edited functions' own."""
+        files = {key[0] for key in self.functions}
+        found = [it for file in files for it in functions(file, texts[file]) if it.key in self.functions]
+        return any(it.has_place(path, line) for it in found)
+
+
+def changed_by(path, text, old, new):
+    """The function whose body a pair changes, or None where it changes something else."""
+    at = text.index(old) + len(os.path.commonprefix([old, new]))
+    line, column = text.count("\n", 0, at) + 1, at - text.rfind("\n", 0, at) - 1
+    head = text.split("\n")[line - 1].find("{")
+    # A const fn is computed in other functions' types, and the functions of a cycle share one proof.
+    if not path.startswith("src/") or "#[cycle" in text:
+        return None
+    of = [it for it in functions(path, text) if it.start <= line <= it.end and not it.is_const]
+    return of[0] if of and (line > of[0].start or column > head >= 0) else None
