@@ -1,7 +1,7 @@
 """Writes the library of exports out of its templates, exports/src/*.rt.txt.
 
 A line `// each SIZE, CRATE:` repeats the item or the statement after it, once for each size of keys and each crate, and
-what stands in `${..}` is filled in. The tables below say what there is of each.
+what stands in `${..}` is filled in. A row may have tables of its own, which come after it: `// each CRATE, LEFT:`. The tables below say what there is of each.
 """
 import itertools
 import pathlib
@@ -14,12 +14,24 @@ SIZES = {128: (16, 88, 11), 192: (24, 104, 13), 256: (32, 120, 15)}
 CRATES = ("aes", "aes_hybrid")
 WORDS = {"u16": 1, "u32": 2, "u64": 4, "u128": 8}  # how many blocks a word's planes hold
 ENDS = {"encrypt": "Enc", "decrypt": "Dec"}
+DIRECTIONS = [
+    {"VERB": "encrypt", "DONE": "encrypted", "NAME": "Encrypt", "END": "Enc", "IN": "enc"},
+    {"VERB": "decrypt", "DONE": "decrypted", "NAME": "Decrypt", "END": "Dec", "IN": "dec"},
+]
 # How the name of a type ends, and its directions.
 WAYS = {"": "BothWays", "Enc": "Encrypt", "Dec": "Decrypt"}
 # The form in which a type of a crate keeps its round keys, for a key of the size K.
 FORMS = {
     "aes": dict.fromkeys(WAYS, "aes::Fixsliced<K>"),
     "aes_hybrid": dict.fromkeys(WAYS, "aes_hybrid::BothLists<K>") | {"Enc": "aes_hybrid::Encrypting<K>"},
+}
+
+# The calls after which the stack is searched: over which forms they are, and the blocks that they and their exports take.
+LEFT = {
+    **dict.fromkeys(("value_dropped", "value_zeroized", "clone_dropped", "clone_zeroized"), ("{}, BothWays", "Block")),
+    **dict.fromkeys(("slice_dropped", "slice_zeroized"), ("{Enc}, Encrypt", "[Block]", "[Block; 9]")),
+    "stream_dropped": ("{Enc}, Encrypt", "Block"),
+    **dict.fromkeys(("lent_converted", "given_converted"), ("{Enc}, {Dec}", "Block")),
 }
 
 
@@ -35,21 +47,37 @@ def of_type(crate, size, kind):
     return named | {"FORM": form, "FORM_OF_SIZE": re.sub(r"\bK\b", f"Bits{size}", form), "WAYS": ways}
 
 
+def of_direction(crate, direction):
+    """What a template says of a direction in a crate: its words, its form, one type of each kind, and its six types with
+    their numbers."""
+    end = direction["END"]
+    one = of_type(crate, 128, end)
+    return direction | {
+        "FORM": one["FORM"],
+        "FORM_128": one["FORM_OF_SIZE"],
+        "KINDS": [of_type(crate, 128, kind) for kind in ("", end)],
+        "NUMBERED": [{"OF": of} | of_type(crate, size, kind) for of, size, kind in types(end)],
+    }
+
+
 def of_crate(crate):
-    """What a template says of a crate: its name, its forms, all its types, and those of a direction with their numbers,
-    and of each kind one."""
+    """What a template says of a crate: its name, its forms, all its types, its directions, and what leaves something."""
+    forms = FORMS[crate]
     named = {"CRATE": crate, "TYPES": [of_type(crate, size, kind) for kind in WAYS for size in SIZES]}
-    named |= {f"FORM_{kind.upper() or 'BOTH'}": form for kind, form in FORMS[crate].items()}
-    named |= {f"FORM_{kind.upper()}_128": of_type(crate, 128, kind)["FORM_OF_SIZE"] for kind in ENDS.values()}
-    for end in ENDS.values():
-        named[end.upper()] = [{"OF": of} | of_type(crate, size, kind) for of, size, kind in types(end)]
-        named[f"KINDS_{end.upper()}"] = [of_type(crate, 128, kind) for kind in ("", end)]
+    named |= {f"FORM_{kind.upper() or 'BOTH'}": form for kind, form in forms.items()}
+    named["DIRECTIONS"] = [of_direction(crate, it) for it in DIRECTIONS]
+    named["ENC"] = named["DIRECTIONS"][:1]
+    named["LEFT"] = [
+        {"WHAT": what, "OVER": over.format(forms[""], **forms), "BLOCKS": blocks[0], "GIVEN": blocks[-1]}
+        for what, (over, *blocks) in LEFT.items()
+    ]
     return named
 
 
 SETS = {
     "SIZE": [dict(zip(("SIZE", "KEY", "LENGTH", "COUNT"), (size, *of))) for size, of in SIZES.items()],
     "CRATE": [of_crate(it) for it in CRATES],
+    "DIRECTION": DIRECTIONS,
     "WORD": [{"WORD": it, "NUMBER": number} for number, it in enumerate(WORDS)],
     "WIDE": [{"WORD": it, "NUMBER": number} for number, it in enumerate(WORDS) if number],
     "LAYOUT": [{"LAYOUT": it} for it in ("full", "compact")],
@@ -91,12 +119,20 @@ def expanded(lines, filled=()):
     return made
 
 
-def write(folder, modules=None):
-    """Writes the sources into a folder: all of them, or those of some modules."""
+def texts(modules=None):
+    """The sources by the names of their modules: all of them, or those of some modules."""
+    found = {}
     for it in sorted(TEMPLATES.glob("*.rt.txt")):
         lines = expanded(it.read_text().splitlines())
         name = it.name.removesuffix(".rt.txt")
         if name == "lib" and modules:
             lines = [line for line in lines if not (mod := re.fullmatch(r"mod (\w+);", line)) or mod[1] in modules]
         if modules is None or name in ("lib", *modules):
-            (folder / f"{name}.rt").write_text("\n".join(lines) + "\n")
+            found[name] = "\n".join(lines) + "\n"
+    return found
+
+
+def write(folder, modules=None):
+    """Writes the sources into a folder."""
+    for name, text in texts(modules).items():
+        (folder / f"{name}.rt").write_text(text)

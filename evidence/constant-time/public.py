@@ -8,13 +8,14 @@ import fnmatch
 import pathlib
 import re
 
+import expand
+
 HERE = pathlib.Path(__file__).resolve().parent
 TOP = HERE.parent.parent
 # The crates whose functions are given secrets. The program and its engine are another matter: see README.md.
 CRATES = "aes_planes aes_cipher aes_soft aes aes_permute aes_hybrid aes_rounds aes_ctr c_calls aes_c aes_c_wide".split()
 # What may stand before `fn`.
 KIND = r'(?:(?:final|const|unsafe|extern "C") )*'
-EXPORTS = HERE.parent / "exports" / "src"
 
 
 def is_test(path):
@@ -67,8 +68,7 @@ def matches(pattern, path, name):
 def not_called(calls):
     """The public functions that neither the exports nor the calls name and that no reason stands for, and the reasons
     that stand for none."""
-    text = calls + "\n".join(path.read_text() for path in sorted(EXPORTS.glob("*.txt")))
-    words = set(re.findall(r"\w+", text))
+    words = set(re.findall(r"\w+", calls + "\n".join(expand.texts().values())))
     rows, used, missed = reasons(), set(), []
     for crate, path, name in public_functions():
         if name in words:
@@ -80,8 +80,3 @@ def not_called(calls):
             missed.append(f"{crate}/src/{path}: {name}")
     idle = [f"{crate} {it}" for crate, names, _ in rows for it in names if (crate, it) not in used]
     return missed, idle
-
-
-if __name__ == "__main__":
-    for row in public_functions():
-        print("\t".join(row))
