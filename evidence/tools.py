@@ -47,6 +47,20 @@ STRUCT = int(re.search(r"sizeof\(struct fotsgure_aes\) == (\d+)", HEADER)[1])
 MOST_STACK = int(re.search(r"FOTSGURE_AES_STACK (\d+)", HEADER)[1])
 
 
+MEMCHECK = "valgrind --tool=memcheck --error-limit=no --leak-check=no --expensive-definedness-checks=yes --num-callers=8"
+
+
+class Found:
+    """What a run found: what is wrong, planted faults that it missed, parts that it left out, and what is to be said."""
+
+    def __init__(self):
+        self.wrong, self.blind, self.missing, self.summary = [], [], [], []
+
+    def is_whole(self, options):
+        """Whether a run left nothing out and found nothing, so that its results may be published."""
+        return not (self.wrong or self.blind or self.missing or options.without)
+
+
 def say(*words):
     print(*words, flush=True)
 
@@ -207,11 +221,12 @@ def can_run(build):
     return build != "avx2" or " avx2 " in pathlib.Path("/proc/cpuinfo").read_text()
 
 
-def builds(options):
-    """The builds of the C library that are measured, and what is missing for the others."""
+def builds(options, found):
+    """The builds of the C library that are measured, each once said to be missing if it can't be."""
     wanted = [it for it in BUILDS if it not in options.without]
     missing = [f"{it}: this processor can't run it" for it in wanted if not can_run(it)]
-    return [it for it in wanted if can_run(it)], missing
+    found.missing += [it for it in missing if it not in found.missing]
+    return [it for it in wanted if can_run(it)]
 
 
 def exported(archive):
@@ -275,12 +290,36 @@ def briefly(where):
     return ", ".join([day, load, *rest])
 
 
-def compiled(source, name, archive):
+def compiled(source, name, archive, *more):
     """A program of one C file and an archive."""
     made = ROOM / f"{source.parent.name}-{source.stem}-{name}"
-    flags = ["-std=gnu11", "-O2", "-Wall", "-Wextra", "-Wl,-z,now", f"-I{TOP / 'include'}"]
+    flags = ["-std=gnu11", "-O2", "-Wall", "-Wextra", "-Wl,-z,now", f"-I{TOP / 'include'}", *more]
     run(["cc", *flags, "-o", made, source, archive], source.name)
     return made
+
+
+def under_memcheck(program):
+    """The lines of a program under valgrind's memcheck, whose last one is `end`, and what memcheck says."""
+    log = program.with_suffix(".log")
+    words = [*MEMCHECK.split(), f"--log-file={log}", str(program)]
+    done = subprocess.run(words, capture_output=True, text=True)
+    lines = [it.split("\t") for it in done.stdout.splitlines()]
+    if done.returncode or lines[-1:] != [["end"]]:
+        # valgrind wants the symbols of the C library.
+        stop(
+            f"the run ended with status {done.returncode}; {log} has why (if it asks for debug information: "
+            f"apt-get install libc6-dbg)\n{done.stdout[-500:]}"
+        )
+    return lines[:-1], log.read_text(errors="replace")
+
+
+def searched(head, *words):
+    """What each call left, by a program that searches the stack: {(call, bits): counts}."""
+    rows = {}
+    for line in run(words, "the search").splitlines():
+        call, bits, *counts = line.split("\t")
+        rows[call, bits] = dict(zip(head, map(int, counts)))
+    return rows
 
 
 def compared(now, path, kept, record):
@@ -300,26 +339,26 @@ def compared(now, path, kept, record):
             yield f"{', '.join(place)}: {', '.join(more)}"
 
 
-def asking(text, *parts):
-    """What every command can be asked: to leave parts out."""
+def asking(text, *parts, flags=()):
+    """What every command can be asked: to leave parts out; and words that some can be asked."""
     ask = argparse.ArgumentParser(description=text, formatter_class=argparse.RawDescriptionHelpFormatter)
-    ask.add_argument("--without", nargs="*", default=[], choices=[*BACKENDS, *parts])
+    ask.add_argument("--without", nargs="*", default=[], choices=parts)
+    for it in flags:
+        ask.add_argument(f"--{it}", action="store_true")
     return ask
 
 
-def finish(blind, found, missing, without, text):
+def finish(found, options, text):
     """Says what was found and left out, and ends with the status that this makes."""
-    for it in found[:40]:
+    for it in found.wrong[:40]:
         say(f"FOUND: {it}")
-    for it in missing:
+    for it in (*found.missing, *(f"{it}, as asked" for it in options.without)):
         say(f"left out: {it}")
-    for it in without:
-        say(f"left out as asked: {it}")
-    if blind:
-        end(BLIND, "; ".join(blind[:9]))
-    if found:
-        end(WRONG, f"{len(found)} findings")
-    end(PARTIAL if missing or without else RIGHT, text)
+    if found.blind:
+        end(BLIND, "; ".join(found.blind[:9]))
+    if found.wrong:
+        end(WRONG, f"{len(found.wrong)} findings")
+    end(PARTIAL if found.missing or options.without else RIGHT, text)
 
 
 def end(status, text):

@@ -96,3 +96,25 @@ def changes(found, was):
         for key, count in sorted(found.items())
         if count > was.get(key, 0)
     ]
+
+
+def judged(name, there, path, planted, record_them, found):
+    """Compares what is there with the list at the path, and with the reasons beside that. What is planted is new to the
+    list. Returns the reasons that explain nothing."""
+    if record_them:
+        record(there, path)
+        tools.say(f"recorded: {len(there)} kinds in {path}")
+    if not path.exists():
+        tools.stop(f"there is no {path}, and nobody asked to record it")
+    was = recorded(path)
+    new, (missed, idle) = changes(there, was), unexplained(there, path.with_name("reasons.tsv"))
+    found.wrong += [f"{name}: not in {path.name}: {it}" for it in new]
+    found.wrong += [f"{name}: reasons.tsv doesn't explain: {it}" for it in missed]
+    if len(changes(there | planted, was)) != len(new) + len(planted):
+        found.blind.append(f"{name}: what nobody looked at, in {path.name}")
+    gone = sum(it not in there for it in was)
+    tools.say(
+        f"{name}: {sum(there.values())} of {len(there)} kinds in {len({it[0] for it in there})} functions; new: {len(new)}, "
+        f"not explained: {len(missed)}, recorded and gone: {gone}"
+    )
+    return idle
