@@ -10,7 +10,7 @@ library's file; without it the loader searches. Python copies bytes as it likes,
 import ctypes
 from typing import Any, Tuple, Union
 
-from fotsgure_library import Bytes, bytes_of, load, number, room
+from fotsgure_library import Bytes, bytes_of, load, number, room, written
 
 
 class _Key(ctypes.Structure):
@@ -42,7 +42,7 @@ def _given(data: Bytes) -> Tuple[Any, int]:
 
 
 def _returned(data: Bytes, buffer: Any, length: int) -> Union[bytes, bytearray]:
-    return data if isinstance(data, bytearray) else buffer.raw[:length]
+    return data if isinstance(data, bytearray) else written(buffer, length)
 
 
 class Aes:
@@ -97,7 +97,7 @@ class Keystream:
     @property
     def position(self) -> int:
         """How many bytes of the keystream come before the next."""
-        return self._ctr.position
+        return int(self._ctr.position)
 
     def apply(self, data: Bytes) -> Union[bytes, bytearray]:
         """Encrypts or decrypts from the position on: returns new bytes, or the bytearray, in place."""

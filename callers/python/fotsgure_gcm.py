@@ -21,7 +21,7 @@ import os
 import threading
 from typing import Any, Iterator, Optional, Sequence, Tuple
 
-from fotsgure_library import Bytes, bytes_of, load, room
+from fotsgure_library import Bytes, bytes_of, load, room, written
 
 
 class Refused(Exception):
@@ -99,7 +99,7 @@ class Gcm:
         nonce, text, additional = bytes_of(nonce), bytes_of(text), bytes_of(additional)
         buffer, tag = room(text), room(bytes(16))
         _check(_c.fotsgure_gcm_seal(self._key, nonce, len(nonce), additional, len(additional), buffer, len(text), tag))
-        return buffer.raw[:len(text)] + tag.raw[:16]
+        return written(buffer, len(text)) + written(tag, 16)
 
     def seal_next(self, text: Bytes, additional: Bytes = b"") -> Tuple[bytes, bytes]:
         """Encrypts under the counter's next nonce: returns that nonce, and what `seal` returns."""
@@ -108,7 +108,7 @@ class Gcm:
         with self._counting() as counter:
             _check(_c.fotsgure_gcm_seal_next(self._key, counter, nonce, additional, len(additional), buffer, len(text),
                                              tag))
-        return nonce.raw[:12], buffer.raw[:len(text)] + tag.raw[:16]
+        return written(nonce, 12), written(buffer, len(text)) + written(tag, 16)
 
     @contextlib.contextmanager
     def _counting(self) -> Iterator[_Counter]:
@@ -127,7 +127,7 @@ class Gcm:
         buffer = room(text)
         _check(_c.fotsgure_gcm_open(self._key, nonce, len(nonce), additional, len(additional), buffer, len(text), tag,
                                     len(tag)), _CHANGED)
-        return buffer.raw[:len(text)]
+        return written(buffer, len(text))
 
     def begin(self, nonce: Bytes) -> "Message":
         """Begins a message in pieces under a nonce of yours."""
@@ -161,7 +161,7 @@ class Message:
         data = bytes_of(data)
         buffer = room(data)
         _check(call(self._gcm._key, self._message, buffer, len(data)))
-        return buffer.raw[:len(data)]
+        return written(buffer, len(data))
 
     def additional(self, data: Bytes) -> None:
         """Takes a piece of the additional data, all of which comes before the text."""
@@ -175,7 +175,7 @@ class Message:
         """Ends a message that was encrypted, and returns its tag."""
         tag = room(bytes(16))
         _check(_c.fotsgure_gcm_finish(self._gcm._key, self._message, tag))
-        return tag.raw[:16]
+        return written(tag, 16)
 
     def verify(self, sealed: Bytes) -> None:
         """Takes a piece of an encrypted text, whose tag is to be compared."""

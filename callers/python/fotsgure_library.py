@@ -33,12 +33,17 @@ def bytes_of(data: Bytes) -> bytes:
 
 def number(value: Any, most: int, what: str) -> int:
     """A number from 0 to `most`: TypeError or ValueError for anything else."""
-    value = operator.index(value)
-    if not 0 <= value <= most:
+    index = operator.index(value)
+    if not 0 <= index <= most:
         raise ValueError(f"{what} is a number from 0 to {most}")
-    return value
+    return index
 
 
 def room(data: bytes) -> Any:
     """A buffer with these bytes that a call may write, also for no bytes at all."""
     return ctypes.create_string_buffer(data, len(data) + 1)
+
+
+def written(buffer: Any, length: int) -> bytes:
+    """What a call wrote into such a buffer."""
+    return bytes(buffer.raw[:length])
