@@ -314,11 +314,12 @@ def under_memcheck(program):
 
 
 def searched(head, *words):
-    """What each call left, by a program that searches the stack: {(call, bits): counts}."""
+    """What each call left, by a program that searches the stack: {(call, bits): counts}. A program that goes over lengths
+    tells the most, and in one column more at which lengths more than keystream was left."""
     rows = {}
     for line in run(words, "the search").splitlines():
         call, bits, *counts = line.split("\t")
-        rows[call, bits] = dict(zip(head, map(int, counts)))
+        rows[call, bits] = dict(zip(head, map(int, counts))) | {"where": "".join(counts[len(head):])}
     return rows
 
 

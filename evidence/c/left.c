@@ -1,7 +1,9 @@
 /* Makes calls of the C library on a stack of its own that is filled with a pattern, and searches that stack and the
  * vector registers for what each call left: 8 bytes of the key, of a stored round key or of a round key of the
- * expansion, a word that was widened for a batch, a block of keystream. One line a call and a size of keys, with
- * tabs. */
+ * expansion, a word that was widened for a batch, a block of zeros encrypted or decrypted, which no caller gave, a block
+ * of keystream. Each call runs on every number of blocks from 0 to 40, and counter mode on lengths in between. One line
+ * a call and a size of keys, with tabs: the most that it left at any length, and the lengths at which it left something
+ * but keystream, in blocks, or in bytes of counter mode. */
 #include "../left.h"
 
 enum { KEYS = 3, MOST = 128, BYTES = BLOCK * MOST, NEEDLES = 4096 };
@@ -9,7 +11,7 @@ enum { KEYS = 3, MOST = 128, BYTES = BLOCK * MOST, NEEDLES = 4096 };
 static struct fotsgure_aes kept;
 static struct fotsgure_aes_ctr ctr;
 static uint16_t planes[MOST_WORDS];
-static uint8_t key[32], data[BYTES], other[BYTES], keystream[BYTES];
+static uint8_t key[32], data[BYTES], other[BYTES], keystream[BYTES], zeros[2][BLOCK];
 static size_t size, count;
 static int failed;
 
@@ -48,6 +50,11 @@ __attribute__((noinline)) static void planted_keystream(void) {
     memcpy(blocks, keystream, sizeof blocks);
     use(blocks);
 }
+__attribute__((noinline)) static void planted_zeros(void) {
+    uint8_t blocks[2][BLOCK];
+    memcpy(blocks, zeros, sizeof blocks);
+    use(blocks);
+}
 __attribute__((noinline)) static void planted_key(void) {
     uint8_t bytes[8];
     memcpy(bytes, key + 3, sizeof bytes);
@@ -73,30 +80,60 @@ static void stream(void) { done(fotsgure_aes_add_keystream(&kept, &ctr, data, co
 static void stream_to(void) { done(fotsgure_aes_add_keystream_to(&kept, &ctr, data, count, other, count)); }
 static void stream_with(void) { done(fotsgure_aes_add_keystream_with(key, size, &ctr, data, count)); }
 
-static const struct call { const char *name; void (*it)(void); size_t count; } calls[] = {
-    {"not_wiped", not_wiped, 0}, {"planted_half_wiped", planted_half_wiped, 0},
-    {"planted_copy_wiped", planted_copy_wiped, 0}, {"planted_widened", planted_widened, 0},
-    {"planted_keystream", planted_keystream, 0}, {"planted_key", planted_key, 0}, {"wiped", wiped, 0},
-    {"set_key", set_key, 0}, {"encrypt_1", encrypt, 1}, {"encrypt_7", encrypt, 7}, {"encrypt_8", encrypt, 8},
-    {"encrypt_23", encrypt, 23}, {"decrypt_23", decrypt, 23},
-    {"encrypt_128", encrypt, 128}, {"decrypt_1", decrypt, 1}, {"decrypt_7", decrypt, 7}, {"decrypt_8", decrypt, 8},
-    {"decrypt_128", decrypt, 128}, {"encrypt_to_128", encrypt_to, 128}, {"decrypt_to_128", decrypt_to, 128},
-    {"encrypt_with_1", encrypt_with, 1}, {"encrypt_with_128", encrypt_with, 128},
-    {"decrypt_with_1", decrypt_with, 1}, {"decrypt_with_128", decrypt_with, 128},
-    {"add_keystream_20", stream, 20}, {"add_keystream_300", stream, 300}, {"add_keystream_2032", stream, 2032},
-    {"add_keystream_to_20", stream_to, 20}, {"add_keystream_to_2032", stream_to, 2032},
-    {"add_keystream_with_20", stream_with, 20}, {"add_keystream_with_2032", stream_with, 2032},
+/* In pieces: three blocks, or five bytes, half of what is left, and the rest. */
+static void in_pieces(enum fotsgure_aes_status (*call)(uint8_t *, size_t), size_t unit, size_t most) {
+    size_t some = count < most ? count : most, half = (count - some) / 2;
+    done(call(data, some));
+    done(call(data + unit * some, half));
+    done(call(data + unit * (some + half), count - some - half));
+}
+static enum fotsgure_aes_status encrypt_piece(uint8_t *at, size_t n) { return fotsgure_aes_encrypt_blocks(&kept, at, n); }
+static enum fotsgure_aes_status decrypt_piece(uint8_t *at, size_t n) { return fotsgure_aes_decrypt_blocks(&kept, at, n); }
+static enum fotsgure_aes_status stream_piece(uint8_t *at, size_t n) {
+    return fotsgure_aes_add_keystream(&kept, &ctr, at, n);
+}
+static void encrypt_pieces(void) { in_pieces(encrypt_piece, BLOCK, 3); }
+static void decrypt_pieces(void) { in_pieces(decrypt_piece, BLOCK, 3); }
+static void stream_pieces(void) { in_pieces(stream_piece, 1, 5); }
+
+/* What a call takes: nothing of this list, blocks, or bytes. */
+enum takes { NOTHING, OF_BLOCKS, OF_BYTES };
+static const struct call { const char *name; void (*it)(void); enum takes takes; } calls[] = {
+    {"not_wiped", not_wiped, NOTHING}, {"planted_half_wiped", planted_half_wiped, NOTHING},
+    {"planted_copy_wiped", planted_copy_wiped, NOTHING}, {"planted_widened", planted_widened, NOTHING},
+    {"planted_keystream", planted_keystream, NOTHING}, {"planted_zeros", planted_zeros, NOTHING},
+    {"planted_key", planted_key, NOTHING}, {"wiped", wiped, NOTHING}, {"set_key", set_key, NOTHING},
+    {"encrypt", encrypt, OF_BLOCKS}, {"decrypt", decrypt, OF_BLOCKS}, {"encrypt_to", encrypt_to, OF_BLOCKS},
+    {"decrypt_to", decrypt_to, OF_BLOCKS}, {"encrypt_with", encrypt_with, OF_BLOCKS},
+    {"decrypt_with", decrypt_with, OF_BLOCKS}, {"encrypt_pieces", encrypt_pieces, OF_BLOCKS},
+    {"decrypt_pieces", decrypt_pieces, OF_BLOCKS}, {"add_keystream", stream, OF_BYTES},
+    {"add_keystream_to", stream_to, OF_BYTES}, {"add_keystream_with", stream_with, OF_BYTES},
+    {"add_keystream_pieces", stream_pieces, OF_BYTES},
 };
+
+/* The lengths: every number of blocks, many of them, and lengths of bytes between blocks. */
+enum { EVERY = 41, LENGTHS = EVERY + 6 };
+static size_t lengths_of(const struct call *call) {
+    return call->takes == NOTHING ? 1 : call->takes == OF_BLOCKS ? EVERY + 1 : LENGTHS;
+}
+static size_t length_of(const struct call *call, size_t number) {
+    static const size_t others[] = {7, 109, 231, 375, 2032};
+    size_t unit = call->takes == OF_BYTES ? BLOCK : 1;
+    return number < EVERY ? unit * number : number == EVERY ? unit * MOST : others[number - EVERY - 1];
+}
 
 /* A key of its own for each run, its struct, and the keystream that counter mode will add. */
 static void prepare(int number) {
-    static const uint8_t zeros[BYTES];
+    static const uint8_t none[BYTES];
     for (size_t i = 0; i < sizeof key; i++)
         key[i] = (uint8_t)(0x1d * i + 0x35 + 0x47 * (size_t)number + i * i * (size_t)number);
     memset(&ctr, 0x33, sizeof ctr);
     ctr.position = 0;
-    memcpy(keystream, zeros, BYTES);
+    memcpy(keystream, none, BYTES);
+    memcpy(zeros, none, sizeof zeros);
     done(fotsgure_aes_set_key(&kept, key, size));
+    done(fotsgure_aes_encrypt_blocks(&kept, zeros[0], 1));
+    done(fotsgure_aes_decrypt_blocks(&kept, zeros[1], 1));
     BY_SIZE(ev_planes, size, key, planes);
     done(fotsgure_aes_add_keystream(&kept, &ctr, keystream, BYTES));
     ctr.position = 0;
@@ -105,7 +142,7 @@ static void prepare(int number) {
 }
 
 /* What is searched for: 8 bytes, and which piece of which kind they are of. Pieces of equal bytes say nothing. */
-enum { KEY, ROUND_KEYS, EXPANDED, WIDENED, KEYSTREAM, KINDS };
+enum { KEY, ROUND_KEYS, EXPANDED, WIDENED, ZEROS, KEYSTREAM, KINDS };
 static struct needle { uint64_t bytes; int kind, piece; } needles[NEEDLES];
 static size_t filled;
 static void add(const uint8_t *at, int kind, int piece) {
@@ -137,6 +174,9 @@ static void collect(void) {
         widened(wide, planes[i]);
         add(wide, WIDENED, (int)i);
     }
+    for (int i = 0; i < 2; i++)
+        for (int k = 0; k <= 8; k++)
+            add(zeros[i] + k, ZEROS, i);
     for (size_t i = 0; i < BYTES; i += 8)
         add(keystream + i, KEYSTREAM, (int)(i / 16));
     qsort(needles, filled, sizeof *needles, below);
@@ -170,28 +210,49 @@ static void most(int counts[KINDS], uint8_t found[KINDS][256]) {
     }
 }
 
-static void report(const struct call *call) {
-    int counts[KINDS] = {0}, inside[KINDS] = {0};
-    size_t depth = 0;
+/* What one call left at one length, under each of the keys. */
+static void at_length(const struct call *call, int counts[KINDS], int *registers_most, size_t *depth) {
+    int inside[KINDS] = {0};
     for (int number = 0; number < KEYS; number++) {
         static uint8_t image[STACK];
         uint8_t found[KINDS][256] = {{0}}, held[KINDS][256] = {{0}};
         prepare(number);
-        count = call->count;
         run(call->it, image);
         prepare(number);
         collect();
-        search(image, STACK, found);
+        size_t deep = depth_of(image);
+        search(image + STACK - deep, deep, found);
         for (int i = 0; i < REGISTERS; i++)
             search(registers + 16 * i, 16, held);
         most(counts, found);
         most(inside, held);
-        if (depth_of(image) > depth)
-            depth = depth_of(image);
+        if (deep > *depth)
+            *depth = deep;
     }
-    int in_registers = inside[KEY] + inside[ROUND_KEYS] + inside[EXPANDED] + inside[WIDENED];
-    printf("%s\t%zu\t%d\t%d\t%d\t%d\t%d\t%d\t%zu\n", call->name, 8 * size, counts[KEY], counts[ROUND_KEYS],
-        counts[EXPANDED], counts[WIDENED], counts[KEYSTREAM], in_registers, depth);
+    int in_registers = inside[KEY] + inside[ROUND_KEYS] + inside[EXPANDED] + inside[WIDENED] + inside[ZEROS];
+    if (in_registers > *registers_most)
+        *registers_most = in_registers;
+}
+
+static void report(const struct call *call) {
+    int all[KINDS] = {0}, in_registers = 0;
+    size_t depth = 0;
+    char where[8 * LENGTHS + 2] = "", *end = where;
+    for (size_t at = 0; at < lengths_of(call); at++) {
+        int counts[KINDS] = {0}, secrets = 0;
+        count = length_of(call, at);
+        at_length(call, counts, &in_registers, &depth);
+        for (int kind = 0; kind < KINDS; kind++) {
+            all[kind] = counts[kind] > all[kind] ? counts[kind] : all[kind];
+            secrets += kind == KEYSTREAM ? 0 : counts[kind];
+        }
+        if (secrets)
+            end += sprintf(end, " %zu", count);
+    }
+    printf("%s\t%zu", call->name, 8 * size);
+    for (int kind = 0; kind < KINDS; kind++)
+        printf("\t%d", all[kind]);
+    printf("\t%d\t%zu\t%s\n", in_registers, depth, end > where ? where + 1 : "-");
 }
 
 int main(void) {

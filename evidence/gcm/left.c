@@ -2,7 +2,9 @@
  * the vector registers for what each call left: 8 bytes of the key, of a stored round key, of the multiples, of H or
  * its powers, of the tag's mask, of a hash, after the message and after each block of it, of the tag that a refused
  * message should have had, of the first counter block of a nonce of another length, of keystream. Blocks that are
- * numbers to the library are searched in both orders of their bytes. One line a call and a size of keys, with tabs. */
+ * numbers to the library are searched in both orders of their bytes. Each call runs on texts of every number of blocks
+ * from 0 to 40, and of lengths in between. One line a call and a size of keys, with tabs: the most that it left at any
+ * length, and the lengths at which it left something of the key, or H, by their bytes. */
 #include "../left.h"
 #include "fotsgure_gcm.h"
 
@@ -44,13 +46,15 @@ __attribute__((noinline)) static void planted_half_wiped(void)
 }
 __attribute__((noinline)) static void planted_blocks(void)
 {
-    uint8_t blocks[5][16];
+    uint8_t blocks[6][16];
     memcpy(blocks[0], mask, 16);
     memcpy(blocks[1], expected, 16);
     memcpy(blocks[2], first, 16);
     memcpy(blocks[3], keystream + 32, 16);
+    /* H, as a block of zeros that was encrypted, and its square as a number, in the other order. */
+    memcpy(blocks[4], subkey[0], 16);
     for (int i = 0; i < 16; i++)
-        blocks[4][i] = subkey[0][15 - i];
+        blocks[5][i] = subkey[1][15 - i];
     use(blocks);
 }
 static void set_key(void) { done(fotsgure_gcm_set_key(&kept, key, size)); }
@@ -73,7 +77,8 @@ static void open_refused(void)
         FOTSGURE_GCM_REFUSED;
 }
 
-/* A message in pieces: the first of five bytes, the second the rest. Its struct isn't on the stack. */
+/* A message in pieces: the first of five bytes, then half of what is left, and the rest. Its struct isn't on the
+ * stack. */
 static void begun(void)
 {
     size_t some = extra < 5 ? extra : 5;
@@ -84,16 +89,20 @@ static void begun(void)
 static void in_pieces(enum fotsgure_gcm_status (*call)(const struct fotsgure_gcm *, struct fotsgure_gcm_message *,
     uint8_t *, size_t))
 {
-    size_t some = length < 5 ? length : 5;
+    size_t some = length < 5 ? length : 5, half = (length - some) / 2;
     done(call(&kept, &message, text, some));
-    done(call(&kept, &message, text + some, length - some));
+    done(call(&kept, &message, text + some, half));
+    done(call(&kept, &message, text + some + half, length - some - half));
+}
+static enum fotsgure_gcm_status verify(const struct fotsgure_gcm *gcm, struct fotsgure_gcm_message *it, uint8_t *bytes,
+    size_t count)
+{
+    return fotsgure_gcm_verify(gcm, it, bytes, count);
 }
 static void verified(void)
 {
-    size_t some = length < 5 ? length : 5;
     begun();
-    done(fotsgure_gcm_verify(&kept, &message, text, some));
-    done(fotsgure_gcm_verify(&kept, &message, text + some, length - some));
+    in_pieces(verify);
 }
 static void seal_pieces(void)
 {
@@ -120,21 +129,29 @@ static void open_pieces_unverified(void)
     done(fotsgure_gcm_accept(&kept, &message, expected, 16));
 }
 
-static const struct call { const char *name; void (*it)(void); size_t nonce, extra, length; } calls[] = {
-    {"not_wiped", not_wiped, 12, 0, 0}, {"planted_half_wiped", planted_half_wiped, 12, 0, 0},
-    {"planted_blocks", planted_blocks, 16, 0, 64}, {"wiped", wiped, 12, 0, 0}, {"set_key", set_key, 12, 0, 0},
-    {"seal_0", seal, 12, 0, 0}, {"seal_13_additional", seal, 12, 13, 0}, {"seal_64", seal, 12, 20, 64},
-    {"seal_2000", seal, 12, 100, 2000}, {"seal_next_64", seal_next, 12, 20, 64}, {"open_0", open, 12, 20, 0},
-    {"open_64", open, 12, 20, 64}, {"open_2000", open, 12, 100, 2000}, {"open_refused_0", open_refused, 12, 20, 0},
-    {"open_refused_64", open_refused, 12, 20, 64}, {"open_refused_2000", open_refused, 12, 100, 2000},
-    {"seal_64_nonce_of_8", seal, 8, 20, 64}, {"seal_2000_nonce_of_16", seal, 16, 20, 2000},
-    {"open_64_nonce_of_8", open, 8, 20, 64}, {"open_refused_64_nonce_of_16", open_refused, 16, 20, 64},
-    {"seal_pieces_64", seal_pieces, 12, 20, 64}, {"seal_pieces_2000", seal_pieces, 12, 100, 2000},
-    {"open_pieces_64", open_pieces, 12, 20, 64}, {"open_pieces_2000", open_pieces, 12, 100, 2000},
-    {"open_pieces_refused_64", open_pieces_refused, 12, 20, 64},
-    {"open_pieces_unverified_64", open_pieces_unverified, 12, 20, 64},
-    {"seal_pieces_64_nonce_of_8", seal_pieces, 8, 20, 64}, {"open_pieces_64_nonce_of_16", open_pieces, 16, 20, 64},
+static const struct call { const char *name; void (*it)(void); size_t nonce; } calls[] = {
+    {"not_wiped", not_wiped, 12}, {"planted_half_wiped", planted_half_wiped, 12},
+    {"planted_blocks", planted_blocks, 16}, {"wiped", wiped, 12}, {"set_key", set_key, 12},
+    {"seal", seal, 12}, {"seal_next", seal_next, 12}, {"open", open, 12}, {"open_refused", open_refused, 12},
+    {"seal_nonce_of_8", seal, 8}, {"seal_nonce_of_16", seal, 16}, {"open_nonce_of_8", open, 8},
+    {"open_nonce_of_16", open, 16}, {"open_refused_nonce_of_16", open_refused, 16},
+    {"seal_pieces", seal_pieces, 12}, {"open_pieces", open_pieces, 12},
+    {"open_pieces_refused", open_pieces_refused, 12}, {"open_pieces_unverified", open_pieces_unverified, 12},
+    {"seal_pieces_nonce_of_8", seal_pieces, 8}, {"open_pieces_nonce_of_16", open_pieces, 16},
 };
+
+/* The lengths of texts: every number of blocks, some between them, and many blocks; and of additional data. */
+enum { BLOCKS = 41, LENGTHS = BLOCKS + 5 };
+static size_t length_of(size_t number)
+{
+    static const size_t others[] = {7, 109, 231, 375, 2000};
+    return number < BLOCKS ? 16 * number : others[number - BLOCKS];
+}
+static size_t extra_of(size_t number)
+{
+    static const size_t lengths[] = {0, 13, 20, 100, 32};
+    return lengths[number % 5];
+}
 
 /* The product of two blocks, bit by bit (SP 800-38D, 6.3). */
 static void times(uint8_t to[16], const uint8_t x[16], const uint8_t y[16])
@@ -180,14 +197,24 @@ static void hash_on(uint8_t value[16], const uint8_t *bytes, size_t count)
     }
 }
 
+/* The last value of GHASH: after the block of both lengths in bits. */
+static void lengths(uint8_t value[16])
+{
+    for (int i = 0; i < 8; i++) {
+        value[7 - i] ^= (uint8_t)(8 * extra >> 8 * i);
+        value[15 - i] ^= (uint8_t)(8 * length >> 8 * i);
+    }
+    times(value, value, subkey[0]);
+}
+
 /* A key of its own for each run, its struct, and a message to seal or to open, with all that it is made by. The tag of
  * no bytes at all is the mask, since their hash is zero. */
-static void prepare(int number, const struct call *call)
+static void prepare(int number, const struct call *call, size_t at)
 {
     static const uint8_t zeros[BYTES];
     int opens = strncmp(call->name, "open", 4) == 0;
-    length = call->length;
-    extra = call->extra;
+    length = length_of(at);
+    extra = extra_of(at);
     nonce_length = call->nonce;
     memset(&counter, 0x47, sizeof counter);
     memset(nonce, 0x47, sizeof nonce);
@@ -209,6 +236,9 @@ static void prepare(int number, const struct call *call)
     hashed = 0;
     hash_on(value, additional, extra);
     hash_on(value, text, length);
+    lengths(value);
+    /* What is searched for is what the library works with, or nothing is shown. */
+    failed |= memcmp(value, hash, 16) != 0;
     for (size_t i = 0; i < length && !opens; i++)
         text[i] ^= keystream[i];
 }
@@ -295,30 +325,54 @@ static void most(int counts[KINDS], uint8_t found[KINDS][PIECES])
     }
 }
 
-static void report(const struct call *call)
+/* What one call left with texts of one length, under each of the keys. */
+static void at_length(const struct call *call, size_t at, int counts[KINDS], int *registers_most, size_t *depth)
 {
-    int counts[KINDS] = {0}, inside[KINDS] = {0}, in_registers = 0;
-    size_t depth = 0;
+    int inside[KINDS] = {0}, in_registers = 0;
     for (int number = 0; number < KEYS; number++) {
         static uint8_t image[STACK];
         uint8_t found[KINDS][PIECES] = {{0}}, held[KINDS][PIECES] = {{0}};
-        prepare(number, call);
+        prepare(number, call, at);
         collect(call);
         run(call->it, image);
-        search(image, STACK, found);
+        size_t deep = depth_of(image);
+        search(image + STACK - deep, deep, found);
         for (int i = 0; i < REGISTERS; i++)
             search(registers + 16 * i, 16, held);
         most(counts, found);
         most(inside, held);
-        if (depth_of(image) > depth)
-            depth = depth_of(image);
+        if (deep > *depth)
+            *depth = deep;
+    }
+    for (int kind = 0; kind < KINDS; kind++)
+        in_registers += inside[kind];
+    if (in_registers > *registers_most)
+        *registers_most = in_registers;
+}
+
+/* Whether a call takes a text. The others run once. */
+static int takes_text(const struct call *call)
+{
+    return strncmp(call->name, "open", 4) == 0 || strncmp(call->name, "seal", 4) == 0;
+}
+
+static void report(const struct call *call)
+{
+    int all[KINDS] = {0}, in_registers = 0;
+    size_t depth = 0;
+    char where[8 * LENGTHS + 2] = "", *end = where;
+    for (size_t at = takes_text(call) ? 0 : 4; at < (takes_text(call) ? LENGTHS : 5); at++) {
+        int counts[KINDS] = {0};
+        at_length(call, at, counts, &in_registers, &depth);
+        for (int kind = 0; kind < KINDS; kind++)
+            all[kind] = counts[kind] > all[kind] ? counts[kind] : all[kind];
+        if (counts[KEY] + counts[ROUND_KEYS] + counts[MULTIPLES] + counts[SUBKEY])
+            end += sprintf(end, " %zu", length_of(at));
     }
     printf("%s\t%zu", call->name, 8 * size);
     for (int kind = 0; kind < KINDS; kind++)
-        printf("\t%d", counts[kind]);
-    for (int kind = 0; kind < KINDS; kind++)
-        in_registers += inside[kind];
-    printf("\t%d\t%zu\n", in_registers, depth);
+        printf("\t%d", all[kind]);
+    printf("\t%d\t%zu\t%s\n", in_registers, depth, end > where ? where + 1 : "-");
 }
 
 int main(void)
