@@ -20,8 +20,8 @@ pub trait BlockCipherEncBackend: ParBlocksSizeUser + RoundKeysUser {
         ensures { Each (fips.cipher_with (Self.round_keys self.now)) blocks.old blocks.new };
 
     /// Encrypts the first blocks of one batch in place, `count` of them, under the value's round keys (Cipher, FIPS 197,
-    /// 5.1). What the others are afterwards is not said, since the whole batch may take less time than its first blocks. So
-    /// fill it: of a block whose encryption is a secret, as that of zeros is in GCM, none may stay in it.
+    /// 5.1). What the others are afterwards is not said, since the whole batch may take less time than its first blocks.
+    /// They may be encrypted too, so let none of them be a block whose encryption is a secret, as that of zeros is in GCM.
     #[tactic(auto, using(crate::proofs::FirstBlocks::first_of_all, crate::proofs::FirstBlocks::first_alone))]
     #[inline(always)]
     fn encrypt_first_blocks(&self, count: usize, blocks: &mut [Block])
