@@ -26,11 +26,12 @@ FORMS = {
     "aes_hybrid": dict.fromkeys(WAYS, "aes_hybrid::BothLists<K>") | {"Enc": "aes_hybrid::Encrypting<K>"},
 }
 
-# The calls after which the stack is searched: over which forms they are, and the blocks that they and their exports take.
+# The calls after which the stack is searched: over which forms they are, and the blocks or bytes that they take.
 LEFT = {
     **dict.fromkeys(("value_dropped", "value_zeroized", "clone_dropped", "clone_zeroized"), ("{}, BothWays", "Block")),
-    **dict.fromkeys(("slice_dropped", "slice_zeroized"), ("{Enc}, Encrypt", "[Block]", "[Block; 9]")),
-    "stream_dropped": ("{Enc}, Encrypt", "Block"),
+    **dict.fromkeys(("slice_dropped", "slice_zeroized"), ("{Enc}, Encrypt", "[Block]")),
+    "slice_decrypted": ("{Dec}, Decrypt", "[Block]"),
+    "stream_dropped": ("{Enc}, Encrypt", "[u8]"),
     **dict.fromkeys(("lent_converted", "given_converted"), ("{Enc}, {Dec}", "Block")),
 }
 
@@ -68,8 +69,7 @@ def of_crate(crate):
     named["DIRECTIONS"] = [of_direction(crate, it) for it in DIRECTIONS]
     named["ENC"] = named["DIRECTIONS"][:1]
     named["LEFT"] = [
-        {"WHAT": what, "OVER": over.format(forms[""], **forms), "BLOCKS": blocks[0], "GIVEN": blocks[-1]}
-        for what, (over, *blocks) in LEFT.items()
+        {"WHAT": what, "OVER": over.format(forms[""], **forms), "BLOCKS": blocks} for what, (over, blocks) in LEFT.items()
     ]
     return named
 

@@ -208,7 +208,7 @@ for word, width in (("u16", 2), ("u32", 4), ("u64", 8)):
     for n in (0, 1, 88, 120):
         call(f"ev_wipe_words_{word}", ("z", n * width, n), label=str(n), wanted=slices_wanted(n))
 WORDS_LEFT = ["not_wiped", "words_wiped", "wiped_wiped", "wiped_dropped"]
-VALUES_LEFT = ["value_dropped", "value_zeroized", "stream_dropped"]
+VALUES_LEFT = ["value_dropped", "value_zeroized"]
 MADE_LEFT = ["clone_dropped", "clone_zeroized", "lent_converted", "given_converted"]
 for size, (key, _, _) in SIZES.items():
     # It works no block: there is nothing to see but a leak.
@@ -217,8 +217,9 @@ for size, (key, _, _) in SIZES.items():
     for crate, of in left + list(itertools.product(CRATES, MADE_LEFT)):
         call(f"ev_left_{crate}_{size}_{of}", ("s", key), ("b", 16))
     for crate in CRATES:
-        for of in ("slice_dropped", "slice_zeroized"):
-            call(f"ev_left_{crate}_{size}_{of}", ("s", key), ("b", 144))
+        for of in ("slice_dropped", "slice_zeroized", "slice_decrypted"):
+            call(f"ev_left_{crate}_{size}_{of}", ("s", key), ("b", 144, 9))
+        call(f"ev_left_{crate}_{size}_stream_dropped", ("s", key), ("b", 16, 16))
 
 # The program reads and writes digits by tables, and says so: its reply must be found.
 REPLY = """    { static const char line[] = "enc 000102030405060708090a0b0c0d0e0f 00112233445566778899aabbccddeeff";

@@ -1,13 +1,16 @@
 /* Calls an export on a stack of its own, and searches that stack and the registers for what the call left of the key
-   and its round keys. One line a call and a size of keys, with tabs. */
+   and its round keys, and for a block of zeros encrypted or decrypted, which no caller gave. A call on slices or bytes
+   runs on every number of blocks from 0 to 40, one on bytes also on lengths in between. One line a call and a size of
+   keys, with tabs: the most that it left at any length. */
 #include "../left.h"
 
-enum { KEYS = 6, NINE = 9, KINDS = 3 };
-typedef void export(const uint8_t *key, uint8_t *blocks);
-static uint8_t key[32], blocks[BLOCK * NINE], *images[KEYS];
-static size_t size;
+enum { KEYS = 6, EVERY = 41, KINDS = 3 };
+/* An export of one block takes no count, and doesn't see that it is given one. */
+typedef void export(const uint8_t *key, uint8_t *blocks, size_t count);
+static uint8_t key[32], blocks[BLOCK * EVERY], zeros[2][BLOCK], *images[KEYS];
+static size_t size, count;
 static export *at_hand;
-static void call(void) { at_hand(key, blocks); }
+static void call(void) { at_hand(key, blocks, count); }
 
 /* What a key expands to: words of planes, those words widened for a batch, round keys of permutations, and the
    standard's round keys. */
@@ -24,6 +27,10 @@ static void expect(void) {
     BY_SIZE(ev_expand, size, key, plain);
     for (size_t i = 0; i < 8 * round_keys(); i++)
         widened(wide[i], words[i]);
+    memset(zeros, 0, sizeof zeros);
+    if (fotsgure_aes_encrypt_blocks_with(key, size, zeros[0], 1) ||
+        fotsgure_aes_decrypt_blocks_with(key, size, zeros[1], 1))
+        abort();
 }
 
 /* Planted: a wipe that the compiler may leave out, since nothing reads the words again, one of half the words, and one
@@ -33,27 +40,39 @@ static void made(const uint8_t *k, uint16_t *made_words, uint8_t *block) {
     use(made_words);
     block[0] ^= (uint8_t)made_words[0];
 }
-__attribute__((noinline)) static void planted_deleted_wipe(const uint8_t *k, uint8_t *b) {
+__attribute__((noinline)) static void planted_deleted_wipe(const uint8_t *k, uint8_t *b, size_t n) {
+    (void)n;
     uint16_t w[MOST_WORDS];
     made(k, w, b);
     memset(w, 0, sizeof w);
 }
-__attribute__((noinline)) static void planted_kept_wipe(const uint8_t *k, uint8_t *b) {
+__attribute__((noinline)) static void planted_kept_wipe(const uint8_t *k, uint8_t *b, size_t n) {
+    (void)n;
     uint16_t w[MOST_WORDS];
     made(k, w, b);
     memset(w, 0, sizeof w);
     use(w);
 }
-__attribute__((noinline)) static void planted_half_wipe(const uint8_t *k, uint8_t *b) {
+__attribute__((noinline)) static void planted_half_wipe(const uint8_t *k, uint8_t *b, size_t n) {
+    (void)n;
     uint16_t w[MOST_WORDS];
     made(k, w, b);
     memset(w, 0, schedule() / 2);
     use(w);
 }
 
+/* Planted: blocks of zeros, encrypted and decrypted, in a local. */
+__attribute__((noinline)) static void planted_zeros(const uint8_t *k, uint8_t *b, size_t n) {
+    uint8_t made[2][BLOCK];
+    (void)k, (void)b, (void)n;
+    memcpy(made, zeros, sizeof made);
+    use(made);
+}
+
 /* What is counted, in the order of HEAD in run. */
 enum what {
-    SCHEDULES, STORED_KEYS, EXPANDED, WIDENED, WHOLE_KEYS, ZERO_SCHEDULES, IN_REGISTERS, COPIES, DEEPEST, WHATS
+    SCHEDULES, STORED_KEYS, EXPANDED, WIDENED, WHOLE_KEYS, ZERO_SCHEDULES, ZERO_BLOCKS, IN_REGISTERS, COPIES, DEEPEST,
+    WHATS
 };
 
 static int same(const uint8_t *m, const void *what, size_t n) { return !memcmp(m, what, n); }
@@ -89,6 +108,7 @@ static void look(const uint8_t *m, size_t room, int aligned, int *seen) {
     }
     if (room >= size) seen[WHOLE_KEYS] += same(m, key, size);
     if (room < BLOCK) return;
+    seen[ZERO_BLOCKS] += same(m, zeros[0], BLOCK) || same(m, zeros[1], BLOCK);
     seen[STORED_KEYS] += stored_keys(m);
     seen[EXPANDED] += expanded_keys(m);
     if (aligned) seen[WIDENED] += holds_wide(m);
@@ -106,27 +126,42 @@ static int copies(void) {
     return found;
 }
 
-static void report(const char *name, export *it) {
-    int seen[WHATS] = {0};
-    /* A crate that lacks the call exports none. */
-    if (!it) return;
+/* What a call left with so many blocks or bytes. */
+static void at_count(export *it, int seen[WHATS]) {
     at_hand = it;
     for (int k = KEYS - 1; k >= 0; k--) {
         /* An odd step for each byte: none is the same under two keys. */
         for (size_t i = 0; i < size; i++) key[i] = (uint8_t)(0x1d * i + 0x35 + (0x47 + 2 * i) * (size_t)k);
-        for (size_t i = 0; i < sizeof blocks; i++) blocks[i] = (uint8_t)(i * 7 + 1);
+        for (size_t i = 0; i < sizeof blocks; i++) blocks[i] = (uint8_t)(i * 7 + i / 256 + 1);
+        expect();
         run(call, images[k]);
     }
     /* The last run had the key of number 0. */
-    expect();
-    for (size_t i = 0; i < STACK; i++) look(images[0] + i, STACK - i, i % 8 == 0, seen);
-    seen[COPIES] = copies();
     seen[DEEPEST] = (int)depth_of(images[0]);
+    for (size_t i = STACK - (size_t)seen[DEEPEST]; i < STACK; i++) look(images[0] + i, STACK - i, i % 8 == 0, seen);
+    seen[COPIES] = copies();
     for (const uint8_t *at = registers; at < registers + sizeof registers; at += BLOCK)
         seen[IN_REGISTERS] += stored_keys(at) || expanded_keys(at) || holds_wide(at) || same(at, key, BLOCK);
+}
+
+/* What a call takes beside the key. */
+enum takes { ONE, BLOCKS, BYTES };
+static void report(const char *name, export *it, enum takes takes) {
+    static const size_t others[] = {7, 109, 231, 375};
+    int most[WHATS] = {0};
+    char where[8 * (EVERY + 4) + 2] = "", *end = where;
+    /* A crate that lacks the call exports none. */
+    if (!it) return;
+    for (size_t i = 0; i < (takes == ONE ? 1 : takes == BLOCKS ? EVERY : EVERY + 4); i++) {
+        int seen[WHATS] = {0};
+        count = takes == ONE ? 1 : takes == BLOCKS ? i : i < EVERY ? BLOCK * i : others[i - EVERY];
+        at_count(it, seen);
+        for (int what = 0; what < WHATS; what++) most[what] = seen[what] > most[what] ? seen[what] : most[what];
+        if (seen[ZERO_BLOCKS]) end += sprintf(end, " %zu", count);
+    }
     printf("%s\t%zu", name, 8 * size);
-    for (int i = 0; i < WHATS; i++) printf("\t%d", seen[i]);
-    printf("\n");
+    for (int what = 0; what < WHATS; what++) printf("\t%d", most[what]);
+    printf("\t%s\n", end > where ? where + 1 : "-");
 }
 
 /* Words that stand with the caller must be zero, each of them, and nothing beyond them may change. */
@@ -143,18 +178,19 @@ static void report(const char *name, export *it) {
         printf("place u%d\t%zu\t%zu\t%zu\n", bits, 8 * size, left, changed); \
     } while (0)
 
-#define EACH(crate, what) { \
+#define EACH(crate, what, takes) { \
         extern export ev_left_##crate##_128_##what __attribute__((weak)); \
         extern export ev_left_##crate##_192_##what __attribute__((weak)); \
         extern export ev_left_##crate##_256_##what __attribute__((weak)); \
         export *const sizes[KINDS] = {ev_left_##crate##_128_##what, ev_left_##crate##_192_##what, \
             ev_left_##crate##_256_##what}; \
-        report(#crate " " #what, sizes[size / 8 - 2]); \
+        report(#crate " " #what, sizes[size / 8 - 2], takes); \
     }
 #define VALUES(crate) \
-    EACH(crate, value_dropped) EACH(crate, value_zeroized) EACH(crate, clone_dropped) EACH(crate, clone_zeroized) \
-    EACH(crate, lent_converted) EACH(crate, given_converted) EACH(crate, stream_dropped) EACH(crate, slice_dropped) \
-    EACH(crate, slice_zeroized)
+    EACH(crate, value_dropped, ONE) EACH(crate, value_zeroized, ONE) EACH(crate, clone_dropped, ONE) \
+    EACH(crate, clone_zeroized, ONE) EACH(crate, lent_converted, ONE) EACH(crate, given_converted, ONE) \
+    EACH(crate, stream_dropped, BYTES) EACH(crate, slice_dropped, BLOCKS) EACH(crate, slice_zeroized, BLOCKS) \
+    EACH(crate, slice_decrypted, BLOCKS)
 
 int main(void) {
     stack = aligned_alloc(4096, STACK);
@@ -163,11 +199,12 @@ int main(void) {
         PLACE(16);
         PLACE(32);
         PLACE(64);
-        report("planted_deleted_wipe", planted_deleted_wipe);
-        report("planted_half_wipe", planted_half_wipe);
-        report("planted_kept_wipe", planted_kept_wipe);
-        EACH(words, not_wiped) EACH(words, words_wiped) EACH(words, wiped_wiped) EACH(words, wiped_dropped)
-        EACH(words, wide_wiped)
+        report("planted_deleted_wipe", planted_deleted_wipe, ONE);
+        report("planted_half_wipe", planted_half_wipe, ONE);
+        report("planted_kept_wipe", planted_kept_wipe, ONE);
+        report("planted_zeros", planted_zeros, ONE);
+        EACH(words, not_wiped, ONE) EACH(words, words_wiped, ONE) EACH(words, wiped_wiped, ONE) EACH(words, wiped_dropped, ONE)
+        EACH(words, wide_wiped, ONE)
         VALUES(aes)
         VALUES(aes_hybrid)
     }
