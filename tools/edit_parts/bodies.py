@@ -62,7 +62,7 @@ def body(lines, head, indent):
     """The first and the last line of the body of the function whose head is a line, or None if it has none."""
     for start in range(head, len(lines)):
         line = lines[start]
-        if start == head and line.endswith("}") and "{" in line:
+        if line == indent + "{}" or start == head and line.endswith("}") and "{" in line:
             return start, start
         if start > head and (not line or FUNCTION.match(line) or not line.startswith(indent)):
             return None
@@ -84,17 +84,19 @@ def functions(path, text):
 
 class Edit:
     """A file of edits/: what it says of the bug, and pairs of texts, each 'old:' standing once in its file. A line 'same:' in place of
-    'bug:' says that both texts of each pair mean the same, so that no prover may refuse it."""
+    'bug:' says that both texts of each pair mean the same, so that no prover may refuse it. For an edit that changes more than
+    bodies, a line 'at: src/FILE FUNCTION' names the function that has to refuse it."""
 
     def __init__(self, file):
         self.name, self.pairs, self.fault = os.path.basename(file).removesuffix(".edit"), [], None
         with open(file, encoding="utf-8") as it:
             self.text = it.read()
         said = [line.partition(":")[::2] for line in self.text.splitlines()]
-        if not re.fullmatch(r"(bug|same)( file( old new)+)+", " ".join(key for key, _ in said)):
-            self.fault = "its lines aren't 'bug:' or 'same:', 'file:' and pairs of 'old:' and 'new:'"
+        if not re.fullmatch(r"(bug|same)( at)?( file( old new)+)+", " ".join(key for key, _ in said)):
+            self.fault = "its lines aren't 'bug:' or 'same:', 'at:' or none, 'file:' and pairs of 'old:' and 'new:'"
             return
         self.is_control = said[0][0] == "same"
+        self.at = said[1][1].split() if said[1][0] == "at" else None
         for key, text in said:
             if key == "file":
                 path = text.strip()
@@ -118,7 +120,8 @@ class Edit:
         return made
 
     def place(self, folder):
-        """Notes the functions whose bodies it changes in a crate's folder, and whether it changes nothing else, or why it can't be made."""
+        """Notes the functions that have to refuse it in a crate's folder, and whether it changes nothing but their bodies, or why it
+        can't be made. Where no function is known, each of the crate may refuse it."""
         self.functions, self.is_within = {}, True
 
         def note(path, text, old, new):
@@ -131,16 +134,27 @@ class Edit:
 
         try:
             is_made = self.planted(folder, {}, note)
+            if not self.is_within:
+                self.functions = named(folder, *self.at) if self.at else {}
         except OSError as error:
             self.fault = f"{error.filename} can't be read"
         else:
             self.fault = None if is_made else "an 'old:' doesn't stand once in its file, or is its 'new:'"
+            if self.at and (self.is_within or not self.functions):
+                self.fault = "'at:' names no function, or it changes bodies alone and needs no 'at:'"
 
     def has_place(self, texts, path, line):
-        """Whether a line of a file, where the crate has these texts, is one of the edited functions' own."""
-        files = {key[0] for key in self.functions}
-        found = [it for file in files for it in functions(file, texts[file]) if it.key in self.functions]
-        return any(it.has_place(path, line) for it in found)
+        """Whether a line of a file, where the crate has these texts, belongs to one of the functions that have to refuse it."""
+        own = []
+        for key, function in self.functions.items():
+            own += [it for it in functions(key[0], texts[key[0]]) if it.key == key] if key[0] in texts else [function]
+        return not own or any(it.has_place(path, line) for it in own)
+
+
+def named(folder, path, name):
+    """The functions of that name in a file of a crate's folder, by their keys."""
+    with open(f"{folder}/{path}", encoding="utf-8") as it:
+        return {found.key: found for found in functions(path, it.read()) if found.name == name}
 
 
 def changed_by(path, text, old, new):
