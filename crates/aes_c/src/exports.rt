@@ -6,7 +6,7 @@ ghost use Rattle.aes_planes.specs.Fips197 as fips;
 ghost use Rattle.aes_ctr.specs.CounterMode.{keystream_byte, plus_stream};
 ghost use Rattle.c_calls.specs.Kept.{kept_key, AreZeroAfter, IsKeyLength, IsMade};
 
-use crate::Chosen;
+use crate::BuildWidth;
 use aes_cipher::cipher::{Decrypt, Encrypt};
 use aes_planes::soft::word::Block;
 use c_calls::blocks::{process_under, process_under_to};
@@ -71,7 +71,7 @@ pub extern "C" fn fotsgure_aes_encrypt_blocks(aes: &Aes, blocks: &mut [Block]) -
         result ≡ DONE → Each (fips.cipher key) blocks.old blocks.new }
     ensures untouched { result ≢ DONE → blocks.new ≡ blocks.old }
 {
-    process_under::<Encrypt, Chosen>(aes, blocks)
+    process_under::<Encrypt, BuildWidth>(aes, blocks)
 }
 
 /// Decrypts each block in place (InvCipher, FIPS 197, 5.3).
@@ -84,7 +84,7 @@ pub extern "C" fn fotsgure_aes_decrypt_blocks(aes: &Aes, blocks: &mut [Block]) -
         result ≡ DONE → Each (fips.inv_cipher key) blocks.old blocks.new }
     ensures untouched { result ≢ DONE → blocks.new ≡ blocks.old }
 {
-    process_under::<Decrypt, Chosen>(aes, blocks)
+    process_under::<Decrypt, BuildWidth>(aes, blocks)
 }
 
 /// Encrypts each block of one buffer into another (Cipher, FIPS 197, 5.1).
@@ -102,7 +102,7 @@ pub extern "C" fn fotsgure_aes_encrypt_blocks_to(
         result ≡ DONE → Each (fips.cipher key) input.now output.new }
     ensures untouched { result ≢ DONE → output.new ≡ output.old }
 {
-    process_under_to::<Encrypt, Chosen>(aes, input, output)
+    process_under_to::<Encrypt, BuildWidth>(aes, input, output)
 }
 
 /// Decrypts each block of one buffer into another (InvCipher, FIPS 197, 5.3).
@@ -120,7 +120,7 @@ pub extern "C" fn fotsgure_aes_decrypt_blocks_to(
         result ≡ DONE → Each (fips.inv_cipher key) input.now output.new }
     ensures untouched { result ≢ DONE → output.new ≡ output.old }
 {
-    process_under_to::<Decrypt, Chosen>(aes, input, output)
+    process_under_to::<Decrypt, BuildWidth>(aes, input, output)
 }
 
 /// Adds to each byte the keystream's byte at its place, the first of them at the position, and moves the position on
@@ -139,7 +139,7 @@ pub extern "C" fn fotsgure_aes_add_keystream(aes: &Aes, ctr: &mut Ctr, bytes: &m
     ensures unmoved { result ≢ DONE → ctr.new.position ≡ ctr.old.position }
     ensures untouched { result ≢ DONE → bytes.new ≡ bytes.old }
 {
-    add_keystream_under::<Chosen>(aes, ctr, bytes)
+    add_keystream_under::<BuildWidth>(aes, ctr, bytes)
 }
 
 /// Writes to one buffer the bytes of another plus the keystream's, and moves the position on. Returns `UNEQUAL_COUNTS`
@@ -165,7 +165,7 @@ pub extern "C" fn fotsgure_aes_add_keystream_to(
     ensures unmoved { result ≢ DONE → ctr.new.position ≡ ctr.old.position }
     ensures untouched { result ≢ DONE → output.new ≡ output.old }
 {
-    add_keystream_under_to::<Chosen>(aes, ctr, input, output)
+    add_keystream_under_to::<BuildWidth>(aes, ctr, input, output)
 }
 
 /// Encrypts each block in place under a key (Cipher, FIPS 197, 5.1). Returns `DONE` exactly if the key has 16, 24 or 32
@@ -177,7 +177,7 @@ pub extern "C" fn fotsgure_aes_encrypt_blocks_with(key: &[u8], blocks: &mut [Blo
     ensures blocks { result ≡ DONE → Each (fips.cipher key.now) blocks.old blocks.new }
     ensures untouched { result ≢ DONE → blocks.new ≡ blocks.old }
 {
-    encrypt_with::<Chosen>(key, blocks)
+    encrypt_with::<BuildWidth>(key, blocks)
 }
 
 /// Decrypts each block in place under a key (InvCipher, FIPS 197, 5.3). Returns `DONE` exactly if the key has 16, 24 or
@@ -189,7 +189,7 @@ pub extern "C" fn fotsgure_aes_decrypt_blocks_with(key: &[u8], blocks: &mut [Blo
     ensures blocks { result ≡ DONE → Each (fips.inv_cipher key.now) blocks.old blocks.new }
     ensures untouched { result ≢ DONE → blocks.new ≡ blocks.old }
 {
-    decrypt_with::<Chosen>(key, blocks)
+    decrypt_with::<BuildWidth>(key, blocks)
 }
 
 /// Adds to each byte the keystream's byte at its place and moves the position on, as `fotsgure_aes_add_keystream`,
@@ -212,5 +212,5 @@ pub extern "C" fn fotsgure_aes_add_keystream_with(
     ensures unmoved { result ≢ DONE → ctr.new.position ≡ ctr.old.position }
     ensures untouched { result ≢ DONE → bytes.new ≡ bytes.old }
 {
-    add_keystream_with::<Chosen>(key, ctr, bytes)
+    add_keystream_with::<BuildWidth>(key, ctr, bytes)
 }

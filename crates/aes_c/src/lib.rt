@@ -19,4 +19,4 @@ pub use exports::{
 };
 
 /// The width of the words on which the exports process many blocks.
-pub type Chosen = aes_hybrid::widths::Narrow;
+pub type BuildWidth = aes_hybrid::widths::Narrow;

@@ -17,4 +17,4 @@ pub use exports::{
 };
 
 /// The width of the words on which the exports process many blocks.
-pub type Chosen = aes_hybrid::widths::Wide;
+pub type BuildWidth = aes_hybrid::widths::Wide;
