@@ -9,7 +9,6 @@ use aes_cipher::cipher::{
 };
 
 pub mod both_forms;
-pub mod both_forms_wide;
 pub mod planes;
 
 // Makes the value of a key for both directions. Returns it, and a block encrypted and decrypted.

@@ -17,13 +17,10 @@ use std::slice;
 
 /// Stored round keys of Cipher, lent to encrypt. The backend for eight blocks or more has planes for whole batches, and
 /// that for fewer vector permutations alone. Contracts see a value as its key.
-pub struct Lent<'a, W> {
+pub struct Lent<'a, W = Narrow> {
     keys: &'a [Block],
     width: PhantomData<W>,
 }
-
-/// Those that go on words of 128 bits.
-pub type LentKeys<'a> = Lent<'a, Narrow>;
 
 impl<W> Drop for Lent<'_, W> {
     #[inline(always)]

@@ -12,7 +12,6 @@ pub mod lent;
 mod names;
 mod plane_keys;
 mod slots;
-pub mod wide;
 pub mod widths;
 
 pub use ciphers::{BothLists, Encrypting};

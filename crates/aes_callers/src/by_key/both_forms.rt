@@ -1,4 +1,4 @@
-//! The nine names of `aes_hybrid`, in both forms.
+//! The nine names of `aes_hybrid`, in both forms, with words of either width.
 
 ghost use Rattle.std.specs.Prelude.{◌≡◌};
 ghost use Rattle.aes_planes.specs.Fips197 as fips;
@@ -6,13 +6,12 @@ ghost use Rattle.aes_planes.specs.Fips197 as fips;
 use super::{both_ways, decrypting, encrypting};
 use aes_cipher::aes::{AesCipher, Bits128, Bits192, Bits256, BothWays, KeySize};
 use aes_cipher::cipher::{Block, Decrypt, Encrypt};
-use aes_hybrid::widths::{Narrow, Width};
+use aes_hybrid::widths::Width;
 use aes_hybrid::{BothLists, Encrypting};
 
-// The three types, with the size of the key and the width of the words as parameters: what they are made of is proved
-// once for all sizes and both widths.
+// The three types, with the size of the key as a parameter too: what they are made of is proved once for all sizes.
 
-pub(super) fn of_both<K: KeySize, W: Width>(
+fn of_both<K: KeySize, W: Width>(
     key: &K::Key,
     block: &Block,
 ) -> (AesCipher<BothLists<K, W>, BothWays>, Block, Block)
@@ -23,7 +22,7 @@ pub(super) fn of_both<K: KeySize, W: Width>(
     both_ways(key, block)
 }
 
-pub(super) fn of_enc<K: KeySize, W: Width>(
+fn of_enc<K: KeySize, W: Width>(
     key: &K::Key,
     block: &Block,
 ) -> (AesCipher<Encrypting<K, W>, Encrypt>, Block)
@@ -33,7 +32,7 @@ pub(super) fn of_enc<K: KeySize, W: Width>(
     encrypting(key, block)
 }
 
-pub(super) fn of_dec<K: KeySize, W: Width>(
+fn of_dec<K: KeySize, W: Width>(
     key: &K::Key,
     block: &Block,
 ) -> (AesCipher<BothLists<K, W>, Decrypt>, Block)
@@ -44,76 +43,76 @@ pub(super) fn of_dec<K: KeySize, W: Width>(
 }
 
 /// Returns the `Aes128` of a key of 16 bytes, and a block encrypted and decrypted under that key.
-pub fn aes_128(key: &[u8; 16], block: &Block) -> (aes_hybrid::Aes128, Block, Block)
+pub fn aes_128<W: Width>(key: &[u8; 16], block: &Block) -> (aes_hybrid::Aes128<W>, Block, Block)
     ensures value { result.0 ≡ key.now }
     ensures encrypted { result.1 ≡ fips.cipher key.now block.now }
     ensures decrypted { result.2 ≡ fips.inv_cipher key.now block.now }
 {
-    of_both::<Bits128, Narrow>(key, block)
+    of_both::<Bits128, W>(key, block)
 }
 
 /// Returns the `Aes128Enc` of a key of 16 bytes, and a block encrypted under that key.
-pub fn aes_128_enc(key: &[u8; 16], block: &Block) -> (aes_hybrid::Aes128Enc, Block)
+pub fn aes_128_enc<W: Width>(key: &[u8; 16], block: &Block) -> (aes_hybrid::Aes128Enc<W>, Block)
     ensures value { result.0 ≡ key.now }
     ensures encrypted { result.1 ≡ fips.cipher key.now block.now }
 {
-    of_enc::<Bits128, Narrow>(key, block)
+    of_enc::<Bits128, W>(key, block)
 }
 
 /// Returns the `Aes128Dec` of a key of 16 bytes, and a block decrypted under that key.
-pub fn aes_128_dec(key: &[u8; 16], block: &Block) -> (aes_hybrid::Aes128Dec, Block)
+pub fn aes_128_dec<W: Width>(key: &[u8; 16], block: &Block) -> (aes_hybrid::Aes128Dec<W>, Block)
     ensures value { result.0 ≡ key.now }
     ensures decrypted { result.1 ≡ fips.inv_cipher key.now block.now }
 {
-    of_dec::<Bits128, Narrow>(key, block)
+    of_dec::<Bits128, W>(key, block)
 }
 
 /// Returns the `Aes192` of a key of 24 bytes, and a block encrypted and decrypted under that key.
-pub fn aes_192(key: &[u8; 24], block: &Block) -> (aes_hybrid::Aes192, Block, Block)
+pub fn aes_192<W: Width>(key: &[u8; 24], block: &Block) -> (aes_hybrid::Aes192<W>, Block, Block)
     ensures value { result.0 ≡ key.now }
     ensures encrypted { result.1 ≡ fips.cipher key.now block.now }
     ensures decrypted { result.2 ≡ fips.inv_cipher key.now block.now }
 {
-    of_both::<Bits192, Narrow>(key, block)
+    of_both::<Bits192, W>(key, block)
 }
 
 /// Returns the `Aes192Enc` of a key of 24 bytes, and a block encrypted under that key.
-pub fn aes_192_enc(key: &[u8; 24], block: &Block) -> (aes_hybrid::Aes192Enc, Block)
+pub fn aes_192_enc<W: Width>(key: &[u8; 24], block: &Block) -> (aes_hybrid::Aes192Enc<W>, Block)
     ensures value { result.0 ≡ key.now }
     ensures encrypted { result.1 ≡ fips.cipher key.now block.now }
 {
-    of_enc::<Bits192, Narrow>(key, block)
+    of_enc::<Bits192, W>(key, block)
 }
 
 /// Returns the `Aes192Dec` of a key of 24 bytes, and a block decrypted under that key.
-pub fn aes_192_dec(key: &[u8; 24], block: &Block) -> (aes_hybrid::Aes192Dec, Block)
+pub fn aes_192_dec<W: Width>(key: &[u8; 24], block: &Block) -> (aes_hybrid::Aes192Dec<W>, Block)
     ensures value { result.0 ≡ key.now }
     ensures decrypted { result.1 ≡ fips.inv_cipher key.now block.now }
 {
-    of_dec::<Bits192, Narrow>(key, block)
+    of_dec::<Bits192, W>(key, block)
 }
 
 /// Returns the `Aes256` of a key of 32 bytes, and a block encrypted and decrypted under that key.
-pub fn aes_256(key: &[u8; 32], block: &Block) -> (aes_hybrid::Aes256, Block, Block)
+pub fn aes_256<W: Width>(key: &[u8; 32], block: &Block) -> (aes_hybrid::Aes256<W>, Block, Block)
     ensures value { result.0 ≡ key.now }
     ensures encrypted { result.1 ≡ fips.cipher key.now block.now }
     ensures decrypted { result.2 ≡ fips.inv_cipher key.now block.now }
 {
-    of_both::<Bits256, Narrow>(key, block)
+    of_both::<Bits256, W>(key, block)
 }
 
 /// Returns the `Aes256Enc` of a key of 32 bytes, and a block encrypted under that key.
-pub fn aes_256_enc(key: &[u8; 32], block: &Block) -> (aes_hybrid::Aes256Enc, Block)
+pub fn aes_256_enc<W: Width>(key: &[u8; 32], block: &Block) -> (aes_hybrid::Aes256Enc<W>, Block)
     ensures value { result.0 ≡ key.now }
     ensures encrypted { result.1 ≡ fips.cipher key.now block.now }
 {
-    of_enc::<Bits256, Narrow>(key, block)
+    of_enc::<Bits256, W>(key, block)
 }
 
 /// Returns the `Aes256Dec` of a key of 32 bytes, and a block decrypted under that key.
-pub fn aes_256_dec(key: &[u8; 32], block: &Block) -> (aes_hybrid::Aes256Dec, Block)
+pub fn aes_256_dec<W: Width>(key: &[u8; 32], block: &Block) -> (aes_hybrid::Aes256Dec<W>, Block)
     ensures value { result.0 ≡ key.now }
     ensures decrypted { result.1 ≡ fips.inv_cipher key.now block.now }
 {
-    of_dec::<Bits256, Narrow>(key, block)
+    of_dec::<Bits256, W>(key, block)
 }
