@@ -106,7 +106,6 @@ impl CipherTrial for Repeated {
     {
         there_and_back(both, both, self.encrypted)
             && there_and_back(encrypts, decrypts, self.encrypted)
-            && brings_back_a_hundred(both)
     }
 }
 
@@ -182,6 +181,21 @@ fn different_by_key(key: &[u8]) -> Different {
     }
 }
 
+// A hundred blocks, there and back.
+#[derive(Drop)]
+struct Hundred;
+
+impl CipherTrial for Hundred {
+    fn passes<B, E, D>(&self, both: &B, _encrypts: &E, _decrypts: &D) -> bool
+    where
+        B: BlockCipherEncrypt + BlockCipherDecrypt,
+        E: BlockCipherEncrypt,
+        D: BlockCipherDecrypt,
+    {
+        brings_back_a_hundred(both)
+    }
+}
+
 struct Slices;
 
 impl Trial for Slices {
@@ -192,7 +206,9 @@ impl Trial for Slices {
         let different = different_by_key(known.key);
         Ok(
             pass_under::<F, Repeated>(known.key, &repeated)
-                && pass_under::<F, Different>(known.key, &different),
+                && pass_under::<F, Different>(known.key, &different)
+                && pass_under::<F, Hundred>(known.key, &Hundred)
+                && (known.key.len() != 16 || pass_under::<F, Hundred>(&[0; 16], &Hundred)),
         )
     }
 }

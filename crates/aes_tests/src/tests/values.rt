@@ -55,41 +55,33 @@ where
     }
 }
 
-// Whether a value, and others that come from its clones, are right while they are dropped in each order.
-fn are_right_in_every_order<E, B, D>(enc: &E, encrypted: u128) -> Result<bool, Fail>
-where
-    E: BlockCipherEncrypt + Clone + Drop,
-    B: BlockCipherEncrypt + BlockCipherDecrypt + From<E> + Drop,
-    D: BlockCipherDecrypt + From<E> + Drop,
-{
-    let orders = [
-        [Kind::Enc, Kind::Both, Kind::Dec],
-        [Kind::Enc, Kind::Dec, Kind::Both],
-        [Kind::Both, Kind::Enc, Kind::Dec],
-        [Kind::Both, Kind::Dec, Kind::Enc],
-        [Kind::Dec, Kind::Enc, Kind::Both],
-        [Kind::Dec, Kind::Both, Kind::Enc],
-    ];
-    let mut right = true;
-    for order in orders {
-        let living = Living {
-            both: Some(B::from(enc.clone()?)),
-            dec: Some(D::from(enc.clone()?)),
-            enc: Some(enc.clone()?),
-        };
-        right &= living.outlive_one_another(order, encrypted);
-    }
-    Ok(right)
-}
+const ORDERS: [[Kind; 3]; 6] = [
+    [Kind::Enc, Kind::Both, Kind::Dec],
+    [Kind::Enc, Kind::Dec, Kind::Both],
+    [Kind::Both, Kind::Enc, Kind::Dec],
+    [Kind::Both, Kind::Dec, Kind::Enc],
+    [Kind::Dec, Kind::Enc, Kind::Both],
+    [Kind::Dec, Kind::Both, Kind::Enc],
+];
 
+// A value that encrypts, one that its clone became, and one that was made of it, while they are dropped in each order.
 struct Orders;
 
 impl Trial for Orders {
     fn passes<F: Forms>(&self, known: &Known) -> Result<bool, Fail> {
-        let Ok(enc) = Enc::<F>::new_from_slice(known.key) else {
-            return Ok(false);
-        };
-        are_right_in_every_order::<Enc<F>, Both<F>, Dec<F>>(&enc, known.encrypted)
+        let mut right = true;
+        for order in ORDERS {
+            let Ok(enc) = Enc::<F>::new_from_slice(known.key) else {
+                return Ok(false);
+            };
+            let living = Living::<Enc<F>, Both<F>, Dec<F>> {
+                both: Some(Both::<F>::from(enc.clone()?)),
+                dec: Some(Dec::<F>::from(&enc)),
+                enc: Some(enc),
+            };
+            right &= living.outlive_one_another(order, known.encrypted);
+        }
+        Ok(right)
     }
 }
 
