@@ -1,6 +1,7 @@
 //! The cipher and its inverse under any list of round keys, built from single rounds.
 
 mod encrypt;
+mod expansion;
 mod inverse;
 mod inverted_keys;
 mod runs;
@@ -8,4 +9,5 @@ mod single_rounds;
 mod states;
 
 pub use encrypt::AesEnc;
+pub use expansion::{expand_128, expand_192, expand_256};
 pub use inverse::{Aes, AesDec, WithInverse};

@@ -1,11 +1,8 @@
 //! Blocks under stored round keys: slices of them, single ones, and backends.
 
-mod backend;
+pub(crate) mod backend;
 mod slices;
 
-pub use backend::{
-    Aes128Backend, Aes192Backend, Aes256Backend, Backend, decrypt_with_backend,
-    encrypt_with_backend,
-};
+pub use backend::{Backend, decrypt_with_backend, encrypt_with_backend};
 pub use slices::{process_batch_under, process_batches_under, process_block, process_blocks};
 pub(crate) use slices::{batch_of, put_batch};

@@ -5,8 +5,7 @@ ghost use Rattle.std.specs.Prelude.{◌≡◌};
 use aes_cipher::cipher::{BlockCipherDecBackend, BlockCipherEncBackend, ParBlocksSizeUser};
 use aes_planes::soft::sbox::Layers;
 use aes_planes::soft::word::Block;
-use aes_soft::soft::blocks::{Aes128Backend, Aes192Backend, Aes256Backend};
-use aes_soft::soft::full;
+use aes_soft::soft::{Aes128Backend, Aes192Backend, Aes256Backend, full};
 use standards::blocks::different_blocks;
 use standards::keys::{BY_128, BY_192, BY_256, KEY_128, KEY_192, KEY_256, PLAIN};
 
