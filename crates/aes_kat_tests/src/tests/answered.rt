@@ -92,8 +92,8 @@ fn works_on_up_to_64_blocks(rt: HostRuntime) -> Result<(), Fail> {
                 push_blocks(&mut want, &to, count)?;
                 want.push(b'\n')?;
                 let (output, status) = answers(rt.alloc(), line.as_slice());
-                assert_eq!(&rt; output.as_slice(), want.as_slice(), "{count} blocks");
-                assert_eq!(&rt; status, 0);
+                assert!(&rt; output.as_slice() == want.as_slice(), "{count} blocks");
+                assert!(&rt; status == 0);
             }
         }
     }
@@ -245,12 +245,11 @@ fn expands_zero_keys(rt: HostRuntime) -> Result<(), Fail> {
             output.as_slice().starts_with(front.as_bytes()),
             "at {line}"
         );
-        assert_eq!(&rt;
-            output.as_slice().split(|byte| *byte == b' ').count(),
-            round_keys,
+        assert!(&rt;
+            output.as_slice().split(|byte| *byte == b' ').count() == round_keys,
             "at {line}"
         );
-        assert_eq!(&rt; status, 0);
+        assert!(&rt; status == 0);
     }
     Ok(())
 }

@@ -19,8 +19,8 @@ fn answers_alike_at_every_pace(rt: HostRuntime) -> Result<(), Fail> {
         let mut input = drip_of(INPUT, read);
         let mut output = nibble_of(rt.alloc(), write);
         let answer = run(rt.alloc(), &mut input, &mut output);
-        assert_eq!(rt; status(&answer), 1, "at {read} and {write}");
-        assert_eq!(rt; output.got.as_slice(), OUTPUT, "at {read} and {write}");
+        assert!(rt; status(&answer) == 1, "at {read} and {write}");
+        assert!(rt; output.got.as_slice() == OUTPUT, "at {read} and {write}");
     }
     Ok(())
 }
@@ -34,8 +34,8 @@ fn stops_where_a_read_fails(rt: HostRuntime) -> Result<(), Fail> {
             input.kind = kind;
             let mut output = Vec::new(rt.alloc());
             let answer = run(rt.alloc(), &mut input, &mut output);
-            assert_eq!(rt; status(&answer), 2, "at {bad}");
-            assert_eq!(rt; input.calls, bad);
+            assert!(rt; status(&answer) == 2, "at {bad}");
+            assert!(rt; input.calls == bad);
             assert!(rt; OUTPUT.starts_with(output.as_slice()), "at {bad}");
         }
     }
@@ -55,10 +55,10 @@ fn stops_where_a_write_fails(rt: HostRuntime) -> Result<(), Fail> {
             output.bad = bad;
             output.fault = fault;
             let answer = run(rt.alloc(), &mut input, &mut output);
-            assert_eq!(rt; status(&answer), 2, "at {bad}");
-            assert_eq!(rt; output.calls, bad);
+            assert!(rt; status(&answer) == 2, "at {bad}");
+            assert!(rt; output.calls == bad);
             assert!(rt; OUTPUT.starts_with(output.got.as_slice()), "at {bad}");
-            assert_eq!(rt; output.got.len(), bad - 1);
+            assert!(rt; output.got.len() == bad - 1);
         }
     }
     Ok(())
@@ -70,8 +70,8 @@ fn fails_where_the_flush_fails(rt: HostRuntime) -> Result<(), Fail> {
     let mut output = nibble_of(rt.alloc(), 4096);
     output.flushes = false;
     let answer = run(rt.alloc(), &mut input, &mut output);
-    assert_eq!(rt; status(&answer), 2);
-    assert_eq!(rt; output.got.as_slice(), OUTPUT);
+    assert!(rt; status(&answer) == 2);
+    assert!(rt; output.got.as_slice() == OUTPUT);
     Ok(())
 }
 
@@ -81,8 +81,8 @@ fn flushes_all_that_was_written(rt: HostRuntime) -> Result<(), Fail> {
     let mut input = INPUT;
     let mut output = nibble_of(rt.alloc(), 50);
     let answer = run(rt.alloc(), &mut input, &mut output);
-    assert_eq!(rt; status(&answer), 1);
-    assert_eq!(rt; output.flushed, OUTPUT.len());
+    assert!(rt; status(&answer) == 1);
+    assert!(rt; output.flushed == OUTPUT.len());
     Ok(())
 }
 
@@ -93,11 +93,8 @@ fn writes_answers_before_the_next_read(rt: HostRuntime) -> Result<(), Fail> {
     input.bad = 2;
     let mut output = nibble_of(rt.alloc(), 4096);
     let answer = run(rt.alloc(), &mut input, &mut output);
-    assert_eq!(rt; status(&answer), 2);
-    assert_eq!(rt;
-        output.got.as_slice(),
-        b"63636363636363636363636363636363\n".as_slice()
-    );
+    assert!(rt; status(&answer) == 2);
+    assert!(rt; output.got.as_slice() == b"63636363636363636363636363636363\n".as_slice());
     Ok(())
 }
 
@@ -120,11 +117,11 @@ fn stops_where_each_allocation_is_refused(rt: HostRuntime) -> Result<(), Fail> {
         let answer = run_in(&arena, &mut input, &mut output);
         if status(&answer) == 2 {
             refused = refused.saturating_add(1);
-            assert_eq!(rt; answered, 0, "at {left}");
+            assert!(rt; answered == 0, "at {left}");
             assert!(rt; OUTPUT.starts_with(output.as_slice()), "at {left}");
         } else {
             answered = answered.saturating_add(1);
-            assert_eq!(rt; output.as_slice(), OUTPUT, "at {left}");
+            assert!(rt; output.as_slice() == OUTPUT, "at {left}");
         }
     }
     assert!(rt; refused > 100);

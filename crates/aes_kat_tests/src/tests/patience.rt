@@ -69,12 +69,12 @@ fn reads_and_writes_byte_by_byte(rt: HostRuntime) -> Result<(), Fail> {
     let mut input = drip_of(text.as_slice(), 1);
     let mut output = nibble_of(rt.alloc(), 1);
     let answer = run(rt.alloc(), &mut input, &mut output);
-    assert_eq!(rt; status(&answer), 1);
-    assert_eq!(rt; input.calls, 70_001);
-    assert_eq!(rt; output.calls, 120_000);
-    assert_eq!(rt; output.got.len(), 120_000);
+    assert!(rt; status(&answer) == 1);
+    assert!(rt; input.calls == 70_001);
+    assert!(rt; output.calls == 120_000);
+    assert!(rt; output.got.len() == 120_000);
     for line in output.got.as_slice().chunks(ANSWER.len()) {
-        assert_eq!(rt; line, ANSWER);
+        assert!(rt; line == ANSWER);
     }
     Ok(())
 }
@@ -94,9 +94,9 @@ fn answers_ten_megabytes(rt: HostRuntime) -> Result<(), Fail> {
         others: 0,
     };
     let answer = run(rt.alloc(), &mut input, &mut output);
-    assert_eq!(rt; status(&answer), 1);
-    assert_eq!(rt; output.answers, 10_000);
-    assert_eq!(rt; output.others, 0);
+    assert!(rt; status(&answer) == 1);
+    assert!(rt; output.answers == 10_000);
+    assert!(rt; output.others == 0);
     Ok(())
 }
 
@@ -111,8 +111,8 @@ fn answers_a_line_of_ten_megabytes(rt: HostRuntime) -> Result<(), Fail> {
     let mut input = text.as_slice();
     let mut output = Vec::new(rt.alloc());
     let answer = run(rt.alloc(), &mut input, &mut output);
-    assert_eq!(rt; status(&answer), 1);
-    assert_eq!(rt; output.as_slice(), ANSWER);
+    assert!(rt; status(&answer) == 1);
+    assert!(rt; output.as_slice() == ANSWER);
     Ok(())
 }
 
@@ -123,8 +123,8 @@ fn makes_few_writes_of_many_lines(rt: HostRuntime) -> Result<(), Fail> {
     let mut input = text.as_slice();
     let mut output = nibble_of(rt.alloc(), usize::MAX);
     let answer = run(rt.alloc(), &mut input, &mut output);
-    assert_eq!(rt; status(&answer), 1);
+    assert!(rt; status(&answer) == 1);
     assert!(rt; output.calls <= 4);
-    assert_eq!(rt; output.got.len(), 20_000 * ANSWER.len());
+    assert!(rt; output.got.len() == 20_000 * ANSWER.len());
     Ok(())
 }
