@@ -9,6 +9,7 @@ mod ciphers;
 mod closures;
 pub mod examples;
 pub mod lent;
+pub mod lent_both;
 mod names;
 mod plane_keys;
 mod slots;
