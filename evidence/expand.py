@@ -1,7 +1,8 @@
 """Writes the library of exports out of its templates, exports/src/*.rt.txt.
 
 A line `// each SIZE, CRATE:` repeats the item or the statement after it, once for each size of keys and each crate, and
-what stands in `${..}` is filled in. A row may have tables of its own, which come after it: `// each CRATE, LEFT:`. The tables below say what there is of each.
+what stands in `${..}` is filled in. The tables below say what there is of each; a row may have tables of its own, which come
+after it, as in `// each CRATE, LEFT:`.
 """
 import itertools
 import pathlib

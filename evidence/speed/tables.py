@@ -1,4 +1,4 @@
-"""The times of a run as a file, as tables with everything, and as two sections of docs/MEASUREMENTS.md."""
+"""The times of a run as a file, beside those of others, and as two sections of docs/MEASUREMENTS.md."""
 import csv
 import itertools
 import re
@@ -21,12 +21,9 @@ PACKAGES = {
 BASE = "C library, by LLVM"
 # Its build for processors with AVX2, which stands in the run without AES instructions.
 AVX2 = "C library for AVX2, by LLVM"
-KINDS = ["hybrid", "bitsliced", "permutations", "tables", "instructions"]
 # The amount is of blocks, or of bytes for counter mode.
 HEAD = ["peer", "how", "kind", "run", "key_bytes", "call", "amount", "ticks", "nanoseconds", "ratio_to_this_library"]
 DIGITS = {"ticks": 1, "nanoseconds": 1, "ratio_to_this_library": 3}
-COLUMNS = [(call, n) for call in ("encrypt", "decrypt") for n in (1, 4, 8, 64, 4096)]
-COLUMNS += [("key and counter mode", 65536), ("key for encryption", 1), ("key for decryption", 1), ("key and block", 1)]
 # The rows of docs/MEASUREMENTS.md, and its columns beside this library: peers, and the run in which they are taken.
 BOTH_KEYS = "both keys"
 PUBLISHED = {
@@ -127,54 +124,8 @@ def drift(rows):
     return most
 
 
-def engines(rows, key):
-    """The engines of one size of keys: this library's, then each kind by itself and the fastest first."""
-    of = [r for r in rows if r["key_bytes"] == key and r["kind"] != "planted"]
-    last = {
-        (r["peer"], r["how"]): (r["peer"] != "this library", r["how"] != BASE, KINDS.index(r["kind"]), r["ticks"])
-        for r in of
-        if (r["call"], r["amount"]) == ("encrypt", 4096)
-    }
-    return of, sorted(last, key=last.get)
-
-
 def ratio(number):
     return f"{number:.2f}" if number < 10 else f"{number:.1f}"
-
-
-def cell(its, how, amount):
-    """The least time, or the ratio to it."""
-    if not its:
-        return "–"
-    if how == BASE:
-        least = min(r["nanoseconds"] for r in its) / amount
-        return f"{least:,.0f}" if least >= 10 else f"{least:.2f}"
-    return ratio(its[0]["ratio_to_this_library"])
-
-
-def times_of(of, engine):
-    """The rows of one engine by what was called."""
-    its = {}
-    for r in of:
-        if (r["peer"], r["how"]) == engine:
-            its.setdefault((r["call"], r["amount"]), []).append(r)
-    return its
-
-
-def heads(columns):
-    names = [f"{call}{f' {n:,}' if n > 1 or 'crypt' in call[:7] else ''}" for call, n in columns]
-    return ["| | " + " | ".join(names) + " |", "|---|" + "---|" * len(columns)]
-
-
-def table(rows, key, columns):
-    """A row an engine."""
-    of, order = engines(rows, key)
-    lines = heads(columns)
-    for peer, how in order:
-        its = times_of(of, (peer, how))
-        cells = [cell(its.get(it), how, it[1]) for it in columns]
-        lines.append(f"| {peer}, {how} | " + " | ".join(cells) + " |")
-    return lines
 
 
 def of_run(rows, run):
@@ -224,18 +175,6 @@ def slower_with_fewer(rows):
             if r["ticks"] > 1.01 * least["ticks"]:
                 counts = " ticks, ".join(f"{it['amount']} blocks {it['ticks']:,.0f}" for it in (r, least))
                 yield f"{how}, {call}, key of {key} bytes: {counts}"
-
-
-def whole(rows):
-    """Ratios for the three sizes of keys, and this library's own times; and what beside() says."""
-    parts = ["\n".join(beside(rows)) + "\n"]
-    for key in (16, 24, 32):
-        parts.append(
-            f"Keys of {key} bytes. First row: nanoseconds a block (counter mode: a byte, a key: a call); below: time "
-            "divided by that.\n"
-        )
-        parts.append("\n".join(table(rows, key, COLUMNS)) + "\n")
-    return "\n".join(parts)
 
 
 def versions():
