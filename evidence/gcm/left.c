@@ -169,12 +169,12 @@ static void times(uint8_t to[16], const uint8_t x[16], const uint8_t y[16])
     memcpy(to, z, 16);
 }
 
-/* H is read off its multiples: their entry by the nibble 1000. Its powers are computed, and so is the first counter
- * block of a nonce that doesn't have 12 bytes. */
+/* H is read off its multiples: their entry by the nibble 1000. Rows r and 8 + r stand side by side. Its powers are
+ * computed, and so is the first counter block of a nonce that doesn't have 12 bytes. */
 static void powers(void)
 {
     for (int r = 0; r < 16; r++)
-        subkey[0][r] = kept.multiples[16 * r + 8];
+        subkey[0][r] = kept.multiples[16 * (2 * (r % 8) + r / 8) + 8];
     times(subkey[1], subkey[0], subkey[0]);
     times(subkey[2], subkey[1], subkey[0]);
     memset(first, 0, 16);
