@@ -56,7 +56,7 @@ impl Trial for Closures {
 fn closures_leave_what_single_calls_leave(rt: HostRuntime) {
     for kind in try_all(&Closures) {
         for (ciphers, passed) in kind {
-            assert_eq!(rt; passed, [true; 4], "{ciphers}");
+            assert!(rt; passed == [true; 4], "{ciphers}");
         }
     }
 }
@@ -105,6 +105,6 @@ fn twice_by_planes<K: KeySize>(key: &K::Key, block: Block) -> Block {
 #[test]
 fn decrypting_twice_gives_back_what_was_encrypted_twice(rt: HostRuntime) {
     for block in different_blocks() {
-        assert_eq!(rt; twice_by_planes::<Bits128>(&[0x16; 16], block), block);
+        assert!(rt; twice_by_planes::<Bits128>(&[0x16; 16], block) == block);
     }
 }

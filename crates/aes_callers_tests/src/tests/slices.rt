@@ -58,7 +58,7 @@ impl Trial for Slices {
 fn processes_slices_as_single_blocks(rt: HostRuntime) {
     for kind in try_all(&Slices) {
         for (ciphers, passed) in kind {
-            assert_eq!(rt; passed, [true; 4], "{ciphers}");
+            assert!(rt; passed == [true; 4], "{ciphers}");
         }
     }
 }

@@ -140,29 +140,16 @@ fn one_plane<W: Word>(p: usize, plane: W) -> [W; 8]
 // By the rule of places: row r and column c of block k stand at r * 4 * n + c * n + k, of n blocks.
 #[test]
 fn packs_bits_by_row_column_and_block(rt: HostRuntime) {
-    assert_eq!(rt;
-        planes_of_bytes::<u16>(&[(0, 1, 0x01)]),
-        one_plane(0, 0x0010)
+    assert!(rt; planes_of_bytes::<u16>(&[(0, 1, 0x01)]) == one_plane(0, 0x0010));
+    assert!(rt; planes_of_bytes::<u32>(&[(1, 1, 0x01)]) == one_plane(0, 0x0000_0200));
+    assert!(rt; planes_of_bytes::<u64>(&[(3, 1, 0x01)]) == one_plane(0, 0x0008_0000));
+    assert!(rt; planes_of_bytes::<u128>(&[(7, 1, 0x01)]) == one_plane(0, 1 << 39));
+    assert!(rt;
+        planes_of_bytes::<u32>(&[(0, 15, 0x80), (1, 0, 0x80)]) == one_plane(7, 0x4000_0002)
     );
-    assert_eq!(rt;
-        planes_of_bytes::<u32>(&[(1, 1, 0x01)]),
-        one_plane(0, 0x0000_0200)
-    );
-    assert_eq!(rt;
-        planes_of_bytes::<u64>(&[(3, 1, 0x01)]),
-        one_plane(0, 0x0008_0000)
-    );
-    assert_eq!(rt;
-        planes_of_bytes::<u128>(&[(7, 1, 0x01)]),
-        one_plane(0, 1 << 39)
-    );
-    assert_eq!(rt;
-        planes_of_bytes::<u32>(&[(0, 15, 0x80), (1, 0, 0x80)]),
-        one_plane(7, 0x4000_0002)
-    );
-    assert_eq!(rt;
-        planes_of_bytes::<u64>(&[(0, 4, 0x02), (2, 11, 0x02)]),
-        one_plane(1, 0x0400_0000_0000_0010)
+    assert!(rt;
+        planes_of_bytes::<u64>(&[(0, 4, 0x02), (2, 11, 0x02)])
+            == one_plane(1, 0x0400_0000_0000_0010)
     );
 }
 
@@ -182,97 +169,90 @@ fn packs_and_unpacks(rt: HostRuntime) {
 // By the formula of each call in the trait `Word`.
 #[test]
 fn makes_constants(rt: HostRuntime) {
-    assert_eq!(rt;
-        constants::<u16>(),
-        [0, 0x8001, 0x0080, 0x3333, 0xcccc, 0x5a5a]
+    assert!(rt; constants::<u16>() == [0, 0x8001, 0x0080, 0x3333, 0xcccc, 0x5a5a]);
+    assert!(rt;
+        constants::<u32>()
+            == [
+                0,
+                0xc000_0003,
+                0x0000_c000,
+                0x0f0f_0f0f,
+                0xf0f0_f0f0,
+                0x5a5a_5a5a
+            ]
     );
-    assert_eq!(rt;
-        constants::<u32>(),
-        [
-            0,
-            0xc000_0003,
-            0x0000_c000,
-            0x0f0f_0f0f,
-            0xf0f0_f0f0,
-            0x5a5a_5a5a
-        ]
+    assert!(rt;
+        constants::<u64>()
+            == [
+                0,
+                0xf000_0000_0000_000f,
+                0x0000_0000_f000_0000,
+                0x00ff_00ff_00ff_00ff,
+                0xff00_ff00_ff00_ff00,
+                0x5a5a_5a5a_5a5a_5a5a
+            ]
     );
-    assert_eq!(rt;
-        constants::<u64>(),
-        [
-            0,
-            0xf000_0000_0000_000f,
-            0x0000_0000_f000_0000,
-            0x00ff_00ff_00ff_00ff,
-            0xff00_ff00_ff00_ff00,
-            0x5a5a_5a5a_5a5a_5a5a
-        ]
-    );
-    assert_eq!(rt;
-        constants::<u128>(),
-        [
-            0,
-            0xff00_0000_0000_0000_0000_0000_0000_00ff,
-            0x0000_0000_0000_0000_ff00_0000_0000_0000,
-            0x0000_ffff_0000_ffff_0000_ffff_0000_ffff,
-            0xffff_0000_ffff_0000_ffff_0000_ffff_0000,
-            0x5a5a_5a5a_5a5a_5a5a_5a5a_5a5a_5a5a_5a5a
-        ]
+    assert!(rt;
+        constants::<u128>()
+            == [
+                0,
+                0xff00_0000_0000_0000_0000_0000_0000_00ff,
+                0x0000_0000_0000_0000_ff00_0000_0000_0000,
+                0x0000_ffff_0000_ffff_0000_ffff_0000_ffff,
+                0xffff_0000_ffff_0000_ffff_0000_ffff_0000,
+                0x5a5a_5a5a_5a5a_5a5a_5a5a_5a5a_5a5a_5a5a
+            ]
     );
 }
 
 // By the formula of each call in the trait `Word`.
 #[test]
 fn counts_places_by_rows_and_columns(rt: HostRuntime) {
-    assert_eq!(rt;
+    assert!(rt;
         [
             u16::ror_distance(1, 3),
             u32::ror_distance(1, 3),
             u64::ror_distance(1, 3),
             u128::ror_distance(1, 3)
-        ],
-        [7, 14, 28, 56]
+        ] == [7, 14, 28, 56]
     );
 }
 
 // By the formula of each call in the trait `Word`.
 #[test]
 fn combines_bits(rt: HostRuntime) {
-    assert_eq!(rt; gates(0x0ff0u16, 0x3c3c), [0x0c30, 0x3ffc, 0x33cc, 0xf00f]);
-    assert_eq!(rt;
-        gates(0x0ff0u128 << 112 | 5, 0x3c3c << 112 | 6),
-        [
-            0x0c30 << 112 | 4,
-            0x3ffc << 112 | 7,
-            0x33cc << 112 | 3,
-            (0xf010 << 112) - 6
-        ]
+    assert!(rt; gates(0x0ff0u16, 0x3c3c) == [0x0c30, 0x3ffc, 0x33cc, 0xf00f]);
+    assert!(rt;
+        gates(0x0ff0u128 << 112 | 5, 0x3c3c << 112 | 6)
+            == [
+                0x0c30 << 112 | 4,
+                0x3ffc << 112 | 7,
+                0x33cc << 112 | 3,
+                (0xf010 << 112) - 6
+            ]
     );
 }
 
 // By the formula of each call in the trait `Word`.
 #[test]
 fn moves_bits(rt: HostRuntime) {
-    assert_eq!(rt; moved(0x8421u16), [0x4210, 0x0842, 0x1842]);
-    assert_eq!(rt;
-        moved(0x8765_4321u32),
-        [0x6543_2100, 0x0087_6543, 0x2187_6543]
+    assert!(rt; moved(0x8421u16) == [0x4210, 0x0842, 0x1842]);
+    assert!(rt; moved(0x8765_4321u32) == [0x6543_2100, 0x0087_6543, 0x2187_6543]);
+    assert!(rt;
+        moved(0xfedc_ba98_7654_3210u64)
+            == [
+                0xba98_7654_3210_0000,
+                0x0000_fedc_ba98_7654,
+                0x3210_fedc_ba98_7654
+            ]
     );
-    assert_eq!(rt;
-        moved(0xfedc_ba98_7654_3210u64),
-        [
-            0xba98_7654_3210_0000,
-            0x0000_fedc_ba98_7654,
-            0x3210_fedc_ba98_7654
-        ]
-    );
-    assert_eq!(rt;
-        moved(0x0f1e_2d3c_4b5a_6978_8796_a5b4_c3d2_e1f0u128),
-        [
-            0x4b5a_6978_8796_a5b4_c3d2_e1f0_0000_0000,
-            0x0000_0000_0f1e_2d3c_4b5a_6978_8796_a5b4,
-            0xc3d2_e1f0_0f1e_2d3c_4b5a_6978_8796_a5b4
-        ]
+    assert!(rt;
+        moved(0x0f1e_2d3c_4b5a_6978_8796_a5b4_c3d2_e1f0u128)
+            == [
+                0x4b5a_6978_8796_a5b4_c3d2_e1f0_0000_0000,
+                0x0000_0000_0f1e_2d3c_4b5a_6978_8796_a5b4,
+                0xc3d2_e1f0_0f1e_2d3c_4b5a_6978_8796_a5b4
+            ]
     );
 }
 
@@ -280,13 +260,13 @@ fn moves_bits(rt: HostRuntime) {
 #[test]
 fn substitutes_zeros_by_the_constant(rt: HostRuntime) {
     let a = u16::MAX;
-    assert_eq!(rt; zeros_substituted(), [[0u16; 8], [a, a, 0, 0, 0, a, a, 0]]);
+    assert!(rt; zeros_substituted() == [[0u16; 8], [a, a, 0, 0, 0, a, a, 0]]);
     let b = u32::MAX;
-    assert_eq!(rt; zeros_substituted(), [[0u32; 8], [b, b, 0, 0, 0, b, b, 0]]);
+    assert!(rt; zeros_substituted() == [[0u32; 8], [b, b, 0, 0, 0, b, b, 0]]);
     let c = u64::MAX;
-    assert_eq!(rt; zeros_substituted(), [[0u64; 8], [c, c, 0, 0, 0, c, c, 0]]);
+    assert!(rt; zeros_substituted() == [[0u64; 8], [c, c, 0, 0, 0, c, c, 0]]);
     let d = u128::MAX;
-    assert_eq!(rt; zeros_substituted(), [[0u128; 8], [d, d, 0, 0, 0, d, d, 0]]);
+    assert!(rt; zeros_substituted() == [[0u128; 8], [d, d, 0, 0, 0, d, d, 0]]);
 }
 
 struct Substitutes;

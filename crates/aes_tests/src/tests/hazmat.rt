@@ -26,12 +26,11 @@ fn makes_the_rounds_of_the_standard(rt: HostRuntime) {
     for i in 0..8usize {
         let mut block = STATES[i].to_be_bytes();
         cipher_round(&mut block, &ROUND_KEYS[i].to_be_bytes());
-        assert_eq!(rt; u128::from_be_bytes(block), STATES[i + 1], "round {i}");
+        assert!(rt; u128::from_be_bytes(block) == STATES[i + 1], "round {i}");
         let mut block = INVERSE_STATES[i].to_be_bytes();
         equiv_inv_cipher_round(&mut block, &INVERSE_ROUND_KEYS[i].to_be_bytes());
-        assert_eq!(rt;
-            u128::from_be_bytes(block),
-            INVERSE_STATES[i + 1],
+        assert!(rt;
+            u128::from_be_bytes(block) == INVERSE_STATES[i + 1],
             "inverse round {i}"
         );
     }
@@ -42,18 +41,18 @@ fn makes_the_rounds_of_the_standard(rt: HostRuntime) {
 fn makes_eight_rounds_at_once(rt: HostRuntime) {
     let mut blocks = eight(&STATES, 0);
     cipher_round_par(&mut blocks, &eight(&ROUND_KEYS, 0));
-    assert_eq!(rt; blocks, eight(&STATES, 1));
+    assert!(rt; blocks == eight(&STATES, 1));
     let mut blocks = eight(&INVERSE_STATES, 0);
     equiv_inv_cipher_round_par(&mut blocks, &eight(&INVERSE_ROUND_KEYS, 0));
-    assert_eq!(rt; blocks, eight(&INVERSE_STATES, 1));
+    assert!(rt; blocks == eight(&INVERSE_STATES, 1));
 }
 
 #[test]
 fn mixes_the_columns_of_the_standard(rt: HostRuntime) {
     let mut block = MIXED[0].to_be_bytes();
     mix_columns(&mut block);
-    assert_eq!(rt; u128::from_be_bytes(block), MIXED[1]);
+    assert!(rt; u128::from_be_bytes(block) == MIXED[1]);
     let mut block = INVERSE_MIXED[0].to_be_bytes();
     inv_mix_columns(&mut block);
-    assert_eq!(rt; u128::from_be_bytes(block), INVERSE_MIXED[1]);
+    assert!(rt; u128::from_be_bytes(block) == INVERSE_MIXED[1]);
 }

@@ -159,9 +159,8 @@ fn expands_keys_of_the_standard(rt: HostRuntime) {
     assert!(rt; expand_128(&KEY_A1) == blocks(&ROUND_KEYS_A1));
     assert!(rt; expand_192(&KEY_A2) == blocks(&ROUND_KEYS_A2));
     assert!(rt; expand_256(&KEY_A3) == blocks(&ROUND_KEYS_A3));
-    assert_eq!(rt;
-        u128::from_be_bytes(expand_128(&KEY_128)[10]),
-        0x13111d7fe3944a17f307a78b4d2b30c5
+    assert!(rt;
+        u128::from_be_bytes(expand_128(&KEY_128)[10]) == 0x13111d7fe3944a17f307a78b4d2b30c5
     );
 }
 
@@ -197,5 +196,5 @@ fn takes_lists_that_are_no_expansions(rt: HostRuntime) {
 fn restores_a_block(rt: HostRuntime) {
     let mut block = KEY_128;
     restored(&any_round_keys::<13>(), &mut block);
-    assert_eq!(rt; block, KEY_128);
+    assert!(rt; block == KEY_128);
 }

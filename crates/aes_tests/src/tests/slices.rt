@@ -237,7 +237,7 @@ fn few_blocks_are_taken_by_twos_and_many_by_eights(rt: HostRuntime) {
     let cipher = Aes128Enc::new(&KEY_128);
     let mut taken = BatchTaken { blocks: 0 };
     cipher.encrypt_with_backend_for(1, &mut taken);
-    assert_eq!(rt; taken.blocks, 2);
+    assert!(rt; taken.blocks == 2);
     cipher.encrypt_with_backend_for(100, &mut taken);
-    assert_eq!(rt; taken.blocks, 8);
+    assert!(rt; taken.blocks == 8);
 }

@@ -48,17 +48,17 @@ fn encrypted_one_by_one(blocks: [Block; 5]) -> [Block; 5] {
 #[test]
 fn works_out_the_example(rt: HostRuntime) {
     let cipher = rest_of_the_example();
-    assert_eq!(rt; OneRound::BLOCK_SIZE, 16);
+    assert!(rt; OneRound::BLOCK_SIZE == 16);
     let mut block = INPUT;
     cipher.encrypt_block(&mut block);
-    assert_eq!(rt; block, OUTPUT);
+    assert!(rt; block == OUTPUT);
     cipher.decrypt_block(&mut block);
-    assert_eq!(rt; block, INPUT);
+    assert!(rt; block == INPUT);
     let mut other = [0xee; 16];
     cipher.encrypt_block_b2b(&INPUT, &mut other);
-    assert_eq!(rt; other, OUTPUT);
+    assert!(rt; other == OUTPUT);
     cipher.decrypt_block_b2b(&OUTPUT, &mut other);
-    assert_eq!(rt; other, INPUT);
+    assert!(rt; other == INPUT);
 }
 
 #[test]
@@ -67,15 +67,15 @@ fn works_on_slices_block_by_block(rt: HostRuntime) {
     let wanted = encrypted_one_by_one(five());
     let mut blocks = five();
     cipher.encrypt_blocks(&mut blocks);
-    assert_eq!(rt; blocks, wanted);
-    assert_eq!(rt; blocks[1], OUTPUT);
+    assert!(rt; blocks == wanted);
+    assert!(rt; blocks[1] == OUTPUT);
     cipher.decrypt_blocks(&mut blocks);
-    assert_eq!(rt; blocks, five());
+    assert!(rt; blocks == five());
     let mut output = [[0xee; 16]; 5];
-    assert_eq!(rt; cipher.encrypt_blocks_b2b(&five(), &mut output), Ok(()));
-    assert_eq!(rt; output, wanted);
-    assert_eq!(rt; cipher.decrypt_blocks_b2b(&wanted, &mut output), Ok(()));
-    assert_eq!(rt; output, five());
+    assert!(rt; cipher.encrypt_blocks_b2b(&five(), &mut output) == Ok(()));
+    assert!(rt; output == wanted);
+    assert!(rt; cipher.decrypt_blocks_b2b(&wanted, &mut output) == Ok(()));
+    assert!(rt; output == five());
 }
 
 // Blocks that are input, and as many that show whether they were written.
@@ -128,32 +128,32 @@ fn leaves_the_output_of_another_length(rt: HostRuntime) {
 #[test]
 fn lends_closures_a_backend(rt: HostRuntime) {
     let cipher = rest_of_the_example();
-    assert_eq!(rt; Lent::PAR_BLOCKS, 3);
+    assert!(rt; Lent::PAR_BLOCKS == 3);
     let mut closure = Five { blocks: five() };
     cipher.encrypt_with_backend(&mut closure);
-    assert_eq!(rt; closure.blocks, encrypted_one_by_one(five()));
+    assert!(rt; closure.blocks == encrypted_one_by_one(five()));
     let mut closure = Five { blocks: five() };
     cipher.encrypt_with_backend_for(5, &mut closure);
-    assert_eq!(rt; closure.blocks, encrypted_one_by_one(five()));
+    assert!(rt; closure.blocks == encrypted_one_by_one(five()));
     let mut closure = OneAndBatch {
         one: OUTPUT,
         batch: [[4; 16], OUTPUT, [5; 16]],
         fits: false,
     };
     cipher.decrypt_with_backend(&mut closure);
-    assert_eq!(rt; closure.one, INPUT);
+    assert!(rt; closure.one == INPUT);
     assert!(rt; closure.fits);
-    assert_eq!(rt; closure.batch[1], INPUT);
+    assert!(rt; closure.batch[1] == INPUT);
     cipher.encrypt_blocks(&mut closure.batch);
-    assert_eq!(rt; closure.batch, [[4; 16], OUTPUT, [5; 16]]);
+    assert!(rt; closure.batch == [[4; 16], OUTPUT, [5; 16]]);
     let mut closure = OneAndBatch {
         one: OUTPUT,
         batch: [OUTPUT; 3],
         fits: false,
     };
     cipher.decrypt_with_backend_for(4, &mut closure);
-    assert_eq!(rt; closure.one, INPUT);
-    assert_eq!(rt; closure.batch, [INPUT; 3]);
+    assert!(rt; closure.one == INPUT);
+    assert!(rt; closure.batch == [INPUT; 3]);
 }
 
 // A name of an algorithm, as text.
@@ -168,7 +168,7 @@ impl fmt::Display for Name {
 #[test]
 fn writes_its_name(rt: HostRuntime) -> Result<(), Fail> {
     let text = format!(in rt.alloc(); "{}", Name)?;
-    assert_eq!(rt; text.as_str(), "OneRound");
+    assert!(rt; text.as_str() == "OneRound");
     Ok(())
 }
 
@@ -189,34 +189,34 @@ fn works_where_it_is_lent(rt: HostRuntime) {
     let cipher = rest_of_the_example();
     let wanted = encrypted_one_by_one(five());
     let mut blocks = five();
-    assert_eq!(rt; encrypt_and_decrypt(&cipher, &cipher, &mut blocks), wanted);
-    assert_eq!(rt; blocks, five());
+    assert!(rt; encrypt_and_decrypt(&cipher, &cipher, &mut blocks) == wanted);
+    assert!(rt; blocks == five());
     let lent = &cipher;
     let mut block = INPUT;
     BlockCipherEncrypt::encrypt_block(&lent, &mut block);
-    assert_eq!(rt; block, OUTPUT);
+    assert!(rt; block == OUTPUT);
     BlockCipherDecrypt::decrypt_block(&lent, &mut block);
-    assert_eq!(rt; block, INPUT);
+    assert!(rt; block == INPUT);
     let mut closure = Five { blocks: five() };
     BlockCipherEncrypt::encrypt_with_backend(&lent, &mut closure);
-    assert_eq!(rt; closure.blocks, wanted);
+    assert!(rt; closure.blocks == wanted);
     let mut closure = Five { blocks: five() };
     BlockCipherEncrypt::encrypt_with_backend_for(&lent, 5, &mut closure);
-    assert_eq!(rt; closure.blocks, wanted);
+    assert!(rt; closure.blocks == wanted);
     let mut closure = OneAndBatch {
         one: OUTPUT,
         batch: [[4; 16], OUTPUT, [5; 16]],
         fits: false,
     };
     BlockCipherDecrypt::decrypt_with_backend(&lent, &mut closure);
-    assert_eq!(rt; closure.one, INPUT);
+    assert!(rt; closure.one == INPUT);
     let mut closure = OneAndBatch {
         one: OUTPUT,
         batch: [OUTPUT; 3],
         fits: false,
     };
     BlockCipherDecrypt::decrypt_with_backend_for(&lent, 4, &mut closure);
-    assert_eq!(rt; closure.batch, [INPUT; 3]);
+    assert!(rt; closure.batch == [INPUT; 3]);
 }
 
 #[test]
@@ -225,20 +225,20 @@ fn lends_a_backend_on(rt: HostRuntime) {
     let backend = &Lent { cipher: &cipher };
     let mut closure = Five { blocks: five() };
     closure.call(&backend);
-    assert_eq!(rt; closure.blocks, encrypted_one_by_one(five()));
+    assert!(rt; closure.blocks == encrypted_one_by_one(five()));
     let mut batch = [INPUT, [6; 16], [7; 16]];
     BlockCipherEncBackend::encrypt_first_blocks(&backend, 1, &mut batch);
-    assert_eq!(rt; batch[0], OUTPUT);
+    assert!(rt; batch[0] == OUTPUT);
     let mut batch = [[6; 16], INPUT, [7; 16]];
     backend.encrypt_first_blocks(2, &mut batch);
-    assert_eq!(rt; batch[1], OUTPUT);
+    assert!(rt; batch[1] == OUTPUT);
     let mut closure = OneAndBatch {
         one: OUTPUT,
         batch: [[4; 16], OUTPUT, [5; 16]],
         fits: false,
     };
     closure.call(&backend);
-    assert_eq!(rt; closure.one, INPUT);
+    assert!(rt; closure.one == INPUT);
     assert!(rt; closure.fits);
-    assert_eq!(rt; closure.batch[1], INPUT);
+    assert!(rt; closure.batch[1] == INPUT);
 }

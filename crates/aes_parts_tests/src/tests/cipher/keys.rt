@@ -68,8 +68,8 @@ fn is_refused<K: KeyInit + Drop>(key: &[u8]) -> bool {
 
 #[test]
 fn keys_of_another_length_are_refused(rt: HostRuntime) {
-    assert_eq!(rt; Plain::KEY_SIZE, 3);
-    assert_eq!(rt; Plain::BLOCK_SIZE, 16);
+    assert!(rt; Plain::KEY_SIZE == 3);
+    assert!(rt; Plain::BLOCK_SIZE == 16);
     assert!(rt; is_refused::<Plain>(&[]));
     assert!(rt; is_refused::<Plain>(&[1, 2]));
     assert!(rt; is_refused::<Plain>(&[1, 2, 3, 4]));

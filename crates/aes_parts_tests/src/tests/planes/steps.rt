@@ -216,7 +216,7 @@ impl WordTrial for Adds {
 #[test]
 fn adds_a_round_key(rt: HostRuntime) {
     try_words(&rt, &Adds);
-    assert_eq!(rt; sum_of_blocks(&MIXED, &round_key_1()), ADDED);
+    assert!(rt; sum_of_blocks(&MIXED, &round_key_1()) == ADDED);
 }
 
 struct MakesRoundKeys;
