@@ -7,7 +7,6 @@ mod batches;
 pub mod blocks;
 mod ciphers;
 mod closures;
-pub mod examples;
 pub mod lent;
 pub mod lent_both;
 mod names;
