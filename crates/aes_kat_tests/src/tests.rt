@@ -46,7 +46,7 @@ fn check_texts<R: Abort + AllocGlobal>(rt: &R, rows: &[(&str, &str, u8)]) -> Res
     Ok(())
 }
 
-// Equal columns stay under MixColumns; the messages are those of docs/SPECIFICATION.md.
+// Equal columns stay under MixColumns; the messages are those of docs/AES-KAT.md.
 #[test]
 fn answers_line_by_line(rt: HostRuntime) -> Result<(), Fail> {
     let rows = [

@@ -1,4 +1,4 @@
-//! Lines that are at fault, by the table of docs/SPECIFICATION.md.
+//! Lines that are at fault, by the table of docs/AES-KAT.md.
 use super::{answers, check};
 use aes_kat::reply;
 use std::test::Fail;
