@@ -1,9 +1,9 @@
 -- The key that stored round keys are read as.
-use Rattle.std.proofs.Common.{◌≡◌, ◌⊎◌, inl, inr, ℕ, ◌+◌, ◌-◌, ◌/◌, ◌<◌, ◌≤◌, List, ◌++◌, length, take}
+use Rattle.std.proofs.Common.{◌≡◌, ◌⊎◌, inl, inr, ℕ, ◌+◌, ◌-◌, ◌/◌, ◌≤◌, List, length}
 use Rattle.std.proofs.Common.{refl, ap, sym, subst, ◌∙◌, arith}
 use Rattle.aes_planes.specs.Fips197 as fips
-use Rattle.aes_planes.proofs.KeySchedule.ExpandedBlocks.{first_bytes, round_key_length}
-use Rattle.aes_planes.proofs.KeySchedule.ExpansionLength.{expansion_length, expansion_bytes}
+use Rattle.aes_planes.proofs.KeySchedule.ExpandedBlocks.{first_bytes}
+use Rattle.aes_planes.proofs.KeySchedule.ExpansionLength.{expansion_length}
 use Rattle.aes_planes.proofs.Standard.CipherLaws.{two_keys}
 use Rattle.aes_cipher.specs.KeySizes.{IsKeySize}
 use Rattle.aes_permute.specs.Keys.{encrypting, cipher_form, cipher_key, leading_key, lane_key_size, IsCipherSchedule}
