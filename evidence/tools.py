@@ -36,12 +36,8 @@ EXPORTS = {
 }
 # How many jobs a proof gets, if not as many as rt chooses.
 JOBS = ["--jobs", os.environ["AES_EVIDENCE_JOBS"]] if "AES_EVIDENCE_JOBS" in os.environ else []
-# The builds of the C library: its crate, the compiler, and what else `rt lib` is told.
-BUILDS = {
-    "llvm": ("aes_c", "llvm", []),
-    "avx2": ("aes_c_wide", "llvm", ["--cpu", "x86-64-v3"]),
-    "rattle": ("aes_c", "rattle", []),
-}
+# The builds of the C library and their compilers: a text of dist/, which LLVM made, or the crate by the second one.
+BUILDS = {"llvm": ("aes", "llvm"), "avx2": ("aes_v3", "llvm"), "rattle": ("aes_c", "rattle")}
 HEADER = (TOP / "include" / "fotsgure_aes.h").read_text()
 STRUCT = int(re.search(r"sizeof\(struct fotsgure_aes\) == (\d+)", HEADER)[1])
 MOST_STACK = int(re.search(r"FOTSGURE_AES_STACK (\d+)", HEADER)[1])
@@ -130,17 +126,29 @@ def is_kept(made, total):
     return made.exists() and stamp.exists() and stamp.read_text() == total
 
 
+def assembled(name):
+    """The archive of one text of dist/ for x86-64, by the C compiler's assembler: as `make -C dist` builds it, but without
+    the choice between two builds."""
+    made = ROOM / f"libfotsgure_{name}.a"
+    made.unlink(missing_ok=True)
+    run(["cc", "-c", TOP / "dist" / "x86_64" / f"{name}.s", "-o", made.with_suffix(".o")], f"assembling {name}.s")
+    run(["ar", "rcs", made, made.with_suffix(".o")], "the archive")
+    return made
+
+
 def c_library(build):
-    """The archive of one build of the C library. It is proved and built where it stands, as by ./c-build, over what was
-    proved there; an archive that stood there stays."""
-    crate, compiler, flags = BUILDS[build]
+    """The archive of one build of the C library: of dist/, or by the second compiler. That one is proved and built where it
+    stands, over what was proved there; an archive that stood there stays."""
+    it, compiler = BUILDS[build]
+    if compiler == "llvm":
+        return assembled(it)
     made, total = ROOM / f"libfotsgure_aes-{build}.a", sources()
     if is_kept(made, total):
         return made
-    say(f"proving and building {crate} by {compiler}, over what is proved already")
-    start, out = time.time(), TOP / "crates" / crate / "out" / f"lib{crate}.a"
+    say(f"proving and building {it} by {compiler}, over what is proved already")
+    start, out = time.time(), TOP / "crates" / it / "out" / f"lib{it}.a"
     before = out.read_bytes() if out.exists() else None
-    rt_lib(TOP / "crates" / crate, "--backend", compiler, *flags)
+    rt_lib(TOP / "crates" / it, "--backend", compiler)
     shutil.copy(out, made)
     out.unlink()
     if before is not None:

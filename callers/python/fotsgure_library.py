@@ -16,7 +16,11 @@ def load(name: str, version: int, calls: Iterable[Call]) -> ctypes.CDLL:
     """The library of that name, from the file that the variable of its name in capitals names, or where the loader
     searches. `version` is 100 times the first number plus the second: before 1.0, structs may grow with either."""
     found = os.environ.get(name.upper()) or ctypes.util.find_library(name)
-    c = ctypes.CDLL(found or f"lib{name}.so.{version // 100}.{version % 100}")
+    try:
+        c = ctypes.CDLL(found or f"lib{name}.so.{version // 100}.{version % 100}")
+    except OSError as error:
+        raise ImportError(f"{error}: install the library by 'make -C dist install', or name its file in the variable "
+                          f"{name.upper()}") from None
     for call, arguments, result in [("version", [], ctypes.c_uint32), *calls]:
         function = getattr(c, f"{name}_{call}")
         function.argtypes, function.restype = arguments, result

@@ -16,7 +16,7 @@ static uint8_t key[33], nonce[ROOM], additional[MOST], text[MOST], before[MOST],
 static uint64_t state = 0x9e3779b97f4a7c15u;
 
 /* A key and two nonces of 16 bytes under which the counter wraps at the third block of a text and at the first, of
-   callers/gcm/check.c. Where it wraps is told by the lengths of the two runs of counters: with this key known, nothing
+   dist/check/gcm.c. Where it wraps is told by the lengths of the two runs of counters: with this key known, nothing
    else may be. */
 static const uint8_t wrap_key[16] = {0xfe, 0xff, 0xe9, 0x92, 0x86, 0x65, 0x73, 0x1c, 0x6d, 0x6a, 0x8f, 0x94, 0x67, 0x30,
     0x83, 0x08};

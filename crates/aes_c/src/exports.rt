@@ -1,4 +1,4 @@
-//! The exports, which are the same in both libraries: the root names the width.
+//! The exports, over the width of words that `width` names.
 
 ghost use Rattle.std.specs.Prelude.{◌≡◌, ◌≢◌, ◌↔◌, ◌+◌, ◌-◌, ◌^◌, ◌<◌, ◌≤◌, length, replicate};
 ghost use Rattle.aes_planes.specs.Each.{Each};
@@ -6,7 +6,7 @@ ghost use Rattle.aes_planes.specs.Fips197 as fips;
 ghost use Rattle.aes_ctr.specs.CounterMode.{keystream_byte, plus_stream};
 ghost use Rattle.c_calls.specs.Kept.{kept_key, AreZeroAfter, IsKeyLength, IsMade};
 
-use crate::BuildWidth;
+use crate::width::BuildWidth;
 use aes_cipher::cipher::{Decrypt, Encrypt};
 use aes_planes::soft::word::Block;
 use c_calls::blocks::{process_under, process_under_to};

@@ -1,5 +1,4 @@
-//! AES for C, and for languages that call C: `include/fotsgure_aes.h` declares these calls. This library is for every
-//! processor of its target.
+//! AES for C, and for languages that call C: `include/fotsgure_aes.h` declares these calls.
 //!
 //! The header states what a `requires` asks of callers; nothing checks a call from C.
 #![tactic(auto)]
@@ -7,6 +6,7 @@
 mod exports;
 #[cfg(test)]
 mod tests;
+mod width;
 
 pub use c_calls::kept::Aes;
 pub use c_calls::status::{DONE, KEY_LENGTH, KEYSTREAM_END, NO_KEY, UNEQUAL_COUNTS, VERSION};
@@ -17,6 +17,3 @@ pub use exports::{
     fotsgure_aes_encrypt_blocks, fotsgure_aes_encrypt_blocks_to, fotsgure_aes_encrypt_blocks_with,
     fotsgure_aes_key_length, fotsgure_aes_set_key, fotsgure_aes_version, fotsgure_aes_wipe,
 };
-
-/// The width of the words on which the exports process many blocks.
-pub type BuildWidth = aes_hybrid::widths::Narrow;

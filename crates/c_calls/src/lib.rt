@@ -1,4 +1,4 @@
-//! The calls of the C library, over either width of words: `aes_c` and `aes_c_wide` export them.
+//! The calls of the C library, over either width of words: `aes_c` exports them.
 //!
 //! Keys of 16, 24 and 32 bytes go through the same calls, since the struct knows how long its key is.
 #![tactic(auto)]

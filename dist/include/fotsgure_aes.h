@@ -20,8 +20,9 @@
  *
  * NULL is allowed for `key`, `blocks`, `bytes`, `input` and `output` if the count is 0.
  *
- * In return, no call allocates, prints, aborts, blocks, or keeps a pointer; the library has no state of its own;
- * every call returns, and writes nothing but what it says. A call that doesn't return FOTSGURE_AES_DONE has changed
+ * In return, no call allocates, prints, aborts, blocks, or keeps a pointer; the library has no state of its own, but for
+ * one word by which a static library on x86-64 keeps which of its builds the processor runs; every call returns, and
+ * writes nothing but what it says. A call that doesn't return FOTSGURE_AES_DONE has changed
  * nothing; fotsgure_aes_set_key is the exception. What a call returns depends on lengths and positions alone, never on
  * the bytes of a key or of data.
  *

@@ -24,8 +24,9 @@
  *
  * NULL is allowed for `key`, `nonce`, `additional`, `text` and a `tag` with a length if the length is 0.
  *
- * In return, no call allocates, prints, aborts, blocks, or keeps a pointer; the library has no state of its own;
- * every call returns, and writes nothing but what it says. (Proved is what calls return and write, and that they
+ * In return, no call allocates, prints, aborts, blocks, or keeps a pointer; the library has no state of its own, but for
+ * one word by which a static library on x86-64 keeps which of its builds the processor runs; every call returns, and
+ * writes nothing but what it says. (Proved is what calls return and write, and that they
  * return; read and measured is the rest.) A call that doesn't return FOTSGURE_GCM_DONE has changed nothing;
  * fotsgure_gcm_set_key is the exception. Where several statuses apply, the call returns the first in the order that it
  * names them. Whether a tag is right is all that a status says of the bytes of keys and of messages.

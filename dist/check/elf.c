@@ -1,0 +1,90 @@
+/* What a shared library asks of the loader: it has to have no text relocation, no executable stack, no segment that is
+ * both writable and executable, and exactly the exports that are named.
+ * usage: elf LIBRARY EXPORT .. */
+#include <elf.h>
+#include <stdio.h>
+#include <stdlib.h>
+#include <string.h>
+
+static int passed, failed;
+
+static void expect(int holds, const char *what, const char *of)
+{
+    if (holds) {
+        passed++;
+    } else {
+        failed++;
+        printf("failed: %s%s\n", what, of);
+    }
+}
+
+static unsigned char *whole(const char *name, size_t *size)
+{
+    FILE *file = fopen(name, "rb");
+    unsigned char *bytes = NULL;
+    if (file && !fseek(file, 0, SEEK_END) && (*size = (size_t)ftell(file)) && (bytes = malloc(*size))) {
+        rewind(file);
+        if (fread(bytes, 1, *size, file) != *size)
+            bytes = NULL;
+    }
+    if (!bytes)
+        perror(name), exit(2);
+    fclose(file);
+    return bytes;
+}
+
+static void segments(const unsigned char *bytes, const Elf64_Ehdr *head)
+{
+    const Elf64_Phdr *segment = (const void *)(bytes + head->e_phoff);
+    int stack = 0, text = 0, both = 0;
+    for (int i = 0; i < head->e_phnum; i++) {
+        stack |= segment[i].p_type == PT_GNU_STACK && !(segment[i].p_flags & PF_X);
+        both |= segment[i].p_type == PT_LOAD && (segment[i].p_flags & PF_X) && (segment[i].p_flags & PF_W);
+        if (segment[i].p_type != PT_DYNAMIC)
+            continue;
+        const Elf64_Dyn *entry = (const void *)(bytes + segment[i].p_offset);
+        for (; entry->d_tag != DT_NULL; entry++)
+            text |= entry->d_tag == DT_TEXTREL || (entry->d_tag == DT_FLAGS && (entry->d_un.d_val & DF_TEXTREL));
+    }
+    expect(stack, "the stack is executable", "");
+    expect(!both, "a segment is both writable and executable", "");
+    expect(!text, "the code is relocated", "");
+}
+
+static void exports(const unsigned char *bytes, const Elf64_Ehdr *head, int count, char **names)
+{
+    const Elf64_Shdr *section = (const void *)(bytes + head->e_shoff);
+    int found = 0;
+    for (int i = 0; i < head->e_shnum; i++) {
+        if (section[i].sh_type != SHT_DYNSYM)
+            continue;
+        const Elf64_Sym *symbol = (const void *)(bytes + section[i].sh_offset);
+        const char *text = (const char *)bytes + section[section[i].sh_link].sh_offset;
+        for (size_t n = 1; n < section[i].sh_size / sizeof *symbol; n++) {
+            int k = 0;
+            if (symbol[n].st_shndx == SHN_UNDEF || ELF64_ST_BIND(symbol[n].st_info) == STB_LOCAL)
+                continue;
+            while (k < count && strcmp(names[k], text + symbol[n].st_name))
+                k++;
+            expect(k < count, "an export that the header doesn't declare: ", text + symbol[n].st_name);
+            found++;
+        }
+    }
+    expect(count && found == count, "there are other exports than the header declares", "");
+}
+
+int main(int count, char **words)
+{
+    size_t size;
+    if (count < 2)
+        return 2;
+    unsigned char *bytes = whole(words[1], &size);
+    const Elf64_Ehdr *head = (const void *)bytes;
+    if (size < sizeof *head || memcmp(bytes, ELFMAG, SELFMAG) || bytes[EI_CLASS] != ELFCLASS64 || head->e_type != ET_DYN)
+        return fprintf(stderr, "%s is no shared library\n", words[1]), 2;
+    segments(bytes, head);
+    exports(bytes, head, count - 2, words + 2);
+    free(bytes);
+    printf("%d passed, %d failed\n", passed, failed);
+    return failed != 0;
+}
