@@ -1,10 +1,6 @@
-/* Runs calls on secret bytes under valgrind's memcheck. Secrets are marked undefined, so that memcheck reports each
-   branch and each address that depends on one. calls.h, which calls.py writes, has the calls. */
+/* Runs calls on secret bytes under valgrind's memcheck. calls.h, which calls.py writes, has the calls. */
+#include "../secret.h"
 #include "fotsgure_aes.h"
-#include <stdio.h>
-#include <stdlib.h>
-#include <string.h>
-#include <valgrind/memcheck.h>
 
 enum { MOST = 8 };
 
@@ -12,14 +8,6 @@ enum { MOST = 8 };
 struct buffer { uint8_t *at, *before; size_t bytes; char kind; };
 static struct buffer buffers[MOST];
 static int held;
-static uint64_t state = 0x9e3779b97f4a7c15u;
-
-static uint8_t next_byte(void) {
-    state ^= state << 13;
-    state ^= state >> 7;
-    state ^= state << 17;
-    return (uint8_t)(state >> 32);
-}
 
 /* kind: s a secret that is read, b a secret that is worked in its place, o bytes that are written, p public bytes, z a
    secret that must be zero afterwards, t bytes of which some are written; and two structs of the C library: k one that
@@ -35,8 +23,9 @@ static void *buffer(char kind, size_t bytes) {
     it->bytes = bytes;
     it->kind = kind;
     if (!it->at || !it->before) abort();
-    for (size_t i = 0; i < bytes; i++) it->before[i] = it->at[i] = next_byte();
-    if (kind == 's' || kind == 'b' || kind == 'z') (void)VALGRIND_MAKE_MEM_UNDEFINED(it->at, bytes);
+    fill(it->at, bytes);
+    memcpy(it->before, it->at, bytes);
+    if (kind == 's' || kind == 'b' || kind == 'z') secret(it->at, bytes);
     return it->at;
 }
 
@@ -44,53 +33,41 @@ static void *kept(size_t key_bytes) {
     uint8_t key[32];
     struct fotsgure_aes *it = buffer('p', sizeof *it);
     memset(it, 0, sizeof *it);
-    for (size_t i = 0; i < key_bytes; i++) key[i] = next_byte();
-    (void)VALGRIND_MAKE_MEM_UNDEFINED(key, key_bytes);
+    fill(key, key_bytes);
+    secret(key, key_bytes);
     if (key_bytes && fotsgure_aes_set_key(it, key, key_bytes)) abort();
     return it;
 }
 static void *counter(uint64_t position) {
     struct fotsgure_aes_ctr *it = buffer('p', sizeof *it);
-    (void)VALGRIND_MAKE_MEM_UNDEFINED(it->iv, sizeof it->iv);
+    secret(it->iv, sizeof it->iv);
     it->position = position;
     return it;
-}
-
-static unsigned before, leaks, vacuous, clean, empty, unexpected;
-
-static void begin(const char *name) {
-    VALGRIND_PRINTF("call %s\n", name);
-    before = VALGRIND_COUNT_ERRORS;
 }
 
 /* Says what came of the call. It is vacuous where it did nothing with what it was given: where its answer is not the
    wanted one, or a block was left as it was, or a byte that it should have written depends on no secret. */
 static void end(const char *name, const char *wanted, uint64_t answer, uint64_t right) {
-    unsigned reports = VALGRIND_COUNT_ERRORS - before;
-    size_t secret = 0, unmoved = 0, due = 0, missed = 0;
-    (void)VALGRIND_MAKE_MEM_DEFINED(&answer, sizeof answer);
+    unsigned reports = reports_since();
+    size_t marked = 0, unmoved = 0, due = 0, missed = 0;
+    known(&answer, sizeof answer);
     for (int i = 0; i < held; i++) {
         struct buffer *it = &buffers[i];
-        size_t tainted = 0, changed = 0;
-        for (size_t k = 0; k < it->bytes; k++) {
-            uint8_t bits = 0;
-            if (VALGRIND_GET_VBITS(it->at + k, &bits, 1) != 1) abort();
-            tainted += bits != 0;
-        }
-        (void)VALGRIND_MAKE_MEM_DEFINED(it->at, it->bytes);
+        size_t secrets = tainted(it->at, it->bytes), changed = 0;
+        known(it->at, it->bytes);
         /* A block stays as it was by chance once in 2^128 times, a lone byte once in 256: that is not asked of it. */
         for (size_t k = 0; k + 16 <= it->bytes; k += 16) changed += memcmp(it->at + k, it->before + k, 16) != 0;
         if (it->kind == 'b' || it->kind == 'o') {
             due += it->bytes;
-            secret += tainted;
-            missed += it->bytes - tainted;
+            marked += secrets;
+            missed += it->bytes - secrets;
             unmoved += it->bytes / 16 - changed;
         }
-        if (it->kind == 't') { due += it->bytes; secret += tainted; missed += tainted == 0; }
+        if (it->kind == 't') { due += it->bytes; marked += secrets; missed += secrets == 0; }
         if (it->kind == 'z') {
             due += it->bytes;
             for (size_t k = 0; k < it->bytes; k++) missed += it->at[k] != 0;
-            missed += tainted;
+            missed += secrets;
         }
         free(it->at);
         free(it->before);
@@ -98,13 +75,7 @@ static void end(const char *name, const char *wanted, uint64_t answer, uint64_t 
     held = 0;
     int idle = answer != right || missed || unmoved;
     const char *verdict = reports ? "LEAK" : idle ? "VACUOUS" : due ? "clean" : "empty";
-    leaks += reports != 0;
-    vacuous += *verdict == 'V';
-    clean += *verdict == 'c';
-    empty += *verdict == 'e';
-    int wrong = strcmp(verdict, wanted) != 0;
-    unexpected += wrong;
-    printf("%s\t%s\t%s\t%u\t%zu\t%zu\n", name, wanted, verdict, reports, secret, due);
+    printf("%s\t%s\t%s\t%u\t%zu\t%zu\n", name, wanted, verdict, reports, marked, due);
 }
 
 /* What is planted: each has to be found, before the calls and after them. */
@@ -151,8 +122,8 @@ static void plants(void) {
     PLANT(planted_half, "VACUOUS");
     PLANT(planted_refusal, "VACUOUS");
     uint8_t public = sink;
-    (void)VALGRIND_MAKE_MEM_DEFINED(&public, 1);
-    (void)VALGRIND_MAKE_MEM_DEFINED((void *)&sink, 1);
+    known(&public, 1);
+    known((void *)&sink, 1);
 }
 
 #include "calls.h"

@@ -1,19 +1,13 @@
-/* Makes calls of the library of GCM on secret bytes under valgrind's memcheck. Keys, texts, additional data and tags
-   are marked undefined, so that memcheck reports each branch and each address that depends on one. One line a call,
-   with tabs: its name, the wanted verdict, the verdict, and how often memcheck reported something. */
+/* Makes calls of the library of GCM on secret bytes under valgrind's memcheck: keys, texts, additional data and tags. One
+   line a call, with tabs: its name, the wanted verdict, the verdict, and how often memcheck reported something. */
+#include "../secret.h"
 #include "fotsgure_gcm.h"
-
-#include <stdio.h>
-#include <stdlib.h>
-#include <string.h>
-#include <valgrind/memcheck.h>
 
 enum { MOST = 4200, ROOM = 64 };
 
 static struct fotsgure_gcm gcm;
 static struct fotsgure_gcm_counter counter;
 static uint8_t key[33], nonce[ROOM], additional[MOST], text[MOST], before[MOST], tag[16];
-static uint64_t state = 0x9e3779b97f4a7c15u;
 
 /* A key and two nonces of 16 bytes under which the counter wraps at the third block of a text and at the first, of
    dist/check/gcm.c. Where it wraps is told by the lengths of the two runs of counters: with this key known, nothing
@@ -26,46 +20,13 @@ static const uint8_t wrap_nonces[2][16] = {
 };
 /* Which of them is taken in place of a random key and nonce, from 1 on; and whether its key is known. */
 static int wrapping, known_key;
-static unsigned reports;
-
-static void fill(void *at, size_t bytes)
-{
-    for (size_t i = 0; i < bytes; i++) {
-        state ^= state << 13;
-        state ^= state >> 7;
-        state ^= state << 17;
-        ((uint8_t *)at)[i] = (uint8_t)(state >> 32);
-    }
-}
-
-static void secret(void *at, size_t bytes) { (void)VALGRIND_MAKE_MEM_UNDEFINED(at, bytes); }
-static void known(void *at, size_t bytes) { (void)VALGRIND_MAKE_MEM_DEFINED(at, bytes); }
-
-/* How many of these bytes depend on a secret. */
-static size_t tainted(const void *at, size_t bytes)
-{
-    size_t count = 0;
-    for (size_t i = 0; i < bytes; i++) {
-        uint8_t bits = 0;
-        if (VALGRIND_GET_VBITS((const uint8_t *)at + i, &bits, 1) != 1)
-            abort();
-        count += bits != 0;
-    }
-    return count;
-}
-
-static void begin(const char *name)
-{
-    VALGRIND_PRINTF("call %s\n", name);
-    reports = VALGRIND_COUNT_ERRORS;
-}
 
 /* What came of a call. `told` is how many reports it has to give: one where `open` tells whether the tag is right, and
    one where a nonce of another length than 12 bytes tells whether the counter wraps. It is vacuous if it did not do its
    work. */
 static void end(const char *name, const char *wanted, unsigned told, int works)
 {
-    unsigned now = VALGRIND_COUNT_ERRORS - reports;
+    unsigned now = reports_since();
     const char *verdict = now != told ? "LEAK" : works ? "clean" : "VACUOUS";
     printf("%s\t%s\t%s\t%u\n", name, wanted, verdict, now);
 }
