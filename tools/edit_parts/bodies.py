@@ -4,7 +4,6 @@ import re
 
 FUNCTION = re.compile(r"^( *)(?:pub(?:\([^)]*\))? )?(const )?(?:unsafe )?(?:extern \"C\" )?fn (\w+)")
 BLOCK = re.compile(r"^( *)(?:pub(?:\([^)]*\))? )?(?:unsafe )?(impl|trait|mod)\b")
-NUMBER = re.compile(r"[iu](?:8|16|32|64|128|size)$")
 USE = re.compile(r"(?:(?:pub |ghost )?use [^;]*; ?)+$")
 
 
@@ -16,6 +15,9 @@ class Function:
         self.path, self.start, self.end = path, start + 1, end + 1
         self.trait, self.type = owner(lines, head, len(indent))
         self.key = path, self.trait, self.type, self.name
+        # What the prover calls the impl, if its type is a plain name: as U64Word for the trait Word at u64.
+        is_plain = re.fullmatch(r"\w+", self.type)
+        self.folder = self.type[0].upper() + self.type[1:] + self.trait if is_plain else ""
         while head and re.match(r"\s*(#\[|//)", lines[head - 1]):
             head -= 1
         self.first = head + 1
@@ -23,11 +25,11 @@ class Function:
         self.module = module[:-1] if module[-1] in ("mod", "lib", "main") else module
 
     def prover_path(self):
-        """Its path as the prover prints it, where the text tells that, or else that of its module."""
-        kind = self.type.capitalize() if NUMBER.match(self.type) else self.type
-        if kind and not re.fullmatch(r"\w+", kind):
-            return self.module_path()
-        return "::".join([*self.module, *[kind + self.trait] * bool(kind), self.name])
+        """Its path as the prover takes it, where the text tells that, or else that of its module. A method's stands in the module of
+        its type, wherever the impl is, so it is named by the end of its path."""
+        if self.type:
+            return f"{self.folder}::{self.name}" if self.folder else self.module_path()
+        return "::".join([*self.module, self.name])
 
     def module_path(self):
         return "::".join(self.module)
@@ -41,8 +43,9 @@ class Function:
             return False
         if not self.type:
             return parts[1:-2] == self.module
-        # A method's proof stands below the module of its type, wherever the impl is, in a folder whose name begins as the type's.
-        return len(parts) >= 4 and parts[-3].lower().startswith(re.search(r"\w+", self.type)[0].lower())
+        # A method's proof stands below the module of its type, wherever the impl is. Of several impls of a trait the name goes on.
+        of = parts[-3]
+        return bool(self.folder) and (of.startswith(self.folder) if self.trait else of == self.folder)
 
 
 def owner(lines, head, indent):
