@@ -96,8 +96,10 @@ def try_connection(who, arguments, conf):
     server = start("server", arguments, conf if who in ("server", "both") else "/dev/null")
     server.stdout.readline()
     client = start("client", arguments, conf if who in ("client", "both") else "/dev/null")
-    said, client_errors = client.communicate(timeout=60)
-    _, server_errors = server.communicate(timeout=60)
+    said, client_errors = client.communicate()
+    if client.returncode != 0:
+        server.kill()  # it may still wait for a client
+    _, server_errors = server.communicate()
     right = server.returncode == 0 and client.returncode == 0
     print(f"{'ok' if right else 'FAILED'}: {' '.join(arguments[:3])}, fotsgure: {who}: {said.strip()}")
     if not right:
