@@ -1,0 +1,14 @@
+//! The errors of key wrap.
+
+/// There are too few semiblocks to wrap, or more than the standard allows, or the output is of another length.
+#[derive(Debug, Clone, Copy, PartialEq, Eq)]
+pub struct InvalidCount;
+
+/// Why a key isn't unwrapped.
+#[derive(Debug, Clone, Copy, PartialEq, Eq)]
+pub enum NotUnwrapped {
+    /// No key becomes so many semiblocks, or the output is of another length.
+    InvalidCount,
+    /// The key was not wrapped under this one, or was changed.
+    Refused,
+}

@@ -1,0 +1,127 @@
+//! The wrapping function W and its inverse (SP 800-38F, 6.1), in place: six turns over the semiblocks of a key.
+
+ghost use Rattle.std.specs.Prelude.{◌≡◌, ◌+◌, ◌*◌, ◌^◌, ◌<◌, List, ℕ, ◌∷◌, ◌++◌, drop, length, take};
+ghost use Rattle.aes_planes.specs.Fips197 as fips;
+ghost use Rattle.key_wrap.specs.KeyWrap.{number_added, unwrapped_from, wrapped_after};
+
+use aes_cipher::blocks::{block_of_halves, halves_of_block};
+use aes_cipher::cipher::{BlockCipherDecrypt, BlockCipherEncrypt};
+
+/// Half of a block.
+pub type Semiblock = [u8; 8];
+
+// Adds a number to a semiblock, whose first byte is the highest.
+#[tactic(auto, unfolding(crate::specs::KeyWrap::number_added))]
+#[inline(always)]
+fn add_number(half: &Semiblock, number: u64) -> Semiblock
+    ensures { result ≡ number_added half.now number }
+{
+    (u64::from_be_bytes(*half) ^ number).to_be_bytes()
+}
+
+// One step of W: `half` is the semiblock whose turn it is.
+fn wrap_step<C: BlockCipherEncrypt>(
+    cipher: &C,
+    check: &mut Semiblock,
+    half: &mut Semiblock,
+    number: u64,
+)
+    ensures check { let b = fips.cipher_with (C.round_keys cipher.now) (check.old ++ half.old) in
+        check.new ≡ number_added (take 8 b) number }
+    ensures half { let b = fips.cipher_with (C.round_keys cipher.now) (check.old ++ half.old) in
+        half.new ≡ drop 8 b }
+{
+    let mut block = block_of_halves(check, half);
+    cipher.encrypt_block(&mut block);
+    let (first, second) = halves_of_block(&block);
+    *check = add_number(&first, number);
+    *half = second;
+}
+
+// The steps of W with each semiblock once.
+fn wrap_turn<C: BlockCipherEncrypt>(
+    cipher: &C,
+    check: &mut Semiblock,
+    halves: &mut [Semiblock],
+    turn: u64,
+)
+    requires turn { turn < 6 }
+    requires few { length halves.old < 2 ^ 54 }
+    ensures { let m = length halves.old in let w = C.round_keys cipher.now in (s : List (List ℕ)) →
+        wrapped_after w s (turn * m) ≡ check.old ∷ halves.old →
+        wrapped_after w s (turn * m + m) ≡ check.new ∷ halves.new }
+{
+    let before = turn * halves.len() as u64;
+    for i in 0..halves.len() {
+        wrap_step(cipher, check, &mut halves[i], before + i as u64 + 1);
+    }
+}
+
+/// W: `check` is the first semiblock, and `halves` are the others.
+pub(crate) fn wrap_in_place<C: BlockCipherEncrypt>(
+    cipher: &C,
+    check: &mut Semiblock,
+    halves: &mut [Semiblock],
+)
+    requires few { length halves.old < 2 ^ 54 }
+    ensures { let w = C.round_keys cipher.now in
+        check.new ∷ halves.new ≡ wrapped_after w (check.old ∷ halves.old) (6 * length halves.old) }
+{
+    for turn in 0..6 {
+        wrap_turn(cipher, check, halves, turn);
+    }
+}
+
+// One step of the inverse of W.
+fn unwrap_step<C: BlockCipherDecrypt>(
+    cipher: &C,
+    check: &mut Semiblock,
+    half: &mut Semiblock,
+    number: u64,
+)
+    ensures check { let b = fips.inv_cipher_with (C.round_keys cipher.now) (number_added check.old number ++ half.old)
+        in check.new ≡ take 8 b }
+    ensures half { let b = fips.inv_cipher_with (C.round_keys cipher.now) (number_added check.old number ++ half.old)
+        in half.new ≡ drop 8 b }
+{
+    let mut block = block_of_halves(&add_number(check, number), half);
+    cipher.decrypt_block(&mut block);
+    let (first, second) = halves_of_block(&block);
+    *check = first;
+    *half = second;
+}
+
+// The steps of the inverse with each semiblock once, from the last on.
+fn unwrap_turn<C: BlockCipherDecrypt>(
+    cipher: &C,
+    check: &mut Semiblock,
+    halves: &mut [Semiblock],
+    turn: u64,
+)
+    requires turn { turn < 6 }
+    requires few { length halves.old < 2 ^ 54 }
+    ensures { let m = length halves.old in let w = C.round_keys cipher.now in
+        unwrapped_from w (check.new ∷ halves.new) (turn * m)
+        ≡ unwrapped_from w (check.old ∷ halves.old) (turn * m + m) }
+{
+    let before = turn * halves.len() as u64;
+    for k in 0..halves.len() {
+        let i = halves.len() - 1 - k;
+        unwrap_step(cipher, check, &mut halves[i], before + i as u64 + 1);
+    }
+}
+
+/// The inverse of W: `check` is the first semiblock, and `halves` are the others.
+pub(crate) fn unwrap_in_place<C: BlockCipherDecrypt>(
+    cipher: &C,
+    check: &mut Semiblock,
+    halves: &mut [Semiblock],
+)
+    requires few { length halves.old < 2 ^ 54 }
+    ensures { let w = C.round_keys cipher.now in
+        check.new ∷ halves.new ≡ unwrapped_from w (check.old ∷ halves.old) (6 * length halves.old) }
+{
+    for k in 0..6 {
+        unwrap_turn(cipher, check, halves, 5 - k);
+    }
+}
