@@ -49,7 +49,7 @@ impl Zeroize for Aes {
 
 /// Returns the stored round keys of a key of `key_length` bytes: the first of the blocks.
 #[inline(always)]
-pub(crate) fn keys_of(blocks: &[Block; 15], key_length: usize) -> &[Block]
+pub fn keys_of(blocks: &[Block; 15], key_length: usize) -> &[Block]
     requires { IsKeyLength key_length }
     ensures { result.now ≡ stored_keys key_length blocks.now }
 {
@@ -58,7 +58,7 @@ pub(crate) fn keys_of(blocks: &[Block; 15], key_length: usize) -> &[Block]
 
 /// Writes the stored round keys of Cipher of a key.
 #[inline(always)]
-pub(crate) fn expand_keys(blocks: &mut [Block; 15], key: &[u8])
+pub fn expand_keys(blocks: &mut [Block; 15], key: &[u8])
     requires { IsKeyLength (length key.now) }
     ensures schedule { IsCipherSchedule (stored_keys (length key.now) blocks.new) }
     ensures key { kept_key (length key.now) blocks.new ≡ key.now }
@@ -83,7 +83,7 @@ fn invert_keys(inverse: &mut [Block; 15], blocks: &[Block; 15], key_length: usiz
 }
 
 /// Returns whether this is the length of a key: 16, 24 or 32 bytes.
-pub(crate) fn is_key_length(bytes: usize) -> bool
+pub fn is_key_length(bytes: usize) -> bool
     ensures { result ≡ true ↔ IsKeyLength bytes }
 {
     bytes == 16 || bytes == 24 || bytes == 32

@@ -1,10 +1,19 @@
 -- Messages that come in pieces: what is kept of them, by what has come so far.
-use Rattle.std.specs.Prelude.{◌≡◌, ℕ, ◌-◌, ◌*◌, ◌/◌, ◌%◌, ◌^◌, ◌<◌, ◌≤◌, ◌⊎◌, List, [], length, replicate, take, drop}
+use Rattle.std.specs.Prelude.{◌≡◌, ℕ, ◌==◌, if◌then◌else◌, ◌-◌, ◌*◌, ◌/◌, ◌%◌, ◌^◌, ◌<◌, ◌≤◌, ◌⊎◌, List, [], length, replicate, take, drop}
 use Rattle.std.specs.Int.{w128, from_be_bytes}
 use Rattle.gcm.specs.Gcm.{hashed, padded, hash_subkey, pre_counter}
 use Rattle.gcm.specs.declared.message.Message.{Message}
 use Rattle.gcm.specs.declared.message.Phase.{Phase}
 use Rattle.gcm.specs.declared.message.Phase.TheVariants.{NoMessage, Additional, Encrypting, Verifying, Decrypting}
+
+-- the phase of a number; every other number is that of no message
+unfoldable pub phase_of : ℕ → Phase
+phase_of n =
+    if n == 1 then Additional
+    else if n == 2 then Encrypting
+    else if n == 3 then Verifying
+    else if n == 4 then Decrypting
+    else NoMessage
 
 -- GHASH, from the value y on, after the whole blocks of a string, and the bytes of it behind them
 pub record IsHashing (h y : ℕ) (s : List ℕ) (v : ℕ) (block : List ℕ) : Type 0 where
@@ -17,22 +26,22 @@ hashed_padded h a = hashed h 0 (padded a) (length (padded a) / 16)
 
 -- under the round keys w and the nonce iv, the additional data a has come, and more may come
 pub record IsBegun (w : List (List ℕ)) (iv a : List ℕ) (m : Message) : Type 0 where
-  pub phase : m.phase ≡ Additional
+  pub phase : phase_of m.phase ≡ Additional
   pub first : from_be_bytes w128 m.first ≡ pre_counter (hash_subkey w) iv
   pub additional : m.additional ≡ length a
   pub short : length a < 2 ^ 61
   pub text : m.text ≡ 0
-  pub hashing : IsHashing (hash_subkey w) 0 a m.value m.rest
+  pub hashing : IsHashing (hash_subkey w) 0 a (from_be_bytes w128 m.value) m.rest
 
 -- the additional data a has come and then the cipher text c, and more of it may come in the same phase
 pub record IsInText (turn : Phase) (w : List (List ℕ)) (iv a c : List ℕ) (m : Message) : Type 0 where
-  pub phase : m.phase ≡ turn
+  pub phase : phase_of m.phase ≡ turn
   pub first : from_be_bytes w128 m.first ≡ pre_counter (hash_subkey w) iv
   pub additional : m.additional ≡ length a
   pub short : length a < 2 ^ 61
   pub text : m.text ≡ length c
   pub short_text : length c ≤ 2 ^ 36 - 32
-  pub hashing : IsHashing (hash_subkey w) (hashed_padded (hash_subkey w) a) c m.value m.rest
+  pub hashing : IsHashing (hash_subkey w) (hashed_padded (hash_subkey w) a) c (from_be_bytes w128 m.value) m.rest
 
 -- either of these: text of a phase may come
 abbrev pub IsAt : Phase → List (List ℕ) → List ℕ → List ℕ → List ℕ → Message → Type 0
@@ -48,7 +57,7 @@ IsVerifying = IsAt Verifying
 
 -- the tag of a cipher text of n bytes was right, and c has come once more of it
 pub record IsDecrypting (w : List (List ℕ)) (iv : List ℕ) (n : ℕ) (c : List ℕ) (m : Message) : Type 0 where
-  pub phase : m.phase ≡ Decrypting
+  pub phase : phase_of m.phase ≡ Decrypting
   pub first : from_be_bytes w128 m.first ≡ pre_counter (hash_subkey w) iv
   pub text : m.text ≡ n
   pub decrypted : m.decrypted ≡ length c
@@ -57,11 +66,11 @@ pub record IsDecrypting (w : List (List ℕ)) (iv : List ℕ) (n : ℕ) (c : Lis
 abbrev pub no_message : Message
 no_message =
     record {
-      phase = NoMessage;
-      first = replicate 16 0;
-      value = 0;
-      rest = replicate 16 0;
       additional = 0;
       text = 0;
       decrypted = 0;
+      phase = 0;
+      first = replicate 16 0;
+      value = replicate 16 0;
+      rest = replicate 16 0;
     }

@@ -1,6 +1,7 @@
 //! GCM (SP 800-38D), encryption that shows whether a message was changed, over any block cipher that encrypts.
 #![tactic(auto)]
 
+mod counter;
 mod errors;
 pub mod examples;
 mod field;
@@ -15,8 +16,9 @@ mod multiples;
 mod pieces;
 mod stack;
 
+pub use counter::Counter;
 pub use errors::{InvalidMessage, InvalidPiece, NotAccepted, OutOfTurn, Refused, TooLong};
 pub use laws::text_twice;
 pub use message::{Message, Phase};
-pub use mode::{Gcm, LentGcm, prepare};
+pub use mode::{Gcm, LentGcm, is_short_tag, prepare};
 pub use multiples::{Multiples, Room, put_multiples};

@@ -1,6 +1,7 @@
 //! A message that comes in pieces: what is kept of it between two calls.
 
 ghost use Rattle.std.specs.Prelude.{◌≡◌};
+ghost use Rattle.gcm.specs.Pieces.{phase_of};
 
 use aes_cipher::cipher::Block;
 use aes_cipher::zeroize::{Zeroize, zeroize_elements};
@@ -21,24 +22,25 @@ pub enum Phase {
     Decrypting,
 }
 
-/// A message under a nonce, of which some has come, as plain blocks and numbers, so that C can keep it. Its blocks are as
-/// secret as the key: keep it in a `Wiped`, whose `zeroed` has no message.
+/// A message under a nonce, of which some has come, as C keeps it: `struct fotsgure_gcm_message`. Its blocks are as secret as
+/// the key: keep it in a `Wiped`, whose `zeroed` has no message.
+#[repr(C)]
 #[derive(Drop)]
 pub struct Message {
-    /// What may come next.
-    pub phase: Phase,
-    /// The first counter block, J_0 (7.1, step 2).
-    pub first: Block,
-    /// The value of GHASH after the whole blocks.
-    pub value: u128,
-    /// First the bytes of a block that isn't whole yet.
-    pub rest: Block,
     /// How many bytes of additional data have come.
     pub additional: u64,
     /// How many bytes of text have come.
     pub text: u64,
     /// How many bytes of a text whose tag was right have come once more.
     pub decrypted: u64,
+    /// What may come next, by number; 0 if there is no message.
+    pub phase: u64,
+    /// The first counter block, J_0 (7.1, step 2).
+    pub first: Block,
+    /// The value of GHASH after the whole blocks.
+    pub value: Block,
+    /// First the bytes of a block that isn't whole yet.
+    pub rest: Block,
 }
 
 impl Zeroize for Message {
@@ -48,25 +50,56 @@ impl Zeroize for Message {
 
     fn zero() -> Message {
         Message {
-            phase: Phase::NoMessage,
-            first: [0; 16],
-            value: 0,
-            rest: [0; 16],
             additional: 0,
             text: 0,
             decrypted: 0,
+            phase: 0,
+            first: [0; 16],
+            value: [0; 16],
+            rest: [0; 16],
         }
     }
 
-    // In a call of its own: of a single block in a message that is over, LLVM would leave out the zeros.
     #[inline(never)]
     fn zeroize(&mut self) {
-        self.phase = Phase::NoMessage;
-        zeroize_elements(from_mut(&mut self.first));
-        zeroize_elements(from_mut(&mut self.value));
-        zeroize_elements(from_mut(&mut self.rest));
         self.additional = 0;
         self.text = 0;
         self.decrypted = 0;
+        self.phase = 0;
+        zeroize_elements(from_mut(&mut self.first));
+        zeroize_elements(from_mut(&mut self.value));
+        zeroize_elements(from_mut(&mut self.rest));
+    }
+}
+
+/// Returns the phase of a number.
+#[tactic(auto, unfolding(crate::specs::Pieces::phase_of))]
+pub(crate) fn phase_of(number: u64) -> Phase
+    ensures { result ≡ phase_of number }
+{
+    if number == 1 {
+        Phase::Additional
+    } else if number == 2 {
+        Phase::Encrypting
+    } else if number == 3 {
+        Phase::Verifying
+    } else if number == 4 {
+        Phase::Decrypting
+    } else {
+        Phase::NoMessage
+    }
+}
+
+/// Returns the number of a phase.
+#[tactic(auto, unfolding(crate::specs::Pieces::phase_of))]
+pub(crate) fn number_of(phase: Phase) -> u64
+    ensures { phase_of result ≡ phase }
+{
+    match phase {
+        Phase::NoMessage => 0,
+        Phase::Additional => 1,
+        Phase::Encrypting => 2,
+        Phase::Verifying => 3,
+        Phase::Decrypting => 4,
     }
 }

@@ -1,39 +1,57 @@
 //! Messages in pieces: however they are cut, the result is that of the whole.
 
-ghost use Rattle.std.specs.Prelude.{◌≡◌, ◌≢◌, ◌↔◌, ◌⊎◌, ◌+◌, ◌-◌, ◌/◌, ◌%◌, ◌^◌, ◌<◌, ◌≤◌, ℕ, List, [], ◌++◌, length, replicate, IsOk, IsErr, IsErrOf, IsTrue, IfOk, OnOk, OnErr};
+ghost use Rattle.std.specs.Prelude.{◌≡◌, ◌≢◌, ◌↔◌, ◌⊎◌, ◌+◌, ◌-◌, ◌/◌, ◌%◌, ◌^◌, ◌<◌, ◌≤◌, ℕ, List, [], ◌++◌, length, replicate, drop, IsOk, IsErr, IsErrOf, IsTrue, IfOk, OnOk, OnErr};
 ghost use Rattle.std.specs.Int.{w128, from_be_bytes};
 ghost use Rattle.aes_ctr.specs.CounterMode.{plus_stream};
 ghost use Rattle.gcm.specs.Gcm as nist;
-ghost use Rattle.gcm.specs.Pieces.{hashed_padded, IsBegun, IsInText, IsAt, IsEncrypting, IsVerifying, IsDecrypting, no_message};
+ghost use Rattle.gcm.specs.Gcm.{nonce_number, IsShortTag};
+ghost use Rattle.gcm.specs.Pieces.{hashed_padded, IsBegun, IsInText, IsAt, IsEncrypting, IsVerifying, IsDecrypting, no_message, phase_of};
 ghost use Rattle.gcm.specs.declared.message.Phase.{Phase};
 
+use crate::counter::Counter;
 use crate::errors::{InvalidMessage, InvalidPiece, NotAccepted, OutOfTurn};
 use crate::gctr::{BlockRoom, add_gctr};
 use crate::hash::{hash_on, hash_piece};
-use crate::message::{Message, Phase};
-use crate::mode::{LONGEST_HASHED, LONGEST_TEXT, LentGcm, add_masked, hash_lengths, put_mask};
-use aes_cipher::blocks::blocks_equal;
+use crate::message::{Message, Phase, number_of, phase_of};
+use crate::mode::{
+    LONGEST_HASHED, LONGEST_TEXT, LentGcm, add_masked, hash_lengths, is_expected, is_short_tag,
+    put_mask,
+};
+use crate::stack::{SHALLOW, wipe_stack};
+use aes_cipher::blocks::{block_of_number, number_of_block};
 use aes_cipher::cipher::{Block, BlockCipherEncrypt};
 use aes_cipher::zeroize::Zeroize;
 
 // Whether text of a phase may come: it has, or additional data may.
 fn is_turn(message: &Message, phase: Phase) -> bool
-    ensures { IsTrue result ↔ ((message.now.phase ≡ Phase.Additional) ⊎ (message.now.phase ≡ phase)) }
+    ensures { IsTrue result ↔ ((phase_of message.now.phase ≡ Phase.Additional) ⊎ (phase_of message.now.phase ≡ phase)) }
 {
-    message.phase == Phase::Additional || message.phase == phase
+    let now = phase_of(message.phase);
+    now == Phase::Additional || now == phase
 }
 
 // How many bytes there are of a block that isn't whole yet: of additional data or of text.
 fn filled(message: &Message) -> usize
     ensures inside { result < 16 }
-    ensures additional { message.now.phase ≡ Phase.Additional → result ≡ message.now.additional % 16 }
-    ensures text { message.now.phase ≢ Phase.Additional → result ≡ message.now.text % 16 }
+    ensures additional { phase_of message.now.phase ≡ Phase.Additional → result ≡ message.now.additional % 16 }
+    ensures text { phase_of message.now.phase ≢ Phase.Additional → result ≡ message.now.text % 16 }
 {
-    if message.phase == Phase::Additional {
+    if phase_of(message.phase) == Phase::Additional {
         (message.additional % 16) as usize
     } else {
         (message.text % 16) as usize
     }
+}
+
+// Writes a claimed tag of 16 bytes or fewer, and behind it what the expected one has there: the two are equal exactly if
+// the claimed one is the first bytes of the expected one.
+#[inline(always)]
+fn put_claimed(tag: &[u8], expected: &Block, claimed: &mut Block)
+    requires { length tag.now ≤ 16 }
+    ensures { claimed.new ≡ tag.now ++ drop (length tag.now) expected.now }
+{
+    *claimed = *expected;
+    claimed[..tag.len()].copy_from_slice(tag);
 }
 
 impl<'a, C: BlockCipherEncrypt> LentGcm<'a, C> {
@@ -57,14 +75,37 @@ impl<'a, C: BlockCipherEncrypt> LentGcm<'a, C> {
         if nonce.len() as u64 > LONGEST_HASHED {
             return Err(InvalidMessage::TooLong);
         }
+        self.start(message, nonce);
+        Ok(())
+    }
+
+    /// Begins a message as `begin`, where the caller knows that the length of the nonce is allowed.
+    pub fn start(&self, message: &mut Message, nonce: &[u8])
+        requires { length nonce.now < 2 ^ 61 }
+        ensures begun { IsBegun self.now nonce.now [] message.new }
+        ensures clean { (message.new.rest ≡ replicate 16 0) × (message.new.decrypted ≡ 0) }
+    {
         self.put_pre_counter(nonce, &mut message.first);
-        message.phase = Phase::Additional;
-        message.value = 0;
+        message.phase = number_of(Phase::Additional);
+        message.value = block_of_number(0);
         message.rest = [0; 16];
         message.additional = 0;
         message.text = 0;
         message.decrypted = 0;
-        Ok(())
+    }
+
+    /// Begins a message under the counter's next nonce, which it returns, and moves the counter on by one (8.2.1). Ask
+    /// first whether a nonce is left. Nothing is left of a message that was there before.
+    pub fn begin_next(&self, message: &mut Message, counter: &mut Counter) -> [u8; 12]
+        requires { nonce_number counter.old.next ≢ 2 ^ 96 - 1 }
+        ensures nonce { result ≡ counter.old.next }
+        ensures begun { IsBegun self.now counter.old.next [] message.new }
+        ensures clean { (message.new.rest ≡ replicate 16 0) × (message.new.decrypted ≡ 0) }
+        ensures counted { nonce_number counter.new.next ≡ nonce_number counter.old.next + 1 }
+    {
+        let nonce = counter.take();
+        self.start(message, &nonce);
+        nonce
     }
 
     /// Takes a piece of additional data, of any size. All of them come before the text.
@@ -74,27 +115,24 @@ impl<'a, C: BlockCipherEncrypt> LentGcm<'a, C> {
     /// `OutOfTurn` exactly if no message has begun or text has come. Else `TooLong` exactly if there would be 2^61 bytes
     /// of additional data or more. The message is then unchanged.
     pub fn additional_piece(&self, message: &mut Message, bytes: &[u8]) -> Result<(), InvalidPiece>
-        ensures out_of_turn { IsErrOf result InvalidPiece.OutOfTurn ↔ (message.old.phase ≢ Phase.Additional) }
-        ensures refusal { IsErr result ↔ ((message.old.phase ≢ Phase.Additional)
+        ensures out_of_turn { IsErrOf result InvalidPiece.OutOfTurn ↔ (phase_of message.old.phase ≢ Phase.Additional) }
+        ensures refusal { IsErr result ↔ ((phase_of message.old.phase ≢ Phase.Additional)
             ⊎ (2 ^ 61 ≤ message.old.additional + length bytes.now)) }
         ensures added { OnOk result ((iv a : List ℕ) → IsBegun self.now iv a message.old
             → IsBegun self.now iv (a ++ bytes.now) message.new) }
         ensures untouched { OnErr result (message.new ≡ message.old) }
     {
-        if message.phase != Phase::Additional {
+        if phase_of(message.phase) != Phase::Additional {
             return Err(InvalidPiece::OutOfTurn);
         }
         if message.additional.saturating_add(bytes.len() as u64) > LONGEST_HASHED {
             return Err(InvalidPiece::TooLong);
         }
         let filled = (message.additional % 16) as usize;
-        message.value = hash_piece(
-            &self.multiples,
-            message.value,
-            &mut message.rest,
-            filled,
-            bytes,
-        );
+        let before = number_of_block(&message.value);
+        let value = hash_piece(&self.multiples, before, &mut message.rest, filled, bytes);
+        message.value = block_of_number(value);
+        wipe_stack::<SHALLOW>();
         message.additional += bytes.len() as u64;
         Ok(())
     }
@@ -107,9 +145,9 @@ impl<'a, C: BlockCipherEncrypt> LentGcm<'a, C> {
     /// there would be more than 2^36 - 32 bytes of text. Message and text are then unchanged.
     pub fn encrypt_piece(&self, message: &mut Message, text: &mut [u8]) -> Result<(), InvalidPiece>
         ensures out_of_turn { IsErrOf result InvalidPiece.OutOfTurn
-            ↔ ((message.old.phase ≢ Phase.Additional) × (message.old.phase ≢ Phase.Encrypting)) }
-        ensures refusal { IsErr result ↔ (((message.old.phase ≢ Phase.Additional)
-            × (message.old.phase ≢ Phase.Encrypting)) ⊎ (2 ^ 36 - 32 < message.old.text + length text.old)) }
+            ↔ ((phase_of message.old.phase ≢ Phase.Additional) × (phase_of message.old.phase ≢ Phase.Encrypting)) }
+        ensures refusal { IsErr result ↔ (((phase_of message.old.phase ≢ Phase.Additional)
+            × (phase_of message.old.phase ≢ Phase.Encrypting)) ⊎ (2 ^ 36 - 32 < message.old.text + length text.old)) }
         ensures encrypted { OnOk result ((iv a p c : List ℕ) → IsEncrypting self.now iv a c message.old
             → c ≡ nist.text self.now iv p → c ++ text.new ≡ nist.text self.now iv (p ++ text.old)) }
         ensures added { OnOk result ((iv a c : List ℕ) → IsEncrypting self.now iv a c message.old
@@ -131,7 +169,7 @@ impl<'a, C: BlockCipherEncrypt> LentGcm<'a, C> {
     /// unchanged.
     pub fn finish(&self, message: &mut Message) -> Result<Block, OutOfTurn>
         ensures out_of_turn { IsErr result
-            ↔ ((message.old.phase ≢ Phase.Additional) × (message.old.phase ≢ Phase.Encrypting)) }
+            ↔ ((phase_of message.old.phase ≢ Phase.Additional) × (phase_of message.old.phase ≢ Phase.Encrypting)) }
         ensures tag { IfOk result (λ tag. (iv a c : List ℕ) → IsEncrypting self.now iv a c message.old
             → tag ≡ nist.tag self.now iv a c) }
         ensures over { OnOk result (message.new ≡ no_message) }
@@ -142,6 +180,7 @@ impl<'a, C: BlockCipherEncrypt> LentGcm<'a, C> {
         }
         let mut tag = [0; 16];
         self.put_tag_so_far(message, &mut tag);
+        wipe_stack::<SHALLOW>();
         message.zeroize();
         Ok(tag)
     }
@@ -154,9 +193,9 @@ impl<'a, C: BlockCipherEncrypt> LentGcm<'a, C> {
     /// exactly if there would be more than 2^36 - 32 bytes of text. The message is then unchanged.
     pub fn verify_piece(&self, message: &mut Message, text: &[u8]) -> Result<(), InvalidPiece>
         ensures out_of_turn { IsErrOf result InvalidPiece.OutOfTurn
-            ↔ ((message.old.phase ≢ Phase.Additional) × (message.old.phase ≢ Phase.Verifying)) }
-        ensures refusal { IsErr result ↔ (((message.old.phase ≢ Phase.Additional)
-            × (message.old.phase ≢ Phase.Verifying)) ⊎ (2 ^ 36 - 32 < message.old.text + length text.now)) }
+            ↔ ((phase_of message.old.phase ≢ Phase.Additional) × (phase_of message.old.phase ≢ Phase.Verifying)) }
+        ensures refusal { IsErr result ↔ (((phase_of message.old.phase ≢ Phase.Additional)
+            × (phase_of message.old.phase ≢ Phase.Verifying)) ⊎ (2 ^ 36 - 32 < message.old.text + length text.now)) }
         ensures added { OnOk result ((iv a c : List ℕ) → IsVerifying self.now iv a c message.old
             → IsInText Phase.Verifying self.now iv a (c ++ text.now) message.new) }
         ensures untouched { OnErr result (message.new ≡ message.old) }
@@ -175,11 +214,13 @@ impl<'a, C: BlockCipherEncrypt> LentGcm<'a, C> {
     /// exactly if the tag is another. The message is then unchanged.
     pub fn accept(&self, message: &mut Message, tag: &Block) -> Result<(), NotAccepted>
         ensures out_of_turn { IsErrOf result NotAccepted.OutOfTurn
-            ↔ ((message.old.phase ≢ Phase.Additional) × (message.old.phase ≢ Phase.Verifying)) }
+            ↔ ((phase_of message.old.phase ≢ Phase.Additional) × (phase_of message.old.phase ≢ Phase.Verifying)) }
         ensures accepted { (iv a c : List ℕ) → IsVerifying self.now iv a c message.old
             → IsOk result ↔ (tag.now ≡ nist.tag self.now iv a c) }
         ensures decrypting { OnOk result ((iv a c : List ℕ) → IsVerifying self.now iv a c message.old
             → IsDecrypting self.now iv (length c) [] message.new) }
+        ensures phase { OnOk result (phase_of message.new.phase ≡ Phase.Decrypting) }
+        ensures text { OnOk result (message.new.text ≡ message.old.text) }
         ensures untouched { OnErr result (message.new ≡ message.old) }
     {
         if !is_turn(message, Phase::Verifying) {
@@ -188,7 +229,46 @@ impl<'a, C: BlockCipherEncrypt> LentGcm<'a, C> {
         if !self.is_tag_so_far(message, tag) {
             return Err(NotAccepted::Refused);
         }
-        message.phase = Phase::Decrypting;
+        message.phase = number_of(Phase::Decrypting);
+        message.decrypted = 0;
+        Ok(())
+    }
+
+    /// Compares a tag of fewer than 16 bytes as `accept` does one of 16. How many bytes all tags under a key have is fixed
+    /// with the key (5.2.1.2), and comes with no message. A forged tag of n bytes is right with a chance of 1 in 256^n and
+    /// more; of 4 and 8 bytes a key may check few (appendix C).
+    ///
+    /// # Errors
+    ///
+    /// `OutOfTurn` exactly as `accept`. Else `Refused` exactly if the tag doesn't have so many bytes, if no tag may, or if
+    /// the tag isn't the first bytes of that of 16. The message is then unchanged.
+    pub fn accept_short(
+        &self,
+        message: &mut Message,
+        tag_length: usize,
+        tag: &[u8],
+    ) -> Result<(), NotAccepted>
+        ensures out_of_turn { IsErrOf result NotAccepted.OutOfTurn
+            ↔ ((phase_of message.old.phase ≢ Phase.Additional) × (phase_of message.old.phase ≢ Phase.Verifying)) }
+        ensures accepted { (iv a c : List ℕ) → IsVerifying self.now iv a c message.old
+            → IsOk result ↔ ((IsShortTag tag_length × (length tag.now ≡ tag_length))
+            × (tag.now ≡ nist.short_tag (length tag.now) self.now iv a c)) }
+        ensures decrypting { OnOk result ((iv a c : List ℕ) → IsVerifying self.now iv a c message.old
+            → IsDecrypting self.now iv (length c) [] message.new) }
+        ensures phase { OnOk result (phase_of message.new.phase ≡ Phase.Decrypting) }
+        ensures text { OnOk result (message.new.text ≡ message.old.text) }
+        ensures untouched { OnErr result (message.new ≡ message.old) }
+    {
+        if !is_turn(message, Phase::Verifying) {
+            return Err(NotAccepted::OutOfTurn);
+        }
+        if !is_short_tag(tag_length, tag) {
+            return Err(NotAccepted::Refused);
+        }
+        if !self.is_short_tag_so_far(message, tag) {
+            return Err(NotAccepted::Refused);
+        }
+        message.phase = number_of(Phase::Decrypting);
         message.decrypted = 0;
         Ok(())
     }
@@ -201,8 +281,8 @@ impl<'a, C: BlockCipherEncrypt> LentGcm<'a, C> {
     /// `OutOfTurn` exactly if no tag was accepted. Else `TooLong` exactly if there would be more text than was
     /// accepted, or more than 2^36 - 32 bytes. Message and text are then unchanged.
     pub fn decrypt_piece(&self, message: &mut Message, text: &mut [u8]) -> Result<(), InvalidPiece>
-        ensures out_of_turn { IsErrOf result InvalidPiece.OutOfTurn ↔ (message.old.phase ≢ Phase.Decrypting) }
-        ensures refusal { IsErr result ↔ ((message.old.phase ≢ Phase.Decrypting)
+        ensures out_of_turn { IsErrOf result InvalidPiece.OutOfTurn ↔ (phase_of message.old.phase ≢ Phase.Decrypting) }
+        ensures refusal { IsErr result ↔ ((phase_of message.old.phase ≢ Phase.Decrypting)
             ⊎ ((message.old.text < message.old.decrypted + length text.old)
             ⊎ (2 ^ 36 - 32 < message.old.decrypted + length text.old))) }
         ensures decrypted { OnOk result ((n : ℕ) (iv c : List ℕ) → IsDecrypting self.now iv n c message.old
@@ -212,7 +292,7 @@ impl<'a, C: BlockCipherEncrypt> LentGcm<'a, C> {
         ensures untouched { OnErr result (message.new ≡ message.old) }
         ensures untouched_text { OnErr result (text.new ≡ text.old) }
     {
-        if message.phase != Phase::Decrypting {
+        if phase_of(message.phase) != Phase::Decrypting {
             return Err(InvalidPiece::OutOfTurn);
         }
         if message.decrypted.saturating_add(text.len() as u64) > message.text.min(LONGEST_TEXT) {
@@ -235,9 +315,9 @@ impl<'a, C: BlockCipherEncrypt> LentGcm<'a, C> {
         text: &mut [u8],
     ) -> Result<(), InvalidPiece>
         ensures out_of_turn { IsErrOf result InvalidPiece.OutOfTurn
-            ↔ ((message.old.phase ≢ Phase.Additional) × (message.old.phase ≢ Phase.Verifying)) }
-        ensures refusal { IsErr result ↔ (((message.old.phase ≢ Phase.Additional)
-            × (message.old.phase ≢ Phase.Verifying)) ⊎ (2 ^ 36 - 32 < message.old.text + length text.old)) }
+            ↔ ((phase_of message.old.phase ≢ Phase.Additional) × (phase_of message.old.phase ≢ Phase.Verifying)) }
+        ensures refusal { IsErr result ↔ (((phase_of message.old.phase ≢ Phase.Additional)
+            × (phase_of message.old.phase ≢ Phase.Verifying)) ⊎ (2 ^ 36 - 32 < message.old.text + length text.old)) }
         ensures decrypted { OnOk result ((iv a c : List ℕ) → IsVerifying self.now iv a c message.old
             → nist.text self.now iv c ++ text.new ≡ nist.text self.now iv (c ++ text.old)) }
         ensures added { OnOk result ((iv a c : List ℕ) → IsVerifying self.now iv a c message.old
@@ -256,12 +336,12 @@ impl<'a, C: BlockCipherEncrypt> LentGcm<'a, C> {
     fn turn_to(&self, message: &mut Message, phase: Phase, more: usize) -> Result<(), InvalidPiece>
         requires { phase ≢ Phase.Additional }
         ensures out_of_turn { IsErrOf result InvalidPiece.OutOfTurn
-            ↔ ((message.old.phase ≢ Phase.Additional) × (message.old.phase ≢ phase)) }
-        ensures refusal { IsErr result ↔ (((message.old.phase ≢ Phase.Additional) × (message.old.phase ≢ phase))
+            ↔ ((phase_of message.old.phase ≢ Phase.Additional) × (phase_of message.old.phase ≢ phase)) }
+        ensures refusal { IsErr result ↔ (((phase_of message.old.phase ≢ Phase.Additional) × (phase_of message.old.phase ≢ phase))
             ⊎ (2 ^ 36 - 32 < message.old.text + more)) }
         ensures turned { OnOk result ((iv a c : List ℕ) → IsAt phase self.now iv a c message.old
             → IsInText phase self.now iv a c message.new) }
-        ensures phase { OnOk result (message.new.phase ≡ phase) }
+        ensures phase { OnOk result (phase_of message.new.phase ≡ phase) }
         ensures text { message.new.text ≡ message.old.text }
         ensures untouched { OnErr result (message.new ≡ message.old) }
     {
@@ -271,9 +351,10 @@ impl<'a, C: BlockCipherEncrypt> LentGcm<'a, C> {
         if message.text.saturating_add(more as u64) > LONGEST_TEXT {
             return Err(InvalidPiece::TooLong);
         }
-        if message.phase == Phase::Additional {
-            message.value = self.hash_rest(message);
-            message.phase = phase;
+        if phase_of(message.phase) == Phase::Additional {
+            let value = self.hash_rest(message);
+            message.value = block_of_number(value);
+            message.phase = number_of(phase);
         }
         Ok(())
     }
@@ -287,24 +368,22 @@ impl<'a, C: BlockCipherEncrypt> LentGcm<'a, C> {
             (hashed_padded (nist.hash_subkey self.now) a) (nist.padded c) (length (nist.padded c) / 16) }
     {
         let filled = filled(message);
-        hash_on(&self.multiples, message.value, &message.rest[..filled])
+        let before = number_of_block(&message.value);
+        hash_on(&self.multiples, before, &message.rest[..filled])
     }
 
     // Takes more of a cipher text into GHASH.
     fn hash_text(&self, message: &mut Message, text: &[u8])
-        requires phase { message.old.phase ≢ Phase.Additional }
+        requires phase { phase_of message.old.phase ≢ Phase.Additional }
         requires short { message.old.text + length text.now ≤ 2 ^ 36 - 32 }
         ensures { (phase : Phase) (iv a c : List ℕ) → IsInText phase self.now iv a c message.old
             → IsInText phase self.now iv a (c ++ text.now) message.new }
     {
         let filled = (message.text % 16) as usize;
-        message.value = hash_piece(
-            &self.multiples,
-            message.value,
-            &mut message.rest,
-            filled,
-            text,
-        );
+        let before = number_of_block(&message.value);
+        let value = hash_piece(&self.multiples, before, &mut message.rest, filled, text);
+        message.value = block_of_number(value);
+        wipe_stack::<SHALLOW>();
         message.text += text.len() as u64;
     }
 
@@ -315,12 +394,32 @@ impl<'a, C: BlockCipherEncrypt> LentGcm<'a, C> {
     {
         let mut expected = BlockRoom::zeroed();
         self.put_tag_so_far(message, &mut expected.value_mut()[0]);
-        let is_equal = blocks_equal(tag, &expected.value()[0]);
+        let is_equal = is_expected(tag, &expected.value()[0]);
         expected.wipe();
+        wipe_stack::<SHALLOW>();
         is_equal
     }
 
-    // Writes the tag of what has come so far (7.1, steps 4 to 6).
+    // Whether a tag of 16 bytes or fewer is the first bytes of that of what has come so far.
+    fn is_short_tag_so_far(&self, message: &Message, tag: &[u8]) -> bool
+        requires { length tag.now ≤ 16 }
+        ensures { (phase : Phase) (iv a c : List ℕ) → phase ≢ Phase.Additional
+            → IsAt phase self.now iv a c message.now
+            → IsTrue result ↔ (tag.now ≡ nist.short_tag (length tag.now) self.now iv a c) }
+    {
+        let mut expected = BlockRoom::zeroed();
+        let mut claimed = BlockRoom::zeroed();
+        self.put_tag_so_far(message, &mut expected.value_mut()[0]);
+        put_claimed(tag, &expected.value()[0], &mut claimed.value_mut()[0]);
+        let is_equal = is_expected(&claimed.value()[0], &expected.value()[0]);
+        expected.wipe();
+        claimed.wipe();
+        wipe_stack::<SHALLOW>();
+        is_equal
+    }
+
+    // Writes the tag of what has come so far (7.1, steps 4 to 6). In a call of its own, so that its stack can be wiped.
+    #[inline(never)]
     fn put_tag_so_far(&self, message: &Message, tag: &mut Block)
         ensures { (phase : Phase) (iv a c : List ℕ) → phase ≢ Phase.Additional
             → IsAt phase self.now iv a c message.now → tag.new ≡ nist.tag self.now iv a c }

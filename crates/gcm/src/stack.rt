@@ -5,12 +5,12 @@ ghost use Rattle.std.specs.Prelude.{◌≤◌};
 use aes_cipher::cipher::Block;
 use std::sync::atomic::{AtomicU64, Ordering};
 
-/// How many blocks of stack a call takes that prepares a key.
+/// How many blocks of stack a call takes that prepares a key, hashes or compares.
 pub(crate) const SHALLOW: usize = 32;
 
-/// How many a call on a message takes, as deep as counter mode keeps the first counter block. `./c-build` has 320 here
-/// where the cipher works on words of 256 bits.
-pub(crate) const DEEP: usize = 144;
+/// How many a call on a message takes, as deep as counter mode keeps the first counter block: on words of 256 bits, and so
+/// on narrower ones.
+pub(crate) const DEEP: usize = 320;
 
 /// Overwrites with zeros so many blocks of what calls from the same function left on the stack. No clause says so: what was
 /// compiled is searched. A compiler may leave out writes that nothing reads, so a byte is read at a place that comes out of an

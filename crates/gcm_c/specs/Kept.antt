@@ -1,22 +1,10 @@
 -- The struct that a caller keeps: how many bytes the key has, its stored round keys, and the multiples of H.
-use Rattle.std.specs.Prelude.{◌≡◌, ◌⊎◌, ℕ, ◌+◌, ◌-◌, ◌*◌, ◌/◌, ◌^◌, ◌<◌, ◌≤◌, List, take, drop, replicate}
-use Rattle.std.specs.Int.{w32, w64, from_be_bytes}
+use Rattle.std.specs.Prelude.{◌≡◌, ◌⊎◌, ℕ, ◌-◌, ◌^◌, ◌<◌, ◌≤◌, List}
 use Rattle.aes_planes.specs.Fips197 as fips
-use Rattle.aes_permute.specs.Keys.{stored_keys, cipher_key, IsCipherSchedule}
+use Rattle.aes_permute.specs.Keys.{stored_keys, IsCipherSchedule}
+use Rattle.c_calls.specs.Kept.{kept_key, IsKeyLength}
 use Rattle.gcm.specs.Gcm.{hash_subkey}
 use Rattle.gcm.specs.Multiples.{subkey_in, HasMultiples}
-
--- a number of bytes that a key can have
-abbrev pub IsKeyLength : ℕ → Type 0
-IsKeyLength n = (n ≡ 16) ⊎ ((n ≡ 24) ⊎ (n ≡ 32))
-
--- the blocks after those of a key of n bytes are zero, so that none of another key's is left there
-abbrev pub AreZeroAfter : ℕ → List (List ℕ) → Type 0
-AreZeroAfter n blocks = drop (n / 4 + 7) blocks ≡ replicate (15 - (n / 4 + 7)) (replicate 16 0)
-
--- the key of n bytes that blocks are read as
-abbrev pub kept_key : ℕ → List (List ℕ) → List ℕ
-kept_key n blocks = cipher_key (stored_keys n blocks)
 
 -- the round keys of the standard that blocks are read as
 abbrev pub kept_round_keys : ℕ → List (List ℕ) → List (List ℕ)
@@ -36,7 +24,3 @@ IsNonceLength n = (0 < n) × (n < 2 ^ 61)
 -- more bytes of additional data, or of text, than a message can have (SP 800-38D, 5.2.1.1)
 abbrev pub IsTooLong : ℕ → ℕ → Type 0
 IsTooLong additional text = (2 ^ 61 ≤ additional) ⊎ (2 ^ 36 - 32 < text)
-
--- a nonce of 12 bytes as one number, highest byte first
-abbrev pub nonce_number : List ℕ → ℕ
-nonce_number nonce = from_be_bytes w32 (take 4 nonce) * 2 ^ 64 + from_be_bytes w64 (drop 4 nonce)

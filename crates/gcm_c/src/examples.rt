@@ -1,8 +1,8 @@
-//! Statuses and the version by number, and the counter of nonces at values from outside, as contracts, so that a slip in a
-//! constant or a definition is refused. The calls have no effect.
+//! Statuses and the version by number, and lengths at their limits, as contracts, so that a slip in a constant or a
+//! definition is refused. The calls have no effect.
 
-ghost use Rattle.std.specs.Prelude.{◌≡◌, ◌∷◌, ◌-◌, ◌^◌, ◌++◌, [], replicate};
-ghost use Rattle.gcm_c.specs.Kept.{nonce_number, IsKeyLength, IsNonceLength, IsTooLong};
+ghost use Rattle.std.specs.Prelude.{◌≡◌};
+ghost use Rattle.gcm_c.specs.Kept.{IsNonceLength, IsTooLong};
 
 use crate::VERSION;
 use crate::status::{
@@ -23,15 +23,8 @@ pub fn numbers_of_the_header()
     ensures version { VERSION ≡ 300 }
 {}
 
-/// The lengths of keys and nonces, those on either side of them, and none; and the most that a message may have.
+/// The lengths of nonces, those on either side of them, and the most that a message may have.
 pub fn length_examples()
-    ensures of_16 { IsKeyLength 16 }
-    ensures of_24 { IsKeyLength 24 }
-    ensures of_32 { IsKeyLength 32 }
-    ensures none { ¬ IsKeyLength 0 }
-    ensures shorter { ¬ IsKeyLength 15 }
-    ensures between { ¬ IsKeyLength 23 }
-    ensures longer { ¬ IsKeyLength 33 }
     ensures shortest_nonce { IsNonceLength 1 }
     ensures longest_nonce { IsNonceLength 2305843009213693951 }
     ensures nonce_too_long { ¬ IsNonceLength 2305843009213693952 }
@@ -39,12 +32,4 @@ pub fn length_examples()
     ensures longest { ¬ IsTooLong 2305843009213693951 68719476704 }
     ensures text_too_long { IsTooLong 0 68719476705 }
     ensures additional_too_long { IsTooLong 2305843009213693952 0 }
-{}
-
-/// Nonces as numbers: the first, one with a byte in each half, and the last.
-pub fn nonce_examples()
-    ensures first { nonce_number (replicate 12 0) ≡ 0 }
-    ensures next { nonce_number (replicate 11 0 ++ 1 ∷ []) ≡ 1 }
-    ensures both { nonce_number (1 ∷ replicate 10 0 ++ 2 ∷ []) ≡ 309485009821345068724781058 }
-    ensures last { nonce_number (replicate 12 255) ≡ 2 ^ 96 - 1 }
 {}

@@ -1,16 +1,15 @@
 //! The struct that a caller keeps: a key as its stored round keys, and the multiples of its H.
 
-ghost use Rattle.std.specs.Prelude.{◌≡◌, ◌≢◌, ◌↔◌, ◌+◌, ◌/◌, true};
-ghost use Rattle.std.specs.Prelude.{drop, length, replicate};
-ghost use Rattle.aes_permute.specs.Keys.{stored_keys, IsCipherSchedule};
-ghost use Rattle.gcm_c.specs.Kept.{kept_key, AreZeroAfter, IsKeyLength, IsMade};
+ghost use Rattle.std.specs.Prelude.{◌≡◌, ◌≢◌, ◌↔◌, length, replicate, true};
+ghost use Rattle.c_calls.specs.Kept.{kept_key, AreZeroAfter, IsKeyLength};
+ghost use Rattle.gcm_c.specs.Kept.{IsMade};
 
-use crate::Chosen;
 use crate::status::{DONE, KEY_LENGTH};
+use crate::width::BuildWidth;
 use aes_cipher::zeroize::{Zeroize, zeroize_elements};
 use aes_hybrid::lent::Lent;
-use aes_permute::schedule::expand;
 use aes_planes::soft::word::Block;
+use c_calls::kept::{expand_keys, is_key_length, keys_of};
 use gcm::{Room, prepare};
 
 /// A key that the caller owns: `struct fotsgure_gcm`. Its blocks are as secret as the key.
@@ -49,35 +48,6 @@ impl Zeroize for Gcm {
     }
 }
 
-/// Returns the stored round keys of a key of `key_length` bytes: the first of the blocks.
-#[inline(always)]
-pub(crate) fn keys_of(blocks: &[Block; 15], key_length: usize) -> &[Block]
-    requires { IsKeyLength key_length }
-    ensures { result.now ≡ stored_keys key_length blocks.now }
-{
-    &blocks[..key_length / 4 + 7]
-}
-
-// Writes the stored round keys of Cipher of a key, and zeros behind them, where a longer key may have had more.
-#[inline(always)]
-fn expand_keys(blocks: &mut [Block; 15], key: &[u8])
-    requires { IsKeyLength (length key.now) }
-    ensures schedule { IsCipherSchedule (stored_keys (length key.now) blocks.new) }
-    ensures key { kept_key (length key.now) blocks.new ≡ key.now }
-    ensures after { AreZeroAfter (length key.now) blocks.new }
-{
-    let (used, others) = blocks.split_at_mut(key.len() / 4 + 7);
-    expand(used, key);
-    others.fill([0; 16]);
-}
-
-// Returns whether this is the length of a key: 16, 24 or 32 bytes.
-fn is_key_length(bytes: usize) -> bool
-    ensures { result ≡ true ↔ IsKeyLength bytes }
-{
-    bytes == 16 || bytes == 24 || bytes == 32
-}
-
 /// Returns whether the struct holds a key.
 pub(crate) fn holds_key(gcm: &Gcm) -> bool
     ensures { result ≡ true ↔ IsKeyLength gcm.now.key_length }
@@ -86,12 +56,12 @@ pub(crate) fn holds_key(gcm: &Gcm) -> bool
 }
 
 /// Lends the key of a struct as a cipher.
-pub(crate) fn cipher_of(gcm: &Gcm) -> Lent<'_, Chosen>
+pub(crate) fn cipher_of(gcm: &Gcm) -> Lent<'_, BuildWidth>
     requires made { IsMade gcm.now.key_length gcm.now.round_keys gcm.now.multiples }
     requires key { IsKeyLength gcm.now.key_length }
     ensures { result ≡ kept_key gcm.now.key_length gcm.now.round_keys }
 {
-    Lent::<Chosen>::new(keys_of(&gcm.round_keys, gcm.key_length as usize))
+    Lent::<BuildWidth>::new(keys_of(&gcm.round_keys, gcm.key_length as usize))
 }
 
 /// Expands a key into the struct (KeyExpansion, FIPS 197, 5.2) and prepares the multiples of its H (SP 800-38D, 7.1,
@@ -115,8 +85,9 @@ pub extern "C" fn fotsgure_gcm_set_key(gcm: &mut Gcm, key: &[u8]) -> u32
         *gcm = Gcm::zero();
         return KEY_LENGTH;
     }
+    gcm.round_keys = [[0; 16]; 15];
     expand_keys(&mut gcm.round_keys, key);
-    let cipher = Lent::<Chosen>::new(keys_of(&gcm.round_keys, key.len()));
+    let cipher = Lent::<BuildWidth>::new(keys_of(&gcm.round_keys, key.len()));
     prepare(&cipher, &mut gcm.multiples);
     gcm.key_length = key.len() as u32;
     DONE

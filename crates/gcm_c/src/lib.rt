@@ -20,22 +20,22 @@ mod status;
 #[cfg(test)]
 mod tests;
 mod whole;
+mod width;
 
-pub use counter::{Counter, fotsgure_gcm_seal_next};
+pub use counter::{fotsgure_gcm_begin_next, fotsgure_gcm_seal_next};
+pub use gcm::{Counter, Message};
 pub use kept::{Gcm, fotsgure_gcm_key_length, fotsgure_gcm_set_key, fotsgure_gcm_wipe};
 pub use opening::{
-    fotsgure_gcm_accept, fotsgure_gcm_decrypt, fotsgure_gcm_decrypt_unverified, fotsgure_gcm_verify,
+    fotsgure_gcm_accept, fotsgure_gcm_accept_short, fotsgure_gcm_decrypt,
+    fotsgure_gcm_decrypt_unverified, fotsgure_gcm_verify,
 };
-pub use pieces::{Message, fotsgure_gcm_additional, fotsgure_gcm_begin, fotsgure_gcm_wipe_message};
+pub use pieces::{fotsgure_gcm_additional, fotsgure_gcm_begin, fotsgure_gcm_wipe_message};
 pub use sealing::{fotsgure_gcm_encrypt, fotsgure_gcm_finish};
 pub use status::{
     DONE, KEY_LENGTH, NO_KEY, NONCE_LENGTH, NONCES_END, OUT_OF_TURN, REFUSED, TAG_LENGTH, TOO_LONG,
 };
 pub use whole::{fotsgure_gcm_open, fotsgure_gcm_seal};
-
-/// The width of the words on which the exports process many blocks. `./c-build` also builds the library with `Wide` here,
-/// for processors with vectors of 256 bits.
-pub type Chosen = aes_hybrid::widths::Narrow;
+pub use width::BuildWidth;
 
 /// The version of the interface: 10000 times the first number, 100 times the second, plus the third.
 pub const VERSION: u32 = 300;

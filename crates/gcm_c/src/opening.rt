@@ -2,16 +2,27 @@
 
 ghost use Rattle.std.specs.Prelude.{◌≡◌, ◌≢◌, ◌↔◌, ◌⊎◌, ◌+◌, ◌-◌, ◌/◌, ◌^◌, ◌≤◌, ℕ, List, [], ◌++◌, length};
 ghost use Rattle.gcm.specs.Gcm as nist;
-ghost use Rattle.gcm.specs.Pieces.{IsInText, IsVerifying, IsDecrypting};
+ghost use Rattle.gcm.specs.Gcm.{IsShortTag};
 ghost use Rattle.gcm.specs.declared.message.Phase.{Phase};
-ghost use Rattle.gcm_c.specs.Kept.{kept_round_keys, IsKeyLength, IsMade};
-ghost use Rattle.gcm_c.specs.Pieces.{message_in, phase_of};
+ghost use Rattle.c_calls.specs.Kept.{IsKeyLength};
+ghost use Rattle.gcm_c.specs.Kept.{kept_round_keys, IsMade};
+ghost use Rattle.gcm.specs.Pieces.{IsInText, IsVerifying, IsDecrypting, phase_of};
 
 use crate::kept::{Gcm, cipher_of, holds_key};
-use crate::pieces::{Message, put, status_of, take};
+use crate::pieces::status_of;
 use crate::status::{DONE, NO_KEY, OUT_OF_TURN, REFUSED, TAG_LENGTH, TOO_LONG};
-use aes_cipher::zeroize::MustWipe;
-use gcm::{LentGcm, NotAccepted};
+use gcm::{LentGcm, Message, NotAccepted, is_short_tag};
+
+// Returns the status of a tag that isn't accepted.
+fn status_of_refusal(error: NotAccepted) -> u32
+    ensures out_of_turn { result ≡ OUT_OF_TURN ↔ (error ≡ NotAccepted.OutOfTurn) }
+    ensures refused { result ≢ OUT_OF_TURN → result ≡ REFUSED }
+{
+    match error {
+        NotAccepted::OutOfTurn => OUT_OF_TURN,
+        NotAccepted::Refused => REFUSED,
+    }
+}
 
 /// Takes a piece of a cipher text whose tag is to be compared. Returns `NO_KEY`, `OUT_OF_TURN` or `TOO_LONG`, the first of
 /// them that applies, and else `DONE`.
@@ -26,8 +37,8 @@ pub extern "C" fn fotsgure_gcm_verify(gcm: &Gcm, message: &mut Message, text: &[
         × (message.old.text + length text.now ≤ 2 ^ 36 - 32)) }
     ensures refused { result ≢ DONE → result ≢ NO_KEY → result ≢ OUT_OF_TURN → result ≡ TOO_LONG }
     ensures added { let w = kept_round_keys gcm.now.key_length gcm.now.round_keys in
-        result ≡ DONE → (iv a c : List ℕ) → IsVerifying w iv a c (message_in message.old)
-        → IsInText Phase.Verifying w iv a (c ++ text.now) (message_in message.new) }
+        result ≡ DONE → (iv a c : List ℕ) → IsVerifying w iv a c message.old
+        → IsInText Phase.Verifying w iv a (c ++ text.now) message.new }
     ensures untouched { result ≢ DONE → message.new ≡ message.old }
 {
     if !holds_key(gcm) {
@@ -35,18 +46,9 @@ pub extern "C" fn fotsgure_gcm_verify(gcm: &Gcm, message: &mut Message, text: &[
     }
     let cipher = cipher_of(gcm);
     let mode = LentGcm::new(&cipher, &gcm.multiples);
-    let mut kept = MustWipe::zeroed();
-    take(message, kept.value_mut());
-    match mode.verify_piece(kept.value_mut(), text) {
-        Ok(()) => {
-            put(kept.value(), message);
-            kept.wipe();
-            DONE
-        }
-        Err(error) => {
-            kept.wipe();
-            status_of(error)
-        }
+    match mode.verify_piece(message, text) {
+        Ok(()) => DONE,
+        Err(error) => status_of(error),
     }
 }
 
@@ -60,12 +62,14 @@ pub extern "C" fn fotsgure_gcm_accept(gcm: &Gcm, message: &mut Message, tag: &[u
     ensures out_of_turn { result ≡ OUT_OF_TURN ↔ (length tag.now ≡ 16) × (IsKeyLength gcm.now.key_length
         × ((phase_of message.old.phase ≢ Phase.Additional) × (phase_of message.old.phase ≢ Phase.Verifying))) }
     ensures accepted { let w = kept_round_keys gcm.now.key_length gcm.now.round_keys in
-        length tag.now ≡ 16 → IsKeyLength gcm.now.key_length → (iv a c : List ℕ) → IsVerifying w iv a c (message_in message.old)
+        length tag.now ≡ 16 → IsKeyLength gcm.now.key_length → (iv a c : List ℕ) → IsVerifying w iv a c message.old
         → result ≡ DONE ↔ (tag.now ≡ nist.tag w iv a c) }
     ensures refused { result ≢ DONE → result ≢ TAG_LENGTH → result ≢ NO_KEY → result ≢ OUT_OF_TURN → result ≡ REFUSED }
     ensures decrypting { let w = kept_round_keys gcm.now.key_length gcm.now.round_keys in
-        result ≡ DONE → (iv a c : List ℕ) → IsVerifying w iv a c (message_in message.old)
-        → IsDecrypting w iv (length c) [] (message_in message.new) }
+        result ≡ DONE → (iv a c : List ℕ) → IsVerifying w iv a c message.old
+        → IsDecrypting w iv (length c) [] message.new }
+    ensures phase { result ≡ DONE → phase_of message.new.phase ≡ Phase.Decrypting }
+    ensures text { result ≡ DONE → message.new.text ≡ message.old.text }
     ensures untouched { result ≢ DONE → message.new ≡ message.old }
 {
     if tag.len() != 16 {
@@ -76,23 +80,54 @@ pub extern "C" fn fotsgure_gcm_accept(gcm: &Gcm, message: &mut Message, tag: &[u
     }
     let cipher = cipher_of(gcm);
     let mode = LentGcm::new(&cipher, &gcm.multiples);
-    let mut kept = MustWipe::zeroed();
-    take(message, kept.value_mut());
     let mut claimed = [0; 16];
     claimed.copy_from_slice(tag);
-    match mode.accept(kept.value_mut(), &claimed) {
-        Ok(()) => {
-            put(kept.value(), message);
-            kept.wipe();
-            DONE
-        }
-        Err(error) => {
-            kept.wipe();
-            match error {
-                NotAccepted::OutOfTurn => OUT_OF_TURN,
-                NotAccepted::Refused => REFUSED,
-            }
-        }
+    match mode.accept(message, &claimed) {
+        Ok(()) => DONE,
+        Err(error) => status_of_refusal(error),
+    }
+}
+
+/// Compares a tag of fewer than 16 bytes, as `fotsgure_gcm_accept` one of 16: how many bytes all tags under the key have is
+/// fixed with the key (SP 800-38D, 5.2.1.2). Returns `TAG_LENGTH` if that isn't 4, 8 or 12 to 15, or if the tag has another
+/// length; `NO_KEY`, `OUT_OF_TURN` or `REFUSED`, the first of them that applies; and else `DONE`.
+#[unsafe(no_mangle)]
+pub extern "C" fn fotsgure_gcm_accept_short(
+    gcm: &Gcm,
+    message: &mut Message,
+    fixed_length: usize,
+    tag: &[u8],
+) -> u32
+    requires made { IsMade gcm.now.key_length gcm.now.round_keys gcm.now.multiples }
+    ensures tag_length { result ≡ TAG_LENGTH ↔ ¬ (IsShortTag fixed_length × (length tag.now ≡ fixed_length)) }
+    ensures no_key { result ≡ NO_KEY ↔ (IsShortTag fixed_length × (length tag.now ≡ fixed_length))
+        × ¬ IsKeyLength gcm.now.key_length }
+    ensures out_of_turn { result ≡ OUT_OF_TURN ↔ (IsShortTag fixed_length × (length tag.now ≡ fixed_length))
+        × (IsKeyLength gcm.now.key_length
+        × ((phase_of message.old.phase ≢ Phase.Additional) × (phase_of message.old.phase ≢ Phase.Verifying))) }
+    ensures accepted { let w = kept_round_keys gcm.now.key_length gcm.now.round_keys in
+        IsShortTag fixed_length → length tag.now ≡ fixed_length → IsKeyLength gcm.now.key_length
+        → (iv a c : List ℕ) → IsVerifying w iv a c message.old
+        → result ≡ DONE ↔ (tag.now ≡ nist.short_tag (length tag.now) w iv a c) }
+    ensures refused { result ≢ DONE → result ≢ TAG_LENGTH → result ≢ NO_KEY → result ≢ OUT_OF_TURN → result ≡ REFUSED }
+    ensures decrypting { let w = kept_round_keys gcm.now.key_length gcm.now.round_keys in
+        result ≡ DONE → (iv a c : List ℕ) → IsVerifying w iv a c message.old
+        → IsDecrypting w iv (length c) [] message.new }
+    ensures phase { result ≡ DONE → phase_of message.new.phase ≡ Phase.Decrypting }
+    ensures text { result ≡ DONE → message.new.text ≡ message.old.text }
+    ensures untouched { result ≢ DONE → message.new ≡ message.old }
+{
+    if !is_short_tag(fixed_length, tag) {
+        return TAG_LENGTH;
+    }
+    if !holds_key(gcm) {
+        return NO_KEY;
+    }
+    let cipher = cipher_of(gcm);
+    let mode = LentGcm::new(&cipher, &gcm.multiples);
+    match mode.accept_short(message, fixed_length, tag) {
+        Ok(()) => DONE,
+        Err(error) => status_of_refusal(error),
     }
 }
 
@@ -108,11 +143,11 @@ pub extern "C" fn fotsgure_gcm_decrypt(gcm: &Gcm, message: &mut Message, text: &
         × (message.old.decrypted + length text.old ≤ 2 ^ 36 - 32))) }
     ensures refused { result ≢ DONE → result ≢ NO_KEY → result ≢ OUT_OF_TURN → result ≡ TOO_LONG }
     ensures decrypted { let w = kept_round_keys gcm.now.key_length gcm.now.round_keys in
-        result ≡ DONE → (n : ℕ) (iv c : List ℕ) → IsDecrypting w iv n c (message_in message.old)
+        result ≡ DONE → (n : ℕ) (iv c : List ℕ) → IsDecrypting w iv n c message.old
         → nist.text w iv c ++ text.new ≡ nist.text w iv (c ++ text.old) }
     ensures added { let w = kept_round_keys gcm.now.key_length gcm.now.round_keys in
-        result ≡ DONE → (n : ℕ) (iv c : List ℕ) → IsDecrypting w iv n c (message_in message.old)
-        → IsDecrypting w iv n (c ++ text.old) (message_in message.new) }
+        result ≡ DONE → (n : ℕ) (iv c : List ℕ) → IsDecrypting w iv n c message.old
+        → IsDecrypting w iv n (c ++ text.old) message.new }
     ensures untouched { result ≢ DONE → message.new ≡ message.old }
     ensures untouched_text { result ≢ DONE → text.new ≡ text.old }
 {
@@ -121,18 +156,9 @@ pub extern "C" fn fotsgure_gcm_decrypt(gcm: &Gcm, message: &mut Message, text: &
     }
     let cipher = cipher_of(gcm);
     let mode = LentGcm::new(&cipher, &gcm.multiples);
-    let mut kept = MustWipe::zeroed();
-    take(message, kept.value_mut());
-    match mode.decrypt_piece(kept.value_mut(), text) {
-        Ok(()) => {
-            put(kept.value(), message);
-            kept.wipe();
-            DONE
-        }
-        Err(error) => {
-            kept.wipe();
-            status_of(error)
-        }
+    match mode.decrypt_piece(message, text) {
+        Ok(()) => DONE,
+        Err(error) => status_of(error),
     }
 }
 
@@ -153,11 +179,11 @@ pub extern "C" fn fotsgure_gcm_decrypt_unverified(
         × (message.old.text + length text.old ≤ 2 ^ 36 - 32)) }
     ensures refused { result ≢ DONE → result ≢ NO_KEY → result ≢ OUT_OF_TURN → result ≡ TOO_LONG }
     ensures decrypted { let w = kept_round_keys gcm.now.key_length gcm.now.round_keys in
-        result ≡ DONE → (iv a c : List ℕ) → IsVerifying w iv a c (message_in message.old)
+        result ≡ DONE → (iv a c : List ℕ) → IsVerifying w iv a c message.old
         → nist.text w iv c ++ text.new ≡ nist.text w iv (c ++ text.old) }
     ensures added { let w = kept_round_keys gcm.now.key_length gcm.now.round_keys in
-        result ≡ DONE → (iv a c : List ℕ) → IsVerifying w iv a c (message_in message.old)
-        → IsInText Phase.Verifying w iv a (c ++ text.old) (message_in message.new) }
+        result ≡ DONE → (iv a c : List ℕ) → IsVerifying w iv a c message.old
+        → IsInText Phase.Verifying w iv a (c ++ text.old) message.new }
     ensures untouched { result ≢ DONE → message.new ≡ message.old }
     ensures untouched_text { result ≢ DONE → text.new ≡ text.old }
 {
@@ -166,17 +192,8 @@ pub extern "C" fn fotsgure_gcm_decrypt_unverified(
     }
     let cipher = cipher_of(gcm);
     let mode = LentGcm::new(&cipher, &gcm.multiples);
-    let mut kept = MustWipe::zeroed();
-    take(message, kept.value_mut());
-    match mode.decrypt_unverified_piece(kept.value_mut(), text) {
-        Ok(()) => {
-            put(kept.value(), message);
-            kept.wipe();
-            DONE
-        }
-        Err(error) => {
-            kept.wipe();
-            status_of(error)
-        }
+    match mode.decrypt_unverified_piece(message, text) {
+        Ok(()) => DONE,
+        Err(error) => status_of(error),
     }
 }

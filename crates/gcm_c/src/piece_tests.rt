@@ -7,8 +7,9 @@ ghost use Rattle.gcm_c.specs.Kept.{IsMade};
 use super::published::{MESSAGE_16, MESSAGE_24, MESSAGE_32, Published};
 use super::tests::no_key;
 use super::{
-    DONE, Gcm, Message, NO_KEY, NONCE_LENGTH, OUT_OF_TURN, REFUSED, TAG_LENGTH, TOO_LONG,
-    fotsgure_gcm_accept, fotsgure_gcm_additional, fotsgure_gcm_begin, fotsgure_gcm_decrypt,
+    Counter, DONE, Gcm, Message, NO_KEY, NONCE_LENGTH, NONCES_END, OUT_OF_TURN, REFUSED,
+    TAG_LENGTH, TOO_LONG, fotsgure_gcm_accept, fotsgure_gcm_accept_short, fotsgure_gcm_additional,
+    fotsgure_gcm_begin, fotsgure_gcm_begin_next, fotsgure_gcm_decrypt,
     fotsgure_gcm_decrypt_unverified, fotsgure_gcm_encrypt, fotsgure_gcm_finish,
     fotsgure_gcm_set_key, fotsgure_gcm_verify, fotsgure_gcm_wipe,
 };
@@ -156,6 +157,75 @@ fn refuses_what_is_out_of_turn(rt: HostRuntime) {
         OUT_OF_TURN
     );
     assert!(rt; text == MESSAGE_16.cipher);
+}
+
+#[test]
+fn begins_under_the_next_nonce(rt: HostRuntime) {
+    let mut gcm = no_key();
+    let mut message: Message = Zeroize::zero();
+    let mut counter = Counter {
+        next: MESSAGE_16.nonce,
+    };
+    let mut nonce = [0; 12];
+    let mut text = MESSAGE_16.plain;
+    let mut tag = [0; 16];
+    assert_eq!(rt;
+        fotsgure_gcm_begin_next(&gcm, &mut message, &mut counter, &mut nonce),
+        NO_KEY
+    );
+    assert_eq!(rt; fotsgure_gcm_set_key(&mut gcm, &MESSAGE_16.key), DONE);
+    assert_eq!(rt;
+        fotsgure_gcm_begin_next(&gcm, &mut message, &mut counter, &mut nonce),
+        DONE
+    );
+    assert!(rt; nonce == MESSAGE_16.nonce);
+    // The last byte of that nonce is 0xc7.
+    nonce[11] = 0xc8;
+    assert!(rt; counter.next == nonce);
+    assert_eq!(rt;
+        fotsgure_gcm_additional(&gcm, &mut message, &MESSAGE_16.additional),
+        DONE
+    );
+    assert_eq!(rt; fotsgure_gcm_encrypt(&gcm, &mut message, &mut text), DONE);
+    assert_eq!(rt; fotsgure_gcm_finish(&gcm, &mut message, &mut tag), DONE);
+    assert!(rt; text == MESSAGE_16.cipher && tag == MESSAGE_16.tag.to_be_bytes());
+    counter.next = [0xff; 12];
+    assert_eq!(rt;
+        fotsgure_gcm_begin_next(&gcm, &mut message, &mut counter, &mut nonce),
+        NONCES_END
+    );
+}
+
+#[test]
+fn accepts_short_tags_of_the_fixed_length(rt: HostRuntime) {
+    let mut gcm = no_key();
+    let mut message: Message = Zeroize::zero();
+    let mut text = MESSAGE_16.cipher;
+    let mut tag = MESSAGE_16.tag.to_be_bytes();
+    let nonce = MESSAGE_16.nonce;
+    assert_eq!(rt; fotsgure_gcm_set_key(&mut gcm, &MESSAGE_16.key), DONE);
+    assert!(rt; begins(&gcm, &mut message, &nonce, &MESSAGE_16.additional, 48));
+    assert_eq!(rt; fotsgure_gcm_verify(&gcm, &mut message, &text), DONE);
+    assert_eq!(rt;
+        fotsgure_gcm_accept_short(&gcm, &mut message, 12, &tag[..8]),
+        TAG_LENGTH
+    );
+    assert_eq!(rt;
+        fotsgure_gcm_accept_short(&gcm, &mut message, 16, &tag),
+        TAG_LENGTH
+    );
+    tag[11] ^= 1;
+    assert_eq!(rt;
+        fotsgure_gcm_accept_short(&gcm, &mut message, 12, &tag[..12]),
+        REFUSED
+    );
+    tag[11] ^= 1;
+    assert_eq!(rt;
+        fotsgure_gcm_accept_short(&gcm, &mut message, 12, &tag[..12]),
+        DONE
+    );
+    assert_eq!(rt; fotsgure_gcm_decrypt(&gcm, &mut message, &mut text), DONE);
+    assert!(rt; text == MESSAGE_16.plain);
 }
 
 #[test]

@@ -2,16 +2,15 @@
 
 ghost use Rattle.std.specs.Prelude.{◌≡◌, ◌≢◌, ◌↔◌, ◌⊎◌, ◌+◌, ◌-◌, ◌/◌, ◌^◌, ◌≤◌, ℕ, List, ◌++◌, length};
 ghost use Rattle.gcm.specs.Gcm as nist;
-ghost use Rattle.gcm.specs.Pieces.{IsInText, IsEncrypting};
 ghost use Rattle.gcm.specs.declared.message.Phase.{Phase};
-ghost use Rattle.gcm_c.specs.Kept.{kept_round_keys, IsKeyLength, IsMade};
-ghost use Rattle.gcm_c.specs.Pieces.{message_in, no_message, phase_of};
+ghost use Rattle.c_calls.specs.Kept.{IsKeyLength};
+ghost use Rattle.gcm_c.specs.Kept.{kept_round_keys, IsMade};
+ghost use Rattle.gcm.specs.Pieces.{IsInText, IsEncrypting, no_message, phase_of};
 
 use crate::kept::{Gcm, cipher_of, holds_key};
-use crate::pieces::{Message, put, status_of, take};
+use crate::pieces::status_of;
 use crate::status::{DONE, NO_KEY, OUT_OF_TURN, TOO_LONG};
-use aes_cipher::zeroize::{MustWipe, Zeroize};
-use gcm::LentGcm;
+use gcm::{LentGcm, Message};
 
 /// Encrypts a piece of the text in place. Returns `NO_KEY`, `OUT_OF_TURN` or `TOO_LONG`, the first of them that applies,
 /// and else `DONE`.
@@ -26,11 +25,11 @@ pub extern "C" fn fotsgure_gcm_encrypt(gcm: &Gcm, message: &mut Message, text: &
         × (message.old.text + length text.old ≤ 2 ^ 36 - 32)) }
     ensures refused { result ≢ DONE → result ≢ NO_KEY → result ≢ OUT_OF_TURN → result ≡ TOO_LONG }
     ensures encrypted { let w = kept_round_keys gcm.now.key_length gcm.now.round_keys in
-        result ≡ DONE → (iv a p c : List ℕ) → IsEncrypting w iv a c (message_in message.old) → c ≡ nist.text w iv p
+        result ≡ DONE → (iv a p c : List ℕ) → IsEncrypting w iv a c message.old → c ≡ nist.text w iv p
         → c ++ text.new ≡ nist.text w iv (p ++ text.old) }
     ensures added { let w = kept_round_keys gcm.now.key_length gcm.now.round_keys in
-        result ≡ DONE → (iv a c : List ℕ) → IsEncrypting w iv a c (message_in message.old)
-        → IsInText Phase.Encrypting w iv a (c ++ text.new) (message_in message.new) }
+        result ≡ DONE → (iv a c : List ℕ) → IsEncrypting w iv a c message.old
+        → IsInText Phase.Encrypting w iv a (c ++ text.new) message.new }
     ensures untouched { result ≢ DONE → message.new ≡ message.old }
     ensures untouched_text { result ≢ DONE → text.new ≡ text.old }
 {
@@ -39,18 +38,9 @@ pub extern "C" fn fotsgure_gcm_encrypt(gcm: &Gcm, message: &mut Message, text: &
     }
     let cipher = cipher_of(gcm);
     let mode = LentGcm::new(&cipher, &gcm.multiples);
-    let mut kept = MustWipe::zeroed();
-    take(message, kept.value_mut());
-    match mode.encrypt_piece(kept.value_mut(), text) {
-        Ok(()) => {
-            put(kept.value(), message);
-            kept.wipe();
-            DONE
-        }
-        Err(error) => {
-            kept.wipe();
-            status_of(error)
-        }
+    match mode.encrypt_piece(message, text) {
+        Ok(()) => DONE,
+        Err(error) => status_of(error),
     }
 }
 
@@ -64,7 +54,7 @@ pub extern "C" fn fotsgure_gcm_finish(gcm: &Gcm, message: &mut Message, tag: &mu
         × ((phase_of message.old.phase ≢ Phase.Additional) × (phase_of message.old.phase ≢ Phase.Encrypting)) }
     ensures refused { result ≢ DONE → result ≢ NO_KEY → result ≡ OUT_OF_TURN }
     ensures tag { let w = kept_round_keys gcm.now.key_length gcm.now.round_keys in
-        result ≡ DONE → (iv a c : List ℕ) → IsEncrypting w iv a c (message_in message.old) → tag.new ≡ nist.tag w iv a c }
+        result ≡ DONE → (iv a c : List ℕ) → IsEncrypting w iv a c message.old → tag.new ≡ nist.tag w iv a c }
     ensures over { result ≡ DONE → message.new ≡ no_message }
     ensures untouched { result ≢ DONE → message.new ≡ message.old }
     ensures untouched_tag { result ≢ DONE → tag.new ≡ tag.old }
@@ -74,17 +64,11 @@ pub extern "C" fn fotsgure_gcm_finish(gcm: &Gcm, message: &mut Message, tag: &mu
     }
     let cipher = cipher_of(gcm);
     let mode = LentGcm::new(&cipher, &gcm.multiples);
-    let mut kept = MustWipe::zeroed();
-    take(message, kept.value_mut());
-    match mode.finish(kept.value_mut()) {
+    match mode.finish(message) {
         Ok(made) => {
             *tag = made;
-            message.zeroize();
             DONE
         }
-        Err(_) => {
-            kept.wipe();
-            OUT_OF_TURN
-        }
+        Err(_) => OUT_OF_TURN,
     }
 }

@@ -2,13 +2,11 @@
 
 ghost use Rattle.std.specs.Prelude.{◌≡◌, ◌≢◌, ◌↔◌, ◌-◌, ◌/◌, ◌^◌, ◌<◌, ◌≤◌, length};
 ghost use Rattle.gcm.specs.Gcm as nist;
-ghost use Rattle.gcm_c.specs.Kept.{kept_round_keys, IsKeyLength, IsMade, IsNonceLength, IsTooLong};
+ghost use Rattle.c_calls.specs.Kept.{IsKeyLength};
+ghost use Rattle.gcm_c.specs.Kept.{kept_round_keys, IsMade, IsNonceLength, IsTooLong};
 
-use crate::Chosen;
-use crate::kept::{Gcm, holds_key, keys_of};
+use crate::kept::{Gcm, cipher_of, holds_key};
 use crate::status::{DONE, NO_KEY, NONCE_LENGTH, REFUSED, TAG_LENGTH, TOO_LONG};
-use aes_hybrid::lent::Lent;
-use aes_planes::soft::word::Block;
 use gcm::LentGcm;
 
 // How many bytes of text a message has at most, and how many of additional data or of a nonce (SP 800-38D, 5.2.1.1).
@@ -64,15 +62,10 @@ pub extern "C" fn fotsgure_gcm_seal(
     if status != DONE {
         return status;
     }
-    let cipher = Lent::<Chosen>::new(keys_of(&gcm.round_keys, gcm.key_length as usize));
+    let cipher = cipher_of(gcm);
     let mode = LentGcm::new(&cipher, &gcm.multiples);
-    match mode.encrypt(nonce, additional, text) {
-        Ok(made) => {
-            *tag = made;
-            DONE
-        }
-        Err(_) => TOO_LONG,
-    }
+    *tag = mode.seal(nonce, additional, text);
+    DONE
 }
 
 /// Decrypts a text in place if the tag is right (SP 800-38D, 7.2). The tag is compared before anything is decrypted, and
@@ -112,7 +105,7 @@ pub extern "C" fn fotsgure_gcm_open(
     }
     let mut claimed = [0; 16];
     claimed.copy_from_slice(tag);
-    let cipher = Lent::<Chosen>::new(keys_of(&gcm.round_keys, gcm.key_length as usize));
+    let cipher = cipher_of(gcm);
     let mode = LentGcm::new(&cipher, &gcm.multiples);
     match mode.decrypt(nonce, additional, text, &claimed) {
         Ok(()) => DONE,

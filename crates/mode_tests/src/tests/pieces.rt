@@ -5,7 +5,7 @@ ghost use Rattle.std.specs.Prelude.{◌<◌, ◌≤◌};
 use aes_cipher::cipher::{Block, KeyInit};
 use aes_cipher::zeroize::Wiped;
 use aes_hybrid::Aes128Enc;
-use gcm::{Gcm, InvalidMessage, InvalidPiece, LentGcm, Message, NotAccepted, OutOfTurn};
+use gcm::{Counter, Gcm, InvalidMessage, InvalidPiece, LentGcm, Message, NotAccepted, OutOfTurn};
 use std::test::Fail;
 
 // The bytes 0, 7, 14 and so on, modulo 256: a nonce, additional data, or a text.
@@ -131,6 +131,51 @@ fn agrees_however_cut(rt: HostRuntime) {
     assert!(rt; agrees(&mode.lent(), &bytes[..60], &[], &bytes, 100));
 }
 
+// SP 800-38D, 5.2.1.2: of 4, 8 and 12 to 15 bytes, each the first ones of the tag of 16.
+#[test]
+fn accepts_short_tags_of_the_fixed_length(rt: HostRuntime) {
+    let bytes = bytes();
+    let keys = Gcm::new(Aes128Enc::new(&[3; 16]));
+    let mode = keys.lent();
+    let mut room = Wiped::zeroed();
+    let message: &mut Message = room.value_mut();
+    let mut text = bytes;
+    let tag = mode.seal(&bytes[..12], &bytes[..20], &mut text);
+    for length in 0..17 {
+        let is_allowed = [4, 8, 12, 13, 14, 15].contains(&length);
+        let mut other = tag;
+        other[length / 2] ^= 1;
+        let right = begins(&mode, message, &bytes[..12], &bytes[..20], 20)
+            && goes_on(&mode, message, &Work::Verify, &mut text, 100)
+            && mode.accept_short(message, length, &tag[..3]) == Err(NotAccepted::Refused)
+            && mode.accept_short(message, length, &other[..length]) == Err(NotAccepted::Refused)
+            && mode.accept_short(message, length, &tag[..length]).is_ok() == is_allowed;
+        assert!(rt; right);
+    }
+}
+
+#[test]
+fn begins_under_the_next_nonce(rt: HostRuntime) {
+    let keys = Gcm::new(Aes128Enc::new(&[3; 16]));
+    let mode = keys.lent();
+    let mut room = Wiped::zeroed();
+    let message: &mut Message = room.value_mut();
+    let mut counter = Counter {
+        next: [0, 0, 0, 7, 0xff, 0xff, 0xff, 0xff, 0xff, 0xff, 0xff, 0xff],
+    };
+    let used = counter.next;
+    let mut text = bytes();
+    let mut whole = text;
+    assert!(rt; !counter.is_over());
+    assert!(rt; mode.begin_next(message, &mut counter) == used);
+    assert!(rt; counter.next == [0, 0, 0, 8, 0, 0, 0, 0, 0, 0, 0, 0]);
+    assert!(rt; mode.encrypt_piece(message, &mut text) == Ok(()));
+    assert!(rt; mode.finish(message) == Ok(mode.seal(&used, &[], &mut whole)));
+    assert!(rt; text == whole);
+    counter.next = [0xff; 12];
+    assert!(rt; counter.is_over());
+}
+
 #[test]
 fn refuses_what_is_out_of_turn(rt: HostRuntime) {
     let keys = Gcm::new(Aes128Enc::new(&[3; 16]));
@@ -149,5 +194,5 @@ fn refuses_what_is_out_of_turn(rt: HostRuntime) {
     assert!(rt; mode.accept(message, &[0; 16]) == Err(NotAccepted::OutOfTurn));
     assert!(rt; mode.finish(message).is_ok());
     assert!(rt; mode.encrypt_piece(message, &mut text) == Err(InvalidPiece::OutOfTurn));
-    assert!(rt; message.first == [0; 16] && message.value == 0 && message.rest == [0; 16]);
+    assert!(rt; message.first == [0; 16] && message.value == [0; 16] && message.rest == [0; 16]);
 }

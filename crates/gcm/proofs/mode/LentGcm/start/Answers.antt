@@ -1,16 +1,16 @@
--- What is left to show of `mode::LentGcm::begin`.
+-- What is left to show of `mode::LentGcm::start`.
 use Rattle.std.proofs.Common.{arith, refl}
 use Rattle.gcm.specs.Gcm.{hashed}
-use Rattle.gcm.proofs.mode.LentGcm.begin.Goals as goal
+use Rattle.gcm.proofs.mode.LentGcm.start.Goals as goal
 
 pub returns-clause-begun : goal.returns-clause-begun
 unfolding hashed
 returns-clause-begun g c =
     record {
-      phase = refl;
+      phase = c.number_of-message.ensures;
       first = c.put_pre_counter.ensures;
       additional = refl;
       short = omega arith;
       text = refl;
-      hashing = record { value = refl; rest = refl };
+      hashing = record { value = c.block_of_number-message.ensures.back; rest = refl };
     }
