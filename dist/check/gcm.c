@@ -1,7 +1,7 @@
 /* The library of GCM from C: test cases 1 to 4, 13 and 16 of the submission of GCM (McGrew and Viega, appendix B), and
  * nonces under which the counter wraps; texts of 0 to 700 bytes there and back, and beside OpenSSL with WITH_OPENSSL;
  * every status; that nothing is written after a refusal; NULL with a length of 0; counted nonces; messages in pieces,
- * cut in many ways and out of turn; the wipe. The last line is `N passed, N failed`. */
+ * cut in many ways and out of turn; short tags; what a shorter key leaves; the wipe. The last line is `N passed, N failed`. */
 #include <fotsgure_gcm.h>
 
 #ifdef WITH_OPENSSL
@@ -280,6 +280,76 @@ static int cut(const struct fotsgure_gcm *gcm, const uint8_t *nonce, size_t nonc
     return right && all(&message, sizeof message, 0);
 }
 
+/* Messages in pieces under counted nonces, with a carry, up to the end of the counter. */
+static void counted_pieces(const struct fotsgure_gcm *gcm, const struct fotsgure_gcm *none)
+{
+    struct fotsgure_gcm_message message, before;
+    struct fotsgure_gcm_counter counter = {{0}};
+    uint8_t nonce[12];
+    memset(counter.next + 9, 0xff, 3);
+    memset(text, 1, 5);
+    memset(sealed, 1, 5);
+    memset(&message, 6, sizeof message);
+    before = message;
+    memset(nonce, 2, 12);
+    expect(fotsgure_gcm_begin_next(none, &message, &counter, nonce) == FOTSGURE_GCM_NO_KEY && counter.next[11] == 0xff &&
+        all(nonce, 12, 2) && memcmp(&message, &before, sizeof message) == 0, "begin_next", 0);
+    expect(fotsgure_gcm_begin_next(gcm, &message, &counter, nonce) == FOTSGURE_GCM_DONE && all(nonce, 9, 0) &&
+        all(nonce + 9, 3, 0xff) && all(counter.next, 8, 0) && counter.next[8] == 1 && all(counter.next + 9, 3, 0),
+        "begin_next", 1);
+    expect(fotsgure_gcm_encrypt(gcm, &message, text, 2) == FOTSGURE_GCM_DONE &&
+        fotsgure_gcm_encrypt(gcm, &message, text + 2, 3) == FOTSGURE_GCM_DONE &&
+        fotsgure_gcm_finish(gcm, &message, tag) == FOTSGURE_GCM_DONE &&
+        fotsgure_gcm_seal(gcm, nonce, 12, NULL, 0, sealed, 5, wanted) == FOTSGURE_GCM_DONE &&
+        memcmp(text, sealed, 5) == 0 && memcmp(tag, wanted, 16) == 0, "begin_next", 2);
+    memset(counter.next, 0xff, 12);
+    expect(fotsgure_gcm_begin_next(none, &message, &counter, nonce) == FOTSGURE_GCM_NONCES_END, "begin_next", 3);
+}
+
+/* Short tags: each length beside each that is fixed, right ones and ones with a bit changed. */
+static void short_tags(const struct fotsgure_gcm *gcm)
+{
+    struct fotsgure_gcm_message message;
+    uint8_t nonce[12] = {8}, other[16];
+    memcpy(text, plain, 20);
+    if (fotsgure_gcm_seal(gcm, nonce, 12, additional, 7, text, 20, tag) != FOTSGURE_GCM_DONE)
+        abort();
+    for (size_t fixed = 0; fixed <= 17; fixed++) {
+        int allowed = fixed == 4 || fixed == 8 || (fixed >= 12 && fixed <= 15);
+        for (size_t length = 0; length <= 16; length++) {
+            int right = fotsgure_gcm_begin(gcm, &message, nonce, 12) == FOTSGURE_GCM_DONE &&
+                fotsgure_gcm_additional(gcm, &message, additional, 7) == FOTSGURE_GCM_DONE &&
+                fotsgure_gcm_verify(gcm, &message, text, 20) == FOTSGURE_GCM_DONE;
+            memcpy(other, tag, 16);
+            other[length / 2] ^= 4;
+            enum fotsgure_gcm_status refused = fotsgure_gcm_accept_short(gcm, &message, fixed, other, length);
+            enum fotsgure_gcm_status accepted = fotsgure_gcm_accept_short(gcm, &message, fixed, tag, length);
+            enum fotsgure_gcm_status decrypted = fotsgure_gcm_decrypt(gcm, &message, NULL, 0);
+            expect(right && (allowed && length == fixed
+                ? refused == FOTSGURE_GCM_REFUSED && accepted == FOTSGURE_GCM_DONE && decrypted == FOTSGURE_GCM_DONE
+                : refused == FOTSGURE_GCM_TAG_LENGTH && accepted == FOTSGURE_GCM_TAG_LENGTH &&
+                    decrypted == FOTSGURE_GCM_OUT_OF_TURN), "a short tag", 100 * fixed + length);
+        }
+    }
+    fotsgure_gcm_wipe_message(&message);
+}
+
+/* A struct that held a longer key and then a shorter one has nothing of the longer one behind the shorter one's blocks. */
+static void shorter_key(void)
+{
+    uint8_t key[32];
+    memset(key, 0x5b, sizeof key);
+    for (size_t length = 16; length <= 24; length += 8) {
+        struct fotsgure_gcm gcm;
+        size_t used = 16 * (length / 4 + 7);
+        memset(&gcm, 0xa5, sizeof gcm);
+        expect(fotsgure_gcm_set_key(&gcm, key, 32) == FOTSGURE_GCM_DONE &&
+            fotsgure_gcm_set_key(&gcm, key, length) == FOTSGURE_GCM_DONE &&
+            all(gcm.round_keys + used, sizeof gcm.round_keys - used, 0), "behind a shorter key", length);
+        fotsgure_gcm_wipe(&gcm);
+    }
+}
+
 /* What each call on a message answers in each phase: additional, encrypt, finish, verify, accept, decrypt. */
 static void out_of_turn(const struct fotsgure_gcm *gcm)
 {
@@ -345,6 +415,9 @@ static void pieces(void)
             expect(cut(&gcm, nonce, piece % 2 ? 12 : 1 + length % 60, piece, length * 7 % 200, length), "cut", length);
     out_of_turn(&gcm);
     wraps_in_pieces();
+    counted_pieces(&gcm, &none);
+    short_tags(&gcm);
+    shorter_key();
     if (fotsgure_gcm_begin(&gcm, &message, nonce, 12) != FOTSGURE_GCM_DONE)
         abort();
     before = message;

@@ -80,7 +80,7 @@ enum fotsgure_gcm_status {
     FOTSGURE_GCM_KEY_LENGTH = 1,   /* the key doesn't have 16, 24 or 32 bytes */
     FOTSGURE_GCM_NO_KEY = 2,       /* the struct holds no key */
     FOTSGURE_GCM_NONCE_LENGTH = 3, /* the nonce is empty, or has 2^61 bytes or more */
-    FOTSGURE_GCM_TAG_LENGTH = 4,   /* the tag doesn't have 16 bytes */
+    FOTSGURE_GCM_TAG_LENGTH = 4,   /* the tag doesn't have 16 bytes, or as many as are fixed */
     FOTSGURE_GCM_TOO_LONG = 5,     /* more text or additional data than the standard allows, or more text to decrypt
                                     * than was verified */
     FOTSGURE_GCM_REFUSED = 6,      /* the tag isn't that of this key, nonce, additional data and text */
@@ -155,8 +155,8 @@ FOTSGURE_GCM_CHECK enum fotsgure_gcm_status fotsgure_gcm_seal_next(const struct 
     uint8_t *FOTSGURE_GCM_ALONE text, size_t text_length,
     uint8_t tag[FOTSGURE_GCM_TAG]) FOTSGURE_GCM_NOEXCEPT;
 
-/* Decrypts `text_length` bytes in place if the tag is right (7.2). The tag is compared before anything is decrypted: a
- * text that is refused stays as it was, and no plain text of a forged message ever exists.
+/* Decrypts `text_length` bytes in place if the tag is right (7.2). It is proved that a text that is refused is, when the
+ * call returns, as it was. That the tag is compared before anything is decrypted is read in the source, not proved.
  * TAG_LENGTH, NONCE_LENGTH, TOO_LONG, NO_KEY or REFUSED; else DONE. */
 FOTSGURE_GCM_CHECK enum fotsgure_gcm_status fotsgure_gcm_open(const struct fotsgure_gcm *gcm,
     const uint8_t *nonce, size_t nonce_length,
@@ -170,17 +170,24 @@ FOTSGURE_GCM_CHECK enum fotsgure_gcm_status fotsgure_gcm_open(const struct fotsg
  *   to decrypt: begin, additional .., verify .., accept, and then decrypt .., with the same cipher text once more
  *
  * A call that comes out of turn is refused and changes nothing, and so is one that would make the message longer than
- * the standard allows. Nothing of a message is decrypted before its tag is found right, unless you ask for it by
- * fotsgure_gcm_decrypt_unverified. A message may be given up at any time; wipe it when you are done. Once some of its
+ * the standard allows. fotsgure_gcm_decrypt decrypts only after a call has found the tag right;
+ * fotsgure_gcm_decrypt_unverified doesn't wait for it. A message may be given up at any time; wipe it when you are done. Once some of its
  * text was encrypted, its nonce is used, even if the message was never finished: begin anew under another one. */
 
 /* Begins a message under a nonce, which has any length. *message may be uninitialized: none of it is read, and nothing
  * of what it held is left. A refused call leaves it as it was. It moves no counter: never give it the `next` of a
- * counter that fotsgure_gcm_seal_next goes on with.
+ * counter that other calls go on with, but take fotsgure_gcm_begin_next.
  * NONCE_LENGTH or NO_KEY; else DONE. */
 FOTSGURE_GCM_CHECK enum fotsgure_gcm_status fotsgure_gcm_begin(const struct fotsgure_gcm *gcm,
     struct fotsgure_gcm_message *FOTSGURE_GCM_ALONE message,
     const uint8_t *nonce, size_t nonce_length) FOTSGURE_GCM_NOEXCEPT;
+
+/* The same under the counter's next nonce, which it writes to `nonce`; the counter then moves on by one. Store it before
+ * anything of the message is sent, as after fotsgure_gcm_seal_next.
+ * NONCES_END or NO_KEY; else DONE. */
+FOTSGURE_GCM_CHECK enum fotsgure_gcm_status fotsgure_gcm_begin_next(const struct fotsgure_gcm *gcm,
+    struct fotsgure_gcm_message *FOTSGURE_GCM_ALONE message, struct fotsgure_gcm_counter *FOTSGURE_GCM_ALONE counter,
+    uint8_t nonce[FOTSGURE_GCM_NONCE]) FOTSGURE_GCM_NOEXCEPT;
 
 /* Takes a piece of the additional data, all of which comes before the text.
  * NO_KEY, OUT_OF_TURN or TOO_LONG; else DONE. */
@@ -211,6 +218,14 @@ FOTSGURE_GCM_CHECK enum fotsgure_gcm_status fotsgure_gcm_verify(const struct fot
  * TAG_LENGTH, NO_KEY, OUT_OF_TURN or REFUSED; else DONE. */
 FOTSGURE_GCM_CHECK enum fotsgure_gcm_status fotsgure_gcm_accept(const struct fotsgure_gcm *gcm,
     struct fotsgure_gcm_message *FOTSGURE_GCM_ALONE message,
+    const uint8_t *tag, size_t tag_length) FOTSGURE_GCM_NOEXCEPT;
+
+/* Compares a tag of fewer than 16 bytes in the place of fotsgure_gcm_accept: of 4, 8 or 12 to 15 (5.2.1.2). `fixed_length`
+ * is how many bytes all tags under the key have. It is fixed with the key: never take it from a message, or whoever
+ * forges one chooses how few bytes have to be right. For 4 and 8 bytes read appendix C first.
+ * TAG_LENGTH if fixed_length is another number, or tag_length another than fixed_length; then as fotsgure_gcm_accept. */
+FOTSGURE_GCM_CHECK enum fotsgure_gcm_status fotsgure_gcm_accept_short(const struct fotsgure_gcm *gcm,
+    struct fotsgure_gcm_message *FOTSGURE_GCM_ALONE message, size_t fixed_length,
     const uint8_t *tag, size_t tag_length) FOTSGURE_GCM_NOEXCEPT;
 
 /* Decrypts a piece in place of the encrypted text whose tag was right: give the same text once more, from its beginning
@@ -298,6 +313,12 @@ FOTSGURE_GCM_CHECK static inline enum fotsgure_gcm_status fotsgure_gcm_not_null_
 {
     return fotsgure_gcm_accept(gcm, message, fotsgure_gcm_not_null(tag), tag_length);
 }
+FOTSGURE_GCM_CHECK static inline enum fotsgure_gcm_status fotsgure_gcm_not_null_accept_short(
+    const struct fotsgure_gcm *gcm, struct fotsgure_gcm_message *message, size_t fixed_length, const uint8_t *tag,
+    size_t tag_length) FOTSGURE_GCM_NOEXCEPT
+{
+    return fotsgure_gcm_accept_short(gcm, message, fixed_length, fotsgure_gcm_not_null(tag), tag_length);
+}
 FOTSGURE_GCM_CHECK static inline enum fotsgure_gcm_status fotsgure_gcm_not_null_decrypt(
     const struct fotsgure_gcm *gcm, struct fotsgure_gcm_message *message, uint8_t *text,
     size_t text_length) FOTSGURE_GCM_NOEXCEPT
@@ -320,6 +341,7 @@ FOTSGURE_GCM_CHECK static inline enum fotsgure_gcm_status fotsgure_gcm_not_null_
 #define fotsgure_gcm_encrypt(...) fotsgure_gcm_not_null_encrypt(__VA_ARGS__)
 #define fotsgure_gcm_verify(...) fotsgure_gcm_not_null_verify(__VA_ARGS__)
 #define fotsgure_gcm_accept(...) fotsgure_gcm_not_null_accept(__VA_ARGS__)
+#define fotsgure_gcm_accept_short(...) fotsgure_gcm_not_null_accept_short(__VA_ARGS__)
 #define fotsgure_gcm_decrypt(...) fotsgure_gcm_not_null_decrypt(__VA_ARGS__)
 #define fotsgure_gcm_decrypt_unverified(...) fotsgure_gcm_not_null_decrypt_unverified(__VA_ARGS__)
 
