@@ -1,34 +1,33 @@
-//! The names of the nine types. With `Wide` as their parameter they process sixteen blocks at a time too, in builds for a
-//! processor that has vectors of 256 bits. Contracts are the same.
+//! The names of the nine types, on words of 128 bits. Of other widths a type is named by its form: `BothLists<K, W>`, or
+//! `Encrypting<K, W>`.
 
 use crate::ciphers::{BothLists, Encrypting};
-use crate::widths::Narrow;
 use aes_cipher::aes::{AesCipher, Bits128, Bits192, Bits256, BothWays};
 use aes_cipher::cipher::{Decrypt, Encrypt};
 
 /// AES with a key of 16 bytes, for encryption and decryption.
-pub type Aes128<W = Narrow> = AesCipher<BothLists<Bits128, W>, BothWays>;
+pub type Aes128 = AesCipher<BothLists<Bits128>, BothWays>;
 
 /// AES with a key of 16 bytes, for encryption only.
-pub type Aes128Enc<W = Narrow> = AesCipher<Encrypting<Bits128, W>, Encrypt>;
+pub type Aes128Enc = AesCipher<Encrypting<Bits128>, Encrypt>;
 
 /// AES with a key of 16 bytes, for decryption only. It keeps the round keys of Cipher too, of which planes are made.
-pub type Aes128Dec<W = Narrow> = AesCipher<BothLists<Bits128, W>, Decrypt>;
+pub type Aes128Dec = AesCipher<BothLists<Bits128>, Decrypt>;
 
 /// AES with a key of 24 bytes, for encryption and decryption.
-pub type Aes192<W = Narrow> = AesCipher<BothLists<Bits192, W>, BothWays>;
+pub type Aes192 = AesCipher<BothLists<Bits192>, BothWays>;
 
 /// AES with a key of 24 bytes, for encryption only.
-pub type Aes192Enc<W = Narrow> = AesCipher<Encrypting<Bits192, W>, Encrypt>;
+pub type Aes192Enc = AesCipher<Encrypting<Bits192>, Encrypt>;
 
 /// AES with a key of 24 bytes, for decryption only. It keeps the round keys of Cipher too, of which planes are made.
-pub type Aes192Dec<W = Narrow> = AesCipher<BothLists<Bits192, W>, Decrypt>;
+pub type Aes192Dec = AesCipher<BothLists<Bits192>, Decrypt>;
 
 /// AES with a key of 32 bytes, for encryption and decryption.
-pub type Aes256<W = Narrow> = AesCipher<BothLists<Bits256, W>, BothWays>;
+pub type Aes256 = AesCipher<BothLists<Bits256>, BothWays>;
 
 /// AES with a key of 32 bytes, for encryption only.
-pub type Aes256Enc<W = Narrow> = AesCipher<Encrypting<Bits256, W>, Encrypt>;
+pub type Aes256Enc = AesCipher<Encrypting<Bits256>, Encrypt>;
 
 /// AES with a key of 32 bytes, for decryption only. It keeps the round keys of Cipher too, of which planes are made.
-pub type Aes256Dec<W = Narrow> = AesCipher<BothLists<Bits256, W>, Decrypt>;
+pub type Aes256Dec = AesCipher<BothLists<Bits256>, Decrypt>;
