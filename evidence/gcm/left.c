@@ -70,6 +70,7 @@ static void open(void)
 {
     done(fotsgure_gcm_open(&kept, nonce, nonce_length, additional, extra, text, length, expected, 16));
 }
+/* The tag that is given is all zeros, so that its difference from the right one is the right one. */
 static void open_refused(void)
 {
     static uint8_t other[16];
