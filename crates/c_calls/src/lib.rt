@@ -4,8 +4,10 @@
 #![tactic(auto)]
 
 pub mod blocks;
+pub mod chains;
 pub mod examples;
 pub mod kept;
 pub mod once;
 pub mod status;
 pub mod stream;
+pub mod wrapping;

@@ -1,0 +1,65 @@
+//! Key wrap under the key of a struct.
+
+ghost use Rattle.std.specs.Prelude.{◌≡◌, ◌≢◌, ◌↔◌, ◌∷◌, [], length, replicate, slice_index_or};
+ghost use Rattle.aes_planes.specs.Fips197 as fips;
+ghost use Rattle.key_wrap.specs.KeyWrap.{integrity_check, unwrapped, wrapped, Fit};
+ghost use Rattle.c_calls.specs.Kept.{kept_key, IsKeyLength, IsMade};
+
+use crate::kept::{Aes, holds_key, keys_of};
+use crate::status::{DONE, INVALID_COUNT, NO_KEY, REFUSED};
+use aes_hybrid::lent::Lent;
+use aes_hybrid::lent_both::LentBoth;
+use aes_hybrid::widths::Width;
+use key_wrap::{NotUnwrapped, Semiblock, unwrap, wrap};
+
+/// Wraps a key from one buffer to another (KW-AE, SP 800-38F, 6.2). Returns `NO_KEY` exactly if the struct holds no key,
+/// else `INVALID_COUNT` if the key has fewer than two semiblocks or too many, or the output isn't one longer, and `DONE`
+/// in all other cases.
+pub fn wrap_under<W: Width>(aes: &Aes, key: &[Semiblock], output: &mut [Semiblock]) -> u32
+    requires made { IsMade aes.now.key_length aes.now.encrypting aes.now.decrypting }
+    ensures no_key { result ≡ NO_KEY ↔ ¬ IsKeyLength aes.now.key_length }
+    ensures done { result ≡ DONE ↔ IsKeyLength aes.now.key_length × Fit (length key.now) (length output.old) }
+    ensures invalid { result ≢ DONE → result ≢ NO_KEY → result ≡ INVALID_COUNT }
+    ensures wrapped { let w = fips.key_expansion (kept_key aes.now.key_length aes.now.encrypting) in
+        result ≡ DONE → output.new ≡ wrapped w key.now }
+    ensures untouched { result ≢ DONE → output.new ≡ output.old }
+{
+    if !holds_key(aes) {
+        return NO_KEY;
+    }
+    let keys = keys_of(&aes.encrypting, aes.key_length as usize);
+    match wrap(&Lent::<W>::new(keys), key, output) {
+        Ok(()) => DONE,
+        Err(_) => INVALID_COUNT,
+    }
+}
+
+/// Unwraps a key from one buffer to another (KW-AD, SP 800-38F, 6.2). Returns `NO_KEY` exactly if the struct holds no key,
+/// else `INVALID_COUNT` if no key becomes so many semiblocks, or the output isn't one shorter, else `REFUSED` if the key
+/// was not wrapped under this one, and `DONE` in all other cases. After `REFUSED` the output is zeros.
+pub fn unwrap_under<W: Width>(aes: &Aes, sealed: &[Semiblock], output: &mut [Semiblock]) -> u32
+    requires made { IsMade aes.now.key_length aes.now.encrypting aes.now.decrypting }
+    ensures no_key { result ≡ NO_KEY ↔ ¬ IsKeyLength aes.now.key_length }
+    ensures invalid { result ≡ INVALID_COUNT
+        ↔ IsKeyLength aes.now.key_length × (¬ Fit (length output.old) (length sealed.now)) }
+    ensures done { let w = fips.key_expansion (kept_key aes.now.key_length aes.now.encrypting) in result ≡ DONE
+        ↔ IsKeyLength aes.now.key_length × (Fit (length output.old) (length sealed.now)
+        × (slice_index_or (unwrapped w sealed.now) 0 [] ≡ integrity_check)) }
+    ensures refused { result ≢ DONE → result ≢ NO_KEY → result ≢ INVALID_COUNT → result ≡ REFUSED }
+    ensures key { let w = fips.key_expansion (kept_key aes.now.key_length aes.now.encrypting) in
+        result ≡ DONE → integrity_check ∷ output.new ≡ unwrapped w sealed.now }
+    ensures zeros { result ≡ REFUSED → output.new ≡ replicate (length output.old) (replicate 8 0) }
+    ensures untouched { result ≢ DONE → result ≢ REFUSED → output.new ≡ output.old }
+{
+    if !holds_key(aes) {
+        return NO_KEY;
+    }
+    let length = aes.key_length as usize;
+    let keys = keys_of(&aes.encrypting, length);
+    let inverse = keys_of(&aes.decrypting, length);
+    match unwrap(&LentBoth::<W>::new(keys, inverse), sealed, output) {
+        Ok(()) => DONE,
+        Err(NotUnwrapped::InvalidCount) => INVALID_COUNT,
+        Err(NotUnwrapped::Refused) => REFUSED,
+    }
+}
