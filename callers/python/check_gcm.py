@@ -85,6 +85,16 @@ expect(raises(ValueError, Gcm, KEY, bytes(13)), "a counter of another length")
 expect(raises(ValueError, Gcm, KEY[1:]), "a key of another length")
 expect(VERSION == 300, "the version")
 
+# Pieces under the counter's next nonce.
+with Gcm(KEY, bytes(11) + b"\xff") as gcm:
+    nonce, message = gcm.begin_next()
+    expect(nonce == bytes(11) + b"\xff" and gcm.counter == bytes(10) + b"\x01\0", "begin_next counts on")
+    with message:
+        sealed = message.encrypt(PLAIN[:7]) + message.encrypt(PLAIN[7:])
+        expect(gcm.open(nonce, sealed + message.finish()) == PLAIN, "begin_next seals under that nonce")
+expect(raises(ValueError, Gcm(KEY, b"\xff" * 12).begin_next), "no nonce is left to begin")
+expect(raises(ValueError, Gcm(KEY).begin_next), "no counter to begin")
+
 # Text is decrypted before its tag is compared only by the call that says so.
 with Gcm(KEY) as gcm:
     sealed, tag = bytes.fromhex(CASES[1][4])[:-16], bytes.fromhex(CASES[1][4])[-16:]
@@ -124,7 +134,8 @@ expect(gcm.open(words[:3], bytearray(gcm.seal(text[:12], text)), memoryview(b"")
 # A counter is of one process: a child that was forked may not go on with it.
 child = os.fork()
 if child == 0:
-    os._exit(0 if raises(ValueError, gcm.seal_next, PLAIN) and gcm.seal(NONCE, PLAIN) else 1)
+    refused = raises(ValueError, gcm.seal_next, PLAIN) and raises(ValueError, gcm.begin_next)
+    os._exit(0 if refused and gcm.seal(NONCE, PLAIN) else 1)
 expect(os.waitpid(child, 0)[1] == 0, "a forked child has no counter, and seals under a nonce of its own")
 expect(gcm.seal_next(PLAIN)[0] == bytes(12), "the parent goes on")
 

@@ -8,6 +8,7 @@
         with gcm.begin(nonce) as message:               a message in pieces: message.additional(bytes), and then
             message.encrypt(bytes) .., message.finish() the tag, or
             message.verify(bytes) .., message.accept(tag), message.decrypt(bytes) ..    the same text in both passes
+        nonce, message = gcm.begin_next()               under the next nonce
 
 A key is os.urandom(32), kept where nobody else reads it; a password is none. No nonce may be used twice under a key.
 Random ones have 12 bytes or more; if any nonce of a key is random or has another length than 12 bytes, take a new key
@@ -51,6 +52,7 @@ _c = load("fotsgure_gcm", 3, [
     ("seal_next", [_key, _counter, ctypes.c_void_p, *_read, *_written, _tag], _status),
     ("open", [_key, *_read, *_read, *_written, *_read], _status),
     ("begin", [_key, _message, *_read], _status),
+    ("begin_next", [_key, _message, _counter, ctypes.c_void_p], _status),
     ("additional", [_key, _message, *_read], _status),
     ("encrypt", [_key, _message, *_written], _status),
     ("finish", [_key, _message, _tag], _status),
@@ -134,6 +136,14 @@ class Gcm:
         nonce, message = bytes_of(nonce), Message(self)
         _check(_c.fotsgure_gcm_begin(self._key, message._message, nonce, len(nonce)))
         return message
+
+    def begin_next(self) -> Tuple[bytes, "Message"]:
+        """Begins a message in pieces under the counter's next nonce, and returns both. Store the counter before anything
+        of the message is sent."""
+        nonce, message = room(bytes(12)), Message(self)
+        with self._counting() as counter:
+            _check(_c.fotsgure_gcm_begin_next(self._key, message._message, counter, nonce))
+        return written(nonce, 12), message
 
     def wipe(self) -> None:
         _c.fotsgure_gcm_wipe(self._key)
