@@ -1,5 +1,5 @@
 /* The library from C: FIPS 197, appendix C, in both directions; slices of 0 to 40 blocks against single calls;
- * SP 800-38A, F.5, cut at every place; every status; NULL with a count of 0; the wipe; with WITH_OPENSSL 1 MiB against
+ * SP 800-38A, F.5 and F.2, cut at every place; key wrap by RFC 3394; every status; NULL with a count of 0; the wipe; with WITH_OPENSSL 1 MiB against
  * OpenSSL. The last line is `N passed, N failed`. */
 #include "fotsgure_aes.h"
 
@@ -51,6 +51,27 @@ static const struct { size_t size; const char *key, *cipher; } f_rows[] = {
     {32, "603deb1015ca71be2b73aef0857d77811f352c073b6108d72d9810a30914dff4",
      "601ec313775789a5b7a7f504bbf3d228f443e3ca4d62b59aca84e990cacaf5c5"
      "2b0930daa23de94ce87017ba2d84988ddfc9c58db67aada613c2dd08457941a6"},
+};
+
+/* SP 800-38A, F.2.1, F.2.3 and F.2.5: keys and text of F.5, in CBC under the initialization vector 00 01 .. 0f. */
+static const char *const cbc_rows[] = {
+    "7649abac8119b246cee98e9b12e9197d5086cb9b507219ee95db113a917678b2"
+    "73bed6b8e3c1743b7116e69e222295163ff1caa1681fac09120eca307586e1a7",
+    "4f021db243bc633d7178183a9fa071e8b4d9ada9ad7dedf4e5e738763f69145a"
+    "571b242012fb7ae07fa9baac3df102e008b0e27988598881d920a9e64f5615cd",
+    "f58c4c04d6e5f1ba779eabfb5f7bfbd69cfc4e967edb808d679f777bc6702c7d"
+    "39f23369a9d9bacfa530e26304231461b2eb05e2c39be9fcda6c19078c6a9d1b",
+};
+
+/* RFC 3394, 4.1 to 4.6: the keys count from 00 on, and wrap the first bytes of the same data. */
+static const char *const wrap_data = "00112233445566778899aabbccddeeff000102030405060708090a0b0c0d0e0f";
+static const struct { size_t size, bytes; const char *wrapped; } wrap_rows[] = {
+    {16, 16, "1fa68b0a8112b447aef34bd8fb5a7b829d3e862371d2cfe5"},
+    {24, 16, "96778b25ae6ca435f92b5b97c050aed2468ab8a17ad84e5d"},
+    {32, 16, "64e8c3f9ce0f5ba263e9777905818a2a93c8191e7d6e8ae7"},
+    {24, 24, "031d33264e15d33268f24ec260743edce1c6c7ddee725a936ba814915c6762d2"},
+    {32, 24, "a8f9bc1612c68b3ff6e6f4fbe30e71e4769c8b80a32cb8958cd5d17d6b254da1"},
+    {32, 32, "28c9f404c4b810f4cbccb35cfb87f8263f5786e2d80ed326cbc7f0e71a99f43bfb988b9b7a02dd21"},
 };
 
 static uint8_t counted[33];
@@ -167,11 +188,78 @@ static void counter_mode(size_t size, const char *key_digits, const char *digits
         ctr.position == UINT64_MAX, "up to the end", size);
 }
 
+/* At every cut, and a long chain at once beside the same in parts. */
+static void chains(size_t row)
+{
+    uint8_t key[32], plain[64], cipher[64], bytes[64], longer[1600], again[1600];
+    struct fotsgure_aes aes;
+    struct fotsgure_aes_cbc start, cbc;
+    int same = 1;
+    from_hex(key, f_rows[row].key);
+    from_hex(plain, f_plain);
+    from_hex(cipher, cbc_rows[row]);
+    memcpy(start.previous, counted, 16);
+    expect(fotsgure_aes_set_key(&aes, key, f_rows[row].size) == FOTSGURE_AES_DONE, "a key is kept", f_rows[row].size);
+    for (size_t at = 0; at <= 4; at++) {
+        memcpy(bytes, plain, 64);
+        cbc = start;
+        same &= fotsgure_aes_cbc_encrypt(&aes, &cbc, bytes, at) == FOTSGURE_AES_DONE;
+        same &= fotsgure_aes_cbc_encrypt(&aes, &cbc, bytes + 16 * at, 4 - at) == FOTSGURE_AES_DONE;
+        same &= !memcmp(bytes, cipher, 64) && !memcmp(cbc.previous, cipher + 48, 16);
+        cbc = start;
+        same &= fotsgure_aes_cbc_decrypt(&aes, &cbc, bytes, at) == FOTSGURE_AES_DONE;
+        same &= fotsgure_aes_cbc_decrypt(&aes, &cbc, bytes + 16 * at, 4 - at) == FOTSGURE_AES_DONE;
+        same &= !memcmp(bytes, plain, 64) && !memcmp(cbc.previous, cipher + 48, 16);
+    }
+    expect(same, "F.2, cut at each block", f_rows[row].size);
+    for (size_t count = 0; count <= 100; count++) {
+        fill(longer, sizeof longer, (uint32_t)count);
+        memcpy(again, longer, sizeof longer);
+        cbc = start;
+        for (size_t i = 0; i < count; i++)
+            same &= fotsgure_aes_cbc_encrypt(&aes, &cbc, longer + 16 * i, 1) == FOTSGURE_AES_DONE;
+        cbc = start;
+        same &= fotsgure_aes_cbc_decrypt(&aes, &cbc, longer, count) == FOTSGURE_AES_DONE;
+        same &= !memcmp(longer, again, sizeof longer);
+    }
+    expect(same, "chains of 0 to 100 blocks, encrypted one by one and decrypted at once", f_rows[row].size);
+}
+
+static void wrapped_keys(size_t row)
+{
+    uint8_t data[32], sealed[40], output[40], zeros[40] = {0};
+    size_t size = wrap_rows[row].size, bytes = wrap_rows[row].bytes, count = bytes / 8;
+    struct fotsgure_aes aes;
+    int refused = 1;
+    from_hex(data, wrap_data);
+    from_hex(sealed, wrap_rows[row].wrapped);
+    expect(fotsgure_aes_set_key(&aes, counted, size) == FOTSGURE_AES_DONE, "a key is kept", size);
+    expect(fotsgure_aes_wrap(&aes, data, count, output, count + 1) == FOTSGURE_AES_DONE &&
+        !memcmp(output, sealed, bytes + 8), "RFC 3394, wrapped", bytes);
+    expect(fotsgure_aes_unwrap(&aes, sealed, count + 1, output, count) == FOTSGURE_AES_DONE &&
+        !memcmp(output, data, bytes), "RFC 3394, unwrapped", bytes);
+    for (size_t i = 0; i < bytes + 8; i++) {
+        sealed[i] ^= 1;
+        memset(output, 0xff, sizeof output);
+        refused &= fotsgure_aes_unwrap(&aes, sealed, count + 1, output, count) == FOTSGURE_AES_REFUSED;
+        refused &= !memcmp(output, zeros, bytes);
+        sealed[i] ^= 1;
+    }
+    expect(refused, "a key that was changed is refused, and the output is zeros", bytes);
+    memcpy(output, data, 32);
+    expect(fotsgure_aes_wrap(&aes, data, 1, output, 2) == FOTSGURE_AES_INVALID_COUNT &&
+        fotsgure_aes_wrap(&aes, data, 2, output, 2) == FOTSGURE_AES_INVALID_COUNT &&
+        fotsgure_aes_unwrap(&aes, sealed, 2, output, 1) == FOTSGURE_AES_INVALID_COUNT &&
+        fotsgure_aes_unwrap(&aes, sealed, 3, output, 3) == FOTSGURE_AES_INVALID_COUNT &&
+        !memcmp(output, data, 32), "wrong counts, nothing written", bytes);
+}
+
 static void statuses(void)
 {
     uint8_t text[48], bytes[48];
     struct fotsgure_aes aes, zeros = {0, {0}}, before;
     struct fotsgure_aes_ctr ctr = {{0}, 5};
+    struct fotsgure_aes_cbc cbc = {{7}};
     int refused = 1, kept = 1;
     fill(text, sizeof text, 7);
     memcpy(bytes, text, sizeof text);
@@ -201,6 +289,10 @@ static void statuses(void)
                    fotsgure_aes_decrypt_blocks_to(&aes, counted, 2, bytes, 2) == FOTSGURE_AES_NO_KEY &&
                fotsgure_aes_add_keystream(&aes, &ctr, bytes, 48) == FOTSGURE_AES_NO_KEY &&
                fotsgure_aes_add_keystream_to(&aes, &ctr, counted, 9, bytes, 9) == FOTSGURE_AES_NO_KEY &&
+               fotsgure_aes_cbc_encrypt(&aes, &cbc, bytes, 3) == FOTSGURE_AES_NO_KEY &&
+               fotsgure_aes_cbc_decrypt(&aes, &cbc, bytes, 3) == FOTSGURE_AES_NO_KEY && cbc.previous[0] == 7 &&
+               fotsgure_aes_wrap(&aes, counted, 2, bytes, 3) == FOTSGURE_AES_NO_KEY &&
+               fotsgure_aes_unwrap(&aes, counted, 3, bytes, 2) == FOTSGURE_AES_NO_KEY &&
                fotsgure_aes_encrypt_blocks(&aes, NULL, 0) == FOTSGURE_AES_NO_KEY &&
                    !memcmp(bytes, text, sizeof text) && ctr.position == 5,
                "no key, nothing written", (size_t)wiped);
@@ -215,6 +307,10 @@ static void statuses(void)
            fotsgure_aes_decrypt_blocks_to(&aes, NULL, 0, NULL, 0) == FOTSGURE_AES_DONE &&
            fotsgure_aes_decrypt_blocks_to(&aes, NULL, 0, bytes, 1) == FOTSGURE_AES_UNEQUAL_COUNTS &&
            fotsgure_aes_add_keystream(&aes, &ctr, NULL, 0) == FOTSGURE_AES_DONE &&
+           fotsgure_aes_cbc_encrypt(&aes, &cbc, NULL, 0) == FOTSGURE_AES_DONE &&
+           fotsgure_aes_cbc_decrypt(&aes, &cbc, NULL, 0) == FOTSGURE_AES_DONE && cbc.previous[0] == 7 &&
+           fotsgure_aes_wrap(&aes, NULL, 0, NULL, 0) == FOTSGURE_AES_INVALID_COUNT &&
+           fotsgure_aes_unwrap(&aes, NULL, 0, NULL, 0) == FOTSGURE_AES_INVALID_COUNT &&
            fotsgure_aes_add_keystream_to(&aes, &ctr, NULL, 0, NULL, 0) == FOTSGURE_AES_DONE &&
            fotsgure_aes_encrypt_blocks_with(counted, 16, NULL, 0) == FOTSGURE_AES_DONE &&
            fotsgure_aes_decrypt_blocks_with(NULL, 0, NULL, 0) == FOTSGURE_AES_KEY_LENGTH &&
@@ -287,10 +383,13 @@ int main(void)
         rows_of_appendix_c(c_rows[i].size, c_rows[i].cipher);
         slices(c_rows[i].size);
         counter_mode(f_rows[i].size, f_rows[i].key, f_rows[i].cipher);
+        chains(i);
 #ifdef WITH_OPENSSL
         as_openssl(c_rows[i].size);
 #endif
     }
+    for (size_t i = 0; i < sizeof wrap_rows / sizeof *wrap_rows; i++)
+        wrapped_keys(i);
     statuses();
     printf("%d passed, %d failed\n", passed, failed);
     return failed != 0;

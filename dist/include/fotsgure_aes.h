@@ -1,4 +1,5 @@
-/* AES (FIPS 197) with keys of 16, 24 and 32 bytes, and counter mode (SP 800-38A, 6.5), proved.
+/* AES (FIPS 197) with keys of 16, 24 and 32 bytes, counter mode and CBC (SP 800-38A, 6.5 and 6.2), and key wrap
+ * (SP 800-38F, 6.2), proved.
  *
  * The comment of a call is its contract in words. The proof covers every call that meets the conditions below; nothing
  * checks a call from C.
@@ -22,9 +23,10 @@
  *
  * In return, no call allocates, prints, aborts, blocks, or keeps a pointer; the library has no state of its own, but for
  * one word by which a static library on x86-64 keeps which of its builds the processor runs; every call returns, and
- * writes nothing but what it says. A call that doesn't return FOTSGURE_AES_DONE has changed
- * nothing; fotsgure_aes_set_key is the exception. What a call returns depends on lengths and positions alone, never on
- * the bytes of a key or of data.
+ * writes nothing but what it says. A call that doesn't return FOTSGURE_AES_DONE has changed nothing;
+ * fotsgure_aes_set_key is an exception, and fotsgure_aes_unwrap, which then leaves zeros. What a call returns depends on
+ * lengths and positions alone, never on the bytes of a key or of data; only fotsgure_aes_unwrap says whether a wrapped
+ * key was right.
  *
  * Of this it is proved what calls return and write, that they return, and that the calls that are given a key wipe the
  * schedule that they keep. Read in the code and measured is that they keep no other copy of it, that no call
@@ -78,7 +80,9 @@ enum fotsgure_aes_status {
     FOTSGURE_AES_KEY_LENGTH = 1,     /* the key doesn't have 16, 24 or 32 bytes */
     FOTSGURE_AES_NO_KEY = 2,         /* the struct holds no key */
     FOTSGURE_AES_UNEQUAL_COUNTS = 3, /* input and output differ in length */
-    FOTSGURE_AES_KEYSTREAM_END = 4   /* the position would pass 2^64 - 1 */
+    FOTSGURE_AES_KEYSTREAM_END = 4,  /* the position would pass 2^64 - 1 */
+    FOTSGURE_AES_INVALID_COUNT = 5,  /* keys of so many bytes are not wrapped, or the output is of another length */
+    FOTSGURE_AES_REFUSED = 6         /* the key was not wrapped under this one, or was changed */
 };
 
 /* A key schedule, for both directions and for counter mode. Read and write it by the calls below alone. */
@@ -94,9 +98,16 @@ struct fotsgure_aes_ctr {
     uint64_t position; /* how many bytes of the keystream come before the next: 0 at the start */
 };
 
+/* Where a chain of blocks stands. The caller sets it to the initialization vector, which is drawn at random for each
+ * message (SP 800-38A, appendix C). */
+struct fotsgure_aes_cbc {
+    uint8_t previous[16]; /* the last encrypted block; before the first, the initialization vector */
+};
+
 FOTSGURE_AES_ASSERT(sizeof(enum fotsgure_aes_status) == 4 && sizeof(size_t) == 8, "the ABI of the library: 64-bit");
 FOTSGURE_AES_ASSERT(sizeof(struct fotsgure_aes) == 484, "no padding");
 FOTSGURE_AES_ASSERT(sizeof(struct fotsgure_aes_ctr) == 24, "no padding");
+FOTSGURE_AES_ASSERT(sizeof(struct fotsgure_aes_cbc) == 16, "no padding");
 
 /* Returns FOTSGURE_AES_VERSION of the header that the library was built with. */
 uint32_t fotsgure_aes_version(void) FOTSGURE_AES_NOEXCEPT;
@@ -141,6 +152,29 @@ FOTSGURE_AES_CHECK enum fotsgure_aes_status fotsgure_aes_add_keystream(const str
 /* The same from one buffer to another; counts are in bytes. UNEQUAL_COUNTS if they differ, else as above. */
 FOTSGURE_AES_CHECK enum fotsgure_aes_status fotsgure_aes_add_keystream_to(const struct fotsgure_aes *aes,
     struct fotsgure_aes_ctr *FOTSGURE_AES_ALONE ctr,
+    const uint8_t *input, size_t input_count,
+    uint8_t *FOTSGURE_AES_ALONE output, size_t output_count) FOTSGURE_AES_NOEXCEPT;
+
+/* Cipher block chaining in place (SP 800-38A, 6.2), on whole blocks: encrypts or decrypts the next `count` blocks of a
+ * chain, and moves *cbc on to the last encrypted one. It makes no difference how blocks are cut into calls. It doesn't
+ * show whether a message was changed, and a program that says whether padding was right gives messages away: check a
+ * tag over the initialization vector and the encrypted blocks first. DONE, or NO_KEY. */
+FOTSGURE_AES_CHECK enum fotsgure_aes_status fotsgure_aes_cbc_encrypt(const struct fotsgure_aes *aes,
+    struct fotsgure_aes_cbc *FOTSGURE_AES_ALONE cbc,
+    uint8_t *FOTSGURE_AES_ALONE blocks, size_t count) FOTSGURE_AES_NOEXCEPT;
+FOTSGURE_AES_CHECK enum fotsgure_aes_status fotsgure_aes_cbc_decrypt(const struct fotsgure_aes *aes,
+    struct fotsgure_aes_cbc *FOTSGURE_AES_ALONE cbc,
+    uint8_t *FOTSGURE_AES_ALONE blocks, size_t count) FOTSGURE_AES_NOEXCEPT;
+
+/* Key wrap (KW, SP 800-38F, 6.2; RFC 3394) from one buffer to another: encrypts a key, and shows whether it was
+ * changed. Counts are in semiblocks of 8 bytes. A key has two or more, and becomes one more. It needs no nonce: the
+ * same key, wrapped twice, gives the same bytes. A struct that wraps keys does nothing else.
+ * NO_KEY; INVALID_COUNT if keys of so many semiblocks are not wrapped, or the output isn't one longer or one shorter;
+ * fotsgure_aes_unwrap also REFUSED, and the output then is all zeros; else DONE. */
+FOTSGURE_AES_CHECK enum fotsgure_aes_status fotsgure_aes_wrap(const struct fotsgure_aes *aes,
+    const uint8_t *input, size_t input_count,
+    uint8_t *FOTSGURE_AES_ALONE output, size_t output_count) FOTSGURE_AES_NOEXCEPT;
+FOTSGURE_AES_CHECK enum fotsgure_aes_status fotsgure_aes_unwrap(const struct fotsgure_aes *aes,
     const uint8_t *input, size_t input_count,
     uint8_t *FOTSGURE_AES_ALONE output, size_t output_count) FOTSGURE_AES_NOEXCEPT;
 
@@ -208,6 +242,28 @@ FOTSGURE_AES_CHECK static inline enum fotsgure_aes_status fotsgure_aes_not_null_
     return fotsgure_aes_add_keystream_to(aes, ctr, fotsgure_aes_not_null(input), input_count,
         fotsgure_aes_not_null_mut(output), output_count);
 }
+FOTSGURE_AES_CHECK static inline enum fotsgure_aes_status fotsgure_aes_not_null_cbc_encrypt(
+    const struct fotsgure_aes *aes, struct fotsgure_aes_cbc *cbc, uint8_t *blocks, size_t count) FOTSGURE_AES_NOEXCEPT
+{
+    return fotsgure_aes_cbc_encrypt(aes, cbc, fotsgure_aes_not_null_mut(blocks), count);
+}
+FOTSGURE_AES_CHECK static inline enum fotsgure_aes_status fotsgure_aes_not_null_cbc_decrypt(
+    const struct fotsgure_aes *aes, struct fotsgure_aes_cbc *cbc, uint8_t *blocks, size_t count) FOTSGURE_AES_NOEXCEPT
+{
+    return fotsgure_aes_cbc_decrypt(aes, cbc, fotsgure_aes_not_null_mut(blocks), count);
+}
+FOTSGURE_AES_CHECK static inline enum fotsgure_aes_status fotsgure_aes_not_null_wrap(const struct fotsgure_aes *aes,
+    const uint8_t *input, size_t input_count, uint8_t *output, size_t output_count) FOTSGURE_AES_NOEXCEPT
+{
+    return fotsgure_aes_wrap(aes, fotsgure_aes_not_null(input), input_count, fotsgure_aes_not_null_mut(output),
+        output_count);
+}
+FOTSGURE_AES_CHECK static inline enum fotsgure_aes_status fotsgure_aes_not_null_unwrap(const struct fotsgure_aes *aes,
+    const uint8_t *input, size_t input_count, uint8_t *output, size_t output_count) FOTSGURE_AES_NOEXCEPT
+{
+    return fotsgure_aes_unwrap(aes, fotsgure_aes_not_null(input), input_count, fotsgure_aes_not_null_mut(output),
+        output_count);
+}
 FOTSGURE_AES_CHECK static inline enum fotsgure_aes_status fotsgure_aes_not_null_encrypt_blocks_with(
     const uint8_t *key, size_t key_length, uint8_t *blocks, size_t count) FOTSGURE_AES_NOEXCEPT
 {
@@ -234,6 +290,10 @@ FOTSGURE_AES_CHECK static inline enum fotsgure_aes_status fotsgure_aes_not_null_
 #define fotsgure_aes_decrypt_blocks_to(...) fotsgure_aes_not_null_decrypt_blocks_to(__VA_ARGS__)
 #define fotsgure_aes_add_keystream(...) fotsgure_aes_not_null_add_keystream(__VA_ARGS__)
 #define fotsgure_aes_add_keystream_to(...) fotsgure_aes_not_null_add_keystream_to(__VA_ARGS__)
+#define fotsgure_aes_cbc_encrypt(...) fotsgure_aes_not_null_cbc_encrypt(__VA_ARGS__)
+#define fotsgure_aes_cbc_decrypt(...) fotsgure_aes_not_null_cbc_decrypt(__VA_ARGS__)
+#define fotsgure_aes_wrap(...) fotsgure_aes_not_null_wrap(__VA_ARGS__)
+#define fotsgure_aes_unwrap(...) fotsgure_aes_not_null_unwrap(__VA_ARGS__)
 #define fotsgure_aes_encrypt_blocks_with(...) fotsgure_aes_not_null_encrypt_blocks_with(__VA_ARGS__)
 #define fotsgure_aes_decrypt_blocks_with(...) fotsgure_aes_not_null_decrypt_blocks_with(__VA_ARGS__)
 #define fotsgure_aes_add_keystream_with(...) fotsgure_aes_not_null_add_keystream_with(__VA_ARGS__)

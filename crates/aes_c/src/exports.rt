@@ -1,19 +1,27 @@
 //! The exports, over the width of words that `width` names.
 
-ghost use Rattle.std.specs.Prelude.{◌≡◌, ◌≢◌, ◌↔◌, ◌+◌, ◌-◌, ◌^◌, ◌<◌, ◌≤◌, length, replicate};
+ghost use Rattle.std.specs.Prelude.{◌≡◌, ◌≢◌, ◌↔◌, ◌+◌, ◌-◌, ◌^◌, ◌<◌, ◌≤◌, length, replicate, slice_index_or, ◌∷◌, []};
 ghost use Rattle.aes_planes.specs.Each.{Each};
 ghost use Rattle.aes_planes.specs.Fips197 as fips;
 ghost use Rattle.aes_ctr.specs.CounterMode.{keystream_byte, plus_stream};
+ghost use Rattle.cbc.specs.Cbc.{chained, last_of, unchained};
+ghost use Rattle.key_wrap.specs.KeyWrap.{integrity_check, unwrapped, wrapped, Fit};
 ghost use Rattle.c_calls.specs.Kept.{kept_key, AreZeroAfter, IsKeyLength, IsMade};
 
 use crate::width::BuildWidth;
 use aes_cipher::cipher::{Decrypt, Encrypt};
 use aes_planes::soft::word::Block;
 use c_calls::blocks::{process_under, process_under_to};
+use c_calls::chains::{chain_under, unchain_under};
 use c_calls::kept::{Aes, length_of_key, set_key, wipe};
 use c_calls::once::{add_keystream_with, decrypt_with, encrypt_with};
-use c_calls::status::{DONE, KEY_LENGTH, KEYSTREAM_END, NO_KEY, UNEQUAL_COUNTS, VERSION};
+use c_calls::status::{
+    DONE, INVALID_COUNT, KEY_LENGTH, KEYSTREAM_END, NO_KEY, REFUSED, UNEQUAL_COUNTS, VERSION,
+};
 use c_calls::stream::{Ctr, add_keystream_under, add_keystream_under_to};
+use c_calls::wrapping::{unwrap_under, wrap_under};
+use cbc::Cbc;
+use key_wrap::Semiblock;
 
 /// Returns the version of the library; programs compare it with that of their header.
 #[unsafe(no_mangle)]
@@ -166,6 +174,73 @@ pub extern "C" fn fotsgure_aes_add_keystream_to(
     ensures untouched { result ≢ DONE → output.new ≡ output.old }
 {
     add_keystream_under_to::<BuildWidth>(aes, ctr, input, output)
+}
+
+/// Encrypts the next blocks of a chain in place (SP 800-38A, 6.2).
+#[unsafe(no_mangle)]
+pub extern "C" fn fotsgure_aes_cbc_encrypt(aes: &Aes, cbc: &mut Cbc, blocks: &mut [Block]) -> u32
+    requires made { IsMade aes.now.key_length aes.now.encrypting aes.now.decrypting }
+    ensures done { result ≡ DONE ↔ IsKeyLength aes.now.key_length }
+    ensures refused { result ≢ DONE → result ≡ NO_KEY }
+    ensures blocks { let w = fips.key_expansion (kept_key aes.now.key_length aes.now.encrypting) in
+        result ≡ DONE → blocks.new ≡ chained w cbc.old.previous blocks.old }
+    ensures previous { result ≡ DONE → cbc.new.previous ≡ last_of cbc.old.previous blocks.new }
+    ensures untouched { result ≢ DONE → blocks.new ≡ blocks.old }
+    ensures unmoved { result ≢ DONE → cbc.new.previous ≡ cbc.old.previous }
+{
+    chain_under::<BuildWidth>(aes, cbc, blocks)
+}
+
+/// Decrypts the next blocks of a chain in place (SP 800-38A, 6.2).
+#[unsafe(no_mangle)]
+pub extern "C" fn fotsgure_aes_cbc_decrypt(aes: &Aes, cbc: &mut Cbc, blocks: &mut [Block]) -> u32
+    requires made { IsMade aes.now.key_length aes.now.encrypting aes.now.decrypting }
+    ensures done { result ≡ DONE ↔ IsKeyLength aes.now.key_length }
+    ensures refused { result ≢ DONE → result ≡ NO_KEY }
+    ensures blocks { let w = fips.key_expansion (kept_key aes.now.key_length aes.now.encrypting) in
+        result ≡ DONE → blocks.new ≡ unchained w cbc.old.previous blocks.old }
+    ensures previous { result ≡ DONE → cbc.new.previous ≡ last_of cbc.old.previous blocks.old }
+    ensures untouched { result ≢ DONE → blocks.new ≡ blocks.old }
+    ensures unmoved { result ≢ DONE → cbc.new.previous ≡ cbc.old.previous }
+{
+    unchain_under::<BuildWidth>(aes, cbc, blocks)
+}
+
+/// Wraps a key from one buffer to another (KW-AE, SP 800-38F, 6.2).
+#[unsafe(no_mangle)]
+pub extern "C" fn fotsgure_aes_wrap(aes: &Aes, key: &[Semiblock], output: &mut [Semiblock]) -> u32
+    requires made { IsMade aes.now.key_length aes.now.encrypting aes.now.decrypting }
+    ensures no_key { result ≡ NO_KEY ↔ ¬ IsKeyLength aes.now.key_length }
+    ensures done { result ≡ DONE ↔ IsKeyLength aes.now.key_length × Fit (length key.now) (length output.old) }
+    ensures invalid { result ≢ DONE → result ≢ NO_KEY → result ≡ INVALID_COUNT }
+    ensures wrapped { let w = fips.key_expansion (kept_key aes.now.key_length aes.now.encrypting) in
+        result ≡ DONE → output.new ≡ wrapped w key.now }
+    ensures untouched { result ≢ DONE → output.new ≡ output.old }
+{
+    wrap_under::<BuildWidth>(aes, key, output)
+}
+
+/// Unwraps a key from one buffer to another (KW-AD, SP 800-38F, 6.2). After `REFUSED` the output is zeros.
+#[unsafe(no_mangle)]
+pub extern "C" fn fotsgure_aes_unwrap(
+    aes: &Aes,
+    sealed: &[Semiblock],
+    output: &mut [Semiblock],
+) -> u32
+    requires made { IsMade aes.now.key_length aes.now.encrypting aes.now.decrypting }
+    ensures no_key { result ≡ NO_KEY ↔ ¬ IsKeyLength aes.now.key_length }
+    ensures invalid { result ≡ INVALID_COUNT
+        ↔ IsKeyLength aes.now.key_length × (¬ Fit (length output.old) (length sealed.now)) }
+    ensures done { let w = fips.key_expansion (kept_key aes.now.key_length aes.now.encrypting) in result ≡ DONE
+        ↔ IsKeyLength aes.now.key_length × (Fit (length output.old) (length sealed.now)
+        × (slice_index_or (unwrapped w sealed.now) 0 [] ≡ integrity_check)) }
+    ensures refused { result ≢ DONE → result ≢ NO_KEY → result ≢ INVALID_COUNT → result ≡ REFUSED }
+    ensures key { let w = fips.key_expansion (kept_key aes.now.key_length aes.now.encrypting) in
+        result ≡ DONE → integrity_check ∷ output.new ≡ unwrapped w sealed.now }
+    ensures zeros { result ≡ REFUSED → output.new ≡ replicate (length output.old) (replicate 8 0) }
+    ensures untouched { result ≢ DONE → result ≢ REFUSED → output.new ≡ output.old }
+{
+    unwrap_under::<BuildWidth>(aes, sealed, output)
 }
 
 /// Encrypts each block in place under a key (Cipher, FIPS 197, 5.1). Returns `DONE` exactly if the key has 16, 24 or 32
