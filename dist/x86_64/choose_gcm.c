@@ -26,6 +26,9 @@ EITHER(status, fotsgure_gcm_open,
 EITHER(status, fotsgure_gcm_begin,
     (const key_of *gcm, message_of *message, const uint8_t *nonce, size_t nonce_length),
     (gcm, message, nonce, nonce_length))
+EITHER(status, fotsgure_gcm_begin_next,
+    (const key_of *gcm, message_of *message, counter_of *counter, uint8_t nonce[FOTSGURE_GCM_NONCE]),
+    (gcm, message, counter, nonce))
 EITHER(status, fotsgure_gcm_additional,
     (const key_of *gcm, message_of *message, const uint8_t *additional, size_t additional_length),
     (gcm, message, additional, additional_length))
@@ -37,6 +40,9 @@ EITHER(status, fotsgure_gcm_verify, (const key_of *gcm, message_of *message, con
     (gcm, message, text, text_length))
 EITHER(status, fotsgure_gcm_accept, (const key_of *gcm, message_of *message, const uint8_t *tag, size_t tag_length),
     (gcm, message, tag, tag_length))
+EITHER(status, fotsgure_gcm_accept_short,
+    (const key_of *gcm, message_of *message, size_t fixed_length, const uint8_t *tag, size_t tag_length),
+    (gcm, message, fixed_length, tag, tag_length))
 EITHER(status, fotsgure_gcm_decrypt, (const key_of *gcm, message_of *message, uint8_t *text, size_t text_length),
     (gcm, message, text, text_length))
 EITHER(status, fotsgure_gcm_decrypt_unverified,
