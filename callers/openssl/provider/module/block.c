@@ -42,7 +42,7 @@ int block_set_params(void *context, const OSSL_PARAM params[])
 static void update_iv(struct block_context *c)
 {
     uint64_t carry = c->ctr.position / BLOCK + (c->ctr.position % BLOCK != 0);
-    memcpy(c->updated_iv, c->chain, BLOCK);
+    memcpy(c->updated_iv, c->cbc.previous, BLOCK);
     if (c->base.algorithm->mode != EVP_CIPH_CTR_MODE)
         return;
     for (size_t i = BLOCK; i-- > 0; carry >>= 8) {
@@ -68,7 +68,7 @@ int block_get_params(void *context, OSSL_PARAM params[])
 static void set_iv(struct block_context *c, const byte *iv)
 {
     memmove(c->iv, iv, c->base.algorithm->iv_length);
-    memcpy(c->chain, c->iv, BLOCK);
+    memcpy(c->cbc.previous, c->iv, BLOCK);
     memcpy(c->ctr.iv, c->iv, BLOCK);
     c->ctr.position = 0;
 }
@@ -100,13 +100,17 @@ int block_process(struct block_context *c, byte *text, size_t length)
     if (!c->base.has_key)
         return fail(&c->base, PROV_R_NO_KEY_SET);
     COUNTED(c->base.algorithm, 2, length);
+    size_t count = length / BLOCK;
+    enum fotsgure_aes_status status;
     if (c->base.algorithm->mode == EVP_CIPH_CTR_MODE)
-        return fotsgure_aes_add_keystream(&c->aes, &c->ctr, text, length) == FOTSGURE_AES_DONE;
-    if (c->base.algorithm->mode == EVP_CIPH_CBC_MODE)
-        return cbc_process(c, text, length);
-    if (c->base.encrypts)
-        return fotsgure_aes_encrypt_blocks(&c->aes, text, length / BLOCK) == FOTSGURE_AES_DONE;
-    return fotsgure_aes_decrypt_blocks(&c->aes, text, length / BLOCK) == FOTSGURE_AES_DONE;
+        status = fotsgure_aes_add_keystream(&c->aes, &c->ctr, text, length);
+    else if (c->base.algorithm->mode == EVP_CIPH_CBC_MODE)
+        status = c->base.encrypts ? fotsgure_aes_cbc_encrypt(&c->aes, &c->cbc, text, count)
+                                  : fotsgure_aes_cbc_decrypt(&c->aes, &c->cbc, text, count);
+    else
+        status = c->base.encrypts ? fotsgure_aes_encrypt_blocks(&c->aes, text, count)
+                                  : fotsgure_aes_decrypt_blocks(&c->aes, text, count);
+    return status == FOTSGURE_AES_DONE;
 }
 
 /* Without buffering and padding: counter mode, and what EVP_Cipher asks for. */

@@ -9,7 +9,6 @@ struct block_context {
     struct context base;
     int unpadded;                    /* EVP_CIPHER_CTX_set_padding(ctx, 0) */
     byte iv[BLOCK];                  /* as it was given */
-    byte chain[BLOCK];               /* CBC: the last encrypted block */
     byte updated_iv[BLOCK];          /* as it was last asked for */
     byte kept[BLOCK];                /* text that has come and isn't processed yet */
     size_t kept_length;
@@ -17,13 +16,11 @@ struct block_context {
     byte mac[MOST_MAC];
     struct fotsgure_aes aes;
     struct fotsgure_aes_ctr ctr;
+    struct fotsgure_aes_cbc cbc;
 };
 
 /* Processes whole blocks in place, and in counter mode any number of bytes. */
 int block_process(struct block_context *c, byte *text, size_t length);
-
-/* The same for CBC. */
-int cbc_process(struct block_context *c, byte *text, size_t length);
 
 /* One record of TLS by CBC, in place: padded and encrypted, or decrypted without padding and MAC. */
 int record_update(struct block_context *c, byte *out, size_t *out_length, size_t out_size, const byte *in,

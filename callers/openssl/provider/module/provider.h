@@ -47,7 +47,7 @@ struct context {
     int encrypts, has_key;
 };
 
-/* Raises an error under a reason of OpenSSL's own provider, since programs compare these. Returns 0: the call failed. */
+/* Raises an error under a reason of OpenSSL's own provider, since programs compare these. Returns 0: a call failed. */
 int fail(const struct context *context, int reason, ...);
 
 /* Returns the parameter of that name, or NULL. */

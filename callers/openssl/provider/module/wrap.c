@@ -1,4 +1,5 @@
-/* Key wrap (SP 800-38F: KW, 6.2, and KWP, 6.3; RFC 3394 and RFC 5649) over the proved block cipher. */
+/* Key wrap (SP 800-38F; RFC 3394 and RFC 5649): KW by the proved library; KWP, and KW by the inverse cipher, over its
+ * block cipher. */
 #include "block.h"
 
 #include <stdlib.h>
@@ -17,7 +18,7 @@ static void add_number(byte *half, uint64_t number)
         half[i] ^= (byte)number;
 }
 
-/* W or its inverse (6.1) on `count` semiblocks, the first of which is the check. Two semiblocks of KWP are one block. */
+/* W or its inverse (6.1) on `count` semiblocks, of which the first is the check. Two of them are one block (KWP). */
 static int wrap_steps(struct block_context *c, byte *halves, size_t count)
 {
     int done = 1, encrypts = c->base.encrypts, forwards = encrypts != c->base.algorithm->inverse;
@@ -39,6 +40,30 @@ static int wrap_steps(struct block_context *c, byte *halves, size_t count)
     }
     memcpy(halves, block, HALF);
     explicit_bzero(block, sizeof block);
+    return done;
+}
+
+/* Whether the library has all of it: KW under the standard's value, by the forward cipher. */
+static int is_proved(const struct block_context *c)
+{
+    static const byte check[HALF] = {0xa6, 0xa6, 0xa6, 0xa6, 0xa6, 0xa6, 0xa6, 0xa6};
+    return !c->base.algorithm->padded && !c->base.algorithm->inverse && memcmp(c->iv, check, HALF) == 0;
+}
+
+/* KW by the library, which goes from one buffer to another; these may be the same. */
+static int wrap_proved(struct block_context *c, byte *out, size_t *out_length, const byte *in, size_t length)
+{
+    size_t result = c->base.encrypts ? length + HALF : length - HALF;
+    byte *copy = malloc(result);
+    int done = copy && (c->base.encrypts
+        ? fotsgure_aes_wrap(&c->aes, in, length / HALF, copy, result / HALF)
+        : fotsgure_aes_unwrap(&c->aes, in, length / HALF, copy, result / HALF)) == FOTSGURE_AES_DONE;
+    if (done)
+        memcpy(out, copy, result);
+    if (copy)
+        explicit_bzero(copy, result);
+    free(copy);
+    *out_length = done ? result : 0;
     return done;
 }
 
@@ -98,6 +123,9 @@ int wrap_update(void *context, byte *out, size_t *out_length, size_t out_size, c
     if (out_size + HALF - 1 < result) /* OpenSSL doesn't count the padding */
         return fail(&c->base, PROV_R_OUTPUT_BUFFER_TOO_SMALL);
     COUNTED(c->base.algorithm, 2, length);
-    return (encrypts ? wrap(c, out, out_length, in, length) : unwrap(c, out, out_length, in, length)) ||
-        fail(&c->base, PROV_R_CIPHER_OPERATION_FAILED);
+    if (is_proved(c) ? wrap_proved(c, out, out_length, in, length)
+            : encrypts ? wrap(c, out, out_length, in, length)
+                       : unwrap(c, out, out_length, in, length))
+        return 1;
+    return fail(&c->base, PROV_R_CIPHER_OPERATION_FAILED);
 }

@@ -1,0 +1,29 @@
+#!/usr/bin/env python3
+"""Runs bench in rounds, one process for each way after the other, and prints a table of the least times and of ratios.
+usage: bench.py BENCH FOLDER [FOLDER-V3] [ROUNDS]    (folders with a fotsgure.so; of the second, with the build for AVX2)"""
+import os
+import subprocess
+import sys
+
+WITHOUT_AES = "~0x200000200000000"  # OPENSSL_ia32cap: neither AES-NI nor PCLMULQDQ
+words = sys.argv[1:]
+rounds = int(words.pop()) if words[-1].isdigit() else 6
+bench, *folders = words
+ways = {"with": ("default", {}), "without": ("default", {"OPENSSL_ia32cap": WITHOUT_AES})}
+ways.update({name: ("fotsgure", {"OPENSSL_MODULES": folder}) for name, folder in zip(("ours", "AVX2"), folders)})
+least = {}
+for _ in range(rounds):
+    for way, (provider, environment) in ways.items():
+        run = subprocess.run([bench, provider], env=dict(os.environ, **environment), capture_output=True, text=True,
+                             check=True)
+        for line in run.stdout.splitlines():
+            name, size, time = line.rsplit(" ", 2)
+            least[way, name, size] = min(least.get((way, name, size), 1e18), float(time))
+print("| mode | bytes | " + " | ".join(f"{way}, ns" for way in ways) + " | ours / without | ours / with |")
+print("|---|---|" + "---|" * (len(ways) + 2))
+for _, name, size in [key for key in least if key[0] == "ours"]:
+    times = [least[way, name, size] for way in ways]
+    ours = least["ours", name, size]
+    ratios = [ours / least[way, name, size] for way in ("without", "with")]
+    print(f"| {name} | {size} | " + " | ".join(f"{time:.0f}" for time in times) +
+          " | " + " | ".join(f"{ratio:.2f}" for ratio in ratios) + " |")
