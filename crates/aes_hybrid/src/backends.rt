@@ -1,4 +1,4 @@
-//! Backends: pairs by vector permutations, and batches on planes in either direction.
+//! Backends: fours by vector permutations, and batches on planes in either direction.
 
 ghost use Rattle.std.specs.Prelude.{◌≡◌, ℕ, List, length, map};
 ghost use Rattle.std.proofs.Common.{arith};
@@ -10,13 +10,13 @@ ghost use Rattle.aes_permute.specs.Stored.{round_keys_of};
 ghost use Rattle.aes_soft.specs.Stored as soft;
 ghost use Rattle.aes_permute.specs.Keys.{cipher_key, IsCipherSchedule};
 
-use crate::blocks::{MOST_ON_LANES, process_few};
+use crate::blocks::process_few;
 use crate::slots::SlotWord;
+use crate::widths::Width;
 use aes_cipher::cipher::{
     BatchSize, BatchSizeUser, BlockCipherDecBackend, BlockCipherEncBackend, Decrypt, Encrypt,
     RoundKeysUser,
 };
-use aes_permute::blocks::PAR_BLOCKS;
 use aes_permute::lane_rounds::LaneRounds;
 use aes_planes::laws;
 use aes_planes::soft::sbox::Layers;
@@ -25,56 +25,59 @@ use aes_soft::soft::blocks::process_batch_under;
 use std::marker::{Model, PhantomData};
 use std::slice;
 
-// Batches of two blocks.
-pub(crate) struct BatchOfTwo;
+// Batches of four blocks.
+pub(crate) struct BatchOfFour;
 
-impl BatchSize for BatchOfTwo {
-    ghost PAR_BLOCKS = { 2 };
+impl BatchSize for BatchOfFour {
+    ghost PAR_BLOCKS = { 4 };
 
-    const PAR_BLOCKS: usize = PAR_BLOCKS;
+    const PAR_BLOCKS: usize = 4;
 
     ghost at_least_one = { Prim.omega arith };
 }
 
-// Processes single blocks and pairs by vector permutations. `keys` are the stored round keys of Cipher, and `used` those of
+// Processes single blocks and fours by vector permutations. `keys` are the stored round keys of Cipher, and `used` those of
 // the direction.
-pub(crate) struct Pairs<'a, D: LaneRounds> {
+pub(crate) struct OnLanes<'a, D: LaneRounds, W: Width> {
     keys: &'a [Block],
     used: &'a [Block],
     direction: PhantomData<D>,
+    width: PhantomData<W>,
 }
 
-impl<D: LaneRounds> Drop for Pairs<'_, D> {
+impl<D: LaneRounds, W: Width> Drop for OnLanes<'_, D, W> {
     #[inline(always)]
     fn drop(self) {
-        let Pairs {
+        let OnLanes {
             keys: _,
             used: _,
             direction: _,
+            width: _,
         } = self;
     }
 }
 
-impl<'a, D: LaneRounds> Model for Pairs<'a, D> {
+impl<'a, D: LaneRounds, W: Width> Model for OnLanes<'a, D, W> {
     ghost Value = { List ℕ };
 
-    ghost view = { λ pairs. cipher_key pairs.keys.now };
+    ghost view = { λ few. cipher_key few.keys.now };
 
-    ghost invariant = { λ pairs. IsCipherSchedule pairs.keys.now
-        × (round_keys_of D.form pairs.used.now ≡ D.form.used_keys (encrypting pairs.keys.now)) };
+    ghost invariant = { λ few. IsCipherSchedule few.keys.now
+        × (round_keys_of D.form few.used.now ≡ D.form.used_keys (encrypting few.keys.now)) };
 }
 
-impl<'a, D: LaneRounds> Pairs<'a, D> {
+impl<'a, D: LaneRounds, W: Width> OnLanes<'a, D, W> {
     #[inline(always)]
-    pub(crate) fn new(keys: &'a [Block], used: &'a [Block]) -> Pairs<'a, D>
+    pub(crate) fn new(keys: &'a [Block], used: &'a [Block]) -> OnLanes<'a, D, W>
         requires keyed { IsCipherSchedule keys.now }
         requires used { round_keys_of D.form used.now ≡ D.form.used_keys (encrypting keys.now) }
         ensures { result ≡ cipher_key keys.now }
     {
-        Pairs {
+        OnLanes {
             keys,
             used,
             direction: PhantomData,
+            width: PhantomData,
         }
     }
 
@@ -83,11 +86,11 @@ impl<'a, D: LaneRounds> Pairs<'a, D> {
         ensures { Each (D.processed (fips.key_expansion self.now)) blocks.old blocks.new }
     {
         D::uses_all();
-        process_few::<D>(self.used, blocks);
+        process_few::<D, W>(self.used, blocks);
     }
 }
 
-impl<D: LaneRounds> RoundKeysUser for Pairs<'_, D> {
+impl<D: LaneRounds, W: Width> RoundKeysUser for OnLanes<'_, D, W> {
     ghost round_keys = { fips.key_expansion };
 
     fn has_round_keys(&self) {
@@ -98,11 +101,11 @@ impl<D: LaneRounds> RoundKeysUser for Pairs<'_, D> {
     ghost two_round_keys = { two_keys };
 }
 
-impl<D: LaneRounds> BatchSizeUser for Pairs<'_, D> {
-    type Par = BatchOfTwo;
+impl<D: LaneRounds, W: Width> BatchSizeUser for OnLanes<'_, D, W> {
+    type Par = BatchOfFour;
 }
 
-impl BlockCipherEncBackend for Pairs<'_, Encrypt> {
+impl<W: Width> BlockCipherEncBackend for OnLanes<'_, Encrypt, W> {
     #[inline(always)]
     fn encrypt_block(&self, block: &mut Block) {
         self.process_few(slice::from_mut(block));
@@ -112,9 +115,15 @@ impl BlockCipherEncBackend for Pairs<'_, Encrypt> {
     fn encrypt_par_blocks(&self, blocks: &mut [Block]) {
         self.process_few(blocks);
     }
+
+    #[tactic(auto, using(aes_cipher::proofs::FirstBlocks::first_alone))]
+    #[inline(always)]
+    fn encrypt_first_blocks(&self, count: usize, blocks: &mut [Block]) {
+        self.process_few(&mut blocks[..count]);
+    }
 }
 
-impl BlockCipherDecBackend for Pairs<'_, Decrypt> {
+impl<W: Width> BlockCipherDecBackend for OnLanes<'_, Decrypt, W> {
     #[inline(always)]
     fn decrypt_block(&self, block: &mut Block) {
         self.process_few(slice::from_mut(block));
@@ -127,41 +136,41 @@ impl BlockCipherDecBackend for Pairs<'_, Decrypt> {
 }
 
 // Processes single blocks by vector permutations, and batches on planes of the same round keys.
-pub(crate) struct Batches<'a, D: LaneRounds, W: SlotWord> {
-    few: Pairs<'a, D>,
-    words: &'a [W],
+pub(crate) struct Batches<'a, D: LaneRounds, W: Width> {
+    few: OnLanes<'a, D, W>,
+    words: &'a [W::Many],
 }
 
-impl<D: LaneRounds, W: SlotWord> Drop for Batches<'_, D, W> {
+impl<D: LaneRounds, W: Width> Drop for Batches<'_, D, W> {
     #[inline(always)]
     fn drop(self) {
         let Batches { few: _, words: _ } = self;
     }
 }
 
-impl<'a, D: LaneRounds, W: SlotWord> Model for Batches<'a, D, W> {
+impl<'a, D: LaneRounds, W: Width> Model for Batches<'a, D, W> {
     ghost Value = { List ℕ };
 
     ghost view = { λ batches. batches.few };
 
     ghost invariant = { λ batches.
         let n = length batches.words.now in
-        let planes = map W.bits batches.words.now in
-        soft.IsFullSchedule n W.BLOCKS planes × (soft.plane_key n W.BLOCKS planes ≡ batches.few) };
+        let planes = map W.Many.bits batches.words.now in
+        soft.IsFullSchedule n W.Many.BLOCKS planes × (soft.plane_key n W.Many.BLOCKS planes ≡ batches.few) };
 }
 
-impl<'a, D: LaneRounds, W: SlotWord> Batches<'a, D, W> {
+impl<'a, D: LaneRounds, W: Width> Batches<'a, D, W> {
     #[inline(always)]
-    pub(crate) fn new(few: Pairs<'a, D>, words: &'a [W]) -> Batches<'a, D, W>
-        requires is_schedule { soft.IsFullSchedule (length words.now) W.BLOCKS (map W.bits words.now) }
-        requires same_key { soft.plane_key (length words.now) W.BLOCKS (map W.bits words.now) ≡ few }
+    pub(crate) fn new(few: OnLanes<'a, D, W>, words: &'a [W::Many]) -> Batches<'a, D, W>
+        requires is_schedule { soft.IsFullSchedule (length words.now) W.Many.BLOCKS (map W.Many.bits words.now) }
+        requires same_key { soft.plane_key (length words.now) W.Many.BLOCKS (map W.Many.bits words.now) ≡ few }
         ensures { result ≡ few.entry }
     {
         Batches { few, words }
     }
 }
 
-impl<D: LaneRounds, W: SlotWord> RoundKeysUser for Batches<'_, D, W> {
+impl<D: LaneRounds, W: Width> RoundKeysUser for Batches<'_, D, W> {
     ghost round_keys = { fips.key_expansion };
 
     fn has_round_keys(&self) {
@@ -171,11 +180,11 @@ impl<D: LaneRounds, W: SlotWord> RoundKeysUser for Batches<'_, D, W> {
     ghost two_round_keys = { two_keys };
 }
 
-impl<D: LaneRounds, W: SlotWord> BatchSizeUser for Batches<'_, D, W> {
-    type Par = W::Par;
+impl<D: LaneRounds, W: Width> BatchSizeUser for Batches<'_, D, W> {
+    type Par = <W::Many as SlotWord>::Par;
 }
 
-impl<W: SlotWord> BlockCipherEncBackend for Batches<'_, Encrypt, W> {
+impl<W: Width> BlockCipherEncBackend for Batches<'_, Encrypt, W> {
     #[inline(always)]
     fn encrypt_block(&self, block: &mut Block) {
         self.few.process_few(slice::from_mut(block));
@@ -183,13 +192,13 @@ impl<W: SlotWord> BlockCipherEncBackend for Batches<'_, Encrypt, W> {
 
     #[inline(always)]
     fn encrypt_par_blocks(&self, blocks: &mut [Block]) {
-        process_batch_under::<W, Encrypt>(self.words, blocks, &mut Layers::new());
+        process_batch_under::<W::Many, Encrypt>(self.words, blocks, &mut Layers::new());
     }
 
     #[tactic(auto, using(aes_cipher::proofs::FirstBlocks::first_of_all))]
     #[inline(always)]
     fn encrypt_first_blocks(&self, count: usize, blocks: &mut [Block]) {
-        if count <= MOST_ON_LANES {
+        if count <= W::MOST_AFTER_BATCHES {
             self.few.process_few(&mut blocks[..count]);
         } else {
             self.encrypt_par_blocks(blocks);
@@ -197,7 +206,7 @@ impl<W: SlotWord> BlockCipherEncBackend for Batches<'_, Encrypt, W> {
     }
 }
 
-impl<W: SlotWord> BlockCipherDecBackend for Batches<'_, Decrypt, W> {
+impl<W: Width> BlockCipherDecBackend for Batches<'_, Decrypt, W> {
     #[inline(always)]
     fn decrypt_block(&self, block: &mut Block) {
         self.few.process_few(slice::from_mut(block));
@@ -205,6 +214,6 @@ impl<W: SlotWord> BlockCipherDecBackend for Batches<'_, Decrypt, W> {
 
     #[inline(always)]
     fn decrypt_par_blocks(&self, blocks: &mut [Block]) {
-        process_batch_under::<W, Decrypt>(self.words, blocks, &mut Layers::new());
+        process_batch_under::<W::Many, Decrypt>(self.words, blocks, &mut Layers::new());
     }
 }

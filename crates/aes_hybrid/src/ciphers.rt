@@ -4,9 +4,9 @@ ghost use Rattle.std.specs.Prelude.{◌≡◌, replicate};
 ghost use Rattle.aes_permute.specs.Keys.{stored_keys};
 ghost use Rattle.aes_permute.specs.Keys.{cipher_key, AreInverse, IsCipherSchedule};
 
-use crate::backends::Pairs;
-use crate::blocks::{BATCH, process_blocks};
-use crate::closures::call_with_batches;
+use crate::backends::OnLanes;
+use crate::blocks::process_blocks;
+use crate::closures::call_with_backend;
 use crate::lent::Lent;
 use crate::widths::{Narrow, Width};
 use aes_cipher::aes::{Decrypts, Encrypts, KeyBytes, KeySchedule, KeySize, MadeFrom, Processes};
@@ -84,7 +84,7 @@ impl<K: KeySize, W: Width> Processes<Encrypt> for Encrypting<K, W> {
     #[inline(always)]
     fn process_block(&self, block: &mut Block) {
         let keys = keys_of::<K>(self.room.value());
-        Pairs::<Encrypt>::new(keys, keys).process_few(slice::from_mut(block));
+        OnLanes::<Encrypt, W>::new(keys, keys).process_few(slice::from_mut(block));
     }
 
     fn process_blocks(&self, blocks: &mut [Block]) {
@@ -201,7 +201,7 @@ impl<K: KeySize, W: Width> Processes<Decrypt> for BothLists<K, W> {
     fn process_block(&self, block: &mut Block) {
         let keys = keys_of::<K>(self.encrypting.room.value());
         let used = keys_of::<K>(self.inverse.value());
-        Pairs::<Decrypt>::new(keys, used).process_few(slice::from_mut(block));
+        OnLanes::<Decrypt, W>::new(keys, used).process_few(slice::from_mut(block));
     }
 
     fn process_blocks(&self, blocks: &mut [Block]) {
@@ -218,10 +218,6 @@ impl<K: KeySize, W: Width> Decrypts for BothLists<K, W> {
     fn decrypt_with_backend_for<F: BlockCipherDecClosure>(&self, blocks: usize, f: &mut F) {
         let keys = keys_of::<K>(self.encrypting.room.value());
         let used = keys_of::<K>(self.inverse.value());
-        if blocks < BATCH {
-            f.call(&Pairs::<Decrypt>::new(keys, used));
-        } else {
-            call_with_batches::<Decrypt, W, F>(keys, used, blocks, f);
-        }
+        call_with_backend::<Decrypt, W, F>(keys, used, blocks, f);
     }
 }

@@ -6,24 +6,24 @@ ghost use Rattle.aes_permute.specs.Keys.{encrypting};
 ghost use Rattle.aes_permute.specs.Stored.{round_keys_of};
 ghost use Rattle.aes_permute.specs.Keys.{cipher_key, IsCipherSchedule};
 
-use crate::backends::{Batches, Pairs};
-use crate::blocks::LEAST_BY_SIXTEEN;
+use crate::backends::{Batches, OnLanes};
 use crate::plane_keys::PlaneKeys;
-use crate::slots::SlotWord;
 use crate::widths::Width;
 use aes_cipher::cipher::{BlockCipherDecClosure, BlockCipherEncClosure, Decrypt, Encrypt};
 use aes_permute::lane_rounds::LaneRounds;
 use aes_planes::soft::word::Block;
-use aes_soft::soft::key_sizes::BatchWord;
-use std::simd::prelude::*;
 
 /// A caller's closure that works with a backend of the direction D.
 pub(crate) trait ClosureIn<D: LaneRounds> {
     /// What the work does.
     ghost does: { Self → List (List ℕ) → Self → Type 0 };
 
-    /// Does the work.
-    fn work<P: SlotWord>(&mut self, backend: &Batches<'_, D, P>)
+    /// Does the work by vector permutations.
+    fn work_on_lanes<W: Width>(&mut self, backend: &OnLanes<'_, D, W>)
+        ensures { does self.old (fips.key_expansion backend.now) self.new };
+
+    /// Does the work in batches on planes.
+    fn work<W: Width>(&mut self, backend: &Batches<'_, D, W>)
         ensures { does self.old (fips.key_expansion backend.now) self.new };
 }
 
@@ -31,7 +31,12 @@ impl<F: BlockCipherEncClosure> ClosureIn<Encrypt> for F {
     ghost does = { F.did };
 
     #[inline(always)]
-    fn work<P: SlotWord>(&mut self, backend: &Batches<'_, Encrypt, P>) {
+    fn work_on_lanes<W: Width>(&mut self, backend: &OnLanes<'_, Encrypt, W>) {
+        self.call(backend);
+    }
+
+    #[inline(always)]
+    fn work<W: Width>(&mut self, backend: &Batches<'_, Encrypt, W>) {
         self.call(backend);
     }
 }
@@ -40,14 +45,19 @@ impl<F: BlockCipherDecClosure> ClosureIn<Decrypt> for F {
     ghost does = { F.did };
 
     #[inline(always)]
-    fn work<P: SlotWord>(&mut self, backend: &Batches<'_, Decrypt, P>) {
+    fn work_on_lanes<W: Width>(&mut self, backend: &OnLanes<'_, Decrypt, W>) {
+        self.call(backend);
+    }
+
+    #[inline(always)]
+    fn work<W: Width>(&mut self, backend: &Batches<'_, Decrypt, W>) {
         self.call(backend);
     }
 }
 
-// Calls a closure with a backend on planes of some word, which are wiped before the call returns.
+// Calls a closure with a backend on planes, which are wiped before the call returns.
 #[inline(always)]
-fn call_with_planes<D: LaneRounds, P: SlotWord, F: ClosureIn<D>>(
+fn call_with_planes<D: LaneRounds, W: Width, F: ClosureIn<D>>(
     keys: &[Block],
     used: &[Block],
     f: &mut F,
@@ -56,16 +66,16 @@ fn call_with_planes<D: LaneRounds, P: SlotWord, F: ClosureIn<D>>(
     requires used { round_keys_of D.form used.now ≡ D.form.used_keys (encrypting keys.now) }
     ensures { F.does f.old (fips.key_expansion (cipher_key keys.now)) f.new }
 {
-    let mut planes = PlaneKeys::<P>::zeroed();
+    let mut planes = PlaneKeys::<W::Many>::zeroed();
     planes.store(keys);
-    f.work(&Batches::new(Pairs::new(keys, used), planes.lend(keys.len())));
+    f.work::<W>(&Batches::new(OnLanes::new(keys, used), planes.lend(keys.len())));
     planes.wipe();
 }
 
-/// Calls a closure with a backend on planes that suits this number of blocks. `keys` are the stored round keys of Cipher, and
-/// `used` those of the direction.
+/// Calls a closure with a backend that suits this number of blocks. `keys` are the stored round keys of Cipher, and `used`
+/// those of the direction.
 #[inline(always)]
-pub(crate) fn call_with_batches<D: LaneRounds, W: Width, F: ClosureIn<D>>(
+pub(crate) fn call_with_backend<D: LaneRounds, W: Width, F: ClosureIn<D>>(
     keys: &[Block],
     used: &[Block],
     blocks: usize,
@@ -75,9 +85,9 @@ pub(crate) fn call_with_batches<D: LaneRounds, W: Width, F: ClosureIn<D>>(
     requires used { round_keys_of D.form used.now ≡ D.form.used_keys (encrypting keys.now) }
     ensures { F.does f.old (fips.key_expansion (cipher_key keys.now)) f.new }
 {
-    if W::HAS_SIXTEENS && blocks >= LEAST_BY_SIXTEEN {
-        call_with_planes::<D, u8x32, F>(keys, used, f);
+    if blocks < W::LEAST_FOR_CLOSURES {
+        f.work_on_lanes::<W>(&OnLanes::new(keys, used));
     } else {
-        call_with_planes::<D, BatchWord, F>(keys, used, f);
+        call_with_planes::<D, W, F>(keys, used, f);
     }
 }

@@ -5,9 +5,8 @@ ghost use Rattle.aes_planes.specs.Fips197 as fips;
 ghost use Rattle.aes_planes.proofs.Standard.CipherLaws.{two_keys};
 ghost use Rattle.aes_permute.specs.Keys.{cipher_key, IsCipherSchedule};
 
-use crate::backends::Pairs;
-use crate::blocks::{BATCH, process_blocks};
-use crate::closures::call_with_batches;
+use crate::blocks::process_blocks;
+use crate::closures::call_with_backend;
 use crate::widths::{Narrow, Width};
 use aes_cipher::cipher::{BlockCipherEncClosure, BlockCipherEncrypt, Encrypt, RoundKeysUser};
 use aes_planes::laws;
@@ -15,8 +14,8 @@ use aes_planes::soft::word::Block;
 use std::marker::{Model, PhantomData};
 use std::slice;
 
-/// Stored round keys of Cipher, lent to encrypt. The backend for eight blocks or more has planes for whole batches, and
-/// that for fewer vector permutations alone. Contracts see a value as its key.
+/// Stored round keys of Cipher, lent to encrypt. The backend for many blocks has planes for whole batches, and that for few
+/// vector permutations alone. Contracts see a value as its key.
 pub struct Lent<'a, W = Narrow> {
     keys: &'a [Block],
     width: PhantomData<W>,
@@ -65,16 +64,12 @@ impl<W> RoundKeysUser for Lent<'_, W> {
 impl<W: Width> BlockCipherEncrypt for Lent<'_, W> {
     #[inline(always)]
     fn encrypt_with_backend<F: BlockCipherEncClosure>(&self, f: &mut F) {
-        call_with_batches::<Encrypt, W, F>(self.keys, self.keys, BATCH, f);
+        self.encrypt_with_backend_for(W::LEAST_FOR_CLOSURES, f);
     }
 
     #[inline(always)]
     fn encrypt_with_backend_for<F: BlockCipherEncClosure>(&self, blocks: usize, f: &mut F) {
-        if blocks < BATCH {
-            f.call(&Pairs::<Encrypt>::new(self.keys, self.keys));
-        } else {
-            call_with_batches::<Encrypt, W, F>(self.keys, self.keys, blocks, f);
-        }
+        call_with_backend::<Encrypt, W, F>(self.keys, self.keys, blocks, f);
     }
 
     #[inline(always)]

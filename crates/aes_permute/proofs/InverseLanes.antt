@@ -25,7 +25,7 @@ use Rattle.aes_permute.specs.declared.tables.TheConstants.{KEY_9_LOW, KEY_9_HIGH
 use Rattle.aes_permute.proofs.Linear.{inv_untower_three, Product, row, Makes, rows_added, rows_multiplied, rows_mixed}
 use Rattle.aes_permute.proofs.Linear.{same_on_block, same_on_blocks}
 use Rattle.aes_permute.proofs.Lookups.{maps_same, maps_agree}
-use Rattle.aes_permute.proofs.RoundLanes.{through, swizzled, zip_is_sum, zip_sum_bytes}
+use Rattle.aes_permute.proofs.RoundLanes.{through, permuted, zip_is_sum, zip_sum_bytes}
 
 -- ---- what is looked up
 
@@ -126,9 +126,9 @@ fourth_row = 7 ∷ 0 ∷ 13 ∷ 10 ∷ 11 ∷ 4 ∷ 1 ∷ 14 ∷ 15 ∷ 8 ∷ 5 
 -- the sums that a round makes of four products of the state and a round key
 abbrev pub inv_round_of : List ℕ → List ℕ → List ℕ → List ℕ → List ℕ → List ℕ
 inv_round_of a b c d k =
-    zip2 bit_xor (zip2 bit_xor (zip2 bit_xor (swizzled a same_row) k)
-    (zip2 bit_xor (swizzled c third_row) (swizzled d fourth_row)))
-    (swizzled b next_row)
+    zip2 bit_xor (zip2 bit_xor (zip2 bit_xor (permuted a same_row) k)
+    (zip2 bit_xor (permuted c third_row) (permuted d fourth_row)))
+    (permuted b next_row)
 
 abbrev on_lanes : List ℕ → List ℕ → List ℕ
 on_lanes x k = on_products of_bytes (λ a b c d. inv_round_of a b c d k) x
@@ -183,7 +183,7 @@ first_is b k h m =
 
 -- the sum of the last round: the substituted bytes, shifted back, and a round key
 abbrev pub last_of : List ℕ → List ℕ → List ℕ
-last_of p k = zip2 bit_xor (swizzled p same_row) k
+last_of p k = zip2 bit_xor (permuted p same_row) k
 
 last_shifted : (y k : List ℕ) → length y ≡ 16 → length k ≡ 16 → last_of y k ≡ add_round_key (inv_shift_rows y) k
 unfolding state build add_round_key inv_shift_rows
@@ -226,8 +226,8 @@ fourth_in_column = 3 ∷ 0 ∷ 1 ∷ 2 ∷ 7 ∷ 4 ∷ 5 ∷ 6 ∷ 11 ∷ 8 ∷ 
 -- the sums that mixing a round key back makes of its four products
 abbrev pub unmixed_of : List ℕ → List ℕ → List ℕ → List ℕ → List ℕ
 unmixed_of a b c d =
-    zip2 bit_xor (zip2 bit_xor a (zip2 bit_xor (swizzled c third_in_column) (swizzled d fourth_in_column)))
-    (swizzled b next_in_column)
+    zip2 bit_xor (zip2 bit_xor a (zip2 bit_xor (permuted c third_in_column) (permuted d fourth_in_column)))
+    (permuted b next_in_column)
 
 -- a round key is mixed as in a round that adds zeros
 zeros_added : (y : List ℕ) → length y ≡ 16 → zip2 bit_xor y (replicate 16 0) ≡ y

@@ -87,10 +87,6 @@ over_both_places h l p q =
     ∙ pairs_pass is_index (λ x y. bit_xor (looked INVERSE (bit_xor x y)) (looked SCALED_INVERSE y)) over_both_cases h l
     p q
 
--- what the inverse by halves takes
-pub ruleset inverse_lookups =
-    (nibbles_are_indices, both_places, over_high_places, over_both_places, firsts_are, seconds_are)
-
 -- ---- the places of bytes
 
 first_cases : all_below 256 (λ b. is_index (first_of b)) ≡ true
@@ -118,9 +114,6 @@ firsts_of x = zip2-map first_place high_nibble low_nibble x
 pub seconds_of : (x : List ℕ) → zip2 second_place (map high_nibble x) (map low_nibble x) ≡ map second_of x
 unfolding second_of
 seconds_of x = zip2-map second_place high_nibble low_nibble x
-
--- what the places of bytes take
-pub ruleset places_of_bytes = (low_is, high_is, firsts_of, seconds_of, first_places, second_places)
 
 -- ---- what is looked up at two places
 

@@ -1,4 +1,5 @@
 -- The files of lemmas.
+pub mod ByHalves
 pub mod DirectionLaws
 pub mod Expansion
 pub mod InverseLanes

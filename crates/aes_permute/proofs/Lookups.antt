@@ -95,16 +95,26 @@ unfolding all_below
 low_cases = refl
 
 -- bytes and-ed with 15 are their low nibbles
+pub low_nibbles_of : (n : ℕ) (x : List ℕ) → length x ≡ n → IsBytes x
+    → zip2 bit_and x (replicate n 15) ≡ map low_nibble x
+low_nibbles_of n x l h = zip2_splat bit_and x n 15 l ∙ maps_same (λ b. bit_and b 15) low_nibble low_cases x h
+
+-- those of a block too
 pub low_nibbles_are : (x : List ℕ) → IsBlock x → zip2 bit_and x (replicate 16 15) ≡ map low_nibble x
-low_nibbles_are x h = zip2_splat bit_and x 16 15 h.0 ∙ maps_same (λ b. bit_and b 15) low_nibble low_cases x h.1
+low_nibbles_are x h = low_nibbles_of 16 x h.0 h.1
 
 high_cases : all_below 256 (λ b. b / 16 == high_nibble b) ≡ true
 unfolding all_below
 high_cases = refl
 
 -- bytes shifted right by 4 bits are their high nibbles
+pub high_nibbles_of : (n : ℕ) (x : List ℕ) → length x ≡ n → IsBytes x
+    → zip2 (λ a b. a / 2 ^ b) x (replicate n 4) ≡ map high_nibble x
+high_nibbles_of n x l h = zip2_splat (λ a b. a / 2 ^ b) x n 4 l ∙ maps_same (λ b. b / 16) high_nibble high_cases x h
+
+-- those of a block too
 pub high_nibbles_are : (x : List ℕ) → IsBlock x → zip2 (λ a b. a / 2 ^ b) x (replicate 16 4) ≡ map high_nibble x
-high_nibbles_are x h = zip2_splat (λ a b. a / 2 ^ b) x 16 4 h.0 ∙ maps_same (λ b. b / 16) high_nibble high_cases x h.1
+high_nibbles_are x h = high_nibbles_of 16 x h.0 h.1
 
 low_is_nibble : all_below 256 (λ b. nat_lt (low_nibble b) 16) ≡ true
 unfolding all_below
@@ -129,5 +139,6 @@ nibbles_looked_up t u x =
     zip2_of_maps bit_xor (λ b. looked t (low_nibble b)) (λ b. looked u (high_nibble b)) x
     (map-map (looked t) low_nibble x) (map-map (looked u) high_nibble x)
 
--- what look-ups by nibbles take
-pub ruleset nibble_lookups = (nibbles_are_indices, low_is, high_is, nibbles_looked_up)
+-- a sum, by what its summands are
+pub summed : {a b x y z : List ℕ} → z ≡ zip2 bit_xor x y → x ≡ a → y ≡ b → z ≡ zip2 bit_xor a b
+summed e p q = e ∙ (λ t. zip2 bit_xor (p t) (q t))

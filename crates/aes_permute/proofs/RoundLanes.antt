@@ -1,10 +1,10 @@
 -- The rounds of Cipher on lanes.
-use Rattle.std.proofs.Common.{◌≡◌, ℕ, ◌+◌, ◌%◌, ◌==◌, true, bit_xor, List, [], ◌∷◌, ◌++◌, length, map, map-id}
+use Rattle.std.proofs.Common.{◌≡◌, ℕ, ◌+◌, ◌%◌, ◌==◌, true, bit_xor, List, [], ◌∷◌, length, map, map-id}
 use Rattle.std.proofs.Common.{refl, ap, sym, subst, ◌∙◌}
 use Rattle.std.specs.Int.Bits.{xor_assoc}
 use Rattle.std.proofs.lemmas.Nat.{xor_comm}
 use Rattle.std.proofs.lemmas.Simd.{zip2-map, map-map}
-use lib.Lanes.{zip2, pick_l}
+use lib.Lanes.{zip2}
 use Rattle.aes_planes.specs.Fips197.{field_mul, sbox, byte_at, build, state, row_by_column, sub_bytes, shift_rows}
 use Rattle.aes_planes.specs.Fips197.{mix_columns, add_round_key, IsBytes, IsBlock}
 use Rattle.aes_planes.specs.Planes.{plus63}
@@ -13,7 +13,7 @@ use Rattle.aes_planes.proofs.Standard.FieldLaws.{add_swap}
 use Rattle.aes_planes.proofs.Standard.States.{state_same}
 use Rattle.aes_planes.proofs.Standard.Steps.{map_length, add_block}
 use Rattle.aes_permute.specs.Inverse.{first_of, second_of, at_places}
-use Rattle.aes_permute.specs.Lookup.{by_nibbles}
+use Rattle.aes_permute.specs.Lookup.{looked, by_nibbles}
 use Rattle.aes_permute.specs.Stored.{untower, key_untower}
 use Rattle.aes_permute.specs.declared.tables.TheConstants.{TOWER_LOW, TOWER_HIGH, SBOX_FIRST, SBOX_SECOND, ONE_FIRST}
 use Rattle.aes_permute.specs.declared.tables.TheConstants.{ONE_SECOND, TWO_FIRST, TWO_SECOND}
@@ -76,9 +76,9 @@ next_row = 5 ∷ 10 ∷ 15 ∷ 0 ∷ 9 ∷ 14 ∷ 3 ∷ 4 ∷ 13 ∷ 2 ∷ 7 ∷
 abbrev pub fourth_row : List ℕ
 fourth_row = 15 ∷ 0 ∷ 5 ∷ 10 ∷ 3 ∷ 4 ∷ 9 ∷ 14 ∷ 7 ∷ 8 ∷ 13 ∷ 2 ∷ 11 ∷ 12 ∷ 1 ∷ 6 ∷ []
 
--- the bytes of a block, taken from the lanes of a list
-abbrev pub swizzled : List ℕ → List ℕ → List ℕ
-swizzled xs ks = pick_l 0 (xs ++ xs) ks
+-- a block with its lanes from these places of it
+abbrev pub permuted : List ℕ → List ℕ → List ℕ
+permuted xs ks = map (looked xs) ks
 
 -- the lanes of the next row, before the rows are shifted
 abbrev pub row_before : List ℕ
@@ -86,12 +86,12 @@ row_before = 5 ∷ 6 ∷ 7 ∷ 4 ∷ 9 ∷ 10 ∷ 11 ∷ 8 ∷ 13 ∷ 14 ∷ 15 
 
 -- the doubles, each with the byte of the next row
 abbrev pub paired : List ℕ → List ℕ → List ℕ
-paired o t = zip2 bit_xor t (swizzled o row_before)
+paired o t = zip2 bit_xor t (permuted o row_before)
 
 -- the sum that a round makes of what it looked up for 1, the pairs, and a round key
 abbrev pub round_of : List ℕ → List ℕ → List ℕ → List ℕ
 round_of o p k =
-    zip2 bit_xor (zip2 bit_xor (zip2 bit_xor (swizzled o fourth_row) k) (swizzled p same_row)) (swizzled p next_row)
+    zip2 bit_xor (zip2 bit_xor (zip2 bit_xor (permuted o fourth_row) k) (permuted p same_row)) (permuted p next_row)
 
 abbrev on_lanes : List ℕ → List ℕ → List ℕ
 on_lanes x k = map untower (round_of (map one x) (paired (map one x) (map two x)) k)
@@ -185,15 +185,15 @@ plain_is x h = maps_same plain (λ b. plus63 (boxed b)) plain_cases x h ∙ sym 
 
 -- the sum of the last round: the substituted bytes, shifted, and a round key
 abbrev pub last_of : List ℕ → List ℕ → List ℕ
-last_of p k = zip2 bit_xor (swizzled p same_row) k
+last_of p k = zip2 bit_xor (permuted p same_row) k
 
 last_shifted : (y k : List ℕ) → length y ≡ 16 → length k ≡ 16 → last_of y k ≡ add_round_key (shift_rows y) k
 unfolding state build add_round_key shift_rows
 last_shifted = same_on_blocks last_of (λ y k. add_round_key (shift_rows y) k) (λ f g. refl)
 
-swizzled_plus63 : (y : List ℕ) → length y ≡ 16 → swizzled (map plus63 y) same_row ≡ map plus63 (swizzled y same_row)
+permuted_plus63 : (y : List ℕ) → length y ≡ 16 → permuted (map plus63 y) same_row ≡ map plus63 (permuted y same_row)
 unfolding build
-swizzled_plus63 = same_on_block (λ y. swizzled (map plus63 y) same_row) (λ y. map plus63 (swizzled y same_row))
+permuted_plus63 = same_on_block (λ y. permuted (map plus63 y) same_row) (λ y. map plus63 (permuted y same_row))
     (λ f. refl)
 
 -- the constant goes from the S-box to the key
@@ -210,8 +210,8 @@ unfolding sub_bytes
 last_is x k h m e =
     let y = sub_bytes (map untower x) in
     let l : length y ≡ 16 = map_length sbox (map untower x) ∙ map_length untower x ∙ h.0 in
-    ap (λ v. last_of v k) (e ∙ plain_is x h.1) ∙ ap (λ v. zip2 bit_xor v k) (swizzled_plus63 y l)
-    ∙ plus63_across (swizzled y same_row) k ∙ last_shifted y (map plus63 k) l (map_length plus63 k ∙ m)
+    ap (λ v. last_of v k) (e ∙ plain_is x h.1) ∙ ap (λ v. zip2 bit_xor v k) (permuted_plus63 y l)
+    ∙ plus63_across (permuted y same_row) k ∙ last_shifted y (map plus63 k) l (map_length plus63 k ∙ m)
 
 -- ---- SubBytes of bytes as they are
 

@@ -20,7 +20,6 @@ use Rattle.aes_permute.specs.declared.tables.TheConstants.{TOWER_LOW, TOWER_HIGH
 use Rattle.aes_permute.specs.declared.schedule.TheConstants.{FIRST_ROW, COLUMN_BEFORE, TWO_COLUMNS_BEFORE}
 use Rattle.aes_permute.proofs.Linear.{same_on_block, same_on_blocks}
 use Rattle.aes_permute.proofs.Lookups.{maps_same}
-use Rattle.aes_permute.proofs.RoundLanes.{swizzled}
 
 -- ---- sums of columns
 
@@ -102,6 +101,10 @@ addend_made k h =
     let e : bit_xor (bit_and k 255) 0x63 ≡ bit_xor k 0x63 = eqb-true _ _ t.0 in
     let z : bit_xor (bit_and k 0) 0x63 ≡ 0x63 = eqb-true _ _ t.1 in
     λ i. e i ∷ z i ∷ z i ∷ z i ∷ e i ∷ z i ∷ z i ∷ z i ∷ e i ∷ z i ∷ z i ∷ z i ∷ e i ∷ z i ∷ z i ∷ z i ∷ []
+
+-- lanes taken from a list
+abbrev pub swizzled : List ℕ → List ℕ → List ℕ
+swizzled xs ks = pick_l 0 (xs ++ xs) ks
 
 -- the lanes of the last column, rotated by one row, in each of the four columns
 abbrev pub rotated_column : List ℕ

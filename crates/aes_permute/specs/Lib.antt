@@ -3,3 +3,4 @@ pub mod Inverse
 pub mod Keys
 pub mod Lookup
 pub mod Stored
+pub mod Vectors

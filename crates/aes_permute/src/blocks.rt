@@ -1,80 +1,84 @@
-//! Blocks processed under stored round keys: one, two at once, and slices of them.
+//! Blocks processed under stored round keys: those of a vector, of two vectors at once, and slices of them.
 
-ghost use Rattle.std.specs.Prelude.{◌≡◌, ◌≤◌, length};
+ghost use Rattle.std.specs.Prelude.{◌≡◌, ◌≤◌, ℕ, length};
 ghost use Rattle.aes_planes.specs.Each.{Each};
-ghost use Rattle.aes_planes.specs.Fips197 as fips;
 ghost use Rattle.aes_planes.specs.Rounds.{all_rounds};
 ghost use Rattle.aes_permute.specs.Stored.{round_keys_of};
 
 use crate::lane_rounds::LaneRounds;
+use crate::lanes::Lanes;
 use aes_planes::soft::word::Block;
 use std::simd::prelude::*;
 
-/// How many blocks are processed at once: the steps of one fill the waits of the other.
-pub const PAR_BLOCKS: usize = 2;
-
-// No effect; states that a stored round key is a block of the standard (FIPS 197, 3.4).
+// Processes the blocks of a vector.
 #[inline(always)]
-fn is_block(key: Block)
-    ensures { fips.IsBlock key }
-{}
-
-/// Processes a block under stored round keys.
-#[inline(always)]
-pub fn process_block<D: LaneRounds>(keys: &[Block], block: &Block) -> Block
+fn process_vector<D: LaneRounds, L: Lanes>(keys: &[Block], blocks: L) -> L
     requires two { 2 ≤ length keys.now }
-    ensures { result ≡ all_rounds D.step D.last_step (round_keys_of D.form keys.now)
-        block.now }
+    ensures { (i : ℕ) → L.block result i ≡ all_rounds D.step D.last_step
+        (round_keys_of D.form keys.now) (L.block blocks i) }
 {
     let last = keys.len() - 1;
-    is_block(keys[0]);
-    let mut x = D::first(u8x16::from_array(*block), u8x16::from_array(keys[0]));
+    let first_key = L::repeated(keys[0]);
+    let mut x = D::first(blocks, first_key);
     for i in 1..last {
-        is_block(keys[i]);
-        x = D::round(x, u8x16::from_array(keys[i]));
+        let key = L::repeated(keys[i]);
+        x = D::round(x, key);
     }
-    is_block(keys[last]);
-    D::last(x, u8x16::from_array(keys[last])).to_array()
+    let last_key = L::repeated(keys[last]);
+    D::last(x, last_key)
 }
 
-// Processes two blocks, round by round.
+// Processes the blocks of two vectors, round by round: the steps of one fill the waits of the other.
 #[inline(always)]
-fn process_two<D: LaneRounds>(keys: &[Block], one: &Block, other: &Block) -> (Block, Block)
+fn process_two<D: LaneRounds, L: Lanes>(keys: &[Block], one: L, other: L) -> (L, L)
     requires two { 2 ≤ length keys.now }
-    ensures one { result.0 ≡ all_rounds D.step D.last_step
-        (round_keys_of D.form keys.now) one.now }
-    ensures other { result.1 ≡ all_rounds D.step D.last_step
-        (round_keys_of D.form keys.now) other.now }
+    ensures one { (i : ℕ) → L.block result.0 i ≡ all_rounds D.step D.last_step
+        (round_keys_of D.form keys.now) (L.block one i) }
+    ensures other { (i : ℕ) → L.block result.1 i ≡ all_rounds D.step D.last_step
+        (round_keys_of D.form keys.now) (L.block other i) }
 {
     let last = keys.len() - 1;
-    is_block(keys[0]);
-    let mut x = D::first(u8x16::from_array(*one), u8x16::from_array(keys[0]));
-    let mut y = D::first(u8x16::from_array(*other), u8x16::from_array(keys[0]));
+    let first_key = L::repeated(keys[0]);
+    let mut x = D::first(one, first_key);
+    let mut y = D::first(other, first_key);
     for i in 1..last {
-        is_block(keys[i]);
-        x = D::round(x, u8x16::from_array(keys[i]));
-        y = D::round(y, u8x16::from_array(keys[i]));
+        let key = L::repeated(keys[i]);
+        x = D::round(x, key);
+        y = D::round(y, key);
     }
-    is_block(keys[last]);
-    let block = D::last(x, u8x16::from_array(keys[last])).to_array();
-    (block, D::last(y, u8x16::from_array(keys[last])).to_array())
+    let last_key = L::repeated(keys[last]);
+    let first = D::last(x, last_key);
+    let second = D::last(y, last_key);
+    (first, second)
 }
 
-/// Processes each block of a slice under stored round keys: two at once, and then the last where their number is odd.
-pub fn process_blocks<D: LaneRounds>(keys: &[Block], blocks: &mut [Block])
+/// Processes each block of a slice under stored round keys: two vectors at once, then one, and then one block.
+pub fn process_blocks<D: LaneRounds, L: Lanes>(keys: &[Block], blocks: &mut [Block])
     requires two { 2 ≤ length keys.now }
     ensures { Each (all_rounds D.step D.last_step (round_keys_of D.form keys.now))
         blocks.old blocks.new }
 {
+    let size = L::BLOCKS;
     let count = blocks.len();
     let mut done = 0;
-    while count - done >= PAR_BLOCKS {
-        let (one, other) = process_two::<D>(keys, &blocks[done], &blocks[done + 1]);
-        blocks[done] = one;
-        blocks[done + 1] = other;
-        done += PAR_BLOCKS;
+    'pairs: while count - done >= 2 * size {
+        let one = L::load(blocks, done);
+        let other = L::load(blocks, done + size);
+        let (first, second) = process_two::<D, L>(keys, one, other);
+        first.store(blocks, done);
+        second.store(blocks, done + size);
+        done += 2 * size;
     }
-    if done < count {
-        blocks[done] = process_block::<D>(keys, &blocks[done]);
+    'vectors: while count - done >= size {
+        let one = L::load(blocks, done);
+        let processed = process_vector::<D, L>(keys, one);
+        processed.store(blocks, done);
+        done += size;
+    }
+    'singles: while done < count {
+        let one = u8x16::load(blocks, done);
+        let processed = process_vector::<D, u8x16>(keys, one);
+        processed.store(blocks, done);
+        done += 1;
     }
 }

@@ -6,12 +6,12 @@ ghost use Rattle.aes_planes.specs.Rounds.{all_rounds};
 ghost use Rattle.aes_permute.specs.Keys.{cipher_form, inverse_form, encrypting, decrypting};
 ghost use Rattle.aes_permute.specs.Stored.{round_keys_of, untower, inv_untower, LaneForm};
 
+use crate::lanes::Lanes;
 use crate::rounds::{
     decrypt_first, decrypt_last, decrypt_round, encrypt_first, encrypt_last, encrypt_round,
 };
 use aes_cipher::cipher::{Decrypt, Direction, Encrypt};
 use aes_planes::soft::word::Block;
-use std::simd::prelude::*;
 
 /// A direction on lanes: its rounds, and the round keys that they use. States and round keys are kept in a basis of the
 /// direction's own.
@@ -28,23 +28,20 @@ pub trait LaneRounds: Direction {
     /// Whether the rounds use the standard's list from its end.
     const BACKWARD: bool;
 
-    /// Adds the first round key to a block, and returns the state.
-    fn first(block: u8x16, key: u8x16) -> u8x16
-        requires block { fips.IsBlock block }
-        requires key { fips.IsBlock key }
-        ensures { map state_byte result ≡ fips.add_round_key block (map form.first_byte key) };
+    /// Adds the first round key to each block, and returns the states.
+    fn first<L: Lanes>(blocks: L, key: L) -> L
+        ensures { (i : ℕ) → map state_byte (L.block result i)
+            ≡ fips.add_round_key (L.block blocks i) (map form.first_byte (L.block key i)) };
 
     /// Runs a round that is not the last.
-    fn round(x: u8x16, key: u8x16) -> u8x16
-        requires block { fips.IsBlock x }
-        requires key { fips.IsBlock key }
-        ensures { map state_byte result ≡ fips.add_round_key (Self.step (map state_byte x)) (map form.inner_byte key) };
+    fn round<L: Lanes>(x: L, key: L) -> L
+        ensures { (i : ℕ) → map state_byte (L.block result i)
+            ≡ fips.add_round_key (Self.step (map state_byte (L.block x i))) (map form.inner_byte (L.block key i)) };
 
-    /// Runs the last round, and returns the block.
-    fn last(x: u8x16, key: u8x16) -> u8x16
-        requires block { fips.IsBlock x }
-        requires key { fips.IsBlock key }
-        ensures { result ≡ fips.add_round_key (Self.last_step (map state_byte x)) (map form.last_byte key) };
+    /// Runs the last round, and returns the blocks.
+    fn last<L: Lanes>(x: L, key: L) -> L
+        ensures { (i : ℕ) → L.block result i
+            ≡ fips.add_round_key (Self.last_step (map state_byte (L.block x i))) (map form.last_byte (L.block key i)) };
 
     /// Returns those that the rounds use, of the stored round keys of Cipher and of EqInvCipher of one key.
     fn used_of<'a>(keys: &'a [Block], inverse: &'a [Block]) -> &'a [Block]
@@ -72,17 +69,17 @@ impl LaneRounds for Encrypt {
     const BACKWARD: bool = false;
 
     #[inline(always)]
-    fn first(block: u8x16, key: u8x16) -> u8x16 {
-        encrypt_first(block, key)
+    fn first<L: Lanes>(blocks: L, key: L) -> L {
+        encrypt_first(blocks, key)
     }
 
     #[inline(always)]
-    fn round(x: u8x16, key: u8x16) -> u8x16 {
+    fn round<L: Lanes>(x: L, key: L) -> L {
         encrypt_round(x, key)
     }
 
     #[inline(always)]
-    fn last(x: u8x16, key: u8x16) -> u8x16 {
+    fn last<L: Lanes>(x: L, key: L) -> L {
         encrypt_last(x, key)
     }
 
@@ -110,17 +107,17 @@ impl LaneRounds for Decrypt {
     const BACKWARD: bool = true;
 
     #[inline(always)]
-    fn first(block: u8x16, key: u8x16) -> u8x16 {
-        decrypt_first(block, key)
+    fn first<L: Lanes>(blocks: L, key: L) -> L {
+        decrypt_first(blocks, key)
     }
 
     #[inline(always)]
-    fn round(x: u8x16, key: u8x16) -> u8x16 {
+    fn round<L: Lanes>(x: L, key: L) -> L {
         decrypt_round(x, key)
     }
 
     #[inline(always)]
-    fn last(x: u8x16, key: u8x16) -> u8x16 {
+    fn last<L: Lanes>(x: L, key: L) -> L {
         decrypt_last(x, key)
     }
 

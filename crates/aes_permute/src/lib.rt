@@ -4,6 +4,7 @@
 
 pub mod blocks;
 pub mod examples;
+pub mod halves;
 pub mod lane_rounds;
 pub mod lanes;
 pub mod rounds;

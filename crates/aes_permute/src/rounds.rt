@@ -1,117 +1,128 @@
 //! The rounds of Cipher and EqInvCipher on lanes, and their round keys. States are kept in the tower basis, and round
 //! keys so that the constant of the S-box is added with them.
 
-ghost use Rattle.std.specs.Prelude.{◌≡◌, map, bit_xor};
+ghost use Rattle.std.specs.Prelude.{◌≡◌, ℕ, map, bit_xor};
 ghost use Rattle.std.specs.Simd.Lanes.{zip2};
 ghost use Rattle.aes_planes.specs.Fips197 as fips;
 ghost use Rattle.aes_planes.specs.Planes.{plus63};
 ghost use Rattle.aes_permute.specs.Stored.{untower, inv_untower, key_untower};
 
-use crate::lanes::{looked_up_by_nibbles, sum};
+use crate::lanes::{Lanes, looked_up_by_nibbles};
 use crate::sbox::{looked_up, places_of};
 use crate::tables::*;
 use std::simd::prelude::*;
 
-/// Adds round key 0 to a block, and returns the state of Cipher (FIPS 197, 5.1).
-#[tactic(auto, using(crate::proofs::RoundLanes::first_is))]
+/// Adds round key 0 to each block, and returns the states of Cipher (FIPS 197, 5.1).
 #[inline(always)]
-pub fn encrypt_first(block: u8x16, key: u8x16) -> u8x16
-    requires block { fips.IsBlock block }
-    requires key { fips.IsBlock key }
-    ensures { map untower result ≡ fips.add_round_key block key }
+pub fn encrypt_first<L: Lanes>(blocks: L, key: L) -> L
+    ensures { (i : ℕ) → map untower (L.block result i) ≡ fips.add_round_key (L.block blocks i) (L.block key i) }
 {
-    looked_up_by_nibbles(sum(block, key), TOWER_LOW, TOWER_HIGH)
+    blocks.are_blocks();
+    key.are_blocks();
+    looked_up_by_nibbles(blocks.sum(key), TOWER_LOW, TOWER_HIGH)
 }
 
 /// Runs a round of Cipher that is not the last (FIPS 197, 5.1).
+#[tactic(auto, unfolding(crate::specs::Lookup::is_index))]
 #[inline(always)]
-pub fn encrypt_round(x: u8x16, key: u8x16) -> u8x16
-    requires block { fips.IsBlock x }
-    requires key { fips.IsBlock key }
-    ensures { map untower result ≡ fips.add_round_key
-        (fips.mix_columns (fips.shift_rows (fips.sub_bytes (map untower x)))) (map key_untower key) }
+pub fn encrypt_round<L: Lanes>(x: L, key: L) -> L
+    ensures { (i : ℕ) → map untower (L.block result i) ≡ fips.add_round_key
+        (fips.mix_columns (fips.shift_rows (fips.sub_bytes (map untower (L.block x i)))))
+        (map key_untower (L.block key i)) }
 {
+    x.are_blocks();
+    key.are_blocks();
     let at = places_of(x);
     let one = looked_up(at, ONE_FIRST, ONE_SECOND);
     let two = looked_up(at, TWO_FIRST, TWO_SECOND);
     // A byte's double with the next row's byte: a row further on, the same sums hold the rest of the product with 3.
-    let pairs = sum(
-        two,
-        one.swizzle([5, 6, 7, 4, 9, 10, 11, 8, 13, 14, 15, 12, 1, 2, 3, 0]),
-    );
-    let first = pairs.swizzle([0, 5, 10, 15, 4, 9, 14, 3, 8, 13, 2, 7, 12, 1, 6, 11]);
-    let second = pairs.swizzle([5, 10, 15, 0, 9, 14, 3, 4, 13, 2, 7, 8, 1, 6, 11, 12]);
-    let fourth = one.swizzle([15, 0, 5, 10, 3, 4, 9, 14, 7, 8, 13, 2, 11, 12, 1, 6]);
-    ((fourth ^ key) ^ first) ^ second
+    let next = one.permuted([5, 6, 7, 4, 9, 10, 11, 8, 13, 14, 15, 12, 1, 2, 3, 0]);
+    let pairs = two.sum(next);
+    let first = pairs.permuted([0, 5, 10, 15, 4, 9, 14, 3, 8, 13, 2, 7, 12, 1, 6, 11]);
+    let second = pairs.permuted([5, 10, 15, 0, 9, 14, 3, 4, 13, 2, 7, 8, 1, 6, 11, 12]);
+    let fourth = one.permuted([15, 0, 5, 10, 3, 4, 9, 14, 7, 8, 13, 2, 11, 12, 1, 6]);
+    let with_key = fourth.sum(key);
+    let most = with_key.sum(first);
+    most.sum(second)
 }
 
-/// Runs the last round of Cipher, and returns the block (FIPS 197, 5.1).
+/// Runs the last round of Cipher, and returns the blocks (FIPS 197, 5.1).
+#[tactic(auto, unfolding(crate::specs::Lookup::is_index))]
 #[inline(always)]
-pub fn encrypt_last(x: u8x16, key: u8x16) -> u8x16
-    requires block { fips.IsBlock x }
-    requires key { fips.IsBlock key }
-    ensures { result ≡ fips.add_round_key (fips.shift_rows (fips.sub_bytes (map untower x))) (map plus63 key) }
+pub fn encrypt_last<L: Lanes>(x: L, key: L) -> L
+    ensures { (i : ℕ) → L.block result i ≡ fips.add_round_key
+        (fips.shift_rows (fips.sub_bytes (map untower (L.block x i)))) (map plus63 (L.block key i)) }
 {
+    x.are_blocks();
+    key.are_blocks();
     let one = looked_up(places_of(x), SBOX_FIRST, SBOX_SECOND);
-    one.swizzle([0, 5, 10, 15, 4, 9, 14, 3, 8, 13, 2, 7, 12, 1, 6, 11]) ^ key
+    one.permuted([0, 5, 10, 15, 4, 9, 14, 3, 8, 13, 2, 7, 12, 1, 6, 11])
+        .sum(key)
 }
 
-/// Adds round key 0 of EqInvCipher to a block, and returns the state (FIPS 197, 5.3.5).
-#[tactic(auto, using(crate::proofs::InverseLanes::first_is))]
+/// Adds round key 0 of EqInvCipher to each block, and returns the states (FIPS 197, 5.3.5).
 #[inline(always)]
-pub fn decrypt_first(block: u8x16, key: u8x16) -> u8x16
-    requires block { fips.IsBlock block }
-    requires key { fips.IsBlock key }
-    ensures { map inv_untower result ≡ fips.add_round_key block (map plus63 key) }
+pub fn decrypt_first<L: Lanes>(blocks: L, key: L) -> L
+    ensures { (i : ℕ) → map inv_untower (L.block result i)
+        ≡ fips.add_round_key (L.block blocks i) (map plus63 (L.block key i)) }
 {
-    looked_up_by_nibbles(sum(block, key), INV_TOWER_LOW, INV_TOWER_HIGH)
+    blocks.are_blocks();
+    key.are_blocks();
+    looked_up_by_nibbles(blocks.sum(key), INV_TOWER_LOW, INV_TOWER_HIGH)
 }
 
 // The products with the coefficients 14, 11 and 13 of InvMixColumns (FIPS 197, 5.3.3), of those with 1, 4, 9 and 15.
 #[inline(always)]
-fn coefficients(by_1: u8x16, by_4: u8x16, by_9: u8x16, by_15: u8x16) -> (u8x16, u8x16, u8x16)
-    ensures by_14 { result.0 ≡ zip2 bit_xor by_1 by_15 }
-    ensures by_11 { result.1 ≡ zip2 bit_xor by_15 by_4 }
-    ensures by_13 { result.2 ≡ zip2 bit_xor by_4 by_9 }
+fn coefficients<L: Lanes>(by_1: L, by_4: L, by_9: L, by_15: L) -> (L, L, L)
+    ensures by_14 { (i : ℕ) → L.block result.0 i ≡ zip2 bit_xor (L.block by_1 i) (L.block by_15 i) }
+    ensures by_11 { (i : ℕ) → L.block result.1 i ≡ zip2 bit_xor (L.block by_15 i) (L.block by_4 i) }
+    ensures by_13 { (i : ℕ) → L.block result.2 i ≡ zip2 bit_xor (L.block by_4 i) (L.block by_9 i) }
 {
     // Each product is of use twice. LLVM turns the two look-ups of a sum one by one where nothing else uses the sum.
-    (sum(by_1, by_15), sum(by_15, by_4), sum(by_4, by_9))
+    (by_1.sum(by_15), by_15.sum(by_4), by_4.sum(by_9))
 }
 
 /// Runs a round of EqInvCipher that is not the last (FIPS 197, 5.3.5).
+#[tactic(auto, unfolding(crate::specs::Lookup::is_index))]
 #[inline(always)]
-pub fn decrypt_round(x: u8x16, key: u8x16) -> u8x16
-    requires block { fips.IsBlock x }
-    requires key { fips.IsBlock key }
-    ensures { map inv_untower result ≡ fips.add_round_key
-        (fips.inv_mix_columns (fips.inv_shift_rows (fips.inv_sub_bytes (map inv_untower x)))) (map inv_untower key) }
+pub fn decrypt_round<L: Lanes>(x: L, key: L) -> L
+    ensures { (i : ℕ) → map inv_untower (L.block result i) ≡ fips.add_round_key
+        (fips.inv_mix_columns (fips.inv_shift_rows (fips.inv_sub_bytes (map inv_untower (L.block x i)))))
+        (map inv_untower (L.block key i)) }
 {
+    x.are_blocks();
+    key.are_blocks();
     let at = places_of(x);
     let by_1 = looked_up(at, INV_1_FIRST, INV_1_SECOND);
     let by_4 = looked_up(at, INV_4_FIRST, INV_4_SECOND);
     let by_9 = looked_up(at, INV_9_FIRST, INV_9_SECOND);
     let by_15 = looked_up(at, INV_15_FIRST, INV_15_SECOND);
     let (by_14, by_11, by_13) = coefficients(by_1, by_4, by_9, by_15);
-    let first = by_14.swizzle([0, 13, 10, 7, 4, 1, 14, 11, 8, 5, 2, 15, 12, 9, 6, 3]);
-    let second = by_11.swizzle([13, 10, 7, 0, 1, 14, 11, 4, 5, 2, 15, 8, 9, 6, 3, 12]);
-    let third = by_13.swizzle([10, 7, 0, 13, 14, 11, 4, 1, 2, 15, 8, 5, 6, 3, 12, 9]);
-    let fourth = by_9.swizzle([7, 0, 13, 10, 11, 4, 1, 14, 15, 8, 5, 2, 3, 12, 9, 6]);
-    ((first ^ key) ^ (third ^ fourth)) ^ second
+    let first = by_14.permuted([0, 13, 10, 7, 4, 1, 14, 11, 8, 5, 2, 15, 12, 9, 6, 3]);
+    let second = by_11.permuted([13, 10, 7, 0, 1, 14, 11, 4, 5, 2, 15, 8, 9, 6, 3, 12]);
+    let third = by_13.permuted([10, 7, 0, 13, 14, 11, 4, 1, 2, 15, 8, 5, 6, 3, 12, 9]);
+    let fourth = by_9.permuted([7, 0, 13, 10, 11, 4, 1, 14, 15, 8, 5, 2, 3, 12, 9, 6]);
+    let with_key = first.sum(key);
+    let last_two = third.sum(fourth);
+    let most = with_key.sum(last_two);
+    most.sum(second)
 }
 
-/// Runs the last round of EqInvCipher, and returns the block (FIPS 197, 5.3.5).
+/// Runs the last round of EqInvCipher, and returns the blocks (FIPS 197, 5.3.5).
+#[tactic(auto, unfolding(crate::specs::Lookup::is_index))]
 #[inline(always)]
-pub fn decrypt_last(x: u8x16, key: u8x16) -> u8x16
-    requires block { fips.IsBlock x }
-    requires key { fips.IsBlock key }
-    ensures { result ≡ fips.add_round_key (fips.inv_shift_rows (fips.inv_sub_bytes (map inv_untower x))) key }
+pub fn decrypt_last<L: Lanes>(x: L, key: L) -> L
+    ensures { (i : ℕ) → L.block result i ≡ fips.add_round_key
+        (fips.inv_shift_rows (fips.inv_sub_bytes (map inv_untower (L.block x i)))) (L.block key i) }
 {
+    x.are_blocks();
+    key.are_blocks();
     let one = looked_up(places_of(x), INV_SBOX_FIRST, INV_SBOX_SECOND);
-    one.swizzle([0, 13, 10, 7, 4, 1, 14, 11, 8, 5, 2, 15, 12, 9, 6, 3]) ^ key
+    one.permuted([0, 13, 10, 7, 4, 1, 14, 11, 8, 5, 2, 15, 12, 9, 6, 3])
+        .sum(key)
 }
 
 /// Returns a round key of Cipher between the first and the last as it is stored.
-#[tactic(auto, using(crate::proofs::ScheduleLanes::inner_is))]
 #[inline(always)]
 pub fn encrypting_key(key: u8x16) -> u8x16
     requires { fips.IsBlock key }
@@ -124,6 +135,7 @@ pub fn encrypting_key(key: u8x16) -> u8x16
 
 /// Returns a round key of EqInvCipher between the first and the last as it is stored: InvMixColumns of that of Cipher
 /// (FIPS 197, 5.3.5).
+#[tactic(auto, unfolding(crate::specs::Lookup::is_index))]
 #[inline(always)]
 pub fn decrypting_key(key: u8x16) -> u8x16
     requires { fips.IsBlock key }
@@ -134,14 +146,15 @@ pub fn decrypting_key(key: u8x16) -> u8x16
     let by_9 = looked_up_by_nibbles(key, KEY_9_LOW, KEY_9_HIGH);
     let by_15 = looked_up_by_nibbles(key, KEY_15_LOW, KEY_15_HIGH);
     let (by_14, by_11, by_13) = coefficients(by_1, by_4, by_9, by_15);
-    let second = by_11.swizzle([1, 2, 3, 0, 5, 6, 7, 4, 9, 10, 11, 8, 13, 14, 15, 12]);
-    let third = by_13.swizzle([2, 3, 0, 1, 6, 7, 4, 5, 10, 11, 8, 9, 14, 15, 12, 13]);
-    let fourth = by_9.swizzle([3, 0, 1, 2, 7, 4, 5, 6, 11, 8, 9, 10, 15, 12, 13, 14]);
-    (by_14 ^ (third ^ fourth)) ^ second
+    let second = by_11.permuted([1, 2, 3, 0, 5, 6, 7, 4, 9, 10, 11, 8, 13, 14, 15, 12]);
+    let third = by_13.permuted([2, 3, 0, 1, 6, 7, 4, 5, 10, 11, 8, 9, 14, 15, 12, 13]);
+    let fourth = by_9.permuted([3, 0, 1, 2, 7, 4, 5, 6, 11, 8, 9, 10, 15, 12, 13, 14]);
+    let last_two = third.sum(fourth);
+    let most = by_14.sum(last_two);
+    most.sum(second)
 }
 
 // The round key that a stored one of Cipher stands for, between the first and the last.
-#[tactic(auto, using(crate::proofs::ScheduleLanes::plain_key_is))]
 #[inline(always)]
 fn plain_key(stored: u8x16) -> u8x16
     requires { fips.IsBlock stored }
@@ -160,7 +173,6 @@ pub fn inverted_key(stored: u8x16) -> u8x16
 }
 
 /// SubBytes of a block as it is, but for the constant of the S-box (FIPS 197, 5.1.1).
-#[tactic(auto, using(crate::proofs::RoundLanes::sub_bytes_is))]
 #[inline(always)]
 pub fn sub_bytes_but_constant(x: u8x16) -> u8x16
     requires block { fips.IsBlock x }

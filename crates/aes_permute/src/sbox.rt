@@ -1,64 +1,66 @@
 //! The S-box and its inverse on lanes: the inverse in the field by its two places, and tables read there.
 
-ghost use Rattle.std.specs.Prelude.{◌≡◌, map};
+ghost use Rattle.std.specs.Prelude.{◌≡◌, ℕ, map};
 ghost use Rattle.std.specs.Simd.Lanes.{zip2};
-ghost use Rattle.aes_planes.specs.Fips197 as fips;
 ghost use Rattle.aes_permute.specs.Lookup.{Nibbles, AreIndices};
 ghost use Rattle.aes_permute.specs.Inverse.{first_place, second_place, first_of, second_of, at_places};
 
-use crate::lanes::{high_nibbles, lookup, low_nibbles, sum};
+use crate::lanes::Lanes;
 use crate::tables::{INVERSE, SCALED_INVERSE};
-use std::simd::prelude::*;
 
 /// The two places of an inverse in the field, lane by lane. What is linear in the inverse is the sum of two tables'
 /// entries.
 #[derive(Clone, Copy)]
-pub struct TwoPlaces {
+pub struct TwoPlaces<L> {
     /// The place in the first table.
-    pub first: u8x16,
+    pub first: L,
     /// The place in the second table.
-    pub second: u8x16,
+    pub second: L,
 }
 
 // The places of the inverses of the bytes with these halves in the tower basis.
-#[tactic(auto, using(crate::proofs::Inverses::inverse_lookups))]
 #[inline(always)]
-fn inverted(high: u8x16, low: u8x16) -> TwoPlaces
-    requires highs { Nibbles high }
-    requires lows { Nibbles low }
-    ensures first { result.first ≡ zip2 first_place high low }
-    ensures second { result.second ≡ zip2 second_place high low }
+fn inverted<L: Lanes>(high: L, low: L) -> TwoPlaces<L>
+    requires highs { (i : ℕ) → Nibbles (L.block high i) }
+    requires lows { (i : ℕ) → Nibbles (L.block low i) }
+    ensures first { (i : ℕ) → L.block result.first i ≡ zip2 first_place (L.block high i) (L.block low i) }
+    ensures second { (i : ℕ) → L.block result.second i ≡ zip2 second_place (L.block high i) (L.block low i) }
 {
-    let both = sum(high, low);
-    let scaled = lookup(SCALED_INVERSE, low);
-    let over_high = sum(lookup(INVERSE, high), scaled);
-    let over_both = sum(lookup(INVERSE, both), scaled);
-    TwoPlaces {
-        first: sum(lookup(INVERSE, over_high), both),
-        second: sum(lookup(INVERSE, over_both), high),
-    }
+    let both = high.sum(low);
+    let scaled = low.lookup(SCALED_INVERSE);
+    let high_inverse = high.lookup(INVERSE);
+    let both_inverse = both.lookup(INVERSE);
+    let over_high = high_inverse.sum(scaled);
+    let over_both = both_inverse.sum(scaled);
+    let at_high = over_high.lookup(INVERSE);
+    let at_both = over_both.lookup(INVERSE);
+    let first = at_high.sum(both);
+    let second = at_both.sum(high);
+    TwoPlaces { first, second }
 }
 
 /// Returns the places of the inverses of bytes in the tower basis.
-#[tactic(auto, using(crate::proofs::Inverses::places_of_bytes))]
 #[inline(always)]
-pub fn places_of(x: u8x16) -> TwoPlaces
-    requires block { fips.IsBlock x }
-    ensures first { result.first ≡ map first_of x }
-    ensures second { result.second ≡ map second_of x }
-    ensures first_places { AreIndices result.first }
-    ensures second_places { AreIndices result.second }
+pub fn places_of<L: Lanes>(x: L) -> TwoPlaces<L>
+    ensures first { (i : ℕ) → L.block result.first i ≡ map first_of (L.block x i) }
+    ensures second { (i : ℕ) → L.block result.second i ≡ map second_of (L.block x i) }
+    ensures first_places { (i : ℕ) → AreIndices (L.block result.first i) }
+    ensures second_places { (i : ℕ) → AreIndices (L.block result.second i) }
 {
-    inverted(high_nibbles(x), low_nibbles(x))
+    x.are_blocks();
+    let high = x.high_nibbles();
+    let low = x.low_nibbles();
+    inverted(high, low)
 }
 
 /// Returns the sum of the entries of two tables at the places.
-#[tactic(auto, using(crate::proofs::Inverses::places_looked_up))]
 #[inline(always)]
-pub fn looked_up(at: TwoPlaces, first: [u8; 16], second: [u8; 16]) -> u8x16
-    requires first_places { AreIndices at.first }
-    requires second_places { AreIndices at.second }
-    ensures { result ≡ zip2 (at_places first second) at.first at.second }
+pub fn looked_up<L: Lanes>(at: TwoPlaces<L>, first: [u8; 16], second: [u8; 16]) -> L
+    requires first_places { (i : ℕ) → AreIndices (L.block at.first i) }
+    requires second_places { (i : ℕ) → AreIndices (L.block at.second i) }
+    ensures { (i : ℕ) → L.block result i ≡ zip2 (at_places first second) (L.block at.first i) (L.block at.second i) }
 {
-    sum(lookup(first, at.first), lookup(second, at.second))
+    let by_first = at.first.lookup(first);
+    let by_second = at.second.lookup(second);
+    by_first.sum(by_second)
 }

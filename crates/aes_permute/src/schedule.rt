@@ -6,7 +6,7 @@ ghost use Rattle.aes_planes.specs.Planes.{plus63, summed};
 ghost use Rattle.aes_permute.specs.Keys.{encrypting, cipher_key, AreInverse, IsCipherSchedule};
 ghost use Rattle.aes_permute.specs.Stored.{IsWritten};
 
-use crate::lanes::{lookup, sum};
+use crate::lanes::Lanes;
 use crate::rounds::{encrypting_key, inverted_key, sub_bytes_but_constant};
 use aes_planes::expansion::{self, KeyForm};
 use aes_planes::laws;
@@ -34,14 +34,8 @@ fn summed_columns(before: u8x16, start: u8x16, addend: u8x16) -> u8x16
     ensures { result ≡ fips.state (λ r c. summed fips.field_add (fips.byte_at before r)
         (fips.field_add (fips.byte_at start r c) (fips.byte_at addend r c)) c) }
 {
-    let pairs = sum(
-        before,
-        lookup(before.to_array(), u8x16::from_array(COLUMN_BEFORE)),
-    );
-    let sums = sum(
-        pairs,
-        lookup(pairs.to_array(), u8x16::from_array(TWO_COLUMNS_BEFORE)),
-    );
+    let pairs = before.sum(before.permuted(COLUMN_BEFORE));
+    let sums = pairs.sum(pairs.permuted(TWO_COLUMNS_BEFORE));
     (sums ^ addend) ^ start
 }
 

@@ -1,12 +1,20 @@
 -- What is left to show of `rounds::encrypt_round`.
+use Rattle.std.proofs.Common.{refl, ap, map, ◌∙◌}
+use Rattle.aes_permute.specs.Stored.{untower}
 use Rattle.aes_permute.specs.declared.tables.TheConstants.{ONE_FIRST, ONE_SECOND, TWO_FIRST, TWO_SECOND}
+use Rattle.aes_permute.proofs.Lookups.{summed}
 use Rattle.aes_permute.proofs.RoundLanes.{through_lanes, round_is}
 use Rattle.aes_permute.proofs.rounds.encrypt_round.Goals as goal
 
 pub returns : goal.returns
-returns c =
-    let f = c.places_of-at.ensures.first in
-    let s = c.places_of-at.ensures.second in
-    round_is c.args.x c.args.key c.requires.block c.requires.key.0
-    (through_lanes ONE_FIRST ONE_SECOND _ f s c.looked_up-one.ensures)
-    (through_lanes TWO_FIRST TWO_SECOND _ f s c.looked_up-two.ensures) c.sum-pairs.ensures
+returns g c i =
+    let f = c.places_of-at.ensures.first i in
+    let s = c.places_of-at.ensures.second i in
+    ap (map untower) (summed (c.sum.ensures i) (summed (c.sum-most.ensures i)
+    (summed (c.sum-with_key.ensures i) (c.permuted-fourth.ensures i) refl) (c.permuted-first.ensures i))
+    (c.permuted-second.ensures i))
+    ∙ round_is (g.L.Lanes.block c.args.x i) (g.L.Lanes.block c.args.key i) (c.are_blocks.ensures i)
+    (c.are_blocks-2.ensures i).0
+    (through_lanes ONE_FIRST ONE_SECOND _ f s (c.looked_up-one.ensures i))
+    (through_lanes TWO_FIRST TWO_SECOND _ f s (c.looked_up-two.ensures i))
+    (summed (c.sum-pairs.ensures i) refl (c.permuted-next.ensures i))

@@ -7,5 +7,5 @@ use Rattle.aes_permute.proofs.schedule.summed_columns.Goals as goal
 pub returns : goal.returns
 returns c =
     summed_is c.args.before c.args.start c.args.addend c.requires.before c.requires.start c.requires.addend
-    (c.sum-pairs.ensures ∙ (λ i. zip2 bit_xor c.args.before (c.lookup.ensures i)))
-    (c.sum-sums.ensures ∙ (λ i. zip2 bit_xor c.sum-pairs.result (c.lookup-2.ensures i)))
+    (c.sum-pairs.ensures 0 ∙ (λ i. zip2 bit_xor c.args.before (c.permuted.ensures 0 i)))
+    (c.sum-sums.ensures 0 ∙ (λ i. zip2 bit_xor c.sum-pairs.result (c.permuted-2.ensures 0 i)))

@@ -1,8 +1,8 @@
--- What is left to show of `blocks::process_narrow`.
+-- What is left to show of `blocks::process_blocks`.
 use Rattle.std.proofs.Common.{ap, ◌∙◌}
 use Rattle.aes_permute.proofs.KeyBytes.{two_stored}
 use Rattle.aes_permute.specs.Keys.{cipher_key}
-use Rattle.aes_hybrid.proofs.blocks.process_narrow.Goals as goal
+use Rattle.aes_hybrid.proofs.blocks.process_blocks.Goals as goal
 
 pub process_few-requires : goal.process_few-requires
 process_few-requires g c = record {

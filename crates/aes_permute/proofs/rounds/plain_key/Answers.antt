@@ -1,0 +1,10 @@
+-- What is left to show of `rounds::plain_key`.
+use Rattle.std.proofs.Common.{replicate, bit_xor, ◌∙◌}
+use lib.Lanes.{zip2}
+use Rattle.aes_permute.proofs.ScheduleLanes.{plain_key_is}
+use Rattle.aes_permute.proofs.rounds.plain_key.Goals as goal
+
+pub returns : goal.returns
+returns c =
+    (λ t. zip2 bit_xor (c.looked_up_by_nibbles.ensures 0 t) (replicate 16 0x63))
+    ∙ plain_key_is c.args.stored c.requires.0
