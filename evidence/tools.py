@@ -38,7 +38,7 @@ EXPORTS = {
 JOBS = ["--jobs", os.environ["AES_EVIDENCE_JOBS"]] if "AES_EVIDENCE_JOBS" in os.environ else []
 # The builds of the C library and their compilers: a text of dist/, which LLVM made, or the crate by the second one.
 BUILDS = {"llvm": ("aes", "llvm"), "avx2": ("aes_v3", "llvm"), "rattle": ("aes_c", "rattle")}
-HEADER = (TOP / "include" / "fotsgure_aes.h").read_text()
+HEADER = (TOP / "dist" / "include" / "fotsgure_aes.h").read_text()
 STRUCT = int(re.search(r"sizeof\(struct fotsgure_aes\) == (\d+)", HEADER)[1])
 MOST_STACK = int(re.search(r"FOTSGURE_AES_STACK (\d+)", HEADER)[1])
 
@@ -301,7 +301,7 @@ def briefly(where):
 def compiled(source, name, archive, *more):
     """A program of one C file and an archive."""
     made = ROOM / f"{source.parent.name}-{source.stem}-{name}"
-    flags = ["-std=gnu11", "-O2", "-Wall", "-Wextra", "-Wl,-z,now", f"-I{TOP / 'include'}", *more]
+    flags = ["-std=gnu11", "-O2", "-Wall", "-Wextra", "-Wl,-z,now", f"-I{TOP / 'dist/include'}", *more]
     run(["cc", *flags, "-o", made, source, archive], source.name)
     return made
 

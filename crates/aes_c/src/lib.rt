@@ -1,4 +1,4 @@
-//! AES for C, and for languages that call C: `include/fotsgure_aes.h` declares these calls.
+//! AES for C, and for languages that call C: `dist/include/fotsgure_aes.h` declares these calls.
 //!
 //! The header states what a `requires` asks of callers; nothing checks a call from C.
 #![tactic(auto)]

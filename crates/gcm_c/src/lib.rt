@@ -1,4 +1,4 @@
-//! GCM for C, and for languages that call C: `include/fotsgure_gcm.h` declares these calls.
+//! GCM for C, and for languages that call C: `dist/include/fotsgure_gcm.h` declares these calls.
 //!
 //! The header states what a `requires` asks of callers; nothing checks a call from C. Keys of 16, 24 and 32 bytes go
 //! through the same exports, since the struct knows how long its key is.
