@@ -80,6 +80,13 @@ impl<K: KeySize> KeySchedule for Fixsliced<K> {
     }
 }
 
+impl<K: KeySize> Fixsliced<K> {
+    /// No effect; states what is wiped: zeros stand in all the room.
+    pub fn wiped_is_zero(&self)
+        ensures { ⟦<Fixsliced<K> as KeySchedule>⟧.IsWiped self.now → self.now.room ≡ replicate 120 0 }
+    {}
+}
+
 impl<K: KeySize> MadeFrom<Fixsliced<K>> for Fixsliced<K> {
     #[inline(always)]
     fn made_from(schedule: &Fixsliced<K>) -> Fixsliced<K> {

@@ -163,6 +163,17 @@ impl<K: KeySize, W> KeySchedule for BothLists<K, W> {
     }
 }
 
+impl<K: KeySize, W> BothLists<K, W> {
+    /// No effect; states what is wiped: zeros stand in all the room, of either direction.
+    pub fn wiped_is_zero(&self)
+        ensures encrypting { ⟦<Encrypting<K, W> as KeySchedule>⟧.IsWiped self.now.encrypting
+            → self.now.encrypting.room ≡ replicate 15 (replicate 16 0) }
+        ensures both { ⟦<BothLists<K, W> as KeySchedule>⟧.IsWiped self.now
+            → (self.now.encrypting.room ≡ replicate 15 (replicate 16 0))
+            × (self.now.inverse ≡ replicate 15 (replicate 16 0)) }
+    {}
+}
+
 impl<K: KeySize, W> MadeFrom<Encrypting<K, W>> for BothLists<K, W> {
     #[inline(always)]
     fn made_from(schedule: &Encrypting<K, W>) -> BothLists<K, W> {
