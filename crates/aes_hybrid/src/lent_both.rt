@@ -5,9 +5,9 @@ ghost use Rattle.aes_planes.specs.Fips197 as fips;
 ghost use Rattle.aes_planes.proofs.Standard.CipherLaws.{two_keys};
 ghost use Rattle.aes_permute.specs.Keys.{cipher_key, AreInverse, IsCipherSchedule};
 
-use crate::backends::Pairs;
-use crate::blocks::{BATCH, process_blocks};
-use crate::closures::call_with_batches;
+use crate::backends::OnLanes;
+use crate::blocks::process_blocks;
+use crate::closures::call_with_backend;
 use crate::widths::Width;
 use aes_cipher::cipher::{BlockCipherDecClosure, BlockCipherDecrypt, Decrypt, RoundKeysUser};
 use aes_planes::laws;
@@ -71,21 +71,17 @@ impl<W> RoundKeysUser for LentBoth<'_, W> {
 impl<W: Width> BlockCipherDecrypt for LentBoth<'_, W> {
     #[inline(always)]
     fn decrypt_with_backend<F: BlockCipherDecClosure>(&self, f: &mut F) {
-        call_with_batches::<Decrypt, W, F>(self.keys, self.inverse, BATCH, f);
+        self.decrypt_with_backend_for(W::LEAST_FOR_CLOSURES, f);
     }
 
     #[inline(always)]
     fn decrypt_with_backend_for<F: BlockCipherDecClosure>(&self, blocks: usize, f: &mut F) {
-        if blocks < BATCH {
-            f.call(&Pairs::<Decrypt>::new(self.keys, self.inverse));
-        } else {
-            call_with_batches::<Decrypt, W, F>(self.keys, self.inverse, blocks, f);
-        }
+        call_with_backend::<Decrypt, W, F>(self.keys, self.inverse, blocks, f);
     }
 
     #[inline(always)]
     fn decrypt_block(&self, block: &mut Block) {
-        Pairs::<Decrypt>::new(self.keys, self.inverse).process_few(slice::from_mut(block));
+        OnLanes::<Decrypt, W>::new(self.keys, self.inverse).process_few(slice::from_mut(block));
     }
 
     #[inline(always)]
