@@ -233,11 +233,11 @@ impl BlockCipherEncClosure for BatchTaken {
 }
 
 #[test]
-fn few_blocks_are_taken_by_twos_and_many_by_eights(rt: HostRuntime) {
+fn few_blocks_are_taken_by_fours_and_many_by_eights(rt: HostRuntime) {
     let cipher = Aes128Enc::new(&KEY_128);
     let mut taken = BatchTaken { blocks: 0 };
     cipher.encrypt_with_backend_for(1, &mut taken);
-    assert!(rt; taken.blocks == 2);
+    assert!(rt; taken.blocks == 4);
     cipher.encrypt_with_backend_for(100, &mut taken);
     assert!(rt; taken.blocks == 8);
 }
