@@ -123,7 +123,7 @@ pub(crate) fn agrees<const N: usize>(
 #[test]
 fn agrees_however_cut(rt: HostRuntime) {
     let bytes = bytes();
-    let mode = Gcm::new(Aes128Enc::new(&[3; 16]));
+    let mode = Gcm::new(<Aes128Enc>::new(&[3; 16]));
     for size in 1..40 {
         assert!(rt; agrees(&mode.lent(), &bytes[..12], &bytes[..20], &bytes, size));
     }
@@ -135,7 +135,7 @@ fn agrees_however_cut(rt: HostRuntime) {
 #[test]
 fn accepts_short_tags_of_the_fixed_length(rt: HostRuntime) {
     let bytes = bytes();
-    let keys = Gcm::new(Aes128Enc::new(&[3; 16]));
+    let keys = Gcm::new(<Aes128Enc>::new(&[3; 16]));
     let mode = keys.lent();
     let mut room = Wiped::zeroed();
     let message: &mut Message = room.value_mut();
@@ -156,7 +156,7 @@ fn accepts_short_tags_of_the_fixed_length(rt: HostRuntime) {
 
 #[test]
 fn begins_under_the_next_nonce(rt: HostRuntime) {
-    let keys = Gcm::new(Aes128Enc::new(&[3; 16]));
+    let keys = Gcm::new(<Aes128Enc>::new(&[3; 16]));
     let mode = keys.lent();
     let mut room = Wiped::zeroed();
     let message: &mut Message = room.value_mut();
@@ -178,7 +178,7 @@ fn begins_under_the_next_nonce(rt: HostRuntime) {
 
 #[test]
 fn refuses_what_is_out_of_turn(rt: HostRuntime) {
-    let keys = Gcm::new(Aes128Enc::new(&[3; 16]));
+    let keys = Gcm::new(<Aes128Enc>::new(&[3; 16]));
     let mode = keys.lent();
     let mut room = Wiped::zeroed();
     let message: &mut Message = room.value_mut();

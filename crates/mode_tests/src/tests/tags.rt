@@ -57,7 +57,7 @@ const MESSAGE: [u64; 8] = [
 fn tag_under(key: &[u8; 16], message: &[u8]) -> Block
     ensures { result ≡ cmac (fips.key_expansion key.now) message.now }
 {
-    tag(&Aes128Enc::new(key), message)
+    tag(&<Aes128Enc>::new(key), message)
 }
 
 // The bytes that words write, the highest first, as many as there is room for.
@@ -92,8 +92,8 @@ fn tags_of_the_standard(rt: HostRuntime) {
     write_words(&KEY_192, &mut key_192);
     let mut key_256 = [0; 32];
     write_words(&KEY_256, &mut key_256);
-    assert!(rt; gives(&Aes128Enc::new(&KEY_128.to_be_bytes()), &TAGS_128));
+    assert!(rt; gives(&<Aes128Enc>::new(&KEY_128.to_be_bytes()), &TAGS_128));
     assert!(rt; tag_under(&KEY_128.to_be_bytes(), &[]) == TAGS_128[0].to_be_bytes());
-    assert!(rt; gives(&Aes192Enc::new(&key_192), &TAGS_192));
-    assert!(rt; gives(&Aes256Enc::new(&key_256), &TAGS_256));
+    assert!(rt; gives(&<Aes192Enc>::new(&key_192), &TAGS_192));
+    assert!(rt; gives(&<Aes256Enc>::new(&key_256), &TAGS_256));
 }

@@ -46,7 +46,7 @@ fn encrypt_under(
 ) -> Result<Block, TooLong>
     ensures { IfOk result (λ made. made ≡ tag (fips.key_expansion key.now) nonce.now additional.now text.new) }
 {
-    Gcm::new(Aes128Enc::new(key)).encrypt(nonce, additional, text)
+    Gcm::new(<Aes128Enc>::new(key)).encrypt(nonce, additional, text)
 }
 
 // Whether a cipher encrypts a case as it should and decrypts it again, and refuses, with the text unchanged, what was
@@ -89,19 +89,19 @@ fn is_right<C: BlockCipherEncrypt>(cipher: &C, case: &Case) -> bool {
 fn case_128(key: &str, case: &Case) -> bool {
     let mut bytes = [0; 16];
     decoded(key, &mut bytes);
-    is_right(&Aes128Enc::new(&bytes), case)
+    is_right(&<Aes128Enc>::new(&bytes), case)
 }
 
 fn case_192(key: &str, case: &Case) -> bool {
     let mut bytes = [0; 24];
     decoded(key, &mut bytes);
-    is_right(&Aes192Enc::new(&bytes), case)
+    is_right(&<Aes192Enc>::new(&bytes), case)
 }
 
 fn case_256(key: &str, case: &Case) -> bool {
     let mut bytes = [0; 32];
     decoded(key, &mut bytes);
-    is_right(&Aes256Enc::new(&bytes), case)
+    is_right(&<Aes256Enc>::new(&bytes), case)
 }
 
 #[test]

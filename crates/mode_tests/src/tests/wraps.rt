@@ -77,7 +77,7 @@ fn is_right(mode: &LentGcm<'_, Aes128Enc>, case: &Wrapping) -> bool {
 
 #[test]
 fn the_counter_wraps(rt: HostRuntime) {
-    let mode = Gcm::new(Aes128Enc::new(&KEY));
+    let mode = Gcm::new(<Aes128Enc>::new(&KEY));
     assert!(rt; is_right(&mode.lent(), &AT_THE_THIRD_BLOCK));
     assert!(rt; is_right(&mode.lent(), &AT_THE_FIRST_BLOCK));
 }
@@ -85,7 +85,7 @@ fn the_counter_wraps(rt: HostRuntime) {
 // In pieces of 32 bytes, the first ends where the counter wraps; smaller ones and larger ones end before and behind it.
 #[test]
 fn the_counter_wraps_however_cut(rt: HostRuntime) {
-    let mode = Gcm::new(Aes128Enc::new(&KEY));
+    let mode = Gcm::new(<Aes128Enc>::new(&KEY));
     for size in 1..71 {
         assert!(rt;
             agrees(
