@@ -70,6 +70,16 @@ pub trait Lanes: Copy {
         ensures { blocks.new ≡ written (block self) BLOCKS from blocks.old };
 }
 
+/// Returns the entry of a table at each lane of a vector of one block, and 0 at a lane from 128 on.
+#[tactic(auto, using(crate::proofs::Lookups::looked_lanes, crate::proofs::Lookups::indices_ok))]
+#[inline(always)]
+pub fn lookup(table: [u8; 16], places: u8x16) -> u8x16
+    requires are_indices { AreIndices places }
+    ensures { result ≡ map (looked table) places }
+{
+    u8x16::from_array(table).swizzle_dyn(places)
+}
+
 impl Lanes for u8x16 {
     ghost block = { λ x i. x };
 
@@ -91,10 +101,9 @@ impl Lanes for u8x16 {
         u8x16::from_array(bytes)
     }
 
-    #[tactic(auto, using(crate::proofs::Lookups::looked_lanes, crate::proofs::Lookups::indices_ok))]
     #[inline(always)]
     fn lookup(self, table: [u8; 16]) -> u8x16 {
-        u8x16::from_array(table).swizzle_dyn(self)
+        lookup(table, self)
     }
 
     #[inline(always)]
@@ -112,10 +121,9 @@ impl Lanes for u8x16 {
         self ^ other
     }
 
-    #[tactic(auto, using(crate::proofs::Lookups::looked_lanes, crate::proofs::Lookups::indices_ok))]
     #[inline(always)]
     fn permuted(self, places: [u8; 16]) -> u8x16 {
-        self.swizzle_dyn(u8x16::from_array(places))
+        lookup(self.to_array(), u8x16::from_array(places))
     }
 
     #[inline(always)]
