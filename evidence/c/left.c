@@ -10,8 +10,9 @@ enum { KEYS = 3, MOST = 128, BYTES = BLOCK * MOST, NEEDLES = 4096 };
 
 static struct fotsgure_aes kept;
 static struct fotsgure_aes_ctr ctr;
+static struct fotsgure_aes_cbc cbc;
 static uint16_t planes[MOST_WORDS];
-static uint8_t key[32], data[BYTES], other[BYTES], keystream[BYTES], zeros[2][BLOCK];
+static uint8_t key[32], data[BYTES + 8], other[BYTES + 8], wrapped[BYTES + 8], keystream[BYTES], zeros[2][BLOCK];
 static size_t size, count;
 static int failed;
 
@@ -80,6 +81,22 @@ static void stream(void) { done(fotsgure_aes_add_keystream(&kept, &ctr, data, co
 static void stream_to(void) { done(fotsgure_aes_add_keystream_to(&kept, &ctr, data, count, other, count)); }
 static void stream_with(void) { done(fotsgure_aes_add_keystream_with(key, size, &ctr, data, count)); }
 
+static void chain(void) { done(fotsgure_aes_cbc_encrypt(&kept, &cbc, data, count)); }
+static void unchain(void) { done(fotsgure_aes_cbc_decrypt(&kept, &cbc, data, count)); }
+/* Keys to be wrapped have two semiblocks or more: one block or more. */
+static void wrap(void) {
+    if (count > 0)
+        done(fotsgure_aes_wrap(&kept, data, 2 * count, other, 2 * count + 1));
+}
+static void unwrap(void) {
+    if (count > 0)
+        done(fotsgure_aes_unwrap(&kept, wrapped, 2 * count + 1, other, 2 * count));
+}
+static void unwrap_refused(void) {
+    if (count > 0)
+        failed |= fotsgure_aes_unwrap(&kept, data, 2 * count + 1, other, 2 * count) != FOTSGURE_AES_REFUSED;
+}
+
 /* In pieces: three blocks, or five bytes, half of what is left, and the rest. */
 static void in_pieces(enum fotsgure_aes_status (*call)(uint8_t *, size_t), size_t unit, size_t most) {
     size_t some = count < most ? count : most, half = (count - some) / 2;
@@ -92,6 +109,14 @@ static enum fotsgure_aes_status decrypt_piece(uint8_t *at, size_t n) { return fo
 static enum fotsgure_aes_status stream_piece(uint8_t *at, size_t n) {
     return fotsgure_aes_add_keystream(&kept, &ctr, at, n);
 }
+static enum fotsgure_aes_status chain_piece(uint8_t *at, size_t n) {
+    return fotsgure_aes_cbc_encrypt(&kept, &cbc, at, n);
+}
+static enum fotsgure_aes_status unchain_piece(uint8_t *at, size_t n) {
+    return fotsgure_aes_cbc_decrypt(&kept, &cbc, at, n);
+}
+static void chain_pieces(void) { in_pieces(chain_piece, BLOCK, 3); }
+static void unchain_pieces(void) { in_pieces(unchain_piece, BLOCK, 3); }
 static void encrypt_pieces(void) { in_pieces(encrypt_piece, BLOCK, 3); }
 static void decrypt_pieces(void) { in_pieces(decrypt_piece, BLOCK, 3); }
 static void stream_pieces(void) { in_pieces(stream_piece, 1, 5); }
@@ -106,7 +131,10 @@ static const struct call { const char *name; void (*it)(void); enum takes takes;
     {"encrypt", encrypt, OF_BLOCKS}, {"decrypt", decrypt, OF_BLOCKS}, {"encrypt_to", encrypt_to, OF_BLOCKS},
     {"decrypt_to", decrypt_to, OF_BLOCKS}, {"encrypt_with", encrypt_with, OF_BLOCKS},
     {"decrypt_with", decrypt_with, OF_BLOCKS}, {"encrypt_pieces", encrypt_pieces, OF_BLOCKS},
-    {"decrypt_pieces", decrypt_pieces, OF_BLOCKS}, {"add_keystream", stream, OF_BYTES},
+    {"decrypt_pieces", decrypt_pieces, OF_BLOCKS}, {"cbc_encrypt", chain, OF_BLOCKS},
+    {"cbc_decrypt", unchain, OF_BLOCKS}, {"cbc_encrypt_pieces", chain_pieces, OF_BLOCKS},
+    {"cbc_decrypt_pieces", unchain_pieces, OF_BLOCKS}, {"wrap", wrap, OF_BLOCKS}, {"unwrap", unwrap, OF_BLOCKS},
+    {"unwrap_refused", unwrap_refused, OF_BLOCKS}, {"add_keystream", stream, OF_BYTES},
     {"add_keystream_to", stream_to, OF_BYTES}, {"add_keystream_with", stream_with, OF_BYTES},
     {"add_keystream_pieces", stream_pieces, OF_BYTES},
 };
@@ -137,8 +165,11 @@ static void prepare(int number) {
     BY_SIZE(ev_planes, size, key, planes);
     done(fotsgure_aes_add_keystream(&kept, &ctr, keystream, BYTES));
     ctr.position = 0;
+    memset(&cbc, 0x47, sizeof cbc);
     for (size_t i = 0; i < BYTES; i++)
         data[i] = (uint8_t)(i * 7 + i / 256 + 1);
+    if (count > 0 && count <= MOST)
+        done(fotsgure_aes_wrap(&kept, data, 2 * count, wrapped, 2 * count + 1));
 }
 
 /* What is searched for: 8 bytes, and which piece of which kind they are of. Pieces of equal bytes say nothing. */
