@@ -22,6 +22,14 @@ EITHER(enum fotsgure_aes_status, fotsgure_aes_add_keystream, (const struct fotsg
 EITHER(enum fotsgure_aes_status, fotsgure_aes_add_keystream_to, (const struct fotsgure_aes *aes,
     struct fotsgure_aes_ctr *ctr, const uint8_t *input, size_t input_count, uint8_t *output, size_t output_count),
     (aes, ctr, input, input_count, output, output_count))
+EITHER(enum fotsgure_aes_status, fotsgure_aes_cbc_encrypt, (const struct fotsgure_aes *aes,
+    struct fotsgure_aes_cbc *cbc, uint8_t *blocks, size_t count), (aes, cbc, blocks, count))
+EITHER(enum fotsgure_aes_status, fotsgure_aes_cbc_decrypt, (const struct fotsgure_aes *aes,
+    struct fotsgure_aes_cbc *cbc, uint8_t *blocks, size_t count), (aes, cbc, blocks, count))
+EITHER(enum fotsgure_aes_status, fotsgure_aes_wrap, (const struct fotsgure_aes *aes, const uint8_t *input,
+    size_t input_count, uint8_t *output, size_t output_count), (aes, input, input_count, output, output_count))
+EITHER(enum fotsgure_aes_status, fotsgure_aes_unwrap, (const struct fotsgure_aes *aes, const uint8_t *input,
+    size_t input_count, uint8_t *output, size_t output_count), (aes, input, input_count, output, output_count))
 EITHER(enum fotsgure_aes_status, fotsgure_aes_encrypt_blocks_with, (const uint8_t *key, size_t key_length,
     uint8_t *blocks, size_t count), (key, key_length, blocks, count))
 EITHER(enum fotsgure_aes_status, fotsgure_aes_decrypt_blocks_with, (const uint8_t *key, size_t key_length,
