@@ -241,9 +241,10 @@ static void most(int counts[KINDS], uint8_t found[KINDS][256]) {
     }
 }
 
-/* What one call left at one length, under each of the keys. */
+/* What one call left at one length, under each of the keys. Of widened words it is the least: one is sixteen bits of a
+ * round key, and where a batch is filled up with copies of a block, planes of the text look like one by chance. */
 static void at_length(const struct call *call, int counts[KINDS], int *registers_most, size_t *depth) {
-    int inside[KINDS] = {0};
+    int inside[KINDS] = {0}, least = MOST_WORDS;
     for (int number = 0; number < KEYS; number++) {
         static uint8_t image[STACK];
         uint8_t found[KINDS][256] = {{0}}, held[KINDS][256] = {{0}};
@@ -253,6 +254,10 @@ static void at_length(const struct call *call, int counts[KINDS], int *registers
         collect();
         size_t deep = depth_of(image);
         search(image + STACK - deep, deep, found);
+        int words = 0;
+        for (int i = 0; i < MOST_WORDS; i++)
+            words += found[WIDENED][i];
+        least = words < least ? words : least;
         for (int i = 0; i < REGISTERS; i++)
             search(registers + 16 * i, 16, held);
         most(counts, found);
@@ -260,6 +265,7 @@ static void at_length(const struct call *call, int counts[KINDS], int *registers
         if (deep > *depth)
             *depth = deep;
     }
+    counts[WIDENED] = least;
     int in_registers = inside[KEY] + inside[ROUND_KEYS] + inside[EXPANDED] + inside[WIDENED] + inside[ZEROS];
     if (in_registers > *registers_most)
         *registers_most = in_registers;
