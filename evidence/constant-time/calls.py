@@ -21,7 +21,7 @@ WANTED = "".join(sys.argv[1:])
 declared, body = {}, []
 
 
-def call(name, *args, label="", returns=None, wanted="clean"):
+def call(name, *args, label="", returns=None, wanted="clean", told=0):
     """A call of an export. An argument is ('s', bytes) and the like, or with a third number a slice of so many
     elements; ('u32', n) is a number. What the kinds mean is said in harness.c."""
     if not name.startswith(WANTED):
@@ -46,7 +46,7 @@ def call(name, *args, label="", returns=None, wanted="clean"):
     title = f"{name} {label}".strip()
     keep = "" if result == "void" else "answer = "
     lines += ["uint64_t answer = 0;", f'begin("{title}");', f"{keep}{name}({', '.join(passed)});"]
-    lines += [f'end("{title}", "{wanted}", answer, {returns or 0});']
+    lines += [f'end("{title}", "{wanted}", answer, {returns or 0}, {told});']
     body.append("    { " + " ".join(lines) + " }")
 
 
@@ -166,7 +166,7 @@ call("ev_block_halves", ("s", 16), ("o", 16))
 
 # The calls of the C library. A 'k' is a struct that holds a secret key of so many bytes, a 'c' a secret counter block
 # at a public position; without a key, and with unequal counts, nothing is done.
-DONE, KEY_LENGTH, NO_KEY, UNEQUAL, END = range(5)
+DONE, KEY_LENGTH, NO_KEY, UNEQUAL, END, INVALID_COUNT, REFUSED = range(7)
 STRUCT = "sizeof(struct fotsgure_aes)"
 call(f"{C}version", returns="FOTSGURE_AES_VERSION", wanted="empty")
 for key in KEYS:
@@ -194,7 +194,25 @@ for key in KEYS:
             label=of, returns=DONE, wanted=wanted,
         )
         call(f"{C}add_keystream_with", ("s", key, key), ("c", 5), ("b", n, n), label=of, returns=DONE, wanted=wanted)
+    # CBC moves its chain on if there is a block. Key wrap tells one thing: whether what was wrapped is right.
+    for direction, n in itertools.product(("encrypt", "decrypt"), range(41)):
+        call(
+            f"{C}cbc_{direction}", ("k", key), ("b" if n else "s", 16), blocks("b", n),
+            label=f"{8 * key} {n}", returns=DONE, wanted=slices_wanted(n),
+        )
+    for n in (2, 3, 4, 8, 64):
+        call(
+            f"{C}wrap", ("k", key), ("s", 8 * n, n), ("o", 8 * n + 8, n + 1), label=f"{8 * key} {n}", returns=DONE
+        )
+        call(
+            f"{C}unwrap", ("k", key), ("s", 8 * n + 8, n + 1), ("z", 8 * n, n), label=f"{8 * key} {n}",
+            returns=REFUSED, told=1,
+        )
+for name in ("wrap", "unwrap"):
+    call(f"{C}{name}", ("k", 16), ("s", 8, 1), ("p", 16, 2), label="one", returns=INVALID_COUNT, wanted="empty")
+    call(f"{C}{name}", ("k", 0), ("s", 16, 2), ("p", 24, 3), label="no key", returns=NO_KEY, wanted="empty")
 for direction in ("encrypt", "decrypt"):
+    call(f"{C}cbc_{direction}", ("k", 0), ("s", 16), blocks("p", 3), label="no key", returns=NO_KEY, wanted="empty")
     call(f"{C}{direction}_blocks", ("k", 0), blocks("p", 3), label="no key", returns=NO_KEY, wanted="empty")
     call(
         f"{C}{direction}_blocks_to", ("k", 16), blocks("s", 3), blocks("p", 4),
@@ -226,7 +244,7 @@ REPLY = """    { static const char line[] = "enc 000102030405060708090a0b0c0d0e0
       uint8_t *x0 = buffer('p', sizeof line - 1), *x1 = buffer('t', 2048);
       memcpy(x0, line, sizeof line - 1); (void)VALGRIND_MAKE_MEM_UNDEFINED(x0 + 4, 32);
       begin("ev_reply enc, secret key"); (void)ev_reply(x0, sizeof line - 1, x1);
-      end("ev_reply enc, secret key", "LEAK", 0, 0); }"""
+      end("ev_reply enc, secret key", "LEAK", 0, 0, 0); }"""
 if "ev_reply".startswith(WANTED):
     body.append(REPLY)
     declared["ev_reply"] = "size_t ev_reply(const void *, size_t, void *);"

@@ -45,9 +45,10 @@ static void *counter(uint64_t position) {
     return it;
 }
 
-/* Says what came of the call. It is vacuous where it did nothing with what it was given: where its answer is not the
-   wanted one, or a block was left as it was, or a byte that it should have written depends on no secret. */
-static void end(const char *name, const char *wanted, uint64_t answer, uint64_t right) {
+/* Says what came of the call, which tells a caller as many things of secrets as `told` says. It is vacuous where it
+   did nothing with what it was given: where its answer is not the wanted one, or a block was left as it was, or a
+   byte that it should have written depends on no secret. */
+static void end(const char *name, const char *wanted, uint64_t answer, uint64_t right, unsigned told) {
     unsigned reports = reports_since();
     size_t marked = 0, unmoved = 0, due = 0, missed = 0;
     known(&answer, sizeof answer);
@@ -74,7 +75,7 @@ static void end(const char *name, const char *wanted, uint64_t answer, uint64_t 
     }
     held = 0;
     int idle = answer != right || missed || unmoved;
-    const char *verdict = reports ? "LEAK" : idle ? "VACUOUS" : due ? "clean" : "empty";
+    const char *verdict = reports != told ? "LEAK" : idle ? "VACUOUS" : due ? "clean" : "empty";
     printf("%s\t%s\t%s\t%u\t%zu\t%zu\n", name, wanted, verdict, reports, marked, due);
 }
 
@@ -112,7 +113,7 @@ __attribute__((noinline)) static uint64_t planted_refusal(const uint8_t *s, uint
         uint8_t *s = buffer('s', 16), *to = buffer('o', 16); \
         begin(#name); \
         uint64_t answer = name(s, to); \
-        end(#name, wanted, answer, 1); \
+        end(#name, wanted, answer, 1, 0); \
     } while (0)
 static void plants(void) {
     PLANT(planted_address, "LEAK");
