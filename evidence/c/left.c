@@ -1,9 +1,10 @@
 /* Makes calls of the C library on a stack of its own that is filled with a pattern, and searches that stack and the
  * vector registers for what each call left: 8 bytes of the key, of a stored round key or of a round key of the
- * expansion, a word that was widened for a batch, a block of zeros encrypted or decrypted, which no caller gave, a block
- * of keystream. Each call runs on every number of blocks from 0 to 40, and counter mode on lengths in between. One line
- * a call and a size of keys, with tabs: the most that it left at any length, and the lengths at which it left something
- * but keystream, in blocks, or in bytes of counter mode. */
+ * expansion, a word that was widened for a batch, a block of zeros encrypted or decrypted, which no caller gave, a key
+ * that was wrapped or unwrapped, a block of keystream. Each call runs on every number of blocks from 0 to 40, and
+ * counter mode on lengths in between. One line a call and a size of keys, with tabs: the most that it left at any
+ * length, and the lengths, in blocks or in bytes of counter mode, at which it left something of the key or a block of
+ * zeros. */
 #include "../left.h"
 
 enum { KEYS = 3, MOST = 128, BYTES = BLOCK * MOST, NEEDLES = 4096 };
@@ -166,14 +167,17 @@ static void prepare(int number) {
     done(fotsgure_aes_add_keystream(&kept, &ctr, keystream, BYTES));
     ctr.position = 0;
     memset(&cbc, 0x47, sizeof cbc);
-    for (size_t i = 0; i < BYTES; i++)
-        data[i] = (uint8_t)(i * 7 + i / 256 + 1);
+    uint32_t state = 7;
+    for (size_t i = 0; i < BYTES; i++) {
+        state = state * 1664525u + 1013904223u;
+        data[i] = (uint8_t)(state >> 24);
+    }
     if (count > 0 && count <= MOST)
         done(fotsgure_aes_wrap(&kept, data, 2 * count, wrapped, 2 * count + 1));
 }
 
 /* What is searched for: 8 bytes, and which piece of which kind they are of. Pieces of equal bytes say nothing. */
-enum { KEY, ROUND_KEYS, EXPANDED, WIDENED, ZEROS, KEYSTREAM, KINDS };
+enum { KEY, ROUND_KEYS, EXPANDED, WIDENED, ZEROS, UNWRAPPED, KEYSTREAM, KINDS };
 static struct needle { uint64_t bytes; int kind, piece; } needles[NEEDLES];
 static size_t filled;
 static void add(const uint8_t *at, int kind, int piece) {
@@ -187,7 +191,7 @@ static int below(const void *a, const void *b) {
     uint64_t x = ((const struct needle *)a)->bytes, y = ((const struct needle *)b)->bytes;
     return (x > y) - (x < y);
 }
-static void collect(void) {
+static void collect(const struct call *call) {
     uint8_t round_keys[240], wide[16];
     size_t rounds = size / 4 + 7, words = 8 * rounds;
     filled = 0;
@@ -208,6 +212,8 @@ static void collect(void) {
     for (int i = 0; i < 2; i++)
         for (int k = 0; k <= 8; k++)
             add(zeros[i] + k, ZEROS, i);
+    for (size_t i = 0; strstr(call->name, "wrap") && i + 8 <= BLOCK * count; i++)
+        add(data + i, UNWRAPPED, (int)(i / 16));
     for (size_t i = 0; i < BYTES; i += 8)
         add(keystream + i, KEYSTREAM, (int)(i / 16));
     qsort(needles, filled, sizeof *needles, below);
@@ -251,7 +257,7 @@ static void at_length(const struct call *call, int counts[KINDS], int *registers
         prepare(number);
         run(call->it, image);
         prepare(number);
-        collect();
+        collect(call);
         size_t deep = depth_of(image);
         search(image + STACK - deep, deep, found);
         int words = 0;
@@ -281,7 +287,7 @@ static void report(const struct call *call) {
         at_length(call, counts, &in_registers, &depth);
         for (int kind = 0; kind < KINDS; kind++) {
             all[kind] = counts[kind] > all[kind] ? counts[kind] : all[kind];
-            secrets += kind == KEYSTREAM ? 0 : counts[kind];
+            secrets += kind < UNWRAPPED ? counts[kind] : 0;
         }
         if (secrets)
             end += sprintf(end, " %zu", count);
