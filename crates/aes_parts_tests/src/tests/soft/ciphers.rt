@@ -13,50 +13,72 @@ use standards::keys::{
     ZEROS_BY_192, ZEROS_BY_256,
 };
 
-// Whether eight blocks are encrypted as wanted and decrypted again, each in each slot of a word, beside seven others.
-macro_rules! works {
-    ($layout:ident, $size:ident, $word:ident, $key:expr, $plain:expr, $wanted:expr) => {{
+// Blocks encrypted under a key, and decrypted again.
+macro_rules! there_and_back {
+    ($layout:ident, $size:ident, $word:ident, $key:expr, $blocks:expr) => {{
         let mut layers = Layers::new();
         let round_keys = $layout::$size::key_schedule::<$word>($key, &mut layers);
-        let mut right = true;
-        for first in 0..8usize {
-            let mut blocks = $word::Blocks::zero();
-            for slot in 0..$word::Blocks::LEN {
-                blocks.set(slot, $plain[(first + slot % 8) % 8]);
-            }
-            let encrypted = $layout::$size::encrypt::<$word>(&round_keys, &blocks, &mut layers);
-            let decrypted = $layout::$size::decrypt::<$word>(&round_keys, &encrypted, &mut layers);
-            for slot in 0..$word::Blocks::LEN {
-                let i = (first + slot % 8) % 8;
-                right = right && encrypted.get(slot) == $wanted[i] && decrypted.get(slot) == $plain[i];
-            }
-        }
-        right
+        let encrypted = $layout::$size::encrypt::<$word>(&round_keys, $blocks, &mut layers);
+        let decrypted = $layout::$size::decrypt::<$word>(&round_keys, &encrypted, &mut layers);
+        (encrypted, decrypted)
     }};
 }
 
-fn compact_128<W: Word>(key: &[u8; 16], plain: &[Block; 8], wanted: &[Block; 8]) -> bool {
-    works!(compact, aes128, W, key, plain, wanted)
+// A key of one size, by which each layout encrypts blocks, and decrypts them again.
+trait SizedKey {
+    fn compact<W: Word>(&self, blocks: &W::Blocks) -> (W::Blocks, W::Blocks);
+
+    fn full<W: Word>(&self, blocks: &W::Blocks) -> (W::Blocks, W::Blocks);
 }
 
-fn compact_192<W: Word>(key: &[u8; 24], plain: &[Block; 8], wanted: &[Block; 8]) -> bool {
-    works!(compact, aes192, W, key, plain, wanted)
+impl SizedKey for [u8; 16] {
+    fn compact<W: Word>(&self, blocks: &W::Blocks) -> (W::Blocks, W::Blocks) {
+        there_and_back!(compact, aes128, W, self, blocks)
+    }
+
+    fn full<W: Word>(&self, blocks: &W::Blocks) -> (W::Blocks, W::Blocks) {
+        there_and_back!(full, aes128, W, self, blocks)
+    }
 }
 
-fn compact_256<W: Word>(key: &[u8; 32], plain: &[Block; 8], wanted: &[Block; 8]) -> bool {
-    works!(compact, aes256, W, key, plain, wanted)
+impl SizedKey for [u8; 24] {
+    fn compact<W: Word>(&self, blocks: &W::Blocks) -> (W::Blocks, W::Blocks) {
+        there_and_back!(compact, aes192, W, self, blocks)
+    }
+
+    fn full<W: Word>(&self, blocks: &W::Blocks) -> (W::Blocks, W::Blocks) {
+        there_and_back!(full, aes192, W, self, blocks)
+    }
 }
 
-fn full_128<W: Word>(key: &[u8; 16], plain: &[Block; 8], wanted: &[Block; 8]) -> bool {
-    works!(full, aes128, W, key, plain, wanted)
+impl SizedKey for [u8; 32] {
+    fn compact<W: Word>(&self, blocks: &W::Blocks) -> (W::Blocks, W::Blocks) {
+        there_and_back!(compact, aes256, W, self, blocks)
+    }
+
+    fn full<W: Word>(&self, blocks: &W::Blocks) -> (W::Blocks, W::Blocks) {
+        there_and_back!(full, aes256, W, self, blocks)
+    }
 }
 
-fn full_192<W: Word>(key: &[u8; 24], plain: &[Block; 8], wanted: &[Block; 8]) -> bool {
-    works!(full, aes192, W, key, plain, wanted)
-}
-
-fn full_256<W: Word>(key: &[u8; 32], plain: &[Block; 8], wanted: &[Block; 8]) -> bool {
-    works!(full, aes256, W, key, plain, wanted)
+// Whether both layouts encrypt eight blocks as wanted and decrypt them again, each in each slot of a word, beside seven others.
+fn works<W: Word, K: SizedKey>(key: &K, plain: &[Block; 8], wanted: &[Block; 8]) -> bool {
+    let mut right = true;
+    for first in 0..8usize {
+        let mut blocks = W::Blocks::zero();
+        for slot in 0..W::Blocks::LEN {
+            blocks.set(slot, plain[(first + slot % 8) % 8]);
+        }
+        let (compact_there, compact_back) = key.compact::<W>(&blocks);
+        let (full_there, full_back) = key.full::<W>(&blocks);
+        for slot in 0..W::Blocks::LEN {
+            let i = (first + slot % 8) % 8;
+            let there = compact_there.get(slot) == wanted[i] && full_there.get(slot) == wanted[i];
+            let back = compact_back.get(slot) == plain[i] && full_back.get(slot) == plain[i];
+            right = right && there && back;
+        }
+    }
+    right
 }
 
 // Eight blocks, and their encryption under a key of each size.
@@ -73,12 +95,9 @@ struct Encrypted {
 
 impl WordTrial for Encrypted {
     fn passes<W: Word>(&self) -> bool {
-        compact_128::<W>(&self.key_128, &self.plain, &self.by_128)
-            && full_128::<W>(&self.key_128, &self.plain, &self.by_128)
-            && compact_192::<W>(&self.key_192, &self.plain, &self.by_192)
-            && full_192::<W>(&self.key_192, &self.plain, &self.by_192)
-            && compact_256::<W>(&self.key_256, &self.plain, &self.by_256)
-            && full_256::<W>(&self.key_256, &self.plain, &self.by_256)
+        works::<W, _>(&self.key_128, &self.plain, &self.by_128)
+            && works::<W, _>(&self.key_192, &self.plain, &self.by_192)
+            && works::<W, _>(&self.key_256, &self.plain, &self.by_256)
     }
 }
 
