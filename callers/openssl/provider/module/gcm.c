@@ -54,60 +54,36 @@ static int has_begun(struct gcm_context *c)
         return 0;
     if (c->stage != NONCE || fotsgure_gcm_begin(&c->gcm, &c->message, c->nonce, length))
         return 0;
-    c->is_cut_short = !c->base.encrypts && c->tag_length > 0 && c->tag_length < TAG;
-    if (c->is_cut_short && fotsgure_gcm_begin(&c->gcm, &c->again, c->nonce, length))
-        return 0;
     c->stage = MESSAGE;
     return 1;
-}
-
-static int add_additional(struct gcm_context *c, const byte *bytes, size_t length)
-{
-    if (fotsgure_gcm_additional(&c->gcm, &c->message, bytes, length))
-        return 0;
-    return !c->is_cut_short || fotsgure_gcm_additional(&c->gcm, &c->again, bytes, length) == FOTSGURE_GCM_DONE;
 }
 
 /* Decrypted text is given out before the tag is compared: that is OpenSSL's contract. */
 static int process(struct gcm_context *c, byte *out, const byte *in, size_t length)
 {
-    byte scratch[512];
-    size_t part;
+    enum fotsgure_gcm_status status;
     if (out != in)
         memmove(out, in, length);
-    if (c->base.encrypts)
-        return fotsgure_gcm_encrypt(&c->gcm, &c->message, out, length) == FOTSGURE_GCM_DONE;
-    if (fotsgure_gcm_decrypt_unverified(&c->gcm, &c->message, out, length))
-        return 0;
-    for (; c->is_cut_short && length > 0; out += part, length -= part) {
-        part = length < sizeof scratch ? length : sizeof scratch;
-        memcpy(scratch, out, part);
-        if (fotsgure_gcm_encrypt(&c->gcm, &c->again, scratch, part))
-            return 0;
-    }
-    return 1;
+    status = c->base.encrypts ? fotsgure_gcm_encrypt(&c->gcm, &c->message, out, length)
+                              : fotsgure_gcm_decrypt_unverified(&c->gcm, &c->message, out, length);
+    return status == FOTSGURE_GCM_DONE;
 }
 
-static int is_short(size_t length) { return length == 4 || length == 8 || (length >= 12 && length < TAG); }
-
-/* Ends a message: makes its tag, or compares it. */
+/* Ends a message: makes its tag, or compares it. The program fixes the length of its tags by the one that it sets. */
 static int end(struct gcm_context *c)
 {
-    byte tag[TAG];
-    int right;
+    enum fotsgure_gcm_status status;
     c->stage = ENDED;
     if (c->base.encrypts) {
-        right = fotsgure_gcm_finish(&c->gcm, &c->message, c->tag) == FOTSGURE_GCM_DONE;
-        c->tag_length = right ? TAG : 0;
-        return right;
+        status = fotsgure_gcm_finish(&c->gcm, &c->message, c->tag);
+        c->tag_length = status ? 0 : TAG;
+    } else {
+        status = c->tag_length == TAG
+            ? fotsgure_gcm_accept(&c->gcm, &c->message, c->tag, TAG)
+            : fotsgure_gcm_accept_short(&c->gcm, &c->message, c->tag_length, c->tag, c->tag_length);
+        fotsgure_gcm_wipe_message(&c->message);
     }
-    if (c->is_cut_short && is_short(c->tag_length))
-        right = fotsgure_gcm_finish(&c->gcm, &c->again, tag) == FOTSGURE_GCM_DONE && equal(tag, c->tag, c->tag_length);
-    else
-        right = fotsgure_gcm_accept(&c->gcm, &c->message, c->tag, c->tag_length) == FOTSGURE_GCM_DONE;
-    fotsgure_gcm_wipe_message(&c->message);
-    fotsgure_gcm_wipe_message(&c->again);
-    return right;
+    return status == FOTSGURE_GCM_DONE;
 }
 
 /* RFC 5288, 3: the end of the nonce, the text and the tag. A record that isn't authentic is left unchanged. */
@@ -149,7 +125,8 @@ int gcm_cipher(void *context, byte *out, size_t *out_length, size_t out_size, co
         return end(c);
     COUNTED(c->base.algorithm, out ? 2 : 3, length);
     *out_length = length;
-    return out ? process(c, out, in, length) : add_additional(c, in, length);
+    return out ? process(c, out, in, length)
+               : fotsgure_gcm_additional(&c->gcm, &c->message, in, length) == FOTSGURE_GCM_DONE;
 }
 
 int gcm_update(void *context, byte *out, size_t *out_length, size_t out_size, const byte *in, size_t length)

@@ -21,8 +21,6 @@ struct gcm_context {
     byte header[HEADER];
     struct fotsgure_gcm gcm;
     struct fotsgure_gcm_message message;
-    struct fotsgure_gcm_message again; /* encrypts what was decrypted, for a tag that was cut short */
-    int is_cut_short;
 };
 
 /* Takes the next counted nonce for the message that follows. */
