@@ -35,17 +35,17 @@ fn adds_the_same_keystream_whole_and_cut(rt: HostRuntime) -> Result<(), Fail> {
     try_all(&rt, &Cuts)
 }
 
-// Whether each count of blocks up to forty comes out the same in both widths, and comes back.
+// Whether each count of blocks up to 48 comes out the same in both widths, and comes back.
 fn widths_agree<N, S>(narrow: &N, sixteens: &S) -> bool
 where
     N: BlockCipherEncrypt,
     S: BlockCipherEncrypt + BlockCipherDecrypt,
 {
-    let mut plain = [[0; 16]; 40];
-    for i in 0..40 {
+    let mut plain = [[0; 16]; 48];
+    for i in 0..48 {
         plain[i][0] = i as u8;
     }
-    for count in 0..=40 {
+    for count in 0..=48 {
         let mut blocks = plain;
         let mut others = plain;
         narrow.encrypt_blocks(&mut blocks[..count]);
