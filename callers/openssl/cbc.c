@@ -1,30 +1,8 @@
-/* CBC with padding by OpenSSL's mode code over the proved block cipher: cbc.h says what the calls do. */
+/* CBC with padding over the proved call: cbc.h says what the calls do. */
+#define _DEFAULT_SOURCE /* explicit_bzero */
 #include "cbc.h"
 
-#include <openssl/crypto.h>
-#include <openssl/modes.h>
-#include <stdlib.h>
 #include <string.h>
-
-/* OpenSSL's callbacks return nothing. They can't fail, since the key was checked; if one does, nothing may go on. */
-static void must(enum fotsgure_aes_status status)
-{
-    if (status != FOTSGURE_AES_DONE)
-        abort();
-}
-
-/* Encrypts or decrypts a block. OpenSSL passes the same block twice to work in place. */
-static void encrypt_block(const unsigned char in[16], unsigned char out[16], const void *key)
-{
-    memmove(out, in, 16);
-    must(fotsgure_aes_encrypt_blocks(key, out, 1));
-}
-
-static void decrypt_block(const unsigned char in[16], unsigned char out[16], const void *key)
-{
-    memmove(out, in, 16);
-    must(fotsgure_aes_decrypt_blocks(key, out, 1));
-}
 
 /* Returns 0 if the last block ends in n bytes n, for an n of 1 to 16. No branch and no address depends on the block,
  * so that the time doesn't show where the padding is wrong. */
@@ -38,42 +16,45 @@ static unsigned wrong_padding(const uint8_t last[16])
     return wrong;
 }
 
+static void copy(uint8_t *output, const uint8_t *input, size_t length)
+{
+    if (length > 0 && output != input)
+        memcpy(output, input, length);
+}
+
 enum aes_cbc_status aes_cbc_encrypt(const struct fotsgure_aes *aes, const uint8_t iv[16], const uint8_t *input,
     size_t length, uint8_t *output, size_t output_length)
 {
-    uint8_t chain[16], last[16];
-    size_t rest = length % 16, whole = length - rest;
+    struct fotsgure_aes_cbc chain;
     if (fotsgure_aes_key_length(aes) == 0)
         return AES_CBC_NO_KEY;
     if (length > SIZE_MAX - 16 || output_length != AES_CBC_PADDED(length))
         return AES_CBC_LENGTH;
-    memcpy(chain, iv, 16);
-    memset(last, (int)(16 - rest), 16);
-    if (rest > 0)
-        memcpy(last, input + whole, rest);
-    if (whole > 0)
-        CRYPTO_cbc128_encrypt(input, output, whole, aes, chain, encrypt_block);
-    CRYPTO_cbc128_encrypt(last, output + whole, 16, aes, chain, encrypt_block);
-    OPENSSL_cleanse(last, sizeof last);
-    return AES_CBC_DONE;
+    memcpy(chain.previous, iv, 16);
+    copy(output, input, length);
+    memset(output + length, (int)(output_length - length), output_length - length);
+    return fotsgure_aes_cbc_encrypt(aes, &chain, output, output_length / 16) == FOTSGURE_AES_DONE ? AES_CBC_DONE
+                                                                                                  : AES_CBC_NO_KEY;
 }
 
 enum aes_cbc_status aes_cbc_decrypt(const struct fotsgure_aes *aes, const uint8_t iv[16], const uint8_t *input,
     size_t length, uint8_t *output, size_t *output_length)
 {
-    uint8_t chain[16];
+    struct fotsgure_aes_cbc chain;
     *output_length = 0;
     if (fotsgure_aes_key_length(aes) == 0)
         return AES_CBC_NO_KEY;
     if (length == 0 || length % 16 != 0)
         return AES_CBC_LENGTH;
-    memcpy(chain, iv, 16);
-    CRYPTO_cbc128_decrypt(input, output, length, aes, chain, decrypt_block);
+    memcpy(chain.previous, iv, 16);
+    copy(output, input, length);
+    if (fotsgure_aes_cbc_decrypt(aes, &chain, output, length / 16) != FOTSGURE_AES_DONE)
+        return AES_CBC_NO_KEY;
     if (wrong_padding(output + length - 16) != 0) {
-        OPENSSL_cleanse(output, length);
+        explicit_bzero(output, length);
         return AES_CBC_REFUSED;
     }
     *output_length = length - output[length - 1];
-    OPENSSL_cleanse(output + *output_length, length - *output_length);
+    explicit_bzero(output + *output_length, length - *output_length);
     return AES_CBC_DONE;
 }

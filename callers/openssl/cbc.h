@@ -5,8 +5,8 @@
  * vector and the encrypted bytes, under another key (HMAC, CMAC), and check that before aes_cbc_decrypt is called.
  * Take CBC for a format that asks for it; for a format of your own take GCM: fotsgure_gcm.h.
  *
- * Copy cbc.h and cbc.c into your program. They need the installed library fotsgure_aes, and libcrypto of OpenSSL:
- *     cc -c cbc.c $(pkg-config --cflags fotsgure_aes libcrypto)
+ * Copy cbc.h and cbc.c into your program. They need the installed library fotsgure_aes, whose calls chain whole blocks:
+ *     cc -c cbc.c $(pkg-config --cflags fotsgure_aes)
  *
  * The caller ensures what fotsgure_aes.h asks for, and that
  *  - the initialization vector is drawn at random for each message (appendix C); it is sent with the message;

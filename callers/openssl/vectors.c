@@ -108,25 +108,21 @@ static void cbc_line(int there)
         output, count, room);
 }
 
-static enum aes_wrap_status wrap_any(int there, int padded, const uint8_t *from, uint8_t *to, size_t *count)
+static enum aes_wrap_status wrap_any(int there, const uint8_t *from, uint8_t *to, size_t *count)
 {
-    if (there)
-        return padded ? aes_wrap_padded(&aes, from, input.count, to, *count)
-                      : aes_wrap(&aes, from, input.count, to, *count);
-    return padded ? aes_unwrap_padded(&aes, from, input.count, to, count)
-                  : aes_unwrap(&aes, from, input.count, to, *count);
+    return there ? aes_wrap_padded(&aes, from, input.count, to, *count)
+                 : aes_unwrap_padded(&aes, from, input.count, to, count);
 }
 
-static void wrap_line(int there, int padded)
+static void wrap_line(int there)
 {
-    size_t length = input.count;
-    size_t room = there ? padded ? AES_WRAP_PADDED(length) : length + 8 : padded || length < 8 ? length : length - 8;
+    size_t length = input.count, room = there ? AES_WRAP_PADDED(length) : length;
     size_t larger = room > length ? room : length, count = room, second_count = room;
     uint8_t *output = fresh(arena, room), *place = fresh(again, larger);
     enum aes_wrap_status status, second;
     memcpy(place, input.at, length);
-    status = wrap_any(there, padded, input.at, output, &count);
-    second = wrap_any(there, padded, place, place, &second_count);
+    status = wrap_any(there, input.at, output, &count);
+    second = wrap_any(there, place, place, &second_count);
     report(status == AES_WRAP_DONE, status == AES_WRAP_REFUSED,
         status == second && count == second_count && (status == AES_WRAP_LENGTH || !memcmp(output, place, room)) &&
             guarded(arena, room) && guarded(again, larger), output, count, room);
@@ -140,7 +136,7 @@ static void line(const char *what)
     if (strncmp(what, "cbc", 3) == 0)
         cbc_line(there);
     else
-        wrap_line(there, strncmp(what, "kwp", 3) == 0);
+        wrap_line(there);
     printf("\n");
     fotsgure_aes_wipe(&aes);
 }
@@ -200,11 +196,10 @@ static void changed_bytes(void)
     size_t count;
     int refused = 1;
     fill(input.at, 40, 9);
-    expect(aes_wrap(&aes, input.at, 32, wrapped, 40) == AES_WRAP_DONE, "wrapped");
+    expect(aes_wrap_padded(&aes, input.at, 32, wrapped, 40) == AES_WRAP_DONE, "wrapped");
     for (size_t i = 0; i < 40 * 8; i++) {
         wrapped[i / 8] ^= (uint8_t)(1 << i % 8);
         memset(out, 0xa5, 40);
-        refused &= aes_unwrap(&aes, wrapped, 40, out, 32) == AES_WRAP_REFUSED && all(out, 32, 0);
         refused &= aes_unwrap_padded(&aes, wrapped, 40, out, &count) == AES_WRAP_REFUSED && count == 0 &&
             all(out, 40, 0);
         wrapped[i / 8] ^= (uint8_t)(1 << i % 8);
@@ -245,8 +240,6 @@ static void errors(void)
     fotsgure_aes_wipe(&empty);
     memset(out, 0xa5, 64);
     expect(aes_cbc_encrypt(&empty, iv.at, input.at, 16, out, 32) == AES_CBC_NO_KEY &&
-        aes_wrap(&empty, input.at, 16, out, 24) == AES_WRAP_NO_KEY &&
-        aes_unwrap(&empty, input.at, 24, out, 16) == AES_WRAP_NO_KEY &&
         aes_wrap_padded(&empty, input.at, 16, out, 24) == AES_WRAP_NO_KEY, "no key");
     expect(aes_cbc_decrypt(&empty, iv.at, input.at, 16, out, &count) == AES_CBC_NO_KEY && count == 0, "no key");
     count = 7;
@@ -258,20 +251,12 @@ static void errors(void)
             expect(aes_cbc_decrypt(&aes, iv.at, input.at, n, out, &count) == AES_CBC_LENGTH && count == 0,
                 "CBC's length");
         if (n % 8 != 0 || n < 16)
-            expect(aes_wrap(&aes, input.at, n, out, n + 8) == AES_WRAP_LENGTH, "KW's length");
-        if (n % 8 != 0 || n < 24)
-            expect(aes_unwrap(&aes, input.at, n, out, n - 8) == AES_WRAP_LENGTH, "KW's length, back");
-        if (n % 8 != 0 || n < 16)
             expect(aes_unwrap_padded(&aes, input.at, n, out, &count) == AES_WRAP_LENGTH && count == 0, "KWP's length");
         if (n != 24)
-            expect(aes_wrap(&aes, input.at, 16, out, n) == AES_WRAP_LENGTH &&
-                aes_unwrap(&aes, input.at, 32, out, n) == AES_WRAP_LENGTH &&
-                aes_wrap_padded(&aes, input.at, 9, out, n) == AES_WRAP_LENGTH, "key wrap's room");
+            expect(aes_wrap_padded(&aes, input.at, 9, out, n) == AES_WRAP_LENGTH, "key wrap's room");
     }
     expect(aes_wrap_padded(&aes, input.at, 0, out, 8) == AES_WRAP_LENGTH, "KWP of nothing");
     expect(aes_cbc_encrypt(&aes, iv.at, input.at, SIZE_MAX - 3, out, 12) == AES_CBC_LENGTH &&
-        aes_wrap(&aes, input.at, large, out, large + 8) == AES_WRAP_LENGTH &&
-        aes_unwrap(&aes, input.at, large, out, large - 8) == AES_WRAP_LENGTH &&
         aes_wrap_padded(&aes, input.at, large, out, large + 8) == AES_WRAP_LENGTH &&
         aes_unwrap_padded(&aes, input.at, large, out, &count) == AES_WRAP_LENGTH, "too much");
     expect(all(out, 64, 0xa5), "errors write nothing");

@@ -1,4 +1,4 @@
-/* Key wrap by OpenSSL's mode code over the proved block cipher: wrap.h says what the calls do. */
+/* Key wrap with padding by OpenSSL's mode code over the proved block cipher: wrap.h says what the calls do. */
 #include "wrap.h"
 
 #include <openssl/crypto.h>
@@ -24,34 +24,6 @@ static void decrypt_block(const unsigned char in[16], unsigned char out[16], con
 {
     memmove(out, in, 16);
     must(fotsgure_aes_decrypt_blocks(key, out, 1));
-}
-
-enum aes_wrap_status aes_wrap(const struct fotsgure_aes *aes, const uint8_t *input, size_t length, uint8_t *output,
-    size_t output_length)
-{
-    if (fotsgure_aes_key_length(aes) == 0)
-        return AES_WRAP_NO_KEY;
-    if (length < 16 || length % 8 != 0 || length > AES_WRAP_MOST || output_length != length + 8)
-        return AES_WRAP_LENGTH;
-    if (CRYPTO_128_wrap((void *)aes, NULL, output, input, length, encrypt_block) != output_length) {
-        OPENSSL_cleanse(output, output_length);
-        return AES_WRAP_LENGTH;
-    }
-    return AES_WRAP_DONE;
-}
-
-enum aes_wrap_status aes_unwrap(const struct fotsgure_aes *aes, const uint8_t *input, size_t length, uint8_t *output,
-    size_t output_length)
-{
-    if (fotsgure_aes_key_length(aes) == 0)
-        return AES_WRAP_NO_KEY;
-    if (length < 24 || length % 8 != 0 || length > AES_WRAP_MOST + 8 || output_length != length - 8)
-        return AES_WRAP_LENGTH;
-    if (CRYPTO_128_unwrap((void *)aes, NULL, output, input, length, decrypt_block) != output_length) {
-        OPENSSL_cleanse(output, output_length);
-        return AES_WRAP_REFUSED;
-    }
-    return AES_WRAP_DONE;
 }
 
 enum aes_wrap_status aes_wrap_padded(const struct fotsgure_aes *aes, const uint8_t *input, size_t length,

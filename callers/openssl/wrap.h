@@ -1,5 +1,6 @@
-/* AES key wrap (SP 800-38F: KW, 6.2, and KWP, 6.3; RFC 3394 and RFC 5649): encrypts keys under a key, and shows
- * whether what comes back was changed. It needs no nonce: the same key, wrapped twice, gives the same bytes.
+/* AES key wrap with padding (SP 800-38F: KWP, 6.3; RFC 5649): encrypts keys of any length under a key, and shows whether
+ * what comes back was changed. It needs no nonce: the same key, wrapped twice, gives the same bytes. Keys of whole
+ * semiblocks are wrapped by the library itself: fotsgure_aes_wrap.
  *
  * Copy wrap.h and wrap.c into your program. They need the installed library fotsgure_aes, and libcrypto of OpenSSL:
  *     cc -c wrap.c $(pkg-config --cflags fotsgure_aes libcrypto)
@@ -26,16 +27,6 @@ enum aes_wrap_status {
     AES_WRAP_LENGTH = 2, /* a length doesn't fit */
     AES_WRAP_REFUSED = 3 /* the bytes were not wrapped under this key, or were changed */
 };
-
-/* Wraps (KW-AE) `length` bytes, a multiple of 8, 16 at least. LENGTH unless output_length is length + 8. Unless it
- * returns DONE, it writes nothing. */
-enum aes_wrap_status aes_wrap(const struct fotsgure_aes *aes, const uint8_t *input, size_t length, uint8_t *output,
-    size_t output_length);
-
-/* Unwraps (KW-AD) `length` bytes, a multiple of 8, 24 at least. LENGTH unless output_length is length - 8. REFUSED
- * gives out nothing: `output` is then all zeros. After the other errors it is unchanged. */
-enum aes_wrap_status aes_unwrap(const struct fotsgure_aes *aes, const uint8_t *input, size_t length, uint8_t *output,
-    size_t output_length);
 
 /* Pads and wraps (KWP-AE) `length` bytes, one at least. LENGTH unless output_length is AES_WRAP_PADDED(length). Unless
  * it returns DONE, it writes nothing. */
