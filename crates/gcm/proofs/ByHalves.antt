@@ -1,50 +1,18 @@
 -- Vectors of 32 bytes by their halves.
 use Rattle.std.proofs.Common.{◌≡◌, ℕ, zero, suc, ◌+◌, ◌-◌, ◌*◌, ◌/◌, ◌%◌, ◌^◌, ◌<◌, ◌≤◌, Bool, true, false, ◌&&◌, ◌||◌, nat_le, nat_lt, cond}
-use Rattle.std.proofs.Common.{List, [], ◌∷◌, ◌++◌, length, map, take, drop, get_or, bit_and, bit_xor, replicate, refl, ap, sym, ◌∙◌, arith, w8, T}
+use Rattle.std.proofs.Common.{List, [], ◌∷◌, ◌++◌, length, map, take, drop, get_or, bit_and, bit_xor, replicate, refl, ap, sym, ◌∙◌, arith, w8}
 use Rattle.std.specs.List.{list_all, range_with_len}
 use Rattle.std.specs.Int.{w128, from_be_bytes}
 use Rattle.std.proofs.lemmas.Bool.{and_parts, ltb-true}
 use Rattle.std.proofs.lemmas.List.{map-append, length-append, length-map, get_or_append_left, get_or-append_right, get_or-take, get_or-drop}
-use Rattle.std.proofs.lemmas.List.{length-drop, take_all, take-take, take_at, take-append-le, drop-drop, drop_at}
-use Rattle.std.proofs.lemmas.Simd.{swz_l, SwzOk, SwzOk-from_Each1, pick_l_left, pick_l-range_with_len, pick_l_whole, zip2_splat}
-use lib.Lanes.{zip2, pick_l, Each1}
+use Rattle.std.proofs.lemmas.List.{take-take, drop-drop, drop_at}
+use Rattle.std.proofs.lemmas.Simd.{swz_l, pick_l-range_with_len, zip2_splat}
+use lib.Lanes.{zip2, pick_l}
 use lib.Dec.{ltb}
 use mir.Val.{zeroes}
 use Rattle.aes_planes.specs.Fips197.{IsBlock}
 use Rattle.aes_permute.specs.Lookup.{looked, is_index, low_nibble, high_nibble, by_nibbles, AreIndices}
 use Rattle.aes_permute.proofs.Lookups.{low_nibbles_are, high_nibbles_are, nibbles_are_indices, low_is, high_is, nibbles_looked_up}
-
--- ---- blocks in halves
-
-abbrev sixteen : List ℕ
-sixteen = 0 ∷ 1 ∷ 2 ∷ 3 ∷ 4 ∷ 5 ∷ 6 ∷ 7 ∷ 8 ∷ 9 ∷ 10 ∷ 11 ∷ 12 ∷ 13 ∷ 14 ∷ 15 ∷ []
-
-abbrev sixteen_on : List ℕ
-sixteen_on = 16 ∷ 17 ∷ 18 ∷ 19 ∷ 20 ∷ 21 ∷ 22 ∷ 23 ∷ 24 ∷ 25 ∷ 26 ∷ 27 ∷ 28 ∷ 29 ∷ 30 ∷ 31 ∷ []
-
-first_picked : (x y : List ℕ) → length x ≡ 16 → pick_l 0 (x ++ y) sixteen ≡ x
-first_picked x y long =
-    pick_l-range_with_len 0 (x ++ y) 0 16 (omega (arith, long, length-append x y)) ∙ take_at x y 16 long
-
-pub doubled : (x : List ℕ) → IsBlock x → pick_l 0 (x ++ x) (sixteen ++ sixteen) ≡ x ++ x
-doubled x (long, small) = let e = first_picked x x long in λ t. e t ++ e t
-
-pub in_order : (x y : List ℕ) → IsBlock x → IsBlock y → pick_l 0 (x ++ y) (sixteen ++ sixteen_on) ≡ x ++ y
-in_order x y (x_long, x_small) (y_long, y_small) =
-    pick_l_whole 0 (x ++ y) 32 (length-append x y ∙ omega (arith, x_long, y_long))
-
-pub lower_half : (x : List ℕ) → length x ≡ 32 → pick_l 0 (x ++ x) sixteen ≡ take 16 x
-lower_half x long =
-    pick_l-range_with_len 0 (x ++ x) 0 16 (omega (arith, long, length-append x x))
-    ∙ take-append-le 16 x x (omega (arith, long))
-
-pub upper_half : (x : List ℕ) → length x ≡ 32 → pick_l 0 (x ++ x) sixteen_on ≡ drop 16 x
-upper_half x long =
-    pick_l_left 0 x x 32 sixteen_on long tt
-    ∙ pick_l-range_with_len 0 x 16 16 (omega (arith, long))
-    ∙ take_all 16 (drop 16 x) (omega (arith, long, length-drop 16 x))
-
-pub ruleset halves = (lower_half, upper_half)
 
 -- ---- nibbles
 
@@ -127,20 +95,6 @@ looked_in_halves t u js p q t_block u_block are p_long q_long is =
     ++ looked_from (t ++ u) u 1 (λ j h. let e : 16 * 1 + j - 16 ≡ j = omega arith in
     get_or-append_right t u 16 (16 * 1 + j) 0 t_block.0 (omega arith) ∙ ap (λ n. get_or u n 0) e) q 16 (omega arith)
     (omega (arith, q_long)) parts.1 k)
-
-t_of : (b : Bool) → b ≡ true → T b
-t_of true e = tt
-t_of false e = absurd (grind (arith, e))
-
-each_index : (js : List ℕ) → AreIndices js → Each1 (λ j. T (zeroes 16 w8 j || ltb j 16)) js
-unfolding is_index
-each_index [] h = tt
-each_index (j ∷ js) h =
-    let both = and_parts (is_index j) (list_all is_index js) h in
-    (t_of _ both.0, each_index js both.1)
-
-pub indices_in_halves : (js : List ℕ) → length js ≡ 32 → AreIndices js → SwzOk w8 16 32 0 js
-indices_in_halves js long are = SwzOk-from_Each1 w8 16 2 32 0 js refl (omega (arith, long)) (each_index js are)
 
 -- two look-ups, summed
 zip2_append : (f : ℕ → ℕ → ℕ) (a b c d : List ℕ) → length a ≡ length c

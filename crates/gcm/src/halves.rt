@@ -6,59 +6,8 @@ ghost use Rattle.std.specs.Int.{w128, from_be_bytes};
 ghost use Rattle.aes_planes.specs.Fips197 as fips;
 ghost use Rattle.aes_permute.specs.Lookup.{looked, low_nibble, high_nibble, AreIndices};
 
+use aes_permute::halves::{joined, twice};
 use std::simd::prelude::*;
-
-// A block in both halves.
-#[tactic(auto, using(crate::proofs::ByHalves::doubled))]
-#[inline(always)]
-fn twice(x: u8x16) -> u8x32
-    requires { fips.IsBlock x }
-    ensures { result ≡ x ++ x }
-{
-    x.swizzle([
-        0, 1, 2, 3, 4, 5, 6, 7, 8, 9, 10, 11, 12, 13, 14, 15, 0, 1, 2, 3, 4, 5, 6, 7, 8, 9, 10, 11,
-        12, 13, 14, 15,
-    ])
-}
-
-// A block in each half.
-#[tactic(auto, using(crate::proofs::ByHalves::in_order))]
-#[inline(always)]
-fn joined(lower: u8x16, upper: u8x16) -> u8x32
-    requires lower { fips.IsBlock lower }
-    requires upper { fips.IsBlock upper }
-    ensures { result ≡ lower ++ upper }
-{
-    lower.shuffle(
-        upper,
-        [
-            0, 1, 2, 3, 4, 5, 6, 7, 8, 9, 10, 11, 12, 13, 14, 15, 16, 17, 18, 19, 20, 21, 22, 23,
-            24, 25, 26, 27, 28, 29, 30, 31,
-        ],
-    )
-}
-
-/// Returns the lower half.
-#[tactic(auto, using(crate::proofs::ByHalves::halves))]
-#[inline(always)]
-pub(crate) fn lower(x: u8x32) -> u8x16
-    requires { length x ≡ 32 }
-    ensures { result ≡ take 16 x }
-{
-    x.swizzle([0, 1, 2, 3, 4, 5, 6, 7, 8, 9, 10, 11, 12, 13, 14, 15])
-}
-
-/// Returns the upper half.
-#[tactic(auto, using(crate::proofs::ByHalves::halves))]
-#[inline(always)]
-pub(crate) fn upper(x: u8x32) -> u8x16
-    requires { length x ≡ 32 }
-    ensures { result ≡ drop 16 x }
-{
-    x.swizzle([
-        16, 17, 18, 19, 20, 21, 22, 23, 24, 25, 26, 27, 28, 29, 30, 31,
-    ])
-}
 
 /// Returns the low nibble of each byte of a block, in both halves.
 #[inline(always)]
@@ -81,7 +30,7 @@ pub(crate) fn high_nibbles_twice(x: u8x16) -> u8x32
 }
 
 /// Returns the entry of a table at each place of the lower half, and of another at those of the upper half.
-#[tactic(auto, using(crate::proofs::ByHalves::indices_in_halves))]
+#[tactic(auto, using(aes_permute::proofs::ByHalves::indices_in_halves))]
 #[inline(always)]
 pub(crate) fn lookup_in_halves(first: [u8; 16], second: [u8; 16], places: u8x32) -> u8x32
     requires { AreIndices places }

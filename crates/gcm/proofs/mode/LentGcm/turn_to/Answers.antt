@@ -1,5 +1,5 @@
 -- What is left to show of `mode::LentGcm::turn_to`.
-use Rattle.std.proofs.Common.{◌≡◌, ◌∙◌, inl, inr, ap, arith, length, refl, sym, rules}
+use Rattle.std.proofs.Common.{◌≡◌, ◌∙◌, inl, inr, ap, arith, length, sym, rules}
 use Rattle.std.specs.Int.{w128, from_be_bytes}
 use Rattle.gcm.specs.Gcm.{hash_subkey}
 use Rattle.gcm.specs.Pieces.{phase_of}
