@@ -53,11 +53,11 @@ impl Width for Wide {
 
     type Many = u8x32;
 
-    const LEAST_TO_ENCRYPT: usize = 29;
+    const LEAST_TO_ENCRYPT: usize = 32;
 
-    const LEAST_TO_DECRYPT: usize = 20;
+    const LEAST_TO_DECRYPT: usize = 29;
 
     const LEAST_FOR_CLOSURES: usize = 29;
 
-    const MOST_AFTER_BATCHES: usize = 10;
+    const MOST_AFTER_BATCHES: usize = 12;
 }
