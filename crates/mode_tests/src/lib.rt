@@ -1,4 +1,4 @@
-//! Tests of the modes `gcm` and `cmac`.
+//! Tests of the modes `gcm`, `cmac`, `cbc` and `key_wrap`.
 #![tactic(auto)]
 
 #[cfg(test)]

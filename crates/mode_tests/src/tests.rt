@@ -1,5 +1,7 @@
 //! What no clause says: that the modes answer, with the standards' values, over ciphers of each size of keys.
 
+mod chains;
+mod keys;
 mod pieces;
 mod tags;
 mod whole;

@@ -2,6 +2,7 @@
 #![tactic(auto)]
 
 pub mod blocks;
+pub mod chains;
 pub mod examples;
 pub mod expansions;
 pub mod keys;
