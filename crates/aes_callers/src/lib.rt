@@ -5,8 +5,8 @@
 pub mod by_backend;
 pub mod by_key;
 pub mod callers;
-pub mod cbc;
 pub mod chaining_value;
+pub mod chains;
 pub mod closures;
 pub mod counter_mode;
 pub mod generic;

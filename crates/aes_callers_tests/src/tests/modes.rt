@@ -3,8 +3,8 @@
 use aes::expansion::expand_128;
 use aes::{Aes128, FixslicedAes};
 use aes_callers::by_backend::ByBackend;
-use aes_callers::cbc::cbc_there_and_back;
 use aes_callers::chaining_value::{chaining_value, chaining_value_under};
+use aes_callers::chains::cbc_there_and_back;
 use aes_cipher::aes::{Bits128, Bits192, Bits256, BothWays, KeySize};
 use aes_cipher::blocks::{block_of_number, blocks_equal};
 use aes_cipher::cipher::{BlockCipherDecrypt, BlockCipherEncrypt, KeyInit};
