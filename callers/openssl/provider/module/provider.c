@@ -10,7 +10,7 @@
 
 #include <stdlib.h>
 
-#define VERSION "0.1.0"
+#define VERSION "0.3.0"
 
 static int is_gcm(const struct algorithm *algorithm) { return algorithm->mode == EVP_CIPH_GCM_MODE; }
 static size_t size_of(const struct algorithm *algorithm) { return is_gcm(algorithm) ? gcm_size : block_size; }
