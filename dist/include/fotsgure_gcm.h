@@ -41,7 +41,8 @@
 #include <stddef.h>
 #include <stdint.h>
 
-/* The version of this header; fotsgure_gcm_version() returns that of the library. */
+/* The version of this header; fotsgure_gcm_version() returns that of the library. It is that of fotsgure_aes since 0.3.0,
+ * which followed 0.1.0. */
 #define FOTSGURE_GCM_VERSION_TEXT "0.3.0"
 #define FOTSGURE_GCM_VERSION 300 /* 10000 * 0 + 100 * 3 + 0 */
 
