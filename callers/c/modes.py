@@ -6,6 +6,8 @@ import ctypes
 import pathlib
 import sys
 
+if len(sys.argv) < 2:
+    sys.exit(__doc__)
 DONE, REFUSED = 0, 6
 library = ctypes.CDLL(sys.argv[1])
 FOLDER = pathlib.Path(sys.argv[2] if len(sys.argv) > 2 else "/usr/lib/python3/dist-packages/cryptography_vectors")

@@ -53,6 +53,8 @@ def seal(path: pathlib.Path, text: bytes, additional: bytes) -> Tuple[bytes, byt
 
 
 def main() -> None:
+    if len(sys.argv) != 2:
+        sys.exit("usage: example_gcm.py FOLDER")
     path = pathlib.Path(sys.argv[1])
     nonce, sealed = seal(path, b"a message", b"its name")
     # Both are sent here, and the name with them.
