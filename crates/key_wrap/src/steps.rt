@@ -6,6 +6,7 @@ ghost use Rattle.key_wrap.specs.KeyWrap.{number_added, unwrapped_from, wrapped_a
 
 use aes_cipher::blocks::{block_of_halves, halves_of_block};
 use aes_cipher::cipher::{BlockCipherDecrypt, BlockCipherEncrypt};
+use aes_cipher::zeroize::zeroize_elements;
 
 /// Half of a block.
 pub type Semiblock = [u8; 8];
@@ -72,7 +73,7 @@ pub(crate) fn wrap_in_place<C: BlockCipherEncrypt>(
     }
 }
 
-// One step of the inverse of W.
+// One step of the inverse of W. The block is overwritten, since half of it is a piece of the key in the last step.
 fn unwrap_step<C: BlockCipherDecrypt>(
     cipher: &C,
     check: &mut Semiblock,
@@ -84,11 +85,12 @@ fn unwrap_step<C: BlockCipherDecrypt>(
     ensures half { let b = fips.inv_cipher_with (C.round_keys cipher.now) (number_added check.old number ++ half.old)
         in half.new ≡ drop 8 b }
 {
-    let mut block = block_of_halves(&add_number(check, number), half);
-    cipher.decrypt_block(&mut block);
-    let (first, second) = halves_of_block(&block);
+    let mut room = [block_of_halves(&add_number(check, number), half)];
+    cipher.decrypt_block(&mut room[0]);
+    let (first, second) = halves_of_block(&room[0]);
     *check = first;
     *half = second;
+    zeroize_elements(&mut room);
 }
 
 // The steps of the inverse with each semiblock once, from the last on.
