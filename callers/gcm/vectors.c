@@ -1,7 +1,7 @@
 /* NIST's vectors of GCM through the library: `vectors FILE ..` reads files as NIST publishes them, as
  * gcmEncryptExtIV128.rsp. Each message is sealed and opened again, and refused with a bit changed in each of its parts;
- * a tag that fails in the file is refused. NIST has tags of 4 to 15 bytes too: the library refuses those by their length,
- * and they have to be the beginning of the tag of 16 bytes that it makes, or not to be where the file says so. No call
+ * a tag that fails in the file is refused. NIST has tags of 4 to 15 bytes too: fotsgure_gcm_open refuses those by their
+ * length, and they have to be the beginning of the tag of 16 bytes that it makes, or not to be where the file says so. No call
  * may write beside its buffers. The last line is `N passed, N failed`. */
 #include <fotsgure_gcm.h>
 
