@@ -113,7 +113,8 @@ int main(int count, char **words)
         return 2;
     }
     if (!seal(words[1], &it)) {
-        fprintf(stderr, "not sealed; if the counter is lost or short, remove the key too, and a new one is drawn\n");
+        fprintf(stderr, "not sealed: there is no such folder, or its counter is lost or short; then move the file `key` away, "
+            "which opens old messages, and a new key is drawn\n");
         return 1;
     }
     /* It is sent here: it.name, it.nonce, it.text and it.tag. */
