@@ -137,18 +137,21 @@ def assembled(name):
 
 
 def c_library(build):
-    """The archive of one build of the C library: of dist/, or by the second compiler. That one is proved and built where it
-    stands, over what was proved there; an archive that stood there stays."""
+    """The archive of one build of the C library: of dist/, or by the second compiler."""
     it, compiler = BUILDS[build]
-    if compiler == "llvm":
-        return assembled(it)
-    made, total = ROOM / f"libfotsgure_aes-{build}.a", sources()
+    return assembled(it) if compiler == "llvm" else built_by(compiler, it)
+
+
+def built_by(compiler, crate):
+    """The archive of a library for C by another compiler than dist/ is of. It is proved and built where it stands, over what
+    was proved there; an archive that stood there stays."""
+    made, total = ROOM / f"lib{crate}-{compiler}.a", sources()
     if is_kept(made, total):
         return made
-    say(f"proving and building {it} by {compiler}, over what is proved already")
-    start, out = time.time(), TOP / "crates" / it / "out" / f"lib{it}.a"
+    say(f"proving and building {crate} by {compiler}, over what is proved already")
+    start, out = time.time(), TOP / "crates" / crate / "out" / f"lib{crate}.a"
     before = out.read_bytes() if out.exists() else None
-    rt_lib(TOP / "crates" / it, "--backend", compiler)
+    rt_lib(TOP / "crates" / crate, "--backend", compiler)
     shutil.copy(out, made)
     out.unlink()
     if before is not None:
