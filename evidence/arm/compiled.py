@@ -15,8 +15,10 @@ BRANCH = re.compile(r"(b\.\w+|cbn?z|tbn?z)\s+(.*)")
 # An index is in a register: [base, index], or an address that moves on by a register.
 INDEXED = re.compile(r"((?:ld|st|prfm|cas|swp)\w*)\s+(.*\[\w+, [wx](?:\d+|zr).*\]|.*\[\w+\], x\d+)$")
 SUM = re.compile(r"(add)\s+(x\d+, (?:x\d+|sp), [wx]\d+.*)")
-# What goes from a vector to a number, or lane by lane, as where a shuffle is taken apart.
-TAKEN_APART = re.compile(r"([usf]?mov)\s[wx]\d+, [vbhsdq]\d|(ins|mov)\sv\d+\.[bh]\[|(ld|st)[1-4]r?\s.*\.[bh]\}\[")
+# A number that goes into a lane of a vector.
+LANE = re.compile(r"(ins|mov)\s(v\d+)\.[bh]\[\d+\](, w\d+)$")
+# What goes from a vector to a number, or from lane to lane or to memory, as where a shuffle is taken apart.
+TAKEN_APART = re.compile(r"([usf]?mov)\s[wx]\d+, [vbhsdq]\d|(ins|mov)\sv\d+\.[bh]\[\d+\], v|(ld|st)[1-4]r?\s.*\.[bh]\}\[")
 # Jumps to places out of a register, and instructions whose time may depend on what they work on.
 OTHERS = re.compile(r"(brk?|blr|udiv|sdiv|fdiv|fsqrt)\s")
 
@@ -47,6 +49,8 @@ def looked_at(archive):
             key = (name, tested, branch[1])
         elif indexed := INDEXED.match(code) or SUM.match(code):
             key = (name, shape(indexed[2]), indexed[1])
+        elif lane := LANE.match(code):
+            key = (name, shape(lane[2] + lane[3]), lane[1])
         elif FLAGS.match(code):
             last = (name, shape(code))
         if key:

@@ -10,7 +10,8 @@
 enum { MOST = 2048, RUNS = 12 };
 static struct fotsgure_aes kept;
 static struct fotsgure_aes_ctr ctr;
-static uint8_t key[32], data[MOST], other[MOST], before[MOST];
+static struct fotsgure_aes_cbc cbc;
+static uint8_t key[32], data[MOST], other[MOST], before[MOST], wrapped[MOST];
 static size_t size, count, answer;
 
 /* Bytes of a run: all 0, all 1, and then others each time. */
@@ -37,6 +38,14 @@ static void unequal(void) { answer = fotsgure_aes_encrypt_blocks_to(&kept, other
 static void stream(void) { answer = fotsgure_aes_add_keystream(&kept, &ctr, data, count); }
 static void stream_to(void) { answer = fotsgure_aes_add_keystream_to(&kept, &ctr, other, count, data, count); }
 static void stream_with(void) { answer = fotsgure_aes_add_keystream_with(key, size, &ctr, data, count); }
+static void chain(void) { answer = fotsgure_aes_cbc_encrypt(&kept, &cbc, data, count); }
+static void unchain(void) { answer = fotsgure_aes_cbc_decrypt(&kept, &cbc, data, count); }
+/* Keys of two semiblocks or more: one block or more. */
+static void wrap(void) { answer = count ? fotsgure_aes_wrap(&kept, other, 2 * count, data, 2 * count + 1) : 0; }
+static void unwrap(void) { answer = count ? fotsgure_aes_unwrap(&kept, wrapped, 2 * count + 1, data, 2 * count) : 0; }
+static void unwrap_refused(void) {
+    answer = count ? fotsgure_aes_unwrap(&kept, other, 2 * count + 1, data, 2 * count) : FOTSGURE_AES_REFUSED;
+}
 /* Calls on a struct without a key. */
 static void encrypt_no_key(void) { encrypt(); }
 static void stream_no_key(void) { stream(); }
@@ -68,6 +77,9 @@ static const struct call { const char *name; void (*it)(void); enum unit unit; s
     {"encrypt_blocks_with", encrypt_with, BLOCKS, FOTSGURE_AES_DONE},
     {"decrypt_blocks_with", decrypt_with, BLOCKS, FOTSGURE_AES_DONE},
     {"encrypt_blocks, no key", encrypt_no_key, BLOCKS, FOTSGURE_AES_NO_KEY},
+    {"cbc_encrypt", chain, BLOCKS, FOTSGURE_AES_DONE}, {"cbc_decrypt", unchain, BLOCKS, FOTSGURE_AES_DONE},
+    {"wrap", wrap, BLOCKS, FOTSGURE_AES_DONE}, {"unwrap", unwrap, BLOCKS, FOTSGURE_AES_DONE},
+    {"unwrap, refused", unwrap_refused, BLOCKS, FOTSGURE_AES_REFUSED},
     {"add_keystream", stream, BYTES, FOTSGURE_AES_DONE}, {"add_keystream_to", stream_to, BYTES, FOTSGURE_AES_DONE},
     {"add_keystream_with", stream_with, BYTES, FOTSGURE_AES_DONE},
     {"add_keystream, no key", stream_no_key, BYTES, FOTSGURE_AES_NO_KEY},
@@ -87,11 +99,17 @@ static void once(const struct call *call, uint64_t position, int run) {
     fill(data, sizeof data, run);
     fill(other, sizeof other, run == 1 ? 0 : run);
     fill(ctr.iv, sizeof ctr.iv, run);
+    fill(cbc.previous, sizeof cbc.previous, run);
     ctr.position = position;
     memcpy(before, data, sizeof data);
     (void)!fotsgure_aes_set_key(&kept, key, size);
     if (call->it == encrypt_no_key || call->it == stream_no_key)
         fotsgure_aes_wipe(&kept);
+    if (call->it == unwrap && count) {
+        (void)!fotsgure_aes_wrap(&kept, other, 2 * count, wrapped, 2 * count + 1);
+        /* What is unwrapped is another key than stands there. */
+        data[0] = before[0] = (uint8_t)~other[0];
+    }
     answer = 0;
     BEGIN();
     call->it();
