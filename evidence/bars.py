@@ -38,11 +38,11 @@ def row(name, kind, times, y, names, bar):
 
 def drawn(title, panels, groups, names, bar):
     """The picture as text: panels as (title, unit), groups as (title, [(name, kind, times)])."""
-    parts, y = [], 36
+    parts, y = [f'<text x="0" y="14" class="title">{escape(title)}</text>'], 62
     for at, (head, unit) in enumerate(panels):
         x = names + (bar + BESIDE) * at
-        parts.append(f'<text x="{x}" y="14" class="bold">{escape(head)}</text>')
-        parts.append(f'<text x="{x}" y="30" class="soft">{escape(unit)}</text>')
+        parts.append(f'<text x="{x}" y="42" class="bold">{escape(head)}</text>')
+        parts.append(f'<text x="{x}" y="58" class="soft">{escape(unit)}</text>')
     for head, rows in groups:
         y += ROW + GAP
         parts.append(f'<text x="0" y="{y}" class="soft">{escape(head)}</text>')
@@ -53,6 +53,7 @@ def drawn(title, panels, groups, names, bar):
     return "\n".join([
         f'<svg xmlns="http://www.w3.org/2000/svg" viewBox="0 0 {width} {height}" width="{width}" height="{height}" role="img">',
         f"<title>{escape(title)}</title>",
-        f"<style>text {{ font: 12px 'DejaVu Sans', Verdana, Arial, sans-serif }} .bold {{ font-weight: bold }} {rules(0)}",
+        f"<style>text {{ font: 12px 'DejaVu Sans', Verdana, Arial, sans-serif }} .bold {{ font-weight: bold }} "
+        f".title {{ font: bold 14px 'DejaVu Sans', Verdana, Arial, sans-serif }} {rules(0)}",
         f"@media (prefers-color-scheme: dark) {{ {rules(1)} }}</style>",
         *parts, "</svg>", ""])

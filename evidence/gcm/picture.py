@@ -37,7 +37,7 @@ def draw():
             (peer, "ours" if peer == "this library" else kind, [(it / m, bars.label(it)) for it, m in zip(its, most)])
             for its, peer in rows
         ]))
-    title = "Time of GCM from C with a key of 16 bytes, beside the libraries of Debian"
+    title = "GCM from C with a key of 16 bytes, by this library and those of Debian"
     PICTURE.write_text(bars.drawn(title, [(it, "less is faster") for it, *_ in PANELS], groups, 110, 210))
 
 

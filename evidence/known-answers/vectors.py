@@ -106,42 +106,18 @@ def expanded(value):
 # the tests of BearSSL 0.6 have them (Debian's source package bearssl, test/test_crypto.c), after ECBMCT128.rsp and its
 # like.
 MONTE_CARLO = [
-    (
-        "enc",
-        "139a35422f1d61de3c91787fe0507afd",
-        "b9145a768b7dc489a096b546f43b231f",
-        "fb2649694783b551eacd9d5db6126d47",
-    ),
-    (
-        "dec",
-        "0c60e7bf20ada9baa9e1ddf0d1540726",
-        "b08a29b11a500ea3aca42c36675b9785",
-        "d1d2bfdc58ffcad2341b095bce55221e",
-    ),
-    (
-        "enc",
-        "b9a63e09e1dfc42e93a90d9bad739e5967aef672eedd5da9",
-        "85a1f7a58167b389cddc8a9ff175ee26",
-        "5d1196da8f184975e240949a25104554",
-    ),
-    (
-        "dec",
-        "4b97585701c03fbebdfa8555024f589f1482c58a00fdd9fd",
-        "d0bd0e02ded155e4516be83f42d347a4",
-        "b63ef1b79507a62eba3dafcec54a6328",
-    ),
-    (
-        "enc",
-        "f9e8389f5b80712e3886cc1fa2d28a3b8c9cd88a2d4a54c6aa86ce0fef944be0",
-        "b379777f9050e2a818f2940cbbd9aba4",
-        "c5d2cb3d5b7ff0e23e308967ee074825",
-    ),
-    (
-        "dec",
-        "2b09ba39b834062b9e93f48373b8dd018dedf1e5ba1b8af831ebbacbc92a2643",
-        "89649bd0115f30bd878567610223a59d",
-        "e3d3868f578caf34e36445bf14cefc68",
-    ),
+    ("enc", "139a35422f1d61de3c91787fe0507afd",
+     "b9145a768b7dc489a096b546f43b231f", "fb2649694783b551eacd9d5db6126d47"),
+    ("dec", "0c60e7bf20ada9baa9e1ddf0d1540726",
+     "b08a29b11a500ea3aca42c36675b9785", "d1d2bfdc58ffcad2341b095bce55221e"),
+    ("enc", "b9a63e09e1dfc42e93a90d9bad739e5967aef672eedd5da9",
+     "85a1f7a58167b389cddc8a9ff175ee26", "5d1196da8f184975e240949a25104554"),
+    ("dec", "4b97585701c03fbebdfa8555024f589f1482c58a00fdd9fd",
+     "d0bd0e02ded155e4516be83f42d347a4", "b63ef1b79507a62eba3dafcec54a6328"),
+    ("enc", "f9e8389f5b80712e3886cc1fa2d28a3b8c9cd88a2d4a54c6aa86ce0fef944be0",
+     "b379777f9050e2a818f2940cbbd9aba4", "c5d2cb3d5b7ff0e23e308967ee074825"),
+    ("dec", "2b09ba39b834062b9e93f48373b8dd018dedf1e5ba1b8af831ebbacbc92a2643",
+     "89649bd0115f30bd878567610223a59d", "e3d3868f578caf34e36445bf14cefc68"),
 ]
 
 

@@ -9,48 +9,44 @@ GROUPS = {
     "permutations": ("permutations", "Software by vector permutations (SSSE3)"),
     "bitsliced": ("open", "Software on bit planes, without tables"),
     "tables": ("tables", "Software with tables in memory"),
-    "instructions": ("instructions", "AES instructions of the processor: bars on a scale of their own, in brackets the part "
-                     "of this library's time"),
+    "instructions": ("instructions", "AES instructions of the processor, and in brackets the part of this library's time"),
 }
-# The group whose bars would be too short to be seen beside the others: its longest takes this part of a panel.
-APART, APART_LENGTH = "instructions", 0.5
-OURS = {tables.BASE: "this library, aes_hybrid", tables.AVX2: "this library, built for AVX2"}
+OURS = {tables.BASE: "this library, no AVX2", tables.AVX2: "this library, for AVX2"}
 
 
 def times_of(rows, key):
-    """The least nanoseconds a block of each engine, in each panel: {(kind, peer, how): times}."""
+    """The least nanoseconds a block of each engine, in each panel: {(kind, peer, how): times}. This library's are those
+    of the process in which its build for AVX2 stands too."""
     times = {}
     for r in rows:
         call = (r["call"], r["amount"])
-        if r["key_bytes"] == key and tables.is_shown(r) and call in tables.PICTURED:
+        is_taken = r["peer"] != "this library" or r["run"] == tables.CONSTANT_TIME
+        if r["key_bytes"] == key and tables.is_shown(r) and call in tables.PICTURED and is_taken:
             of = times.setdefault((r["kind"], r["peer"], r["how"]), {})
             of[call] = min(r["nanoseconds"] / r["amount"], of.get(call, 1e30))
     return {it: [of.get(call) for call in tables.PICTURED] for it, of in times.items()}
 
 
-def cell(kind, time, of, ours):
+def cell(kind, time, most, ours):
     """A bar's length on the scale of its panel, and what stands beside it."""
     if time is None:
         return 0, "no such call"
-    most = {apart: max(t for other, t in of if t and (other == APART) == apart) for apart in (False, True)}
-    if kind != APART:
-        return time / most[False], bars.label(time)
-    return APART_LENGTH * time / most[True], f"{bars.label(time)} ({100 * time / ours:.0f} %)"
+    return time / most, bars.label(time) + (f" ({100 * time / ours:.0f} %)" if kind == "instructions" else "")
 
 
 def draw(rows, to, key=16):
     """Writes the picture of the rows for one size of keys."""
     times = times_of(rows, key)
-    columns = [[(it[0], its[at]) for it, its in times.items()] for at in range(len(TITLES))]
+    most = [max(its[at] for its in times.values() if its[at]) for at in range(len(TITLES))]
     ours = next(its for it, its in times.items() if it[2] == tables.BASE)
     groups = []
     for kind, (bar, title) in GROUPS.items():
         shown = sorted((it for it in times if it[0] == kind), key=lambda it: times[it][0] or 1e30)
         lines = []
         for it in shown:
-            cells = [cell(kind, *its) for its in zip(times[it], columns, ours)]
+            cells = [cell(kind, *its) for its in zip(times[it], most, ours)]
             lines.append((OURS.get(it[2], f"{it[1]}, {it[2]}"), bar, cells))
         groups.append((title, lines))
     units = ["nanoseconds a block, less is faster" if n > 1 else "nanoseconds, less is faster" for _, n in tables.PICTURED]
-    title = f"AES encryption with a key of {key} bytes: nanoseconds a block, this library and the libraries of Debian"
+    title = f"AES encryption with a key of {key} bytes, by this library and those of Debian"
     to.write_text(bars.drawn(title, list(zip(TITLES, units)), [it for it in groups if it[1]], 220, 170))
