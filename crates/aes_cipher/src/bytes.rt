@@ -9,8 +9,8 @@ ghost use Rattle.aes_cipher.specs.Blocks.{blocks_of, Sixteens};
 
 mod processing;
 
-use crate::cipher::{BlockCipherDecrypt, BlockCipherEncrypt};
-use processing::{Decrypting, Encrypting, process_bytes};
+use crate::cipher::{BlockCipherDecrypt, BlockCipherEncrypt, Decrypt, Encrypt};
+use processing::process_bytes;
 
 /// The length of the bytes is no multiple of 16.
 #[derive(Debug, Clone, Copy, PartialEq, Eq)]
@@ -30,7 +30,7 @@ pub fn encrypt_bytes<C: BlockCipherEncrypt>(
         (blocks_of bytes.old) (blocks_of bytes.new)) }
     ensures untouched { OnErr result (bytes.new ≡ bytes.old) }
 {
-    process_bytes(&Encrypting { cipher }, bytes)
+    process_bytes::<Encrypt, C>(cipher, bytes)
 }
 
 /// Decrypts bytes in place, block by block, under the value's round keys (InvCipher, FIPS 197, 5.3).
@@ -47,7 +47,7 @@ pub fn decrypt_bytes<C: BlockCipherDecrypt>(
         (blocks_of bytes.old) (blocks_of bytes.new)) }
     ensures untouched { OnErr result (bytes.new ≡ bytes.old) }
 {
-    process_bytes(&Decrypting { cipher }, bytes)
+    process_bytes::<Decrypt, C>(cipher, bytes)
 }
 
 /// No effect; states how bytes and their blocks correspond: whole blocks, joined, are the bytes; joined blocks split

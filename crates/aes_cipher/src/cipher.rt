@@ -17,7 +17,7 @@ mod sizes;
 pub use batches::{BatchSize, BatchSizeUser, ParBlocksSizeUser};
 pub use decrypt::BlockCipherDecrypt;
 pub use decrypt_backend::{BlockCipherDecBackend, BlockCipherDecClosure};
-pub use directions::{Decrypt, Direction, Encrypt};
+pub use directions::{CipherIn, Decrypt, Direction, Encrypt};
 pub use eight::BatchOfEight;
 pub use encrypt::BlockCipherEncrypt;
 pub use encrypt_backend::{BlockCipherEncBackend, BlockCipherEncClosure};

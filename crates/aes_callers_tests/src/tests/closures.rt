@@ -1,12 +1,10 @@
 //! Closures on the backends of every type, and on the round by round ciphers with their batch of eight.
 
-use super::ways::{CipherIn, Trial, try_all};
+use super::ways::{Trial, try_all};
 use aes::{Block, FixslicedAes};
 use aes_callers::closures::{Mixed, Nothing, Row, Twice, encrypt_row, twice_there_and_back};
 use aes_cipher::aes::{AesCipher, Bits128, BothWays, KeySize};
-use aes_cipher::cipher::{
-    BlockCipherDecrypt, BlockCipherEncrypt, Decrypt, Direction, Encrypt, KeyInit,
-};
+use aes_cipher::cipher::{BlockCipherDecrypt, BlockCipherEncrypt, CipherIn, Direction, KeyInit};
 use aes_hybrid::BothLists;
 use standards::blocks::{ENCRYPTED_128, PLAIN, blocks, different_blocks};
 use standards::keys::KEY_A1;
@@ -16,13 +14,13 @@ struct Closures;
 
 fn does_nothing<D: Direction, C: CipherIn<D>>(cipher: &C) -> bool {
     let mut nothing = Nothing { count: 7 };
-    cipher.lend(&mut nothing);
+    cipher.process_with_backend(&mut nothing);
     nothing.count == 7
 }
 
 fn works_twice<D: Direction, C: CipherIn<D>>(cipher: &C, block: Block) -> bool {
     let mut twice = Twice { block };
-    cipher.lend(&mut twice);
+    cipher.process_with_backend(&mut twice);
     let mut wanted = block;
     cipher.process_block(&mut wanted);
     cipher.process_block(&mut wanted);
@@ -36,9 +34,9 @@ fn works_on_rows<D: Direction, C: CipherIn<D>>(cipher: &C) -> bool {
         cipher.process_block(&mut wanted[i]);
     }
     let mut mixed = Mixed { blocks: plain };
-    cipher.lend(&mut mixed);
+    cipher.process_with_backend(&mut mixed);
     let mut five = plain;
-    cipher.lend(&mut Row {
+    cipher.process_with_backend(&mut Row {
         blocks: &mut five[..5],
     });
     mixed.blocks == wanted && five[..5] == wanted[..5] && five[5..] == plain[5..]

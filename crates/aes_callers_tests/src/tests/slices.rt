@@ -1,7 +1,7 @@
 //! Slices of blocks, in every form and by every cipher, against the calls on single blocks.
 
-use super::ways::{CipherIn, Trial, try_all};
-use aes_cipher::cipher::{Block, Direction, NotEqualError};
+use super::ways::{Trial, try_all};
+use aes_cipher::cipher::{Block, CipherIn, Direction, NotEqualError};
 use standards::blocks::different_blocks;
 
 // A block that no call has written.

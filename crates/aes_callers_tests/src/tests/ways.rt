@@ -7,74 +7,10 @@ use aes::{Block, FixslicedAes};
 use aes_callers::by_backend::ByBackend;
 use aes_cipher::aes::{AesCipher, Bits128, Bits192, Bits256, BothWays, KeySize};
 use aes_cipher::cipher::{
-    BlockCipherDecClosure, BlockCipherDecrypt, BlockCipherEncClosure, BlockCipherEncrypt, Decrypt,
-    Direction, Encrypt, KeyInit, NotEqualError,
+    BlockCipherDecrypt, BlockCipherEncrypt, CipherIn, Decrypt, Direction, Encrypt, KeyInit,
 };
 use aes_hybrid::{BothLists, Encrypting};
 use aes_rounds::rounds::{Aes, AesDec, AesEnc};
-
-/// A cipher that processes blocks in the direction D.
-pub trait CipherIn<D: Direction> {
-    /// Processes the block in its place.
-    fn process_block(&self, block: &mut Block);
-
-    /// Processes the blocks in their place.
-    fn process_blocks(&self, blocks: &mut [Block]);
-
-    /// Processes blocks from one slice to another.
-    fn process_blocks_b2b(
-        &self,
-        input: &[Block],
-        output: &mut [Block],
-    ) -> Result<(), NotEqualError>;
-
-    /// Calls a closure with a backend.
-    fn lend<F: BlockCipherEncClosure + BlockCipherDecClosure>(&self, f: &mut F);
-}
-
-impl<C: BlockCipherEncrypt> CipherIn<Encrypt> for C {
-    fn process_block(&self, block: &mut Block) {
-        self.encrypt_block(block);
-    }
-
-    fn process_blocks(&self, blocks: &mut [Block]) {
-        self.encrypt_blocks(blocks);
-    }
-
-    fn process_blocks_b2b(
-        &self,
-        input: &[Block],
-        output: &mut [Block],
-    ) -> Result<(), NotEqualError> {
-        self.encrypt_blocks_b2b(input, output)
-    }
-
-    fn lend<F: BlockCipherEncClosure + BlockCipherDecClosure>(&self, f: &mut F) {
-        self.encrypt_with_backend(f);
-    }
-}
-
-impl<C: BlockCipherDecrypt> CipherIn<Decrypt> for C {
-    fn process_block(&self, block: &mut Block) {
-        self.decrypt_block(block);
-    }
-
-    fn process_blocks(&self, blocks: &mut [Block]) {
-        self.decrypt_blocks(blocks);
-    }
-
-    fn process_blocks_b2b(
-        &self,
-        input: &[Block],
-        output: &mut [Block],
-    ) -> Result<(), NotEqualError> {
-        self.decrypt_blocks_b2b(input, output)
-    }
-
-    fn lend<F: BlockCipherEncClosure + BlockCipherDecClosure>(&self, f: &mut F) {
-        self.decrypt_with_backend(f);
-    }
-}
 
 /// What is tried with a cipher in one direction.
 pub trait Trial {

@@ -1,54 +1,15 @@
 //! The blocks of bytes, processed by code that is written once for both directions.
 
-ghost use Rattle.std.specs.Prelude.{◌≡◌, ◌≢◌, ◌↔◌, ℕ, ◌*◌, ◌≤◌, ◌%◌, List, length, map, IsErr, OnOk, OnErr};
+ghost use Rattle.std.specs.Prelude.{◌≡◌, ◌≢◌, ◌↔◌, ◌*◌, ◌%◌, length, map, IsErr, OnOk, OnErr};
 ghost use Rattle.std.specs.Simd.{first_chunks};
 ghost use Rattle.aes_planes.specs.Each.{Each};
-ghost use Rattle.aes_planes.specs.Fips197 as fips;
 ghost use Rattle.aes_cipher.specs.Blocks.{blocks_of, Sixteens};
 
 use super::PartialBlock;
-use crate::cipher::{Block, BlockCipherDecrypt, BlockCipherEncrypt};
+use crate::cipher::{Block, CipherIn, Direction};
 
 // How many blocks are handed to a cipher at once: batches of any backend here, in a kibibyte of the stack.
 const BLOCKS_AT_ONCE: usize = 64;
-
-/// A cipher in one direction.
-pub(super) trait ProcessBlocks {
-    /// A block, encrypted or decrypted.
-    ghost processed: { Self → List ℕ → List ℕ };
-
-    /// Processes each block in place.
-    fn process_blocks(&self, blocks: &mut [Block])
-        ensures { Each (processed self.now) blocks.old blocks.new };
-}
-
-/// A cipher that encrypts.
-#[derive(Drop)]
-pub(super) struct Encrypting<'a, C: BlockCipherEncrypt> {
-    pub(super) cipher: &'a C,
-}
-
-impl<'a, C: BlockCipherEncrypt> ProcessBlocks for Encrypting<'a, C> {
-    ghost processed = { λ one. fips.cipher_with (C.round_keys one.cipher.now) };
-
-    fn process_blocks(&self, blocks: &mut [Block]) {
-        self.cipher.encrypt_blocks(blocks);
-    }
-}
-
-/// A cipher that decrypts.
-#[derive(Drop)]
-pub(super) struct Decrypting<'a, C: BlockCipherDecrypt> {
-    pub(super) cipher: &'a C,
-}
-
-impl<'a, C: BlockCipherDecrypt> ProcessBlocks for Decrypting<'a, C> {
-    ghost processed = { λ one. fips.inv_cipher_with (C.round_keys one.cipher.now) };
-
-    fn process_blocks(&self, blocks: &mut [Block]) {
-        self.cipher.decrypt_blocks(blocks);
-    }
-}
 
 // No effect; states that each block of a program has sixteen bytes.
 fn have_sixteen(blocks: &[Block])
@@ -57,10 +18,10 @@ fn have_sixteen(blocks: &[Block])
 
 // Processes bytes by way of as many blocks: the standard library lends a slice of bytes as one of blocks, but doesn't
 // say what the bytes are when it comes back.
-fn process_part<P: ProcessBlocks>(cipher: &P, bytes: &mut [u8], room: &mut [Block])
+fn process_part<D: Direction, C: CipherIn<D>>(cipher: &C, bytes: &mut [u8], room: &mut [Block])
     requires as_many { length bytes.old ≡ 16 * length room.old }
     ensures { first_chunks 16 (length room.old) bytes.new
-        ≡ map (P.processed cipher.now) (first_chunks 16 (length room.old) bytes.old) }
+        ≡ map (D.processed (C.round_keys cipher.now)) (first_chunks 16 (length room.old) bytes.old) }
 {
     let (blocks, _) = bytes.as_chunks();
     room.copy_from_slice(blocks);
@@ -70,12 +31,12 @@ fn process_part<P: ProcessBlocks>(cipher: &P, bytes: &mut [u8], room: &mut [Bloc
 }
 
 /// Processes the blocks of bytes in place.
-pub(super) fn process_bytes<P: ProcessBlocks>(
-    cipher: &P,
+pub(super) fn process_bytes<D: Direction, C: CipherIn<D>>(
+    cipher: &C,
     bytes: &mut [u8],
 ) -> Result<(), PartialBlock>
     ensures refusal { IsErr result ↔ (length bytes.old % 16 ≢ 0) }
-    ensures written { OnOk result (Each (P.processed cipher.now) (blocks_of bytes.old) (blocks_of bytes.new)) }
+    ensures written { OnOk result (Each (D.processed (C.round_keys cipher.now)) (blocks_of bytes.old) (blocks_of bytes.new)) }
     ensures untouched { OnErr result (bytes.new ≡ bytes.old) }
 {
     if bytes.len() % 16 != 0 {
@@ -87,7 +48,7 @@ pub(super) fn process_bytes<P: ProcessBlocks>(
     while done < whole {
         let count = (whole - done).min(BLOCKS_AT_ONCE);
         let part = &mut bytes[16 * done..16 * (done + count)];
-        process_part(cipher, part, &mut room[..count]);
+        process_part::<D, C>(cipher, part, &mut room[..count]);
         done += count;
     }
     Ok(())

@@ -6,7 +6,7 @@ use Rattle.aes_cipher.proofs.bytes.processing.process_bytes.Goals as goal
 
 pub loop-done-preserved : goal.loop-done-preserved
 loop-done-preserved g c =
-    let f = g.P.ProcessBlocks.processed c.args.cipher.now in
+    let f = g.D.Direction.processed (g.C.RoundKeysUser.round_keys c.args.cipher.now) in
     let xs = c.loop-done.bytes in
     let ys = c.process_part.new.bytes in
     let i = c.loop-done.done in

@@ -6,7 +6,7 @@ use Rattle.aes_cipher.proofs.bytes.processing.process_bytes.Given as goal
 
 abbrev pub invariant-loop-done : goal.invariant-loop-done
 invariant-loop-done g l =
-    let f = g.P.ProcessBlocks.processed l.cipher in record {
+    let f = g.D.Direction.processed (g.C.RoundKeysUser.round_keys l.cipher) in record {
       within : l.done ≤ l.whole;
       value : processed_from f l.whole l.done l.bytes ≡ map f (first_chunks 16 l.whole l.fn.bytes);
     }

@@ -8,7 +8,7 @@ use Rattle.aes_cipher.proofs.bytes.processing.process_part.Goals as goal
 
 pub returns : goal.returns
 returns g c =
-    let f = g.P.ProcessBlocks.processed c.args.cipher.now in
+    let f = g.D.Direction.processed (g.C.RoundKeysUser.round_keys c.args.cipher.now) in
     let bytes = c.args.bytes.now in
     let blocks = c.process_blocks.new.blocks in
     let n = length c.args.room.now in
