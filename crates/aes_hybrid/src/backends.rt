@@ -10,7 +10,7 @@ ghost use Rattle.aes_permute.specs.Stored.{round_keys_of};
 ghost use Rattle.aes_soft.specs.Stored as soft;
 ghost use Rattle.aes_permute.specs.Keys.{cipher_key, IsCipherSchedule};
 
-use crate::blocks::process_few;
+use crate::blocks::{are_few, process_few};
 use crate::slots::SlotWord;
 use crate::widths::Width;
 use aes_cipher::cipher::{
@@ -198,7 +198,7 @@ impl<W: Width> BlockCipherEncBackend for Batches<'_, Encrypt, W> {
     #[tactic(auto, using(aes_cipher::proofs::FirstBlocks::first_of_all))]
     #[inline(always)]
     fn encrypt_first_blocks(&self, count: usize, blocks: &mut [Block]) {
-        if count <= W::MOST_AFTER_BATCHES {
+        if are_few::<W>(count) {
             self.few.process_few(&mut blocks[..count]);
         } else {
             self.encrypt_par_blocks(blocks);

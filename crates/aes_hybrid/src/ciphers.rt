@@ -6,7 +6,7 @@ ghost use Rattle.aes_permute.specs.Keys.{cipher_key, AreInverse, IsCipherSchedul
 
 use crate::backends::OnLanes;
 use crate::blocks::process_blocks;
-use crate::closures::call_with_backend;
+use crate::closures::lend_to_decrypt;
 use crate::lent::Lent;
 use crate::widths::{Narrow, Width};
 use aes_cipher::aes::{Decrypts, Encrypts, KeyBytes, KeySchedule, KeySize, MadeFrom, Processes};
@@ -229,6 +229,6 @@ impl<K: KeySize, W: Width> Decrypts for BothLists<K, W> {
     fn decrypt_with_backend_for<F: BlockCipherDecClosure>(&self, blocks: usize, f: &mut F) {
         let keys = keys_of::<K>(self.encrypting.room.value());
         let used = keys_of::<K>(self.inverse.value());
-        call_with_backend::<Decrypt, W, F>(keys, used, blocks, f);
+        lend_to_decrypt::<W, F>(keys, used, blocks, f);
     }
 }

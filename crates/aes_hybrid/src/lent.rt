@@ -6,7 +6,7 @@ ghost use Rattle.aes_planes.proofs.Standard.CipherLaws.{two_keys};
 ghost use Rattle.aes_permute.specs.Keys.{cipher_key, IsCipherSchedule};
 
 use crate::blocks::process_blocks;
-use crate::closures::call_with_backend;
+use crate::closures::lend_to_encrypt;
 use crate::widths::{Narrow, Width};
 use aes_cipher::cipher::{BlockCipherEncClosure, BlockCipherEncrypt, Encrypt, RoundKeysUser};
 use aes_planes::laws;
@@ -64,12 +64,13 @@ impl<W> RoundKeysUser for Lent<'_, W> {
 impl<W: Width> BlockCipherEncrypt for Lent<'_, W> {
     #[inline(always)]
     fn encrypt_with_backend<F: BlockCipherEncClosure>(&self, f: &mut F) {
-        self.encrypt_with_backend_for(W::LEAST_FOR_CLOSURES, f);
+        // How many blocks there will be is not known, so they count as many.
+        self.encrypt_with_backend_for(usize::MAX, f);
     }
 
     #[inline(always)]
     fn encrypt_with_backend_for<F: BlockCipherEncClosure>(&self, blocks: usize, f: &mut F) {
-        call_with_backend::<Encrypt, W, F>(self.keys, self.keys, blocks, f);
+        lend_to_encrypt::<W, F>(self.keys, blocks, f);
     }
 
     #[inline(always)]

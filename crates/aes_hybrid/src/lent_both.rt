@@ -7,7 +7,7 @@ ghost use Rattle.aes_permute.specs.Keys.{cipher_key, AreInverse, IsCipherSchedul
 
 use crate::backends::OnLanes;
 use crate::blocks::process_blocks;
-use crate::closures::call_with_backend;
+use crate::closures::lend_to_decrypt;
 use crate::widths::Width;
 use aes_cipher::cipher::{BlockCipherDecClosure, BlockCipherDecrypt, Decrypt, RoundKeysUser};
 use aes_planes::laws;
@@ -71,12 +71,13 @@ impl<W> RoundKeysUser for LentBoth<'_, W> {
 impl<W: Width> BlockCipherDecrypt for LentBoth<'_, W> {
     #[inline(always)]
     fn decrypt_with_backend<F: BlockCipherDecClosure>(&self, f: &mut F) {
-        self.decrypt_with_backend_for(W::LEAST_FOR_CLOSURES, f);
+        // How many blocks there will be is not known, so they count as many.
+        self.decrypt_with_backend_for(usize::MAX, f);
     }
 
     #[inline(always)]
     fn decrypt_with_backend_for<F: BlockCipherDecClosure>(&self, blocks: usize, f: &mut F) {
-        call_with_backend::<Decrypt, W, F>(self.keys, self.inverse, blocks, f);
+        lend_to_decrypt::<W, F>(self.keys, self.inverse, blocks, f);
     }
 
     #[inline(always)]
