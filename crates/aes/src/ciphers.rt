@@ -8,7 +8,7 @@ ghost use Rattle.aes_soft.specs.Stored.{plane_key, stored_words, words_for, IsFu
 
 use aes_cipher::aes;
 use aes_cipher::aes::{
-    CountsLayers, Decrypts, Encrypts, KeyBytes, KeySchedule, KeySize, MadeFrom, Processes,
+    CountsLayers, Decrypts, Encrypts, KeyBytes, KeySize, MadeFrom, Processes, StoredKeys,
 };
 use aes_cipher::cipher::{BlockCipherDecClosure, BlockCipherEncClosure, Decrypt, Encrypt};
 use aes_cipher::zeroize::Wiped;
@@ -38,16 +38,16 @@ impl<K: KeySize> Drop for Fixsliced<K> {
     }
 }
 
-impl<K: KeySize> KeySchedule for Fixsliced<K> {
+impl<K: KeySize> StoredKeys for Fixsliced<K> {
     type Size = K;
 
-    ghost key = { λ schedule.
-        plane_key (words_for K.Key.SIZE) 1 (map (word_bits 16) (stored_words K.Key.SIZE schedule.room)) };
+    ghost key = { λ stored.
+        plane_key (words_for K.Key.SIZE) 1 (map (word_bits 16) (stored_words K.Key.SIZE stored.room)) };
 
-    ghost AreKeyed = { λ schedule.
-        IsFullSchedule (words_for K.Key.SIZE) 1 (map (word_bits 16) (stored_words K.Key.SIZE schedule.room)) };
+    ghost AreKeyed = { λ stored.
+        IsFullSchedule (words_for K.Key.SIZE) 1 (map (word_bits 16) (stored_words K.Key.SIZE stored.room)) };
 
-    ghost IsWiped = { λ schedule. schedule.room ≡ replicate 120 0 };
+    ghost IsWiped = { λ stored. stored.room ≡ replicate 120 0 };
 
     #[inline(always)]
     fn zeroed() -> Fixsliced<K> {
@@ -63,7 +63,7 @@ impl<K: KeySize> KeySchedule for Fixsliced<K> {
     }
 
     #[inline(always)]
-    fn expand(&mut self, new_key: &K::Key) {
+    fn expand_key(&mut self, new_key: &K::Key) {
         self.expand_counted(new_key, &mut Layers::new());
     }
 
@@ -83,23 +83,23 @@ impl<K: KeySize> KeySchedule for Fixsliced<K> {
 impl<K: KeySize> Fixsliced<K> {
     /// No effect; states what is wiped: zeros stand in all the room.
     pub fn wiped_is_zero(&self)
-        ensures { ⟦<Fixsliced<K> as KeySchedule>⟧.IsWiped self.now → self.now.room ≡ replicate 120 0 }
+        ensures { ⟦<Fixsliced<K> as StoredKeys>⟧.IsWiped self.now → self.now.room ≡ replicate 120 0 }
     {}
 }
 
 impl<K: KeySize> MadeFrom<Fixsliced<K>> for Fixsliced<K> {
     #[inline(always)]
-    fn made_from(schedule: &Fixsliced<K>) -> Fixsliced<K> {
-        schedule.copy()
+    fn made_from(stored: &Fixsliced<K>) -> Fixsliced<K> {
+        stored.copy()
     }
 }
 
 impl<K: KeySize, D: PlaneCipher> Processes<D> for Fixsliced<K> {
-    fn process_block(&self, block: &mut Block) {
+    fn process_one(&self, block: &mut Block) {
         process_block::<D>(words_of::<K>(&self.room), block);
     }
 
-    fn process_blocks(&self, blocks: &mut [Block]) {
+    fn process_slice(&self, blocks: &mut [Block]) {
         process_blocks::<D>(words_of::<K>(&self.room), blocks, &mut Layers::new());
     }
 }

@@ -46,14 +46,14 @@ fn expanded<const COUNT: usize>(key: &[u8]) -> [Block; COUNT]
     ensures { result ≡ fips.key_expansion key.now }
 {
     let mut round_keys = [[0; 16]; COUNT];
-    expand::<Blocks>(&mut round_keys, key, &mut Layers::new());
+    expand::<BlockKeys>(&mut round_keys, key, &mut Layers::new());
     round_keys
 }
 
 // Round keys as the blocks that they are.
-struct Blocks;
+struct BlockKeys;
 
-impl KeyForm for Blocks {
+impl KeyForm for BlockKeys {
     type Words = Block;
 
     type StoredIn = Block;

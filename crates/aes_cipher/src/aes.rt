@@ -12,7 +12,7 @@ mod direction_sets;
 mod encrypt;
 mod key_bytes;
 mod key_sizes;
-mod schedules;
+mod stored_keys;
 mod text;
 
 use crate::cipher::{InvalidLength, KeyInit, KeySizeUser, RoundKeysUser};
@@ -22,46 +22,46 @@ pub use counted::CountsLayers;
 pub use direction_sets::{Allows, BothWays, Directions};
 pub use key_bytes::KeyBytes;
 pub use key_sizes::{Bits128, Bits192, Bits256, KeySize};
-pub use schedules::{Decrypts, Encrypts, KeySchedule, MadeFrom, Processes};
 use std::marker::{Model, PhantomData};
+pub use stored_keys::{Decrypts, Encrypts, MadeFrom, Processes, StoredKeys};
 
 /// AES with the stored round keys S, in the directions D. Contracts see a value as its key.
-pub struct AesCipher<S: KeySchedule, D> {
-    schedule: S,
+pub struct AesCipher<S: StoredKeys, D> {
+    keys: S,
     directions: PhantomData<D>,
 }
 
 // Written out, so that it is proved here once, and not in each crate that drops a value.
-impl<S: KeySchedule, D> Drop for AesCipher<S, D> {
+impl<S: StoredKeys, D> Drop for AesCipher<S, D> {
     #[inline(always)]
     fn drop(self) {
         let AesCipher {
-            schedule: _,
+            keys: _,
             directions: _,
         } = self;
     }
 }
 
-impl<S: KeySchedule, D> Model for AesCipher<S, D> {
+impl<S: StoredKeys, D> Model for AesCipher<S, D> {
     ghost Value = { List ℕ };
 
-    ghost view = { λ cipher. S.key cipher.schedule };
+    ghost view = { λ cipher. S.key cipher.keys };
 
-    ghost invariant = { λ cipher. S.AreKeyed cipher.schedule };
+    ghost invariant = { λ cipher. S.AreKeyed cipher.keys };
 }
 
-impl<S: KeySchedule, D> AesCipher<S, D> {
+impl<S: StoredKeys, D> AesCipher<S, D> {
     /// Wipes the round keys in place, and leaves the value of the zero key.
     pub fn zeroize(&mut self)
         ensures { self.new ≡ replicate S.Size.Key.SIZE 0 }
     {
-        self.schedule.wipe();
-        self.schedule
-            .expand(&<<S::Size as KeySize>::Key as KeyBytes>::zero());
+        self.keys.wipe();
+        self.keys
+            .expand_key(&<<S::Size as KeySize>::Key as KeyBytes>::zero());
     }
 }
 
-impl<S: KeySchedule, D> KeySizeUser for AesCipher<S, D> {
+impl<S: StoredKeys, D> KeySizeUser for AesCipher<S, D> {
     type Key = <S::Size as KeySize>::Key;
 
     ghost KEY_SIZE = { S.Size.Key.SIZE };
@@ -71,26 +71,26 @@ impl<S: KeySchedule, D> KeySizeUser for AesCipher<S, D> {
     const KEY_SIZE: usize = <<S::Size as KeySize>::Key as KeyBytes>::SIZE;
 }
 
-impl<S: KeySchedule, D> RoundKeysUser for AesCipher<S, D> {
+impl<S: StoredKeys, D> RoundKeysUser for AesCipher<S, D> {
     ghost round_keys = { fips.key_expansion };
 
     fn has_round_keys(&self) {
         laws::expanded_keys();
-        self.schedule.has_key();
+        self.keys.has_key();
     }
 
     ghost two_round_keys = { two_keys };
 }
 
-impl<S: KeySchedule, D> KeyInit for AesCipher<S, D> {
+impl<S: StoredKeys, D> KeyInit for AesCipher<S, D> {
     ghost own_key = { λ key. key };
 
     fn new(key: &<S::Size as KeySize>::Key) -> AesCipher<S, D> {
         let mut cipher = AesCipher {
-            schedule: S::zeroed(),
+            keys: S::zeroed(),
             directions: PhantomData,
         };
-        cipher.schedule.expand(key);
+        cipher.keys.expand_key(key);
         cipher
     }
 
@@ -99,10 +99,10 @@ impl<S: KeySchedule, D> KeyInit for AesCipher<S, D> {
     }
 
     fn has_key(&self) {
-        self.schedule.has_key();
+        self.keys.has_key();
     }
 
     ghost expanded = { λ key. refl };
 }
 
-impl<S: KeySchedule, D> ZeroizeOnDrop for AesCipher<S, D> {}
+impl<S: StoredKeys, D> ZeroizeOnDrop for AesCipher<S, D> {}

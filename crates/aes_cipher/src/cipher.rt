@@ -1,5 +1,6 @@
 //! What the block ciphers of this library have in common.
 
+mod algorithm_name;
 mod batches;
 mod decrypt;
 mod decrypt_backend;
@@ -9,11 +10,11 @@ mod encrypt;
 mod encrypt_backend;
 mod errors;
 mod init;
-mod lent;
-mod names;
+mod references;
 mod round_keys;
 mod sizes;
 
+pub use algorithm_name::AlgorithmName;
 pub use batches::{BatchSize, BatchSizeUser, ParBlocksSizeUser};
 pub use decrypt::BlockCipherDecrypt;
 pub use decrypt_backend::{BlockCipherDecBackend, BlockCipherDecClosure};
@@ -23,6 +24,5 @@ pub use encrypt::BlockCipherEncrypt;
 pub use encrypt_backend::{BlockCipherEncBackend, BlockCipherEncClosure};
 pub use errors::{InvalidLength, NotEqualError};
 pub use init::KeyInit;
-pub use names::AlgorithmName;
 pub use round_keys::RoundKeysUser;
 pub use sizes::{Block, BlockSizeUser, KeySizeUser};

@@ -10,7 +10,7 @@ ghost use Rattle.aes_permute.specs.Keys.{cipher_key, IsCipherSchedule};
 use crate::batches::process_on_planes;
 use crate::slots::SlotWord;
 use crate::widths::Width;
-use aes_permute::blocks::process_blocks as process_on_lanes;
+use aes_permute::blocks::process_on_lanes;
 use aes_permute::lane_rounds::LaneRounds;
 use aes_planes::soft::word::{Batch, Block, Word};
 use aes_soft::soft::PlaneCipher;
@@ -72,7 +72,7 @@ fn process_first<D: PlaneCipher, W: SlotWord>(keys: &[Block], blocks: &mut [Bloc
 /// Processes each block of a slice in place: whole batches on planes, and the others by vector permutations where they are
 /// few, since these take less time so. `keys` are the stored round keys of Cipher, and `used` those of the direction.
 #[tactic(auto, using(crate::proofs::Fronts::first_then_others))]
-pub fn process_blocks<D: LaneRounds + PlaneCipher, W: Width>(
+pub fn process_few_or_many<D: LaneRounds + PlaneCipher, W: Width>(
     keys: &[Block],
     used: &[Block],
     blocks: &mut [Block],

@@ -5,7 +5,7 @@ ghost use Rattle.aes_planes.specs.Fips197 as fips;
 ghost use Rattle.aes_planes.proofs.Standard.CipherLaws.{two_keys};
 ghost use Rattle.aes_permute.specs.Keys.{cipher_key, IsCipherSchedule};
 
-use crate::blocks::process_blocks;
+use crate::blocks::process_few_or_many;
 use crate::closures::lend_to_encrypt;
 use crate::widths::{Narrow, Width};
 use aes_cipher::cipher::{BlockCipherEncClosure, BlockCipherEncrypt, Encrypt, RoundKeysUser};
@@ -75,11 +75,11 @@ impl<W: Width> BlockCipherEncrypt for Lent<'_, W> {
 
     #[inline(always)]
     fn encrypt_block(&self, block: &mut Block) {
-        process_blocks::<Encrypt, W>(self.keys, self.keys, slice::from_mut(block));
+        process_few_or_many::<Encrypt, W>(self.keys, self.keys, slice::from_mut(block));
     }
 
     #[inline(always)]
     fn encrypt_blocks(&self, blocks: &mut [Block]) {
-        process_blocks::<Encrypt, W>(self.keys, self.keys, blocks);
+        process_few_or_many::<Encrypt, W>(self.keys, self.keys, blocks);
     }
 }

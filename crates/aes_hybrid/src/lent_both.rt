@@ -6,7 +6,7 @@ ghost use Rattle.aes_planes.proofs.Standard.CipherLaws.{two_keys};
 ghost use Rattle.aes_permute.specs.Keys.{cipher_key, AreInverse, IsCipherSchedule};
 
 use crate::backends::OnLanes;
-use crate::blocks::process_blocks;
+use crate::blocks::process_few_or_many;
 use crate::closures::lend_to_decrypt;
 use crate::widths::Width;
 use aes_cipher::cipher::{BlockCipherDecClosure, BlockCipherDecrypt, Decrypt, RoundKeysUser};
@@ -87,6 +87,6 @@ impl<W: Width> BlockCipherDecrypt for LentBoth<'_, W> {
 
     #[inline(always)]
     fn decrypt_blocks(&self, blocks: &mut [Block]) {
-        process_blocks::<Decrypt, W>(self.keys, self.inverse, blocks);
+        process_few_or_many::<Decrypt, W>(self.keys, self.inverse, blocks);
     }
 }

@@ -5,16 +5,16 @@
 mod backends;
 mod batches;
 pub mod blocks;
-mod ciphers;
 mod closures;
 pub mod lent;
 pub mod lent_both;
+mod lists;
 mod names;
 mod plane_keys;
 mod slots;
 pub mod widths;
 
-pub use ciphers::{BothLists, Encrypting};
+pub use lists::{BothLists, Encrypting};
 pub use names::{
     Aes128, Aes128Dec, Aes128Enc, Aes192, Aes192Dec, Aes192Enc, Aes256, Aes256Dec, Aes256Enc,
 };

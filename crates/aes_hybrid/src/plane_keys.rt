@@ -49,7 +49,7 @@ fn shifted_back_times(x: u8x16, times: usize) -> u8x16
 // The block that planes hold for a stored round key of Cipher between the first and the last: it has the constant of
 // the S-box twice, which is not at all.
 #[inline(always)]
-fn plane_key(stored: &Block, number: usize) -> u8x16
+fn block_for_planes(stored: &Block, number: usize) -> u8x16
     ensures { result ≡ fips.inv_shift_times (number % 4) (map untower stored.now) }
 {
     laws::is_block(*stored);
@@ -82,7 +82,7 @@ pub fn store_planes<W: SlotWord>(words: &mut [W], keys: &[Block])
     let last = keys.len() - 1;
     store_block(words, 0, u8x16::from_array(keys[0]));
     'keys: for i in 1..last {
-        store_block(words, i, plane_key(&keys[i], i));
+        store_block(words, i, block_for_planes(&keys[i], i));
     }
     store_block(words, last, u8x16::from_array(keys[last]));
 }

@@ -53,7 +53,7 @@ fn process_two<D: LaneRounds, L: Lanes>(keys: &[Block], one: L, other: L) -> (L,
 }
 
 /// Processes each block of a slice under stored round keys: two vectors at once, then one, and then one block.
-pub fn process_blocks<D: LaneRounds, L: Lanes>(keys: &[Block], blocks: &mut [Block])
+pub fn process_on_lanes<D: LaneRounds, L: Lanes>(keys: &[Block], blocks: &mut [Block])
     requires two { 2 ≤ length keys.now }
     ensures { Each (all_rounds D.step D.last_step (round_keys_of D.form keys.now))
         blocks.old blocks.new }

@@ -5,10 +5,10 @@
 pub mod blocks;
 pub mod examples;
 pub mod halves;
+pub mod lane_keys;
+pub mod lane_room;
 pub mod lane_rounds;
 pub mod lanes;
 pub mod rounds;
 pub mod sbox;
-pub mod schedule;
-pub mod stored;
 pub mod tables;

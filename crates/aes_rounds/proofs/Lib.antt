@@ -1,2 +1,2 @@
 -- The files of lemmas.
-pub mod Runs
+pub mod InvertedKeys

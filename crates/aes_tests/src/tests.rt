@@ -8,6 +8,6 @@ mod hybrid;
 mod names;
 mod rounds;
 mod slices;
-mod stored;
 mod values;
 mod vectors;
+mod wiped_blocks;

@@ -5,9 +5,9 @@ ghost use Rattle.aes_planes.specs.Each.{Each};
 ghost use Rattle.aes_planes.specs.Fips197 as fips;
 ghost use Rattle.c_calls.specs.Kept.{kept_key, IsKeyLength, IsMade};
 
-use crate::kept::{Aes, holds_key, keys_of};
+use crate::kept::{Aes, holds_key, keys_in_struct};
 use crate::status::{DONE, NO_KEY, UNEQUAL_COUNTS};
-use aes_hybrid::blocks::process_blocks;
+use aes_hybrid::blocks::process_few_or_many;
 use aes_hybrid::widths::Width;
 use aes_permute::lane_rounds::LaneRounds;
 use aes_planes::soft::word::Block;
@@ -25,9 +25,9 @@ pub fn process_under<D: LaneRounds + PlaneCipher, W: Width>(aes: &Aes, blocks: &
 {
     if holds_key(aes) {
         let length = aes.key_length as usize;
-        let keys = keys_of(&aes.encrypting, length);
-        let inverse = keys_of(&aes.decrypting, length);
-        process_blocks::<D, W>(keys, D::used_of(keys, inverse), blocks);
+        let keys = keys_in_struct(&aes.encrypting, length);
+        let inverse = keys_in_struct(&aes.decrypting, length);
+        process_few_or_many::<D, W>(keys, D::used_of(keys, inverse), blocks);
         return DONE;
     }
     NO_KEY

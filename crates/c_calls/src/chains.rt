@@ -5,7 +5,7 @@ ghost use Rattle.aes_planes.specs.Fips197 as fips;
 ghost use Rattle.cbc.specs.Cbc.{chained, last_of, unchained};
 ghost use Rattle.c_calls.specs.Kept.{kept_key, IsKeyLength, IsMade};
 
-use crate::kept::{Aes, holds_key, keys_of};
+use crate::kept::{Aes, holds_key, keys_in_struct};
 use crate::status::{DONE, NO_KEY};
 use aes_hybrid::lent::Lent;
 use aes_hybrid::lent_both::LentBoth;
@@ -26,7 +26,7 @@ pub fn chain_under<W: Width>(aes: &Aes, cbc: &mut Cbc, blocks: &mut [Block]) -> 
     ensures unmoved { result ≢ DONE → cbc.new.previous ≡ cbc.old.previous }
 {
     if holds_key(aes) {
-        let keys = keys_of(&aes.encrypting, aes.key_length as usize);
+        let keys = keys_in_struct(&aes.encrypting, aes.key_length as usize);
         cbc.encrypt_blocks(&Lent::<W>::new(keys), blocks);
         return DONE;
     }
@@ -47,8 +47,8 @@ pub fn unchain_under<W: Width>(aes: &Aes, cbc: &mut Cbc, blocks: &mut [Block]) -
 {
     if holds_key(aes) {
         let length = aes.key_length as usize;
-        let keys = keys_of(&aes.encrypting, length);
-        let inverse = keys_of(&aes.decrypting, length);
+        let keys = keys_in_struct(&aes.encrypting, length);
+        let inverse = keys_in_struct(&aes.decrypting, length);
         cbc.decrypt_blocks(&LentBoth::<W>::new(keys, inverse), blocks);
         return DONE;
     }

@@ -8,7 +8,7 @@ ghost use Rattle.c_calls.specs.Kept.{kept_key, AreZeroAfter, IsKeyLength, IsMade
 
 use crate::status::{DONE, KEY_LENGTH};
 use aes_cipher::zeroize::{Zeroize, zeroize_elements};
-use aes_permute::schedule::{expand, invert};
+use aes_permute::lane_keys::{expand_lanes, invert_lanes};
 use aes_planes::soft::word::Block;
 
 /// A key schedule that the caller owns: `struct fotsgure_aes`. Its blocks are as secret as the key.
@@ -49,7 +49,7 @@ impl Zeroize for Aes {
 
 /// Returns the stored round keys of a key of `key_length` bytes: the first of the blocks.
 #[inline(always)]
-pub fn keys_of(blocks: &[Block; 15], key_length: usize) -> &[Block]
+pub fn keys_in_struct(blocks: &[Block; 15], key_length: usize) -> &[Block]
     requires { IsKeyLength key_length }
     ensures { result.now ≡ stored_keys key_length blocks.now }
 {
@@ -58,27 +58,27 @@ pub fn keys_of(blocks: &[Block; 15], key_length: usize) -> &[Block]
 
 /// Writes the stored round keys of Cipher of a key.
 #[inline(always)]
-pub fn expand_keys(blocks: &mut [Block; 15], key: &[u8])
+pub fn expand_in_struct(blocks: &mut [Block; 15], key: &[u8])
     requires { IsKeyLength (length key.now) }
     ensures schedule { IsCipherSchedule (stored_keys (length key.now) blocks.new) }
     ensures key { kept_key (length key.now) blocks.new ≡ key.now }
     ensures after { drop (length key.now / 4 + 7) blocks.new ≡ drop (length key.now / 4 + 7) blocks.old }
 {
-    expand(&mut blocks[..key.len() / 4 + 7], key);
+    expand_lanes(&mut blocks[..key.len() / 4 + 7], key);
 }
 
 // Writes the stored round keys of EqInvCipher of the same key.
 #[tactic(auto, using(aes_hybrid::proofs::PlaneKeys::two_or_more))]
 #[inline(always)]
-fn invert_keys(inverse: &mut [Block; 15], blocks: &[Block; 15], key_length: usize)
+fn invert_in_struct(inverse: &mut [Block; 15], blocks: &[Block; 15], key_length: usize)
     requires length { IsKeyLength key_length }
     requires schedule { IsCipherSchedule (stored_keys key_length blocks.now) }
     ensures inverse { AreInverse (stored_keys key_length inverse.new) (stored_keys key_length blocks.now) }
     ensures after { drop (key_length / 4 + 7) inverse.new ≡ drop (key_length / 4 + 7) inverse.old }
 {
-    invert(
+    invert_lanes(
         &mut inverse[..key_length / 4 + 7],
-        keys_of(blocks, key_length),
+        keys_in_struct(blocks, key_length),
     );
 }
 
@@ -117,8 +117,8 @@ pub fn set_key(aes: &mut Aes, key: &[u8]) -> u32
     if !is_key_length(key.len()) {
         return KEY_LENGTH;
     }
-    expand_keys(&mut aes.encrypting, key);
-    invert_keys(&mut aes.decrypting, &aes.encrypting, key.len());
+    expand_in_struct(&mut aes.encrypting, key);
+    invert_in_struct(&mut aes.decrypting, &aes.encrypting, key.len());
     aes.key_length = key.len() as u32;
     DONE
 }

@@ -5,7 +5,7 @@ ghost use Rattle.aes_planes.specs.Fips197 as fips;
 ghost use Rattle.key_wrap.specs.KeyWrap.{integrity_check, unwrapped, wrapped, Fit};
 ghost use Rattle.c_calls.specs.Kept.{kept_key, IsKeyLength, IsMade};
 
-use crate::kept::{Aes, holds_key, keys_of};
+use crate::kept::{Aes, holds_key, keys_in_struct};
 use crate::status::{DONE, INVALID_COUNT, NO_KEY, REFUSED};
 use aes_hybrid::lent::Lent;
 use aes_hybrid::lent_both::LentBoth;
@@ -27,7 +27,7 @@ pub fn wrap_under<W: Width>(aes: &Aes, key: &[Semiblock], output: &mut [Semibloc
     if !holds_key(aes) {
         return NO_KEY;
     }
-    let keys = keys_of(&aes.encrypting, aes.key_length as usize);
+    let keys = keys_in_struct(&aes.encrypting, aes.key_length as usize);
     match wrap(&Lent::<W>::new(keys), key, output) {
         Ok(()) => DONE,
         Err(_) => INVALID_COUNT,
@@ -55,8 +55,8 @@ pub fn unwrap_under<W: Width>(aes: &Aes, sealed: &[Semiblock], output: &mut [Sem
         return NO_KEY;
     }
     let length = aes.key_length as usize;
-    let keys = keys_of(&aes.encrypting, length);
-    let inverse = keys_of(&aes.decrypting, length);
+    let keys = keys_in_struct(&aes.encrypting, length);
+    let inverse = keys_in_struct(&aes.decrypting, length);
     match unwrap(&LentBoth::<W>::new(keys, inverse), sealed, output) {
         Ok(()) => DONE,
         Err(NotUnwrapped::InvalidCount) => INVALID_COUNT,

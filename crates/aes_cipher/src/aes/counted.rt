@@ -8,13 +8,13 @@ use super::AesCipher;
 use super::direction_sets::Allows;
 use super::key_bytes::KeyBytes;
 use super::key_sizes::KeySize;
-use super::schedules::KeySchedule;
+use super::stored_keys::StoredKeys;
 use crate::cipher::{Block, Decrypt, Encrypt};
 use aes_planes::soft::sbox::Layers;
 use std::marker::PhantomData;
 
 /// Stored round keys whose calls count S-box layers.
-pub trait CountsLayers: KeySchedule {
+pub trait CountsLayers: StoredKeys {
     /// How many S-box layers a key's expansion runs.
     ghost SCHEDULE_LAYERS: { ℕ };
 
@@ -49,10 +49,10 @@ impl<S: CountsLayers, D> AesCipher<S, D> {
         ensures layers { layers.new ≡ layers.old + S.SCHEDULE_LAYERS }
     {
         let mut cipher = AesCipher {
-            schedule: S::zeroed(),
+            keys: S::zeroed(),
             directions: PhantomData,
         };
-        cipher.schedule.expand_counted(key, layers);
+        cipher.keys.expand_counted(key, layers);
         cipher
     }
 }
@@ -65,7 +65,7 @@ impl<S: CountsLayers, D: Allows<Encrypt>> AesCipher<S, D> {
         ensures blocks { Each (fips.cipher self.now) blocks.old blocks.new }
         ensures layers { layers.new ≡ layers.old + S.layers_for (length blocks.old) }
     {
-        self.schedule.encrypt_blocks_counted(blocks, layers);
+        self.keys.encrypt_blocks_counted(blocks, layers);
     }
 }
 
@@ -77,6 +77,6 @@ impl<S: CountsLayers, D: Allows<Decrypt>> AesCipher<S, D> {
         ensures blocks { Each (fips.inv_cipher self.now) blocks.old blocks.new }
         ensures layers { layers.new ≡ layers.old + S.layers_for (length blocks.old) }
     {
-        self.schedule.decrypt_blocks_counted(blocks, layers);
+        self.keys.decrypt_blocks_counted(blocks, layers);
     }
 }

@@ -65,7 +65,7 @@ impl<const RK: usize, D> WithInverse<RK, D> {
     }
 
     // Decrypts each block, by EqInvCipher under the inverted round keys (FIPS 197, 5.3.5).
-    #[tactic(auto, using(crate::proofs::Runs::inverse_of_each))]
+    #[tactic(auto, using(crate::proofs::InvertedKeys::inverse_of_each))]
     fn decrypt<S: States>(&self, states: &mut S)
         ensures { Each (fips.inv_cipher_with self.now.round_keys) (S.blocks states.old) (S.blocks states.new) }
     {

@@ -8,7 +8,7 @@ use aes_planes::soft::word::Block;
 
 // The round keys of EqInvCipher in their order of use: reversed, and InvMixColumns of all but the
 // first and the last (FIPS 197, 5.3.5).
-#[tactic(auto, using(crate::proofs::Runs::all_inverted))]
+#[tactic(auto, using(crate::proofs::InvertedKeys::all_inverted))]
 pub(super) fn inverted_keys<const RK: usize>(round_keys: &[Block; RK]) -> [Block; RK]
     ensures { result ≡ fips.inverted_keys round_keys.now }
 {
@@ -20,7 +20,7 @@ pub(super) fn inverted_keys<const RK: usize>(round_keys: &[Block; RK]) -> [Block
 }
 
 // The one of them at a place.
-#[tactic(auto, using(crate::proofs::Runs::inverted_calls))]
+#[tactic(auto, using(crate::proofs::InvertedKeys::inverted_calls))]
 fn inverted_key(round_keys: &[Block], i: usize) -> Block
     requires { i < length round_keys.now }
     ensures { result ≡ slice_index_or (fips.inverted_keys round_keys.now) i [] }

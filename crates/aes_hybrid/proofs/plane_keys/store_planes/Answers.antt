@@ -32,7 +32,7 @@ keys-preserved g c =
             let same : i ≡ j = omega arith in
             put_at g.W.Word.bits g.W.Word.BLOCKS c.store_block-in-keys.new.words (8 * i) (8 * j) _ _ (omega (arith, same))
             c.store_block-in-keys.ensures.there
-            (c.plane_key.ensures
+            (c.block_for_planes.ensures
             ∙ inner_wanted keys two i c.keys.auto.i c.keys-test.true (c.told-keys i (omega (arith, c.keys-test.true)))
             ∙ ap (wanted keys two) same)
       ];

@@ -2,7 +2,7 @@
 use Rattle.std.proofs.Common.{replicate, bit_xor, map, ◌∙◌}
 use lib.Lanes.{zip2}
 use Rattle.aes_permute.specs.Stored.{key_untower}
-use Rattle.aes_permute.proofs.ScheduleLanes.{inner_is}
+use Rattle.aes_permute.proofs.ExpandedLanes.{inner_is}
 use Rattle.aes_permute.proofs.rounds.encrypting_key.Goals as goal
 
 pub returns : goal.returns

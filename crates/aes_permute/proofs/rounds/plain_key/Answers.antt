@@ -1,7 +1,7 @@
 -- What is left to show of `rounds::plain_key`.
 use Rattle.std.proofs.Common.{replicate, bit_xor, ◌∙◌}
 use lib.Lanes.{zip2}
-use Rattle.aes_permute.proofs.ScheduleLanes.{plain_key_is}
+use Rattle.aes_permute.proofs.ExpandedLanes.{plain_key_is}
 use Rattle.aes_permute.proofs.rounds.plain_key.Goals as goal
 
 pub returns : goal.returns

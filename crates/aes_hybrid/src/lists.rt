@@ -1,0 +1,234 @@
+//! The forms of the nine types: round keys of vector permutations, of which planes are made where there are many blocks.
+
+ghost use Rattle.std.specs.Prelude.{◌≡◌, replicate};
+ghost use Rattle.aes_permute.specs.Keys.{stored_keys};
+ghost use Rattle.aes_permute.specs.Keys.{cipher_key, AreInverse, IsCipherSchedule};
+
+use crate::backends::OnLanes;
+use crate::blocks::process_few_or_many;
+use crate::closures::lend_to_decrypt;
+use crate::lent::Lent;
+use crate::widths::{Narrow, Width};
+use aes_cipher::aes::{Decrypts, Encrypts, KeyBytes, KeySize, MadeFrom, Processes, StoredKeys};
+use aes_cipher::cipher::{
+    BlockCipherDecClosure, BlockCipherEncClosure, BlockCipherEncrypt, Decrypt, Encrypt,
+};
+use aes_cipher::zeroize::Wiped;
+use aes_permute::lane_room::{LaneRoom, expand_in_room, invert_in_room, keys_in_room};
+use aes_planes::soft::word::Block;
+use std::marker::PhantomData;
+use std::slice;
+
+/// The stored round keys of Cipher alone, for encryption.
+pub struct Encrypting<K: KeySize, W = Narrow> {
+    // The first blocks are the round keys, as they are stored. The others stay zero.
+    room: Wiped<LaneRoom>,
+    size: PhantomData<K>,
+    width: PhantomData<W>,
+}
+
+impl<K: KeySize, W> Drop for Encrypting<K, W> {
+    #[inline(always)]
+    fn drop(self) {
+        let Encrypting {
+            room: _,
+            size: _,
+            width: _,
+        } = self;
+    }
+}
+
+impl<K: KeySize, W> StoredKeys for Encrypting<K, W> {
+    type Size = K;
+
+    ghost key = { λ s. cipher_key (stored_keys K.Key.SIZE s.room) };
+
+    ghost AreKeyed = { λ s. IsCipherSchedule (stored_keys K.Key.SIZE s.room) };
+
+    ghost IsWiped = { λ s. s.room ≡ replicate 15 (replicate 16 0) };
+
+    #[inline(always)]
+    fn zeroed() -> Encrypting<K, W> {
+        Encrypting {
+            room: Wiped::zeroed(),
+            size: PhantomData,
+            width: PhantomData,
+        }
+    }
+
+    #[inline(always)]
+    fn wipe(&mut self) {
+        self.room.wipe();
+    }
+
+    #[inline(always)]
+    fn expand_key(&mut self, new_key: &K::Key) {
+        expand_in_room::<K>(self.room.value_mut(), new_key.as_slice());
+    }
+
+    #[inline(always)]
+    fn copy(&self) -> Encrypting<K, W> {
+        Encrypting {
+            room: self.room.copy(),
+            size: PhantomData,
+            width: PhantomData,
+        }
+    }
+
+    fn has_key(&self) {
+        keys_in_room::<K>(self.room.value());
+    }
+}
+
+impl<K: KeySize, W: Width> Processes<Encrypt> for Encrypting<K, W> {
+    #[inline(always)]
+    fn process_one(&self, block: &mut Block) {
+        let keys = keys_in_room::<K>(self.room.value());
+        OnLanes::<Encrypt, W>::new(keys, keys).process_few(slice::from_mut(block));
+    }
+
+    fn process_slice(&self, blocks: &mut [Block]) {
+        let keys = keys_in_room::<K>(self.room.value());
+        process_few_or_many::<Encrypt, W>(keys, keys, blocks);
+    }
+}
+
+impl<K: KeySize, W: Width> Encrypts for Encrypting<K, W> {
+    fn encrypt_with_backend<F: BlockCipherEncClosure>(&self, f: &mut F) {
+        Lent::<W>::new(keys_in_room::<K>(self.room.value())).encrypt_with_backend(f);
+    }
+
+    fn encrypt_with_backend_for<F: BlockCipherEncClosure>(&self, blocks: usize, f: &mut F) {
+        Lent::<W>::new(keys_in_room::<K>(self.room.value())).encrypt_with_backend_for(blocks, f);
+    }
+}
+
+/// The stored round keys of Cipher, and those of EqInvCipher, for both directions.
+pub struct BothLists<K: KeySize, W = Narrow> {
+    encrypting: Encrypting<K, W>,
+    inverse: Wiped<LaneRoom>,
+}
+
+impl<K: KeySize, W> Drop for BothLists<K, W> {
+    #[inline(always)]
+    fn drop(self) {
+        let BothLists {
+            encrypting: _,
+            inverse: _,
+        } = self;
+    }
+}
+
+impl<K: KeySize, W> StoredKeys for BothLists<K, W> {
+    type Size = K;
+
+    ghost key = { λ s. ⟦<Encrypting<K, W> as StoredKeys>⟧.key s.encrypting };
+
+    ghost AreKeyed = { λ s. ⟦<Encrypting<K, W> as StoredKeys>⟧.AreKeyed s.encrypting
+        × AreInverse (stored_keys K.Key.SIZE s.inverse) (stored_keys K.Key.SIZE s.encrypting.room) };
+
+    ghost IsWiped = { λ s. ⟦<Encrypting<K, W> as StoredKeys>⟧.IsWiped s.encrypting
+        × (s.inverse ≡ replicate 15 (replicate 16 0)) };
+
+    #[inline(always)]
+    fn zeroed() -> BothLists<K, W> {
+        BothLists {
+            encrypting: Encrypting::zeroed(),
+            inverse: Wiped::zeroed(),
+        }
+    }
+
+    #[inline(always)]
+    fn wipe(&mut self) {
+        self.encrypting.wipe();
+        self.inverse.wipe();
+    }
+
+    #[inline(always)]
+    fn expand_key(&mut self, new_key: &K::Key) {
+        self.encrypting.expand_key(new_key);
+        invert_in_room::<K>(self.inverse.value_mut(), self.encrypting.room.value());
+    }
+
+    #[inline(always)]
+    fn copy(&self) -> BothLists<K, W> {
+        BothLists {
+            encrypting: self.encrypting.copy(),
+            inverse: self.inverse.copy(),
+        }
+    }
+
+    fn has_key(&self) {
+        self.encrypting.has_key();
+    }
+}
+
+impl<K: KeySize, W> BothLists<K, W> {
+    /// No effect; states what is wiped: zeros stand in all the room, of either direction.
+    pub fn wiped_is_zero(&self)
+        ensures encrypting { ⟦<Encrypting<K, W> as StoredKeys>⟧.IsWiped self.now.encrypting
+            → self.now.encrypting.room ≡ replicate 15 (replicate 16 0) }
+        ensures both { ⟦<BothLists<K, W> as StoredKeys>⟧.IsWiped self.now
+            → (self.now.encrypting.room ≡ replicate 15 (replicate 16 0))
+            × (self.now.inverse ≡ replicate 15 (replicate 16 0)) }
+    {}
+}
+
+impl<K: KeySize, W> MadeFrom<Encrypting<K, W>> for BothLists<K, W> {
+    #[inline(always)]
+    fn made_from(stored: &Encrypting<K, W>) -> BothLists<K, W> {
+        let mut inverse = Wiped::<LaneRoom>::zeroed();
+        invert_in_room::<K>(inverse.value_mut(), stored.room.value());
+        BothLists {
+            encrypting: stored.copy(),
+            inverse,
+        }
+    }
+}
+
+impl<K: KeySize, W: Width> Processes<Encrypt> for BothLists<K, W> {
+    #[inline(always)]
+    fn process_one(&self, block: &mut Block) {
+        self.encrypting.process_one(block);
+    }
+
+    fn process_slice(&self, blocks: &mut [Block]) {
+        self.encrypting.process_slice(blocks);
+    }
+}
+
+impl<K: KeySize, W: Width> Encrypts for BothLists<K, W> {
+    fn encrypt_with_backend<F: BlockCipherEncClosure>(&self, f: &mut F) {
+        self.encrypting.encrypt_with_backend(f);
+    }
+
+    fn encrypt_with_backend_for<F: BlockCipherEncClosure>(&self, blocks: usize, f: &mut F) {
+        self.encrypting.encrypt_with_backend_for(blocks, f);
+    }
+}
+
+impl<K: KeySize, W: Width> Processes<Decrypt> for BothLists<K, W> {
+    #[inline(always)]
+    fn process_one(&self, block: &mut Block) {
+        let keys = keys_in_room::<K>(self.encrypting.room.value());
+        let used = keys_in_room::<K>(self.inverse.value());
+        OnLanes::<Decrypt, W>::new(keys, used).process_few(slice::from_mut(block));
+    }
+
+    fn process_slice(&self, blocks: &mut [Block]) {
+        let keys = keys_in_room::<K>(self.encrypting.room.value());
+        process_few_or_many::<Decrypt, W>(keys, keys_in_room::<K>(self.inverse.value()), blocks);
+    }
+}
+
+impl<K: KeySize, W: Width> Decrypts for BothLists<K, W> {
+    fn decrypt_with_backend<F: BlockCipherDecClosure>(&self, f: &mut F) {
+        self.decrypt_with_backend_for(0, f);
+    }
+
+    fn decrypt_with_backend_for<F: BlockCipherDecClosure>(&self, blocks: usize, f: &mut F) {
+        let keys = keys_in_room::<K>(self.encrypting.room.value());
+        let used = keys_in_room::<K>(self.inverse.value());
+        lend_to_decrypt::<W, F>(keys, used, blocks, f);
+    }
+}

@@ -1,8 +1,0 @@
--- What is left to show of `schedule::LaneScheduleKeyForm::plain`.
-use Rattle.std.proofs.Common.{◌≡◌, length}
-use Rattle.aes_permute.proofs.ScheduleLanes.{plain_is}
-use Rattle.aes_permute.proofs.schedule.LaneScheduleKeyForm.plain.Goals as goal
-
-pub returns : goal.returns
-returns c = λ x y hx hy.
-    plain_is hx hy (let l : length c.args.last ≡ 16 = search in l) c.summed_columns.ensures
