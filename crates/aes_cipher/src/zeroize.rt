@@ -42,6 +42,7 @@ impl<E: Element, const N: usize> Zeroize for [E; N] {
 }
 
 /// Sets every bit of every word to 0.
+#[inline(never)]
 pub fn zeroize_words<W: Word>(words: &mut [W])
     ensures { map W.bits words.new ≡ replicate (length words.old) (replicate W.BITS false) }
 {
@@ -50,12 +51,13 @@ pub fn zeroize_words<W: Word>(words: &mut [W])
 
 // Writes zeros over every element of a slice. `some_byte` returns some byte of an element.
 //
-// A compiler may leave out writes that nothing reads. So this is a call of its own, whose caller's compiled code can't
-// tell what it wrote, nor leave the call out, since an atomic is exchanged in it. An element is read before the writes
-// and after them too, at a place that comes out of the atomic: it is 0, but neither of the two compilers works that out.
-// What was read goes into the atomic. It is 0 too, so that no byte of a secret stays there. No clause says that the
+// A compiler may leave out writes that nothing reads. So the two calls that are made of this one are never inlined: their
+// callers' compiled code can't tell what they wrote, nor leave them out, since an atomic is exchanged in them. This one is
+// inlined into them, where the zero is known, so that LLVM writes many of it by `memset`. An element is read before the
+// writes and after them too, at a place that comes out of the atomic: it is 0, but neither of the two compilers works that
+// out. What was read goes into the atomic. It is 0 too, so that no byte of a secret stays there. No clause says that the
 // writes are kept: what was compiled is searched.
-#[inline(never)]
+#[inline(always)]
 fn wipe<E: Copy, F: Fn(E) -> u8>(elements: &mut [E], zero: E, some_byte: F)
     requires { F.IsAlwaysCallable some_byte }
     ensures { elements.new ≡ replicate (length elements.old) zero }

@@ -91,6 +91,7 @@ impl Element for Block {
 }
 
 /// Overwrites every element with zeros.
+#[inline(never)]
 pub fn zeroize_elements<E: Element>(elements: &mut [E])
     ensures { elements.new ≡ replicate (length elements.old) E.ZERO }
 {
