@@ -1,23 +1,30 @@
 //! The forms of the nine types: round keys of vector permutations, of which planes are made where there are many blocks.
 
-ghost use Rattle.std.specs.Prelude.{◌≡◌, replicate};
-ghost use Rattle.aes_permute.specs.Keys.{stored_keys};
-ghost use Rattle.aes_permute.specs.Keys.{cipher_key, AreInverse, IsCipherSchedule};
+ghost use Rattle.std.specs.Prelude.{◌≡◌, ◌+◌, ◌/◌, length, replicate};
+ghost use Rattle.aes_permute.specs.Keys.{cipher_key, stored_keys, AreInverse, IsCipherSchedule};
 
-use crate::backends::OnLanes;
 use crate::blocks::process_few_or_many;
-use crate::closures::lend_to_decrypt;
 use crate::lent::Lent;
 use crate::widths::{Narrow, Width};
 use aes_cipher::aes::{Decrypts, Encrypts, KeyBytes, KeySize, MadeFrom, Processes, StoredKeys};
 use aes_cipher::cipher::{
-    BlockCipherDecClosure, BlockCipherEncClosure, BlockCipherEncrypt, Decrypt, Encrypt,
+    BlockCipherDecClosure, BlockCipherDecrypt, BlockCipherEncClosure, BlockCipherEncrypt, Decrypt,
+    Encrypt,
 };
 use aes_cipher::zeroize::Wiped;
-use aes_permute::lane_room::{LaneRoom, expand_in_room, invert_in_room, keys_in_room};
+use aes_permute::lane_room::{LaneRoom, expand_in_room, invert_in_room, keys_in_room, size_of_key};
 use aes_planes::soft::word::Block;
 use std::marker::PhantomData;
 use std::slice;
+
+// Returns the stored round keys of a key of the size K.
+#[inline(always)]
+fn keys_of<K: KeySize>(room: &LaneRoom) -> &[Block]
+    ensures keys { result.now ≡ stored_keys K.Key.SIZE room.now }
+    ensures count { length result.now ≡ K.Key.SIZE / 4 + 7 }
+{
+    keys_in_room(room, size_of_key::<K>())
+}
 
 /// The stored round keys of Cipher alone, for encryption.
 pub struct Encrypting<K: KeySize, W = Narrow> {
@@ -63,7 +70,9 @@ impl<K: KeySize, W> StoredKeys for Encrypting<K, W> {
 
     #[inline(always)]
     fn expand_key(&mut self, new_key: &K::Key) {
-        expand_in_room::<K>(self.room.value_mut(), new_key.as_slice());
+        // No effect; states that the size is one of three.
+        let _ = size_of_key::<K>();
+        expand_in_room(self.room.value_mut(), new_key.as_slice());
     }
 
     #[inline(always)]
@@ -76,30 +85,32 @@ impl<K: KeySize, W> StoredKeys for Encrypting<K, W> {
     }
 
     fn has_key(&self) {
-        keys_in_room::<K>(self.room.value());
+        keys_of::<K>(self.room.value());
     }
 }
 
 impl<K: KeySize, W: Width> Processes<Encrypt> for Encrypting<K, W> {
     #[inline(always)]
     fn process_one(&self, block: &mut Block) {
-        let keys = keys_in_room::<K>(self.room.value());
-        OnLanes::<Encrypt, W>::new(keys, keys).process_few(slice::from_mut(block));
+        let keys = keys_of::<K>(self.room.value());
+        Lent::<Encrypt, W>::new(keys, keys).process_few(slice::from_mut(block));
     }
 
     fn process_slice(&self, blocks: &mut [Block]) {
-        let keys = keys_in_room::<K>(self.room.value());
+        let keys = keys_of::<K>(self.room.value());
         process_few_or_many::<Encrypt, W>(keys, keys, blocks);
     }
 }
 
 impl<K: KeySize, W: Width> Encrypts for Encrypting<K, W> {
     fn encrypt_with_backend<F: BlockCipherEncClosure>(&self, f: &mut F) {
-        Lent::<W>::new(keys_in_room::<K>(self.room.value())).encrypt_with_backend(f);
+        let keys = keys_of::<K>(self.room.value());
+        Lent::<Encrypt, W>::new(keys, keys).encrypt_with_backend(f);
     }
 
     fn encrypt_with_backend_for<F: BlockCipherEncClosure>(&self, blocks: usize, f: &mut F) {
-        Lent::<W>::new(keys_in_room::<K>(self.room.value())).encrypt_with_backend_for(blocks, f);
+        let keys = keys_of::<K>(self.room.value());
+        Lent::<Encrypt, W>::new(keys, keys).encrypt_with_backend_for(blocks, f);
     }
 }
 
@@ -147,7 +158,11 @@ impl<K: KeySize, W> StoredKeys for BothLists<K, W> {
     #[inline(always)]
     fn expand_key(&mut self, new_key: &K::Key) {
         self.encrypting.expand_key(new_key);
-        invert_in_room::<K>(self.inverse.value_mut(), self.encrypting.room.value());
+        invert_in_room(
+            self.inverse.value_mut(),
+            self.encrypting.room.value(),
+            size_of_key::<K>(),
+        );
     }
 
     #[inline(always)]
@@ -178,7 +193,7 @@ impl<K: KeySize, W> MadeFrom<Encrypting<K, W>> for BothLists<K, W> {
     #[inline(always)]
     fn made_from(stored: &Encrypting<K, W>) -> BothLists<K, W> {
         let mut inverse = Wiped::<LaneRoom>::zeroed();
-        invert_in_room::<K>(inverse.value_mut(), stored.room.value());
+        invert_in_room(inverse.value_mut(), stored.room.value(), size_of_key::<K>());
         BothLists {
             encrypting: stored.copy(),
             inverse,
@@ -210,14 +225,14 @@ impl<K: KeySize, W: Width> Encrypts for BothLists<K, W> {
 impl<K: KeySize, W: Width> Processes<Decrypt> for BothLists<K, W> {
     #[inline(always)]
     fn process_one(&self, block: &mut Block) {
-        let keys = keys_in_room::<K>(self.encrypting.room.value());
-        let used = keys_in_room::<K>(self.inverse.value());
-        OnLanes::<Decrypt, W>::new(keys, used).process_few(slice::from_mut(block));
+        let keys = keys_of::<K>(self.encrypting.room.value());
+        let used = keys_of::<K>(self.inverse.value());
+        Lent::<Decrypt, W>::new(keys, used).process_few(slice::from_mut(block));
     }
 
     fn process_slice(&self, blocks: &mut [Block]) {
-        let keys = keys_in_room::<K>(self.encrypting.room.value());
-        process_few_or_many::<Decrypt, W>(keys, keys_in_room::<K>(self.inverse.value()), blocks);
+        let keys = keys_of::<K>(self.encrypting.room.value());
+        process_few_or_many::<Decrypt, W>(keys, keys_of::<K>(self.inverse.value()), blocks);
     }
 }
 
@@ -227,8 +242,8 @@ impl<K: KeySize, W: Width> Decrypts for BothLists<K, W> {
     }
 
     fn decrypt_with_backend_for<F: BlockCipherDecClosure>(&self, blocks: usize, f: &mut F) {
-        let keys = keys_in_room::<K>(self.encrypting.room.value());
-        let used = keys_in_room::<K>(self.inverse.value());
-        lend_to_decrypt::<W, F>(keys, used, blocks, f);
+        let keys = keys_of::<K>(self.encrypting.room.value());
+        let used = keys_of::<K>(self.inverse.value());
+        Lent::<Decrypt, W>::new(keys, used).decrypt_with_backend_for(blocks, f);
     }
 }

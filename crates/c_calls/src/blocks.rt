@@ -5,10 +5,11 @@ ghost use Rattle.aes_planes.specs.Each.{Each};
 ghost use Rattle.aes_planes.specs.Fips197 as fips;
 ghost use Rattle.c_calls.specs.Kept.{kept_key, IsKeyLength, IsMade};
 
-use crate::kept::{Aes, holds_key, keys_in_struct};
+use crate::kept::{Aes, holds_key};
 use crate::status::{DONE, NO_KEY, UNEQUAL_COUNTS};
 use aes_hybrid::blocks::process_few_or_many;
 use aes_hybrid::widths::Width;
+use aes_permute::lane_room::keys_in_room;
 use aes_permute::lane_rounds::LaneRounds;
 use aes_planes::soft::word::Block;
 use aes_soft::soft::PlaneCipher;
@@ -25,8 +26,8 @@ pub fn process_under<D: LaneRounds + PlaneCipher, W: Width>(aes: &Aes, blocks: &
 {
     if holds_key(aes) {
         let length = aes.key_length as usize;
-        let keys = keys_in_struct(&aes.encrypting, length);
-        let inverse = keys_in_struct(&aes.decrypting, length);
+        let keys = keys_in_room(&aes.encrypting, length);
+        let inverse = keys_in_room(&aes.decrypting, length);
         process_few_or_many::<D, W>(keys, D::used_of(keys, inverse), blocks);
         return DONE;
     }

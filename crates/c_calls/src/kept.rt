@@ -1,15 +1,11 @@
 //! The struct that a caller keeps: a key as its stored round keys.
 
-ghost use Rattle.std.specs.Prelude.{◌≡◌, ◌≢◌, ◌↔◌, ◌+◌, ◌/◌, true};
-ghost use Rattle.std.specs.Prelude.{drop, length, replicate};
-ghost use Rattle.aes_permute.specs.Keys.{stored_keys};
-ghost use Rattle.aes_permute.specs.Keys.{cipher_key, IsCipherSchedule, AreInverse};
+ghost use Rattle.std.specs.Prelude.{◌≡◌, ◌≢◌, ◌↔◌, length, replicate, true};
 ghost use Rattle.c_calls.specs.Kept.{kept_key, AreZeroAfter, IsKeyLength, IsMade};
 
 use crate::status::{DONE, KEY_LENGTH};
 use aes_cipher::zeroize::{Zeroize, zeroize_elements};
-use aes_permute::lane_keys::{expand_lanes, invert_lanes};
-use aes_planes::soft::word::Block;
+use aes_permute::lane_room::{LaneRoom, expand_in_room, invert_in_room};
 
 /// A key schedule that the caller owns: `struct fotsgure_aes`. Its blocks are as secret as the key.
 #[repr(C)]
@@ -18,9 +14,9 @@ pub struct Aes {
     /// How many bytes the key has: 16, 24 or 32; 0 if there is no key.
     pub key_length: u32,
     /// The stored round keys of Cipher, in the first 11, 13 or 15 blocks.
-    pub encrypting: [Block; 15],
+    pub encrypting: LaneRoom,
     /// Those of EqInvCipher.
-    pub decrypting: [Block; 15],
+    pub decrypting: LaneRoom,
 }
 
 impl Zeroize for Aes {
@@ -45,41 +41,6 @@ impl Zeroize for Aes {
         zeroize_elements(&mut self.encrypting);
         zeroize_elements(&mut self.decrypting);
     }
-}
-
-/// Returns the stored round keys of a key of `key_length` bytes: the first of the blocks.
-#[inline(always)]
-pub fn keys_in_struct(blocks: &[Block; 15], key_length: usize) -> &[Block]
-    requires { IsKeyLength key_length }
-    ensures { result.now ≡ stored_keys key_length blocks.now }
-{
-    &blocks[..key_length / 4 + 7]
-}
-
-/// Writes the stored round keys of Cipher of a key.
-#[inline(always)]
-pub fn expand_in_struct(blocks: &mut [Block; 15], key: &[u8])
-    requires { IsKeyLength (length key.now) }
-    ensures schedule { IsCipherSchedule (stored_keys (length key.now) blocks.new) }
-    ensures key { kept_key (length key.now) blocks.new ≡ key.now }
-    ensures after { drop (length key.now / 4 + 7) blocks.new ≡ drop (length key.now / 4 + 7) blocks.old }
-{
-    expand_lanes(&mut blocks[..key.len() / 4 + 7], key);
-}
-
-// Writes the stored round keys of EqInvCipher of the same key.
-#[tactic(auto, using(aes_hybrid::proofs::PlaneKeys::two_or_more))]
-#[inline(always)]
-fn invert_in_struct(inverse: &mut [Block; 15], blocks: &[Block; 15], key_length: usize)
-    requires length { IsKeyLength key_length }
-    requires schedule { IsCipherSchedule (stored_keys key_length blocks.now) }
-    ensures inverse { AreInverse (stored_keys key_length inverse.new) (stored_keys key_length blocks.now) }
-    ensures after { drop (key_length / 4 + 7) inverse.new ≡ drop (key_length / 4 + 7) inverse.old }
-{
-    invert_lanes(
-        &mut inverse[..key_length / 4 + 7],
-        keys_in_struct(blocks, key_length),
-    );
 }
 
 /// Returns whether this is the length of a key: 16, 24 or 32 bytes.
@@ -117,8 +78,8 @@ pub fn set_key(aes: &mut Aes, key: &[u8]) -> u32
     if !is_key_length(key.len()) {
         return KEY_LENGTH;
     }
-    expand_in_struct(&mut aes.encrypting, key);
-    invert_in_struct(&mut aes.decrypting, &aes.encrypting, key.len());
+    expand_in_room(&mut aes.encrypting, key);
+    invert_in_room(&mut aes.decrypting, &aes.encrypting, key.len());
     aes.key_length = key.len() as u32;
     DONE
 }

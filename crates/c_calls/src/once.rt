@@ -7,7 +7,7 @@ ghost use Rattle.aes_ctr.specs.CounterMode.{keystream_byte, plus_stream};
 ghost use Rattle.c_calls.specs.Kept.{IsKeyLength};
 
 use crate::blocks::process_under;
-use crate::kept::{Aes, expand_in_struct, is_key_length, keys_in_struct, set_key};
+use crate::kept::{Aes, is_key_length, set_key};
 use crate::status::{DONE, KEY_LENGTH, KEYSTREAM_END};
 use crate::stream::Ctr;
 use aes_cipher::cipher::{Decrypt, Encrypt};
@@ -16,6 +16,7 @@ use aes_ctr::add_keystream;
 use aes_hybrid::blocks::process_blocks;
 use aes_hybrid::lent::Lent;
 use aes_hybrid::widths::Width;
+use aes_permute::lane_room::{expand_in_room, keys_in_room};
 use aes_planes::soft::word::Block;
 
 /// Encrypts each block in place under a key (Cipher, FIPS 197, 5.1). Returns `DONE` exactly if the key has 16, 24 or 32
@@ -30,8 +31,8 @@ pub fn encrypt_with<W: Width>(key: &[u8], blocks: &mut [Block]) -> u32
         return KEY_LENGTH;
     }
     let mut kept = MustWipe::<[Block; 15]>::zeroed();
-    expand_in_struct(kept.value_mut(), key);
-    let keys = keys_in_struct(kept.value(), key.len());
+    expand_in_room(kept.value_mut(), key);
+    let keys = keys_in_room(kept.value(), key.len());
     process_blocks::<Encrypt, W>(keys, keys, blocks);
     kept.wipe();
     DONE
@@ -76,9 +77,14 @@ pub fn add_keystream_with<W: Width>(key: &[u8], ctr: &mut Ctr, bytes: &mut [u8])
         return KEYSTREAM_END;
     }
     let mut kept = MustWipe::<[Block; 15]>::zeroed();
-    expand_in_struct(kept.value_mut(), key);
-    let keys = keys_in_struct(kept.value(), key.len());
-    add_keystream(&Lent::<W>::new(keys), &ctr.iv, ctr.position, bytes);
+    expand_in_room(kept.value_mut(), key);
+    let keys = keys_in_room(kept.value(), key.len());
+    add_keystream(
+        &Lent::<Encrypt, W>::new(keys, keys),
+        &ctr.iv,
+        ctr.position,
+        bytes,
+    );
     kept.wipe();
     ctr.position += bytes.len() as u64;
     DONE

@@ -5,11 +5,13 @@ ghost use Rattle.aes_planes.specs.Fips197 as fips;
 ghost use Rattle.aes_ctr.specs.CounterMode.{keystream_byte, plus_stream};
 ghost use Rattle.c_calls.specs.Kept.{kept_key, IsKeyLength, IsMade};
 
-use crate::kept::{Aes, holds_key, keys_in_struct};
+use crate::kept::{Aes, holds_key};
 use crate::status::{DONE, KEYSTREAM_END, NO_KEY, UNEQUAL_COUNTS};
+use aes_cipher::cipher::Encrypt;
 use aes_ctr::add_keystream;
 use aes_hybrid::lent::Lent;
 use aes_hybrid::widths::Width;
+use aes_permute::lane_room::keys_in_room;
 
 /// Where a keystream stands: `struct fotsgure_aes_ctr`.
 #[repr(C)]
@@ -53,8 +55,13 @@ pub fn add_keystream_under<W: Width>(aes: &Aes, ctr: &mut Ctr, bytes: &mut [u8])
 {
     let status = refusal(aes, ctr.position, bytes.len());
     if status == DONE {
-        let keys = keys_in_struct(&aes.encrypting, aes.key_length as usize);
-        add_keystream(&Lent::<W>::new(keys), &ctr.iv, ctr.position, bytes);
+        let keys = keys_in_room(&aes.encrypting, aes.key_length as usize);
+        add_keystream(
+            &Lent::<Encrypt, W>::new(keys, keys),
+            &ctr.iv,
+            ctr.position,
+            bytes,
+        );
         ctr.position += bytes.len() as u64;
     }
     status

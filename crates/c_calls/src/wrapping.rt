@@ -5,11 +5,12 @@ ghost use Rattle.aes_planes.specs.Fips197 as fips;
 ghost use Rattle.key_wrap.specs.KeyWrap.{integrity_check, unwrapped, wrapped, Fit};
 ghost use Rattle.c_calls.specs.Kept.{kept_key, IsKeyLength, IsMade};
 
-use crate::kept::{Aes, holds_key, keys_in_struct};
+use crate::kept::{Aes, holds_key};
 use crate::status::{DONE, INVALID_COUNT, NO_KEY, REFUSED};
+use aes_cipher::cipher::{Decrypt, Encrypt};
 use aes_hybrid::lent::Lent;
-use aes_hybrid::lent_both::LentBoth;
 use aes_hybrid::widths::Width;
+use aes_permute::lane_room::keys_in_room;
 use key_wrap::{NotUnwrapped, Semiblock, unwrap, wrap};
 
 /// Wraps a key from one buffer to another (KW-AE, SP 800-38F, 6.2). Returns `NO_KEY` exactly if the struct holds no key,
@@ -27,8 +28,8 @@ pub fn wrap_under<W: Width>(aes: &Aes, key: &[Semiblock], output: &mut [Semibloc
     if !holds_key(aes) {
         return NO_KEY;
     }
-    let keys = keys_in_struct(&aes.encrypting, aes.key_length as usize);
-    match wrap(&Lent::<W>::new(keys), key, output) {
+    let keys = keys_in_room(&aes.encrypting, aes.key_length as usize);
+    match wrap(&Lent::<Encrypt, W>::new(keys, keys), key, output) {
         Ok(()) => DONE,
         Err(_) => INVALID_COUNT,
     }
@@ -55,9 +56,9 @@ pub fn unwrap_under<W: Width>(aes: &Aes, sealed: &[Semiblock], output: &mut [Sem
         return NO_KEY;
     }
     let length = aes.key_length as usize;
-    let keys = keys_in_struct(&aes.encrypting, length);
-    let inverse = keys_in_struct(&aes.decrypting, length);
-    match unwrap(&LentBoth::<W>::new(keys, inverse), sealed, output) {
+    let keys = keys_in_room(&aes.encrypting, length);
+    let inverse = keys_in_room(&aes.decrypting, length);
+    match unwrap(&Lent::<Decrypt, W>::new(keys, inverse), sealed, output) {
         Ok(()) => DONE,
         Err(NotUnwrapped::InvalidCount) => INVALID_COUNT,
         Err(NotUnwrapped::Refused) => REFUSED,

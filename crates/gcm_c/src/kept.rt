@@ -6,10 +6,12 @@ ghost use Rattle.gcm_c.specs.Kept.{IsMade};
 
 use crate::status::{DONE, KEY_LENGTH};
 use crate::width::BuildWidth;
+use aes_cipher::cipher::Encrypt;
 use aes_cipher::zeroize::{Zeroize, zeroize_elements};
 use aes_hybrid::lent::Lent;
+use aes_permute::lane_room::{expand_in_room, keys_in_room};
 use aes_planes::soft::word::Block;
-use c_calls::kept::{expand_in_struct, is_key_length, keys_in_struct};
+use c_calls::kept::is_key_length;
 use gcm::{Room, prepare};
 
 /// A key that the caller owns: `struct fotsgure_gcm`. Its blocks are as secret as the key.
@@ -56,12 +58,12 @@ pub(crate) fn holds_key(gcm: &Gcm) -> bool
 }
 
 /// Lends the key of a struct as a cipher.
-pub(crate) fn cipher_of(gcm: &Gcm) -> Lent<'_, BuildWidth>
+pub(crate) fn cipher_of(gcm: &Gcm) -> Lent<'_, Encrypt, BuildWidth>
     requires made { IsMade gcm.now.key_length gcm.now.round_keys gcm.now.multiples }
     requires key { IsKeyLength gcm.now.key_length }
     ensures { result ≡ kept_key gcm.now.key_length gcm.now.round_keys }
 {
-    Lent::<BuildWidth>::new(keys_in_struct(&gcm.round_keys, gcm.key_length as usize))
+    Lent::<BuildWidth>::new(keys_in_room(&gcm.round_keys, gcm.key_length as usize))
 }
 
 /// Expands a key into the struct (KeyExpansion, FIPS 197, 5.2) and prepares the multiples of its H (SP 800-38D, 7.1,
@@ -86,8 +88,8 @@ pub extern "C" fn fotsgure_gcm_set_key(gcm: &mut Gcm, key: &[u8]) -> u32
         return KEY_LENGTH;
     }
     gcm.round_keys = [[0; 16]; 15];
-    expand_in_struct(&mut gcm.round_keys, key);
-    let cipher = Lent::<BuildWidth>::new(keys_in_struct(&gcm.round_keys, key.len()));
+    expand_in_room(&mut gcm.round_keys, key);
+    let cipher = Lent::<BuildWidth>::new(keys_in_room(&gcm.round_keys, key.len()));
     prepare(&cipher, &mut gcm.multiples);
     gcm.key_length = key.len() as u32;
     DONE
