@@ -7,9 +7,7 @@ ghost use Rattle.aes_soft.specs.Batches.{layers_for};
 ghost use Rattle.aes_soft.specs.Stored.{plane_key, stored_words, words_for, IsFullSchedule};
 
 use aes_cipher::aes;
-use aes_cipher::aes::{
-    CountsLayers, Decrypts, Encrypts, KeyBytes, KeySize, MadeFrom, Processes, StoredKeys,
-};
+use aes_cipher::aes::{CountsLayers, Decrypts, Encrypts, KeySize, MadeFrom, Processes, StoredKeys};
 use aes_cipher::cipher::{BlockCipherDecClosure, BlockCipherEncClosure, Decrypt, Encrypt};
 use aes_cipher::zeroize::Wiped;
 use aes_planes::soft::sbox::Layers;
@@ -42,10 +40,10 @@ impl<K: KeySize> StoredKeys for Fixsliced<K> {
     type Size = K;
 
     ghost key = { λ stored.
-        plane_key (words_for K.Key.SIZE) 1 (map (word_bits 16) (stored_words K.Key.SIZE stored.room)) };
+        plane_key (words_for K.SIZE) 1 (map (word_bits 16) (stored_words K.SIZE stored.room)) };
 
     ghost AreKeyed = { λ stored.
-        IsFullSchedule (words_for K.Key.SIZE) 1 (map (word_bits 16) (stored_words K.Key.SIZE stored.room)) };
+        IsFullSchedule (words_for K.SIZE) 1 (map (word_bits 16) (stored_words K.SIZE stored.room)) };
 
     ghost IsWiped = { λ stored. stored.room ≡ replicate 120 0 };
 
@@ -63,7 +61,7 @@ impl<K: KeySize> StoredKeys for Fixsliced<K> {
     }
 
     #[inline(always)]
-    fn expand_key(&mut self, new_key: &K::Key) {
+    fn expand_key(&mut self, new_key: &[u8]) {
         self.expand_counted(new_key, &mut Layers::new());
     }
 
@@ -117,12 +115,12 @@ impl<K: KeySize> Decrypts for Fixsliced<K> {
 }
 
 impl<K: KeySize> CountsLayers for Fixsliced<K> {
-    ghost SCHEDULE_LAYERS = { substitutions K.Key.SIZE };
+    ghost SCHEDULE_LAYERS = { substitutions K.SIZE };
 
-    ghost layers_for = { λ count. layers_for (K.Key.SIZE / 4 + 6) count };
+    ghost layers_for = { λ count. layers_for (K.SIZE / 4 + 6) count };
 
-    fn expand_counted(&mut self, new_key: &K::Key, layers: &mut Layers) {
-        expand_words::<K>(self.room.value_mut(), new_key.as_slice(), layers);
+    fn expand_counted(&mut self, new_key: &[u8], layers: &mut Layers) {
+        expand_words::<K>(self.room.value_mut(), new_key, layers);
     }
 
     fn encrypt_blocks_counted(&self, blocks: &mut [Block], layers: &mut Layers) {

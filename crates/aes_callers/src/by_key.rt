@@ -16,9 +16,9 @@ fn both_ways<S: Encrypts + Decrypts>(
     key: &<S::Size as KeySize>::Key,
     block: &Block,
 ) -> (AesCipher<S, BothWays>, Block, Block)
-    ensures value { result.0 ≡ S.Size.Key.bytes key.now }
-    ensures encrypted { result.1 ≡ fips.cipher (S.Size.Key.bytes key.now) block.now }
-    ensures decrypted { result.2 ≡ fips.inv_cipher (S.Size.Key.bytes key.now) block.now }
+    ensures value { result.0 ≡ S.Size.bytes key.now }
+    ensures encrypted { result.1 ≡ fips.cipher (S.Size.bytes key.now) block.now }
+    ensures decrypted { result.2 ≡ fips.inv_cipher (S.Size.bytes key.now) block.now }
 {
     let cipher = AesCipher::<S, BothWays>::new(key);
     let mut encrypted = *block;
@@ -33,8 +33,8 @@ fn encrypting<S: Encrypts>(
     key: &<S::Size as KeySize>::Key,
     block: &Block,
 ) -> (AesCipher<S, Encrypt>, Block)
-    ensures value { result.0 ≡ S.Size.Key.bytes key.now }
-    ensures encrypted { result.1 ≡ fips.cipher (S.Size.Key.bytes key.now) block.now }
+    ensures value { result.0 ≡ S.Size.bytes key.now }
+    ensures encrypted { result.1 ≡ fips.cipher (S.Size.bytes key.now) block.now }
 {
     let cipher = AesCipher::<S, Encrypt>::new(key);
     let mut encrypted = *block;
@@ -47,8 +47,8 @@ fn decrypting<S: Decrypts>(
     key: &<S::Size as KeySize>::Key,
     block: &Block,
 ) -> (AesCipher<S, Decrypt>, Block)
-    ensures value { result.0 ≡ S.Size.Key.bytes key.now }
-    ensures decrypted { result.1 ≡ fips.inv_cipher (S.Size.Key.bytes key.now) block.now }
+    ensures value { result.0 ≡ S.Size.bytes key.now }
+    ensures decrypted { result.1 ≡ fips.inv_cipher (S.Size.bytes key.now) block.now }
 {
     let cipher = AesCipher::<S, Decrypt>::new(key);
     let mut decrypted = *block;

@@ -1,7 +1,7 @@
 //! The one type behind the nine names: AES with a key of any size, in one direction or both, over the form in which it
 //! keeps its round keys.
 
-ghost use Rattle.std.specs.Prelude.{◌≡◌, ℕ, List, replicate, refl};
+ghost use Rattle.std.specs.Prelude.{◌≡◌, ℕ, List, length, replicate, refl};
 ghost use Rattle.aes_planes.specs.Fips197 as fips;
 ghost use Rattle.aes_planes.proofs.Standard.CipherLaws.{two_keys};
 
@@ -10,7 +10,6 @@ mod counted;
 mod decrypt;
 mod direction_sets;
 mod encrypt;
-mod key_bytes;
 mod key_sizes;
 mod stored_keys;
 mod text;
@@ -20,7 +19,6 @@ use crate::zeroize::ZeroizeOnDrop;
 use aes_planes::laws;
 pub use counted::CountsLayers;
 pub use direction_sets::{Allows, BothWays, Directions};
-pub use key_bytes::KeyBytes;
 pub use key_sizes::{Bits128, Bits192, Bits256, KeySize};
 use std::marker::{Model, PhantomData};
 pub use stored_keys::{Decrypts, Encrypts, MadeFrom, Processes, StoredKeys};
@@ -51,24 +49,37 @@ impl<S: StoredKeys, D> Model for AesCipher<S, D> {
 }
 
 impl<S: StoredKeys, D> AesCipher<S, D> {
+    // Makes a value from the bytes of a key.
+    #[inline(always)]
+    fn from_bytes(key: &[u8]) -> AesCipher<S, D>
+        requires { length key.now ≡ S.Size.SIZE }
+        ensures { result ≡ key.now }
+    {
+        let mut cipher = AesCipher {
+            keys: S::zeroed(),
+            directions: PhantomData,
+        };
+        cipher.keys.expand_key(key);
+        cipher
+    }
+
     /// Wipes the round keys in place, and leaves the value of the zero key.
     pub fn zeroize(&mut self)
-        ensures { self.new ≡ replicate S.Size.Key.SIZE 0 }
+        ensures { self.new ≡ replicate S.Size.SIZE 0 }
     {
         self.keys.wipe();
-        self.keys
-            .expand_key(&<<S::Size as KeySize>::Key as KeyBytes>::zero());
+        self.keys.expand_key(&[0; 32][..<S::Size as KeySize>::SIZE]);
     }
 }
 
 impl<S: StoredKeys, D> KeySizeUser for AesCipher<S, D> {
     type Key = <S::Size as KeySize>::Key;
 
-    ghost KEY_SIZE = { S.Size.Key.SIZE };
+    ghost KEY_SIZE = { S.Size.SIZE };
 
-    ghost key_bytes = { S.Size.Key.bytes };
+    ghost key_bytes = { S.Size.bytes };
 
-    const KEY_SIZE: usize = <<S::Size as KeySize>::Key as KeyBytes>::SIZE;
+    const KEY_SIZE: usize = <S::Size as KeySize>::SIZE;
 }
 
 impl<S: StoredKeys, D> RoundKeysUser for AesCipher<S, D> {
@@ -86,16 +97,15 @@ impl<S: StoredKeys, D> KeyInit for AesCipher<S, D> {
     ghost own_key = { λ key. key };
 
     fn new(key: &<S::Size as KeySize>::Key) -> AesCipher<S, D> {
-        let mut cipher = AesCipher {
-            keys: S::zeroed(),
-            directions: PhantomData,
-        };
-        cipher.keys.expand_key(key);
-        cipher
+        AesCipher::from_bytes(<S::Size as KeySize>::as_slice(key))
     }
 
     fn new_from_slice(key: &[u8]) -> Result<AesCipher<S, D>, InvalidLength> {
-        Ok(AesCipher::new(<<S::Size as KeySize>::Key as KeyBytes>::from_slice(key)?))
+        if key.len() == <S::Size as KeySize>::SIZE {
+            Ok(AesCipher::from_bytes(key))
+        } else {
+            Err(InvalidLength)
+        }
     }
 
     fn has_key(&self) {

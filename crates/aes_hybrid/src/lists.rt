@@ -6,13 +6,13 @@ ghost use Rattle.aes_permute.specs.Keys.{cipher_key, stored_keys, AreInverse, Is
 use crate::blocks::process_few_or_many;
 use crate::lent::Lent;
 use crate::widths::{Narrow, Width};
-use aes_cipher::aes::{Decrypts, Encrypts, KeyBytes, KeySize, MadeFrom, Processes, StoredKeys};
+use aes_cipher::aes::{Decrypts, Encrypts, KeySize, MadeFrom, Processes, StoredKeys};
 use aes_cipher::cipher::{
     BlockCipherDecClosure, BlockCipherDecrypt, BlockCipherEncClosure, BlockCipherEncrypt, Decrypt,
     Encrypt,
 };
 use aes_cipher::zeroize::Wiped;
-use aes_permute::lane_room::{LaneRoom, expand_in_room, invert_in_room, keys_in_room, size_of_key};
+use aes_permute::lane_room::{LaneRoom, expand_in_room, invert_in_room, keys_in_room};
 use aes_planes::soft::word::Block;
 use std::marker::PhantomData;
 use std::slice;
@@ -20,10 +20,10 @@ use std::slice;
 // Returns the stored round keys of a key of the size K.
 #[inline(always)]
 fn keys_of<K: KeySize>(room: &LaneRoom) -> &[Block]
-    ensures keys { result.now ≡ stored_keys K.Key.SIZE room.now }
-    ensures count { length result.now ≡ K.Key.SIZE / 4 + 7 }
+    ensures keys { result.now ≡ stored_keys K.SIZE room.now }
+    ensures count { length result.now ≡ K.SIZE / 4 + 7 }
 {
-    keys_in_room(room, size_of_key::<K>())
+    keys_in_room(room, K::SIZE)
 }
 
 /// The stored round keys of Cipher alone, for encryption.
@@ -48,9 +48,9 @@ impl<K: KeySize, W> Drop for Encrypting<K, W> {
 impl<K: KeySize, W> StoredKeys for Encrypting<K, W> {
     type Size = K;
 
-    ghost key = { λ s. cipher_key (stored_keys K.Key.SIZE s.room) };
+    ghost key = { λ s. cipher_key (stored_keys K.SIZE s.room) };
 
-    ghost AreKeyed = { λ s. IsCipherSchedule (stored_keys K.Key.SIZE s.room) };
+    ghost AreKeyed = { λ s. IsCipherSchedule (stored_keys K.SIZE s.room) };
 
     ghost IsWiped = { λ s. s.room ≡ replicate 15 (replicate 16 0) };
 
@@ -69,10 +69,8 @@ impl<K: KeySize, W> StoredKeys for Encrypting<K, W> {
     }
 
     #[inline(always)]
-    fn expand_key(&mut self, new_key: &K::Key) {
-        // No effect; states that the size is one of three.
-        let _ = size_of_key::<K>();
-        expand_in_room(self.room.value_mut(), new_key.as_slice());
+    fn expand_key(&mut self, new_key: &[u8]) {
+        expand_in_room(self.room.value_mut(), new_key);
     }
 
     #[inline(always)]
@@ -136,7 +134,7 @@ impl<K: KeySize, W> StoredKeys for BothLists<K, W> {
     ghost key = { λ s. ⟦<Encrypting<K, W> as StoredKeys>⟧.key s.encrypting };
 
     ghost AreKeyed = { λ s. ⟦<Encrypting<K, W> as StoredKeys>⟧.AreKeyed s.encrypting
-        × AreInverse (stored_keys K.Key.SIZE s.inverse) (stored_keys K.Key.SIZE s.encrypting.room) };
+        × AreInverse (stored_keys K.SIZE s.inverse) (stored_keys K.SIZE s.encrypting.room) };
 
     ghost IsWiped = { λ s. ⟦<Encrypting<K, W> as StoredKeys>⟧.IsWiped s.encrypting
         × (s.inverse ≡ replicate 15 (replicate 16 0)) };
@@ -156,12 +154,12 @@ impl<K: KeySize, W> StoredKeys for BothLists<K, W> {
     }
 
     #[inline(always)]
-    fn expand_key(&mut self, new_key: &K::Key) {
+    fn expand_key(&mut self, new_key: &[u8]) {
         self.encrypting.expand_key(new_key);
         invert_in_room(
             self.inverse.value_mut(),
             self.encrypting.room.value(),
-            size_of_key::<K>(),
+            K::SIZE,
         );
     }
 
@@ -193,7 +191,7 @@ impl<K: KeySize, W> MadeFrom<Encrypting<K, W>> for BothLists<K, W> {
     #[inline(always)]
     fn made_from(stored: &Encrypting<K, W>) -> BothLists<K, W> {
         let mut inverse = Wiped::<LaneRoom>::zeroed();
-        invert_in_room(inverse.value_mut(), stored.room.value(), size_of_key::<K>());
+        invert_in_room(inverse.value_mut(), stored.room.value(), K::SIZE);
         BothLists {
             encrypting: stored.copy(),
             inverse,

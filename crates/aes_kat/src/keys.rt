@@ -65,14 +65,14 @@ impl Key {
 // Encrypts each block by the library's type for a size. With the size as a parameter, the type is proved to be a cipher
 // once for all sizes.
 fn encrypt_with<K: KeySize>(key: &K::Key, blocks: &mut [Block])
-    ensures { Each (fips.cipher (K.Key.bytes key.now)) blocks.old blocks.new }
+    ensures { Each (fips.cipher (K.bytes key.now)) blocks.old blocks.new }
 {
     FixslicedAes::<K, Encrypt>::new(key).encrypt_blocks(blocks);
 }
 
 // Decrypts each block by the library's type for a size.
 fn decrypt_with<K: KeySize>(key: &K::Key, blocks: &mut [Block])
-    ensures { Each (fips.inv_cipher (K.Key.bytes key.now)) blocks.old blocks.new }
+    ensures { Each (fips.inv_cipher (K.bytes key.now)) blocks.old blocks.new }
 {
     FixslicedAes::<K, Decrypt>::new(key).decrypt_blocks(blocks);
 }

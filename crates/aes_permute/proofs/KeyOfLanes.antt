@@ -13,21 +13,10 @@ use Rattle.aes_permute.proofs.States.{keys_length}
 -- the key that begins its own schedule
 pub own_key : (size : ℕ) (key : List ℕ) → IsKeySize size → length key ≡ size → leading_key size (fips.key_expansion key)
     ≡ key
-own_key size key s l = first_bytes key (size / 4) (ap (λ v. v / 4) l) size s.words l s.four s.eight
+own_key size key one l =
+    first_bytes key (size / 4) (ap (λ v. v / 4) l) size (omega (arith, one)) l (omega (arith, one)) (omega (arith, one))
 
--- a length that keys have
-abbrev pub IsLength : ℕ → Type 0
-IsLength n = (n ≡ 16) ⊎ ((n ≡ 24) ⊎ (n ≡ 32))
-
-key_size : (n : ℕ) → IsLength n → IsKeySize n
-key_size n one = record {
-  words = omega (arith, one);
-  four = omega (arith, one);
-  eight = omega (arith, one);
-  one_of_three = one;
-}
-
-module _ (stored : List (List ℕ)) (key : List ℕ) (one : IsLength (length key))
+module _ (stored : List (List ℕ)) (key : List ℕ) (one : IsKeySize (length key))
     (sized : length stored ≡ length key / 4 + 7) (b : fips.IsBytes key)
     (e : encrypting stored ≡ fips.key_expansion key) where
   own_size : lane_key_size stored ≡ length key
@@ -36,7 +25,7 @@ module _ (stored : List (List ℕ)) (key : List ℕ) (one : IsLength (length key
   -- round keys of a key are read as that key
   pub read_as : cipher_key stored ≡ key
   unfolding cipher_key
-  read_as = (λ j. leading_key (own_size j) (e j)) ∙ own_key (length key) key (key_size (length key) one) refl
+  read_as = (λ j. leading_key (own_size j) (e j)) ∙ own_key (length key) key one refl
 
   -- and are those of the key that they are read as
   pub is_cipher_schedule : IsCipherSchedule stored
@@ -51,7 +40,7 @@ module _ (stored : List (List ℕ)) (key : List ℕ) (one : IsLength (length key
   }
 
 -- the key that they are read as has the size that their number says
-pub stored_size : (size : ℕ) (stored : List (List ℕ)) → IsLength size
+pub stored_size : (size : ℕ) (stored : List (List ℕ)) → IsKeySize size
     → length stored ≡ size / 4 + 7 → IsCipherSchedule stored → length (cipher_key stored) ≡ size
 stored_size size stored one l s = s.sized ∙ omega (arith, one, l)
 
@@ -63,7 +52,7 @@ two_stored form same stored key e =
     omega (arith, keys_length form stored, ap length e, same (fips.key_expansion key), two_keys key)
 
 -- and so are those that stand for the expansion of a key of 16, 24 or 32 bytes
-pub is_schedule_of : (stored : List (List ℕ)) (key : List ℕ) → IsLength (length key) → fips.IsBytes key
+pub is_schedule_of : (stored : List (List ℕ)) (key : List ℕ) → IsKeySize (length key) → fips.IsBytes key
     → encrypting stored ≡ fips.key_expansion key → IsCipherSchedule stored
 is_schedule_of stored key one b e =
     is_cipher_schedule stored key one (omega (arith, keys_length cipher_form stored, ap length e, expansion_length key)) b e

@@ -4,20 +4,10 @@ ghost use Rattle.std.specs.Prelude.{◌≡◌, ◌⊎◌, ◌+◌, ◌/◌, drop
 ghost use Rattle.aes_permute.specs.Keys.{cipher_key, stored_keys, AreInverse, IsCipherSchedule};
 
 use crate::lane_keys::{expand_lanes, invert_lanes};
-use aes_cipher::aes::{KeyBytes, KeySize};
 use aes_planes::soft::word::Block;
 
 /// Room for the round keys of a key of any size: as many blocks as the largest has.
 pub type LaneRoom = [Block; 15];
-
-/// Returns how many bytes a key has.
-#[inline(always)]
-pub fn size_of_key<K: KeySize>() -> usize
-    ensures size { result ≡ K.Key.SIZE }
-    ensures one_of_three { (K.Key.SIZE ≡ 16) ⊎ ((K.Key.SIZE ≡ 24) ⊎ (K.Key.SIZE ≡ 32)) }
-{
-    K::Key::SIZE
-}
 
 /// Returns the stored round keys of a key of `size` bytes: the first of the blocks.
 #[inline(always)]

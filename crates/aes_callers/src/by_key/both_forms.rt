@@ -15,9 +15,9 @@ pub fn of_both<K: KeySize, W: Width>(
     key: &K::Key,
     block: &Block,
 ) -> (AesCipher<BothLists<K, W>, BothWays>, Block, Block)
-    ensures value { result.0 ≡ K.Key.bytes key.now }
-    ensures encrypted { result.1 ≡ fips.cipher (K.Key.bytes key.now) block.now }
-    ensures decrypted { result.2 ≡ fips.inv_cipher (K.Key.bytes key.now) block.now }
+    ensures value { result.0 ≡ K.bytes key.now }
+    ensures encrypted { result.1 ≡ fips.cipher (K.bytes key.now) block.now }
+    ensures decrypted { result.2 ≡ fips.inv_cipher (K.bytes key.now) block.now }
 {
     both_ways(key, block)
 }
@@ -27,8 +27,8 @@ pub fn of_enc<K: KeySize, W: Width>(
     key: &K::Key,
     block: &Block,
 ) -> (AesCipher<Encrypting<K, W>, Encrypt>, Block)
-    ensures value { result.0 ≡ K.Key.bytes key.now }
-    ensures encrypted { result.1 ≡ fips.cipher (K.Key.bytes key.now) block.now }
+    ensures value { result.0 ≡ K.bytes key.now }
+    ensures encrypted { result.1 ≡ fips.cipher (K.bytes key.now) block.now }
 {
     encrypting(key, block)
 }
@@ -38,8 +38,8 @@ pub fn of_dec<K: KeySize, W: Width>(
     key: &K::Key,
     block: &Block,
 ) -> (AesCipher<BothLists<K, W>, Decrypt>, Block)
-    ensures value { result.0 ≡ K.Key.bytes key.now }
-    ensures decrypted { result.1 ≡ fips.inv_cipher (K.Key.bytes key.now) block.now }
+    ensures value { result.0 ≡ K.bytes key.now }
+    ensures decrypted { result.1 ≡ fips.inv_cipher (K.bytes key.now) block.now }
 {
     decrypting(key, block)
 }

@@ -14,23 +14,23 @@ fn of_both<K: KeySize>(
     key: &K::Key,
     block: &Block,
 ) -> (AesCipher<Fixsliced<K>, BothWays>, Block, Block)
-    ensures value { result.0 ≡ K.Key.bytes key.now }
-    ensures encrypted { result.1 ≡ fips.cipher (K.Key.bytes key.now) block.now }
-    ensures decrypted { result.2 ≡ fips.inv_cipher (K.Key.bytes key.now) block.now }
+    ensures value { result.0 ≡ K.bytes key.now }
+    ensures encrypted { result.1 ≡ fips.cipher (K.bytes key.now) block.now }
+    ensures decrypted { result.2 ≡ fips.inv_cipher (K.bytes key.now) block.now }
 {
     both_ways(key, block)
 }
 
 fn of_enc<K: KeySize>(key: &K::Key, block: &Block) -> (AesCipher<Fixsliced<K>, Encrypt>, Block)
-    ensures value { result.0 ≡ K.Key.bytes key.now }
-    ensures encrypted { result.1 ≡ fips.cipher (K.Key.bytes key.now) block.now }
+    ensures value { result.0 ≡ K.bytes key.now }
+    ensures encrypted { result.1 ≡ fips.cipher (K.bytes key.now) block.now }
 {
     encrypting(key, block)
 }
 
 fn of_dec<K: KeySize>(key: &K::Key, block: &Block) -> (AesCipher<Fixsliced<K>, Decrypt>, Block)
-    ensures value { result.0 ≡ K.Key.bytes key.now }
-    ensures decrypted { result.1 ≡ fips.inv_cipher (K.Key.bytes key.now) block.now }
+    ensures value { result.0 ≡ K.bytes key.now }
+    ensures decrypted { result.1 ≡ fips.inv_cipher (K.bytes key.now) block.now }
 {
     decrypting(key, block)
 }

@@ -6,7 +6,6 @@ ghost use Rattle.aes_planes.specs.Fips197 as fips;
 
 use super::AesCipher;
 use super::direction_sets::Allows;
-use super::key_bytes::KeyBytes;
 use super::key_sizes::KeySize;
 use super::stored_keys::StoredKeys;
 use crate::cipher::{Block, Decrypt, Encrypt};
@@ -22,10 +21,11 @@ pub trait CountsLayers: StoredKeys {
     ghost layers_for: { ℕ → ℕ };
 
     /// Writes the round keys of a key to wiped room, and counts the S-box layers.
-    fn expand_counted(&mut self, new_key: &<Self::Size as KeySize>::Key, layers: &mut Layers)
+    fn expand_counted(&mut self, new_key: &[u8], layers: &mut Layers)
         requires wiped { Self.IsWiped self.old }
+        requires sized { length new_key.now ≡ Self.Size.SIZE }
         ensures keyed { Self.AreKeyed self.new }
-        ensures same { Self.key self.new ≡ Self.Size.Key.bytes new_key.now }
+        ensures same { Self.key self.new ≡ new_key.now }
         ensures layers { layers.new ≡ layers.old + SCHEDULE_LAYERS };
 
     /// Encrypts each block in place, and counts the S-box layers.
@@ -45,13 +45,14 @@ impl<S: CountsLayers, D> AesCipher<S, D> {
     /// Makes a value from a key, and counts the S-box layers of KeyExpansion (FIPS 197, 5.2): 10, 8 or 13 with a key of
     /// 16, 24 or 32 bytes.
     pub fn new_counted(key: &<S::Size as KeySize>::Key, layers: &mut Layers) -> AesCipher<S, D>
-        ensures made { result ≡ S.Size.Key.bytes key.now }
+        ensures made { result ≡ S.Size.bytes key.now }
         ensures layers { layers.new ≡ layers.old + S.SCHEDULE_LAYERS }
     {
         let mut cipher = AesCipher {
             keys: S::zeroed(),
             directions: PhantomData,
         };
+        let key = <S::Size as KeySize>::as_slice(key);
         cipher.keys.expand_counted(key, layers);
         cipher
     }

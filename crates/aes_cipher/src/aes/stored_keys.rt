@@ -4,7 +4,6 @@ ghost use Rattle.std.specs.Prelude.{◌≡◌, ℕ, List, length};
 ghost use Rattle.aes_planes.specs.Each.{Each};
 ghost use Rattle.aes_planes.specs.Fips197 as fips;
 
-use super::key_bytes::KeyBytes;
 use super::key_sizes::KeySize;
 use crate::cipher::{
     Block, BlockCipherDecClosure, BlockCipherEncClosure, Decrypt, Direction, Encrypt,
@@ -36,10 +35,11 @@ pub trait StoredKeys: Drop {
         ensures { IsWiped self.new };
 
     /// Writes the round keys of a key to wiped room: KeyExpansion (FIPS 197, 5.2).
-    fn expand_key(&mut self, new_key: &<Self::Size as KeySize>::Key)
+    fn expand_key(&mut self, new_key: &[u8])
         requires wiped { IsWiped self.old }
+        requires sized { length new_key.now ≡ Self.Size.SIZE }
         ensures keyed { AreKeyed self.new }
-        ensures same { key self.new ≡ Self.Size.Key.bytes new_key.now };
+        ensures same { key self.new ≡ new_key.now };
 
     /// Returns the same round keys once more.
     fn copy(&self) -> Self
@@ -50,7 +50,7 @@ pub trait StoredKeys: Drop {
     /// No effect; states that the key has as many bytes as its size says.
     fn has_key(&self)
         requires keyed { AreKeyed self.now }
-        ensures sized { length (key self.now) ≡ Self.Size.Key.SIZE }
+        ensures sized { length (key self.now) ≡ Self.Size.SIZE }
         ensures bytes { fips.IsBytes (key self.now) };
 }
 

@@ -7,7 +7,7 @@ ghost use Rattle.aes_soft.specs.Stored.{plane_key, stored_words, words_for, IsFu
 
 use super::ciphers::Full;
 use super::key_schedule::expand_stored;
-use aes_cipher::aes::{KeyBytes, KeySize};
+use aes_cipher::aes::KeySize;
 use aes_cipher::zeroize::Wiped;
 use aes_planes::laws;
 use aes_planes::soft::sbox::Layers;
@@ -19,36 +19,26 @@ pub type BatchWord = u128;
 /// has.
 pub type Room = [u16; 120];
 
-// Returns how many words are stored.
-#[inline(always)]
-fn count_of<K: KeySize>() -> usize
-    ensures count { result ≡ words_for K.Key.SIZE }
-    ensures one_of_three { (K.Key.SIZE ≡ 16) ⊎ ((K.Key.SIZE ≡ 24) ⊎ (K.Key.SIZE ≡ 32)) }
-{
-    2 * K::Key::SIZE + 56
-}
-
 /// Returns the stored round keys of a key: the first of the words.
 #[inline(always)]
 pub fn words_of<K: KeySize>(room: &Wiped<Room>) -> &[u16]
-    ensures words { result.now ≡ stored_words K.Key.SIZE room.now }
-    ensures count { length result.now ≡ words_for K.Key.SIZE }
+    ensures words { result.now ≡ stored_words K.SIZE room.now }
+    ensures count { length result.now ≡ words_for K.SIZE }
 {
-    &room.value()[..count_of::<K>()]
+    &room.value()[..2 * K::SIZE + 56]
 }
 
 /// Writes the round keys of a key, as the full layout stores them: KeyExpansion (FIPS 197, 5.2).
 #[inline(always)]
 pub fn expand_words<K: KeySize>(room: &mut Room, key: &[u8], layers: &mut Layers)
-    requires sized { length key.now ≡ K.Key.SIZE }
-    ensures schedule { let n = words_for K.Key.SIZE in
-        IsFullSchedule n 1 (map (word_bits 16) (stored_words K.Key.SIZE room.new)) }
-    ensures key { let n = words_for K.Key.SIZE in
-        plane_key n 1 (map (word_bits 16) (stored_words K.Key.SIZE room.new)) ≡ key.now }
-    ensures layers { layers.new ≡ layers.old + substitutions K.Key.SIZE }
+    requires sized { length key.now ≡ K.SIZE }
+    ensures schedule { let n = words_for K.SIZE in
+        IsFullSchedule n 1 (map (word_bits 16) (stored_words K.SIZE room.new)) }
+    ensures key { let n = words_for K.SIZE in
+        plane_key n 1 (map (word_bits 16) (stored_words K.SIZE room.new)) ≡ key.now }
+    ensures layers { layers.new ≡ layers.old + substitutions K.SIZE }
 {
-    let count = count_of::<K>();
-    expand_stored::<u16, Full>(&mut room[..count], key, layers);
+    expand_stored::<u16, Full>(&mut room[..2 * K::SIZE + 56], key, layers);
 }
 
 /// No effect; states that stored round keys are read as a key of bytes, whose round keys are blocks.
