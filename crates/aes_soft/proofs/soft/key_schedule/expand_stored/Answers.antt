@@ -11,7 +11,7 @@ pub returns-clause-schedule : goal.returns-clause-schedule
 returns-clause-schedule g c =
     schedule_of g.W.Word.BLOCKS (fips.rounds c.args.key.now) g.L.Layout.PERIOD c.args.key.now
     (map g.W.Word.bits c.store.new.round_keys) (omega arith) (omega (arith, c.requires.one_of_three))
-    (c.store.ensures.blocks _ c.expand.ensures.blocks)
+    (c.store.ensures.blocks _ (λ i l. c.expand.ensures.keys i (omega (arith, l))))
 
 pub returns-clause-key : goal.returns-clause-key
 returns-clause-key g c =
