@@ -4,12 +4,12 @@
 
 ghost use Rattle.std.specs.Prelude.{◌≡◌, false};
 
-mod ciphers;
 pub mod expansion;
+mod fixsliced;
 pub mod hazmat;
 mod names;
 
-pub use ciphers::{Fixsliced, FixslicedAes};
+pub use fixsliced::{Fixsliced, FixslicedAes};
 pub use names::{
     Aes128, Aes128Dec, Aes128Enc, Aes192, Aes192Dec, Aes192Enc, Aes256, Aes256Dec, Aes256Enc,
 };

@@ -1,6 +1,6 @@
 //! The names of the nine types.
 
-use crate::ciphers::FixslicedAes;
+use crate::fixsliced::FixslicedAes;
 use aes_cipher::aes::{Bits128, Bits192, Bits256, BothWays};
 use aes_cipher::cipher::{Decrypt, Encrypt};
 

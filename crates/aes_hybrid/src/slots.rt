@@ -10,7 +10,7 @@ ghost use Rattle.aes_hybrid.specs.Slots.{PlanesFitInMemory};
 
 use aes_cipher::cipher::{BatchOfEight, BatchSize};
 use aes_planes::soft::word::Word;
-use aes_soft::soft::key_sizes::BatchWord;
+use aes_soft::soft::blocks::BatchWord;
 use std::simd::prelude::*;
 
 // The bytes of a block, row by row.

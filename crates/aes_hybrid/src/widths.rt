@@ -3,7 +3,7 @@
 
 use crate::slots::SlotWord;
 use aes_permute::lanes::Lanes;
-use aes_soft::soft::key_sizes::BatchWord;
+use aes_soft::soft::blocks::BatchWord;
 use std::simd::prelude::*;
 
 /// A width of vectors and words. Callers name one of the two below; contracts are the same for both.

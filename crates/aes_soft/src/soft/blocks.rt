@@ -6,3 +6,6 @@ mod slices;
 pub use backend::{Backend, decrypt_with_backend, encrypt_with_backend};
 pub use slices::{process_batch_under, process_batches_under, process_block, process_blocks};
 pub(crate) use slices::{batch_of, put_batch};
+
+/// The word of a batch: eight of them hold as many blocks as are processed at once.
+pub type BatchWord = u128;

@@ -6,4 +6,4 @@ mod rounds;
 
 pub use layouts::{Compact, Full, Layout};
 pub use planes::PlaneCipher;
-pub(crate) use planes::{process, process_apart};
+pub(crate) use planes::{process, process_in_a_call};

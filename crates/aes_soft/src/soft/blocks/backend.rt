@@ -10,8 +10,9 @@ mod encrypt;
 mod wide;
 
 use super::slices::{process_batch_under, process_block};
+use crate::soft::blocks::BatchWord;
 use crate::soft::full::store_wide;
-use crate::soft::key_sizes::{BatchWord, reads_key};
+use crate::soft::plane_room::reads_key;
 use aes_cipher::cipher::{
     BatchOfEight, BatchSizeUser, BlockCipherDecBackend, BlockCipherEncBackend, Decrypt, Encrypt,
     RoundKeysUser,

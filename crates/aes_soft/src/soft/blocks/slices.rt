@@ -6,9 +6,9 @@ ghost use Rattle.aes_planes.specs.Words.{word_bits};
 ghost use Rattle.aes_soft.specs.Batches.{layers_for};
 ghost use Rattle.aes_soft.specs.Stored.{plane_key, rounds_of, IsFullSchedule};
 
-use crate::soft::ciphers::{Full, PlaneCipher, process, process_apart};
+use crate::soft::blocks::BatchWord;
+use crate::soft::ciphers::{Full, PlaneCipher, process, process_in_a_call};
 use crate::soft::full::store_wide_first;
-use crate::soft::key_sizes::BatchWord;
 use aes_cipher::zeroize::MustWipe;
 use aes_planes::soft::sbox::Layers;
 use aes_planes::soft::word::{Batch, Block, Word};
@@ -55,7 +55,7 @@ pub fn process_batch_under<W: Word, D: PlaneCipher>(
     let rounds = words.len() / 8 - 1;
     let input = batch_of::<W::Blocks>(blocks);
     let output = if W::Blocks::LEN == 1 {
-        process_apart::<W, Full, D>(words, rounds, &input, layers)
+        process_in_a_call::<W, Full, D>(words, rounds, &input, layers)
     } else {
         process::<W, Full, D>(words, rounds, &input, layers)
     };

@@ -133,7 +133,7 @@ pub(crate) fn process<W: Word, L: Layout, D: PlaneCipher>(
 }
 
 // The same in a call that is not inlined, which is quicker for a single block.
-pub(crate) fn process_apart<W: Word, L: Layout, D: PlaneCipher>(
+pub(crate) fn process_in_a_call<W: Word, L: Layout, D: PlaneCipher>(
     round_keys: &[W],
     rounds: usize,
     input: &W::Blocks,

@@ -5,8 +5,8 @@ ghost use Rattle.aes_planes.specs.Words.{word_bits};
 ghost use Rattle.aes_soft.specs.Stored.{plane_key, IsFullSchedule};
 
 use super::Backend;
+use crate::soft::blocks::BatchWord;
 use crate::soft::full::store_wide_first;
-use crate::soft::key_sizes::BatchWord;
 use aes_cipher::cipher::BlockCipherEncClosure;
 use aes_cipher::zeroize::MustWipe;
 

@@ -1,7 +1,7 @@
 //! Widened round keys that a backend holds: its own, or lent.
 ghost use Rattle.std.specs.Prelude.{◌≡◌, ℕ, List};
 
-use crate::soft::key_sizes::BatchWord;
+use crate::soft::blocks::BatchWord;
 use aes_cipher::zeroize::Wiped;
 
 /// What holds round keys on the words of a batch.

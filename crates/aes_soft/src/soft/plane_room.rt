@@ -1,4 +1,4 @@
-//! Keys of any size: room for their stored round keys, and the first of its words, which are the round keys.
+//! Room for the planes of stored round keys of a key of any size, and the first of its words, which are the round keys.
 ghost use Rattle.std.specs.Prelude.{◌≡◌, ◌⊎◌, ◌+◌, ◌*◌, length, map};
 ghost use Rattle.aes_planes.specs.Expansion.{substitutions};
 ghost use Rattle.aes_planes.specs.Fips197 as fips;
@@ -12,16 +12,13 @@ use aes_cipher::zeroize::Wiped;
 use aes_planes::laws;
 use aes_planes::soft::sbox::Layers;
 
-/// The word of a batch: eight of them hold as many blocks as are processed at once.
-pub type BatchWord = u128;
-
 /// Room for the round keys of a key of any size in the full layout, on words of one block: as many words as the largest
 /// has.
-pub type Room = [u16; 120];
+pub type PlaneRoom = [u16; 120];
 
 /// Returns the stored round keys of a key: the first of the words.
 #[inline(always)]
-pub fn words_of<K: KeySize>(room: &Wiped<Room>) -> &[u16]
+pub fn words_in_room<K: KeySize>(room: &Wiped<PlaneRoom>) -> &[u16]
     ensures words { result.now ≡ stored_words K.SIZE room.now }
     ensures count { length result.now ≡ words_for K.SIZE }
 {
@@ -30,7 +27,7 @@ pub fn words_of<K: KeySize>(room: &Wiped<Room>) -> &[u16]
 
 /// Writes the round keys of a key, as the full layout stores them: KeyExpansion (FIPS 197, 5.2).
 #[inline(always)]
-pub fn expand_words<K: KeySize>(room: &mut Room, key: &[u8], layers: &mut Layers)
+pub fn expand_in_room<K: KeySize>(room: &mut PlaneRoom, key: &[u8], layers: &mut Layers)
     requires sized { length key.now ≡ K.SIZE }
     ensures schedule { let n = words_for K.SIZE in
         IsFullSchedule n 1 (map (word_bits 16) (stored_words K.SIZE room.new)) }
@@ -38,6 +35,7 @@ pub fn expand_words<K: KeySize>(room: &mut Room, key: &[u8], layers: &mut Layers
         plane_key n 1 (map (word_bits 16) (stored_words K.SIZE room.new)) ≡ key.now }
     ensures layers { layers.new ≡ layers.old + substitutions K.SIZE }
 {
+    // It is cut here, since the borrow checker doesn't cover a cut of what a `Wiped` lends to be written over.
     expand_stored::<u16, Full>(&mut room[..2 * K::SIZE + 56], key, layers);
 }
 

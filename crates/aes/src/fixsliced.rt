@@ -16,7 +16,7 @@ use aes_soft::soft::PlaneCipher;
 use aes_soft::soft::blocks::{
     decrypt_with_backend, encrypt_with_backend, process_block, process_blocks,
 };
-use aes_soft::soft::key_sizes::{Room, expand_words, reads_key, words_of};
+use aes_soft::soft::plane_room::{PlaneRoom, expand_in_room, reads_key, words_in_room};
 use std::marker::PhantomData;
 
 /// AES with a key of the size K, in the directions D.
@@ -25,7 +25,7 @@ pub type FixslicedAes<K, D> = aes::AesCipher<Fixsliced<K>, D>;
 /// Stored round keys of a key of the size K. They serve both directions.
 pub struct Fixsliced<K: KeySize> {
     // The first words are the round keys, as they are stored. The others stay zero.
-    room: Wiped<Room>,
+    room: Wiped<PlaneRoom>,
     size: PhantomData<K>,
 }
 
@@ -74,7 +74,7 @@ impl<K: KeySize> StoredKeys for Fixsliced<K> {
     }
 
     fn has_key(&self) {
-        reads_key(words_of::<K>(&self.room));
+        reads_key(words_in_room::<K>(&self.room));
     }
 }
 
@@ -94,23 +94,23 @@ impl<K: KeySize> MadeFrom<Fixsliced<K>> for Fixsliced<K> {
 
 impl<K: KeySize, D: PlaneCipher> Processes<D> for Fixsliced<K> {
     fn process_one(&self, block: &mut Block) {
-        process_block::<D>(words_of::<K>(&self.room), block);
+        process_block::<D>(words_in_room::<K>(&self.room), block);
     }
 
     fn process_slice(&self, blocks: &mut [Block]) {
-        process_blocks::<D>(words_of::<K>(&self.room), blocks, &mut Layers::new());
+        process_blocks::<D>(words_in_room::<K>(&self.room), blocks, &mut Layers::new());
     }
 }
 
 impl<K: KeySize> Encrypts for Fixsliced<K> {
     fn encrypt_with_backend<F: BlockCipherEncClosure>(&self, f: &mut F) {
-        encrypt_with_backend(words_of::<K>(&self.room), f);
+        encrypt_with_backend(words_in_room::<K>(&self.room), f);
     }
 }
 
 impl<K: KeySize> Decrypts for Fixsliced<K> {
     fn decrypt_with_backend<F: BlockCipherDecClosure>(&self, f: &mut F) {
-        decrypt_with_backend(words_of::<K>(&self.room), f);
+        decrypt_with_backend(words_in_room::<K>(&self.room), f);
     }
 }
 
@@ -120,14 +120,14 @@ impl<K: KeySize> CountsLayers for Fixsliced<K> {
     ghost layers_for = { λ count. layers_for (K.SIZE / 4 + 6) count };
 
     fn expand_counted(&mut self, new_key: &[u8], layers: &mut Layers) {
-        expand_words::<K>(self.room.value_mut(), new_key, layers);
+        expand_in_room::<K>(self.room.value_mut(), new_key, layers);
     }
 
     fn encrypt_blocks_counted(&self, blocks: &mut [Block], layers: &mut Layers) {
-        process_blocks::<Encrypt>(words_of::<K>(&self.room), blocks, layers);
+        process_blocks::<Encrypt>(words_in_room::<K>(&self.room), blocks, layers);
     }
 
     fn decrypt_blocks_counted(&self, blocks: &mut [Block], layers: &mut Layers) {
-        process_blocks::<Decrypt>(words_of::<K>(&self.room), blocks, layers);
+        process_blocks::<Decrypt>(words_in_room::<K>(&self.room), blocks, layers);
     }
 }
