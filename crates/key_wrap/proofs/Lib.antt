@@ -1,2 +1,5 @@
 -- The files of lemmas.
+pub mod Headed
+pub mod Padding
 pub mod Turns
+pub mod Undone

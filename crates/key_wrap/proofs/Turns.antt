@@ -1,13 +1,13 @@
 -- Steps of W in place: the semiblocks that the standard shifts by one in each step are here those from the next one on,
 -- and then those before it.
-use Rattle.std.proofs.Common.{◌≡◌, ℕ, suc, ◌+◌, ◌-◌, ◌*◌, ◌<◌, ◌≤◌, List, [], ◌∷◌, ◌++◌, length, get_or, set, take, drop}
+use Rattle.std.proofs.Common.{◌≡◌, ℕ, suc, ◌+◌, ◌-◌, ◌<◌, List, [], ◌∷◌, ◌++◌, length, get_or, set, take, drop}
 use Rattle.std.proofs.Common.{ap, sym, ◌∙◌, arith}
 use Rattle.std.proofs.Math.Seq.{drop-cons, drop-length, take-length}
 use Rattle.std.proofs.Math.Seq.{get_or-append_seam}
-use Rattle.std.proofs.lemmas.List.{append_assoc, append-nil, drop-set, drop-set-lt, length-append, length-drop, take-append-le, take-set-le}
+use Rattle.std.proofs.lemmas.List.{append_assoc, append-nil, drop-set, drop-set-lt, length-append, take-append-le, take-set-le}
 use Rattle.std.proofs.lemmas.List.{take_all, take_more, take_more_set}
 use Rattle.aes_planes.specs.Fips197.{cipher_with, inv_cipher_with}
-use Rattle.key_wrap.specs.KeyWrap.{number_added, unwrap_step, unwrapped_from, unwrapped, wrap_step, wrapped_after}
+use Rattle.key_wrap.specs.KeyWrap.{number_added, unwrap_step, unwrapped_from, wrap_step, wrapped_after}
 
 -- the semiblocks in the order of the standard before the step with semiblock i
 abbrev pub turned : ℕ → List (List ℕ) → List (List ℕ)
@@ -23,7 +23,7 @@ left : (xs : List (List ℕ)) (i : ℕ) → i < length xs → drop i xs ≡ get_
 left xs i lt = let n : suc i ≡ i + 1 = omega arith in drop-cons xs i [] lt ∙ ap (λ n. get_or xs i [] ∷ drop n xs) n
 
 -- the inverse takes the last semiblock
-unwrap_last : (w : List (List ℕ)) (a : List ℕ) (rs : List (List ℕ)) (r : List ℕ) (t : ℕ)
+pub unwrap_last : (w : List (List ℕ)) (a : List ℕ) (rs : List (List ℕ)) (r : List ℕ) (t : ℕ)
     → let b = inv_cipher_with w (number_added a t ++ r) in
     unwrap_step w t (a ∷ (rs ++ r ∷ [])) ≡ take 8 b ∷ drop 8 b ∷ rs
 unfolding unwrap_step
@@ -79,14 +79,3 @@ module _ (w : List (List ℕ)) (a : List ℕ) (rs : List (List ℕ)) (i t : ℕ)
       ∙ ap (λ l. unwrapped_from w l t) (sym (unwrap_last w a others r (suc t)))
       ∙ ap (λ l. unwrapped_from w (a ∷ l) (suc t)) (sym before)
       ∙ ap (unwrapped_from w (a ∷ turned (i + 1) rs)) (sym n)
-
--- the first semiblock apart, and the others copied
-pub opened : (w sealed copy : List (List ℕ)) → 1 ≤ length sealed → copy ≡ take (length sealed - 1) (drop 1 sealed)
-    → unwrapped_from w (get_or sealed 0 [] ∷ copy) (6 * length copy) ≡ unwrapped w sealed
-unfolding unwrapped
-opened w sealed copy some is =
-    let rest : copy ≡ drop 1 sealed =
-    is ∙ take_all (length sealed - 1) (drop 1 sealed) (omega (arith, length-drop 1 sealed)) in
-    let n : length copy ≡ length sealed - 1 = ap length rest ∙ length-drop 1 sealed in
-    (λ j. unwrapped_from w (get_or sealed 0 [] ∷ rest j) (6 * n j))
-    ∙ ap (λ l. unwrapped_from w l (6 * (length sealed - 1))) (sym (left sealed 0 (omega arith)))

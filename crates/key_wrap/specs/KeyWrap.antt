@@ -6,6 +6,10 @@ use Rattle.std.specs.Int.{w64, to_be_bytes, from_be_bytes}
 use Rattle.std.specs.Int.Bits.{bit_xor}
 use Rattle.aes_planes.specs.Fips197 as fips
 
+-- a semiblock is eight bytes
+abbrev pub IsSemiblock : List ℕ → Type 0
+IsSemiblock half = (length half ≡ 8) × fips.IsBytes half
+
 -- a semiblock plus [t]_64
 unfoldable pub number_added : List ℕ → ℕ → List ℕ
 number_added half t = to_be_bytes w64 (bit_xor (from_be_bytes w64 half) t)

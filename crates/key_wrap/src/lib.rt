@@ -3,9 +3,12 @@
 #![tactic(auto)]
 
 mod errors;
+pub mod laws;
+mod padded;
 mod steps;
 mod wrapping;
 
 pub use errors::{InvalidCount, NotUnwrapped};
+pub use padded::{unwrap_padded, wrap_padded};
 pub use steps::Semiblock;
 pub use wrapping::{unwrap, wrap};

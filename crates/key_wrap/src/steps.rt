@@ -1,8 +1,10 @@
-//! The wrapping function W and its inverse (SP 800-38F, 6.1), in place: six turns over the semiblocks of a key.
+//! The wrapping function W and its inverse (SP 800-38F, 6.1), in place: six turns over the semiblocks of a key; and what stands
+//! for W where it has too few.
 
-ghost use Rattle.std.specs.Prelude.{◌≡◌, ◌+◌, ◌*◌, ◌^◌, ◌<◌, List, ℕ, ◌∷◌, ◌++◌, drop, length, take};
+ghost use Rattle.std.specs.Prelude.{◌≡◌, ◌+◌, ◌*◌, ◌^◌, ◌<◌, ◌≤◌, List, ℕ, ◌∷◌, ◌++◌, drop, length, take};
 ghost use Rattle.aes_planes.specs.Fips197 as fips;
 ghost use Rattle.key_wrap.specs.KeyWrap.{number_added, unwrapped_from, wrapped_after};
+ghost use Rattle.key_wrap.specs.Padded.{unwrapped_string, wrapped_string};
 
 use aes_cipher::blocks::{block_of_halves, halves_of_block};
 use aes_cipher::cipher::{BlockCipherDecrypt, BlockCipherEncrypt};
@@ -20,6 +22,18 @@ fn add_number(half: &Semiblock, number: u64) -> Semiblock
     (u64::from_be_bytes(*half) ^ number).to_be_bytes()
 }
 
+// Encrypts the block that two semiblocks form.
+fn encrypt_halves<C: BlockCipherEncrypt>(cipher: &C, first: &mut Semiblock, second: &mut Semiblock)
+    ensures first { let b = fips.cipher_with (C.round_keys cipher.now) (first.old ++ second.old) in first.new ≡ take 8 b }
+    ensures second { let b = fips.cipher_with (C.round_keys cipher.now) (first.old ++ second.old) in second.new ≡ drop 8 b }
+{
+    let mut block = block_of_halves(first, second);
+    cipher.encrypt_block(&mut block);
+    let (high, low) = halves_of_block(&block);
+    *first = high;
+    *second = low;
+}
+
 // One step of W: `half` is the semiblock whose turn it is.
 fn wrap_step<C: BlockCipherEncrypt>(
     cipher: &C,
@@ -32,11 +46,8 @@ fn wrap_step<C: BlockCipherEncrypt>(
     ensures half { let b = fips.cipher_with (C.round_keys cipher.now) (check.old ++ half.old) in
         half.new ≡ drop 8 b }
 {
-    let mut block = block_of_halves(check, half);
-    cipher.encrypt_block(&mut block);
-    let (first, second) = halves_of_block(&block);
-    *check = add_number(&first, number);
-    *half = second;
+    encrypt_halves(cipher, check, half);
+    *check = add_number(check, number);
 }
 
 // The steps of W with each semiblock once.
@@ -73,7 +84,22 @@ pub(crate) fn wrap_in_place<C: BlockCipherEncrypt>(
     }
 }
 
-// One step of the inverse of W. The block is overwritten, since half of it is a piece of the key in the last step.
+// Decrypts the block that two semiblocks form, and overwrites it: half of it can be a piece of a key.
+fn decrypt_halves<C: BlockCipherDecrypt>(cipher: &C, first: &mut Semiblock, second: &mut Semiblock)
+    ensures first { let b = fips.inv_cipher_with (C.round_keys cipher.now) (first.old ++ second.old) in
+        first.new ≡ take 8 b }
+    ensures second { let b = fips.inv_cipher_with (C.round_keys cipher.now) (first.old ++ second.old) in
+        second.new ≡ drop 8 b }
+{
+    let mut room = [block_of_halves(first, second)];
+    cipher.decrypt_block(&mut room[0]);
+    let (high, low) = halves_of_block(&room[0]);
+    *first = high;
+    *second = low;
+    zeroize_elements(&mut room);
+}
+
+// One step of the inverse of W.
 fn unwrap_step<C: BlockCipherDecrypt>(
     cipher: &C,
     check: &mut Semiblock,
@@ -85,12 +111,8 @@ fn unwrap_step<C: BlockCipherDecrypt>(
     ensures half { let b = fips.inv_cipher_with (C.round_keys cipher.now) (number_added check.old number ++ half.old)
         in half.new ≡ drop 8 b }
 {
-    let mut room = [block_of_halves(&add_number(check, number), half)];
-    cipher.decrypt_block(&mut room[0]);
-    let (first, second) = halves_of_block(&room[0]);
-    *check = first;
-    *half = second;
-    zeroize_elements(&mut room);
+    *check = add_number(check, number);
+    decrypt_halves(cipher, check, half);
 }
 
 // The steps of the inverse with each semiblock once, from the last on.
@@ -125,5 +147,39 @@ pub(crate) fn unwrap_in_place<C: BlockCipherDecrypt>(
 {
     for k in 0..6 {
         unwrap_turn(cipher, check, halves, 5 - k);
+    }
+}
+
+/// W, or for two semiblocks, which are a block, its encryption: `check` is the first, and `halves` are the others.
+pub(crate) fn wrap_string<C: BlockCipherEncrypt>(
+    cipher: &C,
+    check: &mut Semiblock,
+    halves: &mut [Semiblock],
+)
+    requires some { 1 ≤ length halves.old }
+    requires few { length halves.old < 2 ^ 54 }
+    ensures { check.new ∷ halves.new ≡ wrapped_string (C.round_keys cipher.now) (check.old ∷ halves.old) }
+{
+    if halves.len() == 1 {
+        encrypt_halves(cipher, check, &mut halves[0]);
+    } else {
+        wrap_in_place(cipher, check, halves);
+    }
+}
+
+/// The inverse of `wrap_string`.
+pub(crate) fn unwrap_string<C: BlockCipherDecrypt>(
+    cipher: &C,
+    check: &mut Semiblock,
+    halves: &mut [Semiblock],
+)
+    requires some { 1 ≤ length halves.old }
+    requires few { length halves.old < 2 ^ 54 }
+    ensures { check.new ∷ halves.new ≡ unwrapped_string (C.round_keys cipher.now) (check.old ∷ halves.old) }
+{
+    if halves.len() == 1 {
+        decrypt_halves(cipher, check, &mut halves[0]);
+    } else {
+        unwrap_in_place(cipher, check, halves);
     }
 }

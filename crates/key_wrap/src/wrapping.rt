@@ -47,6 +47,15 @@ pub fn wrap<C: BlockCipherEncrypt>(
     Ok(())
 }
 
+// Copies all semiblocks but the first to the output, and returns that one.
+pub(crate) fn copy_apart(sealed: &[Semiblock], output: &mut [Semiblock]) -> Semiblock
+    requires { length sealed.now ≡ length output.old + 1 }
+    ensures { result ∷ output.new ≡ sealed.now }
+{
+    output.copy_from_slice(&sealed[1..]);
+    sealed[0]
+}
+
 // Writes all semiblocks but the first to the output, and returns that one.
 fn unwrap_all<C: BlockCipherDecrypt>(
     cipher: &C,
@@ -58,8 +67,7 @@ fn unwrap_all<C: BlockCipherDecrypt>(
     ensures first { slice_index_or (unwrapped (C.round_keys cipher.now) sealed.now) 0 [] ≡ result }
     ensures all { result ∷ output.new ≡ unwrapped (C.round_keys cipher.now) sealed.now }
 {
-    let mut check = sealed[0];
-    output.copy_from_slice(&sealed[1..]);
+    let mut check = copy_apart(sealed, output);
     unwrap_in_place(cipher, &mut check, output);
     check
 }

@@ -1,0 +1,129 @@
+-- A key with its padding and the semiblock before it: it passes the comparisons, and the key comes out of it.
+use Rattle.std.proofs.Common.{◌≡◌, ℕ, zero, suc, ◌+◌, ◌-◌, ◌*◌, ◌^◌, ◌<◌, ◌≤◌, List, [], ◌∷◌, ◌++◌, length, get_or, take, drop}
+use Rattle.std.proofs.Common.{replicate, refl, ap, sym, inl, inr, ◌∙◌, arith}
+use Rattle.std.proofs.lemmas.Bool.{cases_lt}
+use Rattle.std.proofs.lemmas.List.{append-nil, append_assoc, drop_at, get_or-append_right, get_or-replicate, get_or_append_left}
+use Rattle.std.proofs.lemmas.List.{get_or_past, get_or_push, length-append, length-drop, length-replicate, length-take, take_all}
+use Rattle.std.proofs.lemmas.List.{take_at}
+use Rattle.std.proofs.lemmas.List.Elements.{All-cons, All-nil, All-push}
+use Rattle.std.proofs.lemmas.Nat.{from_be_bytes-to_be_bytes_4}
+use Rattle.std.proofs.Math.Seq.{take-add}
+use Rattle.std.specs.Int.{w32, w128, to_be_bytes}
+use Rattle.std.specs.List.{All, concat, slice_range}
+use Rattle.aes_planes.specs.Fips197.{IsBytes}
+use Rattle.aes_cipher.proofs.BlockNumbers.{number_block}
+use Rattle.key_wrap.specs.KeyWrap.{IsSemiblock}
+use Rattle.key_wrap.specs.Padded.{filled, headed, heading, key_in, length_in, padded, padded_check, semiblocks}
+use Rattle.key_wrap.specs.Padded.{IsPadded}
+use Rattle.key_wrap.proofs.Padding.{first_bytes, last_bytes, semiblock_is}
+
+-- ---- strings of bytes as semiblocks
+
+length-semiblocks : (s : List ℕ) (n : ℕ) → length (semiblocks s n) ≡ n
+unfolding semiblocks
+length-semiblocks s zero = refl
+length-semiblocks s (suc n) =
+    length-append (semiblocks s n) (slice_range s (8 * n) (8 * n + 8) ∷ []) ∙ omega (arith, length-semiblocks s n)
+
+concat_more : (xs : List (List ℕ)) (y : List ℕ) → concat (xs ++ y ∷ []) ≡ concat xs ++ y
+concat_more [] y = append-nil y
+concat_more (x ∷ xs) y = ap (λ l. x ++ l) (concat_more xs y) ∙ sym (append_assoc x (concat xs) y)
+
+-- joined, they are the string again
+joined : (s : List ℕ) (n : ℕ) → concat (semiblocks s n) ≡ take (8 * n) s
+unfolding semiblocks
+joined s zero = refl
+joined s (suc n) =
+    let size : 8 * n + 8 - 8 * n ≡ 8 = omega arith in
+    let more : 8 * n + 8 ≡ 8 * suc n = omega arith in
+    concat_more (semiblocks s n) (slice_range s (8 * n) (8 * n + 8))
+    ∙ (λ j. joined s n j ++ take (size j) (drop (8 * n) s)) ∙ sym (take-add (8 * n) 8 s) ∙ ap (λ m. take m s) more
+
+-- each is eight bytes
+are_semiblocks : (s : List ℕ) (n : ℕ) → IsBytes s → 8 * n ≤ length s → All IsSemiblock (semiblocks s n)
+unfolding semiblocks
+are_semiblocks s zero small fits = All-nil IsSemiblock
+are_semiblocks s (suc n) small fits =
+    let size : ℕ = 8 * n + 8 - 8 * n in
+    All-push IsSemiblock (semiblocks s n) (slice_range s (8 * n) (8 * n + 8)) (are_semiblocks s n small (omega (arith, fits))) (
+      omega (arith, length-take size (drop (8 * n) s), length-drop (8 * n) s, fits),
+      first_bytes size (drop (8 * n) s) (last_bytes (8 * n) s small),
+    )
+
+-- ---- a padded key
+
+joined_bytes : (a b : List ℕ) → IsBytes a → IsBytes b → IsBytes (a ++ b)
+joined_bytes a b of_a of_b i = elim (cases_lt i (length a)) as (λ _. get_or (a ++ b) i 0 < 2 ^ 8) [
+  | inl lt ↦ omega (arith, get_or_append_left a b 0 i lt, of_a i)
+  | inr le ↦ omega (arith, get_or-append_right a b (length a) i 0 refl le, of_b (i - length a))
+]
+
+zeros_are_bytes : (n : ℕ) → IsBytes (replicate n 0)
+zeros_are_bytes n i = elim (cases_lt i n) as (λ _. get_or (replicate n 0) i 0 < 2 ^ 8) [
+  | inl lt ↦ omega (arith, get_or-replicate {A = ℕ} n i 0 0 lt)
+  | inr le ↦ omega (arith, get_or_past {X = ℕ} (replicate n 0) i 0 (omega (arith, le, length-replicate {A = ℕ} n 0)))
+]
+
+length-padded : (key : List ℕ) → length (padded key) ≡ 8 * filled (length key)
+unfolding padded filled
+length-padded key =
+    let n : ℕ = 8 * filled (length key) - length key in
+    length-append key (replicate n 0) ∙ omega (arith, length-replicate {A = ℕ} n 0)
+
+pub headed_length : (key : List ℕ) → length (headed key) ≡ filled (length key) + 1
+unfolding headed
+headed_length key = omega (arith, length-semiblocks (padded key) (filled (length key)))
+
+heading_semiblock : (bytes : ℕ) → IsSemiblock (heading bytes)
+unfolding heading
+heading_semiblock bytes = (
+  refl,
+  joined_bytes padded_check (to_be_bytes w32 bytes)
+      (last_bytes 12 (to_be_bytes w128 0xa65959a6) (number_block 0xa65959a6).1)
+      (last_bytes 12 (to_be_bytes w128 bytes) (number_block bytes).1),
+)
+
+pub headed_semiblocks : (key : List ℕ) → IsBytes key → All IsSemiblock (headed key)
+unfolding headed heading padded
+headed_semiblocks key small =
+    let n : ℕ = filled (length key) in
+    All-cons IsSemiblock (heading (length key)) (semiblocks (padded key) n)
+    (heading_semiblock (length key))
+    (are_semiblocks (padded key) n (joined_bytes key _ small (zeros_are_bytes (8 * n - length key)))
+    (omega (arith, length-padded key)))
+
+last_semiblock : (s : List ℕ) (n k : ℕ) → n ≡ suc k → get_or (semiblocks s n) k [] ≡ slice_range s (8 * k) (8 * k + 8)
+unfolding semiblocks
+last_semiblock s n k is =
+    ap (λ m. get_or (semiblocks s m) k []) is
+    ∙ get_or_push (semiblocks s k) (slice_range s (8 * k) (8 * k + 8)) [] k (length-semiblocks s k)
+
+pub headed_found : (key : List ℕ) → 1 ≤ length key → length key < 2 ^ 32
+    → IsPadded (headed key) × (key_in (headed key) ≡ key)
+unfolding headed heading length_in key_in filled padded
+headed_found key some few =
+    let s : List (List ℕ) = headed key in
+    let n : ℕ = filled (length key) in
+    let k : ℕ = n - 1 in
+    let z : ℕ = 8 * k + 8 - length key in
+    let plen : length_in s ≡ length key = from_be_bytes-to_be_bytes_4 (length key) few in
+    let count : length s - 1 ≡ n = omega (arith, headed_length key) in
+    let at : length s - 1 ≡ suc k = omega (arith, headed_length key, some) in
+    let padding : 8 * (length s - 1) - length_in s ≡ z = omega (arith, count, plen, some) in
+    let front : List ℕ = take 8 (drop (8 * k) key) in
+    let last : get_or s (length s - 1) [] ≡ front ++ replicate z 0 =
+    ap (λ m. get_or s m []) at ∙ last_semiblock (padded key) n k (omega (arith, some))
+    ∙ sym (semiblock_is key k (omega (arith, some))) in
+    let zeros : List ℕ = replicate (8 * n - length key) 0 in (
+      record {
+        check = refl;
+        least = omega (arith, count, plen);
+        most = omega (arith, count, plen);
+        zeros = (λ j. drop (8 - padding j) (last j))
+            ∙ drop_at front (replicate z 0) (8 - z) (omega (arith, length-take 8 (drop (8 * k) key), length-drop (8 * k) key, some))
+            ∙ ap (λ m. replicate m 0) (sym padding);
+      },
+      (λ j. take (plen j)
+          ((joined (padded key) n ∙ take_all (8 * n) (padded key) (omega (arith, length-padded key))) j))
+          ∙ take_at key zeros (length key) refl,
+    )

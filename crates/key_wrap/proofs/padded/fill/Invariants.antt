@@ -1,0 +1,10 @@
+-- What holds in the loop of `padded::fill`.
+use Rattle.std.proofs.Common.{◌≡◌, length, take}
+use Rattle.key_wrap.specs.Padded.{padded, semiblocks}
+use Rattle.key_wrap.proofs.padded.fill.Given as goal
+
+abbrev pub invariant-loop-i : goal.invariant-loop-i
+invariant-loop-i l = record {
+  sized : length l.halves ≡ length l.fn.halves;
+  filled : take l.i l.halves ≡ semiblocks (padded l.key) l.i;
+}

@@ -1,0 +1,22 @@
+-- What is left to show of `steps::unwrap_string`.
+use Rattle.std.proofs.Common.{◌∷◌, ◌∙◌, arith, length}
+use Rattle.aes_planes.specs.Fips197.{inv_cipher_with}
+use Rattle.key_wrap.specs.KeyWrap.{unwrapped_from}
+use Rattle.key_wrap.specs.Padded.{unwrapped_string}
+use Rattle.key_wrap.proofs.Padding.{as_block, as_steps}
+use Rattle.key_wrap.proofs.steps.unwrap_string.Goals as goal
+
+pub returns-then-halves-eq1 : goal.returns-then-halves-eq1
+unfolding unwrapped_string
+returns-then-halves-eq1 g c =
+    let w = g.C.RoundKeysUser.round_keys c.args.cipher.now in
+    as_block (inv_cipher_with w) (unwrapped_from w) c.args.check.now c.args.halves.now c.decrypt_halves.new.first c.decrypt_halves.new.second
+    c.if-halves-eq1.true c.decrypt_halves.ensures.first c.decrypt_halves.ensures.second
+
+pub returns-else-halves-eq1 : goal.returns-else-halves-eq1
+unfolding unwrapped_string
+returns-else-halves-eq1 g c =
+    let w = g.C.RoundKeysUser.round_keys c.args.cipher.now in
+    c.unwrap_in_place.ensures
+    ∙ as_steps (inv_cipher_with w) (unwrapped_from w) (c.args.check.now ∷ c.args.halves.now) (length c.args.halves.now) (omega arith)
+    (λ two. c.if-halves-eq1.false (omega (arith, two)))

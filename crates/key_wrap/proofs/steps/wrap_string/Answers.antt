@@ -1,0 +1,22 @@
+-- What is left to show of `steps::wrap_string`.
+use Rattle.std.proofs.Common.{◌∷◌, ◌∙◌, arith, length}
+use Rattle.aes_planes.specs.Fips197.{cipher_with}
+use Rattle.key_wrap.specs.KeyWrap.{wrapped_after}
+use Rattle.key_wrap.specs.Padded.{wrapped_string}
+use Rattle.key_wrap.proofs.Padding.{as_block, as_steps}
+use Rattle.key_wrap.proofs.steps.wrap_string.Goals as goal
+
+pub returns-then-halves-eq1 : goal.returns-then-halves-eq1
+unfolding wrapped_string
+returns-then-halves-eq1 g c =
+    let w = g.C.RoundKeysUser.round_keys c.args.cipher.now in
+    as_block (cipher_with w) (wrapped_after w) c.args.check.now c.args.halves.now c.encrypt_halves.new.first c.encrypt_halves.new.second
+    c.if-halves-eq1.true c.encrypt_halves.ensures.first c.encrypt_halves.ensures.second
+
+pub returns-else-halves-eq1 : goal.returns-else-halves-eq1
+unfolding wrapped_string
+returns-else-halves-eq1 g c =
+    let w = g.C.RoundKeysUser.round_keys c.args.cipher.now in
+    c.wrap_in_place.ensures
+    ∙ as_steps (cipher_with w) (wrapped_after w) (c.args.check.now ∷ c.args.halves.now) (length c.args.halves.now) (omega arith)
+    (λ two. c.if-halves-eq1.false (omega (arith, two)))

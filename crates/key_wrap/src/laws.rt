@@ -1,0 +1,32 @@
+//! Laws of key wrap. A call has no effect; its contract states the law, for proofs that need it.
+
+ghost use Rattle.std.specs.Prelude.{◌≡◌, ℕ, List, ◌∷◌, ◌+◌, ◌^◌, ◌<◌, ◌≤◌, length};
+ghost use Rattle.std.specs.List.{All};
+ghost use Rattle.aes_planes.specs.Fips197 as fips;
+ghost use Rattle.key_wrap.specs.KeyWrap.{integrity_check, unwrapped, wrapped, IsSemiblock};
+ghost use Rattle.key_wrap.specs.Padded.{headed, key_in, unwrapped_string, wrapped_padded, IsPadded};
+
+use aes_cipher::blocks::halves_and_blocks;
+use aes_planes::laws;
+
+/// No effect; states that unwrapping undoes wrapping, under round keys of the standard: the key comes back, and the
+/// semiblock before it is the integrity check (KW, 6.2).
+pub fn wrapping_undone()
+    ensures { (w key : List (List ℕ)) → fips.AreRoundKeys w → All IsSemiblock key → 1 ≤ length key →
+        length key < 2 ^ 54 → unwrapped w (wrapped w key) ≡ integrity_check ∷ key }
+{
+    laws::inverse_ciphers_with();
+    laws::sums_of_blocks();
+    halves_and_blocks();
+}
+
+/// No effect; states that unwrapping undoes wrapping with padding, under round keys of the standard: no key is refused, and
+/// each comes back (KWP, 6.3).
+pub fn padding_undone()
+    ensures { (w : List (List ℕ)) (key : List ℕ) → fips.AreRoundKeys w → fips.IsBytes key → 1 ≤ length key →
+        length key < 2 ^ 32 → let s = unwrapped_string w (wrapped_padded w key) in IsPadded s × (key_in s ≡ key) }
+{
+    laws::inverse_ciphers_with();
+    laws::sums_of_blocks();
+    halves_and_blocks();
+}

@@ -1,0 +1,167 @@
+//! Keys of any number of bytes, wrapped with padding (KWP, SP 800-38F, 6.3; RFC 5649), and unwrapped.
+
+ghost use Rattle.std.specs.Prelude.{◌≡◌, ◌↔◌, ◌+◌, ◌-◌, ◌*◌, ◌^◌, ◌<◌, ◌≤◌, ◌∷◌, ◌++◌, [], drop, length, replicate, take};
+ghost use Rattle.std.specs.Prelude.{IfOk, IsErrOf, IsOk, IsTrue, OnErr, OnOk};
+ghost use Rattle.std.specs.Int.{w32, from_be_bytes};
+ghost use Rattle.key_wrap.specs.Padded.{filled, heading, padded, padded_check, semiblocks, unwrapped_string};
+ghost use Rattle.key_wrap.specs.Padded.{wrapped_padded, FitPadded, FitUnpadded, IsPadded};
+
+use crate::errors::{InvalidCount, NotUnwrapped};
+use crate::steps::{Semiblock, unwrap_string, wrap_string};
+use crate::wrapping::copy_apart;
+use aes_cipher::cipher::{BlockCipherDecrypt, BlockCipherEncrypt};
+
+// The first half of the first semiblock of what is wrapped.
+const PADDED_CHECK: u32 = 0xa65959a6;
+
+// The most semiblocks that a key fills.
+const MOST_FILLED: u64 = 1 << 29;
+
+/// Pads and wraps a key of one byte or more (KWP-AE): `output` has one semiblock more than the key fills.
+///
+/// # Errors
+///
+/// `InvalidCount` exactly if the key is empty or has 2^32 bytes or more, or the output is of another length than one
+/// semiblock more than the key fills; it is then unchanged.
+#[tactic(auto, unfolding(crate::specs::Padded::filled))]
+pub fn wrap_padded<C: BlockCipherEncrypt>(
+    cipher: &C,
+    key: &[u8],
+    output: &mut [Semiblock],
+) -> Result<(), InvalidCount>
+    ensures done { IsOk result ↔ FitPadded (length key.now) (length output.old) }
+    ensures wrapped { OnOk result (output.new ≡ wrapped_padded (C.round_keys cipher.now) key.now) }
+    ensures untouched { OnErr result (output.new ≡ output.old) }
+{
+    if !fits(key.len(), output.len()) {
+        return Err(InvalidCount);
+    }
+    if let Some((check, halves)) = output.split_first_mut() {
+        *check = heading_of(key.len() as u32);
+        fill(key, halves);
+        wrap_string(cipher, check, halves);
+    }
+    Ok(())
+}
+
+// Whether a key of so many bytes becomes so many semiblocks.
+#[tactic(auto, unfolding(crate::specs::Padded::filled))]
+fn fits(bytes: usize, count: usize) -> bool
+    ensures { IsTrue result ↔ FitPadded bytes count }
+{
+    if bytes == 0 || bytes as u64 > u32::MAX as u64 {
+        return false;
+    }
+    count == bytes.div_ceil(8) + 1
+}
+
+// The first semiblock for a key of so many bytes.
+#[tactic(auto, unfolding(crate::specs::Padded::heading))]
+fn heading_of(bytes: u32) -> Semiblock
+    ensures { result ≡ heading bytes }
+{
+    let [a, b, c, d] = PADDED_CHECK.to_be_bytes();
+    let [e, f, g, h] = bytes.to_be_bytes();
+    [a, b, c, d, e, f, g, h]
+}
+
+// Writes a key to the semiblocks that it fills, with zeros after it.
+fn fill(key: &[u8], halves: &mut [Semiblock])
+    requires { length halves.old ≡ filled (length key.now) }
+    ensures { halves.new ≡ semiblocks (padded key.now) (filled (length key.now)) }
+{
+    for i in 0..halves.len() {
+        halves[i] = semiblock_at(key, 8 * i);
+    }
+}
+
+// The eight bytes from a place on, with zeros for those that aren't there.
+fn semiblock_at(bytes: &[u8], start: usize) -> Semiblock
+    requires { start < length bytes.now }
+    ensures { result ≡ take 8 (drop start bytes.now) ++ replicate (start + 8 - length bytes.now) 0 }
+{
+    let rest = &bytes[start..];
+    let count = rest.len().min(8);
+    let mut half = [0; 8];
+    half[..count].copy_from_slice(&rest[..count]);
+    half
+}
+
+/// Unwraps a key that was wrapped with padding (KWP-AD): `output` has one semiblock less than `sealed`. Returns how many
+/// bytes the key has, the first ones of the output; zeros follow. It branches on lengths, and once on whether all that
+/// it compares is right.
+///
+/// # Errors
+///
+/// `InvalidCount` exactly if no key becomes so many semiblocks, or the output is of another length; it is then unchanged.
+/// Else `Refused` exactly if the key was not wrapped with padding under this cipher's; the output is then zeros.
+pub fn unwrap_padded<C: BlockCipherDecrypt>(
+    cipher: &C,
+    sealed: &[Semiblock],
+    output: &mut [Semiblock],
+) -> Result<u32, NotUnwrapped>
+    ensures invalid { IsErrOf result NotUnwrapped.InvalidCount ↔ ¬ FitUnpadded (length output.old) (length sealed.now) }
+    ensures done { IsOk result ↔ FitUnpadded (length output.old) (length sealed.now)
+        × IsPadded (unwrapped_string (C.round_keys cipher.now) sealed.now) }
+    ensures key { IfOk result (λ bytes.
+        heading bytes ∷ output.new ≡ unwrapped_string (C.round_keys cipher.now) sealed.now) }
+    ensures untouched { IsErrOf result NotUnwrapped.InvalidCount → output.new ≡ output.old }
+    ensures zeros { IsErrOf result NotUnwrapped.Refused → output.new ≡ replicate (length output.old) (replicate 8 0) }
+{
+    let count = output.len() as u64;
+    if count == 0 || count > MOST_FILLED || sealed.len() != output.len() + 1 {
+        return Err(NotUnwrapped::InvalidCount);
+    }
+    let mut check = copy_apart(sealed, output);
+    unwrap_string(cipher, &mut check, output);
+    if !is_padded(&check, output) {
+        output.fill([0; 8]);
+        return Err(NotUnwrapped::Refused);
+    }
+    Ok(length_in(&check))
+}
+
+// Whether the semiblocks are those of a key with its padding, `check` the first of them. It looks at all that it compares
+// before it answers: what is wrong is put together, and nothing is if that is 0.
+fn is_padded(check: &Semiblock, halves: &[Semiblock]) -> bool
+    requires some { 1 ≤ length halves.now }
+    requires few { length halves.now ≤ 2 ^ 29 }
+    ensures { IsTrue result ↔ IsPadded (check.now ∷ halves.now) }
+{
+    let (first, bytes) = numbers_of(check);
+    let last = halves[halves.len() - 1];
+    let padding = (8 * halves.len() as u64).wrapping_sub(bytes as u64);
+    let wrong = first.wrapping_sub(PADDED_CHECK) as u64
+        | padding >> 3
+        | low_bytes(&last, padding & 7);
+    wrong == 0
+}
+
+// How many bytes a key has, of the first semiblock.
+fn length_in(check: &Semiblock) -> u32
+    requires { take 4 check.now ≡ padded_check }
+    ensures { heading result ≡ check.now }
+{
+    let (_, bytes) = numbers_of(check);
+    bytes
+}
+
+// The two numbers that a semiblock writes.
+fn numbers_of(half: &Semiblock) -> (u32, u32)
+    ensures first { result.0 ≡ from_be_bytes w32 (take 4 half.now) }
+    ensures second { result.1 ≡ from_be_bytes w32 (drop 4 half.now) }
+{
+    let mut first = [0; 4];
+    let mut second = [0; 4];
+    first.copy_from_slice(&half[..4]);
+    second.copy_from_slice(&half[4..]);
+    (u32::from_be_bytes(first), u32::from_be_bytes(second))
+}
+
+// The number that the last `count` bytes of a semiblock write.
+fn low_bytes(half: &Semiblock, count: u64) -> u64
+    requires { count < 8 }
+    ensures { (result ≡ 0) ↔ (drop (8 - count) half.now ≡ replicate count 0) }
+{
+    u64::from_be_bytes(*half) & ((1 << (8 * count)) - 1)
+}
