@@ -129,11 +129,10 @@ fn is_padded(check: &Semiblock, halves: &[Semiblock]) -> bool
     ensures { IsTrue result ↔ IsPadded (check.now ∷ halves.now) }
 {
     let (first, bytes) = numbers_of(check);
-    let last = halves[halves.len() - 1];
     let padding = (8 * halves.len() as u64).wrapping_sub(bytes as u64);
     let wrong = first.wrapping_sub(PADDED_CHECK) as u64
         | padding >> 3
-        | low_bytes(&last, padding & 7);
+        | low_bytes(&halves[halves.len() - 1], padding & 7);
     wrong == 0
 }
 
