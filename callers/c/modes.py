@@ -1,5 +1,5 @@
 #!/usr/bin/env python3
-"""NIST's vectors of CBC and of key wrap (KW) on the library's calls, through ctypes.
+"""NIST's vectors of CBC and of key wrap (KW and KWP) on the library's calls, through ctypes.
 usage: modes.py LIBRARY.so [FOLDER]    (FOLDER: cryptography_vectors, of Debian's package python3-cryptography-vectors)
 The last line is 'N passed, N failed'."""
 import ctypes
@@ -78,13 +78,27 @@ def kw(record):
     count("KW", wrapped(library.fotsgure_aes_wrap, aes, data(record, "P"), len(sealed)) == (DONE, sealed))
 
 
+def kwp(record):
+    aes, sealed, key = prepared(data(record, "K")), data(record, "C"), data(record, "P")
+    size, length = len(sealed) - 8, ctypes.c_size_t(7)
+    answer = wrapped(lambda *given: library.fotsgure_aes_unwrap_padded(*given, ctypes.byref(length)), aes, sealed, size)
+    if "FAIL" in record:
+        count("KWP, refused", answer == (REFUSED, bytes(size)) and length.value == 0)
+        return
+    count("KWP, unwrapped", answer == (DONE, key.ljust(size, b"\0")) and length.value == len(key))
+    output = ctypes.create_string_buffer(b"\xff" * len(sealed), len(sealed))
+    status = library.fotsgure_aes_wrap_padded(aes, key, ctypes.c_size_t(len(key)), output, ctypes.c_size_t(len(sealed) // 8))
+    count("KWP", (status, output.raw) == (DONE, sealed))
+
+
 for path in sorted((FOLDER / "ciphers/AES/CBC").glob("*.rsp")):
     for record in records(path):
         cbc(record)
-for path in sorted((FOLDER / "keywrap/kwtestvectors").glob("KW_A*.txt")):
-    if not path.stem.endswith("_inv"):
-        for record in records(path):
-            kw(record)
+for call, names in ((kw, "KW_A*.txt"), (kwp, "KWP_A*.txt")):
+    for path in sorted((FOLDER / "keywrap/kwtestvectors").glob(names)):
+        if not path.stem.endswith("_inv"):
+            for record in records(path):
+                call(record)
 for what, (right, wrong) in counts.items():
     print(f"{what}: {right} passed, {wrong} failed")
 passed, failed = (sum(pair[k] for pair in counts.values()) for k in (0, 1))

@@ -74,6 +74,18 @@ static const struct { size_t size, bytes; const char *wrapped; } wrap_rows[] = {
     {32, 32, "28c9f404c4b810f4cbccb35cfb87f8263f5786e2d80ed326cbc7f0e71a99f43bfb988b9b7a02dd21"},
 };
 
+/* RFC 5649, 6, and rows of NIST's KWP_AE. */
+static const struct { const char *key, *data, *wrapped; } padded_rows[] = {
+    {"5840df6e29b02af1ab493b705bf16ea1ae8338f4dcc176a8", "c37b7e6492584340bed12207808941155068f738",
+        "138bdeaa9b8fa7fc61f97742e72248ee5ae6ae5360d1ae6a5f54f373fa543b6a"},
+    {"5840df6e29b02af1ab493b705bf16ea1ae8338f4dcc176a8", "466f7250617369", "afbeb0f07dfbf5419200f2ccb50bb24f"},
+    {"be96dc195ec034d616486ed70e97fe83", "85b5437b6335ebba7635903a4493d12a77d9357a9e0dbc013456d85f1d3201",
+        "974769b3a7b4d5d32985f87fddf9990631e5610fbfb278387b58b1f48e05c77d2fb7575c5169eb0e"},
+    {"95da2700ca6fd9a52554ee2a8df1386f5b94a1a60ed8a4aef60a8d61ab5f225a", "d1", "06ba7ae6f3248cfdcf267507fa001bc4"},
+    {"3517f0efa7f0c4d74f91af83ece5e7503bcc5ab82907a6e4b7ed34d87b69ab1d", "897e0456b289ad31",
+        "0b06a9b635d50cda9d4210cb3a71f990"},
+};
+
 static uint8_t counted[33];
 
 static void fill(uint8_t *bytes, size_t count, uint32_t state)
@@ -254,12 +266,71 @@ static void wrapped_keys(size_t row)
         !memcmp(output, data, 32), "wrong counts, nothing written", bytes);
 }
 
+static void padded_keys(size_t row)
+{
+    uint8_t key[32], data[40] = {0}, sealed[40], output[40], zeros[40] = {0};
+    size_t size = strlen(padded_rows[row].key) / 2, bytes = strlen(padded_rows[row].data) / 2, length = 7;
+    size_t count = (bytes + 7) / 8;
+    struct fotsgure_aes aes;
+    int refused = 1;
+    from_hex(key, padded_rows[row].key);
+    from_hex(data, padded_rows[row].data);
+    from_hex(sealed, padded_rows[row].wrapped);
+    expect(fotsgure_aes_set_key(&aes, key, size) == FOTSGURE_AES_DONE, "a key is kept", size);
+    expect(fotsgure_aes_wrap_padded(&aes, data, bytes, output, count + 1) == FOTSGURE_AES_DONE &&
+        !memcmp(output, sealed, 8 * count + 8), "KWP, wrapped", bytes);
+    expect(fotsgure_aes_unwrap_padded(&aes, sealed, count + 1, output, count, &length) == FOTSGURE_AES_DONE &&
+        length == bytes && !memcmp(output, data, 8 * count), "KWP, unwrapped", bytes);
+    for (size_t i = 0; i < 8 * count + 8; i++) {
+        sealed[i] ^= 1;
+        length = 7;
+        memset(output, 0xff, sizeof output);
+        refused &= fotsgure_aes_unwrap_padded(&aes, sealed, count + 1, output, count, &length) == FOTSGURE_AES_REFUSED;
+        refused &= length == 0 && !memcmp(output, zeros, 8 * count);
+        sealed[i] ^= 1;
+    }
+    expect(refused, "a padded key that was changed is refused, and the output is zeros", bytes);
+    memcpy(output, sealed, 40);
+    expect(fotsgure_aes_wrap_padded(&aes, data, 0, output, 1) == FOTSGURE_AES_INVALID_COUNT &&
+        fotsgure_aes_wrap_padded(&aes, data, 9, output, 2) == FOTSGURE_AES_INVALID_COUNT &&
+        fotsgure_aes_wrap_padded(&aes, data, 8, output, 3) == FOTSGURE_AES_INVALID_COUNT &&
+        fotsgure_aes_unwrap_padded(&aes, sealed, 1, output, 0, &length) == FOTSGURE_AES_INVALID_COUNT &&
+        fotsgure_aes_unwrap_padded(&aes, sealed, 3, output, 3, &length) == FOTSGURE_AES_INVALID_COUNT &&
+        length == 0 && !memcmp(output, sealed, 40), "wrong counts, nothing written", bytes);
+}
+
+/* Blocks with each length and with padding that isn't zeros, encrypted: what KWP refuses of them, and what it takes. */
+static void paddings(void)
+{
+    uint8_t block[16], output[8];
+    struct fotsgure_aes aes;
+    int right = 1;
+    expect(fotsgure_aes_set_key(&aes, counted, 16) == FOTSGURE_AES_DONE, "a key is kept", 16);
+    for (size_t bytes = 0; bytes < 300; bytes++) {
+        for (size_t filled = 0; filled <= 8; filled++) {
+            size_t length = 7;
+            int taken = bytes >= 1 && bytes <= 8 && filled <= bytes;
+            memcpy(block, "\xa6\x59\x59\xa6", 4);
+            for (size_t i = 0; i < 4; i++)
+                block[4 + i] = (uint8_t)(bytes >> (24 - 8 * i));
+            memset(block + 8, 0, 8);
+            memset(block + 8, 5, filled);
+            right &= fotsgure_aes_encrypt_blocks(&aes, block, 1) == FOTSGURE_AES_DONE;
+            right &= fotsgure_aes_unwrap_padded(&aes, block, 2, output, 1, &length) ==
+                (taken ? FOTSGURE_AES_DONE : FOTSGURE_AES_REFUSED);
+            right &= length == (taken ? bytes : 0) && output[0] == (taken && filled > 0 ? 5 : 0);
+        }
+    }
+    expect(right, "lengths and paddings of KWP", 16);
+}
+
 static void statuses(void)
 {
     uint8_t text[48], bytes[48];
     struct fotsgure_aes aes, zeros = {0, {0}}, before;
     struct fotsgure_aes_ctr ctr = {{0}, 5};
     struct fotsgure_aes_cbc cbc = {{7}};
+    size_t length = 7;
     int refused = 1, kept = 1;
     fill(text, sizeof text, 7);
     memcpy(bytes, text, sizeof text);
@@ -293,6 +364,8 @@ static void statuses(void)
                fotsgure_aes_cbc_decrypt(&aes, &cbc, bytes, 3) == FOTSGURE_AES_NO_KEY && cbc.previous[0] == 7 &&
                fotsgure_aes_wrap(&aes, counted, 2, bytes, 3) == FOTSGURE_AES_NO_KEY &&
                fotsgure_aes_unwrap(&aes, counted, 3, bytes, 2) == FOTSGURE_AES_NO_KEY &&
+               fotsgure_aes_wrap_padded(&aes, counted, 9, bytes, 3) == FOTSGURE_AES_NO_KEY &&
+               fotsgure_aes_unwrap_padded(&aes, counted, 3, bytes, 2, &length) == FOTSGURE_AES_NO_KEY && length == 0 &&
                fotsgure_aes_encrypt_blocks(&aes, NULL, 0) == FOTSGURE_AES_NO_KEY &&
                    !memcmp(bytes, text, sizeof text) && ctr.position == 5,
                "no key, nothing written", (size_t)wiped);
@@ -311,6 +384,8 @@ static void statuses(void)
            fotsgure_aes_cbc_decrypt(&aes, &cbc, NULL, 0) == FOTSGURE_AES_DONE && cbc.previous[0] == 7 &&
            fotsgure_aes_wrap(&aes, NULL, 0, NULL, 0) == FOTSGURE_AES_INVALID_COUNT &&
            fotsgure_aes_unwrap(&aes, NULL, 0, NULL, 0) == FOTSGURE_AES_INVALID_COUNT &&
+           fotsgure_aes_wrap_padded(&aes, NULL, 0, NULL, 0) == FOTSGURE_AES_INVALID_COUNT &&
+           fotsgure_aes_unwrap_padded(&aes, NULL, 0, NULL, 0, &length) == FOTSGURE_AES_INVALID_COUNT &&
            fotsgure_aes_add_keystream_to(&aes, &ctr, NULL, 0, NULL, 0) == FOTSGURE_AES_DONE &&
            fotsgure_aes_encrypt_blocks_with(counted, 16, NULL, 0) == FOTSGURE_AES_DONE &&
            fotsgure_aes_decrypt_blocks_with(NULL, 0, NULL, 0) == FOTSGURE_AES_KEY_LENGTH &&
@@ -390,6 +465,9 @@ int main(void)
     }
     for (size_t i = 0; i < sizeof wrap_rows / sizeof *wrap_rows; i++)
         wrapped_keys(i);
+    for (size_t i = 0; i < sizeof padded_rows / sizeof *padded_rows; i++)
+        padded_keys(i);
+    paddings();
     statuses();
     printf("%d passed, %d failed\n", passed, failed);
     return failed != 0;

@@ -1,5 +1,5 @@
-/* AES (FIPS 197) with keys of 16, 24 and 32 bytes, counter mode and CBC (SP 800-38A, 6.5 and 6.2), and key wrap
- * (SP 800-38F, 6.2), proved.
+/* AES (FIPS 197) with keys of 16, 24 and 32 bytes, counter mode and CBC (SP 800-38A, 6.5 and 6.2), and key wrap without
+ * and with padding (SP 800-38F, 6.2 and 6.3), proved.
  *
  * The comment of a call is its contract in words. The proof covers every call that meets the conditions below; nothing
  * checks a call from C.
@@ -24,9 +24,9 @@
  * In return, no call allocates, prints, aborts, blocks, or keeps a pointer; the library has no state of its own, but for
  * one word by which a static library on x86-64 keeps which of its builds the processor runs; every call returns, and
  * writes nothing but what it says. A call that doesn't return FOTSGURE_AES_DONE has changed nothing;
- * fotsgure_aes_set_key is an exception, and fotsgure_aes_unwrap, which then leaves zeros. What a call returns depends on
- * lengths and positions alone, never on the bytes of a key or of data; only fotsgure_aes_unwrap says whether a wrapped
- * key was right.
+ * fotsgure_aes_set_key is an exception, and so are fotsgure_aes_unwrap and fotsgure_aes_unwrap_padded, which leave zeros.
+ * What a call returns depends on lengths and positions alone, never on the bytes of a key or of data; only those two say
+ * whether a wrapped key was right.
  *
  * Of this it is proved what calls return and write, that they return, and that the calls that are given a key wipe the
  * schedule that they keep. Read in the code and measured is that they keep no other copy of it, that no call
@@ -178,6 +178,22 @@ FOTSGURE_AES_CHECK enum fotsgure_aes_status fotsgure_aes_unwrap(const struct fot
     const uint8_t *input, size_t input_count,
     uint8_t *FOTSGURE_AES_ALONE output, size_t output_count) FOTSGURE_AES_NOEXCEPT;
 
+/* Key wrap with padding (KWP, SP 800-38F, 6.3; RFC 5649) from one buffer to another, of keys of any number of bytes. The
+ * key has input_length bytes, at least one and below 2^32; what is wrapped has one semiblock more than the key fills,
+ * (input_length + 7) / 8 + 1.
+ * NO_KEY; INVALID_COUNT if keys of so many bytes are not wrapped, or the output is of another length; else DONE. */
+FOTSGURE_AES_CHECK enum fotsgure_aes_status fotsgure_aes_wrap_padded(const struct fotsgure_aes *aes,
+    const uint8_t *input, size_t input_length,
+    uint8_t *FOTSGURE_AES_ALONE output, size_t output_count) FOTSGURE_AES_NOEXCEPT;
+/* And back: both counts are in semiblocks, and the output has one less. Afterwards *key_length is how many bytes the key
+ * has: the first ones of the output, which zeros follow.
+ * NO_KEY; INVALID_COUNT if no key becomes so many semiblocks, or the output isn't one shorter; REFUSED, and the output then
+ * is all zeros; else DONE. In all cases but DONE *key_length is 0. */
+FOTSGURE_AES_CHECK enum fotsgure_aes_status fotsgure_aes_unwrap_padded(const struct fotsgure_aes *aes,
+    const uint8_t *input, size_t input_count,
+    uint8_t *FOTSGURE_AES_ALONE output, size_t output_count,
+    size_t *FOTSGURE_AES_ALONE key_length) FOTSGURE_AES_NOEXCEPT;
+
 /* In one call, under a key; each costs a key expansion. The round keys that the call keeps for its work are wiped before
  * it returns. KEY_LENGTH if key_length isn't 16, 24 or 32, else as above. */
 FOTSGURE_AES_CHECK enum fotsgure_aes_status fotsgure_aes_encrypt_blocks_with(const uint8_t *key, size_t key_length,
@@ -264,6 +280,20 @@ FOTSGURE_AES_CHECK static inline enum fotsgure_aes_status fotsgure_aes_not_null_
     return fotsgure_aes_unwrap(aes, fotsgure_aes_not_null(input), input_count, fotsgure_aes_not_null_mut(output),
         output_count);
 }
+FOTSGURE_AES_CHECK static inline enum fotsgure_aes_status fotsgure_aes_not_null_wrap_padded(
+    const struct fotsgure_aes *aes, const uint8_t *input, size_t input_length, uint8_t *output,
+    size_t output_count) FOTSGURE_AES_NOEXCEPT
+{
+    return fotsgure_aes_wrap_padded(aes, fotsgure_aes_not_null(input), input_length, fotsgure_aes_not_null_mut(output),
+        output_count);
+}
+FOTSGURE_AES_CHECK static inline enum fotsgure_aes_status fotsgure_aes_not_null_unwrap_padded(
+    const struct fotsgure_aes *aes, const uint8_t *input, size_t input_count, uint8_t *output, size_t output_count,
+    size_t *key_length) FOTSGURE_AES_NOEXCEPT
+{
+    return fotsgure_aes_unwrap_padded(aes, fotsgure_aes_not_null(input), input_count, fotsgure_aes_not_null_mut(output),
+        output_count, key_length);
+}
 FOTSGURE_AES_CHECK static inline enum fotsgure_aes_status fotsgure_aes_not_null_encrypt_blocks_with(
     const uint8_t *key, size_t key_length, uint8_t *blocks, size_t count) FOTSGURE_AES_NOEXCEPT
 {
@@ -294,6 +324,8 @@ FOTSGURE_AES_CHECK static inline enum fotsgure_aes_status fotsgure_aes_not_null_
 #define fotsgure_aes_cbc_decrypt(...) fotsgure_aes_not_null_cbc_decrypt(__VA_ARGS__)
 #define fotsgure_aes_wrap(...) fotsgure_aes_not_null_wrap(__VA_ARGS__)
 #define fotsgure_aes_unwrap(...) fotsgure_aes_not_null_unwrap(__VA_ARGS__)
+#define fotsgure_aes_wrap_padded(...) fotsgure_aes_not_null_wrap_padded(__VA_ARGS__)
+#define fotsgure_aes_unwrap_padded(...) fotsgure_aes_not_null_unwrap_padded(__VA_ARGS__)
 #define fotsgure_aes_encrypt_blocks_with(...) fotsgure_aes_not_null_encrypt_blocks_with(__VA_ARGS__)
 #define fotsgure_aes_decrypt_blocks_with(...) fotsgure_aes_not_null_decrypt_blocks_with(__VA_ARGS__)
 #define fotsgure_aes_add_keystream_with(...) fotsgure_aes_not_null_add_keystream_with(__VA_ARGS__)

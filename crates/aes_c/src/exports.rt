@@ -6,6 +6,7 @@ ghost use Rattle.aes_planes.specs.Fips197 as fips;
 ghost use Rattle.aes_ctr.specs.CounterMode.{keystream_byte, plus_stream};
 ghost use Rattle.cbc.specs.Cbc.{chained, last_of, unchained};
 ghost use Rattle.key_wrap.specs.KeyWrap.{integrity_check, unwrapped, wrapped, Fit};
+ghost use Rattle.key_wrap.specs.Padded.{heading, unwrapped_string, wrapped_padded, FitPadded, FitUnpadded, IsPadded};
 ghost use Rattle.c_calls.specs.Kept.{kept_key, AreZeroAfter, IsKeyLength, IsMade};
 
 use crate::width::BuildWidth;
@@ -19,7 +20,7 @@ use c_calls::status::{
     DONE, INVALID_COUNT, KEY_LENGTH, KEYSTREAM_END, NO_KEY, REFUSED, UNEQUAL_COUNTS, VERSION,
 };
 use c_calls::stream::{Ctr, add_keystream_under, add_keystream_under_to};
-use c_calls::wrapping::{unwrap_under, wrap_under};
+use c_calls::wrapping::{unwrap_padded_under, unwrap_under, wrap_padded_under, wrap_under};
 use cbc::Cbc;
 use key_wrap::Semiblock;
 
@@ -241,6 +242,47 @@ pub extern "C" fn fotsgure_aes_unwrap(
     ensures untouched { result ≢ DONE → result ≢ REFUSED → output.new ≡ output.old }
 {
     unwrap_under::<BuildWidth>(aes, sealed, output)
+}
+
+/// Pads and wraps a key from one buffer to another (KWP-AE, SP 800-38F, 6.3).
+#[unsafe(no_mangle)]
+pub extern "C" fn fotsgure_aes_wrap_padded(aes: &Aes, key: &[u8], output: &mut [Semiblock]) -> u32
+    requires made { IsMade aes.now.key_length aes.now.encrypting aes.now.decrypting }
+    ensures no_key { result ≡ NO_KEY ↔ ¬ IsKeyLength aes.now.key_length }
+    ensures done { result ≡ DONE ↔ IsKeyLength aes.now.key_length × FitPadded (length key.now) (length output.old) }
+    ensures invalid { result ≢ DONE → result ≢ NO_KEY → result ≡ INVALID_COUNT }
+    ensures wrapped { let w = fips.key_expansion (kept_key aes.now.key_length aes.now.encrypting) in
+        result ≡ DONE → output.new ≡ wrapped_padded w key.now }
+    ensures untouched { result ≢ DONE → output.new ≡ output.old }
+{
+    wrap_padded_under::<BuildWidth>(aes, key, output)
+}
+
+/// Unwraps a key that was wrapped with padding, from one buffer to another (KWP-AD, SP 800-38F, 6.3), and sets how many
+/// bytes it has: the first ones of the output, which zeros follow. After `REFUSED` the output is zeros, and in all cases
+/// but `DONE` the length is 0.
+#[unsafe(no_mangle)]
+pub extern "C" fn fotsgure_aes_unwrap_padded(
+    aes: &Aes,
+    sealed: &[Semiblock],
+    output: &mut [Semiblock],
+    key_bytes: &mut usize,
+) -> u32
+    requires made { IsMade aes.now.key_length aes.now.encrypting aes.now.decrypting }
+    ensures no_key { result ≡ NO_KEY ↔ ¬ IsKeyLength aes.now.key_length }
+    ensures invalid { result ≡ INVALID_COUNT
+        ↔ IsKeyLength aes.now.key_length × (¬ FitUnpadded (length output.old) (length sealed.now)) }
+    ensures done { let w = fips.key_expansion (kept_key aes.now.key_length aes.now.encrypting) in result ≡ DONE
+        ↔ IsKeyLength aes.now.key_length × (FitUnpadded (length output.old) (length sealed.now)
+        × IsPadded (unwrapped_string w sealed.now)) }
+    ensures refused { result ≢ DONE → result ≢ NO_KEY → result ≢ INVALID_COUNT → result ≡ REFUSED }
+    ensures key { let w = fips.key_expansion (kept_key aes.now.key_length aes.now.encrypting) in
+        result ≡ DONE → heading key_bytes.new ∷ output.new ≡ unwrapped_string w sealed.now }
+    ensures none { result ≢ DONE → key_bytes.new ≡ 0 }
+    ensures zeros { result ≡ REFUSED → output.new ≡ replicate (length output.old) (replicate 8 0) }
+    ensures untouched { result ≢ DONE → result ≢ REFUSED → output.new ≡ output.old }
+{
+    unwrap_padded_under::<BuildWidth>(aes, sealed, output, key_bytes)
 }
 
 /// Encrypts each block in place under a key (Cipher, FIPS 197, 5.1). Returns `DONE` exactly if the key has 16, 24 or 32

@@ -19,7 +19,7 @@ pub use exports::{
     fotsgure_aes_cbc_decrypt, fotsgure_aes_cbc_encrypt, fotsgure_aes_decrypt_blocks,
     fotsgure_aes_decrypt_blocks_to, fotsgure_aes_decrypt_blocks_with, fotsgure_aes_encrypt_blocks,
     fotsgure_aes_encrypt_blocks_to, fotsgure_aes_encrypt_blocks_with, fotsgure_aes_key_length,
-    fotsgure_aes_set_key, fotsgure_aes_unwrap, fotsgure_aes_version, fotsgure_aes_wipe,
-    fotsgure_aes_wrap,
+    fotsgure_aes_set_key, fotsgure_aes_unwrap, fotsgure_aes_unwrap_padded, fotsgure_aes_version,
+    fotsgure_aes_wipe, fotsgure_aes_wrap, fotsgure_aes_wrap_padded,
 };
 pub use key_wrap::Semiblock;

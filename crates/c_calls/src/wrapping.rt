@@ -3,6 +3,7 @@
 ghost use Rattle.std.specs.Prelude.{◌≡◌, ◌≢◌, ◌↔◌, ◌∷◌, [], length, replicate, slice_index_or};
 ghost use Rattle.aes_planes.specs.Fips197 as fips;
 ghost use Rattle.key_wrap.specs.KeyWrap.{integrity_check, unwrapped, wrapped, Fit};
+ghost use Rattle.key_wrap.specs.Padded.{heading, unwrapped_string, wrapped_padded, FitPadded, FitUnpadded, IsPadded};
 ghost use Rattle.c_calls.specs.Kept.{kept_key, IsKeyLength, IsMade};
 
 use crate::kept::{Aes, holds_key};
@@ -11,7 +12,7 @@ use aes_cipher::cipher::{Decrypt, Encrypt};
 use aes_hybrid::lent::Lent;
 use aes_hybrid::widths::Width;
 use aes_permute::lane_room::keys_in_room;
-use key_wrap::{NotUnwrapped, Semiblock, unwrap, wrap};
+use key_wrap::{NotUnwrapped, Semiblock, unwrap, unwrap_padded, wrap, wrap_padded};
 
 /// Wraps a key from one buffer to another (KW-AE, SP 800-38F, 6.2). Returns `NO_KEY` exactly if the struct holds no key,
 /// else `INVALID_COUNT` if the key has fewer than two semiblocks or too many, or the output isn't one longer, and `DONE`
@@ -60,6 +61,70 @@ pub fn unwrap_under<W: Width>(aes: &Aes, sealed: &[Semiblock], output: &mut [Sem
     let inverse = keys_in_room(&aes.decrypting, length);
     match unwrap(&Lent::<Decrypt, W>::new(keys, inverse), sealed, output) {
         Ok(()) => DONE,
+        Err(NotUnwrapped::InvalidCount) => INVALID_COUNT,
+        Err(NotUnwrapped::Refused) => REFUSED,
+    }
+}
+
+/// Pads and wraps a key from one buffer to another (KWP-AE, SP 800-38F, 6.3). Returns `NO_KEY` exactly if the struct holds
+/// no key, else `INVALID_COUNT` if the key has no byte or too many, or the output isn't one semiblock longer than the key
+/// fills, and `DONE` in all other cases.
+pub fn wrap_padded_under<W: Width>(aes: &Aes, key: &[u8], output: &mut [Semiblock]) -> u32
+    requires made { IsMade aes.now.key_length aes.now.encrypting aes.now.decrypting }
+    ensures no_key { result ≡ NO_KEY ↔ ¬ IsKeyLength aes.now.key_length }
+    ensures done { result ≡ DONE ↔ IsKeyLength aes.now.key_length × FitPadded (length key.now) (length output.old) }
+    ensures invalid { result ≢ DONE → result ≢ NO_KEY → result ≡ INVALID_COUNT }
+    ensures wrapped { let w = fips.key_expansion (kept_key aes.now.key_length aes.now.encrypting) in
+        result ≡ DONE → output.new ≡ wrapped_padded w key.now }
+    ensures untouched { result ≢ DONE → output.new ≡ output.old }
+{
+    if !holds_key(aes) {
+        return NO_KEY;
+    }
+    let keys = keys_in_room(&aes.encrypting, aes.key_length as usize);
+    match wrap_padded(&Lent::<Encrypt, W>::new(keys, keys), key, output) {
+        Ok(()) => DONE,
+        Err(_) => INVALID_COUNT,
+    }
+}
+
+/// Unwraps a key that was wrapped with padding, from one buffer to another (KWP-AD, SP 800-38F, 6.3), and sets how many
+/// bytes it has: the first ones of the output, which zeros follow. Returns `NO_KEY` exactly if the struct holds no key, else
+/// `INVALID_COUNT` if no key becomes so many semiblocks, or the output isn't one shorter, else `REFUSED` if the key was
+/// not wrapped with padding under this one, and `DONE` in all other cases. After `REFUSED` the output is zeros, and in
+/// all cases but `DONE` the length is 0.
+pub fn unwrap_padded_under<W: Width>(
+    aes: &Aes,
+    sealed: &[Semiblock],
+    output: &mut [Semiblock],
+    key_bytes: &mut usize,
+) -> u32
+    requires made { IsMade aes.now.key_length aes.now.encrypting aes.now.decrypting }
+    ensures no_key { result ≡ NO_KEY ↔ ¬ IsKeyLength aes.now.key_length }
+    ensures invalid { result ≡ INVALID_COUNT
+        ↔ IsKeyLength aes.now.key_length × (¬ FitUnpadded (length output.old) (length sealed.now)) }
+    ensures done { let w = fips.key_expansion (kept_key aes.now.key_length aes.now.encrypting) in result ≡ DONE
+        ↔ IsKeyLength aes.now.key_length × (FitUnpadded (length output.old) (length sealed.now)
+        × IsPadded (unwrapped_string w sealed.now)) }
+    ensures refused { result ≢ DONE → result ≢ NO_KEY → result ≢ INVALID_COUNT → result ≡ REFUSED }
+    ensures key { let w = fips.key_expansion (kept_key aes.now.key_length aes.now.encrypting) in
+        result ≡ DONE → heading key_bytes.new ∷ output.new ≡ unwrapped_string w sealed.now }
+    ensures none { result ≢ DONE → key_bytes.new ≡ 0 }
+    ensures zeros { result ≡ REFUSED → output.new ≡ replicate (length output.old) (replicate 8 0) }
+    ensures untouched { result ≢ DONE → result ≢ REFUSED → output.new ≡ output.old }
+{
+    *key_bytes = 0;
+    if !holds_key(aes) {
+        return NO_KEY;
+    }
+    let length = aes.key_length as usize;
+    let keys = keys_in_room(&aes.encrypting, length);
+    let inverse = keys_in_room(&aes.decrypting, length);
+    match unwrap_padded(&Lent::<Decrypt, W>::new(keys, inverse), sealed, output) {
+        Ok(bytes) => {
+            *key_bytes = bytes as usize;
+            DONE
+        }
         Err(NotUnwrapped::InvalidCount) => INVALID_COUNT,
         Err(NotUnwrapped::Refused) => REFUSED,
     }
