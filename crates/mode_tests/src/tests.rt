@@ -2,6 +2,7 @@
 
 mod chains;
 mod keys;
+mod padded;
 mod pieces;
 mod tags;
 mod whole;
