@@ -3,6 +3,7 @@
 #![tactic(auto)]
 
 mod errors;
+pub mod examples;
 pub mod laws;
 mod padded;
 mod steps;
