@@ -3,6 +3,7 @@
 
 mod chain;
 mod decryption;
+pub mod examples;
 pub mod laws;
 
 pub use chain::Cbc;
