@@ -104,17 +104,22 @@ zip2_append f [] b (y ∷ c) d same = absurd (omega (arith, same))
 zip2_append f (x ∷ a) b [] d same = absurd (omega (arith, same))
 zip2_append f (x ∷ a) b (y ∷ c) d same = ap (λ l. f x y ∷ l) (zip2_append f a b c d (omega (arith, same)))
 
-pub rows_in_halves : (l1 l2 h1 h2 x low high : List ℕ)
-    → low ≡ map (looked l1) (map low_nibble x) ++ map (looked l2) (map low_nibble x)
-    → high ≡ map (looked h1) (map high_nibble x) ++ map (looked h2) (map high_nibble x)
+-- what the nibbles of a block look up in both halves, summed
+pub rows_in_halves : (l1 l2 h1 h2 x lows highs low high : List ℕ) → length x ≡ 16
+    → lows ≡ map low_nibble x ++ map low_nibble x → highs ≡ map high_nibble x ++ map high_nibble x
+    → ((p q : List ℕ) → length p ≡ 16 → length q ≡ 16 → lows ≡ p ++ q → low ≡ map (looked l1) p ++ map (looked l2) q)
+    → ((p q : List ℕ) → length p ≡ 16 → length q ≡ 16 → highs ≡ p ++ q
+    → high ≡ map (looked h1) p ++ map (looked h2) q)
     → zip2 bit_xor low high ≡ map (by_nibbles l1 h1) x ++ map (by_nibbles l2 h2) x
-rows_in_halves l1 l2 h1 h2 x low high low_is high_is =
-    let same : length (map (looked l1) (map low_nibble x)) ≡ length (map (looked h1) (map high_nibble x)) =
-    length-map (map low_nibble x) (looked l1) ∙ length-map x low_nibble
-    ∙ sym (length-map (map high_nibble x) (looked h1) ∙ length-map x high_nibble) in
-    (λ t. zip2 bit_xor (low_is t) (high_is t))
-    ∙ zip2_append bit_xor (map (looked l1) (map low_nibble x)) (map (looked l2) (map low_nibble x))
-    (map (looked h1) (map high_nibble x)) (map (looked h2) (map high_nibble x)) same
+rows_in_halves l1 l2 h1 h2 x lows highs low high long lows_are highs_are low_found high_found =
+    let a = map low_nibble x in
+    let b = map high_nibble x in
+    let a_long : length a ≡ 16 = length-map x low_nibble ∙ long in
+    let b_long : length b ≡ 16 = length-map x high_nibble ∙ long in
+    let same : length (map (looked l1) a) ≡ length (map (looked h1) b) =
+    length-map a (looked l1) ∙ a_long ∙ sym (length-map b (looked h1) ∙ b_long) in
+    (λ t. zip2 bit_xor (low_found a a a_long a_long lows_are t) (high_found b b b_long b_long highs_are t))
+    ∙ zip2_append bit_xor (map (looked l1) a) (map (looked l2) a) (map (looked h1) b) (map (looked h2) b) same
     ∙ (λ t. nibbles_looked_up l1 h1 x t ++ nibbles_looked_up l2 h2 x t)
 
 -- ---- sums by halves
