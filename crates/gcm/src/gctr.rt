@@ -10,9 +10,8 @@ use aes_cipher::cipher::{Block, BlockCipherEncrypt};
 use aes_cipher::zeroize::MustWipe;
 use aes_ctr::add_keystream;
 
-// Room for a secret block, which has to be wiped where it stands. It is two blocks long: of a single one LLVM knows what is
-// read after a wipe, and leaves out the zeros.
-pub(crate) type BlockRoom = MustWipe<[Block; 2]>;
+// Room for a secret block, which has to be wiped where it stands.
+pub(crate) type BlockRoom = MustWipe<[Block; 1]>;
 
 // How many counter blocks there are before the last 32 bits of a counter repeat.
 const COUNTERS: u128 = 1 << 32;
