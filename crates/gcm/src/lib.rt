@@ -18,7 +18,7 @@ mod stack;
 
 pub use counter::Counter;
 pub use errors::{InvalidMessage, InvalidPiece, NotAccepted, OutOfTurn, Refused, TooLong};
-pub use laws::text_twice;
+pub use laws::{text_twice, turns};
 pub use message::{Message, Phase};
 pub use mode::{Gcm, LentGcm, is_short_tag, prepare};
 pub use multiples::{Multiples, Room, put_multiples};

@@ -289,6 +289,9 @@ impl<'a, C: BlockCipherEncrypt> LentGcm<'a, C> {
             → nist.text self.now iv c ++ text.new ≡ nist.text self.now iv (c ++ text.old)) }
         ensures added { OnOk result ((n : ℕ) (iv c : List ℕ) → IsDecrypting self.now iv n c message.old
             → IsDecrypting self.now iv n (c ++ text.old) message.new) }
+        ensures phase { OnOk result (phase_of message.new.phase ≡ Phase.Decrypting) }
+        ensures text { OnOk result (message.new.text ≡ message.old.text) }
+        ensures counted { OnOk result (message.new.decrypted ≡ message.old.decrypted + length text.old) }
         ensures untouched { OnErr result (message.new ≡ message.old) }
         ensures untouched_text { OnErr result (text.new ≡ text.old) }
     {
