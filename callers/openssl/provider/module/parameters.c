@@ -4,9 +4,9 @@
 #include <openssl/err.h>
 #include <stdarg.h>
 
-int fail(const struct context *context, int reason, ...)
+int fail(const struct context *c, int reason, ...)
 {
-    const struct provider *provider = context->provider;
+    const struct provider *provider = c->provider;
     if (provider->new_error && provider->vset_error) {
         va_list none;
         va_start(none, reason);
@@ -25,60 +25,48 @@ OSSL_PARAM *find(const OSSL_PARAM *params, const char *name)
     return NULL;
 }
 
+/* Numbers have 4 or 8 bytes, the lowest first, as on every processor of the library. */
 static int is_number(const OSSL_PARAM *param)
 {
-    return param->data_type == OSSL_PARAM_UNSIGNED_INTEGER || param->data_type == OSSL_PARAM_INTEGER;
+    return (param->data_type == OSSL_PARAM_UNSIGNED_INTEGER || param->data_type == OSSL_PARAM_INTEGER) &&
+        (!param->data || param->data_size == sizeof(uint32_t) || param->data_size == sizeof(size_t));
+}
+
+static int put(OSSL_PARAM *param, const void *bytes, size_t length)
+{
+    if (param->data)
+        memcpy(param->data, bytes, length);
+    param->return_size = length;
+    return 1;
 }
 
 int put_number(OSSL_PARAM *params, const char *name, size_t value)
 {
     OSSL_PARAM *param = find(params, name);
-    uint32_t narrow = (uint32_t)value;
-    uint64_t wide = value;
-    if (!param)
-        return 1;
-    if (!is_number(param))
-        return 0;
-    if (param->data && param->data_size == sizeof wide)
-        memcpy(param->data, &wide, sizeof wide);
-    else if (param->data && param->data_size == sizeof narrow && value <= INT32_MAX)
-        memcpy(param->data, &narrow, sizeof narrow);
-    else if (param->data)
-        return 0;
-    param->return_size = param->data ? param->data_size : sizeof wide;
-    return 1;
+    return !param || (is_number(param) && put(param, &value, param->data ? param->data_size : sizeof value));
 }
 
 int put_bytes(OSSL_PARAM *params, const char *name, const void *bytes, size_t length)
 {
     OSSL_PARAM *param = find(params, name);
-    if (!param)
-        return 1;
-    param->return_size = length;
-    if (param->data_type == OSSL_PARAM_OCTET_PTR || param->data_type == OSSL_PARAM_UTF8_PTR)
+    if (param && (param->data_type == OSSL_PARAM_OCTET_PTR || param->data_type == OSSL_PARAM_UTF8_PTR)) {
         memcpy(param->data, &bytes, sizeof bytes);
-    else if (param->data_type != OSSL_PARAM_OCTET_STRING || (param->data && param->data_size < length))
-        return 0;
-    else if (param->data)
-        memcpy(param->data, bytes, length);
-    return 1;
+        param->return_size = length;
+        return 1;
+    }
+    return !param || (param->data_type == OSSL_PARAM_OCTET_STRING && (!param->data || param->data_size >= length) &&
+        put(param, bytes, length));
 }
 
-int get_number(const OSSL_PARAM *param, size_t *value)
+int get_number(const OSSL_PARAM *params, const char *name, size_t *value)
 {
-    uint32_t narrow;
-    uint64_t wide;
+    const OSSL_PARAM *param = find(params, name);
+    if (!param)
+        return 1;
     if (!is_number(param) || !param->data)
         return 0;
-    if (param->data_size == sizeof wide) {
-        memcpy(&wide, param->data, sizeof wide);
-        *value = wide;
-    } else if (param->data_size == sizeof narrow) {
-        memcpy(&narrow, param->data, sizeof narrow);
-        *value = narrow;
-    } else {
-        return 0;
-    }
+    *value = 0;
+    memcpy(value, param->data, param->data_size);
     return 1;
 }
 

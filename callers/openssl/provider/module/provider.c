@@ -10,61 +10,125 @@
 
 #include <stdlib.h>
 
-#define VERSION "0.3.0"
-
-static int is_gcm(const struct algorithm *algorithm) { return algorithm->mode == EVP_CIPH_GCM_MODE; }
-static size_t size_of(const struct algorithm *algorithm) { return is_gcm(algorithm) ? gcm_size : block_size; }
-
 static void *new_context(void *provider, const struct algorithm *algorithm)
 {
-    struct context *context = calloc(1, size_of(algorithm));
-    if (!context)
+    struct context *c = calloc(1, sizeof *c);
+    if (!c)
         return NULL;
-    context->provider = provider;
-    context->algorithm = algorithm;
-    if (is_gcm(algorithm))
-        gcm_start(context);
-    else
-        block_start(context);
+    c->provider = provider;
+    c->algorithm = algorithm;
+    c->iv_length = algorithm->iv_length;
+    if (algorithm->first_iv)
+        memcpy(c->iv, algorithm->first_iv, c->iv_length);
     COUNTED(algorithm, 0, 0);
-    return context;
+    return c;
 }
 
 static void *copy_context(void *context)
 {
-    size_t size = size_of(((const struct context *)context)->algorithm);
-    void *copy = malloc(size);
-    return copy ? memcpy(copy, context, size) : NULL;
+    void *copy = malloc(sizeof(struct context));
+    return copy ? memcpy(copy, context, sizeof(struct context)) : NULL;
 }
 
 static void free_context(void *context)
 {
     if (context)
-        explicit_bzero(context, size_of(((const struct context *)context)->algorithm));
+        explicit_bzero(context, sizeof(struct context));
     free(context);
 }
 
-static int begin(void *context, int encrypts, const byte *key, size_t key_length, const byte *iv, size_t iv_length,
-    const OSSL_PARAM params[])
+static int set_params(void *context, const OSSL_PARAM params[])
 {
     struct context *c = context;
-    c->encrypts = encrypts;
-    if (is_gcm(c->algorithm))
-        return gcm_begin(c, key, key_length, iv, iv_length) && gcm_set_params(c, params);
-    return block_begin(c, key, key_length, iv, iv_length) && block_set_params(c, params);
+    size_t key_length = c->algorithm->key_length, padded = !c->unpadded;
+    size_t version = c->tls_version, mac_length = c->mac_length;
+    if (!get_number(params, OSSL_CIPHER_PARAM_KEYLEN, &key_length) || key_length != c->algorithm->key_length)
+        return fail(c, PROV_R_INVALID_KEY_LENGTH);
+    if (is_mode(c, EVP_CIPH_GCM_MODE))
+        return gcm_set_params(c, params);
+    if (!get_number(params, OSSL_CIPHER_PARAM_PADDING, &padded) ||
+        !get_number(params, OSSL_CIPHER_PARAM_TLS_VERSION, &version) || version == SSL3_VERSION ||
+        !get_number(params, OSSL_CIPHER_PARAM_TLS_MAC_SIZE, &mac_length) || mac_length > MOST_MAC)
+        return fail(c, PROV_R_FAILED_TO_GET_PARAMETER);
+    c->unpadded = padded == 0;
+    c->tls_version = is_mode(c, EVP_CIPH_CBC_MODE) ? version : 0;
+    c->mac_length = mac_length;
+    return 1;
 }
 
-static int begin_encrypting(void *context, const byte *key, size_t key_length, const byte *iv, size_t iv_length,
-    const OSSL_PARAM params[])
+/* The initialization vector with which the next block would begin a message. */
+static void update_iv(struct context *c)
 {
-    return begin(context, 1, key, key_length, iv, iv_length, params);
+    uint64_t carry = c->ctr.position / BLOCK + (c->ctr.position % BLOCK != 0);
+    memcpy(c->updated_iv, is_mode(c, EVP_CIPH_CBC_MODE) ? c->cbc.previous : c->iv, c->iv_length);
+    for (size_t i = c->iv_length; is_mode(c, EVP_CIPH_CTR_MODE) && i-- > 0; carry >>= 8) {
+        carry += c->updated_iv[i];
+        c->updated_iv[i] = (byte)carry;
+    }
 }
 
-static int begin_decrypting(void *context, const byte *key, size_t key_length, const byte *iv, size_t iv_length,
+static int get_params(void *context, OSSL_PARAM params[])
+{
+    struct context *c = context;
+    if (is_mode(c, EVP_CIPH_GCM_MODE) && !gcm_get_params(c, params))
+        return 0;
+    update_iv(c);
+    return put_number(params, OSSL_CIPHER_PARAM_KEYLEN, c->algorithm->key_length) &&
+        put_number(params, OSSL_CIPHER_PARAM_IVLEN, c->iv_length) &&
+        put_number(params, OSSL_CIPHER_PARAM_PADDING, !c->unpadded) &&
+        put_number(params, OSSL_CIPHER_PARAM_NUM, c->ctr.position % BLOCK) &&
+        put_bytes(params, OSSL_CIPHER_PARAM_IV, c->iv, c->iv_length) &&
+        put_bytes(params, OSSL_CIPHER_PARAM_UPDATED_IV, c->updated_iv, c->iv_length) &&
+        put_bytes(params, OSSL_CIPHER_PARAM_TLS_MAC, c->mac, c->mac_length);
+}
+
+static int set_key(struct context *c, const byte *key, size_t length)
+{
+    if (length != c->algorithm->key_length)
+        return 0;
+    COUNTED(c->algorithm, 1, 0);
+    c->has_key = 1;
+    return is_mode(c, EVP_CIPH_GCM_MODE) ? fotsgure_gcm_set_key(&c->gcm, key, length) == FOTSGURE_GCM_DONE
+                                         : fotsgure_aes_set_key(&c->aes, key, length) == FOTSGURE_AES_DONE;
+}
+
+/* A key, an initialization vector or nonce, both, or neither. Without a new vector, CBC takes the same again, and
+ * counter mode goes on at the next block. In GCM, another key ends a message that has begun. */
+static int begin(struct context *c, const byte *key, size_t key_length, const byte *iv, size_t iv_length,
     const OSSL_PARAM params[])
 {
-    return begin(context, 0, key, key_length, iv, iv_length, params);
+    int has_iv = iv && c->algorithm->iv_length > 0;
+    if (has_iv && (iv_length == 0 || iv_length > MOST_IV ||
+        (iv_length != c->algorithm->iv_length && !is_mode(c, EVP_CIPH_GCM_MODE))))
+        return fail(c, PROV_R_INVALID_IV_LENGTH);
+    if (has_iv) {
+        memmove(c->iv, iv, iv_length);
+        c->iv_length = iv_length;
+        c->stage = NONCE;
+    } else if (key && c->stage == MESSAGE) {
+        c->stage = ENDED;
+    }
+    if (key && !set_key(c, key, key_length))
+        return fail(c, PROV_R_INVALID_KEY_LENGTH);
+    c->kept_length = 0;
+    c->ctr.position = (c->ctr.position + BLOCK - 1) / BLOCK * BLOCK;
+    if (has_iv || is_mode(c, EVP_CIPH_CBC_MODE)) {
+        memcpy(c->cbc.previous, c->iv, BLOCK);
+        memcpy(c->ctr.iv, c->iv, BLOCK);
+        c->ctr.position = 0;
+    }
+    return set_params(c, params);
 }
+
+#define BEGIN(name, direction) \
+    static int name(void *context, const byte *key, size_t key_length, const byte *iv, size_t iv_length, \
+        const OSSL_PARAM params[]) \
+    { \
+        ((struct context *)context)->encrypts = direction; \
+        return begin(context, key, key_length, iv, iv_length, params); \
+    }
+BEGIN(begin_encrypting, 1)
+BEGIN(begin_decrypting, 0)
 
 /* Answers what OpenSSL asks about an algorithm. */
 static int get_constants(const struct algorithm *algorithm, OSSL_PARAM params[])
@@ -75,46 +139,58 @@ static int get_constants(const struct algorithm *algorithm, OSSL_PARAM params[])
         put_number(params, OSSL_CIPHER_PARAM_IVLEN, algorithm->iv_length) &&
         put_number(params, OSSL_CIPHER_PARAM_BLOCK_SIZE, algorithm->block) &&
         put_number(params, OSSL_CIPHER_PARAM_AEAD, mode == EVP_CIPH_GCM_MODE) &&
-        put_number(params, OSSL_CIPHER_PARAM_CUSTOM_IV, mode == EVP_CIPH_GCM_MODE || mode == EVP_CIPH_WRAP_MODE) &&
-        put_number(params, OSSL_CIPHER_PARAM_CTS, 0) &&
-        put_number(params, OSSL_CIPHER_PARAM_TLS1_MULTIBLOCK, 0) &&
-        put_number(params, OSSL_CIPHER_PARAM_HAS_RAND_KEY, 0);
+        put_number(params, OSSL_CIPHER_PARAM_CUSTOM_IV, mode == EVP_CIPH_GCM_MODE || mode == EVP_CIPH_WRAP_MODE);
 }
 
 #define NUMBER(name) OSSL_PARAM_size_t(OSSL_CIPHER_PARAM_##name, NULL)
 #define BYTES(name) OSSL_PARAM_octet_string(OSSL_CIPHER_PARAM_##name, NULL, 0)
+#define TEXT(name) OSSL_PARAM_utf8_ptr(OSSL_PROV_PARAM_##name, NULL, 0)
+#define LIST(name, asks, ...) \
+    static const OSSL_PARAM *name asks \
+    { \
+        static const OSSL_PARAM list[] = {__VA_ARGS__, OSSL_PARAM_END}; \
+        return list; \
+    }
 
-static const OSSL_PARAM *gettable_constants(void *provider)
-{
-    static const OSSL_PARAM list[] = {NUMBER(MODE), NUMBER(KEYLEN), NUMBER(IVLEN), NUMBER(BLOCK_SIZE), NUMBER(AEAD),
-        NUMBER(CUSTOM_IV), NUMBER(CTS), NUMBER(TLS1_MULTIBLOCK), NUMBER(HAS_RAND_KEY), OSSL_PARAM_END};
-    (void)provider;
-    return list;
-}
-
+LIST(gettable_constants, (void *provider), NUMBER(MODE), NUMBER(KEYLEN), NUMBER(IVLEN), NUMBER(BLOCK_SIZE),
+    NUMBER(AEAD), NUMBER(CUSTOM_IV))
 /* One list for all modes. A mode ignores the parameters that it doesn't have. */
-static const OSSL_PARAM *gettable_params(void *context, void *provider)
-{
-    static const OSSL_PARAM list[] = {NUMBER(KEYLEN), NUMBER(IVLEN), NUMBER(PADDING), NUMBER(NUM), NUMBER(AEAD_TAGLEN),
-        BYTES(IV), BYTES(UPDATED_IV), OSSL_PARAM_octet_ptr(OSSL_CIPHER_PARAM_TLS_MAC, NULL, 0), BYTES(AEAD_TAG),
-        NUMBER(AEAD_TLS1_AAD_PAD), BYTES(AEAD_TLS1_GET_IV_GEN), OSSL_PARAM_END};
-    (void)context, (void)provider;
-    return list;
-}
+LIST(gettable_params, (void *context, void *provider), NUMBER(KEYLEN), NUMBER(IVLEN), NUMBER(PADDING), NUMBER(NUM),
+    NUMBER(AEAD_TAGLEN), BYTES(IV), BYTES(UPDATED_IV), OSSL_PARAM_octet_ptr(OSSL_CIPHER_PARAM_TLS_MAC, NULL, 0),
+    BYTES(AEAD_TAG), NUMBER(AEAD_TLS1_AAD_PAD), BYTES(AEAD_TLS1_GET_IV_GEN))
+LIST(settable_params, (void *context, void *provider), NUMBER(KEYLEN), NUMBER(IVLEN), NUMBER(PADDING),
+    NUMBER(TLS_VERSION), NUMBER(TLS_MAC_SIZE), BYTES(AEAD_TAG), BYTES(AEAD_TLS1_AAD), BYTES(AEAD_TLS1_IV_FIXED),
+    BYTES(AEAD_TLS1_SET_IV_INV))
+LIST(gettable_provider_params, (void *provider), TEXT(NAME), TEXT(VERSION),
+    OSSL_PARAM_int(OSSL_PROV_PARAM_STATUS, NULL))
 
-static const OSSL_PARAM *settable_params(void *context, void *provider)
-{
-    static const OSSL_PARAM list[] = {NUMBER(KEYLEN), NUMBER(IVLEN), NUMBER(PADDING), NUMBER(TLS_VERSION),
-        NUMBER(TLS_MAC_SIZE), BYTES(AEAD_TAG), BYTES(AEAD_TLS1_AAD), BYTES(AEAD_TLS1_IV_FIXED),
-        BYTES(AEAD_TLS1_SET_IV_INV), OSSL_PARAM_END};
-    (void)context, (void)provider;
-    return list;
-}
+/* Every algorithm: its names (OpenSSL's, and the object identifiers of NIST (CSOR, aes) and RFC 5649), the calls that
+ * take text, and its constants. Key wrap begins with the values of SP 800-38F, 6.2 and 6.3. */
+#define OID(last) ":2.16.840.1.101.3.4.1." #last
+#define BUFFERED block_update, block_cipher, block_final
+#define WRAP wrap_update, NULL, block_final, EVP_CIPH_WRAP_MODE
+#define KW "\xa6\xa6\xa6\xa6\xa6\xa6\xa6\xa6"
+#define KWP "\xa6\x59\x59\xa6"
+#define ALGORITHMS(DO, bits, k, of_ecb, of_cbc, of_kw, of_gcm, of_kwp) \
+    DO(ecb##bits, "AES-" #bits "-ECB" OID(of_ecb), BUFFERED, EVP_CIPH_ECB_MODE, k, BLOCK, 0, NULL, 0, 0) \
+    DO(cbc##bits, "AES-" #bits "-CBC:AES" #bits OID(of_cbc), BUFFERED, EVP_CIPH_CBC_MODE, k, BLOCK, BLOCK, NULL, 0, 0) \
+    DO(ctr##bits, "AES-" #bits "-CTR", block_cipher, block_cipher, block_final, \
+        EVP_CIPH_CTR_MODE, k, 1, BLOCK, NULL, 0, 0) \
+    DO(gcm##bits, "AES-" #bits "-GCM:id-aes" #bits "-GCM" OID(of_gcm), gcm_update, gcm_cipher, gcm_final, \
+        EVP_CIPH_GCM_MODE, k, 1, FOTSGURE_GCM_NONCE, NULL, 0, 0) \
+    DO(kw##bits, "AES-" #bits "-WRAP:id-aes" #bits "-wrap:AES" #bits "-WRAP" OID(of_kw), WRAP, k, 8, 8, KW, 0, 0) \
+    DO(kwp##bits, "AES-" #bits "-WRAP-PAD:id-aes" #bits "-wrap-pad:AES" #bits "-WRAP-PAD" OID(of_kwp), \
+        WRAP, k, 8, 4, KWP, 0, 1) \
+    DO(inverse_kw##bits, "AES-" #bits "-WRAP-INV:AES" #bits "-WRAP-INV", WRAP, k, 8, 8, KW, 1, 0) \
+    DO(inverse_kwp##bits, "AES-" #bits "-WRAP-PAD-INV:AES" #bits "-WRAP-PAD-INV", WRAP, k, 8, 4, KWP, 1, 1)
+#define ALL(DO) \
+    ALGORITHMS(DO, 128, 16, 1, 2, 5, 6, 8) \
+    ALGORITHMS(DO, 192, 24, 21, 22, 25, 26, 28) \
+    ALGORITHMS(DO, 256, 32, 41, 42, 45, 46, 48)
 
 #define FUNCTION(id, function) {OSSL_FUNC_CIPHER_##id, (void (*)(void))(function)}
-
-/* The constants of an algorithm and the table of its functions. `family` is block or gcm. */
-#define ALGORITHM(name, family, update, cipher, final, ...) \
+#define DEFINE(name, names, ...) DEFINE_IT(name, __VA_ARGS__)
+#define DEFINE_IT(name, update, cipher, final, ...) \
     static const struct algorithm algorithm_##name = {__VA_ARGS__}; \
     static void *new_##name(void *provider) { return new_context(provider, &algorithm_##name); } \
     static int get_##name(OSSL_PARAM params[]) { return get_constants(&algorithm_##name, params); } \
@@ -123,72 +199,27 @@ static const OSSL_PARAM *settable_params(void *context, void *provider)
         FUNCTION(ENCRYPT_INIT, begin_encrypting), FUNCTION(DECRYPT_INIT, begin_decrypting), \
         FUNCTION(UPDATE, update), FUNCTION(CIPHER, cipher), FUNCTION(FINAL, final), \
         FUNCTION(GET_PARAMS, get_##name), FUNCTION(GETTABLE_PARAMS, gettable_constants), \
-        FUNCTION(GET_CTX_PARAMS, family##_get_params), FUNCTION(SET_CTX_PARAMS, family##_set_params), \
+        FUNCTION(GET_CTX_PARAMS, get_params), FUNCTION(SET_CTX_PARAMS, set_params), \
         FUNCTION(GETTABLE_CTX_PARAMS, gettable_params), FUNCTION(SETTABLE_CTX_PARAMS, settable_params), {0, NULL}};
-
-#define WRAP(name, ...) ALGORITHM(name, block, wrap_update, NULL, nothing_final, EVP_CIPH_WRAP_MODE, __VA_ARGS__)
-
-#define ALGORITHMS(bits, k) \
-    ALGORITHM(ecb##bits, block, block_update, block_cipher, block_final, EVP_CIPH_ECB_MODE, k, BLOCK, 0, 0, 0) \
-    ALGORITHM(cbc##bits, block, block_update, block_cipher, block_final, EVP_CIPH_CBC_MODE, k, BLOCK, BLOCK, 0, 0) \
-    ALGORITHM(ctr##bits, block, block_cipher, block_cipher, nothing_final, EVP_CIPH_CTR_MODE, k, 1, BLOCK, 0, 0) \
-    ALGORITHM(gcm##bits, gcm, gcm_update, gcm_cipher, gcm_final, EVP_CIPH_GCM_MODE, k, 1, FOTSGURE_GCM_NONCE, 0, 0) \
-    WRAP(kw##bits, k, 8, 8, 0, 0) WRAP(kwp##bits, k, 8, 4, 0, 1) \
-    WRAP(inverse_kw##bits, k, 8, 8, 1, 0) WRAP(inverse_kwp##bits, k, 8, 4, 1, 1)
-
-ALGORITHMS(128, 16)
-ALGORITHMS(192, 24)
-ALGORITHMS(256, 32)
-
-/* The names by which programs ask: OpenSSL's, and the object identifiers of NIST (CSOR, aes) and RFC 5649. */
-#define OID(last) "2.16.840.1.101.3.4.1." #last
-#define ROW(names, name) {names, "provider=fotsgure", functions_##name, NULL}
-#define ROWS(bits, last_of_ecb, last_of_cbc, last_of_kw, last_of_gcm, last_of_kwp) \
-    ROW("AES-" #bits "-ECB:" OID(last_of_ecb), ecb##bits), ROW("AES-" #bits "-CTR", ctr##bits), \
-    ROW("AES-" #bits "-CBC:AES" #bits ":" OID(last_of_cbc), cbc##bits), \
-    ROW("AES-" #bits "-GCM:id-aes" #bits "-GCM:" OID(last_of_gcm), gcm##bits), \
-    ROW("AES-" #bits "-WRAP:id-aes" #bits "-wrap:AES" #bits "-WRAP:" OID(last_of_kw), kw##bits), \
-    ROW("AES-" #bits "-WRAP-PAD:id-aes" #bits "-wrap-pad:AES" #bits "-WRAP-PAD:" OID(last_of_kwp), kwp##bits), \
-    ROW("AES-" #bits "-WRAP-INV:AES" #bits "-WRAP-INV", inverse_kw##bits), \
-    ROW("AES-" #bits "-WRAP-PAD-INV:AES" #bits "-WRAP-PAD-INV", inverse_kwp##bits)
+ALL(DEFINE)
 
 static const OSSL_ALGORITHM *query(void *provider, int operation, int *no_store)
 {
-    static const OSSL_ALGORITHM ciphers[] = {
-        ROWS(128, 1, 2, 5, 6, 8), ROWS(192, 21, 22, 25, 26, 28), ROWS(256, 41, 42, 45, 46, 48),
-        {NULL, NULL, NULL, NULL}};
-    (void)provider;
+#define ROW(name, names, ...) {names, "provider=fotsgure", functions_##name, NULL},
+    static const OSSL_ALGORITHM ciphers[] = {ALL(ROW) {NULL, NULL, NULL, NULL}};
     *no_store = 0;
     return operation == OSSL_OP_CIPHER ? ciphers : NULL;
 }
 
-static const OSSL_PARAM *gettable_provider_params(void *provider)
-{
-    static const OSSL_PARAM list[] = {
-        OSSL_PARAM_utf8_ptr(OSSL_PROV_PARAM_NAME, NULL, 0), OSSL_PARAM_utf8_ptr(OSSL_PROV_PARAM_VERSION, NULL, 0),
-        OSSL_PARAM_utf8_ptr(OSSL_PROV_PARAM_BUILDINFO, NULL, 0), OSSL_PARAM_int(OSSL_PROV_PARAM_STATUS, NULL),
-        OSSL_PARAM_END};
-    (void)provider;
-    return list;
-}
-
 static int get_provider_params(void *provider, OSSL_PARAM params[])
 {
-    static const char name[] = "AES, proved (fotsgure)", build[] =
-        VERSION " over fotsgure_aes " FOTSGURE_AES_VERSION_TEXT " and fotsgure_gcm " FOTSGURE_GCM_VERSION_TEXT;
-    (void)provider;
+    static const char name[] = "AES, proved (fotsgure)", version[] = FOTSGURE_AES_VERSION_TEXT;
     return put_bytes(params, OSSL_PROV_PARAM_NAME, name, sizeof name - 1) &&
-        put_bytes(params, OSSL_PROV_PARAM_VERSION, VERSION, sizeof VERSION - 1) &&
-        put_bytes(params, OSSL_PROV_PARAM_BUILDINFO, build, sizeof build - 1) &&
+        put_bytes(params, OSSL_PROV_PARAM_VERSION, version, sizeof version - 1) &&
         put_number(params, OSSL_PROV_PARAM_STATUS, 1);
 }
 
-/* Refuses libraries of another version than the headers: their structs may be larger. */
-static int fits_libraries(void)
-{
-    return fotsgure_aes_version() == FOTSGURE_AES_VERSION && fotsgure_gcm_version() == FOTSGURE_GCM_VERSION;
-}
-
+/* It refuses libraries of another version than the headers: their structs may be larger. */
 OSSL_provider_init_fn OSSL_provider_init;
 int OSSL_provider_init(const OSSL_CORE_HANDLE *handle, const OSSL_DISPATCH *in, const OSSL_DISPATCH **out,
     void **context)
@@ -199,9 +230,9 @@ int OSSL_provider_init(const OSSL_CORE_HANDLE *handle, const OSSL_DISPATCH *in, 
         {OSSL_FUNC_PROVIDER_GET_PARAMS, (void (*)(void))get_provider_params},
         {OSSL_FUNC_PROVIDER_QUERY_OPERATION, (void (*)(void))query},
         {0, NULL}};
-    struct provider *provider = fits_libraries() ? calloc(1, sizeof *provider) : NULL;
-    if (!provider)
-        return 0;
+    struct provider *provider = calloc(1, sizeof *provider);
+    if (!provider || fotsgure_aes_version() != FOTSGURE_AES_VERSION || fotsgure_gcm_version() != FOTSGURE_GCM_VERSION)
+        return free(provider), 0;
     provider->handle = handle;
     for (; in->function_id != 0; in++) {
         if (in->function_id == OSSL_FUNC_CORE_NEW_ERROR)

@@ -1,4 +1,4 @@
-/* What the files of the provider share: algorithms, the beginning of every context, parameters and errors. */
+/* What the files of the provider share: algorithms, contexts, parameters and errors. */
 #ifndef FOTSGURE_PROVIDER_H
 #define FOTSGURE_PROVIDER_H
 #ifndef _DEFAULT_SOURCE /* explicit_bzero, getrandom */
@@ -7,14 +7,11 @@
 #include <fotsgure_aes.h>
 #include <fotsgure_gcm.h>
 
-#include <openssl/core.h>
 #include <openssl/core_dispatch.h>
 #include <openssl/core_names.h>
 #include <openssl/evp.h>
-#include <openssl/params.h>
+#include <openssl/prov_ssl.h>
 #include <openssl/proverr.h>
-#include <stddef.h>
-#include <stdint.h>
 #include <string.h>
 
 #ifndef COUNTED /* the tests count the calls that the module serves: count.h */
@@ -23,6 +20,9 @@
 
 #define BLOCK FOTSGURE_AES_BLOCK
 #define TAG FOTSGURE_GCM_TAG
+#define MOST_IV 128 /* OpenSSL's own limit for a nonce of GCM */
+#define MOST_MAC 64 /* the longest MAC in a record of TLS */
+#define HEADER 13   /* the additional data of a record of TLS 1.2 */
 
 typedef unsigned char byte;
 
@@ -37,46 +37,68 @@ struct provider {
 struct algorithm {
     unsigned mode; /* EVP_CIPH_ECB_MODE .. */
     size_t key_length, block, iv_length;
-    int inverse, padded; /* key wrap: by the inverse cipher; with padding (RFC 5649) */
+    const char *first_iv; /* of a new context; NULL: zeros */
+    int inverse, padded;  /* key wrap: by the inverse cipher; with padding (RFC 5649) */
 };
 
-/* The beginning of every context. */
+/* Of a message of GCM. ENDED: its nonce is used. */
+enum stage { NO_NONCE, NONCE, MESSAGE, ENDED };
+
 struct context {
     const struct provider *provider;
     const struct algorithm *algorithm;
     int encrypts, has_key;
+    size_t iv_length;
+    byte iv[MOST_IV];         /* as it was given; in GCM, of the next message if nonces are counted */
+    byte updated_iv[MOST_IV]; /* as it was last asked for */
+    union { /* the key */
+        struct fotsgure_aes aes;
+        struct fotsgure_gcm gcm;
+    };
+    struct fotsgure_aes_ctr ctr;
+    struct fotsgure_aes_cbc cbc;
+
+    /* ECB and CBC */
+    int unpadded;                   /* EVP_CIPHER_CTX_set_padding(ctx, 0) */
+    size_t kept_length;
+    byte kept[BLOCK];               /* text that has come and isn't processed yet */
+    size_t tls_version, mac_length; /* of records of TLS by CBC; 0: none */
+    byte mac[MOST_MAC];
+
+    /* GCM */
+    enum stage stage;
+    int counts;                     /* nonces are counted up: EVP_CTRL_AEAD_SET_IV_FIXED */
+    size_t tag_length, header_length;
+    byte tag[TAG];                  /* the one that was made, or the one to compare */
+    byte header[HEADER];
+    struct fotsgure_gcm_message message;
 };
 
+static inline int is_mode(const struct context *c, unsigned mode) { return c->algorithm->mode == mode; }
+
+/* The calls that take text, by mode. `block` is ECB, CBC and CTR. */
+OSSL_FUNC_cipher_update_fn block_update, wrap_update, gcm_update;
+OSSL_FUNC_cipher_cipher_fn block_cipher, gcm_cipher;
+OSSL_FUNC_cipher_final_fn block_final, gcm_final;
+
+/* Parameters of GCM alone. */
+int gcm_get_params(struct context *c, OSSL_PARAM params[]);
+int gcm_set_params(struct context *c, const OSSL_PARAM params[]);
+
 /* Raises an error under a reason of OpenSSL's own provider, since programs compare these. Returns 0: a call failed. */
-int fail(const struct context *context, int reason, ...);
+int fail(const struct context *c, int reason, ...);
 
 /* Returns the parameter of that name, or NULL. */
 OSSL_PARAM *find(const OSSL_PARAM *params, const char *name);
 
 /* Each of these answers a parameter. They return 1 if nobody asks for it, and 0 if the answer doesn't fit. */
-int put_number(OSSL_PARAM *params, const char *name, size_t value);
+int put_number(OSSL_PARAM *params, const char *name, size_t value); /* below 2^31 */
 int put_bytes(OSSL_PARAM *params, const char *name, const void *bytes, size_t length);
 
-/* Reads a number. Returns 0 if the parameter is none. */
-int get_number(const OSSL_PARAM *param, size_t *value);
+/* Reads a number. Returns 1 if nobody sets it, and 0 if the parameter is none. */
+int get_number(const OSSL_PARAM *params, const char *name, size_t *value);
 
 /* Returns 1 if the bytes are equal, without an early exit. */
 int equal(const byte *a, const byte *b, size_t length);
-
-/* The two families of algorithms. `block` is ECB, CBC, CTR and key wrap. */
-#define DECLARE_FAMILY(family) \
-    extern const size_t family##_size; /* bytes of a context */ \
-    void family##_start(struct context *context); /* the rest of a new context */ \
-    int family##_begin(struct context *context, const byte *key, size_t key_length, const byte *iv, \
-        size_t iv_length); /* a key, a nonce or initialization vector, both, or neither */ \
-    OSSL_FUNC_cipher_get_ctx_params_fn family##_get_params; \
-    OSSL_FUNC_cipher_set_ctx_params_fn family##_set_params;
-DECLARE_FAMILY(block)
-DECLARE_FAMILY(gcm)
-
-/* The calls that take text, by mode. */
-OSSL_FUNC_cipher_update_fn block_update, wrap_update, gcm_update;
-OSSL_FUNC_cipher_cipher_fn block_cipher, gcm_cipher;
-OSSL_FUNC_cipher_final_fn block_final, nothing_final, gcm_final;
 
 #endif

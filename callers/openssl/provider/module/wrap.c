@@ -1,12 +1,12 @@
 /* Key wrap (SP 800-38F; RFC 3394 and RFC 5649): KW by the proved library; KWP, and KW by the inverse cipher, over its
  * block cipher. */
-#include "block.h"
+#include "provider.h"
 
 #include <stdlib.h>
 
 #define HALF (BLOCK / 2) /* the standard's semiblock */
 
-static int process_block(struct block_context *c, byte block[BLOCK], int forwards)
+static int process_block(struct context *c, byte block[BLOCK], int forwards)
 {
     return forwards ? fotsgure_aes_encrypt_blocks(&c->aes, block, 1) == FOTSGURE_AES_DONE
                     : fotsgure_aes_decrypt_blocks(&c->aes, block, 1) == FOTSGURE_AES_DONE;
@@ -19,9 +19,9 @@ static void add_number(byte *half, uint64_t number)
 }
 
 /* W or its inverse (6.1) on `count` semiblocks, of which the first is the check. Two of them are one block (KWP). */
-static int wrap_steps(struct block_context *c, byte *halves, size_t count)
+static int wrap_steps(struct context *c, byte *halves, size_t count)
 {
-    int done = 1, encrypts = c->base.encrypts, forwards = encrypts != c->base.algorithm->inverse;
+    int done = 1, encrypts = c->encrypts, forwards = encrypts != c->algorithm->inverse;
     size_t steps = 6 * (count - 1);
     byte block[BLOCK];
     if (count == 2)
@@ -44,18 +44,18 @@ static int wrap_steps(struct block_context *c, byte *halves, size_t count)
 }
 
 /* Whether the library has all of it: KW under the standard's value, by the forward cipher. */
-static int is_proved(const struct block_context *c)
+static int is_proved(const struct context *c)
 {
     static const byte check[HALF] = {0xa6, 0xa6, 0xa6, 0xa6, 0xa6, 0xa6, 0xa6, 0xa6};
-    return !c->base.algorithm->padded && !c->base.algorithm->inverse && memcmp(c->iv, check, HALF) == 0;
+    return !c->algorithm->padded && !c->algorithm->inverse && memcmp(c->iv, check, HALF) == 0;
 }
 
 /* KW by the library, which goes from one buffer to another; these may be the same. */
-static int wrap_proved(struct block_context *c, byte *out, size_t *out_length, const byte *in, size_t length)
+static int wrap_proved(struct context *c, byte *out, size_t *out_length, const byte *in, size_t length)
 {
-    size_t result = c->base.encrypts ? length + HALF : length - HALF;
+    size_t result = c->encrypts ? length + HALF : length - HALF;
     byte *copy = malloc(result);
-    int done = copy && (c->base.encrypts
+    int done = copy && (c->encrypts
         ? fotsgure_aes_wrap(&c->aes, in, length / HALF, copy, result / HALF)
         : fotsgure_aes_unwrap(&c->aes, in, length / HALF, copy, result / HALF)) == FOTSGURE_AES_DONE;
     if (done)
@@ -67,19 +67,19 @@ static int wrap_proved(struct block_context *c, byte *out, size_t *out_length, c
     return done;
 }
 
-static int wrap(struct block_context *c, byte *out, size_t *out_length, const byte *in, size_t length)
+static int wrap(struct context *c, byte *out, size_t *out_length, const byte *in, size_t length)
 {
     size_t whole = (length + HALF - 1) / HALF * HALF;
     memmove(out + HALF, in, length);
     memset(out + HALF + length, 0, whole - length);
     memcpy(out, c->iv, HALF);
-    for (size_t i = 4; c->base.algorithm->padded && i < HALF; i++)
+    for (size_t i = 4; c->algorithm->padded && i < HALF; i++)
         out[i] = (byte)(length >> (56 - 8 * i));
     *out_length = whole + HALF;
     return wrap_steps(c, out, whole / HALF + 1);
 }
 
-static int unwrap(struct block_context *c, byte *out, size_t *out_length, const byte *in, size_t length)
+static int unwrap(struct context *c, byte *out, size_t *out_length, const byte *in, size_t length)
 {
     static const byte zeros[HALF] = {0};
     size_t whole = length - HALF, count = whole; /* bytes of the key, with padding and without */
@@ -89,8 +89,8 @@ static int unwrap(struct block_context *c, byte *out, size_t *out_length, const 
         return 0;
     memcpy(halves, in, length);
     right = wrap_steps(c, halves, length / HALF);
-    right &= equal(halves, c->iv, c->base.algorithm->iv_length);
-    if (c->base.algorithm->padded) {
+    right &= equal(halves, c->iv, c->algorithm->iv_length);
+    if (c->algorithm->padded) {
         count = (size_t)halves[4] << 24 | (size_t)halves[5] << 16 | (size_t)halves[6] << 8 | halves[7];
         right = right && count <= whole && count + HALF > whole && equal(halves + HALF + count, zeros, whole - count);
     }
@@ -105,27 +105,27 @@ static int unwrap(struct block_context *c, byte *out, size_t *out_length, const 
 /* A key comes whole, in one call. */
 int wrap_update(void *context, byte *out, size_t *out_length, size_t out_size, const byte *in, size_t length)
 {
-    struct block_context *c = context;
-    int padded = c->base.algorithm->padded, encrypts = c->base.encrypts;
+    struct context *c = context;
+    int padded = c->algorithm->padded, encrypts = c->encrypts;
     size_t least = encrypts ? (padded ? 1 : 2 * HALF) : (padded ? 2 * HALF : 3 * HALF), result;
     *out_length = 0;
     if (!in || length == 0)
         return 1;
     if (length < least || length > (size_t)1 << 31 || (length % HALF != 0 && !(encrypts && padded)))
-        return fail(&c->base, PROV_R_INVALID_INPUT_LENGTH);
+        return fail(c, PROV_R_INVALID_INPUT_LENGTH);
     result = encrypts ? (length + HALF - 1) / HALF * HALF + HALF : length - HALF;
     if (!out) {
         *out_length = result;
         return 1;
     }
-    if (!c->base.has_key)
-        return fail(&c->base, PROV_R_NO_KEY_SET);
+    if (!c->has_key)
+        return fail(c, PROV_R_NO_KEY_SET);
     if (out_size + HALF - 1 < result) /* OpenSSL doesn't count the padding */
-        return fail(&c->base, PROV_R_OUTPUT_BUFFER_TOO_SMALL);
-    COUNTED(c->base.algorithm, 2, length);
+        return fail(c, PROV_R_OUTPUT_BUFFER_TOO_SMALL);
+    COUNTED(c->algorithm, 2, length);
     if (is_proved(c) ? wrap_proved(c, out, out_length, in, length)
             : encrypts ? wrap(c, out, out_length, in, length)
                        : unwrap(c, out, out_length, in, length))
         return 1;
-    return fail(&c->base, PROV_R_CIPHER_OPERATION_FAILED);
+    return fail(c, PROV_R_CIPHER_OPERATION_FAILED);
 }
