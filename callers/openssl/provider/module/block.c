@@ -67,10 +67,8 @@ static int open_record(struct context *c, byte *record, size_t *length)
 static int record(struct context *c, byte *out, size_t *out_length, size_t out_size, const byte *in, size_t length)
 {
     size_t padding = c->encrypts ? BLOCK - length % BLOCK : 0;
-    if (in != out || c->unpadded || out_size < length)
+    if (in != out || c->unpadded || out_size < length || out_size - length < padding)
         return fail(c, PROV_R_CIPHER_OPERATION_FAILED);
-    if (out_size - length < padding)
-        return fail(c, PROV_R_OUTPUT_BUFFER_TOO_SMALL);
     memset(out + length, (int)padding - 1, padding);
     *out_length = length + padding;
     return (*out_length % BLOCK == 0 && process(c, out, *out_length) &&
