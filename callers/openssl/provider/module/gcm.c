@@ -33,8 +33,8 @@ static int end(struct context *c)
         status = c->tag_length == TAG
             ? fotsgure_gcm_accept(&c->gcm, &c->message, c->tag, TAG)
             : fotsgure_gcm_accept_short(&c->gcm, &c->message, c->tag_length, c->tag, c->tag_length);
+        fotsgure_gcm_wipe_message(&c->message);
     }
-    fotsgure_gcm_wipe_message(&c->message);
     return status == FOTSGURE_GCM_DONE;
 }
 

@@ -17,14 +17,6 @@ int fail(const struct context *c, int reason, ...)
     return 0;
 }
 
-OSSL_PARAM *find(const OSSL_PARAM *params, const char *name)
-{
-    for (; params && params->key; params++)
-        if (strcmp(params->key, name) == 0)
-            return (OSSL_PARAM *)params;
-    return NULL;
-}
-
 /* Numbers have 4 or 8 bytes, the lowest first, as on every processor of the library. */
 static int is_number(const OSSL_PARAM *param)
 {

@@ -42,6 +42,8 @@ static int set_params(void *context, const OSSL_PARAM params[])
     struct context *c = context;
     size_t key_length = c->algorithm->key_length, padded = !c->unpadded;
     size_t version = c->tls_version, mac_length = c->mac_length;
+    if (!params)
+        return 1;
     if (!get_number(params, OSSL_CIPHER_PARAM_KEYLEN, &key_length) || key_length != c->algorithm->key_length)
         return fail(c, PROV_R_INVALID_KEY_LENGTH);
     if (is_mode(c, EVP_CIPH_GCM_MODE))
@@ -72,7 +74,8 @@ static int get_params(void *context, OSSL_PARAM params[])
     struct context *c = context;
     if (is_mode(c, EVP_CIPH_GCM_MODE) && !gcm_get_params(c, params))
         return 0;
-    update_iv(c);
+    if (find(params, OSSL_CIPHER_PARAM_UPDATED_IV))
+        update_iv(c);
     return put_number(params, OSSL_CIPHER_PARAM_KEYLEN, c->algorithm->key_length) &&
         put_number(params, OSSL_CIPHER_PARAM_IVLEN, c->iv_length) &&
         put_number(params, OSSL_CIPHER_PARAM_PADDING, !c->unpadded) &&

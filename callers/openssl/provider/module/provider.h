@@ -88,8 +88,14 @@ int gcm_set_params(struct context *c, const OSSL_PARAM params[]);
 /* Raises an error under a reason of OpenSSL's own provider, since programs compare these. Returns 0: a call failed. */
 int fail(const struct context *c, int reason, ...);
 
-/* Returns the parameter of that name, or NULL. */
-OSSL_PARAM *find(const OSSL_PARAM *params, const char *name);
+/* Returns the parameter of that name, or NULL. Every message asks for some, and most names differ at once. */
+static inline OSSL_PARAM *find(const OSSL_PARAM *params, const char *name)
+{
+    for (; params && params->key; params++)
+        if (*params->key == *name && strcmp(params->key, name) == 0)
+            return (OSSL_PARAM *)params;
+    return NULL;
+}
 
 /* Each of these answers a parameter. They return 1 if nobody asks for it, and 0 if the answer doesn't fit. */
 int put_number(OSSL_PARAM *params, const char *name, size_t value); /* below 2^31 */
