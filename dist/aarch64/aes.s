@@ -4578,7 +4578,7 @@
 	mov	x9, xzr
 	mov	x8, x0
 	str	q0, [x8], #16
-.LBB9_3:                                // %"aes_permute::schedule::LaneScheduleKeyForm::store.exit"
+.LBB9_3:                                // %"aes_permute::schedule::LaneScheduleFourWords::store.exit"
                                         // =>This Inner Loop Header: Depth=1
 	movi	v1.16b, #15
 	adrp	x10, .LCPI9_0
@@ -4646,7 +4646,7 @@
 	eor	v19.16b, v20.16b, v19.16b
 	str	q19, [x8, x10, lsl #4]
 	b.ne	.LBB9_3
-// %bb.4:                               // %"aes_permute::schedule::LaneScheduleKeyForm::store.exit.peel"
+// %bb.4:                               // %"aes_permute::schedule::LaneScheduleFourWords::store.exit.peel"
 	eor	v4.16b, v5.16b, v4.16b
 	ushr	v5.16b, v4.16b, #4
 	and	v1.16b, v4.16b, v1.16b
@@ -4681,7 +4681,7 @@
 	str	q0, [x0], #48
 	mov	v1.d[1], v2.d[0]
 	b	.LBB9_7
-.LBB9_6:                                // %"aes_permute::schedule::LaneScheduleKeyForm::store.exit.i"
+.LBB9_6:                                // %"aes_permute::schedule::LaneScheduleFourWords::store.exit.i"
                                         //   in Loop: Header=BB9_7 Depth=1
 	tbl	v1.16b, { v18.16b }, v5.16b
 	dup	v3.4s, v0.s[1]

@@ -7006,7 +7006,7 @@ fotsgure_gcm_set_key:                   // @fotsgure_gcm_set_key
 	mov	x11, xzr
 	add	x10, x19, #20
 	stur	q0, [x19, #4]
-.LBB26_5:                               // %"aes_permute::schedule::LaneScheduleKeyForm::store.exit.i.i"
+.LBB26_5:                               // %"aes_permute::schedule::LaneScheduleFourWords::store.exit.i.i"
                                         // =>This Inner Loop Header: Depth=1
 	movi	v1.16b, #15
 	adrp	x12, .LCPI26_0
@@ -7074,7 +7074,7 @@ fotsgure_gcm_set_key:                   // @fotsgure_gcm_set_key
 	eor	v5.16b, v4.16b, v19.16b
 	str	q5, [x10, x12, lsl #4]
 	b.ne	.LBB26_5
-// %bb.6:                               // %"aes_permute::schedule::LaneScheduleKeyForm::store.exit.peel.i.i"
+// %bb.6:                               // %"aes_permute::schedule::LaneScheduleFourWords::store.exit.peel.i.i"
 	ushr	v5.16b, v4.16b, #4
 	and	v1.16b, v4.16b, v1.16b
 	eor	v4.16b, v5.16b, v1.16b
@@ -7109,7 +7109,7 @@ fotsgure_gcm_set_key:                   // @fotsgure_gcm_set_key
 	stur	q0, [x19, #4]
 	mov	v1.d[1], v2.d[0]
 	b	.LBB26_9
-.LBB26_8:                               // %"aes_permute::schedule::LaneScheduleKeyForm::store.exit.i.i.i"
+.LBB26_8:                               // %"aes_permute::schedule::LaneScheduleFourWords::store.exit.i.i.i"
                                         //   in Loop: Header=BB26_9 Depth=1
 	tbl	v1.16b, { v18.16b }, v5.16b
 	dup	v3.4s, v0.s[1]

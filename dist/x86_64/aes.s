@@ -5444,7 +5444,7 @@
 	leaq	16(%rdi), %rax
 	xorl	%ecx, %ecx
 	.p2align	4
-.LBB9_3:                                # %"aes_permute::schedule::LaneScheduleKeyForm::store.exit"
+.LBB9_3:                                # %"aes_permute::schedule::LaneScheduleFourWords::store.exit"
                                         # =>This Inner Loop Header: Depth=1
 	leaq	.Lstatic.0(%rip), %rdx
 	movzbl	(%rcx,%rdx), %edx
@@ -5518,7 +5518,7 @@
 	addq	$16, %rax
 	cmpq	$9, %rcx
 	jne	.LBB9_3
-# %bb.4:                                # %"aes_permute::schedule::LaneScheduleKeyForm::store.exit.peel"
+# %bb.4:                                # %"aes_permute::schedule::LaneScheduleFourWords::store.exit.peel"
 	movdqa	%xmm0, %xmm2
 	pslldq	$4, %xmm2                       # xmm2 = zero,zero,zero,zero,xmm2[0,1,2,3,4,5,6,7,8,9,10,11]
 	pxor	%xmm0, %xmm2

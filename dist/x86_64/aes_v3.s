@@ -6175,7 +6175,7 @@
 	leaq	16(%rdi), %rax
 	xorl	%ecx, %ecx
 	.p2align	4
-.LBB9_3:                                # %"aes_permute::schedule::LaneScheduleKeyForm::store.exit"
+.LBB9_3:                                # %"aes_permute::schedule::LaneScheduleFourWords::store.exit"
                                         # =>This Inner Loop Header: Depth=1
 	leaq	.Lstatic.0(%rip), %rdx
 	vpbroadcastb	(%rcx,%rdx), %xmm1
@@ -6231,7 +6231,7 @@
 	addq	$16, %rax
 	cmpq	$9, %rcx
 	jne	.LBB9_3
-# %bb.4:                                # %"aes_permute::schedule::LaneScheduleKeyForm::store.exit.peel"
+# %bb.4:                                # %"aes_permute::schedule::LaneScheduleFourWords::store.exit.peel"
 	vpslldq	$4, %xmm0, %xmm8                # xmm8 = zero,zero,zero,zero,xmm0[0,1,2,3,4,5,6,7,8,9,10,11]
 	vpxor	%xmm0, %xmm8, %xmm0
 	vpslldq	$8, %xmm0, %xmm8                # xmm8 = zero,zero,zero,zero,zero,zero,zero,zero,xmm0[0,1,2,3,4,5,6,7]

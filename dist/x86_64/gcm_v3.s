@@ -9635,7 +9635,7 @@ fotsgure_gcm_set_key:                   # @fotsgure_gcm_set_key
 	leaq	20(%rdi), %rdx
 	xorl	%esi, %esi
 	.p2align	4
-.LBB26_6:                               # %"aes_permute::schedule::LaneScheduleKeyForm::store.exit.i.i"
+.LBB26_6:                               # %"aes_permute::schedule::LaneScheduleFourWords::store.exit.i.i"
                                         # =>This Inner Loop Header: Depth=1
 	leaq	.Lstatic.0(%rip), %r8
 	vpbroadcastb	(%rsi,%r8), %xmm1
@@ -9691,7 +9691,7 @@ fotsgure_gcm_set_key:                   # @fotsgure_gcm_set_key
 	addq	$16, %rdx
 	cmpq	$9, %rsi
 	jne	.LBB26_6
-# %bb.7:                                # %"aes_permute::schedule::LaneScheduleKeyForm::store.exit.peel.i.i"
+# %bb.7:                                # %"aes_permute::schedule::LaneScheduleFourWords::store.exit.peel.i.i"
 	vpslldq	$4, %xmm0, %xmm8                # xmm8 = zero,zero,zero,zero,xmm0[0,1,2,3,4,5,6,7,8,9,10,11]
 	vpxor	%xmm0, %xmm8, %xmm0
 	vpslldq	$8, %xmm0, %xmm8                # xmm8 = zero,zero,zero,zero,zero,zero,zero,zero,xmm0[0,1,2,3,4,5,6,7]

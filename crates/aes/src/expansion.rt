@@ -6,7 +6,7 @@ ghost use Rattle.aes_planes.specs.Planes.{summed};
 
 use crate::Block;
 use crate::hazmat::{cipher_round, inv_mix_columns};
-use aes_planes::expansion::{KeyForm, expand};
+use aes_planes::expansion::{FourWords, expand};
 use aes_planes::laws;
 use aes_planes::soft::sbox::Layers;
 
@@ -53,7 +53,7 @@ fn expanded<const COUNT: usize>(key: &[u8]) -> [Block; COUNT]
 // Round keys as the blocks that they are.
 struct BlockKeys;
 
-impl KeyForm for BlockKeys {
+impl FourWords for BlockKeys {
     type Words = Block;
 
     type StoredIn = Block;

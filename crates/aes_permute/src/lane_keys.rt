@@ -8,7 +8,7 @@ ghost use Rattle.aes_permute.specs.Stored.{IsWritten};
 
 use crate::lanes::Lanes;
 use crate::rounds::{encrypting_key, inverted_key, sub_bytes_but_constant};
-use aes_planes::expansion::{self, KeyForm};
+use aes_planes::expansion::{self, FourWords};
 use aes_planes::laws;
 use aes_planes::soft::sbox::Layers;
 use aes_planes::soft::word::Block;
@@ -52,7 +52,7 @@ fn last_key(x: u8x16) -> u8x16
 // The schedule of Cipher, made in vectors: one has four words.
 struct LaneKeys;
 
-impl KeyForm for LaneKeys {
+impl FourWords for LaneKeys {
     type Words = u8x16;
 
     type StoredIn = Block;

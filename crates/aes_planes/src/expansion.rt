@@ -10,8 +10,9 @@ use crate::soft::sbox::Layers;
 // The powers of x in the field, from 0 to 9: the bytes that round constants begin with (FIPS 197, 5.2).
 const POWERS_OF_X: [u8; 10] = [0x01, 0x02, 0x04, 0x08, 0x10, 0x20, 0x40, 0x80, 0x1b, 0x36];
 
-/// A form of round keys: how four words of the key expansion are made, and how they are stored as a round key.
-pub trait KeyForm {
+/// What four words of the key expansion are (planes, a vector or a block): how they are made, and how they are stored as a
+/// round key.
+pub trait FourWords {
     /// Four words.
     type Words: Copy;
 
@@ -88,7 +89,7 @@ pub trait KeyForm {
 /// Stores the round keys of a key of any size: KeyExpansion (FIPS 197, 5.2). Where the length of the key is a constant,
 /// one of the three loops is compiled.
 #[inline(always)]
-pub fn expand<F: KeyForm>(stored: &mut [F::StoredIn], key: &[u8], layers: &mut Layers)
+pub fn expand<F: FourWords>(stored: &mut [F::StoredIn], key: &[u8], layers: &mut Layers)
     requires one_of_three { (length key.now ≡ 16) ⊎ ((length key.now ≡ 24) ⊎ (length key.now ≡ 32)) }
     requires room { length stored.old ≡ F.length_for (fips.rounds key.now) }
     ensures keys { (i : ℕ) → i ≤ fips.rounds key.now
@@ -107,7 +108,7 @@ pub fn expand<F: KeyForm>(stored: &mut [F::StoredIn], key: &[u8], layers: &mut L
 
 // Stores the round keys of a key of 16 bytes.
 #[inline(always)]
-fn expand_128<F: KeyForm>(stored: &mut [F::StoredIn], key: &[u8], layers: &mut Layers)
+fn expand_128<F: FourWords>(stored: &mut [F::StoredIn], key: &[u8], layers: &mut Layers)
     requires room { length stored.old ≡ F.length_for 10 }
     requires sized { length key.now ≡ 16 }
     ensures keys { (i : ℕ) → i ≤ 10 → F.IsStored stored.new 10 i (fips.round_key (fips.key_expansion key.now) i) }
@@ -125,7 +126,7 @@ fn expand_128<F: KeyForm>(stored: &mut [F::StoredIn], key: &[u8], layers: &mut L
 
 // Stores the round keys of a key of 24 bytes.
 #[inline(always)]
-fn expand_192<F: KeyForm>(stored: &mut [F::StoredIn], key: &[u8], layers: &mut Layers)
+fn expand_192<F: FourWords>(stored: &mut [F::StoredIn], key: &[u8], layers: &mut Layers)
     requires room { length stored.old ≡ F.length_for 12 }
     requires sized { length key.now ≡ 24 }
     ensures keys { (i : ℕ) → i ≤ 12 → F.IsStored stored.new 12 i (fips.round_key (fips.key_expansion key.now) i) }
@@ -151,7 +152,7 @@ fn expand_192<F: KeyForm>(stored: &mut [F::StoredIn], key: &[u8], layers: &mut L
 
 // Stores the round keys of a key of 32 bytes.
 #[inline(always)]
-fn expand_256<F: KeyForm>(stored: &mut [F::StoredIn], key: &[u8], layers: &mut Layers)
+fn expand_256<F: FourWords>(stored: &mut [F::StoredIn], key: &[u8], layers: &mut Layers)
     requires room { length stored.old ≡ F.length_for 14 }
     requires sized { length key.now ≡ 32 }
     ensures keys { (i : ℕ) → i ≤ 14 → F.IsStored stored.new 14 i (fips.round_key (fips.key_expansion key.now) i) }

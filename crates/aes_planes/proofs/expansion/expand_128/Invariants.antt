@@ -6,8 +6,8 @@ use Rattle.aes_planes.proofs.expansion.expand_128.Given as goal
 
 abbrev pub invariant-expand : goal.invariant-expand
 invariant-expand g l = record {
-  done : AreStored (g.F.KeyForm.IsStored l.stored 10) l.key (l.i + 1);
-  last_four : g.F.KeyForm.AreWords l.words (block_at l.key (4 * l.i));
-  layers : l.layers ≡ l.fn.layers + l.i * g.F.KeyForm.LAYERS;
-  same_length : length l.stored ≡ g.F.KeyForm.length_for 10;
+  done : AreStored (g.F.FourWords.IsStored l.stored 10) l.key (l.i + 1);
+  last_four : g.F.FourWords.AreWords l.words (block_at l.key (4 * l.i));
+  layers : l.layers ≡ l.fn.layers + l.i * g.F.FourWords.LAYERS;
+  same_length : length l.stored ≡ g.F.FourWords.length_for 10;
 }

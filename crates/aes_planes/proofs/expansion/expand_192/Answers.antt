@@ -5,10 +5,10 @@ use Rattle.aes_planes.proofs.expansion.expand_192.Goals as goal
 
 pub expand-init : goal.expand-init
 expand-init g c =
-    let s = form g.F.KeyForm.AreWords c.args.key.now 6 (omega arith) c.requires.sized in
+    let s = form g.F.FourWords.AreWords c.args.key.now 6 (omega arith) c.requires.sized in
     let front = loaded s _ 0 0 c.load-front.ensures refl (omega arith) in
     record {
-      done = more s 1 (none s (g.F.KeyForm.IsStored c.args.stored.now 12)) (omega arith) c.store.ensures.others
+      done = more s 1 (none s (g.F.FourWords.IsStored c.args.stored.now 12)) (omega arith) c.store.ensures.others
           (c.store.ensures.there _ front) refl refl;
       first_four = front;
       last_four = loaded s _ 2 8 c.load-back.ensures refl (omega arith);
@@ -20,7 +20,7 @@ pub expand-preserved : goal.expand-preserved
 expand-preserved g c =
     let i = c.expand.i in
     let inv = c.expand.invariant in
-    let s = form g.F.KeyForm.AreWords c.args.key.now 6 (omega arith) c.requires.sized in
+    let s = form g.F.FourWords.AreWords c.args.key.now 6 (omega arith) c.requires.sized in
     let front1 = rotated s _ (2 * i) (12 * i) (12 * i + 2) (12 * i + 6)
     (c.rotated-front1.ensures.words _ _ inv.first_four inv.last_four) (omega arith) (omega arith) refl (omega arith) in
     let back1 = plain s _ (2 * i) (12 * i + 2) (12 * i + 6) (12 * i + 8)
@@ -45,5 +45,5 @@ expand-preserved g c =
     }
 
 pub returns-clause-keys : goal.returns-clause-keys
-returns-clause-keys g c = all (form g.F.KeyForm.AreWords c.args.key.now 6 (omega arith) c.requires.sized)
-    (g.F.KeyForm.IsStored c.expand.stored 12) _ 12 c.expand.invariant.done (omega arith) (omega arith)
+returns-clause-keys g c = all (form g.F.FourWords.AreWords c.args.key.now 6 (omega arith) c.requires.sized)
+    (g.F.FourWords.IsStored c.expand.stored 12) _ 12 c.expand.invariant.done (omega arith) (omega arith)

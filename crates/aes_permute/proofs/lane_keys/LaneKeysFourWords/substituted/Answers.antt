@@ -1,7 +1,7 @@
--- What is left to show of `lane_keys::LaneKeysKeyForm::substituted`.
+-- What is left to show of `lane_keys::LaneKeysFourWords::substituted`.
 use Rattle.std.proofs.Common.{◌≡◌, length}
 use Rattle.aes_permute.proofs.ExpandedLanes.{substituted_is}
-use Rattle.aes_permute.proofs.lane_keys.LaneKeysKeyForm.substituted.Goals as goal
+use Rattle.aes_permute.proofs.lane_keys.LaneKeysFourWords.substituted.Goals as goal
 
 pub returns-clause-words : goal.returns-clause-words
 returns-clause-words c = λ x y hx hy.

@@ -1,7 +1,7 @@
--- What is left to show of `lane_keys::LaneKeysKeyForm::rotated`.
+-- What is left to show of `lane_keys::LaneKeysFourWords::rotated`.
 use Rattle.std.proofs.Common.{◌≡◌, length, arith}
 use Rattle.aes_permute.proofs.ExpandedLanes.{rotated_is}
-use Rattle.aes_permute.proofs.lane_keys.LaneKeysKeyForm.rotated.Goals as goal
+use Rattle.aes_permute.proofs.lane_keys.LaneKeysFourWords.rotated.Goals as goal
 
 pub returns-clause-words : goal.returns-clause-words
 returns-clause-words c = λ x y hx hy.

@@ -1,7 +1,7 @@
--- What is left to show of `lane_keys::LaneKeysKeyForm::plain`.
+-- What is left to show of `lane_keys::LaneKeysFourWords::plain`.
 use Rattle.std.proofs.Common.{◌≡◌, length}
 use Rattle.aes_permute.proofs.ExpandedLanes.{plain_is}
-use Rattle.aes_permute.proofs.lane_keys.LaneKeysKeyForm.plain.Goals as goal
+use Rattle.aes_permute.proofs.lane_keys.LaneKeysFourWords.plain.Goals as goal
 
 pub returns : goal.returns
 returns c = λ x y hx hy.

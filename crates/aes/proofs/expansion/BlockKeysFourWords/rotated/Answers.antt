@@ -1,6 +1,6 @@
--- What is left to show of `expansion::BlockKeysKeyForm::rotated`.
+-- What is left to show of `expansion::BlockKeysFourWords::rotated`.
 use Rattle.aes.proofs.BlockExpansion.{rotated_is}
-use Rattle.aes.proofs.expansion.BlockKeysKeyForm.rotated.Goals as goal
+use Rattle.aes.proofs.expansion.BlockKeysFourWords.rotated.Goals as goal
 
 pub returns-clause-words : goal.returns-clause-words
 returns-clause-words c = λ x y hx hy. rotated_is x y _ c.args.before c.args.last hx hy c.substituted_word-word.result _
