@@ -49,8 +49,8 @@ module _ {A : Type 0} (bits : A → List Bool) (w R Q : ℕ) (xs : List ℕ) whe
   module _ (n h b s : ℕ) (shape : IsShape bits n w R h Q b s) (ys : List A)
       (same_length : length ys ≡ length xs)
       (spread : (m : ℕ) (d : A) → m < length xs → InEverySlot m (get_or ys m d)) where
-    abbrev wide : List (List Bool)
-    wide = map bits ys
+    abbrev widened : List (List Bool)
+    widened = map bits ys
 
     abbrev narrow : List (List Bool)
     narrow = map (word_bits 16) xs
@@ -59,14 +59,14 @@ module _ {A : Type 0} (bits : A → List Bool) (w R Q : ℕ) (xs : List ℕ) whe
     block : ℕ → List ℕ
     block o = fips.state (λ r c. held_byte (words_at narrow o) (place 1 r c 0))
 
-    same_byte : (o r c k : ℕ) → r < 4 → c < 4 → k < n → held_byte (words_at wide o) (place n r c k)
+    same_byte : (o r c k : ℕ) → r < 4 → c < 4 → k < n → held_byte (words_at widened o) (place n r c k)
         ≡ held_byte (words_at narrow o) (place 1 r c 0)
     same_byte o r c k hr hc hk =
         let p : ℕ = place n r c k in
         let q : ℕ = place 1 r c 0 in
         let spot : r * 4 + c ≡ q = omega arith in
         ap number
-        (sym (words_at-map (λ w. at w p) wide o)
+        (sym (words_at-map (λ w. at w p) widened o)
         ∙ ap (λ v. words_at v o)
         (map-map (λ w. at w p) bits ys
         ∙ same_maps (λ y. at (bits y) p) (λ x. at (word_bits 16 x) q) ys xs same_length
@@ -77,7 +77,7 @@ module _ {A : Type 0} (bits : A → List Bool) (w R Q : ℕ) (xs : List ℕ) whe
         ∙ sym (map-map (λ w. at w q) (word_bits 16) xs))
         ∙ words_at-map (λ w. at w q) narrow o)
 
-    in_every_slot : (o : ℕ) → held n (words_at wide o) ≡ replicate n (block o)
+    in_every_slot : (o : ℕ) → held n (words_at widened o) ≡ replicate n (block o)
     unfolding held block
     in_every_slot o = build_is n _ (replicate n (block o)) [] (length-replicate n (block o)) (λ k lt.
         state_same _ _ (λ r c hr hc. same_byte o r c k hr hc lt) ∙ sym (get_or-replicate n k (block o) [] lt))
@@ -86,22 +86,22 @@ module _ {A : Type 0} (bits : A → List Bool) (w R Q : ℕ) (xs : List ℕ) whe
     unfolding held fips.build fips.build_from block
     in_one_slot o = refl
 
-    same_first_slot : (i : ℕ) → first_slot n wide i ≡ first_slot 1 narrow i
+    same_first_slot : (i : ℕ) → first_slot n widened i ≡ first_slot 1 narrow i
     unfolding first_slot
     same_first_slot i =
         ap (λ v. get_or v 0 []) (in_every_slot (8 * i)) ∙ get_or-replicate n 0 (block (8 * i)) [] shape.some_block
         ∙ sym (ap (λ v. get_or v 0 []) (in_one_slot (8 * i)))
 
     -- words with one block in every slot are read as the key that the words of that one block are read as
-    pub same_key : (size : ℕ) (layout : ℕ → ℕ) → key_of size n layout wide ≡ key_of size 1 layout narrow
+    pub same_key : (size : ℕ) (layout : ℕ → ℕ) → key_of size n layout widened ≡ key_of size 1 layout narrow
     unfolding key_of
     same_key size layout = λ t. take size
         (same_first_slot 0 t ++ fips.shift_times (layout 1) (map plus63 (same_first_slot 1 t)))
 
-    same_blocks : (count : ℕ) (f : ℕ → List ℕ) → HoldsBlocks 1 count f narrow → HoldsBlocks n count f wide
+    same_blocks : (count : ℕ) (f : ℕ → List ℕ) → HoldsBlocks 1 count f narrow → HoldsBlocks n count f widened
     same_blocks count f holds i lt =
         in_every_slot (8 * i) ∙ ap (replicate n) (ap (λ v. get_or v 0 []) (sym (in_one_slot (8 * i)) ∙ holds i lt))
 
     -- and if those are the schedule of that key, so are the wider words
-    pub widened : (size : ℕ) (layout : ℕ → ℕ) → IsKeyed size 1 layout narrow → IsKeyed size n layout wide
-    widened size layout keyed = rw (same_key size layout) (same_blocks _ _ keyed)
+    pub widened_keyed : (size : ℕ) (layout : ℕ → ℕ) → IsKeyed size 1 layout narrow → IsKeyed size n layout widened
+    widened_keyed size layout keyed = rw (same_key size layout) (same_blocks _ _ keyed)

@@ -40,8 +40,8 @@ same_planes n a b la lb sized e =
     ∙ sym (hb.bits p r c k hp hr hc hk)) i (omega (arith, s.0, li))))
 
 -- the lengths of words
-pub words_sized : {A : Type 0} (f : A → List Bool) (m : ℕ) → ((x : A) → length (f x) ≡ m) → (xs : List A) (p : ℕ)
+pub lengths_of_words : {A : Type 0} (f : A → List Bool) (m : ℕ) → ((x : A) → length (f x) ≡ m) → (xs : List A) (p : ℕ)
     → p < length xs → length (get_or (map f xs) p []) ≡ m
-words_sized f m h [] p l = absurd (omega arith)
-words_sized f m h (x ∷ xs) zero l = h x
-words_sized f m h (x ∷ xs) (suc p) l = words_sized f m h xs p (omega arith)
+lengths_of_words f m h [] p l = absurd (omega arith)
+lengths_of_words f m h (x ∷ xs) zero l = h x
+lengths_of_words f m h (x ∷ xs) (suc p) l = lengths_of_words f m h xs p (omega arith)

@@ -151,35 +151,35 @@ swapped_held {bits = bits} {n = n} {B = B} {ys = ys} shape mask new z d nibbles 
 -- ---- the swaps of the shifts
 
 -- the columns that are exchanged with those two on, for one ShiftRows, as a nibble a row
-abbrev pub halves_1 : List ℕ
-halves_1 = 0 ∷ 1 ∷ 3 ∷ 2 ∷ []
+abbrev pub two_apart_1 : List ℕ
+two_apart_1 = 0 ∷ 1 ∷ 3 ∷ 2 ∷ []
 
 -- those for two ShiftRows
-abbrev pub halves_2 : List ℕ
-halves_2 = 0 ∷ 3 ∷ 0 ∷ 3 ∷ []
+abbrev pub two_apart_2 : List ℕ
+two_apart_2 = 0 ∷ 3 ∷ 0 ∷ 3 ∷ []
 
 -- those for three ShiftRows
-abbrev pub halves_3 : List ℕ
-halves_3 = 0 ∷ 2 ∷ 3 ∷ 1 ∷ []
+abbrev pub two_apart_3 : List ℕ
+two_apart_3 = 0 ∷ 2 ∷ 3 ∷ 1 ∷ []
 
 -- the columns that are exchanged with their neighbours, for one ShiftRows and for three, as a nibble a row
 abbrev pub pairs : List ℕ
 pairs = 0 ∷ 5 ∷ 0 ∷ 5 ∷ []
 
 -- the partner of each of those columns is in its row and is not named itself
-pub halves_1_swap : (r c : ℕ) → r < 4 → c < 4 → is_swap_at 2 halves_1 r c ≡ true
+pub two_apart_1_swap : (r c : ℕ) → r < 4 → c < 4 → is_swap_at 2 two_apart_1 r c ≡ true
 unfolding all_below bit
-halves_1_swap = all_pairs_tell 4 4 (is_swap_at 2 halves_1) refl
+two_apart_1_swap = all_pairs_tell 4 4 (is_swap_at 2 two_apart_1) refl
 
 -- the same for two ShiftRows
-pub halves_2_swap : (r c : ℕ) → r < 4 → c < 4 → is_swap_at 2 halves_2 r c ≡ true
+pub two_apart_2_swap : (r c : ℕ) → r < 4 → c < 4 → is_swap_at 2 two_apart_2 r c ≡ true
 unfolding all_below bit
-halves_2_swap = all_pairs_tell 4 4 (is_swap_at 2 halves_2) refl
+two_apart_2_swap = all_pairs_tell 4 4 (is_swap_at 2 two_apart_2) refl
 
 -- the same for three ShiftRows
-pub halves_3_swap : (r c : ℕ) → r < 4 → c < 4 → is_swap_at 2 halves_3 r c ≡ true
+pub two_apart_3_swap : (r c : ℕ) → r < 4 → c < 4 → is_swap_at 2 two_apart_3 r c ≡ true
 unfolding all_below bit
-halves_3_swap = all_pairs_tell 4 4 (is_swap_at 2 halves_3) refl
+two_apart_3_swap = all_pairs_tell 4 4 (is_swap_at 2 two_apart_3) refl
 
 -- the same for the swap of neighbours
 pub pairs_swap : (r c : ℕ) → r < 4 → c < 4 → is_swap_at 1 pairs r c ≡ true
@@ -188,20 +188,20 @@ pairs_swap = all_pairs_tell 4 4 (is_swap_at 1 pairs) refl
 
 -- one ShiftRows of each block swaps columns two apart and then neighbours
 pub shifted_1 : (bs : List (List ℕ))
-    → map (shift_times 1) bs ≡ map (columns_swapped 1 pairs) (map (columns_swapped 2 halves_1) bs)
+    → map (shift_times 1) bs ≡ map (columns_swapped 1 pairs) (map (columns_swapped 2 two_apart_1) bs)
 unfolding columns_swapped build shift_times shift_rows bit
-shifted_1 bs = sym (map-map (columns_swapped 1 pairs) (columns_swapped 2 halves_1) bs ∙ map-same _ _ bs (λ s. refl))
+shifted_1 bs = sym (map-map (columns_swapped 1 pairs) (columns_swapped 2 two_apart_1) bs ∙ map-same _ _ bs (λ s. refl))
 
 -- two ShiftRows of each block swap columns two apart
-pub shifted_2 : (bs : List (List ℕ)) → map (shift_times 2) bs ≡ map (columns_swapped 2 halves_2) bs
+pub shifted_2 : (bs : List (List ℕ)) → map (shift_times 2) bs ≡ map (columns_swapped 2 two_apart_2) bs
 unfolding columns_swapped build shift_times shift_rows bit
 shifted_2 bs = map-same _ _ bs (λ s. refl)
 
 -- three ShiftRows of each block swap columns two apart and then neighbours
 pub shifted_3 : (bs : List (List ℕ))
-    → map (shift_times 3) bs ≡ map (columns_swapped 1 pairs) (map (columns_swapped 2 halves_3) bs)
+    → map (shift_times 3) bs ≡ map (columns_swapped 1 pairs) (map (columns_swapped 2 two_apart_3) bs)
 unfolding columns_swapped build shift_times shift_rows bit
-shifted_3 bs = sym (map-map (columns_swapped 1 pairs) (columns_swapped 2 halves_3) bs ∙ map-same _ _ bs (λ s. refl))
+shifted_3 bs = sym (map-map (columns_swapped 1 pairs) (columns_swapped 2 two_apart_3) bs ∙ map-same _ _ bs (λ s. refl))
 
 -- three ShiftRows are one InvShiftRows
 pub shifted_back_1 : (s : List ℕ) → shift_times 3 s ≡ inv_shift_times 1 s

@@ -7,11 +7,11 @@ ghost use Rattle.aes_soft.specs.Stored.{plane_key, IsFullSchedule};
 
 mod decrypt;
 mod encrypt;
-mod wide;
+mod widened;
 
 use super::slices::{process_batch_under, process_block};
 use crate::soft::blocks::BatchWord;
-use crate::soft::full::store_wide;
+use crate::soft::full::store_widened;
 use crate::soft::plane_room::reads_key;
 use aes_cipher::cipher::{
     BatchOfEight, BatchSizeUser, BlockCipherDecBackend, BlockCipherEncBackend, Decrypt, Encrypt,
@@ -23,7 +23,7 @@ use aes_planes::soft::word::Block;
 pub use decrypt::decrypt_with_backend;
 pub use encrypt::encrypt_with_backend;
 use std::marker::Model;
-use wide::{HoldsWide, LentWide};
+use widened::{HoldsWidened, LentWidened};
 
 /// The backend of a key of 16 bytes.
 pub type Aes128Backend<'a> = Backend<'a, Wiped<[BatchWord; 88]>>;
@@ -36,44 +36,44 @@ pub type Aes256Backend<'a> = Backend<'a, Wiped<[BatchWord; 120]>>;
 
 /// Encrypts and decrypts under round keys that it borrows. It holds the same on the words of a batch, or borrows them.
 /// Contracts see a value as its key.
-pub struct Backend<'a, H: HoldsWide> {
+pub struct Backend<'a, H: HoldsWidened> {
     round_keys: &'a [u16],
-    wide: H,
+    widened: H,
 }
 
-impl<H: HoldsWide> Drop for Backend<'_, H> {
+impl<H: HoldsWidened> Drop for Backend<'_, H> {
     #[inline(always)]
     fn drop(self) {
         let Backend {
             round_keys: _,
-            wide: _,
+            widened: _,
         } = self;
     }
 }
 
-impl<'a, H: HoldsWide> Model for Backend<'a, H> {
+impl<'a, H: HoldsWidened> Model for Backend<'a, H> {
     ghost Value = { List ℕ };
 
     ghost view = { λ backend. let n = length backend.round_keys.now in
         plane_key n 1 (map (word_bits 16) backend.round_keys.now) };
 
     ghost invariant = { λ backend. let n = length backend.round_keys.now in
-        let wide = map (word_bits 128) (H.words backend.wide) in
+        let widened = map (word_bits 128) (H.words backend.widened) in
         IsFullSchedule n 1 (map (word_bits 16) backend.round_keys.now)
-        × (length (H.words backend.wide) ≡ n)
-        × IsFullSchedule n 8 wide
-        × (plane_key n 8 wide ≡ plane_key n 1 (map (word_bits 16) backend.round_keys.now)) };
+        × (length (H.words backend.widened) ≡ n)
+        × IsFullSchedule n 8 widened
+        × (plane_key n 8 widened ≡ plane_key n 1 (map (word_bits 16) backend.round_keys.now)) };
 }
 
 // Widens stored round keys in place.
 #[inline(always)]
-fn fill<const N: usize>(wide: &mut [BatchWord; N], round_keys: &[u16; N])
+fn fill<const N: usize>(widened: &mut [BatchWord; N], round_keys: &[u16; N])
     requires is_schedule { IsFullSchedule N 1 (map (word_bits 16) round_keys.now) }
-    ensures same_length { length wide.new ≡ length round_keys.now }
-    ensures schedule { IsFullSchedule N 8 (map (word_bits 128) wide.new) }
-    ensures key { plane_key N 8 (map (word_bits 128) wide.new) ≡ plane_key N 1 (map (word_bits 16) round_keys.now) }
+    ensures same_length { length widened.new ≡ length round_keys.now }
+    ensures schedule { IsFullSchedule N 8 (map (word_bits 128) widened.new) }
+    ensures key { plane_key N 8 (map (word_bits 128) widened.new) ≡ plane_key N 1 (map (word_bits 16) round_keys.now) }
 {
-    store_wide(wide, round_keys);
+    store_widened(widened, round_keys);
 }
 
 impl<'a, const N: usize> Backend<'a, Wiped<[BatchWord; N]>> {
@@ -83,31 +83,34 @@ impl<'a, const N: usize> Backend<'a, Wiped<[BatchWord; N]>> {
         requires is_schedule { IsFullSchedule N 1 (map (word_bits 16) round_keys.now) }
         ensures { result ≡ plane_key N 1 (map (word_bits 16) round_keys.now) }
     {
-        let mut wide = Wiped::<[BatchWord; N]>::zeroed();
-        fill(wide.value_mut(), round_keys);
-        Backend { round_keys, wide }
-    }
-}
-
-impl<'a> Backend<'a, LentWide<'a>> {
-    // The backend of stored round keys and of the same, widened, both lent.
-    #[inline(always)]
-    fn lent(round_keys: &'a [u16], wide: &'a [BatchWord]) -> Backend<'a, LentWide<'a>>
-        requires is_schedule { IsFullSchedule (length round_keys.now) 1 (map (word_bits 16) round_keys.now) }
-        requires same_length { length wide.now ≡ length round_keys.now }
-        requires is_wide { IsFullSchedule (length round_keys.now) 8 (map (word_bits 128) wide.now) }
-        requires same_key { let n = length round_keys.now in
-            plane_key n 8 (map (word_bits 128) wide.now) ≡ plane_key n 1 (map (word_bits 16) round_keys.now) }
-        ensures { result ≡ plane_key (length round_keys.now) 1 (map (word_bits 16) round_keys.now) }
-    {
+        let mut widened = Wiped::<[BatchWord; N]>::zeroed();
+        fill(widened.value_mut(), round_keys);
         Backend {
             round_keys,
-            wide: LentWide { keys: wide },
+            widened,
         }
     }
 }
 
-impl<H: HoldsWide> RoundKeysUser for Backend<'_, H> {
+impl<'a> Backend<'a, LentWidened<'a>> {
+    // The backend of stored round keys and of the same, widened, both lent.
+    #[inline(always)]
+    fn lent(round_keys: &'a [u16], widened: &'a [BatchWord]) -> Backend<'a, LentWidened<'a>>
+        requires is_schedule { IsFullSchedule (length round_keys.now) 1 (map (word_bits 16) round_keys.now) }
+        requires same_length { length widened.now ≡ length round_keys.now }
+        requires is_widened { IsFullSchedule (length round_keys.now) 8 (map (word_bits 128) widened.now) }
+        requires same_key { let n = length round_keys.now in
+            plane_key n 8 (map (word_bits 128) widened.now) ≡ plane_key n 1 (map (word_bits 16) round_keys.now) }
+        ensures { result ≡ plane_key (length round_keys.now) 1 (map (word_bits 16) round_keys.now) }
+    {
+        Backend {
+            round_keys,
+            widened: LentWidened { keys: widened },
+        }
+    }
+}
+
+impl<H: HoldsWidened> RoundKeysUser for Backend<'_, H> {
     ghost round_keys = { fips.key_expansion };
 
     fn has_round_keys(&self) {
@@ -117,11 +120,11 @@ impl<H: HoldsWide> RoundKeysUser for Backend<'_, H> {
     ghost two_round_keys = { two_keys };
 }
 
-impl<H: HoldsWide> BatchSizeUser for Backend<'_, H> {
+impl<H: HoldsWidened> BatchSizeUser for Backend<'_, H> {
     type Par = BatchOfEight;
 }
 
-impl<H: HoldsWide> BlockCipherEncBackend for Backend<'_, H> {
+impl<H: HoldsWidened> BlockCipherEncBackend for Backend<'_, H> {
     #[inline(always)]
     fn encrypt_block(&self, block: &mut Block) {
         process_block::<Encrypt>(self.round_keys, block);
@@ -129,11 +132,11 @@ impl<H: HoldsWide> BlockCipherEncBackend for Backend<'_, H> {
 
     #[inline(always)]
     fn encrypt_par_blocks(&self, blocks: &mut [Block]) {
-        process_batch_under::<BatchWord, Encrypt>(self.wide.lend(), blocks, &mut Layers::new());
+        process_batch_under::<BatchWord, Encrypt>(self.widened.lend(), blocks, &mut Layers::new());
     }
 }
 
-impl<H: HoldsWide> BlockCipherDecBackend for Backend<'_, H> {
+impl<H: HoldsWidened> BlockCipherDecBackend for Backend<'_, H> {
     #[inline(always)]
     fn decrypt_block(&self, block: &mut Block) {
         process_block::<Decrypt>(self.round_keys, block);
@@ -141,6 +144,6 @@ impl<H: HoldsWide> BlockCipherDecBackend for Backend<'_, H> {
 
     #[inline(always)]
     fn decrypt_par_blocks(&self, blocks: &mut [Block]) {
-        process_batch_under::<BatchWord, Decrypt>(self.wide.lend(), blocks, &mut Layers::new());
+        process_batch_under::<BatchWord, Decrypt>(self.widened.lend(), blocks, &mut Layers::new());
     }
 }

@@ -8,7 +8,7 @@ ghost use Rattle.aes_soft.specs.Stored.{plane_key, rounds_of, IsFullSchedule};
 
 use crate::soft::blocks::BatchWord;
 use crate::soft::ciphers::{Full, PlaneCipher, process, process_in_a_call};
-use crate::soft::full::store_wide_first;
+use crate::soft::full::store_widened_first;
 use aes_cipher::zeroize::MustWipe;
 use aes_planes::soft::sbox::Layers;
 use aes_planes::soft::word::{Batch, Block, Word};
@@ -96,9 +96,9 @@ pub fn process_blocks<D: PlaneCipher>(round_keys: &[u16], blocks: &mut [Block], 
     let whole = blocks.len() - blocks.len() % <BatchWord as Word>::Blocks::LEN;
     if whole > 0 {
         let mut room = MustWipe::<[BatchWord; 120]>::zeroed();
-        store_wide_first(room.value_mut(), round_keys);
-        let wide = &room.value()[..round_keys.len()];
-        process_batches_under::<BatchWord, D>(wide, &mut blocks[..whole], layers);
+        store_widened_first(room.value_mut(), round_keys);
+        let widened = &room.value()[..round_keys.len()];
+        process_batches_under::<BatchWord, D>(widened, &mut blocks[..whole], layers);
         room.wipe();
     }
     process_batches_under::<u16, D>(round_keys, &mut blocks[whole..], layers);

@@ -8,37 +8,37 @@ use aes_planes::soft::word::Word;
 /// Writes stored round keys on `u16` to as many words of `W`, for the same key: each word by `broadcast`, so that every
 /// slot has the block of the one slot.
 #[inline(always)]
-pub fn store_wide<W: Word>(wide: &mut [W], round_keys: &[u16])
-    requires same_length { length wide.old ≡ length round_keys.now }
+pub fn store_widened<W: Word>(widened: &mut [W], round_keys: &[u16])
+    requires same_length { length widened.old ≡ length round_keys.now }
     requires is_stored { IsFullSchedule (length round_keys.now) 1 (map (word_bits 16) round_keys.now) }
-    ensures schedule { IsFullSchedule (length round_keys.now) W.BLOCKS (map W.bits wide.new) }
+    ensures schedule { IsFullSchedule (length round_keys.now) W.BLOCKS (map W.bits widened.new) }
     ensures key { let n = length round_keys.now in
-        plane_key n W.BLOCKS (map W.bits wide.new) ≡ plane_key n 1 (map (word_bits 16) round_keys.now) }
-    ensures same_length { length wide.new ≡ length round_keys.now }
+        plane_key n W.BLOCKS (map W.bits widened.new) ≡ plane_key n 1 (map (word_bits 16) round_keys.now) }
+    ensures same_length { length widened.new ≡ length round_keys.now }
 {
     'widen: for i in 0..round_keys.len() {
-        wide[i] = W::broadcast(round_keys[i]);
+        widened[i] = W::broadcast(round_keys[i]);
     }
 }
 
 // Does the same in room for the round keys of the largest key: in as many of its first words.
 #[inline(always)]
-pub(crate) fn store_wide_first<W: Word>(room: &mut [W; 120], round_keys: &[u16])
+pub(crate) fn store_widened_first<W: Word>(room: &mut [W; 120], round_keys: &[u16])
     requires is_stored { IsFullSchedule (length round_keys.now) 1 (map (word_bits 16) round_keys.now) }
     ensures schedule { let n = length round_keys.now in IsFullSchedule n W.BLOCKS (map W.bits (take n room.new)) }
     ensures key { let n = length round_keys.now in
         plane_key n W.BLOCKS (map W.bits (take n room.new)) ≡ plane_key n 1 (map (word_bits 16) round_keys.now) }
 {
-    store_wide(&mut room[..round_keys.len()], round_keys);
+    store_widened(&mut room[..round_keys.len()], round_keys);
 }
 
-/// The stored round keys of a key on `u16` as those of the same key on `W`: see `store_wide`.
+/// The stored round keys of a key on `u16` as those of the same key on `W`: see `store_widened`.
 pub fn widen<W: Word, const N: usize>(round_keys: &[u16; N]) -> [W; N]
     requires is_stored { IsFullSchedule N 1 (map (word_bits 16) round_keys.now) }
     ensures schedule { IsFullSchedule N W.BLOCKS (map W.bits result) }
     ensures key { plane_key N W.BLOCKS (map W.bits result) ≡ plane_key N 1 (map (word_bits 16) round_keys.now) }
 {
-    let mut wide = [W::zero(); N];
-    store_wide(&mut wide, round_keys);
-    wide
+    let mut widened = [W::zero(); N];
+    store_widened(&mut widened, round_keys);
+    widened
 }

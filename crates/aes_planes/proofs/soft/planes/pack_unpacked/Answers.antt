@@ -1,7 +1,7 @@
 -- What is left to show of `soft::planes::pack_unpacked`.
 use Rattle.std.proofs.Common.{map, ◌∙◌, arith}
 use Rattle.std.proofs.lemmas.List.{length-map}
-use Rattle.aes_planes.proofs.Planes.Packed.{same_planes, words_sized}
+use Rattle.aes_planes.proofs.Planes.Packed.{same_planes, lengths_of_words}
 use Rattle.aes_planes.proofs.soft.planes.pack_unpacked.Goals as goal
 
 pub returns : goal.returns
@@ -13,7 +13,7 @@ returns g c =
     same_planes w.BLOCKS (map w.bits made) (map w.bits planes)
     (length-map made w.bits ∙ c.are_eight.ensures) (length-map planes w.bits ∙ c.told-planes)
     (λ p hp. (
-      words_sized w.bits w.BITS m.sized made p (omega (arith, hp, c.are_eight.ensures)) ∙ m.sixteen,
-      words_sized w.bits w.BITS m.sized planes p (omega (arith, hp, c.told-planes)) ∙ m.sixteen,
+      lengths_of_words w.bits w.BITS m.sized made p (omega (arith, hp, c.are_eight.ensures)) ∙ m.sixteen,
+      lengths_of_words w.bits w.BITS m.sized planes p (omega (arith, hp, c.told-planes)) ∙ m.sixteen,
     ))
     (c.bitslice.ensures ∙ c.inv_bitslice.ensures)

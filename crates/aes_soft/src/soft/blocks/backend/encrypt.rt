@@ -6,7 +6,7 @@ ghost use Rattle.aes_soft.specs.Stored.{plane_key, IsFullSchedule};
 
 use super::Backend;
 use crate::soft::blocks::BatchWord;
-use crate::soft::full::store_wide_first;
+use crate::soft::full::store_widened_first;
 use aes_cipher::cipher::BlockCipherEncClosure;
 use aes_cipher::zeroize::MustWipe;
 
@@ -19,7 +19,7 @@ pub fn encrypt_with_backend<F: BlockCipherEncClosure>(round_keys: &[u16], f: &mu
         F.did f.old (fips.key_expansion key) f.new }
 {
     let mut room = MustWipe::<[BatchWord; 120]>::zeroed();
-    store_wide_first(room.value_mut(), round_keys);
+    store_widened_first(room.value_mut(), round_keys);
     f.call(&Backend::lent(round_keys, &room.value()[..round_keys.len()]));
     room.wipe();
 }

@@ -5,7 +5,7 @@ use crate::soft::blocks::BatchWord;
 use aes_cipher::zeroize::Wiped;
 
 /// What holds round keys on the words of a batch.
-pub trait HoldsWide: Drop {
+pub trait HoldsWidened: Drop {
     /// The words.
     ghost words: { Self → List ℕ };
 
@@ -14,7 +14,7 @@ pub trait HoldsWide: Drop {
         ensures { result.now ≡ words self.now };
 }
 
-impl<const N: usize> HoldsWide for Wiped<[BatchWord; N]> {
+impl<const N: usize> HoldsWidened for Wiped<[BatchWord; N]> {
     ghost words = { λ keys. keys };
 
     #[inline(always)]
@@ -24,18 +24,18 @@ impl<const N: usize> HoldsWide for Wiped<[BatchWord; N]> {
 }
 
 /// Widened round keys that stay with their owner, who wipes them.
-pub struct LentWide<'a> {
+pub struct LentWidened<'a> {
     pub(super) keys: &'a [BatchWord],
 }
 
-impl Drop for LentWide<'_> {
+impl Drop for LentWidened<'_> {
     #[inline(always)]
     fn drop(self) {
-        let LentWide { keys: _ } = self;
+        let LentWidened { keys: _ } = self;
     }
 }
 
-impl HoldsWide for LentWide<'_> {
+impl HoldsWidened for LentWidened<'_> {
     ghost words = { λ lent. lent.keys.now };
 
     #[inline(always)]
