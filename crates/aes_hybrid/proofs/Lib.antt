@@ -2,4 +2,3 @@
 pub mod Fronts
 pub mod Shifted
 pub mod PlaneKeys
-pub mod SlotLanes

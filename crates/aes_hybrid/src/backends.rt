@@ -8,7 +8,6 @@ ghost use Rattle.aes_soft.specs.Stored as soft;
 
 use crate::blocks::are_few;
 use crate::lent::Lent;
-use crate::slots::SlotWord;
 use crate::widths::Width;
 use aes_cipher::cipher::{
     BatchSize, BatchSizeUser, BlockCipherDecBackend, BlockCipherEncBackend, Decrypt, Encrypt,
@@ -78,7 +77,7 @@ impl<D: LaneRounds, W: Width> RoundKeysUser for Batches<'_, D, W> {
 }
 
 impl<D: LaneRounds, W: Width> BatchSizeUser for Batches<'_, D, W> {
-    type Par = <W::Many as SlotWord>::Par;
+    type Par = W::Par;
 }
 
 impl<W: Width> BlockCipherEncBackend for Batches<'_, Encrypt, W> {

@@ -7,9 +7,8 @@ ghost use Rattle.aes_soft.specs.Stored as soft;
 ghost use Rattle.aes_permute.specs.Keys.{cipher_key, IsCipherSchedule};
 
 use crate::plane_keys::PlaneKeys;
-use crate::slots::SlotWord;
 use aes_planes::soft::sbox::Layers;
-use aes_planes::soft::word::{Batch, Block};
+use aes_planes::soft::word::{Batch, Block, Word};
 use aes_soft::soft::PlaneCipher;
 use aes_soft::soft::blocks::{process_batch_under, process_batches_under};
 
@@ -19,7 +18,7 @@ const LARGEST_BATCH: usize = 16;
 // Copies the first blocks of a slice to another, at most a batch, one by one: LLVM makes a call of a copy of the slice, whose
 // stores the loads that follow have to wait for.
 #[inline(always)]
-fn copy_first<W: SlotWord>(to: &mut [Block], from: &[Block], count: usize)
+fn copy_first<W: Word>(to: &mut [Block], from: &[Block], count: usize)
     requires at_most_one_batch { count ≤ W.Blocks.LEN }
     requires to { count ≤ length to.old }
     requires from { count ≤ length from.now }
@@ -39,7 +38,7 @@ fn copy_first<W: SlotWord>(to: &mut [Block], from: &[Block], count: usize)
 // nobody gave. What a block of zeros is encrypted to is a secret of some modes, as of GCM.
 #[tactic(auto, using(crate::proofs::Fronts::filled))]
 #[inline(always)]
-fn filled_up<W: SlotWord>(blocks: &[Block]) -> [Block; LARGEST_BATCH]
+fn filled_up<W: Word>(blocks: &[Block]) -> [Block; LARGEST_BATCH]
     requires some { 1 ≤ length blocks.now }
     requires fewer { length blocks.now < W.Blocks.LEN }
     ensures { result ≡ blocks.now ++ replicate (16 - length blocks.now) (get_or blocks.now 0 []) }
@@ -51,7 +50,7 @@ fn filled_up<W: SlotWord>(blocks: &[Block]) -> [Block; LARGEST_BATCH]
 
 // Processes fewer blocks than a batch, as a batch that is filled up.
 #[inline(never)]
-fn process_rest<D: PlaneCipher, W: SlotWord>(words: &[W], blocks: &mut [Block])
+fn process_rest<D: PlaneCipher, W: Word>(words: &[W], blocks: &mut [Block])
     requires is_schedule { soft.IsFullSchedule (length words.now) W.BLOCKS (map W.bits words.now) }
     requires some { 1 ≤ length blocks.old }
     requires fewer { length blocks.old < W.Blocks.LEN }
@@ -65,7 +64,7 @@ fn process_rest<D: PlaneCipher, W: SlotWord>(words: &[W], blocks: &mut [Block])
 
 // Processes each block on words of round keys: whole batches, and then what is left.
 #[inline(always)]
-fn process_in_batches<D: PlaneCipher, W: SlotWord>(words: &[W], blocks: &mut [Block])
+fn process_in_batches<D: PlaneCipher, W: Word>(words: &[W], blocks: &mut [Block])
     requires is_schedule { soft.IsFullSchedule (length words.now) W.BLOCKS (map W.bits words.now) }
     ensures { let key = soft.plane_key (length words.now) W.BLOCKS (map W.bits words.now) in
         Each (D.processed (fips.key_expansion key)) blocks.old blocks.new }
@@ -80,7 +79,7 @@ fn process_in_batches<D: PlaneCipher, W: SlotWord>(words: &[W], blocks: &mut [Bl
 /// Processes each block in place on planes, which are wiped before the call returns. Not inlined, so that few blocks need
 /// no large stack frame.
 #[inline(never)]
-pub(crate) fn process_on_planes<D: PlaneCipher, W: SlotWord>(keys: &[Block], blocks: &mut [Block])
+pub(crate) fn process_on_planes<D: PlaneCipher, W: Word>(keys: &[Block], blocks: &mut [Block])
     requires keyed { IsCipherSchedule keys.now }
     ensures { Each (D.processed (fips.key_expansion (cipher_key keys.now))) blocks.old blocks.new }
 {

@@ -8,7 +8,6 @@ ghost use Rattle.aes_permute.specs.Stored.{round_keys_of};
 ghost use Rattle.aes_permute.specs.Keys.{cipher_key, IsCipherSchedule};
 
 use crate::batches::process_on_planes;
-use crate::slots::SlotWord;
 use crate::widths::Width;
 use aes_permute::blocks::process_on_lanes;
 use aes_permute::lane_rounds::LaneRounds;
@@ -57,7 +56,7 @@ pub(crate) fn process_few<D: LaneRounds, W: Width>(used: &[Block], blocks: &mut 
 
 // Processes the first blocks of a slice on planes, if there are any to be.
 #[inline(always)]
-fn process_first<D: PlaneCipher, W: SlotWord>(keys: &[Block], blocks: &mut [Block], count: usize)
+fn process_first<D: PlaneCipher, W: Word>(keys: &[Block], blocks: &mut [Block], count: usize)
     requires keyed { IsCipherSchedule keys.now }
     requires inside { count ≤ length blocks.old }
     ensures first { Each (D.processed (fips.key_expansion (cipher_key keys.now))) (take count blocks.old)

@@ -9,7 +9,6 @@ pub mod lent;
 mod lists;
 mod names;
 mod plane_keys;
-mod slots;
 pub mod widths;
 
 pub use lists::{BothLists, Encrypting};

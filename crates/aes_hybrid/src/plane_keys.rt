@@ -7,13 +7,12 @@ ghost use Rattle.aes_soft.specs.Stored as soft;
 ghost use Rattle.aes_permute.specs.Stored.{untower};
 ghost use Rattle.aes_permute.specs.Keys.{cipher_key, IsCipherSchedule};
 
-use crate::slots::SlotWord;
 use aes_cipher::zeroize::zeroize_words;
 use aes_permute::lanes::looked_up_by_nibbles;
 use aes_permute::tables::{UNTOWER_HIGH, UNTOWER_LOW};
 use aes_planes::laws;
 use aes_planes::soft::utils::store_round_key;
-use aes_planes::soft::word::Block;
+use aes_planes::soft::word::{Block, Word};
 use std::simd::prelude::*;
 
 // InvShiftRows of a block (FIPS 197, 5.3.1).
@@ -59,20 +58,18 @@ fn block_for_planes(stored: &Block, number: usize) -> u8x16
 
 // Stores a block in every slot as the planes of round key `i`. The other words stay.
 #[inline(always)]
-fn store_block<W: SlotWord>(words: &mut [W], i: usize, block: u8x16)
+fn store_block<W: Word>(words: &mut [W], i: usize, block: u8x16)
     requires room { 8 * i + 8 ≤ length words.old }
     ensures there { held W.BLOCKS (map W.bits (words_at words.new (8 * i))) ≡ replicate W.BLOCKS block }
     ensures others { (o : ℕ) → (o + 8 ≤ 8 * i) ⊎ (8 * i + 8 ≤ o) → words_at words.new o ≡ words_at words.old o }
     ensures same_length { length words.new ≡ length words.old }
 {
-    let block = block.to_array();
-    laws::is_block(block);
-    let planes = W::in_every_slot(u8x16::from_array(block));
+    let planes = W::in_every_slot(&block.to_array());
     store_round_key(words, i, &planes);
 }
 
 /// Writes stored round keys of Cipher to words, as the full layout of planes stores those of the same key.
-pub fn store_planes<W: SlotWord>(words: &mut [W], keys: &[Block])
+pub fn store_planes<W: Word>(words: &mut [W], keys: &[Block])
     requires sized { length words.old ≡ 8 * length keys.now }
     requires keyed { IsCipherSchedule keys.now }
     ensures same_length { length words.new ≡ 8 * length keys.now }
@@ -89,11 +86,11 @@ pub fn store_planes<W: SlotWord>(words: &mut [W], keys: &[Block])
 
 /// Round keys on planes, in room for those of the largest key. A drop requires zeros, so code that drops them without a
 /// wipe isn't proved.
-pub(crate) struct PlaneKeys<W: SlotWord> {
+pub(crate) struct PlaneKeys<W: Word> {
     room: [W; 120],
 }
 
-impl<W: SlotWord> PlaneKeys<W> {
+impl<W: Word> PlaneKeys<W> {
     /// Returns zeros, to be written over.
     #[inline(always)]
     pub(crate) fn zeroed() -> PlaneKeys<W> {
@@ -132,7 +129,7 @@ impl<W: SlotWord> PlaneKeys<W> {
     }
 }
 
-impl<W: SlotWord> Drop for PlaneKeys<W> {
+impl<W: Word> Drop for PlaneKeys<W> {
     #[inline(always)]
     fn drop(self)
         requires wiped { map W.bits self.room ≡ replicate 120 (replicate W.BITS false) }

@@ -1,10 +1,25 @@
 //! How wide vectors and words are: a choice by type, since the processor decides which is quicker. The numbers of blocks
 //! from which planes take less time stand here too, as they were measured.
 
-use crate::slots::SlotWord;
+ghost use Rattle.std.specs.Prelude.{◌≡◌, refl};
+ghost use Rattle.std.proofs.Common.{arith};
+
+use aes_cipher::cipher::{BatchOfEight, BatchSize};
 use aes_permute::lanes::Lanes;
+use aes_planes::soft::word::{Batch, Word};
 use aes_soft::soft::blocks::BatchWord;
 use std::simd::prelude::*;
+
+/// Batches of sixteen blocks.
+pub struct BatchOfSixteen;
+
+impl BatchSize for BatchOfSixteen {
+    ghost PAR_BLOCKS = { 16 };
+
+    const PAR_BLOCKS: usize = 16;
+
+    ghost at_least_one = { Prim.omega arith };
+}
 
 /// A width of vectors and words. Callers name one of the two below; contracts are the same for both.
 pub trait Width {
@@ -12,7 +27,10 @@ pub trait Width {
     type Few: Lanes;
 
     /// The words of the planes on which many blocks are processed.
-    type Many: SlotWord;
+    type Many: Word;
+
+    /// How many blocks these planes hold, as a type.
+    type Par: BatchSize;
 
     /// From how many blocks on encryption takes less time on planes, whose round keys are yet to be made.
     const LEAST_TO_ENCRYPT: usize;
@@ -25,6 +43,9 @@ pub trait Width {
 
     /// The most blocks after whole batches that take less time by vector permutations than as one batch more.
     const MOST_AFTER_BATCHES: usize;
+
+    /// The type for the number of blocks has the number of the word.
+    ghost same_number: { Self.Par.PAR_BLOCKS ≡ Self.Many.Blocks.LEN };
 }
 
 /// Vectors and words of 128 bits: two blocks at a time by vector permutations, eight on planes. For every processor.
@@ -35,6 +56,8 @@ impl Width for Narrow {
 
     type Many = BatchWord;
 
+    type Par = BatchOfEight;
+
     const LEAST_TO_ENCRYPT: usize = 15;
 
     const LEAST_TO_DECRYPT: usize = 7;
@@ -42,6 +65,8 @@ impl Width for Narrow {
     const LEAST_FOR_CLOSURES: usize = 8;
 
     const MOST_AFTER_BATCHES: usize = 5;
+
+    ghost same_number = { refl };
 }
 
 /// Vectors and words of 256 bits: four blocks at a time by vector permutations, sixteen on planes. For builds for a processor
@@ -53,6 +78,8 @@ impl Width for Wide {
 
     type Many = u8x32;
 
+    type Par = BatchOfSixteen;
+
     const LEAST_TO_ENCRYPT: usize = 32;
 
     const LEAST_TO_DECRYPT: usize = 29;
@@ -60,4 +87,6 @@ impl Width for Wide {
     const LEAST_FOR_CLOSURES: usize = 29;
 
     const MOST_AFTER_BATCHES: usize = 12;
+
+    ghost same_number = { refl };
 }

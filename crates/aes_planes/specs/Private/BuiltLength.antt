@@ -16,10 +16,11 @@ unfolding build
 length-build n f = length-build_from 0 n f
 
 -- numbers of sixteen bits for each of n blocks
-pub number_shape : (n size : ℕ) → 1 ≤ n → size ≤ 32 → IsShape (word_bits (16 * n)) n (16 * n) (4 * n) (2 * n) n n size
-number_shape n size some fits = record {
+pub number_shape : (n size : ℕ) → 1 ≤ n → n ≤ 16 → size ≤ 32 → IsShape (word_bits (16 * n)) n (16 * n) (4 * n) (2 * n) n n size
+number_shape n size some few fits = record {
   sized = λ x. length-build (16 * n) (bit x);
   some_block = some;
+  few_blocks = few;
   sixteen = refl;
   four = refl;
   two = refl;
@@ -33,6 +34,7 @@ pub wide_shape : (size : ℕ) → size ≤ 32 → IsShape wide_bits 16 256 64 32
 wide_shape size fits = record {
   sized = λ x. length-build 256 (wide_bit x);
   some_block = omega arith;
+  few_blocks = omega arith;
   sixteen = refl;
   four = refl;
   two = refl;

@@ -10,9 +10,9 @@ use aes_planes::soft::mix_columns::{
 };
 use aes_planes::soft::sbox::{Layers, sub_bytes, sub_bytes_nots};
 use aes_planes::soft::utils::{
-    add_round_constant_bit, add_round_key, every_slot, inv_shift_rows_1, inv_shift_rows_2,
-    inv_shift_rows_3, round_key, shift_rows_1, shift_rows_2, shift_rows_3, store_round_key,
-    straddle_columns, sum_of_blocks, summed_columns, xor_columns,
+    add_round_constant_bit, add_round_key, inv_shift_rows_1, inv_shift_rows_2, inv_shift_rows_3,
+    round_key, shift_rows_1, shift_rows_2, shift_rows_3, store_round_key, straddle_columns,
+    sum_of_blocks, summed_columns, xor_columns,
 };
 use aes_planes::soft::word::{Batch, Block, Word};
 use standards::expansions::ROUND_KEYS_A1;
@@ -131,14 +131,6 @@ fn added<W: Word>(block: Block, key: Block) -> Block {
     unpacked(&planes)
 }
 
-// The planes of a block that stands in every slot.
-fn in_every_slot<W: Word>(block: &Block) -> [W; 8] {
-    let mut planes = [W::zero(); 8];
-    let blocks: W::Blocks = every_slot(block);
-    W::bitslice(&mut planes, &blocks);
-    planes
-}
-
 // The block of the last slot.
 fn last_of<W: Word>(planes: &[W; 8]) -> Block {
     let blocks = W::inv_bitslice(planes);
@@ -152,7 +144,7 @@ fn last_of<W: Word>(planes: &[W; 8]) -> Block {
 // The round key after a key of 16 bytes: in words that stand after the key's, and in planes of its own.
 fn next_round_key<W: Word>(key: Block) -> [Block; 2] {
     let mut words = [W::zero(); 16];
-    let before = in_every_slot::<W>(&key);
+    let before = W::in_every_slot(&key);
     store_round_key(&mut words, 0, &before);
     let mut planes = before;
     sub_bytes(&mut planes, &mut Layers::new());
@@ -166,7 +158,7 @@ fn next_round_key<W: Word>(key: Block) -> [Block; 2] {
 
 // The last two columns of one block and the first two of another.
 fn straddled<W: Word>(left: &Block, right: &Block) -> Block {
-    last_of(&straddle_columns(&in_every_slot::<W>(left), &in_every_slot::<W>(right)))
+    last_of(&straddle_columns(&W::in_every_slot(left), &W::in_every_slot(right)))
 }
 
 // The zero block with one bit of a round constant added.

@@ -183,7 +183,20 @@ pub(crate) fn shift_left(x: u8x32, n: u32) -> u8x32
     next >> u8x32::splat(8 - part) | whole << u8x32::splat(part)
 }
 
+// Sixteen lanes in both halves.
+#[tactic(auto, using(crate::proofs::Words::Wide::twice_places))]
+#[inline(always)]
+pub(crate) fn twice(x: u8x16) -> u8x32
+    ensures { (i : ℕ) → i < 256 → at (wide_bits result) i ≡ at (lane_bits x) (8 * (i / 16) + i % 8) }
+{
+    x.swizzle([
+        0, 1, 2, 3, 4, 5, 6, 7, 8, 9, 10, 11, 12, 13, 14, 15, 0, 1, 2, 3, 4, 5, 6, 7, 8, 9, 10, 11,
+        12, 13, 14, 15,
+    ])
+}
+
 // A nibble for each row, its bit for each column, the same in every block.
+#[tactic(auto, using(crate::proofs::Words::Wide::twice_rows))]
 #[inline(always)]
 pub(crate) fn rows(r0: u8, r1: u8, r2: u8, r3: u8) -> u8x32
     requires nibble0 { r0 ≤ 15 }
@@ -193,11 +206,7 @@ pub(crate) fn rows(r0: u8, r1: u8, r2: u8, r3: u8) -> u8x32
     ensures { Places 256 (wide_bits result)
         (λ i. bit (get_or (r0 ∷ r1 ∷ r2 ∷ r3 ∷ []) (i / 64) 0) (i % 64 / 16)) }
 {
-    let half = vector::rows(r0, r1, r2, r3);
-    half.swizzle([
-        0, 1, 2, 3, 4, 5, 6, 7, 8, 9, 10, 11, 12, 13, 14, 15, 0, 1, 2, 3, 4, 5, 6, 7, 8, 9, 10, 11,
-        12, 13, 14, 15,
-    ])
+    twice(vector::rows(r0, r1, r2, r3))
 }
 
 // Two vectors side by side.

@@ -1,15 +1,16 @@
 //! A word of 128 bits, eight of which hold eight blocks: its operations work on its bytes as lanes of a vector.
 
 ghost use Rattle.std.specs.Prelude.{◌≡◌};
-ghost use Rattle.std.proofs.Common.{rules};
+ghost use Rattle.std.proofs.Common.{arith, rules};
 ghost use Rattle.aes_planes.specs.Private.BuiltLength.{number_shape};
 ghost use Rattle.aes_planes.specs.Words.{word_bits, lane_bits};
 
 use super::Word;
-use super::batch::{Batch, Blocks, Blocks8};
+use super::batch::{Batch, Block, Blocks, Blocks8};
 use super::transpose::transpose;
 use super::vector::{
-    by_columns, by_rows, byte_for_each_bit, rotate_right, rows, shift_left, shift_right,
+    by_columns, by_rows, byte_for_each_bit, lanes_of_block, rotate_right, rows, shift_left,
+    shift_right,
 };
 use std::simd::prelude::*;
 
@@ -193,5 +194,22 @@ impl Word for u128 {
         }
     }
 
-    ghost shape = { number_shape 8 _ (Prim.search rules) (Prim.search rules) };
+    #[inline(always)]
+    fn in_every_slot(block: &Block) -> [u128; 8] {
+        let [x0, x1, x2, x3, x4, x5, x6, x7] = lanes_of_block(block);
+        [
+            word(x0),
+            word(x1),
+            word(x2),
+            word(x3),
+            word(x4),
+            word(x5),
+            word(x6),
+            word(x7),
+        ]
+    }
+
+    ghost shape = { number_shape 8 _ (Prim.search rules) (Prim.search rules) (Prim.search rules) };
+
+    ghost keys_fit = { Prim.omega arith };
 }

@@ -1,12 +1,13 @@
 //! A word of 256 bits, eight of which hold sixteen blocks: for processors with vectors of 256 bits.
 
 ghost use Rattle.std.specs.Prelude.{◌≡◌};
-ghost use Rattle.std.proofs.Common.{rules};
+ghost use Rattle.std.proofs.Common.{arith, rules};
 ghost use Rattle.aes_planes.specs.Words.{wide_bits};
 ghost use Rattle.aes_planes.specs.Private.BuiltLength.{wide_shape};
 
-use super::batch::{Batch, Blocks, Blocks16};
+use super::batch::{Batch, Block, Blocks, Blocks16};
 use super::transpose::transpose;
+use super::vector::lanes_of_block;
 use super::{Word, wide};
 use std::simd::prelude::*;
 
@@ -154,5 +155,22 @@ impl Word for u8x32 {
         }
     }
 
+    #[inline(always)]
+    fn in_every_slot(block: &Block) -> [u8x32; 8] {
+        let [x0, x1, x2, x3, x4, x5, x6, x7] = lanes_of_block(block);
+        [
+            wide::twice(x0),
+            wide::twice(x1),
+            wide::twice(x2),
+            wide::twice(x3),
+            wide::twice(x4),
+            wide::twice(x5),
+            wide::twice(x6),
+            wide::twice(x7),
+        ]
+    }
+
     ghost shape = { wide_shape _ (Prim.search rules) };
+
+    ghost keys_fit = { Prim.omega arith };
 }

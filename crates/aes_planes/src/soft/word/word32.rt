@@ -1,7 +1,7 @@
 //! A word of thirty-two bits, eight of which hold two blocks.
 
 ghost use Rattle.std.specs.Prelude.{◌≡◌, ℕ, ◌+◌, ◌*◌, ◌<◌, [], ◌∷◌, slice_index};
-ghost use Rattle.std.proofs.Common.{rules};
+ghost use Rattle.std.proofs.Common.{arith, rules};
 ghost use Rattle.aes_planes.specs.Bits.{at, bit};
 ghost use Rattle.aes_planes.specs.Private.BuiltLength.{number_shape};
 ghost use Rattle.aes_planes.specs.Private.Packing.{row_byte};
@@ -126,7 +126,9 @@ impl Word for u32 {
         Blocks { blocks: [b0, b1] }
     }
 
-    ghost shape = { number_shape 2 _ (Prim.search rules) (Prim.search rules) };
+    ghost shape = { number_shape 2 _ (Prim.search rules) (Prim.search rules) (Prim.search rules) };
+
+    ghost keys_fit = { Prim.omega arith };
 }
 
 // A column of a block, its first row lowest.

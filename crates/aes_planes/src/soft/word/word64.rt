@@ -1,7 +1,7 @@
 //! A word of sixty-four bits, eight of which hold four blocks.
 
 ghost use Rattle.std.specs.Prelude.{◌≡◌, ℕ, ◌+◌, ◌-◌, ◌*◌, ◌/◌, ◌^◌, ◌<◌, ◌&&◌, ◌||◌, nat_le, [], ◌∷◌, slice_index};
-ghost use Rattle.std.proofs.Common.{rules};
+ghost use Rattle.std.proofs.Common.{arith, rules};
 ghost use Rattle.aes_planes.specs.Bits.{at, bit};
 ghost use Rattle.aes_planes.specs.Private.BuiltLength.{number_shape};
 ghost use Rattle.aes_planes.specs.Private.Packing.{row_byte};
@@ -135,7 +135,9 @@ impl Word for u64 {
         }
     }
 
-    ghost shape = { number_shape 4 _ (Prim.search rules) (Prim.search rules) };
+    ghost shape = { number_shape 4 _ (Prim.search rules) (Prim.search rules) (Prim.search rules) };
+
+    ghost keys_fit = { Prim.omega arith };
 }
 
 // The even columns of a block, row by row, and the odd ones.
