@@ -7,12 +7,17 @@ ghost use Rattle.aes_soft.specs.Stored.{deferred, key_of, key_size, IsKeyed};
 use super::layouts::Layout;
 use super::rounds::{Deferred0, Deferred1, Deferred2, Deferred3, add_key, inv_round, round};
 use aes_cipher::cipher::{Decrypt, Direction, Encrypt};
-use aes_planes::soft::sbox::{Layers, inv_sub_bytes, sub_bytes};
-use aes_planes::soft::utils::{inv_shift_rows_2, shift_rows_2};
+use aes_planes::soft::mix_columns::{inv_mix_columns_0, mix_columns_0};
+use aes_planes::soft::sbox::{Layers, inv_sub_bytes, sub_bytes, sub_bytes_nots};
+use aes_planes::soft::utils::{inv_shift_rows_1, inv_shift_rows_2, shift_rows_1, shift_rows_2};
 use aes_planes::soft::word::{Batch, Word};
 
-/// A direction's cipher on planes.
+/// A direction's cipher and its round on planes.
 pub trait PlaneCipher: Direction {
+    /// Does to each block that planes hold what a round does before it adds its round key.
+    fn step_planes<W: Word>(state: &mut [W; 8])
+        ensures { held W.BLOCKS (map W.bits state.new) ≡ map Self.step (held W.BLOCKS (map W.bits state.old)) };
+
     /// Processes each block that planes hold under stored round keys, in `rounds` rounds.
     fn process_planes<W: Word, L: Layout>(
         round_keys: &[W],
@@ -34,6 +39,15 @@ pub trait PlaneCipher: Direction {
 }
 
 impl PlaneCipher for Encrypt {
+    #[tactic(auto, using(crate::proofs::Slots::round_stepped))]
+    #[inline(always)]
+    fn step_planes<W: Word>(state: &mut [W; 8]) {
+        sub_bytes(state, &mut Layers::new());
+        sub_bytes_nots(state);
+        shift_rows_1(state);
+        mix_columns_0(state);
+    }
+
     // A period at a time. Where one ShiftRows is deferred, two more rounds or two ShiftRows make it three.
     fn process_planes<W: Word, L: Layout>(
         round_keys: &[W],
@@ -71,6 +85,15 @@ impl PlaneCipher for Encrypt {
 }
 
 impl PlaneCipher for Decrypt {
+    #[tactic(auto, using(crate::proofs::Slots::inv_round_stepped))]
+    #[inline(always)]
+    fn step_planes<W: Word>(state: &mut [W; 8]) {
+        sub_bytes_nots(state);
+        inv_sub_bytes(state, &mut Layers::new());
+        inv_shift_rows_1(state);
+        inv_mix_columns_0(state);
+    }
+
     // A period at a time.
     fn process_planes<W: Word, L: Layout>(
         round_keys: &[W],

@@ -5,8 +5,9 @@ ghost use Rattle.aes_planes.specs.Each.{Each};
 ghost use Rattle.aes_planes.specs.Fips197 as fips;
 ghost use Rattle.aes_planes.specs.SingleRounds.{cipher_round, equiv_inv_cipher_round, rounds_by_place};
 
-use super::steps::{InverseRound, Round, Step};
 use crate::soft::blocks::{batch_of, put_batch};
+use crate::soft::ciphers::PlaneCipher;
+use aes_cipher::cipher::{Decrypt, Encrypt};
 use aes_planes::soft::utils::sum_of_blocks;
 use aes_planes::soft::word::{Batch, Block, Word};
 
@@ -16,7 +17,7 @@ pub fn cipher_round_par<W: Word>(blocks: &mut [Block; 8], round_keys: &[Block; 8
     requires divides { 8 % W.BLOCKS ≡ 0 }
     ensures { blocks.new ≡ rounds_by_place cipher_round blocks.old round_keys.now }
 {
-    rounds_par::<W, Round>(blocks, round_keys);
+    rounds_par::<W, Encrypt>(blocks, round_keys);
 }
 
 /// A round of the equivalent inverse cipher (FIPS 197, 5.3.5) of each of eight blocks, under the
@@ -25,29 +26,29 @@ pub fn equiv_inv_cipher_round_par<W: Word>(blocks: &mut [Block; 8], round_keys: 
     requires divides { 8 % W.BLOCKS ≡ 0 }
     ensures { blocks.new ≡ rounds_by_place equiv_inv_cipher_round blocks.old round_keys.now }
 {
-    rounds_par::<W, InverseRound>(blocks, round_keys);
+    rounds_par::<W, Decrypt>(blocks, round_keys);
 }
 
 // A step of each of eight blocks, plus the round key at its own place.
 #[inline(always)]
-fn rounds_par<W: Word, S: Step>(blocks: &mut [Block; 8], round_keys: &[Block; 8])
+fn rounds_par<W: Word, D: PlaneCipher>(blocks: &mut [Block; 8], round_keys: &[Block; 8])
     requires divides { 8 % W.BLOCKS ≡ 0 }
-    ensures { blocks.new ≡ rounds_by_place (λ b k. fips.add_round_key (S.of_block b) k) blocks.old round_keys.now }
+    ensures { blocks.new ≡ rounds_by_place (λ b k. fips.add_round_key (D.step b) k) blocks.old round_keys.now }
 {
-    step_each::<W, S>(blocks);
+    step_each::<W, D>(blocks);
     add_round_keys(blocks, round_keys);
 }
 
 // A step of each block of a slice, batch by batch.
 #[inline(always)]
-fn step_each<W: Word, S: Step>(blocks: &mut [Block])
+fn step_each<W: Word, D: PlaneCipher>(blocks: &mut [Block])
     requires whole_batches { length blocks.old % W.Blocks.LEN ≡ 0 }
-    ensures { Each S.of_block blocks.old blocks.new }
+    ensures { Each D.step blocks.old blocks.new }
 {
     let size = W::Blocks::LEN;
     let mut done = 0;
     while done < blocks.len() {
-        step_batch::<W, S>(&mut blocks[done..done + size]);
+        step_batch::<W, D>(&mut blocks[done..done + size]);
         done += size;
     }
 }
@@ -55,23 +56,23 @@ fn step_each<W: Word, S: Step>(blocks: &mut [Block])
 // A step of each block of one batch, in its place.
 #[tactic(auto, using(crate::proofs::Slots::batch_processed))]
 #[inline(always)]
-fn step_batch<W: Word, S: Step>(blocks: &mut [Block])
+fn step_batch<W: Word, D: PlaneCipher>(blocks: &mut [Block])
     requires one_batch { length blocks.old ≡ W.Blocks.LEN }
-    ensures { Each S.of_block blocks.old blocks.new }
+    ensures { Each D.step blocks.old blocks.new }
 {
     let batch = batch_of::<W::Blocks>(blocks);
-    let stepped = steps_of::<W, S>(&batch);
+    let stepped = steps_of::<W, D>(&batch);
     put_batch(&stepped, blocks);
 }
 
 // A step of each block of a batch.
 #[inline(always)]
-fn steps_of<W: Word, S: Step>(batch: &W::Blocks) -> W::Blocks
-    ensures { W.Blocks.blocks result ≡ map S.of_block (W.Blocks.blocks batch.now) }
+fn steps_of<W: Word, D: PlaneCipher>(batch: &W::Blocks) -> W::Blocks
+    ensures { W.Blocks.blocks result ≡ map D.step (W.Blocks.blocks batch.now) }
 {
     let mut state = [W::zero(); 8];
     W::bitslice(&mut state, batch);
-    S::on_planes(&mut state);
+    D::step_planes(&mut state);
     W::inv_bitslice(&state)
 }
 
