@@ -13,7 +13,7 @@ use crate::stream::Ctr;
 use aes_cipher::cipher::{Decrypt, Encrypt};
 use aes_cipher::zeroize::MustWipe;
 use aes_ctr::add_keystream;
-use aes_hybrid::blocks::process_blocks;
+use aes_hybrid::blocks::process_few_or_many;
 use aes_hybrid::lent::Lent;
 use aes_hybrid::widths::Width;
 use aes_permute::lane_room::{expand_in_room, keys_in_room};
@@ -33,7 +33,7 @@ pub fn encrypt_with<W: Width>(key: &[u8], blocks: &mut [Block]) -> u32
     let mut kept = MustWipe::<[Block; 15]>::zeroed();
     expand_in_room(kept.value_mut(), key);
     let keys = keys_in_room(kept.value(), key.len());
-    process_blocks::<Encrypt, W>(keys, keys, blocks);
+    process_few_or_many::<Encrypt, W>(keys, keys, blocks);
     kept.wipe();
     DONE
 }
