@@ -148,6 +148,9 @@ pub extern "C" fn fotsgure_gcm_decrypt(gcm: &Gcm, message: &mut Message, text: &
     ensures added { let w = kept_round_keys gcm.now.key_length gcm.now.round_keys in
         result ≡ DONE → (n : ℕ) (iv c : List ℕ) → IsDecrypting w iv n c message.old
         → IsDecrypting w iv n (c ++ text.old) message.new }
+    ensures phase { result ≡ DONE → phase_of message.new.phase ≡ Phase.Decrypting }
+    ensures text { result ≡ DONE → message.new.text ≡ message.old.text }
+    ensures counted { result ≡ DONE → message.new.decrypted ≡ message.old.decrypted + length text.old }
     ensures untouched { result ≢ DONE → message.new ≡ message.old }
     ensures untouched_text { result ≢ DONE → text.new ≡ text.old }
 {
