@@ -19,7 +19,7 @@ use std::slice;
 
 // Returns the stored round keys of a key of the size K.
 #[inline(always)]
-fn keys_in_room<K: KeySize>(room: &LaneRoom) -> &[Block]
+fn keys_of<K: KeySize>(room: &LaneRoom) -> &[Block]
     ensures keys { result.now ≡ stored_keys K.SIZE room.now }
     ensures count { length result.now ≡ K.SIZE / 4 + 7 }
 {
@@ -83,31 +83,31 @@ impl<K: KeySize, W> StoredKeys for Encrypting<K, W> {
     }
 
     fn has_key(&self) {
-        keys_in_room::<K>(self.room.value());
+        keys_of::<K>(self.room.value());
     }
 }
 
 impl<K: KeySize, W: Width> Processes<Encrypt> for Encrypting<K, W> {
     #[inline(always)]
     fn process_one(&self, block: &mut Block) {
-        let keys = keys_in_room::<K>(self.room.value());
+        let keys = keys_of::<K>(self.room.value());
         Lent::<Encrypt, W>::new(keys, keys).process_few(slice::from_mut(block));
     }
 
     fn process_slice(&self, blocks: &mut [Block]) {
-        let keys = keys_in_room::<K>(self.room.value());
+        let keys = keys_of::<K>(self.room.value());
         process_few_or_many::<Encrypt, W>(keys, keys, blocks);
     }
 }
 
 impl<K: KeySize, W: Width> Encrypts for Encrypting<K, W> {
     fn encrypt_with_backend<F: BlockCipherEncClosure>(&self, f: &mut F) {
-        let keys = keys_in_room::<K>(self.room.value());
+        let keys = keys_of::<K>(self.room.value());
         Lent::<Encrypt, W>::new(keys, keys).encrypt_with_backend(f);
     }
 
     fn encrypt_with_backend_for<F: BlockCipherEncClosure>(&self, blocks: usize, f: &mut F) {
-        let keys = keys_in_room::<K>(self.room.value());
+        let keys = keys_of::<K>(self.room.value());
         Lent::<Encrypt, W>::new(keys, keys).encrypt_with_backend_for(blocks, f);
     }
 }
@@ -223,14 +223,14 @@ impl<K: KeySize, W: Width> Encrypts for BothLists<K, W> {
 impl<K: KeySize, W: Width> Processes<Decrypt> for BothLists<K, W> {
     #[inline(always)]
     fn process_one(&self, block: &mut Block) {
-        let keys = keys_in_room::<K>(self.encrypting.room.value());
-        let used = keys_in_room::<K>(self.inverse.value());
+        let keys = keys_of::<K>(self.encrypting.room.value());
+        let used = keys_of::<K>(self.inverse.value());
         Lent::<Decrypt, W>::new(keys, used).process_few(slice::from_mut(block));
     }
 
     fn process_slice(&self, blocks: &mut [Block]) {
-        let keys = keys_in_room::<K>(self.encrypting.room.value());
-        process_few_or_many::<Decrypt, W>(keys, keys_in_room::<K>(self.inverse.value()), blocks);
+        let keys = keys_of::<K>(self.encrypting.room.value());
+        process_few_or_many::<Decrypt, W>(keys, keys_of::<K>(self.inverse.value()), blocks);
     }
 }
 
@@ -240,8 +240,8 @@ impl<K: KeySize, W: Width> Decrypts for BothLists<K, W> {
     }
 
     fn decrypt_with_backend_for<F: BlockCipherDecClosure>(&self, blocks: usize, f: &mut F) {
-        let keys = keys_in_room::<K>(self.encrypting.room.value());
-        let used = keys_in_room::<K>(self.inverse.value());
+        let keys = keys_of::<K>(self.encrypting.room.value());
+        let used = keys_of::<K>(self.inverse.value());
         Lent::<Decrypt, W>::new(keys, used).decrypt_with_backend_for(blocks, f);
     }
 }

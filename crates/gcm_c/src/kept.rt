@@ -63,7 +63,8 @@ pub(crate) fn cipher_of(gcm: &Gcm) -> Lent<'_, Encrypt, BuildWidth>
     requires key { IsKeyLength gcm.now.key_length }
     ensures { result ≡ kept_key gcm.now.key_length gcm.now.round_keys }
 {
-    Lent::<BuildWidth>::new(keys_in_room(&gcm.round_keys, gcm.key_length as usize))
+    let keys = keys_in_room(&gcm.round_keys, gcm.key_length as usize);
+    Lent::<Encrypt, BuildWidth>::new(keys, keys)
 }
 
 /// Expands a key into the struct (KeyExpansion, FIPS 197, 5.2) and prepares the multiples of its H (SP 800-38D, 7.1,
@@ -89,8 +90,8 @@ pub extern "C" fn fotsgure_gcm_set_key(gcm: &mut Gcm, key: &[u8]) -> u32
     }
     gcm.round_keys = [[0; 16]; 15];
     expand_in_room(&mut gcm.round_keys, key);
-    let cipher = Lent::<BuildWidth>::new(keys_in_room(&gcm.round_keys, key.len()));
-    prepare(&cipher, &mut gcm.multiples);
+    let keys = keys_in_room(&gcm.round_keys, key.len());
+    prepare(&Lent::<Encrypt, BuildWidth>::new(keys, keys), &mut gcm.multiples);
     gcm.key_length = key.len() as u32;
     DONE
 }

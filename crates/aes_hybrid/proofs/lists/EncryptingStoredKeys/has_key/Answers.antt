@@ -6,6 +6,6 @@ use Rattle.aes_hybrid.proofs.lists.EncryptingStoredKeys.has_key.Goals as goal
 
 pub returns-clause-sized : goal.returns-clause-sized
 returns-clause-sized g c =
-    stored_size _ _ g.met.K.KeySize.is_size
-    (ap (λ v. length (stored_keys _ v)) (sym c.value.ensures) ∙ ap length (sym c.keys_in_room.ensures.keys)
-    ∙ c.keys_in_room.ensures.count) c.requires.keyed
+    stored_size _ _ g.K.KeySize.is_size
+    (ap (λ v. length (stored_keys _ v)) (sym c.value.ensures) ∙ ap length (sym c.keys_of.ensures.keys)
+    ∙ c.keys_of.ensures.count) c.requires.keyed
