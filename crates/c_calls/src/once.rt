@@ -79,12 +79,8 @@ pub fn add_keystream_with<W: Width>(key: &[u8], ctr: &mut Ctr, bytes: &mut [u8])
     let mut kept = MustWipe::<[Block; 15]>::zeroed();
     expand_in_room(kept.value_mut(), key);
     let keys = keys_in_room(kept.value(), key.len());
-    add_keystream(
-        &Lent::<Encrypt, W>::new(keys, keys),
-        &ctr.iv,
-        ctr.position,
-        bytes,
-    );
+    let cipher = Lent::<Encrypt, W>::new(keys, keys);
+    add_keystream(&cipher, &ctr.iv, ctr.position, bytes);
     kept.wipe();
     ctr.position += bytes.len() as u64;
     DONE

@@ -56,12 +56,8 @@ pub fn add_keystream_under<W: Width>(aes: &Aes, ctr: &mut Ctr, bytes: &mut [u8])
     let status = refusal(aes, ctr.position, bytes.len());
     if status == DONE {
         let keys = keys_in_room(&aes.encrypting, aes.key_length as usize);
-        add_keystream(
-            &Lent::<Encrypt, W>::new(keys, keys),
-            &ctr.iv,
-            ctr.position,
-            bytes,
-        );
+        let cipher = Lent::<Encrypt, W>::new(keys, keys);
+        add_keystream(&cipher, &ctr.iv, ctr.position, bytes);
         ctr.position += bytes.len() as u64;
     }
     status
