@@ -81,6 +81,7 @@ pub fn add_keystream_with<W: Width>(key: &[u8], ctr: &mut Ctr, bytes: &mut [u8])
     let keys = keys_in_room(kept.value(), key.len());
     let cipher = Lent::<Encrypt, W>::new(keys, keys);
     add_keystream(&cipher, &ctr.iv, ctr.position, bytes);
+    drop(cipher);
     kept.wipe();
     ctr.position += bytes.len() as u64;
     DONE
