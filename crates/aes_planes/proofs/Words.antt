@@ -1,6 +1,7 @@
 -- Words: their constants, and packing at every width.
 pub mod Constants
 pub mod LaneBits
+pub mod Moved
 pub mod Packing
 pub mod PlaneLanes
 pub mod Spread

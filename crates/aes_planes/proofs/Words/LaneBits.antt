@@ -19,6 +19,7 @@ use Rattle.aes_planes.proofs.Lists.{get_or-build}
 use Rattle.aes_planes.proofs.Planes.Held.{build-ext}
 use Rattle.aes_planes.proofs.Bits.NumberBits.{Places-build, bit_of_and, bit_of_or, bit_of_xor, bit_low, bit_funnel}
 use Rattle.aes_planes.proofs.Bits.NumberBits.{bit_zero, bit_ones}
+use Rattle.aes_planes.proofs.Words.Moved.{Turned, Right, Left, left_by, rotate_whole, shift_right_whole, shift_left_whole}
 
 -- ---- a lane of what an operator makes of n lanes
 
@@ -92,9 +93,17 @@ lane_is xs j r i h e k =
     let place : r ≡ i % 8 = omega (arith, e) in
     (λ t. bit (get_or xs (lane t) 0) (place t)) ∙ reads xs i h
 
--- bit 8 * j + r of the lanes is bit r of lane j
+-- bit 8 * j + r of n lanes, lane by lane, is bit r of lane j
+pub at_lane : (n w : ℕ) → w ≡ 8 * n → (xs : List ℕ) (j r : ℕ) → j < n → r < 8
+    → at (build w (lane_bit xs)) (8 * j + r) ≡ bit (get_or xs j 0) r
+at_lane n w e xs j r h k =
+    let lane : (8 * j + r) / 8 ≡ j = omega arith in
+    let spot : (8 * j + r) % 8 ≡ r = omega arith in
+    get_or-build w (8 * j + r) (lane_bit xs) false (omega (arith, e)) ∙ (λ t. bit (get_or xs (lane t) 0) (spot t))
+
+-- and so it is of sixteen
 pub lane_at : (xs : List ℕ) (j r : ℕ) → j < 16 → r < 8 → at (lane_bits xs) (8 * j + r) ≡ bit (get_or xs j 0) r
-lane_at xs j r h k = sym (lane_is xs j r (8 * j + r) (omega arith) refl k)
+lane_at = at_lane 16 128 refl
 
 -- lanes have no bits past the last
 lane_within : (xs : List ℕ) (j r i : ℕ) → length xs ≡ 16 → i ≡ 8 * j + r → r < 8
@@ -249,67 +258,36 @@ funnel_places p q a b f s d e fits low high = Places-build 128 _ _ (λ i l.
     (λ lt. lane_is a (i / 8) (i % 8 + p) (i + p) (omega arith) (omega arith) lt ∙ low i l lt)
     (λ le. lane_is b (i / 8) (i % 8 - q) (i - q) (omega arith) (omega (arith, s)) (omega arith) ∙ high i l le))
 
--- where 8 divides n, a rotation by n / 8 bytes is a rotation by n bits
-pub rotate_whole : (x y : List ℕ) (n : ℕ) → n % 8 ≡ 0 → Places 128 (lane_bits y)
-    (λ i. at (lane_bits x) ((i + 8 * (n / 8)) % 128))
-    → Places 128 (lane_bits y) (λ i. at (lane_bits x) ((i + n) % 128))
-rotate_whole x y n z t i l = t i l ∙ ap (at (lane_bits x)) (omega arith)
-
 -- the low bits of one rotation by bytes, joined with the high ones of the next, are a rotation by n bits
 pub rotate_part : (x a b : List ℕ) (n : ℕ) → length a ≡ 16 → length b ≡ 16 → Each1 (Fits w8) a
-    → Places 128 (lane_bits a) (λ i. at (lane_bits x) ((i + 8 * (n / 8)) % 128))
-    → Places 128 (lane_bits b) (λ i. at (lane_bits x) ((i + 8 * ((n / 8 + 1) % 16)) % 128))
-    → Places 128 (lane_bits (zip2 bit_or (zip2 shr8 a (replicate 16 (n % 8))) (zip2 shl8 b (replicate 16 (8 - n % 8)))))
-    (λ i. at (lane_bits x) ((i + n) % 128))
+    → Turned 128 (lane_bits x) (lane_bits a) (8 * (n / 8)) → Turned 128 (lane_bits x) (lane_bits b) (8 * ((n / 8 + 1) % 16))
+    → Turned 128 (lane_bits x)
+    (lane_bits (zip2 bit_or (zip2 shr8 a (replicate 16 (n % 8))) (zip2 shl8 b (replicate 16 (8 - n % 8))))) n
 rotate_part x a b n d e f t u = funnel_places (n % 8) (8 - n % 8) a b _ (omega arith) d e f
     (λ i l s. t (i + n % 8) (omega arith) ∙ ap (at (lane_bits x)) (omega arith))
     (λ i l s. u (i - (8 - n % 8)) (omega arith) ∙ ap (at (lane_bits x)) (omega arith))
 
 pub ruleset rotate_calls = (rotate_whole, rotate_part)
 
-abbrev Right : List ℕ → List ℕ → ℕ → Type 0
-Right x y n = Places 128 (lane_bits y) (λ i. nat_lt (i + n) 128 && at (lane_bits x) (i + n))
-
--- where 8 divides n, a shift right by n / 8 bytes is a shift by n bits
-pub shift_right_whole : (x y : List ℕ) (n : ℕ) → n % 8 ≡ 0 → Right x y (8 * (n / 8)) → Right x y n
-shift_right_whole x y n z t i l = t i l ∙ ap (λ v. nat_lt v 128 && at (lane_bits x) v) (omega arith)
-
 -- two shifts right by neighbouring numbers of bytes, joined within each lane, are a shift by n bits
 pub shift_right_part : (x a b : List ℕ) (n : ℕ) → length a ≡ 16 → length b ≡ 16 → Each1 (Fits w8) a
-    → Right x a (8 * (n / 8)) → Right x b (8 * (n / 8 + 1))
-    → Right x (zip2 bit_or (zip2 shr8 a (replicate 16 (n % 8))) (zip2 shl8 b (replicate 16 (8 - n % 8)))) n
+    → Right 128 (lane_bits x) (lane_bits a) (8 * (n / 8)) → Right 128 (lane_bits x) (lane_bits b) (8 * (n / 8 + 1))
+    → Right 128 (lane_bits x)
+    (lane_bits (zip2 bit_or (zip2 shr8 a (replicate 16 (n % 8))) (zip2 shl8 b (replicate 16 (8 - n % 8))))) n
 shift_right_part x a b n d e f t u = funnel_places (n % 8) (8 - n % 8) a b _ (omega arith) d e f
     (λ i l s. t (i + n % 8) (omega arith) ∙ ap (λ v. nat_lt v 128 && at (lane_bits x) v) (omega arith))
     (λ i l s. u (i - (8 - n % 8)) (omega arith) ∙ ap (λ v. nat_lt v 128 && at (lane_bits x) v) (omega arith))
 
 pub ruleset shift_right_calls = (shift_right_whole, shift_right_part)
 
-abbrev Left : List ℕ → List ℕ → ℕ → Type 0
-Left x y n = Places 128 (lane_bits y) (λ i. nat_le n i && at (lane_bits x) (i - n))
-
--- the same bits, that many places further on
-left_by : (x : List ℕ) (m n i j : ℕ) → i + n ≡ j + m → (nat_le m i && at (lane_bits x) (i - m))
-    ≡ (nat_le n j && at (lane_bits x) (j - n))
-left_by x m n i j e = elim (cases_lt i m) [
-  | inl lt ↦ (λ t. lt-leb m i lt t && at (lane_bits x) (i - m))
-      ∙ (λ t. sym (lt-leb n j (omega arith)) t && at (lane_bits x) (j - n))
-  | inr le ↦
-      let place : i - m ≡ j - n = omega arith in
-      (λ t. le-leb m i le t && at (lane_bits x) (place t))
-      ∙ (λ t. sym (le-leb n j (omega arith)) t && at (lane_bits x) (j - n))
-]
-
--- where 8 divides n, a shift left by n / 8 bytes is a shift by n bits
-pub shift_left_whole : (x y : List ℕ) (n : ℕ) → n % 8 ≡ 0 → Left x y (8 * (n / 8)) → Left x y n
-shift_left_whole x y n z t i l = t i l ∙ left_by x (8 * (n / 8)) n i i (omega arith)
-
 -- two shifts left by neighbouring numbers of bytes, joined within each lane, are a shift by n bits
 pub shift_left_part : (x a b : List ℕ) (n : ℕ) → length a ≡ 16 → length b ≡ 16 → Each1 (Fits w8) a
-    → Left x a (8 * (n / 8 + 1)) → Left x b (8 * (n / 8))
-    → Left x (zip2 bit_or (zip2 shr8 a (replicate 16 (8 - n % 8))) (zip2 shl8 b (replicate 16 (n % 8)))) n
+    → Left 128 (lane_bits x) (lane_bits a) (8 * (n / 8 + 1)) → Left 128 (lane_bits x) (lane_bits b) (8 * (n / 8))
+    → Left 128 (lane_bits x)
+    (lane_bits (zip2 bit_or (zip2 shr8 a (replicate 16 (8 - n % 8))) (zip2 shl8 b (replicate 16 (n % 8))))) n
 shift_left_part x a b n d e f t u = funnel_places (8 - n % 8) (n % 8) a b _ (omega arith) d e f
-    (λ i l s. t (i + (8 - n % 8)) (omega arith) ∙ left_by x (8 * (n / 8 + 1)) n (i + (8 - n % 8)) i (omega arith))
-    (λ i l s. u (i - n % 8) (omega arith) ∙ left_by x (8 * (n / 8)) n (i - n % 8) i (omega arith))
+    (λ i l s. t (i + (8 - n % 8)) (omega arith) ∙ left_by (lane_bits x) (8 * (n / 8 + 1)) n (i + (8 - n % 8)) i (omega arith))
+    (λ i l s. u (i - n % 8) (omega arith) ∙ left_by (lane_bits x) (8 * (n / 8)) n (i - n % 8) i (omega arith))
 
 pub ruleset shift_left_calls = (shift_left_whole, shift_left_part)
 

@@ -4,7 +4,6 @@ use Rattle.std.proofs.Common.{List, [], ◌∷◌, ◌++◌, length, map, get_or
 use Rattle.std.proofs.Common.{arith, w8, w16, Fits, false, cond, nat_le, ◌==◌}
 use lib.Lanes.{zip2, pick_l, Each1, number_l, digits_l, mask_l, top}
 use Rattle.aes_planes.specs.Bits.{bit}
-use Rattle.aes_planes.specs.Planes.{place}
 use Rattle.aes_planes.proofs.Bits.BitCases.{same, same_tells}
 use Rattle.aes_planes.proofs.Bits.ByteCases.{all_below, all_pairs_tell}
 use Rattle.aes_planes.proofs.Bits.Digits.{digits_small, regrouped}

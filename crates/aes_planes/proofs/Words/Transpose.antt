@@ -7,12 +7,13 @@ use lib.Lanes.{zip2}
 use Rattle.std.proofs.lemmas.Simd.{length-zip2}
 use Rattle.aes_planes.specs.Bits.{at, bit, xor}
 use Rattle.aes_planes.specs.Private.Packing.{source_word, source_bit}
-use Rattle.aes_planes.specs.Words.{word_bits, lane_bits}
+use Rattle.aes_planes.specs.Fips197.{build}
+use Rattle.aes_planes.specs.Words.{word_bits, lane_bit}
 use Rattle.aes_planes.proofs.Bits.BitCases.{all_bools, all_bools_tells, same, same_tells, xor_false}
 use Rattle.aes_planes.proofs.Bits.ByteCases.{all_below, all_pairs_tell}
 use Rattle.aes_planes.proofs.Bits.NumberBits.{bit_shl, bit_shl_high, bit_shr, bit_above, bit_of_and, bit_of_xor, reads}
 use Rattle.aes_planes.proofs.Words.Constants.{bytes_of_32, bytes_of_64}
-use Rattle.aes_planes.proofs.Words.LaneBits.{lane_at, lane_of_two, lane_of_splat, length-splat, shr8, shl8}
+use Rattle.aes_planes.proofs.Words.LaneBits.{at_lane, lane_of_two, lane_of_splat, length-splat, shr8, shl8}
 
 -- ---- one exchange between two numbers
 
@@ -121,52 +122,53 @@ pub ruleset exchange_calls = (word_high, word_low, bytes_of_32, bytes_of_64)
 
 -- ---- the same on vectors, lane by lane
 
-module _ (s m : ℕ) (low high : List ℕ) (dl : length low ≡ 16) (dh : length high ≡ 16) (f : m * 2 ^ s < 2 ^ 8) where
+module _ (n w s m : ℕ) (low high : List ℕ) (dl : length low ≡ n) (dh : length high ≡ n) (e : w ≡ 8 * n)
+    (f : m * 2 ^ s < 2 ^ 8) where
   abbrev unequal : List ℕ
-  unequal = zip2 bit_xor high (zip2 shr8 low (replicate 16 s))
+  unequal = zip2 bit_xor high (zip2 shr8 low (replicate n s))
 
   -- the bits under the mask in which the high vector differs from the low one shifted right by s
   abbrev pub moved : List ℕ
-  moved = zip2 bit_and unequal (replicate 16 m)
+  moved = zip2 bit_and unequal (replicate n m)
 
-  length-unequal : length unequal ≡ 16
-  length-unequal = length-zip2 bit_xor high (zip2 shr8 low (replicate 16 s)) (dh ∙ sym (length-splat 16 shr8 low s dl))
+  length-unequal : length unequal ≡ n
+  length-unequal = length-zip2 bit_xor high (zip2 shr8 low (replicate n s)) (dh ∙ sym (length-splat n shr8 low s dl))
       ∙ dh
 
-  length-moved : length moved ≡ 16
-  length-moved = length-splat 16 bit_and unequal m length-unequal
+  length-moved : length moved ≡ n
+  length-moved = length-splat n bit_and unequal m length-unequal
 
-  lane_of_moved : (j : ℕ) → j < 16 → get_or moved j 0 ≡ differing s m (get_or low j 0) (get_or high j 0)
-  lane_of_moved j h = lane_of_splat 16 bit_and unequal m j length-unequal h
-      ∙ ap (λ v. bit_and v m) (lane_of_two 16 bit_xor high (zip2 shr8 low (replicate 16 s)) j dh
-      (length-splat 16 shr8 low s dl) h
-      ∙ ap (bit_xor (get_or high j 0)) (lane_of_splat 16 shr8 low s j dl h))
+  lane_of_moved : (j : ℕ) → j < n → get_or moved j 0 ≡ differing s m (get_or low j 0) (get_or high j 0)
+  lane_of_moved j h = lane_of_splat n bit_and unequal m j length-unequal h
+      ∙ ap (λ v. bit_and v m) (lane_of_two n bit_xor high (zip2 shr8 low (replicate n s)) j dh
+      (length-splat n shr8 low s dl) h
+      ∙ ap (bit_xor (get_or high j 0)) (lane_of_splat n shr8 low s j dl h))
 
   -- after an exchange the high vector has, under the mask, the low one's bit s places up, and else its own
-  pub lanes_high : (j r : ℕ) → 8 * j + 8 ≤ 128 → r < 8 → at (lane_bits (zip2 bit_xor high moved)) (8 * j + r)
-      ≡ cond (bit m r) (at (lane_bits low) (8 * j + (r + s))) (at (lane_bits high) (8 * j + r))
+  pub lanes_high : (j r : ℕ) → 8 * j + 8 ≤ w → r < 8 → at (build w (lane_bit (zip2 bit_xor high moved))) (8 * j + r)
+      ≡ cond (bit m r) (at (build w (lane_bit low)) (8 * j + (r + s))) (at (build w (lane_bit high)) (8 * j + r))
   lanes_high j r hj hr =
-      let h : j < 16 = omega arith in
-      lane_at (zip2 bit_xor high moved) j r h hr
-      ∙ ap (λ v. bit v r) (lane_of_two 16 bit_xor high moved j dh length-moved h
+      let h : j < n = omega (arith, e, hj) in
+      at_lane n w e (zip2 bit_xor high moved) j r h hr
+      ∙ ap (λ v. bit v r) (lane_of_two n bit_xor high moved j dh length-moved h
       ∙ ap (bit_xor (get_or high j 0)) (lane_of_moved j h))
       ∙ exchanged_high s m (get_or low j 0) (get_or high j 0) r
-      ∙ chosen_same _ _ _ _ _ _ refl (λ e. sym (lane_at low j (r + s) h (inside s m r f e)))
-      (sym (lane_at high j r h hr))
+      ∙ chosen_same _ _ _ _ _ _ refl (λ is. sym (at_lane n w e low j (r + s) h (inside s m r f is)))
+      (sym (at_lane n w e high j r h hr))
 
   -- and the low vector has, s places above the mask, the high one's bit s places down, and else its own
-  pub lanes_low : (j r : ℕ) → 8 * j + 8 ≤ 128 → r < 8
-      → at (lane_bits (zip2 bit_xor low (zip2 shl8 moved (replicate 16 s)))) (8 * j + r)
-      ≡ cond (nat_le s r && bit m (r - s)) (at (lane_bits high) (8 * j + (r - s))) (at (lane_bits low) (8 * j + r))
+  pub lanes_low : (j r : ℕ) → 8 * j + 8 ≤ w → r < 8
+      → at (build w (lane_bit (zip2 bit_xor low (zip2 shl8 moved (replicate n s))))) (8 * j + r)
+      ≡ cond (nat_le s r && bit m (r - s)) (at (build w (lane_bit high)) (8 * j + (r - s))) (at (build w (lane_bit low)) (8 * j + r))
   lanes_low j r hj hr =
-      let h : j < 16 = omega arith in
-      let shifted = zip2 shl8 moved (replicate 16 s) in
-      lane_at (zip2 bit_xor low shifted) j r h hr
-      ∙ ap (λ v. bit v r) (lane_of_two 16 bit_xor low shifted j dl (length-splat 16 shl8 moved s length-moved) h
-      ∙ ap (bit_xor (get_or low j 0)) (lane_of_splat 16 shl8 moved s j length-moved h
+      let h : j < n = omega (arith, e, hj) in
+      let shifted = zip2 shl8 moved (replicate n s) in
+      at_lane n w e (zip2 bit_xor low shifted) j r h hr
+      ∙ ap (λ v. bit v r) (lane_of_two n bit_xor low shifted j dl (length-splat n shl8 moved s length-moved) h
+      ∙ ap (bit_xor (get_or low j 0)) (lane_of_splat n shl8 moved s j length-moved h
       ∙ ap (λ v. v * 2 ^ s % 2 ^ 8) (lane_of_moved j h)))
       ∙ exchanged_low 8 s m (get_or low j 0) (get_or high j 0) r hr
-      ∙ chosen_same _ _ _ _ _ _ refl (λ e. sym (lane_at high j (r - s) h (omega arith))) (sym (lane_at low j r h hr))
+      ∙ chosen_same _ _ _ _ _ _ refl (λ is. sym (at_lane n w e high j (r - s) h (omega (arith, hr)))) (sym (at_lane n w e low j r h hr))
 
 -- ---- three exchanges
 

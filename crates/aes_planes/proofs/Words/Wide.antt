@@ -1,17 +1,18 @@
 -- The bits of two times sixteen byte lanes, as a word of 256 bits, through the operations on vectors.
-use Rattle.std.proofs.Common.{◌≡◌, ℕ, ◌+◌, ◌-◌, ◌*◌, ◌/◌, ◌%◌, ◌^◌, ◌<◌, ◌≤◌, ◌==◌, Bool, true, false, ◌&&◌, ◌||◌, not}
+use Rattle.std.proofs.Common.{◌≡◌, ℕ, ◌+◌, ◌-◌, ◌*◌, ◌/◌, ◌%◌, ◌<◌, ◌≤◌, ◌==◌, Bool, true, false, ◌&&◌, ◌||◌, not}
 use Rattle.std.proofs.Common.{cond, nat_le, nat_lt, bit_and, bit_or, bit_xor, List, [], ◌∷◌, ◌++◌, length, map, get_or}
 use Rattle.std.proofs.Common.{replicate, refl, ap, sym, ◌∙◌, arith, w8, Fits, leb-true, le-leb, inl, inr, T}
-use Rattle.std.proofs.lemmas.Simd.{swz_l, get_or-swz_l, get_or-replicate, length-replicate, pick_l_left}
-use Rattle.std.proofs.lemmas.List.{get_or_past, get_or-map, get_or_append_left, get_or-append_right}
-use Rattle.std.proofs.lemmas.Bool.{cases_lt, lt-leb, lt-ltb, le-ltb, eqb-true, and_parts, ltb-true, cond_both, cond-true, cond-false}
+use Rattle.std.proofs.lemmas.Simd.{swz_l, get_or-swz_l, get_or-replicate}
+use Rattle.std.proofs.lemmas.List.{get_or-map, get_or_append_left, get_or-append_right}
+use Rattle.std.proofs.lemmas.Bool.{cases_lt, lt-leb, lt-ltb, le-ltb, eqb-true, and_parts, cond_both, cond-true, cond-false}
 use lib.Lanes.{zip2, Each1, pick_l}
 use Rattle.aes_planes.specs.Bits.{at, bit, xor, Places}
-use Rattle.aes_planes.specs.Fips197.{build}
-use Rattle.aes_planes.specs.Words.{lane_bit, lane_bits, wide_bit, wide_bits}
+use Rattle.aes_planes.specs.Words.{lane_bits, wide_bit, wide_bits}
 use Rattle.aes_planes.proofs.Bits.ByteCases.{all_below, all_below_tells, all_pairs, all_pairs_tell}
 use Rattle.aes_planes.proofs.Lists.{get_or-build}
 use Rattle.aes_planes.proofs.Bits.NumberBits.{Places-build, bit_of_and, bit_of_or, bit_of_xor, bit_funnel, bit_zero, bit_ones}
+use Rattle.aes_planes.proofs.Words.Moved.{Turned, Right, Left, left_by, right_again, left_again}
+use Rattle.aes_planes.proofs.Words.Moved.{rotate_whole, shift_right_whole, shift_left_whole}
 use Rattle.aes_planes.proofs.Words.LaneBits.{lane_of_two, lane_of_splats, lane_small, lane_at, shr8, shl8}
 
 -- the lane that has bit i of the word
@@ -263,60 +264,29 @@ byte_left x d = Places-build 256 _ _ (λ i l.
 
 -- ---- by bytes
 
-abbrev Turned : List ℕ → List ℕ → ℕ → Type 0
-Turned x y n = Places 256 (wide_bits y) (λ i. at (wide_bits x) ((i + n) % 256))
+pub rotate_even : (x y : List Bool) (b : ℕ) → b % 2 ≡ 0 → Turned 256 x y (16 * (b / 2)) → Turned 256 x y (8 * b)
+rotate_even x y b z t i l = t i l ∙ ap (at x) (omega arith)
 
-abbrev Right : List ℕ → List ℕ → ℕ → Type 0
-Right x y n = Places 256 (wide_bits y) (λ i. nat_lt (i + n) 256 && at (wide_bits x) (i + n))
-
-abbrev Left : List ℕ → List ℕ → ℕ → Type 0
-Left x y n = Places 256 (wide_bits y) (λ i. nat_le n i && at (wide_bits x) (i - n))
-
--- the same bits, that many places further on
-left_by : (x : List ℕ) (m n i j : ℕ) → i + n ≡ j + m → (nat_le m i && at (wide_bits x) (i - m))
-    ≡ (nat_le n j && at (wide_bits x) (j - n))
-left_by x m n i j e = elim (cases_lt i m) [
-  | inl lt ↦ (λ t. lt-leb m i lt t && at (wide_bits x) (i - m))
-      ∙ (λ t. sym (lt-leb n j (omega arith)) t && at (wide_bits x) (j - n))
-  | inr le ↦
-      let place : i - m ≡ j - n = omega arith in
-      (λ t. le-leb m i le t && at (wide_bits x) (place t))
-      ∙ (λ t. sym (le-leb n j (omega arith)) t && at (wide_bits x) (j - n))
-]
-
-pub rotate_even : (x y : List ℕ) (b : ℕ) → b % 2 ≡ 0 → Turned x y (16 * (b / 2)) → Turned x y (8 * b)
-rotate_even x y b z t i l = t i l ∙ ap (at (wide_bits x)) (omega arith)
-
-pub rotate_odd : (x y z : List ℕ) (b : ℕ) → b % 2 ≡ 1 → Turned x y (16 * (b / 2)) → Turned y z 8 → Turned x z (8 * b)
-rotate_odd x y z b h t u i l = u i l ∙ t ((i + 8) % 256) (omega arith) ∙ ap (at (wide_bits x)) (omega arith)
+pub rotate_odd : (x y z : List Bool) (b : ℕ) → b % 2 ≡ 1 → Turned 256 x y (16 * (b / 2)) → Turned 256 y z 8 → Turned 256 x z (8 * b)
+rotate_odd x y z b h t u i l = u i l ∙ t ((i + 8) % 256) (omega arith) ∙ ap (at x) (omega arith)
 
 pub ruleset rotate_bytes_calls = (rotate_even, rotate_odd)
 
-pub right_even : (x y : List ℕ) (b : ℕ) → b % 2 ≡ 0 → Right x y (16 * (b / 2)) → Right x y (8 * b)
-right_even x y b z t i l = t i l ∙ ap (λ v. nat_lt v 256 && at (wide_bits x) v) (omega arith)
+pub right_even : (x y : List Bool) (b : ℕ) → b % 2 ≡ 0 → Right 256 x y (16 * (b / 2)) → Right 256 x y (8 * b)
+right_even x y b z t i l = t i l ∙ ap (λ v. nat_lt v 256 && at x v) (omega arith)
 
-pub right_odd : (x y z : List ℕ) (b : ℕ) → b % 2 ≡ 1 → Right x y (16 * (b / 2)) → Right y z 8 → Right x z (8 * b)
-right_odd x y z b h t u i l = u i l ∙ elim (cases_lt (i + 8) 256) [
-  | inl lt ↦ ap (λ b. b && at (wide_bits y) (i + 8)) (lt-ltb (i + 8) 256 lt) ∙ t (i + 8) lt
-      ∙ ap (λ v. nat_lt v 256 && at (wide_bits x) v) (omega arith)
-  | inr le ↦ ap (λ b. b && at (wide_bits y) (i + 8)) (le-ltb (i + 8) 256 le)
-      ∙ ap (λ c. c && at (wide_bits x) (i + 8 * b)) (sym (le-ltb (i + 8 * b) 256 (omega (arith, h, le))))
-]
+pub right_odd : (x y z : List Bool) (b : ℕ) → b % 2 ≡ 1 → Right 256 x y (16 * (b / 2)) → Right 256 y z 8 → Right 256 x z (8 * b)
+right_odd x y z b h t u = right_again 256 x y z (16 * (b / 2)) (8 * b) t u (omega (arith, h))
 
 pub ruleset bytes_right_calls = (right_even, right_odd)
 
-pub left_even : (x y : List ℕ) (b : ℕ) → b % 2 ≡ 0 → Left x y (16 * (b / 2)) → Left x y (8 * b)
+pub left_even : (x y : List Bool) (b : ℕ) → b % 2 ≡ 0 → Left 256 x y (16 * (b / 2)) → Left 256 x y (8 * b)
 left_even x y b z t i l =
     let e : 16 * (b / 2) ≡ 8 * b = omega arith in
-    t i l ∙ ap (λ n. nat_le n i && at (wide_bits x) (i - n)) e
+    t i l ∙ ap (λ n. nat_le n i && at x (i - n)) e
 
-pub left_odd : (x y z : List ℕ) (b : ℕ) → b % 2 ≡ 1 → Left x y (16 * (b / 2)) → Left y z 8 → Left x z (8 * b)
-left_odd x y z b h t u i l = u i l ∙ elim (cases_lt i 8) [
-  | inl lt ↦ ap (λ b. b && at (wide_bits y) (i - 8)) (lt-leb 8 i lt)
-      ∙ ap (λ c. c && at (wide_bits x) (i - 8 * b)) (sym (lt-leb (8 * b) i (omega (arith, h, lt))))
-  | inr le ↦ ap (λ b. b && at (wide_bits y) (i - 8)) (le-leb 8 i le) ∙ t (i - 8) (omega arith)
-      ∙ left_by x (16 * (b / 2)) (8 * b) (i - 8) i (omega (arith, h, le))
-]
+pub left_odd : (x y z : List Bool) (b : ℕ) → b % 2 ≡ 1 → Left 256 x y (16 * (b / 2)) → Left 256 y z 8 → Left 256 x z (8 * b)
+left_odd x y z b h t u = left_again 256 x y z (16 * (b / 2)) (8 * b) t u (omega (arith, h))
 
 pub ruleset bytes_left_calls = (left_even, left_odd)
 
@@ -334,12 +304,9 @@ funnel p q a b f s d e fits low high = Places-build 256 _ _ (λ i l.
     (λ lt. wide_is a j (i % 8 + p) (i + p) (omega arith) (omega arith) (omega arith) ∙ low i l lt)
     (λ le. wide_is b j (i % 8 - q) (i - q) (omega arith) (omega (arith, s)) (omega (arith, s)) ∙ high i l le))
 
-pub rotate_whole : (x y : List ℕ) (n : ℕ) → n % 8 ≡ 0 → Turned x y (8 * (n / 8)) → Turned x y n
-rotate_whole x y n z t i l = t i l ∙ ap (at (wide_bits x)) (omega arith)
-
 pub rotate_part : (x a b : List ℕ) (n : ℕ) → length a ≡ 32 → length b ≡ 32 → Each1 (Fits w8) a
-    → Turned x a (8 * (n / 8)) → Turned a b 8
-    → Turned x (zip2 bit_or (zip2 shr8 a (replicate 32 (n % 8))) (zip2 shl8 b (replicate 32 (8 - n % 8)))) n
+    → Turned 256 (wide_bits x) (wide_bits a) (8 * (n / 8)) → Turned 256 (wide_bits a) (wide_bits b) 8
+    → Turned 256 (wide_bits x) (wide_bits (zip2 bit_or (zip2 shr8 a (replicate 32 (n % 8))) (zip2 shl8 b (replicate 32 (8 - n % 8))))) n
 rotate_part x a b n d e f t u = funnel (n % 8) (8 - n % 8) a b _ (omega arith) d e f
     (λ i l s. t (i + n % 8) (omega arith) ∙ ap (at (wide_bits x)) (omega arith))
     (λ i l s. u (i - (8 - n % 8)) (omega arith) ∙ t ((i - (8 - n % 8) + 8) % 256) (omega arith)
@@ -347,47 +314,25 @@ rotate_part x a b n d e f t u = funnel (n % 8) (8 - n % 8) a b _ (omega arith) d
 
 pub ruleset rotate_calls = (rotate_whole, rotate_part)
 
-pub shift_right_whole : (x y : List ℕ) (n : ℕ) → n % 8 ≡ 0 → Right x y (8 * (n / 8)) → Right x y n
-shift_right_whole x y n z t i l = t i l ∙ ap (λ v. nat_lt v 256 && at (wide_bits x) v) (omega arith)
-
-right_again : (x a b : List ℕ) (n m : ℕ) → Right x a n → Right a b 8 → m ≡ n + 8 → Right x b m
-right_again x a b n m t u e i l = u i l ∙ elim (cases_lt (i + 8) 256) [
-  | inl lt ↦ ap (λ b. b && at (wide_bits a) (i + 8)) (lt-ltb (i + 8) 256 lt) ∙ t (i + 8) lt
-      ∙ ap (λ v. nat_lt v 256 && at (wide_bits x) v) (omega (arith, e))
-  | inr le ↦ ap (λ b. b && at (wide_bits a) (i + 8)) (le-ltb (i + 8) 256 le)
-      ∙ ap (λ c. c && at (wide_bits x) (i + m)) (sym (le-ltb (i + m) 256 (omega (arith, e, le))))
-]
-
 pub shift_right_part : (x a b : List ℕ) (n : ℕ) → length a ≡ 32 → length b ≡ 32 → Each1 (Fits w8) a
-    → Right x a (8 * (n / 8)) → Right a b 8
-    → Right x (zip2 bit_or (zip2 shr8 a (replicate 32 (n % 8))) (zip2 shl8 b (replicate 32 (8 - n % 8)))) n
+    → Right 256 (wide_bits x) (wide_bits a) (8 * (n / 8)) → Right 256 (wide_bits a) (wide_bits b) 8
+    → Right 256 (wide_bits x) (wide_bits (zip2 bit_or (zip2 shr8 a (replicate 32 (n % 8))) (zip2 shl8 b (replicate 32 (8 - n % 8))))) n
 shift_right_part x a b n d e f t u =
-    let v = right_again x a b (8 * (n / 8)) (8 * (n / 8 + 1)) t u (omega arith) in
+    let v = right_again 256 (wide_bits x) (wide_bits a) (wide_bits b) (8 * (n / 8)) (8 * (n / 8 + 1)) t u (omega arith) in
     funnel (n % 8) (8 - n % 8) a b _ (omega arith) d e f
     (λ i l s. t (i + n % 8) (omega arith) ∙ ap (λ v. nat_lt v 256 && at (wide_bits x) v) (omega arith))
     (λ i l s. v (i - (8 - n % 8)) (omega arith) ∙ ap (λ v. nat_lt v 256 && at (wide_bits x) v) (omega arith))
 
 pub ruleset shift_right_calls = (shift_right_whole, shift_right_part)
 
-pub shift_left_whole : (x y : List ℕ) (n : ℕ) → n % 8 ≡ 0 → Left x y (8 * (n / 8)) → Left x y n
-shift_left_whole x y n z t i l = t i l ∙ left_by x (8 * (n / 8)) n i i (omega arith)
-
-left_again : (x a b : List ℕ) (n m : ℕ) → Left x a n → Left a b 8 → m ≡ n + 8 → Left x b m
-left_again x a b n m t u e i l = u i l ∙ elim (cases_lt i 8) [
-  | inl lt ↦ ap (λ b. b && at (wide_bits a) (i - 8)) (lt-leb 8 i lt)
-      ∙ ap (λ c. c && at (wide_bits x) (i - m)) (sym (lt-leb m i (omega (arith, e, lt))))
-  | inr le ↦ ap (λ b. b && at (wide_bits a) (i - 8)) (le-leb 8 i le) ∙ t (i - 8) (omega arith)
-      ∙ left_by x n m (i - 8) i (omega (arith, e, le))
-]
-
 pub shift_left_part : (x a b : List ℕ) (n : ℕ) → length a ≡ 32 → length b ≡ 32 → Each1 (Fits w8) b
-    → Left x a (8 * (n / 8)) → Left a b 8
-    → Left x (zip2 bit_or (zip2 shr8 b (replicate 32 (8 - n % 8))) (zip2 shl8 a (replicate 32 (n % 8)))) n
+    → Left 256 (wide_bits x) (wide_bits a) (8 * (n / 8)) → Left 256 (wide_bits a) (wide_bits b) 8
+    → Left 256 (wide_bits x) (wide_bits (zip2 bit_or (zip2 shr8 b (replicate 32 (8 - n % 8))) (zip2 shl8 a (replicate 32 (n % 8))))) n
 shift_left_part x a b n d e f t u =
-    let v = left_again x a b (8 * (n / 8)) (8 * (n / 8 + 1)) t u (omega arith) in
+    let v = left_again 256 (wide_bits x) (wide_bits a) (wide_bits b) (8 * (n / 8)) (8 * (n / 8 + 1)) t u (omega arith) in
     funnel (8 - n % 8) (n % 8) b a _ (omega arith) e d f
-    (λ i l s. v (i + (8 - n % 8)) (omega arith) ∙ left_by x (8 * (n / 8 + 1)) n (i + (8 - n % 8)) i (omega arith))
-    (λ i l s. t (i - n % 8) (omega arith) ∙ left_by x (8 * (n / 8)) n (i - n % 8) i (omega arith))
+    (λ i l s. v (i + (8 - n % 8)) (omega arith) ∙ left_by (wide_bits x) (8 * (n / 8 + 1)) n (i + (8 - n % 8)) i (omega arith))
+    (λ i l s. t (i - n % 8) (omega arith) ∙ left_by (wide_bits x) (8 * (n / 8)) n (i - n % 8) i (omega arith))
 
 pub ruleset shift_left_calls = (shift_left_whole, shift_left_part)
 

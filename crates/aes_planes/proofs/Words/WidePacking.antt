@@ -1,79 +1,26 @@
 -- Packing on 32 lanes: exchanges of bits between words, and blocks in both halves.
-use Rattle.std.proofs.Common.{◌≡◌, ℕ, ◌+◌, ◌-◌, ◌*◌, ◌/◌, ◌%◌, ◌^◌, ◌<◌, ◌≤◌, ◌==◌, Bool, true, false, ◌&&◌, cond}
-use Rattle.std.proofs.Common.{nat_le, nat_lt, bit_and, bit_xor, List, [], ◌∷◌, ◌++◌, get_or, refl, ap, sym, ◌∙◌, arith}
-use Rattle.std.proofs.Common.{length, replicate, map, inl, inr}
+use Rattle.std.proofs.Common.{◌≡◌, ℕ, ◌+◌, ◌*◌, ◌/◌, ◌%◌, ◌<◌, ◌≤◌, ◌==◌, Bool, true}
+use Rattle.std.proofs.Common.{List, [], ◌∷◌, ◌++◌, get_or, refl, ap, sym, ◌∙◌, arith}
+use Rattle.std.proofs.Common.{length, map, inl, inr}
 use Rattle.std.proofs.lemmas.Bool.{eqb-true, cases_lt}
 use Rattle.std.proofs.lemmas.List.{ext_get_or, get_or-map, length-map, get_or_append_left, get_or-append_right}
-use lib.Lanes.{Each1, zip2, pick_l}
-use Rattle.std.proofs.lemmas.Simd.{length-zip2, Each1-get_or}
-use Rattle.aes_planes.specs.Bits.{at, bit, xor}
+use lib.Lanes.{Each1, pick_l}
+use Rattle.std.proofs.lemmas.Simd.{Each1-get_or}
+use Rattle.aes_planes.specs.Bits.{at, bit}
 use Rattle.aes_planes.specs.Fips197.{byte_at, IsBlock}
 use Rattle.aes_planes.specs.Planes.{held, place}
-use Rattle.aes_planes.specs.Words.{lane_bit, lane_bits, wide_bits}
+use Rattle.aes_planes.specs.Words.{lane_bits, wide_bits}
 use Rattle.aes_planes.specs.Private.Lanes.{lanes_of_32}
 use Rattle.aes_planes.specs.Private.Packing.{row_byte}
 use Rattle.aes_planes.proofs.Bits.ByteCases.{all_below, all_below_tells}
-use Rattle.aes_planes.proofs.Lists.{get_or-build}
-use Rattle.aes_planes.proofs.Planes.Held.{place_lt}
 use Rattle.aes_planes.proofs.Planes.Holds.{holds_held}
-use Rattle.aes_planes.proofs.Words.LaneBits.{lane_at, lane_of_two, lane_of_splat, length-splat, shr8, shl8}
-use Rattle.aes_planes.proofs.Words.Transpose.{differing, exchanged_high, exchanged_low, inside, chosen_same}
+use Rattle.aes_planes.proofs.Words.LaneBits.{lane_at, at_lane}
 use Rattle.aes_planes.proofs.Words.Packing.{IsRead, read_at}
 use Rattle.aes_planes.proofs.Words.Wide.{wide_is}
 
 -- bit 8 * j + r of 32 lanes is bit r of lane j
-pub at_lane : (xs : List ℕ) (j r : ℕ) → j < 32 → r < 8 → at (lanes_of_32 xs) (8 * j + r) ≡ bit (get_or xs j 0) r
-at_lane xs j r h k =
-    let lane : (8 * j + r) / 8 ≡ j = omega arith in
-    let spot : (8 * j + r) % 8 ≡ r = omega arith in
-    get_or-build 256 (8 * j + r) (lane_bit xs) false (omega arith) ∙ (λ t. bit (get_or xs (lane t) 0) (spot t))
-
-module _ (s m : ℕ) (low high : List ℕ) (dl : length low ≡ 32) (dh : length high ≡ 32) (f : m * 2 ^ s < 2 ^ 8) where
-  abbrev unequal : List ℕ
-  unequal = zip2 bit_xor high (zip2 shr8 low (replicate 32 s))
-
-  -- the bits under the mask in which the high vector differs from the low one shifted right by s
-  abbrev pub moved : List ℕ
-  moved = zip2 bit_and unequal (replicate 32 m)
-
-  length-unequal : length unequal ≡ 32
-  length-unequal = length-zip2 bit_xor high (zip2 shr8 low (replicate 32 s)) (dh ∙ sym (length-splat 32 shr8 low s dl))
-      ∙ dh
-
-  length-moved : length moved ≡ 32
-  length-moved = length-splat 32 bit_and unequal m length-unequal
-
-  lane_of_moved : (j : ℕ) → j < 32 → get_or moved j 0 ≡ differing s m (get_or low j 0) (get_or high j 0)
-  lane_of_moved j h = lane_of_splat 32 bit_and unequal m j length-unequal h
-      ∙ ap (λ v. bit_and v m) (lane_of_two 32 bit_xor high (zip2 shr8 low (replicate 32 s)) j dh
-      (length-splat 32 shr8 low s dl) h
-      ∙ ap (bit_xor (get_or high j 0)) (lane_of_splat 32 shr8 low s j dl h))
-
-  -- after an exchange the high vector has, under the mask, the low one's bit s places up, and else its own
-  pub lanes_high : (j r : ℕ) → 8 * j + 8 ≤ 256 → r < 8 → at (lanes_of_32 (zip2 bit_xor high moved)) (8 * j + r)
-      ≡ cond (bit m r) (at (lanes_of_32 low) (8 * j + (r + s))) (at (lanes_of_32 high) (8 * j + r))
-  lanes_high j r hj hr =
-      let h : j < 32 = omega arith in
-      at_lane (zip2 bit_xor high moved) j r h hr
-      ∙ ap (λ v. bit v r) (lane_of_two 32 bit_xor high moved j dh length-moved h
-      ∙ ap (bit_xor (get_or high j 0)) (lane_of_moved j h))
-      ∙ exchanged_high s m (get_or low j 0) (get_or high j 0) r
-      ∙ chosen_same _ _ _ _ _ _ refl (λ e. sym (at_lane low j (r + s) h (inside s m r f e)))
-      (sym (at_lane high j r h hr))
-
-  -- and the low vector has, s places above the mask, the high one's bit s places down, and else its own
-  pub lanes_low : (j r : ℕ) → 8 * j + 8 ≤ 256 → r < 8
-      → at (lanes_of_32 (zip2 bit_xor low (zip2 shl8 moved (replicate 32 s)))) (8 * j + r)
-      ≡ cond (nat_le s r && bit m (r - s)) (at (lanes_of_32 high) (8 * j + (r - s))) (at (lanes_of_32 low) (8 * j + r))
-  lanes_low j r hj hr =
-      let h : j < 32 = omega arith in
-      let shifted = zip2 shl8 moved (replicate 32 s) in
-      at_lane (zip2 bit_xor low shifted) j r h hr
-      ∙ ap (λ v. bit v r) (lane_of_two 32 bit_xor low shifted j dl (length-splat 32 shl8 moved s length-moved) h
-      ∙ ap (bit_xor (get_or low j 0)) (lane_of_splat 32 shl8 moved s j length-moved h
-      ∙ ap (λ v. v * 2 ^ s % 2 ^ 8) (lane_of_moved j h)))
-      ∙ exchanged_low 8 s m (get_or low j 0) (get_or high j 0) r hr
-      ∙ chosen_same _ _ _ _ _ _ refl (λ e. sym (at_lane high j (r - s) h (omega arith))) (sym (at_lane low j r h hr))
+pub at_lane_of_32 : (xs : List ℕ) (j r : ℕ) → j < 32 → r < 8 → at (lanes_of_32 xs) (8 * j + r) ≡ bit (get_or xs j 0) r
+at_lane_of_32 = at_lane 32 256 refl
 
 -- ---- two vectors side by side, and halves
 
@@ -98,7 +45,7 @@ joined_low x y j p d h hp = lane_at x j p h hp
     ∙ ap (λ v. bit v p) (sym (named (x ++ y) all_32 j j (omega arith)
     (all_below_tells 32 (λ j. get_or all_32 j 0 == j) refl j (omega arith))
     ∙ get_or_append_left x y 0 j (omega (arith, d, h))))
-    ∙ sym (at_lane (pick_l 0 (x ++ y) all_32) j p (omega arith) hp)
+    ∙ sym (at_lane_of_32 (pick_l 0 (x ++ y) all_32) j p (omega arith) hp)
 
 pub joined_high : (x y : List ℕ) (j p : ℕ) → length x ≡ 16 → length y ≡ 16 → j < 16 → p < 8
     → at (lane_bits y) (8 * j + p) ≡ at (lanes_of_32 (pick_l 0 (x ++ y) all_32)) (8 * (16 + j) + p)
@@ -107,7 +54,7 @@ joined_high x y j p d e h hp = lane_at y j p h hp
     ∙ ap (λ v. bit v p) (sym (named (x ++ y) all_32 (16 + j) (16 + j) (omega arith)
     (all_below_tells 32 (λ j. get_or all_32 j 0 == j) refl (16 + j) (omega arith))
     ∙ get_or-append_right x y 16 (16 + j) 0 d (omega arith) ∙ ap (λ v. get_or y v 0) (omega arith)))
-    ∙ sym (at_lane (pick_l 0 (x ++ y) all_32) (16 + j) p (omega arith) hp)
+    ∙ sym (at_lane_of_32 (pick_l 0 (x ++ y) all_32) (16 + j) p (omega arith) hp)
 
 pub ruleset joined = (joined_low, joined_high)
 
@@ -117,7 +64,7 @@ unfolding all_below
 lower x j p d h hp = lane_at (pick_l 0 (x ++ x) first_16) j p h hp
     ∙ ap (λ v. bit v p) (named (x ++ x) first_16 j j (omega arith)
     (all_below_tells 16 (λ j. get_or first_16 j 0 == j) refl j h) ∙ get_or_append_left x x 0 j (omega (arith, d, h)))
-    ∙ sym (at_lane x j p (omega arith) hp)
+    ∙ sym (at_lane_of_32 x j p (omega arith) hp)
 
 pub upper : (x : List ℕ) (j p : ℕ) → length x ≡ 32 → j < 16 → p < 8
     → at (lane_bits (pick_l 0 (x ++ x) last_16)) (8 * j + p) ≡ at (lanes_of_32 x) (8 * (16 + j) + p)
@@ -126,7 +73,7 @@ upper x j p d h hp = lane_at (pick_l 0 (x ++ x) last_16) j p h hp
     ∙ ap (λ v. bit v p) (named (x ++ x) last_16 j (16 + j) (omega arith)
     (all_below_tells 16 (λ j. get_or last_16 j 0 == 16 + j) refl j h)
     ∙ get_or_append_left x x 0 (16 + j) (omega (arith, d, h)))
-    ∙ sym (at_lane x (16 + j) p (omega arith) hp)
+    ∙ sym (at_lane_of_32 x (16 + j) p (omega arith) hp)
 
 -- ---- planes and the words that they are the transpose of: word t has block t in its lower half, and block 8 + t in the
 -- upper
@@ -159,7 +106,7 @@ wide_held planes words blocks lp lw lb typed turned loaded = holds_held 16 (map 
       let stored : at (get_or (map wide_bits planes) p []) i ≡ at (get_or (map lanes_of_32 planes) p []) (8 * j + t) =
       ap (λ w. at w i) (get_or-map wide_bits planes p [] [] (omega (arith, lp, hp)))
       ∙ sym (wide_is plane j t i (omega (arith, hr, hc, hk)) (omega (arith, hr, hc, hk)) (omega (arith, hr, hc, hk)))
-      ∙ sym (at_lane plane j t (omega (arith, hr, hc, hk)) (omega arith))
+      ∙ sym (at_lane_of_32 plane j t (omega (arith, hr, hc, hk)) (omega arith))
       ∙ ap (λ w. at w (8 * j + t)) (sym (get_or-map lanes_of_32 planes p [] [] (omega (arith, lp, hp)))) in
       let word = get_or (map lanes_of_32 words) t [] in
       let here : at word (8 * j + p) ≡ bit (row_byte (get_or blocks k []) q) p =
