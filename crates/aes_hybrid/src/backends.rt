@@ -1,27 +1,31 @@
-//! The backend on planes of a caller's closure, and how many blocks the one without them has in a batch.
+//! Backends: fours by vector permutations, and batches on planes in either direction.
 
 ghost use Rattle.std.specs.Prelude.{◌≡◌, ℕ, List, length, map};
 ghost use Rattle.std.proofs.Common.{arith};
+ghost use Rattle.aes_planes.specs.Each.{Each};
 ghost use Rattle.aes_planes.specs.Fips197 as fips;
 ghost use Rattle.aes_planes.proofs.Standard.CipherLaws.{two_keys};
+ghost use Rattle.aes_permute.specs.Keys.{encrypting};
+ghost use Rattle.aes_permute.specs.Stored.{round_keys_of};
 ghost use Rattle.aes_soft.specs.Stored as soft;
+ghost use Rattle.aes_permute.specs.Keys.{cipher_key, IsCipherSchedule};
 
-use crate::blocks::are_few;
-use crate::lent::Lent;
+use crate::blocks::{are_few, process_few};
 use crate::widths::Width;
 use aes_cipher::cipher::{
     BatchSize, BatchSizeUser, BlockCipherDecBackend, BlockCipherEncBackend, Decrypt, Encrypt,
     RoundKeysUser,
 };
 use aes_permute::lane_rounds::LaneRounds;
+use aes_planes::laws;
 use aes_planes::soft::sbox::Layers;
 use aes_planes::soft::word::Block;
 use aes_soft::soft::blocks::process_batch_under;
-use std::marker::Model;
+use std::marker::{Model, PhantomData};
 use std::slice;
 
-/// A batch of four blocks.
-pub struct BatchOfFour;
+// Batches of four blocks.
+pub(crate) struct BatchOfFour;
 
 impl BatchSize for BatchOfFour {
     ghost PAR_BLOCKS = { 4 };
@@ -31,9 +35,108 @@ impl BatchSize for BatchOfFour {
     ghost at_least_one = { Prim.omega arith };
 }
 
+// Processes single blocks and fours by vector permutations. `keys` are the stored round keys of Cipher, and `used` those of
+// the direction.
+pub(crate) struct OnLanes<'a, D: LaneRounds, W: Width> {
+    keys: &'a [Block],
+    used: &'a [Block],
+    direction: PhantomData<D>,
+    width: PhantomData<W>,
+}
+
+impl<D: LaneRounds, W: Width> Drop for OnLanes<'_, D, W> {
+    #[inline(always)]
+    fn drop(self) {
+        let OnLanes {
+            keys: _,
+            used: _,
+            direction: _,
+            width: _,
+        } = self;
+    }
+}
+
+impl<'a, D: LaneRounds, W: Width> Model for OnLanes<'a, D, W> {
+    ghost Value = { List ℕ };
+
+    ghost view = { λ few. cipher_key few.keys.now };
+
+    ghost invariant = { λ few. IsCipherSchedule few.keys.now
+        × (round_keys_of D.form few.used.now ≡ D.form.used_keys (encrypting few.keys.now)) };
+}
+
+impl<'a, D: LaneRounds, W: Width> OnLanes<'a, D, W> {
+    #[inline(always)]
+    pub(crate) fn new(keys: &'a [Block], used: &'a [Block]) -> OnLanes<'a, D, W>
+        requires keyed { IsCipherSchedule keys.now }
+        requires used { round_keys_of D.form used.now ≡ D.form.used_keys (encrypting keys.now) }
+        ensures { result ≡ cipher_key keys.now }
+    {
+        OnLanes {
+            keys,
+            used,
+            direction: PhantomData,
+            width: PhantomData,
+        }
+    }
+
+    #[inline(always)]
+    pub(crate) fn process_few(&self, blocks: &mut [Block])
+        ensures { Each (D.processed (fips.key_expansion self.now)) blocks.old blocks.new }
+    {
+        D::uses_all();
+        process_few::<D, W>(self.used, blocks);
+    }
+}
+
+impl<D: LaneRounds, W: Width> RoundKeysUser for OnLanes<'_, D, W> {
+    ghost round_keys = { fips.key_expansion };
+
+    fn has_round_keys(&self) {
+        laws::expanded_keys();
+        let _ = &self.keys;
+    }
+
+    ghost two_round_keys = { two_keys };
+}
+
+impl<D: LaneRounds, W: Width> BatchSizeUser for OnLanes<'_, D, W> {
+    type Par = BatchOfFour;
+}
+
+impl<W: Width> BlockCipherEncBackend for OnLanes<'_, Encrypt, W> {
+    #[inline(always)]
+    fn encrypt_block(&self, block: &mut Block) {
+        self.process_few(slice::from_mut(block));
+    }
+
+    #[inline(always)]
+    fn encrypt_par_blocks(&self, blocks: &mut [Block]) {
+        self.process_few(blocks);
+    }
+
+    #[tactic(auto, using(aes_cipher::proofs::FirstBlocks::first_alone))]
+    #[inline(always)]
+    fn encrypt_first_blocks(&self, count: usize, blocks: &mut [Block]) {
+        self.process_few(&mut blocks[..count]);
+    }
+}
+
+impl<W: Width> BlockCipherDecBackend for OnLanes<'_, Decrypt, W> {
+    #[inline(always)]
+    fn decrypt_block(&self, block: &mut Block) {
+        self.process_few(slice::from_mut(block));
+    }
+
+    #[inline(always)]
+    fn decrypt_par_blocks(&self, blocks: &mut [Block]) {
+        self.process_few(blocks);
+    }
+}
+
 // Processes single blocks by vector permutations, and batches on planes of the same round keys.
 pub(crate) struct Batches<'a, D: LaneRounds, W: Width> {
-    few: Lent<'a, D, W>,
+    few: OnLanes<'a, D, W>,
     words: &'a [W::Many],
 }
 
@@ -57,7 +160,7 @@ impl<'a, D: LaneRounds, W: Width> Model for Batches<'a, D, W> {
 
 impl<'a, D: LaneRounds, W: Width> Batches<'a, D, W> {
     #[inline(always)]
-    pub(crate) fn new(few: Lent<'a, D, W>, words: &'a [W::Many]) -> Batches<'a, D, W>
+    pub(crate) fn new(few: OnLanes<'a, D, W>, words: &'a [W::Many]) -> Batches<'a, D, W>
         requires is_schedule { soft.IsFullSchedule (length words.now) W.Many.BLOCKS (map W.Many.bits words.now) }
         requires same_key { soft.plane_key (length words.now) W.Many.BLOCKS (map W.Many.bits words.now) ≡ few }
         ensures { result ≡ few.entry }

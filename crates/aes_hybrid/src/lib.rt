@@ -5,7 +5,9 @@
 mod backends;
 mod batches;
 pub mod blocks;
+mod closures;
 pub mod lent;
+pub mod lent_both;
 mod lists;
 mod names;
 mod plane_keys;

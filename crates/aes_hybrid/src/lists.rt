@@ -3,13 +3,14 @@
 ghost use Rattle.std.specs.Prelude.{◌≡◌, ◌+◌, ◌/◌, length, replicate};
 ghost use Rattle.aes_permute.specs.Keys.{cipher_key, stored_keys, AreInverse, IsCipherSchedule};
 
+use crate::backends::OnLanes;
 use crate::blocks::process_few_or_many;
+use crate::closures::lend_to_decrypt;
 use crate::lent::Lent;
 use crate::widths::{Narrow, Width};
 use aes_cipher::aes::{Decrypts, Encrypts, KeySize, MadeFrom, Processes, StoredKeys};
 use aes_cipher::cipher::{
-    BlockCipherDecClosure, BlockCipherDecrypt, BlockCipherEncClosure, BlockCipherEncrypt, Decrypt,
-    Encrypt,
+    BlockCipherDecClosure, BlockCipherEncClosure, BlockCipherEncrypt, Decrypt, Encrypt,
 };
 use aes_cipher::zeroize::Wiped;
 use aes_permute::lane_room::{LaneRoom, expand_in_room, invert_in_room, keys_in_room};
@@ -91,7 +92,7 @@ impl<K: KeySize, W: Width> Processes<Encrypt> for Encrypting<K, W> {
     #[inline(always)]
     fn process_one(&self, block: &mut Block) {
         let keys = keys_of::<K>(self.room.value());
-        Lent::<Encrypt, W>::new(keys, keys).process_few(slice::from_mut(block));
+        OnLanes::<Encrypt, W>::new(keys, keys).process_few(slice::from_mut(block));
     }
 
     fn process_slice(&self, blocks: &mut [Block]) {
@@ -102,13 +103,11 @@ impl<K: KeySize, W: Width> Processes<Encrypt> for Encrypting<K, W> {
 
 impl<K: KeySize, W: Width> Encrypts for Encrypting<K, W> {
     fn encrypt_with_backend<F: BlockCipherEncClosure>(&self, f: &mut F) {
-        let keys = keys_of::<K>(self.room.value());
-        Lent::<Encrypt, W>::new(keys, keys).encrypt_with_backend(f);
+        Lent::<W>::new(keys_of::<K>(self.room.value())).encrypt_with_backend(f);
     }
 
     fn encrypt_with_backend_for<F: BlockCipherEncClosure>(&self, blocks: usize, f: &mut F) {
-        let keys = keys_of::<K>(self.room.value());
-        Lent::<Encrypt, W>::new(keys, keys).encrypt_with_backend_for(blocks, f);
+        Lent::<W>::new(keys_of::<K>(self.room.value())).encrypt_with_backend_for(blocks, f);
     }
 }
 
@@ -225,7 +224,7 @@ impl<K: KeySize, W: Width> Processes<Decrypt> for BothLists<K, W> {
     fn process_one(&self, block: &mut Block) {
         let keys = keys_of::<K>(self.encrypting.room.value());
         let used = keys_of::<K>(self.inverse.value());
-        Lent::<Decrypt, W>::new(keys, used).process_few(slice::from_mut(block));
+        OnLanes::<Decrypt, W>::new(keys, used).process_few(slice::from_mut(block));
     }
 
     fn process_slice(&self, blocks: &mut [Block]) {
@@ -242,6 +241,6 @@ impl<K: KeySize, W: Width> Decrypts for BothLists<K, W> {
     fn decrypt_with_backend_for<F: BlockCipherDecClosure>(&self, blocks: usize, f: &mut F) {
         let keys = keys_of::<K>(self.encrypting.room.value());
         let used = keys_of::<K>(self.inverse.value());
-        Lent::<Decrypt, W>::new(keys, used).decrypt_with_backend_for(blocks, f);
+        lend_to_decrypt::<W, F>(keys, used, blocks, f);
     }
 }

@@ -7,8 +7,8 @@ ghost use Rattle.c_calls.specs.Kept.{kept_key, IsKeyLength, IsMade};
 
 use crate::kept::{Aes, holds_key};
 use crate::status::{DONE, NO_KEY};
-use aes_cipher::cipher::{Decrypt, Encrypt};
 use aes_hybrid::lent::Lent;
+use aes_hybrid::lent_both::LentBoth;
 use aes_hybrid::widths::Width;
 use aes_permute::lane_room::keys_in_room;
 use aes_planes::soft::word::Block;
@@ -28,7 +28,7 @@ pub fn chain_under<W: Width>(aes: &Aes, cbc: &mut Cbc, blocks: &mut [Block]) -> 
 {
     if holds_key(aes) {
         let keys = keys_in_room(&aes.encrypting, aes.key_length as usize);
-        cbc.encrypt_blocks(&Lent::<Encrypt, W>::new(keys, keys), blocks);
+        cbc.encrypt_blocks(&Lent::<W>::new(keys), blocks);
         return DONE;
     }
     NO_KEY
@@ -50,7 +50,7 @@ pub fn unchain_under<W: Width>(aes: &Aes, cbc: &mut Cbc, blocks: &mut [Block]) -
         let length = aes.key_length as usize;
         let keys = keys_in_room(&aes.encrypting, length);
         let inverse = keys_in_room(&aes.decrypting, length);
-        cbc.decrypt_blocks(&Lent::<Decrypt, W>::new(keys, inverse), blocks);
+        cbc.decrypt_blocks(&LentBoth::<W>::new(keys, inverse), blocks);
         return DONE;
     }
     NO_KEY

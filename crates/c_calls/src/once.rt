@@ -79,10 +79,8 @@ pub fn add_keystream_with<W: Width>(key: &[u8], ctr: &mut Ctr, bytes: &mut [u8])
     let mut kept = MustWipe::<[Block; 15]>::zeroed();
     expand_in_room(kept.value_mut(), key);
     let keys = keys_in_room(kept.value(), key.len());
-    let cipher = Lent::<Encrypt, W>::new(keys, keys);
-    add_keystream(&cipher, &ctr.iv, ctr.position, bytes);
-    drop(cipher);
-    kept.wipe();
+    add_keystream(&Lent::<W>::new(keys), &ctr.iv, ctr.position, bytes);
     ctr.position += bytes.len() as u64;
+    kept.wipe();
     DONE
 }

@@ -7,7 +7,6 @@ ghost use Rattle.c_calls.specs.Kept.{kept_key, IsKeyLength, IsMade};
 
 use crate::kept::{Aes, holds_key};
 use crate::status::{DONE, KEYSTREAM_END, NO_KEY, UNEQUAL_COUNTS};
-use aes_cipher::cipher::Encrypt;
 use aes_ctr::add_keystream;
 use aes_hybrid::lent::Lent;
 use aes_hybrid::widths::Width;
@@ -56,7 +55,7 @@ pub fn add_keystream_under<W: Width>(aes: &Aes, ctr: &mut Ctr, bytes: &mut [u8])
     let status = refusal(aes, ctr.position, bytes.len());
     if status == DONE {
         let keys = keys_in_room(&aes.encrypting, aes.key_length as usize);
-        let cipher = Lent::<Encrypt, W>::new(keys, keys);
+        let cipher = Lent::<W>::new(keys);
         add_keystream(&cipher, &ctr.iv, ctr.position, bytes);
         ctr.position += bytes.len() as u64;
     }

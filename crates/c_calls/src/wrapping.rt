@@ -8,8 +8,8 @@ ghost use Rattle.c_calls.specs.Kept.{kept_key, IsKeyLength, IsMade};
 
 use crate::kept::{Aes, holds_key};
 use crate::status::{DONE, INVALID_COUNT, NO_KEY, REFUSED};
-use aes_cipher::cipher::{Decrypt, Encrypt};
 use aes_hybrid::lent::Lent;
+use aes_hybrid::lent_both::LentBoth;
 use aes_hybrid::widths::Width;
 use aes_permute::lane_room::keys_in_room;
 use key_wrap::{NotUnwrapped, Semiblock, unwrap, unwrap_padded, wrap, wrap_padded};
@@ -30,7 +30,7 @@ pub fn wrap_under<W: Width>(aes: &Aes, key: &[Semiblock], output: &mut [Semibloc
         return NO_KEY;
     }
     let keys = keys_in_room(&aes.encrypting, aes.key_length as usize);
-    match wrap(&Lent::<Encrypt, W>::new(keys, keys), key, output) {
+    match wrap(&Lent::<W>::new(keys), key, output) {
         Ok(()) => DONE,
         Err(_) => INVALID_COUNT,
     }
@@ -59,7 +59,7 @@ pub fn unwrap_under<W: Width>(aes: &Aes, sealed: &[Semiblock], output: &mut [Sem
     let length = aes.key_length as usize;
     let keys = keys_in_room(&aes.encrypting, length);
     let inverse = keys_in_room(&aes.decrypting, length);
-    match unwrap(&Lent::<Decrypt, W>::new(keys, inverse), sealed, output) {
+    match unwrap(&LentBoth::<W>::new(keys, inverse), sealed, output) {
         Ok(()) => DONE,
         Err(NotUnwrapped::InvalidCount) => INVALID_COUNT,
         Err(NotUnwrapped::Refused) => REFUSED,
@@ -82,7 +82,7 @@ pub fn wrap_padded_under<W: Width>(aes: &Aes, key: &[u8], output: &mut [Semibloc
         return NO_KEY;
     }
     let keys = keys_in_room(&aes.encrypting, aes.key_length as usize);
-    match wrap_padded(&Lent::<Encrypt, W>::new(keys, keys), key, output) {
+    match wrap_padded(&Lent::<W>::new(keys), key, output) {
         Ok(()) => DONE,
         Err(_) => INVALID_COUNT,
     }
@@ -120,7 +120,7 @@ pub fn unwrap_padded_under<W: Width>(
     let length = aes.key_length as usize;
     let keys = keys_in_room(&aes.encrypting, length);
     let inverse = keys_in_room(&aes.decrypting, length);
-    match unwrap_padded(&Lent::<Decrypt, W>::new(keys, inverse), sealed, output) {
+    match unwrap_padded(&LentBoth::<W>::new(keys, inverse), sealed, output) {
         Ok(bytes) => {
             *key_bytes = bytes as usize;
             DONE

@@ -6,7 +6,6 @@ ghost use Rattle.gcm_c.specs.Kept.{IsMade};
 
 use crate::status::{DONE, KEY_LENGTH};
 use crate::width::BuildWidth;
-use aes_cipher::cipher::Encrypt;
 use aes_cipher::zeroize::{Zeroize, zeroize_elements};
 use aes_hybrid::lent::Lent;
 use aes_permute::lane_room::{expand_in_room, keys_in_room};
@@ -58,13 +57,13 @@ pub(crate) fn holds_key(gcm: &Gcm) -> bool
 }
 
 /// Lends the key of a struct as a cipher.
-pub(crate) fn cipher_of(gcm: &Gcm) -> Lent<'_, Encrypt, BuildWidth>
+pub(crate) fn cipher_of(gcm: &Gcm) -> Lent<'_, BuildWidth>
     requires made { IsMade gcm.now.key_length gcm.now.round_keys gcm.now.multiples }
     requires key { IsKeyLength gcm.now.key_length }
     ensures { result ≡ kept_key gcm.now.key_length gcm.now.round_keys }
 {
     let keys = keys_in_room(&gcm.round_keys, gcm.key_length as usize);
-    Lent::<Encrypt, BuildWidth>::new(keys, keys)
+    Lent::<BuildWidth>::new(keys)
 }
 
 /// Expands a key into the struct (KeyExpansion, FIPS 197, 5.2) and prepares the multiples of its H (SP 800-38D, 7.1,
@@ -91,7 +90,8 @@ pub extern "C" fn fotsgure_gcm_set_key(gcm: &mut Gcm, key: &[u8]) -> u32
     gcm.round_keys = [[0; 16]; 15];
     expand_in_room(&mut gcm.round_keys, key);
     let keys = keys_in_room(&gcm.round_keys, key.len());
-    prepare(&Lent::<Encrypt, BuildWidth>::new(keys, keys), &mut gcm.multiples);
+    let cipher = Lent::<BuildWidth>::new(keys);
+    prepare(&cipher, &mut gcm.multiples);
     gcm.key_length = key.len() as u32;
     DONE
 }

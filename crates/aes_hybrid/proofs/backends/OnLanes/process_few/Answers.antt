@@ -1,9 +1,9 @@
--- What is left to show of `lent::Lent::process_few`.
+-- What is left to show of `backends::OnLanes::process_few`.
 use Rattle.std.proofs.Common.{ap, ◌∙◌, arith}
 use Rattle.std.proofs.lemmas.Grind.{common_steps}
 use Rattle.aes_permute.proofs.KeyOfLanes.{two_stored}
 use Rattle.aes_permute.specs.Keys.{cipher_key}
-use Rattle.aes_hybrid.proofs.lent.Lent.process_few.Goals as goal
+use Rattle.aes_hybrid.proofs.backends.OnLanes.process_few.Goals as goal
 
 pub process_few-requires : goal.process_few-requires
 process_few-requires g c = record {

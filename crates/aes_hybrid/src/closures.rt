@@ -1,0 +1,63 @@
+//! Callers' closures, called with a backend that suits a number of blocks: on planes, which are wiped before the call returns,
+//! if they are many.
+
+ghost use Rattle.std.specs.Prelude.{◌≡◌};
+ghost use Rattle.aes_planes.specs.Fips197 as fips;
+ghost use Rattle.aes_permute.specs.Keys.{cipher_key, AreInverse, IsCipherSchedule};
+
+use crate::backends::{Batches, OnLanes};
+use crate::plane_keys::PlaneKeys;
+use crate::widths::Width;
+use aes_cipher::cipher::{BlockCipherDecClosure, BlockCipherEncClosure, Decrypt, Encrypt};
+use aes_planes::soft::word::Block;
+
+// Whether planes are made for so many blocks.
+#[inline(always)]
+fn are_many<W: Width>(blocks: usize) -> bool {
+    blocks >= W::LEAST_FOR_CLOSURES
+}
+
+/// Calls a closure with a backend that encrypts under stored round keys of Cipher.
+#[inline(always)]
+pub(crate) fn lend_to_encrypt<W: Width, F: BlockCipherEncClosure>(
+    keys: &[Block],
+    blocks: usize,
+    f: &mut F,
+)
+    requires { IsCipherSchedule keys.now }
+    ensures { F.did f.old (fips.key_expansion (cipher_key keys.now)) f.new }
+{
+    let few = OnLanes::<Encrypt, W>::new(keys, keys);
+    if !are_many::<W>(blocks) {
+        f.call(&few);
+        return;
+    }
+    let mut planes = PlaneKeys::<W::Many>::zeroed();
+    planes.store(keys);
+    f.call(&Batches::new(few, planes.lend(keys.len())));
+    planes.wipe();
+}
+
+/// Calls a closure with a backend that decrypts under those and the ones of EqInvCipher of the same key.
+#[inline(always)]
+pub(crate) fn lend_to_decrypt<W: Width, F: BlockCipherDecClosure>(
+    keys: &[Block],
+    inverse: &[Block],
+    blocks: usize,
+    f: &mut F,
+)
+    requires keyed { IsCipherSchedule keys.now }
+    requires inverse { AreInverse inverse.now keys.now }
+    ensures { F.did f.old (fips.key_expansion (cipher_key keys.now)) f.new }
+{
+    let few = OnLanes::<Decrypt, W>::new(keys, inverse);
+    if !are_many::<W>(blocks) {
+        f.call(&few);
+        return;
+    }
+    // Planes serve both directions, and are made of the round keys of Cipher.
+    let mut of_cipher = PlaneKeys::<W::Many>::zeroed();
+    of_cipher.store(keys);
+    f.call(&Batches::new(few, of_cipher.lend(keys.len())));
+    of_cipher.wipe();
+}
