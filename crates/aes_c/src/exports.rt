@@ -63,6 +63,7 @@ pub extern "C" fn fotsgure_aes_key_length(aes: &Aes) -> usize
 /// Overwrites the struct with zeros: it then holds no key.
 #[unsafe(no_mangle)]
 pub extern "C" fn fotsgure_aes_wipe(aes: &mut Aes)
+    ensures made { IsMade aes.new.key_length aes.new.encrypting aes.new.decrypting }
     ensures none { aes.new.key_length ≡ 0 }
     ensures encrypting { aes.new.encrypting ≡ replicate 15 (replicate 16 0) }
     ensures decrypting { aes.new.decrypting ≡ replicate 15 (replicate 16 0) }

@@ -98,6 +98,7 @@ pub fn length_of_key(aes: &Aes) -> usize
 
 /// Overwrites the struct with zeros: it then holds no key.
 pub fn wipe(aes: &mut Aes)
+    ensures made { IsMade aes.new.key_length aes.new.encrypting aes.new.decrypting }
     ensures none { aes.new.key_length ≡ 0 }
     ensures encrypting { aes.new.encrypting ≡ replicate 15 (replicate 16 0) }
     ensures decrypting { aes.new.decrypting ≡ replicate 15 (replicate 16 0) }

@@ -112,6 +112,7 @@ pub extern "C" fn fotsgure_gcm_key_length(gcm: &Gcm) -> usize
 /// Overwrites the struct with zeros: it then holds no key.
 #[unsafe(no_mangle)]
 pub extern "C" fn fotsgure_gcm_wipe(gcm: &mut Gcm)
+    ensures made { IsMade gcm.new.key_length gcm.new.round_keys gcm.new.multiples }
     ensures none { gcm.new.key_length ≡ 0 }
     ensures round_keys { gcm.new.round_keys ≡ replicate 15 (replicate 16 0) }
     ensures multiples { gcm.new.multiples ≡ replicate 96 (replicate 16 0) }
