@@ -1,5 +1,5 @@
-/* Key wrap (SP 800-38F; RFC 3394 and RFC 5649): KW by the proved library; KWP, and KW by the inverse cipher, over its
- * block cipher. */
+/* Key wrap (SP 800-38F; RFC 3394 and RFC 5649): KW and KWP by the proved library; both by the inverse cipher, or after
+ * another value than the standard's, over its block cipher. */
 #include "provider.h"
 
 #include <stdlib.h>
@@ -43,27 +43,42 @@ static int wrap_steps(struct context *c, byte *halves, size_t count)
     return done;
 }
 
-/* Whether the library has all of it: KW under the standard's value, by the forward cipher. */
+/* Whether the library has all of it: under the standard's value, by the forward cipher. */
 static int is_proved(const struct context *c)
 {
     static const byte check[HALF] = {0xa6, 0xa6, 0xa6, 0xa6, 0xa6, 0xa6, 0xa6, 0xa6};
-    return !c->algorithm->padded && !c->algorithm->inverse && memcmp(c->iv, check, HALF) == 0;
+    static const byte padded_check[] = {0xa6, 0x59, 0x59, 0xa6};
+    if (c->algorithm->inverse)
+        return 0;
+    return c->algorithm->padded ? memcmp(c->iv, padded_check, sizeof padded_check) == 0
+                                     : memcmp(c->iv, check, sizeof check) == 0;
 }
 
-/* KW by the library, which goes from one buffer to another; these may be the same. */
+/* A key by the library, of whose `room` bytes of output it has `*count`: all, unless padding was removed. */
+static int wrap_key(struct context *c, byte *output, size_t room, size_t *count, const byte *in, size_t length)
+{
+    *count = room;
+    if (!c->algorithm->padded)
+        return (c->encrypts
+            ? fotsgure_aes_wrap(&c->aes, in, length / HALF, output, room / HALF)
+            : fotsgure_aes_unwrap(&c->aes, in, length / HALF, output, room / HALF)) == FOTSGURE_AES_DONE;
+    return (c->encrypts
+        ? fotsgure_aes_wrap_padded(&c->aes, in, length, output, room / HALF)
+        : fotsgure_aes_unwrap_padded(&c->aes, in, length / HALF, output, room / HALF, count)) == FOTSGURE_AES_DONE;
+}
+
+/* The library goes from one buffer to another; those that we are given may be the same. */
 static int wrap_proved(struct context *c, byte *out, size_t *out_length, const byte *in, size_t length)
 {
-    size_t result = c->encrypts ? length + HALF : length - HALF;
-    byte *copy = malloc(result);
-    int done = copy && (c->encrypts
-        ? fotsgure_aes_wrap(&c->aes, in, length / HALF, copy, result / HALF)
-        : fotsgure_aes_unwrap(&c->aes, in, length / HALF, copy, result / HALF)) == FOTSGURE_AES_DONE;
+    size_t room = c->encrypts ? (length + HALF - 1) / HALF * HALF + HALF : length - HALF, count = 0;
+    byte *copy = malloc(room);
+    int done = copy && wrap_key(c, copy, room, &count, in, length);
     if (done)
-        memcpy(out, copy, result);
+        memcpy(out, copy, count);
     if (copy)
-        explicit_bzero(copy, result);
+        explicit_bzero(copy, room);
     free(copy);
-    *out_length = done ? result : 0;
+    *out_length = done ? count : 0;
     return done;
 }
 
