@@ -13,7 +13,7 @@ static struct fotsgure_aes kept;
 static struct fotsgure_aes_ctr ctr;
 static struct fotsgure_aes_cbc cbc;
 static uint16_t planes[MOST_WORDS];
-static uint8_t key[32], data[BYTES + 8], other[BYTES + 8], wrapped[BYTES + 8], keystream[BYTES], zeros[2][BLOCK];
+static uint8_t key[32], data[BYTES + 8], other[BYTES + 8], wrapped[BYTES + 8], padded[BYTES + 8], keystream[BYTES], zeros[2][BLOCK];
 static size_t size, count;
 static int failed;
 
@@ -98,6 +98,23 @@ static void unwrap_refused(void) {
         failed |= fotsgure_aes_unwrap(&kept, data, 2 * count + 1, other, 2 * count) != FOTSGURE_AES_REFUSED;
 }
 
+/* The last three bytes are padding. */
+static void wrap_padded(void) {
+    if (count > 0)
+        done(fotsgure_aes_wrap_padded(&kept, data, BLOCK * count - 3, other, 2 * count + 1));
+}
+static void unwrap_padded(void) {
+    size_t length;
+    if (count > 0)
+        done(fotsgure_aes_unwrap_padded(&kept, padded, 2 * count + 1, other, 2 * count, &length));
+}
+static void unwrap_padded_refused(void) {
+    size_t length;
+    if (count > 0)
+        failed |= fotsgure_aes_unwrap_padded(&kept, wrapped, 2 * count + 1, other, 2 * count, &length) !=
+            FOTSGURE_AES_REFUSED;
+}
+
 /* In pieces: three blocks, or five bytes, half of what is left, and the rest. */
 static void in_pieces(enum fotsgure_aes_status (*call)(uint8_t *, size_t), size_t unit, size_t most) {
     size_t some = count < most ? count : most, half = (count - some) / 2;
@@ -135,7 +152,9 @@ static const struct call { const char *name; void (*it)(void); enum takes takes;
     {"decrypt_pieces", decrypt_pieces, OF_BLOCKS}, {"cbc_encrypt", chain, OF_BLOCKS},
     {"cbc_decrypt", unchain, OF_BLOCKS}, {"cbc_encrypt_pieces", chain_pieces, OF_BLOCKS},
     {"cbc_decrypt_pieces", unchain_pieces, OF_BLOCKS}, {"wrap", wrap, OF_BLOCKS}, {"unwrap", unwrap, OF_BLOCKS},
-    {"unwrap_refused", unwrap_refused, OF_BLOCKS}, {"add_keystream", stream, OF_BYTES},
+    {"unwrap_refused", unwrap_refused, OF_BLOCKS}, {"wrap_padded", wrap_padded, OF_BLOCKS},
+    {"unwrap_padded", unwrap_padded, OF_BLOCKS}, {"unwrap_padded_refused", unwrap_padded_refused, OF_BLOCKS},
+    {"add_keystream", stream, OF_BYTES},
     {"add_keystream_to", stream_to, OF_BYTES}, {"add_keystream_with", stream_with, OF_BYTES},
     {"add_keystream_pieces", stream_pieces, OF_BYTES},
 };
@@ -172,8 +191,10 @@ static void prepare(int number) {
         state = state * 1664525u + 1013904223u;
         data[i] = (uint8_t)(state >> 24);
     }
-    if (count > 0 && count <= MOST)
+    if (count > 0 && count <= MOST) {
         done(fotsgure_aes_wrap(&kept, data, 2 * count, wrapped, 2 * count + 1));
+        done(fotsgure_aes_wrap_padded(&kept, data, BLOCK * count - 3, padded, 2 * count + 1));
+    }
 }
 
 /* What is searched for: 8 bytes, and which piece of which kind they are of. Pieces of equal bytes say nothing. */

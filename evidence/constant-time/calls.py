@@ -194,7 +194,8 @@ for key in KEYS:
             label=of, returns=DONE, wanted=wanted,
         )
         call(f"{C}add_keystream_with", ("s", key, key), ("c", 5), ("b", n, n), label=of, returns=DONE, wanted=wanted)
-    # CBC moves its chain on if there is a block. Key wrap tells one thing: whether what was wrapped is right.
+    # CBC moves its chain on if there is a block. Key wrap tells one thing: whether what was wrapped is right; with padding,
+    # the length too, if it is.
     for direction, n in itertools.product(("encrypt", "decrypt"), range(41)):
         call(
             f"{C}cbc_{direction}", ("k", key), ("b" if n else "s", 16), blocks("b", n),
@@ -206,6 +207,13 @@ for key in KEYS:
         )
         call(
             f"{C}unwrap", ("k", key), ("s", 8 * n + 8, n + 1), ("z", 8 * n, n), label=f"{8 * key} {n}",
+            returns=REFUSED, told=1,
+        )
+    for n in (1, 2, 3, 8, 64):
+        of = f"{8 * key} {n} padded"
+        call(f"{C}wrap_padded", ("k", key), ("s", 8 * n - 3, 8 * n - 3), ("o", 8 * n + 8, n + 1), label=of, returns=DONE)
+        call(
+            f"{C}unwrap_padded", ("k", key), ("s", 8 * n + 8, n + 1), ("z", 8 * n, n), ("z", 8), label=of,
             returns=REFUSED, told=1,
         )
 for name in ("wrap", "unwrap"):
