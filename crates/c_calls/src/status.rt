@@ -15,7 +15,7 @@ pub const UNEQUAL_COUNTS: u32 = 3;
 /// The keystream ends before the bytes do.
 pub const KEYSTREAM_END: u32 = 4;
 
-/// There are too few or too many semiblocks of a key, or the output is of another length.
+/// Keys of this length are not wrapped, or the output is of another length.
 pub const INVALID_COUNT: u32 = 5;
 
 /// The key was not wrapped under this one, or was changed.

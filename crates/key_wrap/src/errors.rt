@@ -1,6 +1,6 @@
 //! The errors of key wrap.
 
-/// There are too few semiblocks to wrap, or more than the standard allows, or the output is of another length.
+/// Keys of this length are not wrapped, or the output is of another length.
 #[derive(Debug, Clone, Copy, PartialEq, Eq)]
 pub struct InvalidCount;
 

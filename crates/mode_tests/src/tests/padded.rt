@@ -379,8 +379,8 @@ fn refuses_other_paddings(rt: HostRuntime) {
 
 #[test]
 fn refuses_other_lengths(rt: HostRuntime) {
-    let cipher = AesCipher::<BothLists<Bits256, Narrow>, BothWays>::new(&key_of(&OF_32[0].key));
-    let sealed = semiblocks(&OF_32[0].sealed);
+    let cipher = AesCipher::<BothLists<Bits256, Narrow>, BothWays>::new(&[3; 32]);
+    let sealed = [[7; 8]; 3];
     let mut output = [[6; 8]; 5];
     assert!(rt; wrap_padded(&cipher, &[], &mut output[..1]) == Err(InvalidCount));
     assert!(rt; wrap_padded(&cipher, &[7; 9], &mut output[..2]) == Err(InvalidCount));
@@ -389,7 +389,7 @@ fn refuses_other_lengths(rt: HostRuntime) {
         unwrap_padded(&cipher, &sealed[..1], &mut output[..0]) == Err(NotUnwrapped::InvalidCount)
     );
     assert!(rt;
-        unwrap_padded(&cipher, &sealed[..3], &mut output[..3]) == Err(NotUnwrapped::InvalidCount)
+        unwrap_padded(&cipher, &sealed, &mut output[..3]) == Err(NotUnwrapped::InvalidCount)
     );
     assert!(rt; output == [[6; 8]; 5]);
 }
