@@ -126,6 +126,6 @@ pub fn unwrap_padded_under<W: Width>(
             DONE
         }
         Err(NotUnwrapped::InvalidCount) => INVALID_COUNT,
-        Err(NotUnwrapped::Refused) => REFUSED,
+        Err(_) => REFUSED,
     }
 }
