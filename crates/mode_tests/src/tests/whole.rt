@@ -31,12 +31,14 @@ fn digit(c: u8) -> u8
     }
 }
 
-// The bytes that digits write, as many as there is room for.
-fn decoded(digits: &str, bytes: &mut [u8]) {
+// The bytes that digits write, as many as there is room for, and zeros.
+fn decoded<const N: usize>(digits: &str) -> [u8; N] {
     let digits = digits.as_bytes();
-    for i in 0..bytes.len().min(digits.len() / 2) {
+    let mut bytes = [0; N];
+    for i in 0..N.min(digits.len() / 2) {
         bytes[i] = 16 * digit(digits[2 * i]) + digit(digits[2 * i + 1]);
     }
+    bytes
 }
 
 // Encrypts under a key: a contract that names the key has the expansion of it (FIPS 197, 5.2).
@@ -51,48 +53,65 @@ fn encrypt_under(
     Gcm::new(<Aes128Enc>::new(key)).encrypt(nonce, additional, text)
 }
 
-// Whether a cipher encrypts a case as it should and decrypts it again, and refuses, with the text unchanged, what was
-// changed in its tag, its text, its additional data or its nonce, each in its last byte.
+// Whether a message is refused.
+fn refuses<C: BlockCipherEncrypt>(
+    mode: &Gcm<C>,
+    nonce: &[u8; 12],
+    additional: &[u8],
+    text: &mut [u8],
+    tag: &Block,
+) -> bool {
+    mode.decrypt(nonce, additional, text, tag) == Err(Refused)
+}
+
+// Whether a message is refused, with the text unchanged, if its tag, its nonce or its text is changed in the last byte, or
+// zeros follow its additional data.
+fn refuses_changes<C: BlockCipherEncrypt>(
+    mode: &Gcm<C>,
+    case: &Case,
+    additional: &[u8],
+    text: &mut [u8],
+    tag: &Block,
+) -> bool {
+    let nonce = decoded(case.nonce);
+    let mut other_nonce = nonce;
+    other_nonce[11] ^= 1;
+    let mut other_tag = *tag;
+    other_tag[15] ^= 1;
+    let mut right = refuses(mode, &nonce, additional, text, &other_tag);
+    right &= refuses(mode, &other_nonce, additional, text, tag);
+    right &= refuses(mode, &nonce, &decoded::<96>(case.additional), text, tag);
+    let length = text.len();
+    if length > 0 {
+        text[length - 1] ^= 1;
+        right &= refuses(mode, &nonce, additional, text, tag);
+        text[length - 1] ^= 1;
+    }
+    right
+}
+
+// Whether a cipher encrypts a case as it should, refuses changes of it, and decrypts it again.
 fn is_right<C: BlockCipherEncrypt>(cipher: &C, case: &Case) -> bool {
-    let mut nonce = [0; 12];
-    decoded(case.nonce, &mut nonce);
-    let mut additional_room = [0; 96];
-    decoded(case.additional, &mut additional_room);
-    let additional = &additional_room[..(case.additional.len() / 2).min(96)];
+    let nonce = decoded(case.nonce);
+    let room: [u8; 96] = decoded(case.additional);
+    let additional = &room[..(case.additional.len() / 2).min(96)];
     let length = (case.text.len() / 2).min(64);
-    let mut plain = [0; 64];
-    decoded(case.text, &mut plain);
-    let mut encrypted = [0; 64];
-    decoded(case.encrypted, &mut encrypted);
-    let mut tag = [0; 16];
-    decoded(case.tag, &mut tag);
+    let plain: [u8; 64] = decoded(case.text);
+    let tag = decoded(case.tag);
     let mut text = plain;
     let mode = Gcm::new(cipher);
     let made = mode.encrypt(&nonce, additional, &mut text[..length]);
-    let mut right = made == Ok(tag) && text == encrypted;
-    tag[15] ^= 1;
-    right &= mode.decrypt(&nonce, additional, &mut text[..length], &tag) == Err(Refused)
-        && text == encrypted;
-    tag[15] ^= 1;
-    if length > 0 {
-        text[length - 1] ^= 1;
-        right &= mode.decrypt(&nonce, additional, &mut text[..length], &tag) == Err(Refused);
-        text[length - 1] ^= 1;
-    }
-    right &= mode.decrypt(&nonce, &additional_room, &mut text[..length], &tag) == Err(Refused);
-    nonce[11] ^= 1;
-    right &= mode.decrypt(&nonce, additional, &mut text[..length], &tag) == Err(Refused);
-    nonce[11] ^= 1;
-    right
-        & (mode.decrypt(&nonce, additional, &mut text[..length], &tag) == Ok(()))
-        & (text == plain)
+    let mut right = made == Ok(tag);
+    right &= refuses_changes(&mode, case, additional, &mut text[..length], &tag);
+    right &= text == decoded(case.encrypted);
+    right &= mode.decrypt(&nonce, additional, &mut text[..length], &tag) == Ok(());
+    right & (text == plain)
 }
 
 // Whether ciphers of a type do so under the key of each case.
 fn are_right<C: BlockCipherEncrypt + KeyInit + Drop>(cases: &[Case]) -> bool {
     for case in cases {
-        let mut key = [0; 32];
-        decoded(case.key, &mut key);
+        let key: [u8; 32] = decoded(case.key);
         let is_right = match C::new_from_slice(&key[..(case.key.len() / 2).min(32)]) {
             Ok(cipher) => is_right(&cipher, case),
             Err(_) => false,
