@@ -61,11 +61,3 @@ int get_number(const OSSL_PARAM *params, const char *name, size_t *value)
     memcpy(value, param->data, param->data_size);
     return 1;
 }
-
-int equal(const byte *a, const byte *b, size_t length)
-{
-    unsigned difference = 0;
-    for (size_t i = 0; i < length; i++)
-        difference |= (unsigned)(a[i] ^ b[i]);
-    return difference == 0;
-}

@@ -104,7 +104,4 @@ int put_bytes(OSSL_PARAM *params, const char *name, const void *bytes, size_t le
 /* Reads a number. Returns 1 if nobody sets it, and 0 if the parameter is none. */
 int get_number(const OSSL_PARAM *params, const char *name, size_t *value);
 
-/* Returns 1 if the bytes are equal, without an early exit. */
-int equal(const byte *a, const byte *b, size_t length);
-
 #endif

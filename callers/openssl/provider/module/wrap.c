@@ -6,10 +6,24 @@
 
 #define HALF (BLOCK / 2) /* the standard's semiblock */
 
-static int process_block(struct context *c, byte block[BLOCK], int forwards)
+/* By the library, which has all of it. Of `*count` bytes of output a key without its padding is fewer. */
+static int process_proved(struct context *c, byte *out, size_t *count, const byte *in, size_t length)
 {
-    return forwards ? fotsgure_aes_encrypt_blocks(&c->aes, block, 1) == FOTSGURE_AES_DONE
-                    : fotsgure_aes_decrypt_blocks(&c->aes, block, 1) == FOTSGURE_AES_DONE;
+    size_t halves = length / HALF, room = *count / HALF;
+    enum fotsgure_aes_status status;
+    if (c->algorithm->padded)
+        status = c->encrypts ? fotsgure_aes_wrap_padded(&c->aes, in, length, out, room)
+                             : fotsgure_aes_unwrap_padded(&c->aes, in, halves, out, room, count);
+    else
+        status = c->encrypts ? fotsgure_aes_wrap(&c->aes, in, halves, out, room)
+                             : fotsgure_aes_unwrap(&c->aes, in, halves, out, room);
+    return status == FOTSGURE_AES_DONE;
+}
+
+static int process_block(struct context *c, byte block[BLOCK])
+{
+    return (c->encrypts != c->algorithm->inverse ? fotsgure_aes_encrypt_blocks(&c->aes, block, 1)
+                                                 : fotsgure_aes_decrypt_blocks(&c->aes, block, 1)) == FOTSGURE_AES_DONE;
 }
 
 static void add_number(byte *half, uint64_t number)
@@ -21,11 +35,11 @@ static void add_number(byte *half, uint64_t number)
 /* W or its inverse (6.1) on `count` semiblocks, of which the first is the check. Two of them are one block (KWP). */
 static int wrap_steps(struct context *c, byte *halves, size_t count)
 {
-    int done = 1, encrypts = c->encrypts, forwards = encrypts != c->algorithm->inverse;
+    int done = 1, encrypts = c->encrypts;
     size_t steps = 6 * (count - 1);
     byte block[BLOCK];
     if (count == 2)
-        return process_block(c, halves, forwards);
+        return process_block(c, halves);
     memcpy(block, halves, HALF);
     for (size_t i = 1; i <= steps; i++) {
         size_t step = encrypts ? i : steps + 1 - i;
@@ -33,7 +47,7 @@ static int wrap_steps(struct context *c, byte *halves, size_t count)
         memcpy(block + HALF, half, HALF);
         if (!encrypts)
             add_number(block, step);
-        done &= process_block(c, block, forwards);
+        done &= process_block(c, block);
         if (encrypts)
             add_number(block, step);
         memcpy(half, block + HALF, HALF);
@@ -43,78 +57,54 @@ static int wrap_steps(struct context *c, byte *halves, size_t count)
     return done;
 }
 
-/* Whether the library has all of it: under the standard's value, by the forward cipher. */
-static int is_proved(const struct context *c)
+/* Returns 1 if the bytes are equal, without an early exit. */
+static int equal(const byte *a, const byte *b, size_t length)
 {
-    static const byte check[HALF] = {0xa6, 0xa6, 0xa6, 0xa6, 0xa6, 0xa6, 0xa6, 0xa6};
-    static const byte padded_check[] = {0xa6, 0x59, 0x59, 0xa6};
-    if (c->algorithm->inverse)
-        return 0;
-    return c->algorithm->padded ? memcmp(c->iv, padded_check, sizeof padded_check) == 0
-                                     : memcmp(c->iv, check, sizeof check) == 0;
+    unsigned difference = 0;
+    for (size_t i = 0; i < length; i++)
+        difference |= (unsigned)(a[i] ^ b[i]);
+    return difference == 0;
 }
 
-/* A key by the library, of whose `room` bytes of output it has `*count`: all, unless padding was removed. */
-static int wrap_key(struct context *c, byte *output, size_t room, size_t *count, const byte *in, size_t length)
+/* Wraps into `*count` zeros. After the value of KWP comes the length of the key. */
+static int wrap(struct context *c, byte *out, size_t *count, const byte *in, size_t length)
 {
-    *count = room;
-    if (!c->algorithm->padded)
-        return (c->encrypts
-            ? fotsgure_aes_wrap(&c->aes, in, length / HALF, output, room / HALF)
-            : fotsgure_aes_unwrap(&c->aes, in, length / HALF, output, room / HALF)) == FOTSGURE_AES_DONE;
-    return (c->encrypts
-        ? fotsgure_aes_wrap_padded(&c->aes, in, length, output, room / HALF)
-        : fotsgure_aes_unwrap_padded(&c->aes, in, length / HALF, output, room / HALF, count)) == FOTSGURE_AES_DONE;
+    memcpy(out, c->iv, c->iv_length);
+    for (size_t i = c->iv_length; i < HALF; i++)
+        out[i] = (byte)(length >> (56 - 8 * i));
+    memcpy(out + HALF, in, length);
+    return wrap_steps(c, out, *count / HALF);
 }
 
-/* The library goes from one buffer to another; those that we are given may be the same. */
-static int wrap_proved(struct context *c, byte *out, size_t *out_length, const byte *in, size_t length)
+/* Unwraps in `out`, which has room for what is wrapped. */
+static int unwrap(struct context *c, byte *out, size_t *count, const byte *in, size_t length)
 {
-    size_t room = c->encrypts ? (length + HALF - 1) / HALF * HALF + HALF : length - HALF, count = 0;
-    byte *copy = malloc(room);
-    int done = copy && wrap_key(c, copy, room, &count, in, length);
+    static const byte zeros[HALF] = {0};
+    size_t whole = *count; /* bytes of the key with its padding */
+    int right;
+    memcpy(out, in, length);
+    right = wrap_steps(c, out, length / HALF) & equal(out, c->iv, c->iv_length);
+    if (c->algorithm->padded) {
+        *count = (size_t)out[4] << 24 | (size_t)out[5] << 16 | (size_t)out[6] << 8 | out[7];
+        right = right && *count <= whole && *count + HALF > whole && equal(out + HALF + *count, zeros, whole - *count);
+    }
+    memmove(out, out + HALF, whole);
+    return right;
+}
+
+/* Goes over a copy, since `in` and `out` may be the same. */
+static int process(struct context *c, byte *out, size_t *count, const byte *in, size_t length)
+{
+    size_t room = length + 2 * HALF;
+    byte *copy = calloc(1, room);
+    int is_proved = !c->algorithm->inverse && memcmp(c->iv, c->algorithm->first_iv, c->iv_length) == 0;
+    int done = copy && (is_proved ? process_proved : c->encrypts ? wrap : unwrap)(c, copy, count, in, length);
     if (done)
-        memcpy(out, copy, count);
+        memcpy(out, copy, *count);
     if (copy)
         explicit_bzero(copy, room);
     free(copy);
-    *out_length = done ? count : 0;
     return done;
-}
-
-static int wrap(struct context *c, byte *out, size_t *out_length, const byte *in, size_t length)
-{
-    size_t whole = (length + HALF - 1) / HALF * HALF;
-    memmove(out + HALF, in, length);
-    memset(out + HALF + length, 0, whole - length);
-    memcpy(out, c->iv, HALF);
-    for (size_t i = 4; c->algorithm->padded && i < HALF; i++)
-        out[i] = (byte)(length >> (56 - 8 * i));
-    *out_length = whole + HALF;
-    return wrap_steps(c, out, whole / HALF + 1);
-}
-
-static int unwrap(struct context *c, byte *out, size_t *out_length, const byte *in, size_t length)
-{
-    static const byte zeros[HALF] = {0};
-    size_t whole = length - HALF, count = whole; /* bytes of the key, with padding and without */
-    byte *halves = malloc(length);
-    int right;
-    if (!halves)
-        return 0;
-    memcpy(halves, in, length);
-    right = wrap_steps(c, halves, length / HALF);
-    right &= equal(halves, c->iv, c->algorithm->iv_length);
-    if (c->algorithm->padded) {
-        count = (size_t)halves[4] << 24 | (size_t)halves[5] << 16 | (size_t)halves[6] << 8 | halves[7];
-        right = right && count <= whole && count + HALF > whole && equal(halves + HALF + count, zeros, whole - count);
-    }
-    if (right)
-        memcpy(out, halves + HALF, count);
-    *out_length = right ? count : 0;
-    explicit_bzero(halves, length);
-    free(halves);
-    return right;
 }
 
 /* A key comes whole, in one call. */
@@ -122,25 +112,24 @@ int wrap_update(void *context, byte *out, size_t *out_length, size_t out_size, c
 {
     struct context *c = context;
     int padded = c->algorithm->padded, encrypts = c->encrypts;
-    size_t least = encrypts ? (padded ? 1 : 2 * HALF) : (padded ? 2 * HALF : 3 * HALF), result;
+    size_t least = encrypts ? (padded ? 1 : 2 * HALF) : (padded ? 2 * HALF : 3 * HALF), count;
     *out_length = 0;
     if (!in || length == 0)
         return 1;
     if (length < least || length > (size_t)1 << 31 || (length % HALF != 0 && !(encrypts && padded)))
         return fail(c, PROV_R_INVALID_INPUT_LENGTH);
-    result = encrypts ? (length + HALF - 1) / HALF * HALF + HALF : length - HALF;
+    count = encrypts ? (length + HALF - 1) / HALF * HALF + HALF : length - HALF;
     if (!out) {
-        *out_length = result;
+        *out_length = count;
         return 1;
     }
     if (!c->has_key)
         return fail(c, PROV_R_NO_KEY_SET);
-    if (out_size + HALF - 1 < result) /* OpenSSL doesn't count the padding */
+    if (out_size + HALF - 1 < count) /* OpenSSL doesn't count the padding */
         return fail(c, PROV_R_OUTPUT_BUFFER_TOO_SMALL);
     COUNTED(c->algorithm, 2, length);
-    if (is_proved(c) ? wrap_proved(c, out, out_length, in, length)
-            : encrypts ? wrap(c, out, out_length, in, length)
-                       : unwrap(c, out, out_length, in, length))
-        return 1;
-    return fail(c, PROV_R_CIPHER_OPERATION_FAILED);
+    if (!process(c, out, &count, in, length))
+        return fail(c, PROV_R_CIPHER_OPERATION_FAILED);
+    *out_length = count;
+    return 1;
 }
