@@ -1,6 +1,6 @@
 #!/usr/bin/env python3
 """Runs bench in rounds, one process for each way after the other, and prints a table of the least times and of ratios.
-usage: bench.py BENCH FOLDER [FOLDER-V3] [ROUNDS]    (folders with a fotsgure.so; of the second, with the build for AVX2)"""
+usage: bench.py BENCH FOLDER [FOLDER-AVX2] [ROUNDS]    (folders with a fotsgure.so; in the second it takes that build)"""
 import os
 import subprocess
 import sys
@@ -19,11 +19,11 @@ for _ in range(rounds):
         for line in run.stdout.splitlines():
             name, size, time = line.rsplit(" ", 2)
             least[way, name, size] = min(least.get((way, name, size), 1e18), float(time))
-print("| mode | bytes | " + " | ".join(f"{way}, ns" for way in ways) + " | ours / without | ours / with |")
-print("|---|---|" + "---|" * (len(ways) + 2))
+ours = [way for way in ("ours", "AVX2") if way in ways]
+columns = ours + ["without", "with"]
+print("| mode | bytes | " + " | ".join(columns + [f"{way} / without" for way in ours]) + " |")
+print("|" + "---|" * (2 + len(columns) + len(ours)))
 for _, name, size in [key for key in least if key[0] == "ours"]:
-    times = [least[way, name, size] for way in ways]
-    ours = least["ours", name, size]
-    ratios = [ours / least[way, name, size] for way in ("without", "with")]
-    print(f"| {name} | {size} | " + " | ".join(f"{time:.0f}" for time in times) +
-          " | " + " | ".join(f"{ratio:.2f}" for ratio in ratios) + " |")
+    times = [f"{least[way, name, size]:,.0f}" for way in columns]
+    ratios = [f"{least[way, name, size] / least['without', name, size]:.2f}" for way in ours]
+    print(f"| {name} | {int(size):,} | " + " | ".join(times + ratios) + " |")
