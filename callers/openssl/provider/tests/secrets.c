@@ -74,14 +74,38 @@ static void record(int is_wrong)
     EVP_CIPHER_CTX_free(ctx), EVP_CIPHER_free(cipher);
 }
 
+/* A key of 40 bytes, wrapped and unwrapped: by the library, or by the inverse cipher in the module. */
+static void wrap(const char *name)
+{
+    unsigned char key[32], text[40], out[56], back[56];
+    int count, more;
+    EVP_CIPHER *cipher = EVP_CIPHER_fetch(NULL, name, "provider=fotsgure");
+    EVP_CIPHER_CTX *ctx = EVP_CIPHER_CTX_new();
+    EVP_CIPHER_CTX_set_flags(ctx, EVP_CIPHER_CTX_FLAG_WRAP_ALLOW);
+    memset(key, 7, sizeof key), memset(text, 9, sizeof text);
+    VALGRIND_MAKE_MEM_UNDEFINED(key, sizeof key), VALGRIND_MAKE_MEM_UNDEFINED(text, sizeof text);
+    EVP_EncryptInit_ex2(ctx, cipher, key, NULL, NULL);
+    EVP_EncryptUpdate(ctx, out, &count, text, sizeof text);
+    step(name, "wraps", 0);
+    EVP_DecryptInit_ex2(ctx, cipher, key, NULL, NULL);
+    step(name, "takes the key again", 0);
+    EVP_DecryptUpdate(ctx, back, &more, out, count);
+    step(name, "unwraps, which shows whether it was right, and with padding the length", strstr(name, "PAD") ? 99 : 1);
+    EVP_CIPHER_CTX_free(ctx), EVP_CIPHER_free(cipher);
+    step(name, "the context is wiped and freed", 0);
+}
+
 int main(void)
 {
     static const char *const names[] = {"AES-128-ECB", "AES-192-CBC", "AES-256-CTR", "AES-128-GCM", "AES-256-GCM"};
+    static const char *const wraps[] = {"AES-128-WRAP", "AES-256-WRAP-PAD", "AES-192-WRAP-INV", "AES-256-WRAP-PAD-INV"};
     OSSL_PROVIDER_load(NULL, "default");
     if (!OSSL_PROVIDER_load(NULL, "fotsgure") || !RUNNING_ON_VALGRIND)
         return 2;
     for (size_t i = 0; i < sizeof names / sizeof *names; i++)
         message(names[i]);
+    for (size_t i = 0; i < sizeof wraps / sizeof *wraps; i++)
+        wrap(wraps[i]);
     record(0);
     record(1);
     printf("%d passed, %d failed\n", passed, failed);
