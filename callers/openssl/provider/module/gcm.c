@@ -138,6 +138,7 @@ static int set_fixed(struct context *c, const byte *fixed, size_t length)
 static int set_header(struct context *c, const byte *header, size_t length)
 {
     size_t around = c->encrypts ? EXPLICIT : EXPLICIT + TAG, count;
+    c->header_length = 0;
     if (length != HEADER || (count = (size_t)header[HEADER - 2] << 8 | header[HEADER - 1]) < around)
         return fail(c, PROV_R_INVALID_AAD);
     memcpy(c->header, header, HEADER);
