@@ -120,20 +120,15 @@ def expanded(lines, filled=()):
     return made
 
 
-def texts(modules=None):
-    """The sources by the names of their modules: all of them, or those of some modules."""
-    found = {}
-    for it in sorted(TEMPLATES.glob("*.rt.txt")):
-        lines = expanded(it.read_text().splitlines())
-        name = it.name.removesuffix(".rt.txt")
-        if name == "lib" and modules:
-            lines = [line for line in lines if not (mod := re.fullmatch(r"mod (\w+);", line)) or mod[1] in modules]
-        if modules is None or name in ("lib", *modules):
-            found[name] = "\n".join(lines) + "\n"
-    return found
+def texts():
+    """The sources by the names of their modules."""
+    return {
+        it.name.removesuffix(".rt.txt"): "\n".join(expanded(it.read_text().splitlines())) + "\n"
+        for it in sorted(TEMPLATES.glob("*.rt.txt"))
+    }
 
 
-def write(folder, modules=None):
+def write(folder):
     """Writes the sources into a folder."""
-    for name, text in texts(modules).items():
+    for name, text in texts().items():
         (folder / f"{name}.rt").write_text(text)

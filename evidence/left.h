@@ -1,5 +1,5 @@
-/* What both searches of the stack share: a call on a stack of its own that is filled before, the vector registers as
- * the call left them, and what a key expands to. */
+/* What all searches of the stack share: a call on a stack of its own that is filled before, and the vector registers as
+ * the call left them. */
 #define _GNU_SOURCE
 #include "fotsgure_aes.h"
 
@@ -17,29 +17,31 @@ enum { REGISTERS = 32 };
 static int has_upper_halves;
 #endif
 
-/* Of the exports for measurements: KeyExpansion; the stored words of planes, of which a batch's are widened; the stored
- * round keys of permutations; and a wipe of words. */
-#define OF_SIZE(bits) \
-    void ev_expand_##bits(const uint8_t *key, uint8_t *round_keys); \
-    void ev_planes_##bits(const uint8_t *key, uint16_t *words); \
-    void ev_lanes_##bits(const uint8_t *key, uint8_t *round_keys);
-OF_SIZE(128)
-OF_SIZE(192)
-OF_SIZE(256)
-#define BY_SIZE(name, size, ...) \
-    ((size) == 16 ? name##_128(__VA_ARGS__) : (size) == 24 ? name##_192(__VA_ARGS__) : name##_256(__VA_ARGS__))
-
 static inline void use(const void *at) { __asm__ volatile("" : : "r"(at) : "memory"); }
-/* A stored word of planes as a batch of eight has it. */
-static inline void widened(uint8_t *word, uint16_t stored) {
-    for (int bit = 0; bit < 16; bit++)
-        word[bit] = stored >> bit & 1 ? 0xff : 0;
-}
-
 static uint8_t *stack, registers[BLOCK * REGISTERS] __attribute__((aligned(64)));
 static void (*called)(void);
 static ucontext_t home, away;
+/* Empties the vector registers that a call may use as it likes, so that what they hold afterwards is the call's. */
+static void empty_registers(void) {
+#ifdef __aarch64__
+    __asm__ volatile(
+            "movi v0.2d, #0\n movi v1.2d, #0\n movi v2.2d, #0\n movi v3.2d, #0\n movi v4.2d, #0\n movi v5.2d, #0\n"
+            "movi v6.2d, #0\n movi v7.2d, #0\n movi v16.2d, #0\n movi v17.2d, #0\n movi v18.2d, #0\n movi v19.2d, #0\n"
+            "movi v20.2d, #0\n movi v21.2d, #0\n movi v22.2d, #0\n movi v23.2d, #0\n movi v24.2d, #0\n movi v25.2d, #0\n"
+            "movi v26.2d, #0\n movi v27.2d, #0\n movi v28.2d, #0\n movi v29.2d, #0\n movi v30.2d, #0\n movi v31.2d, #0\n");
+#else
+    if (has_upper_halves)
+        __asm__ volatile("vzeroall");
+    else
+        __asm__ volatile(
+            "pxor %xmm0, %xmm0\n pxor %xmm1, %xmm1\n pxor %xmm2, %xmm2\n pxor %xmm3, %xmm3\n"
+            "pxor %xmm4, %xmm4\n pxor %xmm5, %xmm5\n pxor %xmm6, %xmm6\n pxor %xmm7, %xmm7\n"
+            "pxor %xmm8, %xmm8\n pxor %xmm9, %xmm9\n pxor %xmm10, %xmm10\n pxor %xmm11, %xmm11\n"
+            "pxor %xmm12, %xmm12\n pxor %xmm13, %xmm13\n pxor %xmm14, %xmm14\n pxor %xmm15, %xmm15\n");
+#endif
+}
 static void enter(void) {
+    empty_registers();
     called();
     /* The vector registers, before anything else runs. */
 #ifdef __aarch64__

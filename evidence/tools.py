@@ -26,18 +26,13 @@ ROOM = pathlib.Path(os.environ.get("AES_EVIDENCE_ROOM") or pathlib.Path.home() /
 ROOM.mkdir(parents=True, exist_ok=True)
 BACKENDS = ("llvm", "rattle")
 BITS = ("128", "192", "256")
-# The crates that the exports call.
+# The library of exports, and the crates that it calls.
+EXPORTS = "evidence_exports"
 CRATES = "aes_planes aes_cipher aes_soft aes aes_permute aes_hybrid aes_rounds aes_ctr aes_kat"
-# The libraries of exports: the crates that each calls, and its modules. The second has what a key expands to, which is
-# all that the search of the C library's calls needs.
-EXPORTS = {
-    "evidence_exports": (CRATES, None),
-    "evidence_keys": ("aes_planes aes_cipher aes_soft aes", ("keys",)),
-}
 # How many jobs a proof gets, if not as many as rt chooses.
 JOBS = ["--jobs", os.environ["AES_EVIDENCE_JOBS"]] if "AES_EVIDENCE_JOBS" in os.environ else []
-# The builds of the C library and their compilers: a text of dist/, which LLVM made, or the crate by the second one.
-BUILDS = {"llvm": ("aes", "llvm"), "avx2": ("aes_v3", "llvm"), "rattle": ("aes_c", "rattle")}
+# The builds of a C library and their compilers: two texts of dist/, which LLVM made, and the crate by the second one.
+BUILDS = {"llvm": "llvm", "avx2": "llvm", "rattle": "rattle"}
 HEADER = (TOP / "dist" / "include" / "fotsgure_aes.h").read_text()
 STRUCT = int(re.search(r"sizeof\(struct fotsgure_aes\) == (\d+)", HEADER)[1])
 MOST_STACK = int(re.search(r"FOTSGURE_AES_STACK (\d+)", HEADER)[1])
@@ -126,6 +121,13 @@ def is_kept(made, total):
     return made.exists() and stamp.exists() and stamp.read_text() == total
 
 
+def keep(made, out, total, start):
+    """Keeps an archive that was built of these sources."""
+    shutil.copy(out, made)
+    made.with_suffix(".stamp").write_text(total)
+    say(f"built in {time.time() - start:.0f} seconds")
+
+
 def assembled(name):
     """The archive of one text of dist/ for x86-64, by the C compiler's assembler: as `make -C dist` builds it, but without
     the choice between two builds."""
@@ -136,15 +138,12 @@ def assembled(name):
     return made
 
 
-def c_library(build):
-    """The archive of one build of the C library: of dist/, or by the second compiler."""
-    it, compiler = BUILDS[build]
-    return assembled(it) if compiler == "llvm" else built_by(compiler, it)
-
-
-def built_by(compiler, crate):
-    """The archive of a library for C by another compiler than dist/ is of. It is proved and built where it stands, over what
-    was proved there; an archive that stood there stays."""
+def c_library(build, library="aes"):
+    """The archive of one build of a library for C: of dist/, or by the second compiler. With that it is proved and built
+    where its crate stands, over what was proved there; an archive that stood there stays."""
+    compiler, crate = BUILDS[build], f"{library}_c"
+    if compiler == "llvm":
+        return assembled(library + ("_v3" if build == "avx2" else ""))
     made, total = ROOM / f"lib{crate}-{compiler}.a", sources()
     if is_kept(made, total):
         return made
@@ -152,25 +151,20 @@ def built_by(compiler, crate):
     start, out = time.time(), TOP / "crates" / crate / "out" / f"lib{crate}.a"
     before = out.read_bytes() if out.exists() else None
     rt_lib(TOP / "crates" / crate, "--backend", compiler)
-    shutil.copy(out, made)
+    keep(made, out, total, start)
     out.unlink()
     if before is not None:
         out.write_bytes(before)
-    made.with_suffix(".stamp").write_text(total)
-    say(f"built in {time.time() - start:.0f} seconds")
     return made
 
 
-def copy_of_the_crates(library):
-    """A copy of the crates that a library of exports calls, outside the repository, with that library as one crate
-    more. They are proved where they stand, as by ./aes-kat, and what was proved there is copied too: so a crate is
-    proved once."""
-    crates, modules = EXPORTS[library]
-    tree, copied = ROOM / library, crates.split()
-    say(f"proving {crates}, as far as they are not proved")
+def copy_of_the_crates():
+    """A copy of the crates that the library of exports calls, outside the repository, with that library as one crate more. They
+    are proved where they stand, as by ./aes-kat, and what was proved there is copied too: so a crate is proved once."""
+    tree, copied, stamp = ROOM / EXPORTS, CRATES.split(), ROOM / f"{EXPORTS}.stamp"
+    say(f"proving {CRATES}, as far as they are not proved")
     for crate in copied:
         rt_lib(TOP / "crates" / crate)
-    stamp = ROOM / f"{library}.stamp"
     total = sum_of(files_of(*(TOP / "crates" / it for it in copied)), run(["rt", "version"], "rt version"))
     if not stamp.exists() or stamp.read_text() != total:
         for it in copied:
@@ -180,30 +174,26 @@ def copy_of_the_crates(library):
                 if (here / part).exists():
                     shutil.copytree(here / part, there / part, symlinks=True)
         stamp.write_text(total)
-    folder = tree / "crates" / library / "src"
+    folder = tree / "crates" / EXPORTS / "src"
     shutil.rmtree(folder, ignore_errors=True)
     folder.mkdir(parents=True)
-    expand.write(folder, modules)
+    expand.write(folder)
     shutil.copy(TOP / "HANDLES", tree / "HANDLES")
     lines = (TOP / "crates.txt").read_text().splitlines()
     named = [it for it in lines if (name := re.match(r"\w+", it)) and name[0] in copied]
-    (tree / "crates.txt").write_text("\n".join([*named, f"{library} staticlib: {crates}"]) + "\n")
-    return tree
+    (tree / "crates.txt").write_text("\n".join([*named, f"{EXPORTS} staticlib: {CRATES}"]) + "\n")
+    return tree / "crates" / EXPORTS
 
 
-def exports_library(compiler, library="evidence_exports"):
-    """The archive of a library of exports by one compiler."""
+def exports_library(compiler):
+    """The archive of the library of exports by one compiler."""
     need("rt", None)
-    made, total = ROOM / f"lib{library}-{compiler}.a", sources(*expand.sources())
-    if is_kept(made, total):
-        return made
-    tree, start = copy_of_the_crates(library), time.time()
-    say(f"proving and building {library} by {compiler} in {tree}")
-    folder = tree / "crates" / library
-    rt_lib(folder, "--backend", compiler)
-    shutil.copy(folder / "out" / f"lib{library}.a", made)
-    made.with_suffix(".stamp").write_text(total)
-    say(f"built in {time.time() - start:.0f} seconds")
+    made, total = ROOM / f"lib{EXPORTS}-{compiler}.a", sources(*expand.sources())
+    if not is_kept(made, total):
+        folder, start = copy_of_the_crates(), time.time()
+        say(f"proving and building {EXPORTS} by {compiler} in {folder}")
+        rt_lib(folder, "--backend", compiler)
+        keep(made, folder / "out" / f"lib{EXPORTS}.a", total, start)
     return made
 
 
@@ -224,7 +214,7 @@ def joined(name, c_archive, exports_archive):
 
 def library(build):
     """All exports and a build of the C library, in one archive. What is missing or older than its sources is built."""
-    return joined(build, c_library(build), exports_library(BUILDS[build][1]))
+    return joined(build, c_library(build), exports_library(BUILDS[build]))
 
 
 def can_run(build):
@@ -332,6 +322,31 @@ def searched(head, *words):
         call, bits, *counts = line.split("\t")
         rows[call, bits] = dict(zip(head, map(int, counts))) | {"where": "".join(counts[len(head):])}
     return rows
+
+
+def left_behind(build, rows, secret, most_stack, excused):
+    """What calls of a build left that may not stay, whatever is recorded: something secret, or a stack that was too deep."""
+    for (call, bits), counts in rows.items():
+        place = f"{build}, {bits}, {call}"
+        more = [f"{counts[it]} {it}" for it in secret if counts[it] and call not in excused]
+        if more:
+            yield f"{place}: {', '.join(more)}, at lengths of {counts['where']}"
+        if counts["stack"] > most_stack:
+            yield f"{place}: {counts['stack']} bytes of stack, and the header says {most_stack}"
+
+
+def in_words(rows, names):
+    """The most that some rows have of each thing, by the names of one and of more."""
+    counts = {k: max(it[k] for it in rows) for k in names}
+    return ", ".join(f"{n} {names[k][n > 1]}" for k, n in counts.items() if n) or "nothing"
+
+
+def show_left(build, rows, kept):
+    """A line for each call of a build: what it left with keys of 16, 24 and 32 bytes."""
+    say(f"\nBuilt by {build}. Left, for keys of 16, 24 and 32 bytes:")
+    for call in dict.fromkeys(call for call, _ in rows):
+        cells = [", ".join(f"{rows[call, bits][k]} {k}" for k in kept if rows[call, bits][k]) or "nothing" for bits in BITS]
+        say(f"  {call:<34} {'; '.join(cells if len(set(cells)) > 1 else cells[:1])}")
 
 
 def compared(now, path, kept, record):

@@ -15,8 +15,7 @@ static void at(const void *it, size_t size) { printf("%p %zu\n", it, size); }
 
 #ifdef WITH_GCM
 /* A key of each length is set; then a message is begun in each way, and the last structs are wiped. */
-static int gcm(void)
-{
+static int gcm(void) {
     static struct fotsgure_gcm set[COUNT], wiped;
     static struct fotsgure_gcm_message begun, other, next, wiped_message;
     struct fotsgure_gcm_counter counter = {{0}};
@@ -41,8 +40,7 @@ static int gcm(void)
 }
 #endif
 
-int main(void)
-{
+int main(void) {
     static struct fotsgure_aes set[COUNT], wiped;
     int right = 1;
     for (int i = 0; i < COUNT; i++) {

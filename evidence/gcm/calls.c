@@ -24,16 +24,14 @@ static int wrapping, known_key;
 /* What came of a call. `told` is how many reports it has to give: one where `open` tells whether the tag is right, and
    one where a nonce of another length than 12 bytes tells whether the counter wraps. It is vacuous if it did not do its
    work. */
-static void end(const char *name, const char *wanted, unsigned told, int works)
-{
+static void end(const char *name, const char *wanted, unsigned told, int works) {
     unsigned now = reports_since();
     const char *verdict = now != told ? "LEAK" : works ? "clean" : "VACUOUS";
     printf("%s\t%s\t%s\t%u\n", name, wanted, verdict, now);
 }
 
 /* A secret key, prepared, and secret data; or the key and a nonce under which the counter wraps. */
-static void prepare(size_t key_bytes, size_t extra, size_t length)
-{
+static void prepare(size_t key_bytes, size_t extra, size_t length) {
     fill(key, sizeof key);
     fill(nonce, sizeof nonce);
     fill(additional, MOST);
@@ -53,16 +51,14 @@ static void prepare(size_t key_bytes, size_t extra, size_t length)
 
 /* Whether a text was written whole and nothing behind it, and every byte of it depends on a secret. A text stays as it
    was by chance once in 2^128 times, and a short one more often. */
-static int written(size_t length)
-{
+static int written(size_t length) {
     int whole = tainted(text, length) == length;
     known(text, MOST);
     return whole && (length < 16 || memcmp(text, before, length) != 0) &&
         memcmp(text + length, before + length, MOST - length) == 0;
 }
 
-static void set_key(size_t bytes)
-{
+static void set_key(size_t bytes) {
     char name[64];
     fill(key, sizeof key);
     secret(key, bytes);
@@ -86,15 +82,13 @@ static void set_key(size_t bytes)
 }
 
 /* Whether a tag depends on secrets in every byte; it is then known. */
-static int is_secret_tag(void)
-{
+static int is_secret_tag(void) {
     int whole = tainted(tag, 16) == 16;
     known(tag, 16);
     return whole;
 }
 
-static void seal(size_t key_bytes, size_t bytes, size_t extra, size_t length)
-{
+static void seal(size_t key_bytes, size_t bytes, size_t extra, size_t length) {
     char name[64];
     snprintf(name, sizeof name, "fotsgure_gcm_seal %zu %zu %zu+%zu", key_bytes, bytes, extra, length);
     prepare(key_bytes, extra, length);
@@ -103,8 +97,7 @@ static void seal(size_t key_bytes, size_t bytes, size_t extra, size_t length)
     end(name, "clean", bytes != 12 && length > 0 && !known_key, is_secret_tag() && done && written(length));
 }
 
-static void seal_next(size_t key_bytes, size_t extra, size_t length)
-{
+static void seal_next(size_t key_bytes, size_t extra, size_t length) {
     char name[64];
     snprintf(name, sizeof name, "fotsgure_gcm_seal_next %zu %zu+%zu", key_bytes, extra, length);
     prepare(key_bytes, extra, length);
@@ -116,8 +109,7 @@ static void seal_next(size_t key_bytes, size_t extra, size_t length)
 }
 
 /* Opens a text under a tag that is right, or changed in one bit. */
-static void open(size_t key_bytes, size_t bytes, size_t extra, size_t length, int changed)
-{
+static void open(size_t key_bytes, size_t bytes, size_t extra, size_t length, int changed) {
     char name[64];
     snprintf(name, sizeof name, "fotsgure_gcm_open %zu %zu %zu+%zu%s", key_bytes, bytes, extra, length,
         changed ? " refused" : "");
@@ -152,8 +144,7 @@ static void open(size_t key_bytes, size_t bytes, size_t extra, size_t length, in
     } while (0)
 
 /* A message in pieces, there and back. */
-static void in_pieces(size_t key_bytes, size_t bytes, size_t piece, size_t length)
-{
+static void in_pieces(size_t key_bytes, size_t bytes, size_t piece, size_t length) {
     char name[80];
     struct fotsgure_gcm_message message;
     unsigned wraps = bytes != 12 && !known_key;
@@ -199,8 +190,7 @@ static void in_pieces(size_t key_bytes, size_t bytes, size_t piece, size_t lengt
 }
 
 /* Texts within which the counter wraps, under a known key. */
-static void wraps(void)
-{
+static void wraps(void) {
     known_key = 1;
     for (wrapping = 1; wrapping <= 2; wrapping++) {
         for (size_t length = 1; length <= 400; length += 13) {
@@ -215,8 +205,7 @@ static void wraps(void)
 }
 
 /* What is refused before a secret is looked at. */
-static void refused(void)
-{
+static void refused(void) {
     prepare(16, 20, 40);
     begin("fotsgure_gcm_seal refused");
     int right = fotsgure_gcm_seal(&gcm, nonce, 0, additional, 20, text, 40, tag) == FOTSGURE_GCM_NONCE_LENGTH;
@@ -236,20 +225,17 @@ static void refused(void)
 
 /* What is planted, and has to be found: a look-up at a secret place, a tag compared byte by byte, and no work. */
 static volatile uint8_t table[256];
-__attribute__((noinline)) static void planted_look_up(const uint8_t *from, uint8_t *to)
-{
+__attribute__((noinline)) static void planted_look_up(const uint8_t *from, uint8_t *to) {
     for (int i = 0; i < 16; i++)
         to[i] = table[from[i]] ^ from[i];
 }
-__attribute__((noinline)) static int planted_compare(const uint8_t *a, const uint8_t *b)
-{
+__attribute__((noinline)) static int planted_compare(const uint8_t *a, const uint8_t *b) {
     for (int i = 0; i < 16; i++)
         if (((volatile const uint8_t *)a)[i] != b[i])
             return 0;
     return 1;
 }
-static void plants(void)
-{
+static void plants(void) {
     fill(text, 32);
     memcpy(text + 16, text, 16);
     secret(text, 32);
@@ -266,8 +252,7 @@ static void plants(void)
     known(text, MOST);
 }
 
-int main(void)
-{
+int main(void) {
     static const size_t lengths[] = {0, 1, 15, 16, 17, 31, 47, 48, 49, 64, 113, 127, 128, 129, 255, 700, 1024, 4096,
         4111};
     static const size_t nonces[] = {1, 8, 11, 13, 16, 60};

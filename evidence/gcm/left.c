@@ -3,33 +3,29 @@
  * its powers, of the tag's mask, of a hash, after the message and after each block of it, of the tag that a refused
  * message should have had, of the first counter block of a nonce of another length, of keystream. Blocks that are
  * numbers to the library are searched in both orders of their bytes. Each call runs on texts of every number of blocks
- * from 0 to 40, and of lengths in between. One line a call and a size of keys, with tabs: the most that it left at any
- * length, and the lengths at which it left something of the key, or H, by their bytes. */
-#include "../left.h"
+ * from 0 to 40, and of lengths in between. */
+enum { KEY, ROUND_KEYS, MULTIPLES, SUBKEY, MASK, HASH, EXPECTED, FIRST, KEYSTREAM, KINDS, SECRETS = MASK, HELD = KINDS, LEAST = KINDS };
+#include "../search.h"
 #include "fotsgure_gcm.h"
 
-enum { KEYS = 3, BYTES = 2048, NEEDLES = 8192, PIECES = 256 };
-enum { KEY, ROUND_KEYS, MULTIPLES, SUBKEY, MASK, HASH, EXPECTED, FIRST, KEYSTREAM, KINDS };
+enum { BYTES = 2048 };
 
 static struct fotsgure_gcm kept;
 static struct fotsgure_gcm_counter counter;
 static struct fotsgure_gcm_message message;
-static uint8_t key[32], nonce[16], additional[BYTES], text[BYTES], keystream[BYTES];
+static uint8_t nonce[16], additional[BYTES], text[BYTES], keystream[BYTES];
 static uint8_t subkey[3][16], mask[16], hash[16], expected[16], first[16], tag[16], values[PIECES][16];
-static size_t hashed, size, length, extra, nonce_length;
-static int failed;
+static size_t hashed, length, extra, nonce_length;
 
 static void done(enum fotsgure_gcm_status status) { failed |= status != FOTSGURE_GCM_DONE; }
 
 /* The control: a struct on the stack that nobody wipes. */
-__attribute__((noinline)) static void not_wiped(void)
-{
+__attribute__((noinline)) static void not_wiped(void) {
     struct fotsgure_gcm gcm;
     done(fotsgure_gcm_set_key(&gcm, key, size));
     use(&gcm);
 }
-__attribute__((noinline)) static void wiped(void)
-{
+__attribute__((noinline)) static void wiped(void) {
     struct fotsgure_gcm gcm;
     done(fotsgure_gcm_set_key(&gcm, key, size));
     use(&gcm);
@@ -37,15 +33,13 @@ __attribute__((noinline)) static void wiped(void)
     use(&gcm);
 }
 /* Planted: a struct of which half is wiped, and a block of each kind that is left. */
-__attribute__((noinline)) static void planted_half_wiped(void)
-{
+__attribute__((noinline)) static void planted_half_wiped(void) {
     struct fotsgure_gcm gcm;
     done(fotsgure_gcm_set_key(&gcm, key, size));
     memset(&gcm, 0, sizeof gcm / 2);
     use(&gcm);
 }
-__attribute__((noinline)) static void planted_blocks(void)
-{
+__attribute__((noinline)) static void planted_blocks(void) {
     uint8_t blocks[6][16];
     memcpy(blocks[0], mask, 16);
     memcpy(blocks[1], expected, 16);
@@ -58,21 +52,17 @@ __attribute__((noinline)) static void planted_blocks(void)
     use(blocks);
 }
 static void set_key(void) { done(fotsgure_gcm_set_key(&kept, key, size)); }
-static void seal(void)
-{
+static void seal(void) {
     done(fotsgure_gcm_seal(&kept, nonce, nonce_length, additional, extra, text, length, tag));
 }
-static void seal_next(void)
-{
+static void seal_next(void) {
     done(fotsgure_gcm_seal_next(&kept, &counter, nonce, additional, extra, text, length, tag));
 }
-static void open(void)
-{
+static void open(void) {
     done(fotsgure_gcm_open(&kept, nonce, nonce_length, additional, extra, text, length, expected, 16));
 }
 /* The tag that is given is all zeros, so that its difference from the right one is the right one. */
-static void open_refused(void)
-{
+static void open_refused(void) {
     static uint8_t other[16];
     failed |= fotsgure_gcm_open(&kept, nonce, nonce_length, additional, extra, text, length, other, 16) !=
         FOTSGURE_GCM_REFUSED;
@@ -80,57 +70,49 @@ static void open_refused(void)
 
 /* A message in pieces: the first of five bytes, then half of what is left, and the rest. Its struct isn't on the
  * stack. */
-static void begun(void)
-{
+static void begun(void) {
     size_t some = extra < 5 ? extra : 5;
     done(fotsgure_gcm_begin(&kept, &message, nonce, nonce_length));
     done(fotsgure_gcm_additional(&kept, &message, additional, some));
     done(fotsgure_gcm_additional(&kept, &message, additional + some, extra - some));
 }
 static void in_pieces(enum fotsgure_gcm_status (*call)(const struct fotsgure_gcm *, struct fotsgure_gcm_message *,
-    uint8_t *, size_t))
-{
+    uint8_t *, size_t)) {
     size_t some = length < 5 ? length : 5, half = (length - some) / 2;
     done(call(&kept, &message, text, some));
     done(call(&kept, &message, text + some, half));
     done(call(&kept, &message, text + some + half, length - some - half));
 }
 static enum fotsgure_gcm_status verify(const struct fotsgure_gcm *gcm, struct fotsgure_gcm_message *it, uint8_t *bytes,
-    size_t count)
-{
+    size_t count) {
     return fotsgure_gcm_verify(gcm, it, bytes, count);
 }
-static void verified(void)
-{
+static void verified(void) {
     begun();
     in_pieces(verify);
 }
-static void seal_pieces(void)
-{
+static void seal_pieces(void) {
     begun();
     in_pieces((fotsgure_gcm_encrypt));
     done(fotsgure_gcm_finish(&kept, &message, tag));
 }
-static void open_pieces(void)
-{
+static void open_pieces(void) {
     verified();
     done(fotsgure_gcm_accept(&kept, &message, expected, 16));
     in_pieces((fotsgure_gcm_decrypt));
 }
-static void open_pieces_refused(void)
-{
+static void open_pieces_refused(void) {
     static uint8_t other[16];
     verified();
     failed |= fotsgure_gcm_accept(&kept, &message, other, 16) != FOTSGURE_GCM_REFUSED;
 }
-static void open_pieces_unverified(void)
-{
+static void open_pieces_unverified(void) {
     begun();
     in_pieces((fotsgure_gcm_decrypt_unverified));
     done(fotsgure_gcm_accept(&kept, &message, expected, 16));
 }
 
-static const struct call { const char *name; void (*it)(void); size_t nonce; } calls[] = {
+static const struct call calls[] = {
     {"not_wiped", not_wiped, 12}, {"planted_half_wiped", planted_half_wiped, 12},
     {"planted_blocks", planted_blocks, 16}, {"wiped", wiped, 12}, {"set_key", set_key, 12},
     {"seal", seal, 12}, {"seal_next", seal_next, 12}, {"open", open, 12}, {"open_refused", open_refused, 12},
@@ -142,21 +124,22 @@ static const struct call { const char *name; void (*it)(void); size_t nonce; } c
 };
 
 /* The lengths of texts: every number of blocks, some between them, and many blocks; and of additional data. */
-enum { BLOCKS = 41, LENGTHS = BLOCKS + 5 };
-static size_t length_of(size_t number)
-{
+enum { ONE = 4, LENGTHS = EVERY + 5 };
+static int opens(const struct call *call) { return strncmp(call->name, "open", 4) == 0; }
+static int seals(const struct call *call) { return strncmp(call->name, "seal", 4) == 0; }
+/* The calls that take no text run once. */
+static size_t lengths_of(const struct call *call) { return opens(call) || seals(call) ? LENGTHS : 1; }
+static size_t length_of(const struct call *call, size_t at) {
     static const size_t others[] = {7, 109, 231, 375, 2000};
-    return number < BLOCKS ? 16 * number : others[number - BLOCKS];
+    return lengths_of(call) == 1 ? 16 * ONE : at < EVERY ? 16 * at : others[at - EVERY];
 }
-static size_t extra_of(size_t number)
-{
+static size_t extra_of(size_t number) {
     static const size_t lengths[] = {0, 13, 20, 100, 32};
     return lengths[number % 5];
 }
 
 /* The product of two blocks, bit by bit (SP 800-38D, 6.3). */
-static void times(uint8_t to[16], const uint8_t x[16], const uint8_t y[16])
-{
+static void times(uint8_t to[16], const uint8_t x[16], const uint8_t y[16]) {
     uint8_t z[16] = {0}, v[16];
     memcpy(v, y, 16);
     for (int i = 0; i < 128; i++) {
@@ -172,8 +155,7 @@ static void times(uint8_t to[16], const uint8_t x[16], const uint8_t y[16])
 
 /* H is read off its multiples: their entry by the nibble 1000. Rows r and 8 + r stand side by side. Its powers are
  * computed, and so is the first counter block of a nonce that doesn't have 12 bytes. */
-static void powers(void)
-{
+static void powers(void) {
     for (int r = 0; r < 16; r++)
         subkey[0][r] = kept.multiples[16 * (2 * (r % 8) + r / 8) + 8];
     times(subkey[1], subkey[0], subkey[0]);
@@ -188,8 +170,7 @@ static void powers(void)
 }
 
 /* The values of GHASH after each block of additional data or of a cipher text. */
-static void hash_on(uint8_t value[16], const uint8_t *bytes, size_t count)
-{
+static void hash_on(uint8_t value[16], const uint8_t *bytes, size_t count) {
     for (size_t i = 0; i < count; i += 16) {
         for (size_t k = 0; k < 16 && i + k < count; k++)
             value[k] ^= bytes[i + k];
@@ -199,8 +180,7 @@ static void hash_on(uint8_t value[16], const uint8_t *bytes, size_t count)
 }
 
 /* The last value of GHASH: after the block of both lengths in bits. */
-static void lengths(uint8_t value[16])
-{
+static void lengths(uint8_t value[16]) {
     for (int i = 0; i < 8; i++) {
         value[7 - i] ^= (uint8_t)(8 * extra >> 8 * i);
         value[15 - i] ^= (uint8_t)(8 * length >> 8 * i);
@@ -208,19 +188,15 @@ static void lengths(uint8_t value[16])
     times(value, value, subkey[0]);
 }
 
-/* A key of its own for each run, its struct, and a message to seal or to open, with all that it is made by. The tag of
- * no bytes at all is the mask, since their hash is zero. */
-static void prepare(int number, const struct call *call, size_t at)
-{
+/* A struct with the key, and a message to seal or to open, with all that it is made by. The tag of no bytes at all is the mask,
+ * since their hash is zero. */
+static void prepare(const struct call *call, size_t at) {
     static const uint8_t zeros[BYTES];
-    int opens = strncmp(call->name, "open", 4) == 0;
-    length = length_of(at);
-    extra = extra_of(at);
-    nonce_length = call->nonce;
+    length = length_of(call, at);
+    extra = extra_of(lengths_of(call) == 1 ? ONE : at);
+    nonce_length = call->how;
     memset(&counter, 0x47, sizeof counter);
     memset(nonce, 0x47, sizeof nonce);
-    for (size_t i = 0; i < sizeof key; i++)
-        key[i] = (uint8_t)(0x1d * i + 0x35 + 0x47 * (size_t)number + i * i * (size_t)number);
     for (size_t i = 0; i < BYTES; i++) {
         text[i] = (uint8_t)(i * 7 + i / 256 + 1);
         additional[i] = (uint8_t)(i * 11 + i / 128 + 3);
@@ -240,24 +216,11 @@ static void prepare(int number, const struct call *call, size_t at)
     lengths(value);
     /* What is searched for is what the library works with, or nothing is shown. */
     failed |= memcmp(value, hash, 16) != 0;
-    for (size_t i = 0; i < length && !opens; i++)
+    for (size_t i = 0; i < length && !opens(call); i++)
         text[i] ^= keystream[i];
 }
 
-static struct needle { uint64_t bytes; int kind, piece; } needles[NEEDLES];
-static size_t filled;
-static void add(const uint8_t *at, int kind, int piece)
-{
-    struct needle *it = &needles[filled];
-    if (filled == NEEDLES)
-        abort();
-    memcpy(&it->bytes, at, 8);
-    it->kind = kind;
-    it->piece = piece;
-    filled += it->bytes != it->bytes % 256 * 0x0101010101010101u;
-}
-static void add_block(const uint8_t at[16], int kind, int piece)
-{
+static void add_block(const uint8_t at[16], int kind, int piece) {
     uint8_t turned[16];
     for (int i = 0; i < 16; i++)
         turned[i] = at[15 - i];
@@ -266,15 +229,7 @@ static void add_block(const uint8_t at[16], int kind, int piece)
         add(turned + i, kind, piece);
     }
 }
-static int below(const void *a, const void *b)
-{
-    uint64_t x = ((const struct needle *)a)->bytes, y = ((const struct needle *)b)->bytes;
-    return (x > y) - (x < y);
-}
-static void collect(const struct call *call)
-{
-    int opens = strncmp(call->name, "open", 4) == 0, seals = strncmp(call->name, "seal", 4) == 0;
-    filled = 0;
+static void collect(const struct call *call) {
     for (size_t i = 0; i + 8 <= size; i++)
         add(key + i, KEY, 0);
     for (size_t i = 0; i < 4 * size + 112; i += 16)
@@ -291,98 +246,12 @@ static void collect(const struct call *call)
     for (size_t i = 0; i < hashed; i++)
         add_block(values[i], HASH, 1 + (int)i);
     /* Who seals or opens a message has its tag; that of a refused one is nobody's. */
-    if (!seals && !(opens && !strstr(call->name, "refused")))
+    if (!seals(call) && !(opens(call) && !strstr(call->name, "refused")))
         add_block(expected, EXPECTED, 0);
     add_block(first, FIRST, 0);
     for (size_t i = 0; i < BYTES; i += 16)
         for (size_t k = 0; k <= 8; k += 8)
             add(keystream + i + k, KEYSTREAM, (int)(i / 16));
-    qsort(needles, filled, sizeof *needles, below);
 }
 
-/* Which pieces stand in so many bytes. */
-static void search(const uint8_t *at, size_t bytes, uint8_t found[KINDS][PIECES])
-{
-    for (size_t i = 0; i + 8 <= bytes; i++) {
-        struct needle it;
-        memcpy(&it.bytes, at + i, 8);
-        const struct needle *one = bsearch(&it, needles, filled, sizeof *needles, below);
-        if (!one)
-            continue;
-        while (one > needles && one[-1].bytes == it.bytes)
-            one--;
-        for (; one < needles + filled && one->bytes == it.bytes; one++)
-            found[one->kind][one->piece] = 1;
-    }
-}
-static void most(int counts[KINDS], uint8_t found[KINDS][PIECES])
-{
-    for (int kind = 0; kind < KINDS; kind++) {
-        int pieces = 0;
-        for (int i = 0; i < PIECES; i++)
-            pieces += found[kind][i];
-        if (pieces > counts[kind])
-            counts[kind] = pieces;
-    }
-}
-
-/* What one call left with texts of one length, under each of the keys. */
-static void at_length(const struct call *call, size_t at, int counts[KINDS], int *registers_most, size_t *depth)
-{
-    int inside[KINDS] = {0}, in_registers = 0;
-    for (int number = 0; number < KEYS; number++) {
-        static uint8_t image[STACK];
-        uint8_t found[KINDS][PIECES] = {{0}}, held[KINDS][PIECES] = {{0}};
-        prepare(number, call, at);
-        collect(call);
-        run(call->it, image);
-        size_t deep = depth_of(image);
-        search(image + STACK - deep, deep, found);
-        for (int i = 0; i < REGISTERS; i++)
-            search(registers + 16 * i, 16, held);
-        most(counts, found);
-        most(inside, held);
-        if (deep > *depth)
-            *depth = deep;
-    }
-    for (int kind = 0; kind < KINDS; kind++)
-        in_registers += inside[kind];
-    if (in_registers > *registers_most)
-        *registers_most = in_registers;
-}
-
-/* Whether a call takes a text. The others run once. */
-static int takes_text(const struct call *call)
-{
-    return strncmp(call->name, "open", 4) == 0 || strncmp(call->name, "seal", 4) == 0;
-}
-
-static void report(const struct call *call)
-{
-    int all[KINDS] = {0}, in_registers = 0;
-    size_t depth = 0;
-    char where[8 * LENGTHS + 2] = "", *end = where;
-    for (size_t at = takes_text(call) ? 0 : 4; at < (takes_text(call) ? LENGTHS : 5); at++) {
-        int counts[KINDS] = {0};
-        at_length(call, at, counts, &in_registers, &depth);
-        for (int kind = 0; kind < KINDS; kind++)
-            all[kind] = counts[kind] > all[kind] ? counts[kind] : all[kind];
-        if (counts[KEY] + counts[ROUND_KEYS] + counts[MULTIPLES] + counts[SUBKEY])
-            end += sprintf(end, " %zu", length_of(at));
-    }
-    printf("%s\t%zu", call->name, 8 * size);
-    for (int kind = 0; kind < KINDS; kind++)
-        printf("\t%d", all[kind]);
-    printf("\t%d\t%zu\t%s\n", in_registers, depth, end > where ? where + 1 : "-");
-}
-
-int main(void)
-{
-    stack = aligned_alloc(4096, STACK);
-    if (!stack)
-        return 2;
-    for (size = 16; size <= 32; size += 8)
-        for (size_t i = 0; i < sizeof calls / sizeof *calls; i++)
-            report(&calls[i]);
-    return failed;
-}
+int main(void) { return search_after(calls, sizeof calls / sizeof *calls); }

@@ -3,6 +3,18 @@
    runs on every number of blocks from 0 to 40, one on bytes also on lengths in between. One line a call and a size of
    keys, with tabs: the most that it left at any length. */
 #include "../left.h"
+#include "../expected.h"
+
+/* Of the exports for measurements: KeyExpansion, the stored words of planes, the stored round keys of permutations. */
+#define OF_SIZE(bits) \
+    void ev_expand_##bits(const uint8_t *key, uint8_t *round_keys); \
+    void ev_planes_##bits(const uint8_t *key, uint16_t *words); \
+    void ev_lanes_##bits(const uint8_t *key, uint8_t *round_keys);
+OF_SIZE(128)
+OF_SIZE(192)
+OF_SIZE(256)
+#define BY_SIZE(name, size, ...) \
+    ((size) == 16 ? name##_128(__VA_ARGS__) : (size) == 24 ? name##_192(__VA_ARGS__) : name##_256(__VA_ARGS__))
 
 enum { KEYS = 6, EVERY = 41, KINDS = 3 };
 /* An export of one block takes no count, and doesn't see that it is given one. */
@@ -25,6 +37,12 @@ static void expect(void) {
     BY_SIZE(ev_lanes, size, key, lanes);
     BY_SIZE(ev_lanes, size, zero_key, zero_lanes);
     BY_SIZE(ev_expand, size, key, plain);
+    /* The searches after calls from C look for what is expected. */
+    uint16_t own_words[MOST_WORDS];
+    uint8_t own_keys[2 * MOST_WORDS];
+    expected_planes(key, size, own_words);
+    expand(key, size, own_keys);
+    if (memcmp(own_words, words, schedule()) || memcmp(own_keys, plain, schedule())) abort();
     for (size_t i = 0; i < 8 * round_keys(); i++)
         widened(wide[i], words[i]);
     memset(zeros, 0, sizeof zeros);
@@ -40,26 +58,17 @@ static void made(const uint8_t *k, uint16_t *made_words, uint8_t *block) {
     use(made_words);
     block[0] ^= (uint8_t)made_words[0];
 }
-__attribute__((noinline)) static void planted_deleted_wipe(const uint8_t *k, uint8_t *b, size_t n) {
-    (void)n;
-    uint16_t w[MOST_WORDS];
-    made(k, w, b);
-    memset(w, 0, sizeof w);
-}
-__attribute__((noinline)) static void planted_kept_wipe(const uint8_t *k, uint8_t *b, size_t n) {
-    (void)n;
-    uint16_t w[MOST_WORDS];
-    made(k, w, b);
-    memset(w, 0, sizeof w);
-    use(w);
-}
-__attribute__((noinline)) static void planted_half_wipe(const uint8_t *k, uint8_t *b, size_t n) {
-    (void)n;
-    uint16_t w[MOST_WORDS];
-    made(k, w, b);
-    memset(w, 0, schedule() / 2);
-    use(w);
-}
+#define PLANTED_WIPE(name, bytes, after) \
+    __attribute__((noinline)) static void planted_##name##_wipe(const uint8_t *k, uint8_t *b, size_t n) { \
+        uint16_t w[MOST_WORDS]; \
+        (void)n; \
+        made(k, w, b); \
+        memset(w, 0, bytes); \
+        after; \
+    }
+PLANTED_WIPE(deleted, sizeof w, (void)0)
+PLANTED_WIPE(kept, sizeof w, use(w))
+PLANTED_WIPE(half, schedule() / 2, use(w))
 
 /* Planted: blocks of zeros, encrypted and decrypted, in a local. */
 __attribute__((noinline)) static void planted_zeros(const uint8_t *k, uint8_t *b, size_t n) {

@@ -1,9 +1,9 @@
-/* What the search of the stack looks for, written apart from the library: KeyExpansion (FIPS 197, 5.2), and the planes
- * of round keys that a batch of eight blocks works with. On x86-64 the exports for measurements compute both. */
+/* What searches of the stack look for, written apart from the library: KeyExpansion (FIPS 197, 5.2), and the planes of
+ * round keys that a batch of eight blocks works with. wipe/left.c compares them with what the library computes. */
 #include <stdint.h>
 #include <string.h>
 
-enum { BLOCK = 16, MOST_KEYS = 15, CONSTANT = 0x63 };
+enum { MOST_KEYS = 15, CONSTANT = 0x63 };
 
 static uint8_t doubled(uint8_t x) { return (uint8_t)(x << 1 ^ (x >> 7) * 0x1b); }
 static uint8_t product(uint8_t x, uint8_t y) {
@@ -45,7 +45,7 @@ static void expand(const uint8_t *key, size_t size, uint8_t *to) {
 
 /* Bit b of the bytes of round key i, row by row. All but the first have the constant of the S-box; those between the
  * first and the last are as far behind ShiftRows as the round is. */
-static void planes(const uint8_t *key, size_t size, uint16_t *words) {
+static void expected_planes(const uint8_t *key, size_t size, uint16_t *words) {
     uint8_t round_keys[BLOCK * MOST_KEYS];
     size_t last = size / 4 + 6;
     expand(key, size, round_keys);
@@ -59,14 +59,8 @@ static void planes(const uint8_t *key, size_t size, uint16_t *words) {
             }
         }
 }
-
-#define OF_SIZE(bits) \
-    void ev_expand_##bits(const uint8_t *key, uint8_t *round_keys); \
-    void ev_expand_##bits(const uint8_t *key, uint8_t *round_keys) { expand(key, bits / 8, round_keys); } \
-    void ev_##bits##_schedule(const uint8_t *key, uint16_t *words); \
-    void ev_##bits##_schedule(const uint8_t *key, uint16_t *words) { planes(key, bits / 8, words); } \
-    void ev_planes_##bits(const uint8_t *key, uint16_t *words); \
-    void ev_planes_##bits(const uint8_t *key, uint16_t *words) { planes(key, bits / 8, words); }
-OF_SIZE(128)
-OF_SIZE(192)
-OF_SIZE(256)
+/* A stored word of planes as a batch of eight has it. */
+static void widened(uint8_t *word, uint16_t stored) {
+    for (int bit = 0; bit < 16; bit++)
+        word[bit] = stored >> bit & 1 ? 0xff : 0;
+}
