@@ -24,10 +24,30 @@
 ENGINE(ct64)
 ENGINE(big)
 
+static union { br_aes_ct64_ctr_keys ct64; br_aes_x86ni_ctr_keys ni; } gcm_keys;
+static const br_block_ctr_class *gcm_ctr;
+static br_ghash ghash;
+static br_gcm_context gcm;
+static void gcm_key(const uint8_t *key) {
+    const br_block_ctr_class **it = (const br_block_ctr_class **)&gcm_keys;
+    gcm_ctr->init(it, key, 16);
+    br_gcm_init(&gcm, it, ghash);
+}
+static void seal(const struct message *m) {
+    br_gcm_reset(&gcm, m->nonce, 12);
+    br_gcm_aad_inject(&gcm, m->additional, m->extra);
+    br_gcm_flip(&gcm);
+    br_gcm_run(&gcm, 1, m->text, m->length);
+    br_gcm_get_tag(&gcm, m->tag);
+}
+
 void add_bearssl(enum run run) {
+    gcm_ctr = run == ALL ? br_aes_x86ni_ctr_get_vtable() : &br_aes_ct64_ctr_vtable;
+    ghash = run == ALL ? br_ghash_pclmul_get() : br_ghash_ctmul64;
+    if (run == ALL && gcm_ctr && ghash) add(&(struct engine){"BearSSL", "AES instructions", "instructions", GCM});
     if (run != NO_AES) return;
     add(&(struct engine){"BearSSL", "ct64", "bitsliced", ct64_key_encrypt, ct64_key_decrypt, ct64_encrypt, ct64_decrypt,
-                         ct64_stream, 0, 0, 0});
+                         ct64_stream, GCM});
     add(&(struct engine){"BearSSL", "big, tables", "tables", big_key_encrypt, big_key_decrypt, big_encrypt, big_decrypt,
-                         big_stream, 0, 0, 0});
+                         big_stream});
 }

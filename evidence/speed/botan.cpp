@@ -1,8 +1,10 @@
 /* Botan 2, which asks the processor at each call; a run clears what it may not use. */
 #include "engine.h"
+#include <botan/aead.h>
 #include <botan/block_cipher.h>
 #include <botan/cpuid.h>
 #include <botan/stream_cipher.h>
+#include <cstring>
 #include <memory>
 
 static std::unique_ptr<Botan::BlockCipher> enc[3], dec[3];
@@ -24,9 +26,24 @@ static void stream(const uint8_t *key, size_t n, const uint8_t *iv, uint8_t *dat
     ctr[size_of(n)]->cipher1(data, length);
 }
 
+static std::unique_ptr<Botan::AEAD_Mode> gcm;
+static void gcm_key(const uint8_t *key) { gcm->set_key(key, 16); }
+/* It adds the tag to a buffer of its own kind, which is kept, so that no call makes room. */
+static void seal(const struct message *m) {
+    static Botan::secure_vector<uint8_t> buffer;
+    buffer.reserve(m->length + 16);
+    buffer.assign(m->text, m->text + m->length);
+    gcm->set_associated_data(m->additional, m->extra);
+    gcm->start(m->nonce, 12);
+    gcm->finish(buffer, 0);
+    std::memcpy(m->text, buffer.data(), m->length);
+    std::memcpy(m->tag, buffer.data() + m->length, 16);
+}
+
 extern "C" void add_botan(enum run run) {
     Botan::CPUID::initialize();
     if (run != ALL) Botan::CPUID::clear_cpuid_bit(Botan::CPUID::CPUID_AESNI_BIT);
+    if (run != ALL) Botan::CPUID::clear_cpuid_bit(Botan::CPUID::CPUID_CLMUL_BIT);
     if (run == NO_AES_NO_SSSE3) Botan::CPUID::clear_cpuid_bit(Botan::CPUID::CPUID_SSSE3_BIT);
     static const char *const names[] = {"AES-128", "AES-192", "AES-256"};
     for (int i = 0; i < 3; i++) {
@@ -34,9 +51,10 @@ extern "C" void add_botan(enum run run) {
         dec[i] = Botan::BlockCipher::create_or_throw(names[i]);
         ctr[i] = Botan::StreamCipher::create_or_throw("CTR-BE(" + std::string(names[i]) + ")");
     }
+    gcm = Botan::AEAD_Mode::create_or_throw("AES-128/GCM", Botan::ENCRYPTION);
     static const char *const how[] = {"AES instructions", "SSSE3 permutations", "bitsliced"};
     static const char *const kind[] = {"instructions", "permutations", "bitsliced"};
     static engine it;
-    it = {"Botan", how[run], kind[run], key_encrypt, key_decrypt, encrypt, decrypt, stream, 1, nullptr, nullptr};
+    it = {"Botan", how[run], kind[run], key_encrypt, key_decrypt, encrypt, decrypt, stream, 1, gcm_key, seal};
     add(&it);
 }

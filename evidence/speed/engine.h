@@ -9,6 +9,13 @@
 extern "C" {
 #endif
 
+/* A message to seal with GCM, in place, under a nonce of 12 bytes; the tag has 16. */
+struct message {
+    const uint8_t *nonce, *additional;
+    size_t extra, length;
+    uint8_t *text, *tag;
+};
+
 struct engine {
     const char *name; /* the library */
     const char *how;  /* what it runs on this machine, in this run */
@@ -22,11 +29,13 @@ struct engine {
     /* Takes a key and a counter block, and adds the keystream; without a key (0), that taken last. */
     void (*stream)(const uint8_t *key, size_t bytes, const uint8_t *iv, uint8_t *data, size_t length);
     int keeps; /* whether `stream` can do without a key */
-    /* If it is there, the calls on blocks keep no key: this one takes a key and processes the blocks `times` times. */
-    void (*times)(const uint8_t *key, size_t bytes, int back, uint32_t times, uint8_t *blocks, size_t count);
-    /* Wipes as many bytes as the round keys of a batch take. */
-    void (*wipe)(size_t key_bytes);
+    /* GCM: takes a key of 16 bytes, and seals a text in place under the key taken last. */
+    void (*gcm_key)(const uint8_t *key);
+    void (*seal)(const struct message *m);
 };
+/* The calls of an engine by their names. */
+#define BLOCKS .key_encrypt = key_encrypt, .key_decrypt = key_decrypt, .encrypt = encrypt, .decrypt = decrypt
+#define GCM .gcm_key = gcm_key, .seal = seal
 
 /* The run: which instructions of the processor the peers may use. */
 enum run { ALL, NO_AES, NO_AES_NO_SSSE3 };
@@ -37,7 +46,6 @@ static inline int size_of(size_t key_bytes) { return key_bytes == 16 ? 0 : key_b
 /* Each file of peers adds its engines for a run. */
 void add(const struct engine *engine);
 void add_library(enum run run);
-void add_library_by_rattle(enum run run);
 void add_library_for_avx2(enum run run);
 void add_openssl(enum run run);
 void add_bearssl(enum run run);

@@ -21,12 +21,19 @@ static void stream(const uint8_t *key, size_t n, const uint8_t *iv, uint8_t *dat
     gcry_cipher_encrypt(ctr[size_of(n)], data, length, 0, 0);
 }
 
+static gcry_cipher_hd_t gcm;
+static void gcm_key(const uint8_t *key) { gcry_cipher_setkey(gcm, key, 16); }
+static void seal(const struct message *m) {
+    gcry_cipher_setiv(gcm, m->nonce, 12);
+    if (m->extra) gcry_cipher_authenticate(gcm, m->additional, m->extra);
+    gcry_cipher_encrypt(gcm, m->text, m->length, 0, 0);
+    gcry_cipher_gettag(gcm, m->tag, 16);
+}
+
 void add_libgcrypt(enum run run) {
     static const int algorithm[] = {GCRY_CIPHER_AES128, GCRY_CIPHER_AES192, GCRY_CIPHER_AES256};
-    if (run != ALL) {
-        gcry_control(GCRYCTL_DISABLE_HWF, "intel-aesni", (void *)0);
-        gcry_control(GCRYCTL_DISABLE_HWF, "intel-vaes-vpclmul", (void *)0);
-    }
+    static const char *const instructions[] = {"intel-aesni", "intel-pclmul", "intel-vaes-vpclmul"};
+    for (int i = 0; i < 3 && run != ALL; i++) gcry_control(GCRYCTL_DISABLE_HWF, instructions[i], (void *)0);
     if (run == NO_AES_NO_SSSE3) gcry_control(GCRYCTL_DISABLE_HWF, "intel-ssse3", (void *)0);
     gcry_check_version(0);
     gcry_control(GCRYCTL_DISABLE_SECMEM, 0);
@@ -36,8 +43,8 @@ void add_libgcrypt(enum run run) {
         gcry_cipher_open(&dec[i], algorithm[i], GCRY_CIPHER_MODE_ECB, 0);
         gcry_cipher_open(&ctr[i], algorithm[i], GCRY_CIPHER_MODE_CTR, 0);
     }
+    gcry_cipher_open(&gcm, GCRY_CIPHER_AES128, GCRY_CIPHER_MODE_GCM, 0);
     static const char *const how[] = {"AES instructions", "SSSE3 permutations", "tables"};
     static const char *const kind[] = {"instructions", "permutations", "tables"};
-    add(&(struct engine){
-        "Libgcrypt", how[run], kind[run], key_encrypt, key_decrypt, encrypt, decrypt, stream, 1, 0, 0});
+    add(&(struct engine){"Libgcrypt", how[run], kind[run], BLOCKS, .stream = stream, .keeps = 1, GCM});
 }

@@ -1,6 +1,7 @@
 /* mbedtls. The shared library asks `mbedtls_aesni_has_support`, which stands here too, so that a run can say no. */
 #include "engine.h"
 #include <mbedtls/aes.h>
+#include <mbedtls/gcm.h>
 #include <string.h>
 
 static int instructions;
@@ -28,14 +29,18 @@ static void stream(const uint8_t *key, size_t n, const uint8_t *iv, uint8_t *dat
     mbedtls_aes_crypt_ctr(&k, length, &at, counter, block, data, data);
 }
 
+static mbedtls_gcm_context gcm;
+static void gcm_key(const uint8_t *key) { mbedtls_gcm_setkey(&gcm, MBEDTLS_CIPHER_ID_AES, key, 128); }
+static void seal(const struct message *m) {
+    mbedtls_gcm_crypt_and_tag(&gcm, MBEDTLS_GCM_ENCRYPT, m->length, m->nonce, 12, m->additional, m->extra, m->text, m->text, 16, m->tag);
+}
+
 void add_mbedtls(enum run run) {
     mbedtls_aes_init(&enc);
     mbedtls_aes_init(&dec);
+    mbedtls_gcm_init(&gcm);
     instructions = run == ALL;
-    if (run == ALL)
-        add(&(struct engine){"mbedtls", "AES instructions", "instructions", key_encrypt, key_decrypt, encrypt, decrypt,
-                             stream, 0, 0, 0});
-    if (run == NO_AES)
-        add(&(struct engine){"mbedtls", "tables", "tables", key_encrypt, key_decrypt, encrypt, decrypt, stream,
-                             0, 0, 0});
+    const char *how = run == ALL ? "AES instructions" : "tables";
+    if (run != NO_AES_NO_SSSE3)
+        add(&(struct engine){"mbedtls", how, run == ALL ? "instructions" : how, BLOCKS, .stream = stream, GCM});
 }

@@ -2,57 +2,55 @@
 #include "engine.h"
 #include <nettle/aes.h>
 #include <nettle/ctr.h>
+#include <nettle/gcm.h>
 #include <string.h>
 
-static size_t bytes;
-static struct aes128_ctx e128, d128;
-static struct aes192_ctx e192, d192;
-static struct aes256_ctx e256, d256;
+#define OF_SIZE(n) \
+    static struct aes##n##_ctx e##n, d##n; \
+    static void stream_##n(const uint8_t *key, uint8_t *counter, uint8_t *data, size_t length) { \
+        struct aes##n##_ctx k; \
+        aes##n##_set_encrypt_key(&k, key); \
+        ctr_crypt(&k, (nettle_cipher_func *)aes##n##_encrypt, 16, counter, length, data, data); \
+    }
+OF_SIZE(128)
+OF_SIZE(192)
+OF_SIZE(256)
+static int now;
 static void key_encrypt(const uint8_t *key, size_t n) {
-    bytes = n;
-    if (n == 16) aes128_set_encrypt_key(&e128, key);
-    else if (n == 24) aes192_set_encrypt_key(&e192, key);
-    else aes256_set_encrypt_key(&e256, key);
+    now = size_of(n);
+    now == 0 ? aes128_set_encrypt_key(&e128, key)
+        : now == 1 ? aes192_set_encrypt_key(&e192, key) : aes256_set_encrypt_key(&e256, key);
 }
 static void key_decrypt(const uint8_t *key, size_t n) {
-    bytes = n;
-    if (n == 16) aes128_set_decrypt_key(&d128, key);
-    else if (n == 24) aes192_set_decrypt_key(&d192, key);
-    else aes256_set_decrypt_key(&d256, key);
+    now = size_of(n);
+    now == 0 ? aes128_set_decrypt_key(&d128, key)
+        : now == 1 ? aes192_set_decrypt_key(&d192, key) : aes256_set_decrypt_key(&d256, key);
 }
 static void encrypt(uint8_t *b, size_t count) {
-    if (bytes == 16) aes128_encrypt(&e128, 16 * count, b, b);
-    else if (bytes == 24) aes192_encrypt(&e192, 16 * count, b, b);
-    else aes256_encrypt(&e256, 16 * count, b, b);
+    size_t n = 16 * count;
+    now == 0 ? aes128_encrypt(&e128, n, b, b) : now == 1 ? aes192_encrypt(&e192, n, b, b) : aes256_encrypt(&e256, n, b, b);
 }
 static void decrypt(uint8_t *b, size_t count) {
-    if (bytes == 16) aes128_decrypt(&d128, 16 * count, b, b);
-    else if (bytes == 24) aes192_decrypt(&d192, 16 * count, b, b);
-    else aes256_decrypt(&d256, 16 * count, b, b);
+    size_t n = 16 * count;
+    now == 0 ? aes128_decrypt(&d128, n, b, b) : now == 1 ? aes192_decrypt(&d192, n, b, b) : aes256_decrypt(&d256, n, b, b);
 }
 static void stream(const uint8_t *key, size_t n, const uint8_t *iv, uint8_t *data, size_t length) {
     uint8_t counter[16];
     memcpy(counter, iv, 16);
-    if (n == 16) {
-        struct aes128_ctx k;
-        aes128_set_encrypt_key(&k, key);
-        ctr_crypt(&k, (nettle_cipher_func *)aes128_encrypt, 16, counter, length, data, data);
-    } else if (n == 24) {
-        struct aes192_ctx k;
-        aes192_set_encrypt_key(&k, key);
-        ctr_crypt(&k, (nettle_cipher_func *)aes192_encrypt, 16, counter, length, data, data);
-    } else {
-        struct aes256_ctx k;
-        aes256_set_encrypt_key(&k, key);
-        ctr_crypt(&k, (nettle_cipher_func *)aes256_encrypt, 16, counter, length, data, data);
-    }
+    (n == 16 ? stream_128 : n == 24 ? stream_192 : stream_256)(key, counter, data, length);
+}
+
+static struct gcm_aes128_ctx gcm;
+static void gcm_key(const uint8_t *key) { gcm_aes128_set_key(&gcm, key); }
+static void seal(const struct message *m) {
+    gcm_aes128_set_iv(&gcm, 12, m->nonce);
+    gcm_aes128_update(&gcm, m->extra, m->additional);
+    gcm_aes128_encrypt(&gcm, m->length, m->text, m->text);
+    gcm_aes128_digest(&gcm, 16, m->tag);
 }
 
 void add_nettle(enum run run) {
-    if (run == ALL)
-        add(&(struct engine){"Nettle", "AES instructions", "instructions", key_encrypt, key_decrypt, encrypt, decrypt,
-                             stream, 0, 0, 0});
-    if (run == NO_AES)
-        add(&(struct engine){"Nettle", "tables", "tables", key_encrypt, key_decrypt, encrypt, decrypt, stream,
-                             0, 0, 0});
+    const char *how = run == ALL ? "AES instructions" : "tables";
+    if (run != NO_AES_NO_SSSE3)
+        add(&(struct engine){"Nettle", how, run == ALL ? "instructions" : how, BLOCKS, .stream = stream, GCM});
 }

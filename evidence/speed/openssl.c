@@ -1,5 +1,4 @@
-/* OpenSSL by EVP; the low-level AES_encrypt, which uses tables on every machine; and its code by vector permutations,
-   called with nothing between, as its static library lets one. */
+/* OpenSSL by EVP, and by the low-level AES_encrypt, which uses tables on every machine. */
 #define OPENSSL_SUPPRESS_DEPRECATED
 #include "engine.h"
 #include <openssl/aes.h>
@@ -8,11 +7,7 @@
 /* A context for each size of keys, which knows its cipher before the clock starts. */
 static EVP_CIPHER_CTX *enc[3], *dec[3], *ctr[3];
 static int now;
-static AES_KEY low_enc, low_dec, vpaes_enc, vpaes_dec;
-int vpaes_set_encrypt_key(const uint8_t *key, int bits, AES_KEY *made);
-int vpaes_set_decrypt_key(const uint8_t *key, int bits, AES_KEY *made);
-void vpaes_encrypt(const uint8_t *in, uint8_t *out, const AES_KEY *key);
-void vpaes_decrypt(const uint8_t *in, uint8_t *out, const AES_KEY *key);
+static AES_KEY low_enc, low_dec;
 
 static void key_encrypt(const uint8_t *key, size_t n) {
     now = size_of(n);
@@ -50,14 +45,15 @@ static void low_encrypt(uint8_t *b, size_t count) {
 static void low_decrypt(uint8_t *b, size_t count) {
     for (size_t i = 0; i < count; i++) AES_decrypt(b + 16 * i, b + 16 * i, &low_dec);
 }
-/* One block after another, as its electronic codebook does. */
-static void direct_key_encrypt(const uint8_t *key, size_t n) { vpaes_set_encrypt_key(key, (int)(8 * n), &vpaes_enc); }
-static void direct_key_decrypt(const uint8_t *key, size_t n) { vpaes_set_decrypt_key(key, (int)(8 * n), &vpaes_dec); }
-static void direct_encrypt(uint8_t *b, size_t count) {
-    for (size_t i = 0; i < count; i++) vpaes_encrypt(b + 16 * i, b + 16 * i, &vpaes_enc);
-}
-static void direct_decrypt(uint8_t *b, size_t count) {
-    for (size_t i = 0; i < count; i++) vpaes_decrypt(b + 16 * i, b + 16 * i, &vpaes_dec);
+static EVP_CIPHER_CTX *gcm;
+static void gcm_key(const uint8_t *key) { EVP_EncryptInit_ex2(gcm, 0, key, 0, 0); }
+static void seal(const struct message *m) {
+    int l;
+    EVP_EncryptInit_ex2(gcm, 0, 0, m->nonce, 0);
+    if (m->extra) EVP_EncryptUpdate(gcm, 0, &l, m->additional, (int)m->extra);
+    if (m->length) EVP_EncryptUpdate(gcm, m->text, &l, m->text, (int)m->length);
+    EVP_EncryptFinal_ex(gcm, m->text, &l);
+    EVP_CIPHER_CTX_ctrl(gcm, EVP_CTRL_GCM_GET_TAG, 16, m->tag);
 }
 
 void add_openssl(enum run run) {
@@ -68,15 +64,13 @@ void add_openssl(enum run run) {
         dec[i] = context(ecb[i], 0);
         ctr[i] = context(mode[i], 1);
     }
+    gcm = context("AES-128-GCM", 1);
     /* Without AES instructions counter mode and CBC decryption of long inputs are bitsliced, and the rest is by vector
        permutations. */
     static const char *const how[] = {"AES instructions", "SSSE3 permutations", "tables, EVP"};
     static const char *const kind[] = {"instructions", "permutations", "tables"};
-    add(&(struct engine){"OpenSSL", how[run], kind[run], key_encrypt, key_decrypt, encrypt, decrypt, stream, 1, 0, 0});
-    if (run == NO_AES)
-        add(&(struct engine){"OpenSSL", "its vpaes alone", "permutations", direct_key_encrypt, direct_key_decrypt,
-                             direct_encrypt, direct_decrypt, 0, 0, 0, 0});
+    add(&(struct engine){"OpenSSL", how[run], kind[run], BLOCKS, .stream = stream, .keeps = 1, GCM});
     if (run == ALL)
         add(&(struct engine){"OpenSSL", "tables, AES_encrypt", "tables", low_key_encrypt, low_key_decrypt, low_encrypt,
-                             low_decrypt, 0, 0, 0, 0});
+                             low_decrypt});
 }

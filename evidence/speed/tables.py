@@ -1,4 +1,4 @@
-"""The times of a run as a file, beside those of others, and as two sections of docs/MEASUREMENTS.md."""
+"""The times of a run as a file, beside those of others, and as sections of docs/MEASUREMENTS.md."""
 import csv
 import itertools
 import re
@@ -8,6 +8,7 @@ import tools
 
 HEADING = "## How fast is it beside what I use now?"
 HEADING_AVX2 = "## The second build, for processors with AVX2"
+HEADING_GCM = "## How fast is GCM beside what I use now?"
 # The peers by the packages that they come from.
 PACKAGES = {
     "libssl-dev": "OpenSSL",
@@ -21,7 +22,9 @@ PACKAGES = {
 BASE = "C library, by LLVM"
 # Its build for processors with AVX2, which stands in the run without AES instructions.
 AVX2 = "C library for AVX2, by LLVM"
-# The amount is of blocks, or of bytes for counter mode.
+# What they are to a reader of GCM's times.
+OURS = {"this library": BASE, "this library, for AVX2": AVX2}
+# The amount is of blocks, or of bytes for counter mode and GCM.
 HEAD = ["peer", "how", "kind", "run", "key_bytes", "call", "amount", "ticks", "nanoseconds", "ratio_to_this_library"]
 DIGITS = {"ticks": 1, "nanoseconds": 1, "ratio_to_this_library": 3}
 # The rows of docs/MEASUREMENTS.md, and its columns beside this library: peers, and the run in which they are taken.
@@ -51,28 +54,16 @@ COMPARED |= {
     f"counter mode, {title}": [("counter mode", n)]
     for title, n in (("64 bytes", 64), ("256 bytes", 256), ("1,500 bytes", 1500), ("1 MiB", 1 << 20))
 }
+# The rows of the section on GCM: what was timed, and over how many blocks its time is told.
+GCM = {
+    "a key": ("GCM key", 1, 1),
+    "a message of 64 bytes": ("GCM, text", 64, 1),
+    "a message of 1,500 bytes": ("GCM, text", 1500, 1),
+    "16 KiB, a block": ("GCM, text", 16384, 1024),
+    "16 KiB of additional data, a block": ("GCM, additional data", 16384, 1024),
+}
 # The calls of the picture's panels.
 PICTURED = [("encrypt", 4096), ("encrypt", 1), ("key and block", 1)]
-# What is compared with peers that need no AES instructions and read no tables: calls and amounts.
-GROUPS = {
-    "one block": [("encrypt", 1), ("decrypt", 1)],
-    "2 to 16 blocks": [(call, n) for call in ("encrypt", "decrypt") for n in range(2, 17)],
-    "17 to 40 blocks": [(call, n) for call in ("encrypt", "decrypt") for n in range(17, 41)],
-    "64 to 4,096 blocks": [(call, n) for call in ("encrypt", "decrypt") for n in (64, 1024, 4096)],
-    "counter mode, 16 to 1,500 bytes": [("counter mode", n) for n in (*range(16, 257, 16), 320, 384, 512, 1024, 1500)],
-    "counter mode, 4 KiB to 1 MiB": [("counter mode", 1 << n) for n in (12, 14, 16, 20)],
-    "a key, both directions": [(BOTH_KEYS, 1)],
-}
-
-
-def is_shown(row):
-    """Whether the picture shows a row's engine. This library stands there as the two builds of the C library by LLVM:
-    not its other types, what the second compiler makes of it (which serves to check the first), and peers' code without
-    their calls around it."""
-    if row["peer"] == "this library":
-        return row["how"] in (BASE, AVX2)
-    return row["kind"] != "planted" and "alone" not in row["how"]
-
 
 def summary(rows, key=16):
     """The rows that the tables of docs/MEASUREMENTS.md and the picture are made from."""
@@ -83,7 +74,7 @@ def summary(rows, key=16):
         for r in rows
         if r["key_bytes"] == key
         and (
-            (is_shown(r) and (r["call"], r["amount"]) in PICTURED)
+            (r["kind"] != "planted" and ((r["call"], r["amount"]) in PICTURED or r["call"].startswith("GCM")))
             or ((r["peer"], r["how"]) in engines and (r["call"], r["amount"]) in calls)
         )
     ]
@@ -140,29 +131,6 @@ def of_run(rows, run):
             if all(ends):
                 its[key, BOTH_KEYS, 1] = ends[0] if how in (BASE, AVX2) else sum(ends)
     return of
-
-
-def beside(rows):
-    """For each group of calls the ratio to OpenSSL, and to the fastest peer, from the least to the most for each size
-    of keys."""
-    of = of_run([r for r in rows if r["kind"] in ("hybrid", "permutations")], CONSTANT_TIME)
-    ours = of["this library", BASE]
-    openssl = [its for (peer, how), its in of.items() if peer == "OpenSSL" and "alone" not in how]
-    peers = [its for (peer, how), its in of.items() if peer != "this library" and "alone" not in how]
-    lines = ["| | of OpenSSL's time | of the fastest peer's |", "|---|---|---|"]
-    for group, calls in GROUPS.items():
-        cells = []
-        for those in (openssl, peers):
-            sizes = []
-            for key in (16, 24, 32):
-                places = [(key, *it) for it in calls]
-                least = [min((its[it] for its in those if it in its), default=0) for it in places]
-                ratios = sorted(ours[it] / n for it, n in zip(places, least) if n)
-                ends = dict.fromkeys(f"{it:.2f}" for it in (*ratios[:1], *ratios[-1:])) or ["–"]
-                sizes.append(" to ".join(ends))
-            cells.append("; ".join(sizes))
-        lines.append(f"| {group} | {cells[0]} | {cells[1]} |")
-    return lines
 
 
 def slower_with_fewer(rows):
@@ -252,8 +220,7 @@ def published(where, rows, key=16):
         f"Measured by `evidence/speed/run`: {conditions}, beside {', '.join(shown)}. "
         "[summary.csv](../evidence/speed/summary.csv) has these times and those of the picture. A release's `speed.csv` "
         "has every time of the run: keys of 24 and 32 bytes, every count of blocks from 1 to 40, counter mode from "
-        "16 bytes on, the types of Rattle, three more libraries, and the build of the second compiler. That build is "
-        "for checking and not for speed, so the picture leaves it out."
+        "16 bytes on, and three more libraries."
     )
     heads = ["", "this library", "OpenSSL", "Botan", "Libgcrypt", "OpenSSL with AES instructions"]
     return meaning, tools.table(heads, *lines), how, measured
@@ -288,8 +255,42 @@ def published_avx2(where, rows, key=16):
     return meaning, tools.table(["", "of the first build", "of the fastest library"], *lines), measured
 
 
+def gcm(rows):
+    """The nanoseconds of each library's GCM: {(run, library): {(call, amount): nanoseconds}}. This library's are of the run without
+    AES instructions."""
+    names, found = {how: it for it, how in OURS.items()}, {}
+    for r in rows:
+        if r["call"].startswith("GCM") and r["kind"] != "planted":
+            who = names.get(r["how"], r["peer"])
+            found.setdefault((r["run"], who), {})[r["call"], r["amount"]] = r["nanoseconds"]
+    return found
+
+
+def published_gcm(where, rows):
+    """The section of docs/MEASUREMENTS.md on GCM: this library's time, and the others' divided by it."""
+    times = gcm(rows)
+    ours = {run: times[run, "this library"] for run in (CONSTANT_TIME, WITH_INSTRUCTIONS)}
+    peers = [it for it in PACKAGES.values() if (CONSTANT_TIME, it) in times]
+    columns = [(CONSTANT_TIME, it) for it in [*list(OURS)[1:], *peers]] + [(WITH_INSTRUCTIONS, "OpenSSL")]
+    lines = []
+    for title, (*call, blocks) in GCM.items():
+        call = tuple(call)
+        cells = [ratio(times[it][call] / ours[it[0]][call]) if it in times else "–" for it in columns]
+        lines.append([title, span(ours[CONSTANT_TIME][call] / blocks), *cells])
+    heads = ["", "this library", "for AVX2", *peers, "OpenSSL with AES instructions"]
+    return (
+        "The first column is the time of a call from C with a key of 16 bytes; the others are the time of the same "
+        "work divided by it, so below 1 is faster. All but the last may use no instructions for AES and for products "
+        "of polynomials. OpenSSL, Libgcrypt, Nettle and mbedtls then read tables at secret places; Botan and BearSSL "
+        "don't, nor does this library.",
+        tools.table(heads, *lines),
+        "![Time of GCM beside the libraries of Debian](../evidence/speed/gcm.svg)",
+        "These times are of the run above.",
+    )
+
+
 # The sections that a run writes, and what makes each.
-SECTIONS = {HEADING: published, HEADING_AVX2: published_avx2}
+SECTIONS = {HEADING: published, HEADING_AVX2: published_avx2, HEADING_GCM: published_gcm}
 
 
 def publish(where, rows):

@@ -8,7 +8,7 @@
 #include <unistd.h>
 #include <x86intrin.h>
 
-enum { MOST = 65536, ENGINES = 24, WHATS = 192, LONG = 1024, LONG_EVERY = 4 };
+enum { MOST = 65536, ENGINES = 24, WHATS = 192, LONG = 1024, LONG_EVERY = 4, BESIDE = 20 };
 static struct engine engines[ENGINES];
 static int count, refused[ENGINES], many[ENGINES], whats_made;
 static size_t rounds_made;
@@ -16,9 +16,12 @@ void add(const struct engine *engine) { engines[count++] = *engine; }
 
 /* What is timed, on so many blocks, or bytes of counter mode. What isn't for all engines is for those without tables
    that need no AES instructions. */
-enum call { ENCRYPT, DECRYPT, STREAM, KEY_AND_STREAM, KEY_ENCRYPT, KEY_DECRYPT, KEY_AND_BLOCK, WIPE };
+enum call {
+    ENCRYPT, DECRYPT, STREAM, KEY_AND_STREAM, KEY_ENCRYPT, KEY_DECRYPT, KEY_AND_BLOCK, GCM_KEY, SEAL, SEAL_BOTH, ADDITIONAL
+};
 static const char *const names[] = {"encrypt", "decrypt", "counter mode", "key and counter mode", "key for encryption",
-                                    "key for decryption", "key and block", "wipe of a batch's round keys"};
+                                    "key for decryption", "key and block", "GCM key",
+                                    "GCM, text", "GCM, text and 20 bytes beside", "GCM, additional data"};
 static struct what { enum call call; size_t amount; int for_all; } whats[WHATS];
 static void what(enum call call, size_t amount, int for_all) {
     whats[whats_made++] = (struct what){call, amount, for_all};
@@ -36,14 +39,19 @@ static void list(void) {
         what(STREAM, bytes[i], bytes[i] == 64 || bytes[i] == 1500 || bytes[i] == 1 << 20);
         what(KEY_AND_STREAM, bytes[i], bytes[i] == 1024 || bytes[i] == 65536);
     }
-    for (enum call it = KEY_ENCRYPT; it <= WIPE; it++) what(it, 1, 1);
+    for (enum call it = KEY_ENCRYPT; it <= GCM_KEY; it++) what(it, 1, 1);
+    what(SEAL, 64, 1);
+    what(SEAL_BOTH, 64, 1);
+    what(SEAL, 1500, 1);
+    what(SEAL, 16384, 1);
+    what(ADDITIONAL, 16384, 1);
 }
 static size_t blocks_of(const struct what *it) {
-    return it->call == STREAM || it->call == KEY_AND_STREAM ? (it->amount + 15) / 16 : it->amount;
+    return it->call == STREAM || it->call == KEY_AND_STREAM || it->call >= SEAL ? (it->amount + 15) / 16 : it->amount;
 }
-/* The least ticks of all turns of a call, and of what an engine that takes its key in each call needs for no turn. */
-static double best[3][ENGINES][WHATS], none[3][ENGINES][WHATS];
-static uint8_t data[16 * MOST] __attribute__((aligned(64))), key[32], iv[16];
+/* The least ticks of all turns of a call. */
+static double best[3][ENGINES][WHATS];
+static uint8_t data[16 * MOST] __attribute__((aligned(64))), key[32], iv[16], additional[16384], nonce[12], tag[16];
 
 static int can(int i, const struct what *it) {
     const struct engine *e = &engines[i];
@@ -53,15 +61,18 @@ static int can(int i, const struct what *it) {
     case DECRYPT: return e->decrypt != 0;
     case STREAM: return e->stream && e->keeps;
     case KEY_AND_STREAM: return e->stream != 0;
-    case WIPE: return e->wipe != 0;
-    default: return 1;
+    default: return it->call < GCM_KEY ? e->key_encrypt != 0 : e->seal != 0;
     }
 }
 static uint32_t turns_of(const struct what *it) {
     size_t blocks = blocks_of(it);
-    return it->call >= KEY_ENCRYPT ? 16 : blocks >= 64 ? 1 : (uint32_t)(64 / blocks);
+    return it->call >= KEY_ENCRYPT && blocks < 64 ? 16 : blocks >= 64 ? 1 : (uint32_t)(64 / blocks);
 }
 
+static void seal(const struct engine *e, size_t extra, size_t length) {
+    nonce[5]++;
+    e->seal(&(struct message){nonce, additional, extra, length, data, tag});
+}
 static void call(const struct engine *e, const struct what *it, size_t bytes) {
     switch (it->call) {
     case ENCRYPT: e->encrypt(data, it->amount); break;
@@ -71,55 +82,41 @@ static void call(const struct engine *e, const struct what *it, size_t bytes) {
     case KEY_ENCRYPT: key[7]++; e->key_encrypt(key, bytes); break;
     case KEY_DECRYPT: key[7]++; e->key_decrypt(key, bytes); break;
     case KEY_AND_BLOCK: key[7]++; e->key_encrypt(key, bytes); e->encrypt(data, 1); break;
-    case WIPE: e->wipe(bytes); break;
+    case GCM_KEY: key[7]++; e->gcm_key(key); break;
+    case SEAL: seal(e, 0, it->amount); break;
+    case SEAL_BOTH: seal(e, BESIDE, it->amount); break;
+    case ADDITIONAL: seal(e, it->amount, 0); break;
     }
-}
-/* So many turns of a call. An engine that takes its key in each call takes it once for all turns on blocks. */
-static void turn(const struct engine *e, const struct what *it, size_t bytes, uint32_t turns) {
-    int back = it->call == DECRYPT || it->call == KEY_DECRYPT;
-    if (!e->times || it->call == KEY_AND_STREAM) {
-        for (uint32_t t = 0; t < turns; t++) call(e, it, bytes);
-    } else if (it->call >= KEY_ENCRYPT) {
-        for (uint32_t t = 0; t < turns; t++) {
-            key[7]++;
-            e->times(key, bytes, back, it->call == KEY_AND_BLOCK, data, 1);
-        }
-    } else {
-        e->times(key, bytes, back, turns, data, it->amount);
-    }
-}
-static void least(double *of, const struct engine *e, const struct what *it, size_t bytes, uint32_t turns) {
-    unsigned core;
-    _mm_lfence();
-    uint64_t start = __rdtscp(&core);
-    turn(e, it, bytes, turns);
-    uint64_t end = __rdtscp(&core);
-    _mm_lfence();
-    double ticks = (double)(end - start);
-    if (!*of || ticks < *of) *of = ticks;
 }
 static void measure(int i, int w, int size) {
     struct engine *e = &engines[i];
     size_t bytes = 16 + 8 * (size_t)size;
-    e->key_encrypt(key, bytes);
-    e->key_decrypt(key, bytes);
+    if (whats[w].call >= GCM_KEY) {
+        e->gcm_key(key);
+    } else {
+        e->key_encrypt(key, bytes);
+        e->key_decrypt(key, bytes);
+    }
     if (whats[w].call == STREAM) e->stream(key, bytes, iv, data, 16);
     call(e, &whats[w], bytes);
-    least(&best[size][i][w], e, &whats[w], bytes, turns_of(&whats[w]));
-    if (e->times && whats[w].call <= DECRYPT) least(&none[size][i][w], e, &whats[w], bytes, 0);
+    unsigned core;
+    _mm_lfence();
+    uint64_t start = __rdtscp(&core);
+    for (uint32_t t = 0; t < turns_of(&whats[w]); t++) call(e, &whats[w], bytes);
+    uint64_t end = __rdtscp(&core);
+    _mm_lfence();
+    double ticks = (double)(end - start) / turns_of(&whats[w]), *of = &best[size][i][w];
+    if (!*of || ticks < *of) *of = ticks;
 }
 static void one_round(void) {
     size_t round = rounds_made++;
     for (int size = 0; size < 3; size++)
         for (int w = 0; w < whats_made; w++)
-            for (int i = 0; i < count; i++)
+            /* GCM is timed with keys of 16 bytes. */
+            for (int i = 0; i < count && (size == 0 || whats[w].call < GCM_KEY); i++)
                 if (!refused[i] && can(i, &whats[w]) && (blocks_of(&whats[w]) < LONG || round % LONG_EVERY == 0))
                     measure(i, w, size);
 }
-static double ticks_a_call(int size, int i, int w) {
-    return (best[size][i][w] - none[size][i][w]) / turns_of(&whats[w]);
-}
-
 /* An engine is refused whose answers are not this library's, which are the standard's by its proof and by
    ../known-answers. BearSSL's stand-ins are compared as what they are. */
 static int right(const struct engine *e, size_t bytes) {
@@ -161,6 +158,22 @@ static int right(const struct engine *e, size_t bytes) {
     return 1;
 }
 
+/* The same for GCM, on texts and additional data of several lengths. */
+static int seals_right(const struct engine *e) {
+    static const size_t sizes[] = {0, 1, 16, 100, 1500};
+    static uint8_t ours[1500], theirs[1500];
+    uint8_t made[16];
+    for (int i = 0; i < 25; i++) {
+        for (size_t at = 0; at < sizeof ours; at++) ours[at] = theirs[at] = (uint8_t)(at * 31 + (at >> 4) * 7);
+        engines[0].gcm_key(key);
+        engines[0].seal(&(struct message){nonce, additional, sizes[i / 5], sizes[i % 5], ours, tag});
+        e->gcm_key(key);
+        e->seal(&(struct message){nonce, additional, sizes[i / 5], sizes[i % 5], theirs, made});
+        if (memcmp(ours, theirs, sizeof ours) || memcmp(tag, made, 16)) return 0;
+    }
+    return 1;
+}
+
 /* The rows of an engine. */
 static void print_rows(int i) {
     const struct engine *e = &engines[i];
@@ -169,7 +182,7 @@ static void print_rows(int i) {
         for (int w = 0; w < whats_made; w++) {
             if (!best[size][i][w]) continue;
             printf("row\t%s\t%s\t%s\t%d\t%s\t", e->name, e->how, e->kind, 16 + 8 * size, names[whats[w].call]);
-            printf("%zu\t%.2f\n", whats[w].amount, ticks_a_call(size, i, w));
+            printf("%zu\t%.2f\n", whats[w].amount, best[size][i][w]);
         }
 }
 
@@ -178,13 +191,12 @@ int main(int argc, char **argv) {
     for (int i = 0; i < 32; i++) key[i] = (uint8_t)(i * 29 + 3);
     for (int i = 0; i < 16; i++) iv[i] = (uint8_t)(0xf0 + i);
     iv[12] = 0;
+    for (size_t i = 0; i < sizeof additional; i++) additional[i] = (uint8_t)(i * 29 + i / 256);
+    memcpy(nonce, additional + 50, sizeof nonce);
     list();
     add_library(run);
 #ifdef AVX2
     add_library_for_avx2(run);
-#endif
-#ifdef RATTLE
-    add_library_by_rattle(run);
 #endif
 #ifdef OPENSSL
     add_openssl(run);
@@ -207,10 +219,11 @@ int main(int argc, char **argv) {
     for (int i = 0; i < count; i++) {
         const struct engine *e = &engines[i];
         int without_tables = !strcmp(e->kind, "hybrid") || !strcmp(e->kind, "permutations");
-        many[i] = run == NO_AES && without_tables && !strstr(e->how, "second");
+        many[i] = run == NO_AES && without_tables;
     }
     for (int i = 0; i < count; i++)
-        for (size_t bytes = 16; bytes <= 32; bytes += 8) if (!right(&engines[i], bytes)) refused[i] = 1;
+        for (size_t bytes = 16; bytes <= 32; bytes += 8)
+            refused[i] |= !right(&engines[i], bytes) || (engines[i].seal && !seals_right(&engines[i]));
     struct timespec t0, t1;
     clock_gettime(CLOCK_MONOTONIC, &t0);
     uint64_t c0 = __rdtsc();
