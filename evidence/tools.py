@@ -291,11 +291,11 @@ def briefly(where):
     return ", ".join([day, load, *rest])
 
 
-def compiled(source, name, archive, *more):
-    """A program of one C file and an archive."""
+def compiled(source, name, archive, *more, after=()):
+    """A program of one C file and archives."""
     made = ROOM / f"{source.parent.name}-{source.stem}-{name}"
     flags = ["-std=gnu11", "-O2", "-Wall", "-Wextra", "-Wl,-z,now", f"-I{TOP / 'dist/include'}", *more]
-    run(["cc", *flags, "-o", made, source, archive], source.name)
+    run(["cc", *flags, "-o", made, source, archive, *after], source.name)
     return made
 
 

@@ -16,13 +16,13 @@ NUMBERS = {"u32": "uint32_t", "u64": "uint64_t"}
 KEYS = [key for key, _, _ in SIZES.values()]
 SLICES = range(18)
 
-C = "fotsgure_aes_"
+C, GCM = "fotsgure_aes_", "fotsgure_gcm_"
 WANTED = "".join(sys.argv[1:])
 declared, body = {}, []
 
 
-def call(name, *args, label="", returns=None, wanted="clean", told=0):
-    """A call of an export. An argument is ('s', bytes) and the like, or with a third number a slice of so many
+def call(name, *args, label="", returns=None, wanted="clean", told=0, first=""):
+    """A call of an export, after what is to be done first. An argument is ('s', bytes) and the like, or with a third number a slice of so many
     elements; ('u32', n) is a number. What the kinds mean is said in harness.c."""
     if not name.startswith(WANTED):
         return
@@ -39,13 +39,13 @@ def call(name, *args, label="", returns=None, wanted="clean", told=0):
             types.append("size_t")
             passed.append(str(arg[2]))
     result = "void" if returns is None else "uint32_t"
-    # The header declares the calls of the C library.
-    if not name.startswith(C):
+    # Headers declare the calls of the C libraries.
+    if not name.startswith((C, GCM)):
         line = f"{result} {name}({', '.join(types)});"
         assert declared.setdefault(name, line) == line, name
     title = f"{name} {label}".strip()
     keep = "" if result == "void" else "answer = "
-    lines += ["uint64_t answer = 0;", f'begin("{title}");', f"{keep}{name}({', '.join(passed)});"]
+    lines += [first, "uint64_t answer = 0;", f'begin("{title}");', f"{keep}{name}({', '.join(passed)});"]
     lines += [f'end("{title}", "{wanted}", answer, {returns or 0}, {told});']
     body.append("    { " + " ".join(lines) + " }")
 
@@ -85,10 +85,6 @@ for crate, direction in itertools.product(CRATES, ENDS):
             name, ("s", key + 1, key + 1), ("u32", 2), blocks("s", 9), blocks("p", 9),
             label=f"Aes{size}{end} refused key", returns=0, wanted="empty",
         )
-    for key in KEYS:
-        for n in (1, 11):
-            name = f"ev_{crate}_{direction}_times"
-            call(name, ("s", key, key), ("u32", 3), blocks("b", n), label=f"{8 * key} {n}")
 for crate in CRATES:
     for size, (key, _, _) in SIZES.items():
         for way, what in enumerate(OTHERS):
@@ -228,6 +224,78 @@ for direction in ("encrypt", "decrypt"):
     )
 call(f"{C}add_keystream", ("k", 16), ("c", f"{2**64 - 9}u"), ("p", 9, 9), label="end", returns=END, wanted="empty")
 call(f"{C}wipe", ("z", STRUCT))
+
+# The calls of the library of GCM. A 'g' is a struct that holds a secret key. One thing is told of a tag: whether it is
+# right; and with another nonce than one of 12 bytes, whether the counter wraps within the text.
+GCM_STRUCT, MESSAGE = "sizeof(struct fotsgure_gcm)", "sizeof(struct fotsgure_gcm_message)"
+NONCE_LENGTH, TAG_LENGTH = 3, 4
+LENGTHS = (0, 1, 15, 16, 17, 31, 47, 48, 49, 64, 113, 127, 128, 129, 255, 700, 1024, 4096, 4111)
+
+
+def message(kept, nonce, extra, n, wraps, of):
+    """A message sealed, opened, and refused."""
+    given = (kept, nonce, ("s", extra, extra))
+    call(f"{GCM}seal", *given, ("b", n, n), ("o", 16), label=of, returns=DONE, told=wraps)
+    for wrong in (0, 1):
+        first = f"sealed(x0, x1, {nonce[2]}, x2, {extra}, x3, {n}, x4, {wrong});"
+        call(
+            f"{GCM}open", *given, ("u" if wrong else "b", n, n), ("s", 16, 16), label=f"{of}{' refused' * wrong}",
+            returns=REFUSED if wrong else DONE, told=1 + (wraps if not wrong else 0), first=first,
+            wanted="clean" if n else "empty",
+        )
+
+
+call(f"{GCM}version", returns="FOTSGURE_GCM_VERSION", wanted="empty")
+call(f"{GCM}wipe", ("z", GCM_STRUCT))
+call(f"{GCM}wipe_message", ("z", MESSAGE))
+for key in KEYS:
+    call(f"{GCM}set_key", ("t", GCM_STRUCT), ("s", key, key), label=str(8 * key), returns=DONE)
+    call(f"{GCM}set_key", ("z", GCM_STRUCT), ("s", key + 1, key + 1), label=f"{8 * key} refused", returns=KEY_LENGTH)
+    call(f"{GCM}key_length", ("g", key), label=str(8 * key), returns=key, wanted="empty")
+    for i, n in enumerate(LENGTHS):
+        for extra in (LENGTHS[(5 * i + 4 * k) % len(LENGTHS)] for k in range(5)):
+            message(("g", key), ("p", 12, 12), extra, n, 0, f"{key} 12 {extra}+{n}")
+        call(
+            f"{GCM}seal_next", ("g", key), ("p", 12), ("p", 12), ("s", n, n), ("b", n, n), ("o", 16),
+            label=f"{key} 12 {n}+{n}", returns=DONE,
+        )
+    for (i, nonce), k in itertools.product(enumerate((1, 8, 11, 13, 16, 60)), range(4)):
+        n = LENGTHS[i + 3 * k]
+        message(("g", key), ("p", nonce, nonce), 20, n, int(n > 0), f"{key} {nonce} 20+{n}")
+    for nonce in (12, 8):
+        of, kept, wraps = f"{key} {nonce} pieces", ("g", key), int(nonce != 12)
+        started = f"started(x0, x1, {nonce}, %d, %d, %s, %s);"
+        call(f"{GCM}begin", kept, ("p", MESSAGE), ("p", nonce, nonce), label=of, returns=DONE, wanted="empty")
+        call(f"{GCM}begin_next", kept, ("p", MESSAGE), ("p", 12), ("p", 12), label=of, returns=DONE, wanted="empty")
+        first = started % (0, 0, "BEGUN", 0)
+        call(f"{GCM}additional", kept, ("t", MESSAGE), ("s", 20, 20), label=of, returns=DONE, first=first)
+        for n in (1, 4, 13, 40, 121, 364):
+            for come in (0, 5, 130):
+                at = f"{of} {come}+{n}"
+                for does, phase, kind, told in (
+                    ("encrypt", "ENCRYPTED", "b", wraps), ("verify", "VERIFIED", "s", 0),
+                    ("decrypt", "DECRYPTED", "b", wraps), ("decrypt_unverified", "VERIFIED", "b", wraps),
+                ):
+                    first = started % (come, n, phase, 0)
+                    call(f"{GCM}{does}", kept, ("t", MESSAGE), (kind, n, n), label=at, returns=DONE, told=told, first=first)
+            first = started % (n, 0, "ENCRYPTED", 0)
+            call(f"{GCM}finish", kept, ("z", MESSAGE), ("o", 16), label=f"{of} {n}", returns=DONE, first=first)
+            first = started % (n, 0, "VERIFIED", "x2")
+            given = kept, ("t", MESSAGE), ("s", 16, 16)
+            call(f"{GCM}accept", *given, label=f"{of} {n}", returns=DONE, told=1, first=first)
+            call(
+                f"{GCM}accept_short", kept, ("t", MESSAGE), ("u64", 12), ("s", 16, 12), label=f"{of} {n}", returns=DONE, told=1,
+                first=started % (n, 0, "VERIFIED", "x3"),
+            )
+            call(
+                f"{GCM}accept", kept, ("p", MESSAGE), ("s", 16, 16), label=f"{of} {n} refused", returns=REFUSED, told=1,
+                first=started % (n, 0, "VERIFIED", 0), wanted="empty",
+            )
+for number, n in itertools.product(range(2), range(1, 400, 13)):
+    message(("w", 0), ("v", number, 16), 20, n, 0, f"wraps 16 20+{n} {number}")
+given = ("g", 16), ("p", 12, 0), ("s", 20, 20), ("u", 40, 40)
+call(f"{GCM}seal", *given, ("p", 16), label="no nonce", returns=NONCE_LENGTH)
+call(f"{GCM}open", ("g", 16), ("p", 12, 12), *given[2:], ("s", 16, 15), label="16 12 short tag", returns=TAG_LENGTH)
 
 # Wipes.
 for word, width in (("u16", 2), ("u32", 4), ("u64", 8)):
