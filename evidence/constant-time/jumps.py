@@ -6,12 +6,10 @@ public numbers their jumps test. Addresses, registers and the order of the code 
 every edit of the library.
 """
 import fnmatch
-import pathlib
 import re
 
 import tools
 
-HERE = pathlib.Path(__file__).resolve().parent
 # The program and its engine read digits and names by tables and branches, and say so; the rest is the library and its
 # callers.
 OTHERS = ("aes_kat", "hex::", "ev_reply", "evidence_exports::program", "core::cmp::slices::groups_equal")
