@@ -30,6 +30,11 @@ EITHER(enum fotsgure_aes_status, fotsgure_aes_wrap, (const struct fotsgure_aes *
     size_t input_count, uint8_t *output, size_t output_count), (aes, input, input_count, output, output_count))
 EITHER(enum fotsgure_aes_status, fotsgure_aes_unwrap, (const struct fotsgure_aes *aes, const uint8_t *input,
     size_t input_count, uint8_t *output, size_t output_count), (aes, input, input_count, output, output_count))
+EITHER(enum fotsgure_aes_status, fotsgure_aes_wrap_padded, (const struct fotsgure_aes *aes, const uint8_t *input,
+    size_t input_length, uint8_t *output, size_t output_count), (aes, input, input_length, output, output_count))
+EITHER(enum fotsgure_aes_status, fotsgure_aes_unwrap_padded, (const struct fotsgure_aes *aes, const uint8_t *input,
+    size_t input_count, uint8_t *output, size_t output_count, size_t *key_length), (aes, input, input_count, output,
+    output_count, key_length))
 EITHER(enum fotsgure_aes_status, fotsgure_aes_encrypt_blocks_with, (const uint8_t *key, size_t key_length,
     uint8_t *blocks, size_t count), (key, key_length, blocks, count))
 EITHER(enum fotsgure_aes_status, fotsgure_aes_decrypt_blocks_with, (const uint8_t *key, size_t key_length,
