@@ -116,20 +116,11 @@ fn refuses_what_is_out_of_turn(rt: HostRuntime) {
     let mut message: Message = Zeroize::zero();
     let mut text = MESSAGE_16.plain;
     let mut tag = [0; 16];
-    assert_eq!(rt;
-        fotsgure_gcm_begin(&gcm, &mut message, &MESSAGE_16.nonce),
-        NO_KEY
-    );
-    assert_eq!(rt; fotsgure_gcm_set_key(&mut gcm, &MESSAGE_16.key), DONE);
-    assert_eq!(rt; fotsgure_gcm_begin(&gcm, &mut message, &[]), NONCE_LENGTH);
-    assert_eq!(rt;
-        fotsgure_gcm_additional(&gcm, &mut message, &[1]),
-        OUT_OF_TURN
-    );
-    assert_eq!(rt;
-        fotsgure_gcm_encrypt(&gcm, &mut message, &mut text),
-        OUT_OF_TURN
-    );
+    assert!(rt; fotsgure_gcm_begin(&gcm, &mut message, &MESSAGE_16.nonce) == NO_KEY);
+    assert!(rt; fotsgure_gcm_set_key(&mut gcm, &MESSAGE_16.key) == DONE);
+    assert!(rt; fotsgure_gcm_begin(&gcm, &mut message, &[]) == NONCE_LENGTH);
+    assert!(rt; fotsgure_gcm_additional(&gcm, &mut message, &[1]) == OUT_OF_TURN);
+    assert!(rt; fotsgure_gcm_encrypt(&gcm, &mut message, &mut text) == OUT_OF_TURN);
     assert!(rt;
         begins(
             &gcm,
@@ -139,23 +130,14 @@ fn refuses_what_is_out_of_turn(rt: HostRuntime) {
             48
         )
     );
-    assert_eq!(rt; fotsgure_gcm_encrypt(&gcm, &mut message, &mut text), DONE);
-    assert_eq!(rt;
-        fotsgure_gcm_additional(&gcm, &mut message, &[1]),
-        OUT_OF_TURN
-    );
-    assert_eq!(rt; fotsgure_gcm_verify(&gcm, &mut message, &text), OUT_OF_TURN);
-    assert_eq!(rt; fotsgure_gcm_accept(&gcm, &mut message, &tag), OUT_OF_TURN);
-    assert_eq!(rt; fotsgure_gcm_finish(&gcm, &mut message, &mut tag), DONE);
-    assert_eq!(rt; u128::from_be_bytes(tag), MESSAGE_16.tag);
-    assert_eq!(rt;
-        fotsgure_gcm_encrypt(&gcm, &mut message, &mut text),
-        OUT_OF_TURN
-    );
-    assert_eq!(rt;
-        fotsgure_gcm_finish(&gcm, &mut message, &mut tag),
-        OUT_OF_TURN
-    );
+    assert!(rt; fotsgure_gcm_encrypt(&gcm, &mut message, &mut text) == DONE);
+    assert!(rt; fotsgure_gcm_additional(&gcm, &mut message, &[1]) == OUT_OF_TURN);
+    assert!(rt; fotsgure_gcm_verify(&gcm, &mut message, &text) == OUT_OF_TURN);
+    assert!(rt; fotsgure_gcm_accept(&gcm, &mut message, &tag) == OUT_OF_TURN);
+    assert!(rt; fotsgure_gcm_finish(&gcm, &mut message, &mut tag) == DONE);
+    assert!(rt; u128::from_be_bytes(tag) == MESSAGE_16.tag);
+    assert!(rt; fotsgure_gcm_encrypt(&gcm, &mut message, &mut text) == OUT_OF_TURN);
+    assert!(rt; fotsgure_gcm_finish(&gcm, &mut message, &mut tag) == OUT_OF_TURN);
     assert!(rt; text == MESSAGE_16.cipher);
 }
 
@@ -169,30 +151,20 @@ fn begins_under_the_next_nonce(rt: HostRuntime) {
     let mut nonce = [0; 12];
     let mut text = MESSAGE_16.plain;
     let mut tag = [0; 16];
-    assert_eq!(rt;
-        fotsgure_gcm_begin_next(&gcm, &mut message, &mut counter, &mut nonce),
-        NO_KEY
-    );
-    assert_eq!(rt; fotsgure_gcm_set_key(&mut gcm, &MESSAGE_16.key), DONE);
-    assert_eq!(rt;
-        fotsgure_gcm_begin_next(&gcm, &mut message, &mut counter, &mut nonce),
-        DONE
-    );
+    assert!(rt; fotsgure_gcm_begin_next(&gcm, &mut message, &mut counter, &mut nonce) == NO_KEY);
+    assert!(rt; fotsgure_gcm_set_key(&mut gcm, &MESSAGE_16.key) == DONE);
+    assert!(rt; fotsgure_gcm_begin_next(&gcm, &mut message, &mut counter, &mut nonce) == DONE);
     assert!(rt; nonce == MESSAGE_16.nonce);
     // The last byte of that nonce is 0xc7.
     nonce[11] = 0xc8;
     assert!(rt; counter.next == nonce);
-    assert_eq!(rt;
-        fotsgure_gcm_additional(&gcm, &mut message, &MESSAGE_16.additional),
-        DONE
-    );
-    assert_eq!(rt; fotsgure_gcm_encrypt(&gcm, &mut message, &mut text), DONE);
-    assert_eq!(rt; fotsgure_gcm_finish(&gcm, &mut message, &mut tag), DONE);
+    assert!(rt; fotsgure_gcm_additional(&gcm, &mut message, &MESSAGE_16.additional) == DONE);
+    assert!(rt; fotsgure_gcm_encrypt(&gcm, &mut message, &mut text) == DONE);
+    assert!(rt; fotsgure_gcm_finish(&gcm, &mut message, &mut tag) == DONE);
     assert!(rt; text == MESSAGE_16.cipher && tag == MESSAGE_16.tag.to_be_bytes());
     counter.next = [0xff; 12];
-    assert_eq!(rt;
-        fotsgure_gcm_begin_next(&gcm, &mut message, &mut counter, &mut nonce),
-        NONCES_END
+    assert!(rt;
+        fotsgure_gcm_begin_next(&gcm, &mut message, &mut counter, &mut nonce) == NONCES_END
     );
 }
 
@@ -203,28 +175,16 @@ fn accepts_short_tags_of_the_fixed_length(rt: HostRuntime) {
     let mut text = MESSAGE_16.cipher;
     let mut tag = MESSAGE_16.tag.to_be_bytes();
     let nonce = MESSAGE_16.nonce;
-    assert_eq!(rt; fotsgure_gcm_set_key(&mut gcm, &MESSAGE_16.key), DONE);
+    assert!(rt; fotsgure_gcm_set_key(&mut gcm, &MESSAGE_16.key) == DONE);
     assert!(rt; begins(&gcm, &mut message, &nonce, &MESSAGE_16.additional, 48));
-    assert_eq!(rt; fotsgure_gcm_verify(&gcm, &mut message, &text), DONE);
-    assert_eq!(rt;
-        fotsgure_gcm_accept_short(&gcm, &mut message, 12, &tag[..8]),
-        TAG_LENGTH
-    );
-    assert_eq!(rt;
-        fotsgure_gcm_accept_short(&gcm, &mut message, 16, &tag),
-        TAG_LENGTH
-    );
+    assert!(rt; fotsgure_gcm_verify(&gcm, &mut message, &text) == DONE);
+    assert!(rt; fotsgure_gcm_accept_short(&gcm, &mut message, 12, &tag[..8]) == TAG_LENGTH);
+    assert!(rt; fotsgure_gcm_accept_short(&gcm, &mut message, 16, &tag) == TAG_LENGTH);
     tag[11] ^= 1;
-    assert_eq!(rt;
-        fotsgure_gcm_accept_short(&gcm, &mut message, 12, &tag[..12]),
-        REFUSED
-    );
+    assert!(rt; fotsgure_gcm_accept_short(&gcm, &mut message, 12, &tag[..12]) == REFUSED);
     tag[11] ^= 1;
-    assert_eq!(rt;
-        fotsgure_gcm_accept_short(&gcm, &mut message, 12, &tag[..12]),
-        DONE
-    );
-    assert_eq!(rt; fotsgure_gcm_decrypt(&gcm, &mut message, &mut text), DONE);
+    assert!(rt; fotsgure_gcm_accept_short(&gcm, &mut message, 12, &tag[..12]) == DONE);
+    assert!(rt; fotsgure_gcm_decrypt(&gcm, &mut message, &mut text) == DONE);
     assert!(rt; text == MESSAGE_16.plain);
 }
 
@@ -235,7 +195,7 @@ fn gives_out_nothing_of_a_refused_message(rt: HostRuntime) {
     let mut text = MESSAGE_16.cipher;
     let tag = MESSAGE_16.tag.to_be_bytes();
     let other = (MESSAGE_16.tag ^ 1).to_be_bytes();
-    assert_eq!(rt; fotsgure_gcm_set_key(&mut gcm, &MESSAGE_16.key), DONE);
+    assert!(rt; fotsgure_gcm_set_key(&mut gcm, &MESSAGE_16.key) == DONE);
     assert!(rt;
         begins(
             &gcm,
@@ -245,28 +205,16 @@ fn gives_out_nothing_of_a_refused_message(rt: HostRuntime) {
             48
         )
     );
-    assert_eq!(rt; fotsgure_gcm_verify(&gcm, &mut message, &text), DONE);
-    assert_eq!(rt;
-        fotsgure_gcm_decrypt(&gcm, &mut message, &mut text),
-        OUT_OF_TURN
-    );
-    assert_eq!(rt;
-        fotsgure_gcm_accept(&gcm, &mut message, &tag[..15]),
-        TAG_LENGTH
-    );
-    assert_eq!(rt; fotsgure_gcm_accept(&gcm, &mut message, &other), REFUSED);
-    assert_eq!(rt;
-        fotsgure_gcm_decrypt(&gcm, &mut message, &mut text),
-        OUT_OF_TURN
-    );
+    assert!(rt; fotsgure_gcm_verify(&gcm, &mut message, &text) == DONE);
+    assert!(rt; fotsgure_gcm_decrypt(&gcm, &mut message, &mut text) == OUT_OF_TURN);
+    assert!(rt; fotsgure_gcm_accept(&gcm, &mut message, &tag[..15]) == TAG_LENGTH);
+    assert!(rt; fotsgure_gcm_accept(&gcm, &mut message, &other) == REFUSED);
+    assert!(rt; fotsgure_gcm_decrypt(&gcm, &mut message, &mut text) == OUT_OF_TURN);
     assert!(rt; text == MESSAGE_16.cipher);
-    assert_eq!(rt; fotsgure_gcm_accept(&gcm, &mut message, &tag), DONE);
-    assert_eq!(rt; fotsgure_gcm_decrypt(&gcm, &mut message, &mut text), DONE);
+    assert!(rt; fotsgure_gcm_accept(&gcm, &mut message, &tag) == DONE);
+    assert!(rt; fotsgure_gcm_decrypt(&gcm, &mut message, &mut text) == DONE);
     assert!(rt; text == MESSAGE_16.plain);
-    assert_eq!(rt;
-        fotsgure_gcm_decrypt(&gcm, &mut message, &mut [0]),
-        TOO_LONG
-    );
+    assert!(rt; fotsgure_gcm_decrypt(&gcm, &mut message, &mut [0]) == TOO_LONG);
     fotsgure_gcm_wipe(&mut gcm);
-    assert_eq!(rt; fotsgure_gcm_decrypt(&gcm, &mut message, &mut [0]), NO_KEY);
+    assert!(rt; fotsgure_gcm_decrypt(&gcm, &mut message, &mut [0]) == NO_KEY);
 }

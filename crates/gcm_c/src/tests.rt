@@ -89,16 +89,10 @@ fn seals_under_a_nonce_of_one_byte(rt: HostRuntime) {
     let mut text = MESSAGE_24.plain;
     let mut tag = [0; 16];
     let (nonce, additional) = (MESSAGE_24.nonce, MESSAGE_24.additional);
-    assert_eq!(rt; fotsgure_gcm_set_key(&mut gcm, &MESSAGE_24.key), DONE);
-    assert_eq!(rt;
-        fotsgure_gcm_seal(&gcm, &nonce, &additional, &mut text, &mut tag),
-        DONE
-    );
+    assert!(rt; fotsgure_gcm_set_key(&mut gcm, &MESSAGE_24.key) == DONE);
+    assert!(rt; fotsgure_gcm_seal(&gcm, &nonce, &additional, &mut text, &mut tag) == DONE);
     assert!(rt; text == MESSAGE_24.cipher && tag == MESSAGE_24.tag.to_be_bytes());
-    assert_eq!(rt;
-        fotsgure_gcm_open(&gcm, &nonce, &additional, &mut text, &tag),
-        DONE
-    );
+    assert!(rt; fotsgure_gcm_open(&gcm, &nonce, &additional, &mut text, &tag) == DONE);
     assert!(rt; text == MESSAGE_24.plain);
 }
 
@@ -112,8 +106,8 @@ fn seals_under_the_next_nonce(rt: HostRuntime) {
     let mut text = MESSAGE_16.plain;
     let mut tag = [0; 16];
     let additional = MESSAGE_16.additional;
-    assert_eq!(rt; fotsgure_gcm_set_key(&mut gcm, &MESSAGE_16.key), DONE);
-    assert_eq!(rt;
+    assert!(rt; fotsgure_gcm_set_key(&mut gcm, &MESSAGE_16.key) == DONE);
+    assert!(rt;
         fotsgure_gcm_seal_next(
             &gcm,
             &mut counter,
@@ -121,8 +115,7 @@ fn seals_under_the_next_nonce(rt: HostRuntime) {
             &additional,
             &mut text,
             &mut tag
-        ),
-        DONE
+        ) == DONE
     );
     assert!(rt; text == MESSAGE_16.cipher && tag == MESSAGE_16.tag.to_be_bytes());
     assert!(rt; nonce == MESSAGE_16.nonce);
@@ -135,21 +128,12 @@ fn seals_under_the_next_nonce(rt: HostRuntime) {
 fn refuses_other_lengths_and_structs_without_a_key(rt: HostRuntime) {
     let mut gcm = no_key();
     let mut tag = [0; 16];
-    assert_eq!(rt; fotsgure_gcm_set_key(&mut gcm, &KEY[..31]), KEY_LENGTH);
-    assert_eq!(rt; fotsgure_gcm_set_key(&mut gcm, &KEY[..24]), DONE);
-    assert_eq!(rt;
-        fotsgure_gcm_seal(&gcm, &[], &[], &mut [1], &mut tag),
-        NONCE_LENGTH
-    );
-    assert_eq!(rt;
-        fotsgure_gcm_open(&gcm, &NONCE, &[], &mut [1], &KEY[..15]),
-        TAG_LENGTH
-    );
+    assert!(rt; fotsgure_gcm_set_key(&mut gcm, &KEY[..31]) == KEY_LENGTH);
+    assert!(rt; fotsgure_gcm_set_key(&mut gcm, &KEY[..24]) == DONE);
+    assert!(rt; fotsgure_gcm_seal(&gcm, &[], &[], &mut [1], &mut tag) == NONCE_LENGTH);
+    assert!(rt; fotsgure_gcm_open(&gcm, &NONCE, &[], &mut [1], &KEY[..15]) == TAG_LENGTH);
     fotsgure_gcm_wipe(&mut gcm);
-    assert_eq!(rt; fotsgure_gcm_key_length(&gcm), 0);
-    assert_eq!(rt;
-        fotsgure_gcm_seal(&gcm, &NONCE, &[], &mut [1], &mut tag),
-        NO_KEY
-    );
-    assert_eq!(rt; fotsgure_gcm_version(), VERSION);
+    assert!(rt; fotsgure_gcm_key_length(&gcm) == 0);
+    assert!(rt; fotsgure_gcm_seal(&gcm, &NONCE, &[], &mut [1], &mut tag) == NO_KEY);
+    assert!(rt; fotsgure_gcm_version() == VERSION);
 }
