@@ -8,7 +8,7 @@ use Rattle.std.proofs.lemmas.List.Elements.{All-append}
 use Rattle.std.specs.List.{flat_map, list_any}
 use Rattle.std.specs.Io.KnownBytes.{Appends, Consumes, IsAtEnd}
 use Rattle.std.proofs.KnownBytes.{Appends-trans, Consumes-trans, Consumes-whole}
-use Rattle.aes_kat.specs.declared.engine.Failed.{Failed}
+use Rattle.aes_kat.specs.declared.runs.Failed.{Failed}
 use Rattle.aes_kat.specs.Lines.{Lacks, lines_of}
 use Rattle.aes_kat.specs.Reply.{reply_to, is_fault}
 use Rattle.aes_kat.specs.Answers.{answers_to, has_fault, AppendsBeginning, Runs}

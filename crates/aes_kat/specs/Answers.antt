@@ -2,7 +2,7 @@
 use Rattle.std.specs.Prelude.{ℕ, List, [], ◌∷◌, ◌++◌, ◌≡◌, Bool, Option, Result, Ok, Err, IfSome}
 use Rattle.std.specs.List.{flat_map, list_any}
 use Rattle.std.specs.Io.KnownBytes.{Appends, IsAtEnd}
-use Rattle.aes_kat.specs.declared.engine.Failed.{Failed}
+use Rattle.aes_kat.specs.declared.runs.Failed.{Failed}
 use Rattle.aes_kat.specs.Lines.{lines_of}
 use Rattle.aes_kat.specs.Reply.{reply_to, is_fault}
 

@@ -10,9 +10,9 @@ use Rattle.aes_planes.specs.Fips197 as fips
 use Rattle.aes_planes.specs.SingleRounds.{cipher_round, equiv_inv_cipher_round}
 use Rattle.aes_kat.specs.declared.faults.Fault.{Fault}
 use Rattle.aes_kat.specs.declared.faults.Fault.TheVariants as fault
-use Rattle.aes_kat.specs.declared.commands.Command.{Command}
-use Rattle.aes_kat.specs.declared.commands.Command.TheVariants.{Encrypt, Decrypt, Round, InverseRound, Mix, InverseMix}
-use Rattle.aes_kat.specs.declared.commands.Command.TheVariants.{Schedule}
+use Rattle.aes_kat.specs.declared.command_names.Command.{Command}
+use Rattle.aes_kat.specs.declared.command_names.Command.TheVariants.{Encrypt, Decrypt, Round, InverseRound, Mix, InverseMix}
+use Rattle.aes_kat.specs.declared.command_names.Command.TheVariants.{Schedule}
 use Rattle.aes_kat.specs.Lines.{words_of}
 
 -- the line that reports a fault

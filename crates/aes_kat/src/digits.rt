@@ -3,10 +3,8 @@ ghost use Rattle.std.specs.Prelude.{◌≡◌, ◌≤◌, ◌<◌, ◌+◌, ◌+
 ghost use Rattle.std.specs.List.{flat_map, join_with_byte};
 ghost use Rattle.hex.specs.Hex.{encode_lower};
 
+use crate::replies::ReplyBuffer;
 use aes::Block;
-
-// As many bytes as the longest reply has: the digits of 64 blocks.
-pub(crate) type ReplyBuffer = [u8; 2048];
 
 const SPACE: u8 = b' ';
 

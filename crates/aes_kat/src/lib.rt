@@ -1,9 +1,8 @@
 //! The engine of the program `aes-kat`: a reply to each line of an input.
 #![tactic(auto)]
 
-mod commands;
+mod command_names;
 mod digits;
-mod engine;
 pub mod examples;
 mod faults;
 mod keys;
@@ -11,8 +10,9 @@ mod laws;
 mod operands;
 mod replies;
 mod requests;
+mod runs;
 mod split;
 
-pub use engine::{Failed, run, run_in, status};
 pub use laws::parts_are_unique;
 pub use replies::reply;
+pub use runs::{Failed, run, run_in, status};

@@ -4,8 +4,8 @@ ghost use Rattle.hex.specs.Hex.{decode_of};
 ghost use Rattle.aes_kat.specs.Reply.{answer_of, outcome_of, reply_to, is_fault};
 ghost use Rattle.aes_kat.specs.Private.Steps.{decoded, IsAnswered};
 
-use crate::commands::Command;
-use crate::digits::{ReplyBuffer, write_block, write_joined, write_spaced};
+use crate::command_names::Command;
+use crate::digits::{write_block, write_joined, write_spaced};
 use crate::faults::Fault;
 use crate::keys::Key;
 use crate::operands::{MOST_BLOCKS, block_operand, decode_blocks, is_hex};
@@ -13,9 +13,12 @@ use crate::requests::{Request, parse};
 use aes::expansion::{expand_128, expand_192, expand_256};
 use aes::hazmat;
 
+// As many bytes as the longest reply has: the digits of 64 blocks.
+pub(crate) type ReplyBuffer = [u8; 2048];
+
 // Answers `enc KEY BLOCKS`.
 #[tactic(auto, unfolding(crate::specs::Reply::answer_of))]
-fn encrypt(key: &[u8], blocks: &[u8], out: &mut ReplyBuffer) -> Result<usize, Fault>
+fn answer_enc(key: &[u8], blocks: &[u8], out: &mut ReplyBuffer) -> Result<usize, Fault>
     requires key_digits { is_ok (decode_of key.now) ≡ true }
     requires block_digits { is_ok (decode_of blocks.now) ≡ true }
     ensures { IsAnswered (answer_of Command.Encrypt (decoded key.now) (decoded blocks.now)) result out.new }
@@ -29,7 +32,7 @@ fn encrypt(key: &[u8], blocks: &[u8], out: &mut ReplyBuffer) -> Result<usize, Fa
 
 // Answers `dec KEY BLOCKS`.
 #[tactic(auto, unfolding(crate::specs::Reply::answer_of))]
-fn decrypt(key: &[u8], blocks: &[u8], out: &mut ReplyBuffer) -> Result<usize, Fault>
+fn answer_dec(key: &[u8], blocks: &[u8], out: &mut ReplyBuffer) -> Result<usize, Fault>
     requires key_digits { is_ok (decode_of key.now) ≡ true }
     requires block_digits { is_ok (decode_of blocks.now) ≡ true }
     ensures { IsAnswered (answer_of Command.Decrypt (decoded key.now) (decoded blocks.now)) result out.new }
@@ -43,7 +46,7 @@ fn decrypt(key: &[u8], blocks: &[u8], out: &mut ReplyBuffer) -> Result<usize, Fa
 
 // Answers `round BLOCK ROUND_KEY`.
 #[tactic(auto, unfolding(crate::specs::Reply::answer_of))]
-fn round(block: &[u8], key: &[u8], out: &mut ReplyBuffer) -> Result<usize, Fault>
+fn answer_round(block: &[u8], key: &[u8], out: &mut ReplyBuffer) -> Result<usize, Fault>
     requires block_digits { is_ok (decode_of block.now) ≡ true }
     requires key_digits { is_ok (decode_of key.now) ≡ true }
     ensures { IsAnswered (answer_of Command.Round (decoded block.now) (decoded key.now)) result out.new }
@@ -56,7 +59,7 @@ fn round(block: &[u8], key: &[u8], out: &mut ReplyBuffer) -> Result<usize, Fault
 
 // Answers `invround BLOCK ROUND_KEY`.
 #[tactic(auto, unfolding(crate::specs::Reply::answer_of))]
-fn inverse_round(block: &[u8], key: &[u8], out: &mut ReplyBuffer) -> Result<usize, Fault>
+fn answer_invround(block: &[u8], key: &[u8], out: &mut ReplyBuffer) -> Result<usize, Fault>
     requires block_digits { is_ok (decode_of block.now) ≡ true }
     requires key_digits { is_ok (decode_of key.now) ≡ true }
     ensures { IsAnswered (answer_of Command.InverseRound (decoded block.now) (decoded key.now)) result out.new }
@@ -69,7 +72,7 @@ fn inverse_round(block: &[u8], key: &[u8], out: &mut ReplyBuffer) -> Result<usiz
 
 // Answers `mix BLOCK`.
 #[tactic(auto, unfolding(crate::specs::Reply::answer_of))]
-fn mix(block: &[u8], out: &mut ReplyBuffer) -> Result<usize, Fault>
+fn answer_mix(block: &[u8], out: &mut ReplyBuffer) -> Result<usize, Fault>
     requires { is_ok (decode_of block.now) ≡ true }
     ensures { IsAnswered (answer_of Command.Mix (decoded block.now) []) result out.new }
 {
@@ -80,7 +83,7 @@ fn mix(block: &[u8], out: &mut ReplyBuffer) -> Result<usize, Fault>
 
 // Answers `invmix BLOCK`.
 #[tactic(auto, unfolding(crate::specs::Reply::answer_of))]
-fn inverse_mix(block: &[u8], out: &mut ReplyBuffer) -> Result<usize, Fault>
+fn answer_invmix(block: &[u8], out: &mut ReplyBuffer) -> Result<usize, Fault>
     requires { is_ok (decode_of block.now) ≡ true }
     ensures { IsAnswered (answer_of Command.InverseMix (decoded block.now) []) result out.new }
 {
@@ -91,7 +94,7 @@ fn inverse_mix(block: &[u8], out: &mut ReplyBuffer) -> Result<usize, Fault>
 
 // Answers `sched KEY`.
 #[tactic(auto, unfolding(crate::specs::Reply::answer_of))]
-fn schedule(key: &[u8], out: &mut ReplyBuffer) -> Result<usize, Fault>
+fn answer_sched(key: &[u8], out: &mut ReplyBuffer) -> Result<usize, Fault>
     requires { is_ok (decode_of key.now) ≡ true }
     ensures { IsAnswered (answer_of Command.Schedule (decoded key.now) []) result out.new }
 {
@@ -111,13 +114,13 @@ fn answer_asked(asked: &Request<'_>, out: &mut ReplyBuffer) -> Result<usize, Fau
         result out.new }
 {
     match asked.command {
-        Command::Encrypt => encrypt(asked.first, asked.second, out),
-        Command::Decrypt => decrypt(asked.first, asked.second, out),
-        Command::Round => round(asked.first, asked.second, out),
-        Command::InverseRound => inverse_round(asked.first, asked.second, out),
-        Command::Mix => mix(asked.first, out),
-        Command::InverseMix => inverse_mix(asked.first, out),
-        Command::Schedule => schedule(asked.first, out),
+        Command::Encrypt => answer_enc(asked.first, asked.second, out),
+        Command::Decrypt => answer_dec(asked.first, asked.second, out),
+        Command::Round => answer_round(asked.first, asked.second, out),
+        Command::InverseRound => answer_invround(asked.first, asked.second, out),
+        Command::Mix => answer_mix(asked.first, out),
+        Command::InverseMix => answer_invmix(asked.first, out),
+        Command::Schedule => answer_sched(asked.first, out),
     }
 }
 
@@ -137,7 +140,7 @@ fn answer(line: &[u8], out: &mut ReplyBuffer) -> Result<usize, Fault>
 ///
 /// Returns the length of the reply, and whether it reports a fault.
 #[tactic(auto, unfolding(crate::specs::Reply::reply_to, crate::specs::Reply::is_fault))]
-pub fn reply(line: &[u8], out: &mut [u8; 2048]) -> (usize, bool)
+pub fn reply(line: &[u8], out: &mut ReplyBuffer) -> (usize, bool)
     ensures fits { result.0 ≤ 2048 }
     ensures text { take result.0 out.new ≡ reply_to line.now }
     ensures fault { result.1 ≡ is_fault line.now }

@@ -4,7 +4,7 @@ ghost use Rattle.std.specs.Option.{option_map_or};
 ghost use Rattle.aes_kat.specs.Lines.{words_of};
 ghost use Rattle.aes_kat.specs.Reply.{request_of};
 
-use crate::commands::Command;
+use crate::command_names::Command;
 use crate::faults::Fault;
 use crate::split::split_once;
 

@@ -1,4 +1,4 @@
-//! The engine: from the bytes of a reader to the bytes of a writer.
+//! Runs: from the bytes of a reader to the bytes of a writer.
 ghost use Rattle.std.specs.Prelude.{◌≡◌, ◌++◌, ◌∷◌, [], OnOk, OnErr, IfOk, vec_len};
 ghost use Rattle.std.specs.Io.KnownBytes.{Appends};
 ghost use Rattle.aes_kat.specs.Lines.{Lacks};
@@ -7,7 +7,7 @@ ghost use Rattle.aes_kat.specs.Reply.{reply_to, is_fault};
 ghost use Rattle.aes_kat.specs.Answers.{answers_to, has_fault, AppendsBeginning, Runs};
 ghost use Rattle.aes_kat.specs.Private.Progress.{Gathers, Advances, StopsWithin};
 
-use crate::replies::reply;
+use crate::replies::{ReplyBuffer, reply};
 use crate::split::split_once;
 use std::alloc::{AllocError, Allocator, Global};
 use std::io;
@@ -50,12 +50,12 @@ fn write_whole<W: Write>(output: &mut W, bytes: &[u8]) -> Result<(), Failed>
     Ok(())
 }
 
-// Adds the reply to a line and its line end to `answers`.
-fn add_reply<A: Allocator>(line: &[u8], answers: &mut Vec<u8, A>) -> Result<bool, Failed>
+// Appends the reply to a line and its line end to `answers`.
+fn append_reply_line<A: Allocator>(line: &[u8], answers: &mut Vec<u8, A>) -> Result<bool, Failed>
     ensures text { OnOk result (answers.new.items ≡ answers.old.items ++ (reply_to line.now ++ 10 ∷ [])) }
     ensures fault { IfOk result (λ fault. fault ≡ is_fault line.now) }
 {
-    let mut text = [0u8; 2048];
+    let mut text: ReplyBuffer = [0; 2048];
     let (length, fault) = reply(line, &mut text);
     answers.extend_from_slice(&text[..length])?;
     answers.extend_from_slice(&[LINE_END])?;
@@ -78,7 +78,7 @@ fn gather<A: Allocator>(
     let mut fault = false;
     while let Some((front, after)) = split_once(rest, LINE_END) {
         line.extend_from_slice(front)?;
-        fault |= add_reply(line.as_slice(), answers)?;
+        fault |= append_reply_line(line.as_slice(), answers)?;
         line.clear();
         rest = after;
     }
@@ -116,7 +116,7 @@ fn answer_rest<A: Allocator>(line: &[u8], answers: &mut Vec<u8, A>) -> Result<bo
     if line.is_empty() {
         return Ok(false);
     }
-    add_reply(line, answers)
+    append_reply_line(line, answers)
 }
 
 // Writes the answer to what follows the last line end of the input, and flushes.

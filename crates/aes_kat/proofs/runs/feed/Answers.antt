@@ -1,6 +1,6 @@
--- What is left to show of `engine::feed`.
+-- What is left to show of `runs::feed`.
 use Rattle.aes_kat.proofs.Progress.{OnErr-from, StopsWithin-written}
-use Rattle.aes_kat.proofs.engine.feed.Goals as goal
+use Rattle.aes_kat.proofs.runs.feed.Goals as goal
 
 pub returns-in_err-write_whole-clause-stopped : goal.returns-in_err-write_whole-clause-stopped
 returns-in_err-write_whole-clause-stopped g c =

@@ -1,10 +1,10 @@
--- What is left to show of `engine::run_in`.
+-- What is left to show of `runs::run_in`.
 use Rattle.std.proofs.Common.{◌++◌, take, arith}
 use Rattle.std.proofs.KnownBytes.{Consumes-trans}
 use Rattle.aes_kat.specs.Answers.{answers_to, AppendsBeginning}
 use Rattle.aes_kat.proofs.Progress.{Runs-failed, Advances-chunk, StopsWithin-here, StopsWithin-chunk}
 use Rattle.aes_kat.proofs.Progress.{AppendsBeginning-ended, held-ended, stops-held}
-use Rattle.aes_kat.proofs.engine.run_in.Goals as goal
+use Rattle.aes_kat.proofs.runs.run_in.Goals as goal
 
 pub returns-in_err-count : goal.returns-in_err-count
 returns-in_err-count g c =

@@ -1,7 +1,7 @@
--- What is left to show of `engine::finish`.
+-- What is left to show of `runs::finish`.
 use Rattle.std.proofs.KnownBytes.{Appends-kept}
 use Rattle.aes_kat.proofs.Progress.{OnErr-from, AppendsBeginning-whole, only_gathered}
-use Rattle.aes_kat.proofs.engine.finish.Goals as goal
+use Rattle.aes_kat.proofs.runs.finish.Goals as goal
 
 pub returns-in_err-write_whole-clause-stopped : goal.returns-in_err-write_whole-clause-stopped
 returns-in_err-write_whole-clause-stopped g c =

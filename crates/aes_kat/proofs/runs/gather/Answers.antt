@@ -1,8 +1,8 @@
--- What is left to show of `engine::gather`.
+-- What is left to show of `runs::gather`.
 use Rattle.std.proofs.Common.{◌==◌, ◌≡◌, false, ◌∙◌}
 use Rattle.std.proofs.lemmas.List.Elements.{All-nil}
 use Rattle.aes_kat.proofs.Progress.{Gathers-line}
-use Rattle.aes_kat.proofs.engine.gather.Goals as goal
+use Rattle.aes_kat.proofs.runs.gather.Goals as goal
 
 pub loop-front-preserved : goal.loop-front-preserved
 loop-front-preserved g c =

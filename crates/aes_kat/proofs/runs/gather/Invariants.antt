@@ -1,8 +1,8 @@
--- What holds in the loops of `engine::gather`.
+-- What holds in the loops of `runs::gather`.
 use Rattle.std.proofs.Common.{◌++◌, length}
 use Rattle.aes_kat.specs.Lines.{Lacks}
 use Rattle.aes_kat.specs.Private.Progress.{Gathers}
-use Rattle.aes_kat.proofs.engine.gather.Given as goal
+use Rattle.aes_kat.proofs.runs.gather.Given as goal
 
 abbrev pub invariant-loop-front : goal.invariant-loop-front
 invariant-loop-front g l = record {

@@ -1,10 +1,10 @@
--- What is left to show of `commands::Command::named`.
+-- What is left to show of `command_names::Command::named`.
 use Rattle.std.proofs.Common.{◌≡◌, ◌<◌, ◌+◌, ℕ, List, false, refl, sym, ap, ◌∙◌, length, get_or, drop}
 use Rattle.std.proofs.lemmas.List.{drop_more}
 use Rattle.std.specs.Str.{bytes_eq}
-use Rattle.aes_kat.specs.declared.commands.Command.{Command}
+use Rattle.aes_kat.specs.declared.command_names.Command.{Command}
 use Rattle.aes_kat.specs.Reply.{name_of, commands, first_named}
-use Rattle.aes_kat.proofs.commands.Command.named.Goals as goal
+use Rattle.aes_kat.proofs.command_names.Command.named.Goals as goal
 
 -- the command at place i has another name
 named_later : (name spelled : List ℕ) (i : ℕ) (d : Command) → i < length commands
