@@ -350,9 +350,11 @@ def show_left(build, rows, kept):
 
 
 def compared(now, path, kept, record):
-    """Rows {(build, bits, call): counts} that leave more than is recorded; `record` writes them anew first."""
+    """Rows {(build, bits, call): counts} that leave more than is recorded; `record` writes those of these builds anew first."""
     if record:
+        old = path.read_text().splitlines()[1:] if path.exists() else []
         rows = ["\t".join([*place, *(str(it[k]) for k in kept)]) for place, it in now.items()]
+        rows += [it for it in old if it.split("\t")[0] not in {build for build, *_ in now}]
         path.write_text("\n".join(["\t".join(["build", "bits", "call", *kept]), *rows]) + "\n")
         say(f"\nrecorded: {len(now)} rows in {path}")
     lines = [it.split("\t") for it in path.read_text().splitlines()[1:]] if path.exists() else []
