@@ -46,6 +46,17 @@ static void unwrap(void) { answer = count ? fotsgure_aes_unwrap(&kept, wrapped, 
 static void unwrap_refused(void) {
     answer = count ? fotsgure_aes_unwrap(&kept, other, 2 * count + 1, data, 2 * count) : FOTSGURE_AES_REFUSED;
 }
+/* With three bytes of padding. */
+static size_t key_bytes;
+static void wrap_padded(void) {
+    answer = count ? fotsgure_aes_wrap_padded(&kept, other, 16 * count - 3, data, 2 * count + 1) : 0;
+}
+static void unwrap_padded(void) {
+    answer = count ? fotsgure_aes_unwrap_padded(&kept, wrapped, 2 * count + 1, data, 2 * count, &key_bytes) : 0;
+}
+static void unwrap_padded_refused(void) {
+    answer = count ? fotsgure_aes_unwrap_padded(&kept, other, 2 * count + 1, data, 2 * count, &key_bytes) : FOTSGURE_AES_REFUSED;
+}
 /* Calls on a struct without a key. */
 static void encrypt_no_key(void) { encrypt(); }
 static void stream_no_key(void) { stream(); }
@@ -80,6 +91,8 @@ static const struct call { const char *name; void (*it)(void); enum unit unit; s
     {"cbc_encrypt", chain, BLOCKS, FOTSGURE_AES_DONE}, {"cbc_decrypt", unchain, BLOCKS, FOTSGURE_AES_DONE},
     {"wrap", wrap, BLOCKS, FOTSGURE_AES_DONE}, {"unwrap", unwrap, BLOCKS, FOTSGURE_AES_DONE},
     {"unwrap, refused", unwrap_refused, BLOCKS, FOTSGURE_AES_REFUSED},
+    {"wrap_padded", wrap_padded, BLOCKS, FOTSGURE_AES_DONE}, {"unwrap_padded", unwrap_padded, BLOCKS, FOTSGURE_AES_DONE},
+    {"unwrap_padded, refused", unwrap_padded_refused, BLOCKS, FOTSGURE_AES_REFUSED},
     {"add_keystream", stream, BYTES, FOTSGURE_AES_DONE}, {"add_keystream_to", stream_to, BYTES, FOTSGURE_AES_DONE},
     {"add_keystream_with", stream_with, BYTES, FOTSGURE_AES_DONE},
     {"add_keystream, no key", stream_no_key, BYTES, FOTSGURE_AES_NO_KEY},
@@ -105,8 +118,10 @@ static void once(const struct call *call, uint64_t position, int run) {
     (void)!fotsgure_aes_set_key(&kept, key, size);
     if (call->it == encrypt_no_key || call->it == stream_no_key)
         fotsgure_aes_wipe(&kept);
-    if (call->it == unwrap && count) {
+    if ((call->it == unwrap || call->it == unwrap_padded) && count) {
         (void)!fotsgure_aes_wrap(&kept, other, 2 * count, wrapped, 2 * count + 1);
+        if (call->it == unwrap_padded)
+            (void)!fotsgure_aes_wrap_padded(&kept, other, 16 * count - 3, wrapped, 2 * count + 1);
         /* What is unwrapped is another key than stands there. */
         data[0] = before[0] = (uint8_t)~other[0];
     }
