@@ -3,11 +3,13 @@
 ghost use Rattle.std.specs.Prelude.{◌≡◌};
 
 use super::{
-    Aes, Ctr, DONE, KEY_LENGTH, KEYSTREAM_END, NO_KEY, UNEQUAL_COUNTS, VERSION,
+    Aes, Cbc, Ctr, DONE, KEY_LENGTH, KEYSTREAM_END, NO_KEY, REFUSED, UNEQUAL_COUNTS, VERSION,
     fotsgure_aes_add_keystream, fotsgure_aes_add_keystream_to, fotsgure_aes_add_keystream_with,
-    fotsgure_aes_decrypt_blocks, fotsgure_aes_decrypt_blocks_to, fotsgure_aes_decrypt_blocks_with,
-    fotsgure_aes_encrypt_blocks, fotsgure_aes_encrypt_blocks_to, fotsgure_aes_encrypt_blocks_with,
-    fotsgure_aes_key_length, fotsgure_aes_set_key, fotsgure_aes_version, fotsgure_aes_wipe,
+    fotsgure_aes_cbc_decrypt, fotsgure_aes_cbc_encrypt, fotsgure_aes_decrypt_blocks,
+    fotsgure_aes_decrypt_blocks_to, fotsgure_aes_decrypt_blocks_with, fotsgure_aes_encrypt_blocks,
+    fotsgure_aes_encrypt_blocks_to, fotsgure_aes_encrypt_blocks_with, fotsgure_aes_key_length,
+    fotsgure_aes_set_key, fotsgure_aes_unwrap, fotsgure_aes_unwrap_padded, fotsgure_aes_version,
+    fotsgure_aes_wipe, fotsgure_aes_wrap, fotsgure_aes_wrap_padded,
 };
 
 // FIPS 197, appendix C: the bytes 00 01 02 and so on, whose beginnings are the keys, the block, and its encryption.
@@ -107,6 +109,71 @@ fn adds_the_keystream(rt: HostRuntime) {
     );
     ctr.position = u64::MAX;
     assert!(rt; fotsgure_aes_add_keystream(&aes, &mut ctr, &mut bytes) == KEYSTREAM_END);
+}
+
+#[test]
+fn chains_blocks(rt: HostRuntime) {
+    // SP 800-38A, F.2.1: the key, the initialization vector, and the first block there and back.
+    let key = 0x2b7e151628aed2a6abf7158809cf4f3cu128.to_be_bytes();
+    let iv = 0x000102030405060708090a0b0c0d0e0fu128.to_be_bytes();
+    let plain = [0x6bc1bee22e409f96e93d7e117393172au128.to_be_bytes()];
+    let mut aes = no_key();
+    let mut cbc = Cbc { previous: iv };
+    let mut blocks = plain;
+    assert!(rt; fotsgure_aes_set_key(&mut aes, &key) == DONE);
+    assert!(rt; fotsgure_aes_cbc_encrypt(&aes, &mut cbc, &mut blocks) == DONE);
+    assert!(rt; blocks == [0x7649abac8119b246cee98e9b12e9197du128.to_be_bytes()]);
+    cbc.previous = iv;
+    assert!(rt; fotsgure_aes_cbc_decrypt(&aes, &mut cbc, &mut blocks) == DONE);
+    assert!(rt; blocks == plain);
+}
+
+#[test]
+fn wraps_keys(rt: HostRuntime) {
+    // RFC 3394, 4.1: a key of 16 bytes under one of 16.
+    let key = [
+        0x0011223344556677u64.to_be_bytes(),
+        0x8899aabbccddeeffu64.to_be_bytes(),
+    ];
+    let wrapped = [
+        0x1fa68b0a8112b447u64.to_be_bytes(),
+        0xaef34bd8fb5a7b82u64.to_be_bytes(),
+        0x9d3e862371d2cfe5u64.to_be_bytes(),
+    ];
+    let mut aes = no_key();
+    let mut there = [[0; 8]; 3];
+    let mut back = [[0; 8]; 2];
+    assert!(rt; fotsgure_aes_set_key(&mut aes, &COUNTED[..16]) == DONE);
+    assert!(rt; fotsgure_aes_wrap(&aes, &key, &mut there) == DONE);
+    assert!(rt; there == wrapped);
+    assert!(rt; fotsgure_aes_unwrap(&aes, &there, &mut back) == DONE);
+    assert!(rt; back == key);
+    there[0][0] ^= 1;
+    assert!(rt; fotsgure_aes_unwrap(&aes, &there, &mut back) == REFUSED);
+}
+
+#[test]
+fn wraps_keys_with_padding(rt: HostRuntime) {
+    // RFC 5649, 6: a key of seven bytes under one of 24.
+    let wrapping: [u8; 24] = [
+        0x58, 0x40, 0xdf, 0x6e, 0x29, 0xb0, 0x2a, 0xf1, 0xab, 0x49, 0x3b, 0x70, 0x5b, 0xf1, 0x6e,
+        0xa1, 0xae, 0x83, 0x38, 0xf4, 0xdc, 0xc1, 0x76, 0xa8,
+    ];
+    let key = 0x466f725061736900u64.to_be_bytes();
+    let wrapped = [
+        0xafbeb0f07dfbf541u64.to_be_bytes(),
+        0x9200f2ccb50bb24fu64.to_be_bytes(),
+    ];
+    let mut aes = no_key();
+    let mut there = [[0; 8]; 2];
+    let mut back = [[1; 8]];
+    let mut length = 0;
+    assert!(rt; fotsgure_aes_set_key(&mut aes, &wrapping) == DONE);
+    assert!(rt; fotsgure_aes_wrap_padded(&aes, &key[..7], &mut there) == DONE);
+    assert!(rt; there == wrapped);
+    assert!(rt; fotsgure_aes_unwrap_padded(&aes, &there, &mut back, &mut length) == DONE);
+    assert!(rt; back == [key]);
+    assert!(rt; length == 7);
 }
 
 #[test]
