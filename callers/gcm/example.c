@@ -113,8 +113,8 @@ int main(int count, char **words)
         return 2;
     }
     if (!seal(words[1], &it)) {
-        fprintf(stderr, "not sealed: there is no such folder, or its counter is lost or short; then move the file `key` away, "
-            "which opens old messages, and a new key is drawn\n");
+        fprintf(stderr, "not sealed: there is no such folder, or its counter is lost or short. To go on, move the "
+            "file `key` away (keep it to open old messages) and run this again: it draws a new key\n");
         return 1;
     }
     /* It is sent here: it.name, it.nonce, it.text and it.tag. */

@@ -63,9 +63,9 @@ _c = load("fotsgure_gcm", 3, [
     ("wipe_message", [_message], None),
 ])
 VERSION: int = _c.fotsgure_gcm_version()
-_STATUSES = ("", "a key has 16, 24 or 32 bytes", "the key was wiped", "the nonce has another length",
-             "a tag has 16 bytes", "more bytes than GCM takes, or more than were verified", "the tag is another",
-             "no nonce is left", "it isn't the turn of this call")
+_STATUSES = ("", "a key has 16, 24 or 32 bytes", "the key was wiped", "a nonce has one byte or more",
+             "a tag has 16 bytes", "more bytes than GCM takes, or more than were verified",
+             "the message was changed, or the key is another", "no nonce is left", "it isn't the turn of this call")
 # What shows that a message was changed: a nonce, a tag or a text with a length that no message has, or another tag.
 _CHANGED = (3, 4, 5, 6)
 

@@ -25,6 +25,7 @@ int main(void)
         }
     }
     if (others > 0)
-        printf("%d algorithms don't come from fotsgure\n", others);
+        printf("%d algorithms don't come from fotsgure: %s\n", others, OSSL_PROVIDER_available(NULL, "fotsgure")
+            ? "the configuration doesn't prefer it" : "OPENSSL_CONF names no file that loads it, or the module isn't where it says");
     return others > 0;
 }
