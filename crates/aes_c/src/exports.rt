@@ -279,6 +279,7 @@ pub extern "C" fn fotsgure_aes_unwrap_padded(
     ensures refused { result ≢ DONE → result ≢ NO_KEY → result ≢ INVALID_COUNT → result ≡ REFUSED }
     ensures key { let w = fips.key_expansion (kept_key aes.now.key_length aes.now.encrypting) in
         result ≡ DONE → heading key_bytes.new ∷ output.new ≡ unwrapped_string w sealed.now }
+    ensures small { key_bytes.new < 2 ^ 32 }
     ensures none { result ≢ DONE → key_bytes.new ≡ 0 }
     ensures zeros { result ≡ REFUSED → output.new ≡ replicate (length output.old) (replicate 8 0) }
     ensures untouched { result ≢ DONE → result ≢ REFUSED → output.new ≡ output.old }

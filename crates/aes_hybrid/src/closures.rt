@@ -17,6 +17,20 @@ fn are_many<W: Width>(blocks: usize) -> bool {
     blocks >= W::LEAST_FOR_CLOSURES
 }
 
+// Lends planes to encrypt, which are wiped before the call returns. The planes are a local variable of a function of its own, since
+// a function makes room for its variables where it begins, also where it leaves before it needs them.
+#[inline(always)]
+fn lend_planes_to_encrypt<W: Width, F: BlockCipherEncClosure>(keys: &[Block], f: &mut F)
+    requires { IsCipherSchedule keys.now }
+    ensures { F.did f.old (fips.key_expansion (cipher_key keys.now)) f.new }
+{
+    let few = OnLanes::<Encrypt, W>::new(keys, keys);
+    let mut planes = PlaneKeys::<W::Many>::zeroed();
+    planes.store(keys);
+    f.call(&Batches::new(few, planes.lend(keys.len())));
+    planes.wipe();
+}
+
 /// Calls a closure with a backend that encrypts under stored round keys of Cipher.
 #[inline(always)]
 pub(crate) fn lend_to_encrypt<W: Width, F: BlockCipherEncClosure>(
@@ -27,15 +41,29 @@ pub(crate) fn lend_to_encrypt<W: Width, F: BlockCipherEncClosure>(
     requires { IsCipherSchedule keys.now }
     ensures { F.did f.old (fips.key_expansion (cipher_key keys.now)) f.new }
 {
-    let few = OnLanes::<Encrypt, W>::new(keys, keys);
-    if !are_many::<W>(blocks) {
-        f.call(&few);
-        return;
+    if are_many::<W>(blocks) {
+        lend_planes_to_encrypt::<W, F>(keys, f);
+    } else {
+        f.call(&OnLanes::<Encrypt, W>::new(keys, keys));
     }
-    let mut planes = PlaneKeys::<W::Many>::zeroed();
-    planes.store(keys);
-    f.call(&Batches::new(few, planes.lend(keys.len())));
-    planes.wipe();
+}
+
+// Lends planes to decrypt. They serve both directions, and are made of the round keys of Cipher.
+#[inline(always)]
+fn lend_planes_to_decrypt<W: Width, F: BlockCipherDecClosure>(
+    keys: &[Block],
+    inverse: &[Block],
+    f: &mut F,
+)
+    requires keyed { IsCipherSchedule keys.now }
+    requires inverse { AreInverse inverse.now keys.now }
+    ensures { F.did f.old (fips.key_expansion (cipher_key keys.now)) f.new }
+{
+    let few = OnLanes::<Decrypt, W>::new(keys, inverse);
+    let mut of_cipher = PlaneKeys::<W::Many>::zeroed();
+    of_cipher.store(keys);
+    f.call(&Batches::new(few, of_cipher.lend(keys.len())));
+    of_cipher.wipe();
 }
 
 /// Calls a closure with a backend that decrypts under those and the ones of EqInvCipher of the same key.
@@ -50,14 +78,9 @@ pub(crate) fn lend_to_decrypt<W: Width, F: BlockCipherDecClosure>(
     requires inverse { AreInverse inverse.now keys.now }
     ensures { F.did f.old (fips.key_expansion (cipher_key keys.now)) f.new }
 {
-    let few = OnLanes::<Decrypt, W>::new(keys, inverse);
-    if !are_many::<W>(blocks) {
-        f.call(&few);
-        return;
+    if are_many::<W>(blocks) {
+        lend_planes_to_decrypt::<W, F>(keys, inverse, f);
+    } else {
+        f.call(&OnLanes::<Decrypt, W>::new(keys, inverse));
     }
-    // Planes serve both directions, and are made of the round keys of Cipher.
-    let mut of_cipher = PlaneKeys::<W::Many>::zeroed();
-    of_cipher.store(keys);
-    f.call(&Batches::new(few, of_cipher.lend(keys.len())));
-    of_cipher.wipe();
 }

@@ -1,6 +1,6 @@
 //! Key wrap under the key of a struct.
 
-ghost use Rattle.std.specs.Prelude.{◌≡◌, ◌≢◌, ◌↔◌, ◌∷◌, [], length, replicate, slice_index_or};
+ghost use Rattle.std.specs.Prelude.{◌≡◌, ◌≢◌, ◌↔◌, ◌^◌, ◌<◌, ◌∷◌, [], length, replicate, slice_index_or};
 ghost use Rattle.aes_planes.specs.Fips197 as fips;
 ghost use Rattle.key_wrap.specs.KeyWrap.{integrity_check, unwrapped, wrapped, Fit};
 ghost use Rattle.key_wrap.specs.Padded.{heading, unwrapped_string, wrapped_padded, FitPadded, FitUnpadded, IsPadded};
@@ -109,6 +109,7 @@ pub fn unwrap_padded_under<W: Width>(
     ensures refused { result ≢ DONE → result ≢ NO_KEY → result ≢ INVALID_COUNT → result ≡ REFUSED }
     ensures key { let w = fips.key_expansion (kept_key aes.now.key_length aes.now.encrypting) in
         result ≡ DONE → heading key_bytes.new ∷ output.new ≡ unwrapped_string w sealed.now }
+    ensures small { key_bytes.new < 2 ^ 32 }
     ensures none { result ≢ DONE → key_bytes.new ≡ 0 }
     ensures zeros { result ≡ REFUSED → output.new ≡ replicate (length output.old) (replicate 8 0) }
     ensures untouched { result ≢ DONE → result ≢ REFUSED → output.new ≡ output.old }
