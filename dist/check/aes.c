@@ -268,7 +268,7 @@ static void wrapped_keys(size_t row)
 
 static void padded_keys(size_t row)
 {
-    uint8_t key[32], data[40] = {0}, sealed[40], output[40], zeros[40] = {0};
+    uint8_t key[32], data[40] = {0}, sealed[40] = {0}, output[40], zeros[40] = {0};
     size_t size = strlen(padded_rows[row].key) / 2, bytes = strlen(padded_rows[row].data) / 2, length = 7;
     size_t count = (bytes + 7) / 8;
     struct fotsgure_aes aes;
