@@ -83,6 +83,11 @@ SETS = {
     "WIDE": [{"WORD": it, "NUMBER": number} for number, it in enumerate(WORDS) if number],
     "LAYOUT": [{"LAYOUT": it} for it in ("full", "compact")],
     "BITS": [{"BITS": it} for it in ("u16", "u32", "u64")],
+    "USED": [
+        {"USED": "value", "GIVEN": "block: &mut Block", "CALL": "encrypt_block(block)"},
+        {"USED": "slice", "GIVEN": "blocks: &mut [Block]", "CALL": "encrypt_blocks(blocks)"},
+    ],
+    "ENDED": [{"ENDED": "dropped", "MUT": "", "WIPE": ""}, {"ENDED": "zeroized", "MUT": "mut ", "WIPE": "cipher.zeroize();"}],
 }
 
 

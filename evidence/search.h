@@ -17,6 +17,16 @@ static uint8_t key[32];
 static size_t size;
 static int failed;
 
+/* Makes a call in pieces, on n things of so many bytes from `at` on: the first few, half of what is left, and the rest. */
+#define IN_PIECES(call, from, all, unit, few) do { \
+        size_t some = (all) < (few) ? (all) : (few), half = ((all) - some) / 2, counts[] = {some, half, (all) - some - half}; \
+        uint8_t *at = from; \
+        for (int i = 0; i < 3; at += (unit) * counts[i++]) { \
+            size_t n = counts[i]; \
+            done(call); \
+        } \
+    } while (0)
+
 /* What is searched for: 8 bytes, and which piece of which kind they are of; and 16, if they have to be there whole. Pieces of
  * equal bytes say nothing. */
 static struct needle { uint64_t bytes; const uint8_t *whole; int kind, piece; } needles[NEEDLES];

@@ -77,29 +77,6 @@ def run(words, what, **how):
     return done.stdout
 
 
-def compiles(text, *flags, compiler="cc", suffix=".c"):
-    """Whether a short program compiles and links, as it does if a package is there."""
-    source = ROOM / f"probe{suffix}"
-    source.write_text(text)
-    done = subprocess.run([compiler, "-o", ROOM / "probe", source, *flags], capture_output=True)
-    return done.returncode == 0
-
-
-def files_of(*folders):
-    """The files that crates are made of."""
-    parts = ("src", "specs", "proofs")
-    found = [it for folder in folders for part in parts for it in (folder / part).rglob("*") if it.is_file()]
-    return sorted(found)
-
-
-def sum_of(paths, *more):
-    """A hash of files and of what else decides what is built of them."""
-    total = hashlib.sha256("".join(more).encode())
-    for it in paths:
-        total.update(str(it.relative_to(TOP)).encode() + it.read_bytes())
-    return total.hexdigest()
-
-
 def rt_lib(folder, *flags):
     """Proves and builds a library, over what was proved before."""
     with open(ROOM / "build.log", "w") as log:
@@ -111,69 +88,58 @@ def rt_lib(folder, *flags):
 
 def sources(*more):
     """A sum of all that decides what is built."""
-    found = files_of(*(TOP / "crates").iterdir())
-    return sum_of([*found, TOP / "crates.txt", *more], run(["rt", "version"], "rt version"))
+    total = hashlib.sha256(run(["rt", "version"], "rt version").encode())
+    found = (it for part in ("src", "specs", "proofs") for it in (TOP / "crates").glob(f"*/{part}/**/*") if it.is_file())
+    for it in (*sorted(found), TOP / "crates.txt", *more):
+        total.update(str(it.relative_to(TOP)).encode() + it.read_bytes())
+    return total.hexdigest()
 
 
-def is_kept(made, total):
-    """Whether a file was made of these sources."""
+def kept(made, total, folder, compiler):
+    """An archive of sources with this sum: as it was built before, or now, in the folder of its crate."""
     stamp = made.with_suffix(".stamp")
-    return made.exists() and stamp.exists() and stamp.read_text() == total
+    if not (made.exists() and stamp.exists() and stamp.read_text() == total):
+        say(f"proving and building {folder.name} by {compiler} in {folder}, over what is proved already")
+        start = time.time()
+        rt_lib(folder, "--backend", compiler)
+        shutil.move(folder / "out" / f"lib{folder.name}.a", made)
+        stamp.write_text(total)
+        say(f"built in {time.time() - start:.0f} seconds")
+    return made
 
 
-def keep(made, out, total, start):
-    """Keeps an archive that was built of these sources."""
-    shutil.copy(out, made)
-    made.with_suffix(".stamp").write_text(total)
-    say(f"built in {time.time() - start:.0f} seconds")
-
-
-def assembled(name):
-    """The archive of one text of dist/ for x86-64, by the C compiler's assembler: as `make -C dist` builds it, but without
+def assembled(name, dist=TOP / "dist", room=ROOM):
+    """The archive of one text of a folder dist/ for x86-64, by the C compiler's assembler: as `make` builds it there, but without
     the choice between two builds."""
-    made = ROOM / f"libfotsgure_{name}.a"
+    room.mkdir(parents=True, exist_ok=True)
+    made = room / f"libfotsgure_{name}.a"
     made.unlink(missing_ok=True)
-    run(["cc", "-c", TOP / "dist" / "x86_64" / f"{name}.s", "-o", made.with_suffix(".o")], f"assembling {name}.s")
+    run(["cc", "-c", dist / "x86_64" / f"{name}.s", "-o", made.with_suffix(".o")], f"assembling {name}.s")
     run(["ar", "rcs", made, made.with_suffix(".o")], "the archive")
     return made
 
 
 def c_library(build, library="aes"):
     """The archive of one build of a library for C: of dist/, or by the second compiler. With that it is proved and built
-    where its crate stands, over what was proved there; an archive that stood there stays."""
+    where its crate stands, over what was proved there."""
     compiler, crate = BUILDS[build], f"{library}_c"
     if compiler == "llvm":
         return assembled(library + ("_v3" if build == "avx2" else ""))
-    made, total = ROOM / f"lib{crate}-{compiler}.a", sources()
-    if is_kept(made, total):
-        return made
-    say(f"proving and building {crate} by {compiler}, over what is proved already")
-    start, out = time.time(), TOP / "crates" / crate / "out" / f"lib{crate}.a"
-    before = out.read_bytes() if out.exists() else None
-    rt_lib(TOP / "crates" / crate, "--backend", compiler)
-    keep(made, out, total, start)
-    out.unlink()
-    if before is not None:
-        out.write_bytes(before)
-    return made
+    return kept(ROOM / f"lib{crate}-{compiler}.a", sources(), TOP / "crates" / crate, compiler)
 
 
 def copy_of_the_crates():
-    """A copy of the crates that the library of exports calls, outside the repository, with that library as one crate more. They
-    are proved where they stand, as by ./aes-kat, and what was proved there is copied too: so a crate is proved once."""
-    tree, copied, stamp = ROOM / EXPORTS, CRATES.split(), ROOM / f"{EXPORTS}.stamp"
+    """Makes a copy of the crates that the library of exports calls, outside the repository, with that library as one crate more.
+    They are proved where they stand, as by ./aes-kat, and what was proved there is copied too: so a crate is proved once."""
+    tree, copied = ROOM / EXPORTS, CRATES.split()
     say(f"proving {CRATES}, as far as they are not proved")
-    for crate in copied:
-        rt_lib(TOP / "crates" / crate)
-    total = sum_of(files_of(*(TOP / "crates" / it for it in copied)), run(["rt", "version"], "rt version"))
-    if not stamp.exists() or stamp.read_text() != total:
-        for it in copied:
-            here, there = TOP / "crates" / it, tree / "crates" / it
-            shutil.rmtree(there, ignore_errors=True)
-            for part in ("src", "specs", "proofs", "out/rlib"):
-                if (here / part).exists():
-                    shutil.copytree(here / part, there / part, symlinks=True)
-        stamp.write_text(total)
+    for it in copied:
+        here, there = TOP / "crates" / it, tree / "crates" / it
+        rt_lib(here)
+        shutil.rmtree(there, ignore_errors=True)
+        for part in ("src", "specs", "proofs", "out/rlib"):
+            if (here / part).exists():
+                shutil.copytree(here / part, there / part, symlinks=True)
     folder = tree / "crates" / EXPORTS / "src"
     shutil.rmtree(folder, ignore_errors=True)
     folder.mkdir(parents=True)
@@ -182,19 +148,17 @@ def copy_of_the_crates():
     lines = (TOP / "crates.txt").read_text().splitlines()
     named = [it for it in lines if (name := re.match(r"\w+", it)) and name[0] in copied]
     (tree / "crates.txt").write_text("\n".join([*named, f"{EXPORTS} staticlib: {CRATES}"]) + "\n")
-    return tree / "crates" / EXPORTS
 
 
 def exports_library(compiler):
     """The archive of the library of exports by one compiler."""
     need("rt", None)
     made, total = ROOM / f"lib{EXPORTS}-{compiler}.a", sources(*expand.sources())
-    if not is_kept(made, total):
-        folder, start = copy_of_the_crates(), time.time()
-        say(f"proving and building {EXPORTS} by {compiler} in {folder}")
-        rt_lib(folder, "--backend", compiler)
-        keep(made, folder / "out" / f"lib{EXPORTS}.a", total, start)
-    return made
+    stamp = ROOM / f"{EXPORTS}.stamp"
+    if not stamp.exists() or stamp.read_text() != total:
+        copy_of_the_crates()
+        stamp.write_text(total)
+    return kept(made, total, ROOM / EXPORTS / "crates" / EXPORTS, compiler)
 
 
 def joined(name, c_archive, exports_archive):
@@ -324,17 +288,6 @@ def searched(head, *words):
     return rows
 
 
-def left_behind(build, rows, secret, most_stack, excused):
-    """What calls of a build left that may not stay, whatever is recorded: something secret, or a stack that was too deep."""
-    for (call, bits), counts in rows.items():
-        place = f"{build}, {bits}, {call}"
-        more = [f"{counts[it]} {it}" for it in secret if counts[it] and call not in excused]
-        if more:
-            yield f"{place}: {', '.join(more)}, at lengths of {counts['where']}"
-        if counts["stack"] > most_stack:
-            yield f"{place}: {counts['stack']} bytes of stack, and the header says {most_stack}"
-
-
 def in_words(rows, names):
     """The most that some rows have of each thing, by the names of one and of more."""
     counts = {k: max(it[k] for it in rows) for k in names}
@@ -366,6 +319,34 @@ def compared(now, path, kept, record):
         more = [f"{counts[k]} {k} in place of {was[place][k]}" for k in kept if counts[k] > was[place][k]]
         if more:
             yield f"{', '.join(place)}: {', '.join(more)}"
+
+
+def left(archives, source, head, never, most_stack, seen, options, found):
+    """What the calls of each build leave, by a program that searches and whose last column is the depth of the stack: {(build, bits,
+    call): counts}, without what is planted. It is compared with recorded.tsv beside the program. By LLVM nothing of some kinds may
+    stay, whatever is recorded. `seen` says of all that is planted whether the search tells it apart."""
+    now = {}
+    for name, archive in archives.items():
+        rows = searched(head, compiled(source, name, archive))
+        show_left(name, rows, head)
+        for bits in BITS:
+            of = {call: it for (call, at), it in rows.items() if at == bits}
+            found.blind += [f"{name}, {bits}: {what}" for what, was in seen(of, bits).items() if not was]
+        for (call, bits), counts in rows.items():
+            place = f"{name}, {bits}, {call}"
+            more = [f"{counts[it]} {it}" for it in never if counts[it] and not call.startswith(("planted", "not_wiped"))]
+            if more and BUILDS[name] == "llvm":
+                found.wrong.append(f"{place}: {', '.join(more)}, at lengths of {counts['where']}")
+            if counts["stack"] > most_stack and BUILDS[name] == "llvm":
+                found.wrong.append(f"{place}: {counts['stack']} bytes of stack, and the header says {most_stack}")
+        now.update({(name, bits, call): it for (call, bits), it in rows.items() if not call.startswith("planted")})
+    found.wrong += compared(now, source.with_name("recorded.tsv"), head[:-1], options.record)
+    return now
+
+
+def left_by(now, build, calls):
+    """What some calls of a build left, with keys of any size."""
+    return [it for (name, _, call), it in now.items() if name == build and re.fullmatch(calls, call)]
 
 
 def asking(text, *parts, flags=()):

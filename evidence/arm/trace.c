@@ -23,43 +23,45 @@ static void fill(uint8_t *at, size_t length, int run) {
     }
 }
 
-static void version(void) { answer = fotsgure_aes_version() != FOTSGURE_AES_VERSION; }
-static void key_length(void) { answer = fotsgure_aes_key_length(&kept) != size; }
-static void wipe(void) { fotsgure_aes_wipe(&kept); }
-static void set_key(void) { answer = fotsgure_aes_set_key(&kept, key, size); }
-static void set_key_refused(void) { answer = fotsgure_aes_set_key(&kept, key, 17); }
-static void encrypt(void) { answer = fotsgure_aes_encrypt_blocks(&kept, data, count); }
-static void decrypt(void) { answer = fotsgure_aes_decrypt_blocks(&kept, data, count); }
-static void encrypt_to(void) { answer = fotsgure_aes_encrypt_blocks_to(&kept, other, count, data, count); }
-static void decrypt_to(void) { answer = fotsgure_aes_decrypt_blocks_to(&kept, other, count, data, count); }
-static void encrypt_with(void) { answer = fotsgure_aes_encrypt_blocks_with(key, size, data, count); }
-static void decrypt_with(void) { answer = fotsgure_aes_decrypt_blocks_with(key, size, data, count); }
-static void unequal(void) { answer = fotsgure_aes_encrypt_blocks_to(&kept, other, count, data, count + 1); }
-static void stream(void) { answer = fotsgure_aes_add_keystream(&kept, &ctr, data, count); }
-static void stream_to(void) { answer = fotsgure_aes_add_keystream_to(&kept, &ctr, other, count, data, count); }
-static void stream_with(void) { answer = fotsgure_aes_add_keystream_with(key, size, &ctr, data, count); }
-static void chain(void) { answer = fotsgure_aes_cbc_encrypt(&kept, &cbc, data, count); }
-static void unchain(void) { answer = fotsgure_aes_cbc_decrypt(&kept, &cbc, data, count); }
-/* Keys of two semiblocks or more: one block or more. */
-static void wrap(void) { answer = count ? fotsgure_aes_wrap(&kept, other, 2 * count, data, 2 * count + 1) : 0; }
-static void unwrap(void) { answer = count ? fotsgure_aes_unwrap(&kept, wrapped, 2 * count + 1, data, 2 * count) : 0; }
-static void unwrap_refused(void) {
-    answer = count ? fotsgure_aes_unwrap(&kept, other, 2 * count + 1, data, 2 * count) : FOTSGURE_AES_REFUSED;
-}
-/* With three bytes of padding. */
+/* Calls on nothing, on blocks, and on bytes from a position on; what they must answer; and the call. Keys of two semiblocks or more
+ * are wrapped: one block or more. With padding, three bytes of it. */
+enum unit { ONCE, BLOCKS, BYTES };
+enum { DONE = FOTSGURE_AES_DONE, REFUSED = FOTSGURE_AES_REFUSED };
 static size_t key_bytes;
-static void wrap_padded(void) {
-    answer = count ? fotsgure_aes_wrap_padded(&kept, other, 16 * count - 3, data, 2 * count + 1) : 0;
-}
-static void unwrap_padded(void) {
-    answer = count ? fotsgure_aes_unwrap_padded(&kept, wrapped, 2 * count + 1, data, 2 * count, &key_bytes) : 0;
-}
-static void unwrap_padded_refused(void) {
-    answer = count ? fotsgure_aes_unwrap_padded(&kept, other, 2 * count + 1, data, 2 * count, &key_bytes) : FOTSGURE_AES_REFUSED;
-}
-/* Calls on a struct without a key. */
-static void encrypt_no_key(void) { encrypt(); }
-static void stream_no_key(void) { stream(); }
+#define CALLS(IT) \
+    IT(version, "version", ONCE, 0, fotsgure_aes_version() != FOTSGURE_AES_VERSION) \
+    IT(key_length, "key_length", ONCE, 0, fotsgure_aes_key_length(&kept) != size) \
+    IT(wipe, "wipe", ONCE, 0, (fotsgure_aes_wipe(&kept), 0)) \
+    IT(set_key, "set_key", ONCE, DONE, fotsgure_aes_set_key(&kept, key, size)) \
+    IT(set_key_refused, "set_key, refused", ONCE, FOTSGURE_AES_KEY_LENGTH, fotsgure_aes_set_key(&kept, key, 17)) \
+    IT(encrypt, "encrypt_blocks", BLOCKS, DONE, fotsgure_aes_encrypt_blocks(&kept, data, count)) \
+    IT(decrypt, "decrypt_blocks", BLOCKS, DONE, fotsgure_aes_decrypt_blocks(&kept, data, count)) \
+    IT(encrypt_to, "encrypt_blocks_to", BLOCKS, DONE, fotsgure_aes_encrypt_blocks_to(&kept, other, count, data, count)) \
+    IT(decrypt_to, "decrypt_blocks_to", BLOCKS, DONE, fotsgure_aes_decrypt_blocks_to(&kept, other, count, data, count)) \
+    IT(unequal, "encrypt_blocks_to, unequal", BLOCKS, FOTSGURE_AES_UNEQUAL_COUNTS, \
+        fotsgure_aes_encrypt_blocks_to(&kept, other, count, data, count + 1)) \
+    IT(encrypt_with, "encrypt_blocks_with", BLOCKS, DONE, fotsgure_aes_encrypt_blocks_with(key, size, data, count)) \
+    IT(decrypt_with, "decrypt_blocks_with", BLOCKS, DONE, fotsgure_aes_decrypt_blocks_with(key, size, data, count)) \
+    IT(encrypt_no_key, "encrypt_blocks, no key", BLOCKS, FOTSGURE_AES_NO_KEY, fotsgure_aes_encrypt_blocks(&kept, data, count)) \
+    IT(chain, "cbc_encrypt", BLOCKS, DONE, fotsgure_aes_cbc_encrypt(&kept, &cbc, data, count)) \
+    IT(unchain, "cbc_decrypt", BLOCKS, DONE, fotsgure_aes_cbc_decrypt(&kept, &cbc, data, count)) \
+    IT(wrap, "wrap", BLOCKS, DONE, count ? fotsgure_aes_wrap(&kept, other, 2 * count, data, 2 * count + 1) : DONE) \
+    IT(unwrap, "unwrap", BLOCKS, DONE, count ? fotsgure_aes_unwrap(&kept, wrapped, 2 * count + 1, data, 2 * count) : DONE) \
+    IT(unwrap_refused, "unwrap, refused", BLOCKS, REFUSED, \
+        count ? fotsgure_aes_unwrap(&kept, other, 2 * count + 1, data, 2 * count) : REFUSED) \
+    IT(wrap_padded, "wrap_padded", BLOCKS, DONE, \
+        count ? fotsgure_aes_wrap_padded(&kept, other, 16 * count - 3, data, 2 * count + 1) : DONE) \
+    IT(unwrap_padded, "unwrap_padded", BLOCKS, DONE, \
+        count ? fotsgure_aes_unwrap_padded(&kept, wrapped, 2 * count + 1, data, 2 * count, &key_bytes) : DONE) \
+    IT(unwrap_padded_refused, "unwrap_padded, refused", BLOCKS, REFUSED, \
+        count ? fotsgure_aes_unwrap_padded(&kept, other, 2 * count + 1, data, 2 * count, &key_bytes) : REFUSED) \
+    IT(stream, "add_keystream", BYTES, DONE, fotsgure_aes_add_keystream(&kept, &ctr, data, count)) \
+    IT(stream_to, "add_keystream_to", BYTES, DONE, fotsgure_aes_add_keystream_to(&kept, &ctr, other, count, data, count)) \
+    IT(stream_with, "add_keystream_with", BYTES, DONE, fotsgure_aes_add_keystream_with(key, size, &ctr, data, count)) \
+    IT(stream_no_key, "add_keystream, no key", BYTES, FOTSGURE_AES_NO_KEY, fotsgure_aes_add_keystream(&kept, &ctr, data, count))
+#define DEFINED(id, name, unit, wanted, call) static void id(void) { answer = (size_t)(call); }
+#define LISTED(id, name, unit, wanted, call) {name, id, unit, wanted},
+CALLS(DEFINED)
 
 /* Planted: each must be found, the first two by the instructions and the last by the addresses alone. */
 static volatile uint8_t table[256], sink;
@@ -73,29 +75,9 @@ static void planted_early_exit(void) {
 }
 static void planted_look_up(void) { sink = table[data[5]]; }
 
-/* Calls on nothing, on blocks, and on bytes from a position on; and what they must answer. */
-enum unit { ONCE, BLOCKS, BYTES };
 static const struct call { const char *name; void (*it)(void); enum unit unit; size_t wanted; } calls[] = {
     {"planted_branch", planted_branch, ONCE, 0}, {"planted_early_exit", planted_early_exit, ONCE, 0},
-    {"planted_look_up", planted_look_up, ONCE, 0},
-    {"version", version, ONCE, 0}, {"key_length", key_length, ONCE, 0}, {"wipe", wipe, ONCE, 0},
-    {"set_key", set_key, ONCE, FOTSGURE_AES_DONE},
-    {"set_key, refused", set_key_refused, ONCE, FOTSGURE_AES_KEY_LENGTH},
-    {"encrypt_blocks", encrypt, BLOCKS, FOTSGURE_AES_DONE}, {"decrypt_blocks", decrypt, BLOCKS, FOTSGURE_AES_DONE},
-    {"encrypt_blocks_to", encrypt_to, BLOCKS, FOTSGURE_AES_DONE},
-    {"decrypt_blocks_to", decrypt_to, BLOCKS, FOTSGURE_AES_DONE},
-    {"encrypt_blocks_to, unequal", unequal, BLOCKS, FOTSGURE_AES_UNEQUAL_COUNTS},
-    {"encrypt_blocks_with", encrypt_with, BLOCKS, FOTSGURE_AES_DONE},
-    {"decrypt_blocks_with", decrypt_with, BLOCKS, FOTSGURE_AES_DONE},
-    {"encrypt_blocks, no key", encrypt_no_key, BLOCKS, FOTSGURE_AES_NO_KEY},
-    {"cbc_encrypt", chain, BLOCKS, FOTSGURE_AES_DONE}, {"cbc_decrypt", unchain, BLOCKS, FOTSGURE_AES_DONE},
-    {"wrap", wrap, BLOCKS, FOTSGURE_AES_DONE}, {"unwrap", unwrap, BLOCKS, FOTSGURE_AES_DONE},
-    {"unwrap, refused", unwrap_refused, BLOCKS, FOTSGURE_AES_REFUSED},
-    {"wrap_padded", wrap_padded, BLOCKS, FOTSGURE_AES_DONE}, {"unwrap_padded", unwrap_padded, BLOCKS, FOTSGURE_AES_DONE},
-    {"unwrap_padded, refused", unwrap_padded_refused, BLOCKS, FOTSGURE_AES_REFUSED},
-    {"add_keystream", stream, BYTES, FOTSGURE_AES_DONE}, {"add_keystream_to", stream_to, BYTES, FOTSGURE_AES_DONE},
-    {"add_keystream_with", stream_with, BYTES, FOTSGURE_AES_DONE},
-    {"add_keystream, no key", stream_no_key, BYTES, FOTSGURE_AES_NO_KEY},
+    {"planted_look_up", planted_look_up, ONCE, 0}, CALLS(LISTED)
 };
 static const size_t block_counts[] = {
     0, 1, 2, 3, 4, 5, 6, 7, 8, 9, 10, 11, 12, 13, 14, 15, 16, 17, 23, 24, 40, 64, 127

@@ -48,21 +48,15 @@ __attribute__((noinline)) static void planted_widened(void) {
         widened(words[i], planes[16 + i]);
     use(words);
 }
-__attribute__((noinline)) static void planted_keystream(void) {
-    uint8_t blocks[2][16];
-    memcpy(blocks, keystream, sizeof blocks);
-    use(blocks);
-}
-__attribute__((noinline)) static void planted_zeros(void) {
-    uint8_t blocks[2][BLOCK];
-    memcpy(blocks, zeros, sizeof blocks);
-    use(blocks);
-}
-__attribute__((noinline)) static void planted_key(void) {
-    uint8_t bytes[8];
-    memcpy(bytes, key + 3, sizeof bytes);
-    use(bytes);
-}
+#define PLANTED(name, from, bytes) \
+    __attribute__((noinline)) static void planted_##name(void) { \
+        uint8_t left[bytes]; \
+        memcpy(left, from, bytes); \
+        use(left); \
+    }
+PLANTED(keystream, keystream, 2 * BLOCK)
+PLANTED(zeros, zeros, 2 * BLOCK)
+PLANTED(key, key + 3, 8)
 /* A struct that is wiped where it stands. */
 __attribute__((noinline)) static void wiped(void) {
     struct fotsgure_aes aes;
@@ -116,29 +110,12 @@ static void unwrap_padded_refused(void) {
             FOTSGURE_AES_REFUSED;
 }
 
-/* In pieces: three blocks, or five bytes, half of what is left, and the rest. */
-static void in_pieces(enum fotsgure_aes_status (*call)(uint8_t *, size_t), size_t unit, size_t most) {
-    size_t some = count < most ? count : most, half = (count - some) / 2;
-    done(call(data, some));
-    done(call(data + unit * some, half));
-    done(call(data + unit * (some + half), count - some - half));
-}
-static enum fotsgure_aes_status encrypt_piece(uint8_t *at, size_t n) { return fotsgure_aes_encrypt_blocks(&kept, at, n); }
-static enum fotsgure_aes_status decrypt_piece(uint8_t *at, size_t n) { return fotsgure_aes_decrypt_blocks(&kept, at, n); }
-static enum fotsgure_aes_status stream_piece(uint8_t *at, size_t n) {
-    return fotsgure_aes_add_keystream(&kept, &ctr, at, n);
-}
-static enum fotsgure_aes_status chain_piece(uint8_t *at, size_t n) {
-    return fotsgure_aes_cbc_encrypt(&kept, &cbc, at, n);
-}
-static enum fotsgure_aes_status unchain_piece(uint8_t *at, size_t n) {
-    return fotsgure_aes_cbc_decrypt(&kept, &cbc, at, n);
-}
-static void chain_pieces(void) { in_pieces(chain_piece, BLOCK, 3); }
-static void unchain_pieces(void) { in_pieces(unchain_piece, BLOCK, 3); }
-static void encrypt_pieces(void) { in_pieces(encrypt_piece, BLOCK, 3); }
-static void decrypt_pieces(void) { in_pieces(decrypt_piece, BLOCK, 3); }
-static void stream_pieces(void) { in_pieces(stream_piece, 1, 5); }
+/* In pieces, the first of three blocks or five bytes. */
+static void encrypt_pieces(void) { IN_PIECES(fotsgure_aes_encrypt_blocks(&kept, at, n), data, count, BLOCK, 3); }
+static void decrypt_pieces(void) { IN_PIECES(fotsgure_aes_decrypt_blocks(&kept, at, n), data, count, BLOCK, 3); }
+static void chain_pieces(void) { IN_PIECES(fotsgure_aes_cbc_encrypt(&kept, &cbc, at, n), data, count, BLOCK, 3); }
+static void unchain_pieces(void) { IN_PIECES(fotsgure_aes_cbc_decrypt(&kept, &cbc, at, n), data, count, BLOCK, 3); }
+static void stream_pieces(void) { IN_PIECES(fotsgure_aes_add_keystream(&kept, &ctr, at, n), data, count, 1, 5); }
 
 /* What a call takes: nothing of this list, blocks, or bytes. */
 enum takes { NOTHING, OF_BLOCKS, OF_BYTES };

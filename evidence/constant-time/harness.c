@@ -193,49 +193,28 @@ static void end(const char *name, const char *wanted, uint64_t answer, uint64_t 
     printf("%s\t%s\t%s\t%u\t%zu\t%zu\n", name, wanted, verdict, reports, marked, due);
 }
 
-/* What is planted: each has to be found, before the calls and after them. */
+/* What is planted: each has to be found, before the calls and after them. The third leaks in the last of its bytes alone. */
+enum plant { ADDRESS, BRANCH, EARLY_EXIT, NOTHING, HALF, REFUSAL };
+static const char *const planted_names[] = {"planted_address", "planted_branch", "planted_early_exit", "planted_nothing",
+                                            "planted_half", "planted_refusal"};
 static volatile uint8_t table[256], sink;
-__attribute__((noinline)) static uint64_t planted_address(const uint8_t *s, uint8_t *to) {
-    for (int i = 0; i < 16; i++) to[i] = table[s[i]] ^ s[i];
-    return 1;
+__attribute__((noinline)) static uint64_t planted(enum plant it, const uint8_t *s, uint8_t *to) {
+    if (it == NOTHING) memset(to, 1, 16);
+    for (int i = 0; i < (it == NOTHING ? 0 : it == HALF ? 8 : 16); i++) to[i] = s[i] ^ 0x5a;
+    if (it == ADDRESS) to[0] = table[s[0]] ^ s[0];
+    if (it == BRANCH)
+        if (s[3] & 1) sink = 1;
+    if (it == EARLY_EXIT)
+        if (s[15] == 7) sink = 2;
+    return it != REFUSAL;
 }
-__attribute__((noinline)) static uint64_t planted_branch(const uint8_t *s, uint8_t *to) {
-    if (s[3] & 1) sink = 1;
-    for (int i = 0; i < 16; i++) to[i] = s[i] ^ 0x5a;
-    return 1;
-}
-/* Leaks in the last of its bytes alone. */
-__attribute__((noinline)) static uint64_t planted_early_exit(const uint8_t *s, uint8_t *to) {
-    for (int i = 0; i < 16; i++) to[i] = s[i] ^ 0x5a;
-    if (s[15] == 7) sink = 2;
-    return 1;
-}
-__attribute__((noinline)) static uint64_t planted_nothing(const uint8_t *s, uint8_t *to) {
-    (void)s;
-    memset(to, 1, 16);
-    return 1;
-}
-__attribute__((noinline)) static uint64_t planted_half(const uint8_t *s, uint8_t *to) {
-    for (int i = 0; i < 8; i++) to[i] = s[i] ^ 0x5a;
-    return 1;
-}
-__attribute__((noinline)) static uint64_t planted_refusal(const uint8_t *s, uint8_t *to) {
-    for (int i = 0; i < 16; i++) to[i] = s[i] ^ 0x5a;
-    return 0;
-}
-#define PLANT(name, wanted) do { \
-        uint8_t *s = buffer('s', 16), *to = buffer('o', 16); \
-        begin(#name); \
-        uint64_t answer = name(s, to); \
-        end(#name, wanted, answer, 1, 0); \
-    } while (0)
 static void plants(void) {
-    PLANT(planted_address, "LEAK");
-    PLANT(planted_branch, "LEAK");
-    PLANT(planted_early_exit, "LEAK");
-    PLANT(planted_nothing, "VACUOUS");
-    PLANT(planted_half, "VACUOUS");
-    PLANT(planted_refusal, "VACUOUS");
+    for (enum plant it = ADDRESS; it <= REFUSAL; it++) {
+        uint8_t *s = buffer('s', 16), *to = buffer('o', 16);
+        begin(planted_names[it]);
+        uint64_t answer = planted(it, s, to);
+        end(planted_names[it], it < NOTHING ? "LEAK" : "VACUOUS", answer, 1, 0);
+    }
     uint8_t public = sink;
     known(&public, 1);
     known((void *)&sink, 1);

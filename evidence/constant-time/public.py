@@ -65,12 +65,12 @@ def matches(pattern, path, name):
     return fnmatch.fnmatch(f"{path}:{name}" if ":" in pattern else name, pattern)
 
 
-def not_called(calls):
-    """The public functions that neither the exports nor the calls name and that no reason stands for, and the reasons
+def not_called(calls, functions):
+    """Those of the functions that neither the exports nor the calls name and that no reason stands for, and the reasons
     that stand for none."""
     words = set(re.findall(r"\w+", calls + "\n".join(expand.texts().values())))
     rows, used, missed = reasons(), set(), []
-    for crate, path, name in public_functions():
+    for crate, path, name in functions:
         if name in words:
             continue
         of_crate = [(crate, it) for of, names, _ in rows if of == crate for it in names]

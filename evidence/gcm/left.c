@@ -68,38 +68,24 @@ static void open_refused(void) {
         FOTSGURE_GCM_REFUSED;
 }
 
-/* A message in pieces: the first of five bytes, then half of what is left, and the rest. Its struct isn't on the
- * stack. */
+/* A message in pieces, the first of five bytes. Its struct isn't on the stack. */
 static void begun(void) {
-    size_t some = extra < 5 ? extra : 5;
     done(fotsgure_gcm_begin(&kept, &message, nonce, nonce_length));
-    done(fotsgure_gcm_additional(&kept, &message, additional, some));
-    done(fotsgure_gcm_additional(&kept, &message, additional + some, extra - some));
-}
-static void in_pieces(enum fotsgure_gcm_status (*call)(const struct fotsgure_gcm *, struct fotsgure_gcm_message *,
-    uint8_t *, size_t)) {
-    size_t some = length < 5 ? length : 5, half = (length - some) / 2;
-    done(call(&kept, &message, text, some));
-    done(call(&kept, &message, text + some, half));
-    done(call(&kept, &message, text + some + half, length - some - half));
-}
-static enum fotsgure_gcm_status verify(const struct fotsgure_gcm *gcm, struct fotsgure_gcm_message *it, uint8_t *bytes,
-    size_t count) {
-    return fotsgure_gcm_verify(gcm, it, bytes, count);
+    IN_PIECES(fotsgure_gcm_additional(&kept, &message, at, n), additional, extra, 1, 5);
 }
 static void verified(void) {
     begun();
-    in_pieces(verify);
+    IN_PIECES(fotsgure_gcm_verify(&kept, &message, at, n), text, length, 1, 5);
 }
 static void seal_pieces(void) {
     begun();
-    in_pieces((fotsgure_gcm_encrypt));
+    IN_PIECES(fotsgure_gcm_encrypt(&kept, &message, at, n), text, length, 1, 5);
     done(fotsgure_gcm_finish(&kept, &message, tag));
 }
 static void open_pieces(void) {
     verified();
     done(fotsgure_gcm_accept(&kept, &message, expected, 16));
-    in_pieces((fotsgure_gcm_decrypt));
+    IN_PIECES(fotsgure_gcm_decrypt(&kept, &message, at, n), text, length, 1, 5);
 }
 static void open_pieces_refused(void) {
     static uint8_t other[16];
@@ -108,7 +94,7 @@ static void open_pieces_refused(void) {
 }
 static void open_pieces_unverified(void) {
     begun();
-    in_pieces((fotsgure_gcm_decrypt_unverified));
+    IN_PIECES(fotsgure_gcm_decrypt_unverified(&kept, &message, at, n), text, length, 1, 5);
     done(fotsgure_gcm_accept(&kept, &message, expected, 16));
 }
 

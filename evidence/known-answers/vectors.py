@@ -11,28 +11,18 @@ KINDS = ("GFSbox", "KeySbox", "VarKey", "VarTxt", "MMT")
 
 
 def sections(path):
-    """The records of one of NIST's files, each a dictionary, with the name of the section that it stands in."""
-    found, section, record = [], None, {}
-
-    def close():
-        if any(it in record for it in ("PLAINTEXT", "CIPHERTEXT", "PT", "CT")):
-            found.append((section, dict(record)))
-
+    """The records of one of NIST's files that have a text, each a dictionary, with the name of the section that it stands in."""
+    found, section = [], None
     for line in path.read_text().splitlines():
-        line = line.strip()
-        if head := re.fullmatch(r"\[(\w+)\]", line):
-            close()
-            record, section = {}, head[1]
-        elif field := re.fullmatch(r"(\w+)\s*=\s*(.*)", line):
-            name = field[1].upper()
-            if name in ("COUNT",):
-                close()
-                record = {}
-            record[name] = field[2].strip().lower()
-        elif line.upper() == "FAIL":
-            record["FAIL"] = ""
-    close()
-    return found
+        if head := re.fullmatch(r"\[(\w+)\]", line.strip()):
+            section = head[1]
+        elif field := re.fullmatch(r"(\w+)\s*=\s*(.*)", line.strip()):
+            name, value = field[1].upper(), field[2].lower()
+            if name == "COUNT":
+                found.append((section, {}))
+            if found:
+                found[-1][1][name] = value
+    return [it for it in found if {"PLAINTEXT", "CIPHERTEXT", "PT", "CT"} & it[1].keys()]
 
 
 def blocks():
@@ -80,18 +70,16 @@ def streams():
 
 
 def of_cryptopp():
-    """Those of SP 800-38A, F.5, in the file of Crypto++, and its long one."""
-    found, mode, state = [], None, {}
-    for line in CRYPTOPP.read_text().splitlines():
+    """Those of SP 800-38A, F.5, in the file of Crypto++, and its long one, if the file is there."""
+    found, state = [], {}
+    for line in CRYPTOPP.read_text().splitlines() if CRYPTOPP.exists() else ():
         if not (field := re.fullmatch(r"\s*(\w+)\s*:\s*(.*)", line)):
             continue
         name, value = field[1], field[2].strip()
-        if name == "AlgorithmType":
-            state = {}
-        state[name] = value
+        state = {name: value} if name == "AlgorithmType" else state | {name: value}
         if name == "Test" and state.get("Name") == "AES/CTR":
-            digits = {it: expanded(state[it]) for it in ("Key", "IV", "Plaintext", "Ciphertext")}
-            found.append((f"Crypto++: {state.get('Source', '')} {state.get('Comment', '')}".strip(), *digits.values()))
+            digits = [expanded(state[it]) for it in ("Key", "IV", "Plaintext", "Ciphertext")]
+            found.append((f"Crypto++: {state.get('Source', '')} {state.get('Comment', '')}".strip(), *digits))
     return found
 
 
