@@ -7,19 +7,17 @@
 #include <cstring>
 #include <memory>
 
-static std::unique_ptr<Botan::BlockCipher> enc[3], dec[3];
+static std::unique_ptr<Botan::BlockCipher> blocks[2][3];
 static std::unique_ptr<Botan::StreamCipher> ctr[3];
 static int now;
-static void key_encrypt(const uint8_t *key, size_t n) {
+static void set_key(enum direction to, const uint8_t *key, size_t n) {
     now = size_of(n);
-    enc[now]->set_key(key, n);
+    blocks[to][now]->set_key(key, n);
 }
-static void key_decrypt(const uint8_t *key, size_t n) {
-    now = size_of(n);
-    dec[now]->set_key(key, n);
+static void process(enum direction to, uint8_t *b, size_t count) {
+    if (to == ENCRYPT) blocks[to][now]->encrypt_n(b, b, count);
+    else blocks[to][now]->decrypt_n(b, b, count);
 }
-static void encrypt(uint8_t *b, size_t count) { enc[now]->encrypt_n(b, b, count); }
-static void decrypt(uint8_t *b, size_t count) { dec[now]->decrypt_n(b, b, count); }
 static void stream(const uint8_t *key, size_t n, const uint8_t *iv, uint8_t *data, size_t length) {
     if (key) ctr[size_of(n)]->set_key(key, n);
     ctr[size_of(n)]->set_iv(iv, 16);
@@ -47,14 +45,13 @@ extern "C" void add_botan(enum run run) {
     if (run == NO_AES_NO_SSSE3) Botan::CPUID::clear_cpuid_bit(Botan::CPUID::CPUID_SSSE3_BIT);
     static const char *const names[] = {"AES-128", "AES-192", "AES-256"};
     for (int i = 0; i < 3; i++) {
-        enc[i] = Botan::BlockCipher::create_or_throw(names[i]);
-        dec[i] = Botan::BlockCipher::create_or_throw(names[i]);
+        for (auto &of : blocks) of[i] = Botan::BlockCipher::create_or_throw(names[i]);
         ctr[i] = Botan::StreamCipher::create_or_throw("CTR-BE(" + std::string(names[i]) + ")");
     }
     gcm = Botan::AEAD_Mode::create_or_throw("AES-128/GCM", Botan::ENCRYPTION);
     static const char *const how[] = {"AES instructions", "SSSE3 permutations", "bitsliced"};
     static const char *const kind[] = {"instructions", "permutations", "bitsliced"};
     static engine it;
-    it = {"Botan", how[run], kind[run], key_encrypt, key_decrypt, encrypt, decrypt, stream, 1, gcm_key, seal};
+    it = {"Botan", how[run], kind[run], set_key, process, stream, gcm_key, seal};
     add(&it);
 }

@@ -16,25 +16,23 @@ struct message {
     uint8_t *text, *tag;
 };
 
+enum direction { ENCRYPT, DECRYPT };
 struct engine {
     const char *name; /* the library */
     const char *how;  /* what it runs on this machine, in this run */
     const char *kind; /* bitsliced, permutations, tables, instructions, planted */
-    /* Takes a key of `bytes` bytes, for encryption and for decryption. */
-    void (*key_encrypt)(const uint8_t *key, size_t bytes);
-    void (*key_decrypt)(const uint8_t *key, size_t bytes);
-    /* Processes `count` blocks in place, under the key taken last. */
-    void (*encrypt)(uint8_t *blocks, size_t count);
-    void (*decrypt)(uint8_t *blocks, size_t count);
+    /* Takes a key of `bytes` bytes for one direction. */
+    void (*set_key)(enum direction to, const uint8_t *key, size_t bytes);
+    /* Processes `count` blocks in place, under the key that was taken last for that direction. */
+    void (*process)(enum direction to, uint8_t *blocks, size_t count);
     /* Takes a key and a counter block, and adds the keystream; without a key (0), that taken last. */
     void (*stream)(const uint8_t *key, size_t bytes, const uint8_t *iv, uint8_t *data, size_t length);
-    int keeps; /* whether `stream` can do without a key */
     /* GCM: takes a key of 16 bytes, and seals a text in place under the key taken last. */
     void (*gcm_key)(const uint8_t *key);
     void (*seal)(const struct message *m);
 };
 /* The calls of an engine by their names. */
-#define BLOCKS .key_encrypt = key_encrypt, .key_decrypt = key_decrypt, .encrypt = encrypt, .decrypt = decrypt
+#define BLOCKS .set_key = set_key, .process = process
 #define GCM .gcm_key = gcm_key, .seal = seal
 
 /* The run: which instructions of the processor the peers may use. */
@@ -43,16 +41,8 @@ enum run { ALL, NO_AES, NO_AES_NO_SSSE3 };
 /* How a library keeps what it has for the three sizes of keys. */
 static inline int size_of(size_t key_bytes) { return key_bytes == 16 ? 0 : key_bytes == 24 ? 1 : 2; }
 
-/* Each file of peers adds its engines for a run. */
+/* The call add_NAME of each library adds its engines for a run. */
 void add(const struct engine *engine);
-void add_library(enum run run);
-void add_library_for_avx2(enum run run);
-void add_openssl(enum run run);
-void add_bearssl(enum run run);
-void add_mbedtls(enum run run);
-void add_nettle(enum run run);
-void add_libgcrypt(enum run run);
-void add_botan(enum run run);
 
 #ifdef __cplusplus
 }

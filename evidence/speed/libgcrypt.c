@@ -2,19 +2,16 @@
 #include "engine.h"
 #include <gcrypt.h>
 
-static gcry_cipher_hd_t enc[3], dec[3], ctr[3];
+static gcry_cipher_hd_t blocks[2][3], ctr[3];
 static int now;
-static void key_encrypt(const uint8_t *key, size_t n) {
-    now = size_of(n);
-    gcry_cipher_setkey(enc[now], key, n);
-}
 /* It makes the round keys of decryption when it first decrypts. */
-static void key_decrypt(const uint8_t *key, size_t n) {
+static void set_key(enum direction to, const uint8_t *key, size_t n) {
     now = size_of(n);
-    gcry_cipher_setkey(dec[now], key, n);
+    gcry_cipher_setkey(blocks[to][now], key, n);
 }
-static void encrypt(uint8_t *b, size_t count) { gcry_cipher_encrypt(enc[now], b, 16 * count, 0, 0); }
-static void decrypt(uint8_t *b, size_t count) { gcry_cipher_decrypt(dec[now], b, 16 * count, 0, 0); }
+static void process(enum direction to, uint8_t *b, size_t count) {
+    (to == ENCRYPT ? gcry_cipher_encrypt : gcry_cipher_decrypt)(blocks[to][now], b, 16 * count, 0, 0);
+}
 static void stream(const uint8_t *key, size_t n, const uint8_t *iv, uint8_t *data, size_t length) {
     if (key) gcry_cipher_setkey(ctr[size_of(n)], key, n);
     gcry_cipher_setctr(ctr[size_of(n)], iv, 16);
@@ -39,12 +36,11 @@ void add_libgcrypt(enum run run) {
     gcry_control(GCRYCTL_DISABLE_SECMEM, 0);
     gcry_control(GCRYCTL_INITIALIZATION_FINISHED, 0);
     for (int i = 0; i < 3; i++) {
-        gcry_cipher_open(&enc[i], algorithm[i], GCRY_CIPHER_MODE_ECB, 0);
-        gcry_cipher_open(&dec[i], algorithm[i], GCRY_CIPHER_MODE_ECB, 0);
+        for (int to = 0; to < 2; to++) gcry_cipher_open(&blocks[to][i], algorithm[i], GCRY_CIPHER_MODE_ECB, 0);
         gcry_cipher_open(&ctr[i], algorithm[i], GCRY_CIPHER_MODE_CTR, 0);
     }
     gcry_cipher_open(&gcm, GCRY_CIPHER_AES128, GCRY_CIPHER_MODE_GCM, 0);
     static const char *const how[] = {"AES instructions", "SSSE3 permutations", "tables"};
     static const char *const kind[] = {"instructions", "permutations", "tables"};
-    add(&(struct engine){"Libgcrypt", how[run], kind[run], BLOCKS, .stream = stream, .keeps = 1, GCM});
+    add(&(struct engine){"Libgcrypt", how[run], kind[run], BLOCKS, .stream = stream, GCM});
 }

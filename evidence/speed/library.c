@@ -1,17 +1,27 @@
 /* This library as LLVM builds it, and planted engines: two that leave the blocks or the text alone, and one that works
-   twice. With AVX2 its build for processors with vectors of 256 bits, whose calls get other names once this file is
-   compiled. */
+   twice. With HOW and ADD it is another build, whose calls get other names once this file is compiled. */
 #include "engine.h"
 #include "fotsgure_aes.h"
 #include "fotsgure_gcm.h"
 #include <string.h>
 
+#ifndef HOW
+#define HOW "C library, by LLVM"
+#define ADD add_library
+#define PLANTED
+#endif
+
 /* One struct serves both directions and counter mode. */
 static struct fotsgure_aes aes;
 static int failed;
-static void take(const uint8_t *bytes, size_t n) { failed |= (int)fotsgure_aes_set_key(&aes, bytes, n); }
-static void encrypt(uint8_t *blocks, size_t count) { failed |= (int)fotsgure_aes_encrypt_blocks(&aes, blocks, count); }
-static void decrypt(uint8_t *blocks, size_t count) { failed |= (int)fotsgure_aes_decrypt_blocks(&aes, blocks, count); }
+static void set_key(enum direction to, const uint8_t *bytes, size_t n) {
+    (void)to;
+    failed |= (int)fotsgure_aes_set_key(&aes, bytes, n);
+}
+static void process(enum direction to, uint8_t *blocks, size_t count) {
+    failed |= (int)(to == ENCRYPT ? fotsgure_aes_encrypt_blocks(&aes, blocks, count)
+                                  : fotsgure_aes_decrypt_blocks(&aes, blocks, count));
+}
 static void stream(const uint8_t *bytes, size_t n, const uint8_t *iv, uint8_t *data, size_t length) {
     struct fotsgure_aes_ctr counter = {{0}, 0};
     memcpy(counter.iv, iv, sizeof counter.iv);
@@ -24,18 +34,15 @@ static void gcm_key(const uint8_t *bytes) { failed |= (int)fotsgure_gcm_set_key(
 static void seal(const struct message *m) {
     failed |= (int)fotsgure_gcm_seal(&gcm, m->nonce, 12, m->additional, m->extra, m->text, m->length, m->tag);
 }
-#ifdef AVX2
-void add_library_for_avx2(enum run run) {
-    if (run == NO_AES)
-        add(&(struct engine){"this library", "C library for AVX2, by LLVM", "hybrid", take, take, encrypt, decrypt, stream,
-                             .keeps = 1, GCM});
-}
-#else
+
+#ifdef PLANTED
 /* Planted: twice the work, on other data first; and none. */
 static uint8_t other[16 * 4096];
-static void twice_key(const uint8_t *bytes, size_t n) { take(bytes, n); take(bytes, n); }
-static void twice_encrypt(uint8_t *blocks, size_t count) { encrypt(blocks, count); encrypt(other, count); }
-static void twice_decrypt(uint8_t *blocks, size_t count) { decrypt(blocks, count); decrypt(other, count); }
+static void twice_key(enum direction to, const uint8_t *bytes, size_t n) { set_key(to, bytes, n); set_key(to, bytes, n); }
+static void twice_process(enum direction to, uint8_t *blocks, size_t count) {
+    process(to, blocks, count);
+    process(to, other, count);
+}
 static void twice_gcm_key(const uint8_t *bytes) { gcm_key(bytes); gcm_key(bytes); }
 static void twice_seal(const struct message *m) {
     struct message copy = *m;
@@ -43,16 +50,19 @@ static void twice_seal(const struct message *m) {
     seal(&copy);
     seal(m);
 }
-static void no_blocks(uint8_t *blocks, size_t count) { (void)blocks; (void)count; }
+static void no_process(enum direction to, uint8_t *blocks, size_t count) { (void)to; (void)blocks; (void)count; }
 static void no_seal(const struct message *m) { memset(m->tag, 0, 16); }
-
-void add_library(enum run run) {
-    (void)run;
-    add(&(struct engine){"this library", "C library, by LLVM", "hybrid", take, take, encrypt, decrypt, stream, .keeps = 1,
-                         GCM});
-    add(&(struct engine){"planted", "works twice", "planted", twice_key, twice_key, twice_encrypt, twice_decrypt,
-                         .gcm_key = twice_gcm_key, .seal = twice_seal});
-    add(&(struct engine){"planted", "leaves the blocks alone", "planted", take, take, no_blocks, no_blocks});
-    add(&(struct engine){"planted", "leaves the text alone", "planted", .gcm_key = gcm_key, .seal = no_seal});
-}
 #endif
+
+void ADD(enum run run) {
+#ifdef PLANTED
+    add(&(struct engine){"this library", HOW, "hybrid", BLOCKS, .stream = stream, GCM});
+    add(&(struct engine){"planted", "works twice", "planted", twice_key, twice_process, .gcm_key = twice_gcm_key,
+                         .seal = twice_seal});
+    add(&(struct engine){"planted", "leaves the blocks alone", "planted", .set_key = set_key, .process = no_process});
+    add(&(struct engine){"planted", "leaves the text alone", "planted", .gcm_key = gcm_key, .seal = no_seal});
+    (void)run;
+#else
+    if (run == NO_AES) add(&(struct engine){"this library", HOW, "hybrid", BLOCKS, .stream = stream, GCM});
+#endif
+}

@@ -5,25 +5,17 @@
 #include <openssl/evp.h>
 
 /* A context for each size of keys, which knows its cipher before the clock starts. */
-static EVP_CIPHER_CTX *enc[3], *dec[3], *ctr[3];
+static EVP_CIPHER_CTX *blocks[2][3], *ctr[3];
 static int now;
-static AES_KEY low_enc, low_dec;
+static AES_KEY low[2];
 
-static void key_encrypt(const uint8_t *key, size_t n) {
+static void set_key(enum direction to, const uint8_t *key, size_t n) {
     now = size_of(n);
-    EVP_EncryptInit_ex2(enc[now], 0, key, 0, 0);
+    (to == ENCRYPT ? EVP_EncryptInit_ex2 : EVP_DecryptInit_ex2)(blocks[to][now], 0, key, 0, 0);
 }
-static void key_decrypt(const uint8_t *key, size_t n) {
-    now = size_of(n);
-    EVP_DecryptInit_ex2(dec[now], 0, key, 0, 0);
-}
-static void encrypt(uint8_t *b, size_t count) {
+static void process(enum direction to, uint8_t *b, size_t count) {
     int l;
-    EVP_EncryptUpdate(enc[now], b, &l, b, (int)(16 * count));
-}
-static void decrypt(uint8_t *b, size_t count) {
-    int l;
-    EVP_DecryptUpdate(dec[now], b, &l, b, (int)(16 * count));
+    (to == ENCRYPT ? EVP_EncryptUpdate : EVP_DecryptUpdate)(blocks[to][now], b, &l, b, (int)(16 * count));
 }
 static void stream(const uint8_t *key, size_t n, const uint8_t *iv, uint8_t *data, size_t length) {
     int l;
@@ -37,13 +29,11 @@ static EVP_CIPHER_CTX *context(const char *name, int encrypts) {
     EVP_CIPHER_CTX_set_padding(it, 0);
     return it;
 }
-static void low_key_encrypt(const uint8_t *key, size_t n) { AES_set_encrypt_key(key, (int)(8 * n), &low_enc); }
-static void low_key_decrypt(const uint8_t *key, size_t n) { AES_set_decrypt_key(key, (int)(8 * n), &low_dec); }
-static void low_encrypt(uint8_t *b, size_t count) {
-    for (size_t i = 0; i < count; i++) AES_encrypt(b + 16 * i, b + 16 * i, &low_enc);
+static void low_key(enum direction to, const uint8_t *key, size_t n) {
+    (to == ENCRYPT ? AES_set_encrypt_key : AES_set_decrypt_key)(key, (int)(8 * n), &low[to]);
 }
-static void low_decrypt(uint8_t *b, size_t count) {
-    for (size_t i = 0; i < count; i++) AES_decrypt(b + 16 * i, b + 16 * i, &low_dec);
+static void low_process(enum direction to, uint8_t *b, size_t count) {
+    for (size_t i = 0; i < count; i++) (to == ENCRYPT ? AES_encrypt : AES_decrypt)(b + 16 * i, b + 16 * i, &low[to]);
 }
 static EVP_CIPHER_CTX *gcm;
 static void gcm_key(const uint8_t *key) { EVP_EncryptInit_ex2(gcm, 0, key, 0, 0); }
@@ -60,8 +50,7 @@ void add_openssl(enum run run) {
     static const char *const ecb[] = {"AES-128-ECB", "AES-192-ECB", "AES-256-ECB"};
     static const char *const mode[] = {"AES-128-CTR", "AES-192-CTR", "AES-256-CTR"};
     for (int i = 0; i < 3; i++) {
-        enc[i] = context(ecb[i], 1);
-        dec[i] = context(ecb[i], 0);
+        for (int to = 0; to < 2; to++) blocks[to][i] = context(ecb[i], to == ENCRYPT);
         ctr[i] = context(mode[i], 1);
     }
     gcm = context("AES-128-GCM", 1);
@@ -69,8 +58,6 @@ void add_openssl(enum run run) {
        permutations. */
     static const char *const how[] = {"AES instructions", "SSSE3 permutations", "tables, EVP"};
     static const char *const kind[] = {"instructions", "permutations", "tables"};
-    add(&(struct engine){"OpenSSL", how[run], kind[run], BLOCKS, .stream = stream, .keeps = 1, GCM});
-    if (run == ALL)
-        add(&(struct engine){"OpenSSL", "tables, AES_encrypt", "tables", low_key_encrypt, low_key_decrypt, low_encrypt,
-                             low_decrypt});
+    add(&(struct engine){"OpenSSL", how[run], kind[run], BLOCKS, .stream = stream, GCM});
+    if (run == ALL) add(&(struct engine){"OpenSSL", "tables, AES_encrypt", "tables", low_key, low_process});
 }

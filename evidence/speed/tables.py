@@ -1,6 +1,5 @@
 """The times of a run as a file, beside those of others, and as sections of docs/MEASUREMENTS.md."""
 import csv
-import itertools
 import re
 import subprocess
 
@@ -29,20 +28,10 @@ HEAD = ["peer", "how", "kind", "run", "key_bytes", "call", "amount", "ticks", "n
 DIGITS = {"ticks": 1, "nanoseconds": 1, "ratio_to_this_library": 3}
 # The rows of docs/MEASUREMENTS.md, and its columns beside this library: peers, and the run in which they are taken.
 BOTH_KEYS = "both keys"
-PUBLISHED = {
-    "a key, for both directions": (BOTH_KEYS, 1),
-    "1 block encrypted": ("encrypt", 1),
-    "1 block decrypted": ("decrypt", 1),
-    "8 blocks encrypted": ("encrypt", 8),
-    "8 blocks decrypted": ("decrypt", 8),
-    "64 blocks encrypted": ("encrypt", 64),
-    "64 blocks decrypted": ("decrypt", 64),
-    "4,096 blocks encrypted": ("encrypt", 4096),
-    "4,096 blocks decrypted": ("decrypt", 4096),
-    "counter mode, 64 bytes": ("counter mode", 64),
-    "counter mode, 1,500 bytes": ("counter mode", 1500),
-    "counter mode, 1 MiB": ("counter mode", 1 << 20),
-}
+STREAMS = {"64 bytes": 64, "256 bytes": 256, "1,500 bytes": 1500, "1 MiB": 1 << 20}
+PUBLISHED = {"a key, for both directions": (BOTH_KEYS, 1)}
+PUBLISHED |= {f"{n:,} block{'s' * (n > 1)} {it}ed": (it, n) for n in (1, 8, 64, 4096) for it in ("encrypt", "decrypt")}
+PUBLISHED |= {f"counter mode, {title}": ("counter mode", n) for title, n in STREAMS.items() if n != 256}
 CONSTANT_TIME, WITH_INSTRUCTIONS = "no AES instructions", "all instructions"
 WITH_THEM = ("OpenSSL", "AES instructions")
 COLUMNS_PUBLISHED = [(CONSTANT_TIME, (it, "SSSE3 permutations")) for it in ("OpenSSL", "Botan", "Libgcrypt")]
@@ -50,10 +39,7 @@ COLUMNS_PUBLISHED.append((WITH_INSTRUCTIONS, WITH_THEM))
 # The rows of the section on the build for AVX2: blocks in both directions, and counter mode.
 COUNTS = (1, 2, 4, 8, 12, 15, 16, 24, 32, 40, 64, 4096)
 COMPARED = {f"{n:,} block{'s' * (n > 1)}": [("encrypt", n), ("decrypt", n)] for n in COUNTS}
-COMPARED |= {
-    f"counter mode, {title}": [("counter mode", n)]
-    for title, n in (("64 bytes", 64), ("256 bytes", 256), ("1,500 bytes", 1500), ("1 MiB", 1 << 20))
-}
+COMPARED |= {f"counter mode, {title}": [("counter mode", n)] for title, n in STREAMS.items()}
 # The rows of the section on GCM: what was timed, and over how many blocks its time is told.
 GCM = {
     "a key": ("GCM key", 1, 1),
@@ -65,16 +51,18 @@ GCM = {
 # The calls of the picture's panels.
 PICTURED = [("encrypt", 4096), ("encrypt", 1), ("key and block", 1)]
 
+
 def summary(rows, key=16):
     """The rows that the tables of docs/MEASUREMENTS.md and the picture are made from."""
     engines = {("this library", BASE), ("this library", AVX2), *(peer for _, peer in COLUMNS_PUBLISHED)}
     calls = {*PUBLISHED.values(), ("key for encryption", 1), ("key for decryption", 1), *sum(COMPARED.values(), [])}
+    of_all = {*PICTURED, *(it[:2] for it in GCM.values())}
     return [
         r
         for r in rows
         if r["key_bytes"] == key
         and (
-            (r["kind"] != "planted" and ((r["call"], r["amount"]) in PICTURED or r["call"].startswith("GCM")))
+            (r["kind"] != "planted" and (r["call"], r["amount"]) in of_all)
             or ((r["peer"], r["how"]) in engines and (r["call"], r["amount"]) in calls)
         )
     ]
@@ -106,13 +94,9 @@ def read(path):
 
 def drift(rows):
     """How much this library's own time differs between the runs."""
-    most = 1.0
-    for key in (16, 24, 32):
-        its = [r["ticks"] for r in rows if r["how"] == BASE and r["key_bytes"] == key]
-        what = [(r["call"], r["amount"]) for r in rows if r["how"] == BASE and r["key_bytes"] == key]
-        bulk = [t for t, it in zip(its, what) if it == ("encrypt", 4096)]
-        most = max(most, max(bulk) / min(bulk))
-    return most
+    bulk = [r for r in rows if r["how"] == BASE and (r["call"], r["amount"]) == ("encrypt", 4096)]
+    ticks = [[r["ticks"] for r in bulk if r["key_bytes"] == key] for key in (16, 24, 32)]
+    return max(max(its) / min(its) for its in ticks)
 
 
 def ratio(number):
@@ -131,18 +115,6 @@ def of_run(rows, run):
             if all(ends):
                 its[key, BOTH_KEYS, 1] = ends[0] if how in (BASE, AVX2) else sum(ends)
     return of
-
-
-def slower_with_fewer(rows):
-    """The counts of blocks, up to 40, at which this library takes over a hundredth more time than with more."""
-    for how, key, call in itertools.product((BASE, AVX2), (16, 24, 32), ("encrypt", "decrypt")):
-        place = how, CONSTANT_TIME, key, call
-        of = [r for r in rows if (r["how"], r["run"], r["key_bytes"], r["call"]) == place and r["amount"] <= 40]
-        for r in of:
-            least = min((it for it in of if it["amount"] >= r["amount"]), key=lambda it: it["ticks"])
-            if r["ticks"] > 1.01 * least["ticks"]:
-                counts = " ticks, ".join(f"{it['amount']} blocks {it['ticks']:,.0f}" for it in (r, least))
-                yield f"{how}, {call}, key of {key} bytes: {counts}"
 
 
 def versions():

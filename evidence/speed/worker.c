@@ -1,5 +1,5 @@
 /* Times every engine of one run, a round at a time: a line on standard input asks for a round, or for the answers. The
-   least of all rounds counts, in ticks of the time stamp counter a call. */
+   least of all rounds counts, in ticks of the time stamp counter a call. ENGINES names the libraries, as X(openssl) .. */
 #include "engine.h"
 #include <stdio.h>
 #include <stdlib.h>
@@ -8,61 +8,51 @@
 #include <unistd.h>
 #include <x86intrin.h>
 
-enum { MOST = 65536, ENGINES = 24, WHATS = 192, LONG = 1024, LONG_EVERY = 4, BESIDE = 20 };
-static struct engine engines[ENGINES];
-static int count, refused[ENGINES], many[ENGINES], whats_made;
+#define X(library) void add_##library(enum run run);
+ENGINES
+#undef X
+
+enum { MOST = 65536, MOST_ENGINES = 24, WHATS = 192, LONG = 1024, LONG_EVERY = 4 };
+static struct engine engines[MOST_ENGINES];
+static int count, refused[MOST_ENGINES], many[MOST_ENGINES], whats_made;
 static size_t rounds_made;
 void add(const struct engine *engine) { engines[count++] = *engine; }
 
-/* What is timed, on so many blocks, or bytes of counter mode. What isn't for all engines is for those without tables
-   that need no AES instructions. */
-enum call {
-    ENCRYPT, DECRYPT, STREAM, KEY_AND_STREAM, KEY_ENCRYPT, KEY_DECRYPT, KEY_AND_BLOCK, GCM_KEY, SEAL, SEAL_BOTH, ADDITIONAL
-};
-static const char *const names[] = {"encrypt", "decrypt", "counter mode", "key and counter mode", "key for encryption",
-                                    "key for decryption", "key and block", "GCM key",
-                                    "GCM, text", "GCM, text and 20 bytes beside", "GCM, additional data"};
+/* What is timed, on so many blocks, or bytes of counter mode and GCM; the first two calls and the two of keys in the order of
+   directions. What isn't for all engines is for those without tables that need no AES instructions. */
+enum call { TO_ENCRYPT, TO_DECRYPT, STREAM, KEY_ENCRYPT, KEY_DECRYPT, KEY_AND_BLOCK, GCM_KEY, SEAL, ADDITIONAL };
+static const char *const names[] = {"encrypt", "decrypt", "counter mode", "key for encryption", "key for decryption",
+                                    "key and block", "GCM key", "GCM, text", "GCM, additional data"};
 static struct what { enum call call; size_t amount; int for_all; } whats[WHATS];
 static void what(enum call call, size_t amount, int for_all) {
     whats[whats_made++] = (struct what){call, amount, for_all};
 }
 static void list(void) {
-    static const size_t bytes[] = {16, 32, 48, 64, 80, 96, 112, 128, 144, 160, 176, 192, 208, 224, 240, 256, 320, 384,
-                                   512, 1024, 1500, 4096, 16384, 65536, 1 << 20};
-    for (enum call it = ENCRYPT; it <= DECRYPT; it++) {
+    static const size_t streams[] = {16, 32, 48, 64, 80, 96, 112, 128, 144, 160, 176, 192, 208, 224, 240, 256, 320, 384,
+                                     512, 1024, 1500, 4096, 16384, 65536, 1 << 20};
+    static const size_t blocks[] = {64, 128, 512, 1024, 4096}, texts[] = {0, 16, 64, 256, 1024, 1500, 4096, 16384};
+    for (enum call it = TO_ENCRYPT; it <= TO_DECRYPT; it++) {
         for (size_t n = 1; n <= 40; n++) what(it, n, n == 1 || n == 4 || n == 8);
-        what(it, 64, 1);
-        what(it, 1024, 0);
-        what(it, 4096, 1);
+        for (size_t i = 0; i < sizeof blocks / sizeof *blocks; i++) what(it, blocks[i], blocks[i] == 64 || blocks[i] == 4096);
     }
-    for (size_t i = 0; i < sizeof bytes / sizeof *bytes; i++) {
-        what(STREAM, bytes[i], bytes[i] == 64 || bytes[i] == 1500 || bytes[i] == 1 << 20);
-        what(KEY_AND_STREAM, bytes[i], bytes[i] == 1024 || bytes[i] == 65536);
-    }
+    for (size_t i = 0; i < sizeof streams / sizeof *streams; i++)
+        what(STREAM, streams[i], streams[i] == 64 || streams[i] == 1500 || streams[i] == 1 << 20);
     for (enum call it = KEY_ENCRYPT; it <= GCM_KEY; it++) what(it, 1, 1);
-    what(SEAL, 64, 1);
-    what(SEAL_BOTH, 64, 1);
-    what(SEAL, 1500, 1);
-    what(SEAL, 16384, 1);
+    for (size_t i = 0; i < sizeof texts / sizeof *texts; i++)
+        what(SEAL, texts[i], texts[i] == 64 || texts[i] == 1500 || texts[i] == 16384);
     what(ADDITIONAL, 16384, 1);
 }
 static size_t blocks_of(const struct what *it) {
-    return it->call == STREAM || it->call == KEY_AND_STREAM || it->call >= SEAL ? (it->amount + 15) / 16 : it->amount;
+    return it->call == STREAM || it->call >= SEAL ? (it->amount + 15) / 16 : it->amount;
 }
 /* The least ticks of all turns of a call. */
-static double best[3][ENGINES][WHATS];
+static double best[3][MOST_ENGINES][WHATS];
 static uint8_t data[16 * MOST] __attribute__((aligned(64))), key[32], iv[16], additional[16384], nonce[12], tag[16];
 
 static int can(int i, const struct what *it) {
     const struct engine *e = &engines[i];
     if (!it->for_all && !many[i]) return 0;
-    switch (it->call) {
-    case ENCRYPT: case KEY_AND_BLOCK: return e->encrypt != 0;
-    case DECRYPT: return e->decrypt != 0;
-    case STREAM: return e->stream && e->keeps;
-    case KEY_AND_STREAM: return e->stream != 0;
-    default: return it->call < GCM_KEY ? e->key_encrypt != 0 : e->seal != 0;
-    }
+    return it->call == STREAM ? e->stream != 0 : it->call < GCM_KEY ? e->process != 0 : e->seal != 0;
 }
 static uint32_t turns_of(const struct what *it) {
     size_t blocks = blocks_of(it);
@@ -74,17 +64,15 @@ static void seal(const struct engine *e, size_t extra, size_t length) {
     e->seal(&(struct message){nonce, additional, extra, length, data, tag});
 }
 static void call(const struct engine *e, const struct what *it, size_t bytes) {
+    key[7] += it->call >= KEY_ENCRYPT && it->call <= GCM_KEY;
     switch (it->call) {
-    case ENCRYPT: e->encrypt(data, it->amount); break;
-    case DECRYPT: e->decrypt(data, it->amount); break;
+    case TO_ENCRYPT: case TO_DECRYPT: e->process((enum direction)it->call, data, it->amount); break;
     case STREAM: e->stream(0, bytes, iv, data, it->amount); break;
-    case KEY_AND_STREAM: e->stream(key, bytes, iv, data, it->amount); break;
-    case KEY_ENCRYPT: key[7]++; e->key_encrypt(key, bytes); break;
-    case KEY_DECRYPT: key[7]++; e->key_decrypt(key, bytes); break;
-    case KEY_AND_BLOCK: key[7]++; e->key_encrypt(key, bytes); e->encrypt(data, 1); break;
-    case GCM_KEY: key[7]++; e->gcm_key(key); break;
+    case KEY_ENCRYPT: e->set_key(ENCRYPT, key, bytes); break;
+    case KEY_DECRYPT: e->set_key(DECRYPT, key, bytes); break;
+    case KEY_AND_BLOCK: e->set_key(ENCRYPT, key, bytes); e->process(ENCRYPT, data, 1); break;
+    case GCM_KEY: e->gcm_key(key); break;
     case SEAL: seal(e, 0, it->amount); break;
-    case SEAL_BOTH: seal(e, BESIDE, it->amount); break;
     case ADDITIONAL: seal(e, it->amount, 0); break;
     }
 }
@@ -94,8 +82,8 @@ static void measure(int i, int w, int size) {
     if (whats[w].call >= GCM_KEY) {
         e->gcm_key(key);
     } else {
-        e->key_encrypt(key, bytes);
-        e->key_decrypt(key, bytes);
+        e->set_key(ENCRYPT, key, bytes);
+        e->set_key(DECRYPT, key, bytes);
     }
     if (whats[w].call == STREAM) e->stream(key, bytes, iv, data, 16);
     call(e, &whats[w], bytes);
@@ -118,44 +106,31 @@ static void one_round(void) {
                     measure(i, w, size);
 }
 /* An engine is refused whose answers are not this library's, which are the standard's by its proof and by
-   ../known-answers. BearSSL's stand-ins are compared as what they are. */
+   ../known-answers. BearSSL's stand-ins are compared as what they are: counter mode from 0, and CBC. */
 static int right(const struct engine *e, size_t bytes) {
-    enum { N = 21 };
-    uint8_t plain[16 * N], ours[16 * N], theirs[16 * N];
+    enum { N = 21, BYTES = 16 * N };
+    uint8_t plain[BYTES], ours[BYTES], theirs[BYTES];
     const struct engine *us = &engines[0];
-    int bear = !strcmp(e->name, "BearSSL");
-    /* One that makes round keys alone has no answers. */
-    if (!e->encrypt) return 1;
-    for (int i = 0; i < 16 * N; i++) plain[i] = (uint8_t)(i * 31 + (i >> 4) * 7);
-    us->key_encrypt(key, bytes);
-    e->key_encrypt(key, bytes);
-    memcpy(theirs, plain, sizeof plain);
-    memcpy(ours, plain, sizeof plain);
-    us->key_encrypt(key, bytes);
-    if (bear) { memset(ours, 0, sizeof ours); for (int i = 0; i < N; i++) ours[16 * i + 15] = (uint8_t)i; }
-    us->encrypt(ours, N);
-    if (bear) for (int i = 0; i < 16 * N; i++) ours[i] ^= plain[i];
-    e->key_encrypt(key, bytes);
-    e->encrypt(theirs, N);
-    if (memcmp(ours, theirs, sizeof ours)) return 0;
-    us->key_decrypt(key, bytes);
-    memcpy(ours, plain, sizeof plain);
-    us->decrypt(ours, N);
-    if (bear) for (int i = 16; i < 16 * N; i++) ours[i] ^= plain[i - 16];
-    e->key_decrypt(key, bytes);
-    memcpy(theirs, plain, sizeof plain);
-    e->decrypt(theirs, N);
-    if (memcmp(ours, theirs, sizeof ours)) return 0;
-    if (e->stream) {
-        memcpy(ours, plain, sizeof plain);
-        memcpy(theirs, plain, sizeof plain);
-        us->stream(key, bytes, iv, ours, sizeof ours - 5);
-        e->stream(key, bytes, iv, theirs, sizeof theirs - 5);
-        if (e->keeps) e->stream(0, bytes, iv, theirs, sizeof theirs - 5);
-        if (e->keeps) us->stream(key, bytes, iv, ours, sizeof ours - 5);
-        if (memcmp(ours, theirs, sizeof ours)) return 0;
+    for (int i = 0; i < BYTES; i++) plain[i] = (uint8_t)(i * 31 + (i >> 4) * 7);
+    for (enum direction to = ENCRYPT; to <= DECRYPT && e->process; to++) {
+        int bear = !strcmp(e->name, "BearSSL"), counts = bear && to == ENCRYPT;
+        memcpy(theirs, plain, BYTES);
+        for (int i = 0; i < BYTES; i++) ours[i] = !counts ? plain[i] : i % 16 == 15 ? (uint8_t)(i / 16) : 0;
+        us->set_key(to, key, bytes);
+        us->process(to, ours, N);
+        for (int i = counts ? 0 : 16; i < BYTES && bear; i++) ours[i] ^= plain[counts ? i : i - 16];
+        e->set_key(to, key, bytes);
+        e->process(to, theirs, N);
+        if (memcmp(ours, theirs, BYTES)) return 0;
     }
-    return 1;
+    if (!e->stream) return 1;
+    memcpy(ours, plain, BYTES);
+    memcpy(theirs, plain, BYTES);
+    us->stream(key, bytes, iv, ours, BYTES - 5);
+    e->stream(key, bytes, iv, theirs, BYTES - 5);
+    if (memcmp(ours, theirs, BYTES)) return 0;
+    e->stream(0, bytes, iv, theirs, BYTES - 5);
+    return !memcmp(plain, theirs, BYTES);
 }
 
 /* The same for GCM, on texts and additional data of several lengths. */
@@ -194,36 +169,13 @@ int main(int argc, char **argv) {
     for (size_t i = 0; i < sizeof additional; i++) additional[i] = (uint8_t)(i * 29 + i / 256);
     memcpy(nonce, additional + 50, sizeof nonce);
     list();
-    add_library(run);
-#ifdef AVX2
-    add_library_for_avx2(run);
-#endif
-#ifdef OPENSSL
-    add_openssl(run);
-#endif
-#ifdef BEARSSL
-    add_bearssl(run);
-#endif
-#ifdef MBEDTLS
-    add_mbedtls(run);
-#endif
-#ifdef NETTLE
-    add_nettle(run);
-#endif
-#ifdef LIBGCRYPT
-    add_libgcrypt(run);
-#endif
-#ifdef BOTAN
-    add_botan(run);
-#endif
+#define X(library) add_##library(run);
+    ENGINES
     for (int i = 0; i < count; i++) {
         const struct engine *e = &engines[i];
-        int without_tables = !strcmp(e->kind, "hybrid") || !strcmp(e->kind, "permutations");
-        many[i] = run == NO_AES && without_tables;
+        many[i] = run == NO_AES && (!strcmp(e->kind, "hybrid") || !strcmp(e->kind, "permutations"));
+        for (size_t bytes = 16; bytes <= 32; bytes += 8) refused[i] |= !right(e, bytes) || (e->seal && !seals_right(e));
     }
-    for (int i = 0; i < count; i++)
-        for (size_t bytes = 16; bytes <= 32; bytes += 8)
-            refused[i] |= !right(&engines[i], bytes) || (engines[i].seal && !seals_right(&engines[i]));
     struct timespec t0, t1;
     clock_gettime(CLOCK_MONOTONIC, &t0);
     uint64_t c0 = __rdtsc();
