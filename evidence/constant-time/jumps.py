@@ -116,3 +116,16 @@ def judged(name, there, path, planted, record_them, found):
         f"not explained: {len(missed)}, recorded and gone: {gone}"
     )
     return idle
+
+
+def looked_at(name, archive, path, planted, record_them, found):
+    """The look at the code of a build by LLVM."""
+    there = jumps(archive)
+    idle = judged(name, there, path, planted, record_them, found)
+    # No reason speaks of the planted jump either.
+    if not unexplained(planted, path.with_name("reasons.tsv"))[0]:
+        found.blind.append(f"{name}: a jump that no reason explains")
+    if idle and name == "llvm":
+        tools.say(f"{name}: lines of reasons.tsv for nothing: {'; '.join(idle)}")
+    functions = {it[0] for it in there}
+    found.summary.append(f"{name}, {sum(there.values()):,} conditional jumps in {len(functions)} functions, all explained")
