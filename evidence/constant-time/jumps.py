@@ -14,6 +14,9 @@ import tools
 # callers.
 OTHERS = ("aes_kat", "hex::", "ev_reply", "evidence_exports::program", "core::cmp::slices::groups_equal")
 HEAD = "function\tcompares\tjump\tcount"
+# The lists of each build by LLVM, and a jump that is planted.
+LISTS = {"llvm": "jumps.tsv", "avx2": "jumps_avx2.tsv"}
+PLANTED = {("planted", "test r,r", "jne"): 1}
 JUMP = re.compile(r"\s(j(?!mp)\w+|loop\w*)\s")
 # The instructions that leave the flags which a jump reads.
 FLAGS = re.compile(
@@ -118,12 +121,12 @@ def judged(name, there, path, planted, record_them, found):
     return idle
 
 
-def looked_at(name, archive, path, planted, record_them, found):
-    """The look at the code of a build by LLVM."""
+def looked_at(name, archive, folder, record_them, found):
+    """The look at the code of a build by LLVM, with the lists of a folder."""
     there = jumps(archive)
-    idle = judged(name, there, path, planted, record_them, found)
+    idle = judged(name, there, folder / LISTS[name], PLANTED, record_them, found)
     # No reason speaks of the planted jump either.
-    if not unexplained(planted, path.with_name("reasons.tsv"))[0]:
+    if not unexplained(PLANTED, folder / "reasons.tsv")[0]:
         found.blind.append(f"{name}: a jump that no reason explains")
     if idle and name == "llvm":
         tools.say(f"{name}: lines of reasons.tsv for nothing: {'; '.join(idle)}")
