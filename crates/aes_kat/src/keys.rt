@@ -1,14 +1,8 @@
 //! Keys of the three sizes, and the ciphers under them.
-ghost use Rattle.std.specs.Prelude.{◌≡◌, true, is_ok, MatchResult};
-ghost use Rattle.hex.specs.Hex.{decode_of};
 ghost use Rattle.aes_planes.specs.Each.{Each};
 ghost use Rattle.aes_planes.specs.Fips197 as fips;
 ghost use Rattle.aes_kat.specs.Private.Keys.{key_bytes};
-ghost use Rattle.aes_kat.specs.Reply.{key_operand};
-ghost use Rattle.aes_kat.specs.Private.Steps.{decoded};
 
-use crate::faults::Fault;
-use crate::operands::bytes_of;
 use aes::{Block, FixslicedAes};
 use aes_cipher::aes::{Bits128, Bits192, Bits256, KeySize};
 use aes_cipher::cipher::{BlockCipherDecrypt, BlockCipherEncrypt, Decrypt, Encrypt, KeyInit};
@@ -22,23 +16,6 @@ pub(crate) enum Key {
 }
 
 impl Key {
-    // The key of a word.
-    #[tactic(auto, using(crate::proofs::OperandBytes::length_decoded))]
-    pub(crate) fn of_digits(word: &[u8]) -> Result<Key, Fault>
-        requires { is_ok (decode_of word.now) ≡ true }
-        ensures { MatchResult result
-            (λ key. key_operand (decoded word.now) ≡ Ok (key_bytes key))
-            (λ fault. key_operand (decoded word.now) ≡ Err fault) }
-    {
-        // Two digits are a byte.
-        match word.len() {
-            32 => Ok(Key::Bits128(bytes_of(word))),
-            48 => Ok(Key::Bits192(bytes_of(word))),
-            64 => Ok(Key::Bits256(bytes_of(word))),
-            _ => Err(Fault::Key),
-        }
-    }
-
     // Encrypts each block.
     pub(crate) fn encrypt(&self, blocks: &mut [Block])
         ensures { Each (fips.cipher (key_bytes self.now)) blocks.old blocks.new }

@@ -8,8 +8,8 @@ mod faults;
 mod keys;
 mod laws;
 mod operands;
+mod parsing;
 mod replies;
-mod requests;
 mod runs;
 mod split;
 

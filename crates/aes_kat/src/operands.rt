@@ -2,10 +2,12 @@
 ghost use Rattle.std.specs.Prelude.{◌≡◌, ◌≤◌, ◌*◌, true, is_ok, length, take, MatchResult};
 ghost use Rattle.std.specs.List.{list_all};
 ghost use Rattle.hex.specs.Hex.{decode_of, is_hex_digit};
-ghost use Rattle.aes_kat.specs.Reply.{block_operand, blocks_operand};
+ghost use Rattle.aes_kat.specs.Reply.{block_operand, blocks_operand, key_operand};
+ghost use Rattle.aes_kat.specs.Private.Keys.{key_bytes};
 ghost use Rattle.aes_kat.specs.Private.Steps.{decoded};
 
 use crate::faults::Fault;
+use crate::keys::Key;
 use aes::Block;
 
 // The number of bytes of a block.
@@ -43,7 +45,7 @@ pub(crate) fn is_hex(word: &[u8]) -> bool
 }
 
 // The bytes of a word, which has two digits for each.
-pub(crate) fn bytes_of<const SIZE: usize>(word: &[u8]) -> [u8; SIZE]
+fn bytes_of<const SIZE: usize>(word: &[u8]) -> [u8; SIZE]
     requires digits { is_ok (decode_of word.now) ≡ true }
     requires sized { length word.now ≡ 2 * SIZE }
     ensures { result ≡ decoded word.now }
@@ -51,6 +53,23 @@ pub(crate) fn bytes_of<const SIZE: usize>(word: &[u8]) -> [u8; SIZE]
     let mut bytes = [0u8; SIZE];
     hex::decode_to_slice(word, &mut bytes).unwrap();
     bytes
+}
+
+// The key of a word.
+#[tactic(auto, using(crate::proofs::OperandBytes::length_decoded))]
+pub(crate) fn key_operand(word: &[u8]) -> Result<Key, Fault>
+    requires { is_ok (decode_of word.now) ≡ true }
+    ensures { MatchResult result
+        (λ key. key_operand (decoded word.now) ≡ Ok (key_bytes key))
+        (λ fault. key_operand (decoded word.now) ≡ Err fault) }
+{
+    // Two digits are a byte.
+    match word.len() {
+        32 => Ok(Key::Bits128(bytes_of(word))),
+        48 => Ok(Key::Bits192(bytes_of(word))),
+        64 => Ok(Key::Bits256(bytes_of(word))),
+        _ => Err(Fault::Key),
+    }
 }
 
 // The block of a word.
@@ -67,7 +86,7 @@ pub(crate) fn block_operand(word: &[u8]) -> Result<Block, Fault>
 
 // Decodes the blocks of a word to the front of `blocks`, and returns how many they are.
 #[tactic(auto, using(crate::proofs::OperandBytes::length_decoded))]
-pub(crate) fn decode_blocks(word: &[u8], blocks: &mut [Block; MOST_BLOCKS]) -> Result<usize, Fault>
+pub(crate) fn blocks_operand(word: &[u8], blocks: &mut [Block; MOST_BLOCKS]) -> Result<usize, Fault>
     requires { is_ok (decode_of word.now) ≡ true }
     ensures { MatchResult result
         (λ count. (count ≤ 64) × (blocks_operand (decoded word.now) ≡ Ok (take count blocks.new)))

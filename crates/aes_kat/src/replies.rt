@@ -8,8 +8,8 @@ use crate::command_names::Command;
 use crate::digits::{write_block, write_joined, write_spaced};
 use crate::faults::Fault;
 use crate::keys::Key;
-use crate::operands::{MOST_BLOCKS, block_operand, decode_blocks, is_hex};
-use crate::requests::{Request, parse};
+use crate::operands::{MOST_BLOCKS, block_operand, blocks_operand, is_hex, key_operand};
+use crate::parsing::{Request, parse};
 use aes::expansion::{expand_128, expand_192, expand_256};
 use aes::hazmat;
 
@@ -23,9 +23,9 @@ fn answer_enc(key: &[u8], blocks: &[u8], out: &mut ReplyBuffer) -> Result<usize,
     requires block_digits { is_ok (decode_of blocks.now) ≡ true }
     ensures { IsAnswered (answer_of Command.Encrypt (decoded key.now) (decoded blocks.now)) result out.new }
 {
-    let key = Key::of_digits(key)?;
+    let key = key_operand(key)?;
     let mut buffer = [[0u8; 16]; MOST_BLOCKS];
-    let count = decode_blocks(blocks, &mut buffer)?;
+    let count = blocks_operand(blocks, &mut buffer)?;
     key.encrypt(&mut buffer[..count]);
     Ok(write_joined(&buffer[..count], out))
 }
@@ -37,9 +37,9 @@ fn answer_dec(key: &[u8], blocks: &[u8], out: &mut ReplyBuffer) -> Result<usize,
     requires block_digits { is_ok (decode_of blocks.now) ≡ true }
     ensures { IsAnswered (answer_of Command.Decrypt (decoded key.now) (decoded blocks.now)) result out.new }
 {
-    let key = Key::of_digits(key)?;
+    let key = key_operand(key)?;
     let mut buffer = [[0u8; 16]; MOST_BLOCKS];
-    let count = decode_blocks(blocks, &mut buffer)?;
+    let count = blocks_operand(blocks, &mut buffer)?;
     key.decrypt(&mut buffer[..count]);
     Ok(write_joined(&buffer[..count], out))
 }
@@ -98,7 +98,7 @@ fn answer_sched(key: &[u8], out: &mut ReplyBuffer) -> Result<usize, Fault>
     requires { is_ok (decode_of key.now) ≡ true }
     ensures { IsAnswered (answer_of Command.Schedule (decoded key.now) []) result out.new }
 {
-    Ok(match Key::of_digits(key)? {
+    Ok(match key_operand(key)? {
         Key::Bits128(key) => write_spaced(&expand_128(&key), out),
         Key::Bits192(key) => write_spaced(&expand_192(&key), out),
         Key::Bits256(key) => write_spaced(&expand_256(&key), out),
