@@ -5,7 +5,6 @@ mod batches;
 mod decrypt;
 mod decrypt_backend;
 mod directions;
-mod eight;
 mod encrypt;
 mod encrypt_backend;
 mod errors;
@@ -15,11 +14,12 @@ mod round_keys;
 mod sizes;
 
 pub use algorithm_name::AlgorithmName;
-pub use batches::{BatchSize, BatchSizeUser, ParBlocksSizeUser};
+pub use batches::{
+    BatchOfEight, BatchOfFour, BatchOfSixteen, BatchSize, BatchSizeUser, ParBlocksSizeUser,
+};
 pub use decrypt::BlockCipherDecrypt;
 pub use decrypt_backend::{BlockCipherDecBackend, BlockCipherDecClosure};
 pub use directions::{CipherIn, Decrypt, Direction, Encrypt};
-pub use eight::BatchOfEight;
 pub use encrypt::BlockCipherEncrypt;
 pub use encrypt_backend::{BlockCipherEncBackend, BlockCipherEncClosure};
 pub use errors::{InvalidLength, NotEqualError};

@@ -1,7 +1,6 @@
 //! Backends: fours by vector permutations, and batches on planes in either direction.
 
 ghost use Rattle.std.specs.Prelude.{◌≡◌, ℕ, List, length, map};
-ghost use Rattle.std.proofs.Common.{arith};
 ghost use Rattle.aes_planes.specs.Each.{Each};
 ghost use Rattle.aes_planes.specs.Fips197 as fips;
 ghost use Rattle.aes_planes.proofs.Standard.CipherLaws.{two_keys};
@@ -13,7 +12,7 @@ ghost use Rattle.aes_permute.specs.Keys.{cipher_key, IsCipherSchedule};
 use crate::blocks::{are_few, process_few};
 use crate::widths::Width;
 use aes_cipher::cipher::{
-    BatchSize, BatchSizeUser, BlockCipherDecBackend, BlockCipherEncBackend, Decrypt, Encrypt,
+    BatchOfFour, BatchSizeUser, BlockCipherDecBackend, BlockCipherEncBackend, Decrypt, Encrypt,
     RoundKeysUser,
 };
 use aes_permute::lane_rounds::LaneRounds;
@@ -23,17 +22,6 @@ use aes_planes::soft::word::Block;
 use aes_soft::soft::blocks::process_batch_under;
 use std::marker::{Model, PhantomData};
 use std::slice;
-
-// Batches of four blocks.
-pub(crate) struct BatchOfFour;
-
-impl BatchSize for BatchOfFour {
-    ghost PAR_BLOCKS = { 4 };
-
-    const PAR_BLOCKS: usize = 4;
-
-    ghost at_least_one = { Prim.omega arith };
-}
 
 // Processes single blocks and fours by vector permutations. `keys` are the stored round keys of Cipher, and `used` those of
 // the direction.

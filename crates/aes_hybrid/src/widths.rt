@@ -2,24 +2,12 @@
 //! from which planes take less time stand here too, as they were measured.
 
 ghost use Rattle.std.specs.Prelude.{◌≡◌, refl};
-ghost use Rattle.std.proofs.Common.{arith};
 
-use aes_cipher::cipher::{BatchOfEight, BatchSize};
+use aes_cipher::cipher::{BatchOfEight, BatchOfSixteen, BatchSize};
 use aes_permute::lanes::Lanes;
 use aes_planes::soft::word::{Batch, Word};
 use aes_soft::soft::blocks::BatchWord;
 use std::simd::prelude::*;
-
-/// Batches of sixteen blocks.
-pub struct BatchOfSixteen;
-
-impl BatchSize for BatchOfSixteen {
-    ghost PAR_BLOCKS = { 16 };
-
-    const PAR_BLOCKS: usize = 16;
-
-    ghost at_least_one = { Prim.omega arith };
-}
 
 /// A width of vectors and words. Callers name one of the two below; contracts are the same for both.
 pub trait Width {

@@ -1,6 +1,7 @@
 //! How many blocks a backend works on at once.
 
 ghost use Rattle.std.specs.Prelude.{ℕ, ◌≤◌};
+ghost use Rattle.std.proofs.Common.{arith};
 
 use super::round_keys::RoundKeysUser;
 use super::sizes::BlockSizeUser;
@@ -15,6 +16,39 @@ pub trait BatchSize {
 
     /// A batch has at least one block.
     ghost at_least_one: { 1 ≤ PAR_BLOCKS };
+}
+
+/// Four blocks, as two vectors of 256 bits hold them.
+pub struct BatchOfFour;
+
+impl BatchSize for BatchOfFour {
+    ghost PAR_BLOCKS = { 4 };
+
+    const PAR_BLOCKS: usize = 4;
+
+    ghost at_least_one = { Prim.omega arith };
+}
+
+/// Eight blocks, as many as eight words of 128 bits hold.
+pub struct BatchOfEight;
+
+impl BatchSize for BatchOfEight {
+    ghost PAR_BLOCKS = { 8 };
+
+    const PAR_BLOCKS: usize = 8;
+
+    ghost at_least_one = { Prim.omega arith };
+}
+
+/// Sixteen blocks, as many as eight words of 256 bits hold.
+pub struct BatchOfSixteen;
+
+impl BatchSize for BatchOfSixteen {
+    ghost PAR_BLOCKS = { 16 };
+
+    const PAR_BLOCKS: usize = 16;
+
+    ghost at_least_one = { Prim.omega arith };
 }
 
 /// A type that names another type for the number of blocks in a batch.
