@@ -4,7 +4,7 @@ use Rattle.std.proofs.Common.{ap, ◌∙◌, arith, bit_xor, length}
 use Rattle.std.proofs.Math.Nat.{div-div-eq-div-mul, pow-suc}
 use Rattle.std.proofs.lemmas.Simd.{get_or-zip2, length-zip2}
 use Rattle.std.specs.Int.{w128, to_be_bytes, from_be_bytes}
-use lib.Lanes.{zip2}
+use lib.Lanes.{zip2, digits_l, pick_l}
 use Rattle.aes_planes.specs.Fips197.{IsBytes, IsBlock, add_round_key, build, build_from}
 use Rattle.aes_planes.proofs.Lists.{built}
 use Rattle.aes_planes.proofs.Standard.States.{state_is}
@@ -15,6 +15,18 @@ unfolding add_round_key
 blocks_summed a b la lb =
     sym (state_is _ (zip2 bit_xor a b) (length-zip2 bit_xor a b (la ∙ sym lb) ∙ la)
     (λ r k h l. sym (get_or-zip2 bit_xor a b (r + 4 * k) 0 0 0 (omega (arith, la)) (omega (arith, lb)))))
+
+-- the digits of a number, the last of them first, are its bytes
+bytes_from_last : (m n : ℕ) → m ≡ n
+    → pick_l 0 (digits_l 256 16 m) (15 ∷ 14 ∷ 13 ∷ 12 ∷ 11 ∷ 10 ∷ 9 ∷ 8 ∷ 7 ∷ 6 ∷ 5 ∷ 4 ∷ 3 ∷ 2 ∷ 1 ∷ 0 ∷ [])
+    ≡ to_be_bytes w128 n
+bytes_from_last m n is = simp (is, div-div-eq-div-mul)
+
+-- and so where the number is made of its halves
+pub bytes_of_halves : (n : ℕ)
+    → pick_l 0 (digits_l 256 16 (n % 2 ^ 64 + 2 ^ 64 * (n / 2 ^ 64 + 2 ^ 64 * 0)))
+    (15 ∷ 14 ∷ 13 ∷ 12 ∷ 11 ∷ 10 ∷ 9 ∷ 8 ∷ 7 ∷ 6 ∷ 5 ∷ 4 ∷ 3 ∷ 2 ∷ 1 ∷ 0 ∷ []) ≡ to_be_bytes w128 n
+bytes_of_halves n = bytes_from_last _ n (omega arith)
 
 -- the number of the bytes of a number
 pub number_back : (n : ℕ) (x : List ℕ) → n < 2 ^ 128 → x ≡ to_be_bytes w128 n → from_be_bytes w128 x ≡ n

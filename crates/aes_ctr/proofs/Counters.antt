@@ -1,9 +1,7 @@
--- The bytes of counters, written by halves.
+-- Counter blocks, one after the other.
 use Rattle.std.proofs.Common.{◌≡◌, ℕ, ◌+◌, ◌*◌, ◌/◌, ◌%◌, ◌^◌, ◌<◌, List, [], ◌∷◌, length, get_or, set, sym, ap}
 use Rattle.std.proofs.Common.{◌∙◌, arith}
-use Rattle.std.proofs.Math.Nat.{div-div-eq-div-mul}
 use Rattle.std.proofs.lemmas.List.Edits.{fill_by_more}
-use lib.Lanes.{digits_l, pick_l}
 use Rattle.std.specs.Int.{w128, to_be_bytes, from_be_bytes}
 use Rattle.aes_ctr.specs.CounterMode.{counter, counter_block}
 
@@ -28,15 +26,3 @@ counted_one iv blocks j i k n block is made fits before below =
 
 -- what a loop over counter blocks uses: its first counter, the next one, and one more block written
 pub ruleset counted = (counter_first, counter_next, counted_one)
-
--- the digits of a number, the last of them first, are its bytes
-pub bytes_from_last : (m n : ℕ) → m ≡ n
-    → pick_l 0 (digits_l 256 16 m) (15 ∷ 14 ∷ 13 ∷ 12 ∷ 11 ∷ 10 ∷ 9 ∷ 8 ∷ 7 ∷ 6 ∷ 5 ∷ 4 ∷ 3 ∷ 2 ∷ 1 ∷ 0 ∷ [])
-    ≡ to_be_bytes w128 n
-bytes_from_last m n is = simp (is, div-div-eq-div-mul)
-
--- and so where the number is made of its halves
-pub bytes_of_halves : (n : ℕ)
-    → pick_l 0 (digits_l 256 16 (n % 2 ^ 64 + 2 ^ 64 * (n / 2 ^ 64 + 2 ^ 64 * 0)))
-    (15 ∷ 14 ∷ 13 ∷ 12 ∷ 11 ∷ 10 ∷ 9 ∷ 8 ∷ 7 ∷ 6 ∷ 5 ∷ 4 ∷ 3 ∷ 2 ∷ 1 ∷ 0 ∷ []) ≡ to_be_bytes w128 n
-bytes_of_halves n = bytes_from_last _ n (omega arith)

@@ -1,25 +1,11 @@
 //! Blocks of the keystream.
 
 ghost use Rattle.std.specs.Prelude.{◌≡◌, ℕ, [], ◌+◌, ◌<◌, ◌≤◌, length, slice_index_or};
-ghost use Rattle.std.specs.Int.{w128, to_be_bytes};
 ghost use Rattle.aes_planes.specs.Fips197 as fips;
 ghost use Rattle.aes_ctr.specs.CounterMode.{counter_block};
 
+use aes_cipher::blocks::block_of_number;
 use aes_cipher::cipher::{Block, BlockCipherEncBackend, BlockCipherEncrypt};
-use std::simd::prelude::*;
-
-// The bytes of a number, the highest first: by its halves as lanes, since LLVM makes fifty instructions of
-// `to_be_bytes`.
-#[tactic(auto, using(crate::proofs::Counters::bytes_of_halves))]
-#[inline(always)]
-fn block_of(number: u128) -> Block
-    ensures { result ≡ to_be_bytes w128 number }
-{
-    let low = (number % (1 << 64)) as u64;
-    let high = (number >> 64) as u64;
-    let bytes = u64x2::from_array([low, high]).to_le_bytes();
-    bytes.reverse().to_array()
-}
 
 // Writes counter blocks, from number `first` on.
 #[tactic(auto, using(crate::proofs::Counters::counted))]
@@ -29,7 +15,7 @@ pub(crate) fn count_on(iv: &Block, first: u64, blocks: &mut [Block])
 {
     let mut counter = u128::from_be_bytes(*iv).wrapping_add(first as u128);
     for i in 0..blocks.len() {
-        blocks[i] = block_of(counter);
+        blocks[i] = block_of_number(counter);
         counter = counter.wrapping_add(1);
     }
 }
