@@ -7,7 +7,8 @@ ghost use Rattle.aes_permute.specs.Keys.{encrypting, cipher_key, AreInverse, IsC
 ghost use Rattle.aes_permute.specs.Stored.{IsWritten};
 
 use crate::lanes::Lanes;
-use crate::rounds::{encrypting_key, inverted_key, sub_bytes_but_constant};
+use crate::rounds::{encrypting_key, inverted_key};
+use crate::sbox::sub_bytes_but_constant;
 use aes_planes::expansion::{self, FourWords};
 use aes_planes::laws;
 use aes_planes::soft::sbox::Layers;

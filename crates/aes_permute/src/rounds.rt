@@ -171,13 +171,3 @@ pub fn inverted_key(stored: u8x16) -> u8x16
 {
     decrypting_key(plain_key(stored))
 }
-
-/// SubBytes of a block as it is, but for the constant of the S-box (FIPS 197, 5.1.1).
-#[inline(always)]
-pub fn sub_bytes_but_constant(x: u8x16) -> u8x16
-    requires block { fips.IsBlock x }
-    ensures { result ≡ map plus63 (fips.sub_bytes x) }
-{
-    let tower = looked_up_by_nibbles(x, TOWER_LOW, TOWER_HIGH);
-    looked_up(places_of(tower), SBOX_FIRST, SBOX_SECOND)
-}

@@ -2,11 +2,14 @@
 
 ghost use Rattle.std.specs.Prelude.{◌≡◌, ℕ, map};
 ghost use Rattle.std.specs.Simd.Lanes.{zip2};
+ghost use Rattle.aes_planes.specs.Fips197 as fips;
+ghost use Rattle.aes_planes.specs.Planes.{plus63};
 ghost use Rattle.aes_permute.specs.Lookup.{Nibbles, AreIndices};
 ghost use Rattle.aes_permute.specs.Inverse.{first_place, second_place, first_of, second_of, at_places};
 
-use crate::lanes::Lanes;
-use crate::tables::{INVERSE, SCALED_INVERSE};
+use crate::lanes::{Lanes, looked_up_by_nibbles};
+use crate::tables::{INVERSE, SBOX_FIRST, SBOX_SECOND, SCALED_INVERSE, TOWER_HIGH, TOWER_LOW};
+use std::simd::prelude::*;
 
 /// The two places of an inverse in the field, lane by lane. What is linear in the inverse is the sum of two tables'
 /// entries.
@@ -63,4 +66,14 @@ pub fn looked_up<L: Lanes>(at: TwoPlaces<L>, first: [u8; 16], second: [u8; 16]) 
     let by_first = at.first.lookup(first);
     let by_second = at.second.lookup(second);
     by_first.sum(by_second)
+}
+
+/// SubBytes of a block as it is, but for the constant of the S-box (FIPS 197, 5.1.1).
+#[inline(always)]
+pub fn sub_bytes_but_constant(x: u8x16) -> u8x16
+    requires block { fips.IsBlock x }
+    ensures { result ≡ map plus63 (fips.sub_bytes x) }
+{
+    let tower = looked_up_by_nibbles(x, TOWER_LOW, TOWER_HIGH);
+    looked_up(places_of(tower), SBOX_FIRST, SBOX_SECOND)
 }

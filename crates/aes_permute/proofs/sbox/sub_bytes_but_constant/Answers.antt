@@ -1,10 +1,10 @@
--- What is left to show of `rounds::sub_bytes_but_constant`.
+-- What is left to show of `sbox::sub_bytes_but_constant`.
 use Rattle.std.proofs.Common.{ap, map, ◌∙◌}
 use lib.Lanes.{zip2}
 use Rattle.aes_permute.specs.Inverse.{first_of, second_of, at_places}
 use Rattle.aes_permute.specs.declared.tables.TheConstants.{SBOX_FIRST, SBOX_SECOND}
 use Rattle.aes_permute.proofs.RoundLanes.{sub_bytes_is}
-use Rattle.aes_permute.proofs.rounds.sub_bytes_but_constant.Goals as goal
+use Rattle.aes_permute.proofs.sbox.sub_bytes_but_constant.Goals as goal
 
 pub returns : goal.returns
 returns c =
