@@ -1,4 +1,5 @@
 -- Words: their constants, and packing at every width.
+pub mod ByteLanes
 pub mod Constants
 pub mod LaneBits
 pub mod Moved
@@ -7,4 +8,3 @@ pub mod PlaneLanes
 pub mod Spread
 pub mod Transpose
 pub mod Wide
-pub mod WidePacking

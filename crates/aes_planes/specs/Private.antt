@@ -1,5 +1,4 @@
 -- What private functions do on the way: no public contract names it.
 pub mod BuiltLength
-pub mod Lanes
 pub mod Packing
 pub mod Swaps

@@ -1,21 +1,20 @@
 -- The bits of a number through the operations on numbers.
 use Rattle.std.proofs.Common.{◌≡◌, ℕ, zero, suc, ◌+◌, ◌-◌, ◌*◌, ◌/◌, ◌%◌, ◌^◌, ◌<◌, ◌≤◌, ◌==◌, min, max, Bool, true}
-use Rattle.std.proofs.Common.{false, ◌&&◌, ◌||◌, not, nat_le, nat_lt, bit_and, bit_or, bit_xor, List, [], ◌∷◌, length}
-use Rattle.std.proofs.Common.{refl, ap, sym, ◌∙◌, arith, add-zero, add_comm, pow_pos, inl, inr, w16, w32, w64}
+use Rattle.std.proofs.Common.{false, ◌&&◌, ◌||◌, nat_le, nat_lt, bit_and, bit_or, bit_xor, List, [], ◌∷◌, length}
+use Rattle.std.proofs.Common.{refl, ap, sym, ◌∙◌, arith, add-zero, add_comm, pow_pos, inl, inr}
 use Rattle.std.proofs.Common.{cond}
 use Rattle.std.proofs.Math.Bool.{or-false, or_self}
-use Rattle.std.specs.Int.{bit_at, bit_not, Width}
+use Rattle.std.specs.Int.{bit_at}
 use lib.Lanes.{mask_l}
-use mir.Val.{bits}
 use Rattle.std.proofs.lemmas.Simd.{bit_mask_l, mask_l-lt}
-use Rattle.std.proofs.lemmas.Nat.Bits.{bit_at-lt, bit_at_and, bit_at_or, bit_at_xor, bit_at_not, bit_at_cat_low}
+use Rattle.std.proofs.lemmas.Nat.Bits.{bit_at-lt, bit_at_and, bit_at_or, bit_at_xor, bit_at_cat_low}
 use Rattle.std.proofs.lemmas.Nat.Bits.{bit_at_cat_high, bit_at-zero, bit_at_above, bit_at_ones}
 use Rattle.std.proofs.lemmas.Nat.{shr-shr, shr_split}
 use Rattle.std.proofs.Math.Nat.{mod-eq_of_lt, mod_self, mod-eq-sub-mod, zero-mod, mod-lt}
 use Rattle.std.proofs.lemmas.Bool.{cases_lt, eqb-true, lt-ltb, le-ltb, le-leb, lt-leb}
 use Rattle.aes_planes.specs.Bits.{at, bit, number, xor, Places}
 use Rattle.aes_planes.specs.Fips197.{build}
-use Rattle.aes_planes.proofs.Bits.ByteCases.{all_below, all_below_tells, by_two, by_pairs}
+use Rattle.aes_planes.proofs.Bits.ByteCases.{all_below, all_below_tells, by_pairs}
 use Rattle.aes_planes.proofs.Lists.{get_or-build}
 
 -- the bits of a number, place by place
@@ -32,9 +31,6 @@ or_test = by_pairs _ refl refl refl refl
 xor_test : (p q : ℕ) → p < 2 → q < 2 → ((p + q) % 2 == 1) ≡ xor (p == 1) (q == 1)
 xor_test = by_pairs _ refl refl refl refl
 
-not_test : (p : ℕ) → p < 2 → (1 - p == 1) ≡ not (p == 1)
-not_test = by_two _ refl refl
-
 -- bit i of a bitwise and is the and of the two bits i
 pub bit_of_and : (a b i : ℕ) → bit (bit_and a b) i ≡ (bit a i && bit b i)
 unfolding bit
@@ -49,10 +45,6 @@ bit_of_or a b i = ap (λ x. x == 1) (bit_at_or a b i) ∙ or_test _ _ (bit_at-lt
 pub bit_of_xor : (a b i : ℕ) → bit (bit_xor a b) i ≡ xor (bit a i) (bit b i)
 unfolding bit
 bit_of_xor a b i = ap (λ x. x == 1) (bit_at_xor a b i) ∙ xor_test _ _ (bit_at-lt a i) (bit_at-lt b i)
-
-bit_of_not : (w : Width) (a i : ℕ) → a < 2 ^ bits w → i < bits w → bit (bit_not w a) i ≡ not (bit a i)
-unfolding bit
-bit_of_not w a i h k = ap (λ x. x == 1) (bit_at_not w a i h k) ∙ not_test _ (bit_at-lt a i)
 
 -- no bit of 0 is set
 pub bit_zero : (i : ℕ) → bit 0 i ≡ false
@@ -69,46 +61,6 @@ bit_ones k i h = ap (λ v. v == 1) (bit_at_ones k i h)
 -- below n, bit i of a number is element i of the list of its lowest n bits
 pub reads : (n a i : ℕ) → i < n → bit a i ≡ at (build n (bit a)) i
 reads n a i h = sym (get_or-build n i (bit a) false h)
-
--- an operator on two words
-word_by : (f : ℕ → ℕ → ℕ) (g : Bool → Bool → Bool) → ((a b i : ℕ) → bit (f a b) i ≡ g (bit a i) (bit b i))
-    → (n a b : ℕ) → Places n (build n (bit (f a b))) (λ i. g (at (build n (bit a)) i) (at (build n (bit b)) i))
-word_by f g h n a b = Places-build n _ _ (λ i l. h a b i ∙ (λ t. g (reads n a i l t) (reads n b i l t)))
-
--- a word of the bitwise and has in each place the and of the two words' bits
-pub word_and : (n a b : ℕ) → Places n (build n (bit (bit_and a b)))
-    (λ i. at (build n (bit a)) i && at (build n (bit b)) i)
-word_and = word_by bit_and (λ x y. x && y) bit_of_and
-
--- a word of the bitwise or has in each place the or of the two words' bits
-pub word_or : (n a b : ℕ) → Places n (build n (bit (bit_or a b)))
-    (λ i. at (build n (bit a)) i || at (build n (bit b)) i)
-word_or = word_by bit_or (λ x y. x || y) bit_of_or
-
--- a word of the bitwise xor has in each place the sum of the two words' bits
-pub word_xor : (n a b : ℕ) → Places n (build n (bit (bit_xor a b)))
-    (λ i. xor (at (build n (bit a)) i) (at (build n (bit b)) i))
-word_xor = word_by bit_xor xor bit_of_xor
-
-word_not : (w : Width) (a : ℕ) → a < 2 ^ bits w
-    → Places (bits w) (build (bits w) (bit (bit_not w a))) (λ i. not (at (build (bits w) (bit a)) i))
-word_not w a h = Places-build (bits w) _ _ (λ i k. bit_of_not w a i h k ∙ ap not (reads (bits w) a i k))
-
--- the complement of a number of 16 bits has in each place the opposite bit
-pub word_not_16 : (a : ℕ) → a < 2 ^ 16 → Places 16 (build 16 (bit (bit_not w16 a))) (λ i. not (at (build 16 (bit a)) i))
-word_not_16 = word_not w16
-
--- the same at 32 bits
-pub word_not_32 : (a : ℕ) → a < 2 ^ 32 → Places 32 (build 32 (bit (bit_not w32 a))) (λ i. not (at (build 32 (bit a)) i))
-word_not_32 = word_not w32
-
--- the same at 64 bits
-pub word_not_64 : (a : ℕ) → a < 2 ^ 64 → Places 64 (build 64 (bit (bit_not w64 a))) (λ i. not (at (build 64 (bit a)) i))
-word_not_64 = word_not w64
-
--- a word of 0 has no bit set
-pub word_zero : (n : ℕ) → Places n (build n (bit 0)) (λ i. false)
-word_zero n = Places-build n _ _ (λ i h. bit_zero i)
 
 -- ---- shifts
 
@@ -212,10 +164,8 @@ pub word_ror : (w x n y : ℕ) → x < 2 ^ w → n < w → y ≡ bit_or (x / 2 ^
 word_ror w x n y f h e = Places-build w _ _ (λ i k.
     ap (λ v. bit v i) e ∙ ror_bit w x n i f h k ∙ reads w x ((i + n) % w) (mod-lt (i + n) (omega arith)))
 
--- what calls of a word leave, where it is a number
-pub ruleset number_calls = (word_and, word_or, word_xor, word_zero, word_shl, word_shr, word_ror, word_low_byte)
-
-pub ruleset number_nots = (word_not_16, word_not_32, word_not_64)
+-- what calls of a word leave, where it is a number: of operators bit by bit
+pub ruleset number_calls = (get_or-build, bit_of_and, bit_of_or, bit_of_xor, word_shl, word_shr, word_ror, word_low_byte)
 
 -- ---- a byte by its bits
 

@@ -8,9 +8,8 @@ use Rattle.aes_planes.specs.Bits.{at, bit}
 use Rattle.aes_planes.specs.Words.{word_bits}
 use Rattle.aes_planes.proofs.Bits.BitCases.{same, same_tells}
 use Rattle.aes_planes.proofs.Bits.ByteCases.{all_below, all_below_tells, all_pairs_tell, by_four}
-use Rattle.aes_planes.proofs.Lists.{get_or-build}
 use Rattle.aes_planes.proofs.Bits.Digits.{field_bit, rows_joined, byte_repeated}
-use Rattle.aes_planes.proofs.Bits.NumberBits.{bit_low, bit_shr, reads, number_calls, number_nots}
+use Rattle.aes_planes.proofs.Bits.NumberBits.{bit_low, bit_shr, reads, number_calls}
 
 -- ---- a row of n bits a column
 
@@ -144,4 +143,4 @@ nibbles_of_16 b f i h = same_tells _ _ (all_pairs_tell 16 16
     (λ b i. same (bit (b * 0x1111) i) (bit b (i % 4 / 1))) refl b i f h)
 
 -- what most calls of a word leave, where it is a number
-pub ruleset word_calls = (number_calls, number_nots, get_or-build, bytes_of_16, bytes_of_32, bytes_of_64, nibbles_of_16)
+pub ruleset word_calls = (number_calls, bytes_of_16, bytes_of_32, bytes_of_64, nibbles_of_16)

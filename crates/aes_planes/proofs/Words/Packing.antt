@@ -1,14 +1,14 @@
 -- Packing at every width: planes that hold blocks, words as bytes, and the bytes of a block by swizzles.
 use Rattle.std.proofs.Common.{◌≡◌, ℕ, zero, suc, ◌+◌, ◌*◌, ◌/◌, ◌%◌, ◌^◌, ◌<◌, ◌≤◌, ◌==◌, Bool, true, List, [], ◌∷◌}
-use Rattle.std.proofs.Common.{◌++◌, length, map, get_or, T, refl, ap, sym, subst, ◌∙◌, arith, w8, Fits}
+use Rattle.std.proofs.Common.{◌++◌, length, map, get_or, T, refl, ap, sym, subst, ◌∙◌, arith, w8, Fits, inl, inr}
 use Rattle.std.specs.Int.{to_le_bytes, from_le_bytes, w32}
 use Rattle.std.proofs.lemmas.List.{ext_get_or, get_or-map, length-map}
 use Rattle.std.proofs.lemmas.Nat.{le_bytes_4}
 use Rattle.std.proofs.lemmas.Simd.{pick_l_left, Each1-get_or, Each1-from_get_or, below_from_Fits}
-use Rattle.std.proofs.lemmas.Bool.{eqb-true}
+use Rattle.std.proofs.lemmas.Bool.{cases_lt, eqb-true}
 use lib.Lanes.{Each1, pick_l, digits_l, number_l, all_below as all_lanes_below}
 use Rattle.aes_planes.specs.Bits.{at, bit}
-use Rattle.aes_planes.specs.Fips197.{byte_at, IsBlock, IsBytes}
+use Rattle.aes_planes.specs.Fips197.{byte_at, IsBlock}
 use Rattle.aes_planes.specs.Private.Packing.{row_byte}
 use Rattle.aes_planes.specs.Planes.{held, place}
 use Rattle.aes_planes.specs.Words.{word_bits, lane_bits}
@@ -21,42 +21,67 @@ use Rattle.aes_planes.proofs.Words.LaneBits.{lane_at}
 
 -- ---- planes and the words that they are the transpose of
 
--- word t of eight that n blocks are loaded into has in each lane j byte `from j t`, row by row, of block t % n
-abbrev IsLoaded : ℕ → (ℕ → ℕ → ℕ) → List (List ℕ) → List Bool → ℕ → Type 0
-IsLoaded n from blocks word t =
-    (j p : ℕ) → j < 2 * n → p < 8 → bit (row_byte (get_or blocks (t % n) []) (from j t)) p ≡ at word (8 * j + p)
-
--- lane i / 8 of word i % 8 has the byte whose place is i
-abbrev IsPlaced : ℕ → (ℕ → ℕ → ℕ) → Type 0
-IsPlaced n from = (r c k : ℕ) → r < 4 → c < 4 → k < n
-    → (place n r c k % 8 % n ≡ k) × (from (place n r c k / 8) (place n r c k % 8) ≡ 4 * r + c)
-
-abbrev IsTransposed : ℕ → List (List Bool) → List (List Bool) → Type 0
-IsTransposed n planes words = (p j t : ℕ) → p < 8 → 8 * j + 8 ≤ 16 * n → t < 8
-    → at (get_or planes p []) (8 * j + t) ≡ at (get_or words t []) (8 * j + p)
-
-transposed_held : (n : ℕ) (from : ℕ → ℕ → ℕ) (planes words : List (List Bool)) (blocks : List (List ℕ))
-    → length planes ≡ 8
-    → length blocks ≡ n → ((k : ℕ) → k < n → IsBlock (get_or blocks k [])) → IsPlaced n from
-    → IsTransposed n planes words
-    → ((t : ℕ) → t < 8 → IsLoaded n from blocks (get_or words t []) t) → held n planes ≡ blocks
-transposed_held n from planes words blocks lp lb typed placed turned loaded = holds_held n planes blocks (record {
+-- planes that have the bits of blocks, row by row, hold the blocks
+pub rows_held : (n : ℕ) (planes : List (List Bool)) (blocks : List (List ℕ)) → length planes ≡ 8 → length blocks ≡ n
+    → ((k : ℕ) → k < n → IsBlock (get_or blocks k []))
+    → ((p r c k : ℕ) → p < 8 → r < 4 → c < 4 → k < n
+    → at (get_or planes p []) (place n r c k) ≡ bit (row_byte (get_or blocks k []) (4 * r + c)) p)
+    → held n planes ≡ blocks
+rows_held n planes blocks lp lb typed same = holds_held n planes blocks (record {
   planes_count = lp;
   blocks_count = lb;
   block_length = λ k h. (typed k h).0;
   bytes = λ k h. (typed k h).1;
   bits = λ p r c k hp hr hc hk.
-      let i = place n r c k in
-      let lt : i < 16 * n = place_lt n r c k hr hc hk in
-      let spot : i ≡ 8 * (i / 8) + i % 8 = omega arith in
-      let s = placed r c k hr hc hk in
       let row : (4 * r + c) / 4 ≡ r = omega (arith, hc) in
       let column : (4 * r + c) % 4 ≡ c = omega (arith, hc) in
-      ap (at (get_or planes p [])) spot ∙ turned p (i / 8) (i % 8) hp (omega (arith, lt)) (omega arith)
-      ∙ sym (loaded (i % 8) (omega arith) (i / 8) p (omega (arith, lt)) hp)
-      ∙ (λ t. bit (row_byte (get_or blocks (s.0 t) []) (s.1 t)) p)
-      ∙ (λ t. bit (byte_at (get_or blocks k []) (row t) (column t)) p);
+      same p r c k hp hr hc hk ∙ (λ t. bit (byte_at (get_or blocks k []) (row t) (column t)) p);
 })
+
+-- word t of eight that n blocks are loaded into has as byte j byte `from j t`, row by row, of block `whose j t`
+abbrev IsLoaded : ℕ → (ℕ → ℕ → ℕ) → (ℕ → ℕ → ℕ) → List (List ℕ) → List Bool → ℕ → Type 0
+IsLoaded n whose from blocks word t =
+    (j p : ℕ) → j < 2 * n → p < 8 → bit (row_byte (get_or blocks (whose j t) []) (from j t)) p ≡ at word (8 * j + p)
+
+-- byte i / 8 of word i % 8 is the one whose place is i
+abbrev IsPlaced : ℕ → (ℕ → ℕ → ℕ) → (ℕ → ℕ → ℕ) → Type 0
+IsPlaced n whose from = (r c k : ℕ) → r < 4 → c < 4 → k < n
+    → (whose (place n r c k / 8) (place n r c k % 8) ≡ k) × (from (place n r c k / 8) (place n r c k % 8) ≡ 4 * r + c)
+
+abbrev IsTransposed : ℕ → List (List Bool) → List (List Bool) → Type 0
+IsTransposed n planes words = (p j t : ℕ) → p < 8 → 8 * j + 8 ≤ 16 * n → t < 8
+    → at (get_or planes p []) (8 * j + t) ≡ at (get_or words t []) (8 * j + p)
+
+transposed_held : (n : ℕ) (whose from : ℕ → ℕ → ℕ) (planes words : List (List Bool)) (blocks : List (List ℕ))
+    → length planes ≡ 8
+    → length blocks ≡ n → ((k : ℕ) → k < n → IsBlock (get_or blocks k [])) → IsPlaced n whose from
+    → IsTransposed n planes words
+    → ((t : ℕ) → t < 8 → IsLoaded n whose from blocks (get_or words t []) t) → held n planes ≡ blocks
+transposed_held n whose from planes words blocks lp lb typed placed turned loaded =
+    rows_held n planes blocks lp lb typed (λ p r c k hp hr hc hk.
+    let i = place n r c k in
+    let lt : i < 16 * n = place_lt n r c k hr hc hk in
+    let spot : i ≡ 8 * (i / 8) + i % 8 = omega arith in
+    let s = placed r c k hr hc hk in
+    ap (at (get_or planes p [])) spot ∙ turned p (i / 8) (i % 8) hp (omega (arith, lt)) (omega arith)
+    ∙ sym (loaded (i % 8) (omega arith) (i / 8) p (omega (arith, lt)) hp)
+    ∙ (λ t. bit (row_byte (get_or blocks (s.0 t) []) (s.1 t)) p))
+
+-- where a word has a byte of each of two blocks by turns, they are loaded into it
+pub by_turns : (blocks : List (List ℕ)) (word : List Bool) (t : ℕ)
+    → ((j p : ℕ) → j < 16 → p < 8 → bit (row_byte (get_or blocks t []) j) p ≡ at word (16 * j + p))
+    → ((j p : ℕ) → j < 16 → p < 8 → bit (row_byte (get_or blocks (8 + t) []) j) p ≡ at word (16 * j + 8 + p))
+    → IsLoaded 16 (λ j t. 8 * (j % 2) + t) (λ j t. j / 2) blocks word t
+by_turns blocks word t low high j p hj hp = elim (cases_lt (j % 2) 1) [
+  | inl lt ↦
+      let block : 8 * (j % 2) + t ≡ t = omega (arith, lt) in
+      let spot : 16 * (j / 2) + p ≡ 8 * j + p = omega (arith, lt) in
+      ap (λ b. bit (row_byte (get_or blocks b []) (j / 2)) p) block ∙ low (j / 2) p (omega arith) hp ∙ ap (at word) spot
+  | inr le ↦
+      let block : 8 * (j % 2) + t ≡ 8 + t = omega (arith, le) in
+      let spot : 16 * (j / 2) + 8 + p ≡ 8 * j + p = omega (arith, le) in
+      ap (λ b. bit (row_byte (get_or blocks b []) (j / 2)) p) block ∙ high (j / 2) p (omega arith) hp ∙ ap (at word) spot
+]
 
 -- the blocks of a batch, read from place i on
 abbrev pub IsRead : ℕ → List (List ℕ) → List (List ℕ) → Type 0
@@ -71,16 +96,16 @@ read_at i (b ∷ bs) batch (suc k) h l =
     let t = read_at (suc i) bs batch k h.1 (omega arith) in
     (t.0, t.1 ∙ ap (λ v. get_or batch v []) (omega arith))
 
-module _ {A : Type 0} (bits : A → List Bool) (n : ℕ) (from : ℕ → ℕ → ℕ) (placed : IsPlaced n from) where
+module _ {A : Type 0} (bits : A → List Bool) (n : ℕ) (whose from : ℕ → ℕ → ℕ) (placed : IsPlaced n whose from) where
   -- the transpose of the words that a batch is loaded into holds the batch
   pub packed : (planes words : List A) (blocks batch : List (List ℕ)) → length planes ≡ 8 → length blocks ≡ n
       → length batch ≡ n
       → IsRead 0 blocks batch → IsTransposed n (map bits planes) (map bits words)
-      → ((t : ℕ) → t < 8 → IsLoaded n from blocks (get_or (map bits words) t []) t) → held n (map bits planes) ≡ batch
+      → ((t : ℕ) → t < 8 → IsLoaded n whose from blocks (get_or (map bits words) t []) t) → held n (map bits planes) ≡ batch
   packed planes words blocks batch lp lb lh h turned loaded =
       let read : (k : ℕ) → k < n → IsBlock (get_or blocks k []) × (get_or blocks k [] ≡ get_or batch (0 + k) []) =
       λ k l. read_at 0 blocks batch k h (omega (arith, lb, l)) in
-      transposed_held n from (map bits planes) (map bits words) blocks (length-map planes bits ∙ lp) lb
+      transposed_held n whose from (map bits planes) (map bits words) blocks (length-map planes bits ∙ lp) lb
       (λ k l. (read k l).0)
       placed turned loaded
       ∙ ext_get_or [] blocks batch (lb ∙ sym lh) (λ k l. (read k (omega (arith, lb, l))).1
@@ -91,9 +116,9 @@ module _ {A : Type 0} (bits : A → List Bool) (n : ℕ) (from : ℕ → ℕ →
       → length words ≡ 8 → length blocks ≡ n → Each1 IsBlock blocks
       → ((t j p : ℕ) → t < 8 → 8 * j + 8 ≤ 16 * n → p < 8 → at (get_or (map bits words) t []) (8 * j + p)
       ≡ at (get_or planes p []) (8 * j + t))
-      → ((t : ℕ) → t < 8 → IsLoaded n from blocks (bits (get_or words t d)) t) → blocks ≡ held n planes
+      → ((t : ℕ) → t < 8 → IsLoaded n whose from blocks (bits (get_or words t d)) t) → blocks ≡ held n planes
   unpacked planes words d blocks lp lw lb typed turned loaded =
-      sym (transposed_held n from planes (map bits words) blocks lp lb
+      sym (transposed_held n whose from planes (map bits words) blocks lp lb
       (λ k l. Each1-get_or IsBlock blocks k [] (omega (arith, lb, l)) typed) placed
       (λ p j t hp hj ht. sym (turned t j p ht hj hp))
       (λ t ht j p hj hp. loaded t ht j p hj hp ∙ ap (λ x. at x (8 * j + p))
@@ -103,21 +128,15 @@ module _ {A : Type 0} (bits : A → List Bool) (n : ℕ) (from : ℕ → ℕ →
 pub one_packed : (planes block : List ℕ) → length planes ≡ 8 → IsBlock block
     → ((p i : ℕ) → p < 8 → i < 16 → bit (get_or planes p 0) i ≡ bit (row_byte block i) p)
     → held 1 (map (word_bits 16) planes) ≡ block ∷ []
-one_packed planes block lp typed turned = holds_held 1 (map (word_bits 16) planes) (block ∷ []) (record {
-  planes_count = length-map planes (word_bits 16) ∙ lp;
-  blocks_count = refl;
-  block_length = by_one (λ k. length (get_or (block ∷ []) k []) ≡ 16) typed.0;
-  bytes = by_one (λ k. IsBytes (get_or (block ∷ []) k [])) typed.1;
-  bits = λ p r c k hp hr hc.
-      let spot : place 1 r c 0 ≡ 4 * r + c = omega arith in
-      let row : (4 * r + c) / 4 ≡ r = omega (arith, hc) in
-      let column : (4 * r + c) % 4 ≡ c = omega (arith, hc) in
-      by_one (λ k. at (get_or (map (word_bits 16) planes) p []) (place 1 r c k)
-      ≡ bit (byte_at (get_or (block ∷ []) k []) r c) p)
-      (ap (λ w. at w (place 1 r c 0)) (get_or-map (word_bits 16) planes p 0 [] (omega (arith, lp)))
-      ∙ ap (at (word_bits 16 (get_or planes p 0))) spot ∙ sym (reads 16 (get_or planes p 0) (4 * r + c) (omega arith))
-      ∙ turned p (4 * r + c) hp (omega arith) ∙ (λ t. bit (byte_at block (row t) (column t)) p)) k;
-})
+one_packed planes block lp typed turned =
+    rows_held 1 (map (word_bits 16) planes) (block ∷ []) (length-map planes (word_bits 16) ∙ lp) refl
+    (by_one (λ k. IsBlock (get_or (block ∷ []) k [])) typed) (λ p r c k hp hr hc.
+    let spot : place 1 r c 0 ≡ 4 * r + c = omega arith in
+    by_one (λ k. at (get_or (map (word_bits 16) planes) p []) (place 1 r c k)
+    ≡ bit (row_byte (get_or (block ∷ []) k []) (4 * r + c)) p)
+    (ap (λ w. at w (place 1 r c 0)) (get_or-map (word_bits 16) planes p 0 [] (omega (arith, lp)))
+    ∙ ap (at (word_bits 16 (get_or planes p 0))) spot ∙ sym (reads 16 (get_or planes p 0) (4 * r + c) (omega arith))
+    ∙ turned p (4 * r + c) hp (omega arith)) k)
 
 -- ---- words of four bytes
 

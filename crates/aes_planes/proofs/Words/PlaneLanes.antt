@@ -7,7 +7,7 @@ use Rattle.aes_planes.specs.Bits.{bit}
 use Rattle.aes_planes.proofs.Bits.BitCases.{same, same_tells}
 use Rattle.aes_planes.proofs.Bits.ByteCases.{all_below, all_pairs_tell}
 use Rattle.aes_planes.proofs.Bits.Digits.{digits_small, regrouped}
-use Rattle.aes_planes.proofs.Words.LaneBits.{lane_of_splat, length-splat, lane_small, shl8}
+use Rattle.aes_planes.proofs.Words.ByteLanes.{lane_of_splat, length-splat, lane_small, shl8}
 use Rattle.std.proofs.lemmas.Simd.{below_from_Fits, get_or-zip2, get_or-replicate, length-zip2, mask_l-mod}
 use Rattle.std.proofs.lemmas.Simd.{bit_mask_l, tops_compared}
 use Rattle.aes_planes.proofs.Words.Packing.{swizzled, together}

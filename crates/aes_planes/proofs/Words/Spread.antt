@@ -14,9 +14,10 @@ use Rattle.aes_planes.specs.Words.{lane_bits}
 use Rattle.aes_planes.specs.Private.Packing.{row_byte}
 use Rattle.aes_planes.proofs.Bits.ByteCases.{all_below, all_below_tells, all_pairs_tell, by_two}
 use Rattle.aes_planes.proofs.Bits.NumberBits.{Places-build, bit_low, bit_shl, bit_shr, bit_above, bit_zero, bit_ones}
-use Rattle.aes_planes.proofs.Bits.NumberBits.{bit_of_and, bit_of_or, word_zero, word_low_byte}
-use Rattle.aes_planes.proofs.Planes.Holds.{holds_held}
-use Rattle.aes_planes.proofs.Words.LaneBits.{lane_at, lane_of_two, lane_operators, lane_small}
+use Rattle.aes_planes.proofs.Bits.NumberBits.{bit_of_and, bit_of_or, word_low_byte}
+use Rattle.aes_planes.proofs.Words.ByteLanes.{lane_of_two, lane_operators, lane_small}
+use Rattle.aes_planes.proofs.Words.LaneBits.{lane_at, repeated_places}
+use Rattle.aes_planes.proofs.Words.Packing.{rows_held}
 
 -- ---- bits drawn apart
 
@@ -192,19 +193,13 @@ pub held_in_every_slot : {A : Type 0} (bits : A → List Bool) (n : ℕ) (ws : L
     → held n (map bits ws) ≡ replicate n block
 held_in_every_slot bits n ws d block xs eight typed lanes spread =
     let same : (k : ℕ) → k < n → get_or (replicate n block) k [] ≡ block = λ k hk. get_or-replicate n k block [] hk in
-    holds_held n (map bits ws) (replicate n block) (record {
-      planes_count = length-map ws bits ∙ eight;
-      blocks_count = length-replicate n block;
-      block_length = λ k hk. ap length (same k hk) ∙ typed.0;
-      bytes = λ k hk. subst fips.IsBytes (sym (same k hk)) typed.1;
-      bits = λ p r c k hp hr hc hk.
-          let row : (4 * r + c) / 4 ≡ r = omega arith in
-          let column : (4 * r + c) % 4 ≡ c = omega arith in
-          ap (λ w. at w (place n r c k)) (get_or-map bits ws p d [] (omega (arith, eight, hp)))
-          ∙ spread p r c k hp hr hc hk ∙ lane_at (get_or xs p []) (4 * r + c) (k % 8) (omega arith) (omega arith)
-          ∙ ap (λ v. bit v (k % 8)) (lanes p (4 * r + c) hp (omega arith)) ∙ lane_of_ones _ (k % 8) (omega arith)
-          ∙ (λ t. bit (fips.byte_at (sym (same k hk) t) (row t) (column t)) p);
-    })
+    rows_held n (map bits ws) (replicate n block) (length-map ws bits ∙ eight) (length-replicate n block)
+    (λ k hk. subst fips.IsBlock (sym (same k hk)) typed) (λ p r c k hp hr hc hk.
+    let q = 4 * r + c in
+    ap (λ w. at w (place n r c k)) (get_or-map bits ws p d [] (omega (arith, eight, hp)))
+    ∙ spread p r c k hp hr hc hk ∙ lane_at (get_or xs p []) q (k % 8) (omega arith) (omega arith)
+    ∙ ap (λ v. bit v (k % 8)) (lanes p q hp (omega arith)) ∙ lane_of_ones _ (k % 8) (omega arith)
+    ∙ ap (λ b. bit (row_byte b q) p) (sym (same k hk)))
 
 -- what the calls of a word leave, where it is lanes
-pub ruleset lane_calls = (lane_operators, lanes_spread, word_zero, word_low_byte)
+pub ruleset lane_calls = (lane_operators, repeated_places, word_low_byte)

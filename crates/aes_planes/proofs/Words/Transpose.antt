@@ -7,13 +7,13 @@ use lib.Lanes.{zip2}
 use Rattle.std.proofs.lemmas.Simd.{length-zip2}
 use Rattle.aes_planes.specs.Bits.{at, bit, xor}
 use Rattle.aes_planes.specs.Private.Packing.{source_word, source_bit}
-use Rattle.aes_planes.specs.Fips197.{build}
-use Rattle.aes_planes.specs.Words.{word_bits, lane_bit}
+use Rattle.aes_planes.specs.Words.{word_bits}
 use Rattle.aes_planes.proofs.Bits.BitCases.{all_bools, all_bools_tells, same, same_tells, xor_false}
 use Rattle.aes_planes.proofs.Bits.ByteCases.{all_below, all_pairs_tell}
 use Rattle.aes_planes.proofs.Bits.NumberBits.{bit_shl, bit_shl_high, bit_shr, bit_above, bit_of_and, bit_of_xor, reads}
 use Rattle.aes_planes.proofs.Words.Constants.{bytes_of_32, bytes_of_64}
-use Rattle.aes_planes.proofs.Words.LaneBits.{at_lane, lane_of_two, lane_of_splat, length-splat, shr8, shl8}
+use Rattle.aes_planes.proofs.Words.ByteLanes.{IsLayout, laid, at_byte, lane_of_two, lane_of_splat, length-splat, shr8}
+use Rattle.aes_planes.proofs.Words.ByteLanes.{shl8}
 
 -- ---- one exchange between two numbers
 
@@ -122,8 +122,8 @@ pub ruleset exchange_calls = (word_high, word_low, bytes_of_32, bytes_of_64)
 
 -- ---- the same on vectors, lane by lane
 
-module _ (n w s m : ℕ) (low high : List ℕ) (dl : length low ≡ n) (dh : length high ≡ n) (e : w ≡ 8 * n)
-    (f : m * 2 ^ s < 2 ^ 8) where
+module _ {n w : ℕ} {lane : ℕ → ℕ} (laws : IsLayout n w lane) (s m : ℕ) (low high : List ℕ) (dl : length low ≡ n)
+    (dh : length high ≡ n) (f : m * 2 ^ s < 2 ^ 8) where
   abbrev unequal : List ℕ
   unequal = zip2 bit_xor high (zip2 shr8 low (replicate n s))
 
@@ -145,30 +145,33 @@ module _ (n w s m : ℕ) (low high : List ℕ) (dl : length low ≡ n) (dh : len
       ∙ ap (bit_xor (get_or high j 0)) (lane_of_splat n shr8 low s j dl h))
 
   -- after an exchange the high vector has, under the mask, the low one's bit s places up, and else its own
-  pub lanes_high : (j r : ℕ) → 8 * j + 8 ≤ w → r < 8 → at (build w (lane_bit (zip2 bit_xor high moved))) (8 * j + r)
-      ≡ cond (bit m r) (at (build w (lane_bit low)) (8 * j + (r + s))) (at (build w (lane_bit high)) (8 * j + r))
+  pub lanes_high : (j r : ℕ) → 8 * j + 8 ≤ w → r < 8 → at (laid w lane (zip2 bit_xor high moved)) (8 * j + r)
+      ≡ cond (bit m r) (at (laid w lane low) (8 * j + (r + s))) (at (laid w lane high) (8 * j + r))
   lanes_high j r hj hr =
-      let h : j < n = omega (arith, e, hj) in
-      at_lane n w e (zip2 bit_xor high moved) j r h hr
-      ∙ ap (λ v. bit v r) (lane_of_two n bit_xor high moved j dh length-moved h
-      ∙ ap (bit_xor (get_or high j 0)) (lane_of_moved j h))
-      ∙ exchanged_high s m (get_or low j 0) (get_or high j 0) r
-      ∙ chosen_same _ _ _ _ _ _ refl (λ is. sym (at_lane n w e low j (r + s) h (inside s m r f is)))
-      (sym (at_lane n w e high j r h hr))
+      let l = lane (8 * j) in
+      let h : l < n = laws.within (8 * j) (omega arith) in
+      at_byte laws (zip2 bit_xor high moved) j r hj hr
+      ∙ ap (λ v. bit v r) (lane_of_two n bit_xor high moved l dh length-moved h
+      ∙ ap (bit_xor (get_or high l 0)) (lane_of_moved l h))
+      ∙ exchanged_high s m (get_or low l 0) (get_or high l 0) r
+      ∙ chosen_same _ _ _ _ _ _ refl (λ is. sym (at_byte laws low j (r + s) hj (inside s m r f is)))
+      (sym (at_byte laws high j r hj hr))
 
   -- and the low vector has, s places above the mask, the high one's bit s places down, and else its own
   pub lanes_low : (j r : ℕ) → 8 * j + 8 ≤ w → r < 8
-      → at (build w (lane_bit (zip2 bit_xor low (zip2 shl8 moved (replicate n s))))) (8 * j + r)
-      ≡ cond (nat_le s r && bit m (r - s)) (at (build w (lane_bit high)) (8 * j + (r - s))) (at (build w (lane_bit low)) (8 * j + r))
+      → at (laid w lane (zip2 bit_xor low (zip2 shl8 moved (replicate n s)))) (8 * j + r)
+      ≡ cond (nat_le s r && bit m (r - s)) (at (laid w lane high) (8 * j + (r - s))) (at (laid w lane low) (8 * j + r))
   lanes_low j r hj hr =
-      let h : j < n = omega (arith, e, hj) in
+      let l = lane (8 * j) in
+      let h : l < n = laws.within (8 * j) (omega arith) in
       let shifted = zip2 shl8 moved (replicate n s) in
-      at_lane n w e (zip2 bit_xor low shifted) j r h hr
-      ∙ ap (λ v. bit v r) (lane_of_two n bit_xor low shifted j dl (length-splat n shl8 moved s length-moved) h
-      ∙ ap (bit_xor (get_or low j 0)) (lane_of_splat n shl8 moved s j length-moved h
-      ∙ ap (λ v. v * 2 ^ s % 2 ^ 8) (lane_of_moved j h)))
-      ∙ exchanged_low 8 s m (get_or low j 0) (get_or high j 0) r hr
-      ∙ chosen_same _ _ _ _ _ _ refl (λ is. sym (at_lane n w e high j (r - s) h (omega (arith, hr)))) (sym (at_lane n w e low j r h hr))
+      at_byte laws (zip2 bit_xor low shifted) j r hj hr
+      ∙ ap (λ v. bit v r) (lane_of_two n bit_xor low shifted l dl (length-splat n shl8 moved s length-moved) h
+      ∙ ap (bit_xor (get_or low l 0)) (lane_of_splat n shl8 moved s l length-moved h
+      ∙ ap (λ v. v * 2 ^ s % 2 ^ 8) (lane_of_moved l h)))
+      ∙ exchanged_low 8 s m (get_or low l 0) (get_or high l 0) r hr
+      ∙ chosen_same _ _ _ _ _ _ refl (λ is. sym (at_byte laws high j (r - s) hj (omega (arith, hr))))
+      (sym (at_byte laws low j r hj hr))
 
 -- ---- three exchanges
 

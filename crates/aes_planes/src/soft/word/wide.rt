@@ -3,7 +3,6 @@
 ghost use Rattle.std.specs.Prelude.{◌≡◌, ℕ, ◌+◌, ◌-◌, ◌*◌, ◌/◌, ◌%◌, ◌<◌, ◌≤◌, ◌&&◌, nat_le, nat_lt, [], ◌∷◌, get_or};
 ghost use Rattle.aes_planes.specs.Bits.{at, bit, Places};
 ghost use Rattle.aes_planes.specs.Words.{wide_bits, lane_bits};
-ghost use Rattle.aes_planes.specs.Private.Lanes.{lanes_of_32};
 ghost use Rattle.aes_planes.specs.Private.Packing.{row_byte};
 ghost use Rattle.aes_planes.specs.Fips197 as fips;
 
@@ -209,14 +208,14 @@ pub(crate) fn rows(r0: u8, r1: u8, r2: u8, r3: u8) -> u8x32
     twice(vector::rows(r0, r1, r2, r3))
 }
 
-// Two vectors side by side.
+// The bytes of two blocks, row by row, one in each half.
 #[inline(always)]
-fn join(low: u8x16, high: u8x16) -> u8x32
-    ensures low { (j p : ℕ) → j < 16 → p < 8 → at (lane_bits low) (8 * j + p) ≡ at (lanes_of_32 result) (8 * j + p) }
-    ensures high { (j p : ℕ) → j < 16 → p < 8 → at (lane_bits high) (8 * j + p) ≡ at (lanes_of_32 result) (8 * (16 + j) + p) }
+pub(crate) fn by_rows(low: Block, high: Block) -> u8x32
+    ensures low { (j p : ℕ) → j < 16 → p < 8 → bit (row_byte low j) p ≡ at (wide_bits result) (16 * j + p) }
+    ensures high { (j p : ℕ) → j < 16 → p < 8 → bit (row_byte high j) p ≡ at (wide_bits result) (16 * j + 8 + p) }
 {
-    low.shuffle(
-        high,
+    vector::by_rows(low).shuffle(
+        vector::by_rows(high),
         [
             0, 1, 2, 3, 4, 5, 6, 7, 8, 9, 10, 11, 12, 13, 14, 15, 16, 17, 18, 19, 20, 21, 22, 23,
             24, 25, 26, 27, 28, 29, 30, 31,
@@ -224,49 +223,24 @@ fn join(low: u8x16, high: u8x16) -> u8x32
     )
 }
 
-// The lower half of a vector.
-#[tactic(auto, using(crate::proofs::Words::WidePacking::lower))]
-#[inline(always)]
-fn low_half(x: u8x32) -> u8x16
-    ensures { (j p : ℕ) → j < 16 → p < 8 → at (lane_bits result) (8 * j + p) ≡ at (lanes_of_32 x) (8 * j + p) }
-{
-    x.swizzle([0, 1, 2, 3, 4, 5, 6, 7, 8, 9, 10, 11, 12, 13, 14, 15])
-}
-
-// The upper half of a vector.
-#[tactic(auto, using(crate::proofs::Words::WidePacking::upper))]
-#[inline(always)]
-fn high_half(x: u8x32) -> u8x16
-    ensures { (j p : ℕ) → j < 16 → p < 8 → at (lane_bits result) (8 * j + p) ≡ at (lanes_of_32 x) (8 * (16 + j) + p) }
-{
-    x.swizzle([
-        16, 17, 18, 19, 20, 21, 22, 23, 24, 25, 26, 27, 28, 29, 30, 31,
-    ])
-}
-
-// The bytes of two blocks, row by row, one in each half.
-#[inline(always)]
-pub(crate) fn by_rows(low: Block, high: Block) -> u8x32
-    ensures low { (j p : ℕ) → j < 16 → p < 8 → bit (row_byte low j) p ≡ at (lanes_of_32 result) (8 * j + p) }
-    ensures high { (j p : ℕ) → j < 16 → p < 8 → bit (row_byte high j) p ≡ at (lanes_of_32 result) (8 * (16 + j) + p) }
-{
-    join(vector::by_rows(low), vector::by_rows(high))
-}
-
 // The block of the rows in the lower half.
+#[tactic(auto, using(crate::proofs::Words::Wide::lower))]
 #[inline(always)]
 pub(crate) fn low_block(x: u8x32) -> Block
     ensures typed { fips.IsBlock result }
-    ensures bits { (j p : ℕ) → j < 16 → p < 8 → bit (row_byte result j) p ≡ at (lanes_of_32 x) (8 * j + p) }
+    ensures bits { (j p : ℕ) → j < 16 → p < 8 → bit (row_byte result j) p ≡ at (wide_bits x) (16 * j + p) }
 {
-    vector::by_columns(low_half(x))
+    vector::by_columns(x.swizzle([0, 1, 2, 3, 4, 5, 6, 7, 8, 9, 10, 11, 12, 13, 14, 15]))
 }
 
 // The block of the rows in the upper half.
+#[tactic(auto, using(crate::proofs::Words::Wide::upper))]
 #[inline(always)]
 pub(crate) fn high_block(x: u8x32) -> Block
     ensures typed { fips.IsBlock result }
-    ensures bits { (j p : ℕ) → j < 16 → p < 8 → bit (row_byte result j) p ≡ at (lanes_of_32 x) (8 * (16 + j) + p) }
+    ensures bits { (j p : ℕ) → j < 16 → p < 8 → bit (row_byte result j) p ≡ at (wide_bits x) (16 * j + 8 + p) }
 {
-    vector::by_columns(high_half(x))
+    vector::by_columns(x.swizzle([
+        16, 17, 18, 19, 20, 21, 22, 23, 24, 25, 26, 27, 28, 29, 30, 31,
+    ]))
 }

@@ -2,14 +2,15 @@
 
 ghost use Rattle.std.specs.Prelude.{◌≡◌};
 ghost use Rattle.std.proofs.Common.{arith, rules};
-ghost use Rattle.aes_planes.specs.Private.BuiltLength.{number_shape};
+ghost use Rattle.aes_planes.specs.Bits.{bit};
+ghost use Rattle.aes_planes.specs.Private.BuiltLength.{built_shape};
 ghost use Rattle.aes_planes.specs.Words.{word_bits, lane_bits};
 
 use super::Word;
 use super::batch::{Batch, Block, Blocks, Blocks8};
 use super::transpose::transpose;
 use super::vector::{
-    by_columns, by_rows, byte_for_each_bit, lanes_of_block, rotate_right, rows, shift_left,
+    by_columns, by_rows, lane_for_each_bit, lanes_of_block, rotate_right, rows, shift_left,
     shift_right,
 };
 use std::simd::prelude::*;
@@ -77,11 +78,6 @@ impl Word for u128 {
     }
 
     #[inline(always)]
-    fn bit_not(self) -> u128 {
-        word(lanes(self) ^ u8x16::splat(255))
-    }
-
-    #[inline(always)]
     fn shift_left(self, n: u32) -> u128 {
         word(shift_left(lanes(self), n))
     }
@@ -97,17 +93,6 @@ impl Word for u128 {
     }
 
     #[inline(always)]
-    fn ror_distance(rows: u32, cols: u32) -> u32 {
-        rows * Self::ROW_BITS + cols * Self::QUARTER_ROW
-    }
-
-    #[tactic(auto, using(crate::proofs::Words::Constants::same_nibble))]
-    #[inline(always)]
-    fn uniform_row(b: u8) -> u128 {
-        word(rows(b, b, b, b))
-    }
-
-    #[inline(always)]
     fn pack_rows(r0: u8, r1: u8, r2: u8, r3: u8) -> u128 {
         word(rows(r0, r1, r2, r3))
     }
@@ -118,13 +103,8 @@ impl Word for u128 {
     }
 
     #[inline(always)]
-    fn zero() -> u128 {
-        0
-    }
-
-    #[inline(always)]
     fn broadcast(x: u16) -> u128 {
-        word(byte_for_each_bit((x % 256) as u8, (x >> 8) as u8))
+        word(lane_for_each_bit(x))
     }
 
     #[inline(always)]
@@ -209,7 +189,7 @@ impl Word for u128 {
         ]
     }
 
-    ghost shape = { number_shape 8 _ (Prim.search rules) (Prim.search rules) (Prim.search rules) };
+    ghost shape = { built_shape bit 8 _ (Prim.search rules) (Prim.search rules) (Prim.search rules) };
 
     ghost keys_fit = { Prim.omega arith };
 }

@@ -2,8 +2,8 @@
 
 ghost use Rattle.std.specs.Prelude.{◌≡◌};
 ghost use Rattle.std.proofs.Common.{arith, rules};
-ghost use Rattle.aes_planes.specs.Words.{wide_bits};
-ghost use Rattle.aes_planes.specs.Private.BuiltLength.{wide_shape};
+ghost use Rattle.aes_planes.specs.Words.{wide_bit, wide_bits};
+ghost use Rattle.aes_planes.specs.Private.BuiltLength.{built_shape};
 
 use super::batch::{Batch, Block, Blocks, Blocks16};
 use super::transpose::transpose;
@@ -53,11 +53,6 @@ impl Word for u8x32 {
     }
 
     #[inline(always)]
-    fn bit_not(self) -> u8x32 {
-        self ^ u8x32::splat(255)
-    }
-
-    #[inline(always)]
     fn shift_left(self, n: u32) -> u8x32 {
         wide::shift_left(self, n)
     }
@@ -73,11 +68,6 @@ impl Word for u8x32 {
     }
 
     #[inline(always)]
-    fn ror_distance(rows: u32, cols: u32) -> u32 {
-        rows * Self::ROW_BITS + cols * Self::QUARTER_ROW
-    }
-
-    #[inline(always)]
     fn pack_rows(r0: u8, r1: u8, r2: u8, r3: u8) -> u8x32 {
         wide::rows(r0, r1, r2, r3)
     }
@@ -85,11 +75,6 @@ impl Word for u8x32 {
     #[inline(always)]
     fn byte_repeat(b: u8) -> u8x32 {
         u8x32::splat(b)
-    }
-
-    #[inline(always)]
-    fn zero() -> u8x32 {
-        u8x32::splat(0)
     }
 
     #[inline(always)]
@@ -170,7 +155,7 @@ impl Word for u8x32 {
         ]
     }
 
-    ghost shape = { wide_shape _ (Prim.search rules) };
+    ghost shape = { built_shape wide_bit 16 _ (Prim.search rules) (Prim.search rules) (Prim.search rules) };
 
     ghost keys_fit = { Prim.omega arith };
 }

@@ -3,7 +3,7 @@
 ghost use Rattle.std.specs.Prelude.{◌≡◌, ℕ, ◌+◌, ◌*◌, ◌<◌, [], ◌∷◌, slice_index};
 ghost use Rattle.std.proofs.Common.{arith, rules};
 ghost use Rattle.aes_planes.specs.Bits.{at, bit};
-ghost use Rattle.aes_planes.specs.Private.BuiltLength.{number_shape};
+ghost use Rattle.aes_planes.specs.Private.BuiltLength.{built_shape};
 ghost use Rattle.aes_planes.specs.Private.Packing.{row_byte};
 ghost use Rattle.aes_planes.specs.Words.{word_bits};
 
@@ -54,11 +54,6 @@ impl Word for u32 {
     }
 
     #[inline(always)]
-    fn bit_not(self) -> u32 {
-        !self
-    }
-
-    #[inline(always)]
     fn shift_left(self, n: u32) -> u32 {
         self << n
     }
@@ -74,11 +69,6 @@ impl Word for u32 {
     }
 
     #[inline(always)]
-    fn ror_distance(rows: u32, cols: u32) -> u32 {
-        rows * Self::ROW_BITS + cols * Self::QUARTER_ROW
-    }
-
-    #[inline(always)]
     fn pack_rows(r0: u8, r1: u8, r2: u8, r3: u8) -> u32 {
         let x0 = row_of(r0, 2);
         let x1 = row_of(r1, 2);
@@ -90,11 +80,6 @@ impl Word for u32 {
     #[inline(always)]
     fn byte_repeat(b: u8) -> u32 {
         b as u32 * 0x0101_0101
-    }
-
-    #[inline(always)]
-    fn zero() -> u32 {
-        0
     }
 
     #[inline(always)]
@@ -126,7 +111,7 @@ impl Word for u32 {
         Blocks { blocks: [b0, b1] }
     }
 
-    ghost shape = { number_shape 2 _ (Prim.search rules) (Prim.search rules) (Prim.search rules) };
+    ghost shape = { built_shape bit 2 _ (Prim.search rules) (Prim.search rules) (Prim.search rules) };
 
     ghost keys_fit = { Prim.omega arith };
 }

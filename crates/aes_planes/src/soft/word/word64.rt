@@ -3,7 +3,7 @@
 ghost use Rattle.std.specs.Prelude.{◌≡◌, ℕ, ◌+◌, ◌-◌, ◌*◌, ◌/◌, ◌^◌, ◌<◌, ◌&&◌, ◌||◌, nat_le, [], ◌∷◌, slice_index};
 ghost use Rattle.std.proofs.Common.{arith, rules};
 ghost use Rattle.aes_planes.specs.Bits.{at, bit};
-ghost use Rattle.aes_planes.specs.Private.BuiltLength.{number_shape};
+ghost use Rattle.aes_planes.specs.Private.BuiltLength.{built_shape};
 ghost use Rattle.aes_planes.specs.Private.Packing.{row_byte};
 ghost use Rattle.aes_planes.specs.Words.{word_bits};
 ghost use Rattle.aes_planes.specs.Fips197 as fips;
@@ -56,11 +56,6 @@ impl Word for u64 {
     }
 
     #[inline(always)]
-    fn bit_not(self) -> u64 {
-        !self
-    }
-
-    #[inline(always)]
     fn shift_left(self, n: u32) -> u64 {
         self << n
     }
@@ -76,11 +71,6 @@ impl Word for u64 {
     }
 
     #[inline(always)]
-    fn ror_distance(rows: u32, cols: u32) -> u32 {
-        rows * Self::ROW_BITS + cols * Self::QUARTER_ROW
-    }
-
-    #[inline(always)]
     fn pack_rows(r0: u8, r1: u8, r2: u8, r3: u8) -> u64 {
         let x0 = row_of(r0, 4) as u64;
         let x1 = row_of(r1, 4) as u64;
@@ -92,11 +82,6 @@ impl Word for u64 {
     #[inline(always)]
     fn byte_repeat(b: u8) -> u64 {
         b as u64 * 0x0101_0101_0101_0101
-    }
-
-    #[inline(always)]
-    fn zero() -> u64 {
-        0
     }
 
     #[inline(always)]
@@ -135,7 +120,7 @@ impl Word for u64 {
         }
     }
 
-    ghost shape = { number_shape 4 _ (Prim.search rules) (Prim.search rules) (Prim.search rules) };
+    ghost shape = { built_shape bit 4 _ (Prim.search rules) (Prim.search rules) (Prim.search rules) };
 
     ghost keys_fit = { Prim.omega arith };
 }

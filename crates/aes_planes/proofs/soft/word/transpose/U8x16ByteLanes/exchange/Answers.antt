@@ -1,8 +1,13 @@
 -- What is left to show of `soft::word::transpose::U8x16ByteLanes::exchange`.
-use Rattle.std.proofs.Common.{refl, rules}
-use Rattle.aes_planes.proofs.Words.Transpose.{lanes_low}
+use Rattle.std.proofs.Common.{rules}
+use Rattle.aes_planes.proofs.Words.LaneBits.{narrow}
+use Rattle.aes_planes.proofs.Words.Transpose.{lanes_high, lanes_low}
 use Rattle.aes_planes.proofs.soft.word.transpose.U8x16ByteLanes.exchange.Goals as goal
 
 pub returns-clause-low : goal.returns-clause-low
-returns-clause-low c = lanes_low 16 128 c.args.shift c.args.mask c.args.low c.args.high (search rules) (search rules) refl
+returns-clause-low c = lanes_low narrow c.args.shift c.args.mask c.args.low c.args.high (search rules) (search rules)
+    c.requires.inside
+
+pub returns-clause-high : goal.returns-clause-high
+returns-clause-high c = lanes_high narrow c.args.shift c.args.mask c.args.low c.args.high (search rules) (search rules)
     c.requires.inside

@@ -18,7 +18,7 @@ returns c =
     (λ t. held 8 (c.word.ensures t ∷ c.word-2.ensures t ∷ c.word-3.ensures t ∷ c.word-4.ensures t ∷ c.word-5.ensures t
     ∷ c.word-6.ensures t ∷ c.word-7.ensures t ∷ c.word-8.ensures t ∷ []))
     ∙ ap (λ ys. held 8 (map lane_bits ys)) (sym (eight planes [] [] [] [] [] [] [] [] (search rules)))
-    ∙ packed lane_bits 8 (λ j t. j) (λ r q k hr hq hk. (omega arith, omega arith)) planes words blocks c.args.input.now
+    ∙ packed lane_bits 8 (λ j t. t) (λ j t. j) (λ r q k hr hq hk. (omega arith, omega arith)) planes words blocks c.args.input.now
     (search rules) refl
     c.get-b0.ensures.sized (search rules) c.transpose.ensures
     (by_eight _ c.by_rows.ensures c.by_rows-2.ensures c.by_rows-3.ensures c.by_rows-4.ensures c.by_rows-5.ensures

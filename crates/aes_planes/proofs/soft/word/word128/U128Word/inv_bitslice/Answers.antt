@@ -11,7 +11,7 @@ pub returns : goal.returns
 returns c =
     let blocks = c.by_columns.result ∷ c.by_columns-2.result ∷ c.by_columns-3.result ∷ c.by_columns-4.result
     ∷ c.by_columns-5.result ∷ c.by_columns-6.result ∷ c.by_columns-7.result ∷ c.by_columns-8.result ∷ [] in
-    unpacked lane_bits 8 (λ j t. j) (λ r q k hr hq hk. (omega arith, omega arith)) _ c.transpose.result [] blocks refl
+    unpacked lane_bits 8 (λ j t. t) (λ j t. j) (λ r q k hr hq hk. (omega arith, omega arith)) _ c.transpose.result [] blocks refl
     (search rules) refl
     (search rules) c.transpose.ensures
     (by_eight _ c.by_columns.ensures.bits c.by_columns-2.ensures.bits c.by_columns-3.ensures.bits

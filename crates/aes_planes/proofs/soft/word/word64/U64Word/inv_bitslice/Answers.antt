@@ -1,5 +1,5 @@
 -- What is left to show of `soft::word::word64::U64Word::inv_bitslice`.
-use Rattle.std.proofs.Common.{◌+◌, ◌*◌, ◌/◌, [], ◌∷◌, map, refl, ◌∙◌, arith, rules}
+use Rattle.std.proofs.Common.{◌+◌, ◌*◌, ◌/◌, ◌%◌, [], ◌∷◌, map, refl, ◌∙◌, arith, rules}
 use Rattle.std.proofs.lemmas.List.{length-map}
 use Rattle.aes_planes.specs.Words.{word_bits}
 use Rattle.aes_planes.proofs.Bits.ByteCases.{by_eight}
@@ -12,7 +12,7 @@ returns c =
     let b1 = c.columns_together-b1 in
     let b2 = c.columns_together-b2 in
     let b3 = c.columns_together-b3 in
-    unpacked (word_bits 64) 4 (λ j t. 2 * j + t / 4) (λ r q k hr hq hk. (omega arith, omega arith))
+    unpacked (word_bits 64) 4 (λ j t. t % 4) (λ j t. 2 * j + t / 4) (λ r q k hr hq hk. (omega arith, omega arith))
     (map (word_bits 64) c.args.input.now) c.transpose.result 0 (b0.result ∷ b1.result ∷ b2.result ∷ b3.result ∷ [])
     (length-map c.args.input.now (word_bits 64) ∙ search rules) (search rules) refl
     (b0.ensures.typed, (b1.ensures.typed, (b2.ensures.typed, (b3.ensures.typed, tt)))) c.transpose.ensures
