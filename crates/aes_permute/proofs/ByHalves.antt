@@ -1,20 +1,19 @@
 -- Vectors of 32 bytes by their halves, which are two blocks.
-use Rattle.std.proofs.Common.{◌≡◌, ℕ, zero, suc, ◌+◌, ◌-◌, ◌*◌, ◌/◌, ◌^◌, ◌<◌, ◌≤◌, Bool, true, false, ◌&&◌, ◌||◌}
-use Rattle.std.proofs.Common.{nat_le, nat_lt, ◌==◌, cond, List, [], ◌∷◌, ◌++◌, length, map, take, drop, get_or, set, bit_and}
-use Rattle.std.proofs.Common.{bit_xor, replicate, refl, ap, sym, subst, ◌∙◌, arith, w8, T}
+use Rattle.std.proofs.Common.{◌≡◌, ℕ, zero, suc, ◌+◌, ◌-◌, ◌*◌, ◌/◌, ◌^◌, ◌<◌, Bool, true, false, ◌&&◌}
+use Rattle.std.proofs.Common.{◌==◌, cond, List, [], ◌∷◌, ◌++◌, length, map, take, drop, get_or, set, bit_and}
+use Rattle.std.proofs.Common.{replicate, refl, ap, sym, subst, ◌∙◌, arith, w8}
 use Rattle.std.specs.List.{list_all}
-use Rattle.std.proofs.lemmas.Bool.{and_parts, ltb-true}
-use Rattle.std.proofs.lemmas.List.{length-append, get_or_append_left, get_or-append_right, get_or-take, get_or-drop}
+use Rattle.std.proofs.lemmas.Bool.{and_parts}
+use Rattle.std.proofs.lemmas.List.{length-append, get_or_append_left, get_or-append_right, get_or-drop}
 use Rattle.std.proofs.lemmas.List.{length-map, length-take, length-drop, take_all, take_at, take-append-le, drop_at, take-map, drop-map}
 use Rattle.std.proofs.lemmas.List.{take-append-drop}
 use Rattle.std.proofs.lemmas.Simd.{swz_l, SwzOk, SwzOk-from_Each1, pick_l_left, pick_l-range_with_len, pick_l_whole}
-use lib.Lanes.{zip2, pick_l, Each1}
-use lib.Dec.{ltb}
+use lib.Lanes.{zip2, pick_l}
 use mir.Val.{zeroes}
 use Rattle.aes_planes.specs.Fips197.{IsBytes, IsBlock}
 use Rattle.aes_permute.specs.Lookup.{looked, is_index, low_nibble, high_nibble, AreIndices}
 use Rattle.aes_permute.specs.Vectors.{half, written}
-use Rattle.aes_permute.proofs.Lookups.{low_nibbles_of, high_nibbles_of}
+use Rattle.aes_permute.proofs.Lookups.{looked_from, each_index, low_nibbles_of, high_nibbles_of}
 
 -- ---- blocks in halves
 
@@ -143,22 +142,6 @@ unfolding half
 indices_of_halves x h =
     subst AreIndices (take-append-drop 16 x) (indices_append (take 16 x) (drop 16 x) (h 0) (h 1))
 
-entry : (b c : Bool) (x y : ℕ) → (b || c) ≡ true → (c ≡ true → x ≡ y) → cond b 0 x ≡ cond b 0 y
-entry true c x y h same = refl
-entry false c x y h same = same h
-
-looked_from : (xs t : List ℕ) (o : ℕ) → ((j : ℕ) → j < 16 → get_or xs (16 * o + j) 0 ≡ get_or t j 0) → (js : List ℕ) (i : ℕ)
-    → 16 * o ≤ i → i + length js ≤ 16 * o + 16 → AreIndices js → swz_l w8 16 xs i js ≡ map (looked t) js
-unfolding is_index
-looked_from xs t o same [] i from to are = refl
-looked_from xs t o same (j ∷ js) i from to are =
-    let both = and_parts (is_index j) (list_all is_index js) are in
-    let place : 16 * (i / 16) + j ≡ 16 * o + j = omega (arith, from, to) in
-    let rest = looked_from xs t o same js (suc i) (omega (arith, from)) (omega (arith, to)) both.1 in
-    let here = entry (nat_le 128 j) (nat_lt j 16) (get_or xs (16 * (i / 16) + j) 0) (get_or t j 0) both.0
-    (λ e. ap (λ n. get_or xs n 0) place ∙ same j (ltb-true j 16 e)) in
-    λ k. here k ∷ rest k
-
 swz_append : (xs ps qs : List ℕ) (i : ℕ)
     → swz_l w8 16 xs i (ps ++ qs) ≡ swz_l w8 16 xs i ps ++ swz_l w8 16 xs (i + length ps) qs
 swz_append xs [] qs i = let e : i ≡ i + 0 = omega arith in ap (λ n. swz_l w8 16 xs n qs) e
@@ -224,17 +207,6 @@ permuted_of_half x places i long placed are =
     ∙ looked_by_halves (take 16 x) (drop 16 x) places places b (omega (arith, length-take 16 x, long)) placed placed
     are are
     ∙ ap (map (looked (cond b (take 16 x) (drop 16 x)))) (same_both b places)
-
-each_index : (js : List ℕ) → AreIndices js → Each1 (λ j. T (zeroes 16 w8 j || ltb j 16)) js
-unfolding is_index
-each_index [] h = tt
-each_index (j ∷ js) h =
-    let both = and_parts (is_index j) (list_all is_index js) h in
-    (t_of _ both.0, each_index js both.1)
-  where
-    t_of : (b : Bool) → b ≡ true → T b
-    t_of true e = tt
-    t_of false e = absurd (grind (arith, e))
 
 -- 32 indices are places that a byte shuffle by halves takes
 pub indices_in_halves : (js : List ℕ) → length js ≡ 32 → AreIndices js → SwzOk w8 16 32 0 js

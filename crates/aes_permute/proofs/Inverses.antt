@@ -1,123 +1,83 @@
 -- The inverse by halves: that each look-up is at a place, and what comes of it.
-use Rattle.std.proofs.Common.{◌≡◌, ℕ, true, bit_xor, List, [], ◌∷◌, map, refl, ap, ◌∙◌}
-use Rattle.std.specs.List.{list_all}
-use Rattle.std.proofs.lemmas.Simd.{zip2-map}
+use Rattle.std.proofs.Common.{◌≡◌, ℕ, true, bit_xor, List, [], ◌∷◌, map, refl, ap, sym, subst, ◌∙◌}
+use Rattle.std.proofs.lemmas.Simd.{map-map, zip2_of_maps}
 use lib.Lanes.{zip2}
 use Rattle.aes_planes.specs.Fips197.{IsBlock}
 use Rattle.aes_planes.proofs.Bits.ByteCases.{all_below}
-use Rattle.aes_permute.specs.Lookup.{looked, is_index, low_nibble, high_nibble, AreIndices, Nibbles}
-use Rattle.aes_permute.specs.Inverse.{first_place, second_place, first_of, second_of, at_places}
+use Rattle.aes_permute.specs.Lookup.{looked, is_index, low_nibble, high_nibble, AreIndices}
+use Rattle.aes_permute.specs.Inverse.{both_nibbles, inverse_over, first_of, second_of, at_places}
 use Rattle.aes_permute.specs.declared.tables.TheConstants.{INVERSE, SCALED_INVERSE}
-use Rattle.aes_permute.proofs.Lookups.{each_passes, pairs_pass, nibbles_are_indices, low_is, high_is}
+use Rattle.aes_permute.proofs.Lookups.{each_passes}
 
--- ---- what the look-ups make
+-- ---- lanes that are made of the bytes of a block
 
-zip_of_maps : (f : ℕ → ℕ → ℕ) (g h : ℕ → ℕ) (xs ys : List ℕ) → zip2 f (map g xs) (map h ys)
-    ≡ zip2 (λ x y. f (g x) (h y)) xs ys
-zip_of_maps f g h [] ys = refl
-zip_of_maps f g h (x ∷ xs) [] = refl
-zip_of_maps f g h (x ∷ xs) (y ∷ ys) = ap (λ v. f (g x) (h y) ∷ v) (zip_of_maps f g h xs ys)
+-- lanes looked up in a table
+pub looked_of : (f : ℕ → ℕ) (t x : List ℕ) {y z : List ℕ} → z ≡ map (looked t) y → y ≡ map f x
+    → z ≡ map (λ b. looked t (f b)) x
+looked_of f t x e made = e ∙ ap (map (looked t)) made ∙ map-map (looked t) f x
 
-zip_of_zip : (f e : ℕ → ℕ → ℕ) (g h : ℕ → ℕ) (xs ys : List ℕ) → zip2 f (map g (zip2 e xs ys)) (map h ys)
-    ≡ zip2 (λ x y. f (g (e x y)) (h y)) xs ys
-zip_of_zip f e g h [] ys = refl
-zip_of_zip f e g h (x ∷ xs) [] = refl
-zip_of_zip f e g h (x ∷ xs) (y ∷ ys) = ap (λ v. f (g (e x y)) (h y) ∷ v) (zip_of_zip f e g h xs ys)
+-- the sum of two
+pub sum_of : (f h : ℕ → ℕ) (x : List ℕ) {y v z : List ℕ} → z ≡ zip2 bit_xor y v → y ≡ map f x → v ≡ map h x
+    → z ≡ map (λ b. bit_xor (f b) (h b)) x
+sum_of f h x e first second = e ∙ zip2_of_maps bit_xor f h x first second
 
-firsts : (a b : ℕ → ℕ) (xs ys : List ℕ)
-    → zip2 bit_xor (map a (zip2 bit_xor (map a xs) (map b ys))) (zip2 bit_xor xs ys)
-    ≡ zip2 (λ x y. bit_xor (a (bit_xor (a x) (b y))) (bit_xor x y)) xs ys
-firsts a b [] ys = refl
-firsts a b (x ∷ xs) [] = refl
-firsts a b (x ∷ xs) (y ∷ ys) = ap (λ v. bit_xor (a (bit_xor (a x) (b y))) (bit_xor x y) ∷ v) (firsts a b xs ys)
+-- the sum of which the second inverse is looked up
+abbrev pub over : (ℕ → ℕ) → ℕ → ℕ
+over f b = bit_xor (looked INVERSE (f b)) (looked SCALED_INVERSE (low_nibble b))
 
-seconds : (a b : ℕ → ℕ) (xs ys : List ℕ)
-    → zip2 bit_xor (map a (zip2 bit_xor (map a (zip2 bit_xor xs ys)) (map b ys))) xs
-    ≡ zip2 (λ x y. bit_xor (a (bit_xor (a (bit_xor x y)) (b y))) x) xs ys
-seconds a b [] ys = refl
-seconds a b (x ∷ xs) [] = refl
-seconds a b (x ∷ xs) (y ∷ ys) = ap (λ v. bit_xor (a (bit_xor (a (bit_xor x y)) (b y))) x ∷ v) (seconds a b xs ys)
+-- as the code makes it
+pub over_is : (f : ℕ → ℕ) (x : List ℕ) {y low inverse scaled z : List ℕ} → y ≡ map f x → low ≡ map low_nibble x
+    → inverse ≡ map (looked INVERSE) y → scaled ≡ map (looked SCALED_INVERSE) low → z ≡ zip2 bit_xor inverse scaled
+    → z ≡ map (over f) x
+over_is f x is_y is_low at_y at_low e =
+    sum_of (λ b. looked INVERSE (f b)) (λ b. looked SCALED_INVERSE (low_nibble b)) x e (looked_of f INVERSE x at_y is_y)
+    (looked_of low_nibble SCALED_INVERSE x at_low is_low)
 
--- the look-ups and sums on the two halves of each byte make the first place of each
-pub firsts_are : (h l : List ℕ)
-    → zip2 bit_xor (map (looked INVERSE) (zip2 bit_xor (map (looked INVERSE) h) (map (looked SCALED_INVERSE) l)))
-    (zip2 bit_xor h l) ≡ zip2 first_place h l
-unfolding first_place
-firsts_are h l = firsts (looked INVERSE) (looked SCALED_INVERSE) h l
-
--- and the second place
-pub seconds_are : (h l : List ℕ)
-    → zip2 bit_xor (map (looked INVERSE) (zip2 bit_xor (map (looked INVERSE) (zip2 bit_xor h l))
-    (map (looked SCALED_INVERSE) l))) h ≡ zip2 second_place h l
-unfolding second_place
-seconds_are h l = seconds (looked INVERSE) (looked SCALED_INVERSE) h l
+-- a place: the inverse of that sum, plus another function of the byte
+pub place_is : (f h : ℕ → ℕ) (x : List ℕ) {sum at v z : List ℕ} → sum ≡ map (over f) x → at ≡ map (looked INVERSE) sum
+    → v ≡ map h x → z ≡ zip2 bit_xor at v → z ≡ map (λ b. bit_xor (inverse_over f b) (h b)) x
+place_is f h x is_sum is_at is_v e = sum_of (inverse_over f) h x e (looked_of (over f) INVERSE x is_at is_sum) is_v
 
 -- ---- that they are at places
 
-both_cases : all_below 16 (λ h. all_below 16 (λ l. is_index (bit_xor h l))) ≡ true
+-- what is made of bytes are places, if a test of all bytes says so
+pub made_places : (f : ℕ → ℕ) → all_below 256 (λ b. is_index (f b)) ≡ true → (x : List ℕ) {y : List ℕ} → IsBlock x
+    → y ≡ map f x → AreIndices y
+made_places f test x h e = subst AreIndices (sym e) (each_passes is_index f test x h.1)
+
+pub low_cases : all_below 256 (λ b. is_index (low_nibble b)) ≡ true
+unfolding all_below is_index
+low_cases = refl
+
+pub high_cases : all_below 256 (λ b. is_index (high_nibble b)) ≡ true
+unfolding all_below is_index
+high_cases = refl
+
+pub both_cases : all_below 256 (λ b. is_index (both_nibbles b)) ≡ true
 unfolding all_below is_index
 both_cases = refl
 
--- the sums of two halves are places of a table
-pub both_places : (h l : List ℕ) → Nibbles h → Nibbles l → AreIndices (zip2 bit_xor h l)
-both_places h l p q = pairs_pass is_index bit_xor both_cases h l p q
-
-over_high_cases : all_below 16
-    (λ h. all_below 16 (λ l. is_index (bit_xor (looked INVERSE h) (looked SCALED_INVERSE l)))) ≡ true
+pub over_high_cases : all_below 256 (λ b. is_index (over high_nibble b)) ≡ true
 unfolding all_below is_index
 over_high_cases = refl
 
--- so is the inverse of the high half plus the scaled inverse of the low one
-pub over_high_places : (h l : List ℕ) → Nibbles h → Nibbles l
-    → AreIndices (zip2 bit_xor (map (looked INVERSE) h) (map (looked SCALED_INVERSE) l))
-over_high_places h l p q =
-    ap (list_all is_index) (zip_of_maps bit_xor (looked INVERSE) (looked SCALED_INVERSE) h l)
-    ∙ pairs_pass is_index (λ x y. bit_xor (looked INVERSE x) (looked SCALED_INVERSE y)) over_high_cases h l p q
-
-over_both_cases : all_below 16
-    (λ h. all_below 16 (λ l. is_index (bit_xor (looked INVERSE (bit_xor h l)) (looked SCALED_INVERSE l)))) ≡ true
+pub over_both_cases : all_below 256 (λ b. is_index (over both_nibbles b)) ≡ true
 unfolding all_below is_index
 over_both_cases = refl
 
--- and the inverse of the sum of both halves plus the scaled inverse of the low one
-pub over_both_places : (h l : List ℕ) → Nibbles h → Nibbles l
-    → AreIndices (zip2 bit_xor (map (looked INVERSE) (zip2 bit_xor h l)) (map (looked SCALED_INVERSE) l))
-over_both_places h l p q =
-    ap (list_all is_index) (zip_of_zip bit_xor bit_xor (looked INVERSE) (looked SCALED_INVERSE) h l)
-    ∙ pairs_pass is_index (λ x y. bit_xor (looked INVERSE (bit_xor x y)) (looked SCALED_INVERSE y)) over_both_cases h l
-    p q
-
--- ---- the places of bytes
-
-first_cases : all_below 256 (λ b. is_index (first_of b)) ≡ true
+pub first_cases : all_below 256 (λ b. is_index (first_of b)) ≡ true
 unfolding all_below is_index first_of
 first_cases = refl
 
-second_cases : all_below 256 (λ b. is_index (second_of b)) ≡ true
+pub second_cases : all_below 256 (λ b. is_index (second_of b)) ≡ true
 unfolding all_below is_index second_of
 second_cases = refl
-
--- the first places of the bytes of a block are places of a table
-pub first_places : (x : List ℕ) → IsBlock x → AreIndices (map first_of x)
-first_places x h = each_passes is_index first_of first_cases x h.1
-
--- and so are the second ones
-pub second_places : (x : List ℕ) → IsBlock x → AreIndices (map second_of x)
-second_places x h = each_passes is_index second_of second_cases x h.1
-
--- the first places of the nibbles of bytes are the first places of the bytes
-pub firsts_of : (x : List ℕ) → zip2 first_place (map high_nibble x) (map low_nibble x) ≡ map first_of x
-unfolding first_of
-firsts_of x = zip2-map first_place high_nibble low_nibble x
-
--- and the second places are theirs
-pub seconds_of : (x : List ℕ) → zip2 second_place (map high_nibble x) (map low_nibble x) ≡ map second_of x
-unfolding second_of
-seconds_of x = zip2-map second_place high_nibble low_nibble x
 
 -- ---- what is looked up at two places
 
 -- the sum of two look-ups in each lane is what two tables have at two places, lane by lane
 pub places_looked_up : (t u xs ys : List ℕ)
     → zip2 bit_xor (map (looked t) xs) (map (looked u) ys) ≡ zip2 (at_places t u) xs ys
-places_looked_up t u xs ys = zip_of_maps bit_xor (looked t) (looked u) xs ys
+places_looked_up t u [] ys = refl
+places_looked_up t u (x ∷ xs) [] = refl
+places_looked_up t u (x ∷ xs) (y ∷ ys) = ap (λ v. bit_xor (looked t x) (looked u y) ∷ v) (places_looked_up t u xs ys)

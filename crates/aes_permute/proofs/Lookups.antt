@@ -4,44 +4,53 @@ use Rattle.std.proofs.Common.{nat_lt, cond, bit_and, bit_xor, List, [], ◌∷�
 use Rattle.std.proofs.Common.{◌∙◌, arith, w8, T}
 use Rattle.std.specs.List.{list_all}
 use Rattle.std.proofs.lemmas.Bool.{and_parts, eqb-true, ltb-true}
-use Rattle.std.proofs.lemmas.Simd.{swz_l, SwzOk, map-map, zip2_of_maps, zip2_splat}
-use lib.Lanes.{zip2}
+use Rattle.std.proofs.lemmas.Simd.{swz_l, SwzOk, SwzOk-from_Each1, map-map, zip2_of_maps, zip2_splat}
+use lib.Lanes.{zip2, Each1}
+use lib.Dec.{ltb}
+use mir.Val.{zeroes}
 use Rattle.aes_planes.specs.Fips197.{IsBytes, IsBlock}
 use Rattle.aes_planes.proofs.Bits.ByteCases.{all_below, all_below_tells}
 use Rattle.aes_permute.specs.Lookup.{looked, is_index, low_nibble, high_nibble, by_nibbles, AreIndices, Nibbles}
 
 -- ---- one table, at all lanes
 
-looked_from : (xs js : List ℕ) (i : ℕ) → i + length js ≤ 16 → swz_l w8 16 xs i js ≡ map (looked xs) js
-looked_from xs [] i h = refl
-looked_from xs (j ∷ js) i h =
-    let e : 16 * (i / 16) + j ≡ j = omega arith in
-    let t = looked_from xs js (suc i) (omega arith) in
-    λ k. cond (nat_le 128 j) 0 (get_or xs (e k) 0) ∷ t k
+entry : (b c : Bool) (x y : ℕ) → (b || c) ≡ true → (c ≡ true → x ≡ y) → cond b 0 x ≡ cond b 0 y
+entry true c x y h same = refl
+entry false c x y h same = same h
+
+-- lanes that are read at indices within sixteen, from lane 16 * o on, are looked up in a table that has those lanes
+pub looked_from : (xs t : List ℕ) (o : ℕ) → ((j : ℕ) → j < 16 → get_or xs (16 * o + j) 0 ≡ get_or t j 0) → (js : List ℕ) (i : ℕ)
+    → 16 * o ≤ i → i + length js ≤ 16 * o + 16 → AreIndices js → swz_l w8 16 xs i js ≡ map (looked t) js
+unfolding is_index
+looked_from xs t o same [] i from to are = refl
+looked_from xs t o same (j ∷ js) i from to are =
+    let both = and_parts (is_index j) (list_all is_index js) are in
+    let place : 16 * (i / 16) + j ≡ 16 * o + j = omega (arith, from, to) in
+    let rest = looked_from xs t o same js (suc i) (omega (arith, from)) (omega (arith, to)) both.1 in
+    let here = entry (nat_le 128 j) (nat_lt j 16) (get_or xs (16 * (i / 16) + j) 0) (get_or t j 0) both.0
+    (λ e. ap (λ n. get_or xs n 0) place ∙ same j (ltb-true j 16 e)) in
+    λ k. here k ∷ rest k
 
 -- a byte shuffle reads a table of sixteen bytes at each lane's byte
-pub looked_lanes : (xs js : List ℕ) → length js ≡ 16 → swz_l w8 16 xs 0 js ≡ map (looked xs) js
-looked_lanes xs js l = looked_from xs js 0 (omega arith)
+pub looked_lanes : (xs js : List ℕ) → length js ≡ 16 → AreIndices js → swz_l w8 16 xs 0 js ≡ map (looked xs) js
+looked_lanes xs js l are = looked_from xs xs 0 (λ j h. let e : 16 * 0 + j ≡ j = omega arith in
+    ap (λ n. get_or xs n 0) e) js 0 (omega arith) (omega (arith, l)) are
 
-index_ok : (j o : ℕ) → o ≡ j → (nat_le 128 j || nat_lt j 16) ≡ true → T (nat_le 128 j || (nat_lt j 16 && nat_lt o 16))
-index_ok j o e h = go (nat_le 128 j) (nat_lt j 16) (nat_lt o 16) (ap (λ v. nat_lt v 16) e) h
-  where
-    go : (a b c : Bool) → c ≡ b → (a || b) ≡ true → T (a || (b && c))
-    go true b c s h = tt
-    go false true true s h = tt
-    go false true false s h = absurd (grind (arith, s))
-    go false false c s h = absurd (grind (arith, h))
-
-indices_from : (js : List ℕ) (i : ℕ) → i + length js ≤ 16 → AreIndices js → SwzOk w8 16 16 i js
+-- indices are places that a byte shuffle takes
+pub each_index : (js : List ℕ) → AreIndices js → Each1 (λ j. T (zeroes 16 w8 j || ltb j 16)) js
 unfolding is_index
-indices_from [] i h p = tt
-indices_from (j ∷ js) i h p =
-    let both = and_parts (is_index j) (list_all is_index js) p in
-    (index_ok j (16 * (i / 16) + j) (omega arith) both.0, indices_from js (suc i) (omega arith) both.1)
+each_index [] h = tt
+each_index (j ∷ js) h =
+    let both = and_parts (is_index j) (list_all is_index js) h in
+    (t_of _ both.0, each_index js both.1)
+  where
+    t_of : (b : Bool) → b ≡ true → T b
+    t_of true e = tt
+    t_of false e = absurd (grind (arith, e))
 
--- sixteen places are indices that a byte shuffle takes
+-- so are sixteen of them, of one vector
 pub indices_ok : (js : List ℕ) → length js ≡ 16 → AreIndices js → SwzOk w8 16 16 0 js
-indices_ok js l p = indices_from js 0 (omega arith) p
+indices_ok js l are = SwzOk-from_Each1 w8 16 1 16 0 js refl (omega (arith, l)) (each_index js are)
 
 -- ---- tests on all bytes and on all nibbles
 
@@ -74,19 +83,6 @@ nibbles_are_indices (k ∷ ks) h =
     let t = and_parts (nat_lt k 16) (list_all (λ k. nat_lt k 16) ks) h in
     let e : is_index k ≡ true = all_below_tells 16 is_index nibble_indices k (ltb-true k 16 t.0) in
     (λ i. e i && list_all is_index ks) ∙ nibbles_are_indices ks t.1
-
--- a test that each pair of nibbles passes, of each pair
-pub pairs_pass : (p : ℕ → Bool) (f : ℕ → ℕ → ℕ) → all_below 16 (λ h. all_below 16 (λ l. p (f h l))) ≡ true
-    → (hs ls : List ℕ) → Nibbles hs → Nibbles ls → list_all p (zip2 f hs ls) ≡ true
-pairs_pass p f t [] ls h l = refl
-pairs_pass p f t (x ∷ xs) [] h l = refl
-pairs_pass p f t (x ∷ xs) (y ∷ ys) h l =
-    let a = and_parts (nat_lt x 16) (list_all (λ k. nat_lt k 16) xs) h in
-    let b = and_parts (nat_lt y 16) (list_all (λ k. nat_lt k 16) ys) l in
-    let e : p (f x y) ≡ true =
-    all_below_tells 16 (λ l. p (f x l))
-    (all_below_tells 16 (λ h. all_below 16 (λ l. p (f h l))) t x (ltb-true x 16 a.0)) y (ltb-true y 16 b.0) in
-    (λ i. e i && list_all p (zip2 f xs ys)) ∙ pairs_pass p f t xs ys a.1 b.1
 
 -- ---- the two nibbles
 

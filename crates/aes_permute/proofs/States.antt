@@ -52,35 +52,38 @@ module _ (form : LaneForm) (stored : List (List ℕ)) where
   -- ---- the three kinds of rounds, on what a state stands for
 
   -- a block plus the first round key is the state before any round
-  pub first_state : (step : List ℕ → List ℕ) (state : ℕ → ℕ) (b x : List ℕ) → 1 ≤ length stored
-      → map state x ≡ fips.add_round_key b (map form.first_byte (fips.round_key stored 0))
+  pub first_state : (step : List ℕ → List ℕ) (state : ℕ → ℕ) (b x : List ℕ) {key : List ℕ} → 1 ≤ length stored
+      → map state x ≡ fips.add_round_key b (map form.first_byte key) → key ≡ fips.round_key stored 0
       → map state x ≡ rounds_after step (round_keys_of form stored) b 0
   unfolding rounds_after
-  first_state step state b x some e = e ∙ ap (fips.add_round_key b) (sym (first_key some))
+  first_state step state b x some e k =
+      e ∙ ap (fips.add_round_key b) (ap (map form.first_byte) k ∙ sym (first_key some))
 
   -- a step and an inner round key lead from the state before round i to the state after it
-  pub next_state : (step : List ℕ → List ℕ) (state : ℕ → ℕ) (b x y : List ℕ) (i : ℕ) → 1 ≤ i
+  pub next_state : (step : List ℕ → List ℕ) (state : ℕ → ℕ) (b x y : List ℕ) {key : List ℕ} (i : ℕ) → 1 ≤ i
       → i < fips.last_round stored
-      → map state y ≡ fips.add_round_key (step (map state x)) (map form.inner_byte (fips.round_key stored i))
+      → map state y ≡ fips.add_round_key (step (map state x)) (map form.inner_byte key) → key ≡ fips.round_key stored i
       → map state x ≡ rounds_after step (round_keys_of form stored) b (i - 1)
       → map state y ≡ rounds_after step (round_keys_of form stored) b (i + 1 - 1)
-  next_state step state b x y i some before e h =
+  next_state step state b x y i some before e k h =
       let n : i ≡ i + 1 - 1 = omega arith in
-      e ∙ (λ j. fips.add_round_key (step (h j)) (sym (inner_key i some before) j))
+      e ∙ (λ j. fips.add_round_key (step (h j)) ((ap (map form.inner_byte) k ∙ sym (inner_key i some before)) j))
       ∙ rounds_more step (round_keys_of form stored) b i some
       ∙ ap (rounds_after step (round_keys_of form stored) b) n
 
   -- the last step and the last round key lead from the state before it to the end of all rounds
-  pub last_state : (step last_step : List ℕ → List ℕ) (state : ℕ → ℕ) (b x y : List ℕ) (i : ℕ) → 2 ≤ length stored → i
-      ≡ fips.last_round stored
-      → y ≡ fips.add_round_key (last_step (map state x))
-      (map form.last_byte (fips.round_key stored (fips.last_round stored)))
+  pub last_state : (step last_step : List ℕ → List ℕ) (state : ℕ → ℕ) (b x y : List ℕ) {key : List ℕ} (i : ℕ)
+      → 2 ≤ length stored → i ≡ fips.last_round stored
+      → y ≡ fips.add_round_key (last_step (map state x)) (map form.last_byte key)
+      → key ≡ fips.round_key stored (fips.last_round stored)
       → map state x ≡ rounds_after step (round_keys_of form stored) b (i - 1)
       → y ≡ all_rounds step last_step (round_keys_of form stored) b
   unfolding all_rounds
-  last_state step last_step state b x y i two n e h =
+  last_state step last_step state b x y {key = key} i two n e k h =
       let m : i ≡ fips.last_round (round_keys_of form stored) = n ∙ sym last_is_last in
-      e ∙ (λ j. fips.add_round_key (last_step (h j)) (sym (last_key (fips.last_round stored) two refl) j))
+      let last : map form.last_byte key ≡ fips.round_key (round_keys_of form stored) (fips.last_round stored) =
+      ap (map form.last_byte) k ∙ sym (last_key (fips.last_round stored) two refl) in
+      e ∙ (λ j. fips.add_round_key (last_step (h j)) (last j))
       ∙ (λ j. fips.add_round_key (last_step (rounds_after step (round_keys_of form stored) b (m j - 1)))
       (fips.round_key (round_keys_of form stored) (sym last_is_last j)))
 

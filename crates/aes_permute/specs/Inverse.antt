@@ -4,22 +4,21 @@ use Rattle.std.specs.Prelude.{ℕ, List, bit_xor}
 use Rattle.aes_permute.specs.Lookup.{looked, low_nibble, high_nibble}
 use Rattle.aes_permute.specs.declared.tables.TheConstants.{INVERSE, SCALED_INVERSE}
 
--- the place in the first table, for the byte with the halves h and l
-unfoldable pub first_place : ℕ → ℕ → ℕ
-first_place h l = bit_xor (looked INVERSE (bit_xor (looked INVERSE h) (looked SCALED_INVERSE l))) (bit_xor h l)
+-- the inverse of a sum: of the inverse of f of a byte and the scaled inverse of its low half
+abbrev pub inverse_over : (ℕ → ℕ) → ℕ → ℕ
+inverse_over f b = looked INVERSE (bit_xor (looked INVERSE (f b)) (looked SCALED_INVERSE (low_nibble b)))
 
--- the place in the second table
-unfoldable pub second_place : ℕ → ℕ → ℕ
-second_place h l = bit_xor (looked INVERSE (bit_xor (looked INVERSE (bit_xor h l)) (looked SCALED_INVERSE l))) h
+-- the sum of the halves of a byte
+abbrev pub both_nibbles : ℕ → ℕ
+both_nibbles b = bit_xor (high_nibble b) (low_nibble b)
 
--- the places of a byte
+-- the place of a byte in the first table
 unfoldable pub first_of : ℕ → ℕ
-unfolding first_place
-first_of b = first_place (high_nibble b) (low_nibble b)
+first_of b = bit_xor (inverse_over high_nibble b) (both_nibbles b)
 
+-- and in the second
 unfoldable pub second_of : ℕ → ℕ
-unfolding second_place
-second_of b = second_place (high_nibble b) (low_nibble b)
+second_of b = bit_xor (inverse_over both_nibbles b) (high_nibble b)
 
 -- the sum of the entries of two tables at two places
 abbrev pub at_places : List ℕ → List ℕ → ℕ → ℕ → ℕ

@@ -4,8 +4,8 @@ ghost use Rattle.std.specs.Prelude.{◌≡◌, ℕ, map};
 ghost use Rattle.std.specs.Simd.Lanes.{zip2};
 ghost use Rattle.aes_planes.specs.Fips197 as fips;
 ghost use Rattle.aes_planes.specs.Planes.{plus63};
-ghost use Rattle.aes_permute.specs.Lookup.{Nibbles, AreIndices};
-ghost use Rattle.aes_permute.specs.Inverse.{first_place, second_place, first_of, second_of, at_places};
+ghost use Rattle.aes_permute.specs.Lookup.{AreIndices};
+ghost use Rattle.aes_permute.specs.Inverse.{first_of, second_of, at_places};
 
 use crate::lanes::{Lanes, looked_up_by_nibbles};
 use crate::tables::{INVERSE, SBOX_FIRST, SBOX_SECOND, SCALED_INVERSE, TOWER_HIGH, TOWER_LOW};
@@ -21,27 +21,6 @@ pub struct TwoPlaces<L> {
     pub second: L,
 }
 
-// The places of the inverses of the bytes with these halves in the tower basis.
-#[inline(always)]
-fn inverted<L: Lanes>(high: L, low: L) -> TwoPlaces<L>
-    requires highs { (i : ℕ) → Nibbles (L.block high i) }
-    requires lows { (i : ℕ) → Nibbles (L.block low i) }
-    ensures first { (i : ℕ) → L.block result.first i ≡ zip2 first_place (L.block high i) (L.block low i) }
-    ensures second { (i : ℕ) → L.block result.second i ≡ zip2 second_place (L.block high i) (L.block low i) }
-{
-    let both = high.sum(low);
-    let scaled = low.lookup(SCALED_INVERSE);
-    let high_inverse = high.lookup(INVERSE);
-    let both_inverse = both.lookup(INVERSE);
-    let over_high = high_inverse.sum(scaled);
-    let over_both = both_inverse.sum(scaled);
-    let at_high = over_high.lookup(INVERSE);
-    let at_both = over_both.lookup(INVERSE);
-    let first = at_high.sum(both);
-    let second = at_both.sum(high);
-    TwoPlaces { first, second }
-}
-
 /// Returns the places of the inverses of bytes in the tower basis.
 #[inline(always)]
 pub fn places_of<L: Lanes>(x: L) -> TwoPlaces<L>
@@ -53,7 +32,17 @@ pub fn places_of<L: Lanes>(x: L) -> TwoPlaces<L>
     x.are_blocks();
     let high = x.high_nibbles();
     let low = x.low_nibbles();
-    inverted(high, low)
+    let both = high.sum(low);
+    let scaled = low.lookup(SCALED_INVERSE);
+    let high_inverse = high.lookup(INVERSE);
+    let both_inverse = both.lookup(INVERSE);
+    let over_high = high_inverse.sum(scaled);
+    let over_both = both_inverse.sum(scaled);
+    let at_high = over_high.lookup(INVERSE);
+    let at_both = over_both.lookup(INVERSE);
+    let first = at_high.sum(both);
+    let second = at_both.sum(high);
+    TwoPlaces { first, second }
 }
 
 /// Returns the sum of the entries of two tables at the places.

@@ -1,6 +1,5 @@
 -- What is left to show of `blocks::process_two`.
-use Rattle.std.proofs.Common.{ap, map, ◌∙◌, arith}
-use Rattle.aes_planes.specs.Fips197 as fips
+use Rattle.std.proofs.Common.{arith}
 use Rattle.aes_permute.proofs.States.{first_state, next_state, last_state}
 use Rattle.aes_permute.proofs.blocks.process_two.Goals as goal
 
@@ -8,46 +7,34 @@ pub loop-i-init : goal.loop-i-init
 loop-i-init g c = record {
   one = λ k. first_state g.D.LaneRounds.form c.args.keys.now g.D.Direction.step
       g.D.LaneRounds.state_byte (g.L.Lanes.block c.args.one k) (g.L.Lanes.block c.first-x.result k)
-      (omega (arith, c.requires.two)) (c.first-x.ensures k
-      ∙ ap (λ v. fips.add_round_key (g.L.Lanes.block c.args.one k) (map g.D.LaneRounds.form.first_byte v))
-      (c.repeated-first_key.ensures k));
+      (omega (arith, c.requires.two)) (c.first-x.ensures k) (c.repeated-first_key.ensures k);
   other = λ k. first_state g.D.LaneRounds.form c.args.keys.now g.D.Direction.step
       g.D.LaneRounds.state_byte (g.L.Lanes.block c.args.other k) (g.L.Lanes.block c.first-y.result k)
-      (omega (arith, c.requires.two)) (c.first-y.ensures k
-      ∙ ap (λ v. fips.add_round_key (g.L.Lanes.block c.args.other k) (map g.D.LaneRounds.form.first_byte v))
-      (c.repeated-first_key.ensures k));
+      (omega (arith, c.requires.two)) (c.first-y.ensures k) (c.repeated-first_key.ensures k);
 }
 
 pub loop-i-preserved : goal.loop-i-preserved
 loop-i-preserved g c = record {
   one = λ k. next_state g.D.LaneRounds.form c.args.keys.now g.D.Direction.step
       g.D.LaneRounds.state_byte (g.L.Lanes.block c.args.one k) (g.L.Lanes.block c.loop-i.x k)
-      (g.L.Lanes.block c.round-x.result k) c.loop-i.i (omega arith) (omega arith) (c.round-x.ensures k
-      ∙ ap (λ v. fips.add_round_key (g.D.Direction.step (map g.D.LaneRounds.state_byte (g.L.Lanes.block c.loop-i.x k)))
-      (map g.D.LaneRounds.form.inner_byte v)) (c.repeated-key.ensures k))
-      (c.loop-i.invariant.one k);
+      (g.L.Lanes.block c.round-x.result k) c.loop-i.i (omega arith) (omega arith) (c.round-x.ensures k)
+      (c.repeated-key.ensures k) (c.loop-i.invariant.one k);
   other = λ k. next_state g.D.LaneRounds.form c.args.keys.now g.D.Direction.step
       g.D.LaneRounds.state_byte (g.L.Lanes.block c.args.other k) (g.L.Lanes.block c.loop-i.y k)
-      (g.L.Lanes.block c.round-y.result k) c.loop-i.i (omega arith) (omega arith) (c.round-y.ensures k
-      ∙ ap (λ v. fips.add_round_key (g.D.Direction.step (map g.D.LaneRounds.state_byte (g.L.Lanes.block c.loop-i.y k)))
-      (map g.D.LaneRounds.form.inner_byte v)) (c.repeated-key.ensures k))
-      (c.loop-i.invariant.other k);
+      (g.L.Lanes.block c.round-y.result k) c.loop-i.i (omega arith) (omega arith) (c.round-y.ensures k)
+      (c.repeated-key.ensures k) (c.loop-i.invariant.other k);
 }
 
 pub returns-clause-one : goal.returns-clause-one
 returns-clause-one g c k =
     last_state g.D.LaneRounds.form c.args.keys.now g.D.Direction.step g.D.Direction.last_step
     g.D.LaneRounds.state_byte (g.L.Lanes.block c.args.one k) (g.L.Lanes.block c.loop-i.x k) _
-    c.loop-i.i c.requires.two (omega (arith, c.requires.two)) (c.last-first.ensures k
-    ∙ ap (λ v. fips.add_round_key (g.D.Direction.last_step (map g.D.LaneRounds.state_byte (g.L.Lanes.block c.loop-i.x k)))
-    (map g.D.LaneRounds.form.last_byte v)) (c.repeated-last_key.ensures k))
+    c.loop-i.i c.requires.two (omega (arith, c.requires.two)) (c.last-first.ensures k) (c.repeated-last_key.ensures k)
     (c.loop-i.invariant.one k)
 
 pub returns-clause-other : goal.returns-clause-other
 returns-clause-other g c k =
     last_state g.D.LaneRounds.form c.args.keys.now g.D.Direction.step g.D.Direction.last_step
     g.D.LaneRounds.state_byte (g.L.Lanes.block c.args.other k) (g.L.Lanes.block c.loop-i.y k) _
-    c.loop-i.i c.requires.two (omega (arith, c.requires.two)) (c.last-second.ensures k
-    ∙ ap (λ v. fips.add_round_key (g.D.Direction.last_step (map g.D.LaneRounds.state_byte (g.L.Lanes.block c.loop-i.y k)))
-    (map g.D.LaneRounds.form.last_byte v)) (c.repeated-last_key.ensures k))
+    c.loop-i.i c.requires.two (omega (arith, c.requires.two)) (c.last-second.ensures k) (c.repeated-last_key.ensures k)
     (c.loop-i.invariant.other k)

@@ -1,34 +1,65 @@
 -- What is left to show of `sbox::places_of`.
-use Rattle.std.proofs.Common.{subst, sym, ◌∙◌}
-use lib.Lanes.{zip2}
-use Rattle.aes_permute.specs.Inverse.{first_place, second_place}
-use Rattle.aes_permute.specs.Lookup.{AreIndices, Nibbles}
-use Rattle.aes_permute.proofs.Lookups.{low_is, high_is}
-use Rattle.aes_permute.proofs.Inverses.{firsts_of, seconds_of, first_places, second_places}
+use Rattle.aes_permute.specs.Inverse.{both_nibbles, first_of, second_of}
+use Rattle.aes_permute.specs.Lookup.{low_nibble, high_nibble}
+use Rattle.aes_permute.proofs.Inverses.{sum_of, over, over_is, place_is, made_places, low_cases, high_cases, both_cases}
+use Rattle.aes_permute.proofs.Inverses.{over_high_cases, over_both_cases, first_cases, second_cases}
 use Rattle.aes_permute.proofs.sbox.places_of.Goals as goal
 
-pub inverted-requires : goal.inverted-requires
-inverted-requires g c = record {
-  highs = λ i. subst Nibbles (sym (c.high_nibbles-high.ensures i)) (high_is _ (c.are_blocks.ensures i));
-  lows = λ i. subst Nibbles (sym (c.low_nibbles-low.ensures i)) (low_is _ (c.are_blocks.ensures i));
+pub lookup-scaled-requires : goal.lookup-scaled-requires
+lookup-scaled-requires g c = record {
+  are_indices = λ i. made_places low_nibble low_cases _ (c.are_blocks.ensures i) (c.low_nibbles-low.ensures i);
+}
+
+pub lookup-high_inverse-requires : goal.lookup-high_inverse-requires
+lookup-high_inverse-requires g c = record {
+  are_indices = λ i. made_places high_nibble high_cases _ (c.are_blocks.ensures i) (c.high_nibbles-high.ensures i);
+}
+
+pub lookup-both_inverse-requires : goal.lookup-both_inverse-requires
+lookup-both_inverse-requires g c = record {
+  are_indices = λ i. made_places both_nibbles both_cases _ (c.are_blocks.ensures i)
+      (sum_of high_nibble low_nibble _ (c.sum-both.ensures i) (c.high_nibbles-high.ensures i) (c.low_nibbles-low.ensures i));
+}
+
+pub lookup-at_high-requires : goal.lookup-at_high-requires
+lookup-at_high-requires g c = record {
+  are_indices = λ i. made_places (over high_nibble) over_high_cases _ (c.are_blocks.ensures i)
+      (over_is high_nibble _ (c.high_nibbles-high.ensures i) (c.low_nibbles-low.ensures i)
+      (c.lookup-high_inverse.ensures i) (c.lookup-scaled.ensures i) (c.sum-over_high.ensures i));
+}
+
+pub lookup-at_both-requires : goal.lookup-at_both-requires
+lookup-at_both-requires g c = record {
+  are_indices = λ i. made_places (over both_nibbles) over_both_cases _ (c.are_blocks.ensures i)
+      (over_is both_nibbles _
+      (sum_of high_nibble low_nibble _ (c.sum-both.ensures i) (c.high_nibbles-high.ensures i) (c.low_nibbles-low.ensures i))
+      (c.low_nibbles-low.ensures i) (c.lookup-both_inverse.ensures i) (c.lookup-scaled.ensures i)
+      (c.sum-over_both.ensures i));
 }
 
 pub returns-clause-first : goal.returns-clause-first
+unfolding first_of
 returns-clause-first g c i =
-    c.inverted.ensures.first i
-    ∙ (λ t. zip2 first_place (c.high_nibbles-high.ensures i t) (c.low_nibbles-low.ensures i t))
-    ∙ firsts_of (g.L.Lanes.block c.args.x i)
+    place_is high_nibble both_nibbles _
+    (over_is high_nibble _ (c.high_nibbles-high.ensures i) (c.low_nibbles-low.ensures i)
+    (c.lookup-high_inverse.ensures i) (c.lookup-scaled.ensures i) (c.sum-over_high.ensures i))
+    (c.lookup-at_high.ensures i)
+    (sum_of high_nibble low_nibble _ (c.sum-both.ensures i) (c.high_nibbles-high.ensures i) (c.low_nibbles-low.ensures i))
+    (c.sum-first.ensures i)
 
 pub returns-clause-second : goal.returns-clause-second
+unfolding second_of
 returns-clause-second g c i =
-    c.inverted.ensures.second i
-    ∙ (λ t. zip2 second_place (c.high_nibbles-high.ensures i t) (c.low_nibbles-low.ensures i t))
-    ∙ seconds_of (g.L.Lanes.block c.args.x i)
+    place_is both_nibbles high_nibble _
+    (over_is both_nibbles _
+    (sum_of high_nibble low_nibble _ (c.sum-both.ensures i) (c.high_nibbles-high.ensures i) (c.low_nibbles-low.ensures i))
+    (c.low_nibbles-low.ensures i) (c.lookup-both_inverse.ensures i) (c.lookup-scaled.ensures i) (c.sum-over_both.ensures i))
+    (c.lookup-at_both.ensures i) (c.high_nibbles-high.ensures i) (c.sum-second.ensures i)
 
 pub returns-clause-first_places : goal.returns-clause-first_places
 returns-clause-first_places g c i =
-    subst AreIndices (sym (returns-clause-first g c i)) (first_places _ (c.are_blocks.ensures i))
+    made_places first_of first_cases _ (c.are_blocks.ensures i) (returns-clause-first g c i)
 
 pub returns-clause-second_places : goal.returns-clause-second_places
 returns-clause-second_places g c i =
-    subst AreIndices (sym (returns-clause-second g c i)) (second_places _ (c.are_blocks.ensures i))
+    made_places second_of second_cases _ (c.are_blocks.ensures i) (returns-clause-second g c i)
