@@ -1,10 +1,10 @@
 //! The form of the nine types: round keys in the full layout of bit planes, on words of one block.
 
-ghost use Rattle.std.specs.Prelude.{◌≡◌, ◌+◌, ◌/◌, map, replicate};
+ghost use Rattle.std.specs.Prelude.{◌≡◌, ◌+◌, ◌/◌, replicate};
 ghost use Rattle.aes_planes.specs.Expansion.{substitutions};
 ghost use Rattle.aes_planes.specs.Words.{word_bits};
 ghost use Rattle.aes_soft.specs.Batches.{layers_for};
-ghost use Rattle.aes_soft.specs.Stored.{plane_key, stored_words, words_for, IsFullSchedule};
+ghost use Rattle.aes_soft.specs.Stored.{plane_key, stored_words, IsFullSchedule};
 
 use aes_cipher::aes;
 use aes_cipher::aes::{CountsLayers, Decrypts, Encrypts, KeySize, MadeFrom, Processes, StoredKeys};
@@ -14,9 +14,9 @@ use aes_planes::soft::sbox::Layers;
 use aes_planes::soft::word::Block;
 use aes_soft::soft::PlaneCipher;
 use aes_soft::soft::blocks::{
-    decrypt_with_backend, encrypt_with_backend, process_block, process_blocks,
+    decrypt_with_backend, encrypt_with_backend, process_block_under, process_blocks_under,
 };
-use aes_soft::soft::plane_room::{PlaneRoom, expand_in_room, reads_key, words_in_room};
+use aes_soft::soft::plane_room::{PlaneRoom, expand_words_in_room, reads_key, words_in_room};
 use std::marker::PhantomData;
 
 /// AES with a key of the size K, in the directions D.
@@ -39,11 +39,9 @@ impl<K: KeySize> Drop for Fixsliced<K> {
 impl<K: KeySize> StoredKeys for Fixsliced<K> {
     type Size = K;
 
-    ghost key = { λ stored.
-        plane_key (words_for K.SIZE) 1 (map (word_bits 16) (stored_words K.SIZE stored.room)) };
+    ghost key = { λ stored. plane_key (word_bits 16) 1 (stored_words K.SIZE stored.room) };
 
-    ghost AreKeyed = { λ stored.
-        IsFullSchedule (words_for K.SIZE) 1 (map (word_bits 16) (stored_words K.SIZE stored.room)) };
+    ghost AreKeyed = { λ stored. IsFullSchedule (word_bits 16) 1 (stored_words K.SIZE stored.room) };
 
     ghost IsWiped = { λ stored. stored.room ≡ replicate 120 0 };
 
@@ -94,11 +92,11 @@ impl<K: KeySize> MadeFrom<Fixsliced<K>> for Fixsliced<K> {
 
 impl<K: KeySize, D: PlaneCipher> Processes<D> for Fixsliced<K> {
     fn process_one(&self, block: &mut Block) {
-        process_block::<D>(words_in_room::<K>(&self.room), block);
+        process_block_under::<D>(words_in_room::<K>(&self.room), block);
     }
 
     fn process_slice(&self, blocks: &mut [Block]) {
-        process_blocks::<D>(words_in_room::<K>(&self.room), blocks, &mut Layers::new());
+        process_blocks_under::<D>(words_in_room::<K>(&self.room), blocks, &mut Layers::new());
     }
 }
 
@@ -120,14 +118,14 @@ impl<K: KeySize> CountsLayers for Fixsliced<K> {
     ghost layers_for = { λ count. layers_for (K.SIZE / 4 + 6) count };
 
     fn expand_counted(&mut self, new_key: &[u8], layers: &mut Layers) {
-        expand_in_room::<K>(self.room.value_mut(), new_key, layers);
+        expand_words_in_room::<K>(self.room.value_mut(), new_key, layers);
     }
 
     fn encrypt_blocks_counted(&self, blocks: &mut [Block], layers: &mut Layers) {
-        process_blocks::<Encrypt>(words_in_room::<K>(&self.room), blocks, layers);
+        process_blocks_under::<Encrypt>(words_in_room::<K>(&self.room), blocks, layers);
     }
 
     fn decrypt_blocks_counted(&self, blocks: &mut [Block], layers: &mut Layers) {
-        process_blocks::<Decrypt>(words_in_room::<K>(&self.room), blocks, layers);
+        process_blocks_under::<Decrypt>(words_in_room::<K>(&self.room), blocks, layers);
     }
 }

@@ -85,39 +85,41 @@ pub two_or_more : (stored : List (List ℕ)) → IsCipherSchedule stored → 2 �
 two_or_more stored lanes = omega (arith, lanes.one_of_three)
 
 -- words that hold all of them
-module _ (n : ℕ) (some : 1 ≤ n) (planes : List (List Bool)) (stored : List (List ℕ)) (lanes : IsCipherSchedule stored) (words : ℕ)
-    (sized : words ≡ 8 * length stored)
-    (holds : HoldsBlocks n (length stored) (stored_key (full (length stored - 1)) (encrypting stored)) planes) where
+module _ {A : Type 0} (bits : A → List Bool) (n : ℕ) (some : 1 ≤ n) (words : List A) (stored : List (List ℕ))
+    (lanes : IsCipherSchedule stored) (sized : length words ≡ 8 * length stored)
+    (holds : HoldsBlocks n (length stored) (stored_key (full (length stored - 1)) (encrypting stored)) (map bits words)) where
+  abbrev rounds : ℕ
+  rounds = rounds_of (length words)
+
   least : 11 ≤ length stored
   least = omega (arith, lanes.one_of_three)
 
   most : length stored ≤ 15
   most = omega (arith, lanes.one_of_three)
 
-  is_schedule : IsSchedule n (full (rounds_of words)) (cipher_key stored) planes
+  is_schedule : IsSchedule n (full rounds) (cipher_key stored) (map bits words)
   is_schedule i lt =
       let w : encrypting stored ≡ fips.key_expansion (cipher_key stored) = lanes.keys in
-      let r : length stored - 1 ≡ rounds_of words = omega (arith, sized) in
+      let r : length stored - 1 ≡ rounds = omega (arith, sized) in
       let below : i < length stored = omega (arith, lt, ap length w, keys_length cipher_form stored) in
       holds i below ∙ (λ j. replicate n (stored_key (full (r j)) (w j) i))
 
-  same_size : length (cipher_key stored) ≡ size_of words
+  same_size : length (cipher_key stored) ≡ size_of (length words)
   same_size = lanes.sized ∙ omega (arith, sized)
 
   -- planes that hold them in the full layout are read as the key that the stored round keys are read as
-  pub planes_key : plane_key words n planes ≡ cipher_key stored
+  pub planes_key : plane_key bits n words ≡ cipher_key stored
   planes_key =
-      key_of-schedule n (full (rounds_of words)) some
-      (deferred_below (rounds_of words) 4 0 0 (omega (arith, sized, least)) refl) planes (size_of words)
-      (rounds_of words - 6) (cipher_key stored) refl same_size (omega (arith, sized, least)) (omega (arith, sized, most))
-      is_schedule
+      key_of-schedule n (full rounds) some (deferred_below rounds 4 0 0 (omega (arith, sized, least)) refl)
+      (map bits words) (size_of (length words)) (rounds - 6) (cipher_key stored) refl same_size
+      (omega (arith, sized, least)) (omega (arith, sized, most)) is_schedule
 
   -- and are the schedule of that key
-  pub planes_keyed : IsFullSchedule words n planes
+  pub planes_keyed : IsFullSchedule bits n words
   planes_keyed = record {
     one_of_three = elim lanes.one_of_three [
       | inl k ↦ inl (omega (arith, sized, k))
       | inr other ↦ inr (elim other [ inl k ↦ inl (omega (arith, sized, k)) | inr k ↦ inr (omega (arith, sized, k)) ])
     ];
-    keyed = subst (λ key. IsSchedule n (full (rounds_of words)) key planes) (sym planes_key) is_schedule;
+    keyed = subst (λ key. IsSchedule n (full rounds) key (map bits words)) (sym planes_key) is_schedule;
   }

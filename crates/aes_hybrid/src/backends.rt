@@ -1,6 +1,6 @@
 //! Backends: fours by vector permutations, and batches on planes in either direction.
 
-ghost use Rattle.std.specs.Prelude.{◌≡◌, ℕ, List, length, map};
+ghost use Rattle.std.specs.Prelude.{◌≡◌, ℕ, List};
 ghost use Rattle.aes_planes.specs.Each.{Each};
 ghost use Rattle.aes_planes.specs.Fips197 as fips;
 ghost use Rattle.aes_planes.proofs.Standard.CipherLaws.{two_keys};
@@ -9,7 +9,7 @@ ghost use Rattle.aes_permute.specs.Stored.{round_keys_of};
 ghost use Rattle.aes_soft.specs.Stored as soft;
 ghost use Rattle.aes_permute.specs.Keys.{cipher_key, IsCipherSchedule};
 
-use crate::blocks::{are_few, process_few};
+use crate::blocks::process_few;
 use crate::widths::Width;
 use aes_cipher::cipher::{
     BatchOfFour, BatchSizeUser, BlockCipherDecBackend, BlockCipherEncBackend, Decrypt, Encrypt,
@@ -140,17 +140,15 @@ impl<'a, D: LaneRounds, W: Width> Model for Batches<'a, D, W> {
 
     ghost view = { λ batches. batches.few };
 
-    ghost invariant = { λ batches.
-        let n = length batches.words.now in
-        let planes = map W.Many.bits batches.words.now in
-        soft.IsFullSchedule n W.Many.BLOCKS planes × (soft.plane_key n W.Many.BLOCKS planes ≡ batches.few) };
+    ghost invariant = { λ batches. soft.IsFullSchedule W.Many.bits W.Many.BLOCKS batches.words.now
+        × (soft.plane_key W.Many.bits W.Many.BLOCKS batches.words.now ≡ batches.few) };
 }
 
 impl<'a, D: LaneRounds, W: Width> Batches<'a, D, W> {
     #[inline(always)]
     pub(crate) fn new(few: OnLanes<'a, D, W>, words: &'a [W::Many]) -> Batches<'a, D, W>
-        requires is_schedule { soft.IsFullSchedule (length words.now) W.Many.BLOCKS (map W.Many.bits words.now) }
-        requires same_key { soft.plane_key (length words.now) W.Many.BLOCKS (map W.Many.bits words.now) ≡ few }
+        requires is_schedule { soft.IsFullSchedule W.Many.bits W.Many.BLOCKS words.now }
+        requires same_key { soft.plane_key W.Many.bits W.Many.BLOCKS words.now ≡ few }
         ensures { result ≡ few.entry }
     {
         Batches { few, words }
@@ -185,7 +183,7 @@ impl<W: Width> BlockCipherEncBackend for Batches<'_, Encrypt, W> {
     #[tactic(auto, using(aes_cipher::proofs::FirstBlocks::first_of_all))]
     #[inline(always)]
     fn encrypt_first_blocks(&self, count: usize, blocks: &mut [Block]) {
-        if are_few::<W>(count) {
+        if count <= W::MOST_AFTER_BATCHES {
             self.few.process_few(&mut blocks[..count]);
         } else {
             self.encrypt_par_blocks(blocks);

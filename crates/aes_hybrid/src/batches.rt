@@ -1,6 +1,6 @@
 //! Blocks in batches on planes, under stored round keys: batches of eight or sixteen, as the words are wide.
 
-ghost use Rattle.std.specs.Prelude.{◌≡◌, ◌-◌, ◌%◌, ◌<◌, ◌≤◌, ◌++◌, [], drop, get_or, length, map, replicate, take};
+ghost use Rattle.std.specs.Prelude.{◌≡◌, ◌-◌, ◌%◌, ◌<◌, ◌≤◌, ◌++◌, [], drop, get_or, length, replicate, take};
 ghost use Rattle.aes_planes.specs.Each.{Each};
 ghost use Rattle.aes_planes.specs.Fips197 as fips;
 ghost use Rattle.aes_soft.specs.Stored as soft;
@@ -51,11 +51,10 @@ fn filled_up<W: Word>(blocks: &[Block]) -> [Block; LARGEST_BATCH]
 // Processes fewer blocks than a batch, as a batch that is filled up.
 #[inline(never)]
 fn process_rest<D: PlaneCipher, W: Word>(words: &[W], blocks: &mut [Block])
-    requires is_schedule { soft.IsFullSchedule (length words.now) W.BLOCKS (map W.bits words.now) }
+    requires is_schedule { soft.IsFullSchedule W.bits W.BLOCKS words.now }
     requires some { 1 ≤ length blocks.old }
     requires fewer { length blocks.old < W.Blocks.LEN }
-    ensures { let key = soft.plane_key (length words.now) W.BLOCKS (map W.bits words.now) in
-        Each (D.processed (fips.key_expansion key)) blocks.old blocks.new }
+    ensures { Each (D.processed (fips.key_expansion (soft.plane_key W.bits W.BLOCKS words.now))) blocks.old blocks.new }
 {
     let mut batch = filled_up::<W>(blocks);
     process_batch_under::<W, D>(words, &mut batch[..W::Blocks::LEN], &mut Layers::new());
@@ -65,9 +64,8 @@ fn process_rest<D: PlaneCipher, W: Word>(words: &[W], blocks: &mut [Block])
 // Processes each block on words of round keys: whole batches, and then what is left.
 #[inline(always)]
 fn process_in_batches<D: PlaneCipher, W: Word>(words: &[W], blocks: &mut [Block])
-    requires is_schedule { soft.IsFullSchedule (length words.now) W.BLOCKS (map W.bits words.now) }
-    ensures { let key = soft.plane_key (length words.now) W.BLOCKS (map W.bits words.now) in
-        Each (D.processed (fips.key_expansion key)) blocks.old blocks.new }
+    requires is_schedule { soft.IsFullSchedule W.bits W.BLOCKS words.now }
+    ensures { Each (D.processed (fips.key_expansion (soft.plane_key W.bits W.BLOCKS words.now))) blocks.old blocks.new }
 {
     let whole = blocks.len() - blocks.len() % W::Blocks::LEN;
     process_batches_under::<W, D>(words, &mut blocks[..whole], &mut Layers::new());

@@ -14,14 +14,8 @@ use aes_permute::lane_rounds::LaneRounds;
 use aes_planes::soft::word::{Batch, Block, Word};
 use aes_soft::soft::PlaneCipher;
 
-/// Whether blocks after whole batches, or in place of one, are processed by vector permutations: if they take less time so.
-#[inline(always)]
-pub(crate) fn are_few<W: Width>(rest: usize) -> bool {
-    rest <= W::MOST_AFTER_BATCHES
-}
-
 // How many of a number of blocks are processed on planes: none if they are few, or whole batches, and what is left after
-// these too if it is more than few.
+// these too if it takes less time so.
 #[inline(always)]
 fn blocks_on_planes<D: LaneRounds, W: Width>(count: usize) -> usize
     ensures inside { result ≤ count }
@@ -35,7 +29,7 @@ fn blocks_on_planes<D: LaneRounds, W: Width>(count: usize) -> usize
         return 0;
     }
     let rest = count % <W::Many as Word>::Blocks::LEN;
-    if are_few::<W>(rest) {
+    if rest <= W::MOST_AFTER_BATCHES {
         count - rest
     } else {
         count

@@ -11,12 +11,6 @@ use crate::widths::Width;
 use aes_cipher::cipher::{BlockCipherDecClosure, BlockCipherEncClosure, Decrypt, Encrypt};
 use aes_planes::soft::word::Block;
 
-// Whether planes are made for so many blocks.
-#[inline(always)]
-fn are_many<W: Width>(blocks: usize) -> bool {
-    blocks >= W::LEAST_FOR_CLOSURES
-}
-
 // Lends planes to encrypt, which are wiped before the call returns. The planes are a local variable of a function of its own, since
 // a function makes room for its variables where it begins, also where it leaves before it needs them.
 #[inline(always)]
@@ -41,7 +35,7 @@ pub(crate) fn lend_to_encrypt<W: Width, F: BlockCipherEncClosure>(
     requires { IsCipherSchedule keys.now }
     ensures { F.did f.old (fips.key_expansion (cipher_key keys.now)) f.new }
 {
-    if are_many::<W>(blocks) {
+    if blocks >= W::LEAST_FOR_CLOSURES {
         lend_planes_to_encrypt::<W, F>(keys, f);
     } else {
         f.call(&OnLanes::<Encrypt, W>::new(keys, keys));
@@ -78,7 +72,7 @@ pub(crate) fn lend_to_decrypt<W: Width, F: BlockCipherDecClosure>(
     requires inverse { AreInverse inverse.now keys.now }
     ensures { F.did f.old (fips.key_expansion (cipher_key keys.now)) f.new }
 {
-    if are_many::<W>(blocks) {
+    if blocks >= W::LEAST_FOR_CLOSURES {
         lend_planes_to_decrypt::<W, F>(keys, inverse, f);
     } else {
         f.call(&OnLanes::<Decrypt, W>::new(keys, inverse));

@@ -1,6 +1,6 @@
 //! The forms of the nine types: round keys of vector permutations, of which planes are made where there are many blocks.
 
-ghost use Rattle.std.specs.Prelude.{◌≡◌, ◌+◌, ◌/◌, length, replicate};
+ghost use Rattle.std.specs.Prelude.{◌≡◌, replicate};
 ghost use Rattle.aes_permute.specs.Keys.{cipher_key, stored_keys, AreInverse, IsCipherSchedule};
 
 use crate::backends::OnLanes;
@@ -17,15 +17,6 @@ use aes_permute::lane_room::{LaneRoom, expand_in_room, invert_in_room, keys_in_r
 use aes_planes::soft::word::Block;
 use std::marker::PhantomData;
 use std::slice;
-
-// Returns the stored round keys of a key of the size K.
-#[inline(always)]
-fn keys_of<K: KeySize>(room: &LaneRoom) -> &[Block]
-    ensures keys { result.now ≡ stored_keys K.SIZE room.now }
-    ensures count { length result.now ≡ K.SIZE / 4 + 7 }
-{
-    keys_in_room(room, K::SIZE)
-}
 
 /// The stored round keys of Cipher alone, for encryption.
 pub struct Encrypting<K: KeySize, W = Narrow> {
@@ -84,30 +75,32 @@ impl<K: KeySize, W> StoredKeys for Encrypting<K, W> {
     }
 
     fn has_key(&self) {
-        keys_of::<K>(self.room.value());
+        keys_in_room(self.room.value(), K::SIZE);
     }
 }
 
 impl<K: KeySize, W: Width> Processes<Encrypt> for Encrypting<K, W> {
     #[inline(always)]
     fn process_one(&self, block: &mut Block) {
-        let keys = keys_of::<K>(self.room.value());
+        let keys = keys_in_room(self.room.value(), K::SIZE);
         OnLanes::<Encrypt, W>::new(keys, keys).process_few(slice::from_mut(block));
     }
 
     fn process_slice(&self, blocks: &mut [Block]) {
-        let keys = keys_of::<K>(self.room.value());
+        let keys = keys_in_room(self.room.value(), K::SIZE);
         process_few_or_many::<Encrypt, W>(keys, keys, blocks);
     }
 }
 
 impl<K: KeySize, W: Width> Encrypts for Encrypting<K, W> {
     fn encrypt_with_backend<F: BlockCipherEncClosure>(&self, f: &mut F) {
-        Lent::<W>::new(keys_of::<K>(self.room.value())).encrypt_with_backend(f);
+        Lent::<W>::new(keys_in_room(self.room.value(), K::SIZE)).encrypt_with_backend(f);
     }
 
     fn encrypt_with_backend_for<F: BlockCipherEncClosure>(&self, blocks: usize, f: &mut F) {
-        Lent::<W>::new(keys_of::<K>(self.room.value())).encrypt_with_backend_for(blocks, f);
+        Lent::<W>::new(keys_in_room(self.room.value(), K::SIZE)).encrypt_with_backend_for(
+            blocks, f,
+        );
     }
 }
 
@@ -222,14 +215,18 @@ impl<K: KeySize, W: Width> Encrypts for BothLists<K, W> {
 impl<K: KeySize, W: Width> Processes<Decrypt> for BothLists<K, W> {
     #[inline(always)]
     fn process_one(&self, block: &mut Block) {
-        let keys = keys_of::<K>(self.encrypting.room.value());
-        let used = keys_of::<K>(self.inverse.value());
+        let keys = keys_in_room(self.encrypting.room.value(), K::SIZE);
+        let used = keys_in_room(self.inverse.value(), K::SIZE);
         OnLanes::<Decrypt, W>::new(keys, used).process_few(slice::from_mut(block));
     }
 
     fn process_slice(&self, blocks: &mut [Block]) {
-        let keys = keys_of::<K>(self.encrypting.room.value());
-        process_few_or_many::<Decrypt, W>(keys, keys_of::<K>(self.inverse.value()), blocks);
+        let keys = keys_in_room(self.encrypting.room.value(), K::SIZE);
+        process_few_or_many::<Decrypt, W>(
+            keys,
+            keys_in_room(self.inverse.value(), K::SIZE),
+            blocks,
+        );
     }
 }
 
@@ -239,8 +236,8 @@ impl<K: KeySize, W: Width> Decrypts for BothLists<K, W> {
     }
 
     fn decrypt_with_backend_for<F: BlockCipherDecClosure>(&self, blocks: usize, f: &mut F) {
-        let keys = keys_of::<K>(self.encrypting.room.value());
-        let used = keys_of::<K>(self.inverse.value());
+        let keys = keys_in_room(self.encrypting.room.value(), K::SIZE);
+        let used = keys_in_room(self.inverse.value(), K::SIZE);
         lend_to_decrypt::<W, F>(keys, used, blocks, f);
     }
 }

@@ -48,24 +48,23 @@ fn shifted_back_times(x: u8x16, times: usize) -> u8x16
 // The block that planes hold for a stored round key of Cipher between the first and the last: it has the constant of
 // the S-box twice, which is not at all.
 #[inline(always)]
-fn block_for_planes(stored: &Block, number: usize) -> u8x16
+fn block_for_planes(stored: &Block, number: usize) -> Block
     ensures { result ≡ fips.inv_shift_times (number % 4) (map untower stored.now) }
 {
     laws::is_block(*stored);
     let x = looked_up_by_nibbles(u8x16::from_array(*stored), UNTOWER_LOW, UNTOWER_HIGH);
-    shifted_back_times(x, number % 4)
+    shifted_back_times(x, number % 4).to_array()
 }
 
 // Stores a block in every slot as the planes of round key `i`. The other words stay.
 #[inline(always)]
-fn store_block<W: Word>(words: &mut [W], i: usize, block: u8x16)
+fn store_in_every_slot<W: Word>(words: &mut [W], i: usize, block: &Block)
     requires room { 8 * i + 8 ≤ length words.old }
-    ensures there { held W.BLOCKS (map W.bits (words_at words.new (8 * i))) ≡ replicate W.BLOCKS block }
+    ensures there { held W.BLOCKS (map W.bits (words_at words.new (8 * i))) ≡ replicate W.BLOCKS block.now }
     ensures others { (o : ℕ) → (o + 8 ≤ 8 * i) ⊎ (8 * i + 8 ≤ o) → words_at words.new o ≡ words_at words.old o }
     ensures same_length { length words.new ≡ length words.old }
 {
-    let planes = W::in_every_slot(&block.to_array());
-    store_round_key(words, i, &planes);
+    store_round_key(words, i, &W::in_every_slot(block));
 }
 
 /// Writes stored round keys of Cipher to words, as the full layout of planes stores those of the same key.
@@ -73,15 +72,15 @@ pub fn store_planes<W: Word>(words: &mut [W], keys: &[Block])
     requires sized { length words.old ≡ 8 * length keys.now }
     requires keyed { IsCipherSchedule keys.now }
     ensures same_length { length words.new ≡ 8 * length keys.now }
-    ensures is_schedule { soft.IsFullSchedule (length words.new) W.BLOCKS (map W.bits words.new) }
-    ensures key { soft.plane_key (length words.new) W.BLOCKS (map W.bits words.new) ≡ cipher_key keys.now }
+    ensures is_schedule { soft.IsFullSchedule W.bits W.BLOCKS words.new }
+    ensures key { soft.plane_key W.bits W.BLOCKS words.new ≡ cipher_key keys.now }
 {
     let last = keys.len() - 1;
-    store_block(words, 0, u8x16::from_array(keys[0]));
+    store_in_every_slot(words, 0, &keys[0]);
     'keys: for i in 1..last {
-        store_block(words, i, block_for_planes(&keys[i], i));
+        store_in_every_slot(words, i, &block_for_planes(&keys[i], i));
     }
-    store_block(words, last, u8x16::from_array(keys[last]));
+    store_in_every_slot(words, last, &keys[last]);
 }
 
 /// Round keys on planes, in room for those of the largest key. A drop requires zeros, so code that drops them without a
@@ -103,10 +102,8 @@ impl<W: Word> PlaneKeys<W> {
     #[inline(always)]
     pub(crate) fn store(&mut self, keys: &[Block])
         requires keyed { IsCipherSchedule keys.now }
-        ensures is_schedule { let words = take (8 * length keys.now) self.new.room in
-            soft.IsFullSchedule (length words) W.BLOCKS (map W.bits words) }
-        ensures key { let words = take (8 * length keys.now) self.new.room in
-            soft.plane_key (length words) W.BLOCKS (map W.bits words) ≡ cipher_key keys.now }
+        ensures is_schedule { soft.IsFullSchedule W.bits W.BLOCKS (take (8 * length keys.now) self.new.room) }
+        ensures key { soft.plane_key W.bits W.BLOCKS (take (8 * length keys.now) self.new.room) ≡ cipher_key keys.now }
     {
         store_planes(&mut self.room[..8 * keys.len()], keys);
     }

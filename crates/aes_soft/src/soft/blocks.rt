@@ -4,7 +4,9 @@ pub(crate) mod backend;
 mod slices;
 
 pub use backend::{Backend, decrypt_with_backend, encrypt_with_backend};
-pub use slices::{process_batch_under, process_batches_under, process_block, process_blocks};
+pub use slices::{
+    process_batch_under, process_batches_under, process_block_under, process_blocks_under,
+};
 pub(crate) use slices::{batch_of, put_batch};
 
 /// The word of a batch: eight of them hold as many blocks as are processed at once.

@@ -1,5 +1,5 @@
 //! Room for the planes of stored round keys of a key of any size, and the first of its words, which are the round keys.
-ghost use Rattle.std.specs.Prelude.{◌≡◌, ◌⊎◌, ◌+◌, ◌*◌, length, map};
+ghost use Rattle.std.specs.Prelude.{◌≡◌, ◌⊎◌, ◌+◌, ◌*◌, length};
 ghost use Rattle.aes_planes.specs.Expansion.{substitutions};
 ghost use Rattle.aes_planes.specs.Fips197 as fips;
 ghost use Rattle.aes_planes.specs.Words.{word_bits};
@@ -27,12 +27,10 @@ pub fn words_in_room<K: KeySize>(room: &Wiped<PlaneRoom>) -> &[u16]
 
 /// Writes the round keys of a key, as the full layout stores them: KeyExpansion (FIPS 197, 5.2).
 #[inline(always)]
-pub fn expand_in_room<K: KeySize>(room: &mut PlaneRoom, key: &[u8], layers: &mut Layers)
+pub fn expand_words_in_room<K: KeySize>(room: &mut PlaneRoom, key: &[u8], layers: &mut Layers)
     requires sized { length key.now ≡ K.SIZE }
-    ensures schedule { let n = words_for K.SIZE in
-        IsFullSchedule n 1 (map (word_bits 16) (stored_words K.SIZE room.new)) }
-    ensures key { let n = words_for K.SIZE in
-        plane_key n 1 (map (word_bits 16) (stored_words K.SIZE room.new)) ≡ key.now }
+    ensures schedule { IsFullSchedule (word_bits 16) 1 (stored_words K.SIZE room.new) }
+    ensures key { plane_key (word_bits 16) 1 (stored_words K.SIZE room.new) ≡ key.now }
     ensures layers { layers.new ≡ layers.old + substitutions K.SIZE }
 {
     // It is cut here, since the borrow checker doesn't cover a cut of what a `Wiped` lends to be written over.
@@ -43,11 +41,9 @@ pub fn expand_in_room<K: KeySize>(room: &mut PlaneRoom, key: &[u8], layers: &mut
 #[tactic(auto, using(crate::proofs::KeyOfPlanes::read_keys))]
 pub fn reads_key(words: &[u16])
     requires { (length words.now ≡ 88) ⊎ ((length words.now ≡ 104) ⊎ (length words.now ≡ 120)) }
-    ensures sized { let key = plane_key (length words.now) 1 (map (word_bits 16) words.now) in
-        2 * length key + 56 ≡ length words.now }
-    ensures bytes { fips.IsBytes (plane_key (length words.now) 1 (map (word_bits 16) words.now)) }
-    ensures round_keys { let key = plane_key (length words.now) 1 (map (word_bits 16) words.now) in
-        fips.AreRoundKeys (fips.key_expansion key) }
+    ensures sized { 2 * length (plane_key (word_bits 16) 1 words.now) + 56 ≡ length words.now }
+    ensures bytes { fips.IsBytes (plane_key (word_bits 16) 1 words.now) }
+    ensures round_keys { fips.AreRoundKeys (fips.key_expansion (plane_key (word_bits 16) 1 words.now)) }
 {
     laws::expanded_keys();
 }

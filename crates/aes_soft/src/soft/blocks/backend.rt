@@ -1,5 +1,5 @@
 //! Backends: round keys that are lent for a while, with what a batch needs.
-ghost use Rattle.std.specs.Prelude.{◌≡◌, ℕ, List, length, map};
+ghost use Rattle.std.specs.Prelude.{◌≡◌, ℕ, List};
 ghost use Rattle.aes_planes.specs.Fips197 as fips;
 ghost use Rattle.aes_planes.specs.Words.{word_bits};
 ghost use Rattle.aes_planes.proofs.Standard.CipherLaws.{two_keys};
@@ -9,7 +9,7 @@ mod decrypt;
 mod encrypt;
 mod widened;
 
-use super::slices::{process_batch_under, process_block};
+use super::slices::{process_batch_under, process_block_under};
 use crate::soft::blocks::BatchWord;
 use crate::soft::full::store_widened;
 use crate::soft::plane_room::reads_key;
@@ -54,24 +54,20 @@ impl<H: HoldsWidened> Drop for Backend<'_, H> {
 impl<'a, H: HoldsWidened> Model for Backend<'a, H> {
     ghost Value = { List ℕ };
 
-    ghost view = { λ backend. let n = length backend.round_keys.now in
-        plane_key n 1 (map (word_bits 16) backend.round_keys.now) };
+    ghost view = { λ backend. plane_key (word_bits 16) 1 backend.round_keys.now };
 
-    ghost invariant = { λ backend. let n = length backend.round_keys.now in
-        let widened = map (word_bits 128) (H.words backend.widened) in
-        IsFullSchedule n 1 (map (word_bits 16) backend.round_keys.now)
-        × (length (H.words backend.widened) ≡ n)
-        × IsFullSchedule n 8 widened
-        × (plane_key n 8 widened ≡ plane_key n 1 (map (word_bits 16) backend.round_keys.now)) };
+    ghost invariant = { λ backend. IsFullSchedule (word_bits 16) 1 backend.round_keys.now
+        × IsFullSchedule (word_bits 128) 8 (H.words backend.widened)
+        × (plane_key (word_bits 128) 8 (H.words backend.widened)
+        ≡ plane_key (word_bits 16) 1 backend.round_keys.now) };
 }
 
 // Widens stored round keys in place.
 #[inline(always)]
 fn fill<const N: usize>(widened: &mut [BatchWord; N], round_keys: &[u16; N])
-    requires is_schedule { IsFullSchedule N 1 (map (word_bits 16) round_keys.now) }
-    ensures same_length { length widened.new ≡ length round_keys.now }
-    ensures schedule { IsFullSchedule N 8 (map (word_bits 128) widened.new) }
-    ensures key { plane_key N 8 (map (word_bits 128) widened.new) ≡ plane_key N 1 (map (word_bits 16) round_keys.now) }
+    requires is_schedule { IsFullSchedule (word_bits 16) 1 round_keys.now }
+    ensures schedule { IsFullSchedule (word_bits 128) 8 widened.new }
+    ensures key { plane_key (word_bits 128) 8 widened.new ≡ plane_key (word_bits 16) 1 round_keys.now }
 {
     store_widened(widened, round_keys);
 }
@@ -80,8 +76,8 @@ impl<'a, const N: usize> Backend<'a, Wiped<[BatchWord; N]>> {
     /// Makes the backend of stored round keys. It holds a widened copy, and wipes it when it is dropped.
     #[inline(always)]
     pub fn new(round_keys: &'a [u16; N]) -> Backend<'a, Wiped<[BatchWord; N]>>
-        requires is_schedule { IsFullSchedule N 1 (map (word_bits 16) round_keys.now) }
-        ensures { result ≡ plane_key N 1 (map (word_bits 16) round_keys.now) }
+        requires is_schedule { IsFullSchedule (word_bits 16) 1 round_keys.now }
+        ensures { result ≡ plane_key (word_bits 16) 1 round_keys.now }
     {
         let mut widened = Wiped::<[BatchWord; N]>::zeroed();
         fill(widened.value_mut(), round_keys);
@@ -96,12 +92,10 @@ impl<'a> Backend<'a, LentWidened<'a>> {
     // The backend of stored round keys and of the same, widened, both lent.
     #[inline(always)]
     fn lent(round_keys: &'a [u16], widened: &'a [BatchWord]) -> Backend<'a, LentWidened<'a>>
-        requires is_schedule { IsFullSchedule (length round_keys.now) 1 (map (word_bits 16) round_keys.now) }
-        requires same_length { length widened.now ≡ length round_keys.now }
-        requires is_widened { IsFullSchedule (length round_keys.now) 8 (map (word_bits 128) widened.now) }
-        requires same_key { let n = length round_keys.now in
-            plane_key n 8 (map (word_bits 128) widened.now) ≡ plane_key n 1 (map (word_bits 16) round_keys.now) }
-        ensures { result ≡ plane_key (length round_keys.now) 1 (map (word_bits 16) round_keys.now) }
+        requires is_schedule { IsFullSchedule (word_bits 16) 1 round_keys.now }
+        requires is_widened { IsFullSchedule (word_bits 128) 8 widened.now }
+        requires same_key { plane_key (word_bits 128) 8 widened.now ≡ plane_key (word_bits 16) 1 round_keys.now }
+        ensures { result ≡ plane_key (word_bits 16) 1 round_keys.now }
     {
         Backend {
             round_keys,
@@ -127,7 +121,7 @@ impl<H: HoldsWidened> BatchSizeUser for Backend<'_, H> {
 impl<H: HoldsWidened> BlockCipherEncBackend for Backend<'_, H> {
     #[inline(always)]
     fn encrypt_block(&self, block: &mut Block) {
-        process_block::<Encrypt>(self.round_keys, block);
+        process_block_under::<Encrypt>(self.round_keys, block);
     }
 
     #[inline(always)]
@@ -139,7 +133,7 @@ impl<H: HoldsWidened> BlockCipherEncBackend for Backend<'_, H> {
 impl<H: HoldsWidened> BlockCipherDecBackend for Backend<'_, H> {
     #[inline(always)]
     fn decrypt_block(&self, block: &mut Block) {
-        process_block::<Decrypt>(self.round_keys, block);
+        process_block_under::<Decrypt>(self.round_keys, block);
     }
 
     #[inline(always)]

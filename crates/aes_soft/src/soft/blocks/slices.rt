@@ -1,5 +1,5 @@
 //! Blocks in slices, processed in batches.
-ghost use Rattle.std.specs.Prelude.{◌≡◌, ◌+◌, ◌*◌, ◌/◌, ◌%◌, length, map};
+ghost use Rattle.std.specs.Prelude.{◌≡◌, ◌+◌, ◌*◌, ◌/◌, ◌%◌, length};
 ghost use Rattle.aes_planes.specs.Each.{Each};
 ghost use Rattle.aes_planes.specs.Fips197 as fips;
 ghost use Rattle.aes_planes.specs.Words.{word_bits};
@@ -46,10 +46,9 @@ pub fn process_batch_under<W: Word, D: PlaneCipher>(
     blocks: &mut [Block],
     layers: &mut Layers,
 )
-    requires is_schedule { IsFullSchedule (length words.now) W.BLOCKS (map W.bits words.now) }
+    requires is_schedule { IsFullSchedule W.bits W.BLOCKS words.now }
     requires one_batch { length blocks.old ≡ W.Blocks.LEN }
-    ensures blocks { let key = plane_key (length words.now) W.BLOCKS (map W.bits words.now) in
-        Each (D.processed (fips.key_expansion key)) blocks.old blocks.new }
+    ensures blocks { Each (D.processed (fips.key_expansion (plane_key W.bits W.BLOCKS words.now))) blocks.old blocks.new }
     ensures layers { layers.new ≡ layers.old + rounds_of (length words.now) }
 {
     let rounds = words.len() / 8 - 1;
@@ -69,10 +68,9 @@ pub fn process_batches_under<W: Word, D: PlaneCipher>(
     blocks: &mut [Block],
     layers: &mut Layers,
 )
-    requires is_schedule { IsFullSchedule (length words.now) W.BLOCKS (map W.bits words.now) }
+    requires is_schedule { IsFullSchedule W.bits W.BLOCKS words.now }
     requires whole_batches { length blocks.old % W.Blocks.LEN ≡ 0 }
-    ensures blocks { let key = plane_key (length words.now) W.BLOCKS (map W.bits words.now) in
-        Each (D.processed (fips.key_expansion key)) blocks.old blocks.new }
+    ensures blocks { Each (D.processed (fips.key_expansion (plane_key W.bits W.BLOCKS words.now))) blocks.old blocks.new }
     ensures layers { layers.new
         ≡ layers.old + rounds_of (length words.now) * (length blocks.old / W.Blocks.LEN) }
 {
@@ -87,9 +85,13 @@ pub fn process_batches_under<W: Word, D: PlaneCipher>(
 /// Processes each block of a slice in place, under stored round keys: whole batches first, then one block after the
 /// other.
 #[inline(always)]
-pub fn process_blocks<D: PlaneCipher>(round_keys: &[u16], blocks: &mut [Block], layers: &mut Layers)
-    requires is_schedule { IsFullSchedule (length round_keys.now) 1 (map (word_bits 16) round_keys.now) }
-    ensures blocks { let key = plane_key (length round_keys.now) 1 (map (word_bits 16) round_keys.now) in
+pub fn process_blocks_under<D: PlaneCipher>(
+    round_keys: &[u16],
+    blocks: &mut [Block],
+    layers: &mut Layers,
+)
+    requires is_schedule { IsFullSchedule (word_bits 16) 1 round_keys.now }
+    ensures blocks { let key = plane_key (word_bits 16) 1 round_keys.now in
         Each (D.processed (fips.key_expansion key)) blocks.old blocks.new }
     ensures layers { layers.new ≡ layers.old + layers_for (rounds_of (length round_keys.now)) (length blocks.old) }
 {
@@ -106,10 +108,9 @@ pub fn process_blocks<D: PlaneCipher>(round_keys: &[u16], blocks: &mut [Block], 
 
 /// Processes the block in place, under stored round keys.
 #[inline(always)]
-pub fn process_block<D: PlaneCipher>(round_keys: &[u16], block: &mut Block)
-    requires is_schedule { IsFullSchedule (length round_keys.now) 1 (map (word_bits 16) round_keys.now) }
-    ensures { let key = plane_key (length round_keys.now) 1 (map (word_bits 16) round_keys.now) in
-        block.new ≡ D.processed (fips.key_expansion key) block.old }
+pub fn process_block_under<D: PlaneCipher>(round_keys: &[u16], block: &mut Block)
+    requires is_schedule { IsFullSchedule (word_bits 16) 1 round_keys.now }
+    ensures { block.new ≡ D.processed (fips.key_expansion (plane_key (word_bits 16) 1 round_keys.now)) block.old }
 {
     process_batch_under::<u16, D>(round_keys, slice::from_mut(block), &mut Layers::new());
 }

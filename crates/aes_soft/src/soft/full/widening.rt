@@ -1,5 +1,5 @@
 //! The round keys on `u16` as the round keys of any other word.
-ghost use Rattle.std.specs.Prelude.{◌≡◌, length, map, take};
+ghost use Rattle.std.specs.Prelude.{◌≡◌, length, take};
 ghost use Rattle.aes_planes.specs.Words.{word_bits};
 ghost use Rattle.aes_soft.specs.Stored.{plane_key, IsFullSchedule};
 
@@ -10,10 +10,9 @@ use aes_planes::soft::word::Word;
 #[inline(always)]
 pub fn store_widened<W: Word>(widened: &mut [W], round_keys: &[u16])
     requires same_length { length widened.old ≡ length round_keys.now }
-    requires is_stored { IsFullSchedule (length round_keys.now) 1 (map (word_bits 16) round_keys.now) }
-    ensures schedule { IsFullSchedule (length round_keys.now) W.BLOCKS (map W.bits widened.new) }
-    ensures key { let n = length round_keys.now in
-        plane_key n W.BLOCKS (map W.bits widened.new) ≡ plane_key n 1 (map (word_bits 16) round_keys.now) }
+    requires is_stored { IsFullSchedule (word_bits 16) 1 round_keys.now }
+    ensures schedule { IsFullSchedule W.bits W.BLOCKS widened.new }
+    ensures key { plane_key W.bits W.BLOCKS widened.new ≡ plane_key (word_bits 16) 1 round_keys.now }
     ensures same_length { length widened.new ≡ length round_keys.now }
 {
     'widen: for i in 0..round_keys.len() {
@@ -24,19 +23,19 @@ pub fn store_widened<W: Word>(widened: &mut [W], round_keys: &[u16])
 // Does the same in room for the round keys of the largest key: in as many of its first words.
 #[inline(always)]
 pub(crate) fn store_widened_first<W: Word>(room: &mut [W; 120], round_keys: &[u16])
-    requires is_stored { IsFullSchedule (length round_keys.now) 1 (map (word_bits 16) round_keys.now) }
-    ensures schedule { let n = length round_keys.now in IsFullSchedule n W.BLOCKS (map W.bits (take n room.new)) }
-    ensures key { let n = length round_keys.now in
-        plane_key n W.BLOCKS (map W.bits (take n room.new)) ≡ plane_key n 1 (map (word_bits 16) round_keys.now) }
+    requires is_stored { IsFullSchedule (word_bits 16) 1 round_keys.now }
+    ensures schedule { IsFullSchedule W.bits W.BLOCKS (take (length round_keys.now) room.new) }
+    ensures key { plane_key W.bits W.BLOCKS (take (length round_keys.now) room.new)
+        ≡ plane_key (word_bits 16) 1 round_keys.now }
 {
     store_widened(&mut room[..round_keys.len()], round_keys);
 }
 
 /// The stored round keys of a key on `u16` as those of the same key on `W`: see `store_widened`.
 pub fn widen<W: Word, const N: usize>(round_keys: &[u16; N]) -> [W; N]
-    requires is_stored { IsFullSchedule N 1 (map (word_bits 16) round_keys.now) }
-    ensures schedule { IsFullSchedule N W.BLOCKS (map W.bits result) }
-    ensures key { plane_key N W.BLOCKS (map W.bits result) ≡ plane_key N 1 (map (word_bits 16) round_keys.now) }
+    requires is_stored { IsFullSchedule (word_bits 16) 1 round_keys.now }
+    ensures schedule { IsFullSchedule W.bits W.BLOCKS result }
+    ensures key { plane_key W.bits W.BLOCKS result ≡ plane_key (word_bits 16) 1 round_keys.now }
 {
     let mut widened = [W::zero(); N];
     store_widened(&mut widened, round_keys);

@@ -1,14 +1,14 @@
 //! Single rounds of eight blocks, each under the round key of its own, batch after batch.
 
-ghost use Rattle.std.specs.Prelude.{◌≡◌, ◌%◌, length, map};
+ghost use Rattle.std.specs.Prelude.{◌≡◌, ◌%◌, length};
 ghost use Rattle.aes_planes.specs.Each.{Each};
 ghost use Rattle.aes_planes.specs.Fips197 as fips;
 ghost use Rattle.aes_planes.specs.SingleRounds.{cipher_round, equiv_inv_cipher_round, rounds_by_place};
 
 use crate::soft::blocks::{batch_of, put_batch};
 use crate::soft::ciphers::PlaneCipher;
+use aes_cipher::blocks::sum_of_blocks;
 use aes_cipher::cipher::{Decrypt, Encrypt};
-use aes_planes::soft::utils::sum_of_blocks;
 use aes_planes::soft::word::{Batch, Block, Word};
 
 /// A round of the cipher (FIPS 197, 5.1) of each of eight blocks, under the round key at its own
@@ -60,20 +60,10 @@ fn step_batch<W: Word, D: PlaneCipher>(blocks: &mut [Block])
     requires one_batch { length blocks.old ≡ W.Blocks.LEN }
     ensures { Each D.step blocks.old blocks.new }
 {
-    let batch = batch_of::<W::Blocks>(blocks);
-    let stepped = steps_of::<W, D>(&batch);
-    put_batch(&stepped, blocks);
-}
-
-// A step of each block of a batch.
-#[inline(always)]
-fn steps_of<W: Word, D: PlaneCipher>(batch: &W::Blocks) -> W::Blocks
-    ensures { W.Blocks.blocks result ≡ map D.step (W.Blocks.blocks batch.now) }
-{
     let mut state = [W::zero(); 8];
-    W::bitslice(&mut state, batch);
+    W::bitslice(&mut state, &batch_of::<W::Blocks>(blocks));
     D::step_planes(&mut state);
-    W::inv_bitslice(&state)
+    put_batch(&W::inv_bitslice(&state), blocks);
 }
 
 // AddRoundKey of each of eight blocks, with the round key at its own place (FIPS 197, 5.1.4).

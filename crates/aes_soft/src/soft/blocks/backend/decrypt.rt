@@ -1,5 +1,4 @@
 //! Closures that are lent a backend that decrypts.
-ghost use Rattle.std.specs.Prelude.{length, map};
 ghost use Rattle.aes_planes.specs.Fips197 as fips;
 ghost use Rattle.aes_planes.specs.Words.{word_bits};
 ghost use Rattle.aes_soft.specs.Stored.{plane_key, IsFullSchedule};
@@ -14,9 +13,8 @@ use aes_cipher::zeroize::MustWipe;
 /// it.
 #[inline(always)]
 pub fn decrypt_with_backend<F: BlockCipherDecClosure>(round_keys: &[u16], f: &mut F)
-    requires is_schedule { IsFullSchedule (length round_keys.now) 1 (map (word_bits 16) round_keys.now) }
-    ensures { let key = plane_key (length round_keys.now) 1 (map (word_bits 16) round_keys.now) in
-        F.did f.old (fips.key_expansion key) f.new }
+    requires is_schedule { IsFullSchedule (word_bits 16) 1 round_keys.now }
+    ensures { F.did f.old (fips.key_expansion (plane_key (word_bits 16) 1 round_keys.now)) f.new }
 {
     let mut room = MustWipe::<[BatchWord; 120]>::zeroed();
     store_widened_first(room.value_mut(), round_keys);

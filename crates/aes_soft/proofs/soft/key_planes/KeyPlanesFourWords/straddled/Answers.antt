@@ -1,8 +1,8 @@
--- What is left to show of `soft::expand::PlanesFourWords::straddled`.
+-- What is left to show of `soft::key_planes::KeyPlanesFourWords::straddled`.
 use Rattle.std.proofs.Common.{◌∙◌}
 use Rattle.aes_planes.specs.Planes.{zip_with, columns_straddled}
 use Rattle.aes_soft.proofs.Slots.{zip_with-replicates}
-use Rattle.aes_soft.proofs.soft.expand.PlanesFourWords.straddled.Goals as goal
+use Rattle.aes_soft.proofs.soft.key_planes.KeyPlanesFourWords.straddled.Goals as goal
 
 pub returns : goal.returns
 returns g c = λ x y hx hy.

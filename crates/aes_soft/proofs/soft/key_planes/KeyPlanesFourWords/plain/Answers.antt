@@ -1,7 +1,7 @@
--- What is left to show of `soft::expand::PlanesFourWords::plain`.
+-- What is left to show of `soft::key_planes::KeyPlanesFourWords::plain`.
 use Rattle.std.proofs.Common.{arith}
 use Rattle.aes_soft.proofs.Slots.{summed_in_slots}
-use Rattle.aes_soft.proofs.soft.expand.PlanesFourWords.plain.Goals as goal
+use Rattle.aes_soft.proofs.soft.key_planes.KeyPlanesFourWords.plain.Goals as goal
 
 pub returns : goal.returns
 returns g c = λ x y hx hy.

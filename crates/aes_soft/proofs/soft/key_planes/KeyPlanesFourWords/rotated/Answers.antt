@@ -1,9 +1,9 @@
--- What is left to show of `soft::expand::PlanesFourWords::rotated`.
+-- What is left to show of `soft::key_planes::KeyPlanesFourWords::rotated`.
 use Rattle.std.proofs.Common.{arith}
 use Rattle.aes_planes.specs.Fips197.{sub_bytes, add_round_key}
 use Rattle.aes_planes.specs.Planes.{constant_block}
 use Rattle.aes_soft.proofs.Slots.{stepped, summed_in_slots}
-use Rattle.aes_soft.proofs.soft.expand.PlanesFourWords.rotated.Goals as goal
+use Rattle.aes_soft.proofs.soft.key_planes.KeyPlanesFourWords.rotated.Goals as goal
 
 pub returns-clause-words : goal.returns-clause-words
 returns-clause-words g c = λ x y hx hy.

@@ -1,8 +1,8 @@
--- What is left to show of `soft::expand::PlanesFourWords::read_back`.
+-- What is left to show of `soft::key_planes::KeyPlanesFourWords::read_back`.
 use Rattle.std.proofs.Common.{◌∙◌, ◌*◌, ap, sym, map}
 use Rattle.aes_planes.specs.Planes.{held}
 use Rattle.aes_planes.proofs.Planes.EightWords.{words_at-map}
-use Rattle.aes_soft.proofs.soft.expand.PlanesFourWords.read_back.Goals as goal
+use Rattle.aes_soft.proofs.soft.key_planes.KeyPlanesFourWords.read_back.Goals as goal
 
 pub returns : goal.returns
 returns g c = λ x there kept.

@@ -1,7 +1,7 @@
--- What is left to show of `soft::expand::PlanesFourWords::store`.
+-- What is left to show of `soft::key_planes::KeyPlanesFourWords::store`.
 use Rattle.std.proofs.Common.{◌*◌, refl}
 use Rattle.aes_soft.proofs.WordsInPlace.{held_at, kept, places_apart}
-use Rattle.aes_soft.proofs.soft.expand.PlanesFourWords.store.Goals as goal
+use Rattle.aes_soft.proofs.soft.key_planes.KeyPlanesFourWords.store.Goals as goal
 
 pub returns-clause-there : goal.returns-clause-there
 returns-clause-there g c = λ x h.

@@ -1,8 +1,8 @@
--- What is left to show of `soft::expand::PlanesFourWords::substituted`.
+-- What is left to show of `soft::key_planes::KeyPlanesFourWords::substituted`.
 use Rattle.std.proofs.Common.{arith}
 use Rattle.aes_planes.specs.Fips197.{sub_bytes}
 use Rattle.aes_soft.proofs.Slots.{stepped, summed_in_slots}
-use Rattle.aes_soft.proofs.soft.expand.PlanesFourWords.substituted.Goals as goal
+use Rattle.aes_soft.proofs.soft.key_planes.KeyPlanesFourWords.substituted.Goals as goal
 
 pub returns-clause-words : goal.returns-clause-words
 returns-clause-words g c = λ x y hx hy.
