@@ -6,7 +6,7 @@ mod inverse;
 mod inverted_keys;
 mod runs;
 mod single_rounds;
-mod states;
+mod steps;
 
 pub use encrypt::AesEnc;
 pub use expansion::{expand_128, expand_192, expand_256};

@@ -4,10 +4,10 @@ ghost use Rattle.std.specs.Prelude.{◌≡◌, ◌⊎◌, ◌≤◌, length};
 
 use super::inverse::{Aes, AesDec};
 use super::runs;
-use aes::hazmat::Block8;
 use aes_cipher::cipher::{BatchOfEight, BatchSizeUser, BlockCipherEncBackend, RoundKeysUser};
 use aes_planes::laws;
 use aes_planes::soft::word::Block;
+use std::slice;
 
 /// Encrypts round by round, under a list of RK round keys in the standard's order.
 #[derive(Drop)]
@@ -59,11 +59,10 @@ impl<const RK: usize> BatchSizeUser for AesEnc<RK> {
 
 impl<const RK: usize> BlockCipherEncBackend for AesEnc<RK> {
     fn encrypt_block(&self, block: &mut Block) {
-        runs::encrypt(block, &self.round_keys);
+        runs::encrypt(slice::from_mut(block), &self.round_keys);
     }
 
     fn encrypt_par_blocks(&self, blocks: &mut [Block]) {
-        let batch: &mut Block8 = blocks.as_mut_array().unwrap();
-        runs::encrypt(batch, &self.round_keys);
+        runs::encrypt(blocks, &self.round_keys);
     }
 }

@@ -6,8 +6,6 @@ ghost use Rattle.aes_planes.specs.Fips197 as fips;
 
 use super::inverted_keys::inverted_keys;
 use super::runs;
-use super::states::States;
-use aes::hazmat::Block8;
 use aes_cipher::aes::BothWays;
 use aes_cipher::cipher::{
     BatchOfEight, BatchSizeUser, BlockCipherDecBackend, BlockCipherEncBackend, Decrypt,
@@ -16,6 +14,7 @@ use aes_cipher::cipher::{
 use aes_planes::laws;
 use aes_planes::soft::word::Block;
 use std::marker::PhantomData;
+use std::slice;
 
 /// Works round by round, under a list of RK round keys in the standard's order. The directions D are both, or decryption
 /// alone.
@@ -66,11 +65,11 @@ impl<const RK: usize, D> WithInverse<RK, D> {
 
     // Decrypts each block, by EqInvCipher under the inverted round keys (FIPS 197, 5.3.5).
     #[tactic(auto, using(crate::proofs::InvertedKeys::inverse_of_each))]
-    fn decrypt<S: States>(&self, states: &mut S)
-        ensures { Each (fips.inv_cipher_with self.now.round_keys) (S.blocks states.old) (S.blocks states.new) }
+    fn decrypt(&self, blocks: &mut [Block])
+        ensures { Each (fips.inv_cipher_with self.now.round_keys) blocks.old blocks.new }
     {
         laws::equivalent_inverse();
-        runs::decrypt(states, &self.inverted_keys);
+        runs::decrypt(blocks, &self.inverted_keys);
     }
 }
 
@@ -90,22 +89,20 @@ impl<const RK: usize, D> BatchSizeUser for WithInverse<RK, D> {
 
 impl<const RK: usize> BlockCipherEncBackend for WithInverse<RK, BothWays> {
     fn encrypt_block(&self, block: &mut Block) {
-        runs::encrypt(block, &self.round_keys);
+        runs::encrypt(slice::from_mut(block), &self.round_keys);
     }
 
     fn encrypt_par_blocks(&self, blocks: &mut [Block]) {
-        let batch: &mut Block8 = blocks.as_mut_array().unwrap();
-        runs::encrypt(batch, &self.round_keys);
+        runs::encrypt(blocks, &self.round_keys);
     }
 }
 
 impl<const RK: usize, D> BlockCipherDecBackend for WithInverse<RK, D> {
     fn decrypt_block(&self, block: &mut Block) {
-        self.decrypt(block);
+        self.decrypt(slice::from_mut(block));
     }
 
     fn decrypt_par_blocks(&self, blocks: &mut [Block]) {
-        let batch: &mut Block8 = blocks.as_mut_array().unwrap();
-        self.decrypt(batch);
+        self.decrypt(blocks);
     }
 }
