@@ -1,6 +1,6 @@
 -- Rows in the halves of vectors: eight summed in each, and the sum of both.
 use Rattle.std.proofs.Common.{◌≡◌, ℕ, zero, suc, ◌+◌, ◌-◌, ◌*◌, ◌/◌, ◌%◌, ◌^◌, ◌<◌, ◌≤◌, List, [], ◌∷◌, ◌++◌, map, take, drop}
-use Rattle.std.proofs.Common.{get_or, bit_xor, replicate, refl, ap, sym, ◌∙◌, arith}
+use Rattle.std.proofs.Common.{get_or, bit_xor, length, replicate, refl, ap, subst, sym, ◌∙◌, arith}
 use Rattle.std.proofs.lemmas.List.{length-map, take_at, drop_at}
 use Rattle.std.proofs.lemmas.Nat.{xor_comm}
 use Rattle.std.specs.Int.{w128, from_be_bytes}
@@ -9,11 +9,11 @@ use lib.Lanes.{zip2}
 use Rattle.aes_planes.specs.Fips197.{IsBlock}
 use Rattle.aes_permute.specs.Lookup.{by_nibbles}
 use Rattle.gcm.specs.Gcm.{v_at}
-use Rattle.gcm.specs.Multiples.{folded, reduced, IsTable, subkey_in, row_number, place_of}
+use Rattle.gcm.specs.Multiples.{folded, reduced, IsTable, HasRows, subkey_in, row_number, place_of}
 use Rattle.gcm.proofs.Linear.{exchanged, v_keeps, v_add}
 use Rattle.gcm.proofs.Counting.{block_below}
 use Rattle.gcm.proofs.Reduction.{rows_after, folded_keeps, reduced_next}
-use Rattle.gcm.proofs.Rows.{zeros_next, value_next, block_moved, block_summed, zeros_block, zero_at, looked_block, looked_number}
+use Rattle.gcm.proofs.Rows.{zeros_next, value_next, block_moved, block_summed, number_summed, zeros_block, zero_at, half_found}
 use Rattle.gcm.proofs.ByHalves.{zip2_take, zip2_drop}
 
 -- ---- the sum of the last k rows, with the bits that fell out
@@ -49,38 +49,34 @@ summed_next row k first second added first' second' inside old block is first_is
 
 -- ---- what two halves look up
 
-pub lower_row : (x found : List ℕ) (rows : List (List ℕ)) (r : ℕ) → IsTable rows → r < 8 → IsBlock x
+pub rows_found : (x found : List ℕ) (rows : List (List ℕ)) (r : ℕ) → IsTable rows → r < 8 → IsBlock x
     → found ≡ map (by_nibbles (get_or rows (16 + 2 * r) []) (get_or rows (2 * r) [])) x
     ++ map (by_nibbles (get_or rows (17 + 2 * r) []) (get_or rows (2 * r + 1) [])) x
-    → (IsBlock (take 16 found)) × (from_be_bytes w128 (take 16 found) ≡ row_number (subkey_in rows) (from_be_bytes w128 x) r)
-lower_row x found rows r table inside block is =
+    → HasRows (row_number (subkey_in rows) (from_be_bytes w128 x)) r found
+rows_found x found rows r table inside block is =
     let f = by_nibbles (get_or rows (16 + 2 * r) []) (get_or rows (2 * r) []) in
     let g = by_nibbles (get_or rows (17 + 2 * r) []) (get_or rows (2 * r + 1) []) in
-    let place : 2 * r ≡ place_of r = omega (arith, inside) in
-    let half : take 16 found ≡ map (by_nibbles (get_or rows (16 + place_of r) []) (get_or rows (place_of r) [])) x =
-    ap (take 16) is ∙ take_at (map f x) (map g x) 16 (length-map x f ∙ block.0)
-    ∙ ap (λ n. map (by_nibbles (get_or rows (16 + n) []) (get_or rows n [])) x) place in (
-      looked_block x (take 16 found) rows r table (omega (arith, inside)) block half,
-      looked_number x (take 16 found) rows r table (omega (arith, inside)) block half,
-    )
+    let long : length (map f x) ≡ 16 = length-map x f ∙ block.0 in
+    let low = half_found x (take 16 found) rows r (16 + 2 * r) (2 * r) table (omega (arith, inside)) block
+    (omega (arith, inside)) (omega (arith, inside)) (ap (take 16) is ∙ take_at (map f x) (map g x) 16 long) in
+    let high = half_found x (drop 16 found) rows (8 + r) (17 + 2 * r) (2 * r + 1) table (omega (arith, inside)) block
+    (omega (arith, inside)) (omega (arith, inside)) (ap (drop 16) is ∙ drop_at (map f x) (map g x) 16 long) in
+    record { lower_block = low.0; upper_block = high.0; lower = low.1; upper = high.1 }
 
-pub upper_row : (x found : List ℕ) (rows : List (List ℕ)) (r : ℕ) → IsTable rows → r < 8 → IsBlock x
-    → found ≡ map (by_nibbles (get_or rows (16 + 2 * r) []) (get_or rows (2 * r) [])) x
-    ++ map (by_nibbles (get_or rows (17 + 2 * r) []) (get_or rows (2 * r + 1) [])) x
-    → (IsBlock (drop 16 found))
-    × (from_be_bytes w128 (drop 16 found) ≡ row_number (subkey_in rows) (from_be_bytes w128 x) (8 + r))
-upper_row x found rows r table inside block is =
-    let f = by_nibbles (get_or rows (16 + 2 * r) []) (get_or rows (2 * r) []) in
-    let g = by_nibbles (get_or rows (17 + 2 * r) []) (get_or rows (2 * r + 1) []) in
-    let place : 2 * r + 1 ≡ place_of (8 + r) = omega (arith, inside) in
-    let more : 17 + 2 * r ≡ 16 + place_of (8 + r) = omega (arith, inside) in
-    let half : drop 16 found
-    ≡ map (by_nibbles (get_or rows (16 + place_of (8 + r)) []) (get_or rows (place_of (8 + r)) [])) x =
-    ap (drop 16) is ∙ drop_at (map f x) (map g x) 16 (length-map x f ∙ block.0)
-    ∙ (λ t. map (by_nibbles (get_or rows (more t) []) (get_or rows (place t) [])) x) in (
-      looked_block x (drop 16 found) rows (8 + r) table (omega (arith, inside)) block half,
-      looked_number x (drop 16 found) rows (8 + r) table (omega (arith, inside)) block half,
-    )
+-- the sum of two vectors has the sums of their rows
+pub rows_summed : (f g : ℕ → ℕ) (r : ℕ) (p q : List ℕ) → HasRows f r p → HasRows g r q
+    → HasRows (λ n. bit_xor (f n) (g n)) r (zip2 bit_xor p q)
+rows_summed f g r p q a b =
+    let low = zip2_take bit_xor 16 p q in
+    let high = zip2_drop bit_xor 16 p q in
+    record {
+      lower_block = rw low (block_summed (take 16 p) (take 16 q) a.lower_block b.lower_block);
+      upper_block = rw high (block_summed (drop 16 p) (drop 16 q) a.upper_block b.upper_block);
+      lower = ap (from_be_bytes w128) low ∙ number_summed (take 16 p) (take 16 q) a.lower_block b.lower_block
+          ∙ (λ t. bit_xor (a.lower t) (b.lower t));
+      upper = ap (from_be_bytes w128) high ∙ number_summed (drop 16 p) (drop 16 q) a.upper_block b.upper_block
+          ∙ (λ t. bit_xor (a.upper t) (b.upper t));
+    }
 
 -- ---- eight bytes on
 
@@ -163,27 +159,44 @@ nine_zeros x zeros =
       at 15 (omega arith),
     )
 
-pub both_halves : (row : ℕ → ℕ) (f g s t : List ℕ) → Summed (lower_rows row) 8 f s → Summed row 8 g t
-    → reduced (bit_xor (from_be_bytes w128 f) (from_be_bytes w128 g / 2 ^ 64))
-    (bit_xor (from_be_bytes w128 s) (from_be_bytes w128 g % 2 ^ 64 * 2 ^ 64 + from_be_bytes w128 t / 2 ^ 64))
+-- rows 7 to 0 in the lower half, and rows 15 to 8 in the upper one
+pub record SummedInHalves (row : ℕ → ℕ) (k : ℕ) (first second : List ℕ) : Type 0 where
+  pub lower : Summed (lower_rows row) k (take 16 first) (take 16 second)
+  pub upper : Summed row k (drop 16 first) (drop 16 second)
+
+pub halves_none : (row : ℕ → ℕ) → SummedInHalves row 0 (replicate 32 0) (replicate 32 0)
+halves_none row = record { lower = summed_none (lower_rows row); upper = summed_none row }
+
+pub halves_next : (row : ℕ → ℕ) (k : ℕ) (first second added moved second' : List ℕ) → k < 8
+    → SummedInHalves row k first second → HasRows row (7 - k) added
+    → take 16 moved ≡ 0 ∷ take 15 (take 16 first) → drop 16 moved ≡ 0 ∷ take 15 (drop 16 first)
+    → take 16 second' ≡ get_or (take 16 first) 15 0 ∷ take 15 (take 16 second)
+    → drop 16 second' ≡ get_or (drop 16 first) 15 0 ∷ take 15 (drop 16 second)
+    → SummedInHalves row (k + 1) (zip2 bit_xor moved added) second'
+halves_next row k first second added moved second' inside old new lower_moved upper_moved lower_second upper_second =
+    let lower_place : 7 - k ≡ 15 - k - 8 = omega arith in
+    let upper_place : 8 + (7 - k) ≡ 15 - k = omega (arith, inside) in
+    record {
+      lower = summed_next (lower_rows row) k (take 16 first) (take 16 second) (take 16 added) _ _ (omega (arith, inside))
+          old.lower new.lower_block (new.lower ∙ ap row lower_place)
+          (zip2_take bit_xor 16 moved added ∙ ap (λ l. zip2 bit_xor l (take 16 added)) lower_moved) lower_second;
+      upper = summed_next row k (drop 16 first) (drop 16 second) (drop 16 added) _ _ (omega (arith, inside))
+          old.upper new.upper_block (new.upper ∙ ap row upper_place)
+          (zip2_drop bit_xor 16 moved added ∙ ap (λ l. zip2 bit_xor l (drop 16 added)) upper_moved) upper_second;
+    }
+
+pub both_halves : (row : ℕ → ℕ) (k : ℕ) (first second : List ℕ) → SummedInHalves row k first second → k ≡ 8
+    → reduced (bit_xor (from_be_bytes w128 (take 16 first)) (from_be_bytes w128 (drop 16 first) / 2 ^ 64))
+    (bit_xor (from_be_bytes w128 (take 16 second))
+    (from_be_bytes w128 (drop 16 first) % 2 ^ 64 * 2 ^ 64 + from_be_bytes w128 (drop 16 second) / 2 ^ 64))
     ≡ rows_after row 16
-both_halves row f g s t low high =
-    let k : ℕ = from_be_bytes w128 g in
-    let l : ℕ = from_be_bytes w128 t in
-    reduced_keeps (from_be_bytes w128 f) (k / 2 ^ 64) (from_be_bytes w128 s) (k % 2 ^ 64 * 2 ^ 64 + l / 2 ^ 64)
-    ∙ (λ u. bit_xor (low.value u) ((eight_on k l (l / 2 ^ 72) (nine_zeros t high.zeros) (block_below t high.second_block)
-    ∙ ap (λ y. v_at y 64) high.value) u))
+both_halves row k first second is end =
+    let x : ℕ = from_be_bytes w128 (drop 16 first) in
+    let y : ℕ = from_be_bytes w128 (drop 16 second) in
+    let all : SummedInHalves row 8 first second = subst (λ n. SummedInHalves row n first second) end is in
+    reduced_keeps (from_be_bytes w128 (take 16 first)) (x / 2 ^ 64) (from_be_bytes w128 (take 16 second))
+    (x % 2 ^ 64 * 2 ^ 64 + y / 2 ^ 64)
+    ∙ (λ u. bit_xor (all.lower.value u) ((eight_on x y (y / 2 ^ 72) (nine_zeros (drop 16 second) all.upper.zeros)
+    (block_below (drop 16 second) all.upper.second_block) ∙ ap (λ v. v_at v 64) all.upper.value) u))
     ∙ xor_comm (rows_after (lower_rows row) 8) (v_at (rows_after row 8) 64)
     ∙ sym (rows_on row 8)
-
--- ---- three rows, summed in halves
-
-pub lower_of_three : (a b c : List ℕ)
-    → take 16 (zip2 bit_xor (zip2 bit_xor a b) c) ≡ zip2 bit_xor (zip2 bit_xor (take 16 a) (take 16 b)) (take 16 c)
-lower_of_three a b c =
-    zip2_take bit_xor 16 (zip2 bit_xor a b) c ∙ ap (λ l. zip2 bit_xor l (take 16 c)) (zip2_take bit_xor 16 a b)
-
-pub upper_of_three : (a b c : List ℕ)
-    → drop 16 (zip2 bit_xor (zip2 bit_xor a b) c) ≡ zip2 bit_xor (zip2 bit_xor (drop 16 a) (drop 16 b)) (drop 16 c)
-upper_of_three a b c =
-    zip2_drop bit_xor 16 (zip2 bit_xor a b) c ∙ ap (λ l. zip2 bit_xor l (drop 16 c)) (zip2_drop bit_xor 16 a b)

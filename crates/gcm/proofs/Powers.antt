@@ -2,7 +2,6 @@
 use Rattle.std.proofs.Common.{◌≡◌, ℕ, ◌-◌, ◌*◌, ◌/◌, ◌%◌, ◌^◌, ◌<◌, ◌==◌, if◌then◌else◌, Bool, true, false, bit_xor, refl, ap, sym, ◌∙◌, arith}
 use Rattle.std.proofs.lemmas.Nat.{xor_shr, xor_mod}
 use Rattle.std.proofs.lemmas.Bool.{eqb-true}
-use Rattle.std.specs.Int.Bits.{xor_self}
 use Rattle.aes_planes.proofs.Bits.ByteCases.{all_below, all_below_tells}
 use Rattle.gcm.specs.Gcm.{bit_of, v_at, next_v, product}
 use Rattle.gcm.specs.Multiples.{sum_of, byte_of, nibble_multiple, byte_multiple}
@@ -32,9 +31,6 @@ product_keeps a b h =
     ∙ term_adds (bit_of a i) (bit_of b i) (v_at h i) (bit_small a i) (bit_small b i))
     ∙ sum-add 128 (λ i. term (bit_of a i) (v_at h i)) (λ i. term (bit_of b i) (v_at h i))
     ∙ (λ t. bit_xor (sym (product_terms a h 128) t) (sym (product_terms b h 128) t))
-
-pub zero_product : (h : ℕ) → product 0 h ≡ 0
-zero_product h = product_keeps 0 0 h ∙ xor_self (product 0 h)
 
 -- those of the second
 right_keeps : (x a b : ℕ) → product x (bit_xor a b) ≡ bit_xor (product x a) (product x b)

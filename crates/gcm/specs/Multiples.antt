@@ -1,6 +1,6 @@
 -- Multiples of a block H by a nibble or a byte, and how room has them: byte by byte, so that products are looked up.
 use Rattle.std.specs.Prelude.{◌≡◌, ℕ, zero, suc, ◌+◌, ◌-◌, ◌*◌, ◌/◌, ◌%◌, ◌^◌, ◌==◌, if◌then◌else◌, List, [], ◌++◌}
-use Rattle.std.specs.Prelude.{slice_index, slice_index_or}
+use Rattle.std.specs.Prelude.{drop, slice_index, slice_index_or, take}
 use Rattle.std.specs.Int.{w128, from_be_bytes}
 use Rattle.std.specs.Int.Bits.{bit_xor}
 use Rattle.aes_planes.specs.Fips197 as fips
@@ -67,6 +67,13 @@ HasMultiples room = room ≡ multiples_of (subkey_in room)
 -- row r of a product of x and h: byte r of the multiple of each byte
 unfoldable pub row_number : ℕ → ℕ → ℕ → ℕ
 row_number h x r = sum_of 16 (λ j. byte_of (byte_multiple h (byte_of x j)) r * 2 ^ (8 * (15 - j)))
+
+-- a vector of 32 bytes has rows r and 8 + r of a product, one in each half
+pub record HasRows (row : ℕ → ℕ) (r : ℕ) (v : List ℕ) : Type 0 where
+  pub lower_block : fips.IsBlock (take 16 v)
+  pub upper_block : fips.IsBlock (drop 16 v)
+  pub lower : from_be_bytes w128 (take 16 v) ≡ row r
+  pub upper : from_be_bytes w128 (drop 16 v) ≡ row (8 + r)
 
 -- what bits that fell out stand for
 unfoldable pub folded : ℕ → ℕ

@@ -3,7 +3,6 @@
 
 ghost use Rattle.std.specs.Prelude.{◌≡◌, ◌+◌, ◌*◌, ◌/◌, ◌%◌, ◌^◌, ◌∷◌, ◌++◌, ℕ, List, take, drop, map, length, slice_index};
 ghost use Rattle.std.specs.Int.{w128, from_be_bytes};
-ghost use Rattle.aes_planes.specs.Fips197 as fips;
 ghost use Rattle.aes_permute.specs.Lookup.{looked, low_nibble, high_nibble, AreIndices};
 
 use aes_permute::halves::{joined, twice};
@@ -12,7 +11,6 @@ use std::simd::prelude::*;
 /// Returns the low nibble of each byte of a block, in both halves.
 #[inline(always)]
 pub(crate) fn low_nibbles_twice(x: u8x16) -> u8x32
-    requires { fips.IsBlock x }
     ensures nibbles { result ≡ map low_nibble x ++ map low_nibble x }
     ensures places { AreIndices result }
 {
@@ -22,7 +20,6 @@ pub(crate) fn low_nibbles_twice(x: u8x16) -> u8x32
 /// Returns the high nibble of each byte of a block, in both halves.
 #[inline(always)]
 pub(crate) fn high_nibbles_twice(x: u8x16) -> u8x32
-    requires { fips.IsBlock x }
     ensures nibbles { result ≡ map high_nibble x ++ map high_nibble x }
     ensures places { AreIndices result }
 {
@@ -43,7 +40,6 @@ pub(crate) fn lookup_in_halves(first: [u8; 16], second: [u8; 16], places: u8x32)
 /// Returns the first bytes of each half, after a byte 0.
 #[inline(always)]
 pub(crate) fn after_zeros(x: u8x32) -> u8x32
-    requires { length x ≡ 32 }
     ensures lower { take 16 result ≡ 0 ∷ take 15 (take 16 x) }
     ensures upper { drop 16 result ≡ 0 ∷ take 15 (drop 16 x) }
 {
@@ -59,8 +55,6 @@ pub(crate) fn after_zeros(x: u8x32) -> u8x32
 /// Returns the first bytes of each half, after the last of another vector's half.
 #[inline(always)]
 pub(crate) fn after_lasts(x: u8x32, y: u8x32) -> u8x32
-    requires first { length x ≡ 32 }
-    requires second { length y ≡ 32 }
     ensures lower { take 16 result ≡ slice_index (take 16 x) 15 ∷ take 15 (take 16 y) }
     ensures upper { drop 16 result ≡ slice_index (drop 16 x) 15 ∷ take 15 (drop 16 y) }
 {
@@ -76,7 +70,6 @@ pub(crate) fn after_lasts(x: u8x32, y: u8x32) -> u8x32
 /// Returns the first eight bytes of a block, after eight bytes 0.
 #[inline(always)]
 pub(crate) fn after_eight_zeros(x: u8x16) -> u8x16
-    requires { fips.IsBlock x }
     ensures { from_be_bytes w128 result ≡ from_be_bytes w128 x / 2 ^ 64 }
 {
     u8x16::splat(0).shuffle(x, [0, 1, 2, 3, 4, 5, 6, 7, 16, 17, 18, 19, 20, 21, 22, 23])
@@ -85,8 +78,6 @@ pub(crate) fn after_eight_zeros(x: u8x16) -> u8x16
 /// Returns the first eight bytes of a block, after the last eight of another.
 #[inline(always)]
 pub(crate) fn after_last_eight(x: u8x16, y: u8x16) -> u8x16
-    requires first { fips.IsBlock x }
-    requires second { fips.IsBlock y }
     ensures { from_be_bytes w128 result ≡ from_be_bytes w128 x % 2 ^ 64 * 2 ^ 64 + from_be_bytes w128 y / 2 ^ 64 }
 {
     x.shuffle(
