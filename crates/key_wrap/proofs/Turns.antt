@@ -2,9 +2,8 @@
 -- and then those before it.
 use Rattle.std.proofs.Common.{◌≡◌, ℕ, suc, ◌+◌, ◌-◌, ◌<◌, List, [], ◌∷◌, ◌++◌, length, get_or, set, take, drop}
 use Rattle.std.proofs.Common.{ap, sym, ◌∙◌, arith}
-use Rattle.std.proofs.Math.Seq.{drop-cons, drop-length, take-length}
-use Rattle.std.proofs.Math.Seq.{get_or-append_seam}
-use Rattle.std.proofs.lemmas.List.{append_assoc, append-nil, drop-set, drop-set-lt, length-append, take-append-le, take-set-le}
+use Rattle.std.proofs.Math.Seq.{drop-cons, get_or-append_seam}
+use Rattle.std.proofs.lemmas.List.{append_assoc, drop-set, drop-set-lt, length-append, take-append-le, take-set-le}
 use Rattle.std.proofs.lemmas.List.{take_all, take_more, take_more_set}
 use Rattle.aes_planes.specs.Fips197.{cipher_with, inv_cipher_with}
 use Rattle.key_wrap.specs.KeyWrap.{number_added, unwrap_step, unwrapped_from, wrap_step, wrapped_after}
@@ -12,12 +11,6 @@ use Rattle.key_wrap.specs.KeyWrap.{number_added, unwrap_step, unwrapped_from, wr
 -- the semiblocks in the order of the standard before the step with semiblock i
 abbrev pub turned : ℕ → List (List ℕ) → List (List ℕ)
 turned i rs = drop i rs ++ take i rs
-
-pub turned_none : (rs : List (List ℕ)) → turned 0 rs ≡ rs
-turned_none rs = append-nil rs
-
-pub turned_all : (rs : List (List ℕ)) (i : ℕ) → i ≡ length rs → turned i rs ≡ rs
-turned_all rs i e = ap (λ n. turned n rs) e ∙ (λ j. drop-length rs j ++ take-length rs j)
 
 left : (xs : List (List ℕ)) (i : ℕ) → i < length xs → drop i xs ≡ get_or xs i [] ∷ drop (i + 1) xs
 left xs i lt = let n : suc i ≡ i + 1 = omega arith in drop-cons xs i [] lt ∙ ap (λ n. get_or xs i [] ∷ drop n xs) n

@@ -56,5 +56,5 @@ unwrapped w sealed = unwrapped_from w sealed (6 * (length sealed - 1))
 -- a key may have so many semiblocks (5.3.1), and becomes one more
 pub record Fit (key sealed : ℕ) : Type 0 where
   pub least : 2 ≤ key
-  pub most : key + 1 < 2 ^ 54
+  pub most : key < 2 ^ 54
   pub sized : sealed ≡ key + 1

@@ -1,12 +1,38 @@
 //! Key wrap at values from outside, as contracts, so that a slip in a definition is refused: RFC 3394, 4.1, and RFC 5649, 6.
+//! The last two show that a key comes back, as callers can prove it.
 //!
 //! `bytes n 0x..` is the n bytes that these digits write.
 
-ghost use Rattle.std.specs.Prelude.{◌≡◌, ◌∷◌, []};
+ghost use Rattle.std.specs.Prelude.{◌≡◌, ◌↔◌, ◌+◌, ◌-◌, ◌^◌, ◌∷◌, [], length, take, IfOk, IsOk, OnOk};
+ghost use Rattle.std.specs.List.{concat, All};
 ghost use Rattle.aes_planes.specs.BigEndian.{bytes};
 ghost use Rattle.aes_planes.specs.Fips197 as fips;
-ghost use Rattle.key_wrap.specs.KeyWrap.{wrapped};
-ghost use Rattle.key_wrap.specs.Padded.{wrapped_padded};
+ghost use Rattle.key_wrap.specs.KeyWrap.{wrapped, Fit, IsSemiblock};
+ghost use Rattle.key_wrap.specs.Padded.{filled, wrapped_padded, FitPadded, FitUnpadded};
+
+use crate::errors::InvalidCount;
+use crate::laws::{padding_undone, wrapping_undone};
+use crate::padded::{unwrap_padded, wrap_padded};
+use crate::steps::Semiblock;
+use crate::wrapping::{unwrap, wrap};
+use aes_cipher::cipher::{BlockCipherDecrypt, BlockCipherEncrypt};
+
+/// How long a key may be, in semiblocks and in bytes, and the lengths on either side of these (SP 800-38F, 5.3.1).
+#[tactic(auto, unfolding(crate::specs::Padded::filled))]
+pub fn count_examples()
+    ensures one { ¬ Fit 1 2 }
+    ensures two { Fit 2 3 }
+    ensures most { Fit (2 ^ 54 - 1) (2 ^ 54) }
+    ensures too_many { ¬ Fit (2 ^ 54) (2 ^ 54 + 1) }
+    ensures no_byte { ¬ FitPadded 0 1 }
+    ensures one_byte { FitPadded 1 2 }
+    ensures most_bytes { FitPadded (2 ^ 32 - 1) (2 ^ 29 + 1) }
+    ensures too_many_bytes { ¬ FitPadded (2 ^ 32) (2 ^ 29 + 1) }
+    ensures none_filled { ¬ FitUnpadded 0 1 }
+    ensures one_filled { FitUnpadded 1 2 }
+    ensures most_filled { FitUnpadded (2 ^ 29) (2 ^ 29 + 1) }
+    ensures too_many_filled { ¬ FitUnpadded (2 ^ 29 + 1) (2 ^ 29 + 2) }
+{}
 
 // The blocks of the twelve steps of W: in each the first semiblock, and that of the key whose turn it is.
 #[tactic(auto, using(aes_planes::proofs::OnLiterals::ciphers), unfolding(aes_planes::proofs::OnLiterals::aes_by_table))]
@@ -59,4 +85,66 @@ pub fn padded_192_example()
         (bytes 7 0x466f7250617369) ≡ bytes 8 0xafbeb0f07dfbf541 ∷ bytes 8 0x9200f2ccb50bb24f ∷ [] }
 {
     encrypted_padded_block();
+}
+
+// No effect; states that a semiblock is eight bytes.
+fn is_semiblock(half: Semiblock)
+    ensures { IsSemiblock half }
+{}
+
+// No effect; states the same of each semiblock of a key.
+fn are_semiblocks(key: &[Semiblock])
+    ensures { All IsSemiblock key.now }
+{
+    for i in 0..key.len() {
+        is_semiblock(key[i]);
+    }
+}
+
+/// Wraps a key and unwraps it again: it isn't refused, and comes back.
+///
+/// # Errors
+///
+/// `InvalidCount` exactly if a key may not have so many semiblocks, or either output doesn't fit.
+pub fn there_and_back<C: BlockCipherEncrypt + BlockCipherDecrypt>(
+    cipher: &C,
+    key: &[Semiblock],
+    sealed: &mut [Semiblock],
+    back: &mut [Semiblock],
+) -> Result<(), InvalidCount>
+    ensures done { IsOk result ↔ Fit (length key.now) (length sealed.old) × (length back.old ≡ length key.now) }
+    ensures back { OnOk result (back.new ≡ key.now) }
+{
+    wrapping_undone();
+    cipher.has_round_keys();
+    are_semiblocks(key);
+    wrap(cipher, key, sealed)?;
+    match unwrap(cipher, sealed, back) {
+        Ok(()) => Ok(()),
+        Err(_) => Err(InvalidCount),
+    }
+}
+
+/// Pads and wraps a key, and unwraps it again: it isn't refused, and the first bytes of what comes back are the key.
+///
+/// # Errors
+///
+/// `InvalidCount` exactly if a key may not have so many bytes, or either output doesn't fit.
+pub fn padded_there_and_back<C: BlockCipherEncrypt + BlockCipherDecrypt>(
+    cipher: &C,
+    key: &[u8],
+    sealed: &mut [Semiblock],
+    back: &mut [Semiblock],
+) -> Result<u32, InvalidCount>
+    ensures done { IsOk result
+        ↔ FitPadded (length key.now) (length sealed.old) × (length back.old ≡ filled (length key.now)) }
+    ensures back { IfOk result (λ count. take count (concat back.new) ≡ key.now) }
+{
+    padding_undone();
+    cipher.has_round_keys();
+    wrap_padded(cipher, key, sealed)?;
+    match unwrap_padded(cipher, sealed, back) {
+        Ok(count) => Ok(count),
+        Err(_) => Err(InvalidCount),
+    }
 }

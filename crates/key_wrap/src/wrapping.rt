@@ -16,17 +16,17 @@ const TOO_MANY: u64 = 1 << 54;
 
 // Whether keys may have so many semiblocks.
 fn is_allowed(count: usize) -> bool
-    ensures { IsTrue result ↔ (2 ≤ count) × (count + 1 < 2 ^ 54) }
+    ensures { IsTrue result ↔ (2 ≤ count) × (count < 2 ^ 54) }
 {
-    count >= 2 && (count as u64) < TOO_MANY - 1
+    count >= 2 && (count as u64) < TOO_MANY
 }
 
 /// Wraps a key of two semiblocks or more (KW-AE, 6.2): `output` has one semiblock more.
 ///
 /// # Errors
 ///
-/// `InvalidCount` exactly if the key has fewer than two semiblocks or 2^54 - 1 or more, or the output is of another
-/// length than one semiblock more than the key; it is then unchanged.
+/// `InvalidCount` exactly if the key has fewer than two semiblocks or 2^54 or more, or the output is of another length
+/// than one semiblock more than the key; it is then unchanged.
 pub fn wrap<C: BlockCipherEncrypt>(
     cipher: &C,
     key: &[Semiblock],
