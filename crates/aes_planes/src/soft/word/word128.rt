@@ -9,7 +9,7 @@ ghost use Rattle.aes_planes.specs.Words.{word_bits, lane_bits};
 use super::Word;
 use super::batch::{Batch, Block, Blocks, Blocks8};
 use super::transpose::transpose;
-use super::vector::{
+use super::vector128::{
     by_columns, by_rows, lane_for_each_bit, lanes_of_block, rotate_right, rows, shift_left,
     shift_right,
 };

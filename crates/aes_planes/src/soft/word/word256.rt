@@ -7,8 +7,8 @@ ghost use Rattle.aes_planes.specs.Private.BuiltLength.{built_shape};
 
 use super::batch::{Batch, Block, Blocks, Blocks16};
 use super::transpose::transpose;
-use super::vector::lanes_of_block;
-use super::{Word, wide};
+use super::vector128::lanes_of_block;
+use super::{Word, vector256};
 use std::simd::prelude::*;
 
 #[tactic(auto, using(crate::proofs::Words::Wide::wide_operators))]
@@ -54,22 +54,22 @@ impl Word for u8x32 {
 
     #[inline(always)]
     fn shift_left(self, n: u32) -> u8x32 {
-        wide::shift_left(self, n)
+        vector256::shift_left(self, n)
     }
 
     #[inline(always)]
     fn shift_right(self, n: u32) -> u8x32 {
-        wide::shift_right(self, n)
+        vector256::shift_right(self, n)
     }
 
     #[inline(always)]
     fn ror(self, n: u32) -> u8x32 {
-        wide::rotate_right(self, n)
+        vector256::rotate_right(self, n)
     }
 
     #[inline(always)]
     fn pack_rows(r0: u8, r1: u8, r2: u8, r3: u8) -> u8x32 {
-        wide::rows(r0, r1, r2, r3)
+        vector256::rows(r0, r1, r2, r3)
     }
 
     #[inline(always)]
@@ -101,14 +101,14 @@ impl Word for u8x32 {
         let b14 = input.get(14);
         let b15 = input.get(15);
         let rows = [
-            wide::by_rows(b0, b8),
-            wide::by_rows(b1, b9),
-            wide::by_rows(b2, b10),
-            wide::by_rows(b3, b11),
-            wide::by_rows(b4, b12),
-            wide::by_rows(b5, b13),
-            wide::by_rows(b6, b14),
-            wide::by_rows(b7, b15),
+            vector256::by_rows(b0, b8),
+            vector256::by_rows(b1, b9),
+            vector256::by_rows(b2, b10),
+            vector256::by_rows(b3, b11),
+            vector256::by_rows(b4, b12),
+            vector256::by_rows(b5, b13),
+            vector256::by_rows(b6, b14),
+            vector256::by_rows(b7, b15),
         ];
         let planes = transpose(rows);
         *output = planes;
@@ -120,22 +120,22 @@ impl Word for u8x32 {
         let [r0, r1, r2, r3, r4, r5, r6, r7] = transpose(planes);
         Blocks {
             blocks: [
-                wide::low_block(r0),
-                wide::low_block(r1),
-                wide::low_block(r2),
-                wide::low_block(r3),
-                wide::low_block(r4),
-                wide::low_block(r5),
-                wide::low_block(r6),
-                wide::low_block(r7),
-                wide::high_block(r0),
-                wide::high_block(r1),
-                wide::high_block(r2),
-                wide::high_block(r3),
-                wide::high_block(r4),
-                wide::high_block(r5),
-                wide::high_block(r6),
-                wide::high_block(r7),
+                vector256::low_block(r0),
+                vector256::low_block(r1),
+                vector256::low_block(r2),
+                vector256::low_block(r3),
+                vector256::low_block(r4),
+                vector256::low_block(r5),
+                vector256::low_block(r6),
+                vector256::low_block(r7),
+                vector256::high_block(r0),
+                vector256::high_block(r1),
+                vector256::high_block(r2),
+                vector256::high_block(r3),
+                vector256::high_block(r4),
+                vector256::high_block(r5),
+                vector256::high_block(r6),
+                vector256::high_block(r7),
             ],
         }
     }
@@ -144,14 +144,14 @@ impl Word for u8x32 {
     fn in_every_slot(block: &Block) -> [u8x32; 8] {
         let [x0, x1, x2, x3, x4, x5, x6, x7] = lanes_of_block(block);
         [
-            wide::twice(x0),
-            wide::twice(x1),
-            wide::twice(x2),
-            wide::twice(x3),
-            wide::twice(x4),
-            wide::twice(x5),
-            wide::twice(x6),
-            wide::twice(x7),
+            vector256::twice(x0),
+            vector256::twice(x1),
+            vector256::twice(x2),
+            vector256::twice(x3),
+            vector256::twice(x4),
+            vector256::twice(x5),
+            vector256::twice(x6),
+            vector256::twice(x7),
         ]
     }
 

@@ -7,7 +7,7 @@ ghost use Rattle.aes_planes.specs.Private.Packing.{row_byte};
 ghost use Rattle.aes_planes.specs.Fips197 as fips;
 
 use super::batch::Block;
-use super::vector;
+use super::vector128;
 use std::simd::prelude::*;
 
 // The number of each lane in its half.
@@ -205,7 +205,7 @@ pub(crate) fn rows(r0: u8, r1: u8, r2: u8, r3: u8) -> u8x32
     ensures { Places 256 (wide_bits result)
         (λ i. bit (get_or (r0 ∷ r1 ∷ r2 ∷ r3 ∷ []) (i / 64) 0) (i % 64 / 16)) }
 {
-    twice(vector::rows(r0, r1, r2, r3))
+    twice(vector128::rows(r0, r1, r2, r3))
 }
 
 // The bytes of two blocks, row by row, one in each half.
@@ -214,8 +214,8 @@ pub(crate) fn by_rows(low: Block, high: Block) -> u8x32
     ensures low { (j p : ℕ) → j < 16 → p < 8 → bit (row_byte low j) p ≡ at (wide_bits result) (16 * j + p) }
     ensures high { (j p : ℕ) → j < 16 → p < 8 → bit (row_byte high j) p ≡ at (wide_bits result) (16 * j + 8 + p) }
 {
-    vector::by_rows(low).shuffle(
-        vector::by_rows(high),
+    vector128::by_rows(low).shuffle(
+        vector128::by_rows(high),
         [
             0, 1, 2, 3, 4, 5, 6, 7, 8, 9, 10, 11, 12, 13, 14, 15, 16, 17, 18, 19, 20, 21, 22, 23,
             24, 25, 26, 27, 28, 29, 30, 31,
@@ -230,7 +230,7 @@ pub(crate) fn low_block(x: u8x32) -> Block
     ensures typed { fips.IsBlock result }
     ensures bits { (j p : ℕ) → j < 16 → p < 8 → bit (row_byte result j) p ≡ at (wide_bits x) (16 * j + p) }
 {
-    vector::by_columns(x.swizzle([0, 1, 2, 3, 4, 5, 6, 7, 8, 9, 10, 11, 12, 13, 14, 15]))
+    vector128::by_columns(x.swizzle([0, 1, 2, 3, 4, 5, 6, 7, 8, 9, 10, 11, 12, 13, 14, 15]))
 }
 
 // The block of the rows in the upper half.
@@ -240,7 +240,7 @@ pub(crate) fn high_block(x: u8x32) -> Block
     ensures typed { fips.IsBlock result }
     ensures bits { (j p : ℕ) → j < 16 → p < 8 → bit (row_byte result j) p ≡ at (wide_bits x) (16 * j + 8 + p) }
 {
-    vector::by_columns(x.swizzle([
+    vector128::by_columns(x.swizzle([
         16, 17, 18, 19, 20, 21, 22, 23, 24, 25, 26, 27, 28, 29, 30, 31,
     ]))
 }

@@ -1,8 +1,8 @@
--- What is left to show of `soft::word::vector::lane_for_each_bit`.
+-- What is left to show of `soft::word::vector128::lane_for_each_bit`.
 use Rattle.std.proofs.Common.{◌/◌, ◌%◌, ap, ◌∙◌, cond, arith}
 use Rattle.aes_planes.specs.Bits.{bit}
 use Rattle.aes_planes.proofs.Words.Spread.{bit_of_lane, byte_of_lane, lanes_spread}
-use Rattle.aes_planes.proofs.soft.word.vector.lane_for_each_bit.Goals as goal
+use Rattle.aes_planes.proofs.soft.word.vector128.lane_for_each_bit.Goals as goal
 
 pub returns : goal.returns
 returns c = lanes_spread c.args.x c.lanes_with.result (omega arith) (λ j h.

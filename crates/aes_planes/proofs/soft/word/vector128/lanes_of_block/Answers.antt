@@ -1,4 +1,4 @@
--- What is left to show of `soft::word::vector::lanes_of_block`.
+-- What is left to show of `soft::word::vector128::lanes_of_block`.
 use Rattle.std.proofs.Common.{◌≡◌, ℕ, ◌<◌, List, [], ◌∷◌, get_or, ap, sym, ◌∙◌, arith}
 use Rattle.std.proofs.lemmas.Simd.{get_or-replicate}
 use Rattle.aes_planes.specs.Bits.{bit}
@@ -6,7 +6,7 @@ use Rattle.aes_planes.specs.Private.Packing.{row_byte}
 use Rattle.aes_planes.proofs.Bits.ByteCases.{by_eight}
 use Rattle.aes_planes.proofs.Words.LaneBits.{lane_at}
 use Rattle.aes_planes.proofs.Words.Spread.{one_or_none}
-use Rattle.aes_planes.proofs.soft.word.vector.lanes_of_block.Goals as goal
+use Rattle.aes_planes.proofs.soft.word.vector128.lanes_of_block.Goals as goal
 
 pub returns-clause-lanes : goal.returns-clause-lanes
 returns-clause-lanes c p j hp hj =

@@ -1,8 +1,8 @@
--- What is left to show of `soft::word::vector::rows`.
+-- What is left to show of `soft::word::vector128::rows`.
 use Rattle.std.proofs.Common.{◌≡◌, ℕ, ◌+◌, ◌*◌, ◌/◌, ◌%◌, [], ◌∷◌, get_or, ◌∙◌, arith}
 use Rattle.aes_planes.specs.Bits.{bit}
 use Rattle.aes_planes.proofs.Bits.NumberBits.{reads}
-use Rattle.aes_planes.proofs.soft.word.vector.rows.Goals as goal
+use Rattle.aes_planes.proofs.soft.word.vector128.rows.Goals as goal
 
 pub returns : goal.returns
 returns c i l =
