@@ -7,7 +7,7 @@ ghost use Rattle.aes_ctr.specs.CounterMode.{keystream_byte, plus_stream};
 ghost use Rattle.cbc.specs.Cbc.{chained, last_of, unchained};
 ghost use Rattle.key_wrap.specs.KeyWrap.{integrity_check, unwrapped, wrapped, Fit};
 ghost use Rattle.key_wrap.specs.Padded.{heading, unwrapped_string, wrapped_padded, FitPadded, FitUnpadded, IsPadded};
-ghost use Rattle.c_calls.specs.Kept.{kept_key, AreZeroAfter, IsKeyLength, IsMade};
+ghost use Rattle.c_calls.specs.Kept.{key_in, round_keys_in, AreZeroAfter, IsKeyLength, IsMade};
 
 use crate::width::BuildWidth;
 use aes_cipher::cipher::{Decrypt, Encrypt};
@@ -39,8 +39,8 @@ pub extern "C" fn fotsgure_aes_version() -> u32
 pub extern "C" fn fotsgure_aes_set_key(aes: &mut Aes, key: &[u8]) -> u32
     ensures done { result ≡ DONE ↔ IsKeyLength (length key.now) }
     ensures refused { result ≢ DONE → result ≡ KEY_LENGTH }
-    ensures made { IsMade aes.new.key_length aes.new.encrypting aes.new.decrypting }
-    ensures key { result ≡ DONE → kept_key aes.new.key_length aes.new.encrypting ≡ key.now }
+    ensures made { IsMade aes.new }
+    ensures key { result ≡ DONE → key_in aes.new ≡ key.now }
     ensures length { result ≡ DONE → aes.new.key_length ≡ length key.now }
     ensures after_encrypting { result ≡ DONE → AreZeroAfter (length key.now) aes.new.encrypting }
     ensures after_decrypting { result ≡ DONE → AreZeroAfter (length key.now) aes.new.decrypting }
@@ -63,7 +63,7 @@ pub extern "C" fn fotsgure_aes_key_length(aes: &Aes) -> usize
 /// Overwrites the struct with zeros: it then holds no key.
 #[unsafe(no_mangle)]
 pub extern "C" fn fotsgure_aes_wipe(aes: &mut Aes)
-    ensures made { IsMade aes.new.key_length aes.new.encrypting aes.new.decrypting }
+    ensures made { IsMade aes.new }
     ensures none { aes.new.key_length ≡ 0 }
     ensures encrypting { aes.new.encrypting ≡ replicate 15 (replicate 16 0) }
     ensures decrypting { aes.new.decrypting ≡ replicate 15 (replicate 16 0) }
@@ -74,11 +74,10 @@ pub extern "C" fn fotsgure_aes_wipe(aes: &mut Aes)
 /// Encrypts each block in place (Cipher, FIPS 197, 5.1).
 #[unsafe(no_mangle)]
 pub extern "C" fn fotsgure_aes_encrypt_blocks(aes: &Aes, blocks: &mut [Block]) -> u32
-    requires made { IsMade aes.now.key_length aes.now.encrypting aes.now.decrypting }
+    requires made { IsMade aes.now }
     ensures done { result ≡ DONE ↔ IsKeyLength aes.now.key_length }
     ensures refused { result ≢ DONE → result ≡ NO_KEY }
-    ensures blocks { let key = kept_key aes.now.key_length aes.now.encrypting in
-        result ≡ DONE → Each (fips.cipher key) blocks.old blocks.new }
+    ensures blocks { result ≡ DONE → Each (fips.cipher (key_in aes.now)) blocks.old blocks.new }
     ensures untouched { result ≢ DONE → blocks.new ≡ blocks.old }
 {
     process_under::<Encrypt, BuildWidth>(aes, blocks)
@@ -87,11 +86,10 @@ pub extern "C" fn fotsgure_aes_encrypt_blocks(aes: &Aes, blocks: &mut [Block]) -
 /// Decrypts each block in place (InvCipher, FIPS 197, 5.3).
 #[unsafe(no_mangle)]
 pub extern "C" fn fotsgure_aes_decrypt_blocks(aes: &Aes, blocks: &mut [Block]) -> u32
-    requires made { IsMade aes.now.key_length aes.now.encrypting aes.now.decrypting }
+    requires made { IsMade aes.now }
     ensures done { result ≡ DONE ↔ IsKeyLength aes.now.key_length }
     ensures refused { result ≢ DONE → result ≡ NO_KEY }
-    ensures blocks { let key = kept_key aes.now.key_length aes.now.encrypting in
-        result ≡ DONE → Each (fips.inv_cipher key) blocks.old blocks.new }
+    ensures blocks { result ≡ DONE → Each (fips.inv_cipher (key_in aes.now)) blocks.old blocks.new }
     ensures untouched { result ≢ DONE → blocks.new ≡ blocks.old }
 {
     process_under::<Decrypt, BuildWidth>(aes, blocks)
@@ -104,12 +102,11 @@ pub extern "C" fn fotsgure_aes_encrypt_blocks_to(
     input: &[Block],
     output: &mut [Block],
 ) -> u32
-    requires made { IsMade aes.now.key_length aes.now.encrypting aes.now.decrypting }
+    requires made { IsMade aes.now }
     ensures unequal { result ≡ UNEQUAL_COUNTS ↔ (length input.now ≢ length output.old) }
     ensures done { result ≡ DONE ↔ IsKeyLength aes.now.key_length × (length input.now ≡ length output.old) }
     ensures refused { result ≢ DONE → result ≢ UNEQUAL_COUNTS → result ≡ NO_KEY }
-    ensures blocks { let key = kept_key aes.now.key_length aes.now.encrypting in
-        result ≡ DONE → Each (fips.cipher key) input.now output.new }
+    ensures blocks { result ≡ DONE → Each (fips.cipher (key_in aes.now)) input.now output.new }
     ensures untouched { result ≢ DONE → output.new ≡ output.old }
 {
     process_under_to::<Encrypt, BuildWidth>(aes, input, output)
@@ -122,12 +119,11 @@ pub extern "C" fn fotsgure_aes_decrypt_blocks_to(
     input: &[Block],
     output: &mut [Block],
 ) -> u32
-    requires made { IsMade aes.now.key_length aes.now.encrypting aes.now.decrypting }
+    requires made { IsMade aes.now }
     ensures unequal { result ≡ UNEQUAL_COUNTS ↔ (length input.now ≢ length output.old) }
     ensures done { result ≡ DONE ↔ IsKeyLength aes.now.key_length × (length input.now ≡ length output.old) }
     ensures refused { result ≢ DONE → result ≢ UNEQUAL_COUNTS → result ≡ NO_KEY }
-    ensures blocks { let key = kept_key aes.now.key_length aes.now.encrypting in
-        result ≡ DONE → Each (fips.inv_cipher key) input.now output.new }
+    ensures blocks { result ≡ DONE → Each (fips.inv_cipher (key_in aes.now)) input.now output.new }
     ensures untouched { result ≢ DONE → output.new ≡ output.old }
 {
     process_under_to::<Decrypt, BuildWidth>(aes, input, output)
@@ -138,12 +134,12 @@ pub extern "C" fn fotsgure_aes_decrypt_blocks_to(
 /// key, and `DONE` in all other cases.
 #[unsafe(no_mangle)]
 pub extern "C" fn fotsgure_aes_add_keystream(aes: &Aes, ctr: &mut Ctr, bytes: &mut [u8]) -> u32
-    requires made { IsMade aes.now.key_length aes.now.encrypting aes.now.decrypting }
+    requires made { IsMade aes.now }
     ensures ended { result ≡ KEYSTREAM_END ↔ (2 ^ 64 - 1 < ctr.old.position + length bytes.old) }
     ensures done { result ≡ DONE ↔ IsKeyLength aes.now.key_length × (ctr.old.position + length bytes.old ≤ 2 ^ 64 - 1) }
     ensures refused { result ≢ DONE → result ≢ KEYSTREAM_END → result ≡ NO_KEY }
-    ensures bytes { let w = fips.key_expansion (kept_key aes.now.key_length aes.now.encrypting) in
-        result ≡ DONE → bytes.new ≡ plus_stream (keystream_byte w ctr.old.iv) ctr.old.position bytes.old }
+    ensures bytes { result ≡ DONE → bytes.new
+        ≡ plus_stream (keystream_byte (round_keys_in aes.now) ctr.old.iv) ctr.old.position bytes.old }
     ensures moved { result ≡ DONE → ctr.new.position ≡ ctr.old.position + length bytes.old }
     ensures iv { ctr.new.iv ≡ ctr.old.iv }
     ensures unmoved { result ≢ DONE → ctr.new.position ≡ ctr.old.position }
@@ -161,15 +157,15 @@ pub extern "C" fn fotsgure_aes_add_keystream_to(
     input: &[u8],
     output: &mut [u8],
 ) -> u32
-    requires made { IsMade aes.now.key_length aes.now.encrypting aes.now.decrypting }
+    requires made { IsMade aes.now }
     ensures unequal { result ≡ UNEQUAL_COUNTS ↔ (length input.now ≢ length output.old) }
     ensures ended { result ≡ KEYSTREAM_END
         ↔ (length input.now ≡ length output.old) × (2 ^ 64 - 1 < ctr.old.position + length input.now) }
     ensures done { result ≡ DONE ↔ IsKeyLength aes.now.key_length
         × ((length input.now ≡ length output.old) × (ctr.old.position + length input.now ≤ 2 ^ 64 - 1)) }
     ensures refused { result ≢ DONE → result ≢ UNEQUAL_COUNTS → result ≢ KEYSTREAM_END → result ≡ NO_KEY }
-    ensures bytes { let w = fips.key_expansion (kept_key aes.now.key_length aes.now.encrypting) in
-        result ≡ DONE → output.new ≡ plus_stream (keystream_byte w ctr.old.iv) ctr.old.position input.now }
+    ensures bytes { result ≡ DONE → output.new
+        ≡ plus_stream (keystream_byte (round_keys_in aes.now) ctr.old.iv) ctr.old.position input.now }
     ensures moved { result ≡ DONE → ctr.new.position ≡ ctr.old.position + length input.now }
     ensures iv { ctr.new.iv ≡ ctr.old.iv }
     ensures unmoved { result ≢ DONE → ctr.new.position ≡ ctr.old.position }
@@ -181,11 +177,10 @@ pub extern "C" fn fotsgure_aes_add_keystream_to(
 /// Encrypts the next blocks of a chain in place (SP 800-38A, 6.2).
 #[unsafe(no_mangle)]
 pub extern "C" fn fotsgure_aes_cbc_encrypt(aes: &Aes, cbc: &mut Cbc, blocks: &mut [Block]) -> u32
-    requires made { IsMade aes.now.key_length aes.now.encrypting aes.now.decrypting }
+    requires made { IsMade aes.now }
     ensures done { result ≡ DONE ↔ IsKeyLength aes.now.key_length }
     ensures refused { result ≢ DONE → result ≡ NO_KEY }
-    ensures blocks { let w = fips.key_expansion (kept_key aes.now.key_length aes.now.encrypting) in
-        result ≡ DONE → blocks.new ≡ chained w cbc.old.previous blocks.old }
+    ensures blocks { result ≡ DONE → blocks.new ≡ chained (round_keys_in aes.now) cbc.old.previous blocks.old }
     ensures previous { result ≡ DONE → cbc.new.previous ≡ last_of cbc.old.previous blocks.new }
     ensures untouched { result ≢ DONE → blocks.new ≡ blocks.old }
     ensures unmoved { result ≢ DONE → cbc.new.previous ≡ cbc.old.previous }
@@ -196,11 +191,10 @@ pub extern "C" fn fotsgure_aes_cbc_encrypt(aes: &Aes, cbc: &mut Cbc, blocks: &mu
 /// Decrypts the next blocks of a chain in place (SP 800-38A, 6.2).
 #[unsafe(no_mangle)]
 pub extern "C" fn fotsgure_aes_cbc_decrypt(aes: &Aes, cbc: &mut Cbc, blocks: &mut [Block]) -> u32
-    requires made { IsMade aes.now.key_length aes.now.encrypting aes.now.decrypting }
+    requires made { IsMade aes.now }
     ensures done { result ≡ DONE ↔ IsKeyLength aes.now.key_length }
     ensures refused { result ≢ DONE → result ≡ NO_KEY }
-    ensures blocks { let w = fips.key_expansion (kept_key aes.now.key_length aes.now.encrypting) in
-        result ≡ DONE → blocks.new ≡ unchained w cbc.old.previous blocks.old }
+    ensures blocks { result ≡ DONE → blocks.new ≡ unchained (round_keys_in aes.now) cbc.old.previous blocks.old }
     ensures previous { result ≡ DONE → cbc.new.previous ≡ last_of cbc.old.previous blocks.old }
     ensures untouched { result ≢ DONE → blocks.new ≡ blocks.old }
     ensures unmoved { result ≢ DONE → cbc.new.previous ≡ cbc.old.previous }
@@ -211,12 +205,11 @@ pub extern "C" fn fotsgure_aes_cbc_decrypt(aes: &Aes, cbc: &mut Cbc, blocks: &mu
 /// Wraps a key from one buffer to another (KW-AE, SP 800-38F, 6.2).
 #[unsafe(no_mangle)]
 pub extern "C" fn fotsgure_aes_wrap(aes: &Aes, key: &[Semiblock], output: &mut [Semiblock]) -> u32
-    requires made { IsMade aes.now.key_length aes.now.encrypting aes.now.decrypting }
+    requires made { IsMade aes.now }
     ensures no_key { result ≡ NO_KEY ↔ ¬ IsKeyLength aes.now.key_length }
     ensures done { result ≡ DONE ↔ IsKeyLength aes.now.key_length × Fit (length key.now) (length output.old) }
     ensures invalid { result ≢ DONE → result ≢ NO_KEY → result ≡ INVALID_COUNT }
-    ensures wrapped { let w = fips.key_expansion (kept_key aes.now.key_length aes.now.encrypting) in
-        result ≡ DONE → output.new ≡ wrapped w key.now }
+    ensures wrapped { result ≡ DONE → output.new ≡ wrapped (round_keys_in aes.now) key.now }
     ensures untouched { result ≢ DONE → output.new ≡ output.old }
 {
     wrap_under::<BuildWidth>(aes, key, output)
@@ -229,16 +222,15 @@ pub extern "C" fn fotsgure_aes_unwrap(
     sealed: &[Semiblock],
     output: &mut [Semiblock],
 ) -> u32
-    requires made { IsMade aes.now.key_length aes.now.encrypting aes.now.decrypting }
+    requires made { IsMade aes.now }
     ensures no_key { result ≡ NO_KEY ↔ ¬ IsKeyLength aes.now.key_length }
     ensures invalid { result ≡ INVALID_COUNT
         ↔ IsKeyLength aes.now.key_length × (¬ Fit (length output.old) (length sealed.now)) }
-    ensures done { let w = fips.key_expansion (kept_key aes.now.key_length aes.now.encrypting) in result ≡ DONE
+    ensures done { result ≡ DONE
         ↔ IsKeyLength aes.now.key_length × (Fit (length output.old) (length sealed.now)
-        × (slice_index_or (unwrapped w sealed.now) 0 [] ≡ integrity_check)) }
+        × (slice_index_or (unwrapped (round_keys_in aes.now) sealed.now) 0 [] ≡ integrity_check)) }
     ensures refused { result ≢ DONE → result ≢ NO_KEY → result ≢ INVALID_COUNT → result ≡ REFUSED }
-    ensures key { let w = fips.key_expansion (kept_key aes.now.key_length aes.now.encrypting) in
-        result ≡ DONE → integrity_check ∷ output.new ≡ unwrapped w sealed.now }
+    ensures key { result ≡ DONE → integrity_check ∷ output.new ≡ unwrapped (round_keys_in aes.now) sealed.now }
     ensures zeros { result ≡ REFUSED → output.new ≡ replicate (length output.old) (replicate 8 0) }
     ensures untouched { result ≢ DONE → result ≢ REFUSED → output.new ≡ output.old }
 {
@@ -248,12 +240,11 @@ pub extern "C" fn fotsgure_aes_unwrap(
 /// Pads and wraps a key from one buffer to another (KWP-AE, SP 800-38F, 6.3).
 #[unsafe(no_mangle)]
 pub extern "C" fn fotsgure_aes_wrap_padded(aes: &Aes, key: &[u8], output: &mut [Semiblock]) -> u32
-    requires made { IsMade aes.now.key_length aes.now.encrypting aes.now.decrypting }
+    requires made { IsMade aes.now }
     ensures no_key { result ≡ NO_KEY ↔ ¬ IsKeyLength aes.now.key_length }
     ensures done { result ≡ DONE ↔ IsKeyLength aes.now.key_length × FitPadded (length key.now) (length output.old) }
     ensures invalid { result ≢ DONE → result ≢ NO_KEY → result ≡ INVALID_COUNT }
-    ensures wrapped { let w = fips.key_expansion (kept_key aes.now.key_length aes.now.encrypting) in
-        result ≡ DONE → output.new ≡ wrapped_padded w key.now }
+    ensures wrapped { result ≡ DONE → output.new ≡ wrapped_padded (round_keys_in aes.now) key.now }
     ensures untouched { result ≢ DONE → output.new ≡ output.old }
 {
     wrap_padded_under::<BuildWidth>(aes, key, output)
@@ -269,16 +260,15 @@ pub extern "C" fn fotsgure_aes_unwrap_padded(
     output: &mut [Semiblock],
     key_bytes: &mut usize,
 ) -> u32
-    requires made { IsMade aes.now.key_length aes.now.encrypting aes.now.decrypting }
+    requires made { IsMade aes.now }
     ensures no_key { result ≡ NO_KEY ↔ ¬ IsKeyLength aes.now.key_length }
     ensures invalid { result ≡ INVALID_COUNT
         ↔ IsKeyLength aes.now.key_length × (¬ FitUnpadded (length output.old) (length sealed.now)) }
-    ensures done { let w = fips.key_expansion (kept_key aes.now.key_length aes.now.encrypting) in result ≡ DONE
+    ensures done { result ≡ DONE
         ↔ IsKeyLength aes.now.key_length × (FitUnpadded (length output.old) (length sealed.now)
-        × IsPadded (unwrapped_string w sealed.now)) }
+        × IsPadded (unwrapped_string (round_keys_in aes.now) sealed.now)) }
     ensures refused { result ≢ DONE → result ≢ NO_KEY → result ≢ INVALID_COUNT → result ≡ REFUSED }
-    ensures key { let w = fips.key_expansion (kept_key aes.now.key_length aes.now.encrypting) in
-        result ≡ DONE → heading key_bytes.new ∷ output.new ≡ unwrapped_string w sealed.now }
+    ensures key { result ≡ DONE → heading key_bytes.new ∷ output.new ≡ unwrapped_string (round_keys_in aes.now) sealed.now }
     ensures small { key_bytes.new < 2 ^ 32 }
     ensures none { result ≢ DONE → key_bytes.new ≡ 0 }
     ensures zeros { result ≡ REFUSED → output.new ≡ replicate (length output.old) (replicate 8 0) }

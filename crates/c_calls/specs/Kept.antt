@@ -1,7 +1,8 @@
 -- The struct that a caller keeps: how many bytes the key has, and its stored round keys for both directions.
 use Rattle.std.specs.Prelude.{◌≡◌, ◌⊎◌, ℕ, ◌+◌, ◌-◌, ◌/◌, List, drop, replicate}
-use Rattle.aes_permute.specs.Keys.{stored_keys}
-use Rattle.aes_permute.specs.Keys.{cipher_key, IsCipherSchedule, AreInverse}
+use Rattle.aes_planes.specs.Fips197 as fips
+use Rattle.aes_permute.specs.Keys.{cipher_key, stored_keys, AreInverse, IsCipherSchedule}
+use Rattle.c_calls.specs.declared.kept.Aes.{Aes}
 
 -- a number of bytes that a key can have
 abbrev pub IsKeyLength : ℕ → Type 0
@@ -15,9 +16,17 @@ AreZeroAfter n blocks = drop (n / 4 + 7) blocks ≡ replicate (15 - (n / 4 + 7))
 abbrev pub kept_key : ℕ → List (List ℕ) → List ℕ
 kept_key n encrypting = cipher_key (stored_keys n encrypting)
 
+-- the key of a struct
+abbrev pub key_in : Aes → List ℕ
+key_in aes = kept_key aes.key_length aes.encrypting
+
+-- its round keys
+abbrev pub round_keys_in : Aes → List (List ℕ)
+round_keys_in aes = fips.key_expansion (key_in aes)
+
 -- a struct in order, as set_key and wipe leave it, and as zeros are: if its length is that of a key, its blocks begin
 -- with the stored round keys of one
-pub record IsMade (key_length : ℕ) (encrypting decrypting : List (List ℕ)) : Type 0 where
-  pub schedule : IsKeyLength key_length → IsCipherSchedule (stored_keys key_length encrypting)
-  pub inverse : IsKeyLength key_length
-      → AreInverse (stored_keys key_length decrypting) (stored_keys key_length encrypting)
+pub record IsMade (aes : Aes) : Type 0 where
+  pub schedule : IsKeyLength aes.key_length → IsCipherSchedule (stored_keys aes.key_length aes.encrypting)
+  pub inverse : IsKeyLength aes.key_length
+      → AreInverse (stored_keys aes.key_length aes.decrypting) (stored_keys aes.key_length aes.encrypting)

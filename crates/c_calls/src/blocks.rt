@@ -2,8 +2,7 @@
 
 ghost use Rattle.std.specs.Prelude.{◌≡◌, ◌≢◌, ◌↔◌, length};
 ghost use Rattle.aes_planes.specs.Each.{Each};
-ghost use Rattle.aes_planes.specs.Fips197 as fips;
-ghost use Rattle.c_calls.specs.Kept.{kept_key, IsKeyLength, IsMade};
+ghost use Rattle.c_calls.specs.Kept.{round_keys_in, IsKeyLength, IsMade};
 
 use crate::kept::{Aes, holds_key};
 use crate::status::{DONE, NO_KEY, UNEQUAL_COUNTS};
@@ -17,11 +16,10 @@ use aes_soft::soft::PlaneCipher;
 /// Encrypts or decrypts every block of a slice in place. Returns `DONE` exactly if the struct holds a key, else
 /// `NO_KEY`.
 pub fn process_under<D: LaneRounds + PlaneCipher, W: Width>(aes: &Aes, blocks: &mut [Block]) -> u32
-    requires made { IsMade aes.now.key_length aes.now.encrypting aes.now.decrypting }
+    requires made { IsMade aes.now }
     ensures done { result ≡ DONE ↔ IsKeyLength aes.now.key_length }
     ensures refused { result ≢ DONE → result ≡ NO_KEY }
-    ensures blocks { let w = fips.key_expansion (kept_key aes.now.key_length aes.now.encrypting) in
-        result ≡ DONE → Each (D.processed w) blocks.old blocks.new }
+    ensures blocks { result ≡ DONE → Each (D.processed (round_keys_in aes.now)) blocks.old blocks.new }
     ensures untouched { result ≢ DONE → blocks.new ≡ blocks.old }
 {
     if holds_key(aes) {
@@ -41,12 +39,11 @@ pub fn process_under_to<D: LaneRounds + PlaneCipher, W: Width>(
     input: &[Block],
     output: &mut [Block],
 ) -> u32
-    requires made { IsMade aes.now.key_length aes.now.encrypting aes.now.decrypting }
+    requires made { IsMade aes.now }
     ensures unequal { result ≡ UNEQUAL_COUNTS ↔ (length input.now ≢ length output.old) }
     ensures done { result ≡ DONE ↔ IsKeyLength aes.now.key_length × (length input.now ≡ length output.old) }
     ensures refused { result ≢ DONE → result ≢ UNEQUAL_COUNTS → result ≡ NO_KEY }
-    ensures blocks { let w = fips.key_expansion (kept_key aes.now.key_length aes.now.encrypting) in
-        result ≡ DONE → Each (D.processed w) input.now output.new }
+    ensures blocks { result ≡ DONE → Each (D.processed (round_keys_in aes.now)) input.now output.new }
     ensures untouched { result ≢ DONE → output.new ≡ output.old }
 {
     if input.len() != output.len() {

@@ -7,8 +7,7 @@
 ghost use Rattle.std.specs.Prelude.{◌≡◌, ◌∷◌, [], length, map, replicate, slice_set};
 ghost use Rattle.aes_planes.specs.BigEndian.{bytes};
 ghost use Rattle.aes_planes.specs.Fips197 as fips;
-ghost use Rattle.aes_permute.specs.Keys.{encrypting, stored_keys};
-ghost use Rattle.aes_permute.specs.Keys.{AreInverse};
+ghost use Rattle.aes_permute.specs.Keys.{encrypting, stored_keys, AreInverse};
 ghost use Rattle.c_calls.specs.Kept.{kept_key, AreZeroAfter, IsKeyLength, IsMade};
 
 use crate::status::{DONE, KEY_LENGTH, KEYSTREAM_END, NO_KEY, UNEQUAL_COUNTS, VERSION};
@@ -103,7 +102,11 @@ pub fn stored_example()
 
 /// That struct is in order.
 pub fn struct_example()
-    ensures { IsMade 16 (map (bytes 16) ENCRYPTING) (map (bytes 16) DECRYPTING) }
+    ensures { IsMade (record {
+      key_length = 16;
+      encrypting = map (bytes 16) ENCRYPTING;
+      decrypting = map (bytes 16) DECRYPTING;
+    }) }
 {
     stored_example();
 }

@@ -1,11 +1,13 @@
 //! The struct that a caller keeps: a key as its stored round keys.
 
 ghost use Rattle.std.specs.Prelude.{◌≡◌, ◌≢◌, ◌↔◌, length, replicate, true};
-ghost use Rattle.c_calls.specs.Kept.{kept_key, AreZeroAfter, IsKeyLength, IsMade};
+ghost use Rattle.c_calls.specs.Kept.{key_in, AreZeroAfter, IsKeyLength, IsMade};
 
 use crate::status::{DONE, KEY_LENGTH};
 use aes_cipher::zeroize::{Zeroize, zeroize_elements};
-use aes_permute::lane_room::{LaneRoom, expand_in_room, invert_in_room};
+use aes_hybrid::lent::Lent;
+use aes_hybrid::lent_both::LentBoth;
+use aes_permute::lane_room::{LaneRoom, expand_in_room, invert_in_room, keys_in_room};
 
 /// A key schedule that the caller owns: `struct fotsgure_aes`. Its blocks are as secret as the key.
 #[repr(C)]
@@ -57,14 +59,36 @@ pub(crate) fn holds_key(aes: &Aes) -> bool
     is_key_length(aes.key_length as usize)
 }
 
+/// Lends the round keys of a struct that holds a key, to encrypt.
+#[inline(always)]
+pub(crate) fn lent<W>(aes: &Aes) -> Lent<'_, W>
+    requires made { IsMade aes.now }
+    requires key { IsKeyLength aes.now.key_length }
+    ensures { result ≡ key_in aes.now }
+{
+    Lent::new(keys_in_room(&aes.encrypting, aes.key_length as usize))
+}
+
+/// Lends them to decrypt.
+#[inline(always)]
+pub(crate) fn lent_both<W>(aes: &Aes) -> LentBoth<'_, W>
+    requires made { IsMade aes.now }
+    requires key { IsKeyLength aes.now.key_length }
+    ensures { result ≡ key_in aes.now }
+{
+    let length = aes.key_length as usize;
+    let keys = keys_in_room(&aes.encrypting, length);
+    LentBoth::new(keys, keys_in_room(&aes.decrypting, length))
+}
+
 /// Expands a key into the struct (KeyExpansion, FIPS 197, 5.2). Returns `DONE` exactly if the key has 16, 24 or 32
 /// bytes, else `KEY_LENGTH`; the struct then holds no key. Nothing of what it held before is left in either case: its
 /// blocks are the round keys of the new key, and zeros after them.
 pub fn set_key(aes: &mut Aes, key: &[u8]) -> u32
     ensures done { result ≡ DONE ↔ IsKeyLength (length key.now) }
     ensures refused { result ≢ DONE → result ≡ KEY_LENGTH }
-    ensures made { IsMade aes.new.key_length aes.new.encrypting aes.new.decrypting }
-    ensures key { result ≡ DONE → kept_key aes.new.key_length aes.new.encrypting ≡ key.now }
+    ensures made { IsMade aes.new }
+    ensures key { result ≡ DONE → key_in aes.new ≡ key.now }
     ensures length { result ≡ DONE → aes.new.key_length ≡ length key.now }
     ensures after_encrypting { result ≡ DONE → AreZeroAfter (length key.now) aes.new.encrypting }
     ensures after_decrypting { result ≡ DONE → AreZeroAfter (length key.now) aes.new.decrypting }
@@ -98,7 +122,7 @@ pub fn length_of_key(aes: &Aes) -> usize
 
 /// Overwrites the struct with zeros: it then holds no key.
 pub fn wipe(aes: &mut Aes)
-    ensures made { IsMade aes.new.key_length aes.new.encrypting aes.new.decrypting }
+    ensures made { IsMade aes.new }
     ensures none { aes.new.key_length ≡ 0 }
     ensures encrypting { aes.new.encrypting ≡ replicate 15 (replicate 16 0) }
     ensures decrypting { aes.new.decrypting ≡ replicate 15 (replicate 16 0) }

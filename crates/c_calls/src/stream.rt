@@ -1,16 +1,13 @@
 //! Counter mode under the key of a struct.
 
 ghost use Rattle.std.specs.Prelude.{◌≡◌, ◌≢◌, ◌↔◌, ◌+◌, ◌-◌, ◌^◌, ◌<◌, ◌≤◌, length};
-ghost use Rattle.aes_planes.specs.Fips197 as fips;
 ghost use Rattle.aes_ctr.specs.CounterMode.{keystream_byte, plus_stream};
-ghost use Rattle.c_calls.specs.Kept.{kept_key, IsKeyLength, IsMade};
+ghost use Rattle.c_calls.specs.Kept.{round_keys_in, IsKeyLength, IsMade};
 
-use crate::kept::{Aes, holds_key};
+use crate::kept::{Aes, holds_key, lent};
 use crate::status::{DONE, KEYSTREAM_END, NO_KEY, UNEQUAL_COUNTS};
 use aes_ctr::add_keystream;
-use aes_hybrid::lent::Lent;
 use aes_hybrid::widths::Width;
-use aes_permute::lane_room::keys_in_room;
 
 /// Where a keystream stands: `struct fotsgure_aes_ctr`.
 #[repr(C)]
@@ -41,12 +38,12 @@ fn refusal(aes: &Aes, position: u64, count: usize) -> u32
 /// (SP 800-38A, 6.5). Returns `KEYSTREAM_END` exactly if the position would pass 2^64 - 1, else `NO_KEY` if there is no
 /// key, and `DONE` in all other cases.
 pub fn add_keystream_under<W: Width>(aes: &Aes, ctr: &mut Ctr, bytes: &mut [u8]) -> u32
-    requires made { IsMade aes.now.key_length aes.now.encrypting aes.now.decrypting }
+    requires made { IsMade aes.now }
     ensures ended { result ≡ KEYSTREAM_END ↔ (2 ^ 64 - 1 < ctr.old.position + length bytes.old) }
     ensures done { result ≡ DONE ↔ IsKeyLength aes.now.key_length × (ctr.old.position + length bytes.old ≤ 2 ^ 64 - 1) }
     ensures refused { result ≢ DONE → result ≢ KEYSTREAM_END → result ≡ NO_KEY }
-    ensures bytes { let w = fips.key_expansion (kept_key aes.now.key_length aes.now.encrypting) in
-        result ≡ DONE → bytes.new ≡ plus_stream (keystream_byte w ctr.old.iv) ctr.old.position bytes.old }
+    ensures bytes { result ≡ DONE → bytes.new
+        ≡ plus_stream (keystream_byte (round_keys_in aes.now) ctr.old.iv) ctr.old.position bytes.old }
     ensures moved { result ≡ DONE → ctr.new.position ≡ ctr.old.position + length bytes.old }
     ensures iv { ctr.new.iv ≡ ctr.old.iv }
     ensures unmoved { result ≢ DONE → ctr.new.position ≡ ctr.old.position }
@@ -54,9 +51,7 @@ pub fn add_keystream_under<W: Width>(aes: &Aes, ctr: &mut Ctr, bytes: &mut [u8])
 {
     let status = refusal(aes, ctr.position, bytes.len());
     if status == DONE {
-        let keys = keys_in_room(&aes.encrypting, aes.key_length as usize);
-        let cipher = Lent::<W>::new(keys);
-        add_keystream(&cipher, &ctr.iv, ctr.position, bytes);
+        add_keystream(&lent::<W>(aes), &ctr.iv, ctr.position, bytes);
         ctr.position += bytes.len() as u64;
     }
     status
@@ -70,15 +65,15 @@ pub fn add_keystream_under_to<W: Width>(
     input: &[u8],
     output: &mut [u8],
 ) -> u32
-    requires made { IsMade aes.now.key_length aes.now.encrypting aes.now.decrypting }
+    requires made { IsMade aes.now }
     ensures unequal { result ≡ UNEQUAL_COUNTS ↔ (length input.now ≢ length output.old) }
     ensures ended { result ≡ KEYSTREAM_END
         ↔ (length input.now ≡ length output.old) × (2 ^ 64 - 1 < ctr.old.position + length input.now) }
     ensures done { result ≡ DONE ↔ IsKeyLength aes.now.key_length
         × ((length input.now ≡ length output.old) × (ctr.old.position + length input.now ≤ 2 ^ 64 - 1)) }
     ensures refused { result ≢ DONE → result ≢ UNEQUAL_COUNTS → result ≢ KEYSTREAM_END → result ≡ NO_KEY }
-    ensures bytes { let w = fips.key_expansion (kept_key aes.now.key_length aes.now.encrypting) in
-        result ≡ DONE → output.new ≡ plus_stream (keystream_byte w ctr.old.iv) ctr.old.position input.now }
+    ensures bytes { result ≡ DONE → output.new
+        ≡ plus_stream (keystream_byte (round_keys_in aes.now) ctr.old.iv) ctr.old.position input.now }
     ensures moved { result ≡ DONE → ctr.new.position ≡ ctr.old.position + length input.now }
     ensures iv { ctr.new.iv ≡ ctr.old.iv }
     ensures unmoved { result ≢ DONE → ctr.new.position ≡ ctr.old.position }

@@ -1,38 +1,32 @@
 //! Key wrap under the key of a struct.
 
 ghost use Rattle.std.specs.Prelude.{◌≡◌, ◌≢◌, ◌↔◌, ◌^◌, ◌<◌, ◌∷◌, [], length, replicate, slice_index_or};
-ghost use Rattle.aes_planes.specs.Fips197 as fips;
 ghost use Rattle.key_wrap.specs.KeyWrap.{integrity_check, unwrapped, wrapped, Fit};
 ghost use Rattle.key_wrap.specs.Padded.{heading, unwrapped_string, wrapped_padded, FitPadded, FitUnpadded, IsPadded};
-ghost use Rattle.c_calls.specs.Kept.{kept_key, IsKeyLength, IsMade};
+ghost use Rattle.c_calls.specs.Kept.{round_keys_in, IsKeyLength, IsMade};
 
-use crate::kept::{Aes, holds_key};
+use crate::kept::{Aes, holds_key, lent, lent_both};
 use crate::status::{DONE, INVALID_COUNT, NO_KEY, REFUSED};
-use aes_hybrid::lent::Lent;
-use aes_hybrid::lent_both::LentBoth;
 use aes_hybrid::widths::Width;
-use aes_permute::lane_room::keys_in_room;
-use key_wrap::{NotUnwrapped, Semiblock, unwrap, unwrap_padded, wrap, wrap_padded};
+use key_wrap::{InvalidCount, NotUnwrapped, Semiblock, unwrap, unwrap_padded, wrap, wrap_padded};
 
 /// Wraps a key from one buffer to another (KW-AE, SP 800-38F, 6.2). Returns `NO_KEY` exactly if the struct holds no key,
 /// else `INVALID_COUNT` if the key has fewer than two semiblocks or too many, or the output isn't one longer, and `DONE`
 /// in all other cases.
 pub fn wrap_under<W: Width>(aes: &Aes, key: &[Semiblock], output: &mut [Semiblock]) -> u32
-    requires made { IsMade aes.now.key_length aes.now.encrypting aes.now.decrypting }
+    requires made { IsMade aes.now }
     ensures no_key { result ≡ NO_KEY ↔ ¬ IsKeyLength aes.now.key_length }
     ensures done { result ≡ DONE ↔ IsKeyLength aes.now.key_length × Fit (length key.now) (length output.old) }
     ensures invalid { result ≢ DONE → result ≢ NO_KEY → result ≡ INVALID_COUNT }
-    ensures wrapped { let w = fips.key_expansion (kept_key aes.now.key_length aes.now.encrypting) in
-        result ≡ DONE → output.new ≡ wrapped w key.now }
+    ensures wrapped { result ≡ DONE → output.new ≡ wrapped (round_keys_in aes.now) key.now }
     ensures untouched { result ≢ DONE → output.new ≡ output.old }
 {
     if !holds_key(aes) {
         return NO_KEY;
     }
-    let keys = keys_in_room(&aes.encrypting, aes.key_length as usize);
-    match wrap(&Lent::<W>::new(keys), key, output) {
+    match wrap(&lent::<W>(aes), key, output) {
         Ok(()) => DONE,
-        Err(_) => INVALID_COUNT,
+        Err(InvalidCount) => INVALID_COUNT,
     }
 }
 
@@ -40,26 +34,22 @@ pub fn wrap_under<W: Width>(aes: &Aes, key: &[Semiblock], output: &mut [Semibloc
 /// else `INVALID_COUNT` if no key becomes so many semiblocks, or the output isn't one shorter, else `REFUSED` if the key
 /// was not wrapped under this one, and `DONE` in all other cases. After `REFUSED` the output is zeros.
 pub fn unwrap_under<W: Width>(aes: &Aes, sealed: &[Semiblock], output: &mut [Semiblock]) -> u32
-    requires made { IsMade aes.now.key_length aes.now.encrypting aes.now.decrypting }
+    requires made { IsMade aes.now }
     ensures no_key { result ≡ NO_KEY ↔ ¬ IsKeyLength aes.now.key_length }
     ensures invalid { result ≡ INVALID_COUNT
         ↔ IsKeyLength aes.now.key_length × (¬ Fit (length output.old) (length sealed.now)) }
-    ensures done { let w = fips.key_expansion (kept_key aes.now.key_length aes.now.encrypting) in result ≡ DONE
+    ensures done { result ≡ DONE
         ↔ IsKeyLength aes.now.key_length × (Fit (length output.old) (length sealed.now)
-        × (slice_index_or (unwrapped w sealed.now) 0 [] ≡ integrity_check)) }
+        × (slice_index_or (unwrapped (round_keys_in aes.now) sealed.now) 0 [] ≡ integrity_check)) }
     ensures refused { result ≢ DONE → result ≢ NO_KEY → result ≢ INVALID_COUNT → result ≡ REFUSED }
-    ensures key { let w = fips.key_expansion (kept_key aes.now.key_length aes.now.encrypting) in
-        result ≡ DONE → integrity_check ∷ output.new ≡ unwrapped w sealed.now }
+    ensures key { result ≡ DONE → integrity_check ∷ output.new ≡ unwrapped (round_keys_in aes.now) sealed.now }
     ensures zeros { result ≡ REFUSED → output.new ≡ replicate (length output.old) (replicate 8 0) }
     ensures untouched { result ≢ DONE → result ≢ REFUSED → output.new ≡ output.old }
 {
     if !holds_key(aes) {
         return NO_KEY;
     }
-    let length = aes.key_length as usize;
-    let keys = keys_in_room(&aes.encrypting, length);
-    let inverse = keys_in_room(&aes.decrypting, length);
-    match unwrap(&LentBoth::<W>::new(keys, inverse), sealed, output) {
+    match unwrap(&lent_both::<W>(aes), sealed, output) {
         Ok(()) => DONE,
         Err(NotUnwrapped::InvalidCount) => INVALID_COUNT,
         Err(NotUnwrapped::Refused) => REFUSED,
@@ -70,21 +60,19 @@ pub fn unwrap_under<W: Width>(aes: &Aes, sealed: &[Semiblock], output: &mut [Sem
 /// no key, else `INVALID_COUNT` if the key has no byte or too many, or the output isn't one semiblock longer than the key
 /// fills, and `DONE` in all other cases.
 pub fn wrap_padded_under<W: Width>(aes: &Aes, key: &[u8], output: &mut [Semiblock]) -> u32
-    requires made { IsMade aes.now.key_length aes.now.encrypting aes.now.decrypting }
+    requires made { IsMade aes.now }
     ensures no_key { result ≡ NO_KEY ↔ ¬ IsKeyLength aes.now.key_length }
     ensures done { result ≡ DONE ↔ IsKeyLength aes.now.key_length × FitPadded (length key.now) (length output.old) }
     ensures invalid { result ≢ DONE → result ≢ NO_KEY → result ≡ INVALID_COUNT }
-    ensures wrapped { let w = fips.key_expansion (kept_key aes.now.key_length aes.now.encrypting) in
-        result ≡ DONE → output.new ≡ wrapped_padded w key.now }
+    ensures wrapped { result ≡ DONE → output.new ≡ wrapped_padded (round_keys_in aes.now) key.now }
     ensures untouched { result ≢ DONE → output.new ≡ output.old }
 {
     if !holds_key(aes) {
         return NO_KEY;
     }
-    let keys = keys_in_room(&aes.encrypting, aes.key_length as usize);
-    match wrap_padded(&Lent::<W>::new(keys), key, output) {
+    match wrap_padded(&lent::<W>(aes), key, output) {
         Ok(()) => DONE,
-        Err(_) => INVALID_COUNT,
+        Err(InvalidCount) => INVALID_COUNT,
     }
 }
 
@@ -99,16 +87,15 @@ pub fn unwrap_padded_under<W: Width>(
     output: &mut [Semiblock],
     key_bytes: &mut usize,
 ) -> u32
-    requires made { IsMade aes.now.key_length aes.now.encrypting aes.now.decrypting }
+    requires made { IsMade aes.now }
     ensures no_key { result ≡ NO_KEY ↔ ¬ IsKeyLength aes.now.key_length }
     ensures invalid { result ≡ INVALID_COUNT
         ↔ IsKeyLength aes.now.key_length × (¬ FitUnpadded (length output.old) (length sealed.now)) }
-    ensures done { let w = fips.key_expansion (kept_key aes.now.key_length aes.now.encrypting) in result ≡ DONE
+    ensures done { result ≡ DONE
         ↔ IsKeyLength aes.now.key_length × (FitUnpadded (length output.old) (length sealed.now)
-        × IsPadded (unwrapped_string w sealed.now)) }
+        × IsPadded (unwrapped_string (round_keys_in aes.now) sealed.now)) }
     ensures refused { result ≢ DONE → result ≢ NO_KEY → result ≢ INVALID_COUNT → result ≡ REFUSED }
-    ensures key { let w = fips.key_expansion (kept_key aes.now.key_length aes.now.encrypting) in
-        result ≡ DONE → heading key_bytes.new ∷ output.new ≡ unwrapped_string w sealed.now }
+    ensures key { result ≡ DONE → heading key_bytes.new ∷ output.new ≡ unwrapped_string (round_keys_in aes.now) sealed.now }
     ensures small { key_bytes.new < 2 ^ 32 }
     ensures none { result ≢ DONE → key_bytes.new ≡ 0 }
     ensures zeros { result ≡ REFUSED → output.new ≡ replicate (length output.old) (replicate 8 0) }
@@ -118,15 +105,12 @@ pub fn unwrap_padded_under<W: Width>(
     if !holds_key(aes) {
         return NO_KEY;
     }
-    let length = aes.key_length as usize;
-    let keys = keys_in_room(&aes.encrypting, length);
-    let inverse = keys_in_room(&aes.decrypting, length);
-    match unwrap_padded(&LentBoth::<W>::new(keys, inverse), sealed, output) {
+    match unwrap_padded(&lent_both::<W>(aes), sealed, output) {
         Ok(bytes) => {
             *key_bytes = bytes as usize;
             DONE
         }
         Err(NotUnwrapped::InvalidCount) => INVALID_COUNT,
-        Err(_) => REFUSED,
+        Err(NotUnwrapped::Refused) => REFUSED,
     }
 }
