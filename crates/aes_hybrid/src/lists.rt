@@ -232,7 +232,8 @@ impl<K: KeySize, W: Width> Processes<Decrypt> for BothLists<K, W> {
 
 impl<K: KeySize, W: Width> Decrypts for BothLists<K, W> {
     fn decrypt_with_backend<F: BlockCipherDecClosure>(&self, f: &mut F) {
-        self.decrypt_with_backend_for(0, f);
+        // How many blocks there will be is not known, so they count as many.
+        self.decrypt_with_backend_for(usize::MAX, f);
     }
 
     fn decrypt_with_backend_for<F: BlockCipherDecClosure>(&self, blocks: usize, f: &mut F) {

@@ -8,7 +8,7 @@ use Rattle.aes_planes.specs.Bits.{at, bit, number}
 use Rattle.aes_planes.specs.Fips197.{byte_at, build, build_from, state, field_add, add_round_key}
 use Rattle.aes_planes.specs.Planes.{held, held_byte, place, zip_with}
 use Rattle.aes_planes.proofs.Bits.BytesByBits.{same_byte, mapped_lt, mapped_bit}
-use Rattle.aes_planes.proofs.Standard.States.{byte_at-state, state_is, state_same}
+use Rattle.aes_planes.proofs.Standard.States.{byte_at-state, state_same}
 use Rattle.aes_planes.proofs.Lists.{build_is, get_or-build, length-build}
 pub use Rattle.aes_planes.proofs.Lists.{map-same}
 pub use Rattle.std.proofs.lemmas.Simd.{map-map}
@@ -130,12 +130,6 @@ added_held n new old key h =
     ∙ (λ t. field_add (sym (byte_at-state (λ r c. held_byte old (place n r c k)) r c i j) t)
     (sym (byte_at-state (λ r c. held_byte key (place n r c k)) r c i j) t))))
     ∙ sym (zip_with-build add_round_key n _ _)
-
--- the sum of two blocks, byte by byte
-pub summed_block : (bs block key : List ℕ) → length bs ≡ 16
-    → ((k : ℕ) → k < 16 → get_or bs k 0 ≡ field_add (get_or block k 0) (get_or key k 0)) → bs ≡ add_round_key block key
-unfolding add_round_key
-summed_block bs block key l h = sym (state_is _ bs l (λ r c i j. sym (h (r + 4 * c) (omega arith))))
 
 -- planes whose byte at each place is, in the block of the old bytes, what a step on states puts there
 pub stepped_held : (step : List ℕ → List ℕ) (at : (ℕ → ℕ → ℕ) → ℕ → ℕ → ℕ) (n : ℕ) (new old : List (List Bool))

@@ -6,9 +6,9 @@ ghost use Rattle.aes_planes.specs.Each.{Each};
 ghost use Rattle.aes_planes.specs.Fips197 as fips;
 
 use aes::hazmat::{cipher_round, inv_mix_columns};
+use aes_cipher::blocks::sum_of_blocks;
 use aes_cipher::cipher::{BatchSize, BatchSizeUser, BlockCipherEncBackend, RoundKeysUser};
 use aes_planes::laws;
-use aes_planes::soft::utils::sum_of_blocks;
 use aes_planes::soft::word::Block;
 
 // The round key that changes nothing.

@@ -5,6 +5,7 @@ ghost use Rattle.std.proofs.Common.{arith};
 ghost use Rattle.aes_planes.specs.Each.{Each};
 ghost use Rattle.aes_planes.specs.Fips197 as fips;
 
+use aes_cipher::blocks::sum_of_blocks;
 use aes_cipher::cipher::{
     AlgorithmName, BatchSize, BatchSizeUser, Block, BlockCipherDecBackend, BlockCipherDecClosure,
     BlockCipherDecrypt, BlockCipherEncBackend, BlockCipherEncClosure, BlockCipherEncrypt,
@@ -12,7 +13,7 @@ use aes_cipher::cipher::{
 };
 use aes_planes::laws;
 use aes_planes::soft::sbox::{Layers, inv_sub_bytes, sub_bytes, sub_bytes_nots};
-use aes_planes::soft::utils::{inv_shift_rows_1, shift_rows_1, sum_of_blocks};
+use aes_planes::soft::utils::{inv_shift_rows_1, shift_rows_1};
 use aes_planes::soft::word::{Batch, Blocks1, Word};
 use std::fmt;
 

@@ -1,10 +1,10 @@
-//! Sums with round keys: of planes, and of blocks.
+//! Sums of planes and round keys.
 
 ghost use Rattle.std.specs.Prelude.{◌≡◌, map};
 ghost use Rattle.aes_planes.specs.Fips197 as fips;
 ghost use Rattle.aes_planes.specs.Planes.{held, zip_with};
 
-use crate::soft::word::{Block, Word};
+use crate::soft::word::Word;
 
 /// Adds a round key to every block: AddRoundKey (FIPS 197, 5.1.4).
 #[tactic(auto, using(crate::proofs::Planes::Held::added_held))]
@@ -16,17 +16,4 @@ pub fn add_round_key<W: Word>(state: &mut [W; 8], round_key: &[W; 8])
 {
     let sums = W::sum_planes(state, round_key);
     *state = sums;
-}
-
-/// Returns the sum of a block and a round key, byte by byte: AddRoundKey (FIPS 197, 5.1.4).
-#[tactic(auto, using(crate::proofs::Planes::Held::summed_block))]
-#[inline(always)]
-pub fn sum_of_blocks(block: &Block, round_key: &Block) -> Block
-    ensures { result ≡ fips.add_round_key block.now round_key.now }
-{
-    let mut bytes = *block;
-    'bytes: for i in 0..16 {
-        bytes[i] ^= round_key[i];
-    }
-    bytes
 }
