@@ -21,9 +21,9 @@ impl Key {
         ensures { Each (fips.cipher (key_bytes self.now)) blocks.old blocks.new }
     {
         match self {
-            Key::Bits128(key) => encrypt_with::<Bits128>(key, blocks),
-            Key::Bits192(key) => encrypt_with::<Bits192>(key, blocks),
-            Key::Bits256(key) => encrypt_with::<Bits256>(key, blocks),
+            Key::Bits128(key) => encrypt_sized::<Bits128>(key, blocks),
+            Key::Bits192(key) => encrypt_sized::<Bits192>(key, blocks),
+            Key::Bits256(key) => encrypt_sized::<Bits256>(key, blocks),
         }
     }
 
@@ -32,23 +32,23 @@ impl Key {
         ensures { Each (fips.inv_cipher (key_bytes self.now)) blocks.old blocks.new }
     {
         match self {
-            Key::Bits128(key) => decrypt_with::<Bits128>(key, blocks),
-            Key::Bits192(key) => decrypt_with::<Bits192>(key, blocks),
-            Key::Bits256(key) => decrypt_with::<Bits256>(key, blocks),
+            Key::Bits128(key) => decrypt_sized::<Bits128>(key, blocks),
+            Key::Bits192(key) => decrypt_sized::<Bits192>(key, blocks),
+            Key::Bits256(key) => decrypt_sized::<Bits256>(key, blocks),
         }
     }
 }
 
 // Encrypts each block by the library's type for a size. With the size as a parameter, the type is proved to be a cipher
 // once for all sizes.
-fn encrypt_with<K: KeySize>(key: &K::Key, blocks: &mut [Block])
+fn encrypt_sized<K: KeySize>(key: &K::Key, blocks: &mut [Block])
     ensures { Each (fips.cipher (K.bytes key.now)) blocks.old blocks.new }
 {
     FixslicedAes::<K, Encrypt>::new(key).encrypt_blocks(blocks);
 }
 
 // Decrypts each block by the library's type for a size.
-fn decrypt_with<K: KeySize>(key: &K::Key, blocks: &mut [Block])
+fn decrypt_sized<K: KeySize>(key: &K::Key, blocks: &mut [Block])
     ensures { Each (fips.inv_cipher (K.bytes key.now)) blocks.old blocks.new }
 {
     FixslicedAes::<K, Decrypt>::new(key).decrypt_blocks(blocks);

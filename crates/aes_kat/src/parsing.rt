@@ -38,10 +38,7 @@ pub(crate) fn parse(line: &[u8]) -> Result<Request<'_>, Fault>
         (λ fault. request_of (words_of line.now) ≡ Err fault) }
 {
     let (name, after_name) = first_word(line);
-    let Some(command) = Command::named(name) else {
-        return Err(Fault::Command);
-    };
-    let Some(operands) = after_name else {
+    let (Some(command), Some(operands)) = (Command::named(name), after_name) else {
         return Err(Fault::Command);
     };
     let (first, after_first) = first_word(operands);

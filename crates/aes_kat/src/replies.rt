@@ -44,54 +44,6 @@ fn answer_dec(key: &[u8], blocks: &[u8], out: &mut ReplyBuffer) -> Result<usize,
     Ok(write_joined(&buffer[..count], out))
 }
 
-// Answers `round BLOCK ROUND_KEY`.
-#[tactic(auto, unfolding(crate::specs::Reply::answer_of))]
-fn answer_round(block: &[u8], key: &[u8], out: &mut ReplyBuffer) -> Result<usize, Fault>
-    requires block_digits { is_ok (decode_of block.now) ≡ true }
-    requires key_digits { is_ok (decode_of key.now) ≡ true }
-    ensures { IsAnswered (answer_of Command.Round (decoded block.now) (decoded key.now)) result out.new }
-{
-    let mut block = block_operand(block)?;
-    let key = block_operand(key)?;
-    hazmat::cipher_round(&mut block, &key);
-    Ok(write_block(&block, 0, out))
-}
-
-// Answers `invround BLOCK ROUND_KEY`.
-#[tactic(auto, unfolding(crate::specs::Reply::answer_of))]
-fn answer_invround(block: &[u8], key: &[u8], out: &mut ReplyBuffer) -> Result<usize, Fault>
-    requires block_digits { is_ok (decode_of block.now) ≡ true }
-    requires key_digits { is_ok (decode_of key.now) ≡ true }
-    ensures { IsAnswered (answer_of Command.InverseRound (decoded block.now) (decoded key.now)) result out.new }
-{
-    let mut block = block_operand(block)?;
-    let key = block_operand(key)?;
-    hazmat::equiv_inv_cipher_round(&mut block, &key);
-    Ok(write_block(&block, 0, out))
-}
-
-// Answers `mix BLOCK`.
-#[tactic(auto, unfolding(crate::specs::Reply::answer_of))]
-fn answer_mix(block: &[u8], out: &mut ReplyBuffer) -> Result<usize, Fault>
-    requires { is_ok (decode_of block.now) ≡ true }
-    ensures { IsAnswered (answer_of Command.Mix (decoded block.now) []) result out.new }
-{
-    let mut block = block_operand(block)?;
-    hazmat::mix_columns(&mut block);
-    Ok(write_block(&block, 0, out))
-}
-
-// Answers `invmix BLOCK`.
-#[tactic(auto, unfolding(crate::specs::Reply::answer_of))]
-fn answer_invmix(block: &[u8], out: &mut ReplyBuffer) -> Result<usize, Fault>
-    requires { is_ok (decode_of block.now) ≡ true }
-    ensures { IsAnswered (answer_of Command.InverseMix (decoded block.now) []) result out.new }
-{
-    let mut block = block_operand(block)?;
-    hazmat::inv_mix_columns(&mut block);
-    Ok(write_block(&block, 0, out))
-}
-
 // Answers `sched KEY`.
 #[tactic(auto, unfolding(crate::specs::Reply::answer_of))]
 fn answer_sched(key: &[u8], out: &mut ReplyBuffer) -> Result<usize, Fault>
@@ -116,10 +68,28 @@ fn answer_asked(asked: &Request<'_>, out: &mut ReplyBuffer) -> Result<usize, Fau
     match asked.command {
         Command::Encrypt => answer_enc(asked.first, asked.second, out),
         Command::Decrypt => answer_dec(asked.first, asked.second, out),
-        Command::Round => answer_round(asked.first, asked.second, out),
-        Command::InverseRound => answer_invround(asked.first, asked.second, out),
-        Command::Mix => answer_mix(asked.first, out),
-        Command::InverseMix => answer_invmix(asked.first, out),
+        Command::Round => {
+            let mut block = block_operand(asked.first)?;
+            let key = block_operand(asked.second)?;
+            hazmat::cipher_round(&mut block, &key);
+            Ok(write_block(&block, 0, out))
+        }
+        Command::InverseRound => {
+            let mut block = block_operand(asked.first)?;
+            let key = block_operand(asked.second)?;
+            hazmat::equiv_inv_cipher_round(&mut block, &key);
+            Ok(write_block(&block, 0, out))
+        }
+        Command::Mix => {
+            let mut block = block_operand(asked.first)?;
+            hazmat::mix_columns(&mut block);
+            Ok(write_block(&block, 0, out))
+        }
+        Command::InverseMix => {
+            let mut block = block_operand(asked.first)?;
+            hazmat::inv_mix_columns(&mut block);
+            Ok(write_block(&block, 0, out))
+        }
         Command::Schedule => answer_sched(asked.first, out),
     }
 }
