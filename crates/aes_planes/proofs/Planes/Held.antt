@@ -8,7 +8,7 @@ use Rattle.aes_planes.specs.Bits.{at, bit, number}
 use Rattle.aes_planes.specs.Fips197.{byte_at, build, build_from, state, field_add, add_round_key}
 use Rattle.aes_planes.specs.Planes.{held, held_byte, place, zip_with}
 use Rattle.aes_planes.proofs.Bits.BytesByBits.{same_byte, mapped_lt, mapped_bit}
-use Rattle.aes_planes.proofs.Standard.States.{byte_at-state, state_same}
+use Rattle.aes_planes.proofs.Standard.States.{byte_at-state, state_is, state_same}
 use Rattle.aes_planes.proofs.Lists.{build_is, get_or-build, length-build}
 pub use Rattle.aes_planes.proofs.Lists.{map-same}
 pub use Rattle.std.proofs.lemmas.Simd.{map-map}
