@@ -4,7 +4,7 @@ ghost use Rattle.std.specs.Prelude.{◌≡◌, ◌+◌, ◌/◌, replicate};
 ghost use Rattle.aes_planes.specs.Expansion.{substitutions};
 ghost use Rattle.aes_planes.specs.Words.{word_bits};
 ghost use Rattle.aes_soft.specs.Batches.{layers_for};
-ghost use Rattle.aes_soft.specs.Stored.{plane_key, stored_words, IsFullSchedule};
+ghost use Rattle.aes_soft.specs.Stored.{key_of_planes, stored_words, IsFullSchedule};
 
 use aes_cipher::aes;
 use aes_cipher::aes::{CountsLayers, Decrypts, Encrypts, KeySize, MadeFrom, Processes, StoredKeys};
@@ -39,7 +39,7 @@ impl<K: KeySize> Drop for Fixsliced<K> {
 impl<K: KeySize> StoredKeys for Fixsliced<K> {
     type Size = K;
 
-    ghost key = { λ stored. plane_key (word_bits 16) 1 (stored_words K.SIZE stored.room) };
+    ghost key = { λ stored. key_of_planes (word_bits 16) 1 (stored_words K.SIZE stored.room) };
 
     ghost AreKeyed = { λ stored. IsFullSchedule (word_bits 16) 1 (stored_words K.SIZE stored.room) };
 

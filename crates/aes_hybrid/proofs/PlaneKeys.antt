@@ -7,14 +7,14 @@ use Rattle.aes_planes.specs.Planes.{held, plus63, words_at}
 use Rattle.aes_planes.proofs.Shifts.Deferred.{plus63_twice}
 use Rattle.aes_planes.proofs.Standard.FieldLaws.{add_twice}
 use Rattle.aes_planes.proofs.Standard.Steps.{map_length}
-use Rattle.aes_soft.specs.Stored.{full, plane_key, rounds_of, size_of, stored_key, IsFullSchedule, IsSchedule, HoldsBlocks}
+use Rattle.aes_soft.specs.Stored.{full, key_of_planes, rounds_of, size_of, stored_key, IsFullSchedule, IsSchedule, HoldsBlocks}
 use Rattle.aes_soft.proofs.KeyOfPlanes.{key_of-schedule}
 use Rattle.aes_soft.proofs.StoredRoundKeys.{deferred_below, deferred_last, stored_first, stored_later}
 use Rattle.aes_soft.proofs.WordsInPlace.{held_at, kept, HoldsAt}
 use Rattle.aes_permute.specs.Keys.{encrypting, cipher_form}
 use Rattle.aes_permute.specs.Stored.{untower, key_untower}
 use Rattle.aes_permute.proofs.States.{keys_length, first_key, inner_key, last_key}
-use Rattle.aes_permute.specs.Keys.{cipher_key, IsCipherSchedule}
+use Rattle.aes_permute.specs.Keys.{key_of_lanes, IsCipherSchedule}
 use Rattle.aes_hybrid.proofs.Shifted.{times_map}
 
 untower_of_key : (x : List ℕ) → map plus63 (map key_untower x) ≡ map untower x
@@ -97,21 +97,21 @@ module _ {A : Type 0} (bits : A → List Bool) (n : ℕ) (some : 1 ≤ n) (words
   most : length stored ≤ 15
   most = omega (arith, lanes.one_of_three)
 
-  is_schedule : IsSchedule n (full rounds) (cipher_key stored) (map bits words)
+  is_schedule : IsSchedule n (full rounds) (key_of_lanes stored) (map bits words)
   is_schedule i lt =
-      let w : encrypting stored ≡ fips.key_expansion (cipher_key stored) = lanes.keys in
+      let w : encrypting stored ≡ fips.key_expansion (key_of_lanes stored) = lanes.keys in
       let r : length stored - 1 ≡ rounds = omega (arith, sized) in
       let below : i < length stored = omega (arith, lt, ap length w, keys_length cipher_form stored) in
       holds i below ∙ (λ j. replicate n (stored_key (full (r j)) (w j) i))
 
-  same_size : length (cipher_key stored) ≡ size_of (length words)
+  same_size : length (key_of_lanes stored) ≡ size_of (length words)
   same_size = lanes.sized ∙ omega (arith, sized)
 
   -- planes that hold them in the full layout are read as the key that the stored round keys are read as
-  pub planes_key : plane_key bits n words ≡ cipher_key stored
+  pub planes_key : key_of_planes bits n words ≡ key_of_lanes stored
   planes_key =
       key_of-schedule n (full rounds) some (deferred_below rounds 4 0 0 (omega (arith, sized, least)) refl)
-      (map bits words) (size_of (length words)) (rounds - 6) (cipher_key stored) refl same_size
+      (map bits words) (size_of (length words)) (rounds - 6) (key_of_lanes stored) refl same_size
       (omega (arith, sized, least)) (omega (arith, sized, most)) is_schedule
 
   -- and are the schedule of that key

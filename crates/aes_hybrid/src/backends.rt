@@ -7,7 +7,7 @@ ghost use Rattle.aes_planes.proofs.Standard.CipherLaws.{two_keys};
 ghost use Rattle.aes_permute.specs.Keys.{encrypting};
 ghost use Rattle.aes_permute.specs.Stored.{round_keys_of};
 ghost use Rattle.aes_soft.specs.Stored as soft;
-ghost use Rattle.aes_permute.specs.Keys.{cipher_key, IsCipherSchedule};
+ghost use Rattle.aes_permute.specs.Keys.{key_of_lanes, IsCipherSchedule};
 
 use crate::blocks::process_few;
 use crate::widths::Width;
@@ -47,7 +47,7 @@ impl<D: LaneRounds, W: Width> Drop for OnLanes<'_, D, W> {
 impl<'a, D: LaneRounds, W: Width> Model for OnLanes<'a, D, W> {
     ghost Value = { List ℕ };
 
-    ghost view = { λ few. cipher_key few.keys.now };
+    ghost view = { λ few. key_of_lanes few.keys.now };
 
     ghost invariant = { λ few. IsCipherSchedule few.keys.now
         × (round_keys_of D.form few.used.now ≡ D.form.used_keys (encrypting few.keys.now)) };
@@ -58,7 +58,7 @@ impl<'a, D: LaneRounds, W: Width> OnLanes<'a, D, W> {
     pub(crate) fn new(keys: &'a [Block], used: &'a [Block]) -> OnLanes<'a, D, W>
         requires keyed { IsCipherSchedule keys.now }
         requires used { round_keys_of D.form used.now ≡ D.form.used_keys (encrypting keys.now) }
-        ensures { result ≡ cipher_key keys.now }
+        ensures { result ≡ key_of_lanes keys.now }
     {
         OnLanes {
             keys,
@@ -141,14 +141,14 @@ impl<'a, D: LaneRounds, W: Width> Model for Batches<'a, D, W> {
     ghost view = { λ batches. batches.few };
 
     ghost invariant = { λ batches. soft.IsFullSchedule W.Many.bits W.Many.BLOCKS batches.words.now
-        × (soft.plane_key W.Many.bits W.Many.BLOCKS batches.words.now ≡ batches.few) };
+        × (soft.key_of_planes W.Many.bits W.Many.BLOCKS batches.words.now ≡ batches.few) };
 }
 
 impl<'a, D: LaneRounds, W: Width> Batches<'a, D, W> {
     #[inline(always)]
     pub(crate) fn new(few: OnLanes<'a, D, W>, words: &'a [W::Many]) -> Batches<'a, D, W>
         requires is_schedule { soft.IsFullSchedule W.Many.bits W.Many.BLOCKS words.now }
-        requires same_key { soft.plane_key W.Many.bits W.Many.BLOCKS words.now ≡ few }
+        requires same_key { soft.key_of_planes W.Many.bits W.Many.BLOCKS words.now ≡ few }
         ensures { result ≡ few.entry }
     {
         Batches { few, words }

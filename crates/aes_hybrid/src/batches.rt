@@ -4,7 +4,7 @@ ghost use Rattle.std.specs.Prelude.{◌≡◌, ◌-◌, ◌%◌, ◌<◌, ◌≤
 ghost use Rattle.aes_planes.specs.Each.{Each};
 ghost use Rattle.aes_planes.specs.Fips197 as fips;
 ghost use Rattle.aes_soft.specs.Stored as soft;
-ghost use Rattle.aes_permute.specs.Keys.{cipher_key, IsCipherSchedule};
+ghost use Rattle.aes_permute.specs.Keys.{key_of_lanes, IsCipherSchedule};
 
 use crate::plane_keys::PlaneKeys;
 use aes_planes::soft::sbox::Layers;
@@ -54,7 +54,7 @@ fn process_rest<D: PlaneCipher, W: Word>(words: &[W], blocks: &mut [Block])
     requires is_schedule { soft.IsFullSchedule W.bits W.BLOCKS words.now }
     requires some { 1 ≤ length blocks.old }
     requires fewer { length blocks.old < W.Blocks.LEN }
-    ensures { Each (D.processed (fips.key_expansion (soft.plane_key W.bits W.BLOCKS words.now))) blocks.old blocks.new }
+    ensures { Each (D.processed (fips.key_expansion (soft.key_of_planes W.bits W.BLOCKS words.now))) blocks.old blocks.new }
 {
     let mut batch = filled_up::<W>(blocks);
     process_batch_under::<W, D>(words, &mut batch[..W::Blocks::LEN], &mut Layers::new());
@@ -65,7 +65,7 @@ fn process_rest<D: PlaneCipher, W: Word>(words: &[W], blocks: &mut [Block])
 #[inline(always)]
 fn process_in_batches<D: PlaneCipher, W: Word>(words: &[W], blocks: &mut [Block])
     requires is_schedule { soft.IsFullSchedule W.bits W.BLOCKS words.now }
-    ensures { Each (D.processed (fips.key_expansion (soft.plane_key W.bits W.BLOCKS words.now))) blocks.old blocks.new }
+    ensures { Each (D.processed (fips.key_expansion (soft.key_of_planes W.bits W.BLOCKS words.now))) blocks.old blocks.new }
 {
     let whole = blocks.len() - blocks.len() % W::Blocks::LEN;
     process_batches_under::<W, D>(words, &mut blocks[..whole], &mut Layers::new());
@@ -79,7 +79,7 @@ fn process_in_batches<D: PlaneCipher, W: Word>(words: &[W], blocks: &mut [Block]
 #[inline(never)]
 pub(crate) fn process_on_planes<D: PlaneCipher, W: Word>(keys: &[Block], blocks: &mut [Block])
     requires keyed { IsCipherSchedule keys.now }
-    ensures { Each (D.processed (fips.key_expansion (cipher_key keys.now))) blocks.old blocks.new }
+    ensures { Each (D.processed (fips.key_expansion (key_of_lanes keys.now))) blocks.old blocks.new }
 {
     let mut planes = PlaneKeys::<W>::zeroed();
     planes.store(keys);

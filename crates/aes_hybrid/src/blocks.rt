@@ -5,7 +5,7 @@ ghost use Rattle.aes_planes.specs.Each.{Each};
 ghost use Rattle.aes_planes.specs.Fips197 as fips;
 ghost use Rattle.aes_permute.specs.Keys.{encrypting};
 ghost use Rattle.aes_permute.specs.Stored.{round_keys_of};
-ghost use Rattle.aes_permute.specs.Keys.{cipher_key, IsCipherSchedule};
+ghost use Rattle.aes_permute.specs.Keys.{key_of_lanes, IsCipherSchedule};
 
 use crate::batches::process_on_planes;
 use crate::widths::Width;
@@ -53,7 +53,7 @@ pub(crate) fn process_few<D: LaneRounds, W: Width>(used: &[Block], blocks: &mut 
 fn process_first<D: PlaneCipher, W: Word>(keys: &[Block], blocks: &mut [Block], count: usize)
     requires keyed { IsCipherSchedule keys.now }
     requires inside { count ≤ length blocks.old }
-    ensures first { Each (D.processed (fips.key_expansion (cipher_key keys.now))) (take count blocks.old)
+    ensures first { Each (D.processed (fips.key_expansion (key_of_lanes keys.now))) (take count blocks.old)
         (take count blocks.new) }
     ensures others { drop count blocks.new ≡ drop count blocks.old }
 {
@@ -72,7 +72,7 @@ pub fn process_few_or_many<D: LaneRounds + PlaneCipher, W: Width>(
 )
     requires keyed { IsCipherSchedule keys.now }
     requires used { round_keys_of D.form used.now ≡ D.form.used_keys (encrypting keys.now) }
-    ensures { Each (D.processed (fips.key_expansion (cipher_key keys.now))) blocks.old blocks.new }
+    ensures { Each (D.processed (fips.key_expansion (key_of_lanes keys.now))) blocks.old blocks.new }
 {
     D::uses_all();
     let whole = blocks_on_planes::<D, W>(blocks.len());

@@ -3,7 +3,7 @@
 
 ghost use Rattle.std.specs.Prelude.{◌≡◌};
 ghost use Rattle.aes_planes.specs.Fips197 as fips;
-ghost use Rattle.aes_permute.specs.Keys.{cipher_key, AreInverse, IsCipherSchedule};
+ghost use Rattle.aes_permute.specs.Keys.{key_of_lanes, AreInverse, IsCipherSchedule};
 
 use crate::backends::{Batches, OnLanes};
 use crate::plane_keys::PlaneKeys;
@@ -16,7 +16,7 @@ use aes_planes::soft::word::Block;
 #[inline(always)]
 fn lend_planes_to_encrypt<W: Width, F: BlockCipherEncClosure>(keys: &[Block], f: &mut F)
     requires { IsCipherSchedule keys.now }
-    ensures { F.did f.old (fips.key_expansion (cipher_key keys.now)) f.new }
+    ensures { F.did f.old (fips.key_expansion (key_of_lanes keys.now)) f.new }
 {
     let few = OnLanes::<Encrypt, W>::new(keys, keys);
     let mut planes = PlaneKeys::<W::Many>::zeroed();
@@ -33,7 +33,7 @@ pub(crate) fn lend_to_encrypt<W: Width, F: BlockCipherEncClosure>(
     f: &mut F,
 )
     requires { IsCipherSchedule keys.now }
-    ensures { F.did f.old (fips.key_expansion (cipher_key keys.now)) f.new }
+    ensures { F.did f.old (fips.key_expansion (key_of_lanes keys.now)) f.new }
 {
     if blocks >= W::LEAST_FOR_CLOSURES {
         lend_planes_to_encrypt::<W, F>(keys, f);
@@ -51,7 +51,7 @@ fn lend_planes_to_decrypt<W: Width, F: BlockCipherDecClosure>(
 )
     requires keyed { IsCipherSchedule keys.now }
     requires inverse { AreInverse inverse.now keys.now }
-    ensures { F.did f.old (fips.key_expansion (cipher_key keys.now)) f.new }
+    ensures { F.did f.old (fips.key_expansion (key_of_lanes keys.now)) f.new }
 {
     let few = OnLanes::<Decrypt, W>::new(keys, inverse);
     let mut of_cipher = PlaneKeys::<W::Many>::zeroed();
@@ -70,7 +70,7 @@ pub(crate) fn lend_to_decrypt<W: Width, F: BlockCipherDecClosure>(
 )
     requires keyed { IsCipherSchedule keys.now }
     requires inverse { AreInverse inverse.now keys.now }
-    ensures { F.did f.old (fips.key_expansion (cipher_key keys.now)) f.new }
+    ensures { F.did f.old (fips.key_expansion (key_of_lanes keys.now)) f.new }
 {
     if blocks >= W::LEAST_FOR_CLOSURES {
         lend_planes_to_decrypt::<W, F>(keys, inverse, f);

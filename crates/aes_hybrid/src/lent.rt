@@ -3,7 +3,7 @@
 ghost use Rattle.std.specs.Prelude.{◌≡◌, ℕ, List};
 ghost use Rattle.aes_planes.specs.Fips197 as fips;
 ghost use Rattle.aes_planes.proofs.Standard.CipherLaws.{two_keys};
-ghost use Rattle.aes_permute.specs.Keys.{cipher_key, IsCipherSchedule};
+ghost use Rattle.aes_permute.specs.Keys.{key_of_lanes, IsCipherSchedule};
 
 use crate::blocks::process_few_or_many;
 use crate::closures::lend_to_encrypt;
@@ -31,7 +31,7 @@ impl<W> Drop for Lent<'_, W> {
 impl<'a, W> Model for Lent<'a, W> {
     ghost Value = { List ℕ };
 
-    ghost view = { λ lent. cipher_key lent.keys.now };
+    ghost view = { λ lent. key_of_lanes lent.keys.now };
 
     ghost invariant = { λ lent. IsCipherSchedule lent.keys.now };
 }
@@ -41,7 +41,7 @@ impl<'a, W> Lent<'a, W> {
     #[inline(always)]
     pub fn new(keys: &'a [Block]) -> Lent<'a, W>
         requires { IsCipherSchedule keys.now }
-        ensures { result ≡ cipher_key keys.now }
+        ensures { result ≡ key_of_lanes keys.now }
     {
         Lent {
             keys,

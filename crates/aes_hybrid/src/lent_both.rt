@@ -3,7 +3,7 @@
 ghost use Rattle.std.specs.Prelude.{◌≡◌, ℕ, List};
 ghost use Rattle.aes_planes.specs.Fips197 as fips;
 ghost use Rattle.aes_planes.proofs.Standard.CipherLaws.{two_keys};
-ghost use Rattle.aes_permute.specs.Keys.{cipher_key, AreInverse, IsCipherSchedule};
+ghost use Rattle.aes_permute.specs.Keys.{key_of_lanes, AreInverse, IsCipherSchedule};
 
 use crate::backends::OnLanes;
 use crate::blocks::process_few_or_many;
@@ -36,7 +36,7 @@ impl<W> Drop for LentBoth<'_, W> {
 impl<'a, W> Model for LentBoth<'a, W> {
     ghost Value = { List ℕ };
 
-    ghost view = { λ lent. cipher_key lent.keys.now };
+    ghost view = { λ lent. key_of_lanes lent.keys.now };
 
     ghost invariant = { λ lent. IsCipherSchedule lent.keys.now × AreInverse lent.inverse.now lent.keys.now };
 }
@@ -47,7 +47,7 @@ impl<'a, W> LentBoth<'a, W> {
     pub fn new(keys: &'a [Block], inverse: &'a [Block]) -> LentBoth<'a, W>
         requires keyed { IsCipherSchedule keys.now }
         requires inverse { AreInverse inverse.now keys.now }
-        ensures { result ≡ cipher_key keys.now }
+        ensures { result ≡ key_of_lanes keys.now }
     {
         LentBoth {
             keys,

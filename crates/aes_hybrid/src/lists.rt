@@ -1,7 +1,7 @@
 //! The forms of the nine types: round keys of vector permutations, of which planes are made where there are many blocks.
 
 ghost use Rattle.std.specs.Prelude.{◌≡◌, replicate};
-ghost use Rattle.aes_permute.specs.Keys.{cipher_key, stored_keys, AreInverse, IsCipherSchedule};
+ghost use Rattle.aes_permute.specs.Keys.{key_of_lanes, stored_keys, AreInverse, IsCipherSchedule};
 
 use crate::backends::OnLanes;
 use crate::blocks::process_few_or_many;
@@ -40,7 +40,7 @@ impl<K: KeySize, W> Drop for Encrypting<K, W> {
 impl<K: KeySize, W> StoredKeys for Encrypting<K, W> {
     type Size = K;
 
-    ghost key = { λ s. cipher_key (stored_keys K.SIZE s.room) };
+    ghost key = { λ s. key_of_lanes (stored_keys K.SIZE s.room) };
 
     ghost AreKeyed = { λ s. IsCipherSchedule (stored_keys K.SIZE s.room) };
 

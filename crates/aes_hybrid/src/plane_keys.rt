@@ -5,7 +5,7 @@ ghost use Rattle.aes_planes.specs.Fips197 as fips;
 ghost use Rattle.aes_planes.specs.Planes.{held, words_at};
 ghost use Rattle.aes_soft.specs.Stored as soft;
 ghost use Rattle.aes_permute.specs.Stored.{untower};
-ghost use Rattle.aes_permute.specs.Keys.{cipher_key, IsCipherSchedule};
+ghost use Rattle.aes_permute.specs.Keys.{key_of_lanes, IsCipherSchedule};
 
 use aes_cipher::zeroize::zeroize_words;
 use aes_permute::lanes::looked_up_by_nibbles;
@@ -73,7 +73,7 @@ pub fn store_planes<W: Word>(words: &mut [W], keys: &[Block])
     requires keyed { IsCipherSchedule keys.now }
     ensures same_length { length words.new ≡ 8 * length keys.now }
     ensures is_schedule { soft.IsFullSchedule W.bits W.BLOCKS words.new }
-    ensures key { soft.plane_key W.bits W.BLOCKS words.new ≡ cipher_key keys.now }
+    ensures key { soft.key_of_planes W.bits W.BLOCKS words.new ≡ key_of_lanes keys.now }
 {
     let last = keys.len() - 1;
     store_in_every_slot(words, 0, &keys[0]);
@@ -103,7 +103,7 @@ impl<W: Word> PlaneKeys<W> {
     pub(crate) fn store(&mut self, keys: &[Block])
         requires keyed { IsCipherSchedule keys.now }
         ensures is_schedule { soft.IsFullSchedule W.bits W.BLOCKS (take (8 * length keys.now) self.new.room) }
-        ensures key { soft.plane_key W.bits W.BLOCKS (take (8 * length keys.now) self.new.room) ≡ cipher_key keys.now }
+        ensures key { soft.key_of_planes W.bits W.BLOCKS (take (8 * length keys.now) self.new.room) ≡ key_of_lanes keys.now }
     {
         store_planes(&mut self.room[..8 * keys.len()], keys);
     }

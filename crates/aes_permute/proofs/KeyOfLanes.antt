@@ -6,14 +6,14 @@ use Rattle.aes_planes.proofs.KeySchedule.ExpandedBlocks.{first_bytes}
 use Rattle.aes_planes.proofs.KeySchedule.ExpansionLength.{expansion_length}
 use Rattle.aes_planes.proofs.Standard.CipherLaws.{two_keys}
 use Rattle.aes_cipher.specs.KeySizes.{IsKeySize}
-use Rattle.aes_permute.specs.Keys.{encrypting, cipher_form, cipher_key, leading_key, lane_key_size, IsCipherSchedule}
+use Rattle.aes_permute.specs.Keys.{encrypting, cipher_form, key_of_lanes, leading_key, lane_key_size, IsCipherSchedule}
 use Rattle.aes_permute.specs.Stored.{round_keys_of, LaneForm}
 use Rattle.aes_permute.proofs.States.{keys_length}
 
 -- the key that begins its own schedule
-pub own_key : (size : ℕ) (key : List ℕ) → IsKeySize size → length key ≡ size → leading_key size (fips.key_expansion key)
+pub begins_with_key : (size : ℕ) (key : List ℕ) → IsKeySize size → length key ≡ size → leading_key size (fips.key_expansion key)
     ≡ key
-own_key size key one l =
+begins_with_key size key one l =
     first_bytes key (size / 4) (ap (λ v. v / 4) l) size (omega (arith, one)) l (omega (arith, one)) (omega (arith, one))
 
 module _ (stored : List (List ℕ)) (key : List ℕ) (one : IsKeySize (length key))
@@ -23,9 +23,9 @@ module _ (stored : List (List ℕ)) (key : List ℕ) (one : IsKeySize (length ke
   own_size = omega (arith, sized, one)
 
   -- round keys of a key are read as that key
-  pub read_as : cipher_key stored ≡ key
-  unfolding cipher_key
-  read_as = (λ j. leading_key (own_size j) (e j)) ∙ own_key (length key) key one refl
+  pub read_as : key_of_lanes stored ≡ key
+  unfolding key_of_lanes
+  read_as = (λ j. leading_key (own_size j) (e j)) ∙ begins_with_key (length key) key one refl
 
   -- and are those of the key that they are read as
   pub is_cipher_schedule : IsCipherSchedule stored
@@ -41,7 +41,7 @@ module _ (stored : List (List ℕ)) (key : List ℕ) (one : IsKeySize (length ke
 
 -- the key that they are read as has the size that their number says
 pub stored_size : (size : ℕ) (stored : List (List ℕ)) → IsKeySize size
-    → length stored ≡ size / 4 + 7 → IsCipherSchedule stored → length (cipher_key stored) ≡ size
+    → length stored ≡ size / 4 + 7 → IsCipherSchedule stored → length (key_of_lanes stored) ≡ size
 stored_size size stored one l s = s.sized ∙ omega (arith, one, l)
 
 -- stored round keys of a key are two or more

@@ -43,15 +43,15 @@ abbrev pub leading_key : ℕ → List (List ℕ) → List ℕ
 leading_key size w = take size (fips.round_key w 0 ++ fips.round_key w 1)
 
 -- the key that stored round keys of Cipher are read as
-unfoldable pub cipher_key : List (List ℕ) → List ℕ
-cipher_key stored = leading_key (lane_key_size stored) (encrypting stored)
+unfoldable pub key_of_lanes : List (List ℕ) → List ℕ
+key_of_lanes stored = leading_key (lane_key_size stored) (encrypting stored)
 
 -- the stored round keys of Cipher of the key that they are read as, which has 16, 24 or 32 bytes
 pub record IsCipherSchedule (stored : List (List ℕ)) : Type 0 where
   pub one_of_three : (length stored ≡ 11) ⊎ ((length stored ≡ 13) ⊎ (length stored ≡ 15))
-  pub sized : length (cipher_key stored) ≡ lane_key_size stored
-  pub bytes : fips.IsBytes (cipher_key stored)
-  pub keys : encrypting stored ≡ fips.key_expansion (cipher_key stored)
+  pub sized : length (key_of_lanes stored) ≡ lane_key_size stored
+  pub bytes : fips.IsBytes (key_of_lanes stored)
+  pub keys : encrypting stored ≡ fips.key_expansion (key_of_lanes stored)
 
 -- the stored round keys of EqInvCipher, of the same key
 abbrev pub AreInverse : List (List ℕ) → List (List ℕ) → Type 0

@@ -3,7 +3,7 @@
 ghost use Rattle.std.specs.Prelude.{◌≡◌, ◌⊎◌, ◌+◌, ◌/◌, ◌≤◌, length, map};
 ghost use Rattle.aes_planes.specs.Fips197 as fips;
 ghost use Rattle.aes_planes.specs.Planes.{plus63, summed};
-ghost use Rattle.aes_permute.specs.Keys.{encrypting, cipher_key, AreInverse, IsCipherSchedule};
+ghost use Rattle.aes_permute.specs.Keys.{encrypting, key_of_lanes, AreInverse, IsCipherSchedule};
 ghost use Rattle.aes_permute.specs.Stored.{IsWritten};
 
 use crate::lanes::Lanes;
@@ -128,7 +128,7 @@ pub fn expand_lanes(keys: &mut [Block], key: &[u8])
     requires one_of_three { (length key.now ≡ 16) ⊎ ((length key.now ≡ 24) ⊎ (length key.now ≡ 32)) }
     requires sized { length keys.old ≡ length key.now / 4 + 7 }
     ensures schedule { IsCipherSchedule keys.new }
-    ensures key { cipher_key keys.new ≡ key.now }
+    ensures key { key_of_lanes keys.new ≡ key.now }
     ensures keys { encrypting keys.new ≡ fips.key_expansion key.now }
     ensures same_length { length keys.new ≡ length keys.old }
 {

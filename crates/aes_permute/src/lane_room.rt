@@ -1,7 +1,7 @@
 //! Room for stored round keys of a key of any size, and the first of its blocks, which are the round keys.
 
 ghost use Rattle.std.specs.Prelude.{◌≡◌, ◌⊎◌, ◌+◌, ◌/◌, drop, length};
-ghost use Rattle.aes_permute.specs.Keys.{cipher_key, stored_keys, AreInverse, IsCipherSchedule};
+ghost use Rattle.aes_permute.specs.Keys.{key_of_lanes, stored_keys, AreInverse, IsCipherSchedule};
 
 use crate::lane_keys::{expand_lanes, invert_lanes};
 use aes_planes::soft::word::Block;
@@ -24,7 +24,7 @@ pub fn keys_in_room(room: &LaneRoom, size: usize) -> &[Block]
 pub fn expand_in_room(room: &mut LaneRoom, key: &[u8])
     requires { (length key.now ≡ 16) ⊎ ((length key.now ≡ 24) ⊎ (length key.now ≡ 32)) }
     ensures schedule { IsCipherSchedule (stored_keys (length key.now) room.new) }
-    ensures key { cipher_key (stored_keys (length key.now) room.new) ≡ key.now }
+    ensures key { key_of_lanes (stored_keys (length key.now) room.new) ≡ key.now }
     ensures after { drop (length key.now / 4 + 7) room.new ≡ drop (length key.now / 4 + 7) room.old }
 {
     expand_lanes(&mut room[..key.len() / 4 + 7], key);

@@ -2,7 +2,7 @@
 
 mod encrypt;
 mod expansion;
-mod inverse;
+mod with_inverse;
 mod inverted_keys;
 mod runs;
 mod single_rounds;
@@ -10,4 +10,4 @@ mod steps;
 
 pub use encrypt::AesEnc;
 pub use expansion::{expand_128, expand_192, expand_256};
-pub use inverse::{Aes, AesDec, WithInverse};
+pub use with_inverse::{Aes, AesDec, WithInverse};

@@ -1,7 +1,7 @@
 -- The struct that a caller keeps: how many bytes the key has, and its stored round keys for both directions.
 use Rattle.std.specs.Prelude.{◌≡◌, ◌⊎◌, ℕ, ◌+◌, ◌-◌, ◌/◌, List, drop, replicate}
 use Rattle.aes_planes.specs.Fips197 as fips
-use Rattle.aes_permute.specs.Keys.{cipher_key, stored_keys, AreInverse, IsCipherSchedule}
+use Rattle.aes_permute.specs.Keys.{key_of_lanes, stored_keys, AreInverse, IsCipherSchedule}
 use Rattle.c_calls.specs.declared.kept.Aes.{Aes}
 
 -- a number of bytes that a key can have
@@ -13,12 +13,12 @@ abbrev pub AreZeroAfter : ℕ → List (List ℕ) → Type 0
 AreZeroAfter n blocks = drop (n / 4 + 7) blocks ≡ replicate (15 - (n / 4 + 7)) (replicate 16 0)
 
 -- the key of n bytes that blocks are read as
-abbrev pub kept_key : ℕ → List (List ℕ) → List ℕ
-kept_key n encrypting = cipher_key (stored_keys n encrypting)
+abbrev pub key_of_kept : ℕ → List (List ℕ) → List ℕ
+key_of_kept n encrypting = key_of_lanes (stored_keys n encrypting)
 
 -- the key of a struct
 abbrev pub key_in : Aes → List ℕ
-key_in aes = kept_key aes.key_length aes.encrypting
+key_in aes = key_of_kept aes.key_length aes.encrypting
 
 -- its round keys
 abbrev pub round_keys_in : Aes → List (List ℕ)

@@ -8,7 +8,7 @@ ghost use Rattle.std.specs.Prelude.{◌≡◌, ◌∷◌, [], length, map, repli
 ghost use Rattle.aes_planes.specs.BigEndian.{bytes};
 ghost use Rattle.aes_planes.specs.Fips197 as fips;
 ghost use Rattle.aes_permute.specs.Keys.{encrypting, stored_keys, AreInverse};
-ghost use Rattle.c_calls.specs.Kept.{kept_key, AreZeroAfter, IsKeyLength, IsMade};
+ghost use Rattle.c_calls.specs.Kept.{key_of_kept, AreZeroAfter, IsKeyLength, IsMade};
 
 use crate::status::{DONE, KEY_LENGTH, KEYSTREAM_END, NO_KEY, UNEQUAL_COUNTS, VERSION};
 use aes_planes::examples::key_expansion_128;
@@ -38,13 +38,13 @@ pub fn length_examples()
 /// The keys of A.1, A.2 and A.3, from the first two of their stored round keys.
 #[tactic(auto, unfolding(crate::proofs::OnLiterals::kept_on_literals))]
 pub fn key_examples()
-    ensures of_16 { kept_key 16 (bytes 16 0x2b7e151628aed2a6abf7158809cf4f3c
+    ensures of_16 { key_of_kept 16 (bytes 16 0x2b7e151628aed2a6abf7158809cf4f3c
         ∷ bytes 16 0xe4d7fad83e4b99638ef93333a817aa42 ∷ replicate 13 (replicate 16 0))
         ≡ bytes 16 0x2b7e151628aed2a6abf7158809cf4f3c }
-    ensures of_24 { kept_key 24 (bytes 16 0x8e73b0f7da0e6452c810f32b809079e5
+    ensures of_24 { key_of_kept 24 (bytes 16 0x8e73b0f7da0e6452c810f32b809079e5
         ∷ bytes 16 0x01cb510d7a9927a1fa649edcbe72c0c8 ∷ replicate 13 (replicate 16 0))
         ≡ bytes 24 0x8e73b0f7da0e6452c810f32b809079e562f8ead2522c6b7b }
-    ensures of_32 { kept_key 32 (bytes 16 0x603deb1015ca71be2b73aef0857d7781
+    ensures of_32 { key_of_kept 32 (bytes 16 0x603deb1015ca71be2b73aef0857d7781
         ∷ bytes 16 0xff39995e2f1c492198b8e8f948c506c1 ∷ replicate 13 (replicate 16 0))
         ≡ bytes 32 0x603deb1015ca71be2b73aef0857d77811f352c073b6108d72d9810a30914dff4 }
 {}
@@ -93,7 +93,7 @@ pub fn stored_example()
     ensures round_keys { encrypting (stored_keys 16 (map (bytes 16) ENCRYPTING))
         ≡ fips.key_expansion (bytes 16 0x2b7e151628aed2a6abf7158809cf4f3c) }
     ensures inverse { AreInverse (stored_keys 16 (map (bytes 16) DECRYPTING)) (stored_keys 16 (map (bytes 16) ENCRYPTING)) }
-    ensures key { kept_key 16 (map (bytes 16) ENCRYPTING) ≡ bytes 16 0x2b7e151628aed2a6abf7158809cf4f3c }
+    ensures key { key_of_kept 16 (map (bytes 16) ENCRYPTING) ≡ bytes 16 0x2b7e151628aed2a6abf7158809cf4f3c }
     ensures after_encrypting { AreZeroAfter 16 (map (bytes 16) ENCRYPTING) }
     ensures after_decrypting { AreZeroAfter 16 (map (bytes 16) DECRYPTING) }
 {

@@ -1,18 +1,17 @@
 -- Vectors of 32 bytes by their halves.
-use Rattle.std.proofs.Common.{◌≡◌, ℕ, zero, suc, ◌+◌, ◌-◌, ◌*◌, ◌/◌, ◌%◌, ◌^◌, ◌<◌, ◌≤◌, Bool, true, false, ◌&&◌, ◌||◌, nat_le, nat_lt, cond}
+use Rattle.std.proofs.Common.{◌≡◌, ℕ, zero, suc, ◌+◌, ◌-◌, ◌*◌, ◌/◌, ◌%◌, ◌^◌, ◌<◌, ◌≤◌, ◌&&◌, cond}
 use Rattle.std.proofs.Common.{List, [], ◌∷◌, ◌++◌, length, map, take, drop, get_or, bit_and, bit_xor, replicate, refl, ap, sym, ◌∙◌, arith, w8}
 use Rattle.std.specs.List.{list_all, range_with_len}
 use Rattle.std.specs.Int.{w128, from_be_bytes}
-use Rattle.std.proofs.lemmas.Bool.{and_parts, ltb-true}
+use Rattle.std.proofs.lemmas.Bool.{and_parts}
 use Rattle.std.proofs.lemmas.List.{map-append, length-append, length-map, get_or_append_left, get_or-append_right, get_or-take, get_or-drop}
 use Rattle.std.proofs.lemmas.List.{take-take, drop-drop, drop_at}
 use Rattle.std.proofs.lemmas.Simd.{swz_l, pick_l-range_with_len, zip2_splat}
 use lib.Lanes.{zip2, pick_l}
-use lib.Dec.{ltb}
 use mir.Val.{zeroes}
 use Rattle.aes_planes.specs.Fips197.{IsBlock}
 use Rattle.aes_permute.specs.Lookup.{looked, is_index, low_nibble, high_nibble, by_nibbles, AreIndices}
-use Rattle.aes_permute.proofs.Lookups.{low_nibbles_are, high_nibbles_are, nibbles_are_indices, low_is, high_is, nibbles_looked_up}
+use Rattle.aes_permute.proofs.Lookups.{looked_from, low_nibbles_are, high_nibbles_are, nibbles_are_indices, low_is, high_is, nibbles_looked_up}
 
 -- ---- nibbles
 
@@ -50,22 +49,6 @@ high_indices x places block is =
     ap (list_all is_index) is ∙ indices_append (map high_nibble x) (map high_nibble x) one one
 
 -- ---- look-ups in the tables of the halves
-
-entry : (b c : Bool) (x y : ℕ) → (b || c) ≡ true → (c ≡ true → x ≡ y) → cond b 0 x ≡ cond b 0 y
-entry true c x y h same = refl
-entry false c x y h same = same h
-
-looked_from : (xs t : List ℕ) (o : ℕ) → ((j : ℕ) → j < 16 → get_or xs (16 * o + j) 0 ≡ get_or t j 0) → (js : List ℕ) (i : ℕ)
-    → 16 * o ≤ i → i + length js ≤ 16 * o + 16 → AreIndices js → swz_l w8 16 xs i js ≡ map (looked t) js
-unfolding is_index
-looked_from xs t o same [] i from to are = refl
-looked_from xs t o same (j ∷ js) i from to are =
-    let both = and_parts (is_index j) (list_all is_index js) are in
-    let place : 16 * (i / 16) + j ≡ 16 * o + j = omega (arith, from, to) in
-    let rest = looked_from xs t o same js (suc i) (omega (arith, from)) (omega (arith, to)) both.1 in
-    let here = entry (nat_le 128 j) (nat_lt j 16) (get_or xs (16 * (i / 16) + j) 0) (get_or t j 0) both.0
-    (λ e. ap (λ n. get_or xs n 0) place ∙ same j (ltb-true j 16 e)) in
-    λ k. here k ∷ rest k
 
 swz_append : (xs ps qs : List ℕ) (i : ℕ)
     → swz_l w8 16 xs i (ps ++ qs) ≡ swz_l w8 16 xs i ps ++ swz_l w8 16 xs (i + length ps) qs

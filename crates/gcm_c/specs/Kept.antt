@@ -2,13 +2,13 @@
 use Rattle.std.specs.Prelude.{◌≡◌, ◌⊎◌, ℕ, ◌-◌, ◌^◌, ◌<◌, ◌≤◌, List}
 use Rattle.aes_planes.specs.Fips197 as fips
 use Rattle.aes_permute.specs.Keys.{stored_keys, IsCipherSchedule}
-use Rattle.c_calls.specs.Kept.{kept_key, IsKeyLength}
+use Rattle.c_calls.specs.Kept.{key_of_kept, IsKeyLength}
 use Rattle.gcm.specs.Gcm.{hash_subkey}
 use Rattle.gcm.specs.Multiples.{subkey_in, HasMultiples}
 
 -- the round keys of the standard that blocks are read as
 abbrev pub kept_round_keys : ℕ → List (List ℕ) → List (List ℕ)
-kept_round_keys n blocks = fips.key_expansion (kept_key n blocks)
+kept_round_keys n blocks = fips.key_expansion (key_of_kept n blocks)
 
 -- a struct in order, as set_key and wipe leave it, and as zeros are: if its length is that of a key, its blocks begin
 -- with the stored round keys of one, and the multiples are those of its H

@@ -1,13 +1,18 @@
 //! Statuses and the version by number, and lengths at their limits, as contracts, so that a slip in a constant or a
-//! definition is refused. The calls have no effect.
+//! definition is refused. The last call says what a text is encrypted to under the bytes of a key; the others have no effect.
 
-ghost use Rattle.std.specs.Prelude.{◌≡◌};
+ghost use Rattle.std.specs.Prelude.{◌≡◌, ◌↔◌, ◌-◌, ◌^◌, ◌<◌, ◌≤◌, length};
+ghost use Rattle.aes_planes.specs.Fips197 as fips;
+ghost use Rattle.c_calls.specs.Kept.{IsKeyLength};
+ghost use Rattle.gcm.specs.Gcm as nist;
 ghost use Rattle.gcm_c.specs.Kept.{IsNonceLength, IsTooLong};
 
 use crate::VERSION;
+use crate::kept::{Gcm, fotsgure_gcm_set_key};
 use crate::status::{
     DONE, KEY_LENGTH, NO_KEY, NONCE_LENGTH, NONCES_END, OUT_OF_TURN, REFUSED, TAG_LENGTH, TOO_LONG,
 };
+use crate::whole::fotsgure_gcm_seal;
 
 /// The numbers that the header gives to statuses and to the version.
 pub fn numbers_of_the_header()
@@ -33,3 +38,25 @@ pub fn length_examples()
     ensures text_too_long { IsTooLong 0 68719476705 }
     ensures additional_too_long { IsTooLong 2305843009213693952 0 }
 {}
+
+/// Keeps a key, and encrypts a text in place under it and a nonce. Returns `DONE` exactly if all lengths are right, and else
+/// the status of the call that refuses them.
+pub fn set_key_and_seal(
+    gcm: &mut Gcm,
+    key: &[u8],
+    nonce: &[u8],
+    additional: &[u8],
+    text: &mut [u8],
+    tag: &mut [u8; 16],
+) -> u32
+    ensures done { result ≡ DONE ↔ IsKeyLength (length key.now) × (IsNonceLength (length nonce.now)
+        × ((length additional.now < 2 ^ 61) × (length text.old ≤ 2 ^ 36 - 32))) }
+    ensures encrypted { result ≡ DONE → text.new ≡ nist.text (fips.key_expansion key.now) nonce.now text.old }
+    ensures tag { result ≡ DONE → tag.new ≡ nist.tag (fips.key_expansion key.now) nonce.now additional.now text.new }
+{
+    let kept = fotsgure_gcm_set_key(gcm, key);
+    if kept != DONE {
+        return kept;
+    }
+    fotsgure_gcm_seal(gcm, nonce, additional, text, tag)
+}

@@ -1,7 +1,7 @@
 //! The struct that a caller keeps: a key as its stored round keys, and the multiples of its H.
 
 ghost use Rattle.std.specs.Prelude.{◌≡◌, ◌≢◌, ◌↔◌, length, replicate, true};
-ghost use Rattle.c_calls.specs.Kept.{kept_key, AreZeroAfter, IsKeyLength};
+ghost use Rattle.c_calls.specs.Kept.{key_of_kept, AreZeroAfter, IsKeyLength};
 ghost use Rattle.gcm_c.specs.Kept.{IsMade};
 
 use crate::status::{DONE, KEY_LENGTH};
@@ -60,7 +60,7 @@ pub(crate) fn holds_key(gcm: &Gcm) -> bool
 pub(crate) fn cipher_of(gcm: &Gcm) -> Lent<'_, BuildWidth>
     requires made { IsMade gcm.now.key_length gcm.now.round_keys gcm.now.multiples }
     requires key { IsKeyLength gcm.now.key_length }
-    ensures { result ≡ kept_key gcm.now.key_length gcm.now.round_keys }
+    ensures { result ≡ key_of_kept gcm.now.key_length gcm.now.round_keys }
 {
     let keys = keys_in_room(&gcm.round_keys, gcm.key_length as usize);
     Lent::<BuildWidth>::new(keys)
@@ -74,7 +74,7 @@ pub extern "C" fn fotsgure_gcm_set_key(gcm: &mut Gcm, key: &[u8]) -> u32
     ensures done { result ≡ DONE ↔ IsKeyLength (length key.now) }
     ensures refused { result ≢ DONE → result ≡ KEY_LENGTH }
     ensures made { IsMade gcm.new.key_length gcm.new.round_keys gcm.new.multiples }
-    ensures key { result ≡ DONE → kept_key gcm.new.key_length gcm.new.round_keys ≡ key.now }
+    ensures key { result ≡ DONE → key_of_kept gcm.new.key_length gcm.new.round_keys ≡ key.now }
     ensures length { result ≡ DONE → gcm.new.key_length ≡ length key.now }
     ensures after { result ≡ DONE → AreZeroAfter (length key.now) gcm.new.round_keys }
     ensures none { result ≢ DONE → gcm.new.key_length ≡ 0 }

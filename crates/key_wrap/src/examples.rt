@@ -113,6 +113,7 @@ pub fn there_and_back<C: BlockCipherEncrypt + BlockCipherDecrypt>(
     back: &mut [Semiblock],
 ) -> Result<(), InvalidCount>
     ensures done { IsOk result ↔ Fit (length key.now) (length sealed.old) × (length back.old ≡ length key.now) }
+    ensures sealed { OnOk result (sealed.new ≡ wrapped (C.round_keys cipher.now) key.now) }
     ensures back { OnOk result (back.new ≡ key.now) }
 {
     wrapping_undone();
@@ -138,6 +139,7 @@ pub fn padded_there_and_back<C: BlockCipherEncrypt + BlockCipherDecrypt>(
 ) -> Result<u32, InvalidCount>
     ensures done { IsOk result
         ↔ FitPadded (length key.now) (length sealed.old) × (length back.old ≡ filled (length key.now)) }
+    ensures sealed { OnOk result (sealed.new ≡ wrapped_padded (C.round_keys cipher.now) key.now) }
     ensures back { IfOk result (λ count. take count (concat back.new) ≡ key.now) }
 {
     padding_undone();

@@ -3,7 +3,7 @@ ghost use Rattle.std.specs.Prelude.{◌≡◌, ◌⊎◌, ◌+◌, ◌*◌, leng
 ghost use Rattle.aes_planes.specs.Expansion.{substitutions};
 ghost use Rattle.aes_planes.specs.Fips197 as fips;
 ghost use Rattle.aes_planes.specs.Words.{word_bits};
-ghost use Rattle.aes_soft.specs.Stored.{plane_key, stored_words, words_for, IsFullSchedule};
+ghost use Rattle.aes_soft.specs.Stored.{key_of_planes, stored_words, words_for, IsFullSchedule};
 
 use super::ciphers::Full;
 use super::key_schedule::expand_stored;
@@ -30,7 +30,7 @@ pub fn words_in_room<K: KeySize>(room: &Wiped<PlaneRoom>) -> &[u16]
 pub fn expand_words_in_room<K: KeySize>(room: &mut PlaneRoom, key: &[u8], layers: &mut Layers)
     requires sized { length key.now ≡ K.SIZE }
     ensures schedule { IsFullSchedule (word_bits 16) 1 (stored_words K.SIZE room.new) }
-    ensures key { plane_key (word_bits 16) 1 (stored_words K.SIZE room.new) ≡ key.now }
+    ensures key { key_of_planes (word_bits 16) 1 (stored_words K.SIZE room.new) ≡ key.now }
     ensures layers { layers.new ≡ layers.old + substitutions K.SIZE }
 {
     // It is cut here, since the borrow checker doesn't cover a cut of what a `Wiped` lends to be written over.
@@ -41,9 +41,9 @@ pub fn expand_words_in_room<K: KeySize>(room: &mut PlaneRoom, key: &[u8], layers
 #[tactic(auto, using(crate::proofs::KeyOfPlanes::read_keys))]
 pub fn reads_key(words: &[u16])
     requires { (length words.now ≡ 88) ⊎ ((length words.now ≡ 104) ⊎ (length words.now ≡ 120)) }
-    ensures sized { 2 * length (plane_key (word_bits 16) 1 words.now) + 56 ≡ length words.now }
-    ensures bytes { fips.IsBytes (plane_key (word_bits 16) 1 words.now) }
-    ensures round_keys { fips.AreRoundKeys (fips.key_expansion (plane_key (word_bits 16) 1 words.now)) }
+    ensures sized { 2 * length (key_of_planes (word_bits 16) 1 words.now) + 56 ≡ length words.now }
+    ensures bytes { fips.IsBytes (key_of_planes (word_bits 16) 1 words.now) }
+    ensures round_keys { fips.AreRoundKeys (fips.key_expansion (key_of_planes (word_bits 16) 1 words.now)) }
 {
     laws::expanded_keys();
 }

@@ -3,7 +3,7 @@ ghost use Rattle.std.specs.Prelude.{◌≡◌, ℕ, List};
 ghost use Rattle.aes_planes.specs.Fips197 as fips;
 ghost use Rattle.aes_planes.specs.Words.{word_bits};
 ghost use Rattle.aes_planes.proofs.Standard.CipherLaws.{two_keys};
-ghost use Rattle.aes_soft.specs.Stored.{plane_key, IsFullSchedule};
+ghost use Rattle.aes_soft.specs.Stored.{key_of_planes, IsFullSchedule};
 
 mod decrypt;
 mod encrypt;
@@ -54,12 +54,12 @@ impl<H: HoldsWidened> Drop for Backend<'_, H> {
 impl<'a, H: HoldsWidened> Model for Backend<'a, H> {
     ghost Value = { List ℕ };
 
-    ghost view = { λ backend. plane_key (word_bits 16) 1 backend.round_keys.now };
+    ghost view = { λ backend. key_of_planes (word_bits 16) 1 backend.round_keys.now };
 
     ghost invariant = { λ backend. IsFullSchedule (word_bits 16) 1 backend.round_keys.now
         × IsFullSchedule (word_bits 128) 8 (H.words backend.widened)
-        × (plane_key (word_bits 128) 8 (H.words backend.widened)
-        ≡ plane_key (word_bits 16) 1 backend.round_keys.now) };
+        × (key_of_planes (word_bits 128) 8 (H.words backend.widened)
+        ≡ key_of_planes (word_bits 16) 1 backend.round_keys.now) };
 }
 
 // Widens stored round keys in place.
@@ -67,7 +67,7 @@ impl<'a, H: HoldsWidened> Model for Backend<'a, H> {
 fn fill<const N: usize>(widened: &mut [BatchWord; N], round_keys: &[u16; N])
     requires is_schedule { IsFullSchedule (word_bits 16) 1 round_keys.now }
     ensures schedule { IsFullSchedule (word_bits 128) 8 widened.new }
-    ensures key { plane_key (word_bits 128) 8 widened.new ≡ plane_key (word_bits 16) 1 round_keys.now }
+    ensures key { key_of_planes (word_bits 128) 8 widened.new ≡ key_of_planes (word_bits 16) 1 round_keys.now }
 {
     store_widened(widened, round_keys);
 }
@@ -77,7 +77,7 @@ impl<'a, const N: usize> Backend<'a, Wiped<[BatchWord; N]>> {
     #[inline(always)]
     pub fn new(round_keys: &'a [u16; N]) -> Backend<'a, Wiped<[BatchWord; N]>>
         requires is_schedule { IsFullSchedule (word_bits 16) 1 round_keys.now }
-        ensures { result ≡ plane_key (word_bits 16) 1 round_keys.now }
+        ensures { result ≡ key_of_planes (word_bits 16) 1 round_keys.now }
     {
         let mut widened = Wiped::<[BatchWord; N]>::zeroed();
         fill(widened.value_mut(), round_keys);
@@ -94,8 +94,8 @@ impl<'a> Backend<'a, LentWidened<'a>> {
     fn lent(round_keys: &'a [u16], widened: &'a [BatchWord]) -> Backend<'a, LentWidened<'a>>
         requires is_schedule { IsFullSchedule (word_bits 16) 1 round_keys.now }
         requires is_widened { IsFullSchedule (word_bits 128) 8 widened.now }
-        requires same_key { plane_key (word_bits 128) 8 widened.now ≡ plane_key (word_bits 16) 1 round_keys.now }
-        ensures { result ≡ plane_key (word_bits 16) 1 round_keys.now }
+        requires same_key { key_of_planes (word_bits 128) 8 widened.now ≡ key_of_planes (word_bits 16) 1 round_keys.now }
+        ensures { result ≡ key_of_planes (word_bits 16) 1 round_keys.now }
     {
         Backend {
             round_keys,

@@ -4,7 +4,7 @@ ghost use Rattle.aes_planes.specs.Each.{Each};
 ghost use Rattle.aes_planes.specs.Fips197 as fips;
 ghost use Rattle.aes_planes.specs.Words.{word_bits};
 ghost use Rattle.aes_soft.specs.Batches.{layers_for};
-ghost use Rattle.aes_soft.specs.Stored.{plane_key, rounds_of, IsFullSchedule};
+ghost use Rattle.aes_soft.specs.Stored.{key_of_planes, rounds_of, IsFullSchedule};
 
 use crate::soft::blocks::BatchWord;
 use crate::soft::ciphers::{Full, PlaneCipher, process, process_in_a_call};
@@ -48,7 +48,7 @@ pub fn process_batch_under<W: Word, D: PlaneCipher>(
 )
     requires is_schedule { IsFullSchedule W.bits W.BLOCKS words.now }
     requires one_batch { length blocks.old ≡ W.Blocks.LEN }
-    ensures blocks { Each (D.processed (fips.key_expansion (plane_key W.bits W.BLOCKS words.now))) blocks.old blocks.new }
+    ensures blocks { Each (D.processed (fips.key_expansion (key_of_planes W.bits W.BLOCKS words.now))) blocks.old blocks.new }
     ensures layers { layers.new ≡ layers.old + rounds_of (length words.now) }
 {
     let rounds = words.len() / 8 - 1;
@@ -70,7 +70,7 @@ pub fn process_batches_under<W: Word, D: PlaneCipher>(
 )
     requires is_schedule { IsFullSchedule W.bits W.BLOCKS words.now }
     requires whole_batches { length blocks.old % W.Blocks.LEN ≡ 0 }
-    ensures blocks { Each (D.processed (fips.key_expansion (plane_key W.bits W.BLOCKS words.now))) blocks.old blocks.new }
+    ensures blocks { Each (D.processed (fips.key_expansion (key_of_planes W.bits W.BLOCKS words.now))) blocks.old blocks.new }
     ensures layers { layers.new
         ≡ layers.old + rounds_of (length words.now) * (length blocks.old / W.Blocks.LEN) }
 {
@@ -91,7 +91,7 @@ pub fn process_blocks_under<D: PlaneCipher>(
     layers: &mut Layers,
 )
     requires is_schedule { IsFullSchedule (word_bits 16) 1 round_keys.now }
-    ensures blocks { let key = plane_key (word_bits 16) 1 round_keys.now in
+    ensures blocks { let key = key_of_planes (word_bits 16) 1 round_keys.now in
         Each (D.processed (fips.key_expansion key)) blocks.old blocks.new }
     ensures layers { layers.new ≡ layers.old + layers_for (rounds_of (length round_keys.now)) (length blocks.old) }
 {
@@ -110,7 +110,7 @@ pub fn process_blocks_under<D: PlaneCipher>(
 #[inline(always)]
 pub fn process_block_under<D: PlaneCipher>(round_keys: &[u16], block: &mut Block)
     requires is_schedule { IsFullSchedule (word_bits 16) 1 round_keys.now }
-    ensures { block.new ≡ D.processed (fips.key_expansion (plane_key (word_bits 16) 1 round_keys.now)) block.old }
+    ensures { block.new ≡ D.processed (fips.key_expansion (key_of_planes (word_bits 16) 1 round_keys.now)) block.old }
 {
     process_batch_under::<u16, D>(round_keys, slice::from_mut(block), &mut Layers::new());
 }

@@ -1,7 +1,7 @@
 //! The round keys on `u16` as the round keys of any other word.
 ghost use Rattle.std.specs.Prelude.{◌≡◌, length, take};
 ghost use Rattle.aes_planes.specs.Words.{word_bits};
-ghost use Rattle.aes_soft.specs.Stored.{plane_key, IsFullSchedule};
+ghost use Rattle.aes_soft.specs.Stored.{key_of_planes, IsFullSchedule};
 
 use aes_planes::soft::word::Word;
 
@@ -12,7 +12,7 @@ pub fn store_widened<W: Word>(widened: &mut [W], round_keys: &[u16])
     requires same_length { length widened.old ≡ length round_keys.now }
     requires is_stored { IsFullSchedule (word_bits 16) 1 round_keys.now }
     ensures schedule { IsFullSchedule W.bits W.BLOCKS widened.new }
-    ensures key { plane_key W.bits W.BLOCKS widened.new ≡ plane_key (word_bits 16) 1 round_keys.now }
+    ensures key { key_of_planes W.bits W.BLOCKS widened.new ≡ key_of_planes (word_bits 16) 1 round_keys.now }
     ensures same_length { length widened.new ≡ length round_keys.now }
 {
     'widen: for i in 0..round_keys.len() {
@@ -25,8 +25,8 @@ pub fn store_widened<W: Word>(widened: &mut [W], round_keys: &[u16])
 pub(crate) fn store_widened_first<W: Word>(room: &mut [W; 120], round_keys: &[u16])
     requires is_stored { IsFullSchedule (word_bits 16) 1 round_keys.now }
     ensures schedule { IsFullSchedule W.bits W.BLOCKS (take (length round_keys.now) room.new) }
-    ensures key { plane_key W.bits W.BLOCKS (take (length round_keys.now) room.new)
-        ≡ plane_key (word_bits 16) 1 round_keys.now }
+    ensures key { key_of_planes W.bits W.BLOCKS (take (length round_keys.now) room.new)
+        ≡ key_of_planes (word_bits 16) 1 round_keys.now }
 {
     store_widened(&mut room[..round_keys.len()], round_keys);
 }
@@ -35,7 +35,7 @@ pub(crate) fn store_widened_first<W: Word>(room: &mut [W; 120], round_keys: &[u1
 pub fn widen<W: Word, const N: usize>(round_keys: &[u16; N]) -> [W; N]
     requires is_stored { IsFullSchedule (word_bits 16) 1 round_keys.now }
     ensures schedule { IsFullSchedule W.bits W.BLOCKS result }
-    ensures key { plane_key W.bits W.BLOCKS result ≡ plane_key (word_bits 16) 1 round_keys.now }
+    ensures key { key_of_planes W.bits W.BLOCKS result ≡ key_of_planes (word_bits 16) 1 round_keys.now }
 {
     let mut widened = [W::zero(); N];
     store_widened(&mut widened, round_keys);

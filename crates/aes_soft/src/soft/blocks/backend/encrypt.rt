@@ -1,7 +1,7 @@
 //! Closures that are lent a backend that encrypts.
 ghost use Rattle.aes_planes.specs.Fips197 as fips;
 ghost use Rattle.aes_planes.specs.Words.{word_bits};
-ghost use Rattle.aes_soft.specs.Stored.{plane_key, IsFullSchedule};
+ghost use Rattle.aes_soft.specs.Stored.{key_of_planes, IsFullSchedule};
 
 use super::Backend;
 use crate::soft::blocks::BatchWord;
@@ -14,7 +14,7 @@ use aes_cipher::zeroize::MustWipe;
 #[inline(always)]
 pub fn encrypt_with_backend<F: BlockCipherEncClosure>(round_keys: &[u16], f: &mut F)
     requires is_schedule { IsFullSchedule (word_bits 16) 1 round_keys.now }
-    ensures { F.did f.old (fips.key_expansion (plane_key (word_bits 16) 1 round_keys.now)) f.new }
+    ensures { F.did f.old (fips.key_expansion (key_of_planes (word_bits 16) 1 round_keys.now)) f.new }
 {
     let mut room = MustWipe::<[BatchWord; 120]>::zeroed();
     store_widened_first(room.value_mut(), round_keys);

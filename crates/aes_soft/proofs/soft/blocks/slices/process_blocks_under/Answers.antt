@@ -3,7 +3,7 @@ use Rattle.std.proofs.Common.{rules, ◌≡◌, ℕ, ◌-◌, ◌%◌, List, len
 use Rattle.aes_cipher.proofs.SliceRuns.{finished, end_finished}
 use Rattle.aes_planes.specs.Fips197.{key_expansion}
 use Rattle.aes_planes.specs.Words.{word_bits}
-use Rattle.aes_soft.specs.Stored.{plane_key}
+use Rattle.aes_soft.specs.Stored.{key_of_planes}
 use Rattle.aes_soft.proofs.Slices.{front_finished, none_finished}
 use Rattle.aes_soft.proofs.soft.blocks.slices.process_blocks_under.Goals as goal
 use Rattle.aes_soft.proofs.soft.blocks.slices.process_blocks_under.Goals.{then-whole-gt0, else-whole-gt0}
@@ -11,7 +11,7 @@ use Rattle.aes_soft.proofs.soft.blocks.slices.process_blocks_under.Goals.{then-w
 pub returns-clause-blocks : goal.returns-clause-blocks
 returns-clause-blocks g c =
     let f : List ℕ → List ℕ = g.D.Direction.processed
-    (key_expansion (plane_key (word_bits 16) 1 c.args.round_keys.now)) in
+    (key_expansion (key_of_planes (word_bits 16) 1 c.args.round_keys.now)) in
     let n : ℕ = length c.args.blocks.now in
     let whole : ℕ = n - n % c.LEN.result in
     let batches : finished f whole c.if-whole-gt0.blocks ≡ map f c.args.blocks.now = elim c.if-whole-gt0.branch [

@@ -1,4 +1,4 @@
--- What is left to show of `adding::add_blocks`.
+-- What is left to show of `add_blocks::add_blocks`.
 use Rattle.std.proofs.Common.{◌≡◌, ℕ, ◌<◌, ◌∙◌, ◌+◌, ◌-◌, ◌/◌, ◌%◌, List, [], slice_index, slice_index_or}
 use Rattle.std.proofs.Common.{length, refl, ap, arith}
 use borrow.Rule.Slice.PartMut.{put_mid, same_len_mid}
@@ -6,8 +6,8 @@ use Rattle.aes_ctr.specs.CounterMode.{plus_stream}
 use Rattle.aes_ctr.specs.Private.{added_from, byte_of_blocks}
 use Rattle.aes_ctr.proofs.Places.{byte_of_block}
 use Rattle.aes_ctr.proofs.Runs.{added_run, added_all, first_run}
-use Rattle.aes_ctr.proofs.adding.add_blocks.Goals as goal
-use Rattle.aes_ctr.proofs.adding.add_blocks.Goals.{then-from-ne0, else-from-ne0}
+use Rattle.aes_ctr.proofs.add_blocks.add_blocks.Goals as goal
+use Rattle.aes_ctr.proofs.add_blocks.add_blocks.Goals.{then-from-ne0, else-from-ne0}
 
 pub whole-init : goal.whole-init
 whole-init c =

@@ -1,8 +1,8 @@
--- What holds in the loop of `adding::add_part`.
+-- What holds in the loop of `add_blocks::add_part`.
 use Rattle.std.proofs.Common.{◌≡◌, slice_index}
 use Rattle.aes_ctr.specs.CounterMode.{plus_stream}
 use Rattle.aes_ctr.specs.Private.{added_from}
-use Rattle.aes_ctr.proofs.adding.add_part.Given as goal
+use Rattle.aes_ctr.proofs.add_blocks.add_part.Given as goal
 
 abbrev pub invariant-loop-i : goal.invariant-loop-i
 invariant-loop-i l = added_from (slice_index l.block) l.from l.i l.bytes ≡ plus_stream (slice_index l.block) l.from

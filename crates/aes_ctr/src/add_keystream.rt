@@ -4,7 +4,7 @@ ghost use Rattle.std.specs.Prelude.{◌≡◌, ℕ, ◌+◌, ◌*◌, ◌/◌, �
 ghost use Rattle.aes_ctr.specs.CounterMode.{keystream_byte, plus_stream};
 ghost use Rattle.aes_ctr.specs.Private.{added_from};
 
-use crate::adding::add_blocks;
+use crate::add_blocks::add_blocks;
 use crate::keystream::{count_on, fill_by_backend, fill_with_keystream};
 use aes_cipher::cipher::{Block, BlockCipherEncBackend, BlockCipherEncClosure, BlockCipherEncrypt};
 

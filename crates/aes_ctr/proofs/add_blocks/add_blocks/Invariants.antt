@@ -1,8 +1,8 @@
--- What holds in the loop of `adding::add_blocks`.
+-- What holds in the loop of `add_blocks::add_blocks`.
 use Rattle.std.proofs.Common.{◌≡◌, ◌≤◌, ◌<◌, ◌-◌, ◌+◌, ◌%◌, length}
 use Rattle.aes_ctr.specs.CounterMode.{plus_stream}
 use Rattle.aes_ctr.specs.Private.{added_from, byte_of_blocks}
-use Rattle.aes_ctr.proofs.adding.add_blocks.Given as goal
+use Rattle.aes_ctr.proofs.add_blocks.add_blocks.Given as goal
 
 abbrev pub invariant-whole : goal.invariant-whole
 invariant-whole l = record {
