@@ -1,4 +1,4 @@
-//! The keystream in batches.
+//! Adds the keystream to bytes: what is left of a block, whole batches, and the rest.
 
 ghost use Rattle.std.specs.Prelude.{◌≡◌, ℕ, ◌+◌, ◌*◌, ◌/◌, ◌%◌, ◌^◌, ◌<◌, ◌≤◌, length};
 ghost use Rattle.aes_ctr.specs.CounterMode.{keystream_byte, plus_stream};
@@ -107,7 +107,7 @@ fn add_by_backend<B: BlockCipherEncBackend>(
     }
 }
 
-// The keystream that is due to bytes from one position on.
+// Bytes to which the keystream is due from one position on.
 #[derive(Drop)]
 struct Due<'a> {
     iv: Block,

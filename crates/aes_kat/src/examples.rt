@@ -9,7 +9,7 @@ ghost use Rattle.aes_kat.specs.Reply.{reply_to, is_fault, is_key_size, is_size_o
 
 use aes_planes::examples;
 
-/// Appendix C.1: its block encrypted, and decrypted again.
+/// Replies to `enc` and `dec`: Appendix C.1, its block encrypted, and decrypted again.
 #[tactic(auto, unfolding(crate::proofs::OnLiterals::replies_on_literals))]
 pub fn cipher_replies()
     ensures enc { reply_to (codes "enc 000102030405060708090a0b0c0d0e0f 00112233445566778899aabbccddeeff")
@@ -22,7 +22,8 @@ pub fn cipher_replies()
     examples::cipher_128();
 }
 
-/// Appendix C.1: round 1 of the cipher and of the equivalent inverse cipher, and the column mixing of both.
+/// Replies to `round`, `invround`, `mix` and `invmix`: Appendix C.1, round 1 of the cipher and of the equivalent inverse
+/// cipher, and the column mixing of both.
 #[tactic(auto, unfolding(crate::proofs::OnLiterals::replies_on_literals))]
 pub fn round_replies()
     ensures round { reply_to (codes "round 00102030405060708090a0b0c0d0e0f0 d6aa74fdd2af72fadaa678f1d6ab76fe")
@@ -37,7 +38,7 @@ pub fn round_replies()
     examples::inverse_step_examples();
 }
 
-/// Appendix A.1: the expansion of its key.
+/// The reply to `sched`: Appendix A.1, the expansion of its key.
 #[tactic(auto, unfolding(crate::proofs::OnLiterals::replies_on_literals))]
 pub fn schedule_reply()
     ensures { reply_to (codes "sched 2b7e151628aed2a6abf7158809cf4f3c") ≡ codes "2b7e151628aed2a6abf7158809cf4f3c"

@@ -4,14 +4,14 @@
 //! `bytes n 0x..` is the n bytes that these digits write.
 
 ghost use Rattle.std.specs.Prelude.{◌≡◌, ◌↔◌, ◌+◌, ◌-◌, ◌^◌, ◌∷◌, [], length, take, IfOk, IsOk, OnOk};
-ghost use Rattle.std.specs.List.{concat, All};
+ghost use Rattle.std.specs.List.{concat};
 ghost use Rattle.aes_planes.specs.BigEndian.{bytes};
 ghost use Rattle.aes_planes.specs.Fips197 as fips;
-ghost use Rattle.key_wrap.specs.KeyWrap.{wrapped, Fit, IsSemiblock};
+ghost use Rattle.key_wrap.specs.KeyWrap.{wrapped, Fit};
 ghost use Rattle.key_wrap.specs.Padded.{filled, wrapped_padded, FitPadded, FitUnpadded};
 
 use crate::errors::InvalidCount;
-use crate::laws::{padding_undone, wrapping_undone};
+use crate::laws::{are_semiblocks, padding_undone, wrapping_undone};
 use crate::padded::{unwrap_padded, wrap_padded};
 use crate::steps::Semiblock;
 use crate::wrapping::{unwrap, wrap};
@@ -85,20 +85,6 @@ pub fn padded_192_example()
         (bytes 7 0x466f7250617369) ≡ bytes 8 0xafbeb0f07dfbf541 ∷ bytes 8 0x9200f2ccb50bb24f ∷ [] }
 {
     encrypted_padded_block();
-}
-
-// No effect; states that a semiblock is eight bytes.
-fn is_semiblock(half: Semiblock)
-    ensures { IsSemiblock half }
-{}
-
-// No effect; states the same of each semiblock of a key.
-fn are_semiblocks(key: &[Semiblock])
-    ensures { All IsSemiblock key.now }
-{
-    for i in 0..key.len() {
-        is_semiblock(key[i]);
-    }
 }
 
 /// Wraps a key and unwraps it again: it isn't refused, and comes back.

@@ -6,8 +6,23 @@ ghost use Rattle.aes_planes.specs.Fips197 as fips;
 ghost use Rattle.key_wrap.specs.KeyWrap.{integrity_check, unwrapped, wrapped, IsSemiblock};
 ghost use Rattle.key_wrap.specs.Padded.{headed, key_in, unwrapped_string, wrapped_padded, IsPadded};
 
+use crate::steps::Semiblock;
 use aes_cipher::blocks::halves_and_blocks;
 use aes_planes::laws;
+
+// No effect; states that a semiblock is eight bytes.
+fn is_semiblock(half: Semiblock)
+    ensures { IsSemiblock half }
+{}
+
+/// No effect; states that each semiblock of a key is eight bytes.
+pub fn are_semiblocks(key: &[Semiblock])
+    ensures { All IsSemiblock key.now }
+{
+    for i in 0..key.len() {
+        is_semiblock(key[i]);
+    }
+}
 
 /// No effect; states that unwrapping undoes wrapping, under round keys of the standard: the key comes back, and the
 /// semiblock before it is the integrity check (KW, 6.2).

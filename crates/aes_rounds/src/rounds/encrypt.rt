@@ -2,8 +2,8 @@
 
 ghost use Rattle.std.specs.Prelude.{◌≡◌, ◌⊎◌, ◌≤◌, length};
 
-use super::inverse::{Aes, AesDec};
-use super::runs;
+use super::all_rounds;
+use super::with_inverse::{Aes, AesDec};
 use aes_cipher::cipher::{BatchOfEight, BatchSizeUser, BlockCipherEncBackend, RoundKeysUser};
 use aes_planes::laws;
 use aes_planes::soft::word::Block;
@@ -59,10 +59,10 @@ impl<const RK: usize> BatchSizeUser for AesEnc<RK> {
 
 impl<const RK: usize> BlockCipherEncBackend for AesEnc<RK> {
     fn encrypt_block(&self, block: &mut Block) {
-        runs::encrypt(slice::from_mut(block), &self.round_keys);
+        all_rounds::encrypt(slice::from_mut(block), &self.round_keys);
     }
 
     fn encrypt_par_blocks(&self, blocks: &mut [Block]) {
-        runs::encrypt(blocks, &self.round_keys);
+        all_rounds::encrypt(blocks, &self.round_keys);
     }
 }

@@ -4,8 +4,8 @@ ghost use Rattle.std.specs.Prelude.{◌≡◌, ◌⊎◌, ◌≤◌, length};
 ghost use Rattle.aes_planes.specs.Each.{Each};
 ghost use Rattle.aes_planes.specs.Fips197 as fips;
 
+use super::all_rounds;
 use super::inverted_keys::inverted_keys;
-use super::runs;
 use aes_cipher::aes::BothWays;
 use aes_cipher::cipher::{
     BatchOfEight, BatchSizeUser, BlockCipherDecBackend, BlockCipherEncBackend, Decrypt,
@@ -69,7 +69,7 @@ impl<const RK: usize, D> WithInverse<RK, D> {
         ensures { Each (fips.inv_cipher_with self.now.round_keys) blocks.old blocks.new }
     {
         laws::equivalent_inverse();
-        runs::decrypt(blocks, &self.inverted_keys);
+        all_rounds::decrypt(blocks, &self.inverted_keys);
     }
 }
 
@@ -89,11 +89,11 @@ impl<const RK: usize, D> BatchSizeUser for WithInverse<RK, D> {
 
 impl<const RK: usize> BlockCipherEncBackend for WithInverse<RK, BothWays> {
     fn encrypt_block(&self, block: &mut Block) {
-        runs::encrypt(slice::from_mut(block), &self.round_keys);
+        all_rounds::encrypt(slice::from_mut(block), &self.round_keys);
     }
 
     fn encrypt_par_blocks(&self, blocks: &mut [Block]) {
-        runs::encrypt(blocks, &self.round_keys);
+        all_rounds::encrypt(blocks, &self.round_keys);
     }
 }
 

@@ -5,8 +5,8 @@ ghost use Rattle.aes_planes.specs.Fips197 as fips;
 ghost use Rattle.aes_soft.specs.Stored.{deferred, key_of, IsSchedule};
 
 use super::ciphers::Layout;
-use super::key_planes::KeyPlanes;
-use super::round_keys::store;
+use super::key_layout::store;
+use super::plane_words::PlaneWords;
 use aes_planes::expansion::expand;
 use aes_planes::soft::sbox::Layers;
 use aes_planes::soft::word::Word;
@@ -24,6 +24,6 @@ pub fn expand_stored<W: Word, L: Layout>(round_keys: &mut [W], key: &[u8], layer
     ensures layers { layers.new ≡ layers.old + substitutions (length key.now) }
     ensures same_length { length round_keys.new ≡ length round_keys.old }
 {
-    expand::<KeyPlanes<W>>(round_keys, key, layers);
+    expand::<PlaneWords<W>>(round_keys, key, layers);
     store::<W, L>(round_keys, key.len() / 4 + 6);
 }

@@ -1,0 +1,12 @@
+-- What is left to show of `rounds::all_rounds::last_step`.
+use Rattle.std.proofs.Common.{List, ℕ, map, replicate, ap, ◌∙◌}
+use Rattle.aes_planes.specs.Fips197 as fips
+use Rattle.aes_planes.proofs.Planes.Held.{map-map, map-same}
+use Rattle.aes_rounds.proofs.rounds.all_rounds.last_step.Goals as goal
+
+pub returns : goal.returns
+returns g c =
+    let blocks = c.args.blocks.now in
+    let keyed : List ℕ → List ℕ = λ b. fips.add_round_key (g.D.Direction.step b) (replicate 16 0) in
+    c.unmix.ensures ∙ ap (map g.D.SingleRounds.unmixed) c.round.ensures ∙ map-map g.D.SingleRounds.unmixed keyed blocks
+    ∙ map-same _ _ blocks c.is_unmixed.ensures
