@@ -20,5 +20,5 @@ pub use counter::Counter;
 pub use errors::{InvalidMessage, InvalidPiece, NotAccepted, OutOfTurn, Refused, TooLong};
 pub use laws::{text_twice, turns};
 pub use message::{Message, Phase};
-pub use mode::{Gcm, LentGcm, is_short_tag, prepare};
+pub use mode::{Gcm, LONGEST_HASHED, LONGEST_TEXT, LentGcm, is_short_tag, prepare};
 pub use multiples::{Multiples, Room, put_multiples};

@@ -9,9 +9,8 @@ ghost use Rattle.gcm.specs.Pieces.{IsBegun, no_message, phase_of};
 
 use crate::kept::{Gcm, cipher_of, holds_key};
 use crate::status::{DONE, NO_KEY, NONCE_LENGTH, OUT_OF_TURN, TOO_LONG};
-use crate::whole::LONGEST_HASHED;
 use aes_cipher::zeroize::Zeroize;
-use gcm::{InvalidPiece, LentGcm, Message};
+use gcm::{InvalidPiece, LONGEST_HASHED, LentGcm, Message};
 
 /// Returns the status of a piece that isn't taken.
 pub(crate) fn status_of(error: InvalidPiece) -> u32

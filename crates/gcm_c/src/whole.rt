@@ -7,12 +7,7 @@ ghost use Rattle.gcm_c.specs.Kept.{kept_round_keys, IsMade, IsNonceLength, IsToo
 
 use crate::kept::{Gcm, cipher_of, holds_key};
 use crate::status::{DONE, NO_KEY, NONCE_LENGTH, REFUSED, TAG_LENGTH, TOO_LONG};
-use gcm::LentGcm;
-
-// How many bytes of text a message has at most, and how many of additional data or of a nonce (SP 800-38D, 5.2.1.1).
-const LONGEST_TEXT: u64 = (1 << 36) - 32;
-
-pub(crate) const LONGEST_HASHED: u64 = (1 << 61) - 1;
+use gcm::{LONGEST_HASHED, LONGEST_TEXT, LentGcm};
 
 // Returns the status that refuses these lengths or this struct, or `DONE`.
 fn refusal(gcm: &Gcm, nonce: usize, additional: usize, text: usize) -> u32
