@@ -16,7 +16,7 @@ use Rattle.aes_planes.proofs.Standard.FieldLaws.{add_zero}
 use Rattle.aes_planes.proofs.Standard.Steps.{map_length}
 use Rattle.aes_permute.specs.Inverse.{first_of, second_of}
 use Rattle.aes_permute.specs.Lookup.{by_nibbles}
-use Rattle.aes_permute.specs.Stored.{inv_untower}
+use Rattle.aes_permute.specs.Stored.{as_is, inv_untower}
 use Rattle.aes_permute.specs.declared.tables.TheConstants.{INV_TOWER_LOW, INV_TOWER_HIGH, INV_SBOX_FIRST}
 use Rattle.aes_permute.specs.declared.tables.TheConstants.{INV_SBOX_SECOND, INV_1_FIRST, INV_1_SECOND, INV_4_FIRST}
 use Rattle.aes_permute.specs.declared.tables.TheConstants.{INV_4_SECOND, INV_9_FIRST, INV_9_SECOND, INV_15_FIRST}
@@ -191,10 +191,11 @@ last_shifted = same_on_blocks last_of (λ y k. add_round_key (inv_shift_rows y) 
 
 -- the last round on lanes is InvSubBytes, InvShiftRows and AddRoundKey, and its bytes stand for themselves
 pub last_is : (x k : List ℕ) {p : List ℕ} → IsBlock x → length k ≡ 16 → p ≡ map plain x
-    → last_of p k ≡ add_round_key (inv_shift_rows (inv_sub_bytes (map inv_untower x))) k
+    → last_of p k ≡ add_round_key (inv_shift_rows (inv_sub_bytes (map inv_untower x))) (map as_is k)
 last_is x k {p = p} h m e =
     last_shifted p k (ap length e ∙ map_length plain x ∙ h.0) m
     ∙ ap (λ v. add_round_key (inv_shift_rows v) k) (e ∙ plain_is x h.1)
+    ∙ ap (add_round_key (inv_shift_rows (inv_sub_bytes (map inv_untower x)))) (sym (map-id k))
 
 -- ---- InvMixColumns of a round key
 

@@ -14,7 +14,7 @@ use Rattle.aes_planes.proofs.Standard.States.{state_same}
 use Rattle.aes_planes.proofs.Standard.Steps.{map_length, add_block}
 use Rattle.aes_permute.specs.Inverse.{first_of, second_of, at_places}
 use Rattle.aes_permute.specs.Lookup.{looked, by_nibbles}
-use Rattle.aes_permute.specs.Stored.{untower, key_untower}
+use Rattle.aes_permute.specs.Stored.{as_is, untower, key_untower}
 use Rattle.aes_permute.specs.declared.tables.TheConstants.{TOWER_LOW, TOWER_HIGH, SBOX_FIRST, SBOX_SECOND, ONE_FIRST}
 use Rattle.aes_permute.specs.declared.tables.TheConstants.{ONE_SECOND, TWO_FIRST, TWO_SECOND}
 use Rattle.aes_permute.proofs.Linear.{untower_three, Product, row, Makes, rows_added, rows_multiplied, rows_mixed}
@@ -166,8 +166,10 @@ untowered x h = map-map untower tower x ∙ maps_same (λ b. untower (tower b)) 
 
 -- a block plus the first round key, brought into the tower basis, stands for AddRoundKey
 pub first_is : (b k : List ℕ) → IsBlock b → IsBlock k
-    → map untower (map (by_nibbles TOWER_LOW TOWER_HIGH) (zip2 bit_xor b k)) ≡ add_round_key b k
-first_is b k h m = untowered (zip2 bit_xor b k) (zip_sum_bytes b k h m) ∙ zip_is_sum b k h.0 m.0
+    → map untower (map (by_nibbles TOWER_LOW TOWER_HIGH) (zip2 bit_xor b k)) ≡ add_round_key b (map as_is k)
+first_is b k h m =
+    untowered (zip2 bit_xor b k) (zip_sum_bytes b k h m) ∙ zip_is_sum b k h.0 m.0
+    ∙ ap (add_round_key b) (sym (map-id k))
 
 -- the S-box without its constant, by two look-ups, of what a byte stands for
 abbrev pub plain : ℕ → ℕ

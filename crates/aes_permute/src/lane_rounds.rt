@@ -1,16 +1,13 @@
-//! The two directions, round by round: Cipher, and EqInvCipher for InvCipher.
+//! The two directions, round by round: Cipher, and EqInvCipher for InvCipher. `rounds` has both.
 
-ghost use Rattle.std.specs.Prelude.{◌≡◌, ◌≤◌, ℕ, Bool, true, false, List, length, map};
+ghost use Rattle.std.specs.Prelude.{◌≡◌, ◌≤◌, ℕ, Bool, List, length, map};
 ghost use Rattle.aes_planes.specs.Fips197 as fips;
 ghost use Rattle.aes_planes.specs.Rounds.{all_rounds};
-ghost use Rattle.aes_permute.specs.Keys.{cipher_form, inverse_form, encrypting, decrypting};
-ghost use Rattle.aes_permute.specs.Stored.{round_keys_of, untower, inv_untower, LaneForm};
+ghost use Rattle.aes_permute.specs.Keys.{encrypting, decrypting};
+ghost use Rattle.aes_permute.specs.Stored.{round_keys_of, LaneForm};
 
 use crate::lanes::Lanes;
-use crate::rounds::{
-    decrypt_first, decrypt_last, decrypt_round, encrypt_first, encrypt_last, encrypt_round,
-};
-use aes_cipher::cipher::{Decrypt, Direction, Encrypt};
+use aes_cipher::cipher::Direction;
 use aes_planes::soft::word::Block;
 
 /// A direction on lanes: its rounds, and the round keys that they use. States and round keys are kept in a basis of the
@@ -56,80 +53,4 @@ pub trait LaneRounds: Direction {
     fn processes()
         ensures { (w : List (List ℕ)) (b : List ℕ) → 2 ≤ length w
             → all_rounds Self.step Self.last_step (form.used_keys w) b ≡ Self.processed w b };
-}
-
-// Cipher (FIPS 197, 5.1).
-impl LaneRounds for Encrypt {
-    ghost state_byte = { untower };
-
-    ghost form = { cipher_form };
-
-    ghost BACKWARD = { false };
-
-    const BACKWARD: bool = false;
-
-    #[inline(always)]
-    fn first<L: Lanes>(blocks: L, key: L) -> L {
-        encrypt_first(blocks, key)
-    }
-
-    #[inline(always)]
-    fn round<L: Lanes>(x: L, key: L) -> L {
-        encrypt_round(x, key)
-    }
-
-    #[inline(always)]
-    fn last<L: Lanes>(x: L, key: L) -> L {
-        encrypt_last(x, key)
-    }
-
-    #[inline(always)]
-    fn used_of<'a>(keys: &'a [Block], inverse: &'a [Block]) -> &'a [Block] {
-        let _ = inverse;
-        keys
-    }
-
-    #[tactic(auto, using(crate::proofs::DirectionLaws::same_forward))]
-    fn uses_all() {}
-
-    #[tactic(auto, using(crate::proofs::DirectionLaws::is_encrypted))]
-    fn processes() {}
-}
-
-// EqInvCipher (FIPS 197, 5.3.5).
-impl LaneRounds for Decrypt {
-    ghost state_byte = { inv_untower };
-
-    ghost form = { inverse_form };
-
-    ghost BACKWARD = { true };
-
-    const BACKWARD: bool = true;
-
-    #[inline(always)]
-    fn first<L: Lanes>(blocks: L, key: L) -> L {
-        decrypt_first(blocks, key)
-    }
-
-    #[inline(always)]
-    fn round<L: Lanes>(x: L, key: L) -> L {
-        decrypt_round(x, key)
-    }
-
-    #[inline(always)]
-    fn last<L: Lanes>(x: L, key: L) -> L {
-        decrypt_last(x, key)
-    }
-
-    #[inline(always)]
-    fn used_of<'a>(keys: &'a [Block], inverse: &'a [Block]) -> &'a [Block] {
-        let _ = keys;
-        inverse
-    }
-
-    #[tactic(auto, using(crate::proofs::DirectionLaws::same_backward))]
-    fn uses_all() {}
-
-    #[tactic(auto, using(crate::proofs::DirectionLaws::is_decrypted))]
-    fn processes() {}
 }

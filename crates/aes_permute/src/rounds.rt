@@ -1,74 +1,138 @@
 //! The rounds of Cipher and EqInvCipher on lanes, and their round keys. States are kept in the tower basis, and round
 //! keys so that the constant of the S-box is added with them.
 
-ghost use Rattle.std.specs.Prelude.{◌≡◌, ℕ, map, bit_xor};
+ghost use Rattle.std.specs.Prelude.{◌≡◌, ℕ, true, false, map, bit_xor};
 ghost use Rattle.std.specs.Simd.Lanes.{zip2};
 ghost use Rattle.aes_planes.specs.Fips197 as fips;
-ghost use Rattle.aes_planes.specs.Planes.{plus63};
+ghost use Rattle.aes_permute.specs.Keys.{cipher_form, inverse_form};
 ghost use Rattle.aes_permute.specs.Stored.{untower, inv_untower, key_untower};
 
+use crate::lane_rounds::LaneRounds;
 use crate::lanes::{Lanes, looked_up_by_nibbles};
 use crate::sbox::{looked_up, places_of};
 use crate::tables::*;
+use aes_cipher::cipher::{Decrypt, Encrypt};
+use aes_planes::soft::word::Block;
 use std::simd::prelude::*;
 
-/// Adds round key 0 to each block, and returns the states of Cipher (FIPS 197, 5.1).
-#[inline(always)]
-pub fn encrypt_first<L: Lanes>(blocks: L, key: L) -> L
-    ensures { (i : ℕ) → map untower (L.block result i) ≡ fips.add_round_key (L.block blocks i) (L.block key i) }
-{
-    blocks.are_blocks();
-    key.are_blocks();
-    looked_up_by_nibbles(blocks.sum(key), TOWER_LOW, TOWER_HIGH)
+// Cipher (FIPS 197, 5.1).
+impl LaneRounds for Encrypt {
+    ghost state_byte = { untower };
+
+    ghost form = { cipher_form };
+
+    ghost BACKWARD = { false };
+
+    const BACKWARD: bool = false;
+
+    #[inline(always)]
+    fn first<L: Lanes>(blocks: L, key: L) -> L {
+        blocks.are_blocks();
+        key.are_blocks();
+        looked_up_by_nibbles(blocks.sum(key), TOWER_LOW, TOWER_HIGH)
+    }
+
+    #[tactic(auto, unfolding(crate::specs::Lookup::is_index))]
+    #[inline(always)]
+    fn round<L: Lanes>(x: L, key: L) -> L {
+        x.are_blocks();
+        key.are_blocks();
+        let at = places_of(x);
+        let one = looked_up(at, ONE_FIRST, ONE_SECOND);
+        let two = looked_up(at, TWO_FIRST, TWO_SECOND);
+        // A byte's double with the next row's byte: a row further on, the same sums hold the rest of the product with 3.
+        let next = one.permuted([5, 6, 7, 4, 9, 10, 11, 8, 13, 14, 15, 12, 1, 2, 3, 0]);
+        let pairs = two.sum(next);
+        let first = pairs.permuted([0, 5, 10, 15, 4, 9, 14, 3, 8, 13, 2, 7, 12, 1, 6, 11]);
+        let second = pairs.permuted([5, 10, 15, 0, 9, 14, 3, 4, 13, 2, 7, 8, 1, 6, 11, 12]);
+        let fourth = one.permuted([15, 0, 5, 10, 3, 4, 9, 14, 7, 8, 13, 2, 11, 12, 1, 6]);
+        let with_key = fourth.sum(key);
+        let most = with_key.sum(first);
+        most.sum(second)
+    }
+
+    #[tactic(auto, unfolding(crate::specs::Lookup::is_index))]
+    #[inline(always)]
+    fn last<L: Lanes>(x: L, key: L) -> L {
+        x.are_blocks();
+        key.are_blocks();
+        let one = looked_up(places_of(x), SBOX_FIRST, SBOX_SECOND);
+        one.permuted([0, 5, 10, 15, 4, 9, 14, 3, 8, 13, 2, 7, 12, 1, 6, 11])
+            .sum(key)
+    }
+
+    #[inline(always)]
+    fn used_of<'a>(keys: &'a [Block], inverse: &'a [Block]) -> &'a [Block] {
+        let _ = inverse;
+        keys
+    }
+
+    #[tactic(auto, using(crate::proofs::DirectionLaws::same_forward))]
+    fn uses_all() {}
+
+    #[tactic(auto, using(crate::proofs::DirectionLaws::is_encrypted))]
+    fn processes() {}
 }
 
-/// Runs a round of Cipher that is not the last (FIPS 197, 5.1).
-#[tactic(auto, unfolding(crate::specs::Lookup::is_index))]
-#[inline(always)]
-pub fn encrypt_round<L: Lanes>(x: L, key: L) -> L
-    ensures { (i : ℕ) → map untower (L.block result i) ≡ fips.add_round_key
-        (fips.mix_columns (fips.shift_rows (fips.sub_bytes (map untower (L.block x i)))))
-        (map key_untower (L.block key i)) }
-{
-    x.are_blocks();
-    key.are_blocks();
-    let at = places_of(x);
-    let one = looked_up(at, ONE_FIRST, ONE_SECOND);
-    let two = looked_up(at, TWO_FIRST, TWO_SECOND);
-    // A byte's double with the next row's byte: a row further on, the same sums hold the rest of the product with 3.
-    let next = one.permuted([5, 6, 7, 4, 9, 10, 11, 8, 13, 14, 15, 12, 1, 2, 3, 0]);
-    let pairs = two.sum(next);
-    let first = pairs.permuted([0, 5, 10, 15, 4, 9, 14, 3, 8, 13, 2, 7, 12, 1, 6, 11]);
-    let second = pairs.permuted([5, 10, 15, 0, 9, 14, 3, 4, 13, 2, 7, 8, 1, 6, 11, 12]);
-    let fourth = one.permuted([15, 0, 5, 10, 3, 4, 9, 14, 7, 8, 13, 2, 11, 12, 1, 6]);
-    let with_key = fourth.sum(key);
-    let most = with_key.sum(first);
-    most.sum(second)
-}
+// EqInvCipher (FIPS 197, 5.3.5).
+impl LaneRounds for Decrypt {
+    ghost state_byte = { inv_untower };
 
-/// Runs the last round of Cipher, and returns the blocks (FIPS 197, 5.1).
-#[tactic(auto, unfolding(crate::specs::Lookup::is_index))]
-#[inline(always)]
-pub fn encrypt_last<L: Lanes>(x: L, key: L) -> L
-    ensures { (i : ℕ) → L.block result i ≡ fips.add_round_key
-        (fips.shift_rows (fips.sub_bytes (map untower (L.block x i)))) (map plus63 (L.block key i)) }
-{
-    x.are_blocks();
-    key.are_blocks();
-    let one = looked_up(places_of(x), SBOX_FIRST, SBOX_SECOND);
-    one.permuted([0, 5, 10, 15, 4, 9, 14, 3, 8, 13, 2, 7, 12, 1, 6, 11])
-        .sum(key)
-}
+    ghost form = { inverse_form };
 
-/// Adds round key 0 of EqInvCipher to each block, and returns the states (FIPS 197, 5.3.5).
-#[inline(always)]
-pub fn decrypt_first<L: Lanes>(blocks: L, key: L) -> L
-    ensures { (i : ℕ) → map inv_untower (L.block result i)
-        ≡ fips.add_round_key (L.block blocks i) (map plus63 (L.block key i)) }
-{
-    blocks.are_blocks();
-    key.are_blocks();
-    looked_up_by_nibbles(blocks.sum(key), INV_TOWER_LOW, INV_TOWER_HIGH)
+    ghost BACKWARD = { true };
+
+    const BACKWARD: bool = true;
+
+    #[inline(always)]
+    fn first<L: Lanes>(blocks: L, key: L) -> L {
+        blocks.are_blocks();
+        key.are_blocks();
+        looked_up_by_nibbles(blocks.sum(key), INV_TOWER_LOW, INV_TOWER_HIGH)
+    }
+
+    #[tactic(auto, unfolding(crate::specs::Lookup::is_index))]
+    #[inline(always)]
+    fn round<L: Lanes>(x: L, key: L) -> L {
+        x.are_blocks();
+        key.are_blocks();
+        let at = places_of(x);
+        let by_1 = looked_up(at, INV_1_FIRST, INV_1_SECOND);
+        let by_4 = looked_up(at, INV_4_FIRST, INV_4_SECOND);
+        let by_9 = looked_up(at, INV_9_FIRST, INV_9_SECOND);
+        let by_15 = looked_up(at, INV_15_FIRST, INV_15_SECOND);
+        let (by_14, by_11, by_13) = coefficients(by_1, by_4, by_9, by_15);
+        let first = by_14.permuted([0, 13, 10, 7, 4, 1, 14, 11, 8, 5, 2, 15, 12, 9, 6, 3]);
+        let second = by_11.permuted([13, 10, 7, 0, 1, 14, 11, 4, 5, 2, 15, 8, 9, 6, 3, 12]);
+        let third = by_13.permuted([10, 7, 0, 13, 14, 11, 4, 1, 2, 15, 8, 5, 6, 3, 12, 9]);
+        let fourth = by_9.permuted([7, 0, 13, 10, 11, 4, 1, 14, 15, 8, 5, 2, 3, 12, 9, 6]);
+        let with_key = first.sum(key);
+        let last_two = third.sum(fourth);
+        let most = with_key.sum(last_two);
+        most.sum(second)
+    }
+
+    #[tactic(auto, unfolding(crate::specs::Lookup::is_index))]
+    #[inline(always)]
+    fn last<L: Lanes>(x: L, key: L) -> L {
+        x.are_blocks();
+        key.are_blocks();
+        let one = looked_up(places_of(x), INV_SBOX_FIRST, INV_SBOX_SECOND);
+        one.permuted([0, 13, 10, 7, 4, 1, 14, 11, 8, 5, 2, 15, 12, 9, 6, 3])
+            .sum(key)
+    }
+
+    #[inline(always)]
+    fn used_of<'a>(keys: &'a [Block], inverse: &'a [Block]) -> &'a [Block] {
+        let _ = keys;
+        inverse
+    }
+
+    #[tactic(auto, using(crate::proofs::DirectionLaws::same_backward))]
+    fn uses_all() {}
+
+    #[tactic(auto, using(crate::proofs::DirectionLaws::is_decrypted))]
+    fn processes() {}
 }
 
 // The products with the coefficients 14, 11 and 13 of InvMixColumns (FIPS 197, 5.3.3), of those with 1, 4, 9 and 15.
@@ -80,46 +144,6 @@ fn coefficients<L: Lanes>(by_1: L, by_4: L, by_9: L, by_15: L) -> (L, L, L)
 {
     // Each product is of use twice. LLVM turns the two look-ups of a sum one by one where nothing else uses the sum.
     (by_1.sum(by_15), by_15.sum(by_4), by_4.sum(by_9))
-}
-
-/// Runs a round of EqInvCipher that is not the last (FIPS 197, 5.3.5).
-#[tactic(auto, unfolding(crate::specs::Lookup::is_index))]
-#[inline(always)]
-pub fn decrypt_round<L: Lanes>(x: L, key: L) -> L
-    ensures { (i : ℕ) → map inv_untower (L.block result i) ≡ fips.add_round_key
-        (fips.inv_mix_columns (fips.inv_shift_rows (fips.inv_sub_bytes (map inv_untower (L.block x i)))))
-        (map inv_untower (L.block key i)) }
-{
-    x.are_blocks();
-    key.are_blocks();
-    let at = places_of(x);
-    let by_1 = looked_up(at, INV_1_FIRST, INV_1_SECOND);
-    let by_4 = looked_up(at, INV_4_FIRST, INV_4_SECOND);
-    let by_9 = looked_up(at, INV_9_FIRST, INV_9_SECOND);
-    let by_15 = looked_up(at, INV_15_FIRST, INV_15_SECOND);
-    let (by_14, by_11, by_13) = coefficients(by_1, by_4, by_9, by_15);
-    let first = by_14.permuted([0, 13, 10, 7, 4, 1, 14, 11, 8, 5, 2, 15, 12, 9, 6, 3]);
-    let second = by_11.permuted([13, 10, 7, 0, 1, 14, 11, 4, 5, 2, 15, 8, 9, 6, 3, 12]);
-    let third = by_13.permuted([10, 7, 0, 13, 14, 11, 4, 1, 2, 15, 8, 5, 6, 3, 12, 9]);
-    let fourth = by_9.permuted([7, 0, 13, 10, 11, 4, 1, 14, 15, 8, 5, 2, 3, 12, 9, 6]);
-    let with_key = first.sum(key);
-    let last_two = third.sum(fourth);
-    let most = with_key.sum(last_two);
-    most.sum(second)
-}
-
-/// Runs the last round of EqInvCipher, and returns the blocks (FIPS 197, 5.3.5).
-#[tactic(auto, unfolding(crate::specs::Lookup::is_index))]
-#[inline(always)]
-pub fn decrypt_last<L: Lanes>(x: L, key: L) -> L
-    ensures { (i : ℕ) → L.block result i ≡ fips.add_round_key
-        (fips.inv_shift_rows (fips.inv_sub_bytes (map inv_untower (L.block x i)))) (L.block key i) }
-{
-    x.are_blocks();
-    key.are_blocks();
-    let one = looked_up(places_of(x), INV_SBOX_FIRST, INV_SBOX_SECOND);
-    one.permuted([0, 13, 10, 7, 4, 1, 14, 11, 8, 5, 2, 15, 12, 9, 6, 3])
-        .sum(key)
 }
 
 /// Returns a round key of Cipher between the first and the last as it is stored.

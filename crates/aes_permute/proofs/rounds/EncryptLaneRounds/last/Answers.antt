@@ -1,9 +1,9 @@
--- What is left to show of `rounds::encrypt_last`.
+-- What is left to show of `rounds::EncryptLaneRounds::last`.
 use Rattle.std.proofs.Common.{refl, ◌∙◌}
 use Rattle.aes_permute.specs.declared.tables.TheConstants.{SBOX_FIRST, SBOX_SECOND}
 use Rattle.aes_permute.proofs.Lookups.{summed}
 use Rattle.aes_permute.proofs.RoundLanes.{through_lanes, last_is}
-use Rattle.aes_permute.proofs.rounds.encrypt_last.Goals as goal
+use Rattle.aes_permute.proofs.rounds.EncryptLaneRounds.last.Goals as goal
 
 pub returns : goal.returns
 returns g c i =

@@ -1,4 +1,4 @@
--- What is left to show of `rounds::decrypt_round`.
+-- What is left to show of `rounds::DecryptLaneRounds::round`.
 use Rattle.std.proofs.Common.{refl, ap, map, ◌∙◌}
 use Rattle.aes_permute.specs.Stored.{inv_untower}
 use Rattle.aes_permute.specs.declared.tables.TheConstants.{INV_1_FIRST, INV_1_SECOND, INV_4_FIRST, INV_4_SECOND}
@@ -6,7 +6,7 @@ use Rattle.aes_permute.specs.declared.tables.TheConstants.{INV_9_FIRST, INV_9_SE
 use Rattle.aes_permute.proofs.Lookups.{summed}
 use Rattle.aes_permute.proofs.RoundLanes.{through_lanes}
 use Rattle.aes_permute.proofs.InverseLanes.{round_is}
-use Rattle.aes_permute.proofs.rounds.decrypt_round.Goals as goal
+use Rattle.aes_permute.proofs.rounds.DecryptLaneRounds.round.Goals as goal
 
 pub returns : goal.returns
 returns g c i =

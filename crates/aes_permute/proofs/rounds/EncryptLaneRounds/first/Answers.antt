@@ -1,10 +1,10 @@
--- What is left to show of `rounds::encrypt_first`.
+-- What is left to show of `rounds::EncryptLaneRounds::first`.
 use Rattle.std.proofs.Common.{ap, map, ◌∙◌}
 use Rattle.aes_permute.specs.Lookup.{by_nibbles}
 use Rattle.aes_permute.specs.Stored.{untower}
 use Rattle.aes_permute.specs.declared.tables.TheConstants.{TOWER_LOW, TOWER_HIGH}
 use Rattle.aes_permute.proofs.RoundLanes.{first_is}
-use Rattle.aes_permute.proofs.rounds.encrypt_first.Goals as goal
+use Rattle.aes_permute.proofs.rounds.EncryptLaneRounds.first.Goals as goal
 
 pub returns : goal.returns
 returns g c i =

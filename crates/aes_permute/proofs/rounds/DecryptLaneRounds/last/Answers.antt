@@ -1,10 +1,10 @@
--- What is left to show of `rounds::decrypt_last`.
+-- What is left to show of `rounds::DecryptLaneRounds::last`.
 use Rattle.std.proofs.Common.{refl, ◌∙◌}
 use Rattle.aes_permute.specs.declared.tables.TheConstants.{INV_SBOX_FIRST, INV_SBOX_SECOND}
 use Rattle.aes_permute.proofs.Lookups.{summed}
 use Rattle.aes_permute.proofs.RoundLanes.{through_lanes}
 use Rattle.aes_permute.proofs.InverseLanes.{last_is}
-use Rattle.aes_permute.proofs.rounds.decrypt_last.Goals as goal
+use Rattle.aes_permute.proofs.rounds.DecryptLaneRounds.last.Goals as goal
 
 pub returns : goal.returns
 returns g c i =

@@ -1,10 +1,10 @@
--- What is left to show of `rounds::decrypt_first`.
+-- What is left to show of `rounds::DecryptLaneRounds::first`.
 use Rattle.std.proofs.Common.{ap, map, ◌∙◌}
 use Rattle.aes_permute.specs.Lookup.{by_nibbles}
 use Rattle.aes_permute.specs.Stored.{inv_untower}
 use Rattle.aes_permute.specs.declared.tables.TheConstants.{INV_TOWER_LOW, INV_TOWER_HIGH}
 use Rattle.aes_permute.proofs.InverseLanes.{first_is}
-use Rattle.aes_permute.proofs.rounds.decrypt_first.Goals as goal
+use Rattle.aes_permute.proofs.rounds.DecryptLaneRounds.first.Goals as goal
 
 pub returns : goal.returns
 returns g c i =

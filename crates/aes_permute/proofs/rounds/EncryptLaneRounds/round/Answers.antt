@@ -1,10 +1,10 @@
--- What is left to show of `rounds::encrypt_round`.
+-- What is left to show of `rounds::EncryptLaneRounds::round`.
 use Rattle.std.proofs.Common.{refl, ap, map, ◌∙◌}
 use Rattle.aes_permute.specs.Stored.{untower}
 use Rattle.aes_permute.specs.declared.tables.TheConstants.{ONE_FIRST, ONE_SECOND, TWO_FIRST, TWO_SECOND}
 use Rattle.aes_permute.proofs.Lookups.{summed}
 use Rattle.aes_permute.proofs.RoundLanes.{through_lanes, round_is}
-use Rattle.aes_permute.proofs.rounds.encrypt_round.Goals as goal
+use Rattle.aes_permute.proofs.rounds.EncryptLaneRounds.round.Goals as goal
 
 pub returns : goal.returns
 returns g c i =
