@@ -98,9 +98,8 @@ impl<K: KeySize, W: Width> Encrypts for Encrypting<K, W> {
     }
 
     fn encrypt_with_backend_for<F: BlockCipherEncClosure>(&self, blocks: usize, f: &mut F) {
-        Lent::<W>::new(keys_in_room(self.room.value(), K::SIZE)).encrypt_with_backend_for(
-            blocks, f,
-        );
+        let keys = keys_in_room(self.room.value(), K::SIZE);
+        Lent::<W>::new(keys).encrypt_with_backend_for(blocks, f);
     }
 }
 
@@ -148,11 +147,8 @@ impl<K: KeySize, W> StoredKeys for BothLists<K, W> {
     #[inline(always)]
     fn expand_key(&mut self, new_key: &[u8]) {
         self.encrypting.expand_key(new_key);
-        invert_in_room(
-            self.inverse.value_mut(),
-            self.encrypting.room.value(),
-            K::SIZE,
-        );
+        let room = self.encrypting.room.value();
+        invert_in_room(self.inverse.value_mut(), room, K::SIZE);
     }
 
     #[inline(always)]
@@ -222,11 +218,8 @@ impl<K: KeySize, W: Width> Processes<Decrypt> for BothLists<K, W> {
 
     fn process_slice(&self, blocks: &mut [Block]) {
         let keys = keys_in_room(self.encrypting.room.value(), K::SIZE);
-        process_few_or_many::<Decrypt, W>(
-            keys,
-            keys_in_room(self.inverse.value(), K::SIZE),
-            blocks,
-        );
+        let used = keys_in_room(self.inverse.value(), K::SIZE);
+        process_few_or_many::<Decrypt, W>(keys, used, blocks);
     }
 }
 

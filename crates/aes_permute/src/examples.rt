@@ -7,8 +7,7 @@
 ghost use Rattle.std.specs.Prelude.{◌≡◌, ◌∷◌, [], map, replicate};
 ghost use Rattle.aes_planes.specs.BigEndian.{bytes};
 ghost use Rattle.aes_planes.specs.Fips197 as fips;
-ghost use Rattle.aes_permute.specs.Keys.{encrypting, decrypting, lane_key_size};
-ghost use Rattle.aes_permute.specs.Keys.{AreInverse, IsCipherSchedule};
+ghost use Rattle.aes_permute.specs.Keys.{encrypting, decrypting, lane_key_size, AreInverse, IsCipherSchedule};
 ghost use Rattle.aes_permute.specs.Lookup.{looked};
 ghost use Rattle.aes_permute.specs.Stored.{untower, inv_untower, key_untower};
 
