@@ -6,8 +6,6 @@ ghost use Rattle.hex.specs.Hex.{encode_lower};
 use crate::replies::ReplyBuffer;
 use aes::Block;
 
-const SPACE: u8 = b' ';
-
 // Writes the digits of a block into `out`, from `start` on, and returns where they end.
 pub(crate) fn write_block(block: &Block, start: usize, out: &mut ReplyBuffer) -> usize
     requires { start + 32 ≤ 2048 }
@@ -43,7 +41,7 @@ pub(crate) fn write_spaced(blocks: &[Block], out: &mut ReplyBuffer) -> usize
     let mut end = 0;
     for block in blocks {
         let space = write_block(block, end, out);
-        out[space] = SPACE;
+        out[space] = b' ';
         end = space + 1;
     }
     // No space follows the last block.

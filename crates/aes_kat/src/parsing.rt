@@ -8,8 +8,6 @@ use crate::command_names::Command;
 use crate::faults::Fault;
 use crate::split::split_once;
 
-const SPACE: u8 = b' ';
-
 // A command and the words after it. The second is empty if there is none.
 #[derive(Clone, Copy)]
 pub(crate) struct Request<'a> {
@@ -23,7 +21,7 @@ pub(crate) struct Request<'a> {
 fn first_word(text: &[u8]) -> (&[u8], Option<&[u8]>)
     ensures { words_of text.now ≡ result.0.now ∷ option_map_or (λ rest. words_of rest.now) result.1 [] }
 {
-    match split_once(text, SPACE) {
+    match split_once(text, b' ') {
         Some((word, rest)) => (word, Some(rest)),
         None => (text, None),
     }
