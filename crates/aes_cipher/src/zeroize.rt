@@ -8,6 +8,7 @@ mod must_wipe;
 use aes_planes::soft::word::Word;
 pub use elements::{Element, zeroize_elements};
 pub use must_wipe::MustWipe;
+use std::convert::AsSlice;
 use std::marker::Model;
 use std::sync::atomic::{AtomicU64, Ordering};
 
@@ -159,6 +160,15 @@ impl<V: Zeroize + Copy> Wiped<V> {
         ensures { result ≡ self.now }
     {
         Wiped::new(*self.value())
+    }
+}
+
+impl<T, V: Zeroize + AsSlice<T>> AsSlice<T> for Wiped<V> {
+    ghost items = { λ wiped. V.items wiped };
+
+    #[inline(always)]
+    fn as_slice(&self) -> &[T] {
+        V::as_slice(self.value())
     }
 }
 

@@ -7,7 +7,6 @@ ghost use Rattle.aes_soft.specs.Stored.{key_of_planes, IsFullSchedule};
 
 mod decrypt;
 mod encrypt;
-mod widened;
 
 use super::slices::{process_batch_under, process_block_under};
 use crate::soft::blocks::BatchWord;
@@ -22,8 +21,8 @@ use aes_planes::soft::sbox::Layers;
 use aes_planes::soft::word::Block;
 pub use decrypt::decrypt_with_backend;
 pub use encrypt::encrypt_with_backend;
+use std::convert::AsSlice;
 use std::marker::Model;
-use widened::{HoldsWidened, LentWidened};
 
 /// The backend of a key of 16 bytes.
 pub type Aes128Backend<'a> = Backend<'a, Wiped<[BatchWord; 88]>>;
@@ -36,12 +35,12 @@ pub type Aes256Backend<'a> = Backend<'a, Wiped<[BatchWord; 120]>>;
 
 /// Encrypts and decrypts under round keys that it borrows. It holds the same on the words of a batch, or borrows them.
 /// Contracts see a value as its key.
-pub struct Backend<'a, H: HoldsWidened> {
+pub struct Backend<'a, H: AsSlice<BatchWord> + Drop> {
     round_keys: &'a [u16],
     widened: H,
 }
 
-impl<H: HoldsWidened> Drop for Backend<'_, H> {
+impl<H: AsSlice<BatchWord> + Drop> Drop for Backend<'_, H> {
     #[inline(always)]
     fn drop(self) {
         let Backend {
@@ -51,14 +50,14 @@ impl<H: HoldsWidened> Drop for Backend<'_, H> {
     }
 }
 
-impl<'a, H: HoldsWidened> Model for Backend<'a, H> {
+impl<'a, H: AsSlice<BatchWord> + Drop> Model for Backend<'a, H> {
     ghost Value = { List ℕ };
 
     ghost view = { λ backend. key_of_planes (word_bits 16) 1 backend.round_keys.now };
 
     ghost invariant = { λ backend. IsFullSchedule (word_bits 16) 1 backend.round_keys.now
-        × IsFullSchedule (word_bits 128) 8 (H.words backend.widened)
-        × (key_of_planes (word_bits 128) 8 (H.words backend.widened)
+        × IsFullSchedule (word_bits 128) 8 (H.items backend.widened)
+        × (key_of_planes (word_bits 128) 8 (H.items backend.widened)
         ≡ key_of_planes (word_bits 16) 1 backend.round_keys.now) };
 }
 
@@ -88,10 +87,10 @@ impl<'a, const N: usize> Backend<'a, Wiped<[BatchWord; N]>> {
     }
 }
 
-impl<'a> Backend<'a, LentWidened<'a>> {
-    // The backend of stored round keys and of the same, widened, both lent.
+impl<'a> Backend<'a, &'a [BatchWord]> {
+    // The backend of stored round keys and of the same, widened, both lent: those stay with their owner, who wipes them.
     #[inline(always)]
-    fn lent(round_keys: &'a [u16], widened: &'a [BatchWord]) -> Backend<'a, LentWidened<'a>>
+    fn lent(round_keys: &'a [u16], widened: &'a [BatchWord]) -> Backend<'a, &'a [BatchWord]>
         requires is_schedule { IsFullSchedule (word_bits 16) 1 round_keys.now }
         requires is_widened { IsFullSchedule (word_bits 128) 8 widened.now }
         requires same_key { key_of_planes (word_bits 128) 8 widened.now ≡ key_of_planes (word_bits 16) 1 round_keys.now }
@@ -99,12 +98,12 @@ impl<'a> Backend<'a, LentWidened<'a>> {
     {
         Backend {
             round_keys,
-            widened: LentWidened { keys: widened },
+            widened,
         }
     }
 }
 
-impl<H: HoldsWidened> RoundKeysUser for Backend<'_, H> {
+impl<H: AsSlice<BatchWord> + Drop> RoundKeysUser for Backend<'_, H> {
     ghost round_keys = { fips.key_expansion };
 
     fn has_round_keys(&self) {
@@ -114,11 +113,11 @@ impl<H: HoldsWidened> RoundKeysUser for Backend<'_, H> {
     ghost two_round_keys = { two_keys };
 }
 
-impl<H: HoldsWidened> BatchSizeUser for Backend<'_, H> {
+impl<H: AsSlice<BatchWord> + Drop> BatchSizeUser for Backend<'_, H> {
     type Par = BatchOfEight;
 }
 
-impl<H: HoldsWidened> BlockCipherEncBackend for Backend<'_, H> {
+impl<H: AsSlice<BatchWord> + Drop> BlockCipherEncBackend for Backend<'_, H> {
     #[inline(always)]
     fn encrypt_block(&self, block: &mut Block) {
         process_block_under::<Encrypt>(self.round_keys, block);
@@ -126,11 +125,12 @@ impl<H: HoldsWidened> BlockCipherEncBackend for Backend<'_, H> {
 
     #[inline(always)]
     fn encrypt_par_blocks(&self, blocks: &mut [Block]) {
-        process_batch_under::<BatchWord, Encrypt>(self.widened.lend(), blocks, &mut Layers::new());
+        let words = self.widened.as_slice();
+        process_batch_under::<BatchWord, Encrypt>(words, blocks, &mut Layers::new());
     }
 }
 
-impl<H: HoldsWidened> BlockCipherDecBackend for Backend<'_, H> {
+impl<H: AsSlice<BatchWord> + Drop> BlockCipherDecBackend for Backend<'_, H> {
     #[inline(always)]
     fn decrypt_block(&self, block: &mut Block) {
         process_block_under::<Decrypt>(self.round_keys, block);
@@ -138,6 +138,7 @@ impl<H: HoldsWidened> BlockCipherDecBackend for Backend<'_, H> {
 
     #[inline(always)]
     fn decrypt_par_blocks(&self, blocks: &mut [Block]) {
-        process_batch_under::<BatchWord, Decrypt>(self.widened.lend(), blocks, &mut Layers::new());
+        let words = self.widened.as_slice();
+        process_batch_under::<BatchWord, Decrypt>(words, blocks, &mut Layers::new());
     }
 }
