@@ -2,14 +2,14 @@
 #![tactic(auto)]
 
 mod add_blocks;
-mod add_keystream;
+mod add_in_batches;
 mod errors;
 pub mod examples;
 mod keystream;
 mod laws;
 mod mode;
 
-pub use add_keystream::add_keystream;
+pub use add_in_batches::add_keystream;
 pub use errors::KeystreamEnd;
 pub use laws::{stream_cut, stream_twice};
 pub use mode::Ctr128BE;

@@ -3,7 +3,7 @@
 ghost use Rattle.std.specs.Prelude.{◌≡◌, ◌↔◌, ◌+◌, ◌-◌, ◌^◌, ◌<◌, length, IsErr, OnOk, OnErr};
 ghost use Rattle.aes_ctr.specs.CounterMode.{keystream_byte, plus_stream};
 
-use crate::add_keystream::add_keystream;
+use crate::add_in_batches::add_keystream;
 use crate::errors::KeystreamEnd;
 use aes_cipher::cipher::{Block, BlockCipherEncrypt};
 use std::marker::Model;

@@ -1,8 +1,8 @@
--- What holds in the loops of `add_keystream::add_by_backend`.
+-- What holds in the loops of `add_in_batches::add_by_backend`.
 use Rattle.std.proofs.Common.{◌≡◌, ◌≤◌, ◌<◌, ◌-◌, ◌+◌, ◌%◌, ◌^◌, length}
 use Rattle.aes_ctr.specs.CounterMode.{keystream_byte, plus_stream}
 use Rattle.aes_ctr.specs.Private.{added_from}
-use Rattle.aes_ctr.proofs.add_keystream.add_by_backend.Given as goal
+use Rattle.aes_ctr.proofs.add_in_batches.add_by_backend.Given as goal
 
 abbrev pub invariant-whole : goal.invariant-whole
 invariant-whole g l =

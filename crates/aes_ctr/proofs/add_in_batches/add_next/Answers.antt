@@ -1,10 +1,10 @@
--- What is left to show of `add_keystream::add_next`.
+-- What is left to show of `add_in_batches::add_next`.
 use Rattle.std.proofs.Common.{◌≡◌, ℕ, ◌<◌, ◌∙◌, ◌+◌, ◌%◌, ◌^◌, ap, arith}
 use Rattle.aes_ctr.specs.CounterMode.{keystream_byte}
 use Rattle.aes_ctr.specs.Private.{byte_of_blocks}
 use Rattle.aes_ctr.proofs.Places.{byte_of_keystream}
 use Rattle.aes_ctr.proofs.Runs.{added_run}
-use Rattle.aes_ctr.proofs.add_keystream.add_next.Goals as goal
+use Rattle.aes_ctr.proofs.add_in_batches.add_next.Goals as goal
 
 pub returns-clause-added : goal.returns-clause-added
 returns-clause-added g c = λ ends.

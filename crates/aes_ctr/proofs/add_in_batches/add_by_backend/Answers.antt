@@ -1,8 +1,8 @@
--- What is left to show of `add_keystream::add_by_backend`.
+-- What is left to show of `add_in_batches::add_by_backend`.
 use Rattle.std.proofs.Common.{◌≡◌, ◌∙◌, ◌*◌, ◌/◌, ◌%◌, ◌+◌, ◌^◌, ap, arith}
 use Rattle.aes_ctr.specs.CounterMode.{keystream_byte}
 use Rattle.aes_ctr.proofs.Runs.{added_run, added_all}
-use Rattle.aes_ctr.proofs.add_keystream.add_by_backend.Goals as goal
+use Rattle.aes_ctr.proofs.add_in_batches.add_by_backend.Goals as goal
 
 pub whole-preserved : goal.whole-preserved
 whole-preserved g c =
