@@ -1,8 +1,9 @@
 /* What the searches after calls of both C libraries share. Each call runs under keys of its own at each of its lengths, and the
  * stack and the vector registers are searched for pieces of several kinds. One line a call and a size of keys, with tabs: the
  * most pieces of each kind that the call left on the stack at any length, in registers, how deep the stack was, and the lengths
- * at which it left something secret. The file that includes this has said how many kinds there are (KINDS), that the first
- * SECRETS of them are secret, that the first HELD count in registers, and of which kind the least under all keys counts (LEAST). */
+ * at which it left something secret. The file that includes this has said how the library's names begin (LIBRARY), how many
+ * kinds there are (KINDS), that the first is the key (KEY), that the first SECRETS of them are secret, that the first HELD count in
+ * registers, and of which kind the least under all keys counts (LEAST). */
 #include "left.h"
 
 enum { KEYS = 3, PIECES = 256, NEEDLES = 8192, EVERY = 41 };
@@ -16,6 +17,32 @@ static size_t length_of(const struct call *call, size_t at);
 static uint8_t key[32];
 static size_t size;
 static int failed;
+
+/* The struct that calls get, which isn't on the stack. Either library's status is 0 if a call did its work. */
+static struct LIBRARY() kept;
+static void done(enum LIBRARY(_status) status) { failed |= status != 0; }
+static void set_key(void) { done(LIBRARY(_set_key)(&kept, key, size)); }
+/* The control: a struct on the stack that nobody wipes. */
+__attribute__((noinline)) static void not_wiped(void) {
+    struct LIBRARY() it;
+    done(LIBRARY(_set_key)(&it, key, size));
+    use(&it);
+}
+/* Planted: one of which half is wiped. */
+__attribute__((noinline)) static void planted_half_wiped(void) {
+    struct LIBRARY() it;
+    done(LIBRARY(_set_key)(&it, key, size));
+    memset(&it, 0, sizeof it / 2);
+    use(&it);
+}
+/* A struct that is wiped where it stands. */
+__attribute__((noinline)) static void wiped(void) {
+    struct LIBRARY() it;
+    done(LIBRARY(_set_key)(&it, key, size));
+    use(&it);
+    LIBRARY(_wipe)(&it);
+    use(&it);
+}
 
 /* Makes a call in pieces, on n things of so many bytes from `at` on: the first few, half of what is left, and the rest. */
 #define IN_PIECES(call, from, all, unit, few) do { \
@@ -75,6 +102,8 @@ static void at_length(const struct call *call, size_t at, int counts[KINDS], int
             key[i] = (uint8_t)(0x1d * i + 0x35 + 0x47 * (size_t)number + i * i * (size_t)number);
         prepare(call, at);
         filled = 0;
+        for (size_t i = 0; i + 8 <= size; i++)
+            add(key + i, KEY, 0);
         collect(call);
         qsort(needles, filled, sizeof *needles, below);
         run(call->it, image);

@@ -2,6 +2,7 @@
  * knows. A line for each, with tabs: the call, the bits of the key, the count, the position, and whether the call did
  * its work. Calls with one name, size, count and position must run the same instructions on the same addresses. */
 #include "fotsgure_aes.h"
+#include "../calls.h"
 #include "marks.h"
 
 #include <stdio.h>
@@ -9,10 +10,8 @@
 
 enum { MOST = 2048, RUNS = 12 };
 static struct fotsgure_aes kept;
-static struct fotsgure_aes_ctr ctr;
-static struct fotsgure_aes_cbc cbc;
-static uint8_t key[32], data[MOST], other[MOST], before[MOST], wrapped[MOST];
-static size_t size, count, answer;
+static uint8_t key[32], data[MOST], other[MOST], before[MOST], wrapped[MOST], padded[MOST];
+static size_t size, answer;
 
 /* Bytes of a run: all 0, all 1, and then others each time. */
 static uint64_t state;
@@ -23,45 +22,23 @@ static void fill(uint8_t *at, size_t length, int run) {
     }
 }
 
-/* Calls on nothing, on blocks, and on bytes from a position on; what they must answer; and the call. Keys of two semiblocks or more
- * are wrapped: one block or more. With padding, three bytes of it. */
-enum unit { ONCE, BLOCKS, BYTES };
-enum { DONE = FOTSGURE_AES_DONE, REFUSED = FOTSGURE_AES_REFUSED };
-static size_t key_bytes;
-#define CALLS(IT) \
-    IT(version, "version", ONCE, 0, fotsgure_aes_version() != FOTSGURE_AES_VERSION) \
-    IT(key_length, "key_length", ONCE, 0, fotsgure_aes_key_length(&kept) != size) \
-    IT(wipe, "wipe", ONCE, 0, (fotsgure_aes_wipe(&kept), 0)) \
-    IT(set_key, "set_key", ONCE, DONE, fotsgure_aes_set_key(&kept, key, size)) \
-    IT(set_key_refused, "set_key, refused", ONCE, FOTSGURE_AES_KEY_LENGTH, fotsgure_aes_set_key(&kept, key, 17)) \
-    IT(encrypt, "encrypt_blocks", BLOCKS, DONE, fotsgure_aes_encrypt_blocks(&kept, data, count)) \
-    IT(decrypt, "decrypt_blocks", BLOCKS, DONE, fotsgure_aes_decrypt_blocks(&kept, data, count)) \
-    IT(encrypt_to, "encrypt_blocks_to", BLOCKS, DONE, fotsgure_aes_encrypt_blocks_to(&kept, other, count, data, count)) \
-    IT(decrypt_to, "decrypt_blocks_to", BLOCKS, DONE, fotsgure_aes_decrypt_blocks_to(&kept, other, count, data, count)) \
-    IT(unequal, "encrypt_blocks_to, unequal", BLOCKS, FOTSGURE_AES_UNEQUAL_COUNTS, \
+/* What a run has of other bytes is no wrapped key. */
+#define NOT_PADDED other
+/* The calls that are made here alone: those on no data, and those that are refused or need no key. */
+#define MORE_CALLS(IT) \
+    IT(version, NOTHING, 0, fotsgure_aes_version() != FOTSGURE_AES_VERSION) \
+    IT(key_length, NOTHING, 0, fotsgure_aes_key_length(&kept) != size) \
+    IT(wipe, NOTHING, 0, (fotsgure_aes_wipe(&kept), 0)) \
+    IT(set_key, NOTHING, DONE, fotsgure_aes_set_key(&kept, key, size)) \
+    IT(set_key_refused, NOTHING, FOTSGURE_AES_KEY_LENGTH, fotsgure_aes_set_key(&kept, key, 17)) \
+    IT(encrypt_to_unequal, OF_BLOCKS, FOTSGURE_AES_UNEQUAL_COUNTS, \
         fotsgure_aes_encrypt_blocks_to(&kept, other, count, data, count + 1)) \
-    IT(encrypt_with, "encrypt_blocks_with", BLOCKS, DONE, fotsgure_aes_encrypt_blocks_with(key, size, data, count)) \
-    IT(decrypt_with, "decrypt_blocks_with", BLOCKS, DONE, fotsgure_aes_decrypt_blocks_with(key, size, data, count)) \
-    IT(encrypt_no_key, "encrypt_blocks, no key", BLOCKS, FOTSGURE_AES_NO_KEY, fotsgure_aes_encrypt_blocks(&kept, data, count)) \
-    IT(chain, "cbc_encrypt", BLOCKS, DONE, fotsgure_aes_cbc_encrypt(&kept, &cbc, data, count)) \
-    IT(unchain, "cbc_decrypt", BLOCKS, DONE, fotsgure_aes_cbc_decrypt(&kept, &cbc, data, count)) \
-    IT(wrap, "wrap", BLOCKS, DONE, count ? fotsgure_aes_wrap(&kept, other, 2 * count, data, 2 * count + 1) : DONE) \
-    IT(unwrap, "unwrap", BLOCKS, DONE, count ? fotsgure_aes_unwrap(&kept, wrapped, 2 * count + 1, data, 2 * count) : DONE) \
-    IT(unwrap_refused, "unwrap, refused", BLOCKS, REFUSED, \
-        count ? fotsgure_aes_unwrap(&kept, other, 2 * count + 1, data, 2 * count) : REFUSED) \
-    IT(wrap_padded, "wrap_padded", BLOCKS, DONE, \
-        count ? fotsgure_aes_wrap_padded(&kept, other, 16 * count - 3, data, 2 * count + 1) : DONE) \
-    IT(unwrap_padded, "unwrap_padded", BLOCKS, DONE, \
-        count ? fotsgure_aes_unwrap_padded(&kept, wrapped, 2 * count + 1, data, 2 * count, &key_bytes) : DONE) \
-    IT(unwrap_padded_refused, "unwrap_padded, refused", BLOCKS, REFUSED, \
-        count ? fotsgure_aes_unwrap_padded(&kept, other, 2 * count + 1, data, 2 * count, &key_bytes) : REFUSED) \
-    IT(stream, "add_keystream", BYTES, DONE, fotsgure_aes_add_keystream(&kept, &ctr, data, count)) \
-    IT(stream_to, "add_keystream_to", BYTES, DONE, fotsgure_aes_add_keystream_to(&kept, &ctr, other, count, data, count)) \
-    IT(stream_with, "add_keystream_with", BYTES, DONE, fotsgure_aes_add_keystream_with(key, size, &ctr, data, count)) \
-    IT(stream_no_key, "add_keystream, no key", BYTES, FOTSGURE_AES_NO_KEY, fotsgure_aes_add_keystream(&kept, &ctr, data, count))
-#define DEFINED(id, name, unit, wanted, call) static void id(void) { answer = (size_t)(call); }
-#define LISTED(id, name, unit, wanted, call) {name, id, unit, wanted},
+    IT(encrypt_no_key, OF_BLOCKS, FOTSGURE_AES_NO_KEY, fotsgure_aes_encrypt_blocks(&kept, data, count)) \
+    IT(add_keystream_no_key, OF_BYTES, FOTSGURE_AES_NO_KEY, fotsgure_aes_add_keystream(&kept, &ctr, data, count))
+#define DEFINED(name, takes, wanted, call) static void name(void) { answer = (size_t)(call); }
+#define LISTED(name, takes, wanted, call) {#name, name, takes, wanted},
 CALLS(DEFINED)
+MORE_CALLS(DEFINED)
 
 /* Planted: each must be found, the first two by the instructions and the last by the addresses alone. */
 static volatile uint8_t table[256], sink;
@@ -75,9 +52,9 @@ static void planted_early_exit(void) {
 }
 static void planted_look_up(void) { sink = table[data[5]]; }
 
-static const struct call { const char *name; void (*it)(void); enum unit unit; size_t wanted; } calls[] = {
-    {"planted_branch", planted_branch, ONCE, 0}, {"planted_early_exit", planted_early_exit, ONCE, 0},
-    {"planted_look_up", planted_look_up, ONCE, 0}, CALLS(LISTED)
+static const struct call { const char *name; void (*it)(void); enum takes takes; size_t wanted; } calls[] = {
+    {"planted_branch", planted_branch, NOTHING, 0}, {"planted_early_exit", planted_early_exit, NOTHING, 0},
+    {"planted_look_up", planted_look_up, NOTHING, 0}, MORE_CALLS(LISTED) CALLS(LISTED)
 };
 static const size_t block_counts[] = {
     0, 1, 2, 3, 4, 5, 6, 7, 8, 9, 10, 11, 12, 13, 14, 15, 16, 17, 23, 24, 40, 64, 127
@@ -98,12 +75,11 @@ static void once(const struct call *call, uint64_t position, int run) {
     ctr.position = position;
     memcpy(before, data, sizeof data);
     (void)!fotsgure_aes_set_key(&kept, key, size);
-    if (call->it == encrypt_no_key || call->it == stream_no_key)
+    if (call->it == encrypt_no_key || call->it == add_keystream_no_key)
         fotsgure_aes_wipe(&kept);
     if ((call->it == unwrap || call->it == unwrap_padded) && count) {
         (void)!fotsgure_aes_wrap(&kept, other, 2 * count, wrapped, 2 * count + 1);
-        if (call->it == unwrap_padded)
-            (void)!fotsgure_aes_wrap_padded(&kept, other, 16 * count - 3, wrapped, 2 * count + 1);
+        (void)!fotsgure_aes_wrap_padded(&kept, other, 16 * count - 3, padded, 2 * count + 1);
         /* What is unwrapped is another key than stands there. */
         data[0] = before[0] = (uint8_t)~other[0];
     }
@@ -111,7 +87,7 @@ static void once(const struct call *call, uint64_t position, int run) {
     BEGIN();
     call->it();
     END();
-    int works = call->wanted == 0 && call->unit != ONCE && count >= (call->unit == BYTES ? 16 : 1);
+    int works = call->wanted == 0 && call->takes != NOTHING && count >= (call->takes == OF_BYTES ? 16 : 1);
     int moved = memcmp(data, before, sizeof data) != 0;
     printf("%s\t%zu\t%zu\t%llu\t%s\n", call->name, 8 * size, count, (unsigned long long)position,
         answer == call->wanted && moved >= works ? "done" : "NOT DONE");
@@ -120,10 +96,10 @@ static void once(const struct call *call, uint64_t position, int run) {
 int main(void) {
     for (size = 16; size <= 32; size += 8)
         for (const struct call *call = calls; call < calls + OF(calls); call++) {
-            const size_t *counts = call->unit == BYTES ? byte_counts : block_counts;
-            size_t all = call->unit == ONCE ? 1 : call->unit == BYTES ? OF(byte_counts) : OF(block_counts);
+            const size_t *counts = call->takes == OF_BYTES ? byte_counts : block_counts;
+            size_t all = call->takes == NOTHING ? 1 : call->takes == OF_BYTES ? OF(byte_counts) : OF(block_counts);
             for (size_t i = 0; i < all; i++)
-                for (size_t p = 0; p < (call->unit == BYTES ? OF(positions) : 1); p++)
+                for (size_t p = 0; p < (call->takes == OF_BYTES ? OF(positions) : 1); p++)
                     for (int run = 0; run < RUNS; run++) {
                         count = counts[i];
                         once(call, positions[p], run);

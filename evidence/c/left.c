@@ -5,35 +5,18 @@
  * counter mode on lengths in between. Of widened words the least under three keys counts: one is sixteen bits of a round
  * key, and where a batch is filled up with copies of a block, planes of the text look like one by chance. */
 enum { KEY, ROUND_KEYS, EXPANDED, WIDENED, ZEROS, UNWRAPPED, KEYSTREAM, KINDS, SECRETS = UNWRAPPED, HELD = UNWRAPPED, LEAST = WIDENED };
+#define LIBRARY(name) fotsgure_aes##name
 #include "../search.h"
+#include "../calls.h"
 #include "../expected.h"
 
 enum { MOST = 128, BYTES = BLOCK * MOST };
 
-static struct fotsgure_aes kept;
-static struct fotsgure_aes_ctr ctr;
-static struct fotsgure_aes_cbc cbc;
 static uint16_t planes[MOST_WORDS];
 static uint8_t data[BYTES + 8], other[BYTES + 8], wrapped[BYTES + 8], padded[BYTES + 8], keystream[BYTES], zeros[2][BLOCK];
 static uint8_t wide[MOST_WORDS][BLOCK];
-static size_t count;
 
-static void done(enum fotsgure_aes_status status) { failed |= status != FOTSGURE_AES_DONE; }
-
-/* The control: a struct on the stack that nobody wipes. */
-__attribute__((noinline)) static void not_wiped(void) {
-    struct fotsgure_aes aes;
-    done(fotsgure_aes_set_key(&aes, key, size));
-    use(&aes);
-}
-/* Planted: a wipe of half the round keys, a copy that is wiped in place of the struct, and what a batch and counter
- * mode would leave if they left it. */
-__attribute__((noinline)) static void planted_half_wiped(void) {
-    struct fotsgure_aes aes;
-    done(fotsgure_aes_set_key(&aes, key, size));
-    memset(aes.round_keys, 0, sizeof aes.round_keys / 2);
-    use(&aes);
-}
+/* Planted: a copy that is wiped in place of the struct, and what a batch and counter mode would leave if they left it. */
 __attribute__((noinline)) static void planted_copy_wiped(void) {
     struct fotsgure_aes aes, copy;
     done(fotsgure_aes_set_key(&aes, key, size));
@@ -57,58 +40,12 @@ __attribute__((noinline)) static void planted_widened(void) {
 PLANTED(keystream, keystream, 2 * BLOCK)
 PLANTED(zeros, zeros, 2 * BLOCK)
 PLANTED(key, key + 3, 8)
-/* A struct that is wiped where it stands. */
-__attribute__((noinline)) static void wiped(void) {
-    struct fotsgure_aes aes;
-    done(fotsgure_aes_set_key(&aes, key, size));
-    use(&aes);
-    fotsgure_aes_wipe(&aes);
-    use(&aes);
-}
 
-static void set_key(void) { done(fotsgure_aes_set_key(&kept, key, size)); }
-static void encrypt(void) { done(fotsgure_aes_encrypt_blocks(&kept, data, count)); }
-static void decrypt(void) { done(fotsgure_aes_decrypt_blocks(&kept, data, count)); }
-static void encrypt_to(void) { done(fotsgure_aes_encrypt_blocks_to(&kept, data, count, other, count)); }
-static void decrypt_to(void) { done(fotsgure_aes_decrypt_blocks_to(&kept, data, count, other, count)); }
-static void encrypt_with(void) { done(fotsgure_aes_encrypt_blocks_with(key, size, data, count)); }
-static void decrypt_with(void) { done(fotsgure_aes_decrypt_blocks_with(key, size, data, count)); }
-static void stream(void) { done(fotsgure_aes_add_keystream(&kept, &ctr, data, count)); }
-static void stream_to(void) { done(fotsgure_aes_add_keystream_to(&kept, &ctr, data, count, other, count)); }
-static void stream_with(void) { done(fotsgure_aes_add_keystream_with(key, size, &ctr, data, count)); }
-
-static void chain(void) { done(fotsgure_aes_cbc_encrypt(&kept, &cbc, data, count)); }
-static void unchain(void) { done(fotsgure_aes_cbc_decrypt(&kept, &cbc, data, count)); }
-/* Keys to be wrapped have two semiblocks or more: one block or more. */
-static void wrap(void) {
-    if (count > 0)
-        done(fotsgure_aes_wrap(&kept, data, 2 * count, other, 2 * count + 1));
-}
-static void unwrap(void) {
-    if (count > 0)
-        done(fotsgure_aes_unwrap(&kept, wrapped, 2 * count + 1, other, 2 * count));
-}
-static void unwrap_refused(void) {
-    if (count > 0)
-        failed |= fotsgure_aes_unwrap(&kept, data, 2 * count + 1, other, 2 * count) != FOTSGURE_AES_REFUSED;
-}
-
-/* The last three bytes are padding. */
-static void wrap_padded(void) {
-    if (count > 0)
-        done(fotsgure_aes_wrap_padded(&kept, data, BLOCK * count - 3, other, 2 * count + 1));
-}
-static void unwrap_padded(void) {
-    size_t length;
-    if (count > 0)
-        done(fotsgure_aes_unwrap_padded(&kept, padded, 2 * count + 1, other, 2 * count, &length));
-}
-static void unwrap_padded_refused(void) {
-    size_t length;
-    if (count > 0)
-        failed |= fotsgure_aes_unwrap_padded(&kept, wrapped, 2 * count + 1, other, 2 * count, &length) !=
-            FOTSGURE_AES_REFUSED;
-}
+/* What was wrapped without padding is refused as a key with padding: it is unwrapped before that is seen. */
+#define NOT_PADDED wrapped
+#define DEFINED(name, takes, wanted, call) static void name(void) { failed |= (int)(call) != (int)(wanted); }
+#define LISTED(name, takes, wanted, call) {#name, name, takes},
+CALLS(DEFINED)
 
 /* In pieces, the first of three blocks or five bytes. */
 static void encrypt_pieces(void) { IN_PIECES(fotsgure_aes_encrypt_blocks(&kept, at, n), data, count, BLOCK, 3); }
@@ -117,23 +54,13 @@ static void chain_pieces(void) { IN_PIECES(fotsgure_aes_cbc_encrypt(&kept, &cbc,
 static void unchain_pieces(void) { IN_PIECES(fotsgure_aes_cbc_decrypt(&kept, &cbc, at, n), data, count, BLOCK, 3); }
 static void stream_pieces(void) { IN_PIECES(fotsgure_aes_add_keystream(&kept, &ctr, at, n), data, count, 1, 5); }
 
-/* What a call takes: nothing of this list, blocks, or bytes. */
-enum takes { NOTHING, OF_BLOCKS, OF_BYTES };
 static const struct call calls[] = {
     {"not_wiped", not_wiped, NOTHING}, {"planted_half_wiped", planted_half_wiped, NOTHING},
     {"planted_copy_wiped", planted_copy_wiped, NOTHING}, {"planted_widened", planted_widened, NOTHING},
     {"planted_keystream", planted_keystream, NOTHING}, {"planted_zeros", planted_zeros, NOTHING},
-    {"planted_key", planted_key, NOTHING}, {"wiped", wiped, NOTHING}, {"set_key", set_key, NOTHING},
-    {"encrypt", encrypt, OF_BLOCKS}, {"decrypt", decrypt, OF_BLOCKS}, {"encrypt_to", encrypt_to, OF_BLOCKS},
-    {"decrypt_to", decrypt_to, OF_BLOCKS}, {"encrypt_with", encrypt_with, OF_BLOCKS},
-    {"decrypt_with", decrypt_with, OF_BLOCKS}, {"encrypt_pieces", encrypt_pieces, OF_BLOCKS},
-    {"decrypt_pieces", decrypt_pieces, OF_BLOCKS}, {"cbc_encrypt", chain, OF_BLOCKS},
-    {"cbc_decrypt", unchain, OF_BLOCKS}, {"cbc_encrypt_pieces", chain_pieces, OF_BLOCKS},
-    {"cbc_decrypt_pieces", unchain_pieces, OF_BLOCKS}, {"wrap", wrap, OF_BLOCKS}, {"unwrap", unwrap, OF_BLOCKS},
-    {"unwrap_refused", unwrap_refused, OF_BLOCKS}, {"wrap_padded", wrap_padded, OF_BLOCKS},
-    {"unwrap_padded", unwrap_padded, OF_BLOCKS}, {"unwrap_padded_refused", unwrap_padded_refused, OF_BLOCKS},
-    {"add_keystream", stream, OF_BYTES},
-    {"add_keystream_to", stream_to, OF_BYTES}, {"add_keystream_with", stream_with, OF_BYTES},
+    {"planted_key", planted_key, NOTHING}, {"wiped", wiped, NOTHING}, {"set_key", set_key, NOTHING}, CALLS(LISTED)
+    {"encrypt_pieces", encrypt_pieces, OF_BLOCKS}, {"decrypt_pieces", decrypt_pieces, OF_BLOCKS},
+    {"cbc_encrypt_pieces", chain_pieces, OF_BLOCKS}, {"cbc_decrypt_pieces", unchain_pieces, OF_BLOCKS},
     {"add_keystream_pieces", stream_pieces, OF_BYTES},
 };
 
@@ -166,7 +93,7 @@ static void prepare(const struct call *call, size_t at) {
     uint32_t state = 7;
     for (size_t i = 0; i < BYTES; i++) {
         state = state * 1664525u + 1013904223u;
-        data[i] = (uint8_t)(state >> 24);
+        data[i] = other[i] = (uint8_t)(state >> 24);
     }
     if (count > 0 && count <= MOST) {
         done(fotsgure_aes_wrap(&kept, data, 2 * count, wrapped, 2 * count + 1));
@@ -178,8 +105,6 @@ static void collect(const struct call *call) {
     uint8_t round_keys[240];
     size_t rounds = size / 4 + 7, words = 8 * rounds;
     expand(key, size, round_keys);
-    for (size_t i = 0; i + 8 <= size; i++)
-        add(key + i, KEY, 0);
     for (size_t i = 0; i + 8 <= 16 * rounds; i++) {
         add(kept.round_keys + i, ROUND_KEYS, (int)(i / 16));
         add(kept.round_keys + sizeof kept.round_keys / 2 + i, ROUND_KEYS, (int)(rounds + i / 16));

@@ -5,40 +5,19 @@
  * numbers to the library are searched in both orders of their bytes. Each call runs on texts of every number of blocks
  * from 0 to 40, and of lengths in between. */
 enum { KEY, ROUND_KEYS, MULTIPLES, SUBKEY, MASK, HASH, EXPECTED, FIRST, KEYSTREAM, KINDS, SECRETS = MASK, HELD = KINDS, LEAST = KINDS };
-#include "../search.h"
 #include "fotsgure_gcm.h"
+#define LIBRARY(name) fotsgure_gcm##name
+#include "../search.h"
 
 enum { BYTES = 2048 };
 
-static struct fotsgure_gcm kept;
 static struct fotsgure_gcm_counter counter;
 static struct fotsgure_gcm_message message;
 static uint8_t nonce[16], additional[BYTES], text[BYTES], keystream[BYTES];
 static uint8_t subkey[3][16], mask[16], hash[16], expected[16], first[16], tag[16], values[PIECES][16];
 static size_t hashed, length, extra, nonce_length;
 
-static void done(enum fotsgure_gcm_status status) { failed |= status != FOTSGURE_GCM_DONE; }
-
-/* The control: a struct on the stack that nobody wipes. */
-__attribute__((noinline)) static void not_wiped(void) {
-    struct fotsgure_gcm gcm;
-    done(fotsgure_gcm_set_key(&gcm, key, size));
-    use(&gcm);
-}
-__attribute__((noinline)) static void wiped(void) {
-    struct fotsgure_gcm gcm;
-    done(fotsgure_gcm_set_key(&gcm, key, size));
-    use(&gcm);
-    fotsgure_gcm_wipe(&gcm);
-    use(&gcm);
-}
-/* Planted: a struct of which half is wiped, and a block of each kind that is left. */
-__attribute__((noinline)) static void planted_half_wiped(void) {
-    struct fotsgure_gcm gcm;
-    done(fotsgure_gcm_set_key(&gcm, key, size));
-    memset(&gcm, 0, sizeof gcm / 2);
-    use(&gcm);
-}
+/* Planted: a block of each kind that is left. */
 __attribute__((noinline)) static void planted_blocks(void) {
     uint8_t blocks[6][16];
     memcpy(blocks[0], mask, 16);
@@ -51,7 +30,6 @@ __attribute__((noinline)) static void planted_blocks(void) {
         blocks[5][i] = subkey[1][15 - i];
     use(blocks);
 }
-static void set_key(void) { done(fotsgure_gcm_set_key(&kept, key, size)); }
 static void seal(void) {
     done(fotsgure_gcm_seal(&kept, nonce, nonce_length, additional, extra, text, length, tag));
 }
@@ -216,8 +194,6 @@ static void add_block(const uint8_t at[16], int kind, int piece) {
     }
 }
 static void collect(const struct call *call) {
-    for (size_t i = 0; i + 8 <= size; i++)
-        add(key + i, KEY, 0);
     for (size_t i = 0; i < 4 * size + 112; i += 16)
         add_block(kept.round_keys + i, ROUND_KEYS, (int)(i / 16));
     for (size_t i = 0; i < sizeof kept.multiples; i += 16)
