@@ -32,7 +32,7 @@ def call(name, *args, label="", returns=None, wanted="clean", told=0, first=""):
             types.append(NUMBERS[kind])
             passed.append(str(size))
             continue
-        lines.append(f"void *x{i} = buffer('{kind}', {size});")
+        lines.append(f"void *x{i} = given('{kind}', {size});")
         types += ["void *", *("size_t" for _ in count)]
         passed += [f"x{i}", *map(str, count)]
     result = "void" if returns is None else "uint32_t"

@@ -49,20 +49,8 @@ static struct buffer buffers[MOST];
 static int held;
 
 /* kind: s a secret that is read, b a secret that is worked in its place, u one that must stay as it is, o bytes that are
-   written, p public bytes, z a secret that must be zero afterwards, t bytes of which some are written; and structs of the
-   C libraries: k one that holds a secret key of so many bytes, c a secret counter block at a position, g one of GCM that
-   holds a secret key, w one with a known key under which the counter wraps, v its nonce of that number. */
-static void *kept(size_t key_bytes);
-static void *counter(uint64_t position);
-static void *gcm_kept(size_t key_bytes);
-static void *gcm_wrapping(void);
-static void *wrapping_nonce(size_t number);
+   written, p public bytes, z a secret that must be zero afterwards, t bytes of which some are written. */
 static void *buffer(char kind, size_t bytes) {
-    if (kind == 'k') return kept(bytes);
-    if (kind == 'c') return counter(bytes);
-    if (kind == 'g') return gcm_kept(bytes);
-    if (kind == 'w') return gcm_wrapping();
-    if (kind == 'v') return wrapping_nonce(bytes);
     struct buffer *it = &buffers[held++];
     it->at = aligned_alloc(16, (bytes + 31) & ~(size_t)15);
     it->before = malloc(bytes + 1);
@@ -75,28 +63,23 @@ static void *buffer(char kind, size_t bytes) {
     return it->at;
 }
 
-static void *kept(size_t key_bytes) {
-    uint8_t key[32];
-    struct fotsgure_aes *it = buffer('p', sizeof *it);
-    memset(it, 0, sizeof *it);
-    fill(key, key_bytes);
-    secret(key, key_bytes);
-    if (key_bytes && fotsgure_aes_set_key(it, key, key_bytes)) abort();
-    return it;
-}
+/* A struct of a library that holds a secret key of so many bytes, or none. */
+#define KEPT(library) \
+    static void *library##_kept(size_t key_bytes) { \
+        uint8_t key[32]; \
+        struct library *it = buffer('p', sizeof *it); \
+        memset(it, 0, sizeof *it); \
+        fill(key, key_bytes); \
+        secret(key, key_bytes); \
+        if (key_bytes && library##_set_key(it, key, key_bytes)) abort(); \
+        return it; \
+    }
+KEPT(fotsgure_aes)
+KEPT(fotsgure_gcm)
 static void *counter(uint64_t position) {
     struct fotsgure_aes_ctr *it = buffer('p', sizeof *it);
     secret(it->iv, sizeof it->iv);
     it->position = position;
-    return it;
-}
-
-static void *gcm_kept(size_t key_bytes) {
-    uint8_t key[32];
-    struct fotsgure_gcm *it = buffer('p', sizeof *it);
-    fill(key, key_bytes);
-    secret(key, key_bytes);
-    if (fotsgure_gcm_set_key(it, key, key_bytes)) abort();
     return it;
 }
 /* A key and nonces of 16 bytes under which the counter wraps at the third block of a text and at the first, of
@@ -114,6 +97,17 @@ static void *wrapping_nonce(size_t number) {
         {0x52, 0x0f, 0x83, 0xf0, 0x79, 0x80, 0xff, 0x6e, 0x39, 0xa2, 0x19, 0xf2, 0xb2, 0xbe, 0x77, 0xda},
         {0x43, 0x84, 0xf2, 0xe1, 0x34, 0x5f, 0xa9, 0xcc, 0x9d, 0x09, 0x89, 0xc2, 0x5d, 0x70, 0x78, 0x85}};
     return memcpy(buffer('p', 16), nonces[number], 16);
+}
+/* What a call is given: such a buffer, or of the C libraries k a struct that holds a secret key of so many bytes, c a secret counter
+   block at a position, g a struct of GCM that holds a secret key, w one with a known key under which the counter wraps, v its
+   nonce of that number. */
+static void *given(char kind, size_t bytes) {
+    if (kind == 'k') return fotsgure_aes_kept(bytes);
+    if (kind == 'c') return counter(bytes);
+    if (kind == 'g') return fotsgure_gcm_kept(bytes);
+    if (kind == 'w') return gcm_wrapping();
+    if (kind == 'v') return wrapping_nonce(bytes);
+    return buffer(kind, bytes);
 }
 
 /* What is done before a call. Seals a text in its place, and leaves its tag, or one that is wrong in a bit: all of it is
