@@ -6,8 +6,7 @@ They are told as constant-time/jumps.py tells the jumps of x86-64, whose lists t
 """
 import re
 
-import tools
-from jumps import plain
+from jumps import instructions
 
 REGISTER = re.compile(r"\b[wxbhsdq](?:\d+|zr)\b|\b[wx]?sp\b|\bv\d+(?:\.\w+)?")
 FLAGS = re.compile(r"(cmp|cmn|tst|ccmp|ccmn|adds|subs|ands|bics|adcs|sbcs|negs|fcmp)\s")
@@ -23,16 +22,6 @@ TAKEN_APART = re.compile(r"([usf]?mov)\s[wx]\d+, [vbhsdq]\d|(ins|mov)\sv\d+\.[bh
 OTHERS = re.compile(r"(brk?|blr|udiv|sdiv|fdiv|fsqrt)\s")
 
 
-def instructions(archive):
-    """Each instruction with the function that it stands in."""
-    name = ""
-    for line in tools.run(["aarch64-linux-gnu-objdump", "-d", "--no-show-raw-insn", archive], "objdump").splitlines():
-        if head := re.match(r"[0-9a-f]+ <(.*)>:", line):
-            name = plain(head[1])
-        elif code := re.match(r"\s*[0-9a-f]+:\s+(.*?)\s*(?:<.*|//.*)?$", line):
-            yield name, re.sub(r"\s+", " ", code[1])
-
-
 def shape(operands):
     """Operands without the numbers of registers and the places of jumps."""
     return REGISTER.sub("r", re.sub(r",? \b[0-9a-f]+$", "", operands))
@@ -42,8 +31,9 @@ def looked_at(archive):
     """How often each branch, indexed access and sum stands in the archive: {(function, what, instruction): count};
     the byte shuffles; and what should not be there at all."""
     found, shuffles, strange, last = {}, 0, [], ("", "")
-    for name, code in instructions(archive):
-        key = None
+    for name, code in instructions(archive, "aarch64-linux-gnu-objdump"):
+        # Without what the disassembler adds: the name of a place, or a comment.
+        code, key = " ".join(re.sub(r"(?:<|//).*", "", code).split()), None
         if branch := BRANCH.match(code):
             tested = last[1] if branch[1].startswith("b.") and last[0] == name else shape(branch[2])
             key = (name, tested, branch[1])

@@ -40,17 +40,24 @@ def compared(line):
     return f"{words[0]} {operands}".strip()
 
 
+def instructions(archive, objdump="objdump"):
+    """Each instruction with the plain name of the function that it stands in; where one begins, no instruction with its name."""
+    name = ""
+    for line in tools.run([objdump, "-d", "--no-show-raw-insn", archive], "objdump").splitlines():
+        if head := re.match(r"[0-9a-f]+ <(.*)>:", line):
+            name = plain(head[1])
+            yield name, ""
+        elif code := re.match(r"\s*[0-9a-f]+:\s*(.+)", line):
+            yield name, code[1]
+
+
 def jumps(archive):
     """How often each jump stands in an archive: {(function, comparison, jump): count}."""
-    found, name, last = {}, "", ""
-    for line in tools.run(["objdump", "-d", "--no-show-raw-insn", archive], "objdump").splitlines():
-        if head := re.match(r"[0-9a-f]+ <(.*)>:", line):
-            name, last = plain(head[1]), "nothing"
-            continue
-        code = re.sub(r"^\s*[0-9a-f]+:\s*", "", line)
-        if code == line or not code:
-            continue
-        if jump := JUMP.match(f" {code} "):
+    found, last = {}, ""
+    for name, code in instructions(archive):
+        if not code:
+            last = "nothing"
+        elif jump := JUMP.match(f" {code} "):
             if not name.startswith(OTHERS):
                 key = (name, last, jump[1])
                 found[key] = found.get(key, 0) + 1
