@@ -358,6 +358,17 @@ def asking(text, *parts, flags=()):
     return ask
 
 
+def begin(ask, needed, *versions):
+    """Reads what a command is asked, stops if a program that it needs is missing (each with its package), and says the conditions, with
+    the versions of some programs. Returns the options, what is found, which is nothing yet, and the conditions."""
+    options = ask.parse_args()
+    for command, package in needed.items():
+        need(command, package)
+    where = ", ".join([conditions(), *(run([it, "--version"], it).splitlines()[0] for it in versions)])
+    say(where)
+    return options, Found(), where
+
+
 def finish(found, options, text):
     """Says what was found and left out, and ends with the status that this makes."""
     for it in found.wrong[:40]:
