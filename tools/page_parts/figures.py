@@ -1,5 +1,4 @@
-#!/usr/bin/env python3
-"""Numbers in the documents that come from the repository: --check fails where one is stale, --write writes them anew.
+"""Numbers in the documents that come from the repository.
 
 A number stands between two marks, which a reader of the rendered page doesn't see, in tables too:
 
@@ -18,7 +17,6 @@ A mark that is quoted, by a backtick before it, is left alone.
 """
 import csv
 import re
-import sys
 from pathlib import Path
 
 ROOT = Path(__file__).resolve().parent.parent.parent
@@ -101,9 +99,9 @@ def figure(words):
         raise Fault(str(error)) from error
 
 
-def made_anew(page, is_check):
-    """A page with its figures counted, how many it has, and what is wrong."""
-    text, faults = page.read_text(encoding="utf-8"), []
+def made_anew(page, faults):
+    """A page with its figures counted, and how many it has. What is wrong is added to the faults."""
+    text = page.read_text(encoding="utf-8")
 
     def counted(mark):
         count = mark[3]
@@ -113,28 +111,17 @@ def made_anew(page, is_check):
             if not text[text.rfind("\n", 0, mark.start()) + 1 : mark.start()].strip():
                 raise Fault("a mark that begins a line ends the paragraph before it")
             count = figure(mark[2])
-            if count != mark[3] and is_check:
-                raise Fault(f"says {mark[3]}, and it is {count}: run tools/pages --write")
         except Fault as fault:
             where = f"{page.relative_to(ROOT)}:{text.count(chr(10), 0, mark.start()) + 1}"
-            faults.append(f"figures: {where}: {mark[2]}: {fault}")
+            faults.append(f"{where}: {mark[2]}: {fault}")
         return mark[1] + count + mark[4]
 
-    return *MARK.subn(counted, text), faults
+    return MARK.subn(counted, text)
 
 
-def main(arguments):
-    if arguments not in (["--check"], ["--write"]):
-        sys.exit("usage: tools/page_parts/figures --check | --write")
-    marks, faults, is_check = 0, [], arguments == ["--check"]
+def looked_at():
+    made, marks, faults = {}, 0, []
     for page in sorted({path for pattern in PAGES for path in ROOT.glob(pattern)}):
-        made, count, wrong = made_anew(page, is_check)
-        marks, faults = marks + count, faults + wrong
-        if not is_check:
-            page.write_text(made, encoding="utf-8")
-    print("\n".join([*faults, f"figures: {marks} figures, {len(faults)} faults"]))
-    return bool(faults)
-
-
-if __name__ == "__main__":
-    sys.exit(main(sys.argv[1:]))
+        made[page], count = made_anew(page, faults)
+        marks += count
+    return f"{marks} figures", made, faults

@@ -1,12 +1,7 @@
-#!/usr/bin/env python3
 """Checks the pages of this repository: every link to a file or to a heading holds, no page has more than 200 lines, and no
-cell of a table more than 300 characters. Lists that scripts make may be long.
-
-  links --check    fails, with a line for each fault, if there is one
-"""
+cell of a table more than 300 characters. Lists that scripts make may be long."""
 import re
 import subprocess
-import sys
 from pathlib import Path
 
 ROOT = Path(__file__).resolve().parent.parent.parent
@@ -43,15 +38,8 @@ def faults_of(page):
                     yield f"{name}:{number}: no heading {target}"
 
 
-def main():
-    if sys.argv[1:] != ["--check"]:
-        sys.exit("usage: tools/page_parts/links --check")
+def looked_at():
     listed = subprocess.run(["git", "ls-files", "-co", "--exclude-standard", "*.md"], cwd=ROOT, check=True, text=True,
                             capture_output=True).stdout.split()
     pages = [ROOT / name for name in listed if (ROOT / name).exists()]
-    faults = [fault for page in pages for fault in faults_of(page)]
-    print("\n".join(faults + [f"links: {len(pages)} pages, {len(faults)} faults"]))
-    sys.exit(bool(faults))
-
-
-main()
+    return f"{len(pages)} pages", {}, [fault for page in pages for fault in faults_of(page)]

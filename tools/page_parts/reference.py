@@ -1,14 +1,9 @@
-#!/usr/bin/env python3
-"""Makes the reference of the nine types: each call with its signature, what it does, its errors, and what is proved beside.
-
-  reference --write    writes docs/TYPES.md
-  reference --check    fails if docs/TYPES.md is stale
+"""Makes the reference of the nine types, docs/TYPES.md: each call with its signature, what it does, its errors, and what is proved beside.
 
 Signatures, descriptions and errors come from the sources; what else the clauses of a call say stands here. It also fails if a call
 is left out, or if one that decrypts says something else than the one that encrypts.
 """
 import re
-import sys
 import textwrap
 from pathlib import Path
 
@@ -126,7 +121,7 @@ def line_of(name, signature, description, errors):
     return fill(words + (f" Proved too: {MORE[name]}." if name in MORE else ""), "  ")
 
 
-def page():
+def looked_at():
     lines, faults = [HEAD], []
     for heading, above, path, names in PARTS:
         calls = calls_of(path)
@@ -135,19 +130,4 @@ def page():
         lines += [line_of(name, *calls[name][:3]) for name in names if name in calls] + [""]
         faults += [f"{path} has a call that the reference leaves out: {name}" for name in calls
                    if name not in names and path.startswith("cipher/")]
-    return "\n".join(lines).rstrip("\n") + "\n" + TAIL, faults
-
-
-def main(words):
-    if words not in (["--write"], ["--check"]):
-        sys.exit("usage: tools/page_parts/reference --write|--check")
-    made, faults = page()
-    if faults:
-        sys.exit("\n".join(faults))
-    if words == ["--write"]:
-        PAGE.write_text(made, encoding="utf-8")
-    elif not PAGE.exists() or PAGE.read_text(encoding="utf-8") != made:
-        sys.exit("reference: docs/TYPES.md is stale: run tools/pages --write")
-
-
-main(sys.argv[1:])
+    return f"{len(PARTS)} parts", {PAGE: "\n".join(lines).rstrip("\n") + "\n" + TAIL}, faults

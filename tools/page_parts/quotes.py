@@ -1,13 +1,8 @@
-#!/usr/bin/env python3
 """Whether the code that the documents quote stands in the sources, word for word. Above a quote stands a line
   <!-- quoted from FILE -->
 and the fenced block after it is compared with FILE, each line without the spaces at its ends. A line '..' in a quote stands for
-any lines between.
-
-  quotes --check    fails where a quoted piece is not in its file, or comes before the piece above it
-"""
+any lines between. A fault is a quoted piece that is not in its file, or comes before the piece above it."""
 import re
-import sys
 from pathlib import Path
 
 ROOT = Path(__file__).resolve().parent.parent.parent
@@ -26,18 +21,11 @@ def faults_of(page, file, quote):
         if piece.strip("\n"):
             piece = "\n" + piece.strip("\n") + "\n"
             if piece not in left:
-                yield f"quotes: {page.relative_to(ROOT)} quotes of {file} what does not stand there:{piece}"
+                yield f"{page.relative_to(ROOT)} quotes of {file} what does not stand there:{piece}"
             left = "\n" + left.partition(piece)[2] if piece in left else left
 
 
-def main():
-    if sys.argv[1:] != ["--check"]:
-        sys.exit("usage: tools/page_parts/quotes --check")
+def looked_at():
     quotes = [(page, *it.groups()) for page in sorted([*ROOT.glob("*.md"), *ROOT.glob("docs/*.md")])
               for it in QUOTE.finditer(page.read_text(encoding="utf-8"))]
-    faults = [fault for it in quotes for fault in faults_of(*it)]
-    print("\n".join([*faults, f"quotes: {len(quotes)} quoted blocks, {len(faults)} faults"]))
-    sys.exit(bool(faults))
-
-
-main()
+    return f"{len(quotes)} quoted blocks", {}, [fault for it in quotes for fault in faults_of(*it)]

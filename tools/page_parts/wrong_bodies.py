@@ -1,19 +1,11 @@
-#!/usr/bin/env python3
-"""Lists the wrong bodies that the prover has to refuse, made from the edits themselves: for each crate a table with the edit, the bug
-in words, and the function whose body it changes, whose contract refuses it.
-
-  wrong-bodies --write    writes evidence/WRONG_BODIES.md
-  wrong-bodies --check    fails where that page is stale
-"""
+"""Lists the wrong bodies that the prover has to refuse in evidence/WRONG_BODIES.md, made from the edits themselves: for each crate a
+table with the edit, the bug in words, and the function whose body it changes, whose contract refuses it."""
 import pathlib
 import re
-import sys
 
-sys.dont_write_bytecode = True
+import bodies
+
 TOP = pathlib.Path(__file__).resolve().parent.parent.parent
-sys.path.insert(0, str(TOP / "tools" / "edit_parts"))
-import bodies  # noqa: E402
-
 PAGE = TOP / "evidence" / "WRONG_BODIES.md"
 CONSTANT = re.compile(r"( *)(?:pub )?(?:const|type) (\w+)")
 HEAD = """# Wrong bodies
@@ -40,31 +32,19 @@ def changed(crate, edit):
     return f"`{'::'.join(filter(None, names))}` in `{path.removeprefix('src/')}`"
 
 
-def page():
-    lines, alone, total = [HEAD], 0, 0
+def looked_at():
+    lines, alone, total, faults = [HEAD], 0, 0, []
     for name in re.findall(r"^(\w+)(?: staticlib)?:", (TOP / "crates.txt").read_text(), re.M):
         crate = TOP / "crates" / name
         rows = []
         for folder, how in (("must-fail", "alone"), ("edits", "batch")):
             for edit in map(bodies.Edit, sorted((crate / folder).glob("*.edit"))):
                 if edit.fault:
-                    sys.exit(f"wrong-bodies: {crate.name}/{edit.name}: {edit.fault}")
-                if not edit.is_control:
+                    faults.append(f"{crate.name}/{edit.name}: {edit.fault}")
+                elif not edit.is_control:
                     bug = re.match("bug: *(.*)", edit.text)[1].replace("|", "\\|")
                     rows.append(f"| `{edit.name}` | {bug} | {changed(crate, edit)} | {how} |")
                     alone += how == "alone"
         total += len(rows)
         lines += [f"## `{name}` ({len(rows)})\n\n| edit | the bug | body | tried |\n|---|---|---|---|", *rows, ""] if rows else []
-    return "\n".join([*lines, f"{total} edits in all, {alone} of them alone.\n"])
-
-
-def main(words):
-    if words == ["--write"]:
-        PAGE.write_text(page(), encoding="utf-8")
-    elif words != ["--check"]:
-        sys.exit(__doc__)
-    elif PAGE.read_text(encoding="utf-8") != page():
-        sys.exit(f"wrong-bodies: {PAGE.name} is stale: run tools/pages --write")
-
-
-main(sys.argv[1:])
+    return f"{total} edits", {PAGE: "\n".join([*lines, f"{total} edits in all, {alone} of them alone.\n"])}, faults
