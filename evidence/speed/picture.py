@@ -22,7 +22,7 @@ GCM_GROUPS = [
         ("Software without secret addresses", "open", tables.CONSTANT_TIME, (*tables.OURS, "Botan", "BearSSL")),
         ("Software that reads tables at secret places", "tables", tables.CONSTANT_TIME,
          ("OpenSSL", "Nettle", "Libgcrypt", "mbedtls")),
-        ("Instructions of the processor", "instructions", tables.WITH_INSTRUCTIONS, tuple(tables.PACKAGES.values())),
+        ("Instructions of the processor", "instructions", tables.WITH_INSTRUCTIONS, tuple(tables.PEERS)),
     )
 ]
 

@@ -8,14 +8,14 @@ import tools
 HEADING = "## How fast is it beside what I use now?"
 HEADING_AVX2 = "## The second build, for processors with AVX2"
 HEADING_GCM = "## How fast is GCM beside what I use now?"
-# The peers by the packages that they come from.
-PACKAGES = {
-    "libssl-dev": "OpenSSL",
-    "libbearssl-dev": "BearSSL",
-    "libmbedtls-dev": "mbedtls",
-    "nettle-dev": "Nettle",
-    "libgcrypt20-dev": "Libgcrypt",
-    "libbotan-2-dev": "Botan",
+# The peers: of each its package, and the flags to link it, of which -I is for its file too.
+PEERS = {
+    "OpenSSL": ("libssl-dev", "-lcrypto"),
+    "BearSSL": ("libbearssl-dev", "-lbearssl"),
+    "mbedtls": ("libmbedtls-dev", "-lmbedcrypto"),
+    "Nettle": ("nettle-dev", "-lnettle"),
+    "Libgcrypt": ("libgcrypt20-dev", "-lgcrypt"),
+    "Botan": ("libbotan-2-dev", "-lbotan-2", "-I/usr/include/botan-2"),
 }
 # The engine that all ratios are to, which stands in every run.
 BASE = "C library, by LLVM"
@@ -119,9 +119,10 @@ def of_run(rows, run):
 
 def versions():
     """The peers with their versions, as Debian's packages name them."""
-    shown = ["dpkg-query", "-W", "-f", "${Package} ${source:Upstream-Version}\\n", *PACKAGES]
+    names = {package: peer for peer, (package, *_) in PEERS.items()}
+    shown = ["dpkg-query", "-W", "-f", "${Package} ${source:Upstream-Version}\\n", *names]
     lines = subprocess.run(shown, capture_output=True, text=True).stdout.splitlines()
-    found = [f"{PACKAGES[package]} {version.split('+')[0]}" for package, version in map(str.split, lines)]
+    found = [f"{names[package]} {version.split('+')[0]}" for package, version in map(str.split, lines)]
     return " and ".join([", ".join(found[:-1]), found[-1]]) if len(found) > 1 else "".join(found)
 
 
@@ -242,7 +243,7 @@ def published_gcm(where, rows):
     """The section of docs/MEASUREMENTS.md on GCM: this library's time, and the others' divided by it."""
     times = gcm(rows)
     ours = {run: times[run, "this library"] for run in (CONSTANT_TIME, WITH_INSTRUCTIONS)}
-    peers = [it for it in PACKAGES.values() if (CONSTANT_TIME, it) in times]
+    peers = [it for it in PEERS if (CONSTANT_TIME, it) in times]
     columns = [(CONSTANT_TIME, it) for it in [*list(OURS)[1:], *peers]] + [(WITH_INSTRUCTIONS, "OpenSSL")]
     lines = []
     for title, (*call, blocks) in GCM.items():
