@@ -10,7 +10,7 @@ import pathlib
 import sys
 
 sys.path.insert(0, str(pathlib.Path(__file__).resolve().parent.parent))
-from expand import CRATES, ENDS, SIZES, WORDS, types
+from expand import CRATES, ENDS, LEFT, SIZES, WORDS, types
 
 NUMBERS = {"u32": "uint32_t", "u64": "uint64_t"}
 KEYS = [key for key, _, _ in SIZES.values()]
@@ -249,20 +249,15 @@ call(f"{GCM}open", ("g", 16), ("p", 12, 12), *given[2:], ("s", 16, 15), label="1
 # Wipes.
 for (word, width), n in itertools.product((("u16", 2), ("u32", 4), ("u64", 8)), (0, 1, 88, 120)):
     call(f"ev_wipe_words_{word}", ("z", n * width, n), label=str(n), wanted=wanted_of(n))
-# What calls leave of a key, by what they take of blocks or bytes.
-LEFT = {
-    ("b", 16): "value_dropped value_zeroized clone_dropped clone_zeroized lent_converted given_converted".split(),
-    ("b", 144, 9): ("slice_dropped", "slice_zeroized", "slice_decrypted"),
-    ("b", 16, 16): ("stream_dropped",),
-}
+# The calls after which the stack is searched.
+TAKEN = {"Block": ("b", 16), "[Block]": ("b", 144, 9), "[u8]": ("b", 16, 16)}
 for size, (key, _, _) in SIZES.items():
     # It works no block: there is nothing to see but a leak.
     call(f"ev_left_words_{size}_wide_wiped", ("s", key), ("p", 16), wanted="empty")
     for of in ("not_wiped", "words_wiped", "wiped_wiped", "wiped_dropped"):
         call(f"ev_left_words_{size}_{of}", ("s", key), ("b", 16))
-    for crate, (taken, names) in itertools.product(CRATES, LEFT.items()):
-        for of in names:
-            call(f"ev_left_{crate}_{size}_{of}", ("s", key), taken)
+    for crate, (of, (_, takes)) in itertools.product(CRATES, LEFT.items()):
+        call(f"ev_left_{crate}_{size}_{of}", ("s", key), TAKEN[takes])
 
 # The program reads and writes digits by tables, and says so: its reply must be found.
 REPLY = """    { static const char line[] = "enc 000102030405060708090a0b0c0d0e0f 00112233445566778899aabbccddeeff";
