@@ -25,19 +25,14 @@ static long from_hex(uint8_t *to, size_t most, const char *digits) {
     return (long)(length / 2);
 }
 
+/* A status is 0 if a call did its work. */
 static int blocks(const struct fotsgure_aes *aes, size_t size, int there, size_t count) {
-    int wrong = 0;
     memcpy(bytes, given, 16 * count);
-    if (there)
-        wrong |= fotsgure_aes_encrypt_blocks_to(aes, given, count, others, count) != FOTSGURE_AES_DONE ||
-            fotsgure_aes_encrypt_blocks(aes, bytes, count) != FOTSGURE_AES_DONE;
-    else
-        wrong |= fotsgure_aes_decrypt_blocks_to(aes, given, count, others, count) != FOTSGURE_AES_DONE ||
-            fotsgure_aes_decrypt_blocks(aes, bytes, count) != FOTSGURE_AES_DONE;
+    int wrong = (int)(there ? fotsgure_aes_encrypt_blocks_to : fotsgure_aes_decrypt_blocks_to)(aes, given, count, others, count);
+    wrong |= (int)(there ? fotsgure_aes_encrypt_blocks : fotsgure_aes_decrypt_blocks)(aes, bytes, count);
     wrong |= memcmp(bytes, others, 16 * count);
     memcpy(others, given, 16 * count);
-    wrong |= (there ? fotsgure_aes_encrypt_blocks_with(key, size, others, count) :
-        fotsgure_aes_decrypt_blocks_with(key, size, others, count)) != FOTSGURE_AES_DONE;
+    wrong |= (int)(there ? fotsgure_aes_encrypt_blocks_with : fotsgure_aes_decrypt_blocks_with)(key, size, others, count);
     return wrong | memcmp(bytes, others, 16 * count);
 }
 
@@ -48,10 +43,9 @@ static int stream(const struct fotsgure_aes *aes, size_t size, const char *iv, s
     once = ctr;
     memcpy(bytes, given, count);
     memcpy(others, given, count);
-    int wrong = fotsgure_aes_add_keystream(aes, &ctr, bytes, cut) != FOTSGURE_AES_DONE;
-    wrong |= fotsgure_aes_add_keystream_to(aes, &ctr, given + cut, count - cut, bytes + cut, count - cut) !=
-        FOTSGURE_AES_DONE;
-    wrong |= fotsgure_aes_add_keystream_with(key, size, &once, others, count) != FOTSGURE_AES_DONE;
+    int wrong = (int)fotsgure_aes_add_keystream(aes, &ctr, bytes, cut);
+    wrong |= (int)fotsgure_aes_add_keystream_to(aes, &ctr, given + cut, count - cut, bytes + cut, count - cut);
+    wrong |= (int)fotsgure_aes_add_keystream_with(key, size, &once, others, count);
     return wrong | memcmp(bytes, others, count);
 }
 
