@@ -1,4 +1,5 @@
 # What ./c-check and openssl/provider/check share: trying commands, each of whose output goes to $work/log, and counting how they end.
+# shellcheck shell=bash disable=SC2154 # whoever reads this sets work
 passed=0 failed=0
 
 # Runs a command and reports how it ended.
