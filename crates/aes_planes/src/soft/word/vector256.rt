@@ -1,6 +1,6 @@
 //! Vectors of 32 byte lanes as words of 256 bits: sixteen lanes have the first eight blocks, and sixteen the last.
 
-ghost use Rattle.std.specs.Prelude.{◌≡◌, ℕ, ◌+◌, ◌-◌, ◌*◌, ◌/◌, ◌%◌, ◌<◌, ◌≤◌, ◌&&◌, nat_le, nat_lt, [], ◌∷◌, get_or};
+ghost use Rattle.std.specs.Prelude.{◌≡◌, ℕ, ◌+◌, ◌-◌, ◌*◌, ◌/◌, ◌%◌, ◌<◌, ◌&&◌, nat_le, nat_lt};
 ghost use Rattle.aes_planes.specs.Bits.{at, bit, Places};
 ghost use Rattle.aes_planes.specs.Words.{wide_bits, lane_bits};
 ghost use Rattle.aes_planes.specs.Private.Packing.{row_byte};
@@ -53,7 +53,7 @@ fn columns_up(x: u8x32, columns: u8) -> u8x32
 // Rotates the word by a byte towards the low end.
 #[tactic(auto, using(crate::proofs::Words::Wide::rotated_byte))]
 #[inline(always)]
-fn rotate_byte(x: u8x32) -> u8x32
+pub(super) fn rotate_byte(x: u8x32) -> u8x32
     ensures { Places 256 (wide_bits result) (λ i. at (wide_bits x) ((i + 8) % 256)) }
 {
     x.swizzle([
@@ -65,7 +65,7 @@ fn rotate_byte(x: u8x32) -> u8x32
 // Shifts the word down by a byte.
 #[tactic(auto, using(crate::proofs::Words::Wide::byte_right))]
 #[inline(always)]
-fn byte_down(x: u8x32) -> u8x32
+pub(super) fn byte_down(x: u8x32) -> u8x32
     ensures { Places 256 (wide_bits result) (λ i. nat_lt (i + 8) 256 && at (wide_bits x) (i + 8)) }
 {
     x.shuffle(
@@ -80,7 +80,7 @@ fn byte_down(x: u8x32) -> u8x32
 // Shifts the word up by a byte.
 #[tactic(auto, using(crate::proofs::Words::Wide::byte_left))]
 #[inline(always)]
-fn byte_up(x: u8x32) -> u8x32
+pub(super) fn byte_up(x: u8x32) -> u8x32
     ensures { Places 256 (wide_bits result) (λ i. nat_le 8 i && at (wide_bits x) (i - 8)) }
 {
     x.shuffle(
@@ -95,7 +95,7 @@ fn byte_up(x: u8x32) -> u8x32
 // Rotates the word by so many bytes towards the low end.
 #[tactic(auto, using(crate::proofs::Words::Wide::rotate_bytes_calls))]
 #[inline(always)]
-fn rotate_bytes(x: u8x32, bytes: u32) -> u8x32
+pub(super) fn rotate_bytes(x: u8x32, bytes: u32) -> u8x32
     requires within { bytes < 32 }
     ensures { Places 256 (wide_bits result) (λ i. at (wide_bits x) ((i + 8 * bytes) % 256)) }
 {
@@ -109,7 +109,7 @@ fn rotate_bytes(x: u8x32, bytes: u32) -> u8x32
 // Shifts the word down by so many bytes.
 #[tactic(auto, using(crate::proofs::Words::Wide::bytes_right_calls))]
 #[inline(always)]
-fn bytes_down(x: u8x32, bytes: u32) -> u8x32
+pub(super) fn bytes_down(x: u8x32, bytes: u32) -> u8x32
     requires within { bytes < 32 }
     ensures { Places 256 (wide_bits result) (λ i. nat_lt (i + 8 * bytes) 256 && at (wide_bits x) (i + 8 * bytes)) }
 {
@@ -123,7 +123,7 @@ fn bytes_down(x: u8x32, bytes: u32) -> u8x32
 // Shifts the word up by so many bytes.
 #[tactic(auto, using(crate::proofs::Words::Wide::bytes_left_calls))]
 #[inline(always)]
-fn bytes_up(x: u8x32, bytes: u32) -> u8x32
+pub(super) fn bytes_up(x: u8x32, bytes: u32) -> u8x32
     requires within { bytes < 32 }
     ensures { Places 256 (wide_bits result) (λ i. nat_le (8 * bytes) i && at (wide_bits x) (i - 8 * bytes)) }
 {
@@ -132,54 +132,6 @@ fn bytes_up(x: u8x32, bytes: u32) -> u8x32
         return whole;
     }
     byte_up(whole)
-}
-
-// Each bit `n` places down, and from the lowest place to the highest.
-#[tactic(auto, using(crate::proofs::Words::Wide::rotate_calls))]
-#[inline(always)]
-pub(crate) fn rotate_right(x: u8x32, n: u32) -> u8x32
-    requires below_bits { n < 256 }
-    ensures { Places 256 (wide_bits result) (λ i. at (wide_bits x) ((i + n) % 256)) }
-{
-    let part = (n % 8) as u8;
-    let whole = rotate_bytes(x, n / 8);
-    if part == 0 {
-        return whole;
-    }
-    let next = rotate_byte(whole);
-    whole >> u8x32::splat(part) | next << u8x32::splat(8 - part)
-}
-
-// Each bit `n` places down, and zeros above.
-#[tactic(auto, using(crate::proofs::Words::Wide::shift_right_calls))]
-#[inline(always)]
-pub(crate) fn shift_right(x: u8x32, n: u32) -> u8x32
-    requires below_bits { n < 256 }
-    ensures { Places 256 (wide_bits result) (λ i. nat_lt (i + n) 256 && at (wide_bits x) (i + n)) }
-{
-    let part = (n % 8) as u8;
-    let whole = bytes_down(x, n / 8);
-    if part == 0 {
-        return whole;
-    }
-    let next = byte_down(whole);
-    whole >> u8x32::splat(part) | next << u8x32::splat(8 - part)
-}
-
-// Each bit `n` places up, and zeros below.
-#[tactic(auto, using(crate::proofs::Words::Wide::shift_left_calls))]
-#[inline(always)]
-pub(crate) fn shift_left(x: u8x32, n: u32) -> u8x32
-    requires below_bits { n < 256 }
-    ensures { Places 256 (wide_bits result) (λ i. nat_le n i && at (wide_bits x) (i - n)) }
-{
-    let part = (n % 8) as u8;
-    let whole = bytes_up(x, n / 8);
-    if part == 0 {
-        return whole;
-    }
-    let next = byte_up(whole);
-    next >> u8x32::splat(8 - part) | whole << u8x32::splat(part)
 }
 
 // Sixteen lanes in both halves.
@@ -192,20 +144,6 @@ pub(crate) fn twice(x: u8x16) -> u8x32
         0, 1, 2, 3, 4, 5, 6, 7, 8, 9, 10, 11, 12, 13, 14, 15, 0, 1, 2, 3, 4, 5, 6, 7, 8, 9, 10, 11,
         12, 13, 14, 15,
     ])
-}
-
-// A nibble for each row, its bit for each column, the same in every block.
-#[tactic(auto, using(crate::proofs::Words::Wide::twice_rows))]
-#[inline(always)]
-pub(crate) fn rows(r0: u8, r1: u8, r2: u8, r3: u8) -> u8x32
-    requires nibble0 { r0 ≤ 15 }
-    requires nibble1 { r1 ≤ 15 }
-    requires nibble2 { r2 ≤ 15 }
-    requires nibble3 { r3 ≤ 15 }
-    ensures { Places 256 (wide_bits result)
-        (λ i. bit (get_or (r0 ∷ r1 ∷ r2 ∷ r3 ∷ []) (i / 64) 0) (i % 64 / 16)) }
-{
-    twice(vector128::rows(r0, r1, r2, r3))
 }
 
 // The bytes of two blocks, row by row, one in each half.

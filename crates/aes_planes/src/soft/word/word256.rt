@@ -8,7 +8,7 @@ ghost use Rattle.aes_planes.specs.Private.BuiltLength.{built_shape};
 use super::batch::{Batch, Block, Blocks, Blocks16};
 use super::transpose::transpose;
 use super::vector128::lanes_of_block;
-use super::{Word, vector256};
+use super::{Word, vector128, vector256};
 use std::simd::prelude::*;
 
 #[tactic(auto, using(crate::proofs::Words::Wide::wide_operators))]
@@ -52,24 +52,46 @@ impl Word for u8x32 {
         self ^ other
     }
 
+    #[tactic(auto, using(crate::proofs::Words::Wide::shift_left_calls))]
     #[inline(always)]
     fn shift_left(self, n: u32) -> u8x32 {
-        vector256::shift_left(self, n)
+        let part = (n % 8) as u8;
+        let whole = vector256::bytes_up(self, n / 8);
+        if part == 0 {
+            return whole;
+        }
+        let next = vector256::byte_up(whole);
+        next >> u8x32::splat(8 - part) | whole << u8x32::splat(part)
     }
 
+    #[tactic(auto, using(crate::proofs::Words::Wide::shift_right_calls))]
     #[inline(always)]
     fn shift_right(self, n: u32) -> u8x32 {
-        vector256::shift_right(self, n)
+        let part = (n % 8) as u8;
+        let whole = vector256::bytes_down(self, n / 8);
+        if part == 0 {
+            return whole;
+        }
+        let next = vector256::byte_down(whole);
+        whole >> u8x32::splat(part) | next << u8x32::splat(8 - part)
     }
 
+    #[tactic(auto, using(crate::proofs::Words::Wide::rotate_calls))]
     #[inline(always)]
     fn ror(self, n: u32) -> u8x32 {
-        vector256::rotate_right(self, n)
+        let part = (n % 8) as u8;
+        let whole = vector256::rotate_bytes(self, n / 8);
+        if part == 0 {
+            return whole;
+        }
+        let next = vector256::rotate_byte(whole);
+        whole >> u8x32::splat(part) | next << u8x32::splat(8 - part)
     }
 
+    #[tactic(auto, using(crate::proofs::Words::Wide::twice_rows))]
     #[inline(always)]
     fn pack_rows(r0: u8, r1: u8, r2: u8, r3: u8) -> u8x32 {
-        vector256::rows(r0, r1, r2, r3)
+        vector256::twice(vector128::rows(r0, r1, r2, r3))
     }
 
     #[inline(always)]
