@@ -28,8 +28,7 @@ pub fn add_round_constant<W: Word>(state: &mut [W; 8], constant: u8)
     ensures { held W.BLOCKS (map W.bits state.new)
         ≡ map (λ s. fips.add_round_key s (constant_block constant)) (held W.BLOCKS (map W.bits state.old)) }
 {
-    let sums = W::sum_planes(state, &W::constant_planes(constant));
-    *state = sums;
+    *state = W::sum_planes(state, &W::constant_planes(constant));
 }
 
 /// Puts sums of columns in the place of the eight words at `offset`: a round key, where they hold the
@@ -60,8 +59,7 @@ pub fn xor_columns<W: Word>(round_keys: &mut [W], offset: usize, idx_xor: usize,
         let place = offset + i;
         let before = round_keys[place - idx_xor];
         let substituted = round_keys[place];
-        let sum = before.sum_columns(substituted, idx_ror);
-        round_keys[place] = sum;
+        round_keys[place] = before.sum_columns(substituted, idx_ror);
     }
 }
 
@@ -93,8 +91,7 @@ fn straddle<W: Word>(left: W, right: W) -> W
     let high = W::uniform_row(0xc);
     let first = low.bit_and(down);
     let last = high.bit_and(up);
-    let both = first.bit_or(last);
-    both
+    first.bit_or(last)
 }
 
 /// The last two columns of one state and the first two of another.

@@ -19,8 +19,7 @@ fn delta_swap_1<W: Word>(x: W, shift: u32, mask: W) -> W
     let moved = differ.bit_and(mask);
     let up = moved.shift_left(shift);
     let low = x.bit_xor(moved);
-    let swapped = low.bit_xor(up);
-    swapped
+    low.bit_xor(up)
 }
 
 // Swaps in every plane the columns that the mask names in each row with those so far on.

@@ -14,6 +14,5 @@ pub fn add_round_key<W: Word>(state: &mut [W; 8], round_key: &[W; 8])
         ≡ zip_with fips.add_round_key (held W.BLOCKS (map W.bits state.old))
         (held W.BLOCKS (map W.bits round_key.now)) }
 {
-    let sums = W::sum_planes(state, round_key);
-    *state = sums;
+    *state = W::sum_planes(state, round_key);
 }

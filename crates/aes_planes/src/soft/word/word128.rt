@@ -133,7 +133,7 @@ impl Word for u128 {
             by_rows(b7),
         ];
         let [p0, p1, p2, p3, p4, p5, p6, p7] = transpose(rows);
-        let planes = [
+        *output = [
             word(p0),
             word(p1),
             word(p2),
@@ -143,7 +143,6 @@ impl Word for u128 {
             word(p6),
             word(p7),
         ];
-        *output = planes;
     }
 
     #[inline(always)]

@@ -132,14 +132,12 @@ impl Word for u8x32 {
             vector256::by_rows(b6, b14),
             vector256::by_rows(b7, b15),
         ];
-        let planes = transpose(rows);
-        *output = planes;
+        *output = transpose(rows);
     }
 
     #[inline(always)]
     fn inv_bitslice(input: &[u8x32; 8]) -> Blocks16 {
-        let planes = *input;
-        let [r0, r1, r2, r3, r4, r5, r6, r7] = transpose(planes);
+        let [r0, r1, r2, r3, r4, r5, r6, r7] = transpose(*input);
         Blocks {
             blocks: [
                 vector256::low_block(r0),

@@ -99,8 +99,7 @@ impl Word for u32 {
         let w5 = column_of(&b1, 2);
         let w6 = column_of(&b0, 3);
         let w7 = column_of(&b1, 3);
-        let planes = transpose([w0, w1, w2, w3, w4, w5, w6, w7]);
-        *output = planes;
+        *output = transpose([w0, w1, w2, w3, w4, w5, w6, w7]);
     }
 
     #[inline(always)]

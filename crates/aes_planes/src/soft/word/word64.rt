@@ -104,8 +104,7 @@ impl Word for u64 {
         let [even1, odd1] = columns_apart(b1);
         let [even2, odd2] = columns_apart(b2);
         let [even3, odd3] = columns_apart(b3);
-        let planes = transpose([even0, even1, even2, even3, odd0, odd1, odd2, odd3]);
-        *output = planes;
+        *output = transpose([even0, even1, even2, even3, odd0, odd1, odd2, odd3]);
     }
 
     #[inline(always)]

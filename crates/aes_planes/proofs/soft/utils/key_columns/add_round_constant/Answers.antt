@@ -6,6 +6,6 @@ use Rattle.aes_planes.proofs.soft.utils.key_columns.add_round_constant.Goals as 
 pub returns : goal.returns
 returns g c =
     let bits = g.W.Word.bits in
-    constant_added g.W.Word.BLOCKS g.W.Word.BITS c.args.constant (map bits c.sum_planes-sums.result)
+    constant_added g.W.Word.BLOCKS g.W.Word.BITS c.args.constant (map bits c.sum_planes.result)
     (map bits c.args.state.now)
-    (map bits c.constant_planes.result) g.met.W.Word.shape.sixteen c.sum_planes-sums.ensures c.constant_planes.ensures
+    (map bits c.constant_planes.result) g.met.W.Word.shape.sixteen c.sum_planes.ensures c.constant_planes.ensures

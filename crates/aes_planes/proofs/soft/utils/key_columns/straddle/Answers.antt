@@ -15,7 +15,7 @@ returns g c = λ r q k h l kn.
     let low : p < w.BITS = omega (arith, laws.sixteen, place_lt w.BLOCKS r q k h l kn) in
     let col : p % w.ROW_BITS / w.QUARTER_ROW ≡ q = column_of w.BLOCKS _ _ r q k laws.four laws.one h l kn in
     rw (
-      c.bit_or-both.ensures p low,
+      c.bit_or.ensures p low,
       c.bit_and-first.ensures p low,
       c.uniform_row-low.ensures p low,
       c.shift_right-down.ensures p low,

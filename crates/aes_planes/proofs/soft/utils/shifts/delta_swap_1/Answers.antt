@@ -7,7 +7,7 @@ returns g c = λ i h.
     let j = i - c.args.shift in
     let under : j < g.W.Word.BITS = omega arith in
     rw (
-      c.bit_xor-swapped.ensures i h,
+      c.bit_xor.ensures i h,
       c.bit_xor-low.ensures i h,
       c.bit_and-moved.ensures i h,
       c.bit_xor-differ.ensures i h,

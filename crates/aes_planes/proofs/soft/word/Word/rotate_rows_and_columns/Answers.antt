@@ -15,7 +15,7 @@ returns-then-cols-eq0 g c = λ r q k h l kn.
     let x = g.Self.Word.bits c.args.self in
     let p = place n r q k in
     let low : p < B = omega (arith, laws.sixteen, place_lt n r q k h l kn) in
-    c.ror-turned.ensures p low ∙ (λ t. at x ((p + c.ror_distance.ensures t) % B))
+    c.ror.ensures p low ∙ (λ t. at x ((p + c.ror_distance.ensures t) % B))
     ∙ ap (at x) (turned_place laws r q k c.args.rows 0 h (omega arith) kn c.requires.four_rows)
     ∙ ap (λ v. at x (place n ((r + c.args.rows) % 4) ((q + v) % 4) k)) (sym c.if-cols-eq0.true)
 
@@ -30,7 +30,7 @@ returns g c = λ r q k h l kn.
     let p = place n r q k in
     let low : p < B = omega (arith, laws.sixteen, place_lt n r q k h l kn) in
     rw (
-      c.bit_or-turned.ensures p low,
+      c.bit_or.ensures p low,
       c.bit_and-left.ensures p low,
       c.bit_and-right.ensures p low,
       c.bit_not-wraps.ensures p low,

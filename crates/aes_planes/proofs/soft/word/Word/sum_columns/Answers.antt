@@ -17,7 +17,7 @@ returns g c = λ r q k h l kn.
     let col : (q : ℕ) → q < 4 → at q % w.ROW_BITS / w.QUARTER_ROW ≡ q =
     λ q l. column_of n _ _ r q k laws.four laws.one h l kn in
     columns_right n w.BITS c.args.idx_ror r k (w.bits c.args.self) (w.bits c.args.start) (w.bits c.bit_xor-first.result)
-    (w.bits c.bit_xor-pairs.result) (w.bits c.bit_xor-sums.result)
+    (w.bits c.bit_xor-pairs.result) (w.bits c.bit_xor.result)
     (λ q l. rw (
       c.bit_xor-first.ensures (at q) (low q l),
       c.bit_and-first_column.ensures (at q) (low q l),
@@ -34,7 +34,7 @@ returns g c = λ r q k h l kn.
       e1,
     ) refl)
     (λ q l. rw (
-      c.bit_xor-sums.ensures (at q) (low q l),
+      c.bit_xor.ensures (at q) (low q l),
       c.bit_and-part2.ensures (at q) (low q l),
       c.uniform_row-from2.ensures (at q) (low q l),
       c.shift_left-up2.ensures (at q) (low q l),

@@ -13,8 +13,8 @@ returns c =
     let words = c.by_rows.result ∷ c.by_rows-2.result ∷ c.by_rows-3.result ∷ c.by_rows-4.result ∷ c.by_rows-5.result
     ∷ c.by_rows-6.result ∷ c.by_rows-7.result ∷ c.by_rows-8.result ∷ [] in
     packed wide_bits 16 (λ j t. 8 * (j % 2) + t) (λ j t. j / 2) (λ r q k hr hq hk. (omega arith, omega arith))
-    c.transpose-planes.result words blocks c.args.input.now (search rules) refl c.get-b0.ensures.sized
-    (search rules) c.transpose-planes.ensures
+    c.transpose.result words blocks c.args.input.now (search rules) refl c.get-b0.ensures.sized
+    (search rules) c.transpose.ensures
     (by_eight _
     (by_turns blocks (wide_bits c.by_rows.result) 0 c.by_rows.ensures.low c.by_rows.ensures.high)
     (by_turns blocks (wide_bits c.by_rows-2.result) 1 c.by_rows-2.ensures.low c.by_rows-2.ensures.high)

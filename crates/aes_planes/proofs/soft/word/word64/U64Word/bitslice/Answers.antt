@@ -13,8 +13,8 @@ returns c =
     ∷ get_or c.columns_apart-4.result 0 0 ∷ get_or c.columns_apart.result 1 0 ∷ get_or c.columns_apart-2.result 1 0
     ∷ get_or c.columns_apart-3.result 1 0 ∷ get_or c.columns_apart-4.result 1 0 ∷ [] in
     packed (word_bits 64) 4 (λ j t. t % 4) (λ j t. 2 * j + t / 4) (λ r q k hr hq hk. (omega arith, omega arith))
-    c.transpose-planes.result words blocks c.args.input.now (search rules) refl c.get-b0.ensures.sized
-    (search rules) c.transpose-planes.ensures
+    c.transpose.result words blocks c.args.input.now (search rules) refl c.get-b0.ensures.sized
+    (search rules) c.transpose.ensures
     (by_eight _ (c.columns_apart.ensures 0 (omega arith)) (c.columns_apart-2.ensures 0 (omega arith))
     (c.columns_apart-3.ensures 0 (omega arith)) (c.columns_apart-4.ensures 0 (omega arith))
     (c.columns_apart.ensures 1 (omega arith)) (c.columns_apart-2.ensures 1 (omega arith))
