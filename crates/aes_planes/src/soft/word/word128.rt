@@ -114,23 +114,15 @@ impl Word for u128 {
 
     #[inline(always)]
     fn bitslice(output: &mut [u128; 8], input: &Blocks8) {
-        let b0 = input.get(0);
-        let b1 = input.get(1);
-        let b2 = input.get(2);
-        let b3 = input.get(3);
-        let b4 = input.get(4);
-        let b5 = input.get(5);
-        let b6 = input.get(6);
-        let b7 = input.get(7);
         let rows = [
-            by_rows(b0),
-            by_rows(b1),
-            by_rows(b2),
-            by_rows(b3),
-            by_rows(b4),
-            by_rows(b5),
-            by_rows(b6),
-            by_rows(b7),
+            by_rows(input.get(0)),
+            by_rows(input.get(1)),
+            by_rows(input.get(2)),
+            by_rows(input.get(3)),
+            by_rows(input.get(4)),
+            by_rows(input.get(5)),
+            by_rows(input.get(6)),
+            by_rows(input.get(7)),
         ];
         let [p0, p1, p2, p3, p4, p5, p6, p7] = transpose(rows);
         *output = [

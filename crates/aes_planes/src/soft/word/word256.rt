@@ -106,31 +106,15 @@ impl Word for u8x32 {
 
     #[inline(always)]
     fn bitslice(output: &mut [u8x32; 8], input: &Blocks16) {
-        let b0 = input.get(0);
-        let b1 = input.get(1);
-        let b2 = input.get(2);
-        let b3 = input.get(3);
-        let b4 = input.get(4);
-        let b5 = input.get(5);
-        let b6 = input.get(6);
-        let b7 = input.get(7);
-        let b8 = input.get(8);
-        let b9 = input.get(9);
-        let b10 = input.get(10);
-        let b11 = input.get(11);
-        let b12 = input.get(12);
-        let b13 = input.get(13);
-        let b14 = input.get(14);
-        let b15 = input.get(15);
         let rows = [
-            vector256::by_rows(b0, b8),
-            vector256::by_rows(b1, b9),
-            vector256::by_rows(b2, b10),
-            vector256::by_rows(b3, b11),
-            vector256::by_rows(b4, b12),
-            vector256::by_rows(b5, b13),
-            vector256::by_rows(b6, b14),
-            vector256::by_rows(b7, b15),
+            vector256::by_rows(input.get(0), input.get(8)),
+            vector256::by_rows(input.get(1), input.get(9)),
+            vector256::by_rows(input.get(2), input.get(10)),
+            vector256::by_rows(input.get(3), input.get(11)),
+            vector256::by_rows(input.get(4), input.get(12)),
+            vector256::by_rows(input.get(5), input.get(13)),
+            vector256::by_rows(input.get(6), input.get(14)),
+            vector256::by_rows(input.get(7), input.get(15)),
         ];
         *output = transpose(rows);
     }

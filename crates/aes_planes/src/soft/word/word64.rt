@@ -96,14 +96,10 @@ impl Word for u64 {
 
     #[inline(always)]
     fn bitslice(output: &mut [u64; 8], input: &Blocks4) {
-        let b0 = input.get(0);
-        let b1 = input.get(1);
-        let b2 = input.get(2);
-        let b3 = input.get(3);
-        let [even0, odd0] = columns_apart(b0);
-        let [even1, odd1] = columns_apart(b1);
-        let [even2, odd2] = columns_apart(b2);
-        let [even3, odd3] = columns_apart(b3);
+        let [even0, odd0] = columns_apart(input.get(0));
+        let [even1, odd1] = columns_apart(input.get(1));
+        let [even2, odd2] = columns_apart(input.get(2));
+        let [even3, odd3] = columns_apart(input.get(3));
         *output = transpose([even0, even1, even2, even3, odd0, odd1, odd2, odd3]);
     }
 
