@@ -9,8 +9,7 @@ use Rattle.aes_planes.proofs.soft.word.word128.U128Word.bitslice.Goals as goal
 
 pub returns : goal.returns
 returns c =
-    let blocks = c.get.result ∷ c.get-2.result ∷ c.get-3.result ∷ c.get-4.result ∷ c.get-5.result
-    ∷ c.get-6.result
+    let blocks = c.get.result ∷ c.get-2.result ∷ c.get-3.result ∷ c.get-4.result ∷ c.get-5.result ∷ c.get-6.result
     ∷ c.get-7.result ∷ c.get-8.result ∷ [] in
     let words = c.by_rows.result ∷ c.by_rows-2.result ∷ c.by_rows-3.result ∷ c.by_rows-4.result ∷ c.by_rows-5.result
     ∷ c.by_rows-6.result ∷ c.by_rows-7.result ∷ c.by_rows-8.result ∷ [] in
