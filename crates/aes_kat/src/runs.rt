@@ -1,5 +1,5 @@
 //! Runs: from the bytes of a reader to the bytes of a writer.
-ghost use Rattle.std.specs.Prelude.{◌≡◌, ◌++◌, ◌∷◌, [], OnOk, OnErr, IfOk};
+ghost use Rattle.std.specs.Prelude.{◌≡◌, ◌++◌, ◌∷◌, [], OnOk, OnErr, IfOk, vec_len};
 ghost use Rattle.std.specs.Io.KnownBytes.{Appends};
 ghost use Rattle.aes_kat.specs.Lines.{Lacks};
 ghost use Rattle.aes_kat.specs.Status.{status_of};
@@ -138,6 +138,13 @@ fn finish<A: Allocator, W: Write>(
     Ok(fault)
 }
 
+// A buffer of `size` zeros. No clause says that they are zeros, since a proof that reads so many takes gigabytes.
+fn zeros<A: Allocator>(alloc: A, size: usize) -> Result<Vec<u8, A>, Failed>
+    ensures { IfOk result (λ room. vec_len room ≡ size) }
+{
+    Ok(Vec::from_elem(alloc, 0u8, size)?)
+}
+
 /// Answers each line of the input to its end, and returns whether some line was invalid.
 ///
 /// The answers to the lines that end in one read are written before the next read.
@@ -166,7 +173,7 @@ pub fn run_in<A: Allocator, R: Read, W: Write>(
     ensures { Runs result (R.remaining input.old) (R.remaining input.new)
         (W.contents output.old) (W.contents output.new) }
 {
-    let mut room = Vec::from_elem(&alloc, 0u8, CHUNK)?;
+    let mut room = zeros(&alloc, CHUNK)?;
     let chunk = room.as_mut_slice();
     let mut line = Vec::new(&alloc);
     let mut answers = Vec::new(&alloc);
