@@ -17,7 +17,7 @@
 	stp	x24, x23, [sp, #64]             // 16-byte Folded Spill
 	stp	x22, x21, [sp, #80]             // 16-byte Folded Spill
 	stp	xzr, xzr, [sp]
-	bl	"aes_permute::blocks::process_on_lanes::<#3115abfdabc34705>"
+	bl	"aes_permute::blocks::process_on_lanes::<#06aaae76f5856d0a>"
 	ldr	x8, [sp, #8]
 	mov	x23, #2026619832316723200       // =0x1c20000000000000
 	mov	x24, #4053239664633446400       // =0x3840000000000000
@@ -1691,7 +1691,7 @@
 	.size	"aes_cipher::zeroize::zeroize_words::<#fab3fa1ddd682008>", .Lfunc_end2-"aes_cipher::zeroize::zeroize_words::<#fab3fa1ddd682008>"
                                         // -- End function
 	.section	.rodata.cst16,"aM",@progbits,16
-	.p2align	4, 0x0                          // -- Begin function aes_permute::blocks::process_on_lanes::<#3115abfdabc34705>
+	.p2align	4, 0x0                          // -- Begin function aes_permute::blocks::process_on_lanes::<#06aaae76f5856d0a>
 .LCPI3_0:
 	.byte	0                               // 0x0
 	.byte	1                               // 0x1
@@ -1930,10 +1930,10 @@
 	.byte	163                             // 0xa3
 	.byte	212                             // 0xd4
 	.byte	254                             // 0xfe
-	.section	".text.aes_permute::blocks::process_on_lanes::<#3115abfdabc34705>","ax",@progbits
+	.section	".text.aes_permute::blocks::process_on_lanes::<#06aaae76f5856d0a>","ax",@progbits
 	.p2align	2
-	.type	"aes_permute::blocks::process_on_lanes::<#3115abfdabc34705>",@function
-"aes_permute::blocks::process_on_lanes::<#3115abfdabc34705>": // @"aes_permute::blocks::process_on_lanes::<#3115abfdabc34705>"
+	.type	"aes_permute::blocks::process_on_lanes::<#06aaae76f5856d0a>",@function
+"aes_permute::blocks::process_on_lanes::<#06aaae76f5856d0a>": // @"aes_permute::blocks::process_on_lanes::<#06aaae76f5856d0a>"
 // %bb.0:                               // %start
 	stp	x22, x21, [sp, #-32]!           // 16-byte Folded Spill
 	adrp	x8, .LCPI3_0
@@ -1957,7 +1957,7 @@
 // %bb.1:                               // %join.5.lr.ph
 	sub	x19, x1, #1
 	b	.LBB3_3
-.LBB3_2:                                // %"aes_permute::blocks::process_two::<#3115abfdabc34705>.exit"
+.LBB3_2:                                // %"aes_permute::blocks::process_two::<#06aaae76f5856d0a>.exit"
                                         //   in Loop: Header=BB3_3 Depth=1
 	ushr	v3.16b, v2.16b, #4
 	and	v2.16b, v2.16b, v0.16b
@@ -2027,11 +2027,11 @@
 	eor	v2.16b, v2.16b, v4.16b
 	eor	v1.16b, v1.16b, v3.16b
 	b.lo	.LBB3_2
-// %bb.4:                               // %join.5.i2426.preheader
+// %bb.4:                               // %join.5.i2408.preheader
                                         //   in Loop: Header=BB3_3 Depth=1
 	add	x21, x0, #16
 	sub	x22, x1, #2
-.LBB3_5:                                // %join.5.i2426
+.LBB3_5:                                // %join.5.i2408
                                         //   Parent Loop BB3_3 Depth=1
                                         // =>  This Inner Loop Header: Depth=2
 	movi	v3.16b, #15
@@ -2112,7 +2112,7 @@
 	sub	x19, x1, #1
 	sub	x1, x1, #2
 	b	.LBB3_10
-.LBB3_9:                                // %"aes_permute::blocks::process_vector::<#3115abfdabc34705>.exit2306"
+.LBB3_9:                                // %"aes_permute::blocks::process_vector::<#06aaae76f5856d0a>.exit2288"
                                         //   in Loop: Header=BB3_10 Depth=1
 	ushr	v2.16b, v1.16b, #4
 	and	v0.16b, v1.16b, v0.16b
@@ -2157,11 +2157,11 @@
 	tbl	v1.16b, { v4.16b }, v1.16b
 	eor	v1.16b, v1.16b, v2.16b
 	b.lo	.LBB3_9
-// %bb.11:                              // %join.5.i1180.preheader
+// %bb.11:                              // %join.5.i1165.preheader
                                         //   in Loop: Header=BB3_10 Depth=1
 	mov	x20, x1
 	add	x21, x0, #16
-.LBB3_12:                               // %join.5.i1180
+.LBB3_12:                               // %join.5.i1165
                                         //   Parent Loop BB3_10 Depth=1
                                         // =>  This Inner Loop Header: Depth=2
 	movi	v2.16b, #15
@@ -2206,7 +2206,7 @@
 	b.ne	.LBB3_12
 	b	.LBB3_9
 .Lfunc_end3:
-	.size	"aes_permute::blocks::process_on_lanes::<#3115abfdabc34705>", .Lfunc_end3-"aes_permute::blocks::process_on_lanes::<#3115abfdabc34705>"
+	.size	"aes_permute::blocks::process_on_lanes::<#06aaae76f5856d0a>", .Lfunc_end3-"aes_permute::blocks::process_on_lanes::<#06aaae76f5856d0a>"
                                         // -- End function
 	.section	.rodata.cst16,"aM",@progbits,16
 	.p2align	4, 0x0                          // -- Begin function gcm::multiples::next_power
@@ -4068,7 +4068,7 @@
 	ldp	x0, x1, [x8]
 	stp	x29, x30, [sp, #16]             // 16-byte Folded Spill
 	add	x29, sp, #16
-	bl	"aes_permute::blocks::process_on_lanes::<#3115abfdabc34705>"
+	bl	"aes_permute::blocks::process_on_lanes::<#06aaae76f5856d0a>"
 	ldr	x8, [x21, #24]
 	ldp	x9, x10, [x21, #48]
 	add	x0, x20, #8
@@ -4180,7 +4180,7 @@
 	stp	x22, x21, [sp, #192]            // 16-byte Folded Spill
 	mov	x21, x6
 	mov	x22, x5
-	bl	"aes_permute::blocks::process_on_lanes::<#3115abfdabc34705>"
+	bl	"aes_permute::blocks::process_on_lanes::<#06aaae76f5856d0a>"
 	mov	x0, x20
 	mov	x2, xzr
 	mov	x3, xzr
@@ -4409,7 +4409,7 @@
 	.size	"gcm::mode::is_expected", .Lfunc_end17-"gcm::mode::is_expected"
                                         // -- End function
 	.section	.rodata.cst16,"aM",@progbits,16
-	.p2align	4, 0x0                          // -- Begin function aes_ctr::batches::add_keystream::<#cb163a62a28b7112>
+	.p2align	4, 0x0                          // -- Begin function aes_ctr::add_in_batches::add_keystream::<#cb163a62a28b7112>
 .LCPI18_0:
 	.byte	0                               // 0x0
 	.byte	4                               // 0x4
@@ -4529,10 +4529,10 @@
 	.byte	8                               // 0x8
 	.byte	4                               // 0x4
 	.byte	0                               // 0x0
-	.section	".text.aes_ctr::batches::add_keystream::<#cb163a62a28b7112>","ax",@progbits
+	.section	".text.aes_ctr::add_in_batches::add_keystream::<#cb163a62a28b7112>","ax",@progbits
 	.p2align	2
-	.type	"aes_ctr::batches::add_keystream::<#cb163a62a28b7112>",@function
-"aes_ctr::batches::add_keystream::<#cb163a62a28b7112>": // @"aes_ctr::batches::add_keystream::<#cb163a62a28b7112>"
+	.type	"aes_ctr::add_in_batches::add_keystream::<#cb163a62a28b7112>",@function
+"aes_ctr::add_in_batches::add_keystream::<#cb163a62a28b7112>": // @"aes_ctr::add_in_batches::add_keystream::<#cb163a62a28b7112>"
 // %bb.0:                               // %start
 	stp	x29, x30, [sp, #-96]!           // 16-byte Folded Spill
 	stp	x28, x27, [sp, #16]             // 16-byte Folded Spill
@@ -4683,7 +4683,7 @@
 	rev64	v0.16b, v0.16b
 	ext	v0.16b, v0.16b, v0.16b, #8
 	str	q0, [sp, #112]
-	bl	"aes_permute::blocks::process_on_lanes::<#3115abfdabc34705>"
+	bl	"aes_permute::blocks::process_on_lanes::<#06aaae76f5856d0a>"
 	mov	x9, xzr
 	cbz	x24, .LBB18_17
 // %bb.13:                              // %then.1
@@ -4744,7 +4744,7 @@
 	mov	x3, xzr
 	mov	x4, x19
 	mov	x5, x20
-	bl	"aes_ctr::batches::add_next::<#04d64676486cf456>"
+	bl	"aes_ctr::add_in_batches::add_next::<#ccb128d983cf5939>"
 	mov	x3, x0
 	sub	x8, x20, x0
 	cmp	x8, #64
@@ -4780,7 +4780,7 @@
 	mov	x3, xzr
 	mov	x4, x19
 	mov	x5, x20
-	bl	"aes_ctr::batches::add_next::<#3ec8524dbf558e56>"
+	bl	"aes_ctr::add_in_batches::add_next::<#e77fde72a8212f0a>"
 	mov	x3, x0
 	sub	x23, x20, x0
 	cmp	x23, #128
@@ -4839,7 +4839,7 @@
 	ext	v0.16b, v4.16b, v4.16b, #8
 	stp	q2, q1, [sp, #112]
 	stp	q3, q0, [sp, #144]
-	bl	"aes_permute::blocks::process_on_lanes::<#3115abfdabc34705>"
+	bl	"aes_permute::blocks::process_on_lanes::<#06aaae76f5856d0a>"
 	ldp	q0, q3, [sp, #112]
 	sub	x26, x26, #64
 	ldp	q1, q2, [x21]
@@ -4869,7 +4869,7 @@
 	mov	x2, x21
 	mov	x4, x19
 	mov	x5, x20
-	bl	"aes_ctr::batches::add_next::<#04d64676486cf456>"
+	bl	"aes_ctr::add_in_batches::add_next::<#ccb128d983cf5939>"
 	mov	x3, x0
 	cmp	x0, x20
 	b.lo	.LBB18_32
@@ -5138,11 +5138,11 @@
 	mov	x2, x21
 	mov	x4, x19
 	mov	x5, x20
-	bl	"aes_ctr::batches::add_next::<#3ec8524dbf558e56>"
+	bl	"aes_ctr::add_in_batches::add_next::<#e77fde72a8212f0a>"
 	mov	x3, x0
 	cmp	x0, x20
 	b.lo	.LBB18_38
-.LBB18_39:                              // %"aes_ctr::batches::DueBlockCipherEncClosure::call::<#3ec8524dbf558e56>.exit"
+.LBB18_39:                              // %"aes_ctr::add_in_batches::DueBlockCipherEncClosure::call::<#e77fde72a8212f0a>.exit"
 	add	x0, sp, #112
 	bl	"aes_cipher::zeroize::zeroize_words::<#fab3fa1ddd682008>"
 	b	.LBB18_45
@@ -5188,10 +5188,10 @@
 	ldp	x29, x30, [sp], #96             // 16-byte Folded Reload
 	ret
 .Lfunc_end18:
-	.size	"aes_ctr::batches::add_keystream::<#cb163a62a28b7112>", .Lfunc_end18-"aes_ctr::batches::add_keystream::<#cb163a62a28b7112>"
+	.size	"aes_ctr::add_in_batches::add_keystream::<#cb163a62a28b7112>", .Lfunc_end18-"aes_ctr::add_in_batches::add_keystream::<#cb163a62a28b7112>"
                                         // -- End function
 	.section	.rodata.cst16,"aM",@progbits,16
-	.p2align	4, 0x0                          // -- Begin function aes_ctr::batches::add_next::<#3ec8524dbf558e56>
+	.p2align	4, 0x0                          // -- Begin function aes_ctr::add_in_batches::add_next::<#e77fde72a8212f0a>
 .LCPI19_0:
 	.byte	0                               // 0x0
 	.byte	4                               // 0x4
@@ -5243,10 +5243,10 @@
 	.byte	8                               // 0x8
 	.byte	4                               // 0x4
 	.byte	0                               // 0x0
-	.section	".text.aes_ctr::batches::add_next::<#3ec8524dbf558e56>","ax",@progbits
+	.section	".text.aes_ctr::add_in_batches::add_next::<#e77fde72a8212f0a>","ax",@progbits
 	.p2align	2
-	.type	"aes_ctr::batches::add_next::<#3ec8524dbf558e56>",@function
-"aes_ctr::batches::add_next::<#3ec8524dbf558e56>": // @"aes_ctr::batches::add_next::<#3ec8524dbf558e56>"
+	.type	"aes_ctr::add_in_batches::add_next::<#e77fde72a8212f0a>",@function
+"aes_ctr::add_in_batches::add_next::<#e77fde72a8212f0a>": // @"aes_ctr::add_in_batches::add_next::<#e77fde72a8212f0a>"
 // %bb.0:                               // %start
 	sub	sp, sp, #464
 	add	x8, x3, x2
@@ -5341,7 +5341,7 @@
 	lsr	x3, x8, #4
 	ldp	x8, x1, [x0, #16]
 	mov	x0, x8
-	bl	"aes_permute::blocks::process_on_lanes::<#3115abfdabc34705>"
+	bl	"aes_permute::blocks::process_on_lanes::<#06aaae76f5856d0a>"
 	add	x9, x20, x19
 	cbz	x23, .LBB19_7
 .LBB19_2:                               // %then.1.i
@@ -5633,7 +5633,7 @@
 	eor	w10, w12, w10
 	strb	w10, [x11], #1
 	b.ne	.LBB19_18
-.LBB19_19:                              // %"aes_ctr::adding::add_blocks.exit"
+.LBB19_19:                              // %"aes_ctr::add_blocks::add_blocks.exit"
 	add	x0, x22, x19
 	ldp	x20, x19, [sp, #448]            // 16-byte Folded Reload
 	ldp	x22, x21, [sp, #432]            // 16-byte Folded Reload
@@ -5642,12 +5642,12 @@
 	add	sp, sp, #464
 	ret
 .Lfunc_end19:
-	.size	"aes_ctr::batches::add_next::<#3ec8524dbf558e56>", .Lfunc_end19-"aes_ctr::batches::add_next::<#3ec8524dbf558e56>"
+	.size	"aes_ctr::add_in_batches::add_next::<#e77fde72a8212f0a>", .Lfunc_end19-"aes_ctr::add_in_batches::add_next::<#e77fde72a8212f0a>"
                                         // -- End function
-	.section	".text.aes_ctr::batches::add_next::<#04d64676486cf456>","ax",@progbits
-	.p2align	2                               // -- Begin function aes_ctr::batches::add_next::<#04d64676486cf456>
-	.type	"aes_ctr::batches::add_next::<#04d64676486cf456>",@function
-"aes_ctr::batches::add_next::<#04d64676486cf456>": // @"aes_ctr::batches::add_next::<#04d64676486cf456>"
+	.section	".text.aes_ctr::add_in_batches::add_next::<#ccb128d983cf5939>","ax",@progbits
+	.p2align	2                               // -- Begin function aes_ctr::add_in_batches::add_next::<#ccb128d983cf5939>
+	.type	"aes_ctr::add_in_batches::add_next::<#ccb128d983cf5939>",@function
+"aes_ctr::add_in_batches::add_next::<#ccb128d983cf5939>": // @"aes_ctr::add_in_batches::add_next::<#ccb128d983cf5939>"
 // %bb.0:                               // %start
 	sub	sp, sp, #320
 	add	x8, x3, x2
@@ -5707,7 +5707,7 @@
 	ext	v0.16b, v4.16b, v4.16b, #8
 	stp	q2, q1, [sp]
 	stp	q3, q0, [sp, #32]
-	bl	"aes_permute::blocks::process_on_lanes::<#3115abfdabc34705>"
+	bl	"aes_permute::blocks::process_on_lanes::<#06aaae76f5856d0a>"
 	add	x9, x20, x19
 	cbz	x23, .LBB20_5
 // %bb.1:                               // %then.1.i
@@ -5801,7 +5801,7 @@
 	eor	w10, w12, w10
 	strb	w10, [x11], #1
 	b.ne	.LBB20_16
-.LBB20_17:                              // %"aes_ctr::adding::add_blocks.exit"
+.LBB20_17:                              // %"aes_ctr::add_blocks::add_blocks.exit"
 	add	x0, x22, x19
 	ldp	x20, x19, [sp, #304]            // 16-byte Folded Reload
 	ldp	x22, x21, [sp, #288]            // 16-byte Folded Reload
@@ -5810,7 +5810,7 @@
 	add	sp, sp, #320
 	ret
 .Lfunc_end20:
-	.size	"aes_ctr::batches::add_next::<#04d64676486cf456>", .Lfunc_end20-"aes_ctr::batches::add_next::<#04d64676486cf456>"
+	.size	"aes_ctr::add_in_batches::add_next::<#ccb128d983cf5939>", .Lfunc_end20-"aes_ctr::add_in_batches::add_next::<#ccb128d983cf5939>"
                                         // -- End function
 	.section	".text.gcm::stack::wipe_stack::<=320>","ax",@progbits
 	.p2align	2                               // -- Begin function gcm::stack::wipe_stack::<=320>
@@ -5956,7 +5956,7 @@
 	rev	x27, x9
 	str	x8, [sp, #16]                   // 8-byte Spill
 	mov	x25, x3
-	bl	"aes_ctr::batches::add_keystream::<#cb163a62a28b7112>"
+	bl	"aes_ctr::add_in_batches::add_keystream::<#cb163a62a28b7112>"
 	and	x8, x24, #0xffffffff00000000
 	mov	x9, #68719476736                // =0x1000000000
 	sub	x0, x29, #48
@@ -5970,7 +5970,7 @@
 	rev64	v0.16b, v0.16b
 	ext	v0.16b, v0.16b, v0.16b, #8
 	stur	q0, [x29, #-16]
-	bl	"aes_ctr::batches::add_keystream::<#cb163a62a28b7112>"
+	bl	"aes_ctr::add_in_batches::add_keystream::<#cb163a62a28b7112>"
 	sub	x0, x29, #16
 	bl	"aes_cipher::zeroize::elements::zeroize_elements::<#3b2097f0eef5a37b>"
 	b	.LBB22_10
@@ -5979,7 +5979,7 @@
 	sub	x1, x29, #32
 	mov	w2, #16                         // =0x10
 	mov	x4, x19
-	bl	"aes_ctr::batches::add_keystream::<#cb163a62a28b7112>"
+	bl	"aes_ctr::add_in_batches::add_keystream::<#cb163a62a28b7112>"
 .LBB22_10:                              // %"gcm::mode::LentGcm::apply::<#cb163a62a28b7112>.exit.i"
 	add	x0, sp, #48
 	sub	x1, x29, #32
@@ -7226,7 +7226,7 @@ fotsgure_gcm_open:                      // @fotsgure_gcm_open
 	mov	x4, x21
 	rev	x27, x9
 	orr	x28, x8, #0xfffffff000000000
-	bl	"aes_ctr::batches::add_keystream::<#cb163a62a28b7112>"
+	bl	"aes_ctr::add_in_batches::add_keystream::<#cb163a62a28b7112>"
 	and	x8, x26, #0xffffffff00000000
 	add	x0, sp, #16
 	sub	x1, x29, #16
@@ -7239,7 +7239,7 @@ fotsgure_gcm_open:                      // @fotsgure_gcm_open
 	rev64	v0.16b, v0.16b
 	ext	v0.16b, v0.16b, v0.16b, #8
 	stur	q0, [x29, #-16]
-	bl	"aes_ctr::batches::add_keystream::<#cb163a62a28b7112>"
+	bl	"aes_ctr::add_in_batches::add_keystream::<#cb163a62a28b7112>"
 	sub	x0, x29, #16
 	bl	"aes_cipher::zeroize::elements::zeroize_elements::<#3b2097f0eef5a37b>"
 	b	.LBB32_14
@@ -7248,7 +7248,7 @@ fotsgure_gcm_open:                      // @fotsgure_gcm_open
 	sub	x1, x29, #32
 	mov	w2, #16                         // =0x10
 	mov	x3, x19
-	bl	"aes_ctr::batches::add_keystream::<#cb163a62a28b7112>"
+	bl	"aes_ctr::add_in_batches::add_keystream::<#cb163a62a28b7112>"
 .LBB32_14:                              // %join.3.i.i
 	sub	x0, x29, #32
 	bl	"aes_cipher::zeroize::elements::zeroize_elements::<#3b2097f0eef5a37b>"
@@ -7516,7 +7516,7 @@ fotsgure_gcm_decrypt:                   // @fotsgure_gcm_decrypt
 	mov	x4, x21
 	rev	x26, x9
 	orr	x27, x10, #0xfffffff000000000
-	bl	"aes_ctr::batches::add_keystream::<#cb163a62a28b7112>"
+	bl	"aes_ctr::add_in_batches::add_keystream::<#cb163a62a28b7112>"
 	and	x8, x23, #0xffffffff00000000
 	mov	x0, sp
 	add	x1, sp, #16
@@ -7529,7 +7529,7 @@ fotsgure_gcm_decrypt:                   // @fotsgure_gcm_decrypt
 	rev64	v0.16b, v0.16b
 	ext	v0.16b, v0.16b, v0.16b, #8
 	str	q0, [sp, #16]
-	bl	"aes_ctr::batches::add_keystream::<#cb163a62a28b7112>"
+	bl	"aes_ctr::add_in_batches::add_keystream::<#cb163a62a28b7112>"
 	add	x0, sp, #16
 	bl	"aes_cipher::zeroize::elements::zeroize_elements::<#3b2097f0eef5a37b>"
 	mov	x1, x24
@@ -7543,7 +7543,7 @@ fotsgure_gcm_decrypt:                   // @fotsgure_gcm_decrypt
 	add	x1, x1, #32
 	mov	x3, x19
 	mov	x4, x20
-	bl	"aes_ctr::batches::add_keystream::<#cb163a62a28b7112>"
+	bl	"aes_ctr::add_in_batches::add_keystream::<#cb163a62a28b7112>"
 	mov	x1, x21
 	mov	x3, x20
 .LBB36_10:                              // %arm.4.i
@@ -7696,7 +7696,7 @@ fotsgure_gcm_decrypt_unverified:        // @fotsgure_gcm_decrypt_unverified
 	rev	x25, x10
 	orr	x26, x8, #0xfffffff000000000
 	sub	x19, x19, x23
-	bl	"aes_ctr::batches::add_keystream::<#cb163a62a28b7112>"
+	bl	"aes_ctr::add_in_batches::add_keystream::<#cb163a62a28b7112>"
 	and	x8, x24, #0xffffffff00000000
 	add	x0, sp, #16
 	sub	x1, x29, #16
@@ -7709,7 +7709,7 @@ fotsgure_gcm_decrypt_unverified:        // @fotsgure_gcm_decrypt_unverified
 	rev64	v0.16b, v0.16b
 	ext	v0.16b, v0.16b, v0.16b, #8
 	stur	q0, [x29, #-16]
-	bl	"aes_ctr::batches::add_keystream::<#cb163a62a28b7112>"
+	bl	"aes_ctr::add_in_batches::add_keystream::<#cb163a62a28b7112>"
 	sub	x0, x29, #16
 	bl	"aes_cipher::zeroize::elements::zeroize_elements::<#3b2097f0eef5a37b>"
 	b	.LBB37_13
@@ -7722,7 +7722,7 @@ fotsgure_gcm_decrypt_unverified:        // @fotsgure_gcm_decrypt_unverified
 	mov	x2, x22
 	mov	x3, x21
 	mov	x4, x19
-	bl	"aes_ctr::batches::add_keystream::<#cb163a62a28b7112>"
+	bl	"aes_ctr::add_in_batches::add_keystream::<#cb163a62a28b7112>"
 .LBB37_13:                              // %"gcm::gctr::add_gctr::<#cb163a62a28b7112>.exit.i.i"
 	mov	w8, wzr
 .LBB37_14:                              // %"gcm_c::opening::fotsgure_gcm_decrypt_unverified.exit"
@@ -7851,7 +7851,7 @@ fotsgure_gcm_encrypt:                   // @fotsgure_gcm_encrypt
 	rev	x27, x10
 	orr	x28, x9, #0xfffffff000000000
 	sub	x24, x19, x23
-	bl	"aes_ctr::batches::add_keystream::<#cb163a62a28b7112>"
+	bl	"aes_ctr::add_in_batches::add_keystream::<#cb163a62a28b7112>"
 	and	x8, x26, #0xffffffff00000000
 	add	x0, sp, #16
 	sub	x1, x29, #16
@@ -7864,7 +7864,7 @@ fotsgure_gcm_encrypt:                   // @fotsgure_gcm_encrypt
 	rev64	v0.16b, v0.16b
 	ext	v0.16b, v0.16b, v0.16b, #8
 	stur	q0, [x29, #-16]
-	bl	"aes_ctr::batches::add_keystream::<#cb163a62a28b7112>"
+	bl	"aes_ctr::add_in_batches::add_keystream::<#cb163a62a28b7112>"
 	sub	x0, x29, #16
 	bl	"aes_cipher::zeroize::elements::zeroize_elements::<#3b2097f0eef5a37b>"
 	b	.LBB38_13
@@ -7877,7 +7877,7 @@ fotsgure_gcm_encrypt:                   // @fotsgure_gcm_encrypt
 	mov	x2, x22
 	mov	x3, x21
 	mov	x4, x19
-	bl	"aes_ctr::batches::add_keystream::<#cb163a62a28b7112>"
+	bl	"aes_ctr::add_in_batches::add_keystream::<#cb163a62a28b7112>"
 .LBB38_13:                              // %"gcm::gctr::add_gctr::<#cb163a62a28b7112>.exit.i.i"
 	ldp	x8, x9, [x20, #48]
 	add	x0, x25, #8

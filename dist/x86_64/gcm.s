@@ -27,7 +27,7 @@
 	movaps	%xmm0, (%rsp)
 	movq	%rsp, %rdx
 	movl	$1, %ecx
-	callq	"aes_permute::blocks::process_on_lanes::<#3115abfdabc34705>"
+	callq	"aes_permute::blocks::process_on_lanes::<#06aaae76f5856d0a>"
 	movq	(%rsp), %r13
 	movq	8(%rsp), %r12
 	bswapq	%r12
@@ -2236,7 +2236,7 @@
 	.size	"aes_cipher::zeroize::zeroize_words::<#fab3fa1ddd682008>", .Lfunc_end2-"aes_cipher::zeroize::zeroize_words::<#fab3fa1ddd682008>"
                                         # -- End function
 	.section	.rodata.cst16,"aM",@progbits,16
-	.p2align	4, 0x0                          # -- Begin function aes_permute::blocks::process_on_lanes::<#3115abfdabc34705>
+	.p2align	4, 0x0                          # -- Begin function aes_permute::blocks::process_on_lanes::<#06aaae76f5856d0a>
 .LCPI3_0:
 	.zero	16,15
 .LCPI3_1:
@@ -2477,10 +2477,10 @@
 	.byte	163                             # 0xa3
 	.byte	212                             # 0xd4
 	.byte	254                             # 0xfe
-	.section	".text.aes_permute::blocks::process_on_lanes::<#3115abfdabc34705>","ax",@progbits
+	.section	".text.aes_permute::blocks::process_on_lanes::<#06aaae76f5856d0a>","ax",@progbits
 	.p2align	4
-	.type	"aes_permute::blocks::process_on_lanes::<#3115abfdabc34705>",@function
-"aes_permute::blocks::process_on_lanes::<#3115abfdabc34705>": # @"aes_permute::blocks::process_on_lanes::<#3115abfdabc34705>"
+	.type	"aes_permute::blocks::process_on_lanes::<#06aaae76f5856d0a>",@function
+"aes_permute::blocks::process_on_lanes::<#06aaae76f5856d0a>": # @"aes_permute::blocks::process_on_lanes::<#06aaae76f5856d0a>"
 # %bb.0:                                # %start
 	pushq	%r15
 	pushq	%r14
@@ -2496,7 +2496,7 @@
 	xorl	%eax, %eax
 	jmp	.LBB3_10
 	.p2align	4
-.LBB3_13:                               # %"aes_permute::blocks::process_two::<#3115abfdabc34705>.exit"
+.LBB3_13:                               # %"aes_permute::blocks::process_two::<#06aaae76f5856d0a>.exit"
                                         #   in Loop: Header=BB3_10 Depth=1
 	movdqu	(%rdi,%r9), %xmm3
 	movdqa	%xmm2, %xmm0
@@ -2594,12 +2594,12 @@
 	pxor	%xmm6, %xmm1
 	cmpq	$2, %r8
 	jb	.LBB3_13
-# %bb.11:                               # %join.5.i2426.preheader
+# %bb.11:                               # %join.5.i2408.preheader
                                         #   in Loop: Header=BB3_10 Depth=1
 	movq	%r11, %r14
 	movq	%r10, %r15
 	.p2align	4
-.LBB3_12:                               # %join.5.i2426
+.LBB3_12:                               # %join.5.i2408
                                         #   Parent Loop BB3_10 Depth=1
                                         # =>  This Inner Loop Header: Depth=2
 	movdqu	(%r14), %xmm12
@@ -2710,7 +2710,7 @@
 	addq	$-2, %rsi
 	jmp	.LBB3_4
 	.p2align	4
-.LBB3_7:                                # %"aes_permute::blocks::process_vector::<#3115abfdabc34705>.exit2306"
+.LBB3_7:                                # %"aes_permute::blocks::process_vector::<#06aaae76f5856d0a>.exit2288"
                                         #   in Loop: Header=BB3_4 Depth=1
 	movdqu	(%rdi,%r9), %xmm2
 	movdqa	%xmm1, %xmm3
@@ -2766,12 +2766,12 @@
 	pxor	%xmm3, %xmm1
 	cmpq	$2, %r8
 	jb	.LBB3_7
-# %bb.5:                                # %join.5.i1180.preheader
+# %bb.5:                                # %join.5.i1165.preheader
                                         #   in Loop: Header=BB3_4 Depth=1
 	movq	%rsi, %rbx
 	movq	%r10, %r14
 	.p2align	4
-.LBB3_6:                                # %join.5.i1180
+.LBB3_6:                                # %join.5.i1165
                                         #   Parent Loop BB3_4 Depth=1
                                         # =>  This Inner Loop Header: Depth=2
 	movdqa	%xmm1, %xmm2
@@ -2820,7 +2820,7 @@
 	jne	.LBB3_6
 	jmp	.LBB3_7
 .Lfunc_end3:
-	.size	"aes_permute::blocks::process_on_lanes::<#3115abfdabc34705>", .Lfunc_end3-"aes_permute::blocks::process_on_lanes::<#3115abfdabc34705>"
+	.size	"aes_permute::blocks::process_on_lanes::<#06aaae76f5856d0a>", .Lfunc_end3-"aes_permute::blocks::process_on_lanes::<#06aaae76f5856d0a>"
                                         # -- End function
 	.section	.rodata.cst16,"aM",@progbits,16
 	.p2align	4, 0x0                          # -- Begin function gcm::multiples::next_power
@@ -5639,7 +5639,7 @@
 	movq	(%rax), %rdi
 	movq	8(%rax), %rsi
 	movl	$1, %ecx
-	callq	"aes_permute::blocks::process_on_lanes::<#3115abfdabc34705>"
+	callq	"aes_permute::blocks::process_on_lanes::<#06aaae76f5856d0a>"
 	movq	48(%r15), %rdx
 	xorl	%eax, %eax
 	cmpq	$1, 24(%r15)
@@ -5783,7 +5783,7 @@
 	movq	8(%rax), %rsi
 	movl	$1, %ecx
 	movq	%r15, %rdx
-	callq	"aes_permute::blocks::process_on_lanes::<#3115abfdabc34705>"
+	callq	"aes_permute::blocks::process_on_lanes::<#06aaae76f5856d0a>"
 	addq	$8, %r14
 	movq	%r14, 8(%rsp)                   # 8-byte Spill
 	movq	%r14, %rdi
@@ -6062,7 +6062,7 @@
 	.size	"gcm::mode::is_expected", .Lfunc_end17-"gcm::mode::is_expected"
                                         # -- End function
 	.section	.rodata.cst16,"aM",@progbits,16
-	.p2align	4, 0x0                          # -- Begin function aes_ctr::batches::add_keystream::<#cb163a62a28b7112>
+	.p2align	4, 0x0                          # -- Begin function aes_ctr::add_in_batches::add_keystream::<#cb163a62a28b7112>
 .LCPI18_0:
 	.byte	15                              # 0xf
 	.byte	14                              # 0xe
@@ -6217,10 +6217,10 @@
 	.zero	16,85
 .LCPI18_16:
 	.zero	16,51
-	.section	".text.aes_ctr::batches::add_keystream::<#cb163a62a28b7112>","ax",@progbits
+	.section	".text.aes_ctr::add_in_batches::add_keystream::<#cb163a62a28b7112>","ax",@progbits
 	.p2align	4
-	.type	"aes_ctr::batches::add_keystream::<#cb163a62a28b7112>",@function
-"aes_ctr::batches::add_keystream::<#cb163a62a28b7112>": # @"aes_ctr::batches::add_keystream::<#cb163a62a28b7112>"
+	.type	"aes_ctr::add_in_batches::add_keystream::<#cb163a62a28b7112>",@function
+"aes_ctr::add_in_batches::add_keystream::<#cb163a62a28b7112>": # @"aes_ctr::add_in_batches::add_keystream::<#cb163a62a28b7112>"
 # %bb.0:                                # %start
 	pushq	%rbp
 	pushq	%r15
@@ -6418,7 +6418,7 @@
 	movq	%rax, %rdi
 	movq	%rdx, %rsi
 	movq	%r15, %rdx
-	callq	"aes_permute::blocks::process_on_lanes::<#3115abfdabc34705>"
+	callq	"aes_permute::blocks::process_on_lanes::<#06aaae76f5856d0a>"
 	xorl	%ecx, %ecx
 	testq	%rbp, %rbp
 	je	.LBB18_11
@@ -6449,7 +6449,7 @@
 	xorl	%ecx, %ecx
 	movq	%rbx, %r8
 	movq	%r14, %r9
-	callq	"aes_ctr::batches::add_next::<#04d64676486cf456>"
+	callq	"aes_ctr::add_in_batches::add_next::<#ccb128d983cf5939>"
 	movq	%rax, %rbp
 	jmp	.LBB18_41
 .LBB18_29:                              # %"aes_hybrid::plane_keys::store_planes::<#fab3fa1ddd682008>.exit"
@@ -6516,7 +6516,7 @@
 	xorl	%ecx, %ecx
 	movq	%rbx, %r8
 	movq	%r14, %r9
-	callq	"aes_ctr::batches::add_next::<#3ec8524dbf558e56>"
+	callq	"aes_ctr::add_in_batches::add_next::<#e77fde72a8212f0a>"
 	movq	%rax, %r12
 	movq	%r14, %rbp
 	subq	%r12, %rbp
@@ -6669,7 +6669,7 @@
 	movl	$4, %ecx
 	movq	16(%rsp), %rdi                  # 8-byte Reload
 	movq	24(%rsp), %rsi                  # 8-byte Reload
-	callq	"aes_permute::blocks::process_on_lanes::<#3115abfdabc34705>"
+	callq	"aes_permute::blocks::process_on_lanes::<#06aaae76f5856d0a>"
 	movdqu	(%rbx,%rbp), %xmm0
 	movdqu	16(%rbx,%rbp), %xmm1
 	movdqu	32(%rbx,%rbp), %xmm2
@@ -6699,7 +6699,7 @@
 	movq	%rbp, %rcx
 	movq	%rbx, %r8
 	movq	%r14, %r9
-	callq	"aes_ctr::batches::add_next::<#04d64676486cf456>"
+	callq	"aes_ctr::add_in_batches::add_next::<#ccb128d983cf5939>"
 	movq	%rax, %rbp
 	cmpq	%r14, %rax
 	jb	.LBB18_45
@@ -7032,11 +7032,11 @@
 	movq	%r12, %rcx
 	movq	%rbx, %r8
 	movq	%r14, %r9
-	callq	"aes_ctr::batches::add_next::<#3ec8524dbf558e56>"
+	callq	"aes_ctr::add_in_batches::add_next::<#e77fde72a8212f0a>"
 	movq	%rax, %r12
 	cmpq	%r14, %rax
 	jb	.LBB18_36
-.LBB18_37:                              # %"aes_ctr::batches::DueBlockCipherEncClosure::call::<#3ec8524dbf558e56>.exit"
+.LBB18_37:                              # %"aes_ctr::add_in_batches::DueBlockCipherEncClosure::call::<#e77fde72a8212f0a>.exit"
 	leaq	256(%rsp), %rdi
 	callq	"aes_cipher::zeroize::zeroize_words::<#fab3fa1ddd682008>"
 	jmp	.LBB18_46
@@ -7070,8 +7070,8 @@
 	popq	%rbp
 	retq
 .Lfunc_end18:
-	.size	"aes_ctr::batches::add_keystream::<#cb163a62a28b7112>", .Lfunc_end18-"aes_ctr::batches::add_keystream::<#cb163a62a28b7112>"
-	.section	".rodata.aes_ctr::batches::add_keystream::<#cb163a62a28b7112>","a",@progbits
+	.size	"aes_ctr::add_in_batches::add_keystream::<#cb163a62a28b7112>", .Lfunc_end18-"aes_ctr::add_in_batches::add_keystream::<#cb163a62a28b7112>"
+	.section	".rodata.aes_ctr::add_in_batches::add_keystream::<#cb163a62a28b7112>","a",@progbits
 	.p2align	2, 0x0
 .LJTI18_0:
 	.long	.LBB18_28-.LJTI18_0
@@ -7080,7 +7080,7 @@
 	.long	.LBB18_27-.LJTI18_0
                                         # -- End function
 	.section	.rodata.cst16,"aM",@progbits,16
-	.p2align	4, 0x0                          # -- Begin function aes_ctr::batches::add_next::<#3ec8524dbf558e56>
+	.p2align	4, 0x0                          # -- Begin function aes_ctr::add_in_batches::add_next::<#e77fde72a8212f0a>
 .LCPI19_0:
 	.byte	15                              # 0xf
 	.byte	14                              # 0xe
@@ -7172,10 +7172,10 @@
 	.zero	16,51
 .LCPI19_7:
 	.zero	16,15
-	.section	".text.aes_ctr::batches::add_next::<#3ec8524dbf558e56>","ax",@progbits
+	.section	".text.aes_ctr::add_in_batches::add_next::<#e77fde72a8212f0a>","ax",@progbits
 	.p2align	4
-	.type	"aes_ctr::batches::add_next::<#3ec8524dbf558e56>",@function
-"aes_ctr::batches::add_next::<#3ec8524dbf558e56>": # @"aes_ctr::batches::add_next::<#3ec8524dbf558e56>"
+	.type	"aes_ctr::add_in_batches::add_next::<#e77fde72a8212f0a>",@function
+"aes_ctr::add_in_batches::add_next::<#e77fde72a8212f0a>": # @"aes_ctr::add_in_batches::add_next::<#e77fde72a8212f0a>"
 # %bb.0:                                # %start
 	pushq	%r15
 	pushq	%r14
@@ -7298,7 +7298,7 @@
 	movq	24(%rdi), %rsi
 	movq	%rsp, %rdx
 	movq	%rax, %rdi
-	callq	"aes_permute::blocks::process_on_lanes::<#3115abfdabc34705>"
+	callq	"aes_permute::blocks::process_on_lanes::<#06aaae76f5856d0a>"
 	leaq	(%r15,%rbx), %rax
 	testq	%r13, %r13
 	je	.LBB19_4
@@ -7645,7 +7645,7 @@
 .LBB19_22:                              # %join.8.i23
 	cmpq	%rcx, %rdx
 	jne	.LBB19_19
-.LBB19_23:                              # %"aes_ctr::adding::add_blocks.exit"
+.LBB19_23:                              # %"aes_ctr::add_blocks::add_blocks.exit"
 	addq	%rbx, %r14
 	movq	%r14, %rax
 	addq	$384, %rsp                      # imm = 0x180
@@ -7656,10 +7656,10 @@
 	popq	%r15
 	retq
 .Lfunc_end19:
-	.size	"aes_ctr::batches::add_next::<#3ec8524dbf558e56>", .Lfunc_end19-"aes_ctr::batches::add_next::<#3ec8524dbf558e56>"
+	.size	"aes_ctr::add_in_batches::add_next::<#e77fde72a8212f0a>", .Lfunc_end19-"aes_ctr::add_in_batches::add_next::<#e77fde72a8212f0a>"
                                         # -- End function
 	.section	.rodata.cst16,"aM",@progbits,16
-	.p2align	4, 0x0                          # -- Begin function aes_ctr::batches::add_next::<#04d64676486cf456>
+	.p2align	4, 0x0                          # -- Begin function aes_ctr::add_in_batches::add_next::<#ccb128d983cf5939>
 .LCPI20_0:
 	.byte	15                              # 0xf
 	.byte	14                              # 0xe
@@ -7677,10 +7677,10 @@
 	.byte	2                               # 0x2
 	.byte	1                               # 0x1
 	.byte	0                               # 0x0
-	.section	".text.aes_ctr::batches::add_next::<#04d64676486cf456>","ax",@progbits
+	.section	".text.aes_ctr::add_in_batches::add_next::<#ccb128d983cf5939>","ax",@progbits
 	.p2align	4
-	.type	"aes_ctr::batches::add_next::<#04d64676486cf456>",@function
-"aes_ctr::batches::add_next::<#04d64676486cf456>": # @"aes_ctr::batches::add_next::<#04d64676486cf456>"
+	.type	"aes_ctr::add_in_batches::add_next::<#ccb128d983cf5939>",@function
+"aes_ctr::add_in_batches::add_next::<#ccb128d983cf5939>": # @"aes_ctr::add_in_batches::add_next::<#ccb128d983cf5939>"
 # %bb.0:                                # %start
 	pushq	%rbp
 	pushq	%r15
@@ -7760,7 +7760,7 @@
 	movq	%rsp, %r13
 	movq	%rax, %rdi
 	movq	%r13, %rdx
-	callq	"aes_permute::blocks::process_on_lanes::<#3115abfdabc34705>"
+	callq	"aes_permute::blocks::process_on_lanes::<#06aaae76f5856d0a>"
 	leaq	(%r15,%rbx), %rax
 	testq	%rbp, %rbp
 	je	.LBB20_1
@@ -7873,7 +7873,7 @@
 .LBB20_19:                              # %join.8.i23
 	cmpq	%rcx, %rdx
 	jne	.LBB20_16
-.LBB20_20:                              # %"aes_ctr::adding::add_blocks.exit"
+.LBB20_20:                              # %"aes_ctr::add_blocks::add_blocks.exit"
 	addq	%rbx, %r14
 	movq	%r14, %rax
 	addq	$264, %rsp                      # imm = 0x108
@@ -7885,7 +7885,7 @@
 	popq	%rbp
 	retq
 .Lfunc_end20:
-	.size	"aes_ctr::batches::add_next::<#04d64676486cf456>", .Lfunc_end20-"aes_ctr::batches::add_next::<#04d64676486cf456>"
+	.size	"aes_ctr::add_in_batches::add_next::<#ccb128d983cf5939>", .Lfunc_end20-"aes_ctr::add_in_batches::add_next::<#ccb128d983cf5939>"
                                         # -- End function
 	.section	".text.gcm::stack::wipe_stack::<=320>","ax",@progbits
 	.p2align	4                               # -- Begin function gcm::stack::wipe_stack::<=320>
@@ -8046,7 +8046,7 @@
 	leaq	16(%rsp), %rdi
 	leaq	32(%rsp), %rsi
 	movl	$16, %edx
-	callq	"aes_ctr::batches::add_keystream::<#cb163a62a28b7112>"
+	callq	"aes_ctr::add_in_batches::add_keystream::<#cb163a62a28b7112>"
 	movabsq	$-4294967296, %rax              # imm = 0xFFFFFFFF00000000
 	andq	%rax, %r14
 	movq	%r14, %xmm0
@@ -8062,7 +8062,7 @@
 	movq	%r13, %rsi
 	movq	80(%rsp), %rcx                  # 8-byte Reload
 	movq	72(%rsp), %r8                   # 8-byte Reload
-	callq	"aes_ctr::batches::add_keystream::<#cb163a62a28b7112>"
+	callq	"aes_ctr::add_in_batches::add_keystream::<#cb163a62a28b7112>"
 	movq	%r13, %rdi
 	callq	"aes_cipher::zeroize::elements::zeroize_elements::<#3b2097f0eef5a37b>"
 	jmp	.LBB22_8
@@ -8071,7 +8071,7 @@
 	leaq	32(%rsp), %rsi
 	movl	$16, %edx
 	movq	%rbx, %r8
-	callq	"aes_ctr::batches::add_keystream::<#cb163a62a28b7112>"
+	callq	"aes_ctr::add_in_batches::add_keystream::<#cb163a62a28b7112>"
 .LBB22_8:                               # %"gcm::mode::LentGcm::apply::<#cb163a62a28b7112>.exit.i"
 	movq	216(%rsp), %r14
 	pxor	%xmm0, %xmm0
@@ -9732,7 +9732,7 @@ fotsgure_gcm_open:                      # @fotsgure_gcm_open
 	leaq	32(%rsp), %rdi
 	leaq	48(%rsp), %rsi
 	movl	$16, %edx
-	callq	"aes_ctr::batches::add_keystream::<#cb163a62a28b7112>"
+	callq	"aes_ctr::add_in_batches::add_keystream::<#cb163a62a28b7112>"
 	movabsq	$-4294967296, %rax              # imm = 0xFFFFFFFF00000000
 	andq	%rax, %r13
 	movq	%r13, %xmm0
@@ -9750,7 +9750,7 @@ fotsgure_gcm_open:                      # @fotsgure_gcm_open
 	movq	%r15, %rsi
 	movq	%r14, %rcx
 	movq	%rbx, %r8
-	callq	"aes_ctr::batches::add_keystream::<#cb163a62a28b7112>"
+	callq	"aes_ctr::add_in_batches::add_keystream::<#cb163a62a28b7112>"
 	movq	%r15, %rdi
 	callq	"aes_cipher::zeroize::elements::zeroize_elements::<#3b2097f0eef5a37b>"
 	jmp	.LBB32_10
@@ -9760,7 +9760,7 @@ fotsgure_gcm_open:                      # @fotsgure_gcm_open
 	movl	$16, %edx
 	movq	%r14, %rcx
 	movq	%rbx, %r8
-	callq	"aes_ctr::batches::add_keystream::<#cb163a62a28b7112>"
+	callq	"aes_ctr::add_in_batches::add_keystream::<#cb163a62a28b7112>"
 .LBB32_10:                              # %join.3.i.i
 	leaq	48(%rsp), %rdi
 	callq	"aes_cipher::zeroize::elements::zeroize_elements::<#3b2097f0eef5a37b>"
@@ -10090,7 +10090,7 @@ fotsgure_gcm_decrypt:                   # @fotsgure_gcm_decrypt
 	movq	%rcx, 32(%rsp)                  # 8-byte Spill
 	movq	%rax, %rcx
 	movq	%r15, %r8
-	callq	"aes_ctr::batches::add_keystream::<#cb163a62a28b7112>"
+	callq	"aes_ctr::add_in_batches::add_keystream::<#cb163a62a28b7112>"
 	movabsq	$-4294967296, %rax              # imm = 0xFFFFFFFF00000000
 	andq	%rax, %rbp
 	movq	%rbp, %xmm0
@@ -10106,7 +10106,7 @@ fotsgure_gcm_decrypt:                   # @fotsgure_gcm_decrypt
 	movq	%r14, %rdx
 	movq	24(%rsp), %rcx                  # 8-byte Reload
 	movq	%r13, %r8
-	callq	"aes_ctr::batches::add_keystream::<#cb163a62a28b7112>"
+	callq	"aes_ctr::add_in_batches::add_keystream::<#cb163a62a28b7112>"
 	movq	%rbx, %rdi
 	callq	"aes_cipher::zeroize::elements::zeroize_elements::<#3b2097f0eef5a37b>"
 	movq	40(%rsp), %rsi                  # 8-byte Reload
@@ -10121,7 +10121,7 @@ fotsgure_gcm_decrypt:                   # @fotsgure_gcm_decrypt
 	movq	%rcx, %rbx
 	movq	%rax, %rcx
 	movq	%rbx, %r8
-	callq	"aes_ctr::batches::add_keystream::<#cb163a62a28b7112>"
+	callq	"aes_ctr::add_in_batches::add_keystream::<#cb163a62a28b7112>"
 	movq	%r14, %rsi
 	movq	%rbx, %rcx
 .LBB36_8:                               # %arm.4.i
@@ -10304,7 +10304,7 @@ fotsgure_gcm_decrypt_unverified:        # @fotsgure_gcm_decrypt_unverified
 	movq	%r12, %rdx
 	movq	%r14, %rcx
 	movq	%r15, %r8
-	callq	"aes_ctr::batches::add_keystream::<#cb163a62a28b7112>"
+	callq	"aes_ctr::add_in_batches::add_keystream::<#cb163a62a28b7112>"
 	movabsq	$-4294967296, %rax              # imm = 0xFFFFFFFF00000000
 	andq	%rax, %rbp
 	movq	%rbp, %xmm0
@@ -10321,7 +10321,7 @@ fotsgure_gcm_decrypt_unverified:        # @fotsgure_gcm_decrypt_unverified
 	movq	%r13, %rdx
 	movq	40(%rsp), %rcx                  # 8-byte Reload
 	movq	%rbx, %r8
-	callq	"aes_ctr::batches::add_keystream::<#cb163a62a28b7112>"
+	callq	"aes_ctr::add_in_batches::add_keystream::<#cb163a62a28b7112>"
 	movq	%r14, %rdi
 	callq	"aes_cipher::zeroize::elements::zeroize_elements::<#3b2097f0eef5a37b>"
 	jmp	.LBB37_11
@@ -10330,7 +10330,7 @@ fotsgure_gcm_decrypt_unverified:        # @fotsgure_gcm_decrypt_unverified
 	movq	%r12, %rdx
 	movq	%r14, %rcx
 	movq	%rbx, %r8
-	callq	"aes_ctr::batches::add_keystream::<#cb163a62a28b7112>"
+	callq	"aes_ctr::add_in_batches::add_keystream::<#cb163a62a28b7112>"
 .LBB37_11:                              # %"gcm::gctr::add_gctr::<#cb163a62a28b7112>.exit.i.i"
 	xorl	%eax, %eax
 .LBB37_12:                              # %"gcm_c::opening::fotsgure_gcm_decrypt_unverified.exit"
@@ -10491,7 +10491,7 @@ fotsgure_gcm_encrypt:                   # @fotsgure_gcm_encrypt
 	movq	%r15, %rcx
 	movq	%r12, %r8
 	movq	%r9, 40(%rsp)                   # 8-byte Spill
-	callq	"aes_ctr::batches::add_keystream::<#cb163a62a28b7112>"
+	callq	"aes_ctr::add_in_batches::add_keystream::<#cb163a62a28b7112>"
 	movabsq	$-4294967296, %rax              # imm = 0xFFFFFFFF00000000
 	andq	%rax, %rbx
 	movq	%rbx, %xmm0
@@ -10508,7 +10508,7 @@ fotsgure_gcm_encrypt:                   # @fotsgure_gcm_encrypt
 	movq	%rbp, %rdx
 	movq	56(%rsp), %rcx                  # 8-byte Reload
 	movq	48(%rsp), %r8                   # 8-byte Reload
-	callq	"aes_ctr::batches::add_keystream::<#cb163a62a28b7112>"
+	callq	"aes_ctr::add_in_batches::add_keystream::<#cb163a62a28b7112>"
 	movq	%r12, %rdi
 	callq	"aes_cipher::zeroize::elements::zeroize_elements::<#3b2097f0eef5a37b>"
 	movq	40(%rsp), %rbx                  # 8-byte Reload
@@ -10519,7 +10519,7 @@ fotsgure_gcm_encrypt:                   # @fotsgure_gcm_encrypt
 	movq	%r15, %rcx
 	movq	%r9, %r8
 	movq	%r9, %rbx
-	callq	"aes_ctr::batches::add_keystream::<#cb163a62a28b7112>"
+	callq	"aes_ctr::add_in_batches::add_keystream::<#cb163a62a28b7112>"
 .LBB38_10:                              # %"gcm::gctr::add_gctr::<#cb163a62a28b7112>.exit.i.i"
 	movq	8(%r14), %r8
 	movq	48(%r14), %rdx

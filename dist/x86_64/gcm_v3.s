@@ -27,7 +27,7 @@
 	vmovaps	%xmm0, (%rsp)
 	movq	%rsp, %rdx
 	movl	$1, %ecx
-	callq	"aes_permute::blocks::process_on_lanes::<#728d6d4d2915fd2f>"
+	callq	"aes_permute::blocks::process_on_lanes::<#8b9e8a6b2f3495e4>"
 	movbeq	8(%rsp), %r12
 	movbeq	(%rsp), %rbp
 	leaq	1024(%r14), %rax
@@ -1917,7 +1917,7 @@
 	.size	"aes_cipher::zeroize::zeroize_words::<#71dff95673b12ebf>", .Lfunc_end2-"aes_cipher::zeroize::zeroize_words::<#71dff95673b12ebf>"
                                         # -- End function
 	.section	.rodata.cst32,"aM",@progbits,32
-	.p2align	5, 0x0                          # -- Begin function aes_permute::blocks::process_on_lanes::<#728d6d4d2915fd2f>
+	.p2align	5, 0x0                          # -- Begin function aes_permute::blocks::process_on_lanes::<#8b9e8a6b2f3495e4>
 .LCPI3_0:
 	.zero	32,15
 .LCPI3_1:
@@ -2628,10 +2628,10 @@
 	.p2align	2, 0x0
 .LCPI3_30:
 	.zero	4,15
-	.section	".text.aes_permute::blocks::process_on_lanes::<#728d6d4d2915fd2f>","ax",@progbits
+	.section	".text.aes_permute::blocks::process_on_lanes::<#8b9e8a6b2f3495e4>","ax",@progbits
 	.p2align	4
-	.type	"aes_permute::blocks::process_on_lanes::<#728d6d4d2915fd2f>",@function
-"aes_permute::blocks::process_on_lanes::<#728d6d4d2915fd2f>": # @"aes_permute::blocks::process_on_lanes::<#728d6d4d2915fd2f>"
+	.type	"aes_permute::blocks::process_on_lanes::<#8b9e8a6b2f3495e4>",@function
+"aes_permute::blocks::process_on_lanes::<#8b9e8a6b2f3495e4>": # @"aes_permute::blocks::process_on_lanes::<#8b9e8a6b2f3495e4>"
 # %bb.0:                                # %start
 	pushq	%r15
 	pushq	%r14
@@ -2647,7 +2647,7 @@
 	xorl	%eax, %eax
 	jmp	.LBB3_16
 	.p2align	4
-.LBB3_19:                               # %"aes_permute::blocks::process_two::<#728d6d4d2915fd2f>.exit"
+.LBB3_19:                               # %"aes_permute::blocks::process_two::<#8b9e8a6b2f3495e4>.exit"
                                         #   in Loop: Header=BB3_16 Depth=1
 	vbroadcasti128	(%rdi,%r9), %ymm3       # ymm3 = mem[0,1,0,1]
 	vpsrlw	$4, %ymm2, %ymm0
@@ -2732,12 +2732,12 @@
 	vpxor	%ymm3, %ymm1, %ymm1
 	cmpq	$2, %r8
 	jb	.LBB3_19
-# %bb.17:                               # %join.5.i1396.preheader
+# %bb.17:                               # %join.5.i1366.preheader
                                         #   in Loop: Header=BB3_16 Depth=1
 	movq	%r11, %r14
 	movq	%r10, %r15
 	.p2align	4
-.LBB3_18:                               # %join.5.i1396
+.LBB3_18:                               # %join.5.i1366
                                         #   Parent Loop BB3_16 Depth=1
                                         # =>  This Inner Loop Header: Depth=2
 	vbroadcasti128	(%r14), %ymm3           # ymm3 = mem[0,1,0,1]
@@ -2836,7 +2836,7 @@
 	leaq	-2(%rsi), %r11
 	jmp	.LBB3_4
 	.p2align	4
-.LBB3_7:                                # %"aes_permute::blocks::process_vector::<#728d6d4d2915fd2f>.exit"
+.LBB3_7:                                # %"aes_permute::blocks::process_vector::<#8b9e8a6b2f3495e4>.exit"
                                         #   in Loop: Header=BB3_4 Depth=1
 	vbroadcasti128	(%rdi,%r9), %ymm2       # ymm2 = mem[0,1,0,1]
 	vpsrlw	$4, %ymm1, %ymm3
@@ -2957,7 +2957,7 @@
 	addq	$-2, %rsi
 	jmp	.LBB3_10
 	.p2align	4
-.LBB3_13:                               # %"aes_permute::blocks::process_vector::<#3115abfdabc34705>.exit"
+.LBB3_13:                               # %"aes_permute::blocks::process_vector::<#06aaae76f5856d0a>.exit"
                                         #   in Loop: Header=BB3_10 Depth=1
 	vpsrlw	$4, %xmm1, %xmm2
 	vpand	%xmm0, %xmm2, %xmm2
@@ -3057,7 +3057,7 @@
 	vzeroupper
 	retq
 .Lfunc_end3:
-	.size	"aes_permute::blocks::process_on_lanes::<#728d6d4d2915fd2f>", .Lfunc_end3-"aes_permute::blocks::process_on_lanes::<#728d6d4d2915fd2f>"
+	.size	"aes_permute::blocks::process_on_lanes::<#8b9e8a6b2f3495e4>", .Lfunc_end3-"aes_permute::blocks::process_on_lanes::<#8b9e8a6b2f3495e4>"
                                         # -- End function
 	.section	.rodata.cst16,"aM",@progbits,16
 	.p2align	4, 0x0                          # -- Begin function gcm::multiples::next_power
@@ -5660,7 +5660,7 @@
 	movq	(%rax), %rdi
 	movq	8(%rax), %rsi
 	movl	$1, %ecx
-	callq	"aes_permute::blocks::process_on_lanes::<#728d6d4d2915fd2f>"
+	callq	"aes_permute::blocks::process_on_lanes::<#8b9e8a6b2f3495e4>"
 	xorl	%eax, %eax
 	cmpq	$1, 24(%r15)
 	setne	%al
@@ -5782,7 +5782,7 @@
 	movq	8(%rax), %rsi
 	movl	$1, %ecx
 	movq	%r14, %rdx
-	callq	"aes_permute::blocks::process_on_lanes::<#728d6d4d2915fd2f>"
+	callq	"aes_permute::blocks::process_on_lanes::<#8b9e8a6b2f3495e4>"
 	addq	$8, %rbx
 	movq	%rbx, 8(%rsp)                   # 8-byte Spill
 	movq	%rbx, %rdi
@@ -6036,7 +6036,7 @@
 	.size	"gcm::mode::is_expected", .Lfunc_end17-"gcm::mode::is_expected"
                                         # -- End function
 	.section	.rodata.cst16,"aM",@progbits,16
-	.p2align	4, 0x0                          # -- Begin function aes_ctr::batches::add_keystream::<#a5015f0cee068c03>
+	.p2align	4, 0x0                          # -- Begin function aes_ctr::add_in_batches::add_keystream::<#a5015f0cee068c03>
 .LCPI18_0:
 	.byte	15                              # 0xf
 	.byte	14                              # 0xe
@@ -6302,10 +6302,10 @@
 	.zero	4,85
 .LCPI18_23:
 	.zero	4,51
-	.section	".text.aes_ctr::batches::add_keystream::<#a5015f0cee068c03>","ax",@progbits
+	.section	".text.aes_ctr::add_in_batches::add_keystream::<#a5015f0cee068c03>","ax",@progbits
 	.p2align	4
-	.type	"aes_ctr::batches::add_keystream::<#a5015f0cee068c03>",@function
-"aes_ctr::batches::add_keystream::<#a5015f0cee068c03>": # @"aes_ctr::batches::add_keystream::<#a5015f0cee068c03>"
+	.type	"aes_ctr::add_in_batches::add_keystream::<#a5015f0cee068c03>",@function
+"aes_ctr::add_in_batches::add_keystream::<#a5015f0cee068c03>": # @"aes_ctr::add_in_batches::add_keystream::<#a5015f0cee068c03>"
 # %bb.0:                                # %start
 	pushq	%rbp
 	pushq	%r15
@@ -6495,7 +6495,7 @@
 	movl	$1, %ecx
 	movq	%rax, %rdi
 	movq	%r15, %rdx
-	callq	"aes_permute::blocks::process_on_lanes::<#728d6d4d2915fd2f>"
+	callq	"aes_permute::blocks::process_on_lanes::<#8b9e8a6b2f3495e4>"
 	xorl	%ecx, %ecx
 	testq	%r12, %r12
 	je	.LBB18_11
@@ -6526,7 +6526,7 @@
 	movq	%rbx, %r8
 	movq	%r14, %r9
 	vzeroupper
-	callq	"aes_ctr::batches::add_next::<#6690b62e0fbf453e>"
+	callq	"aes_ctr::add_in_batches::add_next::<#9025db040e95f24e>"
 	movq	%rax, %r12
 	jmp	.LBB18_41
 .LBB18_29:                              # %"aes_hybrid::plane_keys::store_planes::<#71dff95673b12ebf>.exit"
@@ -6588,7 +6588,7 @@
 	xorl	%ecx, %ecx
 	movq	%rbx, %r8
 	movq	%r14, %r9
-	callq	"aes_ctr::batches::add_next::<#c096353f870019b1>"
+	callq	"aes_ctr::add_in_batches::add_next::<#cc8a349c71bd02bb>"
 	movq	%rax, %r12
 	movq	%r14, %rbp
 	subq	%r12, %rbp
@@ -6744,7 +6744,7 @@
 	movq	(%rsp), %rdi                    # 8-byte Reload
 	movq	%rbp, %rsi
 	vzeroupper
-	callq	"aes_permute::blocks::process_on_lanes::<#728d6d4d2915fd2f>"
+	callq	"aes_permute::blocks::process_on_lanes::<#8b9e8a6b2f3495e4>"
 	vmovaps	448(%rsp), %xmm0
 	vxorps	(%rbx,%r12), %xmm0, %xmm0
 	vmovups	%xmm0, (%rbx,%r12)
@@ -6775,7 +6775,7 @@
 	movq	%rbx, %r8
 	movq	%r14, %r9
 	vzeroupper
-	callq	"aes_ctr::batches::add_next::<#6690b62e0fbf453e>"
+	callq	"aes_ctr::add_in_batches::add_next::<#9025db040e95f24e>"
 	movq	%rax, %r12
 	cmpq	%r14, %rax
 	jb	.LBB18_45
@@ -7176,11 +7176,11 @@
 	movq	%rbx, %r8
 	movq	%r14, %r9
 	vzeroupper
-	callq	"aes_ctr::batches::add_next::<#c096353f870019b1>"
+	callq	"aes_ctr::add_in_batches::add_next::<#cc8a349c71bd02bb>"
 	movq	%rax, %r12
 	cmpq	%r14, %rax
 	jb	.LBB18_36
-.LBB18_37:                              # %"aes_ctr::batches::DueBlockCipherEncClosure::call::<#c096353f870019b1>.exit"
+.LBB18_37:                              # %"aes_ctr::add_in_batches::DueBlockCipherEncClosure::call::<#cc8a349c71bd02bb>.exit"
 	leaq	448(%rsp), %rdi
 	vzeroupper
 	callq	"aes_cipher::zeroize::zeroize_words::<#71dff95673b12ebf>"
@@ -7216,8 +7216,8 @@
 	vzeroupper
 	retq
 .Lfunc_end18:
-	.size	"aes_ctr::batches::add_keystream::<#a5015f0cee068c03>", .Lfunc_end18-"aes_ctr::batches::add_keystream::<#a5015f0cee068c03>"
-	.section	".rodata.aes_ctr::batches::add_keystream::<#a5015f0cee068c03>","a",@progbits
+	.size	"aes_ctr::add_in_batches::add_keystream::<#a5015f0cee068c03>", .Lfunc_end18-"aes_ctr::add_in_batches::add_keystream::<#a5015f0cee068c03>"
+	.section	".rodata.aes_ctr::add_in_batches::add_keystream::<#a5015f0cee068c03>","a",@progbits
 	.p2align	2, 0x0
 .LJTI18_0:
 	.long	.LBB18_28-.LJTI18_0
@@ -7226,7 +7226,7 @@
 	.long	.LBB18_27-.LJTI18_0
                                         # -- End function
 	.section	.rodata.cst16,"aM",@progbits,16
-	.p2align	4, 0x0                          # -- Begin function aes_ctr::batches::add_next::<#c096353f870019b1>
+	.p2align	4, 0x0                          # -- Begin function aes_ctr::add_in_batches::add_next::<#cc8a349c71bd02bb>
 .LCPI19_0:
 	.byte	15                              # 0xf
 	.byte	14                              # 0xe
@@ -7310,10 +7310,10 @@
 	.zero	4,51
 .LCPI19_8:
 	.zero	4,15
-	.section	".text.aes_ctr::batches::add_next::<#c096353f870019b1>","ax",@progbits
+	.section	".text.aes_ctr::add_in_batches::add_next::<#cc8a349c71bd02bb>","ax",@progbits
 	.p2align	4
-	.type	"aes_ctr::batches::add_next::<#c096353f870019b1>",@function
-"aes_ctr::batches::add_next::<#c096353f870019b1>": # @"aes_ctr::batches::add_next::<#c096353f870019b1>"
+	.type	"aes_ctr::add_in_batches::add_next::<#cc8a349c71bd02bb>",@function
+"aes_ctr::add_in_batches::add_next::<#cc8a349c71bd02bb>": # @"aes_ctr::add_in_batches::add_next::<#cc8a349c71bd02bb>"
 # %bb.0:                                # %start
 	pushq	%r15
 	pushq	%r14
@@ -7498,7 +7498,7 @@
 	movq	%rsp, %rdx
 	movq	%rax, %rdi
 	vzeroupper
-	callq	"aes_permute::blocks::process_on_lanes::<#728d6d4d2915fd2f>"
+	callq	"aes_permute::blocks::process_on_lanes::<#8b9e8a6b2f3495e4>"
 	leaq	(%r12,%rbx), %rax
 	testq	%r14, %r14
 	je	.LBB19_4
@@ -7850,7 +7850,7 @@
 .LBB19_22:                              # %join.8.i23
 	cmpq	%rcx, %rdx
 	jne	.LBB19_19
-.LBB19_23:                              # %"aes_ctr::adding::add_blocks.exit"
+.LBB19_23:                              # %"aes_ctr::add_blocks::add_blocks.exit"
 	addq	%rbx, %r15
 	movq	%r15, %rax
 	addq	$512, %rsp                      # imm = 0x200
@@ -7862,10 +7862,10 @@
 	vzeroupper
 	retq
 .Lfunc_end19:
-	.size	"aes_ctr::batches::add_next::<#c096353f870019b1>", .Lfunc_end19-"aes_ctr::batches::add_next::<#c096353f870019b1>"
+	.size	"aes_ctr::add_in_batches::add_next::<#cc8a349c71bd02bb>", .Lfunc_end19-"aes_ctr::add_in_batches::add_next::<#cc8a349c71bd02bb>"
                                         # -- End function
 	.section	.rodata.cst32,"aM",@progbits,32
-	.p2align	5, 0x0                          # -- Begin function aes_ctr::batches::add_next::<#6690b62e0fbf453e>
+	.p2align	5, 0x0                          # -- Begin function aes_ctr::add_in_batches::add_next::<#9025db040e95f24e>
 .LCPI20_0:
 	.byte	15                              # 0xf
 	.byte	14                              # 0xe
@@ -7918,10 +7918,10 @@
 	.byte	2                               # 0x2
 	.byte	1                               # 0x1
 	.byte	0                               # 0x0
-	.section	".text.aes_ctr::batches::add_next::<#6690b62e0fbf453e>","ax",@progbits
+	.section	".text.aes_ctr::add_in_batches::add_next::<#9025db040e95f24e>","ax",@progbits
 	.p2align	4
-	.type	"aes_ctr::batches::add_next::<#6690b62e0fbf453e>",@function
-"aes_ctr::batches::add_next::<#6690b62e0fbf453e>": # @"aes_ctr::batches::add_next::<#6690b62e0fbf453e>"
+	.type	"aes_ctr::add_in_batches::add_next::<#9025db040e95f24e>",@function
+"aes_ctr::add_in_batches::add_next::<#9025db040e95f24e>": # @"aes_ctr::add_in_batches::add_next::<#9025db040e95f24e>"
 # %bb.0:                                # %start
 	pushq	%rbp
 	pushq	%r15
@@ -7993,7 +7993,7 @@
 	movq	%rax, %rdi
 	movq	%r13, %rdx
 	vzeroupper
-	callq	"aes_permute::blocks::process_on_lanes::<#728d6d4d2915fd2f>"
+	callq	"aes_permute::blocks::process_on_lanes::<#8b9e8a6b2f3495e4>"
 	leaq	(%r12,%rbx), %rax
 	testq	%rbp, %rbp
 	je	.LBB20_1
@@ -8116,7 +8116,7 @@
 .LBB20_19:                              # %join.8.i23
 	cmpq	%rcx, %rdx
 	jne	.LBB20_16
-.LBB20_20:                              # %"aes_ctr::adding::add_blocks.exit"
+.LBB20_20:                              # %"aes_ctr::add_blocks::add_blocks.exit"
 	addq	%rbx, %r14
 	movq	%r14, %rax
 	addq	$264, %rsp                      # imm = 0x108
@@ -8128,7 +8128,7 @@
 	popq	%rbp
 	retq
 .Lfunc_end20:
-	.size	"aes_ctr::batches::add_next::<#6690b62e0fbf453e>", .Lfunc_end20-"aes_ctr::batches::add_next::<#6690b62e0fbf453e>"
+	.size	"aes_ctr::add_in_batches::add_next::<#9025db040e95f24e>", .Lfunc_end20-"aes_ctr::add_in_batches::add_next::<#9025db040e95f24e>"
                                         # -- End function
 	.section	".text.gcm::stack::wipe_stack::<=320>","ax",@progbits
 	.p2align	4                               # -- Begin function gcm::stack::wipe_stack::<=320>
@@ -8288,7 +8288,7 @@
 	leaq	16(%rsp), %rdi
 	leaq	32(%rsp), %rsi
 	movl	$16, %edx
-	callq	"aes_ctr::batches::add_keystream::<#a5015f0cee068c03>"
+	callq	"aes_ctr::add_in_batches::add_keystream::<#a5015f0cee068c03>"
 	movabsq	$-4294967296, %rax              # imm = 0xFFFFFFFF00000000
 	andq	%rax, %r14
 	vmovq	%r14, %xmm0
@@ -8305,7 +8305,7 @@
 	movq	%r13, %rsi
 	movq	80(%rsp), %rcx                  # 8-byte Reload
 	movq	%rbp, %r8
-	callq	"aes_ctr::batches::add_keystream::<#a5015f0cee068c03>"
+	callq	"aes_ctr::add_in_batches::add_keystream::<#a5015f0cee068c03>"
 	movq	%r13, %rdi
 	callq	"aes_cipher::zeroize::elements::zeroize_elements::<#3b2097f0eef5a37b>"
 	jmp	.LBB22_8
@@ -8314,7 +8314,7 @@
 	leaq	32(%rsp), %rsi
 	movl	$16, %edx
 	movq	%rbx, %r8
-	callq	"aes_ctr::batches::add_keystream::<#a5015f0cee068c03>"
+	callq	"aes_ctr::add_in_batches::add_keystream::<#a5015f0cee068c03>"
 .LBB22_8:                               # %"gcm::mode::LentGcm::apply::<#a5015f0cee068c03>.exit.i"
 	movq	216(%rsp), %r14
 	vpxor	%xmm0, %xmm0, %xmm0
@@ -9866,7 +9866,7 @@ fotsgure_gcm_open:                      # @fotsgure_gcm_open
 	leaq	32(%rsp), %rdi
 	leaq	48(%rsp), %rsi
 	movl	$16, %edx
-	callq	"aes_ctr::batches::add_keystream::<#a5015f0cee068c03>"
+	callq	"aes_ctr::add_in_batches::add_keystream::<#a5015f0cee068c03>"
 	movabsq	$-4294967296, %rax              # imm = 0xFFFFFFFF00000000
 	andq	%rax, %r13
 	vmovq	%r13, %xmm0
@@ -9884,7 +9884,7 @@ fotsgure_gcm_open:                      # @fotsgure_gcm_open
 	movq	%r12, %rsi
 	movq	%r15, %rcx
 	movq	%r14, %r8
-	callq	"aes_ctr::batches::add_keystream::<#a5015f0cee068c03>"
+	callq	"aes_ctr::add_in_batches::add_keystream::<#a5015f0cee068c03>"
 	movq	%r12, %rdi
 	callq	"aes_cipher::zeroize::elements::zeroize_elements::<#3b2097f0eef5a37b>"
 	jmp	.LBB32_10
@@ -9894,7 +9894,7 @@ fotsgure_gcm_open:                      # @fotsgure_gcm_open
 	movl	$16, %edx
 	movq	%r15, %rcx
 	movq	%r14, %r8
-	callq	"aes_ctr::batches::add_keystream::<#a5015f0cee068c03>"
+	callq	"aes_ctr::add_in_batches::add_keystream::<#a5015f0cee068c03>"
 .LBB32_10:                              # %join.3.i.i
 	leaq	48(%rsp), %rdi
 	callq	"aes_cipher::zeroize::elements::zeroize_elements::<#3b2097f0eef5a37b>"
@@ -10217,7 +10217,7 @@ fotsgure_gcm_decrypt:                   # @fotsgure_gcm_decrypt
 	movq	%rcx, 32(%rsp)                  # 8-byte Spill
 	movq	%rax, %rcx
 	movq	%r15, %r8
-	callq	"aes_ctr::batches::add_keystream::<#a5015f0cee068c03>"
+	callq	"aes_ctr::add_in_batches::add_keystream::<#a5015f0cee068c03>"
 	movabsq	$-4294967296, %rax              # imm = 0xFFFFFFFF00000000
 	andq	%rax, %rbp
 	vmovq	%rbp, %xmm0
@@ -10233,7 +10233,7 @@ fotsgure_gcm_decrypt:                   # @fotsgure_gcm_decrypt
 	movq	%r14, %rdx
 	movq	24(%rsp), %rcx                  # 8-byte Reload
 	movq	%r13, %r8
-	callq	"aes_ctr::batches::add_keystream::<#a5015f0cee068c03>"
+	callq	"aes_ctr::add_in_batches::add_keystream::<#a5015f0cee068c03>"
 	movq	%rbx, %rdi
 	callq	"aes_cipher::zeroize::elements::zeroize_elements::<#3b2097f0eef5a37b>"
 	movq	40(%rsp), %rsi                  # 8-byte Reload
@@ -10248,7 +10248,7 @@ fotsgure_gcm_decrypt:                   # @fotsgure_gcm_decrypt
 	movq	%rcx, %rbx
 	movq	%rax, %rcx
 	movq	%rbx, %r8
-	callq	"aes_ctr::batches::add_keystream::<#a5015f0cee068c03>"
+	callq	"aes_ctr::add_in_batches::add_keystream::<#a5015f0cee068c03>"
 	movq	%r14, %rsi
 	movq	%rbx, %rcx
 .LBB36_8:                               # %arm.4.i
@@ -10425,7 +10425,7 @@ fotsgure_gcm_decrypt_unverified:        # @fotsgure_gcm_decrypt_unverified
 	movq	%r12, %rdx
 	movq	%r14, %rcx
 	movq	%r15, %r8
-	callq	"aes_ctr::batches::add_keystream::<#a5015f0cee068c03>"
+	callq	"aes_ctr::add_in_batches::add_keystream::<#a5015f0cee068c03>"
 	movabsq	$-4294967296, %rax              # imm = 0xFFFFFFFF00000000
 	andq	%rax, %rbp
 	vmovq	%rbp, %xmm0
@@ -10442,7 +10442,7 @@ fotsgure_gcm_decrypt_unverified:        # @fotsgure_gcm_decrypt_unverified
 	movq	%r13, %rdx
 	movq	40(%rsp), %rcx                  # 8-byte Reload
 	movq	%rbx, %r8
-	callq	"aes_ctr::batches::add_keystream::<#a5015f0cee068c03>"
+	callq	"aes_ctr::add_in_batches::add_keystream::<#a5015f0cee068c03>"
 	movq	%r14, %rdi
 	callq	"aes_cipher::zeroize::elements::zeroize_elements::<#3b2097f0eef5a37b>"
 	jmp	.LBB37_11
@@ -10451,7 +10451,7 @@ fotsgure_gcm_decrypt_unverified:        # @fotsgure_gcm_decrypt_unverified
 	movq	%r12, %rdx
 	movq	%r14, %rcx
 	movq	%rbx, %r8
-	callq	"aes_ctr::batches::add_keystream::<#a5015f0cee068c03>"
+	callq	"aes_ctr::add_in_batches::add_keystream::<#a5015f0cee068c03>"
 .LBB37_11:                              # %"gcm::gctr::add_gctr::<#a5015f0cee068c03>.exit.i.i"
 	xorl	%eax, %eax
 .LBB37_12:                              # %"gcm_c::opening::fotsgure_gcm_decrypt_unverified.exit"
@@ -10608,7 +10608,7 @@ fotsgure_gcm_encrypt:                   # @fotsgure_gcm_encrypt
 	movq	%r13, %rdx
 	movq	%r15, %rcx
 	movq	%r12, %r8
-	callq	"aes_ctr::batches::add_keystream::<#a5015f0cee068c03>"
+	callq	"aes_ctr::add_in_batches::add_keystream::<#a5015f0cee068c03>"
 	movabsq	$-4294967296, %rax              # imm = 0xFFFFFFFF00000000
 	andq	%rax, %rbx
 	vmovq	%rbx, %xmm0
@@ -10626,7 +10626,7 @@ fotsgure_gcm_encrypt:                   # @fotsgure_gcm_encrypt
 	movq	%rbp, %rdx
 	movq	48(%rsp), %rcx                  # 8-byte Reload
 	movq	40(%rsp), %r8                   # 8-byte Reload
-	callq	"aes_ctr::batches::add_keystream::<#a5015f0cee068c03>"
+	callq	"aes_ctr::add_in_batches::add_keystream::<#a5015f0cee068c03>"
 	movq	%r12, %rdi
 	callq	"aes_cipher::zeroize::elements::zeroize_elements::<#3b2097f0eef5a37b>"
 	jmp	.LBB38_10
@@ -10635,7 +10635,7 @@ fotsgure_gcm_encrypt:                   # @fotsgure_gcm_encrypt
 	movq	%r13, %rdx
 	movq	%r15, %rcx
 	movq	%rbx, %r8
-	callq	"aes_ctr::batches::add_keystream::<#a5015f0cee068c03>"
+	callq	"aes_ctr::add_in_batches::add_keystream::<#a5015f0cee068c03>"
 .LBB38_10:                              # %"gcm::gctr::add_gctr::<#a5015f0cee068c03>.exit.i.i"
 	movq	8(%r14), %r8
 	movbeq	56(%r14), %rsi
