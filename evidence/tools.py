@@ -38,7 +38,8 @@ STRUCT = int(re.search(r"sizeof\(struct fotsgure_aes\) == (\d+)", HEADER)[1])
 MOST_STACK = int(re.search(r"FOTSGURE_AES_STACK (\d+)", HEADER)[1])
 
 
-MEMCHECK = "valgrind --tool=memcheck --error-limit=no --leak-check=no --expensive-definedness-checks=yes --num-callers=8"
+# Valgrind merges two branches to one place (guest-chase), and then reports at both what the first one tests.
+MEMCHECK = "valgrind --tool=memcheck --vex-guest-chase=no --error-limit=no --leak-check=no --expensive-definedness-checks=yes --num-callers=8"
 
 
 class Found:
