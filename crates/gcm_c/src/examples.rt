@@ -39,8 +39,8 @@ pub fn length_examples()
     ensures additional_too_long { IsTooLong 2305843009213693952 0 }
 {}
 
-/// Keeps a key, and encrypts a text in place under it and a nonce. Returns `DONE` exactly if all lengths are right, and else
-/// the status of the call that refuses them.
+/// Keeps a key, and encrypts a text in place under it and a nonce. Returns `KEY_LENGTH`, `NONCE_LENGTH` or `TOO_LONG`, the
+/// first of them that applies, and else `DONE`.
 pub fn set_key_and_seal(
     gcm: &mut Gcm,
     key: &[u8],
@@ -49,6 +49,10 @@ pub fn set_key_and_seal(
     text: &mut [u8],
     tag: &mut [u8; 16],
 ) -> u32
+    ensures key_length { result ≡ KEY_LENGTH ↔ ¬ IsKeyLength (length key.now) }
+    ensures nonce_length { result ≡ NONCE_LENGTH ↔ IsKeyLength (length key.now) × ¬ IsNonceLength (length nonce.now) }
+    ensures too_long { result ≡ TOO_LONG ↔ IsKeyLength (length key.now) × (IsNonceLength (length nonce.now)
+        × IsTooLong (length additional.now) (length text.old)) }
     ensures done { result ≡ DONE ↔ IsKeyLength (length key.now) × (IsNonceLength (length nonce.now)
         × ((length additional.now < 2 ^ 61) × (length text.old ≤ 2 ^ 36 - 32))) }
     ensures encrypted { result ≡ DONE → text.new ≡ nist.text (fips.key_expansion key.now) nonce.now text.old }
