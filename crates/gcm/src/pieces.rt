@@ -81,7 +81,8 @@ impl<'a, C: BlockCipherEncrypt> LentGcm<'a, C> {
 
     /// Begins a message as `begin`, where the caller knows that the length of the nonce is allowed.
     pub fn start(&self, message: &mut Message, nonce: &[u8])
-        requires { length nonce.now < 2 ^ 61 }
+        requires some { 0 < length nonce.now }
+        requires nonce { length nonce.now < 2 ^ 61 }
         ensures begun { IsBegun self.now nonce.now [] message.new }
         ensures clean { (message.new.rest ≡ replicate 16 0) × (message.new.decrypted ≡ 0) }
     {
