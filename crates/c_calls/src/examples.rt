@@ -10,7 +10,9 @@ ghost use Rattle.aes_planes.specs.Fips197 as fips;
 ghost use Rattle.aes_permute.specs.Keys.{encrypting, stored_keys, AreInverse};
 ghost use Rattle.c_calls.specs.Kept.{key_of_kept, AreZeroAfter, IsKeyLength, IsMade};
 
-use crate::status::{DONE, KEY_LENGTH, KEYSTREAM_END, NO_KEY, UNEQUAL_COUNTS, VERSION};
+use crate::status::{
+    DONE, INVALID_COUNT, KEY_LENGTH, KEYSTREAM_END, NO_KEY, REFUSED, UNEQUAL_COUNTS, VERSION,
+};
 use aes_planes::examples::key_expansion_128;
 
 /// The numbers that the header gives to statuses and to the version.
@@ -20,6 +22,8 @@ pub fn numbers_of_the_header()
     ensures no_key { NO_KEY ≡ 2 }
     ensures unequal_counts { UNEQUAL_COUNTS ≡ 3 }
     ensures keystream_end { KEYSTREAM_END ≡ 4 }
+    ensures invalid_count { INVALID_COUNT ≡ 5 }
+    ensures refused { REFUSED ≡ 6 }
     ensures version { VERSION ≡ 300 }
 {}
 
