@@ -7,7 +7,9 @@ ghost use Rattle.aes_ctr.specs.CounterMode.{keystream_byte, plus_stream};
 ghost use Rattle.cbc.specs.Cbc.{chained, last_of, unchained};
 ghost use Rattle.key_wrap.specs.KeyWrap.{integrity_check, unwrapped, wrapped, Fit};
 ghost use Rattle.key_wrap.specs.Padded.{heading, unwrapped_string, wrapped_padded, FitPadded, FitUnpadded, IsPadded};
-ghost use Rattle.c_calls.specs.Kept.{key_in, round_keys_in, AreZeroAfter, IsKeyLength, IsMade};
+ghost use Rattle.aes_cipher.specs.KeySizes.{IsKeySize};
+ghost use Rattle.aes_permute.specs.Keys.{AreZeroAfter};
+ghost use Rattle.c_calls.specs.Kept.{key_in, round_keys_in, IsMade};
 
 use crate::width::BuildWidth;
 use aes_cipher::cipher::{Decrypt, Encrypt};
@@ -37,7 +39,7 @@ pub extern "C" fn fotsgure_aes_version() -> u32
 /// blocks are the round keys of the new key, and zeros after them.
 #[unsafe(no_mangle)]
 pub extern "C" fn fotsgure_aes_set_key(aes: &mut Aes, key: &[u8]) -> u32
-    ensures done { result ≡ DONE ↔ IsKeyLength (length key.now) }
+    ensures done { result ≡ DONE ↔ IsKeySize (length key.now) }
     ensures refused { result ≢ DONE → result ≡ KEY_LENGTH }
     ensures made { IsMade aes.new }
     ensures key { result ≡ DONE → key_in aes.new ≡ key.now }
@@ -54,8 +56,8 @@ pub extern "C" fn fotsgure_aes_set_key(aes: &mut Aes, key: &[u8]) -> u32
 /// Returns how many bytes the key has, or 0 if the struct holds no key.
 #[unsafe(no_mangle)]
 pub extern "C" fn fotsgure_aes_key_length(aes: &Aes) -> usize
-    ensures key { IsKeyLength aes.now.key_length → result ≡ aes.now.key_length }
-    ensures none { ¬ IsKeyLength aes.now.key_length → result ≡ 0 }
+    ensures key { IsKeySize aes.now.key_length → result ≡ aes.now.key_length }
+    ensures none { ¬ IsKeySize aes.now.key_length → result ≡ 0 }
 {
     length_of_key(aes)
 }
@@ -75,7 +77,7 @@ pub extern "C" fn fotsgure_aes_wipe(aes: &mut Aes)
 #[unsafe(no_mangle)]
 pub extern "C" fn fotsgure_aes_encrypt_blocks(aes: &Aes, blocks: &mut [Block]) -> u32
     requires made { IsMade aes.now }
-    ensures done { result ≡ DONE ↔ IsKeyLength aes.now.key_length }
+    ensures done { result ≡ DONE ↔ IsKeySize aes.now.key_length }
     ensures refused { result ≢ DONE → result ≡ NO_KEY }
     ensures blocks { result ≡ DONE → Each (fips.cipher (key_in aes.now)) blocks.old blocks.new }
     ensures untouched { result ≢ DONE → blocks.new ≡ blocks.old }
@@ -87,7 +89,7 @@ pub extern "C" fn fotsgure_aes_encrypt_blocks(aes: &Aes, blocks: &mut [Block]) -
 #[unsafe(no_mangle)]
 pub extern "C" fn fotsgure_aes_decrypt_blocks(aes: &Aes, blocks: &mut [Block]) -> u32
     requires made { IsMade aes.now }
-    ensures done { result ≡ DONE ↔ IsKeyLength aes.now.key_length }
+    ensures done { result ≡ DONE ↔ IsKeySize aes.now.key_length }
     ensures refused { result ≢ DONE → result ≡ NO_KEY }
     ensures blocks { result ≡ DONE → Each (fips.inv_cipher (key_in aes.now)) blocks.old blocks.new }
     ensures untouched { result ≢ DONE → blocks.new ≡ blocks.old }
@@ -104,7 +106,7 @@ pub extern "C" fn fotsgure_aes_encrypt_blocks_to(
 ) -> u32
     requires made { IsMade aes.now }
     ensures unequal { result ≡ UNEQUAL_COUNTS ↔ (length input.now ≢ length output.old) }
-    ensures done { result ≡ DONE ↔ IsKeyLength aes.now.key_length × (length input.now ≡ length output.old) }
+    ensures done { result ≡ DONE ↔ IsKeySize aes.now.key_length × (length input.now ≡ length output.old) }
     ensures refused { result ≢ DONE → result ≢ UNEQUAL_COUNTS → result ≡ NO_KEY }
     ensures blocks { result ≡ DONE → Each (fips.cipher (key_in aes.now)) input.now output.new }
     ensures untouched { result ≢ DONE → output.new ≡ output.old }
@@ -121,7 +123,7 @@ pub extern "C" fn fotsgure_aes_decrypt_blocks_to(
 ) -> u32
     requires made { IsMade aes.now }
     ensures unequal { result ≡ UNEQUAL_COUNTS ↔ (length input.now ≢ length output.old) }
-    ensures done { result ≡ DONE ↔ IsKeyLength aes.now.key_length × (length input.now ≡ length output.old) }
+    ensures done { result ≡ DONE ↔ IsKeySize aes.now.key_length × (length input.now ≡ length output.old) }
     ensures refused { result ≢ DONE → result ≢ UNEQUAL_COUNTS → result ≡ NO_KEY }
     ensures blocks { result ≡ DONE → Each (fips.inv_cipher (key_in aes.now)) input.now output.new }
     ensures untouched { result ≢ DONE → output.new ≡ output.old }
@@ -136,7 +138,7 @@ pub extern "C" fn fotsgure_aes_decrypt_blocks_to(
 pub extern "C" fn fotsgure_aes_add_keystream(aes: &Aes, ctr: &mut Ctr, bytes: &mut [u8]) -> u32
     requires made { IsMade aes.now }
     ensures ended { result ≡ KEYSTREAM_END ↔ (2 ^ 64 - 1 < ctr.old.position + length bytes.old) }
-    ensures done { result ≡ DONE ↔ IsKeyLength aes.now.key_length × (ctr.old.position + length bytes.old ≤ 2 ^ 64 - 1) }
+    ensures done { result ≡ DONE ↔ IsKeySize aes.now.key_length × (ctr.old.position + length bytes.old ≤ 2 ^ 64 - 1) }
     ensures refused { result ≢ DONE → result ≢ KEYSTREAM_END → result ≡ NO_KEY }
     ensures bytes { result ≡ DONE → bytes.new
         ≡ plus_stream (keystream_byte (round_keys_in aes.now) ctr.old.iv) ctr.old.position bytes.old }
@@ -161,7 +163,7 @@ pub extern "C" fn fotsgure_aes_add_keystream_to(
     ensures unequal { result ≡ UNEQUAL_COUNTS ↔ (length input.now ≢ length output.old) }
     ensures ended { result ≡ KEYSTREAM_END
         ↔ (length input.now ≡ length output.old) × (2 ^ 64 - 1 < ctr.old.position + length input.now) }
-    ensures done { result ≡ DONE ↔ IsKeyLength aes.now.key_length
+    ensures done { result ≡ DONE ↔ IsKeySize aes.now.key_length
         × ((length input.now ≡ length output.old) × (ctr.old.position + length input.now ≤ 2 ^ 64 - 1)) }
     ensures refused { result ≢ DONE → result ≢ UNEQUAL_COUNTS → result ≢ KEYSTREAM_END → result ≡ NO_KEY }
     ensures bytes { result ≡ DONE → output.new
@@ -178,7 +180,7 @@ pub extern "C" fn fotsgure_aes_add_keystream_to(
 #[unsafe(no_mangle)]
 pub extern "C" fn fotsgure_aes_cbc_encrypt(aes: &Aes, cbc: &mut Cbc, blocks: &mut [Block]) -> u32
     requires made { IsMade aes.now }
-    ensures done { result ≡ DONE ↔ IsKeyLength aes.now.key_length }
+    ensures done { result ≡ DONE ↔ IsKeySize aes.now.key_length }
     ensures refused { result ≢ DONE → result ≡ NO_KEY }
     ensures blocks { result ≡ DONE → blocks.new ≡ chained (round_keys_in aes.now) cbc.old.previous blocks.old }
     ensures previous { result ≡ DONE → cbc.new.previous ≡ last_of cbc.old.previous blocks.new }
@@ -192,7 +194,7 @@ pub extern "C" fn fotsgure_aes_cbc_encrypt(aes: &Aes, cbc: &mut Cbc, blocks: &mu
 #[unsafe(no_mangle)]
 pub extern "C" fn fotsgure_aes_cbc_decrypt(aes: &Aes, cbc: &mut Cbc, blocks: &mut [Block]) -> u32
     requires made { IsMade aes.now }
-    ensures done { result ≡ DONE ↔ IsKeyLength aes.now.key_length }
+    ensures done { result ≡ DONE ↔ IsKeySize aes.now.key_length }
     ensures refused { result ≢ DONE → result ≡ NO_KEY }
     ensures blocks { result ≡ DONE → blocks.new ≡ unchained (round_keys_in aes.now) cbc.old.previous blocks.old }
     ensures previous { result ≡ DONE → cbc.new.previous ≡ last_of cbc.old.previous blocks.old }
@@ -206,8 +208,8 @@ pub extern "C" fn fotsgure_aes_cbc_decrypt(aes: &Aes, cbc: &mut Cbc, blocks: &mu
 #[unsafe(no_mangle)]
 pub extern "C" fn fotsgure_aes_wrap(aes: &Aes, key: &[Semiblock], output: &mut [Semiblock]) -> u32
     requires made { IsMade aes.now }
-    ensures no_key { result ≡ NO_KEY ↔ ¬ IsKeyLength aes.now.key_length }
-    ensures done { result ≡ DONE ↔ IsKeyLength aes.now.key_length × Fit (length key.now) (length output.old) }
+    ensures no_key { result ≡ NO_KEY ↔ ¬ IsKeySize aes.now.key_length }
+    ensures done { result ≡ DONE ↔ IsKeySize aes.now.key_length × Fit (length key.now) (length output.old) }
     ensures invalid { result ≢ DONE → result ≢ NO_KEY → result ≡ INVALID_COUNT }
     ensures wrapped { result ≡ DONE → output.new ≡ wrapped (round_keys_in aes.now) key.now }
     ensures untouched { result ≢ DONE → output.new ≡ output.old }
@@ -223,11 +225,11 @@ pub extern "C" fn fotsgure_aes_unwrap(
     output: &mut [Semiblock],
 ) -> u32
     requires made { IsMade aes.now }
-    ensures no_key { result ≡ NO_KEY ↔ ¬ IsKeyLength aes.now.key_length }
+    ensures no_key { result ≡ NO_KEY ↔ ¬ IsKeySize aes.now.key_length }
     ensures invalid { result ≡ INVALID_COUNT
-        ↔ IsKeyLength aes.now.key_length × (¬ Fit (length output.old) (length sealed.now)) }
+        ↔ IsKeySize aes.now.key_length × (¬ Fit (length output.old) (length sealed.now)) }
     ensures done { result ≡ DONE
-        ↔ IsKeyLength aes.now.key_length × (Fit (length output.old) (length sealed.now)
+        ↔ IsKeySize aes.now.key_length × (Fit (length output.old) (length sealed.now)
         × (slice_index_or (unwrapped (round_keys_in aes.now) sealed.now) 0 [] ≡ integrity_check)) }
     ensures refused { result ≢ DONE → result ≢ NO_KEY → result ≢ INVALID_COUNT → result ≡ REFUSED }
     ensures key { result ≡ DONE → integrity_check ∷ output.new ≡ unwrapped (round_keys_in aes.now) sealed.now }
@@ -241,8 +243,8 @@ pub extern "C" fn fotsgure_aes_unwrap(
 #[unsafe(no_mangle)]
 pub extern "C" fn fotsgure_aes_wrap_padded(aes: &Aes, key: &[u8], output: &mut [Semiblock]) -> u32
     requires made { IsMade aes.now }
-    ensures no_key { result ≡ NO_KEY ↔ ¬ IsKeyLength aes.now.key_length }
-    ensures done { result ≡ DONE ↔ IsKeyLength aes.now.key_length × FitPadded (length key.now) (length output.old) }
+    ensures no_key { result ≡ NO_KEY ↔ ¬ IsKeySize aes.now.key_length }
+    ensures done { result ≡ DONE ↔ IsKeySize aes.now.key_length × FitPadded (length key.now) (length output.old) }
     ensures invalid { result ≢ DONE → result ≢ NO_KEY → result ≡ INVALID_COUNT }
     ensures wrapped { result ≡ DONE → output.new ≡ wrapped_padded (round_keys_in aes.now) key.now }
     ensures untouched { result ≢ DONE → output.new ≡ output.old }
@@ -261,11 +263,11 @@ pub extern "C" fn fotsgure_aes_unwrap_padded(
     key_bytes: &mut usize,
 ) -> u32
     requires made { IsMade aes.now }
-    ensures no_key { result ≡ NO_KEY ↔ ¬ IsKeyLength aes.now.key_length }
+    ensures no_key { result ≡ NO_KEY ↔ ¬ IsKeySize aes.now.key_length }
     ensures invalid { result ≡ INVALID_COUNT
-        ↔ IsKeyLength aes.now.key_length × (¬ FitUnpadded (length output.old) (length sealed.now)) }
+        ↔ IsKeySize aes.now.key_length × (¬ FitUnpadded (length output.old) (length sealed.now)) }
     ensures done { result ≡ DONE
-        ↔ IsKeyLength aes.now.key_length × (FitUnpadded (length output.old) (length sealed.now)
+        ↔ IsKeySize aes.now.key_length × (FitUnpadded (length output.old) (length sealed.now)
         × IsPadded (unwrapped_string (round_keys_in aes.now) sealed.now)) }
     ensures refused { result ≢ DONE → result ≢ NO_KEY → result ≢ INVALID_COUNT → result ≡ REFUSED }
     ensures key { result ≡ DONE → heading key_bytes.new ∷ output.new ≡ unwrapped_string (round_keys_in aes.now) sealed.now }
@@ -281,7 +283,7 @@ pub extern "C" fn fotsgure_aes_unwrap_padded(
 /// bytes, else `KEY_LENGTH`.
 #[unsafe(no_mangle)]
 pub extern "C" fn fotsgure_aes_encrypt_blocks_with(key: &[u8], blocks: &mut [Block]) -> u32
-    ensures done { result ≡ DONE ↔ IsKeyLength (length key.now) }
+    ensures done { result ≡ DONE ↔ IsKeySize (length key.now) }
     ensures refused { result ≢ DONE → result ≡ KEY_LENGTH }
     ensures blocks { result ≡ DONE → Each (fips.cipher key.now) blocks.old blocks.new }
     ensures untouched { result ≢ DONE → blocks.new ≡ blocks.old }
@@ -293,7 +295,7 @@ pub extern "C" fn fotsgure_aes_encrypt_blocks_with(key: &[u8], blocks: &mut [Blo
 /// 32 bytes, else `KEY_LENGTH`.
 #[unsafe(no_mangle)]
 pub extern "C" fn fotsgure_aes_decrypt_blocks_with(key: &[u8], blocks: &mut [Block]) -> u32
-    ensures done { result ≡ DONE ↔ IsKeyLength (length key.now) }
+    ensures done { result ≡ DONE ↔ IsKeySize (length key.now) }
     ensures refused { result ≢ DONE → result ≡ KEY_LENGTH }
     ensures blocks { result ≡ DONE → Each (fips.inv_cipher key.now) blocks.old blocks.new }
     ensures untouched { result ≢ DONE → blocks.new ≡ blocks.old }
@@ -310,9 +312,9 @@ pub extern "C" fn fotsgure_aes_add_keystream_with(
     ctr: &mut Ctr,
     bytes: &mut [u8],
 ) -> u32
-    ensures done { result ≡ DONE ↔ IsKeyLength (length key.now) × (ctr.old.position + length bytes.old ≤ 2 ^ 64 - 1) }
+    ensures done { result ≡ DONE ↔ IsKeySize (length key.now) × (ctr.old.position + length bytes.old ≤ 2 ^ 64 - 1) }
     ensures ended { result ≡ KEYSTREAM_END
-        ↔ IsKeyLength (length key.now) × (2 ^ 64 - 1 < ctr.old.position + length bytes.old) }
+        ↔ IsKeySize (length key.now) × (2 ^ 64 - 1 < ctr.old.position + length bytes.old) }
     ensures refused { result ≢ DONE → result ≢ KEYSTREAM_END → result ≡ KEY_LENGTH }
     ensures bytes { result ≡ DONE → bytes.new
         ≡ plus_stream (keystream_byte (fips.key_expansion key.now) ctr.old.iv) ctr.old.position bytes.old }

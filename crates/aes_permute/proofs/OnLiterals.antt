@@ -2,9 +2,15 @@
 use Rattle.std.specs.Prelude.{⊤}
 use Rattle.aes_planes.specs.BigEndian.{bytes}
 use Rattle.aes_planes.specs.Fips197.{build}
+use Rattle.aes_permute.specs.Keys.{key_of_lanes}
 use Rattle.aes_permute.specs.Stored.{untower, inv_untower, key_untower, round_keys_of}
 
 -- the definitions to unfold, so that what literal round keys stand for is computed
 unfoldable pub stored_on_literals : ⊤
 unfolding bytes build untower inv_untower key_untower round_keys_of
 stored_on_literals = tt
+
+-- the same, so that the key which literals in room are read as is computed
+unfoldable pub room_on_literals : ⊤
+unfolding stored_on_literals key_of_lanes
+room_on_literals = tt

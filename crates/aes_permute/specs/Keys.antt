@@ -1,5 +1,5 @@
 -- Stored round keys of a key, and the key that they are read as.
-use Rattle.std.specs.Prelude.{◌≡◌, ◌⊎◌, ℕ, ◌+◌, ◌-◌, ◌*◌, ◌/◌, List, ◌++◌, length, take}
+use Rattle.std.specs.Prelude.{◌≡◌, ◌⊎◌, ℕ, ◌+◌, ◌-◌, ◌*◌, ◌/◌, List, ◌++◌, drop, length, replicate, take}
 use Rattle.aes_planes.specs.Fips197 as fips
 use Rattle.aes_planes.specs.Planes.{plus63}
 use Rattle.aes_permute.specs.Stored.{as_is, inv_untower, key_untower, round_keys_of, LaneForm}
@@ -45,6 +45,14 @@ leading_key size w = take size (fips.round_key w 0 ++ fips.round_key w 1)
 -- the key that stored round keys of Cipher are read as
 unfoldable pub key_of_lanes : List (List ℕ) → List ℕ
 key_of_lanes stored = leading_key (lane_key_size stored) (encrypting stored)
+
+-- the key of `size` bytes that the blocks of room are read as
+abbrev pub key_in_room : ℕ → List (List ℕ) → List ℕ
+key_in_room size blocks = key_of_lanes (stored_keys size blocks)
+
+-- the blocks of room behind the round keys of a key of `size` bytes are zero, so that none of another key's is left there
+abbrev pub AreZeroAfter : ℕ → List (List ℕ) → Type 0
+AreZeroAfter size blocks = drop (size / 4 + 7) blocks ≡ replicate (15 - (size / 4 + 7)) (replicate 16 0)
 
 -- the stored round keys of Cipher of the key that they are read as, which has 16, 24 or 32 bytes
 pub record IsCipherSchedule (stored : List (List ℕ)) : Type 0 where

@@ -4,10 +4,11 @@
 //! `bytes n 0x..` is the n bytes that these digits write. What is stored was computed by a separate model in Python, from
 //! the standard and the basis that `tools/permutation-tables` describes.
 
-ghost use Rattle.std.specs.Prelude.{◌≡◌, ◌∷◌, [], map, replicate};
+ghost use Rattle.std.specs.Prelude.{◌≡◌, ◌∷◌, [], length, map, replicate, slice_set};
 ghost use Rattle.aes_planes.specs.BigEndian.{bytes};
 ghost use Rattle.aes_planes.specs.Fips197 as fips;
-ghost use Rattle.aes_permute.specs.Keys.{encrypting, decrypting, lane_key_size, AreInverse, IsCipherSchedule};
+ghost use Rattle.aes_cipher.specs.KeySizes.{IsKeySize};
+ghost use Rattle.aes_permute.specs.Keys.{encrypting, decrypting, key_in_room, lane_key_size, stored_keys, AreInverse, AreZeroAfter, IsCipherSchedule};
 ghost use Rattle.aes_permute.specs.Lookup.{looked};
 ghost use Rattle.aes_permute.specs.Stored.{untower, inv_untower, key_untower};
 
@@ -95,4 +96,41 @@ pub fn inverse_examples()
 pub fn size_examples()
     ensures sizes { map (λ n. lane_key_size (replicate n [])) (11 ∷ 13 ∷ 15 ∷ []) ≡ 16 ∷ 24 ∷ 32 ∷ [] }
     ensures twelve { ¬ IsCipherSchedule (replicate 12 []) }
+{}
+
+/// The sizes of keys, those on either side of them, and none; and 11, 13 or 15 round keys.
+pub fn key_size_examples()
+    ensures of_16 { IsKeySize 16 }
+    ensures of_24 { IsKeySize 24 }
+    ensures of_32 { IsKeySize 32 }
+    ensures none { ¬ IsKeySize 0 }
+    ensures shorter { ¬ IsKeySize 15 }
+    ensures between { ¬ IsKeySize 23 }
+    ensures longer { ¬ IsKeySize 33 }
+    ensures round_keys { map (λ n. length (stored_keys n (replicate 15 []))) (16 ∷ 24 ∷ 32 ∷ []) ≡ 11 ∷ 13 ∷ 15 ∷ [] }
+{}
+
+/// The keys of A.1, A.2 and A.3, from the first two of their stored round keys.
+#[tactic(auto, unfolding(crate::proofs::OnLiterals::room_on_literals))]
+pub fn room_examples()
+    ensures of_16 { key_in_room 16 (bytes 16 0x2b7e151628aed2a6abf7158809cf4f3c
+        ∷ bytes 16 0xe4d7fad83e4b99638ef93333a817aa42 ∷ replicate 13 (replicate 16 0))
+        ≡ bytes 16 0x2b7e151628aed2a6abf7158809cf4f3c }
+    ensures of_24 { key_in_room 24 (bytes 16 0x8e73b0f7da0e6452c810f32b809079e5
+        ∷ bytes 16 0x01cb510d7a9927a1fa649edcbe72c0c8 ∷ replicate 13 (replicate 16 0))
+        ≡ bytes 24 0x8e73b0f7da0e6452c810f32b809079e562f8ead2522c6b7b }
+    ensures of_32 { key_in_room 32 (bytes 16 0x603deb1015ca71be2b73aef0857d7781
+        ∷ bytes 16 0xff39995e2f1c492198b8e8f948c506c1 ∷ replicate 13 (replicate 16 0))
+        ≡ bytes 32 0x603deb1015ca71be2b73aef0857d77811f352c073b6108d72d9810a30914dff4 }
+{}
+
+/// A bit that is left in a block after the round keys is found: in the first of them and in the last. Keys of 32 bytes leave
+/// no block over.
+pub fn left_behind_examples()
+    ensures first_after_16 { ¬ AreZeroAfter 16 (slice_set (replicate 15 (replicate 16 0)) 11 (replicate 16 1)) }
+    ensures last_after_16 { ¬ AreZeroAfter 16 (slice_set (replicate 15 (replicate 16 0)) 14 (replicate 16 1)) }
+    ensures first_after_24 { ¬ AreZeroAfter 24 (slice_set (replicate 15 (replicate 16 0)) 13 (replicate 16 1)) }
+    ensures last_after_24 { ¬ AreZeroAfter 24 (slice_set (replicate 15 (replicate 16 0)) 14 (replicate 16 1)) }
+    ensures none_after_24 { AreZeroAfter 24 (slice_set (replicate 15 (replicate 16 0)) 12 (replicate 16 1)) }
+    ensures none_after_32 { AreZeroAfter 32 (replicate 15 (replicate 16 1)) }
 {}

@@ -1,8 +1,9 @@
 //! The key schedules (FIPS 197, 5.2), four words at a time, and the form in which round keys are stored.
 
-ghost use Rattle.std.specs.Prelude.{◌≡◌, ◌⊎◌, ◌+◌, ◌/◌, ◌≤◌, length, map};
+ghost use Rattle.std.specs.Prelude.{◌≡◌, ◌+◌, ◌/◌, ◌≤◌, length, map};
 ghost use Rattle.aes_planes.specs.Fips197 as fips;
 ghost use Rattle.aes_planes.specs.Planes.{plus63, summed};
+ghost use Rattle.aes_cipher.specs.KeySizes.{IsKeySize};
 ghost use Rattle.aes_permute.specs.Keys.{encrypting, key_of_lanes, AreInverse, IsCipherSchedule};
 ghost use Rattle.aes_permute.specs.Stored.{IsWritten};
 
@@ -125,7 +126,7 @@ impl FourWords for LaneKeys {
 
 /// Writes the round keys of a key of any size as Cipher uses them: KeyExpansion (FIPS 197, 5.2).
 pub fn expand_lanes(keys: &mut [Block], key: &[u8])
-    requires one_of_three { (length key.now ≡ 16) ⊎ ((length key.now ≡ 24) ⊎ (length key.now ≡ 32)) }
+    requires one_of_three { IsKeySize (length key.now) }
     requires sized { length keys.old ≡ length key.now / 4 + 7 }
     ensures schedule { IsCipherSchedule keys.new }
     ensures key { key_of_lanes keys.new ≡ key.now }

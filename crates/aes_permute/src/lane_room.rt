@@ -1,6 +1,7 @@
 //! Room for stored round keys of a key of any size, and the first of its blocks, which are the round keys.
 
-ghost use Rattle.std.specs.Prelude.{◌≡◌, ◌⊎◌, ◌+◌, ◌/◌, drop, length};
+ghost use Rattle.std.specs.Prelude.{◌≡◌, ◌↔◌, ◌+◌, ◌/◌, drop, length, IsTrue};
+ghost use Rattle.aes_cipher.specs.KeySizes.{IsKeySize};
 ghost use Rattle.aes_permute.specs.Keys.{key_of_lanes, stored_keys, AreInverse, IsCipherSchedule};
 
 use crate::lane_keys::{expand_lanes, invert_lanes};
@@ -9,10 +10,17 @@ use aes_planes::soft::word::Block;
 /// Room for the round keys of a key of any size: as many blocks as the largest has.
 pub type LaneRoom = [Block; 15];
 
+/// Returns whether keys have so many bytes: 16, 24 or 32.
+pub fn is_key_size(bytes: usize) -> bool
+    ensures { IsTrue result ↔ IsKeySize bytes }
+{
+    bytes == 16 || bytes == 24 || bytes == 32
+}
+
 /// Returns the stored round keys of a key of `size` bytes: the first of the blocks.
 #[inline(always)]
 pub fn keys_in_room(room: &LaneRoom, size: usize) -> &[Block]
-    requires { (size ≡ 16) ⊎ ((size ≡ 24) ⊎ (size ≡ 32)) }
+    requires { IsKeySize size }
     ensures keys { result.now ≡ stored_keys size room.now }
     ensures count { length result.now ≡ size / 4 + 7 }
 {
@@ -22,7 +30,7 @@ pub fn keys_in_room(room: &LaneRoom, size: usize) -> &[Block]
 /// Writes the round keys of a key as Cipher uses them: KeyExpansion (FIPS 197, 5.2).
 #[inline(always)]
 pub fn expand_in_room(room: &mut LaneRoom, key: &[u8])
-    requires { (length key.now ≡ 16) ⊎ ((length key.now ≡ 24) ⊎ (length key.now ≡ 32)) }
+    requires { IsKeySize (length key.now) }
     ensures schedule { IsCipherSchedule (stored_keys (length key.now) room.new) }
     ensures key { key_of_lanes (stored_keys (length key.now) room.new) ≡ key.now }
     ensures after { drop (length key.now / 4 + 7) room.new ≡ drop (length key.now / 4 + 7) room.old }
@@ -33,7 +41,7 @@ pub fn expand_in_room(room: &mut LaneRoom, key: &[u8])
 /// Writes the round keys of EqInvCipher, of the same key of `size` bytes as those of Cipher (FIPS 197, 5.3.5).
 #[inline(always)]
 pub fn invert_in_room(inverse: &mut LaneRoom, room: &LaneRoom, size: usize)
-    requires { (size ≡ 16) ⊎ ((size ≡ 24) ⊎ (size ≡ 32)) }
+    requires { IsKeySize size }
     ensures keys { AreInverse (stored_keys size inverse.new) (stored_keys size room.now) }
     ensures after { drop (size / 4 + 7) inverse.new ≡ drop (size / 4 + 7) inverse.old }
 {

@@ -2,7 +2,8 @@
 
 ghost use Rattle.std.specs.Prelude.{◌≡◌, ◌≢◌, ◌↔◌, length};
 ghost use Rattle.aes_planes.specs.Each.{Each};
-ghost use Rattle.c_calls.specs.Kept.{round_keys_in, IsKeyLength, IsMade};
+ghost use Rattle.aes_cipher.specs.KeySizes.{IsKeySize};
+ghost use Rattle.c_calls.specs.Kept.{round_keys_in, IsMade};
 
 use crate::kept::{Aes, holds_key};
 use crate::status::{DONE, NO_KEY, UNEQUAL_COUNTS};
@@ -17,7 +18,7 @@ use aes_soft::soft::PlaneCipher;
 /// `NO_KEY`.
 pub fn process_under<D: LaneRounds + PlaneCipher, W: Width>(aes: &Aes, blocks: &mut [Block]) -> u32
     requires made { IsMade aes.now }
-    ensures done { result ≡ DONE ↔ IsKeyLength aes.now.key_length }
+    ensures done { result ≡ DONE ↔ IsKeySize aes.now.key_length }
     ensures refused { result ≢ DONE → result ≡ NO_KEY }
     ensures blocks { result ≡ DONE → Each (D.processed (round_keys_in aes.now)) blocks.old blocks.new }
     ensures untouched { result ≢ DONE → blocks.new ≡ blocks.old }
@@ -41,7 +42,7 @@ pub fn process_under_to<D: LaneRounds + PlaneCipher, W: Width>(
 ) -> u32
     requires made { IsMade aes.now }
     ensures unequal { result ≡ UNEQUAL_COUNTS ↔ (length input.now ≢ length output.old) }
-    ensures done { result ≡ DONE ↔ IsKeyLength aes.now.key_length × (length input.now ≡ length output.old) }
+    ensures done { result ≡ DONE ↔ IsKeySize aes.now.key_length × (length input.now ≡ length output.old) }
     ensures refused { result ≢ DONE → result ≢ UNEQUAL_COUNTS → result ≡ NO_KEY }
     ensures blocks { result ≡ DONE → Each (D.processed (round_keys_in aes.now)) input.now output.new }
     ensures untouched { result ≢ DONE → output.new ≡ output.old }

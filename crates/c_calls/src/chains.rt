@@ -2,7 +2,8 @@
 
 ghost use Rattle.std.specs.Prelude.{◌≡◌, ◌≢◌, ◌↔◌};
 ghost use Rattle.cbc.specs.Cbc.{chained, last_of, unchained};
-ghost use Rattle.c_calls.specs.Kept.{round_keys_in, IsKeyLength, IsMade};
+ghost use Rattle.aes_cipher.specs.KeySizes.{IsKeySize};
+ghost use Rattle.c_calls.specs.Kept.{round_keys_in, IsMade};
 
 use crate::kept::{Aes, holds_key, lent, lent_both};
 use crate::status::{DONE, NO_KEY};
@@ -14,7 +15,7 @@ use cbc::Cbc;
 /// `NO_KEY`.
 pub fn chain_under<W: Width>(aes: &Aes, cbc: &mut Cbc, blocks: &mut [Block]) -> u32
     requires made { IsMade aes.now }
-    ensures done { result ≡ DONE ↔ IsKeyLength aes.now.key_length }
+    ensures done { result ≡ DONE ↔ IsKeySize aes.now.key_length }
     ensures refused { result ≢ DONE → result ≡ NO_KEY }
     ensures blocks { result ≡ DONE → blocks.new ≡ chained (round_keys_in aes.now) cbc.old.previous blocks.old }
     ensures previous { result ≡ DONE → cbc.new.previous ≡ last_of cbc.old.previous blocks.new }
@@ -32,7 +33,7 @@ pub fn chain_under<W: Width>(aes: &Aes, cbc: &mut Cbc, blocks: &mut [Block]) -> 
 /// `NO_KEY`.
 pub fn unchain_under<W: Width>(aes: &Aes, cbc: &mut Cbc, blocks: &mut [Block]) -> u32
     requires made { IsMade aes.now }
-    ensures done { result ≡ DONE ↔ IsKeyLength aes.now.key_length }
+    ensures done { result ≡ DONE ↔ IsKeySize aes.now.key_length }
     ensures refused { result ≢ DONE → result ≡ NO_KEY }
     ensures blocks { result ≡ DONE → blocks.new ≡ unchained (round_keys_in aes.now) cbc.old.previous blocks.old }
     ensures previous { result ≡ DONE → cbc.new.previous ≡ last_of cbc.old.previous blocks.old }

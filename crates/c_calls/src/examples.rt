@@ -4,11 +4,11 @@
 //! `bytes n 0x..` is the n bytes that these digits write. What a struct stores was computed by a separate model in Python,
 //! from the standard and the basis that `tools/permutation-tables` describes.
 
-ghost use Rattle.std.specs.Prelude.{◌≡◌, ◌∷◌, [], length, map, replicate, slice_set};
+ghost use Rattle.std.specs.Prelude.{◌≡◌, map};
 ghost use Rattle.aes_planes.specs.BigEndian.{bytes};
 ghost use Rattle.aes_planes.specs.Fips197 as fips;
-ghost use Rattle.aes_permute.specs.Keys.{encrypting, stored_keys, AreInverse};
-ghost use Rattle.c_calls.specs.Kept.{key_of_kept, AreZeroAfter, IsKeyLength, IsMade};
+ghost use Rattle.aes_permute.specs.Keys.{encrypting, key_in_room, stored_keys, AreInverse, AreZeroAfter};
+ghost use Rattle.c_calls.specs.Kept.{IsMade};
 
 use crate::status::{
     DONE, INVALID_COUNT, KEY_LENGTH, KEYSTREAM_END, NO_KEY, REFUSED, UNEQUAL_COUNTS, VERSION,
@@ -25,32 +25,6 @@ pub fn numbers_of_the_header()
     ensures invalid_count { INVALID_COUNT ≡ 5 }
     ensures refused { REFUSED ≡ 6 }
     ensures version { VERSION ≡ 300 }
-{}
-
-/// The lengths of keys, those on either side of them, and none; and 11, 13 or 15 round keys.
-pub fn length_examples()
-    ensures of_16 { IsKeyLength 16 }
-    ensures of_24 { IsKeyLength 24 }
-    ensures of_32 { IsKeyLength 32 }
-    ensures none { ¬ IsKeyLength 0 }
-    ensures shorter { ¬ IsKeyLength 15 }
-    ensures between { ¬ IsKeyLength 23 }
-    ensures longer { ¬ IsKeyLength 33 }
-    ensures round_keys { map (λ n. length (stored_keys n (replicate 15 []))) (16 ∷ 24 ∷ 32 ∷ []) ≡ 11 ∷ 13 ∷ 15 ∷ [] }
-{}
-
-/// The keys of A.1, A.2 and A.3, from the first two of their stored round keys.
-#[tactic(auto, unfolding(crate::proofs::OnLiterals::kept_on_literals))]
-pub fn key_examples()
-    ensures of_16 { key_of_kept 16 (bytes 16 0x2b7e151628aed2a6abf7158809cf4f3c
-        ∷ bytes 16 0xe4d7fad83e4b99638ef93333a817aa42 ∷ replicate 13 (replicate 16 0))
-        ≡ bytes 16 0x2b7e151628aed2a6abf7158809cf4f3c }
-    ensures of_24 { key_of_kept 24 (bytes 16 0x8e73b0f7da0e6452c810f32b809079e5
-        ∷ bytes 16 0x01cb510d7a9927a1fa649edcbe72c0c8 ∷ replicate 13 (replicate 16 0))
-        ≡ bytes 24 0x8e73b0f7da0e6452c810f32b809079e562f8ead2522c6b7b }
-    ensures of_32 { key_of_kept 32 (bytes 16 0x603deb1015ca71be2b73aef0857d7781
-        ∷ bytes 16 0xff39995e2f1c492198b8e8f948c506c1 ∷ replicate 13 (replicate 16 0))
-        ≡ bytes 32 0x603deb1015ca71be2b73aef0857d77811f352c073b6108d72d9810a30914dff4 }
 {}
 
 // The blocks of the struct of the key of A.1, each as one number, highest byte first: the stored round keys of Cipher.
@@ -97,7 +71,7 @@ pub fn stored_example()
     ensures round_keys { encrypting (stored_keys 16 (map (bytes 16) ENCRYPTING))
         ≡ fips.key_expansion (bytes 16 0x2b7e151628aed2a6abf7158809cf4f3c) }
     ensures inverse { AreInverse (stored_keys 16 (map (bytes 16) DECRYPTING)) (stored_keys 16 (map (bytes 16) ENCRYPTING)) }
-    ensures key { key_of_kept 16 (map (bytes 16) ENCRYPTING) ≡ bytes 16 0x2b7e151628aed2a6abf7158809cf4f3c }
+    ensures key { key_in_room 16 (map (bytes 16) ENCRYPTING) ≡ bytes 16 0x2b7e151628aed2a6abf7158809cf4f3c }
     ensures after_encrypting { AreZeroAfter 16 (map (bytes 16) ENCRYPTING) }
     ensures after_decrypting { AreZeroAfter 16 (map (bytes 16) DECRYPTING) }
 {
@@ -114,14 +88,3 @@ pub fn struct_example()
 {
     stored_example();
 }
-
-/// A bit that is left in a block after the round keys is found: in the first of them and in the last. Keys of 32 bytes leave
-/// no block over.
-pub fn left_behind_examples()
-    ensures first_after_16 { ¬ AreZeroAfter 16 (slice_set (replicate 15 (replicate 16 0)) 11 (replicate 16 1)) }
-    ensures last_after_16 { ¬ AreZeroAfter 16 (slice_set (replicate 15 (replicate 16 0)) 14 (replicate 16 1)) }
-    ensures first_after_24 { ¬ AreZeroAfter 24 (slice_set (replicate 15 (replicate 16 0)) 13 (replicate 16 1)) }
-    ensures last_after_24 { ¬ AreZeroAfter 24 (slice_set (replicate 15 (replicate 16 0)) 14 (replicate 16 1)) }
-    ensures none_after_24 { AreZeroAfter 24 (slice_set (replicate 15 (replicate 16 0)) 12 (replicate 16 1)) }
-    ensures none_after_32 { AreZeroAfter 32 (replicate 15 (replicate 16 1)) }
-{}

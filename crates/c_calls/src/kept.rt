@@ -1,13 +1,15 @@
 //! The struct that a caller keeps: a key as its stored round keys.
 
 ghost use Rattle.std.specs.Prelude.{◌≡◌, ◌≢◌, ◌↔◌, length, replicate, true};
-ghost use Rattle.c_calls.specs.Kept.{key_in, AreZeroAfter, IsKeyLength, IsMade};
+ghost use Rattle.aes_cipher.specs.KeySizes.{IsKeySize};
+ghost use Rattle.aes_permute.specs.Keys.{AreZeroAfter};
+ghost use Rattle.c_calls.specs.Kept.{key_in, IsMade};
 
 use crate::status::{DONE, KEY_LENGTH};
 use aes_cipher::zeroize::{Zeroize, zeroize_elements};
 use aes_hybrid::lent::Lent;
 use aes_hybrid::lent_both::LentBoth;
-use aes_permute::lane_room::{LaneRoom, expand_in_room, invert_in_room, keys_in_room};
+use aes_permute::lane_room::{LaneRoom, expand_in_room, invert_in_room, is_key_size, keys_in_room};
 
 /// A key schedule that the caller owns: `struct fotsgure_aes`. Its blocks are as secret as the key.
 #[repr(C)]
@@ -45,25 +47,18 @@ impl Zeroize for Aes {
     }
 }
 
-/// Returns whether this is the length of a key: 16, 24 or 32 bytes.
-pub fn is_key_length(bytes: usize) -> bool
-    ensures { result ≡ true ↔ IsKeyLength bytes }
-{
-    bytes == 16 || bytes == 24 || bytes == 32
-}
-
 /// Returns whether the struct holds a key.
 pub(crate) fn holds_key(aes: &Aes) -> bool
-    ensures { result ≡ true ↔ IsKeyLength aes.now.key_length }
+    ensures { result ≡ true ↔ IsKeySize aes.now.key_length }
 {
-    is_key_length(aes.key_length as usize)
+    is_key_size(aes.key_length as usize)
 }
 
 /// Lends the round keys of a struct that holds a key, to encrypt.
 #[inline(always)]
 pub(crate) fn lent<W>(aes: &Aes) -> Lent<'_, W>
     requires made { IsMade aes.now }
-    requires key { IsKeyLength aes.now.key_length }
+    requires key { IsKeySize aes.now.key_length }
     ensures { result ≡ key_in aes.now }
 {
     Lent::new(keys_in_room(&aes.encrypting, aes.key_length as usize))
@@ -73,7 +68,7 @@ pub(crate) fn lent<W>(aes: &Aes) -> Lent<'_, W>
 #[inline(always)]
 pub(crate) fn lent_both<W>(aes: &Aes) -> LentBoth<'_, W>
     requires made { IsMade aes.now }
-    requires key { IsKeyLength aes.now.key_length }
+    requires key { IsKeySize aes.now.key_length }
     ensures { result ≡ key_in aes.now }
 {
     let length = aes.key_length as usize;
@@ -85,7 +80,7 @@ pub(crate) fn lent_both<W>(aes: &Aes) -> LentBoth<'_, W>
 /// bytes, else `KEY_LENGTH`; the struct then holds no key. Nothing of what it held before is left in either case: its
 /// blocks are the round keys of the new key, and zeros after them.
 pub fn set_key(aes: &mut Aes, key: &[u8]) -> u32
-    ensures done { result ≡ DONE ↔ IsKeyLength (length key.now) }
+    ensures done { result ≡ DONE ↔ IsKeySize (length key.now) }
     ensures refused { result ≢ DONE → result ≡ KEY_LENGTH }
     ensures made { IsMade aes.new }
     ensures key { result ≡ DONE → key_in aes.new ≡ key.now }
@@ -99,7 +94,7 @@ pub fn set_key(aes: &mut Aes, key: &[u8]) -> u32
     // Nothing is read of a struct that may be uninitialized. No compiler takes these zeros away where they stay: the
     // caller owns the struct, and can read what the call leaves in it.
     *aes = Aes::zero();
-    if !is_key_length(key.len()) {
+    if !is_key_size(key.len()) {
         return KEY_LENGTH;
     }
     expand_in_room(&mut aes.encrypting, key);
@@ -110,8 +105,8 @@ pub fn set_key(aes: &mut Aes, key: &[u8]) -> u32
 
 /// Returns how many bytes the key has, or 0 if the struct holds no key.
 pub fn length_of_key(aes: &Aes) -> usize
-    ensures key { IsKeyLength aes.now.key_length → result ≡ aes.now.key_length }
-    ensures none { ¬ IsKeyLength aes.now.key_length → result ≡ 0 }
+    ensures key { IsKeySize aes.now.key_length → result ≡ aes.now.key_length }
+    ensures none { ¬ IsKeySize aes.now.key_length → result ≡ 0 }
 {
     if holds_key(aes) {
         aes.key_length as usize

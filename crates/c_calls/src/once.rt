@@ -4,10 +4,10 @@ ghost use Rattle.std.specs.Prelude.{◌≡◌, ◌≢◌, ◌↔◌, ◌+◌, �
 ghost use Rattle.aes_planes.specs.Each.{Each};
 ghost use Rattle.aes_planes.specs.Fips197 as fips;
 ghost use Rattle.aes_ctr.specs.CounterMode.{keystream_byte, plus_stream};
-ghost use Rattle.c_calls.specs.Kept.{IsKeyLength};
+ghost use Rattle.aes_cipher.specs.KeySizes.{IsKeySize};
 
 use crate::blocks::process_under;
-use crate::kept::{Aes, is_key_length, set_key};
+use crate::kept::{Aes, set_key};
 use crate::status::{DONE, KEY_LENGTH, KEYSTREAM_END};
 use crate::stream::Ctr;
 use aes_cipher::cipher::{Decrypt, Encrypt};
@@ -16,18 +16,18 @@ use aes_ctr::add_keystream;
 use aes_hybrid::blocks::process_few_or_many;
 use aes_hybrid::lent::Lent;
 use aes_hybrid::widths::Width;
-use aes_permute::lane_room::{expand_in_room, keys_in_room};
+use aes_permute::lane_room::{expand_in_room, is_key_size, keys_in_room};
 use aes_planes::soft::word::Block;
 
 /// Encrypts each block in place under a key (Cipher, FIPS 197, 5.1). Returns `DONE` exactly if the key has 16, 24 or 32
 /// bytes, else `KEY_LENGTH`.
 pub fn encrypt_with<W: Width>(key: &[u8], blocks: &mut [Block]) -> u32
-    ensures done { result ≡ DONE ↔ IsKeyLength (length key.now) }
+    ensures done { result ≡ DONE ↔ IsKeySize (length key.now) }
     ensures refused { result ≢ DONE → result ≡ KEY_LENGTH }
     ensures blocks { result ≡ DONE → Each (fips.cipher key.now) blocks.old blocks.new }
     ensures untouched { result ≢ DONE → blocks.new ≡ blocks.old }
 {
-    if !is_key_length(key.len()) {
+    if !is_key_size(key.len()) {
         return KEY_LENGTH;
     }
     let mut kept = MustWipe::<[Block; 15]>::zeroed();
@@ -41,7 +41,7 @@ pub fn encrypt_with<W: Width>(key: &[u8], blocks: &mut [Block]) -> u32
 /// Decrypts each block in place under a key (InvCipher, FIPS 197, 5.3). Returns `DONE` exactly if the key has 16, 24 or
 /// 32 bytes, else `KEY_LENGTH`.
 pub fn decrypt_with<W: Width>(key: &[u8], blocks: &mut [Block]) -> u32
-    ensures done { result ≡ DONE ↔ IsKeyLength (length key.now) }
+    ensures done { result ≡ DONE ↔ IsKeySize (length key.now) }
     ensures refused { result ≢ DONE → result ≡ KEY_LENGTH }
     ensures blocks { result ≡ DONE → Each (fips.inv_cipher key.now) blocks.old blocks.new }
     ensures untouched { result ≢ DONE → blocks.new ≡ blocks.old }
@@ -59,9 +59,9 @@ pub fn decrypt_with<W: Width>(key: &[u8], blocks: &mut [Block]) -> u32
 /// under a key. Returns `KEY_LENGTH` exactly if the key doesn't have 16, 24 or 32 bytes, and else `KEYSTREAM_END` or
 /// `DONE`.
 pub fn add_keystream_with<W: Width>(key: &[u8], ctr: &mut Ctr, bytes: &mut [u8]) -> u32
-    ensures done { result ≡ DONE ↔ IsKeyLength (length key.now) × (ctr.old.position + length bytes.old ≤ 2 ^ 64 - 1) }
+    ensures done { result ≡ DONE ↔ IsKeySize (length key.now) × (ctr.old.position + length bytes.old ≤ 2 ^ 64 - 1) }
     ensures ended { result ≡ KEYSTREAM_END
-        ↔ IsKeyLength (length key.now) × (2 ^ 64 - 1 < ctr.old.position + length bytes.old) }
+        ↔ IsKeySize (length key.now) × (2 ^ 64 - 1 < ctr.old.position + length bytes.old) }
     ensures refused { result ≢ DONE → result ≢ KEYSTREAM_END → result ≡ KEY_LENGTH }
     ensures bytes { result ≡ DONE → bytes.new
         ≡ plus_stream (keystream_byte (fips.key_expansion key.now) ctr.old.iv) ctr.old.position bytes.old }
@@ -70,7 +70,7 @@ pub fn add_keystream_with<W: Width>(key: &[u8], ctr: &mut Ctr, bytes: &mut [u8])
     ensures unmoved { result ≢ DONE → ctr.new.position ≡ ctr.old.position }
     ensures untouched { result ≢ DONE → bytes.new ≡ bytes.old }
 {
-    if !is_key_length(key.len()) {
+    if !is_key_size(key.len()) {
         return KEY_LENGTH;
     }
     if bytes.len() as u64 > u64::MAX - ctr.position {

@@ -2,7 +2,8 @@
 
 ghost use Rattle.std.specs.Prelude.{◌≡◌, ◌≢◌, ◌↔◌, ◌+◌, ◌-◌, ◌^◌, ◌<◌, ◌≤◌, length};
 ghost use Rattle.aes_ctr.specs.CounterMode.{keystream_byte, plus_stream};
-ghost use Rattle.c_calls.specs.Kept.{round_keys_in, IsKeyLength, IsMade};
+ghost use Rattle.aes_cipher.specs.KeySizes.{IsKeySize};
+ghost use Rattle.c_calls.specs.Kept.{round_keys_in, IsMade};
 
 use crate::kept::{Aes, holds_key, lent};
 use crate::status::{DONE, KEYSTREAM_END, NO_KEY, UNEQUAL_COUNTS};
@@ -22,7 +23,7 @@ pub struct Ctr {
 // Returns the status that refuses `count` bytes of keystream from a position on, or `DONE`.
 fn refusal(aes: &Aes, position: u64, count: usize) -> u32
     ensures ended { result ≡ KEYSTREAM_END ↔ (2 ^ 64 - 1 < position + count) }
-    ensures done { result ≡ DONE ↔ IsKeyLength aes.now.key_length × (position + count ≤ 2 ^ 64 - 1) }
+    ensures done { result ≡ DONE ↔ IsKeySize aes.now.key_length × (position + count ≤ 2 ^ 64 - 1) }
     ensures refused { result ≢ DONE → result ≢ KEYSTREAM_END → result ≡ NO_KEY }
 {
     if count as u64 > u64::MAX - position {
@@ -40,7 +41,7 @@ fn refusal(aes: &Aes, position: u64, count: usize) -> u32
 pub fn add_keystream_under<W: Width>(aes: &Aes, ctr: &mut Ctr, bytes: &mut [u8]) -> u32
     requires made { IsMade aes.now }
     ensures ended { result ≡ KEYSTREAM_END ↔ (2 ^ 64 - 1 < ctr.old.position + length bytes.old) }
-    ensures done { result ≡ DONE ↔ IsKeyLength aes.now.key_length × (ctr.old.position + length bytes.old ≤ 2 ^ 64 - 1) }
+    ensures done { result ≡ DONE ↔ IsKeySize aes.now.key_length × (ctr.old.position + length bytes.old ≤ 2 ^ 64 - 1) }
     ensures refused { result ≢ DONE → result ≢ KEYSTREAM_END → result ≡ NO_KEY }
     ensures bytes { result ≡ DONE → bytes.new
         ≡ plus_stream (keystream_byte (round_keys_in aes.now) ctr.old.iv) ctr.old.position bytes.old }
@@ -69,7 +70,7 @@ pub fn add_keystream_under_to<W: Width>(
     ensures unequal { result ≡ UNEQUAL_COUNTS ↔ (length input.now ≢ length output.old) }
     ensures ended { result ≡ KEYSTREAM_END
         ↔ (length input.now ≡ length output.old) × (2 ^ 64 - 1 < ctr.old.position + length input.now) }
-    ensures done { result ≡ DONE ↔ IsKeyLength aes.now.key_length
+    ensures done { result ≡ DONE ↔ IsKeySize aes.now.key_length
         × ((length input.now ≡ length output.old) × (ctr.old.position + length input.now ≤ 2 ^ 64 - 1)) }
     ensures refused { result ≢ DONE → result ≢ UNEQUAL_COUNTS → result ≢ KEYSTREAM_END → result ≡ NO_KEY }
     ensures bytes { result ≡ DONE → output.new

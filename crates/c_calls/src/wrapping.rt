@@ -3,7 +3,8 @@
 ghost use Rattle.std.specs.Prelude.{◌≡◌, ◌≢◌, ◌↔◌, ◌^◌, ◌<◌, ◌∷◌, [], length, replicate, slice_index_or};
 ghost use Rattle.key_wrap.specs.KeyWrap.{integrity_check, unwrapped, wrapped, Fit};
 ghost use Rattle.key_wrap.specs.Padded.{heading, unwrapped_string, wrapped_padded, FitPadded, FitUnpadded, IsPadded};
-ghost use Rattle.c_calls.specs.Kept.{round_keys_in, IsKeyLength, IsMade};
+ghost use Rattle.aes_cipher.specs.KeySizes.{IsKeySize};
+ghost use Rattle.c_calls.specs.Kept.{round_keys_in, IsMade};
 
 use crate::kept::{Aes, holds_key, lent, lent_both};
 use crate::status::{DONE, INVALID_COUNT, NO_KEY, REFUSED};
@@ -15,8 +16,8 @@ use key_wrap::{InvalidCount, NotUnwrapped, Semiblock, unwrap, unwrap_padded, wra
 /// in all other cases.
 pub fn wrap_under<W: Width>(aes: &Aes, key: &[Semiblock], output: &mut [Semiblock]) -> u32
     requires made { IsMade aes.now }
-    ensures no_key { result ≡ NO_KEY ↔ ¬ IsKeyLength aes.now.key_length }
-    ensures done { result ≡ DONE ↔ IsKeyLength aes.now.key_length × Fit (length key.now) (length output.old) }
+    ensures no_key { result ≡ NO_KEY ↔ ¬ IsKeySize aes.now.key_length }
+    ensures done { result ≡ DONE ↔ IsKeySize aes.now.key_length × Fit (length key.now) (length output.old) }
     ensures invalid { result ≢ DONE → result ≢ NO_KEY → result ≡ INVALID_COUNT }
     ensures wrapped { result ≡ DONE → output.new ≡ wrapped (round_keys_in aes.now) key.now }
     ensures untouched { result ≢ DONE → output.new ≡ output.old }
@@ -35,11 +36,11 @@ pub fn wrap_under<W: Width>(aes: &Aes, key: &[Semiblock], output: &mut [Semibloc
 /// was not wrapped under this one, and `DONE` in all other cases. After `REFUSED` the output is zeros.
 pub fn unwrap_under<W: Width>(aes: &Aes, sealed: &[Semiblock], output: &mut [Semiblock]) -> u32
     requires made { IsMade aes.now }
-    ensures no_key { result ≡ NO_KEY ↔ ¬ IsKeyLength aes.now.key_length }
+    ensures no_key { result ≡ NO_KEY ↔ ¬ IsKeySize aes.now.key_length }
     ensures invalid { result ≡ INVALID_COUNT
-        ↔ IsKeyLength aes.now.key_length × (¬ Fit (length output.old) (length sealed.now)) }
+        ↔ IsKeySize aes.now.key_length × (¬ Fit (length output.old) (length sealed.now)) }
     ensures done { result ≡ DONE
-        ↔ IsKeyLength aes.now.key_length × (Fit (length output.old) (length sealed.now)
+        ↔ IsKeySize aes.now.key_length × (Fit (length output.old) (length sealed.now)
         × (slice_index_or (unwrapped (round_keys_in aes.now) sealed.now) 0 [] ≡ integrity_check)) }
     ensures refused { result ≢ DONE → result ≢ NO_KEY → result ≢ INVALID_COUNT → result ≡ REFUSED }
     ensures key { result ≡ DONE → integrity_check ∷ output.new ≡ unwrapped (round_keys_in aes.now) sealed.now }
@@ -61,8 +62,8 @@ pub fn unwrap_under<W: Width>(aes: &Aes, sealed: &[Semiblock], output: &mut [Sem
 /// fills, and `DONE` in all other cases.
 pub fn wrap_padded_under<W: Width>(aes: &Aes, key: &[u8], output: &mut [Semiblock]) -> u32
     requires made { IsMade aes.now }
-    ensures no_key { result ≡ NO_KEY ↔ ¬ IsKeyLength aes.now.key_length }
-    ensures done { result ≡ DONE ↔ IsKeyLength aes.now.key_length × FitPadded (length key.now) (length output.old) }
+    ensures no_key { result ≡ NO_KEY ↔ ¬ IsKeySize aes.now.key_length }
+    ensures done { result ≡ DONE ↔ IsKeySize aes.now.key_length × FitPadded (length key.now) (length output.old) }
     ensures invalid { result ≢ DONE → result ≢ NO_KEY → result ≡ INVALID_COUNT }
     ensures wrapped { result ≡ DONE → output.new ≡ wrapped_padded (round_keys_in aes.now) key.now }
     ensures untouched { result ≢ DONE → output.new ≡ output.old }
@@ -88,11 +89,11 @@ pub fn unwrap_padded_under<W: Width>(
     key_bytes: &mut usize,
 ) -> u32
     requires made { IsMade aes.now }
-    ensures no_key { result ≡ NO_KEY ↔ ¬ IsKeyLength aes.now.key_length }
+    ensures no_key { result ≡ NO_KEY ↔ ¬ IsKeySize aes.now.key_length }
     ensures invalid { result ≡ INVALID_COUNT
-        ↔ IsKeyLength aes.now.key_length × (¬ FitUnpadded (length output.old) (length sealed.now)) }
+        ↔ IsKeySize aes.now.key_length × (¬ FitUnpadded (length output.old) (length sealed.now)) }
     ensures done { result ≡ DONE
-        ↔ IsKeyLength aes.now.key_length × (FitUnpadded (length output.old) (length sealed.now)
+        ↔ IsKeySize aes.now.key_length × (FitUnpadded (length output.old) (length sealed.now)
         × IsPadded (unwrapped_string (round_keys_in aes.now) sealed.now)) }
     ensures refused { result ≢ DONE → result ≢ NO_KEY → result ≢ INVALID_COUNT → result ≡ REFUSED }
     ensures key { result ≡ DONE → heading key_bytes.new ∷ output.new ≡ unwrapped_string (round_keys_in aes.now) sealed.now }

@@ -3,7 +3,7 @@
 
 ghost use Rattle.std.specs.Prelude.{◌≡◌, ◌↔◌, ◌-◌, ◌^◌, ◌<◌, ◌≤◌, length};
 ghost use Rattle.aes_planes.specs.Fips197 as fips;
-ghost use Rattle.c_calls.specs.Kept.{IsKeyLength};
+ghost use Rattle.aes_cipher.specs.KeySizes.{IsKeySize};
 ghost use Rattle.gcm.specs.Gcm as nist;
 ghost use Rattle.gcm_c.specs.Kept.{IsNonceLength, IsTooLong};
 
@@ -49,11 +49,11 @@ pub fn set_key_and_seal(
     text: &mut [u8],
     tag: &mut [u8; 16],
 ) -> u32
-    ensures key_length { result ≡ KEY_LENGTH ↔ ¬ IsKeyLength (length key.now) }
-    ensures nonce_length { result ≡ NONCE_LENGTH ↔ IsKeyLength (length key.now) × ¬ IsNonceLength (length nonce.now) }
-    ensures too_long { result ≡ TOO_LONG ↔ IsKeyLength (length key.now) × (IsNonceLength (length nonce.now)
+    ensures key_length { result ≡ KEY_LENGTH ↔ ¬ IsKeySize (length key.now) }
+    ensures nonce_length { result ≡ NONCE_LENGTH ↔ IsKeySize (length key.now) × ¬ IsNonceLength (length nonce.now) }
+    ensures too_long { result ≡ TOO_LONG ↔ IsKeySize (length key.now) × (IsNonceLength (length nonce.now)
         × IsTooLong (length additional.now) (length text.old)) }
-    ensures done { result ≡ DONE ↔ IsKeyLength (length key.now) × (IsNonceLength (length nonce.now)
+    ensures done { result ≡ DONE ↔ IsKeySize (length key.now) × (IsNonceLength (length nonce.now)
         × ((length additional.now < 2 ^ 61) × (length text.old ≤ 2 ^ 36 - 32))) }
     ensures encrypted { result ≡ DONE → text.new ≡ nist.text (fips.key_expansion key.now) nonce.now text.old }
     ensures tag { result ≡ DONE → tag.new ≡ nist.tag (fips.key_expansion key.now) nonce.now additional.now text.new }

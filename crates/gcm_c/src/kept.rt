@@ -1,16 +1,16 @@
 //! The struct that a caller keeps: a key as its stored round keys, and the multiples of its H.
 
 ghost use Rattle.std.specs.Prelude.{◌≡◌, ◌≢◌, ◌↔◌, length, replicate, true};
-ghost use Rattle.c_calls.specs.Kept.{key_of_kept, AreZeroAfter, IsKeyLength};
+ghost use Rattle.aes_cipher.specs.KeySizes.{IsKeySize};
+ghost use Rattle.aes_permute.specs.Keys.{key_in_room, AreZeroAfter};
 ghost use Rattle.gcm_c.specs.Kept.{IsMade};
 
 use crate::status::{DONE, KEY_LENGTH};
 use crate::width::BuildWidth;
 use aes_cipher::zeroize::{Zeroize, zeroize_elements};
 use aes_hybrid::lent::Lent;
-use aes_permute::lane_room::{expand_in_room, keys_in_room};
+use aes_permute::lane_room::{expand_in_room, is_key_size, keys_in_room};
 use aes_planes::soft::word::Block;
-use c_calls::kept::is_key_length;
 use gcm::{Room, prepare};
 
 /// A key that the caller owns: `struct fotsgure_gcm`. Its blocks are as secret as the key.
@@ -51,16 +51,16 @@ impl Zeroize for Gcm {
 
 /// Returns whether the struct holds a key.
 pub(crate) fn holds_key(gcm: &Gcm) -> bool
-    ensures { result ≡ true ↔ IsKeyLength gcm.now.key_length }
+    ensures { result ≡ true ↔ IsKeySize gcm.now.key_length }
 {
-    is_key_length(gcm.key_length as usize)
+    is_key_size(gcm.key_length as usize)
 }
 
 /// Lends the key of a struct as a cipher.
 pub(crate) fn cipher_of(gcm: &Gcm) -> Lent<'_, BuildWidth>
     requires made { IsMade gcm.now.key_length gcm.now.round_keys gcm.now.multiples }
-    requires key { IsKeyLength gcm.now.key_length }
-    ensures { result ≡ key_of_kept gcm.now.key_length gcm.now.round_keys }
+    requires key { IsKeySize gcm.now.key_length }
+    ensures { result ≡ key_in_room gcm.now.key_length gcm.now.round_keys }
 {
     let keys = keys_in_room(&gcm.round_keys, gcm.key_length as usize);
     Lent::<BuildWidth>::new(keys)
@@ -71,10 +71,10 @@ pub(crate) fn cipher_of(gcm: &Gcm) -> Lent<'_, BuildWidth>
 /// Nothing of what it held before is left in either case.
 #[unsafe(no_mangle)]
 pub extern "C" fn fotsgure_gcm_set_key(gcm: &mut Gcm, key: &[u8]) -> u32
-    ensures done { result ≡ DONE ↔ IsKeyLength (length key.now) }
+    ensures done { result ≡ DONE ↔ IsKeySize (length key.now) }
     ensures refused { result ≢ DONE → result ≡ KEY_LENGTH }
     ensures made { IsMade gcm.new.key_length gcm.new.round_keys gcm.new.multiples }
-    ensures key { result ≡ DONE → key_of_kept gcm.new.key_length gcm.new.round_keys ≡ key.now }
+    ensures key { result ≡ DONE → key_in_room gcm.new.key_length gcm.new.round_keys ≡ key.now }
     ensures length { result ≡ DONE → gcm.new.key_length ≡ length key.now }
     ensures after { result ≡ DONE → AreZeroAfter (length key.now) gcm.new.round_keys }
     ensures none { result ≢ DONE → gcm.new.key_length ≡ 0 }
@@ -83,7 +83,7 @@ pub extern "C" fn fotsgure_gcm_set_key(gcm: &mut Gcm, key: &[u8]) -> u32
 {
     // Nothing is read of a struct that may be uninitialized. No compiler takes zeros away here: the caller owns the struct,
     // and can read what the call leaves in it.
-    if !is_key_length(key.len()) {
+    if !is_key_size(key.len()) {
         *gcm = Gcm::zero();
         return KEY_LENGTH;
     }
@@ -99,8 +99,8 @@ pub extern "C" fn fotsgure_gcm_set_key(gcm: &mut Gcm, key: &[u8]) -> u32
 /// Returns how many bytes the key has, or 0 if the struct holds no key.
 #[unsafe(no_mangle)]
 pub extern "C" fn fotsgure_gcm_key_length(gcm: &Gcm) -> usize
-    ensures key { IsKeyLength gcm.now.key_length → result ≡ gcm.now.key_length }
-    ensures none { ¬ IsKeyLength gcm.now.key_length → result ≡ 0 }
+    ensures key { IsKeySize gcm.now.key_length → result ≡ gcm.now.key_length }
+    ensures none { ¬ IsKeySize gcm.now.key_length → result ≡ 0 }
 {
     if holds_key(gcm) {
         gcm.key_length as usize

@@ -4,7 +4,7 @@ ghost use Rattle.std.specs.Prelude.{◌≡◌, ◌≢◌, ◌↔◌, ◌⊎◌, 
 ghost use Rattle.gcm.specs.Gcm as nist;
 ghost use Rattle.gcm.specs.Gcm.{IsShortTag};
 ghost use Rattle.gcm.specs.declared.message.Phase.{Phase};
-ghost use Rattle.c_calls.specs.Kept.{IsKeyLength};
+ghost use Rattle.aes_cipher.specs.KeySizes.{IsKeySize};
 ghost use Rattle.gcm_c.specs.Kept.{kept_round_keys, IsMade};
 ghost use Rattle.gcm.specs.Pieces.{IsInText, IsVerifying, IsDecrypting, phase_of};
 
@@ -29,10 +29,10 @@ fn status_of_refusal(error: NotAccepted) -> u32
 #[unsafe(no_mangle)]
 pub extern "C" fn fotsgure_gcm_verify(gcm: &Gcm, message: &mut Message, text: &[u8]) -> u32
     requires made { IsMade gcm.now.key_length gcm.now.round_keys gcm.now.multiples }
-    ensures no_key { result ≡ NO_KEY ↔ ¬ IsKeyLength gcm.now.key_length }
-    ensures out_of_turn { result ≡ OUT_OF_TURN ↔ IsKeyLength gcm.now.key_length
+    ensures no_key { result ≡ NO_KEY ↔ ¬ IsKeySize gcm.now.key_length }
+    ensures out_of_turn { result ≡ OUT_OF_TURN ↔ IsKeySize gcm.now.key_length
         × ((phase_of message.old.phase ≢ Phase.Additional) × (phase_of message.old.phase ≢ Phase.Verifying)) }
-    ensures done { result ≡ DONE ↔ IsKeyLength gcm.now.key_length
+    ensures done { result ≡ DONE ↔ IsKeySize gcm.now.key_length
         × (((phase_of message.old.phase ≡ Phase.Additional) ⊎ (phase_of message.old.phase ≡ Phase.Verifying))
         × (message.old.text + length text.now ≤ 2 ^ 36 - 32)) }
     ensures refused { result ≢ DONE → result ≢ NO_KEY → result ≢ OUT_OF_TURN → result ≡ TOO_LONG }
@@ -58,11 +58,11 @@ pub extern "C" fn fotsgure_gcm_verify(gcm: &Gcm, message: &mut Message, text: &[
 pub extern "C" fn fotsgure_gcm_accept(gcm: &Gcm, message: &mut Message, tag: &[u8]) -> u32
     requires made { IsMade gcm.now.key_length gcm.now.round_keys gcm.now.multiples }
     ensures tag_length { result ≡ TAG_LENGTH ↔ (length tag.now ≢ 16) }
-    ensures no_key { result ≡ NO_KEY ↔ (length tag.now ≡ 16) × ¬ IsKeyLength gcm.now.key_length }
-    ensures out_of_turn { result ≡ OUT_OF_TURN ↔ (length tag.now ≡ 16) × (IsKeyLength gcm.now.key_length
+    ensures no_key { result ≡ NO_KEY ↔ (length tag.now ≡ 16) × ¬ IsKeySize gcm.now.key_length }
+    ensures out_of_turn { result ≡ OUT_OF_TURN ↔ (length tag.now ≡ 16) × (IsKeySize gcm.now.key_length
         × ((phase_of message.old.phase ≢ Phase.Additional) × (phase_of message.old.phase ≢ Phase.Verifying))) }
     ensures accepted { let w = kept_round_keys gcm.now.key_length gcm.now.round_keys in
-        length tag.now ≡ 16 → IsKeyLength gcm.now.key_length → (iv a c : List ℕ) → IsVerifying w iv a c message.old
+        length tag.now ≡ 16 → IsKeySize gcm.now.key_length → (iv a c : List ℕ) → IsVerifying w iv a c message.old
         → result ≡ DONE ↔ (tag.now ≡ nist.tag w iv a c) }
     ensures refused { result ≢ DONE → result ≢ TAG_LENGTH → result ≢ NO_KEY → result ≢ OUT_OF_TURN → result ≡ REFUSED }
     ensures decrypting { let w = kept_round_keys gcm.now.key_length gcm.now.round_keys in
@@ -101,12 +101,12 @@ pub extern "C" fn fotsgure_gcm_accept_short(
     requires made { IsMade gcm.now.key_length gcm.now.round_keys gcm.now.multiples }
     ensures tag_length { result ≡ TAG_LENGTH ↔ ¬ (IsShortTag fixed_length × (length tag.now ≡ fixed_length)) }
     ensures no_key { result ≡ NO_KEY ↔ (IsShortTag fixed_length × (length tag.now ≡ fixed_length))
-        × ¬ IsKeyLength gcm.now.key_length }
+        × ¬ IsKeySize gcm.now.key_length }
     ensures out_of_turn { result ≡ OUT_OF_TURN ↔ (IsShortTag fixed_length × (length tag.now ≡ fixed_length))
-        × (IsKeyLength gcm.now.key_length
+        × (IsKeySize gcm.now.key_length
         × ((phase_of message.old.phase ≢ Phase.Additional) × (phase_of message.old.phase ≢ Phase.Verifying))) }
     ensures accepted { let w = kept_round_keys gcm.now.key_length gcm.now.round_keys in
-        IsShortTag fixed_length → length tag.now ≡ fixed_length → IsKeyLength gcm.now.key_length
+        IsShortTag fixed_length → length tag.now ≡ fixed_length → IsKeySize gcm.now.key_length
         → (iv a c : List ℕ) → IsVerifying w iv a c message.old
         → result ≡ DONE ↔ (tag.now ≡ nist.short_tag (length tag.now) w iv a c) }
     ensures refused { result ≢ DONE → result ≢ TAG_LENGTH → result ≢ NO_KEY → result ≢ OUT_OF_TURN → result ≡ REFUSED }
@@ -136,9 +136,9 @@ pub extern "C" fn fotsgure_gcm_accept_short(
 #[unsafe(no_mangle)]
 pub extern "C" fn fotsgure_gcm_decrypt(gcm: &Gcm, message: &mut Message, text: &mut [u8]) -> u32
     requires made { IsMade gcm.now.key_length gcm.now.round_keys gcm.now.multiples }
-    ensures no_key { result ≡ NO_KEY ↔ ¬ IsKeyLength gcm.now.key_length }
-    ensures out_of_turn { result ≡ OUT_OF_TURN ↔ IsKeyLength gcm.now.key_length × (phase_of message.old.phase ≢ Phase.Decrypting) }
-    ensures done { result ≡ DONE ↔ IsKeyLength gcm.now.key_length × ((phase_of message.old.phase ≡ Phase.Decrypting)
+    ensures no_key { result ≡ NO_KEY ↔ ¬ IsKeySize gcm.now.key_length }
+    ensures out_of_turn { result ≡ OUT_OF_TURN ↔ IsKeySize gcm.now.key_length × (phase_of message.old.phase ≢ Phase.Decrypting) }
+    ensures done { result ≡ DONE ↔ IsKeySize gcm.now.key_length × ((phase_of message.old.phase ≡ Phase.Decrypting)
         × ((message.old.decrypted + length text.old ≤ message.old.text)
         × (message.old.decrypted + length text.old ≤ 2 ^ 36 - 32))) }
     ensures refused { result ≢ DONE → result ≢ NO_KEY → result ≢ OUT_OF_TURN → result ≡ TOO_LONG }
@@ -174,10 +174,10 @@ pub extern "C" fn fotsgure_gcm_decrypt_unverified(
     text: &mut [u8],
 ) -> u32
     requires made { IsMade gcm.now.key_length gcm.now.round_keys gcm.now.multiples }
-    ensures no_key { result ≡ NO_KEY ↔ ¬ IsKeyLength gcm.now.key_length }
-    ensures out_of_turn { result ≡ OUT_OF_TURN ↔ IsKeyLength gcm.now.key_length
+    ensures no_key { result ≡ NO_KEY ↔ ¬ IsKeySize gcm.now.key_length }
+    ensures out_of_turn { result ≡ OUT_OF_TURN ↔ IsKeySize gcm.now.key_length
         × ((phase_of message.old.phase ≢ Phase.Additional) × (phase_of message.old.phase ≢ Phase.Verifying)) }
-    ensures done { result ≡ DONE ↔ IsKeyLength gcm.now.key_length
+    ensures done { result ≡ DONE ↔ IsKeySize gcm.now.key_length
         × (((phase_of message.old.phase ≡ Phase.Additional) ⊎ (phase_of message.old.phase ≡ Phase.Verifying))
         × (message.old.text + length text.old ≤ 2 ^ 36 - 32)) }
     ensures refused { result ≢ DONE → result ≢ NO_KEY → result ≢ OUT_OF_TURN → result ≡ TOO_LONG }

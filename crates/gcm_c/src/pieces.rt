@@ -3,7 +3,7 @@
 ghost use Rattle.std.specs.Prelude.{◌≡◌, ◌≢◌, ◌↔◌, ◌+◌, ◌-◌, ◌/◌, ◌^◌, ◌<◌, ℕ, List, [], ◌++◌, length, replicate};
 ghost use Rattle.gcm.specs.Gcm as nist;
 ghost use Rattle.gcm.specs.declared.message.Phase.{Phase};
-ghost use Rattle.c_calls.specs.Kept.{IsKeyLength};
+ghost use Rattle.aes_cipher.specs.KeySizes.{IsKeySize};
 ghost use Rattle.gcm_c.specs.Kept.{kept_round_keys, IsMade, IsNonceLength};
 ghost use Rattle.gcm.specs.Pieces.{IsBegun, no_message, phase_of};
 
@@ -30,7 +30,7 @@ pub(crate) fn status_of(error: InvalidPiece) -> u32
 pub extern "C" fn fotsgure_gcm_begin(gcm: &Gcm, message: &mut Message, nonce: &[u8]) -> u32
     requires made { IsMade gcm.now.key_length gcm.now.round_keys gcm.now.multiples }
     ensures nonce_length { result ≡ NONCE_LENGTH ↔ ¬ IsNonceLength (length nonce.now) }
-    ensures done { result ≡ DONE ↔ IsNonceLength (length nonce.now) × IsKeyLength gcm.now.key_length }
+    ensures done { result ≡ DONE ↔ IsNonceLength (length nonce.now) × IsKeySize gcm.now.key_length }
     ensures refused { result ≢ DONE → result ≢ NONCE_LENGTH → result ≡ NO_KEY }
     ensures begun { let w = kept_round_keys gcm.now.key_length gcm.now.round_keys in
         result ≡ DONE → IsBegun w nonce.now [] message.new }
@@ -58,9 +58,9 @@ pub extern "C" fn fotsgure_gcm_additional(
     additional: &[u8],
 ) -> u32
     requires made { IsMade gcm.now.key_length gcm.now.round_keys gcm.now.multiples }
-    ensures no_key { result ≡ NO_KEY ↔ ¬ IsKeyLength gcm.now.key_length }
-    ensures out_of_turn { result ≡ OUT_OF_TURN ↔ IsKeyLength gcm.now.key_length × (phase_of message.old.phase ≢ Phase.Additional) }
-    ensures done { result ≡ DONE ↔ IsKeyLength gcm.now.key_length × ((phase_of message.old.phase ≡ Phase.Additional)
+    ensures no_key { result ≡ NO_KEY ↔ ¬ IsKeySize gcm.now.key_length }
+    ensures out_of_turn { result ≡ OUT_OF_TURN ↔ IsKeySize gcm.now.key_length × (phase_of message.old.phase ≢ Phase.Additional) }
+    ensures done { result ≡ DONE ↔ IsKeySize gcm.now.key_length × ((phase_of message.old.phase ≡ Phase.Additional)
         × (message.old.additional + length additional.now < 2 ^ 61)) }
     ensures refused { result ≢ DONE → result ≢ NO_KEY → result ≢ OUT_OF_TURN → result ≡ TOO_LONG }
     ensures added { let w = kept_round_keys gcm.now.key_length gcm.now.round_keys in

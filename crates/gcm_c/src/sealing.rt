@@ -3,7 +3,7 @@
 ghost use Rattle.std.specs.Prelude.{◌≡◌, ◌≢◌, ◌↔◌, ◌⊎◌, ◌+◌, ◌-◌, ◌/◌, ◌^◌, ◌≤◌, ℕ, List, ◌++◌, length};
 ghost use Rattle.gcm.specs.Gcm as nist;
 ghost use Rattle.gcm.specs.declared.message.Phase.{Phase};
-ghost use Rattle.c_calls.specs.Kept.{IsKeyLength};
+ghost use Rattle.aes_cipher.specs.KeySizes.{IsKeySize};
 ghost use Rattle.gcm_c.specs.Kept.{kept_round_keys, IsMade};
 ghost use Rattle.gcm.specs.Pieces.{IsInText, IsEncrypting, no_message, phase_of};
 
@@ -17,10 +17,10 @@ use gcm::{LentGcm, Message};
 #[unsafe(no_mangle)]
 pub extern "C" fn fotsgure_gcm_encrypt(gcm: &Gcm, message: &mut Message, text: &mut [u8]) -> u32
     requires made { IsMade gcm.now.key_length gcm.now.round_keys gcm.now.multiples }
-    ensures no_key { result ≡ NO_KEY ↔ ¬ IsKeyLength gcm.now.key_length }
-    ensures out_of_turn { result ≡ OUT_OF_TURN ↔ IsKeyLength gcm.now.key_length
+    ensures no_key { result ≡ NO_KEY ↔ ¬ IsKeySize gcm.now.key_length }
+    ensures out_of_turn { result ≡ OUT_OF_TURN ↔ IsKeySize gcm.now.key_length
         × ((phase_of message.old.phase ≢ Phase.Additional) × (phase_of message.old.phase ≢ Phase.Encrypting)) }
-    ensures done { result ≡ DONE ↔ IsKeyLength gcm.now.key_length
+    ensures done { result ≡ DONE ↔ IsKeySize gcm.now.key_length
         × (((phase_of message.old.phase ≡ Phase.Additional) ⊎ (phase_of message.old.phase ≡ Phase.Encrypting))
         × (message.old.text + length text.old ≤ 2 ^ 36 - 32)) }
     ensures refused { result ≢ DONE → result ≢ NO_KEY → result ≢ OUT_OF_TURN → result ≡ TOO_LONG }
@@ -49,8 +49,8 @@ pub extern "C" fn fotsgure_gcm_encrypt(gcm: &Gcm, message: &mut Message, text: &
 #[unsafe(no_mangle)]
 pub extern "C" fn fotsgure_gcm_finish(gcm: &Gcm, message: &mut Message, tag: &mut [u8; 16]) -> u32
     requires made { IsMade gcm.now.key_length gcm.now.round_keys gcm.now.multiples }
-    ensures no_key { result ≡ NO_KEY ↔ ¬ IsKeyLength gcm.now.key_length }
-    ensures out_of_turn { result ≡ OUT_OF_TURN ↔ IsKeyLength gcm.now.key_length
+    ensures no_key { result ≡ NO_KEY ↔ ¬ IsKeySize gcm.now.key_length }
+    ensures out_of_turn { result ≡ OUT_OF_TURN ↔ IsKeySize gcm.now.key_length
         × ((phase_of message.old.phase ≢ Phase.Additional) × (phase_of message.old.phase ≢ Phase.Encrypting)) }
     ensures refused { result ≢ DONE → result ≢ NO_KEY → result ≡ OUT_OF_TURN }
     ensures tag { let w = kept_round_keys gcm.now.key_length gcm.now.round_keys in

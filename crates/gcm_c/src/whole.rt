@@ -2,7 +2,7 @@
 
 ghost use Rattle.std.specs.Prelude.{◌≡◌, ◌≢◌, ◌↔◌, ◌-◌, ◌/◌, ◌^◌, ◌<◌, ◌≤◌, length};
 ghost use Rattle.gcm.specs.Gcm as nist;
-ghost use Rattle.c_calls.specs.Kept.{IsKeyLength};
+ghost use Rattle.aes_cipher.specs.KeySizes.{IsKeySize};
 ghost use Rattle.gcm_c.specs.Kept.{kept_round_keys, IsMade, IsNonceLength, IsTooLong};
 
 use crate::kept::{Gcm, cipher_of, holds_key};
@@ -14,7 +14,7 @@ fn refusal(gcm: &Gcm, nonce: usize, additional: usize, text: usize) -> u32
     ensures nonce_length { result ≡ NONCE_LENGTH ↔ ¬ IsNonceLength nonce }
     ensures too_long { result ≡ TOO_LONG ↔ IsNonceLength nonce × IsTooLong additional text }
     ensures done { result ≡ DONE ↔ IsNonceLength nonce × ((additional < 2 ^ 61) × ((text ≤ 2 ^ 36 - 32)
-        × IsKeyLength gcm.now.key_length)) }
+        × IsKeySize gcm.now.key_length)) }
     ensures refused { result ≢ DONE → result ≢ NONCE_LENGTH → result ≢ TOO_LONG → result ≡ NO_KEY }
 {
     if nonce == 0 || nonce as u64 > LONGEST_HASHED {
@@ -44,7 +44,7 @@ pub extern "C" fn fotsgure_gcm_seal(
     ensures too_long { result ≡ TOO_LONG
         ↔ IsNonceLength (length nonce.now) × IsTooLong (length additional.now) (length text.old) }
     ensures done { result ≡ DONE ↔ IsNonceLength (length nonce.now) × ((length additional.now < 2 ^ 61)
-        × ((length text.old ≤ 2 ^ 36 - 32) × IsKeyLength gcm.now.key_length)) }
+        × ((length text.old ≤ 2 ^ 36 - 32) × IsKeySize gcm.now.key_length)) }
     ensures refused { result ≢ DONE → result ≢ NONCE_LENGTH → result ≢ TOO_LONG → result ≡ NO_KEY }
     ensures encrypted { let w = kept_round_keys gcm.now.key_length gcm.now.round_keys in
         result ≡ DONE → text.new ≡ nist.text w nonce.now text.old }
@@ -80,10 +80,10 @@ pub extern "C" fn fotsgure_gcm_open(
     ensures too_long { result ≡ TOO_LONG ↔ (length tag.now ≡ 16) × (IsNonceLength (length nonce.now)
         × IsTooLong (length additional.now) (length text.old)) }
     ensures no_key { result ≡ NO_KEY ↔ (length tag.now ≡ 16) × (IsNonceLength (length nonce.now)
-        × ((length additional.now < 2 ^ 61) × ((length text.old ≤ 2 ^ 36 - 32) × ¬ IsKeyLength gcm.now.key_length))) }
+        × ((length additional.now < 2 ^ 61) × ((length text.old ≤ 2 ^ 36 - 32) × ¬ IsKeySize gcm.now.key_length))) }
     ensures done { let w = kept_round_keys gcm.now.key_length gcm.now.round_keys in
         result ≡ DONE ↔ (length tag.now ≡ 16) × (IsNonceLength (length nonce.now)
-        × ((length additional.now < 2 ^ 61) × ((length text.old ≤ 2 ^ 36 - 32) × (IsKeyLength gcm.now.key_length
+        × ((length additional.now < 2 ^ 61) × ((length text.old ≤ 2 ^ 36 - 32) × (IsKeySize gcm.now.key_length
         × (tag.now ≡ nist.tag w nonce.now additional.now text.old))))) }
     ensures refused { result ≢ DONE → result ≢ TAG_LENGTH → result ≢ NONCE_LENGTH → result ≢ TOO_LONG
         → result ≢ NO_KEY → result ≡ REFUSED }
