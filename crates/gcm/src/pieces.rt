@@ -157,7 +157,7 @@ impl<'a, C: BlockCipherEncrypt> LentGcm<'a, C> {
         ensures untouched_text { OnErr result (text.new ≡ text.old) }
     {
         self.turn_to(message, Phase::Encrypting, text.len())?;
-        add_gctr(self.cipher, &message.first, 16 + message.text, text);
+        add_gctr(&self.cipher, &message.first, 16 + message.text, text);
         self.hash_text(message, text);
         Ok(())
     }
@@ -302,7 +302,7 @@ impl<'a, C: BlockCipherEncrypt> LentGcm<'a, C> {
         if message.decrypted.saturating_add(text.len() as u64) > message.text.min(LONGEST_TEXT) {
             return Err(InvalidPiece::TooLong);
         }
-        add_gctr(self.cipher, &message.first, 16 + message.decrypted, text);
+        add_gctr(&self.cipher, &message.first, 16 + message.decrypted, text);
         message.decrypted += text.len() as u64;
         Ok(())
     }
@@ -332,7 +332,7 @@ impl<'a, C: BlockCipherEncrypt> LentGcm<'a, C> {
         self.turn_to(message, Phase::Verifying, text.len())?;
         let position = 16 + message.text;
         self.hash_text(message, text);
-        add_gctr(self.cipher, &message.first, position, text);
+        add_gctr(&self.cipher, &message.first, position, text);
         Ok(())
     }
 
@@ -428,7 +428,7 @@ impl<'a, C: BlockCipherEncrypt> LentGcm<'a, C> {
         ensures { (phase : Phase) (iv a c : List ℕ) → phase ≢ Phase.Additional
             → IsAt phase self.now iv a c message.now → tag.new ≡ nist.tag self.now iv a c }
     {
-        put_mask(self.cipher, &message.first, tag);
+        put_mask(&self.cipher, &message.first, tag);
         let value = self.hash_rest(message);
         let additional = message.additional.min(LONGEST_HASHED);
         let text = message.text.min(LONGEST_TEXT);

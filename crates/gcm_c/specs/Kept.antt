@@ -5,17 +5,22 @@ use Rattle.aes_cipher.specs.KeySizes.{IsKeySize}
 use Rattle.aes_permute.specs.Keys.{key_in_room, stored_keys, IsCipherSchedule}
 use Rattle.gcm.specs.Gcm.{hash_subkey}
 use Rattle.gcm.specs.Multiples.{subkey_in, HasMultiples}
+use Rattle.gcm_c.specs.declared.kept.Gcm.{Gcm}
 
--- the round keys of the standard that blocks are read as
-abbrev pub kept_round_keys : ℕ → List (List ℕ) → List (List ℕ)
-kept_round_keys n blocks = fips.key_expansion (key_in_room n blocks)
+-- the key of a struct
+abbrev pub key_in : Gcm → List ℕ
+key_in gcm = key_in_room gcm.key_length gcm.round_keys
+
+-- its round keys
+abbrev pub round_keys_in : Gcm → List (List ℕ)
+round_keys_in gcm = fips.key_expansion (key_in gcm)
 
 -- a struct in order, as set_key and wipe leave it, and as zeros are: if its length is that of a key, its blocks begin
 -- with the stored round keys of one, and the multiples are those of its H
-pub record IsMade (key_length : ℕ) (round_keys multiples : List (List ℕ)) : Type 0 where
-  pub schedule : IsKeySize key_length → IsCipherSchedule (stored_keys key_length round_keys)
-  pub looked_up : IsKeySize key_length → HasMultiples multiples
-  pub subkey : IsKeySize key_length → subkey_in multiples ≡ hash_subkey (kept_round_keys key_length round_keys)
+pub record IsMade (gcm : Gcm) : Type 0 where
+  pub schedule : IsKeySize gcm.key_length → IsCipherSchedule (stored_keys gcm.key_length gcm.round_keys)
+  pub looked_up : IsKeySize gcm.key_length → HasMultiples gcm.multiples
+  pub subkey : IsKeySize gcm.key_length → subkey_in gcm.multiples ≡ hash_subkey (round_keys_in gcm)
 
 -- a number of bytes that a nonce can have (SP 800-38D, 5.2.1.1)
 abbrev pub IsNonceLength : ℕ → Type 0

@@ -5,12 +5,12 @@ ghost use Rattle.aes_cipher.specs.KeySizes.{IsKeySize};
 ghost use Rattle.gcm.specs.Gcm as nist;
 ghost use Rattle.gcm.specs.Gcm.{nonce_number};
 ghost use Rattle.gcm.specs.Pieces.{IsBegun};
-ghost use Rattle.gcm_c.specs.Kept.{kept_round_keys, IsMade, IsTooLong};
+ghost use Rattle.gcm_c.specs.Kept.{round_keys_in, IsMade, IsTooLong};
 
-use crate::kept::{Gcm, cipher_of, holds_key};
+use crate::kept::{Gcm, holds_key, mode_of};
 use crate::status::{DONE, NO_KEY, NONCES_END, TOO_LONG};
 use crate::whole::fotsgure_gcm_seal;
-use gcm::{Counter, LentGcm, Message};
+use gcm::{Counter, Message};
 
 /// Encrypts a text in place under the counter's next nonce, writes that nonce and the tag, and moves the counter on by
 /// one (SP 800-38D, 7.1 and 8.2.1). Returns `NONCES_END`, `TOO_LONG` or `NO_KEY`, the first of them that applies, and else
@@ -24,7 +24,7 @@ pub extern "C" fn fotsgure_gcm_seal_next(
     text: &mut [u8],
     tag: &mut [u8; 16],
 ) -> u32
-    requires made { IsMade gcm.now.key_length gcm.now.round_keys gcm.now.multiples }
+    requires made { IsMade gcm.now }
     ensures ended { result ≡ NONCES_END ↔ (nonce_number counter.old.next ≡ 2 ^ 96 - 1) }
     ensures too_long { result ≡ TOO_LONG ↔ (nonce_number counter.old.next ≢ 2 ^ 96 - 1)
         × IsTooLong (length additional.now) (length text.old) }
@@ -32,10 +32,8 @@ pub extern "C" fn fotsgure_gcm_seal_next(
         × ((length text.old ≤ 2 ^ 36 - 32) × IsKeySize gcm.now.key_length)) }
     ensures refused { result ≢ DONE → result ≢ NONCES_END → result ≢ TOO_LONG → result ≡ NO_KEY }
     ensures nonce { result ≡ DONE → nonce.new ≡ counter.old.next }
-    ensures encrypted { let w = kept_round_keys gcm.now.key_length gcm.now.round_keys in
-        result ≡ DONE → text.new ≡ nist.text w counter.old.next text.old }
-    ensures tag { let w = kept_round_keys gcm.now.key_length gcm.now.round_keys in
-        result ≡ DONE → tag.new ≡ nist.tag w counter.old.next additional.now text.new }
+    ensures encrypted { result ≡ DONE → text.new ≡ nist.text (round_keys_in gcm.now) counter.old.next text.old }
+    ensures tag { result ≡ DONE → tag.new ≡ nist.tag (round_keys_in gcm.now) counter.old.next additional.now text.new }
     ensures counted { result ≡ DONE → nonce_number counter.new.next ≡ nonce_number counter.old.next + 1 }
     ensures uncounted { result ≢ DONE → counter.new.next ≡ counter.old.next }
     ensures untouched { result ≢ DONE → text.new ≡ text.old }
@@ -62,13 +60,12 @@ pub extern "C" fn fotsgure_gcm_begin_next(
     counter: &mut Counter,
     nonce: &mut [u8; 12],
 ) -> u32
-    requires made { IsMade gcm.now.key_length gcm.now.round_keys gcm.now.multiples }
+    requires made { IsMade gcm.now }
     ensures ended { result ≡ NONCES_END ↔ (nonce_number counter.old.next ≡ 2 ^ 96 - 1) }
     ensures done { result ≡ DONE ↔ (nonce_number counter.old.next ≢ 2 ^ 96 - 1) × IsKeySize gcm.now.key_length }
     ensures refused { result ≢ DONE → result ≢ NONCES_END → result ≡ NO_KEY }
     ensures nonce { result ≡ DONE → nonce.new ≡ counter.old.next }
-    ensures begun { let w = kept_round_keys gcm.now.key_length gcm.now.round_keys in
-        result ≡ DONE → IsBegun w counter.old.next [] message.new }
+    ensures begun { result ≡ DONE → IsBegun (round_keys_in gcm.now) counter.old.next [] message.new }
     ensures clean { result ≡ DONE → (message.new.rest ≡ replicate 16 0) × (message.new.decrypted ≡ 0) }
     ensures counted { result ≡ DONE → nonce_number counter.new.next ≡ nonce_number counter.old.next + 1 }
     ensures uncounted { result ≢ DONE → counter.new.next ≡ counter.old.next }
@@ -81,8 +78,7 @@ pub extern "C" fn fotsgure_gcm_begin_next(
     if !holds_key(gcm) {
         return NO_KEY;
     }
-    let cipher = cipher_of(gcm);
-    let mode = LentGcm::new(&cipher, &gcm.multiples);
+    let mode = mode_of(gcm);
     *nonce = mode.begin_next(message, counter);
     DONE
 }

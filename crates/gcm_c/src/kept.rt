@@ -2,8 +2,8 @@
 
 ghost use Rattle.std.specs.Prelude.{◌≡◌, ◌≢◌, ◌↔◌, length, replicate, true};
 ghost use Rattle.aes_cipher.specs.KeySizes.{IsKeySize};
-ghost use Rattle.aes_permute.specs.Keys.{key_in_room, AreZeroAfter};
-ghost use Rattle.gcm_c.specs.Kept.{IsMade};
+ghost use Rattle.aes_permute.specs.Keys.{AreZeroAfter};
+ghost use Rattle.gcm_c.specs.Kept.{key_in, round_keys_in, IsMade};
 
 use crate::status::{DONE, KEY_LENGTH};
 use crate::width::BuildWidth;
@@ -11,7 +11,7 @@ use aes_cipher::zeroize::{Zeroize, zeroize_elements};
 use aes_hybrid::lent::Lent;
 use aes_permute::lane_room::{expand_in_room, is_key_size, keys_in_room};
 use aes_planes::soft::word::Block;
-use gcm::{Room, prepare};
+use gcm::{LentGcm, Room, prepare};
 
 /// A key that the caller owns: `struct fotsgure_gcm`. Its blocks are as secret as the key.
 #[repr(C)]
@@ -56,14 +56,14 @@ pub(crate) fn holds_key(gcm: &Gcm) -> bool
     is_key_size(gcm.key_length as usize)
 }
 
-/// Lends the key of a struct as a cipher.
-pub(crate) fn cipher_of(gcm: &Gcm) -> Lent<'_, BuildWidth>
-    requires made { IsMade gcm.now.key_length gcm.now.round_keys gcm.now.multiples }
+/// Lends the key of a struct and its multiples as GCM.
+pub(crate) fn mode_of(gcm: &Gcm) -> LentGcm<'_, Lent<'_, BuildWidth>>
+    requires made { IsMade gcm.now }
     requires key { IsKeySize gcm.now.key_length }
-    ensures { result ≡ key_in_room gcm.now.key_length gcm.now.round_keys }
+    ensures { result ≡ round_keys_in gcm.now }
 {
     let keys = keys_in_room(&gcm.round_keys, gcm.key_length as usize);
-    Lent::<BuildWidth>::new(keys)
+    LentGcm::new(Lent::new(keys), &gcm.multiples)
 }
 
 /// Expands a key into the struct (KeyExpansion, FIPS 197, 5.2) and prepares the multiples of its H (SP 800-38D, 7.1,
@@ -73,8 +73,8 @@ pub(crate) fn cipher_of(gcm: &Gcm) -> Lent<'_, BuildWidth>
 pub extern "C" fn fotsgure_gcm_set_key(gcm: &mut Gcm, key: &[u8]) -> u32
     ensures done { result ≡ DONE ↔ IsKeySize (length key.now) }
     ensures refused { result ≢ DONE → result ≡ KEY_LENGTH }
-    ensures made { IsMade gcm.new.key_length gcm.new.round_keys gcm.new.multiples }
-    ensures key { result ≡ DONE → key_in_room gcm.new.key_length gcm.new.round_keys ≡ key.now }
+    ensures made { IsMade gcm.new }
+    ensures key { result ≡ DONE → key_in gcm.new ≡ key.now }
     ensures length { result ≡ DONE → gcm.new.key_length ≡ length key.now }
     ensures after { result ≡ DONE → AreZeroAfter (length key.now) gcm.new.round_keys }
     ensures none { result ≢ DONE → gcm.new.key_length ≡ 0 }
@@ -112,7 +112,7 @@ pub extern "C" fn fotsgure_gcm_key_length(gcm: &Gcm) -> usize
 /// Overwrites the struct with zeros: it then holds no key.
 #[unsafe(no_mangle)]
 pub extern "C" fn fotsgure_gcm_wipe(gcm: &mut Gcm)
-    ensures made { IsMade gcm.new.key_length gcm.new.round_keys gcm.new.multiples }
+    ensures made { IsMade gcm.new }
     ensures none { gcm.new.key_length ≡ 0 }
     ensures round_keys { gcm.new.round_keys ≡ replicate 15 (replicate 16 0) }
     ensures multiples { gcm.new.multiples ≡ replicate 96 (replicate 16 0) }

@@ -5,13 +5,13 @@ ghost use Rattle.gcm.specs.Gcm as nist;
 ghost use Rattle.gcm.specs.Gcm.{IsShortTag};
 ghost use Rattle.gcm.specs.declared.message.Phase.{Phase};
 ghost use Rattle.aes_cipher.specs.KeySizes.{IsKeySize};
-ghost use Rattle.gcm_c.specs.Kept.{kept_round_keys, IsMade};
+ghost use Rattle.gcm_c.specs.Kept.{round_keys_in, IsMade};
 ghost use Rattle.gcm.specs.Pieces.{IsInText, IsVerifying, IsDecrypting, phase_of};
 
-use crate::kept::{Gcm, cipher_of, holds_key};
+use crate::kept::{Gcm, holds_key, mode_of};
 use crate::pieces::status_of;
 use crate::status::{DONE, NO_KEY, OUT_OF_TURN, REFUSED, TAG_LENGTH, TOO_LONG};
-use gcm::{LentGcm, Message, NotAccepted, is_short_tag};
+use gcm::{Message, NotAccepted, is_short_tag};
 
 // Returns the status of a tag that isn't accepted.
 fn status_of_refusal(error: NotAccepted) -> u32
@@ -28,7 +28,7 @@ fn status_of_refusal(error: NotAccepted) -> u32
 /// them that applies, and else `DONE`.
 #[unsafe(no_mangle)]
 pub extern "C" fn fotsgure_gcm_verify(gcm: &Gcm, message: &mut Message, text: &[u8]) -> u32
-    requires made { IsMade gcm.now.key_length gcm.now.round_keys gcm.now.multiples }
+    requires made { IsMade gcm.now }
     ensures no_key { result ≡ NO_KEY ↔ ¬ IsKeySize gcm.now.key_length }
     ensures out_of_turn { result ≡ OUT_OF_TURN ↔ IsKeySize gcm.now.key_length
         × ((phase_of message.old.phase ≢ Phase.Additional) × (phase_of message.old.phase ≢ Phase.Verifying)) }
@@ -36,7 +36,7 @@ pub extern "C" fn fotsgure_gcm_verify(gcm: &Gcm, message: &mut Message, text: &[
         × (((phase_of message.old.phase ≡ Phase.Additional) ⊎ (phase_of message.old.phase ≡ Phase.Verifying))
         × (message.old.text + length text.now ≤ 2 ^ 36 - 32)) }
     ensures refused { result ≢ DONE → result ≢ NO_KEY → result ≢ OUT_OF_TURN → result ≡ TOO_LONG }
-    ensures added { let w = kept_round_keys gcm.now.key_length gcm.now.round_keys in
+    ensures added { let w = round_keys_in gcm.now in
         result ≡ DONE → (iv a c : List ℕ) → IsVerifying w iv a c message.old
         → IsInText Phase.Verifying w iv a (c ++ text.now) message.new }
     ensures untouched { result ≢ DONE → message.new ≡ message.old }
@@ -44,8 +44,7 @@ pub extern "C" fn fotsgure_gcm_verify(gcm: &Gcm, message: &mut Message, text: &[
     if !holds_key(gcm) {
         return NO_KEY;
     }
-    let cipher = cipher_of(gcm);
-    let mode = LentGcm::new(&cipher, &gcm.multiples);
+    let mode = mode_of(gcm);
     match mode.verify_piece(message, text) {
         Ok(()) => DONE,
         Err(error) => status_of(error),
@@ -56,16 +55,16 @@ pub extern "C" fn fotsgure_gcm_verify(gcm: &Gcm, message: &mut Message, text: &[
 /// `TAG_LENGTH`, `NO_KEY`, `OUT_OF_TURN` or `REFUSED`, the first of them that applies, and else `DONE`.
 #[unsafe(no_mangle)]
 pub extern "C" fn fotsgure_gcm_accept(gcm: &Gcm, message: &mut Message, tag: &[u8]) -> u32
-    requires made { IsMade gcm.now.key_length gcm.now.round_keys gcm.now.multiples }
+    requires made { IsMade gcm.now }
     ensures tag_length { result ≡ TAG_LENGTH ↔ (length tag.now ≢ 16) }
     ensures no_key { result ≡ NO_KEY ↔ (length tag.now ≡ 16) × ¬ IsKeySize gcm.now.key_length }
     ensures out_of_turn { result ≡ OUT_OF_TURN ↔ (length tag.now ≡ 16) × (IsKeySize gcm.now.key_length
         × ((phase_of message.old.phase ≢ Phase.Additional) × (phase_of message.old.phase ≢ Phase.Verifying))) }
-    ensures accepted { let w = kept_round_keys gcm.now.key_length gcm.now.round_keys in
+    ensures accepted { let w = round_keys_in gcm.now in
         length tag.now ≡ 16 → IsKeySize gcm.now.key_length → (iv a c : List ℕ) → IsVerifying w iv a c message.old
         → result ≡ DONE ↔ (tag.now ≡ nist.tag w iv a c) }
     ensures refused { result ≢ DONE → result ≢ TAG_LENGTH → result ≢ NO_KEY → result ≢ OUT_OF_TURN → result ≡ REFUSED }
-    ensures decrypting { let w = kept_round_keys gcm.now.key_length gcm.now.round_keys in
+    ensures decrypting { let w = round_keys_in gcm.now in
         result ≡ DONE → (iv a c : List ℕ) → IsVerifying w iv a c message.old
         → IsDecrypting w iv (length c) [] message.new }
     ensures phase { result ≡ DONE → phase_of message.new.phase ≡ Phase.Decrypting }
@@ -78,8 +77,7 @@ pub extern "C" fn fotsgure_gcm_accept(gcm: &Gcm, message: &mut Message, tag: &[u
     if !holds_key(gcm) {
         return NO_KEY;
     }
-    let cipher = cipher_of(gcm);
-    let mode = LentGcm::new(&cipher, &gcm.multiples);
+    let mode = mode_of(gcm);
     let mut claimed = [0; 16];
     claimed.copy_from_slice(tag);
     match mode.accept(message, &claimed) {
@@ -98,19 +96,19 @@ pub extern "C" fn fotsgure_gcm_accept_short(
     fixed_length: usize,
     tag: &[u8],
 ) -> u32
-    requires made { IsMade gcm.now.key_length gcm.now.round_keys gcm.now.multiples }
+    requires made { IsMade gcm.now }
     ensures tag_length { result ≡ TAG_LENGTH ↔ ¬ (IsShortTag fixed_length × (length tag.now ≡ fixed_length)) }
     ensures no_key { result ≡ NO_KEY ↔ (IsShortTag fixed_length × (length tag.now ≡ fixed_length))
         × ¬ IsKeySize gcm.now.key_length }
     ensures out_of_turn { result ≡ OUT_OF_TURN ↔ (IsShortTag fixed_length × (length tag.now ≡ fixed_length))
         × (IsKeySize gcm.now.key_length
         × ((phase_of message.old.phase ≢ Phase.Additional) × (phase_of message.old.phase ≢ Phase.Verifying))) }
-    ensures accepted { let w = kept_round_keys gcm.now.key_length gcm.now.round_keys in
+    ensures accepted { let w = round_keys_in gcm.now in
         IsShortTag fixed_length → length tag.now ≡ fixed_length → IsKeySize gcm.now.key_length
         → (iv a c : List ℕ) → IsVerifying w iv a c message.old
         → result ≡ DONE ↔ (tag.now ≡ nist.short_tag (length tag.now) w iv a c) }
     ensures refused { result ≢ DONE → result ≢ TAG_LENGTH → result ≢ NO_KEY → result ≢ OUT_OF_TURN → result ≡ REFUSED }
-    ensures decrypting { let w = kept_round_keys gcm.now.key_length gcm.now.round_keys in
+    ensures decrypting { let w = round_keys_in gcm.now in
         result ≡ DONE → (iv a c : List ℕ) → IsVerifying w iv a c message.old
         → IsDecrypting w iv (length c) [] message.new }
     ensures phase { result ≡ DONE → phase_of message.new.phase ≡ Phase.Decrypting }
@@ -123,8 +121,7 @@ pub extern "C" fn fotsgure_gcm_accept_short(
     if !holds_key(gcm) {
         return NO_KEY;
     }
-    let cipher = cipher_of(gcm);
-    let mode = LentGcm::new(&cipher, &gcm.multiples);
+    let mode = mode_of(gcm);
     match mode.accept_short(message, fixed_length, tag) {
         Ok(()) => DONE,
         Err(error) => status_of_refusal(error),
@@ -135,17 +132,17 @@ pub extern "C" fn fotsgure_gcm_accept_short(
 /// or `TOO_LONG`, the first of them that applies, and else `DONE`.
 #[unsafe(no_mangle)]
 pub extern "C" fn fotsgure_gcm_decrypt(gcm: &Gcm, message: &mut Message, text: &mut [u8]) -> u32
-    requires made { IsMade gcm.now.key_length gcm.now.round_keys gcm.now.multiples }
+    requires made { IsMade gcm.now }
     ensures no_key { result ≡ NO_KEY ↔ ¬ IsKeySize gcm.now.key_length }
     ensures out_of_turn { result ≡ OUT_OF_TURN ↔ IsKeySize gcm.now.key_length × (phase_of message.old.phase ≢ Phase.Decrypting) }
     ensures done { result ≡ DONE ↔ IsKeySize gcm.now.key_length × ((phase_of message.old.phase ≡ Phase.Decrypting)
         × ((message.old.decrypted + length text.old ≤ message.old.text)
         × (message.old.decrypted + length text.old ≤ 2 ^ 36 - 32))) }
     ensures refused { result ≢ DONE → result ≢ NO_KEY → result ≢ OUT_OF_TURN → result ≡ TOO_LONG }
-    ensures decrypted { let w = kept_round_keys gcm.now.key_length gcm.now.round_keys in
+    ensures decrypted { let w = round_keys_in gcm.now in
         result ≡ DONE → (n : ℕ) (iv c : List ℕ) → IsDecrypting w iv n c message.old
         → nist.text w iv c ++ text.new ≡ nist.text w iv (c ++ text.old) }
-    ensures added { let w = kept_round_keys gcm.now.key_length gcm.now.round_keys in
+    ensures added { let w = round_keys_in gcm.now in
         result ≡ DONE → (n : ℕ) (iv c : List ℕ) → IsDecrypting w iv n c message.old
         → IsDecrypting w iv n (c ++ text.old) message.new }
     ensures phase { result ≡ DONE → phase_of message.new.phase ≡ Phase.Decrypting }
@@ -157,8 +154,7 @@ pub extern "C" fn fotsgure_gcm_decrypt(gcm: &Gcm, message: &mut Message, text: &
     if !holds_key(gcm) {
         return NO_KEY;
     }
-    let cipher = cipher_of(gcm);
-    let mode = LentGcm::new(&cipher, &gcm.multiples);
+    let mode = mode_of(gcm);
     match mode.decrypt_piece(message, text) {
         Ok(()) => DONE,
         Err(error) => status_of(error),
@@ -173,7 +169,7 @@ pub extern "C" fn fotsgure_gcm_decrypt_unverified(
     message: &mut Message,
     text: &mut [u8],
 ) -> u32
-    requires made { IsMade gcm.now.key_length gcm.now.round_keys gcm.now.multiples }
+    requires made { IsMade gcm.now }
     ensures no_key { result ≡ NO_KEY ↔ ¬ IsKeySize gcm.now.key_length }
     ensures out_of_turn { result ≡ OUT_OF_TURN ↔ IsKeySize gcm.now.key_length
         × ((phase_of message.old.phase ≢ Phase.Additional) × (phase_of message.old.phase ≢ Phase.Verifying)) }
@@ -181,10 +177,10 @@ pub extern "C" fn fotsgure_gcm_decrypt_unverified(
         × (((phase_of message.old.phase ≡ Phase.Additional) ⊎ (phase_of message.old.phase ≡ Phase.Verifying))
         × (message.old.text + length text.old ≤ 2 ^ 36 - 32)) }
     ensures refused { result ≢ DONE → result ≢ NO_KEY → result ≢ OUT_OF_TURN → result ≡ TOO_LONG }
-    ensures decrypted { let w = kept_round_keys gcm.now.key_length gcm.now.round_keys in
+    ensures decrypted { let w = round_keys_in gcm.now in
         result ≡ DONE → (iv a c : List ℕ) → IsVerifying w iv a c message.old
         → nist.text w iv c ++ text.new ≡ nist.text w iv (c ++ text.old) }
-    ensures added { let w = kept_round_keys gcm.now.key_length gcm.now.round_keys in
+    ensures added { let w = round_keys_in gcm.now in
         result ≡ DONE → (iv a c : List ℕ) → IsVerifying w iv a c message.old
         → IsInText Phase.Verifying w iv a (c ++ text.old) message.new }
     ensures untouched { result ≢ DONE → message.new ≡ message.old }
@@ -193,8 +189,7 @@ pub extern "C" fn fotsgure_gcm_decrypt_unverified(
     if !holds_key(gcm) {
         return NO_KEY;
     }
-    let cipher = cipher_of(gcm);
-    let mode = LentGcm::new(&cipher, &gcm.multiples);
+    let mode = mode_of(gcm);
     match mode.decrypt_unverified_piece(message, text) {
         Ok(()) => DONE,
         Err(error) => status_of(error),

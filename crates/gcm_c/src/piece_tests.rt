@@ -26,7 +26,7 @@ fn end_of(from: usize, size: usize, length: usize) -> usize
 
 // Begins a message with additional data, in pieces of `size` bytes.
 fn begins(gcm: &Gcm, message: &mut Message, nonce: &[u8], additional: &[u8], size: usize) -> bool
-    requires made { IsMade gcm.now.key_length gcm.now.round_keys gcm.now.multiples }
+    requires made { IsMade gcm.now }
     requires some { 0 < size }
 {
     let mut right = fotsgure_gcm_begin(gcm, message, nonce) == DONE;
@@ -49,7 +49,7 @@ enum Work {
 
 // Does it, in pieces of `size` bytes.
 fn goes_on(gcm: &Gcm, message: &mut Message, work: &Work, text: &mut [u8], size: usize) -> bool
-    requires made { IsMade gcm.now.key_length gcm.now.round_keys gcm.now.multiples }
+    requires made { IsMade gcm.now }
     requires some { 0 < size }
 {
     let length = text.len();

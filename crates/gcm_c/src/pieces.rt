@@ -4,13 +4,13 @@ ghost use Rattle.std.specs.Prelude.{◌≡◌, ◌≢◌, ◌↔◌, ◌+◌, �
 ghost use Rattle.gcm.specs.Gcm as nist;
 ghost use Rattle.gcm.specs.declared.message.Phase.{Phase};
 ghost use Rattle.aes_cipher.specs.KeySizes.{IsKeySize};
-ghost use Rattle.gcm_c.specs.Kept.{kept_round_keys, IsMade, IsNonceLength};
+ghost use Rattle.gcm_c.specs.Kept.{round_keys_in, IsMade, IsNonceLength};
 ghost use Rattle.gcm.specs.Pieces.{IsBegun, no_message, phase_of};
 
-use crate::kept::{Gcm, cipher_of, holds_key};
+use crate::kept::{Gcm, holds_key, mode_of};
 use crate::status::{DONE, NO_KEY, NONCE_LENGTH, OUT_OF_TURN, TOO_LONG};
 use aes_cipher::zeroize::Zeroize;
-use gcm::{InvalidPiece, LONGEST_HASHED, LentGcm, Message};
+use gcm::{InvalidPiece, LONGEST_HASHED, Message};
 
 /// Returns the status of a piece that isn't taken.
 pub(crate) fn status_of(error: InvalidPiece) -> u32
@@ -28,12 +28,11 @@ pub(crate) fn status_of(error: InvalidPiece) -> u32
 /// left. Returns `NONCE_LENGTH` or `NO_KEY`, the first of them that applies, and else `DONE`.
 #[unsafe(no_mangle)]
 pub extern "C" fn fotsgure_gcm_begin(gcm: &Gcm, message: &mut Message, nonce: &[u8]) -> u32
-    requires made { IsMade gcm.now.key_length gcm.now.round_keys gcm.now.multiples }
+    requires made { IsMade gcm.now }
     ensures nonce_length { result ≡ NONCE_LENGTH ↔ ¬ IsNonceLength (length nonce.now) }
     ensures done { result ≡ DONE ↔ IsNonceLength (length nonce.now) × IsKeySize gcm.now.key_length }
     ensures refused { result ≢ DONE → result ≢ NONCE_LENGTH → result ≡ NO_KEY }
-    ensures begun { let w = kept_round_keys gcm.now.key_length gcm.now.round_keys in
-        result ≡ DONE → IsBegun w nonce.now [] message.new }
+    ensures begun { result ≡ DONE → IsBegun (round_keys_in gcm.now) nonce.now [] message.new }
     ensures clean { result ≡ DONE → (message.new.rest ≡ replicate 16 0) × (message.new.decrypted ≡ 0) }
     ensures untouched { result ≢ DONE → message.new ≡ message.old }
 {
@@ -43,8 +42,7 @@ pub extern "C" fn fotsgure_gcm_begin(gcm: &Gcm, message: &mut Message, nonce: &[
     if !holds_key(gcm) {
         return NO_KEY;
     }
-    let cipher = cipher_of(gcm);
-    let mode = LentGcm::new(&cipher, &gcm.multiples);
+    let mode = mode_of(gcm);
     mode.start(message, nonce);
     DONE
 }
@@ -57,13 +55,13 @@ pub extern "C" fn fotsgure_gcm_additional(
     message: &mut Message,
     additional: &[u8],
 ) -> u32
-    requires made { IsMade gcm.now.key_length gcm.now.round_keys gcm.now.multiples }
+    requires made { IsMade gcm.now }
     ensures no_key { result ≡ NO_KEY ↔ ¬ IsKeySize gcm.now.key_length }
     ensures out_of_turn { result ≡ OUT_OF_TURN ↔ IsKeySize gcm.now.key_length × (phase_of message.old.phase ≢ Phase.Additional) }
     ensures done { result ≡ DONE ↔ IsKeySize gcm.now.key_length × ((phase_of message.old.phase ≡ Phase.Additional)
         × (message.old.additional + length additional.now < 2 ^ 61)) }
     ensures refused { result ≢ DONE → result ≢ NO_KEY → result ≢ OUT_OF_TURN → result ≡ TOO_LONG }
-    ensures added { let w = kept_round_keys gcm.now.key_length gcm.now.round_keys in
+    ensures added { let w = round_keys_in gcm.now in
         result ≡ DONE → (iv a : List ℕ) → IsBegun w iv a message.old
         → IsBegun w iv (a ++ additional.now) message.new }
     ensures untouched { result ≢ DONE → message.new ≡ message.old }
@@ -71,8 +69,7 @@ pub extern "C" fn fotsgure_gcm_additional(
     if !holds_key(gcm) {
         return NO_KEY;
     }
-    let cipher = cipher_of(gcm);
-    let mode = LentGcm::new(&cipher, &gcm.multiples);
+    let mode = mode_of(gcm);
     match mode.additional_piece(message, additional) {
         Ok(()) => DONE,
         Err(error) => status_of(error),

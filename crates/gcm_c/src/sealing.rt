@@ -4,19 +4,19 @@ ghost use Rattle.std.specs.Prelude.{◌≡◌, ◌≢◌, ◌↔◌, ◌⊎◌, 
 ghost use Rattle.gcm.specs.Gcm as nist;
 ghost use Rattle.gcm.specs.declared.message.Phase.{Phase};
 ghost use Rattle.aes_cipher.specs.KeySizes.{IsKeySize};
-ghost use Rattle.gcm_c.specs.Kept.{kept_round_keys, IsMade};
+ghost use Rattle.gcm_c.specs.Kept.{round_keys_in, IsMade};
 ghost use Rattle.gcm.specs.Pieces.{IsInText, IsEncrypting, no_message, phase_of};
 
-use crate::kept::{Gcm, cipher_of, holds_key};
+use crate::kept::{Gcm, holds_key, mode_of};
 use crate::pieces::status_of;
 use crate::status::{DONE, NO_KEY, OUT_OF_TURN, TOO_LONG};
-use gcm::{LentGcm, Message};
+use gcm::Message;
 
 /// Encrypts a piece of the text in place. Returns `NO_KEY`, `OUT_OF_TURN` or `TOO_LONG`, the first of them that applies,
 /// and else `DONE`.
 #[unsafe(no_mangle)]
 pub extern "C" fn fotsgure_gcm_encrypt(gcm: &Gcm, message: &mut Message, text: &mut [u8]) -> u32
-    requires made { IsMade gcm.now.key_length gcm.now.round_keys gcm.now.multiples }
+    requires made { IsMade gcm.now }
     ensures no_key { result ≡ NO_KEY ↔ ¬ IsKeySize gcm.now.key_length }
     ensures out_of_turn { result ≡ OUT_OF_TURN ↔ IsKeySize gcm.now.key_length
         × ((phase_of message.old.phase ≢ Phase.Additional) × (phase_of message.old.phase ≢ Phase.Encrypting)) }
@@ -24,10 +24,10 @@ pub extern "C" fn fotsgure_gcm_encrypt(gcm: &Gcm, message: &mut Message, text: &
         × (((phase_of message.old.phase ≡ Phase.Additional) ⊎ (phase_of message.old.phase ≡ Phase.Encrypting))
         × (message.old.text + length text.old ≤ 2 ^ 36 - 32)) }
     ensures refused { result ≢ DONE → result ≢ NO_KEY → result ≢ OUT_OF_TURN → result ≡ TOO_LONG }
-    ensures encrypted { let w = kept_round_keys gcm.now.key_length gcm.now.round_keys in
+    ensures encrypted { let w = round_keys_in gcm.now in
         result ≡ DONE → (iv a p c : List ℕ) → IsEncrypting w iv a c message.old → c ≡ nist.text w iv p
         → c ++ text.new ≡ nist.text w iv (p ++ text.old) }
-    ensures added { let w = kept_round_keys gcm.now.key_length gcm.now.round_keys in
+    ensures added { let w = round_keys_in gcm.now in
         result ≡ DONE → (iv a c : List ℕ) → IsEncrypting w iv a c message.old
         → IsInText Phase.Encrypting w iv a (c ++ text.new) message.new }
     ensures untouched { result ≢ DONE → message.new ≡ message.old }
@@ -36,8 +36,7 @@ pub extern "C" fn fotsgure_gcm_encrypt(gcm: &Gcm, message: &mut Message, text: &
     if !holds_key(gcm) {
         return NO_KEY;
     }
-    let cipher = cipher_of(gcm);
-    let mode = LentGcm::new(&cipher, &gcm.multiples);
+    let mode = mode_of(gcm);
     match mode.encrypt_piece(message, text) {
         Ok(()) => DONE,
         Err(error) => status_of(error),
@@ -48,12 +47,12 @@ pub extern "C" fn fotsgure_gcm_encrypt(gcm: &Gcm, message: &mut Message, text: &
 /// first of them that applies, and else `DONE`.
 #[unsafe(no_mangle)]
 pub extern "C" fn fotsgure_gcm_finish(gcm: &Gcm, message: &mut Message, tag: &mut [u8; 16]) -> u32
-    requires made { IsMade gcm.now.key_length gcm.now.round_keys gcm.now.multiples }
+    requires made { IsMade gcm.now }
     ensures no_key { result ≡ NO_KEY ↔ ¬ IsKeySize gcm.now.key_length }
     ensures out_of_turn { result ≡ OUT_OF_TURN ↔ IsKeySize gcm.now.key_length
         × ((phase_of message.old.phase ≢ Phase.Additional) × (phase_of message.old.phase ≢ Phase.Encrypting)) }
     ensures refused { result ≢ DONE → result ≢ NO_KEY → result ≡ OUT_OF_TURN }
-    ensures tag { let w = kept_round_keys gcm.now.key_length gcm.now.round_keys in
+    ensures tag { let w = round_keys_in gcm.now in
         result ≡ DONE → (iv a c : List ℕ) → IsEncrypting w iv a c message.old → tag.new ≡ nist.tag w iv a c }
     ensures over { result ≡ DONE → message.new ≡ no_message }
     ensures untouched { result ≢ DONE → message.new ≡ message.old }
@@ -62,8 +61,7 @@ pub extern "C" fn fotsgure_gcm_finish(gcm: &Gcm, message: &mut Message, tag: &mu
     if !holds_key(gcm) {
         return NO_KEY;
     }
-    let cipher = cipher_of(gcm);
-    let mode = LentGcm::new(&cipher, &gcm.multiples);
+    let mode = mode_of(gcm);
     match mode.finish(message) {
         Ok(made) => {
             *tag = made;

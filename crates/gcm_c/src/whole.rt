@@ -3,11 +3,11 @@
 ghost use Rattle.std.specs.Prelude.{◌≡◌, ◌≢◌, ◌↔◌, ◌-◌, ◌/◌, ◌^◌, ◌<◌, ◌≤◌, length};
 ghost use Rattle.gcm.specs.Gcm as nist;
 ghost use Rattle.aes_cipher.specs.KeySizes.{IsKeySize};
-ghost use Rattle.gcm_c.specs.Kept.{kept_round_keys, IsMade, IsNonceLength, IsTooLong};
+ghost use Rattle.gcm_c.specs.Kept.{round_keys_in, IsMade, IsNonceLength, IsTooLong};
 
-use crate::kept::{Gcm, cipher_of, holds_key};
+use crate::kept::{Gcm, holds_key, mode_of};
 use crate::status::{DONE, NO_KEY, NONCE_LENGTH, REFUSED, TAG_LENGTH, TOO_LONG};
-use gcm::{LONGEST_HASHED, LONGEST_TEXT, LentGcm};
+use gcm::{LONGEST_HASHED, LONGEST_TEXT};
 
 // Returns the status that refuses these lengths or this struct, or `DONE`.
 fn refusal(gcm: &Gcm, nonce: usize, additional: usize, text: usize) -> u32
@@ -39,17 +39,15 @@ pub extern "C" fn fotsgure_gcm_seal(
     text: &mut [u8],
     tag: &mut [u8; 16],
 ) -> u32
-    requires made { IsMade gcm.now.key_length gcm.now.round_keys gcm.now.multiples }
+    requires made { IsMade gcm.now }
     ensures nonce_length { result ≡ NONCE_LENGTH ↔ ¬ IsNonceLength (length nonce.now) }
     ensures too_long { result ≡ TOO_LONG
         ↔ IsNonceLength (length nonce.now) × IsTooLong (length additional.now) (length text.old) }
     ensures done { result ≡ DONE ↔ IsNonceLength (length nonce.now) × ((length additional.now < 2 ^ 61)
         × ((length text.old ≤ 2 ^ 36 - 32) × IsKeySize gcm.now.key_length)) }
     ensures refused { result ≢ DONE → result ≢ NONCE_LENGTH → result ≢ TOO_LONG → result ≡ NO_KEY }
-    ensures encrypted { let w = kept_round_keys gcm.now.key_length gcm.now.round_keys in
-        result ≡ DONE → text.new ≡ nist.text w nonce.now text.old }
-    ensures tag { let w = kept_round_keys gcm.now.key_length gcm.now.round_keys in
-        result ≡ DONE → tag.new ≡ nist.tag w nonce.now additional.now text.new }
+    ensures encrypted { result ≡ DONE → text.new ≡ nist.text (round_keys_in gcm.now) nonce.now text.old }
+    ensures tag { result ≡ DONE → tag.new ≡ nist.tag (round_keys_in gcm.now) nonce.now additional.now text.new }
     ensures untouched { result ≢ DONE → text.new ≡ text.old }
     ensures untouched_tag { result ≢ DONE → tag.new ≡ tag.old }
 {
@@ -57,8 +55,7 @@ pub extern "C" fn fotsgure_gcm_seal(
     if status != DONE {
         return status;
     }
-    let cipher = cipher_of(gcm);
-    let mode = LentGcm::new(&cipher, &gcm.multiples);
+    let mode = mode_of(gcm);
     *tag = mode.seal(nonce, additional, text);
     DONE
 }
@@ -74,21 +71,19 @@ pub extern "C" fn fotsgure_gcm_open(
     text: &mut [u8],
     tag: &[u8],
 ) -> u32
-    requires made { IsMade gcm.now.key_length gcm.now.round_keys gcm.now.multiples }
+    requires made { IsMade gcm.now }
     ensures tag_length { result ≡ TAG_LENGTH ↔ (length tag.now ≢ 16) }
     ensures nonce_length { result ≡ NONCE_LENGTH ↔ (length tag.now ≡ 16) × ¬ IsNonceLength (length nonce.now) }
     ensures too_long { result ≡ TOO_LONG ↔ (length tag.now ≡ 16) × (IsNonceLength (length nonce.now)
         × IsTooLong (length additional.now) (length text.old)) }
     ensures no_key { result ≡ NO_KEY ↔ (length tag.now ≡ 16) × (IsNonceLength (length nonce.now)
         × ((length additional.now < 2 ^ 61) × ((length text.old ≤ 2 ^ 36 - 32) × ¬ IsKeySize gcm.now.key_length))) }
-    ensures done { let w = kept_round_keys gcm.now.key_length gcm.now.round_keys in
-        result ≡ DONE ↔ (length tag.now ≡ 16) × (IsNonceLength (length nonce.now)
+    ensures done { result ≡ DONE ↔ (length tag.now ≡ 16) × (IsNonceLength (length nonce.now)
         × ((length additional.now < 2 ^ 61) × ((length text.old ≤ 2 ^ 36 - 32) × (IsKeySize gcm.now.key_length
-        × (tag.now ≡ nist.tag w nonce.now additional.now text.old))))) }
+        × (tag.now ≡ nist.tag (round_keys_in gcm.now) nonce.now additional.now text.old))))) }
     ensures refused { result ≢ DONE → result ≢ TAG_LENGTH → result ≢ NONCE_LENGTH → result ≢ TOO_LONG
         → result ≢ NO_KEY → result ≡ REFUSED }
-    ensures decrypted { let w = kept_round_keys gcm.now.key_length gcm.now.round_keys in
-        result ≡ DONE → text.new ≡ nist.text w nonce.now text.old }
+    ensures decrypted { result ≡ DONE → text.new ≡ nist.text (round_keys_in gcm.now) nonce.now text.old }
     ensures untouched { result ≢ DONE → text.new ≡ text.old }
 {
     if tag.len() != 16 {
@@ -100,8 +95,7 @@ pub extern "C" fn fotsgure_gcm_open(
     }
     let mut claimed = [0; 16];
     claimed.copy_from_slice(tag);
-    let cipher = cipher_of(gcm);
-    let mode = LentGcm::new(&cipher, &gcm.multiples);
+    let mode = mode_of(gcm);
     match mode.decrypt(nonce, additional, text, &claimed) {
         Ok(()) => DONE,
         Err(_) => REFUSED,

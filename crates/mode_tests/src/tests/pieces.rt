@@ -28,7 +28,7 @@ fn end_of(from: usize, size: usize, length: usize) -> usize
 
 // Begins a message with additional data, in pieces of `size` bytes.
 fn begins(
-    mode: &LentGcm<'_, Aes128Enc>,
+    mode: &LentGcm<'_, &Aes128Enc>,
     message: &mut Message,
     nonce: &[u8],
     additional: &[u8],
@@ -56,7 +56,7 @@ enum Work {
 
 // Does it, in pieces of `size` bytes.
 fn goes_on(
-    mode: &LentGcm<'_, Aes128Enc>,
+    mode: &LentGcm<'_, &Aes128Enc>,
     message: &mut Message,
     work: &Work,
     text: &mut [u8],
@@ -83,7 +83,7 @@ fn goes_on(
 
 // Whether a message in pieces of `size` bytes is encrypted as a whole one, and decrypted in two passes and in one.
 pub(crate) fn agrees<const N: usize>(
-    mode: &LentGcm<'_, Aes128Enc>,
+    mode: &LentGcm<'_, &Aes128Enc>,
     nonce: &[u8],
     additional: &[u8],
     plain: &[u8; N],

@@ -66,7 +66,7 @@ fn plain() -> [u8; 70] {
 }
 
 // Whether a text is encrypted as it should be, and comes back.
-fn is_right(mode: &LentGcm<'_, Aes128Enc>, case: &Wrapping) -> bool {
+fn is_right(mode: &LentGcm<'_, &Aes128Enc>, case: &Wrapping) -> bool {
     let mut text = plain();
     let tag = case.tag.to_be_bytes();
     mode.encrypt(&case.nonce, &ADDITIONAL, &mut text) == Ok(tag)

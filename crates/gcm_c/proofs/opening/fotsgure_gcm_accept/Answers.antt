@@ -1,6 +1,5 @@
 -- What is left to show of `opening::fotsgure_gcm_accept`.
-use Rattle.std.proofs.Common.{[], length, ◌∙◌, ap}
-use Rattle.aes_planes.specs.Fips197 as fips
+use Rattle.std.proofs.Common.{[], length}
 use Rattle.gcm.specs.Pieces.{IsVerifying, IsDecrypting}
 use Rattle.gcm_c.proofs.Carried.{carried}
 use Rattle.gcm_c.proofs.opening.fotsgure_gcm_accept.Goals as goal
@@ -8,4 +7,4 @@ use Rattle.gcm_c.proofs.opening.fotsgure_gcm_accept.Goals as goal
 pub returns-in-Ok-clause-decrypting : goal.returns-in-Ok-clause-decrypting
 returns-in-Ok-clause-decrypting c = λ done iv a t.
     carried (λ w m. IsVerifying w iv a t m) (λ w m. IsDecrypting w iv (length t) [] m) _ _ _ _
-    (c.new-mode.ensures ∙ ap fips.key_expansion c.cipher_of-cipher.ensures) (c.in-Ok.ensures.decrypting iv a t)
+    c.mode_of-mode.ensures (c.in-Ok.ensures.decrypting iv a t)

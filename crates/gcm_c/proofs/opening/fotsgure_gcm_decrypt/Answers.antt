@@ -1,6 +1,5 @@
 -- What is left to show of `opening::fotsgure_gcm_decrypt`.
-use Rattle.std.proofs.Common.{◌∙◌, ◌++◌, ap}
-use Rattle.aes_planes.specs.Fips197 as fips
+use Rattle.std.proofs.Common.{◌++◌}
 use Rattle.gcm.specs.Pieces.{IsDecrypting}
 use Rattle.gcm_c.proofs.Carried.{carried}
 use Rattle.gcm_c.proofs.opening.fotsgure_gcm_decrypt.Goals as goal
@@ -8,4 +7,4 @@ use Rattle.gcm_c.proofs.opening.fotsgure_gcm_decrypt.Goals as goal
 pub returns-in-Ok-clause-added : goal.returns-in-Ok-clause-added
 returns-in-Ok-clause-added c = λ done n iv t.
     carried (λ w m. IsDecrypting w iv n t m) (λ w m. IsDecrypting w iv n (t ++ c.args.text.now) m) _ _ _ _
-    (c.new-mode.ensures ∙ ap fips.key_expansion c.cipher_of-cipher.ensures) (c.in-Ok.ensures.added n iv t)
+    c.mode_of-mode.ensures (c.in-Ok.ensures.added n iv t)

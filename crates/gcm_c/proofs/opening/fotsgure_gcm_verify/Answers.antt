@@ -1,6 +1,5 @@
 -- What is left to show of `opening::fotsgure_gcm_verify`.
-use Rattle.std.proofs.Common.{◌∙◌, ◌++◌, ap}
-use Rattle.aes_planes.specs.Fips197 as fips
+use Rattle.std.proofs.Common.{◌++◌}
 use Rattle.gcm.specs.Pieces.{IsVerifying, IsInText}
 use Rattle.gcm.specs.declared.message.Phase.TheVariants.{Verifying}
 use Rattle.gcm_c.proofs.Carried.{carried}
@@ -9,4 +8,4 @@ use Rattle.gcm_c.proofs.opening.fotsgure_gcm_verify.Goals as goal
 pub returns-in-Ok-clause-added : goal.returns-in-Ok-clause-added
 returns-in-Ok-clause-added c = λ done iv a t.
     carried (λ w m. IsVerifying w iv a t m) (λ w m. IsInText Verifying w iv a (t ++ c.args.text.now) m) _ _ _ _
-    (c.new-mode.ensures ∙ ap fips.key_expansion c.cipher_of-cipher.ensures) (c.in-Ok.ensures.added iv a t)
+    c.mode_of-mode.ensures (c.in-Ok.ensures.added iv a t)

@@ -1,6 +1,5 @@
 -- What is left to show of `pieces::fotsgure_gcm_additional`.
-use Rattle.std.proofs.Common.{◌∙◌, ◌++◌, ap}
-use Rattle.aes_planes.specs.Fips197 as fips
+use Rattle.std.proofs.Common.{◌++◌}
 use Rattle.gcm.specs.Pieces.{IsBegun}
 use Rattle.gcm_c.proofs.Carried.{carried}
 use Rattle.gcm_c.proofs.pieces.fotsgure_gcm_additional.Goals as goal
@@ -8,4 +7,4 @@ use Rattle.gcm_c.proofs.pieces.fotsgure_gcm_additional.Goals as goal
 pub returns-in-Ok-clause-added : goal.returns-in-Ok-clause-added
 returns-in-Ok-clause-added c = λ done iv a.
     carried (λ w m. IsBegun w iv a m) (λ w m. IsBegun w iv (a ++ c.args.additional.now) m) _ _ _ _
-    (c.new-mode.ensures ∙ ap fips.key_expansion c.cipher_of-cipher.ensures) (c.in-Ok.ensures.added iv a)
+    c.mode_of-mode.ensures (c.in-Ok.ensures.added iv a)

@@ -25,6 +25,6 @@ returns g c phase iv a t other at =
     let sum = c.hash_lengths-value.ensures
     ∙ ap (λ k. product (bit_xor v (from_be_bytes w128 (to_be_bytes w64 (8 * m) ++ to_be_bytes w64 (8 * n)))) k) subkey
     ∙ summed h v m n a t value additional text in
-    let w = g.C.RoundKeysUser.round_keys c.self.inside.cipher.now in
+    let w = g.C.RoundKeysUser.round_keys c.self.inside.cipher in
     c.add_masked.ensures w (from_be_bytes w128 c.args.message.now.first) c.put_mask.ensures
     ∙ (λ i. gctr (c.self.view_is i) (known.first i) (to_be_bytes w128 (sum i)))
