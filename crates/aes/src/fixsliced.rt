@@ -101,13 +101,13 @@ impl<K: KeySize, D: PlaneCipher> Processes<D> for Fixsliced<K> {
 }
 
 impl<K: KeySize> Encrypts for Fixsliced<K> {
-    fn encrypt_with_backend<F: BlockCipherEncClosure>(&self, f: &mut F) {
+    fn encrypt_with_backend_for<F: BlockCipherEncClosure>(&self, _blocks: usize, f: &mut F) {
         encrypt_with_backend(words_in_room::<K>(&self.room), f);
     }
 }
 
 impl<K: KeySize> Decrypts for Fixsliced<K> {
-    fn decrypt_with_backend<F: BlockCipherDecClosure>(&self, f: &mut F) {
+    fn decrypt_with_backend_for<F: BlockCipherDecClosure>(&self, _blocks: usize, f: &mut F) {
         decrypt_with_backend(words_in_room::<K>(&self.room), f);
     }
 }

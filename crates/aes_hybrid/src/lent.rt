@@ -63,12 +63,6 @@ impl<W> RoundKeysUser for Lent<'_, W> {
 
 impl<W: Width> BlockCipherEncrypt for Lent<'_, W> {
     #[inline(always)]
-    fn encrypt_with_backend<F: BlockCipherEncClosure>(&self, f: &mut F) {
-        // How many blocks there will be is not known, so they count as many.
-        self.encrypt_with_backend_for(usize::MAX, f);
-    }
-
-    #[inline(always)]
     fn encrypt_with_backend_for<F: BlockCipherEncClosure>(&self, blocks: usize, f: &mut F) {
         lend_to_encrypt::<W, F>(self.keys, blocks, f);
     }

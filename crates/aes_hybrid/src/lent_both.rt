@@ -70,12 +70,6 @@ impl<W> RoundKeysUser for LentBoth<'_, W> {
 
 impl<W: Width> BlockCipherDecrypt for LentBoth<'_, W> {
     #[inline(always)]
-    fn decrypt_with_backend<F: BlockCipherDecClosure>(&self, f: &mut F) {
-        // How many blocks there will be is not known, so they count as many.
-        self.decrypt_with_backend_for(usize::MAX, f);
-    }
-
-    #[inline(always)]
     fn decrypt_with_backend_for<F: BlockCipherDecClosure>(&self, blocks: usize, f: &mut F) {
         lend_to_decrypt::<W, F>(self.keys, self.inverse, blocks, f);
     }

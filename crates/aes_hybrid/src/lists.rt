@@ -93,10 +93,6 @@ impl<K: KeySize, W: Width> Processes<Encrypt> for Encrypting<K, W> {
 }
 
 impl<K: KeySize, W: Width> Encrypts for Encrypting<K, W> {
-    fn encrypt_with_backend<F: BlockCipherEncClosure>(&self, f: &mut F) {
-        Lent::<W>::new(keys_in_room(self.room.value(), K::SIZE)).encrypt_with_backend(f);
-    }
-
     fn encrypt_with_backend_for<F: BlockCipherEncClosure>(&self, blocks: usize, f: &mut F) {
         let keys = keys_in_room(self.room.value(), K::SIZE);
         Lent::<W>::new(keys).encrypt_with_backend_for(blocks, f);
@@ -199,10 +195,6 @@ impl<K: KeySize, W: Width> Processes<Encrypt> for BothLists<K, W> {
 }
 
 impl<K: KeySize, W: Width> Encrypts for BothLists<K, W> {
-    fn encrypt_with_backend<F: BlockCipherEncClosure>(&self, f: &mut F) {
-        self.encrypting.encrypt_with_backend(f);
-    }
-
     fn encrypt_with_backend_for<F: BlockCipherEncClosure>(&self, blocks: usize, f: &mut F) {
         self.encrypting.encrypt_with_backend_for(blocks, f);
     }
@@ -224,11 +216,6 @@ impl<K: KeySize, W: Width> Processes<Decrypt> for BothLists<K, W> {
 }
 
 impl<K: KeySize, W: Width> Decrypts for BothLists<K, W> {
-    fn decrypt_with_backend<F: BlockCipherDecClosure>(&self, f: &mut F) {
-        // How many blocks there will be is not known, so they count as many.
-        self.decrypt_with_backend_for(usize::MAX, f);
-    }
-
     fn decrypt_with_backend_for<F: BlockCipherDecClosure>(&self, blocks: usize, f: &mut F) {
         let keys = keys_in_room(self.encrypting.room.value(), K::SIZE);
         let used = keys_in_room(self.inverse.value(), K::SIZE);

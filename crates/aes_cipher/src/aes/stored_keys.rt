@@ -69,40 +69,20 @@ pub trait Processes<D: Direction>: StoredKeys {
 
 /// Stored round keys under which blocks are encrypted.
 pub trait Encrypts: Processes<Encrypt> {
-    /// Calls the closure once, with a backend of the round keys.
-    fn encrypt_with_backend<F: BlockCipherEncClosure>(&self, f: &mut F)
-        requires keyed { Self.AreKeyed self.now }
-        ensures { F.did f.old (fips.key_expansion (Self.key self.now)) f.new };
-
-    /// Calls the closure once, with a backend that suits this number of blocks. The number affects speed and nothing
-    /// else.
-    #[inline(always)]
+    /// Calls the closure once, with a backend of the round keys that suits this number of blocks. The number affects
+    /// speed and nothing else.
     fn encrypt_with_backend_for<F: BlockCipherEncClosure>(&self, blocks: usize, f: &mut F)
         requires keyed { Self.AreKeyed self.now }
-        ensures { F.did f.old (fips.key_expansion (Self.key self.now)) f.new }
-    {
-        let _ = blocks;
-        self.encrypt_with_backend(f);
-    }
+        ensures { F.did f.old (fips.key_expansion (Self.key self.now)) f.new };
 }
 
 /// Stored round keys under which blocks are decrypted.
 pub trait Decrypts: Processes<Decrypt> {
-    /// Calls the closure once, with a backend of the round keys.
-    fn decrypt_with_backend<F: BlockCipherDecClosure>(&self, f: &mut F)
-        requires keyed { Self.AreKeyed self.now }
-        ensures { F.did f.old (fips.key_expansion (Self.key self.now)) f.new };
-
-    /// Calls the closure once, with a backend that suits this number of blocks. The number affects speed and nothing
-    /// else.
-    #[inline(always)]
+    /// Calls the closure once, with a backend of the round keys that suits this number of blocks. The number affects
+    /// speed and nothing else.
     fn decrypt_with_backend_for<F: BlockCipherDecClosure>(&self, blocks: usize, f: &mut F)
         requires keyed { Self.AreKeyed self.now }
-        ensures { F.did f.old (fips.key_expansion (Self.key self.now)) f.new }
-    {
-        let _ = blocks;
-        self.decrypt_with_backend(f);
-    }
+        ensures { F.did f.old (fips.key_expansion (Self.key self.now)) f.new };
 }
 
 /// Stored round keys that are made from those of S, which has the same key.

@@ -114,7 +114,7 @@ impl RoundKeysUser for OneRound {
 }
 
 impl BlockCipherEncrypt for OneRound {
-    fn encrypt_with_backend<F: BlockCipherEncClosure>(&self, f: &mut F) {
+    fn encrypt_with_backend_for<F: BlockCipherEncClosure>(&self, _blocks: usize, f: &mut F) {
         f.call(&Lent { cipher: self });
     }
 
@@ -128,7 +128,7 @@ impl BlockCipherEncrypt for OneRound {
 }
 
 impl BlockCipherDecrypt for OneRound {
-    fn decrypt_with_backend<F: BlockCipherDecClosure>(&self, f: &mut F) {
+    fn decrypt_with_backend_for<F: BlockCipherDecClosure>(&self, _blocks: usize, f: &mut F) {
         f.call(&Lent { cipher: self });
     }
 
