@@ -13,7 +13,7 @@ import expand
 HERE = pathlib.Path(__file__).resolve().parent
 TOP = HERE.parent.parent
 # The crates whose functions are given secrets. The program and its engine are another matter: see README.md.
-CRATES = "aes_planes aes_cipher aes_soft aes aes_permute aes_hybrid aes_rounds aes_ctr cbc key_wrap c_calls aes_c".split()
+CRATES = "aes_planes aes_cipher aes_soft aes aes_permute aes_hybrid aes_rounds aes_ctr cbc key_wrap aes_c".split()
 # What may stand before `fn`.
 KIND = r'(?:(?:final|const|unsafe|extern "C") )*'
 

@@ -8,7 +8,7 @@ from figures import ROOT, matching
 GHOST = re.compile(r"^ *ghost [A-Za-z_]+ = ", re.M)
 CONTRACTS = [
     "crates/aes_cipher/src/cipher/{init,round_keys,encrypt,decrypt}.rt", "crates/aes_callers/src/callers.rt",
-    "crates/aes_c/src/exports.rt", "crates/c_calls/src/status.rt", "crates/gcm/src/{mode,pieces,counter}.rt",
+    "crates/aes_c/src/{blocks,chains,lib,once,status,stream,wrapping}.rt", "crates/gcm/src/{mode,pieces,counter}.rt",
     "crates/gcm_c/src/{counter,opening,pieces,sealing,status,whole}.rt",
     "crates/{cmac/src/tags,cbc/src/chain,cbc/src/laws,key_wrap/src/{wrapping,padded,laws}}.rt",
 ]

@@ -1,17 +1,48 @@
 //! AES for C, and for languages that call C: `dist/include/fotsgure_aes.h` declares these calls.
 //!
-//! The header states what a `requires` asks of callers; nothing checks a call from C.
+//! The header states what a `requires` asks of callers; nothing checks a call from C. Keys of 16, 24 and 32 bytes go
+//! through the same exports, since the struct knows how long its key is.
 #![tactic(auto)]
 
-pub mod exports;
+ghost use Rattle.std.specs.Prelude.{◌≡◌};
+
+mod blocks;
+mod chains;
+pub mod examples;
+mod kept;
+mod once;
+mod status;
+mod stream;
 #[cfg(test)]
 mod tests;
 mod width;
+mod wrapping;
 
-pub use c_calls::kept::Aes;
-pub use c_calls::status::{
+pub use blocks::{
+    fotsgure_aes_decrypt_blocks, fotsgure_aes_decrypt_blocks_to, fotsgure_aes_encrypt_blocks,
+    fotsgure_aes_encrypt_blocks_to,
+};
+pub use cbc::Cbc;
+pub use chains::{fotsgure_aes_cbc_decrypt, fotsgure_aes_cbc_encrypt};
+pub use kept::{Aes, fotsgure_aes_key_length, fotsgure_aes_set_key, fotsgure_aes_wipe};
+pub use key_wrap::Semiblock;
+pub use once::{
+    fotsgure_aes_add_keystream_with, fotsgure_aes_decrypt_blocks_with,
+    fotsgure_aes_encrypt_blocks_with,
+};
+pub use status::{
     DONE, INVALID_COUNT, KEY_LENGTH, KEYSTREAM_END, NO_KEY, REFUSED, UNEQUAL_COUNTS, VERSION,
 };
-pub use c_calls::stream::Ctr;
-pub use cbc::Cbc;
-pub use key_wrap::Semiblock;
+pub use stream::{Ctr, fotsgure_aes_add_keystream, fotsgure_aes_add_keystream_to};
+pub use width::BuildWidth;
+pub use wrapping::{
+    fotsgure_aes_unwrap, fotsgure_aes_unwrap_padded, fotsgure_aes_wrap, fotsgure_aes_wrap_padded,
+};
+
+/// Returns the version of the library; programs compare it with that of their header.
+#[unsafe(no_mangle)]
+pub extern "C" fn fotsgure_aes_version() -> u32
+    ensures { result ≡ VERSION }
+{
+    VERSION
+}

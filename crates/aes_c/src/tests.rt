@@ -2,16 +2,14 @@
 
 ghost use Rattle.std.specs.Prelude.{◌≡◌};
 
-use super::exports::{
+use super::{
+    Aes, Cbc, Ctr, DONE, KEY_LENGTH, KEYSTREAM_END, NO_KEY, REFUSED, UNEQUAL_COUNTS, VERSION,
     fotsgure_aes_add_keystream, fotsgure_aes_add_keystream_to, fotsgure_aes_add_keystream_with,
     fotsgure_aes_cbc_decrypt, fotsgure_aes_cbc_encrypt, fotsgure_aes_decrypt_blocks,
     fotsgure_aes_decrypt_blocks_to, fotsgure_aes_decrypt_blocks_with, fotsgure_aes_encrypt_blocks,
     fotsgure_aes_encrypt_blocks_to, fotsgure_aes_encrypt_blocks_with, fotsgure_aes_key_length,
     fotsgure_aes_set_key, fotsgure_aes_unwrap, fotsgure_aes_unwrap_padded, fotsgure_aes_version,
     fotsgure_aes_wipe, fotsgure_aes_wrap, fotsgure_aes_wrap_padded,
-};
-use super::{
-    Aes, Cbc, Ctr, DONE, KEY_LENGTH, KEYSTREAM_END, NO_KEY, REFUSED, UNEQUAL_COUNTS, VERSION,
 };
 
 // FIPS 197, appendix C: the bytes 00 01 02 and so on, whose beginnings are the keys, the block, and its encryption.

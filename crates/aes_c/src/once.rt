@@ -3,25 +3,24 @@
 ghost use Rattle.std.specs.Prelude.{◌≡◌, ◌≢◌, ◌↔◌, ◌+◌, ◌-◌, ◌^◌, ◌<◌, ◌≤◌, length};
 ghost use Rattle.aes_planes.specs.Each.{Each};
 ghost use Rattle.aes_planes.specs.Fips197 as fips;
-ghost use Rattle.aes_ctr.specs.CounterMode.{keystream_byte, plus_stream};
 ghost use Rattle.aes_cipher.specs.KeySizes.{IsKeySize};
+ghost use Rattle.aes_ctr.specs.CounterMode.{keystream_byte, plus_stream};
 
-use crate::blocks::process_under;
-use crate::kept::{Aes, set_key};
+use crate::blocks::fotsgure_aes_decrypt_blocks;
+use crate::kept::{Aes, fotsgure_aes_set_key};
 use crate::status::{DONE, KEY_LENGTH, KEYSTREAM_END};
 use crate::stream::Ctr;
-use aes_cipher::cipher::{Decrypt, Encrypt};
+use crate::width::BuildWidth;
+use aes_cipher::cipher::{Block, BlockCipherEncrypt};
 use aes_cipher::zeroize::MustWipe;
 use aes_ctr::add_keystream;
-use aes_hybrid::blocks::process_few_or_many;
 use aes_hybrid::lent::Lent;
-use aes_hybrid::widths::Width;
 use aes_permute::lane_room::{expand_in_room, is_key_size, keys_in_room};
-use aes_planes::soft::word::Block;
 
 /// Encrypts each block in place under a key (Cipher, FIPS 197, 5.1). Returns `DONE` exactly if the key has 16, 24 or 32
 /// bytes, else `KEY_LENGTH`.
-pub fn encrypt_with<W: Width>(key: &[u8], blocks: &mut [Block]) -> u32
+#[unsafe(no_mangle)]
+pub extern "C" fn fotsgure_aes_encrypt_blocks_with(key: &[u8], blocks: &mut [Block]) -> u32
     ensures done { result ≡ DONE ↔ IsKeySize (length key.now) }
     ensures refused { result ≢ DONE → result ≡ KEY_LENGTH }
     ensures blocks { result ≡ DONE → Each (fips.cipher key.now) blocks.old blocks.new }
@@ -33,32 +32,38 @@ pub fn encrypt_with<W: Width>(key: &[u8], blocks: &mut [Block]) -> u32
     let mut kept = MustWipe::<[Block; 15]>::zeroed();
     expand_in_room(kept.value_mut(), key);
     let keys = keys_in_room(kept.value(), key.len());
-    process_few_or_many::<Encrypt, W>(keys, keys, blocks);
+    Lent::<BuildWidth>::new(keys).encrypt_blocks(blocks);
     kept.wipe();
     DONE
 }
 
 /// Decrypts each block in place under a key (InvCipher, FIPS 197, 5.3). Returns `DONE` exactly if the key has 16, 24 or
 /// 32 bytes, else `KEY_LENGTH`.
-pub fn decrypt_with<W: Width>(key: &[u8], blocks: &mut [Block]) -> u32
+#[unsafe(no_mangle)]
+pub extern "C" fn fotsgure_aes_decrypt_blocks_with(key: &[u8], blocks: &mut [Block]) -> u32
     ensures done { result ≡ DONE ↔ IsKeySize (length key.now) }
     ensures refused { result ≢ DONE → result ≡ KEY_LENGTH }
     ensures blocks { result ≡ DONE → Each (fips.inv_cipher key.now) blocks.old blocks.new }
     ensures untouched { result ≢ DONE → blocks.new ≡ blocks.old }
 {
     let mut kept = MustWipe::<Aes>::zeroed();
-    if set_key(kept.value_mut(), key) != DONE {
+    if fotsgure_aes_set_key(kept.value_mut(), key) != DONE {
         return KEY_LENGTH;
     }
-    let status = process_under::<Decrypt, W>(kept.value(), blocks);
+    let status = fotsgure_aes_decrypt_blocks(kept.value(), blocks);
     kept.wipe();
     status
 }
 
-/// Adds to each byte the keystream's byte at its place and moves the position on, as `add_keystream_under`,
+/// Adds to each byte the keystream's byte at its place and moves the position on, as `fotsgure_aes_add_keystream`,
 /// under a key. Returns `KEY_LENGTH` exactly if the key doesn't have 16, 24 or 32 bytes, and else `KEYSTREAM_END` or
 /// `DONE`.
-pub fn add_keystream_with<W: Width>(key: &[u8], ctr: &mut Ctr, bytes: &mut [u8]) -> u32
+#[unsafe(no_mangle)]
+pub extern "C" fn fotsgure_aes_add_keystream_with(
+    key: &[u8],
+    ctr: &mut Ctr,
+    bytes: &mut [u8],
+) -> u32
     ensures done { result ≡ DONE ↔ IsKeySize (length key.now) × (ctr.old.position + length bytes.old ≤ 2 ^ 64 - 1) }
     ensures ended { result ≡ KEYSTREAM_END
         ↔ IsKeySize (length key.now) × (2 ^ 64 - 1 < ctr.old.position + length bytes.old) }
@@ -79,7 +84,7 @@ pub fn add_keystream_with<W: Width>(key: &[u8], ctr: &mut Ctr, bytes: &mut [u8])
     let mut kept = MustWipe::<[Block; 15]>::zeroed();
     expand_in_room(kept.value_mut(), key);
     let keys = keys_in_room(kept.value(), key.len());
-    add_keystream(&Lent::<W>::new(keys), &ctr.iv, ctr.position, bytes);
+    add_keystream(&Lent::<BuildWidth>::new(keys), &ctr.iv, ctr.position, bytes);
     ctr.position += bytes.len() as u64;
     kept.wipe();
     DONE

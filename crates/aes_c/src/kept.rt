@@ -3,9 +3,10 @@
 ghost use Rattle.std.specs.Prelude.{◌≡◌, ◌≢◌, ◌↔◌, length, replicate, true};
 ghost use Rattle.aes_cipher.specs.KeySizes.{IsKeySize};
 ghost use Rattle.aes_permute.specs.Keys.{AreZeroAfter};
-ghost use Rattle.c_calls.specs.Kept.{key_in, IsMade};
+ghost use Rattle.aes_c.specs.Kept.{key_in, IsMade};
 
 use crate::status::{DONE, KEY_LENGTH};
+use crate::width::BuildWidth;
 use aes_cipher::zeroize::{Zeroize, zeroize_elements};
 use aes_hybrid::lent::Lent;
 use aes_hybrid::lent_both::LentBoth;
@@ -56,7 +57,7 @@ pub(crate) fn holds_key(aes: &Aes) -> bool
 
 /// Lends the round keys of a struct that holds a key, to encrypt.
 #[inline(always)]
-pub(crate) fn lent<W>(aes: &Aes) -> Lent<'_, W>
+pub(crate) fn lent(aes: &Aes) -> Lent<'_, BuildWidth>
     requires made { IsMade aes.now }
     requires key { IsKeySize aes.now.key_length }
     ensures { result ≡ key_in aes.now }
@@ -66,7 +67,7 @@ pub(crate) fn lent<W>(aes: &Aes) -> Lent<'_, W>
 
 /// Lends them to decrypt.
 #[inline(always)]
-pub(crate) fn lent_both<W>(aes: &Aes) -> LentBoth<'_, W>
+pub(crate) fn lent_both(aes: &Aes) -> LentBoth<'_, BuildWidth>
     requires made { IsMade aes.now }
     requires key { IsKeySize aes.now.key_length }
     ensures { result ≡ key_in aes.now }
@@ -79,7 +80,8 @@ pub(crate) fn lent_both<W>(aes: &Aes) -> LentBoth<'_, W>
 /// Expands a key into the struct (KeyExpansion, FIPS 197, 5.2). Returns `DONE` exactly if the key has 16, 24 or 32
 /// bytes, else `KEY_LENGTH`; the struct then holds no key. Nothing of what it held before is left in either case: its
 /// blocks are the round keys of the new key, and zeros after them.
-pub fn set_key(aes: &mut Aes, key: &[u8]) -> u32
+#[unsafe(no_mangle)]
+pub extern "C" fn fotsgure_aes_set_key(aes: &mut Aes, key: &[u8]) -> u32
     ensures done { result ≡ DONE ↔ IsKeySize (length key.now) }
     ensures refused { result ≢ DONE → result ≡ KEY_LENGTH }
     ensures made { IsMade aes.new }
@@ -104,7 +106,8 @@ pub fn set_key(aes: &mut Aes, key: &[u8]) -> u32
 }
 
 /// Returns how many bytes the key has, or 0 if the struct holds no key.
-pub fn length_of_key(aes: &Aes) -> usize
+#[unsafe(no_mangle)]
+pub extern "C" fn fotsgure_aes_key_length(aes: &Aes) -> usize
     ensures key { IsKeySize aes.now.key_length → result ≡ aes.now.key_length }
     ensures none { ¬ IsKeySize aes.now.key_length → result ≡ 0 }
 {
@@ -116,7 +119,8 @@ pub fn length_of_key(aes: &Aes) -> usize
 }
 
 /// Overwrites the struct with zeros: it then holds no key.
-pub fn wipe(aes: &mut Aes)
+#[unsafe(no_mangle)]
+pub extern "C" fn fotsgure_aes_wipe(aes: &mut Aes)
     ensures made { IsMade aes.new }
     ensures none { aes.new.key_length ≡ 0 }
     ensures encrypting { aes.new.encrypting ≡ replicate 15 (replicate 16 0) }

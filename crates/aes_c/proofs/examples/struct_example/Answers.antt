@@ -3,7 +3,7 @@ use Rattle.std.proofs.Common.{ℕ, List, inl, refl}
 use Rattle.aes_planes.specs.BigEndian.{bytes}
 use Rattle.aes_planes.proofs.Standard.States.{bytes_by_test}
 use Rattle.aes_permute.proofs.KeyOfLanes.{is_schedule_of}
-use Rattle.c_calls.proofs.examples.struct_example.Goals as goal
+use Rattle.aes_c.proofs.examples.struct_example.Goals as goal
 
 pub returns : goal.returns
 unfolding bytes

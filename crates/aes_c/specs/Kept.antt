@@ -3,7 +3,7 @@ use Rattle.std.specs.Prelude.{ℕ, List}
 use Rattle.aes_planes.specs.Fips197 as fips
 use Rattle.aes_cipher.specs.KeySizes.{IsKeySize}
 use Rattle.aes_permute.specs.Keys.{key_in_room, stored_keys, AreInverse, IsCipherSchedule}
-use Rattle.c_calls.specs.declared.kept.Aes.{Aes}
+use Rattle.aes_c.specs.declared.kept.Aes.{Aes}
 
 -- the key of a struct
 abbrev pub key_in : Aes → List ℕ

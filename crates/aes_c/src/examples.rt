@@ -8,7 +8,7 @@ ghost use Rattle.std.specs.Prelude.{◌≡◌, map};
 ghost use Rattle.aes_planes.specs.BigEndian.{bytes};
 ghost use Rattle.aes_planes.specs.Fips197 as fips;
 ghost use Rattle.aes_permute.specs.Keys.{encrypting, key_in_room, stored_keys, AreInverse, AreZeroAfter};
-ghost use Rattle.c_calls.specs.Kept.{IsMade};
+ghost use Rattle.aes_c.specs.Kept.{IsMade};
 
 use crate::status::{
     DONE, INVALID_COUNT, KEY_LENGTH, KEYSTREAM_END, NO_KEY, REFUSED, UNEQUAL_COUNTS, VERSION,

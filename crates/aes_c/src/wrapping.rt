@@ -4,17 +4,17 @@ ghost use Rattle.std.specs.Prelude.{◌≡◌, ◌≢◌, ◌↔◌, ◌^◌, �
 ghost use Rattle.key_wrap.specs.KeyWrap.{integrity_check, unwrapped, wrapped, Fit};
 ghost use Rattle.key_wrap.specs.Padded.{heading, unwrapped_string, wrapped_padded, FitPadded, FitUnpadded, IsPadded};
 ghost use Rattle.aes_cipher.specs.KeySizes.{IsKeySize};
-ghost use Rattle.c_calls.specs.Kept.{round_keys_in, IsMade};
+ghost use Rattle.aes_c.specs.Kept.{round_keys_in, IsMade};
 
 use crate::kept::{Aes, holds_key, lent, lent_both};
 use crate::status::{DONE, INVALID_COUNT, NO_KEY, REFUSED};
-use aes_hybrid::widths::Width;
 use key_wrap::{InvalidCount, NotUnwrapped, Semiblock, unwrap, unwrap_padded, wrap, wrap_padded};
 
 /// Wraps a key from one buffer to another (KW-AE, SP 800-38F, 6.2). Returns `NO_KEY` exactly if the struct holds no key,
 /// else `INVALID_COUNT` if the key has fewer than two semiblocks or too many, or the output isn't one longer, and `DONE`
 /// in all other cases.
-pub fn wrap_under<W: Width>(aes: &Aes, key: &[Semiblock], output: &mut [Semiblock]) -> u32
+#[unsafe(no_mangle)]
+pub extern "C" fn fotsgure_aes_wrap(aes: &Aes, key: &[Semiblock], output: &mut [Semiblock]) -> u32
     requires made { IsMade aes.now }
     ensures no_key { result ≡ NO_KEY ↔ ¬ IsKeySize aes.now.key_length }
     ensures done { result ≡ DONE ↔ IsKeySize aes.now.key_length × Fit (length key.now) (length output.old) }
@@ -25,7 +25,7 @@ pub fn wrap_under<W: Width>(aes: &Aes, key: &[Semiblock], output: &mut [Semibloc
     if !holds_key(aes) {
         return NO_KEY;
     }
-    match wrap(&lent::<W>(aes), key, output) {
+    match wrap(&lent(aes), key, output) {
         Ok(()) => DONE,
         Err(InvalidCount) => INVALID_COUNT,
     }
@@ -34,7 +34,12 @@ pub fn wrap_under<W: Width>(aes: &Aes, key: &[Semiblock], output: &mut [Semibloc
 /// Unwraps a key from one buffer to another (KW-AD, SP 800-38F, 6.2). Returns `NO_KEY` exactly if the struct holds no key,
 /// else `INVALID_COUNT` if no key becomes so many semiblocks, or the output isn't one shorter, else `REFUSED` if the key
 /// was not wrapped under this one, and `DONE` in all other cases. After `REFUSED` the output is zeros.
-pub fn unwrap_under<W: Width>(aes: &Aes, sealed: &[Semiblock], output: &mut [Semiblock]) -> u32
+#[unsafe(no_mangle)]
+pub extern "C" fn fotsgure_aes_unwrap(
+    aes: &Aes,
+    sealed: &[Semiblock],
+    output: &mut [Semiblock],
+) -> u32
     requires made { IsMade aes.now }
     ensures no_key { result ≡ NO_KEY ↔ ¬ IsKeySize aes.now.key_length }
     ensures invalid { result ≡ INVALID_COUNT
@@ -50,7 +55,7 @@ pub fn unwrap_under<W: Width>(aes: &Aes, sealed: &[Semiblock], output: &mut [Sem
     if !holds_key(aes) {
         return NO_KEY;
     }
-    match unwrap(&lent_both::<W>(aes), sealed, output) {
+    match unwrap(&lent_both(aes), sealed, output) {
         Ok(()) => DONE,
         Err(NotUnwrapped::InvalidCount) => INVALID_COUNT,
         Err(NotUnwrapped::Refused) => REFUSED,
@@ -60,7 +65,8 @@ pub fn unwrap_under<W: Width>(aes: &Aes, sealed: &[Semiblock], output: &mut [Sem
 /// Pads and wraps a key from one buffer to another (KWP-AE, SP 800-38F, 6.3). Returns `NO_KEY` exactly if the struct holds
 /// no key, else `INVALID_COUNT` if the key has no byte or too many, or the output isn't one semiblock longer than the key
 /// fills, and `DONE` in all other cases.
-pub fn wrap_padded_under<W: Width>(aes: &Aes, key: &[u8], output: &mut [Semiblock]) -> u32
+#[unsafe(no_mangle)]
+pub extern "C" fn fotsgure_aes_wrap_padded(aes: &Aes, key: &[u8], output: &mut [Semiblock]) -> u32
     requires made { IsMade aes.now }
     ensures no_key { result ≡ NO_KEY ↔ ¬ IsKeySize aes.now.key_length }
     ensures done { result ≡ DONE ↔ IsKeySize aes.now.key_length × FitPadded (length key.now) (length output.old) }
@@ -71,7 +77,7 @@ pub fn wrap_padded_under<W: Width>(aes: &Aes, key: &[u8], output: &mut [Semibloc
     if !holds_key(aes) {
         return NO_KEY;
     }
-    match wrap_padded(&lent::<W>(aes), key, output) {
+    match wrap_padded(&lent(aes), key, output) {
         Ok(()) => DONE,
         Err(InvalidCount) => INVALID_COUNT,
     }
@@ -82,7 +88,8 @@ pub fn wrap_padded_under<W: Width>(aes: &Aes, key: &[u8], output: &mut [Semibloc
 /// `INVALID_COUNT` if no key becomes so many semiblocks, or the output isn't one shorter, else `REFUSED` if the key was
 /// not wrapped with padding under this one, and `DONE` in all other cases. After `REFUSED` the output is zeros, and in
 /// all cases but `DONE` the length is 0.
-pub fn unwrap_padded_under<W: Width>(
+#[unsafe(no_mangle)]
+pub extern "C" fn fotsgure_aes_unwrap_padded(
     aes: &Aes,
     sealed: &[Semiblock],
     output: &mut [Semiblock],
@@ -106,7 +113,7 @@ pub fn unwrap_padded_under<W: Width>(
     if !holds_key(aes) {
         return NO_KEY;
     }
-    match unwrap_padded(&lent_both::<W>(aes), sealed, output) {
+    match unwrap_padded(&lent_both(aes), sealed, output) {
         Ok(bytes) => {
             *key_bytes = bytes as usize;
             DONE

@@ -3,12 +3,11 @@
 ghost use Rattle.std.specs.Prelude.{◌≡◌, ◌≢◌, ◌↔◌, ◌+◌, ◌-◌, ◌^◌, ◌<◌, ◌≤◌, length};
 ghost use Rattle.aes_ctr.specs.CounterMode.{keystream_byte, plus_stream};
 ghost use Rattle.aes_cipher.specs.KeySizes.{IsKeySize};
-ghost use Rattle.c_calls.specs.Kept.{round_keys_in, IsMade};
+ghost use Rattle.aes_c.specs.Kept.{round_keys_in, IsMade};
 
 use crate::kept::{Aes, holds_key, lent};
 use crate::status::{DONE, KEYSTREAM_END, NO_KEY, UNEQUAL_COUNTS};
 use aes_ctr::add_keystream;
-use aes_hybrid::widths::Width;
 
 /// Where a keystream stands: `struct fotsgure_aes_ctr`.
 #[repr(C)]
@@ -38,7 +37,8 @@ fn refusal(aes: &Aes, position: u64, count: usize) -> u32
 /// Adds to each byte the keystream's byte at its place, the first of them at the position, and moves the position on
 /// (SP 800-38A, 6.5). Returns `KEYSTREAM_END` exactly if the position would pass 2^64 - 1, else `NO_KEY` if there is no
 /// key, and `DONE` in all other cases.
-pub fn add_keystream_under<W: Width>(aes: &Aes, ctr: &mut Ctr, bytes: &mut [u8]) -> u32
+#[unsafe(no_mangle)]
+pub extern "C" fn fotsgure_aes_add_keystream(aes: &Aes, ctr: &mut Ctr, bytes: &mut [u8]) -> u32
     requires made { IsMade aes.now }
     ensures ended { result ≡ KEYSTREAM_END ↔ (2 ^ 64 - 1 < ctr.old.position + length bytes.old) }
     ensures done { result ≡ DONE ↔ IsKeySize aes.now.key_length × (ctr.old.position + length bytes.old ≤ 2 ^ 64 - 1) }
@@ -52,15 +52,16 @@ pub fn add_keystream_under<W: Width>(aes: &Aes, ctr: &mut Ctr, bytes: &mut [u8])
 {
     let status = refusal(aes, ctr.position, bytes.len());
     if status == DONE {
-        add_keystream(&lent::<W>(aes), &ctr.iv, ctr.position, bytes);
+        add_keystream(&lent(aes), &ctr.iv, ctr.position, bytes);
         ctr.position += bytes.len() as u64;
     }
     status
 }
 
 /// Writes to one buffer the bytes of another plus the keystream's, and moves the position on. Returns `UNEQUAL_COUNTS`
-/// exactly if the buffers differ in length, and else what `add_keystream_under` returns.
-pub fn add_keystream_under_to<W: Width>(
+/// exactly if the buffers differ in length, and else what `fotsgure_aes_add_keystream` returns.
+#[unsafe(no_mangle)]
+pub extern "C" fn fotsgure_aes_add_keystream_to(
     aes: &Aes,
     ctr: &mut Ctr,
     input: &[u8],
@@ -88,5 +89,5 @@ pub fn add_keystream_under_to<W: Width>(
         return status;
     }
     output.copy_from_slice(input);
-    add_keystream_under::<W>(aes, ctr, output)
+    fotsgure_aes_add_keystream(aes, ctr, output)
 }

@@ -1,19 +1,19 @@
 //! Cipher block chaining under the key of a struct.
 
 ghost use Rattle.std.specs.Prelude.{◌≡◌, ◌≢◌, ◌↔◌};
-ghost use Rattle.cbc.specs.Cbc.{chained, last_of, unchained};
 ghost use Rattle.aes_cipher.specs.KeySizes.{IsKeySize};
-ghost use Rattle.c_calls.specs.Kept.{round_keys_in, IsMade};
+ghost use Rattle.cbc.specs.Cbc.{chained, last_of, unchained};
+ghost use Rattle.aes_c.specs.Kept.{round_keys_in, IsMade};
 
 use crate::kept::{Aes, holds_key, lent, lent_both};
 use crate::status::{DONE, NO_KEY};
-use aes_hybrid::widths::Width;
-use aes_planes::soft::word::Block;
+use aes_cipher::cipher::Block;
 use cbc::Cbc;
 
 /// Encrypts the next blocks of a chain in place (SP 800-38A, 6.2). Returns `DONE` exactly if the struct holds a key, else
 /// `NO_KEY`.
-pub fn chain_under<W: Width>(aes: &Aes, cbc: &mut Cbc, blocks: &mut [Block]) -> u32
+#[unsafe(no_mangle)]
+pub extern "C" fn fotsgure_aes_cbc_encrypt(aes: &Aes, cbc: &mut Cbc, blocks: &mut [Block]) -> u32
     requires made { IsMade aes.now }
     ensures done { result ≡ DONE ↔ IsKeySize aes.now.key_length }
     ensures refused { result ≢ DONE → result ≡ NO_KEY }
@@ -22,16 +22,17 @@ pub fn chain_under<W: Width>(aes: &Aes, cbc: &mut Cbc, blocks: &mut [Block]) -> 
     ensures untouched { result ≢ DONE → blocks.new ≡ blocks.old }
     ensures unmoved { result ≢ DONE → cbc.new.previous ≡ cbc.old.previous }
 {
-    if holds_key(aes) {
-        cbc.encrypt_blocks(&lent::<W>(aes), blocks);
-        return DONE;
+    if !holds_key(aes) {
+        return NO_KEY;
     }
-    NO_KEY
+    cbc.encrypt_blocks(&lent(aes), blocks);
+    DONE
 }
 
 /// Decrypts the next blocks of a chain in place (SP 800-38A, 6.2). Returns `DONE` exactly if the struct holds a key, else
 /// `NO_KEY`.
-pub fn unchain_under<W: Width>(aes: &Aes, cbc: &mut Cbc, blocks: &mut [Block]) -> u32
+#[unsafe(no_mangle)]
+pub extern "C" fn fotsgure_aes_cbc_decrypt(aes: &Aes, cbc: &mut Cbc, blocks: &mut [Block]) -> u32
     requires made { IsMade aes.now }
     ensures done { result ≡ DONE ↔ IsKeySize aes.now.key_length }
     ensures refused { result ≢ DONE → result ≡ NO_KEY }
@@ -40,9 +41,9 @@ pub fn unchain_under<W: Width>(aes: &Aes, cbc: &mut Cbc, blocks: &mut [Block]) -
     ensures untouched { result ≢ DONE → blocks.new ≡ blocks.old }
     ensures unmoved { result ≢ DONE → cbc.new.previous ≡ cbc.old.previous }
 {
-    if holds_key(aes) {
-        cbc.decrypt_blocks(&lent_both::<W>(aes), blocks);
-        return DONE;
+    if !holds_key(aes) {
+        return NO_KEY;
     }
-    NO_KEY
+    cbc.decrypt_blocks(&lent_both(aes), blocks);
+    DONE
 }

@@ -1,0 +1,96 @@
+//! Blocks, encrypted and decrypted under the key of a struct.
+
+ghost use Rattle.std.specs.Prelude.{◌≡◌, ◌≢◌, ◌↔◌, length};
+ghost use Rattle.aes_planes.specs.Each.{Each};
+ghost use Rattle.aes_planes.specs.Fips197 as fips;
+ghost use Rattle.aes_cipher.specs.KeySizes.{IsKeySize};
+ghost use Rattle.aes_c.specs.Kept.{key_in, IsMade};
+
+use crate::kept::{Aes, holds_key, lent, lent_both};
+use crate::status::{DONE, NO_KEY, UNEQUAL_COUNTS};
+use aes_cipher::cipher::{Block, BlockCipherDecrypt, BlockCipherEncrypt};
+
+/// Encrypts each block in place (Cipher, FIPS 197, 5.1). Returns `DONE` exactly if the struct holds a key, else `NO_KEY`.
+#[unsafe(no_mangle)]
+pub extern "C" fn fotsgure_aes_encrypt_blocks(aes: &Aes, blocks: &mut [Block]) -> u32
+    requires made { IsMade aes.now }
+    ensures done { result ≡ DONE ↔ IsKeySize aes.now.key_length }
+    ensures refused { result ≢ DONE → result ≡ NO_KEY }
+    ensures blocks { result ≡ DONE → Each (fips.cipher (key_in aes.now)) blocks.old blocks.new }
+    ensures untouched { result ≢ DONE → blocks.new ≡ blocks.old }
+{
+    if !holds_key(aes) {
+        return NO_KEY;
+    }
+    lent(aes).encrypt_blocks(blocks);
+    DONE
+}
+
+/// Decrypts each block in place (InvCipher, FIPS 197, 5.3). Returns `DONE` exactly if the struct holds a key, else
+/// `NO_KEY`.
+#[unsafe(no_mangle)]
+pub extern "C" fn fotsgure_aes_decrypt_blocks(aes: &Aes, blocks: &mut [Block]) -> u32
+    requires made { IsMade aes.now }
+    ensures done { result ≡ DONE ↔ IsKeySize aes.now.key_length }
+    ensures refused { result ≢ DONE → result ≡ NO_KEY }
+    ensures blocks { result ≡ DONE → Each (fips.inv_cipher (key_in aes.now)) blocks.old blocks.new }
+    ensures untouched { result ≢ DONE → blocks.new ≡ blocks.old }
+{
+    if !holds_key(aes) {
+        return NO_KEY;
+    }
+    lent_both(aes).decrypt_blocks(blocks);
+    DONE
+}
+
+/// Encrypts each block of one buffer into another (Cipher, FIPS 197, 5.1). Returns `UNEQUAL_COUNTS` exactly if they differ
+/// in length, and else what `fotsgure_aes_encrypt_blocks` returns.
+#[unsafe(no_mangle)]
+pub extern "C" fn fotsgure_aes_encrypt_blocks_to(
+    aes: &Aes,
+    input: &[Block],
+    output: &mut [Block],
+) -> u32
+    requires made { IsMade aes.now }
+    ensures unequal { result ≡ UNEQUAL_COUNTS ↔ (length input.now ≢ length output.old) }
+    ensures done { result ≡ DONE ↔ IsKeySize aes.now.key_length × (length input.now ≡ length output.old) }
+    ensures refused { result ≢ DONE → result ≢ UNEQUAL_COUNTS → result ≡ NO_KEY }
+    ensures blocks { result ≡ DONE → Each (fips.cipher (key_in aes.now)) input.now output.new }
+    ensures untouched { result ≢ DONE → output.new ≡ output.old }
+{
+    if input.len() != output.len() {
+        return UNEQUAL_COUNTS;
+    }
+    if !holds_key(aes) {
+        return NO_KEY;
+    }
+    output.copy_from_slice(input);
+    lent(aes).encrypt_blocks(output);
+    DONE
+}
+
+/// Decrypts each block of one buffer into another (InvCipher, FIPS 197, 5.3). Returns `UNEQUAL_COUNTS` exactly if they
+/// differ in length, and else what `fotsgure_aes_decrypt_blocks` returns.
+#[unsafe(no_mangle)]
+pub extern "C" fn fotsgure_aes_decrypt_blocks_to(
+    aes: &Aes,
+    input: &[Block],
+    output: &mut [Block],
+) -> u32
+    requires made { IsMade aes.now }
+    ensures unequal { result ≡ UNEQUAL_COUNTS ↔ (length input.now ≢ length output.old) }
+    ensures done { result ≡ DONE ↔ IsKeySize aes.now.key_length × (length input.now ≡ length output.old) }
+    ensures refused { result ≢ DONE → result ≢ UNEQUAL_COUNTS → result ≡ NO_KEY }
+    ensures blocks { result ≡ DONE → Each (fips.inv_cipher (key_in aes.now)) input.now output.new }
+    ensures untouched { result ≢ DONE → output.new ≡ output.old }
+{
+    if input.len() != output.len() {
+        return UNEQUAL_COUNTS;
+    }
+    if !holds_key(aes) {
+        return NO_KEY;
+    }
+    output.copy_from_slice(input);
+    lent_both(aes).decrypt_blocks(output);
+    DONE
+}
