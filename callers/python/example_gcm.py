@@ -67,7 +67,8 @@ def seal(path: pathlib.Path, text: bytes, additional: bytes) -> Tuple[bytes, byt
 
 
 def open_with(file: pathlib.Path, nonce: bytes, sealed: bytes, additional: bytes) -> bytes:
-    """The text, with the key of the file that is named, the present one or an older: without a counter it can't seal."""
+    """The text, with the key of the file that is named, the present one or an older. Without a counter it can't
+    seal."""
     key, _ = load(file)
     with Gcm(key) as gcm:
         return gcm.open(nonce, sealed, additional)
