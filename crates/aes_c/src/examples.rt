@@ -32,7 +32,9 @@ pub fn numbers_of_the_header()
 
 // How many bytes the structs have by the header, with nothing between their fields.
 const _: () = prove!(size_of::<Aes>() == 484);
+
 const _: () = prove!(size_of::<Ctr>() == 24);
+
 const _: () = prove!(size_of::<Cbc>() == 16);
 
 // The blocks of the struct of the key of A.1, each as one number, highest byte first: the stored round keys of Cipher.

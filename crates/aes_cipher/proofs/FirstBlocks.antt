@@ -33,8 +33,8 @@ any_of_all f i xs ys d e lt = inl (ap (λ l. get_or l i d) e ∙ get_or-map f xs
 pub any_of_one : {X : Type 0} (f : X → X) (i k : ℕ) (xs : List X) (d : X) → i < length xs
     → (get_or (set xs k (f (get_or xs k d))) i d ≡ f (get_or xs i d)) ⊎ (get_or (set xs k (f (get_or xs k d))) i d ≡ get_or xs i d)
 any_of_one f i k xs d lt = elim (cases_eq i k) [
-    inl same ↦ inl (get_or-set_at xs k i (f (get_or xs k d)) d same (omega (arith, same, lt))
-        ∙ ap (λ m. f (get_or xs m d)) (sym same))
+  | inl same ↦ inl (get_or-set_at xs k i (f (get_or xs k d)) d same (omega (arith, same, lt))
+      ∙ ap (λ m. f (get_or xs m d)) (sym same))
   | inr other ↦ inr (get_or-set_other xs k i (f (get_or xs k d)) d other)
 ]
 
@@ -45,10 +45,10 @@ pub any_of_part : {X : Type 0} (f : X → X) (i n : ℕ) (xs zs : List X) (d : X
 any_of_part f i n xs zs d is fits lt =
     let long : length zs ≡ n = ap length is ∙ length-map (take n xs) f ∙ omega (arith, fits, length-take n xs) in
     elim (cases_lt i n) [
-      inl below ↦ inl (get_or_append_left zs _ d i (omega (arith, long, below)) ∙ ap (λ l. get_or l i d) is
+      | inl below ↦ inl (get_or_append_left zs _ d i (omega (arith, long, below)) ∙ ap (λ l. get_or l i d) is
           ∙ get_or-map f (take n xs) i d d (omega (arith, below, fits, length-take n xs))
           ∙ ap f (get_or-take n xs i d below))
-    | inr past ↦ inr (get_or-append_right zs _ n i d long past ∙ get_or-drop n xs (i - n) d
+      | inr past ↦ inr (get_or-append_right zs _ n i d long past ∙ get_or-drop n xs (i - n) d
           ∙ ap (λ m. get_or xs m d) (omega (arith, past)))
     ]
 

@@ -83,12 +83,12 @@ pub ciphered_or_left : (w : List (List ℕ)) (iv : List ℕ) (first n k m : ℕ)
     → (slice_index_or xs k [] ≡ cipher_with w (counter_block iv (first + k)))
     ⊎ (slice_index_or xs k [] ≡ counter_block iv (first + k))
 ciphered_or_left w iv first n k m xs counted inside kept left long at fits lt = elim (cases_lt k n) [
-    inl below ↦ inl (ciphered w iv first n k m xs counted inside kept long at fits below)
+  | inl below ↦ inl (ciphered w iv first n k m xs counted inside kept long at fits below)
   | inr past ↦
-    let place : n + (k - n) ≡ k = omega (arith, past) in
-    let read : (l : List (List ℕ)) → slice_index_or (drop n l) (k - n) [] ≡ slice_index_or l k [] =
-    λ l. get_or-drop n l (k - n) [] ∙ ap (λ m. slice_index_or l m []) place in
-    inr (sym (read xs) ∙ ap (λ l. slice_index_or l (k - n) []) left ∙ read counted ∙ at k lt)
+      let place : n + (k - n) ≡ k = omega (arith, past) in
+      let read : (l : List (List ℕ)) → slice_index_or (drop n l) (k - n) [] ≡ slice_index_or l k [] =
+      λ l. get_or-drop n l (k - n) [] ∙ ap (λ m. slice_index_or l m []) place in
+      inr (sym (read xs) ∙ ap (λ l. slice_index_or l (k - n) []) left ∙ read counted ∙ at k lt)
 ]
 
 -- where the first counter blocks of a batch are ciphered, they are blocks of the keystream
@@ -106,7 +106,7 @@ pub ciphered_or_counted : (w : List (List ℕ)) (iv : List ℕ) (first k m : ℕ
     → (slice_index_or ys k [] ≡ cipher_with w (counter_block iv (first + k)))
     ⊎ (slice_index_or ys k [] ≡ counter_block iv (first + k))
 ciphered_or_counted w iv first k m xs ys each long at lt = elim (each k (omega (arith, long, lt))) [
-    inl done ↦ inl (done ∙ ap (cipher_with w) (at k lt))
+  | inl done ↦ inl (done ∙ ap (cipher_with w) (at k lt))
   | inr same ↦ inr (same ∙ at k lt)
 ]
 

@@ -31,7 +31,9 @@ pub fn numbers_of_the_header()
 
 // How many bytes the structs have by the header, with nothing between their fields.
 const _: () = prove!(size_of::<Gcm>() == 1780);
+
 const _: () = prove!(size_of::<Counter>() == 12);
+
 const _: () = prove!(size_of::<Message>() == 80);
 
 /// The lengths of nonces, those on either side of them, and the most that a message may have.
