@@ -1,0 +1,4 @@
+-- The files of lemmas.
+pub mod Keystream
+pub mod OnLiterals
+pub mod Strings

@@ -1,0 +1,100 @@
+-- Strings of a seed: padding, and sums.
+use Rattle.std.proofs.Common.{◌≡◌, ℕ, zero, suc, ◌+◌, ◌-◌, ◌<◌, ◌≤◌, List, [], ◌∷◌, ◌++◌, length, get_or, take, drop, set}
+use Rattle.std.proofs.Common.{◌⊎◌, inl, inr, replicate, bit_xor, sym, ap, ◌∙◌, refl, arith, length-append}
+use Rattle.std.proofs.lemmas.Bool.{cases_lt}
+use Rattle.std.proofs.lemmas.List.{drop-replicate, get_or-set_same, get_or-set_other, get_or_append_left, get_or-append_right}
+use Rattle.std.proofs.lemmas.List.{get_or-replicate, get_or-take, get_or_past, take_all, length-take, length-set}
+use Rattle.std.specs.Int.Bits.{xor_zero_r}
+use Rattle.aes_planes.proofs.Lists.{build_is, length-build, get_or-build}
+use Rattle.ctr_drbg.specs.CtrDrbg.{padded, exclusive_or}
+
+-- a string that is written over zeros is padded
+pub written_over : (x : List ℕ) → x ++ drop (length x) (replicate 48 0) ≡ padded x
+unfolding padded
+written_over x = ap (λ zeros. x ++ zeros) (drop-replicate (length x) 48 0)
+
+-- a sum has the length of the first string
+pub length-sum : (x y : List ℕ) → length (exclusive_or x y) ≡ length x
+unfolding exclusive_or
+length-sum x y = length-build (length x) _
+
+-- byte i of a sum is the sum of both bytes i
+pub get_or-sum : (x y : List ℕ) (i : ℕ) → i < length x
+    → get_or (exclusive_or x y) i 0 ≡ bit_xor (get_or x i 0) (get_or y i 0)
+unfolding exclusive_or
+get_or-sum x y i h = get_or-build (length x) i _ 0 h
+
+-- a list of these bytes is the sum
+pub sum_is : (x y s : List ℕ) → length s ≡ length x
+    → ((i : ℕ) → i < length x → bit_xor (get_or x i 0) (get_or y i 0) ≡ get_or s i 0) → exclusive_or x y ≡ s
+unfolding exclusive_or
+sum_is x y s l h = build_is (length x) _ s 0 l h
+
+-- a string plus no bytes is the string
+pub sum-nil : (x : List ℕ) → exclusive_or x [] ≡ x
+sum-nil x = sum_is x [] x refl (λ i h. xor_zero_r (get_or x i 0))
+
+-- a byte other than i is the same in the first i bytes and in one more
+take_more_other : (y : List ℕ) (i j : ℕ) → (j < i) ⊎ (i < j) → get_or (take (i + 1) y) j 0 ≡ get_or (take i y) j 0
+take_more_other y i j other = elim other [
+  | inl below ↦ get_or-take (i + 1) y j 0 (omega (arith, below)) ∙ sym (get_or-take i y j 0 below)
+  | inr past ↦ get_or_past (take (i + 1) y) j 0 (omega (arith, past, length-take (i + 1) y))
+      ∙ sym (get_or_past (take i y) j 0 (omega (arith, past, length-take i y)))
+]
+
+-- one more byte is added
+pub summed_one : (x y s : List ℕ) (i v : ℕ) → s ≡ exclusive_or x (take i y) → i < length y → i < length x
+    → v ≡ bit_xor (get_or s i 0) (get_or y i 0) → set s i v ≡ exclusive_or x (take (i + 1) y)
+summed_one x y s i v is inside fits added = sym (sum_is x (take (i + 1) y) (set s i v) long bytes)
+  where
+    sized : length s ≡ length x
+    sized = ap length is ∙ length-sum x (take i y)
+    long : length (set s i v) ≡ length x
+    long = length-set s i v ∙ sized
+    was : (j : ℕ) → j < length x → get_or s j 0 ≡ bit_xor (get_or x j 0) (get_or (take i y) j 0)
+    was j h = ap (λ l. get_or l j 0) is ∙ get_or-sum x (take i y) j h
+    here : get_or s i 0 ≡ get_or x i 0
+    here = was i fits ∙ ap (bit_xor (get_or x i 0)) (get_or_past (take i y) i 0 (omega (arith, length-take i y)))
+        ∙ xor_zero_r (get_or x i 0)
+    others : (j : ℕ) → j < length x → (j < i) ⊎ (i < j)
+        → bit_xor (get_or x j 0) (get_or (take (i + 1) y) j 0) ≡ get_or (set s i v) j 0
+    others j h other =
+        ap (bit_xor (get_or x j 0)) (take_more_other y i j other) ∙ sym (was j h)
+        ∙ sym (get_or-set_other s i j v 0 (λ e. elim other [ inl b ↦ omega (arith, b, e) | inr p ↦ omega (arith, p, e) ]))
+    same : (j : ℕ) → j ≡ i → bit_xor (get_or x j 0) (get_or (take (i + 1) y) j 0) ≡ get_or (set s i v) j 0
+    same j e =
+        ap (λ k. bit_xor (get_or x k 0) (get_or (take (i + 1) y) k 0)) e
+        ∙ ap (bit_xor (get_or x i 0)) (get_or-take (i + 1) y i 0 (omega arith))
+        ∙ sym (added ∙ ap (λ b. bit_xor b (get_or y i 0)) here)
+        ∙ sym (get_or-set_same s i v 0 (omega (arith, sized, fits)))
+        ∙ ap (λ k. get_or (set s i v) k 0) (sym e)
+    bytes : (j : ℕ) → j < length x → bit_xor (get_or x j 0) (get_or (take (i + 1) y) j 0) ≡ get_or (set s i v) j 0
+    bytes j h = elim (cases_lt j i) [
+      | inl below ↦ others j h (inl below)
+      | inr past ↦ elim (cases_lt i j) [
+          | inl above ↦ others j h (inr above)
+          | inr most ↦ same j (omega (arith, past, most))
+        ]
+    ]
+
+-- a padded string has the bytes of the string, and zeros
+get_or-padded : (y : List ℕ) (i : ℕ) → length y ≤ 48 → i < 48 → get_or (padded y) i 0 ≡ get_or y i 0
+unfolding padded
+get_or-padded y i fits h = elim (cases_lt i (length y)) [
+  | inl below ↦ get_or_append_left y (replicate (48 - length y) 0) 0 i below
+  | inr past ↦ get_or-append_right y (replicate (48 - length y) 0) (length y) i 0 refl past
+      ∙ get_or-replicate (48 - length y) (i - length y) 0 0 (omega (arith, past, h, fits))
+      ∙ sym (get_or_past y i 0 past)
+]
+
+-- padding adds nothing to a sum
+pub sum-padded : (x y : List ℕ) (i : ℕ) → length x ≡ 48 → length y ≤ 48 → length y ≤ i
+    → exclusive_or x (take i y) ≡ exclusive_or x (padded y)
+sum-padded x y i sized fits all =
+    ap (exclusive_or x) (take_all i y all)
+    ∙ sum_is x y (exclusive_or x (padded y)) (length-sum x (padded y))
+    (λ j h. sym (get_or-sum x (padded y) j h
+    ∙ ap (bit_xor (get_or x j 0)) (get_or-padded y j fits (omega (arith, h, sized)))))
+
+-- what the loop uses that adds a string to a seed
+pub ruleset added = (sum-nil, summed_one, sum-padded)

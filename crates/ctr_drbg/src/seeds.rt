@@ -1,0 +1,77 @@
+//! Seeds, which are wiped: entropy input and other strings as 48 bytes.
+
+ghost use Rattle.std.specs.Prelude.{◌≡◌, ◌≢◌, ◌↔◌, ◌⊎◌, ◌<◌, ◌≤◌, length, replicate, IsErr, IsErrOf, OnOk};
+ghost use Rattle.ctr_drbg.specs.CtrDrbg.{padded, exclusive_or};
+
+use crate::errors::InvalidSeed;
+use aes_cipher::zeroize::{Element, Wiped};
+
+/// How many bytes entropy input has, and other strings at most: seedlen (10.2.1, table 3).
+pub const SEED_LENGTH: usize = 48;
+
+/// The bytes of a seed.
+#[derive(Clone, Copy)]
+pub(crate) struct Seed {
+    pub(crate) bytes: [u8; SEED_LENGTH],
+}
+
+impl Element for Seed {
+    ghost ZERO = { record { bytes = replicate 48 0 } };
+
+    #[inline(always)]
+    fn zero() -> Seed {
+        Seed {
+            bytes: [0; SEED_LENGTH],
+        }
+    }
+
+    #[inline(always)]
+    fn some_byte(self) -> u8 {
+        self.bytes[0]
+    }
+}
+
+/// Room for a seed, which is wiped where it stands.
+pub(crate) type SeedRoom = Wiped<[Seed; 1]>;
+
+/// Writes a string over zeros.
+#[tactic(auto, using(crate::proofs::Strings::written_over))]
+pub(crate) fn put_padded(string: &[u8], seed: &mut [u8; SEED_LENGTH])
+    requires { length string.now ≤ 48 }
+    ensures { seed.new ≡ padded string.now }
+{
+    *seed = [0; SEED_LENGTH];
+    seed[..string.len()].copy_from_slice(string);
+}
+
+// Adds a string, with zeros behind it.
+#[tactic(auto, using(crate::proofs::Strings::added))]
+fn add_padded(string: &[u8], seed: &mut [u8; SEED_LENGTH])
+    requires { length string.now ≤ 48 }
+    ensures { seed.new ≡ exclusive_or seed.old (padded string.now) }
+{
+    for i in 0..string.len() {
+        seed[i] ^= string[i];
+    }
+}
+
+/// Writes seed_material: the entropy input plus a string with zeros behind it (10.2.1.3.1 and 10.2.1.4.1, steps 1 to 3).
+pub(crate) fn put_seed_material(
+    entropy_input: &[u8],
+    string: &[u8],
+    seed: &mut [u8; SEED_LENGTH],
+) -> Result<(), InvalidSeed>
+    ensures entropy { IsErrOf result InvalidSeed.EntropyLength ↔ (length entropy_input.now ≢ 48) }
+    ensures refusal { IsErr result ↔ ((length entropy_input.now ≢ 48) ⊎ (48 < length string.now)) }
+    ensures material { OnOk result (seed.new ≡ exclusive_or entropy_input.now (padded string.now)) }
+{
+    if entropy_input.len() != SEED_LENGTH {
+        return Err(InvalidSeed::EntropyLength);
+    }
+    if string.len() > SEED_LENGTH {
+        return Err(InvalidSeed::TooLong);
+    }
+    seed.copy_from_slice(entropy_input);
+    add_padded(string, seed);
+    Ok(())
+}
