@@ -49,18 +49,23 @@ summed_one x y s i v is inside fits added = sym (sum_is x (take (i + 1) y) (set 
   where
     sized : length s ≡ length x
     sized = ap length is ∙ length-sum x (take i y)
+
     long : length (set s i v) ≡ length x
     long = length-set s i v ∙ sized
+
     was : (j : ℕ) → j < length x → get_or s j 0 ≡ bit_xor (get_or x j 0) (get_or (take i y) j 0)
     was j h = ap (λ l. get_or l j 0) is ∙ get_or-sum x (take i y) j h
+
     here : get_or s i 0 ≡ get_or x i 0
     here = was i fits ∙ ap (bit_xor (get_or x i 0)) (get_or_past (take i y) i 0 (omega (arith, length-take i y)))
         ∙ xor_zero_r (get_or x i 0)
+
     others : (j : ℕ) → j < length x → (j < i) ⊎ (i < j)
         → bit_xor (get_or x j 0) (get_or (take (i + 1) y) j 0) ≡ get_or (set s i v) j 0
     others j h other =
         ap (bit_xor (get_or x j 0)) (take_more_other y i j other) ∙ sym (was j h)
         ∙ sym (get_or-set_other s i j v 0 (λ e. elim other [ inl b ↦ omega (arith, b, e) | inr p ↦ omega (arith, p, e) ]))
+
     same : (j : ℕ) → j ≡ i → bit_xor (get_or x j 0) (get_or (take (i + 1) y) j 0) ≡ get_or (set s i v) j 0
     same j e =
         ap (λ k. bit_xor (get_or x k 0) (get_or (take (i + 1) y) k 0)) e
@@ -68,13 +73,14 @@ summed_one x y s i v is inside fits added = sym (sum_is x (take (i + 1) y) (set 
         ∙ sym (added ∙ ap (λ b. bit_xor b (get_or y i 0)) here)
         ∙ sym (get_or-set_same s i v 0 (omega (arith, sized, fits)))
         ∙ ap (λ k. get_or (set s i v) k 0) (sym e)
+
     bytes : (j : ℕ) → j < length x → bit_xor (get_or x j 0) (get_or (take (i + 1) y) j 0) ≡ get_or (set s i v) j 0
     bytes j h = elim (cases_lt j i) [
       | inl below ↦ others j h (inl below)
       | inr past ↦ elim (cases_lt i j) [
-          | inl above ↦ others j h (inr above)
-          | inr most ↦ same j (omega (arith, past, most))
-        ]
+        | inl above ↦ others j h (inr above)
+        | inr most ↦ same j (omega (arith, past, most))
+      ]
     ]
 
 -- a padded string has the bytes of the string, and zeros

@@ -47,11 +47,17 @@ pub fn two_requests_example()
     ensures seeded { instantiate
         (bytes 48 0xdf5d73faa468649edda33b5cca79b0b05600419ccb7a879ddfec9db32ee494e5531b51de16a30f769262474c73bec010) []
         ≡ record { key = bytes 32 0x8c52f901632d522774c08fad0eb2c33b98a701a1861aecf3d8a25860941709fd; v = bytes 16 0x217b52142105250243c0b2c206b8f59e; reseed_counter = 1 } }
-    ensures first { generate 64 [] (record { key = bytes 32 0x8c52f901632d522774c08fad0eb2c33b98a701a1861aecf3d8a25860941709fd;
-        v = bytes 16 0x217b52142105250243c0b2c206b8f59e; reseed_counter = 1 })
+    ensures first { generate 64 [] (record {
+      key = bytes 32 0x8c52f901632d522774c08fad0eb2c33b98a701a1861aecf3d8a25860941709fd;
+      v = bytes 16 0x217b52142105250243c0b2c206b8f59e;
+      reseed_counter = 1;
+    })
         ≡ record { key = bytes 32 0x72f4af5c93258eb3eeec8c0cacea6c1d1978a4fad44312725f1ac43b167f2d52; v = bytes 16 0xe86f6d07dfb551cebad80e6bf6830ac4; reseed_counter = 2 } }
-    ensures second { returned_bits 16 [] (record { key = bytes 32 0x72f4af5c93258eb3eeec8c0cacea6c1d1978a4fad44312725f1ac43b167f2d52;
-        v = bytes 16 0xe86f6d07dfb551cebad80e6bf6830ac4; reseed_counter = 2 }) ≡ bytes 16 0xd1c07cd95af8a7f11012c84ce48bb8cb }
+    ensures second { returned_bits 16 [] (record {
+      key = bytes 32 0x72f4af5c93258eb3eeec8c0cacea6c1d1978a4fad44312725f1ac43b167f2d52;
+      v = bytes 16 0xe86f6d07dfb551cebad80e6bf6830ac4;
+      reseed_counter = 2;
+    }) ≡ bytes 16 0xd1c07cd95af8a7f11012c84ce48bb8cb }
 {
     encrypted_blocks();
 }

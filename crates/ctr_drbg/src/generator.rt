@@ -49,7 +49,7 @@ impl<C: BlockCipherEncrypt + KeyInit> Model for CtrDrbg<C> {
     ghost view = { λ drbg. record {
       key = C.own_key drbg.cipher;
       v = slice_index_or drbg.v 0 [];
-      reseed_counter = drbg.reseed_counter
+      reseed_counter = drbg.reseed_counter;
     } };
 
     ghost invariant = { λ drbg. C.KEY_SIZE ≡ 32 };
@@ -68,7 +68,6 @@ impl<C: BlockCipherEncrypt + KeyInit + Drop> CtrDrbg<C> {
     ///
     /// `EntropyLength` exactly if the entropy input doesn't have 48 bytes. Else `TooLong` exactly if the personalization
     /// string has more than 48 bytes.
-    #[tactic(auto, unfolding(crate::specs::CtrDrbg::instantiate, crate::specs::CtrDrbg::reseed))]
     pub fn instantiate(
         entropy_input: &[u8],
         personalization_string: &[u8],
@@ -93,7 +92,6 @@ impl<C: BlockCipherEncrypt + KeyInit + Drop> CtrDrbg<C> {
     ///
     /// `EntropyLength` exactly if the entropy input doesn't have 48 bytes. Else `TooLong` exactly if the additional input
     /// has more than 48 bytes. The generator is then unchanged.
-    #[tactic(auto, unfolding(crate::specs::CtrDrbg::reseed, crate::specs::CtrDrbg::update))]
     pub fn reseed(
         &mut self,
         entropy_input: &[u8],
@@ -105,8 +103,12 @@ impl<C: BlockCipherEncrypt + KeyInit + Drop> CtrDrbg<C> {
         ensures unchanged { OnErr result (self.new ≡ self.old) }
     {
         let mut seed = SeedRoom::zeroed();
-        put_seed_material(entropy_input, additional_input, &mut seed.value_mut()[0].bytes)?;
-        self.reseed_counter = 1;
+        put_seed_material(
+            entropy_input,
+            additional_input,
+            &mut seed.value_mut()[0].bytes,
+        )?;
+        self.set_counter(1);
         self.update(&seed.value()[0].bytes);
         Ok(())
     }
@@ -119,7 +121,7 @@ impl<C: BlockCipherEncrypt + KeyInit + Drop> CtrDrbg<C> {
     /// `TooManyBytes` exactly if the output has more than 2^16 bytes. Else `TooLong` exactly if the additional input has
     /// more than 48 bytes. Else `ReseedRequired` exactly if there were 2^48 requests since the seed. The generator and the
     /// output are then unchanged.
-    #[tactic(auto, unfolding(crate::specs::CtrDrbg::returned_bits, crate::specs::CtrDrbg::generate, crate::specs::CtrDrbg::update))]
+    #[tactic(auto, unfolding(crate::specs::CtrDrbg::returned_bits))]
     pub fn generate(
         &mut self,
         additional_input: &[u8],
@@ -150,7 +152,7 @@ impl<C: BlockCipherEncrypt + KeyInit + Drop> CtrDrbg<C> {
         let provided_data = &provided.value()[0].bytes;
         self.prepare(additional_input, provided_data);
         self.put_output(output);
-        self.reseed_counter = requests + 1;
+        self.set_counter(requests + 1);
         self.update(provided_data);
         Ok(())
     }
@@ -202,10 +204,26 @@ impl<C: BlockCipherEncrypt + KeyInit + Drop> CtrDrbg<C> {
         ensures output { output.new ≡ nist.output self.old.key self.old.v (length output.old) }
         ensures key { self.new.key ≡ self.old.key }
         ensures v { self.new.v ≡ nist.v_after self.old.v (nist.turns (length output.old)) }
-        ensures counter { self.new.reseed_counter ≡ self.old.reseed_counter }
     {
         put_output(&self.cipher, &self.v.value()[0], output);
         let v = moved_on(&self.v.value()[0], output.len());
-        self.v.value_mut()[0] = v;
+        self.put_v(&v);
+    }
+
+    // Writes V.
+    fn put_v(&mut self, v: &Block)
+        ensures key { self.new.key ≡ self.old.key }
+        ensures v { self.new.v ≡ v.now }
+    {
+        self.v.value_mut()[0].copy_from_slice(v);
+    }
+
+    // Writes reseed_counter.
+    fn set_counter(&mut self, reseed_counter: u64)
+        ensures key { self.new.key ≡ self.old.key }
+        ensures v { self.new.v ≡ self.old.v }
+        ensures counter { self.new.reseed_counter ≡ reseed_counter }
+    {
+        self.reseed_counter = reseed_counter;
     }
 }

@@ -28,7 +28,6 @@ pub(crate) fn put_output<C: BlockCipherEncrypt + KeyInit>(cipher: &C, v: &Block,
 }
 
 /// Returns V after so many bytes of output.
-#[tactic(auto, using(crate::proofs::Keystream::v_after_any), unfolding(crate::specs::CtrDrbg::turns))]
 pub(crate) fn moved_on(v: &Block, bytes: usize) -> Block
     requires { bytes ≤ 2 ^ 16 }
     ensures { result ≡ nist.v_after v.now (nist.turns bytes) }
