@@ -73,11 +73,6 @@ def for_windows(text, suffix):
     return re.sub(r"(@fotsgure_\w+)", rf"\1{suffix}", text)
 
 
-def by_table(text):
-    """The text of RISC-V with its calls of libc by the table of addresses."""
-    return re.sub(r"^\tcall\t(mem\w+)(?:@plt)?$", r"\tla\tt1, \1\n\tjalr\tt1", text, flags=re.M)
-
-
 def made(clang, module, target):
     """The text for a target, of a module in the file of that name; `clang` runs the kit's."""
     own = (f"--target={target.triple}", "-Wno-override-module", "-x", "ir", "-S")
@@ -88,5 +83,4 @@ def made(clang, module, target):
     clang(*own, *OPTIONS, *target.options, changed, "-o", to)
     # What GNU's assembler doesn't know: the versions of RISC-V's extensions, and the second version of Windows' tables. (variant_cc
     # is for calls by way of the loader, and no export has it.)
-    text = re.sub(r"^\t\.(?:attribute|variant_cc|seh_startepilogue|seh_endepilogue)\b.*\n", "", to.read_text(), flags=re.M)
-    return text if target.suffix else by_table(text)
+    return re.sub(r"^\t\.(?:attribute|variant_cc|seh_startepilogue|seh_endepilogue)\b.*\n", "", to.read_text(), flags=re.M)
