@@ -15,9 +15,12 @@ Call = Tuple[str, list, Optional[type]]
 def load(name: str, version: int, calls: Iterable[Call]) -> ctypes.CDLL:
     """The library of that name, from the file that the variable of its name in capitals names, or where the loader
     searches. `version` is 100 times the first number plus the second: before 1.0, structs may grow with either."""
-    found = os.environ.get(name.upper()) or ctypes.util.find_library(name)
+    numbers = f"{version // 100}.{version % 100}"
+    file = f"lib{name}-{numbers}.dll" if os.name == "nt" else f"lib{name}.so.{numbers}"
+    # On Windows the search is for a file, in PATH.
+    found = os.environ.get(name.upper()) or ctypes.util.find_library(file if os.name == "nt" else name)
     try:
-        c = ctypes.CDLL(found or f"lib{name}.so.{version // 100}.{version % 100}")
+        c = ctypes.CDLL(found or file)
     except OSError as error:
         raise ImportError(f"{error}: install the library by 'make -C dist install', or name its file in the variable "
                           f"{name.upper()}") from None

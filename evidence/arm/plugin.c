@@ -1,7 +1,7 @@
 /* A plugin of qemu that follows what runs between two marks: how many instructions, which ones in which order, and
  * which addresses they read and write. Each time it meets the second mark it writes a line with tabs: instructions, a
- * hash of their addresses, reads and writes, a hash of the addresses of those, and byte shuffles. For
- * RISC-V it is compiled with RISCV.
+ * hash of their addresses, reads and writes, a hash of the addresses of those, and byte shuffles. It
+ * is compiled with RISCV or X86 for these.
  * usage: qemu-aarch64 -plugin plugin.so,out=FILE PROGRAM .. */
 #include <stdbool.h>
 #include <stddef.h>
@@ -27,8 +27,10 @@ uint64_t qemu_plugin_insn_vaddr(const struct qemu_plugin_insn *);
 __attribute__((visibility("default"))) int qemu_plugin_version = 1;
 
 /* The marks are hints that no processor knows, so that they do nothing: see marks.h. A shuffle is vrgather.vv, or tbl by one to
- * four registers, of eight or sixteen bytes. */
-#ifdef RISCV
+ * four registers, of eight or sixteen bytes; those of x86-64 aren't counted. */
+#if defined X86
+enum { NOPL = 0x401f0f, BEGIN = NOPL | 112 << 24, END = NOPL | 113 << 24, SHUFFLE = 1, SHUFFLE_BITS = 0 };
+#elif defined RISCV
 enum { ADDI = 0x13, BEGIN = ADDI | 112 << 20, END = ADDI | 113 << 20, SHUFFLE = 0x30000057, SHUFFLE_BITS = 0xfc00707f };
 #else
 enum { HINT = 0xd503201f, BEGIN = HINT | 112 << 5, END = HINT | 113 << 5, SHUFFLE = 0x0e000000, SHUFFLE_BITS = 0xbfe09c00 };
