@@ -37,12 +37,11 @@
  * A struct fotsgure_aes_ctr belongs to one thread at a time; a copy of it would give out the same keystream again.
  *
  * A block cipher alone protects no message, and counter mode doesn't show whether a message was changed. For
- * messages take fotsgure_gcm.h.
- *
- * This header needs C99 or C++11. */
+ * messages take fotsgure_gcm.h. */
 #ifndef FOTSGURE_AES_H
 #define FOTSGURE_AES_H
 
+/* It needs C99 or C++11. */
 #include <stddef.h>
 #include <stdint.h>
 
