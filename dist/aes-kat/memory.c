@@ -1,11 +1,11 @@
 /* What the program aes-kat takes from C beside libc's own calls: memory that grows, and the number of the last error. */
 #include <errno.h>
-#include <stdint.h>
+#include <stdbool.h>
 #include <stdlib.h>
 
-/* Memory, if there was some. As C's bool this would be one byte of a register whose others may hold anything. */
+/* Memory, if there was some. */
 struct memory {
-    uint64_t is_there;
+    bool is_there;
     void *at;
 };
 
