@@ -13,8 +13,9 @@ use aes_cipher::cipher::{BlockCipherDecClosure, BlockCipherEncClosure, Decrypt, 
 use aes_cipher::zeroize::wipe_stack;
 use aes_planes::soft::word::Block;
 
-// How many blocks of stack a closure takes that works on batches, as those of this library's modes do on the widest words.
-const CLOSURE_STACK: usize = 160;
+// How many bytes of stack a closure takes at most that works on batches, as those of this library's modes do. From 2 KB on
+// libc's memset takes a slower way.
+const CLOSURE_STACK: usize = 2032;
 
 // Calls a closure with planes to encrypt. In a call of its own, so that its stack can be wiped.
 #[inline(never)]

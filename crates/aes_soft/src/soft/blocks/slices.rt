@@ -82,8 +82,8 @@ pub fn process_batches_under<W: Word, D: PlaneCipher>(
     }
 }
 
-// How many blocks of stack the work on batches takes.
-const BATCHES_STACK: usize = 64;
+// How many bytes of stack the work on batches takes at most.
+const BATCHES_STACK: usize = 1024;
 
 // Processes whole batches in a call of its own, so that its stack can be wiped.
 #[inline(never)]
