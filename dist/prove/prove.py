@@ -14,6 +14,7 @@ from bits import Domain, Unproved
 from calls import Call
 from machine import Program
 from standards import pinned
+from vectors import checked
 from x86_64 import X86_64
 
 HERE = os.path.dirname(os.path.abspath(__file__))
@@ -85,11 +86,11 @@ def gcm_cases(k, everything):
         yield "seal %d, %d" % (a, n), k.seal(a, n)
     for a, n in [(0, 0), (13, 33)] + (lengths if everything else []):
         yield "open %d, %d" % (a, n), k.open(a, n)
-    for length, counter, before in ((8, 1, ()), (1, 2 ** 32 - 1, ()), (60, 2 ** 32 - 2, (7, 0, 255, 255))):
-        first = k.nonce_of(length, counter, before)
-        yield "seal with a nonce of %d bytes, J_0 ends in %x" % (length, counter), k.seal(5, 40, first)
-        yield "begin with a nonce of %d bytes, J_0 ends in %x" % (length, counter), k.begin(first)
-    yield "open with a nonce of 20 bytes, J_0 ends in ffffffff", k.open(3, 20, k.nonce_of(20, 2 ** 32 - 1))
+    for length, counter, before in ((8, 1, ()), (1, 2 ** 32 - 1, (7, 0, 255, 255)), (60, 2 ** 32 - 2, (255, 255, 255, 255))):
+        first, what = k.nonce_of(length, counter, before), "with a nonce of %d bytes, J_0 ends in %x" % (length, counter)
+        yield "seal " + what, k.seal(5, 40, first)
+        yield "begin " + what, k.begin(first)
+        yield "open " + what, k.open(3, 20, first)
     for counter in (None, 2 ** 64 - 1, 2 ** 96 - 2):
         yield "seal_next after %s" % counter, k.seal_next(3, 20, counter)
         yield "begin_next after %s" % counter, k.begin_next(counter)
@@ -104,7 +105,7 @@ def gcm_cases(k, everything):
         yield "decrypt %d after %d of %d" % (n, before, text), k.decrypt(text, before, n)
     for phase, a, n in ((gcm.ADDITIONAL, 0, 0), (gcm.ADDITIONAL, 5, 0), (gcm.ENCRYPTING, 5, 16), (gcm.ENCRYPTING, 16, 7)):
         yield "finish after %d, %d, phase %d" % (a, n, phase), k.finish(phase, a, n)
-        yield "accept after %d, %d, phase %d" % (a, n, phase), k.accept(phase if a % 16 == 0 or phase == 1 else gcm.VERIFYING, a, n)
+        yield "accept after %d, %d, phase %d" % (a, n, phase), k.accept(phase if phase == gcm.ADDITIONAL else gcm.VERIFYING, a, n)
     for length in (4, 8, 12, 13, 14, 15):
         yield "accept_short of %d bytes" % length, k.accept(gcm.VERIFYING, 16, 7, length)
     for i, call in enumerate(k.refused()):
@@ -134,7 +135,8 @@ class Task:
 
     def __init__(self, options, build, key_size, compared):
         self.options, self.build, self.key_size = options, build, key_size
-        self.compared, self.used, self.lines, self.proved, self.failed = set(compared), set(), [], 0, 0
+        self.compared, self.used, self.lines, self.proved, self.failed, self.vectors = (
+            set(compared), set(), [], 0, 0, 0)
 
     def run(self):
         start = time.process_time()
@@ -143,6 +145,7 @@ class Task:
         keyed = (gcm.KeyedGcm if library == "gcm" else aes.Keyed)(program, self.key_size)
         self.case("set_key", keyed.set_key)
         if not self.failed:
+            self.vectors = checked(keyed)
             number = Call(library + "_version", [], version(self.options.dist, library))
             self.case("version", lambda seed: keyed.proved(number, seed))
             for what, call in (gcm_cases if library == "gcm" else aes_cases)(keyed, self.options.all):
@@ -202,7 +205,7 @@ def main():
     os.makedirs(options.out, exist_ok=True)
     options.processor = "avx2" in open("/proc/cpuinfo").read()
     start, proved, failed, used, compared = time.time(), 0, 0, set(), set()
-    print("the standards' results on %d vectors" % pinned(Domain()))
+    vectors = pinned(Domain())
     for what, fault in header_cases(options.dist):
         print("%s: %s" % (what, fault or "as in the statements"))
         proved, failed = proved + (not fault), failed + bool(fault)
@@ -210,11 +213,11 @@ def main():
         print("\n".join(task.lines + ["%s.s, key of %d bytes: %d proved, %d failed, %.0f s" % (
             task.build, task.key_size, task.proved, task.failed, task.seconds)]), flush=True)
         proved, failed = proved + task.proved, failed + task.failed
-        used, compared = used | task.used, compared | task.compared
+        used, compared, vectors = used | task.used, compared | task.compared, vectors + task.vectors
     alone = sorted(used - compared)
     print("%d forms of instructions; %s" % (len(used), "no processor with AVX2 here, so none was compared with it" if not options.processor
                                             else "the processor agreed on all but: " + (", ".join(alone) or "none")))
-    print("%.0f s" % (time.time() - start))
+    print("%d vectors of the standards; %.0f s" % (vectors, time.time() - start))
     print("%d proved, %d failed" % (proved, failed))
     return failed != 0
 
