@@ -195,8 +195,9 @@ def instructions(options):
     """Each instruction of these calls, with the shortest one in which it occurs."""
     keyed, out = keyed_of(options, "aes"), {}
     for m, what in sorted(((prove_part(keyed, what), what) for what in PARTS), key=lambda p: p[0].steps):
-        for name in {form.split()[0] for form in m.used} - {"nop"}:
-            out.setdefault(name, what)
+        for name in {form.split()[0] for form in m.used} - {"nop", "xchg"}:  # xchg is padding too
+            if name != "ret" or m.used["ret"] > 1:
+                out.setdefault(name, what)
     return out
 
 

@@ -135,8 +135,7 @@ class Task:
 
     def __init__(self, options, build, key_size, compared):
         self.options, self.build, self.key_size = options, build, key_size
-        self.compared, self.used, self.lines, self.proved, self.failed, self.vectors = (
-            set(compared), set(), [], 0, 0, 0)
+        self.compared, self.used, self.proved, self.failed, self.vectors = set(compared), set(), 0, 0, 0
 
     def run(self):
         start = time.process_time()
@@ -167,9 +166,9 @@ class Task:
         except Unproved as e:
             text = "NOT PROVED: %s" % e
             self.failed += 1
-        if self.options.all or self.options.lines or text.startswith("NOT"):
-            self.lines.append("%s.s, key of %d bytes, %s: %s; %.1f s" % (
-                self.build, self.key_size, what, text, time.process_time() - start))
+        if self.options.lines or text.startswith("NOT"):
+            print("%s.s, key of %d bytes, %s: %s; %.1f s" % (
+                self.build, self.key_size, what, text, time.process_time() - start), flush=True)
 
 
 def run_task(*arguments):
@@ -210,8 +209,8 @@ def main():
         print("%s: %s" % (what, fault or "as in the statements"))
         proved, failed = proved + (not fault), failed + bool(fault)
     for task in tasks(options):
-        print("\n".join(task.lines + ["%s.s, key of %d bytes: %d proved, %d failed, %.0f s" % (
-            task.build, task.key_size, task.proved, task.failed, task.seconds)]), flush=True)
+        print("%s.s, key of %d bytes: %d proved, %d failed, %.0f s" % (
+            task.build, task.key_size, task.proved, task.failed, task.seconds), flush=True)
         proved, failed = proved + task.proved, failed + task.failed
         used, compared, vectors = used | task.used, compared | task.compared, vectors + task.vectors
     alone = sorted(used - compared)
