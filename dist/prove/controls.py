@@ -8,6 +8,7 @@ import sys
 
 import aes
 import gcm
+import leak
 import x86_64
 from bits import Unproved
 from machine import Pointer
@@ -130,6 +131,21 @@ def fault(options, build, k):
     return False, "MISSED: %s (%s.s:%d)" % (what, build, line)
 
 
+def leaked(options, wiped):
+    """Whether the last round key is found if the wipe of the stack is taken out, and nothing of it in the text of dist."""
+    keyed, path = keyed_of(options, "aes"), options.out + "/leak"
+    right = keyed.program
+    if not wiped:
+        text = open(options.dist + "/x86_64/aes.s").read()
+        open(path + ".s", "w").write(edited(text, BATCHES, r"\tcallq\t\"aes_cipher::zeroize::stack::wipe_stack.*\n", "")[0])
+        keyed.program = link(path + ".s", path)
+    found = [leak.found(keyed, n) for n in (16, 17, 31)]
+    keyed.program = right
+    good = all(f == (0, 0) for f in found) if wiped else (16, 16) in found
+    return good, "%s: bytes of the last round key, computed from the stack after 16, 17 and 31 blocks, %s the wipe: %s" % (
+        "as it has to be" if good else "MISSED", "with" if wiped else "without", ", ".join("%d (%d right)" % f for f in found))
+
+
 # Wrong meanings: what an instruction writes is off by one. The processor has to disagree.
 def off_by_one(m, value):
     if isinstance(value, int):
@@ -212,6 +228,7 @@ def main():
     with concurrent.futures.ProcessPoolExecutor(options.jobs) as pool:
         tries = [pool.submit(fault, options, build, k) for build, faults in (("aes", AES_FAULTS), ("gcm", GCM_FAULTS))
                  for k, f in enumerate(faults) if options.only in f[0]]
+        tries += [pool.submit(leaked, options, wiped) for wiped in (False, True) if not options.only]
         if not options.only and "avx2" in open("/proc/cpuinfo").read():
             tries += [pool.submit(wrong_meaning, options, *p) for p in sorted(instructions(options).items())]
         refused = missed = 0

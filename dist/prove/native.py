@@ -139,9 +139,10 @@ class Native:
                 yield "ymm%d is %s and not %s" % (n, have.hex(), want.hex())
 
     def finish(self):
+        self.memory_of = {}
         for name, region in self.m.regions.items():
             self.memory.seek(self.values.base[name])
-            have = self.memory.read(len(region.content))
+            have = self.memory_of[name] = self.memory.read(len(region.content))
             for k, b in enumerate(region.content):
                 if self.values.byte(b) not in (None, have[k]):
                     raise Unproved("on the processor byte %d of %s differs" % (k, name))
