@@ -6,7 +6,7 @@ use aes_cipher::cipher::Block;
 use std::sync::atomic::{AtomicU64, Ordering};
 
 /// How many blocks of stack a call takes that prepares a key, hashes or compares.
-pub(crate) const SHALLOW: usize = 32;
+pub const SHALLOW: usize = 32;
 
 /// How many a call on a message takes, as deep as counter mode keeps the first counter block: on words of 256 bits, and so
 /// on narrower ones.
@@ -16,7 +16,7 @@ pub(crate) const DEEP: usize = 320;
 /// compiled is searched. A compiler may leave out writes that nothing reads, so a byte is read at a place that comes out of an
 /// atomic, and goes into it.
 #[inline(never)]
-pub(crate) fn wipe_stack<const BLOCKS: usize>()
+pub fn wipe_stack<const BLOCKS: usize>()
     requires { BLOCKS ≤ 320 }
 {
     let room: [Block; BLOCKS] = [[0; 16]; BLOCKS];
