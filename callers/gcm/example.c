@@ -1,16 +1,19 @@
-/* A message is sealed under the next nonce of a counter that is kept in a file, and opened again.
+/* A message is sealed under the next nonce of a counter that is kept in a file beside its key, and opened again.
  *
- *   example FOLDER    FOLDER keeps the key and the counter: nobody else may read it
+ *   example seal FOLDER > MESSAGE    with the file FOLDER/key, which it makes if there is none
+ *   example open FILE < MESSAGE      with the file of its key: FOLDER/key, or where that was moved
  *
- * The order is what keeps a nonce from being used twice: lock, read the counter, seal, store the counter, unlock, and
- * only then send. A crash in between loses a nonce, which does no harm.
+ * The order is what keeps a nonce from being used twice: lock, read key and counter, seal, store both, unlock, and only
+ * then send. A crash in between loses a nonce, which does no harm.
  *
  *  - Two processes, and two threads: the second waits for the lock, and reads what the first has stored.
- *  - A forked child: the same. Each call opens the folder anew and reads the file, and no counter stays in memory, where
- *    a fork would copy it.
- *  - A snapshot or a backup that is restored: the counter goes back, the nonces come again, and nothing here can see it.
- *    TAKE A NEW KEY before the next message. So too if the counter is lost or short, which is refused here: never begin
- *    again at zero under a key that was used.
+ *  - A forked child: the same. Each call opens the folder anew and reads the file, and no counter stays in memory,
+ *    where a fork would copy it.
+ *  - A new key: move the file away (mv FOLDER/key FOLDER/key.1), and the next message draws one. The counter goes along
+ *    with its key. Old messages are opened with the old file, by a call that can't seal.
+ *  - A copy of the file that comes back, from a backup or a snapshot: its counter is an old one, the nonces come
+ *    again, and nothing here can see it. TAKE A NEW KEY before the next message. So too if the file is damaged, which
+ *    is refused here.
  *  - A file system without flock(2) for folders, as over a network, won't do. */
 #define _GNU_SOURCE
 #include <fotsgure_gcm.h>
@@ -21,107 +24,132 @@
 #include <string.h>
 #include <sys/file.h>
 #include <sys/random.h>
+#include <sys/stat.h>
 #include <unistd.h>
 
-/* Reads a file of just so many bytes. Returns 1 if it is there and has them. */
-static int load(int folder, const char *name, uint8_t *bytes, size_t length)
-{
-    uint8_t more;
-    int file = openat(folder, name, O_RDONLY | O_CLOEXEC);
-    int loaded = file >= 0 && read(file, bytes, length) == (ssize_t)length && read(file, &more, 1) == 0;
-    if (file >= 0)
-        close(file);
-    return loaded;
-}
-
-/* Writes another file, which is flushed and then takes the name, and flushes the folder: after a crash one of the two is
- * there, whole. Returns 1 if the new one is. */
-static int store(int folder, const char *name, const uint8_t *bytes, size_t length)
-{
-    int file = openat(folder, "new", O_WRONLY | O_CREAT | O_TRUNC | O_CLOEXEC, 0600);
-    int stored = file >= 0 && write(file, bytes, length) == (ssize_t)length && fsync(file) == 0;
-    if (file >= 0 && close(file) != 0)
-        stored = 0;
-    return stored && renameat(folder, "new", folder, name) == 0 && fsync(folder) == 0;
-}
-
-/* Draws a key from the system's generator if there is none yet: a password is no key. The key is stored first, so that
- * no counter of zeros ever stands beside a key that was used. */
-static int has_key(int folder)
-{
+/* What the file holds: a key, and the next nonce under it. They are written and moved together, so that no key ever
+ * stands beside the counter of another. */
+struct kept {
     uint8_t key[32];
-    const uint8_t zero[FOTSGURE_GCM_NONCE] = {0};
-    if (faccessat(folder, "key", F_OK, 0) == 0)
-        return 1;
-    int made = errno == ENOENT && getrandom(key, sizeof key, 0) == sizeof key && store(folder, "key", key, sizeof key) &&
-        store(folder, "counter", zero, sizeof zero);
-    explicit_bzero(key, sizeof key);
-    return made;
-}
-
-static int set_key(int folder, struct fotsgure_gcm *gcm)
-{
-    uint8_t key[32];
-    int set = load(folder, "key", key, sizeof key) && fotsgure_gcm_set_key(gcm, key, sizeof key) == FOTSGURE_GCM_DONE;
-    explicit_bzero(key, sizeof key);
-    return set;
-}
+    struct fotsgure_gcm_counter counter;
+};
 
 /* A message with what goes along in the clear: all of it is sent. */
 struct sealed {
     uint8_t name[16], nonce[FOTSGURE_GCM_NONCE], text[32], tag[FOTSGURE_GCM_TAG];
 };
 
+/* Says what failed and why: `why`, or without it what the system says. Returns 0. */
+static int fails(const char *what, const char *why)
+{
+    fprintf(stderr, "example: %s: %s\n", what, why ? why : strerror(errno));
+    return 0;
+}
+
+/* The calls below return 1, or 0 once they have said what failed. */
+
+static int load(int folder, const char *name, struct kept *kept)
+{
+    uint8_t more;
+    int file = openat(folder, name, O_RDONLY | O_CLOEXEC);
+    ssize_t length = file < 0 ? -1 : read(file, kept, sizeof *kept);
+    int loaded = length == (ssize_t)sizeof *kept && read(file, &more, 1) == 0;
+    if (length < 0)
+        fails(name, NULL);
+    else if (!loaded)
+        fails(name, "it hasn't the 44 bytes of a key and its counter. Move it away: the next message draws a new key");
+    if (file >= 0)
+        close(file);
+    return loaded;
+}
+
+/* Draws a key from the system's generator: a password is no key. */
+static int draw(struct kept *kept)
+{
+    memset(&kept->counter, 0, sizeof kept->counter);
+    return getrandom(kept->key, sizeof kept->key, 0) == sizeof kept->key || fails("no key was drawn", NULL);
+}
+
+/* Writes another file, which is flushed and then takes the name, and flushes the folder: after a crash one of the two
+ * is there, whole. */
+static int store(int folder, const char *name, const struct kept *kept)
+{
+    int file = openat(folder, "new", O_WRONLY | O_CREAT | O_TRUNC | O_CLOEXEC, 0600);
+    if (file >= 0)
+        errno = ENOSPC; /* the reason if it takes fewer bytes than it was given */
+    int stored = file >= 0 && write(file, kept, sizeof *kept) == (ssize_t)sizeof *kept && fsync(file) == 0;
+    if (file >= 0 && close(file) != 0)
+        stored = 0;
+    return (stored && renameat(folder, "new", folder, name) == 0 && fsync(folder) == 0) ||
+        fails("the counter was not stored, so nothing is sent, and the key is as good as before", NULL);
+}
+
+static int seal_next(struct kept *kept, struct sealed *it)
+{
+    struct fotsgure_gcm gcm = {0};
+    int sealed = fotsgure_gcm_set_key(&gcm, kept->key, sizeof kept->key) == FOTSGURE_GCM_DONE &&
+        fotsgure_gcm_seal_next(&gcm, &kept->counter, it->nonce, it->name, sizeof it->name, it->text, sizeof it->text,
+            it->tag) == FOTSGURE_GCM_DONE;
+    fotsgure_gcm_wipe(&gcm);
+    return sealed || fails("key", "no nonce is left. Move it away: the next message draws a new key");
+}
+
+/* Opens the folder and waits for its lock. Returns -1 if that fails, or if others may write the folder: they could put
+ * an old counter back. */
+static int locked(const char *path)
+{
+    struct stat about;
+    int folder = open(path, O_RDONLY | O_DIRECTORY | O_CLOEXEC), is_ours = 0;
+    if (folder < 0 || fstat(folder, &about) != 0 || flock(folder, LOCK_EX) != 0)
+        fails(path, NULL);
+    else if (about.st_uid != geteuid() || (about.st_mode & (S_IWGRP | S_IWOTH)) != 0)
+        fails(path, "others may write this folder. Take one of your own, with chmod 700");
+    else
+        is_ours = 1;
+    if (folder >= 0 && !is_ours)
+        close(folder);
+    return is_ours ? folder : -1;
+}
+
 /* Encrypts the text in place. Send it if this returns 1, and if not, send nothing of it. */
 static int seal(const char *path, struct sealed *it)
 {
-    struct fotsgure_gcm gcm = {0};
-    struct fotsgure_gcm_counter counter;
-    int folder = open(path, O_RDONLY | O_DIRECTORY | O_CLOEXEC);
-    int sealed = folder >= 0 && flock(folder, LOCK_EX) == 0 && has_key(folder) && set_key(folder, &gcm) &&
-        load(folder, "counter", counter.next, sizeof counter.next) &&
-        fotsgure_gcm_seal_next(&gcm, &counter, it->nonce, it->name, sizeof it->name, it->text, sizeof it->text,
-            it->tag) == FOTSGURE_GCM_DONE &&
-        store(folder, "counter", counter.next, sizeof counter.next);
-    fotsgure_gcm_wipe(&gcm);
-    if (folder >= 0) {
-        flock(folder, LOCK_UN);
-        close(folder);
-    }
+    struct kept kept;
+    int folder = locked(path);
+    if (folder < 0)
+        return 0;
+    int is_first = faccessat(folder, "key", F_OK, 0) != 0 && errno == ENOENT;
+    int sealed = (is_first ? draw(&kept) : load(folder, "key", &kept)) && seal_next(&kept, it) &&
+        store(folder, "key", &kept);
+    explicit_bzero(&kept, sizeof kept);
+    flock(folder, LOCK_UN);
+    close(folder);
     return sealed;
 }
 
-/* Decrypts the text in place. Returns 1 if nothing was changed. */
-static int opened(const char *path, struct sealed *it)
+/* Decrypts the text in place, if nothing was changed, with the key of the file that is named: the present one or an
+ * older. */
+static int open_with(const char *file, struct sealed *it)
 {
+    struct kept kept;
     struct fotsgure_gcm gcm = {0};
-    int folder = open(path, O_RDONLY | O_DIRECTORY | O_CLOEXEC);
-    int right = folder >= 0 && set_key(folder, &gcm) &&
+    int loaded = load(AT_FDCWD, file, &kept);
+    int opened = loaded && fotsgure_gcm_set_key(&gcm, kept.key, sizeof kept.key) == FOTSGURE_GCM_DONE &&
         fotsgure_gcm_open(&gcm, it->nonce, sizeof it->nonce, it->name, sizeof it->name, it->text, sizeof it->text,
             it->tag, sizeof it->tag) == FOTSGURE_GCM_DONE;
     fotsgure_gcm_wipe(&gcm);
-    if (folder >= 0)
-        close(folder);
-    return right;
+    explicit_bzero(&kept, sizeof kept);
+    return opened || (loaded && fails("the message", "it was changed, or sealed under another key"));
 }
 
 int main(int count, char **words)
 {
     struct sealed it = {"its name", {0}, "a message", {0}};
-    if (count != 2) {
-        fprintf(stderr, "usage: example FOLDER\n");
-        return 2;
-    }
-    if (!seal(words[1], &it)) {
-        fprintf(stderr, "not sealed: there is no such folder, or its counter is lost or short. To go on, move the "
-            "file `key` away (keep it to open old messages) and run this again: it draws a new key\n");
-        return 1;
-    }
-    /* It is sent here: it.name, it.nonce, it.text and it.tag. */
-    printf("nonce ");
-    for (size_t i = 0; i < sizeof it.nonce; i++)
-        printf("%02x", it.nonce[i]);
-    int right = opened(words[1], &it) && strcmp((char *)it.text, "a message") == 0;
-    printf(right ? ", the message came back\n" : ", wrong\n");
-    return !right;
+    if (count == 3 && strcmp(words[1], "seal") == 0)
+        return !(seal(words[2], &it) && fwrite(&it, sizeof it, 1, stdout) == 1 && fflush(stdout) == 0);
+    if (count == 3 && strcmp(words[1], "open") == 0)
+        return !((fread(&it, sizeof it, 1, stdin) == 1 || fails("the message", "it is too short")) &&
+            open_with(words[2], &it) && printf("%.32s\n", (char *)it.text) > 0);
+    fprintf(stderr, "usage: example seal FOLDER > MESSAGE, or: example open FILE < MESSAGE\n");
+    return 2;
 }

@@ -80,7 +80,7 @@ for thing in (16, 0, -1, True, 1.5, None, [0] * 16, (0,) * 16, [256] * 16, range
     expect(refused(lambda: aes.decrypt(thing), TypeError), f"{thing!r} is no text to decrypt")
     expect(refused(lambda: aes.keystream(thing), TypeError), f"{thing!r} is no initial counter block")
     expect(refused(lambda: aes.keystream(F_IV).apply(thing), TypeError), f"{thing!r} is no text for a keystream")
-expect(refused(lambda: aes.encrypt(memoryview(bytes(64))[::2]), TypeError), "bytes with gaps are refused")
+expect(refused(lambda: aes.encrypt(memoryview(bytes(64))[::2]), BufferError), "bytes with gaps are refused")
 for position in (-1, -16, 2 ** 64, 2 ** 64 + 16, 2 ** 200):
     expect(refused(lambda: aes.keystream(F_IV, position)), f"no keystream has a position {position}")
 for position in (1.0, "1", None, b"1"):

@@ -1,9 +1,15 @@
-"""The modules for Python, GCM and AESGCM: test cases 2, 4 and 16 of the submission of GCM (McGrew and Viega, appendix B),
-texts of 0 to 300 bytes there and back, every refusal, and arguments that are no bytes. The last line is
-`N passed, N failed`."""
+"""The modules for Python, GCM and AESGCM: test cases 2, 4 and 16 of the submission of GCM (McGrew and Viega, appendix
+B), texts of 0 to 300 bytes there and back, every refusal, arguments that are no bytes, threads, forks, and the package
+cryptography 48 beside AESGCM if it is installed. The last line is `N passed, N failed`."""
 import array
+import copy
+import ctypes
 import os
+import pickle
+import signal
+import subprocess
 import sys
+import threading
 
 from fotsgure_aead import AESGCM, InvalidTag
 from fotsgure_gcm import VERSION, Gcm, Refused
@@ -131,15 +137,96 @@ expect(gcm.counter == bytes(12), "a refused call moves no counter")
 words, text = array.array("I", range(9)), array.array("I", range(9)).tobytes()
 expect(words.itemsize == 4 and gcm.seal(words[:3], words, words) == gcm.seal(text[:12], text, text), "arrays")
 expect(gcm.open(words[:3], bytearray(gcm.seal(text[:12], text)), memoryview(b"")) == text, "a bytearray, a memoryview")
-# A counter is of one process: a child that was forked may not go on with it.
+for thing in (ctypes.c_int(4), ctypes.c_ubyte(4), memoryview(b"4").cast("B", ()), (ctypes.c_void_p * 2)()):
+    expect(raises(TypeError, gcm.seal, NONCE, thing), f"{thing!r} is a number or a pointer, and no bytes")
+expect(raises(BufferError, gcm.seal, NONCE, memoryview(PLAIN)[::2]), "a view with gaps")
+try:
+    import numpy
+except ImportError:
+    print("skipped: what numpy has for bytes (numpy is not installed)")
+else:
+    for thing in (numpy.uint8(4), numpy.array(4, "u1"), numpy.datetime64("2026-11-26"), numpy.array([object()]),
+                  numpy.array(["2026-11-26"], "M8[D]"), numpy.zeros(2, [("a", "u1")])):
+        expect(raises(TypeError, gcm.seal, NONCE, thing), f"{thing!r} of numpy is no bytes")
+    for thing in (numpy.arange(9, dtype="u4"), numpy.zeros((2, 3), "u1"), numpy.zeros(0, "u4")):
+        expect(gcm.seal(NONCE, thing) == gcm.seal(NONCE, thing.tobytes()), f"{thing!r} of numpy")
+    expect(raises(BufferError, gcm.seal, NONCE, numpy.zeros((2, 3), "u1", order="F")), "an array with gaps")
+
+# A library of another name, and one that is none.
+for name in ("libc.so.6", "libm.so.6", os.devnull):
+    ended = subprocess.run([sys.executable, "-c", "import fotsgure_gcm"], stderr=subprocess.PIPE, text=True,
+                           env={**os.environ, "FOTSGURE_GCM": name, "PYTHONPATH": os.path.dirname(__file__)})
+    expect(ended.stderr.splitlines()[-1].startswith("ImportError: "), f"FOTSGURE_GCM={name}: {ended.stderr}")
+
+# A counter and a message are of one process: a child that was forked may not go on with them. It doesn't wait for locks
+# that another thread held when it was forked, and what belongs to no process works.
+busy, done, message = threading.Event(), threading.Event(), gcm.begin(NONCE)
+
+
+def hold_locks():
+    with gcm._turn, gcm._uses, gcm._uses._change, message._turn:
+        busy.set()
+        done.wait()
+
+
+thread = threading.Thread(target=hold_locks)
+thread.start()
+busy.wait()
 child = os.fork()
 if child == 0:
-    refused = raises(ValueError, gcm.seal_next, PLAIN) and raises(ValueError, gcm.begin_next)
-    os._exit(0 if refused and gcm.seal(NONCE, PLAIN) else 1)
-expect(os.waitpid(child, 0)[1] == 0, "a forked child has no counter, and seals under a nonce of its own")
-expect(gcm.seal_next(PLAIN)[0] == bytes(12), "the parent goes on")
+    signal.alarm(20)
+    refused = [raises(ValueError, call, *arguments) for call, *arguments in (
+        (gcm.seal_next, PLAIN), (gcm.begin_next,), (getattr, gcm, "counter"), (message.encrypt, PLAIN), (message.finish,))]
+    sealed = gcm.seal(NONCE, PLAIN)
+    message.wipe()
+    gcm.wipe()
+    os._exit(0 if all(refused) and sealed and raises(ValueError, gcm.seal, NONCE, PLAIN) else 1)
+expect(os.waitpid(child, 0)[1] == 0, "a forked child has no counter and no message, and seals under a nonce of its own")
+done.set()
+thread.join()
+expect(gcm.seal_next(PLAIN)[0] == bytes(12) and gcm.counter == bytes(11) + b"\1", "the parent goes on")
+expect(len(message.encrypt(PLAIN)) == len(PLAIN), "the parent's message goes on")
 
-# AESGCM of the package cryptography: its names, its errors, its order of arguments.
+# One message in four threads: no two of its pieces have the same keystream.
+sys.setswitchinterval(1e-5)
+for number in range(20):
+    message, start, pieces = gcm.begin(number.to_bytes(12, "big")), threading.Barrier(4), []
+
+
+    def encrypt_piece():
+        start.wait()
+        pieces.append(message.encrypt(bytes(1 << 18)))
+
+
+    threads = [threading.Thread(target=encrypt_piece) for _ in range(4)]
+    for thread in threads:
+        thread.start()
+    for thread in threads:
+        thread.join()
+    expect(len({piece[:16] for piece in pieces}) == 4, "one message in four threads")
+
+# A key that is wiped while another thread seals: what was sealed is under the key, and not under zeros.
+for _ in range(10):
+    wiped, sealed, first = Gcm(KEY, bytes(12)), [], threading.Event()
+
+
+    def seal_on():
+        try:
+            while True:
+                sealed.append(wiped.seal_next(bytes(1 << 17)))
+                first.set()
+        except ValueError:
+            pass
+
+
+    thread = threading.Thread(target=seal_on)
+    thread.start()
+    first.wait()
+    wiped.wipe()
+    thread.join()
+    expect(not raises(Refused, gcm.open, *sealed[-1]), "sealed while another thread wipes")
+
+# AESGCM of the package cryptography, version 48: its names, its errors, its order of arguments.
 for key, nonce, additional, plain, sealed in CASES:
     aead = AESGCM(key)
     expect(aead.encrypt(nonce, plain, additional).hex() == sealed, "AESGCM.encrypt")
@@ -159,5 +246,65 @@ for thing in NOTHINGS:
         expect(raises(TypeError, call, thing, PLAIN, None), f"{call} under {thing!r}")
         expect(raises(TypeError, call, NONCE, thing, None), f"{call} of {thing!r}")
         expect(raises(TypeError, call, NONCE, PLAIN, thing), f"{call} with {thing!r}")
+SEALED, GAPS = aead.encrypt(NONCE, b"0123456789", None), memoryview(bytearray(52))[::2]
+
+
+def into(call, data, place):
+    """What a call returned, and what it wrote."""
+    return call(NONCE, data, None, place), bytes(place)
+
+
+# Calls of a class, and what they come to: recorded of cryptography 48.0.0, which is asked here if it is installed.
+ROWS = (
+    (lambda aes: into(aes.encrypt_into, b"0123456789", bytearray(26)), (26, SEALED)),
+    (lambda aes: into(aes.encrypt_into, b"0123456789", memoryview(bytearray(26)).cast("B", (2, 13))), (26, SEALED)),
+    (lambda aes: into(aes.encrypt_into, b"0123456789", bytearray(25)), ValueError),
+    (lambda aes: into(aes.encrypt_into, b"0123456789", bytearray(27)), ValueError),
+    (lambda aes: into(aes.encrypt_into, b"0123456789", bytes(26)), TypeError),
+    (lambda aes: into(aes.encrypt_into, b"0123456789", GAPS), BufferError),
+    (lambda aes: into(aes.encrypt_into, b"0123456789", None), TypeError),
+    (lambda aes: into(aes.decrypt_into, SEALED, bytearray(10)), (10, b"0123456789")),
+    (lambda aes: into(aes.decrypt_into, SEALED[-16:], bytearray()), InvalidTag),
+    (lambda aes: into(aes.decrypt_into, SEALED, bytearray(9)), ValueError),
+    (lambda aes: into(aes.decrypt_into, SEALED, bytearray(26)), ValueError),
+    (lambda aes: into(aes.decrypt_into, SEALED[:15], bytearray(9)), InvalidTag),
+    (lambda aes: into(aes.decrypt_into, SEALED[:15], bytes(9)), TypeError),
+    (lambda aes: into(aes.decrypt_into, SEALED[:-1] + b"!", bytearray(10)), InvalidTag),
+    (lambda aes: aes.encrypt_into(nonce=bytes(7), data=b"", associated_data=None, buf=bytearray()), ValueError),
+    (lambda aes: aes.decrypt_into(nonce=bytes(7), data=b"", associated_data=None, buf=bytearray()), ValueError),
+    (lambda aes: aes.encrypt(NONCE, GAPS, None), BufferError),
+    (lambda aes: aes.encrypt(NONCE, b"", GAPS), BufferError),
+    (lambda aes: aes.encrypt(NONCE, b""), TypeError),
+    (lambda aes: type(aes).generate_key(128.0), TypeError),
+    (lambda aes: len(type(aes).generate_key(bit_length=192)), 24),
+    (copy.copy, TypeError),
+    (copy.deepcopy, TypeError),
+    (pickle.dumps, TypeError),
+)
+
+
+def outcome(call, aes):
+    try:
+        return call(aes)
+    except Exception as error:
+        return type(error)
+
+
+classes = [AESGCM]
+try:
+    import cryptography
+    if cryptography.__version__.startswith("48."):
+        from cryptography.hazmat.primitives.ciphers.aead import AESGCM as Other
+        classes.append(Other)
+except ImportError:
+    pass
+if len(classes) == 1:
+    print("skipped: the package cryptography beside AESGCM (version 48 is not installed)")
+for number, (call, wanted) in enumerate(ROWS):
+    for each in classes:
+        expect(outcome(call, each(KEY)) == wanted, f"row {number} of {each}: {outcome(call, each(KEY))} and not {wanted}")
+place = bytearray(10)
+expect(raises(InvalidTag, aead.decrypt_into, NONCE, SEALED[:-1] + b"!", None, place) and place == bytes(10),
+       "a refused message leaves the buffer as it was")
 print(f"{sum(checks)} passed, {len(checks) - sum(checks)} failed")
 sys.exit(not all(checks))

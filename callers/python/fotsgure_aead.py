@@ -1,12 +1,16 @@
-"""AESGCM as cryptography.hazmat.primitives.ciphers.aead has it, over the proved library: change the import alone.
+"""AESGCM as version 48 of the package cryptography has it (hazmat.primitives.ciphers.aead), over the proved library:
+change the import alone.
 
-It raises that package's InvalidTag if the package is there, and else its own.
+It has that package's calls and errors, and raises its InvalidTag if the package is there, and else its own. It takes
+more for bytes: the head of fotsgure_gcm says what. If `decrypt_into` raises InvalidTag, the buffer is as it was; that
+package has then written text there that nobody authenticated.
 """
+import operator
 import os
-from typing import Optional, Tuple
+from typing import Any, Optional, Tuple
 
 from fotsgure_gcm import Gcm, Refused
-from fotsgure_library import Bytes, bytes_of
+from fotsgure_library import Bytes, view_of
 
 try:
     from cryptography.exceptions import InvalidTag
@@ -16,7 +20,8 @@ except ImportError:
 
 
 class AESGCM:
-    """A key of 16, 24 or 32 bytes. A nonce is used once under a key; a random one of 12 bytes for at most 2^32 messages."""
+    """A key of 16, 24 or 32 bytes. A nonce is used once under a key. Random ones of 12 bytes: for at most 2^32
+    messages."""
 
     def __init__(self, key: Bytes) -> None:
         self._gcm = Gcm(key)
@@ -24,30 +29,72 @@ class AESGCM:
     @classmethod
     def generate_key(cls, bit_length: int) -> bytes:
         """A key from the system's generator."""
-        if not isinstance(bit_length, int):
-            raise TypeError("bit_length must be an integer")
-        if bit_length not in (128, 192, 256):
+        if operator.index(bit_length) not in (128, 192, 256):
             raise ValueError("bit_length must be 128, 192, or 256")
         return os.urandom(bit_length // 8)
 
     def encrypt(self, nonce: Bytes, data: Bytes, associated_data: Optional[Bytes]) -> bytes:
         """Encrypts: returns the encrypted data and the tag of 16 bytes behind it."""
-        return self._gcm.seal(*self._checked(nonce, data, associated_data))
+        message = _views(nonce, data, associated_data)
+        _check(*message)
+        return self._gcm.seal(*message)
+
+    def encrypt_into(self, nonce: Bytes, data: Bytes, associated_data: Optional[Bytes], buf: Bytes) -> int:
+        """Writes what `encrypt` returns into a buffer of just so many bytes, and returns how many."""
+        message, place = _views(nonce, data, associated_data), _writable(buf)
+        _check(*message)
+        _fits(place, message[1].nbytes + 16)
+        return _put(place, self._gcm.seal(*message))
 
     def decrypt(self, nonce: Bytes, data: Bytes, associated_data: Optional[Bytes]) -> bytes:
         """Decrypts, or raises InvalidTag: also for data of fewer than 16 bytes, whose tag can't be whole."""
+        message = _views(nonce, data, associated_data)
+        _check(*message)
+        return self._opened(*message)
+
+    def decrypt_into(self, nonce: Bytes, data: Bytes, associated_data: Optional[Bytes], buf: Bytes) -> int:
+        """Writes what `decrypt` returns into a buffer of just so many bytes, and returns how many."""
+        message, place = _views(nonce, data, associated_data), _writable(buf)
+        _check(*message)
+        if message[1].nbytes < 16:
+            raise InvalidTag
+        _fits(place, message[1].nbytes - 16)
+        return _put(place, self._opened(*message))
+
+    def _opened(self, *message: Bytes) -> bytes:
         try:
-            return self._gcm.open(*self._checked(nonce, data, associated_data))
+            return self._gcm.open(*message)
         except Refused:
             raise InvalidTag from None
 
-    @staticmethod
-    def _checked(nonce: Bytes, data: Bytes, associated_data: Optional[Bytes]) -> Tuple[bytes, bytes, bytes]:
-        # Lengths come first: an object may say that it is longer than any memory.
-        associated_data = b"" if associated_data is None else associated_data
-        if len(data) > 2 ** 31 - 1 or len(associated_data) > 2 ** 31 - 1:
-            raise OverflowError("Data or associated data too long. Max 2**31 - 1 bytes")
-        nonce = bytes_of(nonce)
-        if not 8 <= len(nonce) <= 128:
-            raise ValueError("Nonce must be between 8 and 128 bytes")
-        return nonce, bytes_of(data), bytes_of(associated_data)
+    def __reduce__(self) -> Any:
+        raise TypeError("cannot pickle or copy a key")
+
+
+def _views(nonce: Bytes, data: Bytes, associated_data: Optional[Bytes]) -> Tuple[memoryview, memoryview, memoryview]:
+    return view_of(nonce), view_of(data), view_of(b"" if associated_data is None else associated_data)
+
+
+def _check(nonce: memoryview, data: memoryview, associated_data: memoryview) -> None:
+    if data.nbytes > 2 ** 31 - 1 or associated_data.nbytes > 2 ** 31 - 1:
+        raise OverflowError("Data or associated data too long. Max 2**31 - 1 bytes")
+    if not 8 <= nonce.nbytes <= 128:
+        raise ValueError("Nonce must be between 8 and 128 bytes")
+
+
+def _writable(buf: Bytes) -> memoryview:
+    view = view_of(buf)
+    if view.readonly:
+        raise TypeError("the buffer is not writable")
+    return view
+
+
+def _fits(place: memoryview, length: int) -> None:
+    if place.nbytes != length:
+        raise ValueError(f"buffer must be {length} bytes")
+
+
+def _put(place: memoryview, data: bytes) -> int:
+    if data:
+        place.cast("B")[:] = data
+    return len(data)

@@ -4,13 +4,13 @@
         aes.encrypt(blocks); aes.decrypt(blocks)           bytes in, bytes out; a bytearray in place
         stream = aes.keystream(iv); stream.apply(data)     counter mode, however data is cut
 
-What is bytes-like is taken by its bytes, and anything else is a TypeError: a number is no bytes. FOTSGURE_AES names the
-library's file; without it the loader searches. Python copies bytes as it likes, so only the key schedule is wiped.
+What counts as bytes is said at the head of fotsgure_gcm. FOTSGURE_AES names the library's file; without it the loader
+searches. Python copies bytes as it likes, so only the key schedule is wiped.
 """
 import ctypes
 from typing import Any, Tuple, Union
 
-from fotsgure_library import Bytes, bytes_of, load, number, room, written
+from fotsgure_library import Bytes, Turn, Uses, bytes_of, load, number, room, written
 
 
 class _Key(ctypes.Structure):
@@ -46,10 +46,11 @@ def _returned(data: Bytes, buffer: Any, length: int) -> Union[bytes, bytearray]:
 
 
 class Aes:
-    """A key of 16, 24 or 32 bytes. `wipe`, or the end of a `with`, wipes its key schedule, not the bytes given."""
+    """A key of 16, 24 or 32 bytes. Threads may share it. `wipe`, or the end of a `with`, wipes its key schedule, not
+    the bytes given. It waits for calls that run, and later ones raise ValueError."""
 
     def __init__(self, key: Bytes) -> None:
-        self._key = _Key()
+        self._key, self._uses = _Key(), Uses()
         key = bytes_of(key)
         if _c.fotsgure_aes_set_key(self._key, key, len(key)) != _DONE:
             raise ValueError("a key has 16, 24 or 32 bytes")
@@ -58,7 +59,9 @@ class Aes:
         buffer, length = _given(data)
         if length % 16:
             raise ValueError("whole blocks of 16 bytes")
-        if call(self._key, buffer, length // 16) != _DONE:
+        with self._uses:
+            status = call(self._key, buffer, length // 16)
+        if status != _DONE:
             raise ValueError("the key was wiped")
         return _returned(data, buffer, length)
 
@@ -75,7 +78,8 @@ class Aes:
         return Keystream(self, iv, position)
 
     def wipe(self) -> None:
-        _c.fotsgure_aes_wipe(self._key)
+        with self._uses.alone():
+            _c.fotsgure_aes_wipe(self._key)
 
     def __enter__(self) -> "Aes":
         return self
@@ -85,14 +89,15 @@ class Aes:
 
 
 class Keystream:
-    """Counter mode under a key, from an initial counter block of 16 bytes on."""
+    """Counter mode under a key, from an initial counter block of 16 bytes on. Threads that share it wait for each
+    other, so that no two get the same keystream. In a process that was forked `apply` raises ValueError."""
 
     def __init__(self, aes: Aes, iv: Bytes, position: int = 0) -> None:
         iv = bytes_of(iv)
         if len(iv) != 16:
             raise ValueError("an initial counter block has 16 bytes")
         position = number(position, 2 ** 64 - 1, "a position")
-        self._aes, self._ctr = aes, _Ctr((ctypes.c_uint8 * 16)(*iv), position)
+        self._aes, self._ctr, self._turn = aes, _Ctr((ctypes.c_uint8 * 16)(*iv), position), Turn("keystream")
 
     @property
     def position(self) -> int:
@@ -102,7 +107,8 @@ class Keystream:
     def apply(self, data: Bytes) -> Union[bytes, bytearray]:
         """Encrypts or decrypts from the position on: returns new bytes, or the bytearray, in place."""
         buffer, length = _given(data)
-        status = _c.fotsgure_aes_add_keystream(self._aes._key, self._ctr, buffer, length)
+        with self._turn, self._aes._uses:
+            status = _c.fotsgure_aes_add_keystream(self._aes._key, self._ctr, buffer, length)
         if status == _KEYSTREAM_END:
             raise ValueError("the keystream ends")
         if status != _DONE:

@@ -12,17 +12,20 @@
 
 A key is os.urandom(32), kept where nobody else reads it; a password is none. No nonce may be used twice under a key.
 Random ones have 12 bytes or more; if any nonce of a key is random or has another length than 12 bytes, take a new key
-before 2^32 messages. What is bytes-like is taken by its bytes, and anything else is a TypeError: a number is no bytes.
+before 2^32 messages.
+
+What counts as bytes: bytes, a bytearray, and whatever else has a length and a C-contiguous buffer of one dimension or
+more that holds numbers or single bytes, as a memoryview, an array.array or an array of numpy. It is taken by its bytes. A
+view with gaps raises BufferError, and anything else TypeError: a number is no bytes, not even one of numpy or ctypes.
+
 FOTSGURE_GCM names the library's file; without it the loader searches. Python copies bytes as it likes, so only the
 prepared key is wiped.
 """
 import contextlib
 import ctypes
-import os
-import threading
-from typing import Any, Iterator, Optional, Sequence, Tuple
+from typing import Any, Optional, Sequence, Tuple
 
-from fotsgure_library import Bytes, bytes_of, load, room, written
+from fotsgure_library import Bytes, Turn, Uses, bytes_of, load, room, written
 
 
 class Refused(Exception):
@@ -77,76 +80,79 @@ def _check(status: int, changed: Sequence[int] = ()) -> None:
 
 
 class Gcm:
-    """A key of 16, 24 or 32 bytes. `wipe`, or the end of a `with`, wipes what was prepared of it, not the bytes given.
-    `counter` is the next nonce of `seal_next`, and None without one: store it before a message is sent, and give it to the
-    next Gcm of the same key. Threads may share a Gcm until it is wiped; let one at a time call `seal_next` and store
-    `counter`, so that the highest is stored last. In a process that was forked, `seal_next` raises ValueError: two
-    processes that counted on from the same number would use the same nonces."""
+    """A key of 16, 24 or 32 bytes. `wipe`, or the end of a `with`, wipes what was prepared of it, not the bytes given. It
+    waits for calls that run, and later ones raise ValueError. `counter` is the next nonce of `seal_next`, and None
+    without one. Store it before a message is sent, and give it to the next Gcm of the same key. Threads may share a Gcm,
+    but let one at a time call `seal_next` and store `counter`, so that the highest is stored last. In a process that was
+    forked, `seal_next`, `begin_next` and `counter` raise ValueError: two processes that counted on from the same number
+    would use the same nonces."""
 
     def __init__(self, key: Bytes, counter: Optional[Bytes] = None) -> None:
         key, counter = bytes_of(key), None if counter is None else bytes_of(counter)
         if counter is not None and len(counter) != 12:
             raise ValueError("a counter has 12 bytes")
-        self._key, self._turn, self._process = _Key(), threading.Lock(), os.getpid()
+        self._key, self._turn, self._uses = _Key(), Turn("counter"), Uses()
         self._counter = None if counter is None else _Counter.from_buffer_copy(counter)
         _check(_c.fotsgure_gcm_set_key(self._key, key, len(key)))
 
     @property
     def counter(self) -> Optional[bytes]:
+        if self._counter is None:
+            return None
         with self._turn:
-            return None if self._counter is None else bytes(self._counter.next)
+            return bytes(self._counter.next)
 
     def seal(self, nonce: Bytes, text: Bytes, additional: Bytes = b"") -> bytes:
         """Encrypts: returns the encrypted text and the tag behind it."""
         nonce, text, additional = bytes_of(nonce), bytes_of(text), bytes_of(additional)
         buffer, tag = room(text), room(bytes(16))
-        _check(_c.fotsgure_gcm_seal(self._key, nonce, len(nonce), additional, len(additional), buffer, len(text), tag))
+        with self._uses:
+            _check(_c.fotsgure_gcm_seal(self._key, nonce, len(nonce), additional, len(additional), buffer, len(text),
+                                        tag))
         return written(buffer, len(text)) + written(tag, 16)
 
     def seal_next(self, text: Bytes, additional: Bytes = b"") -> Tuple[bytes, bytes]:
         """Encrypts under the counter's next nonce: returns that nonce, and what `seal` returns."""
         text, additional = bytes_of(text), bytes_of(additional)
         nonce, buffer, tag = room(bytes(12)), room(text), room(bytes(16))
-        with self._counting() as counter:
-            _check(_c.fotsgure_gcm_seal_next(self._key, counter, nonce, additional, len(additional), buffer, len(text),
-                                             tag))
+        with self._turn, self._uses:
+            _check(_c.fotsgure_gcm_seal_next(self._key, self._counting(), nonce, additional, len(additional), buffer,
+                                             len(text), tag))
         return written(nonce, 12), written(buffer, len(text)) + written(tag, 16)
 
-    @contextlib.contextmanager
-    def _counting(self) -> Iterator[_Counter]:
-        """The counter, for one thread of the process that it was given to."""
+    def _counting(self) -> _Counter:
         if self._counter is None:
             raise ValueError("no counter was given")
-        if os.getpid() != self._process:
-            raise ValueError("the counter belongs to the process that this one was forked from")
-        with self._turn:
-            yield self._counter
+        return self._counter
 
     def open(self, nonce: Bytes, sealed: Bytes, additional: Bytes = b"") -> bytes:
         """Decrypts what `seal` returned, or raises Refused: also if the nonce is empty, or the tag isn't whole."""
         nonce, sealed, additional = bytes_of(nonce), bytes_of(sealed), bytes_of(additional)
         text, tag = sealed[:-16], sealed[-16:]
         buffer = room(text)
-        _check(_c.fotsgure_gcm_open(self._key, nonce, len(nonce), additional, len(additional), buffer, len(text), tag,
-                                    len(tag)), _CHANGED)
+        with self._uses:
+            _check(_c.fotsgure_gcm_open(self._key, nonce, len(nonce), additional, len(additional), buffer, len(text),
+                                        tag, len(tag)), _CHANGED)
         return written(buffer, len(text))
 
     def begin(self, nonce: Bytes) -> "Message":
         """Begins a message in pieces under a nonce of yours."""
         nonce, message = bytes_of(nonce), Message(self)
-        _check(_c.fotsgure_gcm_begin(self._key, message._message, nonce, len(nonce)))
+        with self._uses:
+            _check(_c.fotsgure_gcm_begin(self._key, message._message, nonce, len(nonce)))
         return message
 
     def begin_next(self) -> Tuple[bytes, "Message"]:
         """Begins a message in pieces under the counter's next nonce, and returns both. Store the counter before anything
         of the message is sent."""
         nonce, message = room(bytes(12)), Message(self)
-        with self._counting() as counter:
-            _check(_c.fotsgure_gcm_begin_next(self._key, message._message, counter, nonce))
+        with self._turn, self._uses:
+            _check(_c.fotsgure_gcm_begin_next(self._key, message._message, self._counting(), nonce))
         return written(nonce, 12), message
 
     def wipe(self) -> None:
-        _c.fotsgure_gcm_wipe(self._key)
+        with self._uses.alone():
+            _c.fotsgure_gcm_wipe(self._key)
 
     def __enter__(self) -> "Gcm":
         return self
@@ -156,21 +162,26 @@ class Gcm:
 
 
 class Message:
-    """A message in pieces of any size, which `Gcm.begin` makes. Calls that come out of turn raise ValueError. `wipe`, or
-    the end of a `with`, wipes it: it is as secret as the key. After an encrypted piece its nonce is used, even if the
-    message is given up."""
+    """A message in pieces of any size, which `Gcm.begin` makes. Calls that come out of turn raise ValueError, and so do
+    all calls but `wipe` in a process that was forked. Threads that share a message wait for each other, and come in any
+    order. `wipe`, or the end of a `with`, wipes it: it is as secret as the key. After an encrypted piece its nonce is
+    used, even if the message is given up."""
 
     def __init__(self, gcm: Gcm) -> None:
-        self._gcm, self._message = gcm, _Message()
+        self._gcm, self._message, self._turn = gcm, _Message(), Turn("message")
+
+    def _call(self, call: Any, *arguments: Any, changed: Sequence[int] = ()) -> None:
+        with self._turn, self._gcm._uses:
+            _check(call(self._gcm._key, self._message, *arguments), changed)
 
     def _takes(self, call: Any, data: Bytes, changed: Sequence[int] = ()) -> None:
         data = bytes_of(data)
-        _check(call(self._gcm._key, self._message, data, len(data)), changed)
+        self._call(call, data, len(data), changed=changed)
 
     def _turns(self, call: Any, data: Bytes) -> bytes:
         data = bytes_of(data)
         buffer = room(data)
-        _check(call(self._gcm._key, self._message, buffer, len(data)))
+        self._call(call, buffer, len(data))
         return written(buffer, len(data))
 
     def additional(self, data: Bytes) -> None:
@@ -184,7 +195,7 @@ class Message:
     def finish(self) -> bytes:
         """Ends a message that was encrypted, and returns its tag."""
         tag = room(bytes(16))
-        _check(_c.fotsgure_gcm_finish(self._gcm._key, self._message, tag))
+        self._call(_c.fotsgure_gcm_finish, tag)
         return written(tag, 16)
 
     def verify(self, sealed: Bytes) -> None:
@@ -210,7 +221,8 @@ class Message:
         return self._turns(_c.fotsgure_gcm_decrypt_unverified, sealed)
 
     def wipe(self) -> None:
-        _c.fotsgure_gcm_wipe_message(self._message)
+        with self._turn if self._turn.is_ours() else contextlib.nullcontext():
+            _c.fotsgure_gcm_wipe_message(self._message)
 
     def __enter__(self) -> "Message":
         return self

@@ -1,12 +1,15 @@
-"""What the modules share: the shared library's calls, and arguments that are what they should be."""
+"""What the modules share: the shared library's calls, arguments that are what they should be, and turns for threads."""
 import array
+import contextlib
 import ctypes
 import ctypes.util
 import operator
 import os
-from typing import Any, Iterable, Optional, Tuple, Union
+import threading
+import weakref
+from typing import Any, Iterable, Iterator, List, Optional, Tuple, Union
 
-# What has bytes. Other types with a buffer do as well.
+# What has bytes: these, and whatever else `bytes_of` takes.
 Bytes = Union[bytes, bytearray, memoryview, "array.array[int]"]
 # A call's name, types of its arguments, type of its result.
 Call = Tuple[str, list, Optional[type]]
@@ -15,14 +18,19 @@ Call = Tuple[str, list, Optional[type]]
 def load(name: str, version: int, calls: Iterable[Call]) -> ctypes.CDLL:
     """The library of that name, from the file that the variable of its name in capitals names, or where the loader
     searches. `version` is 100 times the first number plus the second: before 1.0, structs may grow with either."""
-    found = os.environ.get(name.upper()) or ctypes.util.find_library(name)
+    found = (os.environ.get(name.upper()) or ctypes.util.find_library(name) or
+             f"lib{name}.so.{version // 100}.{version % 100}")
     try:
-        c = ctypes.CDLL(found or f"lib{name}.so.{version // 100}.{version % 100}")
+        c = ctypes.CDLL(found)
     except OSError as error:
         raise ImportError(f"{error}: install the library by 'make -C dist install', or name its file in the variable "
                           f"{name.upper()}") from None
     for call, arguments, result in [("version", [], ctypes.c_uint32), *calls]:
-        function = getattr(c, f"{name}_{call}")
+        try:
+            function = getattr(c, f"{name}_{call}")
+        except AttributeError:
+            raise ImportError(f"{found} isn't the library {name} {version // 100}.{version % 100}: it has no "
+                              f"{name}_{call}") from None
         function.argtypes, function.restype = arguments, result
         if call == "version" and function() // 100 != version:
             raise ImportError(f"this is a wrapper for version {version // 100}.{version % 100} of {name}, and the "
@@ -30,9 +38,28 @@ def load(name: str, version: int, calls: Iterable[Call]) -> ctypes.CDLL:
     return c
 
 
+# The formats of single numbers and bytes in the module `struct`, and so no pointers, objects and records.
+_ITEMS = frozenset("cbB?hHiIlLqQnNefd")
+
+
+def view_of(data: Bytes) -> memoryview:
+    """A view of data whose buffer is C-contiguous, has one dimension or more, and holds numbers or single bytes. A view
+    with gaps is a BufferError. Anything else is a TypeError: an integer, a number of numpy or ctypes, a list, text, an
+    array of objects."""
+    try:
+        view = memoryview(data)
+    except (TypeError, ValueError) as error:
+        raise TypeError(f"{type(data).__name__} is no bytes: {error}") from None
+    if view.ndim == 0 or not hasattr(data, "__len__") or view.format.lstrip("@=<>!") not in _ITEMS:
+        raise TypeError(f"{type(data).__name__} is no bytes")
+    if not view.c_contiguous:
+        raise BufferError("the bytes are not contiguous")
+    return view
+
+
 def bytes_of(data: Bytes) -> bytes:
-    """The bytes of whatever has bytes. Numbers, lists and text have none: TypeError."""
-    return bytes(memoryview(data).cast("B"))
+    """The bytes of whatever has bytes."""
+    return view_of(data).tobytes()
 
 
 def number(value: Any, most: int, what: str) -> int:
@@ -51,3 +78,65 @@ def room(data: bytes) -> Any:
 def written(buffer: Any, length: int) -> bytes:
     """What a call wrote into such a buffer."""
     return bytes(buffer.raw[:length])
+
+
+class Turn:
+    """Lets one thread at a time go on with what gives out something once (a counter, a message, a keystream), and only
+    in the process that made it: a fork copies it, and both copies would give out the same."""
+
+    def __init__(self, what: str) -> None:
+        self._what, self._process, self._lock = what, os.getpid(), threading.RLock()
+
+    def is_ours(self) -> bool:
+        return os.getpid() == self._process
+
+    def __enter__(self) -> None:
+        # Asked first: another thread may have held the lock when the process was forked, and nobody releases it here.
+        if not self.is_ours():
+            raise ValueError(f"the {self._what} belongs to the process that this one was forked from")
+        self._lock.acquire()
+
+    def __exit__(self, *_: Any) -> None:
+        self._lock.release()
+
+
+class Uses:
+    """The calls that read a struct, in any number of threads at the same time: in a `with`. What writes it waits for
+    them, in a `with` of `alone`, and calls that come meanwhile wait for it."""
+
+    def __init__(self) -> None:
+        self._change, self._is_written = threading.Condition(), False
+        self._running: List[int] = []
+        _uses.add(self)
+
+    def __enter__(self) -> None:
+        with self._change:
+            self._change.wait_for(lambda: not self._is_written)
+            self._running.append(threading.get_ident())
+
+    def __exit__(self, *_: Any) -> None:
+        with self._change:
+            self._running.remove(threading.get_ident())
+            self._change.notify_all()
+
+    @contextlib.contextmanager
+    def alone(self) -> Iterator[None]:
+        # A handler of a signal may run amid a call of its own thread, which it can't wait for.
+        with self._change:
+            self._is_written = True
+            try:
+                self._change.wait_for(lambda: all(it == threading.get_ident() for it in self._running))
+                yield
+            finally:
+                self._is_written = False
+                self._change.notify_all()
+
+    def forked(self) -> None:
+        """In the child only the thread that forked goes on."""
+        mine = [it for it in self._running if it == threading.get_ident()]
+        self._change, self._running, self._is_written = threading.Condition(), mine, False
+
+
+_uses: "weakref.WeakSet[Uses]" = weakref.WeakSet()
+if hasattr(os, "register_at_fork"):
+    os.register_at_fork(after_in_child=lambda: [it.forked() for it in list(_uses)])

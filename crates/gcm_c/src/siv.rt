@@ -12,10 +12,10 @@ use crate::siv_kept::{Siv, cipher_of, is_siv_key};
 use crate::status::{DONE, NO_KEY, REFUSED, TOO_LONG};
 use crate::width::BuildWidth;
 use aes_cipher::cipher::Block;
-use aes_cipher::zeroize::MustWipe;
+use aes_cipher::zeroize::{MustWipe, wipe_stack};
 use aes_hybrid::lent::Lent;
 use aes_permute::lane_room::{LaneRoom, expand_in_room, keys_in_room};
-use gcm::{Room, SHALLOW, TableRoom, wipe_stack};
+use gcm::{Room, SHALLOW, TableRoom};
 use gcm_siv::{LONGEST, PolyvalRoom, are_few, derive, open, put_authentication, seal};
 
 // Returns the status that refuses these lengths or this struct, or `DONE`.

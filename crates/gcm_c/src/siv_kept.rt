@@ -7,6 +7,7 @@ ghost use Rattle.gcm_c.specs.Siv.{siv_key_in, IsSivMade};
 
 use crate::status::{DONE, KEY_LENGTH};
 use crate::width::BuildWidth;
+use aes_cipher::not_clone::NotClone;
 use aes_cipher::zeroize::{Zeroize, zeroize_elements};
 use aes_hybrid::lent::Lent;
 use aes_permute::lane_room::{LaneRoom, expand_in_room, keys_in_room};
@@ -20,6 +21,8 @@ pub struct Siv {
     /// The stored round keys of Cipher, in the first 11 or 15 blocks.
     pub round_keys: LaneRoom,
 }
+
+impl NotClone for Siv {}
 
 impl Zeroize for Siv {
     ghost ZERO = { record {

@@ -9,8 +9,8 @@ use crate::counters::add_keystream;
 use crate::hash::PolyvalRoom;
 use aes_cipher::blocks::{blocks_equal, sum_of_blocks};
 use aes_cipher::cipher::{Block, BlockCipherEncrypt};
-use aes_cipher::zeroize::MustWipe;
-use gcm::{SHALLOW, wipe_stack};
+use aes_cipher::zeroize::{MustWipe, wipe_stack};
+use gcm::SHALLOW;
 
 // What the tag is the cipher of, of S_s and the nonce.
 fn tag_input(sum: &Block, nonce: &[u8; 12]) -> Block

@@ -13,8 +13,9 @@ use crate::keys::{derive, put_authentication};
 use crate::lengths::{are_allowed, are_few};
 use crate::message::{open, seal};
 use aes_cipher::cipher::{Block, BlockCipherEncrypt, KeyInit};
-use aes_cipher::zeroize::{MustWipe, ZeroizeOnDrop};
-use gcm::{Room, SHALLOW, TableRoom, wipe_stack};
+use aes_cipher::not_clone::NotClone;
+use aes_cipher::zeroize::{MustWipe, ZeroizeOnDrop, wipe_stack};
+use gcm::{Room, SHALLOW, TableRoom};
 use std::marker::Model;
 
 // The cipher of a message, of its keys: that of the block after the first, or of the two blocks.
@@ -49,6 +50,8 @@ impl<C: KeyInit + BlockCipherEncrypt + Drop> Model for GcmSiv<C> {
 
     ghost invariant = { λ mode. IsKeySize C.KEY_SIZE };
 }
+
+impl<C: KeyInit + BlockCipherEncrypt + Drop> NotClone for GcmSiv<C> {}
 
 impl<C: KeyInit + BlockCipherEncrypt + Drop> GcmSiv<C> {
     /// AES-GCM-SIV over the cipher of a key of 16 or 32 bytes.
