@@ -121,13 +121,13 @@ fn add_by_backend<B: BlockCipherEncBackend, K: CounterBlocks>(
 
 // Bytes to which the keystream is due from one position on.
 #[derive(Drop)]
-struct Due<'a, K: CounterBlocks> {
-    counters: &'a K,
+struct Due<'k, 'a, K: CounterBlocks> {
+    counters: &'k K,
     position: u64,
     bytes: &'a mut [u8],
 }
 
-impl<'a, K: CounterBlocks> BlockCipherEncClosure for Due<'a, K> {
+impl<'k, 'a, K: CounterBlocks> BlockCipherEncClosure for Due<'k, 'a, K> {
     ghost did = { λ before w after.
         (before.position + length before.bytes.now < 2 ^ 64
         → after.bytes.now ≡ plus_stream (stream_byte w (K.block before.counters.now)) before.position before.bytes.now)

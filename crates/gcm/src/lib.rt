@@ -20,6 +20,7 @@ pub use counter::Counter;
 pub use errors::{InvalidMessage, InvalidPiece, NotAccepted, OutOfTurn, Refused, TooLong};
 pub use field::next_v;
 pub use hash::{hash_singly, hash_string, hash_string_and};
+pub use lanes::sum;
 pub use laws::{text_twice, turns};
 pub use message::{Message, Phase};
 pub use mode::{Gcm, LONGEST_HASHED, LONGEST_TEXT, LentGcm, SHALLOW, is_short_tag, prepare};

@@ -90,6 +90,22 @@ fn seal_in<R: PolyvalRoom>(siv: &Siv, nonce: &[u8; 12], additional: &[u8], text:
     tag
 }
 
+// The same, with the room that takes less time.
+fn seal_message(siv: &Siv, nonce: &[u8; 12], additional: &[u8], text: &mut [u8]) -> Block
+    requires made { IsSivMade siv.now }
+    requires key { IsKeySize siv.now.key_length }
+    requires additional { length additional.now ≤ 2 ^ 36 }
+    requires text { length text.old ≤ 2 ^ 36 }
+    ensures tag { result ≡ rfc.tag (siv_key_in siv.now) nonce.now additional.now text.old }
+    ensures encrypted { text.new ≡ rfc.text (siv_key_in siv.now) nonce.now result text.old }
+{
+    if are_few(additional.len(), text.len()) {
+        seal_in::<TableRoom>(siv, nonce, additional, text)
+    } else {
+        seal_in::<Room>(siv, nonce, additional, text)
+    }
+}
+
 // Decrypts a text in place if the tag is right, and returns whether it is, with room for POLYVAL of this type.
 fn open_in<R: PolyvalRoom>(
     siv: &Siv,
@@ -118,6 +134,29 @@ fn open_in<R: PolyvalRoom>(
     is_right
 }
 
+// The same, with the room that takes less time.
+fn open_message(
+    siv: &Siv,
+    nonce: &[u8; 12],
+    additional: &[u8],
+    text: &mut [u8],
+    tag: &Block,
+) -> bool
+    requires made { IsSivMade siv.now }
+    requires key { IsKeySize siv.now.key_length }
+    requires additional { length additional.now ≤ 2 ^ 36 }
+    requires text { length text.old ≤ 2 ^ 36 }
+    ensures accepted { IsTrue result ↔ IsAuthentic (siv_key_in siv.now) nonce.now additional.now tag.now text.old }
+    ensures decrypted { IsTrue result → text.new ≡ rfc.text (siv_key_in siv.now) nonce.now tag.now text.old }
+    ensures untouched { result ≡ false → text.new ≡ text.old }
+{
+    if are_few(additional.len(), text.len()) {
+        open_in::<TableRoom>(siv, nonce, additional, text, tag)
+    } else {
+        open_in::<Room>(siv, nonce, additional, text, tag)
+    }
+}
+
 /// Encrypts a text in place and writes the tag of the text and of the additional data (RFC 8452, 4). Returns `TOO_LONG` or
 /// `NO_KEY`, the first of them that applies, and else `DONE`.
 #[unsafe(no_mangle)]
@@ -142,11 +181,7 @@ pub extern "C" fn fotsgure_gcm_siv_seal(
     if status != DONE {
         return status;
     }
-    *tag = if are_few(additional.len(), text.len()) {
-        seal_in::<TableRoom>(siv, nonce, additional, text)
-    } else {
-        seal_in::<Room>(siv, nonce, additional, text)
-    };
+    *tag = seal_message(siv, nonce, additional, text);
     DONE
 }
 
@@ -175,10 +210,9 @@ pub extern "C" fn fotsgure_gcm_siv_open(
     if status != DONE {
         return status;
     }
-    let is_right = if are_few(additional.len(), text.len()) {
-        open_in::<TableRoom>(siv, nonce, additional, text, tag)
+    if open_message(siv, nonce, additional, text, tag) {
+        DONE
     } else {
-        open_in::<Room>(siv, nonce, additional, text, tag)
-    };
-    if is_right { DONE } else { REFUSED }
+        REFUSED
+    }
 }

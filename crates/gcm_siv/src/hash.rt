@@ -2,7 +2,6 @@
 
 ghost use Rattle.std.specs.Prelude.{◌≡◌, ℕ, List, ◌*◌, ◌^◌, ◌<◌, ◌≤◌, ◌++◌, length};
 ghost use Rattle.std.specs.Int.{w64, w128, to_le_bytes, from_le_bytes, from_be_bytes};
-ghost use Rattle.std.specs.Int.Bits.{bit_xor};
 ghost use Rattle.gcm.specs.Gcm.{next_v};
 ghost use Rattle.gcm.specs.Multiples.{subkey_in, HasMultiples, IsTable};
 ghost use Rattle.gcm_siv.specs.GcmSiv.{hash, length_block};
@@ -12,7 +11,7 @@ use aes_cipher::cipher::Block;
 use aes_cipher::zeroize::Zeroize;
 use gcm::{
     ByteOrder, Multiples, Room, Table, TableRoom, hash_singly, hash_string, hash_string_and,
-    put_multiples, put_one_table,
+    put_multiples, put_one_table, sum,
 };
 use std::simd::prelude::*;
 
@@ -46,14 +45,6 @@ fn last_block(additional: &[u8], text: &[u8]) -> u8x16
 {
     let lengths = lengths_of(additional.len() as u64, text.len() as u64);
     LowestFirst::highest_first(u8x16::from_array(lengths))
-}
-
-// The sum of two blocks.
-#[inline(always)]
-fn sum(x: u8x16, y: u8x16) -> u8x16
-    ensures { from_be_bytes w128 result ≡ bit_xor (from_be_bytes w128 x) (from_be_bytes w128 y) }
-{
-    x ^ y
 }
 
 // The block that a number of GCM's field stands for, its bytes in the other order.
@@ -98,9 +89,10 @@ impl PolyvalRoom for TableRoom {
 
     fn hash(&self, additional: &[u8], text: &[u8]) -> Block {
         let table = Table::lent(self);
-        let value = hash_singly::<LowestFirst>(&table, u8x16::splat(0), additional);
-        let value = hash_singly::<LowestFirst>(&table, value, text);
-        bytes_of(table.product(sum(value, last_block(additional, text))))
+        let first = hash_singly::<LowestFirst>(&table, u8x16::splat(0), additional);
+        let second = hash_singly::<LowestFirst>(&table, first, text);
+        let end = last_block(additional, text);
+        bytes_of(table.product(sum(second, end)))
     }
 }
 

@@ -95,6 +95,20 @@ impl<C: KeyInit + BlockCipherEncrypt + Drop> GcmSiv<C> {
         tag
     }
 
+    // The same, with the room that takes less time.
+    fn seal_message(&self, nonce: &[u8; 12], additional: &[u8], text: &mut [u8]) -> Block
+        requires additional { length additional.now ≤ 2 ^ 36 }
+        requires text { length text.old ≤ 2 ^ 36 }
+        ensures tag { result ≡ rfc.tag self.now nonce.now additional.now text.old }
+        ensures encrypted { text.new ≡ rfc.text self.now nonce.now result text.old }
+    {
+        if are_few(additional.len(), text.len()) {
+            self.seal_in::<TableRoom>(nonce, additional, text)
+        } else {
+            self.seal_in::<Room>(nonce, additional, text)
+        }
+    }
+
     // Decrypts a text in place if the tag is right, and returns whether it is, with room for POLYVAL of this type.
     fn open_in<R: PolyvalRoom>(
         &self,
@@ -117,6 +131,27 @@ impl<C: KeyInit + BlockCipherEncrypt + Drop> GcmSiv<C> {
         is_right
     }
 
+    // The same, with the room that takes less time.
+    fn open_message(
+        &self,
+        nonce: &[u8; 12],
+        additional: &[u8],
+        text: &mut [u8],
+        tag: &Block,
+    ) -> bool
+        requires additional { length additional.now ≤ 2 ^ 36 }
+        requires text { length text.old ≤ 2 ^ 36 }
+        ensures accepted { IsTrue result ↔ IsAuthentic self.now nonce.now additional.now tag.now text.old }
+        ensures decrypted { IsTrue result → text.new ≡ rfc.text self.now nonce.now tag.now text.old }
+        ensures untouched { result ≡ false → text.new ≡ text.old }
+    {
+        if are_few(additional.len(), text.len()) {
+            self.open_in::<TableRoom>(nonce, additional, text, tag)
+        } else {
+            self.open_in::<Room>(nonce, additional, text, tag)
+        }
+    }
+
     /// Encrypts a text in place, and returns the tag, which shows whether the text or the additional data was changed (4).
     /// Draw the nonce at random. One that comes again tells whether the two messages are the same.
     ///
@@ -137,12 +172,7 @@ impl<C: KeyInit + BlockCipherEncrypt + Drop> GcmSiv<C> {
         if !are_allowed(additional, text) {
             return Err(TooLong);
         }
-        let tag = if are_few(additional.len(), text.len()) {
-            self.seal_in::<TableRoom>(nonce, additional, text)
-        } else {
-            self.seal_in::<Room>(nonce, additional, text)
-        };
-        Ok(tag)
+        Ok(self.seal_message(nonce, additional, text))
     }
 
     /// Decrypts a text in place if the tag is right (5). The tag can be computed only when the text is decrypted, and is
@@ -167,12 +197,11 @@ impl<C: KeyInit + BlockCipherEncrypt + Drop> GcmSiv<C> {
         if !are_allowed(additional, text) {
             return Err(Refused);
         }
-        let is_right = if are_few(additional.len(), text.len()) {
-            self.open_in::<TableRoom>(nonce, additional, text, tag)
+        if self.open_message(nonce, additional, text, tag) {
+            Ok(())
         } else {
-            self.open_in::<Room>(nonce, additional, text, tag)
-        };
-        if is_right { Ok(()) } else { Err(Refused) }
+            Err(Refused)
+        }
     }
 }
 
