@@ -12,11 +12,13 @@ use crate::siv_kept::{Siv, cipher_of, is_siv_key};
 use crate::status::{DONE, NO_KEY, REFUSED, TOO_LONG};
 use crate::width::BuildWidth;
 use aes_cipher::cipher::Block;
-use aes_cipher::zeroize::{MustWipe, wipe_stack};
+use aes_cipher::zeroize::MustWipe;
 use aes_hybrid::lent::Lent;
 use aes_permute::lane_room::{LaneRoom, expand_in_room, keys_in_room};
-use gcm::{Room, SHALLOW, TableRoom};
-use gcm_siv::{LONGEST, PolyvalRoom, are_few, derive, open, put_authentication, seal};
+use gcm::{Room, TableRoom};
+use gcm_siv::{
+    LONGEST, PolyvalRoom, are_few, derive, open, put_authentication, seal, wipe_message_stack,
+};
 
 // Returns the status that refuses these lengths or this struct, or `DONE`.
 fn siv_refusal(siv: &Siv, additional: usize, text: usize) -> u32
@@ -48,9 +50,7 @@ fn expand_derived(keys: &[Block; 3], size: usize, round_keys: &mut LaneRoom)
     }
 }
 
-// Writes the round keys of a message, and the multiples of its authentication key times x^-1. In a call of its own, so
-// that its stack can be wiped.
-#[inline(never)]
+// Writes the round keys of a message, and the multiples of its authentication key times x^-1.
 fn prepare<R: PolyvalRoom>(siv: &Siv, nonce: &[u8; 12], round_keys: &mut LaneRoom, room: &mut R)
     requires made { IsSivMade siv.now }
     requires key { IsKeySize siv.now.key_length }
@@ -81,7 +81,6 @@ fn seal_in<R: PolyvalRoom>(siv: &Siv, nonce: &[u8; 12], additional: &[u8], text:
     let mut room = MustWipe::<R>::zeroed();
     let mut kept = MustWipe::<LaneRoom>::zeroed();
     prepare(siv, nonce, kept.value_mut(), room.value_mut());
-    wipe_stack::<SHALLOW>();
     let keys = keys_in_room(kept.value(), siv.key_length as usize);
     let cipher = Lent::<BuildWidth>::new(keys);
     let tag = seal(&cipher, room.value(), nonce, additional, text);
@@ -90,7 +89,8 @@ fn seal_in<R: PolyvalRoom>(siv: &Siv, nonce: &[u8; 12], additional: &[u8], text:
     tag
 }
 
-// The same, with the room that takes less time.
+// The same, with the room that takes less time. In a call of its own, so that its stack can be wiped.
+#[inline(never)]
 fn seal_message(siv: &Siv, nonce: &[u8; 12], additional: &[u8], text: &mut [u8]) -> Block
     requires made { IsSivMade siv.now }
     requires key { IsKeySize siv.now.key_length }
@@ -125,7 +125,6 @@ fn open_in<R: PolyvalRoom>(
     let mut room = MustWipe::<R>::zeroed();
     let mut kept = MustWipe::<LaneRoom>::zeroed();
     prepare(siv, nonce, kept.value_mut(), room.value_mut());
-    wipe_stack::<SHALLOW>();
     let keys = keys_in_room(kept.value(), siv.key_length as usize);
     let cipher = Lent::<BuildWidth>::new(keys);
     let is_right = open(&cipher, room.value(), nonce, additional, text, tag);
@@ -134,7 +133,8 @@ fn open_in<R: PolyvalRoom>(
     is_right
 }
 
-// The same, with the room that takes less time.
+// The same, with the room that takes less time. In a call of its own, so that its stack can be wiped.
+#[inline(never)]
 fn open_message(
     siv: &Siv,
     nonce: &[u8; 12],
@@ -182,6 +182,7 @@ pub extern "C" fn fotsgure_gcm_siv_seal(
         return status;
     }
     *tag = seal_message(siv, nonce, additional, text);
+    wipe_message_stack(additional.len(), text.len());
     DONE
 }
 
@@ -210,9 +211,7 @@ pub extern "C" fn fotsgure_gcm_siv_open(
     if status != DONE {
         return status;
     }
-    if open_message(siv, nonce, additional, text, tag) {
-        DONE
-    } else {
-        REFUSED
-    }
+    let is_right = open_message(siv, nonce, additional, text, tag);
+    wipe_message_stack(additional.len(), text.len());
+    if is_right { DONE } else { REFUSED }
 }

@@ -9,8 +9,7 @@ use crate::counters::add_keystream;
 use crate::hash::PolyvalRoom;
 use aes_cipher::blocks::{blocks_equal, sum_of_blocks};
 use aes_cipher::cipher::{Block, BlockCipherEncrypt};
-use aes_cipher::zeroize::{MustWipe, wipe_stack};
-use gcm::SHALLOW;
+use aes_cipher::zeroize::MustWipe;
 
 // What the tag is the cipher of, of S_s and the nonce.
 fn tag_input(sum: &Block, nonce: &[u8; 12]) -> Block
@@ -33,9 +32,7 @@ fn first_counter(tag: &Block) -> Block
     block
 }
 
-// Writes the tag of additional data and a plain text. In a call of its own, so that its stack can be wiped: values of
-// POLYVAL are left there.
-#[inline(never)]
+// Writes the tag of additional data and a plain text.
 fn put_tag<C: BlockCipherEncrypt, R: PolyvalRoom>(
     cipher: &C,
     room: &R,
@@ -52,14 +49,6 @@ fn put_tag<C: BlockCipherEncrypt, R: PolyvalRoom>(
 {
     *tag = tag_input(&room.hash(additional, text), nonce);
     cipher.encrypt_block(tag);
-}
-
-/// Whether a claimed tag is the expected one, without an early exit. In a call of its own, so that its stack can be wiped.
-#[inline(never)]
-fn is_expected(claimed: &Block, expected: &Block) -> bool
-    ensures { IsTrue result ↔ (claimed.now ≡ expected.now) }
-{
-    blocks_equal(claimed, expected)
 }
 
 // Whether a tag is that of additional data and a plain text.
@@ -86,9 +75,8 @@ fn is_tag<C: BlockCipherEncrypt, R: PolyvalRoom>(
         text,
         &mut expected.value_mut()[0],
     );
-    let is_equal = is_expected(tag, &expected.value()[0]);
+    let is_equal = blocks_equal(tag, &expected.value()[0]);
     expected.wipe();
-    wipe_stack::<SHALLOW>();
     is_equal
 }
 
@@ -116,7 +104,6 @@ pub fn seal<C: BlockCipherEncrypt, R: PolyvalRoom>(
 {
     let mut tag = [0; 16];
     put_tag(cipher, room, nonce, additional, text, &mut tag);
-    wipe_stack::<SHALLOW>();
     apply(cipher, &tag, text);
     tag
 }

@@ -10,12 +10,12 @@ ghost use Rattle.gcm_siv.specs.GcmSiv.{authentication_key, encryption_key, IsAut
 use crate::errors::{Refused, TooLong};
 use crate::hash::PolyvalRoom;
 use crate::keys::{derive, put_authentication};
-use crate::lengths::{are_allowed, are_few};
+use crate::lengths::{are_allowed, are_few, wipe_message_stack};
 use crate::message::{open, seal};
 use aes_cipher::cipher::{Block, BlockCipherEncrypt, KeyInit};
 use aes_cipher::not_clone::NotClone;
-use aes_cipher::zeroize::{MustWipe, ZeroizeOnDrop, wipe_stack};
-use gcm::{Room, SHALLOW, TableRoom};
+use aes_cipher::zeroize::{MustWipe, ZeroizeOnDrop};
+use gcm::{Room, TableRoom};
 use std::marker::Model;
 
 // The cipher of a message, of its keys: that of the block after the first, or of the two blocks.
@@ -62,9 +62,7 @@ impl<C: KeyInit + BlockCipherEncrypt + Drop> GcmSiv<C> {
         GcmSiv { cipher }
     }
 
-    // Makes the cipher of a message, and writes the multiples of its authentication key times x^-1. In a call of its own,
-    // so that its stack can be wiped.
-    #[inline(never)]
+    // Makes the cipher of a message, and writes the multiples of its authentication key times x^-1.
     fn prepare<R: PolyvalRoom>(&self, nonce: &[u8; 12], room: &mut R) -> C
         ensures made { R.IsMade room.new }
         ensures authentication { R.element room.new ≡ next_v (from_le_bytes w128 (authentication_key self.now nonce.now)) }
@@ -89,13 +87,13 @@ impl<C: KeyInit + BlockCipherEncrypt + Drop> GcmSiv<C> {
     {
         let mut room = MustWipe::<R>::zeroed();
         let cipher = self.prepare(nonce, room.value_mut());
-        wipe_stack::<SHALLOW>();
         let tag = seal(&cipher, room.value(), nonce, additional, text);
         room.wipe();
         tag
     }
 
-    // The same, with the room that takes less time.
+    // The same, with the room that takes less time. In a call of its own, so that its stack can be wiped.
+    #[inline(never)]
     fn seal_message(&self, nonce: &[u8; 12], additional: &[u8], text: &mut [u8]) -> Block
         requires additional { length additional.now ≤ 2 ^ 36 }
         requires text { length text.old ≤ 2 ^ 36 }
@@ -125,13 +123,13 @@ impl<C: KeyInit + BlockCipherEncrypt + Drop> GcmSiv<C> {
     {
         let mut room = MustWipe::<R>::zeroed();
         let cipher = self.prepare(nonce, room.value_mut());
-        wipe_stack::<SHALLOW>();
         let is_right = open(&cipher, room.value(), nonce, additional, text, tag);
         room.wipe();
         is_right
     }
 
-    // The same, with the room that takes less time.
+    // The same, with the room that takes less time. In a call of its own, so that its stack can be wiped.
+    #[inline(never)]
     fn open_message(
         &self,
         nonce: &[u8; 12],
@@ -172,7 +170,9 @@ impl<C: KeyInit + BlockCipherEncrypt + Drop> GcmSiv<C> {
         if !are_allowed(additional, text) {
             return Err(TooLong);
         }
-        Ok(self.seal_message(nonce, additional, text))
+        let tag = self.seal_message(nonce, additional, text);
+        wipe_message_stack(additional.len(), text.len());
+        Ok(tag)
     }
 
     /// Decrypts a text in place if the tag is right (5). The tag can be computed only when the text is decrypted, and is
@@ -197,11 +197,9 @@ impl<C: KeyInit + BlockCipherEncrypt + Drop> GcmSiv<C> {
         if !are_allowed(additional, text) {
             return Err(Refused);
         }
-        if self.open_message(nonce, additional, text, tag) {
-            Ok(())
-        } else {
-            Err(Refused)
-        }
+        let is_right = self.open_message(nonce, additional, text, tag);
+        wipe_message_stack(additional.len(), text.len());
+        if is_right { Ok(()) } else { Err(Refused) }
     }
 }
 
