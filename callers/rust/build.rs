@@ -1,19 +1,19 @@
-//! Links the libraries: the archives in the folder that FOTSGURE_AES_LIB names, else what pkg-config finds, else what the C
-//! compiler (CC) makes of the folder `dist` (FOTSGURE_DIST names another than that of this repository).
+//! Links the static libraries in the folder that FOTSGURE_AES_LIB names, or else what the C compiler (CC) makes of the
+//! folder `dist` (FOTSGURE_DIST names another than that of this repository). A program needs no shared library to run.
 
 use std::env;
 use std::path::{Path, PathBuf};
 use std::process::Command;
 
 fn main() {
-    for name in ["FOTSGURE_AES_LIB", "FOTSGURE_DIST", "PKG_CONFIG", "PKG_CONFIG_PATH", "CC", "AR"] {
+    for name in ["FOTSGURE_AES_LIB", "FOTSGURE_DIST", "CC", "AR"] {
         println!("cargo:rerun-if-env-changed={name}");
     }
     let has_gcm = env::var_os("CARGO_FEATURE_GCM").is_some();
     let names = if has_gcm { vec!["aes", "gcm"] } else { vec!["aes"] };
     if let Ok(folder) = env::var("FOTSGURE_AES_LIB") {
         archives_in(Path::new(&folder), &names);
-    } else if !installed(&names) {
+    } else {
         let out = PathBuf::from(env::var("OUT_DIR").unwrap());
         names.iter().for_each(|name| build(name, &out));
         archives_in(&out, &names);
@@ -29,29 +29,6 @@ fn archives_in(folder: &Path, names: &[&str]) {
 
 fn named(variable: &str, default: &str) -> String {
     env::var(variable).unwrap_or_else(|_| default.to_string())
-}
-
-/// Whether pkg-config finds the libraries of this version for the machine that builds.
-fn installed(names: &[&str]) -> bool {
-    let mut ask = Command::new(named("PKG_CONFIG", "pkg-config"));
-    ask.arg("--libs");
-    for name in names {
-        ask.args([format!("fotsgure_{name} >= 0.3"), format!("fotsgure_{name} < 0.4")]);
-    }
-    let Ok(found) = ask.output() else { return false };
-    if !found.status.success() || env::var("HOST") != env::var("TARGET") {
-        return false;
-    }
-    for word in String::from_utf8_lossy(&found.stdout).split_whitespace() {
-        if let Some(folder) = word.strip_prefix("-L") {
-            println!("cargo:rustc-link-search=native={folder}");
-        } else if let Some(library) = word.strip_prefix("-l") {
-            println!("cargo:rustc-link-lib={library}");
-        } else {
-            println!("cargo:rustc-link-arg={word}");
-        }
-    }
-    true
 }
 
 /// Makes a static library as dist/Makefile does.

@@ -41,6 +41,7 @@
 #ifndef FOTSGURE_AES_H
 #define FOTSGURE_AES_H
 
+/* It needs C99 or C++11. */
 #include <stddef.h>
 #include <stdint.h>
 

@@ -43,6 +43,7 @@
 #ifndef FOTSGURE_GCM_H
 #define FOTSGURE_GCM_H
 
+/* It needs C99 or C++11. */
 #include <stddef.h>
 #include <stdint.h>
 

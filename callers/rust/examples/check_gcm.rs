@@ -1,7 +1,7 @@
-//! GCM in the wrapper for Rust: test case 4 of the submission of GCM (McGrew and Viega, appendix B); texts of 0 to 300
-//! bytes there and back; every refusal. The last line is `N passed, N failed`.
+//! GCM in the wrapper for Rust: test case 4 of the submission of GCM (McGrew and Viega, appendix B), whole and in
+//! pieces; texts of 0 to 300 bytes there and back; every refusal. The last line is `N passed, N failed`.
 
-use fotsgure_aes::gcm::{Counter, Gcm, NotSealed, Refused};
+use fotsgure_aes::gcm::{Counter, Gcm, NotSealed, NotTaken, Refused};
 use fotsgure_aes::InvalidLength;
 
 const KEY: &str = "feffe9928665731c6d6a8f9467308308";
@@ -33,6 +33,35 @@ fn comes_back(gcm: &Gcm, counter: &mut Counter, length: usize) -> bool {
     right && gcm.open(&nonce, additional, &mut opened, &tag) == Err(Refused) && opened == sealed
 }
 
+/// Whether case 4 comes of pieces of some size, and back.
+fn comes_of_pieces(gcm: &Gcm, size: usize) -> Result<bool, NotTaken> {
+    let (additional, mut text) = (bytes_of(ADDITIONAL), bytes_of(PLAIN));
+    let mut message = gcm.begin(&bytes_of(NONCE)).unwrap();
+    additional.chunks(size).try_for_each(|piece| message.additional(piece))?;
+    text.chunks_mut(size).try_for_each(|piece| message.encrypt(piece))?;
+    let sealed = text == bytes_of(CIPHER) && message.finish()?[..] == bytes_of(TAG);
+    let mut message = gcm.begin(&bytes_of(NONCE)).unwrap();
+    additional.chunks(size).try_for_each(|piece| message.additional(piece))?;
+    text.chunks(size).try_for_each(|piece| message.verify(piece))?;
+    message.accept(&bytes_of(TAG))?;
+    text.chunks_mut(size).try_for_each(|piece| message.decrypt(piece))?;
+    Ok(sealed && text == bytes_of(PLAIN) && message.decrypt(&mut [0]) == Err(NotTaken::TooLong))
+}
+
+/// What pieces refuse: calls out of turn, a wrong tag, a tag that was cut.
+fn pieces_are_refused(gcm: &Gcm) -> bool {
+    let (cipher, tag) = (bytes_of(CIPHER), bytes_of(TAG));
+    let mut message = gcm.begin(&bytes_of(NONCE)).unwrap();
+    message.verify(&cipher).unwrap();
+    message.additional(b"").is_err_and(|why| why == NotTaken::OutOfTurn)
+        && message.decrypt(&mut [0]) == Err(NotTaken::OutOfTurn)
+        && message.accept(&tag) == Err(NotTaken::Refused)
+        && message.accept(&tag[..15]) == Err(NotTaken::Refused)
+        && message.encrypt(&mut [0]) == Err(NotTaken::OutOfTurn)
+        && message.finish() == Err(NotTaken::OutOfTurn)
+        && gcm.begin(b"").err() == Some(NotSealed::NonceLength)
+}
+
 fn main() {
     let (gcm, nonce, additional) = (Gcm::new(&bytes_of(KEY)).unwrap(), bytes_of(NONCE), bytes_of(ADDITIONAL));
     let (mut text, tag) = (bytes_of(PLAIN), bytes_of(TAG));
@@ -49,7 +78,12 @@ fn main() {
     let mut counter = Counter { next: [0; 12] };
     checks.push(("0 to 300 bytes", (0..=300).all(|length| comes_back(&gcm, &mut counter, length))));
     checks.push(("the counter", counter.next == [0, 0, 0, 0, 0, 0, 0, 0, 0, 0, 1, 45]));
+    checks.push(("case 4 in pieces", (1..70).all(|size| comes_of_pieces(&gcm, size) == Ok(true))));
+    checks.push(("pieces that are refused", pieces_are_refused(&gcm)));
+    let begun = gcm.begin_next(&mut counter).map(|(nonce, message)| (nonce[11], message.finish().is_ok()));
+    checks.push(("a message under the next nonce", begun == Ok((45, true)) && counter.next[11] == 46));
     let mut end = Counter { next: [0xff; 12] };
+    checks.push(("no message under no nonce", gcm.begin_next(&mut end).err() == Some(NotSealed::NoncesEnd)));
     checks.push(("the end", gcm.seal_next(&mut end, b"", &mut text) == Err(NotSealed::NoncesEnd)));
     checks.push(("a key of 17 bytes", Gcm::new(&[0; 17]).err() == Some(InvalidLength)));
     checks.push(("no key is printed", format!("{gcm:?}") == "Gcm { .. }"));

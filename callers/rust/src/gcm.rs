@@ -18,10 +18,20 @@ mod calls {
         pub multiples: [u8; 1536],
     }
 
-    /// FOTSGURE_GCM_NONCE_LENGTH, _TOO_LONG, _NONCES_END.
+    /// FOTSGURE_GCM_NONCE_LENGTH, and the statuses that follow.
     pub const NONCE_LENGTH: u32 = 3;
+    pub const TAG_LENGTH: u32 = 4;
     pub const TOO_LONG: u32 = 5;
     pub const NONCES_END: u32 = 7;
+
+    pub const REFUSED: u32 = 6;
+    pub const OUT_OF_TURN: u32 = 8;
+
+    #[repr(C)]
+    pub struct Message {
+        pub numbers: [u64; 4],
+        pub blocks: [u8; 48],
+    }
 
     extern "C" {
         pub fn fotsgure_gcm_set_key(gcm: *mut MaybeUninit<Gcm>, key: *const u8, length: usize) -> u32;
@@ -57,6 +67,25 @@ mod calls {
             tag: *const u8,
             tag_length: usize,
         ) -> u32;
+        pub fn fotsgure_gcm_begin(
+            gcm: *const Gcm,
+            message: *mut MaybeUninit<Message>,
+            nonce: *const u8,
+            nonce_length: usize,
+        ) -> u32;
+        pub fn fotsgure_gcm_begin_next(
+            gcm: *const Gcm,
+            message: *mut MaybeUninit<Message>,
+            counter: *mut super::Counter,
+            nonce: *mut [u8; 12],
+        ) -> u32;
+        pub fn fotsgure_gcm_additional(gcm: *const Gcm, message: *mut Message, bytes: *const u8, length: usize) -> u32;
+        pub fn fotsgure_gcm_encrypt(gcm: *const Gcm, message: *mut Message, text: *mut u8, length: usize) -> u32;
+        pub fn fotsgure_gcm_finish(gcm: *const Gcm, message: *mut Message, tag: *mut [u8; 16]) -> u32;
+        pub fn fotsgure_gcm_verify(gcm: *const Gcm, message: *mut Message, text: *const u8, length: usize) -> u32;
+        pub fn fotsgure_gcm_accept(gcm: *const Gcm, message: *mut Message, tag: *const u8, length: usize) -> u32;
+        pub fn fotsgure_gcm_decrypt(gcm: *const Gcm, message: *mut Message, text: *mut u8, length: usize) -> u32;
+        pub fn fotsgure_gcm_wipe_message(message: *mut Message);
     }
 }
 
@@ -164,6 +193,136 @@ impl Gcm {
             calls::fotsgure_gcm_open(&*self.0, nonce.as_ptr(), nonce.len(), data, length, bytes, count, wanted, size)
         };
         if status == c::DONE { Ok(()) } else { Err(Refused) }
+    }
+}
+
+/// Why a call for a piece was refused. The message stays as it was.
+#[derive(Debug, Clone, Copy, PartialEq, Eq)]
+pub enum NotTaken {
+    /// The call came at a time when it may not: additional data after text, text after the end, `decrypt` before
+    /// `accept`.
+    OutOfTurn,
+    /// The message would be longer than GCM allows, or more would be decrypted than was verified.
+    TooLong,
+    /// The tag isn't that of this key and of what has come: drop the message. Tell nobody more than that.
+    Refused,
+}
+
+impl fmt::Display for NotTaken {
+    fn fmt(&self, f: &mut fmt::Formatter<'_>) -> fmt::Result {
+        f.write_str(match self {
+            NotTaken::OutOfTurn => "it isn't the turn of this call",
+            NotTaken::TooLong => "more than GCM allows, or than was verified",
+            NotTaken::Refused => "the message was refused",
+        })
+    }
+}
+
+impl std::error::Error for NotTaken {}
+
+/// A message in pieces of any size. To encrypt: `additional`, `encrypt`, `finish`. To decrypt: `additional`, `verify`,
+/// `accept`, and then `decrypt` with the same encrypted text once more, from its beginning: count the bytes of both
+/// passes. It is on the heap, so that a move leaves no copy of it, and is zeroized when it is dropped. It can't be
+/// cloned: a copy would encrypt another text under the same nonce.
+pub struct Message<'a> {
+    gcm: &'a Gcm,
+    message: Box<calls::Message>,
+}
+
+impl Gcm {
+    /// Begins a message in pieces under a nonce of yours. Once some of it was encrypted, its nonce is used.
+    pub fn begin(&self, nonce: &[u8]) -> Result<Message<'_>, NotSealed> {
+        // SAFETY: the slice is borrowed for the call, which reads nothing of the message.
+        self.begun(|message| unsafe { calls::fotsgure_gcm_begin(&*self.0, message, nonce.as_ptr(), nonce.len()) })
+    }
+
+    /// The same under the counter's next nonce, which it returns: store the counter before anything of the message is
+    /// sent.
+    pub fn begin_next(&self, counter: &mut Counter) -> Result<([u8; 12], Message<'_>), NotSealed> {
+        let mut nonce = [0; 12];
+        // SAFETY: as above.
+        let begun = self.begun(|message| unsafe {
+            calls::fotsgure_gcm_begin_next(&*self.0, message, &mut *counter, &mut nonce)
+        });
+        begun.map(|message| (nonce, message))
+    }
+
+    /// A message that a call begins.
+    fn begun(&self, begin: impl FnOnce(*mut MaybeUninit<calls::Message>) -> u32) -> Result<Message<'_>, NotSealed> {
+        let mut message = Box::new(MaybeUninit::zeroed());
+        sealed(begin(&mut *message))?;
+        // SAFETY: the box holds zeros, or what the call wrote over them: any bytes are a struct of numbers.
+        let message = unsafe { Box::from_raw(Box::into_raw(message).cast::<calls::Message>()) };
+        Ok(Message { gcm: self, message })
+    }
+}
+
+impl Message<'_> {
+    /// Takes a piece of the additional data, all of which comes before the text.
+    pub fn additional(&mut self, bytes: &[u8]) -> Result<(), NotTaken> {
+        // SAFETY: the key and the message are whole structs that `new` and `begin` wrote, and the slice is borrowed for
+        // the call. Those that are written are mutable, so that they overlap nothing.
+        taken(unsafe {
+            calls::fotsgure_gcm_additional(&*self.gcm.0, &mut *self.message, bytes.as_ptr(), bytes.len())
+        })
+    }
+
+    /// Encrypts a piece of the text in place.
+    pub fn encrypt(&mut self, text: &mut [u8]) -> Result<(), NotTaken> {
+        // SAFETY: as above.
+        taken(unsafe {
+            calls::fotsgure_gcm_encrypt(&*self.gcm.0, &mut *self.message, text.as_mut_ptr(), text.len())
+        })
+    }
+
+    /// Ends a message that was encrypted, and returns its tag.
+    pub fn finish(mut self) -> Result<[u8; 16], NotTaken> {
+        let mut tag = [0; 16];
+        // SAFETY: as above.
+        taken(unsafe { calls::fotsgure_gcm_finish(&*self.gcm.0, &mut *self.message, &mut tag) }).map(|()| tag)
+    }
+
+    /// Takes a piece of an encrypted text whose tag is to be compared. That it is taken doesn't say that it is authentic.
+    pub fn verify(&mut self, text: &[u8]) -> Result<(), NotTaken> {
+        // SAFETY: as above.
+        taken(unsafe { calls::fotsgure_gcm_verify(&*self.gcm.0, &mut *self.message, text.as_ptr(), text.len()) })
+    }
+
+    /// Compares the tag of what has come.
+    pub fn accept(&mut self, tag: &[u8]) -> Result<(), NotTaken> {
+        // SAFETY: as above.
+        taken(unsafe { calls::fotsgure_gcm_accept(&*self.gcm.0, &mut *self.message, tag.as_ptr(), tag.len()) })
+    }
+
+    /// Decrypts a piece in place of the text whose tag was right.
+    pub fn decrypt(&mut self, text: &mut [u8]) -> Result<(), NotTaken> {
+        // SAFETY: as above.
+        taken(unsafe {
+            calls::fotsgure_gcm_decrypt(&*self.gcm.0, &mut *self.message, text.as_mut_ptr(), text.len())
+        })
+    }
+}
+
+impl Drop for Message<'_> {
+    fn drop(&mut self) {
+        // SAFETY: a whole struct, borrowed for the call.
+        unsafe { calls::fotsgure_gcm_wipe_message(&mut *self.message) }
+    }
+}
+
+impl fmt::Debug for Message<'_> {
+    fn fmt(&self, f: &mut fmt::Formatter<'_>) -> fmt::Result {
+        f.write_str("Message { .. }")
+    }
+}
+
+fn taken(status: u32) -> Result<(), NotTaken> {
+    match status {
+        c::DONE => Ok(()),
+        calls::TOO_LONG => Err(NotTaken::TooLong),
+        calls::TAG_LENGTH | calls::REFUSED => Err(NotTaken::Refused),
+        calls::OUT_OF_TURN => Err(NotTaken::OutOfTurn),
+        other => unreachable!("status {other} with a key"),
     }
 }
 

@@ -36,7 +36,7 @@ pub fn count_examples()
 
 /// A step's number counts in all eight bytes of a semiblock: by hand, for the first step, for one whose number has more than
 /// 32 bits, and for the last one of the longest key.
-#[tactic(auto, unfolding(crate::specs::KeyWrap::number_added))]
+#[tactic(auto, unfolding(crate::specs::KeyWrap::number_added, aes_planes::specs::BigEndian::bytes))]
 pub fn number_examples()
     ensures first { number_added (replicate 8 0) 1 ≡ bytes 8 0x0000000000000001 }
     ensures high { number_added (replicate 8 0) (2 ^ 32) ≡ bytes 8 0x0000000100000000 }
