@@ -17,7 +17,8 @@ use aes_hybrid::lent::Lent;
 use aes_permute::lane_room::{LaneRoom, expand_in_room, keys_in_room};
 use gcm::{Room, TableRoom};
 use gcm_siv::{
-    LONGEST, PolyvalRoom, are_few, derive, open, put_authentication, seal, wipe_message_stack,
+    KeyRoom, LONGEST, PolyvalRoom, are_few, derive, open, put_authentication, seal,
+    wipe_message_stack,
 };
 
 // Returns the status that refuses these lengths or this struct, or `DONE`.
@@ -36,7 +37,7 @@ fn siv_refusal(siv: &Siv, additional: usize, text: usize) -> u32
 }
 
 // Expands the encryption key: the block after the first, or the two.
-fn expand_derived(keys: &[Block; 3], size: usize, round_keys: &mut LaneRoom)
+fn expand_derived(keys: &KeyRoom, size: usize, round_keys: &mut LaneRoom)
     requires { IsKeySize size }
     ensures schedule { IsCipherSchedule (stored_keys size round_keys.new) }
     ensures short { size ≡ 16 → key_in_room size round_keys.new ≡ slice_index_or keys.now 1 [] }
@@ -46,7 +47,7 @@ fn expand_derived(keys: &[Block; 3], size: usize, round_keys: &mut LaneRoom)
     if size == 16 {
         expand_in_room(round_keys, &keys[1]);
     } else {
-        expand_in_room(round_keys, keys[1..].as_flattened());
+        expand_in_room(round_keys, keys[1..3].as_flattened());
     }
 }
 
@@ -62,7 +63,7 @@ fn prepare<R: PolyvalRoom>(siv: &Siv, nonce: &[u8; 12], round_keys: &mut LaneRoo
     ensures encryption { key_in_room siv.now.key_length round_keys.new ≡ encryption_key (siv_key_in siv.now) nonce.now }
 {
     let size = siv.key_length as usize;
-    let mut keys = MustWipe::<[Block; 3]>::zeroed();
+    let mut keys = MustWipe::<KeyRoom>::zeroed();
     derive(&cipher_of(siv), size, nonce, keys.value_mut());
     put_authentication(&keys.value()[0], room);
     expand_derived(keys.value(), size, round_keys);

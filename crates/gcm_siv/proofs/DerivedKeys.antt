@@ -1,28 +1,28 @@
 -- The keys of a message.
 use Rattle.std.proofs.Common.{◌≡◌, ℕ, ◌+◌, ◌/◌, ◌<◌, ◌==◌, if◌then◌else◌, List, [], ◌++◌, length, map, slice_index_or, inl, inr}
 use Rattle.std.proofs.Common.{ap, sym, ◌∙◌, arith, take, drop}
-use Rattle.std.proofs.lemmas.List.{append-nil, get_or-take}
+use Rattle.std.proofs.lemmas.List.{append-nil, get_or-take, take-take}
 use Rattle.aes_planes.specs.Fips197.{cipher_with, key_expansion}
 use Rattle.gcm_siv.specs.GcmSiv.{derived, authentication_key, encryption_key, IsKeySize}
 use Rattle.gcm_siv.specs.Private.{derived_keys, halves_of_six, numbered}
 
 -- the halves of the ciphers of the first four numbered blocks
 four : (w : List (List ℕ)) (nonce : List ℕ) (first keys : List (List ℕ)) → first ≡ map (cipher_with w) (take 4 (numbered nonce))
-    → keys ≡ halves_of_six (first ++ drop 4 (numbered nonce)) → take 2 keys ≡ take 2 (derived_keys w nonce)
+    → take 3 keys ≡ halves_of_six (first ++ drop 4 (numbered nonce)) → take 2 keys ≡ take 2 (derived_keys w nonce)
 unfolding numbered halves_of_six derived_keys derived
 four w nonce first keys is made =
-    ap (take 2) made ∙ ap (λ l. take 2 (halves_of_six (l ++ drop 4 (numbered nonce)))) is
+    sym (take-take 2 3 keys (omega arith)) ∙ ap (take 2) made ∙ ap (λ l. take 2 (halves_of_six (l ++ drop 4 (numbered nonce)))) is
 
 -- and of all six
 six : (w : List (List ℕ)) (nonce : List ℕ) (first keys : List (List ℕ)) → first ≡ map (cipher_with w) (take 6 (numbered nonce))
-    → keys ≡ halves_of_six (first ++ drop 6 (numbered nonce)) → take 3 keys ≡ take 3 (derived_keys w nonce)
+    → take 3 keys ≡ halves_of_six (first ++ drop 6 (numbered nonce)) → take 3 keys ≡ take 3 (derived_keys w nonce)
 unfolding numbered halves_of_six derived_keys derived
 six w nonce first keys is made =
-    ap (take 3) made ∙ ap (λ l. take 3 (halves_of_six (l ++ drop 6 (numbered nonce)))) is
+    made ∙ ap (λ l. halves_of_six (l ++ drop 6 (numbered nonce))) is
 
 pub derived_is : (w : List (List ℕ)) (nonce : List ℕ) (first keys : List (List ℕ)) (size : ℕ) → IsKeySize size
     → first ≡ map (cipher_with w) (take (size / 8 + 2) (numbered nonce))
-    → keys ≡ halves_of_six (first ++ drop (size / 8 + 2) (numbered nonce))
+    → take 3 keys ≡ halves_of_six (first ++ drop (size / 8 + 2) (numbered nonce))
     → take (size / 16 + 1) keys ≡ take (size / 16 + 1) (derived_keys w nonce)
 derived_is w nonce first keys size (inl e) is made =
     let blocks : size / 8 + 2 ≡ 4 = omega (arith, e) in

@@ -9,7 +9,6 @@ ghost use Rattle.gcm_siv.specs.Private.{derived_keys, halves_of_six, numbered};
 use crate::hash::PolyvalRoom;
 use aes_cipher::blocks::{block_of_halves, halves_of_block};
 use aes_cipher::cipher::{Block, BlockCipherEncrypt};
-use aes_cipher::zeroize::MustWipe;
 use gcm::next_v;
 
 // A number of 32 bits, its lowest byte first, and the nonce.
@@ -47,36 +46,30 @@ fn first_halves(one: &Block, other: &Block) -> Block
     block_of_halves(&first, &second)
 }
 
-// Writes those of blocks, two by two.
+/// Room for the keys of a message: the authentication key in the first block, the encryption key in the two after it, of
+/// which a key of 16 bytes is the first. The others are as secret.
+pub type KeyRoom = [Block; 6];
+
+// Writes those of six blocks, two by two, into the first three.
 #[tactic(auto, unfolding(crate::specs::Private::halves_of_six))]
-fn put_halves(blocks: &[Block; 6], keys: &mut [Block; 3])
-    ensures { keys.new ≡ halves_of_six blocks.now }
+fn put_halves(blocks: &mut KeyRoom)
+    ensures { take 3 blocks.new ≡ halves_of_six blocks.old }
 {
-    *keys = [
-        first_halves(&blocks[0], &blocks[1]),
-        first_halves(&blocks[2], &blocks[3]),
-        first_halves(&blocks[4], &blocks[5]),
-    ];
+    blocks[0] = first_halves(&blocks[0], &blocks[1]);
+    blocks[1] = first_halves(&blocks[2], &blocks[3]);
+    blocks[2] = first_halves(&blocks[4], &blocks[5]);
 }
 
-/// Writes the keys of a message under a key of `size` bytes: the authentication key in the first block, and the encryption
-/// key in those after it, of which a key of 16 bytes is the first. It then has four blocks encrypted, and else six.
+/// Writes the keys of a message under a key of `size` bytes. It has four blocks encrypted for 16 bytes, and six for 32.
 #[tactic(auto, using(crate::proofs::DerivedKeys::derived_is))]
-pub fn derive<C: BlockCipherEncrypt>(
-    cipher: &C,
-    size: usize,
-    nonce: &[u8; 12],
-    keys: &mut [Block; 3],
-)
+pub fn derive<C: BlockCipherEncrypt>(cipher: &C, size: usize, nonce: &[u8; 12], keys: &mut KeyRoom)
     requires { IsKeySize size }
     ensures { let blocks = size / 16 + 1 in
         take blocks keys.new ≡ take blocks (derived_keys (C.round_keys cipher.now) nonce.now) }
 {
-    let mut room = MustWipe::<[Block; 6]>::zeroed();
-    *room.value_mut() = numbered_blocks(nonce);
-    cipher.encrypt_blocks(&mut room.value_mut()[..size / 8 + 2]);
-    put_halves(room.value(), keys);
-    room.wipe();
+    *keys = numbered_blocks(nonce);
+    cipher.encrypt_blocks(&mut keys[..size / 8 + 2]);
+    put_halves(keys);
 }
 
 /// Writes the multiples that POLYVAL takes: those of an authentication key times x^-1.

@@ -14,7 +14,7 @@ mod mode;
 
 pub use errors::{Refused, TooLong};
 pub use hash::PolyvalRoom;
-pub use keys::{derive, put_authentication};
+pub use keys::{KeyRoom, derive, put_authentication};
 pub use laws::text_twice;
 pub use lengths::{LONGEST, are_few, wipe_message_stack};
 pub use message::{open, seal};

@@ -9,7 +9,7 @@ ghost use Rattle.gcm_siv.specs.GcmSiv.{authentication_key, encryption_key, IsAut
 
 use crate::errors::{Refused, TooLong};
 use crate::hash::PolyvalRoom;
-use crate::keys::{derive, put_authentication};
+use crate::keys::{KeyRoom, derive, put_authentication};
 use crate::lengths::{are_allowed, are_few, wipe_message_stack};
 use crate::message::{open, seal};
 use aes_cipher::cipher::{Block, BlockCipherEncrypt, KeyInit};
@@ -19,7 +19,7 @@ use gcm::{Room, TableRoom};
 use std::marker::Model;
 
 // The cipher of a message, of its keys: that of the block after the first, or of the two blocks.
-fn message_cipher<C: KeyInit + Drop>(keys: &[Block; 3]) -> C
+fn message_cipher<C: KeyInit + Drop>(keys: &KeyRoom) -> C
     requires { IsKeySize C.KEY_SIZE }
     ensures short { C.KEY_SIZE ≡ 16 → C.own_key result ≡ slice_index_or keys.now 1 [] }
     ensures long { C.KEY_SIZE ≡ 32
@@ -28,7 +28,7 @@ fn message_cipher<C: KeyInit + Drop>(keys: &[Block; 3]) -> C
     let made = if C::KEY_SIZE == 16 {
         C::new_from_slice(&keys[1])
     } else {
-        C::new_from_slice(keys[1..].as_flattened())
+        C::new_from_slice(keys[1..3].as_flattened())
     };
     match made {
         Ok(cipher) => cipher,
@@ -69,7 +69,7 @@ impl<C: KeyInit + BlockCipherEncrypt + Drop> GcmSiv<C> {
         ensures small { from_le_bytes w128 (authentication_key self.now nonce.now) < 2 ^ 128 }
         ensures encryption { C.round_keys result ≡ fips.key_expansion (encryption_key self.now nonce.now) }
     {
-        let mut keys = MustWipe::<[Block; 3]>::zeroed();
+        let mut keys = MustWipe::<KeyRoom>::zeroed();
         derive(&self.cipher, C::KEY_SIZE, nonce, keys.value_mut());
         put_authentication(&keys.value()[0], room);
         let cipher = message_cipher(keys.value());
