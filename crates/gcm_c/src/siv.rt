@@ -83,8 +83,13 @@ fn seal_in<R: PolyvalRoom>(siv: &Siv, nonce: &[u8; 12], additional: &[u8], text:
     let mut kept = MustWipe::<LaneRoom>::zeroed();
     prepare(siv, nonce, kept.value_mut(), room.value_mut());
     let keys = keys_in_room(kept.value(), siv.key_length as usize);
-    let cipher = Lent::<BuildWidth>::new(keys);
-    let tag = seal(&cipher, room.value(), nonce, additional, text);
+    let tag = seal(
+        &Lent::<BuildWidth>::new(keys),
+        room.value(),
+        nonce,
+        additional,
+        text,
+    );
     kept.wipe();
     room.wipe();
     tag
@@ -127,8 +132,14 @@ fn open_in<R: PolyvalRoom>(
     let mut kept = MustWipe::<LaneRoom>::zeroed();
     prepare(siv, nonce, kept.value_mut(), room.value_mut());
     let keys = keys_in_room(kept.value(), siv.key_length as usize);
-    let cipher = Lent::<BuildWidth>::new(keys);
-    let is_right = open(&cipher, room.value(), nonce, additional, text, tag);
+    let is_right = open(
+        &Lent::<BuildWidth>::new(keys),
+        room.value(),
+        nonce,
+        additional,
+        text,
+        tag,
+    );
     kept.wipe();
     room.wipe();
     is_right
