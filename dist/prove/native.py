@@ -60,6 +60,10 @@ class Native:
         self.memory.seek(address)
         self.memory.write(content)
 
+    def read(self, name):
+        self.memory.seek(self.values.base[name])
+        return self.memory.read(len(self.m.regions[name].content))
+
     def registers(self):
         buffer = ctypes.create_string_buffer(8 * len(USER))
         ptrace(GETREGS, self.pid, None, buffer)
@@ -81,9 +85,8 @@ class Native:
         """Gives the processor what the machine has, where a statement holds only for some values of a result."""
         self.values.bytes = {}
         for name, region in self.m.regions.items():
-            for k, b in enumerate(region.content):
-                if self.values.byte(b) is not None:
-                    self.write(self.values.base[name] + k, bytes([self.values.byte(b)]))
+            have, known = self.read(name), [self.values.byte(b) for b in region.content]
+            self.write(self.values.base[name], bytes(old if b is None else b for old, b in zip(have, known)))
         registers = self.registers()
         words = {r: self.values.word(v) for r, v in self.m.general.items()}
         registers.update({r: w for r, w in words.items() if w is not None})
@@ -141,8 +144,7 @@ class Native:
     def finish(self):
         self.memory_of = {}
         for name, region in self.m.regions.items():
-            self.memory.seek(self.values.base[name])
-            have = self.memory_of[name] = self.memory.read(len(region.content))
+            have = self.memory_of[name] = self.read(name)
             for k, b in enumerate(region.content):
                 if self.values.byte(b) not in (None, have[k]):
                     raise Unproved("on the processor byte %d of %s differs" % (k, name))

@@ -1,6 +1,7 @@
 """Proves the calls of both libraries on the machine code that gcc makes of dist/x86_64, one process for each build and key size.
 Run it as `make prove` in dist; the README says what it shows."""
 import argparse
+import collections
 import concurrent.futures
 import os
 import re
@@ -147,7 +148,8 @@ class Task:
 
     def __init__(self, options, build, key_size, compared):
         self.options, self.build, self.key_size = options, build, key_size
-        self.compared, self.used, self.proved, self.failed, self.vectors = set(compared), set(), 0, 0, 0
+        self.compared, self.tried, self.used = set(compared), collections.Counter(), set()
+        self.proved, self.failed, self.vectors = 0, 0, 0
 
     def run(self):
         start = time.process_time()
@@ -169,8 +171,10 @@ class Task:
         start = time.process_time()
         try:
             m = prove(None)
-            if self.options.processor and not set(m.used) <= self.compared:
+            new = set(m.used) - self.compared
+            if self.options.processor and any(self.tried[form] < 2 for form in new):  # some forms are on other paths than the processor's
                 self.compared |= set(prove(SEED).used)
+                self.tried.update(new)
             self.used |= set(m.used)
             left = ", ".join("%d %s in %s" % (len(v), kind, place) for (place, kind), v in sorted(m.left.items()))
             text = "%d instructions, %d bytes of stack; left: %s" % (m.steps, m.top - m.lowest, left or "nothing")
