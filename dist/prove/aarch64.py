@@ -558,7 +558,7 @@ def umaxv(m, name, to, a):
     if len(known) < len(b) and 255 not in known:
         if any(equal for _, equal in b):
             raise Unproved("the maximum of bytes that depend on the key or on data")
-        known = [0 if m.decide(("zero", *[x for x, _ in b if x])) else 255]
+        known = [255 - 255 * m.decide(m.zero_flag([x for x, _ in b]))]
     m.write(to, [max(known)])
 
 

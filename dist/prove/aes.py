@@ -132,19 +132,23 @@ class Keyed:
     def blocks(self, direction, count):
         """Encrypts (Cipher, FIPS 197, 5.1) or decrypts (InvCipher, 5.3) each of `count` blocks in place under the key of *aes. DONE"""
         blocks = Buffer("blocks", self.content(count), self.results(direction, count))
-        return Call("aes_%s_blocks" % direction, [self.schedule(), blocks, count], DONE)
+        return Call("aes_%s_blocks" % direction, [self.schedule(), blocks, count], DONE, plain=self.plain(direction, count))
+
+    def plain(self, direction, count):
+        return self.content(count) if direction == "encrypt" else self.results(direction, count)
 
     def blocks_to(self, direction, count):
         """The same from one buffer to another; counts are in blocks."""
         output = Buffer("output", self.undefined(16 * count), self.results(direction, count))
-        return Call("aes_%s_blocks_to" % direction, [self.schedule(), Buffer("input", self.content(count)), count, output, count], DONE)
+        return Call("aes_%s_blocks_to" % direction, [self.schedule(), Buffer("input", self.content(count)), count, output, count], DONE,
+                    plain=self.plain(direction, count))
 
     def blocks_with(self, direction, count):
         """In one call, under a key"""
         content = self.content(count)
         blocks = Buffer("blocks", self.not_yet("blocks", 16 * count), self.results(direction, count))
         return Call("aes_%s_blocks_with" % direction, [Buffer("key", self.key), self.key_size, blocks, count], DONE,
-                    later=lambda m: self.go_on(m, {"blocks": content}))
+                    plain=self.plain(direction, count), later=lambda m: self.go_on(m, {"blocks": content}))
 
     # A call that expands a key begins in the key's domain. When it first computes with what isn't in it, what was made of the key
     # becomes the same of any round keys.
@@ -208,7 +212,7 @@ class Keyed:
         iv, name = self.counter_words(self.domain, position // 16)
         ctr = Buffer("ctr", iv + number(position, 8)[::-1], iv + number(position + count, 8)[::-1])
         return Call("aes_add_keystream", [self.schedule(), ctr, Buffer("bytes", data, want), count], DONE,
-                    counter=Counter(name, position // 16, wrap), keystream=stream)
+                    counter=Counter(name, position // 16, wrap), keystream=stream, plain=data + want)
 
     def add_keystream_to(self, position, count):
         """The same from one buffer to another; counts are in bytes."""
@@ -217,7 +221,7 @@ class Keyed:
         ctr = Buffer("ctr", iv + number(position, 8)[::-1], iv + number(position + count, 8)[::-1])
         output = Buffer("output", self.undefined(count), want)
         return Call("aes_add_keystream_to", [self.schedule(), ctr, Buffer("input", data), count, output, count], DONE,
-                    counter=Counter(name, position // 16, NEVER), keystream=stream)
+                    counter=Counter(name, position // 16, NEVER), keystream=stream, plain=data + want)
 
     def add_keystream_with(self, position, count):
         """In one call, under a key"""
@@ -227,7 +231,7 @@ class Keyed:
         ctr = Buffer("ctr", iv + number(position, 8)[::-1], after + number(position + count, 8)[::-1])
         bytes_ = Buffer("bytes", self.not_yet("bytes", count), want)
         return Call("aes_add_keystream_with", [Buffer("key", self.key), self.key_size, ctr, bytes_, count], DONE,
-                    counter=Counter(name, position // 16, NEVER), keystream=stream, later=lambda m: self.go_on(m, {"bytes": data}))
+                    counter=Counter(name, position // 16, NEVER), keystream=stream, plain=data + want, later=lambda m: self.go_on(m, {"bytes": data}))
 
     # CBC (SP 800-38A, 6.2).
     def cbc_decrypt(self, count):
@@ -237,7 +241,8 @@ class Keyed:
         content = self.content(count)
         chain = previous + content
         want = self.aes.xor(self.results("decrypt", count), chain)
-        return Call("aes_cbc_decrypt", [self.schedule(), Buffer("cbc", previous, chain[-16:]), Buffer("blocks", content, want), count], DONE)
+        return Call("aes_cbc_decrypt", [self.schedule(), Buffer("cbc", previous, chain[-16:]), Buffer("blocks", content, want), count],
+                    DONE, plain=want)
 
     def cbc_encrypt(self, count):
         """.. encrypts .. the next `count` blocks of a chain. After each block the encrypted block, which is what it should be,
@@ -253,7 +258,8 @@ class Keyed:
         blocks = [self.of(chain, b) for b in range(count + 1)]
         want = [x for b in blocks[1:] for x in b]
         return Call("aes_cbc_encrypt", [self.schedule(), Buffer("cbc", blocks[0], blocks[-1]),
-                                        Buffer("blocks", self.content(count), want), count], DONE, steps=steps)
+                                        Buffer("blocks", self.content(count), want), count], DONE, steps=steps,
+                    plain=self.content(count))
 
     # Key wrap (SP 800-38F, 6.1 to 6.3). In step t, the block A ^ [t] or A, with a semiblock R, is named as bytes of block t - 1.
     def cipher_of(self, block, direction="encrypt"):
@@ -294,7 +300,7 @@ class Keyed:
         more, and becomes one more. .. DONE"""
         steps, key, wrapped = self.wrap_string(ICV1, count, self.first[8:])
         output = Buffer("output", self.undefined(8 * count + 8), wrapped)
-        return Call("aes_wrap", [self.schedule(), Buffer("input", key), count, output, count + 1], DONE, steps=steps)
+        return Call("aes_wrap", [self.schedule(), Buffer("input", key), count, output, count + 1], DONE, steps=steps, plain=key)
 
     def unwrap(self, count):
         """.. fotsgure_aes_unwrap also REFUSED, and the output then is all zeros; else DONE. Whether the key is right is the only thing
@@ -302,7 +308,7 @@ class Keyed:
         n = count - 1
         steps, wrapped, start, key = self.unwrap_string(n)
         return Call("aes_unwrap", [self.schedule(), Buffer("input", wrapped), count, Buffer("output", self.undefined(8 * n), key), n],
-                    DONE, steps=steps, reveals=self.aes.xor(start, ICV1), refused=REFUSED, refused_after={"output": [0] * 8 * n})
+                    DONE, steps=steps, reveals=self.aes.xor(start, ICV1), refused=REFUSED, refused_after={"output": [0] * 8 * n}, plain=key)
 
     def wrap_padded(self, length):
         """Key wrap with padding (KWP, SP 800-38F, 6.3; RFC 5649) .. what is wrapped has one semiblock more than the key fills,
@@ -314,7 +320,8 @@ class Keyed:
         else:
             steps, key, wrapped = self.wrap_string(start, n, last)
         output = Buffer("output", self.undefined(8 * n + 8), wrapped)
-        return Call("aes_wrap_padded", [self.schedule(), Buffer("input", key[:length]), length, output, n + 1], DONE, steps=steps)
+        return Call("aes_wrap_padded", [self.schedule(), Buffer("input", key[:length]), length, output, n + 1], DONE, steps=steps,
+                    plain=key)
 
     def unwrap_padded(self, length):
         """And back: both counts are in semiblocks, and the output has one less. Afterwards *key_length is how many bytes the key has:
@@ -333,7 +340,8 @@ class Keyed:
             steps, wrapped, _, key = self.unwrap_string(n, start, last)
         output = Buffer("output", self.undefined(8 * n), key if status == DONE else [0] * 8 * n)
         key_length = Buffer("key_length", self.undefined(8), number(length if status == DONE else 0, 8)[::-1])
-        return Call("aes_unwrap_padded", [self.schedule(), Buffer("input", wrapped), n + 1, output, n, key_length], status, steps=steps)
+        return Call("aes_unwrap_padded", [self.schedule(), Buffer("input", wrapped), n + 1, output, n, key_length], status, steps=steps,
+                    plain=key)
 
     def unwrap_padded_refused(self):
         """.. REFUSED, and the output then is all zeros .. In all cases but DONE *key_length is 0. Shown for some first semiblocks that

@@ -7,8 +7,8 @@ from machine import Pointer, Region
 from native import Native
 
 STACK = 16384  # FOTSGURE_AES_STACK and FOTSGURE_GCM_STACK
-KINDS = "key", "inner", "step", "keystream", "result", "data"  # of what is left; see `kind`
-MAY_STAY = KINDS[2:]  # on the stack
+KINDS = "key", "inner", "plain", "step", "keystream", "result", "data"  # of what is left; see `kind`
+MAY_STAY = KINDS[3:]  # on the stack
 ANY = "any"    # for a Buffer of which something else is asked than bytes
 
 
@@ -25,14 +25,15 @@ class Call:
     (see step_by_step). `reveals` are bytes that are all zero if a wrapped key or a tag is right; if they are not, the call returns
     the status `refused`, and Buffers are what `refused_after` says by their names, or what they were. `assumes` are bytes of public
     data that are not all zero. `later` turns bytes of the
-    key's own domain into those of arbitrary round keys, for a call that expands a key (see aes.py). `keystream`: what is added to the
-    data, to tell it from other values of the key and data."""
+    key's own domain into those of arbitrary round keys, for a call that expands a key (see aes.py). `keystream` is what is added to
+    the data, and `plain` what is secret of the data and the results; `may_stay` are kinds of what may be left besides."""
 
     def __init__(self, name, arguments, status, size=4, steps=None, reveals=None, refused=None, refused_after=None, assumes=None,
-                 later=None, counter=None, keystream=()):
+                 later=None, counter=None, keystream=(), plain=(), may_stay=()):
         self.name, self.arguments, self.status, self.size, self.steps = name, arguments, status, size, steps
         self.reveals, self.refused, self.refused_after = reveals, refused, refused_after or {}
-        self.assumes, self.later, self.counter, self.keystream = assumes, later, counter, keystream
+        self.assumes, self.later, self.counter = assumes, later, counter
+        self.keystream, self.plain, self.may_stay = keystream, plain, may_stay
         self.buffers = [a for a in arguments if isinstance(a, Buffer)]
 
 
@@ -86,7 +87,7 @@ def check(m, call):
     """Compares what the call returned and wrote with its statement."""
     right = True
     if call.reveals is not None:
-        question = ("zero",) + tuple(call.reveals)
+        question = m.zero_flag(call.reveals)
         if [q for q in m.placed if q[0] == "zero"] != [question]:
             raise Unproved("reveals something else than whether the key or the tag is right")
         right = m.placed[question]
@@ -100,9 +101,9 @@ def check(m, call):
             compare(m.domain, m.regions[buffer.name].content, want, buffer.name)
             if not buffer.secret:
                 m.results += [b for b in want if b is not None]
-    m.left = left(m, call.keystream)
+    m.left = left(m, call)
     for place, k in m.left:
-        if place == "stack" and k not in MAY_STAY:
+        if place == "stack" and k not in MAY_STAY + call.may_stay:
             where = m.left[place, k]
             raise Unproved("leaves %d bytes on the stack (%s), from %d to %d of the stack pointer" % (len(where), k, where[0], where[-1]))
 
@@ -179,7 +180,8 @@ def depends_bit(m, x, origins=True):
 
 def kind(m, byte, names):
     """What a byte that is left tells: of the "key" alone, "inner" values of the key and others, from which the key may be computed,
-    a block that the cipher gave in the midst of a mode ("step"), the "keystream", the call's "result", or of "data" alone."""
+    "plain" text, a block that the cipher gave in the midst of a mode ("step"), the "keystream", the call's "result", or of "data"
+    alone."""
     if byte in m.lost:
         return "key"
     if not m.domain.symbolic(byte):
@@ -191,15 +193,15 @@ def kind(m, byte, names):
             inner = "key" if on == KEY else "inner" if depends_bit(m, x, False) & KEY else "step"
             kinds.add(names.get(x & ~1, inner))
         elif on & DATA:
-            kinds.add("data")
+            kinds.add(names.get(x & ~1, "data"))
     return next((k for k in KINDS if k in kinds), None)
 
 
-def left(m, keystream):
+def left(m, call):
     """What is left of a call, in bytes: {(place, kind): [where]}, in the dead stack, by the offset from the stack pointer at the call,
     and in registers."""
     names = {}
-    for name, bytes_ in ("keystream", keystream), ("result", m.results):
+    for name, bytes_ in ("result", m.results), ("plain", call.plain), ("keystream", call.keystream):
         names.update({x & ~1: name for b in bytes_ if m.domain.symbolic(b) for x in m.domain.bits(b)})
     places = [("stack", k - m.top, b) for k, b in enumerate(m.regions["stack"].content[:m.top])]
     places += [("registers", r, b) for r, v in m.general.items() for b in m.to_bytes(v, 8)]

@@ -206,7 +206,8 @@ class KeyedGcm(Keyed):
             yield from hashing.steps()
         tag = self.aes.xor(hashing.value, self.stream(first, 0))
         return Call(name, [self.schedule(), *first.arguments, additional, additional_length, Buffer("text", text, sealed), text_length,
-                           Buffer("tag", self.undefined(16), tag)], DONE, steps=steps, keystream=self.streams(first, text_length), **more)
+                           Buffer("tag", self.undefined(16), tag)], DONE, steps=steps, keystream=self.streams(first, text_length),
+                    plain=text, **more)
 
     def seal_next(self, additional_length, text_length, counter=None):
         """The same under the counter's next nonce, which it writes to `nonce`; the counter then moves on by one. .. DONE"""
@@ -226,7 +227,7 @@ class KeyedGcm(Keyed):
         text = Buffer("text", sealed, self.crypted(first, sealed))
         return Call("gcm_open", [self.schedule(), *first.arguments, additional, additional_length, text, text_length,
                                  Buffer("tag", tag), 16], DONE, steps=steps, reveals=self.aes.xor(tag, right), refused=REFUSED,
-                    keystream=self.streams(first, text_length))
+                    keystream=self.streams(first, text_length), plain=text.after)
 
     # Messages in pieces.
     def state(self, phase, additional, text, decrypted=0, value=ZEROS, rest=ZEROS, first=None):
@@ -296,15 +297,17 @@ class KeyedGcm(Keyed):
         after = self.state(ENCRYPTING if call == "encrypt" else VERIFYING, additional, before + count, 0, hashing.value, rest)
         texts = {"encrypt": (text, sealed), "verify": (sealed, None), "decrypt_unverified": (sealed, self.crypted(first, sealed, before))}
         return Call("gcm_" + call, [self.schedule(), self.message(state, after), Buffer("text", *texts[call]), count], DONE, steps=steps,
-                    keystream=self.streams(first, count, before) if call != "verify" else ())
+                    keystream=self.streams(first, count, before) if call != "verify" else (),
+                    plain=self.crypted(first, sealed, before) if call == "decrypt_unverified" else text)
 
     def decrypt(self, text, before, count):
         """Decrypts a piece in place of the encrypted text whose tag was right .. DONE"""
         first, (state, hashing) = self.nonce_of(), self.any_state(DECRYPTING, 3, text)
         sealed, rest = self.many(self.sealed, count, before % 16), self.of(self.rest, 0)
+        plain = self.crypted(first, sealed, before)
         before_, after = (self.state(DECRYPTING, 3, text, n, hashing.value, rest) for n in (before, before + count))
-        return Call("gcm_decrypt", [self.schedule(), self.message(before_, after), Buffer("text", sealed, self.crypted(
-            first, sealed, before)), count], DONE, keystream=self.streams(first, count, before))
+        return Call("gcm_decrypt", [self.schedule(), self.message(before_, after), Buffer("text", sealed, plain), count], DONE,
+                    keystream=self.streams(first, count, before), plain=plain)
 
     def tag_of(self, phase, additional, text):
         """A message in any state, and the tag of what has come of it."""

@@ -26,7 +26,7 @@ import struct
 import subprocess
 from collections import namedtuple
 
-from bits import Pause, Unproved
+from bits import PUBLIC, Pause, Unproved
 
 Pointer = namedtuple("Pointer", "base offset")  # base: the name of a region, or of a register's value before the call
 Distance = namedtuple("Distance", "base other offset")  # the address of a buffer, less that of another, plus a constant
@@ -199,7 +199,12 @@ class Machine:
         """The flags of a comparison of values that depend on the key or on data. Whether they are equal may be asked where a call
         may reveal it: whether all these bytes are zero."""
         different = [self.domain.xor_byte(p, q) for p, q in zip(self.to_bytes(x, size), self.to_bytes(y, size))]
-        return {"c": SECRET, "z": ("zero",) + tuple(different), "s": SECRET, "o": SECRET}
+        return {"c": SECRET, "z": self.zero_flag(different), "s": SECRET, "o": SECRET}
+
+    def zero_flag(self, b):
+        """Whether all these bytes are zero."""
+        unknown = [x for x in b if x > 255]
+        return int(not any(b)) if any(0 < x < 256 for x in b) or not unknown else ("zero", *unknown)
 
     # Memory.
     def place(self, address, size, write, align=1):
@@ -254,7 +259,8 @@ class Machine:
             raise Unproved("a branch or a condition depends on an undefined flag")
         if self.assumed and flag[0] == "zero" and set(flag[1:]) == set(self.assumed):
             return 0
-        if flag == SECRET or flag[0] == "zero" and not self.may_reveal:
+        public = flag[0] == "zero" and not any(self.domain.depends[c] & ~PUBLIC for b in flag[1:] for c in self.domain.cells(b))
+        if flag == SECRET or flag[0] == "zero" and not (public or self.may_reveal):
             raise Unproved("a branch or a condition depends on the key or on data")
         return self.by_place(flag)
 

@@ -17,6 +17,7 @@ from calls import Call
 from machine import Program
 from native import PROCESSORS
 from standards import pinned
+from vectors import checked
 from x86_64 import X86_64
 
 HERE = os.path.dirname(os.path.abspath(__file__))
@@ -89,11 +90,11 @@ def gcm_cases(k, everything):
         yield "seal %d, %d" % (a, n), k.seal(a, n)
     for a, n in [(0, 0), (13, 33)] + (lengths if everything else []):
         yield "open %d, %d" % (a, n), k.open(a, n)
-    for length, counter, before in ((8, 1, ()), (1, 2 ** 32 - 1, ()), (60, 2 ** 32 - 2, (7, 0, 255, 255))):
-        first = k.nonce_of(length, counter, before)
-        yield "seal with a nonce of %d bytes, J_0 ends in %x" % (length, counter), k.seal(5, 40, first)
-        yield "begin with a nonce of %d bytes, J_0 ends in %x" % (length, counter), k.begin(first)
-    yield "open with a nonce of 20 bytes, J_0 ends in ffffffff", k.open(3, 20, k.nonce_of(20, 2 ** 32 - 1))
+    for length, counter, before in ((8, 1, ()), (1, 2 ** 32 - 1, (7, 0, 255, 255)), (60, 2 ** 32 - 2, (255, 255, 255, 255))):
+        first, what = k.nonce_of(length, counter, before), "with a nonce of %d bytes, J_0 ends in %x" % (length, counter)
+        yield "seal " + what, k.seal(5, 40, first)
+        yield "begin " + what, k.begin(first)
+        yield "open " + what, k.open(3, 20, first)
     for counter in (None, 2 ** 64 - 1, 2 ** 96 - 2):
         yield "seal_next after %s" % counter, k.seal_next(3, 20, counter)
         yield "begin_next after %s" % counter, k.begin_next(counter)
@@ -108,7 +109,7 @@ def gcm_cases(k, everything):
         yield "decrypt %d after %d of %d" % (n, before, text), k.decrypt(text, before, n)
     for phase, a, n in ((gcm.ADDITIONAL, 0, 0), (gcm.ADDITIONAL, 5, 0), (gcm.ENCRYPTING, 5, 16), (gcm.ENCRYPTING, 16, 7)):
         yield "finish after %d, %d, phase %d" % (a, n, phase), k.finish(phase, a, n)
-        yield "accept after %d, %d, phase %d" % (a, n, phase), k.accept(phase if a % 16 == 0 or phase == 1 else gcm.VERIFYING, a, n)
+        yield "accept after %d, %d, phase %d" % (a, n, phase), k.accept(phase if phase == gcm.ADDITIONAL else gcm.VERIFYING, a, n)
     for length in (4, 8, 12, 13, 14, 15):
         yield "accept_short of %d bytes" % length, k.accept(gcm.VERIFYING, 16, 7, length)
     for i, call in enumerate(k.refused()):
@@ -138,7 +139,7 @@ class Task:
 
     def __init__(self, options, build, key_size, compared):
         self.options, self.build, self.key_size = options, build, key_size
-        self.compared, self.used, self.lines, self.proved, self.failed = set(compared), set(), [], 0, 0
+        self.compared, self.used, self.proved, self.failed, self.vectors = set(compared), set(), 0, 0, 0
 
     def run(self):
         start = time.process_time()
@@ -148,6 +149,7 @@ class Task:
         keyed = (gcm.KeyedGcm if library == "gcm" else aes.Keyed)(program, self.key_size)
         self.case("set_key", keyed.set_key)
         if not self.failed:
+            self.vectors = checked(keyed)
             number = Call(library + "_version", [], version(self.options.dist, library))
             self.case("version", lambda seed: keyed.proved(number, seed))
             for what, call in (gcm_cases if library == "gcm" else aes_cases)(keyed, self.options.all):
@@ -169,9 +171,9 @@ class Task:
         except Unproved as e:
             text = "NOT PROVED: %s" % e
             self.failed += 1
-        if self.options.all or self.options.lines or text.startswith("NOT"):
-            self.lines.append("%s.s, key of %d bytes, %s: %s; %.1f s" % (
-                self.build, self.key_size, what, text, time.process_time() - start))
+        if self.options.lines or text.startswith("NOT"):
+            print("%s.s, key of %d bytes, %s: %s; %.1f s" % (
+                self.build, self.key_size, what, text, time.process_time() - start), flush=True)
 
 
 def run_task(*arguments):
@@ -219,20 +221,21 @@ def main():
     os.makedirs(options.out, exist_ok=True)
     options.builds = [build for build in options.builds if not missing(BUILDS[build])]
     start, proved, failed, used, compared = time.time(), 0, 0, set(), set()
-    print("the standards' results on %d vectors" % pinned(Domain()))
+    vectors = pinned(Domain())
     say_what_is_missing()
     for what, fault in header_cases(options.dist):
         print("%s: %s" % (what, fault or "as in the statements"))
         proved, failed = proved + (not fault), failed + bool(fault)
     for task in tasks(options):
-        print("\n".join(task.lines + ["%s.s, key of %d bytes: %d proved, %d failed, %.0f s" % (
-            task.build, task.key_size, task.proved, task.failed, task.seconds)]), flush=True)
+        print("%s.s, key of %d bytes: %d proved, %d failed, %.0f s" % (
+            task.build, task.key_size, task.proved, task.failed, task.seconds), flush=True)
         proved, failed = proved + task.proved, failed + task.failed
-        folder = os.path.dirname(task.build)
-        used, compared = ({*all_, *((folder, form) for form in forms)} for all_, forms in ((used, task.used), (compared, task.compared)))
+        folder, vectors = os.path.dirname(task.build), vectors + task.vectors
+        used |= {(folder, form) for form in task.used}
+        compared |= {(folder, form) for form in task.compared}
     alone = [" ".join(form) for form in sorted(used - compared)]
     print("%d forms of instructions; the processor agreed on all but: %s" % (len(used), ", ".join(alone) or "none"))
-    print("%.0f s" % (time.time() - start))
+    print("%d vectors of the standards; %.0f s" % (vectors, time.time() - start))
     print("%d proved, %d failed" % (proved, failed))
     return failed != 0
 

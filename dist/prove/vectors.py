@@ -103,7 +103,8 @@ def gcm_vectors(k):
             first = k.nonce_of(len(nonce) // 2, counter_of(bytes.fromhex(key), bytes.fromhex(nonce)))
             given = {"nonce": nonce, "additional": G_MORE}
             yield k.seal(20, 60, first), key, dict(given, text=G_PLAIN), {"text": cipher, "tag": tag}
-            yield k.open(20, 60, first), key, dict(given, text=cipher, tag=tag), {"text": G_PLAIN}
+            if len(nonce) == 24:
+                yield k.open(20, 60, first), key, dict(given, text=cipher, tag=tag), {"text": G_PLAIN}
 
 
 def counter_of(key, nonce):

@@ -474,8 +474,7 @@ def ptest(m, name, a, b):
     """Both operands alike: whether all is zero."""
     if a != b:
         raise Unproved("ptest of different operands")
-    x = m.get_vector(a)
-    m.set_flags(c=1, s=0, o=0, z=int(not any(x)) if max(x) < 256 else ("zero",) + tuple(x))
+    m.set_flags(c=1, s=0, o=0, z=m.zero_flag(m.get_vector(a)))
 
 
 @op(*[v + p + w for v in ("", "v") for p in ("psll", "psrl") for w in "wdq"])
