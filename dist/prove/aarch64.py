@@ -67,10 +67,10 @@ class Aarch64(Machine):
     @staticmethod
     def decode(text, following):
         name, _, rest = re.sub(r"\s*(//|<).*", "", text).partition("\t")
-        run = branch_if if name[:2] == "b." else TABLE.get(name)
+        run = meaning(name)
         if run is None:
             raise Unproved("instruction not covered: " + text)
-        operands = parse(rest, run is branch_if or name in WITH_TARGET)
+        operands = parse(rest, name[:2] == "b." or name in WITH_TARGET)
         return Instruction(run, name, operands, following, " ".join([name] + [kind(o) for o in operands]))
 
     # Registers.
@@ -231,6 +231,10 @@ def kind(o):
 
 # Instructions. Each takes the machine, its own name, and its operands.
 TABLE = {}
+
+
+def meaning(name):
+    return TABLE.get(name, branch_if if name[:2] == "b." else None)
 
 
 def op(*names):
