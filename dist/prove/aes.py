@@ -200,7 +200,7 @@ class Keyed:
         first = position // 16
         _, streams, data_bytes = self.counter()
         places = range(position, position + count)
-        blocks = range(first, first + (position % 16 + count + 15) // 16)
+        blocks = range(first, first + (position % 16 + count) // 16 + 1)
         stream = [b for block in blocks for b in self.of(streams[block >= wrap], block - first)]
         data = [self.domain.byte_in_block(data_bytes[t % 16], t // 16 - first + 1) for t in places]
         return data, self.aes.xor(data, stream[position % 16:]), stream
@@ -221,7 +221,7 @@ class Keyed:
         ctr = Buffer("ctr", iv + number(position, 8)[::-1], iv + number(position + count, 8)[::-1])
         output = Buffer("output", self.undefined(count), want)
         return Call("aes_add_keystream_to", [self.schedule(), ctr, Buffer("input", data), count, output, count], DONE,
-                    counter=Counter(name, position // 16, NEVER), keystream=stream, plain=data + want)
+                    counter=Counter(name, position // 16, NEVER), keystream=stream, plain=data + want, may_stay=("plain",))
 
     def add_keystream_with(self, position, count):
         """In one call, under a key"""
@@ -300,7 +300,8 @@ class Keyed:
         more, and becomes one more. .. DONE"""
         steps, key, wrapped = self.wrap_string(ICV1, count, self.first[8:])
         output = Buffer("output", self.undefined(8 * count + 8), wrapped)
-        return Call("aes_wrap", [self.schedule(), Buffer("input", key), count, output, count + 1], DONE, steps=steps, plain=key)
+        return Call("aes_wrap", [self.schedule(), Buffer("input", key), count, output, count + 1], DONE, steps=steps, plain=key,
+                    may_stay=("plain",))
 
     def unwrap(self, count):
         """.. fotsgure_aes_unwrap also REFUSED, and the output then is all zeros; else DONE. Whether the key is right is the only thing
@@ -321,7 +322,7 @@ class Keyed:
             steps, key, wrapped = self.wrap_string(start, n, last)
         output = Buffer("output", self.undefined(8 * n + 8), wrapped)
         return Call("aes_wrap_padded", [self.schedule(), Buffer("input", key[:length]), length, output, n + 1], DONE, steps=steps,
-                    plain=key)
+                    plain=key, may_stay=("plain",))
 
     def unwrap_padded(self, length):
         """And back: both counts are in semiblocks, and the output has one less. Afterwards *key_length is how many bytes the key has:
@@ -346,10 +347,9 @@ class Keyed:
     def unwrap_padded_refused(self):
         """.. REFUSED, and the output then is all zeros .. In all cases but DONE *key_length is 0. Shown for some first semiblocks that
         no length has, and for padding that isn't zeros, with all keys."""
-        for start in (ICV1, ICV2 + number(8, 4), ICV2 + number(17, 4), ICV2 + number(2 ** 32 - 1, 4), [0xa7] + ICV2[1:] + number(16, 4),
-                      ICV2[:3] + [0xa7] + number(16, 4)):
-            yield self.unwrap_padded_to(start, 16, REFUSED)
-        yield self.unwrap_padded_to(ICV2 + number(13, 4), 13, REFUSED, filler=1)
+        starts = (ICV1, ICV2 + number(8, 4), ICV2 + number(2 ** 32 - 1, 4), ICV2[:3] + [0xa7] + number(16, 4), ICV2 + number(17, 4))
+        calls = [self.unwrap_padded_to(start, 16, REFUSED) for start in starts]
+        return calls + [self.unwrap_padded_to(ICV2 + number(13, 4), 13, REFUSED, filler=1)]
 
     # Calls that are refused: nothing but the status changes.
     def refused(self):

@@ -51,7 +51,7 @@ def prove(domain, program, call, seed=None):
         choices = answers[:-1] + [1]
 
 
-def attempt(domain, program, call, choices, seed):
+def attempt(domain, program, call, choices, seed, strict=True):
     regions = {b.name: Region(b.content, b.after is not None) for b in call.buffers}
     regions["stack"] = Region([domain.undefined] * (STACK + 128), align=16)
     arguments = [Pointer(a.name, 0) if isinstance(a, Buffer) else a for a in call.arguments]
@@ -70,6 +70,8 @@ def attempt(domain, program, call, choices, seed):
         if m.native:
             m.native.close()
     check(m, call)
+    if strict:
+        nothing_secret(m, call)
     return m
 
 
@@ -102,6 +104,9 @@ def check(m, call):
             if not buffer.secret:
                 m.results += [b for b in want if b is not None]
     m.left = left(m, call)
+
+
+def nothing_secret(m, call):
     for place, k in m.left:
         if place == "stack" and k not in MAY_STAY + call.may_stay:
             where = m.left[place, k]
@@ -112,7 +117,7 @@ def compare(domain, have, want, what):
     if len(have) != len(want):
         raise Unproved("%s has %d bytes and not %d" % (what, len(have), len(want)))
     for i, (x, y) in enumerate(zip(have, want)):
-        if x != y and y is not None and not (domain.symbolic(x) and domain.symbolic(y) and domain.bits(x) == domain.bits(y)):
+        if y is not None and x != y and not (x > 255 and y > 255 and domain.bits_of[x] == domain.bits_of[y] is not None):
             raise Unproved("byte %d of %s is %s and not %s" % (i, what, domain.describe(x), domain.describe(y)))
 
 
@@ -133,7 +138,8 @@ def step_by_step(steps):
                     if replaced.setdefault(x, y) != y:
                         raise Unproved("a byte of a result comes twice")
                     if m.domain.symbolic(y):
-                        m.origins[m.domain.cell_of(y)] = depends(m, x)
+                        cell, block = m.domain.cell_of(y)
+                        m.origins[cell, block] = depends(m, x) | m.domain.depends[cell]
             if where == "hash":
                 lost = m.domain.opaque(LOST)
                 m.lost.add(lost)

@@ -10,6 +10,7 @@ import aarch64
 import aes
 import faults_aarch64
 import gcm
+import leak
 import x86_64
 from bits import Unproved
 from machine import Pointer
@@ -136,6 +137,21 @@ def fault(options, build, k):
     return False, "MISSED: %s (%s.s:%d)" % (what, build, line)
 
 
+def leaked(options, wiped):
+    """Whether the last round key is found if the wipe of the stack is taken out, and nothing of it in the text of dist."""
+    keyed, path = keyed_of(options, "x86_64/aes"), options.out + "/leak"
+    right = keyed.program
+    if not wiped:
+        text = open(options.dist + "/x86_64/aes.s").read()
+        open(path + ".s", "w").write(edited(text, BATCHES, r"\tcallq\t\"aes_cipher::zeroize::stack::wipe_stack.*\n", "")[0])
+        keyed.program = link(path + ".s", path)
+    found = [leak.found(keyed, n) for n in (16, 17, 31)]
+    keyed.program = right
+    good = all(f == (0, 0) for f in found) if wiped else (16, 16) in found
+    return good, "%s: bytes of the last round key, computed from the stack after 16, 17 and 31 blocks, %s the wipe: %s" % (
+        "as it has to be" if good else "MISSED", "with" if wiped else "without", ", ".join("%d (%d right)" % f for f in found))
+
+
 # Wrong meanings: what an instruction writes is off by one. The processor has to disagree.
 def off_by_one(m, value):
     if isinstance(value, int):
@@ -231,6 +247,8 @@ def main():
     builds = [build for build in options.builds if not missing(BUILDS[build])]
     with concurrent.futures.ProcessPoolExecutor(options.jobs) as pool:
         tries = [pool.submit(fault, options, build, k) for build in builds for k, f in enumerate(FAULTS[build]) if options.only in f[0]]
+        if "x86_64/aes" in builds and not options.only:
+            tries += [pool.submit(leaked, options, wiped) for wiped in (False, True)]
         for build in builds:
             if not options.only and build.endswith("aes") and not PROCESSORS[BUILDS[build]].missing():
                 tries += [pool.submit(wrong_meaning, options, build, *p) for p in sorted(instructions(options, build).items())]

@@ -152,6 +152,9 @@ class KeyedGcm(Keyed):
         nonce = self.many(self.long_nonce, length)
         hashing = Hashing(self, ZEROS).take(threes(padded(nonce)) + [[self.lengths(0, length)]])
         bytes_ = self.pre_counter[:12 - len(before)] + list(before)
+        if before:  # the library also encrypts the block in which the counter carries, and throws it away
+            carried = bytes_[:8] + number(int.from_bytes(bytes(before), "big") + 1, 4) + number(0, 4)
+            self.once(("stream", *carried), lambda: self.aes.cipher(carried, self.w))
         hashing.end_as(bytes_ + number(counter, 4))
         if before:
             self.in_vain(bytes_ + number(counter, 4))
@@ -187,8 +190,8 @@ class KeyedGcm(Keyed):
 
     def streams(self, first, count, position=0):
         """The blocks of keystream of so many bytes from a position on."""
-        blocks = range(1 + position // 16, 1 + (position + count + 15) // 16)
-        return [b for i in blocks for b in self.stream(first, i)] if count else []
+        blocks = range(1 + position // 16, 2 + (position + count) // 16)
+        return [b for i in blocks for b in self.stream(first, i)]
 
     def lengths(self, additional, text):
         return number(8 * additional, 8) + number(8 * text, 8)

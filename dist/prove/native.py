@@ -92,9 +92,9 @@ class Native:
                 yield "vector register %d is %s and not %s" % (n, have.hex(), want.hex())
 
     def finish(self):
-        wrong = list(self.wrong_vectors(range(len(self.m.vectors))))
+        wrong, self.memory_of = list(self.wrong_vectors(range(len(self.m.vectors)))), {}
         for name, region in self.m.regions.items():
-            have = self.processor.read(self.values.base[name], len(region.content))
+            have = self.memory_of[name] = self.processor.read(self.values.base[name], len(region.content))
             known = [self.values.byte(b) for b in region.content]
             wrong += ["byte %d of %s" % (k, name) for k, b in enumerate(known) if b not in (None, have[k])]
         if wrong:
