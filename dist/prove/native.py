@@ -1,6 +1,6 @@
-"""A call on the real processor, one instruction at a time (ptrace), beside the machine of x86_64.py: after each instruction all
-registers and defined flags are compared, and all memory at the end, for random keys and data. So the meanings that x86_64.py gives to
-instructions are those of the processor on every instruction of the path."""
+"""A call on the real processor, one instruction at a time (ptrace), beside the machine of x86_64.py: after each
+instruction all registers and defined flags are compared, and all memory at the end, for random keys and data. So the
+meanings that x86_64.py gives to instructions are those of the processor on every instruction of the path."""
 import ctypes
 import os
 import random
