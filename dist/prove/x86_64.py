@@ -30,7 +30,7 @@ CONDITIONS = {"e": "z", "ne": "!z", "b": "c", "ae": "!c", "be": "c|z", "a": "!(c
 
 class X86_64(Machine):
     """With the System V ABI, in which the stack is aligned to 16 bytes before the return address is pushed."""
-    tools, objdump = "", ("-M", "intel")
+    tools, objdump, host = "", ("-M", "intel"), "host.s"
     registers, stack_pointer = R64, "rsp"
     vector_count, vector_size = 16, 32
     arguments, result = "rdi rsi rdx rcx r8 r9".split(), "rax"
