@@ -138,14 +138,9 @@ def fault(options, build, k):
 
 
 def leaked(options, wiped):
-<<<<<<< HEAD
     """Whether the last round key is found if the wipe of the stack is taken out, and nothing of it in the text of
     dist."""
-    keyed, path = keyed_of(options, "aes"), options.out + "/leak"
-=======
-    """Whether the last round key is found if the wipe of the stack is taken out, and nothing of it in the text of dist."""
     keyed, path = keyed_of(options, "x86_64/aes"), options.out + "/leak"
->>>>>>> 872c18ea77d06f1a555a7dbe962b021da3cf2fbe
     right = keyed.program
     if not wiped:
         text = open(options.dist + "/x86_64/aes.s").read()

@@ -1,15 +1,8 @@
-<<<<<<< HEAD
-"""A call on the real processor, one instruction at a time (ptrace), beside the machine of x86_64.py: after each
-instruction all registers and defined flags are compared, and all memory at the end, for random keys and data. So the
-meanings that x86_64.py gives to instructions are those of the processor on every instruction of the path."""
-import ctypes
-import os
-=======
-"""A call on a processor, one instruction at a time, beside the machine: after each instruction the general registers, the
-defined flags and the vector registers that changed are compared, and at the end all of them and all memory, for random keys
-and data. So the meanings that x86_64.py and aarch64.py give to instructions are those of a processor on every instruction of
-the path: of the one that this runs on (processor.py), or of one that qemu emulates (emulator.py)."""
->>>>>>> 872c18ea77d06f1a555a7dbe962b021da3cf2fbe
+"""A call on a processor, one instruction at a time, beside the machine: after each instruction the general registers,
+the defined flags and the vector registers that changed are compared, and at the end all of them and all memory, for
+random keys and data. So the meanings that x86_64.py and aarch64.py give to instructions are those of a processor on
+every instruction of the path: of the one that this runs on (processor.py), or of one that qemu emulates
+(emulator.py)."""
 import random
 
 from aarch64 import Aarch64

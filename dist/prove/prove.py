@@ -1,10 +1,5 @@
-<<<<<<< HEAD
-"""Proves the calls of both libraries on the machine code that gcc makes of dist/x86_64, one process for each build and
-key size. Run it as `make prove` in dist; the README says what it shows."""
-=======
-"""Proves the calls of both libraries on the machine code that gcc makes of dist/x86_64 and dist/aarch64, one process for each build
-and key size. Run it as `make prove` in dist; the README says what it shows."""
->>>>>>> 872c18ea77d06f1a555a7dbe962b021da3cf2fbe
+"""Proves the calls of both libraries on the machine code that gcc makes of dist/x86_64 and dist/aarch64, one process
+for each build and key size. Run it as `make prove` in dist; the README says what it shows."""
 import argparse
 import collections
 import concurrent.futures
