@@ -440,7 +440,7 @@ def store(m, name, *operands):
 
 @op("stlxr")
 def store_exclusive(m, name, failed, source, to):
-    """It succeeds. It may fail, at random, and stores nothing then; the code tries again, and does then what it does here."""
+    """It succeeds. It may fail, and stores nothing then; the code tries again, and does then what it does here."""
     m.store(m.address(to), m.read(source), source.size)
     m.put(failed, 0)
 
