@@ -162,7 +162,7 @@ def off_by_one(m, value):
     return m.from_bytes([m.domain.xor_byte(value[0], 1)] + list(value[1:]))
 
 
-BRANCHES = "call", "jmp", "ret", "b", "bl", "br", "blr", "cbz", "cbnz"
+BRANCHES = "call", "jmp", "ret", "b", "bl", "br", "blr", "cbz", "cbnz", "tbz", "tbnz"
 COMPARISONS = "cmp", "test", "bt", "ccmp"
 
 
