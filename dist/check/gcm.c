@@ -350,6 +350,29 @@ static void shorter_key(void)
     }
 }
 
+/* What a program reads in the fields of a message, whose places no proof pins: what has come, and what comes next. */
+static void fields(const struct fotsgure_gcm *gcm)
+{
+    struct fotsgure_gcm_message message;
+    const uint8_t nonce[12] = {1, 2, 3, 4, 5, 6, 7, 8, 9, 10, 11, 12};
+    memset(text, 5, 21);
+    expect(fotsgure_gcm_begin(gcm, &message, nonce, 12) == FOTSGURE_GCM_DONE &&
+        fotsgure_gcm_additional(gcm, &message, additional, 3) == FOTSGURE_GCM_DONE && message.phase == 1 &&
+        memcmp(message.first, nonce, 12) == 0 && message.first[15] == 1 && memcmp(message.rest, additional, 3) == 0 &&
+        all(message.value, 16, 0), "fields after additional data", 3);
+    expect(fotsgure_gcm_encrypt(gcm, &message, text, 21) == FOTSGURE_GCM_DONE && message.additional == 3 &&
+        message.text == 21 && message.decrypted == 0 && message.phase == 2 && memcmp(message.rest, text + 16, 5) == 0,
+        "fields after text", 21);
+    expect(fotsgure_gcm_finish(gcm, &message, tag) == FOTSGURE_GCM_DONE &&
+        fotsgure_gcm_begin(gcm, &message, nonce, 12) == FOTSGURE_GCM_DONE &&
+        fotsgure_gcm_additional(gcm, &message, additional, 3) == FOTSGURE_GCM_DONE &&
+        fotsgure_gcm_verify(gcm, &message, text, 21) == FOTSGURE_GCM_DONE && message.phase == 3 &&
+        fotsgure_gcm_accept(gcm, &message, tag, 16) == FOTSGURE_GCM_DONE &&
+        fotsgure_gcm_decrypt(gcm, &message, text, 2) == FOTSGURE_GCM_DONE && message.decrypted == 2 &&
+        message.text == 21 && message.phase == 4, "fields of an accepted message", 21);
+    fotsgure_gcm_wipe_message(&message);
+}
+
 /* What each call on a message answers in each phase: additional, encrypt, finish, verify, accept, decrypt. */
 static void out_of_turn(const struct fotsgure_gcm *gcm)
 {
@@ -414,6 +437,7 @@ static void pieces(void)
         for (size_t piece = 1; piece <= 67; piece += 1 + piece / 3)
             expect(cut(&gcm, nonce, piece % 2 ? 12 : 1 + length % 60, piece, length * 7 % 200, length), "cut", length);
     out_of_turn(&gcm);
+    fields(&gcm);
     wraps_in_pieces();
     counted_pieces(&gcm, &none);
     short_tags(&gcm);

@@ -5,7 +5,7 @@ import subprocess
 from pathlib import Path
 
 ROOT = Path(__file__).resolve().parent.parent.parent
-MADE_BY_SCRIPTS = {"evidence/WRONG_BODIES.md", "evidence/PLANTED_DEFINITIONS.md"}
+MADE_BY_SCRIPTS = {"evidence/PLANTED_DEFINITIONS.md"}
 MOST_LINES, MOST_CHARACTERS = 200, 300
 
 

@@ -9,6 +9,7 @@ ghost use Rattle.aes_soft.specs.Stored.{key_of_planes, stored_words, IsFullSched
 use aes_cipher::aes;
 use aes_cipher::aes::{CountsLayers, Decrypts, Encrypts, KeySize, MadeFrom, Processes, StoredKeys};
 use aes_cipher::cipher::{BlockCipherDecClosure, BlockCipherEncClosure, Decrypt, Encrypt};
+use aes_cipher::not_clone::NotClone;
 use aes_cipher::zeroize::Wiped;
 use aes_planes::soft::sbox::Layers;
 use aes_planes::soft::word::Block;
@@ -35,6 +36,8 @@ impl<K: KeySize> Drop for Fixsliced<K> {
         let Fixsliced { room: _, size: _ } = self;
     }
 }
+
+impl<K: KeySize> NotClone for Fixsliced<K> {}
 
 impl<K: KeySize> StoredKeys for Fixsliced<K> {
     type Size = K;

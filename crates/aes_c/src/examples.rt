@@ -10,10 +10,13 @@ ghost use Rattle.aes_planes.specs.Fips197 as fips;
 ghost use Rattle.aes_permute.specs.Keys.{encrypting, key_in_room, stored_keys, AreInverse, AreZeroAfter};
 ghost use Rattle.aes_c.specs.Kept.{IsMade};
 
+use crate::kept::Aes;
 use crate::status::{
     DONE, INVALID_COUNT, KEY_LENGTH, KEYSTREAM_END, NO_KEY, REFUSED, UNEQUAL_COUNTS, VERSION,
 };
+use crate::stream::Ctr;
 use aes_planes::examples::key_expansion_128;
+use cbc::Cbc;
 
 /// The numbers that the header gives to statuses and to the version.
 pub fn numbers_of_the_header()
@@ -26,6 +29,13 @@ pub fn numbers_of_the_header()
     ensures refused { REFUSED ≡ 6 }
     ensures version { VERSION ≡ 300 }
 {}
+
+// How many bytes the structs have by the header, with nothing between their fields.
+const _: () = prove!(size_of::<Aes>() == 484);
+
+const _: () = prove!(size_of::<Ctr>() == 24);
+
+const _: () = prove!(size_of::<Cbc>() == 16);
 
 // The blocks of the struct of the key of A.1, each as one number, highest byte first: the stored round keys of Cipher.
 const ENCRYPTING: [u128; 15] = [

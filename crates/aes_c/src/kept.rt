@@ -7,6 +7,7 @@ ghost use Rattle.aes_c.specs.Kept.{key_in, IsMade};
 
 use crate::status::{DONE, KEY_LENGTH};
 use crate::width::BuildWidth;
+use aes_cipher::not_clone::NotClone;
 use aes_cipher::zeroize::{Zeroize, zeroize_elements};
 use aes_hybrid::lent::Lent;
 use aes_hybrid::lent_both::LentBoth;
@@ -23,6 +24,8 @@ pub struct Aes {
     /// Those of EqInvCipher.
     pub decrypting: LaneRoom,
 }
+
+impl NotClone for Aes {}
 
 impl Zeroize for Aes {
     ghost ZERO = { record {

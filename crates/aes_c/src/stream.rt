@@ -7,6 +7,7 @@ ghost use Rattle.aes_c.specs.Kept.{round_keys_in, IsMade};
 
 use crate::kept::{Aes, holds_key, lent};
 use crate::status::{DONE, KEYSTREAM_END, NO_KEY, UNEQUAL_COUNTS};
+use aes_cipher::not_clone::NotClone;
 use aes_ctr::add_keystream;
 
 /// Where a keystream stands: `struct fotsgure_aes_ctr`.
@@ -18,6 +19,8 @@ pub struct Ctr {
     /// How many bytes of the keystream come before the next.
     pub position: u64,
 }
+
+impl NotClone for Ctr {}
 
 // Returns the status that refuses `count` bytes of keystream from a position on, or `DONE`.
 fn refusal(aes: &Aes, position: u64, count: usize) -> u32

@@ -1,5 +1,5 @@
--- Bytes as blocks: what the calls on bytes and the laws of blocks speak of.
-use Rattle.std.specs.Prelude.{◌≡◌, ℕ, ◌/◌, ◌<◌, List, [], length, slice_index_or}
+-- Bytes as blocks, and blocks that a call may change: what the calls on bytes and the laws of blocks speak of.
+use Rattle.std.specs.Prelude.{◌≡◌, ◌⊎◌, ℕ, ◌/◌, ◌<◌, List, [], length, slice_index_or}
 use Rattle.std.specs.Simd.{first_chunks}
 
 -- the blocks that bytes hold, one after another: sixteen bytes each, and those after the last whole block left out
@@ -9,3 +9,9 @@ blocks_of bytes = first_chunks 16 (length bytes / 16) bytes
 -- each of a list of blocks has sixteen bytes
 abbrev pub Sixteens : List (List ℕ) → Type 0
 Sixteens blocks = (i : ℕ) → i < length blocks → length (slice_index_or blocks i []) ≡ 16
+
+-- in each place, f of the block that was there, or that block
+abbrev pub EachOrUnchanged : (List ℕ → List ℕ) → List (List ℕ) → List (List ℕ) → Type 0
+EachOrUnchanged f before after = (i : ℕ) → i < length before
+    → (slice_index_or after i [] ≡ f (slice_index_or before i []))
+    ⊎ (slice_index_or after i [] ≡ slice_index_or before i [])

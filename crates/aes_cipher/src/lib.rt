@@ -6,4 +6,5 @@ pub mod blocks;
 pub mod bytes;
 pub mod cipher;
 pub mod examples;
+pub mod not_clone;
 pub mod zeroize;

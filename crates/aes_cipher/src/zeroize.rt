@@ -4,10 +4,12 @@ ghost use Rattle.std.specs.Prelude.{◌≡◌, ℕ, false, length, map, replicat
 
 mod elements;
 mod must_wipe;
+mod stack;
 
 use aes_planes::soft::word::Word;
 pub use elements::{Element, zeroize_elements};
 pub use must_wipe::MustWipe;
+pub use stack::wipe_stack;
 use std::convert::AsSlice;
 use std::marker::Model;
 use std::sync::atomic::{AtomicU64, Ordering};

@@ -1,10 +1,13 @@
 -- Which block of a row a byte falls in, and sums of data and a row of blocks.
 use Rattle.std.proofs.Common.{◌≡◌, ℕ, ◌+◌, ◌*◌, ◌/◌, ◌%◌, ◌<◌, ◌≤◌, List, [], ◌++◌, length, slice_index, slice_index_or}
-use Rattle.std.proofs.Common.{map, take, drop, ap, ◌∙◌, sym, arith}
-use Rattle.std.proofs.lemmas.List.{get_or-map}
+use Rattle.std.proofs.Common.{◌⊎◌, inl, inr, ◌-◌, map, take, drop, set, get_or, ap, ◌∙◌, sym, arith}
+use Rattle.std.proofs.lemmas.Bool.{cases_lt}
+use Rattle.std.proofs.lemmas.List.{get_or-drop, get_or-map, get_or-take, get_or_append_left, drop-drop, drop-set-lt}
+use Rattle.std.proofs.lemmas.List.{length-take-le}
 use Rattle.aes_planes.specs.Fips197.{cipher_with}
+use Rattle.aes_cipher.specs.Blocks.{EachOrUnchanged}
 use Rattle.aes_cipher.proofs.FirstBlocks.{first_at}
-use Rattle.aes_cipher.proofs.SliceRuns.{finished, all_finished}
+use Rattle.aes_cipher.proofs.SliceRuns.{finished, finished_one}
 use Rattle.aes_ctr.specs.CounterMode.{counter_block, keystream_byte, plus_stream}
 use Rattle.aes_ctr.specs.Private.{byte_of_blocks}
 use Rattle.aes_ctr.proofs.Sums.{plus-agree}
@@ -53,16 +56,40 @@ plus_batch w iv blocks counted first n data_bytes all long at sized =
     (λ j inside. sym (ap (byte_of_blocks blocks) (omega arith)
     ∙ byte_of_keystream w iv blocks n (16 * first) j filled (omega arith)))
 
--- a loop over all counter blocks leaves the cipher of each
-pub ciphered : (w : List (List ℕ)) (iv : List ℕ) (first n k m : ℕ) (xs counted : List (List ℕ)) → length xs ≤ n
+-- a block that a loop makes the cipher of what it was leaves those after it as they were
+pub left_after_one : (i : ℕ) (xs counted : List (List ℕ)) (y : List ℕ) → drop i xs ≡ drop i counted
+    → drop (i + 1) (set xs i y) ≡ drop (i + 1) counted
+left_after_one i xs counted y left =
+    let next : (l : List (List ℕ)) → drop (i + 1) l ≡ drop 1 (drop i l) =
+    λ l. sym (drop-drop 1 i l) in
+    drop-set-lt (i + 1) xs i y (omega arith) ∙ next xs ∙ ap (drop 1) left ∙ sym (next counted)
+
+-- a loop over the first n counter blocks leaves the cipher of each of them
+pub ciphered : (w : List (List ℕ)) (iv : List ℕ) (first n k m : ℕ) (xs counted : List (List ℕ)) → n ≤ length xs
     → finished (cipher_with w) n xs ≡ map (cipher_with w) counted → m ≤ length counted
-    → ((i : ℕ) → i < m → slice_index_or counted i [] ≡ counter_block iv (first + i)) → k < m
+    → ((i : ℕ) → i < m → slice_index_or counted i [] ≡ counter_block iv (first + i)) → n ≤ m → k < n
     → slice_index_or xs k [] ≡ cipher_with w (counter_block iv (first + k))
-ciphered w iv first n k m xs counted end kept long at lt =
+ciphered w iv first n k m xs counted inside kept long at fits lt =
     let f = cipher_with w in
-    ap (λ l. slice_index_or l k []) (sym (all_finished f n xs end) ∙ kept)
-    ∙ get_or-map f counted k [] [] (omega (arith, long))
-    ∙ ap f (at k lt)
+    let among : k < length (take n xs) = omega (arith, lt, length-take-le n xs inside) in
+    sym (get_or-take n xs k [] lt) ∙ sym (get_or_append_left (take n xs) (map f (drop n xs)) [] k among)
+    ∙ ap (λ l. slice_index_or l k []) kept ∙ get_or-map f counted k [] [] (omega (arith, long, fits, lt))
+    ∙ ap f (at k (omega (arith, fits, lt)))
+
+-- and the others as they were
+pub ciphered_or_left : (w : List (List ℕ)) (iv : List ℕ) (first n k m : ℕ) (xs counted : List (List ℕ)) → n ≤ length xs
+    → finished (cipher_with w) n xs ≡ map (cipher_with w) counted → drop n xs ≡ drop n counted → m ≤ length counted
+    → ((i : ℕ) → i < m → slice_index_or counted i [] ≡ counter_block iv (first + i)) → n ≤ m → k < m
+    → (slice_index_or xs k [] ≡ cipher_with w (counter_block iv (first + k)))
+    ⊎ (slice_index_or xs k [] ≡ counter_block iv (first + k))
+ciphered_or_left w iv first n k m xs counted inside kept left long at fits lt = elim (cases_lt k n) [
+  | inl below ↦ inl (ciphered w iv first n k m xs counted inside kept long at fits below)
+  | inr past ↦
+      let place : n + (k - n) ≡ k = omega (arith, past) in
+      let read : (l : List (List ℕ)) → slice_index_or (drop n l) (k - n) [] ≡ slice_index_or l k [] =
+      λ l. get_or-drop n l (k - n) [] ∙ ap (λ m. slice_index_or l m []) place in
+      inr (sym (read xs) ∙ ap (λ l. slice_index_or l (k - n) []) left ∙ read counted ∙ at k lt)
+]
 
 -- where the first counter blocks of a batch are ciphered, they are blocks of the keystream
 pub ciphered_first : (w : List (List ℕ)) (iv : List ℕ) (first n k : ℕ) (xs ys : List (List ℕ))
@@ -71,3 +98,24 @@ pub ciphered_first : (w : List (List ℕ)) (iv : List ℕ) (first n k : ℕ) (xs
     → slice_index_or ys k [] ≡ cipher_with w (counter_block iv (first + k))
 ciphered_first w iv first n k xs ys firsts fits at lt =
     first_at (cipher_with w) n k xs ys [] firsts lt fits ∙ ap (cipher_with w) (at k lt)
+
+-- where each counter block of a batch is ciphered or left, so is any of them
+pub ciphered_or_counted : (w : List (List ℕ)) (iv : List ℕ) (first k m : ℕ) (xs ys : List (List ℕ))
+    → EachOrUnchanged (cipher_with w) xs ys → m ≤ length xs
+    → ((i : ℕ) → i < m → slice_index_or xs i [] ≡ counter_block iv (first + i)) → k < m
+    → (slice_index_or ys k [] ≡ cipher_with w (counter_block iv (first + k)))
+    ⊎ (slice_index_or ys k [] ≡ counter_block iv (first + k))
+ciphered_or_counted w iv first k m xs ys each long at lt = elim (each k (omega (arith, long, lt))) [
+  | inl done ↦ inl (done ∙ ap (cipher_with w) (at k lt))
+  | inr same ↦ inr (same ∙ at k lt)
+]
+
+-- what a call uses that writes blocks of the keystream by a backend
+pub ruleset filled = (
+  ciphered,
+  ciphered_or_left,
+  ciphered_first,
+  ciphered_or_counted,
+  finished_one,
+  left_after_one,
+)

@@ -1,6 +1,6 @@
 //! Blocks of the keystream.
 
-ghost use Rattle.std.specs.Prelude.{◌≡◌, ℕ, [], ◌+◌, ◌<◌, ◌≤◌, length, slice_index_or};
+ghost use Rattle.std.specs.Prelude.{◌≡◌, ◌⊎◌, ℕ, [], ◌+◌, ◌<◌, ◌≤◌, length, slice_index_or};
 ghost use Rattle.aes_planes.specs.Fips197 as fips;
 ghost use Rattle.aes_ctr.specs.CounterMode.{counter_block};
 
@@ -35,8 +35,9 @@ pub(crate) fn fill_with_keystream<C: BlockCipherEncrypt>(
 }
 
 // Writes `count` blocks of the keystream, from number `first` on, with a backend: as the first of a batch, or one by
-// one. A call of its own, so that whole batches, which don't need it, are inlined.
-#[tactic(auto, using(crate::proofs::Places::ciphered, crate::proofs::Places::ciphered_first, aes_cipher::proofs::SliceRuns::finished_one))]
+// one. The others are left as counter blocks, or blocks of the keystream too. A call of its own, so that whole batches,
+// which don't need it, are inlined.
+#[tactic(auto, using(crate::proofs::Places::filled))]
 pub(crate) fn fill_by_backend<B: BlockCipherEncBackend>(
     backend: &B,
     iv: &Block,
@@ -45,8 +46,11 @@ pub(crate) fn fill_by_backend<B: BlockCipherEncBackend>(
     blocks: &mut [Block],
 )
     requires { count ≤ length blocks.old }
-    ensures { (i : ℕ) → i < count → slice_index_or blocks.new i []
+    ensures first { (i : ℕ) → i < count → slice_index_or blocks.new i []
         ≡ fips.cipher_with (B.round_keys backend.now) (counter_block iv.now (first + i)) }
+    ensures others { (i : ℕ) → i < length blocks.old
+        → (slice_index_or blocks.new i [] ≡ fips.cipher_with (B.round_keys backend.now) (counter_block iv.now (first + i)))
+        ⊎ (slice_index_or blocks.new i [] ≡ counter_block iv.now (first + i)) }
 {
     // All of the batch gets counters: blocks of zeros would be encrypted with it, and their cipher is H of GCM.
     count_on(iv, first, blocks);

@@ -6,6 +6,7 @@ ghost use Rattle.aes_ctr.specs.CounterMode.{keystream_byte, plus_stream};
 use crate::add_in_batches::add_keystream;
 use crate::errors::KeystreamEnd;
 use aes_cipher::cipher::{Block, BlockCipherEncrypt};
+use aes_cipher::not_clone::NotClone;
 use std::marker::Model;
 
 /// Counter mode over a cipher (SP 800-38A, 6.5). The counter is the whole block, a number with its highest byte first,
@@ -30,6 +31,8 @@ impl<C: BlockCipherEncrypt> Model for Ctr128BE<C> {
       position = mode.position;
     } };
 }
+
+impl<C: BlockCipherEncrypt> NotClone for Ctr128BE<C> {}
 
 impl<C: BlockCipherEncrypt> Ctr128BE<C> {
     /// Counter mode over a cipher from an initial counter block on, at position 0. A cipher may be lent:

@@ -102,7 +102,7 @@ impl<W: Width> BlockCipherEncBackend for OnLanes<'_, Encrypt, W> {
         self.process_few(blocks);
     }
 
-    #[tactic(auto, using(aes_cipher::proofs::FirstBlocks::first_alone))]
+    #[tactic(auto, using(aes_cipher::proofs::FirstBlocks::first_blocks))]
     #[inline(always)]
     fn encrypt_first_blocks(&self, count: usize, blocks: &mut [Block]) {
         self.process_few(&mut blocks[..count]);
@@ -179,7 +179,7 @@ impl<W: Width> BlockCipherEncBackend for Batches<'_, Encrypt, W> {
         process_batch_under::<W::Many, Encrypt>(self.words, blocks, &mut Layers::new());
     }
 
-    #[tactic(auto, using(aes_cipher::proofs::FirstBlocks::first_of_all))]
+    #[tactic(auto, using(aes_cipher::proofs::FirstBlocks::first_blocks))]
     #[inline(always)]
     fn encrypt_first_blocks(&self, count: usize, blocks: &mut [Block]) {
         if count <= W::MOST_AFTER_BATCHES {

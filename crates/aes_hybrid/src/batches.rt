@@ -7,6 +7,7 @@ ghost use Rattle.aes_soft.specs.Stored as soft;
 ghost use Rattle.aes_permute.specs.Keys.{key_of_lanes, IsCipherSchedule};
 
 use crate::plane_keys::PlaneKeys;
+use aes_cipher::zeroize::wipe_stack;
 use aes_planes::soft::sbox::Layers;
 use aes_planes::soft::word::{Batch, Block, Word};
 use aes_soft::soft::PlaneCipher;
@@ -14,6 +15,9 @@ use aes_soft::soft::blocks::{process_batch_under, process_batches_under};
 
 // How many blocks the widest words hold.
 const LARGEST_BATCH: usize = 16;
+
+// How many bytes of stack the work on batches takes at most, on the widest words.
+const BATCHES_STACK: usize = 1536;
 
 // Copies the first blocks of a slice to another, at most a batch, one by one: LLVM makes a call of a copy of the slice, whose
 // stores the loads that follow have to wait for.
@@ -61,8 +65,9 @@ fn process_rest<D: PlaneCipher, W: Word>(words: &[W], blocks: &mut [Block])
     copy_first::<W>(blocks, &batch, blocks.len());
 }
 
-// Processes each block on words of round keys: whole batches, and then what is left.
-#[inline(always)]
+// Processes each block on words of round keys: whole batches, and then what is left. In a call of its own, so that its
+// stack can be wiped.
+#[inline(never)]
 fn process_in_batches<D: PlaneCipher, W: Word>(words: &[W], blocks: &mut [Block])
     requires is_schedule { soft.IsFullSchedule W.bits W.BLOCKS words.now }
     ensures { Each (D.processed (fips.key_expansion (soft.key_of_planes W.bits W.BLOCKS words.now))) blocks.old blocks.new }
@@ -74,8 +79,8 @@ fn process_in_batches<D: PlaneCipher, W: Word>(words: &[W], blocks: &mut [Block]
     }
 }
 
-/// Processes each block in place on planes, which are wiped before the call returns. Not inlined, so that few blocks need
-/// no large stack frame.
+/// Processes each block in place on planes, which are wiped before the call returns, with the stack that the work on them
+/// took. Not inlined, so that few blocks need no large stack frame.
 #[inline(never)]
 pub(crate) fn process_on_planes<D: PlaneCipher, W: Word>(keys: &[Block], blocks: &mut [Block])
     requires keyed { IsCipherSchedule keys.now }
@@ -85,4 +90,5 @@ pub(crate) fn process_on_planes<D: PlaneCipher, W: Word>(keys: &[Block], blocks:
     planes.store(keys);
     process_in_batches::<D, W>(planes.lend(keys.len()), blocks);
     planes.wipe();
+    wipe_stack::<BATCHES_STACK>();
 }

@@ -4,25 +4,42 @@
 ghost use Rattle.std.specs.Prelude.{◌≡◌};
 ghost use Rattle.aes_planes.specs.Fips197 as fips;
 ghost use Rattle.aes_permute.specs.Keys.{key_of_lanes, AreInverse, IsCipherSchedule};
+ghost use Rattle.aes_soft.specs.Stored as soft;
 
 use crate::backends::{Batches, OnLanes};
 use crate::plane_keys::PlaneKeys;
 use crate::widths::Width;
 use aes_cipher::cipher::{BlockCipherDecClosure, BlockCipherEncClosure, Decrypt, Encrypt};
+use aes_cipher::zeroize::wipe_stack;
 use aes_planes::soft::word::Block;
 
-// Lends planes to encrypt, which are wiped before the call returns. The planes are a local variable of a function of its own, since
+// How many bytes of stack a closure takes at most that works on batches, as those of this library's modes do. From 2 KB on
+// libc's memset takes a slower way.
+const CLOSURE_STACK: usize = 2032;
+
+// Calls a closure with planes to encrypt. In a call of its own, so that its stack can be wiped.
+#[inline(never)]
+fn call_to_encrypt<W: Width, F: BlockCipherEncClosure>(keys: &[Block], words: &[W::Many], f: &mut F)
+    requires keyed { IsCipherSchedule keys.now }
+    requires is_schedule { soft.IsFullSchedule W.Many.bits W.Many.BLOCKS words.now }
+    requires same_key { soft.key_of_planes W.Many.bits W.Many.BLOCKS words.now ≡ key_of_lanes keys.now }
+    ensures { F.did f.old (fips.key_expansion (key_of_lanes keys.now)) f.new }
+{
+    f.call(&Batches::new(OnLanes::<Encrypt, W>::new(keys, keys), words));
+}
+
+// Lends planes to encrypt. They are wiped before the call returns, with the stack that the closure took. The planes are a local variable of a function of its own, since
 // a function makes room for its variables where it begins, also where it leaves before it needs them.
 #[inline(always)]
 fn lend_planes_to_encrypt<W: Width, F: BlockCipherEncClosure>(keys: &[Block], f: &mut F)
     requires { IsCipherSchedule keys.now }
     ensures { F.did f.old (fips.key_expansion (key_of_lanes keys.now)) f.new }
 {
-    let few = OnLanes::<Encrypt, W>::new(keys, keys);
     let mut planes = PlaneKeys::<W::Many>::zeroed();
     planes.store(keys);
-    f.call(&Batches::new(few, planes.lend(keys.len())));
+    call_to_encrypt::<W, F>(keys, planes.lend(keys.len()), f);
     planes.wipe();
+    wipe_stack::<CLOSURE_STACK>();
 }
 
 /// Calls a closure with a backend that encrypts under stored round keys of Cipher.
@@ -42,6 +59,23 @@ pub(crate) fn lend_to_encrypt<W: Width, F: BlockCipherEncClosure>(
     }
 }
 
+// Calls a closure with planes to decrypt.
+#[inline(never)]
+fn call_to_decrypt<W: Width, F: BlockCipherDecClosure>(
+    keys: &[Block],
+    inverse: &[Block],
+    words: &[W::Many],
+    f: &mut F,
+)
+    requires keyed { IsCipherSchedule keys.now }
+    requires inverse { AreInverse inverse.now keys.now }
+    requires is_schedule { soft.IsFullSchedule W.Many.bits W.Many.BLOCKS words.now }
+    requires same_key { soft.key_of_planes W.Many.bits W.Many.BLOCKS words.now ≡ key_of_lanes keys.now }
+    ensures { F.did f.old (fips.key_expansion (key_of_lanes keys.now)) f.new }
+{
+    f.call(&Batches::new(OnLanes::<Decrypt, W>::new(keys, inverse), words));
+}
+
 // Lends planes to decrypt. They serve both directions, and are made of the round keys of Cipher.
 #[inline(always)]
 fn lend_planes_to_decrypt<W: Width, F: BlockCipherDecClosure>(
@@ -53,11 +87,11 @@ fn lend_planes_to_decrypt<W: Width, F: BlockCipherDecClosure>(
     requires inverse { AreInverse inverse.now keys.now }
     ensures { F.did f.old (fips.key_expansion (key_of_lanes keys.now)) f.new }
 {
-    let few = OnLanes::<Decrypt, W>::new(keys, inverse);
     let mut of_cipher = PlaneKeys::<W::Many>::zeroed();
     of_cipher.store(keys);
-    f.call(&Batches::new(few, of_cipher.lend(keys.len())));
+    call_to_decrypt::<W, F>(keys, inverse, of_cipher.lend(keys.len()), f);
     of_cipher.wipe();
+    wipe_stack::<CLOSURE_STACK>();
 }
 
 /// Calls a closure with a backend that decrypts under those and the ones of EqInvCipher of the same key.

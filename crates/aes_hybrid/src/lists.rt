@@ -12,6 +12,7 @@ use aes_cipher::aes::{Decrypts, Encrypts, KeySize, MadeFrom, Processes, StoredKe
 use aes_cipher::cipher::{
     BlockCipherDecClosure, BlockCipherEncClosure, BlockCipherEncrypt, Decrypt, Encrypt,
 };
+use aes_cipher::not_clone::NotClone;
 use aes_cipher::zeroize::Wiped;
 use aes_permute::lane_room::{LaneRoom, expand_in_room, invert_in_room, keys_in_room};
 use aes_planes::soft::word::Block;
@@ -36,6 +37,8 @@ impl<K: KeySize, W> Drop for Encrypting<K, W> {
         } = self;
     }
 }
+
+impl<K: KeySize, W> NotClone for Encrypting<K, W> {}
 
 impl<K: KeySize, W> StoredKeys for Encrypting<K, W> {
     type Size = K;
@@ -114,6 +117,8 @@ impl<K: KeySize, W> Drop for BothLists<K, W> {
         } = self;
     }
 }
+
+impl<K: KeySize, W> NotClone for BothLists<K, W> {}
 
 impl<K: KeySize, W> StoredKeys for BothLists<K, W> {
     type Size = K;

@@ -7,6 +7,7 @@ ghost use Rattle.aes_soft.specs.Stored as soft;
 ghost use Rattle.aes_permute.specs.Stored.{untower};
 ghost use Rattle.aes_permute.specs.Keys.{key_of_lanes, IsCipherSchedule};
 
+use aes_cipher::not_clone::NotClone;
 use aes_cipher::zeroize::zeroize_words;
 use aes_permute::lanes::looked_up_by_nibbles;
 use aes_permute::tables::{UNTOWER_HIGH, UNTOWER_LOW};
@@ -134,3 +135,5 @@ impl<W: Word> Drop for PlaneKeys<W> {
         let PlaneKeys { room: _ } = self;
     }
 }
+
+impl<W: Word> NotClone for PlaneKeys<W> {}

@@ -1,6 +1,6 @@
 //! Vectors of one block or of two, and what the rounds do with them: the same with each block.
 
-ghost use Rattle.std.specs.Prelude.{◌≡◌, ◌+◌, ◌≤◌, ◌<◌, ℕ, List, [], map, length, get_or, bit_xor};
+ghost use Rattle.std.specs.Prelude.{◌≡◌, ◌⊎◌, ◌+◌, ◌≤◌, ◌<◌, ℕ, List, [], map, length, get_or, bit_xor};
 ghost use Rattle.std.proofs.Common.{arith};
 ghost use Rattle.std.specs.Simd.Lanes.{zip2};
 ghost use Rattle.aes_planes.specs.Fips197 as fips;
@@ -69,6 +69,11 @@ pub trait Lanes: Copy {
         requires inside { from + BLOCKS ≤ length blocks.old }
         ensures { blocks.new ≡ written (block self) BLOCKS from blocks.old };
 }
+
+/// No effect; states how many blocks a vector has.
+pub fn has_one_block_or_two<L: Lanes>()
+    ensures { (L.BLOCKS ≡ 1) ⊎ (L.BLOCKS ≡ 2) }
+{}
 
 /// Returns the entry of a table at each lane of a vector of one block, and 0 at a lane from 128 on.
 #[tactic(auto, using(crate::proofs::Lookups::looked_lanes, crate::proofs::Lookups::indices_ok))]

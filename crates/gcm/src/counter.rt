@@ -3,6 +3,8 @@
 ghost use Rattle.std.specs.Prelude.{◌≡◌, ◌≢◌, ◌↔◌, ◌+◌, ◌-◌, ◌*◌, ◌^◌, IsTrue, IsNone, IfSome};
 ghost use Rattle.gcm.specs.Gcm.{nonce_number};
 
+use aes_cipher::not_clone::NotClone;
+
 /// The next nonce of a key, as C keeps it: `struct fotsgure_gcm_counter`. Whoever copies it gives out its nonces twice.
 #[repr(C)]
 #[derive(Drop)]
@@ -39,6 +41,8 @@ fn put(nonce: &mut [u8; 12], high: u32, low: u64)
     first.copy_from_slice(&high.to_be_bytes());
     last.copy_from_slice(&low.to_be_bytes());
 }
+
+impl NotClone for Counter {}
 
 impl Counter {
     /// Returns whether no nonce is left: take a new key.

@@ -14,7 +14,6 @@ mod message;
 mod mode;
 mod multiples;
 mod pieces;
-mod stack;
 
 pub use counter::Counter;
 pub use errors::{InvalidMessage, InvalidPiece, NotAccepted, OutOfTurn, Refused, TooLong};

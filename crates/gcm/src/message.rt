@@ -4,6 +4,7 @@ ghost use Rattle.std.specs.Prelude.{◌≡◌};
 ghost use Rattle.gcm.specs.Pieces.{phase_of};
 
 use aes_cipher::cipher::Block;
+use aes_cipher::not_clone::NotClone;
 use aes_cipher::zeroize::{Zeroize, zeroize_elements};
 use std::slice::from_mut;
 
@@ -42,6 +43,8 @@ pub struct Message {
     /// First the bytes of a block that isn't whole yet.
     pub rest: Block,
 }
+
+impl NotClone for Message {}
 
 impl Zeroize for Message {
     ghost use Rattle.gcm.specs.Pieces.{no_message};

@@ -14,13 +14,12 @@ use crate::gctr::{BlockRoom, add_gctr};
 use crate::hash::{hash_on, hash_piece};
 use crate::message::{Message, Phase, number_of, phase_of};
 use crate::mode::{
-    LONGEST_HASHED, LONGEST_TEXT, LentGcm, add_masked, hash_lengths, is_expected, is_short_tag,
-    put_mask,
+    LONGEST_HASHED, LONGEST_TEXT, LentGcm, SHALLOW, add_masked, hash_lengths, is_expected,
+    is_short_tag, put_mask,
 };
-use crate::stack::{SHALLOW, wipe_stack};
 use aes_cipher::blocks::{block_of_number, number_of_block};
 use aes_cipher::cipher::{Block, BlockCipherEncrypt};
-use aes_cipher::zeroize::Zeroize;
+use aes_cipher::zeroize::{Zeroize, wipe_stack};
 
 // Whether text of a phase may come: it has, or additional data may.
 fn is_turn(message: &Message, phase: Phase) -> bool

@@ -13,6 +13,7 @@ use crate::status::{
     DONE, KEY_LENGTH, NO_KEY, NONCE_LENGTH, NONCES_END, OUT_OF_TURN, REFUSED, TAG_LENGTH, TOO_LONG,
 };
 use crate::whole::fotsgure_gcm_seal;
+use gcm::{Counter, Message};
 
 /// The numbers that the header gives to statuses and to the version.
 pub fn numbers_of_the_header()
@@ -27,6 +28,13 @@ pub fn numbers_of_the_header()
     ensures out_of_turn { OUT_OF_TURN ≡ 8 }
     ensures version { VERSION ≡ 300 }
 {}
+
+// How many bytes the structs have by the header, with nothing between their fields.
+const _: () = prove!(size_of::<Gcm>() == 1780);
+
+const _: () = prove!(size_of::<Counter>() == 12);
+
+const _: () = prove!(size_of::<Message>() == 80);
 
 /// The lengths of nonces, those on either side of them, and the most that a message may have.
 pub fn length_examples()

@@ -7,6 +7,7 @@ ghost use Rattle.gcm_c.specs.Kept.{key_in, round_keys_in, IsMade};
 
 use crate::status::{DONE, KEY_LENGTH};
 use crate::width::BuildWidth;
+use aes_cipher::not_clone::NotClone;
 use aes_cipher::zeroize::{Zeroize, zeroize_elements};
 use aes_hybrid::lent::Lent;
 use aes_permute::lane_room::{expand_in_room, is_key_size, keys_in_room};
@@ -24,6 +25,8 @@ pub struct Gcm {
     /// The multiples of H.
     pub multiples: Room,
 }
+
+impl NotClone for Gcm {}
 
 impl Zeroize for Gcm {
     ghost ZERO = { record {

@@ -3,11 +3,11 @@
 //!
 //! `bytes n 0x..` is the n bytes that these digits write.
 
-ghost use Rattle.std.specs.Prelude.{◌≡◌, ◌↔◌, ◌+◌, ◌-◌, ◌^◌, ◌∷◌, [], length, take, IfOk, IsOk, OnOk};
+ghost use Rattle.std.specs.Prelude.{◌≡◌, ◌↔◌, ◌+◌, ◌-◌, ◌*◌, ◌^◌, ◌∷◌, [], length, replicate, take, IfOk, IsOk, OnOk};
 ghost use Rattle.std.specs.List.{concat};
 ghost use Rattle.aes_planes.specs.BigEndian.{bytes};
 ghost use Rattle.aes_planes.specs.Fips197 as fips;
-ghost use Rattle.key_wrap.specs.KeyWrap.{wrapped, Fit};
+ghost use Rattle.key_wrap.specs.KeyWrap.{number_added, wrapped, Fit};
 ghost use Rattle.key_wrap.specs.Padded.{filled, wrapped_padded, FitPadded, FitUnpadded};
 
 use crate::errors::InvalidCount;
@@ -32,6 +32,15 @@ pub fn count_examples()
     ensures one_filled { FitUnpadded 1 2 }
     ensures most_filled { FitUnpadded (2 ^ 29) (2 ^ 29 + 1) }
     ensures too_many_filled { ¬ FitUnpadded (2 ^ 29 + 1) (2 ^ 29 + 2) }
+{}
+
+/// A step's number counts in all eight bytes of a semiblock: by hand, for the first step, for one whose number has more than
+/// 32 bits, and for the last one of the longest key.
+#[tactic(auto, unfolding(crate::specs::KeyWrap::number_added, aes_planes::specs::BigEndian::bytes))]
+pub fn number_examples()
+    ensures first { number_added (replicate 8 0) 1 ≡ bytes 8 0x0000000000000001 }
+    ensures high { number_added (replicate 8 0) (2 ^ 32) ≡ bytes 8 0x0000000100000000 }
+    ensures last { number_added (replicate 8 0xa6) (6 * (2 ^ 54 - 1)) ≡ bytes 8 0xa7d959595959595c }
 {}
 
 // The blocks of the twelve steps of W: in each the first semiblock, and that of the key whose turn it is.

@@ -3,6 +3,7 @@
 ghost use Rattle.std.specs.Prelude.{◌≡◌, ℕ, ◌≤◌, List, length, take};
 ghost use Rattle.aes_planes.specs.Each.{Each};
 ghost use Rattle.aes_planes.specs.Fips197 as fips;
+ghost use Rattle.aes_cipher.specs.Blocks.{EachOrUnchanged};
 
 use super::batches::ParBlocksSizeUser;
 use super::round_keys::RoundKeysUser;
@@ -20,14 +21,15 @@ pub trait BlockCipherEncBackend: ParBlocksSizeUser + RoundKeysUser {
         ensures { Each (fips.cipher_with (Self.round_keys self.now)) blocks.old blocks.new };
 
     /// Encrypts the first blocks of one batch in place, `count` of them, under the value's round keys (Cipher, FIPS 197,
-    /// 5.1). What the others are afterwards is not said, since the whole batch may take less time than its first blocks.
-    /// They may be encrypted too, so let none of them be a block whose encryption is a secret, as that of zeros is in GCM.
-    #[tactic(auto, using(crate::proofs::FirstBlocks::first_of_all, crate::proofs::FirstBlocks::first_alone))]
+    /// 5.1). Each of the others is then unchanged or encrypted too, since the whole batch may take less time than its first
+    /// blocks. So let none of them be a block whose encryption is a secret, as that of zeros is in GCM.
+    #[tactic(auto, using(crate::proofs::FirstBlocks::first_blocks))]
     #[inline(always)]
     fn encrypt_first_blocks(&self, count: usize, blocks: &mut [Block])
         requires one_batch { length blocks.old ≡ Self.PAR_BLOCKS }
         requires inside { count ≤ length blocks.old }
-        ensures { Each (fips.cipher_with (Self.round_keys self.now)) (take count blocks.old) (take count blocks.new) }
+        ensures first { Each (fips.cipher_with (Self.round_keys self.now)) (take count blocks.old) (take count blocks.new) }
+        ensures others { EachOrUnchanged (fips.cipher_with (Self.round_keys self.now)) blocks.old blocks.new }
     {
         if count == 1 {
             self.encrypt_block(&mut blocks[0]);

@@ -5,6 +5,7 @@ ghost use Rattle.std.specs.Prelude.{◌≡◌, ◌⊎◌, ◌≤◌, length};
 use super::all_rounds;
 use super::with_inverse::{Aes, AesDec};
 use aes_cipher::cipher::{BatchOfEight, BatchSizeUser, BlockCipherEncBackend, RoundKeysUser};
+use aes_cipher::not_clone::NotClone;
 use aes_planes::laws;
 use aes_planes::soft::word::Block;
 use std::slice;
@@ -42,6 +43,8 @@ impl<const RK: usize> AesEnc<RK> {
         AesDec::of(&self.round_keys)
     }
 }
+
+impl<const RK: usize> NotClone for AesEnc<RK> {}
 
 impl<const RK: usize> RoundKeysUser for AesEnc<RK> {
     ghost round_keys = { λ cipher. cipher.round_keys };

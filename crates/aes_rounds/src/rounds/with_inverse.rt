@@ -11,6 +11,7 @@ use aes_cipher::cipher::{
     BatchOfEight, BatchSizeUser, BlockCipherDecBackend, BlockCipherEncBackend, Decrypt,
     RoundKeysUser,
 };
+use aes_cipher::not_clone::NotClone;
 use aes_planes::laws;
 use aes_planes::soft::word::Block;
 use std::marker::PhantomData;
@@ -41,6 +42,8 @@ impl<const RK: usize, D> Drop for WithInverse<RK, D> {
         } = self;
     }
 }
+
+impl<const RK: usize, D> NotClone for WithInverse<RK, D> {}
 
 impl<const RK: usize, D> WithInverse<RK, D> {
     /// Makes the cipher under these round keys, which need not be the expansion of a key.

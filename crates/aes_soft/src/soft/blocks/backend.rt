@@ -24,6 +24,9 @@ pub use encrypt::encrypt_with_backend;
 use std::convert::AsSlice;
 use std::marker::Model;
 
+// How many bytes of stack a closure takes at most that works on batches, as those of this library's modes do.
+const CLOSURE_STACK: usize = 2032;
+
 /// The backend of a key of 16 bytes.
 pub type Aes128Backend<'a> = Backend<'a, Wiped<[BatchWord; 88]>>;
 

@@ -9,7 +9,7 @@ ghost use Rattle.aes_soft.specs.Stored.{key_of_planes, rounds_of, IsFullSchedule
 use crate::soft::blocks::BatchWord;
 use crate::soft::ciphers::{Full, PlaneCipher, process, process_in_a_call};
 use crate::soft::full::store_widened_first;
-use aes_cipher::zeroize::MustWipe;
+use aes_cipher::zeroize::{MustWipe, wipe_stack};
 use aes_planes::soft::sbox::Layers;
 use aes_planes::soft::word::{Batch, Block, Word};
 use std::slice;
@@ -82,8 +82,27 @@ pub fn process_batches_under<W: Word, D: PlaneCipher>(
     }
 }
 
+// How many bytes of stack the work on batches takes at most.
+const BATCHES_STACK: usize = 1024;
+
+// Processes whole batches in a call of its own, so that its stack can be wiped.
+#[inline(never)]
+fn process_batches_in_a_call<W: Word, D: PlaneCipher>(
+    words: &[W],
+    blocks: &mut [Block],
+    layers: &mut Layers,
+)
+    requires is_schedule { IsFullSchedule W.bits W.BLOCKS words.now }
+    requires whole_batches { length blocks.old % W.Blocks.LEN ≡ 0 }
+    ensures blocks { Each (D.processed (fips.key_expansion (key_of_planes W.bits W.BLOCKS words.now))) blocks.old blocks.new }
+    ensures layers { layers.new
+        ≡ layers.old + rounds_of (length words.now) * (length blocks.old / W.Blocks.LEN) }
+{
+    process_batches_under::<W, D>(words, blocks, layers);
+}
+
 /// Processes each block of a slice in place, under stored round keys: whole batches first, then one block after the
-/// other.
+/// other. The stack that the work on them took is wiped before the call returns.
 #[inline(always)]
 pub fn process_blocks_under<D: PlaneCipher>(
     round_keys: &[u16],
@@ -100,10 +119,11 @@ pub fn process_blocks_under<D: PlaneCipher>(
         let mut room = MustWipe::<[BatchWord; 120]>::zeroed();
         store_widened_first(room.value_mut(), round_keys);
         let widened = &room.value()[..round_keys.len()];
-        process_batches_under::<BatchWord, D>(widened, &mut blocks[..whole], layers);
+        process_batches_in_a_call::<BatchWord, D>(widened, &mut blocks[..whole], layers);
         room.wipe();
     }
-    process_batches_under::<u16, D>(round_keys, &mut blocks[whole..], layers);
+    process_batches_in_a_call::<u16, D>(round_keys, &mut blocks[whole..], layers);
+    wipe_stack::<BATCHES_STACK>();
 }
 
 /// Processes the block in place, under stored round keys.

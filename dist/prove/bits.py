@@ -1,0 +1,451 @@
+"""Canonical forms of bits: what every proof here rests on.
+
+A *cell* is a byte that takes all 256 values: a byte of the key schedule, of a block, or what enters an S-box. A bit is kept as
+the exclusive or of functions of single cells, each as a truth table of 256 entries (a Python int whose entry 0 is 0), and
+perhaps of 1. So equal forms are equal functions of the cells. Exclusive or is exact, cell by cell. `And` and look-ups are done
+only where everything involved depends on one cell; then they are exact too, on the 256 values of that cell. If bits depend on
+several cells, `named` asks whether they are sums of bits of one byte that the specification named (an input of an S-box), and
+writes that byte instead: an equation, checked by computing both sides. There is no search, and nothing is approximated: what
+can't be done raises Unproved.
+
+A bit is an int: 0 and 1 are constants, else form << 9 | block << 1 | complement. Blocks are processed alike, so a form is kept
+once for all of them: `block` (1 to 255) says whose cells are meant; it is 0 if the form has cells of keys alone.
+
+A byte is an int too: below 256 a constant, else an entry of `bits_of` (eight bits, lowest first), or opaque (None): a byte that
+may be moved, but with which nothing may be computed (what a buffer or a register held before)."""
+
+KEY, DATA, PUBLIC = 1, 2, 4  # what a cell depends on
+ONES = (1 << 256) - 1
+LINEAR = [sum((v >> j & 1) << v for v in range(256)) for j in range(8)]  # the truth table of bit j of a cell
+BLOCK = 255 << 1
+MIXED = 255  # in the place of a block: a sum of bits of several blocks, an entry of `mixed`
+PRODUCT = 254  # the same: a bit, plus products of two bits of cells, an entry of `products`
+
+
+class Unproved(Exception):
+    """Something that this program can't prove, or that is wrong."""
+
+
+class Domain:
+    ones, linear = ONES, LINEAR
+
+    def __init__(self):
+        self.names, self.of_block, self.depends = [], [], []
+        self.forms, self.ids, self.has_block = [None], {}, [False]
+        self.xors, self.ands, self.byte_xors, self.byte_ands, self.lookups = {}, {}, {}, {}, {}
+        self.bits_of, self.byte_ids = [None] * 256, {}
+        self.opaque_names, self.opaque_of, self.words = {}, {}, {}
+        self.by_cells, self.alike, self.definitions = {}, {}, {}
+        self.mixed, self.mixed_ids, self.mixed_xors, self.halves = [], {}, {}, {}
+        self.linear_tables = set()
+        self.products, self.product_ids, self.pairs, self.linear_parts = [], {}, {}, {}
+        self.undefined = self.opaque("undefined")
+
+    # Cells and bytes.
+    def cell(self, name, of_block, depends):
+        self.names.append(name)
+        self.of_block.append(of_block)
+        self.depends.append(depends)
+        return len(self.names) - 1
+
+    def fresh(self, name, depends, of_block=False):
+        """A byte that is a cell of its own; in block 1, if each block has one."""
+        return self.byte_of_cell(self.cell(name, of_block, depends), int(of_block))
+
+    def byte_of_cell(self, cell, block, values=range(256)):
+        """The byte that has the value values[v] where the cell has the value v."""
+        return self.pack([self.bit(cell, sum((values[v] >> j & 1) << v for v in range(256)), block) for j in range(8)])
+
+    def opaque(self, name):
+        if name not in self.opaque_names:
+            self.opaque_names[name] = len(self.bits_of)
+            self.opaque_of[len(self.bits_of)] = name
+            self.bits_of.append(self.words[name[0].base](name[0].offset, name[1]) if name[0] and name[0][0] in self.words else None)
+        return self.opaque_names[name]
+
+    def pack(self, bits):
+        if max(bits) < 2:
+            return sum(b << j for j, b in enumerate(bits))
+        bits = tuple(bits)
+        byte = self.byte_ids.get(bits)
+        if byte is None:
+            byte = self.byte_ids[bits] = len(self.bits_of)
+            self.bits_of.append(bits)
+        return byte
+
+    def bits(self, byte):
+        if byte < 256:
+            return tuple(byte >> j & 1 for j in range(8))
+        if self.bits_of[byte] is None:
+            raise Unproved("computes with a byte that is undefined: " + self.describe(byte))
+        return self.bits_of[byte]
+
+    def symbolic(self, byte):
+        """Whether a byte depends on cells."""
+        return byte >= 256 and self.bits_of[byte] is not None
+
+    def cells(self, byte):
+        return {c for b in self.bits_of[byte] for _, n in self.parts(b) for c, _ in self.forms[n]} if self.symbolic(byte) else set()
+
+    def blocks(self, byte):
+        return {block for b in self.bits_of[byte] for block, _ in self.parts(b)} - {0} if self.symbolic(byte) else set()
+
+    def depends_on(self, x):
+        out = 0
+        for _, n in self.parts(x):
+            for c, _ in self.forms[n]:
+                out |= self.depends[c]
+        return out
+
+    def describe(self, byte):
+        if byte < 256:
+            return "%02x" % byte
+        if self.bits_of[byte] is None:
+            return str(self.opaque_of[byte])
+        blocks = self.blocks(byte)
+        cells = sorted(self.cells(byte))
+        return "a function of %s%s" % (", ".join(self.names[c] for c in cells[:6]) + (", …" if len(cells) > 6 else ""),
+                                       " of block %s" % sorted(b - 1 for b in blocks) if blocks else "")
+
+    # Bits.
+    def one_block(self, bits):
+        blocks = {b & BLOCK for b in bits if b > 1} - {0}
+        if len(blocks) > 1 or MIXED << 1 in blocks or PRODUCT << 1 in blocks:
+            raise Unproved("a product of bits of different blocks")
+        return blocks.pop() >> 1 if blocks else 0
+
+    def in_block(self, x, block):
+        """The same function of the cells of this block."""
+        return x & ~BLOCK | block << 1 if x > 1 and self.has_block[x >> 9] else x
+
+    def intern(self, form):
+        """form: {cell: table}"""
+        key = tuple(sorted(form.items()))
+        n = self.ids.get(key)
+        if n is None:
+            n = self.ids[key] = len(self.forms)
+            self.forms.append(key)
+            self.has_block.append(any(self.of_block[c] for c, _ in key))
+        return n
+
+    def bit(self, cell, table, block):
+        """The bit that is the given function of one cell."""
+        complement = table & 1
+        table ^= ONES * complement
+        if not table:
+            return complement
+        return self.in_block(self.intern({cell: table}) << 9 | complement, block)
+
+    def xor(self, x, y):
+        if x < 2 or y < 2:
+            return x ^ y
+        bx, by = x & BLOCK, y & BLOCK
+        if bx != by and bx and by or bx >= PRODUCT << 1 or by >= PRODUCT << 1:
+            return self.add_products(x, y) if PRODUCT << 1 in (bx, by) else self.mix(x, y)
+        key = (x >> 9, y >> 9)
+        n = self.xors.get(key)
+        if n is None:
+            form = dict(self.forms[key[0]])
+            for c, t in self.forms[key[1]]:
+                t ^= form.pop(c, 0)
+                if t:
+                    form[c] = t
+            n = self.xors[key] = self.intern(form) if form else 0
+        return (n << 9 | (bx | by if self.has_block[n] else 0) if n else 0) | (x ^ y) & 1
+
+    # Sums over several blocks, as transposing makes them: for each block the form without keys, and for 0 the part of keys.
+    def parts(self, x):
+        if x < 2:
+            return ()
+        if x & BLOCK == BLOCK:
+            return self.mixed[x >> 9]
+        if x & BLOCK == PRODUCT << 1:
+            return self.parts(self.products[x >> 9][0]) or self.first_pair(self.products[x >> 9][1])
+        n = x >> 9
+        halves = self.halves.get(n)
+        if halves is None:
+            form = self.forms[n]
+            halves = self.halves[n] = tuple(self.intern({c: t for c, t in form if self.of_block[c] is own}) if any(
+                self.of_block[c] is own for c, _ in form) else 0 for own in (True, False))
+        return [(block, n) for block, n in zip(((x & BLOCK) >> 1, 0), halves) if n]
+
+    def mix(self, x, y):
+        key = (x & ~1, y & ~1)
+        z = self.mixed_xors.get(key)
+        if z is None:
+            sums = dict(self.parts(x))
+            for block, n in self.parts(y):
+                n = self.xor(n << 9, sums.pop(block) << 9) >> 9 if block in sums else n
+                if n:
+                    sums[block] = n
+            if len(set(sums) - {0}) < 2:
+                z = 0
+                for block, n in sums.items():
+                    z = self.xor(z, n << 9 | block << 1)
+            else:
+                parts = tuple(sorted(sums.items()))
+                if parts not in self.mixed_ids:
+                    self.mixed_ids[parts] = len(self.mixed)
+                    self.mixed.append(parts)
+                z = self.mixed_ids[parts] << 9 | BLOCK
+            self.mixed_xors[key] = z
+        return z ^ (x ^ y) & 1
+
+    # Sums of products of two bits of cells, for GHASH: a bit, and an int that has a bit for each pair of bits of cells.
+    def split(self, x):
+        return self.products[x >> 9] if x > 1 and x & BLOCK == PRODUCT << 1 else (x & ~1, 0)
+
+    def add_products(self, x, y):
+        (a, p), (b, q) = self.split(x), self.split(y)
+        return self.product_bit(self.xor(a, b), p ^ q) ^ (x ^ y) & 1
+
+    def product_bit(self, a, p):
+        if not p:
+            return a
+        key = (a & ~1, p)
+        n = self.product_ids.get(key)
+        if n is None:
+            n = self.product_ids[key] = len(self.products)
+            self.products.append(key)
+        return n << 9 | PRODUCT << 1 | a & 1
+
+    def first_pair(self, p):
+        """One of the cells of products, to say what they depend on."""
+        (c, block, j), _ = list(self.pairs)[p.bit_length() - 1]
+        return [(block, self.intern({c: LINEAR[j]}))]
+
+    def has_product(self, byte):
+        return self.symbolic(byte) and any(x > 1 and x & BLOCK == PRODUCT << 1 for x in self.bits_of[byte])
+
+    def forget_products(self):
+        """For when no byte has any."""
+        for memo in (self.pairs, self.products, self.product_ids, self.byte_xors, self.byte_ands, self.lookups):
+            memo.clear()
+
+    def linear_part(self, x):
+        """A bit as a sum of bits of cells: [(cell, block, number)]."""
+        out = self.linear_parts.get(x & ~1)
+        if out is None:
+            if x & BLOCK == PRODUCT << 1:
+                raise Unproved("a product of three bits")
+            out = []
+            for block, n in self.parts(x):
+                for c, t in self.forms[n]:
+                    mask = [j for j in range(8) if t >> (1 << j) & 1]
+                    for j in mask:
+                        t ^= LINEAR[j]
+                        out.append((c, block if self.of_block[c] else 0, j))
+                    if t:
+                        raise Unproved("a product of bits that are not linear: " + self.names[c])
+            self.linear_parts[x & ~1] = out
+        return out
+
+    def product(self, x, y):
+        """x and y, for sums of bits of cells."""
+        if x < 2 or y < 2 or x == y:
+            return self.and_(x, y)
+        linear, p = 0, 0
+        if x & 1:
+            linear = self.xor(linear, y & ~1)
+        if y & 1:
+            linear = self.xor(linear, x & ~1)
+        linear ^= x & y & 1
+        for a in self.linear_part(x):
+            for b in self.linear_part(y):
+                if a == b:
+                    linear = self.xor(linear, self.bit(a[0], LINEAR[a[2]], a[1]))
+                else:
+                    p ^= 1 << self.pairs.setdefault((a, b) if a < b else (b, a), len(self.pairs))
+        return self.product_bit(linear, p)
+
+    def bilinear_lookup(self, table, index):
+        """table[index] if the table of 16 bytes is linear: the sum of the entries at powers of two whose bit is set."""
+        key = (table, index)
+        out = self.lookups.get(key)
+        if out is None:
+            if table not in self.linear_tables:
+                for k in range(16):
+                    total = 0
+                    for i in range(4):
+                        if k >> i & 1:
+                            total = self.xor_byte(total, table[1 << i])
+                    if total != table[k]:
+                        raise Unproved("a look-up in a table that is neither constant nor linear")
+                self.linear_tables.add(table)
+            out = 0
+            for i in range(4):
+                out = self.xor_byte(out, self.pack([self.product(index[i], b) for b in self.bits(table[1 << i])]))
+            self.lookups[key] = out
+        return out
+
+    def and_(self, x, y):
+        if x < 2 or y < 2:
+            return (x and y) if x < 2 else (y and x)
+        if x == y:
+            return x
+        if x ^ y == 1:
+            return 0
+        key = (x & ~BLOCK, y & ~BLOCK)
+        block = self.one_block((x, y))
+        z = self.ands.get(key)
+        if z is None:
+            cell, (t, u) = self.common(key)
+            z = self.ands[key] = self.bit(cell, t & u, 0)
+        return self.in_block(z, block)
+
+    def or_(self, x, y):
+        return self.and_(x ^ 1, y ^ 1) ^ 1
+
+    # Names for sums: the inputs of S-boxes.
+    def define(self, cell, bits):
+        """Lets a cell stand for the byte with these bits, for all blocks alike."""
+        cells = tuple(c for c, _ in self.forms[bits[0] >> 9])
+        rows = []
+        for j, b in enumerate(bits):
+            if b < 2 or tuple(c for c, _ in self.forms[b >> 9]) != cells:
+                raise Unproved("the bits of %s depend on different cells" % self.names[cell])
+            rows.append((self.vector(b >> 9), 1 << j, b & 1))
+        echelon = []
+        for v, mask, complement in rows:
+            for p, w, m, c in echelon:
+                if v & p:
+                    v, mask, complement = v ^ w, mask ^ m, complement ^ c
+            if not v:
+                raise Unproved("the bits of %s are not independent" % self.names[cell])
+            echelon.append((v & -v, v, mask, complement))
+        self.by_cells.setdefault(cells, []).append((cell, echelon))
+        self.definitions[cell] = bits
+        self.alike.clear()
+
+    def vector(self, n):
+        return sum(t << 256 * i for i, (_, t) in enumerate(self.forms[n]))
+
+    def named(self, n):
+        """If form n is a sum of bits of a byte with a name: [(cell, table)]."""
+        out, v0 = [], None
+        for cell, echelon in self.by_cells.get(tuple(c for c, _ in self.forms[n]), ()):
+            v = v0 = self.vector(n) if v0 is None else v0
+            table, complement = 0, 0
+            for p, w, m, c in echelon:
+                if v & p:
+                    v, complement = v ^ w, complement ^ c
+                    for j in range(8):
+                        if m >> j & 1:
+                            table ^= LINEAR[j]
+            if not v:
+                out.append((cell, table ^ ONES * complement))
+        return out
+
+    def single(self, n):
+        """The ways to write form n as a function of one cell, {cell: table}: as it is, by a name, or as a function of a named
+        cell plus a sum that has the same name."""
+        ways = self.alike.get(n)
+        if ways is None:
+            form = self.forms[n]
+            ways = dict(self.named(n))
+            if len(form) == 1:
+                ways[form[0][0]] = form[0][1]
+            else:
+                for c, t in form:
+                    rest = self.ids.get(tuple(p for p in form if p[0] != c))
+                    if rest is None:
+                        rest = self.intern(dict(p for p in form if p[0] != c))
+                    for cell, table in self.named(rest):
+                        if cell == c:
+                            ways[c] = t ^ table
+            self.alike[n] = ways
+        return ways
+
+    def common(self, bits):
+        """The cell of which all these bits are functions, and their truth tables."""
+        variable = [b for b in bits if b > 1]
+        ways = [self.single(b >> 9) for b in variable]
+        cells = set(ways[0]).intersection(*ways[1:])
+        if not cells:
+            raise Unproved("a product of bits that are not functions of one byte: "
+                           + "; ".join(self.describe(self.pack([b] + [0] * 7)) for b in variable))
+        cell, ways = max(cells), iter(ways)
+        return cell, [next(ways)[cell] ^ ONES * (b & 1) if b > 1 else ONES * b for b in bits]
+
+    # Bytes.
+    def xor_byte(self, a, b):
+        if a < 256 and b < 256:
+            return a ^ b
+        key = (a, b)
+        c = self.byte_xors.get(key)
+        if c is None:
+            xor = self.xor
+            c = self.byte_xors[key] = self.pack([xor(x, y) for x, y in zip(self.bits(a), self.bits(b))])
+        return c
+
+    def and_byte(self, a, b):
+        if a < 256 and b < 256:
+            return a & b
+        key = (a, b)
+        c = self.byte_ands.get(key)
+        if c is None:
+            and_ = self.and_
+            c = self.byte_ands[key] = self.pack([and_(x, y) for x, y in zip(self.bits(a), self.bits(b))])
+        return c
+
+    def or_byte(self, a, b):
+        return self.xor_byte(self.and_byte(self.xor_byte(a, 255), self.xor_byte(b, 255)), 255)
+
+    def lookup(self, table, index):
+        """table[index] for a constant table (a tuple of 2^k bytes) and the k bits of an index."""
+        block = self.one_block(index)
+        key = (table, tuple(b & ~BLOCK if b > 1 else b for b in index))
+        c = self.lookups.get(key)
+        if c is None:
+            c = self.lookups[key] = self.affine(*key)
+        if c is None:
+            cell, tables = self.common(key[1])
+            c = self.lookups[key] = self.byte_of_cell(
+                cell, 0, [table[sum((t >> v & 1) << i for i, t in enumerate(tables))] for v in range(256)])
+        return self.byte_in_block(c, block)
+
+    def affine(self, table, index):
+        """The same, if the table is an affine map of those bits of the index that vary: then no cell is needed."""
+        constant = sum(b << i for i, b in enumerate(index) if b < 2)
+        variable = [i for i, b in enumerate(index) if b > 1]
+        columns = [table[constant | 1 << i] ^ table[constant] for i in variable]
+        for s in range(1 << len(variable)):
+            at, value = constant, table[constant]
+            for k, i in enumerate(variable):
+                if s >> k & 1:
+                    at, value = at | 1 << i, value ^ columns[k]
+            if table[at] != value:
+                return None
+        bits = list(self.bits(table[constant]))
+        for i, column in zip(variable, columns):
+            bits = [self.xor(b, index[i]) if column >> j & 1 else b for j, b in enumerate(bits)]
+        return self.pack(bits)
+
+    def byte_in_block(self, byte, block):
+        return self.pack([self.in_block(b, block) for b in self.bits_of[byte]]) if self.symbolic(byte) else byte
+
+    def substitute(self, byte, table, name):
+        """table[byte] for a table of 256 bytes; gives the byte a name if it has none."""
+        if byte < 256:
+            return table[byte]
+        try:
+            return self.lookup(table, self.bits(byte))
+        except Unproved:
+            self.name(byte, name)
+            return self.lookup(table, self.bits(byte))
+
+    def name(self, byte, name):
+        """The cell that stands for this byte: made if there is none."""
+        bits = tuple(b & ~BLOCK for b in self.bits(byte))
+        try:
+            cell, tables = self.common(bits)
+            if tables == LINEAR:
+                return cell
+        except Unproved:
+            pass
+        depends = 0
+        for b in bits:
+            depends |= self.depends_on(b)
+        cell = self.cell(name, any(self.has_block[b >> 9] for b in bits if b > 1), depends)
+        self.define(cell, bits)
+        return cell
