@@ -131,7 +131,7 @@ def c_library(build, library="aes"):
 
 def copy_of_the_crates():
     """Makes a copy of the crates that the library of exports calls, outside the repository, with that library as one crate more.
-    They are proved where they stand, as by ./aes-kat, and what was proved there is copied too: so a crate is proved once."""
+    They are proved where they stand, as by ./aes-kat --prove, and what was proved there is copied too: so a crate is proved once."""
     tree, copied = ROOM / EXPORTS, CRATES.split()
     say(f"proving {CRATES}, as far as they are not proved")
     for it in copied:

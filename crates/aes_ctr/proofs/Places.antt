@@ -1,6 +1,6 @@
 -- Which block of a row a byte falls in, and sums of data and a row of blocks.
 use Rattle.std.proofs.Common.{◌≡◌, ℕ, ◌+◌, ◌*◌, ◌/◌, ◌%◌, ◌<◌, ◌≤◌, List, [], ◌++◌, length, slice_index, slice_index_or}
-use Rattle.std.proofs.Common.{◌⊎◌, inl, inr, ◌-◌, map, take, drop, set, get_or, ap, ◌∙◌, sym, arith}
+use Rattle.std.proofs.Common.{◌⊎◌, inl, inr, ◌-◌, map, take, drop, set, ap, ◌∙◌, sym, arith}
 use Rattle.std.proofs.lemmas.Bool.{cases_lt}
 use Rattle.std.proofs.lemmas.List.{get_or-drop, get_or-map, get_or-take, get_or_append_left, drop-drop, drop-set-lt}
 use Rattle.std.proofs.lemmas.List.{length-take-le}

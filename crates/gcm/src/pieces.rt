@@ -14,7 +14,7 @@ use crate::gctr::{BlockRoom, add_gctr};
 use crate::hash::{hash_on, hash_piece};
 use crate::message::{Message, Phase, number_of, phase_of};
 use crate::mode::{
-    LONGEST_HASHED, LONGEST_TEXT, LentGcm, SHALLOW, add_masked, hash_lengths, is_expected,
+    DEEP, LONGEST_HASHED, LONGEST_TEXT, LentGcm, SHALLOW, add_masked, hash_lengths, is_expected,
     is_short_tag, put_mask,
 };
 use aes_cipher::blocks::{block_of_number, number_of_block};
@@ -92,6 +92,10 @@ impl<'a, C: BlockCipherEncrypt> LentGcm<'a, C> {
         message.additional = 0;
         message.text = 0;
         message.decrypted = 0;
+        // Another nonce than one of 12 bytes is hashed, and its first counter block is secret.
+        if nonce.len() != 12 {
+            wipe_stack::<SHALLOW>();
+        }
     }
 
     /// Begins a message under the counter's next nonce, which it returns, and moves the counter on by one (8.2.1). Ask
@@ -158,6 +162,7 @@ impl<'a, C: BlockCipherEncrypt> LentGcm<'a, C> {
         self.turn_to(message, Phase::Encrypting, text.len())?;
         add_gctr(&self.cipher, &message.first, 16 + message.text, text);
         self.hash_text(message, text);
+        wipe_stack::<DEEP>();
         Ok(())
     }
 
@@ -202,6 +207,7 @@ impl<'a, C: BlockCipherEncrypt> LentGcm<'a, C> {
     {
         self.turn_to(message, Phase::Verifying, text.len())?;
         self.hash_text(message, text);
+        wipe_stack::<SHALLOW>();
         Ok(())
     }
 
@@ -303,6 +309,7 @@ impl<'a, C: BlockCipherEncrypt> LentGcm<'a, C> {
         }
         add_gctr(&self.cipher, &message.first, 16 + message.decrypted, text);
         message.decrypted += text.len() as u64;
+        wipe_stack::<DEEP>();
         Ok(())
     }
 
@@ -332,6 +339,7 @@ impl<'a, C: BlockCipherEncrypt> LentGcm<'a, C> {
         let position = 16 + message.text;
         self.hash_text(message, text);
         add_gctr(&self.cipher, &message.first, position, text);
+        wipe_stack::<DEEP>();
         Ok(())
     }
 
@@ -386,7 +394,6 @@ impl<'a, C: BlockCipherEncrypt> LentGcm<'a, C> {
         let before = number_of_block(&message.value);
         let value = hash_piece(&self.multiples, before, &mut message.rest, filled, text);
         message.value = block_of_number(value);
-        wipe_stack::<SHALLOW>();
         message.text += text.len() as u64;
     }
 
