@@ -22,7 +22,7 @@
  *    all its calls had the same key, the first was fotsgure_gcm_begin, and nothing else wrote the struct.
  *  - No data race: during the call no other thread writes what it reads, or reads or writes what it writes.
  *  - FOTSGURE_GCM_STACK bytes of stack. On x86-64 a processor with SSE4.2 and SSSE3 (x86-64-v2); on 64-bit ARM any
- *    processor, little-endian. The library is for Linux.
+ *    processor, little-endian; on 64-bit RISC-V one with vectors (V 1.0).
  *
  * NULL is allowed for `key`, `nonce`, `additional`, `text` and a `tag` with a length if the length is 0.
  *

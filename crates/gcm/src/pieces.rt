@@ -53,6 +53,14 @@ fn put_claimed(tag: &[u8], expected: &Block, claimed: &mut Block)
     claimed[..tag.len()].copy_from_slice(tag);
 }
 
+// Wipes the stack after J_0 was written. A nonce of another length than 12 bytes is hashed, and then J_0 is secret.
+#[inline(always)]
+fn wipe_hash_of(nonce: &[u8]) {
+    if nonce.len() != 12 {
+        wipe_stack::<SHALLOW>();
+    }
+}
+
 impl<'a, C: BlockCipherEncrypt> LentGcm<'a, C> {
     /// Begins a message under a nonce that is never used twice under a key. A nonce has any length; 12 bytes are advised.
     /// Nothing is left of a message that was there before.
@@ -92,10 +100,7 @@ impl<'a, C: BlockCipherEncrypt> LentGcm<'a, C> {
         message.additional = 0;
         message.text = 0;
         message.decrypted = 0;
-        // Another nonce than one of 12 bytes is hashed, and its first counter block is secret.
-        if nonce.len() != 12 {
-            wipe_stack::<SHALLOW>();
-        }
+        wipe_hash_of(nonce);
     }
 
     /// Begins a message under the counter's next nonce, which it returns, and moves the counter on by one (8.2.1). Ask
