@@ -4,7 +4,9 @@ That module has the layout of every 64-bit little-endian machine and no types of
 kit's clang compiles it for another target after these changes, and no others:
  - RISC-V: the processor's name is left out. The byte shuffle of x86-64 is defined by vrgather, and a result of 32 bits is
    extended by its sign, as that ABI says.
- - Windows: functions have the table for unwinding that its ABI asks for, and touch the stack as that system does. Exports have the
+ - Windows: functions have the table for unwinding that its ABI asks for, touch the stack as that system does, and leave alone what
+   is below it. But for exports they call each other as on Linux: on Windows a function keeps vector registers for its caller, so it
+   would leave values of GHASH on the stack. The wipe of the stack empties the two registers that memset may save. Exports have the
    suffix of their build.
 """
 import dataclasses
@@ -32,6 +34,8 @@ define internal <16 x i8> @byte_shuffle(<16 x i8> %table, <16 x i8> %places) alw
   %result = and <16 x i8> %lanes, %keep
   ret <16 x i8> %result
 }"""
+
+EMPTIES = 'call void asm sideeffect "xorl %edi, %edi; xorl %esi, %esi", "~{rdi},~{rsi},~{flags}"()'
 
 
 @dataclasses.dataclass(frozen=True)
@@ -69,7 +73,9 @@ def for_riscv(text):
 def for_windows(text, suffix):
     # (Clang takes `inline-asm` for the name of a function there, and without it calls ___chkstk_ms of the compiler's library.)
     text = text.replace(' "probe-stack"="inline-asm"', "")
-    text = re.sub(r'^(attributes #\d+ = \{ .*?nounwind)(?= "stack-probe-size")', r"\1 uwtable", text, flags=re.M)
+    text = re.sub(r'^(attributes #\d+ = \{ .*?nounwind)(?= "stack-probe-size")', r"\1 noredzone uwtable", text, flags=re.M)
+    text = re.sub(r'^(define internal |.*\bcall )(?=[^"@]*@"\w+::)', r"\1x86_64_sysvcc ", text, flags=re.M)
+    text = re.sub(r'^(define [^@]*@"[\w:]*::wipe_stack\b.*\nstart:\n)', rf"\1  {EMPTIES}\n", text, flags=re.M)
     return re.sub(r"(@fotsgure_\w+)", rf"\1{suffix}", text)
 
 
