@@ -578,7 +578,9 @@ fn two_hundred_bytes(rt: HostRuntime) {
     let mut text = bytes;
     let tag = 0x60b12b279bc2326992d25260c14ae0fau128.to_be_bytes();
     assert!(rt; mode.encrypt(&nonce, &bytes[..20], &mut text) == Ok(tag));
-    assert!(rt; text[184..] == 0x2e45dfa4764d6e84cfef780a9c726b03u128.to_be_bytes());
+    let mut last = [0; 16];
+    last.copy_from_slice(&text[184..]);
+    assert!(rt; last == 0x2e45dfa4764d6e84cfef780a9c726b03u128.to_be_bytes());
     assert!(rt; mode.decrypt(&nonce, &bytes[..20], &mut text, &tag) == Ok(()));
     assert!(rt; text == bytes);
 }
