@@ -6,7 +6,8 @@ kit's clang compiles it for another target after these changes, and no others:
    extended by its sign, as that ABI says.
  - Windows: functions have the table for unwinding that its ABI asks for, touch the stack as that system does, and leave alone what
    is below it. But for exports they call each other as on Linux: on Windows a function keeps vector registers for its caller, so it
-   would leave values of GHASH on the stack. Exports have the suffix of their build.
+   would leave values of GHASH on the stack. The wipe of the stack empties the two registers that memset may save. Exports have the
+   suffix of their build.
 """
 import dataclasses
 import pathlib
@@ -33,6 +34,8 @@ define internal <16 x i8> @byte_shuffle(<16 x i8> %table, <16 x i8> %places) alw
   %result = and <16 x i8> %lanes, %keep
   ret <16 x i8> %result
 }"""
+
+EMPTIES = 'call void asm sideeffect "xorl %edi, %edi; xorl %esi, %esi", "~{rdi},~{rsi},~{flags}"()'
 
 
 @dataclasses.dataclass(frozen=True)
@@ -72,6 +75,7 @@ def for_windows(text, suffix):
     text = text.replace(' "probe-stack"="inline-asm"', "")
     text = re.sub(r'^(attributes #\d+ = \{ .*?nounwind)(?= "stack-probe-size")', r"\1 noredzone uwtable", text, flags=re.M)
     text = re.sub(r'^(define internal |.*\bcall )(?=[^"@]*@"\w+::)', r"\1x86_64_sysvcc ", text, flags=re.M)
+    text = re.sub(r'^(define [^@]*@"[\w:]*::wipe_stack\b.*\nstart:\n)', rf"\1  {EMPTIES}\n", text, flags=re.M)
     return re.sub(r"(@fotsgure_\w+)", rf"\1{suffix}", text)
 
 
