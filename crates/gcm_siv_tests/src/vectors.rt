@@ -570,10 +570,8 @@ fn two_hundred_bytes(rt: HostRuntime) {
     for i in 0..200 {
         bytes[i] = i as u8;
     }
-    let mut key = [0; 32];
-    key.copy_from_slice(&bytes[..32]);
-    let mut nonce = [0; 12];
-    nonce.copy_from_slice(&bytes[..12]);
+    let key = decoded("000102030405060708090a0b0c0d0e0f101112131415161718191a1b1c1d1e1f");
+    let nonce = decoded("000102030405060708090a0b");
     let mode = GcmSiv::new(<Aes256Enc>::new(&key));
     let mut text = bytes;
     let tag = 0x60b12b279bc2326992d25260c14ae0fau128.to_be_bytes();
