@@ -49,7 +49,7 @@ class Domain:
     def __init__(self):
         self.names, self.of_block, self.depends = [], [], []
         self.forms, self.ids, self.has_block = [None], {}, [False]
-        self.xors, self.ands, self.byte_xors, self.byte_ands, self.lookups = {}, {}, {}, {}, {}
+        self.xors, self.ands, self.byte_xors, self.byte_ands, self.lookups, self.entries = {}, {}, {}, {}, {}, {}
         self.bits_of, self.byte_ids = [None] * 256, {}
         self.opaque_names, self.opaque_of, self.words = {}, {}, {}
         self.by_cells, self.alike, self.definitions = {}, {}, {}
@@ -254,7 +254,7 @@ class Domain:
 
     def forget_products(self):
         """For when no byte has any."""
-        for memo in (self.pairs, self.products, self.product_ids, self.byte_xors, self.byte_ands, self.lookups):
+        for memo in (self.pairs, self.products, self.product_ids, self.byte_xors, self.byte_ands, self.lookups, self.entries):
             memo.clear()
 
     def linear_part(self, x):

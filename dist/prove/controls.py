@@ -6,13 +6,16 @@ import os
 import re
 import sys
 
+import aarch64
 import aes
+import faults_aarch64
 import gcm
 import leak
 import x86_64
 from bits import Unproved
 from machine import Pointer
-from prove import HERE, SEED, link
+from native import PROCESSORS
+from prove import BUILDS, HERE, SEED, link, missing
 
 # Where a fault is planted, and the calls that are tried then.
 LANES = r'"aes_permute::blocks::process_on_lanes::<#\w+>":'
@@ -87,6 +90,8 @@ GCM_FAULTS = [
     ("a refused text decrypted", r"fotsgure_gcm_open:", r"\ttestb\t%bpl, %bpl\n\tje\t", "\ttestb\t%bpl, %bpl\n\tjs\t", lambda k: [k.open(0, 3)]),
     ("a field of the message moved", r"fotsgure_gcm_begin:", r"\t\$1, 24\(", "\t$1, 16(", lambda k: [k.begin()]),
 ]
+FAULTS = {"x86_64/aes": AES_FAULTS, "x86_64/gcm": GCM_FAULTS, "aarch64/aes": faults_aarch64.AES_FAULTS,
+          "aarch64/gcm": faults_aarch64.GCM_FAULTS}
 
 
 def edited(text, start, pattern, new):
@@ -104,26 +109,27 @@ KEYED = {}  # of this process: what was proved of the text without faults
 
 def keyed_of(options, build):
     if build not in KEYED:
-        program = link("%s/x86_64/%s.s" % (options.dist, build), "%s/controls_%s_%d" % (options.out, build, os.getpid()))
-        KEYED[build] = (gcm.KeyedGcm if build == "gcm" else aes.Keyed)(program, 16)
+        out = "%s/controls_%s_%d" % (options.out, build.replace("/", "_"), os.getpid())
+        program = link("%s/%s.s" % (options.dist, build), out, BUILDS[build])
+        KEYED[build] = (gcm.KeyedGcm if build.endswith("gcm") else aes.Keyed)(program, 16)
         KEYED[build].set_key()
     return KEYED[build]
 
 
 def fault(options, build, k):
     """Plants a fault, and says whether it is refused. A fault without calls is one of set_key."""
-    what, start, pattern, new, calls = (GCM_FAULTS if build == "gcm" else AES_FAULTS)[k]
-    keyed, path = keyed_of(options, build), "%s/fault_%s_%d" % (options.out, build, k)
-    text, line = edited(open("%s/x86_64/%s.s" % (options.dist, build)).read(), start, pattern, new)
+    what, start, pattern, new, calls = FAULTS[build][k]
+    keyed, path = keyed_of(options, build), "%s/fault_%s_%d" % (options.out, build.replace("/", "_"), k)
+    text, line = edited(open("%s/%s.s" % (options.dist, build)).read(), start, pattern, new)
     open(path + ".s", "w").write(text)
     right = keyed.program
     try:
         if calls:
-            keyed.program = link(path + ".s", path)
+            keyed.program = link(path + ".s", path, BUILDS[build])
             for call in calls(keyed):
                 keyed.proved(call)
         else:
-            aes.Keyed(link(path + ".s", path), 16).set_key()
+            aes.Keyed(link(path + ".s", path, BUILDS[build]), 16).set_key()
     except Unproved as e:
         return True, "refused: %s (%s.s:%d): %s" % (what, build, line, str(e)[:160])
     finally:
@@ -133,7 +139,7 @@ def fault(options, build, k):
 
 def leaked(options, wiped):
     """Whether the last round key is found if the wipe of the stack is taken out, and nothing of it in the text of dist."""
-    keyed, path = keyed_of(options, "aes"), options.out + "/leak"
+    keyed, path = keyed_of(options, "x86_64/aes"), options.out + "/leak"
     right = keyed.program
     if not wiped:
         text = open(options.dist + "/x86_64/aes.s").read()
@@ -155,63 +161,75 @@ def off_by_one(m, value):
     return m.from_bytes([m.domain.xor_byte(value[0], 1)] + list(value[1:]))
 
 
+BRANCHES = "call", "jmp", "ret", "b", "bl", "br", "blr", "cbz", "cbnz"
+COMPARISONS = "cmp", "test", "bt", "ccmp"
+
+
 def spoil(m, name, to):
     """Changes what an instruction wrote: its destination, a flag, or the next address."""
-    if name in ("call", "jmp", "ret") or name[0] == "j":
+    if name in BRANCHES or name[0] == "j" or name[:2] == "b.":
         m.next_address += 1
-    elif name in ("cmp", "test", "bt"):
+    elif name in COMPARISONS or getattr(to, "name", "") == "xzr":
         flag = next(f for f in "czso" if m.flags[f] in (0, 1))
         m.flags[flag] ^= 1
     elif name == "push":
         m.store(m.general["rsp"], [m.load(m.general["rsp"], 1)[0] ^ 1])
-    elif isinstance(to, x86_64.Vec):
-        m.vectors[to.number] = [m.domain.xor_byte(m.vectors[to.number][0], 1)] + m.vectors[to.number][1:]
-    elif isinstance(to, x86_64.Reg):
+    elif hasattr(to, "number"):
+        b, at = list(m.vectors[to.number]), to.index * to.lane if isinstance(to, aarch64.Element) else 0
+        b[at] = m.domain.xor_byte(b[at], 1)
+        m.vectors[to.number] = b
+    elif isinstance(to, (x86_64.Reg, aarch64.Register)):
         m.put(to, off_by_one(m, m.get(to)))
     else:
         m.store(m.address(to), [m.domain.xor_byte(m.load(m.address(to), 1)[0], 1)])
 
 
-def wrong_meaning(options, name, what):
-    keyed, right = keyed_of(options, "aes"), x86_64.meaning(name)
-    kept = dict(x86_64.TABLE)
+def destination(name, operands):
+    """The operand that an instruction writes. The base register of a store of ARM was moved by it."""
+    if name[:2] == "st" and isinstance(operands[-1], aarch64.Memory):
+        return operands[-1]._replace(before=0, offset=operands[-1].offset - operands[-1].after)
+    first = operands[0] if operands else None
+    return first[0] if type(first) is tuple else first
+
+
+def wrong_meaning(options, build, name, what):
+    keyed, module = keyed_of(options, build), sys.modules[BUILDS[build].__module__]
+    right, kept = module.meaning(name), dict(module.TABLE)
 
     def wrong(m, n, *operands):
         right(m, n, *operands)
         try:
-            spoil(m, n, operands[0] if operands else None)
+            spoil(m, n, destination(n, operands))
         except (Unproved, StopIteration, TypeError):
             pass  # what it wrote is undefined, or known to nobody
-    x86_64.TABLE[name] = wrong
+    module.TABLE[name] = wrong
     keyed.program.cache.clear()
     try:
         prove_part(keyed, what, SEED)
-        return False, "MISSED: %s with another meaning (in %s)" % (name, what)
+        return False, "MISSED: %s of %s with another meaning (in %s)" % (name, build, what)
     except Unproved as e:
-        return True, "refused: %s with another meaning: %s" % (name, str(e)[:120])
+        return True, "refused: %s of %s with another meaning: %s" % (name, build, str(e)[:120])
     finally:
-        x86_64.TABLE.clear()
-        x86_64.TABLE.update(kept)
+        module.TABLE.clear()
+        module.TABLE.update(kept)
         keyed.program.cache.clear()
 
 
-PARTS = "set_key", "blocks 1", "blocks 16", "add_keystream", "unwrap_padded", "refused"
+PARTS = {"set_key": None, "blocks 1": lambda k: k.blocks("encrypt", 1), "blocks 16": lambda k: k.blocks("encrypt", 16),
+         "add_keystream": lambda k: k.add_keystream(5, 20), "unwrap_padded": lambda k: k.unwrap_padded(9),
+         "refused": lambda k: next(k.refused())}
+WITHOUT_EFFECT = {"nop", "xchg", "ldaxr"}  # xchg is padding too, and ldaxr gets exclusive access
 
 
 def prove_part(keyed, what, seed=None):
-    if what == "set_key":
-        return keyed.set_key(seed)
-    calls = {"blocks 1": lambda: keyed.blocks("encrypt", 1), "blocks 16": lambda: keyed.blocks("encrypt", 16),
-             "add_keystream": lambda: keyed.add_keystream(5, 20), "unwrap_padded": lambda: keyed.unwrap_padded(9),
-             "refused": lambda: next(keyed.refused())}
-    return keyed.proved(calls[what](), seed)
+    return keyed.proved(PARTS[what](keyed), seed) if PARTS[what] else keyed.set_key(seed)
 
 
-def instructions(options):
+def instructions(options, build):
     """Each instruction of these calls, with the shortest one in which it occurs."""
-    keyed, out = keyed_of(options, "aes"), {}
+    keyed, out = keyed_of(options, build), {}
     for m, what in sorted(((prove_part(keyed, what), what) for what in PARTS), key=lambda p: p[0].steps):
-        for name in {form.split()[0] for form in m.used} - {"nop", "xchg"}:  # xchg is padding too
+        for name in {form.split()[0] for form in m.used} - WITHOUT_EFFECT:
             if name != "ret" or m.used["ret"] > 1:
                 out.setdefault(name, what)
     return out
@@ -223,14 +241,17 @@ def main():
     parser.add_argument("--out", default="out/prove")
     parser.add_argument("--only", default="", help="faults that have this in their name")
     parser.add_argument("--jobs", type=int, default=os.cpu_count())
+    parser.add_argument("--builds", type=lambda s: s.split(","), default=list(FAULTS))
     options = parser.parse_args()
     os.makedirs(options.out, exist_ok=True)
+    builds = [build for build in options.builds if not missing(BUILDS[build])]
     with concurrent.futures.ProcessPoolExecutor(options.jobs) as pool:
-        tries = [pool.submit(fault, options, build, k) for build, faults in (("aes", AES_FAULTS), ("gcm", GCM_FAULTS))
-                 for k, f in enumerate(faults) if options.only in f[0]]
-        tries += [pool.submit(leaked, options, wiped) for wiped in (False, True) if not options.only]
-        if not options.only and "avx2" in open("/proc/cpuinfo").read():
-            tries += [pool.submit(wrong_meaning, options, *p) for p in sorted(instructions(options).items())]
+        tries = [pool.submit(fault, options, build, k) for build in builds for k, f in enumerate(FAULTS[build]) if options.only in f[0]]
+        if "x86_64/aes" in builds and not options.only:
+            tries += [pool.submit(leaked, options, wiped) for wiped in (False, True)]
+        for build in builds:
+            if not options.only and build.endswith("aes") and not PROCESSORS[BUILDS[build]].missing():
+                tries += [pool.submit(wrong_meaning, options, build, *p) for p in sorted(instructions(options, build).items())]
         refused = missed = 0
         for tried in tries:
             good, text = tried.result()

@@ -156,7 +156,15 @@ class KeyedGcm(Keyed):
             carried = bytes_[:8] + number(int.from_bytes(bytes(before), "big") + 1, 4) + number(0, 4)
             self.once(("stream", *carried), lambda: self.aes.cipher(carried, self.w))
         hashing.end_as(bytes_ + number(counter, 4))
+        if before:
+            self.in_vain(bytes_ + number(counter, 4))
         return PreCounter(bytes_, counter, hashing, [Buffer("nonce", nonce), length])
+
+    def in_vain(self, block):
+        """Where no byte is left before the counter of 32 bits wraps around, a call may encrypt what a counter of 64 bits would be
+        next: this names the inputs of its S-boxes."""
+        following = int.from_bytes(bytes(block[8:]), "big") + 1
+        self.once(("in vain", *block), lambda: self.aes.cipher(block[:8] + number(following % 2 ** 64, 8), self.w))
 
     def counted(self, counter=None):
         """The counter of nonces at a number, or at any whose low half has no carry; and what the call assumes of it."""

@@ -8,6 +8,7 @@ A machine is a class below Machine, in a file of its own (x86_64.py), that says:
 
     tools                  what the names of gcc, ld, objdump and nm begin with
     objdump                the options with which objdump prints what `decode` reads
+    host                   the file with what the code under proof is linked with
     general                the names of the registers of 8 bytes; stack_pointer: the name of one of them
     vector_count, vector_size
     arguments, result      the registers of the ABI; more arguments are on the stack, 8 bytes each
@@ -77,13 +78,15 @@ class Program:
         return lines
 
     def constant_sections(self):
-        """(address, bytes) of each section of the ELF file that is loaded and neither written nor run."""
+        """(address, bytes) of each section of the ELF file that is loaded and neither written nor run, and of the linker's table of
+        addresses, which nothing writes after the start."""
         raw = open(self.path, "rb").read()
         table, = struct.unpack_from("<Q", raw, 0x28)
         size, count = struct.unpack_from("<HH", raw, 0x3a)
         headers = [struct.unpack_from("<IIQQQQ", raw, table + k * size) for k in range(count)]
-        return [(address, raw[start:start + length]) for _, kind, flags, address, start, length in headers
-                if kind == 1 and flags & 7 == 2]
+        names = headers[struct.unpack_from("<H", raw, 0x3e)[0]][4]
+        return [(address, raw[start:start + length]) for name, kind, flags, address, start, length in headers
+                if kind == 1 and (flags & 7 == 2 or raw.startswith(b".got\0", names + name))]
 
     def at(self, address):
         if address not in self.cache:

@@ -1,31 +1,36 @@
-"""Proves the calls of both libraries on the machine code that gcc makes of dist/x86_64, one process for each build and key size.
-Run it as `make prove` in dist; the README says what it shows."""
+"""Proves the calls of both libraries on the machine code that gcc makes of dist/x86_64 and dist/aarch64, one process for each build
+and key size. Run it as `make prove` in dist; the README says what it shows."""
 import argparse
+import collections
 import concurrent.futures
 import os
 import re
+import shutil
 import subprocess
 import sys
 import time
 
 import aes
 import gcm
+from aarch64 import Aarch64
 from bits import Domain, Unproved
 from calls import Call
 from machine import Program
+from native import PROCESSORS
 from standards import pinned
 from vectors import checked
 from x86_64 import X86_64
 
 HERE = os.path.dirname(os.path.abspath(__file__))
-BUILDS = "aes", "aes_v3", "gcm", "gcm_v3"
+BUILDS = {"x86_64/" + name: X86_64 for name in ("aes", "aes_v3", "gcm", "gcm_v3")}
+BUILDS.update({"aarch64/" + name: Aarch64 for name in ("aes", "gcm")})
 KEY_SIZES = 16, 24, 32
 SEED = 1
 
 
 def link(source, out, machine=X86_64):
     """Assembles and links one build; libc's three functions are names alone, of which the contract is used."""
-    for s, o in ((source, out + ".o"), (os.path.join(HERE, "host.s"), out + ".host.o")):
+    for s, o in ((source, out + ".o"), (os.path.join(HERE, machine.host), out + ".host.o")):
         subprocess.run([machine.tools + "gcc", "-c", s, "-o", o], check=True)
     subprocess.run([machine.tools + "ld", "-static", "-e", "start", "--build-id=none", "-z", "noexecstack", out + ".host.o", out + ".o",
                     "-o", out], check=True)
@@ -147,12 +152,14 @@ class Task:
 
     def __init__(self, options, build, key_size, compared):
         self.options, self.build, self.key_size = options, build, key_size
-        self.compared, self.used, self.proved, self.failed, self.vectors = set(compared), set(), 0, 0, 0
+        self.compared, self.tried, self.used = set(compared), collections.Counter(), set()
+        self.proved, self.failed, self.vectors = 0, 0, 0
 
     def run(self):
         start = time.process_time()
-        program = link("%s/x86_64/%s.s" % (self.options.dist, self.build), "%s/%s_%d" % (self.options.out, self.build, self.key_size))
-        library = self.build.split("_")[0]
+        out = "%s/%s_%d" % (self.options.out, self.build.replace("/", "_"), self.key_size)
+        program = link("%s/%s.s" % (self.options.dist, self.build), out, BUILDS[self.build])
+        library = self.build.split("/")[1][:3]
         keyed = (gcm.KeyedGcm if library == "gcm" else aes.Keyed)(program, self.key_size)
         self.case("set_key", keyed.set_key)
         if not self.failed:
@@ -169,8 +176,10 @@ class Task:
         start = time.process_time()
         try:
             m = prove(None)
-            if self.options.processor and not set(m.used) <= self.compared:
+            new = set(m.used) - self.compared  # some are on other paths than the one that the processor takes
+            if any(self.tried[form] < 2 for form in new) and not PROCESSORS[type(m)].missing():
                 self.compared |= set(prove(SEED).used)
+                self.tried.update(new)
             self.used |= set(m.used)
             left = ", ".join("%d %s in %s" % (len(v), kind, place) for (place, kind), v in sorted(m.left.items()))
             text = "%d instructions, %d bytes of stack; left: %s" % (m.steps, m.top - m.lowest, left or "nothing")
@@ -202,21 +211,34 @@ def tasks(options):
                     waiting |= {pool.submit(run_task, options, task.build, size, task.compared) for size in others}
 
 
+def missing(machine):
+    """What of the tools for this machine isn't here."""
+    return [machine.tools + name for name in ("gcc", "ld", "objdump", "nm") if not shutil.which(machine.tools + name)]
+
+
+def say_what_is_missing():
+    for machine, processor in PROCESSORS.items():
+        for consequence, names in (("is not proved", missing(machine)), ("is not compared with a processor", processor.missing())):
+            if names:
+                print("%s %s here, without %s" % (machine.__name__, consequence, ", ".join(names)))
+
+
 def main():
     parser = argparse.ArgumentParser(description=__doc__)
     parser.add_argument("--dist", default=os.path.dirname(HERE))
     parser.add_argument("--out", default="out/prove")
     parser.add_argument("--all", action="store_true", default=os.environ.get("PROVE") == "all", help="all lengths")
-    parser.add_argument("--builds", type=lambda s: s.split(","), default=BUILDS)
+    parser.add_argument("--builds", type=lambda s: s.split(","), default=list(BUILDS))
     parser.add_argument("--keys", type=lambda s: [int(n) for n in s.split(",")], default=KEY_SIZES)
     parser.add_argument("--only", default="", help="calls that have this in their name")
     parser.add_argument("--lines", action="store_true", help="a line for each case")
     parser.add_argument("--jobs", type=int, default=os.cpu_count())
     options = parser.parse_args()
     os.makedirs(options.out, exist_ok=True)
-    options.processor = "avx2" in open("/proc/cpuinfo").read()
+    options.builds = [build for build in options.builds if not missing(BUILDS[build])]
     start, proved, failed, used, compared = time.time(), 0, 0, set(), set()
     vectors = pinned(Domain())
+    say_what_is_missing()
     for what, fault in header_cases(options.dist):
         print("%s: %s" % (what, fault or "as in the statements"))
         proved, failed = proved + (not fault), failed + bool(fault)
@@ -224,10 +246,11 @@ def main():
         print("%s.s, key of %d bytes: %d proved, %d failed, %.0f s" % (
             task.build, task.key_size, task.proved, task.failed, task.seconds), flush=True)
         proved, failed = proved + task.proved, failed + task.failed
-        used, compared, vectors = used | task.used, compared | task.compared, vectors + task.vectors
-    alone = sorted(used - compared)
-    print("%d forms of instructions; %s" % (len(used), "no processor with AVX2 here, so none was compared with it" if not options.processor
-                                            else "the processor agreed on all but: " + (", ".join(alone) or "none")))
+        folder, vectors = os.path.dirname(task.build), vectors + task.vectors
+        used |= {(folder, form) for form in task.used}
+        compared |= {(folder, form) for form in task.compared}
+    alone = [" ".join(form) for form in sorted(used - compared)]
+    print("%d forms of instructions; the processor agreed on all but: %s" % (len(used), ", ".join(alone) or "none"))
     print("%d vectors of the standards; %.0f s" % (vectors, time.time() - start))
     print("%d proved, %d failed" % (proved, failed))
     return failed != 0

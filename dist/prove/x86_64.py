@@ -29,7 +29,7 @@ CONDITIONS = {"e": "z", "ne": "!z", "b": "c", "ae": "!c", "be": "c|z", "a": "!(c
 
 class X86_64(Machine):
     """With the System V ABI, in which the stack is aligned to 16 bytes before the return address is pushed."""
-    tools, objdump = "", ("-M", "intel")
+    tools, objdump, host = "", ("-M", "intel"), "host.s"
     registers, stack_pointer = R64, "rsp"
     vector_count, vector_size = 16, 32
     arguments, result = "rdi rsi rdx rcx r8 r9".split(), "rax"
@@ -533,21 +533,26 @@ def palignr(m, name, *operands):
 @op("pshufb", "vpshufb")
 def pshufb(m, name, *operands):
     a, b = sources(m, name, operands)
-    d, r = m.domain, []
+    r, memo = [], m.domain.entries
     for i in range(0, len(a), 16):
-        table = a[i:i + 16]
+        table = tuple(a[i:i + 16])
         for x in b[i:i + 16]:
-            if x < 256:
-                r.append(0 if x & 128 else table[x & 15])
-            elif max(table) < 256:
-                x = d.bits(x)
-                r.append(d.lookup(tuple(table) + (0,) * 16, x[:4] + x[7:]))
-            else:
-                x = d.bits(x)
-                if x[7]:
-                    raise Unproved("a look-up in a table that isn't constant, by an index that may be 128 or more")
-                r.append(d.bilinear_lookup(tuple(table), x[:4]))
+            if (table, x) not in memo:
+                memo[table, x] = entry(m.domain, table, x)
+            r.append(memo[table, x])
     m.put_vector(name, operands[0], r)
+
+
+def entry(domain, table, x):
+    """One byte of a look-up: 0 if bit 7 of the index is set, else the entry at its lowest four bits."""
+    bits = domain.bits(x)
+    if x < 256:
+        return 0 if x & 128 else table[x & 15]
+    if max(table) < 256:
+        return domain.lookup(table + (0,) * 16, bits[:4] + bits[7:])
+    if bits[7]:
+        raise Unproved("a look-up in a table that isn't constant, by an index that may be 128 or more")
+    return domain.bilinear_lookup(table, bits[:4])
 
 
 @op("pshufd", "vpshufd", "pshuflw", "pshufhw")
