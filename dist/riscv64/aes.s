@@ -759,127 +759,91 @@
 	mv	s4, a5
 	mv	s7, a4
 	mv	s5, a3
-	mv	s11, a1
-	andi	s1, a3, 15
-	li	a1, 16
-	sub	a1, a1, s1
+	mv	s8, a1
 	mv	s3, a0
-	bgeu	a1, a5, .LBB1_3
-# %bb.1:                                # %else.2
-	add	a0, s4, s1
 	vsetivli	zero, 16, e8, m1, ta, ma
 	vle8.v	v8, (a2)
-	addi	a1, sp, 16
-	srli	a2, a0, 4
-	andi	a0, a0, 15
-	snez	a0, a0
-	add	a0, a0, a2
+	addi	a0, sp, 16
+	andi	s0, a3, 15
+	li	a1, 16
+	sub	a1, a1, s0
+	vse8.v	v8, (a0)
+	bgeu	a1, a5, .LBB1_3
+# %bb.1:                                # %else.2.i
+	add	a1, s4, s0
+	srli	a2, a1, 4
+	andi	a1, a1, 15
+	snez	a1, a1
+	add	a1, a1, a2
 	li	a2, 8
-	vse8.v	v8, (a1)
-	sd	s5, 32(sp)
-	sd	s7, 40(sp)
-	sd	s4, 48(sp)
-	bltu	a0, a2, .LBB1_15
-# %bb.2:                                # %then.1.i
-	addi	a2, sp, 16
+	sd	a0, 32(sp)
+	sd	s5, 40(sp)
+	sd	s7, 48(sp)
+	sd	s4, 56(sp)
+	bltu	a1, a2, .LBB1_15
+# %bb.2:                                # %then.1.i.i
+	addi	a2, sp, 32
 	mv	a0, s3
-	mv	a1, s11
-	call	"aes_hybrid::closures::lend_planes_to_encrypt::<#537bb4a78d5b59fe>"
+	mv	a1, s8
+	call	"aes_hybrid::closures::lend_planes_to_encrypt::<#9529e7fedb684484>"
 	j	.LBB1_22
-.LBB1_3:                                # %then.1
-	srli	a6, s5, 4
-	lbu	s6, 0(a2)
-	lbu	a5, 1(a2)
-	lbu	s0, 2(a2)
-	lbu	a0, 3(a2)
-	lbu	s8, 8(a2)
-	lbu	t0, 9(a2)
-	lbu	t1, 10(a2)
-	lbu	a1, 11(a2)
-	lbu	a3, 4(a2)
-	lbu	t3, 5(a2)
-	lbu	t4, 6(a2)
-	lbu	a7, 7(a2)
-	lbu	a4, 12(a2)
-	lbu	t5, 13(a2)
-	lbu	s5, 14(a2)
-	lbu	t2, 15(a2)
-	slli	a3, a3, 32
-	slli	a0, a0, 24
-	or	a0, a0, a3
-	li	t6, 255
-	slli	a4, a4, 32
-	slli	a1, a1, 24
-	or	a1, a1, a4
-	lui	s9, 4080
-	slli	s0, s0, 16
-	slli	a5, a5, 8
-	or	a5, a5, s6
-	or	a5, a5, s0
-	lui	a3, 16
-	vsetivli	zero, 16, e8, m1, ta, ma
-	vid.v	v8
-	slli	t6, t6, 24
-	addi	a3, a3, -256
-	vrsub.vi	v8, v8, 15
-	slli	t4, t4, 48
-	slli	t3, t3, 40
-	slli	s5, s5, 48
-	slli	t5, t5, 40
-	slli	t1, t1, 16
-	slli	t0, t0, 8
-	slli	s6, s6, 56
-	or	a4, t0, s8
-	slli	s8, s8, 56
-	or	a4, a4, t1
-	or	a0, a0, a5
-	or	a1, a1, a4
-	and	a5, a5, a3
-	and	a4, a4, a3
-	or	s0, a0, t3
-	or	a2, a1, t5
-	srli	t0, a0, 8
-	and	t3, a0, s9
-	slli	a5, a5, 40
-	or	t1, s6, a5
-	srli	a5, a1, 8
-	and	t5, a1, s9
+.LBB1_3:                                # %then.1.i
+	ld	a1, 16(sp)
+	ld	a0, 24(sp)
+	lui	a6, 4080
+	li	a3, 255
+	lui	a2, 16
+	slli	a4, a3, 24
+	addi	a3, a2, -256
+	srli	a5, a1, 24
+	srli	s1, a1, 8
+	srli	a7, a1, 40
+	srli	t0, a1, 56
+	srli	a2, a0, 8
+	and	s1, s1, a4
+	and	t2, a2, a4
+	and	a2, a1, a6
+	and	a5, a5, a6
+	or	t1, s1, a5
+	srliw	s1, a1, 24
+	and	a5, a7, a3
+	or	a7, a5, t0
+	and	a4, a1, a3
+	slli	a1, a1, 56
+	slli	a2, a2, 24
+	slli	s1, s1, 32
+	or	t0, a2, s1
+	srli	s1, a0, 24
 	slli	a4, a4, 40
-	or	a0, s0, t4
-	or	a1, a2, s5
-	and	t0, t0, t6
-	srli	s0, s0, 24
-	slli	t3, t3, 24
-	and	t6, a5, t6
-	srli	a2, a2, 24
-	slli	t5, t5, 24
-	or	t4, s8, a4
-	and	s0, s0, s9
+	or	a1, a1, a4
 	srli	a4, a0, 40
-	srliw	a0, a0, 24
-	and	a2, a2, s9
-	srli	a5, a1, 40
-	srliw	a1, a1, 24
-	or	s0, t0, s0
+	and	s1, s1, a6
+	or	s1, t2, s1
+	srli	a5, a0, 56
+	and	a2, a0, a6
 	and	a4, a4, a3
-	slli	a0, a0, 32
-	or	a2, t6, a2
-	and	a3, a3, a5
-	slli	a1, a1, 32
-	or	a4, a4, a7
-	or	a0, t3, a0
-	or	a3, a3, t2
-	or	a1, t5, a1
-	or	a4, a4, s0
-	or	a0, t1, a0
-	or	a2, a2, a3
-	or	a1, t4, a1
+	or	a4, a4, a5
+	srliw	a5, a0, 24
+	slli	a2, a2, 24
+	slli	a5, a5, 32
+	or	a2, a2, a5
+	and	a3, a3, a0
+	slli	a0, a0, 56
+	slli	a3, a3, 40
+	or	a0, a0, a3
+	srli	a3, s5, 4
+	vid.v	v8
+	vrsub.vi	v8, v8, 15
+	or	a5, t1, a7
+	or	a1, a1, t0
+	or	a4, a4, s1
+	or	a0, a0, a2
+	or	a1, a1, a5
 	or	a0, a0, a4
-	or	a1, a1, a2
-	add	a6, a6, a1
-	sltu	a1, a6, a1
+	add	a3, a3, a0
+	sltu	a0, a3, a0
 	vsetivli	zero, 2, e64, m1, ta, ma
-	vmv.v.x	v9, a6
+	vmv.v.x	v9, a3
 	add	a0, a0, a1
 	vslide1down.vx	v9, v9, a0
 	vsetivli	zero, 16, e8, m1, ta, ma
@@ -889,16 +853,16 @@
 	addi	a2, sp, 96
 	li	a3, 1
 	mv	a0, s3
-	mv	a1, s11
+	mv	a1, s8
 	call	"aes_permute::blocks::process_on_lanes::<#06aaae76f5856d0a>"
 	li	a1, 0
-	beqz	s1, .LBB1_8
-# %bb.4:                                # %then.1
+	beqz	s0, .LBB1_8
+# %bb.4:                                # %then.1.i
 	beqz	s4, .LBB1_8
-# %bb.5:                                # %join.8.i68.lr.ph.i
+# %bb.5:                                # %join.8.i68.lr.ph.i.i
 	li	a0, 0
 	addi	a1, sp, 96
-	or	a1, a1, s1
+	or	a1, a1, s0
 	mv	a2, s4
 .LBB1_6:                                # %vector.body
                                         # =>This Inner Loop Header: Depth=1
@@ -914,15 +878,15 @@
 	bnez	a2, .LBB1_6
 # %bb.7:
 	mv	a1, s4
-.LBB1_8:                                # %join.3.i.i
+.LBB1_8:                                # %join.3.i.i.i
 	sub	a0, s4, a1
 	li	a2, 16
 	bltu	a0, a2, .LBB1_11
-# %bb.9:                                # %join.8.i.i.preheader
+# %bb.9:                                # %join.8.i.i.i.preheader
 	vsetivli	zero, 16, e8, m1, ta, ma
-.LBB1_10:                               # %join.8.i.i
+.LBB1_10:                               # %join.8.i.i.i
                                         # =>This Inner Loop Header: Depth=1
-	add	a2, s1, a1
+	add	a2, s0, a1
 	addi	a3, sp, 96
 	andi	a2, a2, -16
 	add	a2, a2, a3
@@ -935,18 +899,18 @@
 	li	a2, 15
 	vse8.v	v8, (a3)
 	bltu	a2, a0, .LBB1_10
-.LBB1_11:                               # %after.4.i.i
+.LBB1_11:                               # %after.4.i.i.i
 	bgeu	a1, s4, .LBB1_22
-# %bb.12:                               # %then.9.i.i
+# %bb.12:                               # %then.9.i.i.i
 	beqz	a0, .LBB1_22
-# %bb.13:                               # %vector.body4.preheader
+# %bb.13:                               # %vector.body3.preheader
 	li	a2, 0
-	add	s1, s1, a1
+	add	s0, s0, a1
 	addi	a3, sp, 96
-	andi	s1, s1, -16
-	add	a3, a3, s1
+	andi	s0, s0, -16
+	add	a3, a3, s0
 	add	a1, a1, s7
-.LBB1_14:                               # %vector.body4
+.LBB1_14:                               # %vector.body3
                                         # =>This Inner Loop Header: Depth=1
 	vsetvli	a4, a0, e8, m2, ta, ma
 	add	a5, a3, a2
@@ -959,32 +923,31 @@
 	add	a2, a2, a4
 	bnez	a0, .LBB1_14
 	j	.LBB1_22
-.LBB1_15:                               # %else.2.i
+.LBB1_15:                               # %else.2.i.i
 	sd	s3, 64(sp)
-	sd	s11, 72(sp)
+	sd	s8, 72(sp)
 	sd	s3, 80(sp)
-	sd	s11, 88(sp)
-	beqz	s1, .LBB1_17
-# %bb.16:                               # %then.1.i.i13
+	sd	s8, 88(sp)
+	beqz	s0, .LBB1_17
+# %bb.16:                               # %then.1.i.i14.i
 	addi	a0, sp, 64
+	addi	a1, sp, 16
 	mv	a2, s5
 	li	a3, 0
 	mv	a4, s7
 	mv	a5, s4
-	call	"aes_ctr::add_in_batches::add_next::<#98db03cc97429006>"
+	call	"aes_ctr::add_in_batches::add_next::<#480f169d2b56aea8>"
 	mv	s2, a0
-	sd	s4, 0(sp)                       # 8-byte Folded Spill
 	sub	s10, s4, a0
 	li	a0, 64
 	bgeu	s10, a0, .LBB1_18
 	j	.LBB1_20
 .LBB1_17:
 	li	s2, 0
-	sd	s4, 0(sp)                       # 8-byte Folded Spill
 	mv	s10, s4
 	li	a0, 64
 	bltu	s4, a0, .LBB1_20
-.LBB1_18:                               # %join.11.lr.ph.i.i
+.LBB1_18:                               # %join.11.lr.ph.i.i.i
 	addi	s1, sp, 112
 	ld	a1, 16(sp)
 	ld	a0, 24(sp)
@@ -1036,11 +999,12 @@
 	or	a1, a1, t0
 	or	a2, a2, a5
 	or	a0, a0, a3
-	or	s4, a1, a4
+	or	s11, a1, a4
 	or	s6, a0, a2
-.LBB1_19:                               # %join.11.i.i
+.LBB1_19:                               # %join.11.i.i.i
                                         # =>This Inner Loop Header: Depth=1
 	add	a0, s5, s2
+	mv	s0, s8
 	srli	s8, a0, 4
 	li	a2, 192
 	addi	a0, sp, 160
@@ -1059,13 +1023,14 @@
 	vrsub.vi	v13, v8, 15
 	addi	a3, s8, 2
 	addi	a4, s8, 3
-	add	a1, a1, s4
+	add	a1, a1, s11
 	vsetivli	zero, 2, e64, m1, ta, ma
 	vmv.v.x	v8, a2
 	seqz	a2, a2
 	vmv.v.x	v12, a3
 	sltu	a3, a3, s8
 	sltu	a5, a4, s8
+	mv	s8, s0
 	vslide1down.vx	v9, v9, a1
 	add	a2, a2, a1
 	vslide1down.vx	v11, v8, a2
@@ -1092,7 +1057,7 @@
 	addi	a2, sp, 96
 	li	a3, 4
 	mv	a0, s3
-	mv	a1, s11
+	mv	a1, s8
 	call	"aes_permute::blocks::process_on_lanes::<#06aaae76f5856d0a>"
 	addi	a0, s1, 16
 	vsetivli	zero, 16, e8, m1, ta, ma
@@ -1120,21 +1085,20 @@
 	vse8.v	v8, (a1)
 	addi	s2, s2, 64
 	bltu	a0, s10, .LBB1_19
-.LBB1_20:                               # %loop.13.preheader.i.i
-	ld	s0, 0(sp)                       # 8-byte Folded Reload
-	bgeu	s2, s0, .LBB1_22
-.LBB1_21:                               # %join.16.i.i
+.LBB1_20:                               # %loop.13.preheader.i.i.i
+	bgeu	s2, s4, .LBB1_22
+.LBB1_21:                               # %join.16.i.i.i
                                         # =>This Inner Loop Header: Depth=1
 	addi	a0, sp, 64
 	addi	a1, sp, 16
 	mv	a2, s5
 	mv	a3, s2
 	mv	a4, s7
-	mv	a5, s0
-	call	"aes_ctr::add_in_batches::add_next::<#98db03cc97429006>"
+	mv	a5, s4
+	call	"aes_ctr::add_in_batches::add_next::<#480f169d2b56aea8>"
 	mv	s2, a0
-	bltu	a0, s0, .LBB1_21
-.LBB1_22:                               # %join.3
+	bltu	a0, s4, .LBB1_21
+.LBB1_22:                               # %"aes_ctr::add_in_batches::add_stream::<#26b35b4149026345>.exit"
 	ld	ra, 456(sp)                     # 8-byte Folded Reload
 	ld	s0, 448(sp)                     # 8-byte Folded Reload
 	ld	s1, 440(sp)                     # 8-byte Folded Reload
@@ -5255,10 +5219,10 @@
 .Lfunc_end9:
 	.size	"aes_permute::blocks::process_on_lanes::<#06aaae76f5856d0a>", .Lfunc_end9-"aes_permute::blocks::process_on_lanes::<#06aaae76f5856d0a>"
                                         # -- End function
-	.section	".text.aes_hybrid::closures::lend_planes_to_encrypt::<#537bb4a78d5b59fe>","ax",@progbits
-	.p2align	1                               # -- Begin function aes_hybrid::closures::lend_planes_to_encrypt::<#537bb4a78d5b59fe>
-	.type	"aes_hybrid::closures::lend_planes_to_encrypt::<#537bb4a78d5b59fe>",@function
-"aes_hybrid::closures::lend_planes_to_encrypt::<#537bb4a78d5b59fe>": # @"aes_hybrid::closures::lend_planes_to_encrypt::<#537bb4a78d5b59fe>"
+	.section	".text.aes_hybrid::closures::lend_planes_to_encrypt::<#9529e7fedb684484>","ax",@progbits
+	.p2align	1                               # -- Begin function aes_hybrid::closures::lend_planes_to_encrypt::<#9529e7fedb684484>
+	.type	"aes_hybrid::closures::lend_planes_to_encrypt::<#9529e7fedb684484>",@function
+"aes_hybrid::closures::lend_planes_to_encrypt::<#9529e7fedb684484>": # @"aes_hybrid::closures::lend_planes_to_encrypt::<#9529e7fedb684484>"
 # %bb.0:                                # %start
 	addi	sp, sp, -1984
 	sd	ra, 1976(sp)                    # 8-byte Folded Spill
@@ -5284,7 +5248,7 @@
 	mv	a1, s1
 	mv	a3, s3
 	mv	a4, s2
-	call	"aes_hybrid::closures::call_to_encrypt::<#537bb4a78d5b59fe>"
+	call	"aes_hybrid::closures::call_to_encrypt::<#9529e7fedb684484>"
 	addi	a0, sp, 16
 	call	"aes_cipher::zeroize::zeroize_words::<#e29e0540aa8bc136>"
 	call	"aes_cipher::zeroize::stack::wipe_stack::<=2032>"
@@ -5296,10 +5260,10 @@
 	addi	sp, sp, 1984
 	ret
 .Lfunc_end10:
-	.size	"aes_hybrid::closures::lend_planes_to_encrypt::<#537bb4a78d5b59fe>", .Lfunc_end10-"aes_hybrid::closures::lend_planes_to_encrypt::<#537bb4a78d5b59fe>"
+	.size	"aes_hybrid::closures::lend_planes_to_encrypt::<#9529e7fedb684484>", .Lfunc_end10-"aes_hybrid::closures::lend_planes_to_encrypt::<#9529e7fedb684484>"
                                         # -- End function
 	.section	.rodata.cst16,"aM",@progbits,16
-	.p2align	4, 0x0                          # -- Begin function aes_hybrid::closures::call_to_encrypt::<#537bb4a78d5b59fe>
+	.p2align	4, 0x0                          # -- Begin function aes_hybrid::closures::call_to_encrypt::<#9529e7fedb684484>
 .LCPI11_0:
 	.byte	0                               # 0x0
 	.byte	4                               # 0x4
@@ -5352,10 +5316,10 @@
 	.byte	7                               # 0x7
 	.byte	11                              # 0xb
 	.byte	15                              # 0xf
-	.section	".text.aes_hybrid::closures::call_to_encrypt::<#537bb4a78d5b59fe>","ax",@progbits
+	.section	".text.aes_hybrid::closures::call_to_encrypt::<#9529e7fedb684484>","ax",@progbits
 	.p2align	1
-	.type	"aes_hybrid::closures::call_to_encrypt::<#537bb4a78d5b59fe>",@function
-"aes_hybrid::closures::call_to_encrypt::<#537bb4a78d5b59fe>": # @"aes_hybrid::closures::call_to_encrypt::<#537bb4a78d5b59fe>"
+	.type	"aes_hybrid::closures::call_to_encrypt::<#9529e7fedb684484>",@function
+"aes_hybrid::closures::call_to_encrypt::<#9529e7fedb684484>": # @"aes_hybrid::closures::call_to_encrypt::<#9529e7fedb684484>"
 # %bb.0:                                # %start
 	addi	sp, sp, -400
 	sd	ra, 392(sp)                     # 8-byte Folded Spill
@@ -5382,15 +5346,15 @@
 	bge	t1, t2, .LBB11_1
 # %bb.2:                                # %start
 	sub	sp, sp, t1
-	mv	s4, a4
 	mv	s5, a3
-	ld	s2, 16(a4)
 	sd	a0, 96(sp)
 	sd	a1, 104(sp)
 	sd	a0, 112(sp)
 	sd	a1, 120(sp)
-	ld	s1, 24(a4)
-	ld	s0, 32(a4)
+	ld	s2, 8(a4)
+	ld	s4, 0(a4)
+	ld	s1, 16(a4)
+	ld	s0, 24(a4)
 	andi	a0, s2, 15
 	sd	a2, 80(sp)                      # 8-byte Folded Spill
 	sd	a2, 128(sp)
@@ -5403,7 +5367,7 @@
 	li	a3, 0
 	mv	a4, s1
 	mv	a5, s0
-	call	"aes_ctr::add_in_batches::add_next::<#1ceb2cac41602be3>"
+	call	"aes_ctr::add_in_batches::add_next::<#84e7bdd52ce97651>"
 	mv	s11, a0
 	sd	s0, 24(sp)                      # 8-byte Folded Spill
 	sub	a4, s0, a0
@@ -5451,7 +5415,7 @@
 	addi	a2, a2, %pcrel_lo(.Lpcrel_hi61)
 	vle8.v	v18, (a2)
 	lbu	a4, 4(s4)
-	lbu	s1, 5(s4)
+	lbu	s0, 5(s4)
 	lbu	a2, 6(s4)
 	lbu	t6, 7(s4)
 	slli	t3, t3, 24
@@ -5471,19 +5435,19 @@
 	addi	t1, a3, -256
 	slli	t5, t5, 8
 	slli	s9, s9, 16
-	or	s0, t5, a0
+	or	s1, t5, a0
 	slli	a0, a0, 56
-	or	s0, s0, s9
+	or	s1, s1, s9
 	or	a3, a1, a5
-	or	a4, a4, s0
-	and	a5, s0, t1
-	srli	s0, a4, 8
+	or	a4, a4, s1
+	and	a5, s1, t1
+	srli	s1, a4, 8
 	slli	a5, a5, 40
 	or	t2, a0, a5
 	srli	a0, a3, 8
-	and	a5, s0, t3
+	and	a5, s1, t3
 	and	t5, a0, t3
-	add	s0, s2, s11
+	add	s1, s2, s11
 	vid.v	v8
 	slli	ra, ra, 56
 	and	a1, a1, t1
@@ -5492,37 +5456,37 @@
 	li	s10, 85
 	slli	a7, a7, 40
 	slli	t0, t0, 48
-	slli	s1, s1, 40
+	slli	s0, s0, 40
 	slli	a2, a2, 48
 	or	a1, a3, a7
-	or	s1, s1, a4
+	or	s0, s0, a4
 	and	a4, a4, t4
 	and	a3, a3, t4
 	or	a7, a1, t0
-	or	a0, s1, a2
-	srli	s1, s1, 24
+	or	a0, s0, a2
+	srli	s0, s0, 24
 	srli	a1, a1, 24
-	and	s1, s1, t4
+	and	s0, s0, t4
 	and	a1, a1, t4
 	li	t4, 51
-	srli	t0, s0, 4
+	srli	t0, s1, 4
 	vrsub.vi	v8, v8, 15
 	slli	a4, a4, 24
 	slli	a3, a3, 24
-	or	a5, a5, s1
+	or	a5, a5, s0
 	srli	a2, a0, 40
 	srliw	a0, a0, 24
 	or	a1, t5, a1
-	srli	s1, a7, 40
-	srliw	s0, a7, 24
+	srli	s0, a7, 40
+	srliw	s1, a7, 24
 	and	a2, a2, t1
 	slli	a0, a0, 32
-	and	s1, s1, t1
-	slli	s0, s0, 32
+	and	s0, s0, t1
+	slli	s1, s1, 32
 	or	a2, a2, t6
 	or	a0, a0, a4
-	or	a4, s1, a6
-	or	a3, a3, s0
+	or	a4, s0, a6
+	or	a3, a3, s1
 	or	a2, a2, a5
 	or	a0, t2, a0
 	or	a1, a1, a4
@@ -5876,10 +5840,10 @@
 	mv	a3, s11
 	mv	a4, s1
 	mv	a5, s0
-	call	"aes_ctr::add_in_batches::add_next::<#1ceb2cac41602be3>"
+	call	"aes_ctr::add_in_batches::add_next::<#84e7bdd52ce97651>"
 	mv	s11, a0
 	bltu	a0, s0, .LBB11_8
-.LBB11_9:                               # %"aes_ctr::add_in_batches::DueBlockCipherEncClosure::call::<#1ceb2cac41602be3>.exit"
+.LBB11_9:                               # %"aes_ctr::add_in_batches::DueBlockCipherEncClosure::call::<#442d1bce512dce89>.exit"
 	csrr	a0, vlenb
 	add	sp, sp, a0
 	ld	ra, 392(sp)                     # 8-byte Folded Reload
@@ -5898,10 +5862,10 @@
 	addi	sp, sp, 400
 	ret
 .Lfunc_end11:
-	.size	"aes_hybrid::closures::call_to_encrypt::<#537bb4a78d5b59fe>", .Lfunc_end11-"aes_hybrid::closures::call_to_encrypt::<#537bb4a78d5b59fe>"
+	.size	"aes_hybrid::closures::call_to_encrypt::<#9529e7fedb684484>", .Lfunc_end11-"aes_hybrid::closures::call_to_encrypt::<#9529e7fedb684484>"
                                         # -- End function
 	.section	.rodata.cst16,"aM",@progbits,16
-	.p2align	4, 0x0                          # -- Begin function aes_ctr::add_in_batches::add_next::<#1ceb2cac41602be3>
+	.p2align	4, 0x0                          # -- Begin function aes_ctr::add_in_batches::add_next::<#84e7bdd52ce97651>
 .LCPI12_0:
 	.byte	0                               # 0x0
 	.byte	4                               # 0x4
@@ -5954,10 +5918,10 @@
 	.byte	7                               # 0x7
 	.byte	11                              # 0xb
 	.byte	15                              # 0xf
-	.section	".text.aes_ctr::add_in_batches::add_next::<#1ceb2cac41602be3>","ax",@progbits
+	.section	".text.aes_ctr::add_in_batches::add_next::<#84e7bdd52ce97651>","ax",@progbits
 	.p2align	1
-	.type	"aes_ctr::add_in_batches::add_next::<#1ceb2cac41602be3>",@function
-"aes_ctr::add_in_batches::add_next::<#1ceb2cac41602be3>": # @"aes_ctr::add_in_batches::add_next::<#1ceb2cac41602be3>"
+	.type	"aes_ctr::add_in_batches::add_next::<#84e7bdd52ce97651>",@function
+"aes_ctr::add_in_batches::add_next::<#84e7bdd52ce97651>": # @"aes_ctr::add_in_batches::add_next::<#84e7bdd52ce97651>"
 # %bb.0:                                # %start
 	addi	sp, sp, -544
 	sd	ra, 536(sp)                     # 8-byte Folded Spill
@@ -6618,7 +6582,7 @@
 	addi	sp, sp, 544
 	ret
 .Lfunc_end12:
-	.size	"aes_ctr::add_in_batches::add_next::<#1ceb2cac41602be3>", .Lfunc_end12-"aes_ctr::add_in_batches::add_next::<#1ceb2cac41602be3>"
+	.size	"aes_ctr::add_in_batches::add_next::<#84e7bdd52ce97651>", .Lfunc_end12-"aes_ctr::add_in_batches::add_next::<#84e7bdd52ce97651>"
                                         # -- End function
 	.section	".text.aes_cipher::zeroize::stack::wipe_stack::<=2032>","ax",@progbits
 	.p2align	1                               # -- Begin function aes_cipher::zeroize::stack::wipe_stack::<=2032>
@@ -6665,10 +6629,10 @@
 .Lfunc_end13:
 	.size	"aes_cipher::zeroize::stack::wipe_stack::<=2032>", .Lfunc_end13-"aes_cipher::zeroize::stack::wipe_stack::<=2032>"
                                         # -- End function
-	.section	".text.aes_ctr::add_in_batches::add_next::<#98db03cc97429006>","ax",@progbits
-	.p2align	1                               # -- Begin function aes_ctr::add_in_batches::add_next::<#98db03cc97429006>
-	.type	"aes_ctr::add_in_batches::add_next::<#98db03cc97429006>",@function
-"aes_ctr::add_in_batches::add_next::<#98db03cc97429006>": # @"aes_ctr::add_in_batches::add_next::<#98db03cc97429006>"
+	.section	".text.aes_ctr::add_in_batches::add_next::<#480f169d2b56aea8>","ax",@progbits
+	.p2align	1                               # -- Begin function aes_ctr::add_in_batches::add_next::<#480f169d2b56aea8>
+	.type	"aes_ctr::add_in_batches::add_next::<#480f169d2b56aea8>",@function
+"aes_ctr::add_in_batches::add_next::<#480f169d2b56aea8>": # @"aes_ctr::add_in_batches::add_next::<#480f169d2b56aea8>"
 # %bb.0:                                # %start
 	addi	sp, sp, -368
 	sd	ra, 360(sp)                     # 8-byte Folded Spill
@@ -6975,7 +6939,7 @@
 	addi	sp, sp, 368
 	ret
 .Lfunc_end14:
-	.size	"aes_ctr::add_in_batches::add_next::<#98db03cc97429006>", .Lfunc_end14-"aes_ctr::add_in_batches::add_next::<#98db03cc97429006>"
+	.size	"aes_ctr::add_in_batches::add_next::<#480f169d2b56aea8>", .Lfunc_end14-"aes_ctr::add_in_batches::add_next::<#480f169d2b56aea8>"
                                         # -- End function
 	.section	".text.aes_cipher::zeroize::elements::zeroize_elements::<#3149b2a5f931b1fc>","ax",@progbits
 	.p2align	1                               # -- Begin function aes_cipher::zeroize::elements::zeroize_elements::<#3149b2a5f931b1fc>

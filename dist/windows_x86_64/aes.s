@@ -844,33 +844,35 @@
 	movq	%r9, %r12
 	movq	%r8, %rbx
 	movq	%rcx, %r15
+	movdqu	(%rdx), %xmm0
+	movdqa	%xmm0, (%rsp)
 	movl	%r15d, %ebp
 	andl	$15, %ebp
 	movl	$16, %eax
 	subq	%rbp, %rax
 	cmpq	%rax, %r9
 	jbe	.LBB1_1
-# %bb.21:                               # %else.2
+# %bb.21:                               # %else.2.i
 	leaq	(%r12,%rbp), %rax
 	movq	%rax, %rcx
 	shrq	$4, %rcx
 	andl	$15, %eax
 	cmpq	$1, %rax
 	sbbq	$-1, %rcx
-	movdqu	(%rdx), %xmm0
-	movdqa	%xmm0, 32(%rsp)
-	movq	%r15, 48(%rsp)
-	movq	%rbx, 56(%rsp)
-	movq	%r12, 64(%rsp)
+	movq	%rsp, %rax
+	movq	%rax, 80(%rsp)
+	movq	%r15, 88(%rsp)
+	movq	%rbx, 96(%rsp)
+	movq	%r12, 104(%rsp)
 	cmpq	$8, %rcx
 	jb	.LBB1_23
-# %bb.22:                               # %then.1.i
-	leaq	32(%rsp), %rdx
-	callq	"aes_hybrid::closures::lend_planes_to_encrypt::<#537bb4a78d5b59fe>"
+# %bb.22:                               # %then.1.i.i
+	leaq	80(%rsp), %rdx
+	callq	"aes_hybrid::closures::lend_planes_to_encrypt::<#9529e7fedb684484>"
 	jmp	.LBB1_31
-.LBB1_1:                                # %then.1
-	movq	(%rdx), %rax
-	movq	8(%rdx), %rcx
+.LBB1_1:                                # %then.1.i
+	movq	(%rsp), %rax
+	movq	8(%rsp), %rcx
 	bswapq	%rax
 	shrq	$4, %r15
 	bswapq	%rcx
@@ -888,10 +890,10 @@
 	xorl	%ecx, %ecx
 	testq	%rbp, %rbp
 	je	.LBB1_11
-# %bb.2:                                # %then.1
+# %bb.2:                                # %then.1.i
 	testq	%r12, %r12
 	je	.LBB1_11
-# %bb.3:                                # %join.8.i68.lr.ph.i
+# %bb.3:                                # %join.8.i68.lr.ph.i.i
 	leaq	-1(%r12), %rcx
 	movl	%r12d, %eax
 	andl	$3, %eax
@@ -900,23 +902,23 @@
 # %bb.4:
 	xorl	%edx, %edx
 	jmp	.LBB1_8
-.LBB1_23:                               # %else.2.i
-	movq	%rdi, 80(%rsp)
-	movq	%rsi, 88(%rsp)
-	movq	%rdi, 96(%rsp)
-	movq	%rsi, 104(%rsp)
+.LBB1_23:                               # %else.2.i.i
+	movq	%rdi, 48(%rsp)
+	movq	%rsi, 56(%rsp)
+	movq	%rdi, 64(%rsp)
+	movq	%rsi, 72(%rsp)
 	testq	%rbp, %rbp
 	je	.LBB1_24
-# %bb.25:                               # %then.1.i.i14
+# %bb.25:                               # %then.1.i.i15.i
 	movq	%rdi, %r13
-	leaq	80(%rsp), %rdi
+	leaq	48(%rsp), %rdi
 	movq	%rsi, %r14
-	leaq	32(%rsp), %rsi
+	movq	%rsp, %rsi
 	movq	%r15, %rdx
 	xorl	%ecx, %ecx
 	movq	%rbx, %r8
 	movq	%r12, %r9
-	callq	"aes_ctr::add_in_batches::add_next::<#98db03cc97429006>"
+	callq	"aes_ctr::add_in_batches::add_next::<#480f169d2b56aea8>"
 	movq	%r13, %rdi
 	movq	%r14, %rsi
 	movq	%rax, %rbp
@@ -925,14 +927,14 @@
 	cmpq	$64, %r14
 	jae	.LBB1_27
 	jmp	.LBB1_29
-.LBB1_5:                                # %join.8.i68.lr.ph.i.new
+.LBB1_5:                                # %join.8.i68.lr.ph.i.i.new
 	movq	%r12, %rcx
 	andq	$-4, %rcx
 	leaq	(%r15,%rbp), %rsi
 	addq	$3, %rsi
 	xorl	%edx, %edx
 	.p2align	4
-.LBB1_6:                                # %join.8.i68.i
+.LBB1_6:                                # %join.8.i68.i.i
                                         # =>This Inner Loop Header: Depth=1
 	movzbl	-3(%rsi,%rdx), %edi
 	xorb	%dil, (%rbx,%rdx)
@@ -945,18 +947,18 @@
 	addq	$4, %rdx
 	cmpq	%rdx, %rcx
 	jne	.LBB1_6
-# %bb.7:                                # %join.3.i.i.loopexit.unr-lcssa
+# %bb.7:                                # %join.3.i.i.i.loopexit.unr-lcssa
 	movq	%r12, %rcx
 	testq	%rax, %rax
 	je	.LBB1_11
-.LBB1_8:                                # %join.8.i68.i.epil.preheader
+.LBB1_8:                                # %join.8.i68.i.i.epil.preheader
 	leaq	(%rbx,%rdx), %rcx
 	addq	%rbp, %rdx
 	addq	%rsp, %rdx
 	addq	$112, %rdx
 	xorl	%esi, %esi
 	.p2align	4
-.LBB1_9:                                # %join.8.i68.i.epil
+.LBB1_9:                                # %join.8.i68.i.i.epil
                                         # =>This Inner Loop Header: Depth=1
 	movzbl	(%rdx,%rsi), %edi
 	xorb	%dil, (%rcx,%rsi)
@@ -965,13 +967,13 @@
 	jne	.LBB1_9
 # %bb.10:
 	movq	%r12, %rcx
-.LBB1_11:                               # %join.3.i.i
+.LBB1_11:                               # %join.3.i.i.i
 	movq	%r12, %rax
 	subq	%rcx, %rax
 	cmpq	$16, %rax
 	jb	.LBB1_13
 	.p2align	4
-.LBB1_12:                               # %join.8.i.i
+.LBB1_12:                               # %join.8.i.i.i
                                         # =>This Inner Loop Header: Depth=1
 	leaq	(%rcx,%rbp), %rdx
 	andq	$-16, %rdx
@@ -982,10 +984,10 @@
 	addq	$-16, %rax
 	cmpq	$15, %rax
 	ja	.LBB1_12
-.LBB1_13:                               # %after.4.i.i
+.LBB1_13:                               # %after.4.i.i.i
 	cmpq	%r12, %rcx
 	jae	.LBB1_31
-# %bb.14:                               # %then.9.i.i
+# %bb.14:                               # %then.9.i.i.i
 	testq	%rax, %rax
 	je	.LBB1_31
 # %bb.15:                               # %iter.check
@@ -1005,18 +1007,18 @@
 	subq	%rbp, %r14
 	cmpq	$64, %r14
 	jb	.LBB1_29
-.LBB1_27:                               # %join.11.lr.ph.i.i
-	movq	%rsi, 24(%rsp)                  # 8-byte Spill
-	movq	%rdi, 16(%rsp)                  # 8-byte Spill
+.LBB1_27:                               # %join.11.lr.ph.i.i.i
+	movq	%rsi, 40(%rsp)                  # 8-byte Spill
+	movq	%rdi, 32(%rsp)                  # 8-byte Spill
 	leaq	176(%rsp), %r13
-	movq	32(%rsp), %rax
-	movq	40(%rsp), %rcx
+	movq	(%rsp), %rax
+	movq	8(%rsp), %rcx
 	bswapq	%rax
-	movq	%rax, 8(%rsp)                   # 8-byte Spill
+	movq	%rax, 24(%rsp)                  # 8-byte Spill
 	bswapq	%rcx
-	movq	%rcx, (%rsp)                    # 8-byte Spill
+	movq	%rcx, 16(%rsp)                  # 8-byte Spill
 	.p2align	4
-.LBB1_28:                               # %join.11.i.i
+.LBB1_28:                               # %join.11.i.i.i
                                         # =>This Inner Loop Header: Depth=1
 	leaq	(%r15,%rbp), %rax
 	shrq	$4, %rax
@@ -1033,8 +1035,8 @@
 	movdqa	%xmm0, 32(%r13)
 	movdqa	%xmm0, 16(%r13)
 	movdqa	%xmm0, (%r13)
-	addq	(%rsp), %rax                    # 8-byte Folded Reload
-	movq	8(%rsp), %rcx                   # 8-byte Reload
+	addq	16(%rsp), %rax                  # 8-byte Folded Reload
+	movq	24(%rsp), %rcx                  # 8-byte Reload
 	adcq	$0, %rcx
 	movq	%rax, %xmm1
 	movq	%rcx, %xmm0
@@ -1069,8 +1071,8 @@
 	movdqa	%xmm2, 160(%rsp)
 	leaq	112(%rsp), %rdx
 	movl	$4, %ecx
-	movq	16(%rsp), %rdi                  # 8-byte Reload
-	movq	24(%rsp), %rsi                  # 8-byte Reload
+	movq	32(%rsp), %rdi                  # 8-byte Reload
+	movq	40(%rsp), %rsi                  # 8-byte Reload
 	callq	"aes_permute::blocks::process_on_lanes::<#06aaae76f5856d0a>"
 	movdqu	(%rbx,%rbp), %xmm0
 	movdqu	16(%rbx,%rbp), %xmm1
@@ -1088,19 +1090,19 @@
 	addq	$-64, %r14
 	cmpq	$63, %r14
 	ja	.LBB1_28
-.LBB1_29:                               # %loop.13.preheader.i.i
+.LBB1_29:                               # %loop.13.preheader.i.i.i
 	cmpq	%r12, %rbp
 	jae	.LBB1_31
 	.p2align	4
-.LBB1_30:                               # %join.16.i.i
+.LBB1_30:                               # %join.16.i.i.i
                                         # =>This Inner Loop Header: Depth=1
-	leaq	80(%rsp), %rdi
-	leaq	32(%rsp), %rsi
+	leaq	48(%rsp), %rdi
+	movq	%rsp, %rsi
 	movq	%r15, %rdx
 	movq	%rbp, %rcx
 	movq	%rbx, %r8
 	movq	%r12, %r9
-	callq	"aes_ctr::add_in_batches::add_next::<#98db03cc97429006>"
+	callq	"aes_ctr::add_in_batches::add_next::<#480f169d2b56aea8>"
 	movq	%rax, %rbp
 	cmpq	%r12, %rax
 	jb	.LBB1_30
@@ -1120,12 +1122,12 @@
 .LBB1_19:                               # %vec.epilog.middle.block
 	cmpq	%rcx, %rax
 	je	.LBB1_31
-.LBB1_20:                               # %join.8.i11.i
+.LBB1_20:                               # %join.8.i11.i.i
 	movzbl	(%rdx,%rcx), %esi
 	xorb	%sil, (%rbx,%rcx)
 	incq	%rcx
 	jmp	.LBB1_19
-.LBB1_31:                               # %join.3
+.LBB1_31:                               # %"aes_ctr::add_in_batches::add_stream::<#26b35b4149026345>.exit"
 	addq	$376, %rsp                      # imm = 0x178
 	popq	%rbx
 	popq	%r12
@@ -4292,6 +4294,10 @@
 	subq	$1576, %rsp                     # imm = 0x628
 	.seh_stackalloc 1576
 	.seh_endprologue
+	#APP
+	xorl	%edi, %edi
+	xorl	%esi, %esi
+	#NO_APP
 	leaq	40(%rsp), %rcx
 	movl	$1536, %r8d                     # imm = 0x600
 	xorl	%edx, %edx
@@ -4910,13 +4916,13 @@
 	jmp	.LBB9_7
 	.seh_endproc
                                         # -- End function
-	.def	"aes_hybrid::closures::lend_planes_to_encrypt::<#537bb4a78d5b59fe>";
+	.def	"aes_hybrid::closures::lend_planes_to_encrypt::<#9529e7fedb684484>";
 	.scl	3;
 	.type	32;
 	.endef
-	.p2align	4                               # -- Begin function aes_hybrid::closures::lend_planes_to_encrypt::<#537bb4a78d5b59fe>
-"aes_hybrid::closures::lend_planes_to_encrypt::<#537bb4a78d5b59fe>": # @"aes_hybrid::closures::lend_planes_to_encrypt::<#537bb4a78d5b59fe>"
-.seh_proc "aes_hybrid::closures::lend_planes_to_encrypt::<#537bb4a78d5b59fe>"
+	.p2align	4                               # -- Begin function aes_hybrid::closures::lend_planes_to_encrypt::<#9529e7fedb684484>
+"aes_hybrid::closures::lend_planes_to_encrypt::<#9529e7fedb684484>": # @"aes_hybrid::closures::lend_planes_to_encrypt::<#9529e7fedb684484>"
+.seh_proc "aes_hybrid::closures::lend_planes_to_encrypt::<#9529e7fedb684484>"
 # %bb.0:                                # %start
 	pushq	%r15
 	.seh_pushreg %r15
@@ -4949,7 +4955,7 @@
 	movq	%r13, %rdx
 	movq	%r12, %rcx
 	movq	%rbx, %r8
-	callq	"aes_hybrid::closures::call_to_encrypt::<#537bb4a78d5b59fe>"
+	callq	"aes_hybrid::closures::call_to_encrypt::<#9529e7fedb684484>"
 	movq	%r13, %rdi
 	callq	"aes_cipher::zeroize::zeroize_words::<#e29e0540aa8bc136>"
 	callq	"aes_cipher::zeroize::stack::wipe_stack::<=2032>"
@@ -4963,12 +4969,12 @@
 	retq
 	.seh_endproc
                                         # -- End function
-	.def	"aes_hybrid::closures::call_to_encrypt::<#537bb4a78d5b59fe>";
+	.def	"aes_hybrid::closures::call_to_encrypt::<#9529e7fedb684484>";
 	.scl	3;
 	.type	32;
 	.endef
 	.section	.rdata,"dr"
-	.p2align	4, 0x0                          # -- Begin function aes_hybrid::closures::call_to_encrypt::<#537bb4a78d5b59fe>
+	.p2align	4, 0x0                          # -- Begin function aes_hybrid::closures::call_to_encrypt::<#9529e7fedb684484>
 .LCPI11_0:
 	.byte	15                              # 0xf
 	.byte	11                              # 0xb
@@ -5011,8 +5017,8 @@
 	.byte	15                              # 0xf
 	.text
 	.p2align	4
-"aes_hybrid::closures::call_to_encrypt::<#537bb4a78d5b59fe>": # @"aes_hybrid::closures::call_to_encrypt::<#537bb4a78d5b59fe>"
-.seh_proc "aes_hybrid::closures::call_to_encrypt::<#537bb4a78d5b59fe>"
+"aes_hybrid::closures::call_to_encrypt::<#9529e7fedb684484>": # @"aes_hybrid::closures::call_to_encrypt::<#9529e7fedb684484>"
+.seh_proc "aes_hybrid::closures::call_to_encrypt::<#9529e7fedb684484>"
 # %bb.0:                                # %start
 	pushq	%rbp
 	.seh_pushreg %rbp
@@ -5029,8 +5035,7 @@
 	subq	$216, %rsp
 	.seh_stackalloc 216
 	.seh_endprologue
-	movq	%r8, %rbx
-	movq	%rcx, %r8
+	movq	%rcx, %r9
 	movq	%rdx, %r13
 	movq	%rdi, 32(%rsp)
 	movq	%rsi, 40(%rsp)
@@ -5038,9 +5043,10 @@
 	movq	%rsi, 56(%rsp)
 	movq	%rdx, 64(%rsp)
 	movq	%rcx, 72(%rsp)
-	movq	16(%rbx), %rdx
-	movq	24(%rbx), %r15
-	movq	32(%rbx), %r12
+	movq	(%r8), %rbx
+	movq	8(%r8), %rdx
+	movq	24(%r8), %r15
+	movq	16(%r8), %r12
 	testb	$15, %dl
 	je	.LBB11_1
 # %bb.2:                                # %then.1.i.i
@@ -5048,26 +5054,26 @@
 	movq	%rbx, %rsi
 	movq	%rdx, %rbp
 	xorl	%ecx, %ecx
-	movq	%r8, %r14
-	movq	%r15, %r8
-	movq	%r12, %r9
-	callq	"aes_ctr::add_in_batches::add_next::<#1ceb2cac41602be3>"
-	movq	%r14, %r8
+	movq	%r12, %r8
+	movq	%r9, %r14
+	movq	%r15, %r9
+	callq	"aes_ctr::add_in_batches::add_next::<#84e7bdd52ce97651>"
+	movq	%r14, %r9
 	movq	%rax, %r14
 	jmp	.LBB11_3
 .LBB11_1:
 	movq	%rdx, %rbp
 	xorl	%r14d, %r14d
 .LBB11_3:                               # %join.3.i.i
-	movq	%r12, 16(%rsp)                  # 8-byte Spill
-	movq	%r12, %rax
+	movq	%r15, 16(%rsp)                  # 8-byte Spill
+	movq	%r15, %rax
 	subq	%r14, %rax
 	cmpq	$128, %rax
 	movq	%rbp, 8(%rsp)                   # 8-byte Spill
 	jb	.LBB11_6
 # %bb.4:                                # %join.11.lr.ph.i.i
-	shrq	$3, %r8
-	decq	%r8
+	shrq	$3, %r9
+	decq	%r9
 	.p2align	4
 .LBB11_5:                               # %join.11.i.i
                                         # =>This Inner Loop Header: Depth=1
@@ -5239,15 +5245,15 @@
 	movdqa	%xmm1, 192(%rsp)
 	leaq	80(%rsp), %rdx
 	movq	%r13, %rdi
-	movq	%r8, %rsi
-	movq	%rbx, %r12
+	movq	%r9, %rsi
+	movq	%rbx, %r15
 	movq	%r13, %rbx
-	movq	%r8, %r13
+	movq	%r9, %r13
 	callq	"aes_soft::soft::ciphers::planes::EncryptPlaneCipher::process_planes::<#f2467153fb0a218d>"
 	movq	24(%rsp), %rax                  # 8-byte Reload
-	movq	%r13, %r8
+	movq	%r13, %r9
 	movq	%rbx, %r13
-	movq	%r12, %rbx
+	movq	%r15, %rbx
 	movdqa	80(%rsp), %xmm1
 	movdqa	96(%rsp), %xmm6
 	movdqa	112(%rsp), %xmm10
@@ -5344,60 +5350,60 @@
 	pxor	%xmm7, %xmm5
 	pxor	%xmm2, %xmm10
 	movdqa	.LCPI11_4(%rip), %xmm2          # xmm2 = [0,4,8,12,1,5,9,13,2,6,10,14,3,7,11,15]
-	movdqu	(%r15,%rbp), %xmm3
+	movdqu	(%r12,%rbp), %xmm3
 	pshufb	%xmm2, %xmm5
-	movdqu	16(%r15,%rbp), %xmm7
-	movdqu	32(%r15,%rbp), %xmm11
-	movdqu	48(%r15,%rbp), %xmm12
+	movdqu	16(%r12,%rbp), %xmm7
+	movdqu	32(%r12,%rbp), %xmm11
+	movdqu	48(%r12,%rbp), %xmm12
 	pxor	%xmm5, %xmm3
-	movdqu	%xmm3, (%r15,%rbp)
+	movdqu	%xmm3, (%r12,%rbp)
 	pshufb	%xmm2, %xmm8
 	pxor	%xmm7, %xmm8
-	movdqu	%xmm8, 16(%r15,%rbp)
+	movdqu	%xmm8, 16(%r12,%rbp)
 	pshufb	%xmm2, %xmm9
 	pxor	%xmm11, %xmm9
 	pshufb	%xmm2, %xmm10
-	movdqu	%xmm9, 32(%r15,%rbp)
+	movdqu	%xmm9, 32(%r12,%rbp)
 	pxor	%xmm12, %xmm10
-	movdqu	%xmm10, 48(%r15,%rbp)
-	movdqu	64(%r15,%rbp), %xmm3
+	movdqu	%xmm10, 48(%r12,%rbp)
+	movdqu	64(%r12,%rbp), %xmm3
 	pshufb	%xmm2, %xmm4
 	pxor	%xmm3, %xmm4
-	movdqu	%xmm4, 64(%r15,%rbp)
-	movdqu	80(%r15,%rbp), %xmm3
+	movdqu	%xmm4, 64(%r12,%rbp)
+	movdqu	80(%r12,%rbp), %xmm3
 	pshufb	%xmm2, %xmm6
 	pxor	%xmm3, %xmm6
-	movdqu	%xmm6, 80(%r15,%rbp)
-	movdqu	96(%r15,%rbp), %xmm3
+	movdqu	%xmm6, 80(%r12,%rbp)
+	movdqu	96(%r12,%rbp), %xmm3
 	pshufb	%xmm2, %xmm1
 	pxor	%xmm3, %xmm1
-	movdqu	%xmm1, 96(%r15,%rbp)
-	movdqu	112(%r15,%rbp), %xmm1
+	movdqu	%xmm1, 96(%r12,%rbp)
+	movdqu	112(%r12,%rbp), %xmm1
 	pshufb	%xmm2, %xmm0
 	pxor	%xmm1, %xmm0
-	movdqu	%xmm0, 112(%r15,%rbp)
+	movdqu	%xmm0, 112(%r12,%rbp)
 	addq	$-128, %rax
 	cmpq	$127, %rax
 	ja	.LBB11_5
 .LBB11_6:                               # %loop.13.preheader.i.i
 	movq	16(%rsp), %r13                  # 8-byte Reload
 	cmpq	%r13, %r14
-	movq	8(%rsp), %r12                   # 8-byte Reload
+	movq	8(%rsp), %r15                   # 8-byte Reload
 	jae	.LBB11_8
 	.p2align	4
 .LBB11_7:                               # %join.16.i.i
                                         # =>This Inner Loop Header: Depth=1
 	leaq	32(%rsp), %rdi
 	movq	%rbx, %rsi
-	movq	%r12, %rdx
+	movq	%r15, %rdx
 	movq	%r14, %rcx
-	movq	%r15, %r8
+	movq	%r12, %r8
 	movq	%r13, %r9
-	callq	"aes_ctr::add_in_batches::add_next::<#1ceb2cac41602be3>"
+	callq	"aes_ctr::add_in_batches::add_next::<#84e7bdd52ce97651>"
 	movq	%rax, %r14
 	cmpq	%r13, %rax
 	jb	.LBB11_7
-.LBB11_8:                               # %"aes_ctr::add_in_batches::DueBlockCipherEncClosure::call::<#1ceb2cac41602be3>.exit"
+.LBB11_8:                               # %"aes_ctr::add_in_batches::DueBlockCipherEncClosure::call::<#442d1bce512dce89>.exit"
 	addq	$216, %rsp
 	popq	%rbx
 	popq	%r12
@@ -5408,12 +5414,12 @@
 	retq
 	.seh_endproc
                                         # -- End function
-	.def	"aes_ctr::add_in_batches::add_next::<#1ceb2cac41602be3>";
+	.def	"aes_ctr::add_in_batches::add_next::<#84e7bdd52ce97651>";
 	.scl	3;
 	.type	32;
 	.endef
 	.section	.rdata,"dr"
-	.p2align	4, 0x0                          # -- Begin function aes_ctr::add_in_batches::add_next::<#1ceb2cac41602be3>
+	.p2align	4, 0x0                          # -- Begin function aes_ctr::add_in_batches::add_next::<#84e7bdd52ce97651>
 .LCPI12_0:
 	.byte	15                              # 0xf
 	.byte	14                              # 0xe
@@ -5507,8 +5513,8 @@
 	.zero	16,15
 	.text
 	.p2align	4
-"aes_ctr::add_in_batches::add_next::<#1ceb2cac41602be3>": # @"aes_ctr::add_in_batches::add_next::<#1ceb2cac41602be3>"
-.seh_proc "aes_ctr::add_in_batches::add_next::<#1ceb2cac41602be3>"
+"aes_ctr::add_in_batches::add_next::<#84e7bdd52ce97651>": # @"aes_ctr::add_in_batches::add_next::<#84e7bdd52ce97651>"
+.seh_proc "aes_ctr::add_in_batches::add_next::<#84e7bdd52ce97651>"
 # %bb.0:                                # %start
 	pushq	%r15
 	.seh_pushreg %r15
@@ -6008,6 +6014,10 @@
 	subq	$2072, %rsp                     # imm = 0x818
 	.seh_stackalloc 2072
 	.seh_endprologue
+	#APP
+	xorl	%edi, %edi
+	xorl	%esi, %esi
+	#NO_APP
 	leaq	40(%rsp), %rcx
 	movl	$2032, %r8d                     # imm = 0x7F0
 	xorl	%edx, %edx
@@ -6032,12 +6042,12 @@
 	retq
 	.seh_endproc
                                         # -- End function
-	.def	"aes_ctr::add_in_batches::add_next::<#98db03cc97429006>";
+	.def	"aes_ctr::add_in_batches::add_next::<#480f169d2b56aea8>";
 	.scl	3;
 	.type	32;
 	.endef
 	.section	.rdata,"dr"
-	.p2align	4, 0x0                          # -- Begin function aes_ctr::add_in_batches::add_next::<#98db03cc97429006>
+	.p2align	4, 0x0                          # -- Begin function aes_ctr::add_in_batches::add_next::<#480f169d2b56aea8>
 .LCPI14_0:
 	.byte	15                              # 0xf
 	.byte	14                              # 0xe
@@ -6057,8 +6067,8 @@
 	.byte	0                               # 0x0
 	.text
 	.p2align	4
-"aes_ctr::add_in_batches::add_next::<#98db03cc97429006>": # @"aes_ctr::add_in_batches::add_next::<#98db03cc97429006>"
-.seh_proc "aes_ctr::add_in_batches::add_next::<#98db03cc97429006>"
+"aes_ctr::add_in_batches::add_next::<#480f169d2b56aea8>": # @"aes_ctr::add_in_batches::add_next::<#480f169d2b56aea8>"
+.seh_proc "aes_ctr::add_in_batches::add_next::<#480f169d2b56aea8>"
 # %bb.0:                                # %start
 	pushq	%rbp
 	.seh_pushreg %rbp
@@ -7021,6 +7031,10 @@
 	subq	$552, %rsp                      # imm = 0x228
 	.seh_stackalloc 552
 	.seh_endprologue
+	#APP
+	xorl	%edi, %edi
+	xorl	%esi, %esi
+	#NO_APP
 	leaq	40(%rsp), %rcx
 	movl	$512, %r8d                      # imm = 0x200
 	xorl	%edx, %edx
