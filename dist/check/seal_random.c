@@ -6,13 +6,17 @@
 #include <string.h>
 #include <sys/types.h>
 
-#if defined(__linux__)
+#if defined(_WIN32)
+#include <windows.h>
+#include <bcrypt.h>
+#elif defined(__linux__)
 #include <sys/random.h>
 #else
 #include <unistd.h>
 #endif
 #define getrandom played
 #define getentropy(bytes, count) (played(bytes, count, 0) == (ssize_t)(count) ? 0 : -1)
+#define BCryptGenRandom(algorithm, bytes, count, flags) getentropy(bytes, count)
 static ssize_t played(void *bytes, size_t count, unsigned flags);
 #include "../seal_random.c"
 
