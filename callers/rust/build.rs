@@ -42,15 +42,19 @@ fn build(name: &str, out: &Path) {
         "aarch64" => vec![format!("{name}.s")],
         _ => panic!("the libraries are for x86-64 and for 64-bit ARM"),
     };
+    let mut sources: Vec<PathBuf> = sources.iter().map(|source| dist.join(&arch).join(source)).collect();
+    if name == "gcm" {
+        sources.push(dist.join("seal_random.c"));
+    }
     let mut objects = Vec::new();
     for source in sources {
-        let object = out.join(&source).with_extension("o");
+        let object = out.join(source.file_name().unwrap()).with_extension("o");
         let mut compile = Command::new(named("CC", "cc"));
         compile.args(["-O2", "-fPIC", "-ffunction-sections", "-c", "-o"]).arg(&object);
-        if source.ends_with(".s") && arch == "x86_64" {
+        if source.extension().is_some_and(|it| it == "s") && arch == "x86_64" {
             compile.arg("-Wa,-defsym,chosen=1");
         }
-        run(compile.arg("-I").arg(dist.join("include")).arg(dist.join(&arch).join(&source)));
+        run(compile.arg("-I").arg(dist.join("include")).arg(&source));
         objects.push(object);
     }
     let archive = out.join(format!("libfotsgure_{name}.a"));

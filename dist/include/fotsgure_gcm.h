@@ -37,9 +37,8 @@
  *
  * Copies and threads: a struct fotsgure_gcm or fotsgure_gcm_siv may be copied and moved as bytes; every copy is as
  * secret as the key and is wiped by itself. Any number of threads may use one struct at the same time by the calls that
- * take it as const. A
- * struct fotsgure_gcm_counter belongs to one thread at a time; a copy of it would give out the same nonces again. So
- * does a struct fotsgure_gcm_message: a copy of it would encrypt another text under the same nonce. */
+ * take it as const. A struct fotsgure_gcm_counter belongs to one thread at a time: a copy of it would give out the same
+ * nonces again. So does a struct fotsgure_gcm_message: a copy of it would encrypt another text under the same nonce. */
 #ifndef FOTSGURE_GCM_H
 #define FOTSGURE_GCM_H
 

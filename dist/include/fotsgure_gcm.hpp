@@ -1,6 +1,6 @@
-// AES-GCM for C++17 over fotsgure_gcm.h: a key that wipes itself, and a counter that can't be copied. The classes meet
-// the header's conditions, except those that stay with their caller: no nonce twice under a key, valid bytes, no
-// overlap, no data race, enough stack, and a processor that fits.
+// AES-GCM-SIV and AES-GCM for C++17 over fotsgure_gcm.h: keys that wipe themselves, and a counter that can't be copied.
+// The classes meet the header's conditions, except those that stay with their caller: no nonce twice under a key of GCM,
+// valid bytes, no overlap, no data race, enough stack, and a processor that fits.
 #ifndef FOTSGURE_GCM_HPP
 #define FOTSGURE_GCM_HPP
 
@@ -31,14 +31,15 @@ namespace detail {
 inline void check(fotsgure_gcm_status status) {
     switch (status) {
     case FOTSGURE_GCM_DONE: return;
-    case FOTSGURE_GCM_KEY_LENGTH: throw std::invalid_argument("a key has 16, 24 or 32 bytes");
+    case FOTSGURE_GCM_KEY_LENGTH: throw std::invalid_argument("a key has 16, 24 or 32 bytes, of AES-GCM-SIV 16 or 32");
     case FOTSGURE_GCM_NO_KEY: throw std::logic_error("there is no key");
     case FOTSGURE_GCM_NONCE_LENGTH: throw std::invalid_argument("a nonce has one byte or more");
     case FOTSGURE_GCM_TAG_LENGTH: throw std::invalid_argument("a tag has 16 bytes");
-    case FOTSGURE_GCM_TOO_LONG: throw std::length_error("there are more bytes than GCM allows");
+    case FOTSGURE_GCM_TOO_LONG: throw std::length_error("there are more bytes than the standard allows");
     case FOTSGURE_GCM_REFUSED: throw Refused();
     case FOTSGURE_GCM_NONCES_END: throw std::length_error("no nonce is left: take a new key");
     case FOTSGURE_GCM_OUT_OF_TURN: throw std::logic_error("it isn't the turn of this call");
+    case FOTSGURE_GCM_NO_RANDOMNESS: throw std::runtime_error("the system gave no randomness for a nonce");
     }
     throw std::logic_error("the library has statuses that this header doesn't know");
 }
@@ -67,7 +68,40 @@ private:
 using Bytes = BasicBytes<const std::uint8_t>;
 using MutableBytes = BasicBytes<std::uint8_t>;
 
-// The next nonce of a key. Begin with none under a new key, and after a restart with what was stored. It can't be
+// A key of AES-GCM-SIV, of 16 or 32 bytes. The destructor wipes it. It can't be copied or moved, so that no copy is
+// forgotten. Threads may share one.
+class GcmSiv {
+public:
+    explicit GcmSiv(Bytes key) { detail::check(fotsgure_gcm_siv_set_key(&siv, key.data(), key.size())); }
+    ~GcmSiv() { fotsgure_gcm_siv_wipe(&siv); }
+    GcmSiv(const GcmSiv &) = delete;
+    GcmSiv &operator=(const GcmSiv &) = delete;
+
+    // Encrypts a text in place under a nonce that is drawn at random: returns that nonce and the tag.
+    [[nodiscard]] std::pair<Nonce, Tag> seal_random(Bytes additional, MutableBytes text) const {
+        std::pair<Nonce, Tag> made{};
+        detail::check(fotsgure_gcm_siv_seal_random(&siv, made.first.data(), additional.data(), additional.size(),
+            text.data(), text.size(), made.second.data()));
+        return made;
+    }
+    // The same under a nonce of yours. One that comes twice only shows whether the two messages are the same.
+    [[nodiscard]] Tag seal(const Nonce &nonce, Bytes additional, MutableBytes text) const {
+        Tag tag{};
+        detail::check(fotsgure_gcm_siv_seal(&siv, nonce.data(), additional.data(), additional.size(), text.data(),
+            text.size(), tag.data()));
+        return tag;
+    }
+    // Decrypts a text in place. Throws Refused if anything was changed, and the text then stays as it was.
+    void open(const Nonce &nonce, Bytes additional, MutableBytes text, const Tag &tag) const {
+        detail::check(fotsgure_gcm_siv_open(&siv, nonce.data(), additional.data(), additional.size(), text.data(),
+            text.size(), tag.data()));
+    }
+
+private:
+    fotsgure_gcm_siv siv{};
+};
+
+// The next nonce of a key of GCM. Begin with none under a new key, and after a restart with what was stored. It can't be
 // copied: a copy would give out the same nonces again. After fork() only one of the two processes may go on with it.
 class Counter {
 public:
@@ -92,7 +126,7 @@ private:
     fotsgure_gcm_counter counter{};
 };
 
-// A key of 16, 24 or 32 bytes. The destructor wipes it. It can't be copied or moved, so that no copy is forgotten.
+// A key of GCM, of 16, 24 or 32 bytes. The destructor wipes it. It can't be copied or moved, so that no copy is forgotten.
 // Threads may share one.
 class Gcm {
 public:

@@ -18,7 +18,7 @@ X = ["x%d" % n for n in range(31)]
 REGISTERS = {n: Register(n, 8) for n in X + ["sp", "xzr"]}
 REGISTERS.update({"w" + n[1:]: Register(n, 4) for n in X + ["xzr"]})
 CONDITIONS = "eq ne cs cc mi pl vs vc hi ls ge lt gt le".split()  # the second of two is the contrary of the first
-WITH_TARGET = "b", "bl", "cbz", "cbnz", "adrp"
+WITH_TARGET = "b", "bl", "cbz", "cbnz", "tbz", "tbnz", "adrp"
 
 
 class Aarch64(Machine):
@@ -398,6 +398,13 @@ def branch_if_zero(m, name, a, target):
         m.next_address = target
 
 
+@op("tbz", "tbnz")
+def branch_if_bit(m, name, a, n, target):
+    bit = m.bits(m.get(a), a.size)[n]
+    if m.decide(bit if bit < 2 else SECRET) == (name == "tbnz"):
+        m.next_address = target
+
+
 def branch_if(m, name, target):
     if m.condition(name[2:]):
         m.next_address = target
@@ -440,7 +447,7 @@ def store(m, name, *operands):
 
 @op("stlxr")
 def store_exclusive(m, name, failed, source, to):
-    """It succeeds. It may fail, at random, and stores nothing then; the code tries again, and does then what it does here."""
+    """It succeeds. It may fail, and stores nothing then; the code tries again, and does then what it does here."""
     m.store(m.address(to), m.read(source), source.size)
     m.put(failed, 0)
 
@@ -601,6 +608,20 @@ def reverse(m, name, to, a):
 @op("uzp1")
 def uzp1(m, name, to, a, b):
     m.write(to, joined(lanes(m.read(a) + m.read(b), to.lane)[::2]))
+
+
+@op("zip1", "zip2")
+def zip_(m, name, to, a, b):
+    both = [lanes(m.read(o), to.lane) for o in (a, b)]
+    half = len(both[0]) // 2
+    begin = half if name == "zip2" else 0
+    m.write(to, joined(x + y for x, y in zip(both[0][begin:begin + half], both[1][begin:begin + half])))
+
+
+@op("ushll")
+def ushll(m, name, to, a, count):
+    wide = (b + [0] * a.lane for b in lanes(m.read(a), a.lane))
+    m.write(to, joined(m.to_bytes(shift(m, "lsl", m.from_bytes(b), count, to.lane), to.lane) for b in wide))
 
 
 @op("xtn")

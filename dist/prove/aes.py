@@ -1,8 +1,9 @@
 """The statement for each call of fotsgure_aes.h, beside the sentence of the header that it proves.
 
-They are proved in two steps, as the calls share the struct. fotsgure_aes_set_key is run on a key of symbolic bytes. Each bit that it
-stores turns out as a sum of bits of one byte of a round key, or of its InvMixColumns. The other calls then start from a struct of
-these sums over round keys that are arbitrary bytes. So they are proved for any round keys, and thus for those of any key."""
+They are proved in two steps, as the calls share the struct. fotsgure_aes_set_key is run on a key of symbolic bytes.
+Each bit that it stores turns out as a sum of bits of one byte of a round key, or of its InvMixColumns. The other calls
+then start from a struct of these sums over round keys that are arbitrary bytes. So they are proved for any round keys,
+and thus for those of any key."""
 from collections import namedtuple
 
 from bits import DATA, KEY, LOST, PUBLIC, Domain, Unproved
@@ -86,8 +87,9 @@ class Keyed:
 
     # The struct.
     def set_key(self, seed=None):
-        """Expands a key into *aes (KeyExpansion, FIPS 197, 5.2). *aes may be uninitialized: none of it is read. .. every byte that
-        neither a round key of the new key nor its length takes is 0. DONE if key_length is 16, 24 or 32"""
+        """Expands a key into *aes (KeyExpansion, FIPS 197, 5.2). *aes may be uninitialized: none of it is read. ..
+        every byte that neither a round key of the new key nor its length takes is 0. DONE if key_length is 16, 24 or
+        32"""
         d = self.key_domain
         call = Call("aes_set_key", [Buffer("aes", [d.undefined] * STRUCT, ANY), Buffer("key", self.key), self.key_size], DONE)
         m = prove(d, self.program, call, seed)
@@ -130,7 +132,8 @@ class Keyed:
         return [x for b in range(count) for x in self.of(self.ciphers[direction], b)]
 
     def blocks(self, direction, count):
-        """Encrypts (Cipher, FIPS 197, 5.1) or decrypts (InvCipher, 5.3) each of `count` blocks in place under the key of *aes. DONE"""
+        """Encrypts (Cipher, FIPS 197, 5.1) or decrypts (InvCipher, 5.3) each of `count` blocks in place under the key
+        of *aes. DONE"""
         blocks = Buffer("blocks", self.content(count), self.results(direction, count))
         return Call("aes_%s_blocks" % direction, [self.schedule(), blocks, count], DONE, plain=self.plain(direction, count))
 
@@ -150,8 +153,8 @@ class Keyed:
         return Call("aes_%s_blocks_with" % direction, [Buffer("key", self.key), self.key_size, blocks, count], DONE,
                     plain=self.plain(direction, count), later=lambda m: self.go_on(m, {"blocks": content}))
 
-    # A call that expands a key begins in the key's domain. When it first computes with what isn't in it, what was made of the key
-    # becomes the same of any round keys.
+    # A call that expands a key begins in the key's domain. When it first computes with what isn't in it, what was made
+    # of the key becomes the same of any round keys.
     def not_yet(self, name, count):
         return [self.key_domain.opaque((name, k)) for k in range(count)]
 
@@ -174,8 +177,9 @@ class Keyed:
         pairs += [(d.opaque((name, k)), b) for name, content in contents.items() for k, b in enumerate(content)]
         m.replace_bytes(convert, e, pairs)
 
-    # Counter mode (SP 800-38A, 6.5). The counter is a number of 128 bits that the caller chooses: its halves are words of unknown
-    # value. The low one wraps around from block `wrap` on, or not within the call; the high half is then another unknown word.
+    # Counter mode (SP 800-38A, 6.5). The counter is a number of 128 bits that the caller chooses: its halves are words
+    # of unknown value. The low one wraps around from block `wrap` on, or not within the call; the high half is then
+    # another unknown word.
     def counter(self):
         d = self.domain
 
@@ -196,7 +200,8 @@ class Keyed:
         return iv, name
 
     def keystream(self, position, count, wrap):
-        """The data and what becomes of them: byte i of the keystream is byte i % 16 of Cipher of the block (iv + i / 16)."""
+        """The data and what becomes of them: byte i of the keystream is byte i % 16 of Cipher of the block (iv + i /
+        16)."""
         first = position // 16
         _, streams, data_bytes = self.counter()
         places = range(position, position + count)
@@ -206,8 +211,8 @@ class Keyed:
         return data, self.aes.xor(data, stream[position % 16:]), stream
 
     def add_keystream(self, position, count, wrap=NEVER):
-        """adds (XOR) to each of `count` bytes the keystream's byte at its place, the first at ctr->position, and moves the position on
-        by `count`. .. (iv + i / 16) modulo 2^128. .. DONE"""
+        """adds (XOR) to each of `count` bytes the keystream's byte at its place, the first at ctr->position, and moves
+        the position on by `count`. .. (iv + i / 16) modulo 2^128. .. DONE"""
         data, want, stream = self.keystream(position, count, wrap)
         iv, name = self.counter_words(self.domain, position // 16)
         ctr = Buffer("ctr", iv + number(position, 8)[::-1], iv + number(position + count, 8)[::-1])
@@ -235,8 +240,8 @@ class Keyed:
 
     # CBC (SP 800-38A, 6.2).
     def cbc_decrypt(self, count):
-        """Cipher block chaining in place (SP 800-38A, 6.2) .. decrypts the next `count` blocks of a chain, and moves *cbc on to the
-        last encrypted one. DONE"""
+        """Cipher block chaining in place (SP 800-38A, 6.2) .. decrypts the next `count` blocks of a chain, and moves
+        *cbc on to the last encrypted one. DONE"""
         previous = self.once("previous", lambda: [self.domain.fresh("previous byte %d" % i, DATA) for i in range(16)])
         content = self.content(count)
         chain = previous + content
@@ -245,8 +250,8 @@ class Keyed:
                     DONE, plain=want)
 
     def cbc_encrypt(self, count):
-        """.. encrypts .. the next `count` blocks of a chain. After each block the encrypted block, which is what it should be,
-        becomes an arbitrary one."""
+        """.. encrypts .. the next `count` blocks of a chain. After each block the encrypted block, which is what it
+        should be, becomes an arbitrary one."""
         def make():
             chain = [self.domain.fresh("chain byte %d" % i, DATA, True) for i in range(16)]
             return chain, self.aes.cipher(self.aes.xor(self.first, chain), self.w)
@@ -261,7 +266,8 @@ class Keyed:
                                         Buffer("blocks", self.content(count), want), count], DONE, steps=steps,
                     plain=self.content(count))
 
-    # Key wrap (SP 800-38F, 6.1 to 6.3). In step t, the block A ^ [t] or A, with a semiblock R, is named as bytes of block t - 1.
+    # Key wrap (SP 800-38F, 6.1 to 6.3). In step t, the block A ^ [t] or A, with a semiblock R, is named as bytes of
+    # block t - 1.
     def cipher_of(self, block, direction="encrypt"):
         """Cipher, or InvCipher, of a block of bytes of block 0 and constants."""
         if block == self.first:
@@ -270,8 +276,8 @@ class Keyed:
         return self.once((direction, *block), lambda: cipher(block, self.w))
 
     def wrap_string(self, start, n, last):
-        """W (6.1, algorithm 1) on the semiblock `start` and n others, of which `last` is what the last has: its steps, the n, and what
-        becomes of all."""
+        """W (6.1, algorithm 1) on the semiblock `start` and n others, of which `last` is what the last has: its steps,
+        the n, and what becomes of all."""
         a, r = self.first[:8], self.first[8:]
         semiblocks = [x for i in range(n) for x in self.of(last if i == n - 1 else r, i)]
 
@@ -282,8 +288,8 @@ class Keyed:
         return steps, semiblocks, self.of(a, 6 * n) + [x for i in range(n) for x in self.of(r, 6 * n + i)]
 
     def unwrap_string(self, n, start=None, last=None):
-        """The inverse of W (6.1, algorithm 2) on n + 1 semiblocks: its steps, the semiblocks, and what becomes of them. With `start`
-        and `last` those alone whose first and last semiblock become these."""
+        """The inverse of W (6.1, algorithm 2) on n + 1 semiblocks: its steps, the semiblocks, and what becomes of them.
+        With `start` and `last` those alone whose first and last semiblock become these."""
         a, r = self.first[:8], self.first[8:]
         wrapped = self.aes.xor(self.of(a, 0), number(6 * n, 8)) + [x for i in range(n) for x in self.of(r, n - 1 - i)]
         start, last = start or self.of(a, 6 * n), self.of(last or r, 6 * n)
@@ -296,24 +302,24 @@ class Keyed:
         return steps, wrapped, start, key
 
     def wrap(self, count):
-        """Key wrap (KW, SP 800-38F, 6.2; RFC 3394) from one buffer to another .. Counts are in semiblocks of 8 bytes. A key has two or
-        more, and becomes one more. .. DONE"""
+        """Key wrap (KW, SP 800-38F, 6.2; RFC 3394) from one buffer to another .. Counts are in semiblocks of 8 bytes. A
+        key has two or more, and becomes one more. .. DONE"""
         steps, key, wrapped = self.wrap_string(ICV1, count, self.first[8:])
         output = Buffer("output", self.undefined(8 * count + 8), wrapped)
         return Call("aes_wrap", [self.schedule(), Buffer("input", key), count, output, count + 1], DONE, steps=steps, plain=key,
                     may_stay=("plain",))
 
     def unwrap(self, count):
-        """.. fotsgure_aes_unwrap also REFUSED, and the output then is all zeros; else DONE. Whether the key is right is the only thing
-        that a branch tells."""
+        """.. fotsgure_aes_unwrap also REFUSED, and the output then is all zeros; else DONE. Whether the key is right is
+        the only thing that a branch tells."""
         n = count - 1
         steps, wrapped, start, key = self.unwrap_string(n)
         return Call("aes_unwrap", [self.schedule(), Buffer("input", wrapped), count, Buffer("output", self.undefined(8 * n), key), n],
                     DONE, steps=steps, reveals=self.aes.xor(start, ICV1), refused=REFUSED, refused_after={"output": [0] * 8 * n}, plain=key)
 
     def wrap_padded(self, length):
-        """Key wrap with padding (KWP, SP 800-38F, 6.3; RFC 5649) .. what is wrapped has one semiblock more than the key fills,
-        (input_length + 7) / 8 + 1. .. DONE"""
+        """Key wrap with padding (KWP, SP 800-38F, 6.3; RFC 5649) .. what is wrapped has one semiblock more than the key
+        fills, (input_length + 7) / 8 + 1. .. DONE"""
         n, r = -(-length // 8), self.first[8:]
         start, last = ICV2 + number(length, 4), r[:8 - 8 * n + length] + [0] * (8 * n - length)
         if n == 1:
@@ -325,8 +331,8 @@ class Keyed:
                     plain=key, may_stay=("plain",))
 
     def unwrap_padded(self, length):
-        """And back: both counts are in semiblocks, and the output has one less. Afterwards *key_length is how many bytes the key has:
-        the first ones of the output, which zeros follow. .. DONE"""
+        """And back: both counts are in semiblocks, and the output has one less. Afterwards *key_length is how many
+        bytes the key has: the first ones of the output, which zeros follow. .. DONE"""
         return self.unwrap_padded_to(ICV2 + number(length, 4), length, DONE)
 
     def unwrap_padded_to(self, start, length, status, filler=0):
@@ -345,16 +351,16 @@ class Keyed:
                     plain=key)
 
     def unwrap_padded_refused(self):
-        """.. REFUSED, and the output then is all zeros .. In all cases but DONE *key_length is 0. Shown for some first semiblocks that
-        no length has, and for padding that isn't zeros, with all keys."""
+        """.. REFUSED, and the output then is all zeros .. In all cases but DONE *key_length is 0. Shown for some first
+        semiblocks that no length has, and for padding that isn't zeros, with all keys."""
         starts = (ICV1, ICV2 + number(8, 4), ICV2 + number(2 ** 32 - 1, 4), ICV2[:3] + [0xa7] + number(16, 4), ICV2 + number(17, 4))
         calls = [self.unwrap_padded_to(start, 16, REFUSED) for start in starts]
         return calls + [self.unwrap_padded_to(ICV2 + number(13, 4), 13, REFUSED, filler=1)]
 
     # Calls that are refused: nothing but the status changes.
     def refused(self):
-        """NO_KEY .. UNEQUAL_COUNTS if they differ .. KEYSTREAM_END if the position would pass 2^64 - 1 .. INVALID_COUNT if keys of so
-        many semiblocks are not wrapped, or the output isn't one longer or one shorter"""
+        """NO_KEY .. UNEQUAL_COUNTS if they differ .. KEYSTREAM_END if the position would pass 2^64 - 1 .. INVALID_COUNT
+        if keys of so many semiblocks are not wrapped, or the output isn't one longer or one shorter"""
         key, none, data = self.schedule(), self.no_key(), self.content(3)
         same, two, out = (lambda name: Buffer(name, data, data)), Buffer("input", data[:32]), lambda: Buffer("output", data, data)
         ctr = lambda position: Buffer("ctr", data[:16] + number(position, 8)[::-1], data[:16] + number(position, 8)[::-1])

@@ -1,18 +1,19 @@
 """Canonical forms of bits: what every proof here rests on.
 
-A *cell* is a byte that takes all 256 values: a byte of the key schedule, of a block, or what enters an S-box. A bit is kept as
-the exclusive or of functions of single cells, each as a truth table of 256 entries (a Python int whose entry 0 is 0), and
-perhaps of 1. So equal forms are equal functions of the cells. Exclusive or is exact, cell by cell. `And` and look-ups are done
-only where everything involved depends on one cell; then they are exact too, on the 256 values of that cell. If bits depend on
-several cells, `named` asks whether they are sums of bits of one byte that the specification named (an input of an S-box), and
-writes that byte instead: an equation, checked by computing both sides. There is no search, and nothing is approximated: what
-can't be done raises Unproved.
+A *cell* is a byte that takes all 256 values: a byte of the key schedule, of a block, or what enters an S-box. A bit is
+kept as the exclusive or of functions of single cells, each as a truth table of 256 entries (a Python int whose entry 0
+is 0), and perhaps of 1. So equal forms are equal functions of the cells. Exclusive or is exact, cell by cell. `And` and
+look-ups are done only where everything involved depends on one cell; then they are exact too, on the 256 values of that
+cell. If bits depend on several cells, `named` asks whether they are sums of bits of one byte that the specification
+named (an input of an S-box), and writes that byte instead: an equation, checked by computing both sides. There is no
+search, and nothing is approximated: what can't be done raises Unproved.
 
-A bit is an int: 0 and 1 are constants, else form << 9 | block << 1 | complement. Blocks are processed alike, so a form is kept
-once for all of them: `block` (1 to 255) says whose cells are meant; it is 0 if the form has cells of keys alone.
+A bit is an int: 0 and 1 are constants, else form << 9 | block << 1 | complement. Blocks are processed alike, so a form
+is kept once for all of them: `block` (1 to 255) says whose cells are meant; it is 0 if the form has cells of keys
+alone.
 
-A byte is an int too: below 256 a constant, else an entry of `bits_of` (eight bits, lowest first), or opaque (None): a byte that
-may be moved, but with which nothing may be computed (what a buffer or a register held before)."""
+A byte is an int too: below 256 a constant, else an entry of `bits_of` (eight bits, lowest first), or opaque (None): a
+byte that may be moved, but with which nothing may be computed (what a buffer or a register held before)."""
 
 import functools
 import random
@@ -178,7 +179,8 @@ class Domain:
             n = self.xors[key] = self.intern(form) if form else 0
         return (n << 9 | (bx | by if self.has_block[n] else 0) if n else 0) | (x ^ y) & 1
 
-    # Sums over several blocks, as transposing makes them: for each block the form without keys, and for 0 the part of keys.
+    # Sums over several blocks, as transposing makes them: for each block the form without keys, and for 0 the part of
+    # keys.
     def parts(self, x):
         if x < 2:
             return ()
@@ -216,8 +218,8 @@ class Domain:
             self.mixed_xors[key] = z
         return z ^ (x ^ y) & 1
 
-    # Sums of products of two bits of cells, for GHASH: a bit, and an int that has a bit for each pair of bits of cells. Such an int
-    # is long, so it is found by a code: the sum of random codes of its pairs.
+    # Sums of products of two bits of cells, for GHASH: a bit, and an int that has a bit for each pair of bits of cells.
+    # Such an int is long, so it is found by a code: the sum of random codes of its pairs.
     def split(self, x):
         return self.products[x >> 9] if x > 1 and x & BLOCK == PRODUCT << 1 else (x & ~1, 0, 0)
 
@@ -375,8 +377,8 @@ class Domain:
         return out
 
     def single(self, n):
-        """The ways to write form n as a function of one cell, {cell: table}: as it is, by a name, or as a function of a named
-        cell plus a sum that has the same name."""
+        """The ways to write form n as a function of one cell, {cell: table}: as it is, by a name, or as a function of a
+        named cell plus a sum that has the same name."""
         ways = self.alike.get(n)
         if ways is None:
             form = self.forms[n]

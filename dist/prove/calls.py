@@ -1,7 +1,8 @@
 """How one call is proved: what it is given, what it has to leave, and what may be left of it on the stack.
 
-A statement is a Call, written like the call in C: its arguments are numbers and Buffers, and each Buffer says what it has to hold
-when the call returns. A Buffer that says nothing may only be read. So "writes nothing but what it says" is part of each statement."""
+A statement is a Call, written like the call in C: its arguments are numbers and Buffers, and each Buffer says what it
+has to hold when the call returns. A Buffer that says nothing may only be read. So "writes nothing but what it says" is
+part of each statement."""
 from bits import DATA, KEY, LOST, Pause, Unproved
 from machine import Pointer, Region
 from native import Native
@@ -21,12 +22,12 @@ class Buffer:
 
 
 class Call:
-    """`status` is what the call returns, in `size` bytes. `steps` are for calls in which each step depends on the last one
-    (see step_by_step). `reveals` are bytes that are all zero if a wrapped key or a tag is right; if they are not, the call returns
-    the status `refused`, and Buffers are what `refused_after` says by their names, or what they were. `assumes` are bytes of public
-    data that are not all zero. `later` turns bytes of the
-    key's own domain into those of arbitrary round keys, for a call that expands a key (see aes.py). `keystream` is what is added to
-    the data, and `plain` what is secret of the data and the results; `may_stay` are kinds of what may be left besides."""
+    """`status` is what the call returns, in `size` bytes. `steps` are for calls in which each step depends on the last
+    one (see step_by_step). `reveals` are bytes that are all zero if a wrapped key or a tag is right; if they are not,
+    the call returns the status `refused`, and Buffers are what `refused_after` says by their names, or what they were.
+    `assumes` are bytes of public data that are not all zero. `later` turns bytes of the key's own domain into those of
+    arbitrary round keys, for a call that expands a key (see aes.py). `keystream` is what is added to the data, and
+    `plain` what is secret of the data and the results; `may_stay` are kinds of what may be left besides."""
 
     def __init__(self, name, arguments, status, size=4, steps=None, reveals=None, refused=None, refused_after=None, assumes=None,
                  later=None, counter=None, keystream=(), plain=(), may_stay=()):
@@ -38,8 +39,9 @@ class Call:
 
 
 def prove(domain, program, call, seed=None):
-    """Proves a call for all answers to the questions that its branches ask: how far its buffers are apart, and whether a wrapped
-    key or a tag is right. With a seed, for one key and data, on the processor too. The result is the machine after the call."""
+    """Proves a call for all answers to the questions that its branches ask: how far its buffers are apart, and whether
+    a wrapped key or a tag is right. With a seed, for one key and data, on the processor too. The result is the machine
+    after the call."""
     choices = []
     while True:
         m = attempt(domain, program, call, choices, seed)
@@ -122,11 +124,12 @@ def compare(domain, have, want, what):
 
 
 def step_by_step(steps):
-    """A watch for calls in which each step depends on the last one. `steps` yields triples of where a result is looked for, what it
-    has to be, and other bytes, which are arbitrary. When the result is there, these bytes take its place everywhere, so what is
-    proved from there on holds for any. "hash" is looked for in vector registers, or as two words in either order of bytes; products
-    of bits are then forgotten: what still depends on them is lost, and may not even be left. "vector" is looked for in vector
-    registers; another name is that of a region."""
+    """A watch for calls in which each step depends on the last one. `steps` yields triples of where a result is looked
+    for, what it has to be, and other bytes, which are arbitrary. When the result is there, these bytes take its place
+    everywhere, so what is proved from there on holds for any. "hash" is looked for in vector registers, or as two words
+    in either order of bytes; products of bits are then forgotten: what still depends on them is lost, and may not even
+    be left. "vector" is looked for in vector registers, "block" in any
+    region; another name is that of a region."""
     now = [next(steps, None)]
 
     def watch(m):
@@ -185,9 +188,9 @@ def depends_bit(m, x, origins=True):
 
 
 def kind(m, byte, names):
-    """What a byte that is left tells: of the "key" alone, "inner" values of the key and others, from which the key may be computed,
-    "plain" text, a block that the cipher gave in the midst of a mode ("step"), the "keystream", the call's "result", or of "data"
-    alone."""
+    """What a byte that is left tells: of the "key" alone, "inner" values of the key and others, from which the key may
+    be computed, "plain" text, a block that the cipher gave in the midst of a mode ("step"), the "keystream", the call's
+    "result", or of "data" alone."""
     if byte in m.lost:
         return "key"
     if not m.domain.symbolic(byte):
@@ -204,8 +207,8 @@ def kind(m, byte, names):
 
 
 def left(m, call):
-    """What is left of a call, in bytes: {(place, kind): [where]}, in the dead stack, by the offset from the stack pointer at the call,
-    and in registers."""
+    """What is left of a call, in bytes: {(place, kind): [where]}, in the dead stack, by the offset from the stack
+    pointer at the call, and in registers."""
     names = {}
     for name, bytes_ in ("result", m.results), ("plain", call.plain), ("keystream", call.keystream):
         names.update({x & ~1: name for b in bytes_ if m.domain.symbolic(b) for x in m.domain.bits(b)})

@@ -1,5 +1,5 @@
-"""The controls of the proof: faults that are planted in the assembly, each an edit of one place, and wrong meanings of instructions.
-Each has to be refused. Run it as `make prove-controls` in dist."""
+"""The controls of the proof: faults that are planted in the assembly, each an edit of one place, and wrong meanings of
+instructions. Each has to be refused. Run it as `make prove-controls` in dist."""
 import argparse
 import concurrent.futures
 import os
@@ -138,7 +138,8 @@ def fault(options, build, k):
 
 
 def leaked(options, wiped):
-    """Whether the last round key is found if the wipe of the stack is taken out, and nothing of it in the text of dist."""
+    """Whether the last round key is found if the wipe of the stack is taken out, and nothing of it in the text of
+    dist."""
     keyed, path = keyed_of(options, "x86_64/aes"), options.out + "/leak"
     right = keyed.program
     if not wiped:
@@ -161,7 +162,7 @@ def off_by_one(m, value):
     return m.from_bytes([m.domain.xor_byte(value[0], 1)] + list(value[1:]))
 
 
-BRANCHES = "call", "jmp", "ret", "b", "bl", "br", "blr", "cbz", "cbnz"
+BRANCHES = "call", "jmp", "ret", "b", "bl", "br", "blr", "cbz", "cbnz", "tbz", "tbnz"
 COMPARISONS = "cmp", "test", "bt", "ccmp"
 
 

@@ -1,5 +1,5 @@
-"""The faults that controls.py plants in dist/aarch64: (what, behind which label, what is looked for, what it becomes, the calls that
-are tried then)."""
+"""The faults that controls.py plants in dist/aarch64: (what, behind which label, what is looked for, what it becomes,
+the calls that are tried then)."""
 import gcm
 
 LANES = r'"aes_permute::blocks::process_on_lanes::<#\w+>":'
@@ -27,7 +27,7 @@ AES_FAULTS = [
     ("an instruction dropped", PLANES, r"\teor\t.*\n", "", many),
     ("another byte of a table", r"\.Lstatic\.0:", r"\\001\\002\\004", r"\\001\\002\\005", None),
     ("another round key", LANES, r"add\t(x\d+), x0, #16", r"add\t\1, x0, #32", few),
-    ("a branch on data", LANES, r"(\tldp\t)q2, q3, (.*\n)", r"\1q2, q3, \2\tfmov\tx22, d2\n\tcbz\tx22, 77f\n77:\n", few),
+    ("a branch on data", LANES, r"(\tldp\tq2, q3, .*\n)", r"\1\tfmov\tx22, d2\n\tcbz\tx22, 77f\n77:\n", few),
     ("an address from data", LANES, r"(\tadd\tx20, x2, .*\n)", r"\1\tldrb\tw22, [x20]\n\tldrb\tw22, [x20, x22]\n", few),
     ("a load past the struct", BLOCKS, LENGTH, r"\tldrb\tw8, [x0, #484]\n\1", few),
     ("a store to the struct, which is const", BLOCKS, LENGTH, r"\1\tstr\twzr, [x0]\n", few),
@@ -38,15 +38,18 @@ AES_FAULTS = [
     ("the stack pointer not restored", BLOCKS, r"ldp\tx29, x30, \[sp\], #(\d+)", "ldp\tx29, x30, [sp], #128", few),
     ("a register that nobody wrote", LANES, FIRST_KEY, "", few),
     ("a round key left on the stack", LANES, FIRST_KEY, r"\1\tstr\tq1, [sp, #-16]!\n\tadd\tsp, sp, #16\n", few),
-    ("the stack not wiped after many blocks", DECRYPT_BATCHES, r"\tbl\t\"aes_cipher::zeroize::stack::wipe_stack.*\n", "",
-     lambda k: [k.blocks("decrypt", 16)]),
+    ("the stack not wiped after many blocks", DECRYPT_BATCHES,
+     r"\tbl\t\"aes_cipher::zeroize::stack::wipe_stack.*\n", "", lambda k: [k.blocks("decrypt", 16)]),
     ("another status", BLOCKS, r"mov\tw(\d+), wzr", r"mov\tw\1, #2", few),
     ("an instruction that isn't covered", BLOCKS, ENTRY, r"\1\tisb\n", few),
-    ("the struct read before it is written", r"fotsgure_aes_wipe:", ENTRY, r"\1\tldrb\tw8, [x0, #8]\n\tcbz\tw8, 77f\n77:\n",
+    ("the struct read before it is written", r"fotsgure_aes_wipe:", ENTRY,
+     r"\1\tldrb\tw8, [x0, #8]\n\tcbz\tw8, 77f\n77:\n",
      lambda k: [k.wipe()]),
-    ("counter mode without the carry", COUNTER, r"(adds\tx8.*\n)\tcinc\tx9, .*\n", r"\1", lambda k: [k.add_keystream(21, 11, 1)]),
+    ("counter mode without the carry", COUNTER,
+     r"(adds\tx8.*\n)\tcinc\tx9, .*\n", r"\1", lambda k: [k.add_keystream(21, 11, 1)]),
     ("CBC without a sum", CBC, r"\teor\tv.*\n", "", lambda k: [k.cbc_encrypt(2)]),
-    ("half of A compared in key unwrap", UNWRAP, r"(eor.*\n\tcmp)\tx(\d+), x(\d+)", r"\1\tw\2, w\3", lambda k: [k.unwrap(3)]),
+    ("half of A compared in key unwrap", UNWRAP,
+     r"(eor.*\n\tcmp)\tx(\d+), x(\d+)", r"\1\tw\2, w\3", lambda k: [k.unwrap(3)]),
     ("key unwrap without zeros after a refusal", UNWRAP, r"sub\tx2, x19, #8", "mov\tx2, xzr", lambda k: [k.unwrap(4)]),
 ]
 GCM_FAULTS = [

@@ -1,8 +1,8 @@
 """The statement for each call of fotsgure_gcm.h (SP 800-38D), beside the sentence of the header that it proves.
 
-H and its powers become arbitrary blocks when set_key has made them, and so does each value of GHASH when a call has made it. A call
-on a message that comes in pieces is proved from any state of the message: whatever value of GHASH and whatever part of a block came
-before."""
+H and its powers become arbitrary blocks when set_key has made them, and so does each value of GHASH when a call has
+made it. A call on a message that comes in pieces is proved from any state of the message: whatever value of GHASH and
+whatever part of a block came before."""
 from collections import namedtuple
 
 from aes import DONE, Keyed
@@ -27,7 +27,8 @@ def padded(b):
 
 
 def threes(blocks, end=()):
-    """The groups of blocks whose products with powers of H are added at once; `end` comes into the last one if it has room."""
+    """The groups of blocks whose products with powers of H are added at once; `end` comes into the last one if it has
+    room."""
     groups = [blocks[i:i + 3] for i in range(0, len(blocks), 3)]
     if end and blocks and len(groups[-1]) < 3:
         groups[-1] = groups[-1] + [end]
@@ -67,7 +68,8 @@ class Hashing:
             yield "hash", total, after
 
 
-# J_0: twelve bytes and the number that its last four are; how GHASH makes it of a nonce of another length; the arguments of a call.
+# J_0: twelve bytes and the number that its last four are; how GHASH makes it of a nonce of another length; the
+# arguments of a call.
 PreCounter = namedtuple("PreCounter", "bytes counter hashing arguments")
 
 
@@ -91,8 +93,8 @@ class KeyedGcm(Keyed):
 
     # The struct.
     def set_key(self, seed=None):
-        """Prepares a key in *gcm (KeyExpansion, FIPS 197, 5.2; H, SP 800-38D, 7.1). *gcm may be uninitialized: none of it is read.
-        Nothing of what it held is left. DONE if key_length is 16, 24 or 32"""
+        """Prepares a key in *gcm (KeyExpansion, FIPS 197, 5.2; H, SP 800-38D, 7.1). *gcm may be uninitialized: none of
+        it is read. Nothing of what it held is left. DONE if key_length is 16, 24 or 32"""
         d, e = self.key_domain, self.domain
         h = self.key_aes.cipher(ZEROS, self.key_words)
         p = [[d.fresh("H^%d byte %d" % (n, i), KEY) for i in range(16)] for n in (1, 2, 3)]
@@ -146,7 +148,8 @@ class KeyedGcm(Keyed):
 
     # Nonces, counter blocks and texts.
     def nonce_of(self, length=12, counter=1, before=()):
-        """A nonce of 12 bytes, or one of another length of which J_0 ends in this number, and in these bytes before (7.1, step 2)."""
+        """A nonce of 12 bytes, or one of another length of which J_0 ends in this number, and in these bytes before
+        (7.1, step 2)."""
         if length == 12:
             return PreCounter(self.nonce, 1, Hashing(self, ZEROS), [Buffer("nonce", self.nonce), 12])
         nonce = self.many(self.long_nonce, length)
@@ -205,7 +208,8 @@ class KeyedGcm(Keyed):
         return Buffer("additional", additional), sealed, hashing
 
     def seal(self, additional_length, text_length, first=None, name="gcm_seal", **more):
-        """Encrypts `text_length` bytes in place and writes the tag (7.1). .. A nonce may have any length from one byte on. DONE"""
+        """Encrypts `text_length` bytes in place and writes the tag (7.1). .. A nonce may have any length from one byte
+        on. DONE"""
         first = first or self.nonce_of()
         additional, sealed, hashing = self.message_of(first, additional_length, text_length)
         text = self.many(self.text, text_length)
@@ -221,13 +225,14 @@ class KeyedGcm(Keyed):
                     plain=text, **more)
 
     def seal_next(self, additional_length, text_length, counter=None):
-        """The same under the counter's next nonce, which it writes to `nonce`; the counter then moves on by one. .. DONE"""
+        """The same under the counter's next nonce, which it writes to `nonce`; the counter then moves on by one. ..
+        DONE"""
         first, assumes = self.counted(counter)
         return self.seal(additional_length, text_length, first, "gcm_seal_next", assumes=assumes)
 
     def open(self, additional_length, text_length, first=None):
-        """Decrypts `text_length` bytes in place if the tag is right (7.2). .. a text that is refused is, when the call returns, as it
-        was. .. REFUSED; else DONE."""
+        """Decrypts `text_length` bytes in place if the tag is right (7.2). .. a text that is refused is, when the call
+        returns, as it was. .. REFUSED; else DONE."""
         first = first or self.nonce_of()
         additional, sealed, hashing = self.message_of(first, additional_length, text_length)
         tag, right = self.of(self.tag, 0), self.aes.xor(hashing.value, self.stream(first, 0))
@@ -270,14 +275,15 @@ class KeyedGcm(Keyed):
             hashing.take([padded(self.of(self.rest, 0)[:additional % 16])])
 
     def begin(self, first=None, name="gcm_begin", **more):
-        """Begins a message under a nonce, which has any length. *message may be uninitialized .. and nothing of what it held is left.
-        .. DONE"""
+        """Begins a message under a nonce, which has any length. *message may be uninitialized .. and nothing of what it
+        held is left. .. DONE"""
         first = first or self.nonce_of()
         message = self.message(self.undefined(MESSAGE), self.state(ADDITIONAL, 0, 0, first=first))
         return Call(name, [self.schedule(), message, *first.arguments], DONE, steps=first.hashing.steps, **more)
 
     def begin_next(self, counter=None):
-        """The same under the counter's next nonce, which it writes to `nonce`; the counter then moves on by one. .. DONE"""
+        """The same under the counter's next nonce, which it writes to `nonce`; the counter then moves on by one. ..
+        DONE"""
         first, assumes = self.counted(counter)
         return self.begin(first, "gcm_begin_next", assumes=assumes)
 
@@ -291,8 +297,8 @@ class KeyedGcm(Keyed):
                     steps=hashing.steps)
 
     def piece(self, call, phase, additional, before, count):
-        """Encrypts a piece of the text in place. .. Takes a piece of an encrypted text whose tag is to be compared, and writes nothing
-        to it. .. Takes a piece as fotsgure_gcm_verify does, and decrypts it in place at once. .. DONE"""
+        """Encrypts a piece of the text in place. .. Takes a piece of an encrypted text whose tag is to be compared, and
+        writes nothing to it. .. Takes a piece as fotsgure_gcm_verify does, and decrypts it in place at once. .. DONE"""
         first, (state, hashing) = self.nonce_of(), self.any_state(phase, additional, before)
         text, sealed = (self.many(b, count, before % 16) for b in (self.text, self.sealed))
         self.turned(hashing, phase, additional)
@@ -336,8 +342,9 @@ class KeyedGcm(Keyed):
                     steps=hashing.steps)
 
     def accept(self, phase, additional, text, length=None):
-        """Compares the tag of what has come, without an early exit. If it is right, the encrypted text may come once more, to be
-        decrypted. .. REFUSED; else DONE. With a length: Compares a tag of fewer than 16 bytes in the place of fotsgure_gcm_accept"""
+        """Compares the tag of what has come, without an early exit. If it is right, the encrypted text may come once
+        more, to be decrypted. .. REFUSED; else DONE. With a length: Compares a tag of fewer than 16 bytes in the place
+        of fotsgure_gcm_accept"""
         state, hashing, right = self.tag_of(phase, additional, text)
         tag = self.of(self.tag, 0)[:length or 16]
         after = self.state(DECRYPTING, additional, text, 0, self.of(self.hash_value, 0), self.of(self.rest, 0))
@@ -369,8 +376,8 @@ class KeyedGcm(Keyed):
         yield from self.pieces_refused()
 
     def pieces_refused(self):
-        """A call that comes out of turn is refused and changes nothing, and so is one that would make the message longer than the
-        standard allows."""
+        """A call that comes out of turn is refused and changes nothing, and so is one that would make the message
+        longer than the standard allows."""
         key, none, data = self.schedule(), self.no_key(), self.many(self.text, 48)
         comes = {"additional": (ADDITIONAL,), "encrypt": (ADDITIONAL, ENCRYPTING), "finish": (ADDITIONAL, ENCRYPTING),
                  "verify": (ADDITIONAL, VERIFYING), "decrypt_unverified": (ADDITIONAL, VERIFYING), "accept": (ADDITIONAL, VERIFYING),

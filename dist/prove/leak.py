@@ -1,6 +1,7 @@
-"""Why inner values of the cipher may not stay on the stack: the last round key is computed from what a call left there and from the
-encrypted blocks. Of a key of 16 bytes the last round key gives the key itself (KeyExpansion, backwards). It is a control: it has to
-find the round key when the wipe of the stack is taken out, and nothing in the text of dist."""
+"""Why inner values of the cipher may not stay on the stack: the last round key is computed from what a call left there
+and from the encrypted blocks. Of a key of 16 bytes the last round key gives the key itself (KeyExpansion, backwards).
+It is a control: it has to find the round key when the wipe of the stack is taken out, and nothing in the text of
+dist."""
 from bits import BLOCK, MIXED, ONES
 from calls import attempt
 from standards import SBOX
@@ -9,7 +10,8 @@ SEED = 7
 
 
 def last_round(keyed, m):
-    """The bits on the dead stack that are functions of one input of an S-box of the last round: (where, bit, input, block, table)."""
+    """The bits on the dead stack that are functions of one input of an S-box of the last round: (where, bit, input,
+    block, table)."""
     domain, rounds = keyed.domain, len(keyed.w) // 4 - 1
     known = {x & ~1 for b in m.results if domain.symbolic(b) for x in domain.bits(b)}
     for at, byte in enumerate(m.regions["stack"].content[:m.top]):
@@ -22,7 +24,8 @@ def last_round(keyed, m):
 
 
 def found(keyed, count):
-    """How many bytes of the last round key follow from what encrypt_blocks left on the processor, and how many of these are right."""
+    """How many bytes of the last round key follow from what encrypt_blocks left on the processor, and how many of these
+    are right."""
     m = attempt(keyed.domain, keyed.program, keyed.blocks("encrypt", count), [], SEED, strict=False)
     stack, blocks = m.native.memory_of["stack"], m.native.memory_of["blocks"]
     inputs = {}

@@ -1,8 +1,9 @@
-"""A machine on symbolic bytes: values, memory, flags and how a call runs, as far as x86-64 and 64-bit ARM have them alike.
+"""A machine on symbolic bytes: values, memory, flags and how a call runs, as far as x86-64 and 64-bit ARM have them
+alike.
 
-A value is an int (a constant), a Pointer, a Distance, or a tuple of bytes of bits.Domain, lowest first. Branches, addresses and
-lengths have to be constants or Pointers. A Pointer is known only relative to a buffer, so what is proved holds wherever the
-buffers are. Whatever isn't covered raises Unproved.
+A value is an int (a constant), a Pointer, a Distance, or a tuple of bytes of bits.Domain, lowest first. Branches,
+addresses and lengths have to be constants or Pointers. A Pointer is known only relative to a buffer, so what is proved
+holds wherever the buffers are. Whatever isn't covered raises Unproved.
 
 A machine is a class below Machine, in a file of its own (x86_64.py), that says:
 
@@ -19,8 +20,9 @@ A machine is a class below Machine, in a file of its own (x86_64.py), that says:
     leave()                     after libc's function: goes on at the return address
     condition(code)             0 or 1, by the flags (see Machine.decide)
 
-A step is `instruction.run(machine, name, *operands)`. It reads and writes `general`, `vectors`, `flags`, and memory by `load` and
-`store`; `next_address` is that of the next instruction. Operands are what `decode` makes them; what `get` and `put` take."""
+A step is `instruction.run(machine, name, *operands)`. It reads and writes `general`, `vectors`, `flags`, and memory by
+`load` and `store`; `next_address` is that of the next instruction. Operands are what `decode` makes them; what `get`
+and `put` take."""
 import re
 import struct
 import subprocess
@@ -196,8 +198,8 @@ class Machine:
         return self.unbits(bits), {"c": out ^ 1 if out < 2 else SECRET, "z": SECRET, "s": SECRET, "o": SECRET}
 
     def difference_of_secrets(self, x, y, size):
-        """The flags of a comparison of values that depend on the key or on data. Whether they are equal may be asked where a call
-        may reveal it: whether all these bytes are zero."""
+        """The flags of a comparison of values that depend on the key or on data. Whether they are equal may be asked
+        where a call may reveal it: whether all these bytes are zero."""
         different = [self.domain.xor_byte(p, q) for p, q in zip(self.to_bytes(x, size), self.to_bytes(y, size))]
         return {"c": SECRET, "z": self.zero_flag(different), "s": SECRET, "o": SECRET}
 
@@ -265,8 +267,8 @@ class Machine:
         return self.by_place(flag)
 
     def by_place(self, flag):
-        """A flag that says how far two buffers are apart, or whether a wrapped key or a tag is right: both cases have to be proved,
-        one by one (see calls.every_way)."""
+        """A flag that says how far two buffers are apart, or whether a wrapped key or a tag is right: both cases have
+        to be proved, one by one (see calls.every_way)."""
         if flag not in self.placed:
             n = len(self.placed)
             self.placed[flag] = self.choices[n] if n < len(self.choices) else 0
@@ -337,8 +339,8 @@ class Machine:
         return self.from_bytes(self.to_bytes(self.general[self.result], 8)[:size])
 
     def replace_bytes(self, convert, domain, cells=()):
-        """Goes on with other bytes, of another domain: where `convert` replaces bytes by arbitrary ones, what is proved of these
-        holds for those. `cells` has the pairs in which the new byte is a cell, perhaps with bits flipped."""
+        """Goes on with other bytes, of another domain: where `convert` replaces bytes by arbitrary ones, what is proved
+        of these holds for those. `cells` has the pairs in which the new byte is a cell, perhaps with bits flipped."""
         memo, cells = {}, list(cells)
         if self.native:
             self.native.renamed(cells, domain)

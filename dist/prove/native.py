@@ -1,7 +1,8 @@
-"""A call on a processor, one instruction at a time, beside the machine: after each instruction the general registers, the
-defined flags and the vector registers that changed are compared, and at the end all of them and all memory, for random keys
-and data. So the meanings that x86_64.py and aarch64.py give to instructions are those of a processor on every instruction of
-the path: of the one that this runs on (processor.py), or of one that qemu emulates (emulator.py)."""
+"""A call on a processor, one instruction at a time, beside the machine: after each instruction the general registers,
+the defined flags and the vector registers that changed are compared, and at the end all of them and all memory, for
+random keys and data. So the meanings that x86_64.py and aarch64.py give to instructions are those of a processor on
+every instruction of the path: of the one that this runs on (processor.py), or of one that qemu emulates
+(emulator.py)."""
 import random
 
 from aarch64 import Aarch64

@@ -1,5 +1,5 @@
-"""Proves the calls of both libraries on the machine code that gcc makes of dist/x86_64 and dist/aarch64, one process for each build
-and key size. Run it as `make prove` in dist; the README says what it shows."""
+"""Proves the calls of both libraries on the machine code that gcc makes of dist/x86_64 and dist/aarch64, one process
+for each build and key size. Run it as `make prove` in dist; the README says what it shows."""
 import argparse
 import collections
 import concurrent.futures
@@ -37,7 +37,8 @@ def link(source, out, machine=X86_64):
     return Program(out, machine)
 
 
-# Which lengths: all; or those that reach each path and its ends, of which keys of 24 and 32 bytes take a few. README has the table.
+# Which lengths: all; or those that reach each path and its ends, of which keys of 24 and 32 bytes take a few. README
+# has the table.
 def chooser(keyed, everything):
     return lambda all_, few, more=(): all_ if everything else [*few, *more] if keyed.key_size == 16 else few
 
@@ -197,8 +198,8 @@ def run_task(*arguments):
 
 
 def tasks(options):
-    """Runs the tasks, and yields each when it is done. Those of keys of 16 bytes come first: what instructions they compared with the
-    processor, the others don't compare again."""
+    """Runs the tasks, and yields each when it is done. Those of keys of 16 bytes come first: what instructions they
+    compared with the processor, the others don't compare again."""
     with concurrent.futures.ProcessPoolExecutor(options.jobs, max_tasks_per_child=1) as pool:
         first, *others = options.keys
         waiting = {pool.submit(run_task, options, build, first, ()) for build in options.builds}

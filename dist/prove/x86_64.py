@@ -1,5 +1,6 @@
-"""x86-64 on symbolic bytes: each instruction that occurs on the paths of the libraries, as the processor's manual defines it
-(Intel 64 and IA-32 Architectures Software Developer's Manual, volume 2). What both machines share is in machine.py."""
+"""x86-64 on symbolic bytes: each instruction that occurs on the paths of the libraries, as the processor's manual
+defines it (Intel 64 and IA-32 Architectures Software Developer's Manual, volume 2). What both machines share is in
+machine.py."""
 import re
 from collections import namedtuple
 

@@ -3690,7 +3690,7 @@
 .LBB0_301:                              # %"aes_kat::keys::Key::encrypt.exit.i.i.i.i"
 	movq	%rbx, %rdi
 	callq	"aes_soft::soft::blocks::slices::process_batches_in_a_call::<#c44f11ce38a8a6aa>"
-	callq	"aes_cipher::zeroize::stack::wipe_stack::<=64>"
+	callq	"aes_cipher::zeroize::stack::wipe_stack::<=1024>"
 	leaq	1088(%rsp), %r14
 	movl	$240, %edx
 	movq	%r14, %rdi
@@ -3781,7 +3781,7 @@
 .LBB0_309:                              # %"aes_kat::keys::Key::decrypt.exit.i.i.i.i"
 	movq	%rbx, %rdi
 	callq	"aes_soft::soft::blocks::slices::process_batches_in_a_call::<#271f1d06ba461252>"
-	callq	"aes_cipher::zeroize::stack::wipe_stack::<=64>"
+	callq	"aes_cipher::zeroize::stack::wipe_stack::<=1024>"
 	leaq	1088(%rsp), %r14
 	movl	$240, %edx
 	movq	%r14, %rdi
@@ -12749,10 +12749,10 @@
 .Lfunc_end9:
 	.size	"aes_soft::soft::blocks::slices::process_batches_in_a_call::<#c44f11ce38a8a6aa>", .Lfunc_end9-"aes_soft::soft::blocks::slices::process_batches_in_a_call::<#c44f11ce38a8a6aa>"
                                         # -- End function
-	.section	".text.aes_cipher::zeroize::stack::wipe_stack::<=64>","ax",@progbits
-	.p2align	4                               # -- Begin function aes_cipher::zeroize::stack::wipe_stack::<=64>
-	.type	"aes_cipher::zeroize::stack::wipe_stack::<=64>",@function
-"aes_cipher::zeroize::stack::wipe_stack::<=64>": # @"aes_cipher::zeroize::stack::wipe_stack::<=64>"
+	.section	".text.aes_cipher::zeroize::stack::wipe_stack::<=1024>","ax",@progbits
+	.p2align	4                               # -- Begin function aes_cipher::zeroize::stack::wipe_stack::<=1024>
+	.type	"aes_cipher::zeroize::stack::wipe_stack::<=1024>",@function
+"aes_cipher::zeroize::stack::wipe_stack::<=1024>": # @"aes_cipher::zeroize::stack::wipe_stack::<=1024>"
 # %bb.0:                                # %start
 	subq	$1032, %rsp                     # imm = 0x408
 	leaq	8(%rsp), %rdi
@@ -12765,10 +12765,9 @@
 	movq	(%rsp), %rax
 	#APP
 	#NO_APP
-	cmpq	$64, %rax
+	cmpq	$1024, %rax                     # imm = 0x400
 	jae	.LBB10_2
-# %bb.1:                                # %then.3
-	shlq	$4, %rax
+# %bb.1:                                # %then.1
 	movzbl	8(%rsp,%rax), %eax
 	#APP
 	#NO_APP
@@ -12779,7 +12778,7 @@
 	addq	$1032, %rsp                     # imm = 0x408
 	retq
 .Lfunc_end10:
-	.size	"aes_cipher::zeroize::stack::wipe_stack::<=64>", .Lfunc_end10-"aes_cipher::zeroize::stack::wipe_stack::<=64>"
+	.size	"aes_cipher::zeroize::stack::wipe_stack::<=1024>", .Lfunc_end10-"aes_cipher::zeroize::stack::wipe_stack::<=1024>"
                                         # -- End function
 	.section	".text.aes_cipher::zeroize::elements::zeroize_elements::<#1271021761a49af4>","ax",@progbits
 	.p2align	4                               # -- Begin function aes_cipher::zeroize::elements::zeroize_elements::<#1271021761a49af4>

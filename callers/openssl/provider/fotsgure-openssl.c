@@ -32,6 +32,8 @@ static int of_this_environment(void)
             others += !is_ours(name);
         }
     }
+    others += !is_ours("AES-128-GCM-SIV");
+    others += !is_ours("AES-256-GCM-SIV");
     if (others > 0)
         printf("%d algorithms don't come from fotsgure: %s\n", others, OSSL_PROVIDER_available(NULL, "fotsgure")
             ? "the configuration doesn't prefer it" : "OPENSSL_CONF names no file that loads it, or the module isn't where it says");

@@ -1,7 +1,8 @@
-//! GCM in the wrapper for Rust: test case 4 of the submission of GCM (McGrew and Viega, appendix B), whole and in
-//! pieces; texts of 0 to 300 bytes there and back; every refusal. The last line is `N passed, N failed`.
+//! GCM and AES-GCM-SIV in the wrapper for Rust: test case 4 of the submission of GCM (McGrew and Viega, appendix B),
+//! whole and in pieces; a message of RFC 8452, appendix C.1; texts of 0 to 300 bytes there and back; every refusal. The
+//! last line is `N passed, N failed`.
 
-use fotsgure_aes::gcm::{Counter, Gcm, NotSealed, NotTaken, Refused};
+use fotsgure_aes::gcm::{Counter, Gcm, GcmSiv, NotSealed, NotTaken, Refused};
 use fotsgure_aes::InvalidLength;
 
 const KEY: &str = "feffe9928665731c6d6a8f9467308308";
@@ -31,6 +32,28 @@ fn comes_back(gcm: &Gcm, counter: &mut Counter, length: usize) -> bool {
     tag[length % 16] ^= 4;
     opened.copy_from_slice(&sealed);
     right && gcm.open(&nonce, additional, &mut opened, &tag) == Err(Refused) && opened == sealed
+}
+
+/// Whether AES-GCM-SIV makes a message of RFC 8452, appendix C.1, and back.
+fn siv_is_known() -> bool {
+    let siv = GcmSiv::new(&bytes_of("01000000000000000000000000000000")).unwrap();
+    let nonce = [3, 0, 0, 0, 0, 0, 0, 0, 0, 0, 0, 0];
+    let mut text = bytes_of("0100000000000000");
+    let tag = siv.seal(&nonce, b"", &mut text).unwrap();
+    let sealed = text == bytes_of("b5d839330ac7b786") && tag[..] == bytes_of("578782fff6013b815b287c22493a364c");
+    sealed && siv.open(&nonce, b"", &mut text, &tag) == Ok(()) && text == bytes_of("0100000000000000")
+}
+
+/// The same for a text of some length under a random nonce, and one that was changed.
+fn siv_comes_back(siv: &GcmSiv, length: usize) -> bool {
+    let text: Vec<u8> = (0..length).map(|i| (i % 251) as u8).collect();
+    let (additional, mut sealed) = (&text[..length / 3], text.clone());
+    let (nonce, mut tag) = siv.seal_random(additional, &mut sealed).unwrap();
+    let mut opened = sealed.clone();
+    let right = siv.open(&nonce, additional, &mut opened, &tag) == Ok(()) && opened == text;
+    tag[length % 16] ^= 4;
+    opened.copy_from_slice(&sealed);
+    right && siv.open(&nonce, additional, &mut opened, &tag) == Err(Refused) && opened == sealed
 }
 
 /// Whether case 4 comes of pieces of some size, and back.
@@ -87,6 +110,12 @@ fn main() {
     checks.push(("the end", gcm.seal_next(&mut end, b"", &mut text) == Err(NotSealed::NoncesEnd)));
     checks.push(("a key of 17 bytes", Gcm::new(&[0; 17]).err() == Some(InvalidLength)));
     checks.push(("no key is printed", format!("{gcm:?}") == "Gcm { .. }"));
+    let siv = GcmSiv::new(&[7; 32]).unwrap();
+    checks.push(("RFC 8452, C.1", siv_is_known()));
+    checks.push(("AES-GCM-SIV, 0 to 300 bytes", (0..=300).all(|length| siv_comes_back(&siv, length))));
+    let nonces = [(); 2].map(|()| siv.seal_random(b"", &mut []).unwrap().0);
+    checks.push(("random nonces", nonces[0] != nonces[1]));
+    checks.push(("no key of 24 bytes", GcmSiv::new(&[0; 24]).err() == Some(InvalidLength)));
     for (what, _) in checks.iter().filter(|check| !check.1) {
         println!("failed: {what}");
     }

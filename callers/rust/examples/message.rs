@@ -1,18 +1,14 @@
-//! A message is sealed under the next nonce of a counter, and opened again. A program keeps the key and the counter in
-//! a file, under a lock: callers/gcm/example.c shows how.
+//! A message is sealed by AES-GCM-SIV under a key that a file has, and a nonce that is drawn at random, and opened again.
 
-use fotsgure_aes::gcm::{Counter, Gcm};
-use std::io::Read;
+use fotsgure_aes::gcm::GcmSiv;
 
 fn main() -> Result<(), Box<dyn std::error::Error>> {
-    let mut key = [0; 32];
-    std::fs::File::open("/dev/urandom")?.read_exact(&mut key)?; // a password is no key
-    let gcm = Gcm::new(&key)?;
-    let mut counter = Counter { next: [0; 12] }; // for a new key; else what was stored
+    // The file has 32 random bytes: head -c 32 /dev/urandom > FILE
+    let siv = GcmSiv::new(&std::fs::read(std::env::args().nth(1).ok_or("usage: message FILE")?)?)?;
     let mut text = *b"a message";
-    let (nonce, tag) = gcm.seal_next(&mut counter, b"its name", &mut text)?;
-    // Store counter.next here, and then send nonce, name, text and tag.
-    gcm.open(&nonce, b"its name", &mut text, &tag)?; // an error if anything was changed
+    let (nonce, tag) = siv.seal_random(b"its name", &mut text)?;
+    // Send nonce, name, text and tag. Who has the key opens the message:
+    siv.open(&nonce, b"its name", &mut text, &tag)?; // an error if anything was changed
     println!("{}", std::str::from_utf8(&text)?);
     Ok(())
-} // `gcm` is dropped, which wipes it; the key is the program's own
+} // `siv` is dropped, which wipes it; the key is the program's own

@@ -1,7 +1,8 @@
-//! Authenticated encryption by AES-GCM (SP 800-38D) over the C library `fotsgure_gcm`: feature `gcm`.
+//! Authenticated encryption over the C library `fotsgure_gcm`: feature `gcm`. Take AES-GCM-SIV (RFC 8452), which draws its
+//! nonces at random, unless you need the speed or the pieces of AES-GCM (SP 800-38D).
 //!
-//! **Never use a nonce twice under one key**, over all messages, programs and restarts. If a nonce of a key is random,
-//! or has another length than 12 bytes, take a new key before 2^32 messages.
+//! **In GCM never use a nonce twice under one key**, over all messages, programs and restarts. If a nonce of a key is
+//! random, or has another length than 12 bytes, take a new key before 2^32 messages.
 
 use crate::{c, InvalidLength};
 use std::fmt;
@@ -26,6 +27,13 @@ mod calls {
 
     pub const REFUSED: u32 = 6;
     pub const OUT_OF_TURN: u32 = 8;
+    pub const NO_RANDOMNESS: u32 = 9;
+
+    #[repr(C)]
+    pub struct GcmSiv {
+        pub key_length: u32,
+        pub round_keys: [u8; 240],
+    }
 
     #[repr(C)]
     pub struct Message {
@@ -86,6 +94,35 @@ mod calls {
         pub fn fotsgure_gcm_accept(gcm: *const Gcm, message: *mut Message, tag: *const u8, length: usize) -> u32;
         pub fn fotsgure_gcm_decrypt(gcm: *const Gcm, message: *mut Message, text: *mut u8, length: usize) -> u32;
         pub fn fotsgure_gcm_wipe_message(message: *mut Message);
+        pub fn fotsgure_gcm_siv_set_key(siv: *mut MaybeUninit<GcmSiv>, key: *const u8, length: usize) -> u32;
+        pub fn fotsgure_gcm_siv_wipe(siv: *mut GcmSiv);
+        pub fn fotsgure_gcm_siv_seal(
+            siv: *const GcmSiv,
+            nonce: *const [u8; 12],
+            additional: *const u8,
+            additional_length: usize,
+            text: *mut u8,
+            text_length: usize,
+            tag: *mut [u8; 16],
+        ) -> u32;
+        pub fn fotsgure_gcm_siv_seal_random(
+            siv: *const GcmSiv,
+            nonce: *mut [u8; 12],
+            additional: *const u8,
+            additional_length: usize,
+            text: *mut u8,
+            text_length: usize,
+            tag: *mut [u8; 16],
+        ) -> u32;
+        pub fn fotsgure_gcm_siv_open(
+            siv: *const GcmSiv,
+            nonce: *const [u8; 12],
+            additional: *const u8,
+            additional_length: usize,
+            text: *mut u8,
+            text_length: usize,
+            tag: *const [u8; 16],
+        ) -> u32;
     }
 }
 
@@ -94,18 +131,21 @@ mod calls {
 pub enum NotSealed {
     /// The nonce is empty.
     NonceLength,
-    /// The text has more than 2^36 - 32 bytes.
+    /// The text has more than 2^36 - 32 bytes; in AES-GCM-SIV, text or additional data have more than 2^36.
     TooLong,
     /// The counter has come to its end: take a new key.
     NoncesEnd,
+    /// The system gave no randomness for a nonce.
+    NoRandomness,
 }
 
 impl fmt::Display for NotSealed {
     fn fmt(&self, f: &mut fmt::Formatter<'_>) -> fmt::Result {
         f.write_str(match self {
             NotSealed::NonceLength => "the nonce is empty",
-            NotSealed::TooLong => "the text is longer than GCM allows",
+            NotSealed::TooLong => "the text is longer than the standard allows",
             NotSealed::NoncesEnd => "no nonce is left",
+            NotSealed::NoRandomness => "the system gave no randomness for a nonce",
         })
     }
 }
@@ -124,6 +164,74 @@ impl fmt::Display for Refused {
 }
 
 impl std::error::Error for Refused {}
+
+/// A key of AES-GCM-SIV, of 16 or 32 bytes. It is on the heap, so that a move leaves no copy of it, and is zeroized when
+/// the value is dropped. Threads may share a value.
+pub struct GcmSiv(Box<calls::GcmSiv>);
+
+impl GcmSiv {
+    /// Prepares a key (KeyExpansion, FIPS 197, 5.2). One of 24 bytes is refused too.
+    pub fn new(key: &[u8]) -> Result<GcmSiv, InvalidLength> {
+        let mut prepared = Box::new(MaybeUninit::<calls::GcmSiv>::uninit());
+        // SAFETY: both pointers come from references that are valid for the call. The call writes the whole struct,
+        // whether it refuses the key or not, and reads nothing of it before that.
+        let (status, prepared) = unsafe {
+            let status = calls::fotsgure_gcm_siv_set_key(&mut *prepared, key.as_ptr(), key.len());
+            (status, Box::from_raw(Box::into_raw(prepared).cast::<calls::GcmSiv>()))
+        };
+        if status == c::DONE { Ok(GcmSiv(prepared)) } else { Err(InvalidLength) }
+    }
+
+    /// Encrypts a text in place under a nonce that is drawn at random, and returns that nonce and the tag (RFC 8452, 4).
+    /// The additional data isn't encrypted, and the tag covers it.
+    pub fn seal_random(&self, additional: &[u8], text: &mut [u8]) -> Result<([u8; 12], [u8; 16]), NotSealed> {
+        let (mut nonce, mut tag) = ([0; 12], [0; 16]);
+        // SAFETY: the private field holds a key that `new` set; the slices are borrowed for the call, and those that
+        // are written are mutable, so that they overlap nothing.
+        let status = unsafe {
+            let (data, bytes) = (additional.as_ptr(), text.as_mut_ptr());
+            let (length, count) = (additional.len(), text.len());
+            calls::fotsgure_gcm_siv_seal_random(&*self.0, &mut nonce, data, length, bytes, count, &mut tag)
+        };
+        sealed(status).map(|()| (nonce, tag))
+    }
+
+    /// The same under a nonce of yours. One that comes twice only shows whether the two messages are the same.
+    pub fn seal(&self, nonce: &[u8; 12], additional: &[u8], text: &mut [u8]) -> Result<[u8; 16], NotSealed> {
+        let mut tag = [0; 16];
+        // SAFETY: as above.
+        let status = unsafe {
+            let (data, bytes) = (additional.as_ptr(), text.as_mut_ptr());
+            let (length, count) = (additional.len(), text.len());
+            calls::fotsgure_gcm_siv_seal(&*self.0, nonce, data, length, bytes, count, &mut tag)
+        };
+        sealed(status).map(|()| tag)
+    }
+
+    /// Decrypts a text in place if the tag is right (RFC 8452, 5).
+    pub fn open(&self, nonce: &[u8; 12], additional: &[u8], text: &mut [u8], tag: &[u8; 16]) -> Result<(), Refused> {
+        // SAFETY: as above.
+        let status = unsafe {
+            let (data, bytes) = (additional.as_ptr(), text.as_mut_ptr());
+            let (length, count) = (additional.len(), text.len());
+            calls::fotsgure_gcm_siv_open(&*self.0, nonce, data, length, bytes, count, tag)
+        };
+        if status == c::DONE { Ok(()) } else { Err(Refused) }
+    }
+}
+
+impl Drop for GcmSiv {
+    fn drop(&mut self) {
+        // SAFETY: a whole struct, borrowed for the call.
+        unsafe { calls::fotsgure_gcm_siv_wipe(&mut *self.0) }
+    }
+}
+
+impl fmt::Debug for GcmSiv {
+    fn fmt(&self, f: &mut fmt::Formatter<'_>) -> fmt::Result {
+        f.write_str("GcmSiv { .. }")
+    }
+}
 
 /// The next nonce of a key: one number, highest byte first. Store `next` after each message and before it is sent, and
 /// begin with what was stored after a restart; if it is lost, take a new key. It can't be cloned: a copy would give
@@ -332,6 +440,7 @@ fn sealed(status: u32) -> Result<(), NotSealed> {
         calls::NONCE_LENGTH => Err(NotSealed::NonceLength),
         calls::TOO_LONG => Err(NotSealed::TooLong),
         calls::NONCES_END => Err(NotSealed::NoncesEnd),
+        calls::NO_RANDOMNESS => Err(NotSealed::NoRandomness),
         other => unreachable!("status {other} with a key"),
     }
 }
