@@ -22,6 +22,7 @@ LANES = r'"aes_permute::blocks::process_on_lanes::<#\w+>":'
 PLANES = r'"aes_soft::soft::ciphers::planes::EncryptPlaneCipher::process_planes::<#\w+>":'
 BATCHES = r'"aes_hybrid::batches::process_on_planes::<#\w+>":'
 IN_BATCHES = r'"aes_hybrid::batches::process_in_batches::<#\w+>":'
+UNWRAP = r'"key_wrap::wrapping::unwrap::<#\w+>":'
 BLOCKS, BLOCKS_WITH = r"fotsgure_aes_encrypt_blocks:", r"fotsgure_aes_encrypt_blocks_with:"
 SET_KEY = r'"aes_c::kept::fotsgure_aes_set_key":'
 PRODUCT = r'"gcm::multiples::Multiples::two_products":'
@@ -72,8 +73,8 @@ AES_FAULTS = [
     ("counter mode without the carry", r'"aes_ctr::add_in_batches::add_keystream::<#\w+>":', r"adcq\t\$0, %rax", "nop",
      lambda k: [k.add_keystream(21, 11, 1), k.add_keystream(21, 40, 2)]),
     ("CBC without a sum", r"fotsgure_aes_cbc_encrypt:", r"\tv?p?xor(ps|q)?\t.*%xmm.*\n", "", lambda k: [k.cbc_encrypt(2)]),
-    ("half of A compared in key unwrap", r"fotsgure_aes_unwrap:", r"cmpq\t%rcx, \((%rsp)\)", r"cmpl\t%ecx, (\1)", lambda k: [k.unwrap(3)]),
-    ("key unwrap without zeros after a refusal", r"fotsgure_aes_unwrap:", r"leaq\t-8\(,%rbx,8\), %rdx", "xorl\t%edx, %edx",
+    ("half of A compared in key unwrap", UNWRAP, r"cmpq\t%r(\w+), \(%rsp\)", r"cmpl\t%e\1, (%rsp)", lambda k: [k.unwrap(3)]),
+    ("key unwrap without zeros after a refusal", UNWRAP, r"leaq\t-8\(,%rbx,8\), %rdx", "xorl\t%edx, %edx",
      lambda k: [k.unwrap(3)]),
     ("the key's length stored wrongly", SET_KEY, r"movl\t%\w+, \(%\w+\)", "movl\t$24, (%rdi)", None),
 ]

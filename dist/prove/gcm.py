@@ -13,8 +13,10 @@ from standards import number, product
 
 STATUSES = "DONE KEY_LENGTH NO_KEY NONCE_LENGTH TAG_LENGTH TOO_LONG REFUSED NONCES_END OUT_OF_TURN".split()
 _, KEY_LENGTH, NO_KEY, NONCE_LENGTH, TAG_LENGTH, TOO_LONG, REFUSED, NONCES_END, OUT_OF_TURN = range(9)
-STRUCTS = {"fotsgure_gcm": (1780, {"key_length": 0, "round_keys": 4, "multiples": 244}), "fotsgure_gcm_counter": (12, {"next": 0}),
-           "fotsgure_gcm_message": (80, {"additional": 0, "text": 8, "decrypted": 16, "phase": 24, "first": 32, "value": 48, "rest": 64})}
+STRUCTS = {"fotsgure_gcm": (1780, {"key_length": 0, "round_keys": 4, "multiples": 244}),
+           "fotsgure_gcm_counter": (12, {"next": 0}),
+           "fotsgure_gcm_message": (80, {"additional": 0, "text": 8, "decrypted": 16, "phase": 24, "first": 32,
+                                         "value": 48, "rest": 64})}
 STRUCT, MESSAGE = 1780, 80
 NONE, ADDITIONAL, ENCRYPTING, VERIFYING, DECRYPTING = range(5)  # phases of a message
 MOST, MOST_ADDITIONAL = 2 ** 36 - 32, 2 ** 61 - 1
@@ -155,19 +157,11 @@ class KeyedGcm(Keyed):
         nonce = self.many(self.long_nonce, length)
         hashing = Hashing(self, ZEROS).take(threes(padded(nonce)) + [[self.lengths(0, length)]])
         bytes_ = self.pre_counter[:12 - len(before)] + list(before)
-        if before:  # the library also encrypts the block in which the counter carries, and throws it away
+        if before:  # a call may also encrypt the block that a counter of 64 bits would be next, and throw it away
             carried = bytes_[:8] + number(int.from_bytes(bytes(before), "big") + 1, 4) + number(0, 4)
             self.once(("stream", *carried), lambda: self.aes.cipher(carried, self.w))
         hashing.end_as(bytes_ + number(counter, 4))
-        if before:
-            self.in_vain(bytes_ + number(counter, 4))
         return PreCounter(bytes_, counter, hashing, [Buffer("nonce", nonce), length])
-
-    def in_vain(self, block):
-        """Where no byte is left before the counter of 32 bits wraps around, a call may encrypt what a counter of 64 bits would be
-        next: this names the inputs of its S-boxes."""
-        following = int.from_bytes(bytes(block[8:]), "big") + 1
-        self.once(("in vain", *block), lambda: self.aes.cipher(block[:8] + number(following % 2 ** 64, 8), self.w))
 
     def counted(self, counter=None):
         """The counter of nonces at a number, or at any whose low half has no carry; and what the call assumes of it."""

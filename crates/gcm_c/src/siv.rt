@@ -70,7 +70,9 @@ fn prepare<R: PolyvalRoom>(siv: &Siv, nonce: &[u8; 12], round_keys: &mut LaneRoo
     keys.wipe();
 }
 
-// Encrypts a text in place and returns the tag, with room for POLYVAL of this type.
+// Encrypts a text in place and returns the tag, with room for POLYVAL of this type. Never inlined, so that a short message
+// has a small stack frame.
+#[inline(never)]
 fn seal_in<R: PolyvalRoom>(siv: &Siv, nonce: &[u8; 12], additional: &[u8], text: &mut [u8]) -> Block
     requires made { IsSivMade siv.now }
     requires key { IsKeySize siv.now.key_length }
@@ -113,6 +115,7 @@ fn seal_message(siv: &Siv, nonce: &[u8; 12], additional: &[u8], text: &mut [u8])
 }
 
 // Decrypts a text in place if the tag is right, and returns whether it is, with room for POLYVAL of this type.
+#[inline(never)]
 fn open_in<R: PolyvalRoom>(
     siv: &Siv,
     nonce: &[u8; 12],
@@ -194,7 +197,7 @@ pub extern "C" fn fotsgure_gcm_siv_seal(
         return status;
     }
     *tag = seal_message(siv, nonce, additional, text);
-    wipe_message_stack(additional.len(), text.len());
+    wipe_message_stack();
     DONE
 }
 
@@ -224,6 +227,6 @@ pub extern "C" fn fotsgure_gcm_siv_open(
         return status;
     }
     let is_right = open_message(siv, nonce, additional, text, tag);
-    wipe_message_stack(additional.len(), text.len());
+    wipe_message_stack();
     if is_right { DONE } else { REFUSED }
 }

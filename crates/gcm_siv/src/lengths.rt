@@ -18,23 +18,17 @@ pub(crate) fn are_allowed(additional: &[u8], text: &[u8]) -> bool
 // of its powers.
 const FEW: usize = 160;
 
-// How many bytes of stack a message takes with the multiples of one factor, and with those of its powers too.
-const FEW_STACK: usize = 2560;
-
-const MANY_STACK: usize = 4608;
-
 /// Returns whether additional data and a text, of so many bytes, are a few blocks.
 pub fn are_few(additional: usize, text: usize) -> bool {
     additional <= FEW && text <= FEW - additional
 }
 
-/// Wipes the stack that a message took, of so many bytes of additional data and of text, in a call from the same function:
-/// its keys, values of POLYVAL, the right tag of a refused message and blocks of the keystream may be there.
+// How many bytes of stack a message takes.
+const MESSAGE_STACK: usize = 4352;
+
+/// Wipes the stack that a message took, in a call from the same function: its keys, values of POLYVAL, the right tag of a
+/// refused message and blocks of the keystream may be there.
 #[inline(always)]
-pub fn wipe_message_stack(additional: usize, text: usize) {
-    if are_few(additional, text) {
-        wipe_stack::<FEW_STACK>();
-    } else {
-        wipe_stack::<MANY_STACK>();
-    }
+pub fn wipe_message_stack() {
+    wipe_stack::<MESSAGE_STACK>();
 }

@@ -78,7 +78,9 @@ impl<C: KeyInit + BlockCipherEncrypt + Drop> GcmSiv<C> {
         cipher
     }
 
-    // Encrypts a text in place and returns the tag, with room for POLYVAL of this type.
+    // Encrypts a text in place and returns the tag, with room for POLYVAL of this type. Never inlined, so that a short message
+    // has a small stack frame.
+    #[inline(never)]
     fn seal_in<R: PolyvalRoom>(&self, nonce: &[u8; 12], additional: &[u8], text: &mut [u8]) -> Block
         requires additional { length additional.now ≤ 2 ^ 36 }
         requires text { length text.old ≤ 2 ^ 36 }
@@ -108,6 +110,7 @@ impl<C: KeyInit + BlockCipherEncrypt + Drop> GcmSiv<C> {
     }
 
     // Decrypts a text in place if the tag is right, and returns whether it is, with room for POLYVAL of this type.
+    #[inline(never)]
     fn open_in<R: PolyvalRoom>(
         &self,
         nonce: &[u8; 12],
@@ -171,7 +174,7 @@ impl<C: KeyInit + BlockCipherEncrypt + Drop> GcmSiv<C> {
             return Err(TooLong);
         }
         let tag = self.seal_message(nonce, additional, text);
-        wipe_message_stack(additional.len(), text.len());
+        wipe_message_stack();
         Ok(tag)
     }
 
@@ -198,7 +201,7 @@ impl<C: KeyInit + BlockCipherEncrypt + Drop> GcmSiv<C> {
             return Err(Refused);
         }
         let is_right = self.open_message(nonce, additional, text, tag);
-        wipe_message_stack(additional.len(), text.len());
+        wipe_message_stack();
         if is_right { Ok(()) } else { Err(Refused) }
     }
 }

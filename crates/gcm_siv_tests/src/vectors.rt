@@ -563,13 +563,19 @@ fn under_a_key_that_a_contract_names(rt: HostRuntime) {
     assert!(rt; encrypt_under(&key, &nonce, &[], &mut text) == Ok(tag.to_be_bytes()));
 }
 
-// A message of more blocks than the RFC's have. The last block and the tag are those of OpenSSL 4.0's AES-256-GCM-SIV.
-#[test]
-fn two_hundred_bytes(rt: HostRuntime) {
+// The bytes 0, 1, 2 and so on.
+fn counted() -> [u8; 200] {
     let mut bytes = [0u8; 200];
     for i in 0..200 {
         bytes[i] = i as u8;
     }
+    bytes
+}
+
+// A message of more blocks than the RFC's have. The last block and the tag are those of OpenSSL 4.0's AES-256-GCM-SIV.
+#[test]
+fn two_hundred_bytes(rt: HostRuntime) {
+    let bytes = counted();
     let mut key = [0; 32];
     key.copy_from_slice(&bytes[..32]);
     let mut nonce = [0; 12];
@@ -578,7 +584,9 @@ fn two_hundred_bytes(rt: HostRuntime) {
     let mut text = bytes;
     let tag = 0x60b12b279bc2326992d25260c14ae0fau128.to_be_bytes();
     assert!(rt; mode.encrypt(&nonce, &bytes[..20], &mut text) == Ok(tag));
-    assert!(rt; text[184..] == 0x2e45dfa4764d6e84cfef780a9c726b03u128.to_be_bytes());
+    let mut last = [0; 16];
+    last.copy_from_slice(&text[184..]);
+    assert!(rt; last == 0x2e45dfa4764d6e84cfef780a9c726b03u128.to_be_bytes());
     assert!(rt; mode.decrypt(&nonce, &bytes[..20], &mut text, &tag) == Ok(()));
     assert!(rt; text == bytes);
 }
