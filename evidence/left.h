@@ -23,6 +23,10 @@ static ucontext_t home, away;
 #ifdef __aarch64__
 #define EMPTY(n) "movi v" #n ".2d, #0\n"
 #define STORE(n) "str q" #n ", [%0, #16 * " #n "]\n"
+#elif defined __riscv
+#define SIXTEEN_BYTES "vsetivli zero, 16, e8, m1, ta, ma\n"
+#define EMPTY(n) "vmv.v.i v" #n ", 0\n"
+#define STORE(n) "addi t0, %0, 16 * " #n "\n vse8.v v" #n ", (t0)\n"
 #else
 #define EMPTY(n) "pxor %xmm" #n ", %xmm" #n "\n"
 #define STORE(n) "movdqa %%xmm" #n ", 16 * " #n "(%0)\n"
@@ -32,6 +36,8 @@ static ucontext_t home, away;
 static void empty_registers(void) {
 #ifdef __aarch64__
     __asm__ volatile(FIRST_EIGHT(EMPTY) SECOND_SIXTEEN(EMPTY));
+#elif defined __riscv
+    __asm__ volatile(SIXTEEN_BYTES SIXTEEN(EMPTY) SECOND_SIXTEEN(EMPTY));
 #else
     if (has_upper_halves)
         __asm__ volatile("vzeroall");
@@ -45,18 +51,20 @@ static void enter(void) {
     /* The vector registers, before anything else runs. */
     __asm__ volatile(
 #ifdef __aarch64__
-        SIXTEEN(STORE) SECOND_SIXTEEN(STORE)
+        SIXTEEN(STORE) SECOND_SIXTEEN(STORE) : : "r"(registers) : "memory");
+#elif defined __riscv
+        SIXTEEN_BYTES SIXTEEN(STORE) SECOND_SIXTEEN(STORE) : : "r"(registers) : "memory", "t0");
 #else
         SIXTEEN(STORE) "cmpl $0, %1\n je 1f\n" SIXTEEN(STORE_UPPER) "1:\n"
-#endif
         : : "r"(registers), "m"(has_upper_halves) : "memory", "cc");
+#endif
 }
 /* Makes a call on the stack, and copies what the stack holds afterwards. */
 static void run(void (*it)(void), uint8_t *image) {
     called = it;
     memset(stack, FILL, STACK);
     memset(registers, 0, sizeof registers);
-#ifndef __aarch64__
+#ifdef __x86_64__
     has_upper_halves = __builtin_cpu_supports("avx2") != 0;
 #endif
     getcontext(&away);

@@ -35,7 +35,6 @@ JOBS = ["--jobs", os.environ["AES_EVIDENCE_JOBS"]] if "AES_EVIDENCE_JOBS" in os.
 BUILDS = {"llvm": "llvm", "avx2": "llvm", "rattle": "rattle"}
 HEADER = (TOP / "dist" / "include" / "fotsgure_aes.h").read_text()
 STRUCT = int(re.search(r"sizeof\(struct fotsgure_aes\) == (\d+)", HEADER)[1])
-MOST_STACK = int(re.search(r"FOTSGURE_AES_STACK (\d+)", HEADER)[1])
 
 
 # Valgrind merges two branches to one place (guest-chase), and then reports at both what the first one tests.
@@ -131,7 +130,7 @@ def c_library(build, library="aes"):
 
 def copy_of_the_crates():
     """Makes a copy of the crates that the library of exports calls, outside the repository, with that library as one crate more.
-    They are proved where they stand, as by ./aes-kat, and what was proved there is copied too: so a crate is proved once."""
+    They are proved where they stand, as by ./aes-kat --prove, and what was proved there is copied too: so a crate is proved once."""
     tree, copied = ROOM / EXPORTS, CRATES.split()
     say(f"proving {CRATES}, as far as they are not proved")
     for it in copied:
@@ -289,12 +288,6 @@ def searched(head, *words):
     return rows
 
 
-def in_words(rows, names):
-    """The most that some rows have of each thing, by the names of one and of more."""
-    counts = {k: max(it[k] for it in rows) for k in names}
-    return ", ".join(f"{n} {names[k][n > 1]}" for k, n in counts.items() if n) or "nothing"
-
-
 def show_left(build, rows, kept):
     """A line for each call of a build: what it left with keys of 16, 24 and 32 bytes."""
     say(f"\nBuilt by {build}. Left, for keys of 16, 24 and 32 bytes:")
@@ -320,34 +313,6 @@ def compared(now, path, kept, record):
         more = [f"{counts[k]} {k} in place of {was[place][k]}" for k in kept if counts[k] > was[place][k]]
         if more:
             yield f"{', '.join(place)}: {', '.join(more)}"
-
-
-def left(archives, source, head, never, most_stack, seen, options, found):
-    """What the calls of each build leave, by a program that searches and whose last column is the depth of the stack: {(build, bits,
-    call): counts}, without what is planted. It is compared with recorded.tsv beside the program. By LLVM nothing of some kinds may
-    stay, whatever is recorded. `seen` says of all that is planted whether the search tells it apart."""
-    now = {}
-    for name, archive in archives.items():
-        rows = searched(head, compiled(source, name, archive))
-        show_left(name, rows, head)
-        for bits in BITS:
-            of = {call: it for (call, at), it in rows.items() if at == bits}
-            found.blind += [f"{name}, {bits}: {what}" for what, was in seen(of, bits).items() if not was]
-        for (call, bits), counts in rows.items():
-            place = f"{name}, {bits}, {call}"
-            more = [f"{counts[it]} {it}" for it in never if counts[it] and not call.startswith(("planted", "not_wiped"))]
-            if more and BUILDS[name] == "llvm":
-                found.wrong.append(f"{place}: {', '.join(more)}, at lengths of {counts['where']}")
-            if counts["stack"] > most_stack and BUILDS[name] == "llvm":
-                found.wrong.append(f"{place}: {counts['stack']} bytes of stack, and the header says {most_stack}")
-        now.update({(name, bits, call): it for (call, bits), it in rows.items() if not call.startswith("planted")})
-    found.wrong += compared(now, source.with_name("recorded.tsv"), head[:-1], options.record)
-    return now
-
-
-def left_by(now, build, calls):
-    """What some calls of a build left, with keys of any size."""
-    return [it for (name, _, call), it in now.items() if name == build and re.fullmatch(calls, call)]
 
 
 def asking(text, *parts, flags=()):

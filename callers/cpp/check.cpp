@@ -36,6 +36,15 @@ template <class Error, class Call> bool throws(Call call) {
     return false;
 }
 
+template <class Call> bool says(const std::string &words, Call call) {
+    try {
+        call();
+    } catch (const std::exception &error) {
+        return error.what() == words;
+    }
+    return false;
+}
+
 struct Row {
     const char *key, *cipher;
 };
@@ -116,7 +125,9 @@ void counter_mode(const Row &row) {
     fotsgure::Ctr ctr(aes, iv);
     ctr.seek(UINT64_MAX);
     Bytes one(1), none;
+    std::string text(1, 0);
     ctr.apply(none);
+    expect(says("the keystream ends", [&] { ctr.apply(text); }), "the end is named", key.size());
     expect(throws<std::length_error>([&] { ctr.apply(one); }) && one[0] == 0, "the end is refused", key.size());
     ctr.seek(3);
     fotsgure::Ctr moved(std::move(ctr));
@@ -126,6 +137,7 @@ void counter_mode(const Row &row) {
         "a moved stream goes on", key.size());
     expect(throws<std::logic_error>([&] { ctr.apply(one); }) && one[0] == 0, "what was moved from has no key",
         key.size());
+    expect(says("there is no key", [&] { ctr.apply(one); }), "no key is named", key.size());
 }
 
 } // namespace
@@ -137,6 +149,7 @@ int main() {
         counter_mode(row);
     expect(throws<std::invalid_argument>([] { fotsgure::Aes aes(Bytes(17)); }), "a key of 17 bytes is refused", 17);
     expect(throws<std::invalid_argument>([] { fotsgure::Aes aes(Bytes{}); }), "no bytes are no key", 0);
+    expect(says("there is no key", [] { fotsgure::detail::check(FOTSGURE_AES_NO_KEY); }), "a status without a key", 0);
     std::printf("%d passed, %d failed\n", passed, failed);
     return failed != 0;
 }

@@ -11,8 +11,8 @@ import subprocess
 import sys
 import threading
 
-from fotsgure_aead import AESGCM, InvalidTag
-from fotsgure_gcm import VERSION, Gcm, Refused
+from fotsgure_aead import AESGCM, AESGCMSIV, InvalidTag
+from fotsgure_gcm import VERSION, Gcm, GcmSiv, Refused
 
 KEY = bytes.fromhex("feffe9928665731c6d6a8f9467308308")
 NONCE = bytes.fromhex("cafebabefacedbaddecaf888")
@@ -90,6 +90,37 @@ expect(raises(ValueError, Gcm(KEY).seal_next, PLAIN), "no counter")
 expect(raises(ValueError, Gcm, KEY, bytes(13)), "a counter of another length")
 expect(raises(ValueError, Gcm, KEY[1:]), "a key of another length")
 expect(VERSION == 300, "the version")
+
+# AES-GCM-SIV: messages of RFC 8452, appendices C.1 and C.2, under the key 1, 0 .. and the nonce 3, 0 ..
+SIV_NONCE = b"\3" + bytes(11)
+SIV_CASES = (
+    (16, b"", b"\1" + bytes(7), "b5d839330ac7b786" "578782fff6013b815b287c22493a364c"),
+    (16, b"\1", b"\2" + bytes(7), "1e6daba35669f427" "3b0a1a2560969cdf790d99759abd1508"),
+    (32, b"", b"\1" + bytes(7), "c2ef328e5c71c83b" "843122130f7364b761e0b97427e3df28"),
+    (32, b"\1", b"\2" + bytes(7), "1de22967237a8132" "91213f267e3b452f02d01ae33e4ec854"),
+)
+for size, additional, plain, sealed in SIV_CASES:
+    with GcmSiv(b"\1" + bytes(size - 1)) as siv:
+        expect(siv.seal(SIV_NONCE, plain, additional).hex() == sealed, "RFC 8452, sealed")
+        expect(siv.open(SIV_NONCE, bytes.fromhex(sealed), additional) == plain, "RFC 8452, opened")
+    aead = AESGCMSIV(b"\1" + bytes(size - 1))
+    expect(aead.encrypt(SIV_NONCE, plain, additional).hex() == sealed, "AESGCMSIV.encrypt")
+    expect(aead.decrypt(SIV_NONCE, bytes.fromhex(sealed), additional) == plain, "AESGCMSIV.decrypt")
+nonces = set()
+with GcmSiv(KEY + KEY) as siv:
+    for length in range(301):
+        text = bytes(i % 251 for i in range(length))
+        nonce, sealed = siv.seal_random(text, text[:length // 3])
+        nonces.add(nonce)
+        expect(siv.open(nonce, sealed, text[:length // 3]) == text, f"AES-GCM-SIV, {length} bytes")
+        changed = bytearray(sealed)
+        changed[length // 2] ^= 4
+        expect(raises(Refused, siv.open, nonce, changed, text[:length // 3]), f"AES-GCM-SIV, {length} bytes, changed")
+    expect(len(nonces) == 301, "random nonces differ")
+    expect(raises(Refused, siv.open, nonce[:11], sealed) and raises(Refused, siv.open, nonce, sealed[-15:]), "what was cut")
+    expect(raises(ValueError, siv.seal, bytes(13), PLAIN), "a nonce of 13 bytes")
+expect(raises(ValueError, siv.seal_random, PLAIN) and raises(ValueError, siv.open, nonce, sealed), "a wiped key of SIV")
+expect(all(raises(ValueError, GcmSiv, bytes(size)) for size in (0, 15, 17, 24, 31, 33)), "lengths of keys of SIV")
 
 # Pieces under the counter's next nonce.
 with Gcm(KEY, bytes(11) + b"\xff") as gcm:
@@ -233,6 +264,7 @@ for key, nonce, additional, plain, sealed in CASES:
     expect(aead.decrypt(nonce, bytes.fromhex(sealed), additional) == plain, "AESGCM.decrypt")
     for other in (b"", bytes(15), bytes.fromhex(sealed)[:-1], bytes.fromhex(sealed) + b"\0"):
         expect(raises(InvalidTag, aead.decrypt, nonce, other, additional), f"{len(other)} bytes are refused")
+expect(raises(ValueError, AESGCMSIV, bytes(24)) and raises(ValueError, AESGCMSIV.generate_key, 192), "no keys of 24 bytes")
 aead = AESGCM(KEY)
 expect(aead.decrypt(NONCE, aead.encrypt(NONCE, PLAIN, None), b"") == PLAIN, "no associated data is None or empty")
 expect([len(AESGCM.generate_key(bits)) for bits in (128, 192, 256)] == [16, 24, 32], "lengths of new keys")
@@ -303,6 +335,11 @@ if len(classes) == 1:
 for number, (call, wanted) in enumerate(ROWS):
     for each in classes:
         expect(outcome(call, each(KEY)) == wanted, f"row {number} of {each}: {outcome(call, each(KEY))} and not {wanted}")
+SEALED = AESGCMSIV(KEY).encrypt(NONCE, b"0123456789", None)
+for number, (call, wanted) in enumerate(ROWS):
+    wanted = (26, SEALED) if isinstance(wanted, tuple) and wanted[0] == 26 else wanted
+    if wanted != 24:
+        expect(outcome(call, AESGCMSIV(KEY)) == wanted, f"row {number} of AESGCMSIV: {outcome(call, AESGCMSIV(KEY))}")
 place = bytearray(10)
 expect(raises(InvalidTag, aead.decrypt_into, NONCE, SEALED[:-1] + b"!", None, place) and place == bytes(10),
        "a refused message leaves the buffer as it was")

@@ -1,4 +1,8 @@
-"""Authenticated encryption by AES-GCM over the shared library by ctypes.
+"""Authenticated encryption by AES-GCM-SIV and AES-GCM over the shared library by ctypes.
+
+    with GcmSiv(key) as siv:                            AES-GCM-SIV (RFC 8452)
+        nonce, sealed = siv.seal_random(text, additional) under a nonce that is drawn at random: send both
+        text = siv.open(nonce, sealed, additional)      raises Refused if anything was changed
 
     with Gcm(key, counter) as gcm:                      counter: what was stored, or bytes(12) with a new key
         nonce, sealed = gcm.seal_next(text, additional) under the next nonce: store gcm.counter, then send both
@@ -10,9 +14,9 @@
             message.verify(bytes) .., message.accept(tag), message.decrypt(bytes) ..    the same text in both passes
         nonce, message = gcm.begin_next()               under the next nonce
 
-A key is os.urandom(32), kept where nobody else reads it; a password is none. No nonce may be used twice under a key.
+A key is os.urandom(32), kept where nobody else reads it; a password is none. In GCM no nonce may be used twice under a key.
 Random ones have 12 bytes or more; if any nonce of a key is random or has another length than 12 bytes, take a new key
-before 2^32 messages.
+before 2^32 messages. In AES-GCM-SIV a nonce that comes twice only shows whether the two messages are the same.
 
 What counts as bytes: bytes, a bytearray, and whatever else has a length and a C-contiguous buffer of one dimension or
 more that holds numbers or single bytes, as a memoryview, an array.array or an array of numpy. It is taken by its bytes. A
@@ -37,6 +41,10 @@ class _Key(ctypes.Structure):
                 ("multiples", ctypes.c_uint8 * 1536)]
 
 
+class _SivKey(ctypes.Structure):
+    _fields_ = [("key_length", ctypes.c_uint32), ("round_keys", ctypes.c_uint8 * 240)]
+
+
 class _Message(ctypes.Structure):
     _fields_ = [("numbers", ctypes.c_uint64 * 4), ("blocks", ctypes.c_uint8 * 48)]
 
@@ -46,6 +54,7 @@ class _Counter(ctypes.Structure):
 
 
 _key, _message, _counter = ctypes.POINTER(_Key), ctypes.POINTER(_Message), ctypes.POINTER(_Counter)
+_siv = ctypes.POINTER(_SivKey)
 _read, _written = [ctypes.c_char_p, ctypes.c_size_t], [ctypes.c_void_p, ctypes.c_size_t]
 _tag, _status = ctypes.c_void_p, ctypes.c_uint32
 _c = load("fotsgure_gcm", 3, [
@@ -64,11 +73,19 @@ _c = load("fotsgure_gcm", 3, [
     ("decrypt", [_key, _message, *_written], _status),
     ("decrypt_unverified", [_key, _message, *_written], _status),
     ("wipe_message", [_message], None),
+    ("siv_set_key", [_siv, *_read], _status),
+    ("siv_wipe", [_siv], None),
+    ("siv_seal", [_siv, ctypes.c_char_p, *_read, *_written, _tag], _status),
+    ("siv_seal_random", [_siv, ctypes.c_void_p, *_read, *_written, _tag], _status),
+    ("siv_open", [_siv, ctypes.c_char_p, *_read, *_written, ctypes.c_char_p], _status),
 ])
 VERSION: int = _c.fotsgure_gcm_version()
-_STATUSES = ("", "a key has 16, 24 or 32 bytes", "the key was wiped", "a nonce has one byte or more",
-             "a tag has 16 bytes", "more bytes than GCM takes, or more than were verified",
-             "the message was changed, or the key is another", "no nonce is left", "it isn't the turn of this call")
+_STATUSES = ("", "a key has 16, 24 or 32 bytes, of AES-GCM-SIV 16 or 32", "the key was wiped",
+             "a nonce has one byte or more, in AES-GCM-SIV 12", "a tag has 16 bytes",
+             "more bytes than the standard allows, or more than were verified",
+             "the message was changed, or the key is another", "no nonce is left", "it isn't the turn of this call",
+             "the system gave no randomness for a nonce")
+_NONCE_LENGTH, _TAG_LENGTH = 3, 4
 # What shows that a message was changed: a nonce, a tag or a text with a length that no message has, or another tag.
 _CHANGED = (3, 4, 5, 6)
 
@@ -77,6 +94,55 @@ def _check(status: int, changed: Sequence[int] = ()) -> None:
     """Raises ValueError for a status but DONE, and Refused for those of `changed`."""
     if status:
         raise (Refused if status in changed else ValueError)(_STATUSES[status])
+
+
+class GcmSiv:
+    """A key of AES-GCM-SIV, of 16 or 32 bytes. Threads may share it. `wipe`, or the end of a `with`, wipes what was
+    prepared of it, not the bytes given. It waits for calls that run, and later ones raise ValueError."""
+
+    def __init__(self, key: Bytes) -> None:
+        key = bytes_of(key)
+        self._key, self._uses = _SivKey(), Uses()
+        _check(_c.fotsgure_gcm_siv_set_key(self._key, key, len(key)))
+
+    def seal_random(self, text: Bytes, additional: Bytes = b"") -> Tuple[bytes, bytes]:
+        """Encrypts under a nonce that is drawn at random: returns that nonce, and the encrypted text with its tag behind
+        it."""
+        text, additional = bytes_of(text), bytes_of(additional)
+        nonce, buffer, tag = room(bytes(12)), room(text), room(bytes(16))
+        with self._uses:
+            _check(_c.fotsgure_gcm_siv_seal_random(self._key, nonce, additional, len(additional), buffer, len(text), tag))
+        return written(nonce, 12), written(buffer, len(text)) + written(tag, 16)
+
+    def seal(self, nonce: Bytes, text: Bytes, additional: Bytes = b"") -> bytes:
+        """Encrypts under a nonce of yours, of 12 bytes: returns the encrypted text and the tag behind it."""
+        nonce, text, additional = bytes_of(nonce), bytes_of(text), bytes_of(additional)
+        _check(0 if len(nonce) == 12 else _NONCE_LENGTH)
+        buffer, tag = room(text), room(bytes(16))
+        with self._uses:
+            _check(_c.fotsgure_gcm_siv_seal(self._key, nonce, additional, len(additional), buffer, len(text), tag))
+        return written(buffer, len(text)) + written(tag, 16)
+
+    def open(self, nonce: Bytes, sealed: Bytes, additional: Bytes = b"") -> bytes:
+        """Decrypts what `seal` or `seal_random` returned, or raises Refused: also if a nonce hasn't 12 bytes, or the tag
+        isn't whole."""
+        nonce, sealed, additional = bytes_of(nonce), bytes_of(sealed), bytes_of(additional)
+        text, tag = sealed[:-16], sealed[-16:]
+        _check(_NONCE_LENGTH if len(nonce) != 12 else _TAG_LENGTH if len(tag) != 16 else 0, _CHANGED)
+        buffer = room(text)
+        with self._uses:
+            _check(_c.fotsgure_gcm_siv_open(self._key, nonce, additional, len(additional), buffer, len(text), tag), _CHANGED)
+        return written(buffer, len(text))
+
+    def wipe(self) -> None:
+        with self._uses.alone():
+            _c.fotsgure_gcm_siv_wipe(self._key)
+
+    def __enter__(self) -> "GcmSiv":
+        return self
+
+    def __exit__(self, *_: Any) -> None:
+        self.wipe()
 
 
 class Gcm:

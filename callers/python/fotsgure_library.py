@@ -18,8 +18,10 @@ Call = Tuple[str, list, Optional[type]]
 def load(name: str, version: int, calls: Iterable[Call]) -> ctypes.CDLL:
     """The library of that name, from the file that the variable of its name in capitals names, or where the loader
     searches. `version` is 100 times the first number plus the second: before 1.0, structs may grow with either."""
-    found = (os.environ.get(name.upper()) or ctypes.util.find_library(name) or
-             f"lib{name}.so.{version // 100}.{version % 100}")
+    numbers = f"{version // 100}.{version % 100}"
+    # On Windows a file is searched for, in PATH.
+    wanted, file = (f"lib{name}-{numbers}.dll",) * 2 if os.name == "nt" else (name, f"lib{name}.so.{numbers}")
+    found = os.environ.get(name.upper()) or ctypes.util.find_library(wanted) or file
     try:
         c = ctypes.CDLL(found)
     except OSError as error:

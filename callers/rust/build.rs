@@ -1,19 +1,19 @@
-//! Links the libraries: the archives in the folder that FOTSGURE_AES_LIB names, else what pkg-config finds, else what the C
-//! compiler (CC) makes of the folder `dist` (FOTSGURE_DIST names another than that of this repository).
+//! Links the static libraries in the folder that FOTSGURE_AES_LIB names, or else what the C compiler (CC) makes of the
+//! folder `dist` (FOTSGURE_DIST names another than that of this repository). A program needs no shared library to run.
 
 use std::env;
 use std::path::{Path, PathBuf};
 use std::process::Command;
 
 fn main() {
-    for name in ["FOTSGURE_AES_LIB", "FOTSGURE_DIST", "PKG_CONFIG", "PKG_CONFIG_PATH", "CC", "AR"] {
+    for name in ["FOTSGURE_AES_LIB", "FOTSGURE_DIST", "CC", "AR"] {
         println!("cargo:rerun-if-env-changed={name}");
     }
     let has_gcm = env::var_os("CARGO_FEATURE_GCM").is_some();
     let names = if has_gcm { vec!["aes", "gcm"] } else { vec!["aes"] };
     if let Ok(folder) = env::var("FOTSGURE_AES_LIB") {
         archives_in(Path::new(&folder), &names);
-    } else if !installed(&names) {
+    } else {
         let out = PathBuf::from(env::var("OUT_DIR").unwrap());
         names.iter().for_each(|name| build(name, &out));
         archives_in(&out, &names);
@@ -31,29 +31,6 @@ fn named(variable: &str, default: &str) -> String {
     env::var(variable).unwrap_or_else(|_| default.to_string())
 }
 
-/// Whether pkg-config finds the libraries of this version for the machine that builds.
-fn installed(names: &[&str]) -> bool {
-    let mut ask = Command::new(named("PKG_CONFIG", "pkg-config"));
-    ask.arg("--libs");
-    for name in names {
-        ask.args([format!("fotsgure_{name} >= 0.3"), format!("fotsgure_{name} < 0.4")]);
-    }
-    let Ok(found) = ask.output() else { return false };
-    if !found.status.success() || env::var("HOST") != env::var("TARGET") {
-        return false;
-    }
-    for word in String::from_utf8_lossy(&found.stdout).split_whitespace() {
-        if let Some(folder) = word.strip_prefix("-L") {
-            println!("cargo:rustc-link-search=native={folder}");
-        } else if let Some(library) = word.strip_prefix("-l") {
-            println!("cargo:rustc-link-lib={library}");
-        } else {
-            println!("cargo:rustc-link-arg={word}");
-        }
-    }
-    true
-}
-
 /// Makes a static library as dist/Makefile does.
 fn build(name: &str, out: &Path) {
     let here = PathBuf::from(env::var("CARGO_MANIFEST_DIR").unwrap());
@@ -65,15 +42,19 @@ fn build(name: &str, out: &Path) {
         "aarch64" => vec![format!("{name}.s")],
         _ => panic!("the libraries are for x86-64 and for 64-bit ARM"),
     };
+    let mut sources: Vec<PathBuf> = sources.iter().map(|source| dist.join(&arch).join(source)).collect();
+    if name == "gcm" {
+        sources.push(dist.join("seal_random.c"));
+    }
     let mut objects = Vec::new();
     for source in sources {
-        let object = out.join(&source).with_extension("o");
+        let object = out.join(source.file_name().unwrap()).with_extension("o");
         let mut compile = Command::new(named("CC", "cc"));
         compile.args(["-O2", "-fPIC", "-ffunction-sections", "-c", "-o"]).arg(&object);
-        if source.ends_with(".s") && arch == "x86_64" {
+        if source.extension().is_some_and(|it| it == "s") && arch == "x86_64" {
             compile.arg("-Wa,-defsym,chosen=1");
         }
-        run(compile.arg("-I").arg(dist.join("include")).arg(dist.join(&arch).join(&source)));
+        run(compile.arg("-I").arg(dist.join("include")).arg(&source));
         objects.push(object);
     }
     let archive = out.join(format!("libfotsgure_{name}.a"));

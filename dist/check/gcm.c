@@ -1,7 +1,8 @@
 /* The library of GCM from C: test cases 1 to 4, 13 and 16 of the submission of GCM (McGrew and Viega, appendix B), and
  * nonces under which the counter wraps; texts of 0 to 700 bytes there and back, and beside OpenSSL with WITH_OPENSSL;
  * every status; that nothing is written after a refusal; NULL with a length of 0; counted nonces; messages in pieces,
- * cut in many ways and out of turn; short tags; what a shorter key leaves; the wipe. The last line is `N passed, N failed`. */
+ * cut in many ways and out of turn; short tags; what a shorter key leaves; the wipe. AES-GCM-SIV is in siv.h. The last line
+ * is `N passed, N failed`. */
 #include <fotsgure_gcm.h>
 
 #ifdef WITH_OPENSSL
@@ -470,6 +471,8 @@ static void pieces(void)
     fotsgure_gcm_wipe(&gcm);
 }
 
+#include "siv.h"
+
 int main(void)
 {
     published();
@@ -477,6 +480,7 @@ int main(void)
     statuses();
     counted();
     pieces();
+    siv();
     printf("%d passed, %d failed\n", passed, failed);
     return failed != 0;
 }

@@ -17,7 +17,7 @@
  *    whose bytes are all 0.
  *  - No data race: during the call no other thread writes what it reads, or reads or writes what it writes.
  *  - FOTSGURE_AES_STACK bytes of stack. On x86-64 a processor with SSE4.2 and SSSE3 (x86-64-v2); on 64-bit ARM any
- *    processor, little-endian. The library is for Linux.
+ *    processor, little-endian; on 64-bit RISC-V one with vectors (V 1.0).
  *
  * NULL is allowed for `key`, `blocks`, `bytes`, `input` and `output` if the count is 0.
  *
@@ -41,6 +41,7 @@
 #ifndef FOTSGURE_AES_H
 #define FOTSGURE_AES_H
 
+/* It needs C99 or C++11. */
 #include <stddef.h>
 #include <stdint.h>
 

@@ -1,43 +1,48 @@
-/* Authenticated encryption by AES in Galois/Counter Mode (GCM, NIST SP 800-38D), proved. Nobody has certified it under
- * FIPS 140-3, and nobody has reviewed it independently.
+/* Authenticated encryption by AES, proved: AES-GCM-SIV (RFC 8452), whose nonces are drawn at random, and Galois/Counter
+ * Mode (GCM, NIST SP 800-38D). Nobody has certified it under FIPS 140-3, and nobody has reviewed it independently.
  *
  * Each call's results are proved against the standard for all arguments that meet what is asked for here. Nothing
  * checks a call from C.
  *
  * For every call, the caller must ensure:
- *  - No nonce twice under one key, counted over all messages, programs and machines: a second use gives away the key of
- *    the tags and the sum of two messages. fotsgure_gcm_seal_next counts nonces up. Random nonces have 12 bytes or more.
- *    If any nonce of a key is random, or has another length than 12 bytes, take a new key before 2^32 messages
- *    (8.2.2, 8.3).
+ *  - In GCM no nonce twice under one key, counted over all messages, programs and machines: a second use gives away the
+ *    key of the tags and the sum of two messages. fotsgure_gcm_seal_next counts nonces up. Random nonces have 12 bytes or
+ *    more. If any nonce of a key is random, or has another length than 12 bytes, take a new key before 2^32 messages
+ *    (8.2.2, 8.3). In AES-GCM-SIV, the calls fotsgure_gcm_siv_.., a nonce that comes twice only shows whether the two
+ *    messages, with their additional data, are the same.
  *  - Valid pointers. A pointer to a struct points to a whole one, aligned as C aligns it; every other pointer points to
  *    as many bytes as the length beside it says, or as its array has. Bytes need no alignment. What a call reads has
  *    been initialized.
  *  - No object of more than PTRDIFF_MAX bytes.
  *  - No overlap: what a call writes overlaps nothing else that it is given. What a call only reads may overlap.
  *  - A struct fotsgure_gcm that fotsgure_gcm_set_key or fotsgure_gcm_wipe wrote last, or a copy of such a struct, or one
- *    whose bytes are all 0. A struct fotsgure_gcm_message may hold anything but uninitialized bytes; for
+ *    whose bytes are all 0; likewise a struct fotsgure_gcm_siv, by fotsgure_gcm_siv_set_key and fotsgure_gcm_siv_wipe. A
+ *    struct fotsgure_gcm_message may hold anything but uninitialized bytes; for
  *    fotsgure_gcm_begin and fotsgure_gcm_wipe_message it may be uninitialized too. What calls say of a message is so if
  *    all its calls had the same key, the first was fotsgure_gcm_begin, and nothing else wrote the struct.
  *  - No data race: during the call no other thread writes what it reads, or reads or writes what it writes.
  *  - FOTSGURE_GCM_STACK bytes of stack. On x86-64 a processor with SSE4.2 and SSSE3 (x86-64-v2); on 64-bit ARM any
- *    processor, little-endian. The library is for Linux.
+ *    processor, little-endian; on 64-bit RISC-V one with vectors (V 1.0).
  *
  * NULL is allowed for `key`, `nonce`, `additional`, `text` and a `tag` with a length if the length is 0.
  *
  * In return, no call allocates, prints, aborts, blocks, or keeps a pointer; the library has no state of its own, but for
  * one word by which a static library on x86-64 keeps which of its builds the processor runs; every call returns, and
  * writes nothing but what it says. (Proved is what calls return and write, and that they
- * return; read and measured is the rest.) A call that doesn't return FOTSGURE_GCM_DONE has changed nothing;
- * fotsgure_gcm_set_key is the exception. Where several statuses apply, the call returns the first in the order that it
+ * return; read and measured is the rest. fotsgure_gcm_siv_seal_random is twelve lines of C around a proved call, and
+ * tested: it asks the system for randomness, waits for it while the system starts, and may write errno.) A call that
+ * doesn't return FOTSGURE_GCM_DONE has changed nothing; fotsgure_gcm_set_key and fotsgure_gcm_siv_set_key are the
+ * exceptions. Where several statuses apply, the call returns the first in the order that it
  * names them. Whether a tag is right is all that a status says of the bytes of keys and of messages.
  *
- * Copies and threads: a struct fotsgure_gcm may be copied and moved as bytes; every copy is as secret as the key and is
- * wiped by itself. Any number of threads may use one struct at the same time by the calls that take it as const. A
- * struct fotsgure_gcm_counter belongs to one thread at a time; a copy of it would give out the same nonces again. So
- * does a struct fotsgure_gcm_message: a copy of it would encrypt another text under the same nonce. */
+ * Copies and threads: a struct fotsgure_gcm or fotsgure_gcm_siv may be copied and moved as bytes; every copy is as
+ * secret as the key and is wiped by itself. Any number of threads may use one struct at the same time by the calls that
+ * take it as const. A struct fotsgure_gcm_counter belongs to one thread at a time: a copy of it would give out the same
+ * nonces again. So does a struct fotsgure_gcm_message: a copy of it would encrypt another text under the same nonce. */
 #ifndef FOTSGURE_GCM_H
 #define FOTSGURE_GCM_H
 
+/* It needs C99 or C++11. */
 #include <stddef.h>
 #include <stdint.h>
 
@@ -50,6 +55,8 @@
 #define FOTSGURE_GCM_TAG 16                               /* bytes of a tag */
 #define FOTSGURE_GCM_MOST (((uint64_t)1 << 36) - 32)      /* the most bytes of a text (5.2.1.1) */
 #define FOTSGURE_GCM_MOST_ADDITIONAL (((uint64_t)1 << 61) - 1) /* the most bytes of additional data */
+#define FOTSGURE_GCM_SIV_NONCE 12                         /* bytes of a nonce of AES-GCM-SIV */
+#define FOTSGURE_GCM_SIV_MOST ((uint64_t)1 << 36)         /* its most bytes of a text, and of additional data (RFC 8452, 4) */
 #define FOTSGURE_GCM_STACK 16384                          /* bytes of stack that are enough for every call */
 
 #ifdef __cplusplus
@@ -78,7 +85,7 @@ extern "C" {
 /* What a call returns. */
 enum fotsgure_gcm_status {
     FOTSGURE_GCM_DONE = 0,         /* the work is done */
-    FOTSGURE_GCM_KEY_LENGTH = 1,   /* the key doesn't have 16, 24 or 32 bytes */
+    FOTSGURE_GCM_KEY_LENGTH = 1,   /* the key doesn't have 16, 24 or 32 bytes; of AES-GCM-SIV: 16 or 32 */
     FOTSGURE_GCM_NO_KEY = 2,       /* the struct holds no key */
     FOTSGURE_GCM_NONCE_LENGTH = 3, /* the nonce is empty, or has 2^61 bytes or more */
     FOTSGURE_GCM_TAG_LENGTH = 4,   /* the tag doesn't have 16 bytes, or as many as are fixed */
@@ -86,7 +93,8 @@ enum fotsgure_gcm_status {
                                     * than was verified */
     FOTSGURE_GCM_REFUSED = 6,      /* the tag isn't that of this key, nonce, additional data and text */
     FOTSGURE_GCM_NONCES_END = 7,   /* the counter of nonces has come to its end */
-    FOTSGURE_GCM_OUT_OF_TURN = 8   /* the message is not where this call may come */
+    FOTSGURE_GCM_OUT_OF_TURN = 8,  /* the message is not where this call may come */
+    FOTSGURE_GCM_NO_RANDOMNESS = 9 /* the system gave no randomness for a nonce */
 };
 
 /* A key, prepared for messages. Read and write it by the calls below alone. */
@@ -117,10 +125,17 @@ struct fotsgure_gcm_message {
     uint8_t rest[16];
 };
 
+/* A key of AES-GCM-SIV. Read and write it by the calls below alone. */
+struct fotsgure_gcm_siv {
+    uint32_t key_length; /* 16 or 32; 0: no key */
+    uint8_t round_keys[240];
+};
+
 FOTSGURE_GCM_ASSERT(sizeof(enum fotsgure_gcm_status) == 4 && sizeof(size_t) == 8, "the ABI of the library: 64-bit");
 FOTSGURE_GCM_ASSERT(sizeof(struct fotsgure_gcm) == 1780, "no padding");
 FOTSGURE_GCM_ASSERT(sizeof(struct fotsgure_gcm_counter) == 12, "no padding");
 FOTSGURE_GCM_ASSERT(sizeof(struct fotsgure_gcm_message) == 80, "no padding");
+FOTSGURE_GCM_ASSERT(sizeof(struct fotsgure_gcm_siv) == 244, "no padding");
 
 /* Returns FOTSGURE_GCM_VERSION of the header that the library was built with. */
 uint32_t fotsgure_gcm_version(void) FOTSGURE_GCM_NOEXCEPT;
@@ -247,6 +262,49 @@ FOTSGURE_GCM_CHECK enum fotsgure_gcm_status fotsgure_gcm_decrypt_unverified(cons
 /* Overwrites *message with zeros: there is no message then. It may be uninitialized. Copies are not wiped. */
 void fotsgure_gcm_wipe_message(struct fotsgure_gcm_message *message) FOTSGURE_GCM_NOEXCEPT;
 
+/* AES-GCM-SIV (RFC 8452). Each message has keys of its own, derived from the key and the nonce, and the cipher text
+ * depends on the tag, which depends on all of the plain text. So it is the mode for nonces that are drawn at random, or
+ * that may come twice by mistake. Section 9 of the RFC says how many messages a key may have. There are no calls for
+ * pieces: all of a message must be there before any of it is encrypted or decrypted. */
+
+/* Prepares a key in *siv (KeyExpansion, FIPS 197, 5.2). *siv may be uninitialized: none of it is read. Nothing of what
+ * it held is left.
+ * DONE if key_length is 16 or 32; else KEY_LENGTH, and *siv then is all zeros and holds no key. */
+FOTSGURE_GCM_CHECK enum fotsgure_gcm_status fotsgure_gcm_siv_set_key(struct fotsgure_gcm_siv *FOTSGURE_GCM_ALONE siv,
+    const uint8_t *key, size_t key_length) FOTSGURE_GCM_NOEXCEPT;
+
+/* Encrypts `text_length` bytes in place under a nonce that the caller brings, and writes the tag, which shows whether
+ * the text or the additional data was changed (RFC 8452, 4). The additional data isn't encrypted, nor is it part of the
+ * text.
+ * TOO_LONG or NO_KEY; else DONE. */
+FOTSGURE_GCM_CHECK enum fotsgure_gcm_status fotsgure_gcm_siv_seal(const struct fotsgure_gcm_siv *siv,
+    const uint8_t nonce[FOTSGURE_GCM_SIV_NONCE],
+    const uint8_t *additional, size_t additional_length,
+    uint8_t *FOTSGURE_GCM_ALONE text, size_t text_length,
+    uint8_t tag[FOTSGURE_GCM_TAG]) FOTSGURE_GCM_NOEXCEPT;
+
+/* The same under a nonce that the call draws from the system at random and writes to `nonce`. Send it with the text and
+ * the tag. Without randomness nothing is encrypted.
+ * NO_RANDOMNESS, TOO_LONG or NO_KEY; else DONE. */
+FOTSGURE_GCM_CHECK enum fotsgure_gcm_status fotsgure_gcm_siv_seal_random(const struct fotsgure_gcm_siv *siv,
+    uint8_t nonce[FOTSGURE_GCM_SIV_NONCE],
+    const uint8_t *additional, size_t additional_length,
+    uint8_t *FOTSGURE_GCM_ALONE text, size_t text_length,
+    uint8_t tag[FOTSGURE_GCM_TAG]) FOTSGURE_GCM_NOEXCEPT;
+
+/* Decrypts `text_length` bytes in place if the tag is right (RFC 8452, 5). The tag can be compared only once the text is
+ * decrypted, so a text that is refused is encrypted again: it is proved that it is, when the call returns, as it was.
+ * Until then the text holds what nobody has authenticated.
+ * TOO_LONG, NO_KEY or REFUSED; else DONE. */
+FOTSGURE_GCM_CHECK enum fotsgure_gcm_status fotsgure_gcm_siv_open(const struct fotsgure_gcm_siv *siv,
+    const uint8_t nonce[FOTSGURE_GCM_SIV_NONCE],
+    const uint8_t *additional, size_t additional_length,
+    uint8_t *FOTSGURE_GCM_ALONE text, size_t text_length,
+    const uint8_t tag[FOTSGURE_GCM_TAG]) FOTSGURE_GCM_NOEXCEPT;
+
+/* Overwrites *siv with zeros: it then holds no key. It may be uninitialized. Copies are not wiped. */
+void fotsgure_gcm_siv_wipe(struct fotsgure_gcm_siv *siv) FOTSGURE_GCM_NOEXCEPT;
+
 /* NULL with a length of 0: the library takes no NULL, so each call below hands on an address that is not NULL instead,
  * and that nothing reads or writes. Whoever calls the library without this header does the same. NULL with another
  * length is a mistake that ends the program: the call reads or writes there, at address 16. A pointer to a function,
@@ -333,6 +391,34 @@ FOTSGURE_GCM_CHECK static inline enum fotsgure_gcm_status fotsgure_gcm_not_null_
     return fotsgure_gcm_decrypt_unverified(gcm, message, fotsgure_gcm_not_null_mut(text), text_length);
 }
 
+FOTSGURE_GCM_CHECK static inline enum fotsgure_gcm_status fotsgure_gcm_not_null_siv_set_key(
+    struct fotsgure_gcm_siv *siv, const uint8_t *key, size_t key_length) FOTSGURE_GCM_NOEXCEPT
+{
+    return fotsgure_gcm_siv_set_key(siv, fotsgure_gcm_not_null(key), key_length);
+}
+FOTSGURE_GCM_CHECK static inline enum fotsgure_gcm_status fotsgure_gcm_not_null_siv_seal(
+    const struct fotsgure_gcm_siv *siv, const uint8_t nonce[FOTSGURE_GCM_SIV_NONCE], const uint8_t *additional,
+    size_t additional_length, uint8_t *text, size_t text_length, uint8_t tag[FOTSGURE_GCM_TAG]) FOTSGURE_GCM_NOEXCEPT
+{
+    return fotsgure_gcm_siv_seal(siv, nonce, fotsgure_gcm_not_null(additional), additional_length,
+        fotsgure_gcm_not_null_mut(text), text_length, tag);
+}
+FOTSGURE_GCM_CHECK static inline enum fotsgure_gcm_status fotsgure_gcm_not_null_siv_seal_random(
+    const struct fotsgure_gcm_siv *siv, uint8_t nonce[FOTSGURE_GCM_SIV_NONCE], const uint8_t *additional,
+    size_t additional_length, uint8_t *text, size_t text_length, uint8_t tag[FOTSGURE_GCM_TAG]) FOTSGURE_GCM_NOEXCEPT
+{
+    return fotsgure_gcm_siv_seal_random(siv, nonce, fotsgure_gcm_not_null(additional), additional_length,
+        fotsgure_gcm_not_null_mut(text), text_length, tag);
+}
+FOTSGURE_GCM_CHECK static inline enum fotsgure_gcm_status fotsgure_gcm_not_null_siv_open(
+    const struct fotsgure_gcm_siv *siv, const uint8_t nonce[FOTSGURE_GCM_SIV_NONCE], const uint8_t *additional,
+    size_t additional_length, uint8_t *text, size_t text_length,
+    const uint8_t tag[FOTSGURE_GCM_TAG]) FOTSGURE_GCM_NOEXCEPT
+{
+    return fotsgure_gcm_siv_open(siv, nonce, fotsgure_gcm_not_null(additional), additional_length,
+        fotsgure_gcm_not_null_mut(text), text_length, tag);
+}
+
 #define fotsgure_gcm_set_key(...) fotsgure_gcm_not_null_set_key(__VA_ARGS__)
 #define fotsgure_gcm_seal(...) fotsgure_gcm_not_null_seal(__VA_ARGS__)
 #define fotsgure_gcm_seal_next(...) fotsgure_gcm_not_null_seal_next(__VA_ARGS__)
@@ -345,6 +431,10 @@ FOTSGURE_GCM_CHECK static inline enum fotsgure_gcm_status fotsgure_gcm_not_null_
 #define fotsgure_gcm_accept_short(...) fotsgure_gcm_not_null_accept_short(__VA_ARGS__)
 #define fotsgure_gcm_decrypt(...) fotsgure_gcm_not_null_decrypt(__VA_ARGS__)
 #define fotsgure_gcm_decrypt_unverified(...) fotsgure_gcm_not_null_decrypt_unverified(__VA_ARGS__)
+#define fotsgure_gcm_siv_set_key(...) fotsgure_gcm_not_null_siv_set_key(__VA_ARGS__)
+#define fotsgure_gcm_siv_seal(...) fotsgure_gcm_not_null_siv_seal(__VA_ARGS__)
+#define fotsgure_gcm_siv_seal_random(...) fotsgure_gcm_not_null_siv_seal_random(__VA_ARGS__)
+#define fotsgure_gcm_siv_open(...) fotsgure_gcm_not_null_siv_open(__VA_ARGS__)
 
 #ifdef __cplusplus
 }

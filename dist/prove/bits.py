@@ -1,18 +1,22 @@
 """Canonical forms of bits: what every proof here rests on.
 
-A *cell* is a byte that takes all 256 values: a byte of the key schedule, of a block, or what enters an S-box. A bit is kept as
-the exclusive or of functions of single cells, each as a truth table of 256 entries (a Python int whose entry 0 is 0), and
-perhaps of 1. So equal forms are equal functions of the cells. Exclusive or is exact, cell by cell. `And` and look-ups are done
-only where everything involved depends on one cell; then they are exact too, on the 256 values of that cell. If bits depend on
-several cells, `named` asks whether they are sums of bits of one byte that the specification named (an input of an S-box), and
-writes that byte instead: an equation, checked by computing both sides. There is no search, and nothing is approximated: what
-can't be done raises Unproved.
+A *cell* is a byte that takes all 256 values: a byte of the key schedule, of a block, or what enters an S-box. A bit is
+kept as the exclusive or of functions of single cells, each as a truth table of 256 entries (a Python int whose entry 0
+is 0), and perhaps of 1. So equal forms are equal functions of the cells. Exclusive or is exact, cell by cell. `And` and
+look-ups are done only where everything involved depends on one cell; then they are exact too, on the 256 values of that
+cell. If bits depend on several cells, `named` asks whether they are sums of bits of one byte that the specification
+named (an input of an S-box), and writes that byte instead: an equation, checked by computing both sides. There is no
+search, and nothing is approximated: what can't be done raises Unproved.
 
-A bit is an int: 0 and 1 are constants, else form << 9 | block << 1 | complement. Blocks are processed alike, so a form is kept
-once for all of them: `block` (1 to 255) says whose cells are meant; it is 0 if the form has cells of keys alone.
+A bit is an int: 0 and 1 are constants, else form << 9 | block << 1 | complement. Blocks are processed alike, so a form
+is kept once for all of them: `block` (1 to 255) says whose cells are meant; it is 0 if the form has cells of keys
+alone.
 
-A byte is an int too: below 256 a constant, else an entry of `bits_of` (eight bits, lowest first), or opaque (None): a byte that
-may be moved, but with which nothing may be computed (what a buffer or a register held before)."""
+A byte is an int too: below 256 a constant, else an entry of `bits_of` (eight bits, lowest first), or opaque (None): a
+byte that may be moved, but with which nothing may be computed (what a buffer or a register held before)."""
+
+import functools
+import random
 
 KEY, DATA, PUBLIC = 1, 2, 4  # what a cell depends on
 ONES = (1 << 256) - 1
@@ -22,8 +26,22 @@ MIXED = 255  # in the place of a block: a sum of bits of several blocks, an entr
 PRODUCT = 254  # the same: a bit, plus products of two bits of cells, an entry of `products`
 
 
+UNDEFINED, LOST = "undefined", "lost"  # names of opaque bytes: what nobody wrote, and what was forgotten
+
+
 class Unproved(Exception):
     """Something that this program can't prove, or that is wrong."""
+
+
+class Pause(Unproved):
+    """A call that expands a key is about to compute with what isn't of the key (see aes.py)."""
+
+
+@functools.lru_cache(None)
+def looked_up(table, tables):
+    """The truth tables of the bits of table[i], if the bits of i have these truth tables."""
+    entries = [table[sum((t >> v & 1) << i for i, t in enumerate(tables))] for v in range(256)]
+    return [sum((entries[v] >> j & 1) << v for v in range(256)) for j in range(8)]
 
 
 class Domain:
@@ -32,14 +50,14 @@ class Domain:
     def __init__(self):
         self.names, self.of_block, self.depends = [], [], []
         self.forms, self.ids, self.has_block = [None], {}, [False]
-        self.xors, self.ands, self.byte_xors, self.byte_ands, self.lookups = {}, {}, {}, {}, {}
+        self.xors, self.ands, self.byte_xors, self.byte_ands, self.lookups, self.entries = {}, {}, {}, {}, {}, {}
         self.bits_of, self.byte_ids = [None] * 256, {}
         self.opaque_names, self.opaque_of, self.words = {}, {}, {}
         self.by_cells, self.alike, self.definitions = {}, {}, {}
         self.mixed, self.mixed_ids, self.mixed_xors, self.halves = [], {}, {}, {}
         self.linear_tables = set()
-        self.products, self.product_ids, self.pairs, self.linear_parts = [], {}, {}, {}
-        self.undefined = self.opaque("undefined")
+        self.products, self.product_ids, self.pairs, self.linear_parts, self.random = [], {}, {}, {}, random.Random(1)
+        self.undefined = self.opaque(UNDEFINED)
 
     # Cells and bytes.
     def cell(self, name, of_block, depends):
@@ -52,9 +70,9 @@ class Domain:
         """A byte that is a cell of its own; in block 1, if each block has one."""
         return self.byte_of_cell(self.cell(name, of_block, depends), int(of_block))
 
-    def byte_of_cell(self, cell, block, values=range(256)):
-        """The byte that has the value values[v] where the cell has the value v."""
-        return self.pack([self.bit(cell, sum((values[v] >> j & 1) << v for v in range(256)), block) for j in range(8)])
+    def byte_of_cell(self, cell, block, tables=LINEAR):
+        """The byte of which the bits have these truth tables."""
+        return self.pack([self.bit(cell, t, block) for t in tables])
 
     def opaque(self, name):
         if name not in self.opaque_names:
@@ -77,8 +95,16 @@ class Domain:
         if byte < 256:
             return tuple(byte >> j & 1 for j in range(8))
         if self.bits_of[byte] is None:
+            if self.opaque_of[byte] not in (UNDEFINED, LOST):
+                raise Pause("computes with what isn't of the key: " + self.describe(byte))
             raise Unproved("computes with a byte that is undefined: " + self.describe(byte))
         return self.bits_of[byte]
+
+    def cell_of(self, byte):
+        """(cell, block) of a byte that is a cell, perhaps with bits flipped."""
+        bit = self.bits_of[byte][0]
+        (cell, _), = self.forms[bit >> 9]
+        return cell, (bit & BLOCK) >> 1 if self.of_block[cell] else 0
 
     def symbolic(self, byte):
         """Whether a byte depends on cells."""
@@ -153,7 +179,8 @@ class Domain:
             n = self.xors[key] = self.intern(form) if form else 0
         return (n << 9 | (bx | by if self.has_block[n] else 0) if n else 0) | (x ^ y) & 1
 
-    # Sums over several blocks, as transposing makes them: for each block the form without keys, and for 0 the part of keys.
+    # Sums over several blocks, as transposing makes them: for each block the form without keys, and for 0 the part of
+    # keys.
     def parts(self, x):
         if x < 2:
             return ()
@@ -192,22 +219,32 @@ class Domain:
         return z ^ (x ^ y) & 1
 
     # Sums of products of two bits of cells, for GHASH: a bit, and an int that has a bit for each pair of bits of cells.
+    # Such an int is long, so it is found by a code: the sum of random codes of its pairs.
     def split(self, x):
-        return self.products[x >> 9] if x > 1 and x & BLOCK == PRODUCT << 1 else (x & ~1, 0)
+        return self.products[x >> 9] if x > 1 and x & BLOCK == PRODUCT << 1 else (x & ~1, 0, 0)
 
     def add_products(self, x, y):
-        (a, p), (b, q) = self.split(x), self.split(y)
-        return self.product_bit(self.xor(a, b), p ^ q) ^ (x ^ y) & 1
+        (a, p, c), (b, q, e) = self.split(x), self.split(y)
+        return self.product_bit(self.xor(a, b), p ^ q, c ^ e) ^ (x ^ y) & 1
 
-    def product_bit(self, a, p):
+    def product_bit(self, a, p, code):
         if not p:
             return a
-        key = (a & ~1, p)
+        key = (a & ~1, code)
         n = self.product_ids.get(key)
         if n is None:
             n = self.product_ids[key] = len(self.products)
-            self.products.append(key)
+            self.products.append((a & ~1, p, code))
+        elif self.products[n][1] != p:
+            raise Unproved("two sums of products have the same code")
         return n << 9 | PRODUCT << 1 | a & 1
+
+    def pair(self, a, b):
+        """The number of a pair of bits of cells, and its code."""
+        key = (a, b) if a < b else (b, a)
+        if key not in self.pairs:
+            self.pairs[key] = len(self.pairs), self.random.getrandbits(64)
+        return self.pairs[key]
 
     def first_pair(self, p):
         """One of the cells of products, to say what they depend on."""
@@ -219,7 +256,7 @@ class Domain:
 
     def forget_products(self):
         """For when no byte has any."""
-        for memo in (self.pairs, self.products, self.product_ids, self.byte_xors, self.byte_ands, self.lookups):
+        for memo in (self.pairs, self.products, self.product_ids, self.byte_xors, self.byte_ands, self.lookups, self.entries):
             memo.clear()
 
     def linear_part(self, x):
@@ -240,23 +277,26 @@ class Domain:
             self.linear_parts[x & ~1] = out
         return out
 
-    def product(self, x, y):
-        """x and y, for sums of bits of cells."""
-        if x < 2 or y < 2 or x == y:
-            return self.and_(x, y)
-        linear, p = 0, 0
-        if x & 1:
-            linear = self.xor(linear, y & ~1)
-        if y & 1:
-            linear = self.xor(linear, x & ~1)
-        linear ^= x & y & 1
-        for a in self.linear_part(x):
-            for b in self.linear_part(y):
-                if a == b:
-                    linear = self.xor(linear, self.bit(a[0], LINEAR[a[2]], a[1]))
-                else:
-                    p ^= 1 << self.pairs.setdefault((a, b) if a < b else (b, a), len(self.pairs))
-        return self.product_bit(linear, p)
+    def dot(self, xs, ys):
+        """The sum of the products x and y, for sums of bits of cells."""
+        linear, p, code = 0, 0, 0
+        for x, y in zip(xs, ys):
+            if x < 2 or y < 2 or x == y:
+                linear = self.xor(linear, self.and_(x, y))
+                continue
+            if x & 1:
+                linear = self.xor(linear, y & ~1)
+            if y & 1:
+                linear = self.xor(linear, x & ~1)
+            linear ^= x & y & 1
+            for a in self.linear_part(x):
+                for b in self.linear_part(y):
+                    if a == b:
+                        linear = self.xor(linear, self.bit(a[0], LINEAR[a[2]], a[1]))
+                    else:
+                        k, c = self.pair(a, b)
+                        p, code = p ^ 1 << k, code ^ c
+        return self.product_bit(linear, p, code)
 
     def bilinear_lookup(self, table, index):
         """table[index] if the table of 16 bytes is linear: the sum of the entries at powers of two whose bit is set."""
@@ -274,7 +314,7 @@ class Domain:
                 self.linear_tables.add(table)
             out = 0
             for i in range(4):
-                out = self.xor_byte(out, self.pack([self.product(index[i], b) for b in self.bits(table[1 << i])]))
+                out = self.xor_byte(out, self.pack([self.dot([index[i]], [b]) for b in self.bits(table[1 << i])]))
             self.lookups[key] = out
         return out
 
@@ -337,8 +377,8 @@ class Domain:
         return out
 
     def single(self, n):
-        """The ways to write form n as a function of one cell, {cell: table}: as it is, by a name, or as a function of a named
-        cell plus a sum that has the same name."""
+        """The ways to write form n as a function of one cell, {cell: table}: as it is, by a name, or as a function of a
+        named cell plus a sum that has the same name."""
         ways = self.alike.get(n)
         if ways is None:
             form = self.forms[n]
@@ -400,8 +440,7 @@ class Domain:
             c = self.lookups[key] = self.affine(*key)
         if c is None:
             cell, tables = self.common(key[1])
-            c = self.lookups[key] = self.byte_of_cell(
-                cell, 0, [table[sum((t >> v & 1) << i for i, t in enumerate(tables))] for v in range(256)])
+            c = self.lookups[key] = self.byte_of_cell(cell, 0, looked_up(table, tuple(tables)))
         return self.byte_in_block(c, block)
 
     def affine(self, table, index):

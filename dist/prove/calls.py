@@ -1,368 +1,223 @@
-"""What each call of the AES library has to do, and how that is proved: in two steps, as the calls share the struct.
+"""How one call is proved: what it is given, what it has to leave, and what may be left of it on the stack.
 
-set_key is run on a key of symbolic bytes. Each bit that it stores turns out as a sum of bits of one byte of a round key, or of
-its InvMixColumns. The other calls then start from a struct of these sums over round keys that are arbitrary bytes. So they are
-proved for any round keys, and thus for those of any key."""
-from bits import DATA, KEY, PUBLIC, Domain, Unproved
-from machine import Pause, Pointer, Region
+A statement is a Call, written like the call in C: its arguments are numbers and Buffers, and each Buffer says what it
+has to hold when the call returns. A Buffer that says nothing may only be read. So "writes nothing but what it says" is
+part of each statement."""
+from bits import DATA, KEY, LOST, Pause, Unproved
+from machine import Pointer, Region
 from native import Native
-from standards import Aes
 
-STACK = 16384  # FOTSGURE_AES_STACK
-STRUCT = 484   # sizeof(struct fotsgure_aes)
-DONE, KEY_LENGTH, NO_KEY, UNEQUAL_COUNTS, KEYSTREAM_END, INVALID_COUNT, REFUSED = range(7)
-
-
-def machine(d, program, call, regions, arguments):
-    """A machine at the first instruction of a call."""
-    stack = Region([d.undefined] * (STACK + 8 * 16), align=16)
-    return program.machine(d, program, dict(regions, stack=stack), program.symbols["fotsgure_" + call], arguments)
+STACK = 16384  # FOTSGURE_AES_STACK and FOTSGURE_GCM_STACK
+KINDS = "key", "inner", "plain", "step", "keystream", "result", "data"  # of what is left; see `kind`
+MAY_STAY = KINDS[3:]  # on the stack
+ANY = "any"    # for a Buffer of which something else is asked than bytes
 
 
-def ways(prove):
-    """Proves a call for all answers to the questions how far its buffers are apart."""
+class Buffer:
+    """An argument that points to bytes: what they are, and what they have to be after the call."""
+
+    def __init__(self, name, content, after=None, secret=False):
+        """`secret`: what it holds after the call is as secret as the key."""
+        self.name, self.content, self.after, self.secret = name, content, after, secret
+
+
+class Call:
+    """`status` is what the call returns, in `size` bytes. `steps` are for calls in which each step depends on the last
+    one (see step_by_step). `reveals` are bytes that are all zero if a wrapped key or a tag is right; if they are not,
+    the call returns the status `refused`, and Buffers are what `refused_after` says by their names, or what they were.
+    `assumes` are bytes of public data that are not all zero. `later` turns bytes of the key's own domain into those of
+    arbitrary round keys, for a call that expands a key (see aes.py). `keystream` is what is added to the data, and
+    `plain` what is secret of the data and the results; `may_stay` are kinds of what may be left besides."""
+
+    def __init__(self, name, arguments, status, size=4, steps=None, reveals=None, refused=None, refused_after=None, assumes=None,
+                 later=None, counter=None, keystream=(), plain=(), may_stay=()):
+        self.name, self.arguments, self.status, self.size, self.steps = name, arguments, status, size, steps
+        self.reveals, self.refused, self.refused_after = reveals, refused, refused_after or {}
+        self.assumes, self.later, self.counter = assumes, later, counter
+        self.keystream, self.plain, self.may_stay = keystream, plain, may_stay
+        self.buffers = [a for a in arguments if isinstance(a, Buffer)]
+
+
+def prove(domain, program, call, seed=None):
+    """Proves a call for all answers to the questions that its branches ask: how far its buffers are apart, and whether
+    a wrapped key or a tag is right. With a seed, for one key and data, on the processor too. The result is the machine
+    after the call."""
     choices = []
     while True:
-        m, results = prove(choices)
-        leftover(m, results)
+        m = attempt(domain, program, call, choices, seed)
         answers = list(m.placed.values())
         while answers and answers[-1]:
             answers.pop()
-        if not answers:
-            return m, results
+        if not answers or seed is not None:
+            return m
         choices = answers[:-1] + [1]
 
 
-def run(m, status, native=None, after=None):
-    """Runs a call, and `after` after each instruction; with a seed, beside the processor."""
-    m.native = Native(m, native) if native is not None else None
+def attempt(domain, program, call, choices, seed, strict=True):
+    regions = {b.name: Region(b.content, b.after is not None) for b in call.buffers}
+    regions["stack"] = Region([domain.undefined] * (STACK + 128), align=16)
+    arguments = [Pointer(a.name, 0) if isinstance(a, Buffer) else a for a in call.arguments]
+    m = program.machine(domain, program, regions, program.symbols["fotsgure_" + call.name], arguments)
+    m.choices, m.may_reveal = choices, call.reveals is not None
+    m.assumed = call.assumes
+    if call.counter:
+        m.wraps, m.wrap = call.counter.word, call.counter.wrap
+    m.native = Native(m, seed, call.counter) if seed is not None else None
     try:
-        watches = [f for f in (m.native and m.native.watch, after) if f]
-        m.run(watches)
+        watches = [f for f in (m.native and m.native.watch, call.steps and step_by_step(call.steps())) if f]
+        run(m, call, watches)
         if m.native:
             m.native.finish()
     finally:
         if m.native:
             m.native.close()
-    if status is not None and m.returned(4) != status:
-        raise Unproved("returns %s and not %s" % (m.returned(4), status))
+    check(m, call)
+    if strict:
+        nothing_secret(m, call)
     return m
 
 
+def run(m, call, watches):
+    try:
+        m.run(watches)
+    except Pause:
+        if not call.later:
+            raise
+        call.later(m)
+        m.run(watches)
+
+
+def check(m, call):
+    """Compares what the call returned and wrote with its statement."""
+    right = True
+    if call.reveals is not None:
+        question = m.zero_flag(call.reveals)
+        if [q for q in m.placed if q[0] == "zero"] != [question]:
+            raise Unproved("reveals something else than whether the key or the tag is right")
+        right = m.placed[question]
+    status = call.status if right else call.refused
+    if status is not None and m.returned(call.size) != status:
+        raise Unproved("returns %s and not %s" % (m.returned(call.size), status))
+    m.results = []
+    for buffer in call.buffers:
+        want = buffer.after if right else call.refused_after.get(buffer.name, buffer.content)
+        if buffer.after is not None and want is not ANY:
+            compare(m.domain, m.regions[buffer.name].content, want, buffer.name)
+            if not buffer.secret:
+                m.results += [b for b in want if b is not None]
+    m.left = left(m, call)
+
+
+def nothing_secret(m, call):
+    for place, k in m.left:
+        if place == "stack" and k not in MAY_STAY + call.may_stay:
+            where = m.left[place, k]
+            raise Unproved("leaves %d bytes on the stack (%s), from %d to %d of the stack pointer" % (len(where), k, where[0], where[-1]))
+
+
+def compare(domain, have, want, what):
+    if len(have) != len(want):
+        raise Unproved("%s has %d bytes and not %d" % (what, len(have), len(want)))
+    for i, (x, y) in enumerate(zip(have, want)):
+        if y is not None and x != y and not (x > 255 and y > 255 and domain.bits_of[x] == domain.bits_of[y] is not None):
+            raise Unproved("byte %d of %s is %s and not %s" % (i, what, domain.describe(x), domain.describe(y)))
+
+
 def step_by_step(steps):
-    """For calls in which each step depends on the last one. `steps` yields triples of where a result is looked for, what it has to
-    be, and other bytes, which are arbitrary. When the result is there, these bytes take its place everywhere. "hash" is looked for
-    in vector registers, or as two words in either order of bytes; products of bits are then forgotten: what still depends on them is
-    lost, and may only be left over. "vector" is looked for in vector registers; another name is that of a region."""
+    """A watch for calls in which each step depends on the last one. `steps` yields triples of where a result is looked
+    for, what it has to be, and other bytes, which are arbitrary. When the result is there, these bytes take its place
+    everywhere, so what is proved from there on holds for any. "hash" is looked for in vector registers, or as two words
+    in either order of bytes; products of bits are then forgotten: what still depends on them is lost, and may not even
+    be left. "vector" is looked for in vector registers, "block" in any
+    region; another name is that of a region."""
     now = [next(steps, None)]
 
-    def after(m):
-        if not now[0]:
-            return
-        where, want, new = now[0]
-        if where in m.regions:
-            found = m.regions[where].content[-1] == want[-1] and m.regions[where].content == want
-        else:
-            found = any(v[0] == want[0] and v[:16] == want for v in m.vectors)
-            if not found and where == "hash":
-                words = [list(v) for v in m.general.values() if isinstance(v, tuple) and len(v) == 8 and not isinstance(v, Pointer)]
-                high, low = want[:8], want[8:]
-                found = high[::-1] in words and low[::-1] in words or high in words and low in words
-        if found:
-            replaced, lost = {x: y for x, y in zip(want, new) if x > 255}, None
+    def watch(m):
+        if now[0] and found(m, *now[0][:2]):
+            where, want, new = now[0]
+            replaced, lost = {}, None
+            for x, y in zip(want, new):
+                if x > 255:
+                    if replaced.setdefault(x, y) != y:
+                        raise Unproved("a byte of a result comes twice")
+                    if m.domain.symbolic(y):
+                        cell, block = m.domain.cell_of(y)
+                        m.origins[cell, block] = depends(m, x) | m.domain.depends[cell]
             if where == "hash":
-                lost = m.domain.opaque("was a product")
+                lost = m.domain.opaque(LOST)
                 m.lost.add(lost)
-            m.replace_bytes(lambda b: replaced.get(b) or (lost if lost and m.domain.has_product(b) else b), m.domain, replaced.items())
+            m.replace_bytes(lambda b: replaced[b] if b in replaced else lost if lost and m.domain.has_product(b) else b, m.domain,
+                            replaced.items())
             if where == "hash":
                 m.domain.forget_products()
             now[0] = next(steps, None)
-    return after
+    return watch
 
 
-def compare(d, have, want, what):
-    for i, (x, y) in enumerate(zip(have, want)):
-        if x != y:
-            raise Unproved("byte %d of %s is %s and not %s" % (i, what, d.describe(x), d.describe(y)))
+def found(m, where, want):
+    if where in m.regions:
+        content = m.regions[where].content
+        return content[-1] == want[-1] and content == want
+    if where == "block":
+        return any(want == region.content[k:k + 16] for region in m.regions.values() for k in range(0, len(region.content) - 15, 8))
+    if any(v[0] == want[0] and v[:16] == want for v in m.vectors):
+        return True
+    if where != "hash":
+        return False
+    words = [list(v) for v in m.general.values() if type(v) is tuple and len(v) == 8]
+    high, low = want[:8], want[8:]
+    return high[::-1] in words and low[::-1] in words or high in words and low in words
 
 
-def leftover(m, results=()):
-    """What depends on the key or on data after a call, in the dead stack and in registers, in bytes, by the bits that they have: of
-    the "key" alone, of "data" alone, of the "result", and "inner" ones of both."""
-    d, out = m.domain, {}
-    known = {x & ~1 for b in results if b >= 256 for x in d.bits(b)}
-    places = [("stack", b) for b in m.regions["stack"].content[:m.top]]
-    places += [("registers", b) for v in m.general.values() for b in m.to_bytes(v, 8)] + [("registers", b) for v in m.vectors for b in v]
-    for place, b in places:
-        kinds = {"key"} if b in m.lost else set()
-        if d.symbolic(b):
-            for x in d.bits(b):
-                on = d.depends_on(x) if x & ~1 not in known else "result"
-                kinds.add({0: None, KEY: "key", DATA: "data", PUBLIC: None, DATA | PUBLIC: "data", "result": on}.get(on, "inner"))
-        for kind in ("key", "inner", "result", "data"):
-            if kind in kinds:
-                out[place, kind] = out.get((place, kind), 0) + 1
-                break
-    if ("stack", "key") in out:
-        raise Unproved("leaves %d bytes that depend on the key alone on the stack" % out["stack", "key"])
+# What is left.
+def depends(m, byte):
+    """What a byte depends on; of a byte that took the place of a result, what that depended on."""
+    domain, out = m.domain, 0
+    for x in domain.bits(byte):
+        out |= depends_bit(m, x)
     return out
 
 
-class Keyed:
-    """One build and one key size."""
+def depends_bit(m, x, origins=True):
+    domain, out = m.domain, 0
+    for block, n in domain.parts(x):
+        for c, _ in domain.forms[n]:
+            place = c, block if domain.of_block[c] else 0
+            out |= m.origins[place] if origins and place in m.origins else domain.depends[c]
+    return out
 
-    def __init__(self, program, key_size):
-        self.program, self.key_size = program, key_size
-        d = self.key_domain = Domain()
-        e = self.d = Domain()
-        aes, self.aes = Aes(d), Aes(e)
-        self.key_aes = aes
-        self.key = [d.fresh("key[%d]" % i, KEY) for i in range(key_size)]
-        w = aes.key_expansion(self.key)
-        self.key_words = w
-        self.w = [[e.fresh("w[%d][%d]" % (i, k), KEY) for k in range(4)] for i in range(len(w))]
-        # Names for all bytes of round keys and of their InvMixColumns, with what they are for any round keys.
-        self.meaning = {}
-        for r in range(len(w) // 4):
-            a, b = aes.round_key(w, r), self.aes.round_key(self.w, r)
-            for x, y in list(zip(a, b)) + list(zip(aes.inv_mix_columns(a), self.aes.inv_mix_columns(b))):
-                self.meaning[d.name(x, "round key byte")] = e.bits(y)
-        self.first = [e.fresh("byte %d" % i, DATA, True) for i in range(16)]
-        self.ciphers = {"encrypt": self.aes.cipher(self.first, self.w), "decrypt": self.aes.inv_cipher(self.first, self.w)}
 
-    # From the bytes that a key expansion makes to the same for any round keys.
-    def bit_for_any(self, x):
-        if x < 2:
-            return x
-        ways = [(c, t) for c, t in self.key_domain.single(x >> 9).items() if c in self.meaning]
-        if not ways:
-            raise Unproved("a stored bit is not a sum of bits of one byte of a round key or of its InvMixColumns")
-        cell, table = ways[0]
-        out = (table ^ x) & 1
-        linear = 0
-        for j in range(8):
-            if (table >> (1 << j) ^ table) & 1:
-                out = self.d.xor(out, self.meaning[cell][j])
-                linear ^= self.key_domain.linear[j]
-        if linear ^ table not in (0, self.key_domain.ones):
-            raise Unproved("a stored bit is not a linear function of a byte of a round key")
-        return out
+def kind(m, byte, names):
+    """What a byte that is left tells: of the "key" alone, "inner" values of the key and others, from which the key may
+    be computed, "plain" text, a block that the cipher gave in the midst of a mode ("step"), the "keystream", the call's
+    "result", or of "data" alone."""
+    if byte in m.lost:
+        return "key"
+    if not m.domain.symbolic(byte):
+        return None
+    kinds = set()
+    for x in m.domain.bits(byte):
+        on = depends_bit(m, x)
+        if on & KEY:
+            inner = "key" if on == KEY else "inner" if depends_bit(m, x, False) & KEY else "step"
+            kinds.add(names.get(x & ~1, inner))
+        elif on & DATA:
+            kinds.add(names.get(x & ~1, "data"))
+    return next((k for k in KINDS if k in kinds), None)
 
-    def byte_for_any(self, b):
-        return self.d.pack([self.bit_for_any(x) for x in self.key_domain.bits(b)])
 
-    def set_key(self, native=None):
-        d = self.key_domain
-        regions = {"aes": Region([d.undefined] * STRUCT), "key": Region(self.key, writable=False)}
-        m = machine(d, self.program, "aes_set_key", regions, [Pointer("aes", 0), Pointer("key", 0), self.key_size])
-        run(m, DONE, native)
-        self.struct = [self.byte_for_any(b) for b in m.regions["aes"].content]
-        if self.struct[:4] != [self.key_size, 0, 0, 0]:
-            raise Unproved("the struct has another length")
-        return m, []
-
-    def wipe(self, native=None):
-        m = machine(self.d, self.program, "aes_wipe", {"aes": Region(self.struct)}, [Pointer("aes", 0)])
-        run(m, None, native)
-        compare(self.d, m.regions["aes"].content, [0] * STRUCT, "the struct")
-        return m, []
-
-    # Blocks.
-    def content(self, count):
-        return [self.d.byte_in_block(x, b + 1) for b in range(count) for x in self.first]
-
-    def results(self, direction, count):
-        return [self.d.byte_in_block(x, b + 1) for b in range(count) for x in self.ciphers[direction]]
-
-    def blocks(self, direction, count, native=None):
-        regions = {"aes": Region(self.struct, writable=False), "blocks": Region(self.content(count))}
-        m = machine(self.d, self.program, "aes_" + direction + "_blocks", regions, [Pointer("aes", 0), Pointer("blocks", 0), count])
-        return self.blocks_done(run(m, DONE, native), direction, count, "blocks")
-
-    def blocks_done(self, m, direction, count, name):
-        results = self.results(direction, count)
-        compare(self.d, m.regions[name].content, results, "the result")
-        return m, results
-
-    def blocks_to(self, direction, count, native=None):
-        def prove(choices):
-            regions = {"aes": Region(self.struct, writable=False), "input": Region(self.content(count), writable=False),
-                       "output": Region([self.d.undefined] * 16 * count)}
-            m = machine(self.d, self.program, "aes_" + direction + "_blocks_to", regions,
-                        [Pointer("aes", 0), Pointer("input", 0), count, Pointer("output", 0), count])
-            m.choices = choices
-            return self.blocks_done(run(m, DONE, native), direction, count, "output")
-        return prove([]) if native is not None else ways(prove)
-
-    def blocks_with(self, direction, count, native=None):
-        """The key is expanded in the same call: at the first access of a block, what was made of the key becomes the same of any
-        round keys."""
-        d, e = self.key_domain, self.d
-        regions = {"key": Region(self.key, writable=False), "blocks": Region([e.undefined] * 16 * count, guarded=True)}
-        m = machine(d, self.program, "aes_" + direction + "_blocks_with", regions,
-                    [Pointer("key", 0), self.key_size, Pointer("blocks", 0), count])
-        try:
-            m.run()
-            raise Unproved("touches no block")
-        except Pause:
-            pass
-        m.regions["blocks"] = Region([])
-
-        def convert(b):
-            if b < 256:
-                return b
-            if d.bits_of[b] is None:
-                return e.opaque(d.opaque_of[b])
-            try:
-                return self.byte_for_any(b)
-            except Unproved:
-                lost = e.opaque("was made of the key")
-                m.lost.add(lost)
-                return lost
-        m.replace_bytes(convert, e)
-        m.regions["blocks"] = Region(self.content(count))
-        return self.blocks_done(run(m, DONE), direction, count, "blocks")
-
-    # Counter mode (SP 800-38A, 6.5). The counter is a number of 128 bits that the caller chooses: its halves are words of unknown
-    # value. The low one wraps around from block `wrap` on, or not within the call; the high half is then another unknown word.
-    def counter_mode(self, position, count, to=False, wrap=None, native=None):
-        d, first = self.d, position // 16
-        wrap = wrap if wrap is not None else 1 << 64
-        if not hasattr(self, "counter"):
-            high = [[d.fresh("counter byte %d" % (i + k), PUBLIC) for i in range(8)] for k in (0, 16)]
-            low = [d.fresh("counter byte %d" % i, PUBLIC, True) for i in range(8, 16)]
-            self.counter = high, low, [self.aes.cipher(h + low, self.w) for h in high]
-            self.data = [d.fresh("data byte %d" % i, DATA, True) for i in range(16)]
-            d.words["counter high"] = lambda offset, k: d.bits(high[offset][7 - k])
-        high, low, streams = self.counter
-        name = "counter low, from %d" % first
-        d.words[name] = lambda offset, k: d.bits(d.byte_in_block(low[7 - k], offset - first + 1))
-        iv = [b for base in ("counter high", name) for b in [d.opaque((Pointer(base, 0), k)) for k in range(8)][::-1]]
-        places = [((position + t) // 16 - first + 1, (position + t) % 16) for t in range(count)]
-        data = [d.byte_in_block(self.data[i], b) for b, i in places]
-        want = [d.xor_byte(x, d.byte_in_block(streams[b - 1 + first >= wrap][i], b)) for x, (b, i) in zip(data, places)]
-
-        def prove(choices):
-            regions = {"aes": Region(self.struct, writable=False), "ctr": Region(iv + list(position.to_bytes(8, "little"))),
-                       "data": Region(data, writable=not to)}
-            arguments = [Pointer("aes", 0), Pointer("ctr", 0), Pointer("data", 0), count]
-            if to:
-                regions["output"] = Region([d.undefined] * count)
-                arguments += [Pointer("output", 0), count]
-            m = machine(d, self.program, "aes_add_keystream" + "_to" * to, regions, arguments)
-            m.choices, m.counter, m.wraps, m.wrap = choices, (name, first), name, wrap
-            run(m, DONE, native)
-            compare(d, m.regions["output" if to else "data"].content, want, "the result")
-            compare(d, m.regions["ctr"].content, iv + list((position + count).to_bytes(8, "little")), "the counter")
-            return m, want
-        return prove([]) if native is not None else ways(prove)
-
-    # Calls that are refused: nothing but the status changes.
-    def refused(self, native=None):
-        d, data = self.d, self.content(2)
-        blocks = lambda struct: {"aes": Region(struct), "blocks": Region(data)}
-        for length in [0, 1, 8, 15, 17, 23, 25, 31, 33, 64, 255, 256, 272, 2 ** 31, 2 ** 32 - 1]:
-            struct = list(length.to_bytes(4, "little")) + self.struct[4:]
-            for call in ("encrypt_blocks", "decrypt_blocks"):
-                m = machine(d, self.program, "aes_" + call, blocks(struct), [Pointer("aes", 0), Pointer("blocks", 0), 2])
-                run(m, NO_KEY, native)
-                compare(d, m.regions["blocks"].content, data, "the blocks")
-            if length not in (16, 24, 32):
-                regions = {"aes": Region(self.struct), "key": Region(self.key, writable=False)}
-                m = machine(self.key_domain, self.program, "aes_set_key", regions, [Pointer("aes", 0), Pointer("key", 0), length])
-                run(m, KEY_LENGTH, native)
-                compare(d, m.regions["aes"].content, [0] * STRUCT, "the struct")
-        for call in ("encrypt_blocks_to", "decrypt_blocks_to"):
-            regions = dict(blocks(self.struct), output=Region(data))
-            m = machine(d, self.program, "aes_" + call, regions, [Pointer("aes", 0), Pointer("blocks", 0), 2, Pointer("output", 0), 1])
-            run(m, UNEQUAL_COUNTS, native)
-            compare(d, m.regions["output"].content, data, "the output")
-        return m, []
-
-    # CBC (SP 800-38A, 6.2).
-    def previous(self):
-        if not hasattr(self, "previous_bytes"):
-            self.previous_bytes = [self.d.fresh("previous byte %d" % i, DATA) for i in range(16)]
-        return self.previous_bytes
-
-    def cbc_decrypt(self, count, native=None):
-        d, content = self.d, self.content(count)
-        want = [d.xor_byte(x, y) for x, y in zip(self.results("decrypt", count), self.previous() + content)]
-        regions = {"aes": Region(self.struct, writable=False), "cbc": Region(self.previous()), "blocks": Region(content)}
-        m = machine(d, self.program, "aes_cbc_decrypt", regions, [Pointer("aes", 0), Pointer("cbc", 0), Pointer("blocks", 0), count])
-        run(m, DONE, native)
-        compare(d, m.regions["blocks"].content, want, "the result")
-        compare(d, m.regions["cbc"].content, content[-16:], "the chain")
-        return m, want
-
-    def cbc_encrypt(self, count, native=None):
-        """After each block the encrypted block, which is what it should be, becomes an arbitrary one."""
-        d = self.d
-        if not hasattr(self, "chain"):
-            self.chain = [d.fresh("chain byte %d" % i, DATA, True) for i in range(16)]
-            self.chained = self.aes.cipher([d.xor_byte(x, y) for x, y in zip(self.first, self.chain)], self.w)
-        of = lambda bytes_, b: [d.byte_in_block(x, b) for x in bytes_]
-        regions = {"aes": Region(self.struct, writable=False), "cbc": Region(of(self.chain, 1)),
-                   "blocks": Region(self.content(count))}
-        m = machine(d, self.program, "aes_cbc_encrypt", regions, [Pointer("aes", 0), Pointer("cbc", 0), Pointer("blocks", 0), count])
-        steps = (("vector", of(self.chained, b + 1), of(self.chain, b + 2)) for b in range(count))
-        run(m, DONE, native, step_by_step(steps))
-        results = [x for b in range(count) for x in of(self.chain, b + 2)]
-        compare(d, m.regions["blocks"].content, results, "the result")
-        compare(d, m.regions["cbc"].content, results[-16:], "the chain")
-        return m, results
-
-    # Key wrap (SP 800-38F, 6.1 and 6.2). In step t, the block A ^ [t] or A, with a semiblock R, is named as bytes of block t.
-    def number(self, t):
-        return list(t.to_bytes(8, "big"))
-
-    def wrap(self, count, native=None):
-        d, first = self.d, self.first
-        of = lambda bytes_, b: [d.byte_in_block(x, b) for x in bytes_]
-        xor = self.aes.xor
-        if not hasattr(self, "first_wrap"):
-            self.first_wrap = self.aes.cipher([0xa6] * 8 + first[8:], self.w)  # ICV1
-        key = [x for i in range(count) for x in of(first[8:], i + 1)]
-        steps = []
-        for t in range(1, 6 * count + 1):  # algorithm 1: A and the semiblock that comes next in the turn
-            b = of(self.first_wrap if t == 1 else self.ciphers["encrypt"], t)
-            steps.append(("vector", b, xor(of(first[:8], t + 1), self.number(t)) + of(first[8:], t + count)))
-        want = of(first[:8], 6 * count + 1) + [x for i in range(count) for x in of(first[8:], 6 * count + i + 1)]
-
-        def prove(choices):
-            regions = {"aes": Region(self.struct, writable=False), "input": Region(key, writable=False),
-                       "output": Region([d.undefined] * (8 * count + 8))}
-            m = machine(d, self.program, "aes_wrap", regions, [Pointer("aes", 0), Pointer("input", 0), count, Pointer("output", 0), count + 1])
-            m.choices = choices
-            run(m, DONE, native, step_by_step(iter(steps)))
-            compare(d, m.regions["output"].content, want, "the result")
-            return m, want
-        return prove([]) if native is not None else ways(prove)
-
-    def unwrap(self, count, native=None):
-        """`count` semiblocks are unwrapped to one less. Whether the key is right is the only thing that a branch tells."""
-        d, first, n = self.d, self.first, count - 1
-        of = lambda bytes_, b: [d.byte_in_block(x, b) for x in bytes_]
-        xor = self.aes.xor
-        wrapped = xor(of(first[:8], 1), self.number(6 * n)) + [x for i in range(n) for x in of(first[8:], n - i)]
-        steps = []
-        for k in range(1, 6 * n + 1):  # algorithm 2, with t = 6n + 1 - k
-            b = of(self.ciphers["decrypt"], k)
-            steps.append(("vector", b, xor(of(first[:8], k + 1), self.number(6 * n - k)) + of(first[8:], k + n)))
-        key = [x for i in range(n) for x in of(first[8:], 7 * n - i)]
-        right = ("zero",) + tuple(xor(of(first[:8], 6 * n + 1), [0xa6] * 8))
-
-        def prove(choices):
-            regions = {"aes": Region(self.struct, writable=False), "input": Region(wrapped, writable=False),
-                       "output": Region([d.undefined] * 8 * n)}
-            m = machine(d, self.program, "aes_unwrap", regions, [Pointer("aes", 0), Pointer("input", 0), count, Pointer("output", 0), n])
-            m.choices, m.may_reveal = choices, True
-            run(m, None, native, step_by_step(iter(steps)))
-            revealed = [f for f in m.placed if f[0] == "zero"]
-            if revealed != [right]:
-                raise Unproved("reveals something else than whether the key is right")
-            if m.returned(4) != (DONE if m.placed[right] else REFUSED):
-                raise Unproved("another status")
-            compare(d, m.regions["output"].content, key if m.placed[right] else [0] * 8 * n, "the result")
-            return m, key
-        return prove([]) if native is not None else ways(prove)
+def left(m, call):
+    """What is left of a call, in bytes: {(place, kind): [where]}, in the dead stack, by the offset from the stack
+    pointer at the call, and in registers."""
+    names = {}
+    for name, bytes_ in ("result", m.results), ("plain", call.plain), ("keystream", call.keystream):
+        names.update({x & ~1: name for b in bytes_ if m.domain.symbolic(b) for x in m.domain.bits(b)})
+    places = [("stack", k - m.top, b) for k, b in enumerate(m.regions["stack"].content[:m.top])]
+    places += [("registers", r, b) for r, v in m.general.items() for b in m.to_bytes(v, 8)]
+    places += [("registers", "vector %d" % n, b) for n, v in enumerate(m.vectors) for b in v]
+    out = {}
+    for place, where, b in places:
+        k = kind(m, b, names)
+        if k:
+            out.setdefault((place, k), []).append(where)
+    return out

@@ -1,97 +1,392 @@
-"""GCM (SP 800-38D): set_key and seal of the library fotsgure_gcm, with nonces of 12 bytes."""
-from bits import DATA, KEY, PUBLIC
-from calls import DONE, Keyed, compare, machine, run, step_by_step
-from machine import Pointer, Region
-from standards import product
+"""The statement for each call of fotsgure_gcm.h (SP 800-38D), beside the sentence of the header that it proves.
 
-STRUCT = 1780
+H and its powers become arbitrary blocks when set_key has made them, and so does each value of GHASH when a call has
+made it. A call on a message that comes in pieces is proved from any state of the message: whatever value of GHASH and
+whatever part of a block came before."""
+from collections import namedtuple
+
+from aes import DONE, Keyed
+from bits import DATA, KEY, PUBLIC
+from calls import ANY, Buffer, Call, compare, prove
+from machine import Pointer
+from standards import number, product
+
+STATUSES = "DONE KEY_LENGTH NO_KEY NONCE_LENGTH TAG_LENGTH TOO_LONG REFUSED NONCES_END OUT_OF_TURN".split()
+_, KEY_LENGTH, NO_KEY, NONCE_LENGTH, TAG_LENGTH, TOO_LONG, REFUSED, NONCES_END, OUT_OF_TURN = range(9)
+STRUCTS = {"fotsgure_gcm": (1780, {"key_length": 0, "round_keys": 4, "multiples": 244}),
+           "fotsgure_gcm_counter": (12, {"next": 0}),
+           "fotsgure_gcm_message": (80, {"additional": 0, "text": 8, "decrypted": 16, "phase": 24, "first": 32,
+                                         "value": 48, "rest": 64})}
+STRUCT, MESSAGE = 1780, 80
+NONE, ADDITIONAL, ENCRYPTING, VERIFYING, DECRYPTING = range(5)  # phases of a message
+MOST, MOST_ADDITIONAL = 2 ** 36 - 32, 2 ** 61 - 1
+ZEROS = [0] * 16
+
+
+def padded(b):
+    """Blocks, the last one filled up with zeros."""
+    return [(b + ZEROS)[i:i + 16] for i in range(0, len(b), 16)]
+
+
+def threes(blocks, end=()):
+    """The groups of blocks whose products with powers of H are added at once; `end` comes into the last one if it has
+    room."""
+    groups = [blocks[i:i + 3] for i in range(0, len(blocks), 3)]
+    if end and blocks and len(groups[-1]) < 3:
+        groups[-1] = groups[-1] + [end]
+    elif end:
+        groups.append([end])
+    return groups
+
+
+class Hashing:
+    """GHASH (6.4) from a value on, group by group; each value that depends on the key becomes an arbitrary block."""
+
+    def __init__(self, keyed, value, made=0):
+        self.keyed, self.value, self.plan, self.made = keyed, value, [], made
+
+    def take(self, groups):
+        for group in groups:
+            if any(self.value) or any(map(any, group)):
+                self.made += 1
+                after = self.keyed.of(self.keyed.hash_value, self.made)
+                self.plan.append((self.value, group, after))
+                self.value = after
+        return self
+
+    def end_as(self, block):
+        """The last value becomes this block."""
+        self.plan[-1] = *self.plan[-1][:2], block
+        return self
+
+    def steps(self, begin=0, end=None):
+        """(Y + X_1) H^m + X_2 H^(m-1) + .. + X_m H"""
+        keyed = self.keyed
+        for value, group, after in self.plan[begin:end]:
+            total = ZEROS
+            for i, x in enumerate(group):
+                x = keyed.aes.xor(value, x) if i == 0 else x
+                total = keyed.aes.xor(total, product(keyed.domain, x, keyed.powers[len(group) - 1 - i]))
+            yield "hash", total, after
+
+
+# J_0: twelve bytes and the number that its last four are; how GHASH makes it of a nonce of another length; the
+# arguments of a call.
+PreCounter = namedtuple("PreCounter", "bytes counter hashing arguments")
 
 
 class KeyedGcm(Keyed):
-    def set_key(self, native=None):
-        """H and its powers become arbitrary blocks when they are made, each being what it should be."""
-        d, e = self.key_domain, self.d
-        h = self.key_aes.cipher([0] * 16, self.key_words)
-        self.p = [[d.fresh("H^%d byte %d" % (n, i), KEY) for i in range(16)] for n in (1, 2, 3)]
+    library = "gcm"
+
+    def __init__(self, program, key_size):
+        super().__init__(program, key_size)
+        d = self.domain
+        self.powers = [[d.fresh("H^%d byte %d" % (n, i), KEY) for i in range(16)] for n in (1, 2, 3)]
+        self.nonce = [d.fresh("nonce byte %d" % i, PUBLIC) for i in range(12)]
+        self.pre_counter = [d.fresh("J_0 byte %d" % i, KEY | PUBLIC) for i in range(12)]
+        block = lambda name, depends: [d.fresh("%s byte %d" % (name, i), depends, True) for i in range(16)]
+        self.text, self.sealed, self.more, self.tag = (block(name, DATA) for name in ("text", "encrypted", "additional", "tag"))
+        self.hash_value, self.rest = block("hash", KEY | DATA), block("rest", KEY | DATA)
+        self.long_nonce = block("long nonce", PUBLIC)
+
+    def many(self, bytes_, count, start=0):
+        """`count` bytes, in blocks from the place `start` on."""
+        return [self.domain.byte_in_block(bytes_[i % 16], i // 16 + 1) for i in range(start, start + count)]
+
+    # The struct.
+    def set_key(self, seed=None):
+        """Prepares a key in *gcm (KeyExpansion, FIPS 197, 5.2; H, SP 800-38D, 7.1). *gcm may be uninitialized: none of
+        it is read. Nothing of what it held is left. DONE if key_length is 16, 24 or 32"""
+        d, e = self.key_domain, self.domain
+        h = self.key_aes.cipher(ZEROS, self.key_words)
+        p = [[d.fresh("H^%d byte %d" % (n, i), KEY) for i in range(16)] for n in (1, 2, 3)]
 
         def steps():
-            yield "hash", h, self.p[0]
+            yield "hash", h, p[0]
             for n in (0, 1):
-                yield "hash", product(d, self.p[n], self.p[0]), self.p[n + 1]
-        regions = {"gcm": Region([d.undefined] * STRUCT), "key": Region(self.key, writable=False)}
-        m = machine(d, self.program, "gcm_set_key", regions, [Pointer("gcm", 0), Pointer("key", 0), self.key_size])
-        run(m, DONE, native, step_by_step(steps()))
-        self.q = [[e.fresh("H^%d byte %d" % (n, i), KEY) for i in range(16)] for n in (1, 2, 3)]
-        meaning = {d.forms[d.bits(b)[0] >> 9][0][0]: e.bits(c) for p, q in zip(self.p, self.q) for b, c in zip(p, q)}
+                yield "hash", product(d, p[n], p[0]), p[n + 1]
+        call = Call("gcm_set_key", [Buffer("gcm", [d.undefined] * STRUCT, ANY), Buffer("key", self.key), self.key_size], DONE, steps=steps)
+        m = prove(d, self.program, call, seed)
+        meaning = {d.cell_of(b)[0]: e.bits(c) for x, y in zip(p, self.powers) for b, c in zip(x, y)}
 
-        def transfer(x):
-            if x < 2:
-                return x
+        def transferred(x):
             out = x & 1
-            for c, block, j in d.linear_part(x):
+            for c, _, j in d.linear_part(x) if x > 1 else ():
                 out = e.xor(out, meaning[c][j])
             return out
         content = m.regions["gcm"].content
-        self.struct = [self.byte_for_any(b) for b in content[:244]] + [e.pack([transfer(x) for x in d.bits(b)]) for b in content[244:]]
-        return m, []
+        self.struct = [self.byte_for_any(b) for b in content[:244]]
+        self.struct += [e.pack([transferred(x) for x in d.bits(b)]) for b in content[244:]]
+        fixed = self.struct[:4] + self.struct[4 + 4 * len(self.w):244]
+        compare(e, fixed, [self.key_size] + [0] * (len(fixed) - 1), "the length and what no round key takes")
+        return m
 
+    def set_key_refused(self, length):
+        """else KEY_LENGTH, and *gcm then is all zeros and holds no key."""
+        d = self.key_domain
+        return Call("gcm_set_key", [Buffer("gcm", [d.undefined] * STRUCT, [0] * STRUCT), Buffer("key", self.key), length], KEY_LENGTH)
 
-    def stream(self, i):
-        """The cipher of the counter block J_0 + i, for the symbolic nonce."""
-        if i not in self.streams:
-            self.streams[i] = self.aes.cipher(self.nonce + list((1 + i).to_bytes(4, "big")), self.w)
-        return self.streams[i]
+    def key_length(self):
+        """Returns how many bytes the key has: 16, 24 or 32"""
+        return Call("gcm_key_length", [self.schedule()], self.key_size, 8)
 
-    def seal(self, additional_length, text_length, native=None, batch=1):
-        d = self.d
-        if not hasattr(self, "nonce"):
-            self.nonce = [d.fresh("nonce byte %d" % i, PUBLIC) for i in range(12)]
-            self.text = [d.fresh("text byte %d" % i, DATA, True) for i in range(16)]
-            self.sealed = [d.fresh("encrypted byte %d" % i, DATA, True) for i in range(16)]
-            self.more = [d.fresh("additional byte %d" % i, DATA, True) for i in range(16)]
-            self.value = [d.fresh("hash byte %d" % i, DATA, True) for i in range(16)]
-            self.streams = {}
-        of = lambda bytes_, n: [d.byte_in_block(bytes_[i % 16], i // 16 + 1) for i in range(n)]
-        xor = self.aes.xor
-        additional, text = of(self.more, additional_length), of(self.text, text_length)
-        count = -(-text_length // 16)
-        for i in range(-(-count // batch) * batch):
-            self.stream(i + 1)
-        want_text = xor(text, [b for i in range(count) for b in self.stream(i + 1)])
-        sealed = of(self.sealed, text_length)
-        mask = self.stream(0)
-        # GHASH (6.4): the blocks, in the groups in which the library adds products with powers of H.
-        blocks = lambda b: [(b + [0] * 15)[i:i + 16] for i in range(0, len(b), 16)]
-        lengths = list((8 * additional_length).to_bytes(8, "big") + (8 * text_length).to_bytes(8, "big"))
-        groups = lambda b: [b[i:i + 3] for i in range(0, len(b), 3)]
-        hashed = groups(blocks(additional)) + groups(blocks(sealed))
-        if text_length and len(hashed[-1]) < 3:
-            hashed[-1] = hashed[-1] + [lengths]
+    def key_length_of_none(self):
+        """.. or 0 if *gcm holds no key."""
+        return Call("gcm_key_length", [self.no_key()], 0, 8)
+
+    def wipe(self):
+        """Overwrites *gcm with zeros: it then holds no key. It may be uninitialized."""
+        return Call("gcm_wipe", [Buffer("gcm", self.undefined(STRUCT), [0] * STRUCT)], None)
+
+    def wipe_message(self):
+        """Overwrites *message with zeros: there is no message then. It may be uninitialized."""
+        return Call("gcm_wipe_message", [Buffer("message", self.undefined(MESSAGE), [0] * MESSAGE)], None)
+
+    def schedule(self):
+        return Buffer("gcm", self.struct)
+
+    def no_key(self):
+        return Buffer("gcm", [0] * STRUCT)
+
+    # Nonces, counter blocks and texts.
+    def nonce_of(self, length=12, counter=1, before=()):
+        """A nonce of 12 bytes, or one of another length of which J_0 ends in this number, and in these bytes before
+        (7.1, step 2)."""
+        if length == 12:
+            return PreCounter(self.nonce, 1, Hashing(self, ZEROS), [Buffer("nonce", self.nonce), 12])
+        nonce = self.many(self.long_nonce, length)
+        hashing = Hashing(self, ZEROS).take(threes(padded(nonce)) + [[self.lengths(0, length)]])
+        bytes_ = self.pre_counter[:12 - len(before)] + list(before)
+        if before:  # a call may also encrypt the block that a counter of 64 bits would be next, and throw it away
+            carried = bytes_[:8] + number(int.from_bytes(bytes(before), "big") + 1, 4) + number(0, 4)
+            self.once(("stream", *carried), lambda: self.aes.cipher(carried, self.w))
+        hashing.end_as(bytes_ + number(counter, 4))
+        return PreCounter(bytes_, counter, hashing, [Buffer("nonce", nonce), length])
+
+    def counted(self, counter=None):
+        """The counter of nonces at a number, or at any whose low half has no carry; and what the call assumes of it."""
+        d = self.domain
+        if counter is not None:
+            nonce, after, assumes = number(counter, 12), number(counter + 1, 12), None
         else:
-            hashed.append([lengths])
+            d.words["nonce low"] = lambda offset, k: d.bits(self.nonce[11 - k]) if offset == 0 else None
+            nonce, after = (self.nonce[:4] + [d.opaque((Pointer("nonce low", n), k)) for k in range(8)][::-1] for n in (0, 1))
+            assumes = [d.xor_byte(b, 255) for b in self.nonce[4:]]
+        bytes_ = self.nonce if counter is None else nonce
+        buffers = [Buffer("counter", nonce, after), Buffer("nonce", self.undefined(12), nonce)]
+        return PreCounter(bytes_, 1, Hashing(self, ZEROS), buffers), assumes
 
-        self.last = [0] * 16
+    def stream(self, first, i):
+        """Cipher of the block J_0 + i, the last 32 bits being a number of their own (inc_32, 6.2)."""
+        block = first.bytes + number((first.counter + i) % 2 ** 32, 4)
+        return self.once(("stream", *block), lambda: self.aes.cipher(block, self.w))
+
+    def crypted(self, first, text, position=0):
+        """GCTR (6.5) of bytes of a text that begin at a position: added to the keystream, which begins at J_0 + 1."""
+        return [self.domain.xor_byte(b, self.stream(first, 1 + i // 16)[i % 16]) for i, b in enumerate(text, position)]
+
+    def streams(self, first, count, position=0):
+        """The blocks of keystream of so many bytes from a position on."""
+        blocks = range(1 + position // 16, 2 + (position + count) // 16)
+        return [b for i in blocks for b in self.stream(first, i)]
+
+    def lengths(self, additional, text):
+        return number(8 * additional, 8) + number(8 * text, 8)
+
+    # Whole messages.
+    def message_of(self, first, additional_length, text_length):
+        """Additional data, an encrypted text, and GHASH of both."""
+        additional, sealed = self.many(self.more, additional_length), self.many(self.sealed, text_length)
+        hashing = Hashing(self, ZEROS, first.hashing.made)
+        hashing.take(threes(padded(additional)) + threes(padded(sealed), self.lengths(additional_length, text_length)))
+        return Buffer("additional", additional), sealed, hashing
+
+    def seal(self, additional_length, text_length, first=None, name="gcm_seal", **more):
+        """Encrypts `text_length` bytes in place and writes the tag (7.1). .. A nonce may have any length from one byte
+        on. DONE"""
+        first = first or self.nonce_of()
+        additional, sealed, hashing = self.message_of(first, additional_length, text_length)
+        text = self.many(self.text, text_length)
 
         def steps():
-            if text_length:
-                yield "text", want_text, sealed
-            value = [0] * 16
-            for g, group in enumerate(hashed):
-                total, m = [0] * 16, len(group)
-                for i, x in enumerate(group):
-                    total = xor(total, product(d, xor(value, x) if i == 0 else x, self.q[m - 1 - i]))
-                if max(total) < 256:
-                    value = total
-                else:
-                    value = [d.byte_in_block(x, g + 1) for x in self.value]
-                    yield "hash", total, value
-                self.last = value
-        regions = {"gcm": Region(self.struct, writable=False), "nonce": Region(self.nonce, writable=False),
-                   "additional": Region(additional, writable=False), "text": Region(text), "tag": Region([d.undefined] * 16)}
-        m = machine(d, self.program, "gcm_seal", regions, [
-            Pointer("gcm", 0), Pointer("nonce", 0), 12, Pointer("additional", 0), additional_length, Pointer("text", 0), text_length,
-            Pointer("tag", 0)])
-        run(m, DONE, native, step_by_step(steps()))
-        compare(d, m.regions["text"].content, sealed, "the text")
-        compare(d, m.regions["tag"].content, xor(self.last, mask), "the tag")
-        return m, sealed
+            yield from first.hashing.steps()
+            if text:
+                yield "text", self.crypted(first, text), sealed
+            yield from hashing.steps()
+        tag = self.aes.xor(hashing.value, self.stream(first, 0))
+        return Call(name, [self.schedule(), *first.arguments, additional, additional_length, Buffer("text", text, sealed), text_length,
+                           Buffer("tag", self.undefined(16), tag)], DONE, steps=steps, keystream=self.streams(first, text_length),
+                    plain=text, **more)
+
+    def seal_next(self, additional_length, text_length, counter=None):
+        """The same under the counter's next nonce, which it writes to `nonce`; the counter then moves on by one. ..
+        DONE"""
+        first, assumes = self.counted(counter)
+        return self.seal(additional_length, text_length, first, "gcm_seal_next", assumes=assumes)
+
+    def open(self, additional_length, text_length, first=None):
+        """Decrypts `text_length` bytes in place if the tag is right (7.2). .. a text that is refused is, when the call
+        returns, as it was. .. REFUSED; else DONE."""
+        first = first or self.nonce_of()
+        additional, sealed, hashing = self.message_of(first, additional_length, text_length)
+        tag, right = self.of(self.tag, 0), self.aes.xor(hashing.value, self.stream(first, 0))
+
+        def steps():
+            yield from first.hashing.steps()
+            yield from hashing.steps()
+        text = Buffer("text", sealed, self.crypted(first, sealed))
+        return Call("gcm_open", [self.schedule(), *first.arguments, additional, additional_length, text, text_length,
+                                 Buffer("tag", tag), 16], DONE, steps=steps, reveals=self.aes.xor(tag, right), refused=REFUSED,
+                    keystream=self.streams(first, text_length), plain=text.after)
+
+    # Messages in pieces.
+    def state(self, phase, additional, text, decrypted=0, value=ZEROS, rest=ZEROS, first=None):
+        """struct fotsgure_gcm_message. A byte None may be anything."""
+        first = first or self.nonce_of()
+        counts = [b for n in (additional, text, decrypted, phase) for b in number(n, 8)[::-1]]
+        return counts + first.bytes + number(first.counter, 4) + value + rest
+
+    def message(self, before, after=None):
+        return Buffer("message", before, after, secret=True)
+
+    def any_state(self, phase, additional, text):
+        """A message of which so much has come, with any value of GHASH and any part of a block."""
+        hashing = Hashing(self, self.of(self.hash_value, 0))
+        return self.state(phase, additional, text, 0, hashing.value, self.of(self.rest, 0)), hashing
+
+    def absorbed(self, hashing, filled, piece):
+        """GHASH takes a piece, of which the first bytes fill up a block; the part of a block that is then left."""
+        rest = self.of(self.rest, 0)[:filled] + piece
+        if len(rest) >= 16:
+            whole = (len(rest) - 16) // 16 * 16 + 16
+            hashing.take([[rest[:16]]] + threes(padded(rest[16:whole])))
+            rest = rest[whole:]
+        return rest + [None] * (16 - len(rest))
+
+    def turned(self, hashing, phase, additional):
+        """The first text ends the additional data: zeros fill up its last block."""
+        if phase == ADDITIONAL and additional % 16:
+            hashing.take([padded(self.of(self.rest, 0)[:additional % 16])])
+
+    def begin(self, first=None, name="gcm_begin", **more):
+        """Begins a message under a nonce, which has any length. *message may be uninitialized .. and nothing of what it
+        held is left. .. DONE"""
+        first = first or self.nonce_of()
+        message = self.message(self.undefined(MESSAGE), self.state(ADDITIONAL, 0, 0, first=first))
+        return Call(name, [self.schedule(), message, *first.arguments], DONE, steps=first.hashing.steps, **more)
+
+    def begin_next(self, counter=None):
+        """The same under the counter's next nonce, which it writes to `nonce`; the counter then moves on by one. ..
+        DONE"""
+        first, assumes = self.counted(counter)
+        return self.begin(first, "gcm_begin_next", assumes=assumes)
+
+    def additional(self, before, count):
+        """Takes a piece of the additional data .. DONE"""
+        state, hashing = self.any_state(ADDITIONAL, before, 0)
+        piece = self.many(self.more, count)
+        rest = self.absorbed(hashing, before % 16, piece)
+        after = self.state(ADDITIONAL, before + count, 0, 0, hashing.value, rest)
+        return Call("gcm_additional", [self.schedule(), self.message(state, after), Buffer("additional", piece), count], DONE,
+                    steps=hashing.steps)
+
+    def piece(self, call, phase, additional, before, count):
+        """Encrypts a piece of the text in place. .. Takes a piece of an encrypted text whose tag is to be compared, and
+        writes nothing to it. .. Takes a piece as fotsgure_gcm_verify does, and decrypts it in place at once. .. DONE"""
+        first, (state, hashing) = self.nonce_of(), self.any_state(phase, additional, before)
+        text, sealed = (self.many(b, count, before % 16) for b in (self.text, self.sealed))
+        self.turned(hashing, phase, additional)
+        turned = len(hashing.plan)
+        filled = before % 16
+        rest = self.absorbed(hashing, filled, sealed)
+
+        def steps():
+            yield from hashing.steps(0, turned)
+            if call == "encrypt" and text:
+                yield "text", self.crypted(first, text, before), sealed
+            yield from hashing.steps(turned)
+        after = self.state(ENCRYPTING if call == "encrypt" else VERIFYING, additional, before + count, 0, hashing.value, rest)
+        texts = {"encrypt": (text, sealed), "verify": (sealed, None), "decrypt_unverified": (sealed, self.crypted(first, sealed, before))}
+        return Call("gcm_" + call, [self.schedule(), self.message(state, after), Buffer("text", *texts[call]), count], DONE, steps=steps,
+                    keystream=self.streams(first, count, before) if call != "verify" else (),
+                    plain=self.crypted(first, sealed, before) if call == "decrypt_unverified" else text)
+
+    def decrypt(self, text, before, count):
+        """Decrypts a piece in place of the encrypted text whose tag was right .. DONE"""
+        first, (state, hashing) = self.nonce_of(), self.any_state(DECRYPTING, 3, text)
+        sealed, rest = self.many(self.sealed, count, before % 16), self.of(self.rest, 0)
+        plain = self.crypted(first, sealed, before)
+        before_, after = (self.state(DECRYPTING, 3, text, n, hashing.value, rest) for n in (before, before + count))
+        return Call("gcm_decrypt", [self.schedule(), self.message(before_, after), Buffer("text", sealed, plain), count], DONE,
+                    keystream=self.streams(first, count, before), plain=plain)
+
+    def tag_of(self, phase, additional, text):
+        """A message in any state, and the tag of what has come of it."""
+        state, hashing = self.any_state(phase, additional, text)
+        filled = (additional if phase == ADDITIONAL else text) % 16
+        if filled:
+            hashing.take([[self.of(self.rest, 0)[:filled] + ZEROS[filled:]]])
+        hashing.take([[self.lengths(additional, text)]])
+        return state, hashing, self.aes.xor(hashing.value, self.stream(self.nonce_of(), 0))
+
+    def finish(self, phase, additional, text):
+        """Ends a message that was encrypted: writes its tag, and overwrites *message with zeros. .. DONE"""
+        state, hashing, tag = self.tag_of(phase, additional, text)
+        return Call("gcm_finish", [self.schedule(), self.message(state, [0] * MESSAGE), Buffer("tag", self.undefined(16), tag)], DONE,
+                    steps=hashing.steps)
+
+    def accept(self, phase, additional, text, length=None):
+        """Compares the tag of what has come, without an early exit. If it is right, the encrypted text may come once
+        more, to be decrypted. .. REFUSED; else DONE. With a length: Compares a tag of fewer than 16 bytes in the place
+        of fotsgure_gcm_accept"""
+        state, hashing, right = self.tag_of(phase, additional, text)
+        tag = self.of(self.tag, 0)[:length or 16]
+        after = self.state(DECRYPTING, additional, text, 0, self.of(self.hash_value, 0), self.of(self.rest, 0))
+        arguments = [self.schedule(), self.message(state, after)] + ([length] if length else []) + [Buffer("tag", tag), len(tag)]
+        return Call("gcm_accept" + "_short" * bool(length), arguments, DONE, steps=hashing.steps, reveals=self.aes.xor(tag, right),
+                    refused=REFUSED)
+
+    # Calls that are refused: nothing but the status changes.
+    def refused(self):
+        """.. the call returns the first in the order that it names them."""
+        key, none, data = self.schedule(), self.no_key(), self.many(self.text, 48)
+        same, read = (lambda name, n=16: Buffer(name, data[:n], data[:n])), lambda name, n=16: Buffer(name, data[:n])
+        end, counter = Buffer("counter", [255] * 12, [255] * 12), Buffer("counter", number(7, 12), number(7, 12))
+        long, longer = MOST + 1, MOST_ADDITIONAL + 1
+        for gcm, nonce, additional, text, status in ((none, 12, 16, 16, NO_KEY), (none, 12, 16, long, TOO_LONG), (none, 0, 16, long, NONCE_LENGTH),
+                                                     (key, longer, 16, 16, NONCE_LENGTH), (key, 12, longer, 16, TOO_LONG)):
+            arguments = [gcm, read("nonce"), nonce, read("additional"), additional, same("text"), text]
+            yield Call("gcm_seal", arguments + [same("tag")], status)
+            yield Call("gcm_open", arguments + [read("tag"), 16], status)
+            yield Call("gcm_open", arguments + [read("tag"), 15], TAG_LENGTH)
+            if status != NONCE_LENGTH:
+                for moved, status in ((counter, status), (end, NONCES_END)):
+                    yield Call("gcm_seal_next", [gcm, moved, same("nonce", 12), *arguments[3:], same("tag")], status)
+            else:
+                yield Call("gcm_begin", [none, same("message", 48), read("nonce"), nonce], status)
+        yield Call("gcm_begin", [none, same("message", 48), read("nonce"), 12], NO_KEY)
+        for moved, status in ((counter, NO_KEY), (end, NONCES_END)):
+            yield Call("gcm_begin_next", [none, same("message", 48), moved, same("nonce", 12)], status)
+        yield from self.pieces_refused()
+
+    def pieces_refused(self):
+        """A call that comes out of turn is refused and changes nothing, and so is one that would make the message
+        longer than the standard allows."""
+        key, none, data = self.schedule(), self.no_key(), self.many(self.text, 48)
+        comes = {"additional": (ADDITIONAL,), "encrypt": (ADDITIONAL, ENCRYPTING), "finish": (ADDITIONAL, ENCRYPTING),
+                 "verify": (ADDITIONAL, VERIFYING), "decrypt_unverified": (ADDITIONAL, VERIFYING), "accept": (ADDITIONAL, VERIFYING),
+                 "accept_short": (ADDITIONAL, VERIFYING), "decrypt": (DECRYPTING,)}
+        for call, phases in comes.items():
+            last = {"finish": [Buffer("tag", data[:16], data[:16])], "accept": [Buffer("tag", data[:16]), 16],
+                    "accept_short": [12, Buffer("tag", data[:12]), 12]}.get(call, [Buffer("text", data, data), 48])
+            for phase in range(6):
+                state = self.state(phase, MOST_ADDITIONAL - 47, MOST - 47, MOST - 47)
+                status = TOO_LONG if phase in phases and call not in ("finish", "accept", "accept_short") else OUT_OF_TURN
+                if phase not in phases or status == TOO_LONG:
+                    yield Call("gcm_" + call, [key, self.message(state, state), *last], status)
+                yield Call("gcm_" + call, [none, self.message(state, state), *last], NO_KEY)
+        state = self.state(VERIFYING, 3, 3)
+        for length in (0, 15, 17, 32):
+            yield Call("gcm_accept", [none, self.message(state, state), Buffer("tag", data), length], TAG_LENGTH)
+        for fixed, length in ((0, 0), (3, 3), (5, 5), (11, 11), (17, 17), (12, 13), (13, 12)):
+            yield Call("gcm_accept_short", [none, self.message(state, state), fixed, Buffer("tag", data), length], TAG_LENGTH)

@@ -1,13 +1,15 @@
-"""A machine on symbolic bytes: values, memory, flags and how a call runs, as far as x86-64 and 64-bit ARM have them alike.
+"""A machine on symbolic bytes: values, memory, flags and how a call runs, as far as x86-64 and 64-bit ARM have them
+alike.
 
-A value is an int (a constant), a Pointer, a Distance, or a tuple of bytes of bits.Domain, lowest first. Branches, addresses and
-lengths have to be constants or Pointers. A Pointer is known only relative to a buffer, so what is proved holds wherever the
-buffers are. Whatever isn't covered raises Unproved.
+A value is an int (a constant), a Pointer, a Distance, or a tuple of bytes of bits.Domain, lowest first. Branches,
+addresses and lengths have to be constants or Pointers. A Pointer is known only relative to a buffer, so what is proved
+holds wherever the buffers are. Whatever isn't covered raises Unproved.
 
 A machine is a class below Machine, in a file of its own (x86_64.py), that says:
 
     tools                  what the names of gcc, ld, objdump and nm begin with
     objdump                the options with which objdump prints what `decode` reads
+    host                   the file with what the code under proof is linked with
     general                the names of the registers of 8 bytes; stack_pointer: the name of one of them
     vector_count, vector_size
     arguments, result      the registers of the ABI; more arguments are on the stack, 8 bytes each
@@ -18,14 +20,15 @@ A machine is a class below Machine, in a file of its own (x86_64.py), that says:
     leave()                     after libc's function: goes on at the return address
     condition(code)             0 or 1, by the flags (see Machine.decide)
 
-A step is `instruction.run(machine, name, *operands)`. It reads and writes `general`, `vectors`, `flags`, and memory by `load` and
-`store`; `next_address` is that of the next instruction. Operands are what `decode` makes them; what `get` and `put` take."""
+A step is `instruction.run(machine, name, *operands)`. It reads and writes `general`, `vectors`, `flags`, and memory by
+`load` and `store`; `next_address` is that of the next instruction. Operands are what `decode` makes them; what `get`
+and `put` take."""
 import re
 import struct
 import subprocess
 from collections import namedtuple
 
-from bits import Unproved
+from bits import PUBLIC, Pause, Unproved
 
 Pointer = namedtuple("Pointer", "base offset")  # base: the name of a region, or of a register's value before the call
 Distance = namedtuple("Distance", "base other offset")  # the address of a buffer, less that of another, plus a constant
@@ -47,12 +50,8 @@ def is_pointer(*values):
 class Region:
     """A buffer, by its name: what it holds, and what a call may do with it."""
 
-    def __init__(self, content, writable=True, align=1, guarded=False):
-        self.content, self.writable, self.align, self.guarded = list(content), writable, align, guarded
-
-
-class Pause(Exception):
-    """A guarded region is about to be accessed."""
+    def __init__(self, content, writable=True, align=1):
+        self.content, self.writable, self.align = list(content), writable, align
 
 
 class Program:
@@ -81,13 +80,15 @@ class Program:
         return lines
 
     def constant_sections(self):
-        """(address, bytes) of each section of the ELF file that is loaded and neither written nor run."""
+        """(address, bytes) of each section of the ELF file that is loaded and neither written nor run, and of the linker's table of
+        addresses, which nothing writes after the start."""
         raw = open(self.path, "rb").read()
         table, = struct.unpack_from("<Q", raw, 0x28)
         size, count = struct.unpack_from("<HH", raw, 0x3a)
         headers = [struct.unpack_from("<IIQQQQ", raw, table + k * size) for k in range(count)]
-        return [(address, raw[start:start + length]) for _, kind, flags, address, start, length in headers
-                if kind == 1 and flags & 7 == 2]
+        names = headers[struct.unpack_from("<H", raw, 0x3e)[0]][4]
+        return [(address, raw[start:start + length]) for name, kind, flags, address, start, length in headers
+                if kind == 1 and (flags & 7 == 2 or raw.startswith(b".got\0", names + name))]
 
     def at(self, address):
         if address not in self.cache:
@@ -106,8 +107,8 @@ class Machine:
         self.flags = dict.fromkeys("czso")
         self.next_address, self.last, self.steps, self.used = entry, entry, 0, {}
         self.externals = {program.symbols[n]: n for n in ("memcpy", "memmove", "memset") if n in program.symbols}
-        self.shifted, self.lost, self.native = {}, set(), None
-        self.choices, self.placed, self.may_reveal = [], {}, False
+        self.shifted, self.lost, self.origins, self.native = {}, set(), {}, None
+        self.choices, self.placed, self.may_reveal, self.assumed = [], {}, False, ()
         self.wraps, self.wrap = None, 1 << 64  # a word of unknown value, and the offset from which on it has wrapped around
         self.enter(arguments)
         self.top = self.lowest = self.general[self.stack_pointer].offset
@@ -125,9 +126,9 @@ class Machine:
         if max(b) < 256:
             return int.from_bytes(bytes(b), "little")
         if len(b) == 8 and b[0] in self.domain.opaque_of:
-            pointer = self.domain.opaque_of[b[0]]
-            if pointer != "undefined" and self.to_bytes(pointer[0], 8) == list(b):
-                return pointer[0]
+            word = self.domain.opaque_of[b[0]][0]
+            if isinstance(word, (Pointer, Distance)) and self.to_bytes(word, 8) == list(b):
+                return word
         return tuple(b)
 
     def bits(self, value, size):
@@ -183,7 +184,7 @@ class Machine:
             r = full & mask
             return r, {"c": int(full < 0), "z": int(r == 0), "s": r >> top, "o": ((x ^ r) & (x ^ y)) >> top & 1}
         if isinstance(x, Distance) and is_int(y) and not borrow:
-            return Distance(x.base, x.other, x.offset - y), {"c": (x, y, "below"), "z": (x, y, "equal")}
+            return Distance(x.base, x.other, x.offset - y), {"c": (x, y, "below") if y else 0, "z": (x, y, "equal")}
         if is_pointer(x, y) and not borrow and x.base == y.base:
             # Objects don't wrap around, so their addresses are ordered as offsets are.
             return x.offset - y.offset & mask, {"c": int(x.offset < y.offset), "z": int(x.offset == y.offset)}
@@ -197,10 +198,15 @@ class Machine:
         return self.unbits(bits), {"c": out ^ 1 if out < 2 else SECRET, "z": SECRET, "s": SECRET, "o": SECRET}
 
     def difference_of_secrets(self, x, y, size):
-        """The flags of a comparison of values that depend on the key or on data. Whether they are equal may be asked where a call
-        may reveal it: whether all these bytes are zero."""
+        """The flags of a comparison of values that depend on the key or on data. Whether they are equal may be asked
+        where a call may reveal it: whether all these bytes are zero."""
         different = [self.domain.xor_byte(p, q) for p, q in zip(self.to_bytes(x, size), self.to_bytes(y, size))]
-        return {"c": SECRET, "z": ("zero",) + tuple(different), "s": SECRET, "o": SECRET}
+        return {"c": SECRET, "z": self.zero_flag(different), "s": SECRET, "o": SECRET}
+
+    def zero_flag(self, b):
+        """Whether all these bytes are zero."""
+        unknown = [x for x in b if x > 255]
+        return int(not any(b)) if any(0 < x < 256 for x in b) or not unknown else ("zero", *unknown)
 
     # Memory.
     def place(self, address, size, write, align=1):
@@ -221,9 +227,6 @@ class Machine:
         if offset < 0 or offset + size > len(region.content):
             raise Unproved("%s %d bytes at %d of %s, which has %d" % (
                 "writes" if write else "reads", size, offset, base, len(region.content)))
-        if region.guarded:
-            self.next_address = self.last
-            raise Pause
         if write and not region.writable:
             raise Unproved("writes to %s" % base)
         if base == "stack":
@@ -256,13 +259,16 @@ class Machine:
             return int(flag)
         if flag is None:
             raise Unproved("a branch or a condition depends on an undefined flag")
-        if flag == SECRET or flag[0] == "zero" and not self.may_reveal:
+        if self.assumed and flag[0] == "zero" and set(flag[1:]) == set(self.assumed):
+            return 0
+        public = flag[0] == "zero" and not any(self.domain.depends[c] & ~PUBLIC for b in flag[1:] for c in self.domain.cells(b))
+        if flag == SECRET or flag[0] == "zero" and not (public or self.may_reveal):
             raise Unproved("a branch or a condition depends on the key or on data")
         return self.by_place(flag)
 
     def by_place(self, flag):
-        """A flag that says how far two buffers are apart, or whether a wrapped key or a tag is right: both cases have to be proved,
-        one by one (see calls.every_way)."""
+        """A flag that says how far two buffers are apart, or whether a wrapped key or a tag is right: both cases have
+        to be proved, one by one (see calls.every_way)."""
         if flag not in self.placed:
             n = len(self.placed)
             self.placed[flag] = self.choices[n] if n < len(self.choices) else 0
@@ -282,6 +288,9 @@ class Machine:
                     watch(self)
                 if self.steps > limit:
                     raise Unproved("doesn't return")
+        except Pause:
+            self.next_address = self.last
+            raise
         except Unproved as e:
             raise Unproved("%s [at %x: %s]" % (e, self.last, self.program.lines.get(self.last))) from None
         for r in self.kept:
@@ -330,11 +339,11 @@ class Machine:
         return self.from_bytes(self.to_bytes(self.general[self.result], 8)[:size])
 
     def replace_bytes(self, convert, domain, cells=()):
-        """Goes on with other bytes, of another domain: where `convert` replaces bytes by arbitrary ones, what is proved of these
-        holds for those. `cells` has the pairs in which the new byte is a cell, perhaps with bits flipped."""
-        memo = {}
+        """Goes on with other bytes, of another domain: where `convert` replaces bytes by arbitrary ones, what is proved
+        of these holds for those. `cells` has the pairs in which the new byte is a cell, perhaps with bits flipped."""
+        memo, cells = {}, list(cells)
         if self.native:
-            self.native.renamed(cells)
+            self.native.renamed(cells, domain)
 
         def all_of(b):
             return [memo[x] if x in memo else memo.setdefault(x, convert(x)) for x in b]
@@ -345,3 +354,5 @@ class Machine:
             if not isinstance(v, (int, Pointer)):
                 self.general[r] = tuple(all_of(v))
         self.domain, self.shifted = domain, {}
+        if self.native and any(new < 256 for _, new in cells):
+            self.native.impose()

@@ -1,120 +1,259 @@
-"""Proves the calls of the libraries on the machine code that gcc makes of dist/x86_64: run ./prove."""
+"""Proves the calls of both libraries on the machine code that gcc makes of dist/x86_64 and dist/aarch64, one process
+for each build and key size. Run it as `make prove` in dist; the README says what it shows."""
 import argparse
+import collections
+import concurrent.futures
 import os
-import resource
+import re
+import shutil
 import subprocess
 import sys
 import time
 
+import aes
+import gcm
+from aarch64 import Aarch64
 from bits import Domain, Unproved
-from calls import Keyed, leftover
-from gcm import KeyedGcm
+from calls import Call
 from machine import Program
-from x86_64 import X86_64
+from native import PROCESSORS
 from standards import pinned
+from vectors import checked
+from x86_64 import X86_64
 
 HERE = os.path.dirname(os.path.abspath(__file__))
+BUILDS = {"x86_64/" + name: X86_64 for name in ("aes", "aes_v3", "gcm", "gcm_v3")}
+BUILDS.update({"aarch64/" + name: Aarch64 for name in ("aes", "gcm")})
+KEY_SIZES = 16, 24, 32
 SEED = 1
-# Numbers of blocks that reach every path and its ends, and numbers of bytes.
-SOME = [1, 2, 3, 7, 8, 15, 16, 17, 32, 33, 40, 64]
-BYTES = [1, 15, 16, 17, 33, 64, 81, 112, 127, 128, 129, 144, 208, 240, 257, 400, 512, 600, 1024]
 
 
-def link(source, out):
+def link(source, out, machine=X86_64):
     """Assembles and links one build; libc's three functions are names alone, of which the contract is used."""
-    for s, o in ((source, out + ".o"), (os.path.join(HERE, "host.s"), out + ".host.o")):
-        subprocess.run(["gcc", "-c", s, "-o", o], check=True)
-    subprocess.run(["ld", "-static", "-e", "start", "--build-id=none", "-z", "noexecstack", out + ".host.o", out + ".o", "-o", out],
-                   check=True)
-    return Program(out, X86_64)
+    for s, o in ((source, out + ".o"), (os.path.join(HERE, machine.host), out + ".host.o")):
+        subprocess.run([machine.tools + "gcc", "-c", s, "-o", o], check=True)
+    subprocess.run([machine.tools + "ld", "-static", "-e", "start", "--build-id=none", "-z", "noexecstack", out + ".host.o", out + ".o",
+                    "-o", out], check=True)
+    return Program(out, machine)
 
 
-def aes_cases(k, a):
-    """(what, function of the seed for the processor or None)"""
-    every = range(a.most + 1)
-    some = every if a.all else [n for n in SOME if n <= a.most]
-    bytes_ = [n for n in (range(1, 16 * a.most + 1, 7) if a.all else BYTES) if n <= 16 * a.most]
-    yield "set_key", k.set_key
-    yield "wipe", k.wipe
-    yield "refused calls", k.refused
-    for direction in ("encrypt", "decrypt"):
-        for n in every:
-            yield "%s_blocks %d" % (direction, n), lambda native: k.blocks(direction, n, native)
-        for n in some:
-            yield "%s_blocks_to %d" % (direction, n), lambda native: k.blocks_to(direction, n, native)
-        for n in [n for n in some if n]:
-            yield "%s_blocks_with %d" % (direction, n), lambda native: k.blocks_with(direction, n, native)
-    for position in (0, 7, 2 ** 40 + 5):
-        for n in bytes_ if position == 0 else bytes_[::4]:
-            yield "add_keystream %d at %d" % (n, position), lambda native: k.counter_mode(position, n, False, None, native)
-    for n in bytes_[::2]:
-        yield "add_keystream_to %d at 3" % n, lambda native: k.counter_mode(3, n, True, None, native)
-    for n in [n for n in (20, 150, 280) if n <= 16 * a.most]:
-        for wrap in range(1, 24) if a.all else (1, 2, 3, 8, 9, 10, 16, 18):
-            yield "add_keystream %d at 5, the low half of the counter wraps before block %d" % (n, wrap), lambda native: k.counter_mode(
-                5, n, False, wrap, native)
-    for n in [n for n in some if n]:
-        yield "cbc_decrypt %d" % n, lambda native: k.cbc_decrypt(n, native)
-    for n in some if a.all else (1, 2, 8):
-        if n:
-            yield "cbc_encrypt %d" % n, lambda native: k.cbc_encrypt(n, native)
-    for n in range(2, 13 if a.all else 4):
-        yield "wrap %d" % n, lambda native: k.wrap(n, native)
-        yield "unwrap %d" % (n + 1), lambda native: k.unwrap(n + 1, native)
+# Which lengths: all; or those that reach each path and its ends, of which keys of 24 and 32 bytes take a few. README
+# has the table.
+def chooser(keyed, everything):
+    return lambda all_, few, more=(): all_ if everything else [*few, *more] if keyed.key_size == 16 else few
 
 
-def gcm_cases(k, a):
-    yield "gcm_set_key", k.set_key
-    for additional, text in ((0, 0), (1, 1), (13, 16), (5, 33)) if k.key_size == 16 or a.all else ((13, 16),):
-        yield "gcm_seal %d, %d" % (additional, text), lambda native: k.seal(additional, text, native)
+def aes_cases(k, everything):
+    """(what, statement); set_key was proved before."""
+    choose = chooser(k, everything)
+    for what in "wipe", "key_length", "key_length_of_none":
+        yield what, getattr(k, what)()
+    for length in (0, 1, 15, 17, 23, 25, 31, 33, 256, 2 ** 32 + 16, 2 ** 64 - 1):
+        yield "set_key of %d bytes" % length, k.set_key_refused(length)
+    for direction in "encrypt", "decrypt":
+        for n in choose(range(65), (1, 2, 8, 16, 17), (0, 3, 7, 9, 15, 24, 33)):
+            yield "%s_blocks %d" % (direction, n), k.blocks(direction, n)
+        for n in choose(range(65), (2, 17), (0, 1, 8)):
+            yield "%s_blocks_to %d" % (direction, n), k.blocks_to(direction, n)
+        for n in choose(range(1, 65), (1, 17), (2, 8)):
+            yield "%s_blocks_with %d" % (direction, n), k.blocks_with(direction, n)
+    counts = choose(range(0, 1025, 7), (1, 33, 257), (0, 15, 16, 128, 130))
+    for position, n in [(0, n) for n in counts] + [(7, 40), (2 ** 64 - 21, 20)]:
+        yield "add_keystream %d at %d" % (n, position), k.add_keystream(position, n)
+    for n in counts[1::2]:
+        yield "add_keystream_to %d at 3" % n, k.add_keystream_to(3, n)
+    for n in counts[1::3]:
+        yield "add_keystream_with %d at 3" % n, k.add_keystream_with(3, n)
+    for n, wraps in (40, (2,)), (280, choose(range(1, 19), (9,), (1, 2, 3, 8, 16, 17))):
+        for wrap in wraps:
+            yield "add_keystream %d at 5, the low half of the counter wraps before block %d" % (n, wrap), k.add_keystream(5, n, wrap)
+    for n in choose(range(65), (1, 9), (0, 2, 8, 17)):
+        yield "cbc_decrypt %d" % n, k.cbc_decrypt(n)
+    for n in choose(range(65), (2,), (0, 1, 8)):
+        yield "cbc_encrypt %d" % n, k.cbc_encrypt(n)
+    for n in choose(range(2, 13), (2,), (3,)):
+        yield "wrap %d" % n, k.wrap(n)
+        yield "unwrap %d" % (n + 1), k.unwrap(n + 1)
+    for n in choose(range(1, 41), (9,), (1, 8, 20)):
+        yield "wrap_padded %d" % n, k.wrap_padded(n)
+        yield "unwrap_padded to %d" % n, k.unwrap_padded(n)
+    refused = k.unwrap_padded_refused()
+    for i, call in enumerate(choose(refused, refused[4:], refused[:4])):
+        yield "unwrap_padded refused %d" % i, call
+    for i, call in enumerate(k.refused()):
+        yield "%s refused %d" % (call.name[4:], i), call
+
+
+def gcm_cases(k, everything):
+    choose = chooser(k, everything)
+    for what in "wipe", "wipe_message", "key_length", "key_length_of_none":
+        yield what, getattr(k, what)()
+    for length in (0, 1, 15, 17, 23, 25, 31, 33, 256, 2 ** 32 + 16):
+        yield "set_key of %d bytes" % length, k.set_key_refused(length)
+    blocks = [(0, 16 * n) for n in range(1, 65)] + [(n, 0) for n in range(1, 100, 9)]
+    for a, n in choose([(0, 0), (1, 1), (13, 33), (40, 20), *blocks], [(13, 33)], [(0, 0), (1, 1), (40, 20), (0, 129)]):
+        yield "seal %d, %d" % (a, n), k.seal(a, n)
+    for a, n in choose([(0, 0), (13, 33), (40, 129)], [(13, 33)], [(0, 0)]):
+        yield "open %d, %d" % (a, n), k.open(a, n)
+    ends = (8, 1, ()), (1, 2 ** 32 - 1, (7, 0, 255, 255)), (60, 2 ** 32 - 2, (7, 0, 255, 255))
+    for length, counter, before in choose(ends, ends[2:], ends[:2]):
+        first, what = k.nonce_of(length, counter, before), "with a nonce of %d bytes, J_0 ends in %x" % (length, counter)
+        yield "seal " + what, k.seal(5, 40, first)
+        yield "begin " + what, k.begin(first)
+        yield "open " + what, k.open(3, 20, first)
+    for counter in choose((None, 2 ** 64 - 1, 2 ** 96 - 2), (None,), (2 ** 64 - 1, 2 ** 96 - 2)):
+        yield "seal_next after %s" % counter, k.seal_next(3, 20, counter)
+        yield "begin_next after %s" % counter, k.begin_next(counter)
+    yield "begin", k.begin()
+    yield from piece_cases(k, choose)
+    for i, call in enumerate(k.refused()):
+        yield "%s refused %d" % (call.name[4:], i), call
+
+
+def piece_cases(k, choose):
+    """Calls on a message of which so many bytes have come: additional data, text, and its phase."""
+    pieces = [(3, 100), (0, 0), (0, 5), (3, 13), (32, 48)]
+    for before, n in choose(pieces, pieces[:1], pieces[1:]):
+        yield "additional %d after %d" % (n, before), k.additional(before, n)
+    for call in "encrypt", "verify", "decrypt_unverified":
+        phase = gcm.ENCRYPTING if call == "encrypt" else gcm.VERIFYING
+        pieces = [(gcm.ADDITIONAL, 5, 0, 3), (phase, 5, 20, 50), (gcm.ADDITIONAL, 0, 0, 16), (phase, 5, 7, 9), (phase, 0, 0, 0)]
+        for of, a, before, n in choose(pieces, pieces[:2], pieces[2:]):
+            yield "%s %d after %d, %d, phase %d" % (call, n, a, before, of), k.piece(call, of, a, before, n)
+    for text, before, n in choose([(100, 0, 16), (100, 7, 20), (100, 32, 68)], [(100, 7, 20)], [(100, 32, 68)]):
+        yield "decrypt %d after %d of %d" % (n, before, text), k.decrypt(text, before, n)
+    states = [(gcm.ENCRYPTING, 16, 7), (gcm.ADDITIONAL, 0, 0), (gcm.ADDITIONAL, 5, 0), (gcm.ENCRYPTING, 5, 16)]
+    for phase, a, n in choose(states, states[:1], states[1:]):
+        yield "finish after %d, %d, phase %d" % (a, n, phase), k.finish(phase, a, n)
+        yield "accept after %d, %d, phase %d" % (a, n, phase), k.accept(phase if phase == gcm.ADDITIONAL else gcm.VERIFYING, a, n)
+    for length in choose((4, 8, 12, 13, 14, 15), (12,), (4, 15)):
+        yield "accept_short of %d bytes" % length, k.accept(gcm.VERIFYING, 16, 7, length)
+
+
+# The header: the compiler compares what it says with what the statements have.
+def header_cases(dist, machine=X86_64):
+    for module, name in ((aes, "fotsgure_aes"), (gcm, "fotsgure_gcm")):
+        lines = ["#include <stddef.h>", "#include <%s.h>" % name]
+        lines += ["_Static_assert(%s_%s == %d, \"\");" % (name.upper(), s, n) for n, s in enumerate(module.STATUSES)]
+        for struct, (size, fields) in module.STRUCTS.items():
+            lines.append("_Static_assert(sizeof(struct %s) == %d, \"\");" % (struct, size))
+            lines += ["_Static_assert(offsetof(struct %s, %s) == %d, \"\");" % (struct, f, at) for f, at in fields.items()]
+        result = subprocess.run([machine.tools + "gcc", "-fsyntax-only", "-I", dist + "/include", "-x", "c", "-"], input="\n".join(lines),
+                                capture_output=True, text=True)
+        yield "%s.h: %d facts of sizes, places and statuses" % (name, len(lines) - 2), result.stderr.strip()
+
+
+def version(dist, library):
+    text = open("%s/include/fotsgure_%s.h" % (dist, library)).read()
+    return int(re.search(r"#define FOTSGURE_%s_VERSION (\d+)" % library.upper(), text)[1])
+
+
+class Task:
+    """The calls of one build under keys of one size."""
+
+    def __init__(self, options, build, key_size, compared):
+        self.options, self.build, self.key_size = options, build, key_size
+        self.compared, self.tried, self.used = set(compared), collections.Counter(), set()
+        self.proved, self.failed, self.vectors = 0, 0, 0
+
+    def run(self):
+        start = time.process_time()
+        out = "%s/%s_%d" % (self.options.out, self.build.replace("/", "_"), self.key_size)
+        program = link("%s/%s.s" % (self.options.dist, self.build), out, BUILDS[self.build])
+        library = self.build.split("/")[1][:3]
+        keyed = (gcm.KeyedGcm if library == "gcm" else aes.Keyed)(program, self.key_size)
+        self.case("set_key", keyed.set_key)
+        if not self.failed:
+            self.vectors = checked(keyed)
+            number = Call(library + "_version", [], version(self.options.dist, library))
+            self.case("version", lambda seed: keyed.proved(number, seed))
+            for what, call in (gcm_cases if library == "gcm" else aes_cases)(keyed, self.options.all):
+                if self.options.only in what:
+                    self.case(what, lambda seed: keyed.proved(call, seed))
+        self.seconds = time.process_time() - start
+        return self
+
+    def case(self, what, prove):
+        start = time.process_time()
+        try:
+            m = prove(None)
+            new = set(m.used) - self.compared  # some are on other paths than the one that the processor takes
+            if any(self.tried[form] < 2 for form in new) and not PROCESSORS[type(m)].missing():
+                self.compared |= set(prove(SEED).used)
+                self.tried.update(new)
+            self.used |= set(m.used)
+            left = ", ".join("%d %s in %s" % (len(v), kind, place) for (place, kind), v in sorted(m.left.items()))
+            text = "%d instructions, %d bytes of stack; left: %s" % (m.steps, m.top - m.lowest, left or "nothing")
+            self.proved += 1
+        except Unproved as e:
+            text = "NOT PROVED: %s" % e
+            self.failed += 1
+        if self.options.lines or text.startswith("NOT"):
+            print("%s.s, key of %d bytes, %s: %s; %.1f s" % (
+                self.build, self.key_size, what, text, time.process_time() - start), flush=True)
+
+
+def run_task(*arguments):
+    return Task(*arguments).run()
+
+
+def tasks(options):
+    """Runs the tasks, and yields each when it is done. Those of keys of 16 bytes come first: what instructions they
+    compared with the processor, the others don't compare again."""
+    with concurrent.futures.ProcessPoolExecutor(options.jobs, max_tasks_per_child=1) as pool:
+        first, *others = options.keys
+        waiting = {pool.submit(run_task, options, build, first, ()) for build in options.builds}
+        while waiting:
+            done, waiting = concurrent.futures.wait(waiting, return_when=concurrent.futures.FIRST_COMPLETED)
+            for future in done:
+                task = future.result()
+                yield task
+                if task.key_size == first:
+                    waiting |= {pool.submit(run_task, options, task.build, size, task.compared) for size in others}
+
+
+def missing(machine):
+    """What of the tools for this machine isn't here."""
+    return [machine.tools + name for name in ("gcc", "ld", "objdump", "nm") if not shutil.which(machine.tools + name)]
+
+
+def say_what_is_missing():
+    for machine, processor in PROCESSORS.items():
+        for consequence, names in (("is not proved", missing(machine)), ("is not compared with a processor", processor.missing())):
+            if names:
+                print("%s %s here, without %s" % (machine.__name__, consequence, ", ".join(names)))
 
 
 def main():
     parser = argparse.ArgumentParser(description=__doc__)
-    parser.add_argument("--dist", default="dist")
-    parser.add_argument("--out", default="out")
-    parser.add_argument("--most", type=int, default=64, help="the most blocks of a call")
-    parser.add_argument("--all", action="store_true", help="all lengths for each call; otherwise some that reach every path")
-    parser.add_argument("--builds", default="aes,aes_v3,gcm,gcm_v3")
-    parser.add_argument("--keys", default="16,24,32")
+    parser.add_argument("--dist", default=os.path.dirname(HERE))
+    parser.add_argument("--out", default="out/prove")
+    parser.add_argument("--all", action="store_true", default=os.environ.get("PROVE") == "all", help="all lengths")
+    parser.add_argument("--builds", type=lambda s: s.split(","), default=list(BUILDS))
+    parser.add_argument("--keys", type=lambda s: [int(n) for n in s.split(",")], default=KEY_SIZES)
     parser.add_argument("--only", default="", help="calls that have this in their name")
-    a = parser.parse_args()
-    os.makedirs(a.out, exist_ok=True)
-    start = time.time()
-    print("the specification gives the standards' results on %d vectors" % pinned(Domain()))
-    proved = failed = 0
-    used, compared = {}, set()  # forms of instructions: how often they were run, and those that the processor agreed with
-    for name in a.builds.split(","):
-        program = link("%s/x86_64/%s.s" % (a.dist, name), "%s/%s" % (a.out, name))
-        for key_size in map(int, a.keys.split(",")):
-            keyed = (KeyedGcm if "gcm" in name else Keyed)(program, key_size)
-            for what, prove in (gcm_cases if "gcm" in name else aes_cases)(keyed, a):
-                if a.only not in what and "set_key" not in what:
-                    continue
-                t = time.time()
-                try:
-                    m, results = prove(None)
-                    left = leftover(m, results)
-                    beside = ""
-                    if set(m.used) - compared:
-                        n, _ = prove(SEED)
-                        compared |= set(n.used)
-                        beside = ", %d of them beside the processor" % n.steps
-                    for form, count in m.used.items():
-                        used[form] = used.get(form, 0) + count
-                    text = "%d instructions%s, %d bytes of stack, %.2f s; left: %s" % (
-                        m.steps, beside, m.top - m.lowest, time.time() - t,
-                        ", ".join("%d %s %s" % (n, kind, place) for (place, kind), n in sorted(left.items())) or "nothing")
-                    proved += 1
-                except Unproved as e:
-                    text = "NOT PROVED: %s" % e
-                    failed += 1
-                print("%s.s, key of %d bytes, %s: %s" % (name, key_size, what, text), flush=True)
-    alone = sorted(set(used) - compared)
-    print("%d instructions of %d forms; the processor agreed on all forms but %d: %s" % (
-        sum(used.values()), len(used), len(alone), ", ".join(alone) or "none"))
-    print("%d proved, %d failed; %.0f s, %.0f s of them of the processor, %d MB" % (
-        proved, failed, time.time() - start, time.process_time(), resource.getrusage(resource.RUSAGE_SELF).ru_maxrss // 1024))
+    parser.add_argument("--lines", action="store_true", help="a line for each case")
+    parser.add_argument("--jobs", type=int, default=os.cpu_count())
+    options = parser.parse_args()
+    os.makedirs(options.out, exist_ok=True)
+    options.builds = [build for build in options.builds if not missing(BUILDS[build])]
+    start, proved, failed, used, compared = time.time(), 0, 0, set(), set()
+    vectors = pinned(Domain())
+    say_what_is_missing()
+    for what, fault in header_cases(options.dist):
+        print("%s: %s" % (what, fault or "as in the statements"))
+        proved, failed = proved + (not fault), failed + bool(fault)
+    for task in tasks(options):
+        print("%s.s, key of %d bytes: %d proved, %d failed, %.0f s" % (
+            task.build, task.key_size, task.proved, task.failed, task.seconds), flush=True)
+        proved, failed = proved + task.proved, failed + task.failed
+        folder, vectors = os.path.dirname(task.build), vectors + task.vectors
+        used |= {(folder, form) for form in task.used}
+        compared |= {(folder, form) for form in task.compared}
+    alone = [" ".join(form) for form in sorted(used - compared)]
+    print("%d forms of instructions; the processor agreed on all but: %s" % (len(used), ", ".join(alone) or "none"))
+    print("%d vectors of the standards; %.0f s" % (vectors, time.time() - start))
+    print("%d proved, %d failed" % (proved, failed))
     return failed != 0
 
 

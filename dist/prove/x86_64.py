@@ -1,12 +1,13 @@
-"""x86-64 on symbolic bytes: each instruction that occurs on the paths of the libraries, as the processor's manual defines it
-(Intel 64 and IA-32 Architectures Software Developer's Manual, volume 2). What both machines share is in machine.py."""
+"""x86-64 on symbolic bytes: each instruction that occurs on the paths of the libraries, as the processor's manual
+defines it (Intel 64 and IA-32 Architectures Software Developer's Manual, volume 2). What both machines share is in
+machine.py."""
 import re
 from collections import namedtuple
 
 from bits import Unproved
 from machine import RETURN_ADDRESS, SECRET, WORD, Instruction, Machine, Pointer, is_int, is_pointer
 
-Reg = namedtuple("Reg", "name size")
+Reg = namedtuple("Reg", "name size at", defaults=[0])  # at: the first byte; ah, bh, ch and dh begin at byte 1
 Vec = namedtuple("Vec", "number size")
 Mem = namedtuple("Mem", "size base index scale disp")  # base "rip": disp is the address
 
@@ -19,6 +20,8 @@ for _r in R64:
     else:
         REGS.update({"e" + _r[1:]: Reg(_r, 4), _r[1:]: Reg(_r, 2)})
         REGS[_r[1] + "l" if _r[2] == "x" else _r[1:] + "l"] = Reg(_r, 1)
+        if _r[2] == "x":
+            REGS[_r[1] + "h"] = Reg(_r, 1, 1)
 for _n in range(16):
     REGS.update({"xmm%d" % _n: Vec(_n, 16), "ymm%d" % _n: Vec(_n, 32)})
 SIZES = {"BYTE": 1, "WORD": 2, "DWORD": 4, "QWORD": 8, "XMMWORD": 16, "YMMWORD": 32}
@@ -27,7 +30,7 @@ CONDITIONS = {"e": "z", "ne": "!z", "b": "c", "ae": "!c", "be": "c|z", "a": "!(c
 
 class X86_64(Machine):
     """With the System V ABI, in which the stack is aligned to 16 bytes before the return address is pushed."""
-    tools, objdump = "", ("-M", "intel")
+    tools, objdump, host = "", ("-M", "intel"), "host.s"
     registers, stack_pointer = R64, "rsp"
     vector_count, vector_size = 16, 32
     arguments, result = "rdi rsi rdx rcx r8 r9".split(), "rax"
@@ -59,7 +62,7 @@ class X86_64(Machine):
     @staticmethod
     def decode(text, following):
         name, _, rest = text.split("#")[0].strip().partition(" ")
-        while name in ("cs", "data16"):  # prefixes of a longer nop
+        while name in ("cs", "data16", "addr32"):  # prefixes that fill up a nop, or a call that the linker shortened
             name, _, rest = rest.strip().partition(" ")
         operands = [] if name == "nop" or not rest else [operand(o.strip(), name, following) for o in rest.split(",")]
         run = meaning(name)
@@ -74,9 +77,7 @@ class X86_64(Machine):
             return o
         if isinstance(o, Reg):
             v = self.general[o.name]
-            if o.size == 8:
-                return v
-            return v & (1 << 8 * o.size) - 1 if is_int(v) else self.from_bytes(self.to_bytes(v, 8)[:o.size])
+            return v if o.size == 8 else self.from_bytes(self.to_bytes(v, 8)[o.at:o.at + o.size])
         return self.from_bytes(self.load(self.address(o), o.size or size))
 
     def put(self, o, v):
@@ -88,8 +89,8 @@ class X86_64(Machine):
         elif o.size == 4:
             self.general[o.name] = v if is_int(v) else self.from_bytes(self.to_bytes(v, 4) + [0] * 4)
         else:
-            rest = self.to_bytes(self.general[o.name], 8)[o.size:]
-            self.general[o.name] = self.from_bytes(self.to_bytes(v, o.size) + rest)
+            old = self.to_bytes(self.general[o.name], 8)
+            self.general[o.name] = self.from_bytes(old[:o.at] + self.to_bytes(v, o.size) + old[o.at + o.size:])
 
     def address(self, m):
         a = m.disp
@@ -323,7 +324,7 @@ def logic(m, name, to, a, b=None):
         if is_int(r):
             m.set_flags(c=0, o=0, z=int(r == 0), s=r >> 8 * size - 1)
         else:
-            m.set_flags(c=0, o=0, z=SECRET, s=SECRET)
+            m.set_flags(c=0, o=0, z=0 if 1 in m.bits(r, size) else SECRET, s=SECRET)
     if name != "test":
         m.put(to, r)
 
@@ -469,6 +470,14 @@ def pand(m, name, *operands):
     m.put_vector(name, operands[0], r)
 
 
+@op("ptest", "vptest")
+def ptest(m, name, a, b):
+    """Both operands alike: whether all is zero."""
+    if a != b:
+        raise Unproved("ptest of different operands")
+    m.set_flags(c=1, s=0, o=0, z=m.zero_flag(m.get_vector(a)))
+
+
 @op(*[v + p + w for v in ("", "v") for p in ("psll", "psrl") for w in "wdq"])
 def lane_shift(m, name, *operands):
     n = operands[-1]
@@ -525,21 +534,26 @@ def palignr(m, name, *operands):
 @op("pshufb", "vpshufb")
 def pshufb(m, name, *operands):
     a, b = sources(m, name, operands)
-    d, r = m.domain, []
+    r, memo = [], m.domain.entries
     for i in range(0, len(a), 16):
-        table = a[i:i + 16]
+        table = tuple(a[i:i + 16])
         for x in b[i:i + 16]:
-            if x < 256:
-                r.append(0 if x & 128 else table[x & 15])
-            elif max(table) < 256:
-                x = d.bits(x)
-                r.append(d.lookup(tuple(table) + (0,) * 16, x[:4] + x[7:]))
-            else:
-                x = d.bits(x)
-                if x[7]:
-                    raise Unproved("a look-up in a table that isn't constant, by an index that may be 128 or more")
-                r.append(d.bilinear_lookup(tuple(table), x[:4]))
+            if (table, x) not in memo:
+                memo[table, x] = entry(m.domain, table, x)
+            r.append(memo[table, x])
     m.put_vector(name, operands[0], r)
+
+
+def entry(domain, table, x):
+    """One byte of a look-up: 0 if bit 7 of the index is set, else the entry at its lowest four bits."""
+    bits = domain.bits(x)
+    if x < 256:
+        return 0 if x & 128 else table[x & 15]
+    if max(table) < 256:
+        return domain.lookup(table + (0,) * 16, bits[:4] + bits[7:])
+    if bits[7]:
+        raise Unproved("a look-up in a table that isn't constant, by an index that may be 128 or more")
+    return domain.bilinear_lookup(table, bits[:4])
 
 
 @op("pshufd", "vpshufd", "pshuflw", "pshufhw")

@@ -43,3 +43,14 @@ EITHER(enum fotsgure_gcm_status, fotsgure_gcm_decrypt, (const struct fotsgure_gc
 EITHER(enum fotsgure_gcm_status, fotsgure_gcm_decrypt_unverified, (const struct fotsgure_gcm *gcm,
     struct fotsgure_gcm_message *message, uint8_t *text, size_t text_length), (gcm, message, text, text_length))
 EITHER_VOID(fotsgure_gcm_wipe_message, (struct fotsgure_gcm_message *message), (message))
+EITHER(enum fotsgure_gcm_status, fotsgure_gcm_siv_set_key, (struct fotsgure_gcm_siv *siv, const uint8_t *key,
+    size_t key_length), (siv, key, key_length))
+EITHER(enum fotsgure_gcm_status, fotsgure_gcm_siv_seal, (const struct fotsgure_gcm_siv *siv,
+    const uint8_t nonce[FOTSGURE_GCM_SIV_NONCE], const uint8_t *additional, size_t additional_length, uint8_t *text,
+    size_t text_length, uint8_t tag[FOTSGURE_GCM_TAG]), (siv, nonce, additional, additional_length, text, text_length,
+    tag))
+EITHER(enum fotsgure_gcm_status, fotsgure_gcm_siv_open, (const struct fotsgure_gcm_siv *siv,
+    const uint8_t nonce[FOTSGURE_GCM_SIV_NONCE], const uint8_t *additional, size_t additional_length, uint8_t *text,
+    size_t text_length, const uint8_t tag[FOTSGURE_GCM_TAG]), (siv, nonce, additional, additional_length, text,
+    text_length, tag))
+EITHER_VOID(fotsgure_gcm_siv_wipe, (struct fotsgure_gcm_siv *siv), (siv))

@@ -1,6 +1,7 @@
 /* A plugin of qemu that follows what runs between two marks: how many instructions, which ones in which order, and
  * which addresses they read and write. Each time it meets the second mark it writes a line with tabs: instructions, a
- * hash of their addresses, reads and writes, a hash of the addresses of those, and byte shuffles (`tbl`).
+ * hash of their addresses, reads and writes, a hash of the addresses of those, and byte shuffles. It
+ * is compiled with RISCV or X86 for these.
  * usage: qemu-aarch64 -plugin plugin.so,out=FILE PROGRAM .. */
 #include <stdbool.h>
 #include <stddef.h>
@@ -25,10 +26,15 @@ const void *qemu_plugin_insn_data(const struct qemu_plugin_insn *);
 uint64_t qemu_plugin_insn_vaddr(const struct qemu_plugin_insn *);
 __attribute__((visibility("default"))) int qemu_plugin_version = 1;
 
-/* The marks are hints that no processor knows, so that they do nothing: see marks.h. */
-enum { HINT = 0xd503201f, BEGIN = HINT | 112 << 5, END = HINT | 113 << 5 };
-/* tbl by one to four registers, of eight or sixteen bytes. */
-enum { TBL = 0x0e000000, TBL_BITS = 0xbfe09c00 };
+/* The marks are hints that no processor knows, so that they do nothing: see marks.h. A shuffle is vrgather.vv, or tbl by one to
+ * four registers, of eight or sixteen bytes; those of x86-64 aren't counted. */
+#if defined X86
+enum { NOPL = 0x401f0f, BEGIN = NOPL | 112 << 24, END = NOPL | 113 << 24, SHUFFLE = 1, SHUFFLE_BITS = 0 };
+#elif defined RISCV
+enum { ADDI = 0x13, BEGIN = ADDI | 112 << 20, END = ADDI | 113 << 20, SHUFFLE = 0x30000057, SHUFFLE_BITS = 0xfc00707f };
+#else
+enum { HINT = 0xd503201f, BEGIN = HINT | 112 << 5, END = HINT | 113 << 5, SHUFFLE = 0x0e000000, SHUFFLE_BITS = 0xbfe09c00 };
+#endif
 
 static FILE *out;
 static bool on;
@@ -71,7 +77,7 @@ static void translated(qemu_plugin_id_t id, struct qemu_plugin_tb *block) {
         uint32_t code;
         memcpy(&code, qemu_plugin_insn_data(it), sizeof code);
         void (*call)(unsigned, void *) = code == BEGIN ? began : code == END ? ended :
-            (code & TBL_BITS) == TBL ? shuffled : executed;
+            (code & SHUFFLE_BITS) == SHUFFLE ? shuffled : executed;
         void *at = (void *)(uintptr_t)qemu_plugin_insn_vaddr(it);
         qemu_plugin_register_vcpu_insn_exec_cb(it, call, NO_REGISTERS, at);
         qemu_plugin_register_vcpu_mem_cb(it, accessed, NO_REGISTERS, READS_AND_WRITES, at);

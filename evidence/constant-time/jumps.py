@@ -14,8 +14,8 @@ import tools
 # callers.
 OTHERS = ("aes_kat", "hex::", "ev_reply", "evidence_exports::program", "core::cmp::slices::groups_equal")
 HEAD = "function\tcompares\tjump\tcount"
-# The lists of each build by LLVM, and a jump that is planted.
-LISTS = {"llvm": "jumps.tsv", "avx2": "jumps_avx2.tsv"}
+# The list of LLVM's build, and a jump that is planted.
+LISTS = {"llvm": "jumps.tsv"}
 PLANTED = {("planted", "test r,r", "jne"): 1}
 JUMP = re.compile(r"\s(j(?!mp)\w+|loop\w*)\s")
 # The instructions that leave the flags which a jump reads.

@@ -26,6 +26,6 @@ def faults_of(page, file, quote):
 
 
 def looked_at():
-    quotes = [(page, *it.groups()) for page in sorted([*ROOT.glob("*.md"), *ROOT.glob("docs/*.md")])
+    quotes = [(page, *it.groups()) for glob in ("*.md", "docs/*.md", "crates/*/README.md") for page in sorted(ROOT.glob(glob))
               for it in QUOTE.finditer(page.read_text(encoding="utf-8"))]
     return f"{len(quotes)} quoted blocks", {}, [fault for it in quotes for fault in faults_of(*it)]

@@ -1,7 +1,8 @@
-//! Authenticated encryption by AES-GCM (SP 800-38D) over the C library `fotsgure_gcm`: feature `gcm`.
+//! Authenticated encryption over the C library `fotsgure_gcm`: feature `gcm`. Take AES-GCM-SIV (RFC 8452), which draws its
+//! nonces at random, unless you need the speed or the pieces of AES-GCM (SP 800-38D).
 //!
-//! **Never use a nonce twice under one key**, over all messages, programs and restarts. If a nonce of a key is random,
-//! or has another length than 12 bytes, take a new key before 2^32 messages.
+//! **In GCM never use a nonce twice under one key**, over all messages, programs and restarts. If a nonce of a key is
+//! random, or has another length than 12 bytes, take a new key before 2^32 messages.
 
 use crate::{c, InvalidLength};
 use std::fmt;
@@ -18,10 +19,27 @@ mod calls {
         pub multiples: [u8; 1536],
     }
 
-    /// FOTSGURE_GCM_NONCE_LENGTH, _TOO_LONG, _NONCES_END.
+    /// FOTSGURE_GCM_NONCE_LENGTH, and the statuses that follow.
     pub const NONCE_LENGTH: u32 = 3;
+    pub const TAG_LENGTH: u32 = 4;
     pub const TOO_LONG: u32 = 5;
     pub const NONCES_END: u32 = 7;
+
+    pub const REFUSED: u32 = 6;
+    pub const OUT_OF_TURN: u32 = 8;
+    pub const NO_RANDOMNESS: u32 = 9;
+
+    #[repr(C)]
+    pub struct GcmSiv {
+        pub key_length: u32,
+        pub round_keys: [u8; 240],
+    }
+
+    #[repr(C)]
+    pub struct Message {
+        pub numbers: [u64; 4],
+        pub blocks: [u8; 48],
+    }
 
     extern "C" {
         pub fn fotsgure_gcm_set_key(gcm: *mut MaybeUninit<Gcm>, key: *const u8, length: usize) -> u32;
@@ -57,6 +75,54 @@ mod calls {
             tag: *const u8,
             tag_length: usize,
         ) -> u32;
+        pub fn fotsgure_gcm_begin(
+            gcm: *const Gcm,
+            message: *mut MaybeUninit<Message>,
+            nonce: *const u8,
+            nonce_length: usize,
+        ) -> u32;
+        pub fn fotsgure_gcm_begin_next(
+            gcm: *const Gcm,
+            message: *mut MaybeUninit<Message>,
+            counter: *mut super::Counter,
+            nonce: *mut [u8; 12],
+        ) -> u32;
+        pub fn fotsgure_gcm_additional(gcm: *const Gcm, message: *mut Message, bytes: *const u8, length: usize) -> u32;
+        pub fn fotsgure_gcm_encrypt(gcm: *const Gcm, message: *mut Message, text: *mut u8, length: usize) -> u32;
+        pub fn fotsgure_gcm_finish(gcm: *const Gcm, message: *mut Message, tag: *mut [u8; 16]) -> u32;
+        pub fn fotsgure_gcm_verify(gcm: *const Gcm, message: *mut Message, text: *const u8, length: usize) -> u32;
+        pub fn fotsgure_gcm_accept(gcm: *const Gcm, message: *mut Message, tag: *const u8, length: usize) -> u32;
+        pub fn fotsgure_gcm_decrypt(gcm: *const Gcm, message: *mut Message, text: *mut u8, length: usize) -> u32;
+        pub fn fotsgure_gcm_wipe_message(message: *mut Message);
+        pub fn fotsgure_gcm_siv_set_key(siv: *mut MaybeUninit<GcmSiv>, key: *const u8, length: usize) -> u32;
+        pub fn fotsgure_gcm_siv_wipe(siv: *mut GcmSiv);
+        pub fn fotsgure_gcm_siv_seal(
+            siv: *const GcmSiv,
+            nonce: *const [u8; 12],
+            additional: *const u8,
+            additional_length: usize,
+            text: *mut u8,
+            text_length: usize,
+            tag: *mut [u8; 16],
+        ) -> u32;
+        pub fn fotsgure_gcm_siv_seal_random(
+            siv: *const GcmSiv,
+            nonce: *mut [u8; 12],
+            additional: *const u8,
+            additional_length: usize,
+            text: *mut u8,
+            text_length: usize,
+            tag: *mut [u8; 16],
+        ) -> u32;
+        pub fn fotsgure_gcm_siv_open(
+            siv: *const GcmSiv,
+            nonce: *const [u8; 12],
+            additional: *const u8,
+            additional_length: usize,
+            text: *mut u8,
+            text_length: usize,
+            tag: *const [u8; 16],
+        ) -> u32;
     }
 }
 
@@ -65,18 +131,21 @@ mod calls {
 pub enum NotSealed {
     /// The nonce is empty.
     NonceLength,
-    /// The text has more than 2^36 - 32 bytes.
+    /// The text has more than 2^36 - 32 bytes; in AES-GCM-SIV, text or additional data have more than 2^36.
     TooLong,
     /// The counter has come to its end: take a new key.
     NoncesEnd,
+    /// The system gave no randomness for a nonce.
+    NoRandomness,
 }
 
 impl fmt::Display for NotSealed {
     fn fmt(&self, f: &mut fmt::Formatter<'_>) -> fmt::Result {
         f.write_str(match self {
             NotSealed::NonceLength => "the nonce is empty",
-            NotSealed::TooLong => "the text is longer than GCM allows",
+            NotSealed::TooLong => "the text is longer than the standard allows",
             NotSealed::NoncesEnd => "no nonce is left",
+            NotSealed::NoRandomness => "the system gave no randomness for a nonce",
         })
     }
 }
@@ -95,6 +164,74 @@ impl fmt::Display for Refused {
 }
 
 impl std::error::Error for Refused {}
+
+/// A key of AES-GCM-SIV, of 16 or 32 bytes. It is on the heap, so that a move leaves no copy of it, and is zeroized when
+/// the value is dropped. Threads may share a value.
+pub struct GcmSiv(Box<calls::GcmSiv>);
+
+impl GcmSiv {
+    /// Prepares a key (KeyExpansion, FIPS 197, 5.2). One of 24 bytes is refused too.
+    pub fn new(key: &[u8]) -> Result<GcmSiv, InvalidLength> {
+        let mut prepared = Box::new(MaybeUninit::<calls::GcmSiv>::uninit());
+        // SAFETY: both pointers come from references that are valid for the call. The call writes the whole struct,
+        // whether it refuses the key or not, and reads nothing of it before that.
+        let (status, prepared) = unsafe {
+            let status = calls::fotsgure_gcm_siv_set_key(&mut *prepared, key.as_ptr(), key.len());
+            (status, Box::from_raw(Box::into_raw(prepared).cast::<calls::GcmSiv>()))
+        };
+        if status == c::DONE { Ok(GcmSiv(prepared)) } else { Err(InvalidLength) }
+    }
+
+    /// Encrypts a text in place under a nonce that is drawn at random, and returns that nonce and the tag (RFC 8452, 4).
+    /// The additional data isn't encrypted, and the tag covers it.
+    pub fn seal_random(&self, additional: &[u8], text: &mut [u8]) -> Result<([u8; 12], [u8; 16]), NotSealed> {
+        let (mut nonce, mut tag) = ([0; 12], [0; 16]);
+        // SAFETY: the private field holds a key that `new` set; the slices are borrowed for the call, and those that
+        // are written are mutable, so that they overlap nothing.
+        let status = unsafe {
+            let (data, bytes) = (additional.as_ptr(), text.as_mut_ptr());
+            let (length, count) = (additional.len(), text.len());
+            calls::fotsgure_gcm_siv_seal_random(&*self.0, &mut nonce, data, length, bytes, count, &mut tag)
+        };
+        sealed(status).map(|()| (nonce, tag))
+    }
+
+    /// The same under a nonce of yours. One that comes twice only shows whether the two messages are the same.
+    pub fn seal(&self, nonce: &[u8; 12], additional: &[u8], text: &mut [u8]) -> Result<[u8; 16], NotSealed> {
+        let mut tag = [0; 16];
+        // SAFETY: as above.
+        let status = unsafe {
+            let (data, bytes) = (additional.as_ptr(), text.as_mut_ptr());
+            let (length, count) = (additional.len(), text.len());
+            calls::fotsgure_gcm_siv_seal(&*self.0, nonce, data, length, bytes, count, &mut tag)
+        };
+        sealed(status).map(|()| tag)
+    }
+
+    /// Decrypts a text in place if the tag is right (RFC 8452, 5).
+    pub fn open(&self, nonce: &[u8; 12], additional: &[u8], text: &mut [u8], tag: &[u8; 16]) -> Result<(), Refused> {
+        // SAFETY: as above.
+        let status = unsafe {
+            let (data, bytes) = (additional.as_ptr(), text.as_mut_ptr());
+            let (length, count) = (additional.len(), text.len());
+            calls::fotsgure_gcm_siv_open(&*self.0, nonce, data, length, bytes, count, tag)
+        };
+        if status == c::DONE { Ok(()) } else { Err(Refused) }
+    }
+}
+
+impl Drop for GcmSiv {
+    fn drop(&mut self) {
+        // SAFETY: a whole struct, borrowed for the call.
+        unsafe { calls::fotsgure_gcm_siv_wipe(&mut *self.0) }
+    }
+}
+
+impl fmt::Debug for GcmSiv {
+    fn fmt(&self, f: &mut fmt::Formatter<'_>) -> fmt::Result {
+        f.write_str("GcmSiv { .. }")
+    }
+}
 
 /// The next nonce of a key: one number, highest byte first. Store `next` after each message and before it is sent, and
 /// begin with what was stored after a restart; if it is lost, take a new key. It can't be cloned: a copy would give
@@ -167,12 +304,143 @@ impl Gcm {
     }
 }
 
+/// Why a call for a piece was refused. The message stays as it was.
+#[derive(Debug, Clone, Copy, PartialEq, Eq)]
+pub enum NotTaken {
+    /// The call came at a time when it may not: additional data after text, text after the end, `decrypt` before
+    /// `accept`.
+    OutOfTurn,
+    /// The message would be longer than GCM allows, or more would be decrypted than was verified.
+    TooLong,
+    /// The tag isn't that of this key and of what has come: drop the message. Tell nobody more than that.
+    Refused,
+}
+
+impl fmt::Display for NotTaken {
+    fn fmt(&self, f: &mut fmt::Formatter<'_>) -> fmt::Result {
+        f.write_str(match self {
+            NotTaken::OutOfTurn => "it isn't the turn of this call",
+            NotTaken::TooLong => "more than GCM allows, or than was verified",
+            NotTaken::Refused => "the message was refused",
+        })
+    }
+}
+
+impl std::error::Error for NotTaken {}
+
+/// A message in pieces of any size. To encrypt: `additional`, `encrypt`, `finish`. To decrypt: `additional`, `verify`,
+/// `accept`, and then `decrypt` with the same encrypted text once more, from its beginning: count the bytes of both
+/// passes. It is on the heap, so that a move leaves no copy of it, and is zeroized when it is dropped. It can't be
+/// cloned: a copy would encrypt another text under the same nonce.
+pub struct Message<'a> {
+    gcm: &'a Gcm,
+    message: Box<calls::Message>,
+}
+
+impl Gcm {
+    /// Begins a message in pieces under a nonce of yours. Once some of it was encrypted, its nonce is used.
+    pub fn begin(&self, nonce: &[u8]) -> Result<Message<'_>, NotSealed> {
+        // SAFETY: the slice is borrowed for the call, which reads nothing of the message.
+        self.begun(|message| unsafe { calls::fotsgure_gcm_begin(&*self.0, message, nonce.as_ptr(), nonce.len()) })
+    }
+
+    /// The same under the counter's next nonce, which it returns: store the counter before anything of the message is
+    /// sent.
+    pub fn begin_next(&self, counter: &mut Counter) -> Result<([u8; 12], Message<'_>), NotSealed> {
+        let mut nonce = [0; 12];
+        // SAFETY: as above.
+        let begun = self.begun(|message| unsafe {
+            calls::fotsgure_gcm_begin_next(&*self.0, message, &mut *counter, &mut nonce)
+        });
+        begun.map(|message| (nonce, message))
+    }
+
+    /// A message that a call begins.
+    fn begun(&self, begin: impl FnOnce(*mut MaybeUninit<calls::Message>) -> u32) -> Result<Message<'_>, NotSealed> {
+        let mut message = Box::new(MaybeUninit::zeroed());
+        sealed(begin(&mut *message))?;
+        // SAFETY: the box holds zeros, or what the call wrote over them: any bytes are a struct of numbers.
+        let message = unsafe { Box::from_raw(Box::into_raw(message).cast::<calls::Message>()) };
+        Ok(Message { gcm: self, message })
+    }
+}
+
+impl Message<'_> {
+    /// Takes a piece of the additional data, all of which comes before the text.
+    pub fn additional(&mut self, bytes: &[u8]) -> Result<(), NotTaken> {
+        // SAFETY: the key and the message are whole structs that `new` and `begin` wrote, and the slice is borrowed for
+        // the call. Those that are written are mutable, so that they overlap nothing.
+        taken(unsafe {
+            calls::fotsgure_gcm_additional(&*self.gcm.0, &mut *self.message, bytes.as_ptr(), bytes.len())
+        })
+    }
+
+    /// Encrypts a piece of the text in place.
+    pub fn encrypt(&mut self, text: &mut [u8]) -> Result<(), NotTaken> {
+        // SAFETY: as above.
+        taken(unsafe {
+            calls::fotsgure_gcm_encrypt(&*self.gcm.0, &mut *self.message, text.as_mut_ptr(), text.len())
+        })
+    }
+
+    /// Ends a message that was encrypted, and returns its tag.
+    pub fn finish(mut self) -> Result<[u8; 16], NotTaken> {
+        let mut tag = [0; 16];
+        // SAFETY: as above.
+        taken(unsafe { calls::fotsgure_gcm_finish(&*self.gcm.0, &mut *self.message, &mut tag) }).map(|()| tag)
+    }
+
+    /// Takes a piece of an encrypted text whose tag is to be compared. That it is taken doesn't say that it is authentic.
+    pub fn verify(&mut self, text: &[u8]) -> Result<(), NotTaken> {
+        // SAFETY: as above.
+        taken(unsafe { calls::fotsgure_gcm_verify(&*self.gcm.0, &mut *self.message, text.as_ptr(), text.len()) })
+    }
+
+    /// Compares the tag of what has come.
+    pub fn accept(&mut self, tag: &[u8]) -> Result<(), NotTaken> {
+        // SAFETY: as above.
+        taken(unsafe { calls::fotsgure_gcm_accept(&*self.gcm.0, &mut *self.message, tag.as_ptr(), tag.len()) })
+    }
+
+    /// Decrypts a piece in place of the text whose tag was right.
+    pub fn decrypt(&mut self, text: &mut [u8]) -> Result<(), NotTaken> {
+        // SAFETY: as above.
+        taken(unsafe {
+            calls::fotsgure_gcm_decrypt(&*self.gcm.0, &mut *self.message, text.as_mut_ptr(), text.len())
+        })
+    }
+}
+
+impl Drop for Message<'_> {
+    fn drop(&mut self) {
+        // SAFETY: a whole struct, borrowed for the call.
+        unsafe { calls::fotsgure_gcm_wipe_message(&mut *self.message) }
+    }
+}
+
+impl fmt::Debug for Message<'_> {
+    fn fmt(&self, f: &mut fmt::Formatter<'_>) -> fmt::Result {
+        f.write_str("Message { .. }")
+    }
+}
+
+fn taken(status: u32) -> Result<(), NotTaken> {
+    match status {
+        c::DONE => Ok(()),
+        calls::TOO_LONG => Err(NotTaken::TooLong),
+        calls::TAG_LENGTH | calls::REFUSED => Err(NotTaken::Refused),
+        calls::OUT_OF_TURN => Err(NotTaken::OutOfTurn),
+        other => unreachable!("status {other} with a key"),
+    }
+}
+
 fn sealed(status: u32) -> Result<(), NotSealed> {
     match status {
         c::DONE => Ok(()),
         calls::NONCE_LENGTH => Err(NotSealed::NonceLength),
         calls::TOO_LONG => Err(NotSealed::TooLong),
         calls::NONCES_END => Err(NotSealed::NoncesEnd),
+        calls::NO_RANDOMNESS => Err(NotSealed::NoRandomness),
         other => unreachable!("status {other} with a key"),
     }
 }

@@ -8,7 +8,11 @@ ghost use Rattle.aes_c.specs.Kept.{round_keys_in, IsMade};
 
 use crate::kept::{Aes, holds_key, lent, lent_both};
 use crate::status::{DONE, INVALID_COUNT, NO_KEY, REFUSED};
+use aes_cipher::zeroize::wipe_stack;
 use key_wrap::{InvalidCount, NotUnwrapped, Semiblock, unwrap, unwrap_padded, wrap, wrap_padded};
+
+// How many bytes of stack a call takes at most that wraps or unwraps. Parts of the key are left there.
+const WRAPPING_STACK: usize = 512;
 
 /// Wraps a key from one buffer to another (KW-AE, SP 800-38F, 6.2). Returns `NO_KEY` exactly if the struct holds no key,
 /// else `INVALID_COUNT` if the key has fewer than two semiblocks or too many, or the output isn't one longer, and `DONE`
@@ -25,7 +29,9 @@ pub extern "C" fn fotsgure_aes_wrap(aes: &Aes, key: &[Semiblock], output: &mut [
     if !holds_key(aes) {
         return NO_KEY;
     }
-    match wrap(&lent(aes), key, output) {
+    let result = wrap(&lent(aes), key, output);
+    wipe_stack::<WRAPPING_STACK>();
+    match result {
         Ok(()) => DONE,
         Err(InvalidCount) => INVALID_COUNT,
     }
@@ -55,7 +61,9 @@ pub extern "C" fn fotsgure_aes_unwrap(
     if !holds_key(aes) {
         return NO_KEY;
     }
-    match unwrap(&lent_both(aes), sealed, output) {
+    let result = unwrap(&lent_both(aes), sealed, output);
+    wipe_stack::<WRAPPING_STACK>();
+    match result {
         Ok(()) => DONE,
         Err(NotUnwrapped::InvalidCount) => INVALID_COUNT,
         Err(NotUnwrapped::Refused) => REFUSED,
@@ -77,7 +85,9 @@ pub extern "C" fn fotsgure_aes_wrap_padded(aes: &Aes, key: &[u8], output: &mut [
     if !holds_key(aes) {
         return NO_KEY;
     }
-    match wrap_padded(&lent(aes), key, output) {
+    let result = wrap_padded(&lent(aes), key, output);
+    wipe_stack::<WRAPPING_STACK>();
+    match result {
         Ok(()) => DONE,
         Err(InvalidCount) => INVALID_COUNT,
     }
@@ -113,7 +123,9 @@ pub extern "C" fn fotsgure_aes_unwrap_padded(
     if !holds_key(aes) {
         return NO_KEY;
     }
-    match unwrap_padded(&lent_both(aes), sealed, output) {
+    let result = unwrap_padded(&lent_both(aes), sealed, output);
+    wipe_stack::<WRAPPING_STACK>();
+    match result {
         Ok(bytes) => {
             *key_bytes = bytes as usize;
             DONE

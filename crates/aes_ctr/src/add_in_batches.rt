@@ -3,9 +3,11 @@
 ghost use Rattle.std.specs.Prelude.{◌≡◌, ℕ, ◌+◌, ◌*◌, ◌/◌, ◌%◌, ◌^◌, ◌<◌, ◌≤◌, length};
 ghost use Rattle.aes_ctr.specs.CounterMode.{keystream_byte, plus_stream};
 ghost use Rattle.aes_ctr.specs.Private.{added_from};
+ghost use Rattle.aes_ctr.specs.Streams.{stream_byte};
 
 use crate::add_blocks::add_blocks;
-use crate::keystream::{count_on, fill_by_backend, fill_with_keystream};
+use crate::counter_blocks::{CounterBlocks, WholeBlock};
+use crate::keystream::{fill_by_backend, fill_with_keystream};
 use aes_cipher::cipher::{Block, BlockCipherEncBackend, BlockCipherEncClosure, BlockCipherEncrypt};
 
 // How many blocks a backend's batch may have, so that there is room for it.
@@ -13,12 +15,17 @@ const LARGEST_BATCH: usize = 16;
 
 // Adds to bytes of one block the keystream from one position on.
 #[tactic(auto, using(crate::proofs::Places::plus_blocks))]
-fn add_to_one<C: BlockCipherEncrypt>(cipher: &C, iv: &Block, position: u64, bytes: &mut [u8])
+fn add_to_one<C: BlockCipherEncrypt, K: CounterBlocks>(
+    cipher: &C,
+    counters: &K,
+    position: u64,
+    bytes: &mut [u8],
+)
     requires { position % 16 + length bytes.old ≤ 16 }
-    ensures { bytes.new ≡ plus_stream (keystream_byte (C.round_keys cipher.now) iv.now) position bytes.old }
+    ensures { bytes.new ≡ plus_stream (stream_byte (C.round_keys cipher.now) (K.block counters.now)) position bytes.old }
 {
     let mut room = [[0; 16]; 1];
-    fill_with_keystream(cipher, iv, position / 16, &mut room);
+    fill_with_keystream(cipher, counters, position / 16, &mut room);
     add_blocks(&room, (position % 16) as usize, bytes);
 }
 
@@ -39,23 +46,28 @@ fn blocks_at_once<B: BlockCipherEncBackend>() -> usize
 // blocks of the keystream stay in registers.
 #[tactic(auto, using(crate::proofs::Places::plus_batch, std::proofs::lemmas::Grind::common_steps))]
 #[inline(always)]
-fn add_batch<B: BlockCipherEncBackend>(backend: &B, iv: &Block, first: u64, bytes: &mut [u8])
+fn add_batch<B: BlockCipherEncBackend, K: CounterBlocks>(
+    backend: &B,
+    counters: &K,
+    first: u64,
+    bytes: &mut [u8],
+)
     requires fits { B.PAR_BLOCKS ≤ 16 }
     requires one_batch { length bytes.old ≡ 16 * B.PAR_BLOCKS }
-    ensures { bytes.new ≡ plus_stream (keystream_byte (B.round_keys backend.now) iv.now) (16 * first) bytes.old }
+    ensures { bytes.new ≡ plus_stream (stream_byte (B.round_keys backend.now) (K.block counters.now)) (16 * first) bytes.old }
 {
     let mut room = [[0; 16]; LARGEST_BATCH];
     let blocks = &mut room[..B::PAR_BLOCKS];
-    count_on(iv, first, blocks);
+    counters.put(first, blocks);
     backend.encrypt_par_blocks(blocks);
     add_blocks(blocks, 0, bytes);
 }
 
 // Adds the keystream from one position on to the bytes from place `done` on, up to the end of a batch that begins with
 // the block of the first, or to all if there are fewer. Returns the place that it has come to.
-fn add_next<B: BlockCipherEncBackend>(
+fn add_next<B: BlockCipherEncBackend, K: CounterBlocks>(
     backend: &B,
-    iv: &Block,
+    counters: &K,
     position: u64,
     done: usize,
     bytes: &mut [u8],
@@ -64,7 +76,7 @@ fn add_next<B: BlockCipherEncBackend>(
     ensures inside { result ≤ length bytes.old }
     ensures some { done < length bytes.old → done < result }
     ensures to_a_block { result < length bytes.old → (position + result) % 16 ≡ 0 }
-    ensures added { let stream = keystream_byte (B.round_keys backend.now) iv.now in
+    ensures added { let stream = stream_byte (B.round_keys backend.now) (K.block counters.now) in
         position + length bytes.old < 2 ^ 64
         → added_from stream position result bytes.new ≡ added_from stream position done bytes.old }
 {
@@ -74,74 +86,88 @@ fn add_next<B: BlockCipherEncBackend>(
     let blocks = &mut room[..blocks_at_once::<B>()];
     let part = (16 * blocks.len() - from).min(bytes.len() - done);
     let count = (from + part).div_ceil(16);
-    fill_by_backend(backend, iv, place / 16, count, blocks);
+    fill_by_backend(backend, counters, place / 16, count, blocks);
     add_blocks(blocks, from, &mut bytes[done..done + part]);
     done + part
 }
 
 // Adds to bytes the keystream from one position on, by the backend: to the end of a block if the position is inside one,
 // then in whole batches, and then to what is left.
-fn add_by_backend<B: BlockCipherEncBackend>(
+fn add_by_backend<B: BlockCipherEncBackend, K: CounterBlocks>(
     backend: &B,
-    iv: &Block,
+    counters: &K,
     position: u64,
     bytes: &mut [u8],
 )
     ensures { position + length bytes.old < 2 ^ 64
-        → bytes.new ≡ plus_stream (keystream_byte (B.round_keys backend.now) iv.now) position bytes.old }
+        → bytes.new ≡ plus_stream (stream_byte (B.round_keys backend.now) (K.block counters.now)) position bytes.old }
 {
     let mut done = 0;
     if position % 16 != 0 {
-        done = add_next(backend, iv, position, 0, bytes);
+        done = add_next(backend, counters, position, 0, bytes);
     }
     if B::PAR_BLOCKS <= LARGEST_BATCH {
         let size = 16 * B::PAR_BLOCKS;
         'whole: while bytes.len() - done >= size {
             let place = position.wrapping_add(done as u64);
-            add_batch(backend, iv, place / 16, &mut bytes[done..done + size]);
+            add_batch(backend, counters, place / 16, &mut bytes[done..done + size]);
             done += size;
         }
     }
     'rest: while done < bytes.len() {
-        done = add_next(backend, iv, position, done, bytes);
+        done = add_next(backend, counters, position, done, bytes);
     }
 }
 
 // Bytes to which the keystream is due from one position on.
 #[derive(Drop)]
-struct Due<'a> {
-    iv: Block,
+struct Due<'k, 'a, K: CounterBlocks> {
+    counters: &'k K,
     position: u64,
     bytes: &'a mut [u8],
 }
 
-impl<'a> BlockCipherEncClosure for Due<'a> {
+impl<'k, 'a, K: CounterBlocks> BlockCipherEncClosure for Due<'k, 'a, K> {
     ghost did = { λ before w after.
         (before.position + length before.bytes.now < 2 ^ 64
-        → after.bytes.now ≡ plus_stream (keystream_byte w before.iv) before.position before.bytes.now)
+        → after.bytes.now ≡ plus_stream (stream_byte w (K.block before.counters.now)) before.position before.bytes.now)
         × (after.bytes.ghost_name ≡ before.bytes.ghost_name) };
 
     fn call<B: BlockCipherEncBackend>(&mut self, backend: &B) {
-        add_by_backend(backend, &self.iv, self.position, self.bytes);
+        add_by_backend(backend, self.counters, self.position, self.bytes);
     }
 }
 
-/// Adds to each byte the keystream's byte at its place, the first of them at a position (SP 800-38A, 6.5). It keeps no
-/// position: `Ctr128BE` does.
-pub fn add_keystream<C: BlockCipherEncrypt>(cipher: &C, iv: &Block, position: u64, bytes: &mut [u8])
+/// Adds to each byte the keystream's byte at its place, the first of them at a position (SP 800-38A, 6.5), with these
+/// counter blocks.
+pub fn add_stream<C: BlockCipherEncrypt, K: CounterBlocks>(
+    cipher: &C,
+    counters: &K,
+    position: u64,
+    bytes: &mut [u8],
+)
     requires { position + length bytes.old < 2 ^ 64 }
-    ensures { bytes.new ≡ plus_stream (keystream_byte (C.round_keys cipher.now) iv.now) position bytes.old }
+    ensures { bytes.new ≡ plus_stream (stream_byte (C.round_keys cipher.now) (K.block counters.now)) position bytes.old }
 {
     let from = (position % 16) as usize;
     if bytes.len() <= 16 - from {
-        add_to_one(cipher, iv, position, bytes);
+        add_to_one(cipher, counters, position, bytes);
     } else {
         let blocks = (from + bytes.len()).div_ceil(16);
         let mut due = Due {
-            iv: *iv,
+            counters,
             position,
             bytes,
         };
         cipher.encrypt_with_backend_for(blocks, &mut due);
     }
+}
+
+/// The same with the whole block as the counter. It keeps no position: `Ctr128BE` does.
+#[tactic(auto, using(crate::proofs::Places::whole_blocks))]
+pub fn add_keystream<C: BlockCipherEncrypt>(cipher: &C, iv: &Block, position: u64, bytes: &mut [u8])
+    requires { position + length bytes.old < 2 ^ 64 }
+    ensures { bytes.new ≡ plus_stream (keystream_byte (C.round_keys cipher.now) iv.now) position bytes.old }
+{
+    add_stream(cipher, &WholeBlock { iv: *iv }, position, bytes);
 }

@@ -2,35 +2,21 @@
 
 ghost use Rattle.std.specs.Prelude.{◌≡◌, ◌⊎◌, ℕ, [], ◌+◌, ◌<◌, ◌≤◌, length, slice_index_or};
 ghost use Rattle.aes_planes.specs.Fips197 as fips;
-ghost use Rattle.aes_ctr.specs.CounterMode.{counter_block};
 
-use aes_cipher::blocks::block_of_number;
+use crate::counter_blocks::CounterBlocks;
 use aes_cipher::cipher::{Block, BlockCipherEncBackend, BlockCipherEncrypt};
 
-// Writes counter blocks, from number `first` on.
-#[tactic(auto, using(crate::proofs::Counters::counted))]
-#[inline(always)]
-pub(crate) fn count_on(iv: &Block, first: u64, blocks: &mut [Block])
-    ensures { (i : ℕ) → i < length blocks.old → slice_index_or blocks.new i [] ≡ counter_block iv.now (first + i) }
-{
-    let mut counter = u128::from_be_bytes(*iv).wrapping_add(first as u128);
-    for i in 0..blocks.len() {
-        blocks[i] = block_of_number(counter);
-        counter = counter.wrapping_add(1);
-    }
-}
-
 // Writes blocks of the keystream, from number `first` on: each counter block encrypted.
-pub(crate) fn fill_with_keystream<C: BlockCipherEncrypt>(
+pub(crate) fn fill_with_keystream<C: BlockCipherEncrypt, K: CounterBlocks>(
     cipher: &C,
-    iv: &Block,
+    counters: &K,
     first: u64,
     blocks: &mut [Block],
 )
     ensures { (i : ℕ) → i < length blocks.old → slice_index_or blocks.new i []
-        ≡ fips.cipher_with (C.round_keys cipher.now) (counter_block iv.now (first + i)) }
+        ≡ fips.cipher_with (C.round_keys cipher.now) (K.block counters.now (first + i)) }
 {
-    count_on(iv, first, blocks);
+    counters.put(first, blocks);
     cipher.encrypt_blocks(blocks);
 }
 
@@ -38,22 +24,22 @@ pub(crate) fn fill_with_keystream<C: BlockCipherEncrypt>(
 // one. The others are left as counter blocks, or blocks of the keystream too. A call of its own, so that whole batches,
 // which don't need it, are inlined.
 #[tactic(auto, using(crate::proofs::Places::filled))]
-pub(crate) fn fill_by_backend<B: BlockCipherEncBackend>(
+pub(crate) fn fill_by_backend<B: BlockCipherEncBackend, K: CounterBlocks>(
     backend: &B,
-    iv: &Block,
+    counters: &K,
     first: u64,
     count: usize,
     blocks: &mut [Block],
 )
     requires { count ≤ length blocks.old }
     ensures first { (i : ℕ) → i < count → slice_index_or blocks.new i []
-        ≡ fips.cipher_with (B.round_keys backend.now) (counter_block iv.now (first + i)) }
+        ≡ fips.cipher_with (B.round_keys backend.now) (K.block counters.now (first + i)) }
     ensures others { (i : ℕ) → i < length blocks.old
-        → (slice_index_or blocks.new i [] ≡ fips.cipher_with (B.round_keys backend.now) (counter_block iv.now (first + i)))
-        ⊎ (slice_index_or blocks.new i [] ≡ counter_block iv.now (first + i)) }
+        → (slice_index_or blocks.new i [] ≡ fips.cipher_with (B.round_keys backend.now) (K.block counters.now (first + i)))
+        ⊎ (slice_index_or blocks.new i [] ≡ K.block counters.now (first + i)) }
 {
     // All of the batch gets counters: blocks of zeros would be encrypted with it, and their cipher is H of GCM.
-    count_on(iv, first, blocks);
+    counters.put(first, blocks);
     if blocks.len() == B::PAR_BLOCKS {
         backend.encrypt_first_blocks(count, blocks);
     } else {

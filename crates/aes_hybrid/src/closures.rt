@@ -28,9 +28,9 @@ fn call_to_encrypt<W: Width, F: BlockCipherEncClosure>(keys: &[Block], words: &[
     f.call(&Batches::new(OnLanes::<Encrypt, W>::new(keys, keys), words));
 }
 
-// Lends planes to encrypt. They are wiped before the call returns, with the stack that the closure took. The planes are a local variable of a function of its own, since
-// a function makes room for its variables where it begins, also where it leaves before it needs them.
-#[inline(always)]
+// Lends planes to encrypt. They are wiped before the call returns, with the stack that the closure took. Never inlined: few
+// blocks need no large frame, and what a caller leaves below its own frame isn't deep.
+#[inline(never)]
 fn lend_planes_to_encrypt<W: Width, F: BlockCipherEncClosure>(keys: &[Block], f: &mut F)
     requires { IsCipherSchedule keys.now }
     ensures { F.did f.old (fips.key_expansion (key_of_lanes keys.now)) f.new }
@@ -77,7 +77,7 @@ fn call_to_decrypt<W: Width, F: BlockCipherDecClosure>(
 }
 
 // Lends planes to decrypt. They serve both directions, and are made of the round keys of Cipher.
-#[inline(always)]
+#[inline(never)]
 fn lend_planes_to_decrypt<W: Width, F: BlockCipherDecClosure>(
     keys: &[Block],
     inverse: &[Block],

@@ -60,7 +60,7 @@ right_term x b y = by_test (b == 0)
     by_test false = refl
 
 -- and multiples by powers of x
-right_v : (x a m : ℕ) → product x (v_at a m) ≡ v_at (product x a) m
+pub right_v : (x a m : ℕ) → product x (v_at a m) ≡ v_at (product x a) m
 unfolding product
 right_v x a m =
     product_terms x (v_at a m) 128
@@ -85,7 +85,7 @@ one_test : all_below 256 (λ b. byte_multiple (2 ^ 127) b == b * 2 ^ 120) ≡ tr
 unfolding all_below byte_multiple nibble_multiple sum_of v_at next_v
 one_test = refl
 
-by_one : (a : ℕ) → a < 2 ^ 128 → product a (2 ^ 127) ≡ a
+pub by_one : (a : ℕ) → a < 2 ^ 128 → product a (2 ^ 127) ≡ a
 by_one a small =
     product_bytes a (2 ^ 127)
     ∙ sum-agree 16 (λ j. v_at (byte_multiple (2 ^ 127) (byte_of a j)) (8 * j)) (λ j. byte_of a j * 2 ^ (8 * (15 - j)))

@@ -17,7 +17,8 @@ pub(crate) type BlockRoom = MustWipe<[Block; 1]>;
 const COUNTERS: u128 = 1 << 32;
 
 // Adds to bytes the keystream of GCTR from a position on. The last 32 bits of the counter wrap at most once: the blocks
-// up to there, and those from there on, are two runs of counter mode.
+// up to there, and those from there on, are two runs of counter mode. In a call of its own, so that its stack can be wiped.
+#[inline(never)]
 pub(crate) fn add_gctr<C: BlockCipherEncrypt>(
     cipher: &C,
     first: &Block,

@@ -13,11 +13,16 @@ mod laws;
 mod message;
 mod mode;
 mod multiples;
+mod order;
 mod pieces;
 
 pub use counter::Counter;
 pub use errors::{InvalidMessage, InvalidPiece, NotAccepted, OutOfTurn, Refused, TooLong};
+pub use field::next_v;
+pub use hash::{hash_singly, hash_string, hash_string_and};
+pub use lanes::sum;
 pub use laws::{text_twice, turns};
 pub use message::{Message, Phase};
-pub use mode::{Gcm, LONGEST_HASHED, LONGEST_TEXT, LentGcm, is_short_tag, prepare};
-pub use multiples::{Multiples, Room, put_multiples};
+pub use mode::{Gcm, LONGEST_HASHED, LONGEST_TEXT, LentGcm, SHALLOW, is_short_tag, prepare};
+pub use multiples::{Multiples, Room, Table, TableRoom, put_multiples, put_one_table};
+pub use order::{ByteOrder, HighestFirst};

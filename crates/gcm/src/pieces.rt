@@ -14,7 +14,7 @@ use crate::gctr::{BlockRoom, add_gctr};
 use crate::hash::{hash_on, hash_piece};
 use crate::message::{Message, Phase, number_of, phase_of};
 use crate::mode::{
-    LONGEST_HASHED, LONGEST_TEXT, LentGcm, SHALLOW, add_masked, hash_lengths, is_expected,
+    DEEP, LONGEST_HASHED, LONGEST_TEXT, LentGcm, SHALLOW, add_masked, hash_lengths, is_expected,
     is_short_tag, put_mask,
 };
 use aes_cipher::blocks::{block_of_number, number_of_block};
@@ -51,6 +51,14 @@ fn put_claimed(tag: &[u8], expected: &Block, claimed: &mut Block)
 {
     *claimed = *expected;
     claimed[..tag.len()].copy_from_slice(tag);
+}
+
+// Wipes the stack after J_0 was written. A nonce of another length than 12 bytes is hashed, and then J_0 is secret.
+#[inline(always)]
+fn wipe_hash_of(nonce: &[u8]) {
+    if nonce.len() != 12 {
+        wipe_stack::<SHALLOW>();
+    }
 }
 
 impl<'a, C: BlockCipherEncrypt> LentGcm<'a, C> {
@@ -92,6 +100,7 @@ impl<'a, C: BlockCipherEncrypt> LentGcm<'a, C> {
         message.additional = 0;
         message.text = 0;
         message.decrypted = 0;
+        wipe_hash_of(nonce);
     }
 
     /// Begins a message under the counter's next nonce, which it returns, and moves the counter on by one (8.2.1). Ask
@@ -158,6 +167,7 @@ impl<'a, C: BlockCipherEncrypt> LentGcm<'a, C> {
         self.turn_to(message, Phase::Encrypting, text.len())?;
         add_gctr(&self.cipher, &message.first, 16 + message.text, text);
         self.hash_text(message, text);
+        wipe_stack::<DEEP>();
         Ok(())
     }
 
@@ -202,6 +212,7 @@ impl<'a, C: BlockCipherEncrypt> LentGcm<'a, C> {
     {
         self.turn_to(message, Phase::Verifying, text.len())?;
         self.hash_text(message, text);
+        wipe_stack::<SHALLOW>();
         Ok(())
     }
 
@@ -303,6 +314,7 @@ impl<'a, C: BlockCipherEncrypt> LentGcm<'a, C> {
         }
         add_gctr(&self.cipher, &message.first, 16 + message.decrypted, text);
         message.decrypted += text.len() as u64;
+        wipe_stack::<DEEP>();
         Ok(())
     }
 
@@ -332,6 +344,7 @@ impl<'a, C: BlockCipherEncrypt> LentGcm<'a, C> {
         let position = 16 + message.text;
         self.hash_text(message, text);
         add_gctr(&self.cipher, &message.first, position, text);
+        wipe_stack::<DEEP>();
         Ok(())
     }
 
@@ -386,7 +399,6 @@ impl<'a, C: BlockCipherEncrypt> LentGcm<'a, C> {
         let before = number_of_block(&message.value);
         let value = hash_piece(&self.multiples, before, &mut message.rest, filled, text);
         message.value = block_of_number(value);
-        wipe_stack::<SHALLOW>();
         message.text += text.len() as u64;
     }
 

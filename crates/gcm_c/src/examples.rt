@@ -5,10 +5,14 @@ ghost use Rattle.std.specs.Prelude.{◌≡◌, ◌↔◌, ◌-◌, ◌^◌, ◌<
 ghost use Rattle.aes_planes.specs.Fips197 as fips;
 ghost use Rattle.aes_cipher.specs.KeySizes.{IsKeySize};
 ghost use Rattle.gcm.specs.Gcm as nist;
+ghost use Rattle.gcm_siv.specs.GcmSiv as rfc;
 ghost use Rattle.gcm_c.specs.Kept.{IsNonceLength, IsTooLong};
+ghost use Rattle.gcm_c.specs.Siv.{IsSivTooLong};
 
 use crate::VERSION;
 use crate::kept::{Gcm, fotsgure_gcm_set_key};
+use crate::siv::fotsgure_gcm_siv_seal;
+use crate::siv_kept::{Siv, fotsgure_gcm_siv_set_key};
 use crate::status::{
     DONE, KEY_LENGTH, NO_KEY, NONCE_LENGTH, NONCES_END, OUT_OF_TURN, REFUSED, TAG_LENGTH, TOO_LONG,
 };
@@ -36,6 +40,8 @@ const _: () = prove!(size_of::<Counter>() == 12);
 
 const _: () = prove!(size_of::<Message>() == 80);
 
+const _: () = prove!(size_of::<Siv>() == 244);
+
 /// The lengths of nonces, those on either side of them, and the most that a message may have.
 pub fn length_examples()
     ensures shortest_nonce { IsNonceLength 1 }
@@ -45,6 +51,13 @@ pub fn length_examples()
     ensures longest { ¬ IsTooLong 2305843009213693951 68719476704 }
     ensures text_too_long { IsTooLong 0 68719476705 }
     ensures additional_too_long { IsTooLong 2305843009213693952 0 }
+{}
+
+/// The most that a message of AES-GCM-SIV may have.
+pub fn siv_length_examples()
+    ensures longest { ¬ IsSivTooLong 68719476736 68719476736 }
+    ensures text_too_long { IsSivTooLong 0 68719476737 }
+    ensures additional_too_long { IsSivTooLong 68719476737 0 }
 {}
 
 /// Keeps a key, and encrypts a text in place under it and a nonce. Returns `KEY_LENGTH`, `NONCE_LENGTH` or `TOO_LONG`, the
@@ -71,4 +84,29 @@ pub fn set_key_and_seal(
         return kept;
     }
     fotsgure_gcm_seal(gcm, nonce, additional, text, tag)
+}
+
+/// Keeps a key of AES-GCM-SIV, and encrypts a text in place under it and a nonce. Returns `KEY_LENGTH` or `TOO_LONG`, the
+/// first of them that applies, and else `DONE`.
+pub fn siv_set_key_and_seal(
+    siv: &mut Siv,
+    key: &[u8],
+    nonce: &[u8; 12],
+    additional: &[u8],
+    text: &mut [u8],
+    tag: &mut [u8; 16],
+) -> u32
+    ensures key_length { result ≡ KEY_LENGTH ↔ ¬ rfc.IsKeySize (length key.now) }
+    ensures too_long { result ≡ TOO_LONG ↔ rfc.IsKeySize (length key.now)
+        × IsSivTooLong (length additional.now) (length text.old) }
+    ensures done { result ≡ DONE ↔ rfc.IsKeySize (length key.now)
+        × ((length additional.now ≤ 2 ^ 36) × (length text.old ≤ 2 ^ 36)) }
+    ensures tag { result ≡ DONE → tag.new ≡ rfc.tag key.now nonce.now additional.now text.old }
+    ensures encrypted { result ≡ DONE → text.new ≡ rfc.text key.now nonce.now tag.new text.old }
+{
+    let kept = fotsgure_gcm_siv_set_key(siv, key);
+    if kept != DONE {
+        return kept;
+    }
+    fotsgure_gcm_siv_seal(siv, nonce, additional, text, tag)
 }

@@ -1,4 +1,4 @@
-//! GCM for C, and for languages that call C: `dist/include/fotsgure_gcm.h` declares these calls.
+//! GCM and AES-GCM-SIV for C, and for languages that call C: `dist/include/fotsgure_gcm.h` declares these calls.
 //!
 //! The header states what a `requires` asks of callers; nothing checks a call from C. Keys of 16, 24 and 32 bytes go
 //! through the same exports, since the struct knows how long its key is.
@@ -16,6 +16,10 @@ mod pieces;
 #[cfg(test)]
 mod published;
 mod sealing;
+mod siv;
+mod siv_kept;
+#[cfg(test)]
+mod siv_tests;
 mod status;
 #[cfg(test)]
 mod tests;
@@ -31,6 +35,8 @@ pub use opening::{
 };
 pub use pieces::{fotsgure_gcm_additional, fotsgure_gcm_begin, fotsgure_gcm_wipe_message};
 pub use sealing::{fotsgure_gcm_encrypt, fotsgure_gcm_finish};
+pub use siv::{fotsgure_gcm_siv_open, fotsgure_gcm_siv_seal};
+pub use siv_kept::{Siv, fotsgure_gcm_siv_set_key, fotsgure_gcm_siv_wipe};
 pub use status::{
     DONE, KEY_LENGTH, NO_KEY, NONCE_LENGTH, NONCES_END, OUT_OF_TURN, REFUSED, TAG_LENGTH, TOO_LONG,
 };

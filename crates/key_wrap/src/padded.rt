@@ -24,6 +24,7 @@ const MOST_FILLED: u64 = 1 << 29;
 /// `InvalidCount` exactly if the key is empty or has 2^32 bytes or more, or the output is of another length than one
 /// semiblock more than the key fills; it is then unchanged.
 #[tactic(auto, unfolding(crate::specs::Padded::filled))]
+#[inline(never)]
 pub fn wrap_padded<C: BlockCipherEncrypt>(
     cipher: &C,
     key: &[u8],
@@ -95,6 +96,7 @@ fn semiblock_at(bytes: &[u8], start: usize) -> Semiblock
 ///
 /// `InvalidCount` exactly if no key becomes so many semiblocks, or the output is of another length; it is then unchanged.
 /// Else `Refused` exactly if the key was not wrapped with padding under this cipher's; the output is then zeros.
+#[inline(never)]
 pub fn unwrap_padded<C: BlockCipherDecrypt>(
     cipher: &C,
     sealed: &[Semiblock],

@@ -27,6 +27,7 @@ fn is_allowed(count: usize) -> bool
 ///
 /// `InvalidCount` exactly if the key has fewer than two semiblocks or 2^54 or more, or the output is of another length
 /// than one semiblock more than the key; it is then unchanged.
+#[inline(never)]
 pub fn wrap<C: BlockCipherEncrypt>(
     cipher: &C,
     key: &[Semiblock],
@@ -78,6 +79,7 @@ fn unwrap_all<C: BlockCipherDecrypt>(
 ///
 /// `InvalidCount` exactly if no key becomes so many semiblocks, or the output is of another length; it is then unchanged.
 /// Else `Refused` exactly if the key was not wrapped under this cipher's; the output is then zeros.
+#[inline(never)]
 pub fn unwrap<C: BlockCipherDecrypt>(
     cipher: &C,
     sealed: &[Semiblock],

@@ -1,4 +1,4 @@
-/* A provider for OpenSSL 3 and later, "fotsgure": AES in ECB, CBC, CTR, GCM and key wrap over the proved C libraries
+/* A provider for OpenSSL 3 and later, "fotsgure": AES in ECB, CBC, CTR, GCM, GCM-SIV and key wrap over the proved C libraries
  * fotsgure_aes and fotsgure_gcm. docs/OPENSSL.md says how to build it and switch it on, and what of it is proved.
  *
  * No branch and no address depends on a key or on data, but for what OpenSSL's interface itself shows: whether a tag, a
@@ -24,17 +24,23 @@ static void *new_context(void *provider, const struct algorithm *algorithm)
     return c;
 }
 
+static void free_context(void *context)
+{
+    if (context) {
+        gcm_siv_forget(context);
+        explicit_bzero(context, sizeof(struct context));
+    }
+    free(context);
+}
+
 static void *copy_context(void *context)
 {
     void *copy = malloc(sizeof(struct context));
-    return copy ? memcpy(copy, context, sizeof(struct context)) : NULL;
-}
-
-static void free_context(void *context)
-{
-    if (context)
-        explicit_bzero(context, sizeof(struct context));
-    free(context);
+    if (copy && !gcm_siv_copy(memcpy(copy, context, sizeof(struct context)), context)) {
+        free_context(copy);
+        return NULL;
+    }
+    return copy;
 }
 
 static int set_params(void *context, const OSSL_PARAM params[])
@@ -48,6 +54,8 @@ static int set_params(void *context, const OSSL_PARAM params[])
         return fail(c, PROV_R_INVALID_KEY_LENGTH);
     if (is_mode(c, EVP_CIPH_GCM_MODE))
         return gcm_set_params(c, params);
+    if (is_mode(c, EVP_CIPH_GCM_SIV_MODE))
+        return gcm_siv_set_params(c, params);
     if (!get_number(params, OSSL_CIPHER_PARAM_PADDING, &padded) ||
         !get_number(params, OSSL_CIPHER_PARAM_TLS_VERSION, &version) || version == SSL3_VERSION ||
         !get_number(params, OSSL_CIPHER_PARAM_TLS_MAC_SIZE, &mac_length) || mac_length > MOST_MAC)
@@ -72,7 +80,8 @@ static void update_iv(struct context *c)
 static int get_params(void *context, OSSL_PARAM params[])
 {
     struct context *c = context;
-    if (is_mode(c, EVP_CIPH_GCM_MODE) && !gcm_get_params(c, params))
+    if ((is_mode(c, EVP_CIPH_GCM_MODE) && !gcm_get_params(c, params)) ||
+        (is_mode(c, EVP_CIPH_GCM_SIV_MODE) && !gcm_siv_get_params(c, params)))
         return 0;
     if (find(params, OSSL_CIPHER_PARAM_UPDATED_IV))
         update_iv(c);
@@ -91,8 +100,11 @@ static int set_key(struct context *c, const byte *key, size_t length)
         return 0;
     COUNTED(c->algorithm, 1, 0);
     c->has_key = 1;
-    return is_mode(c, EVP_CIPH_GCM_MODE) ? fotsgure_gcm_set_key(&c->gcm, key, length) == FOTSGURE_GCM_DONE
-                                         : fotsgure_aes_set_key(&c->aes, key, length) == FOTSGURE_AES_DONE;
+    if (is_mode(c, EVP_CIPH_GCM_MODE))
+        return fotsgure_gcm_set_key(&c->gcm, key, length) == FOTSGURE_GCM_DONE;
+    if (is_mode(c, EVP_CIPH_GCM_SIV_MODE))
+        return fotsgure_gcm_siv_set_key(&c->siv, key, length) == FOTSGURE_GCM_DONE;
+    return fotsgure_aes_set_key(&c->aes, key, length) == FOTSGURE_AES_DONE;
 }
 
 /* A key, an initialization vector or nonce, both, or neither. Without a new vector, CBC takes the same again, and
@@ -108,6 +120,7 @@ static int begin(struct context *c, const byte *key, size_t key_length, const by
         memmove(c->iv, iv, iv_length);
         c->iv_length = iv_length;
         c->stage = NONCE;
+        gcm_siv_forget(c);
     } else if (key && c->stage == MESSAGE) {
         c->stage = ENDED;
     }
@@ -141,8 +154,9 @@ static int get_constants(const struct algorithm *algorithm, OSSL_PARAM params[])
         put_number(params, OSSL_CIPHER_PARAM_KEYLEN, algorithm->key_length) &&
         put_number(params, OSSL_CIPHER_PARAM_IVLEN, algorithm->iv_length) &&
         put_number(params, OSSL_CIPHER_PARAM_BLOCK_SIZE, algorithm->block) &&
-        put_number(params, OSSL_CIPHER_PARAM_AEAD, mode == EVP_CIPH_GCM_MODE) &&
-        put_number(params, OSSL_CIPHER_PARAM_CUSTOM_IV, mode == EVP_CIPH_GCM_MODE || mode == EVP_CIPH_WRAP_MODE);
+        put_number(params, OSSL_CIPHER_PARAM_AEAD, mode == EVP_CIPH_GCM_MODE || mode == EVP_CIPH_GCM_SIV_MODE) &&
+        put_number(params, OSSL_CIPHER_PARAM_CUSTOM_IV,
+            mode == EVP_CIPH_GCM_MODE || mode == EVP_CIPH_GCM_SIV_MODE || mode == EVP_CIPH_WRAP_MODE);
 }
 
 #define NUMBER(name) OSSL_PARAM_size_t(OSSL_CIPHER_PARAM_##name, NULL)
@@ -186,7 +200,11 @@ LIST(gettable_provider_params, (void *provider), TEXT(NAME), TEXT(VERSION),
         WRAP, k, 8, 4, KWP, 0, 1) \
     DO(inverse_kw##bits, "AES-" #bits "-WRAP-INV:AES" #bits "-WRAP-INV", WRAP, k, 8, 8, KW, 1, 0) \
     DO(inverse_kwp##bits, "AES-" #bits "-WRAP-PAD-INV:AES" #bits "-WRAP-PAD-INV", WRAP, k, 8, 4, KWP, 1, 1)
+#define GCM_SIV(DO, bits, k) \
+    DO(gcm_siv##bits, "AES-" #bits "-GCM-SIV", gcm_siv_update, gcm_siv_cipher, gcm_siv_final, EVP_CIPH_GCM_SIV_MODE, k, 1, \
+        FOTSGURE_GCM_SIV_NONCE, NULL, 0, 0)
 #define ALL(DO) \
+    GCM_SIV(DO, 128, 16) GCM_SIV(DO, 256, 32) \
     ALGORITHMS(DO, 128, 16, 1, 2, 5, 6, 8) \
     ALGORITHMS(DO, 192, 24, 21, 22, 25, 26, 28) \
     ALGORITHMS(DO, 256, 32, 41, 42, 45, 46, 48)

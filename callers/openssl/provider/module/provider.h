@@ -18,6 +18,10 @@
 #define COUNTED(algorithm, event, bytes) ((void)0)
 #endif
 
+#ifndef EVP_CIPH_GCM_SIV_MODE /* before OpenSSL 3.2 */
+#define EVP_CIPH_GCM_SIV_MODE 0x10005
+#endif
+
 #define BLOCK FOTSGURE_AES_BLOCK
 #define TAG FOTSGURE_GCM_TAG
 #define MOST_IV 128 /* OpenSSL's own limit for a nonce of GCM */
@@ -41,7 +45,7 @@ struct algorithm {
     int inverse, padded;  /* key wrap: by the inverse cipher; with padding (RFC 5649) */
 };
 
-/* Of a message of GCM. ENDED: its nonce is used. */
+/* Of a message of GCM, or of AES-GCM-SIV. ENDED: its nonce is used. */
 enum stage { NO_NONCE, NONCE, MESSAGE, ENDED };
 
 struct context {
@@ -54,6 +58,7 @@ struct context {
     union { /* the key */
         struct fotsgure_aes aes;
         struct fotsgure_gcm gcm;
+        struct fotsgure_gcm_siv siv;
     };
     struct fotsgure_aes_ctr ctr;
     struct fotsgure_aes_cbc cbc;
@@ -65,7 +70,11 @@ struct context {
     size_t tls_version, mac_length; /* of records of TLS by CBC; 0: none */
     byte mac[MOST_MAC];
 
-    /* GCM */
+    /* AES-GCM-SIV: what has come of the additional data, on the heap */
+    byte *additional;
+    size_t additional_length;
+
+    /* GCM; the stage and the tag also of AES-GCM-SIV */
     enum stage stage;
     int counts;                     /* nonces are counted up: EVP_CTRL_AEAD_SET_IV_FIXED */
     size_t tag_length, header_length;
@@ -77,13 +86,19 @@ struct context {
 static inline int is_mode(const struct context *c, unsigned mode) { return c->algorithm->mode == mode; }
 
 /* The calls that take text, by mode. `block` is ECB, CBC and CTR. */
-OSSL_FUNC_cipher_update_fn block_update, wrap_update, gcm_update;
-OSSL_FUNC_cipher_cipher_fn block_cipher, gcm_cipher;
-OSSL_FUNC_cipher_final_fn block_final, gcm_final;
+OSSL_FUNC_cipher_update_fn block_update, wrap_update, gcm_update, gcm_siv_update;
+OSSL_FUNC_cipher_cipher_fn block_cipher, gcm_cipher, gcm_siv_cipher;
+OSSL_FUNC_cipher_final_fn block_final, gcm_final, gcm_siv_final;
 
-/* Parameters of GCM alone. */
+/* Parameters of GCM alone, and of AES-GCM-SIV. */
 int gcm_get_params(struct context *c, OSSL_PARAM params[]);
 int gcm_set_params(struct context *c, const OSSL_PARAM params[]);
+int gcm_siv_get_params(struct context *c, OSSL_PARAM params[]);
+int gcm_siv_set_params(struct context *c, const OSSL_PARAM params[]);
+
+/* The additional data that a context of AES-GCM-SIV keeps: freed, and copied (0: there is no memory). */
+void gcm_siv_forget(struct context *c);
+int gcm_siv_copy(struct context *copy, const struct context *c);
 
 /* Raises an error under a reason of OpenSSL's own provider, since programs compare these. Returns 0: a call failed. */
 int fail(const struct context *c, int reason, ...);

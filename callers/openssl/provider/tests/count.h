@@ -27,7 +27,7 @@ __attribute__((constructor)) static void open_counts(void)
     counts = map == MAP_FAILED ? NULL : map;
 }
 
-/* mode: 1 ECB, 2 CBC, 5 CTR, 6 GCM, 0x10002 key wrap; event: 0 context, 1 key, 2 text, 3 additional data. */
+/* mode: 1 ECB, 2 CBC, 5 CTR, 6 GCM, 0x10002 key wrap, 0x10005 GCM-SIV; event: 0 context, 1 key, 2 text, 3 additional data. */
 static inline void count_event(unsigned mode, size_t key_length, unsigned event, size_t bytes)
 {
     if (counts)

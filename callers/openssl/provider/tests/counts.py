@@ -3,7 +3,7 @@
 import struct
 import sys
 
-MODES = {1: "ECB", 2: "CBC", 5: "CTR", 6: "GCM", 10: "WRAP"}
+MODES = {1: "ECB", 2: "CBC", 5: "CTR", 6: "GCM", 10: "WRAP", 13: "GCM-SIV"}
 with open(sys.argv[1], "rb") as file:
     data = file.read()
 numbers = struct.unpack(f"<{len(data) // 8}Q", data)

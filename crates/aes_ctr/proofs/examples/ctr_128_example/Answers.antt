@@ -1,11 +1,11 @@
 -- What is left to show of `examples::ctr_128_example`.
-use Rattle.std.proofs.Common.{◌≡◌, ℕ, ◌+◌, ◌/◌, List, [], ◌∷◌, ◌++◌, slice_index_or, sym, arith}
+use Rattle.std.proofs.Common.{◌≡◌, ℕ, ◌+◌, ◌/◌, List, [], ◌∷◌, ◌++◌, slice_index_or, sym, ◌∙◌, arith}
 use Rattle.aes_planes.specs.BigEndian.{bytes}
 use Rattle.aes_planes.specs.Fips197.{build, build_from, cipher_with, key_expansion}
 use Rattle.aes_planes.proofs.Bits.ByteCases.{by_two, by_four}
 use Rattle.aes_ctr.specs.CounterMode.{counter_block, plus_stream}
 use Rattle.aes_ctr.specs.Private.{byte_of_blocks}
-use Rattle.aes_ctr.proofs.Places.{plus_blocks}
+use Rattle.aes_ctr.proofs.Places.{plus_blocks, whole_blocks}
 use Rattle.aes_ctr.proofs.examples.ctr_128_example.Goals as goal
 
 abbrev round_keys : List (List ℕ)
@@ -18,16 +18,22 @@ abbrev four : List (List ℕ)
 four = bytes 16 0xec8cdf7398607cb0f2d21675ea9ea1e4 ∷ bytes 16 0x362b7c3c6773516318a077d7fc5073ae
     ∷ bytes 16 0x6a2cc3787889374fbeb4c81b17ba6c44 ∷ bytes 16 0xe89c399ff0f198c6d40a31db156cabfe ∷ []
 
+abbrev text : List ℕ
+text = bytes 16 0x6bc1bee22e409f96e93d7e117393172a ++ bytes 16 0xae2d8a571e03ac9c9eb76fac45af8e51
+    ++ bytes 16 0x30c81c46a35ce411e5fbc1191a0a52ef ++ bytes 16 0xf69f2445df4f9b17ad2b417be66c3710
+
 abbrev two : List (List ℕ)
 two = bytes 16 0x362b7c3c6773516318a077d7fc5073ae ∷ bytes 16 0x6a2cc3787889374fbeb4c81b17ba6c44 ∷ []
+
+abbrev part : List ℕ
+part = bytes 16 0x8a571e03ac9c9eb76fac45af8e5130c8
 
 pub returns-clause-whole : goal.returns-clause-whole
 unfolding bytes build build_from plus_stream byte_of_blocks
 returns-clause-whole c =
     let known = c.keystream_128_example.ensures in
-    plus_blocks round_keys iv four 0
-    (bytes 16 0x6bc1bee22e409f96e93d7e117393172a ++ bytes 16 0xae2d8a571e03ac9c9eb76fac45af8e51
-    ++ bytes 16 0x30c81c46a35ce411e5fbc1191a0a52ef ++ bytes 16 0xf69f2445df4f9b17ad2b417be66c3710)
+    sym (whole_blocks round_keys iv 0 text)
+    ∙ plus_blocks round_keys (counter_block iv) four 0 text
     (by_four (λ m. slice_index_or four m [] ≡ cipher_with round_keys (counter_block iv (0 / 16 + m)))
     (sym known.first) (sym known.second) (sym known.third) (sym known.fourth)) (omega arith)
 
@@ -35,6 +41,7 @@ pub returns-clause-part : goal.returns-clause-part
 unfolding bytes build build_from plus_stream byte_of_blocks
 returns-clause-part c =
     let known = c.keystream_128_example.ensures in
-    plus_blocks round_keys iv two 18 (bytes 16 0x8a571e03ac9c9eb76fac45af8e5130c8)
+    sym (whole_blocks round_keys iv 18 part)
+    ∙ plus_blocks round_keys (counter_block iv) two 18 part
     (by_two (λ m. slice_index_or two m [] ≡ cipher_with round_keys (counter_block iv (18 / 16 + m)))
     (sym known.second) (sym known.third)) (omega arith)

@@ -2,24 +2,28 @@
 use Rattle.std.proofs.Common.{◌≡◌, ℕ, suc, ◌+◌, ◌*◌, ◌∙◌, List, ap, refl, arith, length, bit_xor}
 use Rattle.std.specs.Int.{w128, from_be_bytes}
 use Rattle.std.specs.List.{slice_range}
-use Rattle.gcm.specs.Gcm.{product, hashed, block_at}
-use Rattle.gcm.proofs.Hashing.{all_whole, with_rest}
+use Rattle.gcm.specs.Gcm.{product}
+use Rattle.gcm.specs.Hashed.{hashed_as, number_at}
+use Rattle.gcm.proofs.Hashing.{whole_as, with_rest}
 use Rattle.gcm.proofs.hash.hash_rest.Goals as goal
 
 pub returns-then-left-eq0 : goal.returns-then-left-eq0
-returns-then-left-eq0 c y is =
-    all_whole c.args.multiples.now y (from_be_bytes w128 c.args.before) c.args.i c.args.bytes.now is
+returns-then-left-eq0 g c y is =
+    let number = g.O.ByteOrder.number in
+    whole_as number c.args.multiples.now y (from_be_bytes w128 c.args.before) c.args.i c.args.bytes.now is
     (omega (arith, c.if-left-eq0.true)) (omega (arith, c.if-left-eq0.true))
 
 pub returns-then-left-le16 : goal.returns-then-left-le16
-returns-then-left-le16 c y is =
+returns-then-left-le16 g c y is =
+    let number = g.O.ByteOrder.number in
     c.block_product.ensures ∙ ap (λ v. product v c.args.multiples.now) c.sum.ensures
-    ∙ with_rest c.args.multiples.now y (from_be_bytes w128 c.args.before) c.args.i c.args.bytes.now _ c.last_block.result is
+    ∙ with_rest number c.args.multiples.now y (from_be_bytes w128 c.args.before) c.args.i _ c.args.bytes.now _ is
     (omega (arith, c.if-left-le16.true)) (omega (arith, c.if-left-eq0.false)) refl c.last_block.ensures
 
 pub returns-then-left-le32 : goal.returns-then-left-le32
-unfolding hashed
-returns-then-left-le32 c y is =
+unfolding hashed_as
+returns-then-left-le32 g c y is =
+    let number = g.O.ByteOrder.number in
     let h : ℕ = c.args.multiples.now in
     let x : List ℕ = c.args.bytes.now in
     let i : ℕ = c.args.i in
@@ -27,13 +31,14 @@ returns-then-left-le32 c y is =
     c.two_products.ensures
     ∙ ap (λ v. product (bit_xor (product v h) (from_be_bytes w128 c.last_block-last.result)) h)
     (c.sum-first.ensures ∙ (λ t. bit_xor (is t) (c.block_at.ensures t)))
-    ∙ with_rest h y (hashed h y x (suc i)) (suc i) x _ c.last_block-last.result refl
+    ∙ with_rest number h y (hashed_as number h y x (suc i)) (suc i) (from_be_bytes w128 c.last_block-last.result) x _ refl
     (omega (arith, c.if-left-le32.true)) (omega (arith, c.if-left-le16.false))
     (ap (λ a. slice_range x a (length x)) more) c.last_block-last.ensures
 
 pub returns : goal.returns
-unfolding hashed
-returns c y is =
+unfolding hashed_as
+returns g c y is =
+    let number = g.O.ByteOrder.number in
     let h : ℕ = c.args.multiples.now in
     let x : List ℕ = c.args.bytes.now in
     let i : ℕ = c.args.i in
@@ -42,7 +47,7 @@ returns c y is =
     c.three_products.ensures
     ∙ (λ t. product (bit_xor (product (bit_xor
     (product ((c.sum-first.ensures ∙ (λ u. bit_xor (is u) (c.block_at.ensures u))) t) h)
-    ((c.block_at-2.ensures ∙ ap (block_at x) one) t)) h) (from_be_bytes w128 c.last_block-last-2.result)) h)
-    ∙ with_rest h y (hashed h y x (suc (suc i))) (suc (suc i)) x _ c.last_block-last-2.result refl
+    ((c.block_at-2.ensures ∙ ap (number_at number x) one) t)) h) (from_be_bytes w128 c.last_block-last-2.result)) h)
+    ∙ with_rest number h y (hashed_as number h y x (suc (suc i))) (suc (suc i)) (from_be_bytes w128 c.last_block-last-2.result) x _ refl
     (omega (arith, c.requires.few)) (omega (arith, c.if-left-le32.false))
     (ap (λ a. slice_range x a (length x)) more) c.last_block-last-2.ensures

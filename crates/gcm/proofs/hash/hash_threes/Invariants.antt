@@ -1,8 +1,9 @@
 -- What holds in the loops of `hash::hash_threes`.
 use Rattle.std.proofs.Common.{◌≡◌, ◌*◌}
 use Rattle.std.specs.Int.{w128, from_be_bytes}
-use Rattle.gcm.specs.Gcm.{hashed}
+use Rattle.gcm.specs.Hashed.{hashed_as}
 use Rattle.gcm.proofs.hash.hash_threes.Given as goal
 
 abbrev pub invariant-loop-i : goal.invariant-loop-i
-invariant-loop-i l = from_be_bytes w128 l.value ≡ hashed l.multiples l.fn.value l.bytes (3 * l.i)
+invariant-loop-i g l =
+    from_be_bytes w128 l.value ≡ hashed_as g.O.ByteOrder.number l.multiples (from_be_bytes w128 l.fn.value) l.bytes (3 * l.i)

@@ -23,7 +23,7 @@ fn call_to_encrypt<F: BlockCipherEncClosure>(round_keys: &[u16], widened: &[Batc
 
 /// Calls the closure once, with a backend of stored round keys. They are widened for the call, and wiped in place after
 /// it, with the stack that the closure took.
-#[inline(always)]
+#[inline(never)]
 pub fn encrypt_with_backend<F: BlockCipherEncClosure>(round_keys: &[u16], f: &mut F)
     requires is_schedule { IsFullSchedule (word_bits 16) 1 round_keys.now }
     ensures { F.did f.old (fips.key_expansion (key_of_planes (word_bits 16) 1 round_keys.now)) f.new }

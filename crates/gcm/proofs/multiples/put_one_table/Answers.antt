@@ -1,0 +1,10 @@
+-- What is left to show of `multiples::put_one_table`.
+use Rattle.std.proofs.Common.{arith}
+use Rattle.gcm.proofs.Rows.{is_table, table_block}
+use Rattle.gcm.proofs.multiples.put_one_table.Goals as goal
+
+pub returns-clause-table : goal.returns-clause-table
+returns-clause-table c = is_table c.args.h _ c.put_table.ensures (omega arith)
+
+pub returns-clause-subkey : goal.returns-clause-subkey
+returns-clause-subkey c = table_block c.args.h _ c.put_table.ensures (omega arith)

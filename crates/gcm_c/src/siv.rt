@@ -1,0 +1,232 @@
+//! Messages of AES-GCM-SIV.
+
+ghost use Rattle.std.specs.Prelude.{◌≡◌, ◌≢◌, ◌↔◌, ◌^◌, ◌<◌, ◌≤◌, ◌++◌, [], length, slice_index_or, IsTrue, false};
+ghost use Rattle.std.specs.Int.{w128, from_le_bytes};
+ghost use Rattle.aes_permute.specs.Keys.{key_in_room, stored_keys, IsCipherSchedule};
+ghost use Rattle.gcm.specs.Gcm.{next_v};
+ghost use Rattle.gcm_siv.specs.GcmSiv as rfc;
+ghost use Rattle.gcm_siv.specs.GcmSiv.{authentication_key, encryption_key, IsAuthentic, IsKeySize};
+ghost use Rattle.gcm_c.specs.Siv.{siv_key_in, IsSivMade, IsSivTooLong};
+
+use crate::siv_kept::{Siv, cipher_of, is_siv_key};
+use crate::status::{DONE, NO_KEY, REFUSED, TOO_LONG};
+use crate::width::BuildWidth;
+use aes_cipher::cipher::Block;
+use aes_cipher::zeroize::MustWipe;
+use aes_hybrid::lent::Lent;
+use aes_permute::lane_room::{LaneRoom, expand_in_room, keys_in_room};
+use gcm::{Room, TableRoom};
+use gcm_siv::{
+    KeyRoom, LONGEST, PolyvalRoom, are_few, derive, open, put_authentication, seal,
+    wipe_message_stack,
+};
+
+// Returns the status that refuses these lengths or this struct, or `DONE`.
+fn siv_refusal(siv: &Siv, additional: usize, text: usize) -> u32
+    ensures too_long { result ≡ TOO_LONG ↔ IsSivTooLong additional text }
+    ensures done { result ≡ DONE ↔ (additional ≤ 2 ^ 36) × ((text ≤ 2 ^ 36) × IsKeySize siv.now.key_length) }
+    ensures refused { result ≢ DONE → result ≢ TOO_LONG → result ≡ NO_KEY }
+{
+    if additional as u64 > LONGEST || text as u64 > LONGEST {
+        return TOO_LONG;
+    }
+    if !is_siv_key(siv.key_length as usize) {
+        return NO_KEY;
+    }
+    DONE
+}
+
+// Expands the encryption key: the block after the first, or the two.
+fn expand_derived(keys: &KeyRoom, size: usize, round_keys: &mut LaneRoom)
+    requires { IsKeySize size }
+    ensures schedule { IsCipherSchedule (stored_keys size round_keys.new) }
+    ensures short { size ≡ 16 → key_in_room size round_keys.new ≡ slice_index_or keys.now 1 [] }
+    ensures long { size ≡ 32
+        → key_in_room size round_keys.new ≡ slice_index_or keys.now 1 [] ++ slice_index_or keys.now 2 [] }
+{
+    if size == 16 {
+        expand_in_room(round_keys, &keys[1]);
+    } else {
+        expand_in_room(round_keys, keys[1..3].as_flattened());
+    }
+}
+
+// Writes the round keys of a message, and the multiples of its authentication key times x^-1.
+fn prepare<R: PolyvalRoom>(siv: &Siv, nonce: &[u8; 12], round_keys: &mut LaneRoom, room: &mut R)
+    requires made { IsSivMade siv.now }
+    requires key { IsKeySize siv.now.key_length }
+    ensures made { R.IsMade room.new }
+    ensures authentication { R.element room.new
+        ≡ next_v (from_le_bytes w128 (authentication_key (siv_key_in siv.now) nonce.now)) }
+    ensures small { from_le_bytes w128 (authentication_key (siv_key_in siv.now) nonce.now) < 2 ^ 128 }
+    ensures schedule { IsCipherSchedule (stored_keys siv.now.key_length round_keys.new) }
+    ensures encryption { key_in_room siv.now.key_length round_keys.new ≡ encryption_key (siv_key_in siv.now) nonce.now }
+{
+    let size = siv.key_length as usize;
+    let mut keys = MustWipe::<KeyRoom>::zeroed();
+    derive(&cipher_of(siv), size, nonce, keys.value_mut());
+    put_authentication(&keys.value()[0], room);
+    expand_derived(keys.value(), size, round_keys);
+    keys.wipe();
+}
+
+// Encrypts a text in place and returns the tag, with room for POLYVAL of this type. Never inlined, so that a short message
+// has a small stack frame.
+#[inline(never)]
+fn seal_in<R: PolyvalRoom>(siv: &Siv, nonce: &[u8; 12], additional: &[u8], text: &mut [u8]) -> Block
+    requires made { IsSivMade siv.now }
+    requires key { IsKeySize siv.now.key_length }
+    requires additional { length additional.now ≤ 2 ^ 36 }
+    requires text { length text.old ≤ 2 ^ 36 }
+    ensures tag { result ≡ rfc.tag (siv_key_in siv.now) nonce.now additional.now text.old }
+    ensures encrypted { text.new ≡ rfc.text (siv_key_in siv.now) nonce.now result text.old }
+{
+    let mut room = MustWipe::<R>::zeroed();
+    let mut kept = MustWipe::<LaneRoom>::zeroed();
+    prepare(siv, nonce, kept.value_mut(), room.value_mut());
+    let keys = keys_in_room(kept.value(), siv.key_length as usize);
+    let tag = seal(
+        &Lent::<BuildWidth>::new(keys),
+        room.value(),
+        nonce,
+        additional,
+        text,
+    );
+    kept.wipe();
+    room.wipe();
+    tag
+}
+
+// The same, with the room that takes less time. In a call of its own, so that its stack can be wiped.
+#[inline(never)]
+fn seal_message(siv: &Siv, nonce: &[u8; 12], additional: &[u8], text: &mut [u8]) -> Block
+    requires made { IsSivMade siv.now }
+    requires key { IsKeySize siv.now.key_length }
+    requires additional { length additional.now ≤ 2 ^ 36 }
+    requires text { length text.old ≤ 2 ^ 36 }
+    ensures tag { result ≡ rfc.tag (siv_key_in siv.now) nonce.now additional.now text.old }
+    ensures encrypted { text.new ≡ rfc.text (siv_key_in siv.now) nonce.now result text.old }
+{
+    if are_few(additional.len(), text.len()) {
+        seal_in::<TableRoom>(siv, nonce, additional, text)
+    } else {
+        seal_in::<Room>(siv, nonce, additional, text)
+    }
+}
+
+// Decrypts a text in place if the tag is right, and returns whether it is, with room for POLYVAL of this type.
+#[inline(never)]
+fn open_in<R: PolyvalRoom>(
+    siv: &Siv,
+    nonce: &[u8; 12],
+    additional: &[u8],
+    text: &mut [u8],
+    tag: &Block,
+) -> bool
+    requires made { IsSivMade siv.now }
+    requires key { IsKeySize siv.now.key_length }
+    requires additional { length additional.now ≤ 2 ^ 36 }
+    requires text { length text.old ≤ 2 ^ 36 }
+    ensures accepted { IsTrue result ↔ IsAuthentic (siv_key_in siv.now) nonce.now additional.now tag.now text.old }
+    ensures decrypted { IsTrue result → text.new ≡ rfc.text (siv_key_in siv.now) nonce.now tag.now text.old }
+    ensures untouched { result ≡ false → text.new ≡ text.old }
+{
+    let mut room = MustWipe::<R>::zeroed();
+    let mut kept = MustWipe::<LaneRoom>::zeroed();
+    prepare(siv, nonce, kept.value_mut(), room.value_mut());
+    let keys = keys_in_room(kept.value(), siv.key_length as usize);
+    let is_right = open(
+        &Lent::<BuildWidth>::new(keys),
+        room.value(),
+        nonce,
+        additional,
+        text,
+        tag,
+    );
+    kept.wipe();
+    room.wipe();
+    is_right
+}
+
+// The same, with the room that takes less time. In a call of its own, so that its stack can be wiped.
+#[inline(never)]
+fn open_message(
+    siv: &Siv,
+    nonce: &[u8; 12],
+    additional: &[u8],
+    text: &mut [u8],
+    tag: &Block,
+) -> bool
+    requires made { IsSivMade siv.now }
+    requires key { IsKeySize siv.now.key_length }
+    requires additional { length additional.now ≤ 2 ^ 36 }
+    requires text { length text.old ≤ 2 ^ 36 }
+    ensures accepted { IsTrue result ↔ IsAuthentic (siv_key_in siv.now) nonce.now additional.now tag.now text.old }
+    ensures decrypted { IsTrue result → text.new ≡ rfc.text (siv_key_in siv.now) nonce.now tag.now text.old }
+    ensures untouched { result ≡ false → text.new ≡ text.old }
+{
+    if are_few(additional.len(), text.len()) {
+        open_in::<TableRoom>(siv, nonce, additional, text, tag)
+    } else {
+        open_in::<Room>(siv, nonce, additional, text, tag)
+    }
+}
+
+/// Encrypts a text in place and writes the tag of the text and of the additional data (RFC 8452, 4). Returns `TOO_LONG` or
+/// `NO_KEY`, the first of them that applies, and else `DONE`.
+#[unsafe(no_mangle)]
+pub extern "C" fn fotsgure_gcm_siv_seal(
+    siv: &Siv,
+    nonce: &[u8; 12],
+    additional: &[u8],
+    text: &mut [u8],
+    tag: &mut [u8; 16],
+) -> u32
+    requires made { IsSivMade siv.now }
+    ensures too_long { result ≡ TOO_LONG ↔ IsSivTooLong (length additional.now) (length text.old) }
+    ensures done { result ≡ DONE ↔ (length additional.now ≤ 2 ^ 36)
+        × ((length text.old ≤ 2 ^ 36) × IsKeySize siv.now.key_length) }
+    ensures refused { result ≢ DONE → result ≢ TOO_LONG → result ≡ NO_KEY }
+    ensures tag { result ≡ DONE → tag.new ≡ rfc.tag (siv_key_in siv.now) nonce.now additional.now text.old }
+    ensures encrypted { result ≡ DONE → text.new ≡ rfc.text (siv_key_in siv.now) nonce.now tag.new text.old }
+    ensures untouched { result ≢ DONE → text.new ≡ text.old }
+    ensures untouched_tag { result ≢ DONE → tag.new ≡ tag.old }
+{
+    let status = siv_refusal(siv, additional.len(), text.len());
+    if status != DONE {
+        return status;
+    }
+    *tag = seal_message(siv, nonce, additional, text);
+    wipe_message_stack();
+    DONE
+}
+
+/// Decrypts a text in place if the tag is right (RFC 8452, 5); a text that is refused is encrypted again. Returns
+/// `TOO_LONG`, `NO_KEY` or `REFUSED`, the first of them that applies, and else `DONE`.
+#[unsafe(no_mangle)]
+pub extern "C" fn fotsgure_gcm_siv_open(
+    siv: &Siv,
+    nonce: &[u8; 12],
+    additional: &[u8],
+    text: &mut [u8],
+    tag: &[u8; 16],
+) -> u32
+    requires made { IsSivMade siv.now }
+    ensures too_long { result ≡ TOO_LONG ↔ IsSivTooLong (length additional.now) (length text.old) }
+    ensures no_key { result ≡ NO_KEY ↔ (length additional.now ≤ 2 ^ 36)
+        × ((length text.old ≤ 2 ^ 36) × ¬ IsKeySize siv.now.key_length) }
+    ensures done { result ≡ DONE ↔ (length additional.now ≤ 2 ^ 36) × ((length text.old ≤ 2 ^ 36)
+        × (IsKeySize siv.now.key_length
+        × IsAuthentic (siv_key_in siv.now) nonce.now additional.now tag.now text.old)) }
+    ensures refused { result ≢ DONE → result ≢ TOO_LONG → result ≢ NO_KEY → result ≡ REFUSED }
+    ensures decrypted { result ≡ DONE → text.new ≡ rfc.text (siv_key_in siv.now) nonce.now tag.now text.old }
+    ensures untouched { result ≢ DONE → text.new ≡ text.old }
+{
+    let status = siv_refusal(siv, additional.len(), text.len());
+    if status != DONE {
+        return status;
+    }
+    let is_right = open_message(siv, nonce, additional, text, tag);
+    wipe_message_stack();
+    if is_right { DONE } else { REFUSED }
+}

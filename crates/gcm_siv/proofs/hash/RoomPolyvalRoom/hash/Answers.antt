@@ -1,0 +1,18 @@
+-- What is left to show of `hash::RoomPolyvalRoom::hash`.
+use Rattle.std.proofs.Common.{◌≡◌, ℕ, List, ◌/◌, ◌∙◌, ap, bit_xor, length}
+use Rattle.std.specs.Int.{w128, from_le_bytes, to_le_bytes}
+use Rattle.gcm.specs.Gcm.{padded, product}
+use Rattle.gcm.specs.Hashed.{hashed_as}
+use Rattle.gcm_siv.proofs.Hashing.{hash_is}
+use Rattle.gcm_siv.proofs.hash.RoomPolyvalRoom.hash.Goals as goal
+
+pub returns : goal.returns
+returns c h small is =
+    let g : ℕ = c.lent-multiples.result in
+    let a : List ℕ = c.args.additional.now in
+    let p : List ℕ = c.args.text.now in
+    let on = λ (s : ℕ) (x : List ℕ). hashed_as (from_le_bytes w128) g s (padded x) (length (padded x) / 16) in
+    c.bytes_of.ensures
+    ∙ ap (to_le_bytes w128) (c.hash_string_and.ensures
+    ∙ (λ t. product (bit_xor (on (c.hash_string-value.ensures t) p) (c.last_block-end.ensures t)) g)
+    ∙ hash_is h g a p (c.lent-multiples.ensures ∙ is) small)

@@ -1,0 +1,10 @@
+-- What is left to show of `message::open`.
+use Rattle.std.proofs.Common.{◌∙◌, ap}
+use Rattle.gcm_siv.specs.GcmSiv.{text_under}
+use Rattle.gcm_siv.proofs.Messages.{under_twice}
+use Rattle.gcm_siv.proofs.message.open.Goals as goal
+
+pub returns-clause-untouched : goal.returns-clause-untouched
+returns-clause-untouched g c = λ refused.
+    let w = g.C.RoundKeysUser.round_keys c.args.cipher.now in
+    c.apply-2.ensures ∙ ap (text_under w c.args.tag.now) c.apply.ensures ∙ under_twice w c.args.tag.now c.args.text.now

@@ -1,0 +1,108 @@
+//! AES-GCM-SIV at values from outside, as contracts, so that a slip in a definition is refused: RFC 8452, section 7,
+//! appendix A, and of appendix C.1 the message of eight bytes. The last one shows that a text comes back, as callers can
+//! prove it.
+//!
+//! `bytes n 0x..` is the n bytes that these digits write.
+
+ghost use Rattle.std.specs.Prelude.{◌≡◌, ◌↔◌, ◌⊎◌, ◌-◌, ◌^◌, ◌<◌, ◌≤◌, ℕ, List, [], ◌∷◌, ◌++◌, length, IfOk, IsErr};
+ghost use Rattle.std.specs.Int.{w32, w128, from_le_bytes, to_le_bytes};
+ghost use Rattle.aes_planes.specs.BigEndian.{bytes};
+ghost use Rattle.aes_planes.specs.Fips197 as fips;
+ghost use Rattle.gcm_siv.specs.GcmSiv.{counter_block, dot, inverse_power, length_block, polyval, tag, text, times, times_power};
+
+use crate::errors::TooLong;
+use crate::laws::text_twice;
+use crate::lengths::LONGEST;
+use crate::mode::GcmSiv;
+use aes_cipher::cipher::{Block, BlockCipherEncrypt, KeyInit};
+
+/// How many bytes a text may have, and additional data.
+pub fn limit_examples()
+    ensures { LONGEST ≡ 2 ^ 36 }
+{}
+
+/// A product, a dot product, and x^-128 (section 7), which x^128 takes to 1.
+#[tactic(auto, unfolding(crate::proofs::OnLiterals::siv_on_literals))]
+pub fn field_examples()
+    ensures times { times (from_le_bytes w128 (bytes 16 0x66e94bd4ef8a2c3b884cfa59ca342b2e))
+        (from_le_bytes w128 (bytes 16 0xff000000000000000000000000000000))
+        ≡ from_le_bytes w128 (bytes 16 0x37856175e9dc9df26ebc6d6171aa0ae9) }
+    ensures dot { dot (from_le_bytes w128 (bytes 16 0x66e94bd4ef8a2c3b884cfa59ca342b2e))
+        (from_le_bytes w128 (bytes 16 0xff000000000000000000000000000000))
+        ≡ from_le_bytes w128 (bytes 16 0xebe563401e7e91ea3ad6426b8140c394) }
+    ensures written { inverse_power ≡ from_le_bytes w128 (bytes 16 0x01000000000000000000000000000492) }
+    ensures inverse { times_power inverse_power 128 ≡ 1 }
+{}
+
+/// POLYVAL of two blocks (appendix A).
+#[tactic(auto, unfolding(crate::proofs::OnLiterals::siv_on_literals))]
+pub fn polyval_examples()
+    ensures { polyval (from_le_bytes w128 (bytes 16 0x25629347589242761d31f826ba4b757b))
+        (bytes 16 0x4f4f95668c83dfb6401762bb2d01a262 ++ bytes 16 0xd1a24ddd2721d006bbe45f20d3c9f362)
+        ≡ from_le_bytes w128 (bytes 16 0xf7a3b47b846119fae5b7866cf5e5b77e) }
+{}
+
+/// A counter counts the first 32 bits of a block on, modulo 2^32, the lowest byte first.
+#[tactic(auto, unfolding(crate::proofs::OnLiterals::siv_on_literals))]
+pub fn counter_examples()
+    ensures next { counter_block (bytes 16 0xff0000000102030405060708090a0b8c) 1
+        ≡ bytes 16 0x000100000102030405060708090a0b8c }
+    ensures wrapped { counter_block (bytes 16 0xffffffff000000000000000000000080) 1
+        ≡ bytes 16 0x00000000000000000000000000000080 }
+{}
+
+/// The lengths in bits of the longest strings: every byte of them counts.
+pub fn length_examples()
+    ensures { (a p : List ℕ) → length a ≡ 2 ^ 36 → length p ≡ 2 ^ 36 - 1
+        → length_block a p ≡ bytes 16 0x0000000080000000f8ffffff7f000000 }
+{}
+
+// The blocks that the message of eight bytes encrypts.
+#[tactic(auto, using(aes_planes::proofs::OnLiterals::ciphers), unfolding(aes_planes::proofs::OnLiterals::aes_by_table))]
+fn encrypted_blocks()
+    ensures zero { fips.cipher_with (fips.key_expansion (bytes 16 0x01000000000000000000000000000000))
+        (to_le_bytes w32 0 ++ bytes 12 0x030000000000000000000000) ≡ bytes 16 0xd9b360279694941a2010be790ff81954 }
+    ensures one { fips.cipher_with (fips.key_expansion (bytes 16 0x01000000000000000000000000000000))
+        (to_le_bytes w32 1 ++ bytes 12 0x030000000000000000000000) ≡ bytes 16 0xc5dbc6987ada737758568e3552059132 }
+    ensures two { fips.cipher_with (fips.key_expansion (bytes 16 0x01000000000000000000000000000000))
+        (to_le_bytes w32 2 ++ bytes 12 0x030000000000000000000000) ≡ bytes 16 0x4004a0dcd862f2a5f559f116bee72388 }
+    ensures three { fips.cipher_with (fips.key_expansion (bytes 16 0x01000000000000000000000000000000))
+        (to_le_bytes w32 3 ++ bytes 12 0x030000000000000000000000) ≡ bytes 16 0x7360219d2d44ef6c3d190c795fe54c0c }
+    ensures tag { fips.cipher_with (fips.key_expansion (bytes 16 0x4004a0dcd862f2a57360219d2d44ef6c))
+        (bytes 16 0xe893b7740962c5e49d2a90a7dc5cec74) ≡ bytes 16 0x578782fff6013b815b287c22493a364c }
+    ensures stream { fips.cipher_with (fips.key_expansion (bytes 16 0x4004a0dcd862f2a57360219d2d44ef6c))
+        (bytes 16 0x578782fff6013b815b287c22493a36cc) ≡ bytes 16 0xb4d839330ac7b786a779523a099ca598 }
+{}
+
+/// Eight bytes and no additional data (appendix C.1).
+pub fn gcm_siv_128_example()
+    ensures tag { tag (bytes 16 0x01000000000000000000000000000000) (bytes 12 0x030000000000000000000000) []
+        (bytes 8 0x0100000000000000) ≡ bytes 16 0x578782fff6013b815b287c22493a364c }
+    ensures text { text (bytes 16 0x01000000000000000000000000000000) (bytes 12 0x030000000000000000000000)
+        (bytes 16 0x578782fff6013b815b287c22493a364c) (bytes 8 0x0100000000000000) ≡ bytes 8 0xb5d839330ac7b786 }
+{
+    encrypted_blocks();
+}
+
+/// Encrypts a text and decrypts it again: its tag is accepted, and the text comes back. Returns the tag.
+///
+/// # Errors
+///
+/// `TooLong` exactly if the text or the additional data has more than 2^36 bytes.
+pub fn there_and_back<C: KeyInit + BlockCipherEncrypt + Drop>(
+    mode: &GcmSiv<C>,
+    nonce: &[u8; 12],
+    additional: &[u8],
+    message: &mut [u8],
+) -> Result<Block, TooLong>
+    ensures refusal { IsErr result ↔ ((2 ^ 36 < length message.old) ⊎ (2 ^ 36 < length additional.now)) }
+    ensures back { message.new ≡ message.old }
+    ensures tag { IfOk result (λ it. it ≡ tag mode.now nonce.now additional.now message.old) }
+{
+    text_twice();
+    let tag = mode.encrypt(nonce, additional, message)?;
+    match mode.decrypt(nonce, additional, message, &tag) {
+        Ok(()) => Ok(tag),
+        Err(_) => Err(TooLong),
+    }
+}

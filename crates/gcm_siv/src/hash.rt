@@ -1,0 +1,116 @@
+//! POLYVAL (RFC 8452, 3), by products of GCM's field.
+
+ghost use Rattle.std.specs.Prelude.{◌≡◌, ℕ, List, ◌*◌, ◌^◌, ◌<◌, ◌≤◌, ◌++◌, length};
+ghost use Rattle.std.specs.Int.{w64, w128, to_le_bytes, from_le_bytes, from_be_bytes};
+ghost use Rattle.gcm.specs.Gcm.{next_v};
+ghost use Rattle.gcm.specs.Multiples.{subkey_in, HasMultiples, IsTable};
+ghost use Rattle.gcm_siv.specs.GcmSiv.{hash, length_block};
+
+use aes_cipher::blocks::{block_of_halves, number_of_block};
+use aes_cipher::cipher::Block;
+use aes_cipher::zeroize::Zeroize;
+use gcm::{
+    ByteOrder, Multiples, Room, Table, TableRoom, hash_singly, hash_string, hash_string_and,
+    put_multiples, put_one_table, sum,
+};
+use std::simd::prelude::*;
+
+// POLYVAL's order: the lowest byte is the first (appendix A).
+struct LowestFirst;
+
+impl ByteOrder for LowestFirst {
+    ghost number = { from_le_bytes w128 };
+
+    #[inline(always)]
+    fn highest_first(block: u8x16) -> u8x16 {
+        block.reverse()
+    }
+}
+
+// The last block that is hashed: two lengths, in bits.
+fn lengths_of(first: u64, second: u64) -> Block
+    requires first { first ≤ 2 ^ 36 }
+    requires second { second ≤ 2 ^ 36 }
+    ensures { result ≡ to_le_bytes w64 (8 * first) ++ to_le_bytes w64 (8 * second) }
+{
+    block_of_halves(&(8 * first).to_le_bytes(), &(8 * second).to_le_bytes())
+}
+
+// That of additional data and a text, its highest byte first.
+#[tactic(auto, unfolding(crate::specs::GcmSiv::length_block))]
+fn last_block(additional: &[u8], text: &[u8]) -> u8x16
+    requires additional { length additional.now ≤ 2 ^ 36 }
+    requires text { length text.now ≤ 2 ^ 36 }
+    ensures { from_be_bytes w128 result ≡ from_le_bytes w128 (length_block additional.now text.now) }
+{
+    let lengths = lengths_of(additional.len() as u64, text.len() as u64);
+    LowestFirst::highest_first(u8x16::from_array(lengths))
+}
+
+// The block that a number of GCM's field stands for, its bytes in the other order.
+fn bytes_of(value: u8x16) -> Block
+    ensures { result ≡ to_le_bytes w128 (from_be_bytes w128 value) }
+{
+    number_of_block(&value.to_array()).to_le_bytes()
+}
+
+/// Room for what POLYVAL looks up: multiples of the authentication key times x^-1. It is as secret as the key.
+pub trait PolyvalRoom: Zeroize {
+    /// The multiples stand there.
+    ghost IsMade: { Self → Type 0 };
+
+    /// What they are multiples of.
+    ghost element: { Self → ℕ };
+
+    /// Writes the multiples of a factor.
+    fn put(&mut self, factor: u128)
+        ensures made { IsMade self.new }
+        ensures element { element self.new ≡ factor };
+
+    /// Returns S_s of additional data and a text.
+    fn hash(&self, additional: &[u8], text: &[u8]) -> Block
+        requires made { IsMade self.now }
+        requires additional { length additional.now ≤ 2 ^ 36 }
+        requires text { length text.now ≤ 2 ^ 36 }
+        ensures { (h : ℕ) → h < 2 ^ 128 → element self.now ≡ next_v h
+            → result ≡ to_le_bytes w128 (hash h additional.now text.now) };
+}
+
+// For a few blocks: multiples of the factor alone.
+impl PolyvalRoom for TableRoom {
+    ghost IsMade = { IsTable };
+
+    ghost element = { subkey_in };
+
+    #[inline(always)]
+    fn put(&mut self, factor: u128) {
+        put_one_table(self, factor);
+    }
+
+    fn hash(&self, additional: &[u8], text: &[u8]) -> Block {
+        let table = Table::lent(self);
+        let first = hash_singly::<LowestFirst>(&table, u8x16::splat(0), additional);
+        let second = hash_singly::<LowestFirst>(&table, first, text);
+        let end = last_block(additional, text);
+        bytes_of(table.product(sum(second, end)))
+    }
+}
+
+// For many: multiples of its square and its cube too, so that three blocks are hashed at once.
+impl PolyvalRoom for Room {
+    ghost IsMade = { HasMultiples };
+
+    ghost element = { subkey_in };
+
+    #[inline(always)]
+    fn put(&mut self, factor: u128) {
+        put_multiples(self, factor);
+    }
+
+    fn hash(&self, additional: &[u8], text: &[u8]) -> Block {
+        let multiples = Multiples::lent(self);
+        let value = hash_string::<LowestFirst>(&multiples, u8x16::splat(0), additional);
+        let end = last_block(additional, text);
+        bytes_of(hash_string_and::<LowestFirst>(&multiples, value, text, end))
+    }
+}

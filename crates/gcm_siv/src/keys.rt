@@ -1,0 +1,82 @@
+//! The keys of a message, derived from the key-generating key and the nonce (RFC 8452, 4).
+
+ghost use Rattle.std.specs.Prelude.{◌≡◌, ◌+◌, ◌/◌, ◌^◌, ◌<◌, ◌++◌, take};
+ghost use Rattle.std.specs.Int.{w32, w128, from_le_bytes, to_le_bytes};
+ghost use Rattle.gcm.specs.Gcm.{next_v};
+ghost use Rattle.gcm_siv.specs.GcmSiv.{IsKeySize};
+ghost use Rattle.gcm_siv.specs.Private.{derived_keys, halves_of_six, numbered};
+
+use crate::hash::PolyvalRoom;
+use aes_cipher::blocks::{block_of_halves, halves_of_block};
+use aes_cipher::cipher::{Block, BlockCipherEncrypt};
+use gcm::next_v;
+
+// A number of 32 bits, its lowest byte first, and the nonce.
+fn numbered(number: u32, nonce: &[u8; 12]) -> Block
+    ensures { result ≡ to_le_bytes w32 number ++ nonce.now }
+{
+    let mut block = [0; 16];
+    let (first, last) = block.split_at_mut(4);
+    first.copy_from_slice(&number.to_le_bytes());
+    last.copy_from_slice(nonce);
+    block
+}
+
+// Those of the numbers 0 to 5.
+#[tactic(auto, unfolding(crate::specs::Private::numbered))]
+fn numbered_blocks(nonce: &[u8; 12]) -> [Block; 6]
+    ensures { result ≡ numbered nonce.now }
+{
+    [
+        numbered(0, nonce),
+        numbered(1, nonce),
+        numbered(2, nonce),
+        numbered(3, nonce),
+        numbered(4, nonce),
+        numbered(5, nonce),
+    ]
+}
+
+// The first halves of two blocks.
+fn first_halves(one: &Block, other: &Block) -> Block
+    ensures { result ≡ take 8 one.now ++ take 8 other.now }
+{
+    let (first, _) = halves_of_block(one);
+    let (second, _) = halves_of_block(other);
+    block_of_halves(&first, &second)
+}
+
+/// Room for the keys of a message: the authentication key in the first block, the encryption key in the two after it, of
+/// which a key of 16 bytes is the first. The others are as secret.
+pub type KeyRoom = [Block; 6];
+
+// Writes those of six blocks, two by two, into the first three.
+#[tactic(auto, unfolding(crate::specs::Private::halves_of_six))]
+fn put_halves(blocks: &mut KeyRoom)
+    ensures { take 3 blocks.new ≡ halves_of_six blocks.old }
+{
+    blocks[0] = first_halves(&blocks[0], &blocks[1]);
+    blocks[1] = first_halves(&blocks[2], &blocks[3]);
+    blocks[2] = first_halves(&blocks[4], &blocks[5]);
+}
+
+/// Writes the keys of a message under a key of `size` bytes. It has four blocks encrypted for 16 bytes, and six for 32.
+#[tactic(auto, using(crate::proofs::DerivedKeys::derived_is))]
+pub fn derive<C: BlockCipherEncrypt>(cipher: &C, size: usize, nonce: &[u8; 12], keys: &mut KeyRoom)
+    requires { IsKeySize size }
+    ensures { let blocks = size / 16 + 1 in
+        take blocks keys.new ≡ take blocks (derived_keys (C.round_keys cipher.now) nonce.now) }
+{
+    *keys = numbered_blocks(nonce);
+    cipher.encrypt_blocks(&mut keys[..size / 8 + 2]);
+    put_halves(keys);
+}
+
+/// Writes the multiples that POLYVAL takes: those of an authentication key times x^-1.
+pub fn put_authentication<R: PolyvalRoom>(key: &Block, room: &mut R)
+    ensures made { R.IsMade room.new }
+    ensures authentication { R.element room.new ≡ next_v (from_le_bytes w128 key.now) }
+    ensures small { from_le_bytes w128 key.now < 2 ^ 128 }
+{
+    room.put(next_v(u128::from_le_bytes(*key)));
+}

@@ -1,0 +1,5 @@
+//! Tests of AES-GCM-SIV.
+#![tactic(auto)]
+
+#[cfg(test)]
+mod vectors;

@@ -1,0 +1,393 @@
+"""The statement for each call of fotsgure_aes.h, beside the sentence of the header that it proves.
+
+They are proved in two steps, as the calls share the struct. fotsgure_aes_set_key is run on a key of symbolic bytes.
+Each bit that it stores turns out as a sum of bits of one byte of a round key, or of its InvMixColumns. The other calls
+then start from a struct of these sums over round keys that are arbitrary bytes. So they are proved for any round keys,
+and thus for those of any key."""
+from collections import namedtuple
+
+from bits import DATA, KEY, LOST, PUBLIC, Domain, Unproved
+from calls import ANY, Buffer, Call, prove
+from machine import Pointer
+from standards import ICV1, ICV2, Aes, number
+
+# The header's enum, structs and sizes; prove.py has the compiler compare them.
+DONE, KEY_LENGTH, NO_KEY, UNEQUAL_COUNTS, KEYSTREAM_END, INVALID_COUNT, REFUSED = range(7)
+STATUSES = "DONE KEY_LENGTH NO_KEY UNEQUAL_COUNTS KEYSTREAM_END INVALID_COUNT REFUSED".split()
+STRUCTS = {"fotsgure_aes": (484, {"key_length": 0, "round_keys": 4}), "fotsgure_aes_ctr": (24, {"iv": 0, "position": 16}),
+           "fotsgure_aes_cbc": (16, {"previous": 0})}
+STRUCT = 484
+
+# The word of the counter's low half at block `first`, which has wrapped around from block `wrap` on.
+Counter = namedtuple("Counter", "word first wrap")
+NEVER = 1 << 64
+
+
+class Keyed:
+    """One build and one key size. `domain` is that of arbitrary round keys, `key_domain` that of an arbitrary key."""
+    library = "aes"
+
+    def __init__(self, program, key_size):
+        self.program, self.key_size = program, key_size
+        self.key_domain, self.domain = Domain(), Domain()
+        self.key_aes, self.aes = Aes(self.key_domain), Aes(self.domain)
+        self.key = [self.key_domain.fresh("key[%d]" % i, KEY) for i in range(key_size)]
+        self.key_words = self.key_aes.key_expansion(self.key)
+        self.w = [[self.domain.fresh("w[%d][%d]" % (i, k), KEY) for k in range(4)] for i in range(len(self.key_words))]
+        self.name_round_keys()
+        self.first = [self.domain.fresh("byte %d" % i, DATA, True) for i in range(16)]
+        self.ciphers = {"encrypt": self.aes.cipher(self.first, self.w), "decrypt": self.aes.inv_cipher(self.first, self.w)}
+        self.kept = {}
+
+    def name_round_keys(self):
+        """Names for all bytes of round keys and of their InvMixColumns, with what they are for any round keys."""
+        self.meaning = {}
+        for r in range(len(self.w) // 4):
+            a, b = self.key_aes.round_key(self.key_words, r), self.aes.round_key(self.w, r)
+            mixed = zip(self.key_aes.inv_mix_columns(a), self.aes.inv_mix_columns(b))
+            for x, y in list(zip(a, b)) + list(mixed):
+                self.meaning[self.key_domain.name(x, "round key byte")] = self.domain.bits(y)
+
+    # From the bytes that a key expansion makes to the same for any round keys.
+    def bit_for_any(self, x):
+        if x < 2:
+            return x
+        ways = [(c, t) for c, t in self.key_domain.single(x >> 9).items() if c in self.meaning]
+        if not ways:
+            raise Unproved("a stored bit is not a sum of bits of one byte of a round key or of its InvMixColumns")
+        cell, table = ways[0]
+        out = (table ^ x) & 1
+        linear = 0
+        for j in range(8):
+            if (table >> (1 << j) ^ table) & 1:
+                out = self.domain.xor(out, self.meaning[cell][j])
+                linear ^= self.key_domain.linear[j]
+        if linear ^ table not in (0, self.key_domain.ones):
+            raise Unproved("a stored bit is not a linear function of a byte of a round key")
+        return out
+
+    def byte_for_any(self, b):
+        return self.domain.pack([self.bit_for_any(x) for x in self.key_domain.bits(b)])
+
+    def proved(self, call, seed=None):
+        return prove(self.key_domain if call.later else self.domain, self.program, call, seed)
+
+    def once(self, what, make):
+        """What several statements need, made when it is first asked for."""
+        if what not in self.kept:
+            self.kept[what] = make()
+        return self.kept[what]
+
+    def undefined(self, count):
+        return [self.domain.undefined] * count
+
+    def of(self, bytes_, block):
+        """The same functions of the bytes of this block, the first being 0."""
+        return [self.domain.byte_in_block(x, block + 1) for x in bytes_]
+
+    # The struct.
+    def set_key(self, seed=None):
+        """Expands a key into *aes (KeyExpansion, FIPS 197, 5.2). *aes may be uninitialized: none of it is read. ..
+        every byte that neither a round key of the new key nor its length takes is 0. DONE if key_length is 16, 24 or
+        32"""
+        d = self.key_domain
+        call = Call("aes_set_key", [Buffer("aes", [d.undefined] * STRUCT, ANY), Buffer("key", self.key), self.key_size], DONE)
+        m = prove(d, self.program, call, seed)
+        self.struct = [self.byte_for_any(b) for b in m.regions["aes"].content]
+        if self.struct[:4] != [self.key_size, 0, 0, 0]:
+            raise Unproved("the struct has another length")
+        for half in self.struct[4:244], self.struct[244:]:
+            if any(half[4 * len(self.w):]):
+                raise Unproved("the struct holds more than round keys and zeros")
+        return m
+
+    def set_key_refused(self, length):
+        """.. else KEY_LENGTH, and *aes then is all zeros and holds no key."""
+        d = self.key_domain
+        return Call("aes_set_key", [Buffer("aes", [d.undefined] * STRUCT, [0] * STRUCT), Buffer("key", self.key), length], KEY_LENGTH)
+
+    def key_length(self):
+        """Returns how many bytes the key has: 16, 24 or 32"""
+        return Call("aes_key_length", [self.schedule()], self.key_size, 8)
+
+    def key_length_of_none(self):
+        """.. or 0 if *aes holds no key."""
+        return Call("aes_key_length", [self.no_key()], 0, 8)
+
+    def wipe(self):
+        """Overwrites *aes with zeros: it then holds no key. It may be uninitialized"""
+        return Call("aes_wipe", [Buffer("aes", self.undefined(STRUCT), [0] * STRUCT)], None)
+
+    def schedule(self):
+        return Buffer("aes", self.struct)
+
+    def no_key(self):
+        return Buffer("aes", [0] * STRUCT)
+
+    # Blocks.
+    def content(self, count):
+        return [x for b in range(count) for x in self.of(self.first, b)]
+
+    def results(self, direction, count):
+        return [x for b in range(count) for x in self.of(self.ciphers[direction], b)]
+
+    def blocks(self, direction, count):
+        """Encrypts (Cipher, FIPS 197, 5.1) or decrypts (InvCipher, 5.3) each of `count` blocks in place under the key
+        of *aes. DONE"""
+        blocks = Buffer("blocks", self.content(count), self.results(direction, count))
+        return Call("aes_%s_blocks" % direction, [self.schedule(), blocks, count], DONE, plain=self.plain(direction, count))
+
+    def plain(self, direction, count):
+        return self.content(count) if direction == "encrypt" else self.results(direction, count)
+
+    def blocks_to(self, direction, count):
+        """The same from one buffer to another; counts are in blocks."""
+        output = Buffer("output", self.undefined(16 * count), self.results(direction, count))
+        return Call("aes_%s_blocks_to" % direction, [self.schedule(), Buffer("input", self.content(count)), count, output, count], DONE,
+                    plain=self.plain(direction, count))
+
+    def blocks_with(self, direction, count):
+        """In one call, under a key"""
+        content = self.content(count)
+        blocks = Buffer("blocks", self.not_yet("blocks", 16 * count), self.results(direction, count))
+        return Call("aes_%s_blocks_with" % direction, [Buffer("key", self.key), self.key_size, blocks, count], DONE,
+                    plain=self.plain(direction, count), later=lambda m: self.go_on(m, {"blocks": content}))
+
+    # A call that expands a key begins in the key's domain. When it first computes with what isn't in it, what was made
+    # of the key becomes the same of any round keys.
+    def not_yet(self, name, count):
+        return [self.key_domain.opaque((name, k)) for k in range(count)]
+
+    def go_on(self, m, contents):
+        d, e = self.key_domain, self.domain
+
+        def convert(b):
+            if b < 256:
+                return b
+            if d.bits_of[b] is None:
+                name = d.opaque_of[b]
+                return contents[name[0]][name[1]] if name[0] in contents else e.opaque(name)
+            try:
+                return self.byte_for_any(b)
+            except Unproved:
+                lost = e.opaque(LOST)
+                m.lost.add(lost)
+                return lost
+        pairs = [pair for x, y in zip(self.key_words, self.w) for pair in zip(x, y)]
+        pairs += [(d.opaque((name, k)), b) for name, content in contents.items() for k, b in enumerate(content)]
+        m.replace_bytes(convert, e, pairs)
+
+    # Counter mode (SP 800-38A, 6.5). The counter is a number of 128 bits that the caller chooses: its halves are words
+    # of unknown value. The low one wraps around from block `wrap` on, or not within the call; the high half is then
+    # another unknown word.
+    def counter(self):
+        d = self.domain
+
+        def make():
+            high = [[d.fresh("counter byte %d" % (i + k), PUBLIC) for i in range(8)] for k in (0, 16)]
+            low = [d.fresh("counter byte %d" % i, PUBLIC, True) for i in range(8, 16)]
+            d.words["counter high"] = lambda offset, k: d.bits(high[offset][7 - k])
+            data = [d.fresh("data byte %d" % i, DATA, True) for i in range(16)]
+            return low, [self.aes.cipher(h + low, self.w) for h in high], data
+        return self.once("counter", make)
+
+    def counter_words(self, domain, first):
+        """The bytes of an `iv` of unknown value, highest first, and the name of its low word."""
+        low, name = self.counter()[0], "counter low, from %d" % first
+        d = self.domain
+        d.words[name] = lambda offset, k: d.bits(d.byte_in_block(low[7 - k], offset - first + 1))
+        iv = [b for base in ("counter high", name) for b in [domain.opaque((Pointer(base, 0), k)) for k in range(8)][::-1]]
+        return iv, name
+
+    def keystream(self, position, count, wrap):
+        """The data and what becomes of them: byte i of the keystream is byte i % 16 of Cipher of the block (iv + i /
+        16)."""
+        first = position // 16
+        _, streams, data_bytes = self.counter()
+        places = range(position, position + count)
+        blocks = range(first, first + (position % 16 + count) // 16 + 1)
+        stream = [b for block in blocks for b in self.of(streams[block >= wrap], block - first)]
+        data = [self.domain.byte_in_block(data_bytes[t % 16], t // 16 - first + 1) for t in places]
+        return data, self.aes.xor(data, stream[position % 16:]), stream
+
+    def add_keystream(self, position, count, wrap=NEVER):
+        """adds (XOR) to each of `count` bytes the keystream's byte at its place, the first at ctr->position, and moves
+        the position on by `count`. .. (iv + i / 16) modulo 2^128. .. DONE"""
+        data, want, stream = self.keystream(position, count, wrap)
+        iv, name = self.counter_words(self.domain, position // 16)
+        ctr = Buffer("ctr", iv + number(position, 8)[::-1], iv + number(position + count, 8)[::-1])
+        return Call("aes_add_keystream", [self.schedule(), ctr, Buffer("bytes", data, want), count], DONE,
+                    counter=Counter(name, position // 16, wrap), keystream=stream, plain=data + want)
+
+    def add_keystream_to(self, position, count):
+        """The same from one buffer to another; counts are in bytes."""
+        data, want, stream = self.keystream(position, count, NEVER)
+        iv, name = self.counter_words(self.domain, position // 16)
+        ctr = Buffer("ctr", iv + number(position, 8)[::-1], iv + number(position + count, 8)[::-1])
+        output = Buffer("output", self.undefined(count), want)
+        return Call("aes_add_keystream_to", [self.schedule(), ctr, Buffer("input", data), count, output, count], DONE,
+                    counter=Counter(name, position // 16, NEVER), keystream=stream, plain=data + want, may_stay=("plain",))
+
+    def add_keystream_with(self, position, count):
+        """In one call, under a key"""
+        data, want, stream = self.keystream(position, count, NEVER)
+        iv, name = self.counter_words(self.key_domain, position // 16)
+        after, _ = self.counter_words(self.domain, position // 16)
+        ctr = Buffer("ctr", iv + number(position, 8)[::-1], after + number(position + count, 8)[::-1])
+        bytes_ = Buffer("bytes", self.not_yet("bytes", count), want)
+        return Call("aes_add_keystream_with", [Buffer("key", self.key), self.key_size, ctr, bytes_, count], DONE,
+                    counter=Counter(name, position // 16, NEVER), keystream=stream, plain=data + want, later=lambda m: self.go_on(m, {"bytes": data}))
+
+    # CBC (SP 800-38A, 6.2).
+    def cbc_decrypt(self, count):
+        """Cipher block chaining in place (SP 800-38A, 6.2) .. decrypts the next `count` blocks of a chain, and moves
+        *cbc on to the last encrypted one. DONE"""
+        previous = self.once("previous", lambda: [self.domain.fresh("previous byte %d" % i, DATA) for i in range(16)])
+        content = self.content(count)
+        chain = previous + content
+        want = self.aes.xor(self.results("decrypt", count), chain)
+        return Call("aes_cbc_decrypt", [self.schedule(), Buffer("cbc", previous, chain[-16:]), Buffer("blocks", content, want), count],
+                    DONE, plain=want)
+
+    def cbc_encrypt(self, count):
+        """.. encrypts .. the next `count` blocks of a chain. After each block the encrypted block, which is what it
+        should be, becomes an arbitrary one."""
+        def make():
+            chain = [self.domain.fresh("chain byte %d" % i, DATA, True) for i in range(16)]
+            return chain, self.aes.cipher(self.aes.xor(self.first, chain), self.w)
+        chain, chained = self.once("chain", make)
+
+        def steps():
+            for b in range(count):
+                yield "vector", self.of(chained, b), self.of(chain, b + 1)
+        blocks = [self.of(chain, b) for b in range(count + 1)]
+        want = [x for b in blocks[1:] for x in b]
+        return Call("aes_cbc_encrypt", [self.schedule(), Buffer("cbc", blocks[0], blocks[-1]),
+                                        Buffer("blocks", self.content(count), want), count], DONE, steps=steps,
+                    plain=self.content(count))
+
+    # Key wrap (SP 800-38F, 6.1 to 6.3). In step t, the block A ^ [t] or A, with a semiblock R, is named as bytes of
+    # block t - 1.
+    def cipher_of(self, block, direction="encrypt"):
+        """Cipher, or InvCipher, of a block of bytes of block 0 and constants."""
+        if block == self.first:
+            return self.ciphers[direction]
+        cipher = self.aes.cipher if direction == "encrypt" else self.aes.inv_cipher
+        return self.once((direction, *block), lambda: cipher(block, self.w))
+
+    def wrap_string(self, start, n, last):
+        """W (6.1, algorithm 1) on the semiblock `start` and n others, of which `last` is what the last has: its steps,
+        the n, and what becomes of all."""
+        a, r = self.first[:8], self.first[8:]
+        semiblocks = [x for i in range(n) for x in self.of(last if i == n - 1 else r, i)]
+
+        def steps():
+            for t in range(1, 6 * n + 1):
+                block = self.cipher_of((start if t == 1 else a) + (last if t == n else r))
+                yield "vector", self.of(block, t - 1), self.aes.xor(self.of(a, t), number(t, 8)) + self.of(r, t - 1 + n)
+        return steps, semiblocks, self.of(a, 6 * n) + [x for i in range(n) for x in self.of(r, 6 * n + i)]
+
+    def unwrap_string(self, n, start=None, last=None):
+        """The inverse of W (6.1, algorithm 2) on n + 1 semiblocks: its steps, the semiblocks, and what becomes of them.
+        With `start` and `last` those alone whose first and last semiblock become these."""
+        a, r = self.first[:8], self.first[8:]
+        wrapped = self.aes.xor(self.of(a, 0), number(6 * n, 8)) + [x for i in range(n) for x in self.of(r, n - 1 - i)]
+        start, last = start or self.of(a, 6 * n), self.of(last or r, 6 * n)
+
+        def steps():
+            for k in range(1, 6 * n + 1):  # t is 6n + 1 - k
+                done_a = start if k == 6 * n else self.aes.xor(self.of(a, k), number(6 * n - k, 8))
+                yield "vector", self.of(self.ciphers["decrypt"], k - 1), done_a + (last if k == 5 * n + 1 else self.of(r, k - 1 + n))
+        key = [x for i in range(n) for x in (last if i == n - 1 else self.of(r, 7 * n - 1 - i))]
+        return steps, wrapped, start, key
+
+    def wrap(self, count):
+        """Key wrap (KW, SP 800-38F, 6.2; RFC 3394) from one buffer to another .. Counts are in semiblocks of 8 bytes. A
+        key has two or more, and becomes one more. .. DONE"""
+        steps, key, wrapped = self.wrap_string(ICV1, count, self.first[8:])
+        output = Buffer("output", self.undefined(8 * count + 8), wrapped)
+        return Call("aes_wrap", [self.schedule(), Buffer("input", key), count, output, count + 1], DONE, steps=steps, plain=key,
+                    may_stay=("plain",))
+
+    def unwrap(self, count):
+        """.. fotsgure_aes_unwrap also REFUSED, and the output then is all zeros; else DONE. Whether the key is right is
+        the only thing that a branch tells."""
+        n = count - 1
+        steps, wrapped, start, key = self.unwrap_string(n)
+        return Call("aes_unwrap", [self.schedule(), Buffer("input", wrapped), count, Buffer("output", self.undefined(8 * n), key), n],
+                    DONE, steps=steps, reveals=self.aes.xor(start, ICV1), refused=REFUSED, refused_after={"output": [0] * 8 * n}, plain=key)
+
+    def wrap_padded(self, length):
+        """Key wrap with padding (KWP, SP 800-38F, 6.3; RFC 5649) .. what is wrapped has one semiblock more than the key
+        fills, (input_length + 7) / 8 + 1. .. DONE"""
+        n, r = -(-length // 8), self.first[8:]
+        start, last = ICV2 + number(length, 4), r[:8 - 8 * n + length] + [0] * (8 * n - length)
+        if n == 1:
+            steps, key, wrapped = None, last, self.cipher_of(start + last)
+        else:
+            steps, key, wrapped = self.wrap_string(start, n, last)
+        output = Buffer("output", self.undefined(8 * n + 8), wrapped)
+        return Call("aes_wrap_padded", [self.schedule(), Buffer("input", key[:length]), length, output, n + 1], DONE, steps=steps,
+                    plain=key, may_stay=("plain",))
+
+    def unwrap_padded(self, length):
+        """And back: both counts are in semiblocks, and the output has one less. Afterwards *key_length is how many
+        bytes the key has: the first ones of the output, which zeros follow. .. DONE"""
+        return self.unwrap_padded_to(ICV2 + number(length, 4), length, DONE)
+
+    def unwrap_padded_to(self, start, length, status, filler=0):
+        """What was wrapped becomes the semiblock `start` and `length` bytes, which the byte `filler` follows."""
+        n, r = -(-length // 8), self.first[8:]
+        padding = 8 * n - length
+        last = r[:8 - padding] + [filler] * padding
+        if n == 1:
+            wrapped, block = self.first, self.ciphers["decrypt"]
+            steps, key = (lambda: iter([("block", block, start + self.of(last, 1))])), self.of(last, 1)
+        else:
+            steps, wrapped, _, key = self.unwrap_string(n, start, last)
+        output = Buffer("output", self.undefined(8 * n), key if status == DONE else [0] * 8 * n)
+        key_length = Buffer("key_length", self.undefined(8), number(length if status == DONE else 0, 8)[::-1])
+        return Call("aes_unwrap_padded", [self.schedule(), Buffer("input", wrapped), n + 1, output, n, key_length], status, steps=steps,
+                    plain=key)
+
+    def unwrap_padded_refused(self):
+        """.. REFUSED, and the output then is all zeros .. In all cases but DONE *key_length is 0. Shown for some first
+        semiblocks that no length has, and for padding that isn't zeros, with all keys."""
+        starts = (ICV1, ICV2 + number(8, 4), ICV2 + number(2 ** 32 - 1, 4), ICV2[:3] + [0xa7] + number(16, 4), ICV2 + number(17, 4))
+        calls = [self.unwrap_padded_to(start, 16, REFUSED) for start in starts]
+        return calls + [self.unwrap_padded_to(ICV2 + number(13, 4), 13, REFUSED, filler=1)]
+
+    # Calls that are refused: nothing but the status changes.
+    def refused(self):
+        """NO_KEY .. UNEQUAL_COUNTS if they differ .. KEYSTREAM_END if the position would pass 2^64 - 1 .. INVALID_COUNT
+        if keys of so many semiblocks are not wrapped, or the output isn't one longer or one shorter"""
+        key, none, data = self.schedule(), self.no_key(), self.content(3)
+        same, two, out = (lambda name: Buffer(name, data, data)), Buffer("input", data[:32]), lambda: Buffer("output", data, data)
+        ctr = lambda position: Buffer("ctr", data[:16] + number(position, 8)[::-1], data[:16] + number(position, 8)[::-1])
+        cbc, nothing = Buffer("cbc", data[:16], data[:16]), Buffer("key_length", data[:8], [0] * 8)
+        for direction in ("encrypt", "decrypt"):
+            name = "aes_" + direction + "_blocks"
+            yield Call(name, [none, same("blocks"), 3], NO_KEY)
+            for aes, counts, status in ((none, (2, 2), NO_KEY), (key, (2, 3), UNEQUAL_COUNTS), (none, (2, 1), UNEQUAL_COUNTS)):
+                yield Call(name + "_to", [aes, two, counts[0], out(), counts[1]], status)
+            yield Call("aes_cbc_" + direction, [none, cbc, same("blocks"), 3], NO_KEY)
+        for aes, position, count, status in ((none, 0, 16, NO_KEY), (none, 2 ** 64 - 16, 16, KEYSTREAM_END),
+                                             (key, 2 ** 64 - 1, 1, KEYSTREAM_END), (key, 2 ** 64 - 48, 48, KEYSTREAM_END)):
+            yield Call("aes_add_keystream", [aes, ctr(position), same("bytes"), count], status)
+            yield Call("aes_add_keystream_to", [aes, ctr(position), Buffer("input", data), count, out(), count], status)
+            yield Call("aes_add_keystream_to", [aes, ctr(position), Buffer("input", data), count, out(), count - 1], UNEQUAL_COUNTS)
+        for aes, counts, status in ((none, (2, 3), NO_KEY), (key, (1, 2), INVALID_COUNT), (key, (2, 2), INVALID_COUNT),
+                                    (key, (0, 1), INVALID_COUNT), (key, (2 ** 54, 2 ** 54 + 1), INVALID_COUNT)):
+            yield Call("aes_wrap", [aes, two, counts[0], out(), counts[1]], status)
+            yield Call("aes_unwrap", [aes, two, counts[1], out(), counts[0]], status)
+        for aes, length, count, status in ((none, 8, 2, NO_KEY), (key, 0, 1, INVALID_COUNT), (key, 9, 2, INVALID_COUNT),
+                                           (key, 2 ** 32, 2 ** 29 + 1, INVALID_COUNT)):
+            yield Call("aes_wrap_padded", [aes, two, length, out(), count], status)
+        for aes, counts, status in ((none, (2, 1), NO_KEY), (key, (1, 0), INVALID_COUNT), (key, (2, 2), INVALID_COUNT),
+                                    (key, (2 ** 29 + 2, 2 ** 29 + 1), INVALID_COUNT)):
+            yield Call("aes_unwrap_padded", [aes, two, counts[0], out(), counts[1], nothing], status)
+        for length in (0, 15, 17, 33, 2 ** 32 + 16):
+            for direction in ("encrypt", "decrypt"):
+                yield Call("aes_%s_blocks_with" % direction, [two, length, same("blocks"), 3], KEY_LENGTH)
+            yield Call("aes_add_keystream_with", [two, length, ctr(0), same("bytes"), 16], KEY_LENGTH)
+        yield Call("aes_add_keystream_with", [two, 16, ctr(2 ** 64 - 3), same("bytes"), 3], KEYSTREAM_END)

@@ -1,0 +1,105 @@
+"""One value for each cell, and so for each bit and byte: random ones for a run beside the processor, those of the
+standards' vectors for the statements."""
+from bits import BLOCK, PRODUCT
+from machine import Distance, Pointer
+
+
+class Values:
+    def __init__(self, domain, random, counter=None):
+        """`counter`: for counter mode, of which the initial counter block consists of words (see aes.Counter)."""
+        self.domain, self.random, self.counter = domain, random, counter
+        self.cells, self.bytes, self.base = {}, {}, {}
+
+    def cell(self, cell, block):
+        d = self.domain
+        if d.names[cell].startswith("counter byte "):
+            i = int(d.names[cell].split()[2])
+            low = 8 <= i < 16
+            word = Pointer(self.counter.word, self.counter.first + block - 1) if low else Pointer("counter high", i // 16)
+            return self.word(word) >> 8 * (7 - i % 8) & 255
+        key = (cell, block if d.of_block[cell] else 0)
+        if key not in self.cells:
+            bits = d.definitions.get(cell)
+            self.cells[key] = self.random.randrange(256) if bits is None else sum(
+                self.bit(d.in_block(b, block)) << j for j, b in enumerate(bits))
+        return self.cells[key]
+
+    def bit(self, x):
+        d, value = self.domain, x & 1
+        if x > 1 and x & BLOCK == PRODUCT << 1:
+            linear, p, _ = d.products[x >> 9]
+            pairs = list(d.pairs)
+            for k, one in enumerate(bin(p)[:1:-1]):
+                if one == "1":
+                    (a, b, i), (c, e, j) = pairs[k]
+                    value ^= self.cell(a, b) >> i & self.cell(c, e) >> j & 1
+            return value ^ self.bit(linear)
+        for block, n in d.parts(x):
+            for c, t in d.forms[n]:
+                value ^= t >> self.cell(c, block) & 1
+        return value
+
+    def full_byte(self, b):
+        """Also of sums of products, which takes long."""
+        value = self.byte(b)
+        return sum(self.bit(x) << j for j, x in enumerate(self.domain.bits(b))) if value is None else value
+
+    def byte(self, b):
+        """None if it is undefined, or a sum of products: what becomes of these is compared."""
+        if b < 256:
+            return b
+        if b not in self.bytes:
+            name = self.domain.opaque_of.get(b)
+            if isinstance(name, str) or self.domain.has_product(b):
+                value = None
+            elif self.domain.bits_of[b] is not None:
+                value = sum(self.bit(x) << j for j, x in enumerate(self.domain.bits(b)))
+            elif isinstance(name[0], str):
+                value = self.random.randrange(256)
+            else:
+                value = self.word(name[0]) >> 8 * name[1] & 255
+            self.bytes[b] = value
+        return self.bytes[b]
+
+    def word(self, v):
+        """Of a value of machine.py; None as above."""
+        if isinstance(v, int):
+            return v
+        if isinstance(v, Pointer):
+            if v.base not in self.base:
+                self.base[v.base] = self.first_value(v.base)
+            return self.base[v.base] + v.offset & (1 << 64) - 1
+        if isinstance(v, Distance):
+            return self.base[v.base] - self.base[v.other] + v.offset & (1 << 64) - 1
+        b = [self.byte(x) for x in v]
+        return None if None in b else int.from_bytes(bytes(b), "little")
+
+    def first_value(self, base):
+        """A word of unknown value, by its name."""
+        if self.counter and base == self.counter.word and self.counter.wrap < 1 << 63:
+            return (1 << 64) - self.counter.wrap
+        if base == "nonce low":
+            return sum(self.bit(x) << 8 * k + j for k in range(8) for j, x in enumerate(self.domain.words[base](0, k)))
+        return self.random.getrandbits(46)
+
+    def set_byte(self, domain, b, value):
+        """Gives the cell that a byte is, perhaps with bits flipped, the value with which the byte has this one."""
+        self.cells[domain.cell_of(b)] = value ^ sum((x & 1) << j for j, x in enumerate(domain.bits(b)))
+
+    def give(self, b, value):
+        """Gives a byte of a statement's content this value: it is a constant, a byte of a word, or a cell."""
+        name = self.domain.opaque_of.get(b)
+        if name:
+            word, k = name
+            self.base[word.base] = self.base.get(word.base, 0) | value << 8 * k
+        elif b >= 256:
+            self.set_byte(self.domain, b, value)
+
+    def renamed(self, pairs, domain):
+        """What stands for a byte becomes another, of another domain perhaps: cells get the values that they stand
+        for."""
+        known = [(new, self.full_byte(b)) for b, new in pairs if (new != b or domain is not self.domain) and domain.symbolic(new)]
+        if domain is not self.domain:
+            self.domain, self.cells, self.bytes = domain, {}, {}
+        for new, value in known:
+            self.set_byte(domain, new, value)

@@ -1,0 +1,122 @@
+"""The standards' vectors, at which each statement is evaluated without any machine: so the definitions that stand in
+aes.py, gcm.py and standards.py are those of the standards."""
+import random
+
+from bits import Domain, Unproved
+from standards import Aes, product
+from values import Values
+
+# SP 800-38A, F.2 and F.5: the key, CBC's and counter mode's blocks.
+A_PLAIN = ("6bc1bee22e409f96e93d7e117393172aae2d8a571e03ac9c9eb76fac45af8e51"
+           "30c81c46a35ce411e5fbc1191a0a52eff69f2445df4f9b17ad2b417be66c3710")
+A_KEYS = {16: "2b7e151628aed2a6abf7158809cf4f3c", 24: "8e73b0f7da0e6452c810f32b809079e562f8ead2522c6b7b",
+          32: "603deb1015ca71be2b73aef0857d77811f352c073b6108d72d9810a30914dff4"}
+A_COUNTER = {16: "874d6191b620e3261bef6864990db6ce9806f66b7970fdff8617187bb9fffdff"
+                 "5ae4df3edbd5d35e5b4f09020db03eab1e031dda2fbe03d1792170a0f3009cee",
+             24: "1abc932417521ca24f2b0459fe7e6e0b090339ec0aa6faefd5ccc2c6f4ce8e94"
+                 "1e36b26bd1ebc670d1bd1d665620abf74f78a7f6d29809585a97daec58c6b050",
+             32: "601ec313775789a5b7a7f504bbf3d228f443e3ca4d62b59aca84e990cacaf5c5"
+                 "2b0930daa23de94ce87017ba2d84988ddfc9c58db67aada613c2dd08457941a6"}
+A_CBC = {16: "7649abac8119b246cee98e9b12e9197d5086cb9b507219ee95db113a917678b2"
+             "73bed6b8e3c1743b7116e69e222295163ff1caa1681fac09120eca307586e1a7",
+         24: "4f021db243bc633d7178183a9fa071e8b4d9ada9ad7dedf4e5e738763f69145a"
+             "571b242012fb7ae07fa9baac3df102e008b0e27988598881d920a9e64f5615cd",
+         32: "f58c4c04d6e5f1ba779eabfb5f7bfbd69cfc4e967edb808d679f777bc6702c7d"
+             "39f23369a9d9bacfa530e26304231461b2eb05e2c39be9fcda6c19078c6a9d1b"}
+# RFC 3394, 4.1, 4.2 and 4.3: keys 00 01 .. and 16 bytes; RFC 5649, 6, and CAVP's KWP: (key, data, wrapped).
+KW_DATA = "00112233445566778899aabbccddeeff"
+KW = {16: "1fa68b0a8112b447aef34bd8fb5a7b829d3e862371d2cfe5", 24: "96778b25ae6ca435f92b5b97c050aed2468ab8a17ad84e5d",
+      32: "64e8c3f9ce0f5ba263e9777905818a2a93c8191e7d6e8ae7"}
+KWP = [("5840df6e29b02af1ab493b705bf16ea1ae8338f4dcc176a8", "c37b7e6492584340bed12207808941155068f738",
+        "138bdeaa9b8fa7fc61f97742e72248ee5ae6ae5360d1ae6a5f54f373fa543b6a"),
+       ("5840df6e29b02af1ab493b705bf16ea1ae8338f4dcc176a8", "466f7250617369", "afbeb0f07dfbf5419200f2ccb50bb24f"),
+       ("95da2700ca6fd9a52554ee2a8df1386f5b94a1a60ed8a4aef60a8d61ab5f225a", "d1", "06ba7ae6f3248cfdcf267507fa001bc4")]
+# The submission of GCM (McGrew and Viega), appendix B, test cases 4 and 16, and 6 and 18 with nonces of 60 bytes.
+G_KEY, G_NONCE, G_MORE = "feffe9928665731c6d6a8f9467308308", "cafebabefacedbaddecaf888", "feedfacedeadbeeffeedfacedeadbeefabaddad2"
+G_PLAIN = "d9313225f88406e5a55909c5aff5269a86a7a9531534f7da2e4c303d8a318a721c3c0c95956809532fcf0e2449a6b525b16aedf5aa0de657ba637b39"
+G_LONG = ("9313225df88406e555909c5aff5269aa6a7a9538534f7da1e4c303d2a318a728c3c0c95156809539fcf0e2429a6b525416aedbf5a0de6a57a637b39b")
+GCM = [(G_KEY, G_NONCE, "42831ec2217774244b7221b784d0d49ce3aa212f2c02a4e035c17e2329aca12e21d514b25466931c7d8f6a5aac84aa051ba30b396a0a"
+        "ac973d58e091", "5bc94fbc3221a5db94fae95ae7121a47"),
+       (G_KEY * 2, G_NONCE, "522dc1f099567d07f47f37a32a84427d643a8cdcbfe5c0c97598a2bd2555d1aa8cb08e48590dbb3da7b08b1056828838c5f61e6393ba"
+        "7a0abcc9f662", "76fc6ece0f4e1768cddf8853bb2d551b"),
+       (G_KEY, G_LONG, "8ce24998625615b603a033aca13fb894be9112a5c3a211a8ba262a3cca7e2ca701e4a9a4fba43c90ccdcb281d48c7c6fd62875d2aca417034c3"
+        "4aee5", "619cc5aefffe0bfa462af43c1699d050")]
+
+
+def evaluate(keyed, call, key, given):
+    """What the buffers of a statement hold after the call, for a key and given contents."""
+    plain, d = Aes(Domain()), keyed.domain
+    values = Values(d, random.Random(1), call.counter)
+    words = plain.key_expansion(list(key))
+    for word, cells in zip(words, keyed.w):
+        for value, b in zip(word, cells):
+            values.set_byte(d, b, value)
+    if keyed.library == "gcm":
+        power = h = plain.cipher([0] * 16, words)
+        for cells in keyed.powers:
+            for value, b in zip(power, cells):
+                values.set_byte(d, b, value)
+            power = product(plain.d, power, h)
+    for buffer in call.buffers:
+        for value, b in zip(given.get(buffer.name, ()), buffer.content):
+            values.give(b, value)
+    for _, want, new in call.steps() if call.steps else ():
+        values.renamed(list(zip(want, new)), d)
+        for b, c in zip(want, new):
+            if c < 256 and values.full_byte(b) != c:
+                raise Unproved("a vector isn't what a statement assumes")
+        values.bytes = {}
+        d.forget_products()
+    return {b.name: bytes(values.full_byte(x) for x in b.after) for b in call.buffers if b.after is not None and None not in b.after}
+
+
+def check(keyed, call, key, given, want):
+    """1, if the statement has the vector's results."""
+    have = evaluate(keyed, call, bytes.fromhex(key), {name: bytes.fromhex(x) for name, x in given.items()})
+    for name, x in want.items():
+        if have[name].hex() != x:
+            raise Unproved("%s: a vector of the standard has another %s: %s and not %s" % (call.name, name, have[name].hex(), x))
+    return 1
+
+
+def aes_vectors(k):
+    size, cipher, number = k.key_size, A_CBC[k.key_size], "f0f1f2f3f4f5f6f7f8f9fafbfcfdfeff"
+    key, iv, last = A_KEYS[size], "000102030405060708090a0b0c0d0e0f", {"cbc": A_CBC[size][-32:]}
+    yield k.add_keystream(0, 64), key, {"ctr": number, "bytes": A_PLAIN}, {"bytes": A_COUNTER[size]}
+    yield k.add_keystream(16, 48, 1 << 60), key, {"ctr": number, "bytes": A_PLAIN[32:]}, {"bytes": A_COUNTER[size][32:]}
+    yield k.cbc_encrypt(4), key, {"cbc": iv, "blocks": A_PLAIN}, dict(last, blocks=cipher)
+    yield k.cbc_decrypt(4), key, {"cbc": iv, "blocks": cipher}, dict(last, blocks=A_PLAIN)
+    key = bytes(range(size)).hex()
+    yield k.wrap(2), key, {"input": KW_DATA}, {"output": KW[size]}
+    yield k.unwrap(3), key, {"input": KW[size]}, {"output": KW_DATA}
+    for key, data, wrapped in KWP:
+        if len(key) == 2 * size:
+            n = len(data) // 2
+            padded = data + "00" * (-n % 8)
+            yield k.wrap_padded(n), key, {"input": data}, {"output": wrapped}
+            yield k.unwrap_padded(n), key, {"input": wrapped}, {"output": padded, "key_length": n.to_bytes(8, "little").hex()}
+
+
+def gcm_vectors(k):
+    for key, nonce, cipher, tag in GCM:
+        if len(key) == 2 * k.key_size:
+            first = k.nonce_of(len(nonce) // 2, counter_of(bytes.fromhex(key), bytes.fromhex(nonce)))
+            given = {"nonce": nonce, "additional": G_MORE}
+            yield k.seal(20, 60, first), key, dict(given, text=G_PLAIN), {"text": cipher, "tag": tag}
+            if len(nonce) == 24:
+                yield k.open(20, 60, first), key, dict(given, text=cipher, tag=tag), {"text": G_PLAIN}
+
+
+def counter_of(key, nonce):
+    """The last 32 bits of J_0 (7.1, step 2), for the statements that are for J_0 that end in a number."""
+    plain = Aes(Domain())
+    h, value = plain.cipher([0] * 16, plain.key_expansion(list(key))), [0] * 16
+    padded = nonce + bytes(-len(nonce) % 16 + 8) + (8 * len(nonce)).to_bytes(8, "big")
+    for i in range(0, len(padded), 16):
+        value = product(plain.d, plain.xor(value, padded[i:i + 16]), h)
+    return int.from_bytes(bytes(value[12:]), "big")
+
+
+def checked(keyed):
+    """How many vectors the statements have; raises if they haven't one."""
+    return sum(check(keyed, *vector) for vector in (gcm_vectors if keyed.library == "gcm" else aes_vectors)(keyed))
