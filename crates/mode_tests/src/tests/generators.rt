@@ -140,6 +140,7 @@ fn write_words(words: &[u128], bytes: &mut [u8]) {
 }
 
 // Up to 48 bytes that words write.
+#[derive(Drop)]
 struct Input {
     bytes: [u8; SEED_LENGTH],
     length: usize,
@@ -212,4 +213,5 @@ fn vectors_of_nist(rt: HostRuntime) {
     assert!(rt; gives(&WITH_INPUTS));
     assert!(rt; gives(&RESEEDED));
     assert!(rt; gives(&RESEEDED_WITH_INPUTS));
+    assert!(rt; seeded(&[0; 48], &mut [0; 32]).is_ok());
 }
