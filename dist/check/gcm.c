@@ -236,6 +236,8 @@ static void counted(void)
     fotsgure_gcm_wipe(&gcm);
 }
 
+#include "siv.h"
+
 static uint8_t plain[300], text[300], sealed[300], additional[300], tag[16], wanted[16];
 
 /* Whether a message in pieces of so many bytes is that of one call, and comes back in pieces, in both ways. */
@@ -470,8 +472,6 @@ static void pieces(void)
         tag, 16) == FOTSGURE_GCM_DONE && all(text, 3, 1), "compound literals", 3);
     fotsgure_gcm_wipe(&gcm);
 }
-
-#include "siv.h"
 
 int main(void)
 {
