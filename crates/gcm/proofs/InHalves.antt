@@ -14,10 +14,14 @@ use Rattle.gcm.proofs.Linear.{exchanged, v_keeps, v_add}
 use Rattle.gcm.proofs.Counting.{block_below}
 use Rattle.gcm.proofs.Reduction.{rows_after, folded_keeps, reduced_next}
 use Rattle.gcm.proofs.Rows.{zeros_next, value_next, block_moved, block_summed, number_summed, zeros_block, zero_at, half_found}
-use Rattle.gcm.proofs.ByHalves.{zip2_take, zip2_drop}
+use Rattle.gcm.proofs.RowPairs.{zip2_take, zip2_drop}
 
 -- ---- the sum of the last k rows, with the bits that fell out
 
+-- the loop keeps two blocks: `first` is the sum so far, `second` has the bits that fell out behind
+-- it. Together they stand for the last k rows, each shifted by its place. In `second` there are
+-- zeros from byte k - 1 on, since each step moves one byte into it, the first of them a 0. So nothing
+-- falls out of it
 pub record Summed (row : ℕ → ℕ) (k : ℕ) (first second : List ℕ) : Type 0 where
   pub first_block : IsBlock first
   pub second_block : IsBlock second
@@ -25,6 +29,7 @@ pub record Summed (row : ℕ → ℕ) (k : ℕ) (first second : List ℕ) : Type
   pub start : k ≡ 0 → get_or first 15 0 ≡ 0
   pub value : reduced (from_be_bytes w128 first) (from_be_bytes w128 second) ≡ rows_after row k
 
+-- before the first step both are zeros
 pub summed_none : (row : ℕ → ℕ) → Summed row 0 (replicate 16 0) (replicate 16 0)
 unfolding reduced folded rows_after
 summed_none row = record {
@@ -35,6 +40,7 @@ summed_none row = record {
   value = refl;
 }
 
+-- a step moves both one byte on and adds the row before
 pub summed_next : (row : ℕ → ℕ) (k : ℕ) (first second added first' second' : List ℕ) → k < 16 → Summed row k first second
     → IsBlock added → from_be_bytes w128 added ≡ row (15 - k) → first' ≡ zip2 bit_xor (0 ∷ take 15 first) added
     → second' ≡ get_or first 15 0 ∷ take 15 second → Summed row (k + 1) first' second'
@@ -49,6 +55,8 @@ summed_next row k first second added first' second' inside old block is first_is
 
 -- ---- what two halves look up
 
+-- the look-ups of one vector give rows r and 8 + r of a product, since `place_of` puts the two side
+-- by side
 pub rows_found : (x found : List ℕ) (rows : List (List ℕ)) (r : ℕ) → IsTable rows → r < 8 → IsBlock x
     → found ≡ map (by_nibbles (get_or rows (16 + 2 * r) []) (get_or rows (2 * r) [])) x
     ++ map (by_nibbles (get_or rows (17 + 2 * r) []) (get_or rows (2 * r + 1) [])) x
@@ -80,6 +88,7 @@ rows_summed f g r p q a b =
 
 -- ---- eight bytes on
 
+-- one byte on: the two blocks stand for the same number times x ^ 8
 chain : (y n k l k' l' t : ℕ) → reduced k l ≡ v_at y n → k' ≡ k / 256 → l' ≡ k % 256 * 2 ^ 120 + l / 256 → l ≡ t * 2 ^ 16
     → l < 2 ^ 128 → reduced k' l' ≡ v_at y (n + 8)
 chain y n k l k' l' t before k_is l_is is small =
@@ -87,6 +96,8 @@ chain y n k l k' l' t before k_is l_is is small =
     ∙ reduced_next k l t 0 is small ∙ xor_zero_r (v_at (reduced k l) 8)
     ∙ ap (λ z. v_at z 8) before ∙ v_add y n 8
 
+-- eight bytes on, in one shift: the upper half's sum has to be moved so far before it is added to
+-- the lower's
 eight_on : (k l q : ℕ) → l ≡ q * 2 ^ 72 → l < 2 ^ 128
     → reduced (k / 2 ^ 64) (k % 2 ^ 64 * 2 ^ 64 + l / 2 ^ 64) ≡ v_at (reduced k l) 64
 unfolding v_at
@@ -122,6 +133,7 @@ eight_on k l q is small =
 abbrev pub lower_rows : (ℕ → ℕ) → ℕ → ℕ
 lower_rows row r = row (r - 8)
 
+-- eight rows and n more: the first eight are moved on by n bytes
 rows_on : (row : ℕ → ℕ) (n : ℕ)
     → rows_after row (8 + n) ≡ bit_xor (v_at (rows_after row 8) (8 * n)) (rows_after (lower_rows row) n)
 unfolding rows_after v_at
@@ -138,10 +150,12 @@ rows_on row (suc n) =
     ∙ xor_assoc (v_at (v_at a (8 * n)) 8) (v_at b 8) (row (15 - (8 + n)))
     ∙ (λ t. bit_xor ((v_add a (8 * n) 8 ∙ ap (v_at a) bits) t) (bit_xor (v_at b 8) (row (place t))))
 
+-- the sum of two reduced numbers is reduced from the sums of their parts
 reduced_keeps : (a b c d : ℕ) → reduced (bit_xor a b) (bit_xor c d) ≡ bit_xor (reduced a c) (reduced b d)
 unfolding reduced
 reduced_keeps a b c d = ap (bit_xor (bit_xor a b)) (folded_keeps c d) ∙ exchanged a b (folded c) (folded d)
 
+-- the last nine bytes of what fell out are zeros, so eight of them can go
 nine_zeros : (x : List ℕ) → ((i : ℕ) → 8 ≤ i + 1 → get_or x i 0 ≡ 0)
     → from_be_bytes w128 x ≡ from_be_bytes w128 x / 2 ^ 72 * 2 ^ 72
 nine_zeros x zeros =
@@ -164,9 +178,11 @@ pub record SummedInHalves (row : ℕ → ℕ) (k : ℕ) (first second : List ℕ
   pub lower : Summed (lower_rows row) k (take 16 first) (take 16 second)
   pub upper : Summed row k (drop 16 first) (drop 16 second)
 
+-- before the first step
 pub halves_none : (row : ℕ → ℕ) → SummedInHalves row 0 (replicate 32 0) (replicate 32 0)
 halves_none row = record { lower = summed_none (lower_rows row); upper = summed_none row }
 
+-- a step of one vector is one of both halves
 pub halves_next : (row : ℕ → ℕ) (k : ℕ) (first second added moved second' : List ℕ) → k < 8
     → SummedInHalves row k first second → HasRows row (7 - k) added
     → take 16 moved ≡ 0 ∷ take 15 (take 16 first) → drop 16 moved ≡ 0 ∷ take 15 (drop 16 first)
@@ -185,6 +201,7 @@ halves_next row k first second added moved second' inside old new lower_moved up
           (zip2_drop bit_xor 16 moved added ∙ ap (λ l. zip2 bit_xor l (drop 16 added)) upper_moved) upper_second;
     }
 
+-- after eight steps the sum of both halves, reduced, is that of all sixteen rows
 pub both_halves : (row : ℕ → ℕ) (k : ℕ) (first second : List ℕ) → SummedInHalves row k first second → k ≡ 8
     → reduced (bit_xor (from_be_bytes w128 (take 16 first)) (from_be_bytes w128 (drop 16 first) / 2 ^ 64))
     (bit_xor (from_be_bytes w128 (take 16 second))

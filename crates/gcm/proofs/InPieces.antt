@@ -141,6 +141,7 @@ pub record IsSoFar (w : List (List ℕ)) (iv a c : List ℕ) (m : Message) : Typ
   pub text : m.text ≡ length c
   pub short_text : length c ≤ 2 ^ 36 - 32
 
+-- both phases tell it, so that a tag is proved once for the two
 pub so_far : (turn : Phase) (w : List (List ℕ)) (iv a c : List ℕ) (m : Message) → IsAt turn w iv a c m
     → IsSoFar w iv a c m
 so_far turn w iv a c m (inl (is, none)) =

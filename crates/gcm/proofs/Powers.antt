@@ -6,16 +6,18 @@ use Rattle.aes_planes.proofs.Bits.ByteCases.{all_below, all_below_tells}
 use Rattle.gcm.specs.Gcm.{bit_of, v_at, next_v, product}
 use Rattle.gcm.specs.Multiples.{sum_of, byte_of, nibble_multiple, byte_multiple}
 use Rattle.gcm.proofs.Linear.{term, term_adds, term_keeps, term_zero, term_below, term_through, product_terms, product_bytes}
-use Rattle.gcm.proofs.Linear.{sum-agree, sum-add, sum-zero, sum-through}
+use Rattle.gcm.proofs.Linear.{byte_small, sum-agree, sum-add, sum-zero, sum-through}
 use Rattle.gcm.proofs.Linear.{v-sum, v_keeps, v_zero, v_swap, v_below, sum-below}
-use Rattle.gcm.proofs.Reduction.{number_sum, placed, byte_small}
+use Rattle.gcm.proofs.Reduction.{number_sum, placed}
 
 -- ---- products keep sums
 
+-- a bit of a sum is the sum of the bits
 bit_keeps : (a b i : ℕ) → bit_of (bit_xor a b) i ≡ bit_xor (bit_of a i) (bit_of b i)
 unfolding bit_of
 bit_keeps a b i = ap (λ y. y % 2) (xor_shr a b (127 - i)) ∙ xor_mod (a / 2 ^ (127 - i)) (b / 2 ^ (127 - i)) 1
 
+-- a bit is 0 or 1, as `term_adds` asks
 bit_small : (x i : ℕ) → bit_of x i < 2
 unfolding bit_of
 bit_small x i = omega arith
@@ -43,6 +45,7 @@ right_keeps x a b =
     ∙ sum-add 128 (λ i. term (bit_of x i) (v_at a i)) (λ i. term (bit_of x i) (v_at b i))
     ∙ (λ t. bit_xor (sym (product_terms x a 128) t) (sym (product_terms x b 128) t))
 
+-- a product with 0 is 0, which a lemma on sums needs where it begins
 right_zero : (x : ℕ) → product x 0 ≡ 0
 unfolding product
 right_zero x =
@@ -51,6 +54,7 @@ right_zero x =
     (λ i l. ap (term (bit_of x i)) (v_zero i) ∙ term_zero (bit_of x i))
     ∙ sum-zero 128
 
+-- a bit goes through a product
 right_term : (x b y : ℕ) → product x (term b y) ≡ term b (product x y)
 unfolding term
 right_term x b y = by_test (b == 0)
@@ -71,6 +75,7 @@ right_v x a m =
 
 -- ---- the order of factors
 
+-- two factors of a third can change places: both sides are the same sum of terms
 left_free : (x y h : ℕ) → product x (product y h) ≡ product y (product x h)
 unfolding product
 left_free x y h =
@@ -85,6 +90,7 @@ one_test : all_below 256 (λ b. byte_multiple (2 ^ 127) b == b * 2 ^ 120) ≡ tr
 unfolding all_below byte_multiple nibble_multiple sum_of v_at next_v
 one_test = refl
 
+-- times that block nothing changes, so the law above turns into one on two factors
 pub by_one : (a : ℕ) → a < 2 ^ 128 → product a (2 ^ 127) ≡ a
 by_one a small =
     product_bytes a (2 ^ 127)
@@ -93,12 +99,15 @@ by_one a small =
     one_test (byte_of a j) (byte_small a j))) ∙ sym (placed (byte_of a j) j l))
     ∙ number_sum a small
 
+-- factors can change places
 turned : (a b : ℕ) → a < 2 ^ 128 → b < 2 ^ 128 → product a b ≡ product b a
 turned a b ha hb = ap (product a) (sym (by_one b hb)) ∙ left_free a b (2 ^ 127) ∙ ap (product b) (by_one a ha)
 
+-- what equals a block is one
 small_as : (a b : ℕ) → a ≡ b → b < 2 ^ 128 → a < 2 ^ 128
 small_as a b e small = rw e small
 
+-- a product with a block is a block
 pub product_below : (x h : ℕ) → h < 2 ^ 128 → product x h < 2 ^ 128
 unfolding product
 product_below x h small =
@@ -111,11 +120,13 @@ twice x q h hq hh = turned (product x q) h (product_below x q hq) hh ∙ left_fr
 
 -- ---- two and three blocks, hashed
 
+-- two blocks: the first is multiplied twice, so by the square
 pub two_hashed : (h b c : ℕ) → h < 2 ^ 128
     → product (bit_xor (product b h) c) h ≡ bit_xor (product b (product h h)) (product c h)
 two_hashed h b c small =
     product_keeps (product b h) c h ∙ ap (λ y. bit_xor y (product c h)) (twice b h h small small)
 
+-- three blocks, with the powers of the subkey as the tables have them
 pub three_hashed : (h p b c h2 h3 : ℕ) → h < 2 ^ 128 → h2 ≡ product h h → h3 ≡ product h2 h
     → product (bit_xor (product (bit_xor (product p h) b) h) c) h
     ≡ bit_xor (bit_xor (product p h3) (product b h2)) (product c h)

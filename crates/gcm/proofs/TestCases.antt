@@ -9,6 +9,7 @@ use Rattle.aes_ctr.specs.Private.{byte_of_blocks}
 use Rattle.gcm.specs.Gcm.{inc32, counter_at, pre_counter, text}
 use Rattle.gcm.proofs.OnLiterals.{gcm_on_literals, text_by}
 
+-- the round keys of the cases' key
 abbrev pub w : List (List ℕ)
 w = key_expansion (bytes 16 0xfeffe9928665731c6d6a8f9467308308)
 
@@ -16,9 +17,11 @@ w = key_expansion (bytes 16 0xfeffe9928665731c6d6a8f9467308308)
 abbrev pub zeros : List ℕ
 zeros = bytes 16 0xb83b533708bf535d0aa6e52980d53b78
 
+-- A of all three
 abbrev pub additional : List ℕ
 additional = bytes 20 0xfeedfacedeadbeeffeedfacedeadbeefabaddad2
 
+-- P of all three
 abbrev pub plain : List ℕ
 plain =
     bytes 16 0xd9313225f88406e5a55909c5aff5269a ++ bytes 16 0x86a7a9531534f7da2e4c303d8a318a72

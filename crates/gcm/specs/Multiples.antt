@@ -34,6 +34,7 @@ multiples_row v r = fips.build 16 (λ n. byte_of (nibble_multiple v n) r)
 abbrev pub place_of : ℕ → ℕ
 place_of r = 2 * (r % 8) + r / 8
 
+-- and which row stands at place i
 abbrev pub row_at : ℕ → ℕ
 row_at i = i / 2 + 8 * (i % 2)
 

@@ -1,7 +1,7 @@
 -- What is left to show of `multiples::rows_of_product`.
 use Rattle.std.proofs.Common.{rules}
 use Rattle.aes_planes.specs.Fips197.{IsBlock}
-use Rattle.gcm.proofs.ByHalves.{rows_in_halves}
+use Rattle.gcm.proofs.RowPairs.{rows_in_halves}
 use Rattle.gcm.proofs.InHalves.{rows_found}
 use Rattle.gcm.proofs.multiples.rows_of_product.Goals as goal
 

@@ -1,8 +1,8 @@
--- What is left to show of `halves::lookup_in_halves`.
+-- What is left to show of `row_pairs::lookup_in_halves`.
 use Rattle.std.proofs.Common.{ap, ◌∙◌, w8, rules}
 use Rattle.std.proofs.lemmas.Simd.{swz_l}
-use Rattle.gcm.proofs.ByHalves.{looked_in_halves}
-use Rattle.gcm.proofs.halves.lookup_in_halves.Goals as goal
+use Rattle.gcm.proofs.RowPairs.{looked_in_halves}
+use Rattle.gcm.proofs.row_pairs.lookup_in_halves.Goals as goal
 
 pub returns : goal.returns
 returns c = λ p q p_long q_long is.

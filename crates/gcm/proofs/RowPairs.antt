@@ -15,6 +15,7 @@ use Rattle.aes_permute.proofs.Lookups.{looked_from, low_nibbles_are, high_nibble
 
 -- ---- nibbles
 
+-- the mask of a block in both halves gives its low nibbles in both
 pub low_twice : (x : List ℕ) → IsBlock x
     → zip2 bit_and (x ++ x) (replicate 32 15) ≡ map low_nibble x ++ map low_nibble x
 low_twice x block =
@@ -23,6 +24,7 @@ low_twice x block =
     zip2_splat bit_and (x ++ x) 32 15 (length-append x x ∙ omega (arith, block.0))
     ∙ map-append (λ b. bit_and b 15) x x ∙ (λ t. once t ++ once t)
 
+-- and the shift its high ones
 pub high_twice : (x : List ℕ) → IsBlock x
     → zip2 (λ a b. a / 2 ^ b) (x ++ x) (replicate 32 4) ≡ map high_nibble x ++ map high_nibble x
 high_twice x block =
@@ -37,11 +39,13 @@ indices_append (x ∷ xs) ys h k =
     let both = and_parts (is_index x) (list_all is_index xs) h in
     λ t. both.0 t && indices_append xs ys both.1 k t
 
+-- they are indices of a table of sixteen bytes
 pub low_indices : (x places : List ℕ) → IsBlock x → places ≡ map low_nibble x ++ map low_nibble x → AreIndices places
 low_indices x places block is =
     let one = nibbles_are_indices (map low_nibble x) (low_is x block) in
     ap (list_all is_index) is ∙ indices_append (map low_nibble x) (map low_nibble x) one one
 
+-- so are the high ones
 pub high_indices : (x places : List ℕ) → IsBlock x → places ≡ map high_nibble x ++ map high_nibble x
     → AreIndices places
 high_indices x places block is =
@@ -58,6 +62,7 @@ swz_append xs (p ∷ ps) qs i =
     let rest = swz_append xs ps qs (suc i) ∙ ap (λ n. swz_l w8 16 xs (suc i) ps ++ swz_l w8 16 xs n qs) e in
     λ k. cond (zeroes 16 w8 p) 0 (get_or xs (16 * (i / 16) + p) 0) ∷ rest k
 
+-- indices, cut in two, are indices
 indices_parts : (xs ys : List ℕ) → AreIndices (xs ++ ys) → (AreIndices xs) × (AreIndices ys)
 indices_parts [] ys h = (refl, h)
 indices_parts (x ∷ xs) ys h =
@@ -65,6 +70,7 @@ indices_parts (x ∷ xs) ys h =
     let rest = indices_parts xs ys both.1 in
     ((λ t. both.0 t && rest.0 t), rest.1)
 
+-- a byte shuffle within halves looks up each half's places in the table of that half
 pub looked_in_halves : (t u js p q : List ℕ) → IsBlock t → IsBlock u → AreIndices js → length p ≡ 16 → length q ≡ 16
     → js ≡ p ++ q → swz_l w8 16 (t ++ u) 0 js ≡ map (looked t) p ++ map (looked u) q
 looked_in_halves t u js p q t_block u_block are p_long q_long is =
@@ -125,15 +131,18 @@ zip2_drop f (suc n) (x ∷ xs) (y ∷ ys) = zip2_drop f n xs ys
 
 -- ---- shifts by a byte
 
+-- the bytes of the lower half after a byte 0, as the shuffle picks them
 pub zeros_lower : (x : List ℕ) → length x ≡ 32
     → 0 ∷ pick_l 0 x (range_with_len 0 15) ≡ 0 ∷ take 15 (take 16 x)
 zeros_lower x long =
     ap (λ l. 0 ∷ l) (pick_l-range_with_len 0 x 0 15 (omega (arith, long)) ∙ sym (take-take 15 16 x (omega arith)))
 
+-- and those of the upper half
 pub zeros_upper : (x : List ℕ) → length x ≡ 32
     → 0 ∷ pick_l 0 x (range_with_len 16 15) ≡ 0 ∷ take 15 (drop 16 x)
 zeros_upper x long = ap (λ l. 0 ∷ l) (pick_l-range_with_len 0 x 16 15 (omega (arith, long)))
 
+-- the bytes of the lower half after the byte that fell out of the other vector's
 pub lasts_lower : (x y : List ℕ) → length x ≡ 32 → length y ≡ 32
     → get_or (x ++ y) 15 0 ∷ pick_l 0 (x ++ y) (range_with_len 32 15) ≡ get_or (take 16 x) 15 0 ∷ take 15 (take 16 y)
 lasts_lower x y x_long y_long =
@@ -142,6 +151,7 @@ lasts_lower x y x_long y_long =
     ∙ ap (take 15) (drop_at x y 32 x_long) ∙ sym (take-take 15 16 y (omega arith)) in
     λ t. last t ∷ rest t
 
+-- and those of the upper half
 pub lasts_upper : (x y : List ℕ) → length x ≡ 32 → length y ≡ 32
     → get_or (x ++ y) 31 0 ∷ pick_l 0 (x ++ y) (range_with_len 48 15) ≡ get_or (drop 16 x) 15 0 ∷ take 15 (drop 16 y)
 lasts_upper x y x_long y_long =
@@ -152,12 +162,14 @@ lasts_upper x y x_long y_long =
 
 -- ---- shifts by eight bytes
 
+-- as a number, the shuffle is a shift by 64 bits
 pub eight_zeros : (x : List ℕ) → IsBlock x
     → from_be_bytes w128 (pick_l 0 (replicate 16 0 ++ x) (0 ∷ 1 ∷ 2 ∷ 3 ∷ 4 ∷ 5 ∷ 6 ∷ 7 ∷ 16 ∷ 17 ∷ 18 ∷ 19 ∷ 20 ∷ 21 ∷ 22 ∷ 23 ∷ []))
     ≡ from_be_bytes w128 x / 2 ^ 64
 eight_zeros x (long, small) =
     omega (arith, small 8, small 9, small 10, small 11, small 12, small 13, small 14, small 15)
 
+-- the same where the bits that fall in come from another block
 pub eight_lasts : (x y : List ℕ) → IsBlock x → IsBlock y
     → from_be_bytes w128 (pick_l 0 (x ++ y) (8 ∷ 9 ∷ 10 ∷ 11 ∷ 12 ∷ 13 ∷ 14 ∷ 15 ∷ 16 ∷ 17 ∷ 18 ∷ 19 ∷ 20 ∷ 21 ∷ 22 ∷ 23 ∷ []))
     ≡ from_be_bytes w128 x % 2 ^ 64 * 2 ^ 64 + from_be_bytes w128 y / 2 ^ 64
