@@ -8,13 +8,13 @@ use Rattle.std.specs.Int.Bits.{xor_assoc, xor_zero_r}
 use lib.Lanes.{zip2}
 use Rattle.aes_planes.specs.Fips197.{IsBlock}
 use Rattle.aes_permute.specs.Lookup.{by_nibbles}
+use Rattle.aes_permute.proofs.ByHalves.{zip2_take, zip2_drop}
 use Rattle.gcm.specs.Gcm.{v_at}
 use Rattle.gcm.specs.Multiples.{folded, reduced, IsTable, HasRows, subkey_in, row_number, place_of}
 use Rattle.gcm.proofs.Linear.{exchanged, v_keeps, v_add}
 use Rattle.gcm.proofs.Counting.{block_below}
 use Rattle.gcm.proofs.Reduction.{rows_after, folded_keeps, reduced_next}
 use Rattle.gcm.proofs.Rows.{zeros_next, value_next, block_moved, block_summed, number_summed, zeros_block, zero_at, half_found}
-use Rattle.gcm.proofs.RowPairs.{zip2_take, zip2_drop}
 
 -- ---- the sum of the last k rows, with the bits that fell out
 

@@ -1,17 +1,17 @@
 -- Vectors of 32 bytes by their halves.
-use Rattle.std.proofs.Common.{◌≡◌, ℕ, zero, suc, ◌+◌, ◌-◌, ◌*◌, ◌/◌, ◌%◌, ◌^◌, ◌<◌, ◌≤◌, ◌&&◌, cond}
-use Rattle.std.proofs.Common.{List, [], ◌∷◌, ◌++◌, length, map, take, drop, get_or, bit_and, bit_xor, replicate, refl, ap, sym, ◌∙◌, arith, w8}
+use Rattle.std.proofs.Common.{◌≡◌, ℕ, ◌+◌, ◌*◌, ◌/◌, ◌%◌, ◌^◌, ◌<◌, ◌≤◌, ◌&&◌}
+use Rattle.std.proofs.Common.{List, [], ◌∷◌, ◌++◌, length, map, take, drop, get_or, bit_and, bit_xor, replicate, refl, ap, sym, ◌∙◌, arith}
 use Rattle.std.specs.List.{list_all, range_with_len}
 use Rattle.std.specs.Int.{w128, from_be_bytes}
 use Rattle.std.proofs.lemmas.Bool.{and_parts}
 use Rattle.std.proofs.lemmas.List.{map-append, length-append, length-map, get_or_append_left, get_or-append_right, get_or-take, get_or-drop}
 use Rattle.std.proofs.lemmas.List.{take-take, drop-drop, drop_at}
-use Rattle.std.proofs.lemmas.Simd.{swz_l, pick_l-range_with_len, zip2_splat}
+use Rattle.std.proofs.lemmas.Simd.{pick_l-range_with_len, zip2_splat}
 use lib.Lanes.{zip2, pick_l}
-use mir.Val.{zeroes}
 use Rattle.aes_planes.specs.Fips197.{IsBlock}
 use Rattle.aes_permute.specs.Lookup.{looked, is_index, low_nibble, high_nibble, by_nibbles, AreIndices}
-use Rattle.aes_permute.proofs.Lookups.{looked_from, low_nibbles_are, high_nibbles_are, nibbles_are_indices, low_is, high_is, nibbles_looked_up}
+use Rattle.aes_permute.proofs.ByHalves.{indices_append}
+use Rattle.aes_permute.proofs.Lookups.{low_nibbles_are, high_nibbles_are, nibbles_are_indices, low_is, high_is, nibbles_looked_up}
 
 -- ---- nibbles
 
@@ -33,12 +33,6 @@ high_twice x block =
     zip2_splat (λ a b. a / 2 ^ b) (x ++ x) 32 4 (length-append x x ∙ omega (arith, block.0))
     ∙ map-append (λ b. b / 2 ^ 4) x x ∙ (λ t. once t ++ once t)
 
-indices_append : (xs ys : List ℕ) → AreIndices xs → AreIndices ys → AreIndices (xs ++ ys)
-indices_append [] ys h k = k
-indices_append (x ∷ xs) ys h k =
-    let both = and_parts (is_index x) (list_all is_index xs) h in
-    λ t. both.0 t && indices_append xs ys both.1 k t
-
 -- they are indices of a table of sixteen bytes
 pub low_indices : (x places : List ℕ) → IsBlock x → places ≡ map low_nibble x ++ map low_nibble x → AreIndices places
 low_indices x places block is =
@@ -54,36 +48,13 @@ high_indices x places block is =
 
 -- ---- look-ups in the tables of the halves
 
-swz_append : (xs ps qs : List ℕ) (i : ℕ)
-    → swz_l w8 16 xs i (ps ++ qs) ≡ swz_l w8 16 xs i ps ++ swz_l w8 16 xs (i + length ps) qs
-swz_append xs [] qs i = let e : i ≡ i + 0 = omega arith in ap (λ n. swz_l w8 16 xs n qs) e
-swz_append xs (p ∷ ps) qs i =
-    let e : suc i + length ps ≡ i + suc (length ps) = omega arith in
-    let rest = swz_append xs ps qs (suc i) ∙ ap (λ n. swz_l w8 16 xs (suc i) ps ++ swz_l w8 16 xs n qs) e in
-    λ k. cond (zeroes 16 w8 p) 0 (get_or xs (16 * (i / 16) + p) 0) ∷ rest k
-
 -- indices, cut in two, are indices
-indices_parts : (xs ys : List ℕ) → AreIndices (xs ++ ys) → (AreIndices xs) × (AreIndices ys)
+pub indices_parts : (xs ys : List ℕ) → AreIndices (xs ++ ys) → (AreIndices xs) × (AreIndices ys)
 indices_parts [] ys h = (refl, h)
 indices_parts (x ∷ xs) ys h =
     let both = and_parts (is_index x) (list_all is_index (xs ++ ys)) h in
     let rest = indices_parts xs ys both.1 in
     ((λ t. both.0 t && rest.0 t), rest.1)
-
--- a byte shuffle within halves looks up each half's places in the table of that half
-pub looked_in_halves : (t u js p q : List ℕ) → IsBlock t → IsBlock u → AreIndices js → length p ≡ 16 → length q ≡ 16
-    → js ≡ p ++ q → swz_l w8 16 (t ++ u) 0 js ≡ map (looked t) p ++ map (looked u) q
-looked_in_halves t u js p q t_block u_block are p_long q_long is =
-    let parts = indices_parts p q (ap (list_all is_index) (sym is) ∙ are) in
-    let start : 0 + length p ≡ 16 = omega (arith, p_long) in
-    ap (swz_l w8 16 (t ++ u) 0) is ∙ swz_append (t ++ u) p q 0
-    ∙ ap (λ n. swz_l w8 16 (t ++ u) 0 p ++ swz_l w8 16 (t ++ u) n q) start
-    ∙ (λ k. looked_from (t ++ u) t 0 (λ j h. let e : 16 * 0 + j ≡ j = omega arith in
-    ap (λ n. get_or (t ++ u) n 0) e ∙ get_or_append_left t u 0 j (omega (arith, h, t_block.0))) p 0 (omega arith)
-    (omega (arith, p_long)) parts.0 k
-    ++ looked_from (t ++ u) u 1 (λ j h. let e : 16 * 1 + j - 16 ≡ j = omega arith in
-    get_or-append_right t u 16 (16 * 1 + j) 0 t_block.0 (omega arith) ∙ ap (λ n. get_or u n 0) e) q 16 (omega arith)
-    (omega (arith, q_long)) parts.1 k)
 
 -- two look-ups, summed
 zip2_append : (f : ℕ → ℕ → ℕ) (a b c d : List ℕ) → length a ≡ length c
@@ -110,24 +81,6 @@ rows_in_halves l1 l2 h1 h2 x lows highs low high long lows_are highs_are low_fou
     (λ t. zip2 bit_xor (low_found a a a_long a_long lows_are t) (high_found b b b_long b_long highs_are t))
     ∙ zip2_append bit_xor (map (looked l1) a) (map (looked l2) a) (map (looked h1) b) (map (looked h2) b) same
     ∙ (λ t. nibbles_looked_up l1 h1 x t ++ nibbles_looked_up l2 h2 x t)
-
--- ---- sums by halves
-
-zip2_nil : (f : ℕ → ℕ → ℕ) (xs : List ℕ) → zip2 f xs [] ≡ []
-zip2_nil f [] = refl
-zip2_nil f (x ∷ xs) = refl
-
-pub zip2_take : (f : ℕ → ℕ → ℕ) (n : ℕ) (xs ys : List ℕ) → take n (zip2 f xs ys) ≡ zip2 f (take n xs) (take n ys)
-zip2_take f zero xs ys = refl
-zip2_take f (suc n) [] ys = refl
-zip2_take f (suc n) (x ∷ xs) [] = refl
-zip2_take f (suc n) (x ∷ xs) (y ∷ ys) = ap (λ l. f x y ∷ l) (zip2_take f n xs ys)
-
-pub zip2_drop : (f : ℕ → ℕ → ℕ) (n : ℕ) (xs ys : List ℕ) → drop n (zip2 f xs ys) ≡ zip2 f (drop n xs) (drop n ys)
-zip2_drop f zero xs ys = refl
-zip2_drop f (suc n) [] ys = refl
-zip2_drop f (suc n) (x ∷ xs) [] = sym (zip2_nil f (drop n xs))
-zip2_drop f (suc n) (x ∷ xs) (y ∷ ys) = zip2_drop f n xs ys
 
 -- ---- shifts by a byte
 

@@ -20,6 +20,7 @@ unfolding numbered halves_of_six derived_keys derived
 six w nonce first keys is made =
     made ∙ ap (λ l. halves_of_six (l ++ drop 6 (numbered nonce))) is
 
+-- four ciphers for a key of 16 bytes, six for one of 32
 pub derived_is : (w : List (List ℕ)) (nonce : List ℕ) (first keys : List (List ℕ)) (size : ℕ) → IsKeySize size
     → first ≡ map (cipher_with w) (take (size / 8 + 2) (numbered nonce))
     → take 3 keys ≡ halves_of_six (first ++ drop (size / 8 + 2) (numbered nonce))
@@ -53,7 +54,7 @@ unfolding derived_keys authentication_key
 authentication_is key nonce w keys n expanded is =
     key_at w nonce keys (n + 1) 0 is (omega arith) ∙ ap (λ v. derived v nonce 0 ++ derived v nonce 1) expanded
 
--- the encryption key
+-- the encryption key, of 16 bytes: one block of the derived ones
 short_is : (key nonce : List ℕ) (w keys : List (List ℕ)) → w ≡ key_expansion key
     → slice_index_or keys 1 [] ≡ slice_index_or (derived_keys w nonce) 1 []
     → length key ≡ 16 → slice_index_or keys 1 [] ≡ encryption_key key nonce
@@ -65,6 +66,7 @@ short_is key nonce w keys expanded is sized =
     ∙ sym (ap (λ n. derived v nonce 2 ++ derived v nonce 3
     ++ (if n == 32 then derived v nonce 4 ++ derived v nonce 5 else [])) sized)
 
+-- of 32 bytes: two blocks of the derived ones
 long_is : (key nonce : List ℕ) (w keys : List (List ℕ)) → w ≡ key_expansion key
     → slice_index_or keys 1 [] ≡ slice_index_or (derived_keys w nonce) 1 []
     → slice_index_or keys 2 [] ≡ slice_index_or (derived_keys w nonce) 2 []
@@ -77,6 +79,7 @@ long_is key nonce w keys expanded second third sized =
     ∙ sym (ap (λ n. derived v nonce 2 ++ derived v nonce 3
     ++ (if n == 32 then derived v nonce 4 ++ derived v nonce 5 else [])) sized)
 
+-- of either size
 pub encryption_is : (key nonce made : List ℕ) (w keys : List (List ℕ)) (size : ℕ) → IsKeySize size → length key ≡ size
     → w ≡ key_expansion key → take (size / 16 + 1) keys ≡ take (size / 16 + 1) (derived_keys w nonce)
     → (size ≡ 16 → made ≡ slice_index_or keys 1 [])

@@ -15,13 +15,14 @@ use Rattle.gcm_siv.specs.GcmSiv.{polynomial, inverse_power, times_x, times_power
 
 -- ---- x times an element
 
--- without x^127, and with it
+-- without x^127 it is twice the number
 times_low : (b : ℕ) → b < 2 ^ 127 → times_x b ≡ 2 * b
 unfolding times_x
 times_low b small =
     let none : b / 2 ^ 127 ≡ 0 = omega (arith, small) in
     ap (λ q. if q == 0 then 2 * b else bit_xor (2 * b) polynomial) none
 
+-- with it the polynomial is added, which has the x^128 that comes up
 times_high : (b : ℕ) → 2 ^ 127 ≤ b → b < 2 ^ 128 → times_x b ≡ bit_xor (2 * b) polynomial
 unfolding times_x
 times_high b large small =
@@ -35,13 +36,14 @@ high_small b large small =
     let gone : bit_xor (2 * b) polynomial / 2 ^ 128 ≡ 0 = xor_shr (2 * b) polynomial 128 ∙ ap (λ q. bit_xor q 1) one in
     omega (arith, gone)
 
+-- so x times an element is an element
 times_small : (b : ℕ) → b < 2 ^ 128 → times_x b < 2 ^ 128
 times_small b small = elim (cases_lt b (2 ^ 127)) [
   | inl lt ↦ rw (times_low b lt) (omega (arith, lt))
   | inr le ↦ rw (times_high b le small) (high_small b le small)
 ]
 
--- x^-1 times it is the element
+-- x^-1 times it is the element: where x^127 wasn't there
 even_back : (b : ℕ) → next_v (2 * b) ≡ b
 unfolding next_v
 even_back b =
@@ -49,6 +51,7 @@ even_back b =
     let half : 2 * b / 2 ≡ b = omega arith in
     ap (λ r. if r == 0 then 2 * b / 2 else bit_xor (2 * b / 2) (0xe1 * 2 ^ 120)) none ∙ half
 
+-- and where x^127 was there, the polynomial was added, whose last bit tells
 odd_back : (b : ℕ) → next_v (bit_xor (2 * b) polynomial) ≡ b
 unfolding next_v
 odd_back b =
@@ -64,6 +67,7 @@ odd_back b =
     ∙ ap (bit_xor b) (xor_self (0xe1 * 2 ^ 120))
     ∙ xor_zero_r b
 
+-- both cases together
 back : (b : ℕ) → b < 2 ^ 128 → next_v (times_x b) ≡ b
 back b small = elim (cases_lt b (2 ^ 127)) [
   | inl lt ↦ ap next_v (times_low b lt) ∙ even_back b
@@ -72,10 +76,12 @@ back b small = elim (cases_lt b (2 ^ 127)) [
 
 -- ---- powers of x
 
+-- the power 0 changes nothing
 power_start : (b : ℕ) → times_power b 0 ≡ b
 unfolding times_power
 power_start b = refl
 
+-- powers of x keep elements elements
 power_small : (b i : ℕ) → b < 2 ^ 128 → times_power b i < 2 ^ 128
 unfolding times_power
 power_small b zero small = small
@@ -93,6 +99,7 @@ back_by b (suc j) n small =
     ∙ ap next_v (back_by b j (suc n) small)
     ∙ back (times_power b n) (power_small b n small)
 
+-- a power of x^-1 more, by the definition
 one_more : (y n : ℕ) → v_at y (suc n) ≡ next_v (v_at y n)
 unfolding v_at
 one_more y n = refl
@@ -117,6 +124,7 @@ turned (suc n) f =
     ∙ ap (λ m. bit_xor (f m) rest) last
     ∙ sym (sum-first n (λ i. f (suc n - 1 - i)))
 
+-- a product is the sum of the multiples at the bits, as GCM's is
 times_terms : (a b n : ℕ) → times_below a b n ≡ sum_of n (λ i. term (a / 2 ^ i % 2) (times_power b i))
 unfolding times_below sum_of term
 times_terms a b zero = refl
@@ -146,6 +154,7 @@ inverse_is : times_power inverse_power 127 ≡ v_at (2 ^ 127) 128
 unfolding times_power times_x v_at next_v
 inverse_is = refl
 
+-- dot by one product of GCM, so that POLYVAL runs on GHASH's tables
 pub dot_is : (a b : ℕ) → b < 2 ^ 128 → dot a b ≡ product a (next_v b)
 unfolding dot
 dot_is a b small =

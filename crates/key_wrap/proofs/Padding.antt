@@ -8,6 +8,7 @@ use Rattle.std.proofs.lemmas.Nat.{and_mask, be_bytes_4, le_or_l, le_or_r, mod-po
 use Rattle.std.proofs.Math.Nat.{le-mul_of_pos_right}
 use Rattle.std.proofs.Math.Seq.{take-append-add}
 use Rattle.aes_planes.proofs.Bits.ByteCases.{by_eight}
+use Rattle.aes_planes.proofs.Standard.States.{drop_bytes, take_bytes}
 use Rattle.std.specs.Int.{w32, w64, to_be_bytes, from_be_bytes}
 use Rattle.std.specs.List.{concat, slice_range}
 use Rattle.aes_planes.specs.Fips197.{IsBytes}
@@ -116,16 +117,8 @@ module _ (f : List ℕ → List ℕ) (steps : List (List ℕ) → ℕ → List (
 
 -- ---- the comparisons
 
-pub first_bytes : (n : ℕ) (s : List ℕ) → IsBytes s → IsBytes (take n s)
-first_bytes n s small i = elim (cases_lt i n) as (λ _. get_or (take n s) i 0 < 2 ^ 8) [
-  | inl lt ↦ omega (arith, get_or-take n s i 0 lt, small i)
-  | inr le ↦ omega (arith, get_or_past (take n s) i 0 (omega (arith, le, length-take n s)))
-]
-
-pub last_bytes : (n : ℕ) (s : List ℕ) → IsBytes s → IsBytes (drop n s)
-last_bytes n s small i = omega (arith, get_or-drop n s i 0, small (n + i))
-
 module _ (check : List ℕ) (long : length check ≡ 8) (small : IsBytes check) where
+  -- both parts of the first semiblock have four bytes
   front : length (take 4 check) ≡ 4
   front = omega (arith, length-take 4 check, long)
 
@@ -137,7 +130,7 @@ module _ (check : List ℕ) (long : length check ≡ 8) (small : IsBytes check) 
       → heading bytes ≡ check
   unfolding heading
   heading_back bytes right is =
-      (λ j. sym right j ++ be_bytes_4 (drop 4 check) bytes rest (last_bytes 4 check small) is j)
+      (λ j. sym right j ++ be_bytes_4 (drop 4 check) bytes rest (drop_bytes 4 check small) is j)
       ∙ take-append-drop 4 check
 
   -- what is compared is 0 in each part exactly if it is 0 together
@@ -151,8 +144,8 @@ module _ (check : List ℕ) (long : length check ≡ 8) (small : IsBytes check) 
   compared halves first bytes padding low is_first is_bytes some few is_padding is_low =
       let x : ℕ = (first + (2 ^ 32 - 0xa65959a6)) % 2 ^ 32 in
       let y : ℕ = padding / 8 in
-      let f = first_bytes 4 check small in
-      let g = last_bytes 4 check small in
+      let f = take_bytes 4 check small in
+      let g = drop_bytes 4 check small in
       let first_small : first < 2 ^ 32 = omega (arith, is_first, f 0, f 1, f 2, f 3) in
       let bytes_small : bytes < 2 ^ 32 = omega (arith, is_bytes, g 0, g 1, g 2, g 3) in
       let at : length (check ∷ halves) - 1 ≡ suc (length halves - 1) = omega (arith, some) in

@@ -12,6 +12,7 @@ use Rattle.key_wrap.specs.KeyWrap.{number_added, unwrap_step, unwrapped_from, wr
 abbrev pub turned : ℕ → List (List ℕ) → List (List ℕ)
 turned i rs = drop i rs ++ take i rs
 
+-- the semiblock whose turn it is stands before those that are left
 left : (xs : List (List ℕ)) (i : ℕ) → i < length xs → drop i xs ≡ get_or xs i [] ∷ drop (i + 1) xs
 left xs i lt = let n : suc i ≡ i + 1 = omega arith in drop-cons xs i [] lt ∙ ap (λ n. get_or xs i [] ∷ drop n xs) n
 

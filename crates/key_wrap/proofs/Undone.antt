@@ -12,19 +12,22 @@ use Rattle.key_wrap.specs.KeyWrap.{integrity_check, number_added, unwrap_step, u
 use Rattle.key_wrap.specs.KeyWrap.{wrapped_after, IsSemiblock}
 use Rattle.key_wrap.specs.Padded.{block_or_steps, unwrapped_string, wrapped_string}
 use Rattle.aes_cipher.proofs.BlockNumbers.{number_block}
-use Rattle.key_wrap.proofs.Padding.{as_steps, first_bytes, last_bytes}
+use Rattle.aes_planes.proofs.Standard.States.{take_bytes, drop_bytes}
+use Rattle.key_wrap.proofs.Padding.{as_steps}
 use Rattle.key_wrap.proofs.Turns.{unwrap_last}
 
 -- ---- numbers added to semiblocks
 
 -- the bytes of a number are a semiblock
 number_semiblock : (n : ℕ) → IsSemiblock (to_be_bytes w64 n)
-number_semiblock n = (refl, last_bytes 8 (to_be_bytes w128 n) (number_block n).1)
+number_semiblock n = (refl, drop_bytes 8 (to_be_bytes w128 n) (number_block n).1)
 
+-- so a semiblock with a number added is one
 added_semiblock : (half : List ℕ) (t : ℕ) → IsSemiblock (number_added half t)
 unfolding number_added
 added_semiblock half t = number_semiblock (bit_xor (from_be_bytes w64 half) t)
 
+-- and adding the number once more gives the semiblock back
 added_twice : (half : List ℕ) (t : ℕ) → IsSemiblock half → t < 2 ^ 64 → number_added (number_added half t) t ≡ half
 unfolding number_added
 added_twice half t (long, small) lt =
@@ -42,14 +45,15 @@ module _ (w : List (List ℕ))
     (first : (a b : List ℕ) → length a ≡ 8 → take 8 (a ++ b) ≡ a)
     (second : (a b : List ℕ) → length a ≡ 8 → drop 8 (a ++ b) ≡ b)
     (back : (b : List ℕ) → take 8 b ++ drop 8 b ≡ b) where
+  -- the cipher of two semiblocks is a block, whose halves are semiblocks
   of_two : (a r : List ℕ) → IsSemiblock a → IsSemiblock r → IsBlock (cipher_with w (a ++ r))
   of_two a r is_a is_r = block (a ++ r) (joined a r is_a.0 is_a.1 is_r.0 is_r.1)
 
   high : (b : List ℕ) → IsBlock b → IsSemiblock (take 8 b)
-  high b is = (omega (arith, length-take 8 b, is.0), first_bytes 8 b is.1)
+  high b is = (omega (arith, length-take 8 b, is.0), take_bytes 8 b is.1)
 
   low : (b : List ℕ) → IsBlock b → IsSemiblock (drop 8 b)
-  low b is = (omega (arith, length-drop 8 b, is.0), last_bytes 8 b is.1)
+  low b is = (omega (arith, length-drop 8 b, is.0), drop_bytes 8 b is.1)
 
   -- the cipher of two halves, undone
   halves_back : (a r : List ℕ) → IsSemiblock a → IsSemiblock r
@@ -61,6 +65,7 @@ module _ (w : List (List ℕ))
       ap (inv_cipher_with w) (back b) ∙ undone (a ++ r) (joined a r is_a.0 is_a.1 is_r.0 is_r.1) in
       (ap (take 8) whole ∙ first a r is_a.0, ap (drop 8) whole ∙ second a r is_a.0)
 
+  -- a step leaves semiblocks, as many as there were
   step_kept : (t : ℕ) (s : List (List ℕ)) → All IsSemiblock s → All IsSemiblock (wrap_step w t s)
   unfolding wrap_step
   step_kept t [] all = all
@@ -79,6 +84,7 @@ module _ (w : List (List ℕ))
   step_length t (a ∷ []) = refl
   step_length t (a ∷ r ∷ rs) = omega (arith, length-append rs (drop 8 (cipher_with w (a ++ r)) ∷ []))
 
+  -- and the step of the inverse undoes it
   step_undone : (t : ℕ) (s : List (List ℕ)) → t < 2 ^ 64 → All IsSemiblock s → 2 ≤ length s
       → unwrap_step w t (wrap_step w t s) ≡ s
   unfolding wrap_step
@@ -96,6 +102,7 @@ module _ (w : List (List ℕ))
       ∙ (λ j. let d = inv_cipher_with w (added j ++ drop 8 b) in take 8 d ∷ drop 8 d ∷ rs)
       ∙ (λ j. two.0 j ∷ two.1 j ∷ rs)
 
+  -- so do the steps of all turns
   after_kept : (s : List (List ℕ)) (t : ℕ) → All IsSemiblock s → All IsSemiblock (wrapped_after w s t)
   unfolding wrapped_after
   after_kept s zero all = all

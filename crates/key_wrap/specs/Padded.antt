@@ -39,11 +39,12 @@ unfoldable pub block_or_steps : (List ℕ → List ℕ) → (List (List ℕ) →
 block_or_steps f steps s = let b = f (concat s) in
     if length s == 2 then take 8 b ∷ drop 8 b ∷ [] else steps s (6 * (length s - 1))
 
--- C, of S, and S, of C (algorithms 5 and 6)
+-- C, of S (algorithm 5)
 unfoldable pub wrapped_string : List (List ℕ) → List (List ℕ) → List (List ℕ)
 unfolding block_or_steps wrapped_after
 wrapped_string w s = block_or_steps (fips.cipher_with w) (wrapped_after w) s
 
+-- S, of C (algorithm 6)
 unfoldable pub unwrapped_string : List (List ℕ) → List (List ℕ) → List (List ℕ)
 unfolding block_or_steps unwrapped_from
 unwrapped_string w s = block_or_steps (fips.inv_cipher_with w) (unwrapped_from w) s
