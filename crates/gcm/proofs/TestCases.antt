@@ -1,4 +1,5 @@
--- Test cases 4 to 6 of GCM's submission to NIST, which have one key, text and additional data: the nonces differ.
+-- Test cases 4 to 6 of GCM's submission to NIST, which have one key, text and additional data: the
+-- nonces differ.
 use Rattle.std.proofs.Common.{◌≡◌, ℕ, List, [], ◌∷◌, ◌++◌, replicate, slice_index_or, sym, arith}
 use Rattle.std.specs.Int.{w128, to_be_bytes, from_be_bytes}
 use Rattle.aes_planes.specs.BigEndian.{bytes}
@@ -39,5 +40,6 @@ unfolding gcm_on_literals
 text_of iv j a b c d of_zeros first e0 e1 e2 e3 =
     let blocks : List (List ℕ) = a ∷ b ∷ c ∷ d ∷ [] in
     text_by w iv zeros j blocks plain of_zeros first
-    (by_four (λ m. slice_index_or blocks m [] ≡ cipher_with w (to_be_bytes w128 (counter_at (inc32 j) m)))
+    (by_four (λ m. slice_index_or blocks m []
+    ≡ cipher_with w (to_be_bytes w128 (counter_at (inc32 j) m)))
     (sym e0) (sym e1) (sym e2) (sym e3)) (omega arith)

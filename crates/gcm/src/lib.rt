@@ -1,4 +1,5 @@
-//! GCM (SP 800-38D), encryption that shows whether a message was changed, over any block cipher that encrypts.
+//! GCM (SP 800-38D), encryption that shows whether a message was changed, over any block cipher
+//! that encrypts.
 #![tactic(auto)]
 
 mod counter;

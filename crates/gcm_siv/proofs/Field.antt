@@ -1,6 +1,8 @@
--- POLYVAL's field is GCM's with the bits in the other order: dot is GCM's product with x^-1 times a factor (RFC 8452, appendix A).
-use Rattle.std.proofs.Common.{◌≡◌, ℕ, zero, suc, ◌+◌, ◌-◌, ◌*◌, ◌/◌, ◌%◌, ◌^◌, ◌<◌, ◌≤◌, ◌==◌, if◌then◌else◌, Bool, List}
-use Rattle.std.proofs.Common.{true, false, inl, inr, bit_xor, refl, ap, sym, ◌∙◌, arith}
+-- POLYVAL's field is GCM's with the bits in the other order: dot is GCM's product with x^-1 times a
+-- factor (RFC 8452, appendix A).
+use Rattle.std.proofs.Common.{◌≡◌, ℕ, zero, suc, ◌+◌, ◌-◌, ◌*◌, ◌/◌, ◌%◌, ◌^◌, ◌<◌, ◌≤◌, ◌==◌}
+use Rattle.std.proofs.Common.{if◌then◌else◌, Bool, List, true, false, inl, inr, bit_xor, refl, ap}
+use Rattle.std.proofs.Common.{sym, ◌∙◌, arith}
 use Rattle.std.proofs.lemmas.Bool.{cases_lt}
 use Rattle.std.proofs.lemmas.Nat.{xor_comm, xor_shr, xor_mod}
 use Rattle.std.specs.Int.{w128, from_le_bytes}
@@ -11,7 +13,8 @@ use Rattle.gcm.specs.Hashed.{hashed_as, number_at}
 use Rattle.gcm.specs.Multiples.{sum_of}
 use Rattle.gcm.proofs.Linear.{term, product_terms, sum-agree, sum-first}
 use Rattle.gcm.proofs.Powers.{right_v, by_one, product_below}
-use Rattle.gcm_siv.specs.GcmSiv.{polynomial, inverse_power, times_x, times_power, times_below, times, dot, block_at, summed}
+use Rattle.gcm_siv.specs.GcmSiv.{polynomial, inverse_power, times_x, times_power, times_below}
+use Rattle.gcm_siv.specs.GcmSiv.{times, dot, block_at, summed}
 
 -- ---- x times an element
 
@@ -33,7 +36,8 @@ times_high b large small =
 high_small : (b : ℕ) → 2 ^ 127 ≤ b → b < 2 ^ 128 → bit_xor (2 * b) polynomial < 2 ^ 128
 high_small b large small =
     let one : 2 * b / 2 ^ 128 ≡ 1 = omega (arith, large, small) in
-    let gone : bit_xor (2 * b) polynomial / 2 ^ 128 ≡ 0 = xor_shr (2 * b) polynomial 128 ∙ ap (λ q. bit_xor q 1) one in
+    let gone : bit_xor (2 * b) polynomial / 2 ^ 128 ≡ 0 = xor_shr (2 * b) polynomial 128
+    ∙ ap (λ q. bit_xor q 1) one in
     omega (arith, gone)
 
 -- so x times an element is an element
@@ -118,14 +122,16 @@ turned zero f = refl
 turned (suc n) f =
     let rest : ℕ = sum_of n (λ i. f (suc n - 1 - suc i)) in
     let last : n ≡ suc n - 1 - 0 = omega arith in
-    ap (λ s. bit_xor s (f n)) (turned n f ∙ sum-agree n (λ i. f (n - 1 - i)) (λ i. f (suc n - 1 - suc i))
+    ap (λ s. bit_xor s (f n))
+    (turned n f ∙ sum-agree n (λ i. f (n - 1 - i)) (λ i. f (suc n - 1 - suc i))
     (λ i h. let same : n - 1 - i ≡ suc n - 1 - suc i = omega arith in ap f same))
     ∙ xor_comm rest (f n)
     ∙ ap (λ m. bit_xor (f m) rest) last
     ∙ sym (sum-first n (λ i. f (suc n - 1 - i)))
 
 -- a product is the sum of the multiples at the bits, as GCM's is
-times_terms : (a b n : ℕ) → times_below a b n ≡ sum_of n (λ i. term (a / 2 ^ i % 2) (times_power b i))
+times_terms : (a b n : ℕ) → times_below a b n
+    ≡ sum_of n (λ i. term (a / 2 ^ i % 2) (times_power b i))
 unfolding times_below sum_of term
 times_terms a b zero = refl
 times_terms a b (suc n) =
@@ -146,7 +152,8 @@ times_is a b small =
     (λ i. term (bit_of a i) (v_at (times_power b 127) i))
     (λ i h.
     let place : i + (127 - i) ≡ 127 = omega (arith, h) in
-    ap (term (a / 2 ^ (127 - i) % 2)) (sym (back_by b i (127 - i) small) ∙ ap (λ m. v_at (times_power b m) i) place))
+    ap (term (a / 2 ^ (127 - i) % 2)) (sym (back_by b i (127 - i) small)
+    ∙ ap (λ m. v_at (times_power b m) i) place))
     ∙ sym (product_terms a (times_power b 127) 128)
 
 -- x^-128 as a power of x^-1, where the number 2 ^ 127 is GCM's one

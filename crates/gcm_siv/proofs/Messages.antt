@@ -8,7 +8,8 @@ use Rattle.gcm_siv.specs.GcmSiv.{counter_mode, first_counter, keystream_byte, te
 -- the last byte of a block, written
 pub last_set : (b : List ℕ) (y : ℕ) → length b ≡ 16 → set b 15 y ≡ take 15 b ++ y ∷ []
 last_set b y long =
-    sym (take_all 16 (set b 15 y) (omega (arith, long, length-set b 15 y))) ∙ take_more_set b 15 y (omega (arith, long))
+    sym (take_all 16 (set b 15 y) (omega (arith, long, length-set b 15 y)))
+    ∙ take_more_set b 15 y (omega (arith, long))
 
 -- a text is the encryption of its encryption
 pub under_twice : (w : List (List ℕ)) (tag x : List ℕ) → text_under w tag (text_under w tag x) ≡ x

@@ -10,4 +10,5 @@ returns c =
     let block : IsBlock c.args.x = search rules in
     rows_found c.args.x _ c.args.rows.now c.args.r c.requires.table c.requires.inside block
     (rows_in_halves _ _ _ _ c.args.x _ _ _ _ block.0 c.low_nibbles_twice.ensures.nibbles
-    c.high_nibbles_twice.ensures.nibbles c.lookup_in_halves-low.ensures c.lookup_in_halves-high.ensures)
+    c.high_nibbles_twice.ensures.nibbles c.lookup_in_halves-low.ensures
+    c.lookup_in_halves-high.ensures)
