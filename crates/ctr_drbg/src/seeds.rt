@@ -1,6 +1,7 @@
 //! Seeds, which are wiped: entropy input and other strings as 48 bytes.
 
-ghost use Rattle.std.specs.Prelude.{◌≡◌, ◌≢◌, ◌↔◌, ◌⊎◌, ◌<◌, ◌≤◌, length, replicate, IsErr, IsErrOf, OnOk};
+ghost use Rattle.std.specs.Prelude.{◌≡◌, ◌≢◌, ◌↔◌, ◌⊎◌, ◌<◌, ◌≤◌, length, replicate, IsErr};
+ghost use Rattle.std.specs.Prelude.{IsErrOf, OnOk};
 ghost use Rattle.ctr_drbg.specs.CtrDrbg.{padded, exclusive_or};
 
 use crate::errors::InvalidSeed;
@@ -55,7 +56,8 @@ fn add_padded(string: &[u8], seed: &mut [u8; SEED_LENGTH])
     }
 }
 
-/// Writes seed_material: the entropy input plus a string with zeros behind it (10.2.1.3.1 and 10.2.1.4.1, steps 1 to 3).
+/// Writes seed_material: the entropy input plus a string with zeros behind it (10.2.1.3.1 and
+/// 10.2.1.4.1, steps 1 to 3).
 pub(crate) fn put_seed_material(
     entropy_input: &[u8],
     string: &[u8],

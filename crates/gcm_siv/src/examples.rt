@@ -1,14 +1,16 @@
-//! AES-GCM-SIV at values from outside, as contracts, so that a slip in a definition is refused: RFC 8452, section 7,
-//! appendix A, and of appendix C.1 the message of eight bytes. The last one shows that a text comes back, as callers can
-//! prove it.
+//! AES-GCM-SIV at values from outside, as contracts, so that a slip in a definition is refused: RFC
+//! 8452, section 7, appendix A, and of appendix C.1 the message of eight bytes. The last one shows
+//! that a text comes back, as callers can prove it.
 //!
 //! `bytes n 0x..` is the n bytes that these digits write.
 
-ghost use Rattle.std.specs.Prelude.{◌≡◌, ◌↔◌, ◌⊎◌, ◌-◌, ◌^◌, ◌<◌, ◌≤◌, ℕ, List, [], ◌∷◌, ◌++◌, length, IfOk, IsErr};
+ghost use Rattle.std.specs.Prelude.{◌≡◌, ◌↔◌, ◌⊎◌, ◌-◌, ◌^◌, ◌<◌, ◌≤◌, ℕ, List, [], ◌∷◌, ◌++◌};
+ghost use Rattle.std.specs.Prelude.{length, IfOk, IsErr};
 ghost use Rattle.std.specs.Int.{w32, w128, from_le_bytes, to_le_bytes};
 ghost use Rattle.aes_planes.specs.BigEndian.{bytes};
 ghost use Rattle.aes_planes.specs.Fips197 as fips;
-ghost use Rattle.gcm_siv.specs.GcmSiv.{counter_block, dot, inverse_power, length_block, polyval, tag, text, times, times_power};
+ghost use Rattle.gcm_siv.specs.GcmSiv.{counter_block, dot, inverse_power, length_block, polyval};
+ghost use Rattle.gcm_siv.specs.GcmSiv.{tag, text, times, times_power};
 
 use crate::errors::TooLong;
 use crate::laws::text_twice;
@@ -30,7 +32,8 @@ pub fn field_examples()
     ensures dot { dot (from_le_bytes w128 (bytes 16 0x66e94bd4ef8a2c3b884cfa59ca342b2e))
         (from_le_bytes w128 (bytes 16 0xff000000000000000000000000000000))
         ≡ from_le_bytes w128 (bytes 16 0xebe563401e7e91ea3ad6426b8140c394) }
-    ensures written { inverse_power ≡ from_le_bytes w128 (bytes 16 0x01000000000000000000000000000492) }
+    ensures written { inverse_power ≡ from_le_bytes w128
+        (bytes 16 0x01000000000000000000000000000492) }
     ensures inverse { times_power inverse_power 128 ≡ 1 }
 {}
 
@@ -60,31 +63,47 @@ pub fn length_examples()
 // The blocks that the message of eight bytes encrypts.
 #[tactic(auto, using(aes_planes::proofs::OnLiterals::ciphers), unfolding(aes_planes::proofs::OnLiterals::aes_by_table))]
 fn encrypted_blocks()
-    ensures zero { fips.cipher_with (fips.key_expansion (bytes 16 0x01000000000000000000000000000000))
-        (to_le_bytes w32 0 ++ bytes 12 0x030000000000000000000000) ≡ bytes 16 0xd9b360279694941a2010be790ff81954 }
-    ensures one { fips.cipher_with (fips.key_expansion (bytes 16 0x01000000000000000000000000000000))
-        (to_le_bytes w32 1 ++ bytes 12 0x030000000000000000000000) ≡ bytes 16 0xc5dbc6987ada737758568e3552059132 }
-    ensures two { fips.cipher_with (fips.key_expansion (bytes 16 0x01000000000000000000000000000000))
-        (to_le_bytes w32 2 ++ bytes 12 0x030000000000000000000000) ≡ bytes 16 0x4004a0dcd862f2a5f559f116bee72388 }
-    ensures three { fips.cipher_with (fips.key_expansion (bytes 16 0x01000000000000000000000000000000))
-        (to_le_bytes w32 3 ++ bytes 12 0x030000000000000000000000) ≡ bytes 16 0x7360219d2d44ef6c3d190c795fe54c0c }
-    ensures tag { fips.cipher_with (fips.key_expansion (bytes 16 0x4004a0dcd862f2a57360219d2d44ef6c))
-        (bytes 16 0xe893b7740962c5e49d2a90a7dc5cec74) ≡ bytes 16 0x578782fff6013b815b287c22493a364c }
-    ensures stream { fips.cipher_with (fips.key_expansion (bytes 16 0x4004a0dcd862f2a57360219d2d44ef6c))
-        (bytes 16 0x578782fff6013b815b287c22493a36cc) ≡ bytes 16 0xb4d839330ac7b786a779523a099ca598 }
+    ensures zero { fips.cipher_with
+        (fips.key_expansion (bytes 16 0x01000000000000000000000000000000))
+        (to_le_bytes w32 0 ++ bytes 12 0x030000000000000000000000)
+        ≡ bytes 16 0xd9b360279694941a2010be790ff81954 }
+    ensures one { fips.cipher_with
+        (fips.key_expansion (bytes 16 0x01000000000000000000000000000000))
+        (to_le_bytes w32 1 ++ bytes 12 0x030000000000000000000000)
+        ≡ bytes 16 0xc5dbc6987ada737758568e3552059132 }
+    ensures two { fips.cipher_with
+        (fips.key_expansion (bytes 16 0x01000000000000000000000000000000))
+        (to_le_bytes w32 2 ++ bytes 12 0x030000000000000000000000)
+        ≡ bytes 16 0x4004a0dcd862f2a5f559f116bee72388 }
+    ensures three { fips.cipher_with
+        (fips.key_expansion (bytes 16 0x01000000000000000000000000000000))
+        (to_le_bytes w32 3 ++ bytes 12 0x030000000000000000000000)
+        ≡ bytes 16 0x7360219d2d44ef6c3d190c795fe54c0c }
+    ensures tag { fips.cipher_with
+        (fips.key_expansion (bytes 16 0x4004a0dcd862f2a57360219d2d44ef6c))
+        (bytes 16 0xe893b7740962c5e49d2a90a7dc5cec74)
+        ≡ bytes 16 0x578782fff6013b815b287c22493a364c }
+    ensures stream { fips.cipher_with
+        (fips.key_expansion (bytes 16 0x4004a0dcd862f2a57360219d2d44ef6c))
+        (bytes 16 0x578782fff6013b815b287c22493a36cc)
+        ≡ bytes 16 0xb4d839330ac7b786a779523a099ca598 }
 {}
 
 /// Eight bytes and no additional data (appendix C.1).
 pub fn gcm_siv_128_example()
-    ensures tag { tag (bytes 16 0x01000000000000000000000000000000) (bytes 12 0x030000000000000000000000) []
+    ensures tag { tag (bytes 16 0x01000000000000000000000000000000)
+        (bytes 12 0x030000000000000000000000) []
         (bytes 8 0x0100000000000000) ≡ bytes 16 0x578782fff6013b815b287c22493a364c }
-    ensures text { text (bytes 16 0x01000000000000000000000000000000) (bytes 12 0x030000000000000000000000)
-        (bytes 16 0x578782fff6013b815b287c22493a364c) (bytes 8 0x0100000000000000) ≡ bytes 8 0xb5d839330ac7b786 }
+    ensures text { text (bytes 16 0x01000000000000000000000000000000)
+        (bytes 12 0x030000000000000000000000)
+        (bytes 16 0x578782fff6013b815b287c22493a364c) (bytes 8 0x0100000000000000)
+        ≡ bytes 8 0xb5d839330ac7b786 }
 {
     encrypted_blocks();
 }
 
-/// Encrypts a text and decrypts it again: its tag is accepted, and the text comes back. Returns the tag.
+/// Encrypts a text and decrypts it again: its tag is accepted, and the text comes back. Returns the
+/// tag.
 ///
 /// # Errors
 ///
@@ -95,7 +114,8 @@ pub fn there_and_back<C: KeyInit + BlockCipherEncrypt + Drop>(
     additional: &[u8],
     message: &mut [u8],
 ) -> Result<Block, TooLong>
-    ensures refusal { IsErr result ↔ ((2 ^ 36 < length message.old) ⊎ (2 ^ 36 < length additional.now)) }
+    ensures refusal { IsErr result ↔ ((2 ^ 36 < length message.old)
+        ⊎ (2 ^ 36 < length additional.now)) }
     ensures back { message.new ≡ message.old }
     ensures tag { IfOk result (λ it. it ≡ tag mode.now nonce.now additional.now message.old) }
 {

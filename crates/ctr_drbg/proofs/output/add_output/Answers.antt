@@ -9,5 +9,6 @@ returns g c =
     let v = c.args.v.now in
     let bytes = c.args.bytes.now in
     c.add_keystream.ensures
-    ∙ ap (λ w. plus_stream (keystream_byte w v) 16 bytes) (g.met.C.KeyInit.expanded c.args.cipher.now)
+    ∙ ap (λ w. plus_stream (keystream_byte w v) 16 bytes)
+    (g.met.C.KeyInit.expanded c.args.cipher.now)
     ∙ output_plus (g.C.KeyInit.own_key c.args.cipher.now) v bytes (length bytes) refl

@@ -3,7 +3,8 @@ use Rattle.std.proofs.Common.{◌≡◌, ℕ, List, [], ◌++◌, take, ap, ◌�
 use Rattle.std.specs.Int.{w128, from_le_bytes}
 use Rattle.aes_planes.specs.BigEndian.{bytes}
 use Rattle.aes_planes.specs.Fips197.{key_expansion}
-use Rattle.gcm_siv.specs.GcmSiv.{authentication_key, encryption_key, tag_under, text_under, first_counter}
+use Rattle.gcm_siv.specs.GcmSiv.{authentication_key, encryption_key, tag_under, text_under}
+use Rattle.gcm_siv.specs.GcmSiv.{first_counter}
 use Rattle.gcm_siv.proofs.OnLiterals.{siv_on_literals, one_block_by}
 use Rattle.gcm_siv.proofs.examples.gcm_siv_128_example.Goals as goal
 
@@ -23,11 +24,13 @@ pub returns-clause-tag : goal.returns-clause-tag
 unfolding siv_on_literals
 returns-clause-tag c =
     let known = c.encrypted_blocks.ensures in
-    let authentication : authentication_key key nonce ≡ bytes 16 0xd9b360279694941ac5dbc6987ada7377 =
+    let authentication : authentication_key key nonce
+    ≡ bytes 16 0xd9b360279694941ac5dbc6987ada7377 =
     (λ t. take 8 (known.zero t) ++ take 8 (known.one t)) in
     let encryption : encryption_key key nonce ≡ encrypting =
     (λ t. take 8 (known.two t) ++ take 8 (known.three t) ++ []) in
-    (λ t. tag_under (key_expansion (encryption t)) (from_le_bytes w128 (authentication t)) nonce [] plain) ∙ known.tag
+    (λ t. tag_under (key_expansion (encryption t))
+    (from_le_bytes w128 (authentication t)) nonce [] plain) ∙ known.tag
 
 pub returns-clause-text : goal.returns-clause-text
 unfolding siv_on_literals
@@ -35,6 +38,8 @@ returns-clause-text c =
     let known = c.encrypted_blocks.ensures in
     let encryption : encryption_key key nonce ≡ encrypting =
     (λ t. take 8 (known.two t) ++ take 8 (known.three t) ++ []) in
-    ap (λ e. text_under (key_expansion e) (bytes 16 0x578782fff6013b815b287c22493a364c) plain) encryption
-    ∙ one_block_by (key_expansion encrypting) (first_counter (bytes 16 0x578782fff6013b815b287c22493a364c))
+    ap (λ e. text_under (key_expansion e) (bytes 16 0x578782fff6013b815b287c22493a364c)
+    plain) encryption
+    ∙ one_block_by (key_expansion encrypting)
+    (first_counter (bytes 16 0x578782fff6013b815b287c22493a364c))
     (bytes 16 0xb4d839330ac7b786a779523a099ca598) plain known.stream (omega arith)

@@ -5,5 +5,6 @@ use Rattle.aes_planes.proofs.soft.utils.key_columns.summed_columns.Goals as goal
 
 pub returns : goal.returns
 returns g c = λ rows cols hr hc e.
-    columns_of_eight g.met.W.Word.shape c.sum_columns_of_planes.result c.args.before.now c.args.start.now
-    (search rules) c.told-before c.told-start c.args.idx_ror rows cols hr hc e c.sum_columns_of_planes.ensures
+    columns_of_eight g.met.W.Word.shape c.loop-planes.sums c.args.before.now c.args.start.now
+    (search rules) c.told-before c.told-start c.args.idx_ror rows cols hr hc e
+    c.loop-planes.invariant.done

@@ -1,7 +1,7 @@
--- What is left to show of `halves::after_zeros`.
+-- What is left to show of `row_pairs::after_zeros`.
 use Rattle.std.proofs.Common.{rules}
-use Rattle.gcm.proofs.ByHalves.{zeros_lower, zeros_upper}
-use Rattle.gcm.proofs.halves.after_zeros.Goals as goal
+use Rattle.gcm.proofs.RowPairs.{zeros_lower, zeros_upper}
+use Rattle.gcm.proofs.row_pairs.after_zeros.Goals as goal
 
 pub returns-clause-lower : goal.returns-clause-lower
 returns-clause-lower c = zeros_lower c.args.x (search rules)

@@ -1,7 +1,8 @@
-//! Two rows in one vector of 32 bytes, one in each half: the lower has the first sixteen. Where a processor has no such
-//! vectors, each half is a vector of its own.
+//! Two rows in one vector of 32 bytes, one in each half: the lower has the first sixteen. Where a
+//! processor has no such vectors, each half is a vector of its own.
 
-ghost use Rattle.std.specs.Prelude.{◌≡◌, ◌+◌, ◌*◌, ◌/◌, ◌%◌, ◌^◌, ◌∷◌, ◌++◌, ℕ, List, take, drop, map, length, slice_index};
+ghost use Rattle.std.specs.Prelude.{◌≡◌, ◌+◌, ◌*◌, ◌/◌, ◌%◌, ◌^◌, ◌∷◌, ◌++◌, ℕ, List, take, drop};
+ghost use Rattle.std.specs.Prelude.{map, length, slice_index};
 ghost use Rattle.std.specs.Int.{w128, from_be_bytes};
 ghost use Rattle.aes_permute.specs.Lookup.{looked, low_nibble, high_nibble, AreIndices};
 
@@ -26,7 +27,8 @@ pub(crate) fn high_nibbles_twice(x: u8x16) -> u8x32
     twice(x) >> u8x32::splat(4)
 }
 
-/// Returns the entry of a table at each place of the lower half, and of another at those of the upper half.
+/// Returns the entry of a table at each place of the lower half, and of another at those of the
+/// upper half.
 #[tactic(auto, using(aes_permute::proofs::ByHalves::indices_in_halves))]
 #[inline(always)]
 pub(crate) fn lookup_in_halves(first: [u8; 16], second: [u8; 16], places: u8x32) -> u8x32
@@ -78,7 +80,8 @@ pub(crate) fn after_eight_zeros(x: u8x16) -> u8x16
 /// Returns the first eight bytes of a block, after the last eight of another.
 #[inline(always)]
 pub(crate) fn after_last_eight(x: u8x16, y: u8x16) -> u8x16
-    ensures { from_be_bytes w128 result ≡ from_be_bytes w128 x % 2 ^ 64 * 2 ^ 64 + from_be_bytes w128 y / 2 ^ 64 }
+    ensures { from_be_bytes w128 result ≡ from_be_bytes w128 x % 2 ^ 64 * 2 ^ 64
+        + from_be_bytes w128 y / 2 ^ 64 }
 {
     x.shuffle(
         y,
