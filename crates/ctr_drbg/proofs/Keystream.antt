@@ -1,13 +1,13 @@
 -- Output blocks, as bytes of counter mode's keystream from its block 1 on.
-use Rattle.std.proofs.Common.{◌≡◌, ℕ, zero, suc, ◌+◌, ◌-◌, ◌*◌, ◌/◌, ◌%◌, ◌^◌, ◌<◌, ◌≤◌, List, [], ◌++◌, length, get_or}
-use Rattle.std.proofs.Common.{inl, inr, take, drop, replicate, bit_xor, slice_index, sym, ap, ◌∙◌, refl, arith, length-append}
+use Rattle.std.proofs.Common.{◌≡◌, ℕ, zero, suc, ◌+◌, ◌-◌, ◌*◌, ◌/◌, ◌%◌, ◌^◌, ◌<◌, List, length, get_or}
+use Rattle.std.proofs.Common.{inl, inr, replicate, bit_xor, sym, ap, ◌∙◌, refl, arith, length-append}
 use Rattle.std.proofs.lemmas.Bool.{cases_lt}
 use Rattle.std.proofs.lemmas.List.{get_or-append_right, get_or_append_left, get_or-replicate, get_or-take}
 use Rattle.std.proofs.lemmas.List.{length-take-le}
 use Rattle.std.proofs.lemmas.Nat.{xor_comm}
 use Rattle.std.specs.Int.{w128, to_be_bytes, from_be_bytes}
 use Rattle.std.specs.Int.Bits.{xor_zero_r}
-use Rattle.aes_planes.specs.Fips197.{cipher, cipher_with, key_expansion}
+use Rattle.aes_planes.specs.Fips197.{cipher, key_expansion}
 use Rattle.aes_planes.proofs.Standard.CipherInverses.{cipher_length}
 use Rattle.aes_cipher.proofs.BlockNumbers.{number_back}
 use Rattle.aes_ctr.specs.CounterMode.{counter, counter_block, keystream_byte, plus_stream}
