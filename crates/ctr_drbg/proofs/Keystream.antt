@@ -81,15 +81,21 @@ byte_of_output key v n i h =
     get_or-take n (temp_after key v ((n + 15) / 16)) i 0 h ∙ byte_of_temp key v ((n + 15) / 16) i (omega (arith, h))
 
 -- a string plus the keystream is the output plus the string
-pub output_plus : (key v x : List ℕ) (n : ℕ) → length x ≡ n
+stream_is_output : (key v x : List ℕ) (n : ℕ) → length x ≡ n
     → plus_stream (keystream_byte (key_expansion key) v) 16 x ≡ exclusive_or (output key v n) x
-output_plus key v x n sized =
+stream_is_output key v x n sized =
     plus_is (keystream_byte (key_expansion key) v) 16 x (exclusive_or (output key v n) x)
     (length-sum (output key v n) x ∙ length-output key v n ∙ sym sized)
     (λ i h. let inside : i < n = omega (arith, h, sized) in
     xor_comm (get_or x i 0) (keystream_byte (key_expansion key) v (16 + i))
     ∙ ap (λ b. bit_xor b (get_or x i 0)) (sym (byte_of_output key v n i inside))
     ∙ sym (get_or-sum (output key v n) x i (omega (arith, inside, length-output key v n))))
+
+-- a string y that is x plus the keystream under the key's round keys w is the output plus x
+pub output_plus : (w : List (List ℕ)) (key v x y : List ℕ) → y ≡ plus_stream (keystream_byte w v) 16 x
+    → w ≡ key_expansion key → y ≡ exclusive_or (output key v (length x)) x
+output_plus w key v x y is expanded =
+    is ∙ ap (λ k. plus_stream (keystream_byte k v) 16 x) expanded ∙ stream_is_output key v x (length x) refl
 
 -- nothing is added to zeros but the output
 pub output_plus_zeros : (key v : List ℕ) (n : ℕ) → exclusive_or (output key v n) (replicate n 0) ≡ output key v n
