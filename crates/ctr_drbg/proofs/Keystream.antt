@@ -1,14 +1,14 @@
 -- Output blocks, as bytes of counter mode's keystream from its block 1 on.
-use Rattle.std.proofs.Common.{◌≡◌, ℕ, zero, suc, ◌+◌, ◌-◌, ◌*◌, ◌/◌, ◌%◌, ◌^◌, ◌<◌, ◌≤◌, List, []}
-use Rattle.std.proofs.Common.{◌++◌, length, get_or, inl, inr, take, drop, replicate, bit_xor}
-use Rattle.std.proofs.Common.{slice_index, sym, ap, ◌∙◌, refl, arith, length-append}
+use Rattle.std.proofs.Common.{◌≡◌, ℕ, zero, suc, ◌+◌, ◌-◌, ◌*◌, ◌/◌, ◌%◌, ◌^◌, ◌<◌, List, length}
+use Rattle.std.proofs.Common.{get_or, inl, inr, replicate, bit_xor, sym, ap, ◌∙◌, refl, arith}
+use Rattle.std.proofs.Common.{length-append}
 use Rattle.std.proofs.lemmas.Bool.{cases_lt}
 use Rattle.std.proofs.lemmas.List.{get_or-append_right, get_or_append_left, get_or-replicate}
 use Rattle.std.proofs.lemmas.List.{get_or-take, length-take-le}
 use Rattle.std.proofs.lemmas.Nat.{xor_comm}
 use Rattle.std.specs.Int.{w128, to_be_bytes, from_be_bytes}
 use Rattle.std.specs.Int.Bits.{xor_zero_r}
-use Rattle.aes_planes.specs.Fips197.{cipher, cipher_with, key_expansion}
+use Rattle.aes_planes.specs.Fips197.{cipher, key_expansion}
 use Rattle.aes_planes.proofs.Standard.CipherInverses.{cipher_length}
 use Rattle.aes_cipher.proofs.BlockNumbers.{number_back}
 use Rattle.aes_ctr.specs.CounterMode.{counter, counter_block, keystream_byte, plus_stream}
@@ -87,15 +87,23 @@ byte_of_output key v n i h =
     ∙ byte_of_temp key v ((n + 15) / 16) i (omega (arith, h))
 
 -- a string plus the keystream is the output plus the string
-pub output_plus : (key v x : List ℕ) (n : ℕ) → length x ≡ n
+stream_is_output : (key v x : List ℕ) (n : ℕ) → length x ≡ n
     → plus_stream (keystream_byte (key_expansion key) v) 16 x ≡ exclusive_or (output key v n) x
-output_plus key v x n sized =
+stream_is_output key v x n sized =
     plus_is (keystream_byte (key_expansion key) v) 16 x (exclusive_or (output key v n) x)
     (length-sum (output key v n) x ∙ length-output key v n ∙ sym sized)
     (λ i h. let inside : i < n = omega (arith, h, sized) in
     xor_comm (get_or x i 0) (keystream_byte (key_expansion key) v (16 + i))
     ∙ ap (λ b. bit_xor b (get_or x i 0)) (sym (byte_of_output key v n i inside))
     ∙ sym (get_or-sum (output key v n) x i (omega (arith, inside, length-output key v n))))
+
+-- a string y that is x plus the keystream under the key's round keys w is the output plus x
+pub output_plus : (w : List (List ℕ)) (key v x y : List ℕ)
+    → y ≡ plus_stream (keystream_byte w v) 16 x
+    → w ≡ key_expansion key → y ≡ exclusive_or (output key v (length x)) x
+output_plus w key v x y is expanded =
+    is ∙ ap (λ k. plus_stream (keystream_byte k v) 16 x) expanded
+    ∙ stream_is_output key v x (length x) refl
 
 -- nothing is added to zeros but the output
 pub output_plus_zeros : (key v : List ℕ) (n : ℕ)

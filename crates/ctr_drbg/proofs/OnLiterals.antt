@@ -1,5 +1,5 @@
 -- CTR_DRBG on literals: what a lemma unfolds to compute it, and an update by its three blocks.
-use Rattle.std.proofs.Common.{◌≡◌, ℕ, List, [], ◌++◌, take, drop}
+use Rattle.std.proofs.Common.{◌≡◌, ℕ, List, ◌++◌, take, drop}
 use Rattle.std.specs.Prelude.{⊤}
 use Rattle.aes_planes.specs.Fips197.{build, build_from, cipher}
 use Rattle.aes_planes.specs.BigEndian.{bytes}

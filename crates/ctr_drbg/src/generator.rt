@@ -6,10 +6,10 @@ ghost use Rattle.ctr_drbg.specs.CtrDrbg as nist;
 
 use crate::errors::{InvalidSeed, NotGenerated};
 use crate::output::{add_output, moved_on, put_output};
-use crate::seeds::{SEED_LENGTH, SeedRoom, put_padded, put_seed_material};
+use crate::seeds::{SEED_LENGTH, SeedRoom, are_seeds, put_padded, put_seed_material};
 use aes_cipher::cipher::{Block, BlockCipherEncrypt, KeyInit};
 use aes_cipher::not_clone::NotClone;
-use aes_cipher::zeroize::{Wiped, ZeroizeOnDrop};
+use aes_cipher::zeroize::{MustWipe, Wiped, ZeroizeOnDrop, wipe_stack};
 use std::marker::Model;
 
 /// How many bytes one request may ask for: 2^19 bits, max_number_of_bits_per_request (10.2.1, table
@@ -21,6 +21,9 @@ pub const RESEED_INTERVAL: u64 = 1 << 48;
 
 // How many bytes a key has: keylen (10.2.1, table 3).
 const KEY_LENGTH: usize = 32;
+
+// How many bytes of stack a call takes.
+const CALL_STACK: usize = 4096;
 
 // Makes a cipher. It isn't refused, since the key is as long as its keys are.
 fn keyed<C: KeyInit + Drop>(key: &[u8]) -> C
@@ -111,14 +114,9 @@ impl<C: BlockCipherEncrypt + KeyInit + Drop> CtrDrbg<C> {
             ≡ nist.reseed entropy_input.now additional_input.now self.old) }
         ensures unchanged { OnErr result (self.new ≡ self.old) }
     {
-        let mut seed = SeedRoom::zeroed();
-        put_seed_material(
-            entropy_input,
-            additional_input,
-            &mut seed.value_mut()[0].bytes,
-        )?;
-        self.set_counter(1);
-        self.update(&seed.value()[0].bytes);
+        are_seeds(entropy_input, additional_input)?;
+        self.take_seed(entropy_input, additional_input);
+        wipe_stack::<CALL_STACK>();
         Ok(())
     }
 
@@ -130,7 +128,6 @@ impl<C: BlockCipherEncrypt + KeyInit + Drop> CtrDrbg<C> {
     /// `TooManyBytes` exactly if the output has more than 2^16 bytes. Else `TooLong` exactly if the
     /// additional input has more than 48 bytes. Else `ReseedRequired` exactly if there were 2^48
     /// requests since the seed. The generator and the output are then unchanged.
-    #[tactic(auto, unfolding(crate::specs::CtrDrbg::returned_bits))]
     pub fn generate(
         &mut self,
         additional_input: &[u8],
@@ -155,18 +152,53 @@ impl<C: BlockCipherEncrypt + KeyInit + Drop> CtrDrbg<C> {
         if additional_input.len() > SEED_LENGTH {
             return Err(NotGenerated::TooLong);
         }
-        let requests = self.reseed_counter;
-        if requests > RESEED_INTERVAL {
+        if self.reseed_counter > RESEED_INTERVAL {
             return Err(NotGenerated::ReseedRequired);
         }
-        let mut provided = SeedRoom::zeroed();
+        self.answer(additional_input, output);
+        wipe_stack::<CALL_STACK>();
+        Ok(())
+    }
+
+    // The reseed, of strings that are allowed. In a call of its own, so that its stack can be
+    // wiped.
+    #[inline(never)]
+    fn take_seed(&mut self, entropy_input: &[u8], additional_input: &[u8])
+        requires entropy { length entropy_input.now ≡ 48 }
+        requires fits { length additional_input.now ≤ 48 }
+        ensures { self.new ≡ nist.reseed entropy_input.now additional_input.now self.old }
+    {
+        let mut seed = MustWipe::<SeedRoom>::zeroed();
+        put_seed_material(
+            entropy_input,
+            additional_input,
+            &mut seed.value_mut()[0].bytes,
+        );
+        self.set_counter(1);
+        self.update(&seed.value()[0].bytes);
+        seed.wipe();
+    }
+
+    // The request, where it is allowed. In a call of its own, so that its stack can be wiped.
+    #[inline(never)]
+    #[tactic(auto, unfolding(crate::specs::CtrDrbg::returned_bits))]
+    fn answer(&mut self, additional_input: &[u8], output: &mut [u8])
+        requires allowed { length output.old ≤ 2 ^ 16 }
+        requires fits { length additional_input.now ≤ 48 }
+        requires counted { self.old.reseed_counter ≤ 2 ^ 48 }
+        ensures output { output.new ≡ nist.returned_bits
+            (length output.old) additional_input.now self.old }
+        ensures state { self.new ≡ nist.generate (length output.old) additional_input.now self.old }
+    {
+        let requests = self.reseed_counter;
+        let mut provided = MustWipe::<SeedRoom>::zeroed();
         put_padded(additional_input, &mut provided.value_mut()[0].bytes);
         let provided_data = &provided.value()[0].bytes;
         self.prepare(additional_input, provided_data);
         self.put_output(output);
         self.set_counter(requests + 1);
         self.update(provided_data);
-        Ok(())
+        provided.wipe();
     }
 
     // CTR_DRBG_Update (10.2.1.2).
@@ -174,11 +206,12 @@ impl<C: BlockCipherEncrypt + KeyInit + Drop> CtrDrbg<C> {
     fn update(&mut self, provided_data: &[u8; SEED_LENGTH])
         ensures { self.new ≡ nist.update provided_data.now self.old }
     {
-        let mut room = SeedRoom::zeroed();
+        let mut room = MustWipe::<SeedRoom>::zeroed();
         let temp = &mut room.value_mut()[0].bytes;
         *temp = *provided_data;
         self.add_output(temp);
         self.take_state(temp);
+        room.wipe();
     }
 
     // Adds to a seed as many bytes of output (10.2.1.2, steps 1 to 4).

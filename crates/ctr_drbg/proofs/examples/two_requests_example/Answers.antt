@@ -1,5 +1,5 @@
 -- What is left to show of `examples::two_requests_example`.
-use Rattle.std.proofs.Common.{◌≡◌, ℕ, List, [], ◌∙◌, ap, take, replicate}
+use Rattle.std.proofs.Common.{ap, take, replicate}
 use Rattle.aes_planes.specs.BigEndian.{bytes}
 use Rattle.aes_planes.specs.Fips197.{build, build_from}
 use Rattle.ctr_drbg.specs.CtrDrbg.{State, padded, exclusive_or, next_v, v_after, temp_after, turns}

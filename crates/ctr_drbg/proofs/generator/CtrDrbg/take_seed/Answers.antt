@@ -1,10 +1,10 @@
--- What is left to show of `generator::CtrDrbg::reseed`.
+-- What is left to show of `generator::CtrDrbg::take_seed`.
 use Rattle.std.proofs.Common.{rules}
 use Rattle.ctr_drbg.proofs.States.{reseeded_by}
-use Rattle.ctr_drbg.proofs.generator.CtrDrbg.reseed.Goals as goal
+use Rattle.ctr_drbg.proofs.generator.CtrDrbg.take_seed.Goals as goal
 
-pub returns-clause-reseeded : goal.returns-clause-reseeded
-returns-clause-reseeded g c =
+pub returns : goal.returns
+returns g c =
     let counted = c.set_counter.ensures in
     reseeded_by c.args.entropy_input.now c.args.additional_input.now _ c.args.self.now
     c.set_counter.new.self

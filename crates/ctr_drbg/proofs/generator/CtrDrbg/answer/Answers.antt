@@ -1,7 +1,7 @@
--- What is left to show of `generator::CtrDrbg::generate`.
+-- What is left to show of `generator::CtrDrbg::answer`.
 use Rattle.std.proofs.Common.{◌≡◌, ◌∙◌, ◌+◌, ap, length, rules}
 use Rattle.ctr_drbg.proofs.States.{generated_by}
-use Rattle.ctr_drbg.proofs.generator.CtrDrbg.generate.Goals as goal
+use Rattle.ctr_drbg.proofs.generator.CtrDrbg.answer.Goals as goal
 
 pub returns-clause-state : goal.returns-clause-state
 returns-clause-state g c =
