@@ -1,6 +1,7 @@
 -- Output blocks, as bytes of counter mode's keystream from its block 1 on.
-use Rattle.std.proofs.Common.{◌≡◌, ℕ, zero, suc, ◌+◌, ◌-◌, ◌*◌, ◌/◌, ◌%◌, ◌^◌, ◌<◌, List, length, get_or}
-use Rattle.std.proofs.Common.{inl, inr, replicate, bit_xor, sym, ap, ◌∙◌, refl, arith, length-append}
+use Rattle.std.proofs.Common.{◌≡◌, ℕ, zero, suc, ◌+◌, ◌-◌, ◌*◌, ◌/◌, ◌%◌, ◌^◌, ◌<◌, List, length}
+use Rattle.std.proofs.Common.{get_or, inl, inr, replicate, bit_xor, sym, ap, ◌∙◌, refl, arith}
+use Rattle.std.proofs.Common.{length-append}
 use Rattle.std.proofs.lemmas.Bool.{cases_lt}
 use Rattle.std.proofs.lemmas.List.{get_or-append_right, get_or_append_left, get_or-replicate}
 use Rattle.std.proofs.lemmas.List.{get_or-take, length-take-le}
@@ -97,10 +98,12 @@ stream_is_output key v x n sized =
     ∙ sym (get_or-sum (output key v n) x i (omega (arith, inside, length-output key v n))))
 
 -- a string y that is x plus the keystream under the key's round keys w is the output plus x
-pub output_plus : (w : List (List ℕ)) (key v x y : List ℕ) → y ≡ plus_stream (keystream_byte w v) 16 x
+pub output_plus : (w : List (List ℕ)) (key v x y : List ℕ)
+    → y ≡ plus_stream (keystream_byte w v) 16 x
     → w ≡ key_expansion key → y ≡ exclusive_or (output key v (length x)) x
 output_plus w key v x y is expanded =
-    is ∙ ap (λ k. plus_stream (keystream_byte k v) 16 x) expanded ∙ stream_is_output key v x (length x) refl
+    is ∙ ap (λ k. plus_stream (keystream_byte k v) 16 x) expanded
+    ∙ stream_is_output key v x (length x) refl
 
 -- nothing is added to zeros but the output
 pub output_plus_zeros : (key v : List ℕ) (n : ℕ)

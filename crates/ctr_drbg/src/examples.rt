@@ -1,6 +1,7 @@
-//! CTR_DRBG at values from outside, as contracts, so that a slip in a definition is refused: NIST's first vector for AES-256
-//! without a derivation function, which gives 64 bytes at the second request, and the first one with additional inputs. A
-//! model that gives the same at all of NIST's vectors computed the states between.
+//! CTR_DRBG at values from outside, as contracts, so that a slip in a definition is refused: NIST's
+//! first vector for AES-256 without a derivation function, which gives 64 bytes at the second
+//! request, and the first one with additional inputs. A model that gives the same at all of NIST's
+//! vectors computed the states between.
 //!
 //! `bytes n 0x..` is the n bytes that these digits write.
 
@@ -100,46 +101,85 @@ pub fn two_requests_example()
     encrypted_blocks();
 }
 
-// The blocks that are encrypted where both requests have an additional input: three for the update before the first output, three
-// for that after it, three for the update before the second output, and the first one of this output.
+// The blocks that are encrypted where both requests have an additional input: three for the update
+// before the first output, three for that after it, three for the update before the second output,
+// and the first one of this output.
 #[tactic(auto, using(aes_planes::proofs::OnLiterals::ciphers), unfolding(aes_planes::proofs::OnLiterals::aes_by_table))]
 fn encrypted_with_inputs()
-    ensures prepared_one { fips.cipher_with (fips.key_expansion (bytes 32 0x8c717e36ee6fa534a17a5f8c511f51273192e6dbdb87124fa3644d02ef235d62))
-        (bytes 16 0x17b0cc9467a617c1e26a28fe20660fa0) ≡ bytes 16 0xdb0672fc41e306bb40ec790f81527d59 }
-    ensures prepared_two { fips.cipher_with (fips.key_expansion (bytes 32 0x8c717e36ee6fa534a17a5f8c511f51273192e6dbdb87124fa3644d02ef235d62))
-        (bytes 16 0x17b0cc9467a617c1e26a28fe20660fa1) ≡ bytes 16 0x52ef47930735a3ac370499504b4a8032 }
-    ensures prepared_three { fips.cipher_with (fips.key_expansion (bytes 32 0x8c717e36ee6fa534a17a5f8c511f51273192e6dbdb87124fa3644d02ef235d62))
-        (bytes 16 0x17b0cc9467a617c1e26a28fe20660fa2) ≡ bytes 16 0xea06c0fd9d6e044aa3c77a9bc58048c1 }
-    ensures updated_one { fips.cipher_with (fips.key_expansion (bytes 32 0xd00e69572d97ded00aed77226ccbac175e777f64c4e3395153f52f333c93dcee))
-        (bytes 16 0x5df02caec58d552a9704490728fe5efe) ≡ bytes 16 0x412da136e68bf5e9ee4248e16815edd5 }
-    ensures updated_two { fips.cipher_with (fips.key_expansion (bytes 32 0xd00e69572d97ded00aed77226ccbac175e777f64c4e3395153f52f333c93dcee))
-        (bytes 16 0x5df02caec58d552a9704490728fe5eff) ≡ bytes 16 0x65606259a890609f7443eef6dd7a220e }
-    ensures updated_three { fips.cipher_with (fips.key_expansion (bytes 32 0xd00e69572d97ded00aed77226ccbac175e777f64c4e3395153f52f333c93dcee))
-        (bytes 16 0x5df02caec58d552a9704490728fe5f00) ≡ bytes 16 0x5829422223028f4695646d1ae55d2d4e }
-    ensures next_one { fips.cipher_with (fips.key_expansion (bytes 32 0x4a25ba9d8aff2d82a44346cc858c3c9b69f85aae6b46fa6210b25895aaa37ed2))
-        (bytes 16 0xefdfae717be1de26a1a75e8608233b77) ≡ bytes 16 0x7531ea0dd63c0a7da9e689f013a22e9c }
-    ensures next_two { fips.cipher_with (fips.key_expansion (bytes 32 0x4a25ba9d8aff2d82a44346cc858c3c9b69f85aae6b46fa6210b25895aaa37ed2))
-        (bytes 16 0xefdfae717be1de26a1a75e8608233b78) ≡ bytes 16 0x1deea3f5a62e69f19ab41dbac51bb1b3 }
-    ensures next_three { fips.cipher_with (fips.key_expansion (bytes 32 0x4a25ba9d8aff2d82a44346cc858c3c9b69f85aae6b46fa6210b25895aaa37ed2))
-        (bytes 16 0xefdfae717be1de26a1a75e8608233b79) ≡ bytes 16 0x4c1e4b86721569797515319b7b9e2d1b }
-    ensures output { fips.cipher_with (fips.key_expansion (bytes 32 0xbfb0659e5cdccd895ce16d3fffb2c926e8f140be2f8b6b06ce66cf04b68ea3bc))
-        (bytes 16 0xade54aba15b94c79c6c44ae8263eb776) ≡ bytes 16 0x6808268b13e236f642c06deba2494496 }
+    ensures prepared_one { fips.cipher_with
+        (fips.key_expansion
+        (bytes 32 0x8c717e36ee6fa534a17a5f8c511f51273192e6dbdb87124fa3644d02ef235d62))
+        (bytes 16 0x17b0cc9467a617c1e26a28fe20660fa0)
+        ≡ bytes 16 0xdb0672fc41e306bb40ec790f81527d59 }
+    ensures prepared_two { fips.cipher_with
+        (fips.key_expansion
+        (bytes 32 0x8c717e36ee6fa534a17a5f8c511f51273192e6dbdb87124fa3644d02ef235d62))
+        (bytes 16 0x17b0cc9467a617c1e26a28fe20660fa1)
+        ≡ bytes 16 0x52ef47930735a3ac370499504b4a8032 }
+    ensures prepared_three { fips.cipher_with
+        (fips.key_expansion
+        (bytes 32 0x8c717e36ee6fa534a17a5f8c511f51273192e6dbdb87124fa3644d02ef235d62))
+        (bytes 16 0x17b0cc9467a617c1e26a28fe20660fa2)
+        ≡ bytes 16 0xea06c0fd9d6e044aa3c77a9bc58048c1 }
+    ensures updated_one { fips.cipher_with
+        (fips.key_expansion
+        (bytes 32 0xd00e69572d97ded00aed77226ccbac175e777f64c4e3395153f52f333c93dcee))
+        (bytes 16 0x5df02caec58d552a9704490728fe5efe)
+        ≡ bytes 16 0x412da136e68bf5e9ee4248e16815edd5 }
+    ensures updated_two { fips.cipher_with
+        (fips.key_expansion
+        (bytes 32 0xd00e69572d97ded00aed77226ccbac175e777f64c4e3395153f52f333c93dcee))
+        (bytes 16 0x5df02caec58d552a9704490728fe5eff)
+        ≡ bytes 16 0x65606259a890609f7443eef6dd7a220e }
+    ensures updated_three { fips.cipher_with
+        (fips.key_expansion
+        (bytes 32 0xd00e69572d97ded00aed77226ccbac175e777f64c4e3395153f52f333c93dcee))
+        (bytes 16 0x5df02caec58d552a9704490728fe5f00)
+        ≡ bytes 16 0x5829422223028f4695646d1ae55d2d4e }
+    ensures next_one { fips.cipher_with
+        (fips.key_expansion
+        (bytes 32 0x4a25ba9d8aff2d82a44346cc858c3c9b69f85aae6b46fa6210b25895aaa37ed2))
+        (bytes 16 0xefdfae717be1de26a1a75e8608233b77)
+        ≡ bytes 16 0x7531ea0dd63c0a7da9e689f013a22e9c }
+    ensures next_two { fips.cipher_with
+        (fips.key_expansion
+        (bytes 32 0x4a25ba9d8aff2d82a44346cc858c3c9b69f85aae6b46fa6210b25895aaa37ed2))
+        (bytes 16 0xefdfae717be1de26a1a75e8608233b78)
+        ≡ bytes 16 0x1deea3f5a62e69f19ab41dbac51bb1b3 }
+    ensures next_three { fips.cipher_with
+        (fips.key_expansion
+        (bytes 32 0x4a25ba9d8aff2d82a44346cc858c3c9b69f85aae6b46fa6210b25895aaa37ed2))
+        (bytes 16 0xefdfae717be1de26a1a75e8608233b79)
+        ≡ bytes 16 0x4c1e4b86721569797515319b7b9e2d1b }
+    ensures output { fips.cipher_with
+        (fips.key_expansion
+        (bytes 32 0xbfb0659e5cdccd895ce16d3fffb2c926e8f140be2f8b6b06ce66cf04b68ea3bc))
+        (bytes 16 0xade54aba15b94c79c6c44ae8263eb776)
+        ≡ bytes 16 0x6808268b13e236f642c06deba2494496 }
 {}
 
-/// NIST's first vector with a personalization string and additional inputs: the state after the first request of 64 bytes, and the
-/// first block of the second, which is NIST's.
+/// NIST's first vector with a personalization string and additional inputs: the state after the
+/// first request of 64 bytes, and the first block of the second, which is NIST's.
 pub fn additional_inputs_example()
-    ensures first { generate 64 (bytes 48 0x0b081bab6c74d86b4a010e2ded99d14e0c9838f7c3d69afd64f1b66377d95cdcb7f6ec5358e3516034c3339ced7e1638) (record {
-      key = bytes 32 0x8c717e36ee6fa534a17a5f8c511f51273192e6dbdb87124fa3644d02ef235d62;
-      v = bytes 16 0x17b0cc9467a617c1e26a28fe20660f9f;
-      reseed_counter = 1;
-    })
-        ≡ record { key = bytes 32 0x4a25ba9d8aff2d82a44346cc858c3c9b69f85aae6b46fa6210b25895aaa37ed2; v = bytes 16 0xefdfae717be1de26a1a75e8608233b76; reseed_counter = 2 } }
-    ensures second { returned_bits 16 (bytes 48 0xca818f938ae0c7f4f507e4cfec10e7baf51fe34b89a502f754d2d2be7395120fe1fb013c67ac2500b3d17b735da09a6e) (record {
-      key = bytes 32 0x4a25ba9d8aff2d82a44346cc858c3c9b69f85aae6b46fa6210b25895aaa37ed2;
-      v = bytes 16 0xefdfae717be1de26a1a75e8608233b76;
-      reseed_counter = 2;
-    })
+    ensures first { generate 64
+        (bytes 48 0x0b081bab6c74d86b4a010e2ded99d14e0c9838f7c3d69afd64f1b66377d95cdcb7f6ec5358e3516034c3339ced7e1638) (record {
+          key = bytes 32 0x8c717e36ee6fa534a17a5f8c511f51273192e6dbdb87124fa3644d02ef235d62;
+          v = bytes 16 0x17b0cc9467a617c1e26a28fe20660f9f;
+          reseed_counter = 1;
+        })
+        ≡ record {
+          key = bytes 32
+              0x4a25ba9d8aff2d82a44346cc858c3c9b69f85aae6b46fa6210b25895aaa37ed2;
+          v =
+              bytes 16 0xefdfae717be1de26a1a75e8608233b76;
+          reseed_counter = 2;
+        } }
+    ensures second { returned_bits 16
+        (bytes 48 0xca818f938ae0c7f4f507e4cfec10e7baf51fe34b89a502f754d2d2be7395120fe1fb013c67ac2500b3d17b735da09a6e) (record {
+          key = bytes 32 0x4a25ba9d8aff2d82a44346cc858c3c9b69f85aae6b46fa6210b25895aaa37ed2;
+          v = bytes 16 0xefdfae717be1de26a1a75e8608233b76;
+          reseed_counter = 2;
+        })
         ≡ bytes 16 0x6808268b13e236f642c06deba2494496 }
 {
     encrypted_with_inputs();

@@ -125,9 +125,9 @@ impl<C: BlockCipherEncrypt + KeyInit + Drop> CtrDrbg<C> {
     ///
     /// # Errors
     ///
-    /// `TooManyBytes` exactly if the output has more than 2^16 bytes. Else `TooLong` exactly if the additional input has
-    /// more than 48 bytes. Else `ReseedRequired` exactly if there were 2^48 requests since the seed. The generator and the
-    /// output are then unchanged.
+    /// `TooManyBytes` exactly if the output has more than 2^16 bytes. Else `TooLong` exactly if the
+    /// additional input has more than 48 bytes. Else `ReseedRequired` exactly if there were 2^48
+    /// requests since the seed. The generator and the output are then unchanged.
     pub fn generate(
         &mut self,
         additional_input: &[u8],
@@ -160,7 +160,8 @@ impl<C: BlockCipherEncrypt + KeyInit + Drop> CtrDrbg<C> {
         Ok(())
     }
 
-    // The reseed, of strings that are allowed. In a call of its own, so that its stack can be wiped.
+    // The reseed, of strings that are allowed. In a call of its own, so that its stack can be
+    // wiped.
     #[inline(never)]
     fn take_seed(&mut self, entropy_input: &[u8], additional_input: &[u8])
         requires entropy { length entropy_input.now ≡ 48 }
@@ -185,7 +186,8 @@ impl<C: BlockCipherEncrypt + KeyInit + Drop> CtrDrbg<C> {
         requires allowed { length output.old ≤ 2 ^ 16 }
         requires fits { length additional_input.now ≤ 48 }
         requires counted { self.old.reseed_counter ≤ 2 ^ 48 }
-        ensures output { output.new ≡ nist.returned_bits (length output.old) additional_input.now self.old }
+        ensures output { output.new ≡ nist.returned_bits
+            (length output.old) additional_input.now self.old }
         ensures state { self.new ≡ nist.generate (length output.old) additional_input.now self.old }
     {
         let requests = self.reseed_counter;
