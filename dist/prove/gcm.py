@@ -65,7 +65,7 @@ class Hashing:
         for value, group, after in self.plan[begin:end]:
             total = ZEROS
             for i, x in enumerate(group):
-                x = keyed.aes.xor(value, x) if i == 0 else x
+                x = keyed.domain.name_sum(keyed.aes.xor(value, x)) if i == 0 else x
                 total = keyed.aes.xor(total, product(keyed.domain, x, keyed.powers[len(group) - 1 - i]))
             yield "hash", total, after
 
@@ -111,8 +111,8 @@ class KeyedGcm(Keyed):
 
         def transferred(x):
             out = x & 1
-            for c, _, j in d.linear_part(x) if x > 1 else ():
-                out = e.xor(out, meaning[c][j])
+            for number in d.linear_part(x) if x > 1 else ():
+                out = e.xor(out, meaning[number >> 3][number & 7])
             return out
         content = m.regions["gcm"].content
         self.struct = [self.byte_for_any(b) for b in content[:244]]
