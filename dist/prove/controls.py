@@ -63,7 +63,7 @@ AES_FAULTS = [
     ("the stack not wiped after many blocks", BATCHES, r"\tcallq\t\"aes_cipher::zeroize::stack::wipe_stack.*\n", "", blocks(16)),
     ("the round keys on planes not wiped", BATCHES, r"\tcallq\t\"aes_cipher::zeroize::zeroize_words.*\n", "", blocks(16)),
     ("the schedule of a call under a key not wiped", BLOCKS_WITH, r"\tcallq\t\"aes_cipher::zeroize::.*\n", "",
-     lambda k: [k.blocks_with("encrypt", 1)]),
+     lambda k: [k.blocks("encrypt", 1, "_with")]),
     ("another status", BLOCKS, r"xorl\t%r12d, %r12d", "movl\t$2, %r12d", blocks(2)),
     ("statuses exchanged", r"fotsgure_aes_encrypt_blocks_to:", r"movl\t\$3, %(\w+)", r"movl\t$2, %\1", lambda k: k.refused()),
     ("a call of what isn't covered", BLOCKS, r"addq\t\$8, %rsp", "cpuid\n\taddq\t$8, %rsp", blocks(2)),

@@ -54,16 +54,16 @@ def aes_cases(k, everything):
         for n in choose(range(65), (2, 17), (0, 1, 3, 8, 15, 16, 33)):
             yield "%s_blocks %d" % (direction, n), k.blocks(direction, n)
         for n in choose(range(65), (17,), (0, 1, 2)):
-            yield "%s_blocks_to %d" % (direction, n), k.blocks_to(direction, n)
+            yield "%s_blocks_to %d" % (direction, n), k.blocks(direction, n, "_to")
         for n in choose(range(1, 65), (1,), (17,)):
-            yield "%s_blocks_with %d" % (direction, n), k.blocks_with(direction, n)
+            yield "%s_blocks_with %d" % (direction, n), k.blocks(direction, n, "_with")
     counts = choose(range(0, 1025, 7), (33,), (0, 1, 16, 130, 257))
     for position, n in [(0, n) for n in counts] + [(7, 40), (2 ** 64 - 21, 20)]:
         yield "add_keystream %d at %d" % (n, position), k.add_keystream(position, n)
     for n in choose(counts[1::2], (33,), (0, 130)):
-        yield "add_keystream_to %d at 3" % n, k.add_keystream_to(3, n)
+        yield "add_keystream_to %d at 3" % n, k.add_keystream(3, n, way="_to")
     for n in choose(counts[1::3], (33,)):
-        yield "add_keystream_with %d at 3" % n, k.add_keystream_with(3, n)
+        yield "add_keystream_with %d at 3" % n, k.add_keystream(3, n, way="_with")
     for n, wraps in (40, (2,)), (280, choose(range(1, 19), (), (1, 2, 9, 17))):
         for wrap in wraps:
             yield "add_keystream %d at 5, the low half of the counter wraps before block %d" % (n, wrap), k.add_keystream(5, n, wrap)
