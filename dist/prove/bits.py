@@ -52,6 +52,7 @@ class Domain:
         self.xors, self.ands, self.byte_xors, self.byte_ands, self.lookups, self.entries = {}, {}, {}, {}, {}, {}
         self.bits_of, self.byte_ids = [None] * 256, {}
         self.opaque_names, self.opaque_of, self.words = {}, {}, {}
+        self.numbers = {}  # cells of numbers that are one more in each block: (which byte, all bytes, the lowest first)
         self.by_cells, self.alike, self.definitions, self.defined_by = {}, {}, {}, {}
         self.mixed, self.mixed_ids, self.mixed_xors, self.halves = [], {}, {}, {}
         self.linear_tables = set()

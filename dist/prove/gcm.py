@@ -42,8 +42,8 @@ def threes(blocks, end=()):
 class Hashing:
     """GHASH (6.4) from a value on, group by group; each value that depends on the key becomes an arbitrary block."""
 
-    def __init__(self, keyed, value, made=0, powers=None):
-        self.keyed, self.value, self.plan, self.made, self.powers = keyed, value, [], made, powers or keyed.powers
+    def __init__(self, keyed, value, made=0):
+        self.keyed, self.value, self.plan, self.made = keyed, value, [], made
 
     def take(self, groups):
         for group in groups:
@@ -66,7 +66,7 @@ class Hashing:
             total = ZEROS
             for i, x in enumerate(group):
                 x = keyed.domain.name_sum(keyed.aes.xor(value, x)) if i == 0 else x
-                total = keyed.aes.xor(total, product(keyed.domain, x, self.powers[len(group) - 1 - i]))
+                total = keyed.aes.xor(total, product(keyed.domain, x, keyed.powers[len(group) - 1 - i]))
             yield "hash", total, after
 
 

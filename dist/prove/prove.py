@@ -11,6 +11,7 @@ import time
 
 import aes
 import gcm
+import siv
 from aarch64 import Aarch64
 from bits import Domain, Unproved
 from calls import Call
@@ -22,10 +23,14 @@ from vectors import checked
 from x86_64 import X86_64
 
 HERE = os.path.dirname(os.path.abspath(__file__))
-BUILDS = {"x86_64/" + name: X86_64 for name in ("aes", "aes_v3", "gcm", "gcm_v3")}
-BUILDS.update({"aarch64/" + name: Aarch64 for name in ("aes", "gcm")})
+BUILDS = {"x86_64/" + name: X86_64 for name in ("aes", "aes_v3", "gcm", "gcm_v3", "siv", "siv_v3")}
+BUILDS.update({"aarch64/" + name: Aarch64 for name in ("aes", "gcm", "siv")})  # siv: the calls of AES-GCM-SIV in gcm.s
 KEY_SIZES = 16, 24, 32
 SEED = 1
+
+
+def source(dist, build):
+    return "%s/%s.s" % (dist, build.replace("siv", "gcm"))
 
 
 def link(source, out, machine=X86_64):
@@ -132,12 +137,29 @@ def piece_cases(k, choose):
         yield "accept_short of %d bytes" % length, k.accept(gcm.VERIFYING, 16, 7, length)
 
 
+def siv_cases(k, everything):
+    choose = chooser(k, everything)
+    yield "wipe", k.wipe()
+    for length in (0, 1, 15, 17, 24, 31, 33, 256, 2 ** 32 + 16):
+        yield "set_key of %d bytes" % length, k.set_key_refused(length)
+    blocks = [(0, 16 * n) for n in range(1, 65)] + [(n, 0) for n in range(1, 100, 9)]
+    for a, n in choose([(0, 0), (1, 1), (13, 33), (40, 20), (20, 145), *blocks], [(13, 33)], [(0, 0), (20, 145)]):
+        yield "seal %d, %d" % (a, n), k.seal(a, n)
+    for a, n in choose([(0, 0), (13, 33), (40, 20), (20, 145)], [(1, 1)], [(0, 0), (20, 145)]):
+        yield "open %d, %d" % (a, n), k.open(a, n)
+    for i, call in enumerate(k.refused()):
+        yield "%s refused %d" % (call.name[4:], i), call
+
+
+LIBRARIES = {"aes": (aes.Keyed, aes_cases), "gcm": (gcm.KeyedGcm, gcm_cases), "siv": (siv.KeyedSiv, siv_cases)}
+
+
 # The header: the compiler compares what it says with what the statements have.
 def header_cases(dist, machine=X86_64):
-    for module, name in ((aes, "fotsgure_aes"), (gcm, "fotsgure_gcm")):
+    for statuses, structs, name in ((aes.STATUSES, aes.STRUCTS, "fotsgure_aes"), (gcm.STATUSES, gcm.STRUCTS | siv.STRUCTS, "fotsgure_gcm")):
         lines = ["#include <stddef.h>", "#include <%s.h>" % name]
-        lines += ["_Static_assert(%s_%s == %d, \"\");" % (name.upper(), s, n) for n, s in enumerate(module.STATUSES)]
-        for struct, (size, fields) in module.STRUCTS.items():
+        lines += ["_Static_assert(%s_%s == %d, \"\");" % (name.upper(), s, n) for n, s in enumerate(statuses)]
+        for struct, (size, fields) in structs.items():
             lines.append("_Static_assert(sizeof(struct %s) == %d, \"\");" % (struct, size))
             lines += ["_Static_assert(offsetof(struct %s, %s) == %d, \"\");" % (struct, f, at) for f, at in fields.items()]
         result = subprocess.run([machine.tools + "gcc", "-fsyntax-only", "-I", dist + "/include", "-x", "c", "-"], input="\n".join(lines),
@@ -165,16 +187,17 @@ class Task:
     def run(self):
         start = time.process_time()
         out = "%s/%s_%d" % (self.options.out, self.build.replace("/", "_"), self.key_size)
-        self.program = link("%s/%s.s" % (self.options.dist, self.build), out, BUILDS[self.build])
-        library = self.build.split("/")[1][:3]
-        keyed = (gcm.KeyedGcm if library == "gcm" else aes.Keyed)(self.program, self.key_size)
+        keyed_class, cases = LIBRARIES[self.build.split("/")[1][:3]]
+        self.program = link(source(self.options.dist, self.build), out, BUILDS[self.build])
+        keyed = keyed_class(self.program, self.key_size)
         self.case("set_key", keyed.set_key)
         if not self.failed:
-            if self.build == "x86_64/" + library:
+            if self.build == "x86_64/" + keyed.library:
                 self.vectors = checked(keyed)
-            number = Call(library + "_version", [], version(self.options.dist, library))
-            self.case("version", lambda seed: keyed.proved(number, seed))
-            for what, call in (gcm_cases if library == "gcm" else aes_cases)(keyed, self.options.all):
+            if keyed.library != "siv":
+                number = Call(keyed.library + "_version", [], version(self.options.dist, keyed.library))
+                self.case("version", lambda seed: keyed.proved(number, seed))
+            for what, call in cases(keyed, self.options.all):
                 if self.options.only in what:
                     self.case(what, lambda seed: keyed.proved(call, seed))
         self.case("instructions by themselves", self.compare)
@@ -224,7 +247,8 @@ def tasks(options):
                 task = future.result()
                 yield task
                 if task.key_size == first:
-                    waiting |= {pool.submit(run_task, options, task.build, size, task.compared) for size in others}
+                    sizes = [size for size in others if size != 24 or "siv" not in task.build]
+                    waiting |= {pool.submit(run_task, options, task.build, size, task.compared) for size in sizes}
 
 
 def missing(machine):
