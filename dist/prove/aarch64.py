@@ -59,6 +59,18 @@ class Aarch64(Machine):
         for n, half in zip(self.kept_halves, halves):
             self.vectors[n][:8] = half
 
+    def prepare(self, instruction, place, drawn):
+        """For an instruction by itself: addresses that it may access, or jump to."""
+        for o in instruction.operands:
+            if isinstance(o, Memory):
+                if o.index:
+                    self.general[o.index] = 16
+                if o.base != "sp":
+                    self.general[o.base] = self.offset(place, -o.before - o.offset - (16 * o.scale if o.index else 0))
+            elif isinstance(o, Register) and instruction.name in ("br", "blr"):
+                self.general[o.name] = self.program.symbols["start"]
+        self.general["x30"] = RETURN_ADDRESS
+
     def leave(self):
         self.go_to(self.general["x30"])
         self.general["x30"] = (self.domain.undefined,) * 8

@@ -25,7 +25,7 @@ NEVER = 1 << 64
 
 class Keyed:
     """One build and one key size. `domain` is that of arbitrary round keys, `key_domain` that of an arbitrary key."""
-    library = "aes"
+    library, struct_size = "aes", STRUCT
 
     def __init__(self, program, key_size):
         self.program, self.key_size = program, key_size
@@ -70,7 +70,8 @@ class Keyed:
         return self.domain.pack([self.bit_for_any(x) for x in self.key_domain.bits(b)])
 
     def proved(self, call, seed=None):
-        return prove(self.key_domain if call.later else self.domain, self.program, call, seed)
+        given_the_key = any(b.content is self.key for b in call.buffers)
+        return prove(self.key_domain if given_the_key else self.domain, self.program, call, seed)
 
     def once(self, what, make):
         """What several statements need, made when it is first asked for."""
@@ -90,9 +91,7 @@ class Keyed:
         """Expands a key into *aes (KeyExpansion, FIPS 197, 5.2). *aes may be uninitialized: none of it is read. ..
         every byte that neither a round key of the new key nor its length takes is 0. DONE if key_length is 16, 24 or
         32"""
-        d = self.key_domain
-        call = Call("aes_set_key", [Buffer("aes", [d.undefined] * STRUCT, ANY), Buffer("key", self.key), self.key_size], DONE)
-        m = prove(d, self.program, call, seed)
+        m = self.proved(self.expansion(DONE, self.key_size, ANY), seed)
         self.struct = [self.byte_for_any(b) for b in m.regions["aes"].content]
         if self.struct[:4] != [self.key_size, 0, 0, 0]:
             raise Unproved("the struct has another length")
@@ -101,28 +100,31 @@ class Keyed:
                 raise Unproved("the struct holds more than round keys and zeros")
         return m
 
+    def expansion(self, status, length, after, **more):
+        struct = Buffer(self.library, [self.key_domain.undefined] * self.struct_size, after)
+        return Call(self.library + "_set_key", [struct, Buffer("key", self.key), length], status, **more)
+
     def set_key_refused(self, length):
         """.. else KEY_LENGTH, and *aes then is all zeros and holds no key."""
-        d = self.key_domain
-        return Call("aes_set_key", [Buffer("aes", [d.undefined] * STRUCT, [0] * STRUCT), Buffer("key", self.key), length], KEY_LENGTH)
+        return self.expansion(KEY_LENGTH, length, [0] * self.struct_size)
 
     def key_length(self):
         """Returns how many bytes the key has: 16, 24 or 32"""
-        return Call("aes_key_length", [self.schedule()], self.key_size, 8)
+        return Call(self.library + "_key_length", [self.schedule()], self.key_size, 8)
 
     def key_length_of_none(self):
         """.. or 0 if *aes holds no key."""
-        return Call("aes_key_length", [self.no_key()], 0, 8)
+        return Call(self.library + "_key_length", [self.no_key()], 0, 8)
 
     def wipe(self):
         """Overwrites *aes with zeros: it then holds no key. It may be uninitialized"""
-        return Call("aes_wipe", [Buffer("aes", self.undefined(STRUCT), [0] * STRUCT)], None)
+        return Call(self.library + "_wipe", [Buffer(self.library, self.undefined(self.struct_size), [0] * self.struct_size)], None)
 
     def schedule(self):
-        return Buffer("aes", self.struct)
+        return Buffer(self.library, self.struct)
 
     def no_key(self):
-        return Buffer("aes", [0] * STRUCT)
+        return Buffer(self.library, [0] * self.struct_size)
 
     # Blocks.
     def content(self, count):
@@ -131,27 +133,25 @@ class Keyed:
     def results(self, direction, count):
         return [x for b in range(count) for x in self.of(self.ciphers[direction], b)]
 
-    def blocks(self, direction, count):
+    def blocks(self, direction, count, way=""):
         """Encrypts (Cipher, FIPS 197, 5.1) or decrypts (InvCipher, 5.3) each of `count` blocks in place under the key
-        of *aes. DONE"""
-        blocks = Buffer("blocks", self.content(count), self.results(direction, count))
-        return Call("aes_%s_blocks" % direction, [self.schedule(), blocks, count], DONE, plain=self.plain(direction, count))
+        of *aes. DONE. With _to: The same from one buffer to another; counts are in blocks. With _with: In one call, under
+        a key"""
+        content, results = self.content(count), self.results(direction, count)
+        return self.in_each_way("aes_%s_blocks" % direction, way, [], "blocks", content, results, count,
+                                plain=content if direction == "encrypt" else results)
 
-    def plain(self, direction, count):
-        return self.content(count) if direction == "encrypt" else self.results(direction, count)
-
-    def blocks_to(self, direction, count):
-        """The same from one buffer to another; counts are in blocks."""
-        output = Buffer("output", self.undefined(16 * count), self.results(direction, count))
-        return Call("aes_%s_blocks_to" % direction, [self.schedule(), Buffer("input", self.content(count)), count, output, count], DONE,
-                    plain=self.plain(direction, count))
-
-    def blocks_with(self, direction, count):
-        """In one call, under a key"""
-        content = self.content(count)
-        blocks = Buffer("blocks", self.not_yet("blocks", 16 * count), self.results(direction, count))
-        return Call("aes_%s_blocks_with" % direction, [Buffer("key", self.key), self.key_size, blocks, count], DONE,
-                    plain=self.plain(direction, count), later=lambda m: self.go_on(m, {"blocks": content}))
+    def in_each_way(self, name, way, state, data_name, data, results, count, **more):
+        """A call that changes data under the key of *aes or, with _with, under a key; or, with _to, that writes to another
+        buffer. `state` is what it takes between the key and the data."""
+        if way == "_to":
+            arguments = [self.schedule(), *state, Buffer("input", data), count, Buffer("output", self.undefined(len(data)), results), count]
+        elif way == "_with":
+            arguments = [Buffer("key", self.key), self.key_size, *state, Buffer(data_name, self.not_yet(data_name, len(data)), results), count]
+            more["later"] = lambda m: self.go_on(m, {data_name: data})
+        else:
+            arguments = [self.schedule(), *state, Buffer(data_name, data, results), count]
+        return Call(name + way, arguments, DONE, **more)
 
     # A call that expands a key begins in the key's domain. When it first computes with what isn't in it, what was made
     # of the key becomes the same of any round keys.
@@ -210,33 +210,16 @@ class Keyed:
         data = [self.domain.byte_in_block(data_bytes[t % 16], t // 16 - first + 1) for t in places]
         return data, self.aes.xor(data, stream[position % 16:]), stream
 
-    def add_keystream(self, position, count, wrap=NEVER):
+    def add_keystream(self, position, count, wrap=NEVER, way=""):
         """adds (XOR) to each of `count` bytes the keystream's byte at its place, the first at ctr->position, and moves
-        the position on by `count`. .. (iv + i / 16) modulo 2^128. .. DONE"""
+        the position on by `count`. .. (iv + i / 16) modulo 2^128. .. DONE. With _to: The same from one buffer to another;
+        counts are in bytes. With _with: In one call, under a key"""
         data, want, stream = self.keystream(position, count, wrap)
-        iv, name = self.counter_words(self.domain, position // 16)
-        ctr = Buffer("ctr", iv + number(position, 8)[::-1], iv + number(position + count, 8)[::-1])
-        return Call("aes_add_keystream", [self.schedule(), ctr, Buffer("bytes", data, want), count], DONE,
-                    counter=Counter(name, position // 16, wrap), keystream=stream, plain=data + want)
-
-    def add_keystream_to(self, position, count):
-        """The same from one buffer to another; counts are in bytes."""
-        data, want, stream = self.keystream(position, count, NEVER)
-        iv, name = self.counter_words(self.domain, position // 16)
-        ctr = Buffer("ctr", iv + number(position, 8)[::-1], iv + number(position + count, 8)[::-1])
-        output = Buffer("output", self.undefined(count), want)
-        return Call("aes_add_keystream_to", [self.schedule(), ctr, Buffer("input", data), count, output, count], DONE,
-                    counter=Counter(name, position // 16, NEVER), keystream=stream, plain=data + want, may_stay=("plain",))
-
-    def add_keystream_with(self, position, count):
-        """In one call, under a key"""
-        data, want, stream = self.keystream(position, count, NEVER)
-        iv, name = self.counter_words(self.key_domain, position // 16)
+        before, name = self.counter_words(self.key_domain if way == "_with" else self.domain, position // 16)
         after, _ = self.counter_words(self.domain, position // 16)
-        ctr = Buffer("ctr", iv + number(position, 8)[::-1], after + number(position + count, 8)[::-1])
-        bytes_ = Buffer("bytes", self.not_yet("bytes", count), want)
-        return Call("aes_add_keystream_with", [Buffer("key", self.key), self.key_size, ctr, bytes_, count], DONE,
-                    counter=Counter(name, position // 16, NEVER), keystream=stream, plain=data + want, later=lambda m: self.go_on(m, {"bytes": data}))
+        ctr = Buffer("ctr", before + number(position, 8)[::-1], after + number(position + count, 8)[::-1])
+        return self.in_each_way("aes_add_keystream", way, [ctr], "bytes", data, want, count, counter=Counter(name, position // 16, wrap),
+                                keystream=stream, plain=data + want, may_stay=("plain",) if way == "_to" else ())
 
     # CBC (SP 800-38A, 6.2).
     def cbc_decrypt(self, count):

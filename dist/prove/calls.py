@@ -53,7 +53,7 @@ def prove(domain, program, call, seed=None):
         choices = answers[:-1] + [1]
 
 
-def attempt(domain, program, call, choices, seed, strict=True):
+def attempt(domain, program, call, choices, seed=None, strict=True):
     regions = {b.name: Region(b.content, b.after is not None) for b in call.buffers}
     regions["stack"] = Region([domain.undefined] * (STACK + 128), align=16)
     arguments = [Pointer(a.name, 0) if isinstance(a, Buffer) else a for a in call.arguments]

@@ -12,10 +12,11 @@ import faults_aarch64
 import gcm
 import leak
 import x86_64
+from alone import NEVER_ALONE, compare_all
 from bits import Unproved
 from machine import Pointer
 from native import PROCESSORS
-from prove import BUILDS, HERE, SEED, link, missing
+from prove import BUILDS, HERE, link, missing
 
 # Where a fault is planted, and the calls that are tried then.
 LANES = r'"aes_permute::blocks::process_on_lanes::<#\w+>":'
@@ -62,7 +63,7 @@ AES_FAULTS = [
     ("the stack not wiped after many blocks", BATCHES, r"\tcallq\t\"aes_cipher::zeroize::stack::wipe_stack.*\n", "", blocks(16)),
     ("the round keys on planes not wiped", BATCHES, r"\tcallq\t\"aes_cipher::zeroize::zeroize_words.*\n", "", blocks(16)),
     ("the schedule of a call under a key not wiped", BLOCKS_WITH, r"\tcallq\t\"aes_cipher::zeroize::.*\n", "",
-     lambda k: [k.blocks_with("encrypt", 1)]),
+     lambda k: [k.blocks("encrypt", 1, "_with")]),
     ("another status", BLOCKS, r"xorl\t%r12d, %r12d", "movl\t$2, %r12d", blocks(2)),
     ("statuses exchanged", r"fotsgure_aes_encrypt_blocks_to:", r"movl\t\$3, %(\w+)", r"movl\t$2, %\1", lambda k: k.refused()),
     ("a call of what isn't covered", BLOCKS, r"addq\t\$8, %rsp", "cpuid\n\taddq\t$8, %rsp", blocks(2)),
@@ -96,9 +97,9 @@ FAULTS = {"x86_64/aes": AES_FAULTS, "x86_64/gcm": GCM_FAULTS, "aarch64/aes": fau
 
 
 def edited(text, start, pattern, new):
-    """The text with the first match of a pattern behind a label replaced, and its line."""
+    """The text with the first match of a pattern in what stands behind a label replaced, and its line."""
     at = re.search(r"(?m)^" + start, text)
-    found = at and re.search(pattern, text[at.end():])
+    found = at and re.search(pattern, text[at.end():text.index("\t.size", at.end())])
     if not found:
         raise SystemExit("controls: nothing like %s after %s" % (pattern, start))
     a, b = at.end() + found.start(), at.end() + found.end()
@@ -132,10 +133,10 @@ def fault(options, build, k):
         else:
             aes.Keyed(link(path + ".s", path, BUILDS[build]), 16).set_key()
     except Unproved as e:
-        return True, "refused: %s (%s.s:%d): %s" % (what, build, line, str(e)[:160])
+        return [(True, "refused: %s (%s.s:%d): %s" % (what, build, line, str(e)[:160]))]
     finally:
         keyed.program = right
-    return False, "MISSED: %s (%s.s:%d)" % (what, build, line)
+    return [(False, "MISSED: %s (%s.s:%d)" % (what, build, line))]
 
 
 def leaked(options, wiped):
@@ -150,8 +151,8 @@ def leaked(options, wiped):
     found = [leak.found(keyed, n) for n in (16, 17, 31)]
     keyed.program = right
     good = all(f == (0, 0) for f in found) if wiped else (16, 16) in found
-    return good, "%s: bytes of the last round key, computed from the stack after 16, 17 and 31 blocks, %s the wipe: %s" % (
-        "as it has to be" if good else "MISSED", "with" if wiped else "without", ", ".join("%d (%d right)" % f for f in found))
+    return [(good, "%s: bytes of the last round key, computed from the stack after 16, 17 and 31 blocks, %s the wipe: %s" % (
+        "as it has to be" if good else "MISSED", "with" if wiped else "without", ", ".join("%d (%d right)" % f for f in found)))]
 
 
 # Wrong meanings: what an instruction writes is off by one. The processor has to disagree.
@@ -164,6 +165,7 @@ def off_by_one(m, value):
 
 
 BRANCHES = "call", "jmp", "ret", "b", "bl", "br", "blr", "cbz", "cbnz", "tbz", "tbnz"
+WITHOUT_EFFECT = {"nop", "endbr64", "xchg"}  # xchg is padding too
 COMPARISONS = "cmp", "test", "bt", "ccmp"
 
 
@@ -194,46 +196,38 @@ def destination(name, operands):
     return first[0] if type(first) is tuple else first
 
 
-def wrong_meaning(options, build, name, what):
-    keyed, module = keyed_of(options, build), sys.modules[BUILDS[build].__module__]
-    right, kept = module.meaning(name), dict(module.TABLE)
-
-    def wrong(m, n, *operands):
-        right(m, n, *operands)
+def wrong(right):
+    """Another meaning. What it wrote may be undefined, or known to nobody: then the next try has other values."""
+    def meaning(m, name, *operands):
+        right(m, name, *operands)
         try:
-            spoil(m, n, destination(n, operands))
+            spoil(m, name, destination(name, operands))
         except (Unproved, StopIteration, TypeError):
-            pass  # what it wrote is undefined, or known to nobody
-    module.TABLE[name] = wrong
-    keyed.program.cache.clear()
-    try:
-        prove_part(keyed, what, SEED)
-        return False, "MISSED: %s of %s with another meaning (in %s)" % (name, build, what)
-    except Unproved as e:
-        return True, "refused: %s of %s with another meaning: %s" % (name, build, str(e)[:120])
-    finally:
+            pass
+    return meaning
+
+
+def wrong_meanings(options, build):
+    """Gives each instruction of a text another meaning in turn: the processor has to differ, by that instruction alone."""
+    program, module = keyed_of(options, build).program, sys.modules[BUILDS[build].__module__]
+    forms, out = {}, []
+    for address in program.lines:
+        try:
+            instruction = program.at(address)
+        except Unproved:
+            continue  # on no path
+        forms.setdefault(instruction.name, {})[instruction.form] = address
+    for name in sorted(set(forms) - WITHOUT_EFFECT - set(NEVER_ALONE)):
+        kept, module.TABLE[name] = dict(module.TABLE), wrong(module.meaning(name))
+        program.cache.clear()
+        try:
+            missed = compare_all(program, forms[name])
+            if missed:
+                out.append((False, "MISSED: %s of %s with another meaning" % (name, build)))
+        except Unproved as e:
+            out.append((True, "refused: %s of %s with another meaning: %s" % (name, build, str(e)[:120])))
         module.TABLE.clear()
         module.TABLE.update(kept)
-        keyed.program.cache.clear()
-
-
-PARTS = {"set_key": None, "blocks 1": lambda k: k.blocks("encrypt", 1), "blocks 16": lambda k: k.blocks("encrypt", 16),
-         "add_keystream": lambda k: k.add_keystream(5, 20), "unwrap_padded": lambda k: k.unwrap_padded(9),
-         "refused": lambda k: next(k.refused())}
-WITHOUT_EFFECT = {"nop", "xchg", "ldaxr"}  # xchg is padding too, and ldaxr gets exclusive access
-
-
-def prove_part(keyed, what, seed=None):
-    return keyed.proved(PARTS[what](keyed), seed) if PARTS[what] else keyed.set_key(seed)
-
-
-def instructions(options, build):
-    """Each instruction of these calls, with the shortest one in which it occurs."""
-    keyed, out = keyed_of(options, build), {}
-    for m, what in sorted(((prove_part(keyed, what), what) for what in PARTS), key=lambda p: p[0].steps):
-        for name in {form.split()[0] for form in m.used} - WITHOUT_EFFECT:
-            if name != "ret" or m.used["ret"] > 1:
-                out.setdefault(name, what)
     return out
 
 
@@ -251,14 +245,13 @@ def main():
         tries = [pool.submit(fault, options, build, k) for build in builds for k, f in enumerate(FAULTS[build]) if options.only in f[0]]
         if "x86_64/aes" in builds and not options.only:
             tries += [pool.submit(leaked, options, wiped) for wiped in (False, True)]
-        for build in builds:
-            if not options.only and build.endswith("aes") and not PROCESSORS[BUILDS[build]].missing():
-                tries += [pool.submit(wrong_meaning, options, build, *p) for p in sorted(instructions(options, build).items())]
+        if not options.only:
+            tries += [pool.submit(wrong_meanings, options, build) for build in builds if not PROCESSORS[BUILDS[build]].missing()]
         refused = missed = 0
         for tried in tries:
-            good, text = tried.result()
-            print(text, flush=True)
-            refused, missed = refused + good, missed + (not good)
+            for good, text in tried.result():
+                print(text, flush=True)
+                refused, missed = refused + good, missed + (not good)
     print("%d refused, %d missed" % (refused, missed))
     return missed != 0
 

@@ -29,7 +29,7 @@ AES_FAULTS = [
     ("another byte of a table", r"\.Lstatic\.0:", r"\\001\\002\\004", r"\\001\\002\\005", None),
     ("another round key", LANES, r"add\t(x\d+), x0, #16", r"add\t\1, x0, #32", few),
     ("a branch on data", LANES, r"(\tldp\tq2, q3, .*\n)", r"\1\tfmov\tx22, d2\n\tcbz\tx22, 77f\n77:\n", few),
-    ("an address from data", LANES, r"(\tadd\tx20, x2, .*\n)", r"\1\tldrb\tw22, [x20]\n\tldrb\tw22, [x20, x22]\n", few),
+    ("an address from data", LANES, r"(\tldp\tq2, q3, .*\n)", r"\1\tldrb\tw22, [x21]\n\tldrb\tw22, [x21, x22]\n", few),
     ("a load past the struct", BLOCKS, LENGTH, r"\tldrb\tw8, [x0, #484]\n\1", few),
     ("a store to the struct, which is const", BLOCKS, LENGTH, r"\1\tstr\twzr, [x0]\n", few),
     ("a store above the stack frame", BLOCKS, ENTRY, r"\1\tstr\tx8, [sp]\n", few),

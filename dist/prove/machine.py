@@ -109,8 +109,9 @@ class Machine:
         self.flags = dict.fromkeys("czso")
         self.next_address, self.last, self.steps, self.used = entry, entry, 0, {}
         self.externals = {program.symbols[n]: n for n in ("memcpy", "memmove", "memset") if n in program.symbols}
-        self.shifted, self.lost, self.origins, self.native, self.written = {}, set(), {}, None, ((), 0)
+        self.shifted, self.lost, self.origins, self.native, self.after_external = {}, set(), {}, None, None
         self.choices, self.placed, self.may_reveal, self.assumed, self.equalities = [], {}, False, (), {}
+        self.written = (), 0
         self.wraps, self.wrap = None, 1 << 64  # a word of unknown value, and the offset from which on it has wrapped around
         self.enter(arguments)
         self.top = self.lowest = self.general[self.stack_pointer].offset
@@ -331,7 +332,7 @@ class Machine:
     def step(self):
         instruction = self.program.at(self.next_address)
         self.steps += 1
-        self.used[instruction.form] = self.used.get(instruction.form, 0) + 1
+        self.used[instruction.form] = self.next_address
         self.last, self.next_address = self.next_address, instruction.next
         instruction.run(self, instruction.name, *instruction.operands)
 

@@ -78,8 +78,8 @@ class KeyedSiv(KeyedGcm):
 
         def bit(x, byte):
             out = x & 1
-            for _, _, j in d.linear_part(x):
-                out = d.xor(out, d.bits(byte)[j])
+            for number in d.linear_part(x):
+                out = d.xor(out, d.bits(byte)[number & 7])
             return out
         return [d.pack([bit(x, b) for x in d.bits(s)]) for s, b in zip(self.struct[4:], sum(words, []))]
 

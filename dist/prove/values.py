@@ -24,23 +24,26 @@ class Values:
         if key not in self.cells:
             bits = d.definitions.get(cell)
             self.cells[key] = self.random.randrange(256) if bits is None else sum(
-                self.bit(d.in_block(b, block)) << j for j, b in enumerate(bits))
+                self.bit(d.in_block(b, block) if d.of_block[cell] else b) << j for j, b in enumerate(bits))
         return self.cells[key]
 
     def bit(self, x):
         d, value = self.domain, x & 1
         if x > 1 and x & BLOCK == PRODUCT << 1:
-            linear, p, _ = d.products[x >> 9]
-            pairs = list(d.pairs)
-            for k, one in enumerate(bin(p)[:1:-1]):
-                if one == "1":
-                    (a, b, i), (c, e, j) = pairs[k]
-                    value ^= self.cell(a, b) >> i & self.cell(c, e) >> j & 1
+            linear, pairs = d.products[x >> 9]
+            for row, (a, group) in enumerate(d.row_keys):
+                columns = int.from_bytes(pairs[16 * row:16 * row + 16], "little")
+                if columns and self.numbered(a):
+                    value ^= sum(self.numbered(group << 7 | k) for k in range(128) if columns >> k & 1) & 1
             return value ^ self.bit(linear)
         for block, n in d.parts(x):
             for c, t in d.forms[n]:
                 value ^= t >> self.cell(c, block) & 1
         return value
+
+    def numbered(self, number):
+        """The bit of a cell that has this number."""
+        return self.cell(number >> 3 & 0xffffff, number >> 27) >> (number & 7) & 1
 
     def full_byte(self, b):
         """Also of sums of products, which takes long."""

@@ -59,6 +59,17 @@ class X86_64(Machine):
     def leave(self):
         ret(self, "ret")
 
+    def prepare(self, instruction, place, drawn):
+        """For an instruction by itself: addresses that it may access, or jump to."""
+        for o in instruction.operands:
+            if isinstance(o, Mem) and instruction.name != "lea":
+                if o.index:
+                    self.general[o.index] = 16
+                if o.base and o.base != "rsp":
+                    self.general[o.base] = self.offset(place, -o.disp - (16 * o.scale if o.index else 0))
+            elif isinstance(o, Reg) and instruction.name in ("jmp", "call"):
+                self.general[o.name] = self.program.symbols["start"]
+
     @staticmethod
     def decode(text, following):
         name, _, rest = text.split("#")[0].strip().partition(" ")
