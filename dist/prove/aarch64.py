@@ -573,7 +573,10 @@ def not_(m, name, to, a):
 
 @op("umaxv")
 def umaxv(m, name, to, a):
-    known = [m.equalities.get(x) for x in m.read(a)]
+    b = m.read(a)
+    known = [m.equalities.get(x) for x in b]
+    if max(b) < 256:
+        return m.write(to, [max(b)])
     if None in known or {k[1:] for k in known} != {(0, 255)}:
         raise Unproved("the maximum of bytes that depend on the key or on data")
     m.write(to, [255 - 255 * m.decide(m.zero_flag([k[0] for k in known]))])
@@ -582,7 +585,10 @@ def umaxv(m, name, to, a):
 @op("addv")
 def addv(m, name, to, a):
     """The sum of lanes that are 0 if bytes are equal: if it can't be too large, it is 0 only if all are equal."""
-    known = [m.equalities.get(x) for x in m.read(a)]
+    b = m.read(a)
+    known = [m.equalities.get(x) for x in b]
+    if max(b) < 256:
+        return m.write(to, m.to_bytes(sum(m.from_bytes(x) for x in lanes(b, a.lane)), a.lane))
     if None in known or any(equal for _, equal, _ in known) or a.lane != 2 or sum(n for _, _, n in known[::2]) > 255 or sum(
             n for _, _, n in known[1::2]) > 255:
         raise Unproved("a sum of what depends on the key or on data")

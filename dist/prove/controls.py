@@ -16,7 +16,7 @@ from alone import NEVER_ALONE, compare_all
 from bits import Unproved
 from machine import Pointer
 from native import PROCESSORS
-from prove import BUILDS, HERE, link, missing
+from prove import BUILDS, HERE, LIBRARIES, link, missing, source
 
 # Where a fault is planted, and the calls that are tried then.
 LANES = r'"aes_permute::blocks::process_on_lanes::<#\w+>":'
@@ -107,8 +107,27 @@ GCM_FAULTS = [
      lambda k: [k.open(0, 3)]),
     ("a field of the message moved", r"fotsgure_gcm_begin:", r"\t\$1, 24\(", "\t$1, 16(", lambda k: [k.begin()]),
 ]
-FAULTS = {"x86_64/aes": AES_FAULTS, "x86_64/gcm": GCM_FAULTS, "aarch64/aes": faults_aarch64.AES_FAULTS,
-          "aarch64/gcm": faults_aarch64.GCM_FAULTS}
+DERIVE, PREPARE = r'"gcm_siv::keys::derive::<#\w+>":', r'"gcm_c::siv::prepare::<#8b70e375869fa13e>":'  # for few bytes
+PUT_TAG, APPLY = r'"gcm_siv::message::put_tag::<#5740872db283df9f>":', r'"gcm_siv::message::apply::<#\w+>":'
+OPEN_IN, SIV_SEAL = r'"gcm_c::siv::open_in::<#8b70e375869fa13e>":', r"fotsgure_gcm_siv_seal:"
+SIV_FAULTS = [
+    ("AES-GCM-SIV: another half of a derived block", DERIVE, r"movq\t32\(%rbx\), %rcx", "movq\t40(%rbx), %rcx", lambda k: [k.seal(0, 0)]),
+    ("AES-GCM-SIV: a number with its highest byte first", DERIVE, r"movl\t\$1, 16\(", "movl\t$16777216, 16(", lambda k: [k.seal(0, 0)]),
+    ("AES-GCM-SIV: a branch on a derived key", PREPARE, r"(movq\t\(%rsp\), %r12\n)", "\\1\ttestq\t%r12, %r12\n\tje\t77f\n77:\n",
+     lambda k: [k.seal(0, 0)]),
+    ("AES-GCM-SIV: derived keys left on the stack", SIV_SEAL, r"\tcallq\t\"aes_cipher::zeroize::stack::wipe_stack.*\n", "",
+     lambda k: [k.seal(0, 0)]),
+    ("AES-GCM-SIV: lengths exchanged", PUT_TAG, r"(leal\t\(,%r15,8\), %eax)", r"xchgq\t%r14, %r15\n\t\1", lambda k: [k.seal(1, 2)]),
+    ("AES-GCM-SIV: the highest bit of the tag's block kept", PUT_TAG, r"\tpand\t.*\n", "", lambda k: [k.seal(0, 1)]),
+    ("AES-GCM-SIV: the highest bit of the counter block not set", APPLY, r"orb\t\$-128, ", "orb\t$64, ", lambda k: [k.seal(0, 1)]),
+    ("AES-GCM-SIV: a counter of 16 bits", APPLY, r"leal\t1\(%r8,%rax\), %edx", r"leal\t(%r8,%rax), %edx\n\tincw\t%dx", lambda k: [k.seal(0, 17)]),
+    ("AES-GCM-SIV: a counter that is one more twice", APPLY, r"leal\t2\(%r8,%rax\), %edx", r"leal\t1(%r8,%rax), %edx", lambda k: [k.seal(0, 33)]),
+    ("AES-GCM-SIV: an early exit in the comparison of the tag", OPEN_IN, r"(\tpcmpeqb\t48\(%rsp\), %xmm0\n)",
+     r"\tmovq\t%xmm0, %rax\n\tcmpq\t48(%rsp), %rax\n\tjne\t77f\n77:\n\1", lambda k: [k.open(0, 0)]),
+    ("AES-GCM-SIV: a refused text not encrypted again", OPEN_IN, r"(testl\t%ebp, %ebp\n)\tje\t", r"\1\tjmp\t", lambda k: [k.open(0, 1)]),
+]
+FAULTS = {"x86_64/aes": AES_FAULTS, "x86_64/gcm": GCM_FAULTS, "x86_64/siv": SIV_FAULTS, "aarch64/aes": faults_aarch64.AES_FAULTS,
+          "aarch64/gcm": faults_aarch64.GCM_FAULTS, "aarch64/siv": faults_aarch64.SIV_FAULTS}
 
 
 def edited(text, start, pattern, new):
@@ -127,8 +146,8 @@ KEYED = {}  # of this process: what was proved of the text without faults
 def keyed_of(options, build):
     if build not in KEYED:
         out = "%s/controls_%s_%d" % (options.out, build.replace("/", "_"), os.getpid())
-        program = link("%s/%s.s" % (options.dist, build), out, BUILDS[build])
-        KEYED[build] = (gcm.KeyedGcm if build.endswith("gcm") else aes.Keyed)(program, 16)
+        program = link(source(options.dist, build), out, BUILDS[build])
+        KEYED[build] = LIBRARIES[build.split("/")[1]][0](program, 16)
         KEYED[build].set_key()
     return KEYED[build]
 
@@ -137,7 +156,7 @@ def fault(options, build, k):
     """Plants a fault, and says whether it is refused. A fault without calls is one of set_key."""
     what, start, pattern, new, calls = FAULTS[build][k]
     keyed, path = keyed_of(options, build), "%s/fault_%s_%d" % (options.out, build.replace("/", "_"), k)
-    text, line = edited(open("%s/%s.s" % (options.dist, build)).read(), start, pattern, new)
+    text, line = edited(open(source(options.dist, build)).read(), start, pattern, new)
     open(path + ".s", "w").write(text)
     right = keyed.program
     try:
@@ -265,8 +284,8 @@ def main():
         if "x86_64/aes" in builds and not options.only:
             tries += [pool.submit(leaked, options, wiped) for wiped in (False, True)]
         if not options.only:
-            tries += [pool.submit(wrong_meanings, options, build)
-                      for build in builds if not PROCESSORS[BUILDS[build]].missing()]
+            tries += [pool.submit(wrong_meanings, options, build) for build in builds
+                      if not build.endswith("siv") and not PROCESSORS[BUILDS[build]].missing()]
         refused = missed = 0
         for tried in tries:
             for good, text in tried.result():

@@ -627,7 +627,10 @@ def pcmpeqb(m, name, *operands):
 
 @op("pmovmskb", "vpmovmskb")
 def pmovmskb(m, name, to, source):
-    pairs = [m.equalities.get(x) for x in m.get_vector(source)]
+    b = m.get_vector(source)
+    pairs = [m.equalities.get(x) for x in b]
+    if max(b) < 256:
+        return m.put(to, sum((x >> 7) << k for k, x in enumerate(b)))
     if len(pairs) != 16 or any(p is None or p[1:] != (255, 0) for p in pairs):
         raise Unproved("instruction not covered")
     m.put(to, m.mask(0xffff, [p[0] for p in pairs]))
