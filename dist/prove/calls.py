@@ -53,7 +53,7 @@ def prove(domain, program, call, seed=None):
         choices = answers[:-1] + [1]
 
 
-def attempt(domain, program, call, choices, seed, strict=True):
+def attempt(domain, program, call, choices, seed=None, strict=True):
     regions = {b.name: Region(b.content, b.after is not None) for b in call.buffers}
     regions["stack"] = Region([domain.undefined] * (STACK + 128), align=16)
     arguments = [Pointer(a.name, 0) if isinstance(a, Buffer) else a for a in call.arguments]
@@ -158,6 +158,9 @@ def found(m, where, want):
     if where in m.regions:
         content = m.regions[where].content
         return content[-1] == want[-1] and content == want
+    if where == "memory":
+        content, at = m.written
+        return any(content[k] == want[0] and content[k:k + len(want)] == want for k in range(max(0, at - len(want)), min(at + 16, len(content))))
     if where == "block":
         return any(want == region.content[k:k + 16] for region in m.regions.values() for k in range(0, len(region.content) - 15, 8))
     if any(v[0] == want[0] and v[:16] == want for v in m.vectors):

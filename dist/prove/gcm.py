@@ -7,7 +7,7 @@ from collections import namedtuple
 
 from aes import DONE, Keyed
 from bits import DATA, KEY, PUBLIC
-from calls import ANY, Buffer, Call, compare, prove
+from calls import ANY, Buffer, Call, compare
 from machine import Pointer
 from standards import number, product
 
@@ -65,7 +65,7 @@ class Hashing:
         for value, group, after in self.plan[begin:end]:
             total = ZEROS
             for i, x in enumerate(group):
-                x = keyed.aes.xor(value, x) if i == 0 else x
+                x = keyed.domain.name_sum(keyed.aes.xor(value, x)) if i == 0 else x
                 total = keyed.aes.xor(total, product(keyed.domain, x, keyed.powers[len(group) - 1 - i]))
             yield "hash", total, after
 
@@ -76,7 +76,8 @@ PreCounter = namedtuple("PreCounter", "bytes counter hashing arguments")
 
 
 class KeyedGcm(Keyed):
-    library = "gcm"
+    """key_length, wipe and what set_key refuses are stated in aes.py: these sentences of the two headers are alike."""
+    library, struct_size = "gcm", STRUCT
 
     def __init__(self, program, key_size):
         super().__init__(program, key_size)
@@ -105,14 +106,13 @@ class KeyedGcm(Keyed):
             yield "hash", h, p[0]
             for n in (0, 1):
                 yield "hash", product(d, p[n], p[0]), p[n + 1]
-        call = Call("gcm_set_key", [Buffer("gcm", [d.undefined] * STRUCT, ANY), Buffer("key", self.key), self.key_size], DONE, steps=steps)
-        m = prove(d, self.program, call, seed)
+        m = self.proved(self.expansion(DONE, self.key_size, ANY, steps=steps), seed)
         meaning = {d.cell_of(b)[0]: e.bits(c) for x, y in zip(p, self.powers) for b, c in zip(x, y)}
 
         def transferred(x):
             out = x & 1
-            for c, _, j in d.linear_part(x) if x > 1 else ():
-                out = e.xor(out, meaning[c][j])
+            for number in d.linear_part(x) if x > 1 else ():
+                out = e.xor(out, meaning[number >> 3][number & 7])
             return out
         content = m.regions["gcm"].content
         self.struct = [self.byte_for_any(b) for b in content[:244]]
@@ -121,32 +121,9 @@ class KeyedGcm(Keyed):
         compare(e, fixed, [self.key_size] + [0] * (len(fixed) - 1), "the length and what no round key takes")
         return m
 
-    def set_key_refused(self, length):
-        """else KEY_LENGTH, and *gcm then is all zeros and holds no key."""
-        d = self.key_domain
-        return Call("gcm_set_key", [Buffer("gcm", [d.undefined] * STRUCT, [0] * STRUCT), Buffer("key", self.key), length], KEY_LENGTH)
-
-    def key_length(self):
-        """Returns how many bytes the key has: 16, 24 or 32"""
-        return Call("gcm_key_length", [self.schedule()], self.key_size, 8)
-
-    def key_length_of_none(self):
-        """.. or 0 if *gcm holds no key."""
-        return Call("gcm_key_length", [self.no_key()], 0, 8)
-
-    def wipe(self):
-        """Overwrites *gcm with zeros: it then holds no key. It may be uninitialized."""
-        return Call("gcm_wipe", [Buffer("gcm", self.undefined(STRUCT), [0] * STRUCT)], None)
-
     def wipe_message(self):
         """Overwrites *message with zeros: there is no message then. It may be uninitialized."""
         return Call("gcm_wipe_message", [Buffer("message", self.undefined(MESSAGE), [0] * MESSAGE)], None)
-
-    def schedule(self):
-        return Buffer("gcm", self.struct)
-
-    def no_key(self):
-        return Buffer("gcm", [0] * STRUCT)
 
     # Nonces, counter blocks and texts.
     def nonce_of(self, length=12, counter=1, before=()):

@@ -42,6 +42,15 @@ GCM = [(G_KEY, G_NONCE, "42831ec2217774244b7221b784d0d49ce3aa212f2c02a4e035c17e2
        (G_KEY, G_LONG, "8ce24998625615b603a033aca13fb894be9112a5c3a211a8ba262a3cca7e2ca701e4a9a4fba43c90ccdcb281d48c7c6fd62875d2aca417034c3"
         "4aee5", "619cc5aefffe0bfa462af43c1699d050")]
 
+# RFC 8452, appendices C.1, C.2 and C.3 (where the counter wraps): key, nonce, additional data, text, encrypted, tag.
+SIV = [("f901cfe8a69615a93fdf7a98cad48179", "6245709fb18853f68d833640", "7576f7028ec6eb5ea7e298342a94d4b202b370ef9768ec6561c4fe6b7e7296fa859c21",
+        "e42a3c02c25b64869e146d7b233987bddfc240871d", "391cc328d484a4f46406181bcd62efd9b3ee197d05", "2d15506c84a9edd65e13e9d24a2a6e70"),
+       ("3c535de192eaed3822a2fbbe2ca9dfc88255e14a661b8aa82cc54236093bbc23", "688089e55540db1872504e1c",
+        "734320ccc9d9bbbb19cb81b2af4ecbc3e72834321f7aa0f70b7282b4f33df23f167541", "ced532ce4159b035277d4dfbb7db62968b13cd4eec",
+        "626660c26ea6612fb17ad91e8e767639edd6c9faee", "9d6c7029675b89eaf4ba1ded1a286594"),
+       ("00" * 32, "00" * 12, "", "000000000000000000000000000000004db923dc793ee6497c76dcc03a98e108",
+        "f3f80f2cf0cb2dd9c5984fcda908456cc537703b5ba70324a6793a7bf218d3ea", "ffffffff000000000000000000000000")]
+
 
 def evaluate(keyed, call, key, given):
     """What the buffers of a statement hold after the call, for a key and given contents."""
@@ -117,6 +126,15 @@ def counter_of(key, nonce):
     return int.from_bytes(bytes(value[12:]), "big")
 
 
+def siv_vectors(k):
+    for key, nonce, more, plain, cipher, tag in SIV:
+        if len(key) == 2 * k.key_size:
+            a, n, given = len(more) // 2, len(plain) // 2, {"nonce": nonce, "additional": more}
+            yield k.seal(a, n), key, dict(given, text=plain), {"text": cipher, "tag": tag}
+            yield k.open(a, n), key, dict(given, text=cipher, tag=tag), {"text": plain}
+
+
 def checked(keyed):
     """How many vectors the statements have; raises if they haven't one."""
-    return sum(check(keyed, *vector) for vector in (gcm_vectors if keyed.library == "gcm" else aes_vectors)(keyed))
+    vectors = {"aes": aes_vectors, "gcm": gcm_vectors, "siv": siv_vectors}[keyed.library]
+    return sum(check(keyed, *vector) for vector in vectors(keyed))
