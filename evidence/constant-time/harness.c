@@ -46,7 +46,8 @@ struct buffer { uint8_t *at, *before; size_t bytes; char kind; };
 static struct buffer buffers[MOST];
 static int held;
 
-/* kind: s a secret that is read, b a secret that is worked in its place, o bytes that are written, p public bytes, z a secret that must be zero afterwards, t bytes of which some are written. */
+/* kind: s a secret that is read, b a secret that is worked in its place, o bytes that are written, p public bytes, z a
+   secret that must be zero afterwards, t bytes of which some are written. */
 static void *buffer(char kind, size_t bytes) {
     struct buffer *it = &buffers[held++];
     it->at = aligned_alloc(16, (bytes + 31) & ~(size_t)15);
@@ -60,9 +61,8 @@ static void *buffer(char kind, size_t bytes) {
     return it->at;
 }
 
-/* Says what came of the call. It is vacuous where it
-   did nothing with what it was given: where its answer is not the wanted one, or a block was left as it was, or a
-   byte that it should have written depends on no secret. */
+/* Says what came of the call. It is vacuous where it did nothing with what it was given: where its answer is not the wanted
+   one, or a block was left as it was, or a byte that it should have written depends on no secret. */
 static void end(const char *name, const char *wanted, uint64_t answer, uint64_t right) {
     unsigned reports = reports_since();
     size_t marked = 0, unmoved = 0, due = 0, missed = 0;
