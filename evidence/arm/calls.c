@@ -1,8 +1,9 @@
-/* Makes every call of both C libraries for several keys and data of one length, on a stack of its own that is filled with a pattern,
- * between the marks that the plugin of qemu knows. A line for each, with tabs: the call, the bits of the key, the count, the position
- * or the bytes of additional data, whether the call did its work, how deep the stack was, how many bytes of keystream or of
- * the message it left there, and how many other bytes that depend on the key. Calls with one name, size, count and position must run
- * the same instructions on the same addresses. */
+/* Makes every call of both C libraries for several keys and data of one length, on a stack of its own that is filled with a
+ * pattern, between the marks that the plugin of qemu knows. A line for each, with tabs: the call, the bits of the key, the
+ * count, the position (of messages, of bytes: 1000 times those of the nonce, and those of additional data), whether the call
+ * did its work, how deep the stack was, how many bytes of the message, its keystream and the like it left there, and how many
+ * other bytes that depend on the key. Calls with one name, size, count and position must run the same instructions on the
+ * same addresses. */
 #define _GNU_SOURCE
 #include "fotsgure_aes.h"
 #include "fotsgure_gcm.h"
@@ -76,10 +77,10 @@ static int early_exit(void) {
     return 0;
 }
 static int look_up(void) { return sink = table[data[5]], 0; }
-static int of_struct(size_t wiped, size_t from) {
+static int of_struct(size_t wiped) {
     struct fotsgure_aes it;
     int said = (int)fotsgure_aes_set_key(&it, key, size);
-    memset((uint8_t *)&it + from, 0, wiped);
+    memset(&it, 0, wiped);
     use(&it);
     return said;
 }
@@ -102,17 +103,15 @@ static int keystream(void) {
 enum takes { NOTHING, OF_BLOCKS, OF_BYTES, OF_MESSAGES };
 enum mode { ECB, CBC, CTR, KW, KWP, GCM, SIV };
 enum text { PLAIN, SEALED, ZEROS };
-
+#define MESSAGE additional, extra, data, bytes
+#define CHANGED additional, extra + 1, data, bytes
+#define ALONE(IT, name, call) IT(name, NOTHING, CTR, PLAIN, PLAIN, 0, call)
 #define CALLS(IT) \
-    IT(planted_branch, NOTHING, CTR, PLAIN, PLAIN, 0, branch()) IT(planted_early_exit, NOTHING, CTR, PLAIN, PLAIN, 0, early_exit()) \
-    IT(planted_look_up, NOTHING, CTR, PLAIN, PLAIN, 0, look_up()) IT(planted_inner, NOTHING, CTR, PLAIN, PLAIN, 0, inner()) \
-    IT(planted_not_wiped, NOTHING, CTR, PLAIN, PLAIN, 0, of_struct(0, 0)) \
-    IT(planted_half_wiped, NOTHING, CTR, PLAIN, PLAIN, 0, of_struct(sizeof aes / 2, 0)) \
-    IT(planted_keystream, NOTHING, CTR, PLAIN, PLAIN, 0, keystream()) \
-    IT(version, NOTHING, CTR, PLAIN, PLAIN, 0, fotsgure_aes_version() != FOTSGURE_AES_VERSION) \
-    IT(key_length, NOTHING, CTR, PLAIN, PLAIN, 0, fotsgure_aes_key_length(&aes) != size) \
-    IT(wipe, NOTHING, CTR, PLAIN, PLAIN, 0, (fotsgure_aes_wipe(&aes), 0)) \
-    IT(set_key, NOTHING, CTR, PLAIN, PLAIN, 0, fotsgure_aes_set_key(&aes, key, size)) \
+    ALONE(IT, planted_branch, branch()) ALONE(IT, planted_early_exit, early_exit()) ALONE(IT, planted_look_up, look_up()) \
+    ALONE(IT, planted_inner, inner()) ALONE(IT, planted_not_wiped, of_struct(0)) ALONE(IT, planted_keystream, keystream()) \
+    ALONE(IT, planted_half_wiped, of_struct(sizeof aes / 2)) ALONE(IT, version, fotsgure_aes_version() != FOTSGURE_AES_VERSION) \
+    ALONE(IT, key_length, fotsgure_aes_key_length(&aes) != size) ALONE(IT, wipe, (fotsgure_aes_wipe(&aes), 0)) \
+    ALONE(IT, set_key, fotsgure_aes_set_key(&aes, key, size)) \
     IT(set_key_refused, NOTHING, CTR, PLAIN, PLAIN, FOTSGURE_AES_KEY_LENGTH, fotsgure_aes_set_key(&aes, key, 17)) \
     IT(encrypt, OF_BLOCKS, ECB, PLAIN, SEALED, 0, fotsgure_aes_encrypt_blocks(&aes, data, count)) \
     IT(decrypt, OF_BLOCKS, ECB, SEALED, PLAIN, 0, fotsgure_aes_decrypt_blocks(&aes, data, count)) \
@@ -137,27 +136,24 @@ enum text { PLAIN, SEALED, ZEROS };
     IT(add_keystream_to, OF_BYTES, CTR, SEALED, PLAIN, 0, fotsgure_aes_add_keystream_to(&aes, &ctr, given, bytes, data, bytes)) \
     IT(add_keystream_with, OF_BYTES, CTR, PLAIN, SEALED, 0, fotsgure_aes_add_keystream_with(key, size, &ctr, data, bytes)) \
     IT(add_keystream_pieces, OF_BYTES, CTR, PLAIN, SEALED, 0, stream_in_pieces()) \
-    IT(gcm_set_key, NOTHING, GCM, PLAIN, PLAIN, 0, fotsgure_gcm_set_key(&gcm, key, size)) \
-    IT(gcm_wipe, NOTHING, GCM, PLAIN, PLAIN, 0, (fotsgure_gcm_wipe(&gcm), 0)) \
-    IT(gcm_wipe_message, NOTHING, GCM, PLAIN, PLAIN, 0, (fotsgure_gcm_wipe_message(&message), 0)) \
-    IT(gcm_seal, OF_MESSAGES, GCM, PLAIN, SEALED, 0, \
-        fotsgure_gcm_seal(&gcm, nonce, nonce_bytes, additional, extra, data, bytes, tag)) \
-    IT(gcm_seal_next, OF_MESSAGES, GCM, PLAIN, PLAIN, 0, (fotsgure_gcm_seal_next(&gcm, &counter, nonce, additional, extra, data, bytes, tag) \
-        || fotsgure_gcm_open(&gcm, nonce, 12, additional, extra, data, bytes, tag, 16))) \
-    IT(gcm_open, OF_MESSAGES, GCM, SEALED, PLAIN, 0, \
-        fotsgure_gcm_open(&gcm, nonce, nonce_bytes, additional, extra, data, bytes, tag, 16)) \
+    ALONE(IT, gcm_set_key, fotsgure_gcm_set_key(&gcm, key, size)) ALONE(IT, gcm_wipe, (fotsgure_gcm_wipe(&gcm), 0)) \
+    ALONE(IT, gcm_wipe_message, (fotsgure_gcm_wipe_message(&message), 0)) \
+    IT(gcm_seal, OF_MESSAGES, GCM, PLAIN, SEALED, 0, fotsgure_gcm_seal(&gcm, nonce, nonce_bytes, MESSAGE, tag)) \
+    IT(gcm_seal_next, OF_MESSAGES, GCM, PLAIN, PLAIN, 0, (fotsgure_gcm_seal_next(&gcm, &counter, nonce, MESSAGE, tag) \
+        || fotsgure_gcm_open(&gcm, nonce, 12, MESSAGE, tag, 16))) \
+    IT(gcm_open, OF_MESSAGES, GCM, SEALED, PLAIN, 0, fotsgure_gcm_open(&gcm, nonce, nonce_bytes, MESSAGE, tag, 16)) \
     IT(gcm_open_refused, OF_MESSAGES, GCM, SEALED, SEALED, FOTSGURE_GCM_REFUSED, \
-        fotsgure_gcm_open(&gcm, nonce, nonce_bytes, additional, extra + 1, data, bytes, tag, 16)) \
+        fotsgure_gcm_open(&gcm, nonce, nonce_bytes, CHANGED, tag, 16)) \
     IT(gcm_seal_pieces, OF_MESSAGES, GCM, PLAIN, SEALED, 0, seal_in_pieces()) \
     IT(gcm_open_pieces, OF_MESSAGES, GCM, SEALED, PLAIN, 0, open_in_pieces()) \
     IT(gcm_open_pieces_refused, OF_MESSAGES, GCM, SEALED, SEALED, FOTSGURE_GCM_REFUSED, (extra++, open_in_pieces())) \
     IT(gcm_open_unverified, OF_MESSAGES, GCM, SEALED, PLAIN, 0, open_unverified()) \
     IT(siv_set_key, NOTHING, SIV, PLAIN, PLAIN, 0, fotsgure_gcm_siv_set_key(&siv, key, size)) \
     IT(siv_wipe, NOTHING, SIV, PLAIN, PLAIN, 0, (fotsgure_gcm_siv_wipe(&siv), 0)) \
-    IT(siv_seal, OF_MESSAGES, SIV, PLAIN, SEALED, 0, fotsgure_gcm_siv_seal(&siv, nonce, additional, extra, data, bytes, tag)) \
-    IT(siv_open, OF_MESSAGES, SIV, SEALED, PLAIN, 0, fotsgure_gcm_siv_open(&siv, nonce, additional, extra, data, bytes, tag)) \
+    IT(siv_seal, OF_MESSAGES, SIV, PLAIN, SEALED, 0, fotsgure_gcm_siv_seal(&siv, nonce, MESSAGE, tag)) \
+    IT(siv_open, OF_MESSAGES, SIV, SEALED, PLAIN, 0, fotsgure_gcm_siv_open(&siv, nonce, MESSAGE, tag)) \
     IT(siv_open_refused, OF_MESSAGES, SIV, SEALED, SEALED, FOTSGURE_GCM_REFUSED, \
-        fotsgure_gcm_siv_open(&siv, nonce, additional, extra + 1, data, bytes, tag))
+        fotsgure_gcm_siv_open(&siv, nonce, CHANGED, tag))
 #define DEFINED(name, takes, mode, from, to, wanted, call) static void call_##name(void) { said((int)(call)); }
 #define LISTED(name, takes, mode, from, to, wanted, call) {#name, call_##name, takes, mode, from, to, wanted},
 CALLS(DEFINED)
