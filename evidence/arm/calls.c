@@ -283,12 +283,13 @@ static int is_same(size_t at, size_t length) {
         same &= memcmp(images[other] + at, images[0] + at, length) == 0;
     return same;
 }
-/* Counts the bytes of a run's stack that other keys leave otherwise: those that are known, by pieces, and the others. */
-static void count_left(int run, size_t *is_known, size_t *is_secret) {
+/* Counts the bytes of a run's stack that other keys leave otherwise: those that are known, by pieces, and the others. It begins 64
+ * bytes below the deepest place. */
+static void count_left(int run, size_t deep, size_t *is_known, size_t *is_secret) {
     *is_known = *is_secret = 0;
-    for (size_t i = 0, piece; i < STACK; i += piece) {
-        piece = i % 8 == 0 && is_same(i, 8) ? 8 : 1;
-        if (piece == 8 || is_same(i, 1))
+    for (size_t i = deep + 64 < STACK ? (STACK - deep - 64) / 64 * 64 : 0, piece; i < STACK; i += piece) {
+        piece = i % 64 == 0 && is_same(i, 64) ? 64 : 1;
+        if (piece == 64 || is_same(i, 1))
             continue;
         const uint8_t *at = i + PIECE > STACK ? NULL : memmem(known[run], known_bytes[run], images[run] + i, PIECE);
         for (; at && at + piece < known[run] + known_bytes[run] && i + piece < STACK && at[piece] == images[run][i + piece];)
@@ -312,7 +313,7 @@ static void at_length(const struct call *call) {
         while (deep && images[0][STACK - deep] == FILL)
             deep--;
         for (int of_key = 0; of_key < RUNS; of_key++) {
-            count_left(of_key, &is_known, &is_secret);
+            count_left(of_key, deep, &is_known, &is_secret);
             printf("%s\t%zu\t%zu\t%llu\t%s\t%zu\t%zu\t%zu\n", call->name, 8 * size, call->takes == OF_BLOCKS ? count : bytes,
                 call->takes == OF_MESSAGES ? 1000 * nonce_bytes + extra : (unsigned long long)position,
                 did[of_key] ? "done" : "NOT DONE", deep, is_known, is_secret);

@@ -21,6 +21,8 @@ void qemu_plugin_register_atexit_cb(qemu_plugin_id_t, void (*)(qemu_plugin_id_t,
 size_t qemu_plugin_tb_n_insns(const struct qemu_plugin_tb *);
 struct qemu_plugin_insn *qemu_plugin_tb_get_insn(const struct qemu_plugin_tb *, size_t);
 const void *qemu_plugin_insn_data(const struct qemu_plugin_insn *);
+uint64_t qemu_plugin_tb_vaddr(const struct qemu_plugin_tb *);
+void qemu_plugin_register_vcpu_tb_exec_cb(struct qemu_plugin_tb *, void (*)(unsigned, void *), int, void *);
 uint64_t qemu_plugin_insn_vaddr(const struct qemu_plugin_insn *);
 __attribute__((visibility("default"))) int qemu_plugin_version = 1;
 
@@ -40,10 +42,11 @@ static uint64_t mixed(uint64_t hash, uint64_t with) {
     hash = (hash ^ with) * 0x9e3779b97f4a7c15u;
     return hash ^ hash >> 29;
 }
-static void executed(unsigned cpu, void *at) {
+/* What runs is followed by blocks of instructions, which run whole: by how many they are, and the address of the first. */
+static void executed(unsigned cpu, void *of) {
     (void)cpu;
-    instructions++;
-    order = mixed(order, (uintptr_t)at);
+    instructions += (uintptr_t)of >> 48;
+    order = mixed(order, (uintptr_t)of);
 }
 static void accessed(unsigned cpu, qemu_plugin_meminfo_t how, uint64_t address, void *at) {
     (void)cpu, (void)at;
@@ -59,16 +62,28 @@ static void ended(unsigned cpu, void *at) {
         (unsigned long long)places);
 }
 
+static uint32_t code_of(const struct qemu_plugin_insn *it) {
+    uint32_t code;
+    memcpy(&code, qemu_plugin_insn_data(it), sizeof code);
+    return code;
+}
+static void *numbered(size_t count, uint64_t address) { return (void *)((uintptr_t)count << 48 | (uintptr_t)address); }
+/* A block with a mark is followed by its instructions. */
 static void translated(qemu_plugin_id_t id, struct qemu_plugin_tb *block) {
     (void)id;
-    for (size_t i = 0; i < qemu_plugin_tb_n_insns(block); i++) {
+    size_t count = qemu_plugin_tb_n_insns(block), marks = 0;
+    for (size_t i = 0; i < count; i++) {
+        uint32_t code = code_of(qemu_plugin_tb_get_insn(block, i));
+        marks += code == BEGIN || code == END;
+    }
+    if (!marks)
+        qemu_plugin_register_vcpu_tb_exec_cb(block, executed, NO_REGISTERS, numbered(count, qemu_plugin_tb_vaddr(block)));
+    for (size_t i = 0; i < count; i++) {
         struct qemu_plugin_insn *it = qemu_plugin_tb_get_insn(block, i);
-        uint32_t code;
-        memcpy(&code, qemu_plugin_insn_data(it), sizeof code);
-        void (*call)(unsigned, void *) = code == BEGIN ? began : code == END ? ended : executed;
-        void *at = (void *)(uintptr_t)qemu_plugin_insn_vaddr(it);
-        qemu_plugin_register_vcpu_insn_exec_cb(it, call, NO_REGISTERS, at);
-        qemu_plugin_register_vcpu_mem_cb(it, accessed, NO_REGISTERS, READS_AND_WRITES, at);
+        void (*call)(unsigned, void *) = code_of(it) == BEGIN ? began : code_of(it) == END ? ended : executed;
+        if (marks)
+            qemu_plugin_register_vcpu_insn_exec_cb(it, call, NO_REGISTERS, numbered(1, qemu_plugin_insn_vaddr(it)));
+        qemu_plugin_register_vcpu_mem_cb(it, accessed, NO_REGISTERS, READS_AND_WRITES, NULL);
     }
 }
 static void closed(qemu_plugin_id_t id, void *nothing) {
