@@ -594,7 +594,8 @@ def vpermq(m, name, to, source, order):
 def punpckl(m, name, *operands):
     a, b = sources(m, name, operands)
     lane = {"bw": 1, "wd": 2, "dq": 4, "qdq": 8}[name.split("punpckl")[1]]
-    m.put_vector(name, operands[0], [x for i in range(0, len(a), 16) for k in range(i, i + 8, lane) for x in a[k:k + lane] + b[k:k + lane]])
+    m.put_vector(name, operands[0], [x for i in range(0, len(a), 16) for k in range(i, i + 8, lane)
+                                     for x in a[k:k + lane] + b[k:k + lane]])
 
 
 @op("pblendw", "vpblendw", "vpblendd")
@@ -623,7 +624,8 @@ def movss(m, name, to, source):
 
 @op("pcmpeqb", "vpcmpeqb")
 def pcmpeqb(m, name, *operands):
-    m.put_vector(name, operands[0], [m.equality(m.domain.xor_byte(x, y), 255, 0) for x, y in zip(*sources(m, name, operands))])
+    m.put_vector(name, operands[0], [m.equality(m.domain.xor_byte(x, y), 255, 0)
+                                     for x, y in zip(*sources(m, name, operands))])
 
 
 @op("pmovmskb", "vpmovmskb")
