@@ -29,7 +29,7 @@ class KeyedSiv(KeyedGcm):
         self.struct = [self.byte_for_any(b) for b in m.regions["siv"].content]
         fixed = self.struct[:4] + self.struct[4 + 4 * len(self.w):]
         compare(self.domain, fixed, [self.key_size] + [0] * (len(fixed) - 1), "the length and what no round key takes")
-        self.make_message()
+        self.once("message", self.make_message)
         return m
 
     def set_key_refused(self, length):
