@@ -65,8 +65,9 @@ class Aarch64(Machine):
             if isinstance(o, Memory):
                 if o.index:
                     self.general[o.index] = 16
-                if o.base != "sp":
-                    self.general[o.base] = self.offset(place, -o.before - o.offset - (16 * o.scale if o.index else 0))
+                back = -o.before - o.offset - (16 * o.scale if o.index else 0)
+                at = place._replace(base="stack") if o.base == "sp" else place
+                self.general[o.base] = self.offset(at, back // 16 * 16 if o.base == "sp" else back)
             elif isinstance(o, Register) and instruction.name in ("br", "blr"):
                 self.general[o.name] = self.program.symbols["start"]
         self.general["x30"] = RETURN_ADDRESS

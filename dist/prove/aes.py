@@ -14,7 +14,8 @@ from standards import ICV1, ICV2, Aes, number
 # The header's enum, structs and sizes; prove.py has the compiler compare them.
 DONE, KEY_LENGTH, NO_KEY, UNEQUAL_COUNTS, KEYSTREAM_END, INVALID_COUNT, REFUSED = range(7)
 STATUSES = "DONE KEY_LENGTH NO_KEY UNEQUAL_COUNTS KEYSTREAM_END INVALID_COUNT REFUSED".split()
-STRUCTS = {"fotsgure_aes": (484, {"key_length": 0, "round_keys": 4}), "fotsgure_aes_ctr": (24, {"iv": 0, "position": 16}),
+STRUCTS = {"fotsgure_aes": (484, {"key_length": 0, "round_keys": 4}),
+           "fotsgure_aes_ctr": (24, {"iv": 0, "position": 16}),
            "fotsgure_aes_cbc": (16, {"previous": 0})}
 STRUCT = 484
 
@@ -36,7 +37,8 @@ class Keyed:
         self.w = [[self.domain.fresh("w[%d][%d]" % (i, k), KEY) for k in range(4)] for i in range(len(self.key_words))]
         self.name_round_keys()
         self.first = [self.domain.fresh("byte %d" % i, DATA, True) for i in range(16)]
-        self.ciphers = {"encrypt": self.aes.cipher(self.first, self.w), "decrypt": self.aes.inv_cipher(self.first, self.w)}
+        self.ciphers = {"encrypt": self.aes.cipher(self.first, self.w),
+                        "decrypt": self.aes.inv_cipher(self.first, self.w)}
         self.kept = {}
 
     def name_round_keys(self):
@@ -118,7 +120,8 @@ class Keyed:
 
     def wipe(self):
         """Overwrites *aes with zeros: it then holds no key. It may be uninitialized"""
-        return Call(self.library + "_wipe", [Buffer(self.library, self.undefined(self.struct_size), [0] * self.struct_size)], None)
+        return Call(self.library + "_wipe",
+                    [Buffer(self.library, self.undefined(self.struct_size), [0] * self.struct_size)], None)
 
     def schedule(self):
         return Buffer(self.library, self.struct)
@@ -135,19 +138,21 @@ class Keyed:
 
     def blocks(self, direction, count, way=""):
         """Encrypts (Cipher, FIPS 197, 5.1) or decrypts (InvCipher, 5.3) each of `count` blocks in place under the key
-        of *aes. DONE. With _to: The same from one buffer to another; counts are in blocks. With _with: In one call, under
-        a key"""
+        of *aes. DONE. With _to: The same from one buffer to another; counts are in blocks. With _with: In one call,
+        under a key"""
         content, results = self.content(count), self.results(direction, count)
         return self.in_each_way("aes_%s_blocks" % direction, way, [], "blocks", content, results, count,
                                 plain=content if direction == "encrypt" else results)
 
     def in_each_way(self, name, way, state, data_name, data, results, count, **more):
-        """A call that changes data under the key of *aes or, with _with, under a key; or, with _to, that writes to another
-        buffer. `state` is what it takes between the key and the data."""
+        """A call that changes data under the key of *aes or, with _with, under a key; or, with _to, that writes to
+        another buffer. `state` is what it takes between the key and the data."""
         if way == "_to":
-            arguments = [self.schedule(), *state, Buffer("input", data), count, Buffer("output", self.undefined(len(data)), results), count]
+            arguments = [self.schedule(), *state, Buffer("input", data), count,
+                         Buffer("output", self.undefined(len(data)), results), count]
         elif way == "_with":
-            arguments = [Buffer("key", self.key), self.key_size, *state, Buffer(data_name, self.not_yet(data_name, len(data)), results), count]
+            arguments = [Buffer("key", self.key), self.key_size, *state,
+                         Buffer(data_name, self.not_yet(data_name, len(data)), results), count]
             more["later"] = lambda m: self.go_on(m, {data_name: data})
         else:
             arguments = [self.schedule(), *state, Buffer(data_name, data, results), count]
@@ -196,7 +201,8 @@ class Keyed:
         low, name = self.counter()[0], "counter low, from %d" % first
         d = self.domain
         d.words[name] = lambda offset, k: d.bits(d.byte_in_block(low[7 - k], offset - first + 1))
-        iv = [b for base in ("counter high", name) for b in [domain.opaque((Pointer(base, 0), k)) for k in range(8)][::-1]]
+        iv = [b for base in ("counter high", name)
+              for b in [domain.opaque((Pointer(base, 0), k)) for k in range(8)][::-1]]
         return iv, name
 
     def keystream(self, position, count, wrap):
@@ -212,13 +218,14 @@ class Keyed:
 
     def add_keystream(self, position, count, wrap=NEVER, way=""):
         """adds (XOR) to each of `count` bytes the keystream's byte at its place, the first at ctr->position, and moves
-        the position on by `count`. .. (iv + i / 16) modulo 2^128. .. DONE. With _to: The same from one buffer to another;
-        counts are in bytes. With _with: In one call, under a key"""
+        the position on by `count`. .. (iv + i / 16) modulo 2^128. .. DONE. With _to: The same from one buffer to
+        another; counts are in bytes. With _with: In one call, under a key"""
         data, want, stream = self.keystream(position, count, wrap)
         before, name = self.counter_words(self.key_domain if way == "_with" else self.domain, position // 16)
         after, _ = self.counter_words(self.domain, position // 16)
         ctr = Buffer("ctr", before + number(position, 8)[::-1], after + number(position + count, 8)[::-1])
-        return self.in_each_way("aes_add_keystream", way, [ctr], "bytes", data, want, count, counter=Counter(name, position // 16, wrap),
+        return self.in_each_way("aes_add_keystream", way, [ctr], "bytes", data, want, count,
+                                counter=Counter(name, position // 16, wrap),
                                 keystream=stream, plain=data + want, may_stay=("plain",) if way == "_to" else ())
 
     # CBC (SP 800-38A, 6.2).
@@ -229,7 +236,8 @@ class Keyed:
         content = self.content(count)
         chain = previous + content
         want = self.aes.xor(self.results("decrypt", count), chain)
-        return Call("aes_cbc_decrypt", [self.schedule(), Buffer("cbc", previous, chain[-16:]), Buffer("blocks", content, want), count],
+        return Call("aes_cbc_decrypt", [self.schedule(), Buffer("cbc", previous, chain[-16:]),
+                                        Buffer("blocks", content, want), count],
                     DONE, plain=want)
 
     def cbc_encrypt(self, count):
@@ -280,7 +288,8 @@ class Keyed:
         def steps():
             for k in range(1, 6 * n + 1):  # t is 6n + 1 - k
                 done_a = start if k == 6 * n else self.aes.xor(self.of(a, k), number(6 * n - k, 8))
-                yield "vector", self.of(self.ciphers["decrypt"], k - 1), done_a + (last if k == 5 * n + 1 else self.of(r, k - 1 + n))
+                done_r = last if k == 5 * n + 1 else self.of(r, k - 1 + n)
+                yield "vector", self.of(self.ciphers["decrypt"], k - 1), done_a + done_r
         key = [x for i in range(n) for x in (last if i == n - 1 else self.of(r, 7 * n - 1 - i))]
         return steps, wrapped, start, key
 
@@ -289,16 +298,18 @@ class Keyed:
         key has two or more, and becomes one more. .. DONE"""
         steps, key, wrapped = self.wrap_string(ICV1, count, self.first[8:])
         output = Buffer("output", self.undefined(8 * count + 8), wrapped)
-        return Call("aes_wrap", [self.schedule(), Buffer("input", key), count, output, count + 1], DONE, steps=steps, plain=key,
-                    may_stay=("plain",))
+        return Call("aes_wrap", [self.schedule(), Buffer("input", key), count, output, count + 1], DONE, steps=steps,
+                    plain=key, may_stay=("plain",))
 
     def unwrap(self, count):
         """.. fotsgure_aes_unwrap also REFUSED, and the output then is all zeros; else DONE. Whether the key is right is
         the only thing that a branch tells."""
         n = count - 1
         steps, wrapped, start, key = self.unwrap_string(n)
-        return Call("aes_unwrap", [self.schedule(), Buffer("input", wrapped), count, Buffer("output", self.undefined(8 * n), key), n],
-                    DONE, steps=steps, reveals=self.aes.xor(start, ICV1), refused=REFUSED, refused_after={"output": [0] * 8 * n}, plain=key)
+        return Call("aes_unwrap", [self.schedule(), Buffer("input", wrapped), count,
+                                   Buffer("output", self.undefined(8 * n), key), n],
+                    DONE, steps=steps, reveals=self.aes.xor(start, ICV1), refused=REFUSED,
+                    refused_after={"output": [0] * 8 * n}, plain=key)
 
     def wrap_padded(self, length):
         """Key wrap with padding (KWP, SP 800-38F, 6.3; RFC 5649) .. what is wrapped has one semiblock more than the key
@@ -310,8 +321,8 @@ class Keyed:
         else:
             steps, key, wrapped = self.wrap_string(start, n, last)
         output = Buffer("output", self.undefined(8 * n + 8), wrapped)
-        return Call("aes_wrap_padded", [self.schedule(), Buffer("input", key[:length]), length, output, n + 1], DONE, steps=steps,
-                    plain=key, may_stay=("plain",))
+        return Call("aes_wrap_padded", [self.schedule(), Buffer("input", key[:length]), length, output, n + 1], DONE,
+                    steps=steps, plain=key, may_stay=("plain",))
 
     def unwrap_padded(self, length):
         """And back: both counts are in semiblocks, and the output has one less. Afterwards *key_length is how many
@@ -330,13 +341,14 @@ class Keyed:
             steps, wrapped, _, key = self.unwrap_string(n, start, last)
         output = Buffer("output", self.undefined(8 * n), key if status == DONE else [0] * 8 * n)
         key_length = Buffer("key_length", self.undefined(8), number(length if status == DONE else 0, 8)[::-1])
-        return Call("aes_unwrap_padded", [self.schedule(), Buffer("input", wrapped), n + 1, output, n, key_length], status, steps=steps,
-                    plain=key)
+        return Call("aes_unwrap_padded", [self.schedule(), Buffer("input", wrapped), n + 1, output, n, key_length],
+                    status, steps=steps, plain=key)
 
     def unwrap_padded_refused(self):
         """.. REFUSED, and the output then is all zeros .. In all cases but DONE *key_length is 0. Shown for some first
         semiblocks that no length has, and for padding that isn't zeros, with all keys."""
-        starts = (ICV1, ICV2 + number(8, 4), ICV2 + number(2 ** 32 - 1, 4), ICV2[:3] + [0xa7] + number(16, 4), ICV2 + number(17, 4))
+        starts = (ICV1, ICV2 + number(8, 4), ICV2 + number(2 ** 32 - 1, 4), ICV2[:3] + [0xa7] + number(16, 4),
+                  ICV2 + number(17, 4))
         calls = [self.unwrap_padded_to(start, 16, REFUSED) for start in starts]
         return calls + [self.unwrap_padded_to(ICV2 + number(13, 4), 13, REFUSED, filler=1)]
 
@@ -345,20 +357,23 @@ class Keyed:
         """NO_KEY .. UNEQUAL_COUNTS if they differ .. KEYSTREAM_END if the position would pass 2^64 - 1 .. INVALID_COUNT
         if keys of so many semiblocks are not wrapped, or the output isn't one longer or one shorter"""
         key, none, data = self.schedule(), self.no_key(), self.content(3)
-        same, two, out = (lambda name: Buffer(name, data, data)), Buffer("input", data[:32]), lambda: Buffer("output", data, data)
-        ctr = lambda position: Buffer("ctr", data[:16] + number(position, 8)[::-1], data[:16] + number(position, 8)[::-1])
+        two, same, out = Buffer("input", data[:32]), lambda name: Buffer(name, data, data), lambda: same("output")
+        ctr = lambda position: Buffer("ctr", *[data[:16] + number(position, 8)[::-1]] * 2)
         cbc, nothing = Buffer("cbc", data[:16], data[:16]), Buffer("key_length", data[:8], [0] * 8)
         for direction in ("encrypt", "decrypt"):
             name = "aes_" + direction + "_blocks"
             yield Call(name, [none, same("blocks"), 3], NO_KEY)
-            for aes, counts, status in ((none, (2, 2), NO_KEY), (key, (2, 3), UNEQUAL_COUNTS), (none, (2, 1), UNEQUAL_COUNTS)):
+            for aes, counts, status in ((none, (2, 2), NO_KEY), (key, (2, 3), UNEQUAL_COUNTS),
+                                        (none, (2, 1), UNEQUAL_COUNTS)):
                 yield Call(name + "_to", [aes, two, counts[0], out(), counts[1]], status)
             yield Call("aes_cbc_" + direction, [none, cbc, same("blocks"), 3], NO_KEY)
         for aes, position, count, status in ((none, 0, 16, NO_KEY), (none, 2 ** 64 - 16, 16, KEYSTREAM_END),
-                                             (key, 2 ** 64 - 1, 1, KEYSTREAM_END), (key, 2 ** 64 - 48, 48, KEYSTREAM_END)):
+                                             (key, 2 ** 64 - 1, 1, KEYSTREAM_END),
+                                             (key, 2 ** 64 - 48, 48, KEYSTREAM_END)):
             yield Call("aes_add_keystream", [aes, ctr(position), same("bytes"), count], status)
             yield Call("aes_add_keystream_to", [aes, ctr(position), Buffer("input", data), count, out(), count], status)
-            yield Call("aes_add_keystream_to", [aes, ctr(position), Buffer("input", data), count, out(), count - 1], UNEQUAL_COUNTS)
+            yield Call("aes_add_keystream_to", [aes, ctr(position), Buffer("input", data), count, out(), count - 1],
+                       UNEQUAL_COUNTS)
         for aes, counts, status in ((none, (2, 3), NO_KEY), (key, (1, 2), INVALID_COUNT), (key, (2, 2), INVALID_COUNT),
                                     (key, (0, 1), INVALID_COUNT), (key, (2 ** 54, 2 ** 54 + 1), INVALID_COUNT)):
             yield Call("aes_wrap", [aes, two, counts[0], out(), counts[1]], status)

@@ -1,6 +1,7 @@
 """Each form of an instruction by itself, with random values, on the machine and on the processor: so no form that a
-proof has used is left without a comparison. The symbolic bytes are functions of one cell, so all that a meaning computes
-can be computed. A form that can't be run with what was drawn is tried with other values, with constants too."""
+proof has used is left without a comparison. The symbolic bytes are functions of one cell, so all that a meaning
+computes can be computed. A form that can't be run with what was drawn is tried with other values, with constants
+too."""
 import random
 
 from bits import DATA, Domain, Unproved
@@ -23,7 +24,8 @@ class Drawn:
     def number(self, size):
         """Small ones too, as counts and indices are."""
         r = self.random
-        return r.choice((r.getrandbits(8 * size), r.getrandbits(8 * size), r.getrandbits(5), -1 - r.getrandbits(5))) & (1 << 8 * size) - 1
+        return r.choice((r.getrandbits(8 * size), r.getrandbits(8 * size), r.getrandbits(5),
+                         -1 - r.getrandbits(5))) & (1 << 8 * size) - 1
 
     def bytes(self, count):
         if self.constant or self.random.random() < 0.3:

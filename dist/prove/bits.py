@@ -262,7 +262,7 @@ class Domain:
         """Lets cells stand for bytes in products."""
         for b in bytes_:
             if self.symbolic(b):
-                cell = self.cell("a sum", False, KEY | DATA)
+                cell = self.cell("a sum", False, functools.reduce(int.__or__, map(self.depends_on, self.bits(b))))
                 self.definitions[cell] = [x & ~1 for x in self.bits(b)]
                 for j, x in enumerate(self.definitions[cell]):
                     if x:

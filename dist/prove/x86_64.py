@@ -65,8 +65,9 @@ class X86_64(Machine):
             if isinstance(o, Mem) and instruction.name != "lea":
                 if o.index:
                     self.general[o.index] = 16
-                if o.base and o.base != "rsp":
-                    self.general[o.base] = self.offset(place, -o.disp - (16 * o.scale if o.index else 0))
+                if o.base:
+                    at = place._replace(base="stack") if o.base == "rsp" else place
+                    self.general[o.base] = self.offset(at, -o.disp - (16 * o.scale if o.index else 0))
             elif isinstance(o, Reg) and instruction.name in ("jmp", "call"):
                 self.general[o.name] = self.program.symbols["start"]
 
