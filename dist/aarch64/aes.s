@@ -9559,6 +9559,7 @@
 	.p2align	2
 	.type	fotsgure_aes_add_keystream_with,@function
 fotsgure_aes_add_keystream_with:        // @fotsgure_aes_add_keystream_with
+	hint	#34
 // %bb.0:                               // %start
 	sub	sp, sp, #320
 	mov	w10, #4096                      // =0x1000
@@ -9636,6 +9637,7 @@ fotsgure_aes_add_keystream_with:        // @fotsgure_aes_add_keystream_with
 	.p2align	2
 	.type	fotsgure_aes_encrypt_blocks_with,@function
 fotsgure_aes_encrypt_blocks_with:       // @fotsgure_aes_encrypt_blocks_with
+	hint	#34
 // %bb.0:                               // %start
 	cmp	x2, #0
 	mov	w10, #4096                      // =0x1000
@@ -9714,6 +9716,7 @@ fotsgure_aes_encrypt_blocks_with:       // @fotsgure_aes_encrypt_blocks_with
 	.p2align	2
 	.type	fotsgure_aes_set_key,@function
 fotsgure_aes_set_key:                   // @fotsgure_aes_set_key
+	hint	#34
 // %bb.0:                               // %start
 	cmp	x1, #0
 	mov	w8, #4096                       // =0x1000
@@ -9728,6 +9731,7 @@ fotsgure_aes_set_key:                   // @fotsgure_aes_set_key
 	.p2align	2
 	.type	fotsgure_aes_version,@function
 fotsgure_aes_version:                   // @fotsgure_aes_version
+	hint	#34
 // %bb.0:                               // %start
 	mov	w0, #300                        // =0x12c
 	ret
@@ -9739,6 +9743,7 @@ fotsgure_aes_version:                   // @fotsgure_aes_version
 	.p2align	2
 	.type	fotsgure_aes_wipe,@function
 fotsgure_aes_wipe:                      // @fotsgure_aes_wipe
+	hint	#34
 // %bb.0:                               // %start
 	stp	x29, x30, [sp, #-32]!           // 16-byte Folded Spill
 	movi	v0.2d, #0000000000000000
@@ -9775,6 +9780,7 @@ fotsgure_aes_wipe:                      // @fotsgure_aes_wipe
 	.p2align	2
 	.type	fotsgure_aes_key_length,@function
 fotsgure_aes_key_length:                // @fotsgure_aes_key_length
+	hint	#34
 // %bb.0:                               // %start
 	ldr	w0, [x0]
 	mov	w8, #1                          // =0x1
@@ -9798,6 +9804,7 @@ fotsgure_aes_key_length:                // @fotsgure_aes_key_length
 	.p2align	2
 	.type	fotsgure_aes_cbc_encrypt,@function
 fotsgure_aes_cbc_encrypt:               // @fotsgure_aes_cbc_encrypt
+	hint	#34
 // %bb.0:                               // %start
 	sub	sp, sp, #80
 	ldr	w8, [x0]
@@ -9863,6 +9870,7 @@ fotsgure_aes_cbc_encrypt:               // @fotsgure_aes_cbc_encrypt
 	.p2align	2
 	.type	fotsgure_aes_encrypt_blocks,@function
 fotsgure_aes_encrypt_blocks:            // @fotsgure_aes_encrypt_blocks
+	hint	#34
 // %bb.0:                               // %start
 	stp	x29, x30, [sp, #-64]!           // 16-byte Folded Spill
 	ldr	w8, [x0]
@@ -9924,6 +9932,7 @@ fotsgure_aes_encrypt_blocks:            // @fotsgure_aes_encrypt_blocks
 	.p2align	2
 	.type	fotsgure_aes_encrypt_blocks_to,@function
 fotsgure_aes_encrypt_blocks_to:         // @fotsgure_aes_encrypt_blocks_to
+	hint	#34
 // %bb.0:                               // %start
 	mov	w8, #4096                       // =0x1000
 	cmp	x1, #0
@@ -10034,6 +10043,7 @@ fotsgure_aes_encrypt_blocks_to:         // @fotsgure_aes_encrypt_blocks_to
 	.p2align	2
 	.type	fotsgure_aes_wrap,@function
 fotsgure_aes_wrap:                      // @fotsgure_aes_wrap
+	hint	#34
 // %bb.0:                               // %start
 	ldr	w8, [x0]
 	mov	w9, #1                          // =0x1
@@ -10082,6 +10092,7 @@ fotsgure_aes_wrap:                      // @fotsgure_aes_wrap
 	.p2align	2
 	.type	fotsgure_aes_wrap_padded,@function
 fotsgure_aes_wrap_padded:               // @fotsgure_aes_wrap_padded
+	hint	#34
 // %bb.0:                               // %start
 	ldr	w8, [x0]
 	mov	w9, #1                          // =0x1
@@ -10130,6 +10141,7 @@ fotsgure_aes_wrap_padded:               // @fotsgure_aes_wrap_padded
 	.p2align	2
 	.type	fotsgure_aes_cbc_decrypt,@function
 fotsgure_aes_cbc_decrypt:               // @fotsgure_aes_cbc_decrypt
+	hint	#34
 // %bb.0:                               // %start
 	stp	x29, x30, [sp, #-96]!           // 16-byte Folded Spill
 	stp	x28, x27, [sp, #16]             // 16-byte Folded Spill
@@ -10258,6 +10270,7 @@ fotsgure_aes_cbc_decrypt:               // @fotsgure_aes_cbc_decrypt
 	.p2align	2
 	.type	fotsgure_aes_decrypt_blocks,@function
 fotsgure_aes_decrypt_blocks:            // @fotsgure_aes_decrypt_blocks
+	hint	#34
 // %bb.0:                               // %start
 	stp	x29, x30, [sp, #-64]!           // 16-byte Folded Spill
 	ldr	w8, [x0]
@@ -10319,6 +10332,7 @@ fotsgure_aes_decrypt_blocks:            // @fotsgure_aes_decrypt_blocks
 	.p2align	2
 	.type	fotsgure_aes_decrypt_blocks_to,@function
 fotsgure_aes_decrypt_blocks_to:         // @fotsgure_aes_decrypt_blocks_to
+	hint	#34
 // %bb.0:                               // %start
 	mov	w8, #4096                       // =0x1000
 	cmp	x1, #0
@@ -10430,6 +10444,7 @@ fotsgure_aes_decrypt_blocks_to:         // @fotsgure_aes_decrypt_blocks_to
 	.p2align	2
 	.type	fotsgure_aes_decrypt_blocks_with,@function
 fotsgure_aes_decrypt_blocks_with:       // @fotsgure_aes_decrypt_blocks_with
+	hint	#34
 // %bb.0:                               // %start
 	stp	x29, x30, [sp, #-80]!           // 16-byte Folded Spill
 	str	x28, [sp, #16]                  // 8-byte Spill
@@ -10515,6 +10530,7 @@ fotsgure_aes_decrypt_blocks_with:       // @fotsgure_aes_decrypt_blocks_with
 	.p2align	2
 	.type	fotsgure_aes_unwrap,@function
 fotsgure_aes_unwrap:                    // @fotsgure_aes_unwrap
+	hint	#34
 // %bb.0:                               // %start
 	ldr	w8, [x0]
 	mov	w9, #1                          // =0x1
@@ -10568,6 +10584,7 @@ fotsgure_aes_unwrap:                    // @fotsgure_aes_unwrap
 	.p2align	2
 	.type	fotsgure_aes_unwrap_padded,@function
 fotsgure_aes_unwrap_padded:             // @fotsgure_aes_unwrap_padded
+	hint	#34
 // %bb.0:                               // %start
 	sub	sp, sp, #64
 	str	xzr, [x5]
@@ -10639,6 +10656,7 @@ fotsgure_aes_unwrap_padded:             // @fotsgure_aes_unwrap_padded
 	.p2align	2
 	.type	fotsgure_aes_add_keystream,@function
 fotsgure_aes_add_keystream:             // @fotsgure_aes_add_keystream
+	hint	#34
 // %bb.0:                               // %start
 	stp	x29, x30, [sp, #-32]!           // 16-byte Folded Spill
 	stp	x20, x19, [sp, #16]             // 16-byte Folded Spill
@@ -10693,6 +10711,7 @@ fotsgure_aes_add_keystream:             // @fotsgure_aes_add_keystream
 	.p2align	2
 	.type	fotsgure_aes_add_keystream_to,@function
 fotsgure_aes_add_keystream_to:          // @fotsgure_aes_add_keystream_to
+	hint	#34
 // %bb.0:                               // %start
 	mov	w8, #4096                       // =0x1000
 	cmp	x2, #0
@@ -10871,3 +10890,9 @@ fotsgure_aes_add_keystream_to:          // @fotsgure_aes_add_keystream_to
 
 	.ident	"rattle logic=dac8208d650f15bf3e2dc313a14fa4c783a3acf887bdfab66e1714b038d9e11b"
 	.section	".note.GNU-stack","",@progbits
+
+	.section	".note.gnu.property","a",%note
+	.p2align	3, 0x0
+	.long	4, 16, 5
+	.asciz	"GNU"
+	.long	0xc0000000, 4, 1, 0

@@ -10516,6 +10516,7 @@
 	.p2align	2
 	.type	fotsgure_gcm_set_key,@function
 fotsgure_gcm_set_key:                   // @fotsgure_gcm_set_key
+	hint	#34
 // %bb.0:                               // %start
 	stp	x29, x30, [sp, #-48]!           // 16-byte Folded Spill
 	cmp	x2, #32
@@ -10588,6 +10589,7 @@ fotsgure_gcm_set_key:                   // @fotsgure_gcm_set_key
 	.p2align	2
 	.type	fotsgure_gcm_siv_wipe,@function
 fotsgure_gcm_siv_wipe:                  // @fotsgure_gcm_siv_wipe
+	hint	#34
 // %bb.0:                               // %start
 	movi	v0.2d, #0000000000000000
 	mov	x8, x0
@@ -10611,6 +10613,7 @@ fotsgure_gcm_siv_wipe:                  // @fotsgure_gcm_siv_wipe
 	.p2align	2
 	.type	fotsgure_gcm_version,@function
 fotsgure_gcm_version:                   // @fotsgure_gcm_version
+	hint	#34
 // %bb.0:                               // %start
 	mov	w0, #300                        // =0x12c
 	ret
@@ -10622,6 +10625,7 @@ fotsgure_gcm_version:                   // @fotsgure_gcm_version
 	.p2align	2
 	.type	fotsgure_gcm_wipe,@function
 fotsgure_gcm_wipe:                      // @fotsgure_gcm_wipe
+	hint	#34
 // %bb.0:                               // %start
 	stp	x29, x30, [sp, #-32]!           // 16-byte Folded Spill
 	mov	w1, wzr
@@ -10648,6 +10652,7 @@ fotsgure_gcm_wipe:                      // @fotsgure_gcm_wipe
 	.p2align	2
 	.type	fotsgure_gcm_wipe_message,@function
 fotsgure_gcm_wipe_message:              // @fotsgure_gcm_wipe_message
+	hint	#34
 // %bb.0:                               // %start
 	movi	v0.2d, #0000000000000000
 	stp	q0, q0, [x0, #16]
@@ -10662,6 +10667,7 @@ fotsgure_gcm_wipe_message:              // @fotsgure_gcm_wipe_message
 	.p2align	2
 	.type	fotsgure_gcm_key_length,@function
 fotsgure_gcm_key_length:                // @fotsgure_gcm_key_length
+	hint	#34
 // %bb.0:                               // %start
 	ldr	w0, [x0]
 	mov	w8, #1                          // =0x1
@@ -10685,6 +10691,7 @@ fotsgure_gcm_key_length:                // @fotsgure_gcm_key_length
 	.p2align	2
 	.type	fotsgure_gcm_siv_set_key,@function
 fotsgure_gcm_siv_set_key:               // @fotsgure_gcm_siv_set_key
+	hint	#34
 // %bb.0:                               // %start
 	movi	v0.2d, #0000000000000000
 	cmp	x2, #32
@@ -10729,6 +10736,7 @@ fotsgure_gcm_siv_set_key:               // @fotsgure_gcm_siv_set_key
 	.p2align	2
 	.type	fotsgure_gcm_begin,@function
 fotsgure_gcm_begin:                     // @fotsgure_gcm_begin
+	hint	#34
 // %bb.0:                               // %start
 	mov	x8, #-2305843009213693952       // =0xe000000000000000
 	cmp	x2, #0
@@ -10796,6 +10804,7 @@ fotsgure_gcm_begin:                     // @fotsgure_gcm_begin
 	.p2align	2
 	.type	fotsgure_gcm_begin_next,@function
 fotsgure_gcm_begin_next:                // @fotsgure_gcm_begin_next
+	hint	#34
 // %bb.0:                               // %start
 	sub	sp, sp, #80
 	ldur	x9, [x2, #4]
@@ -10882,6 +10891,7 @@ fotsgure_gcm_begin_next:                // @fotsgure_gcm_begin_next
 	.p2align	2
 	.type	fotsgure_gcm_finish,@function
 fotsgure_gcm_finish:                    // @fotsgure_gcm_finish
+	hint	#34
 // %bb.0:                               // %start
 	ldr	w8, [x0]
 	mov	w9, #1                          // =0x1
@@ -10945,6 +10955,7 @@ fotsgure_gcm_finish:                    // @fotsgure_gcm_finish
 	.p2align	2
 	.type	fotsgure_gcm_open,@function
 fotsgure_gcm_open:                      // @fotsgure_gcm_open
+	hint	#34
 // %bb.0:                               // %start
 	sub	sp, sp, #144
 	cmp	x1, #0
@@ -11063,6 +11074,7 @@ fotsgure_gcm_open:                      // @fotsgure_gcm_open
 	.p2align	2
 	.type	fotsgure_gcm_seal,@function
 fotsgure_gcm_seal:                      // @fotsgure_gcm_seal
+	hint	#34
 // %bb.0:                               // %start
 	cmp	x1, #0
 	mov	w8, #4096                       // =0x1000
@@ -11083,6 +11095,7 @@ fotsgure_gcm_seal:                      // @fotsgure_gcm_seal
 	.p2align	2
 	.type	fotsgure_gcm_seal_next,@function
 fotsgure_gcm_seal_next:                 // @fotsgure_gcm_seal_next
+	hint	#34
 // %bb.0:                               // %start
 	ldur	x8, [x1, #4]
 	cmn	x8, #1
@@ -11154,6 +11167,7 @@ fotsgure_gcm_seal_next:                 // @fotsgure_gcm_seal_next
 	.p2align	2
 	.type	fotsgure_gcm_siv_open,@function
 fotsgure_gcm_siv_open:                  // @fotsgure_gcm_siv_open
+	hint	#34
 // %bb.0:                               // %start
 	cmp	x2, #0
 	mov	w8, #4096                       // =0x1000
@@ -11202,6 +11216,7 @@ fotsgure_gcm_siv_open:                  // @fotsgure_gcm_siv_open
 	.p2align	2
 	.type	fotsgure_gcm_siv_seal,@function
 fotsgure_gcm_siv_seal:                  // @fotsgure_gcm_siv_seal
+	hint	#34
 // %bb.0:                               // %start
 	cmp	x2, #0
 	mov	w8, #4096                       // =0x1000
@@ -11260,6 +11275,7 @@ fotsgure_gcm_siv_seal:                  // @fotsgure_gcm_siv_seal
 	.p2align	2
 	.type	fotsgure_gcm_additional,@function
 fotsgure_gcm_additional:                // @fotsgure_gcm_additional
+	hint	#34
 // %bb.0:                               // %start
 	ldr	w9, [x0]
 	cmp	x2, #0
@@ -11341,6 +11357,7 @@ fotsgure_gcm_additional:                // @fotsgure_gcm_additional
 	.p2align	2
 	.type	fotsgure_gcm_decrypt,@function
 fotsgure_gcm_decrypt:                   // @fotsgure_gcm_decrypt
+	hint	#34
 // %bb.0:                               // %start
 	ldr	w10, [x0]
 	cmp	x2, #0
@@ -11415,6 +11432,7 @@ fotsgure_gcm_decrypt:                   // @fotsgure_gcm_decrypt
 	.p2align	2
 	.type	fotsgure_gcm_decrypt_unverified,@function
 fotsgure_gcm_decrypt_unverified:        // @fotsgure_gcm_decrypt_unverified
+	hint	#34
 // %bb.0:                               // %start
 	sub	sp, sp, #96
 	ldr	w9, [x0]
@@ -11538,6 +11556,7 @@ fotsgure_gcm_decrypt_unverified:        // @fotsgure_gcm_decrypt_unverified
 	.p2align	2
 	.type	fotsgure_gcm_encrypt,@function
 fotsgure_gcm_encrypt:                   // @fotsgure_gcm_encrypt
+	hint	#34
 // %bb.0:                               // %start
 	sub	sp, sp, #96
 	ldr	w9, [x0]
@@ -11665,6 +11684,7 @@ fotsgure_gcm_encrypt:                   // @fotsgure_gcm_encrypt
 	.p2align	2
 	.type	fotsgure_gcm_verify,@function
 fotsgure_gcm_verify:                    // @fotsgure_gcm_verify
+	hint	#34
 // %bb.0:                               // %start
 	sub	sp, sp, #96
 	ldr	w9, [x0]
@@ -11790,6 +11810,7 @@ fotsgure_gcm_verify:                    // @fotsgure_gcm_verify
 	.p2align	2
 	.type	fotsgure_gcm_accept,@function
 fotsgure_gcm_accept:                    // @fotsgure_gcm_accept
+	hint	#34
 // %bb.0:                               // %start
 	cmp	x2, #0
 	mov	w8, #4096                       // =0x1000
@@ -11884,6 +11905,7 @@ fotsgure_gcm_accept:                    // @fotsgure_gcm_accept
 	.p2align	2
 	.type	fotsgure_gcm_accept_short,@function
 fotsgure_gcm_accept_short:              // @fotsgure_gcm_accept_short
+	hint	#34
 // %bb.0:                               // %start
 	sub	sp, sp, #112
 	cmp	x3, #0
@@ -11994,3 +12016,9 @@ fotsgure_gcm_accept_short:              // @fotsgure_gcm_accept_short
 
 	.ident	"rattle logic=dac8208d650f15bf3e2dc313a14fa4c783a3acf887bdfab66e1714b038d9e11b"
 	.section	".note.GNU-stack","",@progbits
+
+	.section	".note.gnu.property","a",%note
+	.p2align	3, 0x0
+	.long	4, 16, 5
+	.asciz	"GNU"
+	.long	0xc0000000, 4, 1, 0

@@ -262,6 +262,13 @@ def constant(what, value):
     return value
 
 
+@op("hint")
+def hint(m, name, number):
+    """BTI: where an indirect call may arrive."""
+    if number != 0x22:
+        raise Unproved("a hint that isn't BTI")
+
+
 # Numbers.
 @op("add", "adds")
 def add(m, name, to, a, b):

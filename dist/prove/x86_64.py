@@ -74,7 +74,8 @@ class X86_64(Machine):
     @staticmethod
     def decode(text, following):
         name, _, rest = text.split("#")[0].strip().partition(" ")
-        while name in ("cs", "data16", "addr32"):  # prefixes that fill up a nop, or a call that the linker shortened
+        # Prefixes that fill up a nop, or a call that the linker shortened; of a jump by a table, which may lead anywhere.
+        while name in ("cs", "data16", "addr32", "notrack"):
             name, _, rest = rest.strip().partition(" ")
         operands = [] if name == "nop" or not rest else [operand(o.strip(), name, following) for o in rest.split(",")]
         run = meaning(name)

@@ -1427,7 +1427,7 @@
 	leaq	.LJTI3_0(%rip), %r10
 	movslq	(%r10,%r9,4), %r9
 	addq	%r10, %r9
-	jmpq	*%r9
+	notrack jmpq	*%r9
 .LBB3_3:                                # %then.1.i
                                         #   in Loop: Header=BB3_2 Depth=1
 	pshufb	.LCPI3_12(%rip), %xmm1          # xmm1 = xmm1[0,13,10,7,4,1,14,11,8,5,2,15,12,9,6,3]
@@ -12007,6 +12007,7 @@
 	.p2align	4
 	.type	fotsgure_aes_add_keystream_with,@function
 fotsgure_aes_add_keystream_with:        # @fotsgure_aes_add_keystream_with
+	endbr64
 # %bb.0:                                # %start
 	pushq	%rbp
 	pushq	%r15
@@ -12095,6 +12096,7 @@ fotsgure_aes_add_keystream_with:        # @fotsgure_aes_add_keystream_with
 	.p2align	4
 	.type	fotsgure_aes_encrypt_blocks_with,@function
 fotsgure_aes_encrypt_blocks_with:       # @fotsgure_aes_encrypt_blocks_with
+	endbr64
 # %bb.0:                                # %start
 	pushq	%r15
 	pushq	%r14
@@ -12191,6 +12193,7 @@ fotsgure_aes_encrypt_blocks_with:       # @fotsgure_aes_encrypt_blocks_with
 	.p2align	4
 	.type	fotsgure_aes_set_key,@function
 fotsgure_aes_set_key:                   # @fotsgure_aes_set_key
+	endbr64
 # %bb.0:                                # %start
 	xorl	%eax, %eax
 	testq	%rsi, %rsi
@@ -12206,6 +12209,7 @@ fotsgure_aes_set_key:                   # @fotsgure_aes_set_key
 	.p2align	4
 	.type	fotsgure_aes_version,@function
 fotsgure_aes_version:                   # @fotsgure_aes_version
+	endbr64
 # %bb.0:                                # %start
 	movl	$300, %eax                      # imm = 0x12C
 	retq
@@ -12217,6 +12221,7 @@ fotsgure_aes_version:                   # @fotsgure_aes_version
 	.p2align	4
 	.type	fotsgure_aes_wipe,@function
 fotsgure_aes_wipe:                      # @fotsgure_aes_wipe
+	endbr64
 # %bb.0:                                # %start
 	pushq	%r14
 	pushq	%rbx
@@ -12241,6 +12246,7 @@ fotsgure_aes_wipe:                      # @fotsgure_aes_wipe
 	.p2align	4
 	.type	fotsgure_aes_key_length,@function
 fotsgure_aes_key_length:                # @fotsgure_aes_key_length
+	endbr64
 # %bb.0:                                # %start
 	movl	(%rdi), %ecx
 	xorl	%eax, %eax
@@ -12262,6 +12268,7 @@ fotsgure_aes_key_length:                # @fotsgure_aes_key_length
 	.p2align	4
 	.type	fotsgure_aes_cbc_encrypt,@function
 fotsgure_aes_cbc_encrypt:               # @fotsgure_aes_cbc_encrypt
+	endbr64
 # %bb.0:                                # %start
 	pushq	%r15
 	pushq	%r14
@@ -12333,6 +12340,7 @@ fotsgure_aes_cbc_encrypt:               # @fotsgure_aes_cbc_encrypt
 	.p2align	4
 	.type	fotsgure_aes_encrypt_blocks,@function
 fotsgure_aes_encrypt_blocks:            # @fotsgure_aes_encrypt_blocks
+	endbr64
 # %bb.0:                                # %start
 	pushq	%rbp
 	pushq	%r15
@@ -12406,6 +12414,7 @@ fotsgure_aes_encrypt_blocks:            # @fotsgure_aes_encrypt_blocks
 	.p2align	4
 	.type	fotsgure_aes_encrypt_blocks_to,@function
 fotsgure_aes_encrypt_blocks_to:         # @fotsgure_aes_encrypt_blocks_to
+	endbr64
 # %bb.0:                                # %start
 	pushq	%r15
 	pushq	%r14
@@ -12563,6 +12572,7 @@ fotsgure_aes_encrypt_blocks_to:         # @fotsgure_aes_encrypt_blocks_to
 	.p2align	4
 	.type	fotsgure_aes_wrap,@function
 fotsgure_aes_wrap:                      # @fotsgure_aes_wrap
+	endbr64
 # %bb.0:                                # %start
 	movl	(%rdi), %r10d
 	movl	$2, %eax
@@ -12610,6 +12620,7 @@ fotsgure_aes_wrap:                      # @fotsgure_aes_wrap
 	.p2align	4
 	.type	fotsgure_aes_wrap_padded,@function
 fotsgure_aes_wrap_padded:               # @fotsgure_aes_wrap_padded
+	endbr64
 # %bb.0:                                # %start
 	movl	(%rdi), %r10d
 	movl	$2, %eax
@@ -12657,6 +12668,7 @@ fotsgure_aes_wrap_padded:               # @fotsgure_aes_wrap_padded
 	.p2align	4
 	.type	fotsgure_aes_cbc_decrypt,@function
 fotsgure_aes_cbc_decrypt:               # @fotsgure_aes_cbc_decrypt
+	endbr64
 # %bb.0:                                # %start
 	pushq	%rbp
 	pushq	%r15
@@ -12820,6 +12832,7 @@ fotsgure_aes_cbc_decrypt:               # @fotsgure_aes_cbc_decrypt
 	.p2align	4
 	.type	fotsgure_aes_decrypt_blocks,@function
 fotsgure_aes_decrypt_blocks:            # @fotsgure_aes_decrypt_blocks
+	endbr64
 # %bb.0:                                # %start
 	pushq	%rbp
 	pushq	%r15
@@ -12893,6 +12906,7 @@ fotsgure_aes_decrypt_blocks:            # @fotsgure_aes_decrypt_blocks
 	.p2align	4
 	.type	fotsgure_aes_decrypt_blocks_to,@function
 fotsgure_aes_decrypt_blocks_to:         # @fotsgure_aes_decrypt_blocks_to
+	endbr64
 # %bb.0:                                # %start
 	pushq	%r15
 	pushq	%r14
@@ -13051,6 +13065,7 @@ fotsgure_aes_decrypt_blocks_to:         # @fotsgure_aes_decrypt_blocks_to
 	.p2align	4
 	.type	fotsgure_aes_decrypt_blocks_with,@function
 fotsgure_aes_decrypt_blocks_with:       # @fotsgure_aes_decrypt_blocks_with
+	endbr64
 # %bb.0:                                # %start
 	pushq	%rbp
 	pushq	%r15
@@ -13143,6 +13158,7 @@ fotsgure_aes_decrypt_blocks_with:       # @fotsgure_aes_decrypt_blocks_with
 	.p2align	4
 	.type	fotsgure_aes_unwrap,@function
 fotsgure_aes_unwrap:                    # @fotsgure_aes_unwrap
+	endbr64
 # %bb.0:                                # %start
 	movl	(%rdi), %r10d
 	movl	$2, %eax
@@ -13200,6 +13216,7 @@ fotsgure_aes_unwrap:                    # @fotsgure_aes_unwrap
 	.p2align	4
 	.type	fotsgure_aes_unwrap_padded,@function
 fotsgure_aes_unwrap_padded:             # @fotsgure_aes_unwrap_padded
+	endbr64
 # %bb.0:                                # %start
 	pushq	%rbx
 	subq	$48, %rsp
@@ -13265,6 +13282,7 @@ fotsgure_aes_unwrap_padded:             # @fotsgure_aes_unwrap_padded
 	.p2align	4
 	.type	fotsgure_aes_add_keystream,@function
 fotsgure_aes_add_keystream:             # @fotsgure_aes_add_keystream
+	endbr64
 # %bb.0:                                # %start
 	pushq	%r14
 	pushq	%rbx
@@ -13314,6 +13332,7 @@ fotsgure_aes_add_keystream:             # @fotsgure_aes_add_keystream
 	.p2align	4
 	.type	fotsgure_aes_add_keystream_to,@function
 fotsgure_aes_add_keystream_to:          # @fotsgure_aes_add_keystream_to
+	endbr64
 # %bb.0:                                # %start
 	pushq	%rbp
 	pushq	%r15
@@ -13510,3 +13529,9 @@ fotsgure_aes_add_keystream_to:          # @fotsgure_aes_add_keystream_to
 
 	.ident	"rattle logic=dac8208d650f15bf3e2dc313a14fa4c783a3acf887bdfab66e1714b038d9e11b"
 	.section	".note.GNU-stack","",@progbits
+
+	.section	".note.gnu.property","a",@note
+	.p2align	3, 0x0
+	.long	4, 16, 5
+	.asciz	"GNU"
+	.long	0xc0000002, 4, 3, 0

@@ -1338,7 +1338,7 @@
 	leaq	.LJTI3_0(%rip), %r11
 	movslq	(%r11,%r10,4), %r10
 	addq	%r11, %r10
-	jmpq	*%r10
+	notrack jmpq	*%r10
 .LBB3_3:                                # %then.1.i
                                         #   in Loop: Header=BB3_2 Depth=1
 	vpshufb	.LCPI3_12(%rip), %xmm1, %xmm1   # xmm1 = xmm1[0,13,10,7,4,1,14,11,8,5,2,15,12,9,6,3]
@@ -13321,6 +13321,7 @@
 	.p2align	4
 	.type	fotsgure_aes_add_keystream_with,@function
 fotsgure_aes_add_keystream_with:        # @fotsgure_aes_add_keystream_with
+	endbr64
 # %bb.0:                                # %start
 	pushq	%rbp
 	pushq	%r15
@@ -13403,6 +13404,7 @@ fotsgure_aes_add_keystream_with:        # @fotsgure_aes_add_keystream_with
 	.p2align	4
 	.type	fotsgure_aes_encrypt_blocks_with,@function
 fotsgure_aes_encrypt_blocks_with:       # @fotsgure_aes_encrypt_blocks_with
+	endbr64
 # %bb.0:                                # %start
 	pushq	%r15
 	pushq	%r14
@@ -13493,6 +13495,7 @@ fotsgure_aes_encrypt_blocks_with:       # @fotsgure_aes_encrypt_blocks_with
 	.p2align	4
 	.type	fotsgure_aes_set_key,@function
 fotsgure_aes_set_key:                   # @fotsgure_aes_set_key
+	endbr64
 # %bb.0:                                # %start
 	xorl	%eax, %eax
 	testq	%rsi, %rsi
@@ -13508,6 +13511,7 @@ fotsgure_aes_set_key:                   # @fotsgure_aes_set_key
 	.p2align	4
 	.type	fotsgure_aes_version,@function
 fotsgure_aes_version:                   # @fotsgure_aes_version
+	endbr64
 # %bb.0:                                # %start
 	movl	$300, %eax                      # imm = 0x12C
 	retq
@@ -13519,6 +13523,7 @@ fotsgure_aes_version:                   # @fotsgure_aes_version
 	.p2align	4
 	.type	fotsgure_aes_wipe,@function
 fotsgure_aes_wipe:                      # @fotsgure_aes_wipe
+	endbr64
 # %bb.0:                                # %start
 	pushq	%rbx
 	leaq	4(%rdi), %rax
@@ -13554,6 +13559,7 @@ fotsgure_aes_wipe:                      # @fotsgure_aes_wipe
 	.p2align	4
 	.type	fotsgure_aes_key_length,@function
 fotsgure_aes_key_length:                # @fotsgure_aes_key_length
+	endbr64
 # %bb.0:                                # %start
 	movl	(%rdi), %ecx
 	xorl	%eax, %eax
@@ -13575,6 +13581,7 @@ fotsgure_aes_key_length:                # @fotsgure_aes_key_length
 	.p2align	4
 	.type	fotsgure_aes_cbc_encrypt,@function
 fotsgure_aes_cbc_encrypt:               # @fotsgure_aes_cbc_encrypt
+	endbr64
 # %bb.0:                                # %start
 	pushq	%r15
 	pushq	%r14
@@ -13645,6 +13652,7 @@ fotsgure_aes_cbc_encrypt:               # @fotsgure_aes_cbc_encrypt
 	.p2align	4
 	.type	fotsgure_aes_encrypt_blocks,@function
 fotsgure_aes_encrypt_blocks:            # @fotsgure_aes_encrypt_blocks
+	endbr64
 # %bb.0:                                # %start
 	pushq	%rbp
 	pushq	%r15
@@ -13718,6 +13726,7 @@ fotsgure_aes_encrypt_blocks:            # @fotsgure_aes_encrypt_blocks
 	.p2align	4
 	.type	fotsgure_aes_encrypt_blocks_to,@function
 fotsgure_aes_encrypt_blocks_to:         # @fotsgure_aes_encrypt_blocks_to
+	endbr64
 # %bb.0:                                # %start
 	pushq	%r15
 	pushq	%r14
@@ -13875,6 +13884,7 @@ fotsgure_aes_encrypt_blocks_to:         # @fotsgure_aes_encrypt_blocks_to
 	.p2align	4
 	.type	fotsgure_aes_wrap,@function
 fotsgure_aes_wrap:                      # @fotsgure_aes_wrap
+	endbr64
 # %bb.0:                                # %start
 	movl	(%rdi), %r10d
 	movl	$2, %eax
@@ -13922,6 +13932,7 @@ fotsgure_aes_wrap:                      # @fotsgure_aes_wrap
 	.p2align	4
 	.type	fotsgure_aes_wrap_padded,@function
 fotsgure_aes_wrap_padded:               # @fotsgure_aes_wrap_padded
+	endbr64
 # %bb.0:                                # %start
 	movl	(%rdi), %r10d
 	movl	$2, %eax
@@ -13969,6 +13980,7 @@ fotsgure_aes_wrap_padded:               # @fotsgure_aes_wrap_padded
 	.p2align	4
 	.type	fotsgure_aes_cbc_decrypt,@function
 fotsgure_aes_cbc_decrypt:               # @fotsgure_aes_cbc_decrypt
+	endbr64
 # %bb.0:                                # %start
 	pushq	%rbp
 	pushq	%r15
@@ -14165,6 +14177,7 @@ fotsgure_aes_cbc_decrypt:               # @fotsgure_aes_cbc_decrypt
 	.p2align	4
 	.type	fotsgure_aes_decrypt_blocks,@function
 fotsgure_aes_decrypt_blocks:            # @fotsgure_aes_decrypt_blocks
+	endbr64
 # %bb.0:                                # %start
 	pushq	%rbp
 	pushq	%r15
@@ -14238,6 +14251,7 @@ fotsgure_aes_decrypt_blocks:            # @fotsgure_aes_decrypt_blocks
 	.p2align	4
 	.type	fotsgure_aes_decrypt_blocks_to,@function
 fotsgure_aes_decrypt_blocks_to:         # @fotsgure_aes_decrypt_blocks_to
+	endbr64
 # %bb.0:                                # %start
 	pushq	%r15
 	pushq	%r14
@@ -14396,6 +14410,7 @@ fotsgure_aes_decrypt_blocks_to:         # @fotsgure_aes_decrypt_blocks_to
 	.p2align	4
 	.type	fotsgure_aes_decrypt_blocks_with,@function
 fotsgure_aes_decrypt_blocks_with:       # @fotsgure_aes_decrypt_blocks_with
+	endbr64
 # %bb.0:                                # %start
 	pushq	%rbp
 	pushq	%r15
@@ -14488,6 +14503,7 @@ fotsgure_aes_decrypt_blocks_with:       # @fotsgure_aes_decrypt_blocks_with
 	.p2align	4
 	.type	fotsgure_aes_unwrap,@function
 fotsgure_aes_unwrap:                    # @fotsgure_aes_unwrap
+	endbr64
 # %bb.0:                                # %start
 	movl	(%rdi), %r10d
 	movl	$2, %eax
@@ -14545,6 +14561,7 @@ fotsgure_aes_unwrap:                    # @fotsgure_aes_unwrap
 	.p2align	4
 	.type	fotsgure_aes_unwrap_padded,@function
 fotsgure_aes_unwrap_padded:             # @fotsgure_aes_unwrap_padded
+	endbr64
 # %bb.0:                                # %start
 	pushq	%rbx
 	subq	$48, %rsp
@@ -14610,6 +14627,7 @@ fotsgure_aes_unwrap_padded:             # @fotsgure_aes_unwrap_padded
 	.p2align	4
 	.type	fotsgure_aes_add_keystream,@function
 fotsgure_aes_add_keystream:             # @fotsgure_aes_add_keystream
+	endbr64
 # %bb.0:                                # %start
 	pushq	%r14
 	pushq	%rbx
@@ -14659,6 +14677,7 @@ fotsgure_aes_add_keystream:             # @fotsgure_aes_add_keystream
 	.p2align	4
 	.type	fotsgure_aes_add_keystream_to,@function
 fotsgure_aes_add_keystream_to:          # @fotsgure_aes_add_keystream_to
+	endbr64
 # %bb.0:                                # %start
 	pushq	%rbp
 	pushq	%r15
@@ -14869,3 +14888,9 @@ fotsgure_aes_add_keystream_to:          # @fotsgure_aes_add_keystream_to
 
 	.ident	"rattle logic=dac8208d650f15bf3e2dc313a14fa4c783a3acf887bdfab66e1714b038d9e11b"
 	.section	".note.GNU-stack","",@progbits
+
+	.section	".note.gnu.property","a",@note
+	.p2align	3, 0x0
+	.long	4, 16, 5
+	.asciz	"GNU"
+	.long	0xc0000002, 4, 3, 0

@@ -1128,7 +1128,7 @@
 	leaq	.LJTI3_0(%rip), %r10
 	movslq	(%r10,%r9,4), %r9
 	addq	%r10, %r9
-	jmpq	*%r9
+	notrack jmpq	*%r9
 .LBB3_3:                                # %then.1.i
                                         #   in Loop: Header=BB3_2 Depth=1
 	pshufb	.LCPI3_12(%rip), %xmm1          # xmm1 = xmm1[0,13,10,7,4,1,14,11,8,5,2,15,12,9,6,3]
@@ -13358,6 +13358,7 @@
 	.p2align	4
 	.type	fotsgure_gcm_set_key,@function
 fotsgure_gcm_set_key:                   # @fotsgure_gcm_set_key
+	endbr64
 # %bb.0:                                # %start
 	pushq	%r15
 	pushq	%r14
@@ -13430,6 +13431,7 @@ fotsgure_gcm_set_key:                   # @fotsgure_gcm_set_key
 	.p2align	4
 	.type	fotsgure_gcm_siv_wipe,@function
 fotsgure_gcm_siv_wipe:                  # @fotsgure_gcm_siv_wipe
+	endbr64
 # %bb.0:                                # %start
 	leaq	4(%rdi), %rax
 	xorps	%xmm0, %xmm0
@@ -13460,6 +13462,7 @@ fotsgure_gcm_siv_wipe:                  # @fotsgure_gcm_siv_wipe
 	.p2align	4
 	.type	fotsgure_gcm_version,@function
 fotsgure_gcm_version:                   # @fotsgure_gcm_version
+	endbr64
 # %bb.0:                                # %start
 	movl	$300, %eax                      # imm = 0x12C
 	retq
@@ -13471,6 +13474,7 @@ fotsgure_gcm_version:                   # @fotsgure_gcm_version
 	.p2align	4
 	.type	fotsgure_gcm_wipe,@function
 fotsgure_gcm_wipe:                      # @fotsgure_gcm_wipe
+	endbr64
 # %bb.0:                                # %start
 	pushq	%r14
 	pushq	%rbx
@@ -13497,6 +13501,7 @@ fotsgure_gcm_wipe:                      # @fotsgure_gcm_wipe
 	.p2align	4
 	.type	fotsgure_gcm_wipe_message,@function
 fotsgure_gcm_wipe_message:              # @fotsgure_gcm_wipe_message
+	endbr64
 # %bb.0:                                # %start
 	xorps	%xmm0, %xmm0
 	movups	%xmm0, 64(%rdi)
@@ -13513,6 +13518,7 @@ fotsgure_gcm_wipe_message:              # @fotsgure_gcm_wipe_message
 	.p2align	4
 	.type	fotsgure_gcm_key_length,@function
 fotsgure_gcm_key_length:                # @fotsgure_gcm_key_length
+	endbr64
 # %bb.0:                                # %start
 	movl	(%rdi), %ecx
 	xorl	%eax, %eax
@@ -13534,6 +13540,7 @@ fotsgure_gcm_key_length:                # @fotsgure_gcm_key_length
 	.p2align	4
 	.type	fotsgure_gcm_siv_set_key,@function
 fotsgure_gcm_siv_set_key:               # @fotsgure_gcm_siv_set_key
+	endbr64
 # %bb.0:                                # %start
 	xorps	%xmm0, %xmm0
 	movups	%xmm0, 224(%rdi)
@@ -13588,6 +13595,7 @@ fotsgure_gcm_siv_set_key:               # @fotsgure_gcm_siv_set_key
 	.p2align	4
 	.type	fotsgure_gcm_begin,@function
 fotsgure_gcm_begin:                     # @fotsgure_gcm_begin
+	endbr64
 # %bb.0:                                # %start
 	xorl	%r8d, %r8d
 	testq	%rdx, %rdx
@@ -13655,6 +13663,7 @@ fotsgure_gcm_begin:                     # @fotsgure_gcm_begin
 	.p2align	4
 	.type	fotsgure_gcm_begin_next,@function
 fotsgure_gcm_begin_next:                # @fotsgure_gcm_begin_next
+	endbr64
 # %bb.0:                                # %start
 	pushq	%r14
 	pushq	%rbx
@@ -13740,6 +13749,7 @@ fotsgure_gcm_begin_next:                # @fotsgure_gcm_begin_next
 	.p2align	4
 	.type	fotsgure_gcm_finish,@function
 fotsgure_gcm_finish:                    # @fotsgure_gcm_finish
+	endbr64
 # %bb.0:                                # %start
 	movl	(%rdi), %ecx
 	movl	$2, %eax
@@ -13801,6 +13811,7 @@ fotsgure_gcm_finish:                    # @fotsgure_gcm_finish
 	.p2align	4
 	.type	fotsgure_gcm_open,@function
 fotsgure_gcm_open:                      # @fotsgure_gcm_open
+	endbr64
 # %bb.0:                                # %start
 	pushq	%rbp
 	pushq	%r15
@@ -13941,6 +13952,7 @@ fotsgure_gcm_open:                      # @fotsgure_gcm_open
 	.p2align	4
 	.type	fotsgure_gcm_seal,@function
 fotsgure_gcm_seal:                      # @fotsgure_gcm_seal
+	endbr64
 # %bb.0:                                # %start
 	xorl	%eax, %eax
 	testq	%rsi, %rsi
@@ -13966,6 +13978,7 @@ fotsgure_gcm_seal:                      # @fotsgure_gcm_seal
 	.p2align	4
 	.type	fotsgure_gcm_seal_next,@function
 fotsgure_gcm_seal_next:                 # @fotsgure_gcm_seal_next
+	endbr64
 # %bb.0:                                # %start
 	pushq	%r14
 	pushq	%rbx
@@ -14044,6 +14057,7 @@ fotsgure_gcm_seal_next:                 # @fotsgure_gcm_seal_next
 	.p2align	4
 	.type	fotsgure_gcm_siv_open,@function
 fotsgure_gcm_siv_open:                  # @fotsgure_gcm_siv_open
+	endbr64
 # %bb.0:                                # %start
 	pushq	%rbp
 	pushq	%r14
@@ -14101,6 +14115,7 @@ fotsgure_gcm_siv_open:                  # @fotsgure_gcm_siv_open
 	.p2align	4
 	.type	fotsgure_gcm_siv_seal,@function
 fotsgure_gcm_siv_seal:                  # @fotsgure_gcm_siv_seal
+	endbr64
 # %bb.0:                                # %start
 	pushq	%rbp
 	pushq	%r14
@@ -14182,6 +14197,7 @@ fotsgure_gcm_siv_seal:                  # @fotsgure_gcm_siv_seal
 	.p2align	4
 	.type	fotsgure_gcm_additional,@function
 fotsgure_gcm_additional:                # @fotsgure_gcm_additional
+	endbr64
 # %bb.0:                                # %start
 	movq	%rdx, %r9
 	xorl	%edx, %edx
@@ -14257,6 +14273,7 @@ fotsgure_gcm_additional:                # @fotsgure_gcm_additional
 	.p2align	4
 	.type	fotsgure_gcm_decrypt,@function
 fotsgure_gcm_decrypt:                   # @fotsgure_gcm_decrypt
+	endbr64
 # %bb.0:                                # %start
 	xorl	%r9d, %r9d
 	testq	%rdx, %rdx
@@ -14347,6 +14364,7 @@ fotsgure_gcm_decrypt:                   # @fotsgure_gcm_decrypt
 	.p2align	4
 	.type	fotsgure_gcm_decrypt_unverified,@function
 fotsgure_gcm_decrypt_unverified:        # @fotsgure_gcm_decrypt_unverified
+	endbr64
 # %bb.0:                                # %start
 	pushq	%rbp
 	pushq	%r15
@@ -14499,6 +14517,7 @@ fotsgure_gcm_decrypt_unverified:        # @fotsgure_gcm_decrypt_unverified
 	.p2align	4
 	.type	fotsgure_gcm_encrypt,@function
 fotsgure_gcm_encrypt:                   # @fotsgure_gcm_encrypt
+	endbr64
 # %bb.0:                                # %start
 	pushq	%rbp
 	pushq	%r15
@@ -14651,6 +14670,7 @@ fotsgure_gcm_encrypt:                   # @fotsgure_gcm_encrypt
 	.p2align	4
 	.type	fotsgure_gcm_verify,@function
 fotsgure_gcm_verify:                    # @fotsgure_gcm_verify
+	endbr64
 # %bb.0:                                # %start
 	pushq	%rbp
 	pushq	%r15
@@ -14772,6 +14792,7 @@ fotsgure_gcm_verify:                    # @fotsgure_gcm_verify
 	.p2align	4
 	.type	fotsgure_gcm_accept,@function
 fotsgure_gcm_accept:                    # @fotsgure_gcm_accept
+	endbr64
 # %bb.0:                                # %start
 	xorl	%r8d, %r8d
 	testq	%rdx, %rdx
@@ -14853,6 +14874,7 @@ fotsgure_gcm_accept:                    # @fotsgure_gcm_accept
 	.p2align	4
 	.type	fotsgure_gcm_accept_short,@function
 fotsgure_gcm_accept_short:              # @fotsgure_gcm_accept_short
+	endbr64
 # %bb.0:                                # %start
 	pushq	%rbp
 	pushq	%r15
@@ -14961,3 +14983,9 @@ fotsgure_gcm_accept_short:              # @fotsgure_gcm_accept_short
 
 	.ident	"rattle logic=dac8208d650f15bf3e2dc313a14fa4c783a3acf887bdfab66e1714b038d9e11b"
 	.section	".note.GNU-stack","",@progbits
+
+	.section	".note.gnu.property","a",@note
+	.p2align	3, 0x0
+	.long	4, 16, 5
+	.asciz	"GNU"
+	.long	0xc0000002, 4, 3, 0

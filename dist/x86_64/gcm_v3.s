@@ -1004,7 +1004,7 @@
 	leaq	.LJTI3_0(%rip), %r11
 	movslq	(%r11,%r10,4), %r10
 	addq	%r11, %r10
-	jmpq	*%r10
+	notrack jmpq	*%r10
 .LBB3_3:                                # %then.1.i
                                         #   in Loop: Header=BB3_2 Depth=1
 	vpshufb	.LCPI3_12(%rip), %xmm1, %xmm1   # xmm1 = xmm1[0,13,10,7,4,1,14,11,8,5,2,15,12,9,6,3]
@@ -13958,6 +13958,7 @@
 	.p2align	4
 	.type	fotsgure_gcm_set_key,@function
 fotsgure_gcm_set_key:                   # @fotsgure_gcm_set_key
+	endbr64
 # %bb.0:                                # %start
 	pushq	%r15
 	pushq	%r14
@@ -14024,6 +14025,7 @@ fotsgure_gcm_set_key:                   # @fotsgure_gcm_set_key
 	.p2align	4
 	.type	fotsgure_gcm_siv_wipe,@function
 fotsgure_gcm_siv_wipe:                  # @fotsgure_gcm_siv_wipe
+	endbr64
 # %bb.0:                                # %start
 	vxorps	%xmm0, %xmm0, %xmm0
 	vmovups	%ymm0, 212(%rdi)
@@ -14047,6 +14049,7 @@ fotsgure_gcm_siv_wipe:                  # @fotsgure_gcm_siv_wipe
 	.p2align	4
 	.type	fotsgure_gcm_version,@function
 fotsgure_gcm_version:                   # @fotsgure_gcm_version
+	endbr64
 # %bb.0:                                # %start
 	movl	$300, %eax                      # imm = 0x12C
 	retq
@@ -14058,6 +14061,7 @@ fotsgure_gcm_version:                   # @fotsgure_gcm_version
 	.p2align	4
 	.type	fotsgure_gcm_wipe,@function
 fotsgure_gcm_wipe:                      # @fotsgure_gcm_wipe
+	endbr64
 # %bb.0:                                # %start
 	pushq	%r14
 	pushq	%rbx
@@ -14084,6 +14088,7 @@ fotsgure_gcm_wipe:                      # @fotsgure_gcm_wipe
 	.p2align	4
 	.type	fotsgure_gcm_wipe_message,@function
 fotsgure_gcm_wipe_message:              # @fotsgure_gcm_wipe_message
+	endbr64
 # %bb.0:                                # %start
 	vxorps	%xmm0, %xmm0, %xmm0
 	vmovups	%ymm0, 48(%rdi)
@@ -14099,6 +14104,7 @@ fotsgure_gcm_wipe_message:              # @fotsgure_gcm_wipe_message
 	.p2align	4
 	.type	fotsgure_gcm_key_length,@function
 fotsgure_gcm_key_length:                # @fotsgure_gcm_key_length
+	endbr64
 # %bb.0:                                # %start
 	movl	(%rdi), %ecx
 	xorl	%eax, %eax
@@ -14120,6 +14126,7 @@ fotsgure_gcm_key_length:                # @fotsgure_gcm_key_length
 	.p2align	4
 	.type	fotsgure_gcm_siv_set_key,@function
 fotsgure_gcm_siv_set_key:               # @fotsgure_gcm_siv_set_key
+	endbr64
 # %bb.0:                                # %start
 	vxorps	%xmm0, %xmm0, %xmm0
 	vmovups	%ymm0, 212(%rdi)
@@ -14168,6 +14175,7 @@ fotsgure_gcm_siv_set_key:               # @fotsgure_gcm_siv_set_key
 	.p2align	4
 	.type	fotsgure_gcm_begin,@function
 fotsgure_gcm_begin:                     # @fotsgure_gcm_begin
+	endbr64
 # %bb.0:                                # %start
 	xorl	%r8d, %r8d
 	testq	%rdx, %rdx
@@ -14237,6 +14245,7 @@ fotsgure_gcm_begin:                     # @fotsgure_gcm_begin
 	.p2align	4
 	.type	fotsgure_gcm_begin_next,@function
 fotsgure_gcm_begin_next:                # @fotsgure_gcm_begin_next
+	endbr64
 # %bb.0:                                # %start
 	pushq	%r14
 	pushq	%rbx
@@ -14322,6 +14331,7 @@ fotsgure_gcm_begin_next:                # @fotsgure_gcm_begin_next
 	.p2align	4
 	.type	fotsgure_gcm_finish,@function
 fotsgure_gcm_finish:                    # @fotsgure_gcm_finish
+	endbr64
 # %bb.0:                                # %start
 	movl	(%rdi), %ecx
 	movl	$2, %eax
@@ -14383,6 +14393,7 @@ fotsgure_gcm_finish:                    # @fotsgure_gcm_finish
 	.p2align	4
 	.type	fotsgure_gcm_open,@function
 fotsgure_gcm_open:                      # @fotsgure_gcm_open
+	endbr64
 # %bb.0:                                # %start
 	pushq	%rbp
 	pushq	%r15
@@ -14523,6 +14534,7 @@ fotsgure_gcm_open:                      # @fotsgure_gcm_open
 	.p2align	4
 	.type	fotsgure_gcm_seal,@function
 fotsgure_gcm_seal:                      # @fotsgure_gcm_seal
+	endbr64
 # %bb.0:                                # %start
 	xorl	%eax, %eax
 	testq	%rsi, %rsi
@@ -14548,6 +14560,7 @@ fotsgure_gcm_seal:                      # @fotsgure_gcm_seal
 	.p2align	4
 	.type	fotsgure_gcm_seal_next,@function
 fotsgure_gcm_seal_next:                 # @fotsgure_gcm_seal_next
+	endbr64
 # %bb.0:                                # %start
 	pushq	%r14
 	pushq	%rbx
@@ -14625,6 +14638,7 @@ fotsgure_gcm_seal_next:                 # @fotsgure_gcm_seal_next
 	.p2align	4
 	.type	fotsgure_gcm_siv_open,@function
 fotsgure_gcm_siv_open:                  # @fotsgure_gcm_siv_open
+	endbr64
 # %bb.0:                                # %start
 	pushq	%rbp
 	pushq	%r14
@@ -14682,6 +14696,7 @@ fotsgure_gcm_siv_open:                  # @fotsgure_gcm_siv_open
 	.p2align	4
 	.type	fotsgure_gcm_siv_seal,@function
 fotsgure_gcm_siv_seal:                  # @fotsgure_gcm_siv_seal
+	endbr64
 # %bb.0:                                # %start
 	pushq	%rbp
 	pushq	%r14
@@ -14763,6 +14778,7 @@ fotsgure_gcm_siv_seal:                  # @fotsgure_gcm_siv_seal
 	.p2align	4
 	.type	fotsgure_gcm_additional,@function
 fotsgure_gcm_additional:                # @fotsgure_gcm_additional
+	endbr64
 # %bb.0:                                # %start
 	movq	%rdx, %r9
 	xorl	%edx, %edx
@@ -14836,6 +14852,7 @@ fotsgure_gcm_additional:                # @fotsgure_gcm_additional
 	.p2align	4
 	.type	fotsgure_gcm_decrypt,@function
 fotsgure_gcm_decrypt:                   # @fotsgure_gcm_decrypt
+	endbr64
 # %bb.0:                                # %start
 	xorl	%r9d, %r9d
 	testq	%rdx, %rdx
@@ -14926,6 +14943,7 @@ fotsgure_gcm_decrypt:                   # @fotsgure_gcm_decrypt
 	.p2align	4
 	.type	fotsgure_gcm_decrypt_unverified,@function
 fotsgure_gcm_decrypt_unverified:        # @fotsgure_gcm_decrypt_unverified
+	endbr64
 # %bb.0:                                # %start
 	pushq	%rbp
 	pushq	%r15
@@ -15074,6 +15092,7 @@ fotsgure_gcm_decrypt_unverified:        # @fotsgure_gcm_decrypt_unverified
 	.p2align	4
 	.type	fotsgure_gcm_encrypt,@function
 fotsgure_gcm_encrypt:                   # @fotsgure_gcm_encrypt
+	endbr64
 # %bb.0:                                # %start
 	pushq	%rbp
 	pushq	%r15
@@ -15222,6 +15241,7 @@ fotsgure_gcm_encrypt:                   # @fotsgure_gcm_encrypt
 	.p2align	4
 	.type	fotsgure_gcm_verify,@function
 fotsgure_gcm_verify:                    # @fotsgure_gcm_verify
+	endbr64
 # %bb.0:                                # %start
 	pushq	%rbp
 	pushq	%r15
@@ -15339,6 +15359,7 @@ fotsgure_gcm_verify:                    # @fotsgure_gcm_verify
 	.p2align	4
 	.type	fotsgure_gcm_accept,@function
 fotsgure_gcm_accept:                    # @fotsgure_gcm_accept
+	endbr64
 # %bb.0:                                # %start
 	xorl	%r8d, %r8d
 	testq	%rdx, %rdx
@@ -15420,6 +15441,7 @@ fotsgure_gcm_accept:                    # @fotsgure_gcm_accept
 	.p2align	4
 	.type	fotsgure_gcm_accept_short,@function
 fotsgure_gcm_accept_short:              # @fotsgure_gcm_accept_short
+	endbr64
 # %bb.0:                                # %start
 	pushq	%rbp
 	pushq	%r15
@@ -15528,3 +15550,9 @@ fotsgure_gcm_accept_short:              # @fotsgure_gcm_accept_short
 
 	.ident	"rattle logic=dac8208d650f15bf3e2dc313a14fa4c783a3acf887bdfab66e1714b038d9e11b"
 	.section	".note.GNU-stack","",@progbits
+
+	.section	".note.gnu.property","a",@note
+	.p2align	3, 0x0
+	.long	4, 16, 5
+	.asciz	"GNU"
+	.long	0xc0000002, 4, 3, 0

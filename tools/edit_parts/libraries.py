@@ -1,4 +1,5 @@
-"""Gives a copy of the crates the libraries that the gate proved on this machine, so that more can be tried over them."""
+"""All that the scripts take of the toolchain's own module, which nothing promises to keep: copies of the crates, and proofs and builds over
+the libraries that the gate proved on this machine."""
 import importlib.machinery
 import importlib.util
 import os
@@ -6,6 +7,7 @@ import pathlib
 import shutil
 import subprocess
 import sys
+import tempfile
 
 TOP = pathlib.Path(__file__).resolve().parent.parent.parent
 
@@ -18,21 +20,30 @@ def load(path, name):
     return made
 
 
-# The toolchain's command, or None where there is none.
-rt = load(os.path.realpath(shutil.which("rt")), "rt") if shutil.which("rt") else None
+# The toolchain's command, or None where there is none. It is in the folder bin of the kit.
+COMMAND = os.path.realpath(shutil.which("rt") or "/no/rt")
+KIT = pathlib.Path(COMMAND).parent.parent
+rt = load(COMMAND, "rt") if shutil.which("rt") else None
+
+
+def begin(top):
+    """Makes a folder that has the crates the current one, and readies the module for it."""
+    if not rt:
+        sys.exit("There is no rt, the command of the Rattle toolchain, on the PATH: it proves and compiles the crates")
+    os.chdir(top)
+    # (its first call sets a signal's handler, which only the main thread may)
+    rt.rtlib.guarded()
+    rt.rtlib.Crate.cuts_libraries = True
 
 
 def workspace(room):
     """The crates of a copy of the repository, lowest first."""
-    if not rt:
-        sys.exit("There is no rt, the command of the Rattle toolchain, on the PATH: it proves and compiles the crates")
-    rt.copy_crates(str(TOP), f"{room}/copy")
-    # (which makes it the top of a repository)
-    os.mkdir(f"{room}/copy/.git")
-    # (its first call sets a signal's handler, which only the main thread may)
-    rt.rtlib.guarded()
-    rt.Crate.cuts_libraries, rt.Crate.allowed = True, rt.handles_of(f"{room}/copy")
-    os.chdir(f"{room}/copy")
+    if rt:
+        rt.copy_crates(str(TOP), f"{room}/copy")
+        # (which makes it the top of a repository)
+        os.mkdir(f"{room}/copy/.git")
+    begin(f"{room}/copy")
+    rt.Crate.allowed = rt.handles_of(f"{room}/copy")
     return rt.crates_of(f"{room}/copy")
 
 
@@ -59,6 +70,50 @@ def given(crates, wanted):
     return gate
 
 
+def checked(crate, kept, texts=None, flags=()):
+    """Checks a crate, with these texts in place of its own, over what a folder keeps of earlier checks."""
+    return rt.checked(crate, texts or {}, ["--jobs", "1", *flags], kept)
+
+
+def begun(crate, kept):
+    """Makes a folder of what checks of a crate kept here, or in another copy of the repository."""
+    found = rt.work_for(crate)
+    shutil.copytree(found, kept) if found else kept.mkdir()
+
+
+def build_words(crate, *flags):
+    """The words of a command that proves and builds a crate."""
+    return [rt.rtlib.RATTLE, "build", *crate.words(["--jobs", "1", *flags], keeps=False)]
+
+
 def lanes():
     """How many checks run side by side: as RT_JOBS says, or as processors and 3 GB of memory for each allow."""
     return int(os.environ.get("RT_JOBS") or 0) or max(1, min(rt.processors(), int(rt.free() / 3e9)))
+
+
+def with_statements(tree, *names):
+    """Proves crates of a tree and those below them from nothing, and leaves in out/rlib of each what crates above it cite: its statements
+    and code without its proofs, as `rt verdict` makes them for its own run. `rt` serves them to other commands only where it finds a
+    stamp beside them; it writes none here, since statements fit nothing but the rlibs that they were built over. The tree gets all of
+    them at once, so the stamps are written with them. Returns, one by one, each crate's name and verdict."""
+    begin(tree)
+    crates, wanted = {crate.name: crate for crate in rt.rtlib.crates_below(f"{os.getcwd()}/crates")}, []
+    for name in names:
+        crate = crates.get(name) or sys.exit(f"crates.txt names no {name}")
+        wanted += [it for it in (*crate.below(), crate) if it not in wanted]
+    for crate in wanted:
+        with tempfile.TemporaryFile("w+", errors="replace") as crate.out:
+            status = crate.build_rlib(["--jobs", os.environ.get("RT_JOBS", "1")], anew=True)
+            crate.out.seek(0)
+            said = crate.out.read()
+        verdicts = [line for line in said.splitlines() if line.startswith("logic=proved ")]
+        if status or not verdicts:
+            sys.exit(f"{said[-3000:]}\n{crate.name} was not proved")
+        pathlib.Path(crate.folder, "out/rlib/stamp").write_text(crate.stamp(), encoding="utf-8")
+        yield crate.name, verdicts[-1]
+
+
+if __name__ == "__main__":
+    # What ./release asks for: TREE CRATE ..
+    for proved in with_statements(*sys.argv[1:]):
+        print(": ".join(proved), flush=True)
