@@ -59,7 +59,7 @@ class Aarch64(Machine):
         for n, half in zip(self.kept_halves, halves):
             self.vectors[n][:8] = half
 
-    def prepare(self, instruction, place, drawn):
+    def prepare(self, instruction, place):
         """For an instruction by itself: addresses that it may access, or jump to."""
         for o in instruction.operands:
             if isinstance(o, Memory):

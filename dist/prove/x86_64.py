@@ -59,7 +59,7 @@ class X86_64(Machine):
     def leave(self):
         ret(self, "ret")
 
-    def prepare(self, instruction, place, drawn):
+    def prepare(self, instruction, place):
         """For an instruction by itself: addresses that it may access, or jump to."""
         for o in instruction.operands:
             if isinstance(o, Mem) and instruction.name != "lea":
@@ -74,7 +74,8 @@ class X86_64(Machine):
     @staticmethod
     def decode(text, following):
         name, _, rest = text.split("#")[0].strip().partition(" ")
-        # Prefixes that fill up a nop, or a call that the linker shortened; of a jump by a table, which may lead anywhere.
+        # Prefixes that fill up a nop, or a call that the linker shortened; of a jump by a table, which may lead
+        # anywhere.
         while name in ("cs", "data16", "addr32", "notrack"):
             name, _, rest = rest.strip().partition(" ")
         operands = [] if name == "nop" or not rest else [operand(o.strip(), name, following) for o in rest.split(",")]
