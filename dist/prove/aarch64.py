@@ -59,7 +59,7 @@ class Aarch64(Machine):
         for n, half in zip(self.kept_halves, halves):
             self.vectors[n][:8] = half
 
-    def prepare(self, instruction, place, drawn):
+    def prepare(self, instruction, place):
         """For an instruction by itself: addresses that it may access, or jump to."""
         for o in instruction.operands:
             if isinstance(o, Memory):
@@ -571,7 +571,9 @@ def cmeq(m, name, to, a, b):
 def without(m, x, y):
     """x and not y, where y may be the result of a comparison."""
     known = m.equalities.get(y)
-    return m.equality(known[0], x & ~known[1], x & ~known[2]) if known and x < 256 else combined(m.domain, "bic", [x], [y])[0]
+    if known and x < 256:
+        return m.equality(known[0], x & ~known[1], x & ~known[2])
+    return combined(m.domain, "bic", [x], [y])[0]
 
 
 @op("not")
@@ -597,8 +599,8 @@ def addv(m, name, to, a):
     known = [m.equalities.get(x) for x in b]
     if max(b) < 256:
         return m.write(to, m.to_bytes(sum(m.from_bytes(x) for x in lanes(b, a.lane)), a.lane))
-    if None in known or any(equal for _, equal, _ in known) or a.lane != 2 or sum(n for _, _, n in known[::2]) > 255 or sum(
-            n for _, _, n in known[1::2]) > 255:
+    if None in known or any(equal for _, equal, _ in known) or a.lane != 2 or any(
+            sum(n for _, _, n in known[k::2]) > 255 for k in (0, 1)):
         raise Unproved("a sum of what depends on the key or on data")
     m.write(to, m.to_bytes(m.mask(0, [k[0] for k in known[::2]] + [k[0] for k in known[1::2]]), 2))
 

@@ -8,8 +8,8 @@ from bits import DATA, Domain, Unproved
 from machine import RETURN_ADDRESS, Pointer, Region
 from native import PROCESSORS, Native
 
-SIZE, MIDDLE = 2048, 1024
-TRIES = 6
+SIZE, MIDDLE = 512, 256
+TRIES = 4
 NEVER_ALONE = "ldaxr", "stlxr"  # they belong together: compared in the calls that prove.py runs beside the processor
 
 
@@ -46,7 +46,7 @@ def before(program, instruction, address, seed):
     m.general[m.stack_pointer], m.top = Pointer("stack", MIDDLE), SIZE
     m.store(m.general[m.stack_pointer], m.to_bytes(RETURN_ADDRESS, 8))
     m.flags = {f: drawn.random.getrandbits(1) for f in m.flags}
-    m.prepare(instruction, Pointer("buffer", MIDDLE), drawn)
+    m.prepare(instruction, Pointer("buffer", MIDDLE))
     return m
 
 

@@ -78,7 +78,8 @@ class Domain:
         if name not in self.opaque_names:
             self.opaque_names[name] = len(self.bits_of)
             self.opaque_of[len(self.bits_of)] = name
-            self.bits_of.append(self.words[name[0].base](name[0].offset, name[1]) if name[0] and name[0][0] in self.words else None)
+            word = self.words.get(name[0][0]) if name[0] else None
+            self.bits_of.append(word and word(name[0].offset, name[1]))
         return self.opaque_names[name]
 
     def pack(self, bits):
@@ -111,7 +112,8 @@ class Domain:
         return byte >= 256 and self.bits_of[byte] is not None
 
     def cells(self, byte):
-        return {c for b in self.bits_of[byte] for _, n in self.parts(b) for c, _ in self.forms[n]} if self.symbolic(byte) else set()
+        bits = self.bits_of[byte] if self.symbolic(byte) else ()
+        return {c for b in bits for _, n in self.parts(b) for c, _ in self.forms[n]}
 
     def blocks(self, byte):
         return {block for b in self.bits_of[byte] for block, _ in self.parts(b)} - {0} if self.symbolic(byte) else set()
@@ -130,8 +132,8 @@ class Domain:
             return str(self.opaque_of[byte])
         blocks = self.blocks(byte)
         cells = sorted(self.cells(byte))
-        return "a function of %s%s" % (", ".join(self.names[c] for c in cells[:6]) + (", …" if len(cells) > 6 else ""),
-                                       " of block %s" % sorted(b - 1 for b in blocks) if blocks else "")
+        names = ", ".join(self.names[c] for c in cells[:6]) + (", …" if len(cells) > 6 else "")
+        return "a function of %s%s" % (names, " of block %s" % sorted(b - 1 for b in blocks) if blocks else "")
 
     # Bits.
     def one_block(self, bits):
@@ -254,8 +256,8 @@ class Domain:
 
     def forget_products(self):
         """For when no byte has any."""
-        for memo in (self.rows, self.row_keys, self.sums, self.products, self.product_ids, self.byte_xors, self.byte_ands, self.lookups,
-                     self.entries):
+        for memo in (self.rows, self.row_keys, self.sums, self.products, self.product_ids, self.byte_xors,
+                     self.byte_ands, self.lookups, self.entries):
             memo.clear()
 
     def name_sum(self, bytes_):
@@ -408,7 +410,8 @@ class Domain:
             for k, (c, t) in enumerate(form):
                 rest = cells[:k] + cells[k + 1:]
                 if self.defined_by.get(c) == rest:
-                    ways.update((cell, t ^ table) for cell, table in self.named(form[:k] + form[k + 1:], rest) if cell == c)
+                    ways.update((cell, t ^ table)
+                                for cell, table in self.named(form[:k] + form[k + 1:], rest) if cell == c)
             known[n] = ways
         return ways
 

@@ -111,22 +111,32 @@ DERIVE, PREPARE = r'"gcm_siv::keys::derive::<#\w+>":', r'"gcm_c::siv::prepare::<
 PUT_TAG, APPLY = r'"gcm_siv::message::put_tag::<#5740872db283df9f>":', r'"gcm_siv::message::apply::<#\w+>":'
 OPEN_IN, SIV_SEAL = r'"gcm_c::siv::open_in::<#8b70e375869fa13e>":', r"fotsgure_gcm_siv_seal:"
 SIV_FAULTS = [
-    ("AES-GCM-SIV: another half of a derived block", DERIVE, r"movq\t32\(%rbx\), %rcx", "movq\t40(%rbx), %rcx", lambda k: [k.seal(0, 0)]),
-    ("AES-GCM-SIV: a number with its highest byte first", DERIVE, r"movl\t\$1, 16\(", "movl\t$16777216, 16(", lambda k: [k.seal(0, 0)]),
-    ("AES-GCM-SIV: a branch on a derived key", PREPARE, r"(movq\t\(%rsp\), %r12\n)", "\\1\ttestq\t%r12, %r12\n\tje\t77f\n77:\n",
+    ("AES-GCM-SIV: another half of a derived block", DERIVE, r"movq\t32\(%rbx\), %rcx", "movq\t40(%rbx), %rcx",
      lambda k: [k.seal(0, 0)]),
-    ("AES-GCM-SIV: derived keys left on the stack", SIV_SEAL, r"\tcallq\t\"aes_cipher::zeroize::stack::wipe_stack.*\n", "",
+    ("AES-GCM-SIV: a number with its highest byte first", DERIVE, r"movl\t\$1, 16\(", "movl\t$16777216, 16(",
      lambda k: [k.seal(0, 0)]),
-    ("AES-GCM-SIV: lengths exchanged", PUT_TAG, r"(leal\t\(,%r15,8\), %eax)", r"xchgq\t%r14, %r15\n\t\1", lambda k: [k.seal(1, 2)]),
+    ("AES-GCM-SIV: a branch on a derived key", PREPARE, r"(movq\t\(%rsp\), %r12\n)",
+     "\\1\ttestq\t%r12, %r12\n\tje\t77f\n77:\n",
+     lambda k: [k.seal(0, 0)]),
+    ("AES-GCM-SIV: derived keys left on the stack", SIV_SEAL, r"\tcallq\t\"aes_cipher::zeroize::stack::wipe_stack.*\n",
+     "",
+     lambda k: [k.seal(0, 0)]),
+    ("AES-GCM-SIV: lengths exchanged", PUT_TAG, r"(leal\t\(,%r15,8\), %eax)", r"xchgq\t%r14, %r15\n\t\1",
+     lambda k: [k.seal(1, 2)]),
     ("AES-GCM-SIV: the highest bit of the tag's block kept", PUT_TAG, r"\tpand\t.*\n", "", lambda k: [k.seal(0, 1)]),
-    ("AES-GCM-SIV: the highest bit of the counter block not set", APPLY, r"orb\t\$-128, ", "orb\t$64, ", lambda k: [k.seal(0, 1)]),
-    ("AES-GCM-SIV: a counter of 16 bits", APPLY, r"leal\t1\(%r8,%rax\), %edx", r"leal\t(%r8,%rax), %edx\n\tincw\t%dx", lambda k: [k.seal(0, 17)]),
-    ("AES-GCM-SIV: a counter that is one more twice", APPLY, r"leal\t2\(%r8,%rax\), %edx", r"leal\t1(%r8,%rax), %edx", lambda k: [k.seal(0, 33)]),
+    ("AES-GCM-SIV: the highest bit of the counter block not set", APPLY, r"orb\t\$-128, ", "orb\t$64, ",
+     lambda k: [k.seal(0, 1)]),
+    ("AES-GCM-SIV: a counter of 16 bits", APPLY, r"leal\t1\(%r8,%rax\), %edx", r"leal\t(%r8,%rax), %edx\n\tincw\t%dx",
+     lambda k: [k.seal(0, 17)]),
+    ("AES-GCM-SIV: a counter that is one more twice", APPLY, r"leal\t2\(%r8,%rax\), %edx", r"leal\t1(%r8,%rax), %edx",
+     lambda k: [k.seal(0, 33)]),
     ("AES-GCM-SIV: an early exit in the comparison of the tag", OPEN_IN, r"(\tpcmpeqb\t48\(%rsp\), %xmm0\n)",
      r"\tmovq\t%xmm0, %rax\n\tcmpq\t48(%rsp), %rax\n\tjne\t77f\n77:\n\1", lambda k: [k.open(0, 0)]),
-    ("AES-GCM-SIV: a refused text not encrypted again", OPEN_IN, r"(testl\t%ebp, %ebp\n)\tje\t", r"\1\tjmp\t", lambda k: [k.open(0, 1)]),
+    ("AES-GCM-SIV: a refused text not encrypted again", OPEN_IN, r"(testl\t%ebp, %ebp\n)\tje\t", r"\1\tjmp\t",
+     lambda k: [k.open(0, 1)]),
 ]
-FAULTS = {"x86_64/aes": AES_FAULTS, "x86_64/gcm": GCM_FAULTS, "x86_64/siv": SIV_FAULTS, "aarch64/aes": faults_aarch64.AES_FAULTS,
+FAULTS = {"x86_64/aes": AES_FAULTS, "x86_64/gcm": GCM_FAULTS, "x86_64/siv": SIV_FAULTS,
+          "aarch64/aes": faults_aarch64.AES_FAULTS,
           "aarch64/gcm": faults_aarch64.GCM_FAULTS, "aarch64/siv": faults_aarch64.SIV_FAULTS}
 
 

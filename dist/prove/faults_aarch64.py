@@ -75,14 +75,19 @@ GCM_FAULTS = [
 ]
 OPEN_IN, APPLY = r'"gcm_c::siv::open_in::<#8b70e375869fa13e>":', r'"gcm_siv::message::apply::<#\w+>":'
 SIV_FAULTS = [
-    ("AES-GCM-SIV: derived keys left on the stack", r"fotsgure_gcm_siv_seal:", r"\tbl\t\"aes_cipher::zeroize::stack::wipe_stack.*\n", "",
+    ("AES-GCM-SIV: derived keys left on the stack", r"fotsgure_gcm_siv_seal:",
+     r"\tbl\t\"aes_cipher::zeroize::stack::wipe_stack.*\n", "",
      lambda k: [k.seal(0, 0)]),
-    ("AES-GCM-SIV: the highest bit of the tag's block kept", r'"gcm_siv::message::put_tag::<#5740872db283df9f>":', r"\tand\tv0.16b, .*\n", "",
+    ("AES-GCM-SIV: the highest bit of the tag's block kept", r'"gcm_siv::message::put_tag::<#5740872db283df9f>":',
+     r"\tand\tv0.16b, .*\n", "",
      lambda k: [k.seal(0, 1)]),
-    ("AES-GCM-SIV: the highest bit of the counter block not set", APPLY, r"orr\tw9, w9, #0xffffff80", "orr\tw9, w9, #0x40",
+    ("AES-GCM-SIV: the highest bit of the counter block not set", APPLY, r"orr\tw9, w9, #0xffffff80",
+     "orr\tw9, w9, #0x40",
      lambda k: [k.seal(0, 1)]),
-    ("AES-GCM-SIV: a counter that is one more twice", APPLY, r"add\tw13, w8, #2", "add\tw13, w8, #1", lambda k: [k.seal(0, 33)]),
+    ("AES-GCM-SIV: a counter that is one more twice", APPLY, r"add\tw13, w8, #2", "add\tw13, w8, #1",
+     lambda k: [k.seal(0, 33)]),
     ("AES-GCM-SIV: an early exit in the comparison of the tag", OPEN_IN, r"(\tcmeq\t.*\n)",
-     r"\tfmov\tx8, d0\n\tfmov\tx9, d1\n\tcmp\tx8, x9\n\tb.ne\t77f\n77:\n\tadrp\tx8, .LCPI34_0\n\1", lambda k: [k.open(0, 0)]),
+     r"\tfmov\tx8, d0\n\tfmov\tx9, d1\n\tcmp\tx8, x9\n\tb.ne\t77f\n77:\n\tadrp\tx8, .LCPI34_0\n\1",
+     lambda k: [k.open(0, 0)]),
     ("AES-GCM-SIV: a refused text not encrypted again", OPEN_IN, r"tbz\tw\d+, #0, ", "b\t", lambda k: [k.open(0, 1)]),
 ]

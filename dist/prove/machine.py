@@ -32,8 +32,10 @@ from bits import PUBLIC, Pause, Unproved
 
 Pointer = namedtuple("Pointer", "base offset")  # base: the name of a region, or of a register's value before the call
 Distance = namedtuple("Distance", "base other offset")  # the address of a buffer, less that of another, plus a constant
-Number = namedtuple("Number", "base offset")  # 32 bits: a number of unknown value, plus a constant; higher bytes aren't known
-Mask = namedtuple("Mask", "equal differences")  # of 16 bits: it is `equal` if these bytes are all 0, else another number
+# 32 bits: a number of unknown value, plus a constant; higher bytes aren't known
+Number = namedtuple("Number", "base offset")
+# 16 bits: it is `equal` if these bytes are all 0, else another number
+Mask = namedtuple("Mask", "equal differences")
 Instruction = namedtuple("Instruction", "run name operands next form")  # form: the name and the kinds of operands
 
 SECRET = "secret"  # a flag that depends on the key or on data; None is a flag that is undefined
@@ -71,7 +73,8 @@ class Program:
         self.constants = self.constant_sections()
 
     def tool(self, name, *options):
-        return subprocess.run([self.machine.tools + name, *options, self.path], capture_output=True, text=True, check=True).stdout
+        return subprocess.run([self.machine.tools + name, *options, self.path], capture_output=True, text=True,
+                              check=True).stdout
 
     def disassembled(self):
         lines = {}
@@ -82,8 +85,8 @@ class Program:
         return lines
 
     def constant_sections(self):
-        """(address, bytes) of each section of the ELF file that is loaded and neither written nor run, and of the linker's table of
-        addresses, which nothing writes after the start."""
+        """(address, bytes) of each section of the ELF file that is loaded and neither written nor run, and of the
+        linker's table of addresses, which nothing writes after the start."""
         raw = open(self.path, "rb").read()
         table, = struct.unpack_from("<Q", raw, 0x28)
         size, count = struct.unpack_from("<HH", raw, 0x3a)
@@ -112,7 +115,8 @@ class Machine:
         self.shifted, self.lost, self.origins, self.native, self.after_external = {}, set(), {}, None, None
         self.choices, self.placed, self.may_reveal, self.assumed, self.equalities = [], {}, False, (), {}
         self.written = (), 0
-        self.wraps, self.wrap = None, 1 << 64  # a word of unknown value, and the offset from which on it has wrapped around
+        # a word of unknown value, and the offset from which on it has wrapped around
+        self.wraps, self.wrap = None, 1 << 64
         self.enter(arguments)
         self.top = self.lowest = self.general[self.stack_pointer].offset
         self.before = dict(self.general)
@@ -134,9 +138,11 @@ class Machine:
             return int.from_bytes(bytes(b), "little")
         if len(b) > 1 and b[0] in self.domain.opaque_of:
             word = self.domain.opaque_of[b[0]][0]
-            if (isinstance(word, Mask) or len(b) == 8 and isinstance(word, (Pointer, Distance))) and self.to_bytes(word, len(b)) == list(b):
+            whole = isinstance(word, Mask) or len(b) == 8 and isinstance(word, (Pointer, Distance))
+            if whole and self.to_bytes(word, len(b)) == list(b):
                 return word
-            if len(b) > 3 and isinstance(word, Number) and self.to_bytes(word, 4) == list(b[:4]) and {*b[4:]} <= {0, self.domain.undefined}:
+            rest = {*b[4:]} <= {0, self.domain.undefined}
+            if len(b) > 3 and isinstance(word, Number) and self.to_bytes(word, 4) == list(b[:4]) and rest:
                 return word
         return tuple(b)
 
@@ -290,7 +296,8 @@ class Machine:
             raise Unproved("a branch or a condition depends on an undefined flag")
         if self.assumed and flag[0] == "zero" and set(flag[1:]) == set(self.assumed):
             return 0
-        public = flag[0] == "zero" and not any(self.domain.depends[c] & ~PUBLIC for b in flag[1:] for c in self.domain.cells(b))
+        public = flag[0] == "zero" and not any(self.domain.depends[c] & ~PUBLIC for b in flag[1:]
+                                               for c in self.domain.cells(b))
         if flag == SECRET or flag[0] == "zero" and not (public or self.may_reveal):
             raise Unproved("a branch or a condition depends on the key or on data")
         return self.by_place(flag)

@@ -37,8 +37,8 @@ def link(source, out, machine=X86_64):
     """Assembles and links one build; libc's three functions are names alone, of which the contract is used."""
     for s, o in ((source, out + ".o"), (os.path.join(HERE, machine.host), out + ".host.o")):
         subprocess.run([machine.tools + "gcc", "-c", s, "-o", o], check=True)
-    subprocess.run([machine.tools + "ld", "-static", "-e", "start", "--build-id=none", "-z", "noexecstack", out + ".host.o", out + ".o",
-                    "-o", out], check=True)
+    subprocess.run([machine.tools + "ld", "-static", "-e", "start", "--build-id=none", "-z", "noexecstack",
+                    out + ".host.o", out + ".o", "-o", out], check=True)
     return Program(out, machine)
 
 
@@ -71,7 +71,8 @@ def aes_cases(k, everything):
         yield "add_keystream_with %d at 3" % n, k.add_keystream(3, n, way="_with")
     for n, wraps in (40, (2,)), (280, choose(range(1, 19), (), (1, 2, 9, 17))):
         for wrap in wraps:
-            yield "add_keystream %d at 5, the low half of the counter wraps before block %d" % (n, wrap), k.add_keystream(5, n, wrap)
+            what = "add_keystream %d at 5, the low half of the counter wraps before block %d" % (n, wrap)
+            yield what, k.add_keystream(5, n, wrap)
     for n in choose(range(65), (9,), (0, 1, 8, 17)):
         yield "cbc_decrypt %d" % n, k.cbc_decrypt(n)
     for n in choose(range(65), (2,), (0, 1)):
@@ -102,7 +103,8 @@ def gcm_cases(k, everything):
         yield "open %d, %d" % (a, n), k.open(a, n)
     ends = (8, 1, ()), (1, 2 ** 32 - 1, (7, 0, 255, 255)), (60, 2 ** 32 - 2, (7, 0, 255, 255))
     for length, counter, before in ends:
-        first, what = k.nonce_of(length, counter, before), "with a nonce of %d bytes, J_0 ends in %x" % (length, counter)
+        first = k.nonce_of(length, counter, before)
+        what = "with a nonce of %d bytes, J_0 ends in %x" % (length, counter)
         yield "begin " + what, k.begin(first)
         for n in choose((20, 40), (), (20,)):
             yield "seal %d bytes " % n + what, k.seal(5, n, first)
@@ -124,7 +126,8 @@ def piece_cases(k, choose):
         yield "additional %d after %d" % (n, before), k.additional(before, n)
     for call in "encrypt", "verify", "decrypt_unverified":
         phase = gcm.ENCRYPTING if call == "encrypt" else gcm.VERIFYING
-        pieces = [(gcm.ADDITIONAL, 5, 0, 3), (phase, 5, 20, 50), (gcm.ADDITIONAL, 0, 0, 16), (phase, 5, 7, 9), (phase, 0, 0, 0)]
+        pieces = [(gcm.ADDITIONAL, 5, 0, 3), (phase, 5, 20, 50), (gcm.ADDITIONAL, 0, 0, 16), (phase, 5, 7, 9),
+                  (phase, 0, 0, 0)]
         for of, a, before, n in choose(pieces, pieces[:1], pieces[1:]):
             yield "%s %d after %d, %d, phase %d" % (call, n, a, before, of), k.piece(call, of, a, before, n)
     for text, before, n in choose([(100, 0, 16), (100, 7, 20), (100, 32, 68)], [(100, 7, 20)], [(100, 32, 68)]):
@@ -132,7 +135,8 @@ def piece_cases(k, choose):
     states = [(gcm.ENCRYPTING, 16, 7), (gcm.ADDITIONAL, 0, 0), (gcm.ADDITIONAL, 5, 0), (gcm.ENCRYPTING, 5, 16)]
     for phase, a, n in choose(states, states[:1], states[1:]):
         yield "finish after %d, %d, phase %d" % (a, n, phase), k.finish(phase, a, n)
-        yield "accept after %d, %d, phase %d" % (a, n, phase), k.accept(phase if phase == gcm.ADDITIONAL else gcm.VERIFYING, a, n)
+        phase = phase if phase == gcm.ADDITIONAL else gcm.VERIFYING
+        yield "accept after %d, %d, phase %d" % (a, n, phase), k.accept(phase, a, n)
     for length in choose((4, 8, 12, 13, 14, 15), (12,), (4, 15)):
         yield "accept_short of %d bytes" % length, k.accept(gcm.VERIFYING, 16, 7, length)
 
@@ -143,7 +147,8 @@ def siv_cases(k, everything):
     for length in (0, 1, 15, 17, 24, 31, 33, 256, 2 ** 32 + 16):
         yield "set_key of %d bytes" % length, k.set_key_refused(length)
     blocks = [(0, 16 * n) for n in range(1, 65)] + [(n, 0) for n in range(1, 100, 9)]
-    for a, n in choose([(0, 0), (1, 1), (13, 33), (40, 80), (20, 145), *blocks], [(13, 33)], [(0, 0), (1, 1), (40, 80), (20, 145)]):
+    for a, n in choose([(0, 0), (1, 1), (13, 33), (40, 80), (20, 145), *blocks], [(13, 33)],
+                       [(0, 0), (1, 1), (40, 80), (20, 145)]):
         yield "seal %d, %d" % (a, n), k.seal(a, n)
     for a, n in choose([(0, 0), (1, 1), (13, 33), (40, 80), (20, 145)], [(1, 1)], [(0, 0), (20, 145)]):
         yield "open %d, %d" % (a, n), k.open(a, n)
@@ -156,14 +161,16 @@ LIBRARIES = {"aes": (aes.Keyed, aes_cases), "gcm": (gcm.KeyedGcm, gcm_cases), "s
 
 # The header: the compiler compares what it says with what the statements have.
 def header_cases(dist, machine=X86_64):
-    for statuses, structs, name in ((aes.STATUSES, aes.STRUCTS, "fotsgure_aes"), (gcm.STATUSES, gcm.STRUCTS | siv.STRUCTS, "fotsgure_gcm")):
+    for statuses, structs, name in ((aes.STATUSES, aes.STRUCTS, "fotsgure_aes"),
+                                    (gcm.STATUSES, gcm.STRUCTS | siv.STRUCTS, "fotsgure_gcm")):
         lines = ["#include <stddef.h>", "#include <%s.h>" % name]
         lines += ["_Static_assert(%s_%s == %d, \"\");" % (name.upper(), s, n) for n, s in enumerate(statuses)]
         for struct, (size, fields) in structs.items():
             lines.append("_Static_assert(sizeof(struct %s) == %d, \"\");" % (struct, size))
-            lines += ["_Static_assert(offsetof(struct %s, %s) == %d, \"\");" % (struct, f, at) for f, at in fields.items()]
-        result = subprocess.run([machine.tools + "gcc", "-fsyntax-only", "-I", dist + "/include", "-x", "c", "-"], input="\n".join(lines),
-                                capture_output=True, text=True)
+            lines += ["_Static_assert(offsetof(struct %s, %s) == %d, \"\");" % (struct, f, at)
+                      for f, at in fields.items()]
+        result = subprocess.run([machine.tools + "gcc", "-fsyntax-only", "-I", dist + "/include", "-x", "c", "-"],
+                                input="\n".join(lines), capture_output=True, text=True)
         yield "%s.h: %d facts of sizes, places and statuses" % (name, len(lines) - 2), result.stderr.strip()
 
 
@@ -172,7 +179,8 @@ def version(dist, library):
     return int(re.search(r"#define FOTSGURE_%s_VERSION (\d+)" % library.upper(), text)[1])
 
 
-BESIDE = "set_key", "encrypt_blocks 17", "add_keystream 130 at 0", "unwrap 3", "seal 1, 1", "open 0, 0"  # calls that also run on the processor
+# calls that also run on the processor
+BESIDE = "set_key", "encrypt_blocks 17", "add_keystream 130 at 0", "unwrap 3", "seal 1, 1", "open 0, 0"
 
 
 class Task:
@@ -229,7 +237,8 @@ class Task:
         return "%d instructions, %d bytes of stack; left: %s" % (m.steps, m.top - m.lowest, left or "nothing")
 
     def compare(self, seed):
-        self.compared |= compare_all(self.program, {form: at for form, at in self.used.items() if form not in self.compared})
+        self.compared |= compare_all(self.program,
+                                     {form: at for form, at in self.used.items() if form not in self.compared})
 
 
 def run_task(*arguments):
@@ -259,7 +268,8 @@ def missing(machine):
 
 def say_what_is_missing():
     for machine, processor in PROCESSORS.items():
-        for consequence, names in (("is not proved", missing(machine)), ("is not compared with a processor", processor.missing())):
+        for consequence, names in (("is not proved", missing(machine)),
+                                   ("is not compared with a processor", processor.missing())):
             if names:
                 print("%s %s here, without %s" % (machine.__name__, consequence, ", ".join(names)))
 

@@ -25,11 +25,12 @@ class KeyedSiv(KeyedGcm):
         """Prepares a key in *siv (KeyExpansion, FIPS 197, 5.2). *siv may be uninitialized: none of it is read. Nothing
         of what it held is left. DONE if key_length is 16 or 32"""
         siv = Buffer("siv", [self.key_domain.undefined] * STRUCT, ANY)
-        m = prove(self.key_domain, self.program, Call("gcm_siv_set_key", [siv, Buffer("key", self.key), self.key_size], DONE), seed)
+        call = Call("gcm_siv_set_key", [siv, Buffer("key", self.key), self.key_size], DONE)
+        m = prove(self.key_domain, self.program, call, seed)
         self.struct = [self.byte_for_any(b) for b in m.regions["siv"].content]
         fixed = self.struct[:4] + self.struct[4 + 4 * len(self.w):]
         compare(self.domain, fixed, [self.key_size] + [0] * (len(fixed) - 1), "the length and what no round key takes")
-        self.make_message()
+        self.once("message", self.make_message)
         return m
 
     def set_key_refused(self, length):
@@ -85,7 +86,8 @@ class KeyedSiv(KeyedGcm):
 
     def derivation(self, few):
         """derive_keys (4): blocks of a number of 32 bits, the lowest byte first, and the nonce."""
-        blocks = self.once("blocks", lambda: [self.aes.cipher(little(i, 4) + self.nonce, self.w) for i in range(len(self.derived))])
+        inputs = [little(i, 4) + self.nonce for i in range(len(self.derived))]
+        blocks = self.once("blocks", lambda: [self.aes.cipher(block, self.w) for block in inputs])
         yield "memory", sum(blocks, []), sum(self.derived, [])
         for power, after in () if few else zip(self.powers, self.powers[1:]):
             yield "hash", product(self.domain, power, self.powers[0]), after
@@ -129,13 +131,14 @@ class KeyedSiv(KeyedGcm):
             yield "memory", block, any_block
             yield "memory", tag, self.own_tag
             yield self.first_counter()
-        return Call("gcm_siv_seal", [self.schedule(), Buffer("nonce", self.nonce), Buffer("additional", additional), additional_length,
-                                     Buffer("text", text, self.crypted_by_tag(text)), text_length,
-                                     Buffer("tag", self.undefined(16), self.own_tag)], DONE, steps=steps, plain=text)
+        arguments = [self.schedule(), Buffer("nonce", self.nonce), Buffer("additional", additional), additional_length,
+                     Buffer("text", text, self.crypted_by_tag(text)), text_length]
+        arguments.append(Buffer("tag", self.undefined(16), self.own_tag))
+        return Call("gcm_siv_seal", arguments, DONE, steps=steps, plain=text)
 
     def open(self, additional_length, text_length):
-        """Decrypts `text_length` bytes in place if the tag is right (RFC 8452, 5). The tag can be compared only once the
-        text is decrypted, so a text that is refused is encrypted again: it is proved that it is, when the call
+        """Decrypts `text_length` bytes in place if the tag is right (RFC 8452, 5). The tag can be compared only once
+        the text is decrypted, so a text that is refused is encrypted again: it is proved that it is, when the call
         returns, as it was. .. REFUSED; else DONE."""
         additional, sealed = self.many(self.more, additional_length), self.many(self.sealed, text_length)
         text = self.many(self.text, text_length)
@@ -150,17 +153,19 @@ class KeyedSiv(KeyedGcm):
             yield from hashing.steps()
             yield "memory", block, any_block
             yield self.first_counter()
-            if text:  # it became the sum of `sealed` and the keystream; so with the keystream once more it is `sealed`
+            if text:  # it became the sum of `sealed` and keystream; with the keystream once more it is `sealed`
                 yield "text", self.crypted_by_tag(text), sealed
-        return Call("gcm_siv_open", [self.schedule(), Buffer("nonce", self.nonce), Buffer("additional", additional), additional_length,
-                                     Buffer("text", sealed, text), text_length, Buffer("tag", self.own_tag)], DONE, steps=steps,
-                    reveals=self.aes.xor(self.own_tag, right), refused=REFUSED, plain=text)
+        arguments = [self.schedule(), Buffer("nonce", self.nonce), Buffer("additional", additional), additional_length,
+                     Buffer("text", sealed, text), text_length, Buffer("tag", self.own_tag)]
+        reveals = self.aes.xor(self.own_tag, right)
+        return Call("gcm_siv_open", arguments, DONE, steps=steps, reveals=reveals, refused=REFUSED, plain=text)
 
     def refused(self):
         """TOO_LONG or NO_KEY: .. A call that doesn't return DONE has changed nothing"""
         data = self.many(self.text, 48)
-        for siv, additional, text, status in ((self.no_key(), 16, 16, NO_KEY), (self.schedule(), MOST + 1, 16, TOO_LONG),
-                                              (self.no_key(), 16, MOST + 1, TOO_LONG)):
-            arguments = [siv, Buffer("nonce", data[:12]), Buffer("additional", data), additional, Buffer("text", data, data), text]
+        none, key, more = self.no_key(), self.schedule(), MOST + 1
+        for siv, *lengths, status in (none, 16, 16, NO_KEY), (key, more, 16, TOO_LONG), (none, 16, more, TOO_LONG):
+            arguments = [siv, Buffer("nonce", data[:12]), Buffer("additional", data), lengths[0],
+                         Buffer("text", data, data), lengths[1]]
             yield Call("gcm_siv_seal", arguments + [Buffer("tag", data[:16], data[:16])], status)
             yield Call("gcm_siv_open", arguments + [Buffer("tag", data[:16])], status)

@@ -15,8 +15,8 @@ class Values:
         if d.names[cell].startswith("counter byte "):
             i = int(d.names[cell].split()[2])
             low = 8 <= i < 16
-            word = Pointer(self.counter.word, self.counter.first + block - 1) if low else Pointer("counter high", i // 16)
-            return self.word(word) >> 8 * (7 - i % 8) & 255
+            place = (self.counter.word, self.counter.first + block - 1) if low else ("counter high", i // 16)
+            return self.word(Pointer(*place)) >> 8 * (7 - i % 8) & 255
         if cell in d.numbers and block > 1:
             k, number = d.numbers[cell]
             return sum(self.cell(d.cell_of(b)[0], 1) << 8 * j for j, b in enumerate(number)) + block - 1 >> 8 * k & 255
@@ -93,7 +93,8 @@ class Values:
     def set_byte(self, domain, b, value):
         """Gives the cell of which a byte is a function the value with which the byte has this one."""
         tables = [(domain.forms[x >> 9][0][1], x & 1) for x in domain.bits(b)]
-        self.cells[domain.cell_of(b)] = next(c for c in range(256) if sum((t >> c & 1 ^ e) << j for j, (t, e) in enumerate(tables)) == value)
+        byte = lambda c: sum((t >> c & 1 ^ e) << j for j, (t, e) in enumerate(tables))
+        self.cells[domain.cell_of(b)] = next(c for c in range(256) if byte(c) == value)
 
     def give(self, b, value):
         """Gives a byte of a statement's content this value: it is a constant, a byte of a word, or a cell."""
@@ -107,7 +108,8 @@ class Values:
     def renamed(self, pairs, domain):
         """What stands for a byte becomes another, of another domain perhaps: cells get the values that they stand
         for."""
-        known = [(new, self.full_byte(b)) for b, new in pairs if (new != b or domain is not self.domain) and domain.symbolic(new)]
+        known = [(new, self.full_byte(b))
+                 for b, new in pairs if (new != b or domain is not self.domain) and domain.symbolic(new)]
         if domain is not self.domain:
             self.domain, self.cells, self.bytes = domain, {}, {}
         for new, value in known:

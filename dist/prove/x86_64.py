@@ -59,7 +59,7 @@ class X86_64(Machine):
     def leave(self):
         ret(self, "ret")
 
-    def prepare(self, instruction, place, drawn):
+    def prepare(self, instruction, place):
         """For an instruction by itself: addresses that it may access, or jump to."""
         for o in instruction.operands:
             if isinstance(o, Mem) and instruction.name != "lea":
@@ -74,7 +74,8 @@ class X86_64(Machine):
     @staticmethod
     def decode(text, following):
         name, _, rest = text.split("#")[0].strip().partition(" ")
-        # Prefixes that fill up a nop, or a call that the linker shortened; of a jump by a table, which may lead anywhere.
+        # Prefixes that fill up a nop, or a call that the linker shortened; of a jump by a table, which may lead
+        # anywhere.
         while name in ("cs", "data16", "addr32", "notrack"):
             name, _, rest = rest.strip().partition(" ")
         operands = [] if name == "nop" or not rest else [operand(o.strip(), name, following) for o in rest.split(",")]
@@ -595,7 +596,8 @@ def vpermq(m, name, to, source, order):
 def punpckl(m, name, *operands):
     a, b = sources(m, name, operands)
     lane = {"bw": 1, "wd": 2, "dq": 4, "qdq": 8}[name.split("punpckl")[1]]
-    m.put_vector(name, operands[0], [x for i in range(0, len(a), 16) for k in range(i, i + 8, lane) for x in a[k:k + lane] + b[k:k + lane]])
+    m.put_vector(name, operands[0], [x for i in range(0, len(a), 16) for k in range(i, i + 8, lane)
+                                     for x in a[k:k + lane] + b[k:k + lane]])
 
 
 @op("pblendw", "vpblendw", "vpblendd")
@@ -624,7 +626,8 @@ def movss(m, name, to, source):
 
 @op("pcmpeqb", "vpcmpeqb")
 def pcmpeqb(m, name, *operands):
-    m.put_vector(name, operands[0], [m.equality(m.domain.xor_byte(x, y), 255, 0) for x, y in zip(*sources(m, name, operands))])
+    m.put_vector(name, operands[0], [m.equality(m.domain.xor_byte(x, y), 255, 0)
+                                     for x, y in zip(*sources(m, name, operands))])
 
 
 @op("pmovmskb", "vpmovmskb")
