@@ -213,11 +213,10 @@ def briefly(where):
     return ", ".join([day, load, *rest])
 
 
-def compiled(source, name, archive, *more, after=()):
-    """A program of one C file and archives."""
+def compiled(source, name, archive, *flags):
+    """A program of one C file and an archive."""
     made = ROOM / f"{source.parent.name}-{source.stem}-{name}"
-    flags = ["-std=gnu11", "-O2", "-Wall", "-Wextra", "-Wl,-z,now", f"-I{TOP / 'dist/include'}", *more]
-    run(["cc", *flags, "-o", made, source, archive, *after], source.name)
+    run(["cc", "-std=gnu11", "-O2", "-Wall", "-Wextra", "-Wl,-z,now", *flags, "-o", made, source, archive], source.name)
     return made
 
 

@@ -1,5 +1,5 @@
 /* Calls on structs of AES-GCM-SIV that nobody has written: dist/prove shows it of the others. Prints where each is, for
- * tools/unwritten.awk. With PLANTED one byte is read first. */
+ * tools/unwritten.py. With PLANTED one byte is read first. */
 #include "fotsgure_gcm.h"
 
 #include <stdio.h>
