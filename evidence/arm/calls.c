@@ -235,7 +235,16 @@ static void prepare(const struct call *call, int of_key, int of_message) {
 static uint8_t stack[STACK] __attribute__((aligned(64))), images[RUNS][STACK], known[RUNS][4 * ROOM];
 static size_t known_bytes[RUNS];
 static void (*called)(void);
+/* Empties the registers that a call for Windows saves on the stack: libc's memcpy may have left a copy of what depends on a key there. */
+#define EMPTY(n) "pxor %%xmm" #n ", %%xmm" #n "\n"
+static void empty_registers(void) {
+#ifdef __x86_64__
+    __asm__ volatile(EMPTY(6) EMPTY(7) EMPTY(8) EMPTY(9) EMPTY(10) EMPTY(11) EMPTY(12) EMPTY(13) EMPTY(14) EMPTY(15)
+        : : : "xmm6", "xmm7", "xmm8", "xmm9", "xmm10", "xmm11", "xmm12", "xmm13", "xmm14", "xmm15");
+#endif
+}
 static void enter(void) {
+    empty_registers();
     BEGIN();
     called();
     END();
@@ -337,6 +346,8 @@ static void at_lengths(const struct call *call) {
 }
 
 int main(void) {
+    /* At its first call a library may ask which of its builds the processor runs. */
+    (void)(fotsgure_aes_version() + fotsgure_gcm_version());
     getcontext(&begin);
     for (size = 16; size <= 32; size += 8)
         for (const struct call *call = calls; call < calls + OF(calls); call++)
