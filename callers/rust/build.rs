@@ -51,7 +51,7 @@ fn build(name: &str, out: &Path) {
         let object = out.join(source.file_name().unwrap()).with_extension("o");
         let mut compile = Command::new(named("CC", "cc"));
         compile.args(["-O2", "-fPIC", "-ffunction-sections", "-c", "-o"]).arg(&object);
-        if source.extension().is_some_and(|it| it == "s") && arch == "x86_64" {
+        if source.extension() == Some("s".as_ref()) && arch == "x86_64" {
             compile.arg("-Wa,-defsym,chosen=1");
         }
         run(compile.arg("-I").arg(dist.join("include")).arg(&source));

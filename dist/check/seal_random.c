@@ -17,7 +17,6 @@
 #define getrandom played
 #define BCryptGenRandom(of, bytes, count, flags) (played(bytes, count, 0) == (ssize_t)(count) ? 0 : -1)
 #define getentropy(bytes, count) (played(bytes, count, 0) == (ssize_t)(count) ? 0 : -1)
-#define BCryptGenRandom(algorithm, bytes, count, flags) getentropy(bytes, count)
 static ssize_t played(void *bytes, size_t count, unsigned flags);
 #include "../seal_random.c"
 

@@ -5,7 +5,7 @@ import re
 from collections import namedtuple
 
 from bits import LOST, Unproved
-from machine import RETURN_ADDRESS, SECRET, Instruction, Machine, Pointer, is_int, is_pointer
+from machine import RETURN_ADDRESS, SECRET, Instruction, Machine, Mask, Pointer, is_int, is_pointer
 
 Register = namedtuple("Register", "name size")
 Vector = namedtuple("Vector", "number size lane")  # lane: how many bytes an element has
@@ -39,7 +39,6 @@ class Aarch64(Machine):
         at = (len(stack) - len(above)) // 16 * 16
         stack[at:at + len(above)] = above
         self.general["sp"] = Pointer("stack", at)
-        self.equalities = {}
         for n in self.kept_halves:
             self.vectors[n][:8] = self.to_bytes(Pointer("the caller's d%d" % n, 0), 8)
 
@@ -59,6 +58,19 @@ class Aarch64(Machine):
         super().external(name)
         for n, half in zip(self.kept_halves, halves):
             self.vectors[n][:8] = half
+
+    def prepare(self, instruction, place):
+        """For an instruction by itself: addresses that it may access, or jump to."""
+        for o in instruction.operands:
+            if isinstance(o, Memory):
+                if o.index:
+                    self.general[o.index] = 16
+                back = -o.before - o.offset - (16 * o.scale if o.index else 0)
+                at = place._replace(base="stack") if o.base == "sp" else place
+                self.general[o.base] = self.offset(at, back // 16 * 16 if o.base == "sp" else back)
+            elif isinstance(o, Register) and instruction.name in ("br", "blr"):
+                self.general[o.name] = self.program.symbols["start"]
+        self.general["x30"] = RETURN_ADDRESS
 
     def leave(self):
         self.go_to(self.general["x30"])
@@ -314,8 +326,12 @@ def adrp(m, name, to, page):
 @op("and", "ands", "orr", "eor", "bic", "orn")
 def logic(m, name, to, a, b):
     if isinstance(to, Vector):
+        if name == "bic":
+            return m.write(to, [without(m, x, y) for x, y in zip(m.read(a), m.read(b))])
         return m.write(to, combined(m.domain, name, m.read(a), m.read(b)))
     x, y = m.get(a), m.get(b)
+    if isinstance(x, Mask) and not x.equal and name == "ands" and y == 0xffff and to.name == "xzr":
+        return m.set_flags(c=0, o=0, z=m.zero_flag(x.differences), s=SECRET)
     if name == "orr" and x == 0:
         r = y
     elif name == "orr" and is_pointer(x) and is_int(y):
@@ -547,37 +563,46 @@ def cmtst(m, name, to, a, b):
     m.write(to, out)
 
 
-# A comparison of secrets: nothing but whether all bytes are equal may be asked, of `umaxv`, where a call may reveal it.
 @op("cmeq")
 def cmeq(m, name, to, a, b):
-    m.write(to, [equality(m, m.domain.xor_byte(x, y), 255) for x, y in zip(m.read(a), m.read(b))])
+    m.write(to, [m.equality(m.domain.xor_byte(x, y), 255, 0) for x, y in zip(m.read(a), m.read(b))])
 
 
-def equality(m, difference, equal):
-    """A byte that is `equal` if the difference is 0, and its complement if it is not."""
-    if difference < 256 or 1 in m.domain.bits(difference):
-        return equal ^ 255 * (difference != 0)
-    b = m.domain.opaque("%d if %d is 0" % (equal, difference))
-    m.equalities[b] = difference, equal
-    m.lost.add(b)
-    return b
+def without(m, x, y):
+    """x and not y, where y may be the result of a comparison."""
+    known = m.equalities.get(y)
+    if known and x < 256:
+        return m.equality(known[0], x & ~known[1], x & ~known[2])
+    return combined(m.domain, "bic", [x], [y])[0]
 
 
 @op("not")
 def not_(m, name, to, a):
-    pairs = [(x, m.equalities.get(x)) for x in m.read(a)]
-    m.write(to, [equality(m, pair[0], 255 ^ pair[1]) if pair else m.domain.xor_byte(x, 255) for x, pair in pairs])
+    m.write(to, [without(m, 255, x) for x in m.read(a)])
 
 
 @op("umaxv")
 def umaxv(m, name, to, a):
-    b = [m.equalities.get(x, (x, 0)) for x in m.read(a)]
-    known = [x for x, equal in b if x < 256 and not equal]
-    if len(known) < len(b) and 255 not in known:
-        if any(equal for _, equal in b):
-            raise Unproved("the maximum of bytes that depend on the key or on data")
-        known = [255 - 255 * m.decide(m.zero_flag([x for x, _ in b]))]
-    m.write(to, [max(known)])
+    b = m.read(a)
+    known = [m.equalities.get(x) for x in b]
+    if max(b) < 256:
+        return m.write(to, [max(b)])
+    if None in known or {k[1:] for k in known} != {(0, 255)}:
+        raise Unproved("the maximum of bytes that depend on the key or on data")
+    m.write(to, [255 - 255 * m.decide(m.zero_flag([k[0] for k in known]))])
+
+
+@op("addv")
+def addv(m, name, to, a):
+    """The sum of lanes that are 0 if bytes are equal: if it can't be too large, it is 0 only if all are equal."""
+    b = m.read(a)
+    known = [m.equalities.get(x) for x in b]
+    if max(b) < 256:
+        return m.write(to, m.to_bytes(sum(m.from_bytes(x) for x in lanes(b, a.lane)), a.lane))
+    if None in known or any(equal for _, equal, _ in known) or a.lane != 2 or any(
+            sum(n for _, _, n in known[k::2]) > 255 for k in (0, 1)):
+        raise Unproved("a sum of what depends on the key or on data")
+    m.write(to, m.to_bytes(m.mask(0, [k[0] for k in known[::2]] + [k[0] for k in known[1::2]]), 2))
 
 
 # Bytes in another order.

@@ -14,7 +14,8 @@ from standards import ICV1, ICV2, Aes, number
 # The header's enum, structs and sizes; prove.py has the compiler compare them.
 DONE, KEY_LENGTH, NO_KEY, UNEQUAL_COUNTS, KEYSTREAM_END, INVALID_COUNT, REFUSED = range(7)
 STATUSES = "DONE KEY_LENGTH NO_KEY UNEQUAL_COUNTS KEYSTREAM_END INVALID_COUNT REFUSED".split()
-STRUCTS = {"fotsgure_aes": (484, {"key_length": 0, "round_keys": 4}), "fotsgure_aes_ctr": (24, {"iv": 0, "position": 16}),
+STRUCTS = {"fotsgure_aes": (484, {"key_length": 0, "round_keys": 4}),
+           "fotsgure_aes_ctr": (24, {"iv": 0, "position": 16}),
            "fotsgure_aes_cbc": (16, {"previous": 0})}
 STRUCT = 484
 
@@ -25,7 +26,7 @@ NEVER = 1 << 64
 
 class Keyed:
     """One build and one key size. `domain` is that of arbitrary round keys, `key_domain` that of an arbitrary key."""
-    library = "aes"
+    library, struct_size = "aes", STRUCT
 
     def __init__(self, program, key_size):
         self.program, self.key_size = program, key_size
@@ -36,7 +37,8 @@ class Keyed:
         self.w = [[self.domain.fresh("w[%d][%d]" % (i, k), KEY) for k in range(4)] for i in range(len(self.key_words))]
         self.name_round_keys()
         self.first = [self.domain.fresh("byte %d" % i, DATA, True) for i in range(16)]
-        self.ciphers = {"encrypt": self.aes.cipher(self.first, self.w), "decrypt": self.aes.inv_cipher(self.first, self.w)}
+        self.ciphers = {"encrypt": self.aes.cipher(self.first, self.w),
+                        "decrypt": self.aes.inv_cipher(self.first, self.w)}
         self.kept = {}
 
     def name_round_keys(self):
@@ -70,7 +72,8 @@ class Keyed:
         return self.domain.pack([self.bit_for_any(x) for x in self.key_domain.bits(b)])
 
     def proved(self, call, seed=None):
-        return prove(self.key_domain if call.later else self.domain, self.program, call, seed)
+        given_the_key = any(b.content is self.key for b in call.buffers)
+        return prove(self.key_domain if given_the_key else self.domain, self.program, call, seed)
 
     def once(self, what, make):
         """What several statements need, made when it is first asked for."""
@@ -90,9 +93,7 @@ class Keyed:
         """Expands a key into *aes (KeyExpansion, FIPS 197, 5.2). *aes may be uninitialized: none of it is read. ..
         every byte that neither a round key of the new key nor its length takes is 0. DONE if key_length is 16, 24 or
         32"""
-        d = self.key_domain
-        call = Call("aes_set_key", [Buffer("aes", [d.undefined] * STRUCT, ANY), Buffer("key", self.key), self.key_size], DONE)
-        m = prove(d, self.program, call, seed)
+        m = self.proved(self.expansion(DONE, self.key_size, ANY), seed)
         self.struct = [self.byte_for_any(b) for b in m.regions["aes"].content]
         if self.struct[:4] != [self.key_size, 0, 0, 0]:
             raise Unproved("the struct has another length")
@@ -101,28 +102,32 @@ class Keyed:
                 raise Unproved("the struct holds more than round keys and zeros")
         return m
 
+    def expansion(self, status, length, after, **more):
+        struct = Buffer(self.library, [self.key_domain.undefined] * self.struct_size, after)
+        return Call(self.library + "_set_key", [struct, Buffer("key", self.key), length], status, **more)
+
     def set_key_refused(self, length):
         """.. else KEY_LENGTH, and *aes then is all zeros and holds no key."""
-        d = self.key_domain
-        return Call("aes_set_key", [Buffer("aes", [d.undefined] * STRUCT, [0] * STRUCT), Buffer("key", self.key), length], KEY_LENGTH)
+        return self.expansion(KEY_LENGTH, length, [0] * self.struct_size)
 
     def key_length(self):
         """Returns how many bytes the key has: 16, 24 or 32"""
-        return Call("aes_key_length", [self.schedule()], self.key_size, 8)
+        return Call(self.library + "_key_length", [self.schedule()], self.key_size, 8)
 
     def key_length_of_none(self):
         """.. or 0 if *aes holds no key."""
-        return Call("aes_key_length", [self.no_key()], 0, 8)
+        return Call(self.library + "_key_length", [self.no_key()], 0, 8)
 
     def wipe(self):
         """Overwrites *aes with zeros: it then holds no key. It may be uninitialized"""
-        return Call("aes_wipe", [Buffer("aes", self.undefined(STRUCT), [0] * STRUCT)], None)
+        return Call(self.library + "_wipe",
+                    [Buffer(self.library, self.undefined(self.struct_size), [0] * self.struct_size)], None)
 
     def schedule(self):
-        return Buffer("aes", self.struct)
+        return Buffer(self.library, self.struct)
 
     def no_key(self):
-        return Buffer("aes", [0] * STRUCT)
+        return Buffer(self.library, [0] * self.struct_size)
 
     # Blocks.
     def content(self, count):
@@ -131,27 +136,27 @@ class Keyed:
     def results(self, direction, count):
         return [x for b in range(count) for x in self.of(self.ciphers[direction], b)]
 
-    def blocks(self, direction, count):
+    def blocks(self, direction, count, way=""):
         """Encrypts (Cipher, FIPS 197, 5.1) or decrypts (InvCipher, 5.3) each of `count` blocks in place under the key
-        of *aes. DONE"""
-        blocks = Buffer("blocks", self.content(count), self.results(direction, count))
-        return Call("aes_%s_blocks" % direction, [self.schedule(), blocks, count], DONE, plain=self.plain(direction, count))
+        of *aes. DONE. With _to: The same from one buffer to another; counts are in blocks. With _with: In one call,
+        under a key"""
+        content, results = self.content(count), self.results(direction, count)
+        return self.in_each_way("aes_%s_blocks" % direction, way, [], "blocks", content, results, count,
+                                plain=content if direction == "encrypt" else results)
 
-    def plain(self, direction, count):
-        return self.content(count) if direction == "encrypt" else self.results(direction, count)
-
-    def blocks_to(self, direction, count):
-        """The same from one buffer to another; counts are in blocks."""
-        output = Buffer("output", self.undefined(16 * count), self.results(direction, count))
-        return Call("aes_%s_blocks_to" % direction, [self.schedule(), Buffer("input", self.content(count)), count, output, count], DONE,
-                    plain=self.plain(direction, count))
-
-    def blocks_with(self, direction, count):
-        """In one call, under a key"""
-        content = self.content(count)
-        blocks = Buffer("blocks", self.not_yet("blocks", 16 * count), self.results(direction, count))
-        return Call("aes_%s_blocks_with" % direction, [Buffer("key", self.key), self.key_size, blocks, count], DONE,
-                    plain=self.plain(direction, count), later=lambda m: self.go_on(m, {"blocks": content}))
+    def in_each_way(self, name, way, state, data_name, data, results, count, **more):
+        """A call that changes data under the key of *aes or, with _with, under a key; or, with _to, that writes to
+        another buffer. `state` is what it takes between the key and the data."""
+        if way == "_to":
+            arguments = [self.schedule(), *state, Buffer("input", data), count,
+                         Buffer("output", self.undefined(len(data)), results), count]
+        elif way == "_with":
+            arguments = [Buffer("key", self.key), self.key_size, *state,
+                         Buffer(data_name, self.not_yet(data_name, len(data)), results), count]
+            more["later"] = lambda m: self.go_on(m, {data_name: data})
+        else:
+            arguments = [self.schedule(), *state, Buffer(data_name, data, results), count]
+        return Call(name + way, arguments, DONE, **more)
 
     # A call that expands a key begins in the key's domain. When it first computes with what isn't in it, what was made
     # of the key becomes the same of any round keys.
@@ -196,7 +201,8 @@ class Keyed:
         low, name = self.counter()[0], "counter low, from %d" % first
         d = self.domain
         d.words[name] = lambda offset, k: d.bits(d.byte_in_block(low[7 - k], offset - first + 1))
-        iv = [b for base in ("counter high", name) for b in [domain.opaque((Pointer(base, 0), k)) for k in range(8)][::-1]]
+        iv = [b for base in ("counter high", name)
+              for b in [domain.opaque((Pointer(base, 0), k)) for k in range(8)][::-1]]
         return iv, name
 
     def keystream(self, position, count, wrap):
@@ -210,33 +216,17 @@ class Keyed:
         data = [self.domain.byte_in_block(data_bytes[t % 16], t // 16 - first + 1) for t in places]
         return data, self.aes.xor(data, stream[position % 16:]), stream
 
-    def add_keystream(self, position, count, wrap=NEVER):
+    def add_keystream(self, position, count, wrap=NEVER, way=""):
         """adds (XOR) to each of `count` bytes the keystream's byte at its place, the first at ctr->position, and moves
-        the position on by `count`. .. (iv + i / 16) modulo 2^128. .. DONE"""
+        the position on by `count`. .. (iv + i / 16) modulo 2^128. .. DONE. With _to: The same from one buffer to
+        another; counts are in bytes. With _with: In one call, under a key"""
         data, want, stream = self.keystream(position, count, wrap)
-        iv, name = self.counter_words(self.domain, position // 16)
-        ctr = Buffer("ctr", iv + number(position, 8)[::-1], iv + number(position + count, 8)[::-1])
-        return Call("aes_add_keystream", [self.schedule(), ctr, Buffer("bytes", data, want), count], DONE,
-                    counter=Counter(name, position // 16, wrap), keystream=stream, plain=data + want)
-
-    def add_keystream_to(self, position, count):
-        """The same from one buffer to another; counts are in bytes."""
-        data, want, stream = self.keystream(position, count, NEVER)
-        iv, name = self.counter_words(self.domain, position // 16)
-        ctr = Buffer("ctr", iv + number(position, 8)[::-1], iv + number(position + count, 8)[::-1])
-        output = Buffer("output", self.undefined(count), want)
-        return Call("aes_add_keystream_to", [self.schedule(), ctr, Buffer("input", data), count, output, count], DONE,
-                    counter=Counter(name, position // 16, NEVER), keystream=stream, plain=data + want, may_stay=("plain",))
-
-    def add_keystream_with(self, position, count):
-        """In one call, under a key"""
-        data, want, stream = self.keystream(position, count, NEVER)
-        iv, name = self.counter_words(self.key_domain, position // 16)
+        before, name = self.counter_words(self.key_domain if way == "_with" else self.domain, position // 16)
         after, _ = self.counter_words(self.domain, position // 16)
-        ctr = Buffer("ctr", iv + number(position, 8)[::-1], after + number(position + count, 8)[::-1])
-        bytes_ = Buffer("bytes", self.not_yet("bytes", count), want)
-        return Call("aes_add_keystream_with", [Buffer("key", self.key), self.key_size, ctr, bytes_, count], DONE,
-                    counter=Counter(name, position // 16, NEVER), keystream=stream, plain=data + want, later=lambda m: self.go_on(m, {"bytes": data}))
+        ctr = Buffer("ctr", before + number(position, 8)[::-1], after + number(position + count, 8)[::-1])
+        return self.in_each_way("aes_add_keystream", way, [ctr], "bytes", data, want, count,
+                                counter=Counter(name, position // 16, wrap),
+                                keystream=stream, plain=data + want, may_stay=("plain",) if way == "_to" else ())
 
     # CBC (SP 800-38A, 6.2).
     def cbc_decrypt(self, count):
@@ -246,7 +236,8 @@ class Keyed:
         content = self.content(count)
         chain = previous + content
         want = self.aes.xor(self.results("decrypt", count), chain)
-        return Call("aes_cbc_decrypt", [self.schedule(), Buffer("cbc", previous, chain[-16:]), Buffer("blocks", content, want), count],
+        return Call("aes_cbc_decrypt", [self.schedule(), Buffer("cbc", previous, chain[-16:]),
+                                        Buffer("blocks", content, want), count],
                     DONE, plain=want)
 
     def cbc_encrypt(self, count):
@@ -297,7 +288,8 @@ class Keyed:
         def steps():
             for k in range(1, 6 * n + 1):  # t is 6n + 1 - k
                 done_a = start if k == 6 * n else self.aes.xor(self.of(a, k), number(6 * n - k, 8))
-                yield "vector", self.of(self.ciphers["decrypt"], k - 1), done_a + (last if k == 5 * n + 1 else self.of(r, k - 1 + n))
+                done_r = last if k == 5 * n + 1 else self.of(r, k - 1 + n)
+                yield "vector", self.of(self.ciphers["decrypt"], k - 1), done_a + done_r
         key = [x for i in range(n) for x in (last if i == n - 1 else self.of(r, 7 * n - 1 - i))]
         return steps, wrapped, start, key
 
@@ -306,16 +298,18 @@ class Keyed:
         key has two or more, and becomes one more. .. DONE"""
         steps, key, wrapped = self.wrap_string(ICV1, count, self.first[8:])
         output = Buffer("output", self.undefined(8 * count + 8), wrapped)
-        return Call("aes_wrap", [self.schedule(), Buffer("input", key), count, output, count + 1], DONE, steps=steps, plain=key,
-                    may_stay=("plain",))
+        return Call("aes_wrap", [self.schedule(), Buffer("input", key), count, output, count + 1], DONE, steps=steps,
+                    plain=key, may_stay=("plain",))
 
     def unwrap(self, count):
         """.. fotsgure_aes_unwrap also REFUSED, and the output then is all zeros; else DONE. Whether the key is right is
         the only thing that a branch tells."""
         n = count - 1
         steps, wrapped, start, key = self.unwrap_string(n)
-        return Call("aes_unwrap", [self.schedule(), Buffer("input", wrapped), count, Buffer("output", self.undefined(8 * n), key), n],
-                    DONE, steps=steps, reveals=self.aes.xor(start, ICV1), refused=REFUSED, refused_after={"output": [0] * 8 * n}, plain=key)
+        return Call("aes_unwrap", [self.schedule(), Buffer("input", wrapped), count,
+                                   Buffer("output", self.undefined(8 * n), key), n],
+                    DONE, steps=steps, reveals=self.aes.xor(start, ICV1), refused=REFUSED,
+                    refused_after={"output": [0] * 8 * n}, plain=key)
 
     def wrap_padded(self, length):
         """Key wrap with padding (KWP, SP 800-38F, 6.3; RFC 5649) .. what is wrapped has one semiblock more than the key
@@ -327,8 +321,8 @@ class Keyed:
         else:
             steps, key, wrapped = self.wrap_string(start, n, last)
         output = Buffer("output", self.undefined(8 * n + 8), wrapped)
-        return Call("aes_wrap_padded", [self.schedule(), Buffer("input", key[:length]), length, output, n + 1], DONE, steps=steps,
-                    plain=key, may_stay=("plain",))
+        return Call("aes_wrap_padded", [self.schedule(), Buffer("input", key[:length]), length, output, n + 1], DONE,
+                    steps=steps, plain=key, may_stay=("plain",))
 
     def unwrap_padded(self, length):
         """And back: both counts are in semiblocks, and the output has one less. Afterwards *key_length is how many
@@ -347,13 +341,14 @@ class Keyed:
             steps, wrapped, _, key = self.unwrap_string(n, start, last)
         output = Buffer("output", self.undefined(8 * n), key if status == DONE else [0] * 8 * n)
         key_length = Buffer("key_length", self.undefined(8), number(length if status == DONE else 0, 8)[::-1])
-        return Call("aes_unwrap_padded", [self.schedule(), Buffer("input", wrapped), n + 1, output, n, key_length], status, steps=steps,
-                    plain=key)
+        return Call("aes_unwrap_padded", [self.schedule(), Buffer("input", wrapped), n + 1, output, n, key_length],
+                    status, steps=steps, plain=key)
 
     def unwrap_padded_refused(self):
         """.. REFUSED, and the output then is all zeros .. In all cases but DONE *key_length is 0. Shown for some first
         semiblocks that no length has, and for padding that isn't zeros, with all keys."""
-        starts = (ICV1, ICV2 + number(8, 4), ICV2 + number(2 ** 32 - 1, 4), ICV2[:3] + [0xa7] + number(16, 4), ICV2 + number(17, 4))
+        starts = (ICV1, ICV2 + number(8, 4), ICV2 + number(2 ** 32 - 1, 4), ICV2[:3] + [0xa7] + number(16, 4),
+                  ICV2 + number(17, 4))
         calls = [self.unwrap_padded_to(start, 16, REFUSED) for start in starts]
         return calls + [self.unwrap_padded_to(ICV2 + number(13, 4), 13, REFUSED, filler=1)]
 
@@ -362,20 +357,23 @@ class Keyed:
         """NO_KEY .. UNEQUAL_COUNTS if they differ .. KEYSTREAM_END if the position would pass 2^64 - 1 .. INVALID_COUNT
         if keys of so many semiblocks are not wrapped, or the output isn't one longer or one shorter"""
         key, none, data = self.schedule(), self.no_key(), self.content(3)
-        same, two, out = (lambda name: Buffer(name, data, data)), Buffer("input", data[:32]), lambda: Buffer("output", data, data)
-        ctr = lambda position: Buffer("ctr", data[:16] + number(position, 8)[::-1], data[:16] + number(position, 8)[::-1])
+        two, same, out = Buffer("input", data[:32]), lambda name: Buffer(name, data, data), lambda: same("output")
+        ctr = lambda position: Buffer("ctr", *[data[:16] + number(position, 8)[::-1]] * 2)
         cbc, nothing = Buffer("cbc", data[:16], data[:16]), Buffer("key_length", data[:8], [0] * 8)
         for direction in ("encrypt", "decrypt"):
             name = "aes_" + direction + "_blocks"
             yield Call(name, [none, same("blocks"), 3], NO_KEY)
-            for aes, counts, status in ((none, (2, 2), NO_KEY), (key, (2, 3), UNEQUAL_COUNTS), (none, (2, 1), UNEQUAL_COUNTS)):
+            for aes, counts, status in ((none, (2, 2), NO_KEY), (key, (2, 3), UNEQUAL_COUNTS),
+                                        (none, (2, 1), UNEQUAL_COUNTS)):
                 yield Call(name + "_to", [aes, two, counts[0], out(), counts[1]], status)
             yield Call("aes_cbc_" + direction, [none, cbc, same("blocks"), 3], NO_KEY)
         for aes, position, count, status in ((none, 0, 16, NO_KEY), (none, 2 ** 64 - 16, 16, KEYSTREAM_END),
-                                             (key, 2 ** 64 - 1, 1, KEYSTREAM_END), (key, 2 ** 64 - 48, 48, KEYSTREAM_END)):
+                                             (key, 2 ** 64 - 1, 1, KEYSTREAM_END),
+                                             (key, 2 ** 64 - 48, 48, KEYSTREAM_END)):
             yield Call("aes_add_keystream", [aes, ctr(position), same("bytes"), count], status)
             yield Call("aes_add_keystream_to", [aes, ctr(position), Buffer("input", data), count, out(), count], status)
-            yield Call("aes_add_keystream_to", [aes, ctr(position), Buffer("input", data), count, out(), count - 1], UNEQUAL_COUNTS)
+            yield Call("aes_add_keystream_to", [aes, ctr(position), Buffer("input", data), count, out(), count - 1],
+                       UNEQUAL_COUNTS)
         for aes, counts, status in ((none, (2, 3), NO_KEY), (key, (1, 2), INVALID_COUNT), (key, (2, 2), INVALID_COUNT),
                                     (key, (0, 1), INVALID_COUNT), (key, (2 ** 54, 2 ** 54 + 1), INVALID_COUNT)):
             yield Call("aes_wrap", [aes, two, counts[0], out(), counts[1]], status)

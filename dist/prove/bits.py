@@ -16,7 +16,6 @@ A byte is an int too: below 256 a constant, else an entry of `bits_of` (eight bi
 byte that may be moved, but with which nothing may be computed (what a buffer or a register held before)."""
 
 import functools
-import random
 
 KEY, DATA, PUBLIC = 1, 2, 4  # what a cell depends on
 ONES = (1 << 256) - 1
@@ -53,10 +52,11 @@ class Domain:
         self.xors, self.ands, self.byte_xors, self.byte_ands, self.lookups, self.entries = {}, {}, {}, {}, {}, {}
         self.bits_of, self.byte_ids = [None] * 256, {}
         self.opaque_names, self.opaque_of, self.words = {}, {}, {}
-        self.by_cells, self.alike, self.definitions = {}, {}, {}
+        self.numbers = {}  # cells of numbers that are one more in each block: (which byte, all bytes, the lowest first)
+        self.by_cells, self.alike, self.definitions, self.defined_by = {}, {}, {}, {}
         self.mixed, self.mixed_ids, self.mixed_xors, self.halves = [], {}, {}, {}
         self.linear_tables = set()
-        self.products, self.product_ids, self.pairs, self.linear_parts, self.random = [], {}, {}, {}, random.Random(1)
+        self.products, self.product_ids, self.rows, self.row_keys, self.sums = [], {}, {}, [], {}
         self.undefined = self.opaque(UNDEFINED)
 
     # Cells and bytes.
@@ -78,7 +78,8 @@ class Domain:
         if name not in self.opaque_names:
             self.opaque_names[name] = len(self.bits_of)
             self.opaque_of[len(self.bits_of)] = name
-            self.bits_of.append(self.words[name[0].base](name[0].offset, name[1]) if name[0] and name[0][0] in self.words else None)
+            word = self.words.get(name[0][0]) if name[0] else None
+            self.bits_of.append(word and word(name[0].offset, name[1]))
         return self.opaque_names[name]
 
     def pack(self, bits):
@@ -111,7 +112,8 @@ class Domain:
         return byte >= 256 and self.bits_of[byte] is not None
 
     def cells(self, byte):
-        return {c for b in self.bits_of[byte] for _, n in self.parts(b) for c, _ in self.forms[n]} if self.symbolic(byte) else set()
+        bits = self.bits_of[byte] if self.symbolic(byte) else ()
+        return {c for b in bits for _, n in self.parts(b) for c, _ in self.forms[n]}
 
     def blocks(self, byte):
         return {block for b in self.bits_of[byte] for block, _ in self.parts(b)} - {0} if self.symbolic(byte) else set()
@@ -130,8 +132,8 @@ class Domain:
             return str(self.opaque_of[byte])
         blocks = self.blocks(byte)
         cells = sorted(self.cells(byte))
-        return "a function of %s%s" % (", ".join(self.names[c] for c in cells[:6]) + (", …" if len(cells) > 6 else ""),
-                                       " of block %s" % sorted(b - 1 for b in blocks) if blocks else "")
+        names = ", ".join(self.names[c] for c in cells[:6]) + (", …" if len(cells) > 6 else "")
+        return "a function of %s%s" % (names, " of block %s" % sorted(b - 1 for b in blocks) if blocks else "")
 
     # Bits.
     def one_block(self, bits):
@@ -187,7 +189,8 @@ class Domain:
         if x & BLOCK == BLOCK:
             return self.mixed[x >> 9]
         if x & BLOCK == PRODUCT << 1:
-            return self.parts(self.products[x >> 9][0]) or self.first_pair(self.products[x >> 9][1])
+            linear, pairs = self.products[x >> 9]
+            return self.parts(linear) or self.parts(self.numbered(self.row_keys[len(pairs) - 1 >> 4][0]))
         n = x >> 9
         halves = self.halves.get(n)
         if halves is None:
@@ -218,68 +221,85 @@ class Domain:
             self.mixed_xors[key] = z
         return z ^ (x ^ y) & 1
 
-    # Sums of products of two bits of cells, for GHASH: a bit, and an int that has a bit for each pair of bits of cells.
-    # Such an int is long, so it is found by a code: the sum of random codes of its pairs.
+    # Sums of products of two bits of cells, for GHASH: a bit, and an int with a bit for each ordered pair of bits of
+    # cells. Bits of cells have numbers. A row of such an int is for one bit, and for 128 of those that it is multiplied
+    # with.
+    def number(self, cell, block, j):
+        return (block << 24 | cell) << 3 | j
+
+    def numbered(self, number):
+        return self.bit(number >> 3 & 0xffffff, LINEAR[number & 7], number >> 27)
+
     def split(self, x):
-        return self.products[x >> 9] if x > 1 and x & BLOCK == PRODUCT << 1 else (x & ~1, 0, 0)
+        if x < 2 or x & BLOCK != PRODUCT << 1:
+            return x & ~1, 0
+        linear, pairs = self.products[x >> 9]
+        return linear, int.from_bytes(pairs, "little")
 
     def add_products(self, x, y):
-        (a, p, c), (b, q, e) = self.split(x), self.split(y)
-        return self.product_bit(self.xor(a, b), p ^ q, c ^ e) ^ (x ^ y) & 1
+        (a, p), (b, q) = self.split(x), self.split(y)
+        return self.product_bit(self.xor(a, b), p ^ q) ^ (x ^ y) & 1
 
-    def product_bit(self, a, p, code):
-        if not p:
-            return a
-        key = (a & ~1, code)
+    def product_bit(self, linear, pairs):
+        """Sums are found by their bytes, since the hash of an int is no hash of its bits."""
+        if not pairs:
+            return linear
+        key = (linear & ~1, pairs.to_bytes(pairs.bit_length() + 7 >> 3, "little"))
         n = self.product_ids.get(key)
         if n is None:
             n = self.product_ids[key] = len(self.products)
-            self.products.append((a & ~1, p, code))
-        elif self.products[n][1] != p:
-            raise Unproved("two sums of products have the same code")
-        return n << 9 | PRODUCT << 1 | a & 1
-
-    def pair(self, a, b):
-        """The number of a pair of bits of cells, and its code."""
-        key = (a, b) if a < b else (b, a)
-        if key not in self.pairs:
-            self.pairs[key] = len(self.pairs), self.random.getrandbits(64)
-        return self.pairs[key]
-
-    def first_pair(self, p):
-        """One of the cells of products, to say what they depend on."""
-        (c, block, j), _ = list(self.pairs)[p.bit_length() - 1]
-        return [(block, self.intern({c: LINEAR[j]}))]
+            self.products.append(key)
+        return n << 9 | PRODUCT << 1 | linear & 1
 
     def has_product(self, byte):
         return self.symbolic(byte) and any(x > 1 and x & BLOCK == PRODUCT << 1 for x in self.bits_of[byte])
 
     def forget_products(self):
         """For when no byte has any."""
-        for memo in (self.pairs, self.products, self.product_ids, self.byte_xors, self.byte_ands, self.lookups, self.entries):
+        for memo in (self.rows, self.row_keys, self.sums, self.products, self.product_ids, self.byte_xors,
+                     self.byte_ands, self.lookups, self.entries):
             memo.clear()
 
+    def name_sum(self, bytes_):
+        """Lets cells stand for bytes in products."""
+        for b in bytes_:
+            if self.symbolic(b):
+                cell = self.cell("a sum", False, functools.reduce(int.__or__, map(self.depends_on, self.bits(b))))
+                self.definitions[cell] = [x & ~1 for x in self.bits(b)]
+                for j, x in enumerate(self.definitions[cell]):
+                    if x:
+                        self.sums.setdefault(x, (self.number(cell, 0, j),))
+        return bytes_
+
     def linear_part(self, x):
-        """A bit as a sum of bits of cells: [(cell, block, number)]."""
-        out = self.linear_parts.get(x & ~1)
+        """A bit as a sum of bits of cells: their numbers."""
+        out = self.sums.get(x & ~1)
         if out is None:
             if x & BLOCK == PRODUCT << 1:
                 raise Unproved("a product of three bits")
             out = []
             for block, n in self.parts(x):
                 for c, t in self.forms[n]:
-                    mask = [j for j in range(8) if t >> (1 << j) & 1]
-                    for j in mask:
-                        t ^= LINEAR[j]
-                        out.append((c, block if self.of_block[c] else 0, j))
+                    for j in range(8):
+                        if t >> (1 << j) & 1:
+                            t ^= LINEAR[j]
+                            out.append(self.number(c, block if self.of_block[c] else 0, j))
                     if t:
                         raise Unproved("a product of bits that are not linear: " + self.names[c])
-            self.linear_parts[x & ~1] = out
+            self.sums[x & ~1] = out
         return out
+
+    def row(self, a, group):
+        """Where the row of bit a and of this group of 128 bits begins."""
+        at = self.rows.get((a, group))
+        if at is None:
+            at = self.rows[a, group] = 128 * len(self.row_keys)
+            self.row_keys.append((a, group))
+        return at
 
     def dot(self, xs, ys):
         """The sum of the products x and y, for sums of bits of cells."""
-        linear, p, code = 0, 0, 0
+        linear, pairs = 0, 0
         for x, y in zip(xs, ys):
             if x < 2 or y < 2 or x == y:
                 linear = self.xor(linear, self.and_(x, y))
@@ -292,11 +312,12 @@ class Domain:
             for a in self.linear_part(x):
                 for b in self.linear_part(y):
                     if a == b:
-                        linear = self.xor(linear, self.bit(a[0], LINEAR[a[2]], a[1]))
+                        linear = self.xor(linear, self.numbered(a))
+                    elif a > b:
+                        pairs ^= 1 << self.row(a, b >> 7) + (b & 127)
                     else:
-                        k, c = self.pair(a, b)
-                        p, code = p ^ 1 << k, code ^ c
-        return self.product_bit(linear, p, code)
+                        pairs ^= 1 << self.row(b, a >> 7) + (a & 127)
+        return self.product_bit(linear, pairs)
 
     def bilinear_lookup(self, table, index):
         """table[index] if the table of 16 bytes is linear: the sum of the entries at powers of two whose bit is set."""
@@ -312,9 +333,8 @@ class Domain:
                     if total != table[k]:
                         raise Unproved("a look-up in a table that is neither constant nor linear")
                 self.linear_tables.add(table)
-            out = 0
-            for i in range(4):
-                out = self.xor_byte(out, self.pack([self.dot([index[i]], [b]) for b in self.bits(table[1 << i])]))
+            entries = [self.bits(table[1 << i]) for i in range(4)]
+            out = self.pack([self.dot(index, column) for column in zip(*entries)])
             self.lookups[key] = out
         return out
 
@@ -344,7 +364,7 @@ class Domain:
         for j, b in enumerate(bits):
             if b < 2 or tuple(c for c, _ in self.forms[b >> 9]) != cells:
                 raise Unproved("the bits of %s depend on different cells" % self.names[cell])
-            rows.append((self.vector(b >> 9), 1 << j, b & 1))
+            rows.append((self.vector(self.forms[b >> 9]), 1 << j, b & 1))
         echelon = []
         for v, mask, complement in rows:
             for p, w, m, c in echelon:
@@ -354,17 +374,17 @@ class Domain:
                 raise Unproved("the bits of %s are not independent" % self.names[cell])
             echelon.append((v & -v, v, mask, complement))
         self.by_cells.setdefault(cells, []).append((cell, echelon))
-        self.definitions[cell] = bits
-        self.alike.clear()
+        self.definitions[cell], self.defined_by[cell] = bits, cells
+        self.alike.pop(cells, None)
 
-    def vector(self, n):
-        return sum(t << 256 * i for i, (_, t) in enumerate(self.forms[n]))
+    def vector(self, form):
+        return sum(t << 256 * i for i, (_, t) in enumerate(form))
 
-    def named(self, n):
-        """If form n is a sum of bits of a byte with a name: [(cell, table)]."""
+    def named(self, form, cells):
+        """If a form is a sum of bits of a byte with a name: [(cell, table)]."""
         out, v0 = [], None
-        for cell, echelon in self.by_cells.get(tuple(c for c, _ in self.forms[n]), ()):
-            v = v0 = self.vector(n) if v0 is None else v0
+        for cell, echelon in self.by_cells.get(cells, ()):
+            v = v0 = self.vector(form) if v0 is None else v0
             table, complement = 0, 0
             for p, w, m, c in echelon:
                 if v & p:
@@ -379,21 +399,20 @@ class Domain:
     def single(self, n):
         """The ways to write form n as a function of one cell, {cell: table}: as it is, by a name, or as a function of a
         named cell plus a sum that has the same name."""
-        ways = self.alike.get(n)
+        form = self.forms[n]
+        cells = tuple(c for c, _ in form)
+        known = self.alike.setdefault(cells, {})
+        ways = known.get(n)
         if ways is None:
-            form = self.forms[n]
-            ways = dict(self.named(n))
+            ways = dict(self.named(form, cells))
             if len(form) == 1:
-                ways[form[0][0]] = form[0][1]
-            else:
-                for c, t in form:
-                    rest = self.ids.get(tuple(p for p in form if p[0] != c))
-                    if rest is None:
-                        rest = self.intern(dict(p for p in form if p[0] != c))
-                    for cell, table in self.named(rest):
-                        if cell == c:
-                            ways[c] = t ^ table
-            self.alike[n] = ways
+                ways[cells[0]] = form[0][1]
+            for k, (c, t) in enumerate(form):
+                rest = cells[:k] + cells[k + 1:]
+                if self.defined_by.get(c) == rest:
+                    ways.update((cell, t ^ table)
+                                for cell, table in self.named(form[:k] + form[k + 1:], rest) if cell == c)
+            known[n] = ways
         return ways
 
     def common(self, bits):

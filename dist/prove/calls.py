@@ -29,7 +29,8 @@ class Call:
     arbitrary round keys, for a call that expands a key (see aes.py). `keystream` is what is added to the data, and
     `plain` what is secret of the data and the results; `may_stay` are kinds of what may be left besides."""
 
-    def __init__(self, name, arguments, status, size=4, steps=None, reveals=None, refused=None, refused_after=None, assumes=None,
+    def __init__(self, name, arguments, status, size=4, steps=None, reveals=None, refused=None, refused_after=None,
+                 assumes=None,
                  later=None, counter=None, keystream=(), plain=(), may_stay=()):
         self.name, self.arguments, self.status, self.size, self.steps = name, arguments, status, size, steps
         self.reveals, self.refused, self.refused_after = reveals, refused, refused_after or {}
@@ -53,7 +54,7 @@ def prove(domain, program, call, seed=None):
         choices = answers[:-1] + [1]
 
 
-def attempt(domain, program, call, choices, seed, strict=True):
+def attempt(domain, program, call, choices, seed=None, strict=True):
     regions = {b.name: Region(b.content, b.after is not None) for b in call.buffers}
     regions["stack"] = Region([domain.undefined] * (STACK + 128), align=16)
     arguments = [Pointer(a.name, 0) if isinstance(a, Buffer) else a for a in call.arguments]
@@ -112,14 +113,16 @@ def nothing_secret(m, call):
     for place, k in m.left:
         if place == "stack" and k not in MAY_STAY + call.may_stay:
             where = m.left[place, k]
-            raise Unproved("leaves %d bytes on the stack (%s), from %d to %d of the stack pointer" % (len(where), k, where[0], where[-1]))
+            raise Unproved("leaves %d bytes on the stack (%s), from %d to %d of the stack pointer" % (
+                len(where), k, where[0], where[-1]))
 
 
 def compare(domain, have, want, what):
     if len(have) != len(want):
         raise Unproved("%s has %d bytes and not %d" % (what, len(have), len(want)))
     for i, (x, y) in enumerate(zip(have, want)):
-        if y is not None and x != y and not (x > 255 and y > 255 and domain.bits_of[x] == domain.bits_of[y] is not None):
+        alike = x > 255 and y and y > 255 and domain.bits_of[x] == domain.bits_of[y] is not None
+        if y is not None and x != y and not alike:
             raise Unproved("byte %d of %s is %s and not %s" % (i, what, domain.describe(x), domain.describe(y)))
 
 
@@ -146,8 +149,8 @@ def step_by_step(steps):
             if where == "hash":
                 lost = m.domain.opaque(LOST)
                 m.lost.add(lost)
-            m.replace_bytes(lambda b: replaced[b] if b in replaced else lost if lost and m.domain.has_product(b) else b, m.domain,
-                            replaced.items())
+            other = lambda b: lost if lost and m.domain.has_product(b) else b
+            m.replace_bytes(lambda b: replaced[b] if b in replaced else other(b), m.domain, replaced.items())
             if where == "hash":
                 m.domain.forget_products()
             now[0] = next(steps, None)
@@ -158,8 +161,13 @@ def found(m, where, want):
     if where in m.regions:
         content = m.regions[where].content
         return content[-1] == want[-1] and content == want
+    if where == "memory":
+        content, at = m.written
+        return any(content[k] == want[0] and content[k:k + len(want)] == want
+                   for k in range(max(0, at - len(want)), min(at + 16, len(content))))
     if where == "block":
-        return any(want == region.content[k:k + 16] for region in m.regions.values() for k in range(0, len(region.content) - 15, 8))
+        return any(want == region.content[k:k + 16] for region in m.regions.values()
+                   for k in range(0, len(region.content) - 15, 8))
     if any(v[0] == want[0] and v[:16] == want for v in m.vectors):
         return True
     if where != "hash":

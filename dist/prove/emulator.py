@@ -69,10 +69,12 @@ class Emulator:
         *general, address, flags = self.words()
         return address, dict(zip(NAMES, general)), {f: flags >> bit & 1 for f, bit in FLAG_BITS.items()}
 
-    def put_registers(self, address, general):
-        *old, _, flags = self.words()
+    def put_registers(self, address, general, flags):
+        *old, _, word = self.words()
         words = {**dict(zip(NAMES, old)), **general}
-        self.tell("G" + struct.pack("<33QI", *[words[r] for r in NAMES], address, flags).hex())
+        for f, value in flags.items():
+            word = word & ~(1 << FLAG_BITS[f]) | value << FLAG_BITS[f]
+        self.tell("G" + struct.pack("<33QI", *[words[r] for r in NAMES], address, word).hex())
 
     def vectors(self, numbers):
         return {n: bytes.fromhex(self.ask("p%x" % (FIRST_VECTOR + n))) for n in numbers}

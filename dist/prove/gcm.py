@@ -7,11 +7,12 @@ from collections import namedtuple
 
 from aes import DONE, Keyed
 from bits import DATA, KEY, PUBLIC
-from calls import ANY, Buffer, Call, compare, prove
+from calls import ANY, Buffer, Call, compare
 from machine import Pointer
 from standards import number, product
 
-STATUSES = "DONE KEY_LENGTH NO_KEY NONCE_LENGTH TAG_LENGTH TOO_LONG REFUSED NONCES_END OUT_OF_TURN".split()
+STATUSES = ("DONE KEY_LENGTH NO_KEY NONCE_LENGTH TAG_LENGTH TOO_LONG REFUSED NONCES_END OUT_OF_TURN "
+            "NO_RANDOMNESS").split()
 _, KEY_LENGTH, NO_KEY, NONCE_LENGTH, TAG_LENGTH, TOO_LONG, REFUSED, NONCES_END, OUT_OF_TURN = range(9)
 STRUCTS = {"fotsgure_gcm": (1780, {"key_length": 0, "round_keys": 4, "multiples": 244}),
            "fotsgure_gcm_counter": (12, {"next": 0}),
@@ -65,7 +66,7 @@ class Hashing:
         for value, group, after in self.plan[begin:end]:
             total = ZEROS
             for i, x in enumerate(group):
-                x = keyed.aes.xor(value, x) if i == 0 else x
+                x = keyed.domain.name_sum(keyed.aes.xor(value, x)) if i == 0 else x
                 total = keyed.aes.xor(total, product(keyed.domain, x, keyed.powers[len(group) - 1 - i]))
             yield "hash", total, after
 
@@ -76,7 +77,8 @@ PreCounter = namedtuple("PreCounter", "bytes counter hashing arguments")
 
 
 class KeyedGcm(Keyed):
-    library = "gcm"
+    """key_length, wipe and what set_key refuses are stated in aes.py: these sentences of the two headers are alike."""
+    library, struct_size = "gcm", STRUCT
 
     def __init__(self, program, key_size):
         super().__init__(program, key_size)
@@ -85,7 +87,8 @@ class KeyedGcm(Keyed):
         self.nonce = [d.fresh("nonce byte %d" % i, PUBLIC) for i in range(12)]
         self.pre_counter = [d.fresh("J_0 byte %d" % i, KEY | PUBLIC) for i in range(12)]
         block = lambda name, depends: [d.fresh("%s byte %d" % (name, i), depends, True) for i in range(16)]
-        self.text, self.sealed, self.more, self.tag = (block(name, DATA) for name in ("text", "encrypted", "additional", "tag"))
+        self.text, self.sealed, self.more, self.tag = (block(name, DATA)
+                                                       for name in ("text", "encrypted", "additional", "tag"))
         self.hash_value, self.rest = block("hash", KEY | DATA), block("rest", KEY | DATA)
         self.long_nonce = block("long nonce", PUBLIC)
 
@@ -105,14 +108,13 @@ class KeyedGcm(Keyed):
             yield "hash", h, p[0]
             for n in (0, 1):
                 yield "hash", product(d, p[n], p[0]), p[n + 1]
-        call = Call("gcm_set_key", [Buffer("gcm", [d.undefined] * STRUCT, ANY), Buffer("key", self.key), self.key_size], DONE, steps=steps)
-        m = prove(d, self.program, call, seed)
+        m = self.proved(self.expansion(DONE, self.key_size, ANY, steps=steps), seed)
         meaning = {d.cell_of(b)[0]: e.bits(c) for x, y in zip(p, self.powers) for b, c in zip(x, y)}
 
         def transferred(x):
             out = x & 1
-            for c, _, j in d.linear_part(x) if x > 1 else ():
-                out = e.xor(out, meaning[c][j])
+            for number in d.linear_part(x) if x > 1 else ():
+                out = e.xor(out, meaning[number >> 3][number & 7])
             return out
         content = m.regions["gcm"].content
         self.struct = [self.byte_for_any(b) for b in content[:244]]
@@ -121,32 +123,9 @@ class KeyedGcm(Keyed):
         compare(e, fixed, [self.key_size] + [0] * (len(fixed) - 1), "the length and what no round key takes")
         return m
 
-    def set_key_refused(self, length):
-        """else KEY_LENGTH, and *gcm then is all zeros and holds no key."""
-        d = self.key_domain
-        return Call("gcm_set_key", [Buffer("gcm", [d.undefined] * STRUCT, [0] * STRUCT), Buffer("key", self.key), length], KEY_LENGTH)
-
-    def key_length(self):
-        """Returns how many bytes the key has: 16, 24 or 32"""
-        return Call("gcm_key_length", [self.schedule()], self.key_size, 8)
-
-    def key_length_of_none(self):
-        """.. or 0 if *gcm holds no key."""
-        return Call("gcm_key_length", [self.no_key()], 0, 8)
-
-    def wipe(self):
-        """Overwrites *gcm with zeros: it then holds no key. It may be uninitialized."""
-        return Call("gcm_wipe", [Buffer("gcm", self.undefined(STRUCT), [0] * STRUCT)], None)
-
     def wipe_message(self):
         """Overwrites *message with zeros: there is no message then. It may be uninitialized."""
         return Call("gcm_wipe_message", [Buffer("message", self.undefined(MESSAGE), [0] * MESSAGE)], None)
-
-    def schedule(self):
-        return Buffer("gcm", self.struct)
-
-    def no_key(self):
-        return Buffer("gcm", [0] * STRUCT)
 
     # Nonces, counter blocks and texts.
     def nonce_of(self, length=12, counter=1, before=()):
@@ -170,7 +149,8 @@ class KeyedGcm(Keyed):
             nonce, after, assumes = number(counter, 12), number(counter + 1, 12), None
         else:
             d.words["nonce low"] = lambda offset, k: d.bits(self.nonce[11 - k]) if offset == 0 else None
-            nonce, after = (self.nonce[:4] + [d.opaque((Pointer("nonce low", n), k)) for k in range(8)][::-1] for n in (0, 1))
+            nonce, after = (self.nonce[:4] + [d.opaque((Pointer("nonce low", n), k)) for k in range(8)][::-1]
+                            for n in (0, 1))
             assumes = [d.xor_byte(b, 255) for b in self.nonce[4:]]
         bytes_ = self.nonce if counter is None else nonce
         buffers = [Buffer("counter", nonce, after), Buffer("nonce", self.undefined(12), nonce)]
@@ -214,8 +194,10 @@ class KeyedGcm(Keyed):
                 yield "text", self.crypted(first, text), sealed
             yield from hashing.steps()
         tag = self.aes.xor(hashing.value, self.stream(first, 0))
-        return Call(name, [self.schedule(), *first.arguments, additional, additional_length, Buffer("text", text, sealed), text_length,
-                           Buffer("tag", self.undefined(16), tag)], DONE, steps=steps, keystream=self.streams(first, text_length),
+        return Call(name, [self.schedule(), *first.arguments, additional, additional_length,
+                           Buffer("text", text, sealed), text_length,
+                           Buffer("tag", self.undefined(16), tag)], DONE, steps=steps,
+                    keystream=self.streams(first, text_length),
                     plain=text, **more)
 
     def seal_next(self, additional_length, text_length, counter=None):
@@ -236,7 +218,8 @@ class KeyedGcm(Keyed):
             yield from hashing.steps()
         text = Buffer("text", sealed, self.crypted(first, sealed))
         return Call("gcm_open", [self.schedule(), *first.arguments, additional, additional_length, text, text_length,
-                                 Buffer("tag", tag), 16], DONE, steps=steps, reveals=self.aes.xor(tag, right), refused=REFUSED,
+                                 Buffer("tag", tag), 16], DONE, steps=steps,
+                    reveals=self.aes.xor(tag, right), refused=REFUSED,
                     keystream=self.streams(first, text_length), plain=text.after)
 
     # Messages in pieces.
@@ -287,8 +270,8 @@ class KeyedGcm(Keyed):
         piece = self.many(self.more, count)
         rest = self.absorbed(hashing, before % 16, piece)
         after = self.state(ADDITIONAL, before + count, 0, 0, hashing.value, rest)
-        return Call("gcm_additional", [self.schedule(), self.message(state, after), Buffer("additional", piece), count], DONE,
-                    steps=hashing.steps)
+        return Call("gcm_additional", [self.schedule(), self.message(state, after), Buffer("additional", piece), count],
+                    DONE, steps=hashing.steps)
 
     def piece(self, call, phase, additional, before, count):
         """Encrypts a piece of the text in place. .. Takes a piece of an encrypted text whose tag is to be compared, and
@@ -305,9 +288,12 @@ class KeyedGcm(Keyed):
             if call == "encrypt" and text:
                 yield "text", self.crypted(first, text, before), sealed
             yield from hashing.steps(turned)
-        after = self.state(ENCRYPTING if call == "encrypt" else VERIFYING, additional, before + count, 0, hashing.value, rest)
-        texts = {"encrypt": (text, sealed), "verify": (sealed, None), "decrypt_unverified": (sealed, self.crypted(first, sealed, before))}
-        return Call("gcm_" + call, [self.schedule(), self.message(state, after), Buffer("text", *texts[call]), count], DONE, steps=steps,
+        after_phase = ENCRYPTING if call == "encrypt" else VERIFYING
+        after = self.state(after_phase, additional, before + count, 0, hashing.value, rest)
+        texts = {"encrypt": (text, sealed), "verify": (sealed, None),
+                 "decrypt_unverified": (sealed, self.crypted(first, sealed, before))}
+        return Call("gcm_" + call, [self.schedule(), self.message(state, after), Buffer("text", *texts[call]), count],
+                    DONE, steps=steps,
                     keystream=self.streams(first, count, before) if call != "verify" else (),
                     plain=self.crypted(first, sealed, before) if call == "decrypt_unverified" else text)
 
@@ -317,7 +303,8 @@ class KeyedGcm(Keyed):
         sealed, rest = self.many(self.sealed, count, before % 16), self.of(self.rest, 0)
         plain = self.crypted(first, sealed, before)
         before_, after = (self.state(DECRYPTING, 3, text, n, hashing.value, rest) for n in (before, before + count))
-        return Call("gcm_decrypt", [self.schedule(), self.message(before_, after), Buffer("text", sealed, plain), count], DONE,
+        return Call("gcm_decrypt", [self.schedule(), self.message(before_, after), Buffer("text", sealed, plain),
+                                    count], DONE,
                     keystream=self.streams(first, count, before), plain=plain)
 
     def tag_of(self, phase, additional, text):
@@ -332,7 +319,8 @@ class KeyedGcm(Keyed):
     def finish(self, phase, additional, text):
         """Ends a message that was encrypted: writes its tag, and overwrites *message with zeros. .. DONE"""
         state, hashing, tag = self.tag_of(phase, additional, text)
-        return Call("gcm_finish", [self.schedule(), self.message(state, [0] * MESSAGE), Buffer("tag", self.undefined(16), tag)], DONE,
+        return Call("gcm_finish", [self.schedule(), self.message(state, [0] * MESSAGE),
+                                   Buffer("tag", self.undefined(16), tag)], DONE,
                     steps=hashing.steps)
 
     def accept(self, phase, additional, text, length=None):
@@ -342,9 +330,10 @@ class KeyedGcm(Keyed):
         state, hashing, right = self.tag_of(phase, additional, text)
         tag = self.of(self.tag, 0)[:length or 16]
         after = self.state(DECRYPTING, additional, text, 0, self.of(self.hash_value, 0), self.of(self.rest, 0))
-        arguments = [self.schedule(), self.message(state, after)] + ([length] if length else []) + [Buffer("tag", tag), len(tag)]
-        return Call("gcm_accept" + "_short" * bool(length), arguments, DONE, steps=hashing.steps, reveals=self.aes.xor(tag, right),
-                    refused=REFUSED)
+        fixed = [length] if length else []
+        arguments = [self.schedule(), self.message(state, after), *fixed, Buffer("tag", tag), len(tag)]
+        return Call("gcm_accept" + "_short" * bool(length), arguments, DONE, steps=hashing.steps,
+                    reveals=self.aes.xor(tag, right), refused=REFUSED)
 
     # Calls that are refused: nothing but the status changes.
     def refused(self):
@@ -353,8 +342,10 @@ class KeyedGcm(Keyed):
         same, read = (lambda name, n=16: Buffer(name, data[:n], data[:n])), lambda name, n=16: Buffer(name, data[:n])
         end, counter = Buffer("counter", [255] * 12, [255] * 12), Buffer("counter", number(7, 12), number(7, 12))
         long, longer = MOST + 1, MOST_ADDITIONAL + 1
-        for gcm, nonce, additional, text, status in ((none, 12, 16, 16, NO_KEY), (none, 12, 16, long, TOO_LONG), (none, 0, 16, long, NONCE_LENGTH),
-                                                     (key, longer, 16, 16, NONCE_LENGTH), (key, 12, longer, 16, TOO_LONG)):
+        for gcm, nonce, additional, text, status in ((none, 12, 16, 16, NO_KEY), (none, 12, 16, long, TOO_LONG),
+                                                     (none, 0, 16, long, NONCE_LENGTH),
+                                                     (key, longer, 16, 16, NONCE_LENGTH),
+                                                     (key, 12, longer, 16, TOO_LONG)):
             arguments = [gcm, read("nonce"), nonce, read("additional"), additional, same("text"), text]
             yield Call("gcm_seal", arguments + [same("tag")], status)
             yield Call("gcm_open", arguments + [read("tag"), 16], status)
@@ -374,14 +365,16 @@ class KeyedGcm(Keyed):
         longer than the standard allows."""
         key, none, data = self.schedule(), self.no_key(), self.many(self.text, 48)
         comes = {"additional": (ADDITIONAL,), "encrypt": (ADDITIONAL, ENCRYPTING), "finish": (ADDITIONAL, ENCRYPTING),
-                 "verify": (ADDITIONAL, VERIFYING), "decrypt_unverified": (ADDITIONAL, VERIFYING), "accept": (ADDITIONAL, VERIFYING),
+                 "verify": (ADDITIONAL, VERIFYING), "decrypt_unverified": (ADDITIONAL, VERIFYING),
+                 "accept": (ADDITIONAL, VERIFYING),
                  "accept_short": (ADDITIONAL, VERIFYING), "decrypt": (DECRYPTING,)}
         for call, phases in comes.items():
             last = {"finish": [Buffer("tag", data[:16], data[:16])], "accept": [Buffer("tag", data[:16]), 16],
                     "accept_short": [12, Buffer("tag", data[:12]), 12]}.get(call, [Buffer("text", data, data), 48])
             for phase in range(6):
                 state = self.state(phase, MOST_ADDITIONAL - 47, MOST - 47, MOST - 47)
-                status = TOO_LONG if phase in phases and call not in ("finish", "accept", "accept_short") else OUT_OF_TURN
+                longer = phase in phases and call not in ("finish", "accept", "accept_short")
+                status = TOO_LONG if longer else OUT_OF_TURN
                 if phase not in phases or status == TOO_LONG:
                     yield Call("gcm_" + call, [key, self.message(state, state), *last], status)
                 yield Call("gcm_" + call, [none, self.message(state, state), *last], NO_KEY)
@@ -389,4 +382,5 @@ class KeyedGcm(Keyed):
         for length in (0, 15, 17, 32):
             yield Call("gcm_accept", [none, self.message(state, state), Buffer("tag", data), length], TAG_LENGTH)
         for fixed, length in ((0, 0), (3, 3), (5, 5), (11, 11), (17, 17), (12, 13), (13, 12)):
-            yield Call("gcm_accept_short", [none, self.message(state, state), fixed, Buffer("tag", data), length], TAG_LENGTH)
+            yield Call("gcm_accept_short", [none, self.message(state, state), fixed, Buffer("tag", data), length],
+                       TAG_LENGTH)

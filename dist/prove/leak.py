@@ -2,9 +2,12 @@
 and from the encrypted blocks. Of a key of 16 bytes the last round key gives the key itself (KeyExpansion, backwards).
 It is a control: it has to find the round key when the wipe of the stack is taken out, and nothing in the text of
 dist."""
+import random
+
 from bits import BLOCK, MIXED, ONES
 from calls import attempt
 from standards import SBOX
+from values import Values
 
 SEED = 7
 
@@ -26,8 +29,9 @@ def last_round(keyed, m):
 def found(keyed, count):
     """How many bytes of the last round key follow from what encrypt_blocks left on the processor, and how many of these
     are right."""
-    m = attempt(keyed.domain, keyed.program, keyed.blocks("encrypt", count), [], SEED, strict=False)
-    stack, blocks = m.native.memory_of["stack"], m.native.memory_of["blocks"]
+    m = attempt(keyed.domain, keyed.program, keyed.blocks("encrypt", count), [], strict=False)
+    drawn = Values(keyed.domain, random.Random(SEED))
+    stack, blocks = ([drawn.byte(b) for b in m.regions[name].content] for name in ("stack", "blocks"))
     inputs = {}
     for at, j, number, block, table in last_round(keyed, m):
         bit = stack[at] >> j & 1
@@ -41,5 +45,5 @@ def found(keyed, count):
                 keys &= {blocks[16 * block + j] ^ SBOX[v] for v in values}
         if len(keys) == 1:
             bytes_ += 1
-            right += keys == {m.native.values.byte(keyed.aes.round_key(keyed.w, len(keyed.w) // 4 - 1)[j])}
+            right += keys == {drawn.byte(keyed.aes.round_key(keyed.w, len(keyed.w) // 4 - 1)[j])}
     return bytes_, right

@@ -32,6 +32,10 @@ from bits import PUBLIC, Pause, Unproved
 
 Pointer = namedtuple("Pointer", "base offset")  # base: the name of a region, or of a register's value before the call
 Distance = namedtuple("Distance", "base other offset")  # the address of a buffer, less that of another, plus a constant
+# 32 bits: a number of unknown value, plus a constant; higher bytes aren't known
+Number = namedtuple("Number", "base offset")
+# 16 bits: it is `equal` if these bytes are all 0, else another number
+Mask = namedtuple("Mask", "equal differences")
 Instruction = namedtuple("Instruction", "run name operands next form")  # form: the name and the kinds of operands
 
 SECRET = "secret"  # a flag that depends on the key or on data; None is a flag that is undefined
@@ -69,7 +73,8 @@ class Program:
         self.constants = self.constant_sections()
 
     def tool(self, name, *options):
-        return subprocess.run([self.machine.tools + name, *options, self.path], capture_output=True, text=True, check=True).stdout
+        return subprocess.run([self.machine.tools + name, *options, self.path], capture_output=True, text=True,
+                              check=True).stdout
 
     def disassembled(self):
         lines = {}
@@ -80,8 +85,8 @@ class Program:
         return lines
 
     def constant_sections(self):
-        """(address, bytes) of each section of the ELF file that is loaded and neither written nor run, and of the linker's table of
-        addresses, which nothing writes after the start."""
+        """(address, bytes) of each section of the ELF file that is loaded and neither written nor run, and of the
+        linker's table of addresses, which nothing writes after the start."""
         raw = open(self.path, "rb").read()
         table, = struct.unpack_from("<Q", raw, 0x28)
         size, count = struct.unpack_from("<HH", raw, 0x3a)
@@ -107,9 +112,11 @@ class Machine:
         self.flags = dict.fromkeys("czso")
         self.next_address, self.last, self.steps, self.used = entry, entry, 0, {}
         self.externals = {program.symbols[n]: n for n in ("memcpy", "memmove", "memset") if n in program.symbols}
-        self.shifted, self.lost, self.origins, self.native = {}, set(), {}, None
-        self.choices, self.placed, self.may_reveal, self.assumed = [], {}, False, ()
-        self.wraps, self.wrap = None, 1 << 64  # a word of unknown value, and the offset from which on it has wrapped around
+        self.shifted, self.lost, self.origins, self.native, self.after_external = {}, set(), {}, None, None
+        self.choices, self.placed, self.may_reveal, self.assumed, self.equalities = [], {}, False, (), {}
+        self.written = (), 0
+        # a word of unknown value, and the offset from which on it has wrapped around
+        self.wraps, self.wrap = None, 1 << 64
         self.enter(arguments)
         self.top = self.lowest = self.general[self.stack_pointer].offset
         self.before = dict(self.general)
@@ -120,14 +127,22 @@ class Machine:
             return list((value & (1 << 8 * size) - 1).to_bytes(size, "little"))
         if isinstance(value, (Pointer, Distance)):
             return [self.domain.opaque((value, k)) for k in range(size)]
+        if isinstance(value, Number):
+            return [self.domain.opaque((value, k)) for k in range(4)][:size] + [self.domain.undefined] * (size - 4)
+        if isinstance(value, Mask):
+            return [self.domain.opaque((value, k)) for k in range(2)] + [0] * (size - 2)
         return list(value[:size])
 
     def from_bytes(self, b):
         if max(b) < 256:
             return int.from_bytes(bytes(b), "little")
-        if len(b) == 8 and b[0] in self.domain.opaque_of:
+        if len(b) > 1 and b[0] in self.domain.opaque_of:
             word = self.domain.opaque_of[b[0]][0]
-            if isinstance(word, (Pointer, Distance)) and self.to_bytes(word, 8) == list(b):
+            whole = isinstance(word, Mask) or len(b) == 8 and isinstance(word, (Pointer, Distance))
+            if whole and self.to_bytes(word, len(b)) == list(b):
+                return word
+            rest = {*b[4:]} <= {0, self.domain.undefined}
+            if len(b) > 3 and isinstance(word, Number) and self.to_bytes(word, 4) == list(b[:4]) and rest:
                 return word
         return tuple(b)
 
@@ -152,8 +167,10 @@ class Machine:
 
     def offset(self, a, b):
         """The sum of two values of 8 bytes of which one at most is a Pointer and the others are constants."""
-        if isinstance(b, Pointer):
+        if isinstance(b, (Pointer, Number)):
             a, b = b, a
+        if isinstance(a, Number) and is_int(b):
+            return Number(a.base, a.offset + b & 0xffffffff)
         if isinstance(a, Pointer) and isinstance(b, int):
             b &= WORD
             return Pointer(a.base, a.offset + (b - (1 << 64) if b >> 63 else b))
@@ -168,6 +185,8 @@ class Machine:
             full = (x & mask) + (y & mask) + carry
             r = full & mask
             return r, {"c": int(full != r), "z": int(r == 0), "s": r >> top, "o": ((x ^ r) & ~(x ^ y)) >> top & 1}
+        if Number in (type(x), type(y)):
+            return self.offset(self.offset(x, carry), y), {}
         if isinstance(x, Distance) and is_int(y):
             return Distance(x.base, x.other, x.offset + y), {}
         if (is_pointer(x) or is_pointer(y)) and size == 8:
@@ -208,6 +227,21 @@ class Machine:
         unknown = [x for x in b if x > 255]
         return int(not any(b)) if any(0 < x < 256 for x in b) or not unknown else ("zero", *unknown)
 
+    # A comparison of secrets byte by byte: nothing but whether all are equal may be asked, where a call may reveal it.
+    def equality(self, difference, equal, unequal):
+        """A byte that is `equal` if the difference is 0, else `unequal`."""
+        if difference < 256 or 1 in self.domain.bits(difference) or equal == unequal:
+            return unequal if difference else equal
+        b = self.domain.opaque("%d if %d is 0, else %d" % (equal, difference, unequal))
+        self.equalities[b] = difference, equal, unequal
+        self.lost.add(b)
+        return b
+
+    def mask(self, equal, differences):
+        value = Mask(equal, tuple(differences))
+        self.lost.update(self.to_bytes(value, 2))
+        return value
+
     # Memory.
     def place(self, address, size, write, align=1):
         """The list of bytes that an access means, and where in it; or Unproved, if the access isn't allowed."""
@@ -246,6 +280,7 @@ class Machine:
     def store(self, address, b, align=1):
         content, o = self.place(address, len(b), True, align)
         content[o:o + len(b)] = b
+        self.written = content, o
 
     # Flags.
     def set_flags(self, **flags):
@@ -261,7 +296,8 @@ class Machine:
             raise Unproved("a branch or a condition depends on an undefined flag")
         if self.assumed and flag[0] == "zero" and set(flag[1:]) == set(self.assumed):
             return 0
-        public = flag[0] == "zero" and not any(self.domain.depends[c] & ~PUBLIC for b in flag[1:] for c in self.domain.cells(b))
+        public = flag[0] == "zero" and not any(self.domain.depends[c] & ~PUBLIC for b in flag[1:]
+                                               for c in self.domain.cells(b))
         if flag == SECRET or flag[0] == "zero" and not (public or self.may_reveal):
             raise Unproved("a branch or a condition depends on the key or on data")
         return self.by_place(flag)
@@ -303,7 +339,7 @@ class Machine:
     def step(self):
         instruction = self.program.at(self.next_address)
         self.steps += 1
-        self.used[instruction.form] = self.used.get(instruction.form, 0) + 1
+        self.used[instruction.form] = self.next_address
         self.last, self.next_address = self.next_address, instruction.next
         instruction.run(self, instruction.name, *instruction.operands)
 
@@ -351,7 +387,7 @@ class Machine:
             region.content = all_of(region.content)
         self.vectors = [all_of(v) for v in self.vectors]
         for r, v in self.general.items():
-            if not isinstance(v, (int, Pointer)):
+            if not isinstance(v, (int, Pointer, Number, Mask)):
                 self.general[r] = tuple(all_of(v))
         self.domain, self.shifted = domain, {}
         if self.native and any(new < 256 for _, new in cells):

@@ -16,10 +16,10 @@ PROCESSORS = {X86_64: Processor, Aarch64: Emulator}
 
 
 class Native:
-    def __init__(self, machine, seed, counter=None):
+    def __init__(self, machine, seed, counter=None, processor=None):
         self.m, self.values, self.steps = machine, Values(machine.domain, random.Random(seed), counter), 0
         self.expected, self.vectors = {}, {}
-        self.processor = PROCESSORS[type(machine)](machine.program.path)
+        self.processor = processor or PROCESSORS[type(machine)](machine.program.path)
         machine.by_place = self.by_place
         self.place_regions()
         self.impose()
@@ -41,7 +41,8 @@ class Native:
             have = self.processor.read(self.values.base[name], len(region.content))
             self.processor.write(self.values.base[name], self.known_or(region.content, have))
         words = {r: self.values.word(v) for r, v in self.m.general.items()}
-        self.processor.put_registers(self.m.next_address, {r: w for r, w in words.items() if w is not None})
+        known = {f: x for f, x in self.m.flags.items() if x in (0, 1)}
+        self.processor.put_registers(self.m.next_address, {r: w for r, w in words.items() if w is not None}, known)
         have = self.processor.vectors(range(len(self.m.vectors)))
         self.processor.put_vectors({n: self.known_or(self.m.vectors[n], b) for n, b in have.items()})
 

@@ -14,6 +14,7 @@ USER = ("r15 r14 r13 r12 rbp rbx r11 r10 r9 r8 rax rcx rdx rsi rdi orig_rax rip 
         "gs_base").split()
 FLAG_BITS = {"c": 0, "z": 6, "s": 7, "o": 11}
 LOW, HIGH = 160, 576  # where an area of XSAVE has the lower and the upper halves of vector registers
+STATE, ALL = 512, 6   # and which of them are there
 
 
 def ptrace(request, pid, address=None, data=None):
@@ -54,8 +55,10 @@ class Processor:
         found = self.user()
         return found["rip"], found, {f: found["eflags"] >> bit & 1 for f, bit in FLAG_BITS.items()}
 
-    def put_registers(self, address, general):
+    def put_registers(self, address, general, flags):
         registers = {**self.user(), **general, "rip": address}
+        for f, value in flags.items():
+            registers["eflags"] = registers["eflags"] & ~(1 << FLAG_BITS[f]) | value << FLAG_BITS[f]
         ptrace(SETREGS, self.pid, None, struct.pack("<27Q", *[registers[r] for r in USER]))
 
     def vectors(self, numbers):
@@ -65,9 +68,11 @@ class Processor:
         return {n // 16: low[n:n + 16] + high[n:n + 16] for n in range(0, 256, 16)}
 
     def put_vectors(self, vectors):
-        """After `vectors`, which reads what is left as it is. The upper halves are not put."""
+        """After `vectors`, which reads what is left as it is."""
         for n, b in vectors.items():
-            self.area[LOW + 16 * n:LOW + 16 * n + 16] = b[:16]
+            self.area[LOW + 16 * n:LOW + 16 * n + 16], self.area[HIGH + 16 * n:HIGH + 16 * n + 16] = b[:16], b[16:]
+        state = int.from_bytes(self.area[STATE:STATE + 8], "little") | ALL
+        self.area[STATE:STATE + 8] = state.to_bytes(8, "little")
         ptrace(SETREGSET, self.pid, ctypes.c_void_p(XSTATE), ctypes.addressof(self.vector))
 
     def step(self, name, address, called):

@@ -1,7 +1,6 @@
 """Proves the calls of both libraries on the machine code that gcc makes of dist/x86_64 and dist/aarch64, one process
 for each build and key size. Run it as `make prove` in dist; the README says what it shows."""
 import argparse
-import collections
 import concurrent.futures
 import os
 import re
@@ -12,28 +11,34 @@ import time
 
 import aes
 import gcm
+import siv
 from aarch64 import Aarch64
 from bits import Domain, Unproved
 from calls import Call
 from machine import Program
+from alone import compare_all
 from native import PROCESSORS
 from standards import pinned
 from vectors import checked
 from x86_64 import X86_64
 
 HERE = os.path.dirname(os.path.abspath(__file__))
-BUILDS = {"x86_64/" + name: X86_64 for name in ("aes", "aes_v3", "gcm", "gcm_v3")}
-BUILDS.update({"aarch64/" + name: Aarch64 for name in ("aes", "gcm")})
+BUILDS = {"x86_64/" + name: X86_64 for name in ("aes", "aes_v3", "gcm", "gcm_v3", "siv", "siv_v3")}
+BUILDS.update({"aarch64/" + name: Aarch64 for name in ("aes", "gcm", "siv")})  # siv: the calls of AES-GCM-SIV in gcm.s
 KEY_SIZES = 16, 24, 32
 SEED = 1
+
+
+def source(dist, build):
+    return "%s/%s.s" % (dist, build.replace("siv", "gcm"))
 
 
 def link(source, out, machine=X86_64):
     """Assembles and links one build; libc's three functions are names alone, of which the contract is used."""
     for s, o in ((source, out + ".o"), (os.path.join(HERE, machine.host), out + ".host.o")):
         subprocess.run([machine.tools + "gcc", "-c", s, "-o", o], check=True)
-    subprocess.run([machine.tools + "ld", "-static", "-e", "start", "--build-id=none", "-z", "noexecstack", out + ".host.o", out + ".o",
-                    "-o", out], check=True)
+    subprocess.run([machine.tools + "ld", "-static", "-e", "start", "--build-id=none", "-z", "noexecstack",
+                    out + ".host.o", out + ".o", "-o", out], check=True)
     return Program(out, machine)
 
 
@@ -51,25 +56,26 @@ def aes_cases(k, everything):
     for length in (0, 1, 15, 17, 23, 25, 31, 33, 256, 2 ** 32 + 16, 2 ** 64 - 1):
         yield "set_key of %d bytes" % length, k.set_key_refused(length)
     for direction in "encrypt", "decrypt":
-        for n in choose(range(65), (1, 2, 8, 16, 17), (0, 3, 7, 9, 15, 24, 33)):
+        for n in choose(range(65), (2, 17), (0, 1, 3, 8, 15, 16, 33)):
             yield "%s_blocks %d" % (direction, n), k.blocks(direction, n)
-        for n in choose(range(65), (2, 17), (0, 1, 8)):
-            yield "%s_blocks_to %d" % (direction, n), k.blocks_to(direction, n)
-        for n in choose(range(1, 65), (1, 17), (2, 8)):
-            yield "%s_blocks_with %d" % (direction, n), k.blocks_with(direction, n)
-    counts = choose(range(0, 1025, 7), (1, 33, 257), (0, 15, 16, 128, 130))
+        for n in choose(range(65), (17,), (0, 1, 2)):
+            yield "%s_blocks_to %d" % (direction, n), k.blocks(direction, n, "_to")
+        for n in choose(range(1, 65), (1,), (17,)):
+            yield "%s_blocks_with %d" % (direction, n), k.blocks(direction, n, "_with")
+    counts = choose(range(0, 1025, 7), (33,), (0, 1, 16, 130, 257))
     for position, n in [(0, n) for n in counts] + [(7, 40), (2 ** 64 - 21, 20)]:
         yield "add_keystream %d at %d" % (n, position), k.add_keystream(position, n)
-    for n in counts[1::2]:
-        yield "add_keystream_to %d at 3" % n, k.add_keystream_to(3, n)
-    for n in counts[1::3]:
-        yield "add_keystream_with %d at 3" % n, k.add_keystream_with(3, n)
-    for n, wraps in (40, (2,)), (280, choose(range(1, 19), (9,), (1, 2, 3, 8, 16, 17))):
+    for n in choose(counts[1::2], (33,), (0, 130)):
+        yield "add_keystream_to %d at 3" % n, k.add_keystream(3, n, way="_to")
+    for n in choose(counts[1::3], (33,)):
+        yield "add_keystream_with %d at 3" % n, k.add_keystream(3, n, way="_with")
+    for n, wraps in (40, (2,)), (280, choose(range(1, 19), (), (1, 2, 9, 17))):
         for wrap in wraps:
-            yield "add_keystream %d at 5, the low half of the counter wraps before block %d" % (n, wrap), k.add_keystream(5, n, wrap)
-    for n in choose(range(65), (1, 9), (0, 2, 8, 17)):
+            what = "add_keystream %d at 5, the low half of the counter wraps before block %d" % (n, wrap)
+            yield what, k.add_keystream(5, n, wrap)
+    for n in choose(range(65), (9,), (0, 1, 8, 17)):
         yield "cbc_decrypt %d" % n, k.cbc_decrypt(n)
-    for n in choose(range(65), (2,), (0, 1, 8)):
+    for n in choose(range(65), (2,), (0, 1)):
         yield "cbc_encrypt %d" % n, k.cbc_encrypt(n)
     for n in choose(range(2, 13), (2,), (3,)):
         yield "wrap %d" % n, k.wrap(n)
@@ -91,18 +97,21 @@ def gcm_cases(k, everything):
     for length in (0, 1, 15, 17, 23, 25, 31, 33, 256, 2 ** 32 + 16):
         yield "set_key of %d bytes" % length, k.set_key_refused(length)
     blocks = [(0, 16 * n) for n in range(1, 65)] + [(n, 0) for n in range(1, 100, 9)]
-    for a, n in choose([(0, 0), (1, 1), (13, 33), (40, 20), *blocks], [(13, 33)], [(0, 0), (1, 1), (40, 20), (0, 129)]):
+    for a, n in choose([(0, 0), (1, 1), (13, 33), (40, 20), *blocks], [(13, 33)], [(0, 0), (1, 1), (49, 1), (0, 129)]):
         yield "seal %d, %d" % (a, n), k.seal(a, n)
     for a, n in choose([(0, 0), (13, 33), (40, 129)], [(13, 33)], [(0, 0)]):
         yield "open %d, %d" % (a, n), k.open(a, n)
     ends = (8, 1, ()), (1, 2 ** 32 - 1, (7, 0, 255, 255)), (60, 2 ** 32 - 2, (7, 0, 255, 255))
-    for length, counter, before in choose(ends, ends[2:], ends[:2]):
-        first, what = k.nonce_of(length, counter, before), "with a nonce of %d bytes, J_0 ends in %x" % (length, counter)
-        yield "seal " + what, k.seal(5, 40, first)
+    for length, counter, before in ends:
+        first = k.nonce_of(length, counter, before)
+        what = "with a nonce of %d bytes, J_0 ends in %x" % (length, counter)
         yield "begin " + what, k.begin(first)
-        yield "open " + what, k.open(3, 20, first)
+        for n in choose((20, 40), (), (20,)):
+            yield "seal %d bytes " % n + what, k.seal(5, n, first)
+        if everything or length == 8 and k.key_size == 16:
+            yield "open " + what, k.open(3, 20, first)
     for counter in choose((None, 2 ** 64 - 1, 2 ** 96 - 2), (None,), (2 ** 64 - 1, 2 ** 96 - 2)):
-        yield "seal_next after %s" % counter, k.seal_next(3, 20, counter)
+        yield "seal_next after %s" % counter, k.seal_next(3, 1, counter)
         yield "begin_next after %s" % counter, k.begin_next(counter)
     yield "begin", k.begin()
     yield from piece_cases(k, choose)
@@ -117,29 +126,50 @@ def piece_cases(k, choose):
         yield "additional %d after %d" % (n, before), k.additional(before, n)
     for call in "encrypt", "verify", "decrypt_unverified":
         phase = gcm.ENCRYPTING if call == "encrypt" else gcm.VERIFYING
-        pieces = [(gcm.ADDITIONAL, 5, 0, 3), (phase, 5, 20, 50), (gcm.ADDITIONAL, 0, 0, 16), (phase, 5, 7, 9), (phase, 0, 0, 0)]
-        for of, a, before, n in choose(pieces, pieces[:2], pieces[2:]):
+        pieces = [(gcm.ADDITIONAL, 5, 0, 3), (phase, 5, 20, 50), (gcm.ADDITIONAL, 0, 0, 16), (phase, 5, 7, 9),
+                  (phase, 0, 0, 0)]
+        for of, a, before, n in choose(pieces, pieces[:1], pieces[1:]):
             yield "%s %d after %d, %d, phase %d" % (call, n, a, before, of), k.piece(call, of, a, before, n)
     for text, before, n in choose([(100, 0, 16), (100, 7, 20), (100, 32, 68)], [(100, 7, 20)], [(100, 32, 68)]):
         yield "decrypt %d after %d of %d" % (n, before, text), k.decrypt(text, before, n)
     states = [(gcm.ENCRYPTING, 16, 7), (gcm.ADDITIONAL, 0, 0), (gcm.ADDITIONAL, 5, 0), (gcm.ENCRYPTING, 5, 16)]
     for phase, a, n in choose(states, states[:1], states[1:]):
         yield "finish after %d, %d, phase %d" % (a, n, phase), k.finish(phase, a, n)
-        yield "accept after %d, %d, phase %d" % (a, n, phase), k.accept(phase if phase == gcm.ADDITIONAL else gcm.VERIFYING, a, n)
+        phase = phase if phase == gcm.ADDITIONAL else gcm.VERIFYING
+        yield "accept after %d, %d, phase %d" % (a, n, phase), k.accept(phase, a, n)
     for length in choose((4, 8, 12, 13, 14, 15), (12,), (4, 15)):
         yield "accept_short of %d bytes" % length, k.accept(gcm.VERIFYING, 16, 7, length)
 
 
+def siv_cases(k, everything):
+    yield "wipe", k.wipe()
+    for length in (0, 1, 15, 17, 24, 31, 33, 256, 2 ** 32 + 16):
+        yield "set_key of %d bytes" % length, k.set_key_refused(length)
+    blocks = [(0, 16 * n) for n in range(1, 65)] + [(n, 0) for n in range(1, 100, 9)]
+    lengths = [(0, 0), (1, 1), (13, 81), (20, 145)]
+    for a, n in lengths + blocks if everything else lengths if k.key_size == 16 else [(13, 33)]:
+        yield "seal %d, %d" % (a, n), k.seal(a, n)
+    for a, n in lengths if everything else lengths[1::2] if k.key_size == 16 else [(1, 1)]:
+        yield "open %d, %d" % (a, n), k.open(a, n)
+    for i, call in enumerate(k.refused()):
+        yield "%s refused %d" % (call.name[4:], i), call
+
+
+LIBRARIES = {"aes": (aes.Keyed, aes_cases), "gcm": (gcm.KeyedGcm, gcm_cases), "siv": (siv.KeyedSiv, siv_cases)}
+
+
 # The header: the compiler compares what it says with what the statements have.
 def header_cases(dist, machine=X86_64):
-    for module, name in ((aes, "fotsgure_aes"), (gcm, "fotsgure_gcm")):
+    for statuses, structs, name in ((aes.STATUSES, aes.STRUCTS, "fotsgure_aes"),
+                                    (gcm.STATUSES, gcm.STRUCTS | siv.STRUCTS, "fotsgure_gcm")):
         lines = ["#include <stddef.h>", "#include <%s.h>" % name]
-        lines += ["_Static_assert(%s_%s == %d, \"\");" % (name.upper(), s, n) for n, s in enumerate(module.STATUSES)]
-        for struct, (size, fields) in module.STRUCTS.items():
+        lines += ["_Static_assert(%s_%s == %d, \"\");" % (name.upper(), s, n) for n, s in enumerate(statuses)]
+        for struct, (size, fields) in structs.items():
             lines.append("_Static_assert(sizeof(struct %s) == %d, \"\");" % (struct, size))
-            lines += ["_Static_assert(offsetof(struct %s, %s) == %d, \"\");" % (struct, f, at) for f, at in fields.items()]
-        result = subprocess.run([machine.tools + "gcc", "-fsyntax-only", "-I", dist + "/include", "-x", "c", "-"], input="\n".join(lines),
-                                capture_output=True, text=True)
+            lines += ["_Static_assert(offsetof(struct %s, %s) == %d, \"\");" % (struct, f, at)
+                      for f, at in fields.items()]
+        result = subprocess.run([machine.tools + "gcc", "-fsyntax-only", "-I", dist + "/include", "-x", "c", "-"],
+                                input="\n".join(lines), capture_output=True, text=True)
         yield "%s.h: %d facts of sizes, places and statuses" % (name, len(lines) - 2), result.stderr.strip()
 
 
@@ -148,28 +178,37 @@ def version(dist, library):
     return int(re.search(r"#define FOTSGURE_%s_VERSION (\d+)" % library.upper(), text)[1])
 
 
+# calls that also run on the processor
+BESIDE = "set_key", "encrypt_blocks 17", "add_keystream 130 at 0", "unwrap 3", "seal 1, 1", "open 0, 0"
+
+
 class Task:
-    """The calls of one build under keys of one size."""
+    """The calls of one build under keys of one size. Forms of instructions that `compared` has are not compared again,
+    and statements have vectors once for all builds."""
 
     def __init__(self, options, build, key_size, compared):
         self.options, self.build, self.key_size = options, build, key_size
-        self.compared, self.tried, self.used = set(compared), collections.Counter(), set()
+        self.compared, self.used, self.first = set(compared), {}, not compared
         self.proved, self.failed, self.vectors = 0, 0, 0
 
     def run(self):
         start = time.process_time()
         out = "%s/%s_%d" % (self.options.out, self.build.replace("/", "_"), self.key_size)
-        program = link("%s/%s.s" % (self.options.dist, self.build), out, BUILDS[self.build])
+        self.program = link(source(self.options.dist, self.build), out, BUILDS[self.build])
         library = self.build.split("/")[1][:3]
-        keyed = (gcm.KeyedGcm if library == "gcm" else aes.Keyed)(program, self.key_size)
+        keyed_class, cases = LIBRARIES[library]
+        keyed = keyed_class(self.program, self.key_size)
         self.case("set_key", keyed.set_key)
         if not self.failed:
-            self.vectors = checked(keyed)
-            number = Call(library + "_version", [], version(self.options.dist, library))
-            self.case("version", lambda seed: keyed.proved(number, seed))
-            for what, call in (gcm_cases if library == "gcm" else aes_cases)(keyed, self.options.all):
+            if self.build == "x86_64/" + library:
+                self.vectors = checked(keyed)
+            if library != "siv":
+                number = Call(library + "_version", [], version(self.options.dist, library))
+                self.case("version", lambda seed: keyed.proved(number, seed))
+            for what, call in cases(keyed, self.options.all):
                 if self.options.only in what:
                     self.case(what, lambda seed: keyed.proved(call, seed))
+        self.case("instructions by themselves", self.compare)
         self.seconds = time.process_time() - start
         return self
 
@@ -177,13 +216,12 @@ class Task:
         start = time.process_time()
         try:
             m = prove(None)
-            new = set(m.used) - self.compared  # some are on other paths than the one that the processor takes
-            if any(self.tried[form] < 2 for form in new) and not PROCESSORS[type(m)].missing():
-                self.compared |= set(prove(SEED).used)
-                self.tried.update(new)
-            self.used |= set(m.used)
-            left = ", ".join("%d %s in %s" % (len(v), kind, place) for (place, kind), v in sorted(m.left.items()))
-            text = "%d instructions, %d bytes of stack; left: %s" % (m.steps, m.top - m.lowest, left or "nothing")
+            if m:
+                text = self.ran(m)
+                if self.first and what in BESIDE and not PROCESSORS[type(m)].missing():
+                    self.compared |= set(prove(SEED).used)
+            else:
+                text = "%d compared" % len(self.compared)
             self.proved += 1
         except Unproved as e:
             text = "NOT PROVED: %s" % e
@@ -191,6 +229,15 @@ class Task:
         if self.options.lines or text.startswith("NOT"):
             print("%s.s, key of %d bytes, %s: %s; %.1f s" % (
                 self.build, self.key_size, what, text, time.process_time() - start), flush=True)
+
+    def ran(self, m):
+        self.used.update(m.used)
+        left = ", ".join("%d %s in %s" % (len(v), kind, place) for (place, kind), v in sorted(m.left.items()))
+        return "%d instructions, %d bytes of stack; left: %s" % (m.steps, m.top - m.lowest, left or "nothing")
+
+    def compare(self, seed):
+        self.compared |= compare_all(self.program,
+                                     {form: at for form, at in self.used.items() if form not in self.compared})
 
 
 def run_task(*arguments):
@@ -209,7 +256,8 @@ def tasks(options):
                 task = future.result()
                 yield task
                 if task.key_size == first:
-                    waiting |= {pool.submit(run_task, options, task.build, size, task.compared) for size in others}
+                    sizes = [size for size in others if size != 24 or "siv" not in task.build]
+                    waiting |= {pool.submit(run_task, options, task.build, size, task.compared) for size in sizes}
 
 
 def missing(machine):
@@ -219,7 +267,8 @@ def missing(machine):
 
 def say_what_is_missing():
     for machine, processor in PROCESSORS.items():
-        for consequence, names in (("is not proved", missing(machine)), ("is not compared with a processor", processor.missing())):
+        for consequence, names in (("is not proved", missing(machine)),
+                                   ("is not compared with a processor", processor.missing())):
             if names:
                 print("%s %s here, without %s" % (machine.__name__, consequence, ", ".join(names)))
 

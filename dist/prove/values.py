@@ -1,7 +1,7 @@
 """One value for each cell, and so for each bit and byte: random ones for a run beside the processor, those of the
 standards' vectors for the statements."""
 from bits import BLOCK, PRODUCT
-from machine import Distance, Pointer
+from machine import Distance, Mask, Number, Pointer
 
 
 class Values:
@@ -15,29 +15,35 @@ class Values:
         if d.names[cell].startswith("counter byte "):
             i = int(d.names[cell].split()[2])
             low = 8 <= i < 16
-            word = Pointer(self.counter.word, self.counter.first + block - 1) if low else Pointer("counter high", i // 16)
-            return self.word(word) >> 8 * (7 - i % 8) & 255
+            place = (self.counter.word, self.counter.first + block - 1) if low else ("counter high", i // 16)
+            return self.word(Pointer(*place)) >> 8 * (7 - i % 8) & 255
+        if cell in d.numbers and block > 1:
+            k, number = d.numbers[cell]
+            return sum(self.cell(d.cell_of(b)[0], 1) << 8 * j for j, b in enumerate(number)) + block - 1 >> 8 * k & 255
         key = (cell, block if d.of_block[cell] else 0)
         if key not in self.cells:
             bits = d.definitions.get(cell)
             self.cells[key] = self.random.randrange(256) if bits is None else sum(
-                self.bit(d.in_block(b, block)) << j for j, b in enumerate(bits))
+                self.bit(d.in_block(b, block) if d.of_block[cell] else b) << j for j, b in enumerate(bits))
         return self.cells[key]
 
     def bit(self, x):
         d, value = self.domain, x & 1
         if x > 1 and x & BLOCK == PRODUCT << 1:
-            linear, p, _ = d.products[x >> 9]
-            pairs = list(d.pairs)
-            for k, one in enumerate(bin(p)[:1:-1]):
-                if one == "1":
-                    (a, b, i), (c, e, j) = pairs[k]
-                    value ^= self.cell(a, b) >> i & self.cell(c, e) >> j & 1
+            linear, pairs = d.products[x >> 9]
+            for row, (a, group) in enumerate(d.row_keys):
+                columns = int.from_bytes(pairs[16 * row:16 * row + 16], "little")
+                if columns and self.numbered(a):
+                    value ^= sum(self.numbered(group << 7 | k) for k in range(128) if columns >> k & 1) & 1
             return value ^ self.bit(linear)
         for block, n in d.parts(x):
             for c, t in d.forms[n]:
                 value ^= t >> self.cell(c, block) & 1
         return value
+
+    def numbered(self, number):
+        """The bit of a cell that has this number."""
+        return self.cell(number >> 3 & 0xffffff, number >> 27) >> (number & 7) & 1
 
     def full_byte(self, b):
         """Also of sums of products, which takes long."""
@@ -65,6 +71,8 @@ class Values:
         """Of a value of machine.py; None as above."""
         if isinstance(v, int):
             return v
+        if isinstance(v, (Number, Mask)):
+            return None
         if isinstance(v, Pointer):
             if v.base not in self.base:
                 self.base[v.base] = self.first_value(v.base)
@@ -83,13 +91,15 @@ class Values:
         return self.random.getrandbits(46)
 
     def set_byte(self, domain, b, value):
-        """Gives the cell that a byte is, perhaps with bits flipped, the value with which the byte has this one."""
-        self.cells[domain.cell_of(b)] = value ^ sum((x & 1) << j for j, x in enumerate(domain.bits(b)))
+        """Gives the cell of which a byte is a function the value with which the byte has this one."""
+        tables = [(domain.forms[x >> 9][0][1], x & 1) for x in domain.bits(b)]
+        byte = lambda c: sum((t >> c & 1 ^ e) << j for j, (t, e) in enumerate(tables))
+        self.cells[domain.cell_of(b)] = next(c for c in range(256) if byte(c) == value)
 
     def give(self, b, value):
         """Gives a byte of a statement's content this value: it is a constant, a byte of a word, or a cell."""
         name = self.domain.opaque_of.get(b)
-        if name:
+        if name and not isinstance(name[0], Number):
             word, k = name
             self.base[word.base] = self.base.get(word.base, 0) | value << 8 * k
         elif b >= 256:
@@ -98,7 +108,8 @@ class Values:
     def renamed(self, pairs, domain):
         """What stands for a byte becomes another, of another domain perhaps: cells get the values that they stand
         for."""
-        known = [(new, self.full_byte(b)) for b, new in pairs if (new != b or domain is not self.domain) and domain.symbolic(new)]
+        known = [(new, self.full_byte(b))
+                 for b, new in pairs if (new != b or domain is not self.domain) and domain.symbolic(new)]
         if domain is not self.domain:
             self.domain, self.cells, self.bytes = domain, {}, {}
         for new, value in known:

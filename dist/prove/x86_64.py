@@ -5,7 +5,7 @@ import re
 from collections import namedtuple
 
 from bits import Unproved
-from machine import RETURN_ADDRESS, SECRET, WORD, Instruction, Machine, Pointer, is_int, is_pointer
+from machine import RETURN_ADDRESS, SECRET, WORD, Instruction, Machine, Mask, Number, Pointer, is_int, is_pointer
 
 Reg = namedtuple("Reg", "name size at", defaults=[0])  # at: the first byte; ah, bh, ch and dh begin at byte 1
 Vec = namedtuple("Vec", "number size")
@@ -59,10 +59,23 @@ class X86_64(Machine):
     def leave(self):
         ret(self, "ret")
 
+    def prepare(self, instruction, place):
+        """For an instruction by itself: addresses that it may access, or jump to."""
+        for o in instruction.operands:
+            if isinstance(o, Mem) and instruction.name != "lea":
+                if o.index:
+                    self.general[o.index] = 16
+                if o.base:
+                    at = place._replace(base="stack") if o.base == "rsp" else place
+                    self.general[o.base] = self.offset(at, -o.disp - (16 * o.scale if o.index else 0))
+            elif isinstance(o, Reg) and instruction.name in ("jmp", "call"):
+                self.general[o.name] = self.program.symbols["start"]
+
     @staticmethod
     def decode(text, following):
         name, _, rest = text.split("#")[0].strip().partition(" ")
-        # Prefixes that fill up a nop, or a call that the linker shortened; of a jump by a table, which may lead anywhere.
+        # Prefixes that fill up a nop, or a call that the linker shortened; of a jump by a table, which may lead
+        # anywhere.
         while name in ("cs", "data16", "addr32", "notrack"):
             name, _, rest = rest.strip().partition(" ")
         operands = [] if name == "nop" or not rest else [operand(o.strip(), name, following) for o in rest.split(",")]
@@ -98,7 +111,7 @@ class X86_64(Machine):
         for name, scale in ((m.base, 1), (m.index, m.scale)):
             if name:
                 v = self.general[name]
-                if is_pointer(v) and scale != 1 or not (is_int(v) or is_pointer(v)):
+                if scale != 1 and not is_int(v) or not isinstance(v, (int, Pointer, Number)):
                     raise Unproved("an address depends on the key or on data")
                 a = self.offset(a, v * scale if is_int(v) else v)
         return a
@@ -218,9 +231,9 @@ def lea(m, name, to, source):
         v = m.address(source)
     except Unproved:
         v = None
-    if v is None or not (is_int(v) or is_pointer(v)):
+    if v is None or not isinstance(v, (int, Pointer, Number)):
         raise Unproved("an address depends on the key or on data")
-    m.put(to, v if to.size == 8 else v & 0xffffffff)
+    m.put(to, v & 0xffffffff if is_int(v) and to.size == 4 else v)
 
 
 @op("push")
@@ -301,6 +314,11 @@ def logic(m, name, to, a, b=None):
         mask = (1 << 8 * size) - 1
         r = {"and": x & y, "test": x & y, "or": x | y, "xor": x ^ y, "andn": ~x & y}[name] & mask
         m.set_flags(c=0, o=0, z=int(r == 0), s=r >> 8 * size - 1)
+    elif isinstance(x, Mask) and name == "xor" and is_int(y):
+        r = m.mask(x.equal ^ y, x.differences)
+        m.set_flags()
+    elif isinstance(x, Mask) and name == "test" and x == y and not x.equal:
+        m.set_flags(c=0, o=0, z=m.zero_flag(x.differences), s=SECRET)
     elif name == "xor" and a == b and isinstance(a, Reg):
         r = 0
         m.set_flags(c=0, o=0, z=1, s=0)
@@ -574,26 +592,53 @@ def vpermq(m, name, to, source, order):
     m.put_vector(name, to, [x for k in range(4) for x in b[8 * (order >> 2 * k & 3):][:8]])
 
 
-@op("punpcklqdq", "vpunpcklqdq")
-def punpcklqdq(m, name, *operands):
+@op(*[v + "punpckl" + w for v in ("", "v") for w in ("bw", "wd", "dq", "qdq")])
+def punpckl(m, name, *operands):
     a, b = sources(m, name, operands)
-    r = []
-    for i in range(0, len(a), 16):
-        r += a[i:i + 8] + b[i:i + 8]
-    m.put_vector(name, operands[0], r)
+    lane = {"bw": 1, "wd": 2, "dq": 4, "qdq": 8}[name.split("punpckl")[1]]
+    m.put_vector(name, operands[0], [x for i in range(0, len(a), 16) for k in range(i, i + 8, lane)
+                                     for x in a[k:k + lane] + b[k:k + lane]])
 
 
-@op("pblendw", "vpblendw")
+@op("pblendw", "vpblendw", "vpblendd")
 def pblendw(m, name, *operands):
     a, b = sources(m, name, operands)
-    m.put_vector(name, operands[0], [b[k] if operands[-1] >> k % 16 // 2 & 1 else a[k] for k in range(len(a))])
+    at = (lambda k: k // 4) if name[-1] == "d" else lambda k: k % 16 // 2
+    m.put_vector(name, operands[0], [b[k] if operands[-1] >> at(k) & 1 else a[k] for k in range(len(a))])
 
 
-@op("pinsrb", "vpinsrb")
+@op("pinsrb", "vpinsrb", "vpinsrd")
 def pinsrb(m, name, *operands):
-    b = m.get_vector(operands[-3])
-    b[operands[-1] & 15] = m.to_bytes(m.get(operands[-2]), 1)[0]
+    b, size = m.get_vector(operands[-3]), 4 if name[-1] == "d" else 1
+    at = operands[-1] * size & 15
+    b[at:at + size] = m.to_bytes(m.get(operands[-2], size), size)
     m.put_vector(name, operands[0], b)
+
+
+@op("movss", "movsd")
+def movss(m, name, to, source):
+    """A load clears the rest of the register."""
+    size = 4 if name[-2] == "s" else 8
+    if isinstance(to, Vec) and isinstance(source, Vec):
+        raise Unproved("instruction not covered")
+    m.put_vector(name, to, m.get_vector(source, size)[:size] + [0] * (16 - size) * isinstance(to, Vec))
+
+
+@op("pcmpeqb", "vpcmpeqb")
+def pcmpeqb(m, name, *operands):
+    m.put_vector(name, operands[0], [m.equality(m.domain.xor_byte(x, y), 255, 0)
+                                     for x, y in zip(*sources(m, name, operands))])
+
+
+@op("pmovmskb", "vpmovmskb")
+def pmovmskb(m, name, to, source):
+    b = m.get_vector(source)
+    pairs = [m.equalities.get(x) for x in b]
+    if max(b) < 256:
+        return m.put(to, sum((x >> 7) << k for k, x in enumerate(b)))
+    if len(pairs) != 16 or any(p is None or p[1:] != (255, 0) for p in pairs):
+        raise Unproved("instruction not covered")
+    m.put(to, m.mask(0xffff, [p[0] for p in pairs]))
 
 
 @op("pextrq", "vpextrq")

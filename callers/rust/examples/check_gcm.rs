@@ -76,7 +76,7 @@ fn pieces_are_refused(gcm: &Gcm) -> bool {
     let (cipher, tag) = (bytes_of(CIPHER), bytes_of(TAG));
     let mut message = gcm.begin(&bytes_of(NONCE)).unwrap();
     message.verify(&cipher).unwrap();
-    message.additional(b"").is_err_and(|why| why == NotTaken::OutOfTurn)
+    message.additional(b"") == Err(NotTaken::OutOfTurn)
         && message.decrypt(&mut [0]) == Err(NotTaken::OutOfTurn)
         && message.accept(&tag) == Err(NotTaken::Refused)
         && message.accept(&tag[..15]) == Err(NotTaken::Refused)

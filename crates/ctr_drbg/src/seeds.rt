@@ -1,6 +1,7 @@
 //! Seeds, which are wiped: entropy input and other strings as 48 bytes.
 
-ghost use Rattle.std.specs.Prelude.{◌≡◌, ◌≢◌, ◌↔◌, ◌⊎◌, ◌<◌, ◌≤◌, length, replicate, IsErr, IsErrOf};
+ghost use Rattle.std.specs.Prelude.{◌≡◌, ◌≢◌, ◌↔◌, ◌⊎◌, ◌<◌, ◌≤◌, length, replicate, IsErr};
+ghost use Rattle.std.specs.Prelude.{IsErrOf};
 ghost use Rattle.ctr_drbg.specs.CtrDrbg.{padded, exclusive_or};
 
 use crate::errors::InvalidSeed;
@@ -69,7 +70,8 @@ pub(crate) fn are_seeds(entropy_input: &[u8], string: &[u8]) -> Result<(), Inval
     Ok(())
 }
 
-/// Writes seed_material: the entropy input plus a string with zeros behind it (10.2.1.3.1 and 10.2.1.4.1, steps 1 to 3).
+/// Writes seed_material: the entropy input plus a string with zeros behind it (10.2.1.3.1 and
+/// 10.2.1.4.1, steps 1 to 3).
 pub(crate) fn put_seed_material(entropy_input: &[u8], string: &[u8], seed: &mut [u8; SEED_LENGTH])
     requires entropy { length entropy_input.now ≡ 48 }
     requires fits { length string.now ≤ 48 }

@@ -4,5 +4,7 @@ use Rattle.ctr_drbg.proofs.output.add_output.Goals as goal
 
 pub returns : goal.returns
 returns g c =
-    output_plus (g.C.RoundKeysUser.round_keys c.args.cipher.now) (g.C.KeyInit.own_key c.args.cipher.now) c.args.v.now
-    c.args.bytes.now c.add_keystream.new.bytes c.add_keystream.ensures (g.met.C.KeyInit.expanded c.args.cipher.now)
+    output_plus (g.C.RoundKeysUser.round_keys c.args.cipher.now)
+    (g.C.KeyInit.own_key c.args.cipher.now) c.args.v.now
+    c.args.bytes.now c.add_keystream.new.bytes c.add_keystream.ensures
+    (g.met.C.KeyInit.expanded c.args.cipher.now)

@@ -18,7 +18,8 @@ abbrev plain : List ℕ
 plain = bytes 20 0x0300000000000000000000000000000004000000
 
 abbrev encrypting : List (List ℕ)
-encrypting = key_expansion (bytes 32 0xb914f4742be9e1d7a2f84addbf96dec3456e3c6c05ecc157cdbf0700fedad222)
+encrypting = key_expansion
+    (bytes 32 0xb914f4742be9e1d7a2f84addbf96dec3456e3c6c05ecc157cdbf0700fedad222)
 
 abbrev start : List ℕ
 start = first_counter (bytes 16 0xb879ad976d8242acc188ab59cabfe307)
@@ -30,7 +31,8 @@ pub returns-clause-tag : goal.returns-clause-tag
 unfolding siv_on_literals
 returns-clause-tag c =
     let keys = c.keys_256_example.ensures in
-    (λ t. tag_under (key_expansion (keys.encryption t)) (from_le_bytes w128 (keys.authentication t)) nonce additional plain)
+    (λ t. tag_under (key_expansion (keys.encryption t))
+    (from_le_bytes w128 (keys.authentication t)) nonce additional plain)
     ∙ c.encrypted_under_256.ensures.tag
 
 pub returns-clause-text : goal.returns-clause-text
@@ -40,5 +42,6 @@ returns-clause-text c =
     ap (λ e. text_under (key_expansion e) (bytes 16 0xb879ad976d8242acc188ab59cabfe307) plain)
     c.keys_256_example.ensures.encryption
     ∙ blocks_by encrypting start two plain
-    (by_two (λ m. slice_index_or two m [] ≡ cipher_with encrypting (counter_block start m)) (sym known.first) (sym known.second))
+    (by_two (λ m. slice_index_or two m [] ≡ cipher_with encrypting (counter_block start m))
+    (sym known.first) (sym known.second))
     (omega arith)

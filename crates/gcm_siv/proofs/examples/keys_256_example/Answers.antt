@@ -13,4 +13,5 @@ pub returns-clause-encryption : goal.returns-clause-encryption
 unfolding siv_on_literals
 returns-clause-encryption c =
     let known = c.encrypted_numbers.ensures in
-    (λ t. take 8 (known.two t) ++ take 8 (known.three t) ++ (take 8 (known.four t) ++ take 8 (known.five t)))
+    (λ t. take 8 (known.two t) ++ take 8 (known.three t)
+    ++ (take 8 (known.four t) ++ take 8 (known.five t)))

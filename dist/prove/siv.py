@@ -1,0 +1,171 @@
+"""The statement for each call of fotsgure_gcm_siv_.. (RFC 8452), beside the sentence of the header that it proves.
+
+When a call has derived the keys of a message, they become arbitrary bytes, and so do in turn the powers of one, the
+round keys of the other, each value of POLYVAL, the block of which the tag is the cipher, and the tag."""
+from bits import DATA, KEY
+from calls import ANY, Buffer, Call, compare, prove
+from gcm import DONE, KEY_LENGTH, NO_KEY, REFUSED, TOO_LONG, ZEROS, Hashing, KeyedGcm, padded, threes
+from machine import Number
+from standards import dot, mulx_ghash, product
+
+STRUCTS = {"fotsgure_gcm_siv": (244, {"key_length": 0, "round_keys": 4})}
+STRUCT, MOST = 244, 2 ** 36
+FEW = 160  # so many bytes are hashed block by block; of more, three blocks at once
+
+
+def little(n, size):
+    """A number as bytes, the lowest first."""
+    return list(n.to_bytes(size, "little"))
+
+
+class KeyedSiv(KeyedGcm):
+    library = "siv"
+
+    def set_key(self, seed=None):
+        """Prepares a key in *siv (KeyExpansion, FIPS 197, 5.2). *siv may be uninitialized: none of it is read. Nothing
+        of what it held is left. DONE if key_length is 16 or 32"""
+        siv = Buffer("siv", [self.key_domain.undefined] * STRUCT, ANY)
+        call = Call("gcm_siv_set_key", [siv, Buffer("key", self.key), self.key_size], DONE)
+        m = prove(self.key_domain, self.program, call, seed)
+        self.struct = [self.byte_for_any(b) for b in m.regions["siv"].content]
+        fixed = self.struct[:4] + self.struct[4 + 4 * len(self.w):]
+        compare(self.domain, fixed, [self.key_size] + [0] * (len(fixed) - 1), "the length and what no round key takes")
+        self.once("message", self.make_message)
+        return m
+
+    def set_key_refused(self, length):
+        """else KEY_LENGTH, and *siv then is all zeros and holds no key."""
+        siv = Buffer("siv", [self.key_domain.undefined] * STRUCT, [0] * STRUCT)
+        return Call("gcm_siv_set_key", [siv, Buffer("key", self.key), length], KEY_LENGTH)
+
+    def wipe(self):
+        """Overwrites *siv with zeros: it then holds no key. It may be uninitialized."""
+        return Call("gcm_siv_wipe", [Buffer("siv", self.undefined(STRUCT), [0] * STRUCT)], None)
+
+    def schedule(self):
+        return Buffer("siv", self.struct)
+
+    def no_key(self):
+        return Buffer("siv", [0] * STRUCT)
+
+    # What a message has.
+    def fresh(self, name, depends, count=16):
+        return [self.domain.fresh("%s byte %d" % (name, i), depends) for i in range(count)]
+
+    def make_message(self):
+        d = self.domain
+        self.derived = [self.fresh("derived block %d" % i, KEY) for i in range(self.key_size // 8 + 2)]
+        keys = [b for block in self.derived for b in block[:8]]  # the first halves (4)
+        self.expanded = self.aes.key_expansion(keys[16:])
+        for b in sum(self.expanded, []):
+            d.name(b, "message round key byte")
+        self.message_w = [self.fresh("message w[%d]" % i, KEY, 4) for i in range(len(self.w))]
+        # POLYVAL(H, X_1, ..) is GHASH of blocks whose bytes are reversed (appendix A): a step of both, for all H and X.
+        h, x = keys[:16], self.of(self.text, 0)
+        factor = mulx_ghash(d, h[::-1])
+        compare(d, dot(d, x, h)[::-1], product(d, x[::-1], factor), "a product of appendix A")
+        self.powers = [factor] + [self.fresh("power %d" % n, KEY) for n in (2, 3)]
+        counter = [d.fresh("tag byte %d, as a counter" % i, DATA, True) for i in range(4)]
+        d.numbers.update({d.cell_of(b)[0]: (k, counter) for k, b in enumerate(counter)})
+        d.words["counter of the tag"] = lambda offset, k: d.bits(d.byte_in_block(counter[k], offset + 1))
+        self.own_tag = [d.opaque((Number("counter of the tag", 0), k)) for k in range(4)] + self.fresh("tag", DATA)[4:]
+        self.highest = d.fresh("byte 15 of the first counter block", DATA)
+        self.tag_input = self.fresh("tag input", KEY | DATA)
+        self.own_stream = self.aes.cipher(counter + self.own_tag[4:15] + [self.highest], self.message_w)
+
+    def stored(self, words):
+        """What set_key stores of such round keys: of each byte a linear function, and perhaps a constant."""
+        d = self.domain
+
+        def bit(x, byte):
+            out = x & 1
+            for number in d.linear_part(x):
+                out = d.xor(out, d.bits(byte)[number & 7])
+            return out
+        return [d.pack([bit(x, b) for x in d.bits(s)]) for s, b in zip(self.struct[4:], sum(words, []))]
+
+    def derivation(self, few):
+        """derive_keys (4): blocks of a number of 32 bits, the lowest byte first, and the nonce."""
+        inputs = [little(i, 4) + self.nonce for i in range(len(self.derived))]
+        blocks = self.once("blocks", lambda: [self.aes.cipher(block, self.w) for block in inputs])
+        yield "memory", sum(blocks, []), sum(self.derived, [])
+        for power, after in () if few else zip(self.powers, self.powers[1:]):
+            yield "hash", product(self.domain, power, self.powers[0]), after
+        yield "memory", self.stored(self.expanded), self.stored(self.message_w)
+
+    def polyval(self, additional, text):
+        """Of additional data and a text, each filled up with zeros, and of their lengths in bits (4)."""
+        few, hashing = len(additional) + len(text) <= FEW, Hashing(self, ZEROS)
+        lengths = (little(8 * len(additional), 8) + little(8 * len(text), 8))[::-1]
+        first, second = ([b[::-1] for b in padded(s)] for s in (additional, text))
+        groups = [[b] for b in first + second + [lengths]] if few else threes(first) + threes(second, lengths)
+        return few, hashing.take(groups)
+
+    def tagged(self, hashing):
+        """Of what block the tag is Cipher: of this sum and the nonce, with the highest bit 0. That block as arbitrary
+        bytes, and Cipher of these."""
+        block = self.aes.xor(hashing.value[::-1], self.nonce + [0] * 4)
+        block[15] = self.domain.and_byte(block[15], 127)
+        any_ = [b if b < 256 else t for b, t in zip(block, self.tag_input)]
+        return block, any_, self.once(("tag", *any_), lambda: self.aes.cipher(any_, self.message_w))
+
+    def first_counter(self):
+        """The tag with its highest bit set."""
+        same, last = self.own_tag[:15], self.own_tag[15]
+        return "memory", same + [self.domain.or_byte(last, 128)], same + [self.highest]
+
+    def crypted_by_tag(self, text):
+        """AES_CTR (4): block i has the number that the tag begins with, the lowest byte first, plus i, modulo 2^32."""
+        return self.aes.xor(text, [b for i in range(len(text) // 16 + 1) for b in self.of(self.own_stream, i)])
+
+    def seal(self, additional_length, text_length):
+        """Encrypts `text_length` bytes in place under a nonce that the caller brings, and writes the tag .. (RFC 8452,
+        4). .. DONE"""
+        additional, text = self.many(self.more, additional_length), self.many(self.text, text_length)
+        few, hashing = self.polyval(additional, text)
+        block, any_block, tag = self.tagged(hashing)
+
+        def steps():
+            yield from self.derivation(few)
+            yield from hashing.steps()
+            yield "memory", block, any_block
+            yield "memory", tag, self.own_tag
+            yield self.first_counter()
+        arguments = [self.schedule(), Buffer("nonce", self.nonce), Buffer("additional", additional), additional_length,
+                     Buffer("text", text, self.crypted_by_tag(text)), text_length]
+        arguments.append(Buffer("tag", self.undefined(16), self.own_tag))
+        return Call("gcm_siv_seal", arguments, DONE, steps=steps, plain=text)
+
+    def open(self, additional_length, text_length):
+        """Decrypts `text_length` bytes in place if the tag is right (RFC 8452, 5). The tag can be compared only once
+        the text is decrypted, so a text that is refused is encrypted again: it is proved that it is, when the call
+        returns, as it was. .. REFUSED; else DONE."""
+        additional, sealed = self.many(self.more, additional_length), self.many(self.sealed, text_length)
+        text = self.many(self.text, text_length)
+        few, hashing = self.polyval(additional, text)
+        block, any_block, right = self.tagged(hashing)
+
+        def steps():
+            yield from self.derivation(few)
+            yield self.first_counter()
+            if text:
+                yield "text", self.crypted_by_tag(sealed), text
+            yield from hashing.steps()
+            yield "memory", block, any_block
+            yield self.first_counter()
+            if text:  # it became the sum of `sealed` and keystream; with the keystream once more it is `sealed`
+                yield "text", self.crypted_by_tag(text), sealed
+        arguments = [self.schedule(), Buffer("nonce", self.nonce), Buffer("additional", additional), additional_length,
+                     Buffer("text", sealed, text), text_length, Buffer("tag", self.own_tag)]
+        reveals = self.aes.xor(self.own_tag, right)
+        return Call("gcm_siv_open", arguments, DONE, steps=steps, reveals=reveals, refused=REFUSED, plain=text)
+
+    def refused(self):
+        """TOO_LONG or NO_KEY: .. A call that doesn't return DONE has changed nothing"""
+        data = self.many(self.text, 48)
+        none, key, more = self.no_key(), self.schedule(), MOST + 1
+        for siv, *lengths, status in (none, 16, 16, NO_KEY), (key, more, 16, TOO_LONG), (none, 16, more, TOO_LONG):
+            arguments = [siv, Buffer("nonce", data[:12]), Buffer("additional", data), lengths[0],
+                         Buffer("text", data, data), lengths[1]]
+            yield Call("gcm_siv_seal", arguments + [Buffer("tag", data[:16], data[:16])], status)
+            yield Call("gcm_siv_open", arguments + [Buffer("tag", data[:16])], status)
