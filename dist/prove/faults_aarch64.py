@@ -75,7 +75,7 @@ GCM_FAULTS = [
 ]
 OPEN_IN, APPLY = r'"gcm_c::siv::open_in::<#8b70e375869fa13e>":', r'"gcm_siv::message::apply::<#\w+>":'
 SIV_FAULTS = [
-    ("AES-GCM-SIV: derived keys left on the stack", r"fotsgure_gcm_siv_seal:",
+    ("AES-GCM-SIV: the stack not wiped, with values of derived keys", r"fotsgure_gcm_siv_seal:",
      r"\tbl\t\"aes_cipher::zeroize::stack::wipe_stack.*\n", "",
      lambda k: [k.seal(0, 0)]),
     ("AES-GCM-SIV: the highest bit of the tag's block kept", r'"gcm_siv::message::put_tag::<#5740872db283df9f>":',

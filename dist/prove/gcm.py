@@ -11,7 +11,8 @@ from calls import ANY, Buffer, Call, compare
 from machine import Pointer
 from standards import number, product
 
-STATUSES = "DONE KEY_LENGTH NO_KEY NONCE_LENGTH TAG_LENGTH TOO_LONG REFUSED NONCES_END OUT_OF_TURN".split()
+STATUSES = ("DONE KEY_LENGTH NO_KEY NONCE_LENGTH TAG_LENGTH TOO_LONG REFUSED NONCES_END OUT_OF_TURN "
+            "NO_RANDOMNESS").split()
 _, KEY_LENGTH, NO_KEY, NONCE_LENGTH, TAG_LENGTH, TOO_LONG, REFUSED, NONCES_END, OUT_OF_TURN = range(9)
 STRUCTS = {"fotsgure_gcm": (1780, {"key_length": 0, "round_keys": 4, "multiples": 244}),
            "fotsgure_gcm_counter": (12, {"next": 0}),
