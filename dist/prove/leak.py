@@ -27,11 +27,11 @@ def last_round(keyed, m):
 
 
 def found(keyed, count):
-    """How many bytes of the last round key follow from what encrypt_blocks left on the processor, and how many of these
-    are right."""
+    """How many bytes of the last round key follow from what encrypt_blocks left, for a random key and random blocks,
+    and how many of these are right."""
     m = attempt(keyed.domain, keyed.program, keyed.blocks("encrypt", count), [], strict=False)
-    values = Values(keyed.domain, random.Random(SEED))
-    stack, blocks = ([values.byte(b) for b in m.regions[name].content] for name in ("stack", "blocks"))
+    drawn = Values(keyed.domain, random.Random(SEED))
+    stack, blocks = ([drawn.byte(b) for b in m.regions[name].content] for name in ("stack", "blocks"))
     inputs = {}
     for at, j, number, block, table in last_round(keyed, m):
         bit = stack[at] >> j & 1
@@ -45,5 +45,5 @@ def found(keyed, count):
                 keys &= {blocks[16 * block + j] ^ SBOX[v] for v in values}
         if len(keys) == 1:
             bytes_ += 1
-            right += keys == {values.byte(keyed.aes.round_key(keyed.w, len(keyed.w) // 4 - 1)[j])}
+            right += keys == {drawn.byte(keyed.aes.round_key(keyed.w, len(keyed.w) // 4 - 1)[j])}
     return bytes_, right
