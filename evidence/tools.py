@@ -31,11 +31,6 @@ EXPORTS = "evidence_exports"
 CRATES = "aes_planes aes_cipher aes_soft aes aes_permute aes_hybrid aes_rounds aes_ctr aes_kat"
 # How many jobs a proof gets, if not as many as rt chooses.
 JOBS = ["--jobs", os.environ["AES_EVIDENCE_JOBS"]] if "AES_EVIDENCE_JOBS" in os.environ else []
-# The builds of a C library and their compilers: two texts of dist/, which LLVM made, and the crate by the second one.
-BUILDS = {"llvm": "llvm", "avx2": "llvm", "rattle": "rattle"}
-HEADER = (TOP / "dist" / "include" / "fotsgure_aes.h").read_text()
-STRUCT = int(re.search(r"sizeof\(struct fotsgure_aes\) == (\d+)", HEADER)[1])
-
 
 # Valgrind merges two branches to one place (guest-chase), and then reports at both what the first one tests.
 MEMCHECK = "valgrind --tool=memcheck --vex-guest-chase=no --error-limit=no --leak-check=no --expensive-definedness-checks=yes --num-callers=8"
@@ -119,13 +114,9 @@ def assembled(name, dist=TOP / "dist", room=ROOM):
     return made
 
 
-def c_library(build, library="aes"):
-    """The archive of one build of a library for C: of dist/, or by the second compiler. With that it is proved and built
-    where its crate stands, over what was proved there."""
-    compiler, crate = BUILDS[build], f"{library}_c"
-    if compiler == "llvm":
-        return assembled(library + ("_v3" if build == "avx2" else ""))
-    return kept(ROOM / f"lib{crate}-{compiler}.a", sources(), TOP / "crates" / crate, compiler)
+def by_second_compiler(crate):
+    """The archive of a library for C by the second compiler, which is proved and built where its crate stands."""
+    return kept(ROOM / f"lib{crate}-rattle.a", sources(), TOP / "crates" / crate, "rattle")
 
 
 def copy_of_the_crates():
@@ -161,43 +152,10 @@ def exports_library(compiler):
     return kept(made, total, ROOM / EXPORTS / "crates" / EXPORTS, compiler)
 
 
-def joined(name, c_archive, exports_archive):
-    """One archive of the C library and of exports, each an object that shows its exports alone."""
-    for it in ("ld", "objcopy", "ar"):
-        need(it, "binutils")
-    made = ROOM / f"libmeasured-{name}.a"
-    made.unlink(missing_ok=True)
-    for names, archive in {"fotsgure_aes_*": c_archive, "ev_*": exports_archive}.items():
-        whole = archive.with_suffix(".o")
-        run(["ld", "-r", "-o", whole, "--whole-archive", archive], f"joining {archive.name}")
-        # Both have copies of what they call: the names of those are for debuggers alone.
-        run(["objcopy", "--wildcard", f"--keep-global-symbol={names}", whole], f"the names of {archive.name}")
-        run(["ar", "rcs", made, whole], "the archive")
-    return made
-
-
-def library(build):
-    """All exports and a build of the C library, in one archive. What is missing or older than its sources is built."""
-    return joined(build, c_library(build), exports_library(BUILDS[build]))
-
-
-def can_run(build):
-    """Whether this processor runs a build of the C library."""
-    return build != "avx2" or " avx2 " in pathlib.Path("/proc/cpuinfo").read_text()
-
-
-def builds(options, found):
-    """The builds of the C library that are measured, each once said to be missing if it can't be."""
-    wanted = [it for it in BUILDS if it not in options.without]
-    missing = [f"{it}: this processor can't run it" for it in wanted if not can_run(it)]
-    found.missing += [it for it in missing if it not in found.missing]
-    return [it for it in wanted if can_run(it)]
-
-
 def exported(archive):
     """The names that an archive exports."""
     lines = run(["nm", archive], "nm").splitlines()
-    return {it.split()[2] for it in lines if " T ev_" in it or " T fotsgure_" in it}
+    return {it.split()[2] for it in lines if re.search(" T (ev|fotsgure)_", it)}
 
 
 def git(*words):
@@ -255,11 +213,10 @@ def briefly(where):
     return ", ".join([day, load, *rest])
 
 
-def compiled(source, name, archive, *more, after=()):
-    """A program of one C file and archives."""
+def compiled(source, name, archive, *flags):
+    """A program of one C file and an archive."""
     made = ROOM / f"{source.parent.name}-{source.stem}-{name}"
-    flags = ["-std=gnu11", "-O2", "-Wall", "-Wextra", "-Wl,-z,now", f"-I{TOP / 'dist/include'}", *more]
-    run(["cc", *flags, "-o", made, source, archive, *after], source.name)
+    run(["cc", "-std=gnu11", "-O2", "-Wall", "-Wextra", "-Wl,-z,now", *flags, "-o", made, source, archive], source.name)
     return made
 
 

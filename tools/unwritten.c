@@ -1,74 +1,26 @@
-/* Calls on structs that nobody has written. Prints where each is, for tools/unwritten.awk. With WITH_GCM also those of the
- * library of GCM. With PLANTED one byte is read first. */
-#include "fotsgure_aes.h"
-#ifdef WITH_GCM
+/* Calls on structs of AES-GCM-SIV that nobody has written: dist/prove shows it of the others. Prints where each is, for
+ * tools/unwritten.py. With PLANTED one byte is read first. */
 #include "fotsgure_gcm.h"
-#endif
 
 #include <stdio.h>
 
 static const uint8_t key[33] = {1, 2, 3};
 static const size_t lengths[] = {0, 16, 24, 32, 33};
 enum { COUNT = sizeof lengths / sizeof *lengths };
-
-static void at(const void *it, size_t size) { printf("%p %zu\n", it, size); }
-
-#ifdef WITH_GCM
-/* The same of AES-GCM-SIV, which has no keys of 24 bytes. */
-static int siv(void) {
-    static struct fotsgure_gcm_siv set[COUNT], wiped;
-    int right = 1;
-    for (int i = 0; i < COUNT; i++) {
-        int wanted = lengths[i] == 16 || lengths[i] == 32 ? FOTSGURE_GCM_DONE : FOTSGURE_GCM_KEY_LENGTH;
-        right &= (int)fotsgure_gcm_siv_set_key(&set[i], key, lengths[i]) == wanted;
-        at(&set[i], sizeof set[i]);
-    }
-    fotsgure_gcm_siv_wipe(&wiped);
-    at(&wiped, sizeof wiped);
-    return right;
-}
-
-/* A key of each length is set; then a message is begun in each way, and the last structs are wiped. */
-static int gcm(void) {
-    static struct fotsgure_gcm set[COUNT], wiped;
-    static struct fotsgure_gcm_message begun, other, next, wiped_message;
-    struct fotsgure_gcm_counter counter = {{0}};
-    uint8_t nonce[12] = {4};
-    int right = 1;
-    for (int i = 0; i < COUNT; i++) {
-        int wanted = i == 0 || i == COUNT - 1 ? FOTSGURE_GCM_KEY_LENGTH : FOTSGURE_GCM_DONE;
-        right &= (int)fotsgure_gcm_set_key(&set[i], key, lengths[i]) == wanted;
-        at(&set[i], sizeof set[i]);
-    }
-    right &= fotsgure_gcm_begin(&set[1], &begun, nonce, 12) == FOTSGURE_GCM_DONE;
-    at(&begun, sizeof begun);
-    right &= fotsgure_gcm_begin(&set[2], &other, nonce, 5) == FOTSGURE_GCM_DONE;
-    at(&other, sizeof other);
-    right &= fotsgure_gcm_begin_next(&set[3], &next, &counter, nonce) == FOTSGURE_GCM_DONE;
-    at(&next, sizeof next);
-    fotsgure_gcm_wipe(&wiped);
-    at(&wiped, sizeof wiped);
-    fotsgure_gcm_wipe_message(&wiped_message);
-    at(&wiped_message, sizeof wiped_message);
-    return right & siv();
-}
-#endif
+/* A key of each length is set; the last struct is wiped. */
+static struct fotsgure_gcm_siv structs[COUNT + 1];
 
 int main(void) {
-    static struct fotsgure_aes set[COUNT], wiped;
     int right = 1;
-    for (int i = 0; i < COUNT; i++) {
-        int wanted = i == 0 || i == COUNT - 1 ? FOTSGURE_AES_KEY_LENGTH : FOTSGURE_AES_DONE;
-        right &= (int)fotsgure_aes_set_key(&set[i], key, lengths[i]) == wanted;
-        at(&set[i], sizeof set[i]);
-    }
 #ifdef PLANTED
-    right &= !*(volatile uint8_t *)&wiped;
+    right &= !*(volatile uint8_t *)&structs[COUNT];
 #endif
-    fotsgure_aes_wipe(&wiped);
-    at(&wiped, sizeof wiped);
-#ifdef WITH_GCM
-    right &= gcm();
-#endif
+    for (int i = 0; i < COUNT; i++) {
+        int wanted = lengths[i] == 16 || lengths[i] == 32 ? FOTSGURE_GCM_DONE : FOTSGURE_GCM_KEY_LENGTH;
+        right &= (int)fotsgure_gcm_siv_set_key(&structs[i], key, lengths[i]) == wanted;
+    }
+    fotsgure_gcm_siv_wipe(&structs[COUNT]);
+    for (int i = 0; i <= COUNT; i++)
+        printf("%p %zu\n", (void *)&structs[i], sizeof structs[i]);
     return !right;
 }

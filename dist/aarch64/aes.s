@@ -647,7 +647,7 @@
 	stp	x25, x23, [sp, #64]
 	stp	x25, x23, [sp, #80]
 	cbz	x24, .LBB1_16
-// %bb.15:                              // %then.1.i.i15.i
+// %bb.15:                              // %then.1.i.i14.i
 	add	x0, sp, #64
 	add	x1, sp, #16
 	mov	x2, x21

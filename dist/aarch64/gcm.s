@@ -6054,7 +6054,7 @@
 	stp	x23, x25, [sp, #64]
 	stp	x23, x25, [sp, #80]
 	cbz	x24, .LBB26_16
-// %bb.15:                              // %then.1.i.i14.i
+// %bb.15:                              // %then.1.i.i13.i
 	add	x0, sp, #64
 	add	x1, sp, #16
 	mov	x2, x21

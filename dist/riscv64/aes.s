@@ -929,7 +929,7 @@
 	sd	s3, 80(sp)
 	sd	s8, 88(sp)
 	beqz	s0, .LBB1_17
-# %bb.16:                               # %then.1.i.i14.i
+# %bb.16:                               # %then.1.i.i13.i
 	addi	a0, sp, 64
 	addi	a1, sp, 16
 	mv	a2, s5

@@ -8131,7 +8131,7 @@
 	sd	s8, 80(sp)
 	sd	s4, 88(sp)
 	beqz	s1, .LBB26_17
-# %bb.16:                               # %then.1.i.i13.i
+# %bb.16:                               # %then.1.i.i12.i
 	addi	a0, sp, 64
 	addi	a1, sp, 16
 	mv	a2, s2

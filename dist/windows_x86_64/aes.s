@@ -909,7 +909,7 @@
 	movq	%rsi, 72(%rsp)
 	testq	%rbp, %rbp
 	je	.LBB1_24
-# %bb.25:                               # %then.1.i.i15.i
+# %bb.25:                               # %then.1.i.i14.i
 	movq	%rdi, %r13
 	leaq	48(%rsp), %rdi
 	movq	%rsi, %r14

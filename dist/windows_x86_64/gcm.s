@@ -8241,7 +8241,7 @@
 	movq	%rsi, 72(%rsp)
 	testq	%rbp, %rbp
 	je	.LBB26_24
-# %bb.25:                               # %then.1.i.i14.i
+# %bb.25:                               # %then.1.i.i13.i
 	leaq	48(%rsp), %rdi
 	movq	%rsp, %rsi
 	movq	%r15, %rdx

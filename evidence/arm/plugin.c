@@ -1,9 +1,7 @@
-/* A plugin of qemu that follows what runs between two marks: how many instructions, which ones in which order, and
- * which addresses they read and write. Each time it meets the second mark it writes a line with tabs: instructions, a
- * hash of their addresses, reads and writes, a hash of the addresses of those, and byte shuffles. It
- * is compiled with RISCV or X86 for these.
+/* A plugin of qemu that follows what runs between two marks: how many instructions, which ones in which order, and which
+ * addresses they read and write. Each time it meets the second mark it writes a line with tabs: instructions, a hash of
+ * their addresses, and a hash of the addresses that they read and write. It is compiled with RISCV or X86 for these.
  * usage: qemu-aarch64 -plugin plugin.so,out=FILE PROGRAM .. */
-#include <stdbool.h>
 #include <stddef.h>
 #include <stdint.h>
 #include <stdio.h>
@@ -23,64 +21,69 @@ void qemu_plugin_register_atexit_cb(qemu_plugin_id_t, void (*)(qemu_plugin_id_t,
 size_t qemu_plugin_tb_n_insns(const struct qemu_plugin_tb *);
 struct qemu_plugin_insn *qemu_plugin_tb_get_insn(const struct qemu_plugin_tb *, size_t);
 const void *qemu_plugin_insn_data(const struct qemu_plugin_insn *);
+uint64_t qemu_plugin_tb_vaddr(const struct qemu_plugin_tb *);
+void qemu_plugin_register_vcpu_tb_exec_cb(struct qemu_plugin_tb *, void (*)(unsigned, void *), int, void *);
 uint64_t qemu_plugin_insn_vaddr(const struct qemu_plugin_insn *);
 __attribute__((visibility("default"))) int qemu_plugin_version = 1;
 
-/* The marks are hints that no processor knows, so that they do nothing: see marks.h. A shuffle is vrgather.vv, or tbl by one to
- * four registers, of eight or sixteen bytes; those of x86-64 aren't counted. */
+/* The marks are hints that no processor knows, so that they do nothing: see marks.h. */
 #if defined X86
-enum { NOPL = 0x401f0f, BEGIN = NOPL | 112 << 24, END = NOPL | 113 << 24, SHUFFLE = 1, SHUFFLE_BITS = 0 };
+enum { NOPL = 0x401f0f, BEGIN = NOPL | 112 << 24, END = NOPL | 113 << 24 };
 #elif defined RISCV
-enum { ADDI = 0x13, BEGIN = ADDI | 112 << 20, END = ADDI | 113 << 20, SHUFFLE = 0x30000057, SHUFFLE_BITS = 0xfc00707f };
+enum { ADDI = 0x13, BEGIN = ADDI | 112 << 20, END = ADDI | 113 << 20 };
 #else
-enum { HINT = 0xd503201f, BEGIN = HINT | 112 << 5, END = HINT | 113 << 5, SHUFFLE = 0x0e000000, SHUFFLE_BITS = 0xbfe09c00 };
+enum { HINT = 0xd503201f, BEGIN = HINT | 112 << 5, END = HINT | 113 << 5 };
 #endif
 
 static FILE *out;
-static bool on;
-static uint64_t instructions, order, accesses, places, shuffles;
+static uint64_t instructions, order, places;
 
 static uint64_t mixed(uint64_t hash, uint64_t with) {
     hash = (hash ^ with) * 0x9e3779b97f4a7c15u;
     return hash ^ hash >> 29;
 }
-static void executed(unsigned cpu, void *at) {
+/* What runs is followed by blocks of instructions, which run whole: by how many they are, and the address of the first. */
+static void executed(unsigned cpu, void *of) {
     (void)cpu;
-    instructions += on;
-    order = mixed(order, (uintptr_t)at);
-}
-static void shuffled(unsigned cpu, void *at) {
-    shuffles += on;
-    executed(cpu, at);
+    instructions += (uintptr_t)of >> 48;
+    order = mixed(order, (uintptr_t)of);
 }
 static void accessed(unsigned cpu, qemu_plugin_meminfo_t how, uint64_t address, void *at) {
     (void)cpu, (void)at;
-    accesses += on;
     places = mixed(places, address ^ (uint64_t)how << 48);
 }
 static void began(unsigned cpu, void *at) {
     (void)cpu, (void)at;
-    instructions = order = accesses = places = shuffles = 0;
-    on = true;
+    instructions = order = places = 0;
 }
 static void ended(unsigned cpu, void *at) {
     (void)cpu, (void)at;
-    on = false;
-    fprintf(out, "%llu\t%016llx\t%llu\t%016llx\t%llu\n", (unsigned long long)instructions, (unsigned long long)order,
-        (unsigned long long)accesses, (unsigned long long)places, (unsigned long long)shuffles);
+    fprintf(out, "%llu\t%016llx\t%016llx\n", (unsigned long long)instructions, (unsigned long long)order,
+        (unsigned long long)places);
 }
 
+static uint32_t code_of(const struct qemu_plugin_insn *it) {
+    uint32_t code;
+    memcpy(&code, qemu_plugin_insn_data(it), sizeof code);
+    return code;
+}
+static void *numbered(size_t count, uint64_t address) { return (void *)((uintptr_t)count << 48 | (uintptr_t)address); }
+/* A block with a mark is followed by its instructions. */
 static void translated(qemu_plugin_id_t id, struct qemu_plugin_tb *block) {
     (void)id;
-    for (size_t i = 0; i < qemu_plugin_tb_n_insns(block); i++) {
+    size_t count = qemu_plugin_tb_n_insns(block), marks = 0;
+    for (size_t i = 0; i < count; i++) {
+        uint32_t code = code_of(qemu_plugin_tb_get_insn(block, i));
+        marks += code == BEGIN || code == END;
+    }
+    if (!marks)
+        qemu_plugin_register_vcpu_tb_exec_cb(block, executed, NO_REGISTERS, numbered(count, qemu_plugin_tb_vaddr(block)));
+    for (size_t i = 0; i < count; i++) {
         struct qemu_plugin_insn *it = qemu_plugin_tb_get_insn(block, i);
-        uint32_t code;
-        memcpy(&code, qemu_plugin_insn_data(it), sizeof code);
-        void (*call)(unsigned, void *) = code == BEGIN ? began : code == END ? ended :
-            (code & SHUFFLE_BITS) == SHUFFLE ? shuffled : executed;
-        void *at = (void *)(uintptr_t)qemu_plugin_insn_vaddr(it);
-        qemu_plugin_register_vcpu_insn_exec_cb(it, call, NO_REGISTERS, at);
-        qemu_plugin_register_vcpu_mem_cb(it, accessed, NO_REGISTERS, READS_AND_WRITES, at);
+        void (*call)(unsigned, void *) = code_of(it) == BEGIN ? began : code_of(it) == END ? ended : executed;
+        if (marks)
+            qemu_plugin_register_vcpu_insn_exec_cb(it, call, NO_REGISTERS, numbered(1, qemu_plugin_insn_vaddr(it)));
+        qemu_plugin_register_vcpu_mem_cb(it, accessed, NO_REGISTERS, READS_AND_WRITES, NULL);
     }
 }
 static void closed(qemu_plugin_id_t id, void *nothing) {

@@ -1,7 +1,5 @@
 /* Runs calls on secret bytes under valgrind's memcheck. Secrets are marked undefined, so that memcheck reports each branch
    and each address that depends on one. calls.h, which calls.py writes, has the calls. */
-#include "fotsgure_aes.h"
-#include "fotsgure_gcm.h"
 #include <stdint.h>
 #include <stdio.h>
 #include <stdlib.h>
@@ -48,8 +46,8 @@ struct buffer { uint8_t *at, *before; size_t bytes; char kind; };
 static struct buffer buffers[MOST];
 static int held;
 
-/* kind: s a secret that is read, b a secret that is worked in its place, u one that must stay as it is, o bytes that are
-   written, p public bytes, z a secret that must be zero afterwards, t bytes of which some are written. */
+/* kind: s a secret that is read, b a secret that is worked in its place, o bytes that are written, p public bytes, z a
+   secret that must be zero afterwards, t bytes of which some are written. */
 static void *buffer(char kind, size_t bytes) {
     struct buffer *it = &buffers[held++];
     it->at = aligned_alloc(16, (bytes + 31) & ~(size_t)15);
@@ -59,103 +57,13 @@ static void *buffer(char kind, size_t bytes) {
     if (!it->at || !it->before) abort();
     fill(it->at, bytes);
     memcpy(it->before, it->at, bytes);
-    if (strchr("sbuz", kind)) secret(it->at, bytes);
+    if (strchr("sbz", kind)) secret(it->at, bytes);
     return it->at;
 }
 
-/* A struct of a library that holds a secret key of so many bytes, or none. */
-#define KEPT(library) \
-    static void *library##_kept(size_t key_bytes) { \
-        uint8_t key[32]; \
-        struct library *it = buffer('p', sizeof *it); \
-        memset(it, 0, sizeof *it); \
-        fill(key, key_bytes); \
-        secret(key, key_bytes); \
-        if (key_bytes && library##_set_key(it, key, key_bytes)) abort(); \
-        return it; \
-    }
-KEPT(fotsgure_aes)
-KEPT(fotsgure_gcm)
-static void *counter(uint64_t position) {
-    struct fotsgure_aes_ctr *it = buffer('p', sizeof *it);
-    secret(it->iv, sizeof it->iv);
-    it->position = position;
-    return it;
-}
-/* A key and nonces of 16 bytes under which the counter wraps at the third block of a text and at the first, of
-   dist/check/gcm.c. Where it wraps is told by the lengths of the two runs of counters: with this key known, nothing else
-   may be. */
-static void *gcm_wrapping(void) {
-    static const uint8_t key[] = {0xfe, 0xff, 0xe9, 0x92, 0x86, 0x65, 0x73, 0x1c, 0x6d, 0x6a, 0x8f, 0x94, 0x67, 0x30,
-                                  0x83, 0x08};
-    struct fotsgure_gcm *it = buffer('p', sizeof *it);
-    if (fotsgure_gcm_set_key(it, key, 16)) abort();
-    return it;
-}
-static void *wrapping_nonce(size_t number) {
-    static const uint8_t nonces[2][16] = {
-        {0x52, 0x0f, 0x83, 0xf0, 0x79, 0x80, 0xff, 0x6e, 0x39, 0xa2, 0x19, 0xf2, 0xb2, 0xbe, 0x77, 0xda},
-        {0x43, 0x84, 0xf2, 0xe1, 0x34, 0x5f, 0xa9, 0xcc, 0x9d, 0x09, 0x89, 0xc2, 0x5d, 0x70, 0x78, 0x85}};
-    return memcpy(buffer('p', 16), nonces[number], 16);
-}
-/* What a call is given: such a buffer, or of the C libraries k a struct that holds a secret key of so many bytes, c a secret counter
-   block at a position, g a struct of GCM that holds a secret key, w one with a known key under which the counter wraps, v its
-   nonce of that number. */
-static void *given(char kind, size_t bytes) {
-    if (kind == 'k') return fotsgure_aes_kept(bytes);
-    if (kind == 'c') return counter(bytes);
-    if (kind == 'g') return fotsgure_gcm_kept(bytes);
-    if (kind == 'w') return gcm_wrapping();
-    if (kind == 'v') return wrapping_nonce(bytes);
-    return buffer(kind, bytes);
-}
-
-/* What is done before a call. Seals a text in its place, and leaves its tag, or one that is wrong in a bit: all of it is
-   secret. */
-static void again(void *at, size_t bytes) {
-    known(at, bytes);
-    for (int i = 0; i < held; i++)
-        if (buffers[i].at == at) memcpy(buffers[i].before, at, bytes);
-    secret(at, bytes);
-}
-static void sealed(const struct fotsgure_gcm *gcm, const uint8_t *nonce, size_t nonce_bytes, const uint8_t *additional,
-                   size_t extra, uint8_t *text, size_t length, uint8_t *tag, int wrong) {
-    begin("prepared");
-    if (fotsgure_gcm_seal(gcm, nonce, nonce_bytes, additional, extra, text, length, tag)) abort();
-    tag[length % 16] ^= (uint8_t)wrong;
-    again(text, length);
-    again(tag, 16);
-}
-/* A message in pieces under a nonce of so many bytes: so much of its text has come, to be encrypted or verified; or none, or all
-   was verified, and so much decrypted. Its right tag is given to the next call, or not. */
-enum phase { BEGUN, ENCRYPTED, VERIFIED, DECRYPTED };
-static void started(const struct fotsgure_gcm *gcm, struct fotsgure_gcm_message *message, size_t nonce_bytes, size_t come,
-                    size_t rest, enum phase phase, uint8_t *tag) {
-    uint8_t nonce[16], beside[20], text[1024], right[16];
-    size_t whole = come + (phase == DECRYPTED ? rest : 0);
-    fill(nonce, sizeof nonce);
-    fill(text, sizeof text);
-    secret(beside, sizeof beside);
-    secret(text, sizeof text);
-    begin("prepared");
-    int failed = 0;
-    for (int time = 0; time < 2; time++) {
-        failed |= fotsgure_gcm_begin(gcm, message, nonce, nonce_bytes) | fotsgure_gcm_additional(gcm, message, beside, 20);
-        if (time == 0 || phase == ENCRYPTED) failed |= fotsgure_gcm_encrypt(gcm, message, text, whole);
-        else if (phase != BEGUN) failed |= fotsgure_gcm_verify(gcm, message, text, whole);
-        if (time == 0) failed |= fotsgure_gcm_finish(gcm, message, right);
-    }
-    if (phase == DECRYPTED)
-        failed |= fotsgure_gcm_accept(gcm, message, right, 16) | fotsgure_gcm_decrypt(gcm, message, text, come);
-    known(&failed, sizeof failed);
-    if (failed) abort();
-    if (tag) memcpy(tag, right, 16);
-}
-
-/* Says what came of the call, which tells a caller as many things of secrets as `told` says. It is vacuous where it
-   did nothing with what it was given: where its answer is not the wanted one, or a block was left as it was, or a
-   byte that it should have written depends on no secret. */
-static void end(const char *name, const char *wanted, uint64_t answer, uint64_t right, unsigned told) {
+/* Says what came of the call. It is vacuous where it did nothing with what it was given: where its answer is not the wanted
+   one, or a block was left as it was, or a byte that it should have written depends on no secret. */
+static void end(const char *name, const char *wanted, uint64_t answer, uint64_t right) {
     unsigned reports = reports_since();
     size_t marked = 0, unmoved = 0, due = 0, missed = 0;
     known(&answer, sizeof answer);
@@ -171,7 +79,6 @@ static void end(const char *name, const char *wanted, uint64_t answer, uint64_t 
             missed += it->bytes - secrets;
             unmoved += it->bytes / 16 - changed;
         }
-        if (it->kind == 'u') { due += it->bytes; missed += memcmp(it->at, it->before, it->bytes) != 0; }
         if (it->kind == 't') { due += it->bytes; marked += secrets; missed += secrets == 0; }
         if (it->kind == 'z') {
             due += it->bytes;
@@ -183,7 +90,7 @@ static void end(const char *name, const char *wanted, uint64_t answer, uint64_t 
     }
     held = 0;
     int idle = answer != right || missed || unmoved;
-    const char *verdict = reports != told ? "LEAK" : idle ? "VACUOUS" : due ? "clean" : "empty";
+    const char *verdict = reports ? "LEAK" : idle ? "VACUOUS" : due ? "clean" : "empty";
     printf("%s\t%s\t%s\t%u\t%zu\t%zu\n", name, wanted, verdict, reports, marked, due);
 }
 
@@ -207,7 +114,7 @@ static void plants(void) {
         uint8_t *s = buffer('s', 16), *to = buffer('o', 16);
         begin(planted_names[it]);
         uint64_t answer = planted(it, s, to);
-        end(planted_names[it], it < NOTHING ? "LEAK" : "VACUOUS", answer, 1, 0);
+        end(planted_names[it], it < NOTHING ? "LEAK" : "VACUOUS", answer, 1);
     }
     uint8_t public = sink;
     known(&public, 1);

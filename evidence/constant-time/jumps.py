@@ -6,6 +6,7 @@ public numbers their jumps test. Addresses, registers and the order of the code 
 every edit of the library.
 """
 import fnmatch
+import pathlib
 import re
 
 import tools
@@ -14,8 +15,7 @@ import tools
 # callers.
 OTHERS = ("aes_kat", "hex::", "ev_reply", "evidence_exports::program", "core::cmp::slices::groups_equal")
 HEAD = "function\tcompares\tjump\tcount"
-# The list of LLVM's build, and a jump that is planted.
-LISTS = {"llvm": "jumps.tsv"}
+LIST, REASONS = (pathlib.Path(__file__).resolve().parent / it for it in ("jumps.tsv", "reasons.tsv"))
 PLANTED = {("planted", "test r,r", "jne"): 1}
 JUMP = re.compile(r"\s(j(?!mp)\w+|loop\w*)\s")
 # The instructions that leave the flags which a jump reads.
@@ -40,10 +40,10 @@ def compared(line):
     return f"{words[0]} {operands}".strip()
 
 
-def instructions(archive, objdump="objdump"):
+def instructions(archive):
     """Each instruction with the plain name of the function that it stands in; where one begins, no instruction with its name."""
     name = ""
-    for line in tools.run([objdump, "-d", "--no-show-raw-insn", archive], "objdump").splitlines():
+    for line in tools.run(["objdump", "-d", "--no-show-raw-insn", archive], "objdump").splitlines():
         if head := re.match(r"[0-9a-f]+ <(.*)>:", line):
             name = plain(head[1])
             yield name, ""
@@ -70,24 +70,14 @@ def rows_of(path):
     return [it.split("\t") for it in path.read_text().splitlines() if it and not it.startswith("#")]
 
 
-def recorded(path):
-    return {(function, compares, jump): int(count) for function, compares, jump, count in rows_of(path)[1:]}
-
-
-def record(found, path):
-    lines = ["\t".join([*key, str(count)]) for key, count in sorted(found.items())]
-    path.write_text("\n".join([HEAD, *lines]) + "\n")
-
-
-def unexplained(found, path):
-    """The functions with jumps that no line of reasons.tsv speaks of, and the lines that speak of none."""
-    reasons, used, missed = rows_of(path), set(), set()
-    for function, compares, jump in found:
-        why = [i for i, row in enumerate(reasons) if speaks_of(row, function, compares, jump)]
+def unexplained(found):
+    """The jumps that no line of reasons.tsv speaks of, and the lines that speak of none."""
+    reasons, used, missed = rows_of(REASONS), set(), []
+    for key in sorted(found):
+        why = [i for i, row in enumerate(reasons) if speaks_of(row, *key)]
         used.update(why[:1])
-        if not why:
-            missed.add(f"{function}: {compares}, {jump}")
-    return sorted(missed), [" ".join(it[:2]) for i, it in enumerate(reasons) if i not in used]
+        missed += [] if why else [key]
+    return missed, [" ".join(it[:2]) for i, it in enumerate(reasons) if i not in used]
 
 
 def speaks_of(row, function, compares, jump):
@@ -97,45 +87,23 @@ def speaks_of(row, function, compares, jump):
     )
 
 
-def changes(found, was):
-    """What is not in the recorded list, or stands there less often."""
-    return [
-        f"{', '.join(key)}: {count} in place of {was.get(key, 0)}"
-        for key, count in sorted(found.items())
-        if count > was.get(key, 0)
-    ]
-
-
-def judged(name, there, path, planted, record_them, found):
-    """Compares what is there with the list at the path, and with the reasons beside that. What is planted is new to the
-    list. Returns the reasons that explain nothing."""
-    if record_them:
-        record(there, path)
-        tools.say(f"recorded: {len(there)} kinds in {path}")
-    if not path.exists():
-        tools.stop(f"there is no {path}, and nobody asked to record it")
-    was = recorded(path)
-    new, (missed, idle) = changes(there, was), unexplained(there, path.with_name("reasons.tsv"))
-    found.wrong += [f"{name}: not in {path.name}: {it}" for it in new]
-    found.wrong += [f"{name}: reasons.tsv doesn't explain: {it}" for it in missed]
-    if len(changes(there | planted, was)) != len(new) + len(planted):
-        found.blind.append(f"{name}: what nobody looked at, in {path.name}")
-    gone = sum(it not in there for it in was)
-    tools.say(
-        f"{name}: {sum(there.values())} of {len(there)} kinds in {len({it[0] for it in there})} functions; new: {len(new)}, "
-        f"not explained: {len(missed)}, recorded and gone: {gone}"
-    )
-    return idle
-
-
-def looked_at(name, archive, folder, record_them, found):
-    """The look at the code of a build by LLVM, with the lists of a folder."""
+def looked_at(archive, record, found):
+    """Compares the jumps of a build with the list, and with the reasons. What is planted is new to both."""
     there = jumps(archive)
-    idle = judged(name, there, folder / LISTS[name], PLANTED, record_them, found)
-    # No reason speaks of the planted jump either.
-    if not unexplained(PLANTED, folder / "reasons.tsv")[0]:
-        found.blind.append(f"{name}: a jump that no reason explains")
-    if idle and name == "llvm":
-        tools.say(f"{name}: lines of reasons.tsv for nothing: {'; '.join(idle)}")
-    functions = {it[0] for it in there}
-    found.summary.append(f"{name}, {sum(there.values()):,} conditional jumps in {len(functions)} functions, all explained")
+    if record:
+        lines = ["\t".join([*key, str(count)]) for key, count in sorted(there.items())]
+        LIST.write_text("\n".join([HEAD, *lines]) + "\n")
+        tools.say(f"recorded: {len(there)} kinds in {LIST}")
+    was = {tuple(key): int(count) for *key, count in rows_of(LIST)[1:]}
+    new = {key: count for key, count in (there | PLANTED).items() if count > was.get(key, 0)}
+    missed, idle = unexplained(there | PLANTED)
+    if not (PLANTED.keys() <= new.keys() and PLANTED.keys() <= {*missed}):
+        found.blind.append("a jump that nobody looked at")
+    wrong = [f"not in {LIST.name}: {', '.join(key)}: {new[key]} in place of {was.get(key, 0)}" for key in sorted(new.keys() - PLANTED.keys())]
+    wrong += [f"{REASONS.name} doesn't explain: {', '.join(key)}" for key in missed if key not in PLANTED]
+    found.wrong += wrong
+    functions, gone = {it[0] for it in there}, sum(it not in there for it in was)
+    tools.say(f"jumps: {sum(there.values())} of {len(there)} kinds in {len(functions)} functions; wrong: {len(wrong)}, recorded and gone: {gone}")
+    if idle:
+        tools.say(f"lines of {REASONS.name} for nothing: {'; '.join(idle)}")
+    found.summary.append(f"llvm, {sum(there.values()):,} conditional jumps in {len(functions)} functions, all explained")

@@ -1,8 +1,7 @@
 """The public functions of the library, as its sources have them, and those that no export calls.
 
-A function counts as called if its name stands in the exports or among the calls of the C library. elsewhere.tsv has the
-others, each with the reason why no call of its own is made: a crate; names, or files and names (`rounds.rt:*`), with *
-for any letters; a reason.
+A function counts as called if its name stands in the exports. elsewhere.tsv has the others, each with the reason why no call of
+its own is made: a crate; names, or files and names (`rounds.rt:*`), with * for any letters; a reason.
 """
 import fnmatch
 import pathlib
@@ -13,7 +12,7 @@ import expand
 HERE = pathlib.Path(__file__).resolve().parent
 TOP = HERE.parent.parent
 # The crates whose functions are given secrets. The program and its engine are another matter: see README.md.
-CRATES = "aes_planes aes_cipher aes_soft aes aes_permute aes_hybrid aes_rounds aes_ctr cbc key_wrap aes_c".split()
+CRATES = "aes_planes aes_cipher aes_soft aes aes_permute aes_hybrid aes_rounds aes_ctr".split()
 # What may stand before `fn`.
 KIND = r'(?:(?:final|const|unsafe|extern "C") )*'
 

@@ -1,4 +1,4 @@
-"""The exports of one build, called from Python: blocks and counter mode by the nine types of both crates and by C."""
+"""The exports of one build, called from Python: blocks and counter mode by the nine types of both crates."""
 import ctypes
 import random
 
@@ -6,9 +6,7 @@ import expand
 import tools
 
 SLICE = 2
-OF_TYPES = tuple(f"{crate}{end}" for crate in expand.CRATES for end in ("", ", both ways"))
-WAYS = (*OF_TYPES, "C", "C to a buffer", "C in one call")
-STREAMS = (*OF_TYPES, "C", "C in one call")
+WAYS = tuple(f"{crate}{end}" for crate in expand.CRATES for end in ("", ", both ways"))
 
 
 def number_of(way, key):
@@ -33,46 +31,18 @@ class Exports:
     def work(self, way, command, key, given):
         """The blocks of a line, encrypted or decrypted in one way."""
         direction = {"enc": "encrypt", "dec": "decrypt"}[command]
-        if way.startswith("C"):
-            return self.by_c(way, direction, key, given)
         count, output = len(given) // 16, ctypes.create_string_buffer(len(given))
         name = f"ev_{way.split(',')[0]}_{direction}_{number_of(way, key)}"
         done = self.call(name, key, len(key), SLICE, given, count, output, count)
         return done == 1 and output.raw
 
-    def struct(self, key):
-        """A struct of the C library that holds a key."""
-        it = ctypes.create_string_buffer(tools.STRUCT)
-        return it if self.call("fotsgure_aes_set_key", it, key, len(key)) == 0 else None
-
-    def by_c(self, way, direction, key, given):
-        name, count = f"fotsgure_aes_{direction}_blocks", len(given) // 16
-        blocks = ctypes.create_string_buffer(given, len(given))
-        if way == "C":
-            done = self.call(name, self.struct(key), blocks, count)
-        elif way == "C to a buffer":
-            done = self.call(f"{name}_to", self.struct(key), given, count, blocks, count)
-        else:
-            done = self.call(f"{name}_with", key, len(key), blocks, count)
-        return done == 0 and blocks.raw
-
     def stream(self, way, key, iv, data, cut):
         """Data with its keystream added in two calls."""
         first = ctypes.create_string_buffer(data[:cut], cut)
         rest = ctypes.create_string_buffer(data[cut:], len(data) - cut)
-        if not way.startswith("C"):
-            name = f"ev_{way.split(',')[0]}_ctr_{number_of(way, key)}"
-            done = self.call(name, key, len(key), iv, first, cut, rest, len(data) - cut)
-            return done == 1 and first.raw + rest.raw
-        counter = ctypes.create_string_buffer(iv + bytes(8), 24)
-        for part, n in ((first, cut), (rest, len(data) - cut)):
-            if way == "C":
-                done = self.call("fotsgure_aes_add_keystream", self.struct(key), counter, part, n)
-            else:
-                done = self.call("fotsgure_aes_add_keystream_with", key, len(key), counter, part, n)
-            if done != 0:
-                return None
-        return first.raw + rest.raw
+        name = f"ev_{way.split(',')[0]}_ctr_{number_of(way, key)}"
+        done = self.call(name, key, len(key), iv, first, cut, rest, len(data) - cut)
+        return done == 1 and first.raw + rest.raw
 
 
 def wrong_blocks(work, lines):
@@ -84,7 +54,7 @@ def wrong_blocks(work, lines):
     ]
 
 
-def wrong_streams(apply, found, ways):
+def wrong_streams(apply, found):
     """The vectors that are not met in both directions, with the cuts of each, and how many calls were made."""
     wrong, calls, numbers = [], 0, random.Random(1)
     for name, *digits in found:
@@ -92,7 +62,7 @@ def wrong_streams(apply, found, ways):
         n = len(plain)
         cuts = {0, n, *(it for it in (1, 15, 16, 17, 128, 1024, 1025) if it < n), numbers.randrange(n + 1)}
         for cut in cuts:
-            for way in ways:
+            for way in WAYS:
                 calls += 2
                 if apply(way, key, iv, plain, cut) != cipher or apply(way, key, iv, cipher, cut) != plain:
                     wrong.append(f"{way}: {name}, cut at {cut}")

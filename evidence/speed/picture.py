@@ -1,5 +1,7 @@
-"""The pictures of a run, of blocks and of GCM: bars of time, one row an engine, in groups by what kind of software it is."""
-import bars
+"""The pictures of a run, of blocks and of GCM, as SVG: bars of time, one row an engine, in groups by what kind of software it is.
+The colours follow the reader's theme. A time is a length, of at most 1, and what is written beside it."""
+from html import escape
+
 import tables
 
 TITLES = ["4,096 blocks in one call", "one block, the key at hand", "a key and one block"]
@@ -27,6 +29,61 @@ GCM_GROUPS = [
 ]
 
 
+# Each kind of software: its colour on light ground and on dark.
+KINDS = {
+    "ours": ("#0b7a75", "#2fb8ad"),
+    "permutations": ("#8c9a4e", "#a3b25c"),
+    "open": ("#6f9fce", "#6f9fce"),
+    "tables": ("#cf8a55", "#d9965f"),
+    "instructions": ("#9a8fbf", "#a79ccb"),
+}
+INK, SOFT = ("#1f2328", "#e6edf3"), ("#59636e", "#9198a1")
+ROW, GAP, BESIDE = 20, 8, 90
+
+
+def rules(ground):
+    kinds = " ".join(f".{kind} {{ fill: {colours[ground]} }}" for kind, colours in KINDS.items())
+    return f"text {{ fill: {INK[ground]} }} .soft {{ fill: {SOFT[ground]} }} {kinds}"
+
+
+def label(time):
+    return f"{time:,.0f}" if time >= 10 else f"{time:.1f}"
+
+
+def row(name, kind, times, y, names, bar):
+    """The name of a library, and its bar in each panel."""
+    weight = ' class="bold"' if kind == "ours" else ""
+    yield f'<text x="{names - 8}" y="{y}" text-anchor="end"{weight}>{escape(name)}</text>'
+    for at, (length, text) in enumerate(times):
+        x, long = names + (bar + BESIDE) * at, max(1, bar * length)
+        if length:
+            yield f'<rect x="{x}" y="{y - 12}" width="{long:.1f}" height="15" class="{kind}"/>'
+        yield f'<text x="{x + (long + 5 if length else 0):.1f}" y="{y}"{weight}>{escape(text)}</text>'
+
+
+def drawn(title, panels, groups, names, bar):
+    """The picture as text: panels as (title, unit), groups as (title, [(name, kind, times)])."""
+    parts, y = [f'<text x="0" y="14" class="title">{escape(title)}</text>'], 62
+    for at, (head, unit) in enumerate(panels):
+        x = names + (bar + BESIDE) * at
+        parts.append(f'<text x="{x}" y="42" class="bold">{escape(head)}</text>')
+        parts.append(f'<text x="{x}" y="58" class="soft">{escape(unit)}</text>')
+    for head, rows in groups:
+        y += ROW + GAP
+        parts.append(f'<text x="0" y="{y}" class="soft">{escape(head)}</text>')
+        for name, kind, times in rows:
+            y += ROW
+            parts += row(name, kind, times, y, names, bar)
+    width, height = names + (bar + BESIDE) * len(panels), y + 10
+    return "\n".join([
+        f'<svg xmlns="http://www.w3.org/2000/svg" viewBox="0 0 {width} {height}" width="{width}" height="{height}" role="img">',
+        f"<title>{escape(title)}</title>",
+        f"<style>text {{ font: 12px 'DejaVu Sans', Verdana, Arial, sans-serif }} .bold {{ font-weight: bold }} "
+        f".title {{ font: bold 14px 'DejaVu Sans', Verdana, Arial, sans-serif }} {rules(0)}",
+        f"@media (prefers-color-scheme: dark) {{ {rules(1)} }}</style>",
+        *parts, "</svg>", ""])
+
+
 def times_of(rows, key):
     """The least nanoseconds a block of each engine, in each panel: {(kind, peer, how): times}. This library's are those
     of the process in which its build for AVX2 stands too."""
@@ -44,7 +101,7 @@ def cell(kind, time, most, ours):
     """A bar's length on the scale of its panel, and what stands beside it."""
     if time is None:
         return 0, "no such call"
-    return time / most, bars.label(time) + (f" ({100 * time / ours:.0f} %)" if kind == "instructions" else "")
+    return time / most, label(time) + (f" ({100 * time / ours:.0f} %)" if kind == "instructions" else "")
 
 
 def draw(rows, folder, key=16):
@@ -62,7 +119,7 @@ def draw(rows, folder, key=16):
         groups.append((title, lines))
     units = ["nanoseconds a block, less is faster" if n > 1 else "nanoseconds, less is faster" for _, n in tables.PICTURED]
     title = f"AES encryption with a key of {key} bytes, by this library and those of Debian"
-    made = bars.drawn(title, list(zip(TITLES, units)), [it for it in groups if it[1]], 220, 170)
+    made = drawn(title, list(zip(TITLES, units)), [it for it in groups if it[1]], 220, 170)
     (folder / "results.svg").write_text(made)
     draw_gcm(tables.gcm(rows), folder / "gcm.svg")
 
@@ -76,8 +133,8 @@ def draw_gcm(times, to):
     for title, kind, those in GCM_GROUPS:
         rows = sorted((shown[it], it[1]) for it in those if it in shown)
         groups.append((title, [
-            (peer, "ours" if peer in tables.OURS else kind, [(it / m, bars.label(it)) for it, m in zip(its, most)])
+            (peer, "ours" if peer in tables.OURS else kind, [(it / m, label(it)) for it, m in zip(its, most)])
             for its, peer in rows
         ]))
     title = "GCM from C with a key of 16 bytes, by this library and those of Debian"
-    to.write_text(bars.drawn(title, [(it, "less is faster") for it, *_ in GCM_PANELS], groups, 165, 210))
+    to.write_text(drawn(title, [(it, "less is faster") for it, *_ in GCM_PANELS], groups, 165, 210))

@@ -10,6 +10,14 @@ HERE = pathlib.Path(__file__).resolve().parent
 COMPILE = ["cc", "-std=c11", "-D_GNU_SOURCE", "-O2", "-Wall", "-Wextra"]
 
 
+def suffixes(options, found):
+    """How the texts end that are measured: of the build for every processor, and of that for AVX2, if it isn't left out or missing."""
+    if " avx2 " in pathlib.Path("/proc/cpuinfo").read_text():
+        return [""] if "avx2" in options.without else ["", "_v3"]
+    found.missing.append("avx2: this processor can't run it")
+    return [""]
+
+
 def engine(room, archives, include=tools.TOP / "dist" / "include", name="library", how=None):
     """The object that times a build of this library, and its archives. With `how`, which tells it from others, what it exports
     gets a prefix, so that several builds fit into one program."""

@@ -2,14 +2,64 @@
    and its round keys, and for a block of zeros encrypted or decrypted, which no caller gave. A call on slices or bytes
    runs on every number of blocks from 0 to 40, one on bytes also on lengths in between. One line a call and a size of
    keys, with tabs: the most that it left at any length. */
-#include "../left.h"
-#include "../expected.h"
+#define _GNU_SOURCE
+#include <stdint.h>
+#include <stdio.h>
+#include <stdlib.h>
+#include <string.h>
+#include <ucontext.h>
 
-/* Of the exports for measurements: KeyExpansion, the stored words of planes, the stored round keys of permutations. */
+/* The vector registers: the lower halves of sixteen, and then the upper ones where the processor has them. */
+enum { STACK = 1 << 18, FILL = 0xa5, BLOCK = 16, MOST_WORDS = 120, REGISTERS = 32 };
+static int has_upper_halves;
+
+static inline void use(const void *at) { __asm__ volatile("" : : "r"(at) : "memory"); }
+static uint8_t *stack, registers[BLOCK * REGISTERS] __attribute__((aligned(64)));
+static void (*called)(void);
+static ucontext_t home, away;
+#define SIXTEEN(IT) IT(0) IT(1) IT(2) IT(3) IT(4) IT(5) IT(6) IT(7) IT(8) IT(9) IT(10) IT(11) IT(12) IT(13) IT(14) IT(15)
+#define EMPTY(n) "pxor %xmm" #n ", %xmm" #n "\n"
+#define STORE(n) "movdqa %%xmm" #n ", 16 * " #n "(%0)\n"
+#define STORE_UPPER(n) "vextracti128 $1, %%ymm" #n ", 256 + 16 * " #n "(%0)\n"
+/* Makes a call with empty vector registers, and stores what they hold before anything else runs. */
+static void enter(void) {
+    if (has_upper_halves)
+        __asm__ volatile("vzeroall");
+    else
+        __asm__ volatile(SIXTEEN(EMPTY));
+    called();
+    __asm__ volatile(SIXTEEN(STORE) "cmpl $0, %1\n je 1f\n" SIXTEEN(STORE_UPPER) "1:\n"
+        : : "r"(registers), "m"(has_upper_halves) : "memory", "cc");
+}
+/* Makes a call on the stack, and copies what the stack holds afterwards. */
+static void run(void (*it)(void), uint8_t *image) {
+    called = it;
+    memset(stack, FILL, STACK);
+    memset(registers, 0, sizeof registers);
+    has_upper_halves = __builtin_cpu_supports("avx2") != 0;
+    getcontext(&away);
+    away.uc_stack.ss_sp = stack;
+    away.uc_stack.ss_size = STACK;
+    away.uc_link = &home;
+    makecontext(&away, enter, 0);
+    swapcontext(&home, &away);
+    memcpy(image, stack, STACK);
+}
+/* How many bytes of the stack were written. */
+static size_t depth_of(const uint8_t *image) {
+    size_t first = 0;
+    while (first < STACK && image[first] == FILL)
+        first++;
+    return STACK - first;
+}
+
+/* Of the exports for measurements: KeyExpansion, the stored words of planes, the stored round keys of permutations, and blocks
+   encrypted and decrypted. */
 #define OF_SIZE(bits) \
     void ev_expand_##bits(const uint8_t *key, uint8_t *round_keys); \
     void ev_planes_##bits(const uint8_t *key, uint16_t *words); \
-    void ev_lanes_##bits(const uint8_t *key, uint8_t *round_keys);
+    void ev_lanes_##bits(const uint8_t *key, uint8_t *round_keys); \
+    void ev_full_##bits(uint32_t word, const uint8_t *key, const uint8_t *, size_t, uint8_t *there, size_t, uint8_t *back, size_t);
 OF_SIZE(128)
 OF_SIZE(192)
 OF_SIZE(256)
@@ -37,18 +87,9 @@ static void expect(void) {
     BY_SIZE(ev_lanes, size, key, lanes);
     BY_SIZE(ev_lanes, size, zero_key, zero_lanes);
     BY_SIZE(ev_expand, size, key, plain);
-    /* The searches after calls from C look for what is expected. */
-    uint16_t own_words[MOST_WORDS];
-    uint8_t own_keys[2 * MOST_WORDS];
-    expected_planes(key, size, own_words);
-    expand(key, size, own_keys);
-    if (memcmp(own_words, words, schedule()) || memcmp(own_keys, plain, schedule())) abort();
-    for (size_t i = 0; i < 8 * round_keys(); i++)
-        widened(wide[i], words[i]);
-    memset(zeros, 0, sizeof zeros);
-    if (fotsgure_aes_encrypt_blocks_with(key, size, zeros[0], 1) ||
-        fotsgure_aes_decrypt_blocks_with(key, size, zeros[1], 1))
-        abort();
+    for (size_t i = 0; i < 8 * BLOCK * round_keys(); i++)
+        wide[i / BLOCK][i % BLOCK] = words[i / BLOCK] >> i % BLOCK & 1 ? 0xff : 0;
+    BY_SIZE(ev_full, size, 0, key, zero_key, 1, zeros[0], 1, zeros[1], 1);
 }
 
 /* Planted: a wipe that the compiler may leave out, since nothing reads the words again, one of half the words, and one

@@ -3,17 +3,21 @@ use Rattle.std.proofs.Common.{◌≡◌, ℕ, List, length, replicate, ap, ◌�
 use Rattle.std.specs.Int.Bits.{xor_zero_r}
 use Rattle.aes_planes.specs.Fips197 as fips
 use Rattle.aes_planes.proofs.Lists.{built}
-use Rattle.aes_planes.proofs.Mixing.MixColumns.{mix_block, inv_mix_block, inv_mix_of_mix, mix_of_inv_mix}
-use Rattle.aes_planes.proofs.Standard.Steps.{sub_bytes_bytes, inv_sub_bytes_bytes, shift_block, inv_shift_block}
+use Rattle.aes_planes.proofs.Mixing.MixColumns.{mix_block, inv_mix_block, inv_mix_of_mix}
+use Rattle.aes_planes.proofs.Mixing.MixColumns.{mix_of_inv_mix}
+use Rattle.aes_planes.proofs.Standard.Steps.{sub_bytes_bytes, inv_sub_bytes_bytes, shift_block}
+use Rattle.aes_planes.proofs.Standard.Steps.{inv_shift_block}
 
 -- adding a round key of zeros changes nothing
 pub add_round_key_zero : (s : List ℕ) → length s ≡ 16 → fips.add_round_key s (replicate 16 0) ≡ s
 unfolding fips.add_round_key fips.state fips.build
-add_round_key_zero s l = (λ i. fips.state (λ r c. xor_zero_r (fips.byte_at s r c) i)) ∙ built 16 s 0 l
+add_round_key_zero s l = (λ i. fips.state (λ r c. xor_zero_r (fips.byte_at s r c) i))
+    ∙ built 16 s 0 l
 
 -- a round under the zero key, then InvMixColumns, is SubBytes and ShiftRows
 pub mixing_undone : (b : List ℕ)
-    → fips.inv_mix_columns (fips.add_round_key (fips.mix_columns (fips.shift_rows (fips.sub_bytes b))) (replicate 16 0))
+    → fips.inv_mix_columns
+    (fips.add_round_key (fips.mix_columns (fips.shift_rows (fips.sub_bytes b))) (replicate 16 0))
     ≡ fips.shift_rows (fips.sub_bytes b)
 mixing_undone b =
     let s = fips.shift_rows (fips.sub_bytes b) in
@@ -22,7 +26,8 @@ mixing_undone b =
 
 -- an inverse round under the zero key, then MixColumns, is InvSubBytes and InvShiftRows
 pub inverse_mixing_undone : (b : List ℕ)
-    → fips.mix_columns (fips.add_round_key (fips.inv_mix_columns (fips.inv_shift_rows (fips.inv_sub_bytes b)))
+    → fips.mix_columns
+    (fips.add_round_key (fips.inv_mix_columns (fips.inv_shift_rows (fips.inv_sub_bytes b)))
     (replicate 16 0))
     ≡ fips.inv_shift_rows (fips.inv_sub_bytes b)
 inverse_mixing_undone b =

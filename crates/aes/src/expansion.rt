@@ -41,7 +41,8 @@ pub fn expand_256(key: &[u8; 32]) -> [Block; 15]
 #[tactic(auto, using(crate::proofs::BlockExpansion::same_round_keys))]
 #[inline(always)]
 fn expanded<const COUNT: usize>(key: &[u8]) -> [Block; COUNT]
-    requires one_of_three { (length key.now ≡ 16) ⊎ ((length key.now ≡ 24) ⊎ (length key.now ≡ 32)) }
+    requires one_of_three { (length key.now ≡ 16)
+        ⊎ ((length key.now ≡ 24) ⊎ (length key.now ≡ 32)) }
     requires sized { COUNT ≡ fips.rounds key.now + 1 }
     ensures { result ≡ fips.key_expansion key.now }
 {
@@ -103,8 +104,8 @@ impl FourWords for BlockKeys {
     }
 }
 
-// SubWord of the last of four words: a round under the zero key, with its mixing taken back. ShiftRows takes the column
-// apart: row r of it stands r columns to the left.
+// SubWord of the last of four words: a round under the zero key, with its mixing taken back.
+// ShiftRows takes the column apart: row r of it stands r columns to the left.
 #[tactic(auto, using(crate::proofs::BlockExpansion::last_word_substituted))]
 fn substituted_word(words: Block) -> KeyWord
     ensures { result ≡ fips.word (λ r. fips.byte_at (fips.sub_bytes words) r 3) }
@@ -118,7 +119,8 @@ fn substituted_word(words: Block) -> KeyWord
 
 // Each column of the result is the sum of the columns up to it and of a word.
 fn summed_columns(before: Block, start: KeyWord) -> Block
-    ensures { result ≡ fips.state (λ r c. summed fips.field_add (fips.byte_at before r) (slice_index start r) c) }
+    ensures { result ≡ fips.state
+        (λ r c. summed fips.field_add (fips.byte_at before r) (slice_index start r) c) }
 {
     let a = add_words([before[0], before[1], before[2], before[3]], start);
     let b = add_words([before[4], before[5], before[6], before[7]], a);

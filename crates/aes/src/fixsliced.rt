@@ -44,7 +44,8 @@ impl<K: KeySize> StoredKeys for Fixsliced<K> {
 
     ghost key = { λ stored. key_of_planes (word_bits 16) 1 (stored_words K.SIZE stored.room) };
 
-    ghost AreKeyed = { λ stored. IsFullSchedule (word_bits 16) 1 (stored_words K.SIZE stored.room) };
+    ghost AreKeyed = { λ stored. IsFullSchedule (word_bits 16) 1
+        (stored_words K.SIZE stored.room) };
 
     ghost IsWiped = { λ stored. stored.room ≡ replicate 120 0 };
 
@@ -82,7 +83,8 @@ impl<K: KeySize> StoredKeys for Fixsliced<K> {
 impl<K: KeySize> Fixsliced<K> {
     /// No effect; states what is wiped: zeros stand in all the room.
     pub fn wiped_is_zero(&self)
-        ensures { ⟦<Fixsliced<K> as StoredKeys>⟧.IsWiped self.now → self.now.room ≡ replicate 120 0 }
+        ensures { ⟦<Fixsliced<K> as StoredKeys>⟧.IsWiped self.now
+            → self.now.room ≡ replicate 120 0 }
     {}
 }
 

@@ -1,5 +1,5 @@
-//! AES with keys of 16, 24 and 32 bytes (FIPS 197): the types that encrypt and decrypt, the single rounds,
-//! and the key expansion.
+//! AES with keys of 16, 24 and 32 bytes (FIPS 197): the types that encrypt and decrypt, the single
+//! rounds, and the key expansion.
 #![tactic(auto)]
 
 ghost use Rattle.std.specs.Prelude.{◌≡◌, false};

@@ -10,7 +10,8 @@ use crate::kept::{Aes, holds_key, lent, lent_both};
 use crate::status::{DONE, NO_KEY, UNEQUAL_COUNTS};
 use aes_cipher::cipher::{Block, BlockCipherDecrypt, BlockCipherEncrypt};
 
-/// Encrypts each block in place (Cipher, FIPS 197, 5.1). Returns `DONE` exactly if the struct holds a key, else `NO_KEY`.
+/// Encrypts each block in place (Cipher, FIPS 197, 5.1). Returns `DONE` exactly if the struct holds
+/// a key, else `NO_KEY`.
 #[unsafe(no_mangle)]
 pub extern "C" fn fotsgure_aes_encrypt_blocks(aes: &Aes, blocks: &mut [Block]) -> u32
     requires made { IsMade aes.now }
@@ -26,8 +27,8 @@ pub extern "C" fn fotsgure_aes_encrypt_blocks(aes: &Aes, blocks: &mut [Block]) -
     DONE
 }
 
-/// Decrypts each block in place (InvCipher, FIPS 197, 5.3). Returns `DONE` exactly if the struct holds a key, else
-/// `NO_KEY`.
+/// Decrypts each block in place (InvCipher, FIPS 197, 5.3). Returns `DONE` exactly if the struct
+/// holds a key, else `NO_KEY`.
 #[unsafe(no_mangle)]
 pub extern "C" fn fotsgure_aes_decrypt_blocks(aes: &Aes, blocks: &mut [Block]) -> u32
     requires made { IsMade aes.now }
@@ -43,8 +44,8 @@ pub extern "C" fn fotsgure_aes_decrypt_blocks(aes: &Aes, blocks: &mut [Block]) -
     DONE
 }
 
-/// Encrypts each block of one buffer into another (Cipher, FIPS 197, 5.1). Returns `UNEQUAL_COUNTS` exactly if they differ
-/// in length, and else what `fotsgure_aes_encrypt_blocks` returns.
+/// Encrypts each block of one buffer into another (Cipher, FIPS 197, 5.1). Returns `UNEQUAL_COUNTS`
+/// exactly if they differ in length, and else what `fotsgure_aes_encrypt_blocks` returns.
 #[unsafe(no_mangle)]
 pub extern "C" fn fotsgure_aes_encrypt_blocks_to(
     aes: &Aes,
@@ -53,7 +54,8 @@ pub extern "C" fn fotsgure_aes_encrypt_blocks_to(
 ) -> u32
     requires made { IsMade aes.now }
     ensures unequal { result ≡ UNEQUAL_COUNTS ↔ (length input.now ≢ length output.old) }
-    ensures done { result ≡ DONE ↔ IsKeySize aes.now.key_length × (length input.now ≡ length output.old) }
+    ensures done { result ≡ DONE ↔ IsKeySize aes.now.key_length
+        × (length input.now ≡ length output.old) }
     ensures refused { result ≢ DONE → result ≢ UNEQUAL_COUNTS → result ≡ NO_KEY }
     ensures blocks { result ≡ DONE → Each (fips.cipher (key_in aes.now)) input.now output.new }
     ensures untouched { result ≢ DONE → output.new ≡ output.old }
@@ -69,8 +71,9 @@ pub extern "C" fn fotsgure_aes_encrypt_blocks_to(
     DONE
 }
 
-/// Decrypts each block of one buffer into another (InvCipher, FIPS 197, 5.3). Returns `UNEQUAL_COUNTS` exactly if they
-/// differ in length, and else what `fotsgure_aes_decrypt_blocks` returns.
+/// Decrypts each block of one buffer into another (InvCipher, FIPS 197, 5.3). Returns
+/// `UNEQUAL_COUNTS` exactly if they differ in length, and else what `fotsgure_aes_decrypt_blocks`
+/// returns.
 #[unsafe(no_mangle)]
 pub extern "C" fn fotsgure_aes_decrypt_blocks_to(
     aes: &Aes,
@@ -79,7 +82,8 @@ pub extern "C" fn fotsgure_aes_decrypt_blocks_to(
 ) -> u32
     requires made { IsMade aes.now }
     ensures unequal { result ≡ UNEQUAL_COUNTS ↔ (length input.now ≢ length output.old) }
-    ensures done { result ≡ DONE ↔ IsKeySize aes.now.key_length × (length input.now ≡ length output.old) }
+    ensures done { result ≡ DONE ↔ IsKeySize aes.now.key_length
+        × (length input.now ≡ length output.old) }
     ensures refused { result ≢ DONE → result ≢ UNEQUAL_COUNTS → result ≡ NO_KEY }
     ensures blocks { result ≡ DONE → Each (fips.inv_cipher (key_in aes.now)) input.now output.new }
     ensures untouched { result ≢ DONE → output.new ≡ output.old }

@@ -10,14 +10,15 @@ use crate::status::{DONE, NO_KEY};
 use aes_cipher::cipher::Block;
 use cbc::Cbc;
 
-/// Encrypts the next blocks of a chain in place (SP 800-38A, 6.2). Returns `DONE` exactly if the struct holds a key, else
-/// `NO_KEY`.
+/// Encrypts the next blocks of a chain in place (SP 800-38A, 6.2). Returns `DONE` exactly if the
+/// struct holds a key, else `NO_KEY`.
 #[unsafe(no_mangle)]
 pub extern "C" fn fotsgure_aes_cbc_encrypt(aes: &Aes, cbc: &mut Cbc, blocks: &mut [Block]) -> u32
     requires made { IsMade aes.now }
     ensures done { result ≡ DONE ↔ IsKeySize aes.now.key_length }
     ensures refused { result ≢ DONE → result ≡ NO_KEY }
-    ensures blocks { result ≡ DONE → blocks.new ≡ chained (round_keys_in aes.now) cbc.old.previous blocks.old }
+    ensures blocks { result ≡ DONE → blocks.new
+        ≡ chained (round_keys_in aes.now) cbc.old.previous blocks.old }
     ensures previous { result ≡ DONE → cbc.new.previous ≡ last_of cbc.old.previous blocks.new }
     ensures untouched { result ≢ DONE → blocks.new ≡ blocks.old }
     ensures unmoved { result ≢ DONE → cbc.new.previous ≡ cbc.old.previous }
@@ -29,14 +30,15 @@ pub extern "C" fn fotsgure_aes_cbc_encrypt(aes: &Aes, cbc: &mut Cbc, blocks: &mu
     DONE
 }
 
-/// Decrypts the next blocks of a chain in place (SP 800-38A, 6.2). Returns `DONE` exactly if the struct holds a key, else
-/// `NO_KEY`.
+/// Decrypts the next blocks of a chain in place (SP 800-38A, 6.2). Returns `DONE` exactly if the
+/// struct holds a key, else `NO_KEY`.
 #[unsafe(no_mangle)]
 pub extern "C" fn fotsgure_aes_cbc_decrypt(aes: &Aes, cbc: &mut Cbc, blocks: &mut [Block]) -> u32
     requires made { IsMade aes.now }
     ensures done { result ≡ DONE ↔ IsKeySize aes.now.key_length }
     ensures refused { result ≢ DONE → result ≡ NO_KEY }
-    ensures blocks { result ≡ DONE → blocks.new ≡ unchained (round_keys_in aes.now) cbc.old.previous blocks.old }
+    ensures blocks { result ≡ DONE → blocks.new
+        ≡ unchained (round_keys_in aes.now) cbc.old.previous blocks.old }
     ensures previous { result ≡ DONE → cbc.new.previous ≡ last_of cbc.old.previous blocks.old }
     ensures untouched { result ≢ DONE → blocks.new ≡ blocks.old }
     ensures unmoved { result ≢ DONE → cbc.new.previous ≡ cbc.old.previous }

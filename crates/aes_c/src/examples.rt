@@ -1,13 +1,15 @@
-//! Statuses and the version by number, and a struct at values from outside, as contracts, so that a slip in a constant or a
-//! definition is refused. The calls have no effect.
+//! Statuses and the version by number, and a struct at values from outside, as contracts, so that a
+//! slip in a constant or a definition is refused. The calls have no effect.
 //!
-//! `bytes n 0x..` is the n bytes that these digits write. What a struct stores was computed by a separate model in Python,
-//! from the standard and the basis that `tools/permutation-tables` describes.
+//! `bytes n 0x..` is the n bytes that these digits write. What a struct stores was computed by a
+//! separate model in Python, from the standard and the basis that `tools/permutation-tables`
+//! describes.
 
 ghost use Rattle.std.specs.Prelude.{◌≡◌, map};
 ghost use Rattle.aes_planes.specs.BigEndian.{bytes};
 ghost use Rattle.aes_planes.specs.Fips197 as fips;
-ghost use Rattle.aes_permute.specs.Keys.{encrypting, key_in_room, stored_keys, AreInverse, AreZeroAfter};
+ghost use Rattle.aes_permute.specs.Keys.{encrypting, key_in_room, stored_keys, AreInverse};
+ghost use Rattle.aes_permute.specs.Keys.{AreZeroAfter};
 ghost use Rattle.aes_c.specs.Kept.{IsMade};
 
 use crate::kept::Aes;
@@ -37,7 +39,8 @@ const _: () = prove!(size_of::<Ctr>() == 24);
 
 const _: () = prove!(size_of::<Cbc>() == 16);
 
-// The blocks of the struct of the key of A.1, each as one number, highest byte first: the stored round keys of Cipher.
+// The blocks of the struct of the key of A.1, each as one number, highest byte first: the stored
+// round keys of Cipher.
 const ENCRYPTING: [u128; 15] = [
     0x2b7e151628aed2a6abf7158809cf4f3c,
     0xe4d7fad83e4b99638ef93333a817aa42,
@@ -80,8 +83,10 @@ const DECRYPTING: [u128; 15] = [
 pub fn stored_example()
     ensures round_keys { encrypting (stored_keys 16 (map (bytes 16) ENCRYPTING))
         ≡ fips.key_expansion (bytes 16 0x2b7e151628aed2a6abf7158809cf4f3c) }
-    ensures inverse { AreInverse (stored_keys 16 (map (bytes 16) DECRYPTING)) (stored_keys 16 (map (bytes 16) ENCRYPTING)) }
-    ensures key { key_in_room 16 (map (bytes 16) ENCRYPTING) ≡ bytes 16 0x2b7e151628aed2a6abf7158809cf4f3c }
+    ensures inverse { AreInverse (stored_keys 16 (map (bytes 16) DECRYPTING))
+        (stored_keys 16 (map (bytes 16) ENCRYPTING)) }
+    ensures key { key_in_room 16 (map (bytes 16) ENCRYPTING)
+        ≡ bytes 16 0x2b7e151628aed2a6abf7158809cf4f3c }
     ensures after_encrypting { AreZeroAfter 16 (map (bytes 16) ENCRYPTING) }
     ensures after_decrypting { AreZeroAfter 16 (map (bytes 16) DECRYPTING) }
 {

@@ -80,9 +80,10 @@ pub(crate) fn lent_both(aes: &Aes) -> LentBoth<'_, BuildWidth>
     LentBoth::new(keys, keys_in_room(&aes.decrypting, length))
 }
 
-/// Expands a key into the struct (KeyExpansion, FIPS 197, 5.2). Returns `DONE` exactly if the key has 16, 24 or 32
-/// bytes, else `KEY_LENGTH`; the struct then holds no key. Nothing of what it held before is left in either case: its
-/// blocks are the round keys of the new key, and zeros after them.
+/// Expands a key into the struct (KeyExpansion, FIPS 197, 5.2). Returns `DONE` exactly if the key
+/// has 16, 24 or 32 bytes, else `KEY_LENGTH`; the struct then holds no key. Nothing of what it held
+/// before is left in either case: its blocks are the round keys of the new key, and zeros after
+/// them.
 #[unsafe(no_mangle)]
 pub extern "C" fn fotsgure_aes_set_key(aes: &mut Aes, key: &[u8]) -> u32
     ensures done { result ≡ DONE ↔ IsKeySize (length key.now) }
@@ -96,8 +97,8 @@ pub extern "C" fn fotsgure_aes_set_key(aes: &mut Aes, key: &[u8]) -> u32
     ensures wiped_encrypting { result ≢ DONE → aes.new.encrypting ≡ replicate 15 (replicate 16 0) }
     ensures wiped_decrypting { result ≢ DONE → aes.new.decrypting ≡ replicate 15 (replicate 16 0) }
 {
-    // Nothing is read of a struct that may be uninitialized. No compiler takes these zeros away where they stay: the
-    // caller owns the struct, and can read what the call leaves in it.
+    // Nothing is read of a struct that may be uninitialized. No compiler takes these zeros away
+    // where they stay: the caller owns the struct, and can read what the call leaves in it.
     *aes = Aes::zero();
     if !is_key_size(key.len()) {
         return KEY_LENGTH;
@@ -129,7 +130,8 @@ pub extern "C" fn fotsgure_aes_wipe(aes: &mut Aes)
     ensures encrypting { aes.new.encrypting ≡ replicate 15 (replicate 16 0) }
     ensures decrypting { aes.new.decrypting ≡ replicate 15 (replicate 16 0) }
 {
-    // A wipe looks at what it overwrites, and the struct may be uninitialized: so zeros are written first.
+    // A wipe looks at what it overwrites, and the struct may be uninitialized: so zeros are written
+    // first.
     *aes = Zeroize::zero();
     aes.zeroize();
 }

@@ -1,7 +1,7 @@
 //! AES for C, and for languages that call C: `dist/include/fotsgure_aes.h` declares these calls.
 //!
-//! The header states what a `requires` asks of callers; nothing checks a call from C. Keys of 16, 24 and 32 bytes go
-//! through the same exports, since the struct knows how long its key is.
+//! The header states what a `requires` asks of callers; nothing checks a call from C. Keys of 16,
+//! 24 and 32 bytes go through the same exports, since the struct knows how long its key is.
 #![tactic(auto)]
 
 ghost use Rattle.std.specs.Prelude.{◌≡◌};

@@ -17,8 +17,8 @@ use aes_ctr::add_keystream;
 use aes_hybrid::lent::Lent;
 use aes_permute::lane_room::{expand_in_room, is_key_size, keys_in_room};
 
-/// Encrypts each block in place under a key (Cipher, FIPS 197, 5.1). Returns `DONE` exactly if the key has 16, 24 or 32
-/// bytes, else `KEY_LENGTH`.
+/// Encrypts each block in place under a key (Cipher, FIPS 197, 5.1). Returns `DONE` exactly if the
+/// key has 16, 24 or 32 bytes, else `KEY_LENGTH`.
 #[unsafe(no_mangle)]
 pub extern "C" fn fotsgure_aes_encrypt_blocks_with(key: &[u8], blocks: &mut [Block]) -> u32
     ensures done { result ≡ DONE ↔ IsKeySize (length key.now) }
@@ -37,8 +37,8 @@ pub extern "C" fn fotsgure_aes_encrypt_blocks_with(key: &[u8], blocks: &mut [Blo
     DONE
 }
 
-/// Decrypts each block in place under a key (InvCipher, FIPS 197, 5.3). Returns `DONE` exactly if the key has 16, 24 or
-/// 32 bytes, else `KEY_LENGTH`.
+/// Decrypts each block in place under a key (InvCipher, FIPS 197, 5.3). Returns `DONE` exactly if
+/// the key has 16, 24 or 32 bytes, else `KEY_LENGTH`.
 #[unsafe(no_mangle)]
 pub extern "C" fn fotsgure_aes_decrypt_blocks_with(key: &[u8], blocks: &mut [Block]) -> u32
     ensures done { result ≡ DONE ↔ IsKeySize (length key.now) }
@@ -55,21 +55,23 @@ pub extern "C" fn fotsgure_aes_decrypt_blocks_with(key: &[u8], blocks: &mut [Blo
     status
 }
 
-/// Adds to each byte the keystream's byte at its place and moves the position on, as `fotsgure_aes_add_keystream`,
-/// under a key. Returns `KEY_LENGTH` exactly if the key doesn't have 16, 24 or 32 bytes, and else `KEYSTREAM_END` or
-/// `DONE`.
+/// Adds to each byte the keystream's byte at its place and moves the position on, as
+/// `fotsgure_aes_add_keystream`, under a key. Returns `KEY_LENGTH` exactly if the key doesn't have
+/// 16, 24 or 32 bytes, and else `KEYSTREAM_END` or `DONE`.
 #[unsafe(no_mangle)]
 pub extern "C" fn fotsgure_aes_add_keystream_with(
     key: &[u8],
     ctr: &mut Ctr,
     bytes: &mut [u8],
 ) -> u32
-    ensures done { result ≡ DONE ↔ IsKeySize (length key.now) × (ctr.old.position + length bytes.old ≤ 2 ^ 64 - 1) }
+    ensures done { result ≡ DONE ↔ IsKeySize (length key.now)
+        × (ctr.old.position + length bytes.old ≤ 2 ^ 64 - 1) }
     ensures ended { result ≡ KEYSTREAM_END
         ↔ IsKeySize (length key.now) × (2 ^ 64 - 1 < ctr.old.position + length bytes.old) }
     ensures refused { result ≢ DONE → result ≢ KEYSTREAM_END → result ≡ KEY_LENGTH }
     ensures bytes { result ≡ DONE → bytes.new
-        ≡ plus_stream (keystream_byte (fips.key_expansion key.now) ctr.old.iv) ctr.old.position bytes.old }
+        ≡ plus_stream (keystream_byte (fips.key_expansion key.now) ctr.old.iv)
+        ctr.old.position bytes.old }
     ensures moved { result ≡ DONE → ctr.new.position ≡ ctr.old.position + length bytes.old }
     ensures iv { ctr.new.iv ≡ ctr.old.iv }
     ensures unmoved { result ≢ DONE → ctr.new.position ≡ ctr.old.position }

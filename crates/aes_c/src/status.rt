@@ -21,5 +21,6 @@ pub const INVALID_COUNT: u32 = 5;
 /// The key was not wrapped under this one, or was changed.
 pub const REFUSED: u32 = 6;
 
-/// The version of the interface: 10000 times the first number, 100 times the second, plus the third.
+/// The version of the interface: 10000 times the first number, 100 times the second, plus the
+/// third.
 pub const VERSION: u32 = 300;

@@ -37,17 +37,19 @@ fn refusal(aes: &Aes, position: u64, count: usize) -> u32
     DONE
 }
 
-/// Adds to each byte the keystream's byte at its place, the first of them at the position, and moves the position on
-/// (SP 800-38A, 6.5). Returns `KEYSTREAM_END` exactly if the position would pass 2^64 - 1, else `NO_KEY` if there is no
-/// key, and `DONE` in all other cases.
+/// Adds to each byte the keystream's byte at its place, the first of them at the position, and
+/// moves the position on (SP 800-38A, 6.5). Returns `KEYSTREAM_END` exactly if the position would
+/// pass 2^64 - 1, else `NO_KEY` if there is no key, and `DONE` in all other cases.
 #[unsafe(no_mangle)]
 pub extern "C" fn fotsgure_aes_add_keystream(aes: &Aes, ctr: &mut Ctr, bytes: &mut [u8]) -> u32
     requires made { IsMade aes.now }
     ensures ended { result ≡ KEYSTREAM_END ↔ (2 ^ 64 - 1 < ctr.old.position + length bytes.old) }
-    ensures done { result ≡ DONE ↔ IsKeySize aes.now.key_length × (ctr.old.position + length bytes.old ≤ 2 ^ 64 - 1) }
+    ensures done { result ≡ DONE ↔ IsKeySize aes.now.key_length
+        × (ctr.old.position + length bytes.old ≤ 2 ^ 64 - 1) }
     ensures refused { result ≢ DONE → result ≢ KEYSTREAM_END → result ≡ NO_KEY }
     ensures bytes { result ≡ DONE → bytes.new
-        ≡ plus_stream (keystream_byte (round_keys_in aes.now) ctr.old.iv) ctr.old.position bytes.old }
+        ≡ plus_stream (keystream_byte (round_keys_in aes.now) ctr.old.iv)
+        ctr.old.position bytes.old }
     ensures moved { result ≡ DONE → ctr.new.position ≡ ctr.old.position + length bytes.old }
     ensures iv { ctr.new.iv ≡ ctr.old.iv }
     ensures unmoved { result ≢ DONE → ctr.new.position ≡ ctr.old.position }
@@ -61,8 +63,9 @@ pub extern "C" fn fotsgure_aes_add_keystream(aes: &Aes, ctr: &mut Ctr, bytes: &m
     status
 }
 
-/// Writes to one buffer the bytes of another plus the keystream's, and moves the position on. Returns `UNEQUAL_COUNTS`
-/// exactly if the buffers differ in length, and else what `fotsgure_aes_add_keystream` returns.
+/// Writes to one buffer the bytes of another plus the keystream's, and moves the position on.
+/// Returns `UNEQUAL_COUNTS` exactly if the buffers differ in length, and else what
+/// `fotsgure_aes_add_keystream` returns.
 #[unsafe(no_mangle)]
 pub extern "C" fn fotsgure_aes_add_keystream_to(
     aes: &Aes,
@@ -73,12 +76,16 @@ pub extern "C" fn fotsgure_aes_add_keystream_to(
     requires made { IsMade aes.now }
     ensures unequal { result ≡ UNEQUAL_COUNTS ↔ (length input.now ≢ length output.old) }
     ensures ended { result ≡ KEYSTREAM_END
-        ↔ (length input.now ≡ length output.old) × (2 ^ 64 - 1 < ctr.old.position + length input.now) }
+        ↔ (length input.now ≡ length output.old)
+        × (2 ^ 64 - 1 < ctr.old.position + length input.now) }
     ensures done { result ≡ DONE ↔ IsKeySize aes.now.key_length
-        × ((length input.now ≡ length output.old) × (ctr.old.position + length input.now ≤ 2 ^ 64 - 1)) }
-    ensures refused { result ≢ DONE → result ≢ UNEQUAL_COUNTS → result ≢ KEYSTREAM_END → result ≡ NO_KEY }
+        × ((length input.now ≡ length output.old)
+        × (ctr.old.position + length input.now ≤ 2 ^ 64 - 1)) }
+    ensures refused { result ≢ DONE → result ≢ UNEQUAL_COUNTS → result ≢ KEYSTREAM_END
+        → result ≡ NO_KEY }
     ensures bytes { result ≡ DONE → output.new
-        ≡ plus_stream (keystream_byte (round_keys_in aes.now) ctr.old.iv) ctr.old.position input.now }
+        ≡ plus_stream (keystream_byte (round_keys_in aes.now) ctr.old.iv)
+        ctr.old.position input.now }
     ensures moved { result ≡ DONE → ctr.new.position ≡ ctr.old.position + length input.now }
     ensures iv { ctr.new.iv ≡ ctr.old.iv }
     ensures unmoved { result ≢ DONE → ctr.new.position ≡ ctr.old.position }

@@ -12,7 +12,8 @@ use super::{
     fotsgure_aes_wipe, fotsgure_aes_wrap, fotsgure_aes_wrap_padded,
 };
 
-// FIPS 197, appendix C: the bytes 00 01 02 and so on, whose beginnings are the keys, the block, and its encryption.
+// FIPS 197, appendix C: the bytes 00 01 02 and so on, whose beginnings are the keys, the block, and
+// its encryption.
 const COUNTED: [u8; 33] = [
     0x00, 0x01, 0x02, 0x03, 0x04, 0x05, 0x06, 0x07, 0x08, 0x09, 0x0a, 0x0b, 0x0c, 0x0d, 0x0e, 0x0f,
     0x10, 0x11, 0x12, 0x13, 0x14, 0x15, 0x16, 0x17, 0x18, 0x19, 0x1a, 0x1b, 0x1c, 0x1d, 0x1e, 0x1f,
@@ -37,7 +38,8 @@ fn no_key() -> Aes
     }
 }
 
-// Whether nine blocks, a batch and one more, come out as the standard says and come back, in place and in one call.
+// Whether nine blocks, a batch and one more, come out as the standard says and come back, in place
+// and in one call.
 fn in_place(key: &[u8], wanted: u128) -> bool {
     let plain = [PLAIN.to_be_bytes(); 9];
     let cipher = [wanted.to_be_bytes(); 9];
@@ -55,7 +57,8 @@ fn in_place(key: &[u8], wanted: u128) -> bool {
         && blocks == plain
 }
 
-// Whether a block goes from buffer to buffer as the standard says, and comes back, also in one call.
+// Whether a block goes from buffer to buffer as the standard says, and comes back, also in one
+// call.
 fn between_buffers(key: &[u8], wanted: u128) -> bool {
     let plain = [PLAIN.to_be_bytes()];
     let mut aes = no_key();

@@ -1,8 +1,10 @@
 //! Key wrap under the key of a struct.
 
-ghost use Rattle.std.specs.Prelude.{◌≡◌, ◌≢◌, ◌↔◌, ◌^◌, ◌<◌, ◌∷◌, [], length, replicate, slice_index_or};
+ghost use Rattle.std.specs.Prelude.{◌≡◌, ◌≢◌, ◌↔◌, ◌^◌, ◌<◌, ◌∷◌, [], length, replicate};
+ghost use Rattle.std.specs.Prelude.{slice_index_or};
 ghost use Rattle.key_wrap.specs.KeyWrap.{integrity_check, unwrapped, wrapped, Fit};
-ghost use Rattle.key_wrap.specs.Padded.{heading, unwrapped_string, wrapped_padded, FitPadded, FitUnpadded, IsPadded};
+ghost use Rattle.key_wrap.specs.Padded.{heading, unwrapped_string, wrapped_padded, FitPadded};
+ghost use Rattle.key_wrap.specs.Padded.{FitUnpadded, IsPadded};
 ghost use Rattle.aes_cipher.specs.KeySizes.{IsKeySize};
 ghost use Rattle.aes_c.specs.Kept.{round_keys_in, IsMade};
 
@@ -11,17 +13,19 @@ use crate::status::{DONE, INVALID_COUNT, NO_KEY, REFUSED};
 use aes_cipher::zeroize::wipe_stack;
 use key_wrap::{InvalidCount, NotUnwrapped, Semiblock, unwrap, unwrap_padded, wrap, wrap_padded};
 
-// How many bytes of stack a call takes at most that wraps or unwraps. Parts of the key are left there.
+// How many bytes of stack a call takes at most that wraps or unwraps. Parts of the key are left
+// there.
 const WRAPPING_STACK: usize = 512;
 
-/// Wraps a key from one buffer to another (KW-AE, SP 800-38F, 6.2). Returns `NO_KEY` exactly if the struct holds no key,
-/// else `INVALID_COUNT` if the key has fewer than two semiblocks or too many, or the output isn't one longer, and `DONE`
-/// in all other cases.
+/// Wraps a key from one buffer to another (KW-AE, SP 800-38F, 6.2). Returns `NO_KEY` exactly if the
+/// struct holds no key, else `INVALID_COUNT` if the key has fewer than two semiblocks or too many,
+/// or the output isn't one longer, and `DONE` in all other cases.
 #[unsafe(no_mangle)]
 pub extern "C" fn fotsgure_aes_wrap(aes: &Aes, key: &[Semiblock], output: &mut [Semiblock]) -> u32
     requires made { IsMade aes.now }
     ensures no_key { result ≡ NO_KEY ↔ ¬ IsKeySize aes.now.key_length }
-    ensures done { result ≡ DONE ↔ IsKeySize aes.now.key_length × Fit (length key.now) (length output.old) }
+    ensures done { result ≡ DONE ↔ IsKeySize aes.now.key_length
+        × Fit (length key.now) (length output.old) }
     ensures invalid { result ≢ DONE → result ≢ NO_KEY → result ≡ INVALID_COUNT }
     ensures wrapped { result ≡ DONE → output.new ≡ wrapped (round_keys_in aes.now) key.now }
     ensures untouched { result ≢ DONE → output.new ≡ output.old }
@@ -37,9 +41,10 @@ pub extern "C" fn fotsgure_aes_wrap(aes: &Aes, key: &[Semiblock], output: &mut [
     }
 }
 
-/// Unwraps a key from one buffer to another (KW-AD, SP 800-38F, 6.2). Returns `NO_KEY` exactly if the struct holds no key,
-/// else `INVALID_COUNT` if no key becomes so many semiblocks, or the output isn't one shorter, else `REFUSED` if the key
-/// was not wrapped under this one, and `DONE` in all other cases. After `REFUSED` the output is zeros.
+/// Unwraps a key from one buffer to another (KW-AD, SP 800-38F, 6.2). Returns `NO_KEY` exactly if
+/// the struct holds no key, else `INVALID_COUNT` if no key becomes so many semiblocks, or the
+/// output isn't one shorter, else `REFUSED` if the key was not wrapped under this one, and `DONE`
+/// in all other cases. After `REFUSED` the output is zeros.
 #[unsafe(no_mangle)]
 pub extern "C" fn fotsgure_aes_unwrap(
     aes: &Aes,
@@ -54,7 +59,8 @@ pub extern "C" fn fotsgure_aes_unwrap(
         ↔ IsKeySize aes.now.key_length × (Fit (length output.old) (length sealed.now)
         × (slice_index_or (unwrapped (round_keys_in aes.now) sealed.now) 0 [] ≡ integrity_check)) }
     ensures refused { result ≢ DONE → result ≢ NO_KEY → result ≢ INVALID_COUNT → result ≡ REFUSED }
-    ensures key { result ≡ DONE → integrity_check ∷ output.new ≡ unwrapped (round_keys_in aes.now) sealed.now }
+    ensures key { result ≡ DONE → integrity_check ∷ output.new
+        ≡ unwrapped (round_keys_in aes.now) sealed.now }
     ensures zeros { result ≡ REFUSED → output.new ≡ replicate (length output.old) (replicate 8 0) }
     ensures untouched { result ≢ DONE → result ≢ REFUSED → output.new ≡ output.old }
 {
@@ -70,14 +76,15 @@ pub extern "C" fn fotsgure_aes_unwrap(
     }
 }
 
-/// Pads and wraps a key from one buffer to another (KWP-AE, SP 800-38F, 6.3). Returns `NO_KEY` exactly if the struct holds
-/// no key, else `INVALID_COUNT` if the key has no byte or too many, or the output isn't one semiblock longer than the key
-/// fills, and `DONE` in all other cases.
+/// Pads and wraps a key from one buffer to another (KWP-AE, SP 800-38F, 6.3). Returns `NO_KEY`
+/// exactly if the struct holds no key, else `INVALID_COUNT` if the key has no byte or too many, or
+/// the output isn't one semiblock longer than the key fills, and `DONE` in all other cases.
 #[unsafe(no_mangle)]
 pub extern "C" fn fotsgure_aes_wrap_padded(aes: &Aes, key: &[u8], output: &mut [Semiblock]) -> u32
     requires made { IsMade aes.now }
     ensures no_key { result ≡ NO_KEY ↔ ¬ IsKeySize aes.now.key_length }
-    ensures done { result ≡ DONE ↔ IsKeySize aes.now.key_length × FitPadded (length key.now) (length output.old) }
+    ensures done { result ≡ DONE ↔ IsKeySize aes.now.key_length
+        × FitPadded (length key.now) (length output.old) }
     ensures invalid { result ≢ DONE → result ≢ NO_KEY → result ≡ INVALID_COUNT }
     ensures wrapped { result ≡ DONE → output.new ≡ wrapped_padded (round_keys_in aes.now) key.now }
     ensures untouched { result ≢ DONE → output.new ≡ output.old }
@@ -93,11 +100,12 @@ pub extern "C" fn fotsgure_aes_wrap_padded(aes: &Aes, key: &[u8], output: &mut [
     }
 }
 
-/// Unwraps a key that was wrapped with padding, from one buffer to another (KWP-AD, SP 800-38F, 6.3), and sets how many
-/// bytes it has: the first ones of the output, which zeros follow. Returns `NO_KEY` exactly if the struct holds no key, else
-/// `INVALID_COUNT` if no key becomes so many semiblocks, or the output isn't one shorter, else `REFUSED` if the key was
-/// not wrapped with padding under this one, and `DONE` in all other cases. After `REFUSED` the output is zeros, and in
-/// all cases but `DONE` the length is 0.
+/// Unwraps a key that was wrapped with padding, from one buffer to another (KWP-AD, SP 800-38F,
+/// 6.3), and sets how many bytes it has: the first ones of the output, which zeros follow. Returns
+/// `NO_KEY` exactly if the struct holds no key, else `INVALID_COUNT` if no key becomes so many
+/// semiblocks, or the output isn't one shorter, else `REFUSED` if the key was not wrapped with
+/// padding under this one, and `DONE` in all other cases. After `REFUSED` the output is zeros, and
+/// in all cases but `DONE` the length is 0.
 #[unsafe(no_mangle)]
 pub extern "C" fn fotsgure_aes_unwrap_padded(
     aes: &Aes,
@@ -113,7 +121,8 @@ pub extern "C" fn fotsgure_aes_unwrap_padded(
         ↔ IsKeySize aes.now.key_length × (FitUnpadded (length output.old) (length sealed.now)
         × IsPadded (unwrapped_string (round_keys_in aes.now) sealed.now)) }
     ensures refused { result ≢ DONE → result ≢ NO_KEY → result ≢ INVALID_COUNT → result ≡ REFUSED }
-    ensures key { result ≡ DONE → heading key_bytes.new ∷ output.new ≡ unwrapped_string (round_keys_in aes.now) sealed.now }
+    ensures key { result ≡ DONE → heading key_bytes.new ∷ output.new
+        ≡ unwrapped_string (round_keys_in aes.now) sealed.now }
     ensures small { key_bytes.new < 2 ^ 32 }
     ensures none { result ≢ DONE → key_bytes.new ≡ 0 }
     ensures zeros { result ≡ REFUSED → output.new ≡ replicate (length output.old) (replicate 8 0) }

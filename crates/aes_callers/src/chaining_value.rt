@@ -1,6 +1,7 @@
-//! The value at the end of a chain, by a definition that counts its steps: the loop's invariant is the definition.
+//! The value at the end of a chain, by a definition that counts its
+//! steps: the loop's invariant is the definition.
 
-ghost use Rattle.std.specs.Prelude.{◌≡◌, length};
+ghost use Rattle.std.specs.Prelude.{◌≡◌, ℕ, List, [], ◌∷◌, length, replicate};
 ghost use Rattle.aes_planes.specs.Fips197 as fips;
 ghost use Rattle.aes_callers.specs.ChainingValue.{value_after};
 
@@ -27,3 +28,11 @@ pub fn chaining_value_under(key: &[u8; 16], blocks: &[Block]) -> Block
 {
     chaining_value(&Aes128Enc::new(key), blocks)
 }
+
+/// The value after no block, and after two, so that a slip in the definition is refused.
+#[tactic(auto, unfolding(crate::specs::ChainingValue::value_after))]
+pub fn value_examples()
+    ensures none { (w : List (List ℕ)) → value_after w [] 0 ≡ replicate 16 0 }
+    ensures two { (w : List (List ℕ)) (a b : List ℕ) → value_after w (a ∷ b ∷ []) 2
+        ≡ fips.cipher_with w (fips.add_round_key b (fips.cipher_with w (fips.add_round_key a (replicate 16 0)))) }
+{}

@@ -1,4 +1,5 @@
-//! Closures as users write them, which work with a backend of any batch size, each for both directions.
+//! Closures as users write them, which work with a backend of
+//! any batch size, each for both directions.
 
 ghost use Rattle.std.specs.Prelude.{◌≡◌, length};
 ghost use Rattle.aes_planes.specs.Each.{Each};
@@ -39,7 +40,8 @@ pub struct Twice {
 }
 
 impl BlockCipherEncClosure for Twice {
-    ghost did = { λ before w after. after.block ≡ fips.cipher_with w (fips.cipher_with w before.block) };
+    ghost did = { λ before w after. after.block
+        ≡ fips.cipher_with w (fips.cipher_with w before.block) };
 
     fn call<B: BlockCipherEncBackend>(&mut self, backend: &B) {
         backend.encrypt_block(&mut self.block);
@@ -48,7 +50,8 @@ impl BlockCipherEncClosure for Twice {
 }
 
 impl BlockCipherDecClosure for Twice {
-    ghost did = { λ before w after. after.block ≡ fips.inv_cipher_with w (fips.inv_cipher_with w before.block) };
+    ghost did = { λ before w after. after.block
+        ≡ fips.inv_cipher_with w (fips.inv_cipher_with w before.block) };
 
     fn call<B: BlockCipherDecBackend>(&mut self, backend: &B) {
         backend.decrypt_block(&mut self.block);
@@ -82,7 +85,8 @@ impl<'a> BlockCipherDecClosure for Row<'a> {
     }
 }
 
-/// Processes 24 blocks of its own: a single one, then batches while a whole one is left, then single blocks.
+/// Processes 24 blocks of its own: a single one, then batches while
+/// a whole one is left, then single blocks.
 #[derive(Drop)]
 pub struct Mixed {
     pub blocks: [Block; 24],

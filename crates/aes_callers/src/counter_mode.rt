@@ -1,13 +1,15 @@
 //! Callers of counter mode.
 
-ghost use Rattle.std.specs.Prelude.{◌≡◌, ◌↔◌, ◌+◌, ◌-◌, ◌^◌, ◌<◌, ◌++◌, length, IsErr, IfOk, OnOk, OnErr};
+ghost use Rattle.std.specs.Prelude.{◌≡◌, ◌↔◌, ◌+◌, ◌-◌, ◌^◌, ◌<◌, ◌++◌, length, IsErr, IfOk, OnOk};
+ghost use Rattle.std.specs.Prelude.{OnErr};
 ghost use Rattle.aes_planes.specs.Fips197 as fips;
 ghost use Rattle.aes_ctr.specs.CounterMode.{keystream_byte, plus_stream};
 
 use aes_cipher::cipher::{Block, BlockCipherEncrypt, KeyInit};
 use aes_ctr::{Ctr128BE, KeystreamEnd, stream_cut};
 
-/// Adds the keystream of a key to a message, as one side does, and adds it once more, as the other does.
+/// Adds the keystream of a key to a message, as one side does,
+/// and adds it once more, as the other does.
 ///
 /// # Errors
 ///
@@ -27,19 +29,23 @@ pub fn there_and_back<C: KeyInit + BlockCipherEncrypt + Drop>(
     Ok(())
 }
 
-/// Adds the keystream to a message that lies in two parts: joined, they are the joined message plus the keystream.
+/// Adds the keystream to a message that lies in two parts: joined, they
+/// are the joined message plus the keystream.
 ///
 /// # Errors
 ///
-/// `KeystreamEnd` exactly if the keystream ends before the second part does; the first may be changed by then.
+/// `KeystreamEnd` exactly if the keystream ends before the second
+/// part does; the first may be changed by then.
 pub fn apply_to_parts<C: BlockCipherEncrypt>(
     mode: &mut Ctr128BE<C>,
     head: &mut [u8],
     rest: &mut [u8],
 ) -> Result<(), KeystreamEnd>
-    ensures refusal { IsErr result ↔ (2 ^ 64 - 1 < mode.old.position + (length head.old + length rest.old)) }
+    ensures refusal { IsErr result ↔
+        (2 ^ 64 - 1 < mode.old.position + (length head.old + length rest.old)) }
     ensures added { OnOk result (head.new ++ rest.new
-        ≡ plus_stream (keystream_byte mode.old.round_keys mode.old.iv) mode.old.position (head.old ++ rest.old)) }
+        ≡ plus_stream (keystream_byte mode.old.round_keys mode.old.iv) mode.old.position
+        (head.old ++ rest.old)) }
 {
     stream_cut();
     mode.try_apply(head)?;

@@ -8,8 +8,8 @@ use aes_cipher::cipher::{
 };
 use aes_planes::laws;
 
-/// Encrypts a block with a value that somebody else made, and decrypts it again: the block comes back. The key is not
-/// known here, so the contract refers to the value's round keys.
+/// Encrypts a block with a value that somebody else made, and decrypts it again: the block comes
+/// back. The key is not known here, so the contract refers to the value's round keys.
 pub fn there_and_back_by<C: BlockCipherEncrypt + BlockCipherDecrypt>(
     cipher: &C,
     block: &mut Block,
@@ -24,7 +24,8 @@ pub fn there_and_back_by<C: BlockCipherEncrypt + BlockCipherDecrypt>(
     there
 }
 
-/// The same with a value made from a key. The result in between is the standard's cipher under that key.
+/// The same with a value made from a key. The result in between
+/// is the standard's cipher under that key.
 pub fn there_and_back<C: KeyInit + BlockCipherEncrypt + BlockCipherDecrypt + Drop>(
     key: &C::Key,
     block: &mut Block,

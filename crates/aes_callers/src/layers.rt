@@ -5,8 +5,8 @@ ghost use Rattle.std.specs.Prelude.{◌≡◌, ◌+◌, length};
 use aes::{Aes128, Aes192Dec, Aes256Enc, Block};
 use aes_planes::soft::sbox::Layers;
 
-/// Processes the same blocks with a value of each size, and counts the layers of each. They depend only on the number
-/// of blocks: a batch of eight takes as many as a single block.
+/// Processes the same blocks with a value of each size, and counts the layers of each. They depend
+/// only on the number of blocks: a batch of eight takes as many as a single block.
 pub fn count_layers(
     blocks: &mut [Block],
     short: &Aes128,

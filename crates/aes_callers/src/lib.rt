@@ -1,5 +1,5 @@
-//! Proved callers: programs as users write them over the types of `aes`, `aes_hybrid` and `aes_rounds`, and
-//! modes over any cipher. `aes_callers_tests` has their tests.
+//! Proved callers: programs as users write them over the types of `aes`, `aes_hybrid` and
+//! `aes_rounds`, and modes over any cipher. `aes_callers_tests` has their tests.
 #![tactic(auto)]
 
 pub mod by_backend;

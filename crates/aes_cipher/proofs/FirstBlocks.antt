@@ -1,37 +1,44 @@
--- The first elements of a list, each made f of what it was; each of the others is that too, or what it was.
-use Rattle.std.proofs.Common.{◌≡◌, ◌⊎◌, inl, inr, ℕ, ◌-◌, ◌<◌, ◌≤◌, List, [], ◌∷◌, map, take, set, get_or, length, sym, ap}
-use Rattle.std.proofs.Common.{◌∙◌, arith, get_or-set_other}
+-- The first elements of a list, each made f of what it was; each of
+-- the others is that too, or what it was.
+use Rattle.std.proofs.Common.{◌≡◌, ◌⊎◌, inl, inr, ℕ, ◌-◌, ◌<◌, ◌≤◌, List, [], ◌∷◌, map, take, set}
+use Rattle.std.proofs.Common.{get_or, length, sym, ap, ◌∙◌, arith, get_or-set_other}
 use Rattle.std.proofs.lemmas.Bool.{cases_eq, cases_lt}
 use Rattle.std.proofs.lemmas.Grind.{get_or-set_at}
-use Rattle.std.proofs.lemmas.List.{get_or-drop, get_or-map, get_or-take, get_or_append_left, get_or-append_right}
-use Rattle.std.proofs.lemmas.List.{length-map, length-take, take-map}
+use Rattle.std.proofs.lemmas.List.{get_or-drop, get_or-map, get_or-take, get_or_append_left}
+use Rattle.std.proofs.lemmas.List.{get_or-append_right, length-map, length-take, take-map}
 use borrow.Rule.Slice.PartMut.{put_mid}
 
 -- where each element of a list is made f of what it was, so are the first
-pub first_of_all : {X : Type 0} (f : X → X) (n : ℕ) (xs ys : List X) → ys ≡ map f xs → take n ys ≡ map f (take n xs)
+pub first_of_all : {X : Type 0} (f : X → X) (n : ℕ) (xs ys : List X) → ys ≡ map f xs
+    → take n ys ≡ map f (take n xs)
 first_of_all f n xs ys e = ap (take n) e ∙ take-map f n xs
 
 -- and where only the first is
 pub first_alone : {X : Type 0} (f : X → X) (n : ℕ) (xs : List X) (d : X) → n ≡ 1 → 0 < length xs
     → take n (set xs 0 (f (get_or xs 0 d))) ≡ map f (take n xs)
 first_alone f n [] d e some = absurd (omega (arith, some))
-first_alone f n (x ∷ xs) d e some = ap (λ m. take m (f x ∷ xs)) e ∙ sym (ap (λ m. map f (take m (x ∷ xs))) e)
+first_alone f n (x ∷ xs) d e some = ap (λ m. take m (f x ∷ xs)) e
+    ∙ sym (ap (λ m. map f (take m (x ∷ xs))) e)
 
 -- one of the first
-pub first_at : {X : Type 0} (f : X → X) (n i : ℕ) (xs ys : List X) (d : X) → take n ys ≡ map f (take n xs) → i < n
+pub first_at : {X : Type 0} (f : X → X) (n i : ℕ) (xs ys : List X) (d : X)
+    → take n ys ≡ map f (take n xs) → i < n
     → n ≤ length xs → get_or ys i d ≡ f (get_or xs i d)
 first_at f n i xs ys d firsts lt fits =
     sym (get_or-take n ys i d lt) ∙ ap (λ l. get_or l i d) firsts
-    ∙ get_or-map f (take n xs) i d d (omega (arith, lt, fits, length-take n xs)) ∙ ap f (get_or-take n xs i d lt)
+    ∙ get_or-map f (take n xs) i d d (omega (arith, lt, fits, length-take n xs))
+    ∙ ap f (get_or-take n xs i d lt)
 
 -- where each element of a list is made f of what it was, so is any of them
-pub any_of_all : {X : Type 0} (f : X → X) (i : ℕ) (xs ys : List X) (d : X) → ys ≡ map f xs → i < length xs
+pub any_of_all : {X : Type 0} (f : X → X) (i : ℕ) (xs ys : List X) (d : X) → ys ≡ map f xs
+    → i < length xs
     → (get_or ys i d ≡ f (get_or xs i d)) ⊎ (get_or ys i d ≡ get_or xs i d)
 any_of_all f i xs ys d e lt = inl (ap (λ l. get_or l i d) e ∙ get_or-map f xs i d d lt)
 
 -- where one element is made f of what it was, the others are unchanged
 pub any_of_one : {X : Type 0} (f : X → X) (i k : ℕ) (xs : List X) (d : X) → i < length xs
-    → (get_or (set xs k (f (get_or xs k d))) i d ≡ f (get_or xs i d)) ⊎ (get_or (set xs k (f (get_or xs k d))) i d ≡ get_or xs i d)
+    → (get_or (set xs k (f (get_or xs k d))) i d ≡ f (get_or xs i d))
+    ⊎ (get_or (set xs k (f (get_or xs k d))) i d ≡ get_or xs i d)
 any_of_one f i k xs d lt = elim (cases_eq i k) [
   | inl same ↦ inl (get_or-set_at xs k i (f (get_or xs k d)) d same (omega (arith, same, lt))
       ∙ ap (λ m. f (get_or xs m d)) (sym same))
@@ -39,13 +46,17 @@ any_of_one f i k xs d lt = elim (cases_eq i k) [
 ]
 
 -- where the first n are, the others are unchanged
-pub any_of_part : {X : Type 0} (f : X → X) (i n : ℕ) (xs zs : List X) (d : X) → zs ≡ map f (take n xs) → n ≤ length xs
+pub any_of_part : {X : Type 0} (f : X → X) (i n : ℕ) (xs zs : List X) (d : X)
+    → zs ≡ map f (take n xs) → n ≤ length xs
     → i < length xs
-    → (get_or (put_mid 0 n xs zs) i d ≡ f (get_or xs i d)) ⊎ (get_or (put_mid 0 n xs zs) i d ≡ get_or xs i d)
+    → (get_or (put_mid 0 n xs zs) i d ≡ f (get_or xs i d))
+    ⊎ (get_or (put_mid 0 n xs zs) i d ≡ get_or xs i d)
 any_of_part f i n xs zs d is fits lt =
-    let long : length zs ≡ n = ap length is ∙ length-map (take n xs) f ∙ omega (arith, fits, length-take n xs) in
+    let long : length zs ≡ n = ap length is ∙ length-map (take n xs) f
+    ∙ omega (arith, fits, length-take n xs) in
     elim (cases_lt i n) [
-      | inl below ↦ inl (get_or_append_left zs _ d i (omega (arith, long, below)) ∙ ap (λ l. get_or l i d) is
+      | inl below ↦ inl (get_or_append_left zs _ d i (omega (arith, long, below))
+          ∙ ap (λ l. get_or l i d) is
           ∙ get_or-map f (take n xs) i d d (omega (arith, below, fits, length-take n xs))
           ∙ ap f (get_or-take n xs i d below))
       | inr past ↦ inr (get_or-append_right zs _ n i d long past ∙ get_or-drop n xs (i - n) d

@@ -1,33 +1,38 @@
 -- Elements that are written over.
-use Rattle.std.proofs.Common.{◌≡◌, ℕ, zero, suc, ◌+◌, ◌<◌, Bool, false, List, [], ◌∷◌, length, map, set, replicate}
-use Rattle.std.proofs.Common.{drop, ◌++◌, append_assoc, append-nil, refl, sym, ap, ◌∙◌, arith}
+use Rattle.std.proofs.Common.{◌≡◌, ℕ, zero, suc, ◌+◌, ◌<◌, Bool, false, List, [], ◌∷◌, length, map}
+use Rattle.std.proofs.Common.{set, replicate, drop, ◌++◌, append_assoc, append-nil, refl, sym, ap}
+use Rattle.std.proofs.Common.{◌∙◌, arith}
 use Rattle.std.proofs.lemmas.List.{set_at, drop_more, drop_all, replicate_more, length-replicate}
 use Rattle.std.proofs.lemmas.List.{ext_get_or, get_or-replicate}
 use Rattle.aes_planes.specs.Bits.{Places}
 
 -- one more element is written over by v
-pub filled_more : {X : Type 0} (n : ℕ) (v : X) (d : List X) → n < length d → set (replicate n v ++ drop n d) n v
+pub overwritten_more : {X : Type 0} (n : ℕ) (v : X) (d : List X) → n < length d
+    → set (replicate n v ++ drop n d) n v
     ≡ replicate (n + 1) v ++ drop (n + 1) d
-filled_more n v d h =
+overwritten_more n v d h =
     ap (λ l. set (replicate n v ++ l) n v) (drop_more d n v h)
     ∙ set_at (replicate n v) _ _ v n (length-replicate n v)
     ∙ sym (append_assoc (replicate n v) (v ∷ []) _)
     ∙ ap (λ l. l ++ drop (n + 1) d) (replicate_more n v)
 
 -- every element is written over by v
-pub filled_whole : {X : Type 0} (i n : ℕ) (v : X) (d xs : List X) → i ≡ n → length d ≡ n → xs ≡ replicate i v
+pub overwritten_whole : {X : Type 0} (i n : ℕ) (v : X) (d xs : List X) → i ≡ n → length d ≡ n
+    → xs ≡ replicate i v
     ++ drop i d → xs ≡ replicate n v
-filled_whole i n v d xs all long h =
+overwritten_whole i n v d xs all long h =
     h ∙ ap (λ l. replicate i v ++ l) (drop_all i d (omega arith)) ∙ append-nil (replicate i v)
     ∙ ap (λ k. replicate k v) all
 
 -- n bits that are all 0
-pub bits_of_zero : (n : ℕ) (xs : List Bool) → length xs ≡ n → Places n xs (λ i. false) → xs ≡ replicate n false
+pub bits_of_zero : (n : ℕ) (xs : List Bool) → length xs ≡ n → Places n xs (λ i. false)
+    → xs ≡ replicate n false
 bits_of_zero n xs l p =
     ext_get_or false xs (replicate n false) (l ∙ sym (length-replicate n false))
     (λ i h. let k : i < n = omega (arith, l) in p i k ∙ sym (get_or-replicate n i false false k))
 
 -- f of an element in every place
-pub map_replicate : {X Y : Type 0} (f : X → Y) (n : ℕ) (x : X) → map f (replicate n x) ≡ replicate n (f x)
+pub map_replicate : {X Y : Type 0} (f : X → Y) (n : ℕ) (x : X)
+    → map f (replicate n x) ≡ replicate n (f x)
 map_replicate f zero x = refl
 map_replicate f (suc n) x = ap (λ l. f x ∷ l) (map_replicate f n x)

@@ -1,5 +1,5 @@
-//! The one type behind the nine names: AES with a key of any size, in one direction or both, over the form in which it
-//! keeps its round keys.
+//! The one type behind the nine names: AES with a key of any size, in one direction or both, over
+//! the form in which it keeps its round keys.
 
 ghost use Rattle.std.specs.Prelude.{◌≡◌, ℕ, List, length, replicate, refl};
 ghost use Rattle.aes_planes.specs.Fips197 as fips;

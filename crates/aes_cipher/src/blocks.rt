@@ -1,4 +1,5 @@
-//! Operations on blocks for modes of operation: sums, a comparison for tags, numbers and halves as blocks.
+//! Operations on blocks for modes of operation: sums, a comparison
+//! for tags, numbers and halves as blocks.
 
 ghost use Rattle.std.specs.Prelude.{◌≡◌, ◌↔◌, ℕ, ◌<◌, ◌^◌, List, ◌++◌, length, take, drop, IsTrue};
 ghost use Rattle.std.specs.Int.{w128, to_be_bytes, from_be_bytes};
@@ -18,8 +19,8 @@ pub fn sum_of_blocks(a: &Block, b: &Block) -> Block
     sum.to_array()
 }
 
-/// Returns whether two blocks are equal. It always reads every byte, without an early exit at the first difference, so
-/// it suits comparing tags.
+/// Returns whether two blocks are equal. It always reads every byte, without an early exit at the
+/// first difference, so it suits comparing tags.
 pub fn blocks_equal(a: &Block, b: &Block) -> bool
     ensures { IsTrue result ↔ (a.now ≡ b.now) }
 {
@@ -84,20 +85,24 @@ pub fn halves_of_block(block: &Block) -> ([u8; 8], [u8; 8])
     (first, second)
 }
 
-/// No effect; states that numbers below 2^128 and blocks correspond: converting there and back changes neither.
+/// No effect; states that numbers below 2^128 and blocks correspond:
+/// converting there and back changes neither.
 pub fn numbers_as_blocks()
     ensures block { (number : ℕ) → fips.IsBlock (to_be_bytes w128 number) }
-    ensures number { (number : ℕ) → number < 2 ^ 128 → from_be_bytes w128 (to_be_bytes w128 number) ≡ number }
-    ensures back { (block : List ℕ) → fips.IsBlock block → to_be_bytes w128 (from_be_bytes w128 block) ≡ block }
+    ensures number { (number : ℕ) → number < 2 ^ 128
+        → from_be_bytes w128 (to_be_bytes w128 number) ≡ number }
+    ensures back { (block : List ℕ) → fips.IsBlock block
+        → to_be_bytes w128 (from_be_bytes w128 block) ≡ block }
 {}
 
-/// No effect; states that two halves of eight bytes form a block, that it splits into them again, and that a block is
-/// its halves joined.
+/// No effect; states that two halves of eight bytes form a block, that it splits into them again,
+/// and that a block is its halves joined.
 #[tactic(auto, using(crate::proofs::ByteBlocks::halves))]
 pub fn halves_and_blocks()
     ensures block { (first second : List ℕ) → length first ≡ 8 → fips.IsBytes first →
         length second ≡ 8 → fips.IsBytes second → fips.IsBlock (first ++ second) }
     ensures first { (first second : List ℕ) → length first ≡ 8 → take 8 (first ++ second) ≡ first }
-    ensures second { (first second : List ℕ) → length first ≡ 8 → drop 8 (first ++ second) ≡ second }
+    ensures second { (first second : List ℕ) → length first ≡ 8
+        → drop 8 (first ++ second) ≡ second }
     ensures back { (block : List ℕ) → take 8 block ++ drop 8 block ≡ block }
 {}

@@ -1,7 +1,8 @@
-//! Bytes as blocks, one after another: calls that encrypt and decrypt them in place, and their laws.
+//! Bytes as blocks, one after another: calls that encrypt and
+//! decrypt them in place, and their laws.
 
-ghost use Rattle.std.specs.Prelude.{◌≡◌, ◌≢◌, ◌↔◌, ℕ, ◌*◌, ◌+◌, ◌/◌, ◌%◌, ◌<◌, List, [], length, slice_index};
-ghost use Rattle.std.specs.Prelude.{slice_index_or, IsErr, OnOk, OnErr};
+ghost use Rattle.std.specs.Prelude.{◌≡◌, ◌≢◌, ◌↔◌, ℕ, ◌*◌, ◌+◌, ◌/◌, ◌%◌, ◌<◌, List, [], length};
+ghost use Rattle.std.specs.Prelude.{slice_index, slice_index_or, IsErr, OnOk, OnErr};
 ghost use Rattle.std.specs.List.{concat};
 ghost use Rattle.aes_planes.specs.Each.{Each};
 ghost use Rattle.aes_planes.specs.Fips197 as fips;
@@ -33,7 +34,8 @@ pub fn encrypt_bytes<C: BlockCipherEncrypt>(
     process_bytes::<Encrypt, C>(cipher, bytes)
 }
 
-/// Decrypts bytes in place, block by block, under the value's round keys (InvCipher, FIPS 197, 5.3).
+/// Decrypts bytes in place, block by block, under the value's
+/// round keys (InvCipher, FIPS 197, 5.3).
 ///
 /// # Errors
 ///
@@ -50,15 +52,18 @@ pub fn decrypt_bytes<C: BlockCipherDecrypt>(
     process_bytes::<Decrypt, C>(cipher, bytes)
 }
 
-/// No effect; states how bytes and their blocks correspond: whole blocks, joined, are the bytes; joined blocks split
-/// into those blocks again; there is a block for every sixteen bytes; byte j of block i, and byte i of joined blocks.
+/// No effect; states how bytes and their blocks correspond: whole blocks, joined, are the bytes;
+/// joined blocks split into those blocks again; there is a block for every sixteen bytes; byte j of
+/// block i, and byte i of joined blocks.
 #[tactic(auto, using(crate::proofs::ByteBlocks::byte_laws))]
 pub fn blocks_and_bytes()
     ensures joined { (bytes : List ℕ) → length bytes % 16 ≡ 0 → concat (blocks_of bytes) ≡ bytes }
-    ensures parted { (blocks : List (List ℕ)) → Sixteens blocks → blocks_of (concat blocks) ≡ blocks }
+    ensures parted { (blocks : List (List ℕ)) → Sixteens blocks
+        → blocks_of (concat blocks) ≡ blocks }
     ensures count { (bytes : List ℕ) → length (blocks_of bytes) ≡ length bytes / 16 }
     ensures byte_of_block { (bytes : List ℕ) (i j : ℕ) → i < length bytes / 16 → j < 16 →
         slice_index (slice_index_or (blocks_of bytes) i []) j ≡ slice_index bytes (16 * i + j) }
-    ensures byte_of_joined { (blocks : List (List ℕ)) (i : ℕ) → Sixteens blocks → i < 16 * length blocks →
+    ensures byte_of_joined { (blocks : List (List ℕ)) (i : ℕ) → Sixteens blocks
+        → i < 16 * length blocks →
         slice_index (concat blocks) i ≡ slice_index (slice_index_or blocks (i / 16) []) (i % 16) }
 {}

@@ -1,5 +1,5 @@
-//! Definitions of this crate at values from outside, as contracts, so that a slip in one is refused. The calls have no
-//! effect.
+//! Definitions of this crate at values from outside, as contracts, so that a slip in one is
+//! refused. The calls have no effect.
 //!
 //! `bytes n 0x..` is the n bytes that these digits write.
 
@@ -11,20 +11,25 @@ ghost use Rattle.aes_cipher.specs.Blocks.{blocks_of};
 use crate::cipher::{Block, Decrypt, Direction, Encrypt};
 use crate::zeroize::{Element, Zeroize};
 
-/// The bytes 00 to 21 are two blocks and two bytes that are left out, and fifteen bytes are no block (FIPS 197, 3.1).
+/// The bytes 00 to 21 are two blocks and two bytes that are left out, and
+/// fifteen bytes are no block (FIPS 197, 3.1).
 #[tactic(auto, unfolding(aes_planes::specs::BigEndian::bytes))]
 pub fn block_examples()
-    ensures two { blocks_of (bytes 34 0x000102030405060708090a0b0c0d0e0f101112131415161718191a1b1c1d1e1f2021)
-        ≡ bytes 16 0x000102030405060708090a0b0c0d0e0f ∷ bytes 16 0x101112131415161718191a1b1c1d1e1f ∷ [] }
+    ensures two { blocks_of
+        (bytes 34 0x000102030405060708090a0b0c0d0e0f101112131415161718191a1b1c1d1e1f2021)
+        ≡ bytes 16 0x000102030405060708090a0b0c0d0e0f
+        ∷ bytes 16 0x101112131415161718191a1b1c1d1e1f ∷ [] }
     ensures none { blocks_of (bytes 15 0x000102030405060708090a0b0c0d0e) ≡ [] }
 {}
 
-/// Encryption is Cipher, and decryption InvCipher; their rounds are those of Cipher and of EqInvCipher (FIPS 197, 5.1, 5.3
-/// and 5.3.5).
+/// Encryption is Cipher, and decryption InvCipher; their rounds are those of Cipher and of
+/// EqInvCipher (FIPS 197, 5.1, 5.3 and 5.3.5).
 pub fn direction_examples()
-    ensures encrypt { (w : List (List ℕ)) (block : List ℕ) → ⟦<Encrypt as Direction>⟧.processed w block
+    ensures encrypt { (w : List (List ℕ)) (block : List ℕ)
+        → ⟦<Encrypt as Direction>⟧.processed w block
         ≡ fips.cipher_with w block }
-    ensures decrypt { (w : List (List ℕ)) (block : List ℕ) → ⟦<Decrypt as Direction>⟧.processed w block
+    ensures decrypt { (w : List (List ℕ)) (block : List ℕ)
+        → ⟦<Decrypt as Direction>⟧.processed w block
         ≡ fips.inv_cipher_with w block }
     ensures encrypt_step { (b : List ℕ) → ⟦<Encrypt as Direction>⟧.step b
         ≡ fips.mix_columns (fips.shift_rows (fips.sub_bytes b)) }

@@ -54,12 +54,13 @@ pub fn zeroize_words<W: Word>(words: &mut [W])
 
 // Writes zeros over every element of a slice. `some_byte` returns some byte of an element.
 //
-// A compiler may leave out writes that nothing reads. So the two calls that are made of this one are never inlined: their
-// callers' compiled code can't tell what they wrote, nor leave them out, since an atomic is exchanged in them. This one is
-// inlined into them, where the zero is known, so that LLVM writes many of it by `memset`. An element is read before the
-// writes and after them too, at a place that comes out of the atomic: it is 0, but neither of the two compilers works that
-// out. What was read goes into the atomic. It is 0 too, so that no byte of a secret stays there. No clause says that the
-// writes are kept: what was compiled is searched.
+// A compiler may leave out writes that nothing reads. So the two calls that are made of this one
+// are never inlined: their callers' compiled code can't tell what they wrote, nor leave them out,
+// since an atomic is exchanged in them. This one is inlined into them, where the zero is known, so
+// that LLVM writes many of it by `memset`. An element is read before the writes and after them too,
+// at a place that comes out of the atomic: it is 0, but neither of the two compilers works that
+// out. What was read goes into the atomic. It is 0 too, so that no byte of a secret stays there. No
+// clause says that the writes are kept: what was compiled is searched.
 #[inline(always)]
 fn wipe<E: Copy, F: Fn(E) -> u8>(elements: &mut [E], zero: E, some_byte: F)
     requires { F.IsAlwaysCallable some_byte }
@@ -86,7 +87,7 @@ fn observe<E: Copy, F: Fn(E) -> u8>(elements: &[E], place: usize, some_byte: &F)
 }
 
 // Writes an element over every one of a slice.
-#[tactic(auto, using(crate::proofs::Zeros::filled_more, crate::proofs::Zeros::filled_whole))]
+#[tactic(auto, using(crate::proofs::Zeros::overwritten_more, crate::proofs::Zeros::overwritten_whole))]
 #[inline(always)]
 fn overwrite<E: Copy>(elements: &mut [E], element: E)
     ensures { elements.new ≡ replicate (length elements.old) element }
@@ -96,8 +97,9 @@ fn overwrite<E: Copy>(elements: &mut [E], element: E)
     }
 }
 
-/// A value that is overwritten with zeros when it is dropped: what stands inside has a drop of its own, which requires
-/// that it is zero by then. It is neither `Copy` nor `Clone`. Contracts see the value.
+/// A value that is overwritten with zeros when it is dropped: what stands
+/// inside has a drop of its own, which requires that it is zero by then. It is
+/// neither `Copy` nor `Clone`. Contracts see the value.
 pub struct Wiped<V: Zeroize> {
     inside: MustWipe<V>,
 }

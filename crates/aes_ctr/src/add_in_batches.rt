@@ -22,7 +22,8 @@ fn add_to_one<C: BlockCipherEncrypt, K: CounterBlocks>(
     bytes: &mut [u8],
 )
     requires { position % 16 + length bytes.old ≤ 16 }
-    ensures { bytes.new ≡ plus_stream (stream_byte (C.round_keys cipher.now) (K.block counters.now)) position bytes.old }
+    ensures { bytes.new ≡ plus_stream (stream_byte (C.round_keys cipher.now) (K.block counters.now))
+        position bytes.old }
 {
     let mut room = [[0; 16]; 1];
     fill_with_keystream(cipher, counters, position / 16, &mut room);
@@ -42,8 +43,8 @@ fn blocks_at_once<B: BlockCipherEncBackend>() -> usize
     }
 }
 
-// Adds to the bytes of one batch the keystream from a block on. How many there are is a constant, so that counters and
-// blocks of the keystream stay in registers.
+// Adds to the bytes of one batch the keystream from a block on. How many there are is a constant,
+// so that counters and blocks of the keystream stay in registers.
 #[tactic(auto, using(crate::proofs::Places::plus_batch, std::proofs::lemmas::Grind::common_steps))]
 #[inline(always)]
 fn add_batch<B: BlockCipherEncBackend, K: CounterBlocks>(
@@ -54,7 +55,9 @@ fn add_batch<B: BlockCipherEncBackend, K: CounterBlocks>(
 )
     requires fits { B.PAR_BLOCKS ≤ 16 }
     requires one_batch { length bytes.old ≡ 16 * B.PAR_BLOCKS }
-    ensures { bytes.new ≡ plus_stream (stream_byte (B.round_keys backend.now) (K.block counters.now)) (16 * first) bytes.old }
+    ensures { bytes.new
+        ≡ plus_stream (stream_byte (B.round_keys backend.now) (K.block counters.now))
+        (16 * first) bytes.old }
 {
     let mut room = [[0; 16]; LARGEST_BATCH];
     let blocks = &mut room[..B::PAR_BLOCKS];
@@ -63,8 +66,9 @@ fn add_batch<B: BlockCipherEncBackend, K: CounterBlocks>(
     add_blocks(blocks, 0, bytes);
 }
 
-// Adds the keystream from one position on to the bytes from place `done` on, up to the end of a batch that begins with
-// the block of the first, or to all if there are fewer. Returns the place that it has come to.
+// Adds the keystream from one position on to the bytes from place `done` on, up to
+// the end of a batch that begins with the block of the first, or to all if there
+// are fewer. Returns the place that it has come to.
 fn add_next<B: BlockCipherEncBackend, K: CounterBlocks>(
     backend: &B,
     counters: &K,
@@ -91,8 +95,8 @@ fn add_next<B: BlockCipherEncBackend, K: CounterBlocks>(
     done + part
 }
 
-// Adds to bytes the keystream from one position on, by the backend: to the end of a block if the position is inside one,
-// then in whole batches, and then to what is left.
+// Adds to bytes the keystream from one position on, by the backend: to the end of a block if the
+// position is inside one, then in whole batches, and then to what is left.
 fn add_by_backend<B: BlockCipherEncBackend, K: CounterBlocks>(
     backend: &B,
     counters: &K,
@@ -100,7 +104,8 @@ fn add_by_backend<B: BlockCipherEncBackend, K: CounterBlocks>(
     bytes: &mut [u8],
 )
     ensures { position + length bytes.old < 2 ^ 64
-        → bytes.new ≡ plus_stream (stream_byte (B.round_keys backend.now) (K.block counters.now)) position bytes.old }
+        → bytes.new ≡ plus_stream (stream_byte (B.round_keys backend.now) (K.block counters.now))
+        position bytes.old }
 {
     let mut done = 0;
     if position % 16 != 0 {
@@ -138,8 +143,8 @@ impl<'k, 'a, K: CounterBlocks> BlockCipherEncClosure for Due<'k, 'a, K> {
     }
 }
 
-/// Adds to each byte the keystream's byte at its place, the first of them at a position (SP 800-38A, 6.5), with these
-/// counter blocks.
+/// Adds to each byte the keystream's byte at its place, the first of them at a position (SP
+/// 800-38A, 6.5), with these counter blocks.
 pub fn add_stream<C: BlockCipherEncrypt, K: CounterBlocks>(
     cipher: &C,
     counters: &K,
@@ -147,7 +152,8 @@ pub fn add_stream<C: BlockCipherEncrypt, K: CounterBlocks>(
     bytes: &mut [u8],
 )
     requires { position + length bytes.old < 2 ^ 64 }
-    ensures { bytes.new ≡ plus_stream (stream_byte (C.round_keys cipher.now) (K.block counters.now)) position bytes.old }
+    ensures { bytes.new ≡ plus_stream (stream_byte (C.round_keys cipher.now) (K.block counters.now))
+        position bytes.old }
 {
     let from = (position % 16) as usize;
     if bytes.len() <= 16 - from {
@@ -167,7 +173,8 @@ pub fn add_stream<C: BlockCipherEncrypt, K: CounterBlocks>(
 #[tactic(auto, using(crate::proofs::Places::whole_blocks))]
 pub fn add_keystream<C: BlockCipherEncrypt>(cipher: &C, iv: &Block, position: u64, bytes: &mut [u8])
     requires { position + length bytes.old < 2 ^ 64 }
-    ensures { bytes.new ≡ plus_stream (keystream_byte (C.round_keys cipher.now) iv.now) position bytes.old }
+    ensures { bytes.new ≡ plus_stream (keystream_byte (C.round_keys cipher.now) iv.now)
+        position bytes.old }
 {
     add_stream(cipher, &WholeBlock { iv: *iv }, position, bytes);
 }

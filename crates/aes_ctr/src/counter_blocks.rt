@@ -13,11 +13,12 @@ pub trait CounterBlocks {
 
     /// Writes counter blocks, from number `first` on.
     fn put(&self, first: u64, blocks: &mut [Block])
-        ensures { (i : ℕ) → i < length blocks.old → slice_index_or blocks.new i [] ≡ block self.now (first + i) };
+        ensures { (i : ℕ) → i < length blocks.old
+            → slice_index_or blocks.new i [] ≡ block self.now (first + i) };
 }
 
-/// An initial counter block that is counted as a whole: a number with its highest byte first, modulo 2^128 (SP 800-38A,
-/// B.1).
+/// An initial counter block that is counted as a whole: a number with its highest byte first,
+/// modulo 2^128 (SP 800-38A, B.1).
 #[derive(Drop)]
 pub struct WholeBlock {
     pub iv: Block,

@@ -20,9 +20,9 @@ pub(crate) fn fill_with_keystream<C: BlockCipherEncrypt, K: CounterBlocks>(
     cipher.encrypt_blocks(blocks);
 }
 
-// Writes `count` blocks of the keystream, from number `first` on, with a backend: as the first of a batch, or one by
-// one. The others are left as counter blocks, or blocks of the keystream too. A call of its own, so that whole batches,
-// which don't need it, are inlined.
+// Writes `count` blocks of the keystream, from number `first` on, with a backend: as the first of a
+// batch, or one by one. The others are left as counter blocks, or blocks of the keystream too. A
+// call of its own, so that whole batches, which don't need it, are inlined.
 #[tactic(auto, using(crate::proofs::Places::filled))]
 pub(crate) fn fill_by_backend<B: BlockCipherEncBackend, K: CounterBlocks>(
     backend: &B,
@@ -35,10 +35,12 @@ pub(crate) fn fill_by_backend<B: BlockCipherEncBackend, K: CounterBlocks>(
     ensures first { (i : ℕ) → i < count → slice_index_or blocks.new i []
         ≡ fips.cipher_with (B.round_keys backend.now) (K.block counters.now (first + i)) }
     ensures others { (i : ℕ) → i < length blocks.old
-        → (slice_index_or blocks.new i [] ≡ fips.cipher_with (B.round_keys backend.now) (K.block counters.now (first + i)))
+        → (slice_index_or blocks.new i [] ≡ fips.cipher_with (B.round_keys backend.now)
+        (K.block counters.now (first + i)))
         ⊎ (slice_index_or blocks.new i [] ≡ K.block counters.now (first + i)) }
 {
-    // All of the batch gets counters: blocks of zeros would be encrypted with it, and their cipher is H of GCM.
+    // All of the batch gets counters: blocks of zeros would be
+    // encrypted with it, and their cipher is H of GCM.
     counters.put(first, blocks);
     if blocks.len() == B::PAR_BLOCKS {
         backend.encrypt_first_blocks(count, blocks);

@@ -4,8 +4,8 @@ ghost use Rattle.std.specs.Prelude.{◌≡◌, ℕ, List};
 ghost use Rattle.std.specs.List.{concat};
 ghost use Rattle.aes_ctr.specs.CounterMode.{keystream_byte, plus_stream, pieces_plus_stream};
 
-/// No effect; states that it makes no difference how data is cut: pieces plus the keystream, each from where the one
-/// before ended, joined, are the joined pieces plus the keystream.
+/// No effect; states that it makes no difference how data is cut: pieces plus the keystream, each
+/// from where the one before ended, joined, are the joined pieces plus the keystream.
 #[tactic(auto, using(crate::proofs::Sums::pieces_summed))]
 pub fn stream_cut()
     ensures { (w : List (List ℕ)) (iv : List ℕ) (position : ℕ) (pieces : List (List ℕ)) →
@@ -17,5 +17,6 @@ pub fn stream_cut()
 #[tactic(auto, using(crate::proofs::Sums::summed_twice))]
 pub fn stream_twice()
     ensures { (w : List (List ℕ)) (iv : List ℕ) (position : ℕ) (bytes : List ℕ) →
-        plus_stream (keystream_byte w iv) position (plus_stream (keystream_byte w iv) position bytes) ≡ bytes }
+        plus_stream (keystream_byte w iv) position
+        (plus_stream (keystream_byte w iv) position bytes) ≡ bytes }
 {}

@@ -1,5 +1,5 @@
-//! Counter mode over any block cipher (SP 800-38A, 6.5), with the whole block as the counter, and the keystream of other
-//! counter blocks.
+//! Counter mode over any block cipher (SP 800-38A, 6.5), with the whole block as the counter, and
+//! the keystream of other counter blocks.
 #![tactic(auto)]
 
 mod add_blocks;

@@ -9,9 +9,9 @@ use aes_cipher::cipher::{Block, BlockCipherEncrypt};
 use aes_cipher::not_clone::NotClone;
 use std::marker::Model;
 
-/// Counter mode over a cipher (SP 800-38A, 6.5). The counter is the whole block, a number with its highest byte first,
-/// modulo 2^128. Contracts see a value as its cipher, the round keys of that, its initial counter block and its
-/// position.
+/// Counter mode over a cipher (SP 800-38A, 6.5). The counter is the whole block, a number with its
+/// highest byte first, modulo 2^128. Contracts see a value as its cipher, the round keys of that,
+/// its initial counter block and its position.
 #[derive(Drop)]
 pub struct Ctr128BE<C: BlockCipherEncrypt> {
     cipher: C,
@@ -35,8 +35,8 @@ impl<C: BlockCipherEncrypt> Model for Ctr128BE<C> {
 impl<C: BlockCipherEncrypt> NotClone for Ctr128BE<C> {}
 
 impl<C: BlockCipherEncrypt> Ctr128BE<C> {
-    /// Counter mode over a cipher from an initial counter block on, at position 0. A cipher may be lent:
-    /// `Ctr128BE::new(&cipher, iv)`.
+    /// Counter mode over a cipher from an initial counter block on, at position 0. A cipher may be
+    /// lent: `Ctr128BE::new(&cipher, iv)`.
     pub fn new(cipher: C, iv: Block) -> Self
         ensures round_keys { result.round_keys ≡ C.round_keys cipher }
         ensures iv { result.iv ≡ iv }
@@ -46,8 +46,8 @@ impl<C: BlockCipherEncrypt> Ctr128BE<C> {
         Ctr128BE::new_at(cipher, iv, 0)
     }
 
-    /// Counter mode over a cipher from an initial counter block on, at a position: the next byte of the keystream is
-    /// that at this place.
+    /// Counter mode over a cipher from an initial counter block on, at a position: the next byte of
+    /// the keystream is that at this place.
     pub fn new_at(cipher: C, iv: Block, position: u64) -> Self
         ensures round_keys { result.round_keys ≡ C.round_keys cipher }
         ensures iv { result.iv ≡ iv }
@@ -91,16 +91,18 @@ impl<C: BlockCipherEncrypt> Ctr128BE<C> {
         self.position
     }
 
-    /// Adds to each byte the keystream's byte at its place, the first of them at the position, and moves the position
-    /// on by as many bytes (SP 800-38A, 6.5). Calls one after another do what one call does on all the bytes: see
-    /// `stream_cut`.
+    /// Adds to each byte the keystream's byte at its place, the first of them at the position, and
+    /// moves the position on by as many bytes (SP 800-38A, 6.5). Calls one after another do what
+    /// one call does on all the bytes: see `stream_cut`.
     ///
     /// # Errors
     ///
-    /// `KeystreamEnd` exactly if the position would exceed 2^64 - 1; bytes and position are then unchanged.
+    /// `KeystreamEnd` exactly if the position would exceed 2^64 - 1;
+    /// bytes and position are then unchanged.
     pub fn try_apply(&mut self, bytes: &mut [u8]) -> Result<(), KeystreamEnd>
         ensures refusal { IsErr result ↔ (2 ^ 64 - 1 < self.old.position + length bytes.old) }
-        ensures added { OnOk result (bytes.new ≡ plus_stream (keystream_byte self.old.round_keys self.old.iv)
+        ensures added { OnOk result
+            (bytes.new ≡ plus_stream (keystream_byte self.old.round_keys self.old.iv)
             self.old.position bytes.old) }
         ensures moved { OnOk result (self.new.position ≡ self.old.position + length bytes.old) }
         ensures round_keys { self.new.round_keys ≡ self.old.round_keys }

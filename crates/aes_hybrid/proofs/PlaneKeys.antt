@@ -1,15 +1,17 @@
 -- Round keys of vector permutations, as planes store them.
-use Rattle.std.proofs.Common.{◌≡◌, ◌⊎◌, inl, inr, ℕ, ◌+◌, ◌-◌, ◌*◌, ◌%◌, ◌<◌, ◌≤◌, Bool, List, [], ◌∷◌, length}
-use Rattle.std.proofs.Common.{map, map-id, replicate, refl, ap, subst, sym, ◌∙◌, arith}
+use Rattle.std.proofs.Common.{◌≡◌, ◌⊎◌, inl, inr, ℕ, ◌+◌, ◌-◌, ◌*◌, ◌%◌, ◌<◌, ◌≤◌, Bool, List, []}
+use Rattle.std.proofs.Common.{◌∷◌, length, map, map-id, replicate, refl, ap, subst, sym, ◌∙◌, arith}
 use Rattle.std.proofs.lemmas.Bool.{cases_lt}
 use Rattle.aes_planes.specs.Fips197 as fips
 use Rattle.aes_planes.specs.Planes.{held, plus63, words_at}
 use Rattle.aes_planes.proofs.Shifts.Deferred.{plus63_twice}
 use Rattle.aes_planes.proofs.Standard.FieldLaws.{add_twice}
 use Rattle.aes_planes.proofs.Standard.Steps.{map_length}
-use Rattle.aes_soft.specs.Stored.{full, key_of_planes, rounds_of, size_of, stored_key, IsFullSchedule, IsSchedule, HoldsBlocks}
+use Rattle.aes_soft.specs.Stored.{full, key_of_planes, rounds_of, size_of, stored_key}
+use Rattle.aes_soft.specs.Stored.{IsFullSchedule, IsSchedule, HoldsBlocks}
 use Rattle.aes_soft.proofs.KeyOfPlanes.{key_of-schedule}
-use Rattle.aes_soft.proofs.StoredRoundKeys.{deferred_below, deferred_last, stored_first, stored_later}
+use Rattle.aes_soft.proofs.StoredRoundKeys.{deferred_below, deferred_last, stored_first}
+use Rattle.aes_soft.proofs.StoredRoundKeys.{stored_later}
 use Rattle.aes_soft.proofs.WordsInPlace.{held_at, kept, HoldsAt}
 use Rattle.aes_permute.specs.Keys.{encrypting, cipher_form}
 use Rattle.aes_permute.specs.Stored.{untower, key_untower}
@@ -17,6 +19,7 @@ use Rattle.aes_permute.proofs.States.{keys_length, first_key, inner_key, last_ke
 use Rattle.aes_permute.specs.Keys.{key_of_lanes, IsCipherSchedule}
 use Rattle.aes_hybrid.proofs.Shifted.{times_map}
 
+-- the 0x63 that is added to a round key taken out of the tower basis falls out
 untower_of_key : (x : List ℕ) → map plus63 (map key_untower x) ≡ map untower x
 unfolding key_untower
 untower_of_key [] = refl
@@ -34,7 +37,8 @@ module _ (stored : List (List ℕ)) (two : 2 ≤ length stored) where
   -- the first is as planes store it
   pub first_wanted : fips.round_key stored 0 ≡ wanted 0
   first_wanted =
-      sym (stored_first (full rounds_made) (encrypting stored) (deferred_below rounds_made 4 0 0 (omega arith) refl)
+      sym (stored_first (full rounds_made) (encrypting stored)
+      (deferred_below rounds_made 4 0 0 (omega arith) refl)
       ∙ first_key cipher_form stored (omega (arith, two)) ∙ map-id (fips.round_key stored 0))
 
   -- one between is, once it is taken out of the tower basis and shifted back i mod 4 times
@@ -47,7 +51,8 @@ module _ (stored : List (List ℕ)) (two : 2 ≤ length stored) where
       (deferred_below rounds_made 4 i (i % 4) below refl)
       ∙ ap (λ v. map plus63 (fips.inv_shift_times (i % 4) v))
       (inner_key cipher_form stored i some below)
-      ∙ times_map plus63 (i % 4) (map key_untower s) long ∙ ap (fips.inv_shift_times (i % 4)) (untower_of_key s))
+      ∙ times_map plus63 (i % 4) (map key_untower s) long
+      ∙ ap (fips.inv_shift_times (i % 4)) (untower_of_key s))
 
   -- and the last is as planes store it
   pub last_wanted : (i : ℕ) → i ≡ rounds_made → fips.round_key stored i ≡ wanted i
@@ -55,16 +60,21 @@ module _ (stored : List (List ℕ)) (two : 2 ≤ length stored) where
   last_wanted i e =
       sym (stored_later (full rounds_made) (encrypting stored) i 0 (omega (arith, e, two))
       (deferred_last rounds_made 4 i e)
-      ∙ ap (map plus63) (last_key cipher_form stored i two e) ∙ plus63_twice (fips.round_key stored i))
+      ∙ ap (map plus63) (last_key cipher_form stored i two e)
+      ∙ plus63_twice (fips.round_key stored i))
 
 -- planes that hold a block in every slot are put at a round key's place
-pub put_at : {A : Type 0} (bits : A → List Bool) (n : ℕ) (rk : List A) (o p : ℕ) (x y : List ℕ) → p ≡ o
+pub put_at : {A : Type 0} (bits : A → List Bool) (n : ℕ) (rk : List A) (o p : ℕ)
+    (x y : List ℕ) → p ≡ o
     → held n (map bits (words_at rk o)) ≡ replicate n x → x ≡ y → HoldsAt bits n rk p y
-put_at bits n rk o p x y at h e = held_at bits n rk (words_at rk o) o p y at refl (h ∙ ap (replicate n) e)
+put_at bits n rk o p x y at h e =
+    held_at bits n rk (words_at rk o) o p y at refl (h ∙ ap (replicate n) e)
 
 -- where all round keys but the last stand in their places, and the last is put, all stand
-pub all_put : {A : Type 0} (bits : A → List Bool) (n : ℕ) (stored : List (List ℕ)) (two : 2 ≤ length stored)
-    (before after : List A) → (done : (j : ℕ) → j < length stored - 1 → HoldsAt bits n before (8 * j) (wanted stored two j))
+pub all_put : {A : Type 0} (bits : A → List Bool) (n : ℕ) (stored : List (List ℕ))
+    (two : 2 ≤ length stored)
+    (before after : List A)
+    → (done : (j : ℕ) → j < length stored - 1 → HoldsAt bits n before (8 * j) (wanted stored two j))
     → (others : (o : ℕ) → (o + 8 ≤ 8 * (length stored - 1)) ⊎ (8 * (length stored - 1) + 8 ≤ o)
     → words_at after o ≡ words_at before o)
     → (put : held n (map bits (words_at after (8 * (length stored - 1))))
@@ -73,7 +83,8 @@ pub all_put : {A : Type 0} (bits : A → List Bool) (n : ℕ) (stored : List (Li
 all_put bits n stored two before after done others put j below =
     let last : ℕ = length stored - 1 in
     elim (cases_lt j last) [
-      | inl low ↦ kept bits n before after (8 * last) (8 * j) _ others (inl (omega (arith, low))) (done j low)
+      | inl low ↦ kept bits n before after (8 * last) (8 * j) _ others
+          (inl (omega (arith, low))) (done j low)
       | inr ge ↦
           let same : last ≡ j = omega (arith, ge, below) in
           put_at bits n after (8 * last) (8 * j) _ _ (omega (arith, same)) put
@@ -85,32 +96,42 @@ pub two_or_more : (stored : List (List ℕ)) → IsCipherSchedule stored → 2 �
 two_or_more stored lanes = omega (arith, lanes.one_of_three)
 
 -- words that hold all of them
-module _ {A : Type 0} (bits : A → List Bool) (n : ℕ) (some : 1 ≤ n) (words : List A) (stored : List (List ℕ))
+module _ {A : Type 0} (bits : A → List Bool) (n : ℕ) (some : 1 ≤ n) (words : List A)
+    (stored : List (List ℕ))
     (lanes : IsCipherSchedule stored) (sized : length words ≡ 8 * length stored)
-    (holds : HoldsBlocks n (length stored) (stored_key (full (length stored - 1)) (encrypting stored)) (map bits words)) where
+    (holds : HoldsBlocks n (length stored)
+    (stored_key (full (length stored - 1)) (encrypting stored)) (map bits words)) where
+  -- how many rounds the words serve
   abbrev rounds : ℕ
   rounds = rounds_of (length words)
 
+  -- there are eleven round keys at least
   least : 11 ≤ length stored
   least = omega (arith, lanes.one_of_three)
 
+  -- and fifteen at most
   most : length stored ≤ 15
   most = omega (arith, lanes.one_of_three)
 
+  -- the planes hold the schedule of the key that the stored round keys are read as
   is_schedule : IsSchedule n (full rounds) (key_of_lanes stored) (map bits words)
   is_schedule i lt =
       let w : encrypting stored ≡ fips.key_expansion (key_of_lanes stored) = lanes.keys in
       let r : length stored - 1 ≡ rounds = omega (arith, sized) in
-      let below : i < length stored = omega (arith, lt, ap length w, keys_length cipher_form stored) in
+      let below : i < length stored =
+      omega (arith, lt, ap length w, keys_length cipher_form stored) in
       holds i below ∙ (λ j. replicate n (stored_key (full (r j)) (w j) i))
 
+  -- which has the size that the number of words says
   same_size : length (key_of_lanes stored) ≡ size_of (length words)
   same_size = lanes.sized ∙ omega (arith, sized)
 
-  -- planes that hold them in the full layout are read as the key that the stored round keys are read as
+  -- planes that hold them in the full layout are read as the key
+  -- that the stored round keys are read as
   pub planes_key : key_of_planes bits n words ≡ key_of_lanes stored
   planes_key =
-      key_of-schedule n (full rounds) some (deferred_below rounds 4 0 0 (omega (arith, sized, least)) refl)
+      key_of-schedule n (full rounds) some
+      (deferred_below rounds 4 0 0 (omega (arith, sized, least)) refl)
       (map bits words) (size_of (length words)) (rounds - 6) (key_of_lanes stored) refl same_size
       (omega (arith, sized, least)) (omega (arith, sized, most)) is_schedule
 
@@ -119,7 +140,12 @@ module _ {A : Type 0} (bits : A → List Bool) (n : ℕ) (some : 1 ≤ n) (words
   planes_keyed = record {
     one_of_three = elim lanes.one_of_three [
       | inl k ↦ inl (omega (arith, sized, k))
-      | inr other ↦ inr (elim other [ inl k ↦ inl (omega (arith, sized, k)) | inr k ↦ inr (omega (arith, sized, k)) ])
+      | inr other ↦ inr (elim other [
+        | inl k ↦ inl (omega (arith, sized, k))
+        | inr k ↦ inr
+            (omega (arith, sized, k))
+      ])
     ];
-    keyed = subst (λ key. IsSchedule n (full rounds) key (map bits words)) (sym planes_key) is_schedule;
+    keyed = subst (λ key. IsSchedule n (full rounds) key (map bits words))
+        (sym planes_key) is_schedule;
   }

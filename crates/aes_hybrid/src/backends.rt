@@ -8,12 +8,12 @@ ghost use Rattle.aes_permute.specs.Keys.{encrypting, key_of_lanes, IsCipherSched
 ghost use Rattle.aes_permute.specs.Stored.{round_keys_of};
 ghost use Rattle.aes_soft.specs.Stored as soft;
 
-use crate::blocks::process_few;
 use crate::widths::Width;
 use aes_cipher::cipher::{
     BatchOfFour, BatchSizeUser, BlockCipherDecBackend, BlockCipherEncBackend, Decrypt, Encrypt,
     RoundKeysUser,
 };
+use aes_permute::blocks::process_on_lanes;
 use aes_permute::lane_rounds::LaneRounds;
 use aes_planes::laws;
 use aes_planes::soft::sbox::Layers;
@@ -22,8 +22,8 @@ use aes_soft::soft::blocks::process_batch_under;
 use std::marker::{Model, PhantomData};
 use std::slice;
 
-// Processes single blocks and fours by vector permutations. `keys` are the stored round keys of Cipher, and `used` those of
-// the direction.
+// Processes single blocks and fours by vector permutations. `keys` are the stored round keys of
+// Cipher, and `used` those of the direction.
 pub(crate) struct OnLanes<'a, D: LaneRounds, W: Width> {
     keys: &'a [Block],
     used: &'a [Block],
@@ -71,8 +71,9 @@ impl<'a, D: LaneRounds, W: Width> OnLanes<'a, D, W> {
     pub(crate) fn process_few(&self, blocks: &mut [Block])
         ensures { Each (D.processed (fips.key_expansion self.now)) blocks.old blocks.new }
     {
+        D::processes();
         D::uses_all();
-        process_few::<D, W>(self.used, blocks);
+        process_on_lanes::<D, W::Few>(self.used, blocks);
     }
 }
 

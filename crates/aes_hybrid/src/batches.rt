@@ -1,6 +1,8 @@
-//! Blocks in batches on planes, under stored round keys: batches of eight or sixteen, as the words are wide.
+//! Blocks in batches on planes, under stored round keys: batches of
+//! eight or sixteen, as the words are wide.
 
-ghost use Rattle.std.specs.Prelude.{◌≡◌, ◌-◌, ◌%◌, ◌<◌, ◌≤◌, ◌++◌, [], drop, get_or, length, replicate, take};
+ghost use Rattle.std.specs.Prelude.{◌≡◌, ◌-◌, ◌%◌, ◌<◌, ◌≤◌, ◌++◌, [], drop, get_or, length};
+ghost use Rattle.std.specs.Prelude.{replicate, take};
 ghost use Rattle.aes_planes.specs.Each.{Each};
 ghost use Rattle.aes_planes.specs.Fips197 as fips;
 ghost use Rattle.aes_soft.specs.Stored as soft;
@@ -19,8 +21,8 @@ const LARGEST_BATCH: usize = 16;
 // How many bytes of stack the work on batches takes at most, on the widest words.
 const BATCHES_STACK: usize = 1536;
 
-// Copies the first blocks of a slice to another, at most a batch, one by one: LLVM makes a call of a copy of the slice, whose
-// stores the loads that follow have to wait for.
+// Copies the first blocks of a slice to another, at most a batch, one by one: LLVM makes a call of
+// a copy of the slice, whose stores the loads that follow have to wait for.
 #[inline(always)]
 fn copy_first<W: Word>(to: &mut [Block], from: &[Block], count: usize)
     requires at_most_one_batch { count ≤ W.Blocks.LEN }
@@ -38,8 +40,9 @@ fn copy_first<W: Word>(to: &mut [Block], from: &[Block], count: usize)
     }
 }
 
-// Returns fewer blocks than a batch, and after them the first of them again and again: so no block is processed that
-// nobody gave. What a block of zeros is encrypted to is a secret of some modes, as of GCM.
+// Returns fewer blocks than a batch, and after them the first of them again and
+// again: so no block is processed that nobody gave. What a block of zeros is
+// encrypted to is a secret of some modes, as of GCM.
 #[tactic(auto, using(crate::proofs::Fronts::filled))]
 #[inline(always)]
 fn filled_up<W: Word>(blocks: &[Block]) -> [Block; LARGEST_BATCH]
@@ -58,19 +61,21 @@ fn process_rest<D: PlaneCipher, W: Word>(words: &[W], blocks: &mut [Block])
     requires is_schedule { soft.IsFullSchedule W.bits W.BLOCKS words.now }
     requires some { 1 ≤ length blocks.old }
     requires fewer { length blocks.old < W.Blocks.LEN }
-    ensures { Each (D.processed (fips.key_expansion (soft.key_of_planes W.bits W.BLOCKS words.now))) blocks.old blocks.new }
+    ensures { Each (D.processed (fips.key_expansion (soft.key_of_planes W.bits W.BLOCKS words.now)))
+        blocks.old blocks.new }
 {
     let mut batch = filled_up::<W>(blocks);
     process_batch_under::<W, D>(words, &mut batch[..W::Blocks::LEN], &mut Layers::new());
     copy_first::<W>(blocks, &batch, blocks.len());
 }
 
-// Processes each block on words of round keys: whole batches, and then what is left. In a call of its own, so that its
-// stack can be wiped.
+// Processes each block on words of round keys: whole batches, and then what is left. In a call of
+// its own, so that its stack can be wiped.
 #[inline(never)]
 fn process_in_batches<D: PlaneCipher, W: Word>(words: &[W], blocks: &mut [Block])
     requires is_schedule { soft.IsFullSchedule W.bits W.BLOCKS words.now }
-    ensures { Each (D.processed (fips.key_expansion (soft.key_of_planes W.bits W.BLOCKS words.now))) blocks.old blocks.new }
+    ensures { Each (D.processed (fips.key_expansion (soft.key_of_planes W.bits W.BLOCKS words.now)))
+        blocks.old blocks.new }
 {
     let whole = blocks.len() - blocks.len() % W::Blocks::LEN;
     process_batches_under::<W, D>(words, &mut blocks[..whole], &mut Layers::new());
@@ -79,12 +84,13 @@ fn process_in_batches<D: PlaneCipher, W: Word>(words: &[W], blocks: &mut [Block]
     }
 }
 
-/// Processes each block in place on planes, which are wiped before the call returns, with the stack that the work on them
-/// took. Not inlined, so that few blocks need no large stack frame.
+/// Processes each block in place on planes, which are wiped before the call returns, with the stack
+/// that the work on them took. Not inlined, so that few blocks need no large stack frame.
 #[inline(never)]
 pub(crate) fn process_on_planes<D: PlaneCipher, W: Word>(keys: &[Block], blocks: &mut [Block])
     requires keyed { IsCipherSchedule keys.now }
-    ensures { Each (D.processed (fips.key_expansion (key_of_lanes keys.now))) blocks.old blocks.new }
+    ensures { Each (D.processed (fips.key_expansion (key_of_lanes keys.now)))
+        blocks.old blocks.new }
 {
     let mut planes = PlaneKeys::<W>::zeroed();
     planes.store(keys);

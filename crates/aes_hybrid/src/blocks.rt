@@ -1,20 +1,20 @@
 //! Blocks under stored round keys: few by vector permutations, whole batches of many on planes.
 
-ghost use Rattle.std.specs.Prelude.{◌≡◌, ◌≤◌, ℕ, List, drop, length, take};
+ghost use Rattle.std.specs.Prelude.{◌≡◌, ◌≤◌, drop, length, take};
 ghost use Rattle.aes_planes.specs.Each.{Each};
 ghost use Rattle.aes_planes.specs.Fips197 as fips;
 ghost use Rattle.aes_permute.specs.Keys.{encrypting, key_of_lanes, IsCipherSchedule};
 ghost use Rattle.aes_permute.specs.Stored.{round_keys_of};
 
+use crate::backends::OnLanes;
 use crate::batches::process_on_planes;
 use crate::widths::Width;
-use aes_permute::blocks::process_on_lanes;
 use aes_permute::lane_rounds::LaneRounds;
 use aes_planes::soft::word::{Batch, Block, Word};
 use aes_soft::soft::PlaneCipher;
 
-// How many of a number of blocks are processed on planes: none if they are few, or whole batches, and what is left after
-// these too if it takes less time so.
+// How many of a number of blocks are processed on planes: none if they are few, or whole batches,
+// and what is left after these too if it takes less time so.
 #[inline(always)]
 fn blocks_on_planes<D: LaneRounds, W: Width>(count: usize) -> usize
     ensures inside { result ≤ count }
@@ -35,24 +35,13 @@ fn blocks_on_planes<D: LaneRounds, W: Width>(count: usize) -> usize
     }
 }
 
-// Processes each block by vector permutations, under any round keys that the stored ones stand for.
-#[inline(always)]
-pub(crate) fn process_few<D: LaneRounds, W: Width>(used: &[Block], blocks: &mut [Block])
-    requires two { 2 ≤ length used.now }
-    ensures { (w : List (List ℕ)) → round_keys_of D.form used.now ≡ D.form.used_keys w
-        → Each (D.processed w) blocks.old blocks.new }
-{
-    D::processes();
-    D::uses_all();
-    process_on_lanes::<D, W::Few>(used, blocks);
-}
-
 // Processes the first blocks of a slice on planes, if there are any to be.
 #[inline(always)]
 fn process_first<D: PlaneCipher, W: Word>(keys: &[Block], blocks: &mut [Block], count: usize)
     requires keyed { IsCipherSchedule keys.now }
     requires inside { count ≤ length blocks.old }
-    ensures first { Each (D.processed (fips.key_expansion (key_of_lanes keys.now))) (take count blocks.old)
+    ensures first { Each (D.processed (fips.key_expansion (key_of_lanes keys.now)))
+        (take count blocks.old)
         (take count blocks.new) }
     ensures others { drop count blocks.new ≡ drop count blocks.old }
 {
@@ -61,8 +50,9 @@ fn process_first<D: PlaneCipher, W: Word>(keys: &[Block], blocks: &mut [Block], 
     }
 }
 
-/// Processes each block of a slice in place: whole batches on planes, and the others by vector permutations where they are
-/// few, since these take less time so. `keys` are the stored round keys of Cipher, and `used` those of the direction.
+/// Processes each block of a slice in place: whole batches on planes, and the others by vector
+/// permutations where they are few, since these take less time so. `keys` are the stored round keys
+/// of Cipher, and `used` those of the direction.
 #[tactic(auto, using(crate::proofs::Fronts::first_then_others))]
 pub fn process_few_or_many<D: LaneRounds + PlaneCipher, W: Width>(
     keys: &[Block],
@@ -71,10 +61,10 @@ pub fn process_few_or_many<D: LaneRounds + PlaneCipher, W: Width>(
 )
     requires keyed { IsCipherSchedule keys.now }
     requires used { round_keys_of D.form used.now ≡ D.form.used_keys (encrypting keys.now) }
-    ensures { Each (D.processed (fips.key_expansion (key_of_lanes keys.now))) blocks.old blocks.new }
+    ensures { Each (D.processed (fips.key_expansion (key_of_lanes keys.now)))
+        blocks.old blocks.new }
 {
-    D::uses_all();
     let whole = blocks_on_planes::<D, W>(blocks.len());
     process_first::<D, W::Many>(keys, blocks, whole);
-    process_few::<D, W>(used, &mut blocks[whole..]);
+    OnLanes::<D, W>::new(keys, used).process_few(&mut blocks[whole..]);
 }

@@ -1,5 +1,5 @@
-//! Callers' closures, called with a backend that suits a number of blocks: on planes, which are wiped before the call returns,
-//! if they are many.
+//! Callers' closures, called with a backend that suits a number of blocks: on planes, which are
+//! wiped before the call returns, if they are many.
 
 ghost use Rattle.std.specs.Prelude.{◌≡◌};
 ghost use Rattle.aes_planes.specs.Fips197 as fips;
@@ -13,8 +13,8 @@ use aes_cipher::cipher::{BlockCipherDecClosure, BlockCipherEncClosure, Decrypt, 
 use aes_cipher::zeroize::wipe_stack;
 use aes_planes::soft::word::Block;
 
-// How many bytes of stack a closure takes at most that works on batches, as those of this library's modes do. From 2 KB on
-// libc's memset takes a slower way.
+// How many bytes of stack a closure takes at most that works on batches, as those of this library's
+// modes do. From 2 KB on libc's memset takes a slower way.
 const CLOSURE_STACK: usize = 2032;
 
 // Calls a closure with planes to encrypt. In a call of its own, so that its stack can be wiped.
@@ -22,14 +22,16 @@ const CLOSURE_STACK: usize = 2032;
 fn call_to_encrypt<W: Width, F: BlockCipherEncClosure>(keys: &[Block], words: &[W::Many], f: &mut F)
     requires keyed { IsCipherSchedule keys.now }
     requires is_schedule { soft.IsFullSchedule W.Many.bits W.Many.BLOCKS words.now }
-    requires same_key { soft.key_of_planes W.Many.bits W.Many.BLOCKS words.now ≡ key_of_lanes keys.now }
+    requires same_key { soft.key_of_planes W.Many.bits W.Many.BLOCKS words.now
+        ≡ key_of_lanes keys.now }
     ensures { F.did f.old (fips.key_expansion (key_of_lanes keys.now)) f.new }
 {
     f.call(&Batches::new(OnLanes::<Encrypt, W>::new(keys, keys), words));
 }
 
-// Lends planes to encrypt. They are wiped before the call returns, with the stack that the closure took. Never inlined: few
-// blocks need no large frame, and what a caller leaves below its own frame isn't deep.
+// Lends planes to encrypt. They are wiped before the call returns, with the
+// stack that the closure took. Never inlined: few blocks need no large frame,
+// and what a caller leaves below its own frame isn't deep.
 #[inline(never)]
 fn lend_planes_to_encrypt<W: Width, F: BlockCipherEncClosure>(keys: &[Block], f: &mut F)
     requires { IsCipherSchedule keys.now }
@@ -70,7 +72,8 @@ fn call_to_decrypt<W: Width, F: BlockCipherDecClosure>(
     requires keyed { IsCipherSchedule keys.now }
     requires inverse { AreInverse inverse.now keys.now }
     requires is_schedule { soft.IsFullSchedule W.Many.bits W.Many.BLOCKS words.now }
-    requires same_key { soft.key_of_planes W.Many.bits W.Many.BLOCKS words.now ≡ key_of_lanes keys.now }
+    requires same_key { soft.key_of_planes W.Many.bits W.Many.BLOCKS words.now
+        ≡ key_of_lanes keys.now }
     ensures { F.did f.old (fips.key_expansion (key_of_lanes keys.now)) f.new }
 {
     f.call(&Batches::new(OnLanes::<Decrypt, W>::new(keys, inverse), words));
@@ -94,7 +97,8 @@ fn lend_planes_to_decrypt<W: Width, F: BlockCipherDecClosure>(
     wipe_stack::<CLOSURE_STACK>();
 }
 
-/// Calls a closure with a backend that decrypts under those and the ones of EqInvCipher of the same key.
+/// Calls a closure with a backend that decrypts under those and
+/// the ones of EqInvCipher of the same key.
 #[inline(always)]
 pub(crate) fn lend_to_decrypt<W: Width, F: BlockCipherDecClosure>(
     keys: &[Block],

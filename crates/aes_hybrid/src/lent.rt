@@ -14,8 +14,8 @@ use aes_planes::soft::word::Block;
 use std::marker::{Model, PhantomData};
 use std::slice;
 
-/// Stored round keys of Cipher, lent to encrypt. The backend for many blocks has planes for whole batches, and that for few
-/// vector permutations alone. Contracts see a value as its key.
+/// Stored round keys of Cipher, lent to encrypt. The backend for many blocks has planes for whole
+/// batches, and that for few vector permutations alone. Contracts see a value as its key.
 pub struct Lent<'a, W = Narrow> {
     keys: &'a [Block],
     width: PhantomData<W>,

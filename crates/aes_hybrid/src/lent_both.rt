@@ -15,7 +15,8 @@ use aes_planes::soft::word::Block;
 use std::marker::{Model, PhantomData};
 use std::slice;
 
-/// Stored round keys of Cipher and of EqInvCipher, lent to decrypt. Contracts see a value as its key.
+/// Stored round keys of Cipher and of EqInvCipher, lent to
+/// decrypt. Contracts see a value as its key.
 pub struct LentBoth<'a, W> {
     keys: &'a [Block],
     inverse: &'a [Block],
@@ -38,7 +39,8 @@ impl<'a, W> Model for LentBoth<'a, W> {
 
     ghost view = { λ lent. key_of_lanes lent.keys.now };
 
-    ghost invariant = { λ lent. IsCipherSchedule lent.keys.now × AreInverse lent.inverse.now lent.keys.now };
+    ghost invariant = { λ lent. IsCipherSchedule lent.keys.now
+        × AreInverse lent.inverse.now lent.keys.now };
 }
 
 impl<'a, W> LentBoth<'a, W> {

@@ -1,6 +1,7 @@
 //! Round keys of vector permutations as planes: the S-box of their schedule serves both forms.
 
-ghost use Rattle.std.specs.Prelude.{◌≡◌, ◌⊎◌, ℕ, ◌+◌, ◌*◌, ◌%◌, ◌<◌, ◌≤◌, false, length, map, replicate, take};
+ghost use Rattle.std.specs.Prelude.{◌≡◌, ◌⊎◌, ℕ, ◌+◌, ◌*◌, ◌%◌, ◌<◌, ◌≤◌, false, length, map};
+ghost use Rattle.std.specs.Prelude.{replicate, take};
 ghost use Rattle.aes_planes.specs.Fips197 as fips;
 ghost use Rattle.aes_planes.specs.Planes.{held, words_at};
 ghost use Rattle.aes_soft.specs.Stored as soft;
@@ -46,8 +47,8 @@ fn shifted_back_times(x: u8x16, times: usize) -> u8x16
     x
 }
 
-// The block that planes hold for a stored round key of Cipher between the first and the last: it has the constant of
-// the S-box twice, which is not at all.
+// The block that planes hold for a stored round key of Cipher between the first and the last: it
+// has the constant of the S-box twice, which is not at all.
 #[inline(always)]
 fn block_for_planes(stored: &Block, number: usize) -> Block
     ensures { result ≡ fips.inv_shift_times (number % 4) (map untower stored.now) }
@@ -61,14 +62,17 @@ fn block_for_planes(stored: &Block, number: usize) -> Block
 #[inline(always)]
 fn store_in_every_slot<W: Word>(words: &mut [W], i: usize, block: &Block)
     requires room { 8 * i + 8 ≤ length words.old }
-    ensures there { held W.BLOCKS (map W.bits (words_at words.new (8 * i))) ≡ replicate W.BLOCKS block.now }
-    ensures others { (o : ℕ) → (o + 8 ≤ 8 * i) ⊎ (8 * i + 8 ≤ o) → words_at words.new o ≡ words_at words.old o }
+    ensures there { held W.BLOCKS (map W.bits (words_at words.new (8 * i)))
+        ≡ replicate W.BLOCKS block.now }
+    ensures others { (o : ℕ) → (o + 8 ≤ 8 * i) ⊎ (8 * i + 8 ≤ o)
+        → words_at words.new o ≡ words_at words.old o }
     ensures same_length { length words.new ≡ length words.old }
 {
     store_round_key(words, i, &W::in_every_slot(block));
 }
 
-/// Writes stored round keys of Cipher to words, as the full layout of planes stores those of the same key.
+/// Writes stored round keys of Cipher to words, as the full layout
+/// of planes stores those of the same key.
 pub fn store_planes<W: Word>(words: &mut [W], keys: &[Block])
     requires sized { length words.old ≡ 8 * length keys.now }
     requires keyed { IsCipherSchedule keys.now }
@@ -84,8 +88,8 @@ pub fn store_planes<W: Word>(words: &mut [W], keys: &[Block])
     store_in_every_slot(words, last, &keys[last]);
 }
 
-/// Round keys on planes, in room for those of the largest key. A drop requires zeros, so code that drops them without a
-/// wipe isn't proved.
+/// Round keys on planes, in room for those of the largest key. A drop requires zeros, so code that
+/// drops them without a wipe isn't proved.
 pub(crate) struct PlaneKeys<W: Word> {
     room: [W; 120],
 }
@@ -104,7 +108,8 @@ impl<W: Word> PlaneKeys<W> {
     pub(crate) fn store(&mut self, keys: &[Block])
         requires keyed { IsCipherSchedule keys.now }
         ensures is_schedule { soft.IsFullSchedule W.bits W.BLOCKS (take (8 * length keys.now) self.new.room) }
-        ensures key { soft.key_of_planes W.bits W.BLOCKS (take (8 * length keys.now) self.new.room) ≡ key_of_lanes keys.now }
+        ensures key { soft.key_of_planes W.bits W.BLOCKS (take (8 * length keys.now) self.new.room)
+            ≡ key_of_lanes keys.now }
     {
         store_planes(&mut self.room[..8 * keys.len()], keys);
     }

@@ -1,5 +1,5 @@
-//! How wide vectors and words are: a choice by type, since the processor decides which is quicker. The numbers of blocks
-//! from which planes take less time stand here too, as they were measured.
+//! How wide vectors and words are: a choice by type, since the processor decides which is quicker.
+//! The numbers of blocks from which planes take less time stand here too, as they were measured.
 
 ghost use Rattle.std.specs.Prelude.{◌≡◌, refl};
 
@@ -9,7 +9,8 @@ use aes_planes::soft::word::{Batch, Word};
 use aes_soft::soft::blocks::BatchWord;
 use std::simd::prelude::*;
 
-/// A width of vectors and words. Callers name one of the two below; contracts are the same for both.
+/// A width of vectors and words. Callers name one of the two
+/// below; contracts are the same for both.
 pub trait Width {
     /// The vectors on which few blocks are processed.
     type Few: Lanes;
@@ -20,7 +21,8 @@ pub trait Width {
     /// How many blocks these planes hold, as a type.
     type Par: BatchSize;
 
-    /// From how many blocks on encryption takes less time on planes, whose round keys are yet to be made.
+    /// From how many blocks on encryption takes less time on
+    /// planes, whose round keys are yet to be made.
     const LEAST_TO_ENCRYPT: usize;
 
     /// The same for decryption, whose vector permutations take longer.
@@ -29,14 +31,16 @@ pub trait Width {
     /// From how many blocks on a caller's closure gets a backend that has planes.
     const LEAST_FOR_CLOSURES: usize;
 
-    /// The most blocks after whole batches that take less time by vector permutations than as one batch more.
+    /// The most blocks after whole batches that take less time by
+    /// vector permutations than as one batch more.
     const MOST_AFTER_BATCHES: usize;
 
     /// The type for the number of blocks has the number of the word.
     ghost same_number: { Self.Par.PAR_BLOCKS ≡ Self.Many.Blocks.LEN };
 }
 
-/// Vectors and words of 128 bits: two blocks at a time by vector permutations, eight on planes. For every processor.
+/// Vectors and words of 128 bits: two blocks at a time by vector
+/// permutations, eight on planes. For every processor.
 pub struct Narrow;
 
 impl Width for Narrow {
@@ -57,8 +61,8 @@ impl Width for Narrow {
     ghost same_number = { refl };
 }
 
-/// Vectors and words of 256 bits: four blocks at a time by vector permutations, sixteen on planes. For builds for a processor
-/// that has vectors of that size; on others this is slower.
+/// Vectors and words of 256 bits: four blocks at a time by vector permutations, sixteen on planes.
+/// For builds for a processor that has vectors of that size; on others this is slower.
 pub struct Wide;
 
 impl Width for Wide {

@@ -1,6 +1,6 @@
 -- Lemmas on blocks that are written one after the other.
-use Rattle.std.proofs.Common.{◌≡◌, ◌<◌, ◌≤◌, ◌+◌, ◌-◌, ℕ, List, [], ◌∷◌, ◌++◌, sym, ap, ◌∙◌, length, take, drop, map}
-use Rattle.std.proofs.Common.{append_assoc, length-append, take-append-drop, arith}
+use Rattle.std.proofs.Common.{◌≡◌, ◌<◌, ◌≤◌, ◌+◌, ◌-◌, ℕ, List, [], ◌∷◌, ◌++◌, sym, ap, ◌∙◌, length}
+use Rattle.std.proofs.Common.{take, drop, map, append_assoc, length-append, take-append-drop, arith}
 use Rattle.std.specs.List.{flat_map, join_with_byte}
 use Rattle.std.proofs.lemmas.List.{length-take-le}
 use Rattle.std.proofs.Math.Seq.{take-append_seam}
@@ -15,7 +15,8 @@ flat_map-joined c f x (y ∷ xs) =
     ∙ sym (append_assoc (f x) (c ∷ join_with_byte c (map f (y ∷ xs))) (c ∷ []))
 
 -- all but the last separator of all the elements
-pub take_joined : (end c : ℕ) (out : List ℕ) (f : List ℕ → List ℕ) (xs : List (List ℕ)) → 0 < length xs
+pub take_joined : (end c : ℕ) (out : List ℕ) (f : List ℕ → List ℕ) (xs : List (List ℕ))
+    → 0 < length xs
     → end ≤ length out → take end out ≡ flat_map (λ y. f y ++ c ∷ []) xs
     → take (end - 1) out ≡ join_with_byte c (map f xs)
 take_joined end c out f [] some within h = absurd (omega arith)
@@ -29,4 +30,5 @@ take_joined end c out f (x ∷ xs) some within h =
     let parts : out ≡ joined ++ (c ∷ [] ++ drop end out) =
     sym (take-append-drop end out) ∙ ap (λ ys. ys ++ drop end out) whole
     ∙ append_assoc joined (c ∷ []) (drop end out) in
-    ap (λ n. take n out) short ∙ ap (take (length joined)) parts ∙ take-append_seam joined (c ∷ [] ++ drop end out)
+    ap (λ n. take n out) short ∙ ap (take (length joined)) parts
+    ∙ take-append_seam joined (c ∷ [] ++ drop end out)

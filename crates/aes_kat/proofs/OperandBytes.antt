@@ -1,6 +1,6 @@
 -- Lemmas on the words after a command.
-use Rattle.std.proofs.Common.{◌≡◌, ◌*◌, ◌%◌, ℕ, List, true, Result, Ok, Err, is_ok, refl, sym, ap, ◌∙◌}
-use Rattle.std.proofs.Common.{inl, inr, length}
+use Rattle.std.proofs.Common.{◌≡◌, ◌*◌, ◌%◌, ℕ, List, true, Result, Ok, Err, is_ok, refl, sym, ap}
+use Rattle.std.proofs.Common.{◌∙◌, inl, inr, length}
 use Rattle.std.specs.List.{list_all}
 use Rattle.std.proofs.lemmas.Bool.{cases_Bool}
 use Rattle.std.proofs.lemmas.List.Sums.{AllPass-from_list_all, list_all-from_AllPass}
@@ -9,6 +9,7 @@ use Rattle.hex.specs.declared.error.FromHexError.{FromHexError}
 use Rattle.hex.proofs.HexLemmas.{decode_of-ok, decode_of-digits}
 use Rattle.aes_kat.specs.Private.Steps.{decoded, or_none}
 
+-- a result that is one has a value
 ok_value : {A E : Type 0} (r : Result A E) → is_ok r ≡ true → (x : A) × (r ≡ Ok x)
 ok_value (Ok x) h = (x, refl)
 ok_value (Err e) h = cc h
@@ -17,7 +18,8 @@ ok_value (Err e) h = cc h
 pub all_digits : (s : List ℕ) → length s % 2 ≡ 0 → list_all is_hex_digit s ≡ is_ok (decode_of s)
 all_digits s even =
     elim (cases_Bool (list_all is_hex_digit s)) [
-      | inl yes' ↦ yes' ∙ sym (ap is_ok (decode_of-digits s even (AllPass-from_list_all is_hex_digit s yes')).1)
+      | inl yes' ↦ yes' ∙ sym
+          (ap is_ok (decode_of-digits s even (AllPass-from_list_all is_hex_digit s yes')).1)
       | inr no' ↦
           elim (cases_Bool (is_ok (decode_of s))) [
             | inl ok ↦
@@ -28,6 +30,7 @@ all_digits s even =
           ]
     ]
 
+-- the bytes of a result that has some are those
 or_none-ok : (r : Result (List ℕ) FromHexError) (bytes : List ℕ) → r ≡ Ok bytes → or_none r ≡ bytes
 or_none-ok r bytes e = rw e refl
 

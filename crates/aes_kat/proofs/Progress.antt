@@ -1,7 +1,8 @@
 -- Lemmas on what a part of the work has done.
-use Rattle.std.proofs.Common.{◌≡◌, ℕ, List, [], ◌∷◌, ◌++◌, Bool, true, false, ◌||◌, Option, None, Some, IfSome, Result}
-use Rattle.std.proofs.Common.{Ok, Err, OnErr, IsErr, refl, sym, ap, ◌∙◌, subst, append_assoc, append-nil, length, take}
-use Rattle.std.proofs.Common.{◌==◌, if◌then◌else◌, ne_eqb, arith}
+use Rattle.std.proofs.Common.{◌≡◌, ℕ, List, [], ◌∷◌, ◌++◌, Bool, true, false, ◌||◌, Option, None}
+use Rattle.std.proofs.Common.{Some, IfSome, Result, Ok, Err, OnErr, IsErr, refl, sym, ap, ◌∙◌}
+use Rattle.std.proofs.Common.{subst, append_assoc, append-nil, length, take, ◌==◌, if◌then◌else◌}
+use Rattle.std.proofs.Common.{ne_eqb, arith}
 use Rattle.std.proofs.Math.Bool.{or-false}
 use Rattle.std.proofs.lemmas.Grind.{common_steps}
 use Rattle.std.proofs.lemmas.List.Elements.{All-append}
@@ -21,19 +22,23 @@ OnErr-from (Ok x) P p = tt
 OnErr-from (Err e) P p = p
 
 -- all of a text is a beginning of it
-pub AppendsBeginning-whole : (a b : Option (List ℕ)) (xs : List ℕ) → Appends a b xs → AppendsBeginning a b xs
+pub AppendsBeginning-whole : (a b : Option (List ℕ)) (xs : List ℕ) → Appends a b xs
+    → AppendsBeginning a b xs
 AppendsBeginning-whole a b xs h = (xs, h, ([], sym (append-nil xs)))
 
 -- a text that is gathered from nothing is all that a slice of it has
-pub only_gathered : (slice new old text : List ℕ) → slice ≡ new → new ≡ old ++ text → old ≡ [] → slice ≡ text
+pub only_gathered : (slice new old text : List ℕ) → slice ≡ new → new ≡ old ++ text → old ≡ []
+    → slice ≡ text
 only_gathered slice new old text all more none = all ∙ more ∙ ap (λ xs. xs ++ text) none
 
 -- ---- the answers to a text
 
+-- an or of three parts, from either end
 or-assoc : (a b c : Bool) → ((a || b) || c) ≡ (a || (b || c))
 or-assoc true b c = refl
 or-assoc false b c = refl
 
+-- a text that goes on isn't empty
 some_byte : (x : ℕ) (text : List ℕ) → (length (x ∷ text) == 0) ≡ false
 some_byte x text = ne_eqb _ _ (λ none. absurd (omega (arith, none)))
 
@@ -64,21 +69,26 @@ Answered-line : (line after : List ℕ) → Lacks 10 line
     → Answered (line ++ 10 ∷ after) after (reply_to line ++ 10 ∷ []) (is_fault line)
 unfolding answers_to has_fault
 Answered-line line after lacks =
-    let cut : (next : List ℕ) → lines_of ((line ++ 10 ∷ after) ++ next) ≡ line ∷ lines_of (after ++ next) =
-    λ next. ap lines_of (append_assoc line (10 ∷ after) next) ∙ lines_of-cut line (after ++ next) lacks in
+    let cut : (next : List ℕ) → lines_of ((line ++ 10 ∷ after) ++ next)
+    ≡ line ∷ lines_of (after ++ next) =
+    λ next. ap lines_of (append_assoc line (10 ∷ after) next)
+    ∙ lines_of-cut line (after ++ next) lacks in
     record {
       answers = λ next. ap (flat_map (λ l. reply_to l ++ 10 ∷ [])) (cut next);
       faults = λ next. ap (list_any is_fault) (cut next);
     }
 
 -- one part of the work after another
-Answered-trans : (a b c w v : List ℕ) (fault more : Bool) → Answered a b w fault → Answered b c v more
+Answered-trans : (a b c w v : List ℕ) (fault more : Bool) → Answered a b w fault
+    → Answered b c v more
     → Answered a c (w ++ v) (fault || more)
 Answered-trans a b c w v fault more h k = record {
   answers = λ next.
-      h.answers next ∙ ap (λ xs. w ++ xs) (k.answers next) ∙ sym (append_assoc w v (answers_to (c ++ next)));
+      h.answers next ∙ ap (λ xs. w ++ xs) (k.answers next)
+      ∙ sym (append_assoc w v (answers_to (c ++ next)));
   faults = λ next.
-      h.faults next ∙ ap (λ f. fault || f) (k.faults next) ∙ sym (or-assoc fault more (has_fault (c ++ next)));
+      h.faults next ∙ ap (λ f. fault || f) (k.faults next)
+      ∙ sym (or-assoc fault more (has_fault (c ++ next)));
 }
 
 -- the same work, while more of the text is known
@@ -93,14 +103,18 @@ Answered-more a b w chunk fault h = record {
 
 -- one more line is answered: what was begun, and the chunk up to the line end
 pub Gathers-line : (a b c before begun front line rest after cleared : List ℕ) (fault is : Bool)
-    → Gathers a b before (begun ++ rest) fault → Lacks 10 begun → Lacks 10 front → rest ≡ front ++ 10 ∷ after
-    → line ≡ begun ++ front → c ≡ b ++ (reply_to line ++ 10 ∷ []) → is ≡ is_fault line → cleared ≡ []
+    → Gathers a b before (begun ++ rest) fault → Lacks 10 begun → Lacks 10 front
+    → rest ≡ front ++ 10 ∷ after
+    → line ≡ begun ++ front → c ≡ b ++ (reply_to line ++ 10 ∷ []) → is ≡ is_fault line
+    → cleared ≡ []
     → Gathers a c before (cleared ++ after) (fault || is)
-Gathers-line a b c before begun front line rest after cleared fault is h p q cut whole more told none =
+Gathers-line a b c before begun front line rest after cleared fault is h p q cut whole
+    more told none =
     let all : begun ++ rest ≡ line ++ 10 ∷ after =
     ap (λ xs. begun ++ xs) cut ∙ sym (append_assoc begun front (10 ∷ after))
     ∙ ap (λ xs. xs ++ 10 ∷ after) (sym whole) in
-    let lacks : Lacks 10 line = subst (Lacks 10) (sym whole) (All-append (λ b. (b == 10) ≡ false) begun front p q) in
+    let lacks : Lacks 10 line =
+    subst (Lacks 10) (sym whole) (All-append (λ b. (b == 10) ≡ false) begun front p q) in
     let answer = reply_to line ++ 10 ∷ [] in
     let done : Answered before after (h.0 ++ answer) (fault || is_fault line) =
     Answered-trans before (line ++ 10 ∷ after) after h.0 answer fault (is_fault line)
@@ -113,12 +127,15 @@ Gathers-line a b c before begun front line rest after cleared fault is h p q cut
 -- ---- what is written
 
 -- it stops where it stands
-pub StopsWithin-here : (a b : Option (List ℕ)) (before after : List ℕ) (fault : Bool) → Advances a b before after fault
+pub StopsWithin-here : (a b : Option (List ℕ)) (before after : List ℕ) (fault : Bool)
+    → Advances a b before after fault
     → StopsWithin a b before
-StopsWithin-here a b before after fault h = (h.0, h.1, λ next. (answers_to (after ++ next), h.2.answers next))
+StopsWithin-here a b before after fault h =
+    (h.0, h.1, λ next. (answers_to (after ++ next), h.2.answers next))
 
 -- it stops within what was gathered from nothing
-pub StopsWithin-written : (a b : Option (List ℕ)) (none all before after : List ℕ) (fault : Bool) → none ≡ []
+pub StopsWithin-written : (a b : Option (List ℕ)) (none all before after : List ℕ)
+    (fault : Bool) → none ≡ []
     → Gathers none all before after fault → AppendsBeginning a b all → StopsWithin a b before
 StopsWithin-written a b none all before after fault e h stop =
     let within = rw (h.1, e) at stop in (
@@ -127,13 +144,16 @@ StopsWithin-written a b none all before after fault e h stop =
       λ next.
           let later = answers_to (after ++ next) in (
             within.2.0 ++ later,
-            h.2.answers next ∙ ap (λ xs. xs ++ later) within.2.1 ∙ append_assoc within.0 within.2.0 later,
+            h.2.answers next ∙ ap (λ xs. xs ++ later) within.2.1
+                ∙ append_assoc within.0 within.2.0 later,
           ),
     )
 
-module _ (a b c : Option (List ℕ)) (before line : List ℕ) (fault : Bool) (h : Advances a b before line fault) where
+module _ (a b c : Option (List ℕ)) (before line : List ℕ) (fault : Bool)
+    (h : Advances a b before line fault) where
   -- one chunk after the others
-  pub Advances-chunk : (chunk after : List ℕ) (more : Bool) → Advances b c (line ++ chunk) after more
+  pub Advances-chunk : (chunk after : List ℕ) (more : Bool)
+      → Advances b c (line ++ chunk) after more
       → Advances a c (before ++ chunk) after (fault || more)
   Advances-chunk chunk after more k = (
     h.0 ++ k.0,
@@ -143,7 +163,8 @@ module _ (a b c : Option (List ℕ)) (before line : List ℕ) (fault : Bool) (h 
   )
 
   -- it stops within a chunk
-  pub StopsWithin-chunk : (chunk : List ℕ) → StopsWithin b c (line ++ chunk) → StopsWithin a c (before ++ chunk)
+  pub StopsWithin-chunk : (chunk : List ℕ) → StopsWithin b c (line ++ chunk)
+      → StopsWithin a c (before ++ chunk)
   StopsWithin-chunk chunk stop = (
     h.0 ++ stop.0,
     Appends-trans a b c h.0 stop.0 h.1 stop.1,
@@ -156,13 +177,15 @@ module _ (a b c : Option (List ℕ)) (before line : List ℕ) (fault : Bool) (h 
   )
 
   -- it stops within the answers to what is left of the text, which has ended
-  pub AppendsBeginning-ended : AppendsBeginning b c (answers_to line) → AppendsBeginning a c (answers_to before)
+  pub AppendsBeginning-ended : AppendsBeginning b c (answers_to line)
+      → AppendsBeginning a c (answers_to before)
   AppendsBeginning-ended stop = (
     h.0 ++ stop.0,
     Appends-trans a b c h.0 stop.0 h.1 stop.1,
     (
       stop.2.0,
-      simp append-nil at (h.2.answers []) ∙ ap (λ xs. h.0 ++ xs) stop.2.1 ∙ sym (append_assoc h.0 stop.0 stop.2.0),
+      simp append-nil at (h.2.answers []) ∙ ap (λ xs. h.0 ++ xs) stop.2.1
+          ∙ sym (append_assoc h.0 stop.0 stop.2.0),
     ),
   )
 
@@ -170,14 +193,18 @@ module _ (a b c : Option (List ℕ)) (before line : List ℕ) (fault : Bool) (h 
 
 -- a read of no byte, at the end: the reader held the bytes that were read before it
 pub held-ended : (r s t : Option (List ℕ)) (text buffer : List ℕ) (count : ℕ) (P : List ℕ → Type 0)
-    → Consumes r s text → Consumes s t (take count buffer) → count ≡ 0 → IsAtEnd t → P text → IfSome r P
+    → Consumes r s text → Consumes s t (take count buffer) → count ≡ 0 → IsAtEnd t
+    → P text → IfSome r P
 held-ended r s t text buffer count P h more none ended p =
-    let whole : text ++ take count buffer ≡ text = ap (λ n. text ++ take n buffer) none ∙ append-nil text in
+    let whole : text ++ take count buffer ≡ text = ap (λ n. text ++ take n buffer) none
+    ∙ append-nil text in
     let all = Consumes-trans r s t text (take count buffer) h more in
     Consumes-whole r t text P (subst (Consumes r t) whole all) ended p
 
--- what stops within the answers to the bytes that were read stops within the answers to all that the reader held
-pub stops-held : (r s a b : Option (List ℕ)) (text : List ℕ) → Consumes r s text → StopsWithin a b text
+-- what stops within the answers to the bytes that were read stops
+-- within the answers to all that the reader held
+pub stops-held : (r s a b : Option (List ℕ)) (text : List ℕ) → Consumes r s text
+    → StopsWithin a b text
     → IfSome r (λ held. AppendsBeginning a b (answers_to held))
 stops-held None s a b text read stop = tt
 stops-held (Some held) None a b text read stop = absurd read
@@ -188,6 +215,7 @@ stops-held (Some held) (Some rest) a b text read stop =
 
 -- it fails, and what it has written is a beginning of the answers
 pub Runs-failed : (r : Result Bool Failed) (input left output written : Option (List ℕ)) → IsErr r
-    → IfSome input (λ text. AppendsBeginning output written (answers_to text)) → Runs r input left output written
+    → IfSome input (λ text. AppendsBeginning output written (answers_to text))
+    → Runs r input left output written
 Runs-failed (Ok fault) input left output written e h = cc e
 Runs-failed (Err failed) input left output written e h = h

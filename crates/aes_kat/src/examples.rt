@@ -3,9 +3,11 @@
 //!
 //! The answers are those that FIPS 197 prints.
 
-ghost use Rattle.std.specs.Prelude.{◌≡◌, ◌∷◌, [], ◌++◌, codes, true, false, map};
+ghost use Rattle.std.specs.Prelude.{◌≡◌, ◌∷◌, [], ◌++◌, codes, true, false, map, Ok, Err};
 ghost use Rattle.aes_kat.specs.Answers.{answers_to, has_fault};
+ghost use Rattle.aes_kat.specs.declared.runs.Failed.{Failed};
 ghost use Rattle.aes_kat.specs.Reply.{reply_to, is_fault, is_key_size, is_size_of_blocks};
+ghost use Rattle.aes_kat.specs.Status.{status_of};
 
 use aes_planes::examples;
 
@@ -77,4 +79,11 @@ pub fn text_answers()
         ≡ codes "error hex" ++ 10 ∷ codes "error command" ++ 10 ∷ codes "error block" ++ 10 ∷ [] }
     ensures fault { has_fault (codes "mix 00") ≡ true }
     ensures none { has_fault [] ≡ false }
+{}
+
+/// The exit status where every line was answered, where one was at fault, and where the run failed.
+pub fn status_examples()
+    ensures answered { status_of (Ok false) ≡ 0 }
+    ensures fault { status_of (Ok true) ≡ 1 }
+    ensures failed { (failed : Failed) → status_of (Err failed) ≡ 2 }
 {}

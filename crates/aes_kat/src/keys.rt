@@ -39,8 +39,8 @@ impl Key {
     }
 }
 
-// Encrypts each block by the library's type for a size. With the size as a parameter, the type is proved to be a cipher
-// once for all sizes.
+// Encrypts each block by the library's type for a size. With the size as a parameter, the type is
+// proved to be a cipher once for all sizes.
 fn encrypt_sized<K: KeySize>(key: &K::Key, blocks: &mut [Block])
     ensures { Each (fips.cipher (K.bytes key.now)) blocks.old blocks.new }
 {

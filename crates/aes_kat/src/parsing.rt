@@ -19,7 +19,8 @@ pub(crate) struct Request<'a> {
 // The first word, and what follows the space after it.
 #[tactic(auto, using(crate::proofs::Lines::words_of_split, crate::proofs::Lines::words_of_one))]
 fn first_word(text: &[u8]) -> (&[u8], Option<&[u8]>)
-    ensures { words_of text.now ≡ result.0.now ∷ option_map_or (λ rest. words_of rest.now) result.1 [] }
+    ensures { words_of text.now ≡ result.0.now
+        ∷ option_map_or (λ rest. words_of rest.now) result.1 [] }
 {
     match split_once(text, b' ') {
         Some((word, rest)) => (word, Some(rest)),

@@ -21,7 +21,8 @@ pub(crate) type ReplyBuffer = [u8; 2048];
 fn answer_enc(key: &[u8], blocks: &[u8], out: &mut ReplyBuffer) -> Result<usize, Fault>
     requires key_digits { is_ok (decode_of key.now) ≡ true }
     requires block_digits { is_ok (decode_of blocks.now) ≡ true }
-    ensures { IsAnswered (answer_of Command.Encrypt (decoded key.now) (decoded blocks.now)) result out.new }
+    ensures { IsAnswered (answer_of Command.Encrypt (decoded key.now) (decoded blocks.now))
+        result out.new }
 {
     let key = key_operand(key)?;
     let mut buffer = [[0u8; 16]; MOST_BLOCKS];
@@ -35,7 +36,8 @@ fn answer_enc(key: &[u8], blocks: &[u8], out: &mut ReplyBuffer) -> Result<usize,
 fn answer_dec(key: &[u8], blocks: &[u8], out: &mut ReplyBuffer) -> Result<usize, Fault>
     requires key_digits { is_ok (decode_of key.now) ≡ true }
     requires block_digits { is_ok (decode_of blocks.now) ≡ true }
-    ensures { IsAnswered (answer_of Command.Decrypt (decoded key.now) (decoded blocks.now)) result out.new }
+    ensures { IsAnswered (answer_of Command.Decrypt (decoded key.now) (decoded blocks.now))
+        result out.new }
 {
     let key = key_operand(key)?;
     let mut buffer = [[0u8; 16]; MOST_BLOCKS];
@@ -62,7 +64,8 @@ fn answer_sched(key: &[u8], out: &mut ReplyBuffer) -> Result<usize, Fault>
 fn answer_asked(asked: &Request<'_>, out: &mut ReplyBuffer) -> Result<usize, Fault>
     requires first_digits { is_ok (decode_of asked.now.first.now) ≡ true }
     requires second_digits { is_ok (decode_of asked.now.second.now) ≡ true }
-    ensures { IsAnswered (answer_of asked.now.command (decoded asked.now.first.now) (decoded asked.now.second.now))
+    ensures { IsAnswered
+        (answer_of asked.now.command (decoded asked.now.first.now) (decoded asked.now.second.now))
         result out.new }
 {
     match asked.command {
@@ -106,7 +109,8 @@ fn answer(line: &[u8], out: &mut ReplyBuffer) -> Result<usize, Fault>
     answer_asked(&asked, out)
 }
 
-/// Writes the reply to a line, without its line end, at the front of `out`, which is as long as the longest reply.
+/// Writes the reply to a line, without its line end, at the front of
+/// `out`, which is as long as the longest reply.
 ///
 /// Returns the length of the reply, and whether it reports a fault.
 #[tactic(auto, unfolding(crate::specs::Reply::reply_to, crate::specs::Reply::is_fault))]

@@ -37,7 +37,8 @@ const CHUNK: usize = 64 * 1024;
 // Writes all of `bytes`. A write that takes no byte fails, and so does one that was interrupted.
 fn write_whole<W: Write>(output: &mut W, bytes: &[u8]) -> Result<(), Failed>
     ensures all { OnOk result (Appends (W.contents output.old) (W.contents output.new) bytes.now) }
-    ensures beginning { OnErr result (AppendsBeginning (W.contents output.old) (W.contents output.new) bytes.now) }
+    ensures beginning { OnErr result
+        (AppendsBeginning (W.contents output.old) (W.contents output.new) bytes.now) }
 {
     let mut rest = bytes;
     while !rest.is_empty() {
@@ -52,7 +53,8 @@ fn write_whole<W: Write>(output: &mut W, bytes: &[u8]) -> Result<(), Failed>
 
 // Appends the reply to a line and its line end to `answers`.
 fn append_reply_line<A: Allocator>(line: &[u8], answers: &mut Vec<u8, A>) -> Result<bool, Failed>
-    ensures text { OnOk result (answers.new.items ≡ answers.old.items ++ (reply_to line.now ++ 10 ∷ [])) }
+    ensures text { OnOk result (answers.new.items
+        ≡ answers.old.items ++ (reply_to line.now ++ 10 ∷ [])) }
     ensures fault { IfOk result (λ fault. fault ≡ is_fault line.now) }
 {
     let mut text: ReplyBuffer = [0; 2048];
@@ -62,8 +64,8 @@ fn append_reply_line<A: Allocator>(line: &[u8], answers: &mut Vec<u8, A>) -> Res
     Ok(fault)
 }
 
-// Answers each line that ends in `chunk`, the first of which begins with `line`, and leaves in `line` the beginning of
-// the next one.
+// Answers each line that ends in `chunk`, the first of which begins with `line`, and leaves in
+// `line` the beginning of the next one.
 fn gather<A: Allocator>(
     chunk: &[u8],
     line: &mut Vec<u8, A>,
@@ -126,7 +128,8 @@ fn finish<A: Allocator, W: Write>(
     output: &mut W,
 ) -> Result<bool, Failed>
     requires { Lacks 10 line.now }
-    ensures written { OnOk result (Appends (W.contents output.old) (W.contents output.new) (answers_to line.now)) }
+    ensures written { OnOk result
+        (Appends (W.contents output.old) (W.contents output.new) (answers_to line.now)) }
     ensures fault { IfOk result (λ fault. fault ≡ has_fault line.now) }
     ensures stopped { OnErr result
         (AppendsBeginning (W.contents output.old) (W.contents output.new) (answers_to line.now)) }
@@ -138,7 +141,8 @@ fn finish<A: Allocator, W: Write>(
     Ok(fault)
 }
 
-// A buffer of `size` zeros. No clause says that they are zeros, since a proof that reads so many takes gigabytes.
+// A buffer of `size` zeros. No clause says that they are zeros, since
+// a proof that reads so many takes gigabytes.
 fn zeros<A: Allocator>(alloc: A, size: usize) -> Result<Vec<u8, A>, Failed>
     ensures { IfOk result (λ room. vec_len room ≡ size) }
 {
@@ -151,8 +155,9 @@ fn zeros<A: Allocator>(alloc: A, size: usize) -> Result<Vec<u8, A>, Failed>
 ///
 /// # Errors
 ///
-/// `Failed` if a read or a write fails (an interrupted one does, and so does a write that takes no byte), if an
-/// allocation fails, or if `u64::MAX` reads don't reach the end. What was written is then a beginning of the answers.
+/// `Failed` if a read or a write fails (an interrupted one does, and so does a write that takes no
+/// byte), if an allocation fails, or if `u64::MAX` reads don't reach the end. What was written is
+/// then a beginning of the answers.
 pub fn run<R: Read, W: Write>(alloc: Global, input: &mut R, output: &mut W) -> Result<bool, Failed>
     ensures { Runs result (R.remaining input.old) (R.remaining input.new)
         (W.contents output.old) (W.contents output.new) }
@@ -190,7 +195,8 @@ pub fn run_in<A: Allocator, R: Read, W: Write>(
     Err(Failed)
 }
 
-/// Returns the program's exit status: 0 if every line was answered, 1 if some line was invalid, 2 if the run failed.
+/// Returns the program's exit status: 0 if every line was answered, 1 if
+/// some line was invalid, 2 if the run failed.
 pub fn status(answer: &Result<bool, Failed>) -> u8
     ensures { result ≡ status_of answer.now }
 {

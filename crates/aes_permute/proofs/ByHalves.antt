@@ -1,39 +1,40 @@
 -- Vectors of 32 bytes by their halves, which are two blocks.
-use Rattle.std.proofs.Common.{◌≡◌, ℕ, zero, suc, ◌+◌, ◌-◌, ◌*◌, ◌/◌, ◌^◌, ◌<◌, Bool, true, false, ◌&&◌}
-use Rattle.std.proofs.Common.{◌==◌, cond, List, [], ◌∷◌, ◌++◌, length, map, take, drop, get_or, set, bit_and}
-use Rattle.std.proofs.Common.{replicate, refl, ap, sym, subst, ◌∙◌, arith, w8}
+use Rattle.std.proofs.Common.{◌≡◌, ℕ, zero, suc, ◌+◌, ◌-◌, ◌*◌, ◌/◌, ◌^◌, ◌<◌, Bool, true, false}
+use Rattle.std.proofs.Common.{◌&&◌, ◌==◌, cond, List, [], ◌∷◌, ◌++◌, length, map, take, drop}
+use Rattle.std.proofs.Common.{get_or, set, bit_and, replicate, refl, ap, sym, subst, ◌∙◌, arith, w8}
 use Rattle.std.specs.List.{list_all}
 use Rattle.std.proofs.lemmas.Bool.{and_parts}
-use Rattle.std.proofs.lemmas.List.{length-append, get_or_append_left, get_or-append_right, get_or-drop}
-use Rattle.std.proofs.lemmas.List.{length-map, length-take, length-drop, take_all, take_at, take-append-le, drop_at, take-map, drop-map}
-use Rattle.std.proofs.lemmas.List.{take-append-drop}
-use Rattle.std.proofs.lemmas.Simd.{swz_l, SwzOk, SwzOk-from_Each1, pick_l_left, pick_l-range_with_len, pick_l_whole}
+use Rattle.std.proofs.lemmas.List.{length-append, get_or_append_left, get_or-append_right}
+use Rattle.std.proofs.lemmas.List.{length-map, length-take, length-drop, take_all, take_at}
+use Rattle.std.proofs.lemmas.List.{take-append-le, drop_at, take-map, drop-map, take-append-drop}
+use Rattle.std.proofs.lemmas.Simd.{swz_l, SwzOk, SwzOk-from_Each1, pick_l_left}
+use Rattle.std.proofs.lemmas.Simd.{pick_l-range_with_len, pick_l_whole}
 use lib.Lanes.{zip2, pick_l}
 use mir.Val.{zeroes}
 use Rattle.aes_planes.specs.Fips197.{IsBytes, IsBlock}
+use Rattle.aes_planes.proofs.Standard.States.{take_bytes, drop_bytes}
+use Rattle.aes_planes.proofs.Words.ByteLanes.{sixteen}
+use Rattle.aes_planes.proofs.Words.Wide.{upper_16}
 use Rattle.aes_permute.specs.Lookup.{looked, is_index, low_nibble, high_nibble, AreIndices}
 use Rattle.aes_permute.specs.Vectors.{half, written}
 use Rattle.aes_permute.proofs.Lookups.{looked_from, each_index, low_nibbles_of, high_nibbles_of}
 
 -- ---- blocks in halves
 
-abbrev sixteen : List ℕ
-sixteen = 0 ∷ 1 ∷ 2 ∷ 3 ∷ 4 ∷ 5 ∷ 6 ∷ 7 ∷ 8 ∷ 9 ∷ 10 ∷ 11 ∷ 12 ∷ 13 ∷ 14 ∷ 15 ∷ []
-
-abbrev sixteen_on : List ℕ
-sixteen_on = 16 ∷ 17 ∷ 18 ∷ 19 ∷ 20 ∷ 21 ∷ 22 ∷ 23 ∷ 24 ∷ 25 ∷ 26 ∷ 27 ∷ 28 ∷ 29 ∷ 30 ∷ 31 ∷ []
-
+-- the lanes 0 to 15 of two blocks are the first of them
 first_picked : (x y : List ℕ) → length x ≡ 16 → pick_l 0 (x ++ y) sixteen ≡ x
 first_picked x y long =
-    pick_l-range_with_len 0 (x ++ y) 0 16 (omega (arith, long, length-append x y)) ∙ take_at x y 16 long
+    pick_l-range_with_len 0 (x ++ y) 0 16 (omega (arith, long, length-append x y))
+    ∙ take_at x y 16 long
 
 -- a block picked twice is in both halves
 pub doubled : (x : List ℕ) → IsBlock x → pick_l 0 (x ++ x) (sixteen ++ sixteen) ≡ x ++ x
 doubled x (long, small) = let e = first_picked x x long in λ t. e t ++ e t
 
 -- all lanes of two blocks are one after the other
-pub in_order : (x y : List ℕ) → IsBlock x → IsBlock y → pick_l 0 (x ++ y) (sixteen ++ sixteen_on) ≡ x ++ y
-in_order x y (x_long, x_small) (y_long, y_small) =
+pub both_in_order : (x y : List ℕ) → IsBlock x → IsBlock y
+    → pick_l 0 (x ++ y) (sixteen ++ upper_16) ≡ x ++ y
+both_in_order x y (x_long, x_small) (y_long, y_small) =
     pick_l_whole 0 (x ++ y) 32 (length-append x y ∙ omega (arith, x_long, y_long))
 
 -- the first sixteen lanes are the lower half
@@ -43,14 +44,14 @@ lower_half x long =
     ∙ take-append-le 16 x x (omega (arith, long))
 
 -- and the others the upper half
-pub upper_half : (x : List ℕ) → length x ≡ 32 → pick_l 0 (x ++ x) sixteen_on ≡ drop 16 x
+pub upper_half : (x : List ℕ) → length x ≡ 32 → pick_l 0 (x ++ x) upper_16 ≡ drop 16 x
 upper_half x long =
-    pick_l_left 0 x x 32 sixteen_on long tt
+    pick_l_left 0 x x 32 upper_16 long tt
     ∙ pick_l-range_with_len 0 x 16 16 (omega (arith, long))
     ∙ take_all 16 (drop 16 x) (omega (arith, long, length-drop 16 x))
 
 -- what picks a half
-pub ruleset halves = (lower_half, upper_half)
+pub ruleset picked_halves = (lower_half, upper_half)
 
 -- a block in both halves is each of the two
 pub half_of_both : (x : List ℕ) (i : ℕ) → length x ≡ 16 → half (x ++ x) i ≡ x
@@ -61,23 +62,14 @@ half_of_both x i long = go (i == 0)
     go true = take_at x x 16 long
     go false = drop_at x x 16 long
 
-bytes_taken : (n : ℕ) (x : List ℕ) → IsBytes x → IsBytes (take n x)
-bytes_taken zero x small i = omega arith
-bytes_taken (suc n) [] small i = omega arith
-bytes_taken (suc n) (y ∷ x) small zero = small 0
-bytes_taken (suc n) (y ∷ x) small (suc i) = bytes_taken n x (λ j. small (suc j)) i
-
-bytes_left : (n : ℕ) (x : List ℕ) → IsBytes x → IsBytes (drop n x)
-bytes_left n x small i = subst (λ b. b < 256) (sym (get_or-drop n x i 0)) (small (n + i))
-
 -- each half is a block
 pub half_is_block : (x : List ℕ) (i : ℕ) → length x ≡ 32 → IsBytes x → IsBlock (half x i)
 unfolding half
 half_is_block x i long small = go (i == 0)
   where
     go : (b : Bool) → IsBlock (cond b (take 16 x) (drop 16 x))
-    go true = (omega (arith, length-take 16 x, long), bytes_taken 16 x small)
-    go false = (omega (arith, length-drop 16 x, long), bytes_left 16 x small)
+    go true = (omega (arith, length-take 16 x, long), take_bytes 16 x small)
+    go false = (omega (arith, length-drop 16 x, long), drop_bytes 16 x small)
 
 -- ---- lane by lane
 
@@ -86,28 +78,35 @@ pub half_of_map : (f : ℕ → ℕ) (x : List ℕ) (i : ℕ) → half (map f x) 
 unfolding half
 half_of_map f x i = go (i == 0)
   where
-    go : (b : Bool) → cond b (take 16 (map f x)) (drop 16 (map f x)) ≡ map f (cond b (take 16 x) (drop 16 x))
+    go : (b : Bool) → cond b (take 16 (map f x)) (drop 16 (map f x))
+        ≡ map f (cond b (take 16 x) (drop 16 x))
     go true = take-map f 16 x
     go false = drop-map f 16 x
 
+-- with nothing on the right there is nothing
 zip2_nil : (f : ℕ → ℕ → ℕ) (xs : List ℕ) → zip2 f xs [] ≡ []
 zip2_nil f [] = refl
 zip2_nil f (x ∷ xs) = refl
 
-zip2_take : (f : ℕ → ℕ → ℕ) (n : ℕ) (xs ys : List ℕ) → take n (zip2 f xs ys) ≡ zip2 f (take n xs) (take n ys)
+-- the first lanes of what is made of two vectors are made of the first lanes of both
+pub zip2_take : (f : ℕ → ℕ → ℕ) (n : ℕ) (xs ys : List ℕ)
+    → take n (zip2 f xs ys) ≡ zip2 f (take n xs) (take n ys)
 zip2_take f zero xs ys = refl
 zip2_take f (suc n) [] ys = refl
 zip2_take f (suc n) (x ∷ xs) [] = refl
 zip2_take f (suc n) (x ∷ xs) (y ∷ ys) = ap (λ l. f x y ∷ l) (zip2_take f n xs ys)
 
-zip2_drop : (f : ℕ → ℕ → ℕ) (n : ℕ) (xs ys : List ℕ) → drop n (zip2 f xs ys) ≡ zip2 f (drop n xs) (drop n ys)
+-- and so are the others
+pub zip2_drop : (f : ℕ → ℕ → ℕ) (n : ℕ) (xs ys : List ℕ)
+    → drop n (zip2 f xs ys) ≡ zip2 f (drop n xs) (drop n ys)
 zip2_drop f zero xs ys = refl
 zip2_drop f (suc n) [] ys = refl
 zip2_drop f (suc n) (x ∷ xs) [] = sym (zip2_nil f (drop n xs))
 zip2_drop f (suc n) (x ∷ xs) (y ∷ ys) = zip2_drop f n xs ys
 
 -- so is what two vectors make of each lane of both
-pub half_of_zip : (f : ℕ → ℕ → ℕ) (x y : List ℕ) (i : ℕ) → half (zip2 f x y) i ≡ zip2 f (half x i) (half y i)
+pub half_of_zip : (f : ℕ → ℕ → ℕ) (x y : List ℕ) (i : ℕ)
+    → half (zip2 f x y) i ≡ zip2 f (half x i) (half y i)
 unfolding half
 half_of_zip f x y i = go (i == 0)
   where
@@ -130,7 +129,8 @@ high_of_half x i long small =
 
 -- ---- look-ups in the tables of the halves
 
-indices_append : (xs ys : List ℕ) → AreIndices xs → AreIndices ys → AreIndices (xs ++ ys)
+-- indices after indices are indices
+pub indices_append : (xs ys : List ℕ) → AreIndices xs → AreIndices ys → AreIndices (xs ++ ys)
 indices_append [] ys h k = k
 indices_append (x ∷ xs) ys h k =
     let both = and_parts (is_index x) (list_all is_index xs) h in
@@ -142,26 +142,31 @@ unfolding half
 indices_of_halves x h =
     subst AreIndices (take-append-drop 16 x) (indices_append (take 16 x) (drop 16 x) (h 0) (h 1))
 
-swz_append : (xs ps qs : List ℕ) (i : ℕ)
+-- a shuffle by two lists of places, one after the other, as their lanes go on
+pub swz_append : (xs ps qs : List ℕ) (i : ℕ)
     → swz_l w8 16 xs i (ps ++ qs) ≡ swz_l w8 16 xs i ps ++ swz_l w8 16 xs (i + length ps) qs
 swz_append xs [] qs i = let e : i ≡ i + 0 = omega arith in ap (λ n. swz_l w8 16 xs n qs) e
 swz_append xs (p ∷ ps) qs i =
     let e : suc i + length ps ≡ i + suc (length ps) = omega arith in
-    let rest = swz_append xs ps qs (suc i) ∙ ap (λ n. swz_l w8 16 xs (suc i) ps ++ swz_l w8 16 xs n qs) e in
+    let rest = swz_append xs ps qs (suc i)
+    ∙ ap (λ n. swz_l w8 16 xs (suc i) ps ++ swz_l w8 16 xs n qs) e in
     λ k. cond (zeroes 16 w8 p) 0 (get_or xs (16 * (i / 16) + p) 0) ∷ rest k
 
 -- each half of the places reads the table in the same half
-looked_in_halves : (t u p q : List ℕ) → length t ≡ 16 → length p ≡ 16 → length q ≡ 16
-    → AreIndices p → AreIndices q → swz_l w8 16 (t ++ u) 0 (p ++ q) ≡ map (looked t) p ++ map (looked u) q
+pub looked_in_halves : (t u p q : List ℕ) → length t ≡ 16 → length p ≡ 16 → length q ≡ 16
+    → AreIndices p → AreIndices q → swz_l w8 16 (t ++ u) 0 (p ++ q)
+    ≡ map (looked t) p ++ map (looked u) q
 looked_in_halves t u p q t_long p_long q_long p_are q_are =
     let start : 0 + length p ≡ 16 = omega (arith, p_long) in
     swz_append (t ++ u) p q 0
     ∙ ap (λ n. swz_l w8 16 (t ++ u) 0 p ++ swz_l w8 16 (t ++ u) n q) start
     ∙ (λ k. looked_from (t ++ u) t 0 (λ j h. let e : 16 * 0 + j ≡ j = omega arith in
-    ap (λ n. get_or (t ++ u) n 0) e ∙ get_or_append_left t u 0 j (omega (arith, h, t_long))) p 0 (omega arith)
+    ap (λ n. get_or (t ++ u) n 0) e ∙ get_or_append_left t u 0 j (omega (arith, h, t_long))) p 0
+    (omega arith)
     (omega (arith, p_long)) p_are k
     ++ looked_from (t ++ u) u 1 (λ j h. let e : 16 * 1 + j - 16 ≡ j = omega arith in
-    get_or-append_right t u 16 (16 * 1 + j) 0 t_long (omega arith) ∙ ap (λ n. get_or u n 0) e) q 16 (omega arith)
+    get_or-append_right t u 16 (16 * 1 + j) 0 t_long (omega arith) ∙ ap (λ n. get_or u n 0) e) q 16
+    (omega arith)
     (omega (arith, q_long)) q_are k)
 
 -- of two tables and the places of two blocks, each half is a look-up
@@ -170,22 +175,26 @@ looked_by_halves : (t u p q : List ℕ) (b : Bool) → length t ≡ 16 → lengt
     → cond b (take 16 (swz_l w8 16 (t ++ u) 0 (p ++ q))) (drop 16 (swz_l w8 16 (t ++ u) 0 (p ++ q)))
     ≡ map (looked (cond b t u)) (cond b p q)
 looked_by_halves t u p q b t_long p_long q_long p_are q_are =
-    ap (λ l. cond b (take 16 l) (drop 16 l)) (looked_in_halves t u p q t_long p_long q_long p_are q_are) ∙ go b
+    ap (λ l. cond b (take 16 l) (drop 16 l))
+    (looked_in_halves t u p q t_long p_long q_long p_are q_are) ∙ go b
   where
     first : length (map (looked t) p) ≡ 16
     first = length-map p (looked t) ∙ p_long
 
-    go : (b : Bool) → cond b (take 16 (map (looked t) p ++ map (looked u) q)) (drop 16 (map (looked t) p ++ map (looked u) q))
+    go : (b : Bool) → cond b (take 16 (map (looked t) p ++ map (looked u) q))
+        (drop 16 (map (looked t) p ++ map (looked u) q))
         ≡ map (looked (cond b t u)) (cond b p q)
     go true = take_at (map (looked t) p) (map (looked u) q) 16 first
     go false = drop_at (map (looked t) p) (map (looked u) q) 16 first
 
+-- the same on both sides of a choice
 same_both : (b : Bool) (t : List ℕ) → cond b t t ≡ t
 same_both true t = refl
 same_both false t = refl
 
 -- a table in both halves, read at the places of each half
-pub looked_of_half : (t x : List ℕ) (i : ℕ) → length t ≡ 16 → length x ≡ 32 → ((i : ℕ) → AreIndices (half x i))
+pub looked_of_half : (t x : List ℕ) (i : ℕ) → length t ≡ 16 → length x ≡ 32
+    → ((i : ℕ) → AreIndices (half x i))
     → half (swz_l w8 16 (t ++ t) 0 x) i ≡ map (looked t) (half x i)
 unfolding half
 looked_of_half t x i t_long long are =
@@ -197,27 +206,33 @@ looked_of_half t x i t_long long are =
     ∙ ap (λ l. map (looked l) (cond b (take 16 x) (drop 16 x))) (same_both b t)
 
 -- each half, read at the same places
-pub permuted_of_half : (x places : List ℕ) (i : ℕ) → length x ≡ 32 → length places ≡ 16 → AreIndices places
+pub permuted_of_half : (x places : List ℕ) (i : ℕ) → length x ≡ 32 → length places ≡ 16
+    → AreIndices places
     → half (swz_l w8 16 x 0 (places ++ places)) i ≡ map (looked (half x i)) places
 unfolding half
 permuted_of_half x places i long placed are =
     let b = i == 0 in
-    ap (λ l. cond b (take 16 (swz_l w8 16 l 0 (places ++ places))) (drop 16 (swz_l w8 16 l 0 (places ++ places))))
+    ap (λ l. cond b (take 16 (swz_l w8 16 l 0 (places ++ places)))
+    (drop 16 (swz_l w8 16 l 0 (places ++ places))))
     (sym (take-append-drop 16 x))
-    ∙ looked_by_halves (take 16 x) (drop 16 x) places places b (omega (arith, length-take 16 x, long)) placed placed
+    ∙ looked_by_halves (take 16 x) (drop 16 x) places places b
+    (omega (arith, length-take 16 x, long)) placed placed
     are are
     ∙ ap (map (looked (cond b (take 16 x) (drop 16 x)))) (same_both b places)
 
 -- 32 indices are places that a byte shuffle by halves takes
 pub indices_in_halves : (js : List ℕ) → length js ≡ 32 → AreIndices js → SwzOk w8 16 32 0 js
-indices_in_halves js long are = SwzOk-from_Each1 w8 16 2 32 0 js refl (omega (arith, long)) (each_index js are)
+indices_in_halves js long are =
+    SwzOk-from_Each1 w8 16 2 32 0 js refl (omega (arith, long)) (each_index js are)
 
 -- where those of each half are indices
-pub halves_ok : (js : List ℕ) → length js ≡ 32 → ((i : ℕ) → AreIndices (half js i)) → SwzOk w8 16 32 0 js
+pub halves_ok : (js : List ℕ) → length js ≡ 32 → ((i : ℕ) → AreIndices (half js i))
+    → SwzOk w8 16 32 0 js
 halves_ok js long are = indices_in_halves js long (indices_of_halves js are)
 
 -- where they are the same in both halves
-pub both_ok : (places : List ℕ) → length places ≡ 16 → AreIndices places → SwzOk w8 16 32 0 (places ++ places)
+pub both_ok : (places : List ℕ) → length places ≡ 16 → AreIndices places
+    → SwzOk w8 16 32 0 (places ++ places)
 both_ok places long are =
     indices_in_halves (places ++ places) (omega (arith, length-append places places, long))
     (indices_append places places are are)
@@ -225,7 +240,8 @@ both_ok places long are =
 -- ---- blocks of a slice
 
 -- two blocks side by side are those of a vector
-pub half_of_joined : (p q : List ℕ) (d : List (List ℕ)) (from i : ℕ) → length p ≡ 16 → p ≡ get_or d from [] → q
+pub half_of_joined : (p q : List ℕ) (d : List (List ℕ)) (from i : ℕ) → length p ≡ 16
+    → p ≡ get_or d from [] → q
     ≡ get_or d (from + 1) [] → i < 2 → half (p ++ q) i ≡ get_or d (from + i) []
 unfolding half
 half_of_joined p q d from i long is_p is_q small = go i small
@@ -233,7 +249,8 @@ half_of_joined p q d from i long is_p is_q small = go i small
     start : from ≡ from + 0
     start = omega arith
 
-    go : (i : ℕ) → i < 2 → cond (i == 0) (take 16 (p ++ q)) (drop 16 (p ++ q)) ≡ get_or d (from + i) []
+    go : (i : ℕ) → i < 2 → cond (i == 0) (take 16 (p ++ q)) (drop 16 (p ++ q))
+        ≡ get_or d (from + i) []
     go zero s = take_at p q 16 long ∙ is_p ∙ ap (λ n. get_or d n []) start
     go (suc zero) s = drop_at p q 16 long ∙ is_q
     go (suc (suc n)) s = absurd (omega (arith, s))

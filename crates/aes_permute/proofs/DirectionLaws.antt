@@ -13,9 +13,11 @@ use Rattle.aes_planes.proofs.Standard.InvertedKeys.{inverted_length}
 pub same_forward : (w : List (List ℕ)) → length w ≡ length w
 same_forward w = refl
 
--- the rounds of Cipher, one after another under a list of round keys, are the standard's cipher under it
+-- the rounds of Cipher, one after another under a list of round
+-- keys, are the standard's cipher under it
 pub is_encrypted : (w : List (List ℕ)) (b : List ℕ) → 2 ≤ length w
-    → all_rounds (λ b. fips.mix_columns (fips.shift_rows (fips.sub_bytes b))) (λ b. fips.shift_rows (fips.sub_bytes b))
+    → all_rounds (λ b. fips.mix_columns (fips.shift_rows (fips.sub_bytes b)))
+    (λ b. fips.shift_rows (fips.sub_bytes b))
     w b ≡ fips.cipher_with w b
 is_encrypted w b two = is_cipher w b
 
@@ -25,7 +27,8 @@ is_encrypted w b two = is_cipher w b
 pub same_backward : (w : List (List ℕ)) → length (fips.inverted_keys w) ≡ length w
 same_backward w = inverted_length w
 
--- the rounds of EqInvCipher, under inverted round keys, are the standard's inverse cipher under the list
+-- the rounds of EqInvCipher, under inverted round keys, are the
+-- standard's inverse cipher under the list
 pub is_decrypted : (w : List (List ℕ)) (b : List ℕ) → 2 ≤ length w
     → all_rounds (λ b. fips.inv_mix_columns (fips.inv_shift_rows (fips.inv_sub_bytes b)))
     (λ b. fips.inv_shift_rows (fips.inv_sub_bytes b)) (fips.inverted_keys w) b

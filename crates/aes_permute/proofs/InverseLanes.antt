@@ -1,12 +1,13 @@
 -- The rounds of EqInvCipher on lanes, and its round keys.
-use Rattle.std.proofs.Common.{◌≡◌, ℕ, ◌+◌, ◌-◌, ◌%◌, ◌==◌, ◌&&◌, nat_lt, true, bit_xor, List, [], ◌∷◌, length, map}
-use Rattle.std.proofs.Common.{map-id, replicate, refl, ap, sym, ◌∙◌}
+use Rattle.std.proofs.Common.{◌≡◌, ℕ, ◌+◌, ◌-◌, ◌%◌, ◌==◌, ◌&&◌, nat_lt, true, bit_xor, List, []}
+use Rattle.std.proofs.Common.{◌∷◌, length, map, map-id, replicate, refl, ap, sym, ◌∙◌}
 use Rattle.std.specs.Int.Bits.{xor_assoc}
 use Rattle.std.proofs.lemmas.Bool.{eqb-true, and_parts, ltb-true}
 use Rattle.std.proofs.lemmas.Simd.{map-map, zip2_of_maps, zip2_splat}
 use lib.Lanes.{zip2}
-use Rattle.aes_planes.specs.Fips197.{field_mul, sbox, inv_sbox, byte_at, build, state, row_by_column, inv_sub_bytes}
-use Rattle.aes_planes.specs.Fips197.{inv_shift_rows, inv_mix_columns, add_round_key, IsBytes, IsBlock}
+use Rattle.aes_planes.specs.Fips197.{field_mul, sbox, inv_sbox, byte_at, build, state}
+use Rattle.aes_planes.specs.Fips197.{row_by_column, inv_sub_bytes, inv_shift_rows, inv_mix_columns}
+use Rattle.aes_planes.specs.Fips197.{add_round_key, IsBytes, IsBlock}
 use Rattle.aes_planes.specs.Planes.{plus63}
 use Rattle.aes_planes.proofs.Bits.ByteCases.{all_below, all_below_tells}
 use Rattle.aes_planes.proofs.Lists.{map-same}
@@ -14,18 +15,22 @@ use Rattle.aes_planes.proofs.Mixing.MixColumns.{inv_mix_block}
 use Rattle.aes_planes.proofs.SBox.InverseSBox.{inv_sbox_of_sbox}
 use Rattle.aes_planes.proofs.Standard.FieldLaws.{add_zero}
 use Rattle.aes_planes.proofs.Standard.Steps.{map_length}
+use Rattle.aes_cipher.proofs.BlockNumbers.{blocks_summed}
 use Rattle.aes_permute.specs.Inverse.{first_of, second_of}
 use Rattle.aes_permute.specs.Lookup.{by_nibbles}
 use Rattle.aes_permute.specs.Stored.{as_is, inv_untower}
-use Rattle.aes_permute.specs.declared.tables.TheConstants.{INV_TOWER_LOW, INV_TOWER_HIGH, INV_SBOX_FIRST}
-use Rattle.aes_permute.specs.declared.tables.TheConstants.{INV_SBOX_SECOND, INV_1_FIRST, INV_1_SECOND, INV_4_FIRST}
-use Rattle.aes_permute.specs.declared.tables.TheConstants.{INV_4_SECOND, INV_9_FIRST, INV_9_SECOND, INV_15_FIRST}
-use Rattle.aes_permute.specs.declared.tables.TheConstants.{INV_15_SECOND, KEY_1_LOW, KEY_1_HIGH, KEY_4_LOW, KEY_4_HIGH}
-use Rattle.aes_permute.specs.declared.tables.TheConstants.{KEY_9_LOW, KEY_9_HIGH, KEY_15_LOW, KEY_15_HIGH}
-use Rattle.aes_permute.proofs.Linear.{inv_untower_three, Product, row, Makes, rows_added, rows_multiplied, rows_mixed}
-use Rattle.aes_permute.proofs.Linear.{same_on_block, same_on_blocks}
+use Rattle.aes_permute.specs.declared.tables.TheConstants.{INV_TOWER_LOW, INV_TOWER_HIGH}
+use Rattle.aes_permute.specs.declared.tables.TheConstants.{INV_SBOX_FIRST, INV_SBOX_SECOND}
+use Rattle.aes_permute.specs.declared.tables.TheConstants.{INV_1_FIRST, INV_1_SECOND, INV_4_FIRST}
+use Rattle.aes_permute.specs.declared.tables.TheConstants.{INV_4_SECOND, INV_9_FIRST, INV_9_SECOND}
+use Rattle.aes_permute.specs.declared.tables.TheConstants.{INV_15_FIRST, INV_15_SECOND, KEY_1_LOW}
+use Rattle.aes_permute.specs.declared.tables.TheConstants.{KEY_1_HIGH, KEY_4_LOW, KEY_4_HIGH}
+use Rattle.aes_permute.specs.declared.tables.TheConstants.{KEY_9_LOW, KEY_9_HIGH, KEY_15_LOW}
+use Rattle.aes_permute.specs.declared.tables.TheConstants.{KEY_15_HIGH}
+use Rattle.aes_permute.proofs.Linear.{inv_untower_three, Product, row, Makes, rows_added}
+use Rattle.aes_permute.proofs.Linear.{rows_multiplied, rows_mixed, same_on_block, same_on_blocks}
 use Rattle.aes_permute.proofs.Lookups.{maps_same, maps_agree}
-use Rattle.aes_permute.proofs.RoundLanes.{through, permuted, zip_is_sum, zip_sum_bytes}
+use Rattle.aes_permute.proofs.RoundLanes.{through, permuted, zip_sum_bytes}
 
 -- ---- what is looked up
 
@@ -44,11 +49,13 @@ unfolding inv_sub_bytes
 plain_is x h =
     maps_agree plain (λ b. inv_sbox (inv_untower b)) (λ b l.
     let t = and_parts (nat_lt (plain b) 256) (sbox (plain b) == inv_untower b)
-    (all_below_tells 256 (λ b. nat_lt (plain b) 256 && (sbox (plain b) == inv_untower b)) plain_cases b l) in
+    (all_below_tells 256 (λ b. nat_lt (plain b) 256 && (sbox (plain b) == inv_untower b))
+    plain_cases b l) in
     sym (inv_sbox_of_sbox (plain b) (ltb-true _ _ t.0)) ∙ ap inv_sbox (eqb-true _ _ t.1)) x h
     ∙ sym (map-map inv_sbox inv_untower x)
 
--- what is looked up of a byte for the coefficients 1, 4, 9 and 15, and the constant that is in the product with 14
+-- what is looked up of a byte for the coefficients 1, 4, 9 and 15, and
+-- the constant that is in the product with 14
 pub record LookUps : Type 0 where
   pub by_1 : ℕ → ℕ
   pub by_4 : ℕ → ℕ
@@ -59,13 +66,19 @@ pub record LookUps : Type 0 where
 -- row 0 of InvMixColumns: the products with 14, 11 and 13 are sums of two of those
 abbrev products : LookUps → ℕ → Product
 products f = row
-    (record { coefficient = 14; look_up = λ b. bit_xor (f.by_1 b) (f.by_15 b); constant = f.constant })
+    (record {
+      coefficient = 14;
+      look_up = λ b. bit_xor (f.by_1 b) (f.by_15 b);
+      constant =
+          f.constant;
+    })
     (record { coefficient = 11; look_up = λ b. bit_xor (f.by_15 b) (f.by_4 b); constant = 0x63 })
     (record { coefficient = 13; look_up = λ b. bit_xor (f.by_4 b) (f.by_9 b); constant = 0x63 })
     (record { coefficient = 9; look_up = f.by_9; constant = 0x63 })
 
 -- blocks of what is looked up of x, and the sums of them for 14, 11 and 13
-pub record AreLooked (f : LookUps) (x one four nine fifteen by_14 by_11 by_13 : List ℕ) : Type 0 where
+pub record AreLooked (f : LookUps)
+    (x one four nine fifteen by_14 by_11 by_13 : List ℕ) : Type 0 where
   pub is_1 : one ≡ map f.by_1 x
   pub is_4 : four ≡ map f.by_4 x
   pub is_9 : nine ≡ map f.by_9 x
@@ -81,7 +94,8 @@ on_products f s x =
     map inv_untower (s (on 0) (on 1) (on 2) (on 3))
 
 -- such blocks are what is looked up for the products
-looked_up : {f : LookUps} {x one four nine fifteen a b c : List ℕ} (s : List ℕ → List ℕ → List ℕ → List ℕ → List ℕ)
+looked_up : {f : LookUps} {x one four nine fifteen a b c : List ℕ}
+    (s : List ℕ → List ℕ → List ℕ → List ℕ → List ℕ)
     → AreLooked f x one four nine fifteen a b c → map inv_untower (s a b c nine) ≡ on_products f s x
 looked_up {f = f} {x = x} s l = λ i. map inv_untower (s
     ((l.is_14 ∙ zip2_of_maps bit_xor f.by_1 f.by_15 x l.is_1 l.is_15) i)
@@ -130,42 +144,56 @@ inv_round_of a b c d k =
     (zip2 bit_xor (permuted c third_row) (permuted d fourth_row)))
     (permuted b next_row)
 
+-- the round, from what it looks up
 abbrev on_lanes : List ℕ → List ℕ → List ℕ
 on_lanes x k = on_products of_bytes (λ a b c d. inv_round_of a b c d k) x
 
+-- is a sum of four products in each byte, by the places that the lanes come from
 lanes_are : (x k : List ℕ) → length x ≡ 16 → length k ≡ 16
     → on_lanes x k ≡ rows_added inv_untower (products of_bytes) (inv_shifted x) (byte_at k)
 unfolding state build
-lanes_are = same_on_blocks on_lanes (λ x k. rows_added inv_untower (products of_bytes) (inv_shifted x) (byte_at k))
+lanes_are = same_on_blocks on_lanes
+    (λ x k. rows_added inv_untower (products of_bytes) (inv_shifted x) (byte_at k))
     (λ f g. refl)
 
+-- and these sums are those of InvMixColumns and AddRoundKey
 sums_are : (x k : List ℕ) → length x ≡ 16 → length k ≡ 16
     → rows_multiplied plain (products of_bytes) (inv_shifted x) (λ r c. inv_untower (byte_at k r c))
     ≡ add_round_key (inv_mix_columns (inv_shift_rows (map plain x))) (map inv_untower k)
 unfolding state build add_round_key inv_mix_columns row_by_column inv_shift_rows
 sums_are = same_on_blocks
-    (λ x k. rows_multiplied plain (products of_bytes) (inv_shifted x) (λ r c. inv_untower (byte_at k r c)))
-    (λ x k. add_round_key (inv_mix_columns (inv_shift_rows (map plain x))) (map inv_untower k)) (λ f g. refl)
+    (λ x k. rows_multiplied plain (products of_bytes) (inv_shifted x)
+    (λ r c. inv_untower (byte_at k r c)))
+    (λ x k. add_round_key (inv_mix_columns (inv_shift_rows (map plain x))) (map inv_untower k))
+    (λ f g. refl)
 
--- a round on lanes is InvSubBytes, InvShiftRows, InvMixColumns and AddRoundKey of what the lanes stand for
+-- a round on lanes is InvSubBytes, InvShiftRows, InvMixColumns and
+-- AddRoundKey of what the lanes stand for
 pub round_is : (x k : List ℕ) {one four nine fifteen a b c : List ℕ} → IsBlock x → length k ≡ 16
     → AreLooked of_bytes x one four nine fifteen a b c
     → map inv_untower (inv_round_of a b c nine k)
-    ≡ add_round_key (inv_mix_columns (inv_shift_rows (inv_sub_bytes (map inv_untower x)))) (map inv_untower k)
+    ≡ add_round_key (inv_mix_columns (inv_shift_rows (inv_sub_bytes (map inv_untower x))))
+    (map inv_untower k)
 round_is x k h m l =
     looked_up (λ a b c d. inv_round_of a b c d k) l
     ∙ lanes_are x k h.0 m
-    ∙ rows_mixed inv_untower plain (products of_bytes) inv_untower_three products_made (inv_shifted x) (byte_at k)
-    (λ r c. inv_untower (byte_at k r c)) (λ c j. h.1 _) (λ r c. add_zero (inv_untower (byte_at k r c)))
+    ∙ rows_mixed inv_untower plain (products of_bytes) inv_untower_three products_made
+    (inv_shifted x) (byte_at k)
+    (λ r c. inv_untower (byte_at k r c)) (λ c j. h.1 _)
+    (λ r c. add_zero (inv_untower (byte_at k r c)))
     ∙ sums_are x k h.0 m
-    ∙ ap (λ v. add_round_key (inv_mix_columns (inv_shift_rows v)) (map inv_untower k)) (plain_is x h.1)
+    ∙ ap (λ v. add_round_key (inv_mix_columns (inv_shift_rows v)) (map inv_untower k))
+    (plain_is x h.1)
 
 -- ---- the first round key, and the last round
 
-tower_cases : all_below 256 (λ b. inv_untower (by_nibbles INV_TOWER_LOW INV_TOWER_HIGH b) == plus63 b) ≡ true
+-- by all bytes, the way into the basis and back adds 0x63
+tower_cases : all_below 256
+    (λ b. inv_untower (by_nibbles INV_TOWER_LOW INV_TOWER_HIGH b) == plus63 b) ≡ true
 unfolding all_below inv_untower
 tower_cases = refl
 
+-- 0x63 that is added to a sum may be added to the round key
 plus63_of_sum : (b k : List ℕ) → map plus63 (zip2 bit_xor b k) ≡ zip2 bit_xor b (map plus63 k)
 plus63_of_sum [] k = refl
 plus63_of_sum (x ∷ b) [] = refl
@@ -178,18 +206,22 @@ pub first_is : (b k : List ℕ) → IsBlock b → IsBlock k
 first_is b k h m =
     let f = by_nibbles INV_TOWER_LOW INV_TOWER_HIGH in
     map-map inv_untower f (zip2 bit_xor b k)
-    ∙ maps_same (λ b. inv_untower (f b)) plus63 tower_cases (zip2 bit_xor b k) (zip_sum_bytes b k h m)
-    ∙ plus63_of_sum b k ∙ zip_is_sum b (map plus63 k) h.0 (map_length plus63 k ∙ m.0)
+    ∙ maps_same (λ b. inv_untower (f b)) plus63 tower_cases (zip2 bit_xor b k)
+    (zip_sum_bytes b k h m)
+    ∙ plus63_of_sum b k ∙ blocks_summed b (map plus63 k) h.0 (map_length plus63 k ∙ m.0)
 
 -- the sum of the last round: the substituted bytes, shifted back, and a round key
 abbrev pub last_of : List ℕ → List ℕ → List ℕ
 last_of p k = zip2 bit_xor (permuted p same_row) k
 
-last_shifted : (y k : List ℕ) → length y ≡ 16 → length k ≡ 16 → last_of y k ≡ add_round_key (inv_shift_rows y) k
+-- is InvShiftRows and AddRoundKey
+last_shifted : (y k : List ℕ) → length y ≡ 16 → length k ≡ 16
+    → last_of y k ≡ add_round_key (inv_shift_rows y) k
 unfolding state build add_round_key inv_shift_rows
 last_shifted = same_on_blocks last_of (λ y k. add_round_key (inv_shift_rows y) k) (λ f g. refl)
 
--- the last round on lanes is InvSubBytes, InvShiftRows and AddRoundKey, and its bytes stand for themselves
+-- the last round on lanes is InvSubBytes, InvShiftRows and
+-- AddRoundKey, and its bytes stand for themselves
 pub last_is : (x k : List ℕ) {p : List ℕ} → IsBlock x → length k ≡ 16 → p ≡ map plain x
     → last_of p k ≡ add_round_key (inv_shift_rows (inv_sub_bytes (map inv_untower x))) (map as_is k)
 last_is x k {p = p} h m e =
@@ -227,42 +259,53 @@ fourth_in_column = 3 ∷ 0 ∷ 1 ∷ 2 ∷ 7 ∷ 4 ∷ 5 ∷ 6 ∷ 11 ∷ 8 ∷ 
 -- the sums that mixing a round key back makes of its four products
 abbrev pub unmixed_of : List ℕ → List ℕ → List ℕ → List ℕ → List ℕ
 unmixed_of a b c d =
-    zip2 bit_xor (zip2 bit_xor a (zip2 bit_xor (permuted c third_in_column) (permuted d fourth_in_column)))
+    zip2 bit_xor (zip2 bit_xor a
+    (zip2 bit_xor (permuted c third_in_column) (permuted d fourth_in_column)))
     (permuted b next_in_column)
 
 -- a round key is mixed as in a round that adds zeros
 zeros_added : (y : List ℕ) → length y ≡ 16 → zip2 bit_xor y (replicate 16 0) ≡ y
-zeros_added y l = zip2_splat bit_xor y 16 0 l ∙ map-same (λ v. bit_xor v 0) (λ v. v) y add_zero ∙ map-id y
+zeros_added y l = zip2_splat bit_xor y 16 0 l
+    ∙ map-same (λ v. bit_xor v 0) (λ v. v) y add_zero ∙ map-id y
 
+-- such a round, of a round key
 abbrev key_on_lanes : List ℕ → List ℕ
-key_on_lanes x = on_products of_key (λ a b c d. unmixed_of (zip2 bit_xor a (replicate 16 0)) b c d) x
+key_on_lanes x = on_products of_key
+    (λ a b c d. unmixed_of (zip2 bit_xor a (replicate 16 0)) b c d) x
 
+-- in which no row is shifted
 abbrev key_moved : List ℕ → ℕ → ℕ → ℕ
 key_moved x c j = byte_at x j c
 
+-- it is a sum of four products in each byte
 key_lanes_are : (x : List ℕ) → length x ≡ 16
     → key_on_lanes x ≡ rows_added inv_untower (products of_key) (key_moved x) (λ r c. 0)
 unfolding state build
 key_lanes_are = same_on_block key_on_lanes
     (λ x. rows_added inv_untower (products of_key) (key_moved x) (λ r c. 0)) (λ f. refl)
 
+-- and these sums are those of InvMixColumns
 key_sums_are : (x : List ℕ) → length x ≡ 16
     → rows_multiplied (λ b. b) (products of_key) (key_moved x) (λ r c. 0)
     ≡ zip2 bit_xor (inv_mix_columns x) (replicate 16 0)
 unfolding state build inv_mix_columns row_by_column
-key_sums_are = same_on_block (λ x. rows_multiplied (λ b. b) (products of_key) (key_moved x) (λ r c. 0))
+key_sums_are = same_on_block
+    (λ x. rows_multiplied (λ b. b) (products of_key) (key_moved x) (λ r c. 0))
     (λ x. zip2 bit_xor (inv_mix_columns x) (replicate 16 0)) (λ f. refl)
 
 -- the sums of what is looked up of a round key stand for InvMixColumns of it
 pub unmixed_is : (x : List ℕ) {one four nine fifteen a b c : List ℕ} → IsBlock x
-    → AreLooked of_key x one four nine fifteen a b c → map inv_untower (unmixed_of a b c nine) ≡ inv_mix_columns x
+    → AreLooked of_key x one four nine fifteen a b c
+    → map inv_untower (unmixed_of a b c nine) ≡ inv_mix_columns x
 unfolding inv_untower
 unmixed_is x h l =
     let a : List ℕ = map (products of_key 0).look_up x in
     looked_up unmixed_of l
-    ∙ ap (λ v. on_products of_key (λ _. unmixed_of v) x) (sym (zeros_added a (map_length _ x ∙ h.0)))
+    ∙ ap (λ v. on_products of_key (λ _. unmixed_of v) x)
+    (sym (zeros_added a (map_length _ x ∙ h.0)))
     ∙ key_lanes_are x h.0
-    ∙ rows_mixed inv_untower (λ b. b) (products of_key) inv_untower_three key_products_made (key_moved x)
+    ∙ rows_mixed inv_untower (λ b. b) (products of_key) inv_untower_three key_products_made
+    (key_moved x)
     (λ r c. 0) (λ r c. 0) (λ c j. h.1 _) (λ r c. refl)
     ∙ key_sums_are x h.0
     ∙ zeros_added (inv_mix_columns x) (inv_mix_block x).0

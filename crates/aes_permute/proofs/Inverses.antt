@@ -17,7 +17,8 @@ pub looked_of : (f : ℕ → ℕ) (t x : List ℕ) {y z : List ℕ} → z ≡ ma
 looked_of f t x e made = e ∙ ap (map (looked t)) made ∙ map-map (looked t) f x
 
 -- the sum of two
-pub sum_of : (f h : ℕ → ℕ) (x : List ℕ) {y v z : List ℕ} → z ≡ zip2 bit_xor y v → y ≡ map f x → v ≡ map h x
+pub sum_of : (f h : ℕ → ℕ) (x : List ℕ) {y v z : List ℕ} → z ≡ zip2 bit_xor y v → y ≡ map f x
+    → v ≡ map h x
     → z ≡ map (λ b. bit_xor (f b) (h b)) x
 sum_of f h x e first second = e ∙ zip2_of_maps bit_xor f h x first second
 
@@ -26,25 +27,33 @@ abbrev pub over : (ℕ → ℕ) → ℕ → ℕ
 over f b = bit_xor (looked INVERSE (f b)) (looked SCALED_INVERSE (low_nibble b))
 
 -- as the code makes it
-pub over_is : (f : ℕ → ℕ) (x : List ℕ) {y low inverse scaled z : List ℕ} → y ≡ map f x → low ≡ map low_nibble x
-    → inverse ≡ map (looked INVERSE) y → scaled ≡ map (looked SCALED_INVERSE) low → z ≡ zip2 bit_xor inverse scaled
+pub over_is : (f : ℕ → ℕ) (x : List ℕ) {y low inverse scaled z : List ℕ} → y ≡ map f x
+    → low ≡ map low_nibble x
+    → inverse ≡ map (looked INVERSE) y → scaled ≡ map (looked SCALED_INVERSE) low
+    → z ≡ zip2 bit_xor inverse scaled
     → z ≡ map (over f) x
 over_is f x is_y is_low at_y at_low e =
-    sum_of (λ b. looked INVERSE (f b)) (λ b. looked SCALED_INVERSE (low_nibble b)) x e (looked_of f INVERSE x at_y is_y)
+    sum_of (λ b. looked INVERSE (f b)) (λ b. looked SCALED_INVERSE (low_nibble b)) x e
+    (looked_of f INVERSE x at_y is_y)
     (looked_of low_nibble SCALED_INVERSE x at_low is_low)
 
 -- a place: the inverse of that sum, plus another function of the byte
-pub place_is : (f h : ℕ → ℕ) (x : List ℕ) {sum at v z : List ℕ} → sum ≡ map (over f) x → at ≡ map (looked INVERSE) sum
+pub place_is : (f h : ℕ → ℕ) (x : List ℕ) {sum at v z : List ℕ} → sum ≡ map (over f) x
+    → at ≡ map (looked INVERSE) sum
     → v ≡ map h x → z ≡ zip2 bit_xor at v → z ≡ map (λ b. bit_xor (inverse_over f b) (h b)) x
-place_is f h x is_sum is_at is_v e = sum_of (inverse_over f) h x e (looked_of (over f) INVERSE x is_at is_sum) is_v
+place_is f h x is_sum is_at is_v e =
+    sum_of (inverse_over f) h x e (looked_of (over f) INVERSE x is_at is_sum) is_v
 
 -- ---- that they are at places
 
 -- what is made of bytes are places, if a test of all bytes says so
-pub made_places : (f : ℕ → ℕ) → all_below 256 (λ b. is_index (f b)) ≡ true → (x : List ℕ) {y : List ℕ} → IsBlock x
+pub made_places : (f : ℕ → ℕ) → all_below 256 (λ b. is_index (f b)) ≡ true
+    → (x : List ℕ) {y : List ℕ} → IsBlock x
     → y ≡ map f x → AreIndices y
 made_places f test x h e = subst AreIndices (sym e) (each_passes is_index f test x h.1)
 
+-- each place at which the code looks up, by all bytes: the
+-- nibbles, their sum, and what is made of these
 pub low_cases : all_below 256 (λ b. is_index (low_nibble b)) ≡ true
 unfolding all_below is_index
 low_cases = refl
@@ -80,4 +89,5 @@ pub places_looked_up : (t u xs ys : List ℕ)
     → zip2 bit_xor (map (looked t) xs) (map (looked u) ys) ≡ zip2 (at_places t u) xs ys
 places_looked_up t u [] ys = refl
 places_looked_up t u (x ∷ xs) [] = refl
-places_looked_up t u (x ∷ xs) (y ∷ ys) = ap (λ v. bit_xor (looked t x) (looked u y) ∷ v) (places_looked_up t u xs ys)
+places_looked_up t u (x ∷ xs) (y ∷ ys) =
+    ap (λ v. bit_xor (looked t x) (looked u y) ∷ v) (places_looked_up t u xs ys)

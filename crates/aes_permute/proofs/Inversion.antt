@@ -1,6 +1,6 @@
 -- Stored round keys of Cipher turned into those of EqInvCipher.
-use Rattle.std.proofs.Common.{◌≡◌, inl, inr, ℕ, ◌-◌, ◌<◌, ◌≤◌, List, [], length, map, map-id, get_or}
-use Rattle.std.proofs.Common.{ap, refl, sym, ◌∙◌, arith}
+use Rattle.std.proofs.Common.{◌≡◌, inl, inr, ℕ, ◌-◌, ◌<◌, ◌≤◌, List, [], length, map, map-id}
+use Rattle.std.proofs.Common.{get_or, ap, refl, sym, ◌∙◌, arith}
 use Rattle.aes_planes.specs.Fips197 as fips
 use Rattle.aes_planes.specs.Planes.{plus63}
 use Rattle.aes_planes.proofs.Standard.InvertedKeys.{inverted_length, inverted_end, inverted_middle}
@@ -17,7 +17,8 @@ Unmixed old new k = map inv_untower (get_or new k [])
 abbrev pub Moved : List (List ℕ) → List (List ℕ) → ℕ → Type 0
 Moved old new k = get_or new k [] ≡ get_or old (length old - 1 - k) []
 
--- stored round keys of Cipher, in reverse and mixed back between the ends, stand for the inverted ones
+-- stored round keys of Cipher, in reverse and mixed back
+-- between the ends, stand for the inverted ones
 pub inverted_stored : (old new : List (List ℕ)) → 2 ≤ length old → length new ≡ length old
     → ((k : ℕ) → 1 ≤ k → k < length old - 1 → Unmixed old new k)
     → Moved old new 0 → Moved old new (length old - 1)
@@ -33,14 +34,17 @@ inverted_stored old new two l inner start end =
     let none : 0 ≡ n - n = omega arith in
     stored_are inverse_form new v (omega (arith, long, back, two)) (l ∙ sym (back ∙ long))
     (ap (map plus63) start ∙ sym (last_key cipher_form old (length old - 1 - 0) two (omega arith))
-    ∙ ap (λ m. fips.round_key w (m - 0)) (sym last) ∙ inverted_end w 0 (omega (arith, long, two)) (inl refl))
+    ∙ ap (λ m. fips.round_key w (m - 0)) (sym last)
+    ∙ inverted_end w 0 (omega (arith, long, two)) (inl refl))
     (λ i some below.
     let up : i < n = omega (arith, below, same) in
     inner i some (omega (arith, up, last))
-    ∙ ap fips.inv_mix_columns (sym (inner_key cipher_form old (length old - 1 - i) (omega (arith, up, last))
+    ∙ ap fips.inv_mix_columns
+    (sym (inner_key cipher_form old (length old - 1 - i) (omega (arith, up, last))
     (omega (arith, some, up, last))) ∙ ap (λ m. fips.round_key w (m - i)) (sym last))
     ∙ inverted_middle w i (omega (arith, up)) (omega (arith, some)) (omega (arith, up)))
-    (map-id _ ∙ ap (fips.round_key new) (same ∙ last) ∙ end ∙ ap (λ m. fips.round_key old (m - m)) (sym last)
+    (map-id _ ∙ ap (fips.round_key new) (same ∙ last) ∙ end
+    ∙ ap (λ m. fips.round_key old (m - m)) (sym last)
     ∙ ap (fips.round_key old) (sym none) ∙ sym (map-id (fips.round_key old 0))
     ∙ sym (first_key cipher_form old (omega (arith, two))) ∙ ap (fips.round_key w) none
     ∙ inverted_end w n (omega (arith, long, two)) (inr refl) ∙ ap (fips.round_key v) (sym same))

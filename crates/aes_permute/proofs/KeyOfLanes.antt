@@ -6,19 +6,23 @@ use Rattle.aes_planes.proofs.KeySchedule.ExpandedBlocks.{first_bytes}
 use Rattle.aes_planes.proofs.KeySchedule.ExpansionLength.{expansion_length}
 use Rattle.aes_planes.proofs.Standard.CipherLaws.{two_keys}
 use Rattle.aes_cipher.specs.KeySizes.{IsKeySize}
-use Rattle.aes_permute.specs.Keys.{encrypting, cipher_form, key_of_lanes, leading_key, lane_key_size, IsCipherSchedule}
+use Rattle.aes_permute.specs.Keys.{encrypting, cipher_form, key_of_lanes, leading_key}
+use Rattle.aes_permute.specs.Keys.{lane_key_size, IsCipherSchedule}
 use Rattle.aes_permute.specs.Stored.{round_keys_of, LaneForm}
 use Rattle.aes_permute.proofs.States.{keys_length}
 
 -- the key that begins its own schedule
-pub begins_with_key : (size : ℕ) (key : List ℕ) → IsKeySize size → length key ≡ size → leading_key size (fips.key_expansion key)
+pub begins_with_key : (size : ℕ) (key : List ℕ) → IsKeySize size → length key ≡ size
+    → leading_key size (fips.key_expansion key)
     ≡ key
 begins_with_key size key one l =
-    first_bytes key (size / 4) (ap (λ v. v / 4) l) size (omega (arith, one)) l (omega (arith, one)) (omega (arith, one))
+    first_bytes key (size / 4) (ap (λ v. v / 4) l) size (omega (arith, one)) l (omega (arith, one))
+    (omega (arith, one))
 
 module _ (stored : List (List ℕ)) (key : List ℕ) (one : IsKeySize (length key))
     (sized : length stored ≡ length key / 4 + 7) (b : fips.IsBytes key)
     (e : encrypting stored ≡ fips.key_expansion key) where
+  -- their number says the size of that key
   own_size : lane_key_size stored ≡ length key
   own_size = omega (arith, sized, one)
 
@@ -32,7 +36,11 @@ module _ (stored : List (List ℕ)) (key : List ℕ) (one : IsKeySize (length ke
   is_cipher_schedule = record {
     one_of_three = elim one [
       | inl k ↦ inl (omega (arith, sized, k))
-      | inr other ↦ inr (elim other [ inl k ↦ inl (omega (arith, sized, k)) | inr k ↦ inr (omega (arith, sized, k)) ])
+      | inr other ↦ inr (elim other [
+        | inl k ↦ inl (omega (arith, sized, k))
+        | inr k ↦ inr
+            (omega (arith, sized, k))
+      ])
     ];
     sized = ap length read_as ∙ sym own_size;
     bytes = subst fips.IsBytes (sym read_as) b;
@@ -46,13 +54,16 @@ stored_size size stored one l s = s.sized ∙ omega (arith, one, l)
 
 -- stored round keys of a key are two or more
 pub two_stored : (form : LaneForm) → ((w : List (List ℕ)) → length (form.used_keys w) ≡ length w)
-    → (stored : List (List ℕ)) (key : List ℕ) → round_keys_of form stored ≡ form.used_keys (fips.key_expansion key)
+    → (stored : List (List ℕ)) (key : List ℕ)
+    → round_keys_of form stored ≡ form.used_keys (fips.key_expansion key)
     → 2 ≤ length stored
 two_stored form same stored key e =
     omega (arith, keys_length form stored, ap length e, same (fips.key_expansion key), two_keys key)
 
 -- and so are those that stand for the expansion of a key of 16, 24 or 32 bytes
-pub is_schedule_of : (stored : List (List ℕ)) (key : List ℕ) → IsKeySize (length key) → fips.IsBytes key
+pub is_schedule_of : (stored : List (List ℕ)) (key : List ℕ) → IsKeySize (length key)
+    → fips.IsBytes key
     → encrypting stored ≡ fips.key_expansion key → IsCipherSchedule stored
 is_schedule_of stored key one b e =
-    is_cipher_schedule stored key one (omega (arith, keys_length cipher_form stored, ap length e, expansion_length key)) b e
+    is_cipher_schedule stored key one
+    (omega (arith, keys_length cipher_form stored, ap length e, expansion_length key)) b e

@@ -1,6 +1,6 @@
 -- Sums on lanes: maps by nibbles, which are linear where their tables are, and rows of a matrix.
-use Rattle.std.proofs.Common.{◌≡◌, ℕ, ◌+◌, ◌-◌, ◌/◌, ◌%◌, ◌<◌, ◌==◌, Bool, true, bit_xor, List, [], ◌∷◌, length, get_or}
-use Rattle.std.proofs.Common.{refl, ap, sym, ◌∙◌, subst, arith}
+use Rattle.std.proofs.Common.{◌≡◌, ℕ, ◌+◌, ◌-◌, ◌/◌, ◌%◌, ◌<◌, ◌==◌, Bool, true, bit_xor, List, []}
+use Rattle.std.proofs.Common.{◌∷◌, length, get_or, refl, ap, sym, ◌∙◌, subst, arith}
 use Rattle.std.specs.Int.Bits.{xor_assoc}
 use Rattle.std.proofs.Math.Nat.{mod-lt}
 use Rattle.std.proofs.lemmas.Bool.{eqb-true}
@@ -13,33 +13,44 @@ use Rattle.aes_planes.proofs.Standard.FieldLaws.{add_swap, add_zero}
 use Rattle.aes_planes.proofs.Standard.States.{state_same}
 use Rattle.aes_permute.specs.Lookup.{looked, low_nibble, high_nibble, by_nibbles}
 use Rattle.aes_permute.specs.Stored.{untower, inv_untower}
-use Rattle.aes_permute.specs.declared.tables.TheConstants.{UNTOWER_LOW, UNTOWER_HIGH, INV_UNTOWER_LOW, INV_UNTOWER_HIGH}
+use Rattle.aes_permute.specs.declared.tables.TheConstants.{UNTOWER_LOW, UNTOWER_HIGH}
+use Rattle.aes_permute.specs.declared.tables.TheConstants.{INV_UNTOWER_LOW, INV_UNTOWER_HIGH}
 
 -- the sum of two nibbles is looked up as the sum of what is looked up
 abbrev pub is_linear : List ℕ → Type 0
-is_linear t = all_pairs 16 16 (λ p q. looked t (bit_xor p q) == bit_xor (looked t p) (looked t q)) ≡ true
+is_linear t = all_pairs 16 16
+    (λ p q. looked t (bit_xor p q) == bit_xor (looked t p) (looked t q)) ≡ true
 
+-- a linear table takes the sum of two nibbles to the sum of its entries
 looked_sum : (t : List ℕ) → is_linear t → (p q : ℕ) → p < 16 → q < 16 → looked t (bit_xor p q)
     ≡ bit_xor (looked t p) (looked t q)
 looked_sum t l p q a b =
-    eqb-true _ _ (all_pairs_tell 16 16 (λ p q. looked t (bit_xor p q) == bit_xor (looked t p) (looked t q)) l p q a b)
+    eqb-true _ _ (all_pairs_tell 16 16
+    (λ p q. looked t (bit_xor p q) == bit_xor (looked t p) (looked t q)) l p q a b)
 
+-- and the nibbles of a sum are sums of nibbles
 low_sum : (a b : ℕ) → low_nibble (bit_xor a b) ≡ bit_xor (low_nibble a) (low_nibble b)
 low_sum a b = xor_mod a b 4
 
 high_sum : (a b : ℕ) → high_nibble (bit_xor a b) ≡ bit_xor (high_nibble a) (high_nibble b)
 high_sum a b = ap (λ v. v % 16) (xor_shr a b 4) ∙ xor_mod (a / 16) (b / 16) 4
 
--- a look-up by nibbles in linear tables takes the sum of two bytes to the sum of what it makes of each
-pub by_nibbles_sum : (t u : List ℕ) → is_linear t → is_linear u → (a b : ℕ) → by_nibbles t u (bit_xor a b)
+-- a look-up by nibbles in linear tables takes the sum of two
+-- bytes to the sum of what it makes of each
+pub by_nibbles_sum : (t u : List ℕ) → is_linear t → is_linear u → (a b : ℕ)
+    → by_nibbles t u (bit_xor a b)
     ≡ bit_xor (by_nibbles t u a) (by_nibbles t u b)
 by_nibbles_sum t u l m a b =
     (λ i. bit_xor (looked t (low_sum a b i)) (looked u (high_sum a b i)))
     ∙ (λ i. bit_xor
-    (looked_sum t l (low_nibble a) (low_nibble b) (mod-lt a (omega arith)) (mod-lt b (omega arith)) i)
-    (looked_sum u m (high_nibble a) (high_nibble b) (mod-lt (a / 16) (omega arith)) (mod-lt (b / 16) (omega arith)) i))
-    ∙ add_swap (looked t (low_nibble a)) (looked t (low_nibble b)) (looked u (high_nibble a)) (looked u (high_nibble b))
+    (looked_sum t l (low_nibble a) (low_nibble b) (mod-lt a (omega arith))
+    (mod-lt b (omega arith)) i)
+    (looked_sum u m (high_nibble a) (high_nibble b) (mod-lt (a / 16) (omega arith))
+    (mod-lt (b / 16) (omega arith)) i))
+    ∙ add_swap (looked t (low_nibble a)) (looked t (low_nibble b)) (looked u (high_nibble a))
+    (looked u (high_nibble b))
 
+-- the tables that change back from the basis are linear, by all pairs of nibbles
 untower_linear : is_linear UNTOWER_LOW × is_linear UNTOWER_HIGH
 unfolding all_below
 untower_linear = (refl, refl)
@@ -59,7 +70,8 @@ linear_three v l a b c = l (bit_xor a b) c ∙ ap (λ u. bit_xor u (v c)) (l a b
 -- the change of basis takes a sum of three bytes to the sum of what it makes of each
 pub untower_three : SumsOfThree untower
 unfolding untower
-untower_three = linear_three untower (by_nibbles_sum UNTOWER_LOW UNTOWER_HIGH untower_linear.0 untower_linear.1)
+untower_three = linear_three untower
+    (by_nibbles_sum UNTOWER_LOW UNTOWER_HIGH untower_linear.0 untower_linear.1)
 
 -- the constant of each summand: of three, one is left
 pub inv_untower_three : SumsOfThree inv_untower
@@ -69,7 +81,8 @@ inv_untower_three a b c =
     ap plus63 (linear_three v (by_nibbles_sum INV_UNTOWER_LOW INV_UNTOWER_HIGH inv_untower_linear.0
     inv_untower_linear.1) a b c)
     ∙ xor_assoc (bit_xor (v a) (v b)) (v c) 0x63
-    ∙ ap (λ u. bit_xor u (plus63 (v c))) (sym (add_swap (v a) 0x63 (v b) 0x63 ∙ add_zero (bit_xor (v a) (v b))))
+    ∙ ap (λ u. bit_xor u (plus63 (v c)))
+    (sym (add_swap (v a) 0x63 (v b) 0x63 ∙ add_zero (bit_xor (v a) (v b))))
 
 -- ---- sums of five
 
@@ -89,11 +102,14 @@ sum_of_four t = bit_xor (bit_xor (bit_xor (t 0) (t 1)) (t 2)) (t 3)
 abbrev pub in_order : (ℕ → ℕ) → ℕ → ℕ
 in_order t y = bit_xor (sum_of_four t) y
 
+-- equal summands have equal sums
 same_in_order : (t u : ℕ → ℕ) (y : ℕ) → ((i : ℕ) → i < 4 → t i ≡ u i) → in_order t y ≡ in_order u y
 same_in_order t u y h =
-    λ i. bit_xor (bit_xor (bit_xor (bit_xor (h 0 (omega arith) i) (h 1 (omega arith) i)) (h 2 (omega arith) i))
+    λ i. bit_xor (bit_xor
+    (bit_xor (bit_xor (h 0 (omega arith) i) (h 1 (omega arith) i)) (h 2 (omega arith) i))
     (h 3 (omega arith) i)) y
 
+-- the order in which a round adds is no other sum
 gathered : (t : ℕ → ℕ) (y : ℕ) → added t y ≡ in_order t y
 gathered t y =
     ap (λ v. bit_xor v (t 1)) (aside (t 0) y (bit_xor (t 2) (t 3)))
@@ -102,7 +118,8 @@ gathered t y =
     ∙ sym (xor_assoc (bit_xor (t 0) (t 1)) (t 2) (t 3)))
 
 -- a map of them that takes sums of three to sums
-sum_of_five : (v : ℕ → ℕ) → SumsOfThree v → (t : ℕ → ℕ) (y : ℕ) → v (added t y) ≡ in_order (λ i. v (t i)) (v y)
+sum_of_five : (v : ℕ → ℕ) → SumsOfThree v → (t : ℕ → ℕ) (y : ℕ)
+    → v (added t y) ≡ in_order (λ i. v (t i)) (v y)
 sum_of_five v l t y =
     ap v (gathered t y) ∙ l (bit_xor (bit_xor (t 0) (t 1)) (t 2)) (t 3) y
     ∙ ap (λ u. bit_xor (bit_xor u (v (t 3))) (v y)) (l (t 0) (t 1) (t 2))
@@ -121,6 +138,7 @@ constants_gathered t k y =
 
 -- ---- the rows of a matrix whose next row is the one before, turned by one
 
+-- the last of four summands may come first
 turn : (a b c d : ℕ) → bit_xor (bit_xor (bit_xor a b) c) d ≡ bit_xor (bit_xor (bit_xor d a) b) c
 turn a b c d =
     xor_comm (bit_xor (bit_xor a b) c) d ∙ sym (xor_assoc d (bit_xor a b) c)
@@ -137,7 +155,8 @@ rows_turned T y r l =
     by_four (λ r. in_order (λ i. T i ((r + i) % 4)) y ≡ in_order (λ j. T (turned_entry r j) j) y)
     refl
     (ap (λ v. bit_xor v y) (turn (T 0 1) (T 1 2) (T 2 3) (T 3 0)))
-    (ap (λ v. bit_xor v y) (turn (T 0 2) (T 1 3) (T 2 0) (T 3 1) ∙ turn (T 3 1) (T 0 2) (T 1 3) (T 2 0)))
+    (ap (λ v. bit_xor v y) (turn (T 0 2) (T 1 3) (T 2 0) (T 3 1)
+    ∙ turn (T 3 1) (T 0 2) (T 1 3) (T 2 0)))
     (ap (λ v. bit_xor v y) (sym (turn (T 1 0) (T 2 1) (T 3 2) (T 0 3))))
     r l
 
@@ -151,10 +170,12 @@ pub record Product : Type 0 where
 abbrev pub row : Product → Product → Product → Product → ℕ → Product
 row a b c d i = get_or (a ∷ b ∷ c ∷ d ∷ []) i a
 
+-- the test of one product, at one byte
 abbrev made : (ℕ → ℕ) → (ℕ → ℕ) → (ℕ → Product) → ℕ → ℕ → Bool
 made v g p i b = v ((p i).look_up b) == bit_xor (field_mul (p i).coefficient (g b)) (p i).constant
 
--- v of what each look-up makes of a byte is the product of its coefficient and g of the byte, but for its constant
+-- v of what each look-up makes of a byte is the product of its
+-- coefficient and g of the byte, but for its constant
 abbrev pub Makes : (ℕ → ℕ) → (ℕ → ℕ) → (ℕ → Product) → Type 0
 Makes v g p = all_pairs 4 256 (made v g p) ≡ true
 
@@ -167,7 +188,8 @@ abbrev pub rows_multiplied : (ℕ → ℕ) → (ℕ → Product) → (ℕ → �
 rows_multiplied g p at z =
     state (λ r c. in_order (λ j. field_mul (p (turned_entry r j)).coefficient (g (at c j))) (z r c))
 
--- the first is v of the second, if v of each look-up makes a product, and the constants go to the round key
+-- the first is v of the second, if v of each look-up makes a
+-- product, and the constants go to the round key
 pub rows_mixed : (v g : ℕ → ℕ) (p : ℕ → Product) → SumsOfThree v → Makes v g p
     → (at y z : ℕ → ℕ → ℕ) → ((c j : ℕ) → at c j < 256)
     → ((r c : ℕ) → bit_xor (v (y r c)) (sum_of_four (λ i. (p i).constant)) ≡ z r c)
@@ -176,7 +198,8 @@ rows_mixed v g p l m at y z h e = state_same _ _ (λ r c i j.
     let b : ℕ → ℕ = λ i. at c ((r + i) % 4) in
     let product : ℕ → ℕ = λ i. field_mul (p i).coefficient (g (b i)) in
     sum_of_five v l (λ i. (p i).look_up (b i)) (y r c)
-    ∙ same_in_order _ _ (v (y r c)) (λ i k. eqb-true _ _ (all_pairs_tell 4 256 (made v g p) m i (b i) k (h _ _)))
+    ∙ same_in_order _ _ (v (y r c))
+    (λ i k. eqb-true _ _ (all_pairs_tell 4 256 (made v g p) m i (b i) k (h _ _)))
     ∙ constants_gathered product (λ i. (p i).constant) (v (y r c))
     ∙ ap (in_order product) (e r c)
     ∙ rows_turned (λ n j. field_mul (p n).coefficient (g (at c j))) (z r c) r i)
@@ -189,9 +212,11 @@ pub same_on_blocks : (F G : List ℕ → List ℕ → List ℕ)
     → (x k : List ℕ) → length x ≡ 16 → length k ≡ 16 → F x k ≡ G x k
 same_on_blocks F G h x k l m =
     subst (λ v. F v k ≡ G v k) (built 16 x 0 l) (subst (λ w. F (build 16 (λ i. get_or x i 0)) w
-    ≡ G (build 16 (λ i. get_or x i 0)) w) (built 16 k 0 m) (h (λ i. get_or x i 0) (λ i. get_or k i 0)))
+    ≡ G (build 16 (λ i. get_or x i 0)) w) (built 16 k 0 m)
+    (h (λ i. get_or x i 0) (λ i. get_or k i 0)))
 
 -- the same for functions of one block
-pub same_on_block : (F G : List ℕ → List ℕ) → ((f : ℕ → ℕ) → F (build 16 f) ≡ G (build 16 f)) → (x : List ℕ)
+pub same_on_block : (F G : List ℕ → List ℕ) → ((f : ℕ → ℕ) → F (build 16 f) ≡ G (build 16 f))
+    → (x : List ℕ)
     → length x ≡ 16 → F x ≡ G x
 same_on_block F G h x l = subst (λ v. F v ≡ G v) (built 16 x 0 l) (h (λ i. get_or x i 0))

@@ -1,24 +1,27 @@
 -- The rounds of Cipher on lanes.
-use Rattle.std.proofs.Common.{◌≡◌, ℕ, ◌+◌, ◌%◌, ◌==◌, true, bit_xor, List, [], ◌∷◌, length, map, map-id}
-use Rattle.std.proofs.Common.{refl, ap, sym, subst, ◌∙◌}
+use Rattle.std.proofs.Common.{◌≡◌, ℕ, ◌+◌, ◌%◌, ◌==◌, true, bit_xor, List, [], ◌∷◌, length, map}
+use Rattle.std.proofs.Common.{map-id, refl, ap, sym, subst, ◌∙◌}
 use Rattle.std.specs.Int.Bits.{xor_assoc}
 use Rattle.std.proofs.lemmas.Nat.{xor_comm}
 use Rattle.std.proofs.lemmas.Simd.{zip2-map, map-map}
 use lib.Lanes.{zip2}
-use Rattle.aes_planes.specs.Fips197.{field_mul, sbox, byte_at, build, state, row_by_column, sub_bytes, shift_rows}
-use Rattle.aes_planes.specs.Fips197.{mix_columns, add_round_key, IsBytes, IsBlock}
+use Rattle.aes_planes.specs.Fips197.{field_mul, sbox, byte_at, build, state, row_by_column}
+use Rattle.aes_planes.specs.Fips197.{sub_bytes, shift_rows, mix_columns, add_round_key, IsBytes}
+use Rattle.aes_planes.specs.Fips197.{IsBlock}
 use Rattle.aes_planes.specs.Planes.{plus63}
 use Rattle.aes_planes.proofs.Bits.ByteCases.{all_below}
 use Rattle.aes_planes.proofs.Standard.FieldLaws.{add_swap}
 use Rattle.aes_planes.proofs.Standard.States.{state_same}
 use Rattle.aes_planes.proofs.Standard.Steps.{map_length, add_block}
+use Rattle.aes_cipher.proofs.BlockNumbers.{blocks_summed}
 use Rattle.aes_permute.specs.Inverse.{first_of, second_of, at_places}
 use Rattle.aes_permute.specs.Lookup.{looked, by_nibbles}
 use Rattle.aes_permute.specs.Stored.{as_is, untower, key_untower}
-use Rattle.aes_permute.specs.declared.tables.TheConstants.{TOWER_LOW, TOWER_HIGH, SBOX_FIRST, SBOX_SECOND, ONE_FIRST}
-use Rattle.aes_permute.specs.declared.tables.TheConstants.{ONE_SECOND, TWO_FIRST, TWO_SECOND}
-use Rattle.aes_permute.proofs.Linear.{untower_three, Product, row, Makes, rows_added, rows_multiplied, rows_mixed}
-use Rattle.aes_permute.proofs.Linear.{same_on_block, same_on_blocks}
+use Rattle.aes_permute.specs.declared.tables.TheConstants.{TOWER_LOW, TOWER_HIGH, SBOX_FIRST}
+use Rattle.aes_permute.specs.declared.tables.TheConstants.{SBOX_SECOND, ONE_FIRST, ONE_SECOND}
+use Rattle.aes_permute.specs.declared.tables.TheConstants.{TWO_FIRST, TWO_SECOND}
+use Rattle.aes_permute.proofs.Linear.{untower_three, Product, row, Makes, rows_added}
+use Rattle.aes_permute.proofs.Linear.{rows_multiplied, rows_mixed, same_on_block, same_on_blocks}
 use Rattle.aes_permute.proofs.Lookups.{maps_same}
 
 -- ---- what is looked up
@@ -55,6 +58,7 @@ products = row
     (record { coefficient = 1; look_up = one; constant = 0x63 })
     (record { coefficient = 1; look_up = one; constant = 0x63 })
 
+-- the test of these products, by all bytes
 products_made : Makes untower boxed products
 unfolding all_below first_of second_of untower field_mul sbox
 products_made = refl
@@ -91,48 +95,64 @@ paired o t = zip2 bit_xor t (permuted o row_before)
 -- the sum that a round makes of what it looked up for 1, the pairs, and a round key
 abbrev pub round_of : List ℕ → List ℕ → List ℕ → List ℕ
 round_of o p k =
-    zip2 bit_xor (zip2 bit_xor (zip2 bit_xor (permuted o fourth_row) k) (permuted p same_row)) (permuted p next_row)
+    zip2 bit_xor (zip2 bit_xor (zip2 bit_xor (permuted o fourth_row) k) (permuted p same_row))
+    (permuted p next_row)
 
+-- the round, from what it looks up
 abbrev on_lanes : List ℕ → List ℕ → List ℕ
 on_lanes x k = map untower (round_of (map one x) (paired (map one x) (map two x)) k)
 
+-- and as the standard has it, of what the lanes stand for
 abbrev standard : List ℕ → List ℕ → List ℕ
-standard x k = add_round_key (mix_columns (shift_rows (sub_bytes (map untower x)))) (map key_untower k)
+standard x k = add_round_key (mix_columns (shift_rows (sub_bytes (map untower x))))
+    (map key_untower k)
 
 -- the sum of a byte, in the order in which a round on lanes makes it, and in that of `added`
 abbrev pub pairs_summed : ℕ → ℕ → ℕ → ℕ → ℕ → ℕ → ℕ
 pairs_summed a o t c d y = bit_xor (bit_xor (bit_xor d y) (bit_xor a o)) (bit_xor t c)
 
+-- both orders are the same sum
 pairs_parted : (a o t c d y : ℕ)
     → pairs_summed a o t c d y ≡ bit_xor (bit_xor (bit_xor a y) (bit_xor c d)) (bit_xor o t)
 pairs_parted a o t c d y =
-    ap (λ v. bit_xor v (bit_xor t c)) (xor_comm (bit_xor d y) (bit_xor a o) ∙ ap (bit_xor (bit_xor a o)) (xor_comm d y)
+    ap (λ v. bit_xor v (bit_xor t c)) (xor_comm (bit_xor d y) (bit_xor a o)
+    ∙ ap (bit_xor (bit_xor a o)) (xor_comm d y)
     ∙ add_swap a o y d)
     ∙ xor_assoc (bit_xor a y) (bit_xor o d) (bit_xor t c)
     ∙ ap (bit_xor (bit_xor a y)) (add_swap o d t c ∙ ap (bit_xor (bit_xor o t)) (xor_comm d c)
     ∙ xor_comm (bit_xor o t) (bit_xor c d))
     ∙ sym (xor_assoc (bit_xor a y) (bit_xor c d) (bit_xor o t))
 
+-- the round byte by byte, in the first of these orders
 abbrev rows_by_pairs : List ℕ → List ℕ → List ℕ
-rows_by_pairs x k = state (λ r c. untower (pairs_summed (two (shifted x c (r % 4))) (one (shifted x c ((r + 1) % 4)))
-    (two (shifted x c ((r + 1) % 4))) (one (shifted x c ((r + 2) % 4))) (one (shifted x c ((r + 3) % 4))) (byte_at k r c)))
+rows_by_pairs x k =
+    state (λ r c. untower
+    (pairs_summed (two (shifted x c (r % 4))) (one (shifted x c ((r + 1) % 4)))
+    (two (shifted x c ((r + 1) % 4))) (one (shifted x c ((r + 2) % 4)))
+    (one (shifted x c ((r + 3) % 4))) (byte_at k r c)))
 
+-- the round on lanes is a sum of four products in each byte, by the places that the lanes come from
 lanes_are : (x k : List ℕ) → length x ≡ 16 → length k ≡ 16
     → on_lanes x k ≡ rows_added untower products (shifted x) (byte_at k)
 unfolding state build
 lanes_are x k l m =
     same_on_blocks on_lanes rows_by_pairs (λ f g. refl) x k l m
-    ∙ state_same _ _ (λ r c i j. ap untower (pairs_parted (two (shifted x c (r % 4))) (one (shifted x c ((r + 1) % 4)))
-    (two (shifted x c ((r + 1) % 4))) (one (shifted x c ((r + 2) % 4))) (one (shifted x c ((r + 3) % 4))) (byte_at k r c)))
+    ∙ state_same _ _ (λ r c i j. ap untower
+    (pairs_parted (two (shifted x c (r % 4))) (one (shifted x c ((r + 1) % 4)))
+    (two (shifted x c ((r + 1) % 4))) (one (shifted x c ((r + 2) % 4)))
+    (one (shifted x c ((r + 3) % 4))) (byte_at k r c)))
 
+-- and these sums are those of MixColumns and AddRoundKey
 sums_are : (x k : List ℕ) → length x ≡ 16 → length k ≡ 16
     → rows_multiplied boxed products (shifted x) (λ r c. key_untower (byte_at k r c)) ≡ standard x k
 unfolding state build add_round_key mix_columns row_by_column shift_rows sub_bytes
-sums_are = same_on_blocks (λ x k. rows_multiplied boxed products (shifted x) (λ r c. key_untower (byte_at k r c)))
+sums_are = same_on_blocks
+    (λ x k. rows_multiplied boxed products (shifted x) (λ r c. key_untower (byte_at k r c)))
     standard (λ f g. refl)
 
 -- a round on lanes is SubBytes, ShiftRows, MixColumns and AddRoundKey of what the lanes stand for
-pub round_is : (x k : List ℕ) {o t p : List ℕ} → IsBlock x → length k ≡ 16 → o ≡ map one x → t ≡ map two x
+pub round_is : (x k : List ℕ) {o t p : List ℕ} → IsBlock x → length k ≡ 16 → o ≡ map one x
+    → t ≡ map two x
     → p ≡ paired o t → map untower (round_of o p k)
     ≡ add_round_key (mix_columns (shift_rows (sub_bytes (map untower x)))) (map key_untower k)
 unfolding key_untower
@@ -145,36 +165,37 @@ round_is x k b m q s e =
 
 -- ---- the first round key, and the last round
 
--- the sum of two blocks lane by lane is AddRoundKey
-pub zip_is_sum : (b k : List ℕ) → length b ≡ 16 → length k ≡ 16 → zip2 bit_xor b k ≡ add_round_key b k
-unfolding add_round_key state build
-zip_is_sum = same_on_blocks (zip2 bit_xor) add_round_key (λ f g. refl)
-
 -- the sum of two blocks consists of bytes
 pub zip_sum_bytes : (b k : List ℕ) → IsBlock b → IsBlock k → IsBytes (zip2 bit_xor b k)
-zip_sum_bytes b k h m = subst IsBytes (sym (zip_is_sum b k h.0 m.0)) (add_block b k h.1 m.1).1
+zip_sum_bytes b k h m = subst IsBytes (sym (blocks_summed b k h.0 m.0)) (add_block b k h.1 m.1).1
 
+-- the way into the tower basis
 abbrev tower : ℕ → ℕ
 tower b = by_nibbles TOWER_LOW TOWER_HIGH b
 
+-- by all bytes, the change of basis undoes it
 tower_cases : all_below 256 (λ b. untower (tower b) == b) ≡ true
 unfolding all_below untower
 tower_cases = refl
 
+-- of each byte of a list
 untowered : (x : List ℕ) → IsBytes x → map untower (map tower x) ≡ x
-untowered x h = map-map untower tower x ∙ maps_same (λ b. untower (tower b)) (λ b. b) tower_cases x h ∙ map-id x
+untowered x h = map-map untower tower x
+    ∙ maps_same (λ b. untower (tower b)) (λ b. b) tower_cases x h ∙ map-id x
 
 -- a block plus the first round key, brought into the tower basis, stands for AddRoundKey
 pub first_is : (b k : List ℕ) → IsBlock b → IsBlock k
-    → map untower (map (by_nibbles TOWER_LOW TOWER_HIGH) (zip2 bit_xor b k)) ≡ add_round_key b (map as_is k)
+    → map untower (map (by_nibbles TOWER_LOW TOWER_HIGH) (zip2 bit_xor b k))
+    ≡ add_round_key b (map as_is k)
 first_is b k h m =
-    untowered (zip2 bit_xor b k) (zip_sum_bytes b k h m) ∙ zip_is_sum b k h.0 m.0
+    untowered (zip2 bit_xor b k) (zip_sum_bytes b k h m) ∙ blocks_summed b k h.0 m.0
     ∙ ap (add_round_key b) (sym (map-id k))
 
 -- the S-box without its constant, by two look-ups, of what a byte stands for
 abbrev pub plain : ℕ → ℕ
 plain b = through SBOX_FIRST SBOX_SECOND b
 
+-- by all bytes
 plain_cases : all_below 256 (λ b. plain b == plus63 (boxed b)) ≡ true
 unfolding all_below first_of second_of untower sbox
 plain_cases = refl
@@ -182,20 +203,26 @@ plain_cases = refl
 -- SubBytes but for the constant
 plain_is : (x : List ℕ) → IsBytes x → map plain x ≡ map plus63 (sub_bytes (map untower x))
 unfolding sub_bytes
-plain_is x h = maps_same plain (λ b. plus63 (boxed b)) plain_cases x h ∙ sym (map-map plus63 boxed x)
+plain_is x h = maps_same plain (λ b. plus63 (boxed b)) plain_cases x h
+    ∙ sym (map-map plus63 boxed x)
     ∙ ap (map plus63) (sym (map-map sbox untower x))
 
 -- the sum of the last round: the substituted bytes, shifted, and a round key
 abbrev pub last_of : List ℕ → List ℕ → List ℕ
 last_of p k = zip2 bit_xor (permuted p same_row) k
 
-last_shifted : (y k : List ℕ) → length y ≡ 16 → length k ≡ 16 → last_of y k ≡ add_round_key (shift_rows y) k
+-- is ShiftRows and AddRoundKey
+last_shifted : (y k : List ℕ) → length y ≡ 16 → length k ≡ 16
+    → last_of y k ≡ add_round_key (shift_rows y) k
 unfolding state build add_round_key shift_rows
 last_shifted = same_on_blocks last_of (λ y k. add_round_key (shift_rows y) k) (λ f g. refl)
 
-permuted_plus63 : (y : List ℕ) → length y ≡ 16 → permuted (map plus63 y) same_row ≡ map plus63 (permuted y same_row)
+-- 0x63 in each byte stays there when bytes change places
+permuted_plus63 : (y : List ℕ) → length y ≡ 16
+    → permuted (map plus63 y) same_row ≡ map plus63 (permuted y same_row)
 unfolding build
-permuted_plus63 = same_on_block (λ y. permuted (map plus63 y) same_row) (λ y. map plus63 (permuted y same_row))
+permuted_plus63 = same_on_block (λ y. permuted (map plus63 y) same_row)
+    (λ y. map plus63 (permuted y same_row))
     (λ f. refl)
 
 -- the constant goes from the S-box to the key
@@ -213,19 +240,25 @@ last_is x k h m e =
     let y = sub_bytes (map untower x) in
     let l : length y ≡ 16 = map_length sbox (map untower x) ∙ map_length untower x ∙ h.0 in
     ap (λ v. last_of v k) (e ∙ plain_is x h.1) ∙ ap (λ v. zip2 bit_xor v k) (permuted_plus63 y l)
-    ∙ plus63_across (permuted y same_row) k ∙ last_shifted y (map plus63 k) l (map_length plus63 k ∙ m)
+    ∙ plus63_across (permuted y same_row) k
+    ∙ last_shifted y (map plus63 k) l (map_length plus63 k ∙ m)
 
 -- ---- SubBytes of bytes as they are
 
+-- by all bytes
 sub_cases : all_below 256 (λ b. plain (tower b) == plus63 (sbox b)) ≡ true
 unfolding all_below first_of second_of sbox
 sub_cases = refl
 
--- bytes brought into the tower basis and looked up at two places are SubBytes of them without its constant
+-- bytes brought into the tower basis and looked up at two places
+-- are SubBytes of them without its constant
 pub sub_bytes_is : (x : List ℕ) → IsBlock x
-    → zip2 (at_places SBOX_FIRST SBOX_SECOND) (map first_of (map (by_nibbles TOWER_LOW TOWER_HIGH) x))
+    → zip2 (at_places SBOX_FIRST SBOX_SECOND)
+    (map first_of (map (by_nibbles TOWER_LOW TOWER_HIGH) x))
     (map second_of (map (by_nibbles TOWER_LOW TOWER_HIGH) x)) ≡ map plus63 (sub_bytes x)
 unfolding sub_bytes
 sub_bytes_is x h =
-    zip2-map (at_places SBOX_FIRST SBOX_SECOND) first_of second_of (map tower x) ∙ map-map plain tower x
-    ∙ maps_same (λ b. plain (tower b)) (λ b. plus63 (sbox b)) sub_cases x h.1 ∙ sym (map-map plus63 sbox x)
+    zip2-map (at_places SBOX_FIRST SBOX_SECOND) first_of second_of (map tower x)
+    ∙ map-map plain tower x
+    ∙ maps_same (λ b. plain (tower b)) (λ b. plus63 (sbox b)) sub_cases x h.1
+    ∙ sym (map-map plus63 sbox x)

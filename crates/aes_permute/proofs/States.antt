@@ -1,6 +1,6 @@
 -- States round by round, under stored round keys.
-use Rattle.std.proofs.Common.{◌≡◌, inl, inr, ℕ, ◌+◌, ◌-◌, ◌<◌, ◌≤◌, if◌then◌else◌, List, [], length, map, refl, ap, sym}
-use Rattle.std.proofs.Common.{◌∙◌, arith}
+use Rattle.std.proofs.Common.{◌≡◌, inl, inr, ℕ, ◌+◌, ◌-◌, ◌<◌, ◌≤◌, if◌then◌else◌, List, [], length}
+use Rattle.std.proofs.Common.{map, refl, ap, sym, ◌∙◌, arith}
 use Rattle.std.proofs.lemmas.Bool.{cases_lt, eq-eqb, ne_eqb}
 use Rattle.std.proofs.lemmas.List.{ext_get_or}
 use Rattle.aes_planes.specs.Fips197 as fips
@@ -20,6 +20,7 @@ module _ (form : LaneForm) (stored : List (List ℕ)) where
   pub last_is_last : fips.last_round (round_keys_of form stored) ≡ fips.last_round stored
   last_is_last = ap (λ v. v - 1) keys_length
 
+  -- round key i, as the form stands for it
   key_at : (i : ℕ) → i < length stored
       → fips.round_key (round_keys_of form stored) i
       ≡ map (key_byte form (fips.last_round stored) i) (fips.round_key stored i)
@@ -47,12 +48,14 @@ module _ (form : LaneForm) (stored : List (List ℕ)) where
   last_key i two e =
       key_at i (omega arith)
       ∙ (λ j. map (if ne_eqb i 0 (omega arith) j then form.first_byte else
-      if eq-eqb i (fips.last_round stored) e j then form.last_byte else form.inner_byte) (fips.round_key stored i))
+      if eq-eqb i (fips.last_round stored) e j then form.last_byte else form.inner_byte)
+      (fips.round_key stored i))
 
   -- ---- the three kinds of rounds, on what a state stands for
 
   -- a block plus the first round key is the state before any round
-  pub first_state : (step : List ℕ → List ℕ) (state : ℕ → ℕ) (b x : List ℕ) {key : List ℕ} → 1 ≤ length stored
+  pub first_state : (step : List ℕ → List ℕ) (state : ℕ → ℕ) (b x : List ℕ) {key : List ℕ}
+      → 1 ≤ length stored
       → map state x ≡ fips.add_round_key b (map form.first_byte key) → key ≡ fips.round_key stored 0
       → map state x ≡ rounds_after step (round_keys_of form stored) b 0
   unfolding rounds_after
@@ -60,19 +63,23 @@ module _ (form : LaneForm) (stored : List (List ℕ)) where
       e ∙ ap (fips.add_round_key b) (ap (map form.first_byte) k ∙ sym (first_key some))
 
   -- a step and an inner round key lead from the state before round i to the state after it
-  pub next_state : (step : List ℕ → List ℕ) (state : ℕ → ℕ) (b x y : List ℕ) {key : List ℕ} (i : ℕ) → 1 ≤ i
+  pub next_state : (step : List ℕ → List ℕ) (state : ℕ → ℕ) (b x y : List ℕ) {key : List ℕ}
+      (i : ℕ) → 1 ≤ i
       → i < fips.last_round stored
-      → map state y ≡ fips.add_round_key (step (map state x)) (map form.inner_byte key) → key ≡ fips.round_key stored i
+      → map state y ≡ fips.add_round_key (step (map state x)) (map form.inner_byte key)
+      → key ≡ fips.round_key stored i
       → map state x ≡ rounds_after step (round_keys_of form stored) b (i - 1)
       → map state y ≡ rounds_after step (round_keys_of form stored) b (i + 1 - 1)
   next_state step state b x y i some before e k h =
       let n : i ≡ i + 1 - 1 = omega arith in
-      e ∙ (λ j. fips.add_round_key (step (h j)) ((ap (map form.inner_byte) k ∙ sym (inner_key i some before)) j))
+      e ∙ (λ j. fips.add_round_key (step (h j))
+      ((ap (map form.inner_byte) k ∙ sym (inner_key i some before)) j))
       ∙ rounds_more step (round_keys_of form stored) b i some
       ∙ ap (rounds_after step (round_keys_of form stored) b) n
 
   -- the last step and the last round key lead from the state before it to the end of all rounds
-  pub last_state : (step last_step : List ℕ → List ℕ) (state : ℕ → ℕ) (b x y : List ℕ) {key : List ℕ} (i : ℕ)
+  pub last_state : (step last_step : List ℕ → List ℕ) (state : ℕ → ℕ) (b x y : List ℕ)
+      {key : List ℕ} (i : ℕ)
       → 2 ≤ length stored → i ≡ fips.last_round stored
       → y ≡ fips.add_round_key (last_step (map state x)) (map form.last_byte key)
       → key ≡ fips.round_key stored (fips.last_round stored)
@@ -81,17 +88,22 @@ module _ (form : LaneForm) (stored : List (List ℕ)) where
   unfolding all_rounds
   last_state step last_step state b x y {key = key} i two n e k h =
       let m : i ≡ fips.last_round (round_keys_of form stored) = n ∙ sym last_is_last in
-      let last : map form.last_byte key ≡ fips.round_key (round_keys_of form stored) (fips.last_round stored) =
+      let last : map form.last_byte key ≡ fips.round_key (round_keys_of form stored)
+      (fips.last_round stored) =
       ap (map form.last_byte) k ∙ sym (last_key (fips.last_round stored) two refl) in
       e ∙ (λ j. fips.add_round_key (last_step (h j)) (last j))
-      ∙ (λ j. fips.add_round_key (last_step (rounds_after step (round_keys_of form stored) b (m j - 1)))
+      ∙ (λ j. fips.add_round_key
+      (last_step (rounds_after step (round_keys_of form stored) b (m j - 1)))
       (fips.round_key (round_keys_of form stored) (sym last_is_last j)))
 
 -- stored round keys stand for those of a list, if each does
-pub stored_are : (form : LaneForm) (stored v : List (List ℕ)) → 2 ≤ length v → length stored ≡ length v
+pub stored_are : (form : LaneForm) (stored v : List (List ℕ)) → 2 ≤ length v
+    → length stored ≡ length v
     → map form.first_byte (fips.round_key stored 0) ≡ fips.round_key v 0
-    → ((i : ℕ) → 1 ≤ i → i < fips.last_round v → map form.inner_byte (fips.round_key stored i) ≡ fips.round_key v i)
-    → map form.last_byte (fips.round_key stored (fips.last_round v)) ≡ fips.round_key v (fips.last_round v)
+    → ((i : ℕ) → 1 ≤ i → i < fips.last_round v
+    → map form.inner_byte (fips.round_key stored i) ≡ fips.round_key v i)
+    → map form.last_byte (fips.round_key stored (fips.last_round v))
+    ≡ fips.round_key v (fips.last_round v)
     → round_keys_of form stored ≡ v
 stored_are form stored v two l at_first between at_last =
     let keys = round_keys_of form stored in
@@ -104,7 +116,8 @@ stored_are form stored v two l at_first between at_last =
             ∙ between i (omega (arith, above)) below
         | inr ge ↦
             let at : i ≡ fips.last_round v = omega (arith, ge, some) in
-            ap (fips.round_key keys) at ∙ last_key form stored _ (omega (arith, two, l)) same ∙ at_last
+            ap (fips.round_key keys) at
+            ∙ last_key form stored _ (omega (arith, two, l)) same ∙ at_last
             ∙ ap (fips.round_key v) (sym at)
       ]
       | inr ge ↦

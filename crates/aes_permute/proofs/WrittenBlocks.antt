@@ -1,20 +1,24 @@
 -- Slices processed some blocks at a time.
-use Rattle.std.proofs.Common.{◌≡◌, ◌≢◌, ℕ, zero, suc, ◌+◌, ◌*◌, ◌<◌, ◌≤◌, List, [], length, set, get_or, ap, sym, ◌∙◌}
-use Rattle.std.proofs.Common.{arith, refl, get_or-set_other}
+use Rattle.std.proofs.Common.{◌≡◌, ◌≢◌, ℕ, zero, suc, ◌+◌, ◌*◌, ◌<◌, ◌≤◌, List, [], length, set}
+use Rattle.std.proofs.Common.{get_or, ap, sym, ◌∙◌, arith, refl, get_or-set_other}
 use Rattle.std.proofs.lemmas.List.{length-set}
 use Rattle.aes_cipher.proofs.SliceRuns.{finished, finished_one}
 use Rattle.aes_permute.specs.Vectors.{written}
 
 -- once place i has f of its element, what is left to finish from place i + 1 on is as it was from i
-finished_is : {X : Type 0} (f : X → X) (i : ℕ) (xs : List X) (y d : X) → i < length xs → y ≡ f (get_or xs i d)
+finished_is : {X : Type 0} (f : X → X) (i : ℕ) (xs : List X) (y d : X) → i < length xs
+    → y ≡ f (get_or xs i d)
     → finished f (i + 1) (set xs i y) ≡ finished f i xs
-finished_is f i xs y d fits e = ap (λ v. finished f (i + 1) (set xs i v)) e ∙ finished_one f i xs d fits
+finished_is f i xs y d fits e = ap (λ v. finished f (i + 1) (set xs i v)) e
+    ∙ finished_one f i xs d fits
 
 -- written blocks change no length
-pub written_length : (b : ℕ → List ℕ) (n i : ℕ) (xs : List (List ℕ)) → length (written b n i xs) ≡ length xs
+pub written_length : (b : ℕ → List ℕ) (n i : ℕ) (xs : List (List ℕ))
+    → length (written b n i xs) ≡ length xs
 unfolding written
 written_length b zero i xs = refl
-written_length b (suc n) i xs = length-set (written b n i xs) (i + n) (b n) ∙ written_length b n i xs
+written_length b (suc n) i xs = length-set (written b n i xs) (i + n) (b n)
+    ∙ written_length b n i xs
 
 -- and nothing after them
 written_after : (b : ℕ → List ℕ) (n i k : ℕ) (xs : List (List ℕ)) → i + n ≤ k
@@ -23,10 +27,12 @@ unfolding written
 written_after b zero i k xs after = refl
 written_after b (suc n) i k xs after =
     let other : k ≢ i + n = omega (arith, after) in
-    get_or-set_other (written b n i xs) (i + n) k (b n) [] other ∙ written_after b n i k xs (omega (arith, after))
+    get_or-set_other (written b n i xs) (i + n) k (b n) [] other
+    ∙ written_after b n i k xs (omega (arith, after))
 
 -- f of n blocks from place i on, written in their places
-pub finished_written : (f : List ℕ → List ℕ) (b : ℕ → List ℕ) (n i : ℕ) (xs : List (List ℕ)) → i + n ≤ length xs
+pub finished_written : (f : List ℕ → List ℕ) (b : ℕ → List ℕ) (n i : ℕ) (xs : List (List ℕ))
+    → i + n ≤ length xs
     → ((k : ℕ) → k < n → b k ≡ f (get_or xs (i + k) []))
     → finished f (i + n) (written b n i xs) ≡ finished f i xs
 unfolding written
@@ -42,7 +48,8 @@ finished_written f b (suc n) i xs fits is =
     ∙ finished_written f b n i xs (omega (arith, fits)) (λ k below. is k (omega (arith, below)))
 
 -- and of twice as many, those of two vectors
-pub finished_two : (f : List ℕ → List ℕ) (b c : ℕ → List ℕ) (n i : ℕ) (xs : List (List ℕ)) → i + 2 * n ≤ length xs
+pub finished_two : (f : List ℕ → List ℕ) (b c : ℕ → List ℕ) (n i : ℕ) (xs : List (List ℕ))
+    → i + 2 * n ≤ length xs
     → ((k : ℕ) → k < n → b k ≡ f (get_or xs (i + k) []))
     → ((k : ℕ) → k < n → c k ≡ f (get_or xs (i + n + k) []))
     → finished f (i + 2 * n) (written c n (i + n) (written b n i xs)) ≡ finished f i xs

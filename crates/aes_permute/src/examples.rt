@@ -1,18 +1,20 @@
-//! Stored round keys at values from outside, as contracts, so that a slip in a definition is refused. The calls have no
-//! effect.
+//! Stored round keys at values from outside, as contracts, so that a slip in a definition is
+//! refused. The calls have no effect.
 //!
-//! `bytes n 0x..` is the n bytes that these digits write. What is stored was computed by a separate model in Python, from
-//! the standard and the basis that `tools/permutation-tables` describes.
+//! `bytes n 0x..` is the n bytes that these digits write. What is stored was computed by a separate
+//! model in Python, from the standard and the basis that `tools/permutation-tables` describes.
 
 ghost use Rattle.std.specs.Prelude.{◌≡◌, ◌∷◌, [], length, map, replicate, slice_set};
 ghost use Rattle.aes_planes.specs.BigEndian.{bytes};
 ghost use Rattle.aes_planes.specs.Fips197 as fips;
 ghost use Rattle.aes_cipher.specs.KeySizes.{IsKeySize};
-ghost use Rattle.aes_permute.specs.Keys.{encrypting, decrypting, key_in_room, lane_key_size, stored_keys, AreInverse, AreZeroAfter, IsCipherSchedule};
+ghost use Rattle.aes_permute.specs.Keys.{encrypting, decrypting, key_in_room, lane_key_size};
+ghost use Rattle.aes_permute.specs.Keys.{stored_keys, AreInverse, AreZeroAfter, IsCipherSchedule};
 ghost use Rattle.aes_permute.specs.Lookup.{looked};
 ghost use Rattle.aes_permute.specs.Stored.{untower, inv_untower, key_untower};
 
-// The stored round keys of Cipher for the key of FIPS 197, C.1, each as one number, highest byte first.
+// The stored round keys of Cipher for the key of FIPS 197, C.1,
+// each as one number, highest byte first.
 const ENCRYPTING: [u128; 11] = [
     0x000102030405060708090a0b0c0d0e0f,
     0x20dfb6e70df387d72ad5bced20deaafa,
@@ -42,8 +44,9 @@ const DECRYPTING: [u128; 11] = [
     0x000102030405060708090a0b0c0d0e0f,
 ];
 
-/// What bytes stand for. 0x15 is 0x53 in the tower basis; in a state of decryption it stands for the affine transformation
-/// of 0x53 (FIPS 197, 5.1.1), and in a round key for the sum of 0x53 and 0x63.
+/// What bytes stand for. 0x15 is 0x53 in the tower basis; in a state of
+/// decryption it stands for the affine transformation of 0x53 (FIPS 197, 5.1.1),
+/// and in a round key for the sum of 0x53 and 0x63.
 #[tactic(auto, unfolding(crate::proofs::OnLiterals::stored_on_literals))]
 pub fn byte_examples()
     ensures tower { untower 0x15 ≡ 0x53 }
@@ -62,10 +65,12 @@ pub fn lookup_examples()
 /// The stored round keys of Cipher for the key of FIPS 197, C.1, and that key.
 #[tactic(auto, using(aes_planes::proofs::OnLiterals::keys), unfolding(aes_planes::proofs::OnLiterals::aes_by_table, crate::proofs::OnLiterals::stored_on_literals))]
 pub fn encrypting_keys()
-    ensures stored { encrypting (map (bytes 16) ENCRYPTING) ≡ fips.key_expansion (bytes 16 0x000102030405060708090a0b0c0d0e0f) }
+    ensures stored { encrypting (map (bytes 16) ENCRYPTING)
+        ≡ fips.key_expansion (bytes 16 0x000102030405060708090a0b0c0d0e0f) }
 {}
 
-/// The stored round keys of EqInvCipher for the same key, and the round keys that C.1 prints for it.
+/// The stored round keys of EqInvCipher for the same key, and
+/// the round keys that C.1 prints for it.
 #[tactic(auto, unfolding(crate::proofs::OnLiterals::stored_on_literals))]
 pub fn decrypting_keys()
     ensures stored { decrypting (map (bytes 16) DECRYPTING) ≡ map (bytes 16) (
@@ -83,8 +88,8 @@ pub fn decrypting_keys()
         []) }
 {}
 
-/// The stored round keys of EqInvCipher are those of the same key as Cipher's. Cipher's own are not, and neither are two
-/// round keys that aren't reversed.
+/// The stored round keys of EqInvCipher are those of the same key as Cipher's. Cipher's own are
+/// not, and neither are two round keys that aren't reversed.
 #[tactic(auto, unfolding(aes_planes::proofs::OnLiterals::inverted_on_literals, crate::proofs::OnLiterals::stored_on_literals))]
 pub fn inverse_examples()
     ensures pair { AreInverse (map (bytes 16) DECRYPTING) (map (bytes 16) ENCRYPTING) }
@@ -92,9 +97,11 @@ pub fn inverse_examples()
     ensures in_order { ¬ AreInverse (bytes 16 1 ∷ bytes 16 2 ∷ []) (bytes 16 1 ∷ bytes 16 2 ∷ []) }
 {}
 
-/// Eleven, thirteen and fifteen round keys are those of keys of 16, 24 and 32 bytes; twelve are of none.
+/// Eleven, thirteen and fifteen round keys are those of keys of
+/// 16, 24 and 32 bytes; twelve are of none.
 pub fn size_examples()
-    ensures sizes { map (λ n. lane_key_size (replicate n [])) (11 ∷ 13 ∷ 15 ∷ []) ≡ 16 ∷ 24 ∷ 32 ∷ [] }
+    ensures sizes { map (λ n. lane_key_size (replicate n [])) (11 ∷ 13 ∷ 15 ∷ [])
+        ≡ 16 ∷ 24 ∷ 32 ∷ [] }
     ensures twelve { ¬ IsCipherSchedule (replicate 12 []) }
 {}
 
@@ -107,7 +114,8 @@ pub fn key_size_examples()
     ensures shorter { ¬ IsKeySize 15 }
     ensures between { ¬ IsKeySize 23 }
     ensures longer { ¬ IsKeySize 33 }
-    ensures round_keys { map (λ n. length (stored_keys n (replicate 15 []))) (16 ∷ 24 ∷ 32 ∷ []) ≡ 11 ∷ 13 ∷ 15 ∷ [] }
+    ensures round_keys { map (λ n. length (stored_keys n (replicate 15 []))) (16 ∷ 24 ∷ 32 ∷ [])
+        ≡ 11 ∷ 13 ∷ 15 ∷ [] }
 {}
 
 /// The keys of A.1, A.2 and A.3, from the first two of their stored round keys.
@@ -124,8 +132,8 @@ pub fn room_examples()
         ≡ bytes 32 0x603deb1015ca71be2b73aef0857d77811f352c073b6108d72d9810a30914dff4 }
 {}
 
-/// A bit that is left in a block after the round keys is found: in the first of them and in the last. Keys of 32 bytes leave
-/// no block over.
+/// A bit that is left in a block after the round keys is found: in the first of them and in the
+/// last. Keys of 32 bytes leave no block over.
 pub fn left_behind_examples()
     ensures first_after_16 { ¬ AreZeroAfter 16 (slice_set (replicate 15 (replicate 16 0)) 11 (replicate 16 1)) }
     ensures last_after_16 { ¬ AreZeroAfter 16 (slice_set (replicate 15 (replicate 16 0)) 14 (replicate 16 1)) }

@@ -1,5 +1,5 @@
-//! Two blocks in one vector of 32 bytes: the first in the lower half. Where a processor has no such vectors, each half is
-//! a vector of its own.
+//! Two blocks in one vector of 32 bytes: the first in the lower half. Where a processor has no such
+//! vectors, each half is a vector of its own.
 
 ghost use Rattle.std.specs.Prelude.{◌≡◌, ◌++◌, take, drop, length};
 ghost use Rattle.aes_planes.specs.Fips197 as fips;
@@ -20,7 +20,7 @@ pub fn twice(x: u8x16) -> u8x32
 }
 
 /// Returns a block in each half.
-#[tactic(auto, using(crate::proofs::ByHalves::in_order))]
+#[tactic(auto, using(crate::proofs::ByHalves::both_in_order))]
 #[inline(always)]
 pub fn joined(lower: u8x16, upper: u8x16) -> u8x32
     requires lower { fips.IsBlock lower }
@@ -37,7 +37,7 @@ pub fn joined(lower: u8x16, upper: u8x16) -> u8x32
 }
 
 /// Returns the lower half.
-#[tactic(auto, using(crate::proofs::ByHalves::halves))]
+#[tactic(auto, using(crate::proofs::ByHalves::picked_halves))]
 #[inline(always)]
 pub fn lower(x: u8x32) -> u8x16
     requires { length x ≡ 32 }
@@ -47,7 +47,7 @@ pub fn lower(x: u8x32) -> u8x16
 }
 
 /// Returns the upper half.
-#[tactic(auto, using(crate::proofs::ByHalves::halves))]
+#[tactic(auto, using(crate::proofs::ByHalves::picked_halves))]
 #[inline(always)]
 pub fn upper(x: u8x32) -> u8x16
     requires { length x ≡ 32 }

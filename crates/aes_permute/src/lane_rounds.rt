@@ -10,8 +10,8 @@ use crate::lanes::Lanes;
 use aes_cipher::cipher::Direction;
 use aes_planes::soft::word::Block;
 
-/// A direction on lanes: its rounds, and the round keys that they use. States and round keys are kept in a basis of the
-/// direction's own.
+/// A direction on lanes: its rounds, and the round keys that they use. States and round keys are
+/// kept in a basis of the direction's own.
 pub trait LaneRounds: Direction {
     /// What a byte of a state stands for.
     ghost state_byte: { ℕ → ℕ };
@@ -33,14 +33,17 @@ pub trait LaneRounds: Direction {
     /// Runs a round that is not the last.
     fn round<L: Lanes>(x: L, key: L) -> L
         ensures { (i : ℕ) → map state_byte (L.block result i)
-            ≡ fips.add_round_key (Self.step (map state_byte (L.block x i))) (map form.inner_byte (L.block key i)) };
+            ≡ fips.add_round_key (Self.step (map state_byte (L.block x i)))
+            (map form.inner_byte (L.block key i)) };
 
     /// Runs the last round, and returns the blocks.
     fn last<L: Lanes>(x: L, key: L) -> L
         ensures { (i : ℕ) → L.block result i
-            ≡ fips.add_round_key (Self.last_step (map state_byte (L.block x i))) (map form.last_byte (L.block key i)) };
+            ≡ fips.add_round_key (Self.last_step (map state_byte (L.block x i)))
+            (map form.last_byte (L.block key i)) };
 
-    /// Returns those that the rounds use, of the stored round keys of Cipher and of EqInvCipher of one key.
+    /// Returns those that the rounds use, of the stored round keys
+    /// of Cipher and of EqInvCipher of one key.
     fn used_of<'a>(keys: &'a [Block], inverse: &'a [Block]) -> &'a [Block]
         requires inverse { decrypting inverse.now ≡ fips.inverted_keys (encrypting keys.now) }
         ensures { round_keys_of form result.now ≡ form.used_keys (encrypting keys.now) };

@@ -1,6 +1,7 @@
 //! Vectors of one block or of two, and what the rounds do with them: the same with each block.
 
-ghost use Rattle.std.specs.Prelude.{◌≡◌, ◌⊎◌, ◌+◌, ◌≤◌, ◌<◌, ℕ, List, [], map, length, get_or, bit_xor};
+ghost use Rattle.std.specs.Prelude.{◌≡◌, ◌⊎◌, ◌+◌, ◌≤◌, ◌<◌, ℕ, List, [], map, length, get_or};
+ghost use Rattle.std.specs.Prelude.{bit_xor};
 ghost use Rattle.std.proofs.Common.{arith};
 ghost use Rattle.std.specs.Simd.Lanes.{zip2};
 ghost use Rattle.aes_planes.specs.Fips197 as fips;

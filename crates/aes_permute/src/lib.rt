@@ -1,5 +1,5 @@
-//! AES by vector permutations (FIPS 197): a block in one vector, and the S-box by tables of sixteen bytes that stand in
-//! vectors.
+//! AES by vector permutations (FIPS 197): a block in one vector, and the S-box by tables of sixteen
+//! bytes that stand in vectors.
 #![tactic(auto)]
 
 pub mod blocks;

@@ -1,5 +1,5 @@
-//! The rounds of Cipher and EqInvCipher on lanes, and their round keys. States are kept in the tower basis, and round
-//! keys so that the constant of the S-box is added with them.
+//! The rounds of Cipher and EqInvCipher on lanes, and their round keys. States are kept in the
+//! tower basis, and round keys so that the constant of the S-box is added with them.
 
 ghost use Rattle.std.specs.Prelude.{◌≡◌, ℕ, true, false, map, bit_xor};
 ghost use Rattle.std.specs.Simd.Lanes.{zip2};
@@ -40,7 +40,8 @@ impl LaneRounds for Encrypt {
         let at = places_of(x);
         let one = looked_up(at, ONE_FIRST, ONE_SECOND);
         let two = looked_up(at, TWO_FIRST, TWO_SECOND);
-        // A byte's double with the next row's byte: a row further on, the same sums hold the rest of the product with 3.
+        // A byte's double with the next row's byte: a row further on, the same
+        // sums hold the rest of the product with 3.
         let next = one.permuted([5, 6, 7, 4, 9, 10, 11, 8, 13, 14, 15, 12, 1, 2, 3, 0]);
         let pairs = two.sum(next);
         let first = pairs.permuted([0, 5, 10, 15, 4, 9, 14, 3, 8, 13, 2, 7, 12, 1, 6, 11]);
@@ -135,14 +136,16 @@ impl LaneRounds for Decrypt {
     fn processes() {}
 }
 
-// The products with the coefficients 14, 11 and 13 of InvMixColumns (FIPS 197, 5.3.3), of those with 1, 4, 9 and 15.
+// The products with the coefficients 14, 11 and 13 of InvMixColumns
+// (FIPS 197, 5.3.3), of those with 1, 4, 9 and 15.
 #[inline(always)]
 fn coefficients<L: Lanes>(by_1: L, by_4: L, by_9: L, by_15: L) -> (L, L, L)
     ensures by_14 { (i : ℕ) → L.block result.0 i ≡ zip2 bit_xor (L.block by_1 i) (L.block by_15 i) }
     ensures by_11 { (i : ℕ) → L.block result.1 i ≡ zip2 bit_xor (L.block by_15 i) (L.block by_4 i) }
     ensures by_13 { (i : ℕ) → L.block result.2 i ≡ zip2 bit_xor (L.block by_4 i) (L.block by_9 i) }
 {
-    // Each product is of use twice. LLVM turns the two look-ups of a sum one by one where nothing else uses the sum.
+    // Each product is of use twice. LLVM turns the two look-ups of a sum
+    // one by one where nothing else uses the sum.
     (by_1.sum(by_15), by_15.sum(by_4), by_4.sum(by_9))
 }
 
@@ -152,13 +155,13 @@ pub fn encrypting_key(key: u8x16) -> u8x16
     requires { fips.IsBlock key }
     ensures { map key_untower result ≡ key }
 {
-    // The sum is made after the look-up, which the substitution of the next words makes too. It is of what is looked up
-    // for 0x63.
+    // The sum is made after the look-up, which the substitution of the next words makes too. It is
+    // of what is looked up for 0x63.
     looked_up_by_nibbles(key, TOWER_LOW, TOWER_HIGH) ^ u8x16::splat(0x6e)
 }
 
-/// Returns a round key of EqInvCipher between the first and the last as it is stored: InvMixColumns of that of Cipher
-/// (FIPS 197, 5.3.5).
+/// Returns a round key of EqInvCipher between the first and the last as it is stored: InvMixColumns
+/// of that of Cipher (FIPS 197, 5.3.5).
 #[tactic(auto, unfolding(crate::specs::Lookup::is_index))]
 #[inline(always)]
 pub fn decrypting_key(key: u8x16) -> u8x16

@@ -1,4 +1,5 @@
-//! The S-box and its inverse on lanes: the inverse in the field by its two places, and tables read there.
+//! The S-box and its inverse on lanes: the inverse in the field by
+//! its two places, and tables read there.
 
 ghost use Rattle.std.specs.Prelude.{◌≡◌, ℕ, map};
 ghost use Rattle.std.specs.Simd.Lanes.{zip2};
@@ -11,8 +12,8 @@ use crate::lanes::{Lanes, looked_up_by_nibbles};
 use crate::tables::{INVERSE, SBOX_FIRST, SBOX_SECOND, SCALED_INVERSE, TOWER_HIGH, TOWER_LOW};
 use std::simd::prelude::*;
 
-/// The two places of an inverse in the field, lane by lane. What is linear in the inverse is the sum of two tables'
-/// entries.
+/// The two places of an inverse in the field, lane by lane. What is linear in the inverse is the
+/// sum of two tables' entries.
 #[derive(Clone, Copy)]
 pub struct TwoPlaces<L> {
     /// The place in the first table.
@@ -50,7 +51,8 @@ pub fn places_of<L: Lanes>(x: L) -> TwoPlaces<L>
 pub fn looked_up<L: Lanes>(at: TwoPlaces<L>, first: [u8; 16], second: [u8; 16]) -> L
     requires first_places { (i : ℕ) → AreIndices (L.block at.first i) }
     requires second_places { (i : ℕ) → AreIndices (L.block at.second i) }
-    ensures { (i : ℕ) → L.block result i ≡ zip2 (at_places first second) (L.block at.first i) (L.block at.second i) }
+    ensures { (i : ℕ) → L.block result i ≡ zip2 (at_places first second) (L.block at.first i)
+        (L.block at.second i) }
 {
     let by_first = at.first.lookup(first);
     let by_second = at.second.lookup(second);

@@ -1,6 +1,7 @@
 //! The tables, of sixteen bytes each. `tools/permutation-tables` derives them, and says how.
 
-/// A byte in the tower basis, in which states of Cipher are kept: by its low nibble, and by its high nibble.
+/// A byte in the tower basis, in which states of Cipher are kept: by
+/// its low nibble, and by its high nibble.
 pub const TOWER_LOW: [u8; 16] = [
     0x00, 0x01, 0x1c, 0x1d, 0x2d, 0x2c, 0x31, 0x30, 0x27, 0x26, 0x3b, 0x3a, 0x0a, 0x0b, 0x16, 0x17,
 ];
@@ -18,8 +19,8 @@ pub const UNTOWER_HIGH: [u8; 16] = [
     0x00, 0xb2, 0xb5, 0x07, 0x3a, 0x88, 0x8f, 0x3d, 0xac, 0x1e, 0x19, 0xab, 0x96, 0x24, 0x23, 0x91,
 ];
 
-/// What the affine transformation of the S-box, without its constant, makes a byte of, in the tower basis: states of
-/// EqInvCipher are kept so.
+/// What the affine transformation of the S-box, without its constant, makes a byte of, in the tower
+/// basis: states of EqInvCipher are kept so.
 pub const INV_TOWER_LOW: [u8; 16] = [
     0x00, 0xb5, 0xdc, 0x69, 0xdb, 0x6e, 0x07, 0xb2, 0x14, 0xa1, 0xc8, 0x7d, 0xcf, 0x7a, 0x13, 0xa6,
 ];
@@ -116,8 +117,8 @@ pub const INV_15_SECOND: [u8; 16] = [
     0x00, 0x8e, 0x1c, 0x63, 0x5c, 0xad, 0x7f, 0xf1, 0xed, 0xb1, 0xd2, 0xce, 0x23, 0x40, 0x3f, 0x92,
 ];
 
-/// A byte of a round key times 1, 4, 9 and 15, in the basis of EqInvCipher: by its low nibble, and by its high nibble.
-/// The first has the constant of the S-box too, so that it is in each sum once.
+/// A byte of a round key times 1, 4, 9 and 15, in the basis of EqInvCipher: by its low nibble, and
+/// by its high nibble. The first has the constant of the S-box too, so that it is in each sum once.
 pub const KEY_1_LOW: [u8; 16] = [
     0x2c, 0x99, 0xf0, 0x45, 0xf7, 0x42, 0x2b, 0x9e, 0x38, 0x8d, 0xe4, 0x51, 0xe3, 0x56, 0x3f, 0x8a,
 ];

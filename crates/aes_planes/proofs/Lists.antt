@@ -1,13 +1,17 @@
 -- Lists that are built of a function, and lists with the same elements.
-use Rattle.std.proofs.Common.{◌≡◌, ℕ, zero, suc, ◌+◌, ◌<◌, List, [], ◌∷◌, length, get_or, map, refl, ap, ◌∙◌, arith}
+use Rattle.std.proofs.Common.{◌≡◌, ℕ, zero, suc, ◌+◌, ◌<◌, List, [], ◌∷◌, length, get_or, map, refl}
+use Rattle.std.proofs.Common.{ap, ◌∙◌, arith}
 use Rattle.aes_planes.specs.Fips197.{build, build_from}
 pub use Rattle.aes_planes.specs.Private.BuiltLength.{length-build}
 
-get_or-build_from : {A : Type 0} (a n i : ℕ) (f : ℕ → A) (d : A) → i < n → get_or (build_from a n f) i d ≡ f (a + i)
+-- by recursion, from any start
+get_or-build_from : {A : Type 0} (a n i : ℕ) (f : ℕ → A) (d : A) → i < n
+    → get_or (build_from a n f) i d ≡ f (a + i)
 unfolding build_from
 get_or-build_from a zero i f d h = absurd (omega arith)
 get_or-build_from a (suc n) zero f d h = ap f (omega arith)
-get_or-build_from a (suc n) (suc i) f d h = get_or-build_from (a + 1) n i f d (omega arith) ∙ ap f (omega arith)
+get_or-build_from a (suc n) (suc i) f d h = get_or-build_from (a + 1) n i f d (omega arith)
+    ∙ ap f (omega arith)
 
 -- element i of the list built of f is f i
 pub get_or-build : {A : Type 0} (n i : ℕ) (f : ℕ → A) (d : A) → i < n → get_or (build n f) i d ≡ f i
@@ -15,15 +19,18 @@ unfolding build
 get_or-build n i f d h = get_or-build_from 0 n i f d h ∙ ap f (omega arith)
 
 -- what holds of each of f's values, and of what stands past the end, holds in each place
-build_from_each : {A : Type 0} (P : A → Type 0) (d : A) → P d → (a n : ℕ) (f : ℕ → A) → ((i : ℕ) → P (f i)) → (i : ℕ)
+build_from_each : {A : Type 0} (P : A → Type 0) (d : A) → P d → (a n : ℕ) (f : ℕ → A)
+    → ((i : ℕ) → P (f i)) → (i : ℕ)
     → P (get_or (build_from a n f) i d)
 unfolding build_from
 build_from_each P d past a zero f h i = past
 build_from_each P d past a (suc n) f h zero = h a
 build_from_each P d past a (suc n) f h (suc i) = build_from_each P d past (a + 1) n f h i
 
--- what holds of each f i, and of what stands past the end, holds at every place of the list built of f
-pub build_each : {A : Type 0} (P : A → Type 0) (d : A) → P d → (n : ℕ) (f : ℕ → A) → ((i : ℕ) → P (f i)) → (i : ℕ)
+-- what holds of each f i, and of what stands past the end,
+-- holds at every place of the list built of f
+pub build_each : {A : Type 0} (P : A → Type 0) (d : A) → P d → (n : ℕ) (f : ℕ → A)
+    → ((i : ℕ) → P (f i)) → (i : ℕ)
     → P (get_or (build n f) i d)
 unfolding build
 build_each P d past = build_from_each P d past 0
@@ -45,15 +52,18 @@ build_from_is a (suc n) f (x ∷ xs) d l h =
 pub build_is : {A : Type 0} (n : ℕ) (f : ℕ → A) (xs : List A) (d : A) → length xs ≡ n
     → ((i : ℕ) → i < n → f i ≡ get_or xs i d) → build n f ≡ xs
 unfolding build
-build_is n f xs d l h = build_from_is 0 n f xs d l (λ i lt. let s : 0 + i ≡ i = omega arith in ap f s ∙ h i lt)
+build_is n f xs d l h =
+    build_from_is 0 n f xs d l (λ i lt. let s : 0 + i ≡ i = omega arith in ap f s ∙ h i lt)
 
 -- a list is built of its elements
-pub built : {A : Type 0} (n : ℕ) (xs : List A) (d : A) → length xs ≡ n → build n (λ i. get_or xs i d) ≡ xs
+pub built : {A : Type 0} (n : ℕ) (xs : List A) (d : A) → length xs ≡ n
+    → build n (λ i. get_or xs i d) ≡ xs
 built n xs d l = build_is n (λ i. get_or xs i d) xs d l (λ i lt. refl)
 
 -- ---- what a function makes of lists
 
 -- two functions with the same values leave the same of each element
-pub map-same : {A B : Type 0} (f g : A → B) (xs : List A) → ((x : A) → f x ≡ g x) → map f xs ≡ map g xs
+pub map-same : {A B : Type 0} (f g : A → B) (xs : List A) → ((x : A) → f x ≡ g x)
+    → map f xs ≡ map g xs
 map-same f g [] e = refl
 map-same f g (x ∷ xs) e = (λ t. e x t ∷ map-same f g xs e t)

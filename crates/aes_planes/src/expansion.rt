@@ -1,4 +1,5 @@
-//! The key expansion (FIPS 197, 5.2), four words at a time, once for every form in which round keys are made and stored.
+//! The key expansion (FIPS 197, 5.2), four words at a time, once for every
+//! form in which round keys are made and stored.
 
 ghost use Rattle.std.specs.Prelude.{◌≡◌, ◌≢◌, ◌⊎◌, ◌+◌, ◌*◌, ◌≤◌, ℕ, List, length, take, drop};
 ghost use Rattle.aes_planes.specs.Expansion.{substitutions};
@@ -7,11 +8,12 @@ ghost use Rattle.aes_planes.specs.Planes.{constant_block, columns_summed, column
 
 use crate::soft::sbox::Layers;
 
-// The powers of x in the field, from 0 to 9: the bytes that round constants begin with (FIPS 197, 5.2).
+// The powers of x in the field, from 0 to 9: the bytes that
+// round constants begin with (FIPS 197, 5.2).
 const POWERS_OF_X: [u8; 10] = [0x01, 0x02, 0x04, 0x08, 0x10, 0x20, 0x40, 0x80, 0x1b, 0x36];
 
-/// What four words of the key expansion are (planes, a vector or a block): how they are made, and how they are stored as a
-/// round key.
+/// What four words of the key expansion are (planes, a vector or a block): how they are made, and
+/// how they are stored as a round key.
 pub trait FourWords {
     /// Four words.
     type Words: Copy;
@@ -36,8 +38,8 @@ pub trait FourWords {
         requires within { from + 16 ≤ length key.now }
         ensures { AreWords result (take 16 (drop from key.now)) };
 
-    /// Four words of which the first is due the rotation, the substitution and a round constant: `before` has the four
-    /// that are one key earlier, `last` the four just before them.
+    /// Four words of which the first is due the rotation, the substitution and a round constant:
+    /// `before` has the four that are one key earlier, `last` the four just before them.
     fn rotated(
         before: Self::Words,
         last: Self::Words,
@@ -45,7 +47,8 @@ pub trait FourWords {
         layers: &mut Layers,
     ) -> Self::Words
         ensures words { (x y : List ℕ) → AreWords before x → AreWords last y → AreWords result
-            (columns_summed 1 3 x (fips.add_round_key (fips.sub_bytes y) (constant_block constant))) }
+            (columns_summed 1 3 x
+            (fips.add_round_key (fips.sub_bytes y) (constant_block constant))) }
         ensures layers { layers.new ≡ layers.old + LAYERS };
 
     /// Four words of which the first is due the substitution alone.
@@ -54,7 +57,8 @@ pub trait FourWords {
             → AreWords result (columns_summed 0 3 x (fips.sub_bytes y)) }
         ensures layers { layers.new ≡ layers.old + LAYERS };
 
-    /// Four words of which the first is due neither: column 1 of `last` has the word just before them.
+    /// Four words of which the first is due neither: column 1 of
+    /// `last` has the word just before them.
     fn plain(before: Self::Words, last: Self::Words) -> Self::Words
         ensures { (x y : List ℕ) → AreWords before x → AreWords last y
             → AreWords result (columns_summed 0 1 x y) };
@@ -64,7 +68,8 @@ pub trait FourWords {
         ensures { (x y : List ℕ) → AreWords left x → AreWords right y
             → AreWords result (columns_straddled x y) };
 
-    /// The four words of round key `i` of those from 0 to `last` once more: read back, where it is slower to keep them.
+    /// The four words of round key `i` of those from 0 to `last` once more:
+    /// read back, where it is slower to keep them.
     fn read_back(
         stored: &[Self::StoredIn],
         i: usize,
@@ -73,7 +78,8 @@ pub trait FourWords {
     ) -> Self::Words
         requires sized { length stored.now ≡ length_for last }
         requires within { i ≤ last }
-        ensures { (x : List ℕ) → IsStored stored.now last i x → AreWords words x → AreWords result x };
+        ensures { (x : List ℕ) → IsStored stored.now last i x → AreWords words x
+            → AreWords result x };
 
     /// Stores four words as round key `i` of those from 0 to `last`. The others stay.
     fn store(stored: &mut [Self::StoredIn], i: usize, last: usize, words: Self::Words)
@@ -86,14 +92,16 @@ pub trait FourWords {
         ensures same_length { length stored.new ≡ length stored.old };
 }
 
-/// Stores the round keys of a key of any size: KeyExpansion (FIPS 197, 5.2). Where the length of the key is a constant,
-/// one of the three loops is compiled.
+/// Stores the round keys of a key of any size: KeyExpansion (FIPS 197, 5.2). Where the length of
+/// the key is a constant, one of the three loops is compiled.
 #[inline(always)]
 pub fn expand<F: FourWords>(stored: &mut [F::StoredIn], key: &[u8], layers: &mut Layers)
-    requires one_of_three { (length key.now ≡ 16) ⊎ ((length key.now ≡ 24) ⊎ (length key.now ≡ 32)) }
+    requires one_of_three { (length key.now ≡ 16)
+        ⊎ ((length key.now ≡ 24) ⊎ (length key.now ≡ 32)) }
     requires room { length stored.old ≡ F.length_for (fips.rounds key.now) }
     ensures keys { (i : ℕ) → i ≤ fips.rounds key.now
-        → F.IsStored stored.new (fips.rounds key.now) i (fips.round_key (fips.key_expansion key.now) i) }
+        → F.IsStored stored.new (fips.rounds key.now) i
+        (fips.round_key (fips.key_expansion key.now) i) }
     ensures layers { layers.new ≡ layers.old + substitutions (length key.now) * F.LAYERS }
     ensures same_length { length stored.new ≡ length stored.old }
 {
@@ -111,7 +119,8 @@ pub fn expand<F: FourWords>(stored: &mut [F::StoredIn], key: &[u8], layers: &mut
 fn expand_128<F: FourWords>(stored: &mut [F::StoredIn], key: &[u8], layers: &mut Layers)
     requires room { length stored.old ≡ F.length_for 10 }
     requires sized { length key.now ≡ 16 }
-    ensures keys { (i : ℕ) → i ≤ 10 → F.IsStored stored.new 10 i (fips.round_key (fips.key_expansion key.now) i) }
+    ensures keys { (i : ℕ) → i ≤ 10
+        → F.IsStored stored.new 10 i (fips.round_key (fips.key_expansion key.now) i) }
     ensures layers { layers.new ≡ layers.old + 10 * F.LAYERS }
     ensures same_length { length stored.new ≡ F.length_for 10 }
 {
@@ -129,7 +138,8 @@ fn expand_128<F: FourWords>(stored: &mut [F::StoredIn], key: &[u8], layers: &mut
 fn expand_192<F: FourWords>(stored: &mut [F::StoredIn], key: &[u8], layers: &mut Layers)
     requires room { length stored.old ≡ F.length_for 12 }
     requires sized { length key.now ≡ 24 }
-    ensures keys { (i : ℕ) → i ≤ 12 → F.IsStored stored.new 12 i (fips.round_key (fips.key_expansion key.now) i) }
+    ensures keys { (i : ℕ) → i ≤ 12
+        → F.IsStored stored.new 12 i (fips.round_key (fips.key_expansion key.now) i) }
     ensures layers { layers.new ≡ layers.old + 8 * F.LAYERS }
     ensures same_length { length stored.new ≡ F.length_for 12 }
 {
@@ -155,7 +165,8 @@ fn expand_192<F: FourWords>(stored: &mut [F::StoredIn], key: &[u8], layers: &mut
 fn expand_256<F: FourWords>(stored: &mut [F::StoredIn], key: &[u8], layers: &mut Layers)
     requires room { length stored.old ≡ F.length_for 14 }
     requires sized { length key.now ≡ 32 }
-    ensures keys { (i : ℕ) → i ≤ 14 → F.IsStored stored.new 14 i (fips.round_key (fips.key_expansion key.now) i) }
+    ensures keys { (i : ℕ) → i ≤ 14
+        → F.IsStored stored.new 14 i (fips.round_key (fips.key_expansion key.now) i) }
     ensures layers { layers.new ≡ layers.old + 13 * F.LAYERS }
     ensures same_length { length stored.new ≡ F.length_for 14 }
 {

@@ -1,9 +1,11 @@
--- Stored round keys on literals: what a lemma unfolds to compute them, and a claim at each number below another.
+-- Stored round keys on literals: what a lemma unfolds to compute them,
+-- and a claim at each number below another.
 use Rattle.std.proofs.Common.{◌≡◌, ◌⊎◌, inl, inr, ℕ, zero, suc, ◌<◌, ◌≤◌, subst, arith}
 use Rattle.std.proofs.lemmas.Bool.{cases_lt}
 use Rattle.std.specs.Prelude.{⊤}
 use Rattle.aes_planes.specs.Bits.{bit}
-use Rattle.aes_planes.specs.Fips197.{build, build_from, state, inv_shift_rows, shift_times, inv_shift_times}
+use Rattle.aes_planes.specs.Fips197.{build, build_from, state, inv_shift_rows, shift_times}
+use Rattle.aes_planes.specs.Fips197.{inv_shift_times}
 use Rattle.aes_planes.proofs.OnLiterals.{aes_on_literals}
 use Rattle.aes_planes.specs.Planes.{held, words_at}
 use Rattle.aes_soft.specs.Stored.{stored_key, first_slot, key_of}
@@ -19,6 +21,7 @@ abbrev pub Below : ℕ → (ℕ → Type 0) → Type 0
 Below zero P = Unit {0}
 Below (suc n) P = Below n P × P n
 
+-- the step: the last number, or one of those below
 last : (n i : ℕ) (P : ℕ → Type 0) → P n → (i < n → P i) → (i < n) ⊎ (n ≤ i) → i < suc n → P i
 last n i P here below (inl lt) h = below lt
 last n i P here below (inr le) h = let e : n ≡ i = omega arith in subst P e here

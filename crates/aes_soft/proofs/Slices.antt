@@ -1,6 +1,6 @@
 -- Slices that are copied element by element, and worked batch by batch.
-use Rattle.std.proofs.Common.{◌≡◌, ℕ, ◌+◌, ◌-◌, ◌*◌, ◌/◌, ◌%◌, ◌<◌, ◌≤◌, List, ◌++◌, length, map, take, drop, refl, sym}
-use Rattle.std.proofs.Common.{ap, subst, ◌∙◌, arith}
+use Rattle.std.proofs.Common.{◌≡◌, ℕ, ◌+◌, ◌-◌, ◌*◌, ◌/◌, ◌%◌, ◌<◌, ◌≤◌, List, ◌++◌, length, map}
+use Rattle.std.proofs.Common.{take, drop, refl, sym, ap, subst, ◌∙◌, arith}
 use Rattle.std.proofs.Math.Nat.{add-div_right, mod-eq-sub-mod}
 use Rattle.std.proofs.lemmas.List.{length-map}
 use borrow.Rule.Slice.PartMut.{put_mid, same_len_mid}
@@ -21,22 +21,27 @@ one_batch_less r m s some le =
     let e : m / s ≡ (m - s) / s + 1 = ap (λ v. v / s) (sym same) ∙ add-div_right (m - s) some in
     ap (λ v. r * v) e ∙ grind arith
 
--- a loop that applies f to each element of a list, `size` at a time, and has come to the place `done`
+-- a loop that applies f to each element of a list, `size` at a
+-- time, and has come to the place `done`
 pub record Batched {X : Type 0} (f : X → X) (size done : ℕ) (old now : List X) : Type 0 where
   pub some : 0 < size
   pub within : done ≤ length now
   pub whole : (length now - done) % size ≡ 0
   pub value : finished f done now ≡ map f old
 
--- one more whole batch is replaced by f of each of its elements, and the loop has come that much further
-pub next_batch : {X : Type 0} (f : X → X) (size done k : ℕ) (old now ys : List X) → Batched f size done old now
+-- one more whole batch is replaced by f of each of its elements,
+-- and the loop has come that much further
+pub next_batch : {X : Type 0} (f : X → X) (size done k : ℕ) (old now ys : List X)
+    → Batched f size done old now
     → done < length now → k ≡ size → ys ≡ map f (take k (drop done now))
     → Batched f size (done + size) old (put_mid done k now ys)
 next_batch f size done k old now ys b some same is =
-    let fits : done + size ≤ length now = omega (arith, one_fits (length now - done) size (omega arith) b.whole) in
+    let fits : done + size ≤ length now =
+    omega (arith, one_fits (length now - done) size (omega arith) b.whole) in
     let sized : length (put_mid done k now ys) ≡ length now =
     same_len_mid done k now ys (ap length is ∙ length-map (take k (drop done now)) f) in
-    let left : length (put_mid done k now ys) - (done + size) ≡ length now - done - size = omega arith in
+    let left : length (put_mid done k now ys) - (done + size) ≡ length now - done - size =
+    omega arith in
     record {
       some = b.some;
       within = omega arith;
@@ -45,12 +50,15 @@ next_batch f size done k old now ys b some same is =
     }
 
 -- f of the first n elements, written in their places
-pub front_finished : {X : Type 0} (f : X → X) (n : ℕ) (xs ys : List X) → n ≤ length xs → ys ≡ map f (take n xs)
+pub front_finished : {X : Type 0} (f : X → X) (n : ℕ) (xs ys : List X) → n ≤ length xs
+    → ys ≡ map f (take n xs)
     → finished f n (ys ++ drop n xs) ≡ map f xs
 front_finished f n xs ys le is =
     let e : 0 + n ≡ n = omega arith in
-    subst (λ k. finished f k (ys ++ drop n xs) ≡ map f xs) e (finished_run f 0 n n xs ys refl (omega arith) is)
+    subst (λ k. finished f k (ys ++ drop n xs) ≡ map f xs) e
+    (finished_run f 0 n n xs ys refl (omega arith) is)
 
 -- and of none
-pub none_finished : {X : Type 0} (f : X → X) (n : ℕ) (xs : List X) → n ≡ 0 → finished f n xs ≡ map f xs
+pub none_finished : {X : Type 0} (f : X → X) (n : ℕ) (xs : List X) → n ≡ 0
+    → finished f n xs ≡ map f xs
 none_finished f n xs e = ap (λ k. finished f k xs) e

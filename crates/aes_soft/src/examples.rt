@@ -1,8 +1,9 @@
-//! Round keys as stored, and counts, at values from outside, as contracts, so that a slip in a definition is refused.
+//! Round keys as stored, and counts, at values from outside, as
+//! contracts, so that a slip in a definition is refused.
 //!
-//! `bytes n 0x..` is the n bytes that these digits write. Round keys and words were computed by a separate model in
-//! Python, from the standard and the layouts: bit 4 r + c of word 8 i + p is bit p of the byte in row r and column c of
-//! what is stored for round key i.
+//! `bytes n 0x..` is the n bytes that these digits write. Round keys and words were computed by a
+//! separate model in Python, from the standard and the layouts: bit 4 r + c of word 8 i + p is bit
+//! p of the byte in row r and column c of what is stored for round key i.
 
 ghost use Rattle.std.specs.Prelude.{◌≡◌, ◌*◌, ◌∷◌, [], map};
 ghost use Rattle.aes_planes.specs.BigEndian.{bytes};
@@ -67,8 +68,8 @@ pub fn full_words()
     zero_key_expansion();
 }
 
-/// The key of 32 bytes 00, 01, .., 1f, read from the words that either layout stores for its round keys 0 and 1, which
-/// are its halves; and how many bytes the key of 88, 104 and 120 words has.
+/// The key of 32 bytes 00, 01, .., 1f, read from the words that either layout stores for its round
+/// keys 0 and 1, which are its halves; and how many bytes the key of 88, 104 and 120 words has.
 #[tactic(auto, unfolding(crate::proofs::OnLiterals::stored_on_literals))]
 pub fn key_example()
     ensures of_32 { key_of 32 1 (full 14) (map (word_bits 16) (

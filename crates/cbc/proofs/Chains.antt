@@ -1,9 +1,9 @@
 -- Chains of blocks, written block by block, and that the way back leads back.
-use Rattle.std.proofs.Common.{◌≡◌, ℕ, suc, ◌+◌, ◌<◌, ◌≤◌, List, [], ◌∷◌, ◌++◌, length, get_or, set, take, drop, refl, ap}
-use Rattle.std.proofs.Common.{sym, ◌∙◌, arith}
+use Rattle.std.proofs.Common.{◌≡◌, ℕ, suc, ◌+◌, ◌<◌, ◌≤◌, List, [], ◌∷◌, ◌++◌, length, get_or, set}
+use Rattle.std.proofs.Common.{take, drop, refl, ap, sym, ◌∙◌, arith}
 use Rattle.std.proofs.Math.Seq.{drop-cons, drop-length, take-length}
-use Rattle.std.proofs.lemmas.List.{take_more_set, drop-set-lt, append_assoc, append-nil, drop-drop, take-append-drop}
-use Rattle.std.proofs.lemmas.List.{get_or-drop, length-drop, length-take}
+use Rattle.std.proofs.lemmas.List.{take_more_set, drop-set-lt, append_assoc, append-nil, drop-drop}
+use Rattle.std.proofs.lemmas.List.{take-append-drop, get_or-drop, length-drop, length-take}
 use Rattle.std.proofs.lemmas.Slice.{take-put_mid, drop-put_mid}
 use Rattle.aes_planes.specs.Fips197.{IsBlock, add_round_key, cipher_with, inv_cipher_with}
 use Rattle.cbc.specs.Cbc.{chained, last_of, unchained}
@@ -14,33 +14,43 @@ written : (rest : List (List ℕ)) (xs : List (List ℕ)) (i : ℕ) (v : List �
     → take (i + 1) (set xs i v) ++ rest ≡ take i xs ++ v ∷ rest
 written rest xs i v lt = rw (take_more_set xs i v lt, append_assoc)
 
+-- one block of what is left, and the rest
 left : (xs : List (List ℕ)) (i : ℕ) → i < length xs → drop i xs ≡ get_or xs i [] ∷ drop (i + 1) xs
-left xs i lt = let n : suc i ≡ i + 1 = omega arith in drop-cons xs i [] lt ∙ ap (λ n. get_or xs i [] ∷ drop n xs) n
+left xs i lt = let n : suc i ≡ i + 1 = omega arith in drop-cons xs i [] lt
+    ∙ ap (λ n. get_or xs i [] ∷ drop n xs) n
 
 -- nothing is left
-pub chain_finished : (rest : List (List ℕ) → List (List ℕ)) → rest [] ≡ [] → (xs ys : List (List ℕ)) (i : ℕ)
+pub chain_finished : (rest : List (List ℕ) → List (List ℕ)) → rest [] ≡ []
+    → (xs ys : List (List ℕ)) (i : ℕ)
     → i ≡ length xs → i ≡ length ys → take i xs ++ rest (drop i ys) ≡ xs
 chain_finished rest none xs ys i e f =
     ap (λ k. take k xs ++ rest (drop i ys)) e ∙ ap (λ k. take (length xs) xs ++ rest (drop k ys)) f
     ∙ (λ j. take-length xs j ++ rest (drop-length ys j)) ∙ ap (λ zs. xs ++ zs) none ∙ append-nil xs
 
-pub chain_passed : (before : List ℕ) (xs : List (List ℕ)) (i : ℕ) → i ≡ length xs → before ≡ last_of before (drop i xs)
+-- and the last block is the one before
+pub chain_passed : (before : List ℕ) (xs : List (List ℕ)) (i : ℕ) → i ≡ length xs
+    → before ≡ last_of before (drop i xs)
 unfolding last_of
-chain_passed before xs i e = sym (ap (λ k. last_of before (drop k xs)) e ∙ ap (last_of before) (drop-length xs))
+chain_passed before xs i e =
+    sym (ap (λ k. last_of before (drop k xs)) e ∙ ap (last_of before) (drop-length xs))
 
 -- a chain goes on after a cut with the last encrypted block before it
-pub last_of_cut : (before : List ℕ) (a b : List (List ℕ)) → last_of before (a ++ b) ≡ last_of (last_of before a) b
+pub last_of_cut : (before : List ℕ) (a b : List (List ℕ))
+    → last_of before (a ++ b) ≡ last_of (last_of before a) b
 unfolding last_of
 last_of_cut before [] b = refl
 last_of_cut before (c ∷ cs) b = last_of_cut c cs b
 
+-- a chain that is encrypted
 pub chained_cut : (w : List (List ℕ)) (before : List ℕ) (a b : List (List ℕ))
-    → chained w before (a ++ b) ≡ chained w before a ++ chained w (last_of before (chained w before a)) b
+    → chained w before (a ++ b) ≡ chained w before a
+    ++ chained w (last_of before (chained w before a)) b
 unfolding chained last_of
 chained_cut w before [] b = refl
 chained_cut w before (x ∷ xs) b =
     let c = cipher_with w (add_round_key x before) in ap (λ ys. c ∷ ys) (chained_cut w c xs b)
 
+-- and one that is decrypted
 pub unchained_cut : (w : List (List ℕ)) (before : List ℕ) (a b : List (List ℕ))
     → unchained w before (a ++ b) ≡ unchained w before a ++ unchained w (last_of before a) b
 unfolding unchained last_of
@@ -62,18 +72,23 @@ pub last_left : (before : List ℕ) (xs : List (List ℕ)) (i : ℕ) → i < len
 unfolding last_of
 last_left before xs i lt = ap (last_of before) (sym (left xs i lt))
 
-module _ (w : List (List ℕ)) (before : List ℕ) (xs : List (List ℕ)) (i : ℕ) (v : List ℕ) (lt : i < length xs) where
-  -- with block i encrypted after its sum with the block before, what is left to chain makes the same list
+module _ (w : List (List ℕ)) (before : List ℕ) (xs : List (List ℕ)) (i : ℕ) (v : List ℕ)
+    (lt : i < length xs) where
+  -- with block i encrypted after its sum with the block before,
+  -- what is left to chain makes the same list
   pub chained_next : v ≡ cipher_with w (add_round_key (get_or xs i []) before)
-      → take (i + 1) (set xs i v) ++ chained w v (drop (i + 1) (set xs i v)) ≡ take i xs ++ chained w before (drop i xs)
+      → take (i + 1) (set xs i v) ++ chained w v (drop (i + 1) (set xs i v))
+      ≡ take i xs ++ chained w before (drop i xs)
   unfolding chained
   chained_next e =
-      ap (λ ys. take (i + 1) (set xs i v) ++ chained w v ys) (drop-set-lt (i + 1) xs i v (omega arith))
+      ap (λ ys. take (i + 1) (set xs i v) ++ chained w v ys)
+      (drop-set-lt (i + 1) xs i v (omega arith))
       ∙ written (chained w v (drop (i + 1) xs)) xs i v lt
       ∙ (λ j. take i xs ++ e j ∷ chained w (e j) (drop (i + 1) xs))
       ∙ ap (λ ys. take i xs ++ chained w before ys) (sym (left xs i lt))
 
-  -- with block i of ys decrypted and summed with the block before, what is left to undo makes the same list
+  -- with block i of ys decrypted and summed with the block before,
+  -- what is left to undo makes the same list
   pub unchained_next : (ys : List (List ℕ)) → i < length ys
       → v ≡ add_round_key (inv_cipher_with w (get_or ys i [])) before
       → take (i + 1) (set xs i v) ++ unchained w (get_or ys i []) (drop (i + 1) ys) ≡ take i xs
@@ -86,32 +101,42 @@ module _ (w : List (List ℕ)) (before : List ℕ) (xs : List (List ℕ)) (i : �
 
 -- what a loop has yet to replace: the blocks of ys from place i on
 module _ (xs ys : List (List ℕ)) (i : ℕ) (ahead : drop i xs ≡ drop i ys) where
+  -- it stays so once place i is written
   pub still_ahead : (v : List ℕ) → drop (i + 1) (set xs i v) ≡ drop (i + 1) ys
   still_ahead v =
-      drop-set-lt (i + 1) xs i v (omega arith) ∙ sym (drop-drop 1 i xs) ∙ ap (drop 1) ahead ∙ drop-drop 1 i ys
+      drop-set-lt (i + 1) xs i v (omega arith) ∙ sym (drop-drop 1 i xs) ∙ ap (drop 1) ahead
+      ∙ drop-drop 1 i ys
 
+  -- and the block at place i is that of ys
   pub same_ahead : get_or xs i [] ≡ get_or ys i []
   same_ahead =
       let here : i + 0 ≡ i = omega arith in
-      ap (λ m. get_or xs m []) (sym here) ∙ sym (get_or-drop i xs 0 []) ∙ ap (λ l. get_or l 0 []) ahead
+      ap (λ m. get_or xs m []) (sym here) ∙ sym (get_or-drop i xs 0 [])
+      ∙ ap (λ l. get_or l 0 []) ahead
       ∙ get_or-drop i ys 0 [] ∙ ap (λ m. get_or ys m []) here
 
 -- a part of a chain of n blocks from place i on, which is replaced by ys
 module _ (i n k : ℕ) (xs ys : List (List ℕ)) (same : k ≡ n) (fits : i + n ≤ length xs)
     (sized : length ys ≡ length (take k (drop i xs))) where
+  -- what comes after the part stays
   behind : drop (i + n) (put_mid i k xs ys) ≡ drop k (drop i xs)
   behind =
-      let long : length ys ≡ n = omega (arith, sized, same, length-take k (drop i xs), length-drop i xs) in
-      drop-put_mid i k xs ys (i + n) (omega arith) (omega arith) (omega arith) ∙ ap (λ m. drop (i + m) xs) (sym same)
+      let long : length ys ≡ n =
+      omega (arith, sized, same, length-take k (drop i xs), length-drop i xs) in
+      drop-put_mid i k xs ys (i + n) (omega arith) (omega arith) (omega arith)
+      ∙ ap (λ m. drop (i + m) xs) (sym same)
       ∙ sym (drop-drop k i xs)
 
   -- with the part undone, what is left to undo makes the same list
-  pub unchained_part : (w : List (List ℕ)) (before : List ℕ) → ys ≡ unchained w before (take k (drop i xs))
+  pub unchained_part : (w : List (List ℕ)) (before : List ℕ)
+      → ys ≡ unchained w before (take k (drop i xs))
       → take (i + n) (put_mid i k xs ys)
-      ++ unchained w (last_of before (take k (drop i xs))) (drop (i + n) (put_mid i k xs ys)) ≡ take i xs
+      ++ unchained w (last_of before (take k (drop i xs)))
+      (drop (i + n) (put_mid i k xs ys)) ≡ take i xs
       ++ unchained w before (drop i xs)
   unchained_part w before is =
-      let long : length ys ≡ n = omega (arith, sized, same, length-take k (drop i xs), length-drop i xs) in
+      let long : length ys ≡ n =
+      omega (arith, sized, same, length-take k (drop i xs), length-drop i xs) in
       let last = last_of before (take k (drop i xs)) in
       let front : take (i + n) (put_mid i k xs ys) ≡ take i xs ++ ys =
       take-put_mid i k xs ys (i + n) (omega arith) (omega arith) in
@@ -125,7 +150,8 @@ module _ (i n k : ℕ) (xs ys : List (List ℕ)) (same : k ≡ n) (fits : i + n 
 
   -- and the last of what is left is the same
   pub last_part : (before : List ℕ)
-      → last_of (last_of before (take k (drop i xs))) (drop (i + n) (put_mid i k xs ys)) ≡ last_of before (drop i xs)
+      → last_of (last_of before (take k (drop i xs))) (drop (i + n) (put_mid i k xs ys))
+      ≡ last_of before (drop i xs)
   last_part before =
       ap (last_of (last_of before (take k (drop i xs)))) behind
       ∙ sym (last_of_cut before (take k (drop i xs)) (drop k (drop i xs)))
@@ -146,5 +172,7 @@ module _ (w : List (List ℕ))
   unchained_chained before (b ∷ bs) p h =
       let here : IsBlock b = h 0 (omega arith) in
       let s : List ℕ = add_round_key b before in
-      (λ j. (ap (λ v. add_round_key v before) (undone s (sum b before here p)) ∙ twice b before here) j
-      ∷ unchained_chained (cipher_with w s) bs (block s (sum b before here p)) (λ i lt. h (suc i) (omega arith)) j)
+      (λ j. (ap (λ v. add_round_key v before) (undone s (sum b before here p))
+      ∙ twice b before here) j
+      ∷ unchained_chained (cipher_with w s) bs (block s (sum b before here p))
+      (λ i lt. h (suc i) (omega arith)) j)

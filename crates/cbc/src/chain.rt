@@ -18,7 +18,8 @@ pub struct Cbc {
 impl Cbc {
     /// Encrypts the blocks in place, as the next ones of the chain.
     pub fn encrypt_blocks<C: BlockCipherEncrypt>(&mut self, cipher: &C, blocks: &mut [Block])
-        ensures blocks { blocks.new ≡ chained (C.round_keys cipher.now) self.old.previous blocks.old }
+        ensures blocks { blocks.new ≡ chained (C.round_keys cipher.now)
+            self.old.previous blocks.old }
         ensures previous { self.new.previous ≡ last_of self.old.previous blocks.new }
     {
         let mut previous = self.previous;
@@ -32,7 +33,8 @@ impl Cbc {
 
     /// Decrypts the blocks in place, as the next ones of the chain.
     pub fn decrypt_blocks<C: BlockCipherDecrypt>(&mut self, cipher: &C, blocks: &mut [Block])
-        ensures blocks { blocks.new ≡ unchained (C.round_keys cipher.now) self.old.previous blocks.old }
+        ensures blocks { blocks.new ≡ unchained (C.round_keys cipher.now)
+            self.old.previous blocks.old }
         ensures previous { self.new.previous ≡ last_of self.old.previous blocks.old }
     {
         let count = blocks.len();

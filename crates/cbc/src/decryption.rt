@@ -30,8 +30,8 @@ fn decrypt_all<B: BlockCipherDecBackend>(backend: &B, blocks: &mut [Block])
     }
 }
 
-// Decrypts a part of a chain. `previous` is the encrypted block before it, and afterwards the last encrypted one in it. The
-// copy is of encrypted blocks, so that no plain text is left on the stack.
+// Decrypts a part of a chain. `previous` is the encrypted block before it, and afterwards the last
+// encrypted one in it. The copy is of encrypted blocks, so that no plain text is left on the stack.
 fn unchain_part<B: BlockCipherDecBackend>(backend: &B, previous: &mut Block, blocks: &mut [Block])
     requires fits { length blocks.old ≤ 64 }
     ensures unchained { blocks.new ≡ unchained (B.round_keys backend.now) previous.old blocks.old }

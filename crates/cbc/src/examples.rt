@@ -1,4 +1,5 @@
-//! Chains at values from outside, as contracts, so that a slip in a definition is refused: SP 800-38A, F.2.1 and F.2.2.
+//! Chains at values from outside, as contracts, so that a slip in a definition is refused: SP
+//! 800-38A, F.2.1 and F.2.2.
 //!
 //! `bytes n 0x..` is the n bytes that these digits write.
 
@@ -10,26 +11,36 @@ ghost use Rattle.cbc.specs.Cbc.{chained, last_of, unchained};
 // The first two input blocks and output blocks, both ways.
 #[tactic(auto, using(aes_planes::proofs::OnLiterals::ciphers), unfolding(aes_planes::proofs::OnLiterals::aes_by_table))]
 fn ciphered_blocks()
-    ensures first { fips.cipher_with (fips.key_expansion (bytes 16 0x2b7e151628aed2a6abf7158809cf4f3c))
-        (bytes 16 0x6bc0bce12a459991e134741a7f9e1925) ≡ bytes 16 0x7649abac8119b246cee98e9b12e9197d }
-    ensures second { fips.cipher_with (fips.key_expansion (bytes 16 0x2b7e151628aed2a6abf7158809cf4f3c))
-        (bytes 16 0xd86421fb9f1a1eda505ee1375746972c) ≡ bytes 16 0x5086cb9b507219ee95db113a917678b2 }
+    ensures first { fips.cipher_with
+        (fips.key_expansion (bytes 16 0x2b7e151628aed2a6abf7158809cf4f3c))
+        (bytes 16 0x6bc0bce12a459991e134741a7f9e1925)
+        ≡ bytes 16 0x7649abac8119b246cee98e9b12e9197d }
+    ensures second { fips.cipher_with
+        (fips.key_expansion (bytes 16 0x2b7e151628aed2a6abf7158809cf4f3c))
+        (bytes 16 0xd86421fb9f1a1eda505ee1375746972c)
+        ≡ bytes 16 0x5086cb9b507219ee95db113a917678b2 }
     ensures first_back { fips.inv_cipher_with (fips.key_expansion (bytes 16 0x2b7e151628aed2a6abf7158809cf4f3c))
-        (bytes 16 0x7649abac8119b246cee98e9b12e9197d) ≡ bytes 16 0x6bc0bce12a459991e134741a7f9e1925 }
+        (bytes 16 0x7649abac8119b246cee98e9b12e9197d)
+        ≡ bytes 16 0x6bc0bce12a459991e134741a7f9e1925 }
     ensures second_back { fips.inv_cipher_with (fips.key_expansion (bytes 16 0x2b7e151628aed2a6abf7158809cf4f3c))
-        (bytes 16 0x5086cb9b507219ee95db113a917678b2) ≡ bytes 16 0xd86421fb9f1a1eda505ee1375746972c }
+        (bytes 16 0x5086cb9b507219ee95db113a917678b2)
+        ≡ bytes 16 0xd86421fb9f1a1eda505ee1375746972c }
 {}
 
 /// The first two blocks of a chain, there and back.
 pub fn cbc_128_example()
     ensures encrypted { chained (fips.key_expansion (bytes 16 0x2b7e151628aed2a6abf7158809cf4f3c))
         (bytes 16 0x000102030405060708090a0b0c0d0e0f)
-        (bytes 16 0x6bc1bee22e409f96e93d7e117393172a ∷ bytes 16 0xae2d8a571e03ac9c9eb76fac45af8e51 ∷ [])
-        ≡ bytes 16 0x7649abac8119b246cee98e9b12e9197d ∷ bytes 16 0x5086cb9b507219ee95db113a917678b2 ∷ [] }
+        (bytes 16 0x6bc1bee22e409f96e93d7e117393172a
+        ∷ bytes 16 0xae2d8a571e03ac9c9eb76fac45af8e51 ∷ [])
+        ≡ bytes 16 0x7649abac8119b246cee98e9b12e9197d
+        ∷ bytes 16 0x5086cb9b507219ee95db113a917678b2 ∷ [] }
     ensures decrypted { unchained (fips.key_expansion (bytes 16 0x2b7e151628aed2a6abf7158809cf4f3c))
         (bytes 16 0x000102030405060708090a0b0c0d0e0f)
-        (bytes 16 0x7649abac8119b246cee98e9b12e9197d ∷ bytes 16 0x5086cb9b507219ee95db113a917678b2 ∷ [])
-        ≡ bytes 16 0x6bc1bee22e409f96e93d7e117393172a ∷ bytes 16 0xae2d8a571e03ac9c9eb76fac45af8e51 ∷ [] }
+        (bytes 16 0x7649abac8119b246cee98e9b12e9197d
+        ∷ bytes 16 0x5086cb9b507219ee95db113a917678b2 ∷ [])
+        ≡ bytes 16 0x6bc1bee22e409f96e93d7e117393172a
+        ∷ bytes 16 0xae2d8a571e03ac9c9eb76fac45af8e51 ∷ [] }
 {
     ciphered_blocks();
 }

@@ -6,8 +6,8 @@ ghost use Rattle.cbc.specs.Cbc.{chained, last_of, unchained};
 
 use aes_planes::laws;
 
-/// No effect; states that a chain may be cut anywhere: the blocks after the cut are chained to the last encrypted block
-/// before it.
+/// No effect; states that a chain may be cut anywhere: the blocks after the cut are chained to the
+/// last encrypted block before it.
 #[tactic(auto, using(crate::proofs::Chains::chained_cut, crate::proofs::Chains::unchained_cut))]
 pub fn chains_cut()
     ensures encrypted { (w : List (List ℕ)) (iv : List ℕ) (a b : List (List ℕ)) →
@@ -16,9 +16,11 @@ pub fn chains_cut()
         unchained w iv (a ++ b) ≡ unchained w iv a ++ unchained w (last_of iv a) b }
 {}
 
-/// No effect; states that decryption undoes encryption, on blocks and under round keys of the standard.
+/// No effect; states that decryption undoes encryption, on
+/// blocks and under round keys of the standard.
 pub fn chains_back()
-    ensures { (w : List (List ℕ)) (iv : List ℕ) (blocks : List (List ℕ)) → fips.AreRoundKeys w → fips.IsBlock iv →
+    ensures { (w : List (List ℕ)) (iv : List ℕ) (blocks : List (List ℕ)) → fips.AreRoundKeys w
+        → fips.IsBlock iv →
         ((i : ℕ) → i < length blocks → fips.IsBlock (slice_index_or blocks i [])) →
         unchained w iv (chained w iv blocks) ≡ blocks }
 {

@@ -1,10 +1,12 @@
 -- CMAC on literals: what a lemma unfolds to compute it, and a tag by its steps.
-use Rattle.std.proofs.Common.{◌≡◌, ℕ, suc, ◌*◌, ◌-◌, ◌==◌, if◌then◌else◌, List, ◌∷◌, ◌++◌, length, replicate, ap, ◌∙◌}
+use Rattle.std.proofs.Common.{◌≡◌, ℕ, suc, ◌*◌, ◌-◌, ◌==◌, if◌then◌else◌, List, ◌∷◌, ◌++◌, length}
+use Rattle.std.proofs.Common.{replicate, ap, ◌∙◌}
 use Rattle.std.specs.Prelude.{⊤}
 use Rattle.std.specs.List.{slice_range}
 use Rattle.aes_planes.specs.Fips197.{build, cipher_with, add_round_key}
 use Rattle.aes_planes.proofs.OnLiterals.{aes_on_literals}
-use Rattle.cmac.specs.Cmac.{doubled_block, subkey_1, subkey_2, before_last, complete_block, last_block, chained, cmac}
+use Rattle.cmac.specs.Cmac.{doubled_block, subkey_1, subkey_2, before_last, complete_block}
+use Rattle.cmac.specs.Cmac.{last_block, chained, cmac}
 
 -- the definitions to unfold, so that CMAC on literals is computed
 unfoldable pub cmac_on_literals : ⊤
@@ -14,7 +16,8 @@ cmac_on_literals = tt
 -- the last block by the cipher of the block of zeros, l
 unfoldable pub last_by : List ℕ → List ℕ → List ℕ
 last_by l rest = if length rest == 16 then add_round_key (doubled_block l) rest
-    else add_round_key (doubled_block (doubled_block l)) (rest ++ 0x80 ∷ replicate (15 - length rest) 0)
+    else add_round_key (doubled_block (doubled_block l))
+    (rest ++ 0x80 ∷ replicate (15 - length rest) 0)
 
 -- the rest of a message before which n blocks stand
 abbrev pub rest_after : ℕ → List ℕ → List ℕ
@@ -24,7 +27,8 @@ rest_after n message = slice_range message (16 * n) (length message)
 pub by_steps : (w : List (List ℕ)) (message l value : List ℕ) → cipher_with w (replicate 16 0) ≡ l
     → chained w message (before_last (length message)) ≡ value
     → cmac w message
-    ≡ cipher_with w (add_round_key value (last_by l (rest_after (before_last (length message)) message)))
+    ≡ cipher_with w (add_round_key value
+    (last_by l (rest_after (before_last (length message)) message)))
 unfolding cmac last_block subkey_1 subkey_2 last_by
 by_steps w message l value zeros before =
     let rest = rest_after (before_last (length message)) message in
@@ -35,4 +39,5 @@ by_steps w message l value zeros before =
 pub next_step : (w : List (List ℕ)) (message value : List ℕ) (i : ℕ) → chained w message i ≡ value
     → chained w message (suc i) ≡ cipher_with w (add_round_key value (complete_block message i))
 unfolding chained
-next_step w message value i before = ap (λ v. cipher_with w (add_round_key v (complete_block message i))) before
+next_step w message value i before =
+    ap (λ v. cipher_with w (add_round_key v (complete_block message i))) before

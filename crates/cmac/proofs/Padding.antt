@@ -1,12 +1,15 @@
 -- The last block of a message, written over zeros.
-use Rattle.std.proofs.Common.{◌≡◌, ℕ, suc, ◌-◌, ◌<◌, List, ◌∷◌, ◌++◌, length, drop, replicate, set, ap, ◌∙◌, arith}
+use Rattle.std.proofs.Common.{◌≡◌, ℕ, suc, ◌-◌, ◌<◌, List, ◌∷◌, ◌++◌, length, drop, replicate, set}
+use Rattle.std.proofs.Common.{ap, ◌∙◌, arith}
 use Rattle.std.proofs.lemmas.List.{drop-replicate, append-nil}
 use Rattle.std.proofs.Math.Seq.{set-append_seam}
 
 -- sixteen bytes leave none of the zeros
-pub complete : (rest : List ℕ) → length rest ≡ 16 → rest ++ drop (length rest) (replicate 16 0) ≡ rest
+pub complete : (rest : List ℕ) → length rest ≡ 16
+    → rest ++ drop (length rest) (replicate 16 0) ≡ rest
 complete rest whole =
-    ap (λ tail. rest ++ tail) (drop-replicate (length rest) 16 0 ∙ ap (λ n. replicate (16 - n) 0) whole) ∙ append-nil rest
+    ap (λ tail. rest ++ tail) (drop-replicate (length rest) 16 0
+    ∙ ap (λ n. replicate (16 - n) 0) whole) ∙ append-nil rest
 
 -- fewer leave zeros, and the first of them becomes a bit 1 with zeros behind it
 pub padded : (rest : List ℕ) → length rest < 16

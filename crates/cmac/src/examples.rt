@@ -1,5 +1,5 @@
-//! CMAC at values from outside, as contracts, so that a slip in a definition is refused: RFC 4493, section 4, and
-//! SP 800-38B, D.1, whose examples these are too.
+//! CMAC at values from outside, as contracts, so that a slip in a definition is refused: RFC 4493,
+//! section 4, and SP 800-38B, D.1, whose examples these are too.
 //!
 //! `bytes n 0x..` is the n bytes that these digits write.
 
@@ -8,26 +8,41 @@ ghost use Rattle.aes_planes.specs.BigEndian.{bytes};
 ghost use Rattle.aes_planes.specs.Fips197 as fips;
 ghost use Rattle.cmac.specs.Cmac.{doubled_block, subkey_1, subkey_2, cmac};
 
-// The blocks that the examples encrypt: the block of zeros, those of the messages with 40 and with 64 bytes in their
-// order, and the last ones of all four.
+// The blocks that the examples encrypt: the block of zeros, those of the messages with 40 and with
+// 64 bytes in their order, and the last ones of all four.
 #[tactic(auto, using(aes_planes::proofs::OnLiterals::ciphers), unfolding(aes_planes::proofs::OnLiterals::aes_by_table))]
 fn encrypted_blocks()
-    ensures zeros { fips.cipher_with (fips.key_expansion (bytes 16 0x2b7e151628aed2a6abf7158809cf4f3c))
+    ensures zeros { fips.cipher_with
+        (fips.key_expansion (bytes 16 0x2b7e151628aed2a6abf7158809cf4f3c))
         (bytes 16 0) ≡ bytes 16 0x7df76b0c1ab899b33e42f047b91b546f }
-    ensures first { fips.cipher_with (fips.key_expansion (bytes 16 0x2b7e151628aed2a6abf7158809cf4f3c))
-        (bytes 16 0x6bc1bee22e409f96e93d7e117393172a) ≡ bytes 16 0x3ad77bb40d7a3660a89ecaf32466ef97 }
-    ensures second { fips.cipher_with (fips.key_expansion (bytes 16 0x2b7e151628aed2a6abf7158809cf4f3c))
-        (bytes 16 0x94faf1e313799afc3629a55f61c961c6) ≡ bytes 16 0xb148c17f309ee692287ae57cf12add49 }
-    ensures third { fips.cipher_with (fips.key_expansion (bytes 16 0x2b7e151628aed2a6abf7158809cf4f3c))
-        (bytes 16 0x8180dd3993c20283cd812465eb208fa6) ≡ bytes 16 0xc93d11bfaf08c5dc4d90b37b4dee002b }
-    ensures of_0 { fips.cipher_with (fips.key_expansion (bytes 16 0x2b7e151628aed2a6abf7158809cf4f3c))
-        (bytes 16 0x77ddac306ae266ccf90bc11ee46d513b) ≡ bytes 16 0xbb1d6929e95937287fa37d129b756746 }
-    ensures of_16 { fips.cipher_with (fips.key_expansion (bytes 16 0x2b7e151628aed2a6abf7158809cf4f3c))
-        (bytes 16 0x902f68fa1b31acf095b89e9e01a5bff4) ≡ bytes 16 0x070a16b46b4d4144f79bdd9dd04a287c }
-    ensures of_40 { fips.cipher_with (fips.key_expansion (bytes 16 0x2b7e151628aed2a6abf7158809cf4f3c))
-        (bytes 16 0x765d7109f920644f5171246215478c72) ≡ bytes 16 0xdfa66747de9ae63030ca32611497c827 }
-    ensures of_64 { fips.cipher_with (fips.key_expansion (bytes 16 0x2b7e151628aed2a6abf7158809cf4f3c))
-        (bytes 16 0xc44ce3e245366dad9c3e128fd9b49fe5) ≡ bytes 16 0x51f0bebf7e3b9d92fc49741779363cfe }
+    ensures first { fips.cipher_with
+        (fips.key_expansion (bytes 16 0x2b7e151628aed2a6abf7158809cf4f3c))
+        (bytes 16 0x6bc1bee22e409f96e93d7e117393172a)
+        ≡ bytes 16 0x3ad77bb40d7a3660a89ecaf32466ef97 }
+    ensures second { fips.cipher_with
+        (fips.key_expansion (bytes 16 0x2b7e151628aed2a6abf7158809cf4f3c))
+        (bytes 16 0x94faf1e313799afc3629a55f61c961c6)
+        ≡ bytes 16 0xb148c17f309ee692287ae57cf12add49 }
+    ensures third { fips.cipher_with
+        (fips.key_expansion (bytes 16 0x2b7e151628aed2a6abf7158809cf4f3c))
+        (bytes 16 0x8180dd3993c20283cd812465eb208fa6)
+        ≡ bytes 16 0xc93d11bfaf08c5dc4d90b37b4dee002b }
+    ensures of_0 { fips.cipher_with
+        (fips.key_expansion (bytes 16 0x2b7e151628aed2a6abf7158809cf4f3c))
+        (bytes 16 0x77ddac306ae266ccf90bc11ee46d513b)
+        ≡ bytes 16 0xbb1d6929e95937287fa37d129b756746 }
+    ensures of_16 { fips.cipher_with
+        (fips.key_expansion (bytes 16 0x2b7e151628aed2a6abf7158809cf4f3c))
+        (bytes 16 0x902f68fa1b31acf095b89e9e01a5bff4)
+        ≡ bytes 16 0x070a16b46b4d4144f79bdd9dd04a287c }
+    ensures of_40 { fips.cipher_with
+        (fips.key_expansion (bytes 16 0x2b7e151628aed2a6abf7158809cf4f3c))
+        (bytes 16 0x765d7109f920644f5171246215478c72)
+        ≡ bytes 16 0xdfa66747de9ae63030ca32611497c827 }
+    ensures of_64 { fips.cipher_with
+        (fips.key_expansion (bytes 16 0x2b7e151628aed2a6abf7158809cf4f3c))
+        (bytes 16 0xc44ce3e245366dad9c3e128fd9b49fe5)
+        ≡ bytes 16 0x51f0bebf7e3b9d92fc49741779363cfe }
 {}
 
 /// A block is doubled without and with its first bit, and the last bit alone becomes R_128.
@@ -37,7 +52,8 @@ pub fn doubled_examples()
         ≡ bytes 16 0xfbeed618357133667c85e08f7236a8de }
     ensures with_first_bit { doubled_block (bytes 16 0xfbeed618357133667c85e08f7236a8de)
         ≡ bytes 16 0xf7ddac306ae266ccf90bc11ee46d513b }
-    ensures first_bit_alone { doubled_block (bytes 16 0x80000000000000000000000000000000) ≡ bytes 16 0x87 }
+    ensures first_bit_alone { doubled_block (bytes 16 0x80000000000000000000000000000000)
+        ≡ bytes 16 0x87 }
 {}
 
 /// The subkeys and the tags of messages of 0, 16, 40 and 64 bytes.
@@ -49,13 +65,15 @@ pub fn cmac_128_examples()
     ensures of_0 { cmac (fips.key_expansion (bytes 16 0x2b7e151628aed2a6abf7158809cf4f3c)) []
         ≡ bytes 16 0xbb1d6929e95937287fa37d129b756746 }
     ensures of_16 { cmac (fips.key_expansion (bytes 16 0x2b7e151628aed2a6abf7158809cf4f3c))
-        (bytes 16 0x6bc1bee22e409f96e93d7e117393172a) ≡ bytes 16 0x070a16b46b4d4144f79bdd9dd04a287c }
+        (bytes 16 0x6bc1bee22e409f96e93d7e117393172a)
+        ≡ bytes 16 0x070a16b46b4d4144f79bdd9dd04a287c }
     ensures of_40 { cmac (fips.key_expansion (bytes 16 0x2b7e151628aed2a6abf7158809cf4f3c))
         (bytes 16 0x6bc1bee22e409f96e93d7e117393172a ++ bytes 16 0xae2d8a571e03ac9c9eb76fac45af8e51
         ++ bytes 8 0x30c81c46a35ce411) ≡ bytes 16 0xdfa66747de9ae63030ca32611497c827 }
     ensures of_64 { cmac (fips.key_expansion (bytes 16 0x2b7e151628aed2a6abf7158809cf4f3c))
         (bytes 16 0x6bc1bee22e409f96e93d7e117393172a ++ bytes 16 0xae2d8a571e03ac9c9eb76fac45af8e51
-        ++ bytes 16 0x30c81c46a35ce411e5fbc1191a0a52ef ++ bytes 16 0xf69f2445df4f9b17ad2b417be66c3710)
+        ++ bytes 16 0x30c81c46a35ce411e5fbc1191a0a52ef
+        ++ bytes 16 0xf69f2445df4f9b17ad2b417be66c3710)
         ≡ bytes 16 0x51f0bebf7e3b9d92fc49741779363cfe }
 {
     encrypted_blocks();

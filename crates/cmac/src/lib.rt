@@ -1,4 +1,5 @@
-//! CMAC (SP 800-38B), a tag that shows whether a message was changed, over any block cipher that encrypts.
+//! CMAC (SP 800-38B), a tag that shows whether a message was
+//! changed, over any block cipher that encrypts.
 #![tactic(auto)]
 
 pub mod examples;

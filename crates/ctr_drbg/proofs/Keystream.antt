@@ -1,13 +1,14 @@
 -- Output blocks, as bytes of counter mode's keystream from its block 1 on.
-use Rattle.std.proofs.Common.{◌≡◌, ℕ, zero, suc, ◌+◌, ◌-◌, ◌*◌, ◌/◌, ◌%◌, ◌^◌, ◌<◌, ◌≤◌, List, [], ◌++◌, length, get_or}
-use Rattle.std.proofs.Common.{inl, inr, take, drop, replicate, bit_xor, slice_index, sym, ap, ◌∙◌, refl, arith, length-append}
+use Rattle.std.proofs.Common.{◌≡◌, ℕ, zero, suc, ◌+◌, ◌-◌, ◌*◌, ◌/◌, ◌%◌, ◌^◌, ◌<◌, List, length}
+use Rattle.std.proofs.Common.{get_or, inl, inr, replicate, bit_xor, sym, ap, ◌∙◌, refl, arith}
+use Rattle.std.proofs.Common.{length-append}
 use Rattle.std.proofs.lemmas.Bool.{cases_lt}
-use Rattle.std.proofs.lemmas.List.{get_or-append_right, get_or_append_left, get_or-replicate, get_or-take}
-use Rattle.std.proofs.lemmas.List.{length-take-le}
+use Rattle.std.proofs.lemmas.List.{get_or-append_right, get_or_append_left, get_or-replicate}
+use Rattle.std.proofs.lemmas.List.{get_or-take, length-take-le}
 use Rattle.std.proofs.lemmas.Nat.{xor_comm}
 use Rattle.std.specs.Int.{w128, to_be_bytes, from_be_bytes}
 use Rattle.std.specs.Int.Bits.{xor_zero_r}
-use Rattle.aes_planes.specs.Fips197.{cipher, cipher_with, key_expansion}
+use Rattle.aes_planes.specs.Fips197.{cipher, key_expansion}
 use Rattle.aes_planes.proofs.Standard.CipherInverses.{cipher_length}
 use Rattle.aes_cipher.proofs.BlockNumbers.{number_back}
 use Rattle.aes_ctr.specs.CounterMode.{counter, counter_block, keystream_byte, plus_stream}
@@ -20,7 +21,8 @@ next_block : (v : List ℕ) (i : ℕ) → next_v (counter_block v i) ≡ counter
 unfolding next_v counter counter_block
 next_block v i =
     let number = (from_be_bytes w128 v + i) % 2 ^ 128 in
-    ap (λ n. to_be_bytes w128 ((n + 1) % 2 ^ 128)) (number_back number (to_be_bytes w128 number) (omega arith) refl)
+    ap (λ n. to_be_bytes w128 ((n + 1) % 2 ^ 128))
+    (number_back number (to_be_bytes w128 number) (omega arith) refl)
     ∙ ap (to_be_bytes w128) (omega arith)
 
 -- V after one turn or more is a counter block
@@ -30,10 +32,13 @@ v_after_more v zero = refl
 v_after_more v (suc i) = ap next_v (v_after_more v i) ∙ next_block v (suc i)
 
 -- and after none too, if V is a block
-pub v_after_any : (v block : List ℕ) (n number : ℕ) → block ≡ to_be_bytes w128 ((number + n) % 2 ^ 128)
-    → number ≡ from_be_bytes w128 v → to_be_bytes w128 number ≡ v → number < 2 ^ 128 → block ≡ v_after v n
+pub v_after_any : (v block : List ℕ) (n number : ℕ)
+    → block ≡ to_be_bytes w128 ((number + n) % 2 ^ 128)
+    → number ≡ from_be_bytes w128 v → to_be_bytes w128 number ≡ v → number < 2 ^ 128
+    → block ≡ v_after v n
 unfolding v_after counter counter_block
-v_after_any v block zero number is read back fits = is ∙ ap (to_be_bytes w128) (omega (arith, fits)) ∙ back
+v_after_any v block zero number is read back fits = is
+    ∙ ap (to_be_bytes w128) (omega (arith, fits)) ∙ back
 v_after_any v block (suc n) number is read back fits =
     is ∙ ap (λ m. to_be_bytes w128 ((m + suc n) % 2 ^ 128)) read ∙ sym (v_after_more v n)
 
@@ -78,12 +83,13 @@ byte_of_output : (key v : List ℕ) (n i : ℕ) → i < n
     → get_or (output key v n) i 0 ≡ keystream_byte (key_expansion key) v (16 + i)
 unfolding output turns
 byte_of_output key v n i h =
-    get_or-take n (temp_after key v ((n + 15) / 16)) i 0 h ∙ byte_of_temp key v ((n + 15) / 16) i (omega (arith, h))
+    get_or-take n (temp_after key v ((n + 15) / 16)) i 0 h
+    ∙ byte_of_temp key v ((n + 15) / 16) i (omega (arith, h))
 
 -- a string plus the keystream is the output plus the string
-pub output_plus : (key v x : List ℕ) (n : ℕ) → length x ≡ n
+stream_is_output : (key v x : List ℕ) (n : ℕ) → length x ≡ n
     → plus_stream (keystream_byte (key_expansion key) v) 16 x ≡ exclusive_or (output key v n) x
-output_plus key v x n sized =
+stream_is_output key v x n sized =
     plus_is (keystream_byte (key_expansion key) v) 16 x (exclusive_or (output key v n) x)
     (length-sum (output key v n) x ∙ length-output key v n ∙ sym sized)
     (λ i h. let inside : i < n = omega (arith, h, sized) in
@@ -91,8 +97,17 @@ output_plus key v x n sized =
     ∙ ap (λ b. bit_xor b (get_or x i 0)) (sym (byte_of_output key v n i inside))
     ∙ sym (get_or-sum (output key v n) x i (omega (arith, inside, length-output key v n))))
 
+-- a string y that is x plus the keystream under the key's round keys w is the output plus x
+pub output_plus : (w : List (List ℕ)) (key v x y : List ℕ)
+    → y ≡ plus_stream (keystream_byte w v) 16 x
+    → w ≡ key_expansion key → y ≡ exclusive_or (output key v (length x)) x
+output_plus w key v x y is expanded =
+    is ∙ ap (λ k. plus_stream (keystream_byte k v) 16 x) expanded
+    ∙ stream_is_output key v x (length x) refl
+
 -- nothing is added to zeros but the output
-pub output_plus_zeros : (key v : List ℕ) (n : ℕ) → exclusive_or (output key v n) (replicate n 0) ≡ output key v n
+pub output_plus_zeros : (key v : List ℕ) (n : ℕ)
+    → exclusive_or (output key v n) (replicate n 0) ≡ output key v n
 output_plus_zeros key v n =
     sum_is (output key v n) (replicate n 0) (output key v n) refl
     (λ i h. ap (bit_xor (get_or (output key v n) i 0))

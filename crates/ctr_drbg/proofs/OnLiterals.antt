@@ -1,9 +1,10 @@
 -- CTR_DRBG on literals: what a lemma unfolds to compute it, and an update by its three blocks.
-use Rattle.std.proofs.Common.{◌≡◌, ℕ, List, [], ◌++◌, take, drop}
+use Rattle.std.proofs.Common.{◌≡◌, ℕ, List, ◌++◌, take, drop}
 use Rattle.std.specs.Prelude.{⊤}
 use Rattle.aes_planes.specs.Fips197.{build, build_from, cipher}
 use Rattle.aes_planes.specs.BigEndian.{bytes}
-use Rattle.ctr_drbg.specs.CtrDrbg.{State, padded, exclusive_or, v_after, temp_after, turns, output, update, instantiate, reseed}
+use Rattle.ctr_drbg.specs.CtrDrbg.{State, padded, exclusive_or, v_after, temp_after, turns, output}
+use Rattle.ctr_drbg.specs.CtrDrbg.{update, instantiate, reseed}
 
 -- the definitions to unfold, so that strings on literals are computed
 unfoldable pub strings_on_literals : ⊤

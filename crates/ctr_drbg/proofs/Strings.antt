@@ -1,9 +1,11 @@
 -- Strings of a seed: padding, and sums.
-use Rattle.std.proofs.Common.{◌≡◌, ℕ, zero, suc, ◌+◌, ◌-◌, ◌<◌, ◌≤◌, List, [], ◌∷◌, ◌++◌, length, get_or, take, drop, set}
-use Rattle.std.proofs.Common.{◌⊎◌, inl, inr, replicate, bit_xor, sym, ap, ◌∙◌, refl, arith, length-append}
+use Rattle.std.proofs.Common.{◌≡◌, ℕ, ◌+◌, ◌-◌, ◌<◌, ◌≤◌, List, [], ◌++◌, length, get_or, take}
+use Rattle.std.proofs.Common.{drop, set, ◌⊎◌, inl, inr, replicate, bit_xor, sym, ap, ◌∙◌, refl}
+use Rattle.std.proofs.Common.{arith}
 use Rattle.std.proofs.lemmas.Bool.{cases_lt}
-use Rattle.std.proofs.lemmas.List.{drop-replicate, get_or-set_same, get_or-set_other, get_or_append_left, get_or-append_right}
-use Rattle.std.proofs.lemmas.List.{get_or-replicate, get_or-take, get_or_past, take_all, length-take, length-set}
+use Rattle.std.proofs.lemmas.List.{drop-replicate, get_or-set_same, get_or-set_other}
+use Rattle.std.proofs.lemmas.List.{get_or_append_left, get_or-append_right, get_or-replicate}
+use Rattle.std.proofs.lemmas.List.{get_or-take, get_or_past, take_all, length-take, length-set}
 use Rattle.std.specs.Int.Bits.{xor_zero_r}
 use Rattle.aes_planes.proofs.Lists.{build_is, length-build, get_or-build}
 use Rattle.ctr_drbg.specs.CtrDrbg.{padded, exclusive_or}
@@ -26,7 +28,8 @@ get_or-sum x y i h = get_or-build (length x) i _ 0 h
 
 -- a list of these bytes is the sum
 pub sum_is : (x y s : List ℕ) → length s ≡ length x
-    → ((i : ℕ) → i < length x → bit_xor (get_or x i 0) (get_or y i 0) ≡ get_or s i 0) → exclusive_or x y ≡ s
+    → ((i : ℕ) → i < length x → bit_xor (get_or x i 0) (get_or y i 0) ≡ get_or s i 0)
+    → exclusive_or x y ≡ s
 unfolding exclusive_or
 sum_is x y s l h = build_is (length x) _ s 0 l h
 
@@ -35,7 +38,8 @@ pub sum-nil : (x : List ℕ) → exclusive_or x [] ≡ x
 sum-nil x = sum_is x [] x refl (λ i h. xor_zero_r (get_or x i 0))
 
 -- a byte other than i is the same in the first i bytes and in one more
-take_more_other : (y : List ℕ) (i j : ℕ) → (j < i) ⊎ (i < j) → get_or (take (i + 1) y) j 0 ≡ get_or (take i y) j 0
+take_more_other : (y : List ℕ) (i j : ℕ) → (j < i) ⊎ (i < j)
+    → get_or (take (i + 1) y) j 0 ≡ get_or (take i y) j 0
 take_more_other y i j other = elim other [
   | inl below ↦ get_or-take (i + 1) y j 0 (omega (arith, below)) ∙ sym (get_or-take i y j 0 below)
   | inr past ↦ get_or_past (take (i + 1) y) j 0 (omega (arith, past, length-take (i + 1) y))
@@ -43,7 +47,8 @@ take_more_other y i j other = elim other [
 ]
 
 -- one more byte is added
-pub summed_one : (x y s : List ℕ) (i v : ℕ) → s ≡ exclusive_or x (take i y) → i < length y → i < length x
+pub summed_one : (x y s : List ℕ) (i v : ℕ) → s ≡ exclusive_or x (take i y) → i < length y
+    → i < length x
     → v ≡ bit_xor (get_or s i 0) (get_or y i 0) → set s i v ≡ exclusive_or x (take (i + 1) y)
 summed_one x y s i v is inside fits added = sym (sum_is x (take (i + 1) y) (set s i v) long bytes)
   where
@@ -57,16 +62,19 @@ summed_one x y s i v is inside fits added = sym (sum_is x (take (i + 1) y) (set 
     was j h = ap (λ l. get_or l j 0) is ∙ get_or-sum x (take i y) j h
 
     here : get_or s i 0 ≡ get_or x i 0
-    here = was i fits ∙ ap (bit_xor (get_or x i 0)) (get_or_past (take i y) i 0 (omega (arith, length-take i y)))
+    here = was i fits ∙ ap (bit_xor (get_or x i 0))
+        (get_or_past (take i y) i 0 (omega (arith, length-take i y)))
         ∙ xor_zero_r (get_or x i 0)
 
     others : (j : ℕ) → j < length x → (j < i) ⊎ (i < j)
         → bit_xor (get_or x j 0) (get_or (take (i + 1) y) j 0) ≡ get_or (set s i v) j 0
     others j h other =
         ap (bit_xor (get_or x j 0)) (take_more_other y i j other) ∙ sym (was j h)
-        ∙ sym (get_or-set_other s i j v 0 (λ e. elim other [ inl b ↦ omega (arith, b, e) | inr p ↦ omega (arith, p, e) ]))
+        ∙ sym (get_or-set_other s i j v 0
+        (λ e. elim other [ inl b ↦ omega (arith, b, e) | inr p ↦ omega (arith, p, e) ]))
 
-    same : (j : ℕ) → j ≡ i → bit_xor (get_or x j 0) (get_or (take (i + 1) y) j 0) ≡ get_or (set s i v) j 0
+    same : (j : ℕ) → j ≡ i → bit_xor (get_or x j 0) (get_or (take (i + 1) y) j 0)
+        ≡ get_or (set s i v) j 0
     same j e =
         ap (λ k. bit_xor (get_or x k 0) (get_or (take (i + 1) y) k 0)) e
         ∙ ap (bit_xor (get_or x i 0)) (get_or-take (i + 1) y i 0 (omega arith))
@@ -74,7 +82,8 @@ summed_one x y s i v is inside fits added = sym (sum_is x (take (i + 1) y) (set 
         ∙ sym (get_or-set_same s i v 0 (omega (arith, sized, fits)))
         ∙ ap (λ k. get_or (set s i v) k 0) (sym e)
 
-    bytes : (j : ℕ) → j < length x → bit_xor (get_or x j 0) (get_or (take (i + 1) y) j 0) ≡ get_or (set s i v) j 0
+    bytes : (j : ℕ) → j < length x → bit_xor (get_or x j 0) (get_or (take (i + 1) y) j 0)
+        ≡ get_or (set s i v) j 0
     bytes j h = elim (cases_lt j i) [
       | inl below ↦ others j h (inl below)
       | inr past ↦ elim (cases_lt i j) [

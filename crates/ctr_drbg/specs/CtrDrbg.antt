@@ -1,8 +1,9 @@
--- CTR_DRBG (SP 800-90A Rev. 1, 10.2.1) with AES-256 and without a derivation function. Block_Encrypt is Cipher of FIPS 197.
--- A byte is a number below 2 ^ 8, and a string a list of bytes. Lengths count bytes: blocklen and ctr_len are 16, keylen is
--- 32, and seedlen is 48 (10.2.1, table 3). Step numbers are those of the section that is named.
-use Rattle.std.specs.Prelude.{ℕ, zero, suc, ◌+◌, ◌-◌, ◌/◌, ◌%◌, ◌^◌, ◌==◌, if◌then◌else◌, List, [], ◌++◌, length}
-use Rattle.std.specs.Prelude.{replicate, take, drop, slice_index}
+-- CTR_DRBG (SP 800-90A Rev. 1, 10.2.1) with AES-256 and without a derivation function.
+-- Block_Encrypt is Cipher of FIPS 197. A byte is a number below 2 ^ 8, and a string a list of
+-- bytes. Lengths count bytes: blocklen and ctr_len are 16, keylen is 32, and seedlen is 48 (10.2.1,
+-- table 3). Step numbers are those of the section that is named.
+use Rattle.std.specs.Prelude.{ℕ, zero, suc, ◌+◌, ◌-◌, ◌/◌, ◌%◌, ◌^◌, ◌==◌, if◌then◌else◌, List, []}
+use Rattle.std.specs.Prelude.{◌++◌, length, replicate, take, drop, slice_index}
 use Rattle.std.specs.Int.{w128, to_be_bytes, from_be_bytes}
 use Rattle.aes_planes.specs.Fips197 as fips
 
@@ -49,8 +50,8 @@ output key v n = take n (temp_after key v (turns n))
 
 -- ---- CTR_DRBG_Update (10.2.1.2)
 
--- seedlen bytes of output ⊕ provided_data: the leftmost keylen bytes are the new Key, and the rightmost blocklen bytes the
--- new V (steps 3 to 7)
+-- seedlen bytes of output ⊕ provided_data: the leftmost keylen bytes are the new Key, and the
+-- rightmost blocklen bytes the new V (steps 3 to 7)
 unfoldable pub update : List ℕ → State → State
 unfolding exclusive_or output
 update provided_data s =
@@ -59,7 +60,8 @@ update provided_data s =
 
 -- ---- CTR_DRBG_Instantiate (10.2.1.3.1)
 
--- the Key and the V of zeros, updated by the entropy input ⊕ the padded personalization string (steps 1 to 7)
+-- the Key and the V of zeros, updated by the entropy input ⊕ the padded personalization string
+-- (steps 1 to 7)
 unfoldable pub instantiate : List ℕ → List ℕ → State
 unfolding padded exclusive_or update
 instantiate entropy_input personalization_string =
@@ -68,7 +70,8 @@ instantiate entropy_input personalization_string =
 
 -- ---- CTR_DRBG_Reseed (10.2.1.4.1)
 
--- the state updated by the entropy input ⊕ the padded additional input, and reseed_counter set to 1 (steps 1 to 5)
+-- the state updated by the entropy input ⊕ the padded additional input, and reseed_counter set to 1
+-- (steps 1 to 5)
 unfoldable pub reseed : List ℕ → List ℕ → State → State
 unfolding padded exclusive_or update
 reseed entropy_input additional_input s =
@@ -76,18 +79,21 @@ reseed entropy_input additional_input s =
 
 -- ---- CTR_DRBG_Generate (10.2.1.5.1), where the number of bytes is allowed and no reseed is required
 
--- the state updated by the padded additional input; as it was if that is Null, a string of no bytes (step 2)
+-- the state updated by the padded additional input; as it was if that is Null, a string of no bytes
+-- (step 2)
 unfoldable pub prepared : List ℕ → State → State
 unfolding padded update
-prepared additional_input s = if length additional_input == 0 then s else update (padded additional_input) s
+prepared additional_input s = if length additional_input == 0 then s
+    else update (padded additional_input) s
 
 -- returned_bits: so many bytes of output (steps 3 to 5)
 unfoldable pub returned_bits : ℕ → List ℕ → State → List ℕ
 unfolding prepared output
-returned_bits n additional_input s = output (prepared additional_input s).key (prepared additional_input s).v n
+returned_bits n additional_input s =
+    output (prepared additional_input s).key (prepared additional_input s).v n
 
--- the new working state: V moved on, then the update by the padded additional input, which is zeros if that is Null, and
--- reseed_counter + 1 (steps 4, 6 and 7)
+-- the new working state: V moved on, then the update by the padded additional input, which is zeros
+-- if that is Null, and reseed_counter + 1 (steps 4, 6 and 7)
 unfoldable pub generate : ℕ → List ℕ → State → State
 unfolding prepared v_after turns padded update
 generate n additional_input s =

@@ -1,5 +1,6 @@
-//! CTR_DRBG at values from outside, as contracts, so that a slip in a definition is refused: NIST's first vector for AES-256
-//! without a derivation function, which gives 64 bytes at the second request. A model that gives the same at all of NIST's
+//! CTR_DRBG at values from outside, as contracts, so that a slip in a definition is refused: NIST's
+//! first vector for AES-256 without a derivation function, which gives 64 bytes at the second
+//! request, and the first one with additional inputs. A model that gives the same at all of NIST's
 //! vectors computed the states between.
 //!
 //! `bytes n 0x..` is the n bytes that these digits write.
@@ -7,52 +8,90 @@
 ghost use Rattle.std.specs.Prelude.{◌≡◌, ℕ, List, [], ◌∷◌, replicate};
 ghost use Rattle.aes_planes.specs.BigEndian.{bytes};
 ghost use Rattle.aes_planes.specs.Fips197 as fips;
-ghost use Rattle.ctr_drbg.specs.CtrDrbg.{State, padded, exclusive_or, instantiate, reseed, generate, returned_bits};
+ghost use Rattle.ctr_drbg.specs.CtrDrbg.{State, padded, exclusive_or, instantiate, reseed};
+ghost use Rattle.ctr_drbg.specs.CtrDrbg.{generate, returned_bits};
 
-/// A string is padded behind it; a personalization string is summed with the first bytes of the entropy input, here 20 with
-/// ff; and a reseed of the state of zeros is an instantiation.
+/// A string is padded behind it; a personalization string is summed with the first bytes of the
+/// entropy input, here 20 with ff; and a reseed of the state of zeros is an instantiation.
 #[tactic(auto, unfolding(crate::proofs::OnLiterals::strings_on_literals))]
 pub fn string_examples()
     ensures padded { padded (0xff ∷ 0xfe ∷ []) ≡ 0xff ∷ 0xfe ∷ replicate 46 0 }
     ensures summed { exclusive_or (0xff ∷ 0x73 ∷ []) (0x20 ∷ 0x01 ∷ []) ≡ 0xdf ∷ 0x72 ∷ [] }
-    ensures personalized { instantiate (bytes 48 0xff5d73faa468649edda33b5cca79b0b05600419ccb7a879ddfec9db32ee494e5531b51de16a30f769262474c73bec010) (0x20 ∷ [])
-        ≡ instantiate (bytes 48 0xdf5d73faa468649edda33b5cca79b0b05600419ccb7a879ddfec9db32ee494e5531b51de16a30f769262474c73bec010) [] }
+    ensures personalized { instantiate (bytes 48
+        0xff5d73faa468649edda33b5cca79b0b05600419ccb7a879ddfec9db32ee494e5531b51de16a30f769262474c73bec010) (0x20 ∷ [])
+        ≡ instantiate (bytes 48
+        0xdf5d73faa468649edda33b5cca79b0b05600419ccb7a879ddfec9db32ee494e5531b51de16a30f769262474c73bec010) [] }
     ensures reseeded { (entropy_input additional_input : List ℕ) (counter : ℕ) →
-        reseed entropy_input additional_input (record { key = replicate 32 0; v = replicate 16 0; reseed_counter = counter })
+        reseed entropy_input additional_input
+        (record { key = replicate 32 0; v = replicate 16 0; reseed_counter = counter })
         ≡ instantiate entropy_input additional_input }
 {}
 
-// The blocks that are encrypted: three for the seed, three for the update after the first request, whose four blocks of output
-// come before them, and the first one of the second request.
+// The blocks that are encrypted: three for the seed, three for the update after the first request,
+// whose four blocks of output come before them, and the first one of the second request.
 #[tactic(auto, using(aes_planes::proofs::OnLiterals::ciphers), unfolding(aes_planes::proofs::OnLiterals::aes_by_table))]
 fn encrypted_blocks()
-    ensures one { fips.cipher_with (fips.key_expansion (bytes 32 0x0000000000000000000000000000000000000000000000000000000000000000))
-        (bytes 16 0x00000000000000000000000000000001) ≡ bytes 16 0x530f8afbc74536b9a963b4f1c4cb738b }
-    ensures two { fips.cipher_with (fips.key_expansion (bytes 32 0x0000000000000000000000000000000000000000000000000000000000000000))
-        (bytes 16 0x00000000000000000000000000000002) ≡ bytes 16 0xcea7403d4d606b6e074ec5d3baf39d18 }
-    ensures three { fips.cipher_with (fips.key_expansion (bytes 32 0x0000000000000000000000000000000000000000000000000000000000000000))
-        (bytes 16 0x00000000000000000000000000000003) ≡ bytes 16 0x726003ca37a62a74d1a2f58e7506358e }
-    ensures five { fips.cipher_with (fips.key_expansion (bytes 32 0x8c52f901632d522774c08fad0eb2c33b98a701a1861aecf3d8a25860941709fd))
-        (bytes 16 0x217b52142105250243c0b2c206b8f5a3) ≡ bytes 16 0x72f4af5c93258eb3eeec8c0cacea6c1d }
-    ensures six { fips.cipher_with (fips.key_expansion (bytes 32 0x8c52f901632d522774c08fad0eb2c33b98a701a1861aecf3d8a25860941709fd))
-        (bytes 16 0x217b52142105250243c0b2c206b8f5a4) ≡ bytes 16 0x1978a4fad44312725f1ac43b167f2d52 }
-    ensures seven { fips.cipher_with (fips.key_expansion (bytes 32 0x8c52f901632d522774c08fad0eb2c33b98a701a1861aecf3d8a25860941709fd))
-        (bytes 16 0x217b52142105250243c0b2c206b8f5a5) ≡ bytes 16 0xe86f6d07dfb551cebad80e6bf6830ac4 }
-    ensures first { fips.cipher_with (fips.key_expansion (bytes 32 0x72f4af5c93258eb3eeec8c0cacea6c1d1978a4fad44312725f1ac43b167f2d52))
-        (bytes 16 0xe86f6d07dfb551cebad80e6bf6830ac5) ≡ bytes 16 0xd1c07cd95af8a7f11012c84ce48bb8cb }
+    ensures one { fips.cipher_with
+        (fips.key_expansion
+        (bytes 32 0x0000000000000000000000000000000000000000000000000000000000000000))
+        (bytes 16 0x00000000000000000000000000000001)
+        ≡ bytes 16 0x530f8afbc74536b9a963b4f1c4cb738b }
+    ensures two { fips.cipher_with
+        (fips.key_expansion
+        (bytes 32 0x0000000000000000000000000000000000000000000000000000000000000000))
+        (bytes 16 0x00000000000000000000000000000002)
+        ≡ bytes 16 0xcea7403d4d606b6e074ec5d3baf39d18 }
+    ensures three { fips.cipher_with
+        (fips.key_expansion
+        (bytes 32 0x0000000000000000000000000000000000000000000000000000000000000000))
+        (bytes 16 0x00000000000000000000000000000003)
+        ≡ bytes 16 0x726003ca37a62a74d1a2f58e7506358e }
+    ensures five { fips.cipher_with
+        (fips.key_expansion
+        (bytes 32 0x8c52f901632d522774c08fad0eb2c33b98a701a1861aecf3d8a25860941709fd))
+        (bytes 16 0x217b52142105250243c0b2c206b8f5a3)
+        ≡ bytes 16 0x72f4af5c93258eb3eeec8c0cacea6c1d }
+    ensures six { fips.cipher_with
+        (fips.key_expansion
+        (bytes 32 0x8c52f901632d522774c08fad0eb2c33b98a701a1861aecf3d8a25860941709fd))
+        (bytes 16 0x217b52142105250243c0b2c206b8f5a4)
+        ≡ bytes 16 0x1978a4fad44312725f1ac43b167f2d52 }
+    ensures seven { fips.cipher_with
+        (fips.key_expansion
+        (bytes 32 0x8c52f901632d522774c08fad0eb2c33b98a701a1861aecf3d8a25860941709fd))
+        (bytes 16 0x217b52142105250243c0b2c206b8f5a5)
+        ≡ bytes 16 0xe86f6d07dfb551cebad80e6bf6830ac4 }
+    ensures first { fips.cipher_with
+        (fips.key_expansion
+        (bytes 32 0x72f4af5c93258eb3eeec8c0cacea6c1d1978a4fad44312725f1ac43b167f2d52))
+        (bytes 16 0xe86f6d07dfb551cebad80e6bf6830ac5)
+        ≡ bytes 16 0xd1c07cd95af8a7f11012c84ce48bb8cb }
 {}
 
-/// The state of the seed, the state after the first request of 64 bytes, and the first block of the second, which is NIST's.
+/// The state of the seed, the state after the first request of 64 bytes, and the first block of the
+/// second, which is NIST's.
 pub fn two_requests_example()
     ensures seeded { instantiate
         (bytes 48 0xdf5d73faa468649edda33b5cca79b0b05600419ccb7a879ddfec9db32ee494e5531b51de16a30f769262474c73bec010) []
-        ≡ record { key = bytes 32 0x8c52f901632d522774c08fad0eb2c33b98a701a1861aecf3d8a25860941709fd; v = bytes 16 0x217b52142105250243c0b2c206b8f59e; reseed_counter = 1 } }
+        ≡ record {
+          key = bytes 32
+              0x8c52f901632d522774c08fad0eb2c33b98a701a1861aecf3d8a25860941709fd;
+          v =
+              bytes 16 0x217b52142105250243c0b2c206b8f59e;
+          reseed_counter = 1;
+        } }
     ensures first { generate 64 [] (record {
       key = bytes 32 0x8c52f901632d522774c08fad0eb2c33b98a701a1861aecf3d8a25860941709fd;
       v = bytes 16 0x217b52142105250243c0b2c206b8f59e;
       reseed_counter = 1;
     })
-        ≡ record { key = bytes 32 0x72f4af5c93258eb3eeec8c0cacea6c1d1978a4fad44312725f1ac43b167f2d52; v = bytes 16 0xe86f6d07dfb551cebad80e6bf6830ac4; reseed_counter = 2 } }
+        ≡ record {
+          key = bytes 32
+              0x72f4af5c93258eb3eeec8c0cacea6c1d1978a4fad44312725f1ac43b167f2d52;
+          v =
+              bytes 16 0xe86f6d07dfb551cebad80e6bf6830ac4;
+          reseed_counter = 2;
+        } }
     ensures second { returned_bits 16 [] (record {
       key = bytes 32 0x72f4af5c93258eb3eeec8c0cacea6c1d1978a4fad44312725f1ac43b167f2d52;
       v = bytes 16 0xe86f6d07dfb551cebad80e6bf6830ac4;
@@ -60,4 +99,88 @@ pub fn two_requests_example()
     }) ≡ bytes 16 0xd1c07cd95af8a7f11012c84ce48bb8cb }
 {
     encrypted_blocks();
+}
+
+// The blocks that are encrypted where both requests have an additional input: three for the update
+// before the first output, three for that after it, three for the update before the second output,
+// and the first one of this output.
+#[tactic(auto, using(aes_planes::proofs::OnLiterals::ciphers), unfolding(aes_planes::proofs::OnLiterals::aes_by_table))]
+fn encrypted_with_inputs()
+    ensures prepared_one { fips.cipher_with
+        (fips.key_expansion
+        (bytes 32 0x8c717e36ee6fa534a17a5f8c511f51273192e6dbdb87124fa3644d02ef235d62))
+        (bytes 16 0x17b0cc9467a617c1e26a28fe20660fa0)
+        ≡ bytes 16 0xdb0672fc41e306bb40ec790f81527d59 }
+    ensures prepared_two { fips.cipher_with
+        (fips.key_expansion
+        (bytes 32 0x8c717e36ee6fa534a17a5f8c511f51273192e6dbdb87124fa3644d02ef235d62))
+        (bytes 16 0x17b0cc9467a617c1e26a28fe20660fa1)
+        ≡ bytes 16 0x52ef47930735a3ac370499504b4a8032 }
+    ensures prepared_three { fips.cipher_with
+        (fips.key_expansion
+        (bytes 32 0x8c717e36ee6fa534a17a5f8c511f51273192e6dbdb87124fa3644d02ef235d62))
+        (bytes 16 0x17b0cc9467a617c1e26a28fe20660fa2)
+        ≡ bytes 16 0xea06c0fd9d6e044aa3c77a9bc58048c1 }
+    ensures updated_one { fips.cipher_with
+        (fips.key_expansion
+        (bytes 32 0xd00e69572d97ded00aed77226ccbac175e777f64c4e3395153f52f333c93dcee))
+        (bytes 16 0x5df02caec58d552a9704490728fe5efe)
+        ≡ bytes 16 0x412da136e68bf5e9ee4248e16815edd5 }
+    ensures updated_two { fips.cipher_with
+        (fips.key_expansion
+        (bytes 32 0xd00e69572d97ded00aed77226ccbac175e777f64c4e3395153f52f333c93dcee))
+        (bytes 16 0x5df02caec58d552a9704490728fe5eff)
+        ≡ bytes 16 0x65606259a890609f7443eef6dd7a220e }
+    ensures updated_three { fips.cipher_with
+        (fips.key_expansion
+        (bytes 32 0xd00e69572d97ded00aed77226ccbac175e777f64c4e3395153f52f333c93dcee))
+        (bytes 16 0x5df02caec58d552a9704490728fe5f00)
+        ≡ bytes 16 0x5829422223028f4695646d1ae55d2d4e }
+    ensures next_one { fips.cipher_with
+        (fips.key_expansion
+        (bytes 32 0x4a25ba9d8aff2d82a44346cc858c3c9b69f85aae6b46fa6210b25895aaa37ed2))
+        (bytes 16 0xefdfae717be1de26a1a75e8608233b77)
+        ≡ bytes 16 0x7531ea0dd63c0a7da9e689f013a22e9c }
+    ensures next_two { fips.cipher_with
+        (fips.key_expansion
+        (bytes 32 0x4a25ba9d8aff2d82a44346cc858c3c9b69f85aae6b46fa6210b25895aaa37ed2))
+        (bytes 16 0xefdfae717be1de26a1a75e8608233b78)
+        ≡ bytes 16 0x1deea3f5a62e69f19ab41dbac51bb1b3 }
+    ensures next_three { fips.cipher_with
+        (fips.key_expansion
+        (bytes 32 0x4a25ba9d8aff2d82a44346cc858c3c9b69f85aae6b46fa6210b25895aaa37ed2))
+        (bytes 16 0xefdfae717be1de26a1a75e8608233b79)
+        ≡ bytes 16 0x4c1e4b86721569797515319b7b9e2d1b }
+    ensures output { fips.cipher_with
+        (fips.key_expansion
+        (bytes 32 0xbfb0659e5cdccd895ce16d3fffb2c926e8f140be2f8b6b06ce66cf04b68ea3bc))
+        (bytes 16 0xade54aba15b94c79c6c44ae8263eb776)
+        ≡ bytes 16 0x6808268b13e236f642c06deba2494496 }
+{}
+
+/// NIST's first vector with a personalization string and additional inputs: the state after the
+/// first request of 64 bytes, and the first block of the second, which is NIST's.
+pub fn additional_inputs_example()
+    ensures first { generate 64
+        (bytes 48 0x0b081bab6c74d86b4a010e2ded99d14e0c9838f7c3d69afd64f1b66377d95cdcb7f6ec5358e3516034c3339ced7e1638) (record {
+          key = bytes 32 0x8c717e36ee6fa534a17a5f8c511f51273192e6dbdb87124fa3644d02ef235d62;
+          v = bytes 16 0x17b0cc9467a617c1e26a28fe20660f9f;
+          reseed_counter = 1;
+        })
+        ≡ record {
+          key = bytes 32
+              0x4a25ba9d8aff2d82a44346cc858c3c9b69f85aae6b46fa6210b25895aaa37ed2;
+          v =
+              bytes 16 0xefdfae717be1de26a1a75e8608233b76;
+          reseed_counter = 2;
+        } }
+    ensures second { returned_bits 16
+        (bytes 48 0xca818f938ae0c7f4f507e4cfec10e7baf51fe34b89a502f754d2d2be7395120fe1fb013c67ac2500b3d17b735da09a6e) (record {
+          key = bytes 32 0x4a25ba9d8aff2d82a44346cc858c3c9b69f85aae6b46fa6210b25895aaa37ed2;
+          v = bytes 16 0xefdfae717be1de26a1a75e8608233b76;
+          reseed_counter = 2;
+        })
+        ≡ bytes 16 0x6808268b13e236f642c06deba2494496 }
+{
+    encrypted_with_inputs();
 }

@@ -1,17 +1,19 @@
 //! The generator.
 
-ghost use Rattle.std.specs.Prelude.{◌≡◌, ◌≢◌, ◌↔◌, ◌⊎◌, ◌<◌, ◌≤◌, ◌^◌, length, take, drop, IsErr, IsErrOf, IfOk, OnOk, OnErr};
+ghost use Rattle.std.specs.Prelude.{◌≡◌, ◌≢◌, ◌↔◌, ◌⊎◌, ◌<◌, ◌≤◌, ◌^◌, length, take, drop, IsErr};
+ghost use Rattle.std.specs.Prelude.{IsErrOf, IfOk, OnOk, OnErr};
 ghost use Rattle.ctr_drbg.specs.CtrDrbg as nist;
 
 use crate::errors::{InvalidSeed, NotGenerated};
 use crate::output::{add_output, moved_on, put_output};
-use crate::seeds::{SEED_LENGTH, SeedRoom, put_padded, put_seed_material};
+use crate::seeds::{SEED_LENGTH, SeedRoom, are_seeds, put_padded, put_seed_material};
 use aes_cipher::cipher::{Block, BlockCipherEncrypt, KeyInit};
 use aes_cipher::not_clone::NotClone;
-use aes_cipher::zeroize::{Wiped, ZeroizeOnDrop};
+use aes_cipher::zeroize::{MustWipe, Wiped, ZeroizeOnDrop, wipe_stack};
 use std::marker::Model;
 
-/// How many bytes one request may ask for: 2^19 bits, max_number_of_bits_per_request (10.2.1, table 3).
+/// How many bytes one request may ask for: 2^19 bits, max_number_of_bits_per_request (10.2.1, table
+/// 3).
 pub const LONGEST_REQUEST: usize = 1 << 16;
 
 /// How many requests there may be before the next reseed: reseed_interval (10.2.1, table 3).
@@ -19,6 +21,9 @@ pub const RESEED_INTERVAL: u64 = 1 << 48;
 
 // How many bytes a key has: keylen (10.2.1, table 3).
 const KEY_LENGTH: usize = 32;
+
+// How many bytes of stack a call takes.
+const CALL_STACK: usize = 4096;
 
 // Makes a cipher. It isn't refused, since the key is as long as its keys are.
 fn keyed<C: KeyInit + Drop>(key: &[u8]) -> C
@@ -29,10 +34,10 @@ fn keyed<C: KeyInit + Drop>(key: &[u8]) -> C
     C::new_from_slice(key).unwrap()
 }
 
-/// CTR_DRBG over a cipher with keys of 32 bytes, without a derivation function (SP 800-90A Rev. 1, 10.2.1): who doesn't
-/// know its seed can't tell its bytes from random ones. Contracts see a value as its working state. It is wiped when it is
-/// dropped if the cipher is, as those of this library are, and is never copied: two generators with one state give the same
-/// bytes.
+/// CTR_DRBG over a cipher with keys of 32 bytes, without a derivation function (SP 800-90A Rev. 1,
+/// 10.2.1): who doesn't know its seed can't tell its bytes from random ones. Contracts see a value
+/// as its working state. It is wiped when it is dropped if the cipher is, as those of this library
+/// are, and is never copied: two generators with one state give the same bytes.
 #[derive(Drop)]
 pub struct CtrDrbg<C: BlockCipherEncrypt + KeyInit> {
     cipher: C,
@@ -60,22 +65,25 @@ impl<C: BlockCipherEncrypt + KeyInit> NotClone for CtrDrbg<C> {}
 impl<C: BlockCipherEncrypt + KeyInit + ZeroizeOnDrop> ZeroizeOnDrop for CtrDrbg<C> {}
 
 impl<C: BlockCipherEncrypt + KeyInit + Drop> CtrDrbg<C> {
-    /// Makes a generator from 48 bytes of entropy input and a personalization string, which may be empty (10.2.1.3.1). The
-    /// entropy input has to be full entropy that nobody knows, as 48 bytes of the system's generator are. The
-    /// personalization string needn't be secret.
+    /// Makes a generator from 48 bytes of entropy input and a personalization string, which may be
+    /// empty (10.2.1.3.1). The entropy input has to be full entropy that nobody knows, as 48 bytes
+    /// of the system's generator are. The personalization string needn't be secret.
     ///
     /// # Errors
     ///
-    /// `EntropyLength` exactly if the entropy input doesn't have 48 bytes. Else `TooLong` exactly if the personalization
-    /// string has more than 48 bytes.
+    /// `EntropyLength` exactly if the entropy input doesn't have 48 bytes. Else `TooLong` exactly
+    /// if the personalization string has more than 48 bytes.
     pub fn instantiate(
         entropy_input: &[u8],
         personalization_string: &[u8],
     ) -> Result<Self, InvalidSeed>
         requires { C.KEY_SIZE ≡ 32 }
-        ensures entropy { IsErrOf result InvalidSeed.EntropyLength ↔ (length entropy_input.now ≢ 48) }
-        ensures refusal { IsErr result ↔ ((length entropy_input.now ≢ 48) ⊎ (48 < length personalization_string.now)) }
-        ensures made { IfOk result (λ made. made ≡ nist.instantiate entropy_input.now personalization_string.now) }
+        ensures entropy { IsErrOf result InvalidSeed.EntropyLength ↔
+            (length entropy_input.now ≢ 48) }
+        ensures refusal { IsErr result ↔ ((length entropy_input.now ≢ 48)
+            ⊎ (48 < length personalization_string.now)) }
+        ensures made { IfOk result (λ made. made
+            ≡ nist.instantiate entropy_input.now personalization_string.now) }
     {
         let mut generator = CtrDrbg {
             cipher: keyed(&[0; KEY_LENGTH]),
@@ -86,42 +94,40 @@ impl<C: BlockCipherEncrypt + KeyInit + Drop> CtrDrbg<C> {
         Ok(generator)
     }
 
-    /// Brings in 48 bytes of fresh entropy input, and an additional input, which may be empty (10.2.1.4.1).
+    /// Brings in 48 bytes of fresh entropy input, and an additional input, which may be empty
+    /// (10.2.1.4.1).
     ///
     /// # Errors
     ///
-    /// `EntropyLength` exactly if the entropy input doesn't have 48 bytes. Else `TooLong` exactly if the additional input
-    /// has more than 48 bytes. The generator is then unchanged.
+    /// `EntropyLength` exactly if the entropy input doesn't have 48 bytes. Else `TooLong` exactly
+    /// if the additional input has more than 48 bytes. The generator is then unchanged.
     pub fn reseed(
         &mut self,
         entropy_input: &[u8],
         additional_input: &[u8],
     ) -> Result<(), InvalidSeed>
-        ensures entropy { IsErrOf result InvalidSeed.EntropyLength ↔ (length entropy_input.now ≢ 48) }
-        ensures refusal { IsErr result ↔ ((length entropy_input.now ≢ 48) ⊎ (48 < length additional_input.now)) }
-        ensures reseeded { OnOk result (self.new ≡ nist.reseed entropy_input.now additional_input.now self.old) }
+        ensures entropy { IsErrOf result InvalidSeed.EntropyLength ↔
+            (length entropy_input.now ≢ 48) }
+        ensures refusal { IsErr result ↔ ((length entropy_input.now ≢ 48)
+            ⊎ (48 < length additional_input.now)) }
+        ensures reseeded { OnOk result (self.new
+            ≡ nist.reseed entropy_input.now additional_input.now self.old) }
         ensures unchanged { OnErr result (self.new ≡ self.old) }
     {
-        let mut seed = SeedRoom::zeroed();
-        put_seed_material(
-            entropy_input,
-            additional_input,
-            &mut seed.value_mut()[0].bytes,
-        )?;
-        self.set_counter(1);
-        self.update(&seed.value()[0].bytes);
+        are_seeds(entropy_input, additional_input)?;
+        self.take_seed(entropy_input, additional_input);
+        wipe_stack::<CALL_STACK>();
         Ok(())
     }
 
-    /// Fills the output with pseudorandom bytes, and moves on to a state from which they can't be found again (10.2.1.5.1).
-    /// The additional input may be empty, which is Null.
+    /// Fills the output with pseudorandom bytes, and moves on to a state from which they can't be
+    /// found again (10.2.1.5.1). The additional input may be empty, which is Null.
     ///
     /// # Errors
     ///
-    /// `TooManyBytes` exactly if the output has more than 2^16 bytes. Else `TooLong` exactly if the additional input has
-    /// more than 48 bytes. Else `ReseedRequired` exactly if there were 2^48 requests since the seed. The generator and the
-    /// output are then unchanged.
-    #[tactic(auto, unfolding(crate::specs::CtrDrbg::returned_bits))]
+    /// `TooManyBytes` exactly if the output has more than 2^16 bytes. Else `TooLong` exactly if the
+    /// additional input has more than 48 bytes. Else `ReseedRequired` exactly if there were 2^48
+    /// requests since the seed. The generator and the output are then unchanged.
     pub fn generate(
         &mut self,
         additional_input: &[u8],
@@ -130,10 +136,13 @@ impl<C: BlockCipherEncrypt + KeyInit + Drop> CtrDrbg<C> {
         ensures many { IsErrOf result NotGenerated.TooManyBytes ↔ (2 ^ 16 < length output.old) }
         ensures long { IsErrOf result NotGenerated.TooLong
             ↔ ((length output.old ≤ 2 ^ 16) × (48 < length additional_input.now)) }
-        ensures refusal { IsErr result ↔ ((2 ^ 16 < length output.old) ⊎ ((48 < length additional_input.now)
+        ensures refusal { IsErr result ↔ ((2 ^ 16 < length output.old)
+            ⊎ ((48 < length additional_input.now)
             ⊎ (2 ^ 48 < self.old.reseed_counter))) }
-        ensures output { OnOk result (output.new ≡ nist.returned_bits (length output.old) additional_input.now self.old) }
-        ensures state { OnOk result (self.new ≡ nist.generate (length output.old) additional_input.now self.old) }
+        ensures output { OnOk result (output.new
+            ≡ nist.returned_bits (length output.old) additional_input.now self.old) }
+        ensures state { OnOk result
+            (self.new ≡ nist.generate (length output.old) additional_input.now self.old) }
         ensures unchanged { OnErr result (self.new ≡ self.old) }
         ensures untouched { OnErr result (output.new ≡ output.old) }
     {
@@ -143,18 +152,53 @@ impl<C: BlockCipherEncrypt + KeyInit + Drop> CtrDrbg<C> {
         if additional_input.len() > SEED_LENGTH {
             return Err(NotGenerated::TooLong);
         }
-        let requests = self.reseed_counter;
-        if requests > RESEED_INTERVAL {
+        if self.reseed_counter > RESEED_INTERVAL {
             return Err(NotGenerated::ReseedRequired);
         }
-        let mut provided = SeedRoom::zeroed();
+        self.answer(additional_input, output);
+        wipe_stack::<CALL_STACK>();
+        Ok(())
+    }
+
+    // The reseed, of strings that are allowed. In a call of its own, so that its stack can be
+    // wiped.
+    #[inline(never)]
+    fn take_seed(&mut self, entropy_input: &[u8], additional_input: &[u8])
+        requires entropy { length entropy_input.now ≡ 48 }
+        requires fits { length additional_input.now ≤ 48 }
+        ensures { self.new ≡ nist.reseed entropy_input.now additional_input.now self.old }
+    {
+        let mut seed = MustWipe::<SeedRoom>::zeroed();
+        put_seed_material(
+            entropy_input,
+            additional_input,
+            &mut seed.value_mut()[0].bytes,
+        );
+        self.set_counter(1);
+        self.update(&seed.value()[0].bytes);
+        seed.wipe();
+    }
+
+    // The request, where it is allowed. In a call of its own, so that its stack can be wiped.
+    #[inline(never)]
+    #[tactic(auto, unfolding(crate::specs::CtrDrbg::returned_bits))]
+    fn answer(&mut self, additional_input: &[u8], output: &mut [u8])
+        requires allowed { length output.old ≤ 2 ^ 16 }
+        requires fits { length additional_input.now ≤ 48 }
+        requires counted { self.old.reseed_counter ≤ 2 ^ 48 }
+        ensures output { output.new ≡ nist.returned_bits
+            (length output.old) additional_input.now self.old }
+        ensures state { self.new ≡ nist.generate (length output.old) additional_input.now self.old }
+    {
+        let requests = self.reseed_counter;
+        let mut provided = MustWipe::<SeedRoom>::zeroed();
         put_padded(additional_input, &mut provided.value_mut()[0].bytes);
         let provided_data = &provided.value()[0].bytes;
         self.prepare(additional_input, provided_data);
         self.put_output(output);
         self.set_counter(requests + 1);
         self.update(provided_data);
-        Ok(())
+        provided.wipe();
     }
 
     // CTR_DRBG_Update (10.2.1.2).
@@ -162,11 +206,12 @@ impl<C: BlockCipherEncrypt + KeyInit + Drop> CtrDrbg<C> {
     fn update(&mut self, provided_data: &[u8; SEED_LENGTH])
         ensures { self.new ≡ nist.update provided_data.now self.old }
     {
-        let mut room = SeedRoom::zeroed();
+        let mut room = MustWipe::<SeedRoom>::zeroed();
         let temp = &mut room.value_mut()[0].bytes;
         *temp = *provided_data;
         self.add_output(temp);
         self.take_state(temp);
+        room.wipe();
     }
 
     // Adds to a seed as many bytes of output (10.2.1.2, steps 1 to 4).

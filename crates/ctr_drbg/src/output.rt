@@ -13,7 +13,9 @@ const FIRST_OUTPUT: u64 = 16;
 /// Adds as many bytes of output to bytes (10.2.1.2, steps 2 to 4).
 pub(crate) fn add_output<C: BlockCipherEncrypt + KeyInit>(cipher: &C, v: &Block, bytes: &mut [u8])
     requires { length bytes.old ≤ 2 ^ 16 }
-    ensures { bytes.new ≡ nist.exclusive_or (nist.output (C.own_key cipher.now) v.now (length bytes.old)) bytes.old }
+    ensures { bytes.new
+        ≡ nist.exclusive_or
+        (nist.output (C.own_key cipher.now) v.now (length bytes.old)) bytes.old }
 {
     add_keystream(cipher, v, FIRST_OUTPUT, bytes);
 }

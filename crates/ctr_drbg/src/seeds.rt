@@ -1,10 +1,11 @@
 //! Seeds, which are wiped: entropy input and other strings as 48 bytes.
 
-ghost use Rattle.std.specs.Prelude.{◌≡◌, ◌≢◌, ◌↔◌, ◌⊎◌, ◌<◌, ◌≤◌, length, replicate, IsErr, IsErrOf, OnOk};
+ghost use Rattle.std.specs.Prelude.{◌≡◌, ◌≢◌, ◌↔◌, ◌⊎◌, ◌<◌, ◌≤◌, length, replicate, IsErr};
+ghost use Rattle.std.specs.Prelude.{IsErrOf};
 ghost use Rattle.ctr_drbg.specs.CtrDrbg.{padded, exclusive_or};
 
 use crate::errors::InvalidSeed;
-use aes_cipher::zeroize::{Element, Wiped};
+use aes_cipher::zeroize::Element;
 
 /// How many bytes entropy input has, and other strings at most: seedlen (10.2.1, table 3).
 pub const SEED_LENGTH: usize = 48;
@@ -31,8 +32,8 @@ impl Element for Seed {
     }
 }
 
-/// Room for a seed, which is wiped where it stands.
-pub(crate) type SeedRoom = Wiped<[Seed; 1]>;
+/// Room for a seed.
+pub(crate) type SeedRoom = [Seed; 1];
 
 /// Writes a string over zeros.
 #[tactic(auto, using(crate::proofs::Strings::written_over))]
@@ -55,15 +56,10 @@ fn add_padded(string: &[u8], seed: &mut [u8; SEED_LENGTH])
     }
 }
 
-/// Writes seed_material: the entropy input plus a string with zeros behind it (10.2.1.3.1 and 10.2.1.4.1, steps 1 to 3).
-pub(crate) fn put_seed_material(
-    entropy_input: &[u8],
-    string: &[u8],
-    seed: &mut [u8; SEED_LENGTH],
-) -> Result<(), InvalidSeed>
+/// Whether entropy input and another string are as long as they may be.
+pub(crate) fn are_seeds(entropy_input: &[u8], string: &[u8]) -> Result<(), InvalidSeed>
     ensures entropy { IsErrOf result InvalidSeed.EntropyLength ↔ (length entropy_input.now ≢ 48) }
     ensures refusal { IsErr result ↔ ((length entropy_input.now ≢ 48) ⊎ (48 < length string.now)) }
-    ensures material { OnOk result (seed.new ≡ exclusive_or entropy_input.now (padded string.now)) }
 {
     if entropy_input.len() != SEED_LENGTH {
         return Err(InvalidSeed::EntropyLength);
@@ -71,7 +67,16 @@ pub(crate) fn put_seed_material(
     if string.len() > SEED_LENGTH {
         return Err(InvalidSeed::TooLong);
     }
+    Ok(())
+}
+
+/// Writes seed_material: the entropy input plus a string with zeros behind it (10.2.1.3.1 and
+/// 10.2.1.4.1, steps 1 to 3).
+pub(crate) fn put_seed_material(entropy_input: &[u8], string: &[u8], seed: &mut [u8; SEED_LENGTH])
+    requires entropy { length entropy_input.now ≡ 48 }
+    requires fits { length string.now ≤ 48 }
+    ensures { seed.new ≡ exclusive_or entropy_input.now (padded string.now) }
+{
     seed.copy_from_slice(entropy_input);
     add_padded(string, seed);
-    Ok(())
 }

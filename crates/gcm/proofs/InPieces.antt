@@ -1,12 +1,15 @@
 -- GHASH and GCTR of strings that come in pieces.
-use Rattle.std.proofs.Common.{◌≡◌, ℕ, suc, ◌+◌, ◌-◌, ◌*◌, ◌/◌, ◌%◌, ◌^◌, ◌<◌, ◌≤◌, List, [], ◌++◌, length, take, drop}
-use Rattle.std.proofs.Common.{inl, inr, subst, replicate, bit_xor, refl, ap, sym, ◌∙◌, arith, length-append, length-drop, length-take, append_assoc}
+use Rattle.std.proofs.Common.{◌≡◌, ℕ, suc, ◌+◌, ◌-◌, ◌*◌, ◌/◌, ◌%◌, ◌^◌, ◌<◌, ◌≤◌, List, [], ◌++◌}
+use Rattle.std.proofs.Common.{length, take, drop, inl, inr, subst, replicate, bit_xor, refl, ap}
+use Rattle.std.proofs.Common.{sym, ◌∙◌, arith, length-append, length-drop, length-take}
+use Rattle.std.proofs.Common.{append_assoc}
 use Rattle.std.proofs.lemmas.List.{drop-append-le, take_all, take-append-drop}
 use Rattle.std.proofs.Math.ListN.{drop_of_length-le}
 use Rattle.std.specs.Int.{w64, w128, to_be_bytes, from_be_bytes}
 use Rattle.aes_ctr.specs.CounterMode.{plus_stream}
 use Rattle.aes_ctr.proofs.Sums.{plus-append, length-plus}
-use Rattle.gcm.specs.Gcm.{product, block_at, hashed, padded, inc32, gctr, gctr_byte, bit_length, hash_subkey, pre_counter, text, hash}
+use Rattle.gcm.specs.Gcm.{product, block_at, hashed, padded, inc32, gctr, gctr_byte, bit_length}
+use Rattle.gcm.specs.Gcm.{hash_subkey, pre_counter, text, hash}
 use Rattle.gcm.specs.Pieces.{hashed_padded, IsHashing, IsAt}
 use Rattle.gcm.specs.declared.message.Message.{Message}
 use Rattle.gcm.specs.declared.message.Phase.{Phase}
@@ -14,21 +17,26 @@ use Rattle.gcm.proofs.Counting.{from_second}
 use Rattle.gcm.proofs.Hashing.{hashed_first, hashed_on, all_whole, length-padded, in_pieces}
 
 -- a piece that doesn't fill the block
-pub unfilled : (h y v : ℕ) (s rest b after : List ℕ) → IsHashing h y s v rest → length s % 16 + length b < 16
-    → take (length s % 16 + length b) after ≡ take (length s % 16) rest ++ b → IsHashing h y (s ++ b) v after
+pub unfilled : (h y v : ℕ) (s rest b after : List ℕ) → IsHashing h y s v rest
+    → length s % 16 + length b < 16
+    → take (length s % 16 + length b) after ≡ take (length s % 16) rest ++ b
+    → IsHashing h y (s ++ b) v after
 unfilled h y v s rest b after is few written =
     let n : ℕ = length s / 16 in
     let long : length (s ++ b) ≡ length s + length b = length-append s b in
     let blocks : length s / 16 ≡ length (s ++ b) / 16 = omega (arith, long, few) in
     let places : length (s ++ b) % 16 ≡ length s % 16 + length b = omega (arith, long, few) in
     record {
-      value = is.value ∙ sym (hashed_first h y s b n (omega arith)) ∙ ap (hashed h y (s ++ b)) blocks;
+      value = is.value ∙ sym (hashed_first h y s b n (omega arith))
+          ∙ ap (hashed h y (s ++ b)) blocks;
       rest = ap (λ k. take k after) places ∙ written ∙ ap (λ l. l ++ b) is.rest
-          ∙ sym (drop-append-le (16 * n) s b (omega arith)) ∙ ap (λ k. drop (16 * k) (s ++ b)) blocks;
+          ∙ sym (drop-append-le (16 * n) s b (omega arith))
+          ∙ ap (λ k. drop (16 * k) (s ++ b)) blocks;
     }
 
 -- a piece that does
-pub filled : (h y v : ℕ) (s rest b block after : List ℕ) → IsHashing h y s v rest → length s % 16 + length b ≡ 16
+pub filled : (h y v : ℕ) (s rest b block after : List ℕ) → IsHashing h y s v rest
+    → length s % 16 + length b ≡ 16
     → block ≡ take (length s % 16) rest ++ b
     → IsHashing h y (s ++ b) (product (bit_xor v (from_be_bytes w128 block)) h) after
 unfolding hashed block_at
@@ -39,17 +47,23 @@ filled h y v s rest b block after is whole written =
     let places : length (s ++ b) % 16 ≡ 0 = omega (arith, long, whole) in
     let last : block ≡ take (16 * n + 16 - 16 * n) (drop (16 * n) (s ++ b)) =
     written ∙ ap (λ l. l ++ b) is.rest ∙ sym (drop-append-le (16 * n) s b (omega arith))
-    ∙ sym (take_all (16 * n + 16 - 16 * n) (drop (16 * n) (s ++ b)) (omega (arith, length-drop (16 * n) (s ++ b), long, whole))) in
+    ∙ sym (take_all (16 * n + 16 - 16 * n) (drop (16 * n) (s ++ b))
+    (omega (arith, length-drop (16 * n) (s ++ b), long, whole))) in
     record {
-      value = (λ t. product (bit_xor ((is.value ∙ sym (hashed_first h y s b n (omega arith))) t) (from_be_bytes w128 (last t))) h)
+      value = (λ t. product
+          (bit_xor ((is.value ∙ sym (hashed_first h y s b n (omega arith))) t)
+          (from_be_bytes w128 (last t))) h)
           ∙ ap (hashed h y (s ++ b)) blocks;
       rest = ap (λ k. take k after) places
-          ∙ sym (drop_of_length-le (s ++ b) {i = 16 * (length (s ++ b) / 16)} (omega (arith, places)));
+          ∙ sym (drop_of_length-le (s ++ b) {i = 16 * (length (s ++ b) / 16)}
+          (omega (arith, places)));
     }
 
 -- whole blocks after whole blocks
-pub whole_blocks : (h y v : ℕ) (s rest b after : List ℕ) → IsHashing h y s v rest → length s % 16 ≡ 0
-    → length b % 16 ≡ 0 → IsHashing h y (s ++ b) (hashed h v (padded b) (length (padded b) / 16)) after
+pub whole_blocks : (h y v : ℕ) (s rest b after : List ℕ) → IsHashing h y s v rest
+    → length s % 16 ≡ 0
+    → length b % 16 ≡ 0
+    → IsHashing h y (s ++ b) (hashed h v (padded b) (length (padded b) / 16)) after
 whole_blocks h y v s rest b after is before whole =
     let n : ℕ = length s / 16 in
     let m : ℕ = length b / 16 in
@@ -61,33 +75,42 @@ whole_blocks h y v s rest b after is before whole =
           ∙ ap (λ z. hashed h z b m) is.value ∙ sym (hashed_on h y s b n m (omega (arith, before)))
           ∙ ap (hashed h y (s ++ b)) blocks;
       rest = ap (λ k. take k after) places
-          ∙ sym (drop_of_length-le (s ++ b) {i = 16 * (length (s ++ b) / 16)} (omega (arith, places)));
+          ∙ sym (drop_of_length-le (s ++ b) {i = 16 * (length (s ++ b) / 16)}
+          (omega (arith, places)));
     }
 
 -- a piece that fills the block, then whole blocks, then some of a block
-pub three_parts : (h y v : ℕ) (s rest b first whole last block after : List ℕ) → IsHashing h y s v rest
-    → b ≡ first ++ (whole ++ last) → length s % 16 + length first ≡ 16 → block ≡ take (length s % 16) rest ++ first
+pub three_parts : (h y v : ℕ) (s rest b first whole last block after : List ℕ)
+    → IsHashing h y s v rest
+    → b ≡ first ++ (whole ++ last) → length s % 16 + length first ≡ 16
+    → block ≡ take (length s % 16) rest ++ first
     → length whole % 16 ≡ 0 → length last < 16 → take (length last) after ≡ last
     → IsHashing h y (s ++ b)
-    (hashed h (product (bit_xor v (from_be_bytes w128 block)) h) (padded whole) (length (padded whole) / 16)) after
+    (hashed h (product (bit_xor v (from_be_bytes w128 block)) h) (padded whole)
+    (length (padded whole) / 16)) after
 three_parts h y v s rest b first whole last block after is parts fills written blocks few end =
     let u : ℕ = product (bit_xor v (from_be_bytes w128 block)) h in
     let z : ℕ = hashed h u (padded whole) (length (padded whole) / 16) in
     let one : length (s ++ first) % 16 ≡ 0 = omega (arith, length-append s first, fills) in
-    let two : length ((s ++ first) ++ whole) % 16 ≡ 0 = omega (arith, length-append (s ++ first) whole, one, blocks) in
+    let two : length ((s ++ first) ++ whole) % 16 ≡ 0 =
+    omega (arith, length-append (s ++ first) whole, one, blocks) in
     let joined : ((s ++ first) ++ whole) ++ last ≡ s ++ b =
-    append_assoc (s ++ first) whole last ∙ append_assoc s first (whole ++ last) ∙ ap (λ l. s ++ l) (sym parts) in
-    let none : length ((s ++ first) ++ whole) % 16 + length last ≡ length last = omega (arith, two) in
+    append_assoc (s ++ first) whole last ∙ append_assoc s first (whole ++ last)
+    ∙ ap (λ l. s ++ l) (sym parts) in
+    let none : length ((s ++ first) ++ whole) % 16 + length last ≡ length last =
+    omega (arith, two) in
     let P : List ℕ → Type 0 = λ l. IsHashing h y l z after in
     subst P joined
     (unfilled h y z ((s ++ first) ++ whole) rest last after
-    (whole_blocks h y u (s ++ first) rest whole rest (filled h y v s rest first block rest is fills written) one blocks)
+    (whole_blocks h y u (s ++ first) rest whole rest
+    (filled h y v s rest first block rest is fills written) one blocks)
     (omega (arith, two, few))
     (ap (λ k. take k after) none ∙ end ∙ sym (ap (λ k. take k rest ++ last) two)))
 
 -- the end of a string: zeros fill its last block
 pub closed : (h y v : ℕ) (s rest : List ℕ) → IsHashing h y s v rest
-    → hashed h v (padded (take (length s % 16) rest)) (length (padded (take (length s % 16) rest)) / 16)
+    → hashed h v (padded (take (length s % 16) rest))
+    (length (padded (take (length s % 16) rest)) / 16)
     ≡ hashed h y (padded s) (length (padded s) / 16)
 unfolding padded
 closed h y v s rest is =
@@ -105,25 +128,31 @@ closed h y v s rest is =
     omega (arith, length-padded t, length-padded s, t_long) in
     ap (λ l. hashed h v (padded l) (length (padded l) / 16)) is.rest
     ∙ ap (λ z. hashed h z (padded t) (length (padded t) / 16))
-    (is.value ∙ ap (λ l. hashed h y l n) (sym both) ∙ hashed_first h y a t n (omega (arith, a_long)))
+    (is.value ∙ ap (λ l. hashed h y l n) (sym both)
+    ∙ hashed_first h y a t n (omega (arith, a_long)))
     ∙ sym (hashed_on h y a (padded t) n (length (padded t) / 16) a_long)
     ∙ (λ i. hashed h y (whole i) (count i))
 
 -- S, of the value after additional data and text and of their lengths
-pub summed : (h v m n : ℕ) (a c : List ℕ) → v ≡ hashed h (hashed_padded h a) (padded c) (length (padded c) / 16)
+pub summed : (h v m n : ℕ) (a c : List ℕ)
+    → v ≡ hashed h (hashed_padded h a) (padded c) (length (padded c) / 16)
     → m ≡ length a → n ≡ length c
-    → product (bit_xor v (from_be_bytes w128 (to_be_bytes w64 (8 * m) ++ to_be_bytes w64 (8 * n)))) h ≡ hash h a c
+    → product (bit_xor v (from_be_bytes w128 (to_be_bytes w64 (8 * m) ++ to_be_bytes w64 (8 * n))))
+    h ≡ hash h a c
 unfolding hashed_padded hash bit_length
 summed h v m n a c is a_long c_long =
-    (λ t. product (bit_xor (is t) (from_be_bytes w128 (to_be_bytes w64 (8 * a_long t) ++ to_be_bytes w64 (8 * c_long t)))) h)
-    ∙ sym (in_pieces h (padded a) (padded c) (bit_length a ++ bit_length c) ((length a + 15) / 16) ((length c + 15) / 16)
+    (λ t. product (bit_xor (is t)
+    (from_be_bytes w128 (to_be_bytes w64 (8 * a_long t) ++ to_be_bytes w64 (8 * c_long t)))) h)
+    ∙ sym (in_pieces h (padded a) (padded c) (bit_length a ++ bit_length c) ((length a + 15) / 16)
+    ((length c + 15) / 16)
     (length-padded a) (length-padded c) refl)
 
 -- after additional data alone there is no text
 pub no_text : (h v : ℕ) (a c : List ℕ) → v ≡ hashed_padded h a → c ≡ []
     → v ≡ hashed h (hashed_padded h a) (padded c) (length (padded c) / 16)
 unfolding padded hashed
-no_text h v a c is none = is ∙ ap (λ l. hashed h (hashed_padded h a) (padded l) (length (padded l) / 16)) (sym none)
+no_text h v a c is none = is
+    ∙ ap (λ l. hashed h (hashed_padded h a) (padded l) (length (padded l) / 16)) (sym none)
 
 -- so text begins there
 pub first_text : (h v : ℕ) (a c rest : List ℕ) → v ≡ hashed_padded h a → c ≡ []
@@ -141,7 +170,9 @@ pub record IsSoFar (w : List (List ℕ)) (iv a c : List ℕ) (m : Message) : Typ
   pub text : m.text ≡ length c
   pub short_text : length c ≤ 2 ^ 36 - 32
 
-pub so_far : (turn : Phase) (w : List (List ℕ)) (iv a c : List ℕ) (m : Message) → IsAt turn w iv a c m
+-- both phases tell it, so that a tag is proved once for the two
+pub so_far : (turn : Phase) (w : List (List ℕ)) (iv a c : List ℕ) (m : Message)
+    → IsAt turn w iv a c m
     → IsSoFar w iv a c m
 so_far turn w iv a c m (inl (is, none)) =
     record {
@@ -163,8 +194,10 @@ so_far turn w iv a c m (inr is) =
 -- ---- GCTR
 
 -- a text and more of it: the keystream goes on
-pub text_on : (w : List (List ℕ)) (iv p b c : List ℕ) (j position : ℕ) → j ≡ pre_counter (hash_subkey w) iv
-    → position ≡ 16 + length p → c ≡ plus_stream (gctr_byte w j) position b → text w iv p ++ c ≡ text w iv (p ++ b)
+pub text_on : (w : List (List ℕ)) (iv p b c : List ℕ) (j position : ℕ)
+    → j ≡ pre_counter (hash_subkey w) iv
+    → position ≡ 16 + length p → c ≡ plus_stream (gctr_byte w j) position b
+    → text w iv p ++ c ≡ text w iv (p ++ b)
 unfolding text
 text_on w iv p b c j position first at is =
     let x : ℕ = pre_counter (hash_subkey w) iv in

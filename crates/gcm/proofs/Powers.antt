@@ -1,21 +1,27 @@
--- Products by powers of a block: the order of factors is free, and what is hashed block by block is a sum of products.
-use Rattle.std.proofs.Common.{◌≡◌, ℕ, ◌-◌, ◌*◌, ◌/◌, ◌%◌, ◌^◌, ◌<◌, ◌==◌, if◌then◌else◌, Bool, true, false, bit_xor, refl, ap, sym, ◌∙◌, arith}
+-- Products by powers of a block: the order of factors is free, and what is hashed block by block is
+-- a sum of products.
+use Rattle.std.proofs.Common.{◌≡◌, ℕ, ◌-◌, ◌*◌, ◌/◌, ◌%◌, ◌^◌, ◌<◌, ◌==◌, if◌then◌else◌, Bool, true}
+use Rattle.std.proofs.Common.{false, bit_xor, refl, ap, sym, ◌∙◌, arith}
 use Rattle.std.proofs.lemmas.Nat.{xor_shr, xor_mod}
 use Rattle.std.proofs.lemmas.Bool.{eqb-true}
 use Rattle.aes_planes.proofs.Bits.ByteCases.{all_below, all_below_tells}
 use Rattle.gcm.specs.Gcm.{bit_of, v_at, next_v, product}
 use Rattle.gcm.specs.Multiples.{sum_of, byte_of, nibble_multiple, byte_multiple}
-use Rattle.gcm.proofs.Linear.{term, term_adds, term_keeps, term_zero, term_below, term_through, product_terms, product_bytes}
-use Rattle.gcm.proofs.Linear.{sum-agree, sum-add, sum-zero, sum-through}
-use Rattle.gcm.proofs.Linear.{v-sum, v_keeps, v_zero, v_swap, v_below, sum-below}
-use Rattle.gcm.proofs.Reduction.{number_sum, placed, byte_small}
+use Rattle.gcm.proofs.Linear.{term, term_adds, term_keeps, term_zero, term_below, term_through}
+use Rattle.gcm.proofs.Linear.{product_terms, product_bytes, byte_small, sum-agree, sum-add}
+use Rattle.gcm.proofs.Linear.{sum-zero, sum-through, v-sum, v_keeps, v_zero, v_swap, v_below}
+use Rattle.gcm.proofs.Linear.{sum-below}
+use Rattle.gcm.proofs.Reduction.{number_sum, placed}
 
 -- ---- products keep sums
 
+-- a bit of a sum is the sum of the bits
 bit_keeps : (a b i : ℕ) → bit_of (bit_xor a b) i ≡ bit_xor (bit_of a i) (bit_of b i)
 unfolding bit_of
-bit_keeps a b i = ap (λ y. y % 2) (xor_shr a b (127 - i)) ∙ xor_mod (a / 2 ^ (127 - i)) (b / 2 ^ (127 - i)) 1
+bit_keeps a b i = ap (λ y. y % 2) (xor_shr a b (127 - i))
+    ∙ xor_mod (a / 2 ^ (127 - i)) (b / 2 ^ (127 - i)) 1
 
+-- a bit is 0 or 1, as `term_adds` asks
 bit_small : (x i : ℕ) → bit_of x i < 2
 unfolding bit_of
 bit_small x i = omega arith
@@ -43,6 +49,7 @@ right_keeps x a b =
     ∙ sum-add 128 (λ i. term (bit_of x i) (v_at a i)) (λ i. term (bit_of x i) (v_at b i))
     ∙ (λ t. bit_xor (sym (product_terms x a 128) t) (sym (product_terms x b 128) t))
 
+-- a product with 0 is 0, which a lemma on sums needs where it begins
 right_zero : (x : ℕ) → product x 0 ≡ 0
 unfolding product
 right_zero x =
@@ -51,6 +58,7 @@ right_zero x =
     (λ i l. ap (term (bit_of x i)) (v_zero i) ∙ term_zero (bit_of x i))
     ∙ sum-zero 128
 
+-- a bit goes through a product
 right_term : (x b y : ℕ) → product x (term b y) ≡ term b (product x y)
 unfolding term
 right_term x b y = by_test (b == 0)
@@ -64,19 +72,22 @@ pub right_v : (x a m : ℕ) → product x (v_at a m) ≡ v_at (product x a) m
 unfolding product
 right_v x a m =
     product_terms x (v_at a m) 128
-    ∙ sum-agree 128 (λ i. term (bit_of x i) (v_at (v_at a m) i)) (λ i. v_at (term (bit_of x i) (v_at a i)) m)
+    ∙ sum-agree 128 (λ i. term (bit_of x i) (v_at (v_at a m) i))
+    (λ i. v_at (term (bit_of x i) (v_at a i)) m)
     (λ i l. ap (term (bit_of x i)) (v_swap a m i) ∙ sym (term_through (bit_of x i) (v_at a i) m))
     ∙ sym (v-sum 128 m (λ i. term (bit_of x i) (v_at a i)))
     ∙ ap (λ y. v_at y m) (sym (product_terms x a 128))
 
 -- ---- the order of factors
 
+-- two factors of a third can change places: both sides are the same sum of terms
 left_free : (x y h : ℕ) → product x (product y h) ≡ product y (product x h)
 unfolding product
 left_free x y h =
     ap (product x) (product_terms y h 128)
     ∙ sum-through (product x) (right_zero x) (right_keeps x) 128 (λ i. term (bit_of y i) (v_at h i))
-    ∙ sum-agree 128 (λ i. product x (term (bit_of y i) (v_at h i))) (λ i. term (bit_of y i) (v_at (product x h) i))
+    ∙ sum-agree 128 (λ i. product x (term (bit_of y i) (v_at h i)))
+    (λ i. term (bit_of y i) (v_at (product x h) i))
     (λ i l. right_term x (bit_of y i) (v_at h i) ∙ ap (term (bit_of y i)) (right_v x h i))
     ∙ sym (product_terms y (product x h) 128)
 
@@ -85,37 +96,48 @@ one_test : all_below 256 (λ b. byte_multiple (2 ^ 127) b == b * 2 ^ 120) ≡ tr
 unfolding all_below byte_multiple nibble_multiple sum_of v_at next_v
 one_test = refl
 
+-- times that block nothing changes, so the law above turns into one on two factors
 pub by_one : (a : ℕ) → a < 2 ^ 128 → product a (2 ^ 127) ≡ a
 by_one a small =
     product_bytes a (2 ^ 127)
-    ∙ sum-agree 16 (λ j. v_at (byte_multiple (2 ^ 127) (byte_of a j)) (8 * j)) (λ j. byte_of a j * 2 ^ (8 * (15 - j)))
-    (λ j l. ap (λ m. v_at m (8 * j)) (eqb-true _ _ (all_below_tells 256 (λ b. byte_multiple (2 ^ 127) b == b * 2 ^ 120)
+    ∙ sum-agree 16 (λ j. v_at (byte_multiple (2 ^ 127) (byte_of a j)) (8 * j))
+    (λ j. byte_of a j * 2 ^ (8 * (15 - j)))
+    (λ j l. ap (λ m. v_at m (8 * j))
+    (eqb-true _ _ (all_below_tells 256 (λ b. byte_multiple (2 ^ 127) b == b * 2 ^ 120)
     one_test (byte_of a j) (byte_small a j))) ∙ sym (placed (byte_of a j) j l))
     ∙ number_sum a small
 
+-- factors can change places
 turned : (a b : ℕ) → a < 2 ^ 128 → b < 2 ^ 128 → product a b ≡ product b a
-turned a b ha hb = ap (product a) (sym (by_one b hb)) ∙ left_free a b (2 ^ 127) ∙ ap (product b) (by_one a ha)
+turned a b ha hb = ap (product a) (sym (by_one b hb)) ∙ left_free a b (2 ^ 127)
+    ∙ ap (product b) (by_one a ha)
 
+-- what equals a block is one
 small_as : (a b : ℕ) → a ≡ b → b < 2 ^ 128 → a < 2 ^ 128
 small_as a b e small = rw e small
 
+-- a product with a block is a block
 pub product_below : (x h : ℕ) → h < 2 ^ 128 → product x h < 2 ^ 128
 unfolding product
 product_below x h small =
-    small_as (product x h) _ (product_terms x h 128) (sum-below 128 128 (λ i. term (bit_of x i) (v_at h i))
+    small_as (product x h) _ (product_terms x h 128)
+    (sum-below 128 128 (λ i. term (bit_of x i) (v_at h i))
     (λ i l. term_below (bit_of x i) (v_at h i) (v_below i h small)))
 
 -- a product times a block
 twice : (x q h : ℕ) → q < 2 ^ 128 → h < 2 ^ 128 → product (product x q) h ≡ product x (product q h)
-twice x q h hq hh = turned (product x q) h (product_below x q hq) hh ∙ left_free h x q ∙ ap (product x) (turned h q hh hq)
+twice x q h hq hh = turned (product x q) h (product_below x q hq) hh ∙ left_free h x q
+    ∙ ap (product x) (turned h q hh hq)
 
 -- ---- two and three blocks, hashed
 
+-- two blocks: the first is multiplied twice, so by the square
 pub two_hashed : (h b c : ℕ) → h < 2 ^ 128
     → product (bit_xor (product b h) c) h ≡ bit_xor (product b (product h h)) (product c h)
 two_hashed h b c small =
     product_keeps (product b h) c h ∙ ap (λ y. bit_xor y (product c h)) (twice b h h small small)
 
+-- three blocks, with the powers of the subkey as the tables have them
 pub three_hashed : (h p b c h2 h3 : ℕ) → h < 2 ^ 128 → h2 ≡ product h h → h3 ≡ product h2 h
     → product (bit_xor (product (bit_xor (product p h) b) h) c) h
     ≡ bit_xor (bit_xor (product p h3) (product b h2)) (product c h)
@@ -123,7 +145,8 @@ three_hashed h p b c h2 h3 small two three =
     let small_2 : h2 < 2 ^ 128 = small_as h2 (product h h) two (product_below h h small) in
     let here = λ (x : ℕ). twice x h h small small ∙ ap (product x) (sym two) in
     let on = λ (x : ℕ). twice x h2 h small_2 small ∙ ap (product x) (sym three) in
-    ap (λ y. product (bit_xor y c) h) (product_keeps (product p h) b h ∙ ap (λ y. bit_xor y (product b h)) (here p))
+    ap (λ y. product (bit_xor y c) h) (product_keeps (product p h) b h
+    ∙ ap (λ y. bit_xor y (product b h)) (here p))
     ∙ product_keeps (bit_xor (product p h2) (product b h)) c h
     ∙ ap (λ y. bit_xor y (product c h)) (product_keeps (product p h2) (product b h) h
     ∙ (λ t. bit_xor (on p t) (here b t)))

@@ -1,4 +1,5 @@
--- Test cases 4 to 6 of GCM's submission to NIST, which have one key, text and additional data: the nonces differ.
+-- Test cases 4 to 6 of GCM's submission to NIST, which have one key, text and additional data: the
+-- nonces differ.
 use Rattle.std.proofs.Common.{◌≡◌, ℕ, List, [], ◌∷◌, ◌++◌, replicate, slice_index_or, sym, arith}
 use Rattle.std.specs.Int.{w128, to_be_bytes, from_be_bytes}
 use Rattle.aes_planes.specs.BigEndian.{bytes}
@@ -9,6 +10,7 @@ use Rattle.aes_ctr.specs.Private.{byte_of_blocks}
 use Rattle.gcm.specs.Gcm.{inc32, counter_at, pre_counter, text}
 use Rattle.gcm.proofs.OnLiterals.{gcm_on_literals, text_by}
 
+-- the round keys of the cases' key
 abbrev pub w : List (List ℕ)
 w = key_expansion (bytes 16 0xfeffe9928665731c6d6a8f9467308308)
 
@@ -16,9 +18,11 @@ w = key_expansion (bytes 16 0xfeffe9928665731c6d6a8f9467308308)
 abbrev pub zeros : List ℕ
 zeros = bytes 16 0xb83b533708bf535d0aa6e52980d53b78
 
+-- A of all three
 abbrev pub additional : List ℕ
 additional = bytes 20 0xfeedfacedeadbeeffeedfacedeadbeefabaddad2
 
+-- P of all three
 abbrev pub plain : List ℕ
 plain =
     bytes 16 0xd9313225f88406e5a55909c5aff5269a ++ bytes 16 0x86a7a9531534f7da2e4c303d8a318a72
@@ -36,5 +40,6 @@ unfolding gcm_on_literals
 text_of iv j a b c d of_zeros first e0 e1 e2 e3 =
     let blocks : List (List ℕ) = a ∷ b ∷ c ∷ d ∷ [] in
     text_by w iv zeros j blocks plain of_zeros first
-    (by_four (λ m. slice_index_or blocks m [] ≡ cipher_with w (to_be_bytes w128 (counter_at (inc32 j) m)))
+    (by_four (λ m. slice_index_or blocks m []
+    ≡ cipher_with w (to_be_bytes w128 (counter_at (inc32 j) m)))
     (sym e0) (sym e1) (sym e2) (sym e3)) (omega arith)

@@ -12,4 +12,5 @@ number_at number x i = number (slice_range x (16 * i) (16 * i + 16))
 unfoldable pub hashed_as : (List ℕ → ℕ) → ℕ → ℕ → List ℕ → ℕ → ℕ
 unfolding product number_at
 hashed_as number h y x zero = y
-hashed_as number h y x (suc i) = product (bit_xor (hashed_as number h y x i) (number_at number x i)) h
+hashed_as number h y x (suc i) =
+    product (bit_xor (hashed_as number h y x i) (number_at number x i)) h

@@ -1,6 +1,7 @@
--- Multiples of a block H by a nibble or a byte, and how room has them: byte by byte, so that products are looked up.
-use Rattle.std.specs.Prelude.{◌≡◌, ℕ, zero, suc, ◌+◌, ◌-◌, ◌*◌, ◌/◌, ◌%◌, ◌^◌, ◌==◌, if◌then◌else◌, List, [], ◌++◌}
-use Rattle.std.specs.Prelude.{drop, slice_index, slice_index_or, take}
+-- Multiples of a block H by a nibble or a byte, and how room has them: byte by byte, so that
+-- products are looked up.
+use Rattle.std.specs.Prelude.{◌≡◌, ℕ, zero, suc, ◌+◌, ◌-◌, ◌*◌, ◌/◌, ◌%◌, ◌^◌, ◌==◌, if◌then◌else◌}
+use Rattle.std.specs.Prelude.{List, [], ◌++◌, drop, slice_index, slice_index_or, take}
 use Rattle.std.specs.Int.{w128, from_be_bytes}
 use Rattle.std.specs.Int.Bits.{bit_xor}
 use Rattle.aes_planes.specs.Fips197 as fips
@@ -30,10 +31,12 @@ unfoldable pub multiples_row : ℕ → ℕ → List ℕ
 unfolding nibble_multiple byte_of
 multiples_row v r = fips.build 16 (λ n. byte_of (nibble_multiple v n) r)
 
--- rows r and 8 + r stand side by side, so that one vector has both: where row r stands, and which row stands at place i
+-- rows r and 8 + r stand side by side, so that one vector has both: where row r stands, and which
+-- row stands at place i
 abbrev pub place_of : ℕ → ℕ
 place_of r = 2 * (r % 8) + r / 8
 
+-- and which row stands at place i
 abbrev pub row_at : ℕ → ℕ
 row_at i = i / 2 + 8 * (i % 2)
 
@@ -54,7 +57,8 @@ multiples_of h = table_of h ++ (table_of (product h h) ++ table_of (product (pro
 
 -- the block that rows are multiples of, read off them: its multiple by the nibble 1000
 unfoldable pub subkey_in : List (List ℕ) → ℕ
-subkey_in rows = from_be_bytes w128 (fips.build 16 (λ r. slice_index (slice_index_or rows (place_of r) []) 8))
+subkey_in rows = from_be_bytes w128
+    (fips.build 16 (λ r. slice_index (slice_index_or rows (place_of r) []) 8))
 
 -- a table of the multiples of a block
 abbrev pub IsTable : List (List ℕ) → Type 0

@@ -1,10 +1,12 @@
 -- Messages that come in pieces: what is kept of them, by what has come so far.
-use Rattle.std.specs.Prelude.{◌≡◌, ℕ, ◌==◌, if◌then◌else◌, ◌-◌, ◌*◌, ◌/◌, ◌%◌, ◌^◌, ◌<◌, ◌≤◌, ◌⊎◌, List, [], length, replicate, take, drop}
+use Rattle.std.specs.Prelude.{◌≡◌, ℕ, ◌==◌, if◌then◌else◌, ◌-◌, ◌*◌, ◌/◌, ◌%◌, ◌^◌, ◌<◌, ◌≤◌, ◌⊎◌}
+use Rattle.std.specs.Prelude.{List, [], length, replicate, take, drop}
 use Rattle.std.specs.Int.{w128, from_be_bytes}
 use Rattle.gcm.specs.Gcm.{hashed, padded, hash_subkey, pre_counter}
 use Rattle.gcm.specs.declared.message.Message.{Message}
 use Rattle.gcm.specs.declared.message.Phase.{Phase}
-use Rattle.gcm.specs.declared.message.Phase.TheVariants.{NoMessage, Additional, Encrypting, Verifying, Decrypting}
+use Rattle.gcm.specs.declared.message.Phase.TheVariants.{NoMessage, Additional, Encrypting}
+use Rattle.gcm.specs.declared.message.Phase.TheVariants.{Verifying, Decrypting}
 
 -- the phase of a number; every other number is that of no message
 unfoldable pub phase_of : ℕ → Phase
@@ -33,15 +35,18 @@ pub record IsBegun (w : List (List ℕ)) (iv a : List ℕ) (m : Message) : Type 
   pub text : m.text ≡ 0
   pub hashing : IsHashing (hash_subkey w) 0 a (from_be_bytes w128 m.value) m.rest
 
--- the additional data a has come and then the cipher text c, and more of it may come in the same phase
-pub record IsInText (turn : Phase) (w : List (List ℕ)) (iv a c : List ℕ) (m : Message) : Type 0 where
+-- the additional data a has come and then the cipher text c, and more of it may come in the same
+-- phase
+pub record IsInText (turn : Phase) (w : List (List ℕ)) (iv a c : List ℕ)
+    (m : Message) : Type 0 where
   pub phase : phase_of m.phase ≡ turn
   pub first : from_be_bytes w128 m.first ≡ pre_counter (hash_subkey w) iv
   pub additional : m.additional ≡ length a
   pub short : length a < 2 ^ 61
   pub text : m.text ≡ length c
   pub short_text : length c ≤ 2 ^ 36 - 32
-  pub hashing : IsHashing (hash_subkey w) (hashed_padded (hash_subkey w) a) c (from_be_bytes w128 m.value) m.rest
+  pub hashing : IsHashing (hash_subkey w) (hashed_padded (hash_subkey w) a) c
+      (from_be_bytes w128 m.value) m.rest
 
 -- either of these: text of a phase may come
 abbrev pub IsAt : Phase → List (List ℕ) → List ℕ → List ℕ → List ℕ → Message → Type 0
@@ -56,7 +61,8 @@ abbrev pub IsVerifying : List (List ℕ) → List ℕ → List ℕ → List ℕ 
 IsVerifying = IsAt Verifying
 
 -- the tag of a cipher text of n bytes was right, and c has come once more of it
-pub record IsDecrypting (w : List (List ℕ)) (iv : List ℕ) (n : ℕ) (c : List ℕ) (m : Message) : Type 0 where
+pub record IsDecrypting (w : List (List ℕ)) (iv : List ℕ) (n : ℕ) (c : List ℕ)
+    (m : Message) : Type 0 where
   pub phase : phase_of m.phase ≡ Decrypting
   pub first : from_be_bytes w128 m.first ≡ pre_counter (hash_subkey w) iv
   pub text : m.text ≡ n

@@ -5,15 +5,18 @@ ghost use Rattle.gcm.specs.Gcm.{nonce_number};
 
 use aes_cipher::not_clone::NotClone;
 
-/// The next nonce of a key, as C keeps it: `struct fotsgure_gcm_counter`. Whoever copies it gives out its nonces twice.
+/// The next nonce of a key, as C keeps it: `struct fotsgure_gcm_counter`. Whoever copies it gives
+/// out its nonces twice.
 #[repr(C)]
 #[derive(Drop)]
 pub struct Counter {
-    /// Its bytes, as one number, highest byte first. The last number is never used: it says that no nonce is left.
+    /// Its bytes, as one number, highest byte first. The last number is never used: it says that no
+    /// nonce is left.
     pub next: [u8; 12],
 }
 
-// Returns the nonce after this one, as its first four bytes and its last eight; nothing after the last number.
+// Returns the nonce after this one, as its first four bytes and its last eight; nothing after the
+// last number.
 fn after(nonce: &[u8; 12]) -> Option<(u32, u64)>
     ensures ended { IsNone result ↔ (nonce_number nonce.now ≡ 2 ^ 96 - 1) }
     ensures next { IfSome result (λ next. next.0 * 2 ^ 64 + next.1 ≡ nonce_number nonce.now + 1) }

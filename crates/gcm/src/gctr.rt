@@ -16,8 +16,9 @@ pub(crate) type BlockRoom = MustWipe<[Block; 1]>;
 // How many counter blocks there are before the last 32 bits of a counter repeat.
 const COUNTERS: u128 = 1 << 32;
 
-// Adds to bytes the keystream of GCTR from a position on. The last 32 bits of the counter wrap at most once: the blocks
-// up to there, and those from there on, are two runs of counter mode. In a call of its own, so that its stack can be wiped.
+// Adds to bytes the keystream of GCTR from a position on. The last 32 bits of the counter wrap at
+// most once: the blocks up to there, and those from there on, are two runs of counter mode. In a
+// call of its own, so that its stack can be wiped.
 #[inline(never)]
 pub(crate) fn add_gctr<C: BlockCipherEncrypt>(
     cipher: &C,
@@ -26,7 +27,9 @@ pub(crate) fn add_gctr<C: BlockCipherEncrypt>(
     bytes: &mut [u8],
 )
     requires { position + length bytes.old ≤ 2 ^ 36 }
-    ensures { bytes.new ≡ plus_stream (gctr_byte (C.round_keys cipher.now) (from_be_bytes w128 first.now)) position bytes.old }
+    ensures { bytes.new
+        ≡ plus_stream (gctr_byte (C.round_keys cipher.now) (from_be_bytes w128 first.now))
+        position bytes.old }
 {
     if bytes.len() == 0 {
         return;
@@ -34,8 +37,9 @@ pub(crate) fn add_gctr<C: BlockCipherEncrypt>(
     let number = number_of_block(first);
     let low = number % COUNTERS;
     let end = 16 * (COUNTERS - low) as u64;
-    // With a nonce that doesn't have 12 bytes the first counter is secret. This branch tells whether it wraps, and where it
-    // does the lengths of the two runs tell the block. No more is told of it.
+    // With a nonce that doesn't have 12 bytes the first counter is secret. This branch tells
+    // whether it wraps, and where it does the lengths of the two runs tell the block. No more is
+    // told of it.
     if position + bytes.len() as u64 <= end {
         add_keystream(cipher, first, position, bytes);
     } else {

@@ -1,4 +1,5 @@
-//! GCM (SP 800-38D), encryption that shows whether a message was changed, over any block cipher that encrypts.
+//! GCM (SP 800-38D), encryption that shows whether a message was changed, over any block cipher
+//! that encrypts.
 #![tactic(auto)]
 
 mod counter;
@@ -6,23 +7,23 @@ mod errors;
 pub mod examples;
 mod field;
 mod gctr;
-mod halves;
 mod hash;
-mod lanes;
 mod laws;
 mod message;
 mod mode;
 mod multiples;
+mod numbers;
 mod order;
 mod pieces;
+mod row_pairs;
 
 pub use counter::Counter;
 pub use errors::{InvalidMessage, InvalidPiece, NotAccepted, OutOfTurn, Refused, TooLong};
 pub use field::next_v;
 pub use hash::{hash_singly, hash_string, hash_string_and};
-pub use lanes::sum;
 pub use laws::{text_twice, turns};
 pub use message::{Message, Phase};
 pub use mode::{Gcm, LONGEST_HASHED, LONGEST_TEXT, LentGcm, SHALLOW, is_short_tag, prepare};
 pub use multiples::{Multiples, Room, Table, TableRoom, put_multiples, put_one_table};
+pub use numbers::sum;
 pub use order::{ByteOrder, HighestFirst};

@@ -23,8 +23,8 @@ pub enum Phase {
     Decrypting,
 }
 
-/// A message under a nonce, of which some has come, as C keeps it: `struct fotsgure_gcm_message`. Its blocks are as secret as
-/// the key: keep it in a `Wiped`, whose `zeroed` has no message.
+/// A message under a nonce, of which some has come, as C keeps it: `struct fotsgure_gcm_message`.
+/// Its blocks are as secret as the key: keep it in a `Wiped`, whose `zeroed` has no message.
 #[repr(C)]
 #[derive(Drop)]
 pub struct Message {

@@ -1,11 +1,14 @@
 //! Messages in pieces: however they are cut, the result is that of the whole.
 
-ghost use Rattle.std.specs.Prelude.{◌≡◌, ◌≢◌, ◌↔◌, ◌⊎◌, ◌+◌, ◌-◌, ◌/◌, ◌%◌, ◌^◌, ◌<◌, ◌≤◌, ℕ, List, [], ◌++◌, length, replicate, drop, IsOk, IsErr, IsErrOf, IsTrue, IfOk, OnOk, OnErr};
+ghost use Rattle.std.specs.Prelude.{◌≡◌, ◌≢◌, ◌↔◌, ◌⊎◌, ◌+◌, ◌-◌, ◌/◌, ◌%◌, ◌^◌, ◌<◌, ◌≤◌, ℕ, List};
+ghost use Rattle.std.specs.Prelude.{[], ◌++◌, length, replicate, drop, IsOk, IsErr, IsErrOf};
+ghost use Rattle.std.specs.Prelude.{IsTrue, IfOk, OnOk, OnErr};
 ghost use Rattle.std.specs.Int.{w128, from_be_bytes};
 ghost use Rattle.aes_ctr.specs.CounterMode.{plus_stream};
 ghost use Rattle.gcm.specs.Gcm as nist;
 ghost use Rattle.gcm.specs.Gcm.{nonce_number, IsShortTag};
-ghost use Rattle.gcm.specs.Pieces.{hashed_padded, IsBegun, IsInText, IsAt, IsEncrypting, IsVerifying, IsDecrypting, no_message, phase_of};
+ghost use Rattle.gcm.specs.Pieces.{hashed_padded, IsBegun, IsInText, IsAt, IsEncrypting};
+ghost use Rattle.gcm.specs.Pieces.{IsVerifying, IsDecrypting, no_message, phase_of};
 ghost use Rattle.gcm.specs.declared.message.Phase.{Phase};
 
 use crate::counter::Counter;
@@ -23,7 +26,8 @@ use aes_cipher::zeroize::{Zeroize, wipe_stack};
 
 // Whether text of a phase may come: it has, or additional data may.
 fn is_turn(message: &Message, phase: Phase) -> bool
-    ensures { IsTrue result ↔ ((phase_of message.now.phase ≡ Phase.Additional) ⊎ (phase_of message.now.phase ≡ phase)) }
+    ensures { IsTrue result ↔ ((phase_of message.now.phase ≡ Phase.Additional)
+        ⊎ (phase_of message.now.phase ≡ phase)) }
 {
     let now = phase_of(message.phase);
     now == Phase::Additional || now == phase
@@ -32,7 +36,8 @@ fn is_turn(message: &Message, phase: Phase) -> bool
 // How many bytes there are of a block that isn't whole yet: of additional data or of text.
 fn filled(message: &Message) -> usize
     ensures inside { result < 16 }
-    ensures additional { phase_of message.now.phase ≡ Phase.Additional → result ≡ message.now.additional % 16 }
+    ensures additional { phase_of message.now.phase ≡ Phase.Additional
+        → result ≡ message.now.additional % 16 }
     ensures text { phase_of message.now.phase ≢ Phase.Additional → result ≡ message.now.text % 16 }
 {
     if phase_of(message.phase) == Phase::Additional {
@@ -42,8 +47,8 @@ fn filled(message: &Message) -> usize
     }
 }
 
-// Writes a claimed tag of 16 bytes or fewer, and behind it what the expected one has there: the two are equal exactly if
-// the claimed one is the first bytes of the expected one.
+// Writes a claimed tag of 16 bytes or fewer, and behind it what the expected one has there: the two
+// are equal exactly if the claimed one is the first bytes of the expected one.
 #[inline(always)]
 fn put_claimed(tag: &[u8], expected: &Block, claimed: &mut Block)
     requires { length tag.now ≤ 16 }
@@ -53,7 +58,8 @@ fn put_claimed(tag: &[u8], expected: &Block, claimed: &mut Block)
     claimed[..tag.len()].copy_from_slice(tag);
 }
 
-// Wipes the stack after J_0 was written. A nonce of another length than 12 bytes is hashed, and then J_0 is secret.
+// Wipes the stack after J_0 was written. A nonce of another length than 12 bytes is hashed, and
+// then J_0 is secret.
 #[inline(always)]
 fn wipe_hash_of(nonce: &[u8]) {
     if nonce.len() != 12 {
@@ -62,18 +68,19 @@ fn wipe_hash_of(nonce: &[u8]) {
 }
 
 impl<'a, C: BlockCipherEncrypt> LentGcm<'a, C> {
-    /// Begins a message under a nonce that is never used twice under a key. A nonce has any length; 12 bytes are advised.
-    /// Nothing is left of a message that was there before.
+    /// Begins a message under a nonce that is never used twice under a key. A nonce has any length;
+    /// 12 bytes are advised. Nothing is left of a message that was there before.
     ///
     /// # Errors
     ///
-    /// `EmptyNonce` exactly if the nonce has no bytes, `TooLong` exactly if it has 2^61 or more. The message is then
-    /// unchanged.
+    /// `EmptyNonce` exactly if the nonce has no bytes, `TooLong` exactly if it has 2^61 or more.
+    /// The message is then unchanged.
     pub fn begin(&self, message: &mut Message, nonce: &[u8]) -> Result<(), InvalidMessage>
         ensures empty { IsErrOf result InvalidMessage.EmptyNonce ↔ (length nonce.now ≡ 0) }
         ensures refusal { IsErr result ↔ ((length nonce.now ≡ 0) ⊎ (2 ^ 61 ≤ length nonce.now)) }
         ensures begun { OnOk result (IsBegun self.now nonce.now [] message.new) }
-        ensures clean { OnOk result ((message.new.rest ≡ replicate 16 0) × (message.new.decrypted ≡ 0)) }
+        ensures clean { OnOk result ((message.new.rest ≡ replicate 16 0)
+            × (message.new.decrypted ≡ 0)) }
         ensures untouched { OnErr result (message.new ≡ message.old) }
     {
         if nonce.len() == 0 {
@@ -103,8 +110,9 @@ impl<'a, C: BlockCipherEncrypt> LentGcm<'a, C> {
         wipe_hash_of(nonce);
     }
 
-    /// Begins a message under the counter's next nonce, which it returns, and moves the counter on by one (8.2.1). Ask
-    /// first whether a nonce is left. Nothing is left of a message that was there before.
+    /// Begins a message under the counter's next nonce, which it returns, and moves the counter on
+    /// by one (8.2.1). Ask first whether a nonce is left. Nothing is left of a message that was
+    /// there before.
     pub fn begin_next(&self, message: &mut Message, counter: &mut Counter) -> [u8; 12]
         requires { nonce_number counter.old.next ≢ 2 ^ 96 - 1 }
         ensures nonce { result ≡ counter.old.next }
@@ -121,10 +129,11 @@ impl<'a, C: BlockCipherEncrypt> LentGcm<'a, C> {
     ///
     /// # Errors
     ///
-    /// `OutOfTurn` exactly if no message has begun or text has come. Else `TooLong` exactly if there would be 2^61 bytes
-    /// of additional data or more. The message is then unchanged.
+    /// `OutOfTurn` exactly if no message has begun or text has come. Else `TooLong` exactly if
+    /// there would be 2^61 bytes of additional data or more. The message is then unchanged.
     pub fn additional_piece(&self, message: &mut Message, bytes: &[u8]) -> Result<(), InvalidPiece>
-        ensures out_of_turn { IsErrOf result InvalidPiece.OutOfTurn ↔ (phase_of message.old.phase ≢ Phase.Additional) }
+        ensures out_of_turn { IsErrOf result InvalidPiece.OutOfTurn ↔
+            (phase_of message.old.phase ≢ Phase.Additional) }
         ensures refusal { IsErr result ↔ ((phase_of message.old.phase ≢ Phase.Additional)
             ⊎ (2 ^ 61 ≤ message.old.additional + length bytes.now)) }
         ensures added { OnOk result ((iv a : List ℕ) → IsBegun self.now iv a message.old
@@ -150,14 +159,18 @@ impl<'a, C: BlockCipherEncrypt> LentGcm<'a, C> {
     ///
     /// # Errors
     ///
-    /// `OutOfTurn` exactly if no message has begun, or text has come that is to be decrypted. Else `TooLong` exactly if
-    /// there would be more than 2^36 - 32 bytes of text. Message and text are then unchanged.
+    /// `OutOfTurn` exactly if no message has begun, or text has come that is to be decrypted. Else
+    /// `TooLong` exactly if there would be more than 2^36 - 32 bytes of text. Message and text are
+    /// then unchanged.
     pub fn encrypt_piece(&self, message: &mut Message, text: &mut [u8]) -> Result<(), InvalidPiece>
         ensures out_of_turn { IsErrOf result InvalidPiece.OutOfTurn
-            ↔ ((phase_of message.old.phase ≢ Phase.Additional) × (phase_of message.old.phase ≢ Phase.Encrypting)) }
+            ↔ ((phase_of message.old.phase ≢ Phase.Additional)
+            × (phase_of message.old.phase ≢ Phase.Encrypting)) }
         ensures refusal { IsErr result ↔ (((phase_of message.old.phase ≢ Phase.Additional)
-            × (phase_of message.old.phase ≢ Phase.Encrypting)) ⊎ (2 ^ 36 - 32 < message.old.text + length text.old)) }
-        ensures encrypted { OnOk result ((iv a p c : List ℕ) → IsEncrypting self.now iv a c message.old
+            × (phase_of message.old.phase ≢ Phase.Encrypting))
+            ⊎ (2 ^ 36 - 32 < message.old.text + length text.old)) }
+        ensures encrypted { OnOk result ((iv a p c : List ℕ)
+            → IsEncrypting self.now iv a c message.old
             → c ≡ nist.text self.now iv p → c ++ text.new ≡ nist.text self.now iv (p ++ text.old)) }
         ensures added { OnOk result ((iv a c : List ℕ) → IsEncrypting self.now iv a c message.old
             → IsInText Phase.Encrypting self.now iv a (c ++ text.new) message.new) }
@@ -175,12 +188,14 @@ impl<'a, C: BlockCipherEncrypt> LentGcm<'a, C> {
     ///
     /// # Errors
     ///
-    /// `OutOfTurn` exactly if no message has begun, or text has come that is to be decrypted; the message is then
-    /// unchanged.
+    /// `OutOfTurn` exactly if no message has begun, or text has come that is to be decrypted; the
+    /// message is then unchanged.
     pub fn finish(&self, message: &mut Message) -> Result<Block, OutOfTurn>
         ensures out_of_turn { IsErr result
-            ↔ ((phase_of message.old.phase ≢ Phase.Additional) × (phase_of message.old.phase ≢ Phase.Encrypting)) }
-        ensures tag { IfOk result (λ tag. (iv a c : List ℕ) → IsEncrypting self.now iv a c message.old
+            ↔ ((phase_of message.old.phase ≢ Phase.Additional)
+            × (phase_of message.old.phase ≢ Phase.Encrypting)) }
+        ensures tag { IfOk result (λ tag. (iv a c : List ℕ)
+            → IsEncrypting self.now iv a c message.old
             → tag ≡ nist.tag self.now iv a c) }
         ensures over { OnOk result (message.new ≡ no_message) }
         ensures untouched { OnErr result (message.new ≡ message.old) }
@@ -195,17 +210,21 @@ impl<'a, C: BlockCipherEncrypt> LentGcm<'a, C> {
         Ok(tag)
     }
 
-    /// Takes a piece of a cipher text whose tag is to be compared, of any size, and writes nothing to it.
+    /// Takes a piece of a cipher text whose tag is to be compared, of any size, and writes nothing
+    /// to it.
     ///
     /// # Errors
     ///
-    /// `OutOfTurn` exactly if no message has begun, or text has come that was encrypted or accepted. Else `TooLong`
-    /// exactly if there would be more than 2^36 - 32 bytes of text. The message is then unchanged.
+    /// `OutOfTurn` exactly if no message has begun, or text has come that was encrypted or
+    /// accepted. Else `TooLong` exactly if there would be more than 2^36 - 32 bytes of text. The
+    /// message is then unchanged.
     pub fn verify_piece(&self, message: &mut Message, text: &[u8]) -> Result<(), InvalidPiece>
         ensures out_of_turn { IsErrOf result InvalidPiece.OutOfTurn
-            ↔ ((phase_of message.old.phase ≢ Phase.Additional) × (phase_of message.old.phase ≢ Phase.Verifying)) }
+            ↔ ((phase_of message.old.phase ≢ Phase.Additional)
+            × (phase_of message.old.phase ≢ Phase.Verifying)) }
         ensures refusal { IsErr result ↔ (((phase_of message.old.phase ≢ Phase.Additional)
-            × (phase_of message.old.phase ≢ Phase.Verifying)) ⊎ (2 ^ 36 - 32 < message.old.text + length text.now)) }
+            × (phase_of message.old.phase ≢ Phase.Verifying))
+            ⊎ (2 ^ 36 - 32 < message.old.text + length text.now)) }
         ensures added { OnOk result ((iv a c : List ℕ) → IsVerifying self.now iv a c message.old
             → IsInText Phase.Verifying self.now iv a (c ++ text.now) message.new) }
         ensures untouched { OnErr result (message.new ≡ message.old) }
@@ -216,16 +235,17 @@ impl<'a, C: BlockCipherEncrypt> LentGcm<'a, C> {
         Ok(())
     }
 
-    /// Compares a tag with that of the additional data and the cipher text that have come, without an early exit. If it
-    /// is right, the cipher text may come once more, to be decrypted.
+    /// Compares a tag with that of the additional data and the cipher text that have come, without
+    /// an early exit. If it is right, the cipher text may come once more, to be decrypted.
     ///
     /// # Errors
     ///
-    /// `OutOfTurn` exactly if no message has begun, or text has come that was encrypted or accepted. Else `Refused`
-    /// exactly if the tag is another. The message is then unchanged.
+    /// `OutOfTurn` exactly if no message has begun, or text has come that was encrypted or
+    /// accepted. Else `Refused` exactly if the tag is another. The message is then unchanged.
     pub fn accept(&self, message: &mut Message, tag: &Block) -> Result<(), NotAccepted>
         ensures out_of_turn { IsErrOf result NotAccepted.OutOfTurn
-            ↔ ((phase_of message.old.phase ≢ Phase.Additional) × (phase_of message.old.phase ≢ Phase.Verifying)) }
+            ↔ ((phase_of message.old.phase ≢ Phase.Additional)
+            × (phase_of message.old.phase ≢ Phase.Verifying)) }
         ensures accepted { (iv a c : List ℕ) → IsVerifying self.now iv a c message.old
             → IsOk result ↔ (tag.now ≡ nist.tag self.now iv a c) }
         ensures decrypting { OnOk result ((iv a c : List ℕ) → IsVerifying self.now iv a c message.old
@@ -245,14 +265,16 @@ impl<'a, C: BlockCipherEncrypt> LentGcm<'a, C> {
         Ok(())
     }
 
-    /// Compares a tag of fewer than 16 bytes as `accept` does one of 16. How many bytes all tags under a key have is fixed
-    /// with the key (5.2.1.2), and comes with no message. A forged tag of n bytes is right with a chance of 1 in 256^n and
-    /// more; of 4 and 8 bytes a key may check few (appendix C).
+    /// Compares a tag of fewer than 16 bytes as `accept` does one of 16. How many bytes all tags
+    /// under a key have is fixed with the key (5.2.1.2), and comes with no message. A forged tag of
+    /// n bytes is right with a chance of 1 in 256^n and more; of 4 and 8 bytes a key may check few
+    /// (appendix C).
     ///
     /// # Errors
     ///
-    /// `OutOfTurn` exactly as `accept`. Else `Refused` exactly if the tag doesn't have so many bytes, if no tag may, or if
-    /// the tag isn't the first bytes of that of 16. The message is then unchanged.
+    /// `OutOfTurn` exactly as `accept`. Else `Refused` exactly if the tag doesn't have so many
+    /// bytes, if no tag may, or if the tag isn't the first bytes of that of 16. The message is then
+    /// unchanged.
     pub fn accept_short(
         &self,
         message: &mut Message,
@@ -260,7 +282,8 @@ impl<'a, C: BlockCipherEncrypt> LentGcm<'a, C> {
         tag: &[u8],
     ) -> Result<(), NotAccepted>
         ensures out_of_turn { IsErrOf result NotAccepted.OutOfTurn
-            ↔ ((phase_of message.old.phase ≢ Phase.Additional) × (phase_of message.old.phase ≢ Phase.Verifying)) }
+            ↔ ((phase_of message.old.phase ≢ Phase.Additional)
+            × (phase_of message.old.phase ≢ Phase.Verifying)) }
         ensures accepted { (iv a c : List ℕ) → IsVerifying self.now iv a c message.old
             → IsOk result ↔ ((IsShortTag tag_length × (length tag.now ≡ tag_length))
             × (tag.now ≡ nist.short_tag (length tag.now) self.now iv a c)) }
@@ -284,25 +307,30 @@ impl<'a, C: BlockCipherEncrypt> LentGcm<'a, C> {
         Ok(())
     }
 
-    /// Decrypts a piece in place, of any size, of the cipher text whose tag was right: give it the same cipher text once
-    /// more, from its beginning. Nothing of a message is given out before its tag was found right.
+    /// Decrypts a piece in place, of any size, of the cipher text whose tag was right: give it the
+    /// same cipher text once more, from its beginning. Nothing of a message is given out before its
+    /// tag was found right.
     ///
     /// # Errors
     ///
-    /// `OutOfTurn` exactly if no tag was accepted. Else `TooLong` exactly if there would be more text than was
-    /// accepted, or more than 2^36 - 32 bytes. Message and text are then unchanged.
+    /// `OutOfTurn` exactly if no tag was accepted. Else `TooLong` exactly if there would be more
+    /// text than was accepted, or more than 2^36 - 32 bytes. Message and text are then unchanged.
     pub fn decrypt_piece(&self, message: &mut Message, text: &mut [u8]) -> Result<(), InvalidPiece>
-        ensures out_of_turn { IsErrOf result InvalidPiece.OutOfTurn ↔ (phase_of message.old.phase ≢ Phase.Decrypting) }
+        ensures out_of_turn { IsErrOf result InvalidPiece.OutOfTurn ↔
+            (phase_of message.old.phase ≢ Phase.Decrypting) }
         ensures refusal { IsErr result ↔ ((phase_of message.old.phase ≢ Phase.Decrypting)
             ⊎ ((message.old.text < message.old.decrypted + length text.old)
             ⊎ (2 ^ 36 - 32 < message.old.decrypted + length text.old))) }
-        ensures decrypted { OnOk result ((n : ℕ) (iv c : List ℕ) → IsDecrypting self.now iv n c message.old
+        ensures decrypted { OnOk result ((n : ℕ) (iv c : List ℕ)
+            → IsDecrypting self.now iv n c message.old
             → nist.text self.now iv c ++ text.new ≡ nist.text self.now iv (c ++ text.old)) }
-        ensures added { OnOk result ((n : ℕ) (iv c : List ℕ) → IsDecrypting self.now iv n c message.old
+        ensures added { OnOk result ((n : ℕ) (iv c : List ℕ)
+            → IsDecrypting self.now iv n c message.old
             → IsDecrypting self.now iv n (c ++ text.old) message.new) }
         ensures phase { OnOk result (phase_of message.new.phase ≡ Phase.Decrypting) }
         ensures text { OnOk result (message.new.text ≡ message.old.text) }
-        ensures counted { OnOk result (message.new.decrypted ≡ message.old.decrypted + length text.old) }
+        ensures counted { OnOk result (message.new.decrypted
+            ≡ message.old.decrypted + length text.old) }
         ensures untouched { OnErr result (message.new ≡ message.old) }
         ensures untouched_text { OnErr result (text.new ≡ text.old) }
     {
@@ -318,8 +346,9 @@ impl<'a, C: BlockCipherEncrypt> LentGcm<'a, C> {
         Ok(())
     }
 
-    /// Takes a piece of a cipher text whose tag is to be compared, and decrypts it in place at once. **What it gives out
-    /// isn't authenticated**: use none of it before `accept` has found the tag right, and forget it if it doesn't.
+    /// Takes a piece of a cipher text whose tag is to be compared, and decrypts it in place at
+    /// once. **What it gives out isn't authenticated**: use none of it before `accept` has found
+    /// the tag right, and forget it if it doesn't.
     ///
     /// # Errors
     ///
@@ -330,9 +359,11 @@ impl<'a, C: BlockCipherEncrypt> LentGcm<'a, C> {
         text: &mut [u8],
     ) -> Result<(), InvalidPiece>
         ensures out_of_turn { IsErrOf result InvalidPiece.OutOfTurn
-            ↔ ((phase_of message.old.phase ≢ Phase.Additional) × (phase_of message.old.phase ≢ Phase.Verifying)) }
+            ↔ ((phase_of message.old.phase ≢ Phase.Additional)
+            × (phase_of message.old.phase ≢ Phase.Verifying)) }
         ensures refusal { IsErr result ↔ (((phase_of message.old.phase ≢ Phase.Additional)
-            × (phase_of message.old.phase ≢ Phase.Verifying)) ⊎ (2 ^ 36 - 32 < message.old.text + length text.old)) }
+            × (phase_of message.old.phase ≢ Phase.Verifying))
+            ⊎ (2 ^ 36 - 32 < message.old.text + length text.old)) }
         ensures decrypted { OnOk result ((iv a c : List ℕ) → IsVerifying self.now iv a c message.old
             → nist.text self.now iv c ++ text.new ≡ nist.text self.now iv (c ++ text.old)) }
         ensures added { OnOk result ((iv a c : List ℕ) → IsVerifying self.now iv a c message.old
@@ -352,8 +383,11 @@ impl<'a, C: BlockCipherEncrypt> LentGcm<'a, C> {
     fn turn_to(&self, message: &mut Message, phase: Phase, more: usize) -> Result<(), InvalidPiece>
         requires { phase ≢ Phase.Additional }
         ensures out_of_turn { IsErrOf result InvalidPiece.OutOfTurn
-            ↔ ((phase_of message.old.phase ≢ Phase.Additional) × (phase_of message.old.phase ≢ phase)) }
-        ensures refusal { IsErr result ↔ (((phase_of message.old.phase ≢ Phase.Additional) × (phase_of message.old.phase ≢ phase))
+            ↔ ((phase_of message.old.phase ≢ Phase.Additional)
+            × (phase_of message.old.phase ≢ phase)) }
+        ensures refusal { IsErr result ↔
+            (((phase_of message.old.phase ≢ Phase.Additional)
+            × (phase_of message.old.phase ≢ phase))
             ⊎ (2 ^ 36 - 32 < message.old.text + more)) }
         ensures turned { OnOk result ((iv a c : List ℕ) → IsAt phase self.now iv a c message.old
             → IsInText phase self.now iv a c message.new) }
@@ -380,8 +414,10 @@ impl<'a, C: BlockCipherEncrypt> LentGcm<'a, C> {
         ensures additional { (iv a : List ℕ) → IsBegun self.now iv a message.now
             → result ≡ hashed_padded (nist.hash_subkey self.now) a }
         ensures text { (phase : Phase) (iv a c : List ℕ) → phase ≢ Phase.Additional
-            → IsInText phase self.now iv a c message.now → result ≡ nist.hashed (nist.hash_subkey self.now)
-            (hashed_padded (nist.hash_subkey self.now) a) (nist.padded c) (length (nist.padded c) / 16) }
+            → IsInText phase self.now iv a c message.now
+            → result ≡ nist.hashed (nist.hash_subkey self.now)
+            (hashed_padded (nist.hash_subkey self.now) a) (nist.padded c)
+            (length (nist.padded c) / 16) }
     {
         let filled = filled(message);
         let before = number_of_block(&message.value);
@@ -405,7 +441,8 @@ impl<'a, C: BlockCipherEncrypt> LentGcm<'a, C> {
     // Whether a tag is that of what has come so far.
     fn is_tag_so_far(&self, message: &Message, tag: &Block) -> bool
         ensures { (phase : Phase) (iv a c : List ℕ) → phase ≢ Phase.Additional
-            → IsAt phase self.now iv a c message.now → IsTrue result ↔ (tag.now ≡ nist.tag self.now iv a c) }
+            → IsAt phase self.now iv a c message.now
+            → IsTrue result ↔ (tag.now ≡ nist.tag self.now iv a c) }
     {
         let mut expected = BlockRoom::zeroed();
         self.put_tag_so_far(message, &mut expected.value_mut()[0]);
@@ -433,7 +470,8 @@ impl<'a, C: BlockCipherEncrypt> LentGcm<'a, C> {
         is_equal
     }
 
-    // Writes the tag of what has come so far (7.1, steps 4 to 6). In a call of its own, so that its stack can be wiped.
+    // Writes the tag of what has come so far (7.1, steps 4 to 6). In a call of its own, so that its
+    // stack can be wiped.
     #[inline(never)]
     fn put_tag_so_far(&self, message: &Message, tag: &mut Block)
         ensures { (phase : Phase) (iv a c : List ℕ) → phase ≢ Phase.Additional

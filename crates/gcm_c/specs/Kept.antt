@@ -1,4 +1,5 @@
--- The struct that a caller keeps: how many bytes the key has, its stored round keys, and the multiples of H.
+-- The struct that a caller keeps: how many bytes the key has, its stored round keys, and the
+-- multiples of H.
 use Rattle.std.specs.Prelude.{◌≡◌, ◌⊎◌, ℕ, ◌-◌, ◌^◌, ◌<◌, ◌≤◌, List}
 use Rattle.aes_planes.specs.Fips197 as fips
 use Rattle.aes_cipher.specs.KeySizes.{IsKeySize}
@@ -15,10 +16,11 @@ key_in gcm = key_in_room gcm.key_length gcm.round_keys
 abbrev pub round_keys_in : Gcm → List (List ℕ)
 round_keys_in gcm = fips.key_expansion (key_in gcm)
 
--- a struct in order, as set_key and wipe leave it, and as zeros are: if its length is that of a key, its blocks begin
--- with the stored round keys of one, and the multiples are those of its H
+-- a struct in order, as set_key and wipe leave it, and as zeros are: if its length is that of a
+-- key, its blocks begin with the stored round keys of one, and the multiples are those of its H
 pub record IsMade (gcm : Gcm) : Type 0 where
-  pub schedule : IsKeySize gcm.key_length → IsCipherSchedule (stored_keys gcm.key_length gcm.round_keys)
+  pub schedule : IsKeySize gcm.key_length
+      → IsCipherSchedule (stored_keys gcm.key_length gcm.round_keys)
   pub looked_up : IsKeySize gcm.key_length → HasMultiples gcm.multiples
   pub subkey : IsKeySize gcm.key_length → subkey_in gcm.multiples ≡ hash_subkey (round_keys_in gcm)
 

@@ -12,9 +12,9 @@ use crate::status::{DONE, NO_KEY, NONCES_END, TOO_LONG};
 use crate::whole::fotsgure_gcm_seal;
 use gcm::{Counter, Message};
 
-/// Encrypts a text in place under the counter's next nonce, writes that nonce and the tag, and moves the counter on by
-/// one (SP 800-38D, 7.1 and 8.2.1). Returns `NONCES_END`, `TOO_LONG` or `NO_KEY`, the first of them that applies, and else
-/// `DONE`.
+/// Encrypts a text in place under the counter's next nonce, writes that nonce and the tag, and
+/// moves the counter on by one (SP 800-38D, 7.1 and 8.2.1). Returns `NONCES_END`, `TOO_LONG` or
+/// `NO_KEY`, the first of them that applies, and else `DONE`.
 #[unsafe(no_mangle)]
 pub extern "C" fn fotsgure_gcm_seal_next(
     gcm: &Gcm,
@@ -28,13 +28,17 @@ pub extern "C" fn fotsgure_gcm_seal_next(
     ensures ended { result ≡ NONCES_END ↔ (nonce_number counter.old.next ≡ 2 ^ 96 - 1) }
     ensures too_long { result ≡ TOO_LONG ↔ (nonce_number counter.old.next ≢ 2 ^ 96 - 1)
         × IsTooLong (length additional.now) (length text.old) }
-    ensures done { result ≡ DONE ↔ (nonce_number counter.old.next ≢ 2 ^ 96 - 1) × ((length additional.now < 2 ^ 61)
+    ensures done { result ≡ DONE ↔ (nonce_number counter.old.next ≢ 2 ^ 96 - 1)
+        × ((length additional.now < 2 ^ 61)
         × ((length text.old ≤ 2 ^ 36 - 32) × IsKeySize gcm.now.key_length)) }
     ensures refused { result ≢ DONE → result ≢ NONCES_END → result ≢ TOO_LONG → result ≡ NO_KEY }
     ensures nonce { result ≡ DONE → nonce.new ≡ counter.old.next }
-    ensures encrypted { result ≡ DONE → text.new ≡ nist.text (round_keys_in gcm.now) counter.old.next text.old }
-    ensures tag { result ≡ DONE → tag.new ≡ nist.tag (round_keys_in gcm.now) counter.old.next additional.now text.new }
-    ensures counted { result ≡ DONE → nonce_number counter.new.next ≡ nonce_number counter.old.next + 1 }
+    ensures encrypted { result ≡ DONE → text.new
+        ≡ nist.text (round_keys_in gcm.now) counter.old.next text.old }
+    ensures tag { result ≡ DONE
+        → tag.new ≡ nist.tag (round_keys_in gcm.now) counter.old.next additional.now text.new }
+    ensures counted { result ≡ DONE → nonce_number counter.new.next
+        ≡ nonce_number counter.old.next + 1 }
     ensures uncounted { result ≢ DONE → counter.new.next ≡ counter.old.next }
     ensures untouched { result ≢ DONE → text.new ≡ text.old }
     ensures untouched_nonce { result ≢ DONE → nonce.new ≡ nonce.old }
@@ -50,9 +54,10 @@ pub extern "C" fn fotsgure_gcm_seal_next(
     status
 }
 
-/// Begins a message under the counter's next nonce, writes that nonce, and moves the counter on by one (SP 800-38D, 8.2.1).
-/// The struct of the message may be uninitialized: none of it is read, and nothing of what it held is left. Returns
-/// `NONCES_END` or `NO_KEY`, the first of them that applies, and else `DONE`.
+/// Begins a message under the counter's next nonce, writes that nonce, and moves the counter on by
+/// one (SP 800-38D, 8.2.1). The struct of the message may be uninitialized: none of it is read, and
+/// nothing of what it held is left. Returns `NONCES_END` or `NO_KEY`, the first of them that
+/// applies, and else `DONE`.
 #[unsafe(no_mangle)]
 pub extern "C" fn fotsgure_gcm_begin_next(
     gcm: &Gcm,
@@ -62,12 +67,16 @@ pub extern "C" fn fotsgure_gcm_begin_next(
 ) -> u32
     requires made { IsMade gcm.now }
     ensures ended { result ≡ NONCES_END ↔ (nonce_number counter.old.next ≡ 2 ^ 96 - 1) }
-    ensures done { result ≡ DONE ↔ (nonce_number counter.old.next ≢ 2 ^ 96 - 1) × IsKeySize gcm.now.key_length }
+    ensures done { result ≡ DONE ↔ (nonce_number counter.old.next ≢ 2 ^ 96 - 1)
+        × IsKeySize gcm.now.key_length }
     ensures refused { result ≢ DONE → result ≢ NONCES_END → result ≡ NO_KEY }
     ensures nonce { result ≡ DONE → nonce.new ≡ counter.old.next }
-    ensures begun { result ≡ DONE → IsBegun (round_keys_in gcm.now) counter.old.next [] message.new }
-    ensures clean { result ≡ DONE → (message.new.rest ≡ replicate 16 0) × (message.new.decrypted ≡ 0) }
-    ensures counted { result ≡ DONE → nonce_number counter.new.next ≡ nonce_number counter.old.next + 1 }
+    ensures begun { result ≡ DONE
+        → IsBegun (round_keys_in gcm.now) counter.old.next [] message.new }
+    ensures clean { result ≡ DONE → (message.new.rest ≡ replicate 16 0)
+        × (message.new.decrypted ≡ 0) }
+    ensures counted { result ≡ DONE → nonce_number counter.new.next
+        ≡ nonce_number counter.old.next + 1 }
     ensures uncounted { result ≢ DONE → counter.new.next ≡ counter.old.next }
     ensures untouched { result ≢ DONE → message.new ≡ message.old }
     ensures untouched_nonce { result ≢ DONE → nonce.new ≡ nonce.old }

@@ -1,5 +1,6 @@
-//! Statuses and the version by number, and lengths at their limits, as contracts, so that a slip in a constant or a
-//! definition is refused. The last call says what a text is encrypted to under the bytes of a key; the others have no effect.
+//! Statuses and the version by number, and lengths at their limits, as contracts, so that a slip in
+//! a constant or a definition is refused. The last call says what a text is encrypted to under the
+//! bytes of a key; the others have no effect.
 
 ghost use Rattle.std.specs.Prelude.{◌≡◌, ◌↔◌, ◌-◌, ◌^◌, ◌<◌, ◌≤◌, length};
 ghost use Rattle.aes_planes.specs.Fips197 as fips;
@@ -60,8 +61,8 @@ pub fn siv_length_examples()
     ensures additional_too_long { IsSivTooLong 68719476737 0 }
 {}
 
-/// Keeps a key, and encrypts a text in place under it and a nonce. Returns `KEY_LENGTH`, `NONCE_LENGTH` or `TOO_LONG`, the
-/// first of them that applies, and else `DONE`.
+/// Keeps a key, and encrypts a text in place under it and a nonce. Returns `KEY_LENGTH`,
+/// `NONCE_LENGTH` or `TOO_LONG`, the first of them that applies, and else `DONE`.
 pub fn set_key_and_seal(
     gcm: &mut Gcm,
     key: &[u8],
@@ -71,13 +72,17 @@ pub fn set_key_and_seal(
     tag: &mut [u8; 16],
 ) -> u32
     ensures key_length { result ≡ KEY_LENGTH ↔ ¬ IsKeySize (length key.now) }
-    ensures nonce_length { result ≡ NONCE_LENGTH ↔ IsKeySize (length key.now) × ¬ IsNonceLength (length nonce.now) }
-    ensures too_long { result ≡ TOO_LONG ↔ IsKeySize (length key.now) × (IsNonceLength (length nonce.now)
+    ensures nonce_length { result ≡ NONCE_LENGTH ↔ IsKeySize (length key.now)
+        × ¬ IsNonceLength (length nonce.now) }
+    ensures too_long { result ≡ TOO_LONG ↔ IsKeySize (length key.now)
+        × (IsNonceLength (length nonce.now)
         × IsTooLong (length additional.now) (length text.old)) }
     ensures done { result ≡ DONE ↔ IsKeySize (length key.now) × (IsNonceLength (length nonce.now)
         × ((length additional.now < 2 ^ 61) × (length text.old ≤ 2 ^ 36 - 32))) }
-    ensures encrypted { result ≡ DONE → text.new ≡ nist.text (fips.key_expansion key.now) nonce.now text.old }
-    ensures tag { result ≡ DONE → tag.new ≡ nist.tag (fips.key_expansion key.now) nonce.now additional.now text.new }
+    ensures encrypted { result ≡ DONE → text.new
+        ≡ nist.text (fips.key_expansion key.now) nonce.now text.old }
+    ensures tag { result ≡ DONE
+        → tag.new ≡ nist.tag (fips.key_expansion key.now) nonce.now additional.now text.new }
 {
     let kept = fotsgure_gcm_set_key(gcm, key);
     if kept != DONE {
@@ -86,8 +91,8 @@ pub fn set_key_and_seal(
     fotsgure_gcm_seal(gcm, nonce, additional, text, tag)
 }
 
-/// Keeps a key of AES-GCM-SIV, and encrypts a text in place under it and a nonce. Returns `KEY_LENGTH` or `TOO_LONG`, the
-/// first of them that applies, and else `DONE`.
+/// Keeps a key of AES-GCM-SIV, and encrypts a text in place under it and a nonce. Returns
+/// `KEY_LENGTH` or `TOO_LONG`, the first of them that applies, and else `DONE`.
 pub fn siv_set_key_and_seal(
     siv: &mut Siv,
     key: &[u8],

@@ -69,9 +69,10 @@ pub(crate) fn mode_of(gcm: &Gcm) -> LentGcm<'_, Lent<'_, BuildWidth>>
     LentGcm::new(Lent::new(keys), &gcm.multiples)
 }
 
-/// Expands a key into the struct (KeyExpansion, FIPS 197, 5.2) and prepares the multiples of its H (SP 800-38D, 7.1,
-/// step 1). Returns `DONE` exactly if the key has 16, 24 or 32 bytes, else `KEY_LENGTH`; the struct then holds no key.
-/// Nothing of what it held before is left in either case.
+/// Expands a key into the struct (KeyExpansion, FIPS 197, 5.2) and prepares the multiples of its H
+/// (SP 800-38D, 7.1, step 1). Returns `DONE` exactly if the key has 16, 24 or 32 bytes, else
+/// `KEY_LENGTH`; the struct then holds no key. Nothing of what it held before is left in either
+/// case.
 #[unsafe(no_mangle)]
 pub extern "C" fn fotsgure_gcm_set_key(gcm: &mut Gcm, key: &[u8]) -> u32
     ensures done { result ≡ DONE ↔ IsKeySize (length key.now) }
@@ -84,8 +85,8 @@ pub extern "C" fn fotsgure_gcm_set_key(gcm: &mut Gcm, key: &[u8]) -> u32
     ensures wiped_round_keys { result ≢ DONE → gcm.new.round_keys ≡ replicate 15 (replicate 16 0) }
     ensures wiped_multiples { result ≢ DONE → gcm.new.multiples ≡ replicate 96 (replicate 16 0) }
 {
-    // Nothing is read of a struct that may be uninitialized. No compiler takes zeros away here: the caller owns the struct,
-    // and can read what the call leaves in it.
+    // Nothing is read of a struct that may be uninitialized. No compiler takes zeros away here: the
+    // caller owns the struct, and can read what the call leaves in it.
     if !is_key_size(key.len()) {
         *gcm = Gcm::zero();
         return KEY_LENGTH;
@@ -120,7 +121,8 @@ pub extern "C" fn fotsgure_gcm_wipe(gcm: &mut Gcm)
     ensures round_keys { gcm.new.round_keys ≡ replicate 15 (replicate 16 0) }
     ensures multiples { gcm.new.multiples ≡ replicate 96 (replicate 16 0) }
 {
-    // A wipe looks at what it overwrites, and the struct may be uninitialized: so zeros are written first.
+    // A wipe looks at what it overwrites, and the struct may be uninitialized: so zeros are written
+    // first.
     *gcm = Zeroize::zero();
     gcm.zeroize();
 }

@@ -1,7 +1,8 @@
-//! GCM and AES-GCM-SIV for C, and for languages that call C: `dist/include/fotsgure_gcm.h` declares these calls.
+//! GCM and AES-GCM-SIV for C, and for languages that call C: `dist/include/fotsgure_gcm.h` declares
+//! these calls.
 //!
-//! The header states what a `requires` asks of callers; nothing checks a call from C. Keys of 16, 24 and 32 bytes go
-//! through the same exports, since the struct knows how long its key is.
+//! The header states what a `requires` asks of callers; nothing checks a call from C. Keys of 16,
+//! 24 and 32 bytes go through the same exports, since the struct knows how long its key is.
 #![tactic(auto)]
 
 ghost use Rattle.std.specs.Prelude.{◌≡◌};
@@ -43,7 +44,8 @@ pub use status::{
 pub use whole::{fotsgure_gcm_open, fotsgure_gcm_seal};
 pub use width::BuildWidth;
 
-/// The version of the interface: 10000 times the first number, 100 times the second, plus the third.
+/// The version of the interface: 10000 times the first number, 100 times the second, plus the
+/// third.
 pub const VERSION: u32 = 300;
 
 /// Returns the version of the library; programs compare it with that of their header.

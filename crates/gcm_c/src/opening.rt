@@ -1,6 +1,7 @@
 //! Messages in pieces, decrypted once their tag is found right.
 
-ghost use Rattle.std.specs.Prelude.{◌≡◌, ◌≢◌, ◌↔◌, ◌⊎◌, ◌+◌, ◌-◌, ◌/◌, ◌^◌, ◌≤◌, ℕ, List, [], ◌++◌, length};
+ghost use Rattle.std.specs.Prelude.{◌≡◌, ◌≢◌, ◌↔◌, ◌⊎◌, ◌+◌, ◌-◌, ◌/◌, ◌^◌, ◌≤◌, ℕ, List, [], ◌++◌};
+ghost use Rattle.std.specs.Prelude.{length};
 ghost use Rattle.gcm.specs.Gcm as nist;
 ghost use Rattle.gcm.specs.Gcm.{IsShortTag};
 ghost use Rattle.gcm.specs.declared.message.Phase.{Phase};
@@ -24,16 +25,18 @@ fn status_of_refusal(error: NotAccepted) -> u32
     }
 }
 
-/// Takes a piece of a cipher text whose tag is to be compared. Returns `NO_KEY`, `OUT_OF_TURN` or `TOO_LONG`, the first of
-/// them that applies, and else `DONE`.
+/// Takes a piece of a cipher text whose tag is to be compared. Returns `NO_KEY`, `OUT_OF_TURN` or
+/// `TOO_LONG`, the first of them that applies, and else `DONE`.
 #[unsafe(no_mangle)]
 pub extern "C" fn fotsgure_gcm_verify(gcm: &Gcm, message: &mut Message, text: &[u8]) -> u32
     requires made { IsMade gcm.now }
     ensures no_key { result ≡ NO_KEY ↔ ¬ IsKeySize gcm.now.key_length }
     ensures out_of_turn { result ≡ OUT_OF_TURN ↔ IsKeySize gcm.now.key_length
-        × ((phase_of message.old.phase ≢ Phase.Additional) × (phase_of message.old.phase ≢ Phase.Verifying)) }
+        × ((phase_of message.old.phase ≢ Phase.Additional)
+        × (phase_of message.old.phase ≢ Phase.Verifying)) }
     ensures done { result ≡ DONE ↔ IsKeySize gcm.now.key_length
-        × (((phase_of message.old.phase ≡ Phase.Additional) ⊎ (phase_of message.old.phase ≡ Phase.Verifying))
+        × (((phase_of message.old.phase ≡ Phase.Additional)
+        ⊎ (phase_of message.old.phase ≡ Phase.Verifying))
         × (message.old.text + length text.now ≤ 2 ^ 36 - 32)) }
     ensures refused { result ≢ DONE → result ≢ NO_KEY → result ≢ OUT_OF_TURN → result ≡ TOO_LONG }
     ensures added { let w = round_keys_in gcm.now in
@@ -51,19 +54,24 @@ pub extern "C" fn fotsgure_gcm_verify(gcm: &Gcm, message: &mut Message, text: &[
     }
 }
 
-/// Compares the tag of what has come, without an early exit; if it is right, the cipher text may come once more. Returns
-/// `TAG_LENGTH`, `NO_KEY`, `OUT_OF_TURN` or `REFUSED`, the first of them that applies, and else `DONE`.
+/// Compares the tag of what has come, without an early exit; if it is right, the cipher text may
+/// come once more. Returns `TAG_LENGTH`, `NO_KEY`, `OUT_OF_TURN` or `REFUSED`, the first of them
+/// that applies, and else `DONE`.
 #[unsafe(no_mangle)]
 pub extern "C" fn fotsgure_gcm_accept(gcm: &Gcm, message: &mut Message, tag: &[u8]) -> u32
     requires made { IsMade gcm.now }
     ensures tag_length { result ≡ TAG_LENGTH ↔ (length tag.now ≢ 16) }
     ensures no_key { result ≡ NO_KEY ↔ (length tag.now ≡ 16) × ¬ IsKeySize gcm.now.key_length }
-    ensures out_of_turn { result ≡ OUT_OF_TURN ↔ (length tag.now ≡ 16) × (IsKeySize gcm.now.key_length
-        × ((phase_of message.old.phase ≢ Phase.Additional) × (phase_of message.old.phase ≢ Phase.Verifying))) }
+    ensures out_of_turn { result ≡ OUT_OF_TURN ↔ (length tag.now ≡ 16)
+        × (IsKeySize gcm.now.key_length
+        × ((phase_of message.old.phase ≢ Phase.Additional)
+        × (phase_of message.old.phase ≢ Phase.Verifying))) }
     ensures accepted { let w = round_keys_in gcm.now in
-        length tag.now ≡ 16 → IsKeySize gcm.now.key_length → (iv a c : List ℕ) → IsVerifying w iv a c message.old
+        length tag.now ≡ 16 → IsKeySize gcm.now.key_length → (iv a c : List ℕ)
+        → IsVerifying w iv a c message.old
         → result ≡ DONE ↔ (tag.now ≡ nist.tag w iv a c) }
-    ensures refused { result ≢ DONE → result ≢ TAG_LENGTH → result ≢ NO_KEY → result ≢ OUT_OF_TURN → result ≡ REFUSED }
+    ensures refused { result ≢ DONE → result ≢ TAG_LENGTH → result ≢ NO_KEY → result ≢ OUT_OF_TURN
+        → result ≡ REFUSED }
     ensures decrypting { let w = round_keys_in gcm.now in
         result ≡ DONE → (iv a c : List ℕ) → IsVerifying w iv a c message.old
         → IsDecrypting w iv (length c) [] message.new }
@@ -86,9 +94,10 @@ pub extern "C" fn fotsgure_gcm_accept(gcm: &Gcm, message: &mut Message, tag: &[u
     }
 }
 
-/// Compares a tag of fewer than 16 bytes, as `fotsgure_gcm_accept` one of 16: how many bytes all tags under the key have is
-/// fixed with the key (SP 800-38D, 5.2.1.2). Returns `TAG_LENGTH` if that isn't 4, 8 or 12 to 15, or if the tag has another
-/// length; `NO_KEY`, `OUT_OF_TURN` or `REFUSED`, the first of them that applies; and else `DONE`.
+/// Compares a tag of fewer than 16 bytes, as `fotsgure_gcm_accept` one of 16: how many bytes all
+/// tags under the key have is fixed with the key (SP 800-38D, 5.2.1.2). Returns `TAG_LENGTH` if
+/// that isn't 4, 8 or 12 to 15, or if the tag has another length; `NO_KEY`, `OUT_OF_TURN` or
+/// `REFUSED`, the first of them that applies; and else `DONE`.
 #[unsafe(no_mangle)]
 pub extern "C" fn fotsgure_gcm_accept_short(
     gcm: &Gcm,
@@ -102,12 +111,14 @@ pub extern "C" fn fotsgure_gcm_accept_short(
         × ¬ IsKeySize gcm.now.key_length }
     ensures out_of_turn { result ≡ OUT_OF_TURN ↔ (IsShortTag fixed_length × (length tag.now ≡ fixed_length))
         × (IsKeySize gcm.now.key_length
-        × ((phase_of message.old.phase ≢ Phase.Additional) × (phase_of message.old.phase ≢ Phase.Verifying))) }
+        × ((phase_of message.old.phase ≢ Phase.Additional)
+        × (phase_of message.old.phase ≢ Phase.Verifying))) }
     ensures accepted { let w = round_keys_in gcm.now in
         IsShortTag fixed_length → length tag.now ≡ fixed_length → IsKeySize gcm.now.key_length
         → (iv a c : List ℕ) → IsVerifying w iv a c message.old
         → result ≡ DONE ↔ (tag.now ≡ nist.short_tag (length tag.now) w iv a c) }
-    ensures refused { result ≢ DONE → result ≢ TAG_LENGTH → result ≢ NO_KEY → result ≢ OUT_OF_TURN → result ≡ REFUSED }
+    ensures refused { result ≢ DONE → result ≢ TAG_LENGTH → result ≢ NO_KEY → result ≢ OUT_OF_TURN
+        → result ≡ REFUSED }
     ensures decrypting { let w = round_keys_in gcm.now in
         result ≡ DONE → (iv a c : List ℕ) → IsVerifying w iv a c message.old
         → IsDecrypting w iv (length c) [] message.new }
@@ -128,14 +139,16 @@ pub extern "C" fn fotsgure_gcm_accept_short(
     }
 }
 
-/// Decrypts a piece in place of the cipher text whose tag was right, from its beginning on. Returns `NO_KEY`, `OUT_OF_TURN`
-/// or `TOO_LONG`, the first of them that applies, and else `DONE`.
+/// Decrypts a piece in place of the cipher text whose tag was right, from its beginning on. Returns
+/// `NO_KEY`, `OUT_OF_TURN` or `TOO_LONG`, the first of them that applies, and else `DONE`.
 #[unsafe(no_mangle)]
 pub extern "C" fn fotsgure_gcm_decrypt(gcm: &Gcm, message: &mut Message, text: &mut [u8]) -> u32
     requires made { IsMade gcm.now }
     ensures no_key { result ≡ NO_KEY ↔ ¬ IsKeySize gcm.now.key_length }
-    ensures out_of_turn { result ≡ OUT_OF_TURN ↔ IsKeySize gcm.now.key_length × (phase_of message.old.phase ≢ Phase.Decrypting) }
-    ensures done { result ≡ DONE ↔ IsKeySize gcm.now.key_length × ((phase_of message.old.phase ≡ Phase.Decrypting)
+    ensures out_of_turn { result ≡ OUT_OF_TURN ↔ IsKeySize gcm.now.key_length
+        × (phase_of message.old.phase ≢ Phase.Decrypting) }
+    ensures done { result ≡ DONE ↔ IsKeySize gcm.now.key_length
+        × ((phase_of message.old.phase ≡ Phase.Decrypting)
         × ((message.old.decrypted + length text.old ≤ message.old.text)
         × (message.old.decrypted + length text.old ≤ 2 ^ 36 - 32))) }
     ensures refused { result ≢ DONE → result ≢ NO_KEY → result ≢ OUT_OF_TURN → result ≡ TOO_LONG }
@@ -147,7 +160,8 @@ pub extern "C" fn fotsgure_gcm_decrypt(gcm: &Gcm, message: &mut Message, text: &
         → IsDecrypting w iv n (c ++ text.old) message.new }
     ensures phase { result ≡ DONE → phase_of message.new.phase ≡ Phase.Decrypting }
     ensures text { result ≡ DONE → message.new.text ≡ message.old.text }
-    ensures counted { result ≡ DONE → message.new.decrypted ≡ message.old.decrypted + length text.old }
+    ensures counted { result ≡ DONE → message.new.decrypted
+        ≡ message.old.decrypted + length text.old }
     ensures untouched { result ≢ DONE → message.new ≡ message.old }
     ensures untouched_text { result ≢ DONE → text.new ≡ text.old }
 {
@@ -161,8 +175,9 @@ pub extern "C" fn fotsgure_gcm_decrypt(gcm: &Gcm, message: &mut Message, text: &
     }
 }
 
-/// Takes a piece of a cipher text whose tag is to be compared, and decrypts it in place at once: what it gives out is not
-/// authenticated. Returns `NO_KEY`, `OUT_OF_TURN` or `TOO_LONG`, the first of them that applies, and else `DONE`.
+/// Takes a piece of a cipher text whose tag is to be compared, and decrypts it in place at once:
+/// what it gives out is not authenticated. Returns `NO_KEY`, `OUT_OF_TURN` or `TOO_LONG`, the first
+/// of them that applies, and else `DONE`.
 #[unsafe(no_mangle)]
 pub extern "C" fn fotsgure_gcm_decrypt_unverified(
     gcm: &Gcm,
@@ -172,9 +187,11 @@ pub extern "C" fn fotsgure_gcm_decrypt_unverified(
     requires made { IsMade gcm.now }
     ensures no_key { result ≡ NO_KEY ↔ ¬ IsKeySize gcm.now.key_length }
     ensures out_of_turn { result ≡ OUT_OF_TURN ↔ IsKeySize gcm.now.key_length
-        × ((phase_of message.old.phase ≢ Phase.Additional) × (phase_of message.old.phase ≢ Phase.Verifying)) }
+        × ((phase_of message.old.phase ≢ Phase.Additional)
+        × (phase_of message.old.phase ≢ Phase.Verifying)) }
     ensures done { result ≡ DONE ↔ IsKeySize gcm.now.key_length
-        × (((phase_of message.old.phase ≡ Phase.Additional) ⊎ (phase_of message.old.phase ≡ Phase.Verifying))
+        × (((phase_of message.old.phase ≡ Phase.Additional)
+        ⊎ (phase_of message.old.phase ≡ Phase.Verifying))
         × (message.old.text + length text.old ≤ 2 ^ 36 - 32)) }
     ensures refused { result ≢ DONE → result ≢ NO_KEY → result ≢ OUT_OF_TURN → result ≡ TOO_LONG }
     ensures decrypted { let w = round_keys_in gcm.now in

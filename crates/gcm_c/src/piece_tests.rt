@@ -1,5 +1,5 @@
-//! Messages in pieces through the exports: however they are cut, texts and tags are those that NIST publishes, and what isn't
-//! to be taken is refused by its exact status.
+//! Messages in pieces through the exports: however they are cut, texts and tags are those that NIST
+//! publishes, and what isn't to be taken is refused by its exact status.
 
 ghost use Rattle.std.specs.Prelude.{◌<◌, ◌≤◌};
 ghost use Rattle.gcm_c.specs.Kept.{IsMade};
@@ -69,7 +69,8 @@ fn goes_on(gcm: &Gcm, message: &mut Message, work: &Work, text: &mut [u8], size:
     right
 }
 
-// Whether a message, in pieces of `size` bytes, is encrypted as NIST says, and decrypted in two passes and in one.
+// Whether a message, in pieces of `size` bytes, is encrypted as NIST says, and decrypted in two
+// passes and in one.
 fn agrees<const KEY: usize, const NONCE: usize, const ADDITIONAL: usize>(
     message: &Published<KEY, NONCE, ADDITIONAL>,
     size: usize,

@@ -1,6 +1,7 @@
 //! A message that comes in pieces: its beginning and its additional data.
 
-ghost use Rattle.std.specs.Prelude.{◌≡◌, ◌≢◌, ◌↔◌, ◌+◌, ◌-◌, ◌/◌, ◌^◌, ◌<◌, ℕ, List, [], ◌++◌, length, replicate};
+ghost use Rattle.std.specs.Prelude.{◌≡◌, ◌≢◌, ◌↔◌, ◌+◌, ◌-◌, ◌/◌, ◌^◌, ◌<◌, ℕ, List, [], ◌++◌};
+ghost use Rattle.std.specs.Prelude.{length, replicate};
 ghost use Rattle.gcm.specs.Gcm as nist;
 ghost use Rattle.gcm.specs.declared.message.Phase.{Phase};
 ghost use Rattle.aes_cipher.specs.KeySizes.{IsKeySize};
@@ -24,8 +25,9 @@ pub(crate) fn status_of(error: InvalidPiece) -> u32
     }
 }
 
-/// Begins a message under a nonce. The struct may be uninitialized: none of it is read, and nothing of what it held is
-/// left. Returns `NONCE_LENGTH` or `NO_KEY`, the first of them that applies, and else `DONE`.
+/// Begins a message under a nonce. The struct may be uninitialized: none of it is read, and nothing
+/// of what it held is left. Returns `NONCE_LENGTH` or `NO_KEY`, the first of them that applies, and
+/// else `DONE`.
 #[unsafe(no_mangle)]
 pub extern "C" fn fotsgure_gcm_begin(gcm: &Gcm, message: &mut Message, nonce: &[u8]) -> u32
     requires made { IsMade gcm.now }
@@ -33,7 +35,8 @@ pub extern "C" fn fotsgure_gcm_begin(gcm: &Gcm, message: &mut Message, nonce: &[
     ensures done { result ≡ DONE ↔ IsNonceLength (length nonce.now) × IsKeySize gcm.now.key_length }
     ensures refused { result ≢ DONE → result ≢ NONCE_LENGTH → result ≡ NO_KEY }
     ensures begun { result ≡ DONE → IsBegun (round_keys_in gcm.now) nonce.now [] message.new }
-    ensures clean { result ≡ DONE → (message.new.rest ≡ replicate 16 0) × (message.new.decrypted ≡ 0) }
+    ensures clean { result ≡ DONE → (message.new.rest ≡ replicate 16 0)
+        × (message.new.decrypted ≡ 0) }
     ensures untouched { result ≢ DONE → message.new ≡ message.old }
 {
     if nonce.len() == 0 || nonce.len() as u64 > LONGEST_HASHED {
@@ -47,8 +50,8 @@ pub extern "C" fn fotsgure_gcm_begin(gcm: &Gcm, message: &mut Message, nonce: &[
     DONE
 }
 
-/// Takes a piece of additional data. Returns `NO_KEY`, `OUT_OF_TURN` or `TOO_LONG`, the first of them that applies, and
-/// else `DONE`.
+/// Takes a piece of additional data. Returns `NO_KEY`, `OUT_OF_TURN` or `TOO_LONG`, the first of
+/// them that applies, and else `DONE`.
 #[unsafe(no_mangle)]
 pub extern "C" fn fotsgure_gcm_additional(
     gcm: &Gcm,
@@ -57,8 +60,10 @@ pub extern "C" fn fotsgure_gcm_additional(
 ) -> u32
     requires made { IsMade gcm.now }
     ensures no_key { result ≡ NO_KEY ↔ ¬ IsKeySize gcm.now.key_length }
-    ensures out_of_turn { result ≡ OUT_OF_TURN ↔ IsKeySize gcm.now.key_length × (phase_of message.old.phase ≢ Phase.Additional) }
-    ensures done { result ≡ DONE ↔ IsKeySize gcm.now.key_length × ((phase_of message.old.phase ≡ Phase.Additional)
+    ensures out_of_turn { result ≡ OUT_OF_TURN ↔ IsKeySize gcm.now.key_length
+        × (phase_of message.old.phase ≢ Phase.Additional) }
+    ensures done { result ≡ DONE ↔ IsKeySize gcm.now.key_length
+        × ((phase_of message.old.phase ≡ Phase.Additional)
         × (message.old.additional + length additional.now < 2 ^ 61)) }
     ensures refused { result ≢ DONE → result ≢ NO_KEY → result ≢ OUT_OF_TURN → result ≡ TOO_LONG }
     ensures added { let w = round_keys_in gcm.now in
@@ -81,7 +86,8 @@ pub extern "C" fn fotsgure_gcm_additional(
 pub extern "C" fn fotsgure_gcm_wipe_message(message: &mut Message)
     ensures { message.new ≡ no_message }
 {
-    // A wipe looks at what it overwrites, and the struct may be uninitialized: so zeros are written first.
+    // A wipe looks at what it overwrites, and the struct may be uninitialized: so zeros are written
+    // first.
     *message = Zeroize::zero();
     message.zeroize();
 }

@@ -1,6 +1,7 @@
 //! Messages in pieces, encrypted.
 
-ghost use Rattle.std.specs.Prelude.{◌≡◌, ◌≢◌, ◌↔◌, ◌⊎◌, ◌+◌, ◌-◌, ◌/◌, ◌^◌, ◌≤◌, ℕ, List, ◌++◌, length};
+ghost use Rattle.std.specs.Prelude.{◌≡◌, ◌≢◌, ◌↔◌, ◌⊎◌, ◌+◌, ◌-◌, ◌/◌, ◌^◌, ◌≤◌, ℕ, List, ◌++◌};
+ghost use Rattle.std.specs.Prelude.{length};
 ghost use Rattle.gcm.specs.Gcm as nist;
 ghost use Rattle.gcm.specs.declared.message.Phase.{Phase};
 ghost use Rattle.aes_cipher.specs.KeySizes.{IsKeySize};
@@ -12,20 +13,23 @@ use crate::pieces::status_of;
 use crate::status::{DONE, NO_KEY, OUT_OF_TURN, TOO_LONG};
 use gcm::Message;
 
-/// Encrypts a piece of the text in place. Returns `NO_KEY`, `OUT_OF_TURN` or `TOO_LONG`, the first of them that applies,
-/// and else `DONE`.
+/// Encrypts a piece of the text in place. Returns `NO_KEY`, `OUT_OF_TURN` or `TOO_LONG`, the first
+/// of them that applies, and else `DONE`.
 #[unsafe(no_mangle)]
 pub extern "C" fn fotsgure_gcm_encrypt(gcm: &Gcm, message: &mut Message, text: &mut [u8]) -> u32
     requires made { IsMade gcm.now }
     ensures no_key { result ≡ NO_KEY ↔ ¬ IsKeySize gcm.now.key_length }
     ensures out_of_turn { result ≡ OUT_OF_TURN ↔ IsKeySize gcm.now.key_length
-        × ((phase_of message.old.phase ≢ Phase.Additional) × (phase_of message.old.phase ≢ Phase.Encrypting)) }
+        × ((phase_of message.old.phase ≢ Phase.Additional)
+        × (phase_of message.old.phase ≢ Phase.Encrypting)) }
     ensures done { result ≡ DONE ↔ IsKeySize gcm.now.key_length
-        × (((phase_of message.old.phase ≡ Phase.Additional) ⊎ (phase_of message.old.phase ≡ Phase.Encrypting))
+        × (((phase_of message.old.phase ≡ Phase.Additional)
+        ⊎ (phase_of message.old.phase ≡ Phase.Encrypting))
         × (message.old.text + length text.old ≤ 2 ^ 36 - 32)) }
     ensures refused { result ≢ DONE → result ≢ NO_KEY → result ≢ OUT_OF_TURN → result ≡ TOO_LONG }
     ensures encrypted { let w = round_keys_in gcm.now in
-        result ≡ DONE → (iv a p c : List ℕ) → IsEncrypting w iv a c message.old → c ≡ nist.text w iv p
+        result ≡ DONE → (iv a p c : List ℕ) → IsEncrypting w iv a c message.old
+        → c ≡ nist.text w iv p
         → c ++ text.new ≡ nist.text w iv (p ++ text.old) }
     ensures added { let w = round_keys_in gcm.now in
         result ≡ DONE → (iv a c : List ℕ) → IsEncrypting w iv a c message.old
@@ -43,17 +47,19 @@ pub extern "C" fn fotsgure_gcm_encrypt(gcm: &Gcm, message: &mut Message, text: &
     }
 }
 
-/// Ends a message that was encrypted, writes its tag, and wipes what is kept of it. Returns `NO_KEY` or `OUT_OF_TURN`, the
-/// first of them that applies, and else `DONE`.
+/// Ends a message that was encrypted, writes its tag, and wipes what is kept of it. Returns
+/// `NO_KEY` or `OUT_OF_TURN`, the first of them that applies, and else `DONE`.
 #[unsafe(no_mangle)]
 pub extern "C" fn fotsgure_gcm_finish(gcm: &Gcm, message: &mut Message, tag: &mut [u8; 16]) -> u32
     requires made { IsMade gcm.now }
     ensures no_key { result ≡ NO_KEY ↔ ¬ IsKeySize gcm.now.key_length }
     ensures out_of_turn { result ≡ OUT_OF_TURN ↔ IsKeySize gcm.now.key_length
-        × ((phase_of message.old.phase ≢ Phase.Additional) × (phase_of message.old.phase ≢ Phase.Encrypting)) }
+        × ((phase_of message.old.phase ≢ Phase.Additional)
+        × (phase_of message.old.phase ≢ Phase.Encrypting)) }
     ensures refused { result ≢ DONE → result ≢ NO_KEY → result ≡ OUT_OF_TURN }
     ensures tag { let w = round_keys_in gcm.now in
-        result ≡ DONE → (iv a c : List ℕ) → IsEncrypting w iv a c message.old → tag.new ≡ nist.tag w iv a c }
+        result ≡ DONE → (iv a c : List ℕ) → IsEncrypting w iv a c message.old
+        → tag.new ≡ nist.tag w iv a c }
     ensures over { result ≡ DONE → message.new ≡ no_message }
     ensures untouched { result ≢ DONE → message.new ≡ message.old }
     ensures untouched_tag { result ≢ DONE → tag.new ≡ tag.old }

@@ -1,6 +1,7 @@
 //! Messages of AES-GCM-SIV.
 
-ghost use Rattle.std.specs.Prelude.{◌≡◌, ◌≢◌, ◌↔◌, ◌^◌, ◌<◌, ◌≤◌, ◌++◌, [], length, slice_index_or, IsTrue, false};
+ghost use Rattle.std.specs.Prelude.{◌≡◌, ◌≢◌, ◌↔◌, ◌^◌, ◌<◌, ◌≤◌, ◌++◌, [], length, slice_index_or};
+ghost use Rattle.std.specs.Prelude.{IsTrue, false};
 ghost use Rattle.std.specs.Int.{w128, from_le_bytes};
 ghost use Rattle.aes_permute.specs.Keys.{key_in_room, stored_keys, IsCipherSchedule};
 ghost use Rattle.gcm.specs.Gcm.{next_v};
@@ -24,7 +25,8 @@ use gcm_siv::{
 // Returns the status that refuses these lengths or this struct, or `DONE`.
 fn siv_refusal(siv: &Siv, additional: usize, text: usize) -> u32
     ensures too_long { result ≡ TOO_LONG ↔ IsSivTooLong additional text }
-    ensures done { result ≡ DONE ↔ (additional ≤ 2 ^ 36) × ((text ≤ 2 ^ 36) × IsKeySize siv.now.key_length) }
+    ensures done { result ≡ DONE ↔ (additional ≤ 2 ^ 36)
+        × ((text ≤ 2 ^ 36) × IsKeySize siv.now.key_length) }
     ensures refused { result ≢ DONE → result ≢ TOO_LONG → result ≡ NO_KEY }
 {
     if additional as u64 > LONGEST || text as u64 > LONGEST {
@@ -42,7 +44,8 @@ fn expand_derived(keys: &KeyRoom, size: usize, round_keys: &mut LaneRoom)
     ensures schedule { IsCipherSchedule (stored_keys size round_keys.new) }
     ensures short { size ≡ 16 → key_in_room size round_keys.new ≡ slice_index_or keys.now 1 [] }
     ensures long { size ≡ 32
-        → key_in_room size round_keys.new ≡ slice_index_or keys.now 1 [] ++ slice_index_or keys.now 2 [] }
+        → key_in_room size round_keys.new ≡ slice_index_or keys.now 1 []
+        ++ slice_index_or keys.now 2 [] }
 {
     if size == 16 {
         expand_in_room(round_keys, &keys[1]);
@@ -58,9 +61,11 @@ fn prepare<R: PolyvalRoom>(siv: &Siv, nonce: &[u8; 12], round_keys: &mut LaneRoo
     ensures made { R.IsMade room.new }
     ensures authentication { R.element room.new
         ≡ next_v (from_le_bytes w128 (authentication_key (siv_key_in siv.now) nonce.now)) }
-    ensures small { from_le_bytes w128 (authentication_key (siv_key_in siv.now) nonce.now) < 2 ^ 128 }
+    ensures small { from_le_bytes w128
+        (authentication_key (siv_key_in siv.now) nonce.now) < 2 ^ 128 }
     ensures schedule { IsCipherSchedule (stored_keys siv.now.key_length round_keys.new) }
-    ensures encryption { key_in_room siv.now.key_length round_keys.new ≡ encryption_key (siv_key_in siv.now) nonce.now }
+    ensures encryption { key_in_room siv.now.key_length round_keys.new
+        ≡ encryption_key (siv_key_in siv.now) nonce.now }
 {
     let size = siv.key_length as usize;
     let mut keys = MustWipe::<KeyRoom>::zeroed();
@@ -70,8 +75,8 @@ fn prepare<R: PolyvalRoom>(siv: &Siv, nonce: &[u8; 12], round_keys: &mut LaneRoo
     keys.wipe();
 }
 
-// Encrypts a text in place and returns the tag, with room for POLYVAL of this type. Never inlined, so that a short message
-// has a small stack frame.
+// Encrypts a text in place and returns the tag, with room for POLYVAL of this type. Never inlined,
+// so that a short message has a small stack frame.
 #[inline(never)]
 fn seal_in<R: PolyvalRoom>(siv: &Siv, nonce: &[u8; 12], additional: &[u8], text: &mut [u8]) -> Block
     requires made { IsSivMade siv.now }
@@ -97,7 +102,8 @@ fn seal_in<R: PolyvalRoom>(siv: &Siv, nonce: &[u8; 12], additional: &[u8], text:
     tag
 }
 
-// The same, with the room that takes less time. In a call of its own, so that its stack can be wiped.
+// The same, with the room that takes less time. In a call of its own, so that its stack can be
+// wiped.
 #[inline(never)]
 fn seal_message(siv: &Siv, nonce: &[u8; 12], additional: &[u8], text: &mut [u8]) -> Block
     requires made { IsSivMade siv.now }
@@ -114,7 +120,8 @@ fn seal_message(siv: &Siv, nonce: &[u8; 12], additional: &[u8], text: &mut [u8])
     }
 }
 
-// Decrypts a text in place if the tag is right, and returns whether it is, with room for POLYVAL of this type.
+// Decrypts a text in place if the tag is right, and returns whether it is, with room for POLYVAL of
+// this type.
 #[inline(never)]
 fn open_in<R: PolyvalRoom>(
     siv: &Siv,
@@ -127,8 +134,10 @@ fn open_in<R: PolyvalRoom>(
     requires key { IsKeySize siv.now.key_length }
     requires additional { length additional.now ≤ 2 ^ 36 }
     requires text { length text.old ≤ 2 ^ 36 }
-    ensures accepted { IsTrue result ↔ IsAuthentic (siv_key_in siv.now) nonce.now additional.now tag.now text.old }
-    ensures decrypted { IsTrue result → text.new ≡ rfc.text (siv_key_in siv.now) nonce.now tag.now text.old }
+    ensures accepted { IsTrue result ↔ IsAuthentic
+        (siv_key_in siv.now) nonce.now additional.now tag.now text.old }
+    ensures decrypted { IsTrue result → text.new
+        ≡ rfc.text (siv_key_in siv.now) nonce.now tag.now text.old }
     ensures untouched { result ≡ false → text.new ≡ text.old }
 {
     let mut room = MustWipe::<R>::zeroed();
@@ -148,7 +157,8 @@ fn open_in<R: PolyvalRoom>(
     is_right
 }
 
-// The same, with the room that takes less time. In a call of its own, so that its stack can be wiped.
+// The same, with the room that takes less time. In a call of its own, so that its stack can be
+// wiped.
 #[inline(never)]
 fn open_message(
     siv: &Siv,
@@ -161,8 +171,10 @@ fn open_message(
     requires key { IsKeySize siv.now.key_length }
     requires additional { length additional.now ≤ 2 ^ 36 }
     requires text { length text.old ≤ 2 ^ 36 }
-    ensures accepted { IsTrue result ↔ IsAuthentic (siv_key_in siv.now) nonce.now additional.now tag.now text.old }
-    ensures decrypted { IsTrue result → text.new ≡ rfc.text (siv_key_in siv.now) nonce.now tag.now text.old }
+    ensures accepted { IsTrue result ↔ IsAuthentic
+        (siv_key_in siv.now) nonce.now additional.now tag.now text.old }
+    ensures decrypted { IsTrue result → text.new
+        ≡ rfc.text (siv_key_in siv.now) nonce.now tag.now text.old }
     ensures untouched { result ≡ false → text.new ≡ text.old }
 {
     if are_few(additional.len(), text.len()) {
@@ -172,8 +184,8 @@ fn open_message(
     }
 }
 
-/// Encrypts a text in place and writes the tag of the text and of the additional data (RFC 8452, 4). Returns `TOO_LONG` or
-/// `NO_KEY`, the first of them that applies, and else `DONE`.
+/// Encrypts a text in place and writes the tag of the text and of the additional data (RFC 8452,
+/// 4). Returns `TOO_LONG` or `NO_KEY`, the first of them that applies, and else `DONE`.
 #[unsafe(no_mangle)]
 pub extern "C" fn fotsgure_gcm_siv_seal(
     siv: &Siv,
@@ -187,8 +199,10 @@ pub extern "C" fn fotsgure_gcm_siv_seal(
     ensures done { result ≡ DONE ↔ (length additional.now ≤ 2 ^ 36)
         × ((length text.old ≤ 2 ^ 36) × IsKeySize siv.now.key_length) }
     ensures refused { result ≢ DONE → result ≢ TOO_LONG → result ≡ NO_KEY }
-    ensures tag { result ≡ DONE → tag.new ≡ rfc.tag (siv_key_in siv.now) nonce.now additional.now text.old }
-    ensures encrypted { result ≡ DONE → text.new ≡ rfc.text (siv_key_in siv.now) nonce.now tag.new text.old }
+    ensures tag { result ≡ DONE
+        → tag.new ≡ rfc.tag (siv_key_in siv.now) nonce.now additional.now text.old }
+    ensures encrypted { result ≡ DONE → text.new
+        ≡ rfc.text (siv_key_in siv.now) nonce.now tag.new text.old }
     ensures untouched { result ≢ DONE → text.new ≡ text.old }
     ensures untouched_tag { result ≢ DONE → tag.new ≡ tag.old }
 {
@@ -201,8 +215,9 @@ pub extern "C" fn fotsgure_gcm_siv_seal(
     DONE
 }
 
-/// Decrypts a text in place if the tag is right (RFC 8452, 5); a text that is refused is encrypted again. Returns
-/// `TOO_LONG`, `NO_KEY` or `REFUSED`, the first of them that applies, and else `DONE`.
+/// Decrypts a text in place if the tag is right (RFC 8452, 5); a text that is refused is encrypted
+/// again. Returns `TOO_LONG`, `NO_KEY` or `REFUSED`, the first of them that applies, and else
+/// `DONE`.
 #[unsafe(no_mangle)]
 pub extern "C" fn fotsgure_gcm_siv_open(
     siv: &Siv,
@@ -219,7 +234,8 @@ pub extern "C" fn fotsgure_gcm_siv_open(
         × (IsKeySize siv.now.key_length
         × IsAuthentic (siv_key_in siv.now) nonce.now additional.now tag.now text.old)) }
     ensures refused { result ≢ DONE → result ≢ TOO_LONG → result ≢ NO_KEY → result ≡ REFUSED }
-    ensures decrypted { result ≡ DONE → text.new ≡ rfc.text (siv_key_in siv.now) nonce.now tag.now text.old }
+    ensures decrypted { result ≡ DONE → text.new
+        ≡ rfc.text (siv_key_in siv.now) nonce.now tag.now text.old }
     ensures untouched { result ≢ DONE → text.new ≡ text.old }
 {
     let status = siv_refusal(siv, additional.len(), text.len());

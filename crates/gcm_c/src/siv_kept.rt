@@ -12,7 +12,8 @@ use aes_cipher::zeroize::{Zeroize, zeroize_elements};
 use aes_hybrid::lent::Lent;
 use aes_permute::lane_room::{LaneRoom, expand_in_room, keys_in_room};
 
-/// A key of AES-GCM-SIV that the caller owns: `struct fotsgure_gcm_siv`. Its blocks are as secret as the key.
+/// A key of AES-GCM-SIV that the caller owns: `struct fotsgure_gcm_siv`. Its blocks are as secret
+/// as the key.
 #[repr(C)]
 #[derive(Drop)]
 pub struct Siv {
@@ -61,8 +62,9 @@ pub(crate) fn cipher_of(siv: &Siv) -> Lent<'_, BuildWidth>
     Lent::new(keys_in_room(&siv.round_keys, siv.key_length as usize))
 }
 
-/// Expands a key of AES-GCM-SIV into the struct (KeyExpansion, FIPS 197, 5.2). Returns `DONE` exactly if the key has 16 or
-/// 32 bytes, else `KEY_LENGTH`; the struct then holds no key. Nothing of what it held before is left in either case.
+/// Expands a key of AES-GCM-SIV into the struct (KeyExpansion, FIPS 197, 5.2). Returns `DONE`
+/// exactly if the key has 16 or 32 bytes, else `KEY_LENGTH`; the struct then holds no key. Nothing
+/// of what it held before is left in either case.
 #[unsafe(no_mangle)]
 pub extern "C" fn fotsgure_gcm_siv_set_key(siv: &mut Siv, key: &[u8]) -> u32
     ensures done { result ≡ DONE ↔ IsKeySize (length key.now) }
@@ -74,8 +76,8 @@ pub extern "C" fn fotsgure_gcm_siv_set_key(siv: &mut Siv, key: &[u8]) -> u32
     ensures none { result ≢ DONE → siv.new.key_length ≡ 0 }
     ensures wiped { result ≢ DONE → siv.new.round_keys ≡ replicate 15 (replicate 16 0) }
 {
-    // Nothing is read of a struct that may be uninitialized. No compiler takes zeros away here: the caller owns the struct,
-    // and can read what the call leaves in it.
+    // Nothing is read of a struct that may be uninitialized. No compiler takes zeros away here: the
+    // caller owns the struct, and can read what the call leaves in it.
     *siv = Siv::zero();
     if !is_siv_key(key.len()) {
         return KEY_LENGTH;
@@ -92,7 +94,8 @@ pub extern "C" fn fotsgure_gcm_siv_wipe(siv: &mut Siv)
     ensures none { siv.new.key_length ≡ 0 }
     ensures round_keys { siv.new.round_keys ≡ replicate 15 (replicate 16 0) }
 {
-    // A wipe looks at what it overwrites, and the struct may be uninitialized: so zeros are written first.
+    // A wipe looks at what it overwrites, and the struct may be uninitialized: so zeros are written
+    // first.
     *siv = Zeroize::zero();
     siv.zeroize();
 }

@@ -1,4 +1,5 @@
-//! AES-GCM-SIV: each export once, on a published message of few blocks, and there and back with more.
+//! AES-GCM-SIV: each export once, on a published message of few blocks, and there and back with
+//! more.
 
 use super::{
     DONE, KEY_LENGTH, NO_KEY, REFUSED, Siv, fotsgure_gcm_siv_open, fotsgure_gcm_siv_seal,
@@ -6,7 +7,8 @@ use super::{
 };
 use aes_cipher::zeroize::Zeroize;
 
-// The key, the nonce and the text of a message of eight bytes (RFC 8452, appendix C.2); what comes of it is in the test.
+// The key, the nonce and the text of a message of eight bytes (RFC 8452, appendix C.2); what comes
+// of it is in the test.
 const NONCE: [u8; 12] = [3, 0, 0, 0, 0, 0, 0, 0, 0, 0, 0, 0];
 
 const PLAIN: [u8; 8] = [1, 0, 0, 0, 0, 0, 0, 0];

@@ -9,8 +9,9 @@ use super::{
     fotsgure_gcm_set_key, fotsgure_gcm_version, fotsgure_gcm_wipe,
 };
 
-// Test cases 4 and 16 of McGrew and Viega, "The Galois/Counter Mode of Operation (GCM)", appendix B: the key, whose first
-// half is that of case 4, the nonce, the additional data, the text, its encryptions and their tags.
+// Test cases 4 and 16 of McGrew and Viega, "The Galois/Counter Mode of Operation (GCM)", appendix
+// B: the key, whose first half is that of case 4, the nonce, the additional data, the text, its
+// encryptions and their tags.
 const KEY: [u8; 32] = [
     0xfe, 0xff, 0xe9, 0x92, 0x86, 0x65, 0x73, 0x1c, 0x6d, 0x6a, 0x8f, 0x94, 0x67, 0x30, 0x83, 0x08,
     0xfe, 0xff, 0xe9, 0x92, 0x86, 0x65, 0x73, 0x1c, 0x6d, 0x6a, 0x8f, 0x94, 0x67, 0x30, 0x83, 0x08,

@@ -13,7 +13,8 @@ use gcm::{LONGEST_HASHED, LONGEST_TEXT};
 fn refusal(gcm: &Gcm, nonce: usize, additional: usize, text: usize) -> u32
     ensures nonce_length { result ≡ NONCE_LENGTH ↔ ¬ IsNonceLength nonce }
     ensures too_long { result ≡ TOO_LONG ↔ IsNonceLength nonce × IsTooLong additional text }
-    ensures done { result ≡ DONE ↔ IsNonceLength nonce × ((additional < 2 ^ 61) × ((text ≤ 2 ^ 36 - 32)
+    ensures done { result ≡ DONE ↔ IsNonceLength nonce
+        × ((additional < 2 ^ 61) × ((text ≤ 2 ^ 36 - 32)
         × IsKeySize gcm.now.key_length)) }
     ensures refused { result ≢ DONE → result ≢ NONCE_LENGTH → result ≢ TOO_LONG → result ≡ NO_KEY }
 {
@@ -29,8 +30,9 @@ fn refusal(gcm: &Gcm, nonce: usize, additional: usize, text: usize) -> u32
     DONE
 }
 
-/// Encrypts a text in place under a nonce and writes the tag of the text and of the additional data (SP 800-38D, 7.1).
-/// Returns `NONCE_LENGTH`, `TOO_LONG` or `NO_KEY`, the first of them that applies, and else `DONE`.
+/// Encrypts a text in place under a nonce and writes the tag of the text and of the additional data
+/// (SP 800-38D, 7.1). Returns `NONCE_LENGTH`, `TOO_LONG` or `NO_KEY`, the first of them that
+/// applies, and else `DONE`.
 #[unsafe(no_mangle)]
 pub extern "C" fn fotsgure_gcm_seal(
     gcm: &Gcm,
@@ -43,11 +45,14 @@ pub extern "C" fn fotsgure_gcm_seal(
     ensures nonce_length { result ≡ NONCE_LENGTH ↔ ¬ IsNonceLength (length nonce.now) }
     ensures too_long { result ≡ TOO_LONG
         ↔ IsNonceLength (length nonce.now) × IsTooLong (length additional.now) (length text.old) }
-    ensures done { result ≡ DONE ↔ IsNonceLength (length nonce.now) × ((length additional.now < 2 ^ 61)
+    ensures done { result ≡ DONE ↔ IsNonceLength (length nonce.now)
+        × ((length additional.now < 2 ^ 61)
         × ((length text.old ≤ 2 ^ 36 - 32) × IsKeySize gcm.now.key_length)) }
     ensures refused { result ≢ DONE → result ≢ NONCE_LENGTH → result ≢ TOO_LONG → result ≡ NO_KEY }
-    ensures encrypted { result ≡ DONE → text.new ≡ nist.text (round_keys_in gcm.now) nonce.now text.old }
-    ensures tag { result ≡ DONE → tag.new ≡ nist.tag (round_keys_in gcm.now) nonce.now additional.now text.new }
+    ensures encrypted { result ≡ DONE → text.new
+        ≡ nist.text (round_keys_in gcm.now) nonce.now text.old }
+    ensures tag { result ≡ DONE
+        → tag.new ≡ nist.tag (round_keys_in gcm.now) nonce.now additional.now text.new }
     ensures untouched { result ≢ DONE → text.new ≡ text.old }
     ensures untouched_tag { result ≢ DONE → tag.new ≡ tag.old }
 {
@@ -60,9 +65,9 @@ pub extern "C" fn fotsgure_gcm_seal(
     DONE
 }
 
-/// Decrypts a text in place if the tag is right (SP 800-38D, 7.2). The tag is compared before anything is decrypted, and
-/// without an early exit. Returns `TAG_LENGTH`, `NONCE_LENGTH`, `TOO_LONG`, `NO_KEY` or `REFUSED`, the first of them that
-/// applies, and else `DONE`.
+/// Decrypts a text in place if the tag is right (SP 800-38D, 7.2). The tag is compared before
+/// anything is decrypted, and without an early exit. Returns `TAG_LENGTH`, `NONCE_LENGTH`,
+/// `TOO_LONG`, `NO_KEY` or `REFUSED`, the first of them that applies, and else `DONE`.
 #[unsafe(no_mangle)]
 pub extern "C" fn fotsgure_gcm_open(
     gcm: &Gcm,
@@ -73,17 +78,22 @@ pub extern "C" fn fotsgure_gcm_open(
 ) -> u32
     requires made { IsMade gcm.now }
     ensures tag_length { result ≡ TAG_LENGTH ↔ (length tag.now ≢ 16) }
-    ensures nonce_length { result ≡ NONCE_LENGTH ↔ (length tag.now ≡ 16) × ¬ IsNonceLength (length nonce.now) }
+    ensures nonce_length { result ≡ NONCE_LENGTH ↔ (length tag.now ≡ 16)
+        × ¬ IsNonceLength (length nonce.now) }
     ensures too_long { result ≡ TOO_LONG ↔ (length tag.now ≡ 16) × (IsNonceLength (length nonce.now)
         × IsTooLong (length additional.now) (length text.old)) }
     ensures no_key { result ≡ NO_KEY ↔ (length tag.now ≡ 16) × (IsNonceLength (length nonce.now)
-        × ((length additional.now < 2 ^ 61) × ((length text.old ≤ 2 ^ 36 - 32) × ¬ IsKeySize gcm.now.key_length))) }
+        × ((length additional.now < 2 ^ 61)
+        × ((length text.old ≤ 2 ^ 36 - 32) × ¬ IsKeySize gcm.now.key_length))) }
     ensures done { result ≡ DONE ↔ (length tag.now ≡ 16) × (IsNonceLength (length nonce.now)
-        × ((length additional.now < 2 ^ 61) × ((length text.old ≤ 2 ^ 36 - 32) × (IsKeySize gcm.now.key_length
+        × ((length additional.now < 2 ^ 61)
+        × ((length text.old ≤ 2 ^ 36 - 32) × (IsKeySize gcm.now.key_length
         × (tag.now ≡ nist.tag (round_keys_in gcm.now) nonce.now additional.now text.old))))) }
-    ensures refused { result ≢ DONE → result ≢ TAG_LENGTH → result ≢ NONCE_LENGTH → result ≢ TOO_LONG
+    ensures refused { result ≢ DONE → result ≢ TAG_LENGTH → result ≢ NONCE_LENGTH
+        → result ≢ TOO_LONG
         → result ≢ NO_KEY → result ≡ REFUSED }
-    ensures decrypted { result ≡ DONE → text.new ≡ nist.text (round_keys_in gcm.now) nonce.now text.old }
+    ensures decrypted { result ≡ DONE → text.new
+        ≡ nist.text (round_keys_in gcm.now) nonce.now text.old }
     ensures untouched { result ≢ DONE → text.new ≡ text.old }
 {
     if tag.len() != 16 {

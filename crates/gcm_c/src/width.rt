@@ -1,3 +1,4 @@
-//! The width of the words on which the exports process many blocks: the build for vectors of 256 bits has `Wide` here.
+//! The width of the words on which the exports process many blocks: the build for vectors of 256
+//! bits has `Wide` here.
 
 pub type BuildWidth = aes_hybrid::widths::Narrow;

@@ -1,6 +1,6 @@
 -- Counter blocks, one after the other.
-use Rattle.std.proofs.Common.{◌≡◌, ℕ, ◌+◌, ◌%◌, ◌^◌, ◌<◌, List, [], ◌++◌, length, get_or, set, refl, sym, ap, drop, take}
-use Rattle.std.proofs.Common.{◌∙◌, arith}
+use Rattle.std.proofs.Common.{◌≡◌, ℕ, ◌+◌, ◌%◌, ◌^◌, ◌<◌, List, [], ◌++◌, length, get_or, set, refl}
+use Rattle.std.proofs.Common.{sym, ap, drop, take, ◌∙◌, arith}
 use Rattle.std.proofs.lemmas.List.Edits.{fill_by_more}
 use Rattle.std.specs.Int.{w32, to_le_bytes, from_le_bytes}
 use Rattle.aes_ctr.specs.CounterMode.{plus_stream}
@@ -21,13 +21,15 @@ counter_first start j n is =
 pub counter_next : (start : List ℕ) (j i n : ℕ) → n ≡ counter start (j + i)
     → counter start (j + (i + 1)) ≡ (n + 1) % 2 ^ 32
 unfolding counter
-counter_next start j i n is = sym (ap (λ m. (m + 1) % 2 ^ 32) is ∙ on (from_le_bytes w32 (take 4 start)) j i)
+counter_next start j i n is =
+    sym (ap (λ m. (m + 1) % 2 ^ 32) is ∙ on (from_le_bytes w32 (take 4 start)) j i)
   where
     on : (m j i : ℕ) → ((m + (j + i)) % 2 ^ 32 + 1) % 2 ^ 32 ≡ (m + (j + (i + 1))) % 2 ^ 32
     on m j i = omega arith
 
 -- one more counter block is written
-pub counted_one : (start : List ℕ) (blocks : List (List ℕ)) (j i k n : ℕ) (block : List ℕ) → n ≡ counter start (j + i)
+pub counted_one : (start : List ℕ) (blocks : List (List ℕ)) (j i k n : ℕ) (block : List ℕ)
+    → n ≡ counter start (j + i)
     → block ≡ to_le_bytes w32 n ++ drop 4 start → i < length blocks
     → ((m : ℕ) → m < i → get_or blocks m [] ≡ counter_block start (j + m)) → k < i + 1
     → get_or (set blocks i block) k [] ≡ counter_block start (j + k)

@@ -1,6 +1,8 @@
--- POLYVAL's field is GCM's with the bits in the other order: dot is GCM's product with x^-1 times a factor (RFC 8452, appendix A).
-use Rattle.std.proofs.Common.{◌≡◌, ℕ, zero, suc, ◌+◌, ◌-◌, ◌*◌, ◌/◌, ◌%◌, ◌^◌, ◌<◌, ◌≤◌, ◌==◌, if◌then◌else◌, Bool, List}
-use Rattle.std.proofs.Common.{true, false, inl, inr, bit_xor, refl, ap, sym, ◌∙◌, arith}
+-- POLYVAL's field is GCM's with the bits in the other order: dot is GCM's product with x^-1 times a
+-- factor (RFC 8452, appendix A).
+use Rattle.std.proofs.Common.{◌≡◌, ℕ, zero, suc, ◌+◌, ◌-◌, ◌*◌, ◌/◌, ◌%◌, ◌^◌, ◌<◌, ◌≤◌, ◌==◌}
+use Rattle.std.proofs.Common.{if◌then◌else◌, Bool, List, true, false, inl, inr, bit_xor, refl, ap}
+use Rattle.std.proofs.Common.{sym, ◌∙◌, arith}
 use Rattle.std.proofs.lemmas.Bool.{cases_lt}
 use Rattle.std.proofs.lemmas.Nat.{xor_comm, xor_shr, xor_mod}
 use Rattle.std.specs.Int.{w128, from_le_bytes}
@@ -11,17 +13,19 @@ use Rattle.gcm.specs.Hashed.{hashed_as, number_at}
 use Rattle.gcm.specs.Multiples.{sum_of}
 use Rattle.gcm.proofs.Linear.{term, product_terms, sum-agree, sum-first}
 use Rattle.gcm.proofs.Powers.{right_v, by_one, product_below}
-use Rattle.gcm_siv.specs.GcmSiv.{polynomial, inverse_power, times_x, times_power, times_below, times, dot, block_at, summed}
+use Rattle.gcm_siv.specs.GcmSiv.{polynomial, inverse_power, times_x, times_power, times_below}
+use Rattle.gcm_siv.specs.GcmSiv.{times, dot, block_at, summed}
 
 -- ---- x times an element
 
--- without x^127, and with it
+-- without x^127 it is twice the number
 times_low : (b : ℕ) → b < 2 ^ 127 → times_x b ≡ 2 * b
 unfolding times_x
 times_low b small =
     let none : b / 2 ^ 127 ≡ 0 = omega (arith, small) in
     ap (λ q. if q == 0 then 2 * b else bit_xor (2 * b) polynomial) none
 
+-- with it the polynomial is added, which has the x^128 that comes up
 times_high : (b : ℕ) → 2 ^ 127 ≤ b → b < 2 ^ 128 → times_x b ≡ bit_xor (2 * b) polynomial
 unfolding times_x
 times_high b large small =
@@ -32,16 +36,18 @@ times_high b large small =
 high_small : (b : ℕ) → 2 ^ 127 ≤ b → b < 2 ^ 128 → bit_xor (2 * b) polynomial < 2 ^ 128
 high_small b large small =
     let one : 2 * b / 2 ^ 128 ≡ 1 = omega (arith, large, small) in
-    let gone : bit_xor (2 * b) polynomial / 2 ^ 128 ≡ 0 = xor_shr (2 * b) polynomial 128 ∙ ap (λ q. bit_xor q 1) one in
+    let gone : bit_xor (2 * b) polynomial / 2 ^ 128 ≡ 0 = xor_shr (2 * b) polynomial 128
+    ∙ ap (λ q. bit_xor q 1) one in
     omega (arith, gone)
 
+-- so x times an element is an element
 times_small : (b : ℕ) → b < 2 ^ 128 → times_x b < 2 ^ 128
 times_small b small = elim (cases_lt b (2 ^ 127)) [
   | inl lt ↦ rw (times_low b lt) (omega (arith, lt))
   | inr le ↦ rw (times_high b le small) (high_small b le small)
 ]
 
--- x^-1 times it is the element
+-- x^-1 times it is the element: where x^127 wasn't there
 even_back : (b : ℕ) → next_v (2 * b) ≡ b
 unfolding next_v
 even_back b =
@@ -49,6 +55,7 @@ even_back b =
     let half : 2 * b / 2 ≡ b = omega arith in
     ap (λ r. if r == 0 then 2 * b / 2 else bit_xor (2 * b / 2) (0xe1 * 2 ^ 120)) none ∙ half
 
+-- and where x^127 was there, the polynomial was added, whose last bit tells
 odd_back : (b : ℕ) → next_v (bit_xor (2 * b) polynomial) ≡ b
 unfolding next_v
 odd_back b =
@@ -64,6 +71,7 @@ odd_back b =
     ∙ ap (bit_xor b) (xor_self (0xe1 * 2 ^ 120))
     ∙ xor_zero_r b
 
+-- both cases together
 back : (b : ℕ) → b < 2 ^ 128 → next_v (times_x b) ≡ b
 back b small = elim (cases_lt b (2 ^ 127)) [
   | inl lt ↦ ap next_v (times_low b lt) ∙ even_back b
@@ -72,10 +80,12 @@ back b small = elim (cases_lt b (2 ^ 127)) [
 
 -- ---- powers of x
 
+-- the power 0 changes nothing
 power_start : (b : ℕ) → times_power b 0 ≡ b
 unfolding times_power
 power_start b = refl
 
+-- powers of x keep elements elements
 power_small : (b i : ℕ) → b < 2 ^ 128 → times_power b i < 2 ^ 128
 unfolding times_power
 power_small b zero small = small
@@ -93,6 +103,7 @@ back_by b (suc j) n small =
     ∙ ap next_v (back_by b j (suc n) small)
     ∙ back (times_power b n) (power_small b n small)
 
+-- a power of x^-1 more, by the definition
 one_more : (y n : ℕ) → v_at y (suc n) ≡ next_v (v_at y n)
 unfolding v_at
 one_more y n = refl
@@ -111,13 +122,16 @@ turned zero f = refl
 turned (suc n) f =
     let rest : ℕ = sum_of n (λ i. f (suc n - 1 - suc i)) in
     let last : n ≡ suc n - 1 - 0 = omega arith in
-    ap (λ s. bit_xor s (f n)) (turned n f ∙ sum-agree n (λ i. f (n - 1 - i)) (λ i. f (suc n - 1 - suc i))
+    ap (λ s. bit_xor s (f n))
+    (turned n f ∙ sum-agree n (λ i. f (n - 1 - i)) (λ i. f (suc n - 1 - suc i))
     (λ i h. let same : n - 1 - i ≡ suc n - 1 - suc i = omega arith in ap f same))
     ∙ xor_comm rest (f n)
     ∙ ap (λ m. bit_xor (f m) rest) last
     ∙ sym (sum-first n (λ i. f (suc n - 1 - i)))
 
-times_terms : (a b n : ℕ) → times_below a b n ≡ sum_of n (λ i. term (a / 2 ^ i % 2) (times_power b i))
+-- a product is the sum of the multiples at the bits, as GCM's is
+times_terms : (a b n : ℕ) → times_below a b n
+    ≡ sum_of n (λ i. term (a / 2 ^ i % 2) (times_power b i))
 unfolding times_below sum_of term
 times_terms a b zero = refl
 times_terms a b (suc n) =
@@ -138,7 +152,8 @@ times_is a b small =
     (λ i. term (bit_of a i) (v_at (times_power b 127) i))
     (λ i h.
     let place : i + (127 - i) ≡ 127 = omega (arith, h) in
-    ap (term (a / 2 ^ (127 - i) % 2)) (sym (back_by b i (127 - i) small) ∙ ap (λ m. v_at (times_power b m) i) place))
+    ap (term (a / 2 ^ (127 - i) % 2)) (sym (back_by b i (127 - i) small)
+    ∙ ap (λ m. v_at (times_power b m) i) place))
     ∙ sym (product_terms a (times_power b 127) 128)
 
 -- x^-128 as a power of x^-1, where the number 2 ^ 127 is GCM's one
@@ -146,6 +161,7 @@ inverse_is : times_power inverse_power 127 ≡ v_at (2 ^ 127) 128
 unfolding times_power times_x v_at next_v
 inverse_is = refl
 
+-- dot by one product of GCM, so that POLYVAL runs on GHASH's tables
 pub dot_is : (a b : ℕ) → b < 2 ^ 128 → dot a b ≡ product a (next_v b)
 unfolding dot
 dot_is a b small =

@@ -1,5 +1,6 @@
 -- POLYVAL of a message.
-use Rattle.std.proofs.Common.{◌≡◌, ℕ, ◌+◌, ◌/◌, ◌^◌, ◌<◌, List, ◌++◌, length, bit_xor, refl, ap, sym, ◌∙◌}
+use Rattle.std.proofs.Common.{◌≡◌, ℕ, ◌+◌, ◌/◌, ◌^◌, ◌<◌, List, ◌++◌, length, bit_xor, refl, ap}
+use Rattle.std.proofs.Common.{sym, ◌∙◌}
 use Rattle.std.specs.Int.{w128, from_le_bytes}
 use Rattle.gcm.specs.Gcm.{next_v, padded, product}
 use Rattle.gcm.specs.Hashed.{hashed_as}
@@ -9,12 +10,14 @@ use Rattle.gcm_siv.proofs.Field.{summed_is}
 
 -- S_s of additional data and a text
 pub hash_is : (h g : ℕ) (a p : List ℕ) → g ≡ next_v h → h < 2 ^ 128
-    → let on = λ (s : ℕ) (x : List ℕ). hashed_as (from_le_bytes w128) g s (padded x) (length (padded x) / 16) in
+    → let on = λ (s : ℕ) (x : List ℕ). hashed_as (from_le_bytes w128) g s (padded x)
+    (length (padded x) / 16) in
     product (bit_xor (on (on 0 a) p) (from_le_bytes w128 (length_block a p))) g ≡ hash h a p
 unfolding hash polyval length_block
 hash_is h g a p is small =
     let x : List ℕ = padded a ++ padded p ++ length_block a p in
-    sym (pieces_as (from_le_bytes w128) g (padded a) (padded p) (length_block a p) ((length a + 15) / 16)
+    sym (pieces_as (from_le_bytes w128) g (padded a) (padded p) (length_block a p)
+    ((length a + 15) / 16)
     ((length p + 15) / 16) (length-padded a) (length-padded p) refl)
     ∙ ap (λ v. hashed_as (from_le_bytes w128) v 0 x (length x / 16)) is
     ∙ summed_is h 0 x (length x / 16) small

@@ -1,7 +1,8 @@
--- AES-GCM-SIV (RFC 8452) over AES of FIPS 197, under a key-generating key. A byte is a number below 2 ^ 8, a string or key a list
--- of bytes, a block sixteen of them. Section numbers are those of RFC 8452.
-use Rattle.std.specs.Prelude.{◌≡◌, ◌⊎◌, ℕ, zero, suc, ◌+◌, ◌*◌, ◌/◌, ◌%◌, ◌^◌, ◌==◌, if◌then◌else◌, List, [], ◌∷◌, ◌++◌}
-use Rattle.std.specs.Prelude.{length, replicate, slice_index, take, drop}
+-- AES-GCM-SIV (RFC 8452) over AES of FIPS 197, under a key-generating key. A byte is a number below
+-- 2 ^ 8, a string or key a list of bytes, a block sixteen of them. Section numbers are those of RFC
+-- 8452.
+use Rattle.std.specs.Prelude.{◌≡◌, ◌⊎◌, ℕ, zero, suc, ◌+◌, ◌*◌, ◌/◌, ◌%◌, ◌^◌, ◌==◌, if◌then◌else◌}
+use Rattle.std.specs.Prelude.{List, [], ◌∷◌, ◌++◌, length, replicate, slice_index, take, drop}
 use Rattle.std.specs.List.{slice_range}
 use Rattle.std.specs.Int.{w32, w64, w128, to_le_bytes, from_le_bytes}
 use Rattle.std.specs.Int.Bits.{bit_xor}
@@ -29,7 +30,8 @@ times_power b (suc i) = times_x (times_power b i)
 unfoldable pub times_below : ℕ → ℕ → ℕ → ℕ
 unfolding times_power
 times_below a b zero = 0
-times_below a b (suc i) = if a / 2 ^ i % 2 == 0 then times_below a b i else bit_xor (times_below a b i) (times_power b i)
+times_below a b (suc i) = if a / 2 ^ i % 2 == 0 then times_below a b i
+    else bit_xor (times_below a b i) (times_power b i)
 
 -- a * b
 unfoldable pub times : ℕ → ℕ → ℕ
@@ -64,20 +66,23 @@ polyval h x = summed h 0 x (length x / 16)
 
 -- ---- the keys of a message (4)
 
--- the first half of the cipher of a number of 32 bits, its lowest byte first, and the nonce; under round keys
+-- the first half of the cipher of a number of 32 bits, its lowest byte first, and the nonce; under
+-- round keys
 unfoldable pub derived : List (List ℕ) → List ℕ → ℕ → List ℕ
 derived w nonce n = take 8 (fips.cipher_with w (to_le_bytes w32 n ++ nonce))
 
 -- message_authentication_key
 unfoldable pub authentication_key : List ℕ → List ℕ → List ℕ
 unfolding derived
-authentication_key key nonce = let w = fips.key_expansion key in derived w nonce 0 ++ derived w nonce 1
+authentication_key key nonce = let w = fips.key_expansion key in
+    derived w nonce 0 ++ derived w nonce 1
 
 -- message_encryption_key
 unfoldable pub encryption_key : List ℕ → List ℕ → List ℕ
 unfolding derived
 encryption_key key nonce = let w = fips.key_expansion key in
-    derived w nonce 2 ++ derived w nonce 3 ++ (if length key == 32 then derived w nonce 4 ++ derived w nonce 5 else [])
+    derived w nonce 2 ++ derived w nonce 3 ++ (if length key == 32 then
+    derived w nonce 4 ++ derived w nonce 5 else [])
 
 -- a key-generating key has so many bytes
 abbrev pub IsKeySize : ℕ → Type 0
@@ -110,7 +115,8 @@ counter_mode w block x = plus_stream (keystream_byte w block) 0 x
 unfoldable pub length_block : List ℕ → List ℕ → List ℕ
 length_block a p = to_le_bytes w64 (8 * length a) ++ to_le_bytes w64 (8 * length p)
 
--- S_s, of additional data and a plain text, each padded as in GCM: with zeros behind it, as few as fill its last block
+-- S_s, of additional data and a plain text, each padded as in GCM: with zeros behind it, as few as
+-- fill its last block
 unfoldable pub hash : ℕ → List ℕ → List ℕ → ℕ
 unfolding polyval padded length_block
 hash h a p = polyval h (padded a ++ padded p ++ length_block a p)
@@ -147,6 +153,7 @@ unfoldable pub text : List ℕ → List ℕ → List ℕ → List ℕ → List �
 unfolding encryption_key text_under
 text key nonce tag x = text_under (fips.key_expansion (encryption_key key nonce)) tag x
 
--- the tag is that of additional data and of the plain text that a cipher text becomes: decryption doesn't fail
+-- the tag is that of additional data and of the plain text that a cipher text becomes: decryption
+-- doesn't fail
 abbrev pub IsAuthentic : List ℕ → List ℕ → List ℕ → List ℕ → List ℕ → Type 0
 IsAuthentic key nonce a t c = t ≡ tag key nonce a (text key nonce t c)

@@ -7,7 +7,8 @@ use Rattle.gcm_siv.specs.GcmSiv.{derived}
 unfoldable pub numbered : List ℕ → List (List ℕ)
 numbered nonce =
     (to_le_bytes w32 0 ++ nonce) ∷ (to_le_bytes w32 1 ++ nonce) ∷ (to_le_bytes w32 2 ++ nonce)
-    ∷ (to_le_bytes w32 3 ++ nonce) ∷ (to_le_bytes w32 4 ++ nonce) ∷ (to_le_bytes w32 5 ++ nonce) ∷ []
+    ∷ (to_le_bytes w32 3 ++ nonce) ∷ (to_le_bytes w32 4 ++ nonce)
+    ∷ (to_le_bytes w32 5 ++ nonce) ∷ []
 
 -- the first halves of two blocks
 abbrev pub halves : List (List ℕ) → ℕ → ℕ → List ℕ

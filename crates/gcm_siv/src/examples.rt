@@ -1,14 +1,17 @@
-//! AES-GCM-SIV at values from outside, as contracts, so that a slip in a definition is refused: RFC 8452, section 7,
-//! appendix A, and of appendix C.1 the message of eight bytes. The last one shows that a text comes back, as callers can
-//! prove it.
+//! AES-GCM-SIV at values from outside, as contracts, so that a slip in a definition is refused: RFC
+//! 8452, section 7, appendix A, of appendix C.1 the message of eight bytes, and of C.2 one of
+//! twenty with additional data. The last one shows that a text comes back, as callers can prove it.
 //!
 //! `bytes n 0x..` is the n bytes that these digits write.
 
-ghost use Rattle.std.specs.Prelude.{◌≡◌, ◌↔◌, ◌⊎◌, ◌-◌, ◌^◌, ◌<◌, ◌≤◌, ℕ, List, [], ◌∷◌, ◌++◌, length, IfOk, IsErr};
+ghost use Rattle.std.specs.Prelude.{◌≡◌, ◌↔◌, ◌⊎◌, ◌-◌, ◌^◌, ◌<◌, ◌≤◌, ℕ, List, [], ◌∷◌, ◌++◌};
+ghost use Rattle.std.specs.Prelude.{length, replicate, IfOk, IsErr};
 ghost use Rattle.std.specs.Int.{w32, w128, from_le_bytes, to_le_bytes};
 ghost use Rattle.aes_planes.specs.BigEndian.{bytes};
 ghost use Rattle.aes_planes.specs.Fips197 as fips;
-ghost use Rattle.gcm_siv.specs.GcmSiv.{counter_block, dot, inverse_power, length_block, polyval, tag, text, times, times_power};
+ghost use Rattle.gcm_siv.specs.GcmSiv.{authentication_key, encryption_key, first_counter};
+ghost use Rattle.gcm_siv.specs.GcmSiv.{IsAuthentic, IsKeySize, counter_block, dot, inverse_power};
+ghost use Rattle.gcm_siv.specs.GcmSiv.{length_block, polyval, tag, text, times, times_power};
 
 use crate::errors::TooLong;
 use crate::laws::text_twice;
@@ -30,7 +33,8 @@ pub fn field_examples()
     ensures dot { dot (from_le_bytes w128 (bytes 16 0x66e94bd4ef8a2c3b884cfa59ca342b2e))
         (from_le_bytes w128 (bytes 16 0xff000000000000000000000000000000))
         ≡ from_le_bytes w128 (bytes 16 0xebe563401e7e91ea3ad6426b8140c394) }
-    ensures written { inverse_power ≡ from_le_bytes w128 (bytes 16 0x01000000000000000000000000000492) }
+    ensures written { inverse_power ≡ from_le_bytes w128
+        (bytes 16 0x01000000000000000000000000000492) }
     ensures inverse { times_power inverse_power 128 ≡ 1 }
 {}
 
@@ -42,13 +46,29 @@ pub fn polyval_examples()
         ≡ from_le_bytes w128 (bytes 16 0xf7a3b47b846119fae5b7866cf5e5b77e) }
 {}
 
-/// A counter counts the first 32 bits of a block on, modulo 2^32, the lowest byte first.
+/// A counter counts the first 32 bits of a block on, modulo 2^32, the lowest byte first. A tag's
+/// highest bit is set for the first one, also where it is set already.
 #[tactic(auto, unfolding(crate::proofs::OnLiterals::siv_on_literals))]
 pub fn counter_examples()
     ensures next { counter_block (bytes 16 0xff0000000102030405060708090a0b8c) 1
         ≡ bytes 16 0x000100000102030405060708090a0b8c }
     ensures wrapped { counter_block (bytes 16 0xffffffff000000000000000000000080) 1
         ≡ bytes 16 0x00000000000000000000000000000080 }
+    ensures set { first_counter (replicate 16 0x7f) ≡ replicate 15 0x7f ++ 0xff ∷ [] }
+    ensures kept { first_counter (replicate 16 0xff) ≡ replicate 16 0xff }
+{}
+
+/// What is accepted (5): a tag that is the tag of the additional data and of the decrypted text.
+pub fn authentic_examples()
+    ensures { (key nonce a t c : List ℕ) → IsAuthentic key nonce a t c
+        → t ≡ tag key nonce a (text key nonce t c) }
+{}
+
+/// A key-generating key has 16 bytes or 32.
+pub fn size_examples()
+    ensures sixteen { IsKeySize 16 }
+    ensures thirty_two { IsKeySize 32 }
+    ensures others { (n : ℕ) → IsKeySize n → (n ≡ 16) ⊎ (n ≡ 32) }
 {}
 
 /// The lengths in bits of the longest strings: every byte of them counts.
@@ -60,31 +80,134 @@ pub fn length_examples()
 // The blocks that the message of eight bytes encrypts.
 #[tactic(auto, using(aes_planes::proofs::OnLiterals::ciphers), unfolding(aes_planes::proofs::OnLiterals::aes_by_table))]
 fn encrypted_blocks()
-    ensures zero { fips.cipher_with (fips.key_expansion (bytes 16 0x01000000000000000000000000000000))
-        (to_le_bytes w32 0 ++ bytes 12 0x030000000000000000000000) ≡ bytes 16 0xd9b360279694941a2010be790ff81954 }
-    ensures one { fips.cipher_with (fips.key_expansion (bytes 16 0x01000000000000000000000000000000))
-        (to_le_bytes w32 1 ++ bytes 12 0x030000000000000000000000) ≡ bytes 16 0xc5dbc6987ada737758568e3552059132 }
-    ensures two { fips.cipher_with (fips.key_expansion (bytes 16 0x01000000000000000000000000000000))
-        (to_le_bytes w32 2 ++ bytes 12 0x030000000000000000000000) ≡ bytes 16 0x4004a0dcd862f2a5f559f116bee72388 }
-    ensures three { fips.cipher_with (fips.key_expansion (bytes 16 0x01000000000000000000000000000000))
-        (to_le_bytes w32 3 ++ bytes 12 0x030000000000000000000000) ≡ bytes 16 0x7360219d2d44ef6c3d190c795fe54c0c }
-    ensures tag { fips.cipher_with (fips.key_expansion (bytes 16 0x4004a0dcd862f2a57360219d2d44ef6c))
-        (bytes 16 0xe893b7740962c5e49d2a90a7dc5cec74) ≡ bytes 16 0x578782fff6013b815b287c22493a364c }
-    ensures stream { fips.cipher_with (fips.key_expansion (bytes 16 0x4004a0dcd862f2a57360219d2d44ef6c))
-        (bytes 16 0x578782fff6013b815b287c22493a36cc) ≡ bytes 16 0xb4d839330ac7b786a779523a099ca598 }
+    ensures zero { fips.cipher_with
+        (fips.key_expansion (bytes 16 0x01000000000000000000000000000000))
+        (to_le_bytes w32 0 ++ bytes 12 0x030000000000000000000000)
+        ≡ bytes 16 0xd9b360279694941a2010be790ff81954 }
+    ensures one { fips.cipher_with
+        (fips.key_expansion (bytes 16 0x01000000000000000000000000000000))
+        (to_le_bytes w32 1 ++ bytes 12 0x030000000000000000000000)
+        ≡ bytes 16 0xc5dbc6987ada737758568e3552059132 }
+    ensures two { fips.cipher_with
+        (fips.key_expansion (bytes 16 0x01000000000000000000000000000000))
+        (to_le_bytes w32 2 ++ bytes 12 0x030000000000000000000000)
+        ≡ bytes 16 0x4004a0dcd862f2a5f559f116bee72388 }
+    ensures three { fips.cipher_with
+        (fips.key_expansion (bytes 16 0x01000000000000000000000000000000))
+        (to_le_bytes w32 3 ++ bytes 12 0x030000000000000000000000)
+        ≡ bytes 16 0x7360219d2d44ef6c3d190c795fe54c0c }
+    ensures tag { fips.cipher_with
+        (fips.key_expansion (bytes 16 0x4004a0dcd862f2a57360219d2d44ef6c))
+        (bytes 16 0xe893b7740962c5e49d2a90a7dc5cec74)
+        ≡ bytes 16 0x578782fff6013b815b287c22493a364c }
+    ensures stream { fips.cipher_with
+        (fips.key_expansion (bytes 16 0x4004a0dcd862f2a57360219d2d44ef6c))
+        (bytes 16 0x578782fff6013b815b287c22493a36cc)
+        ≡ bytes 16 0xb4d839330ac7b786a779523a099ca598 }
 {}
 
 /// Eight bytes and no additional data (appendix C.1).
 pub fn gcm_siv_128_example()
-    ensures tag { tag (bytes 16 0x01000000000000000000000000000000) (bytes 12 0x030000000000000000000000) []
+    ensures tag { tag (bytes 16 0x01000000000000000000000000000000)
+        (bytes 12 0x030000000000000000000000) []
         (bytes 8 0x0100000000000000) ≡ bytes 16 0x578782fff6013b815b287c22493a364c }
-    ensures text { text (bytes 16 0x01000000000000000000000000000000) (bytes 12 0x030000000000000000000000)
-        (bytes 16 0x578782fff6013b815b287c22493a364c) (bytes 8 0x0100000000000000) ≡ bytes 8 0xb5d839330ac7b786 }
+    ensures text { text (bytes 16 0x01000000000000000000000000000000)
+        (bytes 12 0x030000000000000000000000)
+        (bytes 16 0x578782fff6013b815b287c22493a364c) (bytes 8 0x0100000000000000)
+        ≡ bytes 8 0xb5d839330ac7b786 }
 {
     encrypted_blocks();
 }
 
-/// Encrypts a text and decrypts it again: its tag is accepted, and the text comes back. Returns the tag.
+// The blocks that are encrypted under a key of 32 bytes, for the keys of a message.
+#[tactic(auto, using(aes_planes::proofs::OnLiterals::ciphers), unfolding(aes_planes::proofs::OnLiterals::aes_by_table))]
+fn encrypted_numbers()
+    ensures zero { fips.cipher_with
+        (fips.key_expansion
+        (bytes 32 0x0100000000000000000000000000000000000000000000000000000000000000))
+        (to_le_bytes w32 0 ++ bytes 12 0x030000000000000000000000)
+        ≡ bytes 16 0xb5d3c529dfafac430384a63b046e999e }
+    ensures one { fips.cipher_with
+        (fips.key_expansion
+        (bytes 32 0x0100000000000000000000000000000000000000000000000000000000000000))
+        (to_le_bytes w32 1 ++ bytes 12 0x030000000000000000000000)
+        ≡ bytes 16 0x136d2d11be284d7fd498b142a2995a5a }
+    ensures two { fips.cipher_with
+        (fips.key_expansion
+        (bytes 32 0x0100000000000000000000000000000000000000000000000000000000000000))
+        (to_le_bytes w32 2 ++ bytes 12 0x030000000000000000000000)
+        ≡ bytes 16 0xb914f4742be9e1d7641d397a9a0ffa64 }
+    ensures three { fips.cipher_with
+        (fips.key_expansion
+        (bytes 32 0x0100000000000000000000000000000000000000000000000000000000000000))
+        (to_le_bytes w32 3 ++ bytes 12 0x030000000000000000000000)
+        ≡ bytes 16 0xa2f84addbf96dec3fcdefbceafd2a5f3 }
+    ensures four { fips.cipher_with
+        (fips.key_expansion
+        (bytes 32 0x0100000000000000000000000000000000000000000000000000000000000000))
+        (to_le_bytes w32 4 ++ bytes 12 0x030000000000000000000000)
+        ≡ bytes 16 0x456e3c6c05ecc15709d8894632480faf }
+    ensures five { fips.cipher_with
+        (fips.key_expansion
+        (bytes 32 0x0100000000000000000000000000000000000000000000000000000000000000))
+        (to_le_bytes w32 5 ++ bytes 12 0x030000000000000000000000)
+        ≡ bytes 16 0xcdbf0700fedad22273098dd2eaa268b3 }
+{}
+
+/// The keys of a message under a key of 32 bytes (appendix C.2).
+pub fn keys_256_example()
+    ensures authentication { authentication_key
+        (bytes 32 0x0100000000000000000000000000000000000000000000000000000000000000)
+        (bytes 12 0x030000000000000000000000) ≡ bytes 16 0xb5d3c529dfafac43136d2d11be284d7f }
+    ensures encryption { encryption_key (bytes 32
+        0x0100000000000000000000000000000000000000000000000000000000000000)
+        (bytes 12 0x030000000000000000000000)
+        ≡ bytes 32 0xb914f4742be9e1d7a2f84addbf96dec3456e3c6c05ecc157cdbf0700fedad222 }
+{
+    encrypted_numbers();
+}
+
+// The blocks that are encrypted under the second of these keys: for the tag, and for the text.
+#[tactic(auto, using(aes_planes::proofs::OnLiterals::ciphers), unfolding(aes_planes::proofs::OnLiterals::aes_by_table))]
+fn encrypted_under_256()
+    ensures tag { fips.cipher_with
+        (fips.key_expansion
+        (bytes 32 0xb914f4742be9e1d7a2f84addbf96dec3456e3c6c05ecc157cdbf0700fedad222))
+        (bytes 16 0x943ef4fd04bd31d193816ab26f86554a)
+        ≡ bytes 16 0xb879ad976d8242acc188ab59cabfe307 }
+    ensures first { fips.cipher_with
+        (fips.key_expansion
+        (bytes 32 0xb914f4742be9e1d7a2f84addbf96dec3456e3c6c05ecc157cdbf0700fedad222))
+        (bytes 16 0xb879ad976d8242acc188ab59cabfe387)
+        ≡ bytes 16 0x40dd0163cdb48f9fe3212bf61b201976 }
+    ensures second { fips.cipher_with
+        (fips.key_expansion
+        (bytes 32 0xb914f4742be9e1d7a2f84addbf96dec3456e3c6c05ecc157cdbf0700fedad222))
+        (bytes 16 0xb979ad976d8242acc188ab59cabfe387)
+        ≡ bytes 16 0x027f342b38b58fc6858b73af3aeabecf }
+{}
+
+/// Twenty bytes, and eighteen of additional data, under this key (appendix C.2). The last byte of
+/// S_s has its highest bit set, and that of the tag has not.
+pub fn gcm_siv_256_example()
+    ensures tag { tag (bytes 32 0x0100000000000000000000000000000000000000000000000000000000000000)
+        (bytes 12 0x030000000000000000000000)
+        (bytes 18 0x010000000000000000000000000000000200)
+        (bytes 20 0x0300000000000000000000000000000004000000)
+        ≡ bytes 16 0xb879ad976d8242acc188ab59cabfe307 }
+    ensures text { text
+        (bytes 32 0x0100000000000000000000000000000000000000000000000000000000000000)
+        (bytes 12 0x030000000000000000000000)
+        (bytes 16 0xb879ad976d8242acc188ab59cabfe307)
+        (bytes 20 0x0300000000000000000000000000000004000000)
+        ≡ bytes 20 0x43dd0163cdb48f9fe3212bf61b201976067f342b }
+{
+    keys_256_example();
+    encrypted_under_256();
+}
+
+/// Encrypts a text and decrypts it again: its tag is accepted, and the text comes back. Returns the
+/// tag.
 ///
 /// # Errors
 ///
@@ -95,7 +218,8 @@ pub fn there_and_back<C: KeyInit + BlockCipherEncrypt + Drop>(
     additional: &[u8],
     message: &mut [u8],
 ) -> Result<Block, TooLong>
-    ensures refusal { IsErr result ↔ ((2 ^ 36 < length message.old) ⊎ (2 ^ 36 < length additional.now)) }
+    ensures refusal { IsErr result ↔ ((2 ^ 36 < length message.old)
+        ⊎ (2 ^ 36 < length additional.now)) }
     ensures back { message.new ≡ message.old }
     ensures tag { IfOk result (λ it. it ≡ tag mode.now nonce.now additional.now message.old) }
 {

@@ -41,7 +41,8 @@ fn lengths_of(first: u64, second: u64) -> Block
 fn last_block(additional: &[u8], text: &[u8]) -> u8x16
     requires additional { length additional.now ≤ 2 ^ 36 }
     requires text { length text.now ≤ 2 ^ 36 }
-    ensures { from_be_bytes w128 result ≡ from_le_bytes w128 (length_block additional.now text.now) }
+    ensures { from_be_bytes w128 result ≡ from_le_bytes w128
+        (length_block additional.now text.now) }
 {
     let lengths = lengths_of(additional.len() as u64, text.len() as u64);
     LowestFirst::highest_first(u8x16::from_array(lengths))
@@ -54,7 +55,8 @@ fn bytes_of(value: u8x16) -> Block
     number_of_block(&value.to_array()).to_le_bytes()
 }
 
-/// Room for what POLYVAL looks up: multiples of the authentication key times x^-1. It is as secret as the key.
+/// Room for what POLYVAL looks up: multiples of the authentication key times x^-1. It is as secret
+/// as the key.
 pub trait PolyvalRoom: Zeroize {
     /// The multiples stand there.
     ghost IsMade: { Self → Type 0 };

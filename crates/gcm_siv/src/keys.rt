@@ -46,8 +46,8 @@ fn first_halves(one: &Block, other: &Block) -> Block
     block_of_halves(&first, &second)
 }
 
-/// Room for the keys of a message: the authentication key in the first block, the encryption key in the two after it, of
-/// which a key of 16 bytes is the first. The others are as secret.
+/// Room for the keys of a message: the authentication key in the first block, the encryption key in
+/// the two after it, of which a key of 16 bytes is the first. The others are as secret.
 pub type KeyRoom = [Block; 6];
 
 // Writes those of six blocks, two by two, into the first three.
@@ -60,7 +60,8 @@ fn put_halves(blocks: &mut KeyRoom)
     blocks[2] = first_halves(&blocks[4], &blocks[5]);
 }
 
-/// Writes the keys of a message under a key of `size` bytes. It has four blocks encrypted for 16 bytes, and six for 32.
+/// Writes the keys of a message under a key of `size` bytes. It has four blocks encrypted for 16
+/// bytes, and six for 32.
 #[tactic(auto, using(crate::proofs::DerivedKeys::derived_is))]
 pub fn derive<C: BlockCipherEncrypt>(cipher: &C, size: usize, nonce: &[u8; 12], keys: &mut KeyRoom)
     requires { IsKeySize size }

@@ -14,8 +14,8 @@ pub(crate) fn are_allowed(additional: &[u8], text: &[u8]) -> bool
     text.len() as u64 <= LONGEST && additional.len() as u64 <= LONGEST
 }
 
-// How many bytes of additional data and text together are few: then the multiples of one factor take less time than those
-// of its powers.
+// How many bytes of additional data and text together are few: then the multiples of one factor
+// take less time than those of its powers.
 const FEW: usize = 160;
 
 /// Returns whether additional data and a text, of so many bytes, are a few blocks.
@@ -26,8 +26,8 @@ pub fn are_few(additional: usize, text: usize) -> bool {
 // How many bytes of stack a message takes.
 const MESSAGE_STACK: usize = 4352;
 
-/// Wipes the stack that a message took, in a call from the same function: its keys, values of POLYVAL, the right tag of a
-/// refused message and blocks of the keystream may be there.
+/// Wipes the stack that a message took, in a call from the same function: its keys, values of
+/// POLYVAL, the right tag of a refused message and blocks of the keystream may be there.
 #[inline(always)]
 pub fn wipe_message_stack() {
     wipe_stack::<MESSAGE_STACK>();

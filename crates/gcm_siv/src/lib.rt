@@ -1,5 +1,5 @@
-//! AES-GCM-SIV (RFC 8452): encryption that shows whether a message was changed, and that a repeated nonce does not break,
-//! over any cipher that is made from a key.
+//! AES-GCM-SIV (RFC 8452): encryption that shows whether a message was changed, and that a repeated
+//! nonce does not break, over any cipher that is made from a key.
 #![tactic(auto)]
 
 mod counters;

@@ -1,6 +1,7 @@
 //! A message under its own keys (RFC 8452, 4 and 5).
 
-ghost use Rattle.std.specs.Prelude.{◌≡◌, ◌↔◌, ℕ, [], ◌∷◌, ◌+◌, ◌%◌, ◌^◌, ◌<◌, ◌≤◌, ◌++◌, length, replicate, slice_index, take, IsTrue, false};
+ghost use Rattle.std.specs.Prelude.{◌≡◌, ◌↔◌, ℕ, [], ◌∷◌, ◌+◌, ◌%◌, ◌^◌, ◌<◌, ◌≤◌, ◌++◌, length};
+ghost use Rattle.std.specs.Prelude.{replicate, slice_index, take, IsTrue, false};
 ghost use Rattle.aes_planes.specs.Fips197 as fips;
 ghost use Rattle.gcm.specs.Gcm.{next_v};
 ghost use Rattle.gcm_siv.specs.GcmSiv.{first_counter, tag_under, text_under};
@@ -64,7 +65,8 @@ fn is_tag<C: BlockCipherEncrypt, R: PolyvalRoom>(
     requires additional { length additional.now ≤ 2 ^ 36 }
     requires text { length text.now ≤ 2 ^ 36 }
     ensures { (h : ℕ) → h < 2 ^ 128 → R.element room.now ≡ next_v h
-        → IsTrue result ↔ (tag.now ≡ tag_under (C.round_keys cipher.now) h nonce.now additional.now text.now) }
+        → IsTrue result ↔ (tag.now ≡ tag_under (C.round_keys cipher.now)
+        h nonce.now additional.now text.now) }
 {
     let mut expected = MustWipe::<[Block; 1]>::zeroed();
     put_tag(
@@ -108,8 +110,8 @@ pub fn seal<C: BlockCipherEncrypt, R: PolyvalRoom>(
     tag
 }
 
-/// Decrypts a text in place if its tag is right, and returns whether it is. A text that is refused is encrypted again, so
-/// that it is as it came.
+/// Decrypts a text in place if its tag is right, and returns whether it is. A text that is refused
+/// is encrypted again, so that it is as it came.
 pub fn open<C: BlockCipherEncrypt, R: PolyvalRoom>(
     cipher: &C,
     room: &R,
@@ -124,7 +126,8 @@ pub fn open<C: BlockCipherEncrypt, R: PolyvalRoom>(
     ensures accepted { (h : ℕ) → h < 2 ^ 128 → R.element room.now ≡ next_v h
         → IsTrue result ↔ (tag.now ≡ tag_under (C.round_keys cipher.now) h nonce.now additional.now
         (text_under (C.round_keys cipher.now) tag.now text.old)) }
-    ensures decrypted { IsTrue result → text.new ≡ text_under (C.round_keys cipher.now) tag.now text.old }
+    ensures decrypted { IsTrue result → text.new
+        ≡ text_under (C.round_keys cipher.now) tag.now text.old }
     ensures untouched { result ≡ false → text.new ≡ text.old }
 {
     apply(cipher, tag, text);

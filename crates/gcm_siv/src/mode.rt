@@ -1,6 +1,7 @@
 //! Encryption and decryption.
 
-ghost use Rattle.std.specs.Prelude.{◌≡◌, ◌↔◌, ◌⊎◌, ℕ, List, [], ◌++◌, ◌^◌, ◌<◌, ◌≤◌, length, slice_index_or, false, IsTrue, IsOk, IsErr, IfOk, OnOk, OnErr};
+ghost use Rattle.std.specs.Prelude.{◌≡◌, ◌↔◌, ◌⊎◌, ℕ, List, [], ◌++◌, ◌^◌, ◌<◌, ◌≤◌, length};
+ghost use Rattle.std.specs.Prelude.{slice_index_or, false, IsTrue, IsOk, IsErr, IfOk, OnOk, OnErr};
 ghost use Rattle.std.specs.Int.{w128, from_le_bytes};
 ghost use Rattle.aes_planes.specs.Fips197 as fips;
 ghost use Rattle.gcm.specs.Gcm.{next_v};
@@ -36,8 +37,8 @@ fn message_cipher<C: KeyInit + Drop>(keys: &KeyRoom) -> C
     }
 }
 
-/// AES-GCM-SIV over a cipher of the key-generating key (RFC 8452), with nonces of 12 bytes and tags of 16. Contracts see a
-/// value as that key.
+/// AES-GCM-SIV over a cipher of the key-generating key (RFC 8452), with nonces of 12 bytes and tags
+/// of 16. Contracts see a value as that key.
 #[derive(Drop)]
 pub struct GcmSiv<C: KeyInit + BlockCipherEncrypt + Drop> {
     cipher: C,
@@ -65,9 +66,11 @@ impl<C: KeyInit + BlockCipherEncrypt + Drop> GcmSiv<C> {
     // Makes the cipher of a message, and writes the multiples of its authentication key times x^-1.
     fn prepare<R: PolyvalRoom>(&self, nonce: &[u8; 12], room: &mut R) -> C
         ensures made { R.IsMade room.new }
-        ensures authentication { R.element room.new ≡ next_v (from_le_bytes w128 (authentication_key self.now nonce.now)) }
+        ensures authentication { R.element room.new
+            ≡ next_v (from_le_bytes w128 (authentication_key self.now nonce.now)) }
         ensures small { from_le_bytes w128 (authentication_key self.now nonce.now) < 2 ^ 128 }
-        ensures encryption { C.round_keys result ≡ fips.key_expansion (encryption_key self.now nonce.now) }
+        ensures encryption { C.round_keys result
+            ≡ fips.key_expansion (encryption_key self.now nonce.now) }
     {
         let mut keys = MustWipe::<KeyRoom>::zeroed();
         derive(&self.cipher, C::KEY_SIZE, nonce, keys.value_mut());
@@ -78,8 +81,8 @@ impl<C: KeyInit + BlockCipherEncrypt + Drop> GcmSiv<C> {
         cipher
     }
 
-    // Encrypts a text in place and returns the tag, with room for POLYVAL of this type. Never inlined, so that a short message
-    // has a small stack frame.
+    // Encrypts a text in place and returns the tag, with room for POLYVAL of this type. Never
+    // inlined, so that a short message has a small stack frame.
     #[inline(never)]
     fn seal_in<R: PolyvalRoom>(&self, nonce: &[u8; 12], additional: &[u8], text: &mut [u8]) -> Block
         requires additional { length additional.now ≤ 2 ^ 36 }
@@ -94,7 +97,8 @@ impl<C: KeyInit + BlockCipherEncrypt + Drop> GcmSiv<C> {
         tag
     }
 
-    // The same, with the room that takes less time. In a call of its own, so that its stack can be wiped.
+    // The same, with the room that takes less time. In a call of its own, so that its stack can be
+    // wiped.
     #[inline(never)]
     fn seal_message(&self, nonce: &[u8; 12], additional: &[u8], text: &mut [u8]) -> Block
         requires additional { length additional.now ≤ 2 ^ 36 }
@@ -109,7 +113,8 @@ impl<C: KeyInit + BlockCipherEncrypt + Drop> GcmSiv<C> {
         }
     }
 
-    // Decrypts a text in place if the tag is right, and returns whether it is, with room for POLYVAL of this type.
+    // Decrypts a text in place if the tag is right, and returns whether it is, with room for
+    // POLYVAL of this type.
     #[inline(never)]
     fn open_in<R: PolyvalRoom>(
         &self,
@@ -120,8 +125,10 @@ impl<C: KeyInit + BlockCipherEncrypt + Drop> GcmSiv<C> {
     ) -> bool
         requires additional { length additional.now ≤ 2 ^ 36 }
         requires text { length text.old ≤ 2 ^ 36 }
-        ensures accepted { IsTrue result ↔ IsAuthentic self.now nonce.now additional.now tag.now text.old }
-        ensures decrypted { IsTrue result → text.new ≡ rfc.text self.now nonce.now tag.now text.old }
+        ensures accepted { IsTrue result ↔ IsAuthentic self.now nonce.now additional.now
+            tag.now text.old }
+        ensures decrypted { IsTrue result → text.new
+            ≡ rfc.text self.now nonce.now tag.now text.old }
         ensures untouched { result ≡ false → text.new ≡ text.old }
     {
         let mut room = MustWipe::<R>::zeroed();
@@ -131,7 +138,8 @@ impl<C: KeyInit + BlockCipherEncrypt + Drop> GcmSiv<C> {
         is_right
     }
 
-    // The same, with the room that takes less time. In a call of its own, so that its stack can be wiped.
+    // The same, with the room that takes less time. In a call of its own, so that its stack can be
+    // wiped.
     #[inline(never)]
     fn open_message(
         &self,
@@ -142,8 +150,10 @@ impl<C: KeyInit + BlockCipherEncrypt + Drop> GcmSiv<C> {
     ) -> bool
         requires additional { length additional.now ≤ 2 ^ 36 }
         requires text { length text.old ≤ 2 ^ 36 }
-        ensures accepted { IsTrue result ↔ IsAuthentic self.now nonce.now additional.now tag.now text.old }
-        ensures decrypted { IsTrue result → text.new ≡ rfc.text self.now nonce.now tag.now text.old }
+        ensures accepted { IsTrue result ↔ IsAuthentic self.now nonce.now additional.now
+            tag.now text.old }
+        ensures decrypted { IsTrue result → text.new
+            ≡ rfc.text self.now nonce.now tag.now text.old }
         ensures untouched { result ≡ false → text.new ≡ text.old }
     {
         if are_few(additional.len(), text.len()) {
@@ -153,21 +163,26 @@ impl<C: KeyInit + BlockCipherEncrypt + Drop> GcmSiv<C> {
         }
     }
 
-    /// Encrypts a text in place, and returns the tag, which shows whether the text or the additional data was changed (4).
-    /// Draw the nonce at random. One that comes again tells whether the two messages are the same.
+    /// Encrypts a text in place, and returns the tag, which shows whether the text or the
+    /// additional data was changed (4). Draw the nonce at random. One that comes again tells
+    /// whether the two messages are the same.
     ///
     /// # Errors
     ///
-    /// `TooLong` exactly if the text or the additional data has more than 2^36 bytes; the text is then unchanged.
+    /// `TooLong` exactly if the text or the additional data has more than 2^36 bytes; the text is
+    /// then unchanged.
     pub fn encrypt(
         &self,
         nonce: &[u8; 12],
         additional: &[u8],
         text: &mut [u8],
     ) -> Result<Block, TooLong>
-        ensures refusal { IsErr result ↔ ((2 ^ 36 < length text.old) ⊎ (2 ^ 36 < length additional.now)) }
-        ensures tag { IfOk result (λ tag. tag ≡ rfc.tag self.now nonce.now additional.now text.old) }
-        ensures encrypted { IfOk result (λ tag. text.new ≡ rfc.text self.now nonce.now tag text.old) }
+        ensures refusal { IsErr result ↔ ((2 ^ 36 < length text.old)
+            ⊎ (2 ^ 36 < length additional.now)) }
+        ensures tag { IfOk result
+            (λ tag. tag ≡ rfc.tag self.now nonce.now additional.now text.old) }
+        ensures encrypted { IfOk result (λ tag. text.new
+            ≡ rfc.text self.now nonce.now tag text.old) }
         ensures untouched { OnErr result (text.new ≡ text.old) }
     {
         if !are_allowed(additional, text) {
@@ -178,13 +193,14 @@ impl<C: KeyInit + BlockCipherEncrypt + Drop> GcmSiv<C> {
         Ok(tag)
     }
 
-    /// Decrypts a text in place if the tag is right (5). The tag can be computed only when the text is decrypted, and is
-    /// compared without an early exit; a text that is refused is encrypted again.
+    /// Decrypts a text in place if the tag is right (5). The tag can be computed only when the text
+    /// is decrypted, and is compared without an early exit; a text that is refused is encrypted
+    /// again.
     ///
     /// # Errors
     ///
-    /// `Refused` exactly if the tag is not that of the additional data and the text, or if `encrypt` refuses such lengths;
-    /// the text is then unchanged.
+    /// `Refused` exactly if the tag is not that of the additional data and the text, or if
+    /// `encrypt` refuses such lengths; the text is then unchanged.
     pub fn decrypt(
         &self,
         nonce: &[u8; 12],
@@ -192,7 +208,8 @@ impl<C: KeyInit + BlockCipherEncrypt + Drop> GcmSiv<C> {
         text: &mut [u8],
         tag: &Block,
     ) -> Result<(), Refused>
-        ensures accepted { IsOk result ↔ ((length text.old ≤ 2 ^ 36) × ((length additional.now ≤ 2 ^ 36)
+        ensures accepted { IsOk result ↔ ((length text.old ≤ 2 ^ 36)
+            × ((length additional.now ≤ 2 ^ 36)
             × IsAuthentic self.now nonce.now additional.now tag.now text.old)) }
         ensures decrypted { OnOk result (text.new ≡ rfc.text self.now nonce.now tag.now text.old) }
         ensures untouched { OnErr result (text.new ≡ text.old) }

@@ -1,10 +1,13 @@
--- A key with its padding and the semiblock before it: it passes the comparisons, and the key comes out of it.
-use Rattle.std.proofs.Common.{◌≡◌, ℕ, zero, suc, ◌+◌, ◌-◌, ◌*◌, ◌^◌, ◌<◌, ◌≤◌, List, [], ◌∷◌, ◌++◌, length, get_or, take, drop}
-use Rattle.std.proofs.Common.{replicate, refl, ap, sym, inl, inr, ◌∙◌, arith}
+-- A key with its padding and the semiblock before it: it passes the comparisons, and the key comes
+-- out of it.
+use Rattle.std.proofs.Common.{◌≡◌, ℕ, zero, suc, ◌+◌, ◌-◌, ◌*◌, ◌^◌, ◌<◌, ◌≤◌, List, [], ◌∷◌, ◌++◌}
+use Rattle.std.proofs.Common.{length, get_or, take, drop, replicate, refl, ap, sym, inl, inr, ◌∙◌}
+use Rattle.std.proofs.Common.{arith}
 use Rattle.std.proofs.lemmas.Bool.{cases_lt}
-use Rattle.std.proofs.lemmas.List.{append-nil, append_assoc, drop_at, get_or-append_right, get_or-replicate, get_or_append_left}
-use Rattle.std.proofs.lemmas.List.{get_or_past, get_or_push, length-append, length-drop, length-replicate, length-take, take_all}
-use Rattle.std.proofs.lemmas.List.{take_at}
+use Rattle.std.proofs.lemmas.List.{append-nil, append_assoc, drop_at, get_or-append_right}
+use Rattle.std.proofs.lemmas.List.{get_or-replicate, get_or_append_left, get_or_past, get_or_push}
+use Rattle.std.proofs.lemmas.List.{length-append, length-drop, length-replicate, length-take}
+use Rattle.std.proofs.lemmas.List.{take_all, take_at}
 use Rattle.std.proofs.lemmas.List.Elements.{All-cons, All-nil, All-push}
 use Rattle.std.proofs.lemmas.Nat.{from_be_bytes-to_be_bytes_4}
 use Rattle.std.proofs.Math.Seq.{take-add}
@@ -13,18 +16,22 @@ use Rattle.std.specs.List.{All, concat, slice_range}
 use Rattle.aes_planes.specs.Fips197.{IsBytes}
 use Rattle.aes_cipher.proofs.BlockNumbers.{number_block}
 use Rattle.key_wrap.specs.KeyWrap.{IsSemiblock}
-use Rattle.key_wrap.specs.Padded.{filled, headed, heading, key_in, length_in, padded, padded_check, semiblocks}
-use Rattle.key_wrap.specs.Padded.{IsPadded}
-use Rattle.key_wrap.proofs.Padding.{first_bytes, last_bytes, semiblock_is}
+use Rattle.key_wrap.specs.Padded.{filled, headed, heading, key_in, length_in, padded, padded_check}
+use Rattle.key_wrap.specs.Padded.{semiblocks, IsPadded}
+use Rattle.aes_planes.proofs.Standard.States.{append_bytes, drop_bytes, take_bytes}
+use Rattle.key_wrap.proofs.Padding.{semiblock_is}
 
 -- ---- strings of bytes as semiblocks
 
+-- n semiblocks of a string are n
 length-semiblocks : (s : List ℕ) (n : ℕ) → length (semiblocks s n) ≡ n
 unfolding semiblocks
 length-semiblocks s zero = refl
 length-semiblocks s (suc n) =
-    length-append (semiblocks s n) (slice_range s (8 * n) (8 * n + 8) ∷ []) ∙ omega (arith, length-semiblocks s n)
+    length-append (semiblocks s n) (slice_range s (8 * n) (8 * n + 8) ∷ [])
+    ∙ omega (arith, length-semiblocks s n)
 
+-- joined with one more at the end, strings are joined and then followed by it
 concat_more : (xs : List (List ℕ)) (y : List ℕ) → concat (xs ++ y ∷ []) ≡ concat xs ++ y
 concat_more [] y = append-nil y
 concat_more (x ∷ xs) y = ap (λ l. x ++ l) (concat_more xs y) ∙ sym (append_assoc x (concat xs) y)
@@ -37,67 +44,77 @@ joined s (suc n) =
     let size : 8 * n + 8 - 8 * n ≡ 8 = omega arith in
     let more : 8 * n + 8 ≡ 8 * suc n = omega arith in
     concat_more (semiblocks s n) (slice_range s (8 * n) (8 * n + 8))
-    ∙ (λ j. joined s n j ++ take (size j) (drop (8 * n) s)) ∙ sym (take-add (8 * n) 8 s) ∙ ap (λ m. take m s) more
+    ∙ (λ j. joined s n j ++ take (size j) (drop (8 * n) s)) ∙ sym (take-add (8 * n) 8 s)
+    ∙ ap (λ m. take m s) more
 
 -- each is eight bytes
-are_semiblocks : (s : List ℕ) (n : ℕ) → IsBytes s → 8 * n ≤ length s → All IsSemiblock (semiblocks s n)
+are_semiblocks : (s : List ℕ) (n : ℕ) → IsBytes s → 8 * n ≤ length s
+    → All IsSemiblock (semiblocks s n)
 unfolding semiblocks
 are_semiblocks s zero small fits = All-nil IsSemiblock
 are_semiblocks s (suc n) small fits =
     let size : ℕ = 8 * n + 8 - 8 * n in
-    All-push IsSemiblock (semiblocks s n) (slice_range s (8 * n) (8 * n + 8)) (are_semiblocks s n small (omega (arith, fits))) (
+    All-push IsSemiblock (semiblocks s n) (slice_range s (8 * n) (8 * n + 8))
+    (are_semiblocks s n small (omega (arith, fits))) (
       omega (arith, length-take size (drop (8 * n) s), length-drop (8 * n) s, fits),
-      first_bytes size (drop (8 * n) s) (last_bytes (8 * n) s small),
+      take_bytes size (drop (8 * n) s) (drop_bytes (8 * n) s small),
     )
 
 -- ---- a padded key
 
-joined_bytes : (a b : List ℕ) → IsBytes a → IsBytes b → IsBytes (a ++ b)
-joined_bytes a b of_a of_b i = elim (cases_lt i (length a)) as (λ _. get_or (a ++ b) i 0 < 2 ^ 8) [
-  | inl lt ↦ omega (arith, get_or_append_left a b 0 i lt, of_a i)
-  | inr le ↦ omega (arith, get_or-append_right a b (length a) i 0 refl le, of_b (i - length a))
-]
-
+-- zeros are bytes, so padding keeps a string one of bytes
 zeros_are_bytes : (n : ℕ) → IsBytes (replicate n 0)
 zeros_are_bytes n i = elim (cases_lt i n) as (λ _. get_or (replicate n 0) i 0 < 2 ^ 8) [
   | inl lt ↦ omega (arith, get_or-replicate {A = ℕ} n i 0 0 lt)
-  | inr le ↦ omega (arith, get_or_past {X = ℕ} (replicate n 0) i 0 (omega (arith, le, length-replicate {A = ℕ} n 0)))
+  | inr le ↦ omega (
+    arith,
+    get_or_past {X = ℕ} (replicate n 0) i 0
+        (omega (arith, le, length-replicate {A = ℕ} n 0)),
+  )
 ]
 
+-- a padded key fills its semiblocks
 length-padded : (key : List ℕ) → length (padded key) ≡ 8 * filled (length key)
 unfolding padded filled
 length-padded key =
     let n : ℕ = 8 * filled (length key) - length key in
     length-append key (replicate n 0) ∙ omega (arith, length-replicate {A = ℕ} n 0)
 
+-- the semiblock before them makes one more
 pub headed_length : (key : List ℕ) → length (headed key) ≡ filled (length key) + 1
 unfolding headed
 headed_length key = omega (arith, length-semiblocks (padded key) (filled (length key)))
 
+-- that one is eight bytes
 heading_semiblock : (bytes : ℕ) → IsSemiblock (heading bytes)
 unfolding heading
 heading_semiblock bytes = (
   refl,
-  joined_bytes padded_check (to_be_bytes w32 bytes)
-      (last_bytes 12 (to_be_bytes w128 0xa65959a6) (number_block 0xa65959a6).1)
-      (last_bytes 12 (to_be_bytes w128 bytes) (number_block bytes).1),
+  append_bytes padded_check (to_be_bytes w32 bytes)
+      (drop_bytes 12 (to_be_bytes w128 0xa65959a6) (number_block 0xa65959a6).1)
+      (drop_bytes 12 (to_be_bytes w128 bytes) (number_block bytes).1),
 )
 
+-- so all of S are semiblocks, which is what undoing the steps of W asks for
 pub headed_semiblocks : (key : List ℕ) → IsBytes key → All IsSemiblock (headed key)
 unfolding headed heading padded
 headed_semiblocks key small =
     let n : ℕ = filled (length key) in
     All-cons IsSemiblock (heading (length key)) (semiblocks (padded key) n)
     (heading_semiblock (length key))
-    (are_semiblocks (padded key) n (joined_bytes key _ small (zeros_are_bytes (8 * n - length key)))
+    (are_semiblocks (padded key) n (append_bytes key _ small (zeros_are_bytes (8 * n - length key)))
     (omega (arith, length-padded key)))
 
-last_semiblock : (s : List ℕ) (n k : ℕ) → n ≡ suc k → get_or (semiblocks s n) k [] ≡ slice_range s (8 * k) (8 * k + 8)
+-- the semiblock with the padding, where the comparisons look for it
+last_semiblock : (s : List ℕ) (n k : ℕ) → n ≡ suc k
+    → get_or (semiblocks s n) k [] ≡ slice_range s (8 * k) (8 * k + 8)
 unfolding semiblocks
 last_semiblock s n k is =
     ap (λ m. get_or (semiblocks s m) k []) is
     ∙ get_or_push (semiblocks s k) (slice_range s (8 * k) (8 * k + 8)) [] k (length-semiblocks s k)
 
+-- S of a key passes the comparisons, and has the key: with the steps undone, so has what is
+-- unwrapped
 pub headed_found : (key : List ℕ) → 1 ≤ length key → length key < 2 ^ 32
     → IsPadded (headed key) × (key_in (headed key) ≡ key)
 unfolding headed heading length_in key_in filled padded
@@ -120,10 +137,12 @@ headed_found key some few =
         least = omega (arith, count, plen);
         most = omega (arith, count, plen);
         zeros = (λ j. drop (8 - padding j) (last j))
-            ∙ drop_at front (replicate z 0) (8 - z) (omega (arith, length-take 8 (drop (8 * k) key), length-drop (8 * k) key, some))
+            ∙ drop_at front (replicate z 0) (8 - z)
+            (omega (arith, length-take 8 (drop (8 * k) key), length-drop (8 * k) key, some))
             ∙ ap (λ m. replicate m 0) (sym padding);
       },
       (λ j. take (plen j)
-          ((joined (padded key) n ∙ take_all (8 * n) (padded key) (omega (arith, length-padded key))) j))
+          ((joined (padded key) n
+          ∙ take_all (8 * n) (padded key) (omega (arith, length-padded key))) j))
           ∙ take_at key zeros (length key) refl,
     )

@@ -1,23 +1,29 @@
--- Keys with padding: the semiblocks that a key fills, and the comparisons that show whether it was padded.
-use Rattle.std.proofs.Common.{◌≡◌, ℕ, zero, suc, ◌+◌, ◌-◌, ◌*◌, ◌/◌, ◌%◌, ◌^◌, ◌<◌, ◌≤◌, ◌↔◌, List, [], ◌∷◌, ◌++◌}
-use Rattle.std.proofs.Common.{length, get_or, set, take, drop, replicate, refl, ap, sym, inl, inr, ◌∙◌, arith, bit_and, bit_or, if◌then◌else◌}
+-- Keys with padding: the semiblocks that a key fills, and the comparisons that show whether it was
+-- padded.
+use Rattle.std.proofs.Common.{◌≡◌, ℕ, zero, suc, ◌+◌, ◌-◌, ◌*◌, ◌/◌, ◌%◌, ◌^◌, ◌<◌, ◌≤◌, ◌↔◌, List}
+use Rattle.std.proofs.Common.{[], ◌∷◌, ◌++◌, length, get_or, set, take, drop, replicate, refl, ap}
+use Rattle.std.proofs.Common.{sym, inl, inr, ◌∙◌, arith, bit_and, bit_or, if◌then◌else◌}
 use Rattle.std.proofs.lemmas.Bool.{cases_lt, ne_eqb}
-use Rattle.std.proofs.lemmas.List.{append-nil, drop-append-le, drop_more, get_or-drop, get_or-take, get_or_past, length-drop}
-use Rattle.std.proofs.lemmas.List.{length-take, take-append-drop, take-append-le, take-replicate, take_all, take_more_set}
+use Rattle.std.proofs.lemmas.List.{append-nil, drop-append-le, drop_more, get_or-drop, get_or-take}
+use Rattle.std.proofs.lemmas.List.{get_or_past, length-drop, length-take, take-append-drop}
+use Rattle.std.proofs.lemmas.List.{take-append-le, take-replicate, take_all, take_more_set}
 use Rattle.std.proofs.lemmas.Nat.{and_mask, be_bytes_4, le_or_l, le_or_r, mod-pow-add, pow_pos}
 use Rattle.std.proofs.Math.Nat.{le-mul_of_pos_right}
 use Rattle.std.proofs.Math.Seq.{take-append-add}
 use Rattle.aes_planes.proofs.Bits.ByteCases.{by_eight}
+use Rattle.aes_planes.proofs.Standard.States.{drop_bytes, take_bytes}
 use Rattle.std.specs.Int.{w32, w64, to_be_bytes, from_be_bytes}
 use Rattle.std.specs.List.{concat, slice_range}
 use Rattle.aes_planes.specs.Fips197.{IsBytes}
-use Rattle.key_wrap.specs.Padded.{block_or_steps, filled, heading, length_in, padded, padded_check, semiblocks, IsPadded}
+use Rattle.key_wrap.specs.Padded.{block_or_steps, filled, heading, length_in, padded, padded_check}
+use Rattle.key_wrap.specs.Padded.{semiblocks, IsPadded}
 
 -- ---- the semiblocks of a padded key
 
 -- a semiblock of a key, with the zeros that the key leaves in it
 pub semiblock_is : (key : List ℕ) (i : ℕ) → i < filled (length key)
-    → take 8 (drop (8 * i) key) ++ replicate (8 * i + 8 - length key) 0 ≡ slice_range (padded key) (8 * i) (8 * i + 8)
+    → take 8 (drop (8 * i) key) ++ replicate (8 * i + 8 - length key) 0
+    ≡ slice_range (padded key) (8 * i) (8 * i + 8)
 unfolding filled padded
 semiblock_is key i lt =
     let rest : List ℕ = drop (8 * i) key in
@@ -26,7 +32,8 @@ semiblock_is key i lt =
     let long : length rest ≡ length key - 8 * i = length-drop (8 * i) key in
     let size : 8 * i + 8 - 8 * i ≡ 8 = omega arith in
     let whole : slice_range (padded key) (8 * i) (8 * i + 8) ≡ take 8 (rest ++ zeros) =
-    ap (λ n. take n (drop (8 * i) (padded key))) size ∙ ap (take 8) (drop-append-le (8 * i) key zeros (omega (arith, lt))) in
+    ap (λ n. take n (drop (8 * i) (padded key))) size
+    ∙ ap (take 8) (drop-append-le (8 * i) key zeros (omega (arith, lt))) in
     elim (cases_lt (length rest) 8) [
       | inl few ↦
           let n : ℕ = 8 - length rest in
@@ -42,7 +49,8 @@ semiblock_is key i lt =
     ]
 
 -- with semiblock i written, one more is that of the padded key
-pub semiblock_more : (key : List ℕ) (halves : List (List ℕ)) (i : ℕ) (half : List ℕ) → i < length halves
+pub semiblock_more : (key : List ℕ) (halves : List (List ℕ)) (i : ℕ) (half : List ℕ)
+    → i < length halves
     → length halves ≡ filled (length key)
     → half ≡ take 8 (drop (8 * i) key) ++ replicate (8 * i + 8 - length key) 0
     → take i halves ≡ semiblocks (padded key) i
@@ -59,7 +67,8 @@ semiblock_more key halves i half lt sized is before =
 -- the byte before the last p of eight
 digit : (n p : ℕ) → p < 8 → get_or (to_be_bytes w64 n) (7 - p) 0 ≡ n / 2 ^ (8 * p) % 2 ^ 8
 digit n =
-    by_eight (λ p. get_or (to_be_bytes w64 n) (7 - p) 0 ≡ n / 2 ^ (8 * p) % 2 ^ 8) (omega arith) refl refl refl refl refl
+    by_eight (λ p. get_or (to_be_bytes w64 n) (7 - p) 0 ≡ n / 2 ^ (8 * p) % 2 ^ 8)
+    (omega arith) refl refl refl refl refl
     refl refl
 
 -- two parts of nothing
@@ -76,11 +85,13 @@ zeros_at_end s n is (suc p) lt =
     let more : 8 * suc p ≡ 8 + 8 * p = omega arith in
     let parts : n % 2 ^ (8 * suc p) ≡ d * 2 ^ (8 * p) + n % 2 ^ (8 * p) =
     ap (λ k. n % 2 ^ k) more ∙ mod-pow-add n 8 (8 * p) in
-    let here : get_or s (7 - p) 0 ≡ d = ap (λ l. get_or l (7 - p) 0) (sym is) ∙ digit n p (omega (arith, lt)) in
+    let here : get_or s (7 - p) 0 ≡ d = ap (λ l. get_or l (7 - p) 0) (sym is)
+    ∙ digit n p (omega (arith, lt)) in
     let from : 8 - suc p ≡ 7 - p = omega arith in
     let next : 7 - p + 1 ≡ 8 - p = omega (arith, lt) in
     let list : drop (8 - suc p) s ≡ get_or s (7 - p) 0 ∷ drop (8 - p) s =
-    ap (λ k. drop k s) from ∙ drop_more s (7 - p) 0 (omega (arith, long)) ∙ ap (λ k. get_or s (7 - p) 0 ∷ drop k s) next in
+    ap (λ k. drop k s) from ∙ drop_more s (7 - p) 0 (omega (arith, long))
+    ∙ ap (λ k. get_or s (7 - p) 0 ∷ drop k s) next in
     let before = zeros_at_end s n is p (omega (arith, lt)) in (
       λ none.
           let both = none_of_sum (d * 2 ^ (8 * p)) (n % 2 ^ (8 * p)) (sym parts ∙ none) in
@@ -102,7 +113,8 @@ module _ (f : List ℕ → List ℕ) (steps : List (List ℕ) → ℕ → List (
   unfolding block_or_steps
   as_block a [] a_new r_new one is_a is_r = absurd (omega arith)
   as_block a (r ∷ []) a_new r_new one is_a is_r =
-      (λ j. is_a j ∷ is_r j ∷ []) ∙ (λ j. let b = f (a ++ sym (append-nil r) j) in take 8 b ∷ drop 8 b ∷ [])
+      (λ j. is_a j ∷ is_r j ∷ [])
+      ∙ (λ j. let b = f (a ++ sym (append-nil r) j) in take 8 b ∷ drop 8 b ∷ [])
   as_block a (r ∷ s ∷ rs) a_new r_new one is_a is_r = absurd (omega arith)
 
   -- all steps of a string that isn't one
@@ -112,20 +124,13 @@ module _ (f : List ℕ → List ℕ) (steps : List (List ℕ) → ℕ → List (
   as_steps s n is other =
       let b : List ℕ = f (concat s) in
       ap (λ m. steps s (6 * m)) is
-      ∙ ap (λ t. if t then take 8 b ∷ drop 8 b ∷ [] else steps s (6 * (length s - 1))) (sym (ne_eqb (length s) 2 other))
+      ∙ ap (λ t. if t then take 8 b ∷ drop 8 b ∷ [] else steps s (6 * (length s - 1)))
+      (sym (ne_eqb (length s) 2 other))
 
 -- ---- the comparisons
 
-pub first_bytes : (n : ℕ) (s : List ℕ) → IsBytes s → IsBytes (take n s)
-first_bytes n s small i = elim (cases_lt i n) as (λ _. get_or (take n s) i 0 < 2 ^ 8) [
-  | inl lt ↦ omega (arith, get_or-take n s i 0 lt, small i)
-  | inr le ↦ omega (arith, get_or_past (take n s) i 0 (omega (arith, le, length-take n s)))
-]
-
-pub last_bytes : (n : ℕ) (s : List ℕ) → IsBytes s → IsBytes (drop n s)
-last_bytes n s small i = omega (arith, get_or-drop n s i 0, small (n + i))
-
 module _ (check : List ℕ) (long : length check ≡ 8) (small : IsBytes check) where
+  -- both parts of the first semiblock have four bytes
   front : length (take 4 check) ≡ 4
   front = omega (arith, length-take 4 check, long)
 
@@ -133,11 +138,12 @@ module _ (check : List ℕ) (long : length check ≡ 8) (small : IsBytes check) 
   rest = omega (arith, length-drop 4 check, long)
 
   -- the first semiblock is made of what it shows
-  pub heading_back : (bytes : ℕ) → take 4 check ≡ padded_check → bytes ≡ from_be_bytes w32 (drop 4 check)
+  pub heading_back : (bytes : ℕ) → take 4 check ≡ padded_check
+      → bytes ≡ from_be_bytes w32 (drop 4 check)
       → heading bytes ≡ check
   unfolding heading
   heading_back bytes right is =
-      (λ j. sym right j ++ be_bytes_4 (drop 4 check) bytes rest (last_bytes 4 check small) is j)
+      (λ j. sym right j ++ be_bytes_4 (drop 4 check) bytes rest (drop_bytes 4 check small) is j)
       ∙ take-append-drop 4 check
 
   -- what is compared is 0 in each part exactly if it is 0 together
@@ -145,14 +151,16 @@ module _ (check : List ℕ) (long : length check ≡ 8) (small : IsBytes check) 
       → first ≡ from_be_bytes w32 (take 4 check) → bytes ≡ from_be_bytes w32 (drop 4 check)
       → 1 ≤ length halves → length halves ≤ 2 ^ 29
       → padding ≡ (8 * length halves + (2 ^ 64 - bytes)) % 2 ^ 64
-      → (low ≡ 0) ↔ (drop (8 - bit_and padding 7) (get_or halves (length halves - 1) []) ≡ replicate (bit_and padding 7) 0)
-      → (bit_or (bit_or ((first + (2 ^ 32 - 0xa65959a6)) % 2 ^ 32) (padding / 8)) low ≡ 0) ↔ IsPadded (check ∷ halves)
+      → (low ≡ 0) ↔ (drop (8 - bit_and padding 7) (get_or halves (length halves - 1) [])
+      ≡ replicate (bit_and padding 7) 0)
+      → (bit_or (bit_or ((first + (2 ^ 32 - 0xa65959a6)) % 2 ^ 32) (padding / 8)) low ≡ 0)
+      ↔ IsPadded (check ∷ halves)
   unfolding length_in
   compared halves first bytes padding low is_first is_bytes some few is_padding is_low =
       let x : ℕ = (first + (2 ^ 32 - 0xa65959a6)) % 2 ^ 32 in
       let y : ℕ = padding / 8 in
-      let f = first_bytes 4 check small in
-      let g = last_bytes 4 check small in
+      let f = take_bytes 4 check small in
+      let g = drop_bytes 4 check small in
       let first_small : first < 2 ^ 32 = omega (arith, is_first, f 0, f 1, f 2, f 3) in
       let bytes_small : bytes < 2 ^ 32 = omega (arith, is_bytes, g 0, g 1, g 2, g 3) in
       let at : length (check ∷ halves) - 1 ≡ suc (length halves - 1) = omega (arith, some) in
@@ -162,21 +170,27 @@ module _ (check : List ℕ) (long : length check ≡ 8) (small : IsBytes check) 
             let both : bit_or x y ≡ 0 = omega (arith, le_or_l (bit_or x y) low, none) in
             let equal : first ≡ 0xa65959a6 = omega (arith, le_or_l x y, both, first_small) in
             let short : y ≡ 0 = omega (arith, le_or_r x y, both) in
-            let same : bit_and padding 7 ≡ 8 * (length (check ∷ halves) - 1) - from_be_bytes w32 (drop 4 check) =
+            let same : bit_and padding 7 ≡ 8 * (length (check ∷ halves) - 1) - from_be_bytes w32
+            (drop 4 check) =
             omega (arith, masked, short, is_padding, is_bytes, bytes_small, few) in
             record {
-              check = sym (be_bytes_4 (take 4 check) first front f is_first) ∙ ap (to_be_bytes w32) equal;
+              check = sym (be_bytes_4 (take 4 check) first front f is_first)
+                  ∙ ap (to_be_bytes w32) equal;
               least = omega (arith, short, is_padding, is_bytes, bytes_small, few);
               most = omega (arith, short, is_padding, is_bytes, bytes_small, few);
               zeros = (λ j. drop (8 - sym same j) (last j))
-                  ∙ is_low.0 (omega (arith, le_or_r (bit_or x y) low, none)) ∙ ap (λ m. replicate m 0) same;
+                  ∙ is_low.0 (omega (arith, le_or_r (bit_or x y) low, none))
+                  ∙ ap (λ m. replicate m 0) same;
             },
         λ right.
             let equal : first ≡ 0xa65959a6 = is_first ∙ ap (from_be_bytes w32) right.check in
             let none : x ≡ 0 = omega (arith, equal) in
-            let short : y ≡ 0 = omega (arith, right.least, right.most, is_padding, is_bytes, bytes_small, few) in
-            let same : bit_and padding 7 ≡ 8 * (length (check ∷ halves) - 1) - from_be_bytes w32 (drop 4 check) =
+            let short : y ≡ 0 =
+            omega (arith, right.least, right.most, is_padding, is_bytes, bytes_small, few) in
+            let same : bit_and padding 7 ≡ 8 * (length (check ∷ halves) - 1) - from_be_bytes w32
+            (drop 4 check) =
             omega (arith, masked, short, is_padding, is_bytes, bytes_small, few, right.least) in
-            let zeros = (λ j. drop (8 - same j) (sym last j)) ∙ right.zeros ∙ ap (λ m. replicate m 0) (sym same) in
+            let zeros = (λ j. drop (8 - same j) (sym last j)) ∙ right.zeros
+            ∙ ap (λ m. replicate m 0) (sym same) in
             (λ j. bit_or (bit_or (none j) (short j)) (is_low.1 zeros j)),
       )

@@ -1,19 +1,22 @@
--- Steps of W in place: the semiblocks that the standard shifts by one in each step are here those from the next one on,
--- and then those before it.
-use Rattle.std.proofs.Common.{◌≡◌, ℕ, suc, ◌+◌, ◌-◌, ◌<◌, List, [], ◌∷◌, ◌++◌, length, get_or, set, take, drop}
-use Rattle.std.proofs.Common.{ap, sym, ◌∙◌, arith}
+-- Steps of W in place: the semiblocks that the standard shifts by one in each step are here those
+-- from the next one on, and then those before it.
+use Rattle.std.proofs.Common.{◌≡◌, ℕ, suc, ◌+◌, ◌-◌, ◌<◌, List, [], ◌∷◌, ◌++◌, length, get_or, set}
+use Rattle.std.proofs.Common.{take, drop, ap, sym, ◌∙◌, arith}
 use Rattle.std.proofs.Math.Seq.{drop-cons, get_or-append_seam}
-use Rattle.std.proofs.lemmas.List.{append_assoc, drop-set, drop-set-lt, length-append, take-append-le, take-set-le}
-use Rattle.std.proofs.lemmas.List.{take_all, take_more, take_more_set}
+use Rattle.std.proofs.lemmas.List.{append_assoc, drop-set, drop-set-lt, length-append}
+use Rattle.std.proofs.lemmas.List.{take-append-le, take-set-le, take_all, take_more, take_more_set}
 use Rattle.aes_planes.specs.Fips197.{cipher_with, inv_cipher_with}
-use Rattle.key_wrap.specs.KeyWrap.{number_added, unwrap_step, unwrapped_from, wrap_step, wrapped_after}
+use Rattle.key_wrap.specs.KeyWrap.{number_added, unwrap_step, unwrapped_from, wrap_step}
+use Rattle.key_wrap.specs.KeyWrap.{wrapped_after}
 
 -- the semiblocks in the order of the standard before the step with semiblock i
 abbrev pub turned : ℕ → List (List ℕ) → List (List ℕ)
 turned i rs = drop i rs ++ take i rs
 
+-- the semiblock whose turn it is stands before those that are left
 left : (xs : List (List ℕ)) (i : ℕ) → i < length xs → drop i xs ≡ get_or xs i [] ∷ drop (i + 1) xs
-left xs i lt = let n : suc i ≡ i + 1 = omega arith in drop-cons xs i [] lt ∙ ap (λ n. get_or xs i [] ∷ drop n xs) n
+left xs i lt = let n : suc i ≡ i + 1 = omega arith in drop-cons xs i [] lt
+    ∙ ap (λ n. get_or xs i [] ∷ drop n xs) n
 
 -- the inverse takes the last semiblock
 pub unwrap_last : (w : List (List ℕ)) (a : List ℕ) (rs : List (List ℕ)) (r : List ℕ) (t : ℕ)
@@ -45,7 +48,8 @@ module _ (w : List (List ℕ)) (a : List ℕ) (rs : List (List ℕ)) (i t : ℕ)
       ∙ sym (append_assoc (drop (i + 1) rs) (take i rs) (r_new ∷ [])) in
       ap (wrapped_after w s) n
       ∙ ap (wrap_step w (suc t)) (before ∙ ap (λ l. a ∷ (l ++ take i rs)) (left rs i lt))
-      ∙ ap (λ m. number_added (take 8 b) m ∷ ((drop (i + 1) rs ++ take i rs) ++ drop 8 b ∷ [])) (sym n)
+      ∙ ap (λ m. number_added (take 8 b) m
+      ∷ ((drop (i + 1) rs ++ take i rs) ++ drop 8 b ∷ [])) (sym n)
       ∙ (λ j. sym is_a j ∷ ((drop (i + 1) rs ++ take i rs) ++ sym is_r j ∷ []))
       ∙ ap (λ l. a_new ∷ l) (sym moved)
 
@@ -53,7 +57,8 @@ module _ (w : List (List ℕ)) (a : List ℕ) (rs : List (List ℕ)) (i t : ℕ)
   pub step_unwrapped : (a_new r_new : List ℕ)
       → a_new ≡ take 8 (inv_cipher_with w (number_added a (t + 1) ++ get_or rs i []))
       → r_new ≡ drop 8 (inv_cipher_with w (number_added a (t + 1) ++ get_or rs i []))
-      → unwrapped_from w (a_new ∷ turned i (set rs i r_new)) t ≡ unwrapped_from w (a ∷ turned (i + 1) rs) (t + 1)
+      → unwrapped_from w (a_new ∷ turned i (set rs i r_new)) t
+      ≡ unwrapped_from w (a ∷ turned (i + 1) rs) (t + 1)
   unfolding unwrapped_from
   step_unwrapped a_new r_new is_a is_r =
       let n : t + 1 ≡ suc t = omega arith in
@@ -63,7 +68,8 @@ module _ (w : List (List ℕ)) (a : List ℕ) (rs : List (List ℕ)) (i t : ℕ)
       let after : turned i (set rs i r_new) ≡ r_new ∷ others =
       (λ j. drop-set rs i r_new lt j ++ take-set-le i rs i r_new (omega arith) j) in
       let before : turned (i + 1) rs ≡ others ++ r ∷ [] =
-      ap (λ l. drop (i + 1) rs ++ l) (take_more rs i [] lt) ∙ sym (append_assoc (drop (i + 1) rs) (take i rs) (r ∷ []))
+      ap (λ l. drop (i + 1) rs ++ l) (take_more rs i [] lt)
+      ∙ sym (append_assoc (drop (i + 1) rs) (take i rs) (r ∷ []))
       in
       ap (λ l. unwrapped_from w (a_new ∷ l) t) after
       ∙ (λ j. unwrapped_from w (is_a j ∷ is_r j ∷ others) t)

@@ -8,29 +8,35 @@ use Rattle.std.specs.Int.{w64, w128, to_be_bytes, from_be_bytes}
 use Rattle.std.specs.Int.Bits.{xor_assoc, xor_self, xor_zero_r}
 use Rattle.std.specs.List.{All}
 use Rattle.aes_planes.specs.Fips197.{IsBlock, IsBytes, cipher_with, inv_cipher_with}
-use Rattle.key_wrap.specs.KeyWrap.{integrity_check, number_added, unwrap_step, unwrapped, unwrapped_from, wrap_step, wrapped}
-use Rattle.key_wrap.specs.KeyWrap.{wrapped_after, IsSemiblock}
+use Rattle.key_wrap.specs.KeyWrap.{integrity_check, number_added, unwrap_step, unwrapped}
+use Rattle.key_wrap.specs.KeyWrap.{unwrapped_from, wrap_step, wrapped, wrapped_after, IsSemiblock}
 use Rattle.key_wrap.specs.Padded.{block_or_steps, unwrapped_string, wrapped_string}
 use Rattle.aes_cipher.proofs.BlockNumbers.{number_block}
-use Rattle.key_wrap.proofs.Padding.{as_steps, first_bytes, last_bytes}
+use Rattle.aes_planes.proofs.Standard.States.{take_bytes, drop_bytes}
+use Rattle.key_wrap.proofs.Padding.{as_steps}
 use Rattle.key_wrap.proofs.Turns.{unwrap_last}
 
 -- ---- numbers added to semiblocks
 
 -- the bytes of a number are a semiblock
 number_semiblock : (n : ℕ) → IsSemiblock (to_be_bytes w64 n)
-number_semiblock n = (refl, last_bytes 8 (to_be_bytes w128 n) (number_block n).1)
+number_semiblock n = (refl, drop_bytes 8 (to_be_bytes w128 n) (number_block n).1)
 
+-- so a semiblock with a number added is one
 added_semiblock : (half : List ℕ) (t : ℕ) → IsSemiblock (number_added half t)
 unfolding number_added
 added_semiblock half t = number_semiblock (bit_xor (from_be_bytes w64 half) t)
 
-added_twice : (half : List ℕ) (t : ℕ) → IsSemiblock half → t < 2 ^ 64 → number_added (number_added half t) t ≡ half
+-- and adding the number once more gives the semiblock back
+added_twice : (half : List ℕ) (t : ℕ) → IsSemiblock half → t < 2 ^ 64
+    → number_added (number_added half t) t ≡ half
 unfolding number_added
 added_twice half t (long, small) lt =
     let n : ℕ = from_be_bytes w64 half in
-    let below : n < 2 ^ 64 = omega (arith, small 0, small 1, small 2, small 3, small 4, small 5, small 6, small 7) in
-    ap (λ m. to_be_bytes w64 (bit_xor m t)) (from_be_bytes-to_be_bytes_8 (bit_xor n t) (xor_lt 64 n t below lt))
+    let below : n < 2 ^ 64 =
+    omega (arith, small 0, small 1, small 2, small 3, small 4, small 5, small 6, small 7) in
+    ap (λ m. to_be_bytes w64 (bit_xor m t))
+    (from_be_bytes-to_be_bytes_8 (bit_xor n t) (xor_lt 64 n t below lt))
     ∙ ap (to_be_bytes w64) (xor_assoc n t t ∙ ap (bit_xor n) (xor_self t) ∙ xor_zero_r n)
     ∙ be_bytes_8 half n long small refl
 
@@ -38,29 +44,33 @@ added_twice half t (long, small) lt =
 module _ (w : List (List ℕ))
     (undone : (b : List ℕ) → IsBlock b → inv_cipher_with w (cipher_with w b) ≡ b)
     (block : (b : List ℕ) → IsBlock b → IsBlock (cipher_with w b))
-    (joined : (a b : List ℕ) → length a ≡ 8 → IsBytes a → length b ≡ 8 → IsBytes b → IsBlock (a ++ b))
+    (joined : (a b : List ℕ) → length a ≡ 8 → IsBytes a → length b ≡ 8 → IsBytes b
+    → IsBlock (a ++ b))
     (first : (a b : List ℕ) → length a ≡ 8 → take 8 (a ++ b) ≡ a)
     (second : (a b : List ℕ) → length a ≡ 8 → drop 8 (a ++ b) ≡ b)
     (back : (b : List ℕ) → take 8 b ++ drop 8 b ≡ b) where
+  -- the cipher of two semiblocks is a block, whose halves are semiblocks
   of_two : (a r : List ℕ) → IsSemiblock a → IsSemiblock r → IsBlock (cipher_with w (a ++ r))
   of_two a r is_a is_r = block (a ++ r) (joined a r is_a.0 is_a.1 is_r.0 is_r.1)
 
   high : (b : List ℕ) → IsBlock b → IsSemiblock (take 8 b)
-  high b is = (omega (arith, length-take 8 b, is.0), first_bytes 8 b is.1)
+  high b is = (omega (arith, length-take 8 b, is.0), take_bytes 8 b is.1)
 
   low : (b : List ℕ) → IsBlock b → IsSemiblock (drop 8 b)
-  low b is = (omega (arith, length-drop 8 b, is.0), last_bytes 8 b is.1)
+  low b is = (omega (arith, length-drop 8 b, is.0), drop_bytes 8 b is.1)
 
   -- the cipher of two halves, undone
   halves_back : (a r : List ℕ) → IsSemiblock a → IsSemiblock r
       → let b = cipher_with w (a ++ r) in
-      (take 8 (inv_cipher_with w (take 8 b ++ drop 8 b)) ≡ a) × (drop 8 (inv_cipher_with w (take 8 b ++ drop 8 b)) ≡ r)
+      (take 8 (inv_cipher_with w (take 8 b ++ drop 8 b)) ≡ a)
+      × (drop 8 (inv_cipher_with w (take 8 b ++ drop 8 b)) ≡ r)
   halves_back a r is_a is_r =
       let b : List ℕ = cipher_with w (a ++ r) in
       let whole : inv_cipher_with w (take 8 b ++ drop 8 b) ≡ a ++ r =
       ap (inv_cipher_with w) (back b) ∙ undone (a ++ r) (joined a r is_a.0 is_a.1 is_r.0 is_r.1) in
       (ap (take 8) whole ∙ first a r is_a.0, ap (drop 8) whole ∙ second a r is_a.0)
 
+  -- a step leaves semiblocks, as many as there were
   step_kept : (t : ℕ) (s : List (List ℕ)) → All IsSemiblock s → All IsSemiblock (wrap_step w t s)
   unfolding wrap_step
   step_kept t [] all = all
@@ -68,8 +78,10 @@ module _ (w : List (List ℕ))
   step_kept t (a ∷ r ∷ rs) all =
       let b : List ℕ = cipher_with w (a ++ r) in
       let rest : All IsSemiblock (r ∷ rs) = All-tail IsSemiblock a (r ∷ rs) all in
-      let is : IsBlock b = of_two a r (All-head IsSemiblock a (r ∷ rs) all) (All-head IsSemiblock r rs rest) in
-      All-cons IsSemiblock (number_added (take 8 b) t) (rs ++ drop 8 b ∷ []) (added_semiblock (take 8 b) t)
+      let is : IsBlock b =
+      of_two a r (All-head IsSemiblock a (r ∷ rs) all) (All-head IsSemiblock r rs rest) in
+      All-cons IsSemiblock (number_added (take 8 b) t) (rs ++ drop 8 b ∷ [])
+      (added_semiblock (take 8 b) t)
       (All-append IsSemiblock rs (drop 8 b ∷ []) (All-tail IsSemiblock r rs rest)
       (All-cons IsSemiblock (drop 8 b) [] (low b is) (All-nil IsSemiblock)))
 
@@ -77,8 +89,10 @@ module _ (w : List (List ℕ))
   unfolding wrap_step
   step_length t [] = refl
   step_length t (a ∷ []) = refl
-  step_length t (a ∷ r ∷ rs) = omega (arith, length-append rs (drop 8 (cipher_with w (a ++ r)) ∷ []))
+  step_length t (a ∷ r ∷ rs) =
+      omega (arith, length-append rs (drop 8 (cipher_with w (a ++ r)) ∷ []))
 
+  -- and the step of the inverse undoes it
   step_undone : (t : ℕ) (s : List (List ℕ)) → t < 2 ^ 64 → All IsSemiblock s → 2 ≤ length s
       → unwrap_step w t (wrap_step w t s) ≡ s
   unfolding wrap_step
@@ -96,7 +110,9 @@ module _ (w : List (List ℕ))
       ∙ (λ j. let d = inv_cipher_with w (added j ++ drop 8 b) in take 8 d ∷ drop 8 d ∷ rs)
       ∙ (λ j. two.0 j ∷ two.1 j ∷ rs)
 
-  after_kept : (s : List (List ℕ)) (t : ℕ) → All IsSemiblock s → All IsSemiblock (wrapped_after w s t)
+  -- so do the steps of all turns
+  after_kept : (s : List (List ℕ)) (t : ℕ) → All IsSemiblock s
+      → All IsSemiblock (wrapped_after w s t)
   unfolding wrapped_after
   after_kept s zero all = all
   after_kept s (suc t) all = step_kept (suc t) (wrapped_after w s t) (after_kept s t all)
@@ -113,11 +129,13 @@ module _ (w : List (List ℕ))
   after_undone s zero lt all some = refl
   after_undone s (suc t) lt all some =
       ap (λ l. unwrapped_from w l t)
-      (step_undone (suc t) (wrapped_after w s t) lt (after_kept s t all) (omega (arith, some, after_length s t)))
+      (step_undone (suc t) (wrapped_after w s t) lt (after_kept s t all)
+      (omega (arith, some, after_length s t)))
       ∙ after_undone s t (omega arith) all some
 
   -- KW undone
-  pub wrapped_undone : (key : List (List ℕ)) → All IsSemiblock key → 1 ≤ length key → length key < 2 ^ 54
+  pub wrapped_undone : (key : List (List ℕ)) → All IsSemiblock key → 1 ≤ length key
+      → length key < 2 ^ 54
       → unwrapped w (wrapped w key) ≡ integrity_check ∷ key
   unfolding unwrapped wrapped
   wrapped_undone key all some few =
@@ -126,7 +144,8 @@ module _ (w : List (List ℕ))
       let count : 6 * (length (wrapped_after w s t) - 1) ≡ t = omega (arith, after_length s t) in
       ap (unwrapped_from w (wrapped_after w s t)) count
       ∙ after_undone s t (omega (arith, few))
-      (All-cons IsSemiblock integrity_check key (number_semiblock 0xa6a6a6a6a6a6a6a6) all) (omega (arith, some))
+      (All-cons IsSemiblock integrity_check key (number_semiblock 0xa6a6a6a6a6a6a6a6) all)
+      (omega (arith, some))
 
   -- the same for two semiblocks or more
   pub string_undone : (s : List (List ℕ)) → All IsSemiblock s → 2 ≤ length s → length s < 2 ^ 54
@@ -136,7 +155,8 @@ module _ (w : List (List ℕ))
   string_undone (a ∷ []) all some few = absurd (omega arith)
   string_undone (a ∷ r ∷ []) all some few =
       let rest : All IsSemiblock (r ∷ []) = All-tail IsSemiblock a (r ∷ []) all in
-      let two = halves_back a r (All-head IsSemiblock a (r ∷ []) all) (All-head IsSemiblock r [] rest) in
+      let two = halves_back a r (All-head IsSemiblock a (r ∷ []) all)
+      (All-head IsSemiblock r [] rest) in
       (λ j. let b = cipher_with w (a ++ append-nil r j) in
       let d = inv_cipher_with w (take 8 b ++ append-nil (drop 8 b) j) in take 8 d ∷ drop 8 d ∷ [])
       ∙ (λ j. two.0 j ∷ two.1 j ∷ [])
@@ -147,5 +167,6 @@ module _ (w : List (List ℕ))
       let long = after_length s (6 * n) in
       ap (block_or_steps (inv_cipher_with w) (unwrapped_from w))
       (sym (as_steps (cipher_with w) (wrapped_after w) s n refl (λ two. omega (arith, two))))
-      ∙ sym (as_steps (inv_cipher_with w) (unwrapped_from w) c n (omega (arith, long)) (λ two. omega (arith, two, long)))
+      ∙ sym (as_steps (inv_cipher_with w) (unwrapped_from w) c n (omega (arith, long))
+      (λ two. omega (arith, two, long)))
       ∙ after_undone s (6 * n) (omega (arith, few)) all some

@@ -1,5 +1,6 @@
--- Key wrap (KW, SP 800-38F) over a block cipher of 16 bytes, given by its round keys w: CIPH_K is Cipher of FIPS 197 under
--- them. A semiblock is a list of 8 bytes; section and step numbers are those of SP 800-38F.
+-- Key wrap (KW, SP 800-38F) over a block cipher of 16 bytes, given by its round keys w: CIPH_K is
+-- Cipher of FIPS 197 under them. A semiblock is a list of 8 bytes; section and step numbers are
+-- those of SP 800-38F.
 use Rattle.std.specs.Prelude.{◌≡◌, ℕ, zero, suc, ◌+◌, ◌-◌, ◌*◌, ◌^◌, ◌<◌, ◌≤◌, List, [], ◌∷◌, ◌++◌}
 use Rattle.std.specs.Prelude.{drop, length, replicate, slice_index_or, take}
 use Rattle.std.specs.Int.{w64, to_be_bytes, from_be_bytes}

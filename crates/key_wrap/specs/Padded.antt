@@ -1,7 +1,8 @@
--- Key wrap with padding (KWP, SP 800-38F, 6.3) over a block cipher of 16 bytes, given by its round keys w. A key is a list
--- of bytes; a string of whole semiblocks is the list of these.
-use Rattle.std.specs.Prelude.{◌≡◌, ℕ, zero, suc, ◌+◌, ◌-◌, ◌*◌, ◌/◌, ◌^◌, ◌==◌, ◌<◌, ◌≤◌, if◌then◌else◌, List, [], ◌∷◌, ◌++◌}
-use Rattle.std.specs.Prelude.{drop, length, replicate, slice_index_or, take}
+-- Key wrap with padding (KWP, SP 800-38F, 6.3) over a block cipher of 16 bytes, given by its round
+-- keys w. A key is a list of bytes; a string of whole semiblocks is the list of these.
+use Rattle.std.specs.Prelude.{◌≡◌, ℕ, zero, suc, ◌+◌, ◌-◌, ◌*◌, ◌/◌, ◌^◌, ◌==◌, ◌<◌, ◌≤◌}
+use Rattle.std.specs.Prelude.{if◌then◌else◌, List, [], ◌∷◌, ◌++◌, drop, length, replicate}
+use Rattle.std.specs.Prelude.{slice_index_or, take}
 use Rattle.std.specs.List.{concat, slice_range}
 use Rattle.std.specs.Int.{w32, to_be_bytes, from_be_bytes}
 use Rattle.aes_planes.specs.Fips197 as fips
@@ -34,16 +35,19 @@ unfoldable pub headed : List ℕ → List (List ℕ)
 unfolding heading filled semiblocks padded
 headed key = heading (length key) ∷ semiblocks (padded key) (filled (length key))
 
--- a string through a cipher, if it is a block, which is too short for W; else through all steps of W or of its inverse
-unfoldable pub block_or_steps : (List ℕ → List ℕ) → (List (List ℕ) → ℕ → List (List ℕ)) → List (List ℕ) → List (List ℕ)
+-- a string through a cipher, if it is a block, which is too short for W; else through all steps of
+-- W or of its inverse
+unfoldable pub block_or_steps : (List ℕ → List ℕ) → (List (List ℕ) → ℕ → List (List ℕ))
+    → List (List ℕ) → List (List ℕ)
 block_or_steps f steps s = let b = f (concat s) in
     if length s == 2 then take 8 b ∷ drop 8 b ∷ [] else steps s (6 * (length s - 1))
 
--- C, of S, and S, of C (algorithms 5 and 6)
+-- C, of S (algorithm 5)
 unfoldable pub wrapped_string : List (List ℕ) → List (List ℕ) → List (List ℕ)
 unfolding block_or_steps wrapped_after
 wrapped_string w s = block_or_steps (fips.cipher_with w) (wrapped_after w) s
 
+-- S, of C (algorithm 6)
 unfoldable pub unwrapped_string : List (List ℕ) → List (List ℕ) → List (List ℕ)
 unfolding block_or_steps unwrapped_from
 unwrapped_string w s = block_or_steps (fips.inv_cipher_with w) (unwrapped_from w) s
@@ -62,8 +66,8 @@ unfoldable pub key_in : List (List ℕ) → List ℕ
 unfolding length_in
 key_in s = take (length_in s) (concat (drop 1 s))
 
--- the comparisons of KWP-AD, of S: ICV2; padlen, which is the bytes of all semiblocks but the first without Plen, is 0 to 7;
--- and the last padlen bytes are zeros (algorithm 6)
+-- the comparisons of KWP-AD, of S: ICV2; padlen, which is the bytes of all semiblocks but the first
+-- without Plen, is 0 to 7; and the last padlen bytes are zeros (algorithm 6)
 pub record IsPadded (s : List (List ℕ)) : Type 0 where
   pub check : take 4 (slice_index_or s 0 []) ≡ padded_check
   pub least : length_in s ≤ 8 * (length s - 1)

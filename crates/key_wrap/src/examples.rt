@@ -1,9 +1,10 @@
-//! Key wrap at values from outside, as contracts, so that a slip in a definition is refused: RFC 3394, 4.1, and RFC 5649, 6.
-//! The last two show that a key comes back, as callers can prove it.
+//! Key wrap at values from outside, as contracts, so that a slip in a definition is refused: RFC
+//! 3394, 4.1, and RFC 5649, 6. The last two show that a key comes back, as callers can prove it.
 //!
 //! `bytes n 0x..` is the n bytes that these digits write.
 
-ghost use Rattle.std.specs.Prelude.{◌≡◌, ◌↔◌, ◌+◌, ◌-◌, ◌*◌, ◌^◌, ◌∷◌, [], length, replicate, take, IfOk, IsOk, OnOk};
+ghost use Rattle.std.specs.Prelude.{◌≡◌, ◌↔◌, ◌+◌, ◌-◌, ◌*◌, ◌^◌, ◌∷◌, [], length, replicate, take};
+ghost use Rattle.std.specs.Prelude.{IfOk, IsOk, OnOk};
 ghost use Rattle.std.specs.List.{concat};
 ghost use Rattle.aes_planes.specs.BigEndian.{bytes};
 ghost use Rattle.aes_planes.specs.Fips197 as fips;
@@ -17,7 +18,8 @@ use crate::steps::Semiblock;
 use crate::wrapping::{unwrap, wrap};
 use aes_cipher::cipher::{BlockCipherDecrypt, BlockCipherEncrypt};
 
-/// How long a key may be, in semiblocks and in bytes, and the lengths on either side of these (SP 800-38F, 5.3.1).
+/// How long a key may be, in semiblocks and in bytes, and the lengths on either side of these (SP
+/// 800-38F, 5.3.1).
 #[tactic(auto, unfolding(crate::specs::Padded::filled))]
 pub fn count_examples()
     ensures one { ¬ Fit 1 2 }
@@ -34,8 +36,8 @@ pub fn count_examples()
     ensures too_many_filled { ¬ FitUnpadded (2 ^ 29 + 1) (2 ^ 29 + 2) }
 {}
 
-/// A step's number counts in all eight bytes of a semiblock: by hand, for the first step, for one whose number has more than
-/// 32 bits, and for the last one of the longest key.
+/// A step's number counts in all eight bytes of a semiblock: by hand, for the first step, for one
+/// whose number has more than 32 bits, and for the last one of the longest key.
 #[tactic(auto, unfolding(crate::specs::KeyWrap::number_added, aes_planes::specs::BigEndian::bytes))]
 pub fn number_examples()
     ensures first { number_added (replicate 8 0) 1 ≡ bytes 8 0x0000000000000001 }
@@ -43,54 +45,83 @@ pub fn number_examples()
     ensures last { number_added (replicate 8 0xa6) (6 * (2 ^ 54 - 1)) ≡ bytes 8 0xa7d959595959595c }
 {}
 
-// The blocks of the twelve steps of W: in each the first semiblock, and that of the key whose turn it is.
+// The blocks of the twelve steps of W: in each the first semiblock, and that of the key whose turn
+// it is.
 #[tactic(auto, using(aes_planes::proofs::OnLiterals::ciphers), unfolding(aes_planes::proofs::OnLiterals::aes_by_table))]
 fn encrypted_blocks()
-    ensures one { fips.cipher_with (fips.key_expansion (bytes 16 0x000102030405060708090a0b0c0d0e0f))
-        (bytes 16 0xa6a6a6a6a6a6a6a60011223344556677) ≡ bytes 16 0xf4740052e82a225174ce86fbd7b805e7 }
-    ensures two { fips.cipher_with (fips.key_expansion (bytes 16 0x000102030405060708090a0b0c0d0e0f))
-        (bytes 16 0xf4740052e82a22508899aabbccddeeff) ≡ bytes 16 0x06ba4ebde7768d0bd132ee38147e76f8 }
-    ensures three { fips.cipher_with (fips.key_expansion (bytes 16 0x000102030405060708090a0b0c0d0e0f))
-        (bytes 16 0x06ba4ebde7768d0974ce86fbd7b805e7) ≡ bytes 16 0xfc967627be937208fe6e8d679c5d3460 }
-    ensures four { fips.cipher_with (fips.key_expansion (bytes 16 0x000102030405060708090a0b0c0d0e0f))
-        (bytes 16 0xfc967627be93720bd132ee38147e76f8) ≡ bytes 16 0x5896ea9028ee203b07b2bd973e36a6fc }
-    ensures five { fips.cipher_with (fips.key_expansion (bytes 16 0x000102030405060708090a0b0c0d0e0f))
-        (bytes 16 0x5896ea9028ee203ffe6e8d679c5d3460) ≡ bytes 16 0x93aea71b258d90c325f5a3adc2195401 }
-    ensures six { fips.cipher_with (fips.key_expansion (bytes 16 0x000102030405060708090a0b0c0d0e0f))
-        (bytes 16 0x93aea71b258d90c607b2bd973e36a6fc) ≡ bytes 16 0xe3ee986344d878f7f14863bb1e9ca90a }
-    ensures seven { fips.cipher_with (fips.key_expansion (bytes 16 0x000102030405060708090a0b0c0d0e0f))
-        (bytes 16 0xe3ee986344d878f125f5a3adc2195401) ≡ bytes 16 0x2bfc21b2c20e4006b556d35ed8cef052 }
-    ensures eight { fips.cipher_with (fips.key_expansion (bytes 16 0x000102030405060708090a0b0c0d0e0f))
-        (bytes 16 0x2bfc21b2c20e4001f14863bb1e9ca90a) ≡ bytes 16 0x4be8ce99c0a43a7d64bae5818d0570bb }
-    ensures nine { fips.cipher_with (fips.key_expansion (bytes 16 0x000102030405060708090a0b0c0d0e0f))
-        (bytes 16 0x4be8ce99c0a43a75b556d35ed8cef052) ≡ bytes 16 0xebe1ce91067024f3be114b343eb00981 }
-    ensures ten { fips.cipher_with (fips.key_expansion (bytes 16 0x000102030405060708090a0b0c0d0e0f))
-        (bytes 16 0xebe1ce91067024fa64bae5818d0570bb) ≡ bytes 16 0x5a9c7b1f5b1c3b464fd3d2b7d74fbb42 }
-    ensures eleven { fips.cipher_with (fips.key_expansion (bytes 16 0x000102030405060708090a0b0c0d0e0f))
-        (bytes 16 0x5a9c7b1f5b1c3b4cbe114b343eb00981) ≡ bytes 16 0x93b71967eed41ffcaef34bd8fb5a7b82 }
-    ensures twelve { fips.cipher_with (fips.key_expansion (bytes 16 0x000102030405060708090a0b0c0d0e0f))
-        (bytes 16 0x93b71967eed41ff74fd3d2b7d74fbb42) ≡ bytes 16 0x1fa68b0a8112b44b9d3e862371d2cfe5 }
+    ensures one { fips.cipher_with
+        (fips.key_expansion (bytes 16 0x000102030405060708090a0b0c0d0e0f))
+        (bytes 16 0xa6a6a6a6a6a6a6a60011223344556677)
+        ≡ bytes 16 0xf4740052e82a225174ce86fbd7b805e7 }
+    ensures two { fips.cipher_with
+        (fips.key_expansion (bytes 16 0x000102030405060708090a0b0c0d0e0f))
+        (bytes 16 0xf4740052e82a22508899aabbccddeeff)
+        ≡ bytes 16 0x06ba4ebde7768d0bd132ee38147e76f8 }
+    ensures three { fips.cipher_with
+        (fips.key_expansion (bytes 16 0x000102030405060708090a0b0c0d0e0f))
+        (bytes 16 0x06ba4ebde7768d0974ce86fbd7b805e7)
+        ≡ bytes 16 0xfc967627be937208fe6e8d679c5d3460 }
+    ensures four { fips.cipher_with
+        (fips.key_expansion (bytes 16 0x000102030405060708090a0b0c0d0e0f))
+        (bytes 16 0xfc967627be93720bd132ee38147e76f8)
+        ≡ bytes 16 0x5896ea9028ee203b07b2bd973e36a6fc }
+    ensures five { fips.cipher_with
+        (fips.key_expansion (bytes 16 0x000102030405060708090a0b0c0d0e0f))
+        (bytes 16 0x5896ea9028ee203ffe6e8d679c5d3460)
+        ≡ bytes 16 0x93aea71b258d90c325f5a3adc2195401 }
+    ensures six { fips.cipher_with
+        (fips.key_expansion (bytes 16 0x000102030405060708090a0b0c0d0e0f))
+        (bytes 16 0x93aea71b258d90c607b2bd973e36a6fc)
+        ≡ bytes 16 0xe3ee986344d878f7f14863bb1e9ca90a }
+    ensures seven { fips.cipher_with
+        (fips.key_expansion (bytes 16 0x000102030405060708090a0b0c0d0e0f))
+        (bytes 16 0xe3ee986344d878f125f5a3adc2195401)
+        ≡ bytes 16 0x2bfc21b2c20e4006b556d35ed8cef052 }
+    ensures eight { fips.cipher_with
+        (fips.key_expansion (bytes 16 0x000102030405060708090a0b0c0d0e0f))
+        (bytes 16 0x2bfc21b2c20e4001f14863bb1e9ca90a)
+        ≡ bytes 16 0x4be8ce99c0a43a7d64bae5818d0570bb }
+    ensures nine { fips.cipher_with
+        (fips.key_expansion (bytes 16 0x000102030405060708090a0b0c0d0e0f))
+        (bytes 16 0x4be8ce99c0a43a75b556d35ed8cef052)
+        ≡ bytes 16 0xebe1ce91067024f3be114b343eb00981 }
+    ensures ten { fips.cipher_with
+        (fips.key_expansion (bytes 16 0x000102030405060708090a0b0c0d0e0f))
+        (bytes 16 0xebe1ce91067024fa64bae5818d0570bb)
+        ≡ bytes 16 0x5a9c7b1f5b1c3b464fd3d2b7d74fbb42 }
+    ensures eleven { fips.cipher_with
+        (fips.key_expansion (bytes 16 0x000102030405060708090a0b0c0d0e0f))
+        (bytes 16 0x5a9c7b1f5b1c3b4cbe114b343eb00981)
+        ≡ bytes 16 0x93b71967eed41ffcaef34bd8fb5a7b82 }
+    ensures twelve { fips.cipher_with
+        (fips.key_expansion (bytes 16 0x000102030405060708090a0b0c0d0e0f))
+        (bytes 16 0x93b71967eed41ff74fd3d2b7d74fbb42)
+        ≡ bytes 16 0x1fa68b0a8112b44b9d3e862371d2cfe5 }
 {}
 
 // The block of a key of seven bytes with its padding.
 #[tactic(auto, using(aes_planes::proofs::OnLiterals::ciphers), unfolding(aes_planes::proofs::OnLiterals::aes_by_table))]
 fn encrypted_padded_block()
-    ensures { fips.cipher_with (fips.key_expansion (bytes 24 0x5840df6e29b02af1ab493b705bf16ea1ae8338f4dcc176a8))
-        (bytes 16 0xa65959a600000007466f725061736900) ≡ bytes 16 0xafbeb0f07dfbf5419200f2ccb50bb24f }
+    ensures { fips.cipher_with
+        (fips.key_expansion (bytes 24 0x5840df6e29b02af1ab493b705bf16ea1ae8338f4dcc176a8))
+        (bytes 16 0xa65959a600000007466f725061736900)
+        ≡ bytes 16 0xafbeb0f07dfbf5419200f2ccb50bb24f }
 {}
 
 /// A key of two semiblocks, wrapped.
 pub fn wrapped_128_example()
     ensures { wrapped (fips.key_expansion (bytes 16 0x000102030405060708090a0b0c0d0e0f))
         (bytes 8 0x0011223344556677 ∷ bytes 8 0x8899aabbccddeeff ∷ [])
-        ≡ bytes 8 0x1fa68b0a8112b447 ∷ bytes 8 0xaef34bd8fb5a7b82 ∷ bytes 8 0x9d3e862371d2cfe5 ∷ [] }
+        ≡ bytes 8 0x1fa68b0a8112b447 ∷ bytes 8 0xaef34bd8fb5a7b82
+        ∷ bytes 8 0x9d3e862371d2cfe5 ∷ [] }
 {
     encrypted_blocks();
 }
 
 /// A key of seven bytes, padded and wrapped.
 pub fn padded_192_example()
-    ensures { wrapped_padded (fips.key_expansion (bytes 24 0x5840df6e29b02af1ab493b705bf16ea1ae8338f4dcc176a8))
+    ensures { wrapped_padded
+        (fips.key_expansion (bytes 24 0x5840df6e29b02af1ab493b705bf16ea1ae8338f4dcc176a8))
         (bytes 7 0x466f7250617369) ≡ bytes 8 0xafbeb0f07dfbf541 ∷ bytes 8 0x9200f2ccb50bb24f ∷ [] }
 {
     encrypted_padded_block();
@@ -107,7 +138,8 @@ pub fn there_and_back<C: BlockCipherEncrypt + BlockCipherDecrypt>(
     sealed: &mut [Semiblock],
     back: &mut [Semiblock],
 ) -> Result<(), InvalidCount>
-    ensures done { IsOk result ↔ Fit (length key.now) (length sealed.old) × (length back.old ≡ length key.now) }
+    ensures done { IsOk result ↔ Fit (length key.now) (length sealed.old)
+        × (length back.old ≡ length key.now) }
     ensures sealed { OnOk result (sealed.new ≡ wrapped (C.round_keys cipher.now) key.now) }
     ensures back { OnOk result (back.new ≡ key.now) }
 {
@@ -121,7 +153,8 @@ pub fn there_and_back<C: BlockCipherEncrypt + BlockCipherDecrypt>(
     }
 }
 
-/// Pads and wraps a key, and unwraps it again: it isn't refused, and the first bytes of what comes back are the key.
+/// Pads and wraps a key, and unwraps it again: it isn't refused, and the first bytes of what comes
+/// back are the key.
 ///
 /// # Errors
 ///
@@ -133,7 +166,8 @@ pub fn padded_there_and_back<C: BlockCipherEncrypt + BlockCipherDecrypt>(
     back: &mut [Semiblock],
 ) -> Result<u32, InvalidCount>
     ensures done { IsOk result
-        ↔ FitPadded (length key.now) (length sealed.old) × (length back.old ≡ filled (length key.now)) }
+        ↔ FitPadded (length key.now) (length sealed.old)
+        × (length back.old ≡ filled (length key.now)) }
     ensures sealed { OnOk result (sealed.new ≡ wrapped_padded (C.round_keys cipher.now) key.now) }
     ensures back { IfOk result (λ count. take count (concat back.new) ≡ key.now) }
 {

@@ -24,8 +24,8 @@ pub fn are_semiblocks(key: &[Semiblock])
     }
 }
 
-/// No effect; states that unwrapping undoes wrapping, under round keys of the standard: the key comes back, and the
-/// semiblock before it is the integrity check (KW, 6.2).
+/// No effect; states that unwrapping undoes wrapping, under round keys of the standard: the key
+/// comes back, and the semiblock before it is the integrity check (KW, 6.2).
 pub fn wrapping_undone()
     ensures { (w key : List (List ℕ)) → fips.AreRoundKeys w → All IsSemiblock key → 1 ≤ length key →
         length key < 2 ^ 54 → unwrapped w (wrapped w key) ≡ integrity_check ∷ key }
@@ -35,11 +35,13 @@ pub fn wrapping_undone()
     halves_and_blocks();
 }
 
-/// No effect; states that unwrapping undoes wrapping with padding, under round keys of the standard: no key is refused, and
-/// each comes back (KWP, 6.3).
+/// No effect; states that unwrapping undoes wrapping with padding, under round keys of the
+/// standard: no key is refused, and each comes back (KWP, 6.3).
 pub fn padding_undone()
-    ensures { (w : List (List ℕ)) (key : List ℕ) → fips.AreRoundKeys w → fips.IsBytes key → 1 ≤ length key →
-        length key < 2 ^ 32 → let s = unwrapped_string w (wrapped_padded w key) in IsPadded s × (key_in s ≡ key) }
+    ensures { (w : List (List ℕ)) (key : List ℕ) → fips.AreRoundKeys w → fips.IsBytes key
+        → 1 ≤ length key →
+        length key < 2 ^ 32 → let s = unwrapped_string w (wrapped_padded w key) in IsPadded s
+        × (key_in s ≡ key) }
 {
     laws::inverse_ciphers_with();
     laws::sums_of_blocks();

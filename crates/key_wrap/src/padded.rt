@@ -1,10 +1,13 @@
-//! Keys of any number of bytes, wrapped with padding (KWP, SP 800-38F, 6.3; RFC 5649), and unwrapped.
+//! Keys of any number of bytes, wrapped with padding (KWP, SP 800-38F, 6.3; RFC 5649), and
+//! unwrapped.
 
-ghost use Rattle.std.specs.Prelude.{◌≡◌, ◌↔◌, ◌+◌, ◌-◌, ◌*◌, ◌^◌, ◌<◌, ◌≤◌, ◌∷◌, ◌++◌, [], drop, length, replicate, take};
-ghost use Rattle.std.specs.Prelude.{IfOk, IsErrOf, IsOk, IsTrue, OnErr, OnOk};
+ghost use Rattle.std.specs.Prelude.{◌≡◌, ◌↔◌, ◌+◌, ◌-◌, ◌*◌, ◌^◌, ◌<◌, ◌≤◌, ◌∷◌, ◌++◌, [], drop};
+ghost use Rattle.std.specs.Prelude.{length, replicate, take, IfOk, IsErrOf, IsOk, IsTrue, OnErr};
+ghost use Rattle.std.specs.Prelude.{OnOk};
 ghost use Rattle.std.specs.Int.{w32, from_be_bytes};
-ghost use Rattle.key_wrap.specs.Padded.{filled, heading, padded, padded_check, semiblocks, unwrapped_string};
-ghost use Rattle.key_wrap.specs.Padded.{wrapped_padded, FitPadded, FitUnpadded, IsPadded};
+ghost use Rattle.key_wrap.specs.Padded.{filled, heading, padded, padded_check, semiblocks};
+ghost use Rattle.key_wrap.specs.Padded.{unwrapped_string, wrapped_padded, FitPadded, FitUnpadded};
+ghost use Rattle.key_wrap.specs.Padded.{IsPadded};
 
 use crate::errors::{InvalidCount, NotUnwrapped};
 use crate::steps::{Semiblock, unwrap_string, wrap_string};
@@ -17,12 +20,13 @@ const PADDED_CHECK: u32 = 0xa65959a6;
 // The most semiblocks that a key fills.
 const MOST_FILLED: u64 = 1 << 29;
 
-/// Pads and wraps a key of one byte or more (KWP-AE): `output` has one semiblock more than the key fills.
+/// Pads and wraps a key of one byte or more (KWP-AE): `output` has one semiblock more than the key
+/// fills.
 ///
 /// # Errors
 ///
-/// `InvalidCount` exactly if the key is empty or has 2^32 bytes or more, or the output is of another length than one
-/// semiblock more than the key fills; it is then unchanged.
+/// `InvalidCount` exactly if the key is empty or has 2^32 bytes or more, or the output is of
+/// another length than one semiblock more than the key fills; it is then unchanged.
 #[tactic(auto, unfolding(crate::specs::Padded::filled))]
 #[inline(never)]
 pub fn wrap_padded<C: BlockCipherEncrypt>(
@@ -88,27 +92,30 @@ fn semiblock_at(bytes: &[u8], start: usize) -> Semiblock
     half
 }
 
-/// Unwraps a key that was wrapped with padding (KWP-AD): `output` has one semiblock less than `sealed`. Returns how many
-/// bytes the key has, the first ones of the output; zeros follow. It branches on lengths, and once on whether all that
-/// it compares is right.
+/// Unwraps a key that was wrapped with padding (KWP-AD): `output` has one semiblock less than
+/// `sealed`. Returns how many bytes the key has, the first ones of the output; zeros follow. It
+/// branches on lengths, and once on whether all that it compares is right.
 ///
 /// # Errors
 ///
-/// `InvalidCount` exactly if no key becomes so many semiblocks, or the output is of another length; it is then unchanged.
-/// Else `Refused` exactly if the key was not wrapped with padding under this cipher's; the output is then zeros.
+/// `InvalidCount` exactly if no key becomes so many semiblocks, or the output is of another length;
+/// it is then unchanged. Else `Refused` exactly if the key was not wrapped with padding under this
+/// cipher's; the output is then zeros.
 #[inline(never)]
 pub fn unwrap_padded<C: BlockCipherDecrypt>(
     cipher: &C,
     sealed: &[Semiblock],
     output: &mut [Semiblock],
 ) -> Result<u32, NotUnwrapped>
-    ensures invalid { IsErrOf result NotUnwrapped.InvalidCount ↔ ¬ FitUnpadded (length output.old) (length sealed.now) }
+    ensures invalid { IsErrOf result NotUnwrapped.InvalidCount ↔ ¬ FitUnpadded (length output.old)
+        (length sealed.now) }
     ensures done { IsOk result ↔ FitUnpadded (length output.old) (length sealed.now)
         × IsPadded (unwrapped_string (C.round_keys cipher.now) sealed.now) }
     ensures key { IfOk result (λ bytes.
         heading bytes ∷ output.new ≡ unwrapped_string (C.round_keys cipher.now) sealed.now) }
     ensures untouched { IsErrOf result NotUnwrapped.InvalidCount → output.new ≡ output.old }
-    ensures zeros { IsErrOf result NotUnwrapped.Refused → output.new ≡ replicate (length output.old) (replicate 8 0) }
+    ensures zeros { IsErrOf result NotUnwrapped.Refused
+        → output.new ≡ replicate (length output.old) (replicate 8 0) }
 {
     let count = output.len() as u64;
     if count == 0 || count > MOST_FILLED || sealed.len() != output.len() + 1 {
@@ -123,8 +130,9 @@ pub fn unwrap_padded<C: BlockCipherDecrypt>(
     Ok(length_in(&check))
 }
 
-// Whether the semiblocks are those of a key with its padding, `check` the first of them. It looks at all that it compares
-// before it answers: what is wrong is put together, and nothing is if that is 0.
+// Whether the semiblocks are those of a key with its padding, `check` the first of them. It looks
+// at all that it compares before it answers: what is wrong is put together, and nothing is if that
+// is 0.
 fn is_padded(check: &Semiblock, halves: &[Semiblock]) -> bool
     requires some { 1 ≤ length halves.now }
     requires few { length halves.now ≤ 2 ^ 29 }

@@ -1,7 +1,8 @@
-//! The wrapping function W and its inverse (SP 800-38F, 6.1), in place: six turns over the semiblocks of a key; and what stands
-//! for W where it has too few.
+//! The wrapping function W and its inverse (SP 800-38F, 6.1), in place: six turns over the
+//! semiblocks of a key; and what stands for W where it has too few.
 
-ghost use Rattle.std.specs.Prelude.{◌≡◌, ◌+◌, ◌*◌, ◌^◌, ◌<◌, ◌≤◌, List, ℕ, ◌∷◌, ◌++◌, drop, length, take};
+ghost use Rattle.std.specs.Prelude.{◌≡◌, ◌+◌, ◌*◌, ◌^◌, ◌<◌, ◌≤◌, List, ℕ, ◌∷◌, ◌++◌, drop, length};
+ghost use Rattle.std.specs.Prelude.{take};
 ghost use Rattle.aes_planes.specs.Fips197 as fips;
 ghost use Rattle.key_wrap.specs.KeyWrap.{number_added, unwrapped_from, wrapped_after};
 ghost use Rattle.key_wrap.specs.Padded.{unwrapped_string, wrapped_string};
@@ -24,8 +25,10 @@ fn add_number(half: &Semiblock, number: u64) -> Semiblock
 
 // Encrypts the block that two semiblocks form.
 fn encrypt_halves<C: BlockCipherEncrypt>(cipher: &C, first: &mut Semiblock, second: &mut Semiblock)
-    ensures first { let b = fips.cipher_with (C.round_keys cipher.now) (first.old ++ second.old) in first.new ≡ take 8 b }
-    ensures second { let b = fips.cipher_with (C.round_keys cipher.now) (first.old ++ second.old) in second.new ≡ drop 8 b }
+    ensures first { let b = fips.cipher_with (C.round_keys cipher.now) (first.old ++ second.old) in
+        first.new ≡ take 8 b }
+    ensures second { let b = fips.cipher_with (C.round_keys cipher.now) (first.old ++ second.old) in
+        second.new ≡ drop 8 b }
 {
     let mut block = block_of_halves(first, second);
     cipher.encrypt_block(&mut block);
@@ -84,11 +87,14 @@ pub(crate) fn wrap_in_place<C: BlockCipherEncrypt>(
     }
 }
 
-// Decrypts the block that two semiblocks form, and overwrites it: half of it can be a piece of a key.
+// Decrypts the block that two semiblocks form, and overwrites it: half of it can be a piece of a
+// key.
 fn decrypt_halves<C: BlockCipherDecrypt>(cipher: &C, first: &mut Semiblock, second: &mut Semiblock)
-    ensures first { let b = fips.inv_cipher_with (C.round_keys cipher.now) (first.old ++ second.old) in
+    ensures first { let b =
+        fips.inv_cipher_with (C.round_keys cipher.now) (first.old ++ second.old) in
         first.new ≡ take 8 b }
-    ensures second { let b = fips.inv_cipher_with (C.round_keys cipher.now) (first.old ++ second.old) in
+    ensures second { let b =
+        fips.inv_cipher_with (C.round_keys cipher.now) (first.old ++ second.old) in
         second.new ≡ drop 8 b }
 {
     let mut room = [block_of_halves(first, second)];
@@ -106,9 +112,11 @@ fn unwrap_step<C: BlockCipherDecrypt>(
     half: &mut Semiblock,
     number: u64,
 )
-    ensures check { let b = fips.inv_cipher_with (C.round_keys cipher.now) (number_added check.old number ++ half.old)
+    ensures check { let b =
+        fips.inv_cipher_with (C.round_keys cipher.now) (number_added check.old number ++ half.old)
         in check.new ≡ take 8 b }
-    ensures half { let b = fips.inv_cipher_with (C.round_keys cipher.now) (number_added check.old number ++ half.old)
+    ensures half { let b =
+        fips.inv_cipher_with (C.round_keys cipher.now) (number_added check.old number ++ half.old)
         in half.new ≡ drop 8 b }
 {
     *check = add_number(check, number);
@@ -150,7 +158,8 @@ pub(crate) fn unwrap_in_place<C: BlockCipherDecrypt>(
     }
 }
 
-/// W, or for two semiblocks, which are a block, its encryption: `check` is the first, and `halves` are the others.
+/// W, or for two semiblocks, which are a block, its encryption: `check` is the first, and `halves`
+/// are the others.
 pub(crate) fn wrap_string<C: BlockCipherEncrypt>(
     cipher: &C,
     check: &mut Semiblock,
@@ -158,7 +167,8 @@ pub(crate) fn wrap_string<C: BlockCipherEncrypt>(
 )
     requires some { 1 ≤ length halves.old }
     requires few { length halves.old < 2 ^ 54 }
-    ensures { check.new ∷ halves.new ≡ wrapped_string (C.round_keys cipher.now) (check.old ∷ halves.old) }
+    ensures { check.new ∷ halves.new ≡ wrapped_string (C.round_keys cipher.now)
+        (check.old ∷ halves.old) }
 {
     if halves.len() == 1 {
         encrypt_halves(cipher, check, &mut halves[0]);
@@ -175,7 +185,8 @@ pub(crate) fn unwrap_string<C: BlockCipherDecrypt>(
 )
     requires some { 1 ≤ length halves.old }
     requires few { length halves.old < 2 ^ 54 }
-    ensures { check.new ∷ halves.new ≡ unwrapped_string (C.round_keys cipher.now) (check.old ∷ halves.old) }
+    ensures { check.new ∷ halves.new ≡ unwrapped_string (C.round_keys cipher.now)
+        (check.old ∷ halves.old) }
 {
     if halves.len() == 1 {
         decrypt_halves(cipher, check, &mut halves[0]);

@@ -1,6 +1,7 @@
 //! Keys, wrapped and unwrapped from one buffer to another.
 
-ghost use Rattle.std.specs.Prelude.{◌≡◌, ◌≢◌, ◌↔◌, ◌⊎◌, ◌+◌, ◌^◌, ◌<◌, ◌≤◌, ◌∷◌, length, replicate, slice_index_or, IsErrOf, IsOk, IsTrue, OnErr, OnOk, []};
+ghost use Rattle.std.specs.Prelude.{◌≡◌, ◌≢◌, ◌↔◌, ◌⊎◌, ◌+◌, ◌^◌, ◌<◌, ◌≤◌, ◌∷◌, length, replicate};
+ghost use Rattle.std.specs.Prelude.{slice_index_or, IsErrOf, IsOk, IsTrue, OnErr, OnOk, []};
 ghost use Rattle.key_wrap.specs.KeyWrap.{integrity_check, unwrapped, wrapped, Fit};
 
 use crate::errors::{InvalidCount, NotUnwrapped};
@@ -25,8 +26,8 @@ fn is_allowed(count: usize) -> bool
 ///
 /// # Errors
 ///
-/// `InvalidCount` exactly if the key has fewer than two semiblocks or 2^54 or more, or the output is of another length
-/// than one semiblock more than the key; it is then unchanged.
+/// `InvalidCount` exactly if the key has fewer than two semiblocks or 2^54 or more, or the output
+/// is of another length than one semiblock more than the key; it is then unchanged.
 #[inline(never)]
 pub fn wrap<C: BlockCipherEncrypt>(
     cipher: &C,
@@ -73,24 +74,29 @@ fn unwrap_all<C: BlockCipherDecrypt>(
     check
 }
 
-/// Unwraps a key (KW-AD, 6.2): `output` has one semiblock less than `sealed`. Compares without an early exit.
+/// Unwraps a key (KW-AD, 6.2): `output` has one semiblock less than `sealed`. Compares without an
+/// early exit.
 ///
 /// # Errors
 ///
-/// `InvalidCount` exactly if no key becomes so many semiblocks, or the output is of another length; it is then unchanged.
-/// Else `Refused` exactly if the key was not wrapped under this cipher's; the output is then zeros.
+/// `InvalidCount` exactly if no key becomes so many semiblocks, or the output is of another length;
+/// it is then unchanged. Else `Refused` exactly if the key was not wrapped under this cipher's; the
+/// output is then zeros.
 #[inline(never)]
 pub fn unwrap<C: BlockCipherDecrypt>(
     cipher: &C,
     sealed: &[Semiblock],
     output: &mut [Semiblock],
 ) -> Result<(), NotUnwrapped>
-    ensures invalid { IsErrOf result NotUnwrapped.InvalidCount ↔ ¬ Fit (length output.old) (length sealed.now) }
+    ensures invalid { IsErrOf result NotUnwrapped.InvalidCount ↔ ¬ Fit (length output.old)
+        (length sealed.now) }
     ensures done { IsOk result ↔ Fit (length output.old) (length sealed.now)
         × (slice_index_or (unwrapped (C.round_keys cipher.now) sealed.now) 0 [] ≡ integrity_check) }
-    ensures key { OnOk result (integrity_check ∷ output.new ≡ unwrapped (C.round_keys cipher.now) sealed.now) }
+    ensures key { OnOk result (integrity_check ∷ output.new
+        ≡ unwrapped (C.round_keys cipher.now) sealed.now) }
     ensures untouched { IsErrOf result NotUnwrapped.InvalidCount → output.new ≡ output.old }
-    ensures zeros { IsErrOf result NotUnwrapped.Refused → output.new ≡ replicate (length output.old) (replicate 8 0) }
+    ensures zeros { IsErrOf result NotUnwrapped.Refused
+        → output.new ≡ replicate (length output.old) (replicate 8 0) }
 {
     if !is_allowed(output.len()) || sealed.len() != output.len() + 1 {
         return Err(NotUnwrapped::InvalidCount);

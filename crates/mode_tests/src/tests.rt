@@ -1,10 +1,12 @@
 //! What no clause says: that the modes answer, with the standards' values, over ciphers of each size of keys.
 
+mod cases;
 mod chains;
 mod generators;
 mod keys;
 mod padded;
 mod pieces;
+mod siv;
 mod tags;
 mod whole;
 mod wraps;

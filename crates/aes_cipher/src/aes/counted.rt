@@ -42,8 +42,8 @@ pub trait CountsLayers: StoredKeys {
 }
 
 impl<S: CountsLayers, D> AesCipher<S, D> {
-    /// Makes a value from a key, and counts the S-box layers of KeyExpansion (FIPS 197, 5.2): 10, 8 or 13 with a key of
-    /// 16, 24 or 32 bytes.
+    /// Makes a value from a key, and counts the S-box layers of KeyExpansion (FIPS 197, 5.2): 10, 8
+    /// or 13 with a key of 16, 24 or 32 bytes.
     pub fn new_counted(key: &<S::Size as KeySize>::Key, layers: &mut Layers) -> AesCipher<S, D>
         ensures made { result ≡ S.Size.bytes key.now }
         ensures layers { layers.new ≡ layers.old + S.SCHEDULE_LAYERS }
@@ -59,8 +59,8 @@ impl<S: CountsLayers, D> AesCipher<S, D> {
 }
 
 impl<S: CountsLayers, D: Allows<Encrypt>> AesCipher<S, D> {
-    /// Encrypts each block in place (Cipher, FIPS 197, 5.1), and counts the S-box layers: as many as the cipher has
-    /// rounds for each whole batch, and as many for each block after them.
+    /// Encrypts each block in place (Cipher, FIPS 197, 5.1), and counts the S-box layers: as many
+    /// as the cipher has rounds for each whole batch, and as many for each block after them.
     #[inline(always)]
     pub fn encrypt_blocks_counted(&self, blocks: &mut [Block], layers: &mut Layers)
         ensures blocks { Each (fips.cipher self.now) blocks.old blocks.new }
@@ -71,8 +71,8 @@ impl<S: CountsLayers, D: Allows<Encrypt>> AesCipher<S, D> {
 }
 
 impl<S: CountsLayers, D: Allows<Decrypt>> AesCipher<S, D> {
-    /// Decrypts each block in place (InvCipher, FIPS 197, 5.3), and counts the S-box layers: as many as the cipher has
-    /// rounds for each whole batch, and as many for each block after them.
+    /// Decrypts each block in place (InvCipher, FIPS 197, 5.3), and counts the S-box layers: as
+    /// many as the cipher has rounds for each whole batch, and as many for each block after them.
     #[inline(always)]
     pub fn decrypt_blocks_counted(&self, blocks: &mut [Block], layers: &mut Layers)
         ensures blocks { Each (fips.inv_cipher self.now) blocks.old blocks.new }

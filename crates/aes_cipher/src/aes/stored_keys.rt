@@ -11,8 +11,8 @@ use crate::cipher::{
 
 /// The stored round keys of a key, in some form. Contracts see the key that they are read as.
 ///
-/// Whoever implements it answers for the wipe: a drop has to overwrite the round keys. No clause asks for it, and
-/// `AesCipher` has the mark `ZeroizeOnDrop` over every form.
+/// Whoever implements it answers for the wipe: a drop has to overwrite the round keys. No clause
+/// asks for it, and `AesCipher` has the mark `ZeroizeOnDrop` over every form.
 pub trait StoredKeys: Drop {
     /// The size of the key.
     type Size: KeySize;
@@ -64,13 +64,14 @@ pub trait Processes<D: Direction>: StoredKeys {
     /// Processes each block of a slice in place.
     fn process_slice(&self, blocks: &mut [Block])
         requires keyed { Self.AreKeyed self.now }
-        ensures { Each (D.processed (fips.key_expansion (Self.key self.now))) blocks.old blocks.new };
+        ensures { Each (D.processed (fips.key_expansion (Self.key self.now)))
+            blocks.old blocks.new };
 }
 
 /// Stored round keys under which blocks are encrypted.
 pub trait Encrypts: Processes<Encrypt> {
-    /// Calls the closure once, with a backend of the round keys that suits this number of blocks. The number affects
-    /// speed and nothing else.
+    /// Calls the closure once, with a backend of the round keys that suits this number of blocks.
+    /// The number affects speed and nothing else.
     fn encrypt_with_backend_for<F: BlockCipherEncClosure>(&self, blocks: usize, f: &mut F)
         requires keyed { Self.AreKeyed self.now }
         ensures { F.did f.old (fips.key_expansion (Self.key self.now)) f.new };
@@ -78,8 +79,8 @@ pub trait Encrypts: Processes<Encrypt> {
 
 /// Stored round keys under which blocks are decrypted.
 pub trait Decrypts: Processes<Decrypt> {
-    /// Calls the closure once, with a backend of the round keys that suits this number of blocks. The number affects
-    /// speed and nothing else.
+    /// Calls the closure once, with a backend of the round keys that suits this number of blocks.
+    /// The number affects speed and nothing else.
     fn decrypt_with_backend_for<F: BlockCipherDecClosure>(&self, blocks: usize, f: &mut F)
         requires keyed { Self.AreKeyed self.now }
         ensures { F.did f.old (fips.key_expansion (Self.key self.now)) f.new };

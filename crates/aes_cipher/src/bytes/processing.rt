@@ -8,7 +8,8 @@ ghost use Rattle.aes_cipher.specs.Blocks.{blocks_of, Sixteens};
 use super::PartialBlock;
 use crate::cipher::{Block, CipherIn, Direction};
 
-// How many blocks are handed to a cipher at once: batches of any backend here, in a kibibyte of the stack.
+// How many blocks are handed to a cipher at once: batches of any
+// backend here, in a kibibyte of the stack.
 const BLOCKS_AT_ONCE: usize = 64;
 
 // No effect; states that each block of a program has sixteen bytes.
@@ -16,12 +17,13 @@ fn have_sixteen(blocks: &[Block])
     ensures { Sixteens blocks.now }
 {}
 
-// Processes bytes by way of as many blocks: the standard library lends a slice of bytes as one of blocks, but doesn't
-// say what the bytes are when it comes back.
+// Processes bytes by way of as many blocks: the standard library lends a slice of bytes as one of
+// blocks, but doesn't say what the bytes are when it comes back.
 fn process_part<D: Direction, C: CipherIn<D>>(cipher: &C, bytes: &mut [u8], room: &mut [Block])
     requires as_many { length bytes.old ≡ 16 * length room.old }
     ensures { first_chunks 16 (length room.old) bytes.new
-        ≡ map (D.processed (C.round_keys cipher.now)) (first_chunks 16 (length room.old) bytes.old) }
+        ≡ map (D.processed (C.round_keys cipher.now))
+        (first_chunks 16 (length room.old) bytes.old) }
 {
     let (blocks, _) = bytes.as_chunks();
     room.copy_from_slice(blocks);
@@ -36,7 +38,8 @@ pub(super) fn process_bytes<D: Direction, C: CipherIn<D>>(
     bytes: &mut [u8],
 ) -> Result<(), PartialBlock>
     ensures refusal { IsErr result ↔ (length bytes.old % 16 ≢ 0) }
-    ensures written { OnOk result (Each (D.processed (C.round_keys cipher.now)) (blocks_of bytes.old) (blocks_of bytes.new)) }
+    ensures written { OnOk result
+        (Each (D.processed (C.round_keys cipher.now)) (blocks_of bytes.old) (blocks_of bytes.new)) }
     ensures untouched { OnErr result (bytes.new ≡ bytes.old) }
 {
     if bytes.len() % 16 != 0 {

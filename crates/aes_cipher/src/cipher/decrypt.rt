@@ -11,13 +11,13 @@ use super::sizes::{Block, BlockSizeUser};
 
 /// A block cipher that decrypts.
 pub trait BlockCipherDecrypt: BlockSizeUser + RoundKeysUser {
-    /// Calls the closure once, with a backend of the value's round keys that suits this number of blocks. The number
-    /// affects speed and nothing else.
+    /// Calls the closure once, with a backend of the value's round keys that suits this number of
+    /// blocks. The number affects speed and nothing else.
     fn decrypt_with_backend_for<F: BlockCipherDecClosure>(&self, blocks: usize, f: &mut F)
         ensures { F.did f.old (Self.round_keys self.now) f.new };
 
-    /// Calls the closure once, with a backend of the value's round keys that suits many blocks: how many there will be is
-    /// not known.
+    /// Calls the closure once, with a backend of the value's round keys that suits many blocks: how
+    /// many there will be is not known.
     #[inline(always)]
     fn decrypt_with_backend<F: BlockCipherDecClosure>(&self, f: &mut F)
         ensures { F.did f.old (Self.round_keys self.now) f.new }
@@ -29,7 +29,8 @@ pub trait BlockCipherDecrypt: BlockSizeUser + RoundKeysUser {
     fn decrypt_block(&self, block: &mut Block)
         ensures { block.new ≡ fips.inv_cipher_with (Self.round_keys self.now) block.old };
 
-    /// Decrypts a block from one buffer to another under the value's round keys (InvCipher, FIPS 197, 5.3).
+    /// Decrypts a block from one buffer to another under the value's
+    /// round keys (InvCipher, FIPS 197, 5.3).
     fn decrypt_block_b2b(&self, input: &Block, output: &mut Block)
         ensures { output.new ≡ fips.inv_cipher_with (Self.round_keys self.now) input.now }
     {
@@ -37,19 +38,21 @@ pub trait BlockCipherDecrypt: BlockSizeUser + RoundKeysUser {
         self.decrypt_block(output);
     }
 
-    /// Decrypts each block of a slice in place under the value's round keys (InvCipher, FIPS 197, 5.3).
+    /// Decrypts each block of a slice in place under the value's
+    /// round keys (InvCipher, FIPS 197, 5.3).
     fn decrypt_blocks(&self, blocks: &mut [Block])
         ensures { Each (fips.inv_cipher_with (Self.round_keys self.now)) blocks.old blocks.new };
 
-    /// Decrypts each block of one slice to its place in another, under the value's round keys (InvCipher, FIPS 197,
-    /// 5.3).
+    /// Decrypts each block of one slice to its place in another, under the value's round keys
+    /// (InvCipher, FIPS 197, 5.3).
     ///
     /// # Errors
     ///
     /// `NotEqualError` exactly if the slices differ in length; the output is then unchanged.
     fn decrypt_blocks_b2b(&self, input: &[Block], output: &mut [Block]) -> Result<(), NotEqualError>
         ensures refusal { IsErr result ↔ (length input.now ≢ length output.old) }
-        ensures written { OnOk result (Each (fips.inv_cipher_with (Self.round_keys self.now)) input.now output.new) }
+        ensures written { OnOk result
+            (Each (fips.inv_cipher_with (Self.round_keys self.now)) input.now output.new) }
         ensures untouched { OnErr result (output.new ≡ output.old) }
     {
         if input.len() != output.len() {

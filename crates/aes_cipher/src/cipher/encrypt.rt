@@ -11,13 +11,13 @@ use super::sizes::{Block, BlockSizeUser};
 
 /// A block cipher that encrypts.
 pub trait BlockCipherEncrypt: BlockSizeUser + RoundKeysUser {
-    /// Calls the closure once, with a backend of the value's round keys that suits this number of blocks. The number
-    /// affects speed and nothing else.
+    /// Calls the closure once, with a backend of the value's round keys that suits this number of
+    /// blocks. The number affects speed and nothing else.
     fn encrypt_with_backend_for<F: BlockCipherEncClosure>(&self, blocks: usize, f: &mut F)
         ensures { F.did f.old (Self.round_keys self.now) f.new };
 
-    /// Calls the closure once, with a backend of the value's round keys that suits many blocks: how many there will be is
-    /// not known.
+    /// Calls the closure once, with a backend of the value's round keys that suits many blocks: how
+    /// many there will be is not known.
     #[inline(always)]
     fn encrypt_with_backend<F: BlockCipherEncClosure>(&self, f: &mut F)
         ensures { F.did f.old (Self.round_keys self.now) f.new }
@@ -29,7 +29,8 @@ pub trait BlockCipherEncrypt: BlockSizeUser + RoundKeysUser {
     fn encrypt_block(&self, block: &mut Block)
         ensures { block.new ≡ fips.cipher_with (Self.round_keys self.now) block.old };
 
-    /// Encrypts a block from one buffer to another under the value's round keys (Cipher, FIPS 197, 5.1).
+    /// Encrypts a block from one buffer to another under the
+    /// value's round keys (Cipher, FIPS 197, 5.1).
     fn encrypt_block_b2b(&self, input: &Block, output: &mut Block)
         ensures { output.new ≡ fips.cipher_with (Self.round_keys self.now) input.now }
     {
@@ -37,19 +38,21 @@ pub trait BlockCipherEncrypt: BlockSizeUser + RoundKeysUser {
         self.encrypt_block(output);
     }
 
-    /// Encrypts each block of a slice in place under the value's round keys (Cipher, FIPS 197, 5.1).
+    /// Encrypts each block of a slice in place under the value's
+    /// round keys (Cipher, FIPS 197, 5.1).
     fn encrypt_blocks(&self, blocks: &mut [Block])
         ensures { Each (fips.cipher_with (Self.round_keys self.now)) blocks.old blocks.new };
 
-    /// Encrypts each block of one slice to its place in another, under the value's round keys (Cipher, FIPS 197,
-    /// 5.1).
+    /// Encrypts each block of one slice to its place in another, under the value's round keys
+    /// (Cipher, FIPS 197, 5.1).
     ///
     /// # Errors
     ///
     /// `NotEqualError` exactly if the slices differ in length; the output is then unchanged.
     fn encrypt_blocks_b2b(&self, input: &[Block], output: &mut [Block]) -> Result<(), NotEqualError>
         ensures refusal { IsErr result ↔ (length input.now ≢ length output.old) }
-        ensures written { OnOk result (Each (fips.cipher_with (Self.round_keys self.now)) input.now output.new) }
+        ensures written { OnOk result
+            (Each (fips.cipher_with (Self.round_keys self.now)) input.now output.new) }
         ensures untouched { OnErr result (output.new ≡ output.old) }
     {
         if input.len() != output.len() {

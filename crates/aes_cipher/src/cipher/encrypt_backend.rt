@@ -15,21 +15,25 @@ pub trait BlockCipherEncBackend: ParBlocksSizeUser + RoundKeysUser {
     fn encrypt_block(&self, block: &mut Block)
         ensures { block.new ≡ fips.cipher_with (Self.round_keys self.now) block.old };
 
-    /// Encrypts each block of one batch in place under the value's round keys (Cipher, FIPS 197, 5.1).
+    /// Encrypts each block of one batch in place under the
+    /// value's round keys (Cipher, FIPS 197, 5.1).
     fn encrypt_par_blocks(&self, blocks: &mut [Block])
         requires one_batch { length blocks.old ≡ Self.PAR_BLOCKS }
         ensures { Each (fips.cipher_with (Self.round_keys self.now)) blocks.old blocks.new };
 
-    /// Encrypts the first blocks of one batch in place, `count` of them, under the value's round keys (Cipher, FIPS 197,
-    /// 5.1). Each of the others is then unchanged or encrypted too, since the whole batch may take less time than its first
-    /// blocks. So let none of them be a block whose encryption is a secret, as that of zeros is in GCM.
+    /// Encrypts the first blocks of one batch in place, `count` of them, under the value's round
+    /// keys (Cipher, FIPS 197, 5.1). Each of the others is then unchanged or encrypted too, since
+    /// the whole batch may take less time than its first blocks. So let none of them be a block
+    /// whose encryption is a secret, as that of zeros is in GCM.
     #[tactic(auto, using(crate::proofs::FirstBlocks::first_blocks))]
     #[inline(always)]
     fn encrypt_first_blocks(&self, count: usize, blocks: &mut [Block])
         requires one_batch { length blocks.old ≡ Self.PAR_BLOCKS }
         requires inside { count ≤ length blocks.old }
-        ensures first { Each (fips.cipher_with (Self.round_keys self.now)) (take count blocks.old) (take count blocks.new) }
-        ensures others { EachOrUnchanged (fips.cipher_with (Self.round_keys self.now)) blocks.old blocks.new }
+        ensures first { Each (fips.cipher_with (Self.round_keys self.now)) (take count blocks.old)
+            (take count blocks.new) }
+        ensures others { EachOrUnchanged (fips.cipher_with (Self.round_keys self.now))
+            blocks.old blocks.new }
     {
         if count == 1 {
             self.encrypt_block(&mut blocks[0]);
@@ -41,7 +45,8 @@ pub trait BlockCipherEncBackend: ParBlocksSizeUser + RoundKeysUser {
 
 /// A caller's own work with a backend of any type and any batch size.
 pub trait BlockCipherEncClosure {
-    /// What the work does: a relation between the value before, the backend's round keys and the value after.
+    /// What the work does: a relation between the value before, the
+    /// backend's round keys and the value after.
     ghost did: { Self → List (List ℕ) → Self → Type 0 };
 
     /// Does the work.

@@ -31,5 +31,6 @@ pub trait KeyInit: KeySizeUser + RoundKeysUser {
         ensures bytes { fips.IsBytes (own_key self.now) };
 
     /// The round keys of a value are the expansion of its key (FIPS 197, 5.2).
-    ghost expanded: { (cipher : Self) → Self.round_keys cipher ≡ fips.key_expansion (own_key cipher) };
+    ghost expanded: { (cipher : Self) → Self.round_keys cipher
+        ≡ fips.key_expansion (own_key cipher) };
 }

@@ -5,8 +5,8 @@ ghost use Rattle.std.specs.Prelude.{◌≡◌};
 use super::Zeroize;
 use std::marker::Model;
 
-/// A value whose drop requires that it is zero, so code that drops it without a wipe isn't proved. It is neither `Copy`
-/// nor `Clone`. Contracts see the value.
+/// A value whose drop requires that it is zero, so code that drops it without a wipe isn't proved.
+/// It is neither `Copy` nor `Clone`. Contracts see the value.
 pub struct MustWipe<V: Zeroize> {
     value: V,
 }

@@ -174,7 +174,8 @@ fn makes_single_rounds_of_equal_bytes(rt: HostRuntime) -> Result<(), Fail> {
     check(&rt, &rows, 0)
 }
 
-// FIPS 197, appendix C.1: the states before and after the column mixing of both ciphers. Each mixing undoes the other.
+// FIPS 197, appendix C.1: the states before and after the column mixing
+// of both ciphers. Each mixing undoes the other.
 #[test]
 fn mixes(rt: HostRuntime) -> Result<(), Fail> {
     let [unmixed, mixed] = MIXED;
@@ -215,8 +216,8 @@ fn expands_keys(rt: HostRuntime) -> Result<(), Fail> {
     expands(&rt, &KEY_A3, &ROUND_KEYS_A3)
 }
 
-// By section 5.2 of FIPS 197: SubWord of a zero word is four 63, that of four 63 is four fb, and the first round
-// constant is 01.
+// By section 5.2 of FIPS 197: SubWord of a zero word is four 63, that of four 63 is four fb, and
+// the first round constant is 01.
 #[test]
 fn expands_zero_keys(rt: HostRuntime) -> Result<(), Fail> {
     let rows = [

@@ -1,6 +1,6 @@
 -- Claims on a few bits by all cases, and lists of eight and of sixteen by their elements.
-use Rattle.std.proofs.Common.{◌≡◌, ℕ, zero, suc, Bool, true, false, not, cond, ◌&&◌, ◌||◌, List, [], ◌∷◌, length}
-use Rattle.std.proofs.Common.{get_or, refl, sym, arith, inl, inr}
+use Rattle.std.proofs.Common.{◌≡◌, ℕ, zero, suc, Bool, true, false, not, cond, ◌&&◌, ◌||◌, List, []}
+use Rattle.std.proofs.Common.{◌∷◌, length, get_or, refl, sym, arith, inl, inr}
 use Rattle.std.proofs.lemmas.Bool.{and_parts, or_cases, both_ways}
 use Rattle.std.proofs.lemmas.List.{get_or_default}
 use Rattle.aes_planes.specs.Bits.{at, xor}
@@ -35,18 +35,22 @@ all_bools zero p = p []
 all_bools (suc n) p = all_bools n (λ bs. p (true ∷ bs)) && all_bools n (λ bs. p (false ∷ bs))
 
 -- a test that holds of every list of n bits holds of each
-pub all_bools_tells : (n : ℕ) (p : List Bool → Bool) → all_bools n p ≡ true → (bs : List Bool) → length bs ≡ n
+pub all_bools_tells : (n : ℕ) (p : List Bool → Bool) → all_bools n p ≡ true → (bs : List Bool)
+    → length bs ≡ n
     → p bs ≡ true
 unfolding all_bools
 all_bools_tells zero p h [] e = h
 all_bools_tells zero p h (b ∷ bs) e = absurd (omega arith)
 all_bools_tells (suc n) p h [] e = absurd (omega arith)
-all_bools_tells (suc n) p h (true ∷ bs) e = all_bools_tells n (λ bs. p (true ∷ bs)) (and_parts _ _ h).0 bs (omega arith)
-all_bools_tells (suc n) p h (false ∷ bs) e = all_bools_tells n (λ bs. p (false ∷ bs)) (and_parts _ _ h).1 bs
+all_bools_tells (suc n) p h (true ∷ bs) e =
+    all_bools_tells n (λ bs. p (true ∷ bs)) (and_parts _ _ h).0 bs (omega arith)
+all_bools_tells (suc n) p h (false ∷ bs) e =
+    all_bools_tells n (λ bs. p (false ∷ bs)) (and_parts _ _ h).1 bs
     (omega arith)
 
 -- ---- swaps
 
+-- the test of all 32 cases of `swapped`
 swaps : List Bool → Bool
 swaps b = (at b 3 && at b 4) || same (xor (xor (at b 0) (xor (at b 0) (at b 1) && at b 3))
     (xor (at b 2) (at b 0) && at b 4)) (cond (at b 3) (at b 1) (cond (at b 4) (at b 2) (at b 0)))
@@ -56,7 +60,8 @@ pub swapped : (x y z own partner : Bool) → (own && partner) ≡ false
     → xor (xor x (xor x y && own)) (xor z x && partner) ≡ cond own y (cond partner z x)
 unfolding all_bools swaps same
 swapped x y z own partner e =
-    elim (or_cases (own && partner) _ (all_bools_tells 5 swaps refl (x ∷ y ∷ z ∷ own ∷ partner ∷ []) refl)) [
+    elim (or_cases (own && partner) _
+    (all_bools_tells 5 swaps refl (x ∷ y ∷ z ∷ own ∷ partner ∷ []) refl)) [
       | inl both ↦ absurd (both_ways _ e both)
       | inr t ↦ same_tells _ _ t
     ]
@@ -65,7 +70,8 @@ swapped x y z own partner e =
 
 -- a list of eight by its elements
 pub eight : {A : Type 0} (xs : List A) (a b c d e f g h : A) → length xs ≡ 8
-    → xs ≡ get_or xs 0 a ∷ get_or xs 1 b ∷ get_or xs 2 c ∷ get_or xs 3 d ∷ get_or xs 4 e ∷ get_or xs 5 f ∷ get_or xs 6 g
+    → xs ≡ get_or xs 0 a ∷ get_or xs 1 b ∷ get_or xs 2 c ∷ get_or xs 3 d ∷ get_or xs 4 e
+    ∷ get_or xs 5 f ∷ get_or xs 6 g
     ∷ get_or xs 7 h ∷ []
 unfolding build
 eight xs a b c d e f g h l =

@@ -19,14 +19,16 @@ pub all_below_tells : (n : ℕ) (p : ℕ → Bool) → all_below n p ≡ true �
 unfolding all_below
 all_below_tells zero p h i k = absurd (omega arith)
 all_below_tells (suc n) p h i k =
-    by_one_more (λ i. p i ≡ true) n (all_below_tells n p (and_parts _ _ h).1) (and_parts _ _ h).0 i k
+    by_one_more (λ i. p i ≡ true) n (all_below_tells n p (and_parts _ _ h).1)
+    (and_parts _ _ h).0 i k
 
 -- whether p holds of every number below m and every one below n
 abbrev pub all_pairs : ℕ → ℕ → (ℕ → ℕ → Bool) → Bool
 all_pairs m n p = all_below m (λ i. all_below n (λ j. p i j))
 
 -- a test that holds of every pair below m and n holds of each
-pub all_pairs_tell : (m n : ℕ) (p : ℕ → ℕ → Bool) → all_pairs m n p ≡ true → (i j : ℕ) → i < m → j < n → p i j ≡ true
+pub all_pairs_tell : (m n : ℕ) (p : ℕ → ℕ → Bool) → all_pairs m n p ≡ true → (i j : ℕ) → i < m
+    → j < n → p i j ≡ true
 all_pairs_tell m n p h i j k l = all_below_tells n (p i) (all_below_tells m _ h i k) j l
 
 -- ---- claims on each number below one, two, four and eight
@@ -44,10 +46,13 @@ pub by_four : (P : ℕ → Type 0) → P 0 → P 1 → P 2 → P 3 → (r : ℕ)
 by_four P a b c d = by_one_more P 3 (by_one_more P 2 (by_two P a b) c) d
 
 -- the same for the numbers below eight
-pub by_eight : (P : ℕ → Type 0) → P 0 → P 1 → P 2 → P 3 → P 4 → P 5 → P 6 → P 7 → (r : ℕ) → r < 8 → P r
+pub by_eight : (P : ℕ → Type 0) → P 0 → P 1 → P 2 → P 3 → P 4 → P 5 → P 6 → P 7 → (r : ℕ)
+    → r < 8 → P r
 by_eight P a b c d e f g h =
-    by_one_more P 7 (by_one_more P 6 (by_one_more P 5 (by_one_more P 4 (by_four P a b c d) e) f) g) h
+    by_one_more P 7 (by_one_more P 6
+    (by_one_more P 5 (by_one_more P 4 (by_four P a b c d) e) f) g) h
 
 -- and on each pair of numbers below two
-pub by_pairs : (P : ℕ → ℕ → Type 0) → P 0 0 → P 0 1 → P 1 0 → P 1 1 → (p q : ℕ) → p < 2 → q < 2 → P p q
+pub by_pairs : (P : ℕ → ℕ → Type 0) → P 0 0 → P 0 1 → P 1 0 → P 1 1 → (p q : ℕ) → p < 2
+    → q < 2 → P p q
 by_pairs P a b c d p q h k = by_two (λ p. P p q) (by_two (P 0) a b q k) (by_two (P 1) c d q k) p h

@@ -1,20 +1,23 @@
 -- The key schedule four words at a time, and the bytes of a key in its first round keys.
-use Rattle.std.proofs.Common.{◌≡◌, ◌≢◌, ◌⊎◌, inl, inr, ℕ, zero, suc, ◌+◌, ◌-◌, ◌*◌, ◌/◌, ◌%◌, ◌<◌, ◌≤◌}
-use Rattle.std.proofs.Common.{nat_lt, List, [], ◌∷◌, ◌++◌, length, take, drop, get_or}
-use Rattle.std.proofs.Common.{slice_index, refl, ap, sym, subst, ◌∙◌, arith, length-append, length-take, length-drop}
-use Rattle.std.proofs.Common.{get_or-take, get_or-drop}
+use Rattle.std.proofs.Common.{◌≡◌, ◌≢◌, ◌⊎◌, inl, inr, ℕ, zero, suc, ◌+◌, ◌-◌, ◌*◌, ◌/◌, ◌%◌, ◌<◌}
+use Rattle.std.proofs.Common.{◌≤◌, nat_lt, List, [], ◌∷◌, ◌++◌, length, take, drop, get_or}
+use Rattle.std.proofs.Common.{slice_index, refl, ap, sym, subst, ◌∙◌, arith, length-append}
+use Rattle.std.proofs.Common.{length-take, length-drop, get_or-take, get_or-drop}
 use Rattle.std.proofs.Math.Nat.{mod-lt}
 use Rattle.std.proofs.lemmas.Bool.{le-ltb, lt-ltb, cases_lt, cond_both, ltb-true, ltb-false}
 use Rattle.std.proofs.lemmas.Grind.{same_number_lists}
 use Rattle.std.proofs.lemmas.List.{get_or_append_left, get_or-append_right, length-take-le}
 use Rattle.std.proofs.lemmas.Nat.{mod-mul-add, div-mul-add}
-use Rattle.aes_planes.specs.Fips197.{sbox, field_add, byte_at, state, word, add_words, sub_word, rot_word, sub_bytes}
-use Rattle.aes_planes.specs.Fips197.{add_round_key, power_of_x, round_constant, added_word}
-use Rattle.aes_planes.specs.Fips197.{expanded_word, key_words, key_expansion, rounds, round_key}
+use Rattle.aes_planes.specs.Fips197.{sbox, field_add, byte_at, state, word, add_words, sub_word}
+use Rattle.aes_planes.specs.Fips197.{rot_word, sub_bytes, add_round_key, power_of_x, round_constant}
+use Rattle.aes_planes.specs.Fips197.{added_word, expanded_word, key_words, key_expansion, rounds}
+use Rattle.aes_planes.specs.Fips197.{round_key}
 use Rattle.aes_planes.specs.Planes.{constant_block, summed, columns_summed, columns_straddled}
 use Rattle.aes_planes.proofs.Bits.ByteCases.{by_four}
-use Rattle.aes_planes.proofs.KeySchedule.AddedWords.{added_word_constant, added_word_same, added_word_substituted}
-use Rattle.aes_planes.proofs.KeySchedule.ExpandedWords.{expanded_word_key, expanded_word_next, round_key_words}
+use Rattle.aes_planes.proofs.KeySchedule.AddedWords.{added_word_constant, added_word_same}
+use Rattle.aes_planes.proofs.KeySchedule.AddedWords.{added_word_substituted}
+use Rattle.aes_planes.proofs.KeySchedule.ExpandedWords.{expanded_word_key, expanded_word_next}
+use Rattle.aes_planes.proofs.KeySchedule.ExpandedWords.{round_key_words}
 use Rattle.aes_planes.proofs.Lists.{built}
 use Rattle.aes_planes.proofs.Standard.States.{byte_at-state, state_is, state_same, state_length}
 
@@ -28,22 +31,30 @@ of_words f = state (λ r c. slice_index (f c) r)
 pub slice_index-word : (f : ℕ → ℕ) (r : ℕ) → r < 4 → slice_index (word f) r ≡ f r
 slice_index-word f = by_four (λ r. slice_index (word f) r ≡ f r) refl refl refl refl
 
--- each word of g is the sum of the word of f there and the word of g before it, and the first takes in a column of y
+-- each word of g is the sum of the word of f there and the word of g
+-- before it, and the first takes in a column of y
 module _ (rows cols : ℕ) (f g : ℕ → List ℕ) (y : List ℕ)
     (first : g 0 ≡ add_words (f 0) (word (λ r. byte_at y ((r + rows) % 4) cols)))
     (later : (c : ℕ) → c < 3 → g (suc c) ≡ add_words (f (suc c)) (g c)) where
+  -- the byte that starts the sums of row r
   start : ℕ → ℕ
   start r = byte_at y ((r + rows) % 4) cols
 
-  columns : (r c : ℕ) → r < 4 → c < 4 → summed field_add (byte_at (of_words f) r) (start r) c ≡ slice_index (g c) r
+  -- by columns, each from the one before it
+  columns : (r c : ℕ) → r < 4 → c < 4 → summed field_add (byte_at (of_words f) r) (start r) c
+      ≡ slice_index (g c) r
   unfolding start
   columns r zero h k =
-      (λ i. field_add (byte_at-state (λ r c. slice_index (f c) r) r 0 h k i) (sym (slice_index-word start r h) i))
-      ∙ sym (slice_index-word (λ r. field_add (slice_index (f 0) r) (slice_index (word start) r)) r h)
+      (λ i. field_add (byte_at-state (λ r c. slice_index (f c) r) r 0 h k i)
+      (sym (slice_index-word start r h) i))
+      ∙ sym (slice_index-word
+      (λ r. field_add (slice_index (f 0) r) (slice_index (word start) r)) r h)
       ∙ ap (λ v. slice_index v r) (sym first)
   columns r (suc c) h k =
-      (λ i. field_add (byte_at-state (λ r c. slice_index (f c) r) r (suc c) h k i) (columns r c h (omega arith) i))
-      ∙ sym (slice_index-word (λ r. field_add (slice_index (f (suc c)) r) (slice_index (g c) r)) r h)
+      (λ i. field_add (byte_at-state (λ r c. slice_index (f c) r) r (suc c) h k i)
+      (columns r c h (omega arith) i))
+      ∙ sym (slice_index-word
+      (λ r. field_add (slice_index (f (suc c)) r) (slice_index (g c) r)) r h)
       ∙ ap (λ v. slice_index v r) (sym (later c (omega arith)))
 
   -- the running sums of four words and of a word of y, as blocks, are the sum of columns
@@ -53,29 +64,37 @@ module _ (rows cols : ℕ) (f g : ℕ → List ℕ) (y : List ℕ)
 
 -- ---- the words of the key expansion
 
-module _ (key : List ℕ) (nk : ℕ) (own : key_words key ≡ nk) (some : 0 < nk) (i b p : ℕ) (back : i ≡ b + nk)
+module _ (key : List ℕ) (nk : ℕ) (own : key_words key ≡ nk) (some : 0 < nk) (i b p : ℕ)
+    (back : i ≡ b + nk)
     (before : i ≡ suc p) where
-  next : expanded_word key i ≡ add_words (expanded_word key b) (added_word nk i (expanded_word key p))
+  -- the recursion of the key expansion, with the places of both earlier words by name
+  next : expanded_word key i ≡ add_words (expanded_word key b)
+      (added_word nk i (expanded_word key p))
   next =
       let less : i - key_words key ≡ b = omega (arith, own, back) in
       let one : i - 1 ≡ p = omega (arith, before) in
-      expanded_word_next key i (le-ltb i (key_words key) (omega (arith, own, back))) (omega (arith, own, some))
+      expanded_word_next key i (le-ltb i (key_words key) (omega (arith, own, back)))
+      (omega (arith, own, some))
       (omega (arith, before))
-      ∙ (λ t. add_words (expanded_word key (less t)) (added_word (own t) i (expanded_word key (one t))))
+      ∙ (λ t. add_words (expanded_word key (less t))
+      (added_word (own t) i (expanded_word key (one t))))
 
   -- where Nk divides the place
   pub first_word : (j : ℕ) → i ≡ j * nk → expanded_word key i
-      ≡ add_words (expanded_word key b) (add_words (sub_word (rot_word (expanded_word key p))) (round_constant j))
+      ≡ add_words (expanded_word key b)
+      (add_words (sub_word (rot_word (expanded_word key p))) (round_constant j))
   first_word j e =
       let at : i ≡ j * nk + 0 = omega arith in
       let none : i % nk ≡ 0 = ap (λ v. v % nk) at ∙ mod-mul-add j nk 0 some in
       let whole : i / nk ≡ j = ap (λ v. v / nk) at ∙ div-mul-add j nk 0 some in
       let w : List ℕ = expanded_word key p in
       next ∙ ap (add_words (expanded_word key b))
-      (added_word_constant nk i w none ∙ ap (λ v. add_words (sub_word (rot_word w)) (round_constant v)) whole)
+      (added_word_constant nk i w none
+      ∙ ap (λ v. add_words (sub_word (rot_word w)) (round_constant v)) whole)
 
 -- a word of the key expansion has four bytes
-pub expanded_word_length : (key : List ℕ) (i : ℕ) → 0 < key_words key → length (expanded_word key i) ≡ 4
+pub expanded_word_length : (key : List ℕ) (i : ℕ) → 0 < key_words key
+    → length (expanded_word key i) ≡ 4
 expanded_word_length key i some = elim (cases_lt i (key_words key)) [
   | inl lt ↦ ap length (expanded_word_key key i (lt-ltb i (key_words key) lt))
   | inr ge ↦ ap length (expanded_word_next key i (le-ltb i (key_words key) ge) some (omega arith))
@@ -88,12 +107,14 @@ abbrev pub block_at : List ℕ → ℕ → List ℕ
 block_at key o = of_words (λ c. expanded_word key (o + c))
 
 -- round key j of a key is the four words from word 4 j on
-pub round_key_at : (key : List ℕ) (j o : ℕ) → o ≡ 4 * j → j < rounds key + 1 → round_key (key_expansion key) j
+pub round_key_at : (key : List ℕ) (j o : ℕ) → o ≡ 4 * j → j < rounds key + 1
+    → round_key (key_expansion key) j
     ≡ block_at key o
 round_key_at key j o e lt = round_key_words key j lt ∙ ap (block_at key) (sym e)
 
 -- the last two of four words and the first two of the next four
-pub straddled_at : (key : List ℕ) (o p m : ℕ) → p ≡ o + 4 → m ≡ o + 2 → columns_straddled (block_at key o)
+pub straddled_at : (key : List ℕ) (o p m : ℕ) → p ≡ o + 4 → m ≡ o + 2
+    → columns_straddled (block_at key o)
     (block_at key p) ≡ block_at key m
 unfolding columns_straddled
 straddled_at key o p m ep em = state_same _ _ (λ r c h l. cond_both (nat_lt c 2) _ _
@@ -110,40 +131,49 @@ straddled_at key o p m ep em = state_same _ _ (λ r c h l. cond_both (nat_lt c 2
 
 -- the constant in row 1 of column 3 and the S-box, a row on
 substituted_column : (f : ℕ → List ℕ) (x : ℕ)
-    → word (λ r. byte_at (add_round_key (sub_bytes (of_words f)) (constant_block x)) ((r + 1) % 4) 3)
+    → word (λ r. byte_at (add_round_key (sub_bytes (of_words f)) (constant_block x))
+    ((r + 1) % 4) 3)
     ≡ add_words (sub_word (rot_word (f 3))) (x ∷ 0 ∷ 0 ∷ 0 ∷ [])
 unfolding sub_bytes add_round_key constant_block
 substituted_column f x = refl
 
 -- the S-box alone
-substituted_plain : (f : ℕ → List ℕ) → length (f 3) ≡ 4 → word (λ r. byte_at (sub_bytes (of_words f)) ((r + 0) % 4) 3)
+substituted_plain : (f : ℕ → List ℕ) → length (f 3) ≡ 4
+    → word (λ r. byte_at (sub_bytes (of_words f)) ((r + 0) % 4) 3)
     ≡ sub_word (f 3)
 unfolding sub_bytes state sbox
-substituted_plain f l = subst (λ (v : List ℕ). word (λ r. sbox (slice_index (f 3) r)) ≡ sub_word v) (built 4 (f 3) 0 l)
+substituted_plain f l =
+    subst (λ (v : List ℕ). word (λ r. sbox (slice_index (f 3) r)) ≡ sub_word v) (built 4 (f 3) 0 l)
     refl
 
 -- nothing of the kind
-plain_column : (f : ℕ → List ℕ) (v : List ℕ) → add_words v (word (λ r. byte_at (of_words f) ((r + 0) % 4) 1))
+plain_column : (f : ℕ → List ℕ) (v : List ℕ)
+    → add_words v (word (λ r. byte_at (of_words f) ((r + 0) % 4) 1))
     ≡ add_words v (f 1)
 unfolding state
 plain_column f v = refl
 
 module _ (key : List ℕ) (nk : ℕ) (own : key_words key ≡ nk) (four : 4 ≤ nk) where
   -- a word that is due no substitution; e is its place after a multiple of Nk
-  plain_word : (i b p q e : ℕ) → i ≡ q * nk + e → 0 < e → e < nk → (nk ≤ 6) ⊎ (e ≢ 4) → i ≡ b + nk → i ≡ suc p
+  plain_word : (i b p q e : ℕ) → i ≡ q * nk + e → 0 < e → e < nk → (nk ≤ 6) ⊎ (e ≢ 4)
+      → i ≡ b + nk → i ≡ suc p
       → expanded_word key i ≡ add_words (expanded_word key b) (expanded_word key p)
   plain_word i b p q e at some lt which back before =
       let left : i % nk ≡ e = ap (λ v. v % nk) at ∙ mod-mul-add q nk e lt in
       next key nk own (omega arith) i b p back before ∙ ap (add_words (expanded_word key b))
-      (added_word_same nk i (expanded_word key p) (λ z. absurd (omega (arith, left, z, some))) (elim which [
+      (added_word_same nk i (expanded_word key p) (λ z. absurd (omega (arith, left, z, some)))
+      (elim which [
         | inl le ↦ inl le
         | inr ne ↦ inr (λ z. ne (sym left ∙ z))
       ]))
 
-  -- four words of which the first is at place e after a multiple of Nk, where the others are due no substitution
-  sums_at : (rows cols o m q e : ℕ) (y : List ℕ) → m ≡ o + nk → m ≡ q * nk + e → e + 4 ≤ nk → (nk ≤ 6)
+  -- four words of which the first is at place e after a multiple of
+  -- Nk, where the others are due no substitution
+  sums_at : (rows cols o m q e : ℕ) (y : List ℕ) → m ≡ o + nk → m ≡ q * nk + e
+      → e + 4 ≤ nk → (nk ≤ 6)
       ⊎ ((e ≡ 0) ⊎ (e ≡ 4))
-      → expanded_word key m ≡ add_words (expanded_word key o) (word (λ r. byte_at y ((r + rows) % 4) cols))
+      → expanded_word key m ≡ add_words (expanded_word key o)
+      (word (λ r. byte_at y ((r + rows) % 4) cols))
       → columns_summed rows cols (block_at key o) y ≡ block_at key m
   sums_at rows cols o m q e y back at fits which first =
       let o0 : o ≡ o + 0 = omega arith in
@@ -151,7 +181,8 @@ module _ (key : List ℕ) (nk : ℕ) (own : key_words key ≡ nk) (four : 4 ≤ 
       summed_words rows cols (λ c. expanded_word key (o + c)) (λ c. expanded_word key (m + c)) y
       (ap (expanded_word key) m0 ∙ first
       ∙ ap (λ v. add_words (expanded_word key v) (word (λ r. byte_at y ((r + rows) % 4) cols))) o0)
-      (λ c h. plain_word (m + suc c) (o + suc c) (m + c) q (e + suc c) (omega (arith, at)) (omega arith) (omega arith)
+      (λ c h. plain_word (m + suc c) (o + suc c) (m + c) q (e + suc c) (omega (arith, at))
+      (omega arith) (omega arith)
       (elim which [
         | inl le ↦ inl le
         | inr w ↦ inr (λ z. elim w [
@@ -163,7 +194,8 @@ module _ (key : List ℕ) (nk : ℕ) (own : key_words key ≡ nk) (four : 4 ≤ 
 
   -- the four words at the next multiple of Nk, of the four Nk words before and the last four
   pub first_block : (j o p m : ℕ) → o ≡ j * nk → m ≡ o + nk → m ≡ p + 4
-      → columns_summed 1 3 (block_at key o) (add_round_key (sub_bytes (block_at key p)) (constant_block (power_of_x j)))
+      → columns_summed 1 3 (block_at key o)
+      (add_round_key (sub_bytes (block_at key p)) (constant_block (power_of_x j)))
       ≡ block_at key m
   unfolding round_constant
   first_block j o p m at back before =
@@ -173,7 +205,8 @@ module _ (key : List ℕ) (nk : ℕ) (own : key_words key ≡ nk) (four : 4 ≤ 
       sums_at 1 3 o m (suc j) 0 _ back none (omega arith) (inr (inl refl))
       (first_word key nk own (omega arith) m o (p + 3) back (omega arith) (suc j) next
       ∙ ap (add_words (expanded_word key o))
-      (ap (λ v. add_words (sub_word (rot_word (expanded_word key (p + 3)))) (power_of_x v ∷ 0 ∷ 0 ∷ 0 ∷ [])) one
+      (ap (λ v. add_words (sub_word (rot_word (expanded_word key (p + 3))))
+      (power_of_x v ∷ 0 ∷ 0 ∷ 0 ∷ [])) one
       ∙ sym (substituted_column (λ c. expanded_word key (p + c)) (power_of_x j))))
 
   -- the four words after those, where Nk is 8
@@ -184,7 +217,8 @@ module _ (key : List ℕ) (nk : ℕ) (own : key_words key ≡ nk) (four : 4 ≤ 
       let left : m % nk ≡ 4 = ap (λ v. v % nk) spot ∙ mod-mul-add (suc j) nk 4 (omega arith) in
       let w : List ℕ = expanded_word key (p + 3) in
       sums_at 0 3 o m (suc j) 4 _ back spot (omega arith) (inr (inr refl))
-      (next key nk own (omega arith) m o (p + 3) back (omega arith) ∙ ap (add_words (expanded_word key o))
+      (next key nk own (omega arith) m o (p + 3) back (omega arith)
+      ∙ ap (add_words (expanded_word key o))
       (added_word_substituted nk m w (λ z. absurd (omega (arith, left, z))) (omega arith) left
       ∙ sym (substituted_plain (λ c. expanded_word key (p + c))
       (expanded_word_length key (p + 3) (omega (arith, own))))))
@@ -195,28 +229,35 @@ module _ (key : List ℕ) (nk : ℕ) (own : key_words key ≡ nk) (four : 4 ≤ 
   last_block j o p m six at back before =
       let next : m ≡ suc j * nk + 2 = omega (arith, at, back) in
       sums_at 0 1 o m (suc j) 2 _ back next (omega arith) (inl (omega arith))
-      (plain_word m o (p + 1) (suc j) 2 next (omega arith) (omega arith) (inl (omega arith)) back (omega arith)
+      (plain_word m o (p + 1) (suc j) 2 next (omega arith) (omega arith) (inl (omega arith)) back
+      (omega arith)
       ∙ sym (plain_column (λ c. expanded_word key (p + c)) (expanded_word key o)))
 
   -- sixteen bytes of the key, from a word on
-  pub key_block : (o p : ℕ) → p ≡ 4 * o → o + 4 ≤ nk → length key ≡ 4 * nk → block_at key o ≡ take 16 (drop p key)
+  pub key_block : (o p : ℕ) → p ≡ 4 * o → o + 4 ≤ nk → length key ≡ 4 * nk
+      → block_at key o ≡ take 16 (drop p key)
   key_block o p at room l =
-      let long : length (take 16 (drop p key)) ≡ 16 = simp (length-take, length-drop) (omega arith) in
+      let long : length (take 16 (drop p key)) ≡ 16 =
+      simp (length-take, length-drop) (omega arith) in
       state_is _ _ long (λ r c h k.
       let place : 4 * (o + c) + r ≡ p + (r + 4 * c) = omega arith in
       ap (λ v. slice_index v r) (expanded_word_key key (o + c)
       (lt-ltb (o + c) (key_words key) (omega (arith, own, k, room))))
       ∙ slice_index-word (λ r. slice_index key (4 * (o + c) + r)) r h
       ∙ ap (slice_index key) place
-      ∙ sym (get_or-take 16 (drop p key) (r + 4 * c) 0 (omega arith) ∙ get_or-drop p key (r + 4 * c) 0))
+      ∙ sym (get_or-take 16 (drop p key) (r + 4 * c) 0 (omega arith)
+      ∙ get_or-drop p key (r + 4 * c) 0))
 
 -- ---- the bytes of a key in its first round keys
 
 -- each round key of a key has sixteen bytes
-pub round_key_length : (key : List ℕ) (i : ℕ) → i < rounds key + 1 → length (round_key (key_expansion key) i) ≡ 16
+pub round_key_length : (key : List ℕ) (i : ℕ) → i < rounds key + 1
+    → length (round_key (key_expansion key) i) ≡ 16
 round_key_length key i lt = ap length (round_key_words key i lt) ∙ state_length _
 
 module _ (key : List ℕ) (nk : ℕ) (own : key_words key ≡ nk) where
+  -- the first nk words are the key's own bytes, so a byte of a
+  -- round key among them is the key's byte there
   key_byte : (j i p : ℕ) → j < rounds key + 1 → i < 16 → 4 * j + i / 4 < nk → p ≡ 16 * j + i
       → get_or (round_key (key_expansion key) j) i 0 ≡ get_or key p 0
   key_byte j i p lt h k e =
@@ -227,7 +268,8 @@ module _ (key : List ℕ) (nk : ℕ) (own : key_words key ≡ nk) where
       let whole : 4 * (4 * j + c) + r ≡ p = omega (arith, place, e) in
       ap (λ s. get_or s i 0) (round_key_words key j lt)
       ∙ ap (λ v. get_or (of_words (λ c. expanded_word key (4 * j + c))) v 0) (sym place)
-      ∙ byte_at-state (λ r c. slice_index (expanded_word key (4 * j + c)) r) r c four (omega (arith, h))
+      ∙ byte_at-state (λ r c. slice_index (expanded_word key (4 * j + c)) r) r c four
+      (omega (arith, h))
       ∙ ap (λ v. slice_index v r) (expanded_word_key key (4 * j + c)
       (lt-ltb (4 * j + c) (key_words key) (omega (arith, own, k))))
       ∙ slice_index-word (λ r. slice_index key (4 * (4 * j + c) + r)) r four
@@ -241,7 +283,8 @@ module _ (key : List ℕ) (nk : ℕ) (own : key_words key ≡ nk) where
       let y : List ℕ = round_key (key_expansion key) 1 in
       let lx : length x ≡ 16 = round_key_length key 0 (omega arith) in
       let ly : length y ≡ 16 = round_key_length key 1 (omega arith) in
-      let sized : length (take size (x ++ y)) ≡ size = length-take-le size (x ++ y) (simp length-append (omega arith))
+      let sized : length (take size (x ++ y)) ≡ size =
+      length-take-le size (x ++ y) (simp length-append (omega arith))
       in
       same_number_lists (take size (x ++ y)) key (sized ∙ sym l) (λ i h.
       let lt : i < size = omega (arith, h, sized) in
@@ -250,6 +293,7 @@ module _ (key : List ℕ) (nk : ℕ) (own : key_words key ≡ nk) where
             ∙ key_byte 0 i i (omega arith) low (omega (arith, lt, e)) (omega arith)
         | inr ge ↦
             get_or-append_right x y 16 i 0 lx ge
-            ∙ key_byte 1 (i - 16) i (omega arith) (omega (arith, lt, e, high)) (omega (arith, lt, e, ge))
+            ∙ key_byte 1 (i - 16) i (omega arith) (omega (arith, lt, e, high))
+            (omega (arith, lt, e, ge))
             (omega (arith, ge))
       ])

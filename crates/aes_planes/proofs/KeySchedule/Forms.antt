@@ -1,13 +1,14 @@
 -- Round keys of a key, stored one by one, in any form.
-use Rattle.std.proofs.Common.{◌≡◌, ◌≢◌, inl, inr, ℕ, ◌+◌, ◌*◌, ◌<◌, ◌≤◌, List, length, take, drop, slice_index}
-use Rattle.std.proofs.Common.{refl, ap, sym, ◌∙◌, subst, arith}
+use Rattle.std.proofs.Common.{◌≡◌, ◌≢◌, inl, inr, ℕ, ◌+◌, ◌*◌, ◌<◌, ◌≤◌, List, length, take, drop}
+use Rattle.std.proofs.Common.{slice_index, refl, ap, sym, ◌∙◌, subst, arith}
 use Rattle.std.proofs.Math.Nat.{suc-mul}
 use Rattle.std.proofs.lemmas.Bool.{cases_lt}
 use Rattle.aes_planes.specs.Fips197.{sub_bytes, add_round_key, key_words, key_expansion, round_key}
 use Rattle.aes_planes.specs.Planes.{constant_block, columns_summed, columns_straddled}
 use Rattle.aes_planes.proofs.KeySchedule.AddedWords.{listed_powers, listed_power}
-use Rattle.aes_planes.proofs.KeySchedule.ExpandedBlocks.{block_at, key_block, round_key_at, straddled_at, first_block}
-use Rattle.aes_planes.proofs.KeySchedule.ExpandedBlocks.{second_block, last_block}
+use Rattle.aes_planes.proofs.KeySchedule.ExpandedBlocks.{block_at, key_block, round_key_at}
+use Rattle.aes_planes.proofs.KeySchedule.ExpandedBlocks.{straddled_at, first_block, second_block}
+use Rattle.aes_planes.proofs.KeySchedule.ExpandedBlocks.{last_block}
 
 -- as many layers more in each step, where a step runs one substitution
 pub counted : (a b c i n : ℕ) → b ≡ a + i * n → c ≡ b + n → c ≡ a + (i + 1) * n
@@ -16,7 +17,8 @@ counted a b c i n e f =
     omega (arith, e, f, next)
 
 -- and where it runs two
-pub counted_two : (a b c d i n : ℕ) → b ≡ a + 2 * i * n → c ≡ b + n → d ≡ c + n → d ≡ a + 2 * (i + 1) * n
+pub counted_two : (a b c d i n : ℕ) → b ≡ a + 2 * i * n → c ≡ b + n → d ≡ c + n
+    → d ≡ a + 2 * (i + 1) * n
 counted_two a b c d i n e f h =
     let two : 2 * (i + 1) ≡ 2 * i + 1 + 1 = omega arith in
     counted a c d (2 * i + 1) n (counted a b c (2 * i) n e f) h ∙ ap (λ v. a + v * n) (sym two)
@@ -39,12 +41,14 @@ pub record Form (V : Type 0) : Type 1 where
   pub sized : length key ≡ 4 * nk
 
 -- the record of a key of nk words and of what says that a value is the four words of a block
-abbrev pub form : {V : Type 0} → (V → List ℕ → Type 0) → (key : List ℕ) (nk : ℕ) → 4 ≤ nk → length key ≡ 4 * nk → Form V
+abbrev pub form : {V : Type 0} → (V → List ℕ → Type 0) → (key : List ℕ) (nk : ℕ) → 4 ≤ nk
+    → length key ≡ 4 * nk → Form V
 form are key nk four sized = record { are = are; key = key; nk = nk; four = four; sized = sized }
 
 module _ {V : Type 0} (s : Form V) where
   open s use {are, key, nk, four, sized}
 
+  -- the standard's Nk, from the length of the key
   own : key_words key ≡ nk
   own = omega (arith, sized)
 
@@ -53,7 +57,8 @@ module _ {V : Type 0} (s : Form V) where
   none stored j lt = absurd (omega arith)
 
   -- one of them
-  pub stored_at : (stored : ℕ → List ℕ → Type 0) (m j o : ℕ) → AreStored stored key m → j < m → o ≡ 4 * j
+  pub stored_at : (stored : ℕ → List ℕ → Type 0) (m j o : ℕ) → AreStored stored key m
+      → j < m → o ≡ 4 * j
       → stored j (block_at key o)
   stored_at stored m j o done lt at = subst (λ v. stored j (block_at key v)) (sym at) (done j lt)
 
@@ -70,24 +75,29 @@ module _ {V : Type 0} (s : Form V) where
   ]
 
   -- all of them
-  pub all : (stored : ℕ → List ℕ → Type 0) (m last : ℕ) → AreStored stored key m → m ≡ last + 1 → last ≡ nk + 6
+  pub all : (stored : ℕ → List ℕ → Type 0) (m last : ℕ) → AreStored stored key m → m ≡ last + 1
+      → last ≡ nk + 6
       → (i : ℕ) → i ≤ last → stored i (round_key (key_expansion key) i)
   all stored m last done whole rounds i le =
-      subst (stored i) (sym (round_key_at key i (4 * i) refl (omega (arith, own)))) (done i (omega arith))
+      subst (stored i) (sym (round_key_at key i (4 * i) refl (omega (arith, own))))
+      (done i (omega arith))
 
   module _ (w : V) where
     -- four words of the key itself
-    pub loaded : (o p : ℕ) → are w (take 16 (drop p key)) → p ≡ 4 * o → o + 4 ≤ nk → are w (block_at key o)
+    pub loaded : (o p : ℕ) → are w (take 16 (drop p key)) → p ≡ 4 * o → o + 4 ≤ nk
+        → are w (block_at key o)
     loaded o p is at room = subst (are w) (sym (key_block key nk own four o p at room sized)) is
 
     -- the last two of four words and the first two of the next four
-    pub straddled : (o p m : ℕ) → are w (columns_straddled (block_at key o) (block_at key p)) → p ≡ o + 4 → m ≡ o + 2
+    pub straddled : (o p m : ℕ) → are w (columns_straddled (block_at key o) (block_at key p))
+        → p ≡ o + 4 → m ≡ o + 2
         → are w (block_at key m)
     straddled o p m is next at = subst (are w) (straddled_at key o p m next at) is
 
     -- the four words at the next multiple of nk
     pub rotated : (j o p m : ℕ) → are w (columns_summed 1 3 (block_at key o)
-        (add_round_key (sub_bytes (block_at key p)) (constant_block (slice_index listed_powers j)))) → j < 10
+        (add_round_key (sub_bytes (block_at key p)) (constant_block (slice_index listed_powers j))))
+        → j < 10
         → o ≡ j * nk → m ≡ o + nk → m ≡ p + 4 → are w (block_at key m)
     rotated j o p m is lt at back before =
         subst (are w) (ap (λ v. columns_summed 1 3 (block_at key o)
@@ -95,7 +105,8 @@ module _ {V : Type 0} (s : Form V) where
         ∙ first_block key nk own four j o p m at back before) is
 
     -- the four words after those, where nk is 8
-    pub substituted : (j o p m : ℕ) → are w (columns_summed 0 3 (block_at key o) (sub_bytes (block_at key p)))
+    pub substituted : (j o p m : ℕ)
+        → are w (columns_summed 0 3 (block_at key o) (sub_bytes (block_at key p)))
         → nk ≡ 8 → o ≡ j * nk + 4 → m ≡ o + nk → m ≡ p + 4 → are w (block_at key m)
     substituted j o p m is eight at back before =
         subst (are w) (second_block key nk own four j o p m eight at back before) is
@@ -103,4 +114,5 @@ module _ {V : Type 0} (s : Form V) where
     -- the four words two after such a multiple, where nk is 6
     pub plain : (j o p m : ℕ) → are w (columns_summed 0 1 (block_at key o) (block_at key p))
         → nk ≡ 6 → o ≡ j * nk + 2 → m ≡ o + nk → m ≡ p + 2 → are w (block_at key m)
-    plain j o p m is six at back before = subst (are w) (last_block key nk own four j o p m six at back before) is
+    plain j o p m is six at back before =
+        subst (are w) (last_block key nk own four j o p m six at back before) is

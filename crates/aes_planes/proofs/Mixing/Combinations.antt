@@ -1,15 +1,17 @@
 -- Column mixing as sums and doubles of a byte and the next ones of its column.
-use Rattle.std.proofs.Common.{◌≡◌, ℕ, zero, suc, ◌+◌, ◌*◌, ◌%◌, ◌<◌, true, Bool, List, map, refl, ap, sym, ◌∙◌, arith}
+use Rattle.std.proofs.Common.{◌≡◌, ℕ, zero, suc, ◌+◌, ◌*◌, ◌%◌, ◌<◌, true, Bool, List, map, refl}
+use Rattle.std.proofs.Common.{ap, sym, ◌∙◌, arith}
 use Rattle.aes_planes.specs.Bits.{IsShape}
-use Rattle.aes_planes.specs.Fips197.{IsBytes, field_add, field_mul, build, state, mix_row, inv_mix_row}
-use Rattle.aes_planes.specs.Fips197.{mix_columns, inv_mix_columns, shift_rows, inv_shift_rows, shift_times}
-use Rattle.aes_planes.specs.Fips197.{inv_shift_times}
+use Rattle.aes_planes.specs.Fips197.{IsBytes, field_add, field_mul, build, state, mix_row}
+use Rattle.aes_planes.specs.Fips197.{inv_mix_row, mix_columns, inv_mix_columns, shift_rows}
+use Rattle.aes_planes.specs.Fips197.{inv_shift_rows, shift_times, inv_shift_times}
 use Rattle.aes_planes.specs.Planes.{held, held_byte, place, between_shifts}
 use Rattle.aes_planes.proofs.Bits.ByteCases.{all_below, by_four}
 use Rattle.aes_planes.proofs.Planes.Held.{place_lt, stepped_held}
 use Rattle.aes_planes.proofs.Standard.FieldLaws.{add_swap, field_mul_add}
-use Rattle.aes_planes.proofs.Standard.LinearSteps.{add_columns, matrix, matrix_add, column, times, only, first_rows}
-use Rattle.aes_planes.proofs.Standard.LinearSteps.{agree_on_powers, linear_maps_agree}
+use Rattle.aes_planes.proofs.Standard.LinearSteps.{add_columns, matrix, matrix_add, column, times}
+use Rattle.aes_planes.proofs.Standard.LinearSteps.{only, first_rows, agree_on_powers}
+use Rattle.aes_planes.proofs.Standard.LinearSteps.{linear_maps_agree}
 use Rattle.aes_planes.proofs.Standard.States.{state_same, state_bytes}
 use Rattle.aes_planes.proofs.Standard.Steps.{shift_times_bytes}
 
@@ -29,10 +31,12 @@ made (Sum x y) v = field_add (made x v) (made y v)
 made (Double x) v = field_mul 2 (made x v)
 made (TwoOn x) v = made x (λ j. v (suc (suc j)))
 
+-- what is made so is linear over sums, so tests at the powers of x suffice
 made_add : (x : Made) (v w : ℕ → ℕ) → made x (add_columns v w) ≡ field_add (made x v) (made x w)
 made_add (Byte j) v w = refl
 made_add (Sum x y) v w =
-    (λ i. field_add (made_add x v w i) (made_add y v w i)) ∙ add_swap (made x v) (made x w) (made y v) (made y w)
+    (λ i. field_add (made_add x v w i) (made_add y v w i))
+    ∙ add_swap (made x v) (made x w) (made y v) (made y w)
 made_add (Double x) v w = ap (field_mul 2) (made_add x v w) ∙ field_mul_add 2 (made x v) (made x w)
 made_add (TwoOn x) v w = made_add x (λ j. v (suc (suc j))) (λ j. w (suc (suc j)))
 
@@ -63,15 +67,19 @@ forward = Sum (Sum (Byte 1) (Double sums)) (TwoOn sums)
 abbrev pub inverse : Made
 inverse = Sum (Sum low high) (TwoOn high)
 
+-- the same of the bytes of a column from row r on, and around
 from_row : Made → (ℕ → ℕ) → ℕ → ℕ
 from_row x v r = made x (λ j. v ((r + j) % 4))
 
 -- a matrix that agrees with x on the powers of x, times each column of a state of bytes
-made_of_columns : (m : ℕ → List ℕ) (x : Made) → agree_on_powers (matrix m) (from_row x) ≡ true → (s : List ℕ)
+made_of_columns : (m : ℕ → List ℕ) (x : Made) → agree_on_powers (matrix m) (from_row x) ≡ true
+    → (s : List ℕ)
     → IsBytes s → times m s ≡ state (λ r c. from_row x (first_rows 4 (column s c)) r)
 unfolding times first_rows from_row
-made_of_columns m x test s h = state_same _ _ (λ r c lt _. linear_maps_agree (matrix m) (from_row x) (matrix_add m)
-    (λ v w i r. made_add x (λ j. v ((r + j) % 4)) (λ j. w ((r + j) % 4)) i) test (column s c) (λ j. h (j + 4 * c)) r lt)
+made_of_columns m x test s h =
+    state_same _ _ (λ r c lt _. linear_maps_agree (matrix m) (from_row x) (matrix_add m)
+    (λ v w i r. made_add x (λ j. v ((r + j) % 4)) (λ j. w ((r + j) % 4)) i) test (column s c)
+    (λ j. h (j + 4 * c)) r lt)
 
 -- a step that makes x of the bytes of each column, between as many shifts of the rows
 abbrev pub Mixes : Made → (List ℕ → List ℕ) → Type 0
@@ -83,9 +91,11 @@ pub mix_made : Mixes forward mix_columns
 unfolding mix_columns times state build agree_on_powers all_below only field_mul first_rows from_row shift_times shift_rows
     inv_shift_times inv_shift_rows
 mix_made cols h f bytes =
-    let back = λ (k : ℕ). sym (ap (inv_shift_times k) (made_of_columns mix_row forward refl (shift_times k (state f))
+    let back = λ (k : ℕ). sym
+    (ap (inv_shift_times k) (made_of_columns mix_row forward refl (shift_times k (state f))
     (shift_times_bytes k (state f) (state_bytes f bytes)))) in
-    by_four (λ k. state (λ r c. made forward (onward k f r c)) ≡ between_shifts k mix_columns (state f))
+    by_four (λ k. state (λ r c. made forward (onward k f r c))
+    ≡ between_shifts k mix_columns (state f))
     (back 0) (back 1) (back 2) (back 3) cols h
 
 -- and InvMixColumns
@@ -93,27 +103,34 @@ pub inv_mix_made : Mixes inverse inv_mix_columns
 unfolding inv_mix_columns times state build agree_on_powers all_below only field_mul first_rows from_row shift_times
     shift_rows inv_shift_times inv_shift_rows
 inv_mix_made cols h f bytes =
-    let back = λ (k : ℕ). sym (ap (inv_shift_times k) (made_of_columns inv_mix_row inverse refl (shift_times k (state f))
+    let back = λ (k : ℕ). sym
+    (ap (inv_shift_times k) (made_of_columns inv_mix_row inverse refl (shift_times k (state f))
     (shift_times_bytes k (state f) (state_bytes f bytes)))) in
-    by_four (λ k. state (λ r c. made inverse (onward k f r c)) ≡ between_shifts k inv_mix_columns (state f))
+    by_four (λ k. state (λ r c. made inverse (onward k f r c))
+    ≡ between_shifts k inv_mix_columns (state f))
     (back 0) (back 1) (back 2) (back 3) cols h
 
 -- ---- on planes
 
 -- planes that hold in each place what x makes of the old bytes from there on
-pub record Makes (n cols : ℕ) (old : List (List Bool)) (x : Made) (planes : List (List Bool)) : Type 0 where
+pub record Makes (n cols : ℕ) (old : List (List Bool)) (x : Made)
+    (planes : List (List Bool)) : Type 0 where
   -- byte by byte
   pub bytes : (r c k : ℕ) → r < 4 → c < 4 → k < n
-      → held_byte planes (place n r c k) ≡ made x (onward cols (λ r c. held_byte old (place n r c k)) r c)
+      → held_byte planes (place n r c k) ≡ made x
+      (onward cols (λ r c. held_byte old (place n r c k)) r c)
 
-module _ {A : Type 0} {bits : A → List Bool} {n w R H Q N S : ℕ} (shape : IsShape bits n w R H Q N S) (cols : ℕ)
+module _ {A : Type 0} {bits : A → List Bool} {n w R H Q N S : ℕ}
+    (shape : IsShape bits n w R H Q N S) (cols : ℕ)
     (old : List (List Bool)) where
+  -- a place is one of the word's bits
   inside : (r c k : ℕ) → r < 4 → c < 4 → k < n → place n r c k < w
   inside r c k hr hc hk = omega (arith, shape.sixteen, place_lt n r c k hr hc hk)
 
   -- planes whose bytes are sums
   pub summed : {x y : Made} {a b z : List (List Bool)} → Makes n cols old x a → Makes n cols old y b
-      → ((i : ℕ) → i < w → held_byte z i ≡ field_add (held_byte a i) (held_byte b i)) → Makes n cols old (Sum x y) z
+      → ((i : ℕ) → i < w → held_byte z i ≡ field_add (held_byte a i) (held_byte b i))
+      → Makes n cols old (Sum x y) z
   summed p q e = record {
     bytes = λ r c k hr hc hk. e (place n r c k) (inside r c k hr hc hk)
         ∙ (λ t. field_add (p.bytes r c k hr hc hk t) (q.bytes r c k hr hc hk t));
@@ -121,15 +138,18 @@ module _ {A : Type 0} {bits : A → List Bool} {n w R H Q N S : ℕ} (shape : Is
 
   -- planes whose bytes are doubles
   pub doubled : {x : Made} {a z : List (List Bool)} → Makes n cols old x a
-      → ((i : ℕ) → i < w → held_byte z i ≡ field_mul 2 (held_byte a i)) → Makes n cols old (Double x) z
+      → ((i : ℕ) → i < w → held_byte z i ≡ field_mul 2 (held_byte a i))
+      → Makes n cols old (Double x) z
   doubled p e = record {
-    bytes = λ r c k hr hc hk. e (place n r c k) (inside r c k hr hc hk) ∙ ap (field_mul 2) (p.bytes r c k hr hc hk);
+    bytes = λ r c k hr hc hk. e (place n r c k) (inside r c k hr hc hk)
+        ∙ ap (field_mul 2) (p.bytes r c k hr hc hk);
   }
 
   -- planes that are turned by two rows
   pub turned_two : {x : Made} {a z : List (List Bool)} → Makes n cols old x a
       → ((r c k : ℕ) → r < 4 → c < 4 → k < n
-      → held_byte z (place n r c k) ≡ held_byte a (place n ((r + 2) % 4) ((c + 2 * cols % 4) % 4) k))
+      → held_byte z (place n r c k) ≡ held_byte a
+      (place n ((r + 2) % 4) ((c + 2 * cols % 4) % 4) k))
       → Makes n cols old (TwoOn x) z
   turned_two {x = x} p turn = record {
     bytes = λ r c k hr hc hk.

@@ -1,6 +1,6 @@
 -- The blocks that planes hold: from facts on the bytes at places to equations on blocks.
-use Rattle.std.proofs.Common.{◌≡◌, ℕ, zero, suc, ◌+◌, ◌*◌, ◌/◌, ◌%◌, ◌<◌, Bool, List, [], ◌∷◌, length, get_or, map}
-use Rattle.std.proofs.Common.{replicate, refl, ap, sym, ◌∙◌, arith}
+use Rattle.std.proofs.Common.{◌≡◌, ℕ, zero, suc, ◌+◌, ◌*◌, ◌/◌, ◌%◌, ◌<◌, Bool, List, [], ◌∷◌}
+use Rattle.std.proofs.Common.{length, get_or, map, replicate, refl, ap, sym, ◌∙◌, arith}
 use Rattle.std.proofs.lemmas.List.{same_lists, length-map}
 use Rattle.std.proofs.lemmas.Nat.{mul-add-lt}
 use Rattle.std.proofs.Math.Arith.{digits_div, digits_mod, mod-mul}
@@ -16,11 +16,13 @@ pub use Rattle.std.proofs.lemmas.Simd.{map-map}
 -- ---- lists that are built of a function
 
 -- two functions that agree below n build the same list
-pub build-ext : {A : Type 0} (n : ℕ) (f g : ℕ → A) → ((i : ℕ) → i < n → f i ≡ g i) → build n f ≡ build n g
+pub build-ext : {A : Type 0} (n : ℕ) (f g : ℕ → A) → ((i : ℕ) → i < n → f i ≡ g i)
+    → build n f ≡ build n g
 build-ext n f g h = same_lists _ _ (length-build n f ∙ sym (length-build n g)) (λ i d l.
     let k : i < n = omega (arith, l, length-build n f) in
     get_or-build n i f d k ∙ h i k ∙ sym (get_or-build n i g d k))
 
+-- by recursion, from any start
 map-build_from : {A B : Type 0} (m : A → B) (a n : ℕ) (f : ℕ → A)
     → map m (build_from a n f) ≡ build_from a n (λ i. m (f i))
 unfolding build_from
@@ -28,15 +30,18 @@ map-build_from m a zero f = refl
 map-build_from m a (suc n) f = ap (λ xs. m (f a) ∷ xs) (map-build_from m (a + 1) n f)
 
 -- m of each element of a built list is the list built of m of each
-pub map-build : {A B : Type 0} (m : A → B) (n : ℕ) (f : ℕ → A) → map m (build n f) ≡ build n (λ i. m (f i))
+pub map-build : {A B : Type 0} (m : A → B) (n : ℕ) (f : ℕ → A)
+    → map m (build n f) ≡ build n (λ i. m (f i))
 unfolding build
 map-build m n f = map-build_from m 0 n f
 
+-- by recursion, from any start
 zip_with-build_from : {A B C : Type 0} (f : A → B → C) (a n : ℕ) (g : ℕ → A) (h : ℕ → B)
     → zip_with f (build_from a n g) (build_from a n h) ≡ build_from a n (λ i. f (g i) (h i))
 unfolding build_from
 zip_with-build_from f a zero g h = refl
-zip_with-build_from f a (suc n) g h = ap (λ xs. f (g a) (h a) ∷ xs) (zip_with-build_from f (a + 1) n g h)
+zip_with-build_from f a (suc n) g h =
+    ap (λ xs. f (g a) (h a) ∷ xs) (zip_with-build_from f (a + 1) n g h)
 
 -- f of two built lists, place by place, is the list built of f of both
 pub zip_with-build : {A B C : Type 0} (f : A → B → C) (n : ℕ) (g : ℕ → A) (h : ℕ → B)
@@ -47,11 +52,13 @@ zip_with-build f n g h = zip_with-build_from f 0 n g h
 -- ---- lists of blocks
 
 -- f of a list and of one value in every place is f of each element and that value
-pub zip_with-replicate : {A B C : Type 0} (f : A → B → C) (xs : List A) (n : ℕ) (y : B) → length xs ≡ n
+pub zip_with-replicate : {A B C : Type 0} (f : A → B → C) (xs : List A) (n : ℕ) (y : B)
+    → length xs ≡ n
     → zip_with f xs (replicate n y) ≡ map (λ x. f x y) xs
 zip_with-replicate f [] n y e = refl
 zip_with-replicate f (x ∷ xs) zero y e = absurd (omega arith)
-zip_with-replicate f (x ∷ xs) (suc n) y e = ap (λ zs. f x y ∷ zs) (zip_with-replicate f xs n y (omega arith))
+zip_with-replicate f (x ∷ xs) (suc n) y e =
+    ap (λ zs. f x y ∷ zs) (zip_with-replicate f xs n y (omega arith))
 
 -- ---- blocks in planes
 
@@ -69,6 +76,7 @@ place_lt n r c k h i j =
     let y = mul-add-lt r (4 * n) (c * n + k) 4 h (omega (arith, x)) in
     omega (arith, y)
 
+-- a digit that is too large wraps, and the lower digit stays
 wrapped : (m x q : ℕ) → x < m → (q * m + x) % (4 * m) ≡ (q % 4) * m + x
 wrapped m x q h =
     mod-mul (q * m + x) {m = 4} {c = m} (omega arith) (omega arith)
@@ -84,7 +92,8 @@ row_on n r c k d h i j l =
     rw (e, f) (wrapped (4 * n) (c * n + k) (r + d) x)
 
 -- the column of a place, where a row has R bits and a column Q
-pub column_of : (n R Q r c k : ℕ) → R ≡ 4 * n → Q ≡ n → r < 4 → c < 4 → k < n → place n r c k % R / Q ≡ c
+pub column_of : (n R Q r c k : ℕ) → R ≡ 4 * n → Q ≡ n → r < 4 → c < 4 → k < n
+    → place n r c k % R / Q ≡ c
 column_of n R Q r c k eR eQ h l kn =
     let x : c * n + k < 4 * n = omega (arith, mul-add-lt c n k 4 l kn) in
     let rest : place n r c k % R ≡ c * n + k = ap (λ v. place n r c k % v) eR ∙ digits_mod r x in
@@ -98,21 +107,25 @@ pub held_byte_lt : {A : Type 0} (bits : A → List Bool) (xs : List A) → lengt
 held_byte_lt bits xs l i = mapped_lt (λ w. at w i) (map bits xs) (simp length-map l)
 
 -- and bit p of it is that of word p there
-pub held_bit : {A : Type 0} (bits : A → List Bool) (xs : List A) (d : A) → length xs ≡ 8 → (i p : ℕ) → p < 8
+pub held_bit : {A : Type 0} (bits : A → List Bool) (xs : List A) (d : A) → length xs ≡ 8
+    → (i p : ℕ) → p < 8
     → bit (held_byte (map bits xs) i) p ≡ at (bits (get_or xs p d)) i
 held_bit bits xs d l i p h =
     let k : p < length xs = omega arith in
-    ap (λ ws. bit (number ws) p) (map-map (λ w. at w i) bits xs) ∙ mapped_bit (λ w. at (bits w) i) xs d p k
+    ap (λ ws. bit (number ws) p) (map-map (λ w. at w i) bits xs)
+    ∙ mapped_bit (λ w. at (bits w) i) xs d p k
 
 -- eight words hold the byte whose bits they have
-pub held_is : {A : Type 0} (bits : A → List Bool) (xs : List A) (d : A) (i x : ℕ) → length xs ≡ 8 → x < 256
+pub held_is : {A : Type 0} (bits : A → List Bool) (xs : List A) (d : A) (i x : ℕ)
+    → length xs ≡ 8 → x < 256
     → ((p : ℕ) → p < 8 → at (bits (get_or xs p d)) i ≡ bit x p) → held_byte (map bits xs) i ≡ x
 held_is bits xs d i x l h e =
     same_byte _ x (held_byte_lt bits xs l i) h (λ p k. held_bit bits xs d l i p k ∙ e p k)
 
 -- planes whose byte at each place is f of the old one
 pub bytes_held : (f : ℕ → ℕ) (n : ℕ) (new old : List (List Bool))
-    → ((i : ℕ) → i < 16 * n → held_byte new i ≡ f (held_byte old i)) → held n new ≡ map (map f) (held n old)
+    → ((i : ℕ) → i < 16 * n → held_byte new i ≡ f (held_byte old i))
+    → held n new ≡ map (map f) (held n old)
 unfolding held state
 bytes_held f n new old h =
     build-ext n _ _ (λ k l. build-ext 16 _ _ (λ j m. h (place n (j % 4) (j / 4) k)
@@ -131,9 +144,12 @@ added_held n new old key h =
     (sym (byte_at-state (λ r c. held_byte key (place n r c k)) r c i j) t))))
     ∙ sym (zip_with-build add_round_key n _ _)
 
--- planes whose byte at each place is, in the block of the old bytes, what a step on states puts there
-pub stepped_held : (step : List ℕ → List ℕ) (at : (ℕ → ℕ → ℕ) → ℕ → ℕ → ℕ) (n : ℕ) (new old : List (List Bool))
-    → ((k : ℕ) → state (at (λ r c. held_byte old (place n r c k))) ≡ step (state (λ r c. held_byte old (place n r c k))))
+-- planes whose byte at each place is, in the block of the old
+-- bytes, what a step on states puts there
+pub stepped_held : (step : List ℕ → List ℕ) (at : (ℕ → ℕ → ℕ) → ℕ → ℕ → ℕ) (n : ℕ)
+    (new old : List (List Bool))
+    → ((k : ℕ) → state (at (λ r c. held_byte old (place n r c k)))
+    ≡ step (state (λ r c. held_byte old (place n r c k))))
     → ((r c k : ℕ) → r < 4 → c < 4 → k < n → held_byte new (place n r c k)
     ≡ at (λ r c. held_byte old (place n r c k)) r c)
     → held n new ≡ map step (held n old)
@@ -147,11 +163,13 @@ stepped_held step at n new old e h =
 -- planes hold the blocks whose bytes they have
 pub held_of : (n : ℕ) (planes : List (List Bool)) (blocks : List (List ℕ)) → length blocks ≡ n
     → ((k : ℕ) → k < n → length (get_or blocks k []) ≡ 16)
-    → ((r c k : ℕ) → r < 4 → c < 4 → k < n → held_byte planes (place n r c k) ≡ byte_at (get_or blocks k []) r c)
+    → ((r c k : ℕ) → r < 4 → c < 4 → k < n → held_byte planes (place n r c k)
+    ≡ byte_at (get_or blocks k []) r c)
     → held n planes ≡ blocks
 unfolding held
 held_of n planes blocks l sized h =
-    build_is n _ blocks [] l (λ k lt. state_is _ (get_or blocks k []) (sized k lt) (λ r c i j. h r c k i j lt))
+    build_is n _ blocks [] l
+    (λ k lt. state_is _ (get_or blocks k []) (sized k lt) (λ r c i j. h r c k i j lt))
 
 -- a list of one is its element
 pub single : {A : Type 0} (xs : List A) (d : A) → length xs ≡ 1 → xs ≡ get_or xs 0 d ∷ []

@@ -1,6 +1,6 @@
 -- The relation that planes hold blocks, and the blocks that they hold as a function.
-use Rattle.std.proofs.Common.{◌≡◌, ℕ, suc, ◌+◌, ◌*◌, ◌<◌, Bool, List, [], length, get_or, map, ap, sym}
-use Rattle.std.proofs.Common.{◌^◌, slice_index, ◌∙◌, arith}
+use Rattle.std.proofs.Common.{◌≡◌, ℕ, suc, ◌+◌, ◌*◌, ◌<◌, Bool, List, [], length, get_or, map, ap}
+use Rattle.std.proofs.Common.{sym, ◌^◌, slice_index, ◌∙◌, arith}
 use Rattle.std.proofs.lemmas.List.{map-id}
 use Rattle.std.proofs.lemmas.Simd.{map-map}
 use Rattle.aes_planes.specs.Bits.{at, bit}
@@ -12,13 +12,15 @@ use Rattle.aes_planes.proofs.Lists.{get_or-build}
 use Rattle.aes_planes.proofs.Planes.Held.{held_of, length-held}
 use Rattle.aes_planes.proofs.Bits.BytesByBits.{mapped_lt, mapped_bit, mapped_is}
 
+-- block k of those that planes hold, by its bytes
 held_at : (n : ℕ) (planes : List (List Bool)) (k : ℕ) → k < n
     → get_or (held n planes) k [] ≡ state (λ r c. held_byte planes (place n r c k))
 unfolding held
 held_at n planes k h = get_or-build n k _ [] h
 
 -- each block that planes hold has sixteen bytes
-pub held_length : (n : ℕ) (planes : List (List Bool)) (k : ℕ) → k < n → length (get_or (held n planes) k []) ≡ 16
+pub held_length : (n : ℕ) (planes : List (List Bool)) (k : ℕ) → k < n
+    → length (get_or (held n planes) k []) ≡ 16
 held_length n planes k h = ap length (held_at n planes k h) ∙ state_length _
 
 -- and each of them is below 2 ^ 8
@@ -30,7 +32,8 @@ held_bytes n planes k i l h =
     bytes i
 
 -- a plane's bit at a place is the bit of its number in the byte held there
-pub held_bits : (n : ℕ) (planes : List (List Bool)) → length planes ≡ 8 → (p r c k : ℕ) → p < 8 → r < 4 → c < 4 → k < n
+pub held_bits : (n : ℕ) (planes : List (List Bool)) → length planes ≡ 8 → (p r c k : ℕ) → p < 8
+    → r < 4 → c < 4 → k < n
     → at (get_or planes p []) (place n r c k) ≡ bit (byte_at (get_or (held n planes) k []) r c) p
 held_bits n planes l p r c k hp hr hc hk =
     sym (mapped_bit (λ w. at w (place n r c k)) planes [] p (omega arith))
@@ -38,7 +41,8 @@ held_bits n planes l p r c k hp hr hc hk =
     ∙ byte_at-state (λ r c. held_byte planes (place n r c k)) r c hr hc))
 
 -- eight planes hold the blocks that are read of them
-pub held_holds : (n : ℕ) (planes : List (List Bool)) → length planes ≡ 8 → Holds n planes (held n planes)
+pub held_holds : (n : ℕ) (planes : List (List Bool)) → length planes ≡ 8
+    → Holds n planes (held n planes)
 held_holds n planes l = record {
   planes_count = l;
   blocks_count = length-held n planes;
@@ -48,7 +52,8 @@ held_holds n planes l = record {
 }
 
 -- planes that hold these blocks hold no others
-pub holds_held : (n : ℕ) (planes : List (List Bool)) (blocks : List (List ℕ)) → Holds n planes blocks
+pub holds_held : (n : ℕ) (planes : List (List Bool)) (blocks : List (List ℕ))
+    → Holds n planes blocks
     → held n planes ≡ blocks
 holds_held n planes blocks h =
     held_of n planes blocks h.blocks_count h.block_length (λ r c k i j l.
@@ -65,7 +70,8 @@ pub none_deferred : (n : ℕ) (planes : List (List Bool)) → HoldsShifted n pla
 none_deferred n planes = map-zero_shifts (held n planes)
 
 -- a ShiftRows that is left out is one more that is deferred
-pub one_more_deferred : (n s : ℕ) (planes : List (List Bool)) (blocks : List (List ℕ)) → HoldsShifted n planes s blocks
+pub one_more_deferred : (n s : ℕ) (planes : List (List Bool)) (blocks : List (List ℕ))
+    → HoldsShifted n planes s blocks
     → HoldsShifted n planes (s + 1) (map shift_rows blocks)
 unfolding shift_times
 one_more_deferred n s planes blocks is =
@@ -75,4 +81,5 @@ one_more_deferred n s planes blocks is =
 
 pub ruleset laws_of_deferring = (none_deferred, one_more_deferred)
 
-pub ruleset laws_of_holding = (length-held, held_length, held_bytes, held_bits, holds_held, map-zero_shifts)
+pub ruleset laws_of_holding =
+    (length-held, held_length, held_bytes, held_bits, holds_held, map-zero_shifts)

@@ -1,6 +1,8 @@
--- Circuits of gates as lists, and the step from what they make of all 256 bytes to every place of eight planes.
-use Rattle.std.proofs.Common.{◌≡◌, ℕ, zero, suc, ◌+◌, ◌-◌, ◌*◌, ◌/◌, ◌^◌, ◌<◌, Bool, true, not, ◌&&◌, ◌==◌, List}
-use Rattle.std.proofs.Common.{[], ◌∷◌, length, map, get_or, bit_and, bit_xor, refl, ap, sym, ◌∙◌, arith, inl, inr}
+-- Circuits of gates as lists, and the step from what they make of all
+-- 256 bytes to every place of eight planes.
+use Rattle.std.proofs.Common.{◌≡◌, ℕ, zero, suc, ◌+◌, ◌-◌, ◌*◌, ◌/◌, ◌^◌, ◌<◌, Bool, true, not}
+use Rattle.std.proofs.Common.{◌&&◌, ◌==◌, List, [], ◌∷◌, length, map, get_or, bit_and, bit_xor}
+use Rattle.std.proofs.Common.{refl, ap, sym, ◌∙◌, arith, inl, inr}
 use Rattle.std.proofs.lemmas.Bool.{eqb-true, cases_lt}
 use Rattle.std.proofs.lemmas.List.{length-map, get_or_past}
 use Rattle.std.proofs.lemmas.Simd.{map-map}
@@ -29,8 +31,10 @@ gate (Not a) read = not (read a)
 
 -- the bits of every byte v: bit v of number p is bit p of v
 abbrev pub all_bytes : List ℕ
-all_bytes = map (λ p. (2 ^ 256 - 1) / (2 ^ 2 ^ p + 1) * 2 ^ 2 ^ p) (0 ∷ 1 ∷ 2 ∷ 3 ∷ 4 ∷ 5 ∷ 6 ∷ 7 ∷ [])
+all_bytes = map (λ p. (2 ^ 256 - 1) / (2 ^ 2 ^ p + 1) * 2 ^ 2 ^ p)
+    (0 ∷ 1 ∷ 2 ∷ 3 ∷ 4 ∷ 5 ∷ 6 ∷ 7 ∷ [])
 
+-- a gate on such numbers, for all bytes at once
 gate_of_all : Gate → List ℕ → ℕ
 gate_of_all (Xor a b) env = bit_xor (get_or env a 0) (get_or env b 0)
 gate_of_all (And a b) env = bit_and (get_or env a 0) (get_or env b 0)
@@ -49,17 +53,21 @@ agrees f outs v = number (map (λ x. bit x v) outs) == f v
 -- a circuit makes f of every byte
 pub record Computes (gates : List Gate) (places : List ℕ) (f : ℕ → ℕ) : Type 0 where
   -- the gates leave at v the bits of f of v
-  pub makes : (v : ℕ) → v < 256 → number (map (λ n. bit n v) (computed gates places all_bytes)) ≡ f v
+  pub makes : (v : ℕ) → v < 256
+      → number (map (λ n. bit n v) (computed gates places all_bytes)) ≡ f v
 
 -- a circuit makes f of every byte if it makes g of each of the 256, by a test, and g is f there
 pub computes_by_test : (gates : List Gate) (places : List ℕ) (f g : ℕ → ℕ)
-    → all_below 256 (agrees g (computed gates places all_bytes)) ≡ true → ((v : ℕ) → v < 256 → g v ≡ f v)
+    → all_below 256 (agrees g (computed gates places all_bytes)) ≡ true
+    → ((v : ℕ) → v < 256 → g v ≡ f v)
     → Computes gates places f
 unfolding agrees
 computes_by_test gates places f g test same = record {
-  makes = λ v h. eqb-true _ _ (all_below_tells 256 (agrees g (computed gates places all_bytes)) test v h) ∙ same v h;
+  makes = λ v h. eqb-true _ _
+      (all_below_tells 256 (agrees g (computed gates places all_bytes)) test v h) ∙ same v h;
 }
 
+-- bit v of what it makes is the gate's bit for the byte v
 gate_at : (g : Gate) (env : List ℕ) (v : ℕ) → v < 256
     → gate g (λ p. bit (get_or env p 0) v) ≡ bit (gate_of_all g env) v
 unfolding gate_of_all
@@ -74,24 +82,32 @@ gate_at (Not a) env v h = sym (bit_of_xor (get_or env a 0) (2 ^ 256 - 1) v
 abbrev pub bits_at : List (List Bool) → ℕ → List Bool
 bits_at planes i = map (λ w. at w i) planes
 
--- the results come by these gates from these planes of w bits: one step a gate, as the contract of a word's call has it
+-- the results come by these gates from these planes of w bits: one step a
+-- gate, as the contract of a word's call has it
 pub data Runs (w : ℕ) : List Gate → List ℕ → List (List Bool) → List (List Bool) → Type 0 where
   done : {places : List ℕ} {env results : List (List Bool)}
-      → ((i : ℕ) → bits_at results i ≡ map (λ p. at (get_or env p []) i) places) → Runs w [] places env results
-  ◌▸◌ : {g : Gate} {gs : List Gate} {places : List ℕ} {env results : List (List Bool)} {x : List Bool}
-      → ((i : ℕ) → i < w → at x i ≡ gate g (λ p. at (get_or env p []) i)) → Runs w gs places (x ∷ env) results
+      → ((i : ℕ) → bits_at results i ≡ map (λ p. at (get_or env p []) i) places)
+      → Runs w [] places env results
+  ◌▸◌ : {g : Gate} {gs : List Gate} {places : List ℕ} {env results : List (List Bool)}
+      {x : List Bool}
+      → ((i : ℕ) → i < w → at x i ≡ gate g (λ p. at (get_or env p []) i))
+      → Runs w gs places (x ∷ env) results
       → Runs w (g ∷ gs) places env results
 
 -- numbers stand for planes at place i, where the byte is v
 abbrev Stands : List ℕ → List (List Bool) → ℕ → ℕ → Type 0
 Stands ns env i v = (p : ℕ) → at (get_or env p []) i ≡ bit (get_or ns p 0) v
 
-one_more : (n : ℕ) (ns : List ℕ) (x : List Bool) (env : List (List Bool)) (i v : ℕ) → at x i ≡ bit n v
+-- one wire more stands there, in front of the others
+one_more : (n : ℕ) (ns : List ℕ) (x : List Bool) (env : List (List Bool)) (i v : ℕ)
+    → at x i ≡ bit n v
     → Stands ns env i v → Stands (n ∷ ns) (x ∷ env) i v
 one_more n ns x env i v e s zero = e
 one_more n ns x env i v e s (suc p) = s p
 
-run_at : {w : ℕ} {gs : List Gate} {places : List ℕ} {env results : List (List Bool)} → Runs w gs places env results
+-- so a run of a circuit at place i is what the test computed for the byte there
+run_at : {w : ℕ} {gs : List Gate} {places : List ℕ} {env results : List (List Bool)}
+    → Runs w gs places env results
     → (ns : List ℕ) (i v : ℕ) → i < w → v < 256 → Stands ns env i v
     → bits_at results i ≡ map (λ n. bit n v) (computed gs places ns)
 unfolding computed
@@ -106,18 +122,25 @@ at_first : (planes : List (List Bool)) (i : ℕ) → length planes ≡ 8
     → Stands all_bytes planes i (held_byte planes i)
 unfolding all_below bit same
 at_first planes i l p = elim (cases_lt p 8) [
-  | inl lt ↦ sym (mapped_bit (λ w. at w i) planes [] p (omega arith)) ∙ sym (same_tells _ _ (all_pairs_tell 256 8
-      (λ v p. same (bit (get_or all_bytes p 0) v) (bit v p)) refl _ p (mapped_lt (λ w. at w i) planes l) lt))
+  | inl lt ↦ sym (mapped_bit (λ w. at w i) planes [] p (omega arith))
+      ∙ sym (same_tells _ _ (all_pairs_tell 256 8
+      (λ v p. same (bit (get_or all_bytes p 0) v) (bit v p)) refl _ p
+      (mapped_lt (λ w. at w i) planes l) lt))
   | inr le ↦ ap (λ w. at w i) (get_or_past planes p [] (omega arith))
-      ∙ sym (ap (λ n. bit n (held_byte planes i)) (get_or_past all_bytes p 0 le) ∙ bit_zero (held_byte planes i))
+      ∙ sym (ap (λ n. bit n (held_byte planes i)) (get_or_past all_bytes p 0 le)
+      ∙ bit_zero (held_byte planes i))
 ]
 
--- words made by the gates of a circuit for f, from eight old ones, hold f of each byte of the old blocks
-pub circuit_held : {A : Type 0} {bits : A → List Bool} {n B R H Q N S : ℕ} {gates : List Gate} {places : List ℕ}
-    {f : ℕ → ℕ} {xs ys : List A} {new : List (List Bool)} → IsShape bits n B R H Q N S → Computes gates places f
+-- words made by the gates of a circuit for f, from eight old
+-- ones, hold f of each byte of the old blocks
+pub circuit_held : {A : Type 0} {bits : A → List Bool} {n B R H Q N S : ℕ} {gates : List Gate}
+    {places : List ℕ}
+    {f : ℕ → ℕ} {xs ys : List A} {new : List (List Bool)} → IsShape bits n B R H Q N S
+    → Computes gates places f
     → xs ≡ ys → length ys ≡ 8 → Runs B gates places (map bits ys) new
     → held n new ≡ map (map f) (held n (map bits xs))
-circuit_held {bits = bits} {n = n} {gates = gates} {places = places} {f = f} {ys = ys} shape claim same l ran =
+circuit_held {bits = bits} {n = n} {gates = gates} {places = places} {f = f}
+    {ys = ys} shape claim same l ran =
     let old = map bits ys in
     let eight : length old ≡ 8 = simp length-map l in
     bytes_held f n _ _ (λ i h.

@@ -5,7 +5,8 @@ use Rattle.aes_planes.specs.Planes.{plus63}
 use Rattle.aes_planes.specs.SBoxTables.{sbox_table, inv_sbox_table}
 use Rattle.aes_planes.specs.Bits.{bit}
 use Rattle.aes_planes.proofs.Bits.ByteCases.{all_below}
-use Rattle.aes_planes.proofs.SBox.Circuits.{Gate, Xor, And, Not, Computes, computed, agrees, computes_by_test}
+use Rattle.aes_planes.proofs.SBox.Circuits.{Gate, Xor, And, Not, Computes, computed, agrees}
+use Rattle.aes_planes.proofs.SBox.Circuits.{computes_by_test}
 use Rattle.aes_planes.proofs.SBox.InverseSBox.{listed, inv_listed, sbox_listed, inv_sbox_listed}
 use Rattle.aes_planes.proofs.Standard.FieldLaws.{field_add_byte}
 
@@ -65,7 +66,8 @@ inv_sbox_places = 2 ∷ 8 ∷ 20 ∷ 3 ∷ 19 ∷ 9 ∷ 0 ∷ 18 ∷ []
 -- those gates leave, at those places, the inverse S-box of a byte to which 0x63 is added
 pub inv_sbox_computed : Computes inv_sbox_gates inv_sbox_places (λ b. inv_sbox (plus63 b))
 unfolding all_below agrees bit computed inv_sbox_gates inv_sbox_table
-inv_sbox_computed = computes_by_test inv_sbox_gates inv_sbox_places _ (λ b. inv_listed (plus63 b)) refl
+inv_sbox_computed =
+    computes_by_test inv_sbox_gates inv_sbox_places _ (λ b. inv_listed (plus63 b)) refl
     (λ v h. sym (inv_sbox_listed (plus63 v) (field_add_byte v 0x63 h (omega arith))))
 
 -- the gates of sub_bytes_nots, and where its results stand

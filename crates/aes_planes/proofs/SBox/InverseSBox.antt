@@ -1,10 +1,12 @@
 -- The S-box and its inverse: their tables, and that they undo each other.
-use Rattle.std.proofs.Common.{◌≡◌, ℕ, ◌<◌, ◌==◌, Bool, ◌&&◌, nat_lt, get_or, refl, sym, ap, ◌∙◌, arith}
+use Rattle.std.proofs.Common.{◌≡◌, ℕ, ◌<◌, ◌==◌, Bool, ◌&&◌, nat_lt, get_or, refl, sym, ap, ◌∙◌}
+use Rattle.std.proofs.Common.{arith}
 use Rattle.std.proofs.lemmas.Bool.{eqb-true, eq-eqb, and_parts, ltb-true}
 use Rattle.aes_planes.specs.Fips197.{affine, sbox, inv_sbox}
 use Rattle.aes_planes.specs.SBoxTables.{sbox_table, inv_sbox_table}
 use Rattle.aes_planes.proofs.Bits.ByteCases.{all_below, all_below_tells}
-use Rattle.aes_planes.proofs.Standard.FieldInverses.{Passes, byte_passes, least_byte_lt, untransformed, inverse_listed}
+use Rattle.aes_planes.proofs.Standard.FieldInverses.{Passes, byte_passes, least_byte_lt}
+use Rattle.aes_planes.proofs.Standard.FieldInverses.{untransformed, inverse_listed}
 
 -- the S-box by its table
 abbrev pub listed : ℕ → ℕ
@@ -14,10 +16,12 @@ listed b = get_or sbox_table b 0
 abbrev pub inv_listed : ℕ → ℕ
 inv_listed b = get_or inv_sbox_table b 0
 
--- the table has the S-box of b, the tables undo each other at b, and the inverse table has a byte there
+-- the table has the S-box of b, the tables undo each other at b,
+-- and the inverse table has a byte there
 tables : ℕ → Bool
 tables b =
-    (affine (untransformed b) == listed b) && ((inv_listed (listed b) == b) && ((listed (inv_listed b) == b)
+    (affine (untransformed b) == listed b)
+    && ((inv_listed (listed b) == b) && ((listed (inv_listed b) == b)
     && nat_lt (inv_listed b) 256))
 
 record Listed (b : ℕ) : Type 0 where
@@ -26,6 +30,7 @@ record Listed (b : ℕ) : Type 0 where
   forth : listed (inv_listed b) ≡ b
   inv_byte : inv_listed b < 256
 
+-- by all cases
 in_tables : (b : ℕ) → b < 256 → Listed b
 unfolding all_below tables sbox affine untransformed sbox_table inv_sbox_table
 in_tables b h =
@@ -48,11 +53,13 @@ pub sbox_byte : (b : ℕ) → sbox b < 256
 unfolding sbox affine
 sbox_byte b = omega arith
 
+-- the inverse table undoes the S-box
 sbox_undone : (b : ℕ) → b < 256 → inv_listed (sbox b) ≡ b
 sbox_undone b h = ap inv_listed (sbox_listed b h) ∙ (in_tables b h).back
 
 -- ---- the inverse S-box is a search
 
+-- so the search finds a byte whose S-box is y
 inverted : (y : ℕ) → y < 256 → Passes (λ b. sbox b == y) (inv_sbox y) 256
 unfolding inv_sbox
 inverted y h =
@@ -71,7 +78,8 @@ inv_sbox_byte y = least_byte_lt (λ b. sbox b == y)
 
 -- the inverse S-box is its table
 pub inv_sbox_listed : (y : ℕ) → y < 256 → inv_sbox y ≡ inv_listed y
-inv_sbox_listed y h = sym (sbox_undone (inv_sbox y) (inv_sbox_byte y)) ∙ ap inv_listed (sbox_of_inv_sbox y h)
+inv_sbox_listed y h = sym (sbox_undone (inv_sbox y) (inv_sbox_byte y))
+    ∙ ap inv_listed (sbox_of_inv_sbox y h)
 
 -- the inverse S-box undoes the S-box
 pub inv_sbox_of_sbox : (b : ℕ) → b < 256 → inv_sbox (sbox b) ≡ b

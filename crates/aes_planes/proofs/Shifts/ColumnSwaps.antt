@@ -1,25 +1,29 @@
 -- Swaps of bits under a mask, column by column.
-use Rattle.std.proofs.Common.{◌≡◌, ℕ, zero, suc, ◌+◌, ◌-◌, ◌*◌, ◌/◌, ◌%◌, ◌<◌, ◌≤◌, Bool, true, false, cond, ◌&&◌, ◌||◌}
-use Rattle.std.proofs.Common.{not, nat_le, nat_lt, List, [], ◌∷◌, length, get_or, map, refl, ap, sym, ◌∙◌, ◌⊎◌, inl}
-use Rattle.std.proofs.Common.{inr, arith}
+use Rattle.std.proofs.Common.{◌≡◌, ℕ, zero, suc, ◌+◌, ◌-◌, ◌*◌, ◌/◌, ◌%◌, ◌<◌, ◌≤◌, Bool, true}
+use Rattle.std.proofs.Common.{false, cond, ◌&&◌, ◌||◌, not, nat_le, nat_lt, List, [], ◌∷◌, length}
+use Rattle.std.proofs.Common.{get_or, map, refl, ap, sym, ◌∙◌, ◌⊎◌, inl, inr, arith}
 use Rattle.std.proofs.Common.{mul-le-mul_right}
 use Rattle.std.proofs.Math.Bool.{and-false}
 use Rattle.std.proofs.lemmas.Bool.{cases_lt, le-leb, lt-leb, lt-ltb, ltb-true, and_parts, not-true}
 use Rattle.std.proofs.lemmas.Bool.{false_from_ne_true, cond_both}
 use Rattle.std.proofs.lemmas.Nat.{mul-add-lt}
 use Rattle.aes_planes.specs.Bits.{at, bit, xor, IsShape, Places}
-use Rattle.aes_planes.specs.Fips197.{state, build, shift_rows, inv_shift_rows, shift_times, inv_shift_times}
+use Rattle.aes_planes.specs.Fips197.{state, build, shift_rows, inv_shift_rows, shift_times}
+use Rattle.aes_planes.specs.Fips197.{inv_shift_times}
 use Rattle.aes_planes.specs.Planes.{held, held_byte, place}
-use Rattle.aes_planes.specs.Private.Swaps.{moved_bit, swapped_bit, source, is_swap_at, columns_swapped}
+use Rattle.aes_planes.specs.Private.Swaps.{moved_bit, swapped_bit, source, is_swap_at}
+use Rattle.aes_planes.specs.Private.Swaps.{columns_swapped}
 use Rattle.aes_planes.proofs.Standard.States.{byte_at-state, state_same}
 use Rattle.aes_planes.proofs.Bits.BitCases.{swapped}
 use Rattle.aes_planes.proofs.Bits.ByteCases.{all_below, all_pairs_tell}
-use Rattle.aes_planes.proofs.Planes.Held.{place_lt, column_of, stepped_held, held_byte_lt, held_bit, held_is, map-map, map-same}
+use Rattle.aes_planes.proofs.Planes.Held.{place_lt, column_of, stepped_held, held_byte_lt, held_bit}
+use Rattle.aes_planes.proofs.Planes.Held.{held_is, map-map, map-same}
 use lib.Arith.{digits_div}
 
 -- ---- by rows and columns, where the mask has a nibble for each row
 
-module _ {A : Type 0} {bits : A → List Bool} {n B R H Q N S : ℕ} (shape : IsShape bits n B R H Q N S) where
+module _ {A : Type 0} {bits : A → List Bool} {n B R H Q N S : ℕ}
+    (shape : IsShape bits n B R H Q N S) where
   -- a nibble for each row, read at a place
   pub row_mask : (r c k : ℕ) (nibbles : List ℕ) (mask : List Bool) → r < 4 → c < 4 → k < n
       → Places B mask (λ i. bit (get_or nibbles (i / R) 0) (i % R / Q))
@@ -33,7 +37,8 @@ module _ {A : Type 0} {bits : A → List Bool} {n B R H Q N S : ℕ} (shape : Is
       reads p b ∙ (λ t. bit (get_or nibbles (row t) 0) (column t))
 
 -- f of whichever of three numbers two tests choose
-chosen : (b q : Bool) (f : ℕ → Bool) (u v x : ℕ) → cond b (f u) (cond q (f v) (f x)) ≡ f (cond b u (cond q v x))
+chosen : (b q : Bool) (f : ℕ → Bool) (u v x : ℕ)
+    → cond b (f u) (cond q (f v) (f x)) ≡ f (cond b u (cond q v x))
 chosen true q f u v x = refl
 chosen false true f u v x = refl
 chosen false false f u v x = refl
@@ -43,30 +48,35 @@ let_through : (p q m : Bool) → (m ≡ true → p ≡ q) → (p && m) ≡ (q &&
 let_through p q true e = ap (λ v. v && true) (e refl)
 let_through p q false e = and-false p ∙ sym (and-false q)
 
-module _ (d : ℕ) (nibbles : List ℕ) (ok : (r c : ℕ) → r < 4 → c < 4 → is_swap_at d nibbles r c ≡ true) where
+module _ (d : ℕ) (nibbles : List ℕ) (ok : (r c : ℕ) → r < 4 → c < 4
+    → is_swap_at d nibbles r c ≡ true) where
   -- whether a column is named in a row
   abbrev named : ℕ → ℕ → Bool
   named r c = bit (get_or nibbles r 0) c
 
+  -- a named column has one to swap with in its row
   inside : (r c : ℕ) → r < 4 → c < 4 → named r c ≡ true → c + d < 4
   inside r c h l e =
       let t : (not (named r c) || nat_lt (c + d) 4) ≡ true = (and_parts _ _ (ok r c h l)).0 in
       ltb-true (c + d) 4 (rw e at t)
 
+  -- and none is named on both sides, so no bit moves twice
   apart : (r c : ℕ) → r < 4 → c < 4 → (named r c && (nat_le d c && named r (c - d))) ≡ false
   apart r c h l = not-true _ (and_parts _ _ (ok r c h l)).1
 
   -- a column below 4 is swapped with a column below 4
   pub source_lt : (r c : ℕ) → r < 4 → c < 4 → source d nibbles r c < 4
   source_lt r c h l = cond_both (named r c) _ _ (λ v. v < 4) (inside r c h l)
-      (λ t. cond_both (nat_le d c && named r (c - d)) (c - d) c (λ v. v < 4) (λ u. omega arith) (λ u. l))
+      (λ t. cond_both (nat_le d c && named r (c - d)) (c - d) c (λ v. v < 4)
+      (λ u. omega arith) (λ u. l))
 
   -- the state of bytes read at swapped columns is the state of the bytes, with its columns swapped
   pub columns_swapped-state : (f : ℕ → ℕ → ℕ) → state (λ r c. f r (source d nibbles r c))
       ≡ columns_swapped d nibbles (state f)
   unfolding columns_swapped
   columns_swapped-state f =
-      state_same _ _ (λ r c h l. sym (byte_at-state f r (source d nibbles r c) h (source_lt r c h l)))
+      state_same _ _ (λ r c h l. sym
+      (byte_at-state f r (source d nibbles r c) h (source_lt r c h l)))
 
   module _ (n k : ℕ) (a mask : List Bool) (kn : k < n)
       (masked : (r c : ℕ) → r < 4 → c < 4 → at mask (place n r c k) ≡ named r c) where
@@ -77,7 +87,8 @@ module _ (d : ℕ) (nibbles : List ℕ) (ok : (r c : ℕ) → r < 4 → c < 4 �
     moved = moved_bit (16 * n) a mask (d * n)
 
     -- a named column and its partner differ where bits move
-    moved_at : (r c : ℕ) → r < 4 → c < 4 → moved (place n r c k) ≡ (xor (own r c) (own r (c + d)) && named r c)
+    moved_at : (r c : ℕ) → r < 4 → c < 4 → moved (place n r c k)
+        ≡ (xor (own r c) (own r (c + d)) && named r c)
     unfolding moved own
     moved_at r c h l =
         let up : Bool = nat_lt (place n r c k + d * n) (16 * n) && at a (place n r c k + d * n) in
@@ -88,7 +99,8 @@ module _ (d : ℕ) (nibbles : List ℕ) (ok : (r c : ℕ) → r < 4 → c < 4 �
         ∙ ap (λ v. v && own r (c + d)) (lt-ltb _ _ (place_lt n r (c + d) k h s kn))))
 
     -- no bit moves into a column below d
-    none_below : (r c : ℕ) → r < 4 → c < d → d < 4 → (nat_le (d * n) (place n r c k) && moved (place n r c k - d * n))
+    none_below : (r c : ℕ) → r < 4 → c < d → d < 4
+        → (nat_le (d * n) (place n r c k) && moved (place n r c k - d * n))
         ≡ false
     none_below zero c h l dl =
         let m : suc c * n ≤ d * n = mul-le-mul_right n l in
@@ -99,7 +111,8 @@ module _ (d : ℕ) (nibbles : List ℕ) (ok : (r c : ℕ) → r < 4 → c < 4 �
         let j : place n (suc r) c k - d * n ≡ place n r e k = omega arith in
         let f : named r e ≡ false = false_from_ne_true _
         (λ t. let s = inside r e (omega arith) (omega arith) t in omega arith) in
-        ap (λ v. nat_le (d * n) (place n (suc r) c k) && v) (ap moved j ∙ moved_at r e (omega arith) (omega arith)
+        ap (λ v. nat_le (d * n) (place n (suc r) c k) && v)
+        (ap moved j ∙ moved_at r e (omega arith) (omega arith)
         ∙ ap (λ v. xor (own r e) (own r (e + d)) && v) f ∙ and-false _) ∙ and-false _
 
     -- and into the others those of the column d below
@@ -107,17 +120,21 @@ module _ (d : ℕ) (nibbles : List ℕ) (ok : (r c : ℕ) → r < 4 → c < 4 �
         → (nat_le (d * n) (place n r c k) && moved (place n r c k - d * n))
         ≡ (xor (own r (c - d)) (own r c) && (nat_le d c && named r (c - d)))
     moved_up r c h l dl (inl lt) = none_below r c h lt dl
-        ∙ sym (ap (λ v. xor (own r (c - d)) (own r c) && (v && named r (c - d))) (lt-leb d c lt) ∙ and-false _)
+        ∙ sym (ap (λ v. xor (own r (c - d)) (own r c) && (v && named r (c - d))) (lt-leb d c lt)
+        ∙ and-false _)
     moved_up r c h l dl (inr le) =
         let m : c * n ≡ (c - d + d) * n = ap (λ v. v * n) (omega arith) in
         let j : place n r c k - d * n ≡ place n r (c - d) k = omega arith in
         let e : c - d + d ≡ c = omega arith in
-        (λ t. le-leb (d * n) (place n r c k) (omega arith) t && (ap moved j ∙ moved_at r (c - d) h (omega arith)
+        (λ t. le-leb (d * n) (place n r c k) (omega arith) t
+        && (ap moved j ∙ moved_at r (c - d) h (omega arith)
         ∙ ap (λ v. xor (own r (c - d)) (own r v) && named r (c - d)) e) t)
         ∙ ap (λ v. xor (own r (c - d)) (own r c) && (v && named r (c - d))) (sym (le-leb d c le))
 
-    -- after a swap of bits under the mask each place has the bit of the column that its column is swapped with
-    pub swapped_rc : (r c : ℕ) → r < 4 → c < 4 → d < 4 → swapped_bit (16 * n) a mask (d * n) (place n r c k)
+    -- after a swap of bits under the mask each place has the bit of
+    -- the column that its column is swapped with
+    pub swapped_rc : (r c : ℕ) → r < 4 → c < 4 → d < 4
+        → swapped_bit (16 * n) a mask (d * n) (place n r c k)
         ≡ at a (place n r (source d nibbles r c) k)
     unfolding moved own
     swapped_rc r c h l dl =
@@ -129,19 +146,26 @@ module _ (d : ℕ) (nibbles : List ℕ) (ok : (r c : ℕ) → r < 4 → c < 4 �
 
 -- eight words swapped under the mask hold the old blocks with those columns swapped
 pub swapped_held : {A : Type 0} {bits : A → List Bool} {n B R H Q N S s : ℕ} {xs ys : List A}
-    (shape : IsShape bits n B R H Q N S) (mask : List Bool) (new : List A) (z : A) (d : ℕ) (nibbles : List ℕ) → d < 4
+    (shape : IsShape bits n B R H Q N S) (mask : List Bool) (new : List A) (z : A) (d : ℕ)
+    (nibbles : List ℕ) → d < 4
     → s ≡ d * n
     → ((r c : ℕ) → r < 4 → c < 4 → is_swap_at d nibbles r c ≡ true)
-    → Places B mask (λ i. bit (get_or nibbles (i / R) 0) (i % R / Q)) → xs ≡ ys → length new ≡ 8 → length ys ≡ 8
-    → ((p : ℕ) → p < 8 → Places B (bits (get_or new p z)) (swapped_bit B (bits (get_or ys p z)) mask s))
+    → Places B mask (λ i. bit (get_or nibbles (i / R) 0) (i % R / Q)) → xs ≡ ys → length new ≡ 8
+    → length ys ≡ 8
+    → ((p : ℕ) → p < 8
+    → Places B (bits (get_or new p z)) (swapped_bit B (bits (get_or ys p z)) mask s))
     → held n (map bits new) ≡ map (columns_swapped d nibbles) (held n (map bits xs))
-swapped_held {bits = bits} {n = n} {B = B} {ys = ys} shape mask new z d nibbles dl es ok masked same ln ly swaps =
-    stepped_held (columns_swapped d nibbles) (λ f r c. f r (source d nibbles r c)) n (map bits new) (map bits ys)
+swapped_held {bits = bits} {n = n} {B = B}
+    {ys = ys} shape mask new z d nibbles dl es ok masked same ln ly swaps =
+    stepped_held (columns_swapped d nibbles) (λ f r c. f r (source d nibbles r c)) n (map bits new)
+    (map bits ys)
     (λ k. columns_swapped-state d nibbles ok (λ r c. held_byte (map bits ys) (place n r c k)))
     (λ r c k h m kn.
     let i = place n r c k in
-    let read = λ (r c : ℕ) (h : r < 4) (m : c < 4). row_mask shape r c k nibbles mask h m kn masked in
-    held_is bits new z i _ ln (held_byte_lt bits ys ly (place n r (source d nibbles r c) k)) (λ p hp.
+    let read = λ (r c : ℕ) (h : r < 4) (m : c < 4). row_mask shape r c k nibbles mask h
+    m kn masked in
+    held_is bits new z i _ ln
+    (held_byte_lt bits ys ly (place n r (source d nibbles r c) k)) (λ p hp.
     let x = bits (get_or ys p z) in
     swaps p hp i (omega (arith, shape.sixteen, place_lt n r c k h m kn))
     ∙ (λ t. swapped_bit (shape.sixteen t) x mask (es t) i)
@@ -162,7 +186,8 @@ two_apart_2 = 0 ∷ 3 ∷ 0 ∷ 3 ∷ []
 abbrev pub two_apart_3 : List ℕ
 two_apart_3 = 0 ∷ 2 ∷ 3 ∷ 1 ∷ []
 
--- the columns that are exchanged with their neighbours, for one ShiftRows and for three, as a nibble a row
+-- the columns that are exchanged with their neighbours, for one
+-- ShiftRows and for three, as a nibble a row
 abbrev pub pairs : List ℕ
 pairs = 0 ∷ 5 ∷ 0 ∷ 5 ∷ []
 
@@ -188,20 +213,25 @@ pairs_swap = all_pairs_tell 4 4 (is_swap_at 1 pairs) refl
 
 -- one ShiftRows of each block swaps columns two apart and then neighbours
 pub shifted_1 : (bs : List (List ℕ))
-    → map (shift_times 1) bs ≡ map (columns_swapped 1 pairs) (map (columns_swapped 2 two_apart_1) bs)
+    → map (shift_times 1) bs ≡ map (columns_swapped 1 pairs)
+    (map (columns_swapped 2 two_apart_1) bs)
 unfolding columns_swapped build shift_times shift_rows bit
-shifted_1 bs = sym (map-map (columns_swapped 1 pairs) (columns_swapped 2 two_apart_1) bs ∙ map-same _ _ bs (λ s. refl))
+shifted_1 bs = sym (map-map (columns_swapped 1 pairs) (columns_swapped 2 two_apart_1) bs
+    ∙ map-same _ _ bs (λ s. refl))
 
 -- two ShiftRows of each block swap columns two apart
-pub shifted_2 : (bs : List (List ℕ)) → map (shift_times 2) bs ≡ map (columns_swapped 2 two_apart_2) bs
+pub shifted_2 : (bs : List (List ℕ)) → map (shift_times 2) bs
+    ≡ map (columns_swapped 2 two_apart_2) bs
 unfolding columns_swapped build shift_times shift_rows bit
 shifted_2 bs = map-same _ _ bs (λ s. refl)
 
 -- three ShiftRows of each block swap columns two apart and then neighbours
 pub shifted_3 : (bs : List (List ℕ))
-    → map (shift_times 3) bs ≡ map (columns_swapped 1 pairs) (map (columns_swapped 2 two_apart_3) bs)
+    → map (shift_times 3) bs ≡ map (columns_swapped 1 pairs)
+    (map (columns_swapped 2 two_apart_3) bs)
 unfolding columns_swapped build shift_times shift_rows bit
-shifted_3 bs = sym (map-map (columns_swapped 1 pairs) (columns_swapped 2 two_apart_3) bs ∙ map-same _ _ bs (λ s. refl))
+shifted_3 bs = sym (map-map (columns_swapped 1 pairs) (columns_swapped 2 two_apart_3) bs
+    ∙ map-same _ _ bs (λ s. refl))
 
 -- three ShiftRows are one InvShiftRows
 pub shifted_back_1 : (s : List ℕ) → shift_times 3 s ≡ inv_shift_times 1 s

@@ -1,18 +1,23 @@
--- A round on a state whose ShiftRows are deferred, with 0x63 left out of the substitution and put into the round keys.
-use Rattle.std.proofs.Common.{◌≡◌, ℕ, zero, suc, ◌<◌, List, [], ◌∷◌, length, map, get_or, refl, ap, sym, subst, ◌∙◌}
+-- A round on a state whose ShiftRows are deferred, with 0x63 left out of
+-- the substitution and put into the round keys.
+use Rattle.std.proofs.Common.{◌≡◌, ℕ, zero, suc, ◌<◌, List, [], ◌∷◌, length, map, get_or, refl, ap}
+use Rattle.std.proofs.Common.{sym, subst, ◌∙◌}
 use Rattle.std.specs.Int.Bits.{xor_assoc, xor_zero_r}
-use Rattle.aes_planes.specs.Fips197.{field_add, field_mul, sbox, inv_sbox, byte_at, build, state, sub_bytes, inv_sub_bytes}
-use Rattle.aes_planes.specs.Fips197.{shift_rows, inv_shift_rows, shift_times, inv_shift_times, mix_columns}
-use Rattle.aes_planes.specs.Fips197.{inv_mix_columns, add_round_key}
+use Rattle.aes_planes.specs.Fips197.{field_add, field_mul, sbox, inv_sbox, byte_at, build, state}
+use Rattle.aes_planes.specs.Fips197.{sub_bytes, inv_sub_bytes, shift_rows, inv_shift_rows}
+use Rattle.aes_planes.specs.Fips197.{shift_times, inv_shift_times, mix_columns, inv_mix_columns}
+use Rattle.aes_planes.specs.Fips197.{add_round_key}
 use Rattle.aes_planes.specs.Planes.{plus63, between_shifts}
 use Rattle.aes_planes.proofs.Bits.ByteCases.{by_four}
 use Rattle.aes_planes.proofs.Lists.{built}
-use Rattle.aes_planes.proofs.Mixing.MixColumns.{mix_block, inv_mix_block, mix_columns_add, inv_mix_columns_add}
+use Rattle.aes_planes.proofs.Mixing.MixColumns.{mix_block, inv_mix_block, mix_columns_add}
+use Rattle.aes_planes.proofs.Mixing.MixColumns.{inv_mix_columns_add}
 use Rattle.aes_planes.proofs.Planes.Held.{map-map}
 use Rattle.aes_planes.proofs.Shifts.ColumnSwaps.{shifted_back_3}
 use Rattle.aes_planes.proofs.Standard.FieldLaws.{add_swap, add_twice}
 use Rattle.aes_planes.proofs.Standard.LinearSteps.{shift_map, inv_sub_shift}
-use Rattle.aes_planes.proofs.Standard.Steps.{add_length, inv_shift_length, map_length, shift_length, shift_of_inv_shift}
+use Rattle.aes_planes.proofs.Standard.Steps.{add_length, inv_shift_length, map_length, shift_length}
+use Rattle.aes_planes.proofs.Standard.Steps.{shift_of_inv_shift}
 
 -- ---- 0x63 added to each byte
 
@@ -37,42 +42,54 @@ plus63_twice (b ∷ s) = λ i. add_twice b 0x63 i ∷ plus63_twice s i
 unfoldable all63 : List ℕ
 all63 = state (λ r c. 0x63)
 
+-- to add 0x63 to each byte is to add that block
 plus63_sum : (s : List ℕ) → length s ≡ 16 → map plus63 s ≡ add_round_key s all63
 unfolding all63 add_round_key
 plus63_sum s l = subst (λ (v : List ℕ). map plus63 v ≡ add_round_key v all63) (built 16 s 0 l) refl
 
 -- a step that is linear and keeps that block passes 0x63 on
-passes63 : (step : List ℕ → List ℕ) → ((s t : List ℕ) → step (add_round_key s t) ≡ add_round_key (step s) (step t))
+passes63 : (step : List ℕ → List ℕ)
+    → ((s t : List ℕ) → step (add_round_key s t) ≡ add_round_key (step s) (step t))
     → step all63 ≡ all63 → ((s : List ℕ) → length (step s) ≡ 16)
     → (s : List ℕ) → length s ≡ 16 → step (map plus63 s) ≡ map plus63 (step s)
 passes63 step add keeps sized s l =
-    ap step (plus63_sum s l) ∙ add s all63 ∙ ap (add_round_key (step s)) keeps ∙ sym (plus63_sum (step s) (sized s))
+    ap step (plus63_sum s l) ∙ add s all63 ∙ ap (add_round_key (step s)) keeps
+    ∙ sym (plus63_sum (step s) (sized s))
 
+-- as MixColumns does, whose rows sum to 1
 mix_plus63 : (s : List ℕ) → length s ≡ 16 → mix_columns (map plus63 s) ≡ map plus63 (mix_columns s)
 unfolding all63 mix_columns field_mul
 mix_plus63 = passes63 mix_columns mix_columns_add refl (λ s. (mix_block s).0)
 
-inv_mix_plus63 : (s : List ℕ) → length s ≡ 16 → inv_mix_columns (map plus63 s) ≡ map plus63 (inv_mix_columns s)
+-- and InvMixColumns, whose rows sum to 1 too
+inv_mix_plus63 : (s : List ℕ) → length s ≡ 16
+    → inv_mix_columns (map plus63 s) ≡ map plus63 (inv_mix_columns s)
 unfolding all63 inv_mix_columns field_mul
 inv_mix_plus63 = passes63 inv_mix_columns inv_mix_columns_add refl (λ s. (inv_mix_block s).0)
 
 -- the sum of blocks is associative
-pub add_key_assoc : (s t u : List ℕ) → add_round_key s (add_round_key t u) ≡ add_round_key (add_round_key s t) u
+pub add_key_assoc : (s t u : List ℕ) → add_round_key s (add_round_key t u)
+    ≡ add_round_key (add_round_key s t) u
 unfolding add_round_key
-add_key_assoc s t u = λ i. state (λ r c. sym (xor_assoc (byte_at s r c) (byte_at t r c) (byte_at u r c)) i)
+add_key_assoc s t u =
+    λ i. state (λ r c. sym (xor_assoc (byte_at s r c) (byte_at t r c) (byte_at u r c)) i)
 
 -- 0x63 added to the bytes of one block, and of both: twice 0x63 is nothing
-add_plus63 : (s t : List ℕ) → length t ≡ 16 → add_round_key s (map plus63 t) ≡ map plus63 (add_round_key s t)
+add_plus63 : (s t : List ℕ) → length t ≡ 16
+    → add_round_key s (map plus63 t) ≡ map plus63 (add_round_key s t)
 add_plus63 s t l =
     ap (add_round_key s) (plus63_sum t l) ∙ add_key_assoc s t all63
     ∙ sym (plus63_sum (add_round_key s t) (add_length s t))
 
-sum_of_both63 : (s t : List ℕ) → add_round_key (add_round_key s all63) (add_round_key t all63) ≡ add_round_key s t
+-- so the block that is added on both sides falls out
+sum_of_both63 : (s t : List ℕ) → add_round_key (add_round_key s all63) (add_round_key t all63)
+    ≡ add_round_key s t
 unfolding all63 add_round_key
 sum_of_both63 s t =
     λ i. state (λ r c. (add_swap (byte_at s r c) 0x63 (byte_at t r c) 0x63
     ∙ xor_zero_r (field_add (byte_at s r c) (byte_at t r c))) i)
 
+-- which is how a round key's 0x63 meets that of the substitution
 add_both63 : (s t : List ℕ) → length s ≡ 16 → length t ≡ 16
     → add_round_key (map plus63 s) (map plus63 t) ≡ add_round_key s t
 add_both63 s t l m = (λ i. add_round_key (plus63_sum s l i) (plus63_sum t m i)) ∙ sum_of_both63 s t
@@ -85,52 +102,62 @@ deferred_before zero = 3
 deferred_before (suc k) = k
 
 -- of some shifts back any may be the first
-inv_shift_first : (k : ℕ) (s : List ℕ) → inv_shift_times (suc k) s ≡ inv_shift_times k (inv_shift_rows s)
+inv_shift_first : (k : ℕ) (s : List ℕ) → inv_shift_times (suc k) s
+    ≡ inv_shift_times k (inv_shift_rows s)
 unfolding inv_shift_times
 inv_shift_first zero s = refl
 inv_shift_first (suc k) s = ap inv_shift_rows (inv_shift_first k s)
 
 -- k ShiftRows after k InvShiftRows leave a list of sixteen as it was
-pub shift_times_of_inv_shift_times : (k : ℕ) (s : List ℕ) → length s ≡ 16 → shift_times k (inv_shift_times k s) ≡ s
+pub shift_times_of_inv_shift_times : (k : ℕ) (s : List ℕ) → length s ≡ 16
+    → shift_times k (inv_shift_times k s) ≡ s
 unfolding shift_times inv_shift_times
 shift_times_of_inv_shift_times zero s l = refl
 shift_times_of_inv_shift_times (suc k) s l =
     ap (λ v. shift_rows (shift_times k v)) (inv_shift_first k s)
-    ∙ ap shift_rows (shift_times_of_inv_shift_times k (inv_shift_rows s) (inv_shift_length s)) ∙ shift_of_inv_shift s l
+    ∙ ap shift_rows (shift_times_of_inv_shift_times k (inv_shift_rows s) (inv_shift_length s))
+    ∙ shift_of_inv_shift s l
 
 -- two shifts forth where one is deferred: three are
-pub two_more : (s : List ℕ) → length s ≡ 16 → shift_times 2 (inv_shift_times 1 s) ≡ inv_shift_times 3 s
+pub two_more : (s : List ℕ) → length s ≡ 16
+    → shift_times 2 (inv_shift_times 1 s) ≡ inv_shift_times 3 s
 unfolding shift_times inv_shift_times
 two_more s l = ap shift_rows (shift_of_inv_shift s l) ∙ shifted_back_3 s
 
 -- ---- rounds move each byte to its place, whatever f, g and h make of it
 
 module _ (f g h : ℕ → ℕ) where
+  -- a round of the cipher with j deferred after it
   abbrev Forth : ℕ → List ℕ → List ℕ → Type 0
   Forth j s key =
       add_round_key (between_shifts j mix_columns (map f (inv_shift_times (deferred_before j) s)))
       (map g (inv_shift_times j key))
       ≡ inv_shift_times j (add_round_key (mix_columns (shift_rows (map f s))) (map g key))
 
+  -- a round back, with k deferred before it
   abbrev Back : ℕ → List ℕ → List ℕ → Type 0
   Back k s key =
-      map f (between_shifts (deferred_before k) inv_mix_columns (add_round_key (inv_shift_times k (map h s))
+      map f (between_shifts (deferred_before k) inv_mix_columns
+      (add_round_key (inv_shift_times k (map h s))
       (map g (inv_shift_times (deferred_before k) key))))
       ≡ inv_shift_times (deferred_before k)
       (map f (inv_mix_columns (add_round_key (map h (inv_shift_rows s)) (map g key))))
 
   -- what holds of lists of sixteen elements, for any elements
   of_sixteen : (P : List ℕ → List ℕ → Type 0)
-      → ((v w : ℕ → ℕ) → P (build 16 v) (build 16 w)) → (s key : List ℕ) → length s ≡ 16 → length key ≡ 16 → P s key
+      → ((v w : ℕ → ℕ) → P (build 16 v) (build 16 w)) → (s key : List ℕ) → length s ≡ 16
+      → length key ≡ 16 → P s key
   of_sixteen P each s key l m = subst (λ (x : List ℕ). P x key) (built 16 s 0 l)
       (subst (λ (y : List ℕ). P (build 16 (λ i. get_or s i 0)) y) (built 16 key 0 m)
       (each (λ i. get_or s i 0) (λ i. get_or key i 0)))
 
+  -- any sixteen elements move alike, so one computation for each j suffices
   forth : (j : ℕ) → j < 4 → (s key : List ℕ) → length s ≡ 16 → length key ≡ 16 → Forth j s key
   unfolding mix_columns add_round_key shift_times shift_rows inv_shift_times inv_shift_rows build
   forth j few = of_sixteen (Forth j)
       (λ v w. by_four (λ j. Forth j (build 16 v) (build 16 w)) refl refl refl refl j few)
 
+  -- and one for each k
   back : (k : ℕ) → k < 4 → (s key : List ℕ) → length s ≡ 16 → length key ≡ 16 → Back k s key
   unfolding inv_mix_columns add_round_key shift_times shift_rows inv_shift_times inv_shift_rows build
   back k few = of_sixteen (Back k)
@@ -138,15 +165,18 @@ module _ (f g h : ℕ → ℕ) where
 
 -- ---- rounds of the cipher
 
+-- SubBytes as the circuit computes it, without 0x63, before ShiftRows
 substituted : (s : List ℕ) → length s ≡ 16
     → shift_rows (map (λ b. plus63 (sbox b)) s) ≡ map plus63 (shift_rows (sub_bytes s))
 unfolding sub_bytes
-substituted s l = ap shift_rows (sym (map-map plus63 sbox s)) ∙ shift_map plus63 (map sbox s) (map_length sbox s ∙ l)
+substituted s l = ap shift_rows (sym (map-map plus63 sbox s))
+    ∙ shift_map plus63 (map sbox s) (map_length sbox s ∙ l)
 
 -- a round after which j shifts are deferred
 pub round_deferred : (j : ℕ) → j < 4 → (s key : List ℕ) → length s ≡ 16 → length key ≡ 16
     → add_round_key
-    (between_shifts j mix_columns (map (λ b. plus63 (sbox b)) (inv_shift_times (deferred_before j) s)))
+    (between_shifts j mix_columns
+    (map (λ b. plus63 (sbox b)) (inv_shift_times (deferred_before j) s)))
     (map plus63 (inv_shift_times j key))
     ≡ inv_shift_times j (add_round_key (mix_columns (shift_rows (sub_bytes s))) key)
 round_deferred j few s key l m =
@@ -169,16 +199,20 @@ last_deferred s key l m =
 
 -- ---- rounds of the inverse cipher, whose substitution takes 0x63 out by itself
 
--- 0x63 added to the round key and again before the inverse S-box cancel: InvSubBytes of the sum is left
+-- 0x63 added to the round key and again before the inverse S-box
+-- cancel: InvSubBytes of the sum is left
 pub inv_start_deferred : (s key : List ℕ) → length key ≡ 16
-    → map (λ b. inv_sbox (plus63 b)) (add_round_key s (map plus63 key)) ≡ inv_sub_bytes (add_round_key s key)
-inv_start_deferred s key m = ap (map (λ b. inv_sbox (plus63 b))) (add_plus63 s key m) ∙ without63 (add_round_key s key)
+    → map (λ b. inv_sbox (plus63 b)) (add_round_key s (map plus63 key))
+    ≡ inv_sub_bytes (add_round_key s key)
+inv_start_deferred s key m = ap (map (λ b. inv_sbox (plus63 b))) (add_plus63 s key m)
+    ∙ without63 (add_round_key s key)
 
 -- a round back on a substituted state to which k shifts back are left
 pub inv_round_deferred : (k : ℕ) → k < 4 → (s key : List ℕ) → length s ≡ 16 → length key ≡ 16
     → let j = deferred_before k in map (λ b. inv_sbox (plus63 b)) (between_shifts j inv_mix_columns
     (add_round_key (inv_shift_times k (inv_sub_bytes s)) (map plus63 (inv_shift_times j key))))
-    ≡ inv_shift_times j (inv_sub_bytes (inv_mix_columns (add_round_key (inv_sub_bytes (inv_shift_rows s)) key)))
+    ≡ inv_shift_times j
+    (inv_sub_bytes (inv_mix_columns (add_round_key (inv_sub_bytes (inv_shift_rows s)) key)))
 unfolding inv_sub_bytes
 inv_round_deferred k few s key l m =
     let undo : ℕ → ℕ = λ b. inv_sbox (plus63 b) in
@@ -190,6 +224,7 @@ inv_round_deferred k few s key l m =
 
 -- the last inverse round, on a substituted state to which one shift back is left
 pub inv_last_deferred : (s key : List ℕ) → length s ≡ 16
-    → add_round_key (inv_shift_times 1 (inv_sub_bytes s)) key ≡ add_round_key (inv_sub_bytes (inv_shift_rows s)) key
+    → add_round_key (inv_shift_times 1 (inv_sub_bytes s)) key
+    ≡ add_round_key (inv_sub_bytes (inv_shift_rows s)) key
 unfolding inv_shift_times
 inv_last_deferred s key l = ap (λ v. add_round_key v key) (inv_sub_shift s l)

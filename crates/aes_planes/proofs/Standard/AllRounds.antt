@@ -5,7 +5,8 @@ use Rattle.aes_planes.specs.Rounds.{rounds_after, all_rounds}
 
 -- one more round
 pub rounds_more : (step : List ℕ → List ℕ) (w : List (List ℕ)) (b : List ℕ) (n : ℕ) → 1 ≤ n
-    → fips.add_round_key (step (rounds_after step w b (n - 1))) (fips.round_key w n) ≡ rounds_after step w b n
+    → fips.add_round_key (step (rounds_after step w b (n - 1))) (fips.round_key w n)
+    ≡ rounds_after step w b n
 unfolding rounds_after
 rounds_more step w b zero h = absurd (omega arith)
 rounds_more step w b (suc n) h =
@@ -20,14 +21,18 @@ after_is : (step : List ℕ → List ℕ) (w : List (List ℕ)) (b : List ℕ) (
 unfolding rounds_after
 after_is step w b state first next zero = first
 after_is step w b state first next (suc n) =
-    ap (λ s. fips.add_round_key (step s) (fips.round_key w (suc n))) (after_is step w b state first next n) ∙ next n
+    ap (λ s. fips.add_round_key (step s) (fips.round_key w (suc n)))
+    (after_is step w b state first next n) ∙ next n
 
 -- Cipher has these rounds
 pub is_cipher : (w : List (List ℕ)) (b : List ℕ)
-    → all_rounds (λ b. fips.mix_columns (fips.shift_rows (fips.sub_bytes b))) (λ b. fips.shift_rows (fips.sub_bytes b))
+    → all_rounds (λ b. fips.mix_columns (fips.shift_rows (fips.sub_bytes b)))
+    (λ b. fips.shift_rows (fips.sub_bytes b))
     w b ≡ fips.cipher_with w b
 unfolding all_rounds fips.cipher_with
-is_cipher w b = ap (λ s. fips.add_round_key (fips.shift_rows (fips.sub_bytes s)) (fips.round_key w (fips.last_round w)))
+is_cipher w b = ap
+    (λ s. fips.add_round_key (fips.shift_rows (fips.sub_bytes s))
+    (fips.round_key w (fips.last_round w)))
     (after_is _ w b (fips.state_after w b) refl (λ n. refl) (fips.last_round w - 1))
 
 -- and so has EqInvCipher

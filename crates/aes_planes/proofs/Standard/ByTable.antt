@@ -1,52 +1,67 @@
--- The ciphers and the key expansion by the tables of the S-boxes, for examples: by the definition, each byte takes a
--- search.
+-- The ciphers and the key expansion by the tables of the S-boxes, for examples: by the definition,
+-- each byte takes a search.
 use mathlib.Core.Path.{fun_ext}
-use Rattle.std.proofs.Common.{◌≡◌, ℕ, zero, suc, ◌+◌, ◌-◌, ◌*◌, ◌/◌, ◌%◌, ◌<◌, ◌==◌, Bool, true, false, ◌&&◌, cond}
-use Rattle.std.proofs.Common.{nat_lt, List, [], ◌∷◌, ◌++◌, map, slice_index_or, refl, ap, sym, ◌∙◌}
+use Rattle.std.proofs.Common.{◌≡◌, ℕ, zero, suc, ◌+◌, ◌-◌, ◌*◌, ◌/◌, ◌%◌, ◌<◌, ◌==◌, Bool, true}
+use Rattle.std.proofs.Common.{false, ◌&&◌, cond, nat_lt, List, [], ◌∷◌, ◌++◌, map, slice_index_or}
+use Rattle.std.proofs.Common.{refl, ap, sym, ◌∙◌}
 use Rattle.std.proofs.lemmas.Bool.{cond_both, ltb-true}
-use Rattle.aes_planes.specs.Fips197.{sbox, inv_sbox, sub_bytes, inv_sub_bytes, shift_rows, inv_shift_rows, mix_columns}
-use Rattle.aes_planes.specs.Fips197.{inv_mix_columns, add_round_key, round_key, last_round, inv_state_after}
-use Rattle.aes_planes.specs.Fips197.{cipher_with, cipher, inv_cipher_with, inv_cipher, rot_word, add_words}
-use Rattle.aes_planes.specs.Fips197.{round_constant, key_words, key_word, rounds, added_word_if, next_word_if}
-use Rattle.aes_planes.specs.Fips197.{expanded_words, expanded_word, blocks_of_words, key_expansion, inverted_keys}
+use Rattle.aes_planes.specs.Fips197.{sbox, inv_sbox, sub_bytes, inv_sub_bytes, shift_rows}
+use Rattle.aes_planes.specs.Fips197.{inv_shift_rows, mix_columns, inv_mix_columns, add_round_key}
+use Rattle.aes_planes.specs.Fips197.{round_key, last_round, inv_state_after, cipher_with, cipher}
+use Rattle.aes_planes.specs.Fips197.{inv_cipher_with, inv_cipher, rot_word, add_words}
+use Rattle.aes_planes.specs.Fips197.{round_constant, key_words, key_word, rounds, added_word_if}
+use Rattle.aes_planes.specs.Fips197.{next_word_if, expanded_words, expanded_word, blocks_of_words}
+use Rattle.aes_planes.specs.Fips197.{key_expansion, inverted_keys}
 use Rattle.aes_planes.specs.Rounds.{all_rounds}
 use Rattle.aes_planes.proofs.SBox.InverseSBox.{listed, inv_listed, sbox_listed, inv_sbox_listed}
 use Rattle.aes_planes.proofs.Standard.AllRounds.{is_cipher}
 
 -- ---- the definitions, with any function in the place of the S-box
 
+-- the states of InvCipher
 inv_state_by : (ℕ → ℕ) → List (List ℕ) → List ℕ → ℕ → List ℕ
 inv_state_by s w b zero = add_round_key b (round_key w (last_round w))
 inv_state_by s w b (suc n) =
-    inv_mix_columns (add_round_key (map s (inv_shift_rows (inv_state_by s w b n))) (round_key w (last_round w - suc n)))
+    inv_mix_columns (add_round_key (map s (inv_shift_rows (inv_state_by s w b n)))
+    (round_key w (last_round w - suc n)))
 
+-- what is added to a word of the key expansion
 added_by : (ℕ → ℕ) → Bool → Bool → ℕ → List ℕ → List ℕ
 added_by s true b j w = add_words (map s (rot_word w)) (round_constant j)
 added_by s false true j w = map s w
 added_by s false false j w = w
 
+-- one word more
 next_by : (ℕ → ℕ) → Bool → List ℕ → List (List ℕ) → ℕ → List ℕ
 next_by s true key ws i = key_word key i
 next_by s false key ws i =
     let nk : ℕ = key_words key in
     add_words (slice_index_or ws (i - nk) [])
-    (added_by s (i % nk == 0) (nat_lt 6 nk && (i % nk == 4)) (i / nk) (slice_index_or ws (i - 1) []))
+    (added_by s (i % nk == 0) (nat_lt 6 nk && (i % nk == 4)) (i / nk)
+    (slice_index_or ws (i - 1) []))
 
+-- the first n words
 words_by : (ℕ → ℕ) → List ℕ → ℕ → List (List ℕ)
 words_by s key zero = []
-words_by s key (suc n) = let ws = words_by s key n in ws ++ next_by s (nat_lt n (key_words key)) key ws n ∷ []
+words_by s key (suc n) = let ws = words_by s key n in
+    ws ++ next_by s (nat_lt n (key_words key)) key ws n ∷ []
 
+-- and the round keys
 expansion_by : (ℕ → ℕ) → List ℕ → List (List ℕ)
 expansion_by s key = blocks_of_words (rounds key + 1) (words_by s key (4 * (rounds key + 1)))
 
 -- ---- with the S-box they are the standard's
 
-inv_state_by_sbox : (w : List (List ℕ)) (b : List ℕ) (n : ℕ) → inv_state_after w b n ≡ inv_state_by inv_sbox w b n
+-- InvCipher's states
+inv_state_by_sbox : (w : List (List ℕ)) (b : List ℕ) (n : ℕ)
+    → inv_state_after w b n ≡ inv_state_by inv_sbox w b n
 unfolding inv_state_after inv_sub_bytes inv_state_by
 inv_state_by_sbox w b zero = refl
-inv_state_by_sbox w b (suc n) = ap (λ x. inv_mix_columns (add_round_key (inv_sub_bytes (inv_shift_rows x))
+inv_state_by_sbox w b (suc n) =
+    ap (λ x. inv_mix_columns (add_round_key (inv_sub_bytes (inv_shift_rows x))
     (round_key w (last_round w - suc n)))) (inv_state_by_sbox w b n)
 
+-- and the steps of the key expansion, one by one
 added_by_sbox : (a b : Bool) (j : ℕ) (w : List ℕ) → added_word_if a b j w ≡ added_by sbox a b j w
 unfolding added_word_if added_by
 added_by_sbox true b j w = refl
@@ -60,18 +75,21 @@ next_by_sbox true key ws i = refl
 next_by_sbox false key ws i =
     let nk : ℕ = key_words key in
     ap (add_words (slice_index_or ws (i - nk) []))
-    (added_by_sbox (i % nk == 0) (nat_lt 6 nk && (i % nk == 4)) (i / nk) (slice_index_or ws (i - 1) []))
+    (added_by_sbox (i % nk == 0) (nat_lt 6 nk && (i % nk == 4)) (i / nk)
+    (slice_index_or ws (i - 1) []))
 
 words_by_sbox : (key : List ℕ) (n : ℕ) → expanded_words key n ≡ words_by sbox key n
 unfolding expanded_words words_by
 words_by_sbox key zero = refl
 words_by_sbox key (suc n) =
     ap (λ ws. ws ++ next_word_if (nat_lt n (key_words key)) key ws n ∷ []) (words_by_sbox key n)
-    ∙ ap (λ v. words_by sbox key n ++ v ∷ []) (next_by_sbox (nat_lt n (key_words key)) key (words_by sbox key n) n)
+    ∙ ap (λ v. words_by sbox key n ++ v ∷ [])
+    (next_by_sbox (nat_lt n (key_words key)) key (words_by sbox key n) n)
 
 expansion_by_sbox : (key : List ℕ) → key_expansion key ≡ expansion_by sbox key
 unfolding key_expansion expansion_by
-expansion_by_sbox key = ap (blocks_of_words (rounds key + 1)) (words_by_sbox key (4 * (rounds key + 1)))
+expansion_by_sbox key =
+    ap (blocks_of_words (rounds key + 1)) (words_by_sbox key (4 * (rounds key + 1)))
 
 -- ---- with the tables too
 
@@ -79,6 +97,7 @@ expansion_by_sbox key = ap (blocks_of_words (rounds key + 1)) (words_by_sbox key
 looked_up : (ℕ → ℕ) → (ℕ → ℕ) → ℕ → ℕ
 looked_up f table b = cond (nat_lt b 256) (table b) (f b)
 
+-- a function with the table's values at all bytes is looked up there
 is_looked_up : (f table : ℕ → ℕ) → ((b : ℕ) → b < 256 → f b ≡ table b) → f ≡ looked_up f table
 unfolding looked_up
 is_looked_up f table e = fun_ext (λ b. cond_both (nat_lt b 256) (table b) (f b) (λ v. f b ≡ v)
@@ -99,7 +118,8 @@ unfoldable pub cipher_by_table : List ℕ → List ℕ → List ℕ
 unfolding expansion_by_table all_rounds looked_up
 cipher_by_table key b =
     let sub = map (looked_up sbox listed) in
-    all_rounds (λ b. mix_columns (shift_rows (sub b))) (λ b. shift_rows (sub b)) (expansion_by_table key) b
+    all_rounds (λ b. mix_columns (shift_rows (sub b))) (λ b. shift_rows (sub b))
+    (expansion_by_table key) b
 
 -- InvSubBytes, by the table of the inverse S-box
 unfoldable pub inv_sub_by_table : List ℕ → List ℕ
@@ -111,27 +131,32 @@ unfoldable pub inv_cipher_by_table : List ℕ → List ℕ → List ℕ
 unfolding expansion_by_table inv_state_by inv_sub_by_table
 inv_cipher_by_table key b =
     let w : List (List ℕ) = expansion_by_table key in
-    add_round_key (inv_sub_by_table (inv_shift_rows (inv_state_by (looked_up inv_sbox inv_listed) w b
+    add_round_key (inv_sub_by_table
+    (inv_shift_rows (inv_state_by (looked_up inv_sbox inv_listed) w b
     (last_round w - 1)))) (round_key w 0)
 
 -- ---- so an example is what the tables compute
 
 -- a word of the key expansion is what the table gives
-pub word_tells : (key : List ℕ) (i : ℕ) (v : List ℕ) → word_by_table key i ≡ v → expanded_word key i ≡ v
+pub word_tells : (key : List ℕ) (i : ℕ) (v : List ℕ) → word_by_table key i ≡ v
+    → expanded_word key i ≡ v
 unfolding expanded_word word_by_table
 word_tells key i v e = ap (λ ws. slice_index_or ws i []) (words_by_sbox key (i + 1)
     ∙ ap (λ s. words_by s key (i + 1)) (is_looked_up sbox listed sbox_listed)) ∙ e
 
 -- the key expansion is what the table gives
-pub expansion_tells : (key : List ℕ) (w : List (List ℕ)) → expansion_by_table key ≡ w → key_expansion key ≡ w
+pub expansion_tells : (key : List ℕ) (w : List (List ℕ)) → expansion_by_table key ≡ w
+    → key_expansion key ≡ w
 unfolding expansion_by_table
 expansion_tells key w e =
     expansion_by_sbox key ∙ ap (λ s. expansion_by s key) (is_looked_up sbox listed sbox_listed) ∙ e
 
 -- a round key for the equivalent inverse cipher is what the table gives
-pub inverted_key_tells : (key : List ℕ) (i : ℕ) (k : List ℕ) → round_key (inverted_keys (expansion_by_table key)) i ≡ k
+pub inverted_key_tells : (key : List ℕ) (i : ℕ) (k : List ℕ)
+    → round_key (inverted_keys (expansion_by_table key)) i ≡ k
     → round_key (inverted_keys (key_expansion key)) i ≡ k
-inverted_key_tells key i k e = ap (λ w. round_key (inverted_keys w) i) (expansion_tells key _ refl) ∙ e
+inverted_key_tells key i k e =
+    ap (λ w. round_key (inverted_keys w) i) (expansion_tells key _ refl) ∙ e
 
 -- Cipher by the table is Cipher
 pub cipher_is : (key b : List ℕ) → cipher key b ≡ cipher_by_table key b
@@ -154,6 +179,7 @@ inv_cipher_is key b =
     let w : List (List ℕ) = expansion_by_table key in
     let n : ℕ = last_round w - 1 in
     ap (λ w. inv_cipher_with w b) (expansion_tells key w refl)
-    ∙ ap (λ x. add_round_key (inv_sub_bytes (inv_shift_rows x)) (round_key w 0)) (inv_state_by_sbox w b n)
+    ∙ ap (λ x. add_round_key (inv_sub_bytes (inv_shift_rows x)) (round_key w 0))
+    (inv_state_by_sbox w b n)
     ∙ ap (λ s. add_round_key (map s (inv_shift_rows (inv_state_by s w b n))) (round_key w 0))
     (is_looked_up inv_sbox inv_listed inv_sbox_listed)

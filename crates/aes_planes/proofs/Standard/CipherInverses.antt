@@ -1,15 +1,17 @@
 -- Cipher and InvCipher undo each other, and EqInvCipher is InvCipher.
-use Rattle.std.proofs.Common.{◌≡◌, ℕ, zero, suc, ◌+◌, ◌-◌, ◌<◌, ◌≤◌, List, [], ◌∷◌, length, map, inl, inr, refl}
-use Rattle.std.proofs.Common.{◌^◌, slice_index, slice_index_or, ap, sym, subst, ◌∙◌, arith}
-use Rattle.aes_planes.specs.Fips197.{IsBlock, AreRoundKeys, round_key, last_round, sub_bytes, inv_sub_bytes, shift_rows}
-use Rattle.aes_planes.specs.Fips197.{inv_shift_rows, mix_columns, inv_mix_columns, add_round_key, state_after}
-use Rattle.aes_planes.specs.Fips197.{cipher_with, inv_state_after, inv_cipher_with, inverted_keys, eq_inv_state_after}
-use Rattle.aes_planes.specs.Fips197.{eq_inv_cipher_with}
+use Rattle.std.proofs.Common.{◌≡◌, ℕ, zero, suc, ◌+◌, ◌-◌, ◌<◌, ◌≤◌, List, [], ◌∷◌, length, map}
+use Rattle.std.proofs.Common.{inl, inr, refl, ◌^◌, slice_index, slice_index_or, ap, sym, subst, ◌∙◌}
+use Rattle.std.proofs.Common.{arith}
+use Rattle.aes_planes.specs.Fips197.{IsBlock, AreRoundKeys, round_key, last_round, sub_bytes}
+use Rattle.aes_planes.specs.Fips197.{inv_sub_bytes, shift_rows, inv_shift_rows, mix_columns}
+use Rattle.aes_planes.specs.Fips197.{inv_mix_columns, add_round_key, state_after, cipher_with}
+use Rattle.aes_planes.specs.Fips197.{inv_state_after, inv_cipher_with, inverted_keys}
+use Rattle.aes_planes.specs.Fips197.{eq_inv_state_after, eq_inv_cipher_with}
 use Rattle.aes_planes.proofs.Standard.InvertedKeys.{inverted_length, inverted_end, inverted_middle}
 use Rattle.aes_planes.proofs.Mixing.MixColumns.{inv_mix_block, inv_mix_columns_add}
-use Rattle.aes_planes.proofs.Standard.Steps.{Undoes, both_undone, inv_sub_of_sub, sub_of_inv_sub, inv_shift_undoes}
-use Rattle.aes_planes.proofs.Standard.Steps.{shift_undoes, inv_mix_undoes, mix_undoes, add_undoes, inv_sub_shift}
-use Rattle.aes_planes.proofs.Standard.Steps.{add_length}
+use Rattle.aes_planes.proofs.Standard.Steps.{Undoes, both_undone, inv_sub_of_sub, sub_of_inv_sub}
+use Rattle.aes_planes.proofs.Standard.Steps.{inv_shift_undoes, shift_undoes, inv_mix_undoes}
+use Rattle.aes_planes.proofs.Standard.Steps.{mix_undoes, add_undoes, inv_sub_shift, add_length}
 
 -- ---- a run of steps, and a run of steps that undo them in the other order
 
@@ -19,34 +21,45 @@ run first step b zero = first b
 run first step b (suc n) = step (suc n) (run first step b n)
 
 -- nr + 1 steps and those that undo them: step i is undone by inverse step nr - i
-record Mirrored (nr : ℕ) (first last inv_first inv_last : List ℕ → List ℕ) (step inv_step : ℕ → List ℕ → List ℕ)
+record Mirrored (nr : ℕ) (first last inv_first inv_last : List ℕ → List ℕ)
+    (step inv_step : ℕ → List ℕ → List ℕ)
     : Type 0 where
   start : Undoes inv_last first
   middle : (i j : ℕ) → i + j ≡ nr → Undoes (inv_step j) (step i)
   end : Undoes inv_first last
 
-module _ (nr : ℕ) (first last inv_first inv_last : List ℕ → List ℕ) (step inv_step : ℕ → List ℕ → List ℕ)
-    (m : Mirrored nr first last inv_first inv_last step inv_step) (b : List ℕ) (block : IsBlock b) where
+module _ (nr : ℕ) (first last inv_first inv_last : List ℕ → List ℕ)
+    (step inv_step : ℕ → List ℕ → List ℕ)
+    (m : Mirrored nr first last inv_first inv_last step inv_step) (b : List ℕ)
+    (block : IsBlock b) where
+  -- each state of such a run is a block
   run_block : (n : ℕ) → n < nr → IsBlock (run first step b n)
   run_block zero lt = m.start.block b block
   run_block (suc n) lt =
-      (m.middle (suc n) (nr - suc n) (omega arith)).block (run first step b n) (run_block n (omega arith))
+      (m.middle (suc n) (nr - suc n) (omega arith)).block (run first step b n)
+      (run_block n (omega arith))
 
   -- n steps back from the end of a run stands the state k steps on from its start
-  met : (n k : ℕ) → n + k + 1 ≡ nr → run inv_first inv_step (last (run first step b (nr - 1))) n ≡ run first step b k
+  met : (n k : ℕ) → n + k + 1 ≡ nr → run inv_first inv_step (last (run first step b (nr - 1))) n
+      ≡ run first step b k
   met zero k e =
       let i : nr - 1 ≡ k = omega (arith, e) in
-      m.end.undone (run first step b (nr - 1)) (run_block (nr - 1) (omega (arith, e))) ∙ ap (run first step b) i
+      m.end.undone (run first step b (nr - 1)) (run_block (nr - 1) (omega (arith, e)))
+      ∙ ap (run first step b) i
   met (suc n) k e =
       ap (inv_step (suc n)) (met n (suc k) (omega (arith, e)))
-      ∙ (m.middle (suc k) (suc n) (omega (arith, e))).undone (run first step b k) (run_block k (omega (arith, e)))
+      ∙ (m.middle (suc k) (suc n) (omega (arith, e))).undone (run first step b k)
+      (run_block k (omega (arith, e)))
 
-  run_undone : 1 ≤ nr → inv_last (run inv_first inv_step (last (run first step b (nr - 1))) (nr - 1)) ≡ b
+  -- so all steps back lead to the block at its start
+  run_undone : 1 ≤ nr
+      → inv_last (run inv_first inv_step (last (run first step b (nr - 1))) (nr - 1)) ≡ b
   run_undone some = ap inv_last (met (nr - 1) 0 (omega arith)) ∙ m.start.undone b block
 
 -- ---- the ciphers as runs
 
 module _ (w : List (List ℕ)) where
+  -- AddRoundKey with round key i
   abbrev add_key : ℕ → List ℕ → List ℕ
   add_key i s = add_round_key s (round_key w i)
 
@@ -54,6 +67,7 @@ module _ (w : List (List ℕ)) where
   abbrev forth : ℕ → List ℕ → List ℕ
   forth i s = shift_rows (sub_bytes (add_key i s))
 
+  -- InvShiftRows, InvSubBytes and AddRoundKey
   abbrev back : ℕ → List ℕ → List ℕ
   back i s = add_key i (inv_sub_bytes (inv_shift_rows s))
 
@@ -61,23 +75,31 @@ module _ (w : List (List ℕ)) where
   abbrev mixed_forth : ℕ → List ℕ → List ℕ
   mixed_forth i s = forth i (mix_columns s)
 
+  -- the same with InvMixColumns, a round of InvCipher
   abbrev mixed_back : ℕ → List ℕ → List ℕ
   mixed_back j s = inv_mix_columns (back (last_round w - j) s)
 
-  forth_run : (b : List ℕ) (n : ℕ) → shift_rows (sub_bytes (state_after w b n)) ≡ run (forth 0) mixed_forth b n
+  -- the standard's states are the states of such runs, up to where each round is cut
+  forth_run : (b : List ℕ) (n : ℕ) → shift_rows (sub_bytes (state_after w b n))
+      ≡ run (forth 0) mixed_forth b n
   unfolding state_after
   forth_run b zero = refl
   forth_run b (suc n) = ap (mixed_forth (suc n)) (forth_run b n)
 
-  back_run : (b : List ℕ) (n : ℕ) → inv_state_after w b n ≡ run (add_key (last_round w)) mixed_back b n
+  -- in either direction
+  back_run : (b : List ℕ) (n : ℕ) → inv_state_after w b n
+      ≡ run (add_key (last_round w)) mixed_back b n
   unfolding inv_state_after
   back_run b zero = refl
   back_run b (suc n) = ap (mixed_back (suc n)) (back_run b n)
 
-  cipher_run : (b : List ℕ) → cipher_with w b ≡ add_key (last_round w) (run (forth 0) mixed_forth b (last_round w - 1))
+  -- so Cipher is a run and a last step
+  cipher_run : (b : List ℕ) → cipher_with w b
+      ≡ add_key (last_round w) (run (forth 0) mixed_forth b (last_round w - 1))
   unfolding cipher_with
   cipher_run b = ap (add_key (last_round w)) (forth_run b (last_round w - 1))
 
+  -- and so is InvCipher
   inv_cipher_run : (b : List ℕ)
       → inv_cipher_with w b ≡ back 0 (run (add_key (last_round w)) mixed_back b (last_round w - 1))
   unfolding inv_cipher_with
@@ -93,7 +115,8 @@ module _ (w : List (List ℕ)) where
     forth_undoes : (i : ℕ) → i ≤ last_round w → Undoes (forth i) (back i)
     forth_undoes i le = both_undone (both_undone shift_undoes sub_of_inv_sub) (key_undoes i le)
 
-    encryption : Mirrored (last_round w) (forth 0) (add_key (last_round w)) (add_key (last_round w)) (back 0)
+    encryption : Mirrored (last_round w) (forth 0) (add_key (last_round w))
+        (add_key (last_round w)) (back 0)
         mixed_forth mixed_back
     encryption = record {
       start = back_undoes 0 (omega arith);
@@ -103,7 +126,8 @@ module _ (w : List (List ℕ)) where
       end = key_undoes (last_round w) (omega arith);
     }
 
-    decryption : Mirrored (last_round w) (add_key (last_round w)) (back 0) (forth 0) (add_key (last_round w)) mixed_back
+    decryption : Mirrored (last_round w) (add_key (last_round w)) (back 0) (forth 0)
+        (add_key (last_round w)) mixed_back
         mixed_forth
     decryption = record {
       start = key_undoes (last_round w) (omega arith);
@@ -117,19 +141,22 @@ module _ (w : List (List ℕ)) where
     pub inv_cipher_of_cipher : (b : List ℕ) → IsBlock b → inv_cipher_with w (cipher_with w b) ≡ b
     inv_cipher_of_cipher b h =
         inv_cipher_run (cipher_with w b)
-        ∙ ap (λ v. back 0 (run (add_key (last_round w)) mixed_back v (last_round w - 1))) (cipher_run b)
+        ∙ ap (λ v. back 0 (run (add_key (last_round w)) mixed_back v (last_round w - 1)))
+        (cipher_run b)
         ∙ run_undone _ _ _ _ _ _ _ encryption b h (omega (arith, keys.two))
 
     -- Cipher undoes InvCipher under the same round keys
     pub cipher_of_inv_cipher : (b : List ℕ) → IsBlock b → cipher_with w (inv_cipher_with w b) ≡ b
     cipher_of_inv_cipher b h =
         cipher_run (inv_cipher_with w b)
-        ∙ ap (λ v. add_key (last_round w) (run (forth 0) mixed_forth v (last_round w - 1))) (inv_cipher_run b)
+        ∙ ap (λ v. add_key (last_round w) (run (forth 0) mixed_forth v (last_round w - 1)))
+        (inv_cipher_run b)
         ∙ run_undone _ _ _ _ _ _ _ decryption b h (omega (arith, keys.two))
 
     -- Cipher of a block has bytes in each place
     pub cipher_bytes : (b : List ℕ) (i : ℕ) → IsBlock b → slice_index (cipher_with w b) i < 2 ^ 8
-    cipher_bytes b i h = rw (cipher_run b) ((encryption.end.block (run (forth 0) mixed_forth b (last_round w - 1))
+    cipher_bytes b i h =
+        rw (cipher_run b) ((encryption.end.block (run (forth 0) mixed_forth b (last_round w - 1))
         (run_block _ _ _ _ _ _ _ encryption b h (last_round w - 1) (omega (arith, keys.two)))).1 i)
 
   -- Cipher leaves sixteen bytes
@@ -139,20 +166,24 @@ module _ (w : List (List ℕ)) where
 
 -- where one function undoes another on blocks, it does so on lists of them
 undone_each : (f g : List ℕ → List ℕ) → ((b : List ℕ) → IsBlock b → g (f b) ≡ b)
-    → (bs : List (List ℕ)) → ((i : ℕ) → i < length bs → IsBlock (slice_index_or bs i [])) → map g (map f bs) ≡ bs
+    → (bs : List (List ℕ)) → ((i : ℕ) → i < length bs → IsBlock (slice_index_or bs i []))
+    → map g (map f bs) ≡ bs
 undone_each f g undone [] blocks = refl
 undone_each f g undone (b ∷ bs) blocks =
-    λ j. undone b (blocks 0 (omega arith)) j ∷ undone_each f g undone bs (λ i lt. blocks (suc i) (omega arith)) j
+    λ j. undone b (blocks 0 (omega arith)) j
+    ∷ undone_each f g undone bs (λ i lt. blocks (suc i) (omega arith)) j
 
 module _ (w : List (List ℕ)) (bs : List (List ℕ)) (keys : AreRoundKeys w)
     (blocks : (i : ℕ) → i < length bs → IsBlock (slice_index_or bs i [])) where
   -- InvCipher of each block undoes Cipher of each block
   pub inv_ciphers_of_ciphers : map (inv_cipher_with w) (map (cipher_with w) bs) ≡ bs
-  inv_ciphers_of_ciphers = undone_each (cipher_with w) (inv_cipher_with w) (inv_cipher_of_cipher w keys) bs blocks
+  inv_ciphers_of_ciphers =
+      undone_each (cipher_with w) (inv_cipher_with w) (inv_cipher_of_cipher w keys) bs blocks
 
   -- Cipher of each block undoes InvCipher of each block
   pub ciphers_of_inv_ciphers : map (cipher_with w) (map (inv_cipher_with w) bs) ≡ bs
-  ciphers_of_inv_ciphers = undone_each (inv_cipher_with w) (cipher_with w) (cipher_of_inv_cipher w keys) bs blocks
+  ciphers_of_inv_ciphers =
+      undone_each (inv_cipher_with w) (cipher_with w) (cipher_of_inv_cipher w keys) bs blocks
 
 pub ruleset inverse_ciphers_on_blocks = (inv_ciphers_of_ciphers, ciphers_of_inv_ciphers)
 
@@ -162,17 +193,21 @@ pub ruleset inverse_ciphers_on_blocks = (inv_ciphers_of_ciphers, ciphers_of_inv_
 pub after_length : (w : List (List ℕ)) (b : List ℕ) (n : ℕ) → length (state_after w b n) ≡ 16
 unfolding state_after
 after_length w b zero = add_length b (round_key w 0)
-after_length w b (suc n) = add_length (mix_columns (shift_rows (sub_bytes (state_after w b n)))) (round_key w (suc n))
+after_length w b (suc n) =
+    add_length (mix_columns (shift_rows (sub_bytes (state_after w b n)))) (round_key w (suc n))
 
 -- the state after a round of InvCipher has sixteen bytes
-pub inv_after_length : (w : List (List ℕ)) (b : List ℕ) (n : ℕ) → length (inv_state_after w b n) ≡ 16
+pub inv_after_length : (w : List (List ℕ)) (b : List ℕ) (n : ℕ)
+    → length (inv_state_after w b n) ≡ 16
 unfolding inv_state_after
 inv_after_length w b zero = add_length b (round_key w (last_round w))
 inv_after_length w b (suc n) = (inv_mix_block _).0
 
 -- the last steps of a round of EqInvCipher are those of InvCipher
 module _ (w : List (List ℕ)) (b : List ℕ) where
-  equivalent : (n : ℕ) → n < last_round w → eq_inv_state_after (inverted_keys w) b n ≡ inv_state_after w b n
+  -- with the round keys mixed back, both go through the same states
+  equivalent : (n : ℕ) → n < last_round w → eq_inv_state_after (inverted_keys w) b n
+      ≡ inv_state_after w b n
   unfolding eq_inv_state_after inv_state_after
   equivalent zero lt =
       let all : last_round w - 0 ≡ last_round w = omega arith in
@@ -180,22 +215,29 @@ module _ (w : List (List ℕ)) (b : List ℕ) where
   equivalent (suc n) lt =
       let q : List ℕ = inv_state_after w b n in
       let key = inverted_middle w (suc n) (omega arith) (omega arith) (omega arith) in
-      (λ i. add_round_key (inv_mix_columns (inv_shift_rows (inv_sub_bytes (equivalent n (omega arith) i)))) (sym key i))
-      ∙ ap (λ v. add_round_key (inv_mix_columns v) (inv_mix_columns (round_key w (last_round w - suc n))))
+      (λ i. add_round_key
+      (inv_mix_columns (inv_shift_rows (inv_sub_bytes (equivalent n (omega arith) i)))) (sym key i))
+      ∙ ap (λ v. add_round_key (inv_mix_columns v)
+      (inv_mix_columns (round_key w (last_round w - suc n))))
       (inv_sub_shift q (inv_after_length w b n))
-      ∙ sym (inv_mix_columns_add (inv_sub_bytes (inv_shift_rows q)) (round_key w (last_round w - suc n)))
+      ∙ sym (inv_mix_columns_add (inv_sub_bytes (inv_shift_rows q))
+      (round_key w (last_round w - suc n)))
 
   -- EqInvCipher under the inverted round keys is InvCipher under the round keys
   pub eq_inv_is_inv : 2 ≤ length w → eq_inv_cipher_with (inverted_keys w) b ≡ inv_cipher_with w b
   unfolding eq_inv_cipher_with inv_cipher_with
   eq_inv_is_inv two =
-      let q = λ (n : ℕ). inv_shift_rows (inv_sub_bytes (eq_inv_state_after (inverted_keys w) b (n - 1))) in
+      let q = λ (n : ℕ). inv_shift_rows
+      (inv_sub_bytes (eq_inv_state_after (inverted_keys w) b (n - 1))) in
       let n : last_round (inverted_keys w) ≡ last_round w = ap (λ v. v - 1) (inverted_length w) in
       let none : last_round w - last_round w ≡ 0 = omega arith in
-      let key = sym (inverted_end w (last_round w) (omega arith) (inr refl)) ∙ ap (round_key w) none in
+      let key = sym (inverted_end w (last_round w) (omega arith) (inr refl))
+      ∙ ap (round_key w) none in
       (λ i. add_round_key (q (n i)) (round_key (inverted_keys w) (n i)))
-      ∙ (λ i. add_round_key (inv_shift_rows (inv_sub_bytes (equivalent (last_round w - 1) (omega arith) i))) (key i))
+      ∙ (λ i. add_round_key
+      (inv_shift_rows (inv_sub_bytes (equivalent (last_round w - 1) (omega arith) i))) (key i))
       ∙ ap (λ v. add_round_key v (round_key w 0))
-      (inv_sub_shift (inv_state_after w b (last_round w - 1)) (inv_after_length w b (last_round w - 1)))
+      (inv_sub_shift (inv_state_after w b (last_round w - 1))
+      (inv_after_length w b (last_round w - 1)))
 
 pub ruleset inverse_ciphers_with = (inv_cipher_of_cipher, cipher_of_inv_cipher)

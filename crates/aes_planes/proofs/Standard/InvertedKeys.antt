@@ -1,6 +1,6 @@
 -- The round keys of EqInvCipher, place by place.
-use Rattle.std.proofs.Common.{◌≡◌, ◌≢◌, ◌⊎◌, inl, inr, ℕ, ◌-◌, ◌<◌, ◌==◌, ◌||◌, if◌then◌else◌, Bool, true, List, []}
-use Rattle.std.proofs.Common.{length, slice_index_or, ap, sym, ◌∙◌}
+use Rattle.std.proofs.Common.{◌≡◌, ◌≢◌, ◌⊎◌, inl, inr, ℕ, ◌-◌, ◌<◌, ◌==◌, ◌||◌, if◌then◌else◌, Bool}
+use Rattle.std.proofs.Common.{true, List, [], length, slice_index_or, ap, sym, ◌∙◌}
 use Rattle.std.proofs.Math.Bool.{or-true}
 use Rattle.std.proofs.lemmas.Bool.{eq-eqb, ne_eqb}
 use Rattle.aes_planes.specs.Fips197 as fips
@@ -18,10 +18,13 @@ module _ (w : List (List ℕ)) (i : ℕ) (lt : i < length w) where
       if same then fips.round_key w (fips.last_round w - i) else fips.inv_mix_columns
       (fips.round_key w (fips.last_round w - i))
 
-  inverted_at : slice_index_or (fips.inverted_keys w) i [] ≡ key_if ((i == 0) || (i == fips.last_round w))
+  -- the definition at place i
+  inverted_at : slice_index_or (fips.inverted_keys w) i []
+      ≡ key_if ((i == 0) || (i == fips.last_round w))
   unfolding fips.inverted_keys key_if
   inverted_at = get_or-build (length w) i _ [] lt
 
+  -- the first and the last one stay
   is_end : (i ≡ 0) ⊎ (i ≡ fips.last_round w) → ((i == 0) || (i == fips.last_round w)) ≡ true
   is_end (inl e) = ap (λ v. v || (i == fips.last_round w)) (eq-eqb i 0 e)
   is_end (inr e) = ap (λ v. (i == 0) || v) (eq-eqb i (fips.last_round w) e) ∙ or-true (i == 0)
@@ -33,7 +36,9 @@ module _ (w : List (List ℕ)) (i : ℕ) (lt : i < length w) where
   inverted_end e = sym (inverted_at ∙ ap key_if (is_end e))
 
   -- and between them columns are mixed back
-  pub inverted_middle : i ≢ 0 → i ≢ fips.last_round w → fips.inv_mix_columns (fips.round_key w (fips.last_round w - i))
+  pub inverted_middle : i ≢ 0 → i ≢ fips.last_round w
+      → fips.inv_mix_columns (fips.round_key w (fips.last_round w - i))
       ≡ slice_index_or (fips.inverted_keys w) i []
   unfolding key_if
-  inverted_middle p q = sym (inverted_at ∙ ap key_if (λ j. ne_eqb i 0 p j || ne_eqb i (fips.last_round w) q j))
+  inverted_middle p q =
+      sym (inverted_at ∙ ap key_if (λ j. ne_eqb i 0 p j || ne_eqb i (fips.last_round w) q j))

@@ -1,7 +1,9 @@
 -- A state by its bytes, and lists of bytes.
-use Rattle.std.proofs.Common.{◌≡◌, ℕ, zero, suc, ◌+◌, ◌*◌, ◌/◌, ◌%◌, ◌<◌, nat_lt, true, List, [], ◌∷◌, length, get_or}
-use Rattle.std.proofs.Common.{slice_index_or, refl, ap, sym, ◌∙◌, arith}
+use Rattle.std.proofs.Common.{◌≡◌, ℕ, zero, suc, ◌+◌, ◌*◌, ◌/◌, ◌%◌, ◌<◌, nat_lt, true, List, []}
+use Rattle.std.proofs.Common.{◌∷◌, length, get_or, slice_index_or, take, drop, ◌++◌, refl, ap, sym}
+use Rattle.std.proofs.Common.{◌∙◌, arith}
 use Rattle.std.proofs.lemmas.Bool.{and_parts, ltb-true}
+use Rattle.std.proofs.lemmas.List.{get_or-drop}
 use Rattle.std.proofs.Math.Nat.{mod-lt}
 use Rattle.std.specs.List.{list_all}
 use Rattle.aes_planes.specs.Fips197.{byte_at, state, IsBytes, IsBlock}
@@ -21,7 +23,8 @@ byte_at-state f r c h k =
     get_or-build 16 (r + 4 * c) (λ i. f (i % 4) (i / 4)) 0 (omega arith) ∙ (λ i. f (p i) (q i))
 
 -- a block is the state of its bytes
-pub state_is : (f : ℕ → ℕ → ℕ) (s : List ℕ) → length s ≡ 16 → ((r c : ℕ) → r < 4 → c < 4 → f r c ≡ byte_at s r c)
+pub state_is : (f : ℕ → ℕ → ℕ) (s : List ℕ) → length s ≡ 16
+    → ((r c : ℕ) → r < 4 → c < 4 → f r c ≡ byte_at s r c)
     → state f ≡ s
 unfolding state
 state_is f s l h = build_is 16 (λ i. f (i % 4) (i / 4)) s 0 l
@@ -30,7 +33,8 @@ state_is f s l h = build_is 16 (λ i. f (i % 4) (i / 4)) s 0 l
 
 -- states with the same bytes
 pub state_same : (f g : ℕ → ℕ → ℕ) → ((r c : ℕ) → r < 4 → c < 4 → f r c ≡ g r c) → state f ≡ state g
-state_same f g h = state_is f (state g) (state_length g) (λ r c p q. h r c p q ∙ sym (byte_at-state g r c p q))
+state_same f g h =
+    state_is f (state g) (state_length g) (λ r c p q. h r c p q ∙ sym (byte_at-state g r c p q))
 
 -- states of bytes
 pub state_bytes : (f : ℕ → ℕ → ℕ) → ((r c : ℕ) → f r c < 256) → IsBytes (state f)
@@ -49,13 +53,33 @@ RowsBytes m = (i : ℕ) → IsBytes (slice_index_or m i [])
 -- a list of bytes, by a test of each
 pub bytes_by_test : (s : List ℕ) → list_all (λ x. nat_lt x 256) s ≡ true → IsBytes s
 bytes_by_test [] h i = omega arith
-bytes_by_test (x ∷ s) h zero = ltb-true x 256 (and_parts (nat_lt x 256) (list_all (λ x. nat_lt x 256) s) h).0
-bytes_by_test (x ∷ s) h (suc i) = bytes_by_test s (and_parts (nat_lt x 256) (list_all (λ x. nat_lt x 256) s) h).1 i
+bytes_by_test (x ∷ s) h zero =
+    ltb-true x 256 (and_parts (nat_lt x 256) (list_all (λ x. nat_lt x 256) s) h).0
+bytes_by_test (x ∷ s) h (suc i) =
+    bytes_by_test s (and_parts (nat_lt x 256) (list_all (λ x. nat_lt x 256) s) h).1 i
+
+-- parts of a list of bytes, and two lists of bytes one after the other
+pub take_bytes : (n : ℕ) (s : List ℕ) → IsBytes s → IsBytes (take n s)
+take_bytes zero s h i = omega arith
+take_bytes (suc n) [] h i = omega arith
+take_bytes (suc n) (x ∷ s) h zero = h 0
+take_bytes (suc n) (x ∷ s) h (suc i) = take_bytes n s (λ j. h (suc j)) i
+
+pub drop_bytes : (n : ℕ) (s : List ℕ) → IsBytes s → IsBytes (drop n s)
+drop_bytes n s h i = omega (arith, get_or-drop n s i 0, h (n + i))
+
+pub append_bytes : (s t : List ℕ) → IsBytes s → IsBytes t → IsBytes (s ++ t)
+append_bytes [] t h k i = k i
+append_bytes (x ∷ s) t h k zero = h 0
+append_bytes (x ∷ s) t h k (suc i) = append_bytes s t (λ j. h (suc j)) k i
 
 -- the rows of a matrix of bytes
-pub rows_by_test : (m : List (List ℕ)) → list_all (list_all (λ x. nat_lt x 256)) m ≡ true → RowsBytes m
+pub rows_by_test : (m : List (List ℕ)) → list_all (list_all (λ x. nat_lt x 256)) m ≡ true
+    → RowsBytes m
 rows_by_test [] h r = λ i. omega arith
 rows_by_test (row ∷ m) h zero =
-    bytes_by_test row (and_parts (list_all (λ x. nat_lt x 256) row) (list_all (list_all (λ x. nat_lt x 256)) m) h).0
+    bytes_by_test row (and_parts (list_all (λ x. nat_lt x 256) row)
+    (list_all (list_all (λ x. nat_lt x 256)) m) h).0
 rows_by_test (row ∷ m) h (suc r) =
-    rows_by_test m (and_parts (list_all (λ x. nat_lt x 256) row) (list_all (list_all (λ x. nat_lt x 256)) m) h).1 r
+    rows_by_test m (and_parts (list_all (λ x. nat_lt x 256) row)
+    (list_all (list_all (λ x. nat_lt x 256)) m) h).1 r

@@ -1,12 +1,14 @@
 -- The steps on blocks: blocks stay blocks, and which steps undo which.
-use Rattle.std.proofs.Common.{◌≡◌, ℕ, zero, suc, ◌+◌, ◌-◌, ◌*◌, ◌%◌, ◌<◌, List, [], ◌∷◌, length, map, refl, ap, ◌∙◌}
-use Rattle.std.proofs.Common.{arith}
-use Rattle.aes_planes.specs.Fips197.{field_add, sbox, inv_sbox, byte_at, build, state, sub_bytes, inv_sub_bytes}
-use Rattle.aes_planes.specs.Fips197.{shift_rows, inv_shift_rows, shift_times, mix_columns, inv_mix_columns}
-use Rattle.aes_planes.specs.Fips197.{add_round_key, IsBytes, IsBlock}
-use Rattle.aes_planes.proofs.SBox.InverseSBox.{sbox_byte, inv_sbox_byte, sbox_of_inv_sbox, inv_sbox_of_sbox}
+use Rattle.std.proofs.Common.{◌≡◌, ℕ, zero, suc, ◌+◌, ◌-◌, ◌*◌, ◌%◌, ◌<◌, List, [], ◌∷◌, length}
+use Rattle.std.proofs.Common.{map, refl, ap, ◌∙◌, arith}
+use Rattle.aes_planes.specs.Fips197.{field_add, sbox, inv_sbox, byte_at, build, state, sub_bytes}
+use Rattle.aes_planes.specs.Fips197.{inv_sub_bytes, shift_rows, inv_shift_rows, shift_times}
+use Rattle.aes_planes.specs.Fips197.{mix_columns, inv_mix_columns, add_round_key, IsBytes, IsBlock}
+use Rattle.aes_planes.proofs.SBox.InverseSBox.{sbox_byte, inv_sbox_byte, sbox_of_inv_sbox}
+use Rattle.aes_planes.proofs.SBox.InverseSBox.{inv_sbox_of_sbox}
 use Rattle.aes_planes.proofs.Lists.{built}
-use Rattle.aes_planes.proofs.Mixing.MixColumns.{mix_block, inv_mix_block, inv_mix_of_mix, mix_of_inv_mix}
+use Rattle.aes_planes.proofs.Mixing.MixColumns.{mix_block, inv_mix_block, inv_mix_of_mix}
+use Rattle.aes_planes.proofs.Mixing.MixColumns.{mix_of_inv_mix}
 use Rattle.aes_planes.proofs.Standard.FieldLaws.{add_twice, field_add_byte}
 pub use Rattle.aes_planes.proofs.Standard.LinearSteps.{inv_sub_shift}
 pub use Rattle.aes_planes.proofs.Standard.States.{state_length, state_bytes, state_block}
@@ -42,7 +44,8 @@ shift_times_length (suc n) s l = shift_length (shift_times n s)
 -- ---- bytes and blocks
 
 -- a function from bytes to bytes leaves bytes of bytes
-pub map_bytes : (f : ℕ → ℕ) → ((x : ℕ) → x < 256 → f x < 256) → (s : List ℕ) → IsBytes s → IsBytes (map f s)
+pub map_bytes : (f : ℕ → ℕ) → ((x : ℕ) → x < 256 → f x < 256) → (s : List ℕ) → IsBytes s
+    → IsBytes (map f s)
 map_bytes f u [] h i = omega arith
 map_bytes f u (x ∷ s) h zero = u x (h 0)
 map_bytes f u (x ∷ s) h (suc i) = map_bytes f u s (λ j. h (suc j)) i
@@ -81,7 +84,8 @@ shift_times_bytes (suc n) s h = shift_bytes (shift_times n s) (shift_times_bytes
 -- InvShiftRows leaves a block
 pub inv_shift_block : (s : List ℕ) → IsBytes s → IsBlock (inv_shift_rows s)
 unfolding inv_shift_rows
-inv_shift_block s h = state_block (λ r c. byte_at s r ((c + 4 - r) % 4)) (λ r c. h (r + 4 * ((c + 4 - r) % 4)))
+inv_shift_block s h =
+    state_block (λ r c. byte_at s r ((c + 4 - r) % 4)) (λ r c. h (r + 4 * ((c + 4 - r) % 4)))
 
 -- AddRoundKey of bytes and a key of bytes leaves a block
 pub add_block : (s k : List ℕ) → IsBytes s → IsBytes k → IsBlock (add_round_key s k)
@@ -99,14 +103,16 @@ pub record Undoes (f g : List ℕ → List ℕ) : Type 0 where
   pub undone : (s : List ℕ) → IsBlock s → f (g s) ≡ s
 
 -- one step and then another, undone in the other order
-pub both_undone : {f g f' g' : List ℕ → List ℕ} → Undoes f g → Undoes f' g' → Undoes (λ s. f (f' s)) (λ s. g' (g s))
+pub both_undone : {f g f' g' : List ℕ → List ℕ} → Undoes f g → Undoes f' g'
+    → Undoes (λ s. f (f' s)) (λ s. g' (g s))
 both_undone {f = f} {g = g} p q = record {
   block = λ s h. q.block (g s) (p.block s h);
   undone = λ s h. ap f (q.undone (g s) (p.block s h)) ∙ p.undone s h;
 }
 
 -- the bytes of a list are below 256, one by one
-map_undone : (f g : ℕ → ℕ) → ((x : ℕ) → x < 256 → f (g x) ≡ x) → (s : List ℕ) → IsBytes s → map f (map g s) ≡ s
+map_undone : (f g : ℕ → ℕ) → ((x : ℕ) → x < 256 → f (g x) ≡ x) → (s : List ℕ) → IsBytes s
+    → map f (map g s) ≡ s
 map_undone f g u [] h = refl
 map_undone f g u (x ∷ s) h = λ i. u x (h 0) i ∷ map_undone f g u s (λ j. h (suc j)) i
 
@@ -133,7 +139,11 @@ shift_of_inv_shift s l = built 16 s 0 l
 
 -- ShiftRows undoes InvShiftRows
 pub shift_undoes : Undoes shift_rows inv_shift_rows
-shift_undoes = record { block = λ s h. inv_shift_block s h.1; undone = λ s h. shift_of_inv_shift s h.0 }
+shift_undoes = record {
+  block = λ s h. inv_shift_block s h.1;
+  undone =
+      λ s h. shift_of_inv_shift s h.0;
+}
 
 -- InvShiftRows undoes ShiftRows
 pub inv_shift_undoes : Undoes inv_shift_rows shift_rows
@@ -156,8 +166,13 @@ mix_undoes = record { block = λ s h. inv_mix_block s; undone = mix_of_inv_mix }
 -- adding the same round key twice leaves a list of sixteen as it was
 pub add_key_twice : (s k : List ℕ) → length s ≡ 16 → add_round_key (add_round_key s k) k ≡ s
 unfolding add_round_key build
-add_key_twice s k l = (λ i. state (λ r c. add_twice (byte_at s r c) (byte_at k r c) i)) ∙ built 16 s 0 l
+add_key_twice s k l = (λ i. state (λ r c. add_twice (byte_at s r c) (byte_at k r c) i))
+    ∙ built 16 s 0 l
 
 -- AddRoundKey undoes itself
 pub add_undoes : (k : List ℕ) → IsBytes k → Undoes (λ s. add_round_key s k) (λ s. add_round_key s k)
-add_undoes k g = record { block = λ s h. add_block s k h.1 g; undone = λ s h. add_key_twice s k h.0 }
+add_undoes k g = record {
+  block = λ s h. add_block s k h.1 g;
+  undone =
+      λ s h. add_key_twice s k h.0;
+}

@@ -1,15 +1,18 @@
 -- Words in byte lanes, in any order of the lanes: their bits through the operations on vectors.
-use Rattle.std.proofs.Common.{◌≡◌, ℕ, ◌+◌, ◌-◌, ◌*◌, ◌/◌, ◌%◌, ◌^◌, ◌<◌, ◌≤◌, ◌==◌, Bool, true, false, ◌&&◌, ◌||◌}
-use Rattle.std.proofs.Common.{cond, nat_le, nat_lt, bit_and, bit_or, List, [], ◌∷◌, length, map, get_or, replicate}
-use Rattle.std.proofs.Common.{refl, ap, sym, ◌∙◌, arith, w8, Fits, leb-true, T}
+use Rattle.std.proofs.Common.{◌≡◌, ℕ, ◌+◌, ◌-◌, ◌*◌, ◌/◌, ◌%◌, ◌^◌, ◌<◌, ◌≤◌, ◌==◌, Bool, true}
+use Rattle.std.proofs.Common.{false, ◌&&◌, ◌||◌, cond, nat_le, nat_lt, bit_and, bit_or, List, []}
+use Rattle.std.proofs.Common.{◌∷◌, length, map, get_or, replicate, refl, ap, sym, ◌∙◌, arith, w8}
+use Rattle.std.proofs.Common.{Fits, leb-true, T}
 use Rattle.std.proofs.lemmas.Simd.{swz_l, get_or-swz_l, get_or-zip2, get_or-replicate, length-zip2}
 use Rattle.std.proofs.lemmas.Simd.{length-replicate, Each1-get_or, below_from_Fits}
-use Rattle.std.proofs.lemmas.Bool.{lt-ltb, le-ltb, eqb-true, and_parts, cond_both, cond-true, cond-false}
+use Rattle.std.proofs.lemmas.Bool.{lt-ltb, le-ltb, eqb-true, and_parts, cond_both, cond-true}
+use Rattle.std.proofs.lemmas.Bool.{cond-false}
 use lib.Lanes.{zip2, Each1}
 use Rattle.aes_planes.specs.Bits.{at, bit, Places}
 use Rattle.aes_planes.specs.Fips197.{build}
 use Rattle.aes_planes.proofs.Bits.ByteCases.{all_below, all_below_tells, all_pairs, all_pairs_tell}
-use Rattle.aes_planes.proofs.Bits.NumberBits.{Places-build, bit_of_and, bit_of_or, bit_of_xor, bit_funnel, bit_zero}
+use Rattle.aes_planes.proofs.Bits.NumberBits.{Places-build, bit_of_and, bit_of_or, bit_of_xor}
+use Rattle.aes_planes.proofs.Bits.NumberBits.{bit_funnel, bit_zero}
 use Rattle.aes_planes.proofs.Lists.{get_or-build}
 use Rattle.aes_planes.proofs.Words.Moved.{Turned, Right, Left, left_by}
 
@@ -29,11 +32,13 @@ module _ (n : ℕ) where
       ∙ ap (f (get_or xs j 0)) (get_or-replicate n j s 0 h)
 
   -- and that vector has as many lanes as the first
-  pub length-splat : (f : ℕ → ℕ → ℕ) (xs : List ℕ) (s : ℕ) → length xs ≡ n → length (zip2 f xs (replicate n s)) ≡ n
+  pub length-splat : (f : ℕ → ℕ → ℕ) (xs : List ℕ) (s : ℕ) → length xs ≡ n
+      → length (zip2 f xs (replicate n s)) ≡ n
   length-splat f xs s d = length-zip2 f xs (replicate n s) (d ∙ sym (length-replicate n s)) ∙ d
 
   -- two vectors under an operator, each under another with the same number in each lane
-  pub lane_of_splats : (f g h : ℕ → ℕ → ℕ) (a b : List ℕ) (s t j : ℕ) → length a ≡ n → length b ≡ n → j < n
+  pub lane_of_splats : (f g h : ℕ → ℕ → ℕ) (a b : List ℕ) (s t j : ℕ) → length a ≡ n
+      → length b ≡ n → j < n
       → get_or (zip2 f (zip2 g a (replicate n s)) (zip2 h b (replicate n t))) j 0
       ≡ f (g (get_or a j 0) s) (h (get_or b j 0) t)
   lane_of_splats f g h a b s t j d e l =
@@ -91,19 +96,22 @@ lane_or_zero k i = cond (nat_le 128 k) (nat_le 16 i) ((k == i) && nat_lt i 16)
 abbrev lane_from : List ℕ → ℕ → ℕ → ℕ
 lane_from x o i = cond (nat_lt i 16) (get_or x (o + i) 0) 0
 
+-- an index that passes the test picks the lane that is meant, or a zero
 picked : (x : List ℕ) (k i o : ℕ) → lane_or_zero k i ≡ true
     → cond (nat_le 128 k) 0 (get_or x (o + k) 0) ≡ lane_from x o i
 picked x k i o h = cond_both (nat_le 128 k) 0 (get_or x (o + k) 0) (λ v. v ≡ lane_from x o i)
     (λ t. let far : 16 ≤ i = leb-true 16 i (sym (cond-true _ _ _ t) ∙ h) in
     ap (λ b. cond b (get_or x (o + i) 0) 0) (sym (le-ltb i 16 far)))
     (λ t. let both = and_parts (k == i) (nat_lt i 16) (sym (cond-false _ _ _ t) ∙ h) in
-    ap (λ v. get_or x (o + v) 0) (eqb-true k i both.0) ∙ ap (λ b. cond b (get_or x (o + i) 0) 0) (sym both.1))
+    ap (λ v. get_or x (o + v) 0) (eqb-true k i both.0)
+    ∙ ap (λ b. cond b (get_or x (o + i) 0) 0) (sym both.1))
 
--- a number that a swizzle may have at a lane of the sixteen from lane o on, of n lanes: that of one that there is, or one
--- from 128 on, which gives zero
+-- a number that a swizzle may have at a lane of the sixteen from lane o on, of n lanes: that of one
+-- that there is, or one from 128 on, which gives zero
 abbrev pub place_ok : ℕ → ℕ → ℕ → Bool
 place_ok n o k = nat_le 128 k || (nat_lt k 16 && nat_lt (o + k) n)
 
+-- a test that is true, in the form that std's lemmas on shuffles ask for
 t_of : (b : Bool) → b ≡ true → T b
 t_of true e = tt
 t_of false e = absurd (grind arith)
@@ -116,7 +124,8 @@ masked_place n o right x =
 
 -- ---- words of w bits
 
--- bit i of the word is bit i % 8 of lane `lane i`, which is one of n, and the same for the bits of a byte
+-- bit i of the word is bit i % 8 of lane `lane i`, which is one
+-- of n, and the same for the bits of a byte
 pub record IsLayout (n w : ℕ) (lane : ℕ → ℕ) : Type 0 where
   pub sized : w ≡ 8 * n
   pub within : (i : ℕ) → i < w → lane i < n
@@ -128,7 +137,8 @@ laid w lane xs = build w (λ i. bit (get_or xs (lane i) 0) (i % 8))
 
 module _ {n w : ℕ} {lane : ℕ → ℕ} (laws : IsLayout n w lane) where
   -- bit i of the word
-  pub reads : (xs : List ℕ) (i : ℕ) → i < w → bit (get_or xs (lane i) 0) (i % 8) ≡ at (laid w lane xs) i
+  pub reads : (xs : List ℕ) (i : ℕ) → i < w
+      → bit (get_or xs (lane i) 0) (i % 8) ≡ at (laid w lane xs) i
   reads xs i h = sym (get_or-build w i (λ i. bit (get_or xs (lane i) 0) (i % 8)) false h)
 
   -- the same, where the lane and the place in it are given by other terms
@@ -147,6 +157,7 @@ module _ {n w : ℕ} {lane : ℕ → ℕ} (laws : IsLayout n w lane) where
   byte_in_each b = Places-build w _ _ (λ i h.
       ap (λ v. bit v (i % 8)) (get_or-replicate n (lane i) b 0 (laws.within i h)))
 
+  -- bit i of a lane that was picked so
   read : (x : List ℕ) (i k o source : ℕ) (some : Bool)
       → (some ≡ true → (k < w) × (source < 16) × (o + source ≡ lane k) × (i % 8 ≡ k % 8))
       → (some ≡ false → 16 ≤ source)
@@ -156,7 +167,8 @@ module _ {n w : ℕ} {lane : ℕ → ℕ} (laws : IsLayout n w lane) where
       ap (λ b. bit (cond b (get_or x (o + source) 0) 0) (i % 8)) (lt-ltb source 16 t.1)
       ∙ bit_at x (o + source) (i % 8) k t.0 t.2 t.3
   read x i k o source false there none =
-      ap (λ b. bit (cond b (get_or x (o + source) 0) 0) (i % 8)) (le-ltb source 16 (none refl)) ∙ bit_zero (i % 8)
+      ap (λ b. bit (cond b (get_or x (o + source) 0) 0) (i % 8)) (le-ltb source 16 (none refl))
+      ∙ bit_zero (i % 8)
 
   -- a swizzle by numbers that are computed of m has in place i bit k of the word, or none
   pub swizzled : (to : ℕ → List ℕ) (from : ℕ → ℕ → ℕ)
@@ -172,14 +184,17 @@ module _ {n w : ℕ} {lane : ℕ → ℕ} (laws : IsLayout n w lane) where
       let start : 16 * ((0 + j) / 16) ≡ 16 * (j / 16) = omega arith in
       ap (λ v. bit v (i % 8)) (get_or-swz_l w8 16 x 0 (to m) j (omega (arith, e, laws.within i l))
       ∙ picked x (get_or (to m) j 0) source (16 * ((0 + j) / 16))
-      (all_pairs_tell 17 n (λ m j. lane_or_zero (get_or (to m) j 0) (from m (j % 16))) right m j (omega arith)
+      (all_pairs_tell 17 n (λ m j. lane_or_zero (get_or (to m) j 0) (from m (j % 16))) right m j
+      (omega arith)
       (laws.within i l))
       ∙ ap (λ o. lane_from x o source) start)
       ∙ read x i k (16 * (j / 16)) source some there none
 
   -- ---- rotations and shifts by bits, of those by bytes: in each lane the high bits of a, and then the low ones of b
 
-  funnel : (p q : ℕ) (a b : List ℕ) (f : ℕ → Bool) → p + q ≡ 8 → length a ≡ n → length b ≡ n → Each1 (Fits w8) a
+  -- such lanes are right if each of the two parts is
+  funnel : (p q : ℕ) (a b : List ℕ) (f : ℕ → Bool) → p + q ≡ 8 → length a ≡ n → length b ≡ n
+      → Each1 (Fits w8) a
       → ((i : ℕ) → i < w → i % 8 + p < 8 → at (laid w lane a) (i + p) ≡ f i)
       → ((i : ℕ) → i < w → 8 ≤ i % 8 + p → at (laid w lane b) (i - q) ≡ f i)
       → Places w (laid w lane (funneled n p q a b)) f
@@ -188,13 +203,18 @@ module _ {n w : ℕ} {lane : ℕ → ℕ} (laws : IsLayout n w lane) where
       let size : w ≡ 8 * n = laws.sized in
       let inside : j < length a = omega (arith, d, laws.within i l) in
       ap (λ v. bit v (i % 8)) (lane_of_splats n bit_or shr8 shl8 a b p q j d e (laws.within i l))
-      ∙ bit_funnel 8 p q (get_or a j 0) (get_or b j 0) (i % 8) (f i) s (lane_small a j inside fits) (omega arith)
-      (λ lt. bit_at a j (i % 8 + p) (i + p) (omega (arith, size, lt, l)) (laws.same i (i + p) (omega (arith, lt)))
+      ∙ bit_funnel 8 p q (get_or a j 0) (get_or b j 0) (i % 8) (f i) s (lane_small a j inside fits)
+      (omega arith)
+      (λ lt. bit_at a j (i % 8 + p) (i + p) (omega (arith, size, lt, l))
+      (laws.same i (i + p) (omega (arith, lt)))
       (omega (arith, lt)) ∙ low i l lt)
-      (λ le. bit_at b j (i % 8 - q) (i - q) (omega (arith, l)) (laws.same i (i - q) (omega (arith, s, le)))
+      (λ le. bit_at b j (i % 8 - q) (i - q) (omega (arith, l))
+      (laws.same i (i - q) (omega (arith, s, le)))
       (omega (arith, s, le)) ∙ high i l le))
 
-  pub rotated : (x : List Bool) (a b : List ℕ) (m : ℕ) → length a ≡ n → length b ≡ n → Each1 (Fits w8) a
+  -- rotations
+  pub rotated : (x : List Bool) (a b : List ℕ) (m : ℕ) → length a ≡ n → length b ≡ n
+      → Each1 (Fits w8) a
       → Turned w x (laid w lane a) (8 * (m / 8)) → Turned w x (laid w lane b) (8 * (m / 8 + 1))
       → Turned w x (laid w lane (funneled n (m % 8) (8 - m % 8) a b)) m
   rotated x a b m d e f t u =
@@ -203,16 +223,22 @@ module _ {n w : ℕ} {lane : ℕ → ℕ} (laws : IsLayout n w lane) where
       (λ i l s. t (i + m % 8) (omega (arith, size, s, l)) ∙ ap (λ v. at x (v % w)) (omega arith))
       (λ i l s. u (i - (8 - m % 8)) (omega (arith, l)) ∙ ap (λ v. at x (v % w)) (omega (arith, s)))
 
-  pub shifted_right : (x : List Bool) (a b : List ℕ) (m : ℕ) → length a ≡ n → length b ≡ n → Each1 (Fits w8) a
+  -- shifts to the right
+  pub shifted_right : (x : List Bool) (a b : List ℕ) (m : ℕ) → length a ≡ n → length b ≡ n
+      → Each1 (Fits w8) a
       → Right w x (laid w lane a) (8 * (m / 8)) → Right w x (laid w lane b) (8 * (m / 8 + 1))
       → Right w x (laid w lane (funneled n (m % 8) (8 - m % 8) a b)) m
   shifted_right x a b m d e f t u =
       let size : w ≡ 8 * n = laws.sized in
       funnel (m % 8) (8 - m % 8) a b _ (omega arith) d e f
-      (λ i l s. t (i + m % 8) (omega (arith, size, s, l)) ∙ ap (λ v. nat_lt v w && at x v) (omega arith))
-      (λ i l s. u (i - (8 - m % 8)) (omega (arith, l)) ∙ ap (λ v. nat_lt v w && at x v) (omega (arith, s)))
+      (λ i l s. t (i + m % 8) (omega (arith, size, s, l))
+      ∙ ap (λ v. nat_lt v w && at x v) (omega arith))
+      (λ i l s. u (i - (8 - m % 8)) (omega (arith, l))
+      ∙ ap (λ v. nat_lt v w && at x v) (omega (arith, s)))
 
-  pub shifted_left : (x : List Bool) (a b : List ℕ) (m : ℕ) → length a ≡ n → length b ≡ n → Each1 (Fits w8) a
+  -- shifts to the left
+  pub shifted_left : (x : List Bool) (a b : List ℕ) (m : ℕ) → length a ≡ n → length b ≡ n
+      → Each1 (Fits w8) a
       → Left w x (laid w lane a) (8 * (m / 8 + 1)) → Left w x (laid w lane b) (8 * (m / 8))
       → Left w x (laid w lane (funneled n (8 - m % 8) (m % 8) a b)) m
   shifted_left x a b m d e f t u =
@@ -220,4 +246,5 @@ module _ {n w : ℕ} {lane : ℕ → ℕ} (laws : IsLayout n w lane) where
       funnel (8 - m % 8) (m % 8) a b _ (omega arith) d e f
       (λ i l s. t (i + (8 - m % 8)) (omega (arith, size, s, l))
       ∙ left_by x (8 * (m / 8 + 1)) m (i + (8 - m % 8)) i (omega arith))
-      (λ i l s. u (i - m % 8) (omega (arith, l)) ∙ left_by x (8 * (m / 8)) m (i - m % 8) i (omega (arith, s)))
+      (λ i l s. u (i - m % 8) (omega (arith, l))
+      ∙ left_by x (8 * (m / 8)) m (i - m % 8) i (omega (arith, s)))

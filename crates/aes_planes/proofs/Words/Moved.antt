@@ -1,6 +1,6 @@
 -- Words that are turned or shifted by so many bits, at once or in two steps, at every width.
-use Rattle.std.proofs.Common.{◌≡◌, ℕ, ◌+◌, ◌-◌, ◌*◌, ◌/◌, ◌%◌, Bool, ◌&&◌, nat_le, nat_lt, List, ap, sym, ◌∙◌, arith}
-use Rattle.std.proofs.Common.{le-leb, inl, inr}
+use Rattle.std.proofs.Common.{◌≡◌, ℕ, ◌+◌, ◌-◌, ◌*◌, ◌/◌, ◌%◌, Bool, ◌&&◌, nat_le, nat_lt, List, ap}
+use Rattle.std.proofs.Common.{sym, ◌∙◌, arith, le-leb, inl, inr}
 use Rattle.std.proofs.lemmas.Bool.{cases_lt, lt-leb, lt-ltb, le-ltb}
 use Rattle.aes_planes.specs.Bits.{at, Places}
 
@@ -20,28 +20,33 @@ Left w x y n = Places w y (λ i. nat_le n i && at x (i - n))
 pub left_by : (x : List Bool) (m n i j : ℕ) → i + n ≡ j + m
     → (nat_le m i && at x (i - m)) ≡ (nat_le n j && at x (j - n))
 left_by x m n i j e = elim (cases_lt i m) [
-  | inl lt ↦ (λ t. lt-leb m i lt t && at x (i - m)) ∙ (λ t. sym (lt-leb n j (omega arith)) t && at x (j - n))
+  | inl lt ↦ (λ t. lt-leb m i lt t && at x (i - m))
+      ∙ (λ t. sym (lt-leb n j (omega arith)) t && at x (j - n))
   | inr le ↦
       let place : i - m ≡ j - n = omega arith in
-      (λ t. le-leb m i le t && at x (place t)) ∙ (λ t. sym (le-leb n j (omega arith)) t && at x (j - n))
+      (λ t. le-leb m i le t && at x (place t))
+      ∙ (λ t. sym (le-leb n j (omega arith)) t && at x (j - n))
 ]
 
 -- ---- by whole bytes
 
 -- where 8 divides n, a rotation by n / 8 bytes is a rotation by n bits
-pub rotate_whole : (w : ℕ) (x y : List Bool) (n : ℕ) → n % 8 ≡ 0 → Turned w x y (8 * (n / 8)) → Turned w x y n
+pub rotate_whole : (w : ℕ) (x y : List Bool) (n : ℕ) → n % 8 ≡ 0 → Turned w x y (8 * (n / 8))
+    → Turned w x y n
 rotate_whole w x y n z t i l =
     let e : 8 * (n / 8) ≡ n = omega (arith, z) in
     t i l ∙ ap (λ v. at x ((i + v) % w)) e
 
 -- and so it is of a shift right
-pub shift_right_whole : (w : ℕ) (x y : List Bool) (n : ℕ) → n % 8 ≡ 0 → Right w x y (8 * (n / 8)) → Right w x y n
+pub shift_right_whole : (w : ℕ) (x y : List Bool) (n : ℕ) → n % 8 ≡ 0 → Right w x y (8 * (n / 8))
+    → Right w x y n
 shift_right_whole w x y n z t i l =
     let e : 8 * (n / 8) ≡ n = omega (arith, z) in
     t i l ∙ ap (λ v. nat_lt (i + v) w && at x (i + v)) e
 
 -- and of a shift left
-pub shift_left_whole : (w : ℕ) (x y : List Bool) (n : ℕ) → n % 8 ≡ 0 → Left w x y (8 * (n / 8)) → Left w x y n
+pub shift_left_whole : (w : ℕ) (x y : List Bool) (n : ℕ) → n % 8 ≡ 0 → Left w x y (8 * (n / 8))
+    → Left w x y n
 shift_left_whole w x y n z t i l =
     let e : 8 * (n / 8) ≡ n = omega (arith, z) in
     t i l ∙ ap (λ v. nat_le v i && at x (i - v)) e
@@ -49,17 +54,20 @@ shift_left_whole w x y n z t i l =
 -- ---- by eight bits more
 
 -- a shift right by n bits, and then by eight, is one by m
-pub right_again : (w : ℕ) (x y z : List Bool) (n m : ℕ) → Right w x y n → Right w y z 8 → m ≡ n + 8 → Right w x z m
+pub right_again : (w : ℕ) (x y z : List Bool) (n m : ℕ) → Right w x y n → Right w y z 8 → m ≡ n + 8
+    → Right w x z m
 right_again w x y z n m t u e i l = u i l ∙ elim (cases_lt (i + 8) w) [
   | inl lt ↦
       let place : i + 8 + n ≡ i + m = omega (arith, e) in
-      ap (λ b. b && at y (i + 8)) (lt-ltb (i + 8) w lt) ∙ t (i + 8) lt ∙ ap (λ v. nat_lt v w && at x v) place
+      ap (λ b. b && at y (i + 8)) (lt-ltb (i + 8) w lt) ∙ t (i + 8) lt
+      ∙ ap (λ v. nat_lt v w && at x v) place
   | inr le ↦ ap (λ b. b && at y (i + 8)) (le-ltb (i + 8) w le)
       ∙ ap (λ c. c && at x (i + m)) (sym (le-ltb (i + m) w (omega (arith, e, le))))
 ]
 
 -- and so it is of shifts left
-pub left_again : (w : ℕ) (x y z : List Bool) (n m : ℕ) → Left w x y n → Left w y z 8 → m ≡ n + 8 → Left w x z m
+pub left_again : (w : ℕ) (x y z : List Bool) (n m : ℕ) → Left w x y n → Left w y z 8 → m ≡ n + 8
+    → Left w x z m
 left_again w x y z n m t u e i l = u i l ∙ elim (cases_lt i 8) [
   | inl lt ↦ ap (λ b. b && at y (i - 8)) (lt-leb 8 i lt)
       ∙ ap (λ c. c && at x (i - m)) (sym (lt-leb m i (omega (arith, e, lt))))

@@ -1,8 +1,10 @@
--- Eight words as squares of bits, one for each lane: their transpose by three exchanges, at every width.
-use Rattle.std.proofs.Common.{◌≡◌, ℕ, ◌+◌, ◌-◌, ◌*◌, ◌/◌, ◌%◌, ◌^◌, ◌<◌, ◌≤◌, ◌==◌, Bool, true, false, ◌&&◌, cond}
-use Rattle.std.proofs.Common.{nat_le, nat_lt, bit_and, bit_xor, List, [], ◌∷◌, get_or, refl, ap, sym, ◌∙◌, arith, ◌⊎◌}
-use Rattle.std.proofs.Common.{inl, inr, length, replicate}
-use Rattle.std.proofs.lemmas.Bool.{cases_lt, eqb-true, and_parts, ltb-true, leb-true, le-leb, lt-leb}
+-- Eight words as squares of bits, one for each lane: their
+-- transpose by three exchanges, at every width.
+use Rattle.std.proofs.Common.{◌≡◌, ℕ, ◌+◌, ◌-◌, ◌*◌, ◌/◌, ◌%◌, ◌^◌, ◌<◌, ◌≤◌, ◌==◌, Bool, true}
+use Rattle.std.proofs.Common.{false, ◌&&◌, cond, nat_le, nat_lt, bit_and, bit_xor, List, [], ◌∷◌}
+use Rattle.std.proofs.Common.{get_or, refl, ap, sym, ◌∙◌, arith, ◌⊎◌, inl, inr, length, replicate}
+use Rattle.std.proofs.lemmas.Bool.{cases_lt, eqb-true, and_parts, ltb-true, leb-true, le-leb}
+use Rattle.std.proofs.lemmas.Bool.{lt-leb}
 use lib.Lanes.{zip2}
 use Rattle.std.proofs.lemmas.Simd.{length-zip2}
 use Rattle.aes_planes.specs.Bits.{at, bit, xor}
@@ -10,25 +12,30 @@ use Rattle.aes_planes.specs.Private.Packing.{source_word, source_bit}
 use Rattle.aes_planes.specs.Words.{word_bits}
 use Rattle.aes_planes.proofs.Bits.BitCases.{all_bools, all_bools_tells, same, same_tells, xor_false}
 use Rattle.aes_planes.proofs.Bits.ByteCases.{all_below, all_pairs_tell}
-use Rattle.aes_planes.proofs.Bits.NumberBits.{bit_shl, bit_shl_high, bit_shr, bit_above, bit_of_and, bit_of_xor, reads}
+use Rattle.aes_planes.proofs.Bits.NumberBits.{bit_shl, bit_shl_high, bit_shr, bit_above, bit_of_and}
+use Rattle.aes_planes.proofs.Bits.NumberBits.{bit_of_xor, reads}
 use Rattle.aes_planes.proofs.Words.Constants.{bytes_of_32, bytes_of_64}
-use Rattle.aes_planes.proofs.Words.ByteLanes.{IsLayout, laid, at_byte, lane_of_two, lane_of_splat, length-splat, shr8}
-use Rattle.aes_planes.proofs.Words.ByteLanes.{shl8}
+use Rattle.aes_planes.proofs.Words.ByteLanes.{IsLayout, laid, at_byte, lane_of_two, lane_of_splat}
+use Rattle.aes_planes.proofs.Words.ByteLanes.{length-splat, shr8, shl8}
 
 -- ---- one exchange between two numbers
 
+-- the test of all cases
 chooses : List Bool → Bool
 chooses b =
     same (xor (at b 0) (xor (at b 0) (at b 1) && at b 2)) (cond (at b 2) (at b 1) (at b 0))
     && same (xor (at b 0) (xor (at b 1) (at b 0) && at b 2)) (cond (at b 2) (at b 1) (at b 0))
 
+-- a bit that differs is flipped exactly where the mask says so
 chosen : (a b k : Bool) → (xor a (xor a b && k) ≡ cond k b a) × (xor a (xor b a && k) ≡ cond k b a)
 unfolding all_bools chooses same
 chosen a b k =
     let t = and_parts _ _ (all_bools_tells 3 chooses refl (a ∷ b ∷ k ∷ []) refl) in
     (same_tells _ _ t.0, same_tells _ _ t.1)
 
-chosen_if : (a b c l k : Bool) → (l ≡ true → c ≡ a) → xor a (l && (xor b c && k)) ≡ cond (l && k) b a
+-- the same for a bit that may come from below the lowest place
+chosen_if : (a b c l k : Bool) → (l ≡ true → c ≡ a)
+    → xor a (l && (xor b c && k)) ≡ cond (l && k) b a
 chosen_if a b c true k e = ap (λ c. xor a (xor b c && k)) (e refl) ∙ (chosen a b k).1
 chosen_if a b c false k e = xor_false a
 
@@ -36,16 +43,21 @@ chosen_if a b c false k e = xor_false a
 abbrev pub differing : ℕ → ℕ → ℕ → ℕ → ℕ
 differing s m low high = bit_and (bit_xor high (low / 2 ^ s)) m
 
-differing_bit : (s m low high j : ℕ) → bit (differing s m low high) j ≡ (xor (bit high j) (bit low (j + s)) && bit m j)
+-- bit by bit
+differing_bit : (s m low high j : ℕ) → bit (differing s m low high) j
+    ≡ (xor (bit high j) (bit low (j + s)) && bit m j)
 differing_bit s m low high j = bit_of_and (bit_xor high (low / 2 ^ s)) m j
-    ∙ ap (λ v. v && bit m j) (bit_of_xor high (low / 2 ^ s) j ∙ ap (xor (bit high j)) (bit_shr low s j))
+    ∙ ap (λ v. v && bit m j) (bit_of_xor high (low / 2 ^ s) j
+    ∙ ap (xor (bit high j)) (bit_shr low s j))
 
+-- the upper number takes its bits under the mask from the lower one
 pub exchanged_high : (s m low high i : ℕ) → bit (bit_xor high (differing s m low high)) i
     ≡ cond (bit m i) (bit low (i + s)) (bit high i)
 exchanged_high s m low high i = bit_of_xor high (differing s m low high) i
     ∙ ap (xor (bit high i)) (differing_bit s m low high i)
     ∙ (chosen (bit high i) (bit low (i + s)) (bit m i)).0
 
+-- and the lower one takes them from the upper
 pub exchanged_low : (w s m low high i : ℕ) → i < w
     → bit (bit_xor low (differing s m low high * 2 ^ s % 2 ^ w)) i
     ≡ cond (nat_le s i && bit m (i - s)) (bit high (i - s)) (bit low i)
@@ -57,11 +69,14 @@ exchanged_low w s m low high i h = bit_of_xor low (differing s m low high * 2 ^ 
 
 -- ---- the same in each lane, under a byte that shifts none of its bits out of a lane
 
+-- such a byte has no bit among the s highest
 outside : (s m r : ℕ) → m * 2 ^ s < 2 ^ 8 → 8 ≤ r + s → bit m r ≡ false
 outside s m r f h =
     let e : r ≡ r + s - s = omega arith in
-    ap (bit m) e ∙ sym (bit_shl_high m s (r + s) (omega arith)) ∙ bit_above (m * 2 ^ s) 8 (r + s) f h
+    ap (bit m) e ∙ sym (bit_shl_high m s (r + s) (omega arith))
+    ∙ bit_above (m * 2 ^ s) 8 (r + s) f h
 
+-- so a bit under the mask stays in its lane
 pub inside : (s m r : ℕ) → m * 2 ^ s < 2 ^ 8 → bit m r ≡ true → r + s < 8
 inside s m r f h =
     elim (cases_lt (r + s) 8) as (λ _. r + s < 8) [
@@ -71,14 +86,16 @@ inside s m r f h =
     ]
 
 -- choices between bits that are the same where they are taken
-pub chosen_same : (a b : Bool) (x y u v : Bool) → a ≡ b → (b ≡ true → x ≡ u) → y ≡ v → cond a x y ≡ cond b u v
+pub chosen_same : (a b : Bool) (x y u v : Bool) → a ≡ b → (b ≡ true → x ≡ u) → y ≡ v
+    → cond a x y ≡ cond b u v
 chosen_same a true x y u v e f g = ap (λ c. cond c x y) e ∙ f refl
 chosen_same a false x y u v e f g = ap (λ c. cond c x y) e ∙ g
 
 module _ (w s m M low high : ℕ) (f : m * 2 ^ s < 2 ^ 8) (k : s < 8)
     (rep : (i : ℕ) → i < w → bit M i ≡ bit m (i % 8)) where
   -- the bit of a mask that repeats a byte, s places below bit r of a lane
-  masked_below : (j r : ℕ) → 8 * j + 8 ≤ w → r < 8 → (r < s) ⊎ (s ≤ r) → (8 * j + r < s) ⊎ (s ≤ 8 * j + r)
+  masked_below : (j r : ℕ) → 8 * j + 8 ≤ w → r < 8 → (r < s) ⊎ (s ≤ r)
+      → (8 * j + r < s) ⊎ (s ≤ 8 * j + r)
       → (nat_le s (8 * j + r) && bit M (8 * j + r - s)) ≡ (nat_le s r && bit m (r - s))
   masked_below j r hj hr (inr le) (inr u) =
       let e : (8 * j + r - s) % 8 ≡ r - s = omega (arith, le, u) in
@@ -87,12 +104,15 @@ module _ (w s m M low high : ℕ) (f : m * 2 ^ s < 2 ^ 8) (k : s < 8)
   masked_below j r hj hr (inr le) (inl u) = absurd (omega (arith, le, u))
   masked_below j r hj hr (inl lt) (inr u) =
       let e : (8 * j + r - s) % 8 ≡ 8 + r - s = omega (arith, lt, u) in
-      let none = rep (8 * j + r - s) (omega arith) ∙ ap (bit m) e ∙ outside s m (8 + r - s) f (omega (arith, lt)) in
+      let none = rep (8 * j + r - s) (omega arith) ∙ ap (bit m) e
+      ∙ outside s m (8 + r - s) f (omega (arith, lt)) in
       (λ i. le-leb s (8 * j + r) u i && none i) ∙ ap (λ b. b && bit m (r - s)) (sym (lt-leb s r lt))
   masked_below j r hj hr (inl lt) (inl u) =
-      ap (λ b. b && bit M (8 * j + r - s)) (lt-leb s (8 * j + r) u) ∙ ap (λ b. b && bit m (r - s)) (sym (lt-leb s r lt))
+      ap (λ b. b && bit M (8 * j + r - s)) (lt-leb s (8 * j + r) u)
+      ∙ ap (λ b. b && bit m (r - s)) (sym (lt-leb s r lt))
 
-  -- after an exchange the high word has, under the mask, the low word's bit s places up, and else its own
+  -- after an exchange the high word has, under the mask, the low
+  -- word's bit s places up, and else its own
   pub word_high : (j r : ℕ) → 8 * j + 8 ≤ w → r < 8
       → at (word_bits w (bit_xor high (differing s M low high))) (8 * j + r)
       ≡ cond (bit m r) (at (word_bits w low) (8 * j + (r + s))) (at (word_bits w high) (8 * j + r))
@@ -105,10 +125,12 @@ module _ (w s m M low high : ℕ) (f : m * 2 ^ s < 2 ^ 8) (k : s < 8)
       (λ e. ap (bit low) spot ∙ reads w low (8 * j + (r + s)) (omega (arith, hj, inside s m r f e)))
       (reads w high (8 * j + r) (omega arith))
 
-  -- and the low word has, s places above the mask, the high word's bit s places down, and else its own
+  -- and the low word has, s places above the mask, the high
+  -- word's bit s places down, and else its own
   pub word_low : (j r : ℕ) → 8 * j + 8 ≤ w → r < 8
       → at (word_bits w (bit_xor low (differing s M low high * 2 ^ s % 2 ^ w))) (8 * j + r)
-      ≡ cond (nat_le s r && bit m (r - s)) (at (word_bits w high) (8 * j + (r - s))) (at (word_bits w low) (8 * j + r))
+      ≡ cond (nat_le s r && bit m (r - s)) (at (word_bits w high) (8 * j + (r - s)))
+      (at (word_bits w low) (8 * j + r))
   word_low j r hj hr =
       let i = 8 * j + r in
       sym (reads w (bit_xor low (differing s M low high * 2 ^ s % 2 ^ w)) i (omega arith))
@@ -116,14 +138,17 @@ module _ (w s m M low high : ℕ) (f : m * 2 ^ s < 2 ^ 8) (k : s < 8)
       ∙ chosen_same _ _ _ _ _ _ (masked_below j r hj hr (cases_lt r s) (cases_lt i s)) (λ e.
       let le : s ≤ r = leb-true s r (and_parts _ _ e).0 in
       let spot : 8 * j + r - s ≡ 8 * j + (r - s) = omega (arith, le) in
-      ap (bit high) spot ∙ reads w high (8 * j + (r - s)) (omega arith)) (reads w low i (omega arith))
+      ap (bit high) spot ∙ reads w high (8 * j + (r - s)) (omega arith))
+      (reads w low i (omega arith))
 
 pub ruleset exchange_calls = (word_high, word_low, bytes_of_32, bytes_of_64)
 
 -- ---- the same on vectors, lane by lane
 
-module _ {n w : ℕ} {lane : ℕ → ℕ} (laws : IsLayout n w lane) (s m : ℕ) (low high : List ℕ) (dl : length low ≡ n)
+module _ {n w : ℕ} {lane : ℕ → ℕ} (laws : IsLayout n w lane) (s m : ℕ) (low high : List ℕ)
+    (dl : length low ≡ n)
     (dh : length high ≡ n) (f : m * 2 ^ s < 2 ^ 8) where
+  -- before the mask
   abbrev unequal : List ℕ
   unequal = zip2 bit_xor high (zip2 shr8 low (replicate n s))
 
@@ -131,21 +156,28 @@ module _ {n w : ℕ} {lane : ℕ → ℕ} (laws : IsLayout n w lane) (s m : ℕ)
   abbrev pub moved : List ℕ
   moved = zip2 bit_and unequal (replicate n m)
 
+  -- with as many lanes
   length-unequal : length unequal ≡ n
-  length-unequal = length-zip2 bit_xor high (zip2 shr8 low (replicate n s)) (dh ∙ sym (length-splat n shr8 low s dl))
+  length-unequal = length-zip2 bit_xor high (zip2 shr8 low (replicate n s))
+      (dh ∙ sym (length-splat n shr8 low s dl))
       ∙ dh
 
+  -- and as many under the mask
   length-moved : length moved ≡ n
   length-moved = length-splat n bit_and unequal m length-unequal
 
-  lane_of_moved : (j : ℕ) → j < n → get_or moved j 0 ≡ differing s m (get_or low j 0) (get_or high j 0)
+  -- lane by lane, as for two numbers
+  lane_of_moved : (j : ℕ) → j < n → get_or moved j 0
+      ≡ differing s m (get_or low j 0) (get_or high j 0)
   lane_of_moved j h = lane_of_splat n bit_and unequal m j length-unequal h
       ∙ ap (λ v. bit_and v m) (lane_of_two n bit_xor high (zip2 shr8 low (replicate n s)) j dh
       (length-splat n shr8 low s dl) h
       ∙ ap (bit_xor (get_or high j 0)) (lane_of_splat n shr8 low s j dl h))
 
-  -- after an exchange the high vector has, under the mask, the low one's bit s places up, and else its own
-  pub lanes_high : (j r : ℕ) → 8 * j + 8 ≤ w → r < 8 → at (laid w lane (zip2 bit_xor high moved)) (8 * j + r)
+  -- after an exchange the high vector has, under the mask, the low
+  -- one's bit s places up, and else its own
+  pub lanes_high : (j r : ℕ) → 8 * j + 8 ≤ w → r < 8
+      → at (laid w lane (zip2 bit_xor high moved)) (8 * j + r)
       ≡ cond (bit m r) (at (laid w lane low) (8 * j + (r + s))) (at (laid w lane high) (8 * j + r))
   lanes_high j r hj hr =
       let l = lane (8 * j) in
@@ -157,20 +189,24 @@ module _ {n w : ℕ} {lane : ℕ → ℕ} (laws : IsLayout n w lane) (s m : ℕ)
       ∙ chosen_same _ _ _ _ _ _ refl (λ is. sym (at_byte laws low j (r + s) hj (inside s m r f is)))
       (sym (at_byte laws high j r hj hr))
 
-  -- and the low vector has, s places above the mask, the high one's bit s places down, and else its own
+  -- and the low vector has, s places above the mask, the high
+  -- one's bit s places down, and else its own
   pub lanes_low : (j r : ℕ) → 8 * j + 8 ≤ w → r < 8
       → at (laid w lane (zip2 bit_xor low (zip2 shl8 moved (replicate n s)))) (8 * j + r)
-      ≡ cond (nat_le s r && bit m (r - s)) (at (laid w lane high) (8 * j + (r - s))) (at (laid w lane low) (8 * j + r))
+      ≡ cond (nat_le s r && bit m (r - s)) (at (laid w lane high) (8 * j + (r - s)))
+      (at (laid w lane low) (8 * j + r))
   lanes_low j r hj hr =
       let l = lane (8 * j) in
       let h : l < n = laws.within (8 * j) (omega arith) in
       let shifted = zip2 shl8 moved (replicate n s) in
       at_byte laws (zip2 bit_xor low shifted) j r hj hr
-      ∙ ap (λ v. bit v r) (lane_of_two n bit_xor low shifted l dl (length-splat n shl8 moved s length-moved) h
+      ∙ ap (λ v. bit v r)
+      (lane_of_two n bit_xor low shifted l dl (length-splat n shl8 moved s length-moved) h
       ∙ ap (bit_xor (get_or low l 0)) (lane_of_splat n shl8 moved s l length-moved h
       ∙ ap (λ v. v * 2 ^ s % 2 ^ 8) (lane_of_moved l h)))
       ∙ exchanged_low 8 s m (get_or low l 0) (get_or high l 0) r hr
-      ∙ chosen_same _ _ _ _ _ _ refl (λ is. sym (at_byte laws high j (r - s) hj (omega (arith, hr))))
+      ∙ chosen_same _ _ _ _ _ _ refl
+      (λ is. sym (at_byte laws high j (r - s) hj (omega (arith, hr))))
       (sym (at_byte laws low j r hj hr))
 
 -- ---- three exchanges
@@ -182,6 +218,7 @@ pub choice : (words : List (List Bool)) (j : ℕ) (b : Bool) (p q u v : ℕ)
 choice words j true p q u v = refl
 choice words j false p q u v = refl
 
+-- the test of three exchanges, followed back: bit r of word w has to come from bit w of word r
 chain : ℕ → ℕ → Bool
 chain w r =
     let w3 = source_word 4 0x0f w r in
@@ -191,9 +228,11 @@ chain w r =
     (nat_lt w3 8 && nat_lt r3 8) && ((nat_lt w2 8 && nat_lt r2 8)
     && ((source_word 1 0x55 w2 r2 == r) && (source_bit 1 0x55 w2 r2 == w)))
 
+-- words after an exchange, each bit by the place it came from
 abbrev Exchanged : ℕ → ℕ → ℕ → List (List Bool) → List (List Bool) → Type 0
 Exchanged n s m before after = (w j r : ℕ) → w < 8 → 8 * j + 8 ≤ n → r < 8
-    → at (get_or after w []) (8 * j + r) ≡ at (get_or before (source_word s m w r) []) (8 * j + source_bit s m w r)
+    → at (get_or after w []) (8 * j + r) ≡ at (get_or before (source_word s m w r) [])
+    (8 * j + source_bit s m w r)
 
 -- three exchanges turn eight words over the diagonal of each byte
 pub transposed : (n : ℕ) (words ones twos last : List (List Bool)) → Exchanged n 1 0x55 words ones

@@ -1,7 +1,8 @@
--- The bits of two times sixteen byte lanes, as a word of 256 bits, through the operations on vectors.
-use Rattle.std.proofs.Common.{◌≡◌, ℕ, ◌+◌, ◌-◌, ◌*◌, ◌/◌, ◌%◌, ◌<◌, ◌≤◌, ◌==◌, Bool, true, false, ◌&&◌}
-use Rattle.std.proofs.Common.{cond, nat_le, nat_lt, bit_and, List, [], ◌∷◌, ◌++◌, length, get_or}
-use Rattle.std.proofs.Common.{replicate, refl, ap, sym, ◌∙◌, arith, w8, Fits, leb-true, T}
+-- The bits of two times sixteen byte lanes, as a word of 256
+-- bits, through the operations on vectors.
+use Rattle.std.proofs.Common.{◌≡◌, ℕ, ◌+◌, ◌-◌, ◌*◌, ◌/◌, ◌%◌, ◌<◌, ◌≤◌, ◌==◌, Bool, true, false}
+use Rattle.std.proofs.Common.{◌&&◌, cond, nat_le, nat_lt, bit_and, List, [], ◌∷◌, ◌++◌, length}
+use Rattle.std.proofs.Common.{get_or, replicate, refl, ap, sym, ◌∙◌, arith, w8, Fits, leb-true, T}
 use Rattle.std.proofs.lemmas.Simd.{swz_l}
 use Rattle.std.proofs.lemmas.List.{get_or-map, get_or_append_left, get_or-append_right}
 use Rattle.std.proofs.lemmas.Bool.{ltb-true, ltb-false, leb-false, eqb-true}
@@ -10,9 +11,10 @@ use Rattle.aes_planes.specs.Bits.{at, bit, Places}
 use Rattle.aes_planes.specs.Words.{lane_bits, wide_bits}
 use Rattle.aes_planes.proofs.Bits.ByteCases.{all_below, all_below_tells}
 use Rattle.aes_planes.proofs.Bits.NumberBits.{Places-build, bit_zero}
-use Rattle.aes_planes.proofs.Words.ByteLanes.{IsLayout, lane_operators, reads, bit_at, byte_in_each, funneled}
-use Rattle.aes_planes.proofs.Words.ByteLanes.{sixteen, rotate_to, down_to, up_to, place_ok, masked_place, swizzled}
-use Rattle.aes_planes.proofs.Words.ByteLanes.{rotated, shifted_right, shifted_left}
+use Rattle.aes_planes.proofs.Words.ByteLanes.{IsLayout, lane_operators, reads, bit_at, byte_in_each}
+use Rattle.aes_planes.proofs.Words.ByteLanes.{funneled, sixteen, rotate_to, down_to, up_to}
+use Rattle.aes_planes.proofs.Words.ByteLanes.{place_ok, masked_place, swizzled, rotated}
+use Rattle.aes_planes.proofs.Words.ByteLanes.{shifted_right, shifted_left}
 use Rattle.aes_planes.proofs.Words.LaneBits.{lane_at}
 use Rattle.aes_planes.proofs.Words.Moved.{Turned, Right, Left, right_again, left_again}
 use Rattle.aes_planes.proofs.Words.Moved.{rotate_whole, shift_right_whole, shift_left_whole}
@@ -57,12 +59,15 @@ pub place_high : (x : ℕ) → T (place_ok 32 16 (bit_and (x % 256) 143))
 unfolding all_below
 place_high = masked_place 32 16 refl
 
--- a swizzle by the numbers m on, round the end, has in each place the bit m columns on, round the end
+-- a swizzle by the numbers m on, round the end, has in each
+-- place the bit m columns on, round the end
 pub rotated_columns : (x : List ℕ) (m : ℕ) → m < 16
-    → Places 256 (wide_bits (swz_l w8 16 x 0 (rotate_to columns m))) (λ i. at (wide_bits x) ((i + 16 * m) % 256))
+    → Places 256 (wide_bits (swz_l w8 16 x 0 (rotate_to columns m)))
+    (λ i. at (wide_bits x) ((i + 16 * m) % 256))
 unfolding all_below
 rotated_columns x m h = Places-build 256 _ _ (λ i l.
-    swizzled wide (rotate_to columns) (λ m j. (j + m) % 16) refl x m i ((i + 16 * m) % 256) true refl (omega arith) l
+    swizzled wide (rotate_to columns) (λ m j. (j + m) % 16) refl x m i
+    ((i + 16 * m) % 256) true refl (omega arith) l
     (λ t. (omega arith, omega arith, omega arith, omega arith)) (λ t. absurd (grind (arith, t))))
 
 -- a swizzle by the numbers m on has in each place the bit m columns on, and zeros past the last
@@ -71,19 +76,24 @@ pub columns_right : (x : List ℕ) (m : ℕ) → m < 16
     (λ i. nat_lt (i + 16 * m) 256 && at (wide_bits x) (i + 16 * m))
 unfolding all_below
 columns_right x m h = Places-build 256 _ _ (λ i l.
-    swizzled wide (down_to columns) (λ m j. j + m) refl x m i (i + 16 * m) (nat_lt (i + 16 * m) 256) refl (omega arith) l
-    (λ t. let lt : i + 16 * m < 256 = ltb-true (i + 16 * m) 256 t in (lt, omega arith, omega arith, omega arith))
+    swizzled wide (down_to columns) (λ m j. j + m) refl x m i (i + 16 * m)
+    (nat_lt (i + 16 * m) 256) refl (omega arith) l
+    (λ t. let lt : i + 16 * m < 256 = ltb-true (i + 16 * m) 256 t in
+    (lt, omega arith, omega arith, omega arith))
     (λ t. let le : 256 ≤ i + 16 * m = ltb-false (i + 16 * m) 256 t in omega arith))
 
--- a swizzle by the numbers m back has in each place the bit m columns back, and zeros below the first
+-- a swizzle by the numbers m back has in each place the bit m
+-- columns back, and zeros below the first
 pub columns_left : (x : List ℕ) (m : ℕ) → m < 16
     → Places 256 (wide_bits (swz_l w8 16 x 0 (up_to columns m)))
     (λ i. nat_le (16 * m) i && at (wide_bits x) (i - 16 * m))
 unfolding all_below
 columns_left x m h = Places-build 256 _ _ (λ i l.
-    swizzled wide (up_to columns) (λ m j. (j + (256 - m)) % 256) refl x m i (i - 16 * m) (nat_le (16 * m) i) refl
+    swizzled wide (up_to columns) (λ m j. (j + (256 - m)) % 256) refl x m i (i - 16 * m)
+    (nat_le (16 * m) i) refl
     (omega arith) l
-    (λ t. let le : 16 * m ≤ i = leb-true (16 * m) i t in (omega arith, omega arith, omega arith, omega arith))
+    (λ t. let le : 16 * m ≤ i = leb-true (16 * m) i t in
+    (omega arith, omega arith, omega arith, omega arith))
     (λ t. let lt : i < 16 * m = leb-false (16 * m) i t in omega arith))
 
 -- ---- the word moved by a byte
@@ -91,7 +101,8 @@ columns_left x m h = Places-build 256 _ _ (λ i l.
 -- lane i of what a swizzle reads is the lane that it names there
 named : (zs ks : List ℕ) (i o : ℕ) → i < length ks → (get_or ks i 0 == o) ≡ true
     → get_or (pick_l 0 zs ks) i 0 ≡ get_or zs o 0
-named zs ks i o h k = get_or-map (λ k. get_or zs k 0) ks i 0 0 h ∙ ap (λ v. get_or zs v 0) (eqb-true _ _ k)
+named zs ks i o h k = get_or-map (λ k. get_or zs k 0) ks i 0 0 h
+    ∙ ap (λ v. get_or zs v 0) (eqb-true _ _ k)
 
 -- of a vector and another that begins with zero, the lanes that have bits k, or the zero
 shuffled : (x ys ks : List ℕ) (i k : ℕ) (some : Bool) → length x ≡ 32 → lane_of i < length ks
@@ -108,8 +119,10 @@ shuffled x ys ks i k false d l h there zero =
     ∙ get_or-append_right x ys 32 32 0 d (omega arith) ∙ zero refl)
     ∙ bit_zero (i % 8)
 
+-- which lanes a rotation by a byte takes, of a vector twice over
 abbrev pub byte_on : List ℕ
-byte_on = 16 ∷ 17 ∷ 18 ∷ 19 ∷ 20 ∷ 21 ∷ 22 ∷ 23 ∷ 24 ∷ 25 ∷ 26 ∷ 27 ∷ 28 ∷ 29 ∷ 30 ∷ 31 ∷ 1 ∷ 2 ∷ 3 ∷ 4 ∷ 5 ∷ 6 ∷ 7 ∷ 8
+byte_on = 16 ∷ 17 ∷ 18 ∷ 19 ∷ 20 ∷ 21 ∷ 22 ∷ 23 ∷ 24 ∷ 25 ∷ 26 ∷ 27 ∷ 28 ∷ 29 ∷ 30 ∷ 31 ∷ 1 ∷ 2 ∷ 3
+    ∷ 4 ∷ 5 ∷ 6 ∷ 7 ∷ 8
     ∷ 9 ∷ 10 ∷ 11 ∷ 12 ∷ 13 ∷ 14 ∷ 15 ∷ 0 ∷ []
 
 -- a swizzle by these numbers has in each place the bit eight places on, round the end
@@ -125,88 +138,113 @@ rotated_byte x d = Places-build 256 _ _ (λ i l.
 abbrev zeros : List ℕ
 zeros = replicate 32 0
 
+-- which lanes a shift by a byte to the right takes, and a zero at the end
 abbrev pub byte_after : List ℕ
-byte_after = 16 ∷ 17 ∷ 18 ∷ 19 ∷ 20 ∷ 21 ∷ 22 ∷ 23 ∷ 24 ∷ 25 ∷ 26 ∷ 27 ∷ 28 ∷ 29 ∷ 30 ∷ 31 ∷ 1 ∷ 2 ∷ 3 ∷ 4 ∷ 5 ∷ 6 ∷ 7
+byte_after = 16 ∷ 17 ∷ 18 ∷ 19 ∷ 20 ∷ 21 ∷ 22 ∷ 23 ∷ 24 ∷ 25 ∷ 26 ∷ 27 ∷ 28 ∷ 29 ∷ 30 ∷ 31 ∷ 1 ∷ 2
+    ∷ 3 ∷ 4 ∷ 5 ∷ 6 ∷ 7
     ∷ 8 ∷ 9 ∷ 10 ∷ 11 ∷ 12 ∷ 13 ∷ 14 ∷ 15 ∷ 32 ∷ []
 
 -- a shuffle by these numbers has in each place the bit eight places on, and zeros past the last
 pub byte_right : (x : List ℕ) → length x ≡ 32
-    → Places 256 (wide_bits (pick_l 0 (x ++ zeros) byte_after)) (λ i. nat_lt (i + 8) 256 && at (wide_bits x) (i + 8))
+    → Places 256 (wide_bits (pick_l 0 (x ++ zeros) byte_after))
+    (λ i. nat_lt (i + 8) 256 && at (wide_bits x) (i + 8))
 unfolding all_below
 byte_right x d = Places-build 256 _ _ (λ i l.
     shuffled x zeros byte_after i (i + 8) (nat_lt (i + 8) 256) d (omega arith)
-    (all_below_tells 256 (λ i. get_or byte_after (lane_of i) 0 == cond (nat_lt (i + 8) 256) (lane_of (i + 8)) 32) refl i
+    (all_below_tells 256
+    (λ i. get_or byte_after (lane_of i) 0 == cond (nat_lt (i + 8) 256) (lane_of (i + 8)) 32) refl i
     l) (λ t. (ltb-true (i + 8) 256 t, omega arith)) (λ t. refl))
 
+-- which lanes a shift by a byte to the left takes, and a zero in front
 abbrev pub byte_before : List ℕ
-byte_before = 32 ∷ 16 ∷ 17 ∷ 18 ∷ 19 ∷ 20 ∷ 21 ∷ 22 ∷ 23 ∷ 24 ∷ 25 ∷ 26 ∷ 27 ∷ 28 ∷ 29 ∷ 30 ∷ 0 ∷ 1 ∷ 2 ∷ 3 ∷ 4 ∷ 5 ∷ 6
+byte_before = 32 ∷ 16 ∷ 17 ∷ 18 ∷ 19 ∷ 20 ∷ 21 ∷ 22 ∷ 23 ∷ 24 ∷ 25 ∷ 26 ∷ 27 ∷ 28 ∷ 29 ∷ 30 ∷ 0 ∷ 1
+    ∷ 2 ∷ 3 ∷ 4 ∷ 5 ∷ 6
     ∷ 7 ∷ 8 ∷ 9 ∷ 10 ∷ 11 ∷ 12 ∷ 13 ∷ 14 ∷ 15 ∷ []
 
 -- a shuffle by these numbers has in each place the bit eight places back, and zeros below the first
 pub byte_left : (x : List ℕ) → length x ≡ 32
-    → Places 256 (wide_bits (pick_l 0 (x ++ zeros) byte_before)) (λ i. nat_le 8 i && at (wide_bits x) (i - 8))
+    → Places 256 (wide_bits (pick_l 0 (x ++ zeros) byte_before))
+    (λ i. nat_le 8 i && at (wide_bits x) (i - 8))
 unfolding all_below
 byte_left x d = Places-build 256 _ _ (λ i l.
     shuffled x zeros byte_before i (i - 8) (nat_le 8 i) d (omega arith)
-    (all_below_tells 256 (λ i. get_or byte_before (lane_of i) 0 == cond (nat_le 8 i) (lane_of (i - 8)) 32) refl i l)
+    (all_below_tells 256
+    (λ i. get_or byte_before (lane_of i) 0 == cond (nat_le 8 i) (lane_of (i - 8)) 32) refl i l)
     (λ t. let le : 8 ≤ i = leb-true 8 i t in (omega arith, omega arith)) (λ t. refl))
 
 -- ---- by bytes
 
-pub rotate_even : (x y : List Bool) (b : ℕ) → b % 2 ≡ 0 → Turned 256 x y (16 * (b / 2)) → Turned 256 x y (8 * b)
+-- an even number of bytes is a number of pairs
+pub rotate_even : (x y : List Bool) (b : ℕ) → b % 2 ≡ 0 → Turned 256 x y (16 * (b / 2))
+    → Turned 256 x y (8 * b)
 rotate_even x y b z t i l = t i l ∙ ap (at x) (omega arith)
 
-pub rotate_odd : (x y z : List Bool) (b : ℕ) → b % 2 ≡ 1 → Turned 256 x y (16 * (b / 2)) → Turned 256 y z 8 → Turned 256 x z (8 * b)
+-- and an odd number is one byte more
+pub rotate_odd : (x y z : List Bool) (b : ℕ) → b % 2 ≡ 1 → Turned 256 x y (16 * (b / 2))
+    → Turned 256 y z 8 → Turned 256 x z (8 * b)
 rotate_odd x y z b h t u i l = u i l ∙ t ((i + 8) % 256) (omega arith) ∙ ap (at x) (omega arith)
 
 pub ruleset rotate_bytes_calls = (rotate_even, rotate_odd)
 
-pub right_even : (x y : List Bool) (b : ℕ) → b % 2 ≡ 0 → Right 256 x y (16 * (b / 2)) → Right 256 x y (8 * b)
+-- the same two cases of a shift to the right
+pub right_even : (x y : List Bool) (b : ℕ) → b % 2 ≡ 0 → Right 256 x y (16 * (b / 2))
+    → Right 256 x y (8 * b)
 right_even x y b z t i l = t i l ∙ ap (λ v. nat_lt v 256 && at x v) (omega arith)
 
-pub right_odd : (x y z : List Bool) (b : ℕ) → b % 2 ≡ 1 → Right 256 x y (16 * (b / 2)) → Right 256 y z 8 → Right 256 x z (8 * b)
+pub right_odd : (x y z : List Bool) (b : ℕ) → b % 2 ≡ 1 → Right 256 x y (16 * (b / 2))
+    → Right 256 y z 8 → Right 256 x z (8 * b)
 right_odd x y z b h t u = right_again 256 x y z (16 * (b / 2)) (8 * b) t u (omega (arith, h))
 
 pub ruleset bytes_right_calls = (right_even, right_odd)
 
-pub left_even : (x y : List Bool) (b : ℕ) → b % 2 ≡ 0 → Left 256 x y (16 * (b / 2)) → Left 256 x y (8 * b)
+-- and of one to the left
+pub left_even : (x y : List Bool) (b : ℕ) → b % 2 ≡ 0 → Left 256 x y (16 * (b / 2))
+    → Left 256 x y (8 * b)
 left_even x y b z t i l =
     let e : 16 * (b / 2) ≡ 8 * b = omega arith in
     t i l ∙ ap (λ n. nat_le n i && at x (i - n)) e
 
-pub left_odd : (x y z : List Bool) (b : ℕ) → b % 2 ≡ 1 → Left 256 x y (16 * (b / 2)) → Left 256 y z 8 → Left 256 x z (8 * b)
+pub left_odd : (x y z : List Bool) (b : ℕ) → b % 2 ≡ 1 → Left 256 x y (16 * (b / 2))
+    → Left 256 y z 8 → Left 256 x z (8 * b)
 left_odd x y z b h t u = left_again 256 x y z (16 * (b / 2)) (8 * b) t u (omega (arith, h))
 
 pub ruleset bytes_left_calls = (left_even, left_odd)
 
 -- ---- by bits
 
+-- a rotation by any number of bits, from that by bytes
 pub rotate_part : (x a b : List ℕ) (n : ℕ) → length a ≡ 32 → length b ≡ 32 → Each1 (Fits w8) a
-    → Turned 256 (wide_bits x) (wide_bits a) (8 * (n / 8)) → Turned 256 (wide_bits a) (wide_bits b) 8
+    → Turned 256 (wide_bits x) (wide_bits a) (8 * (n / 8))
+    → Turned 256 (wide_bits a) (wide_bits b) 8
     → Turned 256 (wide_bits x) (wide_bits (funneled 32 (n % 8) (8 - n % 8) a b)) n
 rotate_part x a b n d e f t u = rotated wide (wide_bits x) a b n d e f t (λ i l.
     u i l ∙ t ((i + 8) % 256) (omega arith) ∙ ap (at (wide_bits x)) (omega arith))
 
 pub ruleset rotate_calls = (rotate_whole, rotate_part)
 
+-- a shift to the right
 pub shift_right_part : (x a b : List ℕ) (n : ℕ) → length a ≡ 32 → length b ≡ 32 → Each1 (Fits w8) a
     → Right 256 (wide_bits x) (wide_bits a) (8 * (n / 8)) → Right 256 (wide_bits a) (wide_bits b) 8
     → Right 256 (wide_bits x) (wide_bits (funneled 32 (n % 8) (8 - n % 8) a b)) n
 shift_right_part x a b n d e f t u = shifted_right wide (wide_bits x) a b n d e f t
-    (right_again 256 (wide_bits x) (wide_bits a) (wide_bits b) (8 * (n / 8)) (8 * (n / 8 + 1)) t u (omega arith))
+    (right_again 256 (wide_bits x) (wide_bits a) (wide_bits b) (8 * (n / 8)) (8 * (n / 8 + 1)) t u
+    (omega arith))
 
 pub ruleset shift_right_calls = (shift_right_whole, shift_right_part)
 
+-- and to the left
 pub shift_left_part : (x a b : List ℕ) (n : ℕ) → length a ≡ 32 → length b ≡ 32 → Each1 (Fits w8) b
     → Left 256 (wide_bits x) (wide_bits a) (8 * (n / 8)) → Left 256 (wide_bits a) (wide_bits b) 8
     → Left 256 (wide_bits x) (wide_bits (funneled 32 (8 - n % 8) (n % 8) b a)) n
 shift_left_part x a b n d e f t u = shifted_left wide (wide_bits x) b a n e d f
-    (left_again 256 (wide_bits x) (wide_bits a) (wide_bits b) (8 * (n / 8)) (8 * (n / 8 + 1)) t u (omega arith)) t
+    (left_again 256 (wide_bits x) (wide_bits a) (wide_bits b) (8 * (n / 8)) (8 * (n / 8 + 1)) t u
+    (omega arith)) t
 
 pub ruleset shift_left_calls = (shift_left_whole, shift_left_part)
 
 -- ---- rows
 
+-- which lanes a shuffle takes: each of sixteen twice
 abbrev pub twice : List ℕ
 twice = columns
 
@@ -222,6 +260,7 @@ twice_places x i d l =
     ∙ ap (λ v. get_or x v 0) (omega arith))
     ∙ sym (lane_at x (i / 16) (i % 8) (omega arith) (omega arith))
 
+-- so the constant of these nibbles on 128 bits becomes that on 256
 pub twice_rows : (x : List ℕ) (r : ℕ → ℕ) → length x ≡ 16
     → Places 128 (lane_bits x) (λ i. bit (r (i / 32)) (i % 32 / 8))
     → Places 256 (wide_bits (pick_l 0 (x ++ x) twice)) (λ i. bit (r (i / 64)) (i % 64 / 16))
@@ -233,28 +272,33 @@ twice_rows x r d t i l =
 
 -- ---- halves
 
+-- the lanes of the upper half
 abbrev pub upper_16 : List ℕ
 upper_16 = 16 ∷ 17 ∷ 18 ∷ 19 ∷ 20 ∷ 21 ∷ 22 ∷ 23 ∷ 24 ∷ 25 ∷ 26 ∷ 27 ∷ 28 ∷ 29 ∷ 30 ∷ 31 ∷ []
 
 -- two vectors side by side: the first has every other eight bits of the word, from the lowest on
 pub joined_low : (x y : List ℕ) (j p : ℕ) → length x ≡ 16 → j < 16 → p < 8
-    → at (lane_bits x) (8 * j + p) ≡ at (wide_bits (pick_l 0 (x ++ y) (sixteen ++ upper_16))) (16 * j + p)
+    → at (lane_bits x) (8 * j + p)
+    ≡ at (wide_bits (pick_l 0 (x ++ y) (sixteen ++ upper_16))) (16 * j + p)
 unfolding all_below
 joined_low x y j p d h hp = lane_at x j p h hp
     ∙ ap (λ v. bit v p) (sym (named (x ++ y) (sixteen ++ upper_16) j j (omega arith)
     (all_below_tells 32 (λ j. get_or (sixteen ++ upper_16) j 0 == j) refl j (omega arith))
     ∙ get_or_append_left x y 0 j (omega (arith, d, h))))
-    ∙ bit_at wide (pick_l 0 (x ++ y) (sixteen ++ upper_16)) j p (16 * j + p) (omega arith) (omega arith) (omega arith)
+    ∙ bit_at wide (pick_l 0 (x ++ y) (sixteen ++ upper_16)) j p (16 * j + p) (omega arith)
+    (omega arith) (omega arith)
 
 -- and the second the others
 pub joined_high : (x y : List ℕ) (j p : ℕ) → length x ≡ 16 → j < 16 → p < 8
-    → at (lane_bits y) (8 * j + p) ≡ at (wide_bits (pick_l 0 (x ++ y) (sixteen ++ upper_16))) (16 * j + 8 + p)
+    → at (lane_bits y) (8 * j + p) ≡ at (wide_bits (pick_l 0 (x ++ y) (sixteen ++ upper_16)))
+    (16 * j + 8 + p)
 unfolding all_below
 joined_high x y j p d h hp = lane_at y j p h hp
     ∙ ap (λ v. bit v p) (sym (named (x ++ y) (sixteen ++ upper_16) (16 + j) (16 + j) (omega arith)
     (all_below_tells 32 (λ j. get_or (sixteen ++ upper_16) j 0 == j) refl (16 + j) (omega arith))
     ∙ get_or-append_right x y 16 (16 + j) 0 d (omega arith) ∙ ap (λ v. get_or y v 0) (omega arith)))
-    ∙ bit_at wide (pick_l 0 (x ++ y) (sixteen ++ upper_16)) (16 + j) p (16 * j + 8 + p) (omega arith) (omega arith)
+    ∙ bit_at wide (pick_l 0 (x ++ y) (sixteen ++ upper_16)) (16 + j) p (16 * j + 8 + p)
+    (omega arith) (omega arith)
     (omega arith)
 
 -- the lower half alone
@@ -263,7 +307,8 @@ pub lower : (x : List ℕ) (j p : ℕ) → length x ≡ 32 → j < 16 → p < 8
 unfolding all_below
 lower x j p d h hp = lane_at (pick_l 0 (x ++ x) sixteen) j p h hp
     ∙ ap (λ v. bit v p) (named (x ++ x) sixteen j j (omega arith)
-    (all_below_tells 16 (λ j. get_or sixteen j 0 == j) refl j h) ∙ get_or_append_left x x 0 j (omega (arith, d, h)))
+    (all_below_tells 16 (λ j. get_or sixteen j 0 == j) refl j h)
+    ∙ get_or_append_left x x 0 j (omega (arith, d, h)))
     ∙ bit_at wide x j p (16 * j + p) (omega arith) (omega arith) (omega arith)
 
 -- and the upper one

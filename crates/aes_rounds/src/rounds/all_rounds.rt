@@ -46,8 +46,8 @@ fn apply_rounds<D: SingleRounds>(blocks: &mut [Block], round_keys: &[Block])
     add_round_key(blocks, &round_keys[last]);
 }
 
-// Applies the last round without its key to each block: a round under the zero key, and then the inverse of its column
-// mixing.
+// Applies the last round without its key to each block: a round under the zero key, and then the
+// inverse of its column mixing.
 fn last_step<D: SingleRounds>(blocks: &mut [Block])
     ensures { Each D.last_step blocks.old blocks.new }
 {

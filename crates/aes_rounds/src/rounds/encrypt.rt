@@ -30,14 +30,16 @@ impl<const RK: usize> AesEnc<RK> {
 
     /// Returns the cipher and its inverse under the same round keys.
     pub fn as_encdec(&self) -> Aes<RK>
-        ensures { ⟦<Aes<RK> as RoundKeysUser>⟧.round_keys result ≡ ⟦<AesEnc<RK> as RoundKeysUser>⟧.round_keys self.now }
+        ensures { ⟦<Aes<RK> as RoundKeysUser>⟧.round_keys result
+            ≡ ⟦<AesEnc<RK> as RoundKeysUser>⟧.round_keys self.now }
     {
         Aes::of(&self.round_keys)
     }
 
     /// Returns the inverse cipher under the same round keys.
     pub fn as_dec(&self) -> AesDec<RK>
-        ensures { ⟦<AesDec<RK> as RoundKeysUser>⟧.round_keys result ≡ ⟦<AesEnc<RK> as RoundKeysUser>⟧.round_keys
+        ensures { ⟦<AesDec<RK> as RoundKeysUser>⟧.round_keys result
+            ≡ ⟦<AesEnc<RK> as RoundKeysUser>⟧.round_keys
             self.now }
     {
         AesDec::of(&self.round_keys)

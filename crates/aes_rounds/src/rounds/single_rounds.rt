@@ -22,15 +22,18 @@ pub(super) trait SingleRounds: Direction {
 
     // Applies a round to each block, under the round key at the same index.
     fn round_par(blocks: &mut Block8, round_keys: &Block8)
-        ensures { blocks.new ≡ rounds_by_place (λ b k. fips.add_round_key (Self.step b) k) blocks.old round_keys.now };
+        ensures { blocks.new ≡ rounds_by_place (λ b k. fips.add_round_key (Self.step b) k)
+            blocks.old round_keys.now };
 
     // Undoes the column mixing of a round.
     fn unmix(block: &mut Block)
         ensures { block.new ≡ unmixed block.old };
 
-    // No effect; states that a round under the zero key is the last round once its column mixing is undone.
+    // No effect; states that a round under the zero key is the last
+    // round once its column mixing is undone.
     fn is_unmixed()
-        ensures { (b : List ℕ) → unmixed (fips.add_round_key (Self.step b) (replicate 16 0)) ≡ Self.last_step b };
+        ensures { (b : List ℕ) → unmixed (fips.add_round_key (Self.step b) (replicate 16 0))
+            ≡ Self.last_step b };
 }
 
 // Cipher (FIPS 197, 5.1).

@@ -17,8 +17,8 @@ use aes_planes::soft::word::Block;
 use std::marker::PhantomData;
 use std::slice;
 
-/// Works round by round, under a list of RK round keys in the standard's order. The directions D are both, or decryption
-/// alone.
+/// Works round by round, under a list of RK round keys in the standard's order. The directions D
+/// are both, or decryption alone.
 pub struct WithInverse<const RK: usize, D> {
     round_keys: [Block; RK],
     inverted_keys: [Block; RK],

@@ -11,11 +11,13 @@ use aes_planes::expansion::expand;
 use aes_planes::soft::sbox::Layers;
 use aes_planes::soft::word::Word;
 
-/// Writes the round keys of a key to words, as a layout stores them: KeyExpansion (FIPS 197, 5.2), each in every slot,
-/// with the ShiftRows that the ciphers defer and 0x63 that `sub_bytes` leaves out. No other copy is made.
+/// Writes the round keys of a key to words, as a layout stores them: KeyExpansion (FIPS 197, 5.2),
+/// each in every slot, with the ShiftRows that the ciphers defer and 0x63 that `sub_bytes` leaves
+/// out. No other copy is made.
 #[inline(always)]
 pub fn expand_stored<W: Word, L: Layout>(round_keys: &mut [W], key: &[u8], layers: &mut Layers)
-    requires one_of_three { (length key.now ≡ 16) ⊎ ((length key.now ≡ 24) ⊎ (length key.now ≡ 32)) }
+    requires one_of_three { (length key.now ≡ 16)
+        ⊎ ((length key.now ≡ 24) ⊎ (length key.now ≡ 32)) }
     requires sized { length round_keys.old ≡ 8 * fips.rounds key.now + 8 }
     ensures schedule { IsSchedule W.BLOCKS (deferred L.PERIOD (fips.rounds key.now)) key.now
         (map W.bits round_keys.new) }

@@ -1,4 +1,5 @@
-//! Room for the planes of stored round keys of a key of any size, and the first of its words, which are the round keys.
+//! Room for the planes of stored round keys of a key of any size, and the
+//! first of its words, which are the round keys.
 ghost use Rattle.std.specs.Prelude.{◌≡◌, ◌⊎◌, ◌+◌, ◌*◌, length};
 ghost use Rattle.aes_planes.specs.Expansion.{substitutions};
 ghost use Rattle.aes_planes.specs.Fips197 as fips;
@@ -12,8 +13,8 @@ use aes_cipher::zeroize::Wiped;
 use aes_planes::laws;
 use aes_planes::soft::sbox::Layers;
 
-/// Room for the round keys of a key of any size in the full layout, on words of one block: as many words as the largest
-/// has.
+/// Room for the round keys of a key of any size in the full layout, on words of one block: as many
+/// words as the largest has.
 pub type PlaneRoom = [u16; 120];
 
 /// Returns the stored round keys of a key: the first of the words.
@@ -33,11 +34,13 @@ pub fn expand_words_in_room<K: KeySize>(room: &mut PlaneRoom, key: &[u8], layers
     ensures key { key_of_planes (word_bits 16) 1 (stored_words K.SIZE room.new) ≡ key.now }
     ensures layers { layers.new ≡ layers.old + substitutions K.SIZE }
 {
-    // It is cut here, since the borrow checker doesn't cover a cut of what a `Wiped` lends to be written over.
+    // It is cut here, since the borrow checker doesn't cover a cut of
+    // what a `Wiped` lends to be written over.
     expand_stored::<u16, Full>(&mut room[..2 * K::SIZE + 56], key, layers);
 }
 
-/// No effect; states that stored round keys are read as a key of bytes, whose round keys are blocks.
+/// No effect; states that stored round keys are read as a key
+/// of bytes, whose round keys are blocks.
 #[tactic(auto, using(crate::proofs::KeyOfPlanes::read_keys))]
 pub fn reads_key(words: &[u16])
     requires { (length words.now ≡ 88) ⊎ ((length words.now ≡ 104) ⊎ (length words.now ≡ 120)) }

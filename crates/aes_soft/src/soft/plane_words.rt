@@ -15,7 +15,8 @@ use std::marker::PhantomData;
 #[tactic(auto, using(crate::proofs::Slots::substituted))]
 #[inline(always)]
 fn substitute<W: Word>(state: &mut [W; 8], layers: &mut Layers)
-    ensures blocks { held W.BLOCKS (map W.bits state.new) ≡ map fips.sub_bytes (held W.BLOCKS (map W.bits state.old)) }
+    ensures blocks { held W.BLOCKS (map W.bits state.new)
+        ≡ map fips.sub_bytes (held W.BLOCKS (map W.bits state.old)) }
     ensures layers { layers.new ≡ layers.old + 1 }
 {
     sub_bytes(state, layers);
@@ -32,7 +33,8 @@ impl<W: Word> FourWords for PlaneWords<W> {
 
     type StoredIn = W;
 
-    ghost AreWords = { λ planes block. held W.BLOCKS (map W.bits planes) ≡ replicate W.BLOCKS block };
+    ghost AreWords = { λ planes block. held W.BLOCKS (map W.bits planes)
+        ≡ replicate W.BLOCKS block };
 
     ghost IsStored = { λ planes last i block.
         held W.BLOCKS (words_at (map W.bits planes) (8 * i)) ≡ replicate W.BLOCKS block };

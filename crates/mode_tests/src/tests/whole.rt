@@ -1,45 +1,14 @@
 //! What no clause says: that the calls answer, on vectors of NIST at each key size, and what they refuse.
 
-ghost use Rattle.std.specs.Prelude.{◌≡◌, ◌<◌, IfOk};
+ghost use Rattle.std.specs.Prelude.{◌≡◌, IfOk};
 ghost use Rattle.aes_planes.specs.Fips197 as fips;
 ghost use Rattle.gcm.specs.Gcm.{tag};
 
+use super::cases::{Case, Mode, decoded, is_right};
 use aes_cipher::cipher::{Block, BlockCipherEncrypt, KeyInit};
 use aes_hybrid::{Aes128Enc, Aes192Enc, Aes256Enc};
-use gcm::{Gcm, Refused, TooLong};
+use gcm::{Gcm, TooLong};
 use std::test::Fail;
-
-// A case of NIST's, in hexadecimal digits.
-#[derive(Drop)]
-struct Case {
-    key: &'static str,
-    nonce: &'static str,
-    additional: &'static str,
-    text: &'static str,
-    encrypted: &'static str,
-    tag: &'static str,
-}
-
-// A digit.
-fn digit(c: u8) -> u8
-    ensures { result < 16 }
-{
-    match c {
-        b'0'..=b'9' => c - b'0',
-        b'a'..=b'f' => c - b'a' + 10,
-        _ => 0,
-    }
-}
-
-// The bytes that digits write, as many as there is room for, and zeros.
-fn decoded<const N: usize>(digits: &str) -> [u8; N] {
-    let digits = digits.as_bytes();
-    let mut bytes = [0; N];
-    for i in 0..N.min(digits.len() / 2) {
-        bytes[i] = 16 * digit(digits[2 * i]) + digit(digits[2 * i + 1]);
-    }
-    bytes
-}
 
 // Encrypts under a key: a contract that names the key has the expansion of it (FIPS 197, 5.2).
 fn encrypt_under(
@@ -53,67 +22,22 @@ fn encrypt_under(
     Gcm::new(<Aes128Enc>::new(key)).encrypt(nonce, additional, text)
 }
 
-// Whether a message is refused.
-fn refuses<C: BlockCipherEncrypt>(
-    mode: &Gcm<C>,
-    nonce: &[u8; 12],
-    additional: &[u8],
-    text: &mut [u8],
-    tag: &Block,
-) -> bool {
-    mode.decrypt(nonce, additional, text, tag) == Err(Refused)
-}
-
-// Whether a message is refused, with the text unchanged, if its tag, its nonce or its text is changed in the last byte, or
-// zeros follow its additional data.
-fn refuses_changes<C: BlockCipherEncrypt>(
-    mode: &Gcm<C>,
-    case: &Case,
-    additional: &[u8],
-    text: &mut [u8],
-    tag: &Block,
-) -> bool {
-    let nonce = decoded(case.nonce);
-    let mut other_nonce = nonce;
-    other_nonce[11] ^= 1;
-    let mut other_tag = *tag;
-    other_tag[15] ^= 1;
-    let mut right = refuses(mode, &nonce, additional, text, &other_tag);
-    right &= refuses(mode, &other_nonce, additional, text, tag);
-    right &= refuses(mode, &nonce, &decoded::<96>(case.additional), text, tag);
-    let length = text.len();
-    if length > 0 {
-        text[length - 1] ^= 1;
-        right &= refuses(mode, &nonce, additional, text, tag);
-        text[length - 1] ^= 1;
+impl<C: BlockCipherEncrypt> Mode for Gcm<C> {
+    fn seal(&self, nonce: &[u8; 12], additional: &[u8], text: &mut [u8]) -> Option<Block> {
+        self.encrypt(nonce, additional, text).ok()
     }
-    right
+
+    fn open(&self, nonce: &[u8; 12], additional: &[u8], text: &mut [u8], tag: &Block) -> bool {
+        self.decrypt(nonce, additional, text, tag).is_ok()
+    }
 }
 
-// Whether a cipher encrypts a case as it should, refuses changes of it, and decrypts it again.
-fn is_right<C: BlockCipherEncrypt>(cipher: &C, case: &Case) -> bool {
-    let nonce = decoded(case.nonce);
-    let room: [u8; 96] = decoded(case.additional);
-    let additional = &room[..(case.additional.len() / 2).min(96)];
-    let length = (case.text.len() / 2).min(64);
-    let plain: [u8; 64] = decoded(case.text);
-    let tag = decoded(case.tag);
-    let mut text = plain;
-    let mode = Gcm::new(cipher);
-    let made = mode.encrypt(&nonce, additional, &mut text[..length]);
-    let mut right = made == Ok(tag);
-    right &= refuses_changes(&mode, case, additional, &mut text[..length], &tag);
-    right &= text == decoded(case.encrypted);
-    right &= mode.decrypt(&nonce, additional, &mut text[..length], &tag) == Ok(());
-    right & (text == plain)
-}
-
-// Whether ciphers of a type do so under the key of each case.
+// Whether ciphers of a type do as they should under the key of each case.
 fn are_right<C: BlockCipherEncrypt + KeyInit + Drop>(cases: &[Case]) -> bool {
     for case in cases {
         let key: [u8; 32] = decoded(case.key);
         let is_right = match C::new_from_slice(&key[..(case.key.len() / 2).min(32)]) {
-            Ok(cipher) => is_right(&cipher, case),
+            Ok(cipher) => is_right(&Gcm::new(cipher), case),
             Err(_) => false,
         };
         if !is_right {

@@ -10,6 +10,7 @@ unfolding bytes
 returns c =
     let key : List ℕ = bytes 16 0x2b7e151628aed2a6abf7158809cf4f3c in
     record {
-      schedule = λ _. is_schedule_of _ key (inl refl) (bytes_by_test key refl) c.stored_example.ensures.round_keys;
+      schedule = λ _. is_schedule_of _ key (inl refl)
+          (bytes_by_test key refl) c.stored_example.ensures.round_keys;
       inverse = λ _. c.stored_example.ensures.inverse;
     }

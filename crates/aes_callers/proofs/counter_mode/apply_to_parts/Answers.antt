@@ -13,7 +13,8 @@ returns-clause-added g c =
     let first = c.try_apply.ensures in
     let second : c.try_apply-2.new.bytes ≡ plus_stream stream (before.position + length head) rest =
     c.in_ok-try_apply-2.ensures.added
-    ∙ (λ i. plus_stream (keystream_byte (first.round_keys i) (first.iv i)) (c.in_ok-try_apply.ensures.moved i) rest) in
+    ∙ (λ i. plus_stream (keystream_byte (first.round_keys i) (first.iv i))
+    (c.in_ok-try_apply.ensures.moved i) rest) in
     (λ i. c.in_ok-try_apply.ensures.added i
     ++ (second ∙ sym (append-nil (plus_stream stream (before.position + length head) rest))) i)
     ∙ c.stream_cut.ensures before.round_keys before.iv before.position (head ∷ rest ∷ [])

@@ -1,5 +1,6 @@
 -- What is left to show of `blocks::blocks_equal`.
-use Rattle.std.proofs.Common.{◌≡◌, ℕ, ◌∙◌, ap, arith, below_more, bit_or, bit_xor, eq-eqb, get_or, sym}
+use Rattle.std.proofs.Common.{◌≡◌, ℕ, ◌∙◌, ap, arith, below_more, bit_or, bit_xor, eq-eqb, get_or}
+use Rattle.std.proofs.Common.{sym}
 use Rattle.std.proofs.lemmas.Bool.{eqb-true}
 use Rattle.std.proofs.lemmas.List.{ext_get_or}
 use Rattle.std.proofs.lemmas.Nat.{le_or_l, le_or_r}
@@ -9,7 +10,8 @@ use Rattle.aes_cipher.proofs.blocks.blocks_equal.Goals as goal
 -- two numbers whose sum modulo 2 is 0
 same : (x y : ℕ) → bit_xor x y ≡ 0 → x ≡ y
 same x y e =
-    sym (xor_zero_r x) ∙ ap (bit_xor x) (sym (xor_self y)) ∙ sym (xor_assoc x y y) ∙ ap (λ s. bit_xor s y) e
+    sym (xor_zero_r x) ∙ ap (bit_xor x) (sym (xor_self y)) ∙ sym (xor_assoc x y y)
+    ∙ ap (λ s. bit_xor s y) e
     ∙ xor_zero_l y
 
 pub loop-i-preserved : goal.loop-i-preserved
@@ -21,7 +23,8 @@ loop-i-preserved c =
     let s = bit_xor x y in
     let here : bit_or d s ≡ 0 → x ≡ y = λ zero. same x y (omega (arith, le_or_r d s, zero)) in
     record {
-      agree = λ zero. below_more _ _ (c.loop-i.invariant.agree (omega (arith, le_or_l d s, zero))) (here zero);
+      agree = λ zero. below_more _ _
+          (c.loop-i.invariant.agree (omega (arith, le_or_l d s, zero))) (here zero);
       none = λ all.
           let before : d ≡ 0 = c.loop-i.invariant.none (λ k h. all k (omega arith)) in
           let here : s ≡ 0 = ap (bit_xor x) (sym (all i (omega arith))) ∙ xor_self x in

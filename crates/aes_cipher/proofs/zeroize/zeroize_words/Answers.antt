@@ -10,4 +10,5 @@ returns g c =
     let zero = c.zero.result in
     ap (map bits) c.wipe.ensures
     ∙ map_replicate bits n zero
-    ∙ ap (replicate n) (bits_of_zero g.W.Word.BITS (bits zero) (g.met.W.Word.shape.sized zero) c.zero.ensures)
+    ∙ ap (replicate n)
+    (bits_of_zero g.W.Word.BITS (bits zero) (g.met.W.Word.shape.sized zero) c.zero.ensures)

@@ -8,7 +8,8 @@ abbrev pub invariant-whole : goal.invariant-whole
 invariant-whole l = record {
   within : l.done ≤ length l.fn.bytes;
   aligned : l.done < length l.fn.bytes → (l.from + l.done) % 16 ≡ 0;
-  value : added_from (byte_of_blocks l.blocks) l.from l.done l.bytes ≡ plus_stream (byte_of_blocks l.blocks) l.from
+  value : added_from (byte_of_blocks l.blocks) l.from l.done l.bytes
+      ≡ plus_stream (byte_of_blocks l.blocks) l.from
       l.fn.bytes;
 }
 

@@ -20,14 +20,17 @@ whole-preserved g c =
       aligned = λ below. omega (arith, aligned);
       value = λ ends.
           let is : 16 * first ≡ c.args.position + c.whole.done = omega (arith, ends, aligned) in
-          added_run (stream_byte w block) (stream_byte w block) c.args.position (16 * first) c.whole.done n _
+          added_run (stream_byte w block) (stream_byte w block) c.args.position
+          (16 * first) c.whole.done n _
           c.whole.bytes _
-          (omega arith) (omega arith) c.add_batch.ensures (λ j inside. ap (λ m. stream_byte w block (m + j)) is)
+          (omega arith) (omega arith) c.add_batch.ensures
+          (λ j inside. ap (λ m. stream_byte w block (m + j)) is)
           ∙ c.whole.invariant.value ends;
     }
 
 pub returns : goal.returns
 returns g c = λ ends.
-    let stream = stream_byte (g.B.RoundKeysUser.round_keys c.args.backend.now) (g.K.CounterBlocks.block c.args.counters.now) in
+    let stream = stream_byte (g.B.RoundKeysUser.round_keys c.args.backend.now)
+    (g.K.CounterBlocks.block c.args.counters.now) in
     added_all stream c.args.position c.rest.done c.rest.bytes _ (omega arith)
     (c.rest.invariant.value ends)

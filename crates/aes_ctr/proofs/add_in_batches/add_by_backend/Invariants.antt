@@ -7,7 +7,8 @@ use Rattle.aes_ctr.proofs.add_in_batches.add_by_backend.Given as goal
 
 abbrev pub invariant-whole : goal.invariant-whole
 invariant-whole g l =
-    let stream = stream_byte (g.B.RoundKeysUser.round_keys l.backend) (g.K.CounterBlocks.block l.counters) in record {
+    let stream = stream_byte (g.B.RoundKeysUser.round_keys l.backend)
+    (g.K.CounterBlocks.block l.counters) in record {
       within : l.done ≤ length l.fn.bytes;
       aligned : l.done < length l.fn.bytes → (l.position + l.done) % 16 ≡ 0;
       value : l.position + length l.fn.bytes < 2 ^ 64 → added_from stream l.position l.done l.bytes
@@ -19,7 +20,8 @@ decreases-whole g l = length l.initial.bytes - l.done
 
 abbrev pub invariant-rest : goal.invariant-rest
 invariant-rest g l =
-    let stream = stream_byte (g.B.RoundKeysUser.round_keys l.backend) (g.K.CounterBlocks.block l.counters) in record {
+    let stream = stream_byte (g.B.RoundKeysUser.round_keys l.backend)
+    (g.K.CounterBlocks.block l.counters) in record {
       within : l.done ≤ length l.fn.bytes;
       value : l.position + length l.fn.bytes < 2 ^ 64 → added_from stream l.position l.done l.bytes
           ≡ plus_stream stream l.position l.fn.bytes;

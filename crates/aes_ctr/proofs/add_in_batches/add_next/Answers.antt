@@ -17,7 +17,9 @@ returns-clause-added g c = λ ends.
     let is : place ≡ c.args.position + c.args.done = omega (arith, ends, c.requires) in
     let agree : (j : ℕ) → j < part → byte_of_blocks blocks (place % 16 + j)
     ≡ stream_byte w block (c.args.position + c.args.done + j) =
-    λ j inside. byte_of_keystream w block blocks n place j c.fill_by_backend.ensures.first (omega arith)
+    λ j inside. byte_of_keystream w block blocks n place j c.fill_by_backend.ensures.first
+    (omega arith)
     ∙ ap (λ m. stream_byte w block (m + j)) is in
-    added_run (stream_byte w block) (byte_of_blocks blocks) c.args.position (place % 16) c.args.done part _
+    added_run (stream_byte w block) (byte_of_blocks blocks) c.args.position
+    (place % 16) c.args.done part _
     c.args.bytes.now _ (omega arith) (omega arith) c.add_blocks.ensures agree

@@ -1,5 +1,6 @@
 -- What is left to show of `examples::ctr_128_example`.
-use Rattle.std.proofs.Common.{◌≡◌, ℕ, ◌+◌, ◌/◌, List, [], ◌∷◌, ◌++◌, slice_index_or, sym, ◌∙◌, arith}
+use Rattle.std.proofs.Common.{◌≡◌, ℕ, ◌+◌, ◌/◌, List, [], ◌∷◌, ◌++◌, slice_index_or, sym, ◌∙◌}
+use Rattle.std.proofs.Common.{arith}
 use Rattle.aes_planes.specs.BigEndian.{bytes}
 use Rattle.aes_planes.specs.Fips197.{build, build_from, cipher_with, key_expansion}
 use Rattle.aes_planes.proofs.Bits.ByteCases.{by_two, by_four}
@@ -34,7 +35,8 @@ returns-clause-whole c =
     let known = c.keystream_128_example.ensures in
     sym (whole_blocks round_keys iv 0 text)
     ∙ plus_blocks round_keys (counter_block iv) four 0 text
-    (by_four (λ m. slice_index_or four m [] ≡ cipher_with round_keys (counter_block iv (0 / 16 + m)))
+    (by_four (λ m. slice_index_or four m [] ≡ cipher_with round_keys
+    (counter_block iv (0 / 16 + m)))
     (sym known.first) (sym known.second) (sym known.third) (sym known.fourth)) (omega arith)
 
 pub returns-clause-part : goal.returns-clause-part

@@ -9,7 +9,8 @@ pub returns-then-whole-blocks : goal.returns-then-whole-blocks
 returns-then-whole-blocks g c =
     let blocks = c.args.blocks.now in
     let whole : ℕ = length blocks - length blocks % c.LEN.result in
-    end_finished _ whole _ _ _ (omega (arith, c.process_batches_under.auto.blocks)) refl c.process_rest.ensures
+    end_finished _ whole _ _ _ (omega (arith, c.process_batches_under.auto.blocks))
+    refl c.process_rest.ensures
     ∙ front_finished _ whole blocks _ (omega arith) c.process_batches_under.ensures.blocks
 
 pub process_batches_under-requires-clause-whole_batches : goal.process_batches_under-requires-clause-whole_batches

@@ -10,6 +10,13 @@ returns g c =
     let n : ℕ = 16 - length blocks in
     let first = get_or blocks 0 [] in
     first_processed _ _ blocks (replicate n first) c.filled_up-batch.result _ c.copy_first.new.to
-    (omega (arith, c.requires.fewer)) (omega (arith, c.requires.fewer, g.met.W.Word.shape.few_blocks, g.met.W.Word.shape.as_many, length-replicate n first))
+    (omega (arith, c.requires.fewer))
+    (omega (
+      arith,
+      c.requires.fewer,
+      g.met.W.Word.shape.few_blocks,
+      g.met.W.Word.shape.as_many,
+      length-replicate n first,
+    ))
     c.filled_up-batch.ensures c.process_batch_under.ensures.blocks c.copy_first.ensures.copied
     c.copy_first.ensures.same_length

@@ -6,4 +6,5 @@ use Rattle.aes_hybrid.proofs.plane_keys.block_for_planes.Goals as goal
 
 pub returns : goal.returns
 unfolding untower
-returns c = c.shifted_back_times.ensures ∙ ap (inv_shift_times (c.args.number % 4)) (c.looked_up_by_nibbles-x.ensures 0)
+returns c = c.shifted_back_times.ensures
+    ∙ ap (inv_shift_times (c.args.number % 4)) (c.looked_up_by_nibbles-x.ensures 0)

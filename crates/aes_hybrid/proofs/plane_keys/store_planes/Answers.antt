@@ -2,8 +2,8 @@
 use Rattle.std.proofs.Common.{◌≡◌, inl, inr, ℕ, ◌*◌, ap, sym, ◌∙◌, arith}
 use Rattle.std.proofs.lemmas.Bool.{cases_lt}
 use Rattle.aes_soft.proofs.WordsInPlace.{kept}
-use Rattle.aes_hybrid.proofs.PlaneKeys.{wanted, first_wanted, inner_wanted, planes_keyed, planes_key}
-use Rattle.aes_hybrid.proofs.PlaneKeys.{two_or_more, put_at, all_put}
+use Rattle.aes_hybrid.proofs.PlaneKeys.{wanted, first_wanted, inner_wanted, planes_keyed}
+use Rattle.aes_hybrid.proofs.PlaneKeys.{planes_key, two_or_more, put_at, all_put}
 use Rattle.aes_hybrid.proofs.plane_keys.store_planes.Goals as goal
 
 pub keys-init : goal.keys-init
@@ -13,8 +13,10 @@ keys-init g c =
     record {
       done = λ j lt.
           let none : j ≡ 0 = omega arith in
-          put_at g.W.Word.bits g.W.Word.BLOCKS c.store_in_every_slot.new.words 0 (8 * j) _ _ (omega (arith, none))
-          c.store_in_every_slot.ensures.there (first_wanted keys two ∙ ap (wanted keys two) (sym none));
+          put_at g.W.Word.bits g.W.Word.BLOCKS c.store_in_every_slot.new.words 0 (8 * j) _ _
+          (omega (arith, none))
+          c.store_in_every_slot.ensures.there (first_wanted keys two
+          ∙ ap (wanted keys two) (sym none));
       same_length = c.store_in_every_slot.ensures.same_length ∙ c.requires.sized;
     }
 
@@ -26,14 +28,17 @@ keys-preserved g c =
     let inv = c.keys.invariant in
     record {
       done = λ j lt. elim (cases_lt j i) [
-        | inl low ↦ kept g.W.Word.bits g.W.Word.BLOCKS c.keys.words c.store_in_every_slot-in-keys.new.words (8 * i) (8 * j) _
+        | inl low ↦ kept g.W.Word.bits g.W.Word.BLOCKS c.keys.words
+            c.store_in_every_slot-in-keys.new.words (8 * i) (8 * j) _
             c.store_in_every_slot-in-keys.ensures.others (inl (omega arith)) (inv.done j low)
         | inr ge ↦
             let same : i ≡ j = omega arith in
-            put_at g.W.Word.bits g.W.Word.BLOCKS c.store_in_every_slot-in-keys.new.words (8 * i) (8 * j) _ _ (omega (arith, same))
+            put_at g.W.Word.bits g.W.Word.BLOCKS c.store_in_every_slot-in-keys.new.words (8 * i)
+            (8 * j) _ _ (omega (arith, same))
             c.store_in_every_slot-in-keys.ensures.there
             (c.block_for_planes.ensures
-            ∙ inner_wanted keys two i c.keys.auto.i c.keys-test.true (c.told-keys i (omega (arith, c.keys-test.true)))
+            ∙ inner_wanted keys two i c.keys.auto.i c.keys-test.true
+            (c.told-keys i (omega (arith, c.keys-test.true)))
             ∙ ap (wanted keys two) same)
       ];
       same_length = c.store_in_every_slot-in-keys.ensures.same_length ∙ inv.same_length;

@@ -8,5 +8,6 @@ abbrev pub invariant-loop-block : goal.invariant-loop-block
 invariant-loop-block l = record {
   room : length l.out ≡ 2048;
   place : l.end ≡ 33 * l.block-index;
-  text : take l.end l.out ≡ flat_map (λ block. encode_lower block ++ 32 ∷ []) (take l.block-index l.blocks);
+  text : take l.end l.out ≡ flat_map (λ block. encode_lower block ++ 32 ∷ [])
+      (take l.block-index l.blocks);
 }

@@ -19,13 +19,21 @@ pairs-preserved g c =
     let size = c.BLOCKS-size.ensures in
     record {
       within = omega (arith, c.pairs-test.true, c.pairs.invariant.within);
-      same_length = ap length c.store-in-pairs.ensures ∙ written_length second n _ _ ∙ ap length c.store.ensures
+      same_length = ap length c.store-in-pairs.ensures ∙ written_length second n _ _
+          ∙ ap length c.store.ensures
           ∙ written_length first n _ _ ∙ c.pairs.invariant.same_length;
       value = ap (finished f (i + 2 * c.BLOCKS-size.result))
           (c.store-in-pairs.ensures ∙ (λ t. written second n (i + size t) (c.store.ensures t)))
-          ∙ ap (λ m. finished f (i + 2 * m) (written second n (i + n) (written first n i before))) size
+          ∙ ap (λ m. finished f (i + 2 * m)
+          (written second n (i + n) (written first n i before))) size
           ∙ finished_two f first second n i before
-          (omega (arith, size, c.pairs-test.true, c.pairs.invariant.within, c.pairs.invariant.same_length))
+          (omega (
+            arith,
+            size,
+            c.pairs-test.true,
+            c.pairs.invariant.within,
+            c.pairs.invariant.same_length,
+          ))
           (λ k below. c.process_two-first.ensures.one k ∙ ap f (c.load-one.ensures k below))
           (λ k below. c.process_two-first.ensures.other k
           ∙ ap f (c.load-other.ensures k below ∙ ap (λ m. get_or before (i + m + k) []) size))
@@ -48,8 +56,15 @@ vectors-preserved g c =
       value = ap (finished f (i + c.BLOCKS-size.result)) c.store-in-vectors.ensures
           ∙ ap (λ m. finished f (i + m) (written processed n i before)) size
           ∙ finished_written f processed n i before
-          (omega (arith, size, c.vectors-test.true, c.vectors.invariant.within, c.vectors.invariant.same_length))
-          (λ k below. c.process_vector-processed.ensures k ∙ ap f (c.load-one-in-vectors.ensures k below))
+          (omega (
+            arith,
+            size,
+            c.vectors-test.true,
+            c.vectors.invariant.within,
+            c.vectors.invariant.same_length,
+          ))
+          (λ k below. c.process_vector-processed.ensures k
+          ∙ ap f (c.load-one-in-vectors.ensures k below))
           ∙ c.vectors.invariant.value;
     }
 
@@ -67,6 +82,7 @@ singles-preserved g c =
       value = ap (finished f (i + 1)) c.store-in-singles.ensures
           ∙ finished_written f processed 1 i before
           (omega (arith, c.singles-test.true, c.singles.invariant.same_length))
-          (λ k below. c.process_vector-processed-in-singles.ensures k ∙ ap f (c.load-one-in-singles.ensures k below))
+          (λ k below. c.process_vector-processed-in-singles.ensures k
+          ∙ ap f (c.load-one-in-singles.ensures k below))
           ∙ c.singles.invariant.value;
     }

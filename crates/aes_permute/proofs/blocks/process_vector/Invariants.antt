@@ -7,4 +7,5 @@ use Rattle.aes_permute.proofs.blocks.process_vector.Given as goal
 abbrev pub invariant-loop-i : goal.invariant-loop-i
 invariant-loop-i g l =
     (k : ℕ) → map g.D.LaneRounds.state_byte (g.L.Lanes.block l.x k)
-    ≡ rounds_after g.D.Direction.step (round_keys_of g.D.LaneRounds.form l.keys) (g.L.Lanes.block l.fn.blocks k) (l.i - 1)
+    ≡ rounds_after g.D.Direction.step (round_keys_of g.D.LaneRounds.form l.keys)
+    (g.L.Lanes.block l.fn.blocks k) (l.i - 1)

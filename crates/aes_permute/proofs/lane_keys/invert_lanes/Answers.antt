@@ -1,5 +1,6 @@
 -- What is left to show of `lane_keys::invert_lanes`.
-use Rattle.std.proofs.Common.{◌≡◌, ◌≢◌, ◌≤◌, ℕ, ◌-◌, List, [], length, map, get_or, set, ap, ◌∙◌, arith}
+use Rattle.std.proofs.Common.{◌≡◌, ◌≢◌, ◌≤◌, ℕ, ◌-◌, List, [], length, map, get_or, set, ap, ◌∙◌}
+use Rattle.std.proofs.Common.{arith}
 use Rattle.std.proofs.lemmas.List.{get_or-set_same, get_or-set_other, length-set}
 use Rattle.aes_permute.specs.Stored.{inv_untower}
 use Rattle.aes_permute.proofs.Inversion.{inverted_stored}
@@ -19,10 +20,12 @@ returns-clause-keys c =
     (λ k some lt.
     let below : k ≢ last = omega arith in
     let above : k ≢ 0 = omega arith in
-    ap (map inv_untower) (get_or-set_other one last k _ [] below ∙ get_or-set_other inverse 0 k _ [] above)
+    ap (map inv_untower) (get_or-set_other one last k _ [] below
+    ∙ get_or-set_other inverse 0 k _ [] above)
     ∙ c.keys.invariant.done k some (omega (arith, lt, c.keys-test.false)))
     (let apart : 0 ≢ last = omega (arith, two) in
     get_or-set_other one last 0 _ [] apart
     ∙ get_or-set_same inverse 0 _ [] (omega (arith, c.keys.invariant.same_length, two))
     ∙ ap (λ n. get_or keys n []) (omega arith))
-    (get_or-set_same one last _ [] (omega (arith, l1, two)) ∙ ap (λ n. get_or keys n []) (omega arith))
+    (get_or-set_same one last _ [] (omega (arith, l1, two))
+    ∙ ap (λ n. get_or keys n []) (omega arith))

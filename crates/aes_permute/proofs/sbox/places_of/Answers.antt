@@ -1,24 +1,28 @@
 -- What is left to show of `sbox::places_of`.
 use Rattle.aes_permute.specs.Inverse.{both_nibbles, first_of, second_of}
 use Rattle.aes_permute.specs.Lookup.{low_nibble, high_nibble}
-use Rattle.aes_permute.proofs.Inverses.{sum_of, over, over_is, place_is, made_places, low_cases, high_cases, both_cases}
-use Rattle.aes_permute.proofs.Inverses.{over_high_cases, over_both_cases, first_cases, second_cases}
+use Rattle.aes_permute.proofs.Inverses.{sum_of, over, over_is, place_is, made_places, low_cases}
+use Rattle.aes_permute.proofs.Inverses.{high_cases, both_cases, over_high_cases, over_both_cases}
+use Rattle.aes_permute.proofs.Inverses.{first_cases, second_cases}
 use Rattle.aes_permute.proofs.sbox.places_of.Goals as goal
 
 pub lookup-scaled-requires : goal.lookup-scaled-requires
 lookup-scaled-requires g c = record {
-  are_indices = λ i. made_places low_nibble low_cases _ (c.are_blocks.ensures i) (c.low_nibbles-low.ensures i);
+  are_indices = λ i. made_places low_nibble low_cases _ (c.are_blocks.ensures i)
+      (c.low_nibbles-low.ensures i);
 }
 
 pub lookup-high_inverse-requires : goal.lookup-high_inverse-requires
 lookup-high_inverse-requires g c = record {
-  are_indices = λ i. made_places high_nibble high_cases _ (c.are_blocks.ensures i) (c.high_nibbles-high.ensures i);
+  are_indices = λ i. made_places high_nibble high_cases _ (c.are_blocks.ensures i)
+      (c.high_nibbles-high.ensures i);
 }
 
 pub lookup-both_inverse-requires : goal.lookup-both_inverse-requires
 lookup-both_inverse-requires g c = record {
   are_indices = λ i. made_places both_nibbles both_cases _ (c.are_blocks.ensures i)
-      (sum_of high_nibble low_nibble _ (c.sum-both.ensures i) (c.high_nibbles-high.ensures i) (c.low_nibbles-low.ensures i));
+      (sum_of high_nibble low_nibble _ (c.sum-both.ensures i) (c.high_nibbles-high.ensures i)
+      (c.low_nibbles-low.ensures i));
 }
 
 pub lookup-at_high-requires : goal.lookup-at_high-requires
@@ -32,7 +36,8 @@ pub lookup-at_both-requires : goal.lookup-at_both-requires
 lookup-at_both-requires g c = record {
   are_indices = λ i. made_places (over both_nibbles) over_both_cases _ (c.are_blocks.ensures i)
       (over_is both_nibbles _
-      (sum_of high_nibble low_nibble _ (c.sum-both.ensures i) (c.high_nibbles-high.ensures i) (c.low_nibbles-low.ensures i))
+      (sum_of high_nibble low_nibble _ (c.sum-both.ensures i) (c.high_nibbles-high.ensures i)
+      (c.low_nibbles-low.ensures i))
       (c.low_nibbles-low.ensures i) (c.lookup-both_inverse.ensures i) (c.lookup-scaled.ensures i)
       (c.sum-over_both.ensures i));
 }
@@ -44,7 +49,8 @@ returns-clause-first g c i =
     (over_is high_nibble _ (c.high_nibbles-high.ensures i) (c.low_nibbles-low.ensures i)
     (c.lookup-high_inverse.ensures i) (c.lookup-scaled.ensures i) (c.sum-over_high.ensures i))
     (c.lookup-at_high.ensures i)
-    (sum_of high_nibble low_nibble _ (c.sum-both.ensures i) (c.high_nibbles-high.ensures i) (c.low_nibbles-low.ensures i))
+    (sum_of high_nibble low_nibble _ (c.sum-both.ensures i) (c.high_nibbles-high.ensures i)
+    (c.low_nibbles-low.ensures i))
     (c.sum-first.ensures i)
 
 pub returns-clause-second : goal.returns-clause-second
@@ -52,8 +58,10 @@ unfolding second_of
 returns-clause-second g c i =
     place_is both_nibbles high_nibble _
     (over_is both_nibbles _
-    (sum_of high_nibble low_nibble _ (c.sum-both.ensures i) (c.high_nibbles-high.ensures i) (c.low_nibbles-low.ensures i))
-    (c.low_nibbles-low.ensures i) (c.lookup-both_inverse.ensures i) (c.lookup-scaled.ensures i) (c.sum-over_both.ensures i))
+    (sum_of high_nibble low_nibble _ (c.sum-both.ensures i) (c.high_nibbles-high.ensures i)
+    (c.low_nibbles-low.ensures i))
+    (c.low_nibbles-low.ensures i) (c.lookup-both_inverse.ensures i) (c.lookup-scaled.ensures i)
+    (c.sum-over_both.ensures i))
     (c.lookup-at_both.ensures i) (c.high_nibbles-high.ensures i) (c.sum-second.ensures i)
 
 pub returns-clause-first_places : goal.returns-clause-first_places

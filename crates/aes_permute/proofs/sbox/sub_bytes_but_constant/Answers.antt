@@ -10,6 +10,7 @@ pub returns : goal.returns
 returns c =
     let e = c.looked_up_by_nibbles-tower.ensures 0 in
     c.looked_up.ensures 0
-    ∙ (λ t. zip2 (at_places SBOX_FIRST SBOX_SECOND) ((c.places_of.ensures.first 0 ∙ ap (map first_of) e) t)
+    ∙ (λ t. zip2 (at_places SBOX_FIRST SBOX_SECOND)
+    ((c.places_of.ensures.first 0 ∙ ap (map first_of) e) t)
     ((c.places_of.ensures.second 0 ∙ ap (map second_of) e) t))
     ∙ sub_bytes_is c.args.x c.requires.block

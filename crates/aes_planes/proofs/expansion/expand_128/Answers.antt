@@ -8,7 +8,8 @@ expand-init g c =
     let s = form g.F.FourWords.AreWords c.args.key.now 4 (omega arith) c.requires.sized in
     let words = loaded s _ 0 0 c.load-words.ensures refl (omega arith) in
     record {
-      done = more s 1 (none s (g.F.FourWords.IsStored c.args.stored.now 10)) (omega arith) c.store.ensures.others
+      done = more s 1 (none s (g.F.FourWords.IsStored c.args.stored.now 10))
+          (omega arith) c.store.ensures.others
           (c.store.ensures.there _ words) refl refl;
       last_four = words;
       layers = omega arith;
@@ -22,7 +23,8 @@ expand-preserved g c =
     let s = form g.F.FourWords.AreWords c.args.key.now 4 (omega arith) c.requires.sized in
     let before = c.read_back-before.ensures _ (inv.done i (omega arith)) inv.last_four in
     let words = rotated s _ i (4 * i) (4 * i) (4 * (i + 1))
-    (c.rotated-words.ensures.words _ _ before inv.last_four) (omega arith) (omega arith) (omega arith) (omega arith) in
+    (c.rotated-words.ensures.words _ _ before inv.last_four) (omega arith) (omega arith)
+    (omega arith) (omega arith) in
     record {
       done = more s (i + 1 + 1) inv.done (omega arith) c.store-in-expand.ensures.others
           (c.store-in-expand.ensures.there _ words) refl (omega arith);
@@ -32,5 +34,7 @@ expand-preserved g c =
     }
 
 pub returns-clause-keys : goal.returns-clause-keys
-returns-clause-keys g c = all (form g.F.FourWords.AreWords c.args.key.now 4 (omega arith) c.requires.sized)
-    (g.F.FourWords.IsStored c.expand.stored 10) _ 10 c.expand.invariant.done (omega arith) (omega arith)
+returns-clause-keys g c =
+    all (form g.F.FourWords.AreWords c.args.key.now 4 (omega arith) c.requires.sized)
+    (g.F.FourWords.IsStored c.expand.stored 10) _ 10 c.expand.invariant.done (omega arith)
+    (omega arith)

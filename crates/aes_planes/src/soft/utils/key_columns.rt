@@ -1,20 +1,23 @@
-//! What a key schedule does to columns: the round constant, sums from left to right, and round keys that straddle two.
+//! What a key schedule does to columns: the round constant, sums from left
+//! to right, and round keys that straddle two.
 
-ghost use Rattle.std.specs.Prelude.{◌≡◌, ℕ, cond, nat_lt, ◌+◌, ◌-◌, ◌*◌, ◌%◌, ◌^◌, ◌<◌, ◌≤◌, ◌⊎◌, length, map};
-ghost use Rattle.std.specs.Prelude.{slice_index_or};
+ghost use Rattle.std.specs.Prelude.{◌≡◌, ℕ, cond, nat_lt, ◌+◌, ◌-◌, ◌*◌, ◌%◌, ◌^◌, ◌<◌, ◌≤◌, ◌⊎◌};
+ghost use Rattle.std.specs.Prelude.{length, map, slice_index_or};
 ghost use Rattle.aes_planes.specs.Bits.{at, xor};
 ghost use Rattle.aes_planes.specs.Fips197 as fips;
-ghost use Rattle.aes_planes.specs.Planes.{held, place, zip_with, words_at, constant_block, summed, columns_summed};
-ghost use Rattle.aes_planes.specs.Planes.{columns_straddled};
+ghost use Rattle.aes_planes.specs.Planes.{held, place, zip_with, words_at, constant_block, summed};
+ghost use Rattle.aes_planes.specs.Planes.{columns_summed, columns_straddled};
 
 use crate::soft::word::Word;
 
-/// Adds 2 ^ `bit` to the byte in row 1 and column 3 of every block: one bit of a round constant (FIPS 197, 5.2).
+/// Adds 2 ^ `bit` to the byte in row 1 and column 3 of every block:
+/// one bit of a round constant (FIPS 197, 5.2).
 #[inline(always)]
 pub fn add_round_constant_bit<W: Word>(state: &mut [W; 8], bit: usize)
     requires below_8 { bit < 8 }
     ensures { held W.BLOCKS (map W.bits state.new)
-        ≡ map (λ s. fips.add_round_key s (constant_block (2 ^ bit))) (held W.BLOCKS (map W.bits state.old)) }
+        ≡ map (λ s. fips.add_round_key s (constant_block (2 ^ bit)))
+        (held W.BLOCKS (map W.bits state.old)) }
 {
     let mask = W::pack_rows(0x0, 0x8, 0x0, 0x0);
     let plane = state[bit];
@@ -26,32 +29,38 @@ pub fn add_round_constant_bit<W: Word>(state: &mut [W; 8], bit: usize)
 #[inline(always)]
 pub fn add_round_constant<W: Word>(state: &mut [W; 8], constant: u8)
     ensures { held W.BLOCKS (map W.bits state.new)
-        ≡ map (λ s. fips.add_round_key s (constant_block constant)) (held W.BLOCKS (map W.bits state.old)) }
+        ≡ map (λ s. fips.add_round_key s (constant_block constant))
+        (held W.BLOCKS (map W.bits state.old)) }
 {
     *state = W::sum_planes(state, &W::constant_planes(constant));
 }
 
-/// Puts sums of columns in the place of the eight words at `offset`: a round key, where they hold the
-/// substituted last one (FIPS 197, 5.2).
+/// Puts sums of columns in the place of the eight words at `offset`: a round key, where they hold
+/// the substituted last one (FIPS 197, 5.2).
 ///
-/// Column `c` becomes the sum of columns 0 to `c` of the round key `idx_xor` words earlier and of one
-/// byte for each row: the one that a rotation of the words at `offset` by `idx_ror` brings to column 0.
-/// The other words stay.
+/// Column `c` becomes the sum of columns 0 to `c` of the round key `idx_xor` words earlier and of
+/// one byte for each row: the one that a rotation of the words at `offset` by `idx_ror` brings to
+/// column 0. The other words stay.
 #[inline(always)]
 pub fn xor_columns<W: Word>(round_keys: &mut [W], offset: usize, idx_xor: usize, idx_ror: u32)
     requires apart { 8 ≤ idx_xor }
     requires inside { idx_xor ≤ offset }
     requires room { offset + 8 ≤ length round_keys.old }
     requires below_bits { idx_ror < W.BITS }
-    ensures others { (i : ℕ) (d : _) → (i < offset) ⊎ (offset + 8 ≤ i) → slice_index_or round_keys.new i d
+    ensures others { (i : ℕ) (d : _) → (i < offset) ⊎ (offset + 8 ≤ i)
+        → slice_index_or round_keys.new i d
         ≡ slice_index_or round_keys.old i d }
     ensures sums { (i : ℕ) (d : _) (r c k : ℕ) → i < 8 → r < 4 → c < 4 → k < W.BLOCKS
         → at (W.bits (slice_index_or round_keys.new (offset + i) d)) (place W.BLOCKS r c k)
-        ≡ summed xor (λ e. at (W.bits (slice_index_or round_keys.old (offset + i - idx_xor) d)) (place W.BLOCKS r e k))
-        (at (W.bits (slice_index_or round_keys.old (offset + i) d)) ((place W.BLOCKS r 0 k + idx_ror) % W.BITS)) c }
-    ensures blocks { (rows cols : ℕ) → rows < 4 → cols < 4 → idx_ror ≡ rows * (4 * W.BLOCKS) + cols * W.BLOCKS
+        ≡ summed xor (λ e. at (W.bits (slice_index_or round_keys.old (offset + i - idx_xor) d))
+        (place W.BLOCKS r e k))
+        (at (W.bits (slice_index_or round_keys.old (offset + i) d))
+        ((place W.BLOCKS r 0 k + idx_ror) % W.BITS)) c }
+    ensures blocks { (rows cols : ℕ) → rows < 4 → cols < 4
+        → idx_ror ≡ rows * (4 * W.BLOCKS) + cols * W.BLOCKS
         → held W.BLOCKS (map W.bits (words_at round_keys.new offset))
-        ≡ zip_with (columns_summed rows cols) (held W.BLOCKS (map W.bits (words_at round_keys.old (offset - idx_xor))))
+        ≡ zip_with (columns_summed rows cols)
+        (held W.BLOCKS (map W.bits (words_at round_keys.old (offset - idx_xor))))
         (held W.BLOCKS (map W.bits (words_at round_keys.old offset))) }
     ensures same_length { length round_keys.new ≡ length round_keys.old }
 {
@@ -69,12 +78,17 @@ pub fn xor_columns<W: Word>(round_keys: &mut [W], offset: usize, idx_xor: usize,
 #[inline(always)]
 pub fn summed_columns<W: Word>(before: &[W; 8], start: &[W; 8], idx_ror: u32) -> [W; 8]
     requires below_bits { idx_ror < W.BITS }
-    ensures { (rows cols : ℕ) → rows < 4 → cols < 4 → idx_ror ≡ rows * (4 * W.BLOCKS) + cols * W.BLOCKS
+    ensures { (rows cols : ℕ) → rows < 4 → cols < 4
+        → idx_ror ≡ rows * (4 * W.BLOCKS) + cols * W.BLOCKS
         → held W.BLOCKS (map W.bits result)
         ≡ zip_with (columns_summed rows cols) (held W.BLOCKS (map W.bits before.now))
         (held W.BLOCKS (map W.bits start.now)) }
 {
-    W::sum_columns_of_planes(before, start, idx_ror)
+    let mut sums = *before;
+    'planes: for p in 0..8 {
+        sums[p] = before[p].sum_columns(start[p], idx_ror);
+    }
+    sums
 }
 
 // One plane of `straddle_columns`.
@@ -99,7 +113,8 @@ fn straddle<W: Word>(left: W, right: W) -> W
 #[inline(always)]
 pub fn straddle_columns<W: Word>(left: &[W; 8], right: &[W; 8]) -> [W; 8]
     ensures { held W.BLOCKS (map W.bits result)
-        ≡ zip_with columns_straddled (held W.BLOCKS (map W.bits left.now)) (held W.BLOCKS (map W.bits right.now)) }
+        ≡ zip_with columns_straddled (held W.BLOCKS (map W.bits left.now))
+        (held W.BLOCKS (map W.bits right.now)) }
 {
     let mut columns = *left;
     'planes: for p in 0..8 {

@@ -28,7 +28,8 @@ fn swap_columns<W: Word>(state: &mut [W; 8], shift: u32, mask: W)
     requires below_bits { shift < W.BITS }
     ensures { (d : ℕ) (nibbles : List ℕ) → d < 4 → shift ≡ d * W.BLOCKS
         → ((r c : ℕ) → r < 4 → c < 4 → is_swap_at d nibbles r c ≡ true)
-        → Places W.BITS (W.bits mask) (λ i. bit (get_or nibbles (i / W.ROW_BITS) 0) (i % W.ROW_BITS / W.QUARTER_ROW))
+        → Places W.BITS (W.bits mask)
+        (λ i. bit (get_or nibbles (i / W.ROW_BITS) 0) (i % W.ROW_BITS / W.QUARTER_ROW))
         → held W.BLOCKS (map W.bits state.new)
         ≡ map (columns_swapped d nibbles) (held W.BLOCKS (map W.bits state.old)) }
 {
@@ -50,7 +51,8 @@ fn swap_columns<W: Word>(state: &mut [W; 8], shift: u32, mask: W)
 /// Shifts the rows of every block once: ShiftRows (FIPS 197, 5.1.2).
 #[inline(always)]
 pub fn shift_rows_1<W: Word>(state: &mut [W; 8])
-    ensures { held W.BLOCKS (map W.bits state.new) ≡ map (fips.shift_times 1) (held W.BLOCKS (map W.bits state.old)) }
+    ensures { held W.BLOCKS (map W.bits state.new)
+        ≡ map (fips.shift_times 1) (held W.BLOCKS (map W.bits state.old)) }
 {
     let by_two = W::pack_rows(0x0, 0x1, 0x3, 0x2);
     swap_columns(state, W::HALF_ROW, by_two);
@@ -61,7 +63,8 @@ pub fn shift_rows_1<W: Word>(state: &mut [W; 8])
 /// Shifts the rows of every block twice (FIPS 197, 5.1.2): rows 1 and 3 swap their halves.
 #[inline(always)]
 pub fn shift_rows_2<W: Word>(state: &mut [W; 8])
-    ensures { held W.BLOCKS (map W.bits state.new) ≡ map (fips.shift_times 2) (held W.BLOCKS (map W.bits state.old)) }
+    ensures { held W.BLOCKS (map W.bits state.new)
+        ≡ map (fips.shift_times 2) (held W.BLOCKS (map W.bits state.old)) }
 {
     let by_two = W::pack_rows(0x0, 0x3, 0x0, 0x3);
     swap_columns(state, W::HALF_ROW, by_two);
@@ -70,7 +73,8 @@ pub fn shift_rows_2<W: Word>(state: &mut [W; 8])
 /// Shifts the rows of every block three times (FIPS 197, 5.1.2), which undoes one shift.
 #[inline(always)]
 pub fn shift_rows_3<W: Word>(state: &mut [W; 8])
-    ensures { held W.BLOCKS (map W.bits state.new) ≡ map (fips.shift_times 3) (held W.BLOCKS (map W.bits state.old)) }
+    ensures { held W.BLOCKS (map W.bits state.new)
+        ≡ map (fips.shift_times 3) (held W.BLOCKS (map W.bits state.old)) }
 {
     let by_two = W::pack_rows(0x0, 0x2, 0x3, 0x1);
     swap_columns(state, W::HALF_ROW, by_two);

@@ -1,4 +1,5 @@
-//! Packing of a block into eight words of sixteen bits, which are gathered from the bits of a vector.
+//! Packing of a block into eight words of sixteen bits, which
+//! are gathered from the bits of a vector.
 
 ghost use Rattle.std.specs.Prelude.{◌≡◌, ℕ, ◌+◌, ◌*◌, ◌<◌, [], ◌∷◌, get_or};
 ghost use Rattle.aes_planes.specs.Bits.{bit};
@@ -9,15 +10,18 @@ use std::simd::prelude::*;
 #[tactic(auto, using(crate::proofs::Words::Constants::joined_bit))]
 #[inline(always)]
 fn joined(w0: u16, w1: u16, w2: u16, w3: u16) -> u64
-    ensures { (p i : ℕ) → p < 4 → i < 16 → bit result (16 * p + i) ≡ bit (get_or (w0 ∷ w1 ∷ w2 ∷ w3 ∷ []) p 0) i }
+    ensures { (p i : ℕ) → p < 4 → i < 16 → bit result (16 * p + i)
+        ≡ bit (get_or (w0 ∷ w1 ∷ w2 ∷ w3 ∷ []) p 0) i }
 {
     w0 as u64 | (w1 as u64) << 16 | (w2 as u64) << 32 | (w3 as u64) << 48
 }
 
-// Words as lanes, four at a time: LLVM puts single words into a vector one after the other, which takes longer.
+// Words as lanes, four at a time: LLVM puts single words into a
+// vector one after the other, which takes longer.
 #[inline(always)]
 pub(super) fn lanes_of(words: &[u16; 8]) -> u16x8
-    ensures { (p i : ℕ) → p < 8 → i < 16 → bit (get_or result p 0) i ≡ bit (get_or words.now p 0) i }
+    ensures { (p i : ℕ) → p < 8 → i < 16 → bit (get_or result p 0) i
+        ≡ bit (get_or words.now p 0) i }
 {
     let [w0, w1, w2, w3, w4, w5, w6, w7] = *words;
     let low = joined(w0, w1, w2, w3);

@@ -1,4 +1,5 @@
-//! Vectors of 32 byte lanes as words of 256 bits: sixteen lanes have the first eight blocks, and sixteen the last.
+//! Vectors of 32 byte lanes as words of 256 bits: sixteen lanes have
+//! the first eight blocks, and sixteen the last.
 
 ghost use Rattle.std.specs.Prelude.{◌≡◌, ℕ, ◌+◌, ◌-◌, ◌*◌, ◌/◌, ◌%◌, ◌<◌, ◌&&◌, nat_le, nat_lt};
 ghost use Rattle.aes_planes.specs.Bits.{at, bit, Places};
@@ -33,7 +34,8 @@ fn rotate_columns(x: u8x32, columns: u8) -> u8x32
 #[inline(always)]
 fn columns_down(x: u8x32, columns: u8) -> u8x32
     requires within { columns < 16 }
-    ensures { Places 256 (wide_bits result) (λ i. nat_lt (i + 16 * columns) 256 && at (wide_bits x) (i + 16 * columns)) }
+    ensures { Places 256 (wide_bits result) (λ i. nat_lt (i + 16 * columns) 256
+        && at (wide_bits x) (i + 16 * columns)) }
 {
     x.swizzle_dyn_within::<16>(
         (u8x32::from_array(COLUMNS) + u8x32::splat(columns + 112)) & u8x32::splat(0x8f),
@@ -45,7 +47,8 @@ fn columns_down(x: u8x32, columns: u8) -> u8x32
 #[inline(always)]
 fn columns_up(x: u8x32, columns: u8) -> u8x32
     requires within { columns < 16 }
-    ensures { Places 256 (wide_bits result) (λ i. nat_le (16 * columns) i && at (wide_bits x) (i - 16 * columns)) }
+    ensures { Places 256 (wide_bits result) (λ i. nat_le (16 * columns) i
+        && at (wide_bits x) (i - 16 * columns)) }
 {
     x.swizzle_dyn_within::<16>(u8x32::from_array(COLUMNS) - u8x32::splat(columns))
 }
@@ -111,7 +114,8 @@ pub(super) fn rotate_bytes(x: u8x32, bytes: u32) -> u8x32
 #[inline(always)]
 pub(super) fn bytes_down(x: u8x32, bytes: u32) -> u8x32
     requires within { bytes < 32 }
-    ensures { Places 256 (wide_bits result) (λ i. nat_lt (i + 8 * bytes) 256 && at (wide_bits x) (i + 8 * bytes)) }
+    ensures { Places 256 (wide_bits result) (λ i. nat_lt (i + 8 * bytes) 256
+        && at (wide_bits x) (i + 8 * bytes)) }
 {
     let whole = columns_down(x, (bytes / 2) as u8);
     if bytes % 2 == 0 {
@@ -125,7 +129,8 @@ pub(super) fn bytes_down(x: u8x32, bytes: u32) -> u8x32
 #[inline(always)]
 pub(super) fn bytes_up(x: u8x32, bytes: u32) -> u8x32
     requires within { bytes < 32 }
-    ensures { Places 256 (wide_bits result) (λ i. nat_le (8 * bytes) i && at (wide_bits x) (i - 8 * bytes)) }
+    ensures { Places 256 (wide_bits result) (λ i. nat_le (8 * bytes) i
+        && at (wide_bits x) (i - 8 * bytes)) }
 {
     let whole = columns_up(x, (bytes / 2) as u8);
     if bytes % 2 == 0 {
@@ -138,7 +143,8 @@ pub(super) fn bytes_up(x: u8x32, bytes: u32) -> u8x32
 #[tactic(auto, using(crate::proofs::Words::Wide::twice_places))]
 #[inline(always)]
 pub(crate) fn twice(x: u8x16) -> u8x32
-    ensures { (i : ℕ) → i < 256 → at (wide_bits result) i ≡ at (lane_bits x) (8 * (i / 16) + i % 8) }
+    ensures { (i : ℕ) → i < 256 → at (wide_bits result) i
+        ≡ at (lane_bits x) (8 * (i / 16) + i % 8) }
 {
     x.swizzle([
         0, 1, 2, 3, 4, 5, 6, 7, 8, 9, 10, 11, 12, 13, 14, 15, 0, 1, 2, 3, 4, 5, 6, 7, 8, 9, 10, 11,
@@ -149,8 +155,10 @@ pub(crate) fn twice(x: u8x16) -> u8x32
 // The bytes of two blocks, row by row, one in each half.
 #[inline(always)]
 pub(crate) fn by_rows(low: Block, high: Block) -> u8x32
-    ensures low { (j p : ℕ) → j < 16 → p < 8 → bit (row_byte low j) p ≡ at (wide_bits result) (16 * j + p) }
-    ensures high { (j p : ℕ) → j < 16 → p < 8 → bit (row_byte high j) p ≡ at (wide_bits result) (16 * j + 8 + p) }
+    ensures low { (j p : ℕ) → j < 16 → p < 8
+        → bit (row_byte low j) p ≡ at (wide_bits result) (16 * j + p) }
+    ensures high { (j p : ℕ) → j < 16 → p < 8
+        → bit (row_byte high j) p ≡ at (wide_bits result) (16 * j + 8 + p) }
 {
     vector128::by_rows(low).shuffle(
         vector128::by_rows(high),
@@ -166,7 +174,8 @@ pub(crate) fn by_rows(low: Block, high: Block) -> u8x32
 #[inline(always)]
 pub(crate) fn low_block(x: u8x32) -> Block
     ensures typed { fips.IsBlock result }
-    ensures bits { (j p : ℕ) → j < 16 → p < 8 → bit (row_byte result j) p ≡ at (wide_bits x) (16 * j + p) }
+    ensures bits { (j p : ℕ) → j < 16 → p < 8
+        → bit (row_byte result j) p ≡ at (wide_bits x) (16 * j + p) }
 {
     vector128::by_columns(x.swizzle([0, 1, 2, 3, 4, 5, 6, 7, 8, 9, 10, 11, 12, 13, 14, 15]))
 }
@@ -176,7 +185,8 @@ pub(crate) fn low_block(x: u8x32) -> Block
 #[inline(always)]
 pub(crate) fn high_block(x: u8x32) -> Block
     ensures typed { fips.IsBlock result }
-    ensures bits { (j p : ℕ) → j < 16 → p < 8 → bit (row_byte result j) p ≡ at (wide_bits x) (16 * j + 8 + p) }
+    ensures bits { (j p : ℕ) → j < 16 → p < 8
+        → bit (row_byte result j) p ≡ at (wide_bits x) (16 * j + 8 + p) }
 {
     vector128::by_columns(x.swizzle([
         16, 17, 18, 19, 20, 21, 22, 23, 24, 25, 26, 27, 28, 29, 30, 31,

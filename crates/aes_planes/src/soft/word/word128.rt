@@ -1,4 +1,5 @@
-//! A word of 128 bits, eight of which hold eight blocks: its operations work on its bytes as lanes of a vector.
+//! A word of 128 bits, eight of which hold eight blocks: its
+//! operations work on its bytes as lanes of a vector.
 
 ghost use Rattle.std.specs.Prelude.{◌≡◌};
 ghost use Rattle.std.proofs.Common.{arith, rules};
@@ -180,7 +181,8 @@ impl Word for u128 {
         ]
     }
 
-    ghost shape = { built_shape bit 8 _ (Prim.search rules) (Prim.search rules) (Prim.search rules) };
+    ghost shape = { built_shape bit 8 _ (Prim.search rules) (Prim.search rules)
+        (Prim.search rules) };
 
     ghost keys_fit = { Prim.omega arith };
 }

@@ -159,7 +159,8 @@ impl Word for u8x32 {
         ]
     }
 
-    ghost shape = { built_shape wide_bit 16 _ (Prim.search rules) (Prim.search rules) (Prim.search rules) };
+    ghost shape = { built_shape wide_bit 16 _ (Prim.search rules) (Prim.search rules)
+        (Prim.search rules) };
 
     ghost keys_fit = { Prim.omega arith };
 }

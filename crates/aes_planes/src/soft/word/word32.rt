@@ -110,7 +110,8 @@ impl Word for u32 {
         Blocks { blocks: [b0, b1] }
     }
 
-    ghost shape = { built_shape bit 2 _ (Prim.search rules) (Prim.search rules) (Prim.search rules) };
+    ghost shape = { built_shape bit 2 _ (Prim.search rules) (Prim.search rules)
+        (Prim.search rules) };
 
     ghost keys_fit = { Prim.omega arith };
 }
@@ -137,7 +138,8 @@ fn column_of(block: &Block, column: usize) -> u32
 fn block_of(column0: u32, column1: u32, column2: u32, column3: u32) -> Block
     ensures { (c : ℕ) → c < 4 → (j p : ℕ) → j < 4 → p < 8
         → bit (row_byte result (4 * j + c)) p
-        ≡ at (word_bits 32 (slice_index (column0 ∷ column1 ∷ column2 ∷ column3 ∷ []) c)) (8 * j + p) }
+        ≡ at (word_bits 32 (slice_index (column0 ∷ column1 ∷ column2 ∷ column3 ∷ []) c))
+        (8 * j + p) }
 {
     let [a0, a1, a2, a3] = column0.to_le_bytes();
     let [b0, b1, b2, b3] = column1.to_le_bytes();

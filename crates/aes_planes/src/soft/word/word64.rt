@@ -1,6 +1,7 @@
 //! A word of sixty-four bits, eight of which hold four blocks.
 
-ghost use Rattle.std.specs.Prelude.{◌≡◌, ℕ, ◌+◌, ◌-◌, ◌*◌, ◌/◌, ◌^◌, ◌<◌, ◌&&◌, ◌||◌, nat_le, [], ◌∷◌, slice_index};
+ghost use Rattle.std.specs.Prelude.{◌≡◌, ℕ, ◌+◌, ◌-◌, ◌*◌, ◌/◌, ◌^◌, ◌<◌, ◌&&◌, ◌||◌, nat_le, []};
+ghost use Rattle.std.specs.Prelude.{◌∷◌, slice_index};
 ghost use Rattle.std.proofs.Common.{arith, rules};
 ghost use Rattle.aes_planes.specs.Bits.{at, bit};
 ghost use Rattle.aes_planes.specs.Private.BuiltLength.{built_shape};
@@ -115,7 +116,8 @@ impl Word for u64 {
         }
     }
 
-    ghost shape = { built_shape bit 4 _ (Prim.search rules) (Prim.search rules) (Prim.search rules) };
+    ghost shape = { built_shape bit 4 _ (Prim.search rules) (Prim.search rules)
+        (Prim.search rules) };
 
     ghost keys_fit = { Prim.omega arith };
 }
@@ -125,7 +127,8 @@ impl Word for u64 {
 #[inline(always)]
 fn columns_apart(block: Block) -> [u64; 2]
     ensures { (o : ℕ) → o < 2 → (j p : ℕ) → j < 8 → p < 8
-        → bit (row_byte block (2 * j + o)) p ≡ at (word_bits 64 (slice_index result o)) (8 * j + p) }
+        → bit (row_byte block (2 * j + o)) p ≡ at (word_bits 64 (slice_index result o))
+        (8 * j + p) }
 {
     let bytes = u8x16::from_array(block);
     let apart = bytes.swizzle([0, 8, 1, 9, 2, 10, 3, 11, 4, 12, 5, 13, 6, 14, 7, 15]);
@@ -138,14 +141,16 @@ fn columns_apart(block: Block) -> [u64; 2]
 fn columns_together(even: u64, odd: u64) -> Block
     ensures typed { fips.IsBlock result }
     ensures bits { (o : ℕ) → o < 2 → (j p : ℕ) → j < 8 → p < 8
-        → bit (row_byte result (2 * j + o)) p ≡ at (word_bits 64 (slice_index (even ∷ odd ∷ []) o)) (8 * j + p) }
+        → bit (row_byte result (2 * j + o)) p ≡ at (word_bits 64 (slice_index (even ∷ odd ∷ []) o))
+        (8 * j + p) }
 {
     let apart = u64x2::from_array([even, odd]).to_le_bytes();
     let bytes = apart.swizzle([0, 2, 4, 6, 8, 10, 12, 14, 1, 3, 5, 7, 9, 11, 13, 15]);
     bytes.to_array()
 }
 
-// The lowest sixteen bits, each four times: halves are drawn apart until each bit has four places, and then fills them.
+// The lowest sixteen bits, each four times: halves are drawn apart until
+// each bit has four places, and then fills them.
 #[inline(always)]
 fn each_four_times(x: u64) -> u64
     requires sixteen_bits { x < 2 ^ 16 }
@@ -164,7 +169,8 @@ fn each_four_times(x: u64) -> u64
 #[inline(always)]
 fn drawn_apart(x: u64, shift: u32, mask: u64) -> u64
     requires below_bits { shift < 64 }
-    ensures { (i : ℕ) → i < 64 → bit result i ≡ ((bit x i || (nat_le shift i && bit x (i - shift))) && bit mask i) }
+    ensures { (i : ℕ) → i < 64 → bit result i
+        ≡ ((bit x i || (nat_le shift i && bit x (i - shift))) && bit mask i) }
 {
     (x | x << shift) & mask
 }

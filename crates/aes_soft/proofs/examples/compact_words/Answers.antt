@@ -13,4 +13,10 @@ pub returns : goal.returns
 unfolding stored_on_literals
 returns c =
     subst (λ w. HoldsKeys 1 (compact 10) w planes) (sym c.zero_key_expansion.ensures)
-    (below_tells 11 _ (((((((((((tt, refl), refl), refl), refl), refl), refl), refl), refl), refl), refl), refl))
+    (below_tells 11 _ (
+      (
+        (((((((((tt, refl), refl), refl), refl), refl), refl), refl), refl), refl),
+        refl,
+      ),
+      refl,
+    ))

@@ -24,7 +24,8 @@ pub use encrypt::encrypt_with_backend;
 use std::convert::AsSlice;
 use std::marker::Model;
 
-// How many bytes of stack a closure takes at most that works on batches, as those of this library's modes do.
+// How many bytes of stack a closure takes at most that works on
+// batches, as those of this library's modes do.
 const CLOSURE_STACK: usize = 2032;
 
 /// The backend of a key of 16 bytes.
@@ -36,8 +37,8 @@ pub type Aes192Backend<'a> = Backend<'a, Wiped<[BatchWord; 104]>>;
 /// The backend of a key of 32 bytes.
 pub type Aes256Backend<'a> = Backend<'a, Wiped<[BatchWord; 120]>>;
 
-/// Encrypts and decrypts under round keys that it borrows. It holds the same on the words of a batch, or borrows them.
-/// Contracts see a value as its key.
+/// Encrypts and decrypts under round keys that it borrows. It holds the same on the words of a
+/// batch, or borrows them. Contracts see a value as its key.
 pub struct Backend<'a, H: AsSlice<BatchWord> + Drop> {
     round_keys: &'a [u16],
     widened: H,
@@ -69,13 +70,15 @@ impl<'a, H: AsSlice<BatchWord> + Drop> Model for Backend<'a, H> {
 fn fill<const N: usize>(widened: &mut [BatchWord; N], round_keys: &[u16; N])
     requires is_schedule { IsFullSchedule (word_bits 16) 1 round_keys.now }
     ensures schedule { IsFullSchedule (word_bits 128) 8 widened.new }
-    ensures key { key_of_planes (word_bits 128) 8 widened.new ≡ key_of_planes (word_bits 16) 1 round_keys.now }
+    ensures key { key_of_planes (word_bits 128) 8 widened.new
+        ≡ key_of_planes (word_bits 16) 1 round_keys.now }
 {
     store_widened(widened, round_keys);
 }
 
 impl<'a, const N: usize> Backend<'a, Wiped<[BatchWord; N]>> {
-    /// Makes the backend of stored round keys. It holds a widened copy, and wipes it when it is dropped.
+    /// Makes the backend of stored round keys. It holds a widened
+    /// copy, and wipes it when it is dropped.
     #[inline(always)]
     pub fn new(round_keys: &'a [u16; N]) -> Backend<'a, Wiped<[BatchWord; N]>>
         requires is_schedule { IsFullSchedule (word_bits 16) 1 round_keys.now }
@@ -91,12 +94,14 @@ impl<'a, const N: usize> Backend<'a, Wiped<[BatchWord; N]>> {
 }
 
 impl<'a> Backend<'a, &'a [BatchWord]> {
-    // The backend of stored round keys and of the same, widened, both lent: those stay with their owner, who wipes them.
+    // The backend of stored round keys and of the same, widened, both lent:
+    // those stay with their owner, who wipes them.
     #[inline(always)]
     fn lent(round_keys: &'a [u16], widened: &'a [BatchWord]) -> Backend<'a, &'a [BatchWord]>
         requires is_schedule { IsFullSchedule (word_bits 16) 1 round_keys.now }
         requires is_widened { IsFullSchedule (word_bits 128) 8 widened.now }
-        requires same_key { key_of_planes (word_bits 128) 8 widened.now ≡ key_of_planes (word_bits 16) 1 round_keys.now }
+        requires same_key { key_of_planes (word_bits 128) 8 widened.now
+            ≡ key_of_planes (word_bits 16) 1 round_keys.now }
         ensures { result ≡ key_of_planes (word_bits 16) 1 round_keys.now }
     {
         Backend {

@@ -48,7 +48,9 @@ pub fn process_batch_under<W: Word, D: PlaneCipher>(
 )
     requires is_schedule { IsFullSchedule W.bits W.BLOCKS words.now }
     requires one_batch { length blocks.old ≡ W.Blocks.LEN }
-    ensures blocks { Each (D.processed (fips.key_expansion (key_of_planes W.bits W.BLOCKS words.now))) blocks.old blocks.new }
+    ensures blocks { Each
+        (D.processed (fips.key_expansion (key_of_planes W.bits W.BLOCKS words.now)))
+        blocks.old blocks.new }
     ensures layers { layers.new ≡ layers.old + rounds_of (length words.now) }
 {
     let rounds = words.len() / 8 - 1;
@@ -70,7 +72,9 @@ pub fn process_batches_under<W: Word, D: PlaneCipher>(
 )
     requires is_schedule { IsFullSchedule W.bits W.BLOCKS words.now }
     requires whole_batches { length blocks.old % W.Blocks.LEN ≡ 0 }
-    ensures blocks { Each (D.processed (fips.key_expansion (key_of_planes W.bits W.BLOCKS words.now))) blocks.old blocks.new }
+    ensures blocks { Each
+        (D.processed (fips.key_expansion (key_of_planes W.bits W.BLOCKS words.now)))
+        blocks.old blocks.new }
     ensures layers { layers.new
         ≡ layers.old + rounds_of (length words.now) * (length blocks.old / W.Blocks.LEN) }
 {
@@ -94,15 +98,17 @@ fn process_batches_in_a_call<W: Word, D: PlaneCipher>(
 )
     requires is_schedule { IsFullSchedule W.bits W.BLOCKS words.now }
     requires whole_batches { length blocks.old % W.Blocks.LEN ≡ 0 }
-    ensures blocks { Each (D.processed (fips.key_expansion (key_of_planes W.bits W.BLOCKS words.now))) blocks.old blocks.new }
+    ensures blocks { Each
+        (D.processed (fips.key_expansion (key_of_planes W.bits W.BLOCKS words.now)))
+        blocks.old blocks.new }
     ensures layers { layers.new
         ≡ layers.old + rounds_of (length words.now) * (length blocks.old / W.Blocks.LEN) }
 {
     process_batches_under::<W, D>(words, blocks, layers);
 }
 
-/// Processes each block of a slice in place, under stored round keys: whole batches first, then one block after the
-/// other. The stack that the work on them took is wiped before the call returns.
+/// Processes each block of a slice in place, under stored round keys: whole batches first, then one
+/// block after the other. The stack that the work on them took is wiped before the call returns.
 #[inline(always)]
 pub fn process_blocks_under<D: PlaneCipher>(
     round_keys: &[u16],
@@ -112,7 +118,8 @@ pub fn process_blocks_under<D: PlaneCipher>(
     requires is_schedule { IsFullSchedule (word_bits 16) 1 round_keys.now }
     ensures blocks { let key = key_of_planes (word_bits 16) 1 round_keys.now in
         Each (D.processed (fips.key_expansion key)) blocks.old blocks.new }
-    ensures layers { layers.new ≡ layers.old + layers_for (rounds_of (length round_keys.now)) (length blocks.old) }
+    ensures layers { layers.new ≡ layers.old
+        + layers_for (rounds_of (length round_keys.now)) (length blocks.old) }
 {
     let whole = blocks.len() - blocks.len() % <BatchWord as Word>::Blocks::LEN;
     if whole > 0 {
@@ -130,7 +137,9 @@ pub fn process_blocks_under<D: PlaneCipher>(
 #[inline(always)]
 pub fn process_block_under<D: PlaneCipher>(round_keys: &[u16], block: &mut Block)
     requires is_schedule { IsFullSchedule (word_bits 16) 1 round_keys.now }
-    ensures { block.new ≡ D.processed (fips.key_expansion (key_of_planes (word_bits 16) 1 round_keys.now)) block.old }
+    ensures { block.new
+        ≡ D.processed (fips.key_expansion
+        (key_of_planes (word_bits 16) 1 round_keys.now)) block.old }
 {
     process_batch_under::<u16, D>(round_keys, slice::from_mut(block), &mut Layers::new());
 }

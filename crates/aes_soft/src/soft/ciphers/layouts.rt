@@ -2,8 +2,8 @@
 ghost use Rattle.std.specs.Prelude.{◌≡◌, ◌⊎◌, ℕ};
 ghost use Rattle.std.proofs.Common.{inl, inr, refl};
 
-/// A layout of round keys. As many ShiftRows are deferred at round key i as the remainder of i by the period, but none
-/// at the last.
+/// A layout of round keys. As many ShiftRows are deferred at round key i as the remainder of i by
+/// the period, but none at the last.
 pub trait Layout {
     /// The period, in rounds.
     ghost PERIOD: { ℕ };

@@ -16,7 +16,8 @@ use aes_planes::soft::word::{Batch, Word};
 pub trait PlaneCipher: Direction {
     /// Does to each block that planes hold what a round does before it adds its round key.
     fn step_planes<W: Word>(state: &mut [W; 8])
-        ensures { held W.BLOCKS (map W.bits state.new) ≡ map Self.step (held W.BLOCKS (map W.bits state.old)) };
+        ensures { held W.BLOCKS (map W.bits state.new)
+            ≡ map Self.step (held W.BLOCKS (map W.bits state.old)) };
 
     /// Processes each block that planes hold under stored round keys, in `rounds` rounds.
     fn process_planes<W: Word, L: Layout>(
@@ -48,7 +49,8 @@ impl PlaneCipher for Encrypt {
         mix_columns_0(state);
     }
 
-    // A period at a time. Where one ShiftRows is deferred, two more rounds or two ShiftRows make it three.
+    // A period at a time. Where one ShiftRows is deferred, two more
+    // rounds or two ShiftRows make it three.
     fn process_planes<W: Word, L: Layout>(
         round_keys: &[W],
         rounds: usize,
@@ -143,10 +145,12 @@ pub(crate) fn process<W: Word, L: Layout, D: PlaneCipher>(
     requires fourteen_at_most { rounds ≤ 14 }
     requires even { rounds % 2 ≡ 0 }
     requires room { 8 * rounds + 8 ≤ length round_keys.now }
-    requires is_schedule { IsKeyed (key_size rounds) W.BLOCKS (deferred L.PERIOD rounds) (map W.bits round_keys.now) }
+    requires is_schedule { IsKeyed (key_size rounds) W.BLOCKS (deferred L.PERIOD rounds)
+        (map W.bits round_keys.now) }
     ensures blocks { let key = key_of (key_size rounds) W.BLOCKS (deferred L.PERIOD rounds)
         (map W.bits round_keys.now) in
-        W.Blocks.blocks result ≡ map (D.processed (fips.key_expansion key)) (W.Blocks.blocks input.now) }
+        W.Blocks.blocks result ≡ map (D.processed (fips.key_expansion key))
+        (W.Blocks.blocks input.now) }
     ensures layers { layers.new ≡ layers.old + rounds }
 {
     let mut state = [W::zero(); 8];
@@ -166,10 +170,12 @@ pub(crate) fn process_in_a_call<W: Word, L: Layout, D: PlaneCipher>(
     requires fourteen_at_most { rounds ≤ 14 }
     requires even { rounds % 2 ≡ 0 }
     requires room { 8 * rounds + 8 ≤ length round_keys.now }
-    requires is_schedule { IsKeyed (key_size rounds) W.BLOCKS (deferred L.PERIOD rounds) (map W.bits round_keys.now) }
+    requires is_schedule { IsKeyed (key_size rounds) W.BLOCKS (deferred L.PERIOD rounds)
+        (map W.bits round_keys.now) }
     ensures blocks { let key = key_of (key_size rounds) W.BLOCKS (deferred L.PERIOD rounds)
         (map W.bits round_keys.now) in
-        W.Blocks.blocks result ≡ map (D.processed (fips.key_expansion key)) (W.Blocks.blocks input.now) }
+        W.Blocks.blocks result ≡ map (D.processed (fips.key_expansion key))
+        (W.Blocks.blocks input.now) }
     ensures layers { layers.new ≡ layers.old + rounds }
 {
     process::<W, L, D>(round_keys, rounds, input, layers)

@@ -23,20 +23,23 @@ pub(super) fn add_key<W: Word>(state: &mut [W; 8], round_keys: &[W], i: usize)
     add_round_key(state, &key);
 }
 
-// How many ShiftRows are deferred after a round. A type and no number, so that each round is compiled with its own
-// mixing of columns and no choice between four.
+// How many ShiftRows are deferred after a round. A type and no number, so that each round is
+// compiled with its own mixing of columns and no choice between four.
 pub(super) trait Deferred {
     // The number.
     ghost DEFERRED: { ℕ };
 
     // Applies MixColumns to every block, between the deferred ShiftRows and as many InvShiftRows.
     fn mix<W: Word>(state: &mut [W; 8])
-        ensures { held W.BLOCKS (map W.bits state.new) ≡ map (between_shifts DEFERRED fips.mix_columns)
+        ensures { held W.BLOCKS (map W.bits state.new)
+            ≡ map (between_shifts DEFERRED fips.mix_columns)
             (held W.BLOCKS (map W.bits state.old)) };
 
-    // Applies InvMixColumns to every block, between the deferred ShiftRows and as many InvShiftRows.
+    // Applies InvMixColumns to every block, between the deferred
+    // ShiftRows and as many InvShiftRows.
     fn unmix<W: Word>(state: &mut [W; 8])
-        ensures { held W.BLOCKS (map W.bits state.new) ≡ map (between_shifts DEFERRED fips.inv_mix_columns)
+        ensures { held W.BLOCKS (map W.bits state.new)
+            ≡ map (between_shifts DEFERRED fips.inv_mix_columns)
             (held W.BLOCKS (map W.bits state.old)) };
 }
 
@@ -128,7 +131,8 @@ pub(super) fn round<W: Word, D: Deferred>(
     add_key(state, round_keys, i);
 }
 
-// Undoes the mixing of round `i`, and the substitution of the next, where as many ShiftRows are deferred as `D` says.
+// Undoes the mixing of round `i`, and the substitution of the next, where
+// as many ShiftRows are deferred as `D` says.
 #[inline(always)]
 pub(super) fn inv_round<W: Word, D: Deferred>(
     state: &mut [W; 8],
@@ -138,7 +142,8 @@ pub(super) fn inv_round<W: Word, D: Deferred>(
 )
     requires room { 8 * i + 8 ≤ length round_keys.now }
     ensures blocks { held W.BLOCKS (map W.bits state.new)
-        ≡ map (map (λ b. fips.inv_sbox (plus63 b))) (map (between_shifts D.DEFERRED fips.inv_mix_columns)
+        ≡ map (map (λ b. fips.inv_sbox (plus63 b)))
+        (map (between_shifts D.DEFERRED fips.inv_mix_columns)
         (zip_with fips.add_round_key (held W.BLOCKS (map W.bits state.old))
         (held W.BLOCKS (map W.bits (words_at round_keys.now (8 * i)))))) }
     ensures layers { layers.new ≡ layers.old + 1 }

@@ -5,14 +5,15 @@ ghost use Rattle.aes_soft.specs.Stored.{key_of_planes, IsFullSchedule};
 
 use aes_planes::soft::word::Word;
 
-/// Writes stored round keys on `u16` to as many words of `W`, for the same key: each word by `broadcast`, so that every
-/// slot has the block of the one slot.
+/// Writes stored round keys on `u16` to as many words of `W`, for the same key: each word by
+/// `broadcast`, so that every slot has the block of the one slot.
 #[inline(always)]
 pub fn store_widened<W: Word>(widened: &mut [W], round_keys: &[u16])
     requires same_length { length widened.old ≡ length round_keys.now }
     requires is_stored { IsFullSchedule (word_bits 16) 1 round_keys.now }
     ensures schedule { IsFullSchedule W.bits W.BLOCKS widened.new }
-    ensures key { key_of_planes W.bits W.BLOCKS widened.new ≡ key_of_planes (word_bits 16) 1 round_keys.now }
+    ensures key { key_of_planes W.bits W.BLOCKS widened.new
+        ≡ key_of_planes (word_bits 16) 1 round_keys.now }
     ensures same_length { length widened.new ≡ length round_keys.now }
 {
     'widen: for i in 0..round_keys.len() {
@@ -35,7 +36,8 @@ pub(crate) fn store_widened_first<W: Word>(room: &mut [W; 120], round_keys: &[u1
 pub fn widen<W: Word, const N: usize>(round_keys: &[u16; N]) -> [W; N]
     requires is_stored { IsFullSchedule (word_bits 16) 1 round_keys.now }
     ensures schedule { IsFullSchedule W.bits W.BLOCKS result }
-    ensures key { key_of_planes W.bits W.BLOCKS result ≡ key_of_planes (word_bits 16) 1 round_keys.now }
+    ensures key { key_of_planes W.bits W.BLOCKS result
+        ≡ key_of_planes (word_bits 16) 1 round_keys.now }
 {
     let mut widened = [W::zero(); N];
     store_widened(&mut widened, round_keys);

@@ -3,7 +3,8 @@
 ghost use Rattle.std.specs.Prelude.{◌≡◌, ◌%◌, length};
 ghost use Rattle.aes_planes.specs.Each.{Each};
 ghost use Rattle.aes_planes.specs.Fips197 as fips;
-ghost use Rattle.aes_planes.specs.SingleRounds.{cipher_round, equiv_inv_cipher_round, rounds_by_place};
+ghost use Rattle.aes_planes.specs.SingleRounds.{cipher_round, equiv_inv_cipher_round};
+ghost use Rattle.aes_planes.specs.SingleRounds.{rounds_by_place};
 
 use crate::soft::blocks::{batch_of, put_batch};
 use crate::soft::ciphers::PlaneCipher;
@@ -33,7 +34,8 @@ pub fn equiv_inv_cipher_round_par<W: Word>(blocks: &mut [Block; 8], round_keys: 
 #[inline(always)]
 fn rounds_par<W: Word, D: PlaneCipher>(blocks: &mut [Block; 8], round_keys: &[Block; 8])
     requires divides { 8 % W.BLOCKS ≡ 0 }
-    ensures { blocks.new ≡ rounds_by_place (λ b k. fips.add_round_key (D.step b) k) blocks.old round_keys.now }
+    ensures { blocks.new ≡ rounds_by_place (λ b k. fips.add_round_key (D.step b) k)
+        blocks.old round_keys.now }
 {
     step_each::<W, D>(blocks);
     add_round_keys(blocks, round_keys);

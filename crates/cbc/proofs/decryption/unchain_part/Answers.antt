@@ -3,7 +3,8 @@ use Rattle.std.proofs.Common.{◌≡◌, ◌<◌, [], ◌∙◌, ap, get_or, len
 use Rattle.std.proofs.lemmas.List.{get_or-map}
 use Rattle.aes_planes.specs.Fips197 as fips
 use Rattle.cbc.specs.Cbc.{unchained}
-use Rattle.cbc.proofs.Chains.{chain_finished, chain_passed, last_left, same_ahead, still_ahead, unchained_next}
+use Rattle.cbc.proofs.Chains.{chain_finished, chain_passed, last_left, same_ahead, still_ahead}
+use Rattle.cbc.proofs.Chains.{unchained_next}
 use Rattle.cbc.proofs.decryption.unchain_part.Goals as goal
 
 pub loop-k-preserved : goal.loop-k-preserved
@@ -31,10 +32,12 @@ pub returns-clause-unchained : goal.returns-clause-unchained
 unfolding unchained
 returns-clause-unchained g c =
     let w = g.B.RoundKeysUser.round_keys c.args.backend.now in
-    sym (chain_finished (unchained w c.loop-k.previous) refl c.loop-k.blocks c.args.blocks.now c.loop-k.k (omega arith)
+    sym (chain_finished (unchained w c.loop-k.previous)
+    refl c.loop-k.blocks c.args.blocks.now c.loop-k.k (omega arith)
     (omega arith))
     ∙ c.loop-k.invariant.value
 
 pub returns-clause-previous : goal.returns-clause-previous
 returns-clause-previous g c =
-    chain_passed c.loop-k.previous c.args.blocks.now c.loop-k.k (omega arith) ∙ c.loop-k.invariant.last
+    chain_passed c.loop-k.previous c.args.blocks.now c.loop-k.k (omega arith)
+    ∙ c.loop-k.invariant.last

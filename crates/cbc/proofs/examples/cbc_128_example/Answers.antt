@@ -1,7 +1,8 @@
 -- What is left to show of `examples::cbc_128_example`.
 use Rattle.std.proofs.Common.{List, ℕ, [], ◌∷◌, ap, ◌∙◌}
 use Rattle.aes_planes.specs.BigEndian.{bytes}
-use Rattle.aes_planes.specs.Fips197.{build, build_from, add_round_key, cipher_with, inv_cipher_with, key_expansion}
+use Rattle.aes_planes.specs.Fips197.{build, build_from, add_round_key, cipher_with, inv_cipher_with}
+use Rattle.aes_planes.specs.Fips197.{key_expansion}
 use Rattle.cbc.specs.Cbc.{chained, unchained}
 use Rattle.cbc.proofs.examples.cbc_128_example.Goals as goal
 
@@ -27,11 +28,13 @@ pub returns-clause-encrypted : goal.returns-clause-encrypted
 unfolding bytes build build_from add_round_key chained
 returns-clause-encrypted c =
     let known = c.ciphered_blocks.ensures in
-    ap (λ x. x ∷ cipher_with w (add_round_key text_2 x) ∷ []) known.first ∙ ap (λ x. chained_1 ∷ x ∷ []) known.second
+    ap (λ x. x ∷ cipher_with w (add_round_key text_2 x) ∷ []) known.first
+    ∙ ap (λ x. chained_1 ∷ x ∷ []) known.second
 
 pub returns-clause-decrypted : goal.returns-clause-decrypted
 unfolding bytes build build_from add_round_key unchained
 returns-clause-decrypted c =
     let known = c.ciphered_blocks.ensures in
-    ap (λ x. add_round_key x iv ∷ add_round_key (inv_cipher_with w chained_2) chained_1 ∷ []) known.first_back
+    ap (λ x. add_round_key x iv ∷ add_round_key (inv_cipher_with w chained_2) chained_1 ∷ [])
+    known.first_back
     ∙ ap (λ x. text_1 ∷ add_round_key x chained_1 ∷ []) known.second_back

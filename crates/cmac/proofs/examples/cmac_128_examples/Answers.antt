@@ -22,7 +22,8 @@ abbrev forty : List ℕ
 forty = two ++ bytes 8 0x30c81c46a35ce411
 
 abbrev sixty_four : List ℕ
-sixty_four = two ++ bytes 16 0x30c81c46a35ce411e5fbc1191a0a52ef ++ bytes 16 0xf69f2445df4f9b17ad2b417be66c3710
+sixty_four = two ++ bytes 16 0x30c81c46a35ce411e5fbc1191a0a52ef
+    ++ bytes 16 0xf69f2445df4f9b17ad2b417be66c3710
 
 pub returns-clause-first_subkey : goal.returns-clause-first_subkey
 unfolding bytes build build_from subkey_1 doubled_block
@@ -30,7 +31,8 @@ returns-clause-first_subkey c = ap doubled_block c.encrypted_blocks.ensures.zero
 
 pub returns-clause-second_subkey : goal.returns-clause-second_subkey
 unfolding bytes build build_from subkey_2 subkey_1 doubled_block
-returns-clause-second_subkey c = ap (λ l. doubled_block (doubled_block l)) c.encrypted_blocks.ensures.zeros
+returns-clause-second_subkey c =
+    ap (λ l. doubled_block (doubled_block l)) c.encrypted_blocks.ensures.zeros
 
 pub returns-clause-of_0 : goal.returns-clause-of_0
 unfolding bytes build build_from add_round_key before_last last_by doubled_block chained
@@ -58,5 +60,6 @@ returns-clause-of_64 c =
     let known = c.encrypted_blocks.ensures in
     by_steps w sixty_four zeros_of (bytes 16 0xc93d11bfaf08c5dc4d90b37b4dee002b) known.zeros
     (next_step w sixty_four (bytes 16 0xb148c17f309ee692287ae57cf12add49) 2
-    (next_step w sixty_four (bytes 16 0x3ad77bb40d7a3660a89ecaf32466ef97) 1 known.first ∙ known.second) ∙ known.third)
+    (next_step w sixty_four (bytes 16 0x3ad77bb40d7a3660a89ecaf32466ef97) 1 known.first
+    ∙ known.second) ∙ known.third)
     ∙ known.of_64

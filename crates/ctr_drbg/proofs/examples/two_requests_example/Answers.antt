@@ -1,9 +1,9 @@
 -- What is left to show of `examples::two_requests_example`.
-use Rattle.std.proofs.Common.{◌≡◌, ℕ, List, [], ◌∙◌, ap, take, replicate}
+use Rattle.std.proofs.Common.{ap, take, replicate}
 use Rattle.aes_planes.specs.BigEndian.{bytes}
 use Rattle.aes_planes.specs.Fips197.{build, build_from}
-use Rattle.ctr_drbg.specs.CtrDrbg.{State, padded, exclusive_or, next_v, v_after, temp_after, turns, output, instantiate}
-use Rattle.ctr_drbg.specs.CtrDrbg.{prepared, returned_bits, generate}
+use Rattle.ctr_drbg.specs.CtrDrbg.{State, padded, exclusive_or, next_v, v_after, temp_after, turns}
+use Rattle.ctr_drbg.specs.CtrDrbg.{output, instantiate, prepared, returned_bits, generate}
 use Rattle.ctr_drbg.proofs.OnLiterals.{updated_by}
 use Rattle.ctr_drbg.proofs.examples.two_requests_example.Goals as goal
 
@@ -21,7 +21,8 @@ unfolding bytes build build_from padded exclusive_or next_v v_after turns prepar
 returns-clause-first c =
     let known = c.encrypted_blocks.ensures in
     let count : State → State = λ s. record s { reseed_counter = 2 } in
-    ap count (updated_by (bytes 32 0x8c52f901632d522774c08fad0eb2c33b98a701a1861aecf3d8a25860941709fd)
+    ap count (updated_by
+    (bytes 32 0x8c52f901632d522774c08fad0eb2c33b98a701a1861aecf3d8a25860941709fd)
     (v_after (bytes 16 0x217b52142105250243c0b2c206b8f59e) 4) (replicate 48 0)
     (bytes 16 0x72f4af5c93258eb3eeec8c0cacea6c1d) (bytes 16 0x1978a4fad44312725f1ac43b167f2d52)
     (bytes 16 0xe86f6d07dfb551cebad80e6bf6830ac4) 1 known.five known.six known.seven)

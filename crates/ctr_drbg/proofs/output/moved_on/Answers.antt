@@ -10,6 +10,7 @@ returns c =
     let v = c.args.v.now in
     let number = c.number_of_block.ensures in
     let count : c.div_ceil.result ≡ (c.args.bytes + 15) / 16 = omega (arith, c.div_ceil.ensures) in
-    v_after_any v c.block_of_number.result c.div_ceil.result c.number_of_block.result c.block_of_number.ensures.block
+    v_after_any v c.block_of_number.result c.div_ceil.result c.number_of_block.result
+    c.block_of_number.ensures.block
     number.number number.back (omega arith)
     ∙ ap (v_after v) count

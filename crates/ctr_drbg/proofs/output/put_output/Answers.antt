@@ -1,5 +1,5 @@
 -- What is left to show of `output::put_output`.
-use Rattle.std.proofs.Common.{◌≡◌, ℕ, List, ◌∙◌, ap, replicate, length}
+use Rattle.std.proofs.Common.{◌≡◌, ◌∙◌, ap, replicate, length}
 use Rattle.ctr_drbg.specs.CtrDrbg.{exclusive_or, output}
 use Rattle.ctr_drbg.proofs.Keystream.{output_plus_zeros}
 use Rattle.ctr_drbg.proofs.output.put_output.Goals as goal

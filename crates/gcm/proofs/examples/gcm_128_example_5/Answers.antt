@@ -15,7 +15,8 @@ pub returns-clause-text : goal.returns-clause-text
 unfolding gcm_on_literals
 returns-clause-text c =
     let known = c.encrypted_blocks_5.ensures in
-    text_of iv first _ _ _ _ c.encrypted_blocks_4.ensures.zeros c.pre_counter_examples.ensures.eight known.text_0
+    text_of iv first _ _ _ _ c.encrypted_blocks_4.ensures.zeros
+    c.pre_counter_examples.ensures.eight known.text_0
     known.text_1 known.text_2 known.text_3
 
 pub returns-clause-tag : goal.returns-clause-tag

@@ -9,7 +9,8 @@ use Rattle.gcm.proofs.gctr.add_gctr.Goals as goal
 
 pub returns-then-bytes-eq0 : goal.returns-then-bytes-eq0
 returns-then-bytes-eq0 g c =
-    none_added (gctr_byte (g.C.RoundKeysUser.round_keys c.args.cipher.now) (from_be_bytes w128 c.args.first.now)) c.args.position
+    none_added (gctr_byte (g.C.RoundKeysUser.round_keys c.args.cipher.now)
+    (from_be_bytes w128 c.args.first.now)) c.args.position
     c.args.bytes.now c.if-bytes-eq0.true
 
 pub returns-else-position-bytes : goal.returns-else-position-bytes
@@ -21,12 +22,15 @@ returns-else-position-bytes g c =
     let b : List ℕ = c.split_at_mut-inside.result.1.now in
     joined_runs (gctr_byte w x) p c.args.bytes.now a b _ _ c.split_at_mut-inside.ensures.value
     (c.add_keystream-else-position-bytes.ensures
-    ∙ before_wrap w c.args.first.now x p a (sym c.number_of_block-number.ensures.number) (omega arith) (omega arith))
+    ∙ before_wrap w c.args.first.now x p a (sym c.number_of_block-number.ensures.number)
+    (omega arith) (omega arith))
     (c.add_keystream-else-position-bytes-2.ensures
     ∙ beyond_wrap w _ x _ (p + length a) b
-    (ap (from_be_bytes w128) (one_block_of _ _ _ _ _ (c.value_mut.ensures.value ∙ c.zeroed-wrapped.ensures) c.value.ensures)
+    (ap (from_be_bytes w128)
+    (one_block_of _ _ _ _ _ (c.value_mut.ensures.value ∙ c.zeroed-wrapped.ensures) c.value.ensures)
     ∙ c.block_of_number.ensures.back) (omega arith) (omega arith) (omega arith))
-    ∙ ap (λ n. plus_stream (gctr_byte w n) p c.args.bytes.now) c.number_of_block-number.ensures.number
+    ∙ ap (λ n. plus_stream (gctr_byte w n) p c.args.bytes.now)
+    c.number_of_block-number.ensures.number
 
 pub returns-then-position-bytes : goal.returns-then-position-bytes
 returns-then-position-bytes g c =
@@ -34,5 +38,7 @@ returns-then-position-bytes g c =
     let x : ℕ = c.number_of_block-number.result in
     let p : ℕ = c.args.position in
     c.add_keystream.ensures
-    ∙ before_wrap w c.args.first.now x p c.args.bytes.now (sym c.number_of_block-number.ensures.number) (omega arith) (omega arith)
-    ∙ ap (λ n. plus_stream (gctr_byte w n) p c.args.bytes.now) c.number_of_block-number.ensures.number
+    ∙ before_wrap w c.args.first.now x p c.args.bytes.now
+    (sym c.number_of_block-number.ensures.number) (omega arith) (omega arith)
+    ∙ ap (λ n. plus_stream (gctr_byte w n) p c.args.bytes.now)
+    c.number_of_block-number.ensures.number

@@ -1,5 +1,6 @@
 -- What is left to show of `hash::hash_piece`.
-use Rattle.std.proofs.Common.{◌≡◌, ℕ, ◌+◌, ◌-◌, ◌*◌, ◌/◌, ◌≤◌, ◌∙◌, List, ◌++◌, ap, arith, bit_xor, length, length-take, length-drop, subst, sym, take, drop}
+use Rattle.std.proofs.Common.{◌≡◌, ℕ, ◌+◌, ◌-◌, ◌*◌, ◌/◌, ◌≤◌, ◌∙◌, List, ◌++◌, ap, arith, bit_xor}
+use Rattle.std.proofs.Common.{length, length-take, length-drop, subst, sym, take, drop}
 use Rattle.std.proofs.lemmas.List.{take-append-drop, take_all}
 use Rattle.std.proofs.lemmas.Slice.{take-put_mid}
 use Rattle.std.proofs.Math.Seq.{take-append_seam}
@@ -17,9 +18,11 @@ returns-then-bytes-filled c y s places is =
     let f : ℕ = c.args.filled in
     let copied : List ℕ = c.copy_from_slice.new.self in
     let same : copied ≡ b = c.copy_from_slice.ensures.after in
-    unfilled c.args.multiples.now y c.args.value s rest b _ is (omega (arith, places, c.if-bytes-filled.true))
+    unfilled c.args.multiples.now y c.args.value s rest b _ is
+    (omega (arith, places, c.if-bytes-filled.true))
     (ap (λ n. take (n + length b) (put_mid f (f + length b - f) rest copied)) places
-    ∙ take-put_mid f (f + length b - f) rest copied (f + length b) (omega (arith, ap length same)) (omega arith)
+    ∙ take-put_mid f (f + length b - f) rest copied (f + length b) (omega (arith, ap length same))
+    (omega arith)
     ∙ (λ t. take (sym places t) rest ++ same t))
 
 pub returns : goal.returns
@@ -37,7 +40,14 @@ returns c y s places is =
     let same : copied ≡ first = c.copy_from_slice-2.ensures.after in
     let sized : length block ≡ length rest =
     same_len_mid f (16 - f) rest copied
-    (omega (arith, ap length same, c.split_at.ensures.front_len, length-take (16 - f) (drop f rest), length-drop f rest)) in
+    (omega (
+      arith,
+      ap length same,
+      c.split_at.ensures.front_len,
+      length-take (16 - f)
+          (drop f rest),
+      length-drop f rest,
+    )) in
     let long : length block ≤ 16 = omega (arith, sized) in
     let copied_last : List ℕ = c.copy_from_slice-3.new.self in
     let same_last : copied_last ≡ last = c.copy_from_slice-3.ensures.after in
@@ -45,18 +55,25 @@ returns c y s places is =
     let others_is : others ≡ drop (16 - f) b = c.split_at.ensures.back in
     let whole_is : whole ≡ take (length others / 16 * 16) others = c.split_at-2.ensures.front in
     let last_is : last ≡ drop (length others / 16 * 16) others = c.split_at-2.ensures.back in
-    let value : c.hash_on.result ≡ hashed h (product (bit_xor c.args.value (from_be_bytes w128 block)) h) (padded whole)
+    let value : c.hash_on.result
+    ≡ hashed h (product (bit_xor c.args.value (from_be_bytes w128 block)) h) (padded whole)
     (length (padded whole) / 16) =
     c.hash_on.ensures ∙ ap (λ v. hashed h v (padded whole) (length (padded whole) / 16))
-    (c.product-value.ensures ∙ ap (λ n. product (bit_xor c.args.value n) h) c.number_of_block.ensures.number) in
+    (c.product-value.ensures
+    ∙ ap (λ n. product (bit_xor c.args.value n) h) c.number_of_block.ensures.number) in
     let tail : List ℕ = post_of 0 (length last) block in
     let P : ℕ → Type 0 = λ v. IsHashing h y (s ++ b) v (copied_last ++ tail) in
     subst P (sym value)
     (three_parts h y c.args.value s rest b first whole last block (copied_last ++ tail) is
     (sym ((λ t. first_is t ++ ((λ u. whole_is u ++ last_is u)
-    ∙ take-append-drop (length others / 16 * 16) others ∙ others_is) t) ∙ take-append-drop (16 - f) b))
+    ∙ take-append-drop (length others / 16 * 16) others ∙ others_is) t)
+    ∙ take-append-drop (16 - f) b))
     (omega (arith, places, c.split_at.ensures.front_len))
-    (sym (take_all 16 block long) ∙ take-put_mid f (16 - f) rest copied 16 (omega (arith, ap length same, c.split_at.ensures.front_len)) (omega arith)
+    (sym (take_all 16 block long)
+    ∙ take-put_mid f (16 - f) rest copied 16
+    (omega (arith, ap length same, c.split_at.ensures.front_len)) (omega arith)
     ∙ (λ t. take (sym places t) rest ++ same t))
-    (omega (arith, c.split_at-2.ensures.front_len)) (omega (arith, c.split_at-2.ensures.front_len, c.split_at-2.ensures.back_len))
-    (sym (ap (λ l. take (length l) (copied_last ++ tail)) same_last) ∙ take-append_seam copied_last tail ∙ same_last))
+    (omega (arith, c.split_at-2.ensures.front_len))
+    (omega (arith, c.split_at-2.ensures.front_len, c.split_at-2.ensures.back_len))
+    (sym (ap (λ l. take (length l) (copied_last ++ tail)) same_last)
+    ∙ take-append_seam copied_last tail ∙ same_last))

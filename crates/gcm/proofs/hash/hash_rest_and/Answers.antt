@@ -14,17 +14,21 @@ returns-then-left-eq0 g c y is =
     let whole = whole_as number h y (from_be_bytes w128 c.args.before) c.args.i c.args.bytes.now is
     (omega (arith, c.if-left-eq0.true)) (omega (arith, c.if-left-eq0.true)) in
     c.block_product.ensures
-    ∙ ap (λ v. product v h) (c.sum.ensures ∙ ap (λ v. bit_xor v (from_be_bytes w128 c.args.end)) whole)
+    ∙ ap (λ v. product v h)
+    (c.sum.ensures ∙ ap (λ v. bit_xor v (from_be_bytes w128 c.args.end)) whole)
 
 pub returns-then-left-le16 : goal.returns-then-left-le16
 returns-then-left-le16 g c y is =
     let number = g.O.ByteOrder.number in
     let h : ℕ = c.args.multiples.now in
     let e : ℕ = from_be_bytes w128 c.args.end in
-    let rest = with_rest number h y (from_be_bytes w128 c.args.before) c.args.i (from_be_bytes w128 c.last_block.result)
+    let rest = with_rest number h y (from_be_bytes w128 c.args.before) c.args.i
+    (from_be_bytes w128 c.last_block.result)
     c.args.bytes.now _ is
-    (omega (arith, c.if-left-le16.true)) (omega (arith, c.if-left-eq0.false)) refl c.last_block.ensures in
-    c.two_products.ensures ∙ ap (λ v. product (bit_xor v e) h) (ap (λ v. product v h) c.sum-last.ensures ∙ rest)
+    (omega (arith, c.if-left-le16.true)) (omega (arith, c.if-left-eq0.false))
+    refl c.last_block.ensures in
+    c.two_products.ensures
+    ∙ ap (λ v. product (bit_xor v e) h) (ap (λ v. product v h) c.sum-last.ensures ∙ rest)
 
 pub returns-then-left-le32 : goal.returns-then-left-le32
 unfolding hashed_as
@@ -35,13 +39,15 @@ returns-then-left-le32 g c y is =
     let i : ℕ = c.args.i in
     let e : ℕ = from_be_bytes w128 c.args.end in
     let more : 16 * i + 16 ≡ 16 * suc i = omega arith in
-    let rest = with_rest number h y (hashed_as number h y x (suc i)) (suc i) (from_be_bytes w128 c.last_block-last.result) x _ refl
+    let rest = with_rest number h y (hashed_as number h y x (suc i)) (suc i)
+    (from_be_bytes w128 c.last_block-last.result) x _ refl
     (omega (arith, c.if-left-le32.true)) (omega (arith, c.if-left-le16.false))
     (ap (λ a. slice_range x a (length x)) more) c.last_block-last.ensures in
     let first = c.sum-first.ensures ∙ (λ t. bit_xor (is t) (c.block_at.ensures t)) in
     c.three_products.ensures
     ∙ ap (λ v. product (bit_xor v e) h)
-    (ap (λ v. product (bit_xor (product v h) (from_be_bytes w128 c.last_block-last.result)) h) first ∙ rest)
+    (ap (λ v. product (bit_xor (product v h) (from_be_bytes w128 c.last_block-last.result)) h)
+    first ∙ rest)
 
 pub returns : goal.returns
 returns g c y is =
@@ -49,4 +55,5 @@ returns g c y is =
     let h : ℕ = c.args.multiples.now in
     let e : ℕ = from_be_bytes w128 c.args.end in
     c.block_product-2.ensures
-    ∙ ap (λ v. product v h) (c.sum-2.ensures ∙ ap (λ v. bit_xor v e) (c.hash_rest-value.ensures y is))
+    ∙ ap (λ v. product v h) (c.sum-2.ensures
+    ∙ ap (λ v. bit_xor v e) (c.hash_rest-value.ensures y is))

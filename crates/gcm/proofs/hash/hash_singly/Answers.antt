@@ -1,5 +1,6 @@
 -- What is left to show of `hash::hash_singly`.
-use Rattle.std.proofs.Common.{◌≡◌, ℕ, suc, ◌+◌, ◌-◌, ◌*◌, ◌/◌, ◌%◌, ◌∙◌, ap, arith, bit_xor, length, List, refl}
+use Rattle.std.proofs.Common.{◌≡◌, ℕ, suc, ◌+◌, ◌-◌, ◌*◌, ◌/◌, ◌%◌, ◌∙◌, ap, arith, bit_xor, length}
+use Rattle.std.proofs.Common.{List, refl}
 use Rattle.std.specs.Int.{w128, from_be_bytes}
 use Rattle.std.specs.List.{slice_range}
 use Rattle.gcm.specs.Gcm.{product}
@@ -18,12 +19,14 @@ loop-i-preserved g c =
     let x : List ℕ = c.args.bytes.now in
     let more : suc c.loop-i.i ≡ c.loop-i.i + 1 = omega arith in
     c.product-hashed.ensures
-    ∙ ap (λ v. product v h) (c.sum.ensures ∙ (λ t. bit_xor (c.loop-i.invariant t) (c.block_at.ensures t)))
+    ∙ ap (λ v. product v h)
+    (c.sum.ensures ∙ (λ t. bit_xor (c.loop-i.invariant t) (c.block_at.ensures t)))
     ∙ ap (hashed_as g.O.ByteOrder.number h (from_be_bytes w128 c.args.value) x) more
 
 pub returns-then-over-eq0 : goal.returns-then-over-eq0
 returns-then-over-eq0 g c =
-    whole_as g.O.ByteOrder.number c.args.table.now (from_be_bytes w128 c.args.value) (from_be_bytes w128 c.loop-i.hashed) c.loop-i.i
+    whole_as g.O.ByteOrder.number c.args.table.now (from_be_bytes w128 c.args.value)
+    (from_be_bytes w128 c.loop-i.hashed) c.loop-i.i
     c.args.bytes.now c.loop-i.invariant (omega arith) (omega (arith, c.if-over-eq0.true))
 
 pub returns : goal.returns
@@ -32,6 +35,8 @@ returns g c =
     let x : List ℕ = c.args.bytes.now in
     let from : length x - length x % 16 ≡ 16 * c.loop-i.i = omega arith in
     c.product.ensures ∙ ap (λ v. product v h) c.sum-end.ensures
-    ∙ with_rest g.O.ByteOrder.number h (from_be_bytes w128 c.args.value) (from_be_bytes w128 c.loop-i.hashed) c.loop-i.i _ x _
-    c.loop-i.invariant (omega arith) (omega (arith, c.if-over-eq0.false)) (ap (λ a. slice_range x a (length x)) from)
+    ∙ with_rest g.O.ByteOrder.number h (from_be_bytes w128 c.args.value)
+    (from_be_bytes w128 c.loop-i.hashed) c.loop-i.i _ x _
+    c.loop-i.invariant (omega arith) (omega (arith, c.if-over-eq0.false))
+    (ap (λ a. slice_range x a (length x)) from)
     c.last_block-last.ensures

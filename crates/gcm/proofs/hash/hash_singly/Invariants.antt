@@ -6,4 +6,5 @@ use Rattle.gcm.proofs.hash.hash_singly.Given as goal
 
 abbrev pub invariant-loop-i : goal.invariant-loop-i
 invariant-loop-i g l =
-    from_be_bytes w128 l.hashed ≡ hashed_as g.O.ByteOrder.number l.table (from_be_bytes w128 l.fn.value) l.bytes l.i
+    from_be_bytes w128 l.hashed ≡ hashed_as g.O.ByteOrder.number l.table
+    (from_be_bytes w128 l.fn.value) l.bytes l.i

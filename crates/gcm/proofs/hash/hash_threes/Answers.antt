@@ -1,5 +1,6 @@
 -- What is left to show of `hash::hash_threes`.
-use Rattle.std.proofs.Common.{◌≡◌, ℕ, suc, ◌+◌, ◌*◌, ◌/◌, ◌∙◌, ap, arith, length, bit_xor, List, refl}
+use Rattle.std.proofs.Common.{◌≡◌, ℕ, suc, ◌+◌, ◌*◌, ◌/◌, ◌∙◌, ap, arith, length, bit_xor, List}
+use Rattle.std.proofs.Common.{refl}
 use Rattle.std.specs.Int.{w128, from_be_bytes}
 use Rattle.gcm.specs.Gcm.{product}
 use Rattle.gcm.specs.Hashed.{hashed_as, number_at}
@@ -19,7 +20,8 @@ loop-i-preserved g c =
     let one : i + 1 ≡ suc i = omega arith in
     let two : i + 2 ≡ suc (suc i) = omega arith in
     let more : suc (suc (suc i)) ≡ 3 * (c.loop-i.i + 1) = omega arith in
-    let first = c.sum-first.ensures ∙ (λ t. bit_xor (c.loop-i.invariant t) (c.block_at.ensures t)) in
+    let first = c.sum-first.ensures
+    ∙ (λ t. bit_xor (c.loop-i.invariant t) (c.block_at.ensures t)) in
     c.three_products-value.ensures
     ∙ (λ t. product (bit_xor (product (bit_xor (product (first t) h)
     ((c.block_at-second.ensures ∙ ap (number_at number x) one) t)) h)
@@ -30,4 +32,5 @@ pub returns : goal.returns
 returns g c =
     let end : 3 * c.loop-i.i ≡ 3 * (length c.args.bytes.now / 48) = omega arith in
     c.loop-i.invariant
-    ∙ ap (hashed_as g.O.ByteOrder.number c.args.multiples.now (from_be_bytes w128 c.args.value) c.args.bytes.now) end
+    ∙ ap (hashed_as g.O.ByteOrder.number c.args.multiples.now
+    (from_be_bytes w128 c.args.value) c.args.bytes.now) end

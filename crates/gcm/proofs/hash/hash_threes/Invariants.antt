@@ -6,4 +6,5 @@ use Rattle.gcm.proofs.hash.hash_threes.Given as goal
 
 abbrev pub invariant-loop-i : goal.invariant-loop-i
 invariant-loop-i g l =
-    from_be_bytes w128 l.value ≡ hashed_as g.O.ByteOrder.number l.multiples (from_be_bytes w128 l.fn.value) l.bytes (3 * l.i)
+    from_be_bytes w128 l.value ≡ hashed_as g.O.ByteOrder.number l.multiples
+    (from_be_bytes w128 l.fn.value) l.bytes (3 * l.i)

@@ -8,4 +8,5 @@ pub returns : goal.returns
 returns g c =
     let w = g.C.RoundKeysUser.round_keys c.args.cipher.now in
     c.encrypt_block.ensures
-    ∙ ap (cipher_with w) (sym c.number_of_block.ensures.back ∙ ap (to_be_bytes w128) c.number_of_block.ensures.number)
+    ∙ ap (cipher_with w) (sym c.number_of_block.ensures.back
+    ∙ ap (to_be_bytes w128) c.number_of_block.ensures.number)

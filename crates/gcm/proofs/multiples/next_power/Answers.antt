@@ -6,4 +6,5 @@ use Rattle.gcm.proofs.multiples.next_power.Goals as goal
 
 pub returns : goal.returns
 returns c =
-    c.number_of.ensures ∙ c.product.ensures ∙ ap (λ x. product x (subkey_in c.args.rows.now)) c.vector_of.ensures.back
+    c.number_of.ensures ∙ c.product.ensures
+    ∙ ap (λ x. product x (subkey_in c.args.rows.now)) c.vector_of.ensures.back

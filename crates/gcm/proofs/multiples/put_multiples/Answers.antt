@@ -11,10 +11,12 @@ next_power-h3-requires-clause-table c = is_table c.args.h _ c.put_table.ensures 
 
 pub returns-clause-multiples : goal.returns-clause-multiples
 returns-clause-multiples c =
-    has_multiples _ c.args.h (written c.args.h _ _ _ _ _ (omega arith) c.put_table.ensures c.put_table-2.ensures
+    has_multiples _ c.args.h
+    (written c.args.h _ _ _ _ _ (omega arith) c.put_table.ensures c.put_table-2.ensures
     c.put_table-3.ensures c.next_power-h2.ensures c.next_power-h3.ensures) (omega arith)
 
 pub returns-clause-subkey : goal.returns-clause-subkey
 returns-clause-subkey c =
-    room_block _ c.args.h (written c.args.h _ _ _ _ _ (omega arith) c.put_table.ensures c.put_table-2.ensures
+    room_block _ c.args.h
+    (written c.args.h _ _ _ _ _ (omega arith) c.put_table.ensures c.put_table-2.ensures
     c.put_table-3.ensures c.next_power-h2.ensures c.next_power-h3.ensures) (omega arith)

@@ -8,4 +8,5 @@ pub returns : goal.returns
 unfolding reduced folded
 returns c =
     c.sum.ensures
-    ∙ ap (bit_xor (from_be_bytes w128 c.args.first)) (c.vector_of.ensures.back ∙ ap folded c.number_of-over.ensures)
+    ∙ ap (bit_xor (from_be_bytes w128 c.args.first))
+    (c.vector_of.ensures.back ∙ ap folded c.number_of-over.ensures)

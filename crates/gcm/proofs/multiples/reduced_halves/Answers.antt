@@ -7,12 +7,15 @@ use Rattle.gcm.proofs.multiples.reduced_halves.Goals as goal
 pub returns : goal.returns
 returns c =
     let first : from_be_bytes w128 c.sum.result
-    ≡ bit_xor (from_be_bytes w128 (take 16 c.args.first)) (from_be_bytes w128 (drop 16 c.args.first) / 2 ^ 64) =
+    ≡ bit_xor (from_be_bytes w128 (take 16 c.args.first))
+    (from_be_bytes w128 (drop 16 c.args.first) / 2 ^ 64) =
     c.sum.ensures
     ∙ (λ t. bit_xor (from_be_bytes w128 (c.lower.ensures t))
     ((c.after_eight_zeros.ensures ∙ ap (λ l. from_be_bytes w128 l / 2 ^ 64) c.upper.ensures) t)) in
-    let second : from_be_bytes w128 c.sum-2.result ≡ bit_xor (from_be_bytes w128 (take 16 c.args.second))
-    (from_be_bytes w128 (drop 16 c.args.first) % 2 ^ 64 * 2 ^ 64 + from_be_bytes w128 (drop 16 c.args.second) / 2 ^ 64) =
+    let second : from_be_bytes w128 c.sum-2.result
+    ≡ bit_xor (from_be_bytes w128 (take 16 c.args.second))
+    (from_be_bytes w128 (drop 16 c.args.first) % 2 ^ 64 * 2 ^ 64
+    + from_be_bytes w128 (drop 16 c.args.second) / 2 ^ 64) =
     c.sum-2.ensures
     ∙ (λ t. bit_xor (from_be_bytes w128 (c.lower-2.ensures t))
     ((c.after_last_eight.ensures ∙ (λ u. from_be_bytes w128 (c.upper-2.ensures u) % 2 ^ 64 * 2 ^ 64

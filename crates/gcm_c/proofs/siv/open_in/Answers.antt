@@ -11,12 +11,14 @@ pub returns-clause-accepted : goal.returns-clause-accepted
 unfolding tag text
 returns-clause-accepted g c =
     let n = c.args.siv.now.key_length in
-    let h : ℕ = from_le_bytes w128 (authentication_key (siv_key_in c.args.siv.now) c.args.nonce.now) in
+    let h : ℕ = from_le_bytes w128
+    (authentication_key (siv_key_in c.args.siv.now) c.args.nonce.now) in
     let right = c.open-is_right.ensures.accepted h c.prepare.ensures.small
     (ap g.R.PolyvalRoom.element c.value-2.ensures ∙ c.prepare.ensures.authentication) in
     let same = ap (λ k. tag_under (key_expansion k) h c.args.nonce.now c.args.additional.now
     (text_under (key_expansion k) c.args.tag.now c.args.text.now))
-    (c.new.ensures ∙ ap key_of_lanes (c.keys_in_room-keys.ensures.keys ∙ ap (stored_keys n) c.value.ensures)
+    (c.new.ensures ∙ ap key_of_lanes (c.keys_in_room-keys.ensures.keys
+    ∙ ap (stored_keys n) c.value.ensures)
     ∙ c.prepare.ensures.encryption) in
     (λ e. right.0 e ∙ same, λ is. right.1 (is ∙ sym same))
 
@@ -26,5 +28,6 @@ returns-clause-decrypted g c = λ yes.
     let n = c.args.siv.now.key_length in
     c.open-is_right.ensures.decrypted yes
     ∙ ap (λ k. text_under (key_expansion k) c.args.tag.now c.args.text.now)
-    (c.new.ensures ∙ ap key_of_lanes (c.keys_in_room-keys.ensures.keys ∙ ap (stored_keys n) c.value.ensures)
+    (c.new.ensures ∙ ap key_of_lanes (c.keys_in_room-keys.ensures.keys
+    ∙ ap (stored_keys n) c.value.ensures)
     ∙ c.prepare.ensures.encryption)

@@ -11,11 +11,13 @@ pub returns-clause-tag : goal.returns-clause-tag
 unfolding tag
 returns-clause-tag g c =
     let n = c.args.siv.now.key_length in
-    let h : ℕ = from_le_bytes w128 (authentication_key (siv_key_in c.args.siv.now) c.args.nonce.now) in
+    let h : ℕ = from_le_bytes w128
+    (authentication_key (siv_key_in c.args.siv.now) c.args.nonce.now) in
     c.seal-tag.ensures.tag h c.prepare.ensures.small
     (ap g.R.PolyvalRoom.element c.value-2.ensures ∙ c.prepare.ensures.authentication)
     ∙ ap (λ k. tag_under (key_expansion k) h c.args.nonce.now c.args.additional.now c.args.text.now)
-    (c.new.ensures ∙ ap key_of_lanes (c.keys_in_room-keys.ensures.keys ∙ ap (stored_keys n) c.value.ensures)
+    (c.new.ensures ∙ ap key_of_lanes (c.keys_in_room-keys.ensures.keys
+    ∙ ap (stored_keys n) c.value.ensures)
     ∙ c.prepare.ensures.encryption)
 
 pub returns-clause-encrypted : goal.returns-clause-encrypted
@@ -24,5 +26,6 @@ returns-clause-encrypted g c =
     let n = c.args.siv.now.key_length in
     c.seal-tag.ensures.text
     ∙ ap (λ k. text_under (key_expansion k) c.seal-tag.result c.args.text.now)
-    (c.new.ensures ∙ ap key_of_lanes (c.keys_in_room-keys.ensures.keys ∙ ap (stored_keys n) c.value.ensures)
+    (c.new.ensures ∙ ap key_of_lanes (c.keys_in_room-keys.ensures.keys
+    ∙ ap (stored_keys n) c.value.ensures)
     ∙ c.prepare.ensures.encryption)

@@ -1,10 +1,13 @@
 -- What is left to show of `examples::gcm_siv_128_example`.
-use Rattle.std.proofs.Common.{◌≡◌, ℕ, List, [], ◌++◌, take, ap, ◌∙◌, arith}
+use Rattle.std.proofs.Common.{◌≡◌, ℕ, List, [], ◌∷◌, ◌++◌, take, slice_index_or, ap, sym, ◌∙◌}
+use Rattle.std.proofs.Common.{arith}
 use Rattle.std.specs.Int.{w128, from_le_bytes}
 use Rattle.aes_planes.specs.BigEndian.{bytes}
-use Rattle.aes_planes.specs.Fips197.{key_expansion}
-use Rattle.gcm_siv.specs.GcmSiv.{authentication_key, encryption_key, tag_under, text_under, first_counter}
-use Rattle.gcm_siv.proofs.OnLiterals.{siv_on_literals, one_block_by}
+use Rattle.aes_planes.specs.Fips197.{cipher_with, key_expansion}
+use Rattle.aes_planes.proofs.Bits.ByteCases.{by_one}
+use Rattle.gcm_siv.specs.GcmSiv.{authentication_key, encryption_key, tag_under, text_under}
+use Rattle.gcm_siv.specs.GcmSiv.{first_counter, counter_block}
+use Rattle.gcm_siv.proofs.OnLiterals.{siv_on_literals, blocks_by}
 use Rattle.gcm_siv.proofs.examples.gcm_siv_128_example.Goals as goal
 
 abbrev key : List ℕ
@@ -19,15 +22,23 @@ plain = bytes 8 0x0100000000000000
 abbrev encrypting : List ℕ
 encrypting = bytes 16 0x4004a0dcd862f2a57360219d2d44ef6c
 
+abbrev start : List ℕ
+start = first_counter (bytes 16 0x578782fff6013b815b287c22493a364c)
+
+abbrev one : List (List ℕ)
+one = bytes 16 0xb4d839330ac7b786a779523a099ca598 ∷ []
+
 pub returns-clause-tag : goal.returns-clause-tag
 unfolding siv_on_literals
 returns-clause-tag c =
     let known = c.encrypted_blocks.ensures in
-    let authentication : authentication_key key nonce ≡ bytes 16 0xd9b360279694941ac5dbc6987ada7377 =
+    let authentication : authentication_key key nonce
+    ≡ bytes 16 0xd9b360279694941ac5dbc6987ada7377 =
     (λ t. take 8 (known.zero t) ++ take 8 (known.one t)) in
     let encryption : encryption_key key nonce ≡ encrypting =
     (λ t. take 8 (known.two t) ++ take 8 (known.three t) ++ []) in
-    (λ t. tag_under (key_expansion (encryption t)) (from_le_bytes w128 (authentication t)) nonce [] plain) ∙ known.tag
+    (λ t. tag_under (key_expansion (encryption t))
+    (from_le_bytes w128 (authentication t)) nonce [] plain) ∙ known.tag
 
 pub returns-clause-text : goal.returns-clause-text
 unfolding siv_on_literals
@@ -35,6 +46,9 @@ returns-clause-text c =
     let known = c.encrypted_blocks.ensures in
     let encryption : encryption_key key nonce ≡ encrypting =
     (λ t. take 8 (known.two t) ++ take 8 (known.three t) ++ []) in
-    ap (λ e. text_under (key_expansion e) (bytes 16 0x578782fff6013b815b287c22493a364c) plain) encryption
-    ∙ one_block_by (key_expansion encrypting) (first_counter (bytes 16 0x578782fff6013b815b287c22493a364c))
-    (bytes 16 0xb4d839330ac7b786a779523a099ca598) plain known.stream (omega arith)
+    ap (λ e. text_under (key_expansion e) (bytes 16 0x578782fff6013b815b287c22493a364c)
+    plain) encryption
+    ∙ blocks_by (key_expansion encrypting) start one plain
+    (by_one (λ m. slice_index_or one m [] ≡ cipher_with (key_expansion encrypting)
+    (counter_block start m)) (sym known.stream))
+    (omega arith)

@@ -7,4 +7,5 @@ pub returns : goal.returns
 unfolding text_under
 returns g c =
     c.add_keystream.ensures
-    ∙ ap (λ b. counter_mode (g.C.RoundKeysUser.round_keys c.args.cipher.now) b c.args.text.now) c.first_counter.ensures
+    ∙ ap (λ b. counter_mode (g.C.RoundKeysUser.round_keys c.args.cipher.now) b c.args.text.now)
+    c.first_counter.ensures

@@ -7,6 +7,7 @@ use Rattle.gcm_siv.proofs.message.put_tag.Goals as goal
 pub returns : goal.returns
 unfolding tag_input tag_under
 returns g c h small is =
-    c.encrypt_block.ensures ∙ ap (cipher_with (g.C.RoundKeysUser.round_keys c.args.cipher.now)) (c.tag_input.ensures
+    c.encrypt_block.ensures
+    ∙ ap (cipher_with (g.C.RoundKeysUser.round_keys c.args.cipher.now)) (c.tag_input.ensures
     ∙ ap (λ s. let block = add_round_key s (c.args.nonce.now ++ replicate 4 0) in
     take 15 block ++ slice_index block 15 % 128 ∷ []) (c.hash.ensures h small is))

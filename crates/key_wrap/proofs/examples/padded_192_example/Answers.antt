@@ -1,7 +1,8 @@
 -- What is left to show of `examples::padded_192_example`.
 use Rattle.std.proofs.Common.{◌∷◌, [], ap, drop, take}
 use Rattle.aes_planes.specs.BigEndian.{bytes}
-use Rattle.key_wrap.specs.Padded.{block_or_steps, filled, headed, heading, padded, semiblocks, wrapped_padded, wrapped_string}
+use Rattle.key_wrap.specs.Padded.{block_or_steps, filled, headed, heading, padded, semiblocks}
+use Rattle.key_wrap.specs.Padded.{wrapped_padded, wrapped_string}
 use Rattle.key_wrap.proofs.examples.padded_192_example.Goals as goal
 
 pub returns : goal.returns

@@ -2,7 +2,8 @@
 use Rattle.std.proofs.Common.{◌≡◌, ◌∷◌, ◌∙◌, ap, arith, refl, rules, subst, sym, take}
 use Rattle.std.proofs.lemmas.Nat.{from_be_bytes-to_be_bytes_4}
 use Rattle.std.specs.List.{concat}
-use Rattle.key_wrap.specs.Padded.{filled, heading, key_in, length_in, unwrapped_string, wrapped_padded, IsPadded}
+use Rattle.key_wrap.specs.Padded.{filled, heading, key_in, length_in, unwrapped_string}
+use Rattle.key_wrap.specs.Padded.{wrapped_padded, IsPadded}
 use Rattle.key_wrap.proofs.examples.padded_there_and_back.Goals as goal
 
 pub returns-in-Ok-clause-back : goal.returns-in-Ok-clause-back
@@ -11,10 +12,13 @@ returns-in-Ok-clause-back g c =
     let w = g.C.RoundKeysUser.round_keys c.args.cipher.now in
     let key = c.args.key.now in
     let fit = c.in_ok-wrap_padded.ensures.done.0 refl in
-    let law = c.padding_undone.ensures w key c.has_round_keys.ensures (search rules) fit.least fit.most in
-    let whole : heading c.in-Ok.count ∷ c.unwrap_padded.new.output ≡ unwrapped_string w (wrapped_padded w key) =
+    let law = c.padding_undone.ensures w key c.has_round_keys.ensures
+    (search rules) fit.least fit.most in
+    let whole : heading c.in-Ok.count ∷ c.unwrap_padded.new.output
+    ≡ unwrapped_string w (wrapped_padded w key) =
     c.in-Ok.ensures.key ∙ ap (unwrapped_string w) c.in_ok-wrap_padded.ensures.wrapped in
-    ap (λ n. take n (concat c.unwrap_padded.new.output)) (sym (from_be_bytes-to_be_bytes_4 c.in-Ok.count (omega arith)))
+    ap (λ n. take n (concat c.unwrap_padded.new.output))
+    (sym (from_be_bytes-to_be_bytes_4 c.in-Ok.count (omega arith)))
     ∙ ap key_in whole ∙ law.1
 
 pub returns-in-Err-clause-done : goal.returns-in-Err-clause-done
@@ -25,13 +29,15 @@ returns-in-Err-clause-done g c =
       λ e. absurd (cc e),
       λ both.
           let fit = both.0 in
-          let law = c.padding_undone.ensures w key c.has_round_keys.ensures (search rules) fit.least fit.most in
+          let law = c.padding_undone.ensures w key c.has_round_keys.ensures
+          (search rules) fit.least fit.most in
           c.in-Err.ensures.done.1 (
             record {
               least = omega (arith, both.1, fit.least);
               most = omega (arith, both.1, fit.most);
               sized = omega (arith, both.1, fit.sized);
             },
-            subst (λ s. IsPadded (unwrapped_string w s)) (sym c.in_ok-wrap_padded.ensures.wrapped) law.0,
+            subst (λ s. IsPadded (unwrapped_string w s))
+                (sym c.in_ok-wrap_padded.ensures.wrapped) law.0,
           ),
     )

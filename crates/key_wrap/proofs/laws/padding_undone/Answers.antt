@@ -12,6 +12,7 @@ returns c w key keys small some few =
     let long = headed_length key in
     let undone =
     string_undone w (λ b. c.inverse_ciphers_with.ensures.inv_after w b keys)
-    (λ b. c.sums_of_blocks.ensures.cipher w b keys) halves.block halves.first halves.second halves.back (headed key)
+    (λ b. c.sums_of_blocks.ensures.cipher w b keys)
+    halves.block halves.first halves.second halves.back (headed key)
     (headed_semiblocks key small) (omega (arith, long, some)) (omega (arith, long, few)) in
     subst (λ s. IsPadded s × (key_in s ≡ key)) (sym undone) (headed_found key some few)

@@ -19,7 +19,8 @@ loop-k-preserved g c =
     record {
       sized = length-set c.loop-k.halves i r ∙ c.loop-k.invariant.sized;
       state = ap (λ j. unwrapped_from w (a ∷ turned j (set c.loop-k.halves i r)) (at + j)) now
-          ∙ step_unwrapped w c.loop-k.check c.loop-k.halves i (at + i) (omega arith) a r c.unwrap_step.ensures.check c.unwrap_step.ensures.half
+          ∙ step_unwrapped w c.loop-k.check c.loop-k.halves i (at + i)
+          (omega arith) a r c.unwrap_step.ensures.check c.unwrap_step.ensures.half
           ∙ (λ j. unwrapped_from w (c.loop-k.check ∷ turned (next j) c.loop-k.halves) (n j))
           ∙ c.loop-k.invariant.state;
     }

@@ -8,4 +8,8 @@ unfolding wrapped_after
 loop-turn-init g c =
     let w = g.C.RoundKeysUser.round_keys c.args.cipher.now in
     let none : 0 * length c.args.halves.now ≡ 0 = omega arith in
-    record { sized = refl; state = ap (wrapped_after w (c.args.check.now ∷ c.args.halves.now)) none }
+    record {
+      sized = refl;
+      state =
+          ap (wrapped_after w (c.args.check.now ∷ c.args.halves.now)) none;
+    }

@@ -7,5 +7,6 @@ abbrev pub invariant-loop-turn : goal.invariant-loop-turn
 invariant-loop-turn g l =
     let w = g.C.RoundKeysUser.round_keys l.cipher in record {
       sized : length l.halves ≡ length l.fn.halves;
-      state : wrapped_after w (l.fn.check ∷ l.fn.halves) (l.turn * length l.fn.halves) ≡ l.check ∷ l.halves;
+      state : wrapped_after w (l.fn.check ∷ l.fn.halves) (l.turn * length l.fn.halves)
+          ≡ l.check ∷ l.halves;
     }

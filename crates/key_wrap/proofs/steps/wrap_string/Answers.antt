@@ -10,7 +10,8 @@ pub returns-then-halves-eq1 : goal.returns-then-halves-eq1
 unfolding wrapped_string
 returns-then-halves-eq1 g c =
     let w = g.C.RoundKeysUser.round_keys c.args.cipher.now in
-    as_block (cipher_with w) (wrapped_after w) c.args.check.now c.args.halves.now c.encrypt_halves.new.first c.encrypt_halves.new.second
+    as_block (cipher_with w) (wrapped_after w)
+    c.args.check.now c.args.halves.now c.encrypt_halves.new.first c.encrypt_halves.new.second
     c.if-halves-eq1.true c.encrypt_halves.ensures.first c.encrypt_halves.ensures.second
 
 pub returns-else-halves-eq1 : goal.returns-else-halves-eq1
@@ -18,5 +19,6 @@ unfolding wrapped_string
 returns-else-halves-eq1 g c =
     let w = g.C.RoundKeysUser.round_keys c.args.cipher.now in
     c.wrap_in_place.ensures
-    ∙ as_steps (cipher_with w) (wrapped_after w) (c.args.check.now ∷ c.args.halves.now) (length c.args.halves.now) (omega arith)
+    ∙ as_steps (cipher_with w) (wrapped_after w) (c.args.check.now ∷ c.args.halves.now)
+    (length c.args.halves.now) (omega arith)
     (λ two. c.if-halves-eq1.false (omega (arith, two)))

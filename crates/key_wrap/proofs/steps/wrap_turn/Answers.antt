@@ -14,6 +14,8 @@ loop-i-preserved g c =
       sized = length-set c.loop-i.halves i c.wrap_step.new.half ∙ c.loop-i.invariant.sized;
       state = λ s begun.
           ap (wrapped_after w s) n
-          ∙ step_wrapped w c.loop-i.check c.loop-i.halves i (at + i) (omega arith) c.wrap_step.new.check
-          c.wrap_step.new.half c.wrap_step.ensures.check c.wrap_step.ensures.half s (c.loop-i.invariant.state s begun);
+          ∙ step_wrapped w c.loop-i.check c.loop-i.halves i (at + i)
+          (omega arith) c.wrap_step.new.check
+          c.wrap_step.new.half c.wrap_step.ensures.check c.wrap_step.ensures.half s
+          (c.loop-i.invariant.state s begun);
     }

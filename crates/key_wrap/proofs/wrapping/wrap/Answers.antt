@@ -8,4 +8,5 @@ unfolding wrapped
 returns-in-Some-clause-wrapped g c =
     let w = g.C.RoundKeysUser.round_keys c.args.cipher.now in
     c.wrap_in_place.ensures
-    ∙ ap (λ key. wrapped_after w (integrity_check ∷ key) (6 * length key)) c.copy_from_slice.ensures.after
+    ∙ ap (λ key. wrapped_after w (integrity_check ∷ key) (6 * length key))
+    c.copy_from_slice.ensures.after

@@ -7,9 +7,11 @@ use Rattle.aes_permute.proofs.lanes.U8x32Lanes.permuted.Goals as goal
 
 pub swizzle : goal.swizzle
 swizzle c =
-    subst (SwzOk w8 16 32 0) (sym c.twice.ensures) (both_ok c.args.places (search rules) c.requires.are_indices)
+    subst (SwzOk w8 16 32 0) (sym c.twice.ensures)
+    (both_ok c.args.places (search rules) c.requires.are_indices)
 
 pub returns : goal.returns
 returns c i =
     ap (λ l. half (swz_l w8 16 c.args.self 0 l) i) c.twice.ensures
-    ∙ permuted_of_half c.args.self c.args.places i (search rules) (search rules) c.requires.are_indices
+    ∙ permuted_of_half c.args.self c.args.places i (search rules)
+    (search rules) c.requires.are_indices

@@ -1,8 +1,9 @@
 -- What is left to show of `rounds::DecryptLaneRounds::round`.
 use Rattle.std.proofs.Common.{refl, ap, map, ◌∙◌}
 use Rattle.aes_permute.specs.Stored.{inv_untower}
-use Rattle.aes_permute.specs.declared.tables.TheConstants.{INV_1_FIRST, INV_1_SECOND, INV_4_FIRST, INV_4_SECOND}
-use Rattle.aes_permute.specs.declared.tables.TheConstants.{INV_9_FIRST, INV_9_SECOND, INV_15_FIRST, INV_15_SECOND}
+use Rattle.aes_permute.specs.declared.tables.TheConstants.{INV_1_FIRST, INV_1_SECOND, INV_4_FIRST}
+use Rattle.aes_permute.specs.declared.tables.TheConstants.{INV_4_SECOND, INV_9_FIRST, INV_9_SECOND}
+use Rattle.aes_permute.specs.declared.tables.TheConstants.{INV_15_FIRST, INV_15_SECOND}
 use Rattle.aes_permute.proofs.Lookups.{summed}
 use Rattle.aes_permute.proofs.RoundLanes.{through_lanes}
 use Rattle.aes_permute.proofs.InverseLanes.{round_is}

@@ -9,6 +9,8 @@ use Rattle.aes_permute.proofs.rounds.EncryptLaneRounds.first.Goals as goal
 pub returns : goal.returns
 returns g c i =
     ap (map untower)
-    (c.looked_up_by_nibbles.ensures i ∙ ap (map (by_nibbles TOWER_LOW TOWER_HIGH)) (c.sum.ensures i))
-    ∙ first_is (g.L.Lanes.block c.args.blocks i) (g.L.Lanes.block c.args.key i) (c.are_blocks.ensures i)
+    (c.looked_up_by_nibbles.ensures i
+    ∙ ap (map (by_nibbles TOWER_LOW TOWER_HIGH)) (c.sum.ensures i))
+    ∙ first_is (g.L.Lanes.block c.args.blocks i) (g.L.Lanes.block c.args.key i)
+    (c.are_blocks.ensures i)
     (c.are_blocks-2.ensures i)

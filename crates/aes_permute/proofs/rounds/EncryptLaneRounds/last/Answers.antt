@@ -10,5 +10,6 @@ returns g c i =
     summed (c.sum.ensures i) (c.permuted.ensures i) refl
     ∙ last_is (g.L.Lanes.block c.args.x i) (g.L.Lanes.block c.args.key i) (c.are_blocks.ensures i)
     (c.are_blocks-2.ensures i).0
-    (through_lanes SBOX_FIRST SBOX_SECOND _ (c.places_of.ensures.first i) (c.places_of.ensures.second i)
+    (through_lanes SBOX_FIRST SBOX_SECOND _ (c.places_of.ensures.first i)
+    (c.places_of.ensures.second i)
     (c.looked_up-one.ensures i))

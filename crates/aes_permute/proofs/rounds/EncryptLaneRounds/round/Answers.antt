@@ -1,7 +1,8 @@
 -- What is left to show of `rounds::EncryptLaneRounds::round`.
 use Rattle.std.proofs.Common.{refl, ap, map, ◌∙◌}
 use Rattle.aes_permute.specs.Stored.{untower}
-use Rattle.aes_permute.specs.declared.tables.TheConstants.{ONE_FIRST, ONE_SECOND, TWO_FIRST, TWO_SECOND}
+use Rattle.aes_permute.specs.declared.tables.TheConstants.{ONE_FIRST, ONE_SECOND, TWO_FIRST}
+use Rattle.aes_permute.specs.declared.tables.TheConstants.{TWO_SECOND}
 use Rattle.aes_permute.proofs.Lookups.{summed}
 use Rattle.aes_permute.proofs.RoundLanes.{through_lanes, round_is}
 use Rattle.aes_permute.proofs.rounds.EncryptLaneRounds.round.Goals as goal
@@ -11,7 +12,8 @@ returns g c i =
     let f = c.places_of-at.ensures.first i in
     let s = c.places_of-at.ensures.second i in
     ap (map untower) (summed (c.sum.ensures i) (summed (c.sum-most.ensures i)
-    (summed (c.sum-with_key.ensures i) (c.permuted-fourth.ensures i) refl) (c.permuted-first.ensures i))
+    (summed (c.sum-with_key.ensures i) (c.permuted-fourth.ensures i) refl)
+    (c.permuted-first.ensures i))
     (c.permuted-second.ensures i))
     ∙ round_is (g.L.Lanes.block c.args.x i) (g.L.Lanes.block c.args.key i) (c.are_blocks.ensures i)
     (c.are_blocks-2.ensures i).0

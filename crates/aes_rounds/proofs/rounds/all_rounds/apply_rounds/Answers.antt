@@ -15,7 +15,8 @@ loop-number-preserved g c =
     let w = c.args.round_keys.now in
     let n = c.loop-number.number in
     let blocks = c.args.blocks.now in
-    let round : List ℕ → List ℕ = λ b. fips.add_round_key (g.D.Direction.step b) (fips.round_key w n) in
+    let round : List ℕ
+    → List ℕ = λ b. fips.add_round_key (g.D.Direction.step b) (fips.round_key w n) in
     let e : n ≡ n + 1 - 1 = omega arith in
     c.round.ensures ∙ ap (map round) c.loop-number.invariant
     ∙ map-map round (λ b. rounds_after g.D.Direction.step w b (n - 1)) blocks
@@ -32,6 +33,7 @@ returns g c =
     let blocks = c.args.blocks.now in
     let e : c.loop-number.number ≡ fips.last_round w = omega arith in
     c.add_round_key-2.ensures
-    ∙ ap (map add) (c.last_step.ensures ∙ ap (map last) (c.loop-number.invariant ∙ ap (λ n. map (after (n - 1)) blocks)
+    ∙ ap (map add) (c.last_step.ensures
+    ∙ ap (map last) (c.loop-number.invariant ∙ ap (λ n. map (after (n - 1)) blocks)
     e) ∙ map-map last (after (fips.last_round w - 1)) blocks)
     ∙ map-map add (λ b. last (after (fips.last_round w - 1) b)) blocks

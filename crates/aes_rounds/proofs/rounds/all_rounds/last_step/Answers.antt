@@ -8,5 +8,6 @@ pub returns : goal.returns
 returns g c =
     let blocks = c.args.blocks.now in
     let keyed : List ℕ → List ℕ = λ b. fips.add_round_key (g.D.Direction.step b) (replicate 16 0) in
-    c.unmix.ensures ∙ ap (map g.D.SingleRounds.unmixed) c.round.ensures ∙ map-map g.D.SingleRounds.unmixed keyed blocks
+    c.unmix.ensures ∙ ap (map g.D.SingleRounds.unmixed) c.round.ensures
+    ∙ map-map g.D.SingleRounds.unmixed keyed blocks
     ∙ map-same _ _ blocks c.is_unmixed.ensures

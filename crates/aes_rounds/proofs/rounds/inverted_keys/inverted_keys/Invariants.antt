@@ -6,5 +6,6 @@ use Rattle.aes_rounds.proofs.rounds.inverted_keys.inverted_keys.Given as goal
 abbrev pub invariant-loop-i : goal.invariant-loop-i
 invariant-loop-i g l = record {
   sized : length l.inverted ≡ g.row.RK;
-  done : (k : ℕ) → k < l.i → slice_index_or l.inverted k [] ≡ slice_index_or (fips.inverted_keys l.round_keys) k [];
+  done : (k : ℕ) → k < l.i → slice_index_or l.inverted k []
+      ≡ slice_index_or (fips.inverted_keys l.round_keys) k [];
 }

@@ -14,7 +14,8 @@ use Rattle.aes_soft.proofs.soft.key_layout.store.Goals as goal
 pub keys-init : goal.keys-init
 keys-init g c = record {
   done = λ f h j lt. h j (omega arith) ∙ ap (replicate g.W.Word.BLOCKS)
-      (stored_none c.args.rounds g.L.Layout.PERIOD f j (omega arith) (omega (arith, c.requires.some_rounds)));
+      (stored_none c.args.rounds g.L.Layout.PERIOD f j (omega arith)
+      (omega (arith, c.requires.some_rounds)));
   rest = λ f h j ge lt. h j lt;
   same_length = refl;
 }
@@ -38,20 +39,26 @@ keys-preserved g c =
       | then-i-rounds w ↦
           ap (λ v. held n (map bits v)) w.planes-is ∙ w.shift_back.ensures
           ∙ ap (λ v. map (inv_shift_times v) blocks)
-          (sym (deferred_below rounds period i _ w.if-i-rounds.true (ap (λ v. i % v) (sym c.PERIOD-period.ensures))))
+          (sym (deferred_below rounds period i _ w.if-i-rounds.true
+          (ap (λ v. i % v) (sym c.PERIOD-period.ensures))))
       | else-i-rounds w ↦
           let last : i ≡ rounds = omega (arith, w.if-i-rounds.false) in
-          ap (λ v. held n (map bits v)) w.planes-is ∙ sym (map_none blocks) ∙ ap (λ v. map (inv_shift_times v) blocks)
+          ap (λ v. held n (map bits v)) w.planes-is ∙ sym (map_none blocks)
+          ∙ ap (λ v. map (inv_shift_times v) blocks)
           (sym (deferred_last rounds period i last))
     ] in
     record {
       done = λ f h j lt. elim (cases_lt j i) [
-        | inl low ↦ kept bits n rk rk1 o (8 * j) _ stay (inl (omega arith)) (c.keys.invariant.done f h j low)
+        | inl low ↦ kept bits n rk rk1 o (8 * j) _ stay (inl (omega arith))
+            (c.keys.invariant.done f h j low)
         | inr ge ↦
-            let here : deferred period rounds j ≡ times = ap (deferred period rounds) (omega arith) in
-            changed bits n (λ b. map plus63 (inv_shift_times times b)) rk rk1 _ _ o (8 * j) (f j) (omega arith)
+            let here : deferred period rounds j ≡ times =
+            ap (deferred period rounds) (omega arith) in
+            changed bits n (λ b. map plus63 (inv_shift_times times b)) rk rk1 _ _ o (8 * j) (f j)
+            (omega arith)
             c.round_key-planes.ensures
-            (stepped_map n (map plus63) (inv_shift_times times) _ _ blocks c.sub_bytes_nots.ensures shifted)
+            (stepped_map n (map plus63) (inv_shift_times times)
+            _ _ blocks c.sub_bytes_nots.ensures shifted)
             c.store_round_key.ensures.there (c.keys.invariant.rest f h j ge (omega arith))
             ∙ ap (replicate n) (stored_some rounds period f j times (omega arith) here)
       ];

@@ -15,18 +15,21 @@ use aes_cipher::zeroize::{MustWipe, wipe_stack};
 fn call_to_decrypt<F: BlockCipherDecClosure>(round_keys: &[u16], widened: &[BatchWord], f: &mut F)
     requires is_schedule { IsFullSchedule (word_bits 16) 1 round_keys.now }
     requires is_widened { IsFullSchedule (word_bits 128) 8 widened.now }
-    requires same_key { key_of_planes (word_bits 128) 8 widened.now ≡ key_of_planes (word_bits 16) 1 round_keys.now }
-    ensures { F.did f.old (fips.key_expansion (key_of_planes (word_bits 16) 1 round_keys.now)) f.new }
+    requires same_key { key_of_planes (word_bits 128) 8 widened.now
+        ≡ key_of_planes (word_bits 16) 1 round_keys.now }
+    ensures { F.did f.old
+        (fips.key_expansion (key_of_planes (word_bits 16) 1 round_keys.now)) f.new }
 {
     f.call(&Backend::lent(round_keys, widened));
 }
 
-/// Calls the closure once, with a backend of stored round keys. They are widened for the call, and wiped in place after
-/// it, with the stack that the closure took.
+/// Calls the closure once, with a backend of stored round keys. They are widened for the call, and
+/// wiped in place after it, with the stack that the closure took.
 #[inline(never)]
 pub fn decrypt_with_backend<F: BlockCipherDecClosure>(round_keys: &[u16], f: &mut F)
     requires is_schedule { IsFullSchedule (word_bits 16) 1 round_keys.now }
-    ensures { F.did f.old (fips.key_expansion (key_of_planes (word_bits 16) 1 round_keys.now)) f.new }
+    ensures { F.did f.old
+        (fips.key_expansion (key_of_planes (word_bits 16) 1 round_keys.now)) f.new }
 {
     let mut room = MustWipe::<[BatchWord; 120]>::zeroed();
     store_widened_first(room.value_mut(), round_keys);

@@ -1,5 +1,5 @@
 -- What is left to show of `generator::CtrDrbg::put_output`.
-use Rattle.std.proofs.Common.{◌≡◌, ◌∙◌, [], ap, sym, length, rules, slice_index_or}
+use Rattle.std.proofs.Common.{◌≡◌, ◌∙◌, [], length, rules, slice_index_or}
 use Rattle.ctr_drbg.specs.CtrDrbg.{v_after, turns}
 use Rattle.ctr_drbg.proofs.generator.CtrDrbg.put_output.Goals as goal
 

@@ -12,5 +12,11 @@ returns-then-not-is_short_tag_so_far-clause-accepted g c iv a t at =
 pub returns-clause-accepted : goal.returns-clause-accepted
 returns-clause-accepted g c iv a t at =
     let other : Verifying ≢ Additional = λ e. cc in
-    let told = c.is_short_tag_so_far.ensures Verifying iv a t other at in
-    (λ e. (c.is_short_tag.ensures.0 c.if-not-is_short_tag.false, told.0 c.if-not-is_short_tag_so_far.false), λ e. refl)
+    let told = c.is_short_tag_so_far.ensures Verifying iv a t other at in (
+      λ e. (
+        c.is_short_tag.ensures.0 c.if-not-is_short_tag.false,
+        told.0
+            c.if-not-is_short_tag_so_far.false,
+      ),
+      λ e. refl,
+    )

@@ -15,13 +15,15 @@ returns-clause-added g c iv a is =
     let block = c.block_of_number-message.ensures.back in
     let Before : ℕ → ℕ → Type 0 = λ k n. IsHashing k 0 a n c.args.message.now.rest in
     let After : ℕ → ℕ → Type 0 = λ k n. IsHashing k 0 (a ++ b) n c.hash_piece-value.new.rest in
-    let before = subst (λ n. Before c.self.inside.multiples n) (sym number) (subst (λ k. Before k v) (sym subkey) is.hashing) in
+    let before = subst (λ n. Before c.self.inside.multiples n) (sym number)
+    (subst (λ k. Before k v) (sym subkey) is.hashing) in
     record {
       phase = is.phase;
       first = is.first;
       additional = omega (arith, is.additional, length-append a b);
       short = omega (arith, is.additional, length-append a b);
       text = is.text;
-      hashing = subst (λ n. After h n) (sym block) (subst (λ k. After k c.hash_piece-value.result) subkey
+      hashing = subst (λ n. After h n) (sym block)
+          (subst (λ k. After k c.hash_piece-value.result) subkey
           (c.hash_piece-value.ensures 0 a (omega (arith, is.additional)) before));
     }

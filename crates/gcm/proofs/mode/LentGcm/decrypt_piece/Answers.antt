@@ -11,5 +11,6 @@ returns-clause-decrypted g c n iv before is =
     let j : ℕ = from_be_bytes w128 c.args.message.now.first in
     let position : ℕ = 16 + c.args.message.now.decrypted in
     let b : List ℕ = c.args.text.now in
-    text_on c.args.self.now iv before b c.add_gctr.new.bytes j position is.first (omega (arith, is.decrypted))
+    text_on c.args.self.now iv before b c.add_gctr.new.bytes j position is.first
+    (omega (arith, is.decrypted))
     (c.add_gctr.ensures ∙ ap (λ w. plus_stream (gctr_byte w j) position b) c.self.view_is)

@@ -14,7 +14,8 @@ returns-clause-decrypted g c iv a before at =
     let j : ℕ = from_be_bytes w128 c.hash_text.new.message.first in
     let position : ℕ = 16 + c.turn_to.new.message.text in
     let b : List ℕ = c.args.text.now in
-    text_on c.args.self.now iv before b c.add_gctr.new.bytes j position added.first (omega (arith, turned.text))
+    text_on c.args.self.now iv before b c.add_gctr.new.bytes j position added.first
+    (omega (arith, turned.text))
     (c.add_gctr.ensures ∙ ap (λ w. plus_stream (gctr_byte w j) position b) c.self.view_is)
 
 pub returns-clause-added : goal.returns-clause-added

@@ -17,7 +17,8 @@ returns-clause-additional g c iv a is =
     omega (arith, c.filled-filled.ensures.additional is.phase, is.additional) in
     let subkey : c.self.inside.multiples ≡ h = c.self.invariant ∙ ap hash_subkey c.self.view_is in
     c.hash_on.ensures
-    ∙ (λ t. hashed (subkey t) (number t) (padded (take (count t) rest)) (length (padded (take (count t) rest)) / 16))
+    ∙ (λ t. hashed (subkey t) (number t) (padded (take (count t) rest))
+    (length (padded (take (count t) rest)) / 16))
     ∙ closed h 0 v a rest is.hashing
 
 pub returns-clause-text : goal.returns-clause-text
@@ -30,5 +31,6 @@ returns-clause-text g c phase iv a t other is =
     omega (arith, c.filled-filled.ensures.text (λ e. other (sym is.phase ∙ e)), is.text) in
     let subkey : c.self.inside.multiples ≡ h = c.self.invariant ∙ ap hash_subkey c.self.view_is in
     c.hash_on.ensures
-    ∙ (λ i. hashed (subkey i) (number i) (padded (take (count i) rest)) (length (padded (take (count i) rest)) / 16))
+    ∙ (λ i. hashed (subkey i) (number i) (padded (take (count i) rest))
+    (length (padded (take (count i) rest)) / 16))
     ∙ closed h (hashed_padded h a) v t rest is.hashing

@@ -16,7 +16,8 @@ returns g c phase iv a t is =
     let block = c.block_of_number-message.ensures.back in
     let Before : ℕ → ℕ → Type 0 = λ k n. IsHashing k y t n c.args.message.now.rest in
     let After : ℕ → ℕ → Type 0 = λ k n. IsHashing k y (t ++ b) n c.hash_piece-value.new.rest in
-    let before = subst (λ n. Before c.self.inside.multiples n) (sym number) (subst (λ k. Before k v) (sym subkey) is.hashing) in
+    let before = subst (λ n. Before c.self.inside.multiples n) (sym number)
+    (subst (λ k. Before k v) (sym subkey) is.hashing) in
     record {
       phase = is.phase;
       first = is.first;
@@ -24,6 +25,7 @@ returns g c phase iv a t is =
       short = is.short;
       text = omega (arith, is.text, length-append t b);
       short_text = omega (arith, is.text, length-append t b);
-      hashing = subst (λ n. After h n) (sym block) (subst (λ k. After k c.hash_piece-value.result) subkey
+      hashing = subst (λ n. After h n) (sym block)
+          (subst (λ k. After k c.hash_piece-value.result) subkey
           (c.hash_piece-value.ensures y t (omega (arith, is.text)) before));
     }

@@ -11,7 +11,8 @@ returns g c phase iv a t other at =
     let made = c.put_tag_so_far.ensures phase iv a t other at in
     let before = one_block_of _ _ _ _ _ lent c.value.ensures ∙ made in
     let expected = one_block_of _ _ _ _ _ lent c.value-3.ensures ∙ made in
-    let claimed = one_block_of _ _ _ _ _ (c.value_mut-2.ensures.value ∙ c.zeroed-claimed.ensures) c.value-2.ensures
+    let claimed = one_block_of _ _ _ _ _ (c.value_mut-2.ensures.value ∙ c.zeroed-claimed.ensures)
+    c.value-2.ensures
     ∙ c.put_claimed.ensures ∙ ap (λ l. x ++ drop (length x) l) before in
     let first = are_first x _ in (
       λ e. first.0 (sym claimed ∙ c.is_expected-is_equal.ensures.0 e ∙ expected),

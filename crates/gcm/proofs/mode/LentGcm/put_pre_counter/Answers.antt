@@ -16,6 +16,7 @@ returns-else-nonce-eq12 g c =
     let h : ℕ = c.self.inside.multiples in
     let iv : List ℕ = c.args.nonce.now in
     c.block_of_number.ensures.back ∙ c.hash_lengths.ensures
-    ∙ ap (λ y. product (bit_xor y (from_be_bytes w128 (replicate 8 0 ++ bit_length iv))) h) c.hash_on-value.ensures
+    ∙ ap (λ y. product (bit_xor y (from_be_bytes w128 (replicate 8 0 ++ bit_length iv))) h)
+    c.hash_on-value.ensures
     ∙ of_others h iv c.if-nonce-eq12.false
     ∙ ap (λ h. pre_counter h iv) (c.self.invariant ∙ ap hash_subkey c.self.view_is)

@@ -23,7 +23,8 @@ returns g c phase iv a t other at =
     let additional : m ≡ length a = omega (arith, known.additional, known.short) in
     let text : n ≡ length t = omega (arith, known.text, known.short_text) in
     let sum = c.hash_lengths-value.ensures
-    ∙ ap (λ k. product (bit_xor v (from_be_bytes w128 (to_be_bytes w64 (8 * m) ++ to_be_bytes w64 (8 * n)))) k) subkey
+    ∙ ap (λ k. product
+    (bit_xor v (from_be_bytes w128 (to_be_bytes w64 (8 * m) ++ to_be_bytes w64 (8 * n)))) k) subkey
     ∙ summed h v m n a t value additional text in
     let w = g.C.RoundKeysUser.round_keys c.self.inside.cipher in
     c.add_masked.ensures w (from_be_bytes w128 c.args.message.now.first) c.put_mask.ensures

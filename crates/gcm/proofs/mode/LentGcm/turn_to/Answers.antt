@@ -19,8 +19,10 @@ returns-then-eq-clause-turned g c iv a t at =
         short = b.0.short;
         text = b.0.text ∙ sym (ap length b.1);
         short_text = omega (arith, ap length b.1);
-        hashing = first_text (hash_subkey c.args.self.now) (from_be_bytes w128 c.block_of_number-message.result) a t
-            c.args.message.now.rest (c.block_of_number-message.ensures.back ∙ c.hash_rest-value.ensures.additional iv a b.0) b.1;
+        hashing = first_text (hash_subkey c.args.self.now)
+            (from_be_bytes w128 c.block_of_number-message.result) a t
+            c.args.message.now.rest (c.block_of_number-message.ensures.back
+            ∙ c.hash_rest-value.ensures.additional iv a b.0) b.1;
       }
       | inr is ↦ absurd (c.requires (sym is.phase ∙ additional))
     ]

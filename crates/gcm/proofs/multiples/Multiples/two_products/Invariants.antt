@@ -6,4 +6,5 @@ use Rattle.gcm.proofs.multiples.Multiples.two_products.Given as goal
 
 abbrev pub invariant-loop-k : goal.invariant-loop-k
 invariant-loop-k l =
-    SummedInHalves (rows_of_two l.self (from_be_bytes w128 l.y) (from_be_bytes w128 l.z)) l.k l.first l.second
+    SummedInHalves (rows_of_two l.self (from_be_bytes w128 l.y) (from_be_bytes w128 l.z))
+    l.k l.first l.second

@@ -11,7 +11,8 @@ returns c h small is =
     let g : ℕ = c.lent-multiples.result in
     let a : List ℕ = c.args.additional.now in
     let p : List ℕ = c.args.text.now in
-    let on = λ (s : ℕ) (x : List ℕ). hashed_as (from_le_bytes w128) g s (padded x) (length (padded x) / 16) in
+    let on = λ (s : ℕ) (x : List ℕ). hashed_as (from_le_bytes w128) g s (padded x)
+    (length (padded x) / 16) in
     c.bytes_of.ensures
     ∙ ap (to_le_bytes w128) (c.hash_string_and.ensures
     ∙ (λ t. product (bit_xor (on (c.hash_string-value.ensures t) p) (c.last_block-end.ensures t)) g)

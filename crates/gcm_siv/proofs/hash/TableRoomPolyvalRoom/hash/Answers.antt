@@ -11,9 +11,11 @@ returns c h small is =
     let g : ℕ = c.lent-table.result in
     let a : List ℕ = c.args.additional.now in
     let p : List ℕ = c.args.text.now in
-    let on = λ (s : ℕ) (x : List ℕ). hashed_as (from_le_bytes w128) g s (padded x) (length (padded x) / 16) in
+    let on = λ (s : ℕ) (x : List ℕ). hashed_as (from_le_bytes w128) g s (padded x)
+    (length (padded x) / 16) in
     c.bytes_of.ensures
     ∙ ap (to_le_bytes w128) (c.product.ensures
     ∙ ap (λ v. product v g) (c.sum.ensures ∙ (λ t. bit_xor
-    ((c.hash_singly-second.ensures ∙ ap (λ s. on s p) c.hash_singly-first.ensures) t) (c.last_block-end.ensures t)))
+    ((c.hash_singly-second.ensures ∙ ap (λ s. on s p) c.hash_singly-first.ensures) t)
+    (c.last_block-end.ensures t)))
     ∙ hash_is h g a p (c.lent-table.ensures ∙ is) small)

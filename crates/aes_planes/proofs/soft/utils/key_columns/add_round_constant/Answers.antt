@@ -8,4 +8,5 @@ returns g c =
     let bits = g.W.Word.bits in
     constant_added g.W.Word.BLOCKS g.W.Word.BITS c.args.constant (map bits c.sum_planes.result)
     (map bits c.args.state.now)
-    (map bits c.constant_planes.result) g.met.W.Word.shape.sixteen c.sum_planes.ensures c.constant_planes.ensures
+    (map bits c.constant_planes.result) g.met.W.Word.shape.sixteen c.sum_planes.ensures
+    c.constant_planes.ensures

@@ -13,7 +13,8 @@ returns g c = λ r q k h l kn.
     let e3 : c.HALF_ROW-2.result ≡ 2 * w.BLOCKS = omega (arith, c.HALF_ROW-2.ensures, laws.two) in
     let p = place w.BLOCKS r q k in
     let low : p < w.BITS = omega (arith, laws.sixteen, place_lt w.BLOCKS r q k h l kn) in
-    let col : p % w.ROW_BITS / w.QUARTER_ROW ≡ q = column_of w.BLOCKS _ _ r q k laws.four laws.one h l kn in
+    let col : p % w.ROW_BITS / w.QUARTER_ROW ≡ q =
+    column_of w.BLOCKS _ _ r q k laws.four laws.one h l kn in
     rw (
       c.bit_or.ensures p low,
       c.bit_and-first.ensures p low,

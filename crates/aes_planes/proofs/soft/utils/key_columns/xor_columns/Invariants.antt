@@ -9,9 +9,12 @@ invariant-loop-i g l = record {
   others : (j : ℕ) (d : _) → (j < l.offset) ⊎ (l.offset + l.i ≤ j) → slice_index_or l.round_keys j d
       ≡ slice_index_or l.initial.round_keys j d;
   sums : (m : ℕ) (d : _) (r c k : ℕ) → m < l.i → r < 4 → c < 4 → k < g.W.Word.BLOCKS
-      → at (g.W.Word.bits (slice_index_or l.round_keys (l.offset + m) d)) (place g.W.Word.BLOCKS r c k)
-      ≡ summed xor (λ e. at (g.W.Word.bits (slice_index_or l.initial.round_keys (l.offset + m - l.idx_xor) d))
-      (place g.W.Word.BLOCKS r e k)) (at (g.W.Word.bits (slice_index_or l.initial.round_keys (l.offset + m) d))
+      → at (g.W.Word.bits (slice_index_or l.round_keys (l.offset + m) d))
+      (place g.W.Word.BLOCKS r c k)
+      ≡ summed xor (λ e. at
+      (g.W.Word.bits (slice_index_or l.initial.round_keys (l.offset + m - l.idx_xor) d))
+      (place g.W.Word.BLOCKS r e k))
+      (at (g.W.Word.bits (slice_index_or l.initial.round_keys (l.offset + m) d))
       ((place g.W.Word.BLOCKS r 0 k + l.idx_ror) % g.W.Word.BITS)) c;
   same_length : length l.round_keys ≡ length l.initial.round_keys;
 }

@@ -1,5 +1,6 @@
 -- What holds in the loops of `soft::word::Word::constant_planes`.
-use Rattle.std.proofs.Common.{◌≡◌, ℕ, ◌*◌, ◌/◌, ◌%◌, ◌^◌, ◌<◌, [], ◌∷◌, length, get_or, slice_index_or}
+use Rattle.std.proofs.Common.{◌≡◌, ℕ, ◌*◌, ◌/◌, ◌%◌, ◌^◌, ◌<◌, [], ◌∷◌, length, get_or}
+use Rattle.std.proofs.Common.{slice_index_or}
 use Rattle.aes_planes.specs.Bits.{at, bit}
 use Rattle.aes_planes.proofs.soft.word.Word.constant_planes.Given as goal
 

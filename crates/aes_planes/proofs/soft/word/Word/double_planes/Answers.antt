@@ -11,5 +11,6 @@ returns g c = λ i h.
     let xs = c.args.x.now in
     let bits = g.Self.Word.bits in
     rw (c.bit_xor-plane1.ensures i h, c.bit_xor-plane3.ensures i h, c.bit_xor-plane4.ensures i h)
-    (ap (λ ys. number (double_bits (map (λ w. at w i) (map bits ys)))) (sym (eight xs _ _ _ _ _ _ _ _ c.told-x))
+    (ap (λ ys. number (double_bits (map (λ w. at w i) (map bits ys))))
+    (sym (eight xs _ _ _ _ _ _ _ _ c.told-x))
     ∙ number-double (map (λ w. at w i) (map bits xs)) (simp length-map c.told-x))

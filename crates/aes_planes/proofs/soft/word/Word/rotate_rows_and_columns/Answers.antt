@@ -41,6 +41,7 @@ returns g c = λ r q k h l kn.
     (λ lt. c.ror-ahead.ensures p low ∙ (λ t. at x ((p + c.ror_distance-2.ensures t) % B))
     ∙ ap (at x) (turned_place laws r q k rows cols h lt kn c.requires.four_rows))
     (λ le. c.ror-wrapped.ensures p low ∙ (λ t. at x ((p + c.ror_distance-3.ensures t) % B))
-    ∙ ap (at x) (wrapped_place laws r q k rows cols h l le kn c.requires.some_rows c.requires.four_rows
+    ∙ ap (at x) (wrapped_place laws r q k rows cols h l le kn c.requires.some_rows
+    c.requires.four_rows
     c.requires.four_columns))
     (cases_lt (q + cols) 4))

@@ -13,10 +13,12 @@ returns g c = λ r q k h l kn.
     let at = λ (q : ℕ). place n r q k in
     let e1 : c.QUARTER_ROW.result ≡ n = omega (arith, c.QUARTER_ROW.ensures, laws.one) in
     let e2 : c.HALF_ROW.result ≡ 2 * n = omega (arith, c.HALF_ROW.ensures, laws.two) in
-    let low : (q : ℕ) → q < 4 → at q < w.BITS = λ q l. omega (arith, laws.sixteen, place_lt n r q k h l kn) in
+    let low : (q : ℕ) → q < 4 → at q < w.BITS =
+    λ q l. omega (arith, laws.sixteen, place_lt n r q k h l kn) in
     let col : (q : ℕ) → q < 4 → at q % w.ROW_BITS / w.QUARTER_ROW ≡ q =
     λ q l. column_of n _ _ r q k laws.four laws.one h l kn in
-    columns_right n w.BITS c.args.idx_ror r k (w.bits c.args.self) (w.bits c.args.start) (w.bits c.bit_xor-first.result)
+    columns_right n w.BITS c.args.idx_ror r k (w.bits c.args.self) (w.bits c.args.start)
+    (w.bits c.bit_xor-first.result)
     (w.bits c.bit_xor-pairs.result) (w.bits c.bit_xor.result)
     (λ q l. rw (
       c.bit_xor-first.ensures (at q) (low q l),

@@ -14,10 +14,14 @@ returns g c = λ i h.
     let look = λ (w : List Bool). at w i in
     let x = eight c.args.x.now _ _ _ _ _ _ _ _ c.told-x in
     let y = eight c.args.y.now _ _ _ _ _ _ _ _ c.told-y in
-    let sums = c.bit_xor-sum0.result ∷ c.bit_xor-sum1.result ∷ c.bit_xor-sum2.result ∷ c.bit_xor-sum3.result
-    ∷ c.bit_xor-sum4.result ∷ c.bit_xor-sum5.result ∷ c.bit_xor-sum6.result ∷ c.bit_xor-sum7.result ∷ [] in
-    mapped_sum look look look (map bits sums) (map bits (x 1)) (map bits (y 1)) [] [] [] refl refl refl
-    (by_eight _ (c.bit_xor-sum0.ensures i h) (c.bit_xor-sum1.ensures i h) (c.bit_xor-sum2.ensures i h)
+    let sums = c.bit_xor-sum0.result ∷ c.bit_xor-sum1.result ∷ c.bit_xor-sum2.result
+    ∷ c.bit_xor-sum3.result
+    ∷ c.bit_xor-sum4.result ∷ c.bit_xor-sum5.result ∷ c.bit_xor-sum6.result
+    ∷ c.bit_xor-sum7.result ∷ [] in
+    mapped_sum look look look (map bits sums) (map bits (x 1))
+    (map bits (y 1)) [] [] [] refl refl refl
+    (by_eight _ (c.bit_xor-sum0.ensures i h) (c.bit_xor-sum1.ensures i h)
+    (c.bit_xor-sum2.ensures i h)
     (c.bit_xor-sum3.ensures i h) (c.bit_xor-sum4.ensures i h) (c.bit_xor-sum5.ensures i h)
     (c.bit_xor-sum6.ensures i h) (c.bit_xor-sum7.ensures i h))
     ∙ (λ t. field_add (held_byte (map bits (sym x t)) i) (held_byte (map bits (sym y t)) i))

@@ -17,4 +17,5 @@ returns g c = λ r q k h l kn.
       c.rotate_rows_and_columns-turned6.ensures r q k h l kn,
       c.rotate_rows_and_columns-turned7.ensures r q k h l kn,
     )
-    (ap (λ ys. held_byte (map g.Self.Word.bits ys) there) (sym (eight c.args.x.now _ _ _ _ _ _ _ _ c.told-x)))
+    (ap (λ ys. held_byte (map g.Self.Word.bits ys) there)
+    (sym (eight c.args.x.now _ _ _ _ _ _ _ _ c.told-x)))

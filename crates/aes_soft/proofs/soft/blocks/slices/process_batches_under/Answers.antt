@@ -12,11 +12,14 @@ loop-done-preserved g c =
     let done : ℕ = c.loop-done.done in
     let so_far = c.loop-done.invariant.blocks in
     let fits = one_fits (n - done) size (omega arith) so_far.whole in
-    let left : length (put_mid done (done + size - done) c.loop-done.blocks c.process_batch_under.new.blocks) - (done + size)
+    let left : length (put_mid done (done + size - done)
+    c.loop-done.blocks c.process_batch_under.new.blocks) - (done + size)
     ≡ n - done - size = omega arith in
     record {
-      blocks = next_batch _ _ done _ _ _ _ so_far c.loop-done-test.true (omega arith) c.process_batch_under.ensures.blocks;
-      layers = ap (λ v. c.process_batch_under.new.layers + rounds_of (length c.args.words.now) * (v / size)) left
+      blocks = next_batch _ _ done _ _ _ _ so_far c.loop-done-test.true
+          (omega arith) c.process_batch_under.ensures.blocks;
+      layers = ap (λ v. c.process_batch_under.new.layers
+          + rounds_of (length c.args.words.now) * (v / size)) left
           ∙ omega (
             arith,
             c.process_batch_under.ensures.layers,

@@ -7,7 +7,8 @@ use Rattle.aes_soft.proofs.soft.blocks.slices.process_batches_under.Given as goa
 
 abbrev pub invariant-loop-done : goal.invariant-loop-done
 invariant-loop-done g l =
-    let f = g.D.Direction.processed (key_expansion (key_of_planes g.W.Word.bits g.W.Word.BLOCKS l.words)) in record {
+    let f = g.D.Direction.processed
+    (key_expansion (key_of_planes g.W.Word.bits g.W.Word.BLOCKS l.words)) in record {
       blocks : Batched f l.size l.done l.fn.blocks l.blocks;
       layers : l.layers + rounds_of (length l.words) * ((length l.blocks - l.done) / l.size)
           ≡ l.fn.layers + rounds_of (length l.words) * (length l.fn.blocks / l.size);

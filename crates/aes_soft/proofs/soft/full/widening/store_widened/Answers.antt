@@ -21,10 +21,13 @@ returns-clause-schedule g c =
     let widened = c.widen.widened in
     let same = c.widen.invariant.same_length in
     record {
-      one_of_three = subst (λ k. (k ≡ 88) ⊎ ((k ≡ 104) ⊎ (k ≡ 120))) (sym same) c.requires.is_stored.one_of_three;
-      keyed = subst (λ k. IsKeyed (size_of k) g.W.Word.BLOCKS (full (rounds_of k)) (map g.W.Word.bits widened)) (sym same)
+      one_of_three = subst (λ k. (k ≡ 88) ⊎ ((k ≡ 104) ⊎ (k ≡ 120)))
+          (sym same) c.requires.is_stored.one_of_three;
+      keyed = subst (λ k. IsKeyed (size_of k) g.W.Word.BLOCKS (full (rounds_of k))
+          (map g.W.Word.bits widened)) (sym same)
           (widened_keyed _ _ _ _ _ _ _ _ _ g.met.W.Word.shape widened same
-          (λ i d lt. c.widen.invariant.spread i d (omega arith)) (size_of count) (full (rounds_of count))
+          (λ i d lt. c.widen.invariant.spread i d (omega arith)) (size_of count)
+          (full (rounds_of count))
           c.requires.is_stored.keyed);
     }
 
@@ -33,6 +36,7 @@ returns-clause-key g c =
     let count = length c.args.round_keys.now in
     let widened = c.widen.widened in
     let same = c.widen.invariant.same_length in
-    ap (λ k. key_of (size_of k) g.W.Word.BLOCKS (full (rounds_of k)) (map g.W.Word.bits widened)) same
+    ap (λ k. key_of (size_of k) g.W.Word.BLOCKS (full (rounds_of k))
+    (map g.W.Word.bits widened)) same
     ∙ same_key _ _ _ _ _ _ _ _ _ g.met.W.Word.shape widened same
     (λ i d lt. c.widen.invariant.spread i d (omega arith)) (size_of count) (full (rounds_of count))

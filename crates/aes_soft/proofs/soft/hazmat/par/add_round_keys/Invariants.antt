@@ -8,5 +8,6 @@ use Rattle.aes_soft.proofs.soft.hazmat.par.add_round_keys.Given as goal
 abbrev pub invariant-loop-i : goal.invariant-loop-i
 invariant-loop-i l = record {
   long : length l.blocks ≡ 8;
-  value : zipped_from add_round_key l.i l.blocks l.round_keys ≡ rounds_by_place add_round_key l.fn.blocks l.round_keys;
+  value : zipped_from add_round_key l.i l.blocks l.round_keys
+      ≡ rounds_by_place add_round_key l.fn.blocks l.round_keys;
 }

@@ -8,5 +8,6 @@ use Rattle.aes_soft.proofs.soft.hazmat.par.rounds_par.Goals as goal
 pub returns : goal.returns
 returns g c =
     let keys = c.args.round_keys.now in
-    c.add_round_keys.ensures ∙ ap (λ blocks. rounds_by_place add_round_key blocks keys) c.step_each.ensures
+    c.add_round_keys.ensures
+    ∙ ap (λ blocks. rounds_by_place add_round_key blocks keys) c.step_each.ensures
     ∙ zip_with-map add_round_key g.D.Direction.step c.args.blocks.now keys

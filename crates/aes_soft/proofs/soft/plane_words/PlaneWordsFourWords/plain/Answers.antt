@@ -5,5 +5,6 @@ use Rattle.aes_soft.proofs.soft.plane_words.PlaneWordsFourWords.plain.Goals as g
 
 pub returns : goal.returns
 returns g c = λ x y hx hy.
-    summed_in_slots g.W.Word.BLOCKS _ _ _ 0 1 x y _ _ _ c.summed_columns.ensures (omega arith) (omega arith)
+    summed_in_slots g.W.Word.BLOCKS _ _ _ 0 1 x y _ _ _ c.summed_columns.ensures (omega arith)
+    (omega arith)
     c.ror_distance.ensures g.met.W.Word.shape.four g.met.W.Word.shape.one hx hy

@@ -5,7 +5,8 @@ use Rattle.aes_soft.proofs.soft.plane_words.PlaneWordsFourWords.store.Goals as g
 
 pub returns-clause-there : goal.returns-clause-there
 returns-clause-there g c = λ x h.
-    held_at g.W.Word.bits g.W.Word.BLOCKS _ _ (8 * c.args.i) (8 * c.args.i) x refl c.store_round_key.ensures.there h
+    held_at g.W.Word.bits g.W.Word.BLOCKS _ _ (8 * c.args.i)
+    (8 * c.args.i) x refl c.store_round_key.ensures.there h
 
 pub returns-clause-others : goal.returns-clause-others
 returns-clause-others g c = λ j x le ne h.

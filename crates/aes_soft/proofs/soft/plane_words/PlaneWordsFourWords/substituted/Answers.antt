@@ -6,6 +6,7 @@ use Rattle.aes_soft.proofs.soft.plane_words.PlaneWordsFourWords.substituted.Goal
 
 pub returns-clause-words : goal.returns-clause-words
 returns-clause-words g c = λ x y hx hy.
-    summed_in_slots g.W.Word.BLOCKS _ _ _ 0 3 x _ _ _ _ c.summed_columns.ensures (omega arith) (omega arith)
+    summed_in_slots g.W.Word.BLOCKS _ _ _ 0 3 x _ _ _ _ c.summed_columns.ensures (omega arith)
+    (omega arith)
     c.ror_distance.ensures g.met.W.Word.shape.four g.met.W.Word.shape.one hx
     (stepped g.W.Word.BLOCKS sub_bytes _ _ y c.substitute.ensures.blocks hy)

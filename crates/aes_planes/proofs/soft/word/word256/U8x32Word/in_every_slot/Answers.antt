@@ -1,5 +1,6 @@
 -- What is left to show of `soft::word::word256::U8x32Word::in_every_slot`.
-use Rattle.std.proofs.Common.{◌≡◌, ℕ, ◌+◌, ◌*◌, ◌/◌, ◌%◌, ◌<◌, List, [], ◌∷◌, get_or, refl, ap, ◌∙◌, arith}
+use Rattle.std.proofs.Common.{◌≡◌, ℕ, ◌+◌, ◌*◌, ◌/◌, ◌%◌, ◌<◌, List, [], ◌∷◌, get_or, refl, ap, ◌∙◌}
+use Rattle.std.proofs.Common.{arith}
 use Rattle.aes_planes.specs.Bits.{at}
 use Rattle.aes_planes.specs.Planes.{place}
 use Rattle.aes_planes.specs.Words.{lane_bits, wide_bits}
@@ -15,8 +16,10 @@ returns c =
     held_in_every_slot wide_bits 16 ws [] c.args.block.now xs refl c.lanes_of_block.ensures.typed
     c.lanes_of_block.ensures.lanes
     (λ p r q k hp hr hq hk.
-    by_eight (λ p. (i : ℕ) → i < 256 → at (wide_bits (get_or ws p [])) i ≡ at (lane_bits (get_or xs p []))
+    by_eight (λ p. (i : ℕ) → i < 256 → at (wide_bits (get_or ws p [])) i
+    ≡ at (lane_bits (get_or xs p []))
     (8 * (i / 16) + i % 8))
-    c.twice.ensures c.twice-2.ensures c.twice-3.ensures c.twice-4.ensures c.twice-5.ensures c.twice-6.ensures
+    c.twice.ensures c.twice-2.ensures c.twice-3.ensures c.twice-4.ensures c.twice-5.ensures
+    c.twice-6.ensures
     c.twice-7.ensures c.twice-8.ensures p hp (place 16 r q k) (omega arith)
     ∙ ap (at (lane_bits (get_or xs p []))) (omega arith))

@@ -10,9 +10,13 @@ pub returns : goal.returns
 returns c =
     let b0 = c.block_of-b0 in
     let b1 = c.block_of-b1 in
-    unpacked (word_bits 32) 2 (λ j t. t % 2) (λ j t. 4 * j + t / 2) (λ r q k hr hq hk. (omega arith, omega arith))
+    unpacked (word_bits 32) 2 (λ j t. t % 2) (λ j t. 4 * j + t / 2)
+    (λ r q k hr hq hk. (omega arith, omega arith))
     (map (word_bits 32) c.args.input.now) c.transpose.result 0 (b0.result ∷ b1.result ∷ [])
-    (length-map c.args.input.now (word_bits 32) ∙ search rules) (search rules) refl (search rules) c.transpose.ensures
-    (by_eight _ (b0.ensures 0 (omega arith)) (b1.ensures 0 (omega arith)) (b0.ensures 1 (omega arith))
+    (length-map c.args.input.now (word_bits 32) ∙ search rules) (search rules) refl
+    (search rules) c.transpose.ensures
+    (by_eight _ (b0.ensures 0 (omega arith)) (b1.ensures 0 (omega arith))
+    (b0.ensures 1 (omega arith))
     (b1.ensures 1 (omega arith))
-    (b0.ensures 2 (omega arith)) (b1.ensures 2 (omega arith)) (b0.ensures 3 (omega arith)) (b1.ensures 3 (omega arith)))
+    (b0.ensures 2 (omega arith)) (b1.ensures 2 (omega arith)) (b0.ensures 3 (omega arith))
+    (b1.ensures 3 (omega arith)))

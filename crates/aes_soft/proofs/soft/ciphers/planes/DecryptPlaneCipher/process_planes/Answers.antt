@@ -2,11 +2,14 @@
 use Rattle.std.proofs.Common.{◌≡◌, ℕ, ◌+◌, ◌-◌, ◌*◌, ◌/◌, map, refl, ap, subst, ◌∙◌, arith}
 use Rattle.aes_planes.specs.Fips197.{inv_shift_times}
 use Rattle.aes_planes.specs.Planes.{held}
-use Rattle.aes_soft.proofs.Rounds.{Run, turn_of, turns_of, ReachedBack, inv_started, inv_shifted, inv_round, inv_ended}
+use Rattle.aes_soft.proofs.Rounds.{Run, turn_of, turns_of, ReachedBack, inv_started, inv_shifted}
+use Rattle.aes_soft.proofs.Rounds.{inv_round, inv_ended}
 use Rattle.aes_soft.proofs.soft.ciphers.planes.DecryptPlaneCipher.process_planes.Given.{Over}
 use Rattle.aes_soft.proofs.soft.ciphers.planes.DecryptPlaneCipher.process_planes.Goals.{After-add_key}
-use Rattle.aes_soft.proofs.soft.ciphers.planes.DecryptPlaneCipher.process_planes.Goals.{then-period-eq4, else-period-eq4}
-use Rattle.aes_soft.proofs.soft.ciphers.planes.DecryptPlaneCipher.process_planes.Goals.{then-odd-rounds, else-odd-rounds}
+use Rattle.aes_soft.proofs.soft.ciphers.planes.DecryptPlaneCipher.process_planes.Goals.{then-period-eq4}
+use Rattle.aes_soft.proofs.soft.ciphers.planes.DecryptPlaneCipher.process_planes.Goals.{else-period-eq4}
+use Rattle.aes_soft.proofs.soft.ciphers.planes.DecryptPlaneCipher.process_planes.Goals.{then-odd-rounds}
+use Rattle.aes_soft.proofs.soft.ciphers.planes.DecryptPlaneCipher.process_planes.Goals.{else-odd-rounds}
 use Rattle.aes_soft.proofs.soft.ciphers.planes.DecryptPlaneCipher.process_planes.Goals as goal
 
 -- the round keys and the blocks of a call
@@ -44,18 +47,22 @@ turns-init g c =
           let more = t.if-odd-rounds.true in
           let ends = turns.all (omega (arith, more)) in
           ap (λ v. held g.W.Word.BLOCKS (map g.W.Word.bits v)) t.planes-is
-          ∙ inv_round run 3 _ _ 1 m (rounds - 2) (omega (arith, ends, turns.two (omega (arith, more))))
-          (inv_round run 0 _ _ 0 1 (rounds - 1) (omega (arith, ends, turns.three (omega (arith, more))))
+          ∙ inv_round run 3 _ _ 1 m (rounds - 2)
+          (omega (arith, ends, turns.two (omega (arith, more))))
+          (inv_round run 0 _ _ 0 1 (rounds - 1)
+          (omega (arith, ends, turns.three (omega (arith, more))))
           start t.inv_round.ensures.blocks) t.inv_round-then-odd-rounds.ensures.blocks
       | else-odd-rounds t ↦
           let none : 0 ≡ m = omega (arith, t.if-odd-rounds.false) in
           ap (λ v. held g.W.Word.BLOCKS (map g.W.Word.bits v)) t.planes-is
-          ∙ inv_shifted run _ _ m (subst (ReachedBack run (map g.W.Word.bits c.inv_sub_bytes.new.state) 0) none start)
+          ∙ inv_shifted run _ _ m
+          (subst (ReachedBack run (map g.W.Word.bits c.inv_sub_bytes.new.state) 0) none start)
           t.inv_shift_rows_2.ensures
     ] in
     record {
       blocks =
-          inv_round run 2 _ _ m (rounds - 1 - q * (periods - 0)) odd (omega (arith, turns.room, turns.one, left)) two
+          inv_round run 2 _ _ m (rounds - 1 - q * (periods - 0)) odd
+          (omega (arith, turns.room, turns.one, left)) two
           c.inv_round-2.ensures.blocks;
       layers = elim c.if-odd-rounds.branch [
         | then-odd-rounds t ↦ omega (arith, left, turns.all (omega (arith, t.if-odd-rounds.true)))
@@ -73,10 +80,12 @@ turns-preserved g c =
     let m : ℕ = rounds - 1 - i in
     let end : ℕ = m + q - 1 in
     let run = call g (goal.at.turns-preserved g c).After-add_key in
-    let turn = turn_of left rounds _ q c.PERIOD-period.ensures g.L.Layout.two_or_four (omega (arith, c.turns-test.true)) in
+    let turn = turn_of left rounds _ q c.PERIOD-period.ensures g.L.Layout.two_or_four
+    (omega (arith, c.turns-test.true)) in
     let same : (rounds - 2) / q - c.turns.turn ≡ left + 1 = omega (arith, c.turns-test.true) in
     let at : i ≡ q * left + q = ap (λ v. q * v) same ∙ turn.next in
-    let one = inv_round run 1 _ _ m (m + 1) i (omega (arith, at, turn.room, turn.least, turn.ended i at))
+    let one = inv_round run 1 _ _ m (m + 1) i
+    (omega (arith, at, turn.room, turn.least, turn.ended i at))
     c.turns.invariant.blocks c.inv_round-in-turns.ensures.blocks in
     let two : ReachedBack run (map g.W.Word.bits c.if-period-eq4.planes) 2 end =
     elim c.if-period-eq4.branch [
@@ -84,12 +93,28 @@ turns-preserved g c =
           let four = t.if-period-eq4.true in
           ap (λ v. held g.W.Word.BLOCKS (map g.W.Word.bits v)) t.planes-is
           ∙ inv_round run 3 _ _ (m + 2) end (i - 2)
-          (omega (arith, four, at, turn.room, turn.own 2 (i - 2) (omega (arith, four)) (omega (arith, at, four))))
+          (omega (
+            arith,
+            four,
+            at,
+            turn.room,
+            turn.own 2 (i - 2) (omega (arith, four))
+                (omega (arith, at, four)),
+          ))
           (inv_round run 0 _ _ (m + 1) (m + 2) (i - 1)
-          (omega (arith, four, at, turn.room, turn.own 3 (i - 1) (omega (arith, four)) (omega (arith, at, four))))
-          one t.inv_round-then-period-eq4.ensures.blocks) t.inv_round-then-period-eq4-2.ensures.blocks
+          (omega (
+            arith,
+            four,
+            at,
+            turn.room,
+            turn.own 3 (i - 1) (omega (arith, four))
+                (omega (arith, at, four)),
+          ))
+          one t.inv_round-then-period-eq4.ensures.blocks)
+          t.inv_round-then-period-eq4-2.ensures.blocks
       | else-period-eq4 t ↦
-          let next : m + 1 ≡ end = omega (arith, t.if-period-eq4.false, turn.least, turn.even, turn.most) in
+          let next : m + 1 ≡ end =
+          omega (arith, t.if-period-eq4.false, turn.least, turn.even, turn.most) in
           ap (λ v. held g.W.Word.BLOCKS (map g.W.Word.bits v)) t.planes-is
           ∙ inv_shifted run _ _ end
           (subst (ReachedBack run (map g.W.Word.bits c.inv_round-in-turns.new.state) 0) next one)
@@ -118,5 +143,6 @@ returns-clause-blocks g c =
     let left : ℕ = (c.args.rounds - 2) / q - c.turns.turn in
     let done : left ≡ 0 = omega arith in
     let none : q * left ≡ q * 0 = ap (λ v. q * v) done in
-    inv_ended (call g (goal.at.returns-clause-blocks g c).After-add_key) _ _ (c.args.rounds - 1 - q * left)
+    inv_ended (call g (goal.at.returns-clause-blocks g c).After-add_key) _ _
+    (c.args.rounds - 1 - q * left)
     (omega (arith, none)) c.turns.invariant.blocks c.add_key-2.ensures

@@ -12,7 +12,8 @@ invariant-turns g l =
       blocks : held g.W.Word.BLOCKS (map g.W.Word.bits l.planes)
           ≡ map (λ b. inv_shift_times 1
           (inv_sub_bytes (inv_state_after (key_expansion (key_of (key_size l.rounds) g.W.Word.BLOCKS
-          (deferred g.L.Layout.PERIOD l.rounds) (map g.W.Word.bits l.round_keys))) b (l.rounds - 1 - left))))
+          (deferred g.L.Layout.PERIOD l.rounds) (map g.W.Word.bits l.round_keys))) b
+          (l.rounds - 1 - left))))
           (held g.W.Word.BLOCKS (map g.W.Word.bits l.fn.state));
       layers : l.layers ≡ l.fn.layers + (l.rounds - left);
     }

@@ -9,7 +9,8 @@ abbrev pub invariant-turns : goal.invariant-turns
 invariant-turns g l = record {
   blocks : held g.W.Word.BLOCKS (map g.W.Word.bits l.planes)
       ≡ map (λ b. state_after (key_expansion (key_of (key_size l.rounds) g.W.Word.BLOCKS
-      (deferred g.L.Layout.PERIOD l.rounds) (map g.W.Word.bits l.round_keys))) b (l.period * l.turn))
+      (deferred g.L.Layout.PERIOD l.rounds) (map g.W.Word.bits l.round_keys))) b
+      (l.period * l.turn))
       (held g.W.Word.BLOCKS (map g.W.Word.bits l.fn.state));
   layers : l.layers ≡ l.fn.layers + l.period * l.turn;
 }

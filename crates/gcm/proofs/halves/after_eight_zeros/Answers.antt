@@ -1,7 +1,0 @@
--- What is left to show of `halves::after_eight_zeros`.
-use Rattle.std.proofs.Common.{rules}
-use Rattle.gcm.proofs.ByHalves.{eight_zeros}
-use Rattle.gcm.proofs.halves.after_eight_zeros.Goals as goal
-
-pub returns : goal.returns
-returns c = eight_zeros c.args.x (search rules)

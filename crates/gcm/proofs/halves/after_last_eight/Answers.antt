@@ -1,7 +1,0 @@
--- What is left to show of `halves::after_last_eight`.
-use Rattle.std.proofs.Common.{rules}
-use Rattle.gcm.proofs.ByHalves.{eight_lasts}
-use Rattle.gcm.proofs.halves.after_last_eight.Goals as goal
-
-pub returns : goal.returns
-returns c = eight_lasts c.args.x c.args.y (search rules) (search rules)

@@ -1,7 +1,0 @@
--- What is left to show of `lanes::sum`.
-use Rattle.std.proofs.Common.{rules}
-use Rattle.gcm.proofs.Rows.{number_summed}
-use Rattle.gcm.proofs.lanes.sum.Goals as goal
-
-pub returns : goal.returns
-returns c = number_summed c.args.x c.args.y (search rules) (search rules)

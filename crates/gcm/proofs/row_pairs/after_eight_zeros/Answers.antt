@@ -1,0 +1,7 @@
+-- What is left to show of `row_pairs::after_eight_zeros`.
+use Rattle.std.proofs.Common.{rules}
+use Rattle.gcm.proofs.RowPairs.{eight_zeros}
+use Rattle.gcm.proofs.row_pairs.after_eight_zeros.Goals as goal
+
+pub returns : goal.returns
+returns c = eight_zeros c.args.x (search rules)

@@ -1,0 +1,10 @@
+-- What is left to show of `row_pairs::after_lasts`.
+use Rattle.std.proofs.Common.{rules}
+use Rattle.gcm.proofs.RowPairs.{lasts_lower, lasts_upper}
+use Rattle.gcm.proofs.row_pairs.after_lasts.Goals as goal
+
+pub returns-clause-lower : goal.returns-clause-lower
+returns-clause-lower c = lasts_lower c.args.x c.args.y (search rules) (search rules)
+
+pub returns-clause-upper : goal.returns-clause-upper
+returns-clause-upper c = lasts_upper c.args.x c.args.y (search rules) (search rules)

@@ -1,0 +1,12 @@
+-- What is left to show of `row_pairs::high_nibbles_twice`.
+use Rattle.std.proofs.Common.{rules, ap, ◌∙◌, ◌/◌, ◌^◌, replicate}
+use lib.Lanes.{zip2}
+use Rattle.gcm.proofs.RowPairs.{high_twice, high_indices}
+use Rattle.gcm.proofs.row_pairs.high_nibbles_twice.Goals as goal
+
+pub returns-clause-nibbles : goal.returns-clause-nibbles
+returns-clause-nibbles c = ap (λ l. zip2 (λ a b. a / 2 ^ b) l (replicate 32 4)) c.twice.ensures
+    ∙ high_twice c.args.x (search rules)
+
+pub returns-clause-places : goal.returns-clause-places
+returns-clause-places c = high_indices c.args.x _ (search rules) (returns-clause-nibbles c)

@@ -1,0 +1,47 @@
+-- What is left to show of `examples::gcm_siv_256_example`.
+use Rattle.std.proofs.Common.{◌≡◌, ℕ, List, [], ◌∷◌, slice_index_or, ap, sym, ◌∙◌, arith}
+use Rattle.std.specs.Int.{w128, from_le_bytes}
+use Rattle.aes_planes.specs.BigEndian.{bytes}
+use Rattle.aes_planes.specs.Fips197.{cipher_with, key_expansion}
+use Rattle.aes_planes.proofs.Bits.ByteCases.{by_two}
+use Rattle.gcm_siv.specs.GcmSiv.{tag_under, text_under, first_counter, counter_block}
+use Rattle.gcm_siv.proofs.OnLiterals.{siv_on_literals, blocks_by}
+use Rattle.gcm_siv.proofs.examples.gcm_siv_256_example.Goals as goal
+
+abbrev nonce : List ℕ
+nonce = bytes 12 0x030000000000000000000000
+
+abbrev additional : List ℕ
+additional = bytes 18 0x010000000000000000000000000000000200
+
+abbrev plain : List ℕ
+plain = bytes 20 0x0300000000000000000000000000000004000000
+
+abbrev encrypting : List (List ℕ)
+encrypting = key_expansion
+    (bytes 32 0xb914f4742be9e1d7a2f84addbf96dec3456e3c6c05ecc157cdbf0700fedad222)
+
+abbrev start : List ℕ
+start = first_counter (bytes 16 0xb879ad976d8242acc188ab59cabfe307)
+
+abbrev two : List (List ℕ)
+two = bytes 16 0x40dd0163cdb48f9fe3212bf61b201976 ∷ bytes 16 0x027f342b38b58fc6858b73af3aeabecf ∷ []
+
+pub returns-clause-tag : goal.returns-clause-tag
+unfolding siv_on_literals
+returns-clause-tag c =
+    let keys = c.keys_256_example.ensures in
+    (λ t. tag_under (key_expansion (keys.encryption t))
+    (from_le_bytes w128 (keys.authentication t)) nonce additional plain)
+    ∙ c.encrypted_under_256.ensures.tag
+
+pub returns-clause-text : goal.returns-clause-text
+unfolding siv_on_literals
+returns-clause-text c =
+    let known = c.encrypted_under_256.ensures in
+    ap (λ e. text_under (key_expansion e) (bytes 16 0xb879ad976d8242acc188ab59cabfe307) plain)
+    c.keys_256_example.ensures.encryption
+    ∙ blocks_by encrypting start two plain
+    (by_two (λ m. slice_index_or two m [] ≡ cipher_with encrypting (counter_block start m))
+    (sym known.first) (sym known.second))
+    (omega arith)

@@ -1,5 +1,0 @@
-//! Tests of AES-GCM-SIV.
-#![tactic(auto)]
-
-#[cfg(test)]
-mod vectors;

@@ -1,0 +1,346 @@
+/* Makes every call of both C libraries for several keys and data of one length, on a stack of its own that is filled with a
+ * pattern, between the marks that the plugin of qemu knows. A line for each, with tabs: the call, the bits of the key, the
+ * count, the position (of messages, of bytes: 1000 times those of the nonce, and those of additional data), whether the call
+ * did its work, how deep the stack was, how many bytes of the message, its keystream and the like it left there, and how many
+ * other bytes that depend on the key. Calls with one name, size, count and position must run the same instructions on the
+ * same addresses. */
+#define _GNU_SOURCE
+#include "fotsgure_aes.h"
+#include "fotsgure_gcm.h"
+#include "marks.h"
+
+#include <stdio.h>
+#include <stdlib.h>
+#include <string.h>
+#include <ucontext.h>
+
+enum { MOST = 2048, RUNS = 4, STACK = 1 << 14, FILL = 0xa5, PIECE = 4, MORE = 32, ROOM = MOST + MORE };
+static struct fotsgure_aes aes;
+static struct fotsgure_aes_ctr ctr;
+static struct fotsgure_aes_cbc cbc;
+static struct fotsgure_gcm gcm;
+static struct fotsgure_gcm_siv siv;
+static struct fotsgure_gcm_message message;
+static struct fotsgure_gcm_counter counter;
+/* A key; a message, plain and sealed; what a call is given and works on; and, of GCM, the rest of the message. */
+static uint8_t key[32], plain[ROOM], sealed[ROOM], given[ROOM], data[ROOM], stream[ROOM], nonce[16], additional[128], tag[16], first[2][16];
+static size_t size, count, bytes, extra, nonce_bytes, key_bytes;
+static uint64_t position, state;
+static int status;
+
+/* A status is 0 if a call did its work. Of calls in pieces the first that says something else counts. */
+static void said(int it) { status = status ? status : it; }
+
+/* Makes a call in pieces, on n bytes from `at` on: the first five, half of what is left, and the rest. */
+#define IN_PIECES(call, from, all) do { \
+        size_t few = (all) < 5 ? (all) : 5, half = ((all) - few) / 2, counts[] = {few, half, (all) - few - half}; \
+        uint8_t *at = from; \
+        for (int i = 0; i < 3; at += counts[i++]) { \
+            size_t n = counts[i]; \
+            said((int)(call)); \
+        } \
+    } while (0)
+static void begun(void) {
+    said((int)fotsgure_gcm_begin(&gcm, &message, nonce, nonce_bytes));
+    IN_PIECES(fotsgure_gcm_additional(&gcm, &message, at, n), additional, extra);
+}
+static int seal_in_pieces(void) {
+    begun();
+    IN_PIECES(fotsgure_gcm_encrypt(&gcm, &message, at, n), data, bytes);
+    return (int)fotsgure_gcm_finish(&gcm, &message, tag);
+}
+static int open_in_pieces(void) {
+    begun();
+    IN_PIECES(fotsgure_gcm_verify(&gcm, &message, at, n), data, bytes);
+    said((int)fotsgure_gcm_accept(&gcm, &message, tag, 16));
+    if (!status)
+        IN_PIECES(fotsgure_gcm_decrypt(&gcm, &message, at, n), data, bytes);
+    return 0;
+}
+static int open_unverified(void) {
+    begun();
+    IN_PIECES(fotsgure_gcm_decrypt_unverified(&gcm, &message, at, n), data, bytes);
+    return (int)fotsgure_gcm_accept(&gcm, &message, tag, 16);
+}
+static int stream_in_pieces(void) {
+    IN_PIECES(fotsgure_aes_add_keystream(&aes, &ctr, at, n), data, bytes);
+    return 0;
+}
+
+/* Planted, each to be found, but for the keystream, which may stay: by the instructions, by the addresses alone, or by what is left. */
+static volatile uint8_t table[256], sink;
+static void use(const void *at) { __asm__ volatile("" : : "r"(at) : "memory"); }
+static int branch(void) { return data[3] & 1 ? sink = 1, 0 : 0; }
+static int early_exit(void) {
+    for (int i = 0; i < 16 && data[i] == 0; i++)
+        sink = 2;
+    return 0;
+}
+static int look_up(void) { return sink = table[data[5]], 0; }
+static int of_struct(size_t wiped) {
+    struct fotsgure_aes it;
+    int said = (int)fotsgure_aes_set_key(&it, key, size);
+    memset(&it, 0, wiped);
+    use(&it);
+    return said;
+}
+static int inner(void) {
+    uint8_t it[16];
+    memcpy(it, sealed, 16);
+    int said = (int)fotsgure_aes_encrypt_blocks(&aes, it, 1);
+    use(it);
+    return said;
+}
+static int keystream(void) {
+    uint8_t it[16];
+    for (int i = 0; i < 16; i++)
+        it[i] = plain[i] ^ sealed[i];
+    use(it);
+    return 0;
+}
+
+/* What a call takes; how its message is sealed; what its data are at first and have to be at the end. */
+enum takes { NOTHING, OF_BLOCKS, OF_BYTES, OF_MESSAGES };
+enum mode { ECB, CBC, CTR, KW, KWP, GCM, SIV };
+enum text { PLAIN, SEALED, ZEROS };
+#define MESSAGE additional, extra, data, bytes
+#define CHANGED additional, extra + 1, data, bytes
+#define ALONE(IT, name, call) IT(name, NOTHING, CTR, PLAIN, PLAIN, 0, call)
+#define CALLS(IT) \
+    ALONE(IT, planted_branch, branch()) ALONE(IT, planted_early_exit, early_exit()) ALONE(IT, planted_look_up, look_up()) \
+    ALONE(IT, planted_inner, inner()) ALONE(IT, planted_not_wiped, of_struct(0)) ALONE(IT, planted_keystream, keystream()) \
+    ALONE(IT, planted_half_wiped, of_struct(sizeof aes / 2)) ALONE(IT, version, fotsgure_aes_version() != FOTSGURE_AES_VERSION) \
+    ALONE(IT, key_length, fotsgure_aes_key_length(&aes) != size) ALONE(IT, wipe, (fotsgure_aes_wipe(&aes), 0)) \
+    ALONE(IT, set_key, fotsgure_aes_set_key(&aes, key, size)) \
+    IT(set_key_refused, NOTHING, CTR, PLAIN, PLAIN, FOTSGURE_AES_KEY_LENGTH, fotsgure_aes_set_key(&aes, key, 17)) \
+    IT(encrypt, OF_BLOCKS, ECB, PLAIN, SEALED, 0, fotsgure_aes_encrypt_blocks(&aes, data, count)) \
+    IT(decrypt, OF_BLOCKS, ECB, SEALED, PLAIN, 0, fotsgure_aes_decrypt_blocks(&aes, data, count)) \
+    IT(encrypt_to, OF_BLOCKS, ECB, PLAIN, SEALED, 0, fotsgure_aes_encrypt_blocks_to(&aes, given, count, data, count)) \
+    IT(decrypt_to, OF_BLOCKS, ECB, SEALED, PLAIN, 0, fotsgure_aes_decrypt_blocks_to(&aes, given, count, data, count)) \
+    IT(encrypt_with, OF_BLOCKS, ECB, PLAIN, SEALED, 0, fotsgure_aes_encrypt_blocks_with(key, size, data, count)) \
+    IT(decrypt_with, OF_BLOCKS, ECB, SEALED, PLAIN, 0, fotsgure_aes_decrypt_blocks_with(key, size, data, count)) \
+    IT(unequal, OF_BLOCKS, ECB, PLAIN, PLAIN, FOTSGURE_AES_UNEQUAL_COUNTS, \
+        fotsgure_aes_encrypt_blocks_to(&aes, given, count, data, count + 1)) \
+    IT(cbc_encrypt, OF_BLOCKS, CBC, PLAIN, SEALED, 0, fotsgure_aes_cbc_encrypt(&aes, &cbc, data, count)) \
+    IT(cbc_decrypt, OF_BLOCKS, CBC, SEALED, PLAIN, 0, fotsgure_aes_cbc_decrypt(&aes, &cbc, data, count)) \
+    IT(wrap, OF_BLOCKS, KW, PLAIN, SEALED, 0, fotsgure_aes_wrap(&aes, given, 2 * count, data, 2 * count + 1)) \
+    IT(unwrap, OF_BLOCKS, KW, SEALED, PLAIN, 0, fotsgure_aes_unwrap(&aes, given, 2 * count + 1, data, 2 * count)) \
+    IT(unwrap_refused, OF_BLOCKS, KW, PLAIN, ZEROS, FOTSGURE_AES_REFUSED, \
+        fotsgure_aes_unwrap(&aes, given, 2 * count + 1, data, 2 * count)) \
+    IT(wrap_padded, OF_BLOCKS, KWP, PLAIN, SEALED, 0, fotsgure_aes_wrap_padded(&aes, given, bytes - 3, data, 2 * count + 1)) \
+    IT(unwrap_padded, OF_BLOCKS, KWP, SEALED, PLAIN, 0, \
+        fotsgure_aes_unwrap_padded(&aes, given, 2 * count + 1, data, 2 * count, &key_bytes)) \
+    IT(unwrap_padded_refused, OF_BLOCKS, KWP, PLAIN, ZEROS, FOTSGURE_AES_REFUSED, \
+        fotsgure_aes_unwrap_padded(&aes, given, 2 * count + 1, data, 2 * count, &key_bytes)) \
+    IT(add_keystream, OF_BYTES, CTR, PLAIN, SEALED, 0, fotsgure_aes_add_keystream(&aes, &ctr, data, bytes)) \
+    IT(add_keystream_to, OF_BYTES, CTR, SEALED, PLAIN, 0, fotsgure_aes_add_keystream_to(&aes, &ctr, given, bytes, data, bytes)) \
+    IT(add_keystream_with, OF_BYTES, CTR, PLAIN, SEALED, 0, fotsgure_aes_add_keystream_with(key, size, &ctr, data, bytes)) \
+    IT(add_keystream_pieces, OF_BYTES, CTR, PLAIN, SEALED, 0, stream_in_pieces()) \
+    ALONE(IT, gcm_set_key, fotsgure_gcm_set_key(&gcm, key, size)) ALONE(IT, gcm_wipe, (fotsgure_gcm_wipe(&gcm), 0)) \
+    ALONE(IT, gcm_wipe_message, (fotsgure_gcm_wipe_message(&message), 0)) \
+    IT(gcm_seal, OF_MESSAGES, GCM, PLAIN, SEALED, 0, fotsgure_gcm_seal(&gcm, nonce, nonce_bytes, MESSAGE, tag)) \
+    IT(gcm_seal_next, OF_MESSAGES, GCM, PLAIN, PLAIN, 0, (fotsgure_gcm_seal_next(&gcm, &counter, nonce, MESSAGE, tag) \
+        || fotsgure_gcm_open(&gcm, nonce, 12, MESSAGE, tag, 16))) \
+    IT(gcm_open, OF_MESSAGES, GCM, SEALED, PLAIN, 0, fotsgure_gcm_open(&gcm, nonce, nonce_bytes, MESSAGE, tag, 16)) \
+    IT(gcm_open_refused, OF_MESSAGES, GCM, SEALED, SEALED, FOTSGURE_GCM_REFUSED, \
+        fotsgure_gcm_open(&gcm, nonce, nonce_bytes, CHANGED, tag, 16)) \
+    IT(gcm_seal_pieces, OF_MESSAGES, GCM, PLAIN, SEALED, 0, seal_in_pieces()) \
+    IT(gcm_open_pieces, OF_MESSAGES, GCM, SEALED, PLAIN, 0, open_in_pieces()) \
+    IT(gcm_open_pieces_refused, OF_MESSAGES, GCM, SEALED, SEALED, FOTSGURE_GCM_REFUSED, (extra++, open_in_pieces())) \
+    IT(gcm_open_unverified, OF_MESSAGES, GCM, SEALED, PLAIN, 0, open_unverified()) \
+    IT(siv_set_key, NOTHING, SIV, PLAIN, PLAIN, 0, fotsgure_gcm_siv_set_key(&siv, key, size)) \
+    IT(siv_wipe, NOTHING, SIV, PLAIN, PLAIN, 0, (fotsgure_gcm_siv_wipe(&siv), 0)) \
+    IT(siv_seal, OF_MESSAGES, SIV, PLAIN, SEALED, 0, fotsgure_gcm_siv_seal(&siv, nonce, MESSAGE, tag)) \
+    IT(siv_open, OF_MESSAGES, SIV, SEALED, PLAIN, 0, fotsgure_gcm_siv_open(&siv, nonce, MESSAGE, tag)) \
+    IT(siv_open_refused, OF_MESSAGES, SIV, SEALED, SEALED, FOTSGURE_GCM_REFUSED, \
+        fotsgure_gcm_siv_open(&siv, nonce, CHANGED, tag))
+#define DEFINED(name, takes, mode, from, to, wanted, call) static void call_##name(void) { said((int)(call)); }
+#define LISTED(name, takes, mode, from, to, wanted, call) {#name, call_##name, takes, mode, from, to, wanted},
+CALLS(DEFINED)
+static const struct call {
+    const char *name; void (*it)(void); enum takes takes; enum mode mode; enum text from, to; int wanted;
+} calls[] = {CALLS(LISTED)};
+
+/* The lengths of each kind of call, and what goes with them: positions, or lengths of nonces. */
+#define OF(list) (sizeof list / sizeof *list)
+static const size_t lengths_of_blocks[] = {0, 1, 2, 3, 4, 7, 8, 9, 15, 16, 17, 24, 33, 40, 127};
+static const size_t lengths_of_bytes[] = {0, 1, 15, 16, 17, 33, 64, 100, 127, 128, 129, 255, 300, 2000};
+static const uint64_t positions[] = {0, 5, ((uint64_t)1 << 40) - 1};
+static const size_t nonces[] = {12, 8, 16}, extras[] = {0, 13, 20, 100, 32};
+
+/* Bytes of a run: all 0, all 1, and then others each time. */
+static void fill(uint8_t *at, size_t length, int run) {
+    for (size_t i = 0; i < length; i++) {
+        state = state * 6364136223846793005u + 1442695040888963407u;
+        at[i] = run == 0 ? 0 : run == 1 ? 0xff : (uint8_t)(state >> 56);
+    }
+}
+/* How many bytes a sealed message has, beside its tag. */
+static size_t length_of(const struct call *call, enum text text) {
+    return bytes + (text == SEALED && (call->mode == KW || call->mode == KWP) ? 8 : 0) - (text == PLAIN && call->mode == KWP ? 3 : 0);
+}
+static void start(void) {
+    memcpy(ctr.iv, nonce, 16);
+    memcpy(cbc.previous, nonce, 16);
+    memcpy(counter.next, nonce, 12);
+    ctr.position = position;
+}
+static int seal(const struct call *call) {
+    size_t whole = (bytes + 15) / 16 * 16;
+    memcpy(sealed, plain, bytes + MORE);
+    memset(stream, 0, bytes + MORE);
+    start();
+    switch (call->mode) {
+    case ECB: return (int)fotsgure_aes_encrypt_blocks(&aes, sealed, count);
+    case CBC: return (int)fotsgure_aes_cbc_encrypt(&aes, &cbc, sealed, count);
+    case CTR:
+        ctr.position -= position % 16;
+        said((int)fotsgure_aes_add_keystream(&aes, &ctr, stream, whole + 16));
+        start();
+        return (int)fotsgure_aes_add_keystream(&aes, &ctr, sealed, bytes);
+    case KW: return (int)fotsgure_aes_wrap(&aes, plain, 2 * count, sealed, 2 * count + 1);
+    case KWP: return (int)fotsgure_aes_wrap_padded(&aes, plain, bytes - 3, sealed, 2 * count + 1);
+    case GCM:
+        said((int)fotsgure_gcm_set_key(&gcm, key, size) | (int)fotsgure_gcm_begin(&gcm, &message, nonce, nonce_bytes));
+        for (int i = 0; i < 16; i++)
+            first[0][i] = first[1][15 - i] = message.first[i];
+        said((int)fotsgure_gcm_seal(&gcm, nonce, nonce_bytes, additional, 0, stream, whole, tag));
+        return (int)fotsgure_gcm_seal(&gcm, nonce, nonce_bytes, additional, extra, sealed, bytes, tag);
+    case SIV:
+        said((int)fotsgure_gcm_siv_set_key(&siv, key, size));
+        said((int)fotsgure_gcm_siv_seal(&siv, nonce, additional, extra, sealed, bytes, tag));
+        for (size_t i = 0; i < bytes; i++)
+            stream[i] = plain[i] ^ sealed[i];
+    }
+    return 0;
+}
+/* What a run is given, by the numbers of its key and of its message. */
+static void prepare(const struct call *call, int of_key, int of_message) {
+    state = (uint64_t)of_key * 0x9e3779b97f4a7c15u + 1;
+    fill(key, sizeof key, of_key);
+    state = (uint64_t)of_message * 0x9e3779b97f4a7c15u + 7;
+    fill(plain, bytes + MORE, of_message);
+    fill(nonce, sizeof nonce, of_message < 2 ? 0 : 2);
+    fill(additional, sizeof additional, of_message);
+    status = 0;
+    said((int)fotsgure_aes_set_key(&aes, key, size));
+    said(seal(call));
+    if (status)
+        abort();
+    memcpy(given, call->from == SEALED ? sealed : plain, bytes + MORE);
+    memcpy(data, given, bytes + MORE);
+    start();
+}
+
+static uint8_t stack[STACK] __attribute__((aligned(64))), images[RUNS][STACK], known[RUNS][4 * ROOM];
+static size_t known_bytes[RUNS];
+static void (*called)(void);
+static void enter(void) {
+    BEGIN();
+    called();
+    END();
+}
+/* Registers are as they were when the program began, so that none of them has a trace of a key. */
+static ucontext_t begin;
+static void run(const struct call *call, uint8_t *image) {
+    static ucontext_t home, away;
+    called = call->it;
+    memset(stack, FILL, STACK);
+    away = begin;
+    away.uc_stack.ss_sp = stack;
+    away.uc_stack.ss_size = STACK;
+    away.uc_link = &home;
+    makecontext(&away, enter, 0);
+    swapcontext(&home, &away);
+    memcpy(image, stack, STACK);
+}
+static int is_done(const struct call *call) {
+    static const uint8_t zeros[ROOM];
+    const uint8_t *wanted = call->to == PLAIN ? plain : call->to == SEALED ? sealed : zeros;
+    return status == call->wanted && memcmp(data, wanted, length_of(call, call->to)) == 0;
+}
+/* What may stay, since the caller has it or it tells nothing of the key: the message, its keystream, and a counter block. */
+static void note(int run, const void *at, size_t length) {
+    memcpy(known[run] + known_bytes[run], at, length);
+    known_bytes[run] += length;
+}
+static void note_known(const struct call *call, int run) {
+    size_t end = bytes + position % 16, rest = call->mode == CTR ? -end % 16 : 0;
+    known_bytes[run] = 0;
+    note(run, sealed, length_of(call, SEALED));
+    note(run, stream + end, rest);
+    note(run, plain, length_of(call, PLAIN));
+    note(run, stream + end, rest);
+    note(run, tag, 16);
+    if (call->mode == CTR || call->mode >= GCM)
+        note(run, stream, (end + 16) / 16 * 16);
+    note(run, first, nonce_bytes == 12 ? 0 : sizeof first);
+}
+/* Whether so many bytes are the same under all keys. */
+static int is_same(size_t at, size_t length) {
+    int same = 1;
+    for (int other = 1; other < RUNS; other++)
+        same &= memcmp(images[other] + at, images[0] + at, length) == 0;
+    return same;
+}
+/* Counts the bytes of a run's stack that other keys leave otherwise: those that are known, by pieces, and the others. It begins 64
+ * bytes below the deepest place. */
+static void count_left(int run, size_t deep, size_t *is_known, size_t *is_secret) {
+    *is_known = *is_secret = 0;
+    for (size_t i = deep + 64 < STACK ? (STACK - deep - 64) / 64 * 64 : 0, piece; i < STACK; i += piece) {
+        piece = i % 64 == 0 && is_same(i, 64) ? 64 : 1;
+        if (piece == 64 || is_same(i, 1))
+            continue;
+        const uint8_t *at = i + PIECE > STACK ? NULL : memmem(known[run], known_bytes[run], images[run] + i, PIECE);
+        for (; at && at + piece < known[run] + known_bytes[run] && i + piece < STACK && at[piece] == images[run][i + piece];)
+            piece++;
+        *(at ? is_known : is_secret) += piece;
+    }
+}
+/* A call at one length, for each message under each key. */
+static void at_length(const struct call *call) {
+    int did[RUNS];
+    for (int of_message = 0; of_message < RUNS; of_message++) {
+        size_t deep = STACK, is_known, is_secret;
+        for (int of_key = 0; of_key < RUNS; of_key++) {
+            prepare(call, of_key, of_message);
+            size_t own_extra = extra;
+            run(call, images[of_key]);
+            extra = own_extra;
+            did[of_key] = is_done(call);
+            note_known(call, of_key);
+        }
+        while (deep && images[0][STACK - deep] == FILL)
+            deep--;
+        for (int of_key = 0; of_key < RUNS; of_key++) {
+            count_left(of_key, deep, &is_known, &is_secret);
+            printf("%s\t%zu\t%zu\t%llu\t%s\t%zu\t%zu\t%zu\n", call->name, 8 * size, call->takes == OF_BLOCKS ? count : bytes,
+                call->takes == OF_MESSAGES ? 1000 * nonce_bytes + extra : (unsigned long long)position,
+                did[of_key] ? "done" : "NOT DONE", deep, is_known, is_secret);
+        }
+    }
+}
+static void at_lengths(const struct call *call) {
+    size_t all = call->takes == NOTHING ? 1 : call->takes == OF_BLOCKS ? OF(lengths_of_blocks) : OF(lengths_of_bytes);
+    size_t more = call->takes == OF_BYTES ? OF(positions) : call->takes == OF_MESSAGES && call->mode == GCM ? OF(nonces) : 1;
+    for (size_t i = 0; i < all; i++)
+        for (size_t k = 0; k < more; k++) {
+            count = call->takes == NOTHING ? 2 : call->takes == OF_BLOCKS ? lengths_of_blocks[i] : 0;
+            bytes = count ? 16 * count : call->takes == OF_BLOCKS ? 0 : lengths_of_bytes[i];
+            position = call->takes == OF_BYTES ? positions[k] : 0;
+            nonce_bytes = call->takes == OF_MESSAGES ? nonces[k] : 12;
+            extra = call->takes == OF_MESSAGES ? extras[i % OF(extras)] : 0;
+            /* Keys of one block or more are wrapped. */
+            if (count || (call->mode != KW && call->mode != KWP))
+                at_length(call);
+        }
+}
+
+int main(void) {
+    getcontext(&begin);
+    for (size = 16; size <= 32; size += 8)
+        for (const struct call *call = calls; call < calls + OF(calls); call++)
+            if (call->mode != SIV || size != 24)
+                at_lengths(call);
+    return 0;
+}
