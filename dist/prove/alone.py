@@ -44,7 +44,8 @@ def before(program, instruction, address, seed):
     m.vectors = [drawn.bytes(m.vector_size) for _ in m.vectors]
     m.general = {r: m.from_bytes(tuple(drawn.bytes(8))) for r in m.general}
     m.general[m.stack_pointer], m.top = Pointer("stack", MIDDLE), SIZE
-    m.store(m.general[m.stack_pointer], m.to_bytes(RETURN_ADDRESS, 8))
+    if not instruction.operands:
+        m.store(m.general[m.stack_pointer], m.to_bytes(RETURN_ADDRESS, 8))
     m.flags = {f: drawn.random.getrandbits(1) for f in m.flags}
     m.prepare(instruction, Pointer("buffer", MIDDLE))
     return m

@@ -118,7 +118,8 @@ SIV_FAULTS = [
     ("AES-GCM-SIV: a branch on a derived key", PREPARE, r"(movq\t\(%rsp\), %r12\n)",
      "\\1\ttestq\t%r12, %r12\n\tje\t77f\n77:\n",
      lambda k: [k.seal(0, 0)]),
-    ("AES-GCM-SIV: the stack not wiped, with values of derived keys", SIV_SEAL, r"\tcallq\t\"aes_cipher::zeroize::stack::wipe_stack.*\n",
+    ("AES-GCM-SIV: the stack not wiped, with values of derived keys", SIV_SEAL,
+     r"\tcallq\t\"aes_cipher::zeroize::stack::wipe_stack.*\n",
      "",
      lambda k: [k.seal(0, 0)]),
     ("AES-GCM-SIV: lengths exchanged", PUT_TAG, r"(leal\t\(,%r15,8\), %eax)", r"xchgq\t%r14, %r15\n\t\1",
@@ -211,7 +212,7 @@ def off_by_one(m, value):
 
 
 BRANCHES = "call", "jmp", "ret", "b", "bl", "br", "blr", "cbz", "cbnz", "tbz", "tbnz"
-WITHOUT_EFFECT = {"nop", "endbr64", "xchg"}  # xchg is padding too
+WITHOUT_EFFECT = {"nop", "endbr64", "hint", "xchg"}  # xchg is padding too
 COMPARISONS = "cmp", "test", "bt", "ptest", "vptest", "ccmp"
 
 

@@ -40,7 +40,7 @@ AES_FAULTS = [
     ("a register that nobody wrote", LANES, FIRST_KEY, "", few),
     ("a round key left on the stack", LANES, FIRST_KEY, r"\1\tstr\tq1, [sp, #-16]!\n\tadd\tsp, sp, #16\n", few),
     ("a plain copy that isn't wiped", BLOCKS, LENGTH,
-     r"\1\tldr\tq0, [x1]\n\tstr\tq0, [sp, #-16]!\n\tadd\tsp, sp, #16\n", few),
+     r"\1\tldr\tq0, [x1]\n\tsub\tsp, sp, #512\n\tstr\tq0, [sp]\n\tadd\tsp, sp, #512\n", few),
     ("the schedule of a call under a key not wiped", r"fotsgure_aes_encrypt_blocks_with:",
      r"\tbl\t\"aes_cipher::zeroize::.*\n", "", lambda k: [k.blocks("encrypt", 1, "_with")]),
     ("statuses exchanged", r"fotsgure_aes_encrypt_blocks_to:", r"mov\tw0, #3", "mov\tw0, #2", lambda k: k.refused()),
