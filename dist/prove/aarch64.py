@@ -356,7 +356,9 @@ def combined(d, name, a, b):
     if name in ("bic", "orn"):
         b = [d.xor_byte(y, 255) for y in b]
     if name == "eor":
-        return [0 if x == y else d.xor_byte(x, y) for x, y in zip(a, b)]
+        # (Bytes of which only the name is known may differ, unless they are in one place.)
+        alike = a is b or all(x < 256 or d.symbolic(x) for x in a)
+        return [0 if x == y and alike else d.xor_byte(x, y) for x, y in zip(a, b)]
     if name in ("orr", "orn"):
         return [x if x == y else d.or_byte(x, y) for x, y in zip(a, b)]
     return [d.and_byte(x, y) for x, y in zip(a, b)]
@@ -583,10 +585,11 @@ def not_(m, name, to, a):
 
 @op("umaxv")
 def umaxv(m, name, to, a):
-    b = m.read(a)
+    """Bytes that are 0 if others are equal, and else 255, as those beside them."""
+    b = [x for x in m.read(a) if x] or [0]
     known = [m.equalities.get(x) for x in b]
-    if max(b) < 256:
-        return m.write(to, [max(b)])
+    if 255 in b or max(b) < 256:
+        return m.write(to, [255 if 255 in b else max(b)])
     if None in known or {k[1:] for k in known} != {(0, 255)}:
         raise Unproved("the maximum of bytes that depend on the key or on data")
     m.write(to, [255 - 255 * m.decide(m.zero_flag([k[0] for k in known]))])

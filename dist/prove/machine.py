@@ -78,7 +78,8 @@ class Program:
 
     def disassembled(self):
         lines = {}
-        for line in self.tool("objdump", "-d", "--no-show-raw-insn", *self.machine.objdump).splitlines():
+        # (Without -z it leaves out zeros, which a processor runs.)
+        for line in self.tool("objdump", "-d", "-z", "--no-show-raw-insn", *self.machine.objdump).splitlines():
             found = re.match(r"^ +([0-9a-f]+):\t(.*)$", line)
             if found:
                 lines[int(found[1], 16)] = found[2].strip()
@@ -205,8 +206,9 @@ class Machine:
         if isinstance(x, Distance) and is_int(y) and not borrow:
             return Distance(x.base, x.other, x.offset - y), {"c": (x, y, "below") if y else 0, "z": (x, y, "equal")}
         if is_pointer(x, y) and not borrow and x.base == y.base:
-            # Objects don't wrap around, so their addresses are ordered as offsets are.
-            return x.offset - y.offset & mask, {"c": int(x.offset < y.offset), "z": int(x.offset == y.offset)}
+            # Objects don't wrap around, so their addresses are ordered as offsets are; a counter may.
+            order = {"c": int(x.offset < y.offset)} if x.base in self.regions else {}
+            return x.offset - y.offset & mask, {**order, "z": int(x.offset == y.offset)}
         if is_pointer(x, y) and not borrow and {x.base, y.base} <= set(self.regions):
             return Distance(x.base, y.base, x.offset - y.offset), {}
         if is_pointer(x) and is_int(y) and size == 8:
@@ -296,8 +298,9 @@ class Machine:
             raise Unproved("a branch or a condition depends on an undefined flag")
         if self.assumed and flag[0] == "zero" and set(flag[1:]) == set(self.assumed):
             return 0
-        public = flag[0] == "zero" and not any(self.domain.depends[c] & ~PUBLIC for b in flag[1:]
-                                               for c in self.domain.cells(b))
+        # A byte without cells is one that nobody wrote, or of which only the name is known.
+        public = flag[0] == "zero" and all(self.domain.symbolic(b) for b in flag[1:]) and not any(
+            self.domain.depends[c] & ~PUBLIC for b in flag[1:] for c in self.domain.cells(b))
         if flag == SECRET or flag[0] == "zero" and not (public or self.may_reveal):
             raise Unproved("a branch or a condition depends on the key or on data")
         return self.by_place(flag)

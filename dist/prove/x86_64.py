@@ -360,8 +360,8 @@ def shift(m, name, to, count=1):
         raise Unproved("a shift by a count that isn't constant")
     size, v = 8 * to.size, m.get(to)
     n &= 63 if to.size == 8 else 31
-    if n == 0:
-        return
+    if n == 0:  # which clears the upper half of a register too
+        return m.put(to, v)
     b = m.bits(v, to.size)
     if name == "shl":
         r, out = ([0] * n + b)[:size], b[size - n] if n <= size else 0
@@ -618,7 +618,7 @@ def pinsrb(m, name, *operands):
 @op("movss", "movsd")
 def movss(m, name, to, source):
     """A load clears the rest of the register."""
-    size = 4 if name[-2] == "s" else 8
+    size = 4 if name[-1] == "s" else 8
     if isinstance(to, Vec) and isinstance(source, Vec):
         raise Unproved("instruction not covered")
     m.put_vector(name, to, m.get_vector(source, size)[:size] + [0] * (16 - size) * isinstance(to, Vec))
