@@ -77,6 +77,13 @@ AES_FAULTS = [
     ("statuses exchanged", r"fotsgure_aes_encrypt_blocks_to:", r"movl\t\$3, %(\w+)", r"movl\t$2, %\1",
      lambda k: k.refused()),
     ("a call of what isn't covered", BLOCKS, r"addq\t\$8, %rsp", "cpuid\n\taddq\t$8, %rsp", blocks(2)),
+    ("a branch on a comparison of bytes of the key", BLOCKS, r"addq\t\$4, %rdi",
+     "movdqu\t4(%rdi), %xmm0\n\tpxor\t%xmm1, %xmm1\n\tpcmpeqb\t%xmm0, %xmm1\n\tptest\t%xmm1, %xmm1\n"
+     "\tje\t77f\n77:\taddq\t$4, %rdi", blocks(2)),
+    ("a branch on a register that nobody wrote", BLOCKS, r"addq\t\$4, %rdi",
+     "ptest\t%xmm9, %xmm9\n\tje\t77f\n77:\taddq\t$4, %rdi", blocks(2)),
+    ("zeros in the code, which write to an address", BLOCKS, r"addq\t\$4, %rdi", ".zero\t32\n\taddq\t$4, %rdi",
+     blocks(2)),
     ("the struct read before it is written", r"fotsgure_aes_wipe:", r"# %bb.0:.*\n",
      "\tcmpb\t$0, 8(%rdi)\n\tje\t77f\n77:\n",
      lambda k: [k.wipe()]),
