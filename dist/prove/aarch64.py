@@ -6,8 +6,8 @@ import re
 from collections import namedtuple
 
 from bits import LOST, Unproved
-from machine import (RETURN_ADDRESS, SECRET, Instruction, Machine, Memory, Register, Table, Vector, constant, is_int, joined, kind,
-                     lanes)
+from machine import (RETURN_ADDRESS, SECRET, Instruction, Machine, Memory, Register, Table, Vector, constant, interleaved, is_int, joined,
+                     kind, lanes)
 
 Shifted = namedtuple("Shifted", "operand how count")
 LANES = {"b": 1, "h": 2, "s": 4, "d": 8, "q": 16}
@@ -307,10 +307,6 @@ def some(m, byte):
 
 def in_each(to, b):
     return b[:to.lane] * (to.size // to.lane)
-
-
-def interleaved(a, b, lane):
-    return joined(x + y for x, y in zip(lanes(a, lane), lanes(b, lane)))
 
 
 TABLE.update({

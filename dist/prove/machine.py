@@ -63,6 +63,10 @@ def joined(parts):
     return [x for part in parts for x in part]
 
 
+def interleaved(a, b, size):
+    return joined(x + y for x, y in zip(lanes(a, size), lanes(b, size)))
+
+
 def contrary(flag):
     if isinstance(flag, tuple):
         return flag[1] if flag[0] == "not" else ("not", flag)
@@ -105,10 +109,7 @@ class Program:
         self.lines, self.cache = self.disassembled(), {}
         addresses = list(self.lines)
         self.next = dict(zip(addresses, addresses[1:]))
-        self.symbols = {}
-        for line in self.tool("nm").splitlines():
-            address, _, name = line.split(None, 2)
-            self.symbols[name] = int(address, 16)
+        self.symbols = {name: int(address, 16) for address, name in re.findall(r"(?m)^([0-9a-f]+) \S (.*)$", self.tool("nm"))}
         self.constants = self.constant_sections()
 
     def tool(self, name, *options):
@@ -388,10 +389,8 @@ class Machine:
             self.store(self.address(o), self.to_bytes(v, o.size), o.align)
         elif o.size == 8:
             self.general[o.name] = v
-        elif o.size == 4:
-            self.general[o.name] = v & 0xffffffff if is_int(v) else self.from_bytes(self.to_bytes(v, 4) + [0] * 4)
         else:
-            old = self.to_bytes(self.general[o.name], 8)
+            old = [0] * 8 if o.size == 4 else self.to_bytes(self.general[o.name], 8)
             self.general[o.name] = self.from_bytes(old[:o.at] + self.to_bytes(v, o.size) + old[o.at + o.size:])
 
     def read(self, o):
@@ -553,15 +552,10 @@ class Machine:
         to, source, count = (self.general[r] for r in self.arguments[:3])
         if not is_int(count):
             raise Unproved("a length depends on the key or on data")
-        if name == "memset":
-            content = self.to_bytes(source, 8)[:1] * count
-        else:
-            content = self.load(source, count) if count else []
-            overlap = is_pointer(source) and to.base == source.base and abs(to.offset - source.offset) < count
-            if name == "memcpy" and overlap:
-                raise Unproved("memcpy of overlapping bytes")
+        if name == "memcpy" and is_pointer(source) and to.base == source.base and abs(to.offset - source.offset) < count:
+            raise Unproved("memcpy of overlapping bytes")
         if count:
-            self.store(to, content)
+            self.store(to, self.to_bytes(source, 8)[:1] * count if name == "memset" else self.load(source, count))
         for r in self.scratch:
             self.general[r] = (self.domain.undefined,) * 8
         self.general[self.result] = to
