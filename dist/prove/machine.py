@@ -19,6 +19,7 @@ A machine is a class below Machine, in a file of its own (x86_64.py), that says:
     condition(code)             0 or 1, by the flags (see Machine.decide)
 
 A step is `instruction.run(machine, name, *operands)`. `next_address` is that of the next instruction."""
+import copy
 import re
 import struct
 import subprocess
@@ -84,6 +85,10 @@ def kind(o):
     return o if isinstance(o, str) else "{%d}" % len(o) if isinstance(o, tuple) else "i"
 
 
+class Question(Exception):
+    """A flag of which both values have to be proved."""
+
+
 class Region:
     """A buffer, by its name: what it holds, and what a call may do with it."""
 
@@ -144,7 +149,7 @@ class Machine:
         self.next_address, self.last, self.steps, self.used = entry, entry, 0, {}
         self.externals = {program.symbols[n]: n for n in ("memcpy", "memmove", "memset") if n in program.symbols}
         self.shifted, self.lost, self.origins, self.native, self.after_external = {}, set(), {}, None, None
-        self.choices, self.placed, self.may_reveal, self.assumed, self.equalities = [], {}, False, (), {}
+        self.placed, self.may_reveal, self.assumed, self.equalities, self.done, self.want = {}, False, (), {}, 0, None
         self.written = (), 0
         self.wraps, self.wrap = None, 1 << 64  # a word of unknown value, and the offset from which on it has wrapped around
         self.enter(arguments)
@@ -356,11 +361,11 @@ class Machine:
 
     def looked_up(self, table, indices, significant):
         """The bytes of a table, a tuple, at these indices, of whose bits `significant` gives those that count."""
-        memo = self.domain.entries
+        memo = (self.domain.entries if max(table) < 256 else self.domain.products.memo).setdefault(table, {})
         for x in indices:
-            if (table, x) not in memo:
-                memo[table, x] = self.entry(table, significant(self.domain.bits(x)))
-        return [memo[table, x] for x in indices]
+            if x not in memo:
+                memo[x] = self.entry(table, significant(self.domain.bits(x)))
+        return [memo[x] for x in indices]
 
     def entry(self, table, index):
         """The byte of a table at an index of these bits; 0 past its end."""
@@ -496,12 +501,19 @@ class Machine:
         return self.by_place(flag)
 
     def by_place(self, flag):
-        """A flag that says how far two buffers are apart, or whether a wrapped key or a tag is right: both cases have to be proved, one
-        by one (see calls.prove)."""
+        """A flag that says how far two buffers are apart, or whether a wrapped key or a tag is right: a question. Both answers have to be
+        proved (see calls.prove)."""
         if flag not in self.placed:
-            n = len(self.placed)
-            self.placed[flag] = self.choices[n] if n < len(self.choices) else 0
+            raise Question(flag)
         return self.placed[flag]
+
+    def answered(self, flag, answer):
+        """The same machine, where a flag has this value."""
+        m = copy.copy(self)
+        m.regions = {name: Region(r.content, r.writable, r.align) for name, r in self.regions.items()}
+        m.general, m.vectors, m.flags, m.written = dict(self.general), list(self.vectors), dict(self.flags), ((), 0)
+        m.before, m.placed, m.origins, m.want = dict(self.before), {**self.placed, flag: answer}, dict(self.origins), None
+        return m
 
     # Running.
     def run(self, watches=(), limit=10000000):
@@ -517,8 +529,8 @@ class Machine:
                     watch(self)
                 if self.steps > limit:
                     raise Unproved("doesn't return")
-        except Pause:
-            self.next_address = self.last
+        except (Pause, Question):  # before this instruction
+            self.next_address, self.steps = self.last, self.steps - 1
             raise
         except Unproved as e:
             raise Unproved("%s [at %x: %s]" % (e, self.last, self.program.lines.get(self.last))) from None
