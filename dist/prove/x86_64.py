@@ -88,10 +88,9 @@ def signed(value, size):
 
 
 TABLE = Table({
-    "nop": lambda m, name: None,
-    "endbr64": lambda m, name: None,
-    "mov": lambda m, name, to, source: m.put(to, m.get(source)),
-    "movabs": lambda m, name, to, source: m.put(to, m.get(source)),
+    **dict.fromkeys(("nop", "endbr64"), lambda m, name: None),
+    **dict.fromkeys(("mov", "movabs"), lambda m, name, to, source: m.put(to, m.get(source))),
+    **dict.fromkeys(("movdqa", "movaps", "movdqu", "movups"), lambda m, name, to, source: m.write(to, m.read(source))),
     "movzx": lambda m, name, to, source: m.write(to, m.read(source) + [0] * (to.size - source.size)),
     "movsxd": lambda m, name, to, source: m.put(to, signed(m.get(source), source.size) & WORD),
     "movbe": lambda m, name, to, source: m.write(to, m.read(source)[::-1]),
@@ -285,7 +284,6 @@ def broadcast(size):
     return lambda m, name, to, source: m.write(to, m.read(source)[:size] * (to.size // size))
 
 
-TABLE.update(dict.fromkeys(("movdqa", "movaps", "movdqu", "movups"), lambda m, name, to, source: m.write(to, m.read(source))))
 TABLE.update({
     "movq": first(8),
     "movd": first(4),
