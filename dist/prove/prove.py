@@ -246,19 +246,25 @@ def say_what_is_missing():
                 print("%s %s here, without %s" % (machine.__name__, consequence, ", ".join(names)))
 
 
-def main():
-    parser = argparse.ArgumentParser(description=__doc__)
+def options_of(description):
+    """Those of the command line; of the builds, those for which the tools are here."""
+    parser = argparse.ArgumentParser(description=description)
     parser.add_argument("--dist", default=os.path.dirname(HERE))
     parser.add_argument("--out", default="out/prove")
     parser.add_argument("--all", action="store_true", default=os.environ.get("PROVE") == "all", help="all lengths")
     parser.add_argument("--builds", type=lambda s: s.split(","), default=list(BUILDS))
     parser.add_argument("--keys", type=lambda s: [int(n) for n in s.split(",")], default=KEY_SIZES)
-    parser.add_argument("--only", default="", help="calls that have this in their name")
+    parser.add_argument("--only", default="", help="calls, or faults, that have this in their name")
     parser.add_argument("--lines", action="store_true", help="a line for each case")
     parser.add_argument("--jobs", type=int, default=os.cpu_count())
     options = parser.parse_args()
     os.makedirs(options.out, exist_ok=True)
     options.builds = [build for build in options.builds if not missing(BUILDS[build])]
+    return options
+
+
+def main():
+    options = options_of(__doc__)
     start, proved, failed, used, compared = time.time(), 0, 0, set(), set()
     vectors = pinned(Domain())
     say_what_is_missing()
