@@ -147,7 +147,13 @@ impl<'a, C: BlockCipherEncrypt> LentGcm<'a, C> {
             return Err(InvalidPiece::TooLong);
         }
         let filled = (message.additional % 16) as usize;
-        hash_piece(&self.multiples, &mut message.value, &mut message.rest, filled, bytes);
+        hash_piece(
+            &self.multiples,
+            &mut message.value,
+            &mut message.rest,
+            filled,
+            bytes,
+        );
         wipe_stack::<SHALLOW>();
         message.additional += bytes.len() as u64;
         Ok(())
@@ -430,7 +436,13 @@ impl<'a, C: BlockCipherEncrypt> LentGcm<'a, C> {
             → IsInText phase self.now iv a (c ++ text.now) message.new }
     {
         let filled = (message.text % 16) as usize;
-        hash_piece(&self.multiples, &mut message.value, &mut message.rest, filled, text);
+        hash_piece(
+            &self.multiples,
+            &mut message.value,
+            &mut message.rest,
+            filled,
+            text,
+        );
         message.text += text.len() as u64;
     }
 

@@ -2,7 +2,7 @@
 
 use super::ways::{Trial, try_all};
 use aes::{Block, FixslicedAes};
-use aes_callers::closures::{Mixed, LeavesBackend, Row, Twice, encrypt_row, twice_there_and_back};
+use aes_callers::closures::{LeavesBackend, Mixed, Row, Twice, encrypt_row, twice_there_and_back};
 use aes_cipher::aes::{AesCipher, Bits128, BothWays, KeySize};
 use aes_cipher::cipher::{BlockCipherDecrypt, BlockCipherEncrypt, CipherIn, Direction, KeyInit};
 use aes_hybrid::BothLists;

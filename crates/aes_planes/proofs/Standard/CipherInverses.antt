@@ -182,4 +182,5 @@ module _ (w : List (List ℕ)) (bs : List (List ℕ)) (keys : AreRoundKeys w)
       undone_each (inv_cipher_with w) (cipher_with w) (cipher_of_inv_cipher w keys) bs blocks
 
 pub ruleset inverse_ciphers_on_blocks = (inv_ciphers_of_ciphers, ciphers_of_inv_ciphers)
+
 pub ruleset inverse_ciphers_with = (inv_cipher_of_cipher, cipher_of_inv_cipher)
