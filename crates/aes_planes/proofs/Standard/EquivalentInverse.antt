@@ -1,6 +1,6 @@
 -- EqInvCipher is InvCipher.
 use Rattle.std.proofs.Common.{◌≡◌, ℕ, zero, suc, ◌-◌, ◌<◌, ◌≤◌, List, length, inl, inr, ap, sym}
-use Rattle.std.proofs.Common.{◌∙◌, arith}
+use Rattle.std.proofs.Common.{refl, ◌∙◌, arith}
 use Rattle.aes_planes.specs.Fips197.{round_key, last_round, sub_bytes, inv_sub_bytes, shift_rows}
 use Rattle.aes_planes.specs.Fips197.{inv_shift_rows, mix_columns, inv_mix_columns, add_round_key}
 use Rattle.aes_planes.specs.Fips197.{state_after, inv_state_after, inv_cipher_with, inverted_keys}
