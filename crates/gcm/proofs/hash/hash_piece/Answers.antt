@@ -56,10 +56,10 @@ returns c y s places is =
     let whole_is : whole ≡ take (length others / 16 * 16) others = c.split_at-2.ensures.front in
     let last_is : last ≡ drop (length others / 16 * 16) others = c.split_at-2.ensures.back in
     let v : ℕ = from_be_bytes w128 c.args.value.now in
-    let value : from_be_bytes w128 c.block_of_number-value.result
+    let value : from_be_bytes w128 c.block_of_number.result
     ≡ hashed h (product (bit_xor v (from_be_bytes w128 block)) h) (padded whole)
     (length (padded whole) / 16) =
-    c.block_of_number-value.ensures.back ∙ c.hash_on.ensures
+    c.block_of_number.ensures.back ∙ c.hash_on.ensures
     ∙ ap (λ v. hashed h v (padded whole) (length (padded whole) / 16)) (c.product-sum.ensures
     ∙ (λ t. product (bit_xor (c.number_of_block-before.ensures.number t)
     (c.number_of_block.ensures.number t)) h)) in
