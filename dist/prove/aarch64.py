@@ -6,7 +6,8 @@ import re
 from collections import namedtuple
 
 from bits import LOST, Unproved
-from machine import RETURN_ADDRESS, SECRET, Instruction, Machine, Memory, Register, Vector, constant, is_int, joined, kind, lanes
+from machine import (RETURN_ADDRESS, SECRET, Instruction, Machine, Memory, Register, Table, Vector, constant, is_int, joined, kind,
+                     lanes)
 
 Shifted = namedtuple("Shifted", "operand how count")
 LANES = {"b": 1, "h": 2, "s": 4, "d": 8, "q": 16}
@@ -14,7 +15,7 @@ X = ["x%d" % n for n in range(31)]
 REGISTERS = {n: Register(n, 8) for n in X + ["sp", "xzr"]}
 REGISTERS.update({"w" + n[1:]: Register(n, 4) for n in X + ["xzr"]})
 CONDITIONS = "eq ne cs cc mi pl vs vc hi ls ge lt gt le".split()  # the second of two is the contrary of the first
-WITH_TARGET = "b", "bl", "cbz", "cbnz", "tbz", "tbnz", "adrp"
+WITH_TARGET = "b", "bl", "cbz", "cbnz", "tbz", "adrp"
 
 
 class Aarch64(Machine):
@@ -38,8 +39,8 @@ class Aarch64(Machine):
     @staticmethod
     def decode(text, following):
         name, _, rest = re.sub(r"\s*(//|<).*", "", text).partition("\t")
-        run = meaning(name)
-        if run is None:
+        run = TABLE.get(name)
+        if not run:
             raise Unproved("instruction not covered: " + text)
         operands = parse(rest, name[:2] == "b." or name in WITH_TARGET)
         kinds = ["%s %s" % (kind(o.operand), o.how) if isinstance(o, Shifted) else kind(o) for o in operands]
@@ -121,29 +122,61 @@ def parse(text, with_target):
 
 
 # Instructions: their meanings by their names. Each takes the machine, its own name, and its operands.
-TABLE = {}
+def is_zero(m, a):
+    return m.decide(m.compared(m.get(a), 0, a.size).get("z"))
 
 
-def meaning(name):
-    return TABLE.get(name, branch_if if name[:2] == "b." else None)
+def bit(m, a, n):
+    bit = m.bits(m.get(a), a.size)[n]
+    return m.decide(bit if bit < 2 else SECRET)
 
 
-def op(*names):
-    def add(f):
-        TABLE.update(dict.fromkeys(names, f))
-        return f
-    return add
+TABLE = Table({
+    "b": lambda m, name, to: m.go_to(to),
+    "ret": lambda m, name: m.go_to(m.general["x30"]),
+    "cbz": lambda m, name, a, to: m.go_to(to if is_zero(m, a) else m.next_address),
+    "cbnz": lambda m, name, a, to: m.go_to(m.next_address if is_zero(m, a) else to),
+    "tbz": lambda m, name, a, n, to: m.go_to(m.next_address if bit(m, a, n) else to),
+    "movz": lambda m, name, to, value: m.put(to, m.get(value)),
+    "movn": lambda m, name, to, value: m.put(to, ~m.get(value) & (1 << 8 * to.size) - 1),
+    "adrp": lambda m, name, to, page: m.put(to, page),
+    "umulh": lambda m, name, to, a, b: m.put(to, constant("a factor", m.get(a)) * constant("a factor", m.get(b)) >> 64),
+    "lslv": lambda m, name, to, a, n: m.put(to, m.shift("lsl", m.get(a), constant("a count", m.get(n)) % (8 * to.size), to.size)),
+    "extr": lambda m, name, to, a, b, n: m.put(to, m.unbits((m.bits(m.get(b), to.size) + m.bits(m.get(a), to.size))[n:n + 8 * to.size])),
+})
+for _code in CONDITIONS:
+    TABLE["b." + _code] = lambda m, name, to, code=_code: m.go_to(to if m.condition(code) else m.next_address)
 
 
-@op("hint")
+@TABLE.of("bl", "blr")
+def call(m, name, to):
+    to, m.general["x30"] = m.get(to), m.next_address
+    m.go_to(to)
+
+
+@TABLE.of("hint")
 def hint(m, name, number):
     """BTI: where an indirect call may arrive."""
     if number != 0x22:
         raise Unproved("a hint that isn't BTI")
 
 
+@TABLE.of("csel", "csinc", "csinv")
+def select(m, name, to, a, b, code):
+    try:
+        taken = m.condition(code)
+    except Unproved:  # the choice isn't a branch
+        return m.put(to, m.lost_bytes(to.size))
+    v = m.get(a if taken else b)
+    if name == "csinc" and not taken:
+        v = m.plus(v, 1, 0, to.size)[0]
+    elif name == "csinv" and not taken:
+        v = ~constant("what csinv inverts", v) & (1 << 8 * to.size) - 1
+    m.put(to, v)
+
+
 # Numbers.
-@op("add", "adds")
+@TABLE.of("add", "adds")
 def add(m, name, to, a, b):
     """A sum that isn't needed may have carries of which nothing is known: then nothing may be computed with it."""
     if isinstance(to, Vector):
@@ -162,7 +195,7 @@ def add(m, name, to, a, b):
     m.put(to, r)
 
 
-@op("sub", "subs")
+@TABLE.of("sub", "subs")
 def sub(m, name, to, a, b):
     x, y = m.get(a), m.get(b)
     r, flags = (None, m.compared(x, y, to.size)) if to.name == "xzr" else m.minus(x, y, to.size)
@@ -171,7 +204,7 @@ def sub(m, name, to, a, b):
     m.put(to, r)
 
 
-@op("ccmp")
+@TABLE.of("ccmp")
 def ccmp(m, name, a, b, flags, code):
     if m.condition(code):
         m.set_flags(**m.compared(m.get(a), m.get(b), a.size))
@@ -179,25 +212,17 @@ def ccmp(m, name, a, b, flags, code):
         m.set_flags(s=flags >> 3 & 1, z=flags >> 2 & 1, c=flags >> 1 & 1, o=flags & 1)
 
 
-@op("movk")
+@TABLE.of("movk")
 def movk(m, name, to, value):
     at = value.count if isinstance(value, Shifted) else 0
     m.put(to, constant("what movk changes", m.get(to)) & ~(0xffff << at) | m.get(value))
-
-
-TABLE.update({
-    "movz": lambda m, name, to, value: m.put(to, m.get(value)),
-    "movn": lambda m, name, to, value: m.put(to, ~m.get(value) & (1 << 8 * to.size) - 1),
-    "adrp": lambda m, name, to, page: m.put(to, page),
-    "umulh": lambda m, name, to, a, b: m.put(to, constant("a factor", m.get(a)) * constant("a factor", m.get(b)) >> 64),
-})
 
 
 # Bits.
 LOGIC = {"and": "and", "ands": "and", "orr": "or", "eor": "xor", "bic": "and not", "orn": "or not"}
 
 
-@op(*LOGIC)
+@TABLE.of(*LOGIC)
 def logic(m, name, to, a, b):
     if not isinstance(to, Vector):
         r = m.logic(LOGIC[name], m.get(a), m.get(b), to.size)
@@ -220,12 +245,7 @@ def without(m, x, y):
     return m.bytewise("and not", [x], [y])[0]
 
 
-@op("lslv")
-def lslv(m, name, to, a, count):
-    m.put(to, m.shift("lsl", m.get(a), constant("the count of a shift", m.get(count)) % (8 * to.size), to.size))
-
-
-@op("ubfm", "sbfm", "bfm")
+@TABLE.of("ubfm", "sbfm", "bfm")
 def bitfield(m, name, to, a, r, s):
     """The bits r to s go down to bit 0 if r <= s, else the bits 0 to s go up to bit size - r."""
     size, b = 8 * to.size, m.bits(m.get(a), to.size)
@@ -239,59 +259,8 @@ def bitfield(m, name, to, a, r, s):
     m.put(to, m.unbits(out))
 
 
-@op("extr")
-def extr(m, name, to, high, low, n):
-    m.put(to, m.unbits((m.bits(m.get(low), to.size) + m.bits(m.get(high), to.size))[n:n + 8 * to.size]))
-
-
-# Conditions and branches.
-@op("csel", "csinc", "csinv")
-def select(m, name, to, a, b, code):
-    try:
-        taken = m.condition(code)
-    except Unproved:  # the choice isn't a branch
-        return m.put(to, m.lost_bytes(to.size))
-    v = m.get(a if taken else b)
-    if name == "csinc" and not taken:
-        v = m.plus(v, 1, 0, to.size)[0]
-    elif name == "csinv" and not taken:
-        v = ~constant("what csinv inverts", v) & (1 << 8 * to.size) - 1
-    m.put(to, v)
-
-
-@op("cbz", "cbnz")
-def branch_if_zero(m, name, a, target):
-    if m.decide(m.compared(m.get(a), 0, a.size).get("z")) == (name == "cbz"):
-        m.next_address = target
-
-
-@op("tbz", "tbnz")
-def branch_if_bit(m, name, a, n, target):
-    bit = m.bits(m.get(a), a.size)[n]
-    if m.decide(bit if bit < 2 else SECRET) == (name == "tbnz"):
-        m.next_address = target
-
-
-def branch_if(m, name, target):
-    if m.condition(name[2:]):
-        m.next_address = target
-
-
-@op("b", "bl", "br", "blr")
-def branch(m, name, target):
-    target = constant("where a branch leads", m.get(target))
-    if name in ("bl", "blr"):
-        m.general["x30"] = m.next_address
-    m.next_address = target
-
-
-@op("ret")
-def ret(m, name):
-    m.go_to(m.general["x30"])
-
-
 # Memory. What a pair of registers has lies side by side.
-@op("ldr", "ldur", "ldp", "ldrb", "ldurb", "ldrh", "ldurh", "ldar", "ldaxr", "ld1")
+@TABLE.of("ldr", "ldur", "ldp", "ldrb", "ldar", "ldaxr", "ld1")
 def load(m, name, *operands):
     *registers, source = operands
     at = m.address(source)
@@ -302,7 +271,7 @@ def load(m, name, *operands):
     m.move(source.base, source.after)
 
 
-@op("str", "stur", "stp", "strb", "sturb", "strh", "sturh")
+@TABLE.of("str", "stur", "stp", "strb", "strh")
 def store(m, name, *operands):
     *registers, to = operands
     at = m.address(to)
@@ -312,14 +281,14 @@ def store(m, name, *operands):
     m.move(to.base, to.after)
 
 
-@op("stlxr")
+@TABLE.of("stlxr")
 def store_exclusive(m, name, failed, source, to):
     """It succeeds. It may fail, and stores nothing then; the code tries again, and does then what it does here."""
     m.store(m.address(to), m.read(source), source.size)
     m.put(failed, 0)
 
 
-@op("ld1r")
+@TABLE.of("ld1r")
 def load_in_each(m, name, registers, source):
     to, = registers
     m.write(to, m.load(m.address(source), to.lane) * (to.size // to.lane))
@@ -367,7 +336,7 @@ TABLE.update({
 })
 
 
-@op("ushl")
+@TABLE.of("ushl")
 def ushl(m, name, to, a, counts):
     """The lowest byte of a lane of `counts` is a number with a sign: positive ones shift to the left."""
     out = []
@@ -377,7 +346,7 @@ def ushl(m, name, to, a, counts):
     m.write(to, out)
 
 
-@op("umaxv")
+@TABLE.of("umaxv")
 def umaxv(m, name, to, a):
     """Bytes that are 0 if others are equal, and else 255, as those beside them."""
     b = [x for x in m.read(a) if x] or [0]
@@ -389,7 +358,7 @@ def umaxv(m, name, to, a):
     m.write(to, [255 - 255 * m.decide(m.zero_flag([k[0] for k in known]))])
 
 
-@op("addv")
+@TABLE.of("addv")
 def addv(m, name, to, a):
     """The sum of lanes that are 0 if bytes are equal: if it can't be too large, it is 0 only if all are equal."""
     b = m.read(a)
@@ -402,14 +371,14 @@ def addv(m, name, to, a):
     m.write(to, m.to_bytes(m.mask(0, [k[0] for k in known[::2]] + [k[0] for k in known[1::2]]), 2))
 
 
-@op("tbl")
+@TABLE.of("tbl")
 def tbl(m, name, to, registers, indices):
     """An index past the table's end gives 0."""
     table = tuple(joined(map(m.read, registers)))
     m.write(to, m.looked_up(table, m.read(indices), lambda bits: bits if len(table) > 16 or any(bits[4:]) else bits[:4]))
 
 
-@op("rev", "rev32", "rev64")
+@TABLE.of("rev", "rev32", "rev64")
 def reverse(m, name, to, a):
     size, lane = int(name[3:] or 8 * to.size) // 8, to.lane if isinstance(to, Vector) else 1
     m.write(to, joined(joined(lanes(b, lane)[::-1]) for b in lanes(m.read(a), size)))

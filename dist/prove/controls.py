@@ -1,5 +1,5 @@
-"""The controls of the proof: faults that are planted in the assembly (faults.py), and wrong meanings of instructions. Each has to be refused.
-Run it as `make prove-controls` in dist."""
+"""The controls of the proof: faults that are planted in the assembly (faults.py), and wrong meanings of instructions. Each has to be
+refused. Run it as `make prove-controls` in dist."""
 import argparse
 import concurrent.futures
 import os
@@ -10,7 +10,7 @@ import aes
 import leak
 from bits import Unproved
 from faults import BATCHES, FAULTS
-from machine import Memory, Pointer, Register, Vector
+from machine import is_int, is_pointer
 from native import NEVER_ALONE, compare_all
 from processors import PROCESSORS
 from prove import BUILDS, HERE, LIBRARIES, link, missing, source
@@ -31,8 +31,8 @@ KEYED = {}  # of this process: what was proved of the text without faults
 
 def keyed_of(options, build):
     if build not in KEYED:
-        program = link(source(options.dist, build), "%s/controls_%s_%d" % (options.out, build.replace("/", "_"), os.getpid()), BUILDS[build])
-        KEYED[build] = LIBRARIES[build.split("/")[1]][0](program, 16)
+        out = "%s/controls_%s_%d" % (options.out, build.replace("/", "_"), os.getpid())
+        KEYED[build] = LIBRARIES[build.split("/")[1]][0](link(source(options.dist, build), out, BUILDS[build]), 16)
         KEYED[build].set_key()
     return KEYED[build]
 
@@ -77,56 +77,41 @@ def leaked(options, wiped):
         "as it has to be" if good else "MISSED", "with" if wiped else "without", ", ".join("%d (%d right)" % f for f in found)))]
 
 
-# Wrong meanings: what an instruction writes is off by one. The processor has to disagree.
-def off_by_one(m, value):
-    if isinstance(value, int):
-        return value ^ 1
-    if isinstance(value, Pointer):
-        return value._replace(offset=value.offset + 1)
-    return m.from_bytes([m.domain.xor_byte(value[0], 1)] + list(value[1:]))
-
-
-BRANCHES = "call", "jmp", "ret", "b", "bl", "br", "blr", "cbz", "cbnz", "tbz", "tbnz"
+# Wrong meanings: the first thing that an instruction changed is off by one. The processor has to disagree.
 WITHOUT_EFFECT = {"nop", "endbr64", "hint", "xchg"}  # xchg is padding too
-COMPARISONS = "cmp", "test", "bt", "ptest", "vptest", "ccmp"
 
 
-def spoil(m, name, to):
-    """Changes what an instruction wrote: its destination, a flag, or the next address."""
-    if name in BRANCHES or name[0] == "j" or name[:2] == "b.":
-        m.next_address = off_by_one(m, m.next_address)
-    elif name in COMPARISONS or getattr(to, "name", "") == "xzr":
-        flag = next(f for f in "czso" if m.flags[f] in (0, 1))
-        m.flags[flag] ^= 1
-    elif name == "push":
-        m.store(m.general["rsp"], [m.load(m.general["rsp"], 1)[0] ^ 1])
-    elif hasattr(to, "number"):
-        b = list(m.vectors[to.number])
-        b[to.at] = m.domain.xor_byte(b[to.at], 1)
-        m.vectors[to.number] = b
-    elif isinstance(to, Register):
-        m.put(to, off_by_one(m, m.get(to)))
-    else:
-        m.store(m.address(to), [m.domain.xor_byte(m.load(m.address(to), 1)[0], 1)])
+def off_by_one(m, value):
+    if is_pointer(value):
+        return value._replace(offset=value.offset + 1)
+    return value ^ 1 if is_int(value) else m.from_bytes(flipped(m, value, 0))
 
 
-def destination(name, operands):
-    """The operand that an instruction writes. The base register of a store of ARM was moved by it."""
-    if name[:2] == "st" and isinstance(operands[-1], Memory):
-        return operands[-1]._replace(before=0, offset=operands[-1].offset - operands[-1].after)
-    if name in ("mul", "vzeroupper"):
-        return Register("rax", 8) if name == "mul" else Vector(0, 32)
-    first = operands[0] if operands else None
-    return first[0] if type(first) is tuple else first
+def flipped(m, b, at):
+    return [*b[:at], m.domain.xor_byte(b[at], 1), *b[at + 1:]]
 
 
 def wrong(right):
-    """Another meaning. What it wrote may be undefined, or known to nobody: then the next try has other values."""
+    """Another meaning. What was changed may be undefined, or known to nobody: then the next try has other values."""
     def meaning(m, name, *operands):
+        general, vectors, flags, written, following = dict(m.general), list(m.vectors), m.flags, m.written, m.next_address
         right(m, name, *operands)
+        registers = [r for r in m.general if m.general[r] is not general[r]]
+        numbers = [n for n, v in enumerate(m.vectors) if v is not vectors[n]]
+        known = [f for f, value in m.flags.items() if value in (0, 1)]
         try:
-            spoil(m, name, destination(name, operands))
-        except (Unproved, StopIteration, TypeError):
+            if m.next_address != following or not (registers or numbers or m.flags is not flags or m.written is not written):
+                m.next_address = off_by_one(m, m.next_address)
+            elif m.written is not written:
+                content, at = m.written
+                content[at] = m.domain.xor_byte(content[at], 1)
+            elif numbers:
+                m.vectors[numbers[0]] = flipped(m, m.vectors[numbers[0]], 0)
+            elif registers:
+                m.general[registers[0]] = off_by_one(m, m.general[registers[0]])
+            elif known:
+                m.flags[known[0]] ^= 1
+        except (Unproved, TypeError):
             pass
     return meaning
 
@@ -142,7 +127,7 @@ def wrong_meanings(options, build):
             continue  # on no path
         forms.setdefault(instruction.name, {})[instruction.form] = address
     for name in sorted(set(forms) - WITHOUT_EFFECT - set(NEVER_ALONE)):
-        kept, module.TABLE[name] = dict(module.TABLE), wrong(module.meaning(name))
+        kept, module.TABLE[name] = dict(module.TABLE), wrong(program.at(next(iter(forms[name].values()))).run)
         program.cache.clear()
         try:
             compare_all(program, forms[name])

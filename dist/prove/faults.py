@@ -1,5 +1,5 @@
-"""The faults that controls.py plants in a text, each an edit of one place: (what, behind which label, what is looked for there, what it becomes,
-the calls that are tried then). A fault without calls is one of set_key."""
+"""The faults that controls.py plants in a text, each an edit of one place: (what, behind which label, what is looked for there, what it
+becomes, the calls that are tried then). A fault without calls is one of set_key."""
 import gcm
 
 LANES = r'"aes_permute::blocks::process_on_lanes::<#\w+>":'

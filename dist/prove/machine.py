@@ -2,12 +2,10 @@
 
 A value is an int (a constant), a Pointer, a Distance, a Number, a Mask, or a tuple of bytes of bits.Domain, lowest first. Branches,
 addresses and lengths have to be constants or Pointers. A Pointer is known only relative to a buffer, so what is proved holds wherever the
-buffers are. Whatever isn't covered raises Unproved.
+buffers are. Whatever isn't covered raises Unproved. A step is `instruction.run(machine, name, *operands)`. A machine is a class below
+Machine, in a file of its own (x86_64.py, aarch64.py), that says:
 
-A machine is a class below Machine, in a file of its own (x86_64.py), that says:
-
-    tools                  what the names of gcc, ld, objdump and nm begin with
-    objdump                the options with which objdump prints what `decode` reads
+    tools, objdump         what the names of gcc, ld, objdump and nm begin with; the options with which objdump prints what `decode` reads
     registers, stack_pointer, vector_count, vector_size     registers of 8 bytes by their names, vector registers by their numbers
     arguments, result      the registers of the ABI; more arguments are on the stack, 8 bytes each, above what a call pushes: `pushed`
     kept, kept_halves      the registers that a function restores, and the vector registers whose low halves it does
@@ -16,9 +14,7 @@ A machine is a class below Machine, in a file of its own (x86_64.py), that says:
     stack_step             what the stack pointer has to be a multiple of where it is the base of an access
     decode(text, following)     a line of objdump as an Instruction; `following` is the next address
     leave()                     after libc's function: goes on at the return address
-    condition(code)             0 or 1, by the flags (see Machine.decide)
-
-A step is `instruction.run(machine, name, *operands)`. `next_address` is that of the next instruction."""
+    condition(code)             0 or 1, by the flags (see Machine.decide)"""
 import re
 import struct
 import subprocess
@@ -82,6 +78,16 @@ def kind(o):
     if isinstance(o, Memory):
         return "%sm%d%s%s" % ("+" * bool(o.before), o.size, "[]" * bool(o.index and not o.size), "+" * bool(o.after))
     return o if isinstance(o, str) else "{%d}" % len(o) if isinstance(o, tuple) else "i"
+
+
+class Table(dict):
+    """The meanings of instructions by their names."""
+
+    def of(self, *names):
+        def add(f):
+            self.update(dict.fromkeys(names, f))
+            return f
+        return add
 
 
 class Region:
@@ -160,10 +166,7 @@ class Machine:
         stack[at:at + len(above)] = above
         self.general[self.stack_pointer] = Pointer("stack", at)
         for n in self.kept_halves:
-            self.vectors[n][:8] = self.to_bytes(self.half(n), 8)
-
-    def half(self, n):
-        return Pointer("the caller's d%d" % n, 0)
+            self.vectors[n][:8] = self.to_bytes(Pointer("the caller's d%d" % n, 0), 8)
 
     # Values.
     def to_bytes(self, value, size):
@@ -209,14 +212,14 @@ class Machine:
         """The sum of two values of 8 bytes of which one at most is a Pointer or a Number and the others are constants."""
         if isinstance(b, (Pointer, Number)):
             a, b = b, a
-        if isinstance(a, Number) and is_int(b):
-            return Number(a.base, a.offset + b & 0xffffffff)
-        if isinstance(a, Pointer) and isinstance(b, int):
-            b &= WORD
-            return Pointer(a.base, a.offset + (b - (1 << 64) if b >> 63 else b))
-        if isinstance(a, int) and isinstance(b, int):
+        if not isinstance(a, (int, Pointer, Number)) or not isinstance(b, int):
+            raise Unproved("an address is the sum of two addresses")
+        if isinstance(a, int):
             return a + b & WORD
-        raise Unproved("an address is the sum of two addresses")
+        if isinstance(a, Number):
+            return Number(a.base, a.offset + b & 0xffffffff)
+        b &= WORD
+        return Pointer(a.base, a.offset + (b - (1 << 64) if b >> 63 else b))
 
     # Sums and differences with their flags: (result, {flag: value}).
     def plus(self, x, y, carry, size):
@@ -335,14 +338,13 @@ class Machine:
         return self.domain.pack([self.domain.bits(x)[7]] * 8)
 
     def shift(self, how, v, count, size):
-        """A value shifted to the left ("lsl"), to the right ("lsr", "asr"), or around ("ror")."""
+        """A value shifted to the left ("lsl"), or to the right with zeros ("lsr") or copies of the highest bit ("asr")."""
         if is_int(v) and how == "lsl":
             return v << count & (1 << 8 * size) - 1
         b = self.bits(v, size)
         if how == "lsl":
             return self.unbits(([0] * count + b)[:8 * size])
-        above = b[:count % (8 * size)] if how == "ror" else [b[-1] if how == "asr" else 0] * count
-        return self.unbits((b + above)[-8 * size:])
+        return self.unbits((b + [b[-1] if how == "asr" else 0] * count)[count:])
 
     def shift_lanes(self, how, b, width, count):
         constant("the count of a shift", count)
@@ -425,16 +427,17 @@ class Machine:
         if by:
             self.general[register] = self.offset(self.general[register], by)
 
-    def prepare(self, instruction, place):
-        """For an instruction by itself: addresses that it may access, or jump to."""
+    def prepare(self, instruction, middle):
+        """For an instruction by itself: addresses that it may access, in the midst of the buffer or of the stack, or jump to."""
         for o in instruction.operands:
             if isinstance(o, Memory) and instruction.name != "lea":
                 if o.index:
                     self.general[o.index] = 16
                 if o.base:
-                    at, step = (Pointer("stack", place.offset), self.stack_step) if o.base == self.stack_pointer else (place, 1)
-                    self.general[o.base] = self.offset(at, (-o.before - o.offset - 16 * o.scale * bool(o.index)) // step * step)
-            elif isinstance(o, Register) and instruction.name in ("jmp", "call", "br", "blr"):
+                    place, step = ("stack", self.stack_step) if o.base == self.stack_pointer else ("buffer", 1)
+                    back = -o.before - o.offset - 16 * o.scale * bool(o.index)
+                    self.general[o.base] = Pointer(place, middle + back // step * step)
+            elif isinstance(o, Register) and instruction.name in ("jmp", "call", "blr"):
                 self.general[o.name] = self.program.symbols["start"]
 
     # Memory.
@@ -527,7 +530,7 @@ class Machine:
             if self.general[r] != self.before[r]:
                 raise Unproved("%s isn't restored" % r)
         for n in self.kept_halves:
-            if self.from_bytes(self.vectors[n][:8]) != self.half(n):
+            if self.from_bytes(self.vectors[n][:8]) != Pointer("the caller's d%d" % n, 0):
                 raise Unproved("d%d isn't restored" % n)
 
     def step(self):

@@ -12,8 +12,7 @@ from values import Values
 
 class Native:
     def __init__(self, machine, seed, counter=None, processor=None):
-        self.m, self.values = machine, Values(machine.domain, random.Random(seed), counter)
-        self.expected, self.vectors = {}, {}
+        self.m, self.values, self.expected = machine, Values(machine.domain, random.Random(seed), counter), {}
         self.processor = processor or PROCESSORS[type(machine)](machine.program.path)
         machine.by_place = self.by_place
         self.place_regions()
@@ -54,7 +53,7 @@ class Native:
 
     def renamed(self, pairs, domain):
         self.values.renamed(pairs, domain)
-        self.expected, self.vectors = {}, {}
+        self.expected = {}
 
     def watch(self, m):
         """Called after each instruction of the machine."""
@@ -64,28 +63,26 @@ class Native:
         at, general, flags = self.processor.registers()
         wrong = [] if at == address else ["it goes on at %x and not at %x" % (at, address)]
         for r in m.registers:
-            v = m.general[r]
-            if self.expected.get(r, (None,))[0] is not v:
-                self.expected[r] = v, self.values.word(v)
-            want = self.expected[r][1]
+            want = self.known(r, m.general[r], self.values.word)
             if want is not None and want != general[r]:
                 wrong.append("%s is %x and not %x" % (r, general[r], want))
         wrong += ["flag " + f for f, value in m.flags.items() if value in (0, 1) and flags[f] != value]
-        wrong += self.wrong_vectors([n for n, v in enumerate(m.vectors) if self.vectors.get(n, (None,))[0] is not v])
+        wrong += self.wrong_vectors([n for n, v in enumerate(m.vectors) if self.expected.get(n, (None,))[0] is not v])
         if wrong:
             raise Unproved("the processor differs: " + ", ".join(wrong))
+
+    def known(self, register, v, value):
+        """What a register has by the machine; kept as long as it has the same."""
+        if self.expected.get(register, (None,))[0] is not v:
+            self.expected[register] = v, value(v)
+        return self.expected[register][1]
 
     def wrong_vectors(self, numbers):
         """Of these vector registers at least."""
         for n, have in self.processor.vectors(numbers).items():
-            v = self.m.vectors[n]
-            if self.vectors.get(n, (None,))[0] is not v:
-                b = [self.values.byte(x) for x in v]
-                mask = int.from_bytes(bytes(0 if x is None else 255 for x in b), "big")
-                self.vectors[n] = v, bytes(x or 0 for x in b), mask
-            _, want, mask = self.vectors[n]
-            if have != want and int.from_bytes(have, "big") & mask != int.from_bytes(want, "big"):
-                yield "vector register %d is %s and not %s" % (n, have.hex(), want.hex())
+            want = self.known(n, self.m.vectors[n], lambda v: [self.values.byte(b) for b in v])
+            if any(x not in (None, y) for x, y in zip(want, have)):
+                yield "vector register %d is %s and not %s" % (n, have.hex(), " ".join("?" if x is None else "%02x" % x for x in want))
 
     def finish(self):
         wrong = list(self.wrong_vectors(range(len(self.m.vectors))))
@@ -100,8 +97,8 @@ class Native:
         self.processor.close()
 
 
-# An instruction by itself. What it has in memory lies in the midst of a buffer or of the stack. The symbolic bytes are functions of one cell,
-# so all that a meaning computes can be computed. A form that can't be run with what was drawn is tried with other values, with constants too.
+# An instruction by itself. What it has in memory lies in the midst of a buffer or of the stack. The symbolic bytes are functions of one
+# cell, so all that a meaning computes can be computed. A form that can't be run with what was drawn is tried with other values.
 SIZE, MIDDLE = 512, 256
 TRIES = 4
 NEVER_ALONE = "ldaxr", "stlxr"  # they belong together: compared in the calls that prove.py runs beside the processor
@@ -143,7 +140,7 @@ def before(program, instruction, address, seed):
     elif not instruction.operands:
         m.store(m.general[m.stack_pointer], m.to_bytes(RETURN_ADDRESS, 8))
     m.flags = {f: drawn.random.getrandbits(1) for f in m.flags}
-    m.prepare(instruction, Pointer("buffer", MIDDLE))
+    m.prepare(instruction, MIDDLE)
     return m
 
 

@@ -3,8 +3,8 @@ IA-32 Architectures Software Developer's Manual, volume 2). What both machines s
 import re
 
 from bits import Unproved
-from machine import (RETURN_ADDRESS, SECRET, WORD, Instruction, Machine, Memory, Register, Vector, constant, contrary, is_int, joined, kind,
-                     lanes)
+from machine import (RETURN_ADDRESS, SECRET, WORD, Instruction, Machine, Memory, Register, Table, Vector, constant, contrary, is_int,
+                     joined, kind, lanes)
 
 R64 = "rax rcx rdx rbx rsp rbp rsi rdi r8 r9 r10 r11 r12 r13 r14 r15".split()
 REGS = {c + "h": Register("r%sx" % c, 1, 1) for c in "abcd"}
@@ -27,7 +27,7 @@ class X86_64(Machine):
     red_zone = 128
 
     def leave(self):
-        ret(self, "ret")
+        self.go_to(popped(self))
 
     @staticmethod
     def decode(text, following):
@@ -36,7 +36,7 @@ class X86_64(Machine):
         while name in ("cs", "data16", "addr32", "notrack"):
             name, _, rest = rest.strip().partition(" ")
         run = meaning(name)
-        if run is None:
+        if not run:
             raise Unproved("instruction not covered: " + text)
         operands = [operand(o.strip(), name, following) for o in rest.split(",")] if rest and name != "nop" else []
         form = " ".join([name, *map(kind, operands)])
@@ -45,11 +45,8 @@ class X86_64(Machine):
         return Instruction(run, name, operands, following, form)
 
     def condition(self, code):
-        text = CONDITIONS.get(code)
-        if text is None:
-            raise Unproved("condition not covered: " + code)
-        values = [self.decide(self.flags[f]) for f in text if f in "czso"]
-        return int(any(values) != text.startswith("!"))
+        values = [self.decide(self.flags[f]) for f in CONDITIONS[code] if f in "czso"]
+        return int(any(values) != CONDITIONS[code].startswith("!"))
 
 
 def operand(text, name, following):
@@ -83,100 +80,62 @@ def operand(text, name, following):
 
 
 # Instructions: their meanings by their names. Each takes the machine, its own name, and its operands.
-TABLE = {}
+def pushed(m, value):
+    m.move("rsp", -8)
+    m.store(m.general["rsp"], m.to_bytes(value, 8))
 
 
-def meaning(name):
-    if name in TABLE or name[0] == "v":
-        return TABLE.get(name, TABLE.get(name[1:]))
-    for prefix, f in (("cmov", cmov), ("set", setcc), ("j", jcc)):
-        if name.startswith(prefix) and name[len(prefix):] in CONDITIONS:
-            return f
-    return None
+def popped(m):
+    value = m.from_bytes(m.load(m.general["rsp"], 8))
+    m.move("rsp", 8)
+    return value
 
 
-def op(*names):
-    def add(f):
-        TABLE.update(dict.fromkeys(names, f))
-        return f
-    return add
+def signed(value, size):
+    return constant("what is extended by its sign", value) - (value >> 8 * size - 1 << 8 * size)
 
 
-# Moves, calls and jumps.
-TABLE.update({
+TABLE = Table({
     "nop": lambda m, name: None,
     "endbr64": lambda m, name: None,
     "mov": lambda m, name, to, source: m.put(to, m.get(source)),
     "movabs": lambda m, name, to, source: m.put(to, m.get(source)),
     "movzx": lambda m, name, to, source: m.write(to, m.read(source) + [0] * (to.size - source.size)),
+    "movsxd": lambda m, name, to, source: m.put(to, signed(m.get(source), source.size) & WORD),
     "movbe": lambda m, name, to, source: m.write(to, m.read(source)[::-1]),
     "bswap": lambda m, name, to: m.write(to, m.read(to)[::-1]),
     "lea": lambda m, name, to, source: m.put(to, m.address(source)),
     "not": lambda m, name, to: m.write(to, [m.domain.xor_byte(b, 255) for b in m.read(to)]),
+    "push": lambda m, name, source: pushed(m, m.get(source)),
+    "pop": lambda m, name, to: m.put(to, popped(m)),
+    "ret": lambda m, name: m.go_to(popped(m)),
+    "jmp": lambda m, name, to: m.go_to(m.get(to)),
 })
+for _code in CONDITIONS:
+    TABLE["j" + _code] = lambda m, name, to, code=_code: m.go_to(to if m.condition(code) else m.next_address)
+    TABLE["set" + _code] = lambda m, name, to, code=_code: m.put(to, m.condition(code))
+    TABLE["cmov" + _code] = lambda m, name, to, source, code=_code: m.put(to, (m.get(to), m.get(source))[m.condition(code)])
 
 
-@op("movsxd", "movsx")
-def movsx(m, name, to, source):
-    v, bits = constant("what is extended by its sign", m.get(source)), 8 * source.size
-    m.put(to, (v - (1 << bits) if v >> bits - 1 else v) & (1 << 8 * to.size) - 1)
+def meaning(name):
+    return TABLE.get(name) or name[0] == "v" and TABLE.get(name[1:])
 
 
-@op("xchg")
+@TABLE.of("call")
+def call(m, name, to):
+    pushed(m, m.next_address)
+    m.go_to(m.get(to))
+
+
+@TABLE.of("xchg")
 def xchg(m, name, a, b):
     x, y = m.get(a), m.get(b)
     m.put(a, y)
     m.put(b, x)
 
 
-@op("push")
-def push(m, name, source):
-    v = m.get(source)
-    m.move("rsp", -8)
-    m.store(m.general["rsp"], m.to_bytes(v, 8))
-
-
-@op("pop")
-def pop(m, name, to):
-    v = m.from_bytes(m.load(m.general["rsp"], 8))
-    m.move("rsp", 8)
-    m.put(to, v)
-
-
-@op("call")
-def call(m, name, to):
-    push(m, name, m.next_address)
-    jmp(m, name, to)
-
-
-@op("ret")
-def ret(m, name):
-    to = m.from_bytes(m.load(m.general["rsp"], 8))
-    m.move("rsp", 8)
-    m.go_to(to)
-
-
-@op("jmp")
-def jmp(m, name, to):
-    m.next_address = constant("where a jump leads", m.get(to))
-
-
-def jcc(m, name, to):
-    if m.condition(name[1:]):
-        m.next_address = to
-
-
-def cmov(m, name, to, source):
-    v = m.get(source)
-    m.put(to, v if m.condition(name[4:]) else m.get(to))
-
-
-def setcc(m, name, to):
-    m.put(to, m.condition(name[3:]))
-
-
 # Numbers and bits. The flag c of a difference is the borrow.
-@op("add", "sub", "adc", "sbb", "cmp", "inc", "dec", "neg")
+@TABLE.of("add", "sub", "adc", "sbb", "cmp", "inc", "dec", "neg")
 def arithmetic(m, name, a, b=1):
     x, y = (0, m.get(a)) if name == "neg" else (m.get(a), m.get(b))
     old, size = m.flags["c"], a.size
@@ -195,7 +154,7 @@ def arithmetic(m, name, a, b=1):
         m.put(a, r)
 
 
-@op("and", "or", "xor", "test", "andn")
+@TABLE.of("and", "or", "xor", "test", "andn")
 def logic(m, name, to, a, b=None):
     x, y = (m.get(to), m.get(a)) if b is None else (m.get(b), m.get(a))
     if name == "xor" and to == a:
@@ -206,23 +165,18 @@ def logic(m, name, to, a, b=None):
         m.put(to, r)
 
 
-@op("shl", "shr", "sar", "ror", "rol")
+@TABLE.of("shl", "shr", "sar")
 def shift(m, name, to, count=1):
     n, size, v = constant("the count of a shift", m.get(count)) & (63 if to.size == 8 else 31), 8 * to.size, m.get(to)
-    if n == 0:  # which clears the upper half of a register too
-        return m.put(to, v)
-    how, n = ("ror", size - n % size) if name == "rol" else ({"shl": "lsl", "shr": "lsr", "sar": "asr"}.get(name, name), n)
-    r = m.shift(how, v, n, to.size)
-    if how == "ror":
-        m.flags.update(c=None, o=None)
-    else:
+    if n:
         last = size - n if name == "shl" else n - 1  # the bit that is shifted out last
         out = m.bits(v, to.size)[last] if 0 <= last < size else 0
-        m.set_flags(c=out if out < 2 else SECRET, **m.zero_and_sign(r, to.size))
-    m.put(to, r)
+        v = m.shift({"shl": "lsl", "shr": "lsr", "sar": "asr"}[name], v, n, to.size)
+        m.set_flags(c=out if out < 2 else SECRET, **m.zero_and_sign(v, to.size))
+    m.put(to, v)
 
 
-@op("shld")
+@TABLE.of("shld")
 def shld(m, name, to, source, count):
     n = constant("the count of a shift", m.get(count)) & 63
     b = (m.bits(m.get(source), to.size) + m.bits(m.get(to), to.size))[8 * to.size - n:][:8 * to.size]
@@ -230,7 +184,7 @@ def shld(m, name, to, source, count):
     m.put(to, m.unbits(b))
 
 
-@op("bt")
+@TABLE.of("bt")
 def bt(m, name, a, b):
     if not isinstance(a, Register):
         raise Unproved("bt of memory")
@@ -238,7 +192,7 @@ def bt(m, name, a, b):
     m.set_flags(z=m.flags["z"], c=out if out < 2 else SECRET)
 
 
-@op("bzhi")
+@TABLE.of("bzhi")
 def bzhi(m, name, to, a, n):
     n = constant("a number of bits", m.from_bytes(m.read(n)[:1]))
     r = m.unbits([x if i < n else 0 for i, x in enumerate(m.bits(m.get(a), to.size))])
@@ -246,25 +200,23 @@ def bzhi(m, name, to, a, n):
     m.put(to, r)
 
 
-@op("mul")
+@TABLE.of("mul")
 def mul(m, name, a):
-    product = constant("a factor", m.get(REGS["rax"])) * constant("a factor", m.get(a))
+    mulx(m, name, REGS["rdx"], REGS["rax"], a, REGS["rax"])
+    high = m.general["rdx"]
+    m.set_flags(c=int(high != 0), o=int(high != 0))
+
+
+@TABLE.of("mulx")
+def mulx(m, name, high, low, a, b=REGS["rdx"]):
+    product = constant("a factor", m.get(a)) * constant("a factor", m.get(b))
     if a.size != 8:
-        raise Unproved("instruction not covered")
-    m.general["rax"], m.general["rdx"] = product & WORD, product >> 64
-    m.set_flags(c=int(product > WORD), o=int(product > WORD))
-
-
-@op("mulx")
-def mulx(m, name, high, low, a):
-    product = constant("a factor", m.get(REGS["rdx"])) * constant("a factor", m.get(a))
-    if low.size != 8:
         raise Unproved("instruction not covered")
     m.put(low, product & WORD)
     m.put(high, product >> 64)
 
 
-# Vectors. A VEX-coded instruction (v before the name) has one source more, the first; decode gives it to the other, whose destination it is.
+# Vectors. A VEX-coded instruction (v before the name) has one source more, the first; that of the other is its destination (see decode).
 # Most rows make the result from the bytes of the sources and a number; those of `in_halves` do so for each 16 bytes.
 def whole(f):
     return lambda m, name, to, *sources: m.write(to, f(m, *[o if is_int(o) else m.read(o) for o in sources]))
@@ -375,7 +327,7 @@ TABLE.update({
 })
 
 
-@op("movss", "movsd")
+@TABLE.of("movss", "movsd")
 def movss(m, name, to, source):
     """A load clears the rest of the register."""
     if isinstance(to, Vector) and isinstance(source, Vector):
@@ -383,7 +335,7 @@ def movss(m, name, to, source):
     first(4 if name[-1] == "s" else 8)(m, name, to, source)
 
 
-@op("ptest")
+@TABLE.of("ptest")
 def ptest(m, name, a, b):
     """Both operands alike: whether all is zero."""
     if a != b:
@@ -391,7 +343,7 @@ def ptest(m, name, a, b):
     m.set_flags(c=1, s=0, o=0, z=m.zero_flag(m.read(a)))
 
 
-@op("pmovmskb")
+@TABLE.of("pmovmskb")
 def pmovmskb(m, name, to, source):
     b = m.read(source)
     known = [m.equalities.get(x) for x in b]
@@ -402,6 +354,6 @@ def pmovmskb(m, name, to, source):
     m.put(to, m.mask(0xffff, [k[0] for k in known]))
 
 
-@op("vzeroupper")
+@TABLE.of("vzeroupper")
 def vzeroupper(m, name):
     m.vectors = [v[:16] + [0] * 16 for v in m.vectors]
