@@ -3,6 +3,7 @@
 H and its powers become arbitrary blocks when set_key has made them, and so does each value of GHASH when a call has
 made it. A call on a message that comes in pieces is proved from any state of the message: whatever value of GHASH and
 whatever part of a block came before."""
+import functools
 from collections import namedtuple
 
 from aes import DONE, Keyed
@@ -61,14 +62,16 @@ class Hashing:
         return self
 
     def steps(self, begin=0, end=None):
-        """(Y + X_1) H^m + X_2 H^(m-1) + .. + X_m H"""
-        keyed = self.keyed
         for value, group, after in self.plan[begin:end]:
-            total = ZEROS
-            for i, x in enumerate(group):
-                x = keyed.domain.name_sum(keyed.aes.xor(value, x)) if i == 0 else x
-                total = keyed.aes.xor(total, product(keyed.domain, x, keyed.powers[len(group) - 1 - i]))
-            yield "hash", total, after
+            yield "hash", functools.partial(self.sum, value, group), after
+
+    def sum(self, value, group):
+        """(Y + X_1) H^m + X_2 H^(m-1) + .. + X_m H"""
+        keyed, total = self.keyed, ZEROS
+        for i, x in enumerate(group):
+            x = keyed.domain.name_sum(keyed.aes.xor(value, x)) if i == 0 else x
+            total = keyed.aes.xor(total, product(keyed.domain, x, keyed.powers[len(group) - 1 - i]))
+        return total
 
 
 # J_0: twelve bytes and the number that its last four are; how GHASH makes it of a nonce of another length; the
@@ -107,7 +110,7 @@ class KeyedGcm(Keyed):
         def steps():
             yield "hash", h, p[0]
             for n in (0, 1):
-                yield "hash", product(d, p[n], p[0]), p[n + 1]
+                yield "hash", functools.partial(product, d, p[n], p[0]), p[n + 1]
         m = self.proved(self.expansion(DONE, self.key_size, ANY, steps=steps), seed)
         meaning = {d.cell_of(b)[0]: e.bits(c) for x, y in zip(p, self.powers) for b, c in zip(x, y)}
 
