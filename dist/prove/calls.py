@@ -27,15 +27,16 @@ class Call:
     the call returns the status `refused`, and Buffers are what `refused_after` says by their names, or what they were.
     `assumes` are bytes of public data that are not all zero. `later` turns bytes of the key's own domain into those of
     arbitrary round keys, for a call that expands a key (see aes.py). `keystream` is what is added to the data, and
-    `plain` what is secret of the data and the results; `may_stay` are kinds of what may be left besides."""
+    `plain` what is secret of the data and the results; `may_stay` says how many bytes of a kind may be left
+    besides."""
 
     def __init__(self, name, arguments, status, size=4, steps=None, reveals=None, refused=None, refused_after=None,
                  assumes=None,
-                 later=None, counter=None, keystream=(), plain=(), may_stay=()):
+                 later=None, counter=None, keystream=(), plain=(), may_stay=None):
         self.name, self.arguments, self.status, self.size, self.steps = name, arguments, status, size, steps
         self.reveals, self.refused, self.refused_after = reveals, refused, refused_after or {}
         self.assumes, self.later, self.counter = assumes, later, counter
-        self.keystream, self.plain, self.may_stay = keystream, plain, may_stay
+        self.keystream, self.plain, self.may_stay = keystream, plain, may_stay or {}
         self.buffers = [a for a in arguments if isinstance(a, Buffer)]
 
 
@@ -106,11 +107,9 @@ def check(m, call):
 
 
 def nothing_secret(m, call):
-    for place, k in m.left:
-        if place == "stack" and k not in MAY_STAY + call.may_stay:
-            where = m.left[place, k]
-            raise Unproved("leaves %d bytes on the stack (%s), from %d to %d of the stack pointer" % (
-                len(where), k, where[0], where[-1]))
+    for (place, k), where in m.left.items():
+        if place == "stack" and k not in MAY_STAY and len(where) > call.may_stay.get(k, 0):
+            raise Unproved("leaves %d bytes on the stack (%s), from %d to %d of the stack pointer" % (len(where), k, where[0], where[-1]))
 
 
 def compare(domain, have, want, what):
@@ -194,46 +193,49 @@ def depends(m, *bytes_):
     return out
 
 
+def cells(m, x):
+    """The cells of a bit, with their blocks."""
+    return [(c, block if m.domain.of_block[c] else 0) for block, n in m.domain.parts(x) for c, _ in m.domain.forms[n]]
+
+
 def depends_bit(m, x, origins=True):
-    domain, out = m.domain, 0
-    for block, n in domain.parts(x):
-        for c, _ in domain.forms[n]:
-            place = c, block if domain.of_block[c] else 0
-            out |= m.origins[place] if origins and place in m.origins else domain.depends[c]
+    out = 0
+    for place in cells(m, x):
+        out |= m.origins[place] if origins and place in m.origins else m.domain.depends[place[0]]
     return out
 
 
-def kind(m, byte, names):
-    """What a byte that is left tells: of the "key" alone, "inner" values of the key and others, from which the key may
-    be computed, "plain" text, a block that the cipher gave in the midst of a mode ("step"), the "keystream", the call's
-    "result", or of "data" alone."""
+def kind(m, byte, names, plain):
+    """What a byte that is left tells: of the "key" alone, "inner" values of the key and others, from which the key may be computed,
+    "plain" text and what is computed of it without the key, a block that the cipher gave in the midst of a mode
+    ("step"), the "keystream", the call's "result", or of other "data" alone."""
     if byte in m.lost:
         return "key"
     if not m.domain.symbolic(byte):
         return None
     kinds = set()
     for x in m.domain.bits(byte):
-        on = depends_bit(m, x)
-        if on & KEY:
-            inner = "key" if on == KEY else "inner" if depends_bit(m, x, False) & KEY else "step"
-            kinds.add(names.get(x & ~1, inner))
-        elif on & DATA:
-            kinds.add(names.get(x & ~1, "data"))
+        on, name = depends_bit(m, x), names.get(x & ~1)
+        if not on & (KEY | DATA):
+            continue
+        if not name and on & KEY and (on == KEY or depends_bit(m, x, False) & KEY):
+            name = "key" if on == KEY else "inner"
+        kinds.add(name or ("plain" if not plain.isdisjoint(cells(m, x)) else "step" if on & KEY else "data"))
     return next((k for k in KINDS if k in kinds), None)
 
 
 def left(m, call):
-    """What is left of a call, in bytes: {(place, kind): [where]}, in the dead stack, by the offset from the stack
-    pointer at the call, and in registers."""
-    names = {}
-    for name, bytes_ in ("result", m.results), ("plain", call.plain), ("keystream", call.keystream):
-        names.update({x & ~1: name for b in bytes_ if m.domain.symbolic(b) for x in m.domain.bits(b)})
+    """What is left of a call, in bytes: {(place, kind): [where]}, in the dead stack, by the offset from the stack pointer at the call, and
+    in registers."""
+    bits = lambda bytes_: (x & ~1 for b in bytes_ if m.domain.symbolic(b) for x in m.domain.bits(b))
+    names = {x: name for name in ("result", "plain", "keystream") for x in bits(m.results if name == "result" else getattr(call, name))}
+    plain = {cell for x in bits(call.plain) if not depends_bit(m, x, False) & KEY for cell in cells(m, x)}
     places = [("stack", k - m.top, b) for k, b in enumerate(m.regions["stack"].content[:m.top])]
     places += [("registers", r, b) for r, v in m.general.items() for b in m.to_bytes(v, 8)]
     places += [("registers", "vector %d" % n, b) for n, v in enumerate(m.vectors) for b in v]
     out = {}
     for place, where, b in places:
-        k = kind(m, b, names)
+        k = kind(m, b, names, plain)
         if k:
             out.setdefault((place, k), []).append(where)
     return out

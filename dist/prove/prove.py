@@ -141,6 +141,15 @@ def piece_cases(k, choose):
         yield "finish after %d, %d, phase %d" % (a, n, phase), k.finish(phase, a, n)
         phase = phase if phase == gcm.ADDITIONAL else gcm.VERIFYING
         yield "accept after %d, %d, phase %d" % (a, n, phase), k.accept(phase, a, n)
+    first = k.nonce_of(8, 2 ** 32 - 3, (7, 0, 255, 255))
+    for n in choose((9, 50), (), (9,)):
+        what = "%d under a nonce of 8 bytes, J_0 ends in %x" % (n, first.counter)
+        for call in "encrypt", "decrypt_unverified":
+            yield call + " " + what, k.piece(call, gcm.ADDITIONAL, 5, 0, n, first)
+        yield "encrypt after 39, " + what, k.piece("encrypt", gcm.ENCRYPTING, 5, 39, n, first)
+        yield "decrypt after 39, " + what, k.decrypt(100, 39, n, first)
+        yield "finish, " + what, k.finish(gcm.ENCRYPTING, 16, n, first)
+        yield "accept, " + what, k.accept(gcm.VERIFYING, 16, n, first=first)
     for length in choose((4, 8, 12, 13, 14, 15), (12,), (4, 15)):
         yield "accept_short of %d bytes" % length, k.accept(gcm.VERIFYING, 16, 7, length)
 
