@@ -17,17 +17,17 @@ use one_way::{process_all, process_first_then_all};
 
 /// Does nothing with the backend, and leaves its own field unchanged.
 #[derive(Drop)]
-pub struct Nothing {
+pub struct LeavesBackend {
     pub count: u8,
 }
 
-impl BlockCipherEncClosure for Nothing {
+impl BlockCipherEncClosure for LeavesBackend {
     ghost did = { λ before w after. after.count ≡ before.count };
 
     fn call<B: BlockCipherEncBackend>(&mut self, _backend: &B) {}
 }
 
-impl BlockCipherDecClosure for Nothing {
+impl BlockCipherDecClosure for LeavesBackend {
     ghost did = { λ before w after. after.count ≡ before.count };
 
     fn call<B: BlockCipherDecBackend>(&mut self, _backend: &B) {}

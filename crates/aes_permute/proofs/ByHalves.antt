@@ -13,7 +13,7 @@ use lib.Lanes.{zip2, pick_l}
 use mir.Val.{zeroes}
 use Rattle.aes_planes.specs.Fips197.{IsBytes, IsBlock}
 use Rattle.aes_planes.proofs.Standard.States.{take_bytes, drop_bytes}
-use Rattle.aes_planes.proofs.Words.ByteLanes.{sixteen}
+use Rattle.aes_planes.proofs.Words.Swizzles.{sixteen}
 use Rattle.aes_planes.proofs.Words.Wide.{upper_16}
 use Rattle.aes_permute.specs.Lookup.{looked, is_index, low_nibble, high_nibble, AreIndices}
 use Rattle.aes_permute.specs.Vectors.{half, written}

@@ -1,10 +1,9 @@
 -- The laws of the two directions.
-use Rattle.std.proofs.Common.{◌≡◌, ℕ, ◌≤◌, List, length}
-use Rattle.std.proofs.Common.{refl, ◌∙◌}
+use Rattle.std.proofs.Common.{◌≡◌, ℕ, ◌≤◌, List, length, refl, ◌∙◌}
 use Rattle.aes_planes.specs.Fips197 as fips
 use Rattle.aes_planes.specs.Rounds.{all_rounds}
 use Rattle.aes_planes.proofs.Standard.AllRounds.{is_cipher, is_eq_inv_cipher}
-use Rattle.aes_planes.proofs.Standard.CipherInverses.{eq_inv_is_inv}
+use Rattle.aes_planes.proofs.Standard.EquivalentInverse.{eq_inv_is_inv}
 use Rattle.aes_planes.proofs.Standard.InvertedKeys.{inverted_length}
 
 -- ---- Cipher

@@ -3,6 +3,7 @@ pub mod AllRounds
 pub mod ByTable
 pub mod CipherInverses
 pub mod CipherLaws
+pub mod EquivalentInverse
 pub mod FieldInverses
 pub mod FieldLaws
 pub mod InvertedKeys

@@ -6,5 +6,6 @@ pub mod Moved
 pub mod Packing
 pub mod PlaneLanes
 pub mod Spread
+pub mod Swizzles
 pub mod Transpose
 pub mod Wide

@@ -3,7 +3,7 @@ use Rattle.std.proofs.Common.{◌≡◌, ℕ, ◌<◌, ◌≤◌, List, [], leng
 use Rattle.std.proofs.lemmas.List.{ext_get_or}
 use Rattle.aes_planes.specs.Fips197 as fips
 use Rattle.aes_planes.proofs.Planes.Held.{map-same}
-use Rattle.aes_planes.proofs.Standard.CipherInverses.{eq_inv_is_inv}
+use Rattle.aes_planes.proofs.Standard.EquivalentInverse.{eq_inv_is_inv}
 use Rattle.aes_planes.proofs.Standard.InvertedKeys.{inverted_end, inverted_length, inverted_middle}
 
 -- blocks decrypted by EqInvCipher under inverted round keys

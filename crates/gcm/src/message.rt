@@ -95,7 +95,7 @@ pub(crate) fn phase_of(number: u64) -> Phase
 
 /// Returns the number of a phase.
 #[tactic(auto, unfolding(crate::specs::Pieces::phase_of))]
-pub(crate) fn number_of(phase: Phase) -> u64
+pub(crate) fn number_of_phase(phase: Phase) -> u64
     ensures { phase_of result ≡ phase }
 {
     match phase {

@@ -15,7 +15,7 @@ use crate::counter::Counter;
 use crate::errors::{InvalidMessage, InvalidPiece, NotAccepted, OutOfTurn};
 use crate::gctr::{BlockRoom, add_gctr};
 use crate::hash::{hash_on, hash_piece};
-use crate::message::{Message, Phase, number_of, phase_of};
+use crate::message::{Message, Phase, number_of_phase, phase_of};
 use crate::mode::{
     DEEP, LONGEST_HASHED, LONGEST_TEXT, LentGcm, SHALLOW, add_masked, hash_lengths, is_expected,
     is_short_tag, put_mask,
@@ -101,7 +101,7 @@ impl<'a, C: BlockCipherEncrypt> LentGcm<'a, C> {
         ensures clean { (message.new.rest ≡ replicate 16 0) × (message.new.decrypted ≡ 0) }
     {
         self.put_pre_counter(nonce, &mut message.first);
-        message.phase = number_of(Phase::Additional);
+        message.phase = number_of_phase(Phase::Additional);
         message.value = block_of_number(0);
         message.rest = [0; 16];
         message.additional = 0;
@@ -147,9 +147,13 @@ impl<'a, C: BlockCipherEncrypt> LentGcm<'a, C> {
             return Err(InvalidPiece::TooLong);
         }
         let filled = (message.additional % 16) as usize;
-        let before = number_of_block(&message.value);
-        let value = hash_piece(&self.multiples, before, &mut message.rest, filled, bytes);
-        message.value = block_of_number(value);
+        hash_piece(
+            &self.multiples,
+            &mut message.value,
+            &mut message.rest,
+            filled,
+            bytes,
+        );
         wipe_stack::<SHALLOW>();
         message.additional += bytes.len() as u64;
         Ok(())
@@ -260,7 +264,7 @@ impl<'a, C: BlockCipherEncrypt> LentGcm<'a, C> {
         if !self.is_tag_so_far(message, tag) {
             return Err(NotAccepted::Refused);
         }
-        message.phase = number_of(Phase::Decrypting);
+        message.phase = number_of_phase(Phase::Decrypting);
         message.decrypted = 0;
         Ok(())
     }
@@ -302,7 +306,7 @@ impl<'a, C: BlockCipherEncrypt> LentGcm<'a, C> {
         if !self.is_short_tag_so_far(message, tag) {
             return Err(NotAccepted::Refused);
         }
-        message.phase = number_of(Phase::Decrypting);
+        message.phase = number_of_phase(Phase::Decrypting);
         message.decrypted = 0;
         Ok(())
     }
@@ -404,7 +408,7 @@ impl<'a, C: BlockCipherEncrypt> LentGcm<'a, C> {
         if phase_of(message.phase) == Phase::Additional {
             let value = self.hash_rest(message);
             message.value = block_of_number(value);
-            message.phase = number_of(phase);
+            message.phase = number_of_phase(phase);
         }
         Ok(())
     }
@@ -432,9 +436,13 @@ impl<'a, C: BlockCipherEncrypt> LentGcm<'a, C> {
             → IsInText phase self.now iv a (c ++ text.now) message.new }
     {
         let filled = (message.text % 16) as usize;
-        let before = number_of_block(&message.value);
-        let value = hash_piece(&self.multiples, before, &mut message.rest, filled, text);
-        message.value = block_of_number(value);
+        hash_piece(
+            &self.multiples,
+            &mut message.value,
+            &mut message.rest,
+            filled,
+            text,
+        );
         message.text += text.len() as u64;
     }
 

@@ -1,8 +1,6 @@
 //! How long messages may be.
 
-ghost use Rattle.std.specs.Prelude.{◌↔◌, ◌^◌, ◌≤◌, length, IsTrue};
-
-use aes_cipher::zeroize::wipe_stack;
+ghost use Rattle.std.specs.Prelude.{◌↔◌, ◌+◌, ◌^◌, ◌≤◌, length, IsTrue};
 
 /// How many bytes a text has at most, and additional data (RFC 8452, 4 and 5).
 pub const LONGEST: u64 = 1 << 36;
@@ -19,16 +17,8 @@ pub(crate) fn are_allowed(additional: &[u8], text: &[u8]) -> bool
 const FEW: usize = 160;
 
 /// Returns whether additional data and a text, of so many bytes, are a few blocks.
-pub fn are_few(additional: usize, text: usize) -> bool {
+pub fn are_few(additional: usize, text: usize) -> bool
+    ensures { IsTrue result ↔ (additional + text ≤ 160) }
+{
     additional <= FEW && text <= FEW - additional
-}
-
-// How many bytes of stack a message takes.
-const MESSAGE_STACK: usize = 4352;
-
-/// Wipes the stack that a message took, in a call from the same function: its keys, values of
-/// POLYVAL, the right tag of a refused message and blocks of the keystream may be there.
-#[inline(always)]
-pub fn wipe_message_stack() {
-    wipe_stack::<MESSAGE_STACK>();
 }

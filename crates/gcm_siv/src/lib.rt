@@ -16,6 +16,6 @@ pub use errors::{Refused, TooLong};
 pub use hash::PolyvalRoom;
 pub use keys::{KeyRoom, derive, put_authentication};
 pub use laws::text_twice;
-pub use lengths::{LONGEST, are_few, wipe_message_stack};
-pub use message::{open, seal};
+pub use lengths::{LONGEST, are_few};
+pub use message::{open, seal, wipe_message_stack};
 pub use mode::GcmSiv;

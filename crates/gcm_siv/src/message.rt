@@ -10,7 +10,7 @@ use crate::counters::add_keystream;
 use crate::hash::PolyvalRoom;
 use aes_cipher::blocks::{blocks_equal, sum_of_blocks};
 use aes_cipher::cipher::{Block, BlockCipherEncrypt};
-use aes_cipher::zeroize::MustWipe;
+use aes_cipher::zeroize::{MustWipe, wipe_stack};
 
 // What the tag is the cipher of, of S_s and the nonce.
 fn tag_input(sum: &Block, nonce: &[u8; 12]) -> Block
@@ -136,4 +136,14 @@ pub fn open<C: BlockCipherEncrypt, R: PolyvalRoom>(
     }
     apply(cipher, tag, text);
     false
+}
+
+// How many bytes of stack a message takes.
+const MESSAGE_STACK: usize = 4352;
+
+/// Wipes the stack that a message took, in a call from the same function: its keys, values of
+/// POLYVAL, the right tag of a refused message and blocks of the keystream may be there.
+#[inline(always)]
+pub fn wipe_message_stack() {
+    wipe_stack::<MESSAGE_STACK>();
 }

@@ -11,8 +11,8 @@ ghost use Rattle.gcm_siv.specs.GcmSiv.{authentication_key, encryption_key, IsAut
 use crate::errors::{Refused, TooLong};
 use crate::hash::PolyvalRoom;
 use crate::keys::{KeyRoom, derive, put_authentication};
-use crate::lengths::{are_allowed, are_few, wipe_message_stack};
-use crate::message::{open, seal};
+use crate::lengths::{are_allowed, are_few};
+use crate::message::{open, seal, wipe_message_stack};
 use aes_cipher::cipher::{Block, BlockCipherEncrypt, KeyInit};
 use aes_cipher::not_clone::NotClone;
 use aes_cipher::zeroize::{MustWipe, ZeroizeOnDrop};

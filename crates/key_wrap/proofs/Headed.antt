@@ -4,10 +4,9 @@ use Rattle.std.proofs.Common.{◌≡◌, ℕ, zero, suc, ◌+◌, ◌-◌, ◌*�
 use Rattle.std.proofs.Common.{length, get_or, take, drop, replicate, refl, ap, sym, inl, inr, ◌∙◌}
 use Rattle.std.proofs.Common.{arith}
 use Rattle.std.proofs.lemmas.Bool.{cases_lt}
-use Rattle.std.proofs.lemmas.List.{append-nil, append_assoc, drop_at, get_or-append_right}
-use Rattle.std.proofs.lemmas.List.{get_or-replicate, get_or_append_left, get_or_past, get_or_push}
-use Rattle.std.proofs.lemmas.List.{length-append, length-drop, length-replicate, length-take}
-use Rattle.std.proofs.lemmas.List.{take_all, take_at}
+use Rattle.std.proofs.lemmas.List.{append-nil, append_assoc, drop_at, get_or-replicate, get_or_past}
+use Rattle.std.proofs.lemmas.List.{get_or_push, length-append, length-drop, length-replicate}
+use Rattle.std.proofs.lemmas.List.{length-take, take_all, take_at}
 use Rattle.std.proofs.lemmas.List.Elements.{All-cons, All-nil, All-push}
 use Rattle.std.proofs.lemmas.Nat.{from_be_bytes-to_be_bytes_4}
 use Rattle.std.proofs.Math.Seq.{take-add}

@@ -4,9 +4,9 @@ use Rattle.std.proofs.Common.{◌≡◌, ℕ, zero, suc, ◌+◌, ◌-◌, ◌*�
 use Rattle.std.proofs.Common.{[], ◌∷◌, ◌++◌, length, get_or, set, take, drop, replicate, refl, ap}
 use Rattle.std.proofs.Common.{sym, inl, inr, ◌∙◌, arith, bit_and, bit_or, if◌then◌else◌}
 use Rattle.std.proofs.lemmas.Bool.{cases_lt, ne_eqb}
-use Rattle.std.proofs.lemmas.List.{append-nil, drop-append-le, drop_more, get_or-drop, get_or-take}
-use Rattle.std.proofs.lemmas.List.{get_or_past, length-drop, length-take, take-append-drop}
-use Rattle.std.proofs.lemmas.List.{take-append-le, take-replicate, take_all, take_more_set}
+use Rattle.std.proofs.lemmas.List.{append-nil, drop-append-le, drop_more, length-drop, length-take}
+use Rattle.std.proofs.lemmas.List.{take-append-drop, take-append-le, take-replicate, take_all}
+use Rattle.std.proofs.lemmas.List.{take_more_set}
 use Rattle.std.proofs.lemmas.Nat.{and_mask, be_bytes_4, le_or_l, le_or_r, mod-pow-add, pow_pos}
 use Rattle.std.proofs.Math.Nat.{le-mul_of_pos_right}
 use Rattle.std.proofs.Math.Seq.{take-append-add}

@@ -2,7 +2,7 @@
 
 use super::ways::{Trial, try_all};
 use aes::{Block, FixslicedAes};
-use aes_callers::closures::{Mixed, Nothing, Row, Twice, encrypt_row, twice_there_and_back};
+use aes_callers::closures::{LeavesBackend, Mixed, Row, Twice, encrypt_row, twice_there_and_back};
 use aes_cipher::aes::{AesCipher, Bits128, BothWays, KeySize};
 use aes_cipher::cipher::{BlockCipherDecrypt, BlockCipherEncrypt, CipherIn, Direction, KeyInit};
 use aes_hybrid::BothLists;
@@ -13,7 +13,7 @@ use standards::keys::KEY_A1;
 struct Closures;
 
 fn does_nothing<D: Direction, C: CipherIn<D>>(cipher: &C) -> bool {
-    let mut nothing = Nothing { count: 7 };
+    let mut nothing = LeavesBackend { count: 7 };
     cipher.process_with_backend(&mut nothing);
     nothing.count == 7
 }

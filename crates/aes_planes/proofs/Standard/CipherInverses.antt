@@ -1,17 +1,13 @@
--- Cipher and InvCipher undo each other, and EqInvCipher is InvCipher.
+-- Cipher and InvCipher undo each other.
 use Rattle.std.proofs.Common.{◌≡◌, ℕ, zero, suc, ◌+◌, ◌-◌, ◌<◌, ◌≤◌, List, [], ◌∷◌, length, map}
-use Rattle.std.proofs.Common.{inl, inr, refl, ◌^◌, slice_index, slice_index_or, ap, sym, subst, ◌∙◌}
-use Rattle.std.proofs.Common.{arith}
+use Rattle.std.proofs.Common.{refl, ◌^◌, slice_index, slice_index_or, ap, subst, ◌∙◌, arith}
 use Rattle.aes_planes.specs.Fips197.{IsBlock, AreRoundKeys, round_key, last_round, sub_bytes}
 use Rattle.aes_planes.specs.Fips197.{inv_sub_bytes, shift_rows, inv_shift_rows, mix_columns}
 use Rattle.aes_planes.specs.Fips197.{inv_mix_columns, add_round_key, state_after, cipher_with}
-use Rattle.aes_planes.specs.Fips197.{inv_state_after, inv_cipher_with, inverted_keys}
-use Rattle.aes_planes.specs.Fips197.{eq_inv_state_after, eq_inv_cipher_with}
-use Rattle.aes_planes.proofs.Standard.InvertedKeys.{inverted_length, inverted_end, inverted_middle}
-use Rattle.aes_planes.proofs.Mixing.MixColumns.{inv_mix_block, inv_mix_columns_add}
+use Rattle.aes_planes.specs.Fips197.{inv_state_after, inv_cipher_with}
 use Rattle.aes_planes.proofs.Standard.Steps.{Undoes, both_undone, inv_sub_of_sub, sub_of_inv_sub}
 use Rattle.aes_planes.proofs.Standard.Steps.{inv_shift_undoes, shift_undoes, inv_mix_undoes}
-use Rattle.aes_planes.proofs.Standard.Steps.{mix_undoes, add_undoes, inv_sub_shift, add_length}
+use Rattle.aes_planes.proofs.Standard.Steps.{mix_undoes, add_undoes, add_length}
 
 -- ---- a run of steps, and a run of steps that undo them in the other order
 
@@ -186,58 +182,5 @@ module _ (w : List (List ℕ)) (bs : List (List ℕ)) (keys : AreRoundKeys w)
       undone_each (inv_cipher_with w) (cipher_with w) (cipher_of_inv_cipher w keys) bs blocks
 
 pub ruleset inverse_ciphers_on_blocks = (inv_ciphers_of_ciphers, ciphers_of_inv_ciphers)
-
--- ---- the equivalent inverse cipher
-
--- the state after a round of Cipher has sixteen bytes
-pub after_length : (w : List (List ℕ)) (b : List ℕ) (n : ℕ) → length (state_after w b n) ≡ 16
-unfolding state_after
-after_length w b zero = add_length b (round_key w 0)
-after_length w b (suc n) =
-    add_length (mix_columns (shift_rows (sub_bytes (state_after w b n)))) (round_key w (suc n))
-
--- the state after a round of InvCipher has sixteen bytes
-pub inv_after_length : (w : List (List ℕ)) (b : List ℕ) (n : ℕ)
-    → length (inv_state_after w b n) ≡ 16
-unfolding inv_state_after
-inv_after_length w b zero = add_length b (round_key w (last_round w))
-inv_after_length w b (suc n) = (inv_mix_block _).0
-
--- the last steps of a round of EqInvCipher are those of InvCipher
-module _ (w : List (List ℕ)) (b : List ℕ) where
-  -- with the round keys mixed back, both go through the same states
-  equivalent : (n : ℕ) → n < last_round w → eq_inv_state_after (inverted_keys w) b n
-      ≡ inv_state_after w b n
-  unfolding eq_inv_state_after inv_state_after
-  equivalent zero lt =
-      let all : last_round w - 0 ≡ last_round w = omega arith in
-      ap (add_round_key b) (sym (inverted_end w 0 (omega arith) (inl refl)) ∙ ap (round_key w) all)
-  equivalent (suc n) lt =
-      let q : List ℕ = inv_state_after w b n in
-      let key = inverted_middle w (suc n) (omega arith) (omega arith) (omega arith) in
-      (λ i. add_round_key
-      (inv_mix_columns (inv_shift_rows (inv_sub_bytes (equivalent n (omega arith) i)))) (sym key i))
-      ∙ ap (λ v. add_round_key (inv_mix_columns v)
-      (inv_mix_columns (round_key w (last_round w - suc n))))
-      (inv_sub_shift q (inv_after_length w b n))
-      ∙ sym (inv_mix_columns_add (inv_sub_bytes (inv_shift_rows q))
-      (round_key w (last_round w - suc n)))
-
-  -- EqInvCipher under the inverted round keys is InvCipher under the round keys
-  pub eq_inv_is_inv : 2 ≤ length w → eq_inv_cipher_with (inverted_keys w) b ≡ inv_cipher_with w b
-  unfolding eq_inv_cipher_with inv_cipher_with
-  eq_inv_is_inv two =
-      let q = λ (n : ℕ). inv_shift_rows
-      (inv_sub_bytes (eq_inv_state_after (inverted_keys w) b (n - 1))) in
-      let n : last_round (inverted_keys w) ≡ last_round w = ap (λ v. v - 1) (inverted_length w) in
-      let none : last_round w - last_round w ≡ 0 = omega arith in
-      let key = sym (inverted_end w (last_round w) (omega arith) (inr refl))
-      ∙ ap (round_key w) none in
-      (λ i. add_round_key (q (n i)) (round_key (inverted_keys w) (n i)))
-      ∙ (λ i. add_round_key
-      (inv_shift_rows (inv_sub_bytes (equivalent (last_round w - 1) (omega arith) i))) (key i))
-      ∙ ap (λ v. add_round_key v (round_key w 0))
-      (inv_sub_shift (inv_state_after w b (last_round w - 1))
-      (inv_after_length w b (last_round w - 1)))
 
 pub ruleset inverse_ciphers_with = (inv_cipher_of_cipher, cipher_of_inv_cipher)

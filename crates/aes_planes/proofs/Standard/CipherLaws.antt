@@ -9,7 +9,8 @@ use Rattle.aes_planes.specs.Fips197.{inverted_keys}
 use Rattle.aes_planes.proofs.KeySchedule.ExpandedWords.{round_key_words}
 use Rattle.aes_planes.proofs.KeySchedule.ExpansionLength.{expansion_length, expansion_bytes}
 use Rattle.aes_planes.proofs.Standard.CipherInverses.{inv_cipher_of_cipher, cipher_of_inv_cipher}
-use Rattle.aes_planes.proofs.Standard.CipherInverses.{cipher_length, cipher_bytes, eq_inv_is_inv}
+use Rattle.aes_planes.proofs.Standard.CipherInverses.{cipher_length, cipher_bytes}
+use Rattle.aes_planes.proofs.Standard.EquivalentInverse.{eq_inv_is_inv}
 use Rattle.aes_planes.proofs.Standard.States.{state_length}
 use Rattle.aes_planes.proofs.Standard.Steps.{add_block, add_length, add_key_twice}
 

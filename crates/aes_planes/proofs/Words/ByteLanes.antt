@@ -1,19 +1,18 @@
 -- Words in byte lanes, in any order of the lanes: their bits through the operations on vectors.
-use Rattle.std.proofs.Common.{◌≡◌, ℕ, ◌+◌, ◌-◌, ◌*◌, ◌/◌, ◌%◌, ◌^◌, ◌<◌, ◌≤◌, ◌==◌, Bool, true}
-use Rattle.std.proofs.Common.{false, ◌&&◌, ◌||◌, cond, nat_le, nat_lt, bit_and, bit_or, List, []}
-use Rattle.std.proofs.Common.{◌∷◌, length, map, get_or, replicate, refl, ap, sym, ◌∙◌, arith, w8}
-use Rattle.std.proofs.Common.{Fits, leb-true, T}
+use Rattle.std.proofs.Common.{◌≡◌, ℕ, ◌+◌, ◌-◌, ◌*◌, ◌/◌, ◌%◌, ◌^◌, ◌<◌, ◌≤◌, Bool, true, false}
+use Rattle.std.proofs.Common.{◌&&◌, cond, nat_lt, bit_or, List, length, get_or, replicate, refl, ap}
+use Rattle.std.proofs.Common.{sym, ◌∙◌, arith, w8, Fits, T}
 use Rattle.std.proofs.lemmas.Simd.{swz_l, get_or-swz_l, get_or-zip2, get_or-replicate, length-zip2}
 use Rattle.std.proofs.lemmas.Simd.{length-replicate, Each1-get_or, below_from_Fits}
-use Rattle.std.proofs.lemmas.Bool.{lt-ltb, le-ltb, eqb-true, and_parts, cond_both, cond-true}
-use Rattle.std.proofs.lemmas.Bool.{cond-false}
+use Rattle.std.proofs.lemmas.Bool.{lt-ltb, le-ltb}
 use lib.Lanes.{zip2, Each1}
 use Rattle.aes_planes.specs.Bits.{at, bit, Places}
 use Rattle.aes_planes.specs.Fips197.{build}
-use Rattle.aes_planes.proofs.Bits.ByteCases.{all_below, all_below_tells, all_pairs, all_pairs_tell}
+use Rattle.aes_planes.proofs.Bits.ByteCases.{all_pairs, all_pairs_tell}
 use Rattle.aes_planes.proofs.Bits.NumberBits.{Places-build, bit_of_and, bit_of_or, bit_of_xor}
 use Rattle.aes_planes.proofs.Bits.NumberBits.{bit_funnel, bit_zero}
 use Rattle.aes_planes.proofs.Lists.{get_or-build}
+use Rattle.aes_planes.proofs.Words.Swizzles.{lane_or_zero, lane_from, picked}
 use Rattle.aes_planes.proofs.Words.Moved.{Turned, Right, Left, left_by}
 
 -- ---- a lane of what an operator makes of n lanes
@@ -69,58 +68,6 @@ shl8 x y = x * 2 ^ y % 2 ^ 8
 -- in each of n lanes the bits of a from p on, and then the low ones of b
 abbrev pub funneled : ℕ → ℕ → ℕ → List ℕ → List ℕ → List ℕ
 funneled n p q a b = zip2 bit_or (zip2 shr8 a (replicate n p)) (zip2 shl8 b (replicate n q))
-
--- ---- lanes that a swizzle reads within sixteen
-
--- the numbers of sixteen lanes
-abbrev pub sixteen : List ℕ
-sixteen = 0 ∷ 1 ∷ 2 ∷ 3 ∷ 4 ∷ 5 ∷ 6 ∷ 7 ∷ 8 ∷ 9 ∷ 10 ∷ 11 ∷ 12 ∷ 13 ∷ 14 ∷ 15 ∷ []
-
--- for each lane the number of the one m lanes on, round the end
-abbrev pub rotate_to : List ℕ → ℕ → List ℕ
-rotate_to lanes m = map (λ j. bit_and ((j + m) % 256) 15) lanes
-
--- for each lane the number of the one m lanes on, and a number from 128 on where there is none
-abbrev pub down_to : List ℕ → ℕ → List ℕ
-down_to lanes m = map (λ j. bit_and ((j + (m + 112)) % 256) 143) lanes
-
--- for each lane the number of the one m lanes back, and a number from 128 on where there is none
-abbrev pub up_to : List ℕ → ℕ → List ℕ
-up_to lanes m = map (λ j. (j + (256 - m)) % 256) lanes
-
--- number k names lane i of sixteen, or makes zero where there is none
-abbrev lane_or_zero : ℕ → ℕ → Bool
-lane_or_zero k i = cond (nat_le 128 k) (nat_le 16 i) ((k == i) && nat_lt i 16)
-
--- what is read there, of the sixteen from lane o on
-abbrev lane_from : List ℕ → ℕ → ℕ → ℕ
-lane_from x o i = cond (nat_lt i 16) (get_or x (o + i) 0) 0
-
--- an index that passes the test picks the lane that is meant, or a zero
-picked : (x : List ℕ) (k i o : ℕ) → lane_or_zero k i ≡ true
-    → cond (nat_le 128 k) 0 (get_or x (o + k) 0) ≡ lane_from x o i
-picked x k i o h = cond_both (nat_le 128 k) 0 (get_or x (o + k) 0) (λ v. v ≡ lane_from x o i)
-    (λ t. let far : 16 ≤ i = leb-true 16 i (sym (cond-true _ _ _ t) ∙ h) in
-    ap (λ b. cond b (get_or x (o + i) 0) 0) (sym (le-ltb i 16 far)))
-    (λ t. let both = and_parts (k == i) (nat_lt i 16) (sym (cond-false _ _ _ t) ∙ h) in
-    ap (λ v. get_or x (o + v) 0) (eqb-true k i both.0)
-    ∙ ap (λ b. cond b (get_or x (o + i) 0) 0) (sym both.1))
-
--- a number that a swizzle may have at a lane of the sixteen from lane o on, of n lanes: that of one
--- that there is, or one from 128 on, which gives zero
-abbrev pub place_ok : ℕ → ℕ → ℕ → Bool
-place_ok n o k = nat_le 128 k || (nat_lt k 16 && nat_lt (o + k) n)
-
--- a test that is true, in the form that std's lemmas on shuffles ask for
-t_of : (b : Bool) → b ≡ true → T b
-t_of true e = tt
-t_of false e = absurd (grind arith)
-
--- a number masked with 143 is one, if each byte is
-pub masked_place : (n o : ℕ) → all_below 256 (λ v. place_ok n o (bit_and v 143)) ≡ true → (x : ℕ)
-    → T (place_ok n o (bit_and (x % 256) 143))
-masked_place n o right x =
-    t_of _ (all_below_tells 256 (λ v. place_ok n o (bit_and v 143)) right (x % 256) (omega arith))
 
 -- ---- words of w bits
 

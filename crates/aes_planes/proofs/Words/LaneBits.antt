@@ -13,9 +13,10 @@ use Rattle.aes_planes.proofs.Bits.ByteCases.{all_below}
 use Rattle.aes_planes.proofs.Bits.Digits.{digit_bit, number_bit}
 use Rattle.aes_planes.proofs.Planes.Held.{build-ext}
 use Rattle.aes_planes.proofs.Bits.NumberBits.{Places-build, bit_low}
-use Rattle.aes_planes.proofs.Words.ByteLanes.{IsLayout, bit_at, byte_in_each, funneled, sixteen}
-use Rattle.aes_planes.proofs.Words.ByteLanes.{rotate_to, down_to, up_to, place_ok, masked_place}
-use Rattle.aes_planes.proofs.Words.ByteLanes.{swizzled, rotated, shifted_right, shifted_left}
+use Rattle.aes_planes.proofs.Words.ByteLanes.{IsLayout, bit_at, byte_in_each, funneled, swizzled}
+use Rattle.aes_planes.proofs.Words.ByteLanes.{rotated, shifted_right, shifted_left}
+use Rattle.aes_planes.proofs.Words.Swizzles.{sixteen, rotate_to, down_to, up_to, place_ok}
+use Rattle.aes_planes.proofs.Words.Swizzles.{masked_place}
 use Rattle.aes_planes.proofs.Words.Moved.{Turned, Right, Left, rotate_whole, shift_right_whole}
 use Rattle.aes_planes.proofs.Words.Moved.{shift_left_whole}
 

@@ -12,9 +12,10 @@ use Rattle.aes_planes.specs.Words.{lane_bits, wide_bits}
 use Rattle.aes_planes.proofs.Bits.ByteCases.{all_below, all_below_tells}
 use Rattle.aes_planes.proofs.Bits.NumberBits.{Places-build, bit_zero}
 use Rattle.aes_planes.proofs.Words.ByteLanes.{IsLayout, lane_operators, reads, bit_at, byte_in_each}
-use Rattle.aes_planes.proofs.Words.ByteLanes.{funneled, sixteen, rotate_to, down_to, up_to}
-use Rattle.aes_planes.proofs.Words.ByteLanes.{place_ok, masked_place, swizzled, rotated}
-use Rattle.aes_planes.proofs.Words.ByteLanes.{shifted_right, shifted_left}
+use Rattle.aes_planes.proofs.Words.ByteLanes.{funneled, swizzled, rotated, shifted_right}
+use Rattle.aes_planes.proofs.Words.ByteLanes.{shifted_left}
+use Rattle.aes_planes.proofs.Words.Swizzles.{sixteen, rotate_to, down_to, up_to, place_ok}
+use Rattle.aes_planes.proofs.Words.Swizzles.{masked_place}
 use Rattle.aes_planes.proofs.Words.LaneBits.{lane_at}
 use Rattle.aes_planes.proofs.Words.Moved.{Turned, Right, Left, right_again, left_again}
 use Rattle.aes_planes.proofs.Words.Moved.{rotate_whole, shift_right_whole, shift_left_whole}

@@ -18,7 +18,7 @@ returns-then-bytes-filled c y s places is =
     let f : ℕ = c.args.filled in
     let copied : List ℕ = c.copy_from_slice.new.self in
     let same : copied ≡ b = c.copy_from_slice.ensures.after in
-    unfilled c.args.multiples.now y c.args.value s rest b _ is
+    unfilled c.args.multiples.now y (from_be_bytes w128 c.args.value.now) s rest b _ is
     (omega (arith, places, c.if-bytes-filled.true))
     (ap (λ n. take (n + length b) (put_mid f (f + length b - f) rest copied)) places
     ∙ take-put_mid f (f + length b - f) rest copied (f + length b) (omega (arith, ap length same))
@@ -55,16 +55,18 @@ returns c y s places is =
     let others_is : others ≡ drop (16 - f) b = c.split_at.ensures.back in
     let whole_is : whole ≡ take (length others / 16 * 16) others = c.split_at-2.ensures.front in
     let last_is : last ≡ drop (length others / 16 * 16) others = c.split_at-2.ensures.back in
-    let value : c.hash_on.result
-    ≡ hashed h (product (bit_xor c.args.value (from_be_bytes w128 block)) h) (padded whole)
+    let v : ℕ = from_be_bytes w128 c.args.value.now in
+    let value : from_be_bytes w128 c.block_of_number.result
+    ≡ hashed h (product (bit_xor v (from_be_bytes w128 block)) h) (padded whole)
     (length (padded whole) / 16) =
-    c.hash_on.ensures ∙ ap (λ v. hashed h v (padded whole) (length (padded whole) / 16))
-    (c.product-value.ensures
-    ∙ ap (λ n. product (bit_xor c.args.value n) h) c.number_of_block.ensures.number) in
+    c.block_of_number.ensures.back ∙ c.hash_on.ensures
+    ∙ ap (λ v. hashed h v (padded whole) (length (padded whole) / 16)) (c.product-sum.ensures
+    ∙ (λ t. product (bit_xor (c.number_of_block-before.ensures.number t)
+    (c.number_of_block.ensures.number t)) h)) in
     let tail : List ℕ = post_of 0 (length last) block in
     let P : ℕ → Type 0 = λ v. IsHashing h y (s ++ b) v (copied_last ++ tail) in
     subst P (sym value)
-    (three_parts h y c.args.value s rest b first whole last block (copied_last ++ tail) is
+    (three_parts h y v s rest b first whole last block (copied_last ++ tail) is
     (sym ((λ t. first_is t ++ ((λ u. whole_is u ++ last_is u)
     ∙ take-append-drop (length others / 16 * 16) others ∙ others_is) t)
     ∙ take-append-drop (16 - f) b))

@@ -2,7 +2,7 @@
 use Rattle.std.proofs.Common.{◌∙◌, arith}
 use Rattle.std.specs.Int.{w128, from_be_bytes}
 use Rattle.gcm.specs.Multiples.{subkey_in, row_number}
-use Rattle.gcm.proofs.InHalves.{halves_none, halves_next, both_halves}
+use Rattle.gcm.proofs.RowSums.{halves_none, halves_next, both_halves}
 use Rattle.gcm.proofs.Reduction.{all_rows}
 use Rattle.gcm.proofs.Rows.{table_below}
 use Rattle.gcm.proofs.multiples.product.Goals as goal

@@ -1,7 +1,7 @@
 -- What holds in the loop of `multiples::product`.
 use Rattle.std.specs.Int.{w128, from_be_bytes}
 use Rattle.gcm.specs.Multiples.{subkey_in, row_number}
-use Rattle.gcm.proofs.InHalves.{SummedInHalves}
+use Rattle.gcm.proofs.RowSums.{SummedInHalves}
 use Rattle.gcm.proofs.multiples.product.Given as goal
 
 abbrev pub invariant-loop-k : goal.invariant-loop-k

@@ -2,7 +2,7 @@
 use Rattle.std.proofs.Common.{rules}
 use Rattle.aes_planes.specs.Fips197.{IsBlock}
 use Rattle.gcm.proofs.RowPairs.{rows_in_halves}
-use Rattle.gcm.proofs.InHalves.{rows_found}
+use Rattle.gcm.proofs.RowSums.{rows_found}
 use Rattle.gcm.proofs.multiples.rows_of_product.Goals as goal
 
 pub returns : goal.returns

@@ -11,19 +11,15 @@ returns-clause-added g c iv a is =
     let b : List ℕ = c.args.bytes.now in
     let subkey : c.self.inside.multiples ≡ h = c.self.invariant ∙ ap hash_subkey c.self.view_is in
     let v : ℕ = from_be_bytes w128 c.args.message.now.value in
-    let number : c.number_of_block-before.result ≡ v = c.number_of_block-before.ensures.number in
-    let block = c.block_of_number-message.ensures.back in
-    let Before : ℕ → ℕ → Type 0 = λ k n. IsHashing k 0 a n c.args.message.now.rest in
-    let After : ℕ → ℕ → Type 0 = λ k n. IsHashing k 0 (a ++ b) n c.hash_piece-value.new.rest in
-    let before = subst (λ n. Before c.self.inside.multiples n) (sym number)
-    (subst (λ k. Before k v) (sym subkey) is.hashing) in
+    let Before : ℕ → Type 0 = λ k. IsHashing k 0 a v c.args.message.now.rest in
+    let After : ℕ → Type 0 = λ k. IsHashing k 0 (a ++ b)
+    (from_be_bytes w128 c.hash_piece.new.value) c.hash_piece.new.rest in
     record {
       phase = is.phase;
       first = is.first;
       additional = omega (arith, is.additional, length-append a b);
       short = omega (arith, is.additional, length-append a b);
       text = is.text;
-      hashing = subst (λ n. After h n) (sym block)
-          (subst (λ k. After k c.hash_piece-value.result) subkey
-          (c.hash_piece-value.ensures 0 a (omega (arith, is.additional)) before));
+      hashing = subst After subkey (c.hash_piece.ensures 0 a (omega (arith, is.additional))
+          (subst Before (sym subkey) is.hashing));
     }

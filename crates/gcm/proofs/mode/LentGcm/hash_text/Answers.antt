@@ -12,12 +12,9 @@ returns g c phase iv a t is =
     let b : List ℕ = c.args.text.now in
     let subkey : c.self.inside.multiples ≡ h = c.self.invariant ∙ ap hash_subkey c.self.view_is in
     let v : ℕ = from_be_bytes w128 c.args.message.now.value in
-    let number : c.number_of_block-before.result ≡ v = c.number_of_block-before.ensures.number in
-    let block = c.block_of_number-message.ensures.back in
-    let Before : ℕ → ℕ → Type 0 = λ k n. IsHashing k y t n c.args.message.now.rest in
-    let After : ℕ → ℕ → Type 0 = λ k n. IsHashing k y (t ++ b) n c.hash_piece-value.new.rest in
-    let before = subst (λ n. Before c.self.inside.multiples n) (sym number)
-    (subst (λ k. Before k v) (sym subkey) is.hashing) in
+    let Before : ℕ → Type 0 = λ k. IsHashing k y t v c.args.message.now.rest in
+    let After : ℕ → Type 0 = λ k. IsHashing k y (t ++ b)
+    (from_be_bytes w128 c.hash_piece.new.value) c.hash_piece.new.rest in
     record {
       phase = is.phase;
       first = is.first;
@@ -25,7 +22,6 @@ returns g c phase iv a t is =
       short = is.short;
       text = omega (arith, is.text, length-append t b);
       short_text = omega (arith, is.text, length-append t b);
-      hashing = subst (λ n. After h n) (sym block)
-          (subst (λ k. After k c.hash_piece-value.result) subkey
-          (c.hash_piece-value.ensures y t (omega (arith, is.text)) before));
+      hashing = subst After subkey (c.hash_piece.ensures y t (omega (arith, is.text))
+          (subst Before (sym subkey) is.hashing));
     }

@@ -7,7 +7,7 @@ pub returns-clause-begun : goal.returns-clause-begun
 unfolding hashed
 returns-clause-begun g c =
     record {
-      phase = c.number_of-message.ensures;
+      phase = c.number_of_phase-message.ensures;
       first = c.put_pre_counter.ensures;
       additional = refl;
       short = omega arith;

@@ -13,7 +13,7 @@ returns-then-eq-clause-turned g c iv a t at =
     let additional : phase_of c.args.message.now.phase ≡ Additional = search rules in
     elim at [
       | inl b ↦ record {
-        phase = c.number_of-message.ensures;
+        phase = c.number_of_phase-message.ensures;
         first = b.0.first;
         additional = b.0.additional;
         short = b.0.short;

@@ -4,7 +4,7 @@ use Rattle.std.specs.Int.{w128, from_be_bytes}
 use lib.Lanes.{zip2}
 use Rattle.gcm.specs.Gcm.{product}
 use Rattle.gcm.specs.Multiples.{subkey_in, row_number, HasRows}
-use Rattle.gcm.proofs.InHalves.{halves_none, halves_next, both_halves, rows_summed}
+use Rattle.gcm.proofs.RowSums.{halves_none, halves_next, both_halves, rows_summed}
 use Rattle.gcm.proofs.Rows.{first_in, second_in, room_below, rows_of_two, rows_two}
 use Rattle.gcm.proofs.multiples.Multiples.two_products.Goals as goal
 

@@ -1,7 +1,7 @@
 -- What holds in the loop of `multiples::Multiples::two_products`.
 use Rattle.std.specs.Int.{w128, from_be_bytes}
 use Rattle.gcm.proofs.Rows.{rows_of_two}
-use Rattle.gcm.proofs.InHalves.{SummedInHalves}
+use Rattle.gcm.proofs.RowSums.{SummedInHalves}
 use Rattle.gcm.proofs.multiples.Multiples.two_products.Given as goal
 
 abbrev pub invariant-loop-k : goal.invariant-loop-k
