@@ -3,6 +3,7 @@ size. Run it as `make prove` in dist; the README says what it shows."""
 import argparse
 import concurrent.futures
 import gc
+import itertools
 import os
 import re
 import shutil
@@ -116,18 +117,18 @@ def siv_cases(choose):
 LIBRARIES = {"aes": (aes.Keyed, aes_cases), "gcm": (gcm.KeyedGcm, gcm_cases), "siv": (siv.KeyedSiv, siv_cases)}
 
 
-def statements(keyed, options):
-    """(what, Call); set_key was proved before."""
+def statements(keyed, options, part, parts):
+    """(what, Call) of this part of all; set_key was proved before."""
     choose = lambda all_, few, more=(): all_ if options.all else [*few, *more] if keyed.key_size == 16 else few
-    cases = LIBRARIES[keyed.library][1]
+    cases, number = LIBRARIES[keyed.library][1], itertools.count()
     for name, arguments in [*common_cases(keyed.library, version(options.dist, keyed.library)), *cases(choose)]:
         for values in arguments:
             values = values if isinstance(values, tuple) else (values,)
             what = " ".join([name] + [str(v) for v in values if v not in ("", (), aes.NEVER)])
-            if options.only in what:
+            if options.only in what and next(number) % parts == part:
                 yield what, getattr(keyed, name)(*values)
     for i, call in enumerate(keyed.refused()):
-        if options.only in call.name + " refused":
+        if options.only in call.name + " refused" and next(number) % parts == part:
             yield "%s refused %d" % (call.name, i), call
 
 
@@ -155,26 +156,27 @@ BESIDE = "set_key", "blocks encrypt 17", "add_keystream 0 130", "unwrap 3", "sea
 
 
 class Task:
-    """The calls of one build under keys of one size. The first size has some of them beside the processor, and statements have vectors once
-    for all builds."""
+    """The calls of one build under keys of one size, or a part of these. The first size has some of them beside the processor, and
+    statements have vectors once for all builds."""
 
-    def __init__(self, options, build, key_size):
-        self.options, self.build, self.key_size = options, build, key_size
+    def __init__(self, options, build, key_size, part, parts):
+        self.options, self.build, self.key_size, self.part, self.parts = options, build, key_size, part, parts
+        self.name = "%s.s, key of %d bytes" % (build, key_size) + ", part %d of %d" % (part + 1, parts) * (parts > 1)
         self.compared, self.used, self.first = set(), {}, key_size == options.keys[0]
-        self.proved, self.failed, self.vectors = 0, 0, 0
+        self.proved, self.failed, self.vectors = -bool(part), 0, 0  # (set_key counts once)
 
     def run(self):
         gc.disable()  # next to nothing here refers to itself, and looking for it takes a fifth of the time
         start = time.process_time()
-        self.path = "%s/%s_%d" % (self.options.out, self.build.replace("/", "_"), self.key_size)
+        self.path = "%s/%s_%d_%d" % (self.options.out, self.build.replace("/", "_"), self.key_size, self.part)
         program = link(source(self.options.dist, self.build), self.path, BUILDS[self.build])
         library = self.build.split("/")[1][:3]
         keyed = LIBRARIES[library][0](program, self.key_size)
         self.case("set_key", keyed.set_key)
         if not self.failed:
-            if self.build == "x86_64/" + library:
+            if self.build == "x86_64/" + library and self.part == 0:
                 self.vectors = checked(keyed)
-            for what, call in statements(keyed, self.options):
+            for what, call in statements(keyed, self.options, self.part, self.parts):
                 self.case(what, lambda seed: keyed.proved(call, seed))
         self.seconds = time.process_time() - start
         return self
@@ -193,8 +195,7 @@ class Task:
             text = "NOT PROVED: %s" % e
             self.failed += 1
         if self.options.lines or text.startswith("NOT"):
-            print("%s.s, key of %d bytes, %s: %s; %.1f s" % (
-                self.build, self.key_size, what, text, time.process_time() - start), flush=True)
+            print("%s, %s: %s; %.1f s" % (self.name, what, text, time.process_time() - start), flush=True)
 
 
 def run_task(*arguments):
@@ -213,10 +214,10 @@ def alone(path, machine, used):
 def run_all(options):
     """Runs what there is, the longest first, and yields each task when it is done; and (folder, forms, fault) for forms of instructions by
     themselves, each once."""
-    seen, builds = set(), {}
+    seen, builds, parts = set(), {}, 8 if options.all else 1  # (all at once would take more memory)
     with concurrent.futures.ProcessPoolExecutor(options.jobs, max_tasks_per_child=1) as pool:
-        waiting = {pool.submit(run_task, options, build, size) for size in options.keys for build in options.builds
-                   if size != 24 or "siv" not in build}
+        waiting = {pool.submit(run_task, options, build, size, part, parts) for size in options.keys for build in options.builds
+                   if size != 24 or "siv" not in build for part in range(parts)}
         while waiting:
             done, waiting = concurrent.futures.wait(waiting, return_when=concurrent.futures.FIRST_COMPLETED)
             for future in done:
@@ -274,8 +275,7 @@ def main():
         proved, failed = proved + (not fault), failed + bool(fault)
     for done in run_all(options):
         if isinstance(done, Task):
-            print("%s.s, key of %d bytes: %d proved, %d failed, %.0f s" % (
-                done.build, done.key_size, done.proved, done.failed, done.seconds), flush=True)
+            print("%s: %d proved, %d failed, %.0f s" % (done.name, done.proved, done.failed, done.seconds), flush=True)
             proved, failed, vectors = proved + done.proved, failed + done.failed, vectors + done.vectors
             folder, fault, forms = os.path.dirname(done.build), None, done.compared
             used |= {(folder, form) for form in done.used}
