@@ -1,9 +1,8 @@
 """The statement for each call of fotsgure_aes.h, beside the sentence of the header that it proves.
 
-They are proved in two steps, as the calls share the struct. fotsgure_aes_set_key is run on a key of symbolic bytes.
-Each bit that it stores turns out as a sum of bits of one byte of a round key, or of its InvMixColumns. The other calls
-then start from a struct of these sums over round keys that are arbitrary bytes. So they are proved for any round keys,
-and thus for those of any key."""
+They are proved in two steps, as the calls share the struct. fotsgure_aes_set_key is run on a key of symbolic bytes. Each bit that it stores
+turns out as a sum of bits of one byte of a round key, or of its InvMixColumns. The other calls then start from a struct of these sums over
+round keys that are arbitrary bytes. So they are proved for any round keys, and thus for those of any key."""
 from collections import namedtuple
 
 from bits import DATA, KEY, LOST, PUBLIC, Domain, Unproved
@@ -14,8 +13,7 @@ from standards import ICV1, ICV2, Aes, number
 # The header's enum, structs and sizes; prove.py has the compiler compare them.
 DONE, KEY_LENGTH, NO_KEY, UNEQUAL_COUNTS, KEYSTREAM_END, INVALID_COUNT, REFUSED = range(7)
 STATUSES = "DONE KEY_LENGTH NO_KEY UNEQUAL_COUNTS KEYSTREAM_END INVALID_COUNT REFUSED".split()
-STRUCTS = {"fotsgure_aes": (484, {"key_length": 0, "round_keys": 4}),
-           "fotsgure_aes_ctr": (24, {"iv": 0, "position": 16}),
+STRUCTS = {"fotsgure_aes": (484, {"key_length": 0, "round_keys": 4}), "fotsgure_aes_ctr": (24, {"iv": 0, "position": 16}),
            "fotsgure_aes_cbc": (16, {"previous": 0})}
 STRUCT = 484
 
@@ -37,8 +35,7 @@ class Keyed:
         self.w = [[self.domain.fresh("w[%d][%d]" % (i, k), KEY) for k in range(4)] for i in range(len(self.key_words))]
         self.name_round_keys()
         self.first = [self.domain.fresh("byte %d" % i, DATA, True) for i in range(16)]
-        self.ciphers = {"encrypt": self.aes.cipher(self.first, self.w),
-                        "decrypt": self.aes.inv_cipher(self.first, self.w)}
+        self.ciphers = {"encrypt": self.aes.cipher(self.first, self.w), "decrypt": self.aes.inv_cipher(self.first, self.w)}
         self.kept = {}
 
     def name_round_keys(self):
@@ -90,9 +87,8 @@ class Keyed:
 
     # The struct.
     def set_key(self, seed=None):
-        """Expands a key into *aes (KeyExpansion, FIPS 197, 5.2). *aes may be uninitialized: none of it is read. ..
-        every byte that neither a round key of the new key nor its length takes is 0. DONE if key_length is 16, 24 or
-        32"""
+        """Expands a key into *aes (KeyExpansion, FIPS 197, 5.2). *aes may be uninitialized: none of it is read. .. every byte that neither
+        a round key of the new key nor its length takes is 0. DONE if key_length is 16, 24 or 32"""
         m = self.proved(self.expansion(DONE, self.key_size, ANY), seed)
         self.struct = [self.byte_for_any(b) for b in m.regions["aes"].content]
         if self.struct[:4] != [self.key_size, 0, 0, 0]:
@@ -118,10 +114,13 @@ class Keyed:
         """.. or 0 if *aes holds no key."""
         return Call(self.library + "_key_length", [self.no_key()], 0, 8)
 
+    def version(self, number):
+        """Returns the version of the library"""
+        return Call(self.library + "_version", [], number)
+
     def wipe(self):
         """Overwrites *aes with zeros: it then holds no key. It may be uninitialized"""
-        return Call(self.library + "_wipe",
-                    [Buffer(self.library, self.undefined(self.struct_size), [0] * self.struct_size)], None)
+        return Call(self.library + "_wipe", [Buffer(self.library, self.undefined(self.struct_size), [0] * self.struct_size)], None)
 
     def schedule(self):
         return Buffer(self.library, self.struct)
@@ -137,19 +136,17 @@ class Keyed:
         return [x for b in range(count) for x in self.of(self.ciphers[direction], b)]
 
     def blocks(self, direction, count, way=""):
-        """Encrypts (Cipher, FIPS 197, 5.1) or decrypts (InvCipher, 5.3) each of `count` blocks in place under the key
-        of *aes. DONE. With _to: The same from one buffer to another; counts are in blocks. With _with: In one call,
-        under a key"""
+        """Encrypts (Cipher, FIPS 197, 5.1) or decrypts (InvCipher, 5.3) each of `count` blocks in place under the key of *aes. DONE. With
+        _to: The same from one buffer to another; counts are in blocks. With _with: In one call, under a key"""
         content, results = self.content(count), self.results(direction, count)
         return self.in_each_way("aes_%s_blocks" % direction, way, [], "blocks", content, results, count,
                                 plain=content if direction == "encrypt" else results)
 
     def in_each_way(self, name, way, state, data_name, data, results, count, **more):
-        """A call that changes data under the key of *aes or, with _with, under a key; or, with _to, that writes to
-        another buffer. `state` is what it takes between the key and the data."""
+        """A call that changes data under the key of *aes or, with _with, under a key; or, with _to, that writes to another buffer. `state`
+        is what it takes between the key and the data."""
         if way == "_to":
-            arguments = [self.schedule(), *state, Buffer("input", data), count,
-                         Buffer("output", self.undefined(len(data)), results), count]
+            arguments = [self.schedule(), *state, Buffer("input", data), count, Buffer("output", self.undefined(len(data)), results), count]
         elif way == "_with":
             arguments = [Buffer("key", self.key), self.key_size, *state,
                          Buffer(data_name, self.not_yet(data_name, len(data)), results), count]
@@ -158,8 +155,8 @@ class Keyed:
             arguments = [self.schedule(), *state, Buffer(data_name, data, results), count]
         return Call(name + way, arguments, DONE, **more)
 
-    # A call that expands a key begins in the key's domain. When it first computes with what isn't in it, what was made
-    # of the key becomes the same of any round keys.
+    # A call that expands a key begins in the key's domain. When it first computes with what isn't in it, what was made of the key becomes
+    # the same of any round keys.
     def not_yet(self, name, count):
         return [self.key_domain.opaque((name, k)) for k in range(count)]
 
@@ -182,9 +179,8 @@ class Keyed:
         pairs += [(d.opaque((name, k)), b) for name, content in contents.items() for k, b in enumerate(content)]
         m.replace_bytes(convert, e, pairs)
 
-    # Counter mode (SP 800-38A, 6.5). The counter is a number of 128 bits that the caller chooses: its halves are words
-    # of unknown value. The low one wraps around from block `wrap` on, or not within the call; the high half is then
-    # another unknown word.
+    # Counter mode (SP 800-38A, 6.5). The counter is a number of 128 bits that the caller chooses: its halves are words of unknown value.
+    # The low one wraps around from block `wrap` on, or not within the call; the high half is then another unknown word.
     def counter(self):
         d = self.domain
 
@@ -201,13 +197,11 @@ class Keyed:
         low, name = self.counter()[0], "counter low, from %d" % first
         d = self.domain
         d.words[name] = lambda offset, k: d.bits(d.byte_in_block(low[7 - k], offset - first + 1))
-        iv = [b for base in ("counter high", name)
-              for b in [domain.opaque((Pointer(base, 0), k)) for k in range(8)][::-1]]
+        iv = [b for base in ("counter high", name) for b in [domain.opaque((Pointer(base, 0), k)) for k in range(8)][::-1]]
         return iv, name
 
     def keystream(self, position, count, wrap):
-        """The data and what becomes of them: byte i of the keystream is byte i % 16 of Cipher of the block (iv + i /
-        16)."""
+        """The data and what becomes of them: byte i of the keystream is byte i % 16 of Cipher of the block (iv + i / 16)."""
         first = position // 16
         _, streams, data_bytes = self.counter()
         places = range(position, position + count)
@@ -217,32 +211,30 @@ class Keyed:
         return data, self.aes.xor(data, stream[position % 16:]), stream
 
     def add_keystream(self, position, count, wrap=NEVER, way=""):
-        """adds (XOR) to each of `count` bytes the keystream's byte at its place, the first at ctr->position, and moves
-        the position on by `count`. .. (iv + i / 16) modulo 2^128. .. DONE. With _to: The same from one buffer to
-        another; counts are in bytes. With _with: In one call, under a key"""
+        """adds (XOR) to each of `count` bytes the keystream's byte at its place, the first at ctr->position, and moves the position on by
+        `count`. .. (iv + i / 16) modulo 2^128. .. DONE. With _to: The same from one buffer to another; counts are in bytes. With _with: In
+        one call, under a key"""
         data, want, stream = self.keystream(position, count, wrap)
         before, name = self.counter_words(self.key_domain if way == "_with" else self.domain, position // 16)
         after, _ = self.counter_words(self.domain, position // 16)
         ctr = Buffer("ctr", before + number(position, 8)[::-1], after + number(position + count, 8)[::-1])
-        return self.in_each_way("aes_add_keystream", way, [ctr], "bytes", data, want, count,
-                                counter=Counter(name, position // 16, wrap),
+        return self.in_each_way("aes_add_keystream", way, [ctr], "bytes", data, want, count, counter=Counter(name, position // 16, wrap),
                                 keystream=stream, plain=data + want, may_stay={"plain": 4} if way == "_to" else None)
 
     # CBC (SP 800-38A, 6.2).
     def cbc_decrypt(self, count):
-        """Cipher block chaining in place (SP 800-38A, 6.2) .. decrypts the next `count` blocks of a chain, and moves
-        *cbc on to the last encrypted one. DONE"""
+        """Cipher block chaining in place (SP 800-38A, 6.2) .. decrypts the next `count` blocks of a chain, and moves *cbc on to the last
+        encrypted one. DONE"""
         previous = self.once("previous", lambda: [self.domain.fresh("previous byte %d" % i, DATA) for i in range(16)])
         content = self.content(count)
         chain = previous + content
         want = self.aes.xor(self.results("decrypt", count), chain)
-        return Call("aes_cbc_decrypt", [self.schedule(), Buffer("cbc", previous, chain[-16:]),
-                                        Buffer("blocks", content, want), count],
+        return Call("aes_cbc_decrypt", [self.schedule(), Buffer("cbc", previous, chain[-16:]), Buffer("blocks", content, want), count],
                     DONE, plain=want)
 
     def cbc_encrypt(self, count):
-        """.. encrypts .. the next `count` blocks of a chain. After each block the encrypted block, which is what it
-        should be, becomes an arbitrary one."""
+        """.. encrypts .. the next `count` blocks of a chain. After each block the encrypted block, which is what it should be, becomes an
+        arbitrary one."""
         def make():
             chain = [self.domain.fresh("chain byte %d" % i, DATA, True) for i in range(16)]
             return chain, self.aes.cipher(self.aes.xor(self.first, chain), self.w)
@@ -254,11 +246,9 @@ class Keyed:
         blocks = [self.of(chain, b) for b in range(count + 1)]
         want = [x for b in blocks[1:] for x in b]
         return Call("aes_cbc_encrypt", [self.schedule(), Buffer("cbc", blocks[0], blocks[-1]),
-                                        Buffer("blocks", self.content(count), want), count], DONE, steps=steps,
-                    plain=self.content(count))
+                                        Buffer("blocks", self.content(count), want), count], DONE, steps=steps, plain=self.content(count))
 
-    # Key wrap (SP 800-38F, 6.1 to 6.3). In step t, the block A ^ [t] or A, with a semiblock R, is named as bytes of
-    # block t - 1.
+    # Key wrap (SP 800-38F, 6.1 to 6.3). In step t, the block A ^ [t] or A, with a semiblock R, is named as bytes of block t - 1.
     def cipher_of(self, block, direction="encrypt"):
         """Cipher, or InvCipher, of a block of bytes of block 0 and constants."""
         if block == self.first:
@@ -267,8 +257,8 @@ class Keyed:
         return self.once((direction, *block), lambda: cipher(block, self.w))
 
     def wrap_string(self, start, n, last):
-        """W (6.1, algorithm 1) on the semiblock `start` and n others, of which `last` is what the last has: its steps,
-        the n, and what becomes of all."""
+        """W (6.1, algorithm 1) on the semiblock `start` and n others, of which `last` is what the last has: its steps, the n, and what
+        becomes of all."""
         a, r = self.first[:8], self.first[8:]
         semiblocks = [x for i in range(n) for x in self.of(last if i == n - 1 else r, i)]
 
@@ -279,8 +269,8 @@ class Keyed:
         return steps, semiblocks, self.of(a, 6 * n) + [x for i in range(n) for x in self.of(r, 6 * n + i)]
 
     def unwrap_string(self, n, start=None, last=None):
-        """The inverse of W (6.1, algorithm 2) on n + 1 semiblocks: its steps, the semiblocks, and what becomes of them.
-        With `start` and `last` those alone whose first and last semiblock become these."""
+        """The inverse of W (6.1, algorithm 2) on n + 1 semiblocks: its steps, the semiblocks, and what becomes of them. With `start` and
+        `last` those alone whose first and last semiblock become these."""
         a, r = self.first[:8], self.first[8:]
         wrapped = self.aes.xor(self.of(a, 0), number(6 * n, 8)) + [x for i in range(n) for x in self.of(r, n - 1 - i)]
         start, last = start or self.of(a, 6 * n), self.of(last or r, 6 * n)
@@ -294,26 +284,23 @@ class Keyed:
         return steps, wrapped, start, key
 
     def wrap(self, count):
-        """Key wrap (KW, SP 800-38F, 6.2; RFC 3394) from one buffer to another .. Counts are in semiblocks of 8 bytes. A
-        key has two or more, and becomes one more. .. DONE"""
+        """Key wrap (KW, SP 800-38F, 6.2; RFC 3394) from one buffer to another .. Counts are in semiblocks of 8 bytes. A key has two or
+        more, and becomes one more. .. DONE"""
         steps, key, wrapped = self.wrap_string(ICV1, count, self.first[8:])
         output = Buffer("output", self.undefined(8 * count + 8), wrapped)
-        return Call("aes_wrap", [self.schedule(), Buffer("input", key), count, output, count + 1], DONE, steps=steps,
-                    plain=key)
+        return Call("aes_wrap", [self.schedule(), Buffer("input", key), count, output, count + 1], DONE, steps=steps, plain=key)
 
     def unwrap(self, count):
-        """.. fotsgure_aes_unwrap also REFUSED, and the output then is all zeros; else DONE. Whether the key is right is
-        the only thing that a branch tells."""
+        """.. fotsgure_aes_unwrap also REFUSED, and the output then is all zeros; else DONE. Whether the key is right is the only thing that
+        a branch tells."""
         n = count - 1
         steps, wrapped, start, key = self.unwrap_string(n)
-        return Call("aes_unwrap", [self.schedule(), Buffer("input", wrapped), count,
-                                   Buffer("output", self.undefined(8 * n), key), n],
-                    DONE, steps=steps, reveals=self.aes.xor(start, ICV1), refused=REFUSED,
-                    refused_after={"output": [0] * 8 * n}, plain=key)
+        return Call("aes_unwrap", [self.schedule(), Buffer("input", wrapped), count, Buffer("output", self.undefined(8 * n), key), n],
+                    DONE, steps=steps, reveals=self.aes.xor(start, ICV1), refused=REFUSED, refused_after={"output": [0] * 8 * n}, plain=key)
 
     def wrap_padded(self, length):
-        """Key wrap with padding (KWP, SP 800-38F, 6.3; RFC 5649) .. what is wrapped has one semiblock more than the key
-        fills, (input_length + 7) / 8 + 1. .. DONE"""
+        """Key wrap with padding (KWP, SP 800-38F, 6.3; RFC 5649) .. what is wrapped has one semiblock more than the key fills,
+        (input_length + 7) / 8 + 1. .. DONE"""
         n, r = -(-length // 8), self.first[8:]
         start, last = ICV2 + number(length, 4), r[:8 - 8 * n + length] + [0] * (8 * n - length)
         if n == 1:
@@ -325,8 +312,8 @@ class Keyed:
                     steps=steps, plain=key)
 
     def unwrap_padded(self, length):
-        """And back: both counts are in semiblocks, and the output has one less. Afterwards *key_length is how many
-        bytes the key has: the first ones of the output, which zeros follow. .. DONE"""
+        """And back: both counts are in semiblocks, and the output has one less. Afterwards *key_length is how many bytes the key has: the
+        first ones of the output, which zeros follow. .. DONE"""
         return self.unwrap_padded_to(ICV2 + number(length, 4), length, DONE)
 
     def unwrap_padded_to(self, start, length, status, filler=0):
@@ -344,18 +331,18 @@ class Keyed:
         return Call("aes_unwrap_padded", [self.schedule(), Buffer("input", wrapped), n + 1, output, n, key_length],
                     status, steps=steps, plain=key)
 
-    def unwrap_padded_refused(self):
-        """.. REFUSED, and the output then is all zeros .. In all cases but DONE *key_length is 0. Shown for some first
-        semiblocks that no length has, and for padding that isn't zeros, with all keys."""
-        starts = (ICV1, ICV2 + number(8, 4), ICV2 + number(2 ** 32 - 1, 4), ICV2[:3] + [0xa7] + number(16, 4),
-                  ICV2 + number(17, 4))
-        calls = [self.unwrap_padded_to(start, 16, REFUSED) for start in starts]
-        return calls + [self.unwrap_padded_to(ICV2 + number(13, 4), 13, REFUSED, filler=1)]
+    def unwrap_padded_refused(self, which):
+        """.. REFUSED, and the output then is all zeros .. In all cases but DONE *key_length is 0. Shown for some first semiblocks that no
+        length has, and for padding that isn't zeros, with all keys."""
+        starts = (ICV1, ICV2 + number(8, 4), ICV2 + number(2 ** 32 - 1, 4), ICV2[:3] + [0xa7] + number(16, 4), ICV2 + number(17, 4))
+        if which == len(starts):
+            return self.unwrap_padded_to(ICV2 + number(13, 4), 13, REFUSED, filler=1)
+        return self.unwrap_padded_to(starts[which], 16, REFUSED)
 
     # Calls that are refused: nothing but the status changes.
     def refused(self):
-        """NO_KEY .. UNEQUAL_COUNTS if they differ .. KEYSTREAM_END if the position would pass 2^64 - 1 .. INVALID_COUNT
-        if keys of so many semiblocks are not wrapped, or the output isn't one longer or one shorter"""
+        """NO_KEY .. UNEQUAL_COUNTS if they differ .. KEYSTREAM_END if the position would pass 2^64 - 1 .. INVALID_COUNT if keys of so many
+        semiblocks are not wrapped, or the output isn't one longer or one shorter"""
         key, none, data = self.schedule(), self.no_key(), self.content(3)
         two, same, out = Buffer("input", data[:32]), lambda name: Buffer(name, data, data), lambda: same("output")
         ctr = lambda position: Buffer("ctr", *[data[:16] + number(position, 8)[::-1]] * 2)
@@ -363,17 +350,14 @@ class Keyed:
         for direction in ("encrypt", "decrypt"):
             name = "aes_" + direction + "_blocks"
             yield Call(name, [none, same("blocks"), 3], NO_KEY)
-            for aes, counts, status in ((none, (2, 2), NO_KEY), (key, (2, 3), UNEQUAL_COUNTS),
-                                        (none, (2, 1), UNEQUAL_COUNTS)):
+            for aes, counts, status in ((none, (2, 2), NO_KEY), (key, (2, 3), UNEQUAL_COUNTS), (none, (2, 1), UNEQUAL_COUNTS)):
                 yield Call(name + "_to", [aes, two, counts[0], out(), counts[1]], status)
             yield Call("aes_cbc_" + direction, [none, cbc, same("blocks"), 3], NO_KEY)
         for aes, position, count, status in ((none, 0, 16, NO_KEY), (none, 2 ** 64 - 16, 16, KEYSTREAM_END),
-                                             (key, 2 ** 64 - 1, 1, KEYSTREAM_END),
-                                             (key, 2 ** 64 - 48, 48, KEYSTREAM_END)):
+                                             (key, 2 ** 64 - 1, 1, KEYSTREAM_END), (key, 2 ** 64 - 48, 48, KEYSTREAM_END)):
             yield Call("aes_add_keystream", [aes, ctr(position), same("bytes"), count], status)
             yield Call("aes_add_keystream_to", [aes, ctr(position), Buffer("input", data), count, out(), count], status)
-            yield Call("aes_add_keystream_to", [aes, ctr(position), Buffer("input", data), count, out(), count - 1],
-                       UNEQUAL_COUNTS)
+            yield Call("aes_add_keystream_to", [aes, ctr(position), Buffer("input", data), count, out(), count - 1], UNEQUAL_COUNTS)
         for aes, counts, status in ((none, (2, 3), NO_KEY), (key, (1, 2), INVALID_COUNT), (key, (2, 2), INVALID_COUNT),
                                     (key, (0, 1), INVALID_COUNT), (key, (2 ** 54, 2 ** 54 + 1), INVALID_COUNT)):
             yield Call("aes_wrap", [aes, two, counts[0], out(), counts[1]], status)

@@ -1,19 +1,17 @@
 """Canonical forms of bits: what every proof here rests on.
 
-A *cell* is a byte that takes all 256 values: a byte of the key schedule, of a block, or what enters an S-box. A bit is
-kept as the exclusive or of functions of single cells, each as a truth table of 256 entries (a Python int whose entry 0
-is 0), and perhaps of 1. So equal forms are equal functions of the cells. Exclusive or is exact, cell by cell. `And` and
-look-ups are done only where everything involved depends on one cell; then they are exact too, on the 256 values of that
-cell. If bits depend on several cells, `named` asks whether they are sums of bits of one byte that the specification
-named (an input of an S-box), and writes that byte instead: an equation, checked by computing both sides. There is no
-search, and nothing is approximated: what can't be done raises Unproved.
+A *cell* is a byte that takes all 256 values: a byte of the key schedule, of a block, or what enters an S-box. A bit is kept as the
+exclusive or of functions of single cells, each as a truth table of 256 entries (a Python int whose entry 0 is 0), and perhaps of 1. So
+equal forms are equal functions of the cells. Exclusive or is exact, cell by cell. `And` and look-ups are done only where everything
+involved depends on one cell; then they are exact too, on the 256 values of that cell. If bits depend on several cells, `named` asks whether
+they are sums of bits of one byte that the specification named (an input of an S-box), and writes that byte instead: an equation, checked by
+computing both sides. There is no search, and nothing is approximated: what can't be done raises Unproved.
 
-A bit is an int: 0 and 1 are constants, else form << 9 | block << 1 | complement. Blocks are processed alike, so a form
-is kept once for all of them: `block` (1 to 255) says whose cells are meant; it is 0 if the form has cells of keys
-alone.
+A bit is an int: 0 and 1 are constants, else form << 9 | block << 1 | complement. Blocks are processed alike, so a form is kept once for all
+of them: `block` (1 to 255) says whose cells are meant; it is 0 if the form has cells of keys alone.
 
-A byte is an int too: below 256 a constant, else an entry of `bits_of` (eight bits, lowest first), or opaque (None): a
-byte that may be moved, but with which nothing may be computed (what a buffer or a register held before)."""
+A byte is an int too: below 256 a constant, else an entry of `bits_of` (eight bits, lowest first), or opaque (None): a byte that may be
+moved, but with which nothing may be computed (what a buffer or a register held before)."""
 
 import functools
 
@@ -192,8 +190,7 @@ class Domain:
             n = self.xors[key] = self.intern(form) if form else 0
         return (n << 9 | (bx | by if self.has_block[n] else 0) if n else 0) | (x ^ y) & 1
 
-    # Sums over several blocks, as transposing makes them: for each block the form without keys, and for 0 the part of
-    # keys.
+    # Sums over several blocks, as transposing makes them: for each block the form without keys, and for 0 the part of keys.
     def parts(self, x):
         if x < 2:
             return ()
@@ -232,12 +229,12 @@ class Domain:
             self.mixed_xors[key] = z
         return z ^ (x ^ y) & 1
 
-    # Sums of products of two bits of cells, for GHASH: a bit, and an int with a bit for each pair of bits of cells. Bits of
-    # cells have numbers. A row of such an int is for one bit, and for 128 of those that it is multiplied with. Sums of
-    # products aren't kept once each, as that takes long; `same` compares them.
+    # Sums of products of two bits of cells, for GHASH: a bit, and an int with a bit for each pair of bits of cells. Bits of cells have
+    # numbers. A row of such an int is for one bit, and for 128 of those that it is multiplied with. Sums of products aren't kept once each,
+    # as that takes long; `same` compares them.
     def products_of(self, step, keep):
-        """Goes on with the products that are made up to this step of a call. Those of other steps are forgotten, unless a
-        branch of the call may come there once more."""
+        """Goes on with the products that are made up to this step of a call. Those of other steps are forgotten, unless a branch of the
+        call may come there once more."""
         if not keep:
             for products in self.kept.values():
                 for b in products.bytes:
@@ -434,8 +431,8 @@ class Domain:
         return out
 
     def single(self, n):
-        """The ways to write form n as a function of one cell, {cell: table}: as it is, by a name, or as a function of a
-        named cell plus a sum that has the same name."""
+        """The ways to write form n as a function of one cell, {cell: table}: as it is, by a name, or as a function of a named cell plus a
+        sum that has the same name."""
         form = self.forms[n]
         cells = tuple(c for c, _ in form)
         known = self.alike.setdefault(cells, {})
@@ -447,8 +444,7 @@ class Domain:
             for k, (c, t) in enumerate(form):
                 rest = cells[:k] + cells[k + 1:]
                 if self.defined_by.get(c) == rest:
-                    ways.update((cell, t ^ table)
-                                for cell, table in self.named(form[:k] + form[k + 1:], rest) if cell == c)
+                    ways.update((cell, t ^ table) for cell, table in self.named(form[:k] + form[k + 1:], rest) if cell == c)
             known[n] = ways
         return ways
 

@@ -1,8 +1,7 @@
 """How one call is proved: what it is given, what it has to leave, and what may be left of it on the stack.
 
-A statement is a Call, written like the call in C: its arguments are numbers and Buffers, and each Buffer says what it
-has to hold when the call returns. A Buffer that says nothing may only be read. So "writes nothing but what it says" is
-part of each statement."""
+A statement is a Call, written like the call in C: its arguments are numbers and Buffers, and each Buffer says what it has to hold when the
+call returns. A Buffer that says nothing may only be read. So "writes nothing but what it says" is part of each statement."""
 from bits import DATA, KEY, LOST, Pause, Unproved
 from machine import Pointer, Question, Region
 from native import Native
@@ -22,16 +21,14 @@ class Buffer:
 
 
 class Call:
-    """`status` is what the call returns, in `size` bytes. `steps` are for calls in which each step depends on the last
-    one (see step_by_step). `reveals` are bytes that are all zero if a wrapped key or a tag is right; if they are not,
-    the call returns the status `refused`, and Buffers are what `refused_after` says by their names, or what they were.
-    `assumes` are bytes of public data that are not all zero. `later` turns bytes of the key's own domain into those of
-    arbitrary round keys, for a call that expands a key (see aes.py). `keystream` is what is added to the data, and
-    `plain` what is secret of the data and the results; `may_stay` says how many bytes of a kind may be left
-    besides."""
+    """`status` is what the call returns, in `size` bytes. `steps` are for calls in which each step depends on the last one (see
+    step_by_step). `reveals` are bytes that are all zero if a wrapped key or a tag is right; if they are not, the call returns the status
+    `refused`, and Buffers are what `refused_after` says by their names, or what they were. `assumes` are bytes of public data that are not
+    all zero. `later` turns bytes of the key's own domain into those of arbitrary round keys, for a call that expands a key (see aes.py).
+    `keystream` is what is added to the data, and `plain` what is secret of the data and the results; `may_stay` says how many bytes of a
+    kind may be left besides."""
 
-    def __init__(self, name, arguments, status, size=4, steps=None, reveals=None, refused=None, refused_after=None,
-                 assumes=None,
+    def __init__(self, name, arguments, status, size=4, steps=None, reveals=None, refused=None, refused_after=None, assumes=None,
                  later=None, counter=None, keystream=(), plain=(), may_stay=None):
         self.name, self.arguments, self.status, self.size, self.steps = name, arguments, status, size, steps
         self.reveals, self.refused, self.refused_after = reveals, refused, refused_after or {}
@@ -167,13 +164,11 @@ def found(m, where, want):
         return any(content[k] == want[0] and content[k:k + len(want)] == want
                    for k in range(max(0, at - len(want)), min(at + 16, len(content))))
     if where == "block":
-        return any(want == region.content[k:k + 16] for region in m.regions.values()
-                   for k in range(0, len(region.content) - 15, 8))
+        return any(want == region.content[k:k + 16] for region in m.regions.values() for k in range(0, len(region.content) - 15, 8))
     if where == "vector":
         return any(v[0] == want[0] and v[:16] == want for v in m.vectors)
     words = [v for v in m.general.values() if type(v) is tuple and len(v) == 8]
-    return any(same(m, v, want) for v in m.vectors) or any(
-        all(any(same(m, v, half) for v in words) for half in halves)
+    return any(same(m, v, want) for v in m.vectors) or any(all(any(same(m, v, half) for v in words) for half in halves)
         for halves in ((want[:8], want[8:]), (want[7::-1], want[:7:-1])))
 
 
@@ -206,9 +201,9 @@ def depends_bit(m, x, origins=True):
 
 
 def kind(m, byte, names, plain):
-    """What a byte that is left tells: of the "key" alone, "inner" values of the key and others, from which the key may be computed,
-    "plain" text and what is computed of it without the key, a block that the cipher gave in the midst of a mode
-    ("step"), the "keystream", the call's "result", or of other "data" alone."""
+    """What a byte that is left tells: of the "key" alone, "inner" values of the key and others, from which the key may be computed, "plain"
+    text and what is computed of it without the key, a block that the cipher gave in the midst of a mode ("step"), the "keystream", the
+    call's "result", or of other "data" alone."""
     if byte in m.lost:
         return "key"
     if not m.domain.symbolic(byte):

@@ -93,7 +93,7 @@ FAULTS = {
         ("a branch on a bit of H", FINISH, ENTRY, "\ttestb\t$1, 300(%rdi)\n\tje\t77f\n77:\n", lambda k: [k.finish(gcm.ENCRYPTING, 16, 16)]),
         ("a refused text decrypted", OPEN, r"\ttestb\t%bpl, %bpl\n\tje\t", "\ttestb\t%bpl, %bpl\n\tjs\t", lambda k: [k.open(0, 3)]),
         ("the first counter of a message set to 1", r"fotsgure_gcm_encrypt:", ENTRY, r"\1\tmovl\t$0x1000000, 44(%rsi)\n",
-         lambda k: [k.piece("encrypt", gcm.ENCRYPTING, 5, 39, 9, k.nonce_of(8, 2 ** 32 - 3, (7, 0, 255, 255)))]),
+         lambda k: [k.piece("encrypt", gcm.ENCRYPTING, 5, 39, 9, (8, 2 ** 32 - 3, (7, 0, 255, 255)))]),
         ("a field of the message moved", BEGIN, r"\t\$1, 24\(", "\t$1, 16(", lambda k: [k.begin()]),
     ],
     "x86_64/siv": [

@@ -1,8 +1,7 @@
 """The statement for each call of fotsgure_gcm.h (SP 800-38D), beside the sentence of the header that it proves.
 
-H and its powers become arbitrary blocks when set_key has made them, and so does each value of GHASH when a call has
-made it. A call on a message that comes in pieces is proved from any state of the message: whatever value of GHASH and
-whatever part of a block came before."""
+H and its powers become arbitrary blocks when set_key has made them, and so does each value of GHASH when a call has made it. A call on a
+message that comes in pieces is proved from any state of the message: whatever value of GHASH and whatever part of a block came before."""
 import functools
 from collections import namedtuple
 
@@ -12,13 +11,10 @@ from calls import ANY, Buffer, Call, compare
 from machine import Pointer
 from standards import number, product
 
-STATUSES = ("DONE KEY_LENGTH NO_KEY NONCE_LENGTH TAG_LENGTH TOO_LONG REFUSED NONCES_END OUT_OF_TURN "
-            "NO_RANDOMNESS").split()
+STATUSES = ("DONE KEY_LENGTH NO_KEY NONCE_LENGTH TAG_LENGTH TOO_LONG REFUSED NONCES_END OUT_OF_TURN NO_RANDOMNESS").split()
 _, KEY_LENGTH, NO_KEY, NONCE_LENGTH, TAG_LENGTH, TOO_LONG, REFUSED, NONCES_END, OUT_OF_TURN = range(9)
-STRUCTS = {"fotsgure_gcm": (1780, {"key_length": 0, "round_keys": 4, "multiples": 244}),
-           "fotsgure_gcm_counter": (12, {"next": 0}),
-           "fotsgure_gcm_message": (80, {"additional": 0, "text": 8, "decrypted": 16, "phase": 24, "first": 32,
-                                         "value": 48, "rest": 64})}
+STRUCTS = {"fotsgure_gcm": (1780, {"key_length": 0, "round_keys": 4, "multiples": 244}), "fotsgure_gcm_counter": (12, {"next": 0}),
+           "fotsgure_gcm_message": (80, {"additional": 0, "text": 8, "decrypted": 16, "phase": 24, "first": 32, "value": 48, "rest": 64})}
 STRUCT, MESSAGE = 1780, 80
 NONE, ADDITIONAL, ENCRYPTING, VERIFYING, DECRYPTING = range(5)  # phases of a message
 MOST, MOST_ADDITIONAL = 2 ** 36 - 32, 2 ** 61 - 1
@@ -31,8 +27,7 @@ def padded(b):
 
 
 def threes(blocks, end=()):
-    """The groups of blocks whose products with powers of H are added at once; `end` comes into the last one if it has
-    room."""
+    """The groups of blocks whose products with powers of H are added at once; `end` comes into the last one if it has room."""
     groups = [blocks[i:i + 3] for i in range(0, len(blocks), 3)]
     if end and blocks and len(groups[-1]) < 3:
         groups[-1] = groups[-1] + [end]
@@ -74,8 +69,7 @@ class Hashing:
         return total
 
 
-# J_0: twelve bytes and the number that its last four are; how GHASH makes it of a nonce of another length; the
-# arguments of a call.
+# J_0: twelve bytes and the number that its last four are; how GHASH makes it of a nonce of another length; the arguments of a call.
 PreCounter = namedtuple("PreCounter", "bytes counter hashing arguments")
 
 
@@ -90,8 +84,7 @@ class KeyedGcm(Keyed):
         self.nonce = [d.fresh("nonce byte %d" % i, PUBLIC) for i in range(12)]
         self.pre_counter = [d.fresh("J_0 byte %d" % i, KEY | PUBLIC) for i in range(12)]
         block = lambda name, depends: [d.fresh("%s byte %d" % (name, i), depends, True) for i in range(16)]
-        self.text, self.sealed, self.more, self.tag = (block(name, DATA)
-                                                       for name in ("text", "encrypted", "additional", "tag"))
+        self.text, self.sealed, self.more, self.tag = (block(name, DATA) for name in ("text", "encrypted", "additional", "tag"))
         self.hash_value, self.rest = block("hash", KEY | DATA), block("rest", KEY | DATA)
         self.long_nonce = block("long nonce", PUBLIC)
 
@@ -101,8 +94,8 @@ class KeyedGcm(Keyed):
 
     # The struct.
     def set_key(self, seed=None):
-        """Prepares a key in *gcm (KeyExpansion, FIPS 197, 5.2; H, SP 800-38D, 7.1). *gcm may be uninitialized: none of
-        it is read. Nothing of what it held is left. DONE if key_length is 16, 24 or 32"""
+        """Prepares a key in *gcm (KeyExpansion, FIPS 197, 5.2; H, SP 800-38D, 7.1). *gcm may be uninitialized: none of it is read. Nothing
+        of what it held is left. DONE if key_length is 16, 24 or 32"""
         d, e = self.key_domain, self.domain
         h = self.key_aes.cipher(ZEROS, self.key_words)
         p = [[d.fresh("H^%d byte %d" % (n, i), KEY) for i in range(16)] for n in (1, 2, 3)]
@@ -132,8 +125,7 @@ class KeyedGcm(Keyed):
 
     # Nonces, counter blocks and texts.
     def nonce_of(self, length=12, counter=1, before=()):
-        """A nonce of 12 bytes, or one of another length of which J_0 ends in this number, and in these bytes before
-        (7.1, step 2)."""
+        """A nonce of 12 bytes, or one of another length of which J_0 ends in this number, and in these bytes before (7.1, step 2)."""
         if length == 12:
             return PreCounter(self.nonce, 1, Hashing(self, ZEROS), [Buffer("nonce", self.nonce), 12])
         nonce = self.many(self.long_nonce, length)
@@ -152,8 +144,7 @@ class KeyedGcm(Keyed):
             nonce, after, assumes = number(counter, 12), number(counter + 1, 12), None
         else:
             d.words["nonce low"] = lambda offset, k: d.bits(self.nonce[11 - k]) if offset == 0 else None
-            nonce, after = (self.nonce[:4] + [d.opaque((Pointer("nonce low", n), k)) for k in range(8)][::-1]
-                            for n in (0, 1))
+            nonce, after = (self.nonce[:4] + [d.opaque((Pointer("nonce low", n), k)) for k in range(8)][::-1] for n in (0, 1))
             assumes = [d.xor_byte(b, 255) for b in self.nonce[4:]]
         bytes_ = self.nonce if counter is None else nonce
         buffers = [Buffer("counter", nonce, after), Buffer("nonce", self.undefined(12), nonce)]
@@ -187,10 +178,9 @@ class KeyedGcm(Keyed):
         hashing.take(threes(padded(additional)) + threes(padded(sealed), self.lengths(additional_length, text_length)))
         return Buffer("additional", additional), sealed, hashing
 
-    def seal(self, additional_length, text_length, first=None, name="gcm_seal", **more):
-        """Encrypts `text_length` bytes in place and writes the tag (7.1). .. A nonce may have any length from one byte
-        on. DONE"""
-        first = first or self.nonce_of()
+    def seal(self, additional_length, text_length, nonce=(), name="gcm_seal", first=None, **more):
+        """Encrypts `text_length` bytes in place and writes the tag (7.1). .. A nonce may have any length from one byte on. DONE"""
+        first = first or self.nonce_of(*nonce)
         additional, sealed, hashing = self.message_of(first, additional_length, text_length)
         text = self.many(self.text, text_length)
 
@@ -200,22 +190,19 @@ class KeyedGcm(Keyed):
                 yield "text", self.crypted(first, text), sealed
             yield from hashing.steps()
         tag = self.aes.xor(hashing.value, self.stream(first, 0))
-        return Call(name, [self.schedule(), *first.arguments, additional, additional_length,
-                           Buffer("text", text, sealed), text_length,
-                           Buffer("tag", self.undefined(16), tag)], DONE, steps=steps,
-                    keystream=self.streams(first, text_length),
+        return Call(name, [self.schedule(), *first.arguments, additional, additional_length, Buffer("text", text, sealed), text_length,
+                           Buffer("tag", self.undefined(16), tag)], DONE, steps=steps, keystream=self.streams(first, text_length),
                     plain=text, **more)
 
     def seal_next(self, additional_length, text_length, counter=None):
-        """The same under the counter's next nonce, which it writes to `nonce`; the counter then moves on by one. ..
-        DONE"""
+        """The same under the counter's next nonce, which it writes to `nonce`; the counter then moves on by one. .. DONE"""
         first, assumes = self.counted(counter)
-        return self.seal(additional_length, text_length, first, "gcm_seal_next", assumes=assumes)
+        return self.seal(additional_length, text_length, (), "gcm_seal_next", first, assumes=assumes)
 
-    def open(self, additional_length, text_length, first=None):
-        """Decrypts `text_length` bytes in place if the tag is right (7.2). .. a text that is refused is, when the call
-        returns, as it was. .. REFUSED; else DONE."""
-        first = first or self.nonce_of()
+    def open(self, additional_length, text_length, nonce=()):
+        """Decrypts `text_length` bytes in place if the tag is right (7.2). .. a text that is refused is, when the call returns, as it was.
+        .. REFUSED; else DONE."""
+        first = self.nonce_of(*nonce)
         additional, sealed, hashing = self.message_of(first, additional_length, text_length)
         tag, right = self.of(self.tag, 0), self.aes.xor(hashing.value, self.stream(first, 0))
 
@@ -224,8 +211,7 @@ class KeyedGcm(Keyed):
             yield from hashing.steps()
         text = Buffer("text", sealed, self.crypted(first, sealed))
         return Call("gcm_open", [self.schedule(), *first.arguments, additional, additional_length, text, text_length,
-                                 Buffer("tag", tag), 16], DONE, steps=steps,
-                    reveals=self.aes.xor(tag, right), refused=REFUSED,
+                                 Buffer("tag", tag), 16], DONE, steps=steps, reveals=self.aes.xor(tag, right), refused=REFUSED,
                     keystream=self.streams(first, text_length), plain=text.after)
 
     # Messages in pieces.
@@ -260,18 +246,17 @@ class KeyedGcm(Keyed):
         if phase == ADDITIONAL and additional % 16:
             hashing.take([padded(self.of(self.rest, 0)[:additional % 16])])
 
-    def begin(self, first=None, name="gcm_begin", **more):
-        """Begins a message under a nonce, which has any length. *message may be uninitialized .. and nothing of what it
-        held is left. .. DONE"""
-        first = first or self.nonce_of()
+    def begin(self, nonce=(), name="gcm_begin", first=None, **more):
+        """Begins a message under a nonce, which has any length. *message may be uninitialized .. and nothing of what it held is left. ..
+        DONE"""
+        first = first or self.nonce_of(*nonce)
         message = self.message(self.undefined(MESSAGE), self.state(ADDITIONAL, 0, 0, first=first))
         return Call(name, [self.schedule(), message, *first.arguments], DONE, steps=first.hashing.steps, **more)
 
     def begin_next(self, counter=None):
-        """The same under the counter's next nonce, which it writes to `nonce`; the counter then moves on by one. ..
-        DONE"""
+        """The same under the counter's next nonce, which it writes to `nonce`; the counter then moves on by one. .. DONE"""
         first, assumes = self.counted(counter)
-        return self.begin(first, "gcm_begin_next", assumes=assumes)
+        return self.begin((), "gcm_begin_next", first, assumes=assumes)
 
     def additional(self, before, count):
         """Takes a piece of the additional data .. DONE"""
@@ -282,10 +267,10 @@ class KeyedGcm(Keyed):
         after = self.state(ADDITIONAL, before + count, 0, 0, hashing.value, rest)
         return self.on_message("additional", state, after, [Buffer("additional", piece), count], steps=hashing.steps)
 
-    def piece(self, call, phase, additional, before, count, first=None):
-        """Encrypts a piece of the text in place. .. Takes a piece of an encrypted text whose tag is to be compared, and
-        writes nothing to it. .. Takes a piece as fotsgure_gcm_verify does, and decrypts it in place at once. .. DONE"""
-        first = first or self.nonce_of()
+    def piece(self, call, phase, additional, before, count, nonce=()):
+        """Encrypts a piece of the text in place. .. Takes a piece of an encrypted text whose tag is to be compared, and writes nothing to
+        it. .. Takes a piece as fotsgure_gcm_verify does, and decrypts it in place at once. .. DONE"""
+        first = self.nonce_of(*nonce)
         state, hashing = self.any_state(phase, additional, before, first)
         text, sealed = (self.many(b, count, before % 16) for b in (self.text, self.sealed))
         self.turned(hashing, phase, additional)
@@ -300,20 +285,19 @@ class KeyedGcm(Keyed):
             yield from hashing.steps(turned)
         after_phase = ENCRYPTING if call == "encrypt" else VERIFYING
         after = self.state(after_phase, additional, before + count, 0, hashing.value, rest, first)
-        texts = {"encrypt": (text, sealed), "verify": (sealed, None),
-                 "decrypt_unverified": (sealed, self.crypted(first, sealed, before))}
+        texts = {"encrypt": (text, sealed), "verify": (sealed, None), "decrypt_unverified": (sealed, self.crypted(first, sealed, before))}
         return self.on_message(call, state, after, [Buffer("text", *texts[call]), count], steps=steps,
-                             keystream=self.streams(first, count, before) if call != "verify" else (),
-                             plain=self.crypted(first, sealed, before) if call == "decrypt_unverified" else text)
+                               keystream=self.streams(first, count, before) if call != "verify" else (),
+                               plain=self.crypted(first, sealed, before) if call == "decrypt_unverified" else text)
 
-    def decrypt(self, text, before, count, first=None):
+    def decrypt(self, text, before, count, nonce=()):
         """Decrypts a piece in place of the encrypted text whose tag was right .. DONE"""
-        first = first or self.nonce_of()
+        first = self.nonce_of(*nonce)
         sealed = self.many(self.sealed, count, before % 16)
         plain = self.crypted(first, sealed, before)
         (state, _), (after, _) = (self.any_state(DECRYPTING, 3, text, first, n) for n in (before, before + count))
         return self.on_message("decrypt", state, after, [Buffer("text", sealed, plain), count],
-                             keystream=self.streams(first, count, before), plain=plain)
+                               keystream=self.streams(first, count, before), plain=plain)
 
     def tag_of(self, phase, additional, text, first):
         """A message in any state, and the tag of what has come of it."""
@@ -324,23 +308,22 @@ class KeyedGcm(Keyed):
         hashing.take([[self.lengths(additional, text)]])
         return state, hashing, self.aes.xor(hashing.value, self.stream(first, 0))
 
-    def finish(self, phase, additional, text, first=None):
+    def finish(self, phase, additional, text, nonce=()):
         """Ends a message that was encrypted: writes its tag, and overwrites *message with zeros. .. DONE"""
-        first = first or self.nonce_of()
+        first = self.nonce_of(*nonce)
         state, hashing, tag = self.tag_of(phase, additional, text, first)
         return self.on_message("finish", state, [0] * MESSAGE, [Buffer("tag", self.undefined(16), tag)], steps=hashing.steps)
 
-    def accept(self, phase, additional, text, length=None, first=None):
-        """Compares the tag of what has come, without an early exit. If it is right, the encrypted text may come once
-        more, to be decrypted. .. REFUSED; else DONE. With a length: Compares a tag of fewer than 16 bytes in the place
-        of fotsgure_gcm_accept"""
-        first = first or self.nonce_of()
+    def accept(self, phase, additional, text, nonce=(), length=None):
+        """Compares the tag of what has come, without an early exit. If it is right, the encrypted text may come once more, to be decrypted.
+        .. REFUSED; else DONE. With a length: Compares a tag of fewer than 16 bytes in the place of fotsgure_gcm_accept"""
+        first = self.nonce_of(*nonce)
         state, hashing, right = self.tag_of(phase, additional, text, first)
         tag = self.of(self.tag, 0)[:length or 16]
         after, _ = self.any_state(DECRYPTING, additional, text, first)
         arguments = [length] * bool(length) + [Buffer("tag", tag), len(tag)]
         return self.on_message("accept" + "_short" * bool(length), state, after, arguments, steps=hashing.steps,
-                             reveals=self.aes.xor(tag, right), refused=REFUSED)
+                               reveals=self.aes.xor(tag, right), refused=REFUSED)
 
     # Calls that are refused: nothing but the status changes.
     def refused(self):
@@ -350,8 +333,7 @@ class KeyedGcm(Keyed):
         end, counter = Buffer("counter", [255] * 12, [255] * 12), Buffer("counter", number(7, 12), number(7, 12))
         long, longer = MOST + 1, MOST_ADDITIONAL + 1
         for gcm, nonce, additional, text, status in ((none, 12, 16, 16, NO_KEY), (none, 12, 16, long, TOO_LONG),
-                                                     (none, 0, 16, long, NONCE_LENGTH),
-                                                     (key, longer, 16, 16, NONCE_LENGTH),
+                                                     (none, 0, 16, long, NONCE_LENGTH), (key, longer, 16, 16, NONCE_LENGTH),
                                                      (key, 12, longer, 16, TOO_LONG)):
             arguments = [gcm, read("nonce"), nonce, read("additional"), additional, same("text"), text]
             yield Call("gcm_seal", arguments + [same("tag")], status)
@@ -368,12 +350,11 @@ class KeyedGcm(Keyed):
         yield from self.pieces_refused()
 
     def pieces_refused(self):
-        """A call that comes out of turn is refused and changes nothing, and so is one that would make the message
-        longer than the standard allows."""
+        """A call that comes out of turn is refused and changes nothing, and so is one that would make the message longer than the standard
+        allows."""
         key, none, data = self.schedule(), self.no_key(), self.many(self.text, 48)
         comes = {"additional": (ADDITIONAL,), "encrypt": (ADDITIONAL, ENCRYPTING), "finish": (ADDITIONAL, ENCRYPTING),
-                 "verify": (ADDITIONAL, VERIFYING), "decrypt_unverified": (ADDITIONAL, VERIFYING),
-                 "accept": (ADDITIONAL, VERIFYING),
+                 "verify": (ADDITIONAL, VERIFYING), "decrypt_unverified": (ADDITIONAL, VERIFYING), "accept": (ADDITIONAL, VERIFYING),
                  "accept_short": (ADDITIONAL, VERIFYING), "decrypt": (DECRYPTING,)}
         for call, phases in comes.items():
             last = {"finish": [Buffer("tag", data[:16], data[:16])], "accept": [Buffer("tag", data[:16]), 16],
@@ -389,5 +370,4 @@ class KeyedGcm(Keyed):
         for length in (0, 15, 17, 32):
             yield Call("gcm_accept", [none, self.message(state, state), Buffer("tag", data), length], TAG_LENGTH)
         for fixed, length in ((0, 0), (3, 3), (5, 5), (11, 11), (17, 17), (12, 13), (13, 12)):
-            yield Call("gcm_accept_short", [none, self.message(state, state), fixed, Buffer("tag", data), length],
-                       TAG_LENGTH)
+            yield Call("gcm_accept_short", [none, self.message(state, state), fixed, Buffer("tag", data), length], TAG_LENGTH)

@@ -1,7 +1,6 @@
-"""Why inner values of the cipher may not stay on the stack: the last round key is computed from what a call left there
-and from the encrypted blocks. Of a key of 16 bytes the last round key gives the key itself (KeyExpansion, backwards).
-It is a control: it has to find the round key when the wipe of the stack is taken out, and nothing in the text of
-dist."""
+"""Why inner values of the cipher may not stay on the stack: the last round key is computed from what a call left there and from the
+encrypted blocks. Of a key of 16 bytes the last round key gives the key itself (KeyExpansion, backwards). It is a control: it has to find
+the round key when the wipe of the stack is taken out, and nothing in the text of dist."""
 import random
 
 from bits import BLOCK, MIXED, ONES
@@ -13,8 +12,7 @@ SEED = 7
 
 
 def last_round(keyed, m):
-    """The bits on the dead stack that are functions of one input of an S-box of the last round: (where, bit, input,
-    block, table)."""
+    """The bits on the dead stack that are functions of one input of an S-box of the last round: (where, bit, input, block, table)."""
     domain, rounds = keyed.domain, len(keyed.w) // 4 - 1
     known = {x & ~1 for b in m.results if domain.symbolic(b) for x in domain.bits(b)}
     for at, byte in enumerate(m.regions["stack"].content[:m.top]):
@@ -27,8 +25,8 @@ def last_round(keyed, m):
 
 
 def found(keyed, count):
-    """How many bytes of the last round key follow from what encrypt_blocks left, for a random key and random blocks,
-    and how many of these are right."""
+    """How many bytes of the last round key follow from what encrypt_blocks left, for a random key and random blocks, and how many of these
+    are right."""
     m = prove(keyed.domain, keyed.program, keyed.blocks("encrypt", count), strict=False)
     drawn = Values(keyed.domain, random.Random(SEED))
     stack, blocks = ([drawn.byte(b) for b in m.regions[name].content] for name in ("stack", "blocks"))

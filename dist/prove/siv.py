@@ -1,7 +1,7 @@
 """The statement for each call of fotsgure_gcm_siv_.. (RFC 8452), beside the sentence of the header that it proves.
 
-When a call has derived the keys of a message, they become arbitrary bytes, and so do in turn the powers of one, the
-round keys of the other, each value of POLYVAL, the block of which the tag is the cipher, and the tag."""
+When a call has derived the keys of a message, they become arbitrary bytes, and so do in turn the powers of one, the round keys of the
+other, each value of POLYVAL, the block of which the tag is the cipher, and the tag."""
 import functools
 
 from bits import DATA, KEY
@@ -24,8 +24,8 @@ class KeyedSiv(KeyedGcm):
     library = "siv"
 
     def set_key(self, seed=None):
-        """Prepares a key in *siv (KeyExpansion, FIPS 197, 5.2). *siv may be uninitialized: none of it is read. Nothing
-        of what it held is left. DONE if key_length is 16 or 32"""
+        """Prepares a key in *siv (KeyExpansion, FIPS 197, 5.2). *siv may be uninitialized: none of it is read. Nothing of what it held is
+        left. DONE if key_length is 16 or 32"""
         siv = Buffer("siv", [self.key_domain.undefined] * STRUCT, ANY)
         call = Call("gcm_siv_set_key", [siv, Buffer("key", self.key), self.key_size], DONE)
         m = prove(self.key_domain, self.program, call, seed)
@@ -104,8 +104,8 @@ class KeyedSiv(KeyedGcm):
         return few, hashing.take(groups)
 
     def tagged(self, hashing):
-        """Of what block the tag is Cipher: of this sum and the nonce, with the highest bit 0. That block as arbitrary
-        bytes, and Cipher of these."""
+        """Of what block the tag is Cipher: of this sum and the nonce, with the highest bit 0. That block as arbitrary bytes, and Cipher of
+        these."""
         block = self.aes.xor(hashing.value[::-1], self.nonce + [0] * 4)
         block[15] = self.domain.and_byte(block[15], 127)
         any_ = [b if b < 256 else t for b, t in zip(block, self.tag_input)]
@@ -121,8 +121,7 @@ class KeyedSiv(KeyedGcm):
         return self.aes.xor(text, [b for i in range(len(text) // 16 + 1) for b in self.of(self.own_stream, i)])
 
     def seal(self, additional_length, text_length):
-        """Encrypts `text_length` bytes in place under a nonce that the caller brings, and writes the tag .. (RFC 8452,
-        4). .. DONE"""
+        """Encrypts `text_length` bytes in place under a nonce that the caller brings, and writes the tag .. (RFC 8452, 4). .. DONE"""
         additional, text = self.many(self.more, additional_length), self.many(self.text, text_length)
         few, hashing = self.polyval(additional, text)
         block, any_block, tag = self.tagged(hashing)
@@ -139,9 +138,8 @@ class KeyedSiv(KeyedGcm):
         return Call("gcm_siv_seal", arguments, DONE, steps=steps, plain=text)
 
     def open(self, additional_length, text_length):
-        """Decrypts `text_length` bytes in place if the tag is right (RFC 8452, 5). The tag can be compared only once
-        the text is decrypted, so a text that is refused is encrypted again: it is proved that it is, when the call
-        returns, as it was. .. REFUSED; else DONE."""
+        """Decrypts `text_length` bytes in place if the tag is right (RFC 8452, 5). The tag can be compared only once the text is decrypted,
+        so a text that is refused is encrypted again: it is proved that it is, when the call returns, as it was. .. REFUSED; else DONE."""
         additional, sealed = self.many(self.more, additional_length), self.many(self.sealed, text_length)
         text = self.many(self.text, text_length)
         few, hashing = self.polyval(additional, text)
@@ -167,7 +165,6 @@ class KeyedSiv(KeyedGcm):
         data = self.many(self.text, 48)
         none, key, more = self.no_key(), self.schedule(), MOST + 1
         for siv, *lengths, status in (none, 16, 16, NO_KEY), (key, more, 16, TOO_LONG), (none, 16, more, TOO_LONG):
-            arguments = [siv, Buffer("nonce", data[:12]), Buffer("additional", data), lengths[0],
-                         Buffer("text", data, data), lengths[1]]
+            arguments = [siv, Buffer("nonce", data[:12]), Buffer("additional", data), lengths[0], Buffer("text", data, data), lengths[1]]
             yield Call("gcm_siv_seal", arguments + [Buffer("tag", data[:16], data[:16])], status)
             yield Call("gcm_siv_open", arguments + [Buffer("tag", data[:16])], status)

@@ -1,5 +1,5 @@
-"""One value for each cell, and so for each bit and byte: random ones for a run beside the processor, those of the
-standards' vectors for the statements."""
+"""One value for each cell, and so for each bit and byte: random ones for a run beside the processor, those of the standards' vectors for
+the statements."""
 from bits import BLOCK, PRODUCT
 from machine import Distance, Mask, Number, Pointer
 
@@ -106,10 +106,8 @@ class Values:
             self.set_byte(self.domain, b, value)
 
     def renamed(self, pairs, domain):
-        """What stands for a byte becomes another, of another domain perhaps: cells get the values that they stand
-        for."""
-        known = [(new, self.full_byte(b))
-                 for b, new in pairs if (new != b or domain is not self.domain) and domain.symbolic(new)]
+        """What stands for a byte becomes another, of another domain perhaps: cells get the values that they stand for."""
+        known = [(new, self.full_byte(b)) for b, new in pairs if (new != b or domain is not self.domain) and domain.symbolic(new)]
         if domain is not self.domain:
             self.domain, self.cells, self.bytes = domain, {}, {}
         for new, value in known:

@@ -1,5 +1,5 @@
-"""The standards' vectors, at which each statement is evaluated without any machine: so the definitions that stand in
-aes.py, gcm.py and standards.py are those of the standards."""
+"""The standards' vectors, at which each statement is evaluated without any machine: so the definitions that stand in aes.py, gcm.py and
+standards.py are those of the standards."""
 import random
 
 from bits import Domain, Unproved
@@ -34,10 +34,8 @@ KWP = [("5840df6e29b02af1ab493b705bf16ea1ae8338f4dcc176a8", "c37b7e6492584340bed
 # The submission of GCM (McGrew and Viega), appendix B, test cases 4 and 16, and 6 and 18 with nonces of 60 bytes.
 G_KEY, G_NONCE = "feffe9928665731c6d6a8f9467308308", "cafebabefacedbaddecaf888"
 G_MORE = "feedfacedeadbeeffeedfacedeadbeefabaddad2"
-G_PLAIN = ("d9313225f88406e5a55909c5aff5269a86a7a9531534f7da2e4c303d8a318a721c3c0c95956809532fcf0e2449a6b525b16ae"
-           "df5aa0de657ba637b39")
-G_LONG = ("9313225df88406e555909c5aff5269aa6a7a9538534f7da1e4c303d2a318a728c3c0c95156809539fcf0e2429a6b525416aed"
-          "bf5a0de6a57a637b39b")
+G_PLAIN = ("d9313225f88406e5a55909c5aff5269a86a7a9531534f7da2e4c303d8a318a721c3c0c95956809532fcf0e2449a6b525b16ae" "df5aa0de657ba637b39")
+G_LONG = ("9313225df88406e555909c5aff5269aa6a7a9538534f7da1e4c303d2a318a728c3c0c95156809539fcf0e2429a6b525416aed" "bf5a0de6a57a637b39b")
 GCM = [(G_KEY, G_NONCE, "42831ec2217774244b7221b784d0d49ce3aa212f2c02a4e035c17e2329aca12e21d514b25466931c7d8f6a5"
         "aac84aa051ba30b396a0aac973d58e091", "5bc94fbc3221a5db94fae95ae7121a47"),
        (G_KEY * 2, G_NONCE, "522dc1f099567d07f47f37a32a84427d643a8cdcbfe5c0c97598a2bd2555d1aa8cb08e48590dbb3da7b"
@@ -48,11 +46,9 @@ GCM = [(G_KEY, G_NONCE, "42831ec2217774244b7221b784d0d49ce3aa212f2c02a4e035c17e2
 # RFC 8452, appendices C.1, C.2 and C.3 (where the counter wraps): key, nonce, additional data, text, encrypted, tag.
 SIV = [("f901cfe8a69615a93fdf7a98cad48179", "6245709fb18853f68d833640",
         "7576f7028ec6eb5ea7e298342a94d4b202b370ef9768ec6561c4fe6b7e7296fa859c21",
-        "e42a3c02c25b64869e146d7b233987bddfc240871d", "391cc328d484a4f46406181bcd62efd9b3ee197d05",
-         "2d15506c84a9edd65e13e9d24a2a6e70"),
+        "e42a3c02c25b64869e146d7b233987bddfc240871d", "391cc328d484a4f46406181bcd62efd9b3ee197d05", "2d15506c84a9edd65e13e9d24a2a6e70"),
        ("3c535de192eaed3822a2fbbe2ca9dfc88255e14a661b8aa82cc54236093bbc23", "688089e55540db1872504e1c",
-        "734320ccc9d9bbbb19cb81b2af4ecbc3e72834321f7aa0f70b7282b4f33df23f167541", "ced532ce4159b035277d4dfbb7db6"
-        "2968b13cd4eec",
+        "734320ccc9d9bbbb19cb81b2af4ecbc3e72834321f7aa0f70b7282b4f33df23f167541", "ced532ce4159b035277d4dfbb7db6" "2968b13cd4eec",
         "626660c26ea6612fb17ad91e8e767639edd6c9faee", "9d6c7029675b89eaf4ba1ded1a286594"),
        ("00" * 32, "00" * 12, "", "000000000000000000000000000000004db923dc793ee6497c76dcc03a98e108",
         "f3f80f2cf0cb2dd9c5984fcda908456cc537703b5ba70324a6793a7bf218d3ea", "ffffffff000000000000000000000000")]
@@ -83,8 +79,7 @@ def evaluate(keyed, call, key, given):
                 raise Unproved("a vector isn't what a statement assumes")
         values.bytes = {}
         d.products_of(0, False)
-    return {b.name: bytes(values.full_byte(x) for x in b.after)
-            for b in call.buffers if b.after is not None and None not in b.after}
+    return {b.name: bytes(values.full_byte(x) for x in b.after) for b in call.buffers if b.after is not None and None not in b.after}
 
 
 def check(keyed, call, key, given, want):
@@ -92,8 +87,7 @@ def check(keyed, call, key, given, want):
     have = evaluate(keyed, call, bytes.fromhex(key), {name: bytes.fromhex(x) for name, x in given.items()})
     for name, x in want.items():
         if have[name].hex() != x:
-            raise Unproved("%s: a vector of the standard has another %s: %s and not %s" % (
-                call.name, name, have[name].hex(), x))
+            raise Unproved("%s: a vector of the standard has another %s: %s and not %s" % (call.name, name, have[name].hex(), x))
     return 1
 
 
@@ -119,7 +113,7 @@ def aes_vectors(k):
 def gcm_vectors(k):
     for key, nonce, cipher, tag in GCM:
         if len(key) == 2 * k.key_size:
-            first = k.nonce_of(len(nonce) // 2, counter_of(bytes.fromhex(key), bytes.fromhex(nonce)))
+            first = len(nonce) // 2, counter_of(bytes.fromhex(key), bytes.fromhex(nonce))
             given = {"nonce": nonce, "additional": G_MORE}
             yield k.seal(20, 60, first), key, dict(given, text=G_PLAIN), {"text": cipher, "tag": tag}
             if len(nonce) == 24:
