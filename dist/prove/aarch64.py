@@ -6,8 +6,8 @@ import re
 from collections import namedtuple
 
 from bits import LOST, Unproved
-from machine import (RETURN_ADDRESS, SECRET, Instruction, Machine, Memory, Register, Table, Vector, constant, is_int, joined, kind,
-                     lanes)
+from machine import (RETURN_ADDRESS, SECRET, Instruction, Machine, Memory, Register, Table, Vector, constant, interleaved, is_int, joined,
+                     kind, lanes)
 
 Shifted = namedtuple("Shifted", "operand how count")
 LANES = {"b": 1, "h": 2, "s": 4, "d": 8, "q": 16}
@@ -126,7 +126,7 @@ def is_zero(m, a):
     return m.decide(m.compared(m.get(a), 0, a.size).get("z"))
 
 
-def bit(m, a, n):
+def is_set(m, a, n):
     bit = m.bits(m.get(a), a.size)[n]
     return m.decide(bit if bit < 2 else SECRET)
 
@@ -136,7 +136,7 @@ TABLE = Table({
     "ret": lambda m, name: m.go_to(m.general["x30"]),
     "cbz": lambda m, name, a, to: m.go_to(to if is_zero(m, a) else m.next_address),
     "cbnz": lambda m, name, a, to: m.go_to(m.next_address if is_zero(m, a) else to),
-    "tbz": lambda m, name, a, n, to: m.go_to(m.next_address if bit(m, a, n) else to),
+    "tbz": lambda m, name, a, n, to: m.go_to(m.next_address if is_set(m, a, n) else to),
     "movz": lambda m, name, to, value: m.put(to, m.get(value)),
     "movn": lambda m, name, to, value: m.put(to, ~m.get(value) & (1 << 8 * to.size) - 1),
     "adrp": lambda m, name, to, page: m.put(to, page),
@@ -288,12 +288,6 @@ def store_exclusive(m, name, failed, source, to):
     m.put(failed, 0)
 
 
-@TABLE.of("ld1r")
-def load_in_each(m, name, registers, source):
-    to, = registers
-    m.write(to, m.load(m.address(source), to.lane) * (to.size // to.lane))
-
-
 # Vectors. A row makes the result from the bytes of the sources, for a register that has lanes.
 def made(f):
     return lambda m, name, to, *sources: m.write(to, f(m, to.lane, *[m.read(o) if isinstance(o, Vector) else m.get(o) for o in sources]))
@@ -307,10 +301,6 @@ def some(m, byte):
 
 def in_each(to, b):
     return b[:to.lane] * (to.size // to.lane)
-
-
-def interleaved(a, b, lane):
-    return joined(x + y for x, y in zip(lanes(a, lane), lanes(b, lane)))
 
 
 TABLE.update({
@@ -327,8 +317,8 @@ TABLE.update({
     "uzp1": made(lambda m, lane, a, b: joined(lanes(a + b, lane)[::2])),
     "zip1": made(lambda m, lane, a, b: interleaved(a, b, lane)[:len(a)]),
     "zip2": made(lambda m, lane, a, b: interleaved(a, b, lane)[len(a):]),
-    "fmov": lambda m, name, to, a: m.write(to, m.read(a) + [0] * (to.size - a.size)),
-    "umov": lambda m, name, to, a: m.write(to, m.read(a) + [0] * (to.size - a.size)),
+    **dict.fromkeys(("fmov", "umov"), lambda m, name, to, a: m.write(to, m.read(a) + [0] * (to.size - a.size))),
+    "ld1r": lambda m, name, to, source: m.write(to[0], in_each(to[0], m.load(m.address(source), to[0].lane))),
     "ins": lambda m, name, to, a: m.write(to, m.read(a)[:to.lane]),
     "dup": lambda m, name, to, a: m.write(to, in_each(to, m.read(a))),
     "movi": lambda m, name, to, value: m.write(to, in_each(to, m.to_bytes(m.get(value), 8))),

@@ -1,6 +1,5 @@
 """The controls of the proof: faults that are planted in the assembly (faults.py), and wrong meanings of instructions. Each has to be
 refused. Run it as `make prove-controls` in dist."""
-import argparse
 import concurrent.futures
 import os
 import re
@@ -13,7 +12,7 @@ from faults import BATCHES, FAULTS
 from machine import is_int, is_pointer
 from native import NEVER_ALONE, compare_all
 from processors import PROCESSORS
-from prove import BUILDS, HERE, LIBRARIES, link, missing, source
+from prove import BUILDS, LIBRARIES, link, options_of, source
 
 
 def edited(text, start, pattern, new):
@@ -140,15 +139,8 @@ def wrong_meanings(options, build):
 
 
 def main():
-    parser = argparse.ArgumentParser(description=__doc__)
-    parser.add_argument("--dist", default=os.path.dirname(HERE))
-    parser.add_argument("--out", default="out/prove")
-    parser.add_argument("--only", default="", help="faults that have this in their name")
-    parser.add_argument("--jobs", type=int, default=os.cpu_count())
-    parser.add_argument("--builds", type=lambda s: s.split(","), default=list(FAULTS))
-    options = parser.parse_args()
-    os.makedirs(options.out, exist_ok=True)
-    builds = [build for build in options.builds if not missing(BUILDS[build])]
+    options = options_of(__doc__)
+    builds = [build for build in FAULTS if build in options.builds]
     with concurrent.futures.ProcessPoolExecutor(options.jobs) as pool:
         tries = [pool.submit(fault, options, build, k) for build in builds
                  for k, f in enumerate(FAULTS[build]) if options.only in f[0]]

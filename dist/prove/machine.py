@@ -15,6 +15,7 @@ Machine, in a file of its own (x86_64.py, aarch64.py), that says:
     decode(text, following)     a line of objdump as an Instruction; `following` is the next address
     leave()                     after libc's function: goes on at the return address
     condition(code)             0 or 1, by the flags (see Machine.decide)"""
+import copy
 import re
 import struct
 import subprocess
@@ -63,6 +64,10 @@ def joined(parts):
     return [x for part in parts for x in part]
 
 
+def interleaved(a, b, size):
+    return joined(x + y for x, y in zip(lanes(a, size), lanes(b, size)))
+
+
 def contrary(flag):
     if isinstance(flag, tuple):
         return flag[1] if flag[0] == "not" else ("not", flag)
@@ -90,6 +95,10 @@ class Table(dict):
         return add
 
 
+class Question(Exception):
+    """A flag of which both values have to be proved."""
+
+
 class Region:
     """A buffer, by its name: what it holds, and what a call may do with it."""
 
@@ -105,10 +114,7 @@ class Program:
         self.lines, self.cache = self.disassembled(), {}
         addresses = list(self.lines)
         self.next = dict(zip(addresses, addresses[1:]))
-        self.symbols = {}
-        for line in self.tool("nm").splitlines():
-            address, _, name = line.split(None, 2)
-            self.symbols[name] = int(address, 16)
+        self.symbols = {name: int(address, 16) for address, name in re.findall(r"(?m)^([0-9a-f]+) \S (.*)$", self.tool("nm"))}
         self.constants = self.constant_sections()
 
     def tool(self, name, *options):
@@ -150,7 +156,7 @@ class Machine:
         self.next_address, self.last, self.steps, self.used = entry, entry, 0, {}
         self.externals = {program.symbols[n]: n for n in ("memcpy", "memmove", "memset") if n in program.symbols}
         self.shifted, self.lost, self.origins, self.native, self.after_external = {}, set(), {}, None, None
-        self.choices, self.placed, self.may_reveal, self.assumed, self.equalities = [], {}, False, (), {}
+        self.placed, self.may_reveal, self.assumed, self.equalities, self.done, self.want = {}, False, (), {}, 0, None
         self.written = (), 0
         self.wraps, self.wrap = None, 1 << 64  # a word of unknown value, and the offset from which on it has wrapped around
         self.enter(arguments)
@@ -358,11 +364,11 @@ class Machine:
 
     def looked_up(self, table, indices, significant):
         """The bytes of a table, a tuple, at these indices, of whose bits `significant` gives those that count."""
-        memo = self.domain.entries
+        memo = (self.domain.entries if max(table) < 256 else self.domain.products.memo).setdefault(table, {})
         for x in indices:
-            if (table, x) not in memo:
-                memo[table, x] = self.entry(table, significant(self.domain.bits(x)))
-        return [memo[table, x] for x in indices]
+            if x not in memo:
+                memo[x] = self.entry(table, significant(self.domain.bits(x)))
+        return [memo[x] for x in indices]
 
     def entry(self, table, index):
         """The byte of a table at an index of these bits; 0 past its end."""
@@ -388,10 +394,8 @@ class Machine:
             self.store(self.address(o), self.to_bytes(v, o.size), o.align)
         elif o.size == 8:
             self.general[o.name] = v
-        elif o.size == 4:
-            self.general[o.name] = v & 0xffffffff if is_int(v) else self.from_bytes(self.to_bytes(v, 4) + [0] * 4)
         else:
-            old = self.to_bytes(self.general[o.name], 8)
+            old = [0] * 8 if o.size == 4 else self.to_bytes(self.general[o.name], 8)
             self.general[o.name] = self.from_bytes(old[:o.at] + self.to_bytes(v, o.size) + old[o.at + o.size:])
 
     def read(self, o):
@@ -499,12 +503,19 @@ class Machine:
         return self.by_place(flag)
 
     def by_place(self, flag):
-        """A flag that says how far two buffers are apart, or whether a wrapped key or a tag is right: both cases have to be proved, one
-        by one (see calls.prove)."""
+        """A flag that says how far two buffers are apart, or whether a wrapped key or a tag is right: a question. Both answers have to be
+        proved (see calls.prove)."""
         if flag not in self.placed:
-            n = len(self.placed)
-            self.placed[flag] = self.choices[n] if n < len(self.choices) else 0
+            raise Question(flag)
         return self.placed[flag]
+
+    def answered(self, flag, answer):
+        """The same machine, where a flag has this value."""
+        m = copy.copy(self)
+        m.regions = {name: Region(r.content, r.writable, r.align) for name, r in self.regions.items()}
+        m.general, m.vectors, m.flags, m.written = dict(self.general), list(self.vectors), dict(self.flags), ((), 0)
+        m.before, m.placed, m.origins, m.want = dict(self.before), {**self.placed, flag: answer}, dict(self.origins), None
+        return m
 
     # Running.
     def run(self, watches=(), limit=10000000):
@@ -520,8 +531,8 @@ class Machine:
                     watch(self)
                 if self.steps > limit:
                     raise Unproved("doesn't return")
-        except Pause:
-            self.next_address = self.last
+        except (Pause, Question):  # before this instruction
+            self.next_address, self.steps = self.last, self.steps - 1
             raise
         except Unproved as e:
             raise Unproved("%s [at %x: %s]" % (e, self.last, self.program.lines.get(self.last))) from None
@@ -553,15 +564,10 @@ class Machine:
         to, source, count = (self.general[r] for r in self.arguments[:3])
         if not is_int(count):
             raise Unproved("a length depends on the key or on data")
-        if name == "memset":
-            content = self.to_bytes(source, 8)[:1] * count
-        else:
-            content = self.load(source, count) if count else []
-            overlap = is_pointer(source) and to.base == source.base and abs(to.offset - source.offset) < count
-            if name == "memcpy" and overlap:
-                raise Unproved("memcpy of overlapping bytes")
+        if name == "memcpy" and is_pointer(source) and to.base == source.base and abs(to.offset - source.offset) < count:
+            raise Unproved("memcpy of overlapping bytes")
         if count:
-            self.store(to, content)
+            self.store(to, self.to_bytes(source, 8)[:1] * count if name == "memset" else self.load(source, count))
         for r in self.scratch:
             self.general[r] = (self.domain.undefined,) * 8
         self.general[self.result] = to

@@ -3,8 +3,8 @@ IA-32 Architectures Software Developer's Manual, volume 2). What both machines s
 import re
 
 from bits import Unproved
-from machine import (RETURN_ADDRESS, SECRET, WORD, Instruction, Machine, Memory, Register, Table, Vector, constant, contrary, is_int,
-                     joined, kind, lanes)
+from machine import (RETURN_ADDRESS, SECRET, WORD, Instruction, Machine, Memory, Register, Table, Vector, constant, contrary,
+                     interleaved, is_int, joined, kind, lanes)
 
 R64 = "rax rcx rdx rbx rsp rbp rsi rdi r8 r9 r10 r11 r12 r13 r14 r15".split()
 REGS = {c + "h": Register("r%sx" % c, 1, 1) for c in "abcd"}
@@ -35,7 +35,7 @@ class X86_64(Machine):
         # Prefixes that fill up a nop, or a call that the linker shortened; of a jump by a table, which may lead anywhere.
         while name in ("cs", "data16", "addr32", "notrack"):
             name, _, rest = rest.strip().partition(" ")
-        run = meaning(name)
+        run = TABLE.get(name) or name[0] == "v" and TABLE.get(name[1:])
         if not run:
             raise Unproved("instruction not covered: " + text)
         operands = [operand(o.strip(), name, following) for o in rest.split(",")] if rest and name != "nop" else []
@@ -60,23 +60,15 @@ def operand(text, name, following):
         return int(text, 0)
     if (name[0] == "j" or name == "call") and re.match(r"^[0-9a-f]+ <", text):
         return int(text.split()[0], 16)
-    found = re.match(r"^(?:(\w+) PTR )?\[(.*)\]$", text)
+    found = re.fullmatch(r"(?:(\w+) PTR )?\[(r\w+(?!\*))?\+?(?:(r\w+)\*(\d))?([+-]?0x[0-9a-f]+)?\]", text)
     if not found or not found[1] and name != "lea":
         raise Unproved("operand not covered: " + text)
-    base = index = None
-    size, scale, disp = SIZES.get(found[1], 8), 1, 0
-    for part in re.findall(r"[+-]?[^+-]+", found[2]):
-        sign, part = (-1, part[1:]) if part[0] == "-" else (1, part.lstrip("+"))
-        if "*" in part:
-            index, scale = part.split("*")[0], int(part.split("*")[1])
-        elif part == "rip":
-            disp += following
-        elif part in REGS:
-            base = part
-        else:
-            disp += sign * int(part, 0)
+    size, base, index, scale, offset = found.groups()
+    size, offset = SIZES[size] if size else 8, int(offset or "0", 16)
+    if base == "rip":
+        base, offset = None, offset + following
     aligned = size > 8 and (name in ALIGNED or not vex and name not in UNALIGNED)
-    return Memory(size, base, index, scale, disp, size if aligned else 1)
+    return Memory(size, base, index, int(scale or 1), offset, size if aligned else 1)
 
 
 # Instructions: their meanings by their names. Each takes the machine, its own name, and its operands.
@@ -96,10 +88,9 @@ def signed(value, size):
 
 
 TABLE = Table({
-    "nop": lambda m, name: None,
-    "endbr64": lambda m, name: None,
-    "mov": lambda m, name, to, source: m.put(to, m.get(source)),
-    "movabs": lambda m, name, to, source: m.put(to, m.get(source)),
+    **dict.fromkeys(("nop", "endbr64"), lambda m, name: None),
+    **dict.fromkeys(("mov", "movabs"), lambda m, name, to, source: m.put(to, m.get(source))),
+    **dict.fromkeys(("movdqa", "movaps", "movdqu", "movups"), lambda m, name, to, source: m.write(to, m.read(source))),
     "movzx": lambda m, name, to, source: m.write(to, m.read(source) + [0] * (to.size - source.size)),
     "movsxd": lambda m, name, to, source: m.put(to, signed(m.get(source), source.size) & WORD),
     "movbe": lambda m, name, to, source: m.write(to, m.read(source)[::-1]),
@@ -115,10 +106,6 @@ for _code in CONDITIONS:
     TABLE["j" + _code] = lambda m, name, to, code=_code: m.go_to(to if m.condition(code) else m.next_address)
     TABLE["set" + _code] = lambda m, name, to, code=_code: m.put(to, m.condition(code))
     TABLE["cmov" + _code] = lambda m, name, to, source, code=_code: m.put(to, (m.get(to), m.get(source))[m.condition(code)])
-
-
-def meaning(name):
-    return TABLE.get(name) or name[0] == "v" and TABLE.get(name[1:])
 
 
 @TABLE.of("call")
@@ -240,15 +227,6 @@ def greater(m, x, y):
     return 255 if constant("a byte", m.from_bytes([x])) ^ 128 > constant("a byte", m.from_bytes([y])) ^ 128 else 0
 
 
-def looked_up(m, table, indices):
-    """0 if bit 7 of an index is set, else the entry at its lowest four bits."""
-    return m.looked_up(tuple(table), indices, lambda bits: bits[:4] + bits[7:])
-
-
-def interleaved(width):
-    return in_halves(lambda m, a, b: joined(x + y for x, y in zip(lanes(a[:8], width), lanes(b[:8], width))))
-
-
 def blended(width):
     return lambda m, a, b, n: [(b if n >> k // width & 1 else a)[k] for k in range(len(a))]
 
@@ -270,7 +248,8 @@ VECTORS = {
     "psubb": whole(lambda m, a, b: [m.add_byte(x, m.domain.xor_byte(y, 255), 1) for x, y in zip(a, b)]),
     "pcmpeqb": whole(lambda m, a, b: [m.equality(m.domain.xor_byte(x, y), 255, 0) for x, y in zip(a, b)]),
     "pcmpgtb": whole(lambda m, a, b: [greater(m, x, y) for x, y in zip(a, b)]),
-    "pshufb": in_halves(looked_up),
+    # (0 if bit 7 of an index is set, else the entry at its lowest four bits.)
+    "pshufb": in_halves(lambda m, table, indices: m.looked_up(tuple(table), indices, lambda bits: bits[:4] + bits[7:])),
     "palignr": in_halves(lambda m, a, b, n: (b + a + [0] * 16)[n:n + 16]),
     "pslldq": in_halves(lambda m, a, n: ([0] * n + a)[:16]),
     "psrldq": in_halves(lambda m, a, n: (a + [0] * n)[n:n + 16]),
@@ -279,7 +258,7 @@ VECTORS = {
     "pinsrd": inserted(4),
 }
 for _width, _letter in (1, "bw"), (2, "wd"), (4, "dq"), (8, "qdq"):
-    VECTORS["punpckl" + _letter] = interleaved(_width)
+    VECTORS["punpckl" + _letter] = in_halves(lambda m, a, b, width=_width: interleaved(a[:8], b[:8], width))
 for _width, _letter in (2, "w"), (4, "d"), (8, "q"):
     VECTORS["psll" + _letter] = whole(lambda m, a, n, width=_width: m.shift_lanes("lsl", a, width, n))
     VECTORS["psrl" + _letter] = whole(lambda m, a, n, width=_width: m.shift_lanes("lsr", a, width, n))
@@ -305,7 +284,6 @@ def broadcast(size):
     return lambda m, name, to, source: m.write(to, m.read(source)[:size] * (to.size // size))
 
 
-TABLE.update(dict.fromkeys(("movdqa", "movaps", "movdqu", "movups"), lambda m, name, to, source: m.write(to, m.read(source))))
 TABLE.update({
     "movq": first(8),
     "movd": first(4),
