@@ -133,6 +133,7 @@ def is_set(m, a, n):
 
 TABLE = Table({
     "b": lambda m, name, to: m.go_to(to),
+    "br": lambda m, name, to: m.go_to(m.get(to)),
     "ret": lambda m, name: m.go_to(m.general["x30"]),
     "cbz": lambda m, name, a, to: m.go_to(to if is_zero(m, a) else m.next_address),
     "cbnz": lambda m, name, a, to: m.go_to(m.next_address if is_zero(m, a) else to),

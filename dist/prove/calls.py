@@ -3,7 +3,7 @@
 A statement is a Call, written like the call in C: its arguments are numbers and Buffers, and each Buffer says what it has to hold when the
 call returns. A Buffer that says nothing may only be read. So "writes nothing but what it says" is part of each statement."""
 from bits import DATA, KEY, LOST, Pause, Unproved
-from machine import Pointer, Question, Region
+from machine import ROOM, Pointer, Question, Region
 from native import Native
 
 STACK = 16384  # FOTSGURE_AES_STACK and FOTSGURE_GCM_STACK
@@ -29,11 +29,11 @@ class Call:
     kind may be left besides."""
 
     def __init__(self, name, arguments, status, size=4, steps=None, reveals=None, refused=None, refused_after=None, assumes=None,
-                 later=None, counter=None, keystream=(), plain=(), may_stay=None):
+                 later=None, counter=None, keystream=(), plain=(), may_stay=None, room=None):
         self.name, self.arguments, self.status, self.size, self.steps = name, arguments, status, size, steps
         self.reveals, self.refused, self.refused_after = reveals, refused, refused_after or {}
         self.assumes, self.later, self.counter = assumes, later, counter
-        self.keystream, self.plain, self.may_stay = keystream, plain, may_stay or {}
+        self.keystream, self.plain, self.may_stay, self.room = keystream, plain, may_stay or {}, room
         self.buffers = [a for a in arguments if isinstance(a, Buffer)]
 
 
@@ -45,6 +45,7 @@ def prove(domain, program, call, seed=None, strict=True):
     arguments = [Pointer(a.name, 0) if isinstance(a, Buffer) else a for a in call.arguments]
     m = program.machine(domain, program, regions, program.symbols["fotsgure_" + call.name], arguments)
     m.may_reveal, m.assumed = call.reveals is not None, call.assumes
+    m.room = call.room
     if call.counter:
         m.wraps, m.wrap = call.counter.word, call.counter.wrap
     watches = [step_by_step(call.steps())] if call.steps else []
@@ -56,7 +57,7 @@ def prove(domain, program, call, seed=None, strict=True):
             try:
                 run(m, call, watches)
             except Question as question:
-                waiting += [m.answered(question.args[0], answer) for answer in (1, 0)]
+                waiting += [other for other in (m.answered(question.args[0], answer) for answer in (1, 0)) if not wraps(other)]
                 continue
             check(m, call)
             if strict:
@@ -70,6 +71,11 @@ def prove(domain, program, call, seed=None, strict=True):
         m.native.close()
     check(m, call)
     return m
+
+
+def wraps(m):
+    """Whether a branch was taken as if the counter wrapped in the text, which isn't so in a statement with `room`."""
+    return m.room and [m.placed.get((ROOM, m.room[1], what)) for what in ("above", "equal")] == [0, 0]
 
 
 def run(m, call, watches):

@@ -13,6 +13,7 @@ TABLE, SET_KEY, WIPE = r"\.Lstatic\.0:", r'"aes_c::kept::fotsgure_aes_set_key":'
 BLOCKS, BLOCKS_TO, BLOCKS_WITH = (r"fotsgure_aes_encrypt_blocks%s:" % way for way in ("", "_to", "_with"))
 ADD_KEYSTREAM, CBC = r"fotsgure_aes_add_keystream:", r"fotsgure_aes_cbc_encrypt:"
 PRODUCT, COMPARE = r'"gcm::multiples::Multiples::two_products":', r'"gcm::mode::is_expected":'
+GCTR = r'"gcm::gctr::add_gctr::<#\w+>":'
 FIRST_COUNTER = r'"gcm::mode::LentGcm::put_pre_counter::<#\w+>":'
 BEGIN, FINISH, OPEN, SIV_SEAL = (r"fotsgure_gcm_%s:" % call for call in ("begin", "finish", "open", "siv_seal"))
 DERIVE, PREPARE = r'"gcm_siv::keys::derive::<#\w+>":', r'"gcm_c::siv::prepare::<#8b70e375869fa13e>":'  # for few bytes
@@ -93,7 +94,9 @@ FAULTS = {
         ("a branch on a bit of H", FINISH, ENTRY, "\ttestb\t$1, 300(%rdi)\n\tje\t77f\n77:\n", lambda k: [k.finish(gcm.ENCRYPTING, 16, 16)]),
         ("a refused text decrypted", OPEN, r"\ttestb\t%bpl, %bpl\n\tje\t", "\ttestb\t%bpl, %bpl\n\tjs\t", lambda k: [k.open(0, 3)]),
         ("the first counter of a message set to 1", r"fotsgure_gcm_encrypt:", ENTRY, r"\1\tmovl\t$0x1000000, 44(%rsi)\n",
-         lambda k: [k.piece("encrypt", gcm.ENCRYPTING, 5, 39, 9, (8, 2 ** 32 - 3, (7, 0, 255, 255)))]),
+         lambda k: [k.piece("encrypt", gcm.ENCRYPTING, 5, 39, 9)]),
+        ("a branch on the first counter, which tells of H", GCTR, r"(\tleaq\t\(%r8,%rdx\), %r9\n)", r"\tcmpq\t$4096, %rax\n\tjbe\t77f\n77:\n\1",
+         lambda k: [k.piece("encrypt", gcm.ENCRYPTING, 5, 39, 9)]),
         ("a field of the message moved", BEGIN, r"\t\$1, 24\(", "\t$1, 16(", lambda k: [k.begin()]),
     ],
     "x86_64/siv": [

@@ -5,7 +5,7 @@ message that comes in pieces is proved from any state of the message: whatever v
 import functools
 from collections import namedtuple
 
-from aes import DONE, Keyed
+from aes import DONE, NEVER, Counter, Keyed
 from bits import DATA, KEY, PUBLIC
 from calls import ANY, Buffer, Call, compare
 from machine import Pointer
@@ -69,6 +69,7 @@ class Hashing:
         return total
 
 
+UNKNOWN = 8, None  # any J_0, also that of a nonce of 12 bytes; see nonce_of
 # J_0: twelve bytes and the number that its last four are; how GHASH makes it of a nonce of another length; the arguments of a call.
 PreCounter = namedtuple("PreCounter", "bytes counter hashing arguments")
 
@@ -125,17 +126,24 @@ class KeyedGcm(Keyed):
 
     # Nonces, counter blocks and texts.
     def nonce_of(self, length=12, counter=1, before=()):
-        """A nonce of 12 bytes, or one of another length of which J_0 ends in this number, and in these bytes before (7.1, step 2)."""
+        """A nonce of 12 bytes, or one of another length (7.1, step 2) of which J_0 is of unknown value and its counter doesn't wrap in the
+        text, or J_0 ends in this number, and in these bytes before."""
         if length == 12:
             return PreCounter(self.nonce, 1, Hashing(self, ZEROS), [Buffer("nonce", self.nonce), 12])
         nonce = self.many(self.long_nonce, length)
         hashing = Hashing(self, ZEROS).take(threes(padded(nonce)) + [[self.lengths(0, length)]])
+        arguments = [Buffer("nonce", nonce), length]
+        if counter is None:
+            self.once("any counter", self.any_counter)
+            first = PreCounter(self.pre_counter, None, hashing, arguments)
+            hashing.end_as(self.counter_block(first, 0))
+            return first
         bytes_ = self.pre_counter[:12 - len(before)] + list(before)
         if before:  # a call may also encrypt the block that a counter of 64 bits would be next, and throw it away
             carried = bytes_[:8] + number(int.from_bytes(bytes(before), "big") + 1, 4) + number(0, 4)
             self.once(("stream", *carried), lambda: self.aes.cipher(carried, self.w))
         hashing.end_as(bytes_ + number(counter, 4))
-        return PreCounter(bytes_, counter, hashing, [Buffer("nonce", nonce), length])
+        return PreCounter(bytes_, counter, hashing, arguments)
 
     def counted(self, counter=None):
         """The counter of nonces at a number, or at any whose low half has no carry; and what the call assumes of it."""
@@ -150,9 +158,35 @@ class KeyedGcm(Keyed):
         buffers = [Buffer("counter", nonce, after), Buffer("nonce", self.undefined(12), nonce)]
         return PreCounter(bytes_, 1, Hashing(self, ZEROS), buffers), assumes
 
+    # J_0 of unknown value: the low half is a word, of which the lowest 32 bits are a number that is one more in each block.
+    def any_counter(self):
+        d = self.domain
+        low = [d.fresh("J_0 counter byte %d" % i, KEY | PUBLIC, True) for i in range(4)]
+        d.words["J_0 low"] = lambda offset, k: d.bits(d.byte_in_block(low[3 - k], offset + 1) if k < 4 else self.pre_counter[15 - k])
+        for k in range(8):  # bytes that are computed with are known again
+            b = d.opaque((Pointer("J_0 low", 0), k))
+            d.byte_ids[d.bits(b)] = b
+        self.any_stream = self.aes.cipher(self.pre_counter + low, self.w)
+        shifted = [0] * 4 + [x for b in low[::-1] for x in d.bits(b)] + [0] * 28  # 16 times the number
+        pack = lambda bits: [d.pack(bits[i:i + 8]) for i in range(0, 64, 8)]
+        self.room = {(16, 0, *pack([x ^ 1 if 4 <= i < 36 else 0 for i, x in enumerate(shifted)])),
+                     (1 << 36, 1, *pack([x ^ 1 for x in shifted]))}
+
+    def in_text(self, first, end):
+        """For a text that ends at this place of the keystream: what a call may ask of J_0."""
+        return {} if first.counter is not None else {"room": (self.room, end), "counter": Counter("J_0 low", 0, NEVER)}
+
+    def counter_block(self, first, i):
+        """The block J_0 + i, the last 32 bits being a number of their own (inc_32, 6.2)."""
+        if first.counter is None:
+            return first.bytes[:8] + [self.domain.opaque((Pointer("J_0 low", i), k)) for k in range(8)][::-1]
+        return first.bytes + number((first.counter + i) % 2 ** 32, 4)
+
     def stream(self, first, i):
-        """Cipher of the block J_0 + i, the last 32 bits being a number of their own (inc_32, 6.2)."""
-        block = first.bytes + number((first.counter + i) % 2 ** 32, 4)
+        """Cipher of the block J_0 + i."""
+        if first.counter is None:
+            return self.of(self.any_stream, i)
+        block = self.counter_block(first, i)
         return self.once(("stream", *block), lambda: self.aes.cipher(block, self.w))
 
     def crypted(self, first, text, position=0):
@@ -192,7 +226,7 @@ class KeyedGcm(Keyed):
         tag = self.aes.xor(hashing.value, self.stream(first, 0))
         return Call(name, [self.schedule(), *first.arguments, additional, additional_length, Buffer("text", text, sealed), text_length,
                            Buffer("tag", self.undefined(16), tag)], DONE, steps=steps, keystream=self.streams(first, text_length),
-                    plain=text, **more)
+                    plain=text, **self.in_text(first, 16 + text_length), **more)
 
     def seal_next(self, additional_length, text_length, counter=None):
         """The same under the counter's next nonce, which it writes to `nonce`; the counter then moves on by one. .. DONE"""
@@ -212,14 +246,14 @@ class KeyedGcm(Keyed):
         text = Buffer("text", sealed, self.crypted(first, sealed))
         return Call("gcm_open", [self.schedule(), *first.arguments, additional, additional_length, text, text_length,
                                  Buffer("tag", tag), 16], DONE, steps=steps, reveals=self.aes.xor(tag, right), refused=REFUSED,
-                    keystream=self.streams(first, text_length), plain=text.after)
+                    keystream=self.streams(first, text_length), plain=text.after, **self.in_text(first, 16 + text_length))
 
     # Messages in pieces.
     def state(self, phase, additional, text, decrypted=0, value=ZEROS, rest=ZEROS, first=None):
         """struct fotsgure_gcm_message. A byte None may be anything."""
         first = first or self.nonce_of()
         counts = [b for n in (additional, text, decrypted, phase) for b in number(n, 8)[::-1]]
-        return counts + first.bytes + number(first.counter, 4) + value + rest
+        return counts + self.counter_block(first, 0) + value + rest
 
     def message(self, before, after=None):
         return Buffer("message", before, after, secret=True)
@@ -260,14 +294,14 @@ class KeyedGcm(Keyed):
 
     def additional(self, before, count):
         """Takes a piece of the additional data .. DONE"""
-        first = self.nonce_of()
+        first = self.nonce_of(*UNKNOWN)
         state, hashing = self.any_state(ADDITIONAL, before, 0, first)
         piece = self.many(self.more, count)
         rest = self.absorbed(hashing, before % 16, piece)
-        after = self.state(ADDITIONAL, before + count, 0, 0, hashing.value, rest)
+        after = self.state(ADDITIONAL, before + count, 0, 0, hashing.value, rest, first)
         return self.on_message("additional", state, after, [Buffer("additional", piece), count], steps=hashing.steps)
 
-    def piece(self, call, phase, additional, before, count, nonce=()):
+    def piece(self, call, phase, additional, before, count, nonce=UNKNOWN):
         """Encrypts a piece of the text in place. .. Takes a piece of an encrypted text whose tag is to be compared, and writes nothing to
         it. .. Takes a piece as fotsgure_gcm_verify does, and decrypts it in place at once. .. DONE"""
         first = self.nonce_of(*nonce)
@@ -288,16 +322,17 @@ class KeyedGcm(Keyed):
         texts = {"encrypt": (text, sealed), "verify": (sealed, None), "decrypt_unverified": (sealed, self.crypted(first, sealed, before))}
         return self.on_message(call, state, after, [Buffer("text", *texts[call]), count], steps=steps,
                                keystream=self.streams(first, count, before) if call != "verify" else (),
-                               plain=self.crypted(first, sealed, before) if call == "decrypt_unverified" else text)
+                               plain=self.crypted(first, sealed, before) if call == "decrypt_unverified" else text,
+                               **self.in_text(first, 16 + before + count))
 
-    def decrypt(self, text, before, count, nonce=()):
+    def decrypt(self, text, before, count, nonce=UNKNOWN):
         """Decrypts a piece in place of the encrypted text whose tag was right .. DONE"""
         first = self.nonce_of(*nonce)
         sealed = self.many(self.sealed, count, before % 16)
         plain = self.crypted(first, sealed, before)
         (state, _), (after, _) = (self.any_state(DECRYPTING, 3, text, first, n) for n in (before, before + count))
         return self.on_message("decrypt", state, after, [Buffer("text", sealed, plain), count],
-                               keystream=self.streams(first, count, before), plain=plain)
+                               keystream=self.streams(first, count, before), plain=plain, **self.in_text(first, 16 + before + count))
 
     def tag_of(self, phase, additional, text, first):
         """A message in any state, and the tag of what has come of it."""
@@ -308,13 +343,13 @@ class KeyedGcm(Keyed):
         hashing.take([[self.lengths(additional, text)]])
         return state, hashing, self.aes.xor(hashing.value, self.stream(first, 0))
 
-    def finish(self, phase, additional, text, nonce=()):
+    def finish(self, phase, additional, text, nonce=UNKNOWN):
         """Ends a message that was encrypted: writes its tag, and overwrites *message with zeros. .. DONE"""
         first = self.nonce_of(*nonce)
         state, hashing, tag = self.tag_of(phase, additional, text, first)
         return self.on_message("finish", state, [0] * MESSAGE, [Buffer("tag", self.undefined(16), tag)], steps=hashing.steps)
 
-    def accept(self, phase, additional, text, nonce=(), length=None):
+    def accept(self, phase, additional, text, nonce=UNKNOWN, length=None):
         """Compares the tag of what has come, without an early exit. If it is right, the encrypted text may come once more, to be decrypted.
         .. REFUSED; else DONE. With a length: Compares a tag of fewer than 16 bytes in the place of fotsgure_gcm_accept"""
         first = self.nonce_of(*nonce)

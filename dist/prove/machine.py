@@ -37,6 +37,7 @@ Vector = namedtuple("Vector", "number size lane at clears", defaults=[1, 0, True
 Memory = namedtuple("Memory", "size base index scale offset align before after", defaults=[1, 0, 0])
 Instruction = namedtuple("Instruction", "run name operands next form")  # form: the name and the kinds of operands
 
+ROOM = Pointer("room", 0)  # how many bytes of keystream come before the counter of GCM, 32 bits of unknown value, wraps around
 SECRET = "secret"  # a flag that depends on the key or on data; None is a flag that is undefined
 RETURN_ADDRESS = Pointer("return address", 0)
 WORD = (1 << 64) - 1
@@ -158,6 +159,7 @@ class Machine:
         self.shifted, self.lost, self.origins, self.native, self.after_external = {}, set(), {}, None, None
         self.placed, self.may_reveal, self.assumed, self.equalities, self.done, self.want = {}, False, (), {}, 0, None
         self.written = (), 0
+        self.room = None  # the sums that are ROOM, and the number with which it may be compared
         self.wraps, self.wrap = None, 1 << 64  # a word of unknown value, and the offset from which on it has wrapped around
         self.enter(arguments)
         self.top = self.lowest = self.general[self.stack_pointer].offset
@@ -242,6 +244,9 @@ class Machine:
             old, r = x if is_pointer(x) else y, self.offset(self.offset(x, carry), y)
             known = r.base == self.wraps and r.offset >= old.offset
             return r, {"c": int(old.offset < self.wrap <= r.offset)} if known else {}
+        constant, rest = (x, y) if is_int(x) else (y, x)
+        if self.room and (constant, carry, *self.to_bytes(rest, size)) in self.room[0]:
+            return ROOM, {}
         bits, out = self.full_adder(self.bits(x, size), self.bits(y, size), carry)
         return self.unbits(bits), {"c": out if out < 2 else SECRET, "z": SECRET, "s": SECRET, "o": SECRET}
 
@@ -259,6 +264,8 @@ class Machine:
             return Distance(x.base, y.base, x.offset - y.offset), {}
         if is_pointer(x) and is_int(y) and size == 8:
             return self.offset(x, carry - 1 - y), {}
+        if y == ROOM and self.room and x == self.room[1] and carry:
+            return None, {"c": ("not", (ROOM, x, "above")), "z": (ROOM, x, "equal")}
         if is_pointer(x) or is_pointer(y):
             raise Unproved("computes with addresses")
         return self.plus(x, ~y if is_int(y) else self.bytewise("xor", self.to_bytes(y, size), [255] * size), carry, size)
@@ -441,7 +448,7 @@ class Machine:
                     place, step = ("stack", self.stack_step) if o.base == self.stack_pointer else ("buffer", 1)
                     back = -o.before - o.offset - 16 * o.scale * bool(o.index)
                     self.general[o.base] = Pointer(place, middle + back // step * step)
-            elif isinstance(o, Register) and instruction.name in ("jmp", "call", "blr"):
+            elif isinstance(o, Register) and instruction.name in ("jmp", "call", "blr", "br"):
                 self.general[o.name] = self.program.symbols["start"]
 
     # Memory.

@@ -80,9 +80,10 @@ def gcm_cases(choose):
     yield "seal", choose([(13, 33), (40, 20), *more, *LONG], [(13, 33)], more)
     yield "open", choose([(0, 0), (13, 33), (40, 129)], [(13, 33)], [(0, 0)])
     carried = 7, 0, 255, 255
-    nonces = (8, 1), (1, 2 ** 32 - 1, carried), (60, 2 ** 32 - 2, carried)
+    nonces = gcm.UNKNOWN, (1, 2 ** 32 - 1, carried), (60, 2 ** 32 - 2, carried)
     yield "begin", [(), *[(nonce,) for nonce in nonces]]
     yield "seal", [(5, n, nonce) for n in choose((20, 40), (), (20,)) for nonce in nonces]
+    yield "seal", choose([(5, n, (60, None)) for n in (0, 129, 300)], ())
     yield "open", [(3, 20, nonce) for nonce in choose(nonces, (), nonces[:1])]
     counters = choose((None, 2 ** 64 - 1, 2 ** 96 - 2), (None,), (2 ** 64 - 1, 2 ** 96 - 2))
     yield "seal_next", [(3, 1, counter) for counter in counters]
@@ -96,7 +97,7 @@ def gcm_cases(choose):
     for call, phase in ("finish", gcm.ENCRYPTING), ("accept", gcm.VERIFYING):
         states = [(phase, 16, 7), (gcm.ADDITIONAL, 0, 0), (gcm.ADDITIONAL, 5, 0), (phase, 5, 16)]
         yield call, choose(states, states[:1], states[1:])
-    yield "accept", [(gcm.VERIFYING, 16, 7, (), n) for n in choose((4, 8, 12, 13, 14, 15), (12,), (4, 15))]
+    yield "accept", [(gcm.VERIFYING, 16, 7, gcm.UNKNOWN, n) for n in choose((4, 8, 12, 13, 14, 15), (12,), (4, 15))]
     for n in choose((9, 50), (), (9,)):  # the counter wraps in the text
         nonce = 8, 2 ** 32 - 3, carried
         yield "piece", [("encrypt", gcm.ADDITIONAL, 5, 0, n, nonce), ("encrypt", gcm.ENCRYPTING, 5, 39, n, nonce),

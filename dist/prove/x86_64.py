@@ -45,8 +45,8 @@ class X86_64(Machine):
         return Instruction(run, name, operands, following, form)
 
     def condition(self, code):
-        values = [self.decide(self.flags[f]) for f in CONDITIONS[code] if f in "czso"]
-        return int(any(values) != CONDITIONS[code].startswith("!"))
+        holds = any(self.decide(self.flags[f]) for f in CONDITIONS[code] if f in "czso")
+        return int(holds != CONDITIONS[code].startswith("!"))
 
 
 def operand(text, name, following):
