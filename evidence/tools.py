@@ -12,6 +12,7 @@ import re
 import shutil
 import subprocess
 import sys
+import tempfile
 import textwrap
 import time
 
@@ -21,6 +22,7 @@ RIGHT, WRONG, BLIND, STOPPED, PARTIAL = range(5)
 HERE = pathlib.Path(__file__).resolve().parent
 TOP = HERE.parent
 MEASUREMENTS = TOP / "docs" / "MEASUREMENTS.md"
+sys.path.append(str(TOP / "tools" / "edit_parts"))
 # Outside the repository: the gate refuses sources there that it does not read.
 ROOM = pathlib.Path(os.environ.get("AES_EVIDENCE_ROOM") or pathlib.Path.home() / ".cache" / "aes-evidence")
 ROOM.mkdir(parents=True, exist_ok=True)
@@ -29,8 +31,6 @@ BITS = ("128", "192", "256")
 # The library of exports, and the crates that it calls.
 EXPORTS = "evidence_exports"
 CRATES = "aes_planes aes_cipher aes_soft aes aes_permute aes_hybrid aes_rounds aes_ctr aes_kat"
-# How many jobs a proof gets, if not as many as rt chooses.
-JOBS = ["--jobs", os.environ["AES_EVIDENCE_JOBS"]] if "AES_EVIDENCE_JOBS" in os.environ else []
 
 # Valgrind merges two branches to one place (guest-chase), and then reports at both what the first one tests.
 MEMCHECK = "valgrind --tool=memcheck --vex-guest-chase=no --error-limit=no --leak-check=no --expensive-definedness-checks=yes --num-callers=8"
@@ -72,37 +72,6 @@ def run(words, what, **how):
     return done.stdout
 
 
-def rt_lib(folder, *flags):
-    """Proves and builds a library, over what was proved before."""
-    with open(ROOM / "build.log", "w") as log:
-        words = ["rt", "lib", *flags, *JOBS]
-        done = subprocess.run(words, cwd=folder, stdout=log, stderr=subprocess.STDOUT, stdin=subprocess.DEVNULL)
-    if done.returncode:
-        stop(f"{folder} was not proved or not built: {ROOM}/build.log has why")
-
-
-def sources(*more):
-    """A sum of all that decides what is built."""
-    total = hashlib.sha256(run(["rt", "version"], "rt version").encode())
-    found = (it for part in ("src", "specs", "proofs") for it in (TOP / "crates").glob(f"*/{part}/**/*") if it.is_file())
-    for it in (*sorted(found), TOP / "crates.txt", *more):
-        total.update(str(it.relative_to(TOP)).encode() + it.read_bytes())
-    return total.hexdigest()
-
-
-def kept(made, total, folder, compiler):
-    """An archive of sources with this sum: as it was built before, or now, in the folder of its crate."""
-    stamp = made.with_suffix(".stamp")
-    if not (made.exists() and stamp.exists() and stamp.read_text() == total):
-        say(f"proving and building {folder.name} by {compiler} in {folder}, over what is proved already")
-        start = time.time()
-        rt_lib(folder, "--backend", compiler)
-        shutil.move(folder / "out" / f"lib{folder.name}.a", made)
-        stamp.write_text(total)
-        say(f"built in {time.time() - start:.0f} seconds")
-    return made
-
-
 def assembled(name, dist=TOP / "dist", room=ROOM):
     """The archive of one text of a folder dist/ for x86-64, by the C compiler's assembler: as `make` builds it there, but without
     the choice between two builds."""
@@ -114,42 +83,44 @@ def assembled(name, dist=TOP / "dist", room=ROOM):
     return made
 
 
-def by_second_compiler(crate):
-    """The archive of a library for C by the second compiler, which is proved and built where its crate stands."""
-    return kept(ROOM / f"lib{crate}-rattle.a", sources(), TOP / "crates" / crate, "rattle")
+def sources():
+    """A sum of all that decides what the library of exports is."""
+    total = hashlib.sha256(run(["rt", "version"], "rt version").encode())
+    found = (it for crate in CRATES.split() for part in ("src", "specs", "proofs") for it in (TOP / "crates" / crate / part).rglob("*"))
+    for it in (*sorted(it for it in found if it.is_file()), TOP / "crates.txt", *expand.sources()):
+        total.update(str(it.relative_to(TOP)).encode() + it.read_bytes())
+    return total.hexdigest()
 
 
-def copy_of_the_crates():
-    """Makes a copy of the crates that the library of exports calls, outside the repository, with that library as one crate more.
-    They are proved where they stand, as by ./aes-kat --prove, and what was proved there is copied too: so a crate is proved once."""
-    tree, copied = ROOM / EXPORTS, CRATES.split()
-    say(f"proving {CRATES}, as far as they are not proved")
-    for it in copied:
-        here, there = TOP / "crates" / it, tree / "crates" / it
-        rt_lib(here)
-        shutil.rmtree(there, ignore_errors=True)
-        for part in ("src", "specs", "proofs", "out/rlib"):
-            if (here / part).exists():
-                shutil.copytree(here / part, there / part, symlinks=True)
+def add_exports(tree):
+    """Adds the library of exports to the crates of a copy of the repository."""
     folder = tree / "crates" / EXPORTS / "src"
-    shutil.rmtree(folder, ignore_errors=True)
     folder.mkdir(parents=True)
     expand.write(folder)
-    shutil.copy(TOP / "HANDLES", tree / "HANDLES")
-    lines = (TOP / "crates.txt").read_text().splitlines()
-    named = [it for it in lines if (name := re.match(r"\w+", it)) and name[0] in copied]
-    (tree / "crates.txt").write_text("\n".join([*named, f"{EXPORTS} staticlib: {CRATES}"]) + "\n")
+    with open(tree / "crates.txt", "a") as it:
+        it.write(f"{EXPORTS} staticlib: {CRATES}\n")
 
 
 def exports_library(compiler):
-    """The archive of the library of exports by one compiler."""
+    """The archive of the library of exports by one compiler: as it was built before of the same sources, or proved and built now, in a
+    copy of the repository, over the libraries that `rt ci` keeps on this machine, or else those that `rt lib` makes."""
     need("rt", None)
-    made, total = ROOM / f"lib{EXPORTS}-{compiler}.a", sources(*expand.sources())
-    stamp = ROOM / f"{EXPORTS}.stamp"
-    if not stamp.exists() or stamp.read_text() != total:
-        copy_of_the_crates()
+    made, total = ROOM / f"lib{EXPORTS}-{compiler}.a", sources()
+    stamp = made.with_suffix(".stamp")
+    if not (made.exists() and stamp.exists() and stamp.read_text() == total):
+        import libraries
+        say(f"proving and building {EXPORTS} by {compiler}, over what is proved already")
+        start = time.time()
+        with tempfile.TemporaryDirectory() as room:
+            crates = libraries.workspace(room, add_exports)
+            crate = next(it for it in crates if it.name == EXPORTS)
+            libraries.given(crates, [crate])
+            flags = ["--backend", compiler, "--toolchain", f"{libraries.KIT}/toolchain", "--incremental", f"{ROOM}/kept"]
+            run(libraries.build_words(crate, *flags, "-o", f"{made}"), f"{EXPORTS} was not proved or not built", cwd=crate.folder)
+            os.chdir(TOP)
         stamp.write_text(total)
-    return kept(made, total, ROOM / EXPORTS / "crates" / EXPORTS, compiler)
+        say(f"built in {time.time() - start:.0f} seconds")
+    return made
 
 
 def exported(archive):
@@ -233,43 +204,6 @@ def under_memcheck(program):
             f"apt-get install libc6-dbg)\n{done.stdout[-500:]}"
         )
     return lines[:-1], log.read_text(errors="replace")
-
-
-def searched(head, *words):
-    """What each call left, by a program that searches the stack: {(call, bits): counts}. A program that goes over lengths
-    tells the most, and in one column more at which lengths more than keystream was left."""
-    rows = {}
-    for line in run(words, "the search").splitlines():
-        call, bits, *counts = line.split("\t")
-        rows[call, bits] = dict(zip(head, map(int, counts))) | {"where": "".join(counts[len(head):])}
-    return rows
-
-
-def show_left(build, rows, kept):
-    """A line for each call of a build: what it left with keys of 16, 24 and 32 bytes."""
-    say(f"\nBuilt by {build}. Left, for keys of 16, 24 and 32 bytes:")
-    for call in dict.fromkeys(call for call, _ in rows):
-        cells = [", ".join(f"{rows[call, bits][k]} {k}" for k in kept if rows[call, bits][k]) or "nothing" for bits in BITS]
-        say(f"  {call:<34} {'; '.join(cells if len(set(cells)) > 1 else cells[:1])}")
-
-
-def compared(now, path, kept, record):
-    """Rows {(build, bits, call): counts} that leave more than is recorded; `record` writes those of these builds anew first."""
-    if record:
-        old = path.read_text().splitlines()[1:] if path.exists() else []
-        rows = ["\t".join([*place, *(str(it[k]) for k in kept)]) for place, it in now.items()]
-        rows += [it for it in old if it.split("\t")[0] not in {build for build, *_ in now}]
-        path.write_text("\n".join(["\t".join(["build", "bits", "call", *kept]), *rows]) + "\n")
-        say(f"\nrecorded: {len(now)} rows in {path}")
-    lines = [it.split("\t") for it in path.read_text().splitlines()[1:]] if path.exists() else []
-    was = {tuple(it[:3]): dict(zip(kept, map(int, it[3:]))) for it in lines}
-    for place, counts in now.items():
-        if place not in was:
-            yield f"{', '.join(place)}: not in {path.name}"
-            continue
-        more = [f"{counts[k]} {k} in place of {was[place][k]}" for k in kept if counts[k] > was[place][k]]
-        if more:
-            yield f"{', '.join(place)}: {', '.join(more)}"
 
 
 def asking(text, *parts, flags=()):

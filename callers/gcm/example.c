@@ -9,7 +9,7 @@
  *  - Two processes, and two threads: the second waits for the lock, and reads what the first has stored.
  *  - A forked child: the same. Each call opens the folder anew and reads the file, and no counter stays in memory,
  *    where a fork would copy it.
- *  - A new key: move the file away under the lock (flock FOLDER mv FOLDER/key FOLDER/key.1), and the next message draws
+ *  - A new key: move the file away under the lock (flock FOLDER mv -n FOLDER/key FOLDER/key.1), and the next message draws
  *    one. The counter goes along with its key. Old messages are opened with the old file, by a call that can't seal.
  *    Moved without the lock, the file may come back by a call that runs, and its copy has an older counter.
  *  - A copy of the file that comes back, from a backup or a snapshot: its counter is an old one, the nonces come

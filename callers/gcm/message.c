@@ -18,7 +18,7 @@ int main(int count, char **words)
     int sealed = file && fread(key, 1, sizeof key, file) == sizeof key &&
         fotsgure_gcm_siv_set_key(&siv, key, sizeof key) == FOTSGURE_GCM_DONE &&
         fotsgure_gcm_siv_seal_random(&siv, nonce, name, sizeof name, text, sizeof text, tag) == FOTSGURE_GCM_DONE;
-    /* If it is sealed, send nonce, name, text and tag. Who has the key opens it, unless something was changed: */
+    /* If it is sealed, send nonce, name, text and tag. Whoever has the key opens it, unless something was changed: */
     int opened = sealed &&
         fotsgure_gcm_siv_open(&siv, nonce, name, sizeof name, text, sizeof text, tag) == FOTSGURE_GCM_DONE;
     fotsgure_gcm_siv_wipe(&siv);

@@ -10,6 +10,6 @@ with open(sys.argv[1], "rb") as file:
     key = file.read()
 with GcmSiv(key) as siv:
     nonce, sealed = siv.seal_random(b"a message", b"its name")
-    # Send name, nonce and what is sealed. Who has the key opens it:
+    # Send name, nonce and what is sealed. Whoever has the key opens it:
     text = siv.open(nonce, sealed, b"its name")  # raises Refused if anything was changed
 print(text.decode())

@@ -246,7 +246,8 @@ FOTSGURE_GCM_CHECK enum fotsgure_gcm_status fotsgure_gcm_accept_short(const stru
 
 /* Decrypts a piece in place of the encrypted text whose tag was right: give the same text once more, from its beginning
  * on. More than was verified is TOO_LONG. The library doesn't see whether it is the same text, nor whether all of it has
- * come: count the bytes of both passes.
+ * come: what was changed since fotsgure_gcm_accept is decrypted too. So nobody may write the text in between; and count
+ * the bytes of both passes.
  * NO_KEY, OUT_OF_TURN or TOO_LONG; else DONE. */
 FOTSGURE_GCM_CHECK enum fotsgure_gcm_status fotsgure_gcm_decrypt(const struct fotsgure_gcm *gcm,
     struct fotsgure_gcm_message *FOTSGURE_GCM_ALONE message,

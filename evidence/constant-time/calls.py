@@ -1,5 +1,4 @@
-"""Writes calls.h: a C function that makes each call once, on secret keys, round keys, blocks and data. A word given to
-it takes the calls whose names begin with that word alone.
+"""Writes calls.h: a C function that makes each call once, on secret keys, round keys, blocks and data.
 
 Each public call of the crates that is given a secret is reached by one of these, on every word, layout and size of keys, by every
 type, and on slices of 0 to 17 blocks: two batches of eight and a tail, and every length below. public.py says which public
@@ -14,15 +13,12 @@ from expand import CRATES, ENDS, LEFT, SIZES, WORDS, types
 
 NUMBERS = {"u32": "uint32_t", "u64": "uint64_t"}
 SLICES = range(18)
-WANTED = "".join(sys.argv[1:])
 declared, body = {}, []
 
 
 def call(name, *args, label="", returns=None, wanted="clean"):
     """A call of an export. An argument is ('s', bytes) and the like, or with a third number a slice of so many elements; ('u32', n) is
     a number. What the kinds mean is said in harness.c."""
-    if not name.startswith(WANTED):
-        return
     types, passed, lines = [], [], []
     for i, (kind, size, *count) in enumerate(args):
         if kind in NUMBERS:
@@ -144,9 +140,8 @@ REPLY = """    { static const char line[] = "enc 000102030405060708090a0b0c0d0e0
       memcpy(x0, line, sizeof line - 1); (void)VALGRIND_MAKE_MEM_UNDEFINED(x0 + 4, 32);
       begin("ev_reply enc, secret key"); (void)ev_reply(x0, sizeof line - 1, x1);
       end("ev_reply enc, secret key", "LEAK", 0, 0); }"""
-if "ev_reply".startswith(WANTED):
-    body.append(REPLY)
-    declared["ev_reply"] = "size_t ev_reply(const void *, size_t, void *);"
+body.append(REPLY)
+declared["ev_reply"] = "size_t ev_reply(const void *, size_t, void *);"
 
 print("\n".join(declared.values()))
 print("static void calls(void) {\n" + "\n".join(body) + "\n}")

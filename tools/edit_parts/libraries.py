@@ -36,10 +36,11 @@ def begin(top):
     rt.rtlib.Crate.cuts_libraries = True
 
 
-def workspace(room):
-    """The crates of a copy of the repository, lowest first."""
+def workspace(room, add=lambda tree: None):
+    """The crates of a copy of the repository, lowest first, to which `add` may add some."""
     if rt:
         rt.copy_crates(str(TOP), f"{room}/copy")
+        add(pathlib.Path(f"{room}/copy"))
         # (which makes it the top of a repository)
         os.mkdir(f"{room}/copy/.git")
     begin(f"{room}/copy")

@@ -36,7 +36,8 @@ static int of_this_environment(void)
     others += !is_ours("AES-256-GCM-SIV");
     if (others > 0)
         printf("%d algorithms don't come from fotsgure: %s\n", others, OSSL_PROVIDER_available(NULL, "fotsgure")
-            ? "the configuration doesn't prefer it" : "OPENSSL_CONF names no file that loads it, or the module isn't where it says");
+            ? "the configuration doesn't prefer it"
+            : "OPENSSL_CONF names no file that loads it, the module isn't where it says, or the processor lacks SSSE3 or SSE4.2");
     return others > 0;
 }
 

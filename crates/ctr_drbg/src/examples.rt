@@ -1,15 +1,15 @@
 //! CTR_DRBG at values from outside, as contracts, so that a slip in a definition is refused: NIST's
 //! first vector for AES-256 without a derivation function, which gives 64 bytes at the second
-//! request, and the first one with additional inputs. A model that gives the same at all of NIST's
-//! vectors computed the states between.
+//! request, the first one with additional inputs, and the first one with a reseed too. A model that
+//! gives the same at all of NIST's vectors computed the states between.
 //!
 //! `bytes n 0x..` is the n bytes that these digits write.
 
-ghost use Rattle.std.specs.Prelude.{◌≡◌, ℕ, List, [], ◌∷◌, replicate};
+ghost use Rattle.std.specs.Prelude.{◌≡◌, ℕ, ◌+◌, ◌^◌, List, [], ◌∷◌, replicate};
 ghost use Rattle.aes_planes.specs.BigEndian.{bytes};
 ghost use Rattle.aes_planes.specs.Fips197 as fips;
 ghost use Rattle.ctr_drbg.specs.CtrDrbg.{State, padded, exclusive_or, instantiate, reseed};
-ghost use Rattle.ctr_drbg.specs.CtrDrbg.{generate, returned_bits};
+ghost use Rattle.ctr_drbg.specs.CtrDrbg.{generate, returned_bits, turns};
 
 /// A string is padded behind it; a personalization string is summed with the first bytes of the
 /// entropy input, here 20 with ff; and a reseed of the state of zeros is an instantiation.
@@ -25,6 +25,26 @@ pub fn string_examples()
         reseed entropy_input additional_input
         (record { key = replicate 32 0; v = replicate 16 0; reseed_counter = counter })
         ≡ instantiate entropy_input additional_input }
+{}
+
+/// How many blocks make output of no byte, of one, of a block, of a byte more, and of the most that
+/// a request may ask for (10.2.1.5.1, step 4), by hand.
+#[tactic(auto, unfolding(crate::specs::CtrDrbg::turns))]
+pub fn turn_examples()
+    ensures none { turns 0 ≡ 0 }
+    ensures one { turns 1 ≡ 1 }
+    ensures block { turns 16 ≡ 1 }
+    ensures byte_more { turns 17 ≡ 2 }
+    ensures most { turns (2 ^ 16) ≡ 4096 }
+{}
+
+/// Whatever reseed_counter was, a reseed sets it to 1, and a request counts it on.
+#[tactic(auto, unfolding(crate::specs::CtrDrbg::reseed, crate::specs::CtrDrbg::generate))]
+pub fn counter_examples()
+    ensures reseeded { (entropy_input additional_input : List ℕ) (s : State)
+        → (reseed entropy_input additional_input s).reseed_counter ≡ 1 }
+    ensures counted { (n : ℕ) (additional_input : List ℕ) (s : State)
+        → (generate n additional_input s).reseed_counter ≡ s.reseed_counter + 1 }
 {}
 
 // The blocks that are encrypted: three for the seed, three for the update after the first request,
@@ -69,7 +89,7 @@ fn encrypted_blocks()
 {}
 
 /// The state of the seed, the state after the first request of 64 bytes, and the first block of the
-/// second, which is NIST's.
+/// second, which is NIST's, with its leftmost five bytes.
 pub fn two_requests_example()
     ensures seeded { instantiate
         (bytes 48 0xdf5d73faa468649edda33b5cca79b0b05600419ccb7a879ddfec9db32ee494e5531b51de16a30f769262474c73bec010) []
@@ -97,6 +117,11 @@ pub fn two_requests_example()
       v = bytes 16 0xe86f6d07dfb551cebad80e6bf6830ac4;
       reseed_counter = 2;
     }) ≡ bytes 16 0xd1c07cd95af8a7f11012c84ce48bb8cb }
+    ensures short { returned_bits 5 [] (record {
+      key = bytes 32 0x72f4af5c93258eb3eeec8c0cacea6c1d1978a4fad44312725f1ac43b167f2d52;
+      v = bytes 16 0xe86f6d07dfb551cebad80e6bf6830ac4;
+      reseed_counter = 2;
+    }) ≡ bytes 5 0xd1c07cd95a }
 {
     encrypted_blocks();
 }
@@ -183,4 +208,45 @@ pub fn additional_inputs_example()
         ≡ bytes 16 0x6808268b13e236f642c06deba2494496 }
 {
     encrypted_with_inputs();
+}
+
+// The blocks that are encrypted for a reseed.
+#[tactic(auto, using(aes_planes::proofs::OnLiterals::ciphers), unfolding(aes_planes::proofs::OnLiterals::aes_by_table))]
+fn encrypted_for_reseed()
+    ensures one { fips.cipher_with
+        (fips.key_expansion
+        (bytes 32 0xa8f73953b9c86f7beb01c7d26f09e2899a53a3278e3a54ffebdc7ec61d90cb98))
+        (bytes 16 0xd8fa421b2aabc209bb641195ebc2a587)
+        ≡ bytes 16 0x2b57fdd2e66e85f4af2d618e99a28dbd }
+    ensures two { fips.cipher_with
+        (fips.key_expansion
+        (bytes 32 0xa8f73953b9c86f7beb01c7d26f09e2899a53a3278e3a54ffebdc7ec61d90cb98))
+        (bytes 16 0xd8fa421b2aabc209bb641195ebc2a588)
+        ≡ bytes 16 0xeaaa6a896a31e62af746c8d7c1d22d17 }
+    ensures three { fips.cipher_with
+        (fips.key_expansion
+        (bytes 32 0xa8f73953b9c86f7beb01c7d26f09e2899a53a3278e3a54ffebdc7ec61d90cb98))
+        (bytes 16 0xd8fa421b2aabc209bb641195ebc2a589)
+        ≡ bytes 16 0x484554529c541f47169de3a88c3f4794 }
+{}
+
+/// NIST's first vector with a personalization string, additional inputs and a reseed: the state
+/// after this, from that of the seed.
+pub fn reseed_example()
+    ensures { reseed
+        (bytes 48 0xa42407931bfeca70e6ee5dd197021a129525051c07468e8b25587c5ad50abe9204e882fe847b8fd47cf7b4360e5aa034)
+        (bytes 48 0xee4c88d1eb05f4853663eada501d2fc4b4984b283a88db579af2113031e03d9bc570de943dd168918f3ba8065581fea7) (record {
+          key = bytes 32 0xa8f73953b9c86f7beb01c7d26f09e2899a53a3278e3a54ffebdc7ec61d90cb98;
+          v = bytes 16 0xd8fa421b2aabc209bb641195ebc2a586;
+          reseed_counter = 1;
+        })
+        ≡ record {
+          key = bytes 32
+              0x613f72901695bb017fa0d6855ebdb86bcb1724bd57ffb3f648eca5bd2538ae1e;
+          v =
+              bytes 16 0x89dd083825fef802e551ff98d7e41907;
+          reseed_counter = 1;
+        } }
+{
+    encrypted_for_reseed();
 }

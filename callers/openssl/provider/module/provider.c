@@ -241,6 +241,16 @@ static int get_provider_params(void *provider, OSSL_PARAM params[])
 }
 
 /* It refuses libraries of another version than the headers: their structs may be larger. */
+/* Whether the processor has what the libraries take for granted. If not, AES stays with OpenSSL's own provider. */
+static int is_served(void)
+{
+#ifdef __x86_64__
+    return __builtin_cpu_supports("ssse3") && __builtin_cpu_supports("sse4.2");
+#else
+    return 1;
+#endif
+}
+
 OSSL_provider_init_fn OSSL_provider_init;
 int OSSL_provider_init(const OSSL_CORE_HANDLE *handle, const OSSL_DISPATCH *in, const OSSL_DISPATCH **out,
     void **context)
@@ -252,7 +262,8 @@ int OSSL_provider_init(const OSSL_CORE_HANDLE *handle, const OSSL_DISPATCH *in, 
         {OSSL_FUNC_PROVIDER_QUERY_OPERATION, (void (*)(void))query},
         {0, NULL}};
     struct provider *provider = calloc(1, sizeof *provider);
-    if (!provider || fotsgure_aes_version() != FOTSGURE_AES_VERSION || fotsgure_gcm_version() != FOTSGURE_GCM_VERSION)
+    if (!provider || !is_served() || fotsgure_aes_version() != FOTSGURE_AES_VERSION ||
+        fotsgure_gcm_version() != FOTSGURE_GCM_VERSION)
         return free(provider), 0;
     provider->handle = handle;
     for (; in->function_id != 0; in++) {

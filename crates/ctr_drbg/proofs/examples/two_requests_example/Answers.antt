@@ -30,3 +30,7 @@ returns-clause-first c =
 pub returns-clause-second : goal.returns-clause-second
 unfolding bytes next_v v_after temp_after turns output prepared returned_bits
 returns-clause-second c = ap (take 16) c.encrypted_blocks.ensures.first
+
+pub returns-clause-short : goal.returns-clause-short
+unfolding bytes next_v v_after temp_after turns output prepared returned_bits
+returns-clause-short c = ap (take 5) c.encrypted_blocks.ensures.first
