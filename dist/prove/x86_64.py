@@ -41,7 +41,7 @@ class X86_64(Machine):
         operands = [operand(o.strip(), name, following) for o in rest.split(",")] if rest and name != "nop" else []
         form = " ".join([name, *map(kind, operands)])
         if name in VECTORS:
-            operands.insert(1, operands[0])
+            operands.insert(1, operands[0])  # the first source, which a VEX-coded instruction names
         return Instruction(run, name, operands, following, form)
 
     def condition(self, code):
