@@ -1,6 +1,5 @@
 """The controls of the proof: faults that are planted in the assembly (faults.py), and wrong meanings of instructions. Each has to be
 refused. Run it as `make prove-controls` in dist."""
-import concurrent.futures
 import os
 import re
 import sys
@@ -12,7 +11,7 @@ from faults import BATCHES, FAULTS
 from machine import is_int, is_pointer
 from native import NEVER_ALONE, compare_all
 from processors import PROCESSORS
-from prove import BUILDS, LIBRARIES, link, options_of, source
+from prove import BUILDS, LIBRARIES, link, options_of, pool_of, source
 
 
 def edited(text, start, pattern, new):
@@ -141,7 +140,7 @@ def wrong_meanings(options, build):
 def main():
     options = options_of(__doc__)
     builds = [build for build in FAULTS if build in options.builds]
-    with concurrent.futures.ProcessPoolExecutor(options.jobs) as pool:
+    with pool_of(options.jobs) as pool:
         tries = [pool.submit(fault, options, build, k) for build in builds
                  for k, f in enumerate(FAULTS[build]) if options.only in f[0]]
         if "x86_64/aes" in builds and not options.only:

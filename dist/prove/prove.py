@@ -45,8 +45,8 @@ def link(source, out, machine=X86_64):
     return Program(out, machine)
 
 
-# Which statements, and of which lengths: all; or those that reach each path and its ends, of which keys of 24 and 32 bytes take a few. README
-# has the table. Each of these gives the names of statements, and their arguments.
+# Which statements, and of which lengths: all; or those that reach each path and its ends, of which keys of 24 and 32 bytes take a few.
+# README has the table. Each of these gives the names of statements, and their arguments.
 LONG = [(0, 16 * n) for n in range(1, 65)] + [(n, 0) for n in range(1, 100, 9)]
 
 
@@ -166,7 +166,6 @@ class Task:
         self.proved, self.failed, self.vectors = -bool(part), 0, 0  # (set_key counts once)
 
     def run(self):
-        gc.disable()  # next to nothing here refers to itself, and looking for it takes a fifth of the time
         start = time.process_time()
         self.path = "%s/%s_%d_%d" % (self.options.out, self.build.replace("/", "_"), self.key_size, self.part)
         program = link(source(self.options.dist, self.build), self.path, BUILDS[self.build])
@@ -198,13 +197,17 @@ class Task:
             print("%s, %s: %s; %.1f s" % (self.name, what, text, time.process_time() - start), flush=True)
 
 
+def pool_of(jobs, **more):
+    """Processes without collection of garbage: next to nothing here refers to itself, and looking for it takes a fifth of the time."""
+    return concurrent.futures.ProcessPoolExecutor(jobs, initializer=gc.disable, **more)
+
+
 def run_task(*arguments):
     return Task(*arguments).run()
 
 
 def alone(path, machine, used):
     """The forms that the processor agreed on, each by itself; and where it didn't."""
-    gc.disable()
     try:
         return compare_all(Program(path, machine), used), None
     except Unproved as e:
@@ -215,7 +218,7 @@ def run_all(options):
     """Runs what there is, the longest first, and yields each task when it is done; and (folder, forms, fault) for forms of instructions by
     themselves, each once."""
     seen, builds, parts = set(), {}, 8 if options.all else 1  # (all at once would take more memory)
-    with concurrent.futures.ProcessPoolExecutor(options.jobs, max_tasks_per_child=1) as pool:
+    with pool_of(options.jobs, max_tasks_per_child=1) as pool:
         waiting = {pool.submit(run_task, options, build, size, part, parts) for size in options.keys for build in options.builds
                    if size != 24 or "siv" not in build for part in range(parts)}
         while waiting:
