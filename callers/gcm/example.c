@@ -9,8 +9,9 @@
  *  - Two processes, and two threads: the second waits for the lock, and reads what the first has stored.
  *  - A forked child: the same. Each call opens the folder anew and reads the file, and no counter stays in memory,
  *    where a fork would copy it.
- *  - A new key: move the file away (mv FOLDER/key FOLDER/key.1), and the next message draws one. The counter goes along
- *    with its key. Old messages are opened with the old file, by a call that can't seal.
+ *  - A new key: move the file away under the lock (flock FOLDER mv FOLDER/key FOLDER/key.1), and the next message draws
+ *    one. The counter goes along with its key. Old messages are opened with the old file, by a call that can't seal.
+ *    Moved without the lock, the file may come back by a call that runs, and its copy has an older counter.
  *  - A copy of the file that comes back, from a backup or a snapshot: its counter is an old one, the nonces come
  *    again, and nothing here can see it. TAKE A NEW KEY before the next message. So too if the file is damaged, which
  *    is refused here.
@@ -57,7 +58,7 @@ static int load(int folder, const char *name, struct kept *kept)
     if (length < 0)
         fails(name, NULL);
     else if (!loaded)
-        fails(name, "it hasn't the 44 bytes of a key and its counter. Move it away: the next message draws a new key");
+        fails(name, "it hasn't the 44 bytes of a key and its counter. Move it away under flock: the next message draws another");
     if (file >= 0)
         close(file);
     return loaded;
@@ -91,7 +92,7 @@ static int seal_next(struct kept *kept, struct sealed *it)
         fotsgure_gcm_seal_next(&gcm, &kept->counter, it->nonce, it->name, sizeof it->name, it->text, sizeof it->text,
             it->tag) == FOTSGURE_GCM_DONE;
     fotsgure_gcm_wipe(&gcm);
-    return sealed || fails("key", "no nonce is left. Move it away: the next message draws a new key");
+    return sealed || fails("key", "no nonce is left. Move it away under flock: the next message draws a new key");
 }
 
 /* Opens the folder and waits for its lock. Returns -1 if that fails, or if others may write the folder: they could put

@@ -39,7 +39,7 @@ def load(file: pathlib.Path) -> Tuple[bytes, bytes]:
     """
     kept = file.read_bytes()
     if len(kept) != 32 + 12:
-        raise ValueError(f"{file}: it hasn't the 44 bytes of a key and its counter. Move it away: the next message "
+        raise ValueError(f"{file}: it hasn't the 44 bytes of a key and its counter. Move it away under flock: the next message "
                          "draws a new key")
     return kept[:32], kept[32:]
 

@@ -5153,7 +5153,7 @@
 	blr	x16
 	ldr	q1, [sp]                        // 16-byte Reload
 	sub	x22, x29, #16
-.LBB18_8:                               // %"gcm::hash::filled.exit216"
+.LBB18_8:                               // %"gcm::hash::zero_filled.exit216"
 	ldr	q0, [x22]
 	ldr	x1, [x19]
 	add	x0, sp, #16
@@ -5180,7 +5180,7 @@
 	blr	x16
 	ldr	q0, [sp]                        // 16-byte Reload
 	sub	x1, x29, #16
-.LBB18_12:                              // %"gcm::hash::filled.exit162"
+.LBB18_12:                              // %"gcm::hash::zero_filled.exit162"
 	ldr	q1, [x1]
 	ldr	x1, [x19]
 	add	x0, sp, #16
@@ -5201,7 +5201,7 @@
 	blr	x16
 	ldr	q0, [sp]                        // 16-byte Reload
 	sub	x1, x29, #16
-.LBB18_15:                              // %"gcm::hash::filled.exit"
+.LBB18_15:                              // %"gcm::hash::zero_filled.exit"
 	ldr	q2, [x1]
 	ldr	q1, [x22, #16]
 	add	x0, sp, #16
@@ -5770,7 +5770,7 @@
 	blr	x16
 	ldp	q2, q4, [sp]                    // 32-byte Folded Reload
 	sub	x1, x29, #16
-.LBB23_10:                              // %"gcm::hash::filled.exit.i.i.i"
+.LBB23_10:                              // %"gcm::hash::zero_filled.exit.i.i.i"
 	ldr	q0, [x1]
 	mov	v1.16b, v4.16b
 	ldur	x1, [x20, #16]
@@ -5798,7 +5798,7 @@
 	blr	x16
 	ldp	q0, q4, [sp]                    // 32-byte Folded Reload
 	sub	x1, x29, #16
-.LBB23_14:                              // %"gcm::hash::filled.exit103.i.i.i"
+.LBB23_14:                              // %"gcm::hash::zero_filled.exit103.i.i.i"
 	mov	v2.16b, v4.16b
 	ldr	q1, [x1]
 	ldur	x1, [x20, #16]
@@ -10301,39 +10301,38 @@
 	.type	"gcm::hash::hash_piece",@function
 "gcm::hash::hash_piece":                // @"gcm::hash::hash_piece"
 // %bb.0:                               // %start
-	sub	sp, sp, #96
+	sub	sp, sp, #112
 	mov	w8, #16                         // =0x10
-	stp	x22, x21, [sp, #64]             // 16-byte Folded Spill
-	mov	x21, x2
-	sub	x2, x8, x5
-	stp	x24, x23, [sp, #48]             // 16-byte Folded Spill
-	stp	x20, x19, [sp, #80]             // 16-byte Folded Spill
-	mov	x19, x4
-	mov	x20, x3
-	subs	x24, x7, x2
+	stp	x20, x19, [sp, #96]             // 16-byte Folded Spill
+	mov	x19, x2
+	sub	x2, x8, x3
+	stp	x24, x23, [sp, #64]             // 16-byte Folded Spill
+	subs	x24, x5, x2
 	stp	x29, x30, [sp, #16]             // 16-byte Folded Spill
 	add	x29, sp, #16
-	stp	x26, x25, [sp, #32]             // 16-byte Folded Spill
+	str	x27, [sp, #32]                  // 8-byte Spill
+	stp	x26, x25, [sp, #48]             // 16-byte Folded Spill
+	stp	x22, x21, [sp, #80]             // 16-byte Folded Spill
 	b.hs	.LBB51_7
 // %bb.1:                               // %then.1
-	add	x0, x19, x5
-	sub	x8, x0, x6
-	cmp	x8, x7
+	add	x0, x19, x3
+	sub	x8, x0, x4
+	cmp	x8, x5
 	b.hs	.LBB51_13
-// %bb.2:                               // %iter.check61
-	cmp	x7, #8
+// %bb.2:                               // %iter.check73
+	cmp	x5, #8
 	b.lo	.LBB51_4
-// %bb.3:                               // %vector.memcheck55
-	add	x8, x5, x19
-	sub	x8, x8, x6
+// %bb.3:                               // %vector.memcheck67
+	add	x8, x3, x19
+	sub	x8, x8, x4
 	cmp	x8, #32
 	b.hs	.LBB51_20
 .LBB51_4:
 	mov	x8, xzr
 .LBB51_5:                               // %join.7.i.i.i.i.i.i.preheader
-	add	x10, x8, x5
-	sub	x9, x7, x8
-	add	x8, x6, x8
+	add	x10, x8, x3
+	sub	x9, x5, x8
+	add	x8, x4, x8
 	add	x10, x19, x10
 .LBB51_6:                               // %join.7.i.i.i.i.i.i
                                         // =>This Inner Loop Header: Depth=1
@@ -10341,140 +10340,147 @@
 	subs	x9, x9, #1
 	strb	w11, [x10], #1
 	b.ne	.LBB51_6
-	b	.LBB51_14
+	b	.LBB51_19
 .LBB51_7:                               // %join.3
-	mov	x22, x0
-	add	x0, x19, x5
-	add	x23, x6, x2
-	sub	x8, x0, x6
+	mov	x21, x0
+	add	x0, x19, x3
+	mov	x20, x1
+	ldp	x23, x25, [x1]
+	sub	x8, x0, x4
 	cmp	x8, x2
-	b.hs	.LBB51_15
+	add	x22, x4, x2
+	b.hs	.LBB51_14
 // %bb.8:                               // %iter.check
-	cmp	x5, #12
+	cmp	x3, #12
 	b.hi	.LBB51_10
 // %bb.9:                               // %vector.memcheck
-	add	x8, x5, x19
-	sub	x8, x8, x6
+	add	x8, x3, x19
+	sub	x8, x8, x4
 	cmp	x8, #16
 	b.hs	.LBB51_22
 .LBB51_10:
 	mov	x8, xzr
-.LBB51_11:                              // %join.7.i.i.i.i.i.i18.preheader
-	add	x9, x8, x5
-	add	x8, x6, x8
-.LBB51_12:                              // %join.7.i.i.i.i.i.i18
+.LBB51_11:                              // %join.7.i.i.i.i.i.i23.preheader
+	add	x9, x8, x3
+	add	x8, x4, x8
+.LBB51_12:                              // %join.7.i.i.i.i.i.i23
                                         // =>This Inner Loop Header: Depth=1
 	ldrb	w10, [x8], #1
 	strb	w10, [x19, x9]
 	add	x9, x9, #1
 	cmp	x9, #16
 	b.ne	.LBB51_12
-	b	.LBB51_16
+	b	.LBB51_15
 .LBB51_13:                              // %apart.2.i.i.i.i.i.i
-	mov	x1, x6
-	mov	x2, x7
-	adrp	x16, :got:memmove
-	ldr	x16, [x16, :got_lo12:memmove]
-	blr	x16
-.LBB51_14:                              // %common.ret
-	mov	x0, x21
-	mov	x1, x20
-	ldp	x20, x19, [sp, #80]             // 16-byte Folded Reload
-	ldp	x22, x21, [sp, #64]             // 16-byte Folded Reload
-	ldp	x24, x23, [sp, #48]             // 16-byte Folded Reload
-	ldp	x26, x25, [sp, #32]             // 16-byte Folded Reload
+	ldp	x20, x19, [sp, #96]             // 16-byte Folded Reload
+	mov	x1, x4
+	ldp	x22, x21, [sp, #80]             // 16-byte Folded Reload
+	mov	x2, x5
+	ldp	x24, x23, [sp, #64]             // 16-byte Folded Reload
+	ldr	x27, [sp, #32]                  // 8-byte Reload
+	ldp	x26, x25, [sp, #48]             // 16-byte Folded Reload
 	ldp	x29, x30, [sp, #16]             // 16-byte Folded Reload
-	add	sp, sp, #96
-	ret
-.LBB51_15:                              // %apart.2.i.i.i.i.i.i17
-	mov	x1, x6
+	add	sp, sp, #112
+	adrp	x16, :got:memmove
+	ldr	x16, [x16, :got_lo12:memmove]
+	br	x16
+.LBB51_14:                              // %apart.2.i.i.i.i.i.i22
+	mov	x1, x4
 	adrp	x16, :got:memmove
 	ldr	x16, [x16, :got_lo12:memmove]
 	blr	x16
-.LBB51_16:                              // %"core::slice::edits::slice+T::copy_from_slice::<i8,20'core::clone::U8Clone{}>.exit25"
+.LBB51_15:                              // %"core::slice::edits::slice+T::copy_from_slice::<i8,20'core::clone::U8Clone{}>.exit30"
 	ldp	x9, x8, [x19]
 	mov	x0, sp
-	ldr	x1, [x22]
+	ldr	x1, [x21]
 	stp	xzr, xzr, [sp]
+	eor	x8, x8, x25
+	eor	x9, x9, x23
+	and	x23, x24, #0xfffffffffffffff0
 	rev	x8, x8
 	rev	x9, x9
-	eor	x8, x8, x21
-	eor	x9, x9, x20
-	and	x20, x24, #0xfffffffffffffff0
+	add	x27, x22, x23
 	fmov	d0, x8
-	add	x26, x23, x20
-	and	x21, x24, #0xf
+	and	x24, x24, #0xf
 	mov	v0.d[1], x9
 	rev64	v0.16b, v0.16b
 	ext	v0.16b, v0.16b, v0.16b, #8
 	bl	"gcm::multiples::Multiples::block_product"
 	ldp	x9, x8, [sp]
-	sub	x10, x19, x26
-	cmp	x10, x21
-	rev	x24, x9
-	rev	x25, x8
-	b.hs	.LBB51_18
-.LBB51_17:                              // %join.7.i.i.i.i.i.i37
+	sub	x10, x19, x27
+	cmp	x10, x24
+	rev	x25, x9
+	rev	x26, x8
+	b.hs	.LBB51_17
+.LBB51_16:                              // %join.7.i.i.i.i.i.i46
                                         // =>This Inner Loop Header: Depth=1
-	ldrb	w8, [x26], #1
-	subs	x21, x21, #1
+	ldrb	w8, [x27], #1
+	subs	x24, x24, #1
 	strb	w8, [x19], #1
-	b.ne	.LBB51_17
-	b	.LBB51_19
-.LBB51_18:                              // %apart.2.i.i.i.i.i.i36
-	add	x1, x23, x20
+	b.ne	.LBB51_16
+	b	.LBB51_18
+.LBB51_17:                              // %apart.2.i.i.i.i.i.i45
+	add	x1, x22, x23
 	mov	x0, x19
-	mov	x2, x21
+	mov	x2, x24
 	adrp	x16, :got:memmove
 	ldr	x16, [x16, :got_lo12:memmove]
 	blr	x16
-.LBB51_19:                              // %"core::slice::edits::slice+T::copy_from_slice::<i8,20'core::clone::U8Clone{}>.exit44"
-	mov	x0, x22
-	mov	x2, x25
-	mov	x3, x24
-	mov	x4, x23
-	mov	x5, x20
-	ldp	x20, x19, [sp, #80]             // 16-byte Folded Reload
-	ldp	x22, x21, [sp, #64]             // 16-byte Folded Reload
-	ldp	x24, x23, [sp, #48]             // 16-byte Folded Reload
-	ldp	x26, x25, [sp, #32]             // 16-byte Folded Reload
+.LBB51_18:                              // %"core::slice::edits::slice+T::copy_from_slice::<i8,20'core::clone::U8Clone{}>.exit53"
+	mov	x0, x21
+	mov	x2, x26
+	mov	x3, x25
+	mov	x4, x22
+	mov	x5, x23
+	bl	"gcm::hash::hash_on"
+	fmov	d0, x0
+	mov	v0.d[1], x1
+	rev64	v0.16b, v0.16b
+	ext	v0.16b, v0.16b, v0.16b, #8
+	str	q0, [x20]
+.LBB51_19:                              // %common.ret
+	ldp	x20, x19, [sp, #96]             // 16-byte Folded Reload
+	ldr	x27, [sp, #32]                  // 8-byte Reload
+	ldp	x22, x21, [sp, #80]             // 16-byte Folded Reload
+	ldp	x24, x23, [sp, #64]             // 16-byte Folded Reload
+	ldp	x26, x25, [sp, #48]             // 16-byte Folded Reload
 	ldp	x29, x30, [sp, #16]             // 16-byte Folded Reload
-	add	sp, sp, #96
-	b	"gcm::hash::hash_on"
-.LBB51_20:                              // %vector.main.loop.iter.check63
-	cmp	x7, #32
+	add	sp, sp, #112
+	ret
+.LBB51_20:                              // %vector.main.loop.iter.check75
+	cmp	x5, #32
 	b.hs	.LBB51_27
 // %bb.21:
 	mov	x8, xzr
 	b	.LBB51_31
 .LBB51_22:                              // %vector.main.loop.iter.check
-	cbz	x5, .LBB51_34
+	cbz	x3, .LBB51_34
 // %bb.23:                              // %vec.epilog.ph
 	and	x8, x2, #0x1c
-	ldr	w9, [x6]
+	ldr	w9, [x4]
 	cmp	x8, #4
 	str	w9, [x0]
 	b.eq	.LBB51_26
 // %bb.24:                              // %vec.epilog.vector.body.1
-	ldr	w9, [x6, #4]
+	ldr	w9, [x4, #4]
 	cmp	x8, #8
 	str	w9, [x0, #4]
 	b.eq	.LBB51_26
 // %bb.25:                              // %vec.epilog.vector.body.2
-	ldr	w9, [x6, #8]
+	ldr	w9, [x4, #8]
 	str	w9, [x0, #8]
 .LBB51_26:                              // %vec.epilog.middle.block
 	cmp	x2, x8
-	b.eq	.LBB51_16
+	b.eq	.LBB51_15
 	b	.LBB51_11
-.LBB51_27:                              // %vector.ph64
-	add	x11, x5, x19
-	and	x9, x7, #0x18
-	and	x8, x7, #0xffffffffffffffe0
-	add	x10, x6, #16
+.LBB51_27:                              // %vector.ph76
+	add	x11, x3, x19
+	and	x9, x5, #0x18
+	and	x8, x5, #0xffffffffffffffe0
+	add	x10, x4, #16
 	add	x11, x11, #16
-	and	x12, x7, #0xffffffffffffffe0
-.LBB51_28:                              // %vector.body67
+	and	x12, x5, #0xffffffffffffffe0
+.LBB51_28:                              // %vector.body79
                                         // =>This Inner Loop Header: Depth=1
 	ldp	q0, q1, [x10, #-16]
 	subs	x12, x12, #32
@@ -10482,32 +10488,32 @@
 	stp	q0, q1, [x11, #-16]
 	add	x11, x11, #32
 	b.ne	.LBB51_28
-// %bb.29:                              // %middle.block72
-	cmp	x7, x8
-	b.eq	.LBB51_14
-// %bb.30:                              // %vec.epilog.iter.check76
+// %bb.29:                              // %middle.block84
+	cmp	x5, x8
+	b.eq	.LBB51_19
+// %bb.30:                              // %vec.epilog.iter.check88
 	cbz	x9, .LBB51_5
-.LBB51_31:                              // %vec.epilog.ph78
+.LBB51_31:                              // %vec.epilog.ph90
 	mov	x10, x8
-	and	x8, x7, #0xfffffffffffffff8
-	add	x11, x10, x5
+	and	x8, x5, #0xfffffffffffffff8
+	add	x11, x10, x3
 	sub	x9, x10, x8
-	add	x10, x6, x10
+	add	x10, x4, x10
 	add	x11, x19, x11
-.LBB51_32:                              // %vec.epilog.vector.body81
+.LBB51_32:                              // %vec.epilog.vector.body93
                                         // =>This Inner Loop Header: Depth=1
 	ldr	d0, [x10], #8
 	adds	x9, x9, #8
 	str	d0, [x11], #8
 	b.ne	.LBB51_32
-// %bb.33:                              // %vec.epilog.middle.block85
-	cmp	x7, x8
-	b.eq	.LBB51_14
+// %bb.33:                              // %vec.epilog.middle.block97
+	cmp	x5, x8
+	b.eq	.LBB51_19
 	b	.LBB51_5
 .LBB51_34:                              // %vector.body
-	ldr	q0, [x6]
+	ldr	q0, [x4]
 	str	q0, [x0]
-	b	.LBB51_16
+	b	.LBB51_15
 .Lfunc_end51:
 	.size	"gcm::hash::hash_piece", .Lfunc_end51-"gcm::hash::hash_piece"
                                         // -- End function
@@ -11277,40 +11283,40 @@ fotsgure_gcm_siv_seal:                  // @fotsgure_gcm_siv_seal
 fotsgure_gcm_additional:                // @fotsgure_gcm_additional
 	hint	#34
 // %bb.0:                               // %start
-	ldr	w9, [x0]
+	ldr	w10, [x0]
 	cmp	x2, #0
 	mov	w8, #4096                       // =0x1000
-	csel	x10, x8, xzr, eq
+	csel	x9, x8, xzr, eq
 	mov	w8, #2                          // =0x2
-	cmp	w9, #32
+	cmp	w10, #32
 	b.hi	.LBB67_8
 // %bb.1:                               // %start
 	mov	w11, #1                         // =0x1
 	mov	x12, #16842752                  // =0x1010000
-	lsl	x11, x11, x9
+	lsl	x11, x11, x10
 	movk	x12, #1, lsl #32
 	tst	x11, x12
 	b.eq	.LBB67_8
 // %bb.2:                               // %join.3.i
 	sub	sp, sp, #64
-	lsr	x8, x9, #2
+	lsr	x8, x10, #2
 	ldr	x11, [x1, #24]
-	add	x9, x0, #4
+	add	x10, x0, #4
 	stp	x29, x30, [sp, #32]             // 16-byte Folded Spill
 	add	x29, sp, #32
 	add	x8, x8, #7
 	cmp	x11, #1
 	stp	x20, x19, [sp, #48]             // 16-byte Folded Spill
-	stp	x9, x8, [sp, #8]
-	add	x9, x0, #244
-	str	x9, [sp, #24]
+	stp	x10, x8, [sp, #8]
+	add	x10, x0, #244
+	str	x10, [sp, #24]
 	b.ne	.LBB67_5
 // %bb.3:                               // %join.3.i.i
-	ldr	x11, [x1]
-	adds	x8, x3, x11
-	csinv	x8, x8, xzr, lo
-	lsr	x8, x8, #61
-	cbz	x8, .LBB67_6
+	ldr	x8, [x1]
+	adds	x10, x3, x8
+	csinv	x10, x10, xzr, lo
+	lsr	x10, x10, #61
+	cbz	x10, .LBB67_6
 // %bb.4:
 	mov	w8, #5                          // =0x5
 	b	.LBB67_7
@@ -11318,25 +11324,17 @@ fotsgure_gcm_additional:                // @fotsgure_gcm_additional
 	mov	w8, #8                          // =0x8
 	b	.LBB67_7
 .LBB67_6:                               // %arm.4.i
-	ldp	x9, x8, [x1, #48]
-	add	x12, sp, #8
-	mov	x19, x3
-	add	x0, x12, #16
-	add	x4, x1, #64
-	and	x5, x11, #0xf
-	add	x6, x2, x10
-	mov	x7, x19
-	rev	x8, x8
-	rev	x9, x9
+	add	x10, sp, #8
 	mov	x20, x1
-	mov	x2, x8
-	mov	x3, x9
+	mov	x19, x3
+	add	x0, x10, #16
+	mov	x10, x2
+	add	x1, x1, #48
+	add	x2, x20, #64
+	and	x3, x8, #0xf
+	add	x4, x10, x9
+	mov	x5, x19
 	bl	"gcm::hash::hash_piece"
-	fmov	d0, x0
-	mov	v0.d[1], x1
-	rev64	v0.16b, v0.16b
-	ext	v0.16b, v0.16b, v0.16b, #8
-	str	q0, [x20, #48]
 	bl	"aes_cipher::zeroize::stack::wipe_stack::<=512>"
 	ldr	x9, [x20]
 	mov	w8, wzr
@@ -11512,28 +11510,21 @@ fotsgure_gcm_decrypt_unverified:        // @fotsgure_gcm_decrypt_unverified
 	cmp	x9, x8
 	b.hi	.LBB69_9
 .LBB69_8:                               // %arm.1.i.i
-	ldp	x8, x9, [x21, #48]
 	add	x0, x23, #16
-	add	x4, x21, #64
-	and	x5, x24, #0xf
-	add	x6, x20, x22
-	mov	x7, x19
-	rev	x2, x9
-	rev	x3, x8
+	add	x1, x21, #48
+	add	x2, x21, #64
+	and	x3, x24, #0xf
+	add	x4, x20, x22
+	mov	x5, x19
 	bl	"gcm::hash::hash_piece"
-	fmov	d0, x0
 	ldr	x8, [x21, #8]
 	add	x0, sp, #8
+	add	x1, x21, #32
 	add	x2, x24, #16
 	add	x3, x20, x22
 	mov	x4, x19
 	add	x8, x8, x19
-	mov	v0.d[1], x1
-	add	x1, x21, #32
 	str	x8, [x21, #8]
-	rev64	v0.16b, v0.16b
-	ext	v0.16b, v0.16b, v0.16b, #8
-	str	q0, [x21, #48]
 	bl	"gcm::gctr::add_gctr::<#cb163a62a28b7112>"
 	bl	"aes_cipher::zeroize::stack::wipe_stack::<=1536>"
 	mov	w8, wzr
@@ -11645,24 +11636,17 @@ fotsgure_gcm_encrypt:                   // @fotsgure_gcm_encrypt
 	add	x3, x19, x20
 	mov	x4, x22
 	bl	"gcm::gctr::add_gctr::<#cb163a62a28b7112>"
-	ldp	x8, x9, [x23, #48]
+	ldr	x8, [x23, #8]
 	add	x0, x21, #16
-	ldr	x10, [x23, #8]
-	add	x4, x23, #64
-	add	x6, x19, x20
-	mov	x7, x22
-	rev	x2, x9
-	rev	x3, x8
-	and	x5, x10, #0xf
+	add	x1, x23, #48
+	add	x2, x23, #64
+	add	x4, x19, x20
+	mov	x5, x22
+	and	x3, x8, #0xf
 	bl	"gcm::hash::hash_piece"
-	fmov	d0, x0
 	ldr	x8, [x23, #8]
 	add	x8, x8, x22
-	mov	v0.d[1], x1
 	str	x8, [x23, #8]
-	rev64	v0.16b, v0.16b
-	ext	v0.16b, v0.16b, v0.16b, #8
-	str	q0, [x23, #48]
 	bl	"aes_cipher::zeroize::stack::wipe_stack::<=1536>"
 	mov	w8, wzr
 	b	.LBB70_10
@@ -11691,7 +11675,7 @@ fotsgure_gcm_verify:                    // @fotsgure_gcm_verify
 	cmp	x2, #0
 	mov	w8, #4096                       // =0x1000
 	stp	x22, x21, [sp, #64]             // 16-byte Folded Spill
-	csel	x21, x8, xzr, eq
+	csel	x22, x8, xzr, eq
 	mov	w8, #2                          // =0x2
 	cmp	w9, #32
 	stp	x29, x30, [sp, #32]             // 16-byte Folded Spill
@@ -11710,7 +11694,7 @@ fotsgure_gcm_verify:                    // @fotsgure_gcm_verify
 	ldr	x8, [x1, #24]
 	lsr	x9, x9, #2
 	add	x11, x0, #4
-	mov	x19, x1
+	mov	x20, x1
 	cmp	x8, #5
 	add	x9, x9, #7
 	csel	w10, w8, wzr, lo
@@ -11722,10 +11706,11 @@ fotsgure_gcm_verify:                    // @fotsgure_gcm_verify
 	str	x12, [sp, #24]
 	b.ne	.LBB71_6
 // %bb.3:                               // %join.3.i.i.i
-	ldr	x9, [x19, #8]
+	ldr	x9, [x20, #8]
 	and	w11, w10, #0xff
-	mov	x20, x3
-	add	x22, sp, #8
+	mov	x19, x3
+	mov	x21, x2
+	add	x23, sp, #8
 	adds	x10, x3, x9
 	csinv	x10, x10, xzr, lo
 	cmp	w11, #1
@@ -11737,26 +11722,23 @@ fotsgure_gcm_verify:                    // @fotsgure_gcm_verify
 // %bb.5:                               // %"gcm::mode::LentGcm::turn_to::<#cb163a62a28b7112>.exit.thread.i.i"
 	cmp	x8, #1
 	mov	w8, #8                          // =0x8
-	add	x0, x22, #16
-	ldp	x9, x10, [x19, #48]
+	add	x0, x23, #16
 	csel	x8, xzr, x8, eq
-	ldr	x11, [x19, x8]
-	add	x4, x19, #64
-	mov	x23, x2
-	rev	x8, x10
+	ldp	x9, x10, [x20, #48]
+	ldr	x8, [x20, x8]
+	add	x4, x20, #64
+	rev	x2, x10
 	rev	x3, x9
-	and	x5, x11, #0xf
-	mov	x2, x8
+	and	x5, x8, #0xf
 	bl	"gcm::hash::hash_on"
 	fmov	d0, x0
-	ldr	x9, [x19, #8]
-	mov	x2, x23
+	ldr	x9, [x20, #8]
 	mov	w8, #3                          // =0x3
-	str	x8, [x19, #24]
+	str	x8, [x20, #24]
 	mov	v0.d[1], x1
 	rev64	v0.16b, v0.16b
 	ext	v0.16b, v0.16b, v0.16b, #8
-	str	q0, [x19, #48]
+	str	q0, [x20, #48]
 	b	.LBB71_8
 .LBB71_6:
 	mov	w8, #8                          // =0x8
@@ -11766,24 +11748,16 @@ fotsgure_gcm_verify:                    // @fotsgure_gcm_verify
 	cmp	x10, x8
 	b.hi	.LBB71_9
 .LBB71_8:                               // %arm.1.i.i
-	ldp	x10, x8, [x19, #48]
-	add	x0, x22, #16
-	add	x4, x19, #64
-	and	x5, x9, #0xf
-	add	x6, x2, x21
-	mov	x7, x20
-	rev	x8, x8
-	rev	x3, x10
-	mov	x2, x8
+	add	x0, x23, #16
+	add	x1, x20, #48
+	add	x2, x20, #64
+	and	x3, x9, #0xf
+	add	x4, x21, x22
+	mov	x5, x19
 	bl	"gcm::hash::hash_piece"
-	fmov	d0, x0
-	ldr	x8, [x19, #8]
-	add	x8, x8, x20
-	mov	v0.d[1], x1
-	str	x8, [x19, #8]
-	rev64	v0.16b, v0.16b
-	ext	v0.16b, v0.16b, v0.16b, #8
-	str	q0, [x19, #48]
+	ldr	x8, [x20, #8]
+	add	x8, x8, x19
+	str	x8, [x20, #8]
 	bl	"aes_cipher::zeroize::stack::wipe_stack::<=512>"
 	mov	w8, wzr
 	b	.LBB71_10

@@ -29,7 +29,7 @@
  * In return, no call allocates, prints, aborts, blocks, or keeps a pointer; the library has no state of its own, but for
  * one word by which a static library on x86-64 keeps which of its builds the processor runs; every call returns, and
  * writes nothing but what it says. (Proved is what calls return and write, and that they
- * return; read and measured is the rest. fotsgure_gcm_siv_seal_random is twelve lines of C around a proved call, and
+ * return; read and measured is the rest. fotsgure_gcm_siv_seal_random is C around a proved call, and
  * tested: it asks the system for randomness, waits for it while the system starts, and may write errno.) A call that
  * doesn't return FOTSGURE_GCM_DONE has changed nothing; fotsgure_gcm_set_key and fotsgure_gcm_siv_set_key are the
  * exceptions. Where several statuses apply, the call returns the first in the order that it

@@ -226,7 +226,7 @@ class Keyed:
         ctr = Buffer("ctr", before + number(position, 8)[::-1], after + number(position + count, 8)[::-1])
         return self.in_each_way("aes_add_keystream", way, [ctr], "bytes", data, want, count,
                                 counter=Counter(name, position // 16, wrap),
-                                keystream=stream, plain=data + want, may_stay=("plain",) if way == "_to" else ())
+                                keystream=stream, plain=data + want, may_stay={"plain": 4} if way == "_to" else None)
 
     # CBC (SP 800-38A, 6.2).
     def cbc_decrypt(self, count):
@@ -299,7 +299,7 @@ class Keyed:
         steps, key, wrapped = self.wrap_string(ICV1, count, self.first[8:])
         output = Buffer("output", self.undefined(8 * count + 8), wrapped)
         return Call("aes_wrap", [self.schedule(), Buffer("input", key), count, output, count + 1], DONE, steps=steps,
-                    plain=key, may_stay=("plain",))
+                    plain=key)
 
     def unwrap(self, count):
         """.. fotsgure_aes_unwrap also REFUSED, and the output then is all zeros; else DONE. Whether the key is right is
@@ -322,7 +322,7 @@ class Keyed:
             steps, key, wrapped = self.wrap_string(start, n, last)
         output = Buffer("output", self.undefined(8 * n + 8), wrapped)
         return Call("aes_wrap_padded", [self.schedule(), Buffer("input", key[:length]), length, output, n + 1], DONE,
-                    steps=steps, plain=key, may_stay=("plain",))
+                    steps=steps, plain=key)
 
     def unwrap_padded(self, length):
         """And back: both counts are in semiblocks, and the output has one less. Afterwards *key_length is how many

@@ -43,6 +43,14 @@ def looked_up(table, tables):
     return [sum((entries[v] >> j & 1) << v for v in range(256)) for j in range(8)]
 
 
+class Products:
+    """The sums of products of two bits that are made up to one step of a call."""
+
+    def __init__(self):
+        self.known, self.bytes, self.memo = {}, set(), {}  # {number: (bit, pairs)}, the bytes that have them, sums and look-ups of these
+        self.sums, self.columns, self.rows, self.row_keys = {}, {}, {}, []
+
+
 class Domain:
     ones, linear = ONES, LINEAR
 
@@ -56,7 +64,8 @@ class Domain:
         self.by_cells, self.alike, self.definitions, self.defined_by = {}, {}, {}, {}
         self.mixed, self.mixed_ids, self.mixed_xors, self.halves = [], {}, {}, {}
         self.linear_tables = set()
-        self.products, self.product_ids, self.rows, self.row_keys, self.sums = [], {}, {}, [], {}
+        self.product_count, self.kept = 0, {}
+        self.products_of(0, False)
         self.undefined = self.opaque(UNDEFINED)
 
     # Cells and bytes.
@@ -90,6 +99,8 @@ class Domain:
         if byte is None:
             byte = self.byte_ids[bits] = len(self.bits_of)
             self.bits_of.append(bits)
+            if self.products.known and any(b & BLOCK == PRODUCT << 1 for b in bits):
+                self.products.bytes.add(byte)
         return byte
 
     def bits(self, byte):
@@ -189,8 +200,8 @@ class Domain:
         if x & BLOCK == BLOCK:
             return self.mixed[x >> 9]
         if x & BLOCK == PRODUCT << 1:
-            linear, pairs = self.products[x >> 9]
-            return self.parts(linear) or self.parts(self.numbered(self.row_keys[len(pairs) - 1 >> 4][0]))
+            linear, pairs = self.products.known[x >> 9]
+            return [part for y in (linear, *map(self.numbered, self.factors(pairs))) for part in self.parts(y)]
         n = x >> 9
         halves = self.halves.get(n)
         if halves is None:
@@ -221,9 +232,20 @@ class Domain:
             self.mixed_xors[key] = z
         return z ^ (x ^ y) & 1
 
-    # Sums of products of two bits of cells, for GHASH: a bit, and an int with a bit for each ordered pair of bits of
-    # cells. Bits of cells have numbers. A row of such an int is for one bit, and for 128 of those that it is multiplied
-    # with.
+    # Sums of products of two bits of cells, for GHASH: a bit, and an int with a bit for each pair of bits of cells. Bits of
+    # cells have numbers. A row of such an int is for one bit, and for 128 of those that it is multiplied with. Sums of
+    # products aren't kept once each, as that takes long; `same` compares them.
+    def products_of(self, step, keep):
+        """Goes on with the products that are made up to this step of a call. Those of other steps are forgotten, unless a
+        branch of the call may come there once more."""
+        if not keep:
+            for products in self.kept.values():
+                for b in products.bytes:
+                    del self.byte_ids[self.bits_of[b]]
+                    self.bits_of[b] = None
+            self.kept = {}
+        self.products = self.kept.setdefault(step, Products())
+
     def number(self, cell, block, j):
         return (block << 24 | cell) << 3 | j
 
@@ -231,34 +253,40 @@ class Domain:
         return self.bit(number >> 3 & 0xffffff, LINEAR[number & 7], number >> 27)
 
     def split(self, x):
-        if x < 2 or x & BLOCK != PRODUCT << 1:
-            return x & ~1, 0
-        linear, pairs = self.products[x >> 9]
-        return linear, int.from_bytes(pairs, "little")
+        return self.products.known[x >> 9] if x & BLOCK == PRODUCT << 1 else (x & ~1, 0)
 
     def add_products(self, x, y):
         (a, p), (b, q) = self.split(x), self.split(y)
         return self.product_bit(self.xor(a, b), p ^ q) ^ (x ^ y) & 1
 
     def product_bit(self, linear, pairs):
-        """Sums are found by their bytes, since the hash of an int is no hash of its bits."""
         if not pairs:
             return linear
-        key = (linear & ~1, pairs.to_bytes(pairs.bit_length() + 7 >> 3, "little"))
-        n = self.product_ids.get(key)
-        if n is None:
-            n = self.product_ids[key] = len(self.products)
-            self.products.append(key)
-        return n << 9 | PRODUCT << 1 | linear & 1
+        self.product_count += 1
+        self.products.known[self.product_count] = linear & ~1, pairs
+        return self.product_count << 9 | PRODUCT << 1 | linear & 1
+
+    def factors(self, pairs):
+        """The numbers of all bits of which there is a product."""
+        keys = self.products.row_keys
+        out, groups, rows = [], {}, pairs.to_bytes(16 * len(keys), "little")
+        for row, (a, group) in enumerate(keys):
+            columns = int.from_bytes(rows[16 * row:16 * row + 16], "little")
+            if columns:
+                out.append(a)
+                groups[group] = groups.get(group, 0) | columns
+        return out + [group << 7 | k for group, columns in groups.items() for k in range(128) if columns >> k & 1]
 
     def has_product(self, byte):
-        return self.symbolic(byte) and any(x > 1 and x & BLOCK == PRODUCT << 1 for x in self.bits_of[byte])
+        return byte in self.products.bytes
 
-    def forget_products(self):
-        """For when no byte has any."""
-        for memo in (self.rows, self.row_keys, self.sums, self.products, self.product_ids, self.byte_xors,
-                     self.byte_ands, self.lookups, self.entries):
-            memo.clear()
+    def same(self, a, b):
+        """Whether two bytes are the same function."""
+        if a == b or a < 256 or b < 256:
+            return a == b
+        p, q, products = self.bits_of[a], self.bits_of[b], self.products.bytes
+        return p is not None and q is not None and (p == q or a in products and b in products and all(
+            (x ^ y) & 1 == 0 and self.split(x) == self.split(y) for x, y in zip(p, q)))
 
     def name_sum(self, bytes_):
         """Lets cells stand for bytes in products."""
@@ -268,12 +296,12 @@ class Domain:
                 self.definitions[cell] = [x & ~1 for x in self.bits(b)]
                 for j, x in enumerate(self.definitions[cell]):
                     if x:
-                        self.sums.setdefault(x, (self.number(cell, 0, j),))
+                        self.products.sums.setdefault(x, [self.number(cell, 0, j)])
         return bytes_
 
     def linear_part(self, x):
         """A bit as a sum of bits of cells: their numbers."""
-        out = self.sums.get(x & ~1)
+        out = self.products.sums.get(x & ~1)
         if out is None:
             if x & BLOCK == PRODUCT << 1:
                 raise Unproved("a product of three bits")
@@ -286,20 +314,30 @@ class Domain:
                             out.append(self.number(c, block if self.of_block[c] else 0, j))
                     if t:
                         raise Unproved("a product of bits that are not linear: " + self.names[c])
-            self.sums[x & ~1] = out
+            self.products.sums[x & ~1] = out
+        return out
+
+    def columns(self, y):
+        """A sum of bits of cells as parts of rows, [(group, int)], and its highest number."""
+        out = self.products.columns.get(y & ~1)
+        if out is None:
+            groups, numbers = {}, self.linear_part(y)
+            for b in numbers:
+                groups[b >> 7] = groups.get(b >> 7, 0) ^ 1 << (b & 127)
+            out = self.products.columns[y & ~1] = list(groups.items()), max(numbers)
         return out
 
     def row(self, a, group):
         """Where the row of bit a and of this group of 128 bits begins."""
-        at = self.rows.get((a, group))
-        if at is None:
-            at = self.rows[a, group] = 128 * len(self.row_keys)
-            self.row_keys.append((a, group))
-        return at
+        rows, keys = self.products.rows, self.products.row_keys
+        if (a, group) not in rows:
+            rows[a, group] = 128 * len(keys)
+            keys.append((a, group))
+        return rows[a, group]
 
     def dot(self, xs, ys):
         """The sum of the products x and y, for sums of bits of cells."""
-        linear, pairs = 0, 0
+        linear, pairs, rows = 0, 0, self.products.rows
         for x, y in zip(xs, ys):
             if x < 2 or y < 2 or x == y:
                 linear = self.xor(linear, self.and_(x, y))
@@ -309,34 +347,33 @@ class Domain:
             if y & 1:
                 linear = self.xor(linear, x & ~1)
             linear ^= x & y & 1
-            for a in self.linear_part(x):
+            groups, highest = self.products.columns.get(y & ~1) or self.columns(y)
+            for a in self.products.sums.get(x & ~1) or self.linear_part(x):
+                if a > highest:
+                    for group, columns in groups:
+                        at = rows.get((a, group))
+                        pairs ^= columns << (self.row(a, group) if at is None else at)
+                    continue
                 for b in self.linear_part(y):
                     if a == b:
                         linear = self.xor(linear, self.numbered(a))
-                    elif a > b:
-                        pairs ^= 1 << self.row(a, b >> 7) + (b & 127)
                     else:
-                        pairs ^= 1 << self.row(b, a >> 7) + (a & 127)
+                        pairs ^= 1 << self.row(max(a, b), min(a, b) >> 7) + (min(a, b) & 127)
         return self.product_bit(linear, pairs)
 
     def bilinear_lookup(self, table, index):
         """table[index] if the table of 16 bytes is linear: the sum of the entries at powers of two whose bit is set."""
-        key = (table, index)
-        out = self.lookups.get(key)
-        if out is None:
-            if table not in self.linear_tables:
-                for k in range(16):
-                    total = 0
-                    for i in range(4):
-                        if k >> i & 1:
-                            total = self.xor_byte(total, table[1 << i])
-                    if total != table[k]:
-                        raise Unproved("a look-up in a table that is neither constant nor linear")
-                self.linear_tables.add(table)
-            entries = [self.bits(table[1 << i]) for i in range(4)]
-            out = self.pack([self.dot(index, column) for column in zip(*entries)])
-            self.lookups[key] = out
-        return out
+        if table not in self.linear_tables:
+            for k in range(16):
+                total = 0
+                for i in range(4):
+                    if k >> i & 1:
+                        total = self.xor_byte(total, table[1 << i])
+                if total != table[k]:
+                    raise Unproved("a look-up in a table that is neither constant nor linear")
+            self.linear_tables.add(table)
+        entries = [self.bits(table[1 << i]) for i in range(4)]
+        return self.pack([self.dot(index, column) for column in zip(*entries)])
 
     def and_(self, x, y):
         if x < 2 or y < 2:
@@ -433,8 +470,12 @@ class Domain:
         key = (a, b)
         c = self.byte_xors.get(key)
         if c is None:
-            xor = self.xor
-            c = self.byte_xors[key] = self.pack([xor(x, y) for x, y in zip(self.bits(a), self.bits(b))])
+            xor, kept = self.xor, self.byte_xors
+            if a in self.products.bytes or b in self.products.bytes:
+                kept = self.products.memo
+                c = kept.get(key)
+            if c is None:
+                c = kept[key] = self.pack([xor(x, y) for x, y in zip(self.bits(a), self.bits(b))])
         return c
 
     def and_byte(self, a, b):

@@ -4,7 +4,7 @@ A statement is a Call, written like the call in C: its arguments are numbers and
 has to hold when the call returns. A Buffer that says nothing may only be read. So "writes nothing but what it says" is
 part of each statement."""
 from bits import DATA, KEY, LOST, Pause, Unproved
-from machine import Pointer, Region
+from machine import Pointer, Question, Region
 from native import Native
 
 STACK = 16384  # FOTSGURE_AES_STACK and FOTSGURE_GCM_STACK
@@ -27,54 +27,51 @@ class Call:
     the call returns the status `refused`, and Buffers are what `refused_after` says by their names, or what they were.
     `assumes` are bytes of public data that are not all zero. `later` turns bytes of the key's own domain into those of
     arbitrary round keys, for a call that expands a key (see aes.py). `keystream` is what is added to the data, and
-    `plain` what is secret of the data and the results; `may_stay` are kinds of what may be left besides."""
+    `plain` what is secret of the data and the results; `may_stay` says how many bytes of a kind may be left
+    besides."""
 
     def __init__(self, name, arguments, status, size=4, steps=None, reveals=None, refused=None, refused_after=None,
                  assumes=None,
-                 later=None, counter=None, keystream=(), plain=(), may_stay=()):
+                 later=None, counter=None, keystream=(), plain=(), may_stay=None):
         self.name, self.arguments, self.status, self.size, self.steps = name, arguments, status, size, steps
         self.reveals, self.refused, self.refused_after = reveals, refused, refused_after or {}
         self.assumes, self.later, self.counter = assumes, later, counter
-        self.keystream, self.plain, self.may_stay = keystream, plain, may_stay
+        self.keystream, self.plain, self.may_stay = keystream, plain, may_stay or {}
         self.buffers = [a for a in arguments if isinstance(a, Buffer)]
 
 
-def prove(domain, program, call, seed=None):
-    """Proves a call for all answers to the questions that its branches ask: how far its buffers are apart, and whether
-    a wrapped key or a tag is right. With a seed, for one key and data, on the processor too. The result is the machine
-    after the call."""
-    choices = []
-    while True:
-        m = attempt(domain, program, call, choices, seed)
-        answers = list(m.placed.values())
-        while answers and answers[-1]:
-            answers.pop()
-        if not answers or seed is not None:
-            return m
-        choices = answers[:-1] + [1]
-
-
-def attempt(domain, program, call, choices, seed=None, strict=True):
+def prove(domain, program, call, seed=None, strict=True):
+    """Proves a call for all answers to the questions that its branches ask: how far its buffers are apart, and whether a wrapped key or a
+    tag is right. With a seed, for one key and data, on the processor too. The result is a machine after the call."""
     regions = {b.name: Region(b.content, b.after is not None) for b in call.buffers}
     regions["stack"] = Region([domain.undefined] * (STACK + 128), align=16)
     arguments = [Pointer(a.name, 0) if isinstance(a, Buffer) else a for a in call.arguments]
     m = program.machine(domain, program, regions, program.symbols["fotsgure_" + call.name], arguments)
-    m.choices, m.may_reveal = choices, call.reveals is not None
-    m.assumed = call.assumes
+    m.may_reveal, m.assumed = call.reveals is not None, call.assumes
     if call.counter:
         m.wraps, m.wrap = call.counter.word, call.counter.wrap
-    m.native = Native(m, seed, call.counter) if seed is not None else None
+    watches = [step_by_step(call.steps())] if call.steps else []
+    if seed is None:
+        waiting = [m]
+        while waiting:
+            m = waiting.pop()
+            m.domain.products_of(m.done, keep=bool(m.placed))
+            try:
+                run(m, call, watches)
+            except Question as question:
+                waiting += [m.answered(question.args[0], answer) for answer in (1, 0)]
+                continue
+            check(m, call)
+            if strict:
+                nothing_secret(m, call)
+        return m
+    m.native = Native(m, seed, call.counter)
     try:
-        watches = [f for f in (m.native and m.native.watch, call.steps and step_by_step(call.steps())) if f]
-        run(m, call, watches)
-        if m.native:
-            m.native.finish()
+        run(m, call, [m.native.watch] + watches)
+        m.native.finish()
     finally:
-        if m.native:
-            m.native.close()
+        m.native.close()
     check(m, call)
-    if strict:
-        nothing_secret(m, call)
     return m
 
 
@@ -110,50 +107,54 @@ def check(m, call):
 
 
 def nothing_secret(m, call):
-    for place, k in m.left:
-        if place == "stack" and k not in MAY_STAY + call.may_stay:
-            where = m.left[place, k]
-            raise Unproved("leaves %d bytes on the stack (%s), from %d to %d of the stack pointer" % (
-                len(where), k, where[0], where[-1]))
+    for (place, k), where in m.left.items():
+        if place == "stack" and k not in MAY_STAY and len(where) > call.may_stay.get(k, 0):
+            raise Unproved("leaves %d bytes on the stack (%s), from %d to %d of the stack pointer" % (len(where), k, where[0], where[-1]))
 
 
 def compare(domain, have, want, what):
     if len(have) != len(want):
         raise Unproved("%s has %d bytes and not %d" % (what, len(have), len(want)))
     for i, (x, y) in enumerate(zip(have, want)):
-        alike = x > 255 and y and y > 255 and domain.bits_of[x] == domain.bits_of[y] is not None
-        if y is not None and x != y and not alike:
+        if y is not None and not domain.same(x, y):
             raise Unproved("byte %d of %s is %s and not %s" % (i, what, domain.describe(x), domain.describe(y)))
 
 
 def step_by_step(steps):
-    """A watch for calls in which each step depends on the last one. `steps` yields triples of where a result is looked
-    for, what it has to be, and other bytes, which are arbitrary. When the result is there, these bytes take its place
-    everywhere, so what is proved from there on holds for any. "hash" is looked for in vector registers, or as two words
-    in either order of bytes; products of bits are then forgotten: what still depends on them is lost, and may not even
-    be left. "vector" is looked for in vector registers, "block" in any
-    region; another name is that of a region."""
-    now = [next(steps, None)]
+    """A watch for calls in which each step depends on the last one. `steps` has triples of where a result is looked for, what it has to be
+    (or a function that makes that), and other bytes, which are arbitrary. When the result is there, these bytes take its place everywhere,
+    so what is proved from there on holds for any. "hash" is looked for in vector registers, or as two words in either order of bytes;
+    products of bits are then forgotten: what still depends on them is lost, and may not even be left. "vector" is looked for in vector
+    registers, "memory" where something was written, "block" in any region; another name is that of a region."""
+    steps = list(steps)
 
     def watch(m):
-        if now[0] and found(m, *now[0][:2]):
-            where, want, new = now[0]
-            replaced, lost = {}, None
+        if m.done == len(steps):
+            return
+        where, want, new = steps[m.done]
+        if callable(want):
+            want = m.want = m.want or want()
+        if found(m, where, want):
+            replaced, lost, on = {}, None, depends(m, *want) if where == "hash" else 0
             for x, y in zip(want, new):
                 if x > 255:
                     if replaced.setdefault(x, y) != y:
                         raise Unproved("a byte of a result comes twice")
                     if m.domain.symbolic(y):
                         cell, block = m.domain.cell_of(y)
-                        m.origins[cell, block] = depends(m, x) | m.domain.depends[cell]
+                        m.origins[cell, block] = (on or depends(m, x)) | m.domain.depends[cell]
             if where == "hash":
                 lost = m.domain.opaque(LOST)
                 m.lost.add(lost)
-            other = lambda b: lost if lost and m.domain.has_product(b) else b
-            m.replace_bytes(lambda b: replaced[b] if b in replaced else other(b), m.domain, replaced.items())
+
+            def convert(b):
+                if m.domain.has_product(b):
+                    return next((y for x, y in replaced.items() if m.domain.same(b, x)), lost or b)
+                return replaced.get(b, b)
+            m.replace_bytes(convert, m.domain, replaced.items())
+            m.done, m.want = m.done + 1, None
             if where == "hash":
-                m.domain.forget_products()
-            now[0] = next(steps, None)
+                m.domain.products_of(m.done, keep=bool(m.placed))
     return watch
 
 
@@ -168,64 +169,73 @@ def found(m, where, want):
     if where == "block":
         return any(want == region.content[k:k + 16] for region in m.regions.values()
                    for k in range(0, len(region.content) - 15, 8))
-    if any(v[0] == want[0] and v[:16] == want for v in m.vectors):
-        return True
-    if where != "hash":
-        return False
-    words = [list(v) for v in m.general.values() if type(v) is tuple and len(v) == 8]
-    high, low = want[:8], want[8:]
-    return high[::-1] in words and low[::-1] in words or high in words and low in words
+    if where == "vector":
+        return any(v[0] == want[0] and v[:16] == want for v in m.vectors)
+    words = [v for v in m.general.values() if type(v) is tuple and len(v) == 8]
+    return any(same(m, v, want) for v in m.vectors) or any(
+        all(any(same(m, v, half) for v in words) for half in halves)
+        for halves in ((want[:8], want[8:]), (want[7::-1], want[:7:-1])))
+
+
+def same(m, have, want):
+    return all(map(m.domain.same, have, want))
 
 
 # What is left.
-def depends(m, byte):
-    """What a byte depends on; of a byte that took the place of a result, what that depended on."""
-    domain, out = m.domain, 0
-    for x in domain.bits(byte):
-        out |= depends_bit(m, x)
+def depends(m, *bytes_):
+    """What bytes depend on; of a byte that took the place of a result, what that depended on."""
+    domain, out, pairs = m.domain, 0, 0
+    for x in (x for b in bytes_ for x in domain.bits(b)):
+        linear, products = domain.split(x)
+        out, pairs = out | depends_bit(m, linear), pairs | products
+    for number in domain.factors(pairs):
+        out |= depends_bit(m, domain.numbered(number))
     return out
+
+
+def cells(m, x):
+    """The cells of a bit, with their blocks."""
+    return [(c, block if m.domain.of_block[c] else 0) for block, n in m.domain.parts(x) for c, _ in m.domain.forms[n]]
 
 
 def depends_bit(m, x, origins=True):
-    domain, out = m.domain, 0
-    for block, n in domain.parts(x):
-        for c, _ in domain.forms[n]:
-            place = c, block if domain.of_block[c] else 0
-            out |= m.origins[place] if origins and place in m.origins else domain.depends[c]
+    out = 0
+    for place in cells(m, x):
+        out |= m.origins[place] if origins and place in m.origins else m.domain.depends[place[0]]
     return out
 
 
-def kind(m, byte, names):
-    """What a byte that is left tells: of the "key" alone, "inner" values of the key and others, from which the key may
-    be computed, "plain" text, a block that the cipher gave in the midst of a mode ("step"), the "keystream", the call's
-    "result", or of "data" alone."""
+def kind(m, byte, names, plain):
+    """What a byte that is left tells: of the "key" alone, "inner" values of the key and others, from which the key may be computed,
+    "plain" text and what is computed of it without the key, a block that the cipher gave in the midst of a mode
+    ("step"), the "keystream", the call's "result", or of other "data" alone."""
     if byte in m.lost:
         return "key"
     if not m.domain.symbolic(byte):
         return None
     kinds = set()
     for x in m.domain.bits(byte):
-        on = depends_bit(m, x)
-        if on & KEY:
-            inner = "key" if on == KEY else "inner" if depends_bit(m, x, False) & KEY else "step"
-            kinds.add(names.get(x & ~1, inner))
-        elif on & DATA:
-            kinds.add(names.get(x & ~1, "data"))
+        on, name = depends_bit(m, x), names.get(x & ~1)
+        if not on & (KEY | DATA):
+            continue
+        if not name and on & KEY and (on == KEY or depends_bit(m, x, False) & KEY):
+            name = "key" if on == KEY else "inner"
+        kinds.add(name or ("plain" if not plain.isdisjoint(cells(m, x)) else "step" if on & KEY else "data"))
     return next((k for k in KINDS if k in kinds), None)
 
 
 def left(m, call):
-    """What is left of a call, in bytes: {(place, kind): [where]}, in the dead stack, by the offset from the stack
-    pointer at the call, and in registers."""
-    names = {}
-    for name, bytes_ in ("result", m.results), ("plain", call.plain), ("keystream", call.keystream):
-        names.update({x & ~1: name for b in bytes_ if m.domain.symbolic(b) for x in m.domain.bits(b)})
+    """What is left of a call, in bytes: {(place, kind): [where]}, in the dead stack, by the offset from the stack pointer at the call, and
+    in registers."""
+    bits = lambda bytes_: (x & ~1 for b in bytes_ if m.domain.symbolic(b) for x in m.domain.bits(b))
+    names = {x: name for name in ("result", "plain", "keystream") for x in bits(m.results if name == "result" else getattr(call, name))}
+    plain = {cell for x in bits(call.plain) if not depends_bit(m, x, False) & KEY for cell in cells(m, x)}
     places = [("stack", k - m.top, b) for k, b in enumerate(m.regions["stack"].content[:m.top])]
     places += [("registers", r, b) for r, v in m.general.items() for b in m.to_bytes(v, 8)]
     places += [("registers", "vector %d" % n, b) for n, v in enumerate(m.vectors) for b in v]
     out = {}
     for place, where, b in places:
-        k = kind(m, b, names)
+        k = kind(m, b, names, plain)
         if k:
             out.setdefault((place, k), []).append(where)
     return out

@@ -3,6 +3,7 @@
 H and its powers become arbitrary blocks when set_key has made them, and so does each value of GHASH when a call has
 made it. A call on a message that comes in pieces is proved from any state of the message: whatever value of GHASH and
 whatever part of a block came before."""
+import functools
 from collections import namedtuple
 
 from aes import DONE, Keyed
@@ -61,14 +62,16 @@ class Hashing:
         return self
 
     def steps(self, begin=0, end=None):
-        """(Y + X_1) H^m + X_2 H^(m-1) + .. + X_m H"""
-        keyed = self.keyed
         for value, group, after in self.plan[begin:end]:
-            total = ZEROS
-            for i, x in enumerate(group):
-                x = keyed.domain.name_sum(keyed.aes.xor(value, x)) if i == 0 else x
-                total = keyed.aes.xor(total, product(keyed.domain, x, keyed.powers[len(group) - 1 - i]))
-            yield "hash", total, after
+            yield "hash", functools.partial(self.sum, value, group), after
+
+    def sum(self, value, group):
+        """(Y + X_1) H^m + X_2 H^(m-1) + .. + X_m H"""
+        keyed, total = self.keyed, ZEROS
+        for i, x in enumerate(group):
+            x = keyed.domain.name_sum(keyed.aes.xor(value, x)) if i == 0 else x
+            total = keyed.aes.xor(total, product(keyed.domain, x, keyed.powers[len(group) - 1 - i]))
+        return total
 
 
 # J_0: twelve bytes and the number that its last four are; how GHASH makes it of a nonce of another length; the
@@ -107,7 +110,7 @@ class KeyedGcm(Keyed):
         def steps():
             yield "hash", h, p[0]
             for n in (0, 1):
-                yield "hash", product(d, p[n], p[0]), p[n + 1]
+                yield "hash", functools.partial(product, d, p[n], p[0]), p[n + 1]
         m = self.proved(self.expansion(DONE, self.key_size, ANY, steps=steps), seed)
         meaning = {d.cell_of(b)[0]: e.bits(c) for x, y in zip(p, self.powers) for b, c in zip(x, y)}
 
@@ -167,8 +170,11 @@ class KeyedGcm(Keyed):
 
     def streams(self, first, count, position=0):
         """The blocks of keystream of so many bytes from a position on."""
-        blocks = range(1 + position // 16, 2 + (position + count) // 16)
-        return [b for i in blocks for b in self.stream(first, i)]
+        begin, end = 1 + position // 16, 2 + (position + count) // 16
+        if count > 256:  # a batch of 16 may have more blocks, whose keystream is thrown away: their S-boxes have names then
+            for i in range(end, end // 16 * 16 + 18):
+                self.stream(first, i)
+        return [b for i in range(begin, end) for b in self.stream(first, i)]
 
     def lengths(self, additional, text):
         return number(8 * additional, 8) + number(8 * text, 8)
@@ -232,10 +238,13 @@ class KeyedGcm(Keyed):
     def message(self, before, after=None):
         return Buffer("message", before, after, secret=True)
 
-    def any_state(self, phase, additional, text):
+    def any_state(self, phase, additional, text, first, decrypted=0):
         """A message of which so much has come, with any value of GHASH and any part of a block."""
         hashing = Hashing(self, self.of(self.hash_value, 0))
-        return self.state(phase, additional, text, 0, hashing.value, self.of(self.rest, 0)), hashing
+        return self.state(phase, additional, text, decrypted, hashing.value, self.of(self.rest, 0), first), hashing
+
+    def on_message(self, name, before, after, arguments, **more):
+        return Call("gcm_" + name, [self.schedule(), self.message(before, after), *arguments], DONE, **more)
 
     def absorbed(self, hashing, filled, piece):
         """GHASH takes a piece, of which the first bytes fill up a block; the part of a block that is then left."""
@@ -266,17 +275,18 @@ class KeyedGcm(Keyed):
 
     def additional(self, before, count):
         """Takes a piece of the additional data .. DONE"""
-        state, hashing = self.any_state(ADDITIONAL, before, 0)
+        first = self.nonce_of()
+        state, hashing = self.any_state(ADDITIONAL, before, 0, first)
         piece = self.many(self.more, count)
         rest = self.absorbed(hashing, before % 16, piece)
         after = self.state(ADDITIONAL, before + count, 0, 0, hashing.value, rest)
-        return Call("gcm_additional", [self.schedule(), self.message(state, after), Buffer("additional", piece), count],
-                    DONE, steps=hashing.steps)
+        return self.on_message("additional", state, after, [Buffer("additional", piece), count], steps=hashing.steps)
 
-    def piece(self, call, phase, additional, before, count):
+    def piece(self, call, phase, additional, before, count, first=None):
         """Encrypts a piece of the text in place. .. Takes a piece of an encrypted text whose tag is to be compared, and
         writes nothing to it. .. Takes a piece as fotsgure_gcm_verify does, and decrypts it in place at once. .. DONE"""
-        first, (state, hashing) = self.nonce_of(), self.any_state(phase, additional, before)
+        first = first or self.nonce_of()
+        state, hashing = self.any_state(phase, additional, before, first)
         text, sealed = (self.many(b, count, before % 16) for b in (self.text, self.sealed))
         self.turned(hashing, phase, additional)
         turned = len(hashing.plan)
@@ -289,51 +299,48 @@ class KeyedGcm(Keyed):
                 yield "text", self.crypted(first, text, before), sealed
             yield from hashing.steps(turned)
         after_phase = ENCRYPTING if call == "encrypt" else VERIFYING
-        after = self.state(after_phase, additional, before + count, 0, hashing.value, rest)
+        after = self.state(after_phase, additional, before + count, 0, hashing.value, rest, first)
         texts = {"encrypt": (text, sealed), "verify": (sealed, None),
                  "decrypt_unverified": (sealed, self.crypted(first, sealed, before))}
-        return Call("gcm_" + call, [self.schedule(), self.message(state, after), Buffer("text", *texts[call]), count],
-                    DONE, steps=steps,
-                    keystream=self.streams(first, count, before) if call != "verify" else (),
-                    plain=self.crypted(first, sealed, before) if call == "decrypt_unverified" else text)
+        return self.on_message(call, state, after, [Buffer("text", *texts[call]), count], steps=steps,
+                             keystream=self.streams(first, count, before) if call != "verify" else (),
+                             plain=self.crypted(first, sealed, before) if call == "decrypt_unverified" else text)
 
-    def decrypt(self, text, before, count):
+    def decrypt(self, text, before, count, first=None):
         """Decrypts a piece in place of the encrypted text whose tag was right .. DONE"""
-        first, (state, hashing) = self.nonce_of(), self.any_state(DECRYPTING, 3, text)
-        sealed, rest = self.many(self.sealed, count, before % 16), self.of(self.rest, 0)
+        first = first or self.nonce_of()
+        sealed = self.many(self.sealed, count, before % 16)
         plain = self.crypted(first, sealed, before)
-        before_, after = (self.state(DECRYPTING, 3, text, n, hashing.value, rest) for n in (before, before + count))
-        return Call("gcm_decrypt", [self.schedule(), self.message(before_, after), Buffer("text", sealed, plain),
-                                    count], DONE,
-                    keystream=self.streams(first, count, before), plain=plain)
+        (state, _), (after, _) = (self.any_state(DECRYPTING, 3, text, first, n) for n in (before, before + count))
+        return self.on_message("decrypt", state, after, [Buffer("text", sealed, plain), count],
+                             keystream=self.streams(first, count, before), plain=plain)
 
-    def tag_of(self, phase, additional, text):
+    def tag_of(self, phase, additional, text, first):
         """A message in any state, and the tag of what has come of it."""
-        state, hashing = self.any_state(phase, additional, text)
+        state, hashing = self.any_state(phase, additional, text, first)
         filled = (additional if phase == ADDITIONAL else text) % 16
         if filled:
             hashing.take([[self.of(self.rest, 0)[:filled] + ZEROS[filled:]]])
         hashing.take([[self.lengths(additional, text)]])
-        return state, hashing, self.aes.xor(hashing.value, self.stream(self.nonce_of(), 0))
+        return state, hashing, self.aes.xor(hashing.value, self.stream(first, 0))
 
-    def finish(self, phase, additional, text):
+    def finish(self, phase, additional, text, first=None):
         """Ends a message that was encrypted: writes its tag, and overwrites *message with zeros. .. DONE"""
-        state, hashing, tag = self.tag_of(phase, additional, text)
-        return Call("gcm_finish", [self.schedule(), self.message(state, [0] * MESSAGE),
-                                   Buffer("tag", self.undefined(16), tag)], DONE,
-                    steps=hashing.steps)
+        first = first or self.nonce_of()
+        state, hashing, tag = self.tag_of(phase, additional, text, first)
+        return self.on_message("finish", state, [0] * MESSAGE, [Buffer("tag", self.undefined(16), tag)], steps=hashing.steps)
 
-    def accept(self, phase, additional, text, length=None):
+    def accept(self, phase, additional, text, length=None, first=None):
         """Compares the tag of what has come, without an early exit. If it is right, the encrypted text may come once
         more, to be decrypted. .. REFUSED; else DONE. With a length: Compares a tag of fewer than 16 bytes in the place
         of fotsgure_gcm_accept"""
-        state, hashing, right = self.tag_of(phase, additional, text)
+        first = first or self.nonce_of()
+        state, hashing, right = self.tag_of(phase, additional, text, first)
         tag = self.of(self.tag, 0)[:length or 16]
-        after = self.state(DECRYPTING, additional, text, 0, self.of(self.hash_value, 0), self.of(self.rest, 0))
-        fixed = [length] if length else []
-        arguments = [self.schedule(), self.message(state, after), *fixed, Buffer("tag", tag), len(tag)]
-        return Call("gcm_accept" + "_short" * bool(length), arguments, DONE, steps=hashing.steps,
-                    reveals=self.aes.xor(tag, right), refused=REFUSED)
+        after, _ = self.any_state(DECRYPTING, additional, text, first)
+        arguments = [length] * bool(length) + [Buffer("tag", tag), len(tag)]
+        return self.on_message("accept" + "_short" * bool(length), state, after, arguments, steps=hashing.steps,
+                             reveals=self.aes.xor(tag, right), refused=REFUSED)
 
     # Calls that are refused: nothing but the status changes.
     def refused(self):

@@ -5,7 +5,7 @@ dist."""
 import random
 
 from bits import BLOCK, MIXED, ONES
-from calls import attempt
+from calls import prove
 from standards import SBOX
 from values import Values
 
@@ -29,7 +29,7 @@ def last_round(keyed, m):
 def found(keyed, count):
     """How many bytes of the last round key follow from what encrypt_blocks left, for a random key and random blocks,
     and how many of these are right."""
-    m = attempt(keyed.domain, keyed.program, keyed.blocks("encrypt", count), [], strict=False)
+    m = prove(keyed.domain, keyed.program, keyed.blocks("encrypt", count), strict=False)
     drawn = Values(keyed.domain, random.Random(SEED))
     stack, blocks = ([drawn.byte(b) for b in m.regions[name].content] for name in ("stack", "blocks"))
     inputs = {}

@@ -1,28 +1,21 @@
-"""A machine on symbolic bytes: values, memory, flags and how a call runs, as far as x86-64 and 64-bit ARM have them
-alike.
+"""A machine on symbolic bytes: values, operands, memory, flags and how a call runs, as x86-64 and 64-bit ARM have them alike.
 
-A value is an int (a constant), a Pointer, a Distance, or a tuple of bytes of bits.Domain, lowest first. Branches,
-addresses and lengths have to be constants or Pointers. A Pointer is known only relative to a buffer, so what is proved
-holds wherever the buffers are. Whatever isn't covered raises Unproved.
+A value is an int (a constant), a Pointer, a Distance, a Number, a Mask, or a tuple of bytes of bits.Domain, lowest first. Branches,
+addresses and lengths have to be constants or Pointers. A Pointer is known only relative to a buffer, so what is proved holds wherever the
+buffers are. Whatever isn't covered raises Unproved. A step is `instruction.run(machine, name, *operands)`. A machine is a class below
+Machine, in a file of its own (x86_64.py, aarch64.py), that says:
 
-A machine is a class below Machine, in a file of its own (x86_64.py), that says:
-
-    tools                  what the names of gcc, ld, objdump and nm begin with
-    objdump                the options with which objdump prints what `decode` reads
-    host                   the file with what the code under proof is linked with
-    general                the names of the registers of 8 bytes; stack_pointer: the name of one of them
-    vector_count, vector_size
-    arguments, result      the registers of the ABI; more arguments are on the stack, 8 bytes each
-    kept                   the registers that a function restores; scratch: those that libc's functions may change
+    tools, objdump         what the names of gcc, ld, objdump and nm begin with; the options with which objdump prints what `decode` reads
+    registers, stack_pointer, vector_count, vector_size     registers of 8 bytes by their names, vector registers by their numbers
+    arguments, result      the registers of the ABI; more arguments are on the stack, 8 bytes each, above what a call pushes: `pushed`
+    kept, kept_halves      the registers that a function restores, and the vector registers whose low halves it does
+    scratch                those that libc's functions may change
     red_zone               bytes below the stack pointer that a function may use
+    stack_step             what the stack pointer has to be a multiple of where it is the base of an access
     decode(text, following)     a line of objdump as an Instruction; `following` is the next address
-    enter(arguments)            registers and stack at the first instruction of a call
     leave()                     after libc's function: goes on at the return address
-    condition(code)             0 or 1, by the flags (see Machine.decide)
-
-A step is `instruction.run(machine, name, *operands)`. It reads and writes `general`, `vectors`, `flags`, and memory by
-`load` and `store`; `next_address` is that of the next instruction. Operands are what `decode` makes them; what `get`
-and `put` take."""
+    condition(code)             0 or 1, by the flags (see Machine.decide)"""
+import copy
 import re
 import struct
 import subprocess
@@ -32,10 +25,16 @@ from bits import PUBLIC, Pause, Unproved
 
 Pointer = namedtuple("Pointer", "base offset")  # base: the name of a region, or of a register's value before the call
 Distance = namedtuple("Distance", "base other offset")  # the address of a buffer, less that of another, plus a constant
-# 32 bits: a number of unknown value, plus a constant; higher bytes aren't known
-Number = namedtuple("Number", "base offset")
-# 16 bits: it is `equal` if these bytes are all 0, else another number
-Mask = namedtuple("Mask", "equal differences")
+Number = namedtuple("Number", "base offset")  # 32 bits: a number of unknown value, plus a constant; higher bytes aren't known
+Mask = namedtuple("Mask", "equal differences")  # 16 bits: it is `equal` if these bytes are all 0, else another number; zeros above
+NAMED = {Pointer: 8, Distance: 8, Number: 4, Mask: 2}  # how many bytes of these are known by their names
+
+# Operands; others are ints, and texts or tuples of these that only instructions of one machine have.
+Register = namedtuple("Register", "name size at", defaults=[0])  # at: the first byte; x86's ah, bh, ch and dh begin at byte 1
+# Bytes of a vector register; `clears` says that a write clears the rest, and `lane` how many bytes an element has.
+Vector = namedtuple("Vector", "number size lane at clears", defaults=[1, 0, True])
+# `before` and `after` are how far an access moves the base register.
+Memory = namedtuple("Memory", "size base index scale offset align before after", defaults=[1, 0, 0])
 Instruction = namedtuple("Instruction", "run name operands next form")  # form: the name and the kinds of operands
 
 SECRET = "secret"  # a flag that depends on the key or on data; None is a flag that is undefined
@@ -49,6 +48,55 @@ def is_int(*values):
 
 def is_pointer(*values):
     return all(isinstance(v, Pointer) for v in values)
+
+
+def constant(what, value):
+    if not is_int(value):
+        raise Unproved(what + " isn't constant")
+    return value
+
+
+def lanes(b, size):
+    return [b[i:i + size] for i in range(0, len(b), size)]
+
+
+def joined(parts):
+    return [x for part in parts for x in part]
+
+
+def interleaved(a, b, size):
+    return joined(x + y for x, y in zip(lanes(a, size), lanes(b, size)))
+
+
+def contrary(flag):
+    if isinstance(flag, tuple):
+        return flag[1] if flag[0] == "not" else ("not", flag)
+    return 1 - flag if flag in (0, 1) else flag
+
+
+def kind(o):
+    """What an operand is, without its numbers."""
+    if isinstance(o, Register):
+        return o.name if o.name in ("xzr", "sp") else "r%d" % o.size
+    if isinstance(o, Vector):
+        return "%s%d.%d" % ("v" if o.clears else "part", o.size, o.lane)
+    if isinstance(o, Memory):
+        return "%sm%d%s%s" % ("+" * bool(o.before), o.size, "[]" * bool(o.index and not o.size), "+" * bool(o.after))
+    return o if isinstance(o, str) else "{%d}" % len(o) if isinstance(o, tuple) else "i"
+
+
+class Table(dict):
+    """The meanings of instructions by their names."""
+
+    def of(self, *names):
+        def add(f):
+            self.update(dict.fromkeys(names, f))
+            return f
+        return add
+
+
+class Question(Exception):
+    """A flag of which both values have to be proved."""
 
 
 class Region:
@@ -66,28 +114,20 @@ class Program:
         self.lines, self.cache = self.disassembled(), {}
         addresses = list(self.lines)
         self.next = dict(zip(addresses, addresses[1:]))
-        self.symbols = {}
-        for line in self.tool("nm").splitlines():
-            address, _, name = line.split(None, 2)
-            self.symbols[name] = int(address, 16)
+        self.symbols = {name: int(address, 16) for address, name in re.findall(r"(?m)^([0-9a-f]+) \S (.*)$", self.tool("nm"))}
         self.constants = self.constant_sections()
 
     def tool(self, name, *options):
-        return subprocess.run([self.machine.tools + name, *options, self.path], capture_output=True, text=True,
-                              check=True).stdout
+        return subprocess.run([self.machine.tools + name, *options, self.path], capture_output=True, text=True, check=True).stdout
 
     def disassembled(self):
-        lines = {}
         # (Without -z it leaves out zeros, which a processor runs.)
-        for line in self.tool("objdump", "-d", "-z", "--no-show-raw-insn", *self.machine.objdump).splitlines():
-            found = re.match(r"^ +([0-9a-f]+):\t(.*)$", line)
-            if found:
-                lines[int(found[1], 16)] = found[2].strip()
-        return lines
+        text = self.tool("objdump", "-d", "-z", "--no-show-raw-insn", *self.machine.objdump)
+        return {int(address, 16): line.strip() for address, line in re.findall(r"(?m)^ +([0-9a-f]+):\t(.*)$", text)}
 
     def constant_sections(self):
-        """(address, bytes) of each section of the ELF file that is loaded and neither written nor run, and of the
-        linker's table of addresses, which nothing writes after the start."""
+        """(address, bytes) of each section of the ELF file that is loaded and neither written nor run, and of the linker's table of
+        addresses, which nothing writes after the start."""
         raw = open(self.path, "rb").read()
         table, = struct.unpack_from("<Q", raw, 0x28)
         size, count = struct.unpack_from("<HH", raw, 0x3a)
@@ -105,8 +145,10 @@ class Program:
 
 
 class Machine:
+    pushed, kept_halves, stack_step = (), (), 1
+
     def __init__(self, domain, program, regions, entry, arguments):
-        """regions: {name: Region}, among them "stack"; `enter` says where in it the call begins."""
+        """regions: {name: Region}, among them "stack"; the call begins near its end."""
         self.domain, self.program, self.regions = domain, program, regions
         self.general = {r: Pointer("the caller's " + r, 0) for r in self.registers}
         self.vectors = [[domain.undefined] * self.vector_size for _ in range(self.vector_count)]
@@ -114,37 +156,43 @@ class Machine:
         self.next_address, self.last, self.steps, self.used = entry, entry, 0, {}
         self.externals = {program.symbols[n]: n for n in ("memcpy", "memmove", "memset") if n in program.symbols}
         self.shifted, self.lost, self.origins, self.native, self.after_external = {}, set(), {}, None, None
-        self.choices, self.placed, self.may_reveal, self.assumed, self.equalities = [], {}, False, (), {}
+        self.placed, self.may_reveal, self.assumed, self.equalities, self.done, self.want = {}, False, (), {}, 0, None
         self.written = (), 0
-        # a word of unknown value, and the offset from which on it has wrapped around
-        self.wraps, self.wrap = None, 1 << 64
+        self.wraps, self.wrap = None, 1 << 64  # a word of unknown value, and the offset from which on it has wrapped around
         self.enter(arguments)
         self.top = self.lowest = self.general[self.stack_pointer].offset
         self.before = dict(self.general)
+
+    def enter(self, arguments):
+        """Registers and stack at the first instruction of a call."""
+        self.general.update(zip(self.arguments, arguments))
+        stack = self.regions["stack"].content
+        above = [b for v in (*self.pushed, *arguments[len(self.arguments):]) for b in self.to_bytes(v, 8)]
+        at = (len(stack) - len(above)) // 16 * 16 - 8 * len(self.pushed)
+        stack[at:at + len(above)] = above
+        self.general[self.stack_pointer] = Pointer("stack", at)
+        for n in self.kept_halves:
+            self.vectors[n][:8] = self.to_bytes(Pointer("the caller's d%d" % n, 0), 8)
 
     # Values.
     def to_bytes(self, value, size):
         if isinstance(value, int):
             return list((value & (1 << 8 * size) - 1).to_bytes(size, "little"))
-        if isinstance(value, (Pointer, Distance)):
-            return [self.domain.opaque((value, k)) for k in range(size)]
-        if isinstance(value, Number):
-            return [self.domain.opaque((value, k)) for k in range(4)][:size] + [self.domain.undefined] * (size - 4)
-        if isinstance(value, Mask):
-            return [self.domain.opaque((value, k)) for k in range(2)] + [0] * (size - 2)
-        return list(value[:size])
+        named = NAMED.get(type(value))
+        if named is None:
+            return list(value[:size])
+        above = self.domain.undefined if isinstance(value, Number) else 0
+        return [self.domain.opaque((value, k)) for k in range(min(named, size))] + [above] * (size - named)
 
     def from_bytes(self, b):
         if max(b) < 256:
             return int.from_bytes(bytes(b), "little")
-        if len(b) > 1 and b[0] in self.domain.opaque_of:
-            word = self.domain.opaque_of[b[0]][0]
-            whole = isinstance(word, Mask) or len(b) == 8 and isinstance(word, (Pointer, Distance))
-            if whole and self.to_bytes(word, len(b)) == list(b):
-                return word
-            rest = {*b[4:]} <= {0, self.domain.undefined}
-            if len(b) > 3 and isinstance(word, Number) and self.to_bytes(word, 4) == list(b[:4]) and rest:
-                return word
+        if b[0] in self.domain.opaque_of:
+            value = self.domain.opaque_of[b[0]][0]
+            named = NAMED.get(type(value), 9)
+            above = {0, self.domain.undefined} if isinstance(value, Number) else {0}
+            if len(b) >= named and list(b[:named]) == self.to_bytes(value, named) and {*b[named:]} <= above:
+                return value
         return tuple(b)
 
     def bits(self, value, size):
@@ -167,19 +215,19 @@ class Machine:
         return out, carry
 
     def offset(self, a, b):
-        """The sum of two values of 8 bytes of which one at most is a Pointer and the others are constants."""
+        """The sum of two values of 8 bytes of which one at most is a Pointer or a Number and the others are constants."""
         if isinstance(b, (Pointer, Number)):
             a, b = b, a
-        if isinstance(a, Number) and is_int(b):
-            return Number(a.base, a.offset + b & 0xffffffff)
-        if isinstance(a, Pointer) and isinstance(b, int):
-            b &= WORD
-            return Pointer(a.base, a.offset + (b - (1 << 64) if b >> 63 else b))
-        if isinstance(a, int) and isinstance(b, int):
+        if not isinstance(a, (int, Pointer, Number)) or not isinstance(b, int):
+            raise Unproved("an address is the sum of two addresses")
+        if isinstance(a, int):
             return a + b & WORD
-        raise Unproved("an address is the sum of two addresses")
+        if isinstance(a, Number):
+            return Number(a.base, a.offset + b & 0xffffffff)
+        b &= WORD
+        return Pointer(a.base, a.offset + (b - (1 << 64) if b >> 63 else b))
 
-    # Sums and differences with their flags: (result, {flag: value}). The flag c of a difference is the borrow.
+    # Sums and differences with their flags: (result, {flag: value}).
     def plus(self, x, y, carry, size):
         mask, top = (1 << 8 * size) - 1, 8 * size - 1
         if is_int(x, y):
@@ -189,7 +237,7 @@ class Machine:
         if Number in (type(x), type(y)):
             return self.offset(self.offset(x, carry), y), {}
         if isinstance(x, Distance) and is_int(y):
-            return Distance(x.base, x.other, x.offset + y), {}
+            return x._replace(offset=x.offset + y), {}
         if (is_pointer(x) or is_pointer(y)) and size == 8:
             old, r = x if is_pointer(x) else y, self.offset(self.offset(x, carry), y)
             known = r.base == self.wraps and r.offset >= old.offset
@@ -197,37 +245,47 @@ class Machine:
         bits, out = self.full_adder(self.bits(x, size), self.bits(y, size), carry)
         return self.unbits(bits), {"c": out if out < 2 else SECRET, "z": SECRET, "s": SECRET, "o": SECRET}
 
-    def minus(self, x, y, borrow, size):
-        mask, top = (1 << 8 * size) - 1, 8 * size - 1
-        if is_int(x, y):
-            full = (x & mask) - (y & mask) - borrow
-            r = full & mask
-            return r, {"c": int(full < 0), "z": int(r == 0), "s": r >> top, "o": ((x ^ r) & (x ^ y)) >> top & 1}
-        if isinstance(x, Distance) and is_int(y) and not borrow:
-            return Distance(x.base, x.other, x.offset - y), {"c": (x, y, "below") if y else 0, "z": (x, y, "equal")}
-        if is_pointer(x, y) and not borrow and x.base == y.base:
+    def minus(self, x, y, size, carry=1):
+        """x - y, or one less if `carry` is 0. The flag c says that there is no borrow."""
+        if is_pointer(x) and y == 0 and carry and x.base in self.regions:
+            return x, {"z": 0, "c": 1}  # no object is at address 0
+        if isinstance(x, Distance) and is_int(y) and carry:
+            return x._replace(offset=x.offset - y), {"c": ("not", (x, y, "below")) if y else 1, "z": (x, y, "equal")}
+        if is_pointer(x, y) and carry and x.base == y.base:
             # Objects don't wrap around, so their addresses are ordered as offsets are; a counter may.
-            order = {"c": int(x.offset < y.offset)} if x.base in self.regions else {}
-            return x.offset - y.offset & mask, {**order, "z": int(x.offset == y.offset)}
-        if is_pointer(x, y) and not borrow and {x.base, y.base} <= set(self.regions):
+            order = {"c": int(x.offset >= y.offset)} if x.base in self.regions else {}
+            return x.offset - y.offset & WORD, {**order, "z": int(x.offset == y.offset)}
+        if is_pointer(x, y) and carry and {x.base, y.base} <= set(self.regions):
             return Distance(x.base, y.base, x.offset - y.offset), {}
         if is_pointer(x) and is_int(y) and size == 8:
-            return self.offset(x, -y - borrow), {}
+            return self.offset(x, carry - 1 - y), {}
         if is_pointer(x) or is_pointer(y):
             raise Unproved("computes with addresses")
-        bits, out = self.full_adder(self.bits(x, size), [b ^ 1 for b in self.bits(y, size)], borrow ^ 1)
-        return self.unbits(bits), {"c": out ^ 1 if out < 2 else SECRET, "z": SECRET, "s": SECRET, "o": SECRET}
+        return self.plus(x, ~y if is_int(y) else self.bytewise("xor", self.to_bytes(y, size), [255] * size), carry, size)
 
-    def difference_of_secrets(self, x, y, size):
-        """The flags of a comparison of values that depend on the key or on data. Whether they are equal may be asked
-        where a call may reveal it: whether all these bytes are zero."""
-        different = [self.domain.xor_byte(p, q) for p, q in zip(self.to_bytes(x, size), self.to_bytes(y, size))]
-        return {"c": SECRET, "z": self.zero_flag(different), "s": SECRET, "o": SECRET}
+    def compared(self, x, y, size):
+        """The flags of x - y alone. If values depend on the key or on data, whether they are equal may be asked where a call may
+        reveal it: whether all these bytes are zero."""
+        if tuple not in (type(x), type(y)):
+            return self.minus(x, y, size)[1]
+        different = self.bytewise("xor", self.to_bytes(x, size), self.to_bytes(y, size))
+        never = y == 0 and 1 in self.bits(x, size)
+        return {"c": SECRET, "z": 0 if never else self.zero_flag(different), "s": SECRET, "o": SECRET}
 
     def zero_flag(self, b):
         """Whether all these bytes are zero."""
         unknown = [x for x in b if x > 255]
         return int(not any(b)) if any(0 < x < 256 for x in b) or not unknown else ("zero", *unknown)
+
+    def zero_and_sign(self, r, size):
+        """The flags of a result."""
+        if is_int(r):
+            return {"z": int(r == 0), "s": r >> 8 * size - 1}
+        if isinstance(r, Mask):
+            return {} if r.equal else {"z": self.zero_flag(r.differences)}
+        if is_pointer(r) and r.base in self.regions:
+            return {"z": 0}
+        return {"z": 0 if 1 in self.bits(r, size) else SECRET, "s": SECRET}
 
     # A comparison of secrets byte by byte: nothing but whether all are equal may be asked, where a call may reveal it.
     def equality(self, difference, equal, unequal):
@@ -244,22 +302,159 @@ class Machine:
         self.lost.update(self.to_bytes(value, 2))
         return value
 
+    # What instructions of both machines do.
+    def bytewise(self, name, a, b):
+        """`and`, `or`, `xor`, or `and` and `or` with the complement of b, of bytes."""
+        d = self.domain
+        if name == "xor":
+            try:
+                return [d.byte_xors[pair] for pair in zip(a, b)]
+            except KeyError:
+                return list(map(d.xor_byte, a, b))
+        if name.endswith("not"):
+            b = [d.xor_byte(y, 255) for y in b]
+        return list(map(d.and_byte if name[0] == "a" else d.or_byte, a, b))
+
+    def logic(self, name, x, y, size):
+        """The same of values."""
+        if is_int(x, y):
+            y = ~y if name.endswith("not") else y
+            return {"a": x & y, "o": x | y, "x": x ^ y}[name[0]] & (1 << 8 * size) - 1
+        if isinstance(x, Mask) and is_int(y) and y >> 16 == 0 and (name == "xor" or name == "and" and y == 0xffff):
+            return self.mask(x.equal ^ y, x.differences) if name == "xor" else x
+        if isinstance(x, (Pointer, Mask)) and x == y and name == "and" or name == "or" and y == 0:
+            return x
+        if name == "or" and x == 0:
+            return y
+        if is_pointer(x) and is_int(y) and x.base in self.regions:
+            align, low = self.regions[x.base].align, -y & WORD
+            if name == "or" and y < align and not x.offset & y:
+                return self.offset(x, y)
+            if name == "and" and low and not low & low - 1 and align % low == 0:
+                return x._replace(offset=x.offset & -low)
+        return self.from_bytes(self.bytewise(name, self.to_bytes(x, size), self.to_bytes(y, size)))
+
+    def add_byte(self, x, y, carry=0):
+        if max(x, y) < 256:
+            return x + y + carry & 255
+        return self.domain.pack(self.full_adder(self.domain.bits(x), self.domain.bits(y), carry)[0])
+
+    def signs(self, x):
+        """A byte of ones if the highest bit of x is set, else 0."""
+        return self.domain.pack([self.domain.bits(x)[7]] * 8)
+
+    def shift(self, how, v, count, size):
+        """A value shifted to the left ("lsl"), or to the right with zeros ("lsr") or copies of the highest bit ("asr")."""
+        if is_int(v) and how == "lsl":
+            return v << count & (1 << 8 * size) - 1
+        b = self.bits(v, size)
+        if how == "lsl":
+            return self.unbits(([0] * count + b)[:8 * size])
+        return self.unbits((b + [b[-1] if how == "asr" else 0] * count)[count:])
+
+    def shift_lanes(self, how, b, width, count):
+        constant("the count of a shift", count)
+        out = []
+        for lane in lanes(b, width):
+            key = how, count, *lane
+            if key not in self.shifted:
+                self.shifted[key] = self.to_bytes(self.shift(how, self.from_bytes(lane), count, width), width)
+            out += self.shifted[key]
+        return out
+
+    def looked_up(self, table, indices, significant):
+        """The bytes of a table, a tuple, at these indices, of whose bits `significant` gives those that count."""
+        memo = (self.domain.entries if max(table) < 256 else self.domain.products.memo).setdefault(table, {})
+        for x in indices:
+            if x not in memo:
+                memo[x] = self.entry(table, significant(self.domain.bits(x)))
+        return [memo[x] for x in indices]
+
+    def entry(self, table, index):
+        """The byte of a table at an index of these bits; 0 past its end."""
+        if max(index) < 2:
+            at = sum(bit << k for k, bit in enumerate(index))
+            return table[at] if at < len(table) else 0
+        if max(table) < 256:
+            return self.domain.lookup(table + (0,) * ((1 << len(index)) - len(table)), index)
+        if len(table) != 16 or any(index[4:]):
+            raise Unproved("a look-up in a table that isn't constant, by an index that may be past its end")
+        return self.domain.bilinear_lookup(table, index[:4])
+
+    # Operands.
+    def get(self, o):
+        if isinstance(o, Register):
+            v = self.general[o.name]
+            return v if o.size == 8 else self.from_bytes(self.to_bytes(v, 8)[o.at:o.at + o.size])
+        return o if isinstance(o, int) else self.from_bytes(self.load(self.address(o), o.size, o.align))
+
+    def put(self, o, v):
+        """A write of 4 bytes clears the rest of the register, one of 1 or 2 leaves it."""
+        if isinstance(o, Memory):
+            self.store(self.address(o), self.to_bytes(v, o.size), o.align)
+        elif o.size == 8:
+            self.general[o.name] = v
+        else:
+            old = [0] * 8 if o.size == 4 else self.to_bytes(self.general[o.name], 8)
+            self.general[o.name] = self.from_bytes(old[:o.at] + self.to_bytes(v, o.size) + old[o.at + o.size:])
+
+    def read(self, o):
+        """The bytes of an operand."""
+        if isinstance(o, Vector):
+            return self.vectors[o.number][o.at:o.at + o.size]
+        return self.load(self.address(o), o.size, o.align) if isinstance(o, Memory) else self.to_bytes(self.get(o), o.size)
+
+    def write(self, o, b):
+        if isinstance(o, Vector):
+            old, end = self.vectors[o.number], o.at + len(b)
+            self.vectors[o.number] = old[:o.at] + b + ([0] * (self.vector_size - end) if o.clears else old[end:])
+        elif isinstance(o, Memory):
+            self.store(self.address(o), b, o.align)
+        else:
+            self.put(o, self.from_bytes(b))
+
+    def address(self, o):
+        """The address of an access. The base register is moved before it here, and after it by `load` and `store` of ARM."""
+        self.move(o.base, o.before)
+        a = o.offset
+        for name, scale in ((o.base, 1), (o.index, o.scale)):
+            if name:
+                v = self.general[name]
+                if scale != 1 and not is_int(v) or not isinstance(v, (int, Pointer, Number)):
+                    raise Unproved("an address depends on the key or on data")
+                if name == self.stack_pointer and v.offset % self.stack_step:
+                    raise Unproved("the stack pointer isn't aligned")
+                a = self.offset(a, v * scale if is_int(v) else v)
+        return a
+
+    def move(self, register, by):
+        if by:
+            self.general[register] = self.offset(self.general[register], by)
+
+    def prepare(self, instruction, middle):
+        """For an instruction by itself: addresses that it may access, in the midst of the buffer or of the stack, or jump to."""
+        for o in instruction.operands:
+            if isinstance(o, Memory) and instruction.name != "lea":
+                if o.index:
+                    self.general[o.index] = 16
+                if o.base:
+                    place, step = ("stack", self.stack_step) if o.base == self.stack_pointer else ("buffer", 1)
+                    back = -o.before - o.offset - 16 * o.scale * bool(o.index)
+                    self.general[o.base] = Pointer(place, middle + back // step * step)
+            elif isinstance(o, Register) and instruction.name in ("jmp", "call", "blr"):
+                self.general[o.name] = self.program.symbols["start"]
+
     # Memory.
     def place(self, address, size, write, align=1):
         """The list of bytes that an access means, and where in it; or Unproved, if the access isn't allowed."""
-        if isinstance(address, Pointer):
-            return self.place_in_region(address, size, write, align)
         if isinstance(address, int) and not write and address % align == 0:
             for start, content in self.program.constants:
                 if start <= address and address + size <= start + len(content):
                     return content, address - start
-        raise Unproved("accesses memory at %s" % (address,))
-
-    def place_in_region(self, address, size, write, align):
-        base, offset = address
-        region = self.regions.get(base)
+        region = self.regions.get(address.base) if is_pointer(address) else None
         if region is None:
-            raise Unproved("accesses memory by " + str(base))
+            raise Unproved("accesses memory at %s" % (address,))
+        base, offset = address
         if offset < 0 or offset + size > len(region.content):
             raise Unproved("%s %d bytes at %d of %s, which has %d" % (
                 "writes" if write else "reads", size, offset, base, len(region.content)))
@@ -296,6 +491,8 @@ class Machine:
             return int(flag)
         if flag is None:
             raise Unproved("a branch or a condition depends on an undefined flag")
+        if flag[0] == "not":
+            return 1 - self.decide(flag[1])
         if self.assumed and flag[0] == "zero" and set(flag[1:]) == set(self.assumed):
             return 0
         # A byte without cells is one that nobody wrote, or of which only the name is known.
@@ -306,12 +503,19 @@ class Machine:
         return self.by_place(flag)
 
     def by_place(self, flag):
-        """A flag that says how far two buffers are apart, or whether a wrapped key or a tag is right: both cases have
-        to be proved, one by one (see calls.every_way)."""
+        """A flag that says how far two buffers are apart, or whether a wrapped key or a tag is right: a question. Both answers have to be
+        proved (see calls.prove)."""
         if flag not in self.placed:
-            n = len(self.placed)
-            self.placed[flag] = self.choices[n] if n < len(self.choices) else 0
+            raise Question(flag)
         return self.placed[flag]
+
+    def answered(self, flag, answer):
+        """The same machine, where a flag has this value."""
+        m = copy.copy(self)
+        m.regions = {name: Region(r.content, r.writable, r.align) for name, r in self.regions.items()}
+        m.general, m.vectors, m.flags, m.written = dict(self.general), list(self.vectors), dict(self.flags), ((), 0)
+        m.before, m.placed, m.origins, m.want = dict(self.before), {**self.placed, flag: answer}, dict(self.origins), None
+        return m
 
     # Running.
     def run(self, watches=(), limit=10000000):
@@ -327,17 +531,18 @@ class Machine:
                     watch(self)
                 if self.steps > limit:
                     raise Unproved("doesn't return")
-        except Pause:
-            self.next_address = self.last
+        except (Pause, Question):  # before this instruction
+            self.next_address, self.steps = self.last, self.steps - 1
             raise
         except Unproved as e:
             raise Unproved("%s [at %x: %s]" % (e, self.last, self.program.lines.get(self.last))) from None
+        self.before[self.stack_pointer] = self.offset(self.before[self.stack_pointer], 8 * len(self.pushed))
         for r in self.kept:
-            if self.general[r] != self.restored(r):
+            if self.general[r] != self.before[r]:
                 raise Unproved("%s isn't restored" % r)
-
-    def restored(self, register):
-        return self.before[register]
+        for n in self.kept_halves:
+            if self.from_bytes(self.vectors[n][:8]) != Pointer("the caller's d%d" % n, 0):
+                raise Unproved("d%d isn't restored" % n)
 
     def step(self):
         instruction = self.program.at(self.next_address)
@@ -354,22 +559,21 @@ class Machine:
 
     def external(self, name):
         """A call of libc by its contract. What it may leave in registers is undefined."""
+        if (self.general[self.stack_pointer].offset + 8 * len(self.pushed)) % 16:
+            raise Unproved("the stack isn't aligned at a call")
         to, source, count = (self.general[r] for r in self.arguments[:3])
-        if not isinstance(count, int):
+        if not is_int(count):
             raise Unproved("a length depends on the key or on data")
-        if name == "memset":
-            content = self.to_bytes(source, 8)[:1] * count
-        else:
-            content = self.load(source, count) if count else []
-            overlap = isinstance(source, Pointer) and to.base == source.base and abs(to.offset - source.offset) < count
-            if name == "memcpy" and overlap:
-                raise Unproved("memcpy of overlapping bytes")
+        if name == "memcpy" and is_pointer(source) and to.base == source.base and abs(to.offset - source.offset) < count:
+            raise Unproved("memcpy of overlapping bytes")
         if count:
-            self.store(to, content)
+            self.store(to, self.to_bytes(source, 8)[:1] * count if name == "memset" else self.load(source, count))
         for r in self.scratch:
             self.general[r] = (self.domain.undefined,) * 8
         self.general[self.result] = to
-        self.vectors = [[self.domain.undefined] * self.vector_size for _ in range(self.vector_count)]
+        for n, v in enumerate(self.vectors):
+            kept = v[:8] if n in self.kept_halves else []
+            self.vectors[n] = kept + [self.domain.undefined] * (self.vector_size - len(kept))
         self.set_flags()
         self.leave()
 
@@ -378,8 +582,8 @@ class Machine:
         return self.from_bytes(self.to_bytes(self.general[self.result], 8)[:size])
 
     def replace_bytes(self, convert, domain, cells=()):
-        """Goes on with other bytes, of another domain: where `convert` replaces bytes by arbitrary ones, what is proved
-        of these holds for those. `cells` has the pairs in which the new byte is a cell, perhaps with bits flipped."""
+        """Goes on with other bytes, of another domain: where `convert` replaces bytes by arbitrary ones, what is proved of these holds
+        for those. `cells` has the pairs in which the new byte is a cell, perhaps with bits flipped."""
         memo, cells = {}, list(cells)
         if self.native:
             self.native.renamed(cells, domain)

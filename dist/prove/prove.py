@@ -2,6 +2,7 @@
 for each build and key size. Run it as `make prove` in dist; the README says what it shows."""
 import argparse
 import concurrent.futures
+import gc
 import os
 import re
 import shutil
@@ -16,16 +17,17 @@ from aarch64 import Aarch64
 from bits import Domain, Unproved
 from calls import Call
 from machine import Program
-from alone import compare_all
-from native import PROCESSORS
+from native import compare_all
+from processors import PROCESSORS
 from standards import pinned
 from vectors import checked
 from x86_64 import X86_64
 
 HERE = os.path.dirname(os.path.abspath(__file__))
-BUILDS = {"x86_64/" + name: X86_64 for name in ("aes", "aes_v3", "gcm", "gcm_v3", "siv", "siv_v3")}
-BUILDS.update({"aarch64/" + name: Aarch64 for name in ("aes", "gcm", "siv")})  # siv: the calls of AES-GCM-SIV in gcm.s
-KEY_SIZES = 16, 24, 32
+# Those that take longest come first. siv: the calls of AES-GCM-SIV in gcm.s
+BUILDS = {"%s/%s%s" % (folder, library, wide): machine for library in ("gcm", "siv", "aes") for folder, machine, wide in (
+    ("aarch64", Aarch64, ""), ("x86_64", X86_64, ""), ("x86_64", X86_64, "_v3"))}
+KEY_SIZES = 16, 32, 24
 SEED = 1
 
 
@@ -35,8 +37,9 @@ def source(dist, build):
 
 def link(source, out, machine=X86_64):
     """Assembles and links one build; libc's three functions are names alone, of which the contract is used."""
-    for s, o in ((source, out + ".o"), (os.path.join(HERE, machine.host), out + ".host.o")):
-        subprocess.run([machine.tools + "gcc", "-c", s, "-o", o], check=True)
+    # (A function of the host may not become a call of itself.)
+    for s, o in ((source, out + ".o"), (HERE + "/host.c", out + ".host.o")):
+        subprocess.run([machine.tools + "gcc", "-O2", "-fno-tree-loop-distribute-patterns", "-c", s, "-o", o], check=True)
     subprocess.run([machine.tools + "ld", "-static", "-e", "start", "--build-id=none", "-z", "noexecstack",
                     out + ".host.o", out + ".o", "-o", out], check=True)
     return Program(out, machine)
@@ -138,6 +141,15 @@ def piece_cases(k, choose):
         yield "finish after %d, %d, phase %d" % (a, n, phase), k.finish(phase, a, n)
         phase = phase if phase == gcm.ADDITIONAL else gcm.VERIFYING
         yield "accept after %d, %d, phase %d" % (a, n, phase), k.accept(phase, a, n)
+    first = k.nonce_of(8, 2 ** 32 - 3, (7, 0, 255, 255))
+    for n in choose((9, 50), (), (9,)):
+        what = "%d under a nonce of 8 bytes, J_0 ends in %x" % (n, first.counter)
+        for call in "encrypt", "decrypt_unverified":
+            yield call + " " + what, k.piece(call, gcm.ADDITIONAL, 5, 0, n, first)
+        yield "encrypt after 39, " + what, k.piece("encrypt", gcm.ENCRYPTING, 5, 39, n, first)
+        yield "decrypt after 39, " + what, k.decrypt(100, 39, n, first)
+        yield "finish, " + what, k.finish(gcm.ENCRYPTING, 16, n, first)
+        yield "accept, " + what, k.accept(gcm.VERIFYING, 16, n, first=first)
     for length in choose((4, 8, 12, 13, 14, 15), (12,), (4, 15)):
         yield "accept_short of %d bytes" % length, k.accept(gcm.VERIFYING, 16, 7, length)
 
@@ -184,21 +196,22 @@ BESIDE = "set_key", "encrypt_blocks 17", "add_keystream 130 at 0", "unwrap 3", "
 
 
 class Task:
-    """The calls of one build under keys of one size. Forms of instructions that `compared` has are not compared again,
-    and statements have vectors once for all builds."""
+    """The calls of one build under keys of one size. The first size has some of them beside the processor, and statements have vectors
+    once for all builds."""
 
-    def __init__(self, options, build, key_size, compared):
+    def __init__(self, options, build, key_size):
         self.options, self.build, self.key_size = options, build, key_size
-        self.compared, self.used, self.first = set(compared), {}, not compared
+        self.compared, self.used, self.first = set(), {}, key_size == options.keys[0]
         self.proved, self.failed, self.vectors = 0, 0, 0
 
     def run(self):
+        gc.disable()  # next to nothing here refers to itself, and looking for it takes a fifth of the time
         start = time.process_time()
-        out = "%s/%s_%d" % (self.options.out, self.build.replace("/", "_"), self.key_size)
-        self.program = link(source(self.options.dist, self.build), out, BUILDS[self.build])
+        self.path = "%s/%s_%d" % (self.options.out, self.build.replace("/", "_"), self.key_size)
+        program = link(source(self.options.dist, self.build), self.path, BUILDS[self.build])
         library = self.build.split("/")[1][:3]
         keyed_class, cases = LIBRARIES[library]
-        keyed = keyed_class(self.program, self.key_size)
+        keyed = keyed_class(program, self.key_size)
         self.case("set_key", keyed.set_key)
         if not self.failed:
             if self.build == "x86_64/" + library:
@@ -209,7 +222,6 @@ class Task:
             for what, call in cases(keyed, self.options.all):
                 if self.options.only in what:
                     self.case(what, lambda seed: keyed.proved(call, seed))
-        self.case("instructions by themselves", self.compare)
         self.seconds = time.process_time() - start
         return self
 
@@ -217,12 +229,11 @@ class Task:
         start = time.process_time()
         try:
             m = prove(None)
-            if m:
-                text = self.ran(m)
-                if self.first and what in BESIDE and not PROCESSORS[type(m)].missing():
-                    self.compared |= set(prove(SEED).used)
-            else:
-                text = "%d compared" % len(self.compared)
+            self.used.update(m.used)
+            left = ", ".join("%d %s in %s" % (len(v), kind, place) for (place, kind), v in sorted(m.left.items()))
+            text = "%d instructions, %d bytes of stack; left: %s" % (m.steps, m.top - m.lowest, left or "nothing")
+            if self.first and what in BESIDE and not PROCESSORS[type(m)].missing():
+                self.compared |= set(prove(SEED).used)
             self.proved += 1
         except Unproved as e:
             text = "NOT PROVED: %s" % e
@@ -231,34 +242,43 @@ class Task:
             print("%s.s, key of %d bytes, %s: %s; %.1f s" % (
                 self.build, self.key_size, what, text, time.process_time() - start), flush=True)
 
-    def ran(self, m):
-        self.used.update(m.used)
-        left = ", ".join("%d %s in %s" % (len(v), kind, place) for (place, kind), v in sorted(m.left.items()))
-        return "%d instructions, %d bytes of stack; left: %s" % (m.steps, m.top - m.lowest, left or "nothing")
-
-    def compare(self, seed):
-        self.compared |= compare_all(self.program,
-                                     {form: at for form, at in self.used.items() if form not in self.compared})
-
 
 def run_task(*arguments):
     return Task(*arguments).run()
 
 
-def tasks(options):
-    """Runs the tasks, and yields each when it is done. Those of keys of 16 bytes come first: what instructions they
-    compared with the processor, the others don't compare again."""
+def alone(path, machine, used):
+    """The forms that the processor agreed on, each by itself; and where it didn't."""
+    gc.disable()
+    try:
+        return compare_all(Program(path, machine), used), None
+    except Unproved as e:
+        return set(), str(e)
+
+
+def run_all(options):
+    """Runs what there is, the longest first, and yields each task when it is done; and (folder, forms, fault) for forms of instructions
+    by themselves, each once."""
+    seen, builds = set(), {}
     with concurrent.futures.ProcessPoolExecutor(options.jobs, max_tasks_per_child=1) as pool:
-        first, *others = options.keys
-        waiting = {pool.submit(run_task, options, build, first, ()) for build in options.builds}
+        waiting = {pool.submit(run_task, options, build, size) for size in options.keys for build in options.builds
+                   if size != 24 or "siv" not in build}
         while waiting:
             done, waiting = concurrent.futures.wait(waiting, return_when=concurrent.futures.FIRST_COMPLETED)
             for future in done:
-                task = future.result()
-                yield task
-                if task.key_size == first:
-                    sizes = [size for size in others if size != 24 or "siv" not in task.build]
-                    waiting |= {pool.submit(run_task, options, task.build, size, task.compared) for size in sizes}
+                result = future.result()
+                if future in builds:
+                    yield (builds[future], *result)
+                    continue
+                yield result
+                folder = os.path.dirname(result.build)
+                seen |= {(folder, form) for form in result.compared}
+                new = {form: at for form, at in result.used.items() if (folder, form) not in seen}
+                seen |= {(folder, form) for form in new}
+                if new:
+                    future = pool.submit(alone, result.path, BUILDS[result.build], new)
+                    builds[future] = folder
+                    waiting.add(future)
 
 
 def missing(machine):
@@ -274,34 +294,45 @@ def say_what_is_missing():
                 print("%s %s here, without %s" % (machine.__name__, consequence, ", ".join(names)))
 
 
-def main():
-    parser = argparse.ArgumentParser(description=__doc__)
+def options_of(description):
+    """Those of the command line; of the builds, those for which the tools are here."""
+    parser = argparse.ArgumentParser(description=description)
     parser.add_argument("--dist", default=os.path.dirname(HERE))
     parser.add_argument("--out", default="out/prove")
     parser.add_argument("--all", action="store_true", default=os.environ.get("PROVE") == "all", help="all lengths")
     parser.add_argument("--builds", type=lambda s: s.split(","), default=list(BUILDS))
     parser.add_argument("--keys", type=lambda s: [int(n) for n in s.split(",")], default=KEY_SIZES)
-    parser.add_argument("--only", default="", help="calls that have this in their name")
+    parser.add_argument("--only", default="", help="calls, or faults, that have this in their name")
     parser.add_argument("--lines", action="store_true", help="a line for each case")
     parser.add_argument("--jobs", type=int, default=os.cpu_count())
     options = parser.parse_args()
     os.makedirs(options.out, exist_ok=True)
     options.builds = [build for build in options.builds if not missing(BUILDS[build])]
+    return options
+
+
+def main():
+    options = options_of(__doc__)
     start, proved, failed, used, compared = time.time(), 0, 0, set(), set()
     vectors = pinned(Domain())
     say_what_is_missing()
     for what, fault in header_cases(options.dist):
         print("%s: %s" % (what, fault or "as in the statements"))
         proved, failed = proved + (not fault), failed + bool(fault)
-    for task in tasks(options):
-        print("%s.s, key of %d bytes: %d proved, %d failed, %.0f s" % (
-            task.build, task.key_size, task.proved, task.failed, task.seconds), flush=True)
-        proved, failed = proved + task.proved, failed + task.failed
-        folder, vectors = os.path.dirname(task.build), vectors + task.vectors
-        used |= {(folder, form) for form in task.used}
-        compared |= {(folder, form) for form in task.compared}
-    alone = [" ".join(form) for form in sorted(used - compared)]
-    print("%d forms of instructions; the processor agreed on all but: %s" % (len(used), ", ".join(alone) or "none"))
+    for done in run_all(options):
+        if isinstance(done, Task):
+            print("%s.s, key of %d bytes: %d proved, %d failed, %.0f s" % (
+                done.build, done.key_size, done.proved, done.failed, done.seconds), flush=True)
+            proved, failed, vectors = proved + done.proved, failed + done.failed, vectors + done.vectors
+            folder, fault, forms = os.path.dirname(done.build), None, done.compared
+            used |= {(folder, form) for form in done.used}
+        else:
+            folder, forms, fault = done
+        if fault:
+            print("%s: NOT PROVED: %s" % done[::2], flush=True)
+        compared |= {(folder, form) for form in forms}
+    lacking = [" ".join(form) for form in sorted(used - compared)]
+    print("%d forms of instructions; the processor agreed on all but: %s" % (len(used), ", ".join(lacking) or "none"))
     # Where there is a processor, a form that wasn't compared with it counts as one that failed.
     failed += sum(not PROCESSORS[BUILDS[next(b for b in BUILDS if b.startswith(folder))]].missing()
                   for folder, _ in used - compared)

@@ -2,6 +2,8 @@
 
 When a call has derived the keys of a message, they become arbitrary bytes, and so do in turn the powers of one, the
 round keys of the other, each value of POLYVAL, the block of which the tag is the cipher, and the tag."""
+import functools
+
 from bits import DATA, KEY
 from calls import ANY, Buffer, Call, compare, prove
 from gcm import DONE, KEY_LENGTH, NO_KEY, REFUSED, TOO_LONG, ZEROS, Hashing, KeyedGcm, padded, threes
@@ -90,7 +92,7 @@ class KeyedSiv(KeyedGcm):
         blocks = self.once("blocks", lambda: [self.aes.cipher(block, self.w) for block in inputs])
         yield "memory", sum(blocks, []), sum(self.derived, [])
         for power, after in () if few else zip(self.powers, self.powers[1:]):
-            yield "hash", product(self.domain, power, self.powers[0]), after
+            yield "hash", functools.partial(product, self.domain, power, self.powers[0]), after
         yield "memory", self.stored(self.expanded), self.stored(self.message_w)
 
     def polyval(self, additional, text):

@@ -30,9 +30,9 @@ class Values:
     def bit(self, x):
         d, value = self.domain, x & 1
         if x > 1 and x & BLOCK == PRODUCT << 1:
-            linear, pairs = d.products[x >> 9]
-            for row, (a, group) in enumerate(d.row_keys):
-                columns = int.from_bytes(pairs[16 * row:16 * row + 16], "little")
+            linear, pairs = d.split(x)
+            for row, (a, group) in enumerate(d.products.row_keys):
+                columns = pairs >> 128 * row & (1 << 128) - 1
                 if columns and self.numbered(a):
                     value ^= sum(self.numbered(group << 7 | k) for k in range(128) if columns >> k & 1) & 1
             return value ^ self.bit(linear)

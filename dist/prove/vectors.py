@@ -76,12 +76,13 @@ def evaluate(keyed, call, key, given):
         for value, b in zip(given.get(buffer.name, ()), buffer.content):
             values.give(b, value)
     for _, want, new in call.steps() if call.steps else ():
+        want = want() if callable(want) else want
         values.renamed(list(zip(want, new)), d)
         for b, c in zip(want, new):
             if c < 256 and values.full_byte(b) != c:
                 raise Unproved("a vector isn't what a statement assumes")
         values.bytes = {}
-        d.forget_products()
+        d.products_of(0, False)
     return {b.name: bytes(values.full_byte(x) for x in b.after)
             for b in call.buffers if b.after is not None and None not in b.after}
 

@@ -1,4 +1,4 @@
-"""The pictures of a run, of blocks and of GCM, as SVG: bars of time, one row an engine, in groups by what kind of software it is.
+"""The picture of a run, as SVG: bars of time, one row an engine, in groups by what kind of software it is.
 The colours follow the reader's theme. A time is a length, of at most 1, and what is written beside it."""
 from html import escape
 
@@ -14,21 +14,6 @@ GROUPS = {
     "instructions": ("instructions", "AES instructions of the processor, and in brackets the part of this library's time"),
 }
 OURS = {tables.BASE: "this library, no AVX2", tables.AVX2: "this library, for AVX2"}
-PICTURES = ("results.svg", "gcm.svg")
-# A panel of the picture of GCM: its title, the call, and into how many blocks its time is divided; and a group: its title,
-# its kind, and the libraries with the run that they are taken from.
-GCM_PANELS = [("16 KiB, nanoseconds a block", ("GCM, text", 16384), 1024), ("64 bytes, nanoseconds", ("GCM, text", 64), 1)]
-GCM_GROUPS = [
-    (title, kind, [(run, it) for it in those])
-    for title, kind, run, those in (
-        ("Software without secret addresses", "open", tables.CONSTANT_TIME, (*tables.OURS, "Botan", "BearSSL")),
-        ("Software that reads tables at secret places", "tables", tables.CONSTANT_TIME,
-         ("OpenSSL", "Nettle", "Libgcrypt", "mbedtls")),
-        ("Instructions of the processor", "instructions", tables.WITH_INSTRUCTIONS, tuple(tables.PEERS)),
-    )
-]
-
-
 # Each kind of software: its colour on light ground and on dark.
 KINDS = {
     "ours": ("#0b7a75", "#2fb8ad"),
@@ -104,8 +89,8 @@ def cell(kind, time, most, ours):
     return time / most, label(time) + (f" ({100 * time / ours:.0f} %)" if kind == "instructions" else "")
 
 
-def draw(rows, folder, key=16):
-    """Writes both pictures of the rows for one size of keys."""
+def draw(rows, to, key=16):
+    """Writes the picture of the rows for one size of keys."""
     times = times_of(rows, key)
     most = [max(its[at] for its in times.values() if its[at]) for at in range(len(TITLES))]
     ours = next(its for it, its in times.items() if it[2] == tables.BASE)
@@ -120,21 +105,4 @@ def draw(rows, folder, key=16):
     units = ["nanoseconds a block, less is faster" if n > 1 else "nanoseconds, less is faster" for _, n in tables.PICTURED]
     title = f"AES encryption with a key of {key} bytes, by this library and those of Debian"
     made = drawn(title, list(zip(TITLES, units)), [it for it in groups if it[1]], 220, 170)
-    (folder / "results.svg").write_text(made)
-    draw_gcm(tables.gcm(rows), folder / "gcm.svg")
-
-
-def draw_gcm(times, to):
-    """The picture of GCM: what each library takes for a block of a long text, and for a short one."""
-    shown = {it: [times[it][call] / blocks for _, call, blocks in GCM_PANELS] for _, _, those in GCM_GROUPS for it in those
-             if it in times}
-    most = [max(its) for its in zip(*shown.values())]
-    groups = []
-    for title, kind, those in GCM_GROUPS:
-        rows = sorted((shown[it], it[1]) for it in those if it in shown)
-        groups.append((title, [
-            (peer, "ours" if peer in tables.OURS else kind, [(it / m, label(it)) for it, m in zip(its, most)])
-            for its, peer in rows
-        ]))
-    title = "GCM from C with a key of 16 bytes, by this library and those of Debian"
-    to.write_text(drawn(title, [(it, "less is faster") for it, *_ in GCM_PANELS], groups, 165, 210))
+    to.write_text(made)

@@ -6,7 +6,6 @@ import subprocess
 import tools
 
 HEADING = "## How fast is it beside what I use now?"
-HEADING_AVX2 = "## The second build, for processors with AVX2"
 HEADING_GCM = "## How fast is GCM beside what I use now?"
 # The peers: of each its package, and the flags to link it, of which -I is for its file too.
 PEERS = {
@@ -26,20 +25,17 @@ OURS = {"this library": BASE, "this library, for AVX2": AVX2}
 # The amount is of blocks, or of bytes for counter mode and GCM.
 HEAD = ["peer", "how", "kind", "run", "key_bytes", "call", "amount", "ticks", "nanoseconds", "ratio_to_this_library"]
 DIGITS = {"ticks": 1, "nanoseconds": 1, "ratio_to_this_library": 3}
-# The rows of docs/MEASUREMENTS.md, and its columns beside this library: peers, and the run in which they are taken.
+# The rows of the first table of docs/MEASUREMENTS.md, and its columns beside this library: the run and the engine of each.
 BOTH_KEYS = "both keys"
-STREAMS = {"64 bytes": 64, "256 bytes": 256, "1,500 bytes": 1500, "1 MiB": 1 << 20}
 PUBLISHED = {"a key, for both directions": (BOTH_KEYS, 1)}
-PUBLISHED |= {f"{n:,} block{'s' * (n > 1)} {it}ed": (it, n) for n in (1, 8, 64, 4096) for it in ("encrypt", "decrypt")}
-PUBLISHED |= {f"counter mode, {title}": ("counter mode", n) for title, n in STREAMS.items() if n != 256}
+PUBLISHED |= {f"{n:,} block{'s' * (n > 1)} {it}ed": (it, n) for n in (1, 2, 8, 64, 4096) for it in ("encrypt", "decrypt")}
+PUBLISHED |= {f"counter mode, {it}": ("counter mode", n) for it, n in (("64 bytes", 64), ("1,500 bytes", 1500), ("1 MiB", 1 << 20))}
 CONSTANT_TIME, WITH_INSTRUCTIONS = "no AES instructions", "all instructions"
-WITH_THEM = ("OpenSSL", "AES instructions")
-COLUMNS_PUBLISHED = [(CONSTANT_TIME, (it, "SSSE3 permutations")) for it in ("OpenSSL", "Botan", "Libgcrypt")]
-COLUMNS_PUBLISHED.append((WITH_INSTRUCTIONS, WITH_THEM))
-# The rows of the section on the build for AVX2: blocks in both directions, and counter mode.
-COUNTS = (1, 2, 4, 8, 12, 15, 16, 24, 32, 40, 64, 4096)
-COMPARED = {f"{n:,} block{'s' * (n > 1)}": [("encrypt", n), ("decrypt", n)] for n in COUNTS}
-COMPARED |= {f"counter mode, {title}": [("counter mode", n)] for title, n in STREAMS.items()}
+SSSE3 = ("OpenSSL", "Botan", "Libgcrypt")
+COLUMNS = {"for AVX2": (CONSTANT_TIME, ("this library", AVX2))}
+COLUMNS |= {it: (CONSTANT_TIME, (it, "SSSE3 permutations")) for it in SSSE3}
+WITH_THEM = "OpenSSL with AES instructions"
+COLUMNS[WITH_THEM] = (WITH_INSTRUCTIONS, ("OpenSSL", "AES instructions"))
 # The rows of the section on GCM: what was timed, and over how many blocks its time is told.
 GCM = {
     "a key": ("GCM key", 1, 1),
@@ -54,8 +50,8 @@ PICTURED = [("encrypt", 4096), ("encrypt", 1), ("key and block", 1)]
 
 def summary(rows, key=16):
     """The rows that the tables of docs/MEASUREMENTS.md and the picture are made from."""
-    engines = {("this library", BASE), ("this library", AVX2), *(peer for _, peer in COLUMNS_PUBLISHED)}
-    calls = {*PUBLISHED.values(), ("key for encryption", 1), ("key for decryption", 1), *sum(COMPARED.values(), [])}
+    engines = {("this library", BASE), *(engine for _, engine in COLUMNS.values())}
+    calls = {*PUBLISHED.values(), ("key for encryption", 1), ("key for decryption", 1)}
     of_all = {*PICTURED, *(it[:2] for it in GCM.values())}
     return [
         r
@@ -135,54 +131,32 @@ def span(nanoseconds):
     return f"{number:.1f} {unit}" if number < 10 else f"{number:,.0f} {unit}"
 
 
-def ratios_of(rows, key):
-    """For each row and column of docs/MEASUREMENTS.md the time divided by this library's in the same run; and this
-    library's own time for each row."""
-    runs = {run: of_run(rows, run) for run in (CONSTANT_TIME, WITH_INSTRUCTIONS)}
-    ratios = {}
-    for title, call in PUBLISHED.items():
-        for run, peer in COLUMNS_PUBLISHED:
-            ours, theirs = (runs[run].get(it, {}).get((key, *call)) for it in (("this library", BASE), peer))
-            if theirs:
-                ratios[title, peer] = theirs / ours
-    ticks = runs[CONSTANT_TIME]["this library", BASE]
-    rate = sum(r["nanoseconds"] for r in rows) / sum(r["ticks"] for r in rows)
-    return ratios, {title: span(rate * ticks[key, *call]) for title, call in PUBLISHED.items()}
-
-
-def least_to_most(ratios, rows, without):
-    """The least and the most of some rows and columns."""
-    found = [it for (title, peer), it in ratios.items() if title.startswith(rows) and (peer != WITH_THEM) == without]
-    return f"{ratio(min(found))} to {ratio(max(found))}" if found else "–"
-
-
-def quicker_peers(ratios):
-    """The rows in which a peer without AES instructions takes less time than this library, as words."""
-    found = [
-        f"{peer} for {title} ({ratio(it)})"
-        for (title, (peer, how)), it in ratios.items()
-        if (peer, how) != WITH_THEM and it < 1
-    ]
-    return f" Quicker than this library: {', '.join(found)}." if found else ""
-
-
 def published(where, rows, key=16):
     """The section of docs/MEASUREMENTS.md that a run writes: what it means, a table, and how it was measured."""
-    ratios, times = ratios_of(rows, key)
-    lines = []
-    for title in PUBLISHED:
-        cells = [ratios.get((title, peer)) for _, peer in COLUMNS_PUBLISHED]
-        lines.append([title, times[title], *(ratio(it) if it else "–" for it in cells)])
+    runs = {run: of_run(rows, run) for run in (CONSTANT_TIME, WITH_INSTRUCTIONS)}
+    rate = sum(r["nanoseconds"] for r in rows) / sum(r["ticks"] for r in rows)
+    ratios, lines = {}, []
+    for title, call in PUBLISHED.items():
+        for column, (run, engine) in COLUMNS.items():
+            ours, theirs = (runs[run].get(it, {}).get((key, *call)) for it in (("this library", BASE), engine))
+            if theirs:
+                ratios[title, column] = theirs / ours
+        cells = [ratio(ratios[title, it]) if (title, it) in ratios else "–" for it in COLUMNS]
+        lines.append([title, span(rate * runs[CONSTANT_TIME]["this library", BASE][key, *call]), *cells])
+
+    def among(title, *columns):
+        found = [it for (of, column), it in ratios.items() if of.startswith(title) and column in columns]
+        return f"{ratio(min(found))} to {ratio(max(found))}" if found else "–"
+
+    quicker = [f"{column} for {title} ({ratio(it)})" for (title, column), it in ratios.items() if column in SSSE3 and it < 1]
     conditions, _, versions_there = tools.briefly(where).partition(", beside ")
-    peers = {peer for _, (peer, _) in COLUMNS_PUBLISHED}
-    shown = [it for it in re.split(", | and ", versions_there) if it.partition(" ")[0] in peers]
-    one, many = (least_to_most(ratios, it, True) for it in ("1 block", "4,096"))
-    with_them = least_to_most(ratios, "4,096", False)
+    shown = [it for it in re.split(", | and ", versions_there) if it.partition(" ")[0] in SSSE3]
     meaning = (
-        f"Without AES instructions, OpenSSL, Botan and Libgcrypt use SSSE3. They take {one} times as long as this "
-        f"library for one block, and {many} times as long for 4,096.{quicker_peers(ratios)} OpenSSL with AES "
-        f"instructions takes {with_them} times as long for 4,096 blocks. Take that if your processor has them and speed "
-        "is all that you need."
+        f"Without AES instructions, OpenSSL, Botan and Libgcrypt use SSSE3. They take {among('1 block', *SSSE3)} times as long as this "
+        f"library for one block, and {among('4,096', *SSSE3)} times as long for 4,096.{' Quicker than this library: ' if quicker else ''}"
+        f"{', '.join(quicker)}{'.' if quicker else ''} The build for processors with AVX2 takes {among('2 blocks', 'for AVX2')} of the time "
+        f"of the first one for two blocks, and {among('4,096', 'for AVX2')} for 4,096. OpenSSL with AES instructions takes "
+        f"{among('4,096', WITH_THEM)} times as long for 4,096 blocks. Take that if your processor has them and speed is all that you need."
     )
     how = (
         "The first column is the time of a call from C with a key of 16 bytes. The others are the time of the same "
@@ -191,41 +165,9 @@ def published(where, rows, key=16):
     )
     measured = (
         f"Measured by `evidence/speed/run`: {conditions}, beside {', '.join(shown)}. "
-        "[summary.csv](../evidence/speed/summary.csv) has these times and those of the picture. A release's `speed.csv` "
-        "has every time of the run: keys of 24 and 32 bytes, every count of blocks from 1 to 40, counter mode from "
-        "16 bytes on, and three more libraries."
+        "[summary.csv](../evidence/speed/summary.csv) has these times and those of the picture."
     )
-    heads = ["", "this library", "OpenSSL", "Botan", "Libgcrypt", "OpenSSL with AES instructions"]
-    return meaning, tools.table(heads, *lines), how, measured
-
-
-def fastest(of, place):
-    """The least time of a library without AES instructions and without tables, for one call."""
-    peers = [peer for run, peer in COLUMNS_PUBLISHED if run == CONSTANT_TIME]
-    return min(of[it][place] for it in peers if place in of.get(it, {}))
-
-
-def published_avx2(where, rows, key=16):
-    """The section of docs/MEASUREMENTS.md on the build for AVX2: a table of its times divided by others."""
-    of = of_run(rows, CONSTANT_TIME)
-    first, second = of["this library", BASE], of["this library", AVX2]
-    by = {}
-    for title, calls in COMPARED.items():
-        places = [(key, *it) for it in calls]
-        by[title] = [second[it] / first[it] for it in places], [second[it] / fastest(of, it) for it in places]
-    lines = [[title, *(", ".join(map(ratio, its)) for its in both)] for title, both in by.items()]
-    many = [title for title, calls in COMPARED.items() if calls[0][0] == "encrypt" and calls[0][1] >= 16]
-    spans = [sorted(it for title in many for it in by[title][n]) for n in (0, 1)]
-    meaning = (
-        f"From 16 blocks on it takes {ratio(spans[0][0])} to {ratio(spans[0][-1])} of the time of the first build, and "
-        f"{ratio(spans[1][0])} to {ratio(spans[1][-1])} of the fastest of the three libraries without AES instructions."
-    )
-    fewer = " and ".join(ratio(second[key, it, 24] / second[key, it, 32]) for it in ("encrypt", "decrypt"))
-    measured = (
-        "The numbers of blocks are for encryption and decryption, with the key set beforehand. They are of the run above, "
-        f"in one process with both builds. 24 blocks take {fewer} of the time of 32."
-    )
-    return meaning, tools.table(["", "of the first build", "of the fastest library"], *lines), measured
+    return meaning, tools.table(["", "this library", *COLUMNS], *lines), how, measured
 
 
 def gcm(rows):
@@ -257,13 +199,12 @@ def published_gcm(where, rows):
         "of polynomials. OpenSSL, Libgcrypt, Nettle and mbedtls then read tables at secret places; Botan and BearSSL "
         "don't, nor does this library.",
         tools.table(heads, *lines),
-        "![Time of GCM beside the libraries of Debian](../evidence/speed/gcm.svg)",
         "These times are of the run above.",
     )
 
 
 # The sections that a run writes, and what makes each.
-SECTIONS = {HEADING: published, HEADING_AVX2: published_avx2, HEADING_GCM: published_gcm}
+SECTIONS = {HEADING: published, HEADING_GCM: published_gcm}
 
 
 def publish(where, rows):

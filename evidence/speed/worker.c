@@ -14,33 +14,28 @@ ENGINES
 
 enum { MOST = 65536, MOST_ENGINES = 24, WHATS = 192, LONG = 1024, LONG_EVERY = 4 };
 static struct engine engines[MOST_ENGINES];
-static int count, refused[MOST_ENGINES], many[MOST_ENGINES], whats_made;
+static int count, refused[MOST_ENGINES], whats_made;
 static size_t rounds_made;
 void add(const struct engine *engine) { engines[count++] = *engine; }
 
 /* What is timed, on so many blocks, or bytes of counter mode and GCM; the first two calls and the two of keys in the order of
-   directions. What isn't for all engines is for those without tables that need no AES instructions. */
+   directions. */
 enum call { TO_ENCRYPT, TO_DECRYPT, STREAM, KEY_ENCRYPT, KEY_DECRYPT, KEY_AND_BLOCK, GCM_KEY, SEAL, ADDITIONAL };
 static const char *const names[] = {"encrypt", "decrypt", "counter mode", "key for encryption", "key for decryption",
                                     "key and block", "GCM key", "GCM, text", "GCM, additional data"};
-static struct what { enum call call; size_t amount; int for_all; } whats[WHATS];
-static void what(enum call call, size_t amount, int for_all) {
-    whats[whats_made++] = (struct what){call, amount, for_all};
-}
+static struct what { enum call call; size_t amount; } whats[WHATS];
+static void what(enum call call, size_t amount) { whats[whats_made++] = (struct what){call, amount}; }
 static void list(void) {
-    static const size_t streams[] = {16, 32, 48, 64, 80, 96, 112, 128, 144, 160, 176, 192, 208, 224, 240, 256, 320, 384,
-                                     512, 1024, 1500, 4096, 16384, 65536, 1 << 20};
-    static const size_t blocks[] = {64, 128, 512, 1024, 4096}, texts[] = {0, 16, 64, 256, 1024, 1500, 4096, 16384};
+    static const size_t streams[] = {16, 64, 256, 1500, 1 << 20}, texts[] = {64, 1500, 16384};
     for (enum call it = TO_ENCRYPT; it <= TO_DECRYPT; it++) {
-        for (size_t n = 1; n <= 40; n++) what(it, n, n == 1 || n == 4 || n == 8);
-        for (size_t i = 0; i < sizeof blocks / sizeof *blocks; i++) what(it, blocks[i], blocks[i] == 64 || blocks[i] == 4096);
+        for (size_t n = 1; n <= 40; n++) what(it, n);
+        what(it, 64);
+        what(it, 4096);
     }
-    for (size_t i = 0; i < sizeof streams / sizeof *streams; i++)
-        what(STREAM, streams[i], streams[i] == 64 || streams[i] == 1500 || streams[i] == 1 << 20);
-    for (enum call it = KEY_ENCRYPT; it <= GCM_KEY; it++) what(it, 1, 1);
-    for (size_t i = 0; i < sizeof texts / sizeof *texts; i++)
-        what(SEAL, texts[i], texts[i] == 64 || texts[i] == 1500 || texts[i] == 16384);
-    what(ADDITIONAL, 16384, 1);
+    for (size_t i = 0; i < sizeof streams / sizeof *streams; i++) what(STREAM, streams[i]);
+    for (enum call it = KEY_ENCRYPT; it <= GCM_KEY; it++) what(it, 1);
+    for (size_t i = 0; i < sizeof texts / sizeof *texts; i++) what(SEAL, texts[i]);
+    what(ADDITIONAL, 16384);
 }
 static size_t blocks_of(const struct what *it) {
     return it->call == STREAM || it->call >= SEAL ? (it->amount + 15) / 16 : it->amount;
@@ -51,7 +46,6 @@ static uint8_t data[16 * MOST] __attribute__((aligned(64))), key[32], iv[16], ad
 
 static int can(int i, const struct what *it) {
     const struct engine *e = &engines[i];
-    if (!it->for_all && !many[i]) return 0;
     return it->call == STREAM ? e->stream != 0 : it->call < GCM_KEY ? e->process != 0 : e->seal != 0;
 }
 static uint32_t turns_of(const struct what *it) {
@@ -173,7 +167,6 @@ int main(int argc, char **argv) {
     ENGINES
     for (int i = 0; i < count; i++) {
         const struct engine *e = &engines[i];
-        many[i] = run == NO_AES && (!strcmp(e->kind, "hybrid") || !strcmp(e->kind, "permutations"));
         for (size_t bytes = 16; bytes <= 32; bytes += 8) refused[i] |= !right(e, bytes) || (e->seal && !seals_right(e));
     }
     struct timespec t0, t1;

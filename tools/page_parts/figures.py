@@ -9,7 +9,6 @@ The words of a mark are a kind and what it is about. A FILE may be a pattern (`*
     lines FILE ..       the lines of the files
     edits               the wrong bodies that have to be refused
     rows FILE           the rows of the tables in a page
-    most FILE COLUMN BUILD   the largest number in a column of a table, in the rows of a build
     ratios CALLS BLOCKS the least and the most time of OpenSSL with AES instructions, divided by this library's, in calls
                         (`encrypt,decrypt`) on so many blocks, over the sizes of keys
 
@@ -63,21 +62,12 @@ def rows(page):
     return sum(line.startswith("|") for line in text) - 2 * tables
 
 
-def table(path):
-    """The rows of a table: its first line that is no comment names the columns."""
-    text = [line for line in (ROOT / path).read_text(encoding="utf-8").splitlines() if not line.startswith("#")]
-    return list(csv.DictReader(text, delimiter="\t" if path.endswith(".tsv") else ","))
-
-
-def most(path, column, build):
-    return max(int(row[column]) for row in table(path) if row["build"] == build)
-
-
 def ratios(calls, blocks):
+    text = (ROOT / "evidence/speed/summary.csv").read_text(encoding="utf-8").splitlines()
     wanted = {"peer": "OpenSSL", "how": "AES instructions", "amount": blocks}
     found = [
         float(row["ratio_to_this_library"])
-        for row in table("evidence/speed/summary.csv")
+        for row in csv.DictReader(it for it in text if not it.startswith("#"))
         if row["call"] in calls.split(",") and all(row[name] == it for name, it in wanted.items())
     ]
     if not found:
@@ -85,7 +75,7 @@ def ratios(calls, blocks):
     return f"{min(found):.2f} to {max(found):.2f}"
 
 
-KINDS = {it.__name__: it for it in (lines, edits, rows, most, ratios)}
+KINDS = {it.__name__: it for it in (lines, edits, rows, ratios)}
 
 
 def figure(words):

@@ -1,6 +1,6 @@
 //! How long messages may be.
 
-ghost use Rattle.std.specs.Prelude.{◌↔◌, ◌^◌, ◌≤◌, length, IsTrue};
+ghost use Rattle.std.specs.Prelude.{◌↔◌, ◌+◌, ◌^◌, ◌≤◌, length, IsTrue};
 
 /// How many bytes a text has at most, and additional data (RFC 8452, 4 and 5).
 pub const LONGEST: u64 = 1 << 36;
@@ -17,6 +17,8 @@ pub(crate) fn are_allowed(additional: &[u8], text: &[u8]) -> bool
 const FEW: usize = 160;
 
 /// Returns whether additional data and a text, of so many bytes, are a few blocks.
-pub fn are_few(additional: usize, text: usize) -> bool {
+pub fn are_few(additional: usize, text: usize) -> bool
+    ensures { IsTrue result ↔ (additional + text ≤ 160) }
+{
     additional <= FEW && text <= FEW - additional
 }

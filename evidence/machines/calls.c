@@ -7,12 +7,18 @@
 #define _GNU_SOURCE
 #include "fotsgure_aes.h"
 #include "fotsgure_gcm.h"
-#include "marks.h"
 
 #include <stdio.h>
 #include <stdlib.h>
 #include <string.h>
 #include <ucontext.h>
+
+/* The marks between which the plugin of qemu follows what runs: hints that no processor knows, which do nothing. */
+#ifdef __riscv
+#define MARK(number) __asm__ volatile("addi zero, zero, " #number : : : "memory")
+#else
+#define MARK(number) __asm__ volatile("nopl " #number "(%%rax)" : : : "memory")
+#endif
 
 enum { MOST = 2048, RUNS = 4, STACK = 1 << 14, FILL = 0xa5, PIECE = 4, MORE = 32, ROOM = MOST + MORE };
 static struct fotsgure_aes aes;
@@ -67,20 +73,14 @@ static int stream_in_pieces(void) {
     return 0;
 }
 
-/* Planted, each to be found, but for the keystream, which may stay: by the instructions, by the addresses alone, or by what is left. */
+/* Planted, each to be found: by the instructions, by the addresses alone, or by what is left. */
 static volatile uint8_t table[256], sink;
 static void use(const void *at) { __asm__ volatile("" : : "r"(at) : "memory"); }
 static int branch(void) { return data[3] & 1 ? sink = 1, 0 : 0; }
-static int early_exit(void) {
-    for (int i = 0; i < 16 && data[i] == 0; i++)
-        sink = 2;
-    return 0;
-}
 static int look_up(void) { return sink = table[data[5]], 0; }
-static int of_struct(size_t wiped) {
+static int not_wiped(void) {
     struct fotsgure_aes it;
     int said = (int)fotsgure_aes_set_key(&it, key, size);
-    memset(&it, 0, wiped);
     use(&it);
     return said;
 }
@@ -91,13 +91,6 @@ static int inner(void) {
     use(it);
     return said;
 }
-static int keystream(void) {
-    uint8_t it[16];
-    for (int i = 0; i < 16; i++)
-        it[i] = plain[i] ^ sealed[i];
-    use(it);
-    return 0;
-}
 
 /* What a call takes; how its message is sealed; what its data are at first and have to be at the end. */
 enum takes { NOTHING, OF_BLOCKS, OF_BYTES, OF_MESSAGES };
@@ -107,9 +100,8 @@ enum text { PLAIN, SEALED, ZEROS };
 #define CHANGED additional, extra + 1, data, bytes
 #define ALONE(IT, name, call) IT(name, NOTHING, CTR, PLAIN, PLAIN, 0, call)
 #define CALLS(IT) \
-    ALONE(IT, planted_branch, branch()) ALONE(IT, planted_early_exit, early_exit()) ALONE(IT, planted_look_up, look_up()) \
-    ALONE(IT, planted_inner, inner()) ALONE(IT, planted_not_wiped, of_struct(0)) ALONE(IT, planted_keystream, keystream()) \
-    ALONE(IT, planted_half_wiped, of_struct(sizeof aes / 2)) ALONE(IT, version, fotsgure_aes_version() != FOTSGURE_AES_VERSION) \
+    ALONE(IT, planted_branch, branch()) ALONE(IT, planted_look_up, look_up()) ALONE(IT, planted_inner, inner()) \
+    ALONE(IT, planted_not_wiped, not_wiped()) ALONE(IT, version, fotsgure_aes_version() != FOTSGURE_AES_VERSION) \
     ALONE(IT, key_length, fotsgure_aes_key_length(&aes) != size) ALONE(IT, wipe, (fotsgure_aes_wipe(&aes), 0)) \
     ALONE(IT, set_key, fotsgure_aes_set_key(&aes, key, size)) \
     IT(set_key_refused, NOTHING, CTR, PLAIN, PLAIN, FOTSGURE_AES_KEY_LENGTH, fotsgure_aes_set_key(&aes, key, 17)) \
@@ -245,9 +237,9 @@ static void empty_registers(void) {
 }
 static void enter(void) {
     empty_registers();
-    BEGIN();
+    MARK(112);
     called();
-    END();
+    MARK(113);
 }
 /* Registers are as they were when the program began, so that none of them has a trace of a key. */
 static ucontext_t begin;

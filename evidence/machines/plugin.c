@@ -1,7 +1,7 @@
 /* A plugin of qemu that follows what runs between two marks: how many instructions, which ones in which order, and which
  * addresses they read and write. Each time it meets the second mark it writes a line with tabs: instructions, a hash of
- * their addresses, and a hash of the addresses that they read and write. It is compiled with RISCV or X86 for these.
- * usage: qemu-aarch64 -plugin plugin.so,out=FILE PROGRAM .. */
+ * their addresses, and a hash of the addresses that they read and write. It is compiled with RISCV for that machine, else for x86-64.
+ * usage: qemu-x86_64 -plugin plugin.so,out=FILE PROGRAM .. */
 #include <stddef.h>
 #include <stdint.h>
 #include <stdio.h>
@@ -26,13 +26,11 @@ void qemu_plugin_register_vcpu_tb_exec_cb(struct qemu_plugin_tb *, void (*)(unsi
 uint64_t qemu_plugin_insn_vaddr(const struct qemu_plugin_insn *);
 __attribute__((visibility("default"))) int qemu_plugin_version = 1;
 
-/* The marks are hints that no processor knows, so that they do nothing: see marks.h. */
-#if defined X86
-enum { NOPL = 0x401f0f, BEGIN = NOPL | 112 << 24, END = NOPL | 113 << 24 };
-#elif defined RISCV
+/* The marks are hints that no processor knows, so that they do nothing: see calls.c. */
+#ifdef RISCV
 enum { ADDI = 0x13, BEGIN = ADDI | 112 << 20, END = ADDI | 113 << 20 };
 #else
-enum { HINT = 0xd503201f, BEGIN = HINT | 112 << 5, END = HINT | 113 << 5 };
+enum { NOPL = 0x401f0f, BEGIN = NOPL | 112 << 24, END = NOPL | 113 << 24 };
 #endif
 
 static FILE *out;

@@ -1,0 +1,198 @@
+"""The processors that a machine is compared with, in a process that stops after each instruction: the x86-64 processor that this runs on
+(by ptrace), and the 64-bit ARM processor that qemu-aarch64 emulates (by gdb's remote protocol)."""
+import ctypes
+import os
+import shutil
+import signal
+import socket
+import struct
+import subprocess
+import tempfile
+import time
+
+from aarch64 import Aarch64
+from bits import Unproved
+from x86_64 import X86_64
+
+
+class Beside:
+    """A processor says: names (the general registers, and two more: the address of the next instruction, and the word that has the flags),
+    layout (how these lie in what `raw` gives and `put_raw` takes), and flags (bits of that word)."""
+
+    def all_registers(self):
+        return dict(zip(self.names, struct.unpack(self.layout, self.raw())))
+
+    def registers(self):
+        """The address of the next instruction, the general registers, and the flags."""
+        found = self.all_registers()
+        return found[self.address], found, {f: found[self.word] >> bit & 1 for f, bit in self.flags.items()}
+
+    def put_registers(self, address, general, flags):
+        registers = {**self.all_registers(), **general, self.address: address}
+        for f, value in flags.items():
+            registers[self.word] = registers[self.word] & ~(1 << self.flags[f]) | value << self.flags[f]
+        self.put_raw(struct.pack(self.layout, *[registers[r] for r in self.names]))
+
+
+libc = ctypes.CDLL(None, use_errno=True)
+libc.ptrace.restype, libc.ptrace.argtypes = ctypes.c_long, [ctypes.c_long, ctypes.c_long, ctypes.c_void_p, ctypes.c_void_p]
+TRACEME, SINGLESTEP, GETREGS, SETREGS, GETREGSET, SETREGSET, XSTATE = 0, 9, 12, 13, 0x4204, 0x4205, 0x202
+
+
+class Processor(Beside):
+    names = "r15 r14 r13 r12 rbp rbx r11 r10 r9 r8 rax rcx rdx rsi rdi orig_rax rip cs eflags rsp ss fs gs ds es fs_base gs_base".split()
+    layout, address, word = "<27Q", "rip", "eflags"
+    flags = {"c": 0, "z": 6, "s": 7, "o": 11}
+    low, high = 160, 576  # where an area of XSAVE has the lower and the upper halves of vector registers
+    state, all = 512, 6   # and which of them are there
+
+    @staticmethod
+    def missing():
+        return [] if "avx2" in open("/proc/cpuinfo").read() else ["AVX2"]
+
+    def __init__(self, path):
+        self.area = ctypes.create_string_buffer(4096)
+        self.vector = (ctypes.c_void_p * 2)(ctypes.addressof(self.area), 4096)
+        self.pid = os.fork()
+        if self.pid == 0:
+            libc.ptrace(TRACEME, 0, None, None)
+            os.execv(path, [path])
+        os.waitpid(self.pid, 0)
+        self.memory = open("/proc/%d/mem" % self.pid, "r+b", buffering=0)
+
+    def ptrace(self, request, address=None, data=None):
+        if libc.ptrace(request, self.pid, address, data) < 0:
+            raise OSError(ctypes.get_errno(), "ptrace")
+
+    def write(self, address, content):
+        self.memory.seek(address)
+        self.memory.write(content)
+
+    def read(self, address, size):
+        self.memory.seek(address)
+        return self.memory.read(size)
+
+    def raw(self):
+        buffer = ctypes.create_string_buffer(8 * len(self.names))
+        self.ptrace(GETREGS, None, buffer)
+        return buffer.raw
+
+    def put_raw(self, raw):
+        self.ptrace(SETREGS, None, raw)
+
+    def vectors(self, numbers):
+        """All of them, as they are read at once."""
+        self.ptrace(GETREGSET, XSTATE, ctypes.addressof(self.vector))
+        low, high = self.area[self.low:self.low + 256], self.area[self.high:self.high + 256]
+        return {n // 16: low[n:n + 16] + high[n:n + 16] for n in range(0, 256, 16)}
+
+    def put_vectors(self, vectors):
+        """After `vectors`, which reads what is left as it is."""
+        for n, b in vectors.items():
+            for start, half in (self.low, b[:16]), (self.high, b[16:]):
+                self.area[start + 16 * n:start + 16 * n + 16] = half
+        state = int.from_bytes(self.area[self.state:self.state + 8], "little") | self.all
+        self.area[self.state:self.state + 8] = state.to_bytes(8, "little")
+        self.ptrace(SETREGSET, XSTATE, ctypes.addressof(self.vector))
+
+    def step(self, name, address, called):
+        """One instruction, or libc's function up to this address."""
+        self.single_step()
+        while called and self.all_registers()["rip"] != address:
+            self.single_step()
+        return True
+
+    def single_step(self):
+        self.ptrace(SINGLESTEP)
+        _, status = os.waitpid(self.pid, 0)
+        if not os.WIFSTOPPED(status) or os.WSTOPSIG(status) != signal.SIGTRAP:
+            raise Unproved("on the processor it stops with status %x" % status)
+
+    def close(self):
+        self.memory.close()
+        os.kill(self.pid, signal.SIGKILL)
+        os.waitpid(self.pid, 0)
+
+
+class Emulator(Beside):
+    # The protocol's registers: these, and from this number on the vectors.
+    names, first_vector = Aarch64.registers + ["pc", "cpsr"], 34
+    layout, address, word = "<33QI", "pc", "cpsr"
+    flags = {"s": 31, "z": 30, "c": 29, "o": 28}
+    most = 1024  # bytes of memory in a packet
+
+    @staticmethod
+    def missing():
+        return [] if shutil.which("qemu-aarch64") else ["qemu-aarch64 (Debian's qemu-user)"]
+
+    def __init__(self, path):
+        self.folder = tempfile.TemporaryDirectory()
+        name = os.path.join(self.folder.name, "gdb")
+        self.process = subprocess.Popen(["qemu-aarch64", "-cpu", "cortex-a57", "-g", name, path])
+        self.socket = socket.socket(socket.AF_UNIX)
+        while self.socket.connect_ex(name):
+            if self.process.poll() is not None:
+                raise Unproved("qemu-aarch64 doesn't start")
+            time.sleep(0.01)
+        self.received, self.acknowledged = b"", b""
+        self.ask("qXfer:features:read:target.xml:0,fff")  # else it knows no single registers
+
+    def ask(self, text):
+        """The answer to a packet, which ends in # and two digits. The next packet acknowledges it."""
+        text = text.encode()
+        self.socket.sendall(self.acknowledged + b"$%s#%02x" % (text, sum(text) & 255))
+        self.acknowledged = b"+"
+        while b"#" not in self.received[:-2]:
+            more = self.socket.recv(65536)
+            if not more:
+                raise Unproved("the emulator has ended")
+            self.received += more
+        answer, self.received = self.received[:-3].partition(b"$")[2], b""
+        return answer.decode()
+
+    def tell(self, text, answer="OK"):
+        found = self.ask(text)
+        if not found.startswith(answer):
+            raise Unproved("the emulator answers %s to %s" % (found, text[:20]))
+
+    def write(self, address, content):
+        for k in range(0, len(content), self.most):
+            part = content[k:k + self.most]
+            self.tell("M%x,%x:%s" % (address + k, len(part), part.hex()))
+
+    def read(self, address, size):
+        parts = [self.ask("m%x,%x" % (address + k, min(self.most, size - k))) for k in range(0, size, self.most)]
+        return bytes.fromhex("".join(parts))
+
+    def raw(self):
+        return bytes.fromhex(self.ask("g"))
+
+    def put_raw(self, raw):
+        self.tell("G" + raw.hex())
+
+    def vectors(self, numbers):
+        return {n: bytes.fromhex(self.ask("p%x" % (self.first_vector + n))) for n in numbers}
+
+    def put_vectors(self, vectors):
+        for n, b in vectors.items():
+            self.tell("P%x=%s" % (self.first_vector + n, b.hex()))
+
+    def step(self, name, address, called):
+        """The same. A stop would take away the exclusive access that `ldaxr` has got, so the instructions up to `stlxr` are one step.
+        False if nothing was done."""
+        if called or name == "stlxr":
+            self.tell("Z0,%x,4" % address)
+            self.tell("c", "T05")
+            self.tell("z0,%x,4" % address)
+        elif name != "ldaxr":
+            self.tell("s", "T05")
+        return name != "ldaxr"
+
+    def close(self):
+        self.process.kill()
+        self.process.wait()
+        self.socket.close()
+        self.folder.cleanup()
+
+
+PROCESSORS = {X86_64: Processor, Aarch64: Emulator}
