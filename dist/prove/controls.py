@@ -47,8 +47,9 @@ def fault(options, build, k):
     """Plants a fault, and says whether it is refused."""
     what, *edit, calls = FAULTS[build][k]
     keyed = keyed_of(options, build)
-    right, (program, line) = keyed.program, with_fault(options, build, "fault_%d" % k, *edit)
+    right, line = keyed.program, 0
     try:
+        program, line = with_fault(options, build, "fault_%d" % k, *edit)
         if calls:
             keyed.program = program
             for call in calls(keyed):

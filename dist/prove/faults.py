@@ -8,10 +8,12 @@ BATCHES = r'"aes_hybrid::batches::process_on_planes::<#\w+>":'
 DECRYPT_BATCHES = BATCHES + r"[\s\S]*?^" + BATCHES  # the second one
 IN_BATCHES = r'"aes_hybrid::batches::process_in_batches::<#\w+>":'
 COUNTER = r'"aes_ctr::add_in_batches::add_keystream::<#\w+>":'
+NEXT_COUNTER = r'"aes_ctr::add_in_batches::add_next::<#\w+>":'
+NEXT_COUNTER += r"[\s\S]*?^" + NEXT_COUNTER  # the second one
 UNWRAP = r'"key_wrap::wrapping::unwrap::<#\w+>":'
 TABLE, SET_KEY, WIPE = r"\.Lstatic\.0:", r'"aes_c::kept::fotsgure_aes_set_key":', r"fotsgure_aes_wipe:"
 BLOCKS, BLOCKS_TO, BLOCKS_WITH = (r"fotsgure_aes_encrypt_blocks%s:" % way for way in ("", "_to", "_with"))
-ADD_KEYSTREAM, CBC = r"fotsgure_aes_add_keystream:", r"fotsgure_aes_cbc_encrypt:"
+ADD_KEYSTREAM, CBC, CBC_BACK = r"fotsgure_aes_add_keystream:", r"fotsgure_aes_cbc_encrypt:", r"fotsgure_aes_cbc_decrypt:"
 PRODUCT, COMPARE = r'"gcm::multiples::Multiples::two_products":', r'"gcm::mode::is_expected":'
 GCTR = r'"gcm::gctr::add_gctr::<#\w+>":'
 FIRST_COUNTER = r'"gcm::mode::LentGcm::put_pre_counter::<#\w+>":'
@@ -73,6 +75,16 @@ FAULTS = {
         ("the position in another place of the struct", ADD_KEYSTREAM, r"16\(%rsi\)", "8(%rsi)", lambda k: [k.add_keystream(21, 11)]),
         ("counter mode without the carry", COUNTER, r"adcq\t\$0, %rax", "nop",
          lambda k: [k.add_keystream(21, 11, 1), k.add_keystream(21, 40, 2)]),
+        ("the position left out where a text ends in its first block", COUNTER, r"addq\t%r15, %rcx\n\tadcq\t\$0, %rax", "nop",
+         lambda k: [k.add_keystream(21, 11)]),
+        ("the carry of the position's block left out", NEXT_COUNTER, r"adcq\t\$0, %r8", "nop", lambda k: [k.add_keystream(21, 40, 1)]),
+        ("addresses that wrap around, compared", CBC, r"subq\t\$16, %rsp",
+         "subq\t$16, %rsp\n\tmovabsq\t$-0x100000000000000, %rax\n\taddq\t%rdx, %rax\n\tcmpq\t%rdx, %rax\n\tja\t77f\n77:",
+         lambda k: [k.cbc_encrypt(2)]),
+        ("a value below the stack pointer during a call of libc", CBC_BACK, r"(\tcallq\t\*memcpy.*\n)",
+         "\tmovq\t%r12, -96(%rsp)\n\\1\tmovq\t-96(%rsp), %r12\n", lambda k: [k.cbc_decrypt(1)]),
+        ("code that runs before all calls", WIPE, ENTRY, "\\1\t.pushsection\t.init_array,\"aw\"\n\t.quad\t0\n\t.popsection\n",
+         lambda k: [k.wipe()]),
         ("CBC without a sum", CBC, r"\tv?p?xor(ps|q)?\t.*%xmm.*\n", "", lambda k: [k.cbc_encrypt(2)]),
         ("the sum of a block and the initial value left", CBC, r"(xorps\t%xmm0, %xmm1\n)", r"\1\tmovups\t%xmm1, -128(%rsp)\n",
          lambda k: [k.cbc_encrypt(1)]),

@@ -134,6 +134,8 @@ class Program:
         size, count = struct.unpack_from("<HH", raw, 0x3a)
         headers = [struct.unpack_from("<IIQQQQ", raw, table + k * size) for k in range(count)]
         names = headers[struct.unpack_from("<H", raw, 0x3e)[0]][4]
+        if any(raw.startswith((b".init", b".fini", b".preinit", b".ctors", b".dtors"), names + header[0]) for header in headers):
+            raise Unproved("has code that runs before or after all calls")
         return [(address, raw[start:start + length]) for name, kind, flags, address, start, length in headers
                 if kind == 1 and (flags & 7 == 2 or raw.startswith(b".got\0", names + name))]
 
@@ -159,6 +161,7 @@ class Machine:
         self.shifted, self.lost, self.origins, self.native, self.after_external = {}, set(), {}, None, None
         self.placed, self.may_reveal, self.assumed, self.equalities, self.done, self.want = {}, False, (), {}, 0, None
         self.written = (), 0
+        self.stale = set()  # bytes of the stack that a call of libc may have overwritten since they were written
         self.room = None  # the sums that are ROOM, and the number with which it may be compared
         self.wraps, self.wrap = None, 1 << 64  # a word of unknown value, and the offset from which on it has wrapped around
         self.enter(arguments)
@@ -250,15 +253,22 @@ class Machine:
         bits, out = self.full_adder(self.bits(x, size), self.bits(y, size), carry)
         return self.unbits(bits), {"c": out if out < 2 else SECRET, "z": SECRET, "s": SECRET, "o": SECRET}
 
+    def is_placed(self, *addresses):
+        """Whether these are addresses in an object, or so near to it that none is 0 or has wrapped around: no object lies in the first
+        4,096 bytes of memory, nor in its upper half. So they are ordered as their offsets are. (A counter isn't placed.)"""
+        for a in addresses:
+            if not (isinstance(a, Pointer) and a.base in self.regions and -4096 < a.offset < 1 << 47):
+                return False
+        return True
+
     def minus(self, x, y, size, carry=1):
         """x - y, or one less if `carry` is 0. The flag c says that there is no borrow."""
-        if is_pointer(x) and y == 0 and carry and x.base in self.regions:
-            return x, {"z": 0, "c": 1}  # no object is at address 0
+        if y == 0 and carry and self.is_placed(x):
+            return x, {"z": 0, "c": 1}
         if isinstance(x, Distance) and is_int(y) and carry:
             return x._replace(offset=x.offset - y), {"c": ("not", (x, y, "below")) if y else 1, "z": (x, y, "equal")}
         if is_pointer(x, y) and carry and x.base == y.base:
-            # Objects don't wrap around, so their addresses are ordered as offsets are; a counter may.
-            order = {"c": int(x.offset >= y.offset)} if x.base in self.regions else {}
+            order = {"c": int(x.offset >= y.offset)} if self.is_placed(x, y) else {}
             return x.offset - y.offset & WORD, {**order, "z": int(x.offset == y.offset)}
         if is_pointer(x, y) and carry and {x.base, y.base} <= set(self.regions):
             return Distance(x.base, y.base, x.offset - y.offset), {}
@@ -290,7 +300,7 @@ class Machine:
             return {"z": int(r == 0), "s": r >> 8 * size - 1}
         if isinstance(r, Mask):
             return {} if r.equal else {"z": self.zero_flag(r.differences)}
-        if is_pointer(r) and r.base in self.regions:
+        if self.is_placed(r):
             return {"z": 0}
         return {"z": 0 if 1 in self.bits(r, size) else SECRET, "s": SECRET}
 
@@ -479,11 +489,15 @@ class Machine:
 
     def load(self, address, size, align=1):
         content, o = self.place(address, size, False, align)
+        if self.stale and content is self.regions["stack"].content and not self.stale.isdisjoint(range(o, o + size)):
+            raise Unproved("reads what a call of libc may have overwritten")
         return list(content[o:o + size])
 
     def store(self, address, b, align=1):
         content, o = self.place(address, len(b), True, align)
         content[o:o + len(b)] = b
+        if self.stale and content is self.regions["stack"].content:
+            self.stale.difference_update(range(o, o + len(b)))
         self.written = content, o
 
     # Flags.
@@ -521,6 +535,7 @@ class Machine:
         m = copy.copy(self)
         m.regions = {name: Region(r.content, r.writable, r.align) for name, r in self.regions.items()}
         m.general, m.vectors, m.flags, m.written = dict(self.general), list(self.vectors), dict(self.flags), ((), 0)
+        m.stale = set(self.stale)
         m.before, m.placed, m.origins, m.want = dict(self.before), {**self.placed, flag: answer}, dict(self.origins), None
         return m
 
@@ -552,10 +567,10 @@ class Machine:
                 raise Unproved("d%d isn't restored" % n)
 
     def step(self):
-        instruction = self.program.at(self.next_address)
-        self.steps += 1
-        self.used[instruction.form] = self.next_address
-        self.last, self.next_address = self.next_address, instruction.next
+        self.last, self.steps = self.next_address, self.steps + 1
+        instruction = self.program.at(self.last)
+        self.used[instruction.form] = self.last
+        self.next_address = instruction.next
         instruction.run(self, instruction.name, *instruction.operands)
 
     def go_to(self, address):
@@ -568,6 +583,8 @@ class Machine:
         """A call of libc by its contract. What it may leave in registers is undefined."""
         if (self.general[self.stack_pointer].offset + 8 * len(self.pushed)) % 16:
             raise Unproved("the stack isn't aligned at a call")
+        stack = self.general[self.stack_pointer].offset
+        self.stale.update(range(stack - self.red_zone, stack))
         to, source, count = (self.general[r] for r in self.arguments[:3])
         if not is_int(count):
             raise Unproved("a length depends on the key or on data")

@@ -65,14 +65,16 @@ def aes_cases(choose):
     counts = choose(range(0, 1025, 7), (33,), (0, 1, 16, 130, 257))
     yield "add_keystream", [(0, n) for n in counts] + [(7, 40), (2 ** 64 - 21, 20), (5, 40, 2)]
     yield "add_keystream", [(3, n, aes.NEVER, "_to") for n in choose(counts[1::2], (33,), (0, 130))]
+    later = [(21, 11), (21, 11, 1), (21, 40, 1), (21, 40, 2), (21, 11, 1, "_to"), (21, 11, 1, "_with")]  # than the first block
+    yield "add_keystream", choose(later, later[2:3], later[:2] + later[3:])
     yield "add_keystream", [(3, n, aes.NEVER, "_with") for n in choose(counts[1::3], (33,))]
-    yield "add_keystream", [(5, 280, wrap) for wrap in choose(range(1, 19), (), (1, 2, 9, 17))]
+    yield "add_keystream", [(5, 280, wrap) for wrap in choose(range(1, 19), (), (9, 17))]
     yield "cbc_decrypt", choose(range(65), (9,), (0, 1, 8, 17))
     yield "cbc_encrypt", choose(range(65), (2,), (0, 1))
     yield "wrap", choose(range(2, 13), (2,), (3,))
     yield "unwrap", choose(range(3, 14), (3,), (4,))
-    yield "wrap_padded", choose(range(1, 41), (9,), (1, 8, 20))
-    yield "unwrap_padded", choose(range(1, 41), (9,), (1, 8, 20))
+    yield "wrap_padded", choose(range(1, 41), (9,), (1, 8))
+    yield "unwrap_padded", choose(range(1, 41), (9,), (1, 8))
     yield "unwrap_padded_refused", choose(range(6), (4, 5), (0, 1, 2, 3))
 
 
@@ -155,8 +157,8 @@ def version(dist, library):
 
 
 # Calls that also run on the processor, by default and with all lengths.
-BESIDE = "set_key", "blocks encrypt 17", "seal 1 1"
-ALL_BESIDE = *BESIDE, "add_keystream 0 130", "unwrap 3", "open 0 0"
+BESIDE = "blocks encrypt 17", "seal 13 33"
+ALL_BESIDE = *BESIDE, "set_key", "add_keystream 0 130", "unwrap 3", "seal 1 1", "open 0 0"
 
 
 class Task:
@@ -172,7 +174,12 @@ class Task:
     def run(self):
         start = time.process_time()
         self.path = "%s/%s_%d_%d" % (self.options.out, self.build.replace("/", "_"), self.key_size, self.part)
-        program = link(source(self.options.dist, self.build), self.path, BUILDS[self.build])
+        try:
+            program = link(source(self.options.dist, self.build), self.path, BUILDS[self.build])
+        except Unproved as e:
+            print("%s: NOT PROVED: %s" % (self.name, e), flush=True)
+            self.failed, self.seconds = 1, 0
+            return self
         library = self.build.split("/")[1][:3]
         keyed = LIBRARIES[library][0](program, self.key_size)
         self.case("set_key", keyed.set_key)
@@ -191,7 +198,8 @@ class Task:
             self.used.update(m.used)
             left = ", ".join("%d %s in %s" % (len(v), kind, place) for (place, kind), v in sorted(m.left.items()))
             text = "%d instructions, %d bytes of stack; left: %s" % (m.steps, m.top - m.lowest, left or "nothing")
-            if self.first and what in (ALL_BESIDE if self.options.all else BESIDE) and not PROCESSORS[type(m)].missing():
+            beside = ALL_BESIDE if self.options.all else BESIDE if "siv" not in self.build else ()
+            if self.first and what in beside and not PROCESSORS[type(m)].missing():
                 self.compared |= set(prove(SEED).used)
             self.proved += 1
         except Unproved as e:
