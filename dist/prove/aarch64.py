@@ -27,6 +27,7 @@ class Aarch64(Machine):
     kept, kept_halves = X[19:30] + ["sp"], range(8, 16)
     scratch = X[:19]
     red_zone = 0
+    conditional, padding = r"b\.|cbn?z|tbn?z", "nop|udf"
 
     def enter(self, arguments):
         super().enter(arguments)
@@ -359,7 +360,7 @@ def addv(m, name, to, a):
     if None in known or any(equal for _, equal, _ in known) or a.lane != 2 or any(
             sum(n for _, _, n in known[k::2]) > 255 for k in (0, 1)):
         raise Unproved("a sum of what depends on the key or on data")
-    m.write(to, m.to_bytes(m.mask(0, [k[0] for k in known[::2]] + [k[0] for k in known[1::2]]), 2))
+    m.write(to, m.to_bytes(m.verdict(0, [k[0] for k in known], 2), 2))
 
 
 @TABLE.of("tbl")

@@ -7,7 +7,7 @@ from collections import namedtuple
 
 from bits import DATA, KEY, LOST, PUBLIC, Domain, Unproved
 from calls import ANY, Buffer, Call, prove
-from machine import Pointer
+from machine import Pointer, Verdict
 from standards import ICV1, ICV2, Aes, number
 
 # The header's enum, structs and sizes; prove.py has the compiler compare them.
@@ -17,9 +17,9 @@ STRUCTS = {"fotsgure_aes": (484, {"key_length": 0, "round_keys": 4}), "fotsgure_
            "fotsgure_aes_cbc": (16, {"previous": 0})}
 STRUCT = 484
 
-# The word of the counter's low half at block `first`, which has wrapped around from block `wrap` on.
-Counter = namedtuple("Counter", "word first wrap")
-NEVER = 1 << 64
+# The word of the counter's low half at block `first`. It has wrapped around from block `wrap` on; later blocks than `last` don't occur.
+Counter = namedtuple("Counter", "word first wrap last")
+NEVER, BATCH = 1 << 64, 16  # a batch may have more blocks than the text
 
 
 class Keyed:
@@ -68,9 +68,12 @@ class Keyed:
     def byte_for_any(self, b):
         return self.domain.pack([self.bit_for_any(x) for x in self.key_domain.bits(b)])
 
-    def proved(self, call, seed=None):
-        given_the_key = any(b.content is self.key for b in call.buffers)
-        return prove(self.key_domain if given_the_key else self.domain, self.program, call, seed)
+    def proved(self, calls, seed=None):
+        """Proves a statement, which may be several calls; the machine after the last one."""
+        for call in [calls] if isinstance(calls, Call) else calls:
+            given_the_key = any(b.content is self.key for b in call.buffers)
+            m = prove(self.key_domain if given_the_key else self.domain, self.program, call, seed)
+        return m
 
     def once(self, what, make):
         """What several statements need, made when it is first asked for."""
@@ -168,7 +171,8 @@ class Keyed:
                 return b
             if d.bits_of[b] is None:
                 name = d.opaque_of[b]
-                return contents[name[0]][name[1]] if name[0] in contents else e.opaque(name)
+                if not isinstance(name[0], Verdict):
+                    return contents[name[0]][name[1]] if name[0] in contents else e.opaque(name)
             try:
                 return self.byte_for_any(b)
             except Unproved:
@@ -218,7 +222,7 @@ class Keyed:
         before, name = self.counter_words(self.key_domain if way == "_with" else self.domain, position // 16)
         after, _ = self.counter_words(self.domain, position // 16)
         ctr = Buffer("ctr", before + number(position, 8)[::-1], after + number(position + count, 8)[::-1])
-        return self.in_each_way("aes_add_keystream", way, [ctr], "bytes", data, want, count, counter=Counter(name, position // 16, wrap),
+        return self.in_each_way("aes_add_keystream", way, [ctr], "bytes", data, want, count, counter=Counter(name, position // 16, wrap, (position + count) // 16 + BATCH),
                                 keystream=stream, plain=data + want, may_stay={"plain": 4} if way == "_to" else None)
 
     # CBC (SP 800-38A, 6.2).
@@ -268,19 +272,18 @@ class Keyed:
                 yield "vector", self.of(block, t - 1), self.aes.xor(self.of(a, t), number(t, 8)) + self.of(r, t - 1 + n)
         return steps, semiblocks, self.of(a, 6 * n) + [x for i in range(n) for x in self.of(r, 6 * n + i)]
 
-    def unwrap_string(self, n, start=None, last=None):
-        """The inverse of W (6.1, algorithm 2) on n + 1 semiblocks: its steps, the semiblocks, and what becomes of them. With `start` and
-        `last` those alone whose first and last semiblock become these."""
+    def unwrap_string(self, n, start=None):
+        """The inverse of W (6.1, algorithm 2) on n + 1 semiblocks: its steps, the semiblocks, and what becomes of them. With `start` those
+        alone whose first semiblock becomes that."""
         a, r = self.first[:8], self.first[8:]
         wrapped = self.aes.xor(self.of(a, 0), number(6 * n, 8)) + [x for i in range(n) for x in self.of(r, n - 1 - i)]
-        start, last = start or self.of(a, 6 * n), self.of(last or r, 6 * n)
+        start = start or self.of(a, 6 * n)
 
         def steps():
             for k in range(1, 6 * n + 1):  # t is 6n + 1 - k
                 done_a = start if k == 6 * n else self.aes.xor(self.of(a, k), number(6 * n - k, 8))
-                done_r = last if k == 5 * n + 1 else self.of(r, k - 1 + n)
-                yield "vector", self.of(self.ciphers["decrypt"], k - 1), done_a + done_r
-        key = [x for i in range(n) for x in (last if i == n - 1 else self.of(r, 7 * n - 1 - i))]
+                yield "vector", self.of(self.ciphers["decrypt"], k - 1), done_a + self.of(r, k - 1 + n)
+        key = [x for i in range(n) for x in self.of(r, 7 * n - 1 - i)]
         return steps, wrapped, start, key
 
     def wrap(self, count):
@@ -311,33 +314,35 @@ class Keyed:
         return Call("aes_wrap_padded", [self.schedule(), Buffer("input", key[:length]), length, output, n + 1], DONE,
                     steps=steps, plain=key)
 
-    def unwrap_padded(self, length):
+    def unwrap_padded(self, length, said=None, paths=None):
         """And back: both counts are in semiblocks, and the output has one less. Afterwards *key_length is how many bytes the key has: the
-        first ones of the output, which zeros follow. .. DONE"""
-        return self.unwrap_padded_to(ICV2 + number(length, 4), length, DONE)
-
-    def unwrap_padded_to(self, start, length, status, filler=0):
-        """What was wrapped becomes the semiblock `start` and `length` bytes, which the byte `filler` follows."""
-        n, r = -(-length // 8), self.first[8:]
-        padding = 8 * n - length
-        last = r[:8 - padding] + [filler] * padding
+        first ones of the output, which zeros follow. .. REFUSED, and the output then is all zeros. .. In all cases but DONE *key_length
+        is 0. Whatever comes before the length, and after so many bytes, is judged by one branch. `said` is another length in its place,
+        with which everything is refused."""
+        n, padding, r = -(-length // 8), -length % 8, self.first[8:]
+        start = self.of(self.first[:4], 6 * n) + number(length if said is None else said, 4)
         if n == 1:
-            wrapped, block = self.first, self.ciphers["decrypt"]
-            steps, key = (lambda: iter([("block", block, start + self.of(last, 1))])), self.of(last, 1)
+            wrapped, key = self.first, self.of(r, 1)
+            steps = lambda: iter([("memory", self.ciphers["decrypt"], start + key)])
         else:
-            steps, wrapped, _, key = self.unwrap_string(n, start, last)
-        output = Buffer("output", self.undefined(8 * n), key if status == DONE else [0] * 8 * n)
-        key_length = Buffer("key_length", self.undefined(8), number(length if status == DONE else 0, 8)[::-1])
-        return Call("aes_unwrap_padded", [self.schedule(), Buffer("input", wrapped), n + 1, output, n, key_length],
-                    status, steps=steps, plain=key)
+            steps, wrapped, _, key = self.unwrap_string(n, start)
+        right, none = Buffer("output", self.undefined(8 * n), key), [0] * 8 * n
+        nothing = {"output": none, "key_length": [0] * 8}
+        key_length = Buffer("key_length", self.undefined(8), number(length, 8)[::-1])
+        more = dict(status=DONE, reveals=self.aes.xor(start[:4], ICV2) + key[8 * n - padding:], refused=REFUSED, refused_after=nothing)
+        if said is not None:
+            more = {"status": REFUSED}
+            right.after, key_length.after = none, [0] * 8
+        return Call("aes_unwrap_padded", [self.schedule(), Buffer("input", wrapped), n + 1, right, n, key_length], steps=steps,
+                    plain=key, paths=paths, **more)
 
-    def unwrap_padded_refused(self, which):
-        """.. REFUSED, and the output then is all zeros .. In all cases but DONE *key_length is 0. Shown for some first semiblocks that no
-        length has, and for padding that isn't zeros, with all keys."""
-        starts = (ICV1, ICV2 + number(8, 4), ICV2 + number(2 ** 32 - 1, 4), ICV2[:3] + [0xa7] + number(16, 4), ICV2 + number(17, 4))
-        if which == len(starts):
-            return self.unwrap_padded_to(ICV2 + number(13, 4), 13, REFUSED, filler=1)
-        return self.unwrap_padded_to(starts[which], 16, REFUSED)
+    def unwrap_padded_refused(self, n, every):
+        """The same where the number in the place of the length isn't one of n semiblocks: one more, one less, and 2^k and 2^k - 1 for every
+        so many k. Whether the length is wrong or the rest, the same instructions run."""
+        paths, powers = {}, [1 << k for k in range(0, 33, every)]
+        yield self.unwrap_padded(8 * n - 3, paths=paths)
+        for said in {8 * n - 8, 8 * n + 1, *powers[:-1], *(power - 1 for power in powers)}.difference(range(8 * n - 7, 8 * n + 1)):
+            yield self.unwrap_padded(8 * n - 3, said, paths)
 
     # Calls that are refused: nothing but the status changes.
     def refused(self):

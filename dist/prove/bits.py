@@ -3,7 +3,8 @@
 A *cell* is a byte that takes all 256 values: a byte of the key schedule, of a block, or what enters an S-box. A bit is kept as the
 exclusive or of functions of single cells, each as a truth table of 256 entries (a Python int whose entry 0 is 0), and perhaps of 1. So
 equal forms are equal functions of the cells. Exclusive or is exact, cell by cell. `And` and look-ups are done only where everything
-involved depends on one cell; then they are exact too, on the 256 values of that cell. If bits depend on several cells, `named` asks whether
+involved depends on one cell; then they are exact too, on the 256 values of that cell. (GHASH's products of two bits of cells are the
+exception: such a sum is kept beside the forms, see Products, and only added.) If bits depend on several cells, `named` asks whether
 they are sums of bits of one byte that the specification named (an input of an S-box), and writes that byte instead: an equation, checked by
 computing both sides. There is no search, and nothing is approximated: what can't be done raises Unproved.
 

@@ -8,7 +8,7 @@ from native import Native
 
 STACK = 16384  # FOTSGURE_AES_STACK and FOTSGURE_GCM_STACK
 KINDS = "key", "inner", "plain", "step", "keystream", "result", "data"  # of what is left; see `kind`
-MAY_STAY = KINDS[3:]  # on the stack
+MAY_STAY = "step", "keystream", "result", "data"  # on the stack
 ANY = "any"    # for a Buffer of which something else is asked than bytes
 
 
@@ -26,14 +26,15 @@ class Call:
     `refused`, and Buffers are what `refused_after` says by their names, or what they were. `assumes` are bytes of public data that are not
     all zero. `later` turns bytes of the key's own domain into those of arbitrary round keys, for a call that expands a key (see aes.py).
     `keystream` is what is added to the data, and `plain` what is secret of the data and the results; `may_stay` says how many bytes of a
-    kind may be left besides."""
+    kind may be left besides. `counter` is a word of unknown value (aes.Counter), and `room` what may be asked of that of GCM (see gcm.py).
+    Calls that share `paths` have to run the same instructions whenever they return the same."""
 
     def __init__(self, name, arguments, status, size=4, steps=None, reveals=None, refused=None, refused_after=None, assumes=None,
-                 later=None, counter=None, keystream=(), plain=(), may_stay=None, room=None):
+                 later=None, counter=None, keystream=(), plain=(), may_stay=None, room=None, paths=None):
         self.name, self.arguments, self.status, self.size, self.steps = name, arguments, status, size, steps
         self.reveals, self.refused, self.refused_after = reveals, refused, refused_after or {}
         self.assumes, self.later, self.counter = assumes, later, counter
-        self.keystream, self.plain, self.may_stay, self.room = keystream, plain, may_stay or {}, room
+        self.keystream, self.plain, self.may_stay, self.room, self.paths = keystream, plain, may_stay or {}, room, paths
         self.buffers = [a for a in arguments if isinstance(a, Buffer)]
 
 
@@ -45,10 +46,10 @@ def prove(domain, program, call, seed=None, strict=True):
     arguments = [Pointer(a.name, 0) if isinstance(a, Buffer) else a for a in call.arguments]
     m = program.machine(domain, program, regions, program.symbols["fotsgure_" + call.name], arguments)
     m.may_reveal, m.assumed = call.reveals is not None, call.assumes
-    m.room = call.room
-    if call.counter:
-        m.wraps, m.wrap = call.counter.word, call.counter.wrap
+    m.room, m.counter = call.room, call.counter
     watches = [step_by_step(call.steps())] if call.steps else []
+    if call.paths is not None:
+        watches.append(lambda m: m.path.append(m.last))
     if seed is None:
         waiting = [m]
         while waiting:
@@ -57,7 +58,8 @@ def prove(domain, program, call, seed=None, strict=True):
             try:
                 run(m, call, watches)
             except Question as question:
-                waiting += [other for other in (m.answered(question.args[0], answer) for answer in (1, 0)) if not wraps(other)]
+                both = (m.answered(question.args[0], answer) for answer in (1, 0))
+                waiting += [other for other in both if not is_without_room(other)]
                 continue
             check(m, call)
             if strict:
@@ -73,7 +75,7 @@ def prove(domain, program, call, seed=None, strict=True):
     return m
 
 
-def wraps(m):
+def is_without_room(m):
     """Whether a branch was taken as if the counter wrapped in the text, which isn't so in a statement with `room`."""
     return m.room and [m.placed.get((ROOM, m.room[1], what)) for what in ("above", "equal")] == [0, 0]
 
@@ -99,6 +101,10 @@ def check(m, call):
     status = call.status if right else call.refused
     if status is not None and m.returned(call.size) != status:
         raise Unproved("returns %s and not %s" % (m.returned(call.size), status))
+    if call.paths is not None:  # for each answer to how far buffers are apart
+        answers = {q: answer for q, answer in m.placed.items() if q[0] != "zero"}
+        if call.paths.setdefault((status, *sorted(answers.items())), m.path) != m.path:
+            raise Unproved("runs other instructions than another call that returns %s" % status)
     m.results = []
     for buffer in call.buffers:
         want = buffer.after if right else call.refused_after.get(buffer.name, buffer.content)
@@ -128,7 +134,7 @@ def step_by_step(steps):
     (or a function that makes that), and other bytes, which are arbitrary. When the result is there, these bytes take its place everywhere,
     so what is proved from there on holds for any. "hash" is looked for in vector registers, or as two words in either order of bytes;
     products of bits are then forgotten: what still depends on them is lost, and may not even be left. "vector" is looked for in vector
-    registers, "memory" where something was written, "block" in any region; another name is that of a region."""
+    registers, "memory" where something was written; another name is that of a region."""
     steps = list(steps)
 
     def watch(m):
@@ -169,8 +175,6 @@ def found(m, where, want):
         content, at = m.written
         return any(content[k] == want[0] and content[k:k + len(want)] == want
                    for k in range(max(0, at - len(want)), min(at + 16, len(content))))
-    if where == "block":
-        return any(want == region.content[k:k + 16] for region in m.regions.values() for k in range(0, len(region.content) - 15, 8))
     if where == "vector":
         return any(v[0] == want[0] and v[:16] == want for v in m.vectors)
     words = [v for v in m.general.values() if type(v) is tuple and len(v) == 8]

@@ -5,7 +5,7 @@ message that comes in pieces is proved from any state of the message: whatever v
 import functools
 from collections import namedtuple
 
-from aes import DONE, NEVER, Counter, Keyed
+from aes import BATCH, DONE, NEVER, Counter, Keyed
 from bits import DATA, KEY, PUBLIC
 from calls import ANY, Buffer, Call, compare
 from machine import Pointer
@@ -174,7 +174,7 @@ class KeyedGcm(Keyed):
 
     def in_text(self, first, end):
         """For a text that ends at this place of the keystream: what a call may ask of J_0."""
-        return {} if first.counter is not None else {"room": (self.room, end), "counter": Counter("J_0 low", 0, NEVER)}
+        return {} if first.counter is not None else {"room": (self.room, end), "counter": Counter("J_0 low", 0, NEVER, end // 16 + BATCH)}
 
     def counter_block(self, first, i):
         """The block J_0 + i, the last 32 bits being a number of their own (inc_32, 6.2)."""
@@ -196,7 +196,7 @@ class KeyedGcm(Keyed):
     def streams(self, first, count, position=0):
         """The blocks of keystream of so many bytes from a position on."""
         begin, end = 1 + position // 16, 2 + (position + count) // 16
-        if count > 256:  # a batch of 16 may have more blocks, whose keystream is thrown away: their S-boxes have names then
+        if count >= 224:  # a batch of 16 may have more blocks, whose keystream is thrown away: their S-boxes have names then
             for i in range(end, end // 16 * 16 + 18):
                 self.stream(first, i)
         return [b for i in range(begin, end) for b in self.stream(first, i)]

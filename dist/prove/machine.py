@@ -1,6 +1,6 @@
 """A machine on symbolic bytes: values, operands, memory, flags and how a call runs, as x86-64 and 64-bit ARM have them alike.
 
-A value is an int (a constant), a Pointer, a Distance, a Number, a Mask, or a tuple of bytes of bits.Domain, lowest first. Branches,
+A value is an int (a constant), a Pointer, a Distance, a Number, a Verdict, or a tuple of bytes of bits.Domain, lowest first. Branches,
 addresses and lengths have to be constants or Pointers. A Pointer is known only relative to a buffer, so what is proved holds wherever the
 buffers are. Whatever isn't covered raises Unproved. A step is `instruction.run(machine, name, *operands)`. A machine is a class below
 Machine, in a file of its own (x86_64.py, aarch64.py), that says:
@@ -12,6 +12,7 @@ Machine, in a file of its own (x86_64.py, aarch64.py), that says:
     scratch                those that libc's functions may change
     red_zone               bytes below the stack pointer that a function may use
     stack_step             what the stack pointer has to be a multiple of where it is the base of an access
+    conditional, padding        how a line of objdump begins that is a conditional jump, or fills up space between others
     decode(text, following)     a line of objdump as an Instruction; `following` is the next address
     leave()                     after libc's function: goes on at the return address
     condition(code)             0 or 1, by the flags (see Machine.decide)"""
@@ -26,8 +27,9 @@ from bits import PUBLIC, Pause, Unproved
 Pointer = namedtuple("Pointer", "base offset")  # base: the name of a region, or of a register's value before the call
 Distance = namedtuple("Distance", "base other offset")  # the address of a buffer, less that of another, plus a constant
 Number = namedtuple("Number", "base offset")  # 32 bits: a number of unknown value, plus a constant; higher bytes aren't known
-Mask = namedtuple("Mask", "equal differences")  # 16 bits: it is `equal` if these bytes are all 0, else another number; zeros above
-NAMED = {Pointer: 8, Distance: 8, Number: 4, Mask: 2}  # how many bytes of these are known by their names
+# So many bytes of which only this is known: they are the number `right` if all the differences are 0, else another one; zeros above.
+Verdict = namedtuple("Verdict", "right differences size")
+SIZES = {Pointer: 8, Distance: 8, Number: 4}  # how many bytes of these are known by their names
 
 # Operands; others are ints, and texts or tuples of these that only instructions of one machine have.
 Register = namedtuple("Register", "name size at", defaults=[0])  # at: the first byte; x86's ah, bh, ch and dh begin at byte 1
@@ -37,6 +39,7 @@ Vector = namedtuple("Vector", "number size lane at clears", defaults=[1, 0, True
 Memory = namedtuple("Memory", "size base index scale offset align before after", defaults=[1, 0, 0])
 Instruction = namedtuple("Instruction", "run name operands next form")  # form: the name and the kinds of operands
 
+LIBC = "memcpy", "memmove", "memset"
 ROOM = Pointer("room", 0)  # how many bytes of keystream come before the counter of GCM, 32 bits of unknown value, wraps around
 SECRET = "secret"  # a flag that depends on the key or on data; None is a flag that is undefined
 RETURN_ADDRESS = Pointer("return address", 0)
@@ -113,6 +116,7 @@ class Program:
     def __init__(self, path, machine):
         self.path, self.machine = path, machine
         self.lines, self.cache = self.disassembled(), {}
+        self.went = set()  # (where a jump stands, where it led)
         addresses = list(self.lines)
         self.next = dict(zip(addresses, addresses[1:]))
         self.symbols = {name: int(address, 16) for address, name in re.findall(r"(?m)^([0-9a-f]+) \S (.*)$", self.tool("nm"))}
@@ -139,6 +143,16 @@ class Program:
         return [(address, raw[start:start + length]) for name, kind, flags, address, start, length in headers
                 if kind == 1 and (flags & 7 == 2 or raw.startswith(b".got\0", names + name))]
 
+    def functions(self):
+        """{name: addresses} of the instructions of each function of the text under proof, without what fills up space."""
+        starts = {address: name for name, address in self.symbols.items()}
+        out, name = {}, ""
+        for address, line in self.lines.items():
+            name = starts.get(address, name)
+            if name not in ("start", *LIBC) and not re.match(self.machine.padding, line):
+                out.setdefault(name, set()).add(address)
+        return out
+
     def at(self, address):
         if address not in self.cache:
             if address not in self.lines:
@@ -157,16 +171,16 @@ class Machine:
         self.vectors = [[domain.undefined] * self.vector_size for _ in range(self.vector_count)]
         self.flags = dict.fromkeys("czso")
         self.next_address, self.last, self.steps, self.used = entry, entry, 0, {}
-        self.externals = {program.symbols[n]: n for n in ("memcpy", "memmove", "memset") if n in program.symbols}
+        self.externals = {program.symbols[n]: n for n in LIBC if n in program.symbols}
         self.shifted, self.lost, self.origins, self.native, self.after_external = {}, set(), {}, None, None
         self.placed, self.may_reveal, self.assumed, self.equalities, self.done, self.want = {}, False, (), {}, 0, None
         self.written = (), 0
         self.stale = set()  # bytes of the stack that a call of libc may have overwritten since they were written
-        self.room = None  # the sums that are ROOM, and the number with which it may be compared
-        self.wraps, self.wrap = None, 1 << 64  # a word of unknown value, and the offset from which on it has wrapped around
+        self.room = self.counter = None  # see calls.Call
+        self.path = []
         self.enter(arguments)
         self.top = self.lowest = self.general[self.stack_pointer].offset
-        self.before = dict(self.general)
+        self.entered = dict(self.general)
 
     def enter(self, arguments):
         """Registers and stack at the first instruction of a call."""
@@ -183,20 +197,24 @@ class Machine:
     def to_bytes(self, value, size):
         if isinstance(value, int):
             return list((value & (1 << 8 * size) - 1).to_bytes(size, "little"))
-        named = NAMED.get(type(value))
+        named = self.size_of(value)
         if named is None:
             return list(value[:size])
         above = self.domain.undefined if isinstance(value, Number) else 0
         return [self.domain.opaque((value, k)) for k in range(min(named, size))] + [above] * (size - named)
+
+    def size_of(self, value):
+        """How many bytes of a value are known by its name; None if it is bytes."""
+        return value.size if isinstance(value, Verdict) else SIZES.get(type(value))
 
     def from_bytes(self, b):
         if max(b) < 256:
             return int.from_bytes(bytes(b), "little")
         if b[0] in self.domain.opaque_of:
             value = self.domain.opaque_of[b[0]][0]
-            named = NAMED.get(type(value), 9)
+            named = self.size_of(value)
             above = {0, self.domain.undefined} if isinstance(value, Number) else {0}
-            if len(b) >= named and list(b[:named]) == self.to_bytes(value, named) and {*b[named:]} <= above:
+            if named and len(b) >= named and list(b[:named]) == self.to_bytes(value, named) and {*b[named:]} <= above:
                 return value
         return tuple(b)
 
@@ -245,12 +263,19 @@ class Machine:
             return x._replace(offset=x.offset + y), {}
         if (is_pointer(x) or is_pointer(y)) and size == 8:
             old, r = x if is_pointer(x) else y, self.offset(self.offset(x, carry), y)
-            known = r.base == self.wraps and r.offset >= old.offset
-            return r, {"c": int(old.offset < self.wrap <= r.offset)} if known else {}
+            counter = self.counter
+            known = counter and r.base == counter.word and old.offset <= r.offset <= counter.last
+            return r, {"c": int(old.offset < counter.wrap <= r.offset)} if known else {}
         constant, rest = (x, y) if is_int(x) else (y, x)
         if self.room and (constant, carry, *self.to_bytes(rest, size)) in self.room[0]:
             return ROOM, {}
-        bits, out = self.full_adder(self.bits(x, size), self.bits(y, size), carry)
+        try:
+            bits, out = self.full_adder(self.bits(x, size), self.bits(y, size), carry)
+        except Unproved:
+            if not is_int(constant):
+                raise
+            zero = self.differences(rest, -constant - carry, size)
+            return self.verdict(0, zero, size), {"c": SECRET, "z": self.zero_flag(zero), "s": SECRET, "o": SECRET}
         return self.unbits(bits), {"c": out if out < 2 else SECRET, "z": SECRET, "s": SECRET, "o": SECRET}
 
     def is_placed(self, *addresses):
@@ -283,23 +308,28 @@ class Machine:
     def compared(self, x, y, size):
         """The flags of x - y alone. If values depend on the key or on data, whether they are equal may be asked where a call may
         reveal it: whether all these bytes are zero."""
+        if isinstance(x, Verdict):
+            return {"z": self.zero_flag(x.differences)} if y == x.right else {}
         if tuple not in (type(x), type(y)):
             return self.minus(x, y, size)[1]
-        different = self.bytewise("xor", self.to_bytes(x, size), self.to_bytes(y, size))
         never = y == 0 and 1 in self.bits(x, size)
-        return {"c": SECRET, "z": 0 if never else self.zero_flag(different), "s": SECRET, "o": SECRET}
+        return {"c": SECRET, "z": 0 if never else self.zero_flag(self.differences(x, y, size)), "s": SECRET, "o": SECRET}
+
+    def differences(self, x, y, size):
+        """Bytes that are all 0 if two values are equal."""
+        return self.bytewise("xor", self.to_bytes(x, size), self.to_bytes(y, size))
 
     def zero_flag(self, b):
         """Whether all these bytes are zero."""
-        unknown = [x for x in b if x > 255]
-        return int(not any(b)) if any(0 < x < 256 for x in b) or not unknown else ("zero", *unknown)
+        unknown = {x for x in b if x > 255}
+        return int(not any(b)) if any(0 < x < 256 for x in b) or not unknown else ("zero", *sorted(unknown))
 
     def zero_and_sign(self, r, size):
         """The flags of a result."""
         if is_int(r):
             return {"z": int(r == 0), "s": r >> 8 * size - 1}
-        if isinstance(r, Mask):
-            return {} if r.equal else {"z": self.zero_flag(r.differences)}
+        if isinstance(r, Verdict):
+            return {} if r.right else {"z": self.zero_flag(r.differences)}
         if self.is_placed(r):
             return {"z": 0}
         return {"z": 0 if 1 in self.bits(r, size) else SECRET, "s": SECRET}
@@ -314,10 +344,21 @@ class Machine:
         self.lost.add(b)
         return b
 
-    def mask(self, equal, differences):
-        value = Mask(equal, tuple(differences))
-        self.lost.update(self.to_bytes(value, 2))
+    def verdict(self, right, differences, size):
+        value = Verdict(right, tuple(differences), size)
+        self.lost.update(self.to_bytes(value, size))
         return value
+
+    def with_verdict(self, name, x, y, size):
+        """`and`, `or` and `xor` of a verdict and another value, where the result is a verdict."""
+        if name == "or" and x.right == 0:  # 0 if both are
+            also = y.differences if isinstance(y, Verdict) and y.right == 0 else self.to_bytes(y, size)
+            return self.verdict(0, [*x.differences, *also], size)
+        if name == "xor" and is_int(y) and not y >> 8 * x.size:
+            return self.verdict(x.right ^ y, x.differences, x.size)
+        if name == "and" and y in (x, (1 << 8 * x.size) - 1):
+            return x
+        raise Unproved("computes with whether bytes are equal")
 
     # What instructions of both machines do.
     def bytewise(self, name, a, b):
@@ -337,12 +378,12 @@ class Machine:
         if is_int(x, y):
             y = ~y if name.endswith("not") else y
             return {"a": x & y, "o": x | y, "x": x ^ y}[name[0]] & (1 << 8 * size) - 1
-        if isinstance(x, Mask) and is_int(y) and y >> 16 == 0 and (name == "xor" or name == "and" and y == 0xffff):
-            return self.mask(x.equal ^ y, x.differences) if name == "xor" else x
-        if isinstance(x, (Pointer, Mask)) and x == y and name == "and" or name == "or" and y == 0:
+        if name == "or" and y == 0 or name == "and" and x == y and is_pointer(x):
             return x
         if name == "or" and x == 0:
             return y
+        if isinstance(x, Verdict) or isinstance(y, Verdict):
+            return self.with_verdict(name, *((x, y) if isinstance(x, Verdict) else (y, x)), size)
         if is_pointer(x) and is_int(y) and x.base in self.regions:
             align, low = self.regions[x.base].align, -y & WORD
             if name == "or" and y < align and not x.offset & y:
@@ -535,8 +576,8 @@ class Machine:
         m = copy.copy(self)
         m.regions = {name: Region(r.content, r.writable, r.align) for name, r in self.regions.items()}
         m.general, m.vectors, m.flags, m.written = dict(self.general), list(self.vectors), dict(self.flags), ((), 0)
-        m.stale = set(self.stale)
-        m.before, m.placed, m.origins, m.want = dict(self.before), {**self.placed, flag: answer}, dict(self.origins), None
+        m.entered, m.stale, m.path, m.want = dict(self.entered), set(self.stale), list(self.path), None
+        m.placed, m.origins = {**self.placed, flag: answer}, dict(self.origins)
         return m
 
     # Running.
@@ -558,9 +599,9 @@ class Machine:
             raise
         except Unproved as e:
             raise Unproved("%s [at %x: %s]" % (e, self.last, self.program.lines.get(self.last))) from None
-        self.before[self.stack_pointer] = self.offset(self.before[self.stack_pointer], 8 * len(self.pushed))
+        self.entered[self.stack_pointer] = self.offset(self.entered[self.stack_pointer], 8 * len(self.pushed))
         for r in self.kept:
-            if self.general[r] != self.before[r]:
+            if self.general[r] != self.entered[r]:
                 raise Unproved("%s isn't restored" % r)
         for n in self.kept_halves:
             if self.from_bytes(self.vectors[n][:8]) != Pointer("the caller's d%d" % n, 0):
@@ -578,6 +619,7 @@ class Machine:
         if not (is_int(address) or address == RETURN_ADDRESS):
             raise Unproved("goes on at an address that depends on the key or on data")
         self.next_address = address
+        self.program.went.add((self.last, address))
 
     def external(self, name):
         """A call of libc by its contract. What it may leave in registers is undefined."""
@@ -618,8 +660,11 @@ class Machine:
             region.content = all_of(region.content)
         self.vectors = [all_of(v) for v in self.vectors]
         for r, v in self.general.items():
-            if not isinstance(v, (int, Pointer, Number, Mask)):
-                self.general[r] = tuple(all_of(v))
+            if type(v) is tuple or isinstance(v, Verdict) and domain is not self.domain:
+                self.general[r] = tuple(all_of(self.to_bytes(v, 8)))
+        if domain is not self.domain:  # what was asked of bytes of the other domain
+            self.equalities = {}
+            self.set_flags()
         self.domain, self.shifted = domain, {}
         if self.native and any(new < 256 for _, new in cells):
             self.native.impose()

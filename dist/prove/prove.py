@@ -1,6 +1,7 @@
 """Proves the calls of both libraries on the machine code that gcc makes of dist/x86_64 and dist/aarch64, one process for each build and key
 size. Run it as `make prove` in dist; the README says what it shows."""
 import argparse
+import collections
 import concurrent.futures
 import gc
 import itertools
@@ -75,7 +76,7 @@ def aes_cases(choose):
     yield "unwrap", choose(range(3, 14), (3,), (4,))
     yield "wrap_padded", choose(range(1, 41), (9,), (1, 8))
     yield "unwrap_padded", choose(range(1, 41), (9,), (1, 8))
-    yield "unwrap_padded_refused", choose(range(6), (4, 5), (0, 1, 2, 3))
+    yield "unwrap_padded_refused", choose([(n, 1) for n in range(1, 4)], [(1, 8)], [(2, 16)])
 
 
 def gcm_cases(choose):
@@ -166,20 +167,23 @@ class Task:
     statements have vectors once for all builds."""
 
     def __init__(self, options, build, key_size, part, parts):
-        self.options, self.build, self.key_size, self.part, self.parts = options, build, key_size, part, parts
+        self.options, self.build, self.machine, self.key_size, self.part, self.parts = options, build, BUILDS[build], key_size, part, parts
         self.name = "%s.s, key of %d bytes" % (build, key_size) + ", part %d of %d" % (part + 1, parts) * (parts > 1)
-        self.compared, self.used, self.first = set(), {}, key_size == options.keys[0]
+        self.path = "%s/%s_%d_%d" % (options.out, build.replace("/", "_"), key_size, part)
         self.proved, self.failed, self.vectors = -bool(part), 0, 0  # (set_key counts once)
+        self.used, self.compared, self.ran, self.went = {}, set(), set(), set()
 
     def run(self):
         start = time.process_time()
-        self.path = "%s/%s_%d_%d" % (self.options.out, self.build.replace("/", "_"), self.key_size, self.part)
         try:
-            program = link(source(self.options.dist, self.build), self.path, BUILDS[self.build])
+            self.prove_all(link(source(self.options.dist, self.build), self.path, self.machine))
         except Unproved as e:
             print("%s: NOT PROVED: %s" % (self.name, e), flush=True)
-            self.failed, self.seconds = 1, 0
-            return self
+            self.failed += 1
+        self.seconds = time.process_time() - start
+        return self
+
+    def prove_all(self, program):
         library = self.build.split("/")[1][:3]
         keyed = LIBRARIES[library][0](program, self.key_size)
         self.case("set_key", keyed.set_key)
@@ -188,8 +192,7 @@ class Task:
                 self.vectors = checked(keyed)
             for what, call in statements(keyed, self.options, self.part, self.parts):
                 self.case(what, lambda seed: keyed.proved(call, seed))
-        self.seconds = time.process_time() - start
-        return self
+        self.ran, self.went = set(program.cache), program.went
 
     def case(self, what, prove):
         start = time.process_time()
@@ -199,7 +202,7 @@ class Task:
             left = ", ".join("%d %s in %s" % (len(v), kind, place) for (place, kind), v in sorted(m.left.items()))
             text = "%d instructions, %d bytes of stack; left: %s" % (m.steps, m.top - m.lowest, left or "nothing")
             beside = ALL_BESIDE if self.options.all else BESIDE if "siv" not in self.build else ()
-            if self.first and what in beside and not PROCESSORS[type(m)].missing():
+            if self.key_size == self.options.keys[0] and what in beside and not PROCESSORS[self.machine].missing():
                 self.compared |= set(prove(SEED).used)
             self.proved += 1
         except Unproved as e:
@@ -214,41 +217,58 @@ def pool_of(jobs, **more):
     return concurrent.futures.ProcessPoolExecutor(jobs, initializer=gc.disable, **more)
 
 
-def run_task(*arguments):
-    return Task(*arguments).run()
+def run_all(pool, options):
+    """Each task when it has run, the longest of them first."""
+    parts = 8 if options.all else 1  # (all at once would take more memory)
+    tasks = [Task(options, build, size, part, parts) for size in options.keys for build in options.builds
+             if size != 24 or "siv" not in build for part in range(parts)]
+    for future in concurrent.futures.as_completed([pool.submit(task.run) for task in tasks]):
+        yield future.result()
 
 
 def alone(path, machine, used):
-    """The forms that the processor agreed on, each by itself; and where it didn't."""
+    """The forms that the processor didn't agree on, each by itself, and where it differs."""
     try:
-        return compare_all(Program(path, machine), used), None
+        return set(used) - compare_all(Program(path, machine), used), ""
     except Unproved as e:
-        return set(), str(e)
+        return set(used), str(e)
 
 
-def run_all(options):
-    """Runs what there is, the longest first, and yields each task when it is done; and (folder, forms, fault) for forms of instructions by
-    themselves, each once."""
-    seen, builds, parts = set(), {}, 8 if options.all else 1  # (all at once would take more memory)
-    with pool_of(options.jobs, max_tasks_per_child=1) as pool:
-        waiting = {pool.submit(run_task, options, build, size, part, parts) for size in options.keys for build in options.builds
-                   if size != 24 or "siv" not in build for part in range(parts)}
-        while waiting:
-            done, waiting = concurrent.futures.wait(waiting, return_when=concurrent.futures.FIRST_COMPLETED)
-            for future in done:
-                result = future.result()
-                if future in builds:
-                    yield (builds[future], *result)
-                    continue
-                yield result
-                folder = os.path.dirname(result.build)
-                seen |= {(folder, form) for form in result.compared}
-                new = {form: at for form, at in result.used.items() if (folder, form) not in seen}
-                seen |= {(folder, form) for form in new}
-                if new:
-                    future = pool.submit(alone, result.path, BUILDS[result.build], new)
-                    builds[future] = folder
-                    waiting.add(future)
+def compare_forms(pool, tasks):
+    """Compares each form of an instruction that was used; (how many there are, the machine and the form of those that lack it)."""
+    compared = {(task.machine, form) for task in tasks for form in task.compared}
+    forms = {(task.machine, form): (task.path, address) for task in tasks for form, address in task.used.items()}
+    programs, lacking = {}, []
+    for (machine, form), (path, address) in forms.items():
+        if (machine, form) not in compared:
+            programs.setdefault((path, machine), {})[form] = address
+    futures = [(pool.submit(alone, path, machine, used), path, machine) for (path, machine), used in programs.items()]
+    for future, path, machine in futures:
+        without, fault = future.result()
+        lacking += [(machine, form) for form in sorted(without)]
+        if fault:
+            print("%s: NOT PROVED: %s" % (path, fault), flush=True)
+    return len(forms), lacking
+
+
+def say_what_ran(tasks, lines):
+    """How many instructions of each text ran, and how many conditional jumps led both ways; with `lines`, in which functions others are."""
+    texts = {}
+    for task in tasks:
+        _, ran, went = texts.setdefault(source("", task.build)[1:], (task, set(), set()))
+        ran |= task.ran
+        went |= task.went
+    for text, (task, ran, went) in texts.items():
+        program = Program(task.path, task.machine)
+        functions = program.functions()
+        jumps = [a for a in ran if re.match(task.machine.conditional, program.lines[a])]
+        ways = collections.Counter(start for start, _ in went)
+        print("%s: %d of %d instructions ran, %d of %d conditional jumps led both ways" % (
+            text, sum(len(ran & addresses) for addresses in functions.values()), sum(map(len, functions.values())),
+            sum(ways[a] == 2 for a in jumps), len(jumps)))
+        for name, addresses in functions.items() if lines else ():
+            if addresses - ran:
+                print("%s, %s: %d of %d instructions didn't run" % (text, name, len(addresses - ran), len(addresses)))
 
 
 def missing(machine):
@@ -282,27 +302,23 @@ def options_of(description):
 
 def main():
     options = options_of(__doc__)
-    start, proved, failed, used, compared = time.time(), 0, 0, set(), set()
+    start, proved, failed, tasks = time.time(), 0, 0, []
     vectors = pinned(Domain())
     say_what_is_missing()
     for what, fault in header_cases(options.dist):
         print("%s: %s" % (what, fault or "as in the statements"))
         proved, failed = proved + (not fault), failed + bool(fault)
-    for done in run_all(options):
-        if isinstance(done, Task):
-            print("%s: %d proved, %d failed, %.0f s" % (done.name, done.proved, done.failed, done.seconds), flush=True)
-            proved, failed, vectors = proved + done.proved, failed + done.failed, vectors + done.vectors
-            folder, fault, forms = os.path.dirname(done.build), None, done.compared
-            used |= {(folder, form) for form in done.used}
-        else:
-            folder, forms, fault = done
-        if fault:
-            print("%s: NOT PROVED: %s" % done[::2], flush=True)
-        compared |= {(folder, form) for form in forms}
-    lacking = [" ".join(form) for form in sorted(used - compared)]
-    print("%d forms of instructions; the processor agreed on all but: %s" % (len(used), ", ".join(lacking) or "none"))
+    with pool_of(options.jobs, max_tasks_per_child=1) as pool:
+        for task in run_all(pool, options):
+            print("%s: %d proved, %d failed, %.0f s" % (task.name, task.proved, task.failed, task.seconds), flush=True)
+            proved, failed, vectors = proved + task.proved, failed + task.failed, vectors + task.vectors
+            tasks.append(task)
+        forms, lacking = compare_forms(pool, tasks)
+    say_what_ran(tasks, options.lines)
+    print("%d forms of instructions; the processor agreed on all but: %s" % (
+        forms, ", ".join("%s of %s" % (form, machine.__name__) for machine, form in lacking) or "none"))
     # Where there is a processor, a form that wasn't compared with it counts as one that failed.
-    failed += sum(not PROCESSORS[BUILDS[next(b for b in BUILDS if b.startswith(folder))]].missing() for folder, _ in used - compared)
+    failed += sum(not PROCESSORS[machine].missing() for machine, _ in lacking)
     print("%d vectors of the standards; %.0f s" % (vectors, time.time() - start))
     print("%d proved, %d failed" % (proved, failed))
     return failed != 0

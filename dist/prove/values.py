@@ -1,7 +1,7 @@
 """One value for each cell, and so for each bit and byte: random ones for a run beside the processor, those of the standards' vectors for
 the statements."""
 from bits import BLOCK, PRODUCT
-from machine import Distance, Mask, Number, Pointer
+from machine import Distance, Number, Pointer, Verdict
 
 
 class Values:
@@ -71,7 +71,7 @@ class Values:
         """Of a value of machine.py; None as above."""
         if isinstance(v, int):
             return v
-        if isinstance(v, (Number, Mask)):
+        if isinstance(v, (Number, Verdict)):
             return None
         if isinstance(v, Pointer):
             if v.base not in self.base:

@@ -25,6 +25,7 @@ class X86_64(Machine):
     kept = "rbx rsp rbp r12 r13 r14 r15".split()
     scratch = "rcx rdx rsi rdi r8 r9 r10 r11".split()
     red_zone = 128
+    conditional, padding = "j(?!mp)", r"(data16 |cs )*nop|xchg +ax,ax"
 
     def leave(self):
         self.go_to(popped(self))
@@ -329,7 +330,7 @@ def pmovmskb(m, name, to, source):
         return m.put(to, sum((x >> 7) << k for k, x in enumerate(b)))
     if len(known) != 16 or any(k is None or k[1:] != (255, 0) for k in known):
         raise Unproved("instruction not covered")
-    m.put(to, m.mask(0xffff, [k[0] for k in known]))
+    m.put(to, m.verdict(0xffff, [k[0] for k in known], 2))
 
 
 @TABLE.of("vzeroupper")
