@@ -4,7 +4,7 @@ A *cell* is a byte that takes all 256 values: a byte of the key schedule, of a b
 exclusive or of functions of single cells, each as a truth table of 256 entries (a Python int whose entry 0 is 0), and perhaps of 1. So
 equal forms are equal functions of the cells. Exclusive or is exact, cell by cell. `And` and look-ups are done only where everything
 involved depends on one cell; then they are exact too, on the 256 values of that cell. (GHASH's products of two bits of cells are the
-exception: such a sum is kept beside the forms, see Products, and only added.) If bits depend on several cells, `named` asks whether
+exception: a sum of them is kept beside the forms, in `products`, and only added.) If bits depend on several cells, `named` asks whether
 they are sums of bits of one byte that the specification named (an input of an S-box), and writes that byte instead: an equation, checked by
 computing both sides. There is no search, and nothing is approximated: what can't be done raises Unproved.
 
@@ -42,29 +42,21 @@ def looked_up(table, tables):
     return [sum((entries[v] >> j & 1) << v for v in range(256)) for j in range(8)]
 
 
-class Products:
-    """The sums of products of two bits that are made up to one step of a call."""
-
-    def __init__(self):
-        self.known, self.bytes, self.memo = {}, set(), {}  # {number: (bit, pairs)}, the bytes that have them, sums and look-ups of these
-        self.sums, self.columns, self.rows, self.row_keys = {}, {}, {}, []
-
-
 class Domain:
     ones, linear = ONES, LINEAR
 
     def __init__(self):
         self.names, self.of_block, self.depends = [], [], []
         self.forms, self.ids, self.has_block = [None], {}, [False]
-        self.xors, self.ands, self.byte_xors, self.byte_ands, self.lookups, self.entries = {}, {}, {}, {}, {}, {}
+        self.xors, self.ands, self.byte_xors, self.byte_ands, self.lookups, self.entries, self.shifted = ({} for _ in range(7))
         self.bits_of, self.byte_ids = [None] * 256, {}
         self.opaque_names, self.opaque_of, self.words = {}, {}, {}
         self.numbers = {}  # cells of numbers that are one more in each block: (which byte, all bytes, the lowest first)
         self.by_cells, self.alike, self.definitions, self.defined_by = {}, {}, {}, {}
         self.mixed, self.mixed_ids, self.mixed_xors, self.halves = [], {}, {}, {}
-        self.linear_tables = set()
-        self.product_count, self.kept = 0, {}
-        self.products_of(0, False)
+        self.products, self.product_ids, self.product_xors, self.with_products = [], {}, {}, set()
+        self.linear_tables, self.linear_parts, self.column_parts, self.rows, self.row_keys = {}, {}, {}, {}, []
+        self.sums, self.factor_of, self.factor_cells = {}, {}, {}
         self.undefined = self.opaque(UNDEFINED)
 
     # Cells and bytes.
@@ -98,8 +90,8 @@ class Domain:
         if byte is None:
             byte = self.byte_ids[bits] = len(self.bits_of)
             self.bits_of.append(bits)
-            if self.products.known and any(b & BLOCK == PRODUCT << 1 for b in bits):
-                self.products.bytes.add(byte)
+            if self.products and any(b & BLOCK == PRODUCT << 1 for b in bits):
+                self.with_products.add(byte)
         return byte
 
     def bits(self, byte):
@@ -144,6 +136,10 @@ class Domain:
         cells = sorted(self.cells(byte))
         names = ", ".join(self.names[c] for c in cells[:6]) + (", …" if len(cells) > 6 else "")
         return "a function of %s%s" % (names, " of block %s" % sorted(b - 1 for b in blocks) if blocks else "")
+
+    def same(self, a, b):
+        """Whether two bytes are the same function. (Bytes of words have other names for the same.)"""
+        return a == b or a > 255 and b > 255 and self.bits_of[a] is not None and self.bits_of[a] == self.bits_of[b]
 
     # Bits.
     def one_block(self, bits):
@@ -198,7 +194,7 @@ class Domain:
         if x & BLOCK == BLOCK:
             return self.mixed[x >> 9]
         if x & BLOCK == PRODUCT << 1:
-            linear, pairs = self.products.known[x >> 9]
+            linear, pairs = self.products[x >> 9]
             return [part for y in (linear, *map(self.numbered, self.factors(pairs))) for part in self.parts(y)]
         n = x >> 9
         halves = self.halves.get(n)
@@ -231,19 +227,7 @@ class Domain:
         return z ^ (x ^ y) & 1
 
     # Sums of products of two bits of cells, for GHASH: a bit, and an int with a bit for each pair of bits of cells. Bits of cells have
-    # numbers. A row of such an int is for one bit, and for 128 of those that it is multiplied with. Sums of products aren't kept once each,
-    # as that takes long; `same` compares them.
-    def products_of(self, step, keep):
-        """Goes on with the products that are made up to this step of a call. Those of other steps are forgotten, unless a branch of the
-        call may come there once more."""
-        if not keep:
-            for products in self.kept.values():
-                for b in products.bytes:
-                    del self.byte_ids[self.bits_of[b]]
-                    self.bits_of[b] = None
-            self.kept = {}
-        self.products = self.kept.setdefault(step, Products())
-
+    # numbers. A row of such an int is for one bit, and for 128 of those that it is multiplied with.
     def number(self, cell, block, j):
         return (block << 24 | cell) << 3 | j
 
@@ -251,7 +235,7 @@ class Domain:
         return self.bit(number >> 3 & 0xffffff, LINEAR[number & 7], number >> 27)
 
     def split(self, x):
-        return self.products.known[x >> 9] if x & BLOCK == PRODUCT << 1 else (x & ~1, 0)
+        return self.products[x >> 9] if x & BLOCK == PRODUCT << 1 else (x & ~1, 0)
 
     def add_products(self, x, y):
         (a, p), (b, q) = self.split(x), self.split(y)
@@ -260,50 +244,55 @@ class Domain:
     def product_bit(self, linear, pairs):
         if not pairs:
             return linear
-        self.product_count += 1
-        self.products.known[self.product_count] = linear & ~1, pairs
-        return self.product_count << 9 | PRODUCT << 1 | linear & 1
+        key = linear & ~1, pairs
+        if key not in self.product_ids:
+            self.product_ids[key] = len(self.products)
+            self.products.append(key)
+        return self.product_ids[key] << 9 | PRODUCT << 1 | linear & 1
+
+    def forget_products(self):
+        """Makes room, before a call: bytes with products of another one are in none of its values."""
+        for byte in self.with_products:
+            del self.byte_ids[self.bits_of[byte]]
+            self.bits_of[byte] = None
+        for known in self.products, self.product_ids, self.with_products, self.product_xors, self.shifted, self.linear_tables, self.sums:
+            known.clear()
 
     def factors(self, pairs):
         """The numbers of all bits of which there is a product."""
-        keys = self.products.row_keys
-        out, groups, rows = [], {}, pairs.to_bytes(16 * len(keys), "little")
-        for row, (a, group) in enumerate(keys):
+        out, groups, rows = [], {}, pairs.to_bytes(16 * len(self.row_keys), "little")
+        for row, (a, group) in enumerate(self.row_keys):
             columns = int.from_bytes(rows[16 * row:16 * row + 16], "little")
             if columns:
                 out.append(a)
                 groups[group] = groups.get(group, 0) | columns
         return out + [group << 7 | k for group, columns in groups.items() for k in range(128) if columns >> k & 1]
 
-    def has_product(self, byte):
-        return byte in self.products.bytes
-
-    def same(self, a, b):
-        """Whether two bytes are the same function."""
-        if a == b or a < 256 or b < 256:
-            return a == b
-        p, q, products = self.bits_of[a], self.bits_of[b], self.products.bytes
-        return p is not None and q is not None and (p == q or a in products and b in products and all(
-            (x ^ y) & 1 == 0 and self.split(x) == self.split(y) for x, y in zip(p, q)))
-
-    def name_sum(self, bytes_):
-        """Lets cells stand for bytes in products."""
-        for b in bytes_:
-            if self.symbolic(b):
-                cell = self.cell("a sum", False, functools.reduce(int.__or__, map(self.depends_on, self.bits(b))))
-                self.definitions[cell] = [x & ~1 for x in self.bits(b)]
+    def name_factors(self, bytes_):
+        """Lets cells stand for these bytes as the first factor of products, up to the next call of this; the bytes of these cells. They
+        are the same cells each time, so products that were computed once are known. Such a cell is in no form: only in products."""
+        self.factor_of, out = {}, []
+        for i, byte in enumerate(bytes_):
+            if self.symbolic(byte):
+                cell = self.factor_cells.setdefault(i, len(self.names))
+                if cell == len(self.names):
+                    self.cell("factor byte %d" % i, False, 0)
+                self.definitions[cell] = [x & ~1 for x in self.bits(byte)]
+                self.depends[cell] = functools.reduce(int.__or__, map(self.depends_on, self.bits(byte)))
                 for j, x in enumerate(self.definitions[cell]):
                     if x:
-                        self.products.sums.setdefault(x, [self.number(cell, 0, j)])
-        return bytes_
+                        self.factor_of.setdefault(x, self.bit(cell, LINEAR[j], 0))
+                byte = self.pack([self.factor_of[x & ~1] | x & 1 if x > 1 else x for x in self.bits(byte)])
+            out.append(byte)
+        return out
 
     def linear_part(self, x):
         """A bit as a sum of bits of cells: their numbers."""
-        out = self.products.sums.get(x & ~1)
+        out = self.linear_parts.get(x & ~1)
         if out is None:
             if x & BLOCK == PRODUCT << 1:
                 raise Unproved("a product of three bits")
-            out = []
+            out = self.linear_parts[x & ~1] = []
             for block, n in self.parts(x):
                 for c, t in self.forms[n]:
                     for j in range(8):
@@ -312,30 +301,28 @@ class Domain:
                             out.append(self.number(c, block if self.of_block[c] else 0, j))
                     if t:
                         raise Unproved("a product of bits that are not linear: " + self.names[c])
-            self.products.sums[x & ~1] = out
         return out
 
     def columns(self, y):
         """A sum of bits of cells as parts of rows, [(group, int)], and its highest number."""
-        out = self.products.columns.get(y & ~1)
+        out = self.column_parts.get(y & ~1)
         if out is None:
             groups, numbers = {}, self.linear_part(y)
             for b in numbers:
                 groups[b >> 7] = groups.get(b >> 7, 0) ^ 1 << (b & 127)
-            out = self.products.columns[y & ~1] = list(groups.items()), max(numbers)
+            out = self.column_parts[y & ~1] = list(groups.items()), max(numbers)
         return out
 
     def row(self, a, group):
         """Where the row of bit a and of this group of 128 bits begins."""
-        rows, keys = self.products.rows, self.products.row_keys
-        if (a, group) not in rows:
-            rows[a, group] = 128 * len(keys)
-            keys.append((a, group))
-        return rows[a, group]
+        if (a, group) not in self.rows:
+            self.rows[a, group] = 128 * len(self.row_keys)
+            self.row_keys.append((a, group))
+        return self.rows[a, group]
 
     def dot(self, xs, ys):
         """The sum of the products x and y, for sums of bits of cells."""
-        linear, pairs, rows = 0, 0, self.products.rows
+        linear, pairs, rows = 0, 0, self.rows
         for x, y in zip(xs, ys):
             if x < 2 or y < 2 or x == y:
                 linear = self.xor(linear, self.and_(x, y))
@@ -345,8 +332,8 @@ class Domain:
             if y & 1:
                 linear = self.xor(linear, x & ~1)
             linear ^= x & y & 1
-            groups, highest = self.products.columns.get(y & ~1) or self.columns(y)
-            for a in self.products.sums.get(x & ~1) or self.linear_part(x):
+            groups, highest = self.columns(y)
+            for a in self.linear_part(x):
                 if a > highest:
                     for group, columns in groups:
                         at = rows.get((a, group))
@@ -361,17 +348,22 @@ class Domain:
 
     def bilinear_lookup(self, table, index):
         """table[index] if the table of 16 bytes is linear: the sum of the entries at powers of two whose bit is set."""
-        if table not in self.linear_tables:
-            for k in range(16):
-                total = 0
-                for i in range(4):
-                    if k >> i & 1:
-                        total = self.xor_byte(total, table[1 << i])
-                if total != table[k]:
-                    raise Unproved("a look-up in a table that is neither constant nor linear")
-            self.linear_tables.add(table)
-        entries = [self.bits(table[1 << i]) for i in range(4)]
-        return self.pack([self.dot(index, column) for column in zip(*entries)])
+        index = tuple(self.factor_of.get(x & ~1, x & ~1) | x & 1 for x in index)
+        entries = self.linear_tables.get(table) or self.linear_tables.setdefault(table, self.linear_entries(table))
+        if index not in entries:
+            entries[index] = self.pack([self.dot(index, column) for column in zip(*(self.bits(table[1 << i]) for i in range(4)))])
+        return entries[index]
+
+    def linear_entries(self, table):
+        """A memo for a table's entries, once it is known to be linear."""
+        for k in range(16):
+            total = 0
+            for i in range(4):
+                if k >> i & 1:
+                    total = self.xor_byte(total, table[1 << i])
+            if total != table[k] or any(x & 1 for x in self.bits(total)):
+                raise Unproved("a look-up in a table that is neither constant nor linear")
+        return {}
 
     def and_(self, x, y):
         if x < 2 or y < 2:
@@ -465,14 +457,11 @@ class Domain:
         if a < 256 and b < 256:
             return a ^ b
         key = (a, b)
-        c = self.byte_xors.get(key)
+        known = self.product_xors if a in self.with_products or b in self.with_products else self.byte_xors
+        c = known.get(key)
         if c is None:
-            xor, kept = self.xor, self.byte_xors
-            if a in self.products.bytes or b in self.products.bytes:
-                kept = self.products.memo
-                c = kept.get(key)
-            if c is None:
-                c = kept[key] = self.pack([xor(x, y) for x, y in zip(self.bits(a), self.bits(b))])
+            xor = self.xor
+            c = known[key] = self.pack([xor(x, y) for x, y in zip(self.bits(a), self.bits(b))])
         return c
 
     def and_byte(self, a, b):

@@ -9,6 +9,7 @@ from native import Native
 STACK = 16384  # FOTSGURE_AES_STACK and FOTSGURE_GCM_STACK
 KINDS = "key", "inner", "plain", "step", "keystream", "result", "data"  # of what is left; see `kind`
 MAY_STAY = "step", "keystream", "result", "data"  # on the stack
+MANY = 80000   # sums of products, which take some KB each
 ANY = "any"    # for a Buffer of which something else is asked than bytes
 
 
@@ -41,6 +42,8 @@ class Call:
 def prove(domain, program, call, seed=None, strict=True):
     """Proves a call for all answers to the questions that its branches ask: how far its buffers are apart, and whether a wrapped key or a
     tag is right. With a seed, for one key and data, on the processor too. The result is a machine after the call."""
+    if len(domain.products) > MANY:
+        domain.forget_products()
     regions = {b.name: Region(b.content, b.after is not None) for b in call.buffers}
     regions["stack"] = Region([domain.undefined] * (STACK + 128), align=16)
     arguments = [Pointer(a.name, 0) if isinstance(a, Buffer) else a for a in call.arguments]
@@ -54,7 +57,7 @@ def prove(domain, program, call, seed=None, strict=True):
         waiting = [m]
         while waiting:
             m = waiting.pop()
-            m.domain.products_of(m.done, keep=bool(m.placed))
+            m.domain.factor_of = {}
             try:
                 run(m, call, watches)
             except Question as question:
@@ -156,14 +159,9 @@ def step_by_step(steps):
                 lost = m.domain.opaque(LOST)
                 m.lost.add(lost)
 
-            def convert(b):
-                if m.domain.has_product(b):
-                    return next((y for x, y in replaced.items() if m.domain.same(b, x)), lost or b)
-                return replaced.get(b, b)
-            m.replace_bytes(convert, m.domain, replaced.items())
-            m.done, m.want = m.done + 1, None
-            if where == "hash":
-                m.domain.products_of(m.done, keep=bool(m.placed))
+            with_products = m.domain.with_products
+            m.replace_bytes(lambda b: replaced.get(b, lost or b if b in with_products else b), m.domain, replaced.items())
+            m.done, m.want, m.domain.factor_of = m.done + 1, None, {}
     return watch
 
 
@@ -177,13 +175,9 @@ def found(m, where, want):
                    for k in range(max(0, at - len(want)), min(at + 16, len(content))))
     if where == "vector":
         return any(v[0] == want[0] and v[:16] == want for v in m.vectors)
-    words = [v for v in m.general.values() if type(v) is tuple and len(v) == 8]
-    return any(same(m, v, want) for v in m.vectors) or any(all(any(same(m, v, half) for v in words) for half in halves)
-        for halves in ((want[:8], want[8:]), (want[7::-1], want[:7:-1])))
-
-
-def same(m, have, want):
-    return all(map(m.domain.same, have, want))
+    words = {v for v in m.general.values() if type(v) is tuple}
+    return any(v[:16] == want for v in m.vectors) or {tuple(want[:8]), tuple(want[8:])} <= words or {
+        tuple(want[7::-1]), tuple(want[:7:-1])} <= words
 
 
 # What is left.
@@ -235,7 +229,7 @@ def left(m, call):
     bits = lambda bytes_: (x & ~1 for b in bytes_ if m.domain.symbolic(b) for x in m.domain.bits(b))
     names = {x: name for name in ("result", "plain", "keystream") for x in bits(m.results if name == "result" else getattr(call, name))}
     plain = {cell for x in bits(call.plain) if not depends_bit(m, x, False) & KEY for cell in cells(m, x)}
-    places = [("stack", k - m.top, b) for k, b in enumerate(m.regions["stack"].content[:m.top])]
+    places = [("stack", k - m.top, m.regions["stack"].content[k]) for k in range(m.lowest, m.top)]
     places += [("registers", r, b) for r, v in m.general.items() for b in m.to_bytes(v, 8)]
     places += [("registers", "vector %d" % n, b) for n, v in enumerate(m.vectors) for b in v]
     out = {}

@@ -62,11 +62,13 @@ class Hashing:
 
     def sum(self, value, group):
         """(Y + X_1) H^m + X_2 H^(m-1) + .. + X_m H"""
-        keyed, total = self.keyed, ZEROS
-        for i, x in enumerate(group):
-            x = keyed.domain.name_sum(keyed.aes.xor(value, x)) if i == 0 else x
-            total = keyed.aes.xor(total, product(keyed.domain, x, keyed.powers[len(group) - 1 - i]))
-        return total
+        keyed, sums = self.keyed, self.keyed.domain.sums
+        blocks = [keyed.aes.xor(value, group[0]), *group[1:]]
+        factors = keyed.domain.name_factors(sum(blocks[::-1], []))  # so the same cells come with the same power
+        if tuple(factors) not in sums:
+            products = (product(keyed.domain, factors[16 * i:16 * i + 16], keyed.powers[i]) for i in range(len(group)))
+            sums[tuple(factors)] = functools.reduce(keyed.aes.xor, products)
+        return sums[tuple(factors)]
 
 
 UNKNOWN = 8, None  # any J_0, also that of a nonce of 12 bytes; see nonce_of

@@ -172,7 +172,7 @@ class Machine:
         self.flags = dict.fromkeys("czso")
         self.next_address, self.last, self.steps, self.used = entry, entry, 0, {}
         self.externals = {program.symbols[n]: n for n in LIBC if n in program.symbols}
-        self.shifted, self.lost, self.origins, self.native, self.after_external = {}, set(), {}, None, None
+        self.lost, self.origins, self.native, self.after_external = set(), {}, None, None
         self.placed, self.may_reveal, self.assumed, self.equalities, self.done, self.want = {}, False, (), {}, 0, None
         self.written = (), 0
         self.stale = set()  # bytes of the stack that a call of libc may have overwritten since they were written
@@ -412,17 +412,19 @@ class Machine:
 
     def shift_lanes(self, how, b, width, count):
         constant("the count of a shift", count)
-        out = []
+        out, shifted = [], self.domain.shifted
         for lane in lanes(b, width):
             key = how, count, *lane
-            if key not in self.shifted:
-                self.shifted[key] = self.to_bytes(self.shift(how, self.from_bytes(lane), count, width), width)
-            out += self.shifted[key]
+            if key not in shifted:
+                shifted[key] = self.to_bytes(self.shift(how, self.from_bytes(lane), count, width), width)
+            out += shifted[key]
         return out
 
     def looked_up(self, table, indices, significant):
         """The bytes of a table, a tuple, at these indices, of whose bits `significant` gives those that count."""
-        memo = (self.domain.entries if max(table) < 256 else self.domain.products.memo).setdefault(table, {})
+        if max(table) > 255:
+            return [self.entry(table, significant(self.domain.bits(x))) for x in indices]
+        memo = self.domain.entries.setdefault(table, {})
         for x in indices:
             if x not in memo:
                 memo[x] = self.entry(table, significant(self.domain.bits(x)))
@@ -665,6 +667,6 @@ class Machine:
         if domain is not self.domain:  # what was asked of bytes of the other domain
             self.equalities = {}
             self.set_flags()
-        self.domain, self.shifted = domain, {}
+        self.domain = domain
         if self.native and any(new < 256 for _, new in cells):
             self.native.impose()

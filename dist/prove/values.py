@@ -31,7 +31,7 @@ class Values:
         d, value = self.domain, x & 1
         if x > 1 and x & BLOCK == PRODUCT << 1:
             linear, pairs = d.split(x)
-            for row, (a, group) in enumerate(d.products.row_keys):
+            for row, (a, group) in enumerate(d.row_keys):
                 columns = pairs >> 128 * row & (1 << 128) - 1
                 if columns and self.numbered(a):
                     value ^= sum(self.numbered(group << 7 | k) for k in range(128) if columns >> k & 1) & 1
@@ -56,7 +56,7 @@ class Values:
             return b
         if b not in self.bytes:
             name = self.domain.opaque_of.get(b)
-            if isinstance(name, str) or self.domain.has_product(b):
+            if isinstance(name, str) or b in self.domain.with_products:
                 value = None
             elif self.domain.bits_of[b] is not None:
                 value = sum(self.bit(x) << j for j, x in enumerate(self.domain.bits(b)))
@@ -112,3 +112,5 @@ class Values:
             self.domain, self.cells, self.bytes = domain, {}, {}
         for new, value in known:
             self.set_byte(domain, new, value)
+        for cell in domain.factor_cells.values():  # they stand for other bytes from now on
+            self.cells.pop((cell, 0), None)

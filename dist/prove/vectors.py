@@ -78,7 +78,6 @@ def evaluate(keyed, call, key, given):
             if c < 256 and values.full_byte(b) != c:
                 raise Unproved("a vector isn't what a statement assumes")
         values.bytes = {}
-        d.products_of(0, False)
     return {b.name: bytes(values.full_byte(x) for x in b.after) for b in call.buffers if b.after is not None and None not in b.after}
 
 
