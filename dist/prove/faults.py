@@ -7,7 +7,7 @@ IN_BATCHES = r'"aes_hybrid::batches::process_in_batches::<#\w+>":'
 COUNTER = r'"aes_ctr::add_in_batches::add_keystream::<#\w+>":'
 NEXT_COUNTER = r'"aes_ctr::add_in_batches::add_next::<#\w+>":'
 NEXT_COUNTER += r"[\s\S]*?^" + NEXT_COUNTER  # the second one
-UNWRAP = r'"key_wrap::wrapping::unwrap::<#\w+>":'
+UNWRAP, UNWRAP_PADDED = (r'"key_wrap::%s::<#\w+>":' % name for name in ("wrapping::unwrap", "padded::unwrap_padded"))
 TABLE, SET_KEY, WIPE = r"\.Lstatic\.0:", r'"aes_c::kept::fotsgure_aes_set_key":', r"fotsgure_aes_wipe:"
 BLOCKS, BLOCKS_TO, BLOCKS_WITH, CBC, CBC_BACK, KEYSTREAM_TO = (r"fotsgure_aes_%s:" % call for call in (
     "encrypt_blocks", "encrypt_blocks_to", "encrypt_blocks_with", "cbc_encrypt", "cbc_decrypt", "add_keystream_to"))
@@ -67,6 +67,9 @@ FAULTS = {
          "\tmovq\t%r12, -96(%rsp)\n\\1\tmovq\t-96(%rsp), %r12\n", "cbc_decrypt 1"),
         ("half of A compared in key unwrap", UNWRAP, r"cmpq\t%r(\w+), \(%rsp\)", r"cmpl\t%e\1, (%rsp)", "unwrap 3"),
         ("key unwrap without zeros after a refusal", UNWRAP, r"leaq\t-8\(,%rbx,8\), %rdx", "xorl\t%edx, %edx", "unwrap 3"),
+        ("a branch on the first semiblock before the padding", UNWRAP_PADDED, r"(addl\t\$1504093786, %ebp.*\n)", r"\1\tjne\t77f\n77:\n",
+         "unwrap_padded 9"),
+        ("one bit of the padding compared", UNWRAP_PADDED, r"(andq\t%rdi, %r8\n)", r"\1\tandq\t$1, %r8\n", "unwrap_padded 1"),
     ],
     "x86_64/gcm": [
         ("GHASH: another nibble", ONE_PRODUCT, r"psrlw\t\$4, (%xmm\d)", r"psrlw\t$5, \1", "seal 1 1"),
