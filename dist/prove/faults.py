@@ -16,7 +16,7 @@ COMPARE, GCTR = r'"gcm::mode::is_expected":', r'"gcm::gctr::add_gctr::<#\w+>":'
 BEGIN, FINISH, ENCRYPT = (r"fotsgure_gcm_%s:" % call for call in ("begin", "finish", "encrypt"))
 DERIVE, APPLY = r'"gcm_siv::keys::derive::<#\w+>":', r'"gcm_siv::message::apply::<#\w+>":'
 OPEN_IN = r'"gcm_c::siv::open_in::<#8b70e375869fa13e>":'
-ENTRY = r"((?:#|//) %bb.0:.*\n)"
+ENTRY = r"((?:#|//) %bb.0:.*\n)"  # where a function begins
 
 FAULTS = {
     "x86_64/aes": [
@@ -103,7 +103,6 @@ FAULTS = {
         ("half of a tag compared", COMPARE, r"(cmeq\tv0).*\n\tmvn\t.*", r"\1.8b, v1.8b, v0.8b\n\tmvn\tv0.8b, v0.8b", "open 0 0"),
     ],
     "aarch64/siv": [
-        ("an early exit in the comparison of the tag", OPEN_IN, r"(\tcmeq\t.*\n)",
-         r"\tfmov\tx8, d0\n\tfmov\tx9, d1\n\tcmp\tx8, x9\n\tb.ne\t77f\n77:\n\tadrp\tx8, .LCPI34_0\n\1", "open 1 1"),
+        ("half of a tag added up", OPEN_IN, r"(zip1\tv1.16b, v1.16b, )v2", r"\1v1", "open 1 1"),
     ],
 }
