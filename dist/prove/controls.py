@@ -1,156 +1,118 @@
 """The controls of the proof: faults that are planted in the assembly (faults.py), and wrong meanings of instructions. Each has to be
-refused. Run it as `make prove-controls` in dist."""
-import os
+refused. Run it as `make prove-controls` in dist.
+
+A fault is refused if the case that it names, one of those of `make prove`, is not proved any more. Whatever else goes wrong ends the
+controls: an edit for which there is no place, gcc, ld, a case that isn't there, or a planted instruction that isn't covered, unless that is
+the fault."""
+import argparse
 import re
 import sys
 
-import aes
-import leak
 from bits import Unproved
-from faults import BATCHES, FAULTS
-from machine import is_int, is_pointer
+from faults import FAULTS
 from native import NEVER_ALONE, compare_all
 from processors import PROCESSORS
-from prove import BUILDS, LIBRARIES, link, options_of, pool_of, source
+from prove import BUILDS, LIBRARIES, link, options_of, pool_of, source, statements
 
 
-def edited(text, start, pattern, new):
-    """The text with the first match of a pattern in what stands behind a label replaced, and its line."""
-    at = re.search(r"(?m)^" + start, text)
-    found = at and re.search(pattern, text[at.end():text.index("\t.size", at.end())])
-    if not found:
-        raise SystemExit("controls: nothing like %s after %s" % (pattern, start))
-    a, b = at.end() + found.start(), at.end() + found.end()
-    return text[:a] + found.expand(new) + text[b:], text.count("\n", 0, a) + 1
-
-
-KEYED = {}  # of this process: what was proved of the text without faults
-
-
-def keyed_of(options, build):
-    if build not in KEYED:
-        out = "%s/controls_%s_%d" % (options.out, build.replace("/", "_"), os.getpid())
-        KEYED[build] = LIBRARIES[build.split("/")[1]][0](link(source(options.dist, build), out, BUILDS[build]), 16)
-        KEYED[build].set_key()
-    return KEYED[build]
-
-
-def with_fault(options, build, name, *edit):
-    """The program with this edit, and the line of it."""
-    text, line = edited(open(source(options.dist, build)).read(), *edit)
-    path = "%s/%s_%s" % (options.out, name, build.replace("/", "_"))
-    open(path + ".s", "w").write(text)
-    return link(path + ".s", path, BUILDS[build]), line
-
-
-def fault(options, build, k):
-    """Plants a fault, and says whether it is refused."""
-    what, *edit, calls = FAULTS[build][k]
-    keyed = keyed_of(options, build)
-    right, line = keyed.program, 0
+def verdict(what, prove, reason=""):
+    """Whether it is refused, for a reason with this word, and what to print."""
     try:
-        program, line = with_fault(options, build, "fault_%d" % k, *edit)
-        if calls:
-            keyed.program = program
-            for call in calls(keyed):
-                keyed.proved(call)
-        else:
-            aes.Keyed(program, 16).set_key()
+        prove()
     except Unproved as e:
-        return [(True, "refused: %s (%s.s:%d): %s" % (what, build, line, str(e)[:160]))]
-    finally:
-        keyed.program = right
-    return [(False, "MISSED: %s (%s.s:%d)" % (what, build, line))]
+        if reason not in str(e) or "not covered" in str(e) and "not covered" not in what:
+            raise SystemExit("controls: %s: %s" % (what, e)) from None
+        return True, "refused: %s: %s" % (what, str(e)[:160])
+    return False, "MISSED: " + what
 
 
-def leaked(options, wiped):
-    """Whether the last round key is found if the wipe of the stack is taken out, and nothing of it in the text of dist."""
-    keyed = keyed_of(options, "x86_64/aes")
-    right = keyed.program
-    if not wiped:
-        keyed.program, _ = with_fault(options, "x86_64/aes", "leak", BATCHES, r"\tcallq\t\"aes_cipher::zeroize::stack::wipe_stack.*\n", "")
-    found = [leak.found(keyed, n) for n in (16, 17, 31)]
-    keyed.program = right
-    good = all(f == (0, 0) for f in found) if wiped else (16, 16) in found
-    return [(good, "%s: bytes of the last round key, from the stack after 16, 17 and 31 blocks, %s the wipe: %s" % (
-        "as it has to be" if good else "MISSED", "with" if wiped else "without", ", ".join("%d (%d right)" % f for f in found)))]
+def edited(text, label, pattern, new):
+    """The text with the first match of a pattern in what stands behind a label replaced, and its line."""
+    at = re.search(r"(?m)^" + label, text)
+    found = at and re.compile(pattern).search(text, at.end(), text.index("\t.size", at.end()))
+    if not found:
+        raise SystemExit("controls: nothing like %s after %s" % (pattern, label))
+    return text[:found.start()] + found.expand(new) + text[found.end():], text.count("\n", 0, found.start()) + 1
 
 
-# Wrong meanings: the first thing that an instruction changed is off by one. The processor has to disagree.
-WITHOUT_EFFECT = {"nop", "endbr64", "hint", "xchg"}  # xchg is padding too
+def faults(options, build):
+    """Plants the faults of one text, and tries of each the case that has to refuse it."""
+    text, out = open(source(options.dist, build)).read(), "%s/controls_%s" % (options.out, build.replace("/", "_"))
+    keyed = LIBRARIES[build.split("/")[1]][0](link(source(options.dist, build), out, BUILDS[build]), 16)
+    keyed.set_key()
+    cases = dict(statements(keyed, argparse.Namespace(dist=options.dist, all=False, only=""), 0, 1), set_key=None)
+    verdicts = []
+
+    def prove(case):
+        keyed.program = link(out + ".s", out, BUILDS[build])
+        return keyed.proved(cases[case]) if cases[case] else type(keyed)(keyed.program, 16).set_key()
+    for what, *edit, case in FAULTS[build]:
+        if case not in cases:
+            raise SystemExit("controls: %s: no such case: %s" % (what, case))
+        if options.only in what:
+            changed, line = edited(text, *edit)
+            open(out + ".s", "w").write(changed)
+            verdicts.append(verdict("%s (%s.s:%d, %s)" % (what, build, line, case), lambda: prove(case)))
+    return verdicts
 
 
-def off_by_one(m, value):
-    if is_pointer(value):
-        return value._replace(offset=value.offset + 1)
-    return value ^ 1 if is_int(value) else m.from_bytes(flipped(m, value, 0))
-
-
-def flipped(m, b, at):
-    return [*b[:at], m.domain.xor_byte(b[at], 1), *b[at + 1:]]
+# Wrong meanings: the processor has to disagree.
+WITHOUT_EFFECT = "nop", "endbr64", "hint", "xchg"  # xchg is padding too
 
 
 def wrong(right):
-    """Another meaning. What was changed may be undefined, or known to nobody: then the next try has other values."""
+    """Another meaning: the first thing that an instruction changes is off by one, or else where it goes on. That may be undefined, or known
+    to nobody: then the next try has other values."""
     def meaning(m, name, *operands):
-        general, vectors, flags, written, following = dict(m.general), list(m.vectors), m.flags, m.written, m.next_address
+        general, vectors, flags, written = dict(m.general), list(m.vectors), m.flags, m.written
         right(m, name, *operands)
         registers = [r for r in m.general if m.general[r] is not general[r]]
         numbers = [n for n, v in enumerate(m.vectors) if v is not vectors[n]]
-        known = [f for f, value in m.flags.items() if value in (0, 1)]
         try:
-            if m.next_address != following or not (registers or numbers or m.flags is not flags or m.written is not written):
-                m.next_address = off_by_one(m, m.next_address)
-            elif m.written is not written:
+            if m.written is not written:
                 content, at = m.written
                 content[at] = m.domain.xor_byte(content[at], 1)
             elif numbers:
-                m.vectors[numbers[0]] = flipped(m, m.vectors[numbers[0]], 0)
+                first, *rest = m.vectors[numbers[0]]
+                m.vectors[numbers[0]] = [m.domain.xor_byte(first, 1), *rest]
             elif registers:
-                m.general[registers[0]] = off_by_one(m, m.general[registers[0]])
-            elif known:
-                m.flags[known[0]] ^= 1
-        except (Unproved, TypeError):
+                m.general[registers[0]], _ = m.plus(m.general[registers[0]], 1, 0, 8)
+            elif m.flags is not flags:
+                m.flags[next(f for f in m.flags if m.flags[f] in (0, 1))] ^= 1
+            else:
+                m.next_address = m.offset(m.next_address, 1)
+        except (Unproved, StopIteration):
             pass
     return meaning
 
 
-def wrong_meanings(options, build):
-    """Gives each instruction of a text another meaning in turn: the processor has to differ on that instruction."""
-    program, module = keyed_of(options, build).program, sys.modules[BUILDS[build].__module__]
-    forms, out = {}, []
-    for address in program.lines:
-        try:
-            instruction = program.at(address)
-        except Unproved:
-            continue  # on no path
-        forms.setdefault(instruction.name, {})[instruction.form] = address
-    for name in sorted(set(forms) - WITHOUT_EFFECT - set(NEVER_ALONE)):
-        kept, module.TABLE[name] = dict(module.TABLE), wrong(program.at(next(iter(forms[name].values()))).run)
-        program.cache.clear()
-        try:
-            compare_all(program, forms[name])
-            out.append((False, "MISSED: %s of %s with another meaning" % (name, build)))
-        except Unproved as e:
-            out.append((True, "refused: %s of %s with another meaning: %s" % (name, build, str(e)[:120])))
-        module.TABLE.clear()
-        module.TABLE.update(kept)
-    return out
+def wrong_meanings(options, machine):
+    """Gives each instruction of a machine's texts another meaning, by its name, and compares it with the processor."""
+    tried, verdicts = {*WITHOUT_EFFECT, *NEVER_ALONE}, []
+    for build in (b for b in options.builds if BUILDS[b] is machine):
+        program, forms = link(source(options.dist, build), "%s/wrong_%s" % (options.out, build.replace("/", "_")), machine), {}
+        for address in program.lines:
+            try:
+                instruction = program.at(address)
+            except Unproved:
+                continue  # on no path
+            if instruction.name not in tried:
+                forms.setdefault(instruction.name, {})[instruction.form] = address
+                program.cache[address] = instruction._replace(run=wrong(instruction.run))
+        for name in sorted(forms):
+            what = "%s of %s with another meaning" % (name, build)
+            verdicts.append(verdict(what, lambda: compare_all(program, forms[name]), "differs"))
+        tried.update(forms)
+    return verdicts
 
 
 def main():
-    options = options_of(__doc__)
-    builds = [build for build in FAULTS if build in options.builds]
+    options, refused, missed = options_of(__doc__), 0, 0
+    tries = [(faults, build) for build in FAULTS if build in options.builds]
+    if not options.only:
+        tries += [(wrong_meanings, machine) for machine in PROCESSORS if not PROCESSORS[machine].missing()]
     with pool_of(options.jobs) as pool:
-        tries = [pool.submit(fault, options, build, k) for build in builds
-                 for k, f in enumerate(FAULTS[build]) if options.only in f[0]]
-        if "x86_64/aes" in builds and not options.only:
-            tries += [pool.submit(leaked, options, wiped) for wiped in (False, True)]
-        if not options.only:
-            tries += [pool.submit(wrong_meanings, options, build) for build in builds
-                      if not build.endswith("siv") and not PROCESSORS[BUILDS[build]].missing()]
-        refused = missed = 0
-        for tried in tries:
+        for tried in [pool.submit(function, options, of) for function, of in tries]:
             for good, text in tried.result():
                 print(text, flush=True)
                 refused, missed = refused + good, missed + (not good)
