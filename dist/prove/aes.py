@@ -36,7 +36,7 @@ class Keyed:
         self.name_round_keys()
         self.first = [self.domain.fresh("byte %d" % i, DATA, True) for i in range(16)]
         self.ciphers = {"encrypt": self.aes.cipher(self.first, self.w), "decrypt": self.aes.inv_cipher(self.first, self.w)}
-        self.kept = {}
+        self.kept, self.calls = {}, set()
 
     def name_round_keys(self):
         """Names for all bytes of round keys and of their InvMixColumns, with what they are for any round keys."""
@@ -73,6 +73,7 @@ class Keyed:
         for call in [calls] if isinstance(calls, Call) else calls:
             given_the_key = any(b.content is self.key for b in call.buffers)
             m = prove(self.key_domain if given_the_key else self.domain, self.program, call, seed)
+            self.calls.add(call.name)
         return m
 
     def once(self, what, make):
@@ -165,6 +166,8 @@ class Keyed:
 
     def go_on(self, m, contents):
         d, e = self.key_domain, self.domain
+        if m.domain is not d:
+            raise Unproved("computes with bytes that it isn't given")
 
         def convert(b):
             if b < 256:
@@ -191,7 +194,7 @@ class Keyed:
         def make():
             high = [[d.fresh("counter byte %d" % (i + k), PUBLIC) for i in range(8)] for k in (0, 16)]
             low = [d.fresh("counter byte %d" % i, PUBLIC, True) for i in range(8, 16)]
-            d.words["counter high"] = lambda offset, k: d.bits(high[offset][7 - k])
+            d.words["counter high"] = lambda offset, k: d.bits(high[offset][7 - k]) if offset in (0, 1) else None
             data = [d.fresh("data byte %d" % i, DATA, True) for i in range(16)]
             return low, [self.aes.cipher(h + low, self.w) for h in high], data
         return self.once("counter", make)

@@ -50,7 +50,8 @@ class Domain:
         self.forms, self.ids, self.has_block = [None], {}, [False]
         self.xors, self.ands, self.byte_xors, self.byte_ands, self.lookups, self.entries, self.shifted = ({} for _ in range(7))
         self.bits_of, self.byte_ids = [None] * 256, {}
-        self.opaque_names, self.opaque_of, self.words = {}, {}, {}
+        self.opaque_names, self.opaque_of = {}, {}
+        self.words = {}  # of a word of unknown value, by its name: a function from an offset and k to the bits of byte k of their sum, or None
         self.numbers = {}  # cells of numbers that are one more in each block: (which byte, all bytes, the lowest first)
         self.by_cells, self.alike, self.definitions, self.defined_by = {}, {}, {}, {}
         self.mixed, self.mixed_ids, self.mixed_xors, self.halves = [], {}, {}, {}
@@ -79,7 +80,10 @@ class Domain:
             self.opaque_names[name] = len(self.bits_of)
             self.opaque_of[len(self.bits_of)] = name
             word = self.words.get(name[0][0]) if name[0] else None
-            self.bits_of.append(word and word(name[0].offset, name[1]))
+            try:
+                self.bits_of.append(word and word(name[0].offset, name[1]))
+            except Unproved:  # no number of a block that has a form
+                self.bits_of.append(None)
         return self.opaque_names[name]
 
     def pack(self, bits):
@@ -149,7 +153,7 @@ class Domain:
         return blocks.pop() >> 1 if blocks else 0
 
     def in_block(self, x, block):
-        """The same function of the cells of this block."""
+        """The same function of the cells of this block, which is less than PRODUCT (see byte_in_block)."""
         return x & ~BLOCK | block << 1 if x > 1 and self.has_block[x >> 9] else x
 
     def intern(self, form):
@@ -392,7 +396,7 @@ class Domain:
             if b < 2 or tuple(c for c, _ in self.forms[b >> 9]) != cells:
                 raise Unproved("the bits of %s depend on different cells" % self.names[cell])
             rows.append((self.vector(self.forms[b >> 9]), 1 << j, b & 1))
-        echelon = []
+        echelon = []  # by Gaussian elimination, the lowest set bit being the pivot
         for v, mask, complement in rows:
             for p, w, m, c in echelon:
                 if v & p:
@@ -507,6 +511,8 @@ class Domain:
         return self.pack(bits)
 
     def byte_in_block(self, byte, block):
+        if not 0 <= block < PRODUCT:
+            raise Unproved("a block whose number is too large")
         return self.pack([self.in_block(b, block) for b in self.bits_of[byte]]) if self.symbolic(byte) else byte
 
     def substitute(self, byte, table, name):

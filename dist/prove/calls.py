@@ -108,11 +108,13 @@ def check(m, call):
         answers = {q: answer for q, answer in m.placed.items() if q[0] != "zero"}
         if call.paths.setdefault((status, *sorted(answers.items())), m.path) != m.path:
             raise Unproved("runs other instructions than another call that returns %s" % status)
-    m.results = []
+    m.results, m.unsaid = [], []
     for buffer in call.buffers:
         want = buffer.after if right else call.refused_after.get(buffer.name, buffer.content)
         if buffer.after is not None and want is not ANY:
-            compare(m.domain, m.regions[buffer.name].content, want, buffer.name)
+            content = m.regions[buffer.name].content
+            compare(m.domain, content, want, buffer.name)
+            m.unsaid += [x for x, y in zip(content, want) if y is None and x not in buffer.content]
             if not buffer.secret:
                 m.results += [b for b in want if b is not None]
     m.left = left(m, call)
@@ -120,8 +122,8 @@ def check(m, call):
 
 def nothing_secret(m, call):
     for (place, k), where in m.left.items():
-        if place == "stack" and k not in MAY_STAY and len(where) > call.may_stay.get(k, 0):
-            raise Unproved("leaves %d bytes on the stack (%s), from %d to %d of the stack pointer" % (len(where), k, where[0], where[-1]))
+        if place != "registers" and k not in MAY_STAY and len(where) > call.may_stay.get(k, 0):
+            raise Unproved("leaves %d bytes in %s (%s), from %d to %d" % (len(where), place, k, where[0], where[-1]))
 
 
 def compare(domain, have, want, what):
@@ -224,12 +226,13 @@ def kind(m, byte, names, plain):
 
 
 def left(m, call):
-    """What is left of a call, in bytes: {(place, kind): [where]}, in the dead stack, by the offset from the stack pointer at the call, and
-    in registers."""
+    """What is left of a call, in bytes: {(place, kind): [where]}, in the dead stack, by the offset from the stack pointer at the call, in
+    bytes of a message that may be anything, and in registers."""
     bits = lambda bytes_: (x & ~1 for b in bytes_ if m.domain.symbolic(b) for x in m.domain.bits(b))
     names = {x: name for name in ("result", "plain", "keystream") for x in bits(m.results if name == "result" else getattr(call, name))}
     plain = {cell for x in bits(call.plain) if not depends_bit(m, x, False) & KEY for cell in cells(m, x)}
     places = [("stack", k - m.top, m.regions["stack"].content[k]) for k in range(m.lowest, m.top)]
+    places += [("a message", k, b) for k, b in enumerate(m.unsaid)]
     places += [("registers", r, b) for r, v in m.general.items() for b in m.to_bytes(v, 8)]
     places += [("registers", "vector %d" % n, b) for n, v in enumerate(m.vectors) for b in v]
     out = {}

@@ -164,13 +164,14 @@ class KeyedGcm(Keyed):
     def any_counter(self):
         d = self.domain
         low = [d.fresh("J_0 counter byte %d" % i, KEY | PUBLIC, True) for i in range(4)]
-        d.words["J_0 low"] = lambda offset, k: d.bits(d.byte_in_block(low[3 - k], offset + 1) if k < 4 else self.pre_counter[15 - k])
+        d.words["J_0 low"] = lambda offset, k: d.bits(d.byte_in_block(low[3 - k] if k < 4 else self.pre_counter[15 - k], offset + 1))
         for k in range(8):  # bytes that are computed with are known again
             b = d.opaque((Pointer("J_0 low", 0), k))
             d.byte_ids[d.bits(b)] = b
         self.any_stream = self.aes.cipher(self.pre_counter + low, self.w)
         shifted = [0] * 4 + [x for b in low[::-1] for x in d.bits(b)] + [0] * 28  # 16 times the number
         pack = lambda bits: [d.pack(bits[i:i + 8]) for i in range(0, 64, 8)]
+        # As x86-64 and as ARM compute it: 16 and the complement of the lowest 36 bits; 2^36 less it.
         self.room = {(16, 0, *pack([x ^ 1 if 4 <= i < 36 else 0 for i, x in enumerate(shifted)])),
                      (1 << 36, 1, *pack([x ^ 1 for x in shifted]))}
 

@@ -28,3 +28,6 @@ void *memset(void *to, int byte, size_t count) {
         *a = (unsigned char) byte;
     return to;
 }
+
+// So that constants which follow lie at an address that isn't a multiple of anything by chance.
+const unsigned char odd = 1;

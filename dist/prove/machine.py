@@ -5,7 +5,8 @@ addresses and lengths have to be constants or Pointers. A Pointer is known only 
 buffers are. Whatever isn't covered raises Unproved. A step is `instruction.run(machine, name, *operands)`. A machine is a class below
 Machine, in a file of its own (x86_64.py, aarch64.py), that says:
 
-    tools, objdump         what the names of gcc, ld, objdump and nm begin with; the options with which objdump prints what `decode` reads
+    tools                  what the names of gcc, ld, objdump and nm begin with
+    assembler, objdump     which processors gcc may assemble for; the options with which objdump prints what `decode` reads
     registers, stack_pointer, vector_count, vector_size     registers of 8 bytes by their names, vector registers by their numbers
     arguments, result      the registers of the ABI; more arguments are on the stack, 8 bytes each, above what a call pushes: `pushed`
     kept, kept_halves      the registers that a function restores, and the vector registers whose low halves it does
@@ -175,7 +176,7 @@ class Machine:
         self.lost, self.origins, self.native, self.after_external = set(), {}, None, None
         self.placed, self.may_reveal, self.assumed, self.equalities, self.done, self.want = {}, False, (), {}, 0, None
         self.written = (), 0
-        self.stale = set()  # bytes of the stack that a call of libc may have overwritten since they were written
+        self.stale = set()  # bytes of the stack that may have been overwritten by others since they were written
         self.room = self.counter = None  # see calls.Call
         self.path = []
         self.enter(arguments)
@@ -282,7 +283,9 @@ class Machine:
         """Whether these are addresses in an object, or so near to it that none is 0 or has wrapped around: no object lies in the first
         4,096 bytes of memory, nor in its upper half. So they are ordered as their offsets are. (A counter isn't placed.)"""
         for a in addresses:
-            if not (isinstance(a, Pointer) and a.base in self.regions and -4096 < a.offset < 1 << 47):
+            region = isinstance(a, Pointer) and self.regions.get(a.base)
+            # (Of NULL with a count of 0 the header makes the address 16.)
+            if not region or not -4096 * bool(region.content) <= a.offset < 1 << 47:
                 return False
         return True
 
@@ -533,7 +536,7 @@ class Machine:
     def load(self, address, size, align=1):
         content, o = self.place(address, size, False, align)
         if self.stale and content is self.regions["stack"].content and not self.stale.isdisjoint(range(o, o + size)):
-            raise Unproved("reads what a call of libc may have overwritten")
+            raise Unproved("reads what may have been overwritten below the stack pointer")
         return list(content[o:o + size])
 
     def store(self, address, b, align=1):
@@ -613,8 +616,16 @@ class Machine:
         self.last, self.steps = self.next_address, self.steps + 1
         instruction = self.program.at(self.last)
         self.used[instruction.form] = self.last
-        self.next_address = instruction.next
+        self.next_address, stack_pointer = instruction.next, self.general[self.stack_pointer]
         instruction.run(self, instruction.name, *instruction.operands)
+        if self.general[self.stack_pointer] is not stack_pointer:
+            self.stack_moved(stack_pointer, self.general[self.stack_pointer])
+
+    def stack_moved(self, before, after):
+        """What lies below the red zone may be overwritten at any time, by a signal's handler."""
+        if not is_pointer(after) or after.base != "stack":
+            raise Unproved("the stack pointer leaves the stack")
+        self.stale.update(range(before.offset - self.red_zone, after.offset - self.red_zone))
 
     def go_to(self, address):
         """Where a return leads: a constant, or the return address of the call."""
@@ -666,7 +677,7 @@ class Machine:
                 self.general[r] = tuple(all_of(self.to_bytes(v, 8)))
         if domain is not self.domain:  # what was asked of bytes of the other domain
             self.equalities = {}
-            self.set_flags()
+            self.set_flags(**{f: value for f, value in self.flags.items() if value in (0, 1)})
         self.domain = domain
         if self.native and any(new < 256 for _, new in cells):
             self.native.impose()

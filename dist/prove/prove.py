@@ -17,7 +17,8 @@ import gcm
 import siv
 from aarch64 import Aarch64
 from bits import Domain, Unproved
-from machine import Program
+from calls import STACK
+from machine import LIBC, Program
 from native import compare_all
 from processors import PROCESSORS
 from standards import pinned
@@ -28,6 +29,7 @@ HERE = os.path.dirname(os.path.abspath(__file__))
 # Those that take longest come first. siv: the calls of AES-GCM-SIV in gcm.s
 BUILDS = {"%s/%s%s" % (folder, library, wide): machine for library in ("gcm", "siv", "aes") for folder, machine, wide in (
     ("aarch64", Aarch64, ""), ("x86_64", X86_64, ""), ("x86_64", X86_64, "_v3"))}
+V3 = "+avx2+bmi+bmi2+movbe"  # what the build with AVX2 may use besides
 KEY_SIZES = 16, 32, 24
 SEED = 1
 
@@ -36,13 +38,28 @@ def source(dist, build):
     return "%s/%s.s" % (dist, build.replace("siv", "gcm"))
 
 
+def run(*command):
+    """Runs a tool. An instruction that the build's processors don't have is a fault of the text."""
+    result = subprocess.run(command, capture_output=True, text=True)
+    if "not supported" in result.stderr:
+        raise Unproved(result.stderr.strip())
+    if result.returncode:
+        raise SystemExit("%s: %s" % (" ".join(command), result.stderr.strip()))
+    return result.stdout
+
+
 def link(source, out, machine=X86_64):
-    """Assembles and links one build; libc's three functions are names alone, of which the contract is used."""
+    """Assembles and links one build, at addresses of more than 32 bits; libc's three functions are names alone, of which the contract is
+    used."""
+    gcc, objects = machine.tools + "gcc", (out + ".host.o", out + ".o")
+    run(gcc, machine.assembler + V3 * source.endswith("_v3.s"), "-c", source, "-o", objects[1])
     # (A function of the host may not become a call of itself.)
-    for s, o in ((source, out + ".o"), (HERE + "/host.c", out + ".host.o")):
-        subprocess.run([machine.tools + "gcc", "-O2", "-fno-tree-loop-distribute-patterns", "-c", s, "-o", o], check=True)
-    subprocess.run([machine.tools + "ld", "-static", "-e", "start", "--build-id=none", "-z", "noexecstack",
-                    out + ".host.o", out + ".o", "-o", out], check=True)
+    run(gcc, "-O2", "-fno-tree-loop-distribute-patterns", "-c", HERE + "/host.c", "-o", objects[0])
+    undefined = set(run(machine.tools + "nm", "-u", objects[1]).split()) - {"U", "_GLOBAL_OFFSET_TABLE_", *LIBC}
+    if undefined:
+        raise Unproved("depends on what else is linked: " + ", ".join(sorted(undefined)))
+    run(machine.tools + "ld", "-static", "-e", "start", "--build-id=none", "-z", "noexecstack", "-Ttext-segment=0x123456700000",
+        *objects, "-o", out)
     return Program(out, machine)
 
 
@@ -63,24 +80,24 @@ def aes_cases(choose):
     for way, counts in (("", choose(range(65), (2, 17), (0, 1, 3, 8, 15, 16, 33))), ("_to", choose(range(65), (17,), (0, 1, 2))),
                         ("_with", choose(range(1, 65), (1,), (17,)))):
         yield "blocks", [(direction, n, way) for direction in ("encrypt", "decrypt") for n in counts]
-    counts = choose(range(0, 1025, 7), (33,), (0, 1, 16, 130, 257))
+    counts = choose(range(0, 1025, 7), (33,), (0, 1, 16, 64, 130, 257))
     yield "add_keystream", [(0, n) for n in counts] + [(7, 40), (2 ** 64 - 21, 20), (5, 40, 2)]
     yield "add_keystream", [(3, n, aes.NEVER, "_to") for n in choose(counts[1::2], (33,), (0, 130))]
     later = [(21, 11), (21, 11, 1), (21, 40, 1), (21, 40, 2), (21, 11, 1, "_to"), (21, 11, 1, "_with")]  # than the first block
     yield "add_keystream", choose(later, later[2:3], later[:2] + later[3:])
     yield "add_keystream", [(3, n, aes.NEVER, "_with") for n in choose(counts[1::3], (33,))]
     yield "add_keystream", [(5, 280, wrap) for wrap in choose(range(1, 19), (), (9, 17))]
-    yield "cbc_decrypt", choose(range(65), (9,), (0, 1, 8, 17))
+    yield "cbc_decrypt", choose(range(65), (9,), (0, 1, 3, 4, 8, 17))
     yield "cbc_encrypt", choose(range(65), (2,), (0, 1))
-    yield "wrap", choose(range(2, 13), (2,), (3,))
-    yield "unwrap", choose(range(3, 14), (3,), (4,))
-    yield "wrap_padded", choose(range(1, 41), (9,), (1, 8))
-    yield "unwrap_padded", choose(range(1, 41), (9,), (1, 8))
+    yield "wrap", choose(range(2, 13), (2,), (6,))
+    yield "unwrap", choose(range(3, 14), (3,), (7,))
+    yield "wrap_padded", choose(range(1, 50), (9,), (1, 8))
+    yield "unwrap_padded", choose(range(1, 50), (9,), (1, 8, 41))
     yield "unwrap_padded_refused", choose([(n, 1) for n in range(1, 4)], [(1, 8)], [(2, 16)])
 
 
 def gcm_cases(choose):
-    more = (0, 0), (1, 1), (49, 1), (0, 129)
+    more = (0, 0), (1, 1), (49, 1), (0, 129), (0, 225), (0, 449, gcm.UNKNOWN)
     yield "wipe_message", [()]
     yield "seal", choose([(13, 33), (40, 20), *more, *LONG], [(13, 33)], more)
     yield "open", choose([(0, 0), (13, 33), (40, 129)], [(13, 33)], [(0, 0)])
@@ -103,6 +120,13 @@ def gcm_cases(choose):
         states = [(phase, 16, 7), (gcm.ADDITIONAL, 0, 0), (gcm.ADDITIONAL, 5, 0), (phase, 5, 16)]
         yield call, choose(states, states[:1], states[1:])
     yield "accept", [(gcm.VERIFYING, 16, 7, gcm.UNKNOWN, n) for n in choose((4, 8, 12, 13, 14, 15), (12,), (4, 15))]
+    # After so many bytes that their counts and positions don't fit into 32 bits.
+    for many in choose([2 ** 35], (), [2 ** 35]):
+        yield "additional", [(2 ** 32 - 3, 13), (many, 7)]
+        yield "piece", [("encrypt", gcm.ENCRYPTING, 5, 2 ** 32 - 5, 50, (12,)), ("verify", gcm.VERIFYING, many, many, 9, (12,))]
+        yield "decrypt", [(2 * many, many - 5, 20, (12,))]
+        yield "finish", [(gcm.ENCRYPTING, many + 16, many + 7)]
+        yield "accept", [(gcm.VERIFYING, many + 16, many + 7)]
     for n in choose((9, 50), (), (9,)):  # the counter wraps in the text
         nonce = 8, 2 ** 32 - 3, carried
         yield "piece", [("encrypt", gcm.ADDITIONAL, 5, 0, n, nonce), ("encrypt", gcm.ENCRYPTING, 5, 39, n, nonce),
@@ -142,6 +166,7 @@ def statements(keyed, options, part, parts):
 def header_cases(dist, machine=X86_64):
     for statuses, structs, name in ((aes.STATUSES, aes.STRUCTS, "fotsgure_aes"), (gcm.STATUSES, gcm.STRUCTS | siv.STRUCTS, "fotsgure_gcm")):
         lines = ["#include <stddef.h>", "#include <%s.h>" % name]
+        lines.append("_Static_assert(%s_STACK == %d, \"\");" % (name.upper(), STACK))
         lines += ["_Static_assert(%s_%s == %d, \"\");" % (name.upper(), s, n) for n, s in enumerate(statuses)]
         for struct, (size, fields) in structs.items():
             lines.append("_Static_assert(sizeof(struct %s) == %d, \"\");" % (struct, size))
@@ -158,8 +183,8 @@ def version(dist, library):
 
 
 # Calls that also run on the processor, by default and with all lengths.
-BESIDE = "blocks encrypt 17", "seal 13 33"
-ALL_BESIDE = *BESIDE, "set_key", "add_keystream 0 130", "unwrap 3", "seal 1 1", "open 0 0"
+BESIDE = "blocks encrypt 17", "add_keystream 21 11 1", "seal 13 33"
+ALL_BESIDE = *BESIDE, "set_key", "add_keystream 0 130", "unwrap 3", "seal 1 1", "open 0 0", "open 1 1"
 
 
 class Task:
@@ -171,7 +196,7 @@ class Task:
         self.name = "%s.s, key of %d bytes" % (build, key_size) + ", part %d of %d" % (part + 1, parts) * (parts > 1)
         self.path = "%s/%s_%d_%d" % (options.out, build.replace("/", "_"), key_size, part)
         self.proved, self.failed, self.vectors = -bool(part), 0, 0  # (set_key counts once)
-        self.used, self.compared, self.ran, self.went = {}, set(), set(), set()
+        self.used, self.compared, self.ran, self.went, self.calls = {}, set(), set(), set(), set()
 
     def run(self):
         start = time.process_time()
@@ -192,6 +217,7 @@ class Task:
                 self.vectors = checked(keyed)
             for what, call in statements(keyed, self.options, self.part, self.parts):
                 self.case(what, lambda seed: keyed.proved(call, seed))
+            self.calls = keyed.calls
         self.ran, self.went = set(program.cache), program.went
 
     def case(self, what, prove):
@@ -236,16 +262,15 @@ def alone(path, machine, used):
 
 def compare_forms(pool, tasks):
     """Compares each form of an instruction that was used; (how many there are, the machine and the form of those that lack it)."""
-    compared = {(task.machine, form) for task in tasks for form in task.compared}
     forms = {(task.machine, form): (task.path, address) for task in tasks for form, address in task.used.items()}
+    in_calls = {(task.machine, form) for task in tasks for form in task.compared}
     programs, lacking = {}, []
     for (machine, form), (path, address) in forms.items():
-        if (machine, form) not in compared:
-            programs.setdefault((path, machine), {})[form] = address
+        programs.setdefault((path, machine), {})[form] = address
     futures = [(pool.submit(alone, path, machine, used), path, machine) for (path, machine), used in programs.items()]
     for future, path, machine in futures:
         without, fault = future.result()
-        lacking += [(machine, form) for form in sorted(without)]
+        lacking += [(machine, form) for form in sorted(without) if (machine, form) not in in_calls]
         if fault:
             print("%s: NOT PROVED: %s" % (path, fault), flush=True)
     return len(forms), lacking
@@ -266,6 +291,10 @@ def say_what_ran(tasks, lines):
         print("%s: %d of %d instructions ran, %d of %d conditional jumps led both ways" % (
             text, sum(len(ran & addresses) for addresses in functions.values()), sum(map(len, functions.values())),
             sum(ways[a] == 2 for a in jumps), len(jumps)))
+        exports = {name.removeprefix("fotsgure_") for name in program.symbols if name.startswith("fotsgure_")}
+        without = exports.difference(*(other.calls for other in tasks if source("", other.build)[1:] == text))
+        if without:
+            print("%s: calls without a case: %s" % (text, ", ".join(sorted(without))))
         for name, addresses in functions.items() if lines else ():
             if addresses - ran:
                 print("%s, %s: %d of %d instructions didn't run" % (text, name, len(addresses - ran), len(addresses)))

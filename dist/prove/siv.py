@@ -5,7 +5,7 @@ other, each value of POLYVAL, the block of which the tag is the cipher, and the 
 import functools
 
 from bits import DATA, KEY
-from calls import ANY, Buffer, Call, compare, prove
+from calls import ANY, Buffer, Call, compare
 from gcm import DONE, KEY_LENGTH, NO_KEY, REFUSED, TOO_LONG, ZEROS, Hashing, KeyedGcm, padded, threes
 from machine import Number
 from standards import dot, mulx_ghash, product
@@ -28,7 +28,7 @@ class KeyedSiv(KeyedGcm):
         left. DONE if key_length is 16 or 32"""
         siv = Buffer("siv", [self.key_domain.undefined] * STRUCT, ANY)
         call = Call("gcm_siv_set_key", [siv, Buffer("key", self.key), self.key_size], DONE)
-        m = prove(self.key_domain, self.program, call, seed)
+        m = self.proved(call, seed)
         self.struct = [self.byte_for_any(b) for b in m.regions["siv"].content]
         fixed = self.struct[:4] + self.struct[4 + 4 * len(self.w):]
         compare(self.domain, fixed, [self.key_size] + [0] * (len(fixed) - 1), "the length and what no round key takes")
