@@ -622,7 +622,7 @@ class Machine:
         for those. `cells` has the pairs in which the new byte is a cell, perhaps with bits flipped."""
         memo, cells = {}, list(cells)
         if self.native:
-            self.native.renamed(cells, domain)
+            self.native.values.renamed(cells, domain)
 
         def all_of(b):
             return [memo[x] if x in memo else memo.setdefault(x, convert(x)) for x in b]

@@ -31,16 +31,20 @@ class Native:
 
     def impose(self):
         """Makes the processor's registers and memory those of the machine, but for bytes whose value isn't known: these stay. It is done
-        before the first instruction; and once more where a statement goes on with constants in the place of a result, so that the rest is
-        the same for this one value of it only."""
+        before the first instruction; and once more where a statement goes on with constants in the place of a result, as the processor
+        has computed others."""
         have = self.memory()
         for name, region in self.m.regions.items():
             self.processor.write(self.values.base[name], self.known_or(region.content, have[name]))
-        words = {r: self.values.word(v) for r, v in self.m.general.items()}
-        known = {f: x for f, x in self.m.flags.items() if x in (0, 1)}
-        self.processor.put_registers(self.m.next_address, {r: w for r, w in words.items() if w is not None}, known)
+        self.processor.put_registers(self.registers())
         have = self.processor.vectors(range(len(self.m.vectors)))
         self.processor.put_vectors({n: self.known_or(self.m.vectors[n], b) for n, b in have.items()})
+
+    def registers(self):
+        """What the machine has in general registers and flags, as far as it is known, and the address of the next instruction."""
+        words = {r: self.values.word(self.m.general[r]) for r in self.m.registers}
+        known = {f: x for f, x in self.m.flags.items() if x in (0, 1)}
+        return {"next": self.values.word(self.m.next_address), **{r: x for r, x in words.items() if x is not None}, **known}
 
     def memory(self):
         return {name: self.processor.read(self.values.base[name], len(region.content)) for name, region in self.m.regions.items()}
@@ -57,24 +61,13 @@ class Native:
             answer = self.values.word(distance) < y if what == "below" else self.values.word(distance) == y
         return self.m.placed.setdefault(flag, int(answer))
 
-    def renamed(self, pairs, domain):
-        """Called where the machine puts new bytes in the place of others: so that the values stay what they are on the processor."""
-        self.values.renamed(pairs, domain)
-
     def watch(self, m):
         """Called after each instruction of the machine: the processor does the same one."""
-        address = self.values.word(m.next_address)
-        if not self.processor.step(m.program.at(m.last).name, address, m.after_external):
-            return
-        at, general, flags = self.processor.registers()
-        wrong = [] if at == address else ["it goes on at %x and not at %x" % (at, address)]
-        for r in m.registers:
-            want = self.values.word(m.general[r])
-            if want not in (None, general[r]):
-                wrong.append("%s is %x and not %x" % (r, general[r], want))
-        wrong += ["flag " + f for f, value in m.flags.items() if value in (0, 1) and flags[f] != value]
-        changed = [n for n, v in enumerate(m.vectors) if v is not self.seen[n]]
-        self.refuse(wrong + self.wrong_vectors(changed))
+        want = self.registers()
+        if self.processor.step(m.program.at(m.last).name, want["next"], m.after_external):
+            have = self.processor.registers()
+            wrong = ["%s is %x and not %x" % (r, have[r], x) for r, x in want.items() if x != have[r]]
+            self.refuse(wrong + self.wrong_vectors([n for n, v in enumerate(m.vectors) if v is not self.seen[n]]))
 
     def wrong_vectors(self, numbers):
         """Of these vector registers at least."""
@@ -97,14 +90,11 @@ class Native:
         if wrong:
             raise Unproved("the processor differs: " + ", ".join(wrong))
 
-    def close(self):
-        self.processor.close()
-
 
 # An instruction by itself. What it has in memory lies in the midst of a buffer or of the stack. A form that can't be run with what was
 # drawn is tried with other values.
 SIZE, MIDDLE = 128, 64
-TRIES = 4
+TRIES = 6
 NEVER_ALONE = "ldaxr", "stlxr"  # they belong together: compared in the calls that prove.py runs beside the processor
 
 

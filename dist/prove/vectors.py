@@ -55,40 +55,30 @@ SIV = [("f901cfe8a69615a93fdf7a98cad48179", "6245709fb18853f68d833640",
 
 
 def evaluate(keyed, call, key, given):
-    """What the buffers of a statement hold after the call, for a key and given contents."""
-    plain, d = Aes(Domain()), keyed.domain
-    values = Values(d, random.Random(1), call.counter)
+    """What a statement says that its buffers hold after the call, as bytes, for this key and these contents before it: {name: bytes}. The
+    cells of round keys, of powers of H and of the contents get their values, and what the statement has as functions of these is
+    computed. If it goes step by step, the arbitrary bytes after a step get the values of what they stand for."""
+    plain, values = Aes(Domain()), Values(keyed.domain, random.Random(1), call.counter)
     words = plain.key_expansion(list(key))
-    for word, cells in zip(words, keyed.w):
-        for value, b in zip(word, cells):
-            values.set_byte(d, b, value)
+    known = list(zip(words, keyed.w))
     if keyed.library == "gcm":
         power = h = plain.cipher([0] * 16, words)
         for cells in keyed.powers:
-            for value, b in zip(power, cells):
-                values.set_byte(d, b, value)
+            known.append((power, cells))
             power = product(plain.d, power, h)
+    for value, cells in known:
+        for x, b in zip(value, cells):
+            values.set_byte(b, x)
     for buffer in call.buffers:
-        for value, b in zip(given.get(buffer.name, ()), buffer.content):
-            values.give(b, value)
+        for x, b in zip(given.get(buffer.name, ()), buffer.content):
+            values.give(b, x)
     for _, want, new in call.steps() if call.steps else ():
         want = want() if callable(want) else want
-        values.renamed(list(zip(want, new)), d)
-        for b, c in zip(want, new):
-            if c < 256 and values.full_byte(b) != c:
-                raise Unproved("a vector isn't what a statement assumes")
-        values.bytes = {}
-        d.products_of(0, False)
-    return {b.name: bytes(values.full_byte(x) for x in b.after) for b in call.buffers if b.after is not None and None not in b.after}
-
-
-def check(keyed, call, key, given, want):
-    """1, if the statement has the vector's results."""
-    have = evaluate(keyed, call, bytes.fromhex(key), {name: bytes.fromhex(x) for name, x in given.items()})
-    for name, x in want.items():
-        if have[name].hex() != x:
-            raise Unproved("%s: a vector of the standard has another %s: %s and not %s" % (call.name, name, have[name].hex(), x))
-    return 1
+        values.renamed(zip(want, new), keyed.domain)
+        if any(c < 256 and values.full_byte(b) != c for b, c in zip(want, new)):
+            raise Unproved("a vector isn't what a statement assumes")
+        keyed.domain.products_of(0, False)
+    return {b.name: bytes(map(values.full_byte, b.after)) for b in call.buffers if b.after is not None and None not in b.after}
 
 
 def aes_vectors(k):
@@ -139,6 +129,11 @@ def siv_vectors(k):
 
 
 def checked(keyed):
-    """How many vectors the statements have; raises if they haven't one."""
-    vectors = {"aes": aes_vectors, "gcm": gcm_vectors, "siv": siv_vectors}[keyed.library]
-    return sum(check(keyed, *vector) for vector in vectors(keyed))
+    """How many vectors the statements have; raises if a statement has another result than the vector."""
+    vectors = list({"aes": aes_vectors, "gcm": gcm_vectors, "siv": siv_vectors}[keyed.library](keyed))
+    for call, key, given, want in vectors:
+        have = evaluate(keyed, call, bytes.fromhex(key), {name: bytes.fromhex(x) for name, x in given.items()})
+        for name, x in want.items():
+            if have[name].hex() != x:
+                raise Unproved("%s: a vector of the standard has another %s: %s and not %s" % (call.name, name, have[name].hex(), x))
+    return len(vectors)
