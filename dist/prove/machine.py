@@ -35,7 +35,7 @@ Register = namedtuple("Register", "name size at", defaults=[0])  # at: the first
 Vector = namedtuple("Vector", "number size lane at clears", defaults=[1, 0, True])
 # `before` and `after` are how far an access moves the base register.
 Memory = namedtuple("Memory", "size base index scale offset align before after", defaults=[1, 0, 0])
-Instruction = namedtuple("Instruction", "run name operands next form")
+Instruction = namedtuple("Instruction", "run name operands next form")  # form: see `form`
 
 ROOM = Pointer("room", 0)  # how many bytes of keystream come before the counter of GCM, 32 bits of unknown value, wraps around
 SECRET = "secret"  # a flag that depends on the key or on data; None is a flag that is undefined
@@ -75,13 +75,13 @@ def contrary(flag):
     return 1 - flag if flag in (0, 1) else flag
 
 
-def form(name, operands, leads):
-    """What an instruction is, but for which registers it has (only which of them are the same), how far an access lies from its base, and
-    where it leads to."""
+def form(name, operands, with_target):
+    """What an instruction is, for comparisons with a processor: all but which registers it has (only which of them are the same), how far
+    an access lies from its base, and which address its last operand is, if it has a target."""
     numbers = {}
     same = lambda register: register if register in ("xzr", "sp", "rsp") else numbers.setdefault(register, len(numbers))
     kinds = [kind(o, same) for o in operands]
-    return " ".join([name, *(kinds[:-1] + ["to"] if leads and is_int(operands[-1]) else kinds)])
+    return " ".join([name, *(kinds[:-1] + ["to"] if with_target and is_int(operands[-1]) else kinds)])
 
 
 def kind(o, same):

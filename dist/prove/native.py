@@ -12,7 +12,7 @@ from values import Values
 
 class Native:
     def __init__(self, machine, seed=None, counter=None, values=None, processor=None):
-        """For a call it draws values by a seed, and starts a processor; instructions by themselves share both."""
+        """A call has values of its own, drawn by a seed, and a processor of its own; instructions by themselves share these."""
         self.m, machine.by_place = machine, self.by_place
         self.values = values or Values(machine.domain, random.Random(seed), counter)
         self.processor = processor or PROCESSORS[type(machine)](machine.program.path)
@@ -91,8 +91,8 @@ class Native:
             raise Unproved("the processor differs: " + ", ".join(wrong))
 
 
-# An instruction by itself. What it has in memory lies in the midst of a buffer or of the stack. A form that can't be run with what was
-# drawn is tried with other values.
+# An instruction by itself. What it has in memory lies in the midst of a buffer or of the stack. If it can't be run with what was drawn, it
+# is tried with other values.
 SIZE, MIDDLE = 128, 64
 TRIES = 6
 NEVER_ALONE = "ldaxr", "stlxr"  # they belong together: compared in the calls that prove.py runs beside the processor
@@ -119,8 +119,8 @@ class Alone:
         return (r.choice(drawn) & (1 << 8 * size) - 1).to_bytes(size, "little")
 
     def bytes(self, count):
-        """All constant in every second try; in the others about a third is."""
-        constant = self.try_ % 2 or self.random.random() < 0.3
+        """Constants, or in a try that isn't `constant` symbolic bytes more often."""
+        constant = self.constant or self.random.random() < 0.3
         return joined(self.random.choices(self.constants if constant else self.symbolic, k=count // 8))
 
     def before(self, instruction, address):
@@ -141,8 +141,9 @@ class Alone:
     def compared(self, address):
         """How often the processor agreed with a form of an instruction; raises if it ever differs."""
         instruction, agreed = self.program.at(address), 0
-        for self.try_ in range(TRIES):
-            self.random.seed("%s %d" % (instruction.form, self.try_))  # the same in each run, whatever was compared before
+        for k in range(TRIES):
+            self.constant = k % 2
+            self.random.seed("%s %d" % (instruction.form, k))  # so that a form always has the same values
             m = self.before(instruction, address)
             beside = Native(m, values=self.values, processor=self.processor)
             try:

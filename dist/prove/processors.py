@@ -86,8 +86,7 @@ class Processor(Beside):
         for n, b in vectors.items():
             for start, half in (self.low, b[:16]), (self.high, b[16:]):
                 self.area[start + 16 * n:start + 16 * n + 16] = half
-        state = int.from_bytes(self.area[self.state:self.state + 8], "little") | self.all
-        self.area[self.state:self.state + 8] = state.to_bytes(8, "little")
+        self.area[self.state] = self.area[self.state][0] | self.all
         self.ptrace(SETREGSET, XSTATE, ctypes.addressof(self.vector))
 
     def step(self, name, address, called):

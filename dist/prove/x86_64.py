@@ -39,10 +39,9 @@ class X86_64(Machine):
         if not run:
             raise Unproved("instruction not covered: " + text)
         operands = [operand(o.strip(), name, following) for o in rest.split(",")] if rest and name != "nop" else []
-        known_by = form(name, operands, name[0] == "j" or name == "call")
         if name in VECTORS:
             operands.insert(1, operands[0])  # the first source, which a VEX-coded instruction names
-        return Instruction(run, name, operands, following, known_by)
+        return Instruction(run, name, operands, following, form(name, operands, name[0] == "j" or name == "call"))
 
     def condition(self, code):
         holds = any(self.decide(self.flags[f]) for f in CONDITIONS[code] if f in "czso")
