@@ -33,12 +33,11 @@ class Native:
         """Makes the processor's registers and memory those of the machine, but for bytes whose value isn't known: these stay. It is done
         before the first instruction; and once more where a statement goes on with constants in the place of a result, as the processor
         has computed others."""
-        have = self.memory()
         for name, region in self.m.regions.items():
-            self.processor.write(self.values.base[name], self.known_or(region.content, have[name]))
+            self.processor.write(self.values.base[name], self.known_or(region.content, lambda: self.memory(name)))
+        vectors = enumerate(self.m.vectors)
+        self.processor.put_vectors({n: self.known_or(v, lambda: self.processor.vectors([n])[n]) for n, v in vectors})
         self.processor.put_registers(self.registers())
-        have = self.processor.vectors(range(len(self.m.vectors)))
-        self.processor.put_vectors({n: self.known_or(self.m.vectors[n], b) for n, b in have.items()})
 
     def registers(self):
         """What the machine has in general registers and flags, as far as it is known, and the address of the next instruction."""
@@ -46,11 +45,12 @@ class Native:
         known = {f: x for f, x in self.m.flags.items() if x in (0, 1)}
         return {"next": self.values.word(self.m.next_address), **{r: x for r, x in words.items() if x is not None}, **known}
 
-    def memory(self):
-        return {name: self.processor.read(self.values.base[name], len(region.content)) for name, region in self.m.regions.items()}
+    def memory(self, name):
+        return self.processor.read(self.values.base[name], len(self.m.regions[name].content))
 
-    def known_or(self, content, have):
-        return bytes(x if b is None else b for b, x in zip(map(self.values.byte, content), have))
+    def known_or(self, content, read):
+        known = [self.values.byte(b) for b in content]
+        return bytes([x if b is None else b for b, x in zip(known, read())] if None in known else known)
 
     def by_place(self, flag):
         """Answers what the machine can't: how far two buffers are apart, and whether a key or a tag is right, is known of one run."""
@@ -76,8 +76,7 @@ class Native:
                       for n, have in self.processor.vectors(numbers).items())
 
     def wrong_memory(self):
-        have = self.memory()
-        return joined(self.differ(name, region.content, have[name]) for name, region in self.m.regions.items())
+        return joined(self.differ(name, region.content, self.memory(name)) for name, region in self.m.regions.items())
 
     def differ(self, what, content, have):
         known = map(self.values.byte, content)

@@ -82,7 +82,7 @@ class Processor(Beside):
         return {n // 16: low[n:n + 16] + high[n:n + 16] for n in range(0, 256, 16)}
 
     def put_vectors(self, vectors):
-        """After `vectors`, which reads what is left as it is."""
+        self.vectors(())  # what isn't put stays as it is
         for n, b in vectors.items():
             for start, half in (self.low, b[:16]), (self.high, b[16:]):
                 self.area[start + 16 * n:start + 16 * n + 16] = half
