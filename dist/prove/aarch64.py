@@ -6,8 +6,8 @@ import re
 from collections import namedtuple
 
 from bits import LOST, Unproved
-from machine import (RETURN_ADDRESS, SECRET, Instruction, Machine, Memory, Register, Table, Vector, constant, interleaved, is_int, joined,
-                     kind, lanes)
+from machine import (RETURN_ADDRESS, SECRET, Instruction, Machine, Memory, Register, Table, Vector, constant, form, interleaved, is_int,
+                     joined, lanes)
 
 Shifted = namedtuple("Shifted", "operand how count")
 LANES = {"b": 1, "h": 2, "s": 4, "d": 8, "q": 16}
@@ -43,9 +43,9 @@ class Aarch64(Machine):
         run = TABLE.get(name)
         if not run:
             raise Unproved("instruction not covered: " + text)
-        operands = parse(rest, name[:2] == "b." or name in WITH_TARGET)
-        kinds = ["%s %s" % (kind(o.operand), o.how) if isinstance(o, Shifted) else kind(o) for o in operands]
-        return Instruction(run, name, operands, following, " ".join([name] + kinds))
+        with_target = name[:2] == "b." or name in WITH_TARGET
+        operands = parse(rest, with_target)
+        return Instruction(run, name, operands, following, form(name, operands, with_target))
 
     def get(self, o):
         if isinstance(o, Shifted):

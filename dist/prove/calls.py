@@ -73,7 +73,7 @@ def prove(domain, program, call, seed=None, strict=True):
         run(m, call, [m.native.watch] + watches)
         m.native.finish()
     finally:
-        m.native.close()
+        m.native.processor.close()
     check(m, call)
     return m
 

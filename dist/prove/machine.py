@@ -38,7 +38,7 @@ Register = namedtuple("Register", "name size at", defaults=[0])  # at: the first
 Vector = namedtuple("Vector", "number size lane at clears", defaults=[1, 0, True])
 # `before` and `after` are how far an access moves the base register.
 Memory = namedtuple("Memory", "size base index scale offset align before after", defaults=[1, 0, 0])
-Instruction = namedtuple("Instruction", "run name operands next form")  # form: the name and the kinds of operands
+Instruction = namedtuple("Instruction", "run name operands next form")  # form: see `form`
 
 LIBC = "memcpy", "memmove", "memset"
 ROOM = Pointer("room", 0)  # how many bytes of keystream come before the counter of GCM, 32 bits of unknown value, wraps around
@@ -79,15 +79,27 @@ def contrary(flag):
     return 1 - flag if flag in (0, 1) else flag
 
 
-def kind(o):
-    """What an operand is, without its numbers."""
+def form(name, operands, with_target):
+    """What an instruction is, for comparisons with a processor: all but which registers it has (only which of them are the same), how far
+    an access lies from its base, and which address its last operand is, if it has a target."""
+    numbers = {}
+    same = lambda register: register if register in ("xzr", "sp", "rsp") else numbers.setdefault(register, len(numbers))
+    kinds = [kind(o, same) for o in operands]
+    return " ".join([name, *(kinds[:-1] + ["to"] if with_target and is_int(operands[-1]) else kinds)])
+
+
+def kind(o, same):
+    """What an operand is; `same` says for each register which one it is."""
     if isinstance(o, Register):
-        return o.name if o.name in ("xzr", "sp") else "r%d" % o.size
+        return "r%d.%s%s" % (o.size, same(o.name), "h" * o.at)
     if isinstance(o, Vector):
-        return "%s%d.%d" % ("v" if o.clears else "part", o.size, o.lane)
+        return "%s%d.%d.%s%s" % ("v" if o.clears else "part", o.size, o.lane, same(o.number), "[%d]" % o.at * bool(o.at))
     if isinstance(o, Memory):
-        return "%sm%d%s%s" % ("+" * bool(o.before), o.size, "[]" * bool(o.index and not o.size), "+" * bool(o.after))
-    return o if isinstance(o, str) else "{%d}" % len(o) if isinstance(o, tuple) else "i"
+        parts = [str(same(o.base))] * bool(o.base) + ["%s*%d" % (same(o.index), o.scale)] * bool(o.index)
+        return "%sm%d[%s]%s" % ("+" * bool(o.before), o.size, " ".join(parts), "+" * bool(o.after))
+    if isinstance(o, tuple):  # several of these
+        return "{%s}" % " ".join(kind(x, same) for x in o)
+    return str(o)
 
 
 class Table(dict):
@@ -665,7 +677,7 @@ class Machine:
         for those. `cells` has the pairs in which the new byte is a cell, perhaps with bits flipped."""
         memo, cells = {}, list(cells)
         if self.native:
-            self.native.renamed(cells, domain)
+            self.native.values.renamed(cells, domain)
 
         def all_of(b):
             return [memo[x] if x in memo else memo.setdefault(x, convert(x)) for x in b]

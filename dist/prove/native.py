@@ -5,16 +5,18 @@ so the meanings that x86_64.py and aarch64.py give to instructions are those of 
 import random
 
 from bits import DATA, Domain, Unproved
-from machine import RETURN_ADDRESS, Pointer, Region
+from machine import RETURN_ADDRESS, Pointer, Region, joined
 from processors import PROCESSORS
 from values import Values
 
 
 class Native:
-    def __init__(self, machine, seed, counter=None, processor=None):
-        self.m, self.values, self.expected = machine, Values(machine.domain, random.Random(seed), counter), {}
+    def __init__(self, machine, seed=None, counter=None, values=None, processor=None):
+        """A call has values of its own, drawn by a seed, and a processor of its own; instructions by themselves share these."""
+        self.m, machine.by_place = machine, self.by_place
+        self.values = values or Values(machine.domain, random.Random(seed), counter)
         self.processor = processor or PROCESSORS[type(machine)](machine.program.path)
-        machine.by_place = self.by_place
+        self.seen = [None] * len(machine.vectors)  # the vector registers as they were when they were last compared
         self.place_regions()
         self.impose()
 
@@ -28,22 +30,30 @@ class Native:
             self.processor.write(values.base[name], values.random.randbytes(len(region.content)))
 
     def impose(self):
-        """Gives the processor what the machine has: at the start, and where a statement holds only for some values of a result."""
-        self.values.bytes = {}
+        """Makes the processor's registers and memory those of the machine, but for bytes whose value isn't known: these stay. It is done
+        before the first instruction; and once more where a statement goes on with constants in the place of a result, as the processor
+        has computed others."""
         for name, region in self.m.regions.items():
-            have = self.processor.read(self.values.base[name], len(region.content))
-            self.processor.write(self.values.base[name], self.known_or(region.content, have))
-        words = {r: self.values.word(v) for r, v in self.m.general.items()}
-        known = {f: x for f, x in self.m.flags.items() if x in (0, 1)}
-        self.processor.put_registers(self.m.next_address, {r: w for r, w in words.items() if w is not None}, known)
-        have = self.processor.vectors(range(len(self.m.vectors)))
-        self.processor.put_vectors({n: self.known_or(self.m.vectors[n], b) for n, b in have.items()})
+            self.processor.write(self.values.base[name], self.known_or(region.content, lambda: self.memory(name)))
+        vectors = enumerate(self.m.vectors)
+        self.processor.put_vectors({n: self.known_or(v, lambda: self.processor.vectors([n])[n]) for n, v in vectors})
+        self.processor.put_registers(self.registers())
 
-    def known_or(self, content, have):
+    def registers(self):
+        """What the machine has in general registers and flags, as far as it is known, and the address of the next instruction."""
+        words = {r: self.values.word(self.m.general[r]) for r in self.m.registers}
+        known = {f: x for f, x in self.m.flags.items() if x in (0, 1)}
+        return {"next": self.values.word(self.m.next_address), **{r: x for r, x in words.items() if x is not None}, **known}
+
+    def memory(self, name):
+        return self.processor.read(self.values.base[name], len(self.m.regions[name].content))
+
+    def known_or(self, content, read):
         known = [self.values.byte(b) for b in content]
-        return bytes(x if b is None else b for b, x in zip(known, have))
+        return bytes([x if b is None else b for b, x in zip(known, read())] if None in known else known)
 
     def by_place(self, flag):
+        """Answers what the machine can't: how far two buffers are apart, and whether a key or a tag is right, is known of one run."""
         if flag[0] == "zero":
             answer = all(self.values.full_byte(b) == 0 for b in flag[1:])
         else:
@@ -51,127 +61,112 @@ class Native:
             answer = self.values.word(distance) < y if what == "below" else self.values.word(distance) == y
         return self.m.placed.setdefault(flag, int(answer))
 
-    def renamed(self, pairs, domain):
-        self.values.renamed(pairs, domain)
-        self.expected = {}
-
     def watch(self, m):
-        """Called after each instruction of the machine."""
-        address = self.values.word(m.next_address)
-        if not self.processor.step(m.program.at(m.last).name, address, m.after_external):
-            return
-        at, general, flags = self.processor.registers()
-        wrong = [] if at == address else ["it goes on at %x and not at %x" % (at, address)]
-        for r in m.registers:
-            want = self.known(r, m.general[r], self.values.word)
-            if want is not None and want != general[r]:
-                wrong.append("%s is %x and not %x" % (r, general[r], want))
-        wrong += ["flag " + f for f, value in m.flags.items() if value in (0, 1) and flags[f] != value]
-        wrong += self.wrong_vectors([n for n, v in enumerate(m.vectors) if self.expected.get(n, (None,))[0] is not v])
-        if wrong:
-            raise Unproved("the processor differs: " + ", ".join(wrong))
-
-    def known(self, register, v, value):
-        """What a register has by the machine; kept as long as it has the same."""
-        if self.expected.get(register, (None,))[0] is not v:
-            self.expected[register] = v, value(v)
-        return self.expected[register][1]
+        """Called after each instruction of the machine: the processor does the same one."""
+        want = self.registers()
+        if self.processor.step(m.program.at(m.last).name, want["next"], m.after_external):
+            have = self.processor.registers()
+            wrong = ["%s is %x and not %x" % (r, have[r], x) for r, x in want.items() if x != have[r]]
+            self.refuse(wrong + self.wrong_vectors([n for n, v in enumerate(m.vectors) if v is not self.seen[n]]))
 
     def wrong_vectors(self, numbers):
         """Of these vector registers at least."""
-        for n, have in self.processor.vectors(numbers).items():
-            want = self.known(n, self.m.vectors[n], lambda v: [self.values.byte(b) for b in v])
-            if any(x not in (None, y) for x, y in zip(want, have)):
-                yield "vector register %d is %s and not %s" % (n, have.hex(), " ".join("?" if x is None else "%02x" % x for x in want))
+        self.seen = list(self.m.vectors)
+        return joined(self.differ("vector register %d" % n, self.m.vectors[n], have)
+                      for n, have in self.processor.vectors(numbers).items())
+
+    def wrong_memory(self):
+        return joined(self.differ(name, region.content, self.memory(name)) for name, region in self.m.regions.items())
+
+    def differ(self, what, content, have):
+        known = map(self.values.byte, content)
+        return ["byte %d of %s is %02x and not %02x" % (k, what, x, b) for k, (b, x) in enumerate(zip(known, have)) if b not in (None, x)]
 
     def finish(self):
-        wrong = list(self.wrong_vectors(range(len(self.m.vectors))))
-        for name, region in self.m.regions.items():
-            have = self.processor.read(self.values.base[name], len(region.content))
-            known = [self.values.byte(b) for b in region.content]
-            wrong += ["byte %d of %s" % (k, name) for k, b in enumerate(known) if b not in (None, have[k])]
+        self.refuse(self.wrong_vectors(range(len(self.m.vectors))) + self.wrong_memory())
+
+    def refuse(self, wrong):
         if wrong:
-            raise Unproved("the processor differs at the end: " + ", ".join(wrong))
-
-    def close(self):
-        self.processor.close()
+            raise Unproved("the processor differs: " + ", ".join(wrong))
 
 
-# An instruction by itself. What it has in memory lies in the midst of a buffer or of the stack. The symbolic bytes are functions of one
-# cell, so all that a meaning computes can be computed. A form that can't be run with what was drawn is tried with other values.
-SIZE, MIDDLE = 512, 256
-TRIES = 4
+# An instruction by itself. What it has in memory lies in the midst of a buffer or of the stack. If it can't be run with what was drawn, it
+# is tried with other values.
+SIZE, MIDDLE = 128, 64
+TRIES = 6
 NEVER_ALONE = "ldaxr", "stlxr"  # they belong together: compared in the calls that prove.py runs beside the processor
 
 
-class Drawn:
-    """Random values of a machine, all constant, or symbolic in part."""
+class Alone:
+    """A processor, and what registers and memory may have before an instruction: 8 bytes each, drawn once, and so evaluated once. The
+    symbolic bytes are functions of one cell, so all that a meaning computes can be computed."""
 
-    def __init__(self, seed):
-        self.random, self.constant = random.Random(seed), seed % 2
-        self.domain = Domain()
-        self.cell = self.domain.cell("a byte", False, DATA)
+    def __init__(self, program):
+        self.program, self.random, self.domain = program, random.Random(0), Domain()
+        cell = self.domain.cell("a byte", False, DATA)
+        tables = ([self.random.getrandbits(256) for _ in range(8)] for _ in range(256))
+        symbols = [self.domain.byte_of_cell(cell, 0, t) for t in tables]
+        self.constants = [b"".join(self.number(size) for _ in range(0, 8, size)) for size in (1, 8) for _ in range(256)]
+        self.symbolic = [self.random.choices(symbols, k=8) for _ in range(512)]
+        self.values = Values(self.domain, self.random)
+        self.processor = PROCESSORS[program.machine](program.path)
 
     def number(self, size):
         """Small ones too, as counts and indices are."""
         r = self.random
         drawn = r.getrandbits(8 * size), r.getrandbits(8 * size), r.getrandbits(5), -1 - r.getrandbits(5)
-        return r.choice(drawn) & (1 << 8 * size) - 1
+        return (r.choice(drawn) & (1 << 8 * size) - 1).to_bytes(size, "little")
 
     def bytes(self, count):
-        if self.constant or self.random.random() < 0.3:
-            size = self.random.choice((1, 8))
-            return [b for _ in range(0, count, size) for b in self.number(size).to_bytes(size, "little")]
-        tables = lambda: [self.random.getrandbits(256) for _ in range(8)]
-        return [self.domain.byte_of_cell(self.cell, 0, tables()) for _ in range(count)]
+        """Constants, or in a try that isn't `constant` symbolic bytes more often."""
+        constant = self.constant or self.random.random() < 0.3
+        return joined(self.random.choices(self.constants if constant else self.symbolic, k=count // 8))
 
+    def before(self, instruction, address):
+        """A machine just before the instruction."""
+        regions = {name: Region(self.bytes(SIZE), align=32) for name in ("buffer", "stack")}
+        m = self.program.machine(self.domain, self.program, regions, address, [])
+        m.vectors = [self.bytes(m.vector_size) for _ in m.vectors]
+        m.general.update({r: m.from_bytes(self.bytes(8)) for r in m.registers})
+        m.general[m.stack_pointer], m.top = Pointer("stack", MIDDLE), SIZE
+        if "x30" in m.general:
+            m.general["x30"] = RETURN_ADDRESS
+        elif not instruction.operands:
+            m.store(m.general[m.stack_pointer], m.to_bytes(RETURN_ADDRESS, 8))
+        m.flags = {f: self.random.getrandbits(1) for f in m.flags}
+        m.prepare(instruction, MIDDLE)
+        return m
 
-def before(program, instruction, address, seed):
-    """A machine just before the instruction."""
-    drawn = Drawn(seed)
-    content = lambda: drawn.bytes(32) * (SIZE // 32)
-    regions = {"buffer": Region(content(), align=32), "stack": Region(content(), align=32)}
-    m = program.machine(drawn.domain, program, regions, address, [])
-    m.vectors = [drawn.bytes(m.vector_size) for _ in m.vectors]
-    m.general.update({r: m.from_bytes(tuple(drawn.bytes(8))) for r in m.registers})
-    m.general[m.stack_pointer], m.top = Pointer("stack", MIDDLE), SIZE
-    if "x30" in m.general:
-        m.general["x30"] = RETURN_ADDRESS
-    elif not instruction.operands:
-        m.store(m.general[m.stack_pointer], m.to_bytes(RETURN_ADDRESS, 8))
-    m.flags = {f: drawn.random.getrandbits(1) for f in m.flags}
-    m.prepare(instruction, MIDDLE)
-    return m
-
-
-def compared(program, address, processor):
-    """How often the processor agreed with a form of an instruction; raises if it ever differs."""
-    instruction, agreed = program.at(address), 0
-    for seed in range(TRIES):
-        m = before(program, instruction, address, seed)
-        beside = Native(m, seed, processor=processor)
-        try:
-            m.step()
-        except Unproved:
-            continue
-        beside.watch(m)
-        beside.finish()
-        agreed += 1
-    return agreed
+    def compared(self, address):
+        """How often the processor agreed with a form of an instruction; raises if it ever differs."""
+        instruction, agreed = self.program.at(address), 0
+        for k in range(TRIES):
+            self.constant = k % 2
+            self.random.seed("%s %d" % (instruction.form, k))  # so that a form always has the same values
+            m = self.before(instruction, address)
+            beside = Native(m, values=self.values, processor=self.processor)
+            try:
+                m.step()
+            except Unproved:
+                continue
+            beside.watch(m)
+            beside.refuse(beside.wrong_memory())
+            agreed += 1
+        return agreed
 
 
 def compare_all(program, used):
     """Compares the forms that were used, each at the address of one. The result is those that were compared."""
     if PROCESSORS[program.machine].missing():
         return set()
-    processor, out = PROCESSORS[program.machine](program.path), set()
+    alone, out = Alone(program), set()
     try:
         for form, address in sorted(used.items()):
             try:
-                if program.at(address).name not in NEVER_ALONE and compared(program, address, processor):
+                if program.at(address).name not in NEVER_ALONE and alone.compared(address):
                     out.add(form)
             except Unproved as e:
                 raise Unproved("%s [alone: %s]" % (e, program.lines[address])) from None
     finally:
-        processor.close()
+        alone.processor.close()
     return out

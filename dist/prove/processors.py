@@ -16,22 +16,20 @@ from x86_64 import X86_64
 
 
 class Beside:
-    """A processor says: names (the general registers, and two more: the address of the next instruction, and the word that has the flags),
-    layout (how these lie in what `raw` gives and `put_raw` takes), and flags (bits of that word)."""
-
-    def all_registers(self):
-        return dict(zip(self.names, struct.unpack(self.layout, self.raw())))
+    """A processor says: names (the general registers, the address of the "next" instruction, the word that has the "flags", and others),
+    layout (how these lie in what `raw` gives and `put_raw` takes), and flags (bits of that word, by their names)."""
 
     def registers(self):
-        """The address of the next instruction, the general registers, and the flags."""
-        found = self.all_registers()
-        return found[self.address], found, {f: found[self.word] >> bit & 1 for f, bit in self.flags.items()}
+        """Those of `names`, and the flags."""
+        found = dict(zip(self.names, struct.unpack(self.layout, self.raw())))
+        return {**found, **{f: found["flags"] >> bit & 1 for f, bit in self.flags.items()}}
 
-    def put_registers(self, address, general, flags):
-        registers = {**self.all_registers(), **general, self.address: address}
-        for f, value in flags.items():
-            registers[self.word] = registers[self.word] & ~(1 << self.flags[f]) | value << self.flags[f]
-        self.put_raw(struct.pack(self.layout, *[registers[r] for r in self.names]))
+    def put_registers(self, some):
+        """Some of these."""
+        put = {**self.registers(), **some}
+        for f, bit in self.flags.items():
+            put["flags"] = put["flags"] & ~(1 << bit) | put[f] << bit
+        self.put_raw(struct.pack(self.layout, *[put[r] for r in self.names]))
 
 
 libc = ctypes.CDLL(None, use_errno=True)
@@ -40,9 +38,8 @@ TRACEME, SINGLESTEP, GETREGS, SETREGS, GETREGSET, SETREGSET, XSTATE = 0, 9, 12, 
 
 
 class Processor(Beside):
-    names = "r15 r14 r13 r12 rbp rbx r11 r10 r9 r8 rax rcx rdx rsi rdi orig_rax rip cs eflags rsp ss fs gs ds es fs_base gs_base".split()
-    layout, address, word = "<27Q", "rip", "eflags"
-    flags = {"c": 0, "z": 6, "s": 7, "o": 11}
+    names = "r15 r14 r13 r12 rbp rbx r11 r10 r9 r8 rax rcx rdx rsi rdi orig_rax next cs flags rsp ss fs gs ds es fs_base gs_base".split()
+    layout, flags = "<27Q", {"c": 0, "z": 6, "s": 7, "o": 11}
     low, high = 160, 576  # where an area of XSAVE has the lower and the upper halves of vector registers
     state, all = 512, 6   # and which of them are there
 
@@ -58,19 +55,17 @@ class Processor(Beside):
             libc.ptrace(TRACEME, 0, None, None)
             os.execv(path, [path])
         os.waitpid(self.pid, 0)
-        self.memory = open("/proc/%d/mem" % self.pid, "r+b", buffering=0)
+        self.memory = os.open("/proc/%d/mem" % self.pid, os.O_RDWR)
 
     def ptrace(self, request, address=None, data=None):
         if libc.ptrace(request, self.pid, address, data) < 0:
             raise OSError(ctypes.get_errno(), "ptrace")
 
     def write(self, address, content):
-        self.memory.seek(address)
-        self.memory.write(content)
+        os.pwrite(self.memory, content, address)
 
     def read(self, address, size):
-        self.memory.seek(address)
-        return self.memory.read(size)
+        return os.pread(self.memory, size, address)
 
     def raw(self):
         buffer = ctypes.create_string_buffer(8 * len(self.names))
@@ -87,38 +82,33 @@ class Processor(Beside):
         return {n // 16: low[n:n + 16] + high[n:n + 16] for n in range(0, 256, 16)}
 
     def put_vectors(self, vectors):
-        """After `vectors`, which reads what is left as it is."""
+        self.vectors(())  # what isn't put stays as it is
         for n, b in vectors.items():
             for start, half in (self.low, b[:16]), (self.high, b[16:]):
                 self.area[start + 16 * n:start + 16 * n + 16] = half
-        state = int.from_bytes(self.area[self.state:self.state + 8], "little") | self.all
-        self.area[self.state:self.state + 8] = state.to_bytes(8, "little")
+        self.area[self.state] = self.area[self.state][0] | self.all
         self.ptrace(SETREGSET, XSTATE, ctypes.addressof(self.vector))
 
     def step(self, name, address, called):
         """One instruction, or libc's function up to this address."""
-        self.single_step()
-        while called and self.all_registers()["rip"] != address:
-            self.single_step()
-        return True
-
-    def single_step(self):
-        self.ptrace(SINGLESTEP)
-        _, status = os.waitpid(self.pid, 0)
-        if not os.WIFSTOPPED(status) or os.WSTOPSIG(status) != signal.SIGTRAP:
-            raise Unproved("on the processor it stops with status %x" % status)
+        while True:
+            self.ptrace(SINGLESTEP)
+            _, status = os.waitpid(self.pid, 0)
+            if not os.WIFSTOPPED(status) or os.WSTOPSIG(status) != signal.SIGTRAP:
+                raise Unproved("on the processor it stops with status %x" % status)
+            if not called or self.registers()["next"] == address:
+                return True
 
     def close(self):
-        self.memory.close()
+        os.close(self.memory)
         os.kill(self.pid, signal.SIGKILL)
         os.waitpid(self.pid, 0)
 
 
 class Emulator(Beside):
     # The protocol's registers: these, and from this number on the vectors.
-    names, first_vector = Aarch64.registers + ["pc", "cpsr"], 34
-    layout, address, word = "<33QI", "pc", "cpsr"
-    flags = {"s": 31, "z": 30, "c": 29, "o": 28}
+    names, first_vector = Aarch64.registers + ["next", "flags"], 34
+    layout, flags = "<33QI", {"s": 31, "z": 30, "c": 29, "o": 28}
     most = 1024  # bytes of memory in a packet
 
     @staticmethod
@@ -134,21 +124,18 @@ class Emulator(Beside):
             if self.process.poll() is not None:
                 raise Unproved("qemu-aarch64 doesn't start")
             time.sleep(0.01)
-        self.received, self.acknowledged = b"", b""
         self.ask("qXfer:features:read:target.xml:0,fff")  # else it knows no single registers
 
     def ask(self, text):
-        """The answer to a packet, which ends in # and two digits. The next packet acknowledges it."""
-        text = text.encode()
-        self.socket.sendall(self.acknowledged + b"$%s#%02x" % (text, sum(text) & 255))
-        self.acknowledged = b"+"
-        while b"#" not in self.received[:-2]:
+        """The answer to a packet. Packets end in # and two digits, and + acknowledges the one before."""
+        text, received = text.encode(), b""
+        self.socket.sendall(b"+$%s#%02x" % (text, sum(text) & 255))
+        while b"#" not in received[:-2]:
             more = self.socket.recv(65536)
             if not more:
                 raise Unproved("the emulator has ended")
-            self.received += more
-        answer, self.received = self.received[:-3].partition(b"$")[2], b""
-        return answer.decode()
+            received += more
+        return received[:-3].partition(b"$")[2].decode()
 
     def tell(self, text, answer="OK"):
         found = self.ask(text)

@@ -279,7 +279,7 @@ def compare_forms(pool, tasks):
 def say_what_ran(tasks, lines):
     """How many instructions of each text ran, and how many conditional jumps led both ways; with `lines`, in which functions others are."""
     texts = {}
-    for task in tasks:
+    for task in (task for task in tasks if task.ran):
         _, ran, went = texts.setdefault(source("", task.build)[1:], (task, set(), set()))
         ran |= task.ran
         went |= task.went

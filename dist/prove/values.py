@@ -1,7 +1,7 @@
 """One value for each cell, and so for each bit and byte: random ones for a run beside the processor, those of the standards' vectors for
 the statements."""
 from bits import BLOCK, PRODUCT
-from machine import Distance, Number, Pointer, Verdict
+from machine import WORD, Distance, Number, Pointer, Verdict
 
 
 class Values:
@@ -23,9 +23,12 @@ class Values:
         key = (cell, block if d.of_block[cell] else 0)
         if key not in self.cells:
             bits = d.definitions.get(cell)
-            self.cells[key] = self.random.randrange(256) if bits is None else sum(
-                self.bit(d.in_block(b, block) if d.of_block[cell] else b) << j for j, b in enumerate(bits))
+            self.cells[key] = self.random.randrange(256) if bits is None else self.number(
+                [d.in_block(b, block) if d.of_block[cell] else b for b in bits])
         return self.cells[key]
+
+    def number(self, bits):
+        return sum(self.bit(x) << j for j, x in enumerate(bits))
 
     def bit(self, x):
         d, value = self.domain, x & 1
@@ -45,56 +48,49 @@ class Values:
         """The bit of a cell that has this number."""
         return self.cell(number >> 3 & 0xffffff, number >> 27) >> (number & 7) & 1
 
-    def full_byte(self, b):
-        """Also of sums of products, which takes long."""
-        value = self.byte(b)
-        return sum(self.bit(x) << j for j, x in enumerate(self.domain.bits(b))) if value is None else value
-
     def byte(self, b):
         """None if it is undefined, or a sum of products: what becomes of these is compared."""
-        if b < 256:
-            return b
         if b not in self.bytes:
-            name = self.domain.opaque_of.get(b)
-            if isinstance(name, str) or b in self.domain.with_products:
-                value = None
-            elif self.domain.bits_of[b] is not None:
-                value = sum(self.bit(x) << j for j, x in enumerate(self.domain.bits(b)))
-            elif isinstance(name[0], str):
-                value = self.random.randrange(256)
-            else:
-                value = self.word(name[0]) >> 8 * name[1] & 255
-            self.bytes[b] = value
+            self.bytes[b] = None if b in self.domain.with_products else self.full_byte(b)
         return self.bytes[b]
+
+    def full_byte(self, b):
+        """Also of sums of products, which takes long."""
+        name = self.domain.opaque_of.get(b)
+        if not name or self.domain.bits_of[b] is not None:
+            return self.number(self.domain.bits(b))
+        if isinstance(name, str):
+            return None
+        of, k = name
+        word = self.base.setdefault(name, self.random.randrange(256)) << 8 * k if isinstance(of, str) else self.word(of)
+        return None if word is None else word >> 8 * k & 255
 
     def word(self, v):
         """Of a value of machine.py; None as above."""
         if isinstance(v, int):
             return v
-        if isinstance(v, (Number, Verdict)):
-            return None
         if isinstance(v, Pointer):
             if v.base not in self.base:
                 self.base[v.base] = self.first_value(v.base)
-            return self.base[v.base] + v.offset & (1 << 64) - 1
+            return self.base[v.base] + v.offset & WORD
         if isinstance(v, Distance):
-            return self.base[v.base] - self.base[v.other] + v.offset & (1 << 64) - 1
-        b = [self.byte(x) for x in v]
+            return self.base[v.base] - self.base[v.other] + v.offset & WORD
+        b = [None] if isinstance(v, (Number, Verdict)) else list(map(self.byte, v))
         return None if None in b else int.from_bytes(bytes(b), "little")
 
     def first_value(self, base):
         """A word of unknown value, by its name."""
         if self.counter and base == self.counter.word and self.counter.wrap < 1 << 63:
-            return (1 << 64) - self.counter.wrap
+            return WORD + 1 - self.counter.wrap
         if base == "nonce low":
-            return sum(self.bit(x) << 8 * k + j for k in range(8) for j, x in enumerate(self.domain.words[base](0, k)))
+            return self.number([x for k in range(8) for x in self.domain.words[base](0, k)])
         return self.random.getrandbits(46)
 
-    def set_byte(self, domain, b, value):
+    def set_byte(self, b, value):
         """Gives the cell of which a byte is a function the value with which the byte has this one."""
-        tables = [(domain.forms[x >> 9][0][1], x & 1) for x in domain.bits(b)]
+        tables = [(self.domain.forms[x >> 9][0][1], x & 1) for x in self.domain.bits(b)]
         byte = lambda c: sum((t >> c & 1 ^ e) << j for j, (t, e) in enumerate(tables))
-        self.cells[domain.cell_of(b)] = next(c for c in range(256) if byte(c) == value)
+        self.cells[self.domain.cell_of(b)] = next(c for c in range(256) if byte(c) == value)
 
     def give(self, b, value):
         """Gives a byte of a statement's content this value: it is a constant, a byte of a word, or a cell."""
@@ -103,14 +99,16 @@ class Values:
             word, k = name
             self.base[word.base] = self.base.get(word.base, 0) | value << 8 * k
         elif b >= 256:
-            self.set_byte(self.domain, b, value)
+            self.set_byte(b, value)
 
     def renamed(self, pairs, domain):
-        """What stands for a byte becomes another, of another domain perhaps: cells get the values that they stand for."""
+        """Pairs of bytes: where a proof goes on with arbitrary bytes in the place of others, perhaps of another domain, the new ones get
+        the values that the old ones have."""
         known = [(new, self.full_byte(b)) for b, new in pairs if (new != b or domain is not self.domain) and domain.symbolic(new)]
         if domain is not self.domain:
-            self.domain, self.cells, self.bytes = domain, {}, {}
+            self.domain, self.cells = domain, {}
+        self.bytes = {}
         for new, value in known:
-            self.set_byte(domain, new, value)
+            self.set_byte(new, value)
         for cell in domain.factor_cells.values():  # they stand for other bytes from now on
             self.cells.pop((cell, 0), None)

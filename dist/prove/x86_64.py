@@ -4,7 +4,7 @@ import re
 
 from bits import Unproved
 from machine import (RETURN_ADDRESS, SECRET, WORD, Instruction, Machine, Memory, Register, Table, Vector, constant, contrary,
-                     interleaved, is_int, joined, kind, lanes)
+                     form, interleaved, is_int, joined, lanes)
 
 R64 = "rax rcx rdx rbx rsp rbp rsi rdi r8 r9 r10 r11 r12 r13 r14 r15".split()
 REGS = {c + "h": Register("r%sx" % c, 1, 1) for c in "abcd"}
@@ -40,10 +40,9 @@ class X86_64(Machine):
         if not run:
             raise Unproved("instruction not covered: " + text)
         operands = [operand(o.strip(), name, following) for o in rest.split(",")] if rest and name != "nop" else []
-        form = " ".join([name, *map(kind, operands)])
         if name in VECTORS:
             operands.insert(1, operands[0])  # the first source, which a VEX-coded instruction names
-        return Instruction(run, name, operands, following, form)
+        return Instruction(run, name, operands, following, form(name, operands, name[0] == "j" or name == "call"))
 
     def condition(self, code):
         holds = any(self.decide(self.flags[f]) for f in CONDITIONS[code] if f in "czso")
