@@ -363,11 +363,19 @@ def addv(m, name, to, a):
     m.write(to, m.to_bytes(m.verdict(0, [k[0] for k in known], 2), 2))
 
 
+def whole_index(bits):
+    return bits
+
+
+def index_of_16(bits):
+    return bits if any(bits[4:]) else bits[:4]
+
+
 @TABLE.of("tbl")
 def tbl(m, name, to, registers, indices):
     """An index past the table's end gives 0."""
     table = tuple(joined(map(m.read, registers)))
-    m.write(to, m.looked_up(table, m.read(indices), lambda bits: bits if len(table) > 16 or any(bits[4:]) else bits[:4]))
+    m.write(to, m.looked_up(table, m.read(indices), whole_index if len(table) > 16 else index_of_16))
 
 
 @TABLE.of("rev", "rev32", "rev64")

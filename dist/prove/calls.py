@@ -172,7 +172,7 @@ def found(m, where, want):
         content = m.regions[where].content
         return content[-1] == want[-1] and content == want
     if where == "memory":
-        content, at = m.written
+        (content, at), m.written = m.written, ((), 0)  # looked at once
         return any(content[k] == want[0] and content[k:k + len(want)] == want
                    for k in range(max(0, at - len(want)), min(at + 16, len(content))))
     if where == "vector":

@@ -18,6 +18,7 @@ Machine, in a file of its own (x86_64.py, aarch64.py), that says:
     leave()                     after libc's function: goes on at the return address
     condition(code)             0 or 1, by the flags (see Machine.decide)"""
 import copy
+import functools
 import re
 import struct
 import subprocess
@@ -100,6 +101,12 @@ def kind(o, same):
     if isinstance(o, tuple):  # several of these
         return "{%s}" % " ".join(kind(x, same) for x in o)
     return str(o)
+
+
+@functools.lru_cache(None)
+def place(index, significant):
+    """Which entry of a table a constant index means, by those of its bits that count."""
+    return sum(bit << k for k, bit in enumerate(significant([index >> j & 1 for j in range(8)])))
 
 
 class Table(dict):
@@ -437,6 +444,9 @@ class Machine:
 
     def looked_up(self, table, indices, significant):
         """The bytes of a table, a tuple, at these indices, of whose bits `significant` gives those that count."""
+        if max(indices) < 256:
+            places = [place(x, significant) for x in indices]
+            return [table[at] if at < len(table) else 0 for at in places]
         if max(table) > 255:
             return [self.entry(table, significant(self.domain.bits(x))) for x in indices]
         memo = self.domain.entries.setdefault(table, {})

@@ -77,22 +77,22 @@ def common_cases(library, version):
 
 
 def aes_cases(choose):
-    for way, counts in (("", choose(range(65), (2, 17), (0, 1, 3, 8, 15, 16, 33))), ("_to", choose(range(65), (17,), (0, 1, 2))),
+    for way, counts in (("", choose(range(65), (2, 17), (0, 1, 3, 8, 15, 16, 33, 45))), ("_to", choose(range(65), (17,), (0, 1, 2))),
                         ("_with", choose(range(1, 65), (1,), (17,)))):
         yield "blocks", [(direction, n, way) for direction in ("encrypt", "decrypt") for n in counts]
-    counts = choose(range(0, 1025, 7), (33,), (0, 1, 16, 64, 130, 257))
+    counts = choose(range(0, 1025, 7), (33,), (0, 1, 16, 64, 130, 257, 450))
     yield "add_keystream", [(0, n) for n in counts] + [(7, 40), (2 ** 64 - 21, 20), (5, 40, 2)]
     yield "add_keystream", [(3, n, aes.NEVER, "_to") for n in choose(counts[1::2], (33,), (0, 130))]
     later = [(21, 11), (21, 11, 1), (21, 40, 1), (21, 40, 2), (21, 11, 1, "_to"), (21, 11, 1, "_with")]  # than the first block
     yield "add_keystream", choose(later, later[2:3], later[:2] + later[3:])
     yield "add_keystream", [(3, n, aes.NEVER, "_with") for n in choose(counts[1::3], (33,))]
     yield "add_keystream", [(5, 280, wrap) for wrap in choose(range(1, 19), (), (9, 17))]
-    yield "cbc_decrypt", choose(range(65), (9,), (0, 1, 3, 4, 8, 17))
+    yield "cbc_decrypt", choose(range(65), (9,), (0, 1, 3, 4, 8, 17, 33))
     yield "cbc_encrypt", choose(range(65), (2,), (0, 1))
-    yield "wrap", choose(range(2, 13), (2,), (6,))
-    yield "unwrap", choose(range(3, 14), (3,), (7,))
-    yield "wrap_padded", choose(range(1, 50), (9,), (1, 8))
-    yield "unwrap_padded", choose(range(1, 50), (9,), (1, 8, 41))
+    yield "wrap", choose(range(2, 13), (2,), (8,))
+    yield "unwrap", choose(range(3, 14), (3,), (9,))
+    yield "wrap_padded", choose(range(1, 58), (9,), (1, 8))
+    yield "unwrap_padded", choose(range(1, 58), (9,), (1, 8, 57))
     yield "unwrap_padded_refused", choose([(n, 1) for n in range(1, 4)], [(1, 8)], [(2, 16)])
 
 
@@ -137,7 +137,7 @@ def gcm_cases(choose):
 
 
 def siv_cases(choose):
-    lengths = [(13, 33), (0, 0), (1, 1), (13, 81), (20, 145)]
+    lengths = [(13, 33), (0, 0), (1, 1), (13, 81), (20, 145), (13, 225), (0, 450)]
     yield "seal", choose(lengths + LONG, lengths[:1], lengths[1:])
     yield "open", choose([*lengths[1:], (149, 13)], [(1, 1)], [(149, 13)])
 

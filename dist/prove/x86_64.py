@@ -227,6 +227,10 @@ def greater(m, x, y):
     return 255 if constant("a byte", m.from_bytes([x])) ^ 128 > constant("a byte", m.from_bytes([y])) ^ 128 else 0
 
 
+def shuffled_by(bits):
+    return bits[:4] + bits[7:]
+
+
 def blended(width):
     return lambda m, a, b, n: [(b if n >> k // width & 1 else a)[k] for k in range(len(a))]
 
@@ -249,7 +253,7 @@ VECTORS = {
     "pcmpeqb": whole(lambda m, a, b: [m.equality(m.domain.xor_byte(x, y), 255, 0) for x, y in zip(a, b)]),
     "pcmpgtb": whole(lambda m, a, b: [greater(m, x, y) for x, y in zip(a, b)]),
     # (0 if bit 7 of an index is set, else the entry at its lowest four bits.)
-    "pshufb": in_halves(lambda m, table, indices: m.looked_up(tuple(table), indices, lambda bits: bits[:4] + bits[7:])),
+    "pshufb": in_halves(lambda m, table, indices: m.looked_up(tuple(table), indices, shuffled_by)),
     "palignr": in_halves(lambda m, a, b, n: (b + a + [0] * 16)[n:n + 16]),
     "pslldq": in_halves(lambda m, a, n: ([0] * n + a)[:16]),
     "psrldq": in_halves(lambda m, a, n: (a + [0] * n)[n:n + 16]),
