@@ -47,7 +47,7 @@ class Domain:
 
     def __init__(self):
         self.names, self.of_block, self.depends = [], [], []
-        self.forms, self.ids, self.has_block = [None], {}, [False]
+        self.forms, self.ids, self.pairs, self.has_block = [None], {}, {}, [False]
         self.xors, self.ands, self.byte_xors, self.byte_ands, self.lookups, self.entries, self.shifted = ({} for _ in range(7))
         self.bits_of, self.byte_ids = [None] * 256, {}
         self.opaque_names, self.opaque_of = {}, {}
@@ -161,6 +161,7 @@ class Domain:
         key = tuple(sorted(form.items()))
         n = self.ids.get(key)
         if n is None:
+            key = tuple(self.pairs.setdefault(pair, pair) for pair in key)  # kept once, as there are few of them
             n = self.ids[key] = len(self.forms)
             self.forms.append(key)
             self.has_block.append(any(self.of_block[c] for c, _ in key))
@@ -180,11 +181,11 @@ class Domain:
         bx, by = x & BLOCK, y & BLOCK
         if bx != by and bx and by or bx >= PRODUCT << 1 or by >= PRODUCT << 1:
             return self.add_products(x, y) if PRODUCT << 1 in (bx, by) else self.mix(x, y)
-        key = (x >> 9, y >> 9)
+        key = x >> 9 << 32 | y >> 9
         n = self.xors.get(key)
         if n is None:
-            form = dict(self.forms[key[0]])
-            for c, t in self.forms[key[1]]:
+            form = dict(self.forms[x >> 9])
+            for c, t in self.forms[y >> 9]:
                 t ^= form.pop(c, 0)
                 if t:
                     form[c] = t

@@ -62,13 +62,7 @@ class Hashing:
 
     def sum(self, value, group):
         """(Y + X_1) H^m + X_2 H^(m-1) + .. + X_m H"""
-        keyed, sums = self.keyed, self.keyed.domain.sums
-        blocks = [keyed.aes.xor(value, group[0]), *group[1:]]
-        factors = keyed.domain.name_factors(sum(blocks[::-1], []))  # so the same cells come with the same power
-        if tuple(factors) not in sums:
-            products = (product(keyed.domain, factors[16 * i:16 * i + 16], keyed.powers[i]) for i in range(len(group)))
-            sums[tuple(factors)] = functools.reduce(keyed.aes.xor, products)
-        return sums[tuple(factors)]
+        return self.keyed.with_powers([self.keyed.aes.xor(value, group[0]), *group[1:]])
 
 
 UNKNOWN = 8, None  # any J_0, also that of a nonce of 12 bytes; see nonce_of
@@ -94,6 +88,14 @@ class KeyedGcm(Keyed):
     def many(self, bytes_, count, start=0):
         """`count` bytes, in blocks from the place `start` on."""
         return [self.domain.byte_in_block(bytes_[i % 16], i // 16 + 1) for i in range(start, start + count)]
+
+    def with_powers(self, blocks):
+        """X_1 H^m + .. + X_m H, and factors named so that the same cells come with the same power."""
+        factors, sums = self.domain.name_factors(sum(blocks[::-1], [])), self.domain.sums
+        if tuple(factors) not in sums:
+            products = (product(self.domain, factors[16 * i:16 * i + 16], self.powers[i]) for i in range(len(blocks)))
+            sums[tuple(factors)] = functools.reduce(self.aes.xor, products)
+        return sums[tuple(factors)]
 
     # The struct.
     def set_key(self, seed=None):
@@ -200,7 +202,7 @@ class KeyedGcm(Keyed):
         """The blocks of keystream of so many bytes from a position on."""
         begin, end = 1 + position // 16, 2 + (position + count) // 16
         if count >= 224:  # a batch of 16 may have more blocks, whose keystream is thrown away: their S-boxes have names then
-            for i in range(end, end // 16 * 16 + 18):
+            for i in range(end, -(-end // 16) * 16 + 2):
                 self.stream(first, i)
         return [b for i in range(begin, end) for b in self.stream(first, i)]
 

@@ -123,7 +123,7 @@ def gcm_cases(choose):
     # After so many bytes that their counts and positions don't fit into 32 bits.
     for many in choose([2 ** 35], (), [2 ** 35]):
         yield "additional", [(2 ** 32 - 3, 13), (many, 7)]
-        yield "piece", [("encrypt", gcm.ENCRYPTING, 5, 2 ** 32 - 5, 50, (12,)), ("verify", gcm.VERIFYING, many, many, 9, (12,))]
+        yield "piece", [("encrypt", gcm.ENCRYPTING, 5, 2 ** 32 - 5, 20, (12,)), ("verify", gcm.VERIFYING, many, many, 9, (12,))]
         yield "decrypt", [(2 * many, many - 5, 20, (12,))]
         yield "finish", [(gcm.ENCRYPTING, many + 16, many + 7)]
         yield "accept", [(gcm.VERIFYING, many + 16, many + 7)]

@@ -92,7 +92,7 @@ class KeyedSiv(KeyedGcm):
         blocks = self.once("blocks", lambda: [self.aes.cipher(block, self.w) for block in inputs])
         yield "memory", sum(blocks, []), sum(self.derived, [])
         for power, after in () if few else zip(self.powers, self.powers[1:]):
-            yield "hash", functools.partial(product, self.domain, power, self.powers[0]), after
+            yield "hash", functools.partial(self.with_powers, [power]), after
         yield "memory", self.stored(self.expanded), self.stored(self.message_w)
 
     def polyval(self, additional, text):
