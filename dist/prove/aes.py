@@ -225,7 +225,8 @@ class Keyed:
         before, name = self.counter_words(self.key_domain if way == "_with" else self.domain, position // 16)
         after, _ = self.counter_words(self.domain, position // 16)
         ctr = Buffer("ctr", before + number(position, 8)[::-1], after + number(position + count, 8)[::-1])
-        return self.in_each_way("aes_add_keystream", way, [ctr], "bytes", data, want, count, counter=Counter(name, position // 16, wrap, (position + count) // 16 + BATCH),
+        counter = Counter(name, position // 16, wrap, (position + count) // 16 + BATCH)
+        return self.in_each_way("aes_add_keystream", way, [ctr], "bytes", data, want, count, counter=counter,
                                 keystream=stream, plain=data + want, may_stay={"plain": 4} if way == "_to" else None)
 
     # CBC (SP 800-38A, 6.2).

@@ -32,7 +32,7 @@ class Unproved(Exception):
 
 
 class Pause(Unproved):
-    """A call that expands a key is about to compute with what isn't of the key (see aes.py)."""
+    """A call is about to compute with a byte of which only the name is known: one that isn't of the key, if it expands one (see aes.py)."""
 
 
 @functools.lru_cache(None)
@@ -51,7 +51,8 @@ class Domain:
         self.xors, self.ands, self.byte_xors, self.byte_ands, self.lookups, self.entries, self.shifted = ({} for _ in range(7))
         self.bits_of, self.byte_ids = [None] * 256, {}
         self.opaque_names, self.opaque_of = {}, {}
-        self.words = {}  # of a word of unknown value, by its name: a function from an offset and k to the bits of byte k of their sum, or None
+        # Of a word of unknown value, by its name: a function from an offset and k to the bits of byte k of their sum, or None.
+        self.words = {}
         self.numbers = {}  # cells of numbers that are one more in each block: (which byte, all bytes, the lowest first)
         self.by_cells, self.alike, self.definitions, self.defined_by = {}, {}, {}, {}
         self.mixed, self.mixed_ids, self.mixed_xors, self.halves = [], {}, {}, {}
@@ -103,7 +104,7 @@ class Domain:
             return tuple(byte >> j & 1 for j in range(8))
         if self.bits_of[byte] is None:
             if self.opaque_of[byte] not in (UNDEFINED, LOST):
-                raise Pause("computes with what isn't of the key: " + self.describe(byte))
+                raise Pause("computes with a byte of which only the name is known: " + self.describe(byte))
             raise Unproved("computes with a byte that is undefined: " + self.describe(byte))
         return self.bits_of[byte]
 

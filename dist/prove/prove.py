@@ -193,6 +193,7 @@ class Task:
 
     def __init__(self, options, build, key_size, part, parts):
         self.options, self.build, self.machine, self.key_size, self.part, self.parts = options, build, BUILDS[build], key_size, part, parts
+        self.library = build.split("/")[1][:3]
         self.name = "%s.s, key of %d bytes" % (build, key_size) + ", part %d of %d" % (part + 1, parts) * (parts > 1)
         self.path = "%s/%s_%d_%d" % (options.out, build.replace("/", "_"), key_size, part)
         self.proved, self.failed, self.vectors = -bool(part), 0, 0  # (set_key counts once)
@@ -209,11 +210,10 @@ class Task:
         return self
 
     def prove_all(self, program):
-        library = self.build.split("/")[1][:3]
-        keyed = LIBRARIES[library][0](program, self.key_size)
+        keyed = LIBRARIES[self.library][0](program, self.key_size)
         self.case("set_key", keyed.set_key)
         if not self.failed:
-            if self.build == "x86_64/" + library and self.part == 0:
+            if self.build == "x86_64/" + self.library and self.part == 0:
                 self.vectors = checked(keyed)
             for what, call in statements(keyed, self.options, self.part, self.parts):
                 self.case(what, lambda seed: keyed.proved(call, seed))
@@ -276,14 +276,15 @@ def compare_forms(pool, tasks):
     return len(forms), lacking
 
 
-def say_what_ran(tasks, lines):
-    """How many instructions of each text ran, and how many conditional jumps led both ways; with `lines`, in which functions others are."""
-    texts = {}
+def say_what_ran(tasks, options):
+    """How many instructions of each text ran, and how many conditional jumps led both ways; with --lines, in which functions others are.
+    The result is how many exports have no case."""
+    texts, lacking = {}, 0
     for task in (task for task in tasks if task.ran):
-        _, ran, went = texts.setdefault(source("", task.build)[1:], (task, set(), set()))
-        ran |= task.ran
-        went |= task.went
-    for text, (task, ran, went) in texts.items():
+        _, *known = texts.setdefault(source("", task.build)[1:], (task, set(), set(), set()))
+        for all_, new in zip(known, (task.ran, task.went, task.calls)):
+            all_ |= new
+    for text, (task, ran, went, calls) in texts.items():
         program = Program(task.path, task.machine)
         functions = program.functions()
         jumps = [a for a in ran if re.match(task.machine.conditional, program.lines[a])]
@@ -291,13 +292,14 @@ def say_what_ran(tasks, lines):
         print("%s: %d of %d instructions ran, %d of %d conditional jumps led both ways" % (
             text, sum(len(ran & addresses) for addresses in functions.values()), sum(map(len, functions.values())),
             sum(ways[a] == 2 for a in jumps), len(jumps)))
-        exports = {name.removeprefix("fotsgure_") for name in program.symbols if name.startswith("fotsgure_")}
-        without = exports.difference(*(other.calls for other in tasks if source("", other.build)[1:] == text))
-        if without:
-            print("%s: calls without a case: %s" % (text, ", ".join(sorted(without))))
-        for name, addresses in functions.items() if lines else ():
+        for name, addresses in functions.items() if options.lines else ():
             if addresses - ran:
                 print("%s, %s: %d of %d instructions didn't run" % (text, name, len(addresses - ran), len(addresses)))
+        without = {name for name in program.symbols if name.startswith("fotsgure_")} - {"fotsgure_" + call for call in calls}
+        if without and not options.only and len(options.builds) == len(BUILDS):
+            print("%s: NOT PROVED: no case of %s" % (text, ", ".join(sorted(without))))
+            lacking += len(without)
+    return lacking
 
 
 def missing(machine):
@@ -343,11 +345,14 @@ def main():
             proved, failed, vectors = proved + task.proved, failed + task.failed, vectors + task.vectors
             tasks.append(task)
         forms, lacking = compare_forms(pool, tasks)
-    say_what_ran(tasks, options.lines)
+    failed += say_what_ran(tasks, options)
     print("%d forms of instructions; the processor agreed on all but: %s" % (
         forms, ", ".join("%s of %s" % (form, machine.__name__) for machine, form in lacking) or "none"))
     # Where there is a processor, a form that wasn't compared with it counts as one that failed.
     failed += sum(not PROCESSORS[machine].missing() for machine, _ in lacking)
+    if all(name.endswith("set_key") for task in tasks for name in task.calls):
+        print("NOT PROVED: there is no such case, or no such build here")
+        failed += 1
     print("%d vectors of the standards; %.0f s" % (vectors, time.time() - start))
     print("%d proved, %d failed" % (proved, failed))
     return failed != 0
