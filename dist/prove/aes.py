@@ -5,7 +5,7 @@ turns out as a sum of bits of one byte of a round key, or of its InvMixColumns. 
 round keys that are arbitrary bytes. So they are proved for any round keys, and thus for those of any key."""
 from collections import namedtuple
 
-from bits import DATA, KEY, LOST, PUBLIC, Domain, Unproved
+from bits import DATA, KEY, LOST, ONES, PUBLIC, Domain, Unproved, linear_bits
 from calls import ANY, Buffer, Call, prove
 from machine import Pointer, Verdict
 from standards import ICV1, ICV2, Aes, number
@@ -18,13 +18,13 @@ STRUCTS = {"fotsgure_aes": (484, {"key_length": 0, "round_keys": 4}), "fotsgure_
 STRUCT = 484
 
 # The word of the counter's low half at block `first`. It has wrapped around from block `wrap` on; later blocks than `last` don't occur.
-Counter = namedtuple("Counter", "word first wrap last")
+CounterWord = namedtuple("CounterWord", "word first wrap last")
 NEVER, BATCH = 1 << 64, 16  # a batch may have more blocks than the text
 
 
 class Keyed:
     """One build and one key size. `domain` is that of arbitrary round keys, `key_domain` that of an arbitrary key."""
-    library, struct_size = "aes", STRUCT
+    library, prefix, struct_size = "aes", "aes", STRUCT
 
     def __init__(self, program, key_size):
         self.program, self.key_size = program, key_size
@@ -56,13 +56,8 @@ class Keyed:
             raise Unproved("a stored bit is not a sum of bits of one byte of a round key or of its InvMixColumns")
         cell, table = ways[0]
         out = (table ^ x) & 1
-        linear = 0
-        for j in range(8):
-            if (table >> (1 << j) ^ table) & 1:
-                out = self.domain.xor(out, self.meaning[cell][j])
-                linear ^= self.key_domain.linear[j]
-        if linear ^ table not in (0, self.key_domain.ones):
-            raise Unproved("a stored bit is not a linear function of a byte of a round key")
+        for j in linear_bits(table ^ ONES * (table & 1)):
+            out = self.domain.xor(out, self.meaning[cell][j])
         return out
 
     def byte_for_any(self, b):
@@ -104,7 +99,7 @@ class Keyed:
 
     def expansion(self, status, length, after, **more):
         struct = Buffer(self.library, [self.key_domain.undefined] * self.struct_size, after)
-        return Call(self.library + "_set_key", [struct, Buffer("key", self.key), length], status, **more)
+        return Call(self.prefix + "_set_key", [struct, Buffer("key", self.key), length], status, **more)
 
     def set_key_refused(self, length):
         """.. else KEY_LENGTH, and *aes then is all zeros and holds no key."""
@@ -112,19 +107,19 @@ class Keyed:
 
     def key_length(self):
         """Returns how many bytes the key has: 16, 24 or 32"""
-        return Call(self.library + "_key_length", [self.schedule()], self.key_size, 8)
+        return Call(self.prefix + "_key_length", [self.schedule()], self.key_size, 8)
 
     def key_length_of_none(self):
         """.. or 0 if *aes holds no key."""
-        return Call(self.library + "_key_length", [self.no_key()], 0, 8)
+        return Call(self.prefix + "_key_length", [self.no_key()], 0, 8)
 
     def version(self, number):
         """Returns the version of the library"""
-        return Call(self.library + "_version", [], number)
+        return Call(self.prefix + "_version", [], number)
 
     def wipe(self):
         """Overwrites *aes with zeros: it then holds no key. It may be uninitialized"""
-        return Call(self.library + "_wipe", [Buffer(self.library, self.undefined(self.struct_size), [0] * self.struct_size)], None)
+        return Call(self.prefix + "_wipe", [Buffer(self.library, self.undefined(self.struct_size), [0] * self.struct_size)], None)
 
     def schedule(self):
         return Buffer(self.library, self.struct)
@@ -188,7 +183,7 @@ class Keyed:
 
     # Counter mode (SP 800-38A, 6.5). The counter is a number of 128 bits that the caller chooses: its halves are words of unknown value.
     # The low one wraps around from block `wrap` on, or not within the call; the high half is then another unknown word.
-    def counter(self):
+    def counter_blocks(self):
         d = self.domain
 
         def make():
@@ -201,7 +196,7 @@ class Keyed:
 
     def counter_words(self, domain, first):
         """The bytes of an `iv` of unknown value, highest first, and the name of its low word."""
-        low, name = self.counter()[0], "counter low, from %d" % first
+        low, name = self.counter_blocks()[0], "counter low, from %d" % first
         d = self.domain
         d.words[name] = lambda offset, k: d.bits(d.byte_in_block(low[7 - k], offset - first + 1))
         iv = [b for base in ("counter high", name) for b in [domain.opaque((Pointer(base, 0), k)) for k in range(8)][::-1]]
@@ -210,7 +205,7 @@ class Keyed:
     def keystream(self, position, count, wrap):
         """The data and what becomes of them: byte i of the keystream is byte i % 16 of Cipher of the block (iv + i / 16)."""
         first = position // 16
-        _, streams, data_bytes = self.counter()
+        _, streams, data_bytes = self.counter_blocks()
         places = range(position, position + count)
         blocks = range(first, first + (position % 16 + count) // 16 + 1)
         stream = [b for block in blocks for b in self.of(streams[block >= wrap], block - first)]
@@ -225,7 +220,7 @@ class Keyed:
         before, name = self.counter_words(self.key_domain if way == "_with" else self.domain, position // 16)
         after, _ = self.counter_words(self.domain, position // 16)
         ctr = Buffer("ctr", before + number(position, 8)[::-1], after + number(position + count, 8)[::-1])
-        counter = Counter(name, position // 16, wrap, (position + count) // 16 + BATCH)
+        counter = CounterWord(name, position // 16, wrap, (position + count) // 16 + BATCH)
         return self.in_each_way("aes_add_keystream", way, [ctr], "bytes", data, want, count, counter=counter,
                                 keystream=stream, plain=data + want, may_stay={"plain": 4} if way == "_to" else None)
 

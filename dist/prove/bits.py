@@ -42,9 +42,15 @@ def looked_up(table, tables):
     return [sum((entries[v] >> j & 1) << v for v in range(256)) for j in range(8)]
 
 
-class Domain:
-    ones, linear = ONES, LINEAR
+def linear_bits(table):
+    """The bits of a cell of which a truth table is the sum."""
+    bits = [j for j in range(8) if table >> (1 << j) & 1]
+    if functools.reduce(int.__xor__, (LINEAR[j] for j in bits), table):
+        raise Unproved("a bit that is not linear in the bits of a byte")
+    return bits
 
+
+class Domain:
     def __init__(self):
         self.names, self.of_block, self.depends = [], [], []
         self.forms, self.ids, self.pairs, self.has_block = [None], {}, {}, [False]
@@ -301,12 +307,14 @@ class Domain:
             out = self.linear_parts[x & ~1] = []
             for block, n in self.parts(x):
                 for c, t in self.forms[n]:
-                    for j in range(8):
-                        if t >> (1 << j) & 1:
-                            t ^= LINEAR[j]
-                            out.append(self.number(c, block if self.of_block[c] else 0, j))
-                    if t:
-                        raise Unproved("a product of bits that are not linear: " + self.names[c])
+                    out += [self.number(c, block if self.of_block[c] else 0, j) for j in linear_bits(t)]
+        return out
+
+    def linear_image(self, x, of, source):
+        """A bit of another domain that is a sum of bits of cells, as the same sum of bits of bytes: those that `of` gives for a cell."""
+        out = x & 1
+        for number in source.linear_part(x) if x > 1 else ():
+            out = self.xor(out, of(number >> 3 & 0xffffff)[number & 7])
         return out
 
     def columns(self, y):

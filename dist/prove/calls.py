@@ -7,7 +7,7 @@ from machine import ROOM, Pointer, Question, Region
 from native import Native
 
 STACK = 16384  # FOTSGURE_AES_STACK and FOTSGURE_GCM_STACK
-KINDS = "key", "inner", "plain", "step", "keystream", "result", "data"  # of what is left; see `kind`
+KINDS = "key", "inner", "plain", "step", "keystream", "result", "data"  # of what is left; see `tells`
 MAY_STAY = "step", "keystream", "result", "data"  # on the stack
 MANY = 80000   # sums of products, which take some KB each
 ANY = "any"    # for a Buffer of which something else is asked than bytes
@@ -27,7 +27,7 @@ class Call:
     `refused`, and Buffers are what `refused_after` says by their names, or what they were. `assumes` are bytes of public data that are not
     all zero. `later` turns bytes of the key's own domain into those of arbitrary round keys, for a call that expands a key (see aes.py).
     `keystream` is what is added to the data, and `plain` what is secret of the data and the results; `may_stay` says how many bytes of a
-    kind may be left besides. `counter` is a word of unknown value (aes.Counter), and `room` what may be asked of that of GCM (see gcm.py).
+    kind may be left besides. `counter` is a word of unknown value (aes.CounterWord), and `room` what may be asked of that of GCM (see gcm.py).
     Calls that share `paths` have to run the same instructions whenever they return the same."""
 
     def __init__(self, name, arguments, status, size=4, steps=None, reveals=None, refused=None, refused_after=None, assumes=None,
@@ -206,7 +206,7 @@ def depends_bit(m, x, origins=True):
     return out
 
 
-def kind(m, byte, names, plain):
+def tells(m, byte, names, plain):
     """What a byte that is left tells: of the "key" alone, "inner" values of the key and others, from which the key may be computed, "plain"
     text and what is computed of it without the key, a block that the cipher gave in the midst of a mode ("step"), the "keystream", the
     call's "result", or of other "data" alone."""
@@ -237,7 +237,7 @@ def left(m, call):
     places += [("registers", "vector %d" % n, b) for n, v in enumerate(m.vectors) for b in v]
     out = {}
     for place, where, b in places:
-        k = kind(m, b, names, plain)
+        k = tells(m, b, names, plain)
         if k:
             out.setdefault((place, k), []).append(where)
     return out

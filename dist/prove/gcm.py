@@ -5,7 +5,7 @@ message that comes in pieces is proved from any state of the message: whatever v
 import functools
 from collections import namedtuple
 
-from aes import BATCH, DONE, NEVER, Counter, Keyed
+from aes import BATCH, DONE, NEVER, CounterWord, Keyed
 from bits import DATA, KEY, PUBLIC
 from calls import ANY, Buffer, Call, compare
 from machine import Pointer
@@ -65,14 +65,14 @@ class Hashing:
         return self.keyed.with_powers([self.keyed.aes.xor(value, group[0]), *group[1:]])
 
 
-UNKNOWN = 8, None  # any J_0, also that of a nonce of 12 bytes; see nonce_of
+UNKNOWN = 8, None  # a nonce of 8 bytes, and any J_0, also that of a nonce of 12 bytes; see nonce_of
 # J_0: twelve bytes and the number that its last four are; how GHASH makes it of a nonce of another length; the arguments of a call.
 PreCounter = namedtuple("PreCounter", "bytes counter hashing arguments")
 
 
 class KeyedGcm(Keyed):
     """key_length, wipe and what set_key refuses are stated in aes.py: these sentences of the two headers are alike."""
-    library, struct_size = "gcm", STRUCT
+    library, prefix, struct_size = "gcm", "gcm", STRUCT
 
     def __init__(self, program, key_size):
         super().__init__(program, key_size)
@@ -111,15 +111,9 @@ class KeyedGcm(Keyed):
                 yield "hash", functools.partial(product, d, p[n], p[0]), p[n + 1]
         m = self.proved(self.expansion(DONE, self.key_size, ANY, steps=steps), seed)
         meaning = {d.cell_of(b)[0]: e.bits(c) for x, y in zip(p, self.powers) for b, c in zip(x, y)}
-
-        def transferred(x):
-            out = x & 1
-            for number in d.linear_part(x) if x > 1 else ():
-                out = e.xor(out, meaning[number >> 3][number & 7])
-            return out
         content = m.regions["gcm"].content
         self.struct = [self.byte_for_any(b) for b in content[:244]]
-        self.struct += [e.pack([transferred(x) for x in d.bits(b)]) for b in content[244:]]
+        self.struct += [e.pack([e.linear_image(x, meaning.__getitem__, d) for x in d.bits(b)]) for b in content[244:]]
         fixed = self.struct[:4] + self.struct[4 + 4 * len(self.w):244]
         compare(e, fixed, [self.key_size] + [0] * (len(fixed) - 1), "the length and what no round key takes")
         return m
@@ -179,7 +173,7 @@ class KeyedGcm(Keyed):
 
     def in_text(self, first, end):
         """For a text that ends at this place of the keystream: what a call may ask of J_0."""
-        return {} if first.counter is not None else {"room": (self.room, end), "counter": Counter("J_0 low", 0, NEVER, end // 16 + BATCH)}
+        return {} if first.counter is not None else {"room": (self.room, end), "counter": CounterWord("J_0 low", 0, NEVER, end // 16 + BATCH)}
 
     def counter_block(self, first, i):
         """The block J_0 + i, the last 32 bits being a number of their own (inc_32, 6.2)."""

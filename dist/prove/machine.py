@@ -193,7 +193,9 @@ class Machine:
         self.next_address, self.last, self.steps, self.used = entry, entry, 0, {}
         self.externals = {program.symbols[n]: n for n in LIBC if n in program.symbols}
         self.lost, self.origins, self.native, self.after_external = set(), {}, None, None
-        self.placed, self.may_reveal, self.assumed, self.equalities, self.done, self.want = {}, False, (), {}, 0, None
+        self.placed, self.may_reveal, self.assumed = {}, False, ()  # answers to questions, {flag: 0 or 1}; see calls.Call
+        self.done, self.want = 0, None  # how many steps of a call were found, and what the next one looks for (calls.step_by_step)
+        self.equalities = {}  # bytes that are one constant if another byte is 0, else another: (that byte, the constants)
         self.written = (), 0
         self.stale = set()  # bytes of the stack that may have been overwritten by others since they were written
         self.room = self.counter = None  # see calls.Call

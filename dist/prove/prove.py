@@ -18,7 +18,7 @@ import siv
 from aarch64 import Aarch64
 from bits import Domain, Unproved
 from calls import STACK
-from machine import LIBC, Program
+from machine import LIBC, Program, lanes
 from native import compare_all
 from processors import PROCESSORS
 from standards import pinned
@@ -267,7 +267,8 @@ def compare_forms(pool, tasks):
     programs, lacking = {}, []
     for (machine, form), (path, address) in forms.items():
         programs.setdefault((path, machine), {})[form] = address
-    futures = [(pool.submit(alone, path, machine, used), path, machine) for (path, machine), used in programs.items()]
+    futures = [(pool.submit(alone, path, machine, dict(part)), path, machine) for (path, machine), used in programs.items()
+               for part in lanes(sorted(used.items()), 200)]
     for future, path, machine in futures:
         without, fault = future.result()
         lacking += [(machine, form) for form in sorted(without) if (machine, form) not in in_calls]

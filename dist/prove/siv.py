@@ -6,7 +6,7 @@ import functools
 
 from bits import DATA, KEY
 from calls import ANY, Buffer, Call, compare
-from gcm import DONE, KEY_LENGTH, NO_KEY, REFUSED, TOO_LONG, ZEROS, Hashing, KeyedGcm, padded, threes
+from gcm import DONE, NO_KEY, REFUSED, TOO_LONG, ZEROS, Hashing, KeyedGcm, padded, threes
 from machine import Number
 from standards import dot, mulx_ghash, product
 
@@ -21,34 +21,18 @@ def little(n, size):
 
 
 class KeyedSiv(KeyedGcm):
-    library = "siv"
+    """wipe and what set_key refuses are stated in aes.py."""
+    library, prefix, struct_size = "siv", "gcm_siv", STRUCT
 
     def set_key(self, seed=None):
         """Prepares a key in *siv (KeyExpansion, FIPS 197, 5.2). *siv may be uninitialized: none of it is read. Nothing of what it held is
         left. DONE if key_length is 16 or 32"""
-        siv = Buffer("siv", [self.key_domain.undefined] * STRUCT, ANY)
-        call = Call("gcm_siv_set_key", [siv, Buffer("key", self.key), self.key_size], DONE)
-        m = self.proved(call, seed)
+        m = self.proved(self.expansion(DONE, self.key_size, ANY), seed)
         self.struct = [self.byte_for_any(b) for b in m.regions["siv"].content]
         fixed = self.struct[:4] + self.struct[4 + 4 * len(self.w):]
         compare(self.domain, fixed, [self.key_size] + [0] * (len(fixed) - 1), "the length and what no round key takes")
         self.once("message", self.make_message)
         return m
-
-    def set_key_refused(self, length):
-        """else KEY_LENGTH, and *siv then is all zeros and holds no key."""
-        siv = Buffer("siv", [self.key_domain.undefined] * STRUCT, [0] * STRUCT)
-        return Call("gcm_siv_set_key", [siv, Buffer("key", self.key), length], KEY_LENGTH)
-
-    def wipe(self):
-        """Overwrites *siv with zeros: it then holds no key. It may be uninitialized."""
-        return Call("gcm_siv_wipe", [Buffer("siv", self.undefined(STRUCT), [0] * STRUCT)], None)
-
-    def schedule(self):
-        return Buffer("siv", self.struct)
-
-    def no_key(self):
-        return Buffer("siv", [0] * STRUCT)
 
     # What a message has.
     def fresh(self, name, depends, count=16):
@@ -78,13 +62,8 @@ class KeyedSiv(KeyedGcm):
     def stored(self, words):
         """What set_key stores of such round keys: of each byte a linear function, and perhaps a constant."""
         d = self.domain
-
-        def bit(x, byte):
-            out = x & 1
-            for number in d.linear_part(x):
-                out = d.xor(out, d.bits(byte)[number & 7])
-            return out
-        return [d.pack([bit(x, b) for x in d.bits(s)]) for s, b in zip(self.struct[4:], sum(words, []))]
+        image = lambda x, byte: d.linear_image(x, lambda _: d.bits(byte), d)
+        return [d.pack([image(x, b) for x in d.bits(s)]) for s, b in zip(self.struct[4:], sum(words, []))]
 
     def derivation(self, few):
         """derive_keys (4): blocks of a number of 32 bits, the lowest byte first, and the nonce."""

@@ -6,7 +6,7 @@ from machine import WORD, Distance, Number, Pointer, Verdict
 
 class Values:
     def __init__(self, domain, random, counter=None):
-        """`counter`: for counter mode, of which the initial counter block consists of words (see aes.Counter)."""
+        """`counter`: for counter mode, of which the initial counter block consists of words (see aes.CounterWord)."""
         self.domain, self.random, self.counter = domain, random, counter
         self.cells, self.bytes, self.base = {}, {}, {}
 
