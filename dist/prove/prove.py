@@ -18,7 +18,7 @@ import siv
 from aarch64 import Aarch64
 from bits import Domain, Unproved
 from calls import STACK
-from machine import LIBC, Program, lanes
+from machine import LIBC, Pointer, Program, Region, lanes
 from native import compare_all
 from processors import PROCESSORS
 from standards import pinned
@@ -51,15 +51,19 @@ def run(*command):
 def link(source, out, machine=X86_64):
     """Assembles and links one build, at addresses of more than 32 bits; libc's three functions are names alone, of which the contract is
     used."""
-    gcc, objects = machine.tools + "gcc", (out + ".host.o", out + ".o")
-    run(gcc, machine.assembler + V3 * source.endswith("_v3.s"), "-c", source, "-o", objects[1])
-    # (A function of the host may not become a call of itself.)
-    run(gcc, "-O2", "-fno-tree-loop-distribute-patterns", "-c", HERE + "/host.c", "-o", objects[0])
-    undefined = set(run(machine.tools + "nm", "-u", objects[1]).split()) - {"U", "_GLOBAL_OFFSET_TABLE_", *LIBC}
+    run(machine.tools + "gcc", machine.assembler + V3 * source.endswith("_v3.s"), "-c", source, "-o", out + ".o")
+    undefined = set(run(machine.tools + "nm", "-u", out + ".o").split()) - {"U", "_GLOBAL_OFFSET_TABLE_", *LIBC}
     if undefined:
         raise Unproved("depends on what else is linked: " + ", ".join(sorted(undefined)))
+    return linked(out, machine, [out + ".o"])
+
+
+def linked(out, machine, objects):
+    # (A function of the host may not become a call of itself.)
+    host = out + ".host.o"
+    run(machine.tools + "gcc", "-O2", "-fno-tree-loop-distribute-patterns", "-c", HERE + "/host.c", "-o", host)
     run(machine.tools + "ld", "-static", "-e", "start", "--build-id=none", "-z", "noexecstack", "-Ttext-segment=0x123456700000",
-        *objects, "-o", out)
+        host, *objects, "-o", out)
     return Program(out, machine)
 
 
@@ -174,6 +178,33 @@ def header_cases(dist, machine=X86_64):
         result = subprocess.run([machine.tools + "gcc", "-fsyntax-only", "-I", dist + "/include", "-x", "c", "-"],
                                 input="\n".join(lines), capture_output=True, text=True)
         yield "%s.h: %d facts of sizes, places and statuses" % (name, len(lines) - 2), result.stderr.strip()
+
+
+# The exports of a static library, which holds two builds: each jumps to the function of one, by what was found of the processor.
+def choice_cases(dist, out):
+    for library in ("aes", "gcm"):
+        path, chosen = "%s/choose_%s" % (out, library), ("-Wa,-defsym,chosen=1",)
+        texts = {library + ".s": chosen, library + "_v3.s": chosen, "choose_%s.c" % library: ("-O2", "-std=c11", "-I" + dist + "/include")}
+        for text, options in texts.items():
+            run("gcc", *options, "-c", "%s/x86_64/%s" % (dist, text), "-o", "%s_%s.o" % (path, text))
+        program = linked(path, X86_64, ["%s_%s.o" % (path, text) for text in texts])
+        names = [name.removesuffix("_v3") for name in program.symbols if name.startswith("fotsgure_") and name.endswith("_v3")]
+        wrong = [name + suffix for name in names for found, suffix in ((1, "_v2"), (2, "_v3")) if not leads(program, name, found, suffix)]
+        yield "choose_%s.c: %d exports, each to either build" % (library, len(names)), ", ".join(wrong)
+
+
+def leads(program, name, found, suffix):
+    """Whether an export jumps to the function with this suffix, with the caller's arguments, some on the stack, and registers."""
+    domain, arguments = Domain(), [Pointer("argument %d" % k, 0) for k in range(12)]
+    program.constants.append((program.symbols["known"], [found, 0, 0, 0]))
+    m = X86_64(domain, program, {"stack": Region([domain.undefined] * 512, align=16)}, program.symbols[name], arguments)
+    before, stack, top = dict(m.general), m.regions["stack"].content[m.top:], m.top
+    m.top += len(stack)  # a function may write to the arguments that it is given
+    while m.next_address not in (program.symbols[name + "_v2"], program.symbols[name + "_v3"]):
+        m.step()
+    program.constants.pop()
+    same = all(m.general[r] == before[r] for r in set(before) - {"rax", "r10", "r11"})
+    return m.next_address == program.symbols[name + suffix] and same and m.regions["stack"].content[top:] == stack
 
 
 def version(dist, library):
@@ -337,8 +368,8 @@ def main():
     start, proved, failed, tasks = time.time(), 0, 0, []
     vectors = pinned(Domain())
     say_what_is_missing()
-    for what, fault in header_cases(options.dist):
-        print("%s: %s" % (what, fault or "as in the statements"))
+    for what, fault in itertools.chain(header_cases(options.dist), choice_cases(options.dist, options.out)):
+        print("%s: %s" % (what, fault or "as they have to be"))
         proved, failed = proved + (not fault), failed + bool(fault)
     with pool_of(options.jobs, max_tasks_per_child=1) as pool:
         for task in run_all(pool, options):

@@ -66,7 +66,7 @@ def operand(text, name, following):
     size, base, index, scale, offset = found.groups()
     size, offset = SIZES[size] if size else 8, int(offset or "0", 16)
     if base == "rip":
-        base, offset = None, offset + following
+        base, offset = None, offset + following & WORD
     aligned = size > 8 and (name in ALIGNED or not vex and name not in UNALIGNED)
     return Memory(size, base, index, int(scale or 1), offset, size if aligned else 1)
 
