@@ -24,7 +24,7 @@ NEVER, BATCH = 1 << 64, 16  # a batch may have more blocks than the text
 
 class Keyed:
     """One build and one key size. `domain` is that of arbitrary round keys, `key_domain` that of an arbitrary key."""
-    library, prefix, struct_size = "aes", "aes", STRUCT
+    library, prefix, struct_size, schedules = "aes", "aes", STRUCT, 2
 
     def __init__(self, program, key_size):
         self.program, self.key_size = program, key_size
@@ -88,12 +88,16 @@ class Keyed:
     def set_key(self, seed=None):
         """Expands a key into *aes (KeyExpansion, FIPS 197, 5.2). *aes may be uninitialized: none of it is read. .. every byte that neither
         a round key of the new key nor its length takes is 0. DONE if key_length is 16, 24 or 32"""
-        m = self.proved(self.expansion(DONE, self.key_size, ANY), seed)
-        self.struct = [self.byte_for_any(b) for b in m.regions["aes"].content]
+        return self.stored_by(self.proved(self.expansion(DONE, self.key_size, ANY), seed))
+
+    def stored_by(self, m):
+        """Keeps what set_key has stored, as the same of any round keys: the key's length, and schedules of up to 60 words each."""
+        end = 4 + 240 * self.schedules
+        self.struct = [self.byte_for_any(b) for b in m.regions[self.library].content[:end]]
         if self.struct[:4] != [self.key_size, 0, 0, 0]:
             raise Unproved("the struct has another length")
-        for half in self.struct[4:244], self.struct[244:]:
-            if any(half[4 * len(self.w):]):
+        for start in range(4, end, 240):
+            if any(self.struct[start + 4 * len(self.w):start + 240]):
                 raise Unproved("the struct holds more than round keys and zeros")
         return m
 

@@ -7,7 +7,7 @@ from collections import namedtuple
 
 from aes import BATCH, DONE, NEVER, CounterWord, Keyed
 from bits import DATA, KEY, PUBLIC
-from calls import ANY, Buffer, Call, compare
+from calls import ANY, Buffer, Call
 from machine import Pointer
 from standards import number, product
 
@@ -72,7 +72,7 @@ PreCounter = namedtuple("PreCounter", "bytes counter hashing arguments")
 
 class KeyedGcm(Keyed):
     """key_length, wipe and what set_key refuses are stated in aes.py: these sentences of the two headers are alike."""
-    library, prefix, struct_size = "gcm", "gcm", STRUCT
+    library, prefix, struct_size, schedules = "gcm", "gcm", STRUCT, 1
 
     def __init__(self, program, key_size):
         super().__init__(program, key_size)
@@ -109,13 +109,9 @@ class KeyedGcm(Keyed):
             yield "hash", h, p[0]
             for n in (0, 1):
                 yield "hash", functools.partial(product, d, p[n], p[0]), p[n + 1]
-        m = self.proved(self.expansion(DONE, self.key_size, ANY, steps=steps), seed)
+        m = self.stored_by(self.proved(self.expansion(DONE, self.key_size, ANY, steps=steps), seed))
         meaning = {d.cell_of(b)[0]: e.bits(c) for x, y in zip(p, self.powers) for b, c in zip(x, y)}
-        content = m.regions["gcm"].content
-        self.struct = [self.byte_for_any(b) for b in content[:244]]
-        self.struct += [e.pack([e.linear_image(x, meaning.__getitem__, d) for x in d.bits(b)]) for b in content[244:]]
-        fixed = self.struct[:4] + self.struct[4 + 4 * len(self.w):244]
-        compare(e, fixed, [self.key_size] + [0] * (len(fixed) - 1), "the length and what no round key takes")
+        self.struct += [e.pack([e.linear_image(x, meaning.__getitem__, d) for x in d.bits(b)]) for b in m.regions["gcm"].content[244:]]
         return m
 
     def wipe_message(self):

@@ -5,7 +5,7 @@ other, each value of POLYVAL, the block of which the tag is the cipher, and the 
 import functools
 
 from bits import DATA, KEY
-from calls import ANY, Buffer, Call, compare
+from calls import Buffer, Call, compare
 from gcm import DONE, NO_KEY, REFUSED, TOO_LONG, ZEROS, Hashing, KeyedGcm, padded, threes
 from machine import Number
 from standards import dot, mulx_ghash, product
@@ -27,10 +27,7 @@ class KeyedSiv(KeyedGcm):
     def set_key(self, seed=None):
         """Prepares a key in *siv (KeyExpansion, FIPS 197, 5.2). *siv may be uninitialized: none of it is read. Nothing of what it held is
         left. DONE if key_length is 16 or 32"""
-        m = self.proved(self.expansion(DONE, self.key_size, ANY), seed)
-        self.struct = [self.byte_for_any(b) for b in m.regions["siv"].content]
-        fixed = self.struct[:4] + self.struct[4 + 4 * len(self.w):]
-        compare(self.domain, fixed, [self.key_size] + [0] * (len(fixed) - 1), "the length and what no round key takes")
+        m = super(KeyedGcm, self).set_key(seed)
         self.once("message", self.make_message)
         return m
 
