@@ -173,7 +173,9 @@ class KeyedGcm(Keyed):
 
     def in_text(self, first, end):
         """For a text that ends at this place of the keystream: what a call may ask of J_0."""
-        return {} if first.counter is not None else {"room": (self.room, end), "counter": CounterWord("J_0 low", 0, NEVER, end // 16 + BATCH)}
+        if first.counter is not None:
+            return {}
+        return {"room": (self.room, end), "counter": CounterWord("J_0 low", 0, NEVER, end // 16 + BATCH)}
 
     def counter_block(self, first, i):
         """The block J_0 + i, the last 32 bits being a number of their own (inc_32, 6.2)."""
