@@ -340,7 +340,7 @@ def ushl(m, name, to, a, counts):
 
 @TABLE.of("umaxv")
 def umaxv(m, name, to, a):
-    """Bytes that are 0 if others are equal, and else 255, as those beside them."""
+    """The largest of bytes. Each of them may be 0 if two bytes are equal, else 255: then it is 0 only if all are equal."""
     b = [x for x in m.read(a) if x] or [0]
     known = [m.equalities.get(x) for x in b]
     if 255 in b or max(b) < 256:

@@ -1,4 +1,4 @@
-"""The statement for each call of fotsgure_aes.h, beside the sentence of the header that it proves.
+"""The statement for each call of fotsgure_aes.h, beside the sentence of the header that it proves (.. is where some of it is left out).
 
 They are proved in two steps, as the calls share the struct. fotsgure_aes_set_key is run on a key of symbolic bytes. Each bit that it stores
 turns out as a sum of bits of one byte of a round key, or of its InvMixColumns. The other calls then start from a struct of these sums over
@@ -17,7 +17,8 @@ STRUCTS = {"fotsgure_aes": (484, {"key_length": 0, "round_keys": 4}), "fotsgure_
            "fotsgure_aes_cbc": (16, {"previous": 0})}
 STRUCT = 484
 
-# The word of the counter's low half at block `first`. It has wrapped around from block `wrap` on; later blocks than `last` don't occur.
+# The low half of a counter, by its name: `word` and an offset i are that of block i. A call begins at block `first`. From block `wrap` on
+# it has wrapped around; later blocks than `last` don't occur.
 CounterWord = namedtuple("CounterWord", "word first wrap last")
 NEVER, BATCH = 1 << 64, 16  # a batch may have more blocks than the text
 
@@ -186,7 +187,7 @@ class Keyed:
     def counter_blocks(self):
         d = self.domain
 
-        def make():
+        def make():  # (values.py knows these cells by their names)
             high = [[d.fresh("counter byte %d" % (i + k), PUBLIC) for i in range(8)] for k in (0, 16)]
             low = [d.fresh("counter byte %d" % i, PUBLIC, True) for i in range(8, 16)]
             d.words["counter high"] = lambda offset, k: d.bits(high[offset][7 - k]) if offset in (0, 1) else None

@@ -37,7 +37,8 @@ def threes(blocks, end=()):
 
 
 class Hashing:
-    """GHASH (6.4) from a value on, group by group; each value that depends on the key becomes an arbitrary block."""
+    """GHASH (6.4) from a value on, group by group; each value that depends on the key becomes an arbitrary block.
+    `plan` has the steps: the value before, the group, and the block that the value after it becomes; `made` counts these blocks."""
 
     def __init__(self, keyed, value, made=0):
         self.keyed, self.value, self.plan, self.made = keyed, value, [], made
@@ -81,9 +82,9 @@ class KeyedGcm(Keyed):
         self.nonce = [d.fresh("nonce byte %d" % i, PUBLIC) for i in range(12)]
         self.pre_counter = [d.fresh("J_0 byte %d" % i, KEY | PUBLIC) for i in range(12)]
         block = lambda name, depends: [d.fresh("%s byte %d" % (name, i), depends, True) for i in range(16)]
-        self.text, self.sealed, self.more, self.tag = (block(name, DATA) for name in ("text", "encrypted", "additional", "tag"))
+        self.text, self.sealed, self.tag = (block(name, DATA) for name in ("text", "encrypted", "tag"))
+        self.additional_bytes, self.long_nonce = block("additional", DATA), block("long nonce", PUBLIC)
         self.hash_value, self.rest = block("hash", KEY | DATA), block("rest", KEY | DATA)
-        self.long_nonce = block("long nonce", PUBLIC)
 
     def many(self, bytes_, count, start=0):
         """`count` bytes, in blocks from the place `start` on."""
@@ -208,7 +209,7 @@ class KeyedGcm(Keyed):
     # Whole messages.
     def message_of(self, first, additional_length, text_length):
         """Additional data, an encrypted text, and GHASH of both."""
-        additional, sealed = self.many(self.more, additional_length), self.many(self.sealed, text_length)
+        additional, sealed = self.many(self.additional_bytes, additional_length), self.many(self.sealed, text_length)
         hashing = Hashing(self, ZEROS, first.hashing.made)
         hashing.take(threes(padded(additional)) + threes(padded(sealed), self.lengths(additional_length, text_length)))
         return Buffer("additional", additional), sealed, hashing
@@ -297,7 +298,7 @@ class KeyedGcm(Keyed):
         """Takes a piece of the additional data .. DONE"""
         first = self.nonce_of(*UNKNOWN)
         state, hashing = self.any_state(ADDITIONAL, before, 0, first)
-        piece = self.many(self.more, count)
+        piece = self.many(self.additional_bytes, count)
         rest = self.absorbed(hashing, before % 16, piece)
         after = self.state(ADDITIONAL, before + count, 0, 0, hashing.value, rest, first)
         return self.on_message("additional", state, after, [Buffer("additional", piece), count], steps=hashing.steps)

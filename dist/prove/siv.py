@@ -101,7 +101,7 @@ class KeyedSiv(KeyedGcm):
 
     def seal(self, additional_length, text_length):
         """Encrypts `text_length` bytes in place under a nonce that the caller brings, and writes the tag .. (RFC 8452, 4). .. DONE"""
-        additional, text = self.many(self.more, additional_length), self.many(self.text, text_length)
+        additional, text = self.many(self.additional_bytes, additional_length), self.many(self.text, text_length)
         few, hashing = self.polyval(additional, text)
         block, any_block, tag = self.tagged(hashing)
 
@@ -119,7 +119,7 @@ class KeyedSiv(KeyedGcm):
     def open(self, additional_length, text_length):
         """Decrypts `text_length` bytes in place if the tag is right (RFC 8452, 5). The tag can be compared only once the text is decrypted,
         so a text that is refused is encrypted again: it is proved that it is, when the call returns, as it was. .. REFUSED; else DONE."""
-        additional, sealed = self.many(self.more, additional_length), self.many(self.sealed, text_length)
+        additional, sealed = self.many(self.additional_bytes, additional_length), self.many(self.sealed, text_length)
         text = self.many(self.text, text_length)
         few, hashing = self.polyval(additional, text)
         block, any_block, right = self.tagged(hashing)
