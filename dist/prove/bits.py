@@ -215,7 +215,7 @@ class Domain:
             return self.mixed[x >> 9]
         if x & BLOCK == PRODUCT << 1:
             linear, pairs = self.products[x >> 9]
-            return [part for y in (linear, *map(self.numbered, self.factors(pairs))) for part in self.parts(y)]
+            return [part for y in (linear, *map(self.numbered_bit, self.factors(pairs))) for part in self.parts(y)]
         n = x >> 9
         halves = self.halves.get(n)
         if halves is None:
@@ -249,10 +249,10 @@ class Domain:
     # Sums of products of two bits of cells, for GHASH: a bit, and an int with a bit for each pair of bits of cells. Bits of cells have
     # numbers. A pair is in a row of the higher one, at the lower one's place in its group of 128: the rows stand one after another, in the
     # order in which they were first needed (`row_keys`).
-    def number(self, cell, block, j):
+    def bit_number(self, cell, block, j):
         return (block << 24 | cell) << 3 | j
 
-    def numbered(self, number):
+    def numbered_bit(self, number):
         return self.bit(number >> 3 & 0xffffff, LINEAR[number & 7], number >> 27)
 
     def split(self, x):
@@ -316,7 +316,7 @@ class Domain:
             out = self.linear_parts[x & ~1] = []
             for block, n in self.parts(x):
                 for c, t in self.forms[n]:
-                    out += [self.number(c, block if self.of_block[c] else 0, j) for j in linear_bits(t)]
+                    out += [self.bit_number(c, block if self.of_block[c] else 0, j) for j in linear_bits(t)]
         return out
 
     def linear_image(self, x, of, source):
@@ -364,7 +364,7 @@ class Domain:
                     continue
                 for b in self.linear_part(y):
                     if a == b:
-                        linear = self.xor(linear, self.numbered(a))
+                        linear = self.xor(linear, self.numbered_bit(a))
                     else:
                         pairs ^= 1 << self.row(max(a, b), min(a, b) >> 7) + (min(a, b) & 127)
         return self.product_bit(linear, pairs)

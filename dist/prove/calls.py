@@ -191,18 +191,18 @@ def depends(m, *bytes_):
         linear, products = domain.split(x)
         out, pairs = out | depends_bit(m, linear), pairs | products
     for number in domain.factors(pairs):
-        out |= depends_bit(m, domain.numbered(number))
+        out |= depends_bit(m, domain.numbered_bit(number))
     return out
 
 
-def cells(m, x):
+def cells_of_bit(m, x):
     """The cells of a bit, with their blocks."""
     return [(c, block if m.domain.of_block[c] else 0) for block, n in m.domain.parts(x) for c, _ in m.domain.forms[n]]
 
 
 def depends_bit(m, x, origins=True):
     out = 0
-    for place in cells(m, x):
+    for place in cells_of_bit(m, x):
         out |= m.origins[place] if origins and place in m.origins else m.domain.depends[place[0]]
     return out
 
@@ -222,7 +222,7 @@ def tells(m, byte, names, plain):
             continue
         if not name and on & KEY and (on == KEY or depends_bit(m, x, False) & KEY):
             name = "key" if on == KEY else "inner"
-        kinds.add(name or ("plain" if not plain.isdisjoint(cells(m, x)) else "step" if on & KEY else "data"))
+        kinds.add(name or ("plain" if not plain.isdisjoint(cells_of_bit(m, x)) else "step" if on & KEY else "data"))
     return next((k for k in KINDS if k in kinds), None)
 
 
@@ -232,7 +232,7 @@ def left(m, call):
     bits = lambda bytes_: (x & ~1 for b in bytes_ if m.domain.symbolic(b) for x in m.domain.bits(b))
     known = ("result", m.results), ("plain", call.plain), ("keystream", call.keystream)  # of what is several of these, it is the last
     names = {x: name for name, bytes_ in known for x in bits(bytes_)}
-    plain = {cell for x in bits(call.plain) if not depends_bit(m, x, False) & KEY for cell in cells(m, x)}
+    plain = {cell for x in bits(call.plain) if not depends_bit(m, x, False) & KEY for cell in cells_of_bit(m, x)}
     places = [("stack", k - m.top, m.regions["stack"].content[k]) for k in range(m.lowest, m.top)]
     places += [("a message", k, b) for k, b in enumerate(m.unsaid)]
     places += [("registers", r, b) for r, v in m.general.items() for b in m.to_bytes(v, 8)]
