@@ -3,10 +3,11 @@
 A *cell* is a byte that takes all 256 values: a byte of the key schedule, of a block, or what enters an S-box. A bit is kept as the
 exclusive or of functions of single cells, each as a truth table of 256 entries (a Python int whose entry 0 is 0), and perhaps of 1. So
 equal forms are equal functions of the cells. Exclusive or is exact, cell by cell. `And` and look-ups are done only where everything
-involved depends on one cell; then they are exact too, on the 256 values of that cell. (GHASH's products of two bits of cells are the
-exception: a sum of them is kept beside the forms, in `products`, and only added.) If bits depend on several cells, `named` asks whether
-they are sums of bits of one byte that the specification named (an input of an S-box), and writes that byte instead: an equation, checked by
-computing both sides. There is no search, and nothing is approximated: what can't be done raises Unproved.
+involved depends on one cell; then they are exact too, on the 256 values of that cell. (A look-up that is an affine map of its index's bits
+is a sum, and needs no cell. GHASH's products of two bits of cells are the exception: a sum of them is kept beside the forms, in `products`,
+and only added.) If bits depend on several cells, `named` asks whether they are sums of bits of one byte that the specification named (an
+input of an S-box), and writes that byte instead: an equation, checked by computing both sides. There is no search, and nothing is
+approximated: what can't be done raises Unproved.
 
 A bit is an int: 0 and 1 are constants, else form << 9 | block << 1 | complement. Blocks are processed alike, so a form is kept once for all
 of them: `block` (1 to 253) says whose cells are meant; it is 0 if the form has cells of keys alone. (With MIXED or PRODUCT in its place,
@@ -554,9 +555,7 @@ class Domain:
                 return cell
         except Unproved:
             pass
-        depends = 0
-        for b in bits:
-            depends |= self.depends_on(b)
+        depends = functools.reduce(int.__or__, map(self.depends_on, bits))
         cell = self.cell(name, any(self.has_block[b >> 9] for b in bits if b > 1), depends)
         self.define(cell, bits)
         return cell

@@ -201,6 +201,7 @@ def cells_of_bit(m, x):
 
 
 def depends_bit(m, x, origins=True):
+    """The same of a bit; or, without `origins`, what its own cells are."""
     out = 0
     for place in cells_of_bit(m, x):
         out |= m.origins[place] if origins and place in m.origins else m.domain.depends[place[0]]

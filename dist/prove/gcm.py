@@ -26,14 +26,9 @@ def padded(b):
     return [(b + ZEROS)[i:i + 16] for i in range(0, len(b), 16)]
 
 
-def threes(blocks, end=()):
-    """The groups of blocks whose products with powers of H are added at once; `end` comes into the last one if it has room."""
-    groups = [blocks[i:i + 3] for i in range(0, len(blocks), 3)]
-    if end and blocks and len(groups[-1]) < 3:
-        groups[-1] = groups[-1] + [end]
-    elif end:
-        groups.append([end])
-    return groups
+def threes(blocks):
+    """The groups of blocks whose products with powers of H are added at once."""
+    return [blocks[i:i + 3] for i in range(0, len(blocks), 3)]
 
 
 class Hashing:
@@ -211,7 +206,7 @@ class KeyedGcm(Keyed):
         """Additional data, an encrypted text, and GHASH of both."""
         additional, sealed = self.many(self.additional_bytes, additional_length), self.many(self.sealed, text_length)
         hashing = Hashing(self, ZEROS, first.hashing.made)
-        hashing.take(threes(padded(additional)) + threes(padded(sealed), self.lengths(additional_length, text_length)))
+        hashing.take(threes(padded(additional)) + threes(padded(sealed) + [self.lengths(additional_length, text_length)]))
         return Buffer("additional", additional), sealed, hashing
 
     def seal(self, additional_length, text_length, nonce=(), name="gcm_seal", first=None, **more):

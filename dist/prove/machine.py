@@ -31,7 +31,7 @@ Distance = namedtuple("Distance", "base other offset")  # the address of a buffe
 Number = namedtuple("Number", "base offset")  # 32 bits: a number of unknown value, plus a constant; higher bytes aren't known
 # So many bytes of which only this is known: they are the number `right` if all the differences are 0, else another one; zeros above.
 Verdict = namedtuple("Verdict", "right differences size")
-SIZES = {Pointer: 8, Distance: 8, Number: 4}  # how many bytes of these are known by their names
+NAMED_SIZES = {Pointer: 8, Distance: 8, Number: 4}  # how many bytes of these are known by their names
 
 # Operands; others are ints, and texts or tuples of these that only instructions of one machine have.
 Register = namedtuple("Register", "name size at", defaults=[0])  # at: the first byte; x86's ah, bh, ch and dh begin at byte 1
@@ -229,7 +229,7 @@ class Machine:
 
     def size_of(self, value):
         """How many bytes of a value are known by its name; None if it is bytes."""
-        return value.size if isinstance(value, Verdict) else SIZES.get(type(value))
+        return value.size if isinstance(value, Verdict) else NAMED_SIZES.get(type(value))
 
     def from_bytes(self, b):
         if max(b) < 256:

@@ -14,7 +14,7 @@ class Native:
     def __init__(self, machine, seed=None, counter=None, values=None, processor=None):
         """A call has values of its own, drawn by a seed, and a processor of its own; instructions by themselves share these."""
         self.m = machine
-        machine.ask = self.ask
+        machine.ask = self.ask  # instead of raising a Question
         self.values = values or Values(machine.domain, random.Random(seed), counter)
         self.processor = processor or PROCESSORS[type(machine)](machine.program.path)
         self.seen = [None] * len(machine.vectors)  # the vector registers as they were when they were last compared

@@ -79,7 +79,7 @@ class KeyedSiv(KeyedGcm):
         few, hashing = len(additional) + len(text) <= FEW, Hashing(self, ZEROS)
         lengths = (little(8 * len(additional), 8) + little(8 * len(text), 8))[::-1]
         first, second = ([b[::-1] for b in padded(s)] for s in (additional, text))
-        groups = [[b] for b in first + second + [lengths]] if few else threes(first) + threes(second, lengths)
+        groups = [[b] for b in first + second + [lengths]] if few else threes(first) + threes(second + [lengths])
         return few, hashing.take(groups)
 
     def tagged(self, hashing):

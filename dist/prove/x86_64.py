@@ -328,9 +328,9 @@ def ptest(m, name, a, b):
 @TABLE.of("pmovmskb")
 def pmovmskb(m, name, to, source):
     b = m.read(source)
-    known = [m.equalities.get(x) for x in b]
     if max(b) < 256:
         return m.put(to, sum((x >> 7) << k for k, x in enumerate(b)))
+    known = [m.equalities.get(x) for x in b]
     if len(known) != 16 or any(k is None or k[1:] != (255, 0) for k in known):
         raise Unproved("instruction not covered")
     m.put(to, m.verdict(0xffff, [k[0] for k in known], 2))
