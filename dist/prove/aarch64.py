@@ -180,7 +180,7 @@ def select(m, name, to, a, b, code):
 # Numbers.
 @TABLE.of("add", "adds")
 def add(m, name, to, a, b):
-    """A sum that isn't needed may have carries of which nothing is known: then nothing may be computed with it."""
+    """A sum that isn't needed may have carries of which nothing is known, or bytes that nobody wrote. Nothing may be computed with it."""
     if isinstance(to, Vector):
         return m.write(to, list(map(m.add_byte, m.read(a), m.read(b))))
     x, y = m.get(a), m.get(b)

@@ -40,7 +40,7 @@ class Pause(Unproved):
 
 
 @functools.lru_cache(None)
-def looked_up(table, tables):
+def composed(table, tables):
     """The truth tables of the bits of table[i], if the bits of i have these truth tables."""
     entries = [table[sum((t >> v & 1) << i for i, t in enumerate(tables))] for v in range(256)]
     return [sum((entries[v] >> j & 1) << v for v in range(256)) for j in range(8)]
@@ -158,7 +158,7 @@ class Domain:
         return "a function of %s%s" % (names, " of block %s" % sorted(b - 1 for b in blocks) if blocks else "")
 
     def same(self, a, b):
-        """Whether two bytes are the same function. (Bytes of words have other names for the same.)"""
+        """Whether two bytes are the same function. (A byte of a word of unknown value has a number of its own.)"""
         return a == b or a > 255 and b > 255 and self.bits_of[a] is not None and self.bits_of[a] == self.bits_of[b]
 
     # Bits.
@@ -510,7 +510,7 @@ class Domain:
             c = self.lookups[key] = self.affine(*key)
         if c is None:
             cell, tables = self.common(key[1])
-            c = self.lookups[key] = self.byte_of_cell(cell, 0, looked_up(table, tuple(tables)))
+            c = self.lookups[key] = self.byte_of_cell(cell, 0, composed(table, tuple(tables)))
         return self.byte_in_block(c, block)
 
     def affine(self, table, index):

@@ -120,8 +120,8 @@ class KeyedGcm(Keyed):
 
     # Nonces, counter blocks and texts.
     def nonce_of(self, length=12, counter=1, before=()):
-        """A nonce of 12 bytes, or one of another length (7.1, step 2) of which J_0 is of unknown value and its counter doesn't wrap in the
-        text, or J_0 ends in this number, and in these bytes before."""
+        """A nonce of 12 bytes, or one of another length (7.1, step 2). Then J_0 ends in the bytes `before` and in this counter; or, with
+        None, it has any value of which the counter doesn't wrap around in the text."""
         if length == 12:
             return PreCounter(self.nonce, 1, Hashing(self, ZEROS), [Buffer("nonce", self.nonce), 12])
         nonce = self.many(self.long_nonce, length)
@@ -133,7 +133,7 @@ class KeyedGcm(Keyed):
             hashing.end_as(self.counter_block(first, 0))
             return first
         bytes_ = self.pre_counter[:12 - len(before)] + list(before)
-        if before:  # a call may also encrypt the block that a counter of 64 bits would be next, and throw it away
+        if before:  # a batch may also encrypt the block after a carry into these bytes, and throw it away: its S-boxes have names then
             carried = bytes_[:8] + number(int.from_bytes(bytes(before), "big") + 1, 4) + number(0, 4)
             self.once(("stream", *carried), lambda: self.aes.cipher(carried, self.w))
         hashing.end_as(bytes_ + number(counter, 4))

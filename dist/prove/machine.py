@@ -307,7 +307,7 @@ class Machine:
         4,096 bytes of memory, nor in its upper half. So they are ordered as their offsets are. (A counter isn't placed.)"""
         for a in addresses:
             region = isinstance(a, Pointer) and self.regions.get(a.base)
-            # (Of NULL with a count of 0 the header makes the address 16.)
+            # (An empty buffer may be at 16, which the header passes in the place of NULL: nothing before it counts.)
             if not region or not -4096 * bool(region.content) <= a.offset < 1 << 47:
                 return False
         return True

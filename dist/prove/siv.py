@@ -60,7 +60,8 @@ class KeyedSiv(KeyedGcm):
         self.own_stream = self.aes.cipher(counter + self.own_tag[4:15] + [self.highest], self.message_w)
 
     def stored(self, words):
-        """What set_key stores of such round keys: of each byte a linear function, and perhaps a constant."""
+        """What set_key stores of such round keys: of each byte a linear function, and perhaps a constant. (If a stored byte depended on
+        another one, what the code stores would be something else, and refused.)"""
         d = self.domain
         image = lambda x, byte: d.linear_image(x, lambda _: d.bits(byte), d)
         return [d.pack([image(x, b) for x in d.bits(s)]) for s, b in zip(self.struct[4:], sum(words, []))]

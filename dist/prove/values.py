@@ -8,7 +8,7 @@ class Values:
     def __init__(self, domain, random, counter=None):
         """`counter`: for counter mode, of which the initial counter block consists of words (see aes.CounterWord)."""
         self.domain, self.random, self.counter = domain, random, counter
-        self.cells, self.bytes, self.base = {}, {}, {}
+        self.cells, self.bytes, self.base = {}, {}, {}  # base: of regions, and of what has a name alone, by that name
 
     def cell(self, cell, block):
         d = self.domain

@@ -143,7 +143,7 @@ def arithmetic(m, name, a, b=1):
 
 @TABLE.of("and", "or", "xor", "test", "andn")
 def logic(m, name, to, a, b=None):
-    x, y = (m.get(to), m.get(a)) if b is None else (m.get(b), m.get(a))
+    x, y = (m.get(to), m.get(a)) if b is None else (m.get(b), m.get(a))  # andn: b and not a
     if name == "xor" and to == a:
         x = y = 0
     r = m.logic({"test": "and", "andn": "and not"}.get(name, name), x, y, to.size)
