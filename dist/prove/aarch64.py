@@ -180,7 +180,7 @@ def select(m, name, to, a, b, code):
 # Numbers.
 @TABLE.of("add", "adds")
 def add(m, name, to, a, b):
-    """A sum that isn't needed may have carries of which nothing is known: then nothing may be computed with it."""
+    """A sum that isn't needed may have carries of which nothing is known, or bytes that nobody wrote. Nothing may be computed with it."""
     if isinstance(to, Vector):
         return m.write(to, list(map(m.add_byte, m.read(a), m.read(b))))
     x, y = m.get(a), m.get(b)
@@ -340,7 +340,7 @@ def ushl(m, name, to, a, counts):
 
 @TABLE.of("umaxv")
 def umaxv(m, name, to, a):
-    """Bytes that are 0 if others are equal, and else 255, as those beside them."""
+    """The largest of bytes. Each of them may be 0 if two bytes are equal, else 255: then it is 0 only if all are equal."""
     b = [x for x in m.read(a) if x] or [0]
     known = [m.equalities.get(x) for x in b]
     if 255 in b or max(b) < 256:

@@ -1,4 +1,4 @@
-"""The statement for each call of fotsgure_aes.h, beside the sentence of the header that it proves.
+"""The statement for each call of fotsgure_aes.h, beside the sentence of the header that it proves (.. is where some of it is left out).
 
 They are proved in two steps, as the calls share the struct. fotsgure_aes_set_key is run on a key of symbolic bytes. Each bit that it stores
 turns out as a sum of bits of one byte of a round key, or of its InvMixColumns. The other calls then start from a struct of these sums over
@@ -17,7 +17,8 @@ STRUCTS = {"fotsgure_aes": (484, {"key_length": 0, "round_keys": 4}), "fotsgure_
            "fotsgure_aes_cbc": (16, {"previous": 0})}
 STRUCT = 484
 
-# The word of the counter's low half at block `first`. It has wrapped around from block `wrap` on; later blocks than `last` don't occur.
+# The low half of a counter, by its name: `word` and an offset i are that of block i. A call begins at block `first`. From block `wrap` on
+# it has wrapped around; later blocks than `last` don't occur.
 CounterWord = namedtuple("CounterWord", "word first wrap last")
 NEVER, BATCH = 1 << 64, 16  # a batch may have more blocks than the text
 
@@ -34,8 +35,8 @@ class Keyed:
         self.key_words = self.key_aes.key_expansion(self.key)
         self.w = [[self.domain.fresh("w[%d][%d]" % (i, k), KEY) for k in range(4)] for i in range(len(self.key_words))]
         self.name_round_keys()
-        self.first = [self.domain.fresh("byte %d" % i, DATA, True) for i in range(16)]
-        self.ciphers = {"encrypt": self.aes.cipher(self.first, self.w), "decrypt": self.aes.inv_cipher(self.first, self.w)}
+        self.block_bytes = [self.domain.fresh("byte %d" % i, DATA, True) for i in range(16)]
+        self.ciphers = {"encrypt": self.aes.cipher(self.block_bytes, self.w), "decrypt": self.aes.inv_cipher(self.block_bytes, self.w)}
         self.kept, self.calls = {}, set()
 
     def name_round_keys(self):
@@ -133,7 +134,7 @@ class Keyed:
 
     # Blocks.
     def content(self, count):
-        return [x for b in range(count) for x in self.of(self.first, b)]
+        return [x for b in range(count) for x in self.of(self.block_bytes, b)]
 
     def results(self, direction, count):
         return [x for b in range(count) for x in self.of(self.ciphers[direction], b)]
@@ -190,7 +191,7 @@ class Keyed:
     def counter_blocks(self):
         d = self.domain
 
-        def make():
+        def make():  # (values.py knows these cells by their names)
             high = [[d.fresh("counter byte %d" % (i + k), PUBLIC) for i in range(8)] for k in (0, 16)]
             low = [d.fresh("counter byte %d" % i, PUBLIC, True) for i in range(8, 16)]
             d.words["counter high"] = lambda offset, k: d.bits(high[offset][7 - k]) if offset in (0, 1) else None
@@ -244,7 +245,7 @@ class Keyed:
         arbitrary one."""
         def make():
             chain = [self.domain.fresh("chain byte %d" % i, DATA, True) for i in range(16)]
-            return chain, self.aes.cipher(self.aes.xor(self.first, chain), self.w)
+            return chain, self.aes.cipher(self.aes.xor(self.block_bytes, chain), self.w)
         chain, chained = self.once("chain", make)
 
         def steps():
@@ -258,7 +259,7 @@ class Keyed:
     # Key wrap (SP 800-38F, 6.1 to 6.3). In step t, the block A ^ [t] or A, with a semiblock R, is named as bytes of block t - 1.
     def cipher_of(self, block, direction="encrypt"):
         """Cipher, or InvCipher, of a block of bytes of block 0 and constants."""
-        if block == self.first:
+        if block == self.block_bytes:
             return self.ciphers[direction]
         cipher = self.aes.cipher if direction == "encrypt" else self.aes.inv_cipher
         return self.once((direction, *block), lambda: cipher(block, self.w))
@@ -266,7 +267,7 @@ class Keyed:
     def wrap_string(self, start, n, last):
         """W (6.1, algorithm 1) on the semiblock `start` and n others, of which `last` is what the last has: its steps, the n, and what
         becomes of all."""
-        a, r = self.first[:8], self.first[8:]
+        a, r = self.block_bytes[:8], self.block_bytes[8:]
         semiblocks = [x for i in range(n) for x in self.of(last if i == n - 1 else r, i)]
 
         def steps():
@@ -278,7 +279,7 @@ class Keyed:
     def unwrap_string(self, n, start=None):
         """The inverse of W (6.1, algorithm 2) on n + 1 semiblocks: its steps, the semiblocks, and what becomes of them. With `start` those
         alone whose first semiblock becomes that."""
-        a, r = self.first[:8], self.first[8:]
+        a, r = self.block_bytes[:8], self.block_bytes[8:]
         wrapped = self.aes.xor(self.of(a, 0), number(6 * n, 8)) + [x for i in range(n) for x in self.of(r, n - 1 - i)]
         start = start or self.of(a, 6 * n)
 
@@ -292,7 +293,7 @@ class Keyed:
     def wrap(self, count):
         """Key wrap (KW, SP 800-38F, 6.2; RFC 3394) from one buffer to another .. Counts are in semiblocks of 8 bytes. A key has two or
         more, and becomes one more. .. DONE"""
-        steps, key, wrapped = self.wrap_string(ICV1, count, self.first[8:])
+        steps, key, wrapped = self.wrap_string(ICV1, count, self.block_bytes[8:])
         output = Buffer("output", self.undefined(8 * count + 8), wrapped)
         return Call("aes_wrap", [self.schedule(), Buffer("input", key), count, output, count + 1], DONE, steps=steps, plain=key)
 
@@ -307,7 +308,7 @@ class Keyed:
     def wrap_padded(self, length):
         """Key wrap with padding (KWP, SP 800-38F, 6.3; RFC 5649) .. what is wrapped has one semiblock more than the key fills,
         (input_length + 7) / 8 + 1. .. DONE"""
-        n, r = -(-length // 8), self.first[8:]
+        n, r = -(-length // 8), self.block_bytes[8:]
         start, last = ICV2 + number(length, 4), r[:8 - 8 * n + length] + [0] * (8 * n - length)
         if n == 1:
             steps, key, wrapped = None, last, self.cipher_of(start + last)
@@ -322,10 +323,10 @@ class Keyed:
         first ones of the output, which zeros follow. .. REFUSED, and the output then is all zeros. .. In all cases but DONE *key_length
         is 0. Whatever comes before the length, and after so many bytes, is judged by one branch. `said` is another length in its place,
         with which everything is refused."""
-        n, padding, r = -(-length // 8), -length % 8, self.first[8:]
-        start = self.of(self.first[:4], 6 * n) + number(length if said is None else said, 4)
+        n, padding, r = -(-length // 8), -length % 8, self.block_bytes[8:]
+        start = self.of(self.block_bytes[:4], 6 * n) + number(length if said is None else said, 4)
         if n == 1:
-            wrapped, key = self.first, self.of(r, 1)
+            wrapped, key = self.block_bytes, self.of(r, 1)
             steps = lambda: iter([("memory", self.ciphers["decrypt"], start + key)])
         else:
             steps, wrapped, _, key = self.unwrap_string(n, start)

@@ -3,16 +3,19 @@
 A *cell* is a byte that takes all 256 values: a byte of the key schedule, of a block, or what enters an S-box. A bit is kept as the
 exclusive or of functions of single cells, each as a truth table of 256 entries (a Python int whose entry 0 is 0), and perhaps of 1. So
 equal forms are equal functions of the cells. Exclusive or is exact, cell by cell. `And` and look-ups are done only where everything
-involved depends on one cell; then they are exact too, on the 256 values of that cell. (GHASH's products of two bits of cells are the
-exception: a sum of them is kept beside the forms, in `products`, and only added.) If bits depend on several cells, `named` asks whether
-they are sums of bits of one byte that the specification named (an input of an S-box), and writes that byte instead: an equation, checked by
-computing both sides. There is no search, and nothing is approximated: what can't be done raises Unproved.
+involved depends on one cell; then they are exact too, on the 256 values of that cell. (A look-up that is an affine map of its index's bits
+is a sum, and needs no cell. GHASH's products of two bits of cells are the exception: a sum of them is kept beside the forms, in `products`,
+and only added.) If bits depend on several cells, `named` asks whether they are sums of bits of one byte that the specification named (an
+input of an S-box), and writes that byte instead: an equation, checked by computing both sides. There is no search, and nothing is
+approximated: what can't be done raises Unproved.
 
 A bit is an int: 0 and 1 are constants, else form << 9 | block << 1 | complement. Blocks are processed alike, so a form is kept once for all
-of them: `block` (1 to 255) says whose cells are meant; it is 0 if the form has cells of keys alone.
+of them: `block` (1 to 253) says whose cells are meant; it is 0 if the form has cells of keys alone. (With MIXED or PRODUCT in its place,
+the number before it isn't that of a form.)
 
 A byte is an int too: below 256 a constant, else an entry of `bits_of` (eight bits, lowest first), or opaque (None): a byte that may be
-moved, but with which nothing may be computed (what a buffer or a register held before)."""
+moved, but with which nothing may be computed (what a buffer or a register held before). The name of an opaque byte is a text, or (value, k)
+for byte k of a value of machine.py or of a buffer."""
 
 import functools
 
@@ -32,11 +35,12 @@ class Unproved(Exception):
 
 
 class Pause(Unproved):
-    """A call is about to compute with a byte of which only the name is known: one that isn't of the key, if it expands one (see aes.py)."""
+    """A call is about to compute with a byte of which only the name is known. If it expands a key, it began in the key's domain, and goes
+    on in that of round keys, where the byte is known (aes.py, go_on)."""
 
 
 @functools.lru_cache(None)
-def looked_up(table, tables):
+def composed(table, tables):
     """The truth tables of the bits of table[i], if the bits of i have these truth tables."""
     entries = [table[sum((t >> v & 1) << i for i, t in enumerate(tables))] for v in range(256)]
     return [sum((entries[v] >> j & 1) << v for v in range(256)) for j in range(8)]
@@ -52,15 +56,20 @@ def linear_bits(table):
 
 class Domain:
     def __init__(self):
+        # Of cells, by their numbers: names, whether each block has one, and what they depend on.
         self.names, self.of_block, self.depends = [], [], []
-        self.forms, self.ids, self.pairs, self.has_block = [None], {}, {}, [False]
+        # Forms, ((cell, table), ..), by their numbers; the number of each; each pair once; whether a form has cells of a block.
+        self.forms, self.ids, self.interned, self.has_block = [None], {}, {}, [False]
+        # Results that were computed once, by the operands (entries and shifted: in machine.py).
         self.xors, self.ands, self.byte_xors, self.byte_ands, self.lookups, self.entries, self.shifted = ({} for _ in range(7))
         self.bits_of, self.byte_ids = [None] * 256, {}
         self.opaque_names, self.opaque_of = {}, {}
         # Of a word of unknown value, by its name: a function from an offset and k to the bits of byte k of their sum, or None.
         self.words = {}
         self.numbers = {}  # cells of numbers that are one more in each block: (which byte, all bytes, the lowest first)
-        self.by_cells, self.alike, self.definitions, self.defined_by = {}, {}, {}, {}
+        # Names for sums (`define`): by the cells of sums, the cells that have names and the ways to write a sum (`single`); and by the cell
+        # with a name, the bits that it stands for and their cells.
+        self.by_cells, self.ways, self.definitions, self.defined_by = {}, {}, {}, {}
         self.mixed, self.mixed_ids, self.mixed_xors, self.halves = [], {}, {}, {}
         self.products, self.product_ids, self.product_xors, self.with_products = [], {}, {}, set()
         self.linear_tables, self.linear_parts, self.column_parts, self.rows, self.row_keys = {}, {}, {}, {}, []
@@ -86,7 +95,7 @@ class Domain:
         if name not in self.opaque_names:
             self.opaque_names[name] = len(self.bits_of)
             self.opaque_of[len(self.bits_of)] = name
-            word = self.words.get(name[0][0]) if name[0] else None
+            word = self.words.get(getattr(name[0], "base", None))
             try:
                 self.bits_of.append(word and word(name[0].offset, name[1]))
             except Unproved:  # no number of a block that has a form
@@ -149,7 +158,7 @@ class Domain:
         return "a function of %s%s" % (names, " of block %s" % sorted(b - 1 for b in blocks) if blocks else "")
 
     def same(self, a, b):
-        """Whether two bytes are the same function. (Bytes of words have other names for the same.)"""
+        """Whether two bytes are the same function. (A byte of a word of unknown value has a number of its own.)"""
         return a == b or a > 255 and b > 255 and self.bits_of[a] is not None and self.bits_of[a] == self.bits_of[b]
 
     # Bits.
@@ -168,7 +177,7 @@ class Domain:
         key = tuple(sorted(form.items()))
         n = self.ids.get(key)
         if n is None:
-            key = tuple(self.pairs.setdefault(pair, pair) for pair in key)  # kept once, as there are few of them
+            key = tuple(self.interned.setdefault(pair, pair) for pair in key)  # kept once, as there are few of them
             n = self.ids[key] = len(self.forms)
             self.forms.append(key)
             self.has_block.append(any(self.of_block[c] for c, _ in key))
@@ -207,7 +216,7 @@ class Domain:
             return self.mixed[x >> 9]
         if x & BLOCK == PRODUCT << 1:
             linear, pairs = self.products[x >> 9]
-            return [part for y in (linear, *map(self.numbered, self.factors(pairs))) for part in self.parts(y)]
+            return [part for y in (linear, *map(self.numbered_bit, self.factors(pairs))) for part in self.parts(y)]
         n = x >> 9
         halves = self.halves.get(n)
         if halves is None:
@@ -239,11 +248,12 @@ class Domain:
         return z ^ (x ^ y) & 1
 
     # Sums of products of two bits of cells, for GHASH: a bit, and an int with a bit for each pair of bits of cells. Bits of cells have
-    # numbers. A row of such an int is for one bit, and for 128 of those that it is multiplied with.
-    def number(self, cell, block, j):
+    # numbers. A pair is in a row of the higher one, at the lower one's place in its group of 128: the rows stand one after another, in the
+    # order in which they were first needed (`row_keys`).
+    def bit_number(self, cell, block, j):
         return (block << 24 | cell) << 3 | j
 
-    def numbered(self, number):
+    def numbered_bit(self, number):
         return self.bit(number >> 3 & 0xffffff, LINEAR[number & 7], number >> 27)
 
     def split(self, x):
@@ -307,7 +317,7 @@ class Domain:
             out = self.linear_parts[x & ~1] = []
             for block, n in self.parts(x):
                 for c, t in self.forms[n]:
-                    out += [self.number(c, block if self.of_block[c] else 0, j) for j in linear_bits(t)]
+                    out += [self.bit_number(c, block if self.of_block[c] else 0, j) for j in linear_bits(t)]
         return out
 
     def linear_image(self, x, of, source):
@@ -318,7 +328,7 @@ class Domain:
         return out
 
     def columns(self, y):
-        """A sum of bits of cells as parts of rows, [(group, int)], and its highest number."""
+        """Of a sum of bits of cells: for each group the places of those bits in a row, as an int, and the highest number."""
         out = self.column_parts.get(y & ~1)
         if out is None:
             groups, numbers = {}, self.linear_part(y)
@@ -355,7 +365,7 @@ class Domain:
                     continue
                 for b in self.linear_part(y):
                     if a == b:
-                        linear = self.xor(linear, self.numbered(a))
+                        linear = self.xor(linear, self.numbered_bit(a))
                     else:
                         pairs ^= 1 << self.row(max(a, b), min(a, b) >> 7) + (min(a, b) & 127)
         return self.product_bit(linear, pairs)
@@ -363,13 +373,14 @@ class Domain:
     def bilinear_lookup(self, table, index):
         """table[index] if the table of 16 bytes is linear: the sum of the entries at powers of two whose bit is set."""
         index = tuple(self.factor_of.get(x & ~1, x & ~1) | x & 1 for x in index)
-        entries = self.linear_tables.get(table) or self.linear_tables.setdefault(table, self.linear_entries(table))
+        if table not in self.linear_tables:
+            self.check_linear(table)
+        entries = self.linear_tables.setdefault(table, {})
         if index not in entries:
             entries[index] = self.pack([self.dot(index, column) for column in zip(*(self.bits(table[1 << i]) for i in range(4)))])
         return entries[index]
 
-    def linear_entries(self, table):
-        """A memo for a table's entries, once it is known to be linear."""
+    def check_linear(self, table):
         for k in range(16):
             total = 0
             for i in range(4):
@@ -377,7 +388,6 @@ class Domain:
                     total = self.xor_byte(total, table[1 << i])
             if total != table[k] or any(x & 1 for x in self.bits(total)):
                 raise Unproved("a look-up in a table that is neither constant nor linear")
-        return {}
 
     def and_(self, x, y):
         if x < 2 or y < 2:
@@ -401,7 +411,7 @@ class Domain:
     def define(self, cell, bits):
         """Lets a cell stand for the byte with these bits, for all blocks alike."""
         cells = tuple(c for c, _ in self.forms[bits[0] >> 9])
-        rows = []
+        rows = []  # of sums of bits of the byte: the form as a vector, which bits these are, and the complement
         for j, b in enumerate(bits):
             if b < 2 or tuple(c for c, _ in self.forms[b >> 9]) != cells:
                 raise Unproved("the bits of %s depend on different cells" % self.names[cell])
@@ -416,7 +426,7 @@ class Domain:
             echelon.append((v & -v, v, mask, complement))
         self.by_cells.setdefault(cells, []).append((cell, echelon))
         self.definitions[cell], self.defined_by[cell] = bits, cells
-        self.alike.pop(cells, None)
+        self.ways.pop(cells, None)
 
     def vector(self, form):
         return sum(t << 256 * i for i, (_, t) in enumerate(form))
@@ -442,7 +452,7 @@ class Domain:
         sum that has the same name."""
         form = self.forms[n]
         cells = tuple(c for c, _ in form)
-        known = self.alike.setdefault(cells, {})
+        known = self.ways.setdefault(cells, {})
         ways = known.get(n)
         if ways is None:
             ways = dict(self.named(form, cells))
@@ -500,7 +510,7 @@ class Domain:
             c = self.lookups[key] = self.affine(*key)
         if c is None:
             cell, tables = self.common(key[1])
-            c = self.lookups[key] = self.byte_of_cell(cell, 0, looked_up(table, tuple(tables)))
+            c = self.lookups[key] = self.byte_of_cell(cell, 0, composed(table, tuple(tables)))
         return self.byte_in_block(c, block)
 
     def affine(self, table, index):
@@ -537,6 +547,7 @@ class Domain:
 
     def name(self, byte, name):
         """The cell that stands for this byte: made if there is none."""
+        self.one_block(self.bits(byte))  # so that without the block each is a form
         bits = tuple(b & ~BLOCK for b in self.bits(byte))
         try:
             cell, tables = self.common(bits)
@@ -544,9 +555,7 @@ class Domain:
                 return cell
         except Unproved:
             pass
-        depends = 0
-        for b in bits:
-            depends |= self.depends_on(b)
+        depends = functools.reduce(int.__or__, map(self.depends_on, bits))
         cell = self.cell(name, any(self.has_block[b >> 9] for b in bits if b > 1), depends)
         self.define(cell, bits)
         return cell

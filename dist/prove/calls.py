@@ -1,7 +1,8 @@
 """How one call is proved: what it is given, what it has to leave, and what may be left of it on the stack.
 
 A statement is a Call, written like the call in C: its arguments are numbers and Buffers, and each Buffer says what it has to hold when the
-call returns. A Buffer that says nothing may only be read. So "writes nothing but what it says" is part of each statement."""
+call returns. A Buffer that says nothing may only be read. So "writes nothing but what it says" is part of each statement. What a machine
+`m` keeps is said where it is made (machine.Machine)."""
 from bits import DATA, KEY, LOST, Pause, Unproved
 from machine import ROOM, Pointer, Question, Region
 from native import Native
@@ -27,8 +28,9 @@ class Call:
     `refused`, and Buffers are what `refused_after` says by their names, or what they were. `assumes` are bytes of public data that are not
     all zero. `later` turns bytes of the key's own domain into those of arbitrary round keys, for a call that expands a key (see aes.py).
     `keystream` is what is added to the data, and `plain` what is secret of the data and the results; `may_stay` says how many bytes of a
-    kind may be left besides. `counter` is a word of unknown value (aes.CounterWord), and `room` what may be asked of that of GCM (see gcm.py).
-    Calls that share `paths` have to run the same instructions whenever they return the same."""
+    kind may be left besides. `counter` is a word of unknown value (aes.CounterWord). `room`, for GCM's counter: the sums that say how much
+    keystream comes before it wraps around (gcm.py, any_counter), and how much the text needs. Calls that share `paths` have to run the same
+    instructions whenever they return the same."""
 
     def __init__(self, name, arguments, status, size=4, steps=None, reveals=None, refused=None, refused_after=None, assumes=None,
                  later=None, counter=None, keystream=(), plain=(), may_stay=None, room=None, paths=None):
@@ -39,7 +41,7 @@ class Call:
         self.buffers = [a for a in arguments if isinstance(a, Buffer)]
 
 
-def prove(domain, program, call, seed=None, strict=True):
+def prove(domain, program, call, seed=None):
     """Proves a call for all answers to the questions that its branches ask: how far its buffers are apart, and whether a wrapped key or a
     tag is right. With a seed, for one key and data, on the processor too. The result is a machine after the call."""
     if len(domain.products) > MANY:
@@ -65,8 +67,7 @@ def prove(domain, program, call, seed=None, strict=True):
                 waiting += [other for other in both if not is_without_room(other)]
                 continue
             check(m, call)
-            if strict:
-                nothing_secret(m, call)
+            nothing_secret(m, call)
         return m
     m.native = Native(m, seed, call.counter)
     try:
@@ -79,8 +80,9 @@ def prove(domain, program, call, seed=None, strict=True):
 
 
 def is_without_room(m):
-    """Whether a branch was taken as if the counter wrapped in the text, which isn't so in a statement with `room`."""
-    return m.room and [m.placed.get((ROOM, m.room[1], what)) for what in ("above", "equal")] == [0, 0]
+    """Whether the answers say that the room for keystream is neither more than the text needs nor as much, so the counter wraps around in
+    the text: a statement with `room` is about the others."""
+    return m.room and [m.answers.get((ROOM, m.room[1], what)) for what in ("above", "equal")] == [0, 0]
 
 
 def run(m, call, watches):
@@ -98,14 +100,14 @@ def check(m, call):
     right = True
     if call.reveals is not None:
         question = m.zero_flag(call.reveals)
-        if [q for q in m.placed if q[0] == "zero"] != [question]:
+        if [q for q in m.answers if q[0] == "zero"] != [question]:
             raise Unproved("reveals something else than whether the key or the tag is right")
-        right = m.placed[question]
+        right = m.answers[question]
     status = call.status if right else call.refused
     if status is not None and m.returned(call.size) != status:
         raise Unproved("returns %s and not %s" % (m.returned(call.size), status))
     if call.paths is not None:  # for each answer to how far buffers are apart
-        answers = {q: answer for q, answer in m.placed.items() if q[0] != "zero"}
+        answers = {q: answer for q, answer in m.answers.items() if q[0] != "zero"}
         if call.paths.setdefault((status, *sorted(answers.items())), m.path) != m.path:
             raise Unproved("runs other instructions than another call that returns %s" % status)
     m.results, m.unsaid = [], []
@@ -146,7 +148,7 @@ def step_by_step(steps):
         if m.done == len(steps):
             return
         where, want, new = steps[m.done]
-        if callable(want):
+        if callable(want):  # made before the code comes to it, so the code's products have the factors that it names (with_powers)
             want = m.want = m.want or want()
         if found(m, where, want):
             replaced, lost, on = {}, None, depends(m, *want) if where == "hash" else 0
@@ -160,7 +162,6 @@ def step_by_step(steps):
             if where == "hash":
                 lost = m.domain.opaque(LOST)
                 m.lost.add(lost)
-
             with_products = m.domain.with_products
             m.replace_bytes(lambda b: replaced.get(b, lost or b if b in with_products else b), m.domain, replaced.items())
             m.done, m.want, m.domain.factor_of = m.done + 1, None, {}
@@ -190,18 +191,19 @@ def depends(m, *bytes_):
         linear, products = domain.split(x)
         out, pairs = out | depends_bit(m, linear), pairs | products
     for number in domain.factors(pairs):
-        out |= depends_bit(m, domain.numbered(number))
+        out |= depends_bit(m, domain.numbered_bit(number))
     return out
 
 
-def cells(m, x):
+def cells_of_bit(m, x):
     """The cells of a bit, with their blocks."""
     return [(c, block if m.domain.of_block[c] else 0) for block, n in m.domain.parts(x) for c, _ in m.domain.forms[n]]
 
 
 def depends_bit(m, x, origins=True):
+    """The same of a bit; or, without `origins`, what its own cells are."""
     out = 0
-    for place in cells(m, x):
+    for place in cells_of_bit(m, x):
         out |= m.origins[place] if origins and place in m.origins else m.domain.depends[place[0]]
     return out
 
@@ -221,7 +223,7 @@ def tells(m, byte, names, plain):
             continue
         if not name and on & KEY and (on == KEY or depends_bit(m, x, False) & KEY):
             name = "key" if on == KEY else "inner"
-        kinds.add(name or ("plain" if not plain.isdisjoint(cells(m, x)) else "step" if on & KEY else "data"))
+        kinds.add(name or ("plain" if not plain.isdisjoint(cells_of_bit(m, x)) else "step" if on & KEY else "data"))
     return next((k for k in KINDS if k in kinds), None)
 
 
@@ -229,8 +231,9 @@ def left(m, call):
     """What is left of a call, in bytes: {(place, kind): [where]}, in the dead stack, by the offset from the stack pointer at the call, in
     bytes of a message that may be anything, and in registers."""
     bits = lambda bytes_: (x & ~1 for b in bytes_ if m.domain.symbolic(b) for x in m.domain.bits(b))
-    names = {x: name for name in ("result", "plain", "keystream") for x in bits(m.results if name == "result" else getattr(call, name))}
-    plain = {cell for x in bits(call.plain) if not depends_bit(m, x, False) & KEY for cell in cells(m, x)}
+    known = ("result", m.results), ("plain", call.plain), ("keystream", call.keystream)  # of what is several of these, it is the last
+    names = {x: name for name, bytes_ in known for x in bits(bytes_)}
+    plain = {cell for x in bits(call.plain) if not depends_bit(m, x, False) & KEY for cell in cells_of_bit(m, x)}
     places = [("stack", k - m.top, m.regions["stack"].content[k]) for k in range(m.lowest, m.top)]
     places += [("a message", k, b) for k, b in enumerate(m.unsaid)]
     places += [("registers", r, b) for r, v in m.general.items() for b in m.to_bytes(v, 8)]

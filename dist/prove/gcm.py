@@ -26,18 +26,14 @@ def padded(b):
     return [(b + ZEROS)[i:i + 16] for i in range(0, len(b), 16)]
 
 
-def threes(blocks, end=()):
-    """The groups of blocks whose products with powers of H are added at once; `end` comes into the last one if it has room."""
-    groups = [blocks[i:i + 3] for i in range(0, len(blocks), 3)]
-    if end and blocks and len(groups[-1]) < 3:
-        groups[-1] = groups[-1] + [end]
-    elif end:
-        groups.append([end])
-    return groups
+def threes(blocks):
+    """The groups of blocks whose products with powers of H are added at once."""
+    return [blocks[i:i + 3] for i in range(0, len(blocks), 3)]
 
 
 class Hashing:
-    """GHASH (6.4) from a value on, group by group; each value that depends on the key becomes an arbitrary block."""
+    """GHASH (6.4) from a value on, group by group; each value that depends on the key becomes an arbitrary block.
+    `plan` has the steps: the value before, the group, and the block that the value after it becomes; `made` counts these blocks."""
 
     def __init__(self, keyed, value, made=0):
         self.keyed, self.value, self.plan, self.made = keyed, value, [], made
@@ -81,9 +77,9 @@ class KeyedGcm(Keyed):
         self.nonce = [d.fresh("nonce byte %d" % i, PUBLIC) for i in range(12)]
         self.pre_counter = [d.fresh("J_0 byte %d" % i, KEY | PUBLIC) for i in range(12)]
         block = lambda name, depends: [d.fresh("%s byte %d" % (name, i), depends, True) for i in range(16)]
-        self.text, self.sealed, self.more, self.tag = (block(name, DATA) for name in ("text", "encrypted", "additional", "tag"))
+        self.text, self.sealed, self.tag = (block(name, DATA) for name in ("text", "encrypted", "tag"))
+        self.additional_bytes, self.long_nonce = block("additional", DATA), block("long nonce", PUBLIC)
         self.hash_value, self.rest = block("hash", KEY | DATA), block("rest", KEY | DATA)
-        self.long_nonce = block("long nonce", PUBLIC)
 
     def many(self, bytes_, count, start=0):
         """`count` bytes, in blocks from the place `start` on."""
@@ -120,8 +116,8 @@ class KeyedGcm(Keyed):
 
     # Nonces, counter blocks and texts.
     def nonce_of(self, length=12, counter=1, before=()):
-        """A nonce of 12 bytes, or one of another length (7.1, step 2) of which J_0 is of unknown value and its counter doesn't wrap in the
-        text, or J_0 ends in this number, and in these bytes before."""
+        """A nonce of 12 bytes, or one of another length (7.1, step 2). Then J_0 ends in the bytes `before` and in this counter; or, with
+        None, it has any value of which the counter doesn't wrap around in the text."""
         if length == 12:
             return PreCounter(self.nonce, 1, Hashing(self, ZEROS), [Buffer("nonce", self.nonce), 12])
         nonce = self.many(self.long_nonce, length)
@@ -133,7 +129,7 @@ class KeyedGcm(Keyed):
             hashing.end_as(self.counter_block(first, 0))
             return first
         bytes_ = self.pre_counter[:12 - len(before)] + list(before)
-        if before:  # a call may also encrypt the block that a counter of 64 bits would be next, and throw it away
+        if before:  # a batch may also encrypt the block after a carry into these bytes, and throw it away: its S-boxes have names then
             carried = bytes_[:8] + number(int.from_bytes(bytes(before), "big") + 1, 4) + number(0, 4)
             self.once(("stream", *carried), lambda: self.aes.cipher(carried, self.w))
         hashing.end_as(bytes_ + number(counter, 4))
@@ -169,7 +165,9 @@ class KeyedGcm(Keyed):
 
     def in_text(self, first, end):
         """For a text that ends at this place of the keystream: what a call may ask of J_0."""
-        return {} if first.counter is not None else {"room": (self.room, end), "counter": CounterWord("J_0 low", 0, NEVER, end // 16 + BATCH)}
+        if first.counter is not None:
+            return {}
+        return {"room": (self.room, end), "counter": CounterWord("J_0 low", 0, NEVER, end // 16 + BATCH)}
 
     def counter_block(self, first, i):
         """The block J_0 + i, the last 32 bits being a number of their own (inc_32, 6.2)."""
@@ -202,9 +200,9 @@ class KeyedGcm(Keyed):
     # Whole messages.
     def message_of(self, first, additional_length, text_length):
         """Additional data, an encrypted text, and GHASH of both."""
-        additional, sealed = self.many(self.more, additional_length), self.many(self.sealed, text_length)
+        additional, sealed = self.many(self.additional_bytes, additional_length), self.many(self.sealed, text_length)
         hashing = Hashing(self, ZEROS, first.hashing.made)
-        hashing.take(threes(padded(additional)) + threes(padded(sealed), self.lengths(additional_length, text_length)))
+        hashing.take(threes(padded(additional)) + threes(padded(sealed) + [self.lengths(additional_length, text_length)]))
         return Buffer("additional", additional), sealed, hashing
 
     def seal(self, additional_length, text_length, nonce=(), name="gcm_seal", first=None, **more):
@@ -291,7 +289,7 @@ class KeyedGcm(Keyed):
         """Takes a piece of the additional data .. DONE"""
         first = self.nonce_of(*UNKNOWN)
         state, hashing = self.any_state(ADDITIONAL, before, 0, first)
-        piece = self.many(self.more, count)
+        piece = self.many(self.additional_bytes, count)
         rest = self.absorbed(hashing, before % 16, piece)
         after = self.state(ADDITIONAL, before + count, 0, 0, hashing.value, rest, first)
         return self.on_message("additional", state, after, [Buffer("additional", piece), count], steps=hashing.steps)

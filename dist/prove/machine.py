@@ -31,7 +31,7 @@ Distance = namedtuple("Distance", "base other offset")  # the address of a buffe
 Number = namedtuple("Number", "base offset")  # 32 bits: a number of unknown value, plus a constant; higher bytes aren't known
 # So many bytes of which only this is known: they are the number `right` if all the differences are 0, else another one; zeros above.
 Verdict = namedtuple("Verdict", "right differences size")
-SIZES = {Pointer: 8, Distance: 8, Number: 4}  # how many bytes of these are known by their names
+NAMED_SIZES = {Pointer: 8, Distance: 8, Number: 4}  # how many bytes of these are known by their names
 
 # Operands; others are ints, and texts or tuples of these that only instructions of one machine have.
 Register = namedtuple("Register", "name size at", defaults=[0])  # at: the first byte; x86's ah, bh, ch and dh begin at byte 1
@@ -104,7 +104,7 @@ def kind(o, same):
 
 
 @functools.lru_cache(None)
-def place(index, significant):
+def number_of_entry(index, significant):
     """Which entry of a table a constant index means, by those of its bits that count."""
     return sum(bit << k for k, bit in enumerate(significant([index >> j & 1 for j in range(8)])))
 
@@ -192,16 +192,18 @@ class Machine:
         self.flags = dict.fromkeys("czso")
         self.next_address, self.last, self.steps, self.used = entry, entry, 0, {}
         self.externals = {program.symbols[n]: n for n in LIBC if n in program.symbols}
-        self.lost, self.origins, self.native, self.after_external = set(), {}, None, None
-        self.placed, self.may_reveal, self.assumed = {}, False, ()  # answers to questions, {flag: 0 or 1}; see calls.Call
+        self.lost = set()  # opaque bytes that may depend on the key: they count as such where they are left
+        self.origins = {}  # what a result depended on, by the (cell, block) that took its place (calls.step_by_step)
+        self.native, self.after_external = None, None  # for native.py
+        self.answers, self.may_reveal, self.assumed = {}, False, ()  # answers to questions, {flag: 0 or 1}; see calls.Call
         self.done, self.want = 0, None  # how many steps of a call were found, and what the next one looks for (calls.step_by_step)
         self.equalities = {}  # bytes that are one constant if another byte is 0, else another: (that byte, the constants)
-        self.written = (), 0
+        self.written = (), 0  # the list of bytes that was last written to, and where
         self.stale = set()  # bytes of the stack that may have been overwritten by others since they were written
         self.room = self.counter = None  # see calls.Call
         self.path = []
         self.enter(arguments)
-        self.top = self.lowest = self.general[self.stack_pointer].offset
+        self.top = self.lowest = self.general[self.stack_pointer].offset  # at the call; and the lowest place that was accessed
         self.entered = dict(self.general)
 
     def enter(self, arguments):
@@ -227,7 +229,7 @@ class Machine:
 
     def size_of(self, value):
         """How many bytes of a value are known by its name; None if it is bytes."""
-        return value.size if isinstance(value, Verdict) else SIZES.get(type(value))
+        return value.size if isinstance(value, Verdict) else NAMED_SIZES.get(type(value))
 
     def from_bytes(self, b):
         if max(b) < 256:
@@ -288,15 +290,15 @@ class Machine:
             counter = self.counter
             known = counter and r.base == counter.word and old.offset <= r.offset <= counter.last
             return r, {"c": int(old.offset < counter.wrap <= r.offset)} if known else {}
-        constant, rest = (x, y) if is_int(x) else (y, x)
-        if self.room and (constant, carry, *self.to_bytes(rest, size)) in self.room[0]:
+        fixed, rest = (x, y) if is_int(x) else (y, x)
+        if self.room and (fixed, carry, *self.to_bytes(rest, size)) in self.room[0]:
             return ROOM, {}
         try:
             bits, out = self.full_adder(self.bits(x, size), self.bits(y, size), carry)
-        except Unproved:
-            if not is_int(constant):
+        except Unproved:  # then nothing is kept of the sum but whether it is 0
+            if not is_int(fixed):
                 raise
-            zero = self.differences(rest, -constant - carry, size)
+            zero = self.differences(rest, -fixed - carry, size)
             return self.verdict(0, zero, size), {"c": SECRET, "z": self.zero_flag(zero), "s": SECRET, "o": SECRET}
         return self.unbits(bits), {"c": out if out < 2 else SECRET, "z": SECRET, "s": SECRET, "o": SECRET}
 
@@ -305,7 +307,7 @@ class Machine:
         4,096 bytes of memory, nor in its upper half. So they are ordered as their offsets are. (A counter isn't placed.)"""
         for a in addresses:
             region = isinstance(a, Pointer) and self.regions.get(a.base)
-            # (Of NULL with a count of 0 the header makes the address 16.)
+            # (An empty buffer may be at 16, which the header passes in the place of NULL: nothing before it counts.)
             if not region or not -4096 * bool(region.content) <= a.offset < 1 << 47:
                 return False
         return True
@@ -447,8 +449,8 @@ class Machine:
     def looked_up(self, table, indices, significant):
         """The bytes of a table, a tuple, at these indices, of whose bits `significant` gives those that count."""
         if max(indices) < 256:
-            places = [place(x, significant) for x in indices]
-            return [table[at] if at < len(table) else 0 for at in places]
+            numbers = [number_of_entry(x, significant) for x in indices]
+            return [table[at] if at < len(table) else 0 for at in numbers]
         if max(table) > 255:
             return [self.entry(table, significant(self.domain.bits(x))) for x in indices]
         memo = self.domain.entries.setdefault(table, {})
@@ -591,14 +593,14 @@ class Machine:
             self.domain.depends[c] & ~PUBLIC for b in flag[1:] for c in self.domain.cells(b))
         if flag == SECRET or flag[0] == "zero" and not (public or self.may_reveal):
             raise Unproved("a branch or a condition depends on the key or on data")
-        return self.by_place(flag)
+        return self.ask(flag)
 
-    def by_place(self, flag):
+    def ask(self, flag):
         """A flag that says how far two buffers are apart, or whether a wrapped key or a tag is right: a question. Both answers have to be
         proved (see calls.prove)."""
-        if flag not in self.placed:
+        if flag not in self.answers:
             raise Question(flag)
-        return self.placed[flag]
+        return self.answers[flag]
 
     def answered(self, flag, answer):
         """The same machine, where a flag has this value."""
@@ -606,7 +608,7 @@ class Machine:
         m.regions = {name: Region(r.content, r.writable, r.align) for name, r in self.regions.items()}
         m.general, m.vectors, m.flags, m.written = dict(self.general), list(self.vectors), dict(self.flags), ((), 0)
         m.entered, m.stale, m.path, m.want = dict(self.entered), set(self.stale), list(self.path), None
-        m.placed, m.origins = {**self.placed, flag: answer}, dict(self.origins)
+        m.answers, m.origins = {**self.answers, flag: answer}, dict(self.origins)
         return m
 
     # Running.

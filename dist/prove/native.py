@@ -13,7 +13,8 @@ from values import Values
 class Native:
     def __init__(self, machine, seed=None, counter=None, values=None, processor=None):
         """A call has values of its own, drawn by a seed, and a processor of its own; instructions by themselves share these."""
-        self.m, machine.by_place = machine, self.by_place
+        self.m = machine
+        machine.ask = self.ask  # instead of raising a Question
         self.values = values or Values(machine.domain, random.Random(seed), counter)
         self.processor = processor or PROCESSORS[type(machine)](machine.program.path)
         self.seen = [None] * len(machine.vectors)  # the vector registers as they were when they were last compared
@@ -52,14 +53,14 @@ class Native:
         known = [self.values.byte(b) for b in content]
         return bytes([x if b is None else b for b, x in zip(known, read())] if None in known else known)
 
-    def by_place(self, flag):
+    def ask(self, flag):
         """Answers what the machine can't: how far two buffers are apart, and whether a key or a tag is right, is known of one run."""
         if flag[0] == "zero":
             answer = all(self.values.full_byte(b) == 0 for b in flag[1:])
         else:
             distance, y, what = flag
             answer = self.values.word(distance) < y if what == "below" else self.values.word(distance) == y
-        return self.m.placed.setdefault(flag, int(answer))
+        return self.m.answers.setdefault(flag, int(answer))
 
     def watch(self, m):
         """Called after each instruction of the machine: the processor does the same one."""

@@ -249,7 +249,7 @@ class Task:
             for what, call in statements(keyed, self.options, self.part, self.parts):
                 self.case(what, lambda seed: keyed.proved(call, seed))
             self.calls = keyed.calls
-        self.ran, self.went = set(program.cache), program.went
+        self.ran, self.went = set(program.cache), program.went  # (what was decoded ran)
 
     def case(self, what, prove):
         start = time.process_time()

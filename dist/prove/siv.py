@@ -57,7 +57,8 @@ class KeyedSiv(KeyedGcm):
         self.own_stream = self.aes.cipher(counter + self.own_tag[4:15] + [self.highest], self.message_w)
 
     def stored(self, words):
-        """What set_key stores of such round keys: of each byte a linear function, and perhaps a constant."""
+        """What set_key stores of such round keys: of each byte a linear function, and perhaps a constant. (If a stored byte depended on
+        another one, what the code stores would be something else, and refused.)"""
         d = self.domain
         image = lambda x, byte: d.linear_image(x, lambda _: d.bits(byte), d)
         return [d.pack([image(x, b) for x in d.bits(s)]) for s, b in zip(self.struct[4:], sum(words, []))]
@@ -76,7 +77,7 @@ class KeyedSiv(KeyedGcm):
         few, hashing = len(additional) + len(text) <= FEW, Hashing(self, ZEROS)
         lengths = (little(8 * len(additional), 8) + little(8 * len(text), 8))[::-1]
         first, second = ([b[::-1] for b in padded(s)] for s in (additional, text))
-        groups = [[b] for b in first + second + [lengths]] if few else threes(first) + threes(second, lengths)
+        groups = [[b] for b in first + second + [lengths]] if few else threes(first) + threes(second + [lengths])
         return few, hashing.take(groups)
 
     def tagged(self, hashing):
@@ -98,7 +99,7 @@ class KeyedSiv(KeyedGcm):
 
     def seal(self, additional_length, text_length):
         """Encrypts `text_length` bytes in place under a nonce that the caller brings, and writes the tag .. (RFC 8452, 4). .. DONE"""
-        additional, text = self.many(self.more, additional_length), self.many(self.text, text_length)
+        additional, text = self.many(self.additional_bytes, additional_length), self.many(self.text, text_length)
         few, hashing = self.polyval(additional, text)
         block, any_block, tag = self.tagged(hashing)
 
@@ -116,7 +117,7 @@ class KeyedSiv(KeyedGcm):
     def open(self, additional_length, text_length):
         """Decrypts `text_length` bytes in place if the tag is right (RFC 8452, 5). The tag can be compared only once the text is decrypted,
         so a text that is refused is encrypted again: it is proved that it is, when the call returns, as it was. .. REFUSED; else DONE."""
-        additional, sealed = self.many(self.more, additional_length), self.many(self.sealed, text_length)
+        additional, sealed = self.many(self.additional_bytes, additional_length), self.many(self.sealed, text_length)
         text = self.many(self.text, text_length)
         few, hashing = self.polyval(additional, text)
         block, any_block, right = self.tagged(hashing)

@@ -8,7 +8,7 @@ class Values:
     def __init__(self, domain, random, counter=None):
         """`counter`: for counter mode, of which the initial counter block consists of words (see aes.CounterWord)."""
         self.domain, self.random, self.counter = domain, random, counter
-        self.cells, self.bytes, self.base = {}, {}, {}
+        self.cells, self.bytes, self.base = {}, {}, {}  # base: of regions, and of what has a name alone, by that name
 
     def cell(self, cell, block):
         d = self.domain
@@ -36,15 +36,15 @@ class Values:
             linear, pairs = d.split(x)
             for row, (a, group) in enumerate(d.row_keys):
                 columns = pairs >> 128 * row & (1 << 128) - 1
-                if columns and self.numbered(a):
-                    value ^= sum(self.numbered(group << 7 | k) for k in range(128) if columns >> k & 1) & 1
+                if columns and self.numbered_bit(a):
+                    value ^= sum(self.numbered_bit(group << 7 | k) for k in range(128) if columns >> k & 1) & 1
             return value ^ self.bit(linear)
         for block, n in d.parts(x):
             for c, t in d.forms[n]:
                 value ^= t >> self.cell(c, block) & 1
         return value
 
-    def numbered(self, number):
+    def numbered_bit(self, number):
         """The bit of a cell that has this number."""
         return self.cell(number >> 3 & 0xffffff, number >> 27) >> (number & 7) & 1
 

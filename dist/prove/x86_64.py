@@ -143,7 +143,7 @@ def arithmetic(m, name, a, b=1):
 
 @TABLE.of("and", "or", "xor", "test", "andn")
 def logic(m, name, to, a, b=None):
-    x, y = (m.get(to), m.get(a)) if b is None else (m.get(b), m.get(a))
+    x, y = (m.get(to), m.get(a)) if b is None else (m.get(b), m.get(a))  # andn: b and not a
     if name == "xor" and to == a:
         x = y = 0
     r = m.logic({"test": "and", "andn": "and not"}.get(name, name), x, y, to.size)
@@ -328,9 +328,9 @@ def ptest(m, name, a, b):
 @TABLE.of("pmovmskb")
 def pmovmskb(m, name, to, source):
     b = m.read(source)
-    known = [m.equalities.get(x) for x in b]
     if max(b) < 256:
         return m.put(to, sum((x >> 7) << k for k, x in enumerate(b)))
+    known = [m.equalities.get(x) for x in b]
     if len(known) != 16 or any(k is None or k[1:] != (255, 0) for k in known):
         raise Unproved("instruction not covered")
     m.put(to, m.verdict(0xffff, [k[0] for k in known], 2))
