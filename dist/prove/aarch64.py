@@ -5,7 +5,7 @@ import functools
 import re
 from collections import namedtuple
 
-from bits import LOST, Unproved
+from bits import LOST, Undefined, Unproved
 from machine import (RETURN_ADDRESS, SECRET, Instruction, Machine, Memory, Register, Table, Vector, constant, form, interleaved, is_int,
                      joined, lanes)
 
@@ -167,6 +167,8 @@ def hint(m, name, number):
 def select(m, name, to, a, b, code):
     try:
         taken = m.condition(code)
+    except Undefined:
+        raise
     except Unproved:  # the choice isn't a branch
         return m.put(to, m.lost_bytes(to.size))
     v = m.get(a if taken else b)
@@ -180,7 +182,7 @@ def select(m, name, to, a, b, code):
 # Numbers.
 @TABLE.of("add", "adds")
 def add(m, name, to, a, b):
-    """A sum that isn't needed may have carries of which nothing is known, or bytes that nobody wrote. Nothing may be computed with it."""
+    """A sum that isn't needed may have carries of which nothing is known. Nothing may be computed with it."""
     if isinstance(to, Vector):
         return m.write(to, list(map(m.add_byte, m.read(a), m.read(b))))
     x, y = m.get(a), m.get(b)
@@ -188,8 +190,8 @@ def add(m, name, to, a, b):
         return m.set_flags(**m.compared(x, -y, to.size))  # z is set if x is -y
     try:
         r, flags = m.plus(x, y, 0, to.size)
-    except Unproved:
-        if tuple not in (type(x), type(y)):
+    except Unproved as e:
+        if isinstance(e, Undefined) or tuple not in (type(x), type(y)):
             raise
         r, flags = m.lost_bytes(to.size), dict.fromkeys("czso", SECRET)
     if name == "adds":

@@ -34,6 +34,10 @@ class Unproved(Exception):
     """Something that this program can't prove, or that is wrong."""
 
 
+class Undefined(Unproved):
+    """The same: a byte or a flag that nobody wrote, or of which nothing is known."""
+
+
 class Pause(Unproved):
     """A call is about to compute with a byte of which only the name is known. If it expands a key, it began in the key's domain, and goes
     on in that of round keys, where the byte is known (aes.py, go_on)."""
@@ -120,7 +124,7 @@ class Domain:
         if self.bits_of[byte] is None:
             if self.opaque_of[byte] not in (UNDEFINED, LOST):
                 raise Pause("computes with a byte of which only the name is known: " + self.describe(byte))
-            raise Unproved("computes with a byte that is undefined: " + self.describe(byte))
+            raise Undefined("computes with a byte that is undefined: " + self.describe(byte))
         return self.bits_of[byte]
 
     def cell_of(self, byte):

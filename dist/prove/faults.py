@@ -76,6 +76,8 @@ FAULTS = {
          r"\1\tleaq\t.Lstatic.0(%rip), %rax\n\tshrq\t$32, %rax\n\tje\t77f\n\tmovb\t$1, (%rdi)\n77:\n", "blocks encrypt 2"),
         ("a function that another library may have", BLOCKS, ENTRY,
          r"\1\t.weak\thook\n\tmovq\thook@GOTPCREL(%rip), %rax\n\ttestq\t%rax, %rax\n\tje\t77f\n\tcallq\t*%rax\n77:\n", "blocks encrypt 2"),
+        ("a function of its own that another library may have", BLOCKS, r'(callq\t)"(aes_permute::blocks::process_on_lanes.*)"',
+         r'.weak\t"\2"\n\t\1"\2"', "blocks encrypt 2"),
         ("an address before an empty buffer", BLOCKS, ENTRY,
          r"\1\tleaq\t-32(%rsi), %rax\n\tcmpq\t%rsi, %rax\n\tjb\t77f\n\tmovb\t$1, (%rdi)\n77:\n", "blocks encrypt 0"),
         ("an instruction that not all processors have", BLOCKS, ENTRY, r"\1\tvpxor\t%xmm0, %xmm0, %xmm0\n", "blocks encrypt 2"),

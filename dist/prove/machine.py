@@ -24,7 +24,7 @@ import struct
 import subprocess
 from collections import namedtuple
 
-from bits import PUBLIC, Pause, Unproved
+from bits import PUBLIC, Pause, Undefined, Unproved
 
 Pointer = namedtuple("Pointer", "base offset")  # base: the name of a region, or of a register's value before the call
 Distance = namedtuple("Distance", "base other offset")  # the address of a buffer, less that of another, plus a constant
@@ -583,7 +583,7 @@ class Machine:
         if flag in (0, 1):
             return int(flag)
         if flag is None:
-            raise Unproved("a branch or a condition depends on an undefined flag")
+            raise Undefined("a branch or a condition depends on an undefined flag")
         if flag[0] == "not":
             return 1 - self.decide(flag[1])
         if self.assumed and flag[0] == "zero" and set(flag[1:]) == set(self.assumed):
