@@ -191,9 +191,11 @@ class Keyed:
     def counter_blocks(self):
         d = self.domain
 
-        def make():  # (values.py knows these cells by their names)
-            high = [[d.fresh("counter byte %d" % (i + k), PUBLIC) for i in range(8)] for k in (0, 16)]
+        def make():
+            high = [[d.fresh("counter byte %d" % i, PUBLIC) for i in range(8)] for _ in range(2)]
             low = [d.fresh("counter byte %d" % i, PUBLIC, True) for i in range(8, 16)]
+            for word, bytes_ in (Pointer("counter high", 0), high[0]), (Pointer("counter high", 1), high[1]), (None, low):
+                d.of_words.update((d.cell_of(b)[0], (word, 7 - i)) for i, b in enumerate(bytes_))
             d.words["counter high"] = lambda offset, k: d.bits(high[offset][7 - k]) if offset in (0, 1) else None
             data = [d.fresh("data byte %d" % i, DATA, True) for i in range(16)]
             return low, [self.aes.cipher(h + low, self.w) for h in high], data

@@ -70,6 +70,7 @@ class Domain:
         self.opaque_names, self.opaque_of = {}, {}
         # Of a word of unknown value, by its name: a function from an offset and k to the bits of byte k of their sum, or None.
         self.words = {}
+        self.of_words = {}  # cells that are bytes of a word: (a Pointer, or None for the low word of a call's counter, which byte)
         self.numbers = {}  # cells of numbers that are one more in each block: (which byte, all bytes, the lowest first)
         # Names for sums (`define`): by the cells of sums, the cells that have names and the ways to write a sum (`single`); and by the cell
         # with a name, the bits that it stands for and their cells.

@@ -12,11 +12,9 @@ class Values:
 
     def cell(self, cell, block):
         d = self.domain
-        if d.names[cell].startswith("counter byte "):
-            i = int(d.names[cell].split()[2])
-            low = 8 <= i < 16
-            place = (self.counter.word, self.counter.first + block - 1) if low else ("counter high", i // 16)
-            return self.word(Pointer(*place)) >> 8 * (7 - i % 8) & 255
+        if cell in d.of_words:
+            word, k = d.of_words[cell]
+            return self.word(word or Pointer(self.counter.word, self.counter.first + block - 1)) >> 8 * k & 255
         if cell in d.numbers and block > 1:
             k, number = d.numbers[cell]
             return sum(self.cell(d.cell_of(b)[0], 1) << 8 * j for j, b in enumerate(number)) + block - 1 >> 8 * k & 255
