@@ -5,7 +5,7 @@ turns out as a sum of bits of one byte of a round key, or of its InvMixColumns. 
 round keys that are arbitrary bytes. So they are proved for any round keys, and thus for those of any key."""
 from collections import namedtuple
 
-from bits import DATA, KEY, LOST, ONES, PUBLIC, Domain, Unproved, linear_bits
+from bits import BLOCK, DATA, KEY, LOST, ONES, PUBLIC, Domain, Unproved, linear_bits
 from calls import ANY, Buffer, Call, prove
 from machine import Pointer, Verdict
 from standards import ICV1, ICV2, Aes, number
@@ -52,8 +52,8 @@ class Keyed:
     def bit_for_any(self, x):
         if x < 2:
             return x
-        ways = [(c, t) for c, t in self.key_domain.single(x >> 9).items() if c in self.meaning]
-        if not ways:
+        ways = [] if x & BLOCK else [(c, t) for c, t in self.key_domain.single(x >> 9).items() if c in self.meaning]
+        if not ways:  # also of a sum of products, in the key's domain the only bit with such a mark
             raise Unproved("a stored bit is not a sum of bits of one byte of a round key or of its InvMixColumns")
         cell, table = ways[0]
         out = (table ^ x) & 1

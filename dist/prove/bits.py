@@ -538,7 +538,11 @@ class Domain:
     def byte_in_block(self, byte, block):
         if not 0 <= block < PRODUCT:
             raise Unproved("a block whose number is too large")
-        return self.pack([self.in_block(b, block) for b in self.bits_of[byte]]) if self.symbolic(byte) else byte
+        if not self.symbolic(byte):
+            return byte
+        if not block and any(self.has_block[b >> 9] for b in self.bits_of[byte] if b > 1):
+            raise Unproved("a block before the first one")  # 0 means cells of keys alone
+        return self.pack([self.in_block(b, block) for b in self.bits_of[byte]])
 
     def substitute(self, byte, table, name):
         """table[byte] for a table of 256 bytes; gives the byte a name if it has none."""

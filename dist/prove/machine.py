@@ -271,8 +271,7 @@ class Machine:
             return a + b & WORD
         if isinstance(a, Number):
             return Number(a.base, a.offset + b & 0xffffffff)
-        b &= WORD
-        return Pointer(a.base, a.offset + (b - (1 << 64) if b >> 63 else b))
+        return Pointer(a.base, (a.offset + b + (1 << 63) & WORD) - (1 << 63))
 
     # Sums and differences with their flags: (result, {flag: value}).
     def plus(self, x, y, carry, size):
@@ -288,7 +287,8 @@ class Machine:
         if (is_pointer(x) or is_pointer(y)) and size == 8:
             old, r = x if is_pointer(x) else y, self.offset(self.offset(x, carry), y)
             counter = self.counter
-            known = counter and r.base == counter.word and old.offset <= r.offset <= counter.last
+            by = (y if is_pointer(x) else x) + carry  # so many more, where neither has wrapped around
+            known = counter and r.base == counter.word and 0 <= old.offset and old.offset + by == r.offset <= counter.last
             return r, {"c": int(old.offset < counter.wrap <= r.offset)} if known else {}
         fixed, rest = (x, y) if is_int(x) else (y, x)
         if self.room and (fixed, carry, *self.to_bytes(rest, size)) in self.room[0]:
