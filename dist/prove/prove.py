@@ -302,10 +302,11 @@ def alone(path, machine, used):
 
 
 def compare_forms(pool, tasks):
-    """Compares each form of an instruction that was used; (how many there are, the machine and the form of those that lack it)."""
+    """Compares each form of an instruction that was used; (how many there are, the machine and the form of those that lack it, how often
+    a processor differed)."""
     forms = {(task.machine, form): (task.path, address) for task in tasks for form, address in task.used.items()}
     in_calls = {(task.machine, form) for task in tasks for form in task.compared}
-    programs, lacking = {}, []
+    programs, lacking, differed = {}, [], 0
     for (machine, form), (path, address) in forms.items():
         programs.setdefault((path, machine), {})[form] = address
     futures = [(pool.submit(alone, path, machine, dict(part)), path, machine) for (path, machine), used in programs.items()
@@ -315,7 +316,8 @@ def compare_forms(pool, tasks):
         lacking += [(machine, form) for form in sorted(without) if (machine, form) not in in_calls]
         if fault:
             print("%s: NOT PROVED: %s" % (path, fault), flush=True)
-    return len(forms), lacking
+            differed += 1
+    return len(forms), lacking, differed
 
 
 def say_what_ran(tasks, options):
@@ -386,8 +388,8 @@ def main():
             print("%s: %d proved, %d failed, %.0f s" % (task.name, task.proved, task.failed, task.seconds), flush=True)
             proved, failed, vectors = proved + task.proved, failed + task.failed, vectors + task.vectors
             tasks.append(task)
-        forms, lacking = compare_forms(pool, tasks)
-    failed += say_what_ran(tasks, options)
+        forms, lacking, differed = compare_forms(pool, tasks)
+    failed += differed + say_what_ran(tasks, options)
     print("%d forms of instructions; the processor agreed on all but: %s" % (
         forms, ", ".join("%s of %s" % (form, machine.__name__) for machine, form in lacking) or "none"))
     # Where there is a processor, a form that wasn't compared with it counts as one that failed.
