@@ -125,8 +125,11 @@ def check(m, call):
 
 
 def nothing_secret(m, call):
+    """Nothing at all may be left in registers, but for the status."""
     for (place, k), where in m.left.items():
-        if place != "registers" and k not in MAY_STAY and len(where) > call.may_stay.get(k, 0):
+        if place == "registers":
+            raise Unproved("leaves %d bytes in registers (%s), in %s" % (len(where), k, ", ".join(sorted(set(where)))))
+        if k not in MAY_STAY and len(where) > call.may_stay.get(k, 0):
             raise Unproved("leaves %d bytes in %s (%s), from %d to %d" % (len(where), place, k, where[0], where[-1]))
 
 

@@ -40,6 +40,7 @@ FAULTS = {
         ("zeros in the code, which write to an address", BLOCKS, r"addq\t\$4, %rdi", ".zero\t32\n\taddq\t$4, %rdi", "blocks encrypt 2"),
         ("an aligned load of the caller's blocks", LANES, r"movdqu\t\((%rdx,%rbx)\), ", r"movdqa\t(\1), ", "blocks encrypt 2"),
         ("a register not saved", BLOCKS, r"\tpushq\t%rbx\n", "\tpushq\t%rax\n", "blocks encrypt 2"),
+        ("a vector register not emptied", BLOCKS, r"\tpxor\t%xmm5, %xmm5\n\tpxor\t%xmm6, %xmm6\n", "\tpxor\t%xmm6, %xmm6\n", "blocks encrypt 2"),
         ("the stack pointer not restored", BLOCKS, r"addq\t\$8, %rsp", "addq\t$16, %rsp", "blocks encrypt 2"),
         ("an instruction not covered", BLOCKS, ENTRY, r"\1\tcpuid\n", "blocks encrypt 2"),
         ("code that runs before all calls", WIPE, ENTRY, "\\1\t.pushsection\t.init_array,\"aw\"\n\t.quad\t0\n\t.popsection\n", "wipe"),

@@ -7010,6 +7010,25 @@
 	#APP
 	#NO_APP
 	addi	sp, sp, 32
+	vsetvli	t0, zero, e8, m8, ta, ma
+	vmv.v.i	v0, 0
+	vmv.v.i	v8, 0
+	vmv.v.i	v16, 0
+	vmv.v.i	v24, 0
+	li	a1, 0
+	li	a2, 0
+	li	a3, 0
+	li	a4, 0
+	li	a5, 0
+	li	a6, 0
+	li	a7, 0
+	li	t0, 0
+	li	t1, 0
+	li	t2, 0
+	li	t3, 0
+	li	t4, 0
+	li	t5, 0
+	li	t6, 0
 	ret
 .LBB15_4:
 	#APP
@@ -7019,6 +7038,25 @@
 	#APP
 	#NO_APP
 	addi	sp, sp, 32
+	vsetvli	t0, zero, e8, m8, ta, ma
+	vmv.v.i	v0, 0
+	vmv.v.i	v8, 0
+	vmv.v.i	v16, 0
+	vmv.v.i	v24, 0
+	li	a1, 0
+	li	a2, 0
+	li	a3, 0
+	li	a4, 0
+	li	a5, 0
+	li	a6, 0
+	li	a7, 0
+	li	t0, 0
+	li	t1, 0
+	li	t2, 0
+	li	t3, 0
+	li	t4, 0
+	li	t5, 0
+	li	t6, 0
 	ret
 .Lfunc_end15:
 	.size	"aes_cipher::zeroize::elements::zeroize_elements::<#3149b2a5f931b1fc>", .Lfunc_end15-"aes_cipher::zeroize::elements::zeroize_elements::<#3149b2a5f931b1fc>"
@@ -15139,6 +15177,25 @@ fotsgure_aes_add_keystream_with:        # @fotsgure_aes_add_keystream_with
 	ld	s5, 248(sp)                     # 8-byte Folded Reload
 	ld	s6, 240(sp)                     # 8-byte Folded Reload
 	addi	sp, sp, 304
+	vsetvli	t0, zero, e8, m8, ta, ma
+	vmv.v.i	v0, 0
+	vmv.v.i	v8, 0
+	vmv.v.i	v16, 0
+	vmv.v.i	v24, 0
+	li	a1, 0
+	li	a2, 0
+	li	a3, 0
+	li	a4, 0
+	li	a5, 0
+	li	a6, 0
+	li	a7, 0
+	li	t0, 0
+	li	t1, 0
+	li	t2, 0
+	li	t3, 0
+	li	t4, 0
+	li	t5, 0
+	li	t6, 0
 	ret
 .Lfunc_end32:
 	.size	fotsgure_aes_add_keystream_with, .Lfunc_end32-fotsgure_aes_add_keystream_with
@@ -15220,6 +15277,25 @@ fotsgure_aes_encrypt_blocks_with:       # @fotsgure_aes_encrypt_blocks_with
 	ld	s3, 248(sp)                     # 8-byte Folded Reload
 	ld	s4, 240(sp)                     # 8-byte Folded Reload
 	addi	sp, sp, 288
+	vsetvli	t0, zero, e8, m8, ta, ma
+	vmv.v.i	v0, 0
+	vmv.v.i	v8, 0
+	vmv.v.i	v16, 0
+	vmv.v.i	v24, 0
+	li	a1, 0
+	li	a2, 0
+	li	a3, 0
+	li	a4, 0
+	li	a5, 0
+	li	a6, 0
+	li	a7, 0
+	li	t0, 0
+	li	t1, 0
+	li	t2, 0
+	li	t3, 0
+	li	t4, 0
+	li	t5, 0
+	li	t6, 0
 	ret
 .Lfunc_end33:
 	.size	fotsgure_aes_encrypt_blocks_with, .Lfunc_end33-fotsgure_aes_encrypt_blocks_with
@@ -15240,6 +15316,25 @@ fotsgure_aes_set_key:                   # @fotsgure_aes_set_key
 	srli	a0, a0, 32
 	ld	ra, 8(sp)                       # 8-byte Folded Reload
 	addi	sp, sp, 16
+	vsetvli	t0, zero, e8, m8, ta, ma
+	vmv.v.i	v0, 0
+	vmv.v.i	v8, 0
+	vmv.v.i	v16, 0
+	vmv.v.i	v24, 0
+	li	a1, 0
+	li	a2, 0
+	li	a3, 0
+	li	a4, 0
+	li	a5, 0
+	li	a6, 0
+	li	a7, 0
+	li	t0, 0
+	li	t1, 0
+	li	t2, 0
+	li	t3, 0
+	li	t4, 0
+	li	t5, 0
+	li	t6, 0
 	ret
 .Lfunc_end34:
 	.size	fotsgure_aes_set_key, .Lfunc_end34-fotsgure_aes_set_key
@@ -15251,6 +15346,25 @@ fotsgure_aes_set_key:                   # @fotsgure_aes_set_key
 fotsgure_aes_version:                   # @fotsgure_aes_version
 # %bb.0:                                # %start
 	li	a0, 300
+	vsetvli	t0, zero, e8, m8, ta, ma
+	vmv.v.i	v0, 0
+	vmv.v.i	v8, 0
+	vmv.v.i	v16, 0
+	vmv.v.i	v24, 0
+	li	a1, 0
+	li	a2, 0
+	li	a3, 0
+	li	a4, 0
+	li	a5, 0
+	li	a6, 0
+	li	a7, 0
+	li	t0, 0
+	li	t1, 0
+	li	t2, 0
+	li	t3, 0
+	li	t4, 0
+	li	t5, 0
+	li	t6, 0
 	ret
 .Lfunc_end35:
 	.size	fotsgure_aes_version, .Lfunc_end35-fotsgure_aes_version
@@ -15301,6 +15415,25 @@ fotsgure_aes_key_length:                # @fotsgure_aes_key_length
 # %bb.2:                                # %then.1.i
 	mv	a0, a1
 .LBB37_3:                               # %"aes_c::kept::fotsgure_aes_key_length.exit"
+	vsetvli	t0, zero, e8, m8, ta, ma
+	vmv.v.i	v0, 0
+	vmv.v.i	v8, 0
+	vmv.v.i	v16, 0
+	vmv.v.i	v24, 0
+	li	a1, 0
+	li	a2, 0
+	li	a3, 0
+	li	a4, 0
+	li	a5, 0
+	li	a6, 0
+	li	a7, 0
+	li	t0, 0
+	li	t1, 0
+	li	t2, 0
+	li	t3, 0
+	li	t4, 0
+	li	t5, 0
+	li	t6, 0
 	ret
 .Lfunc_end37:
 	.size	fotsgure_aes_key_length, .Lfunc_end37-fotsgure_aes_key_length
@@ -15380,6 +15513,25 @@ fotsgure_aes_cbc_encrypt:               # @fotsgure_aes_cbc_encrypt
 	ld	s5, 24(sp)                      # 8-byte Folded Reload
 	ld	s6, 16(sp)                      # 8-byte Folded Reload
 	addi	sp, sp, 80
+	vsetvli	t0, zero, e8, m8, ta, ma
+	vmv.v.i	v0, 0
+	vmv.v.i	v8, 0
+	vmv.v.i	v16, 0
+	vmv.v.i	v24, 0
+	li	a1, 0
+	li	a2, 0
+	li	a3, 0
+	li	a4, 0
+	li	a5, 0
+	li	a6, 0
+	li	a7, 0
+	li	t0, 0
+	li	t1, 0
+	li	t2, 0
+	li	t3, 0
+	li	t4, 0
+	li	t5, 0
+	li	t6, 0
 	ret
 .Lfunc_end38:
 	.size	fotsgure_aes_cbc_encrypt, .Lfunc_end38-fotsgure_aes_cbc_encrypt
@@ -15452,6 +15604,25 @@ fotsgure_aes_encrypt_blocks:            # @fotsgure_aes_encrypt_blocks
 	ld	s3, 8(sp)                       # 8-byte Folded Reload
 	ld	s4, 0(sp)                       # 8-byte Folded Reload
 	addi	sp, sp, 48
+	vsetvli	t0, zero, e8, m8, ta, ma
+	vmv.v.i	v0, 0
+	vmv.v.i	v8, 0
+	vmv.v.i	v16, 0
+	vmv.v.i	v24, 0
+	li	a1, 0
+	li	a2, 0
+	li	a3, 0
+	li	a4, 0
+	li	a5, 0
+	li	a6, 0
+	li	a7, 0
+	li	t0, 0
+	li	t1, 0
+	li	t2, 0
+	li	t3, 0
+	li	t4, 0
+	li	t5, 0
+	li	t6, 0
 	ret
 .Lfunc_end39:
 	.size	fotsgure_aes_encrypt_blocks, .Lfunc_end39-fotsgure_aes_encrypt_blocks
@@ -15516,6 +15687,25 @@ fotsgure_aes_encrypt_blocks_to:         # @fotsgure_aes_encrypt_blocks_to
 	j	.LBB40_14
 .LBB40_8:
 	li	a0, 3
+	vsetvli	t0, zero, e8, m8, ta, ma
+	vmv.v.i	v0, 0
+	vmv.v.i	v8, 0
+	vmv.v.i	v16, 0
+	vmv.v.i	v24, 0
+	li	a1, 0
+	li	a2, 0
+	li	a3, 0
+	li	a4, 0
+	li	a5, 0
+	li	a6, 0
+	li	a7, 0
+	li	t0, 0
+	li	t1, 0
+	li	t2, 0
+	li	t3, 0
+	li	t4, 0
+	li	t5, 0
+	li	t6, 0
 	ret
 .LBB40_9:                               # %apart.2.i.i.i.i.i.i.i
 	mv	s2, a0
@@ -15572,6 +15762,25 @@ fotsgure_aes_encrypt_blocks_to:         # @fotsgure_aes_encrypt_blocks_to
 	ld	s4, 0(sp)                       # 8-byte Folded Reload
 	addi	sp, sp, 48
 	mv	a0, a4
+	vsetvli	t0, zero, e8, m8, ta, ma
+	vmv.v.i	v0, 0
+	vmv.v.i	v8, 0
+	vmv.v.i	v16, 0
+	vmv.v.i	v24, 0
+	li	a1, 0
+	li	a2, 0
+	li	a3, 0
+	li	a4, 0
+	li	a5, 0
+	li	a6, 0
+	li	a7, 0
+	li	t0, 0
+	li	t1, 0
+	li	t2, 0
+	li	t3, 0
+	li	t4, 0
+	li	t5, 0
+	li	t6, 0
 	ret
 .Lfunc_end40:
 	.size	fotsgure_aes_encrypt_blocks_to, .Lfunc_end40-fotsgure_aes_encrypt_blocks_to
@@ -15620,6 +15829,25 @@ fotsgure_aes_wrap:                      # @fotsgure_aes_wrap
 	addi	sp, sp, 32
 .LBB41_3:                               # %"aes_c::wrapping::fotsgure_aes_wrap.exit"
 	mv	a0, a6
+	vsetvli	t0, zero, e8, m8, ta, ma
+	vmv.v.i	v0, 0
+	vmv.v.i	v8, 0
+	vmv.v.i	v16, 0
+	vmv.v.i	v24, 0
+	li	a1, 0
+	li	a2, 0
+	li	a3, 0
+	li	a4, 0
+	li	a5, 0
+	li	a6, 0
+	li	a7, 0
+	li	t0, 0
+	li	t1, 0
+	li	t2, 0
+	li	t3, 0
+	li	t4, 0
+	li	t5, 0
+	li	t6, 0
 	ret
 .Lfunc_end41:
 	.size	fotsgure_aes_wrap, .Lfunc_end41-fotsgure_aes_wrap
@@ -15668,6 +15896,25 @@ fotsgure_aes_wrap_padded:               # @fotsgure_aes_wrap_padded
 	addi	sp, sp, 32
 .LBB42_3:                               # %"aes_c::wrapping::fotsgure_aes_wrap_padded.exit"
 	mv	a0, a6
+	vsetvli	t0, zero, e8, m8, ta, ma
+	vmv.v.i	v0, 0
+	vmv.v.i	v8, 0
+	vmv.v.i	v16, 0
+	vmv.v.i	v24, 0
+	li	a1, 0
+	li	a2, 0
+	li	a3, 0
+	li	a4, 0
+	li	a5, 0
+	li	a6, 0
+	li	a7, 0
+	li	t0, 0
+	li	t1, 0
+	li	t2, 0
+	li	t3, 0
+	li	t4, 0
+	li	t5, 0
+	li	t6, 0
 	ret
 .Lfunc_end42:
 	.size	fotsgure_aes_wrap_padded, .Lfunc_end42-fotsgure_aes_wrap_padded
@@ -15809,6 +16056,25 @@ fotsgure_aes_cbc_decrypt:               # @fotsgure_aes_cbc_decrypt
 	ld	s7, 1080(sp)                    # 8-byte Folded Reload
 	ld	s8, 1072(sp)                    # 8-byte Folded Reload
 	addi	sp, sp, 1152
+	vsetvli	t0, zero, e8, m8, ta, ma
+	vmv.v.i	v0, 0
+	vmv.v.i	v8, 0
+	vmv.v.i	v16, 0
+	vmv.v.i	v24, 0
+	li	a1, 0
+	li	a2, 0
+	li	a3, 0
+	li	a4, 0
+	li	a5, 0
+	li	a6, 0
+	li	a7, 0
+	li	t0, 0
+	li	t1, 0
+	li	t2, 0
+	li	t3, 0
+	li	t4, 0
+	li	t5, 0
+	li	t6, 0
 	ret
 .Lfunc_end43:
 	.size	fotsgure_aes_cbc_decrypt, .Lfunc_end43-fotsgure_aes_cbc_decrypt
@@ -15881,6 +16147,25 @@ fotsgure_aes_decrypt_blocks:            # @fotsgure_aes_decrypt_blocks
 	ld	s3, 8(sp)                       # 8-byte Folded Reload
 	ld	s4, 0(sp)                       # 8-byte Folded Reload
 	addi	sp, sp, 48
+	vsetvli	t0, zero, e8, m8, ta, ma
+	vmv.v.i	v0, 0
+	vmv.v.i	v8, 0
+	vmv.v.i	v16, 0
+	vmv.v.i	v24, 0
+	li	a1, 0
+	li	a2, 0
+	li	a3, 0
+	li	a4, 0
+	li	a5, 0
+	li	a6, 0
+	li	a7, 0
+	li	t0, 0
+	li	t1, 0
+	li	t2, 0
+	li	t3, 0
+	li	t4, 0
+	li	t5, 0
+	li	t6, 0
 	ret
 .Lfunc_end44:
 	.size	fotsgure_aes_decrypt_blocks, .Lfunc_end44-fotsgure_aes_decrypt_blocks
@@ -15944,6 +16229,25 @@ fotsgure_aes_decrypt_blocks_to:         # @fotsgure_aes_decrypt_blocks_to
 	j	.LBB45_14
 .LBB45_8:
 	li	a0, 3
+	vsetvli	t0, zero, e8, m8, ta, ma
+	vmv.v.i	v0, 0
+	vmv.v.i	v8, 0
+	vmv.v.i	v16, 0
+	vmv.v.i	v24, 0
+	li	a1, 0
+	li	a2, 0
+	li	a3, 0
+	li	a4, 0
+	li	a5, 0
+	li	a6, 0
+	li	a7, 0
+	li	t0, 0
+	li	t1, 0
+	li	t2, 0
+	li	t3, 0
+	li	t4, 0
+	li	t5, 0
+	li	t6, 0
 	ret
 .LBB45_9:                               # %apart.2.i.i.i.i.i.i.i
 	mv	s2, a0
@@ -16001,6 +16305,25 @@ fotsgure_aes_decrypt_blocks_to:         # @fotsgure_aes_decrypt_blocks_to
 	ld	s4, 0(sp)                       # 8-byte Folded Reload
 	addi	sp, sp, 48
 	mv	a0, a4
+	vsetvli	t0, zero, e8, m8, ta, ma
+	vmv.v.i	v0, 0
+	vmv.v.i	v8, 0
+	vmv.v.i	v16, 0
+	vmv.v.i	v24, 0
+	li	a1, 0
+	li	a2, 0
+	li	a3, 0
+	li	a4, 0
+	li	a5, 0
+	li	a6, 0
+	li	a7, 0
+	li	t0, 0
+	li	t1, 0
+	li	t2, 0
+	li	t3, 0
+	li	t4, 0
+	li	t5, 0
+	li	t6, 0
 	ret
 .Lfunc_end45:
 	.size	fotsgure_aes_decrypt_blocks_to, .Lfunc_end45-fotsgure_aes_decrypt_blocks_to
@@ -16096,6 +16419,25 @@ fotsgure_aes_decrypt_blocks_with:       # @fotsgure_aes_decrypt_blocks_with
 	ld	s4, 496(sp)                     # 8-byte Folded Reload
 	ld	s5, 488(sp)                     # 8-byte Folded Reload
 	addi	sp, sp, 544
+	vsetvli	t0, zero, e8, m8, ta, ma
+	vmv.v.i	v0, 0
+	vmv.v.i	v8, 0
+	vmv.v.i	v16, 0
+	vmv.v.i	v24, 0
+	li	a1, 0
+	li	a2, 0
+	li	a3, 0
+	li	a4, 0
+	li	a5, 0
+	li	a6, 0
+	li	a7, 0
+	li	t0, 0
+	li	t1, 0
+	li	t2, 0
+	li	t3, 0
+	li	t4, 0
+	li	t5, 0
+	li	t6, 0
 	ret
 .Lfunc_end46:
 	.size	fotsgure_aes_decrypt_blocks_with, .Lfunc_end46-fotsgure_aes_decrypt_blocks_with
@@ -16153,6 +16495,25 @@ fotsgure_aes_unwrap:                    # @fotsgure_aes_unwrap
 	addi	sp, sp, 64
 .LBB47_3:                               # %"aes_c::wrapping::fotsgure_aes_unwrap.exit"
 	mv	a0, a6
+	vsetvli	t0, zero, e8, m8, ta, ma
+	vmv.v.i	v0, 0
+	vmv.v.i	v8, 0
+	vmv.v.i	v16, 0
+	vmv.v.i	v24, 0
+	li	a1, 0
+	li	a2, 0
+	li	a3, 0
+	li	a4, 0
+	li	a5, 0
+	li	a6, 0
+	li	a7, 0
+	li	t0, 0
+	li	t1, 0
+	li	t2, 0
+	li	t3, 0
+	li	t4, 0
+	li	t5, 0
+	li	t6, 0
 	ret
 .Lfunc_end47:
 	.size	fotsgure_aes_unwrap, .Lfunc_end47-fotsgure_aes_unwrap
@@ -16215,6 +16576,25 @@ fotsgure_aes_unwrap_padded:             # @fotsgure_aes_unwrap_padded
 	ld	ra, 56(sp)                      # 8-byte Folded Reload
 	ld	s0, 48(sp)                      # 8-byte Folded Reload
 	addi	sp, sp, 64
+	vsetvli	t0, zero, e8, m8, ta, ma
+	vmv.v.i	v0, 0
+	vmv.v.i	v8, 0
+	vmv.v.i	v16, 0
+	vmv.v.i	v24, 0
+	li	a1, 0
+	li	a2, 0
+	li	a3, 0
+	li	a4, 0
+	li	a5, 0
+	li	a6, 0
+	li	a7, 0
+	li	t0, 0
+	li	t1, 0
+	li	t2, 0
+	li	t3, 0
+	li	t4, 0
+	li	t5, 0
+	li	t6, 0
 	ret
 .LBB48_5:                               # %arm.4.i
 	lwu	a0, 44(sp)
@@ -16223,6 +16603,25 @@ fotsgure_aes_unwrap_padded:             # @fotsgure_aes_unwrap_padded
 	ld	ra, 56(sp)                      # 8-byte Folded Reload
 	ld	s0, 48(sp)                      # 8-byte Folded Reload
 	addi	sp, sp, 64
+	vsetvli	t0, zero, e8, m8, ta, ma
+	vmv.v.i	v0, 0
+	vmv.v.i	v8, 0
+	vmv.v.i	v16, 0
+	vmv.v.i	v24, 0
+	li	a1, 0
+	li	a2, 0
+	li	a3, 0
+	li	a4, 0
+	li	a5, 0
+	li	a6, 0
+	li	a7, 0
+	li	t0, 0
+	li	t1, 0
+	li	t2, 0
+	li	t3, 0
+	li	t4, 0
+	li	t5, 0
+	li	t6, 0
 	ret
 .Lfunc_end48:
 	.size	fotsgure_aes_unwrap_padded, .Lfunc_end48-fotsgure_aes_unwrap_padded
@@ -16248,6 +16647,25 @@ fotsgure_aes_add_keystream:             # @fotsgure_aes_add_keystream
 	ld	s0, 16(sp)                      # 8-byte Folded Reload
 	ld	s1, 8(sp)                       # 8-byte Folded Reload
 	addi	sp, sp, 32
+	vsetvli	t0, zero, e8, m8, ta, ma
+	vmv.v.i	v0, 0
+	vmv.v.i	v8, 0
+	vmv.v.i	v16, 0
+	vmv.v.i	v24, 0
+	li	a1, 0
+	li	a2, 0
+	li	a3, 0
+	li	a4, 0
+	li	a5, 0
+	li	a6, 0
+	li	a7, 0
+	li	t0, 0
+	li	t1, 0
+	li	t2, 0
+	li	t3, 0
+	li	t4, 0
+	li	t5, 0
+	li	t6, 0
 	ret
 .LBB49_3:                               # %join.3.i.i
 	mv	s1, a1
@@ -16282,6 +16700,25 @@ fotsgure_aes_add_keystream:             # @fotsgure_aes_add_keystream
 	ld	s0, 16(sp)                      # 8-byte Folded Reload
 	ld	s1, 8(sp)                       # 8-byte Folded Reload
 	addi	sp, sp, 32
+	vsetvli	t0, zero, e8, m8, ta, ma
+	vmv.v.i	v0, 0
+	vmv.v.i	v8, 0
+	vmv.v.i	v16, 0
+	vmv.v.i	v24, 0
+	li	a1, 0
+	li	a2, 0
+	li	a3, 0
+	li	a4, 0
+	li	a5, 0
+	li	a6, 0
+	li	a7, 0
+	li	t0, 0
+	li	t1, 0
+	li	t2, 0
+	li	t3, 0
+	li	t4, 0
+	li	t5, 0
+	li	t6, 0
 	ret
 .Lfunc_end49:
 	.size	fotsgure_aes_add_keystream, .Lfunc_end49-fotsgure_aes_add_keystream
@@ -16347,6 +16784,25 @@ fotsgure_aes_add_keystream_to:          # @fotsgure_aes_add_keystream_to
 .LBB50_8:
 	li	a0, 3
 .LBB50_9:                               # %"aes_c::stream::fotsgure_aes_add_keystream_to.exit"
+	vsetvli	t0, zero, e8, m8, ta, ma
+	vmv.v.i	v0, 0
+	vmv.v.i	v8, 0
+	vmv.v.i	v16, 0
+	vmv.v.i	v24, 0
+	li	a1, 0
+	li	a2, 0
+	li	a3, 0
+	li	a4, 0
+	li	a5, 0
+	li	a6, 0
+	li	a7, 0
+	li	t0, 0
+	li	t1, 0
+	li	t2, 0
+	li	t3, 0
+	li	t4, 0
+	li	t5, 0
+	li	t6, 0
 	ret
 .LBB50_10:                              # %apart.2.i.i.i.i.i.i.i
 	mv	s2, a6
@@ -16419,6 +16875,25 @@ fotsgure_aes_add_keystream_to:          # @fotsgure_aes_add_keystream_to
 	ld	s3, 8(sp)                       # 8-byte Folded Reload
 	ld	s4, 0(sp)                       # 8-byte Folded Reload
 	addi	sp, sp, 48
+	vsetvli	t0, zero, e8, m8, ta, ma
+	vmv.v.i	v0, 0
+	vmv.v.i	v8, 0
+	vmv.v.i	v16, 0
+	vmv.v.i	v24, 0
+	li	a1, 0
+	li	a2, 0
+	li	a3, 0
+	li	a4, 0
+	li	a5, 0
+	li	a6, 0
+	li	a7, 0
+	li	t0, 0
+	li	t1, 0
+	li	t2, 0
+	li	t3, 0
+	li	t4, 0
+	li	t5, 0
+	li	t6, 0
 	ret
 .Lfunc_end50:
 	.size	fotsgure_aes_add_keystream_to, .Lfunc_end50-fotsgure_aes_add_keystream_to

@@ -5638,6 +5638,25 @@
 	#APP
 	#NO_APP
 	addi	sp, sp, 32
+	vsetvli	t0, zero, e8, m8, ta, ma
+	vmv.v.i	v0, 0
+	vmv.v.i	v8, 0
+	vmv.v.i	v16, 0
+	vmv.v.i	v24, 0
+	li	a1, 0
+	li	a2, 0
+	li	a3, 0
+	li	a4, 0
+	li	a5, 0
+	li	a6, 0
+	li	a7, 0
+	li	t0, 0
+	li	t1, 0
+	li	t2, 0
+	li	t3, 0
+	li	t4, 0
+	li	t5, 0
+	li	t6, 0
 	ret
 .LBB13_2:                               # %then.1.i
 	vsetivli	zero, 16, e8, m1, ta, ma
@@ -5653,6 +5672,25 @@
 	#APP
 	#NO_APP
 	addi	sp, sp, 32
+	vsetvli	t0, zero, e8, m8, ta, ma
+	vmv.v.i	v0, 0
+	vmv.v.i	v8, 0
+	vmv.v.i	v16, 0
+	vmv.v.i	v24, 0
+	li	a1, 0
+	li	a2, 0
+	li	a3, 0
+	li	a4, 0
+	li	a5, 0
+	li	a6, 0
+	li	a7, 0
+	li	t0, 0
+	li	t1, 0
+	li	t2, 0
+	li	t3, 0
+	li	t4, 0
+	li	t5, 0
+	li	t6, 0
 	ret
 .Lfunc_end13:
 	.size	"aes_cipher::zeroize::elements::zeroize_elements::<#3b2097f0eef5a37b>", .Lfunc_end13-"aes_cipher::zeroize::elements::zeroize_elements::<#3b2097f0eef5a37b>"
@@ -5749,6 +5787,25 @@
 	#APP
 	#NO_APP
 	addi	sp, sp, 32
+	vsetvli	t0, zero, e8, m8, ta, ma
+	vmv.v.i	v0, 0
+	vmv.v.i	v8, 0
+	vmv.v.i	v16, 0
+	vmv.v.i	v24, 0
+	li	a1, 0
+	li	a2, 0
+	li	a3, 0
+	li	a4, 0
+	li	a5, 0
+	li	a6, 0
+	li	a7, 0
+	li	t0, 0
+	li	t1, 0
+	li	t2, 0
+	li	t3, 0
+	li	t4, 0
+	li	t5, 0
+	li	t6, 0
 	ret
 .LBB15_6:
 	#APP
@@ -5758,6 +5815,25 @@
 	#APP
 	#NO_APP
 	addi	sp, sp, 32
+	vsetvli	t0, zero, e8, m8, ta, ma
+	vmv.v.i	v0, 0
+	vmv.v.i	v8, 0
+	vmv.v.i	v16, 0
+	vmv.v.i	v24, 0
+	li	a1, 0
+	li	a2, 0
+	li	a3, 0
+	li	a4, 0
+	li	a5, 0
+	li	a6, 0
+	li	a7, 0
+	li	t0, 0
+	li	t1, 0
+	li	t2, 0
+	li	t3, 0
+	li	t4, 0
+	li	t5, 0
+	li	t6, 0
 	ret
 .Lfunc_end15:
 	.size	"aes_cipher::zeroize::elements::zeroize_elements::<#d3d1c9d97fea966e>", .Lfunc_end15-"aes_cipher::zeroize::elements::zeroize_elements::<#d3d1c9d97fea966e>"
@@ -15119,6 +15195,25 @@ fotsgure_gcm_set_key:                   # @fotsgure_gcm_set_key
 	ld	s3, 8(sp)                       # 8-byte Folded Reload
 	ld	s4, 0(sp)                       # 8-byte Folded Reload
 	addi	sp, sp, 48
+	vsetvli	t0, zero, e8, m8, ta, ma
+	vmv.v.i	v0, 0
+	vmv.v.i	v8, 0
+	vmv.v.i	v16, 0
+	vmv.v.i	v24, 0
+	li	a1, 0
+	li	a2, 0
+	li	a3, 0
+	li	a4, 0
+	li	a5, 0
+	li	a6, 0
+	li	a7, 0
+	li	t0, 0
+	li	t1, 0
+	li	t2, 0
+	li	t3, 0
+	li	t4, 0
+	li	t5, 0
+	li	t6, 0
 	ret
 .Lfunc_end53:
 	.size	fotsgure_gcm_set_key, .Lfunc_end53-fotsgure_gcm_set_key
@@ -15153,6 +15248,25 @@ fotsgure_gcm_siv_wipe:                  # @fotsgure_gcm_siv_wipe
 fotsgure_gcm_version:                   # @fotsgure_gcm_version
 # %bb.0:                                # %start
 	li	a0, 300
+	vsetvli	t0, zero, e8, m8, ta, ma
+	vmv.v.i	v0, 0
+	vmv.v.i	v8, 0
+	vmv.v.i	v16, 0
+	vmv.v.i	v24, 0
+	li	a1, 0
+	li	a2, 0
+	li	a3, 0
+	li	a4, 0
+	li	a5, 0
+	li	a6, 0
+	li	a7, 0
+	li	t0, 0
+	li	t1, 0
+	li	t2, 0
+	li	t3, 0
+	li	t4, 0
+	li	t5, 0
+	li	t6, 0
 	ret
 .Lfunc_end55:
 	.size	fotsgure_gcm_version, .Lfunc_end55-fotsgure_gcm_version
@@ -15223,6 +15337,25 @@ fotsgure_gcm_key_length:                # @fotsgure_gcm_key_length
 # %bb.2:                                # %then.1.i
 	mv	a0, a1
 .LBB58_3:                               # %"gcm_c::kept::fotsgure_gcm_key_length.exit"
+	vsetvli	t0, zero, e8, m8, ta, ma
+	vmv.v.i	v0, 0
+	vmv.v.i	v8, 0
+	vmv.v.i	v16, 0
+	vmv.v.i	v24, 0
+	li	a1, 0
+	li	a2, 0
+	li	a3, 0
+	li	a4, 0
+	li	a5, 0
+	li	a6, 0
+	li	a7, 0
+	li	t0, 0
+	li	t1, 0
+	li	t2, 0
+	li	t3, 0
+	li	t4, 0
+	li	t5, 0
+	li	t6, 0
 	ret
 .Lfunc_end58:
 	.size	fotsgure_gcm_key_length, .Lfunc_end58-fotsgure_gcm_key_length
@@ -15264,6 +15397,25 @@ fotsgure_gcm_siv_set_key:               # @fotsgure_gcm_siv_set_key
 	ld	s1, 8(sp)                       # 8-byte Folded Reload
 	ld	s2, 0(sp)                       # 8-byte Folded Reload
 	addi	sp, sp, 32
+	vsetvli	t0, zero, e8, m8, ta, ma
+	vmv.v.i	v0, 0
+	vmv.v.i	v8, 0
+	vmv.v.i	v16, 0
+	vmv.v.i	v24, 0
+	li	a1, 0
+	li	a2, 0
+	li	a3, 0
+	li	a4, 0
+	li	a5, 0
+	li	a6, 0
+	li	a7, 0
+	li	t0, 0
+	li	t1, 0
+	li	t2, 0
+	li	t3, 0
+	li	t4, 0
+	li	t5, 0
+	li	t6, 0
 	ret
 .LBB59_3:
 	li	a0, 1
@@ -15272,6 +15424,25 @@ fotsgure_gcm_siv_set_key:               # @fotsgure_gcm_siv_set_key
 	ld	s1, 8(sp)                       # 8-byte Folded Reload
 	ld	s2, 0(sp)                       # 8-byte Folded Reload
 	addi	sp, sp, 32
+	vsetvli	t0, zero, e8, m8, ta, ma
+	vmv.v.i	v0, 0
+	vmv.v.i	v8, 0
+	vmv.v.i	v16, 0
+	vmv.v.i	v24, 0
+	li	a1, 0
+	li	a2, 0
+	li	a3, 0
+	li	a4, 0
+	li	a5, 0
+	li	a6, 0
+	li	a7, 0
+	li	t0, 0
+	li	t1, 0
+	li	t2, 0
+	li	t3, 0
+	li	t4, 0
+	li	t5, 0
+	li	t6, 0
 	ret
 .Lfunc_end59:
 	.size	fotsgure_gcm_siv_set_key, .Lfunc_end59-fotsgure_gcm_siv_set_key
@@ -15290,6 +15461,25 @@ fotsgure_gcm_begin:                     # @fotsgure_gcm_begin
 # %bb.1:
 	li	a0, 3
 .LBB60_2:                               # %"gcm_c::pieces::fotsgure_gcm_begin.exit"
+	vsetvli	t0, zero, e8, m8, ta, ma
+	vmv.v.i	v0, 0
+	vmv.v.i	v8, 0
+	vmv.v.i	v16, 0
+	vmv.v.i	v24, 0
+	li	a1, 0
+	li	a2, 0
+	li	a3, 0
+	li	a4, 0
+	li	a5, 0
+	li	a6, 0
+	li	a7, 0
+	li	t0, 0
+	li	t1, 0
+	li	t2, 0
+	li	t3, 0
+	li	t4, 0
+	li	t5, 0
+	li	t6, 0
 	ret
 .LBB60_3:                               # %after.1.i
 	mv	a6, a0
@@ -15351,6 +15541,25 @@ fotsgure_gcm_begin:                     # @fotsgure_gcm_begin
 	ld	s0, 32(sp)                      # 8-byte Folded Reload
 	ld	s1, 24(sp)                      # 8-byte Folded Reload
 	addi	sp, sp, 48
+	vsetvli	t0, zero, e8, m8, ta, ma
+	vmv.v.i	v0, 0
+	vmv.v.i	v8, 0
+	vmv.v.i	v16, 0
+	vmv.v.i	v24, 0
+	li	a1, 0
+	li	a2, 0
+	li	a3, 0
+	li	a4, 0
+	li	a5, 0
+	li	a6, 0
+	li	a7, 0
+	li	t0, 0
+	li	t1, 0
+	li	t2, 0
+	li	t3, 0
+	li	t4, 0
+	li	t5, 0
+	li	t6, 0
 	ret
 .Lfunc_end60:
 	.size	fotsgure_gcm_begin, .Lfunc_end60-fotsgure_gcm_begin
@@ -15554,6 +15763,25 @@ fotsgure_gcm_begin_next:                # @fotsgure_gcm_begin_next
 	ld	s1, 56(sp)                      # 8-byte Folded Reload
 	ld	s2, 48(sp)                      # 8-byte Folded Reload
 	addi	sp, sp, 80
+	vsetvli	t0, zero, e8, m8, ta, ma
+	vmv.v.i	v0, 0
+	vmv.v.i	v8, 0
+	vmv.v.i	v16, 0
+	vmv.v.i	v24, 0
+	li	a1, 0
+	li	a2, 0
+	li	a3, 0
+	li	a4, 0
+	li	a5, 0
+	li	a6, 0
+	li	a7, 0
+	li	t0, 0
+	li	t1, 0
+	li	t2, 0
+	li	t3, 0
+	li	t4, 0
+	li	t5, 0
+	li	t6, 0
 	ret
 .Lfunc_end61:
 	.size	fotsgure_gcm_begin_next, .Lfunc_end61-fotsgure_gcm_begin_next
@@ -15628,6 +15856,25 @@ fotsgure_gcm_finish:                    # @fotsgure_gcm_finish
 	ld	s2, 64(sp)                      # 8-byte Folded Reload
 	addi	sp, sp, 96
 .LBB62_7:                               # %"gcm_c::sealing::fotsgure_gcm_finish.exit"
+	vsetvli	t0, zero, e8, m8, ta, ma
+	vmv.v.i	v0, 0
+	vmv.v.i	v8, 0
+	vmv.v.i	v16, 0
+	vmv.v.i	v24, 0
+	li	a1, 0
+	li	a2, 0
+	li	a3, 0
+	li	a4, 0
+	li	a5, 0
+	li	a6, 0
+	li	a7, 0
+	li	t0, 0
+	li	t1, 0
+	li	t2, 0
+	li	t3, 0
+	li	t4, 0
+	li	t5, 0
+	li	t6, 0
 	ret
 .Lfunc_end62:
 	.size	fotsgure_gcm_finish, .Lfunc_end62-fotsgure_gcm_finish
@@ -15666,6 +15913,25 @@ fotsgure_gcm_open:                      # @fotsgure_gcm_open
 	ld	s2, 96(sp)                      # 8-byte Folded Reload
 	ld	s3, 88(sp)                      # 8-byte Folded Reload
 	addi	sp, sp, 128
+	vsetvli	t0, zero, e8, m8, ta, ma
+	vmv.v.i	v0, 0
+	vmv.v.i	v8, 0
+	vmv.v.i	v16, 0
+	vmv.v.i	v24, 0
+	li	a1, 0
+	li	a2, 0
+	li	a3, 0
+	li	a4, 0
+	li	a5, 0
+	li	a6, 0
+	li	a7, 0
+	li	t0, 0
+	li	t1, 0
+	li	t2, 0
+	li	t3, 0
+	li	t4, 0
+	li	t5, 0
+	li	t6, 0
 	ret
 .LBB63_5:                               # %after.1.i.i
 	srli	s1, a4, 61
@@ -15779,6 +16045,25 @@ fotsgure_gcm_seal:                      # @fotsgure_gcm_seal
 	srli	a0, a0, 32
 	ld	ra, 8(sp)                       # 8-byte Folded Reload
 	addi	sp, sp, 16
+	vsetvli	t0, zero, e8, m8, ta, ma
+	vmv.v.i	v0, 0
+	vmv.v.i	v8, 0
+	vmv.v.i	v16, 0
+	vmv.v.i	v24, 0
+	li	a1, 0
+	li	a2, 0
+	li	a3, 0
+	li	a4, 0
+	li	a5, 0
+	li	a6, 0
+	li	a7, 0
+	li	t0, 0
+	li	t1, 0
+	li	t2, 0
+	li	t3, 0
+	li	t4, 0
+	li	t5, 0
+	li	t6, 0
 	ret
 .Lfunc_end64:
 	.size	fotsgure_gcm_seal, .Lfunc_end64-fotsgure_gcm_seal
@@ -15838,6 +16123,25 @@ fotsgure_gcm_seal_next:                 # @fotsgure_gcm_seal_next
 	ld	s1, 8(sp)                       # 8-byte Folded Reload
 	ld	s2, 0(sp)                       # 8-byte Folded Reload
 	addi	sp, sp, 32
+	vsetvli	t0, zero, e8, m8, ta, ma
+	vmv.v.i	v0, 0
+	vmv.v.i	v8, 0
+	vmv.v.i	v16, 0
+	vmv.v.i	v24, 0
+	li	a1, 0
+	li	a2, 0
+	li	a3, 0
+	li	a4, 0
+	li	a5, 0
+	li	a6, 0
+	li	a7, 0
+	li	t0, 0
+	li	t1, 0
+	li	t2, 0
+	li	t3, 0
+	li	t4, 0
+	li	t5, 0
+	li	t6, 0
 	ret
 .LBB65_4:                               # %join.3.i
 	mv	s2, a2
@@ -16001,6 +16305,25 @@ fotsgure_gcm_seal_next:                 # @fotsgure_gcm_seal_next
 	ld	s1, 8(sp)                       # 8-byte Folded Reload
 	ld	s2, 0(sp)                       # 8-byte Folded Reload
 	addi	sp, sp, 32
+	vsetvli	t0, zero, e8, m8, ta, ma
+	vmv.v.i	v0, 0
+	vmv.v.i	v8, 0
+	vmv.v.i	v16, 0
+	vmv.v.i	v24, 0
+	li	a1, 0
+	li	a2, 0
+	li	a3, 0
+	li	a4, 0
+	li	a5, 0
+	li	a6, 0
+	li	a7, 0
+	li	t0, 0
+	li	t1, 0
+	li	t2, 0
+	li	t3, 0
+	li	t4, 0
+	li	t5, 0
+	li	t6, 0
 	ret
 .Lfunc_end65:
 	.size	fotsgure_gcm_seal_next, .Lfunc_end65-fotsgure_gcm_seal_next
@@ -16044,12 +16367,50 @@ fotsgure_gcm_siv_open:                  # @fotsgure_gcm_siv_open
 	ld	ra, 8(sp)                       # 8-byte Folded Reload
 	ld	s0, 0(sp)                       # 8-byte Folded Reload
 	addi	sp, sp, 16
+	vsetvli	t0, zero, e8, m8, ta, ma
+	vmv.v.i	v0, 0
+	vmv.v.i	v8, 0
+	vmv.v.i	v16, 0
+	vmv.v.i	v24, 0
+	li	a1, 0
+	li	a2, 0
+	li	a3, 0
+	li	a4, 0
+	li	a5, 0
+	li	a6, 0
+	li	a7, 0
+	li	t0, 0
+	li	t1, 0
+	li	t2, 0
+	li	t3, 0
+	li	t4, 0
+	li	t5, 0
+	li	t6, 0
 	ret
 .LBB66_6:
 	li	a0, 2
 	ld	ra, 8(sp)                       # 8-byte Folded Reload
 	ld	s0, 0(sp)                       # 8-byte Folded Reload
 	addi	sp, sp, 16
+	vsetvli	t0, zero, e8, m8, ta, ma
+	vmv.v.i	v0, 0
+	vmv.v.i	v8, 0
+	vmv.v.i	v16, 0
+	vmv.v.i	v24, 0
+	li	a1, 0
+	li	a2, 0
+	li	a3, 0
+	li	a4, 0
+	li	a5, 0
+	li	a6, 0
+	li	a7, 0
+	li	t0, 0
+	li	t1, 0
+	li	t2, 0
+	li	t3, 0
+	li	t4, 0
+	li	t5, 0
+	li	t6, 0
 	ret
 .Lfunc_end66:
 	.size	fotsgure_gcm_siv_open, .Lfunc_end66-fotsgure_gcm_siv_open
@@ -16107,9 +16468,47 @@ fotsgure_gcm_siv_seal:                  # @fotsgure_gcm_siv_seal
 	ld	s1, 24(sp)                      # 8-byte Folded Reload
 	addi	sp, sp, 48
 .LBB67_5:                               # %"gcm_c::siv::fotsgure_gcm_siv_seal.exit"
+	vsetvli	t0, zero, e8, m8, ta, ma
+	vmv.v.i	v0, 0
+	vmv.v.i	v8, 0
+	vmv.v.i	v16, 0
+	vmv.v.i	v24, 0
+	li	a1, 0
+	li	a2, 0
+	li	a3, 0
+	li	a4, 0
+	li	a5, 0
+	li	a6, 0
+	li	a7, 0
+	li	t0, 0
+	li	t1, 0
+	li	t2, 0
+	li	t3, 0
+	li	t4, 0
+	li	t5, 0
+	li	t6, 0
 	ret
 .LBB67_6:
 	li	a0, 2
+	vsetvli	t0, zero, e8, m8, ta, ma
+	vmv.v.i	v0, 0
+	vmv.v.i	v8, 0
+	vmv.v.i	v16, 0
+	vmv.v.i	v24, 0
+	li	a1, 0
+	li	a2, 0
+	li	a3, 0
+	li	a4, 0
+	li	a5, 0
+	li	a6, 0
+	li	a7, 0
+	li	t0, 0
+	li	t1, 0
+	li	t2, 0
+	li	t3, 0
+	li	t4, 0
+	li	t5, 0
+	li	t6, 0
 	ret
 .Lfunc_end67:
 	.size	fotsgure_gcm_siv_seal, .Lfunc_end67-fotsgure_gcm_siv_seal
@@ -16163,6 +16562,25 @@ fotsgure_gcm_additional:                # @fotsgure_gcm_additional
 	ld	s0, 32(sp)                      # 8-byte Folded Reload
 	ld	s1, 24(sp)                      # 8-byte Folded Reload
 	addi	sp, sp, 48
+	vsetvli	t0, zero, e8, m8, ta, ma
+	vmv.v.i	v0, 0
+	vmv.v.i	v8, 0
+	vmv.v.i	v16, 0
+	vmv.v.i	v24, 0
+	li	a1, 0
+	li	a2, 0
+	li	a3, 0
+	li	a4, 0
+	li	a5, 0
+	li	a6, 0
+	li	a7, 0
+	li	t0, 0
+	li	t1, 0
+	li	t2, 0
+	li	t3, 0
+	li	t4, 0
+	li	t5, 0
+	li	t6, 0
 	ret
 .LBB68_6:
 	li	a0, 8
@@ -16170,6 +16588,25 @@ fotsgure_gcm_additional:                # @fotsgure_gcm_additional
 	ld	s0, 32(sp)                      # 8-byte Folded Reload
 	ld	s1, 24(sp)                      # 8-byte Folded Reload
 	addi	sp, sp, 48
+	vsetvli	t0, zero, e8, m8, ta, ma
+	vmv.v.i	v0, 0
+	vmv.v.i	v8, 0
+	vmv.v.i	v16, 0
+	vmv.v.i	v24, 0
+	li	a1, 0
+	li	a2, 0
+	li	a3, 0
+	li	a4, 0
+	li	a5, 0
+	li	a6, 0
+	li	a7, 0
+	li	t0, 0
+	li	t1, 0
+	li	t2, 0
+	li	t3, 0
+	li	t4, 0
+	li	t5, 0
+	li	t6, 0
 	ret
 .LBB68_7:                               # %arm.4.i
 	seqz	a4, a2
@@ -16194,6 +16631,25 @@ fotsgure_gcm_additional:                # @fotsgure_gcm_additional
 	ld	s0, 32(sp)                      # 8-byte Folded Reload
 	ld	s1, 24(sp)                      # 8-byte Folded Reload
 	addi	sp, sp, 48
+	vsetvli	t0, zero, e8, m8, ta, ma
+	vmv.v.i	v0, 0
+	vmv.v.i	v8, 0
+	vmv.v.i	v16, 0
+	vmv.v.i	v24, 0
+	li	a1, 0
+	li	a2, 0
+	li	a3, 0
+	li	a4, 0
+	li	a5, 0
+	li	a6, 0
+	li	a7, 0
+	li	t0, 0
+	li	t1, 0
+	li	t2, 0
+	li	t3, 0
+	li	t4, 0
+	li	t5, 0
+	li	t6, 0
 	ret
 .Lfunc_end68:
 	.size	fotsgure_gcm_additional, .Lfunc_end68-fotsgure_gcm_additional
@@ -16254,6 +16710,25 @@ fotsgure_gcm_decrypt:                   # @fotsgure_gcm_decrypt
 	ld	s0, 32(sp)                      # 8-byte Folded Reload
 	ld	s1, 24(sp)                      # 8-byte Folded Reload
 	addi	sp, sp, 48
+	vsetvli	t0, zero, e8, m8, ta, ma
+	vmv.v.i	v0, 0
+	vmv.v.i	v8, 0
+	vmv.v.i	v16, 0
+	vmv.v.i	v24, 0
+	li	a1, 0
+	li	a2, 0
+	li	a3, 0
+	li	a4, 0
+	li	a5, 0
+	li	a6, 0
+	li	a7, 0
+	li	t0, 0
+	li	t1, 0
+	li	t2, 0
+	li	t3, 0
+	li	t4, 0
+	li	t5, 0
+	li	t6, 0
 	ret
 .LBB69_8:
 	li	a0, 8
@@ -16261,6 +16736,25 @@ fotsgure_gcm_decrypt:                   # @fotsgure_gcm_decrypt
 	ld	s0, 32(sp)                      # 8-byte Folded Reload
 	ld	s1, 24(sp)                      # 8-byte Folded Reload
 	addi	sp, sp, 48
+	vsetvli	t0, zero, e8, m8, ta, ma
+	vmv.v.i	v0, 0
+	vmv.v.i	v8, 0
+	vmv.v.i	v16, 0
+	vmv.v.i	v24, 0
+	li	a1, 0
+	li	a2, 0
+	li	a3, 0
+	li	a4, 0
+	li	a5, 0
+	li	a6, 0
+	li	a7, 0
+	li	t0, 0
+	li	t1, 0
+	li	t2, 0
+	li	t3, 0
+	li	t4, 0
+	li	t5, 0
+	li	t6, 0
 	ret
 .LBB69_9:                               # %arm.4.i
 	seqz	a0, a2
@@ -16284,6 +16778,25 @@ fotsgure_gcm_decrypt:                   # @fotsgure_gcm_decrypt
 	ld	s0, 32(sp)                      # 8-byte Folded Reload
 	ld	s1, 24(sp)                      # 8-byte Folded Reload
 	addi	sp, sp, 48
+	vsetvli	t0, zero, e8, m8, ta, ma
+	vmv.v.i	v0, 0
+	vmv.v.i	v8, 0
+	vmv.v.i	v16, 0
+	vmv.v.i	v24, 0
+	li	a1, 0
+	li	a2, 0
+	li	a3, 0
+	li	a4, 0
+	li	a5, 0
+	li	a6, 0
+	li	a7, 0
+	li	t0, 0
+	li	t1, 0
+	li	t2, 0
+	li	t3, 0
+	li	t4, 0
+	li	t5, 0
+	li	t6, 0
 	ret
 .Lfunc_end69:
 	.size	fotsgure_gcm_decrypt, .Lfunc_end69-fotsgure_gcm_decrypt
@@ -16371,6 +16884,25 @@ fotsgure_gcm_decrypt_unverified:        # @fotsgure_gcm_decrypt_unverified
 	ld	s2, 32(sp)                      # 8-byte Folded Reload
 	ld	s3, 24(sp)                      # 8-byte Folded Reload
 	addi	sp, sp, 64
+	vsetvli	t0, zero, e8, m8, ta, ma
+	vmv.v.i	v0, 0
+	vmv.v.i	v8, 0
+	vmv.v.i	v16, 0
+	vmv.v.i	v24, 0
+	li	a1, 0
+	li	a2, 0
+	li	a3, 0
+	li	a4, 0
+	li	a5, 0
+	li	a6, 0
+	li	a7, 0
+	li	t0, 0
+	li	t1, 0
+	li	t2, 0
+	li	t3, 0
+	li	t4, 0
+	li	t5, 0
+	li	t6, 0
 	ret
 .Lfunc_end70:
 	.size	fotsgure_gcm_decrypt_unverified, .Lfunc_end70-fotsgure_gcm_decrypt_unverified
@@ -16459,6 +16991,25 @@ fotsgure_gcm_encrypt:                   # @fotsgure_gcm_encrypt
 	ld	s2, 32(sp)                      # 8-byte Folded Reload
 	ld	s3, 24(sp)                      # 8-byte Folded Reload
 	addi	sp, sp, 64
+	vsetvli	t0, zero, e8, m8, ta, ma
+	vmv.v.i	v0, 0
+	vmv.v.i	v8, 0
+	vmv.v.i	v16, 0
+	vmv.v.i	v24, 0
+	li	a1, 0
+	li	a2, 0
+	li	a3, 0
+	li	a4, 0
+	li	a5, 0
+	li	a6, 0
+	li	a7, 0
+	li	t0, 0
+	li	t1, 0
+	li	t2, 0
+	li	t3, 0
+	li	t4, 0
+	li	t5, 0
+	li	t6, 0
 	ret
 .Lfunc_end71:
 	.size	fotsgure_gcm_encrypt, .Lfunc_end71-fotsgure_gcm_encrypt
@@ -16516,6 +17067,25 @@ fotsgure_gcm_verify:                    # @fotsgure_gcm_verify
 	ld	s1, 40(sp)                      # 8-byte Folded Reload
 	ld	s2, 32(sp)                      # 8-byte Folded Reload
 	addi	sp, sp, 64
+	vsetvli	t0, zero, e8, m8, ta, ma
+	vmv.v.i	v0, 0
+	vmv.v.i	v8, 0
+	vmv.v.i	v16, 0
+	vmv.v.i	v24, 0
+	li	a1, 0
+	li	a2, 0
+	li	a3, 0
+	li	a4, 0
+	li	a5, 0
+	li	a6, 0
+	li	a7, 0
+	li	t0, 0
+	li	t1, 0
+	li	t2, 0
+	li	t3, 0
+	li	t4, 0
+	li	t5, 0
+	li	t6, 0
 	ret
 .LBB72_6:                               # %arm.1.i.i
 	seqz	a2, s2
@@ -16538,6 +17108,25 @@ fotsgure_gcm_verify:                    # @fotsgure_gcm_verify
 	ld	s1, 40(sp)                      # 8-byte Folded Reload
 	ld	s2, 32(sp)                      # 8-byte Folded Reload
 	addi	sp, sp, 64
+	vsetvli	t0, zero, e8, m8, ta, ma
+	vmv.v.i	v0, 0
+	vmv.v.i	v8, 0
+	vmv.v.i	v16, 0
+	vmv.v.i	v24, 0
+	li	a1, 0
+	li	a2, 0
+	li	a3, 0
+	li	a4, 0
+	li	a5, 0
+	li	a6, 0
+	li	a7, 0
+	li	t0, 0
+	li	t1, 0
+	li	t2, 0
+	li	t3, 0
+	li	t4, 0
+	li	t5, 0
+	li	t6, 0
 	ret
 .LBB72_7:
 	li	a0, 5
@@ -16546,6 +17135,25 @@ fotsgure_gcm_verify:                    # @fotsgure_gcm_verify
 	ld	s1, 40(sp)                      # 8-byte Folded Reload
 	ld	s2, 32(sp)                      # 8-byte Folded Reload
 	addi	sp, sp, 64
+	vsetvli	t0, zero, e8, m8, ta, ma
+	vmv.v.i	v0, 0
+	vmv.v.i	v8, 0
+	vmv.v.i	v16, 0
+	vmv.v.i	v24, 0
+	li	a1, 0
+	li	a2, 0
+	li	a3, 0
+	li	a4, 0
+	li	a5, 0
+	li	a6, 0
+	li	a7, 0
+	li	t0, 0
+	li	t1, 0
+	li	t2, 0
+	li	t3, 0
+	li	t4, 0
+	li	t5, 0
+	li	t6, 0
 	ret
 .Lfunc_end72:
 	.size	fotsgure_gcm_verify, .Lfunc_end72-fotsgure_gcm_verify
@@ -16625,10 +17233,48 @@ fotsgure_gcm_accept:                    # @fotsgure_gcm_accept
 	ld	s0, 80(sp)                      # 8-byte Folded Reload
 	ld	s1, 72(sp)                      # 8-byte Folded Reload
 	addi	sp, sp, 96
+	vsetvli	t0, zero, e8, m8, ta, ma
+	vmv.v.i	v0, 0
+	vmv.v.i	v8, 0
+	vmv.v.i	v16, 0
+	vmv.v.i	v24, 0
+	li	a1, 0
+	li	a2, 0
+	li	a3, 0
+	li	a4, 0
+	li	a5, 0
+	li	a6, 0
+	li	a7, 0
+	li	t0, 0
+	li	t1, 0
+	li	t2, 0
+	li	t3, 0
+	li	t4, 0
+	li	t5, 0
+	li	t6, 0
 	ret
 .LBB73_6:
 	li	a0, 4
 .LBB73_7:                               # %"gcm_c::opening::fotsgure_gcm_accept.exit"
+	vsetvli	t0, zero, e8, m8, ta, ma
+	vmv.v.i	v0, 0
+	vmv.v.i	v8, 0
+	vmv.v.i	v16, 0
+	vmv.v.i	v24, 0
+	li	a1, 0
+	li	a2, 0
+	li	a3, 0
+	li	a4, 0
+	li	a5, 0
+	li	a6, 0
+	li	a7, 0
+	li	t0, 0
+	li	t1, 0
+	li	t2, 0
+	li	t3, 0
+	li	t4, 0
+	li	t5, 0
+	li	t6, 0
 	ret
 .LBB73_8:
 	li	a0, 8
@@ -16636,6 +17282,25 @@ fotsgure_gcm_accept:                    # @fotsgure_gcm_accept
 	ld	s0, 80(sp)                      # 8-byte Folded Reload
 	ld	s1, 72(sp)                      # 8-byte Folded Reload
 	addi	sp, sp, 96
+	vsetvli	t0, zero, e8, m8, ta, ma
+	vmv.v.i	v0, 0
+	vmv.v.i	v8, 0
+	vmv.v.i	v16, 0
+	vmv.v.i	v24, 0
+	li	a1, 0
+	li	a2, 0
+	li	a3, 0
+	li	a4, 0
+	li	a5, 0
+	li	a6, 0
+	li	a7, 0
+	li	t0, 0
+	li	t1, 0
+	li	t2, 0
+	li	t3, 0
+	li	t4, 0
+	li	t5, 0
+	li	t6, 0
 	ret
 .LBB73_9:
 	li	a0, 6
@@ -16643,6 +17308,25 @@ fotsgure_gcm_accept:                    # @fotsgure_gcm_accept
 	ld	s0, 80(sp)                      # 8-byte Folded Reload
 	ld	s1, 72(sp)                      # 8-byte Folded Reload
 	addi	sp, sp, 96
+	vsetvli	t0, zero, e8, m8, ta, ma
+	vmv.v.i	v0, 0
+	vmv.v.i	v8, 0
+	vmv.v.i	v16, 0
+	vmv.v.i	v24, 0
+	li	a1, 0
+	li	a2, 0
+	li	a3, 0
+	li	a4, 0
+	li	a5, 0
+	li	a6, 0
+	li	a7, 0
+	li	t0, 0
+	li	t1, 0
+	li	t2, 0
+	li	t3, 0
+	li	t4, 0
+	li	t5, 0
+	li	t6, 0
 	ret
 .Lfunc_end73:
 	.size	fotsgure_gcm_accept, .Lfunc_end73-fotsgure_gcm_accept
@@ -16750,6 +17434,25 @@ fotsgure_gcm_accept_short:              # @fotsgure_gcm_accept_short
 	ld	s3, 72(sp)                      # 8-byte Folded Reload
 	addi	sp, sp, 112
 .LBB74_10:                              # %"gcm_c::opening::fotsgure_gcm_accept_short.exit"
+	vsetvli	t0, zero, e8, m8, ta, ma
+	vmv.v.i	v0, 0
+	vmv.v.i	v8, 0
+	vmv.v.i	v16, 0
+	vmv.v.i	v24, 0
+	li	a1, 0
+	li	a2, 0
+	li	a3, 0
+	li	a4, 0
+	li	a5, 0
+	li	a6, 0
+	li	a7, 0
+	li	t0, 0
+	li	t1, 0
+	li	t2, 0
+	li	t3, 0
+	li	t4, 0
+	li	t5, 0
+	li	t6, 0
 	ret
 .Lfunc_end74:
 	.size	fotsgure_gcm_accept_short, .Lfunc_end74-fotsgure_gcm_accept_short

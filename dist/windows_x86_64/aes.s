@@ -12335,6 +12335,18 @@ fotsgure_aes_add_keystream_with_v2:     # @fotsgure_aes_add_keystream_with_v2
 	movaps	352(%rsp), %xmm13               # 16-byte Reload
 	movaps	368(%rsp), %xmm14               # 16-byte Reload
 	movaps	384(%rsp), %xmm15               # 16-byte Reload
+	pxor	%xmm0, %xmm0
+	pxor	%xmm1, %xmm1
+	pxor	%xmm2, %xmm2
+	pxor	%xmm3, %xmm3
+	pxor	%xmm4, %xmm4
+	pxor	%xmm5, %xmm5
+	xorl	%ecx, %ecx
+	xorl	%edx, %edx
+	xorl	%r8d, %r8d
+	xorl	%r9d, %r9d
+	xorl	%r10d, %r10d
+	xorl	%r11d, %r11d
 	addq	$408, %rsp                      # imm = 0x198
 	popq	%rbx
 	popq	%rbp
@@ -12476,6 +12488,18 @@ fotsgure_aes_encrypt_blocks_with_v2:    # @fotsgure_aes_encrypt_blocks_with_v2
 	movaps	352(%rsp), %xmm13               # 16-byte Reload
 	movaps	368(%rsp), %xmm14               # 16-byte Reload
 	movaps	384(%rsp), %xmm15               # 16-byte Reload
+	pxor	%xmm0, %xmm0
+	pxor	%xmm1, %xmm1
+	pxor	%xmm2, %xmm2
+	pxor	%xmm3, %xmm3
+	pxor	%xmm4, %xmm4
+	pxor	%xmm5, %xmm5
+	xorl	%ecx, %ecx
+	xorl	%edx, %edx
+	xorl	%r8d, %r8d
+	xorl	%r9d, %r9d
+	xorl	%r10d, %r10d
+	xorl	%r11d, %r11d
 	addq	$400, %rsp                      # imm = 0x190
 	popq	%rbx
 	popq	%rdi
@@ -12541,6 +12565,18 @@ fotsgure_aes_set_key_v2:                # @fotsgure_aes_set_key_v2
 	movaps	112(%rsp), %xmm13               # 16-byte Reload
 	movaps	128(%rsp), %xmm14               # 16-byte Reload
 	movaps	144(%rsp), %xmm15               # 16-byte Reload
+	pxor	%xmm0, %xmm0
+	pxor	%xmm1, %xmm1
+	pxor	%xmm2, %xmm2
+	pxor	%xmm3, %xmm3
+	pxor	%xmm4, %xmm4
+	pxor	%xmm5, %xmm5
+	xorl	%ecx, %ecx
+	xorl	%edx, %edx
+	xorl	%r8d, %r8d
+	xorl	%r9d, %r9d
+	xorl	%r10d, %r10d
+	xorl	%r11d, %r11d
 	addq	$168, %rsp
 	popq	%rdi
 	popq	%rsi
@@ -12556,6 +12592,18 @@ fotsgure_aes_set_key_v2:                # @fotsgure_aes_set_key_v2
 fotsgure_aes_version_v2:                # @fotsgure_aes_version_v2
 # %bb.0:                                # %start
 	movl	$300, %eax                      # imm = 0x12C
+	pxor	%xmm0, %xmm0
+	pxor	%xmm1, %xmm1
+	pxor	%xmm2, %xmm2
+	pxor	%xmm3, %xmm3
+	pxor	%xmm4, %xmm4
+	pxor	%xmm5, %xmm5
+	xorl	%ecx, %ecx
+	xorl	%edx, %edx
+	xorl	%r8d, %r8d
+	xorl	%r9d, %r9d
+	xorl	%r10d, %r10d
+	xorl	%r11d, %r11d
 	retq
                                         # -- End function
 	.def	fotsgure_aes_wipe_v2;
@@ -12614,6 +12662,18 @@ fotsgure_aes_wipe_v2:                   # @fotsgure_aes_wipe_v2
 	movaps	144(%rsp), %xmm13               # 16-byte Reload
 	movaps	160(%rsp), %xmm14               # 16-byte Reload
 	movaps	176(%rsp), %xmm15               # 16-byte Reload
+	pxor	%xmm0, %xmm0
+	pxor	%xmm1, %xmm1
+	pxor	%xmm2, %xmm2
+	pxor	%xmm3, %xmm3
+	pxor	%xmm4, %xmm4
+	pxor	%xmm5, %xmm5
+	xorl	%ecx, %ecx
+	xorl	%edx, %edx
+	xorl	%r8d, %r8d
+	xorl	%r9d, %r9d
+	xorl	%r10d, %r10d
+	xorl	%r11d, %r11d
 	addq	$192, %rsp
 	popq	%rbx
 	popq	%rdi
@@ -12640,6 +12700,18 @@ fotsgure_aes_key_length_v2:             # @fotsgure_aes_key_length_v2
 # %bb.2:                                # %then.1.i
 	movq	%rcx, %rax
 .LBB37_3:                               # %"aes_c::kept::fotsgure_aes_key_length.exit"
+	pxor	%xmm0, %xmm0
+	pxor	%xmm1, %xmm1
+	pxor	%xmm2, %xmm2
+	pxor	%xmm3, %xmm3
+	pxor	%xmm4, %xmm4
+	pxor	%xmm5, %xmm5
+	xorl	%ecx, %ecx
+	xorl	%edx, %edx
+	xorl	%r8d, %r8d
+	xorl	%r9d, %r9d
+	xorl	%r10d, %r10d
+	xorl	%r11d, %r11d
 	retq
                                         # -- End function
 	.def	fotsgure_aes_cbc_encrypt_v2;
@@ -12747,6 +12819,18 @@ fotsgure_aes_cbc_encrypt_v2:            # @fotsgure_aes_cbc_encrypt_v2
 	movaps	128(%rsp), %xmm13               # 16-byte Reload
 	movaps	144(%rsp), %xmm14               # 16-byte Reload
 	movaps	160(%rsp), %xmm15               # 16-byte Reload
+	pxor	%xmm0, %xmm0
+	pxor	%xmm1, %xmm1
+	pxor	%xmm2, %xmm2
+	pxor	%xmm3, %xmm3
+	pxor	%xmm4, %xmm4
+	pxor	%xmm5, %xmm5
+	xorl	%ecx, %ecx
+	xorl	%edx, %edx
+	xorl	%r8d, %r8d
+	xorl	%r9d, %r9d
+	xorl	%r10d, %r10d
+	xorl	%r11d, %r11d
 	addq	$176, %rsp
 	popq	%rbx
 	popq	%rdi
@@ -12865,6 +12949,18 @@ fotsgure_aes_encrypt_blocks_v2:         # @fotsgure_aes_encrypt_blocks_v2
 	movaps	112(%rsp), %xmm13               # 16-byte Reload
 	movaps	128(%rsp), %xmm14               # 16-byte Reload
 	movaps	144(%rsp), %xmm15               # 16-byte Reload
+	pxor	%xmm0, %xmm0
+	pxor	%xmm1, %xmm1
+	pxor	%xmm2, %xmm2
+	pxor	%xmm3, %xmm3
+	pxor	%xmm4, %xmm4
+	pxor	%xmm5, %xmm5
+	xorl	%ecx, %ecx
+	xorl	%edx, %edx
+	xorl	%r8d, %r8d
+	xorl	%r9d, %r9d
+	xorl	%r10d, %r10d
+	xorl	%r11d, %r11d
 	addq	$168, %rsp
 	popq	%rbx
 	popq	%rbp
@@ -13076,6 +13172,18 @@ fotsgure_aes_encrypt_blocks_to_v2:      # @fotsgure_aes_encrypt_blocks_to_v2
 	movaps	144(%rsp), %xmm13               # 16-byte Reload
 	movaps	160(%rsp), %xmm14               # 16-byte Reload
 	movaps	176(%rsp), %xmm15               # 16-byte Reload
+	pxor	%xmm0, %xmm0
+	pxor	%xmm1, %xmm1
+	pxor	%xmm2, %xmm2
+	pxor	%xmm3, %xmm3
+	pxor	%xmm4, %xmm4
+	pxor	%xmm5, %xmm5
+	xorl	%ecx, %ecx
+	xorl	%edx, %edx
+	xorl	%r8d, %r8d
+	xorl	%r9d, %r9d
+	xorl	%r10d, %r10d
+	xorl	%r11d, %r11d
 	addq	$192, %rsp
 	popq	%rbx
 	popq	%rdi
@@ -13170,6 +13278,18 @@ fotsgure_aes_wrap_v2:                   # @fotsgure_aes_wrap_v2
 	movaps	128(%rsp), %xmm13               # 16-byte Reload
 	movaps	144(%rsp), %xmm14               # 16-byte Reload
 	movaps	160(%rsp), %xmm15               # 16-byte Reload
+	pxor	%xmm0, %xmm0
+	pxor	%xmm1, %xmm1
+	pxor	%xmm2, %xmm2
+	pxor	%xmm3, %xmm3
+	pxor	%xmm4, %xmm4
+	pxor	%xmm5, %xmm5
+	xorl	%ecx, %ecx
+	xorl	%edx, %edx
+	xorl	%r8d, %r8d
+	xorl	%r9d, %r9d
+	xorl	%r10d, %r10d
+	xorl	%r11d, %r11d
 	addq	$176, %rsp
 	popq	%rbx
 	popq	%rdi
@@ -13260,6 +13380,18 @@ fotsgure_aes_wrap_padded_v2:            # @fotsgure_aes_wrap_padded_v2
 	movaps	128(%rsp), %xmm13               # 16-byte Reload
 	movaps	144(%rsp), %xmm14               # 16-byte Reload
 	movaps	160(%rsp), %xmm15               # 16-byte Reload
+	pxor	%xmm0, %xmm0
+	pxor	%xmm1, %xmm1
+	pxor	%xmm2, %xmm2
+	pxor	%xmm3, %xmm3
+	pxor	%xmm4, %xmm4
+	pxor	%xmm5, %xmm5
+	xorl	%ecx, %ecx
+	xorl	%edx, %edx
+	xorl	%r8d, %r8d
+	xorl	%r9d, %r9d
+	xorl	%r10d, %r10d
+	xorl	%r11d, %r11d
 	addq	$176, %rsp
 	popq	%rbx
 	popq	%rdi
@@ -13464,6 +13596,18 @@ fotsgure_aes_cbc_decrypt_v2:            # @fotsgure_aes_cbc_decrypt_v2
 	movaps	1232(%rsp), %xmm13              # 16-byte Reload
 	movaps	1248(%rsp), %xmm14              # 16-byte Reload
 	movaps	1264(%rsp), %xmm15              # 16-byte Reload
+	pxor	%xmm0, %xmm0
+	pxor	%xmm1, %xmm1
+	pxor	%xmm2, %xmm2
+	pxor	%xmm3, %xmm3
+	pxor	%xmm4, %xmm4
+	pxor	%xmm5, %xmm5
+	xorl	%ecx, %ecx
+	xorl	%edx, %edx
+	xorl	%r8d, %r8d
+	xorl	%r9d, %r9d
+	xorl	%r10d, %r10d
+	xorl	%r11d, %r11d
 	addq	$1288, %rsp                     # imm = 0x508
 	popq	%rbx
 	popq	%rbp
@@ -13583,6 +13727,18 @@ fotsgure_aes_decrypt_blocks_v2:         # @fotsgure_aes_decrypt_blocks_v2
 	movaps	112(%rsp), %xmm13               # 16-byte Reload
 	movaps	128(%rsp), %xmm14               # 16-byte Reload
 	movaps	144(%rsp), %xmm15               # 16-byte Reload
+	pxor	%xmm0, %xmm0
+	pxor	%xmm1, %xmm1
+	pxor	%xmm2, %xmm2
+	pxor	%xmm3, %xmm3
+	pxor	%xmm4, %xmm4
+	pxor	%xmm5, %xmm5
+	xorl	%ecx, %ecx
+	xorl	%edx, %edx
+	xorl	%r8d, %r8d
+	xorl	%r9d, %r9d
+	xorl	%r10d, %r10d
+	xorl	%r11d, %r11d
 	addq	$168, %rsp
 	popq	%rbx
 	popq	%rbp
@@ -13793,6 +13949,18 @@ fotsgure_aes_decrypt_blocks_to_v2:      # @fotsgure_aes_decrypt_blocks_to_v2
 	movaps	144(%rsp), %xmm13               # 16-byte Reload
 	movaps	160(%rsp), %xmm14               # 16-byte Reload
 	movaps	176(%rsp), %xmm15               # 16-byte Reload
+	pxor	%xmm0, %xmm0
+	pxor	%xmm1, %xmm1
+	pxor	%xmm2, %xmm2
+	pxor	%xmm3, %xmm3
+	pxor	%xmm4, %xmm4
+	pxor	%xmm5, %xmm5
+	xorl	%ecx, %ecx
+	xorl	%edx, %edx
+	xorl	%r8d, %r8d
+	xorl	%r9d, %r9d
+	xorl	%r10d, %r10d
+	xorl	%r11d, %r11d
 	addq	$192, %rsp
 	popq	%rbx
 	popq	%rdi
@@ -13929,6 +14097,18 @@ fotsgure_aes_decrypt_blocks_with_v2:    # @fotsgure_aes_decrypt_blocks_with_v2
 	movaps	608(%rsp), %xmm13               # 16-byte Reload
 	movaps	624(%rsp), %xmm14               # 16-byte Reload
 	movaps	640(%rsp), %xmm15               # 16-byte Reload
+	pxor	%xmm0, %xmm0
+	pxor	%xmm1, %xmm1
+	pxor	%xmm2, %xmm2
+	pxor	%xmm3, %xmm3
+	pxor	%xmm4, %xmm4
+	pxor	%xmm5, %xmm5
+	xorl	%ecx, %ecx
+	xorl	%edx, %edx
+	xorl	%r8d, %r8d
+	xorl	%r9d, %r9d
+	xorl	%r10d, %r10d
+	xorl	%r11d, %r11d
 	addq	$664, %rsp                      # imm = 0x298
 	popq	%rbx
 	popq	%rbp
@@ -14034,6 +14214,18 @@ fotsgure_aes_unwrap_v2:                 # @fotsgure_aes_unwrap_v2
 	movaps	144(%rsp), %xmm13               # 16-byte Reload
 	movaps	160(%rsp), %xmm14               # 16-byte Reload
 	movaps	176(%rsp), %xmm15               # 16-byte Reload
+	pxor	%xmm0, %xmm0
+	pxor	%xmm1, %xmm1
+	pxor	%xmm2, %xmm2
+	pxor	%xmm3, %xmm3
+	pxor	%xmm4, %xmm4
+	pxor	%xmm5, %xmm5
+	xorl	%ecx, %ecx
+	xorl	%edx, %edx
+	xorl	%r8d, %r8d
+	xorl	%r9d, %r9d
+	xorl	%r10d, %r10d
+	xorl	%r11d, %r11d
 	addq	$200, %rsp
 	popq	%rbx
 	popq	%rbp
@@ -14141,6 +14333,18 @@ fotsgure_aes_unwrap_padded_v2:          # @fotsgure_aes_unwrap_padded_v2
 	movaps	160(%rsp), %xmm13               # 16-byte Reload
 	movaps	176(%rsp), %xmm14               # 16-byte Reload
 	movaps	192(%rsp), %xmm15               # 16-byte Reload
+	pxor	%xmm0, %xmm0
+	pxor	%xmm1, %xmm1
+	pxor	%xmm2, %xmm2
+	pxor	%xmm3, %xmm3
+	pxor	%xmm4, %xmm4
+	pxor	%xmm5, %xmm5
+	xorl	%ecx, %ecx
+	xorl	%edx, %edx
+	xorl	%r8d, %r8d
+	xorl	%r9d, %r9d
+	xorl	%r10d, %r10d
+	xorl	%r11d, %r11d
 	addq	$208, %rsp
 	popq	%rbx
 	popq	%rdi
@@ -14230,6 +14434,18 @@ fotsgure_aes_add_keystream_v2:          # @fotsgure_aes_add_keystream_v2
 	movaps	112(%rsp), %xmm13               # 16-byte Reload
 	movaps	128(%rsp), %xmm14               # 16-byte Reload
 	movaps	144(%rsp), %xmm15               # 16-byte Reload
+	pxor	%xmm0, %xmm0
+	pxor	%xmm1, %xmm1
+	pxor	%xmm2, %xmm2
+	pxor	%xmm3, %xmm3
+	pxor	%xmm4, %xmm4
+	pxor	%xmm5, %xmm5
+	xorl	%ecx, %ecx
+	xorl	%edx, %edx
+	xorl	%r8d, %r8d
+	xorl	%r9d, %r9d
+	xorl	%r10d, %r10d
+	xorl	%r11d, %r11d
 	addq	$168, %rsp
 	popq	%rbx
 	popq	%rdi
@@ -14415,6 +14631,18 @@ fotsgure_aes_add_keystream_to_v2:       # @fotsgure_aes_add_keystream_to_v2
 	movaps	144(%rsp), %xmm13               # 16-byte Reload
 	movaps	160(%rsp), %xmm14               # 16-byte Reload
 	movaps	176(%rsp), %xmm15               # 16-byte Reload
+	pxor	%xmm0, %xmm0
+	pxor	%xmm1, %xmm1
+	pxor	%xmm2, %xmm2
+	pxor	%xmm3, %xmm3
+	pxor	%xmm4, %xmm4
+	pxor	%xmm5, %xmm5
+	xorl	%ecx, %ecx
+	xorl	%edx, %edx
+	xorl	%r8d, %r8d
+	xorl	%r9d, %r9d
+	xorl	%r10d, %r10d
+	xorl	%r11d, %r11d
 	addq	$200, %rsp
 	popq	%rbx
 	popq	%rbp

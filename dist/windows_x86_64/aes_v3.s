@@ -13607,6 +13607,18 @@ fotsgure_aes_add_keystream_with_v3:     # @fotsgure_aes_add_keystream_with_v3
 	vmovaps	352(%rsp), %xmm13               # 16-byte Reload
 	vmovaps	368(%rsp), %xmm14               # 16-byte Reload
 	vmovaps	384(%rsp), %xmm15               # 16-byte Reload
+	vpxor	%xmm0, %xmm0, %xmm0
+	vpxor	%xmm1, %xmm1, %xmm1
+	vpxor	%xmm2, %xmm2, %xmm2
+	vpxor	%xmm3, %xmm3, %xmm3
+	vpxor	%xmm4, %xmm4, %xmm4
+	vpxor	%xmm5, %xmm5, %xmm5
+	xorl	%ecx, %ecx
+	xorl	%edx, %edx
+	xorl	%r8d, %r8d
+	xorl	%r9d, %r9d
+	xorl	%r10d, %r10d
+	xorl	%r11d, %r11d
 	addq	$408, %rsp                      # imm = 0x198
 	popq	%rbx
 	popq	%rbp
@@ -13742,6 +13754,18 @@ fotsgure_aes_encrypt_blocks_with_v3:    # @fotsgure_aes_encrypt_blocks_with_v3
 	vmovaps	352(%rsp), %xmm13               # 16-byte Reload
 	vmovaps	368(%rsp), %xmm14               # 16-byte Reload
 	vmovaps	384(%rsp), %xmm15               # 16-byte Reload
+	vpxor	%xmm0, %xmm0, %xmm0
+	vpxor	%xmm1, %xmm1, %xmm1
+	vpxor	%xmm2, %xmm2, %xmm2
+	vpxor	%xmm3, %xmm3, %xmm3
+	vpxor	%xmm4, %xmm4, %xmm4
+	vpxor	%xmm5, %xmm5, %xmm5
+	xorl	%ecx, %ecx
+	xorl	%edx, %edx
+	xorl	%r8d, %r8d
+	xorl	%r9d, %r9d
+	xorl	%r10d, %r10d
+	xorl	%r11d, %r11d
 	addq	$400, %rsp                      # imm = 0x190
 	popq	%rbx
 	popq	%rdi
@@ -13807,6 +13831,18 @@ fotsgure_aes_set_key_v3:                # @fotsgure_aes_set_key_v3
 	vmovaps	112(%rsp), %xmm13               # 16-byte Reload
 	vmovaps	128(%rsp), %xmm14               # 16-byte Reload
 	vmovaps	144(%rsp), %xmm15               # 16-byte Reload
+	vpxor	%xmm0, %xmm0, %xmm0
+	vpxor	%xmm1, %xmm1, %xmm1
+	vpxor	%xmm2, %xmm2, %xmm2
+	vpxor	%xmm3, %xmm3, %xmm3
+	vpxor	%xmm4, %xmm4, %xmm4
+	vpxor	%xmm5, %xmm5, %xmm5
+	xorl	%ecx, %ecx
+	xorl	%edx, %edx
+	xorl	%r8d, %r8d
+	xorl	%r9d, %r9d
+	xorl	%r10d, %r10d
+	xorl	%r11d, %r11d
 	addq	$168, %rsp
 	popq	%rdi
 	popq	%rsi
@@ -13822,6 +13858,18 @@ fotsgure_aes_set_key_v3:                # @fotsgure_aes_set_key_v3
 fotsgure_aes_version_v3:                # @fotsgure_aes_version_v3
 # %bb.0:                                # %start
 	movl	$300, %eax                      # imm = 0x12C
+	vpxor	%xmm0, %xmm0, %xmm0
+	vpxor	%xmm1, %xmm1, %xmm1
+	vpxor	%xmm2, %xmm2, %xmm2
+	vpxor	%xmm3, %xmm3, %xmm3
+	vpxor	%xmm4, %xmm4, %xmm4
+	vpxor	%xmm5, %xmm5, %xmm5
+	xorl	%ecx, %ecx
+	xorl	%edx, %edx
+	xorl	%r8d, %r8d
+	xorl	%r9d, %r9d
+	xorl	%r10d, %r10d
+	xorl	%r11d, %r11d
 	retq
                                         # -- End function
 	.def	fotsgure_aes_wipe_v3;
@@ -13895,6 +13943,18 @@ fotsgure_aes_wipe_v3:                   # @fotsgure_aes_wipe_v3
 	vmovaps	112(%rsp), %xmm13               # 16-byte Reload
 	vmovaps	128(%rsp), %xmm14               # 16-byte Reload
 	vmovaps	144(%rsp), %xmm15               # 16-byte Reload
+	vpxor	%xmm0, %xmm0, %xmm0
+	vpxor	%xmm1, %xmm1, %xmm1
+	vpxor	%xmm2, %xmm2, %xmm2
+	vpxor	%xmm3, %xmm3, %xmm3
+	vpxor	%xmm4, %xmm4, %xmm4
+	vpxor	%xmm5, %xmm5, %xmm5
+	xorl	%ecx, %ecx
+	xorl	%edx, %edx
+	xorl	%r8d, %r8d
+	xorl	%r9d, %r9d
+	xorl	%r10d, %r10d
+	xorl	%r11d, %r11d
 	addq	$160, %rsp
 	popq	%rbx
 	popq	%rdi
@@ -13921,6 +13981,18 @@ fotsgure_aes_key_length_v3:             # @fotsgure_aes_key_length_v3
 # %bb.2:                                # %then.1.i
 	movq	%rcx, %rax
 .LBB37_3:                               # %"aes_c::kept::fotsgure_aes_key_length.exit"
+	vpxor	%xmm0, %xmm0, %xmm0
+	vpxor	%xmm1, %xmm1, %xmm1
+	vpxor	%xmm2, %xmm2, %xmm2
+	vpxor	%xmm3, %xmm3, %xmm3
+	vpxor	%xmm4, %xmm4, %xmm4
+	vpxor	%xmm5, %xmm5, %xmm5
+	xorl	%ecx, %ecx
+	xorl	%edx, %edx
+	xorl	%r8d, %r8d
+	xorl	%r9d, %r9d
+	xorl	%r10d, %r10d
+	xorl	%r11d, %r11d
 	retq
                                         # -- End function
 	.def	fotsgure_aes_cbc_encrypt_v3;
@@ -14027,6 +14099,18 @@ fotsgure_aes_cbc_encrypt_v3:            # @fotsgure_aes_cbc_encrypt_v3
 	vmovaps	128(%rsp), %xmm13               # 16-byte Reload
 	vmovaps	144(%rsp), %xmm14               # 16-byte Reload
 	vmovaps	160(%rsp), %xmm15               # 16-byte Reload
+	vpxor	%xmm0, %xmm0, %xmm0
+	vpxor	%xmm1, %xmm1, %xmm1
+	vpxor	%xmm2, %xmm2, %xmm2
+	vpxor	%xmm3, %xmm3, %xmm3
+	vpxor	%xmm4, %xmm4, %xmm4
+	vpxor	%xmm5, %xmm5, %xmm5
+	xorl	%ecx, %ecx
+	xorl	%edx, %edx
+	xorl	%r8d, %r8d
+	xorl	%r9d, %r9d
+	xorl	%r10d, %r10d
+	xorl	%r11d, %r11d
 	addq	$176, %rsp
 	popq	%rbx
 	popq	%rdi
@@ -14145,6 +14229,18 @@ fotsgure_aes_encrypt_blocks_v3:         # @fotsgure_aes_encrypt_blocks_v3
 	vmovaps	112(%rsp), %xmm13               # 16-byte Reload
 	vmovaps	128(%rsp), %xmm14               # 16-byte Reload
 	vmovaps	144(%rsp), %xmm15               # 16-byte Reload
+	vpxor	%xmm0, %xmm0, %xmm0
+	vpxor	%xmm1, %xmm1, %xmm1
+	vpxor	%xmm2, %xmm2, %xmm2
+	vpxor	%xmm3, %xmm3, %xmm3
+	vpxor	%xmm4, %xmm4, %xmm4
+	vpxor	%xmm5, %xmm5, %xmm5
+	xorl	%ecx, %ecx
+	xorl	%edx, %edx
+	xorl	%r8d, %r8d
+	xorl	%r9d, %r9d
+	xorl	%r10d, %r10d
+	xorl	%r11d, %r11d
 	addq	$168, %rsp
 	popq	%rbx
 	popq	%rbp
@@ -14356,6 +14452,18 @@ fotsgure_aes_encrypt_blocks_to_v3:      # @fotsgure_aes_encrypt_blocks_to_v3
 	vmovaps	144(%rsp), %xmm13               # 16-byte Reload
 	vmovaps	160(%rsp), %xmm14               # 16-byte Reload
 	vmovaps	176(%rsp), %xmm15               # 16-byte Reload
+	vpxor	%xmm0, %xmm0, %xmm0
+	vpxor	%xmm1, %xmm1, %xmm1
+	vpxor	%xmm2, %xmm2, %xmm2
+	vpxor	%xmm3, %xmm3, %xmm3
+	vpxor	%xmm4, %xmm4, %xmm4
+	vpxor	%xmm5, %xmm5, %xmm5
+	xorl	%ecx, %ecx
+	xorl	%edx, %edx
+	xorl	%r8d, %r8d
+	xorl	%r9d, %r9d
+	xorl	%r10d, %r10d
+	xorl	%r11d, %r11d
 	addq	$192, %rsp
 	popq	%rbx
 	popq	%rdi
@@ -14450,6 +14558,18 @@ fotsgure_aes_wrap_v3:                   # @fotsgure_aes_wrap_v3
 	vmovaps	128(%rsp), %xmm13               # 16-byte Reload
 	vmovaps	144(%rsp), %xmm14               # 16-byte Reload
 	vmovaps	160(%rsp), %xmm15               # 16-byte Reload
+	vpxor	%xmm0, %xmm0, %xmm0
+	vpxor	%xmm1, %xmm1, %xmm1
+	vpxor	%xmm2, %xmm2, %xmm2
+	vpxor	%xmm3, %xmm3, %xmm3
+	vpxor	%xmm4, %xmm4, %xmm4
+	vpxor	%xmm5, %xmm5, %xmm5
+	xorl	%ecx, %ecx
+	xorl	%edx, %edx
+	xorl	%r8d, %r8d
+	xorl	%r9d, %r9d
+	xorl	%r10d, %r10d
+	xorl	%r11d, %r11d
 	addq	$176, %rsp
 	popq	%rbx
 	popq	%rdi
@@ -14540,6 +14660,18 @@ fotsgure_aes_wrap_padded_v3:            # @fotsgure_aes_wrap_padded_v3
 	vmovaps	128(%rsp), %xmm13               # 16-byte Reload
 	vmovaps	144(%rsp), %xmm14               # 16-byte Reload
 	vmovaps	160(%rsp), %xmm15               # 16-byte Reload
+	vpxor	%xmm0, %xmm0, %xmm0
+	vpxor	%xmm1, %xmm1, %xmm1
+	vpxor	%xmm2, %xmm2, %xmm2
+	vpxor	%xmm3, %xmm3, %xmm3
+	vpxor	%xmm4, %xmm4, %xmm4
+	vpxor	%xmm5, %xmm5, %xmm5
+	xorl	%ecx, %ecx
+	xorl	%edx, %edx
+	xorl	%r8d, %r8d
+	xorl	%r9d, %r9d
+	xorl	%r10d, %r10d
+	xorl	%r11d, %r11d
 	addq	$176, %rsp
 	popq	%rbx
 	popq	%rdi
@@ -14774,6 +14906,18 @@ fotsgure_aes_cbc_decrypt_v3:            # @fotsgure_aes_cbc_decrypt_v3
 	vmovaps	1216(%rsp), %xmm13              # 16-byte Reload
 	vmovaps	1232(%rsp), %xmm14              # 16-byte Reload
 	vmovaps	1248(%rsp), %xmm15              # 16-byte Reload
+	vpxor	%xmm0, %xmm0, %xmm0
+	vpxor	%xmm1, %xmm1, %xmm1
+	vpxor	%xmm2, %xmm2, %xmm2
+	vpxor	%xmm3, %xmm3, %xmm3
+	vpxor	%xmm4, %xmm4, %xmm4
+	vpxor	%xmm5, %xmm5, %xmm5
+	xorl	%ecx, %ecx
+	xorl	%edx, %edx
+	xorl	%r8d, %r8d
+	xorl	%r9d, %r9d
+	xorl	%r10d, %r10d
+	xorl	%r11d, %r11d
 	addq	$1272, %rsp                     # imm = 0x4F8
 	popq	%rbx
 	popq	%rbp
@@ -14893,6 +15037,18 @@ fotsgure_aes_decrypt_blocks_v3:         # @fotsgure_aes_decrypt_blocks_v3
 	vmovaps	112(%rsp), %xmm13               # 16-byte Reload
 	vmovaps	128(%rsp), %xmm14               # 16-byte Reload
 	vmovaps	144(%rsp), %xmm15               # 16-byte Reload
+	vpxor	%xmm0, %xmm0, %xmm0
+	vpxor	%xmm1, %xmm1, %xmm1
+	vpxor	%xmm2, %xmm2, %xmm2
+	vpxor	%xmm3, %xmm3, %xmm3
+	vpxor	%xmm4, %xmm4, %xmm4
+	vpxor	%xmm5, %xmm5, %xmm5
+	xorl	%ecx, %ecx
+	xorl	%edx, %edx
+	xorl	%r8d, %r8d
+	xorl	%r9d, %r9d
+	xorl	%r10d, %r10d
+	xorl	%r11d, %r11d
 	addq	$168, %rsp
 	popq	%rbx
 	popq	%rbp
@@ -15103,6 +15259,18 @@ fotsgure_aes_decrypt_blocks_to_v3:      # @fotsgure_aes_decrypt_blocks_to_v3
 	vmovaps	144(%rsp), %xmm13               # 16-byte Reload
 	vmovaps	160(%rsp), %xmm14               # 16-byte Reload
 	vmovaps	176(%rsp), %xmm15               # 16-byte Reload
+	vpxor	%xmm0, %xmm0, %xmm0
+	vpxor	%xmm1, %xmm1, %xmm1
+	vpxor	%xmm2, %xmm2, %xmm2
+	vpxor	%xmm3, %xmm3, %xmm3
+	vpxor	%xmm4, %xmm4, %xmm4
+	vpxor	%xmm5, %xmm5, %xmm5
+	xorl	%ecx, %ecx
+	xorl	%edx, %edx
+	xorl	%r8d, %r8d
+	xorl	%r9d, %r9d
+	xorl	%r10d, %r10d
+	xorl	%r11d, %r11d
 	addq	$192, %rsp
 	popq	%rbx
 	popq	%rdi
@@ -15239,6 +15407,18 @@ fotsgure_aes_decrypt_blocks_with_v3:    # @fotsgure_aes_decrypt_blocks_with_v3
 	vmovaps	608(%rsp), %xmm13               # 16-byte Reload
 	vmovaps	624(%rsp), %xmm14               # 16-byte Reload
 	vmovaps	640(%rsp), %xmm15               # 16-byte Reload
+	vpxor	%xmm0, %xmm0, %xmm0
+	vpxor	%xmm1, %xmm1, %xmm1
+	vpxor	%xmm2, %xmm2, %xmm2
+	vpxor	%xmm3, %xmm3, %xmm3
+	vpxor	%xmm4, %xmm4, %xmm4
+	vpxor	%xmm5, %xmm5, %xmm5
+	xorl	%ecx, %ecx
+	xorl	%edx, %edx
+	xorl	%r8d, %r8d
+	xorl	%r9d, %r9d
+	xorl	%r10d, %r10d
+	xorl	%r11d, %r11d
 	addq	$664, %rsp                      # imm = 0x298
 	popq	%rbx
 	popq	%rbp
@@ -15344,6 +15524,18 @@ fotsgure_aes_unwrap_v3:                 # @fotsgure_aes_unwrap_v3
 	vmovaps	144(%rsp), %xmm13               # 16-byte Reload
 	vmovaps	160(%rsp), %xmm14               # 16-byte Reload
 	vmovaps	176(%rsp), %xmm15               # 16-byte Reload
+	vpxor	%xmm0, %xmm0, %xmm0
+	vpxor	%xmm1, %xmm1, %xmm1
+	vpxor	%xmm2, %xmm2, %xmm2
+	vpxor	%xmm3, %xmm3, %xmm3
+	vpxor	%xmm4, %xmm4, %xmm4
+	vpxor	%xmm5, %xmm5, %xmm5
+	xorl	%ecx, %ecx
+	xorl	%edx, %edx
+	xorl	%r8d, %r8d
+	xorl	%r9d, %r9d
+	xorl	%r10d, %r10d
+	xorl	%r11d, %r11d
 	addq	$200, %rsp
 	popq	%rbx
 	popq	%rbp
@@ -15451,6 +15643,18 @@ fotsgure_aes_unwrap_padded_v3:          # @fotsgure_aes_unwrap_padded_v3
 	vmovaps	160(%rsp), %xmm13               # 16-byte Reload
 	vmovaps	176(%rsp), %xmm14               # 16-byte Reload
 	vmovaps	192(%rsp), %xmm15               # 16-byte Reload
+	vpxor	%xmm0, %xmm0, %xmm0
+	vpxor	%xmm1, %xmm1, %xmm1
+	vpxor	%xmm2, %xmm2, %xmm2
+	vpxor	%xmm3, %xmm3, %xmm3
+	vpxor	%xmm4, %xmm4, %xmm4
+	vpxor	%xmm5, %xmm5, %xmm5
+	xorl	%ecx, %ecx
+	xorl	%edx, %edx
+	xorl	%r8d, %r8d
+	xorl	%r9d, %r9d
+	xorl	%r10d, %r10d
+	xorl	%r11d, %r11d
 	addq	$208, %rsp
 	popq	%rbx
 	popq	%rdi
@@ -15540,6 +15744,18 @@ fotsgure_aes_add_keystream_v3:          # @fotsgure_aes_add_keystream_v3
 	vmovaps	112(%rsp), %xmm13               # 16-byte Reload
 	vmovaps	128(%rsp), %xmm14               # 16-byte Reload
 	vmovaps	144(%rsp), %xmm15               # 16-byte Reload
+	vpxor	%xmm0, %xmm0, %xmm0
+	vpxor	%xmm1, %xmm1, %xmm1
+	vpxor	%xmm2, %xmm2, %xmm2
+	vpxor	%xmm3, %xmm3, %xmm3
+	vpxor	%xmm4, %xmm4, %xmm4
+	vpxor	%xmm5, %xmm5, %xmm5
+	xorl	%ecx, %ecx
+	xorl	%edx, %edx
+	xorl	%r8d, %r8d
+	xorl	%r9d, %r9d
+	xorl	%r10d, %r10d
+	xorl	%r11d, %r11d
 	addq	$168, %rsp
 	popq	%rbx
 	popq	%rdi
@@ -15744,6 +15960,18 @@ fotsgure_aes_add_keystream_to_v3:       # @fotsgure_aes_add_keystream_to_v3
 	popq	%r14
 	popq	%r15
 	vzeroupper
+	vpxor	%xmm0, %xmm0, %xmm0
+	vpxor	%xmm1, %xmm1, %xmm1
+	vpxor	%xmm2, %xmm2, %xmm2
+	vpxor	%xmm3, %xmm3, %xmm3
+	vpxor	%xmm4, %xmm4, %xmm4
+	vpxor	%xmm5, %xmm5, %xmm5
+	xorl	%ecx, %ecx
+	xorl	%edx, %edx
+	xorl	%r8d, %r8d
+	xorl	%r9d, %r9d
+	xorl	%r10d, %r10d
+	xorl	%r11d, %r11d
 	retq
 .LBB50_12:                              # %vector.main.loop.iter.check
 	cmpq	$128, %r9

@@ -13780,6 +13780,18 @@ fotsgure_gcm_set_key_v2:                # @fotsgure_gcm_set_key_v2
 	movaps	144(%rsp), %xmm13               # 16-byte Reload
 	movaps	160(%rsp), %xmm14               # 16-byte Reload
 	movaps	176(%rsp), %xmm15               # 16-byte Reload
+	pxor	%xmm0, %xmm0
+	pxor	%xmm1, %xmm1
+	pxor	%xmm2, %xmm2
+	pxor	%xmm3, %xmm3
+	pxor	%xmm4, %xmm4
+	pxor	%xmm5, %xmm5
+	xorl	%ecx, %ecx
+	xorl	%edx, %edx
+	xorl	%r8d, %r8d
+	xorl	%r9d, %r9d
+	xorl	%r10d, %r10d
+	xorl	%r11d, %r11d
 	addq	$200, %rsp
 	popq	%rbx
 	popq	%rdi
@@ -13856,6 +13868,18 @@ fotsgure_gcm_siv_wipe_v2:               # @fotsgure_gcm_siv_wipe_v2
 	movaps	112(%rsp), %xmm13               # 16-byte Reload
 	movaps	128(%rsp), %xmm14               # 16-byte Reload
 	movaps	144(%rsp), %xmm15               # 16-byte Reload
+	pxor	%xmm0, %xmm0
+	pxor	%xmm1, %xmm1
+	pxor	%xmm2, %xmm2
+	pxor	%xmm3, %xmm3
+	pxor	%xmm4, %xmm4
+	pxor	%xmm5, %xmm5
+	xorl	%ecx, %ecx
+	xorl	%edx, %edx
+	xorl	%r8d, %r8d
+	xorl	%r9d, %r9d
+	xorl	%r10d, %r10d
+	xorl	%r11d, %r11d
 	addq	$168, %rsp
 	popq	%rdi
 	popq	%rsi
@@ -13871,6 +13895,18 @@ fotsgure_gcm_siv_wipe_v2:               # @fotsgure_gcm_siv_wipe_v2
 fotsgure_gcm_version_v2:                # @fotsgure_gcm_version_v2
 # %bb.0:                                # %start
 	movl	$300, %eax                      # imm = 0x12C
+	pxor	%xmm0, %xmm0
+	pxor	%xmm1, %xmm1
+	pxor	%xmm2, %xmm2
+	pxor	%xmm3, %xmm3
+	pxor	%xmm4, %xmm4
+	pxor	%xmm5, %xmm5
+	xorl	%ecx, %ecx
+	xorl	%edx, %edx
+	xorl	%r8d, %r8d
+	xorl	%r9d, %r9d
+	xorl	%r10d, %r10d
+	xorl	%r11d, %r11d
 	retq
                                         # -- End function
 	.def	fotsgure_gcm_wipe_v2;
@@ -13931,6 +13967,18 @@ fotsgure_gcm_wipe_v2:                   # @fotsgure_gcm_wipe_v2
 	movaps	144(%rsp), %xmm13               # 16-byte Reload
 	movaps	160(%rsp), %xmm14               # 16-byte Reload
 	movaps	176(%rsp), %xmm15               # 16-byte Reload
+	pxor	%xmm0, %xmm0
+	pxor	%xmm1, %xmm1
+	pxor	%xmm2, %xmm2
+	pxor	%xmm3, %xmm3
+	pxor	%xmm4, %xmm4
+	pxor	%xmm5, %xmm5
+	xorl	%ecx, %ecx
+	xorl	%edx, %edx
+	xorl	%r8d, %r8d
+	xorl	%r9d, %r9d
+	xorl	%r10d, %r10d
+	xorl	%r11d, %r11d
 	addq	$192, %rsp
 	popq	%rbx
 	popq	%rdi
@@ -13992,6 +14040,18 @@ fotsgure_gcm_wipe_message_v2:           # @fotsgure_gcm_wipe_message_v2
 	movaps	112(%rsp), %xmm13               # 16-byte Reload
 	movaps	128(%rsp), %xmm14               # 16-byte Reload
 	movaps	144(%rsp), %xmm15               # 16-byte Reload
+	pxor	%xmm0, %xmm0
+	pxor	%xmm1, %xmm1
+	pxor	%xmm2, %xmm2
+	pxor	%xmm3, %xmm3
+	pxor	%xmm4, %xmm4
+	pxor	%xmm5, %xmm5
+	xorl	%ecx, %ecx
+	xorl	%edx, %edx
+	xorl	%r8d, %r8d
+	xorl	%r9d, %r9d
+	xorl	%r10d, %r10d
+	xorl	%r11d, %r11d
 	addq	$168, %rsp
 	popq	%rdi
 	popq	%rsi
@@ -14017,6 +14077,18 @@ fotsgure_gcm_key_length_v2:             # @fotsgure_gcm_key_length_v2
 # %bb.2:                                # %then.1.i
 	movq	%rcx, %rax
 .LBB57_3:                               # %"gcm_c::kept::fotsgure_gcm_key_length.exit"
+	pxor	%xmm0, %xmm0
+	pxor	%xmm1, %xmm1
+	pxor	%xmm2, %xmm2
+	pxor	%xmm3, %xmm3
+	pxor	%xmm4, %xmm4
+	pxor	%xmm5, %xmm5
+	xorl	%ecx, %ecx
+	xorl	%edx, %edx
+	xorl	%r8d, %r8d
+	xorl	%r9d, %r9d
+	xorl	%r10d, %r10d
+	xorl	%r11d, %r11d
 	retq
                                         # -- End function
 	.def	fotsgure_gcm_siv_set_key_v2;
@@ -14106,6 +14178,18 @@ fotsgure_gcm_siv_set_key_v2:            # @fotsgure_gcm_siv_set_key_v2
 	movaps	112(%rsp), %xmm13               # 16-byte Reload
 	movaps	128(%rsp), %xmm14               # 16-byte Reload
 	movaps	144(%rsp), %xmm15               # 16-byte Reload
+	pxor	%xmm0, %xmm0
+	pxor	%xmm1, %xmm1
+	pxor	%xmm2, %xmm2
+	pxor	%xmm3, %xmm3
+	pxor	%xmm4, %xmm4
+	pxor	%xmm5, %xmm5
+	xorl	%ecx, %ecx
+	xorl	%edx, %edx
+	xorl	%r8d, %r8d
+	xorl	%r9d, %r9d
+	xorl	%r10d, %r10d
+	xorl	%r11d, %r11d
 	addq	$168, %rsp
 	popq	%rbx
 	popq	%rdi
@@ -14213,6 +14297,18 @@ fotsgure_gcm_begin_v2:                  # @fotsgure_gcm_begin_v2
 	movaps	144(%rsp), %xmm13               # 16-byte Reload
 	movaps	160(%rsp), %xmm14               # 16-byte Reload
 	movaps	176(%rsp), %xmm15               # 16-byte Reload
+	pxor	%xmm0, %xmm0
+	pxor	%xmm1, %xmm1
+	pxor	%xmm2, %xmm2
+	pxor	%xmm3, %xmm3
+	pxor	%xmm4, %xmm4
+	pxor	%xmm5, %xmm5
+	xorl	%ecx, %ecx
+	xorl	%edx, %edx
+	xorl	%r8d, %r8d
+	xorl	%r9d, %r9d
+	xorl	%r10d, %r10d
+	xorl	%r11d, %r11d
 	addq	$200, %rsp
 	popq	%rbx
 	popq	%rdi
@@ -14339,6 +14435,18 @@ fotsgure_gcm_begin_next_v2:             # @fotsgure_gcm_begin_next_v2
 	movaps	160(%rsp), %xmm13               # 16-byte Reload
 	movaps	176(%rsp), %xmm14               # 16-byte Reload
 	movaps	192(%rsp), %xmm15               # 16-byte Reload
+	pxor	%xmm0, %xmm0
+	pxor	%xmm1, %xmm1
+	pxor	%xmm2, %xmm2
+	pxor	%xmm3, %xmm3
+	pxor	%xmm4, %xmm4
+	pxor	%xmm5, %xmm5
+	xorl	%ecx, %ecx
+	xorl	%edx, %edx
+	xorl	%r8d, %r8d
+	xorl	%r9d, %r9d
+	xorl	%r10d, %r10d
+	xorl	%r11d, %r11d
 	addq	$216, %rsp
 	popq	%rbx
 	popq	%rdi
@@ -14443,6 +14551,18 @@ fotsgure_gcm_finish_v2:                 # @fotsgure_gcm_finish_v2
 	movaps	176(%rsp), %xmm13               # 16-byte Reload
 	movaps	192(%rsp), %xmm14               # 16-byte Reload
 	movaps	208(%rsp), %xmm15               # 16-byte Reload
+	pxor	%xmm0, %xmm0
+	pxor	%xmm1, %xmm1
+	pxor	%xmm2, %xmm2
+	pxor	%xmm3, %xmm3
+	pxor	%xmm4, %xmm4
+	pxor	%xmm5, %xmm5
+	xorl	%ecx, %ecx
+	xorl	%edx, %edx
+	xorl	%r8d, %r8d
+	xorl	%r9d, %r9d
+	xorl	%r10d, %r10d
+	xorl	%r11d, %r11d
 	addq	$232, %rsp
 	popq	%rbx
 	popq	%rdi
@@ -14624,6 +14744,18 @@ fotsgure_gcm_open_v2:                   # @fotsgure_gcm_open_v2
 	movaps	208(%rsp), %xmm13               # 16-byte Reload
 	movaps	224(%rsp), %xmm14               # 16-byte Reload
 	movaps	240(%rsp), %xmm15               # 16-byte Reload
+	pxor	%xmm0, %xmm0
+	pxor	%xmm1, %xmm1
+	pxor	%xmm2, %xmm2
+	pxor	%xmm3, %xmm3
+	pxor	%xmm4, %xmm4
+	pxor	%xmm5, %xmm5
+	xorl	%ecx, %ecx
+	xorl	%edx, %edx
+	xorl	%r8d, %r8d
+	xorl	%r9d, %r9d
+	xorl	%r10d, %r10d
+	xorl	%r11d, %r11d
 	addq	$264, %rsp                      # imm = 0x108
 	popq	%rbx
 	popq	%rbp
@@ -14706,6 +14838,18 @@ fotsgure_gcm_seal_v2:                   # @fotsgure_gcm_seal_v2
 	movaps	128(%rsp), %xmm13               # 16-byte Reload
 	movaps	144(%rsp), %xmm14               # 16-byte Reload
 	movaps	160(%rsp), %xmm15               # 16-byte Reload
+	pxor	%xmm0, %xmm0
+	pxor	%xmm1, %xmm1
+	pxor	%xmm2, %xmm2
+	pxor	%xmm3, %xmm3
+	pxor	%xmm4, %xmm4
+	pxor	%xmm5, %xmm5
+	xorl	%ecx, %ecx
+	xorl	%edx, %edx
+	xorl	%r8d, %r8d
+	xorl	%r9d, %r9d
+	xorl	%r10d, %r10d
+	xorl	%r11d, %r11d
 	addq	$184, %rsp
 	popq	%rdi
 	popq	%rsi
@@ -14823,6 +14967,18 @@ fotsgure_gcm_seal_next_v2:              # @fotsgure_gcm_seal_next_v2
 	movaps	128(%rsp), %xmm13               # 16-byte Reload
 	movaps	144(%rsp), %xmm14               # 16-byte Reload
 	movaps	160(%rsp), %xmm15               # 16-byte Reload
+	pxor	%xmm0, %xmm0
+	pxor	%xmm1, %xmm1
+	pxor	%xmm2, %xmm2
+	pxor	%xmm3, %xmm3
+	pxor	%xmm4, %xmm4
+	pxor	%xmm5, %xmm5
+	xorl	%ecx, %ecx
+	xorl	%edx, %edx
+	xorl	%r8d, %r8d
+	xorl	%r9d, %r9d
+	xorl	%r10d, %r10d
+	xorl	%r11d, %r11d
 	addq	$184, %rsp
 	popq	%rbx
 	popq	%rdi
@@ -14930,6 +15086,18 @@ fotsgure_gcm_siv_open_v2:               # @fotsgure_gcm_siv_open_v2
 	movaps	128(%rsp), %xmm13               # 16-byte Reload
 	movaps	144(%rsp), %xmm14               # 16-byte Reload
 	movaps	160(%rsp), %xmm15               # 16-byte Reload
+	pxor	%xmm0, %xmm0
+	pxor	%xmm1, %xmm1
+	pxor	%xmm2, %xmm2
+	pxor	%xmm3, %xmm3
+	pxor	%xmm4, %xmm4
+	pxor	%xmm5, %xmm5
+	xorl	%ecx, %ecx
+	xorl	%edx, %edx
+	xorl	%r8d, %r8d
+	xorl	%r9d, %r9d
+	xorl	%r10d, %r10d
+	xorl	%r11d, %r11d
 	addq	$176, %rsp
 	popq	%rbx
 	popq	%rbp
@@ -15035,6 +15203,18 @@ fotsgure_gcm_siv_seal_v2:               # @fotsgure_gcm_siv_seal_v2
 	movaps	144(%rsp), %xmm13               # 16-byte Reload
 	movaps	160(%rsp), %xmm14               # 16-byte Reload
 	movaps	176(%rsp), %xmm15               # 16-byte Reload
+	pxor	%xmm0, %xmm0
+	pxor	%xmm1, %xmm1
+	pxor	%xmm2, %xmm2
+	pxor	%xmm3, %xmm3
+	pxor	%xmm4, %xmm4
+	pxor	%xmm5, %xmm5
+	xorl	%ecx, %ecx
+	xorl	%edx, %edx
+	xorl	%r8d, %r8d
+	xorl	%r9d, %r9d
+	xorl	%r10d, %r10d
+	xorl	%r11d, %r11d
 	addq	$192, %rsp
 	popq	%rbx
 	popq	%rbp
@@ -15141,6 +15321,18 @@ fotsgure_gcm_additional_v2:             # @fotsgure_gcm_additional_v2
 	movaps	144(%rsp), %xmm13               # 16-byte Reload
 	movaps	160(%rsp), %xmm14               # 16-byte Reload
 	movaps	176(%rsp), %xmm15               # 16-byte Reload
+	pxor	%xmm0, %xmm0
+	pxor	%xmm1, %xmm1
+	pxor	%xmm2, %xmm2
+	pxor	%xmm3, %xmm3
+	pxor	%xmm4, %xmm4
+	pxor	%xmm5, %xmm5
+	xorl	%ecx, %ecx
+	xorl	%edx, %edx
+	xorl	%r8d, %r8d
+	xorl	%r9d, %r9d
+	xorl	%r10d, %r10d
+	xorl	%r11d, %r11d
 	addq	$200, %rsp
 	popq	%rbx
 	popq	%rdi
@@ -15251,6 +15443,18 @@ fotsgure_gcm_decrypt_v2:                # @fotsgure_gcm_decrypt_v2
 	movaps	144(%rsp), %xmm13               # 16-byte Reload
 	movaps	160(%rsp), %xmm14               # 16-byte Reload
 	movaps	176(%rsp), %xmm15               # 16-byte Reload
+	pxor	%xmm0, %xmm0
+	pxor	%xmm1, %xmm1
+	pxor	%xmm2, %xmm2
+	pxor	%xmm3, %xmm3
+	pxor	%xmm4, %xmm4
+	pxor	%xmm5, %xmm5
+	xorl	%ecx, %ecx
+	xorl	%edx, %edx
+	xorl	%r8d, %r8d
+	xorl	%r9d, %r9d
+	xorl	%r10d, %r10d
+	xorl	%r11d, %r11d
 	addq	$200, %rsp
 	popq	%rbx
 	popq	%rdi
@@ -15434,6 +15638,18 @@ fotsgure_gcm_decrypt_unverified_v2:     # @fotsgure_gcm_decrypt_unverified_v2
 	movaps	144(%rsp), %xmm13               # 16-byte Reload
 	movaps	160(%rsp), %xmm14               # 16-byte Reload
 	movaps	176(%rsp), %xmm15               # 16-byte Reload
+	pxor	%xmm0, %xmm0
+	pxor	%xmm1, %xmm1
+	pxor	%xmm2, %xmm2
+	pxor	%xmm3, %xmm3
+	pxor	%xmm4, %xmm4
+	pxor	%xmm5, %xmm5
+	xorl	%ecx, %ecx
+	xorl	%edx, %edx
+	xorl	%r8d, %r8d
+	xorl	%r9d, %r9d
+	xorl	%r10d, %r10d
+	xorl	%r11d, %r11d
 	addq	$200, %rsp
 	popq	%rbx
 	popq	%rbp
@@ -15626,6 +15842,18 @@ fotsgure_gcm_encrypt_v2:                # @fotsgure_gcm_encrypt_v2
 	movaps	144(%rsp), %xmm13               # 16-byte Reload
 	movaps	160(%rsp), %xmm14               # 16-byte Reload
 	movaps	176(%rsp), %xmm15               # 16-byte Reload
+	pxor	%xmm0, %xmm0
+	pxor	%xmm1, %xmm1
+	pxor	%xmm2, %xmm2
+	pxor	%xmm3, %xmm3
+	pxor	%xmm4, %xmm4
+	pxor	%xmm5, %xmm5
+	xorl	%ecx, %ecx
+	xorl	%edx, %edx
+	xorl	%r8d, %r8d
+	xorl	%r9d, %r9d
+	xorl	%r10d, %r10d
+	xorl	%r11d, %r11d
 	addq	$200, %rsp
 	popq	%rbx
 	popq	%rbp
@@ -15806,6 +16034,18 @@ fotsgure_gcm_verify_v2:                 # @fotsgure_gcm_verify_v2
 	movaps	144(%rsp), %xmm13               # 16-byte Reload
 	movaps	160(%rsp), %xmm14               # 16-byte Reload
 	movaps	176(%rsp), %xmm15               # 16-byte Reload
+	pxor	%xmm0, %xmm0
+	pxor	%xmm1, %xmm1
+	pxor	%xmm2, %xmm2
+	pxor	%xmm3, %xmm3
+	pxor	%xmm4, %xmm4
+	pxor	%xmm5, %xmm5
+	xorl	%ecx, %ecx
+	xorl	%edx, %edx
+	xorl	%r8d, %r8d
+	xorl	%r9d, %r9d
+	xorl	%r10d, %r10d
+	xorl	%r11d, %r11d
 	addq	$200, %rsp
 	popq	%rbx
 	popq	%rbp
@@ -15933,6 +16173,18 @@ fotsgure_gcm_accept_v2:                 # @fotsgure_gcm_accept_v2
 	movaps	176(%rsp), %xmm13               # 16-byte Reload
 	movaps	192(%rsp), %xmm14               # 16-byte Reload
 	movaps	208(%rsp), %xmm15               # 16-byte Reload
+	pxor	%xmm0, %xmm0
+	pxor	%xmm1, %xmm1
+	pxor	%xmm2, %xmm2
+	pxor	%xmm3, %xmm3
+	pxor	%xmm4, %xmm4
+	pxor	%xmm5, %xmm5
+	xorl	%ecx, %ecx
+	xorl	%edx, %edx
+	xorl	%r8d, %r8d
+	xorl	%r9d, %r9d
+	xorl	%r10d, %r10d
+	xorl	%r11d, %r11d
 	addq	$224, %rsp
 	popq	%rbx
 	popq	%rbp
@@ -16082,6 +16334,18 @@ fotsgure_gcm_accept_short_v2:           # @fotsgure_gcm_accept_short_v2
 	movaps	208(%rsp), %xmm13               # 16-byte Reload
 	movaps	224(%rsp), %xmm14               # 16-byte Reload
 	movaps	240(%rsp), %xmm15               # 16-byte Reload
+	pxor	%xmm0, %xmm0
+	pxor	%xmm1, %xmm1
+	pxor	%xmm2, %xmm2
+	pxor	%xmm3, %xmm3
+	pxor	%xmm4, %xmm4
+	pxor	%xmm5, %xmm5
+	xorl	%ecx, %ecx
+	xorl	%edx, %edx
+	xorl	%r8d, %r8d
+	xorl	%r9d, %r9d
+	xorl	%r10d, %r10d
+	xorl	%r11d, %r11d
 	addq	$264, %rsp                      # imm = 0x108
 	popq	%rbx
 	popq	%rbp

@@ -14304,6 +14304,18 @@ fotsgure_gcm_set_key_v3:                # @fotsgure_gcm_set_key_v3
 	vmovaps	144(%rsp), %xmm13               # 16-byte Reload
 	vmovaps	160(%rsp), %xmm14               # 16-byte Reload
 	vmovaps	176(%rsp), %xmm15               # 16-byte Reload
+	vpxor	%xmm0, %xmm0, %xmm0
+	vpxor	%xmm1, %xmm1, %xmm1
+	vpxor	%xmm2, %xmm2, %xmm2
+	vpxor	%xmm3, %xmm3, %xmm3
+	vpxor	%xmm4, %xmm4, %xmm4
+	vpxor	%xmm5, %xmm5, %xmm5
+	xorl	%ecx, %ecx
+	xorl	%edx, %edx
+	xorl	%r8d, %r8d
+	xorl	%r9d, %r9d
+	xorl	%r10d, %r10d
+	xorl	%r11d, %r11d
 	addq	$200, %rsp
 	popq	%rbx
 	popq	%rdi
@@ -14373,6 +14385,18 @@ fotsgure_gcm_siv_wipe_v3:               # @fotsgure_gcm_siv_wipe_v3
 	vmovaps	112(%rsp), %xmm13               # 16-byte Reload
 	vmovaps	128(%rsp), %xmm14               # 16-byte Reload
 	vmovaps	144(%rsp), %xmm15               # 16-byte Reload
+	vpxor	%xmm0, %xmm0, %xmm0
+	vpxor	%xmm1, %xmm1, %xmm1
+	vpxor	%xmm2, %xmm2, %xmm2
+	vpxor	%xmm3, %xmm3, %xmm3
+	vpxor	%xmm4, %xmm4, %xmm4
+	vpxor	%xmm5, %xmm5, %xmm5
+	xorl	%ecx, %ecx
+	xorl	%edx, %edx
+	xorl	%r8d, %r8d
+	xorl	%r9d, %r9d
+	xorl	%r10d, %r10d
+	xorl	%r11d, %r11d
 	addq	$168, %rsp
 	popq	%rdi
 	popq	%rsi
@@ -14388,6 +14412,18 @@ fotsgure_gcm_siv_wipe_v3:               # @fotsgure_gcm_siv_wipe_v3
 fotsgure_gcm_version_v3:                # @fotsgure_gcm_version_v3
 # %bb.0:                                # %start
 	movl	$300, %eax                      # imm = 0x12C
+	vpxor	%xmm0, %xmm0, %xmm0
+	vpxor	%xmm1, %xmm1, %xmm1
+	vpxor	%xmm2, %xmm2, %xmm2
+	vpxor	%xmm3, %xmm3, %xmm3
+	vpxor	%xmm4, %xmm4, %xmm4
+	vpxor	%xmm5, %xmm5, %xmm5
+	xorl	%ecx, %ecx
+	xorl	%edx, %edx
+	xorl	%r8d, %r8d
+	xorl	%r9d, %r9d
+	xorl	%r10d, %r10d
+	xorl	%r11d, %r11d
 	retq
                                         # -- End function
 	.def	fotsgure_gcm_wipe_v3;
@@ -14448,6 +14484,18 @@ fotsgure_gcm_wipe_v3:                   # @fotsgure_gcm_wipe_v3
 	vmovaps	144(%rsp), %xmm13               # 16-byte Reload
 	vmovaps	160(%rsp), %xmm14               # 16-byte Reload
 	vmovaps	176(%rsp), %xmm15               # 16-byte Reload
+	vpxor	%xmm0, %xmm0, %xmm0
+	vpxor	%xmm1, %xmm1, %xmm1
+	vpxor	%xmm2, %xmm2, %xmm2
+	vpxor	%xmm3, %xmm3, %xmm3
+	vpxor	%xmm4, %xmm4, %xmm4
+	vpxor	%xmm5, %xmm5, %xmm5
+	xorl	%ecx, %ecx
+	xorl	%edx, %edx
+	xorl	%r8d, %r8d
+	xorl	%r9d, %r9d
+	xorl	%r10d, %r10d
+	xorl	%r11d, %r11d
 	addq	$192, %rsp
 	popq	%rbx
 	popq	%rdi
@@ -14508,6 +14556,18 @@ fotsgure_gcm_wipe_message_v3:           # @fotsgure_gcm_wipe_message_v3
 	vmovaps	112(%rsp), %xmm13               # 16-byte Reload
 	vmovaps	128(%rsp), %xmm14               # 16-byte Reload
 	vmovaps	144(%rsp), %xmm15               # 16-byte Reload
+	vpxor	%xmm0, %xmm0, %xmm0
+	vpxor	%xmm1, %xmm1, %xmm1
+	vpxor	%xmm2, %xmm2, %xmm2
+	vpxor	%xmm3, %xmm3, %xmm3
+	vpxor	%xmm4, %xmm4, %xmm4
+	vpxor	%xmm5, %xmm5, %xmm5
+	xorl	%ecx, %ecx
+	xorl	%edx, %edx
+	xorl	%r8d, %r8d
+	xorl	%r9d, %r9d
+	xorl	%r10d, %r10d
+	xorl	%r11d, %r11d
 	addq	$168, %rsp
 	popq	%rdi
 	popq	%rsi
@@ -14533,6 +14593,18 @@ fotsgure_gcm_key_length_v3:             # @fotsgure_gcm_key_length_v3
 # %bb.2:                                # %then.1.i
 	movq	%rcx, %rax
 .LBB57_3:                               # %"gcm_c::kept::fotsgure_gcm_key_length.exit"
+	vpxor	%xmm0, %xmm0, %xmm0
+	vpxor	%xmm1, %xmm1, %xmm1
+	vpxor	%xmm2, %xmm2, %xmm2
+	vpxor	%xmm3, %xmm3, %xmm3
+	vpxor	%xmm4, %xmm4, %xmm4
+	vpxor	%xmm5, %xmm5, %xmm5
+	xorl	%ecx, %ecx
+	xorl	%edx, %edx
+	xorl	%r8d, %r8d
+	xorl	%r9d, %r9d
+	xorl	%r10d, %r10d
+	xorl	%r11d, %r11d
 	retq
                                         # -- End function
 	.def	fotsgure_gcm_siv_set_key_v3;
@@ -14621,6 +14693,18 @@ fotsgure_gcm_siv_set_key_v3:            # @fotsgure_gcm_siv_set_key_v3
 	popq	%rsi
 	popq	%r14
 	vzeroupper
+	vpxor	%xmm0, %xmm0, %xmm0
+	vpxor	%xmm1, %xmm1, %xmm1
+	vpxor	%xmm2, %xmm2, %xmm2
+	vpxor	%xmm3, %xmm3, %xmm3
+	vpxor	%xmm4, %xmm4, %xmm4
+	vpxor	%xmm5, %xmm5, %xmm5
+	xorl	%ecx, %ecx
+	xorl	%edx, %edx
+	xorl	%r8d, %r8d
+	xorl	%r9d, %r9d
+	xorl	%r10d, %r10d
+	xorl	%r11d, %r11d
 	retq
 	.seh_endproc
                                         # -- End function
@@ -14730,6 +14814,18 @@ fotsgure_gcm_begin_v3:                  # @fotsgure_gcm_begin_v3
 	popq	%rsi
 	popq	%r14
 	vzeroupper
+	vpxor	%xmm0, %xmm0, %xmm0
+	vpxor	%xmm1, %xmm1, %xmm1
+	vpxor	%xmm2, %xmm2, %xmm2
+	vpxor	%xmm3, %xmm3, %xmm3
+	vpxor	%xmm4, %xmm4, %xmm4
+	vpxor	%xmm5, %xmm5, %xmm5
+	xorl	%ecx, %ecx
+	xorl	%edx, %edx
+	xorl	%r8d, %r8d
+	xorl	%r9d, %r9d
+	xorl	%r10d, %r10d
+	xorl	%r11d, %r11d
 	retq
 	.seh_endproc
                                         # -- End function
@@ -14856,6 +14952,18 @@ fotsgure_gcm_begin_next_v3:             # @fotsgure_gcm_begin_next_v3
 	popq	%rsi
 	popq	%r14
 	vzeroupper
+	vpxor	%xmm0, %xmm0, %xmm0
+	vpxor	%xmm1, %xmm1, %xmm1
+	vpxor	%xmm2, %xmm2, %xmm2
+	vpxor	%xmm3, %xmm3, %xmm3
+	vpxor	%xmm4, %xmm4, %xmm4
+	vpxor	%xmm5, %xmm5, %xmm5
+	xorl	%ecx, %ecx
+	xorl	%edx, %edx
+	xorl	%r8d, %r8d
+	xorl	%r9d, %r9d
+	xorl	%r10d, %r10d
+	xorl	%r11d, %r11d
 	retq
 	.seh_endproc
                                         # -- End function
@@ -14955,6 +15063,18 @@ fotsgure_gcm_finish_v3:                 # @fotsgure_gcm_finish_v3
 	vmovaps	176(%rsp), %xmm13               # 16-byte Reload
 	vmovaps	192(%rsp), %xmm14               # 16-byte Reload
 	vmovaps	208(%rsp), %xmm15               # 16-byte Reload
+	vpxor	%xmm0, %xmm0, %xmm0
+	vpxor	%xmm1, %xmm1, %xmm1
+	vpxor	%xmm2, %xmm2, %xmm2
+	vpxor	%xmm3, %xmm3, %xmm3
+	vpxor	%xmm4, %xmm4, %xmm4
+	vpxor	%xmm5, %xmm5, %xmm5
+	xorl	%ecx, %ecx
+	xorl	%edx, %edx
+	xorl	%r8d, %r8d
+	xorl	%r9d, %r9d
+	xorl	%r10d, %r10d
+	xorl	%r11d, %r11d
 	addq	$232, %rsp
 	popq	%rbx
 	popq	%rdi
@@ -15136,6 +15256,18 @@ fotsgure_gcm_open_v3:                   # @fotsgure_gcm_open_v3
 	vmovaps	208(%rsp), %xmm13               # 16-byte Reload
 	vmovaps	224(%rsp), %xmm14               # 16-byte Reload
 	vmovaps	240(%rsp), %xmm15               # 16-byte Reload
+	vpxor	%xmm0, %xmm0, %xmm0
+	vpxor	%xmm1, %xmm1, %xmm1
+	vpxor	%xmm2, %xmm2, %xmm2
+	vpxor	%xmm3, %xmm3, %xmm3
+	vpxor	%xmm4, %xmm4, %xmm4
+	vpxor	%xmm5, %xmm5, %xmm5
+	xorl	%ecx, %ecx
+	xorl	%edx, %edx
+	xorl	%r8d, %r8d
+	xorl	%r9d, %r9d
+	xorl	%r10d, %r10d
+	xorl	%r11d, %r11d
 	addq	$264, %rsp                      # imm = 0x108
 	popq	%rbx
 	popq	%rbp
@@ -15218,6 +15350,18 @@ fotsgure_gcm_seal_v3:                   # @fotsgure_gcm_seal_v3
 	vmovaps	128(%rsp), %xmm13               # 16-byte Reload
 	vmovaps	144(%rsp), %xmm14               # 16-byte Reload
 	vmovaps	160(%rsp), %xmm15               # 16-byte Reload
+	vpxor	%xmm0, %xmm0, %xmm0
+	vpxor	%xmm1, %xmm1, %xmm1
+	vpxor	%xmm2, %xmm2, %xmm2
+	vpxor	%xmm3, %xmm3, %xmm3
+	vpxor	%xmm4, %xmm4, %xmm4
+	vpxor	%xmm5, %xmm5, %xmm5
+	xorl	%ecx, %ecx
+	xorl	%edx, %edx
+	xorl	%r8d, %r8d
+	xorl	%r9d, %r9d
+	xorl	%r10d, %r10d
+	xorl	%r11d, %r11d
 	addq	$184, %rsp
 	popq	%rdi
 	popq	%rsi
@@ -15334,6 +15478,18 @@ fotsgure_gcm_seal_next_v3:              # @fotsgure_gcm_seal_next_v3
 	vmovaps	128(%rsp), %xmm13               # 16-byte Reload
 	vmovaps	144(%rsp), %xmm14               # 16-byte Reload
 	vmovaps	160(%rsp), %xmm15               # 16-byte Reload
+	vpxor	%xmm0, %xmm0, %xmm0
+	vpxor	%xmm1, %xmm1, %xmm1
+	vpxor	%xmm2, %xmm2, %xmm2
+	vpxor	%xmm3, %xmm3, %xmm3
+	vpxor	%xmm4, %xmm4, %xmm4
+	vpxor	%xmm5, %xmm5, %xmm5
+	xorl	%ecx, %ecx
+	xorl	%edx, %edx
+	xorl	%r8d, %r8d
+	xorl	%r9d, %r9d
+	xorl	%r10d, %r10d
+	xorl	%r11d, %r11d
 	addq	$184, %rsp
 	popq	%rbx
 	popq	%rdi
@@ -15441,6 +15597,18 @@ fotsgure_gcm_siv_open_v3:               # @fotsgure_gcm_siv_open_v3
 	vmovaps	128(%rsp), %xmm13               # 16-byte Reload
 	vmovaps	144(%rsp), %xmm14               # 16-byte Reload
 	vmovaps	160(%rsp), %xmm15               # 16-byte Reload
+	vpxor	%xmm0, %xmm0, %xmm0
+	vpxor	%xmm1, %xmm1, %xmm1
+	vpxor	%xmm2, %xmm2, %xmm2
+	vpxor	%xmm3, %xmm3, %xmm3
+	vpxor	%xmm4, %xmm4, %xmm4
+	vpxor	%xmm5, %xmm5, %xmm5
+	xorl	%ecx, %ecx
+	xorl	%edx, %edx
+	xorl	%r8d, %r8d
+	xorl	%r9d, %r9d
+	xorl	%r10d, %r10d
+	xorl	%r11d, %r11d
 	addq	$176, %rsp
 	popq	%rbx
 	popq	%rbp
@@ -15546,6 +15714,18 @@ fotsgure_gcm_siv_seal_v3:               # @fotsgure_gcm_siv_seal_v3
 	vmovaps	144(%rsp), %xmm13               # 16-byte Reload
 	vmovaps	160(%rsp), %xmm14               # 16-byte Reload
 	vmovaps	176(%rsp), %xmm15               # 16-byte Reload
+	vpxor	%xmm0, %xmm0, %xmm0
+	vpxor	%xmm1, %xmm1, %xmm1
+	vpxor	%xmm2, %xmm2, %xmm2
+	vpxor	%xmm3, %xmm3, %xmm3
+	vpxor	%xmm4, %xmm4, %xmm4
+	vpxor	%xmm5, %xmm5, %xmm5
+	xorl	%ecx, %ecx
+	xorl	%edx, %edx
+	xorl	%r8d, %r8d
+	xorl	%r9d, %r9d
+	xorl	%r10d, %r10d
+	xorl	%r11d, %r11d
 	addq	$192, %rsp
 	popq	%rbx
 	popq	%rbp
@@ -15652,6 +15832,18 @@ fotsgure_gcm_additional_v3:             # @fotsgure_gcm_additional_v3
 	vmovaps	144(%rsp), %xmm13               # 16-byte Reload
 	vmovaps	160(%rsp), %xmm14               # 16-byte Reload
 	vmovaps	176(%rsp), %xmm15               # 16-byte Reload
+	vpxor	%xmm0, %xmm0, %xmm0
+	vpxor	%xmm1, %xmm1, %xmm1
+	vpxor	%xmm2, %xmm2, %xmm2
+	vpxor	%xmm3, %xmm3, %xmm3
+	vpxor	%xmm4, %xmm4, %xmm4
+	vpxor	%xmm5, %xmm5, %xmm5
+	xorl	%ecx, %ecx
+	xorl	%edx, %edx
+	xorl	%r8d, %r8d
+	xorl	%r9d, %r9d
+	xorl	%r10d, %r10d
+	xorl	%r11d, %r11d
 	addq	$200, %rsp
 	popq	%rbx
 	popq	%rdi
@@ -15762,6 +15954,18 @@ fotsgure_gcm_decrypt_v3:                # @fotsgure_gcm_decrypt_v3
 	vmovaps	144(%rsp), %xmm13               # 16-byte Reload
 	vmovaps	160(%rsp), %xmm14               # 16-byte Reload
 	vmovaps	176(%rsp), %xmm15               # 16-byte Reload
+	vpxor	%xmm0, %xmm0, %xmm0
+	vpxor	%xmm1, %xmm1, %xmm1
+	vpxor	%xmm2, %xmm2, %xmm2
+	vpxor	%xmm3, %xmm3, %xmm3
+	vpxor	%xmm4, %xmm4, %xmm4
+	vpxor	%xmm5, %xmm5, %xmm5
+	xorl	%ecx, %ecx
+	xorl	%edx, %edx
+	xorl	%r8d, %r8d
+	xorl	%r9d, %r9d
+	xorl	%r10d, %r10d
+	xorl	%r11d, %r11d
 	addq	$200, %rsp
 	popq	%rbx
 	popq	%rdi
@@ -15943,6 +16147,18 @@ fotsgure_gcm_decrypt_unverified_v3:     # @fotsgure_gcm_decrypt_unverified_v3
 	vmovaps	144(%rsp), %xmm13               # 16-byte Reload
 	vmovaps	160(%rsp), %xmm14               # 16-byte Reload
 	vmovaps	176(%rsp), %xmm15               # 16-byte Reload
+	vpxor	%xmm0, %xmm0, %xmm0
+	vpxor	%xmm1, %xmm1, %xmm1
+	vpxor	%xmm2, %xmm2, %xmm2
+	vpxor	%xmm3, %xmm3, %xmm3
+	vpxor	%xmm4, %xmm4, %xmm4
+	vpxor	%xmm5, %xmm5, %xmm5
+	xorl	%ecx, %ecx
+	xorl	%edx, %edx
+	xorl	%r8d, %r8d
+	xorl	%r9d, %r9d
+	xorl	%r10d, %r10d
+	xorl	%r11d, %r11d
 	addq	$200, %rsp
 	popq	%rbx
 	popq	%rbp
@@ -16133,6 +16349,18 @@ fotsgure_gcm_encrypt_v3:                # @fotsgure_gcm_encrypt_v3
 	vmovaps	144(%rsp), %xmm13               # 16-byte Reload
 	vmovaps	160(%rsp), %xmm14               # 16-byte Reload
 	vmovaps	176(%rsp), %xmm15               # 16-byte Reload
+	vpxor	%xmm0, %xmm0, %xmm0
+	vpxor	%xmm1, %xmm1, %xmm1
+	vpxor	%xmm2, %xmm2, %xmm2
+	vpxor	%xmm3, %xmm3, %xmm3
+	vpxor	%xmm4, %xmm4, %xmm4
+	vpxor	%xmm5, %xmm5, %xmm5
+	xorl	%ecx, %ecx
+	xorl	%edx, %edx
+	xorl	%r8d, %r8d
+	xorl	%r9d, %r9d
+	xorl	%r10d, %r10d
+	xorl	%r11d, %r11d
 	addq	$200, %rsp
 	popq	%rbx
 	popq	%rbp
@@ -16311,6 +16539,18 @@ fotsgure_gcm_verify_v3:                 # @fotsgure_gcm_verify_v3
 	vmovaps	144(%rsp), %xmm13               # 16-byte Reload
 	vmovaps	160(%rsp), %xmm14               # 16-byte Reload
 	vmovaps	176(%rsp), %xmm15               # 16-byte Reload
+	vpxor	%xmm0, %xmm0, %xmm0
+	vpxor	%xmm1, %xmm1, %xmm1
+	vpxor	%xmm2, %xmm2, %xmm2
+	vpxor	%xmm3, %xmm3, %xmm3
+	vpxor	%xmm4, %xmm4, %xmm4
+	vpxor	%xmm5, %xmm5, %xmm5
+	xorl	%ecx, %ecx
+	xorl	%edx, %edx
+	xorl	%r8d, %r8d
+	xorl	%r9d, %r9d
+	xorl	%r10d, %r10d
+	xorl	%r11d, %r11d
 	addq	$200, %rsp
 	popq	%rbx
 	popq	%rbp
@@ -16438,6 +16678,18 @@ fotsgure_gcm_accept_v3:                 # @fotsgure_gcm_accept_v3
 	vmovaps	176(%rsp), %xmm13               # 16-byte Reload
 	vmovaps	192(%rsp), %xmm14               # 16-byte Reload
 	vmovaps	208(%rsp), %xmm15               # 16-byte Reload
+	vpxor	%xmm0, %xmm0, %xmm0
+	vpxor	%xmm1, %xmm1, %xmm1
+	vpxor	%xmm2, %xmm2, %xmm2
+	vpxor	%xmm3, %xmm3, %xmm3
+	vpxor	%xmm4, %xmm4, %xmm4
+	vpxor	%xmm5, %xmm5, %xmm5
+	xorl	%ecx, %ecx
+	xorl	%edx, %edx
+	xorl	%r8d, %r8d
+	xorl	%r9d, %r9d
+	xorl	%r10d, %r10d
+	xorl	%r11d, %r11d
 	addq	$224, %rsp
 	popq	%rbx
 	popq	%rbp
@@ -16587,6 +16839,18 @@ fotsgure_gcm_accept_short_v3:           # @fotsgure_gcm_accept_short_v3
 	vmovaps	208(%rsp), %xmm13               # 16-byte Reload
 	vmovaps	224(%rsp), %xmm14               # 16-byte Reload
 	vmovaps	240(%rsp), %xmm15               # 16-byte Reload
+	vpxor	%xmm0, %xmm0, %xmm0
+	vpxor	%xmm1, %xmm1, %xmm1
+	vpxor	%xmm2, %xmm2, %xmm2
+	vpxor	%xmm3, %xmm3, %xmm3
+	vpxor	%xmm4, %xmm4, %xmm4
+	vpxor	%xmm5, %xmm5, %xmm5
+	xorl	%ecx, %ecx
+	xorl	%edx, %edx
+	xorl	%r8d, %r8d
+	xorl	%r9d, %r9d
+	xorl	%r10d, %r10d
+	xorl	%r11d, %r11d
 	addq	$264, %rsp                      # imm = 0x108
 	popq	%rbx
 	popq	%rbp

@@ -1,0 +1,75 @@
+"""Exports that leave nothing in the registers that a call may change, but their result.
+
+A compiler can be told so ("zero-call-used-regs"), but what it then empties is what the function itself uses, not what the functions use that
+it calls, or else the numbers of x87 too; and for RISC-V it does nothing. So the text of a library is changed, before each return of an
+export: it zeros each vector register that the ABI doesn't keep for the caller, and the general registers, but for the result and for those
+that belong to the system. Functions that exports jump to do the same, since they return to the caller.
+"""
+import re
+
+GENERAL = {
+    "x86_64": "ecx edx esi edi r8d r9d r10d r11d".split(),
+    "windows_x86_64": "ecx edx r8d r9d r10d r11d".split(),
+    "aarch64": [f"x{n}" for n in range(1, 18)],
+    "riscv64": [*(f"a{n}" for n in range(1, 8)), *(f"t{n}" for n in range(7))],
+}
+LABEL = re.compile(r'("[^"]*"|\w+):')
+# A jump to another function of the library, at the end of one.
+LEAP = re.compile(r'\t(?:jmp|b|tail)\t("[^"]*")')
+RETURN = re.compile(r"\t(?:retq|ret)$")
+# A jump to libc, which would leave registers as it does.
+LEFT_TO_LIBC = re.compile(r"\t(?:jmpq\t\*\w|jr\tt1|br\tx16)")
+# What Windows takes for the end of a function, in which nothing else may stand.
+ENDING = re.compile(r"\t(?:popq\t%|addq\t\$\d+, %rsp)")
+
+
+def emptying(folder, is_wide):
+    """The lines that empty registers. A vector of 128 bits that is written by an instruction of AVX is zero above; the low halves of v8 to
+    v15 of ARM are the caller's."""
+    if folder.endswith("x86_64"):
+        count = 6 if folder == "windows_x86_64" else 16
+        each = "\tvpxor\t%xmm{0}, %xmm{0}, %xmm{0}" if is_wide else "\tpxor\t%xmm{0}, %xmm{0}"
+        return [each.format(n) for n in range(count)] + [f"\txorl\t%{it}, %{it}" for it in GENERAL[folder]]
+    if folder == "aarch64":
+        vectors = [f"\tmovi\tv{n}.2d, #0000000000000000" for n in (*range(8), *range(16, 32))]
+        return vectors + [f"\tfmov\td{n}, d{n}" for n in range(8, 16)] + [f"\tmov\t{it}, xzr" for it in GENERAL[folder]]
+    vectors = ["\tvsetvli\tt0, zero, e8, m8, ta, ma"] + [f"\tvmv.v.i\tv{n}, 0" for n in range(0, 32, 8)]
+    return vectors + [f"\tli\t{it}, 0" for it in GENERAL[folder]]
+
+
+def functions(lines):
+    """Each line with the label of the function that it is in, or None."""
+    inside = None
+    for line in lines:
+        label = LABEL.match(line)
+        inside = label[1] if label else None if line.startswith(".Lfunc_end") else inside
+        yield inside, line
+
+
+def emptied(folder, is_wide, text):
+    """The text of a library whose exports empty registers."""
+    lines, exports = text.split("\n"), set(re.findall(r"^(fotsgure_\w+):", text, re.M))
+    ending, more = exports, True
+    while more:
+        more = {found[1] for inside, line in functions(lines) if inside in ending for found in [LEAP.match(line)] if found} - ending
+        ending = ending | more
+    out, seen = [], set()
+    for inside, line in functions(lines):
+        if inside in ending and (RETURN.match(line) or LEAP.match(line)):
+            seen.add(inside)
+        if inside in ending and LEFT_TO_LIBC.match(line):
+            raise SystemExit(f"dist: {inside} ends in a jump to libc")
+        at = len(out)
+        if inside in ending and RETURN.match(line):
+            while folder == "windows_x86_64" and ENDING.match(out[at - 1]):
+                at -= 1
+            out[at:at] = emptying(folder, is_wide)
+        out.append(line)
+    if ending - seen:
+        raise SystemExit(f"dist: no return is seen in {', '.join(sorted(ending - seen))}")
+    return "\n".join(out)
+
+
+def as_compiled(folder, is_wide, text):
+    """The text as it was."""
+    return text.replace("\n".join(emptying(folder, is_wide)) + "\n", "")
