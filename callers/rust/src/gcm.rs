@@ -5,126 +5,9 @@
 //! random, or has another length than 12 bytes, take a new key before 2^32 messages.
 
 use crate::{c, InvalidLength};
+use fotsgure_sys::gcm as calls;
 use std::fmt;
 use std::mem::MaybeUninit;
-
-/// The declarations of `fotsgure_gcm.h`. Only the checks compare them with the header.
-mod calls {
-    use std::mem::MaybeUninit;
-
-    #[repr(C)]
-    pub struct Gcm {
-        pub key_length: u32,
-        pub round_keys: [u8; 240],
-        pub multiples: [u8; 1536],
-    }
-
-    /// FOTSGURE_GCM_NONCE_LENGTH, and the statuses that follow.
-    pub const NONCE_LENGTH: u32 = 3;
-    pub const TAG_LENGTH: u32 = 4;
-    pub const TOO_LONG: u32 = 5;
-    pub const NONCES_END: u32 = 7;
-
-    pub const REFUSED: u32 = 6;
-    pub const OUT_OF_TURN: u32 = 8;
-    pub const NO_RANDOMNESS: u32 = 9;
-
-    #[repr(C)]
-    pub struct GcmSiv {
-        pub key_length: u32,
-        pub round_keys: [u8; 240],
-    }
-
-    #[repr(C)]
-    pub struct Message {
-        pub numbers: [u64; 4],
-        pub blocks: [u8; 48],
-    }
-
-    extern "C" {
-        pub fn fotsgure_gcm_set_key(gcm: *mut MaybeUninit<Gcm>, key: *const u8, length: usize) -> u32;
-        pub fn fotsgure_gcm_wipe(gcm: *mut Gcm);
-        pub fn fotsgure_gcm_seal(
-            gcm: *const Gcm,
-            nonce: *const u8,
-            nonce_length: usize,
-            additional: *const u8,
-            additional_length: usize,
-            text: *mut u8,
-            text_length: usize,
-            tag: *mut [u8; 16],
-        ) -> u32;
-        pub fn fotsgure_gcm_seal_next(
-            gcm: *const Gcm,
-            counter: *mut super::Counter,
-            nonce: *mut [u8; 12],
-            additional: *const u8,
-            additional_length: usize,
-            text: *mut u8,
-            text_length: usize,
-            tag: *mut [u8; 16],
-        ) -> u32;
-        pub fn fotsgure_gcm_open(
-            gcm: *const Gcm,
-            nonce: *const u8,
-            nonce_length: usize,
-            additional: *const u8,
-            additional_length: usize,
-            text: *mut u8,
-            text_length: usize,
-            tag: *const u8,
-            tag_length: usize,
-        ) -> u32;
-        pub fn fotsgure_gcm_begin(
-            gcm: *const Gcm,
-            message: *mut MaybeUninit<Message>,
-            nonce: *const u8,
-            nonce_length: usize,
-        ) -> u32;
-        pub fn fotsgure_gcm_begin_next(
-            gcm: *const Gcm,
-            message: *mut MaybeUninit<Message>,
-            counter: *mut super::Counter,
-            nonce: *mut [u8; 12],
-        ) -> u32;
-        pub fn fotsgure_gcm_additional(gcm: *const Gcm, message: *mut Message, bytes: *const u8, length: usize) -> u32;
-        pub fn fotsgure_gcm_encrypt(gcm: *const Gcm, message: *mut Message, text: *mut u8, length: usize) -> u32;
-        pub fn fotsgure_gcm_finish(gcm: *const Gcm, message: *mut Message, tag: *mut [u8; 16]) -> u32;
-        pub fn fotsgure_gcm_verify(gcm: *const Gcm, message: *mut Message, text: *const u8, length: usize) -> u32;
-        pub fn fotsgure_gcm_accept(gcm: *const Gcm, message: *mut Message, tag: *const u8, length: usize) -> u32;
-        pub fn fotsgure_gcm_decrypt(gcm: *const Gcm, message: *mut Message, text: *mut u8, length: usize) -> u32;
-        pub fn fotsgure_gcm_wipe_message(message: *mut Message);
-        pub fn fotsgure_gcm_siv_set_key(siv: *mut MaybeUninit<GcmSiv>, key: *const u8, length: usize) -> u32;
-        pub fn fotsgure_gcm_siv_wipe(siv: *mut GcmSiv);
-        pub fn fotsgure_gcm_siv_seal(
-            siv: *const GcmSiv,
-            nonce: *const [u8; 12],
-            additional: *const u8,
-            additional_length: usize,
-            text: *mut u8,
-            text_length: usize,
-            tag: *mut [u8; 16],
-        ) -> u32;
-        pub fn fotsgure_gcm_siv_seal_random(
-            siv: *const GcmSiv,
-            nonce: *mut [u8; 12],
-            additional: *const u8,
-            additional_length: usize,
-            text: *mut u8,
-            text_length: usize,
-            tag: *mut [u8; 16],
-        ) -> u32;
-        pub fn fotsgure_gcm_siv_open(
-            siv: *const GcmSiv,
-            nonce: *const [u8; 12],
-            additional: *const u8,
-            additional_length: usize,
-            text: *mut u8,
-            text_length: usize,
-            tag: *const [u8; 16],
-        ) -> u32;
-    }
-}
 
 /// Why a message wasn't sealed. Nothing was changed.
 #[derive(Debug, Clone, Copy, PartialEq, Eq)]
@@ -176,7 +59,7 @@ impl GcmSiv {
         // SAFETY: both pointers come from references that are valid for the call. The call writes the whole struct,
         // whether it refuses the key or not, and reads nothing of it before that.
         let (status, prepared) = unsafe {
-            let status = calls::fotsgure_gcm_siv_set_key(&mut *prepared, key.as_ptr(), key.len());
+            let status = calls::fotsgure_gcm_siv_set_key(prepared.as_mut_ptr(), key.as_ptr(), key.len());
             (status, Box::from_raw(Box::into_raw(prepared).cast::<calls::GcmSiv>()))
         };
         if status == c::DONE { Ok(GcmSiv(prepared)) } else { Err(InvalidLength) }
@@ -243,6 +126,13 @@ pub struct Counter {
     pub next: [u8; 12],
 }
 
+impl Counter {
+    /// The same as C declares it.
+    fn as_c(&mut self) -> *mut calls::Counter {
+        (self as *mut Counter).cast()
+    }
+}
+
 /// A key of 16, 24 or 32 bytes, prepared for messages. It is on the heap, so that a move leaves no copy of it, and is
 /// zeroized when the value is dropped. Threads may share a value.
 pub struct Gcm(Box<calls::Gcm>);
@@ -254,7 +144,7 @@ impl Gcm {
         // SAFETY: both pointers come from references that are valid for the call. The call writes the whole struct,
         // whether it refuses the key or not, and reads nothing of it before that.
         let (status, prepared) = unsafe {
-            let status = calls::fotsgure_gcm_set_key(&mut *prepared, key.as_ptr(), key.len());
+            let status = calls::fotsgure_gcm_set_key(prepared.as_mut_ptr(), key.as_ptr(), key.len());
             (status, Box::from_raw(Box::into_raw(prepared).cast::<calls::Gcm>()))
         };
         if status == c::DONE { Ok(Gcm(prepared)) } else { Err(InvalidLength) }
@@ -286,7 +176,7 @@ impl Gcm {
         let status = unsafe {
             let (data, bytes) = (additional.as_ptr(), text.as_mut_ptr());
             let (length, count) = (additional.len(), text.len());
-            calls::fotsgure_gcm_seal_next(&*self.0, counter, &mut nonce, data, length, bytes, count, &mut tag)
+            calls::fotsgure_gcm_seal_next(&*self.0, counter.as_c(), &mut nonce, data, length, bytes, count, &mut tag)
         };
         sealed(status).map(|()| (nonce, tag))
     }
@@ -350,15 +240,15 @@ impl Gcm {
         let mut nonce = [0; 12];
         // SAFETY: as above.
         let begun = self.begun(|message| unsafe {
-            calls::fotsgure_gcm_begin_next(&*self.0, message, &mut *counter, &mut nonce)
+            calls::fotsgure_gcm_begin_next(&*self.0, message, counter.as_c(), &mut nonce)
         });
         begun.map(|message| (nonce, message))
     }
 
     /// A message that a call begins.
-    fn begun(&self, begin: impl FnOnce(*mut MaybeUninit<calls::Message>) -> u32) -> Result<Message<'_>, NotSealed> {
-        let mut message = Box::new(MaybeUninit::zeroed());
-        sealed(begin(&mut *message))?;
+    fn begun(&self, begin: impl FnOnce(*mut calls::Message) -> u32) -> Result<Message<'_>, NotSealed> {
+        let mut message = Box::new(MaybeUninit::<calls::Message>::zeroed());
+        sealed(begin(message.as_mut_ptr()))?;
         // SAFETY: the box holds zeros, or what the call wrote over them: any bytes are a struct of numbers.
         let message = unsafe { Box::from_raw(Box::into_raw(message).cast::<calls::Message>()) };
         Ok(Message { gcm: self, message })

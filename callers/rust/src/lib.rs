@@ -6,45 +6,9 @@
 #[cfg(feature = "gcm")]
 pub mod gcm;
 
+use fotsgure_sys::aes as c;
 use std::fmt;
 use std::mem::MaybeUninit;
-
-/// The declarations of `fotsgure_aes.h`. Only the checks compare them with the header.
-mod c {
-    use std::mem::MaybeUninit;
-
-    #[repr(C)]
-    pub struct Aes {
-        pub key_length: u32,
-        pub round_keys: [u8; 480],
-    }
-
-    #[repr(C)]
-    pub struct Ctr {
-        pub iv: [u8; 16],
-        pub position: u64,
-    }
-
-    /// FOTSGURE_AES_DONE.
-    pub const DONE: u32 = 0;
-
-    extern "C" {
-        pub fn fotsgure_aes_version() -> u32;
-        pub fn fotsgure_aes_set_key(aes: *mut MaybeUninit<Aes>, key: *const u8, length: usize) -> u32;
-        pub fn fotsgure_aes_wipe(aes: *mut Aes);
-        pub fn fotsgure_aes_encrypt_blocks(aes: *const Aes, blocks: *mut [u8; 16], count: usize) -> u32;
-        pub fn fotsgure_aes_decrypt_blocks(aes: *const Aes, blocks: *mut [u8; 16], count: usize) -> u32;
-        pub fn fotsgure_aes_add_keystream(aes: *const Aes, ctr: *mut Ctr, bytes: *mut u8, count: usize) -> u32;
-        pub fn fotsgure_aes_add_keystream_to(
-            aes: *const Aes,
-            ctr: *mut Ctr,
-            input: *const u8,
-            input_count: usize,
-            output: *mut u8,
-            output_count: usize,
-        ) -> u32;
-    }
-}
 
 /// Returns the version of the library: 10000 times the first number, 100 times the second, plus the third.
 pub fn version() -> u32 {
@@ -87,7 +51,7 @@ impl Aes {
         // SAFETY: both pointers come from references that are valid for the call. The call writes the whole struct,
         // whether it refuses the key or not, and reads nothing of it before that.
         let (status, schedule) = unsafe {
-            let status = c::fotsgure_aes_set_key(&mut *schedule, key.as_ptr(), key.len());
+            let status = c::fotsgure_aes_set_key(schedule.as_mut_ptr(), key.as_ptr(), key.len());
             (status, Box::from_raw(Box::into_raw(schedule).cast::<c::Aes>()))
         };
         if status == c::DONE {

@@ -1,0 +1,168 @@
+//! Keys that are prepared for GCM and for AES-GCM-SIV, and the calls of C on them: every `unsafe` of both is here.
+
+use fotsgure_sys::gcm as c;
+
+/// FOTSGURE_GCM_DONE.
+const DONE: u32 = 0;
+
+/// A call of C refused: the tag is wrong, a length isn't allowed.
+pub(crate) struct Refused;
+
+fn done(status: u32) -> Result<(), Refused> {
+    if status == DONE { Ok(()) } else { Err(Refused) }
+}
+
+/// A key of GCM: round keys, and multiples of H. Overwritten when it is dropped.
+#[derive(Clone)]
+pub(crate) struct Gcm(c::Gcm);
+
+impl Gcm {
+    /// Prepares a key of 16, 24 or 32 bytes.
+    pub(crate) fn new(key: &[u8]) -> Self {
+        let mut gcm = Gcm(c::Gcm { key_length: 0, round_keys: [0; 240], multiples: [0; 1536] });
+        // SAFETY: the pointers come from references that are valid for the call, and one of them is mutable.
+        let status = unsafe { c::fotsgure_gcm_set_key(&mut gcm.0, key.as_ptr(), key.len()) };
+        assert_eq!(status, DONE, "types have keys of 16, 24 or 32 bytes alone");
+        gcm
+    }
+
+    /// Encrypts a text in place, and returns the whole tag.
+    pub(crate) fn seal(&self, nonce: &[u8], additional: &[u8], text: &mut [u8]) -> Result<[u8; 16], Refused> {
+        let mut tag = [0; 16];
+        // SAFETY: `self` holds a key; the slices are borrowed for the call, and those that are written are mutable, so
+        // that they overlap nothing.
+        done(unsafe {
+            c::fotsgure_gcm_seal(
+                &self.0,
+                nonce.as_ptr(),
+                nonce.len(),
+                additional.as_ptr(),
+                additional.len(),
+                text.as_mut_ptr(),
+                text.len(),
+                &mut tag,
+            )
+        })?;
+        Ok(tag)
+    }
+
+    /// Decrypts a text in place if its tag of 16 bytes is right.
+    pub(crate) fn open(&self, nonce: &[u8], additional: &[u8], text: &mut [u8], tag: &[u8]) -> Result<(), Refused> {
+        // SAFETY: as in `seal`.
+        done(unsafe {
+            c::fotsgure_gcm_open(
+                &self.0,
+                nonce.as_ptr(),
+                nonce.len(),
+                additional.as_ptr(),
+                additional.len(),
+                text.as_mut_ptr(),
+                text.len(),
+                tag.as_ptr(),
+                tag.len(),
+            )
+        })
+    }
+
+    /// Checks a text that isn't written, whose tag has as many bytes as all tags of the type have.
+    pub(crate) fn verify(
+        &self,
+        nonce: &[u8],
+        additional: &[u8],
+        text: &[u8],
+        tag: &[u8],
+    ) -> Result<Accepted<'_>, Refused> {
+        let zeros = c::Message { numbers: [0; 4], blocks: [0; 48] };
+        let mut accepted = Accepted { gcm: self, message: zeros };
+        let message = &mut accepted.message;
+        // SAFETY: as in `seal`, and `message` is mutable.
+        done(unsafe { c::fotsgure_gcm_begin(&self.0, message, nonce.as_ptr(), nonce.len()) })?;
+        // SAFETY: as above.
+        done(unsafe { c::fotsgure_gcm_additional(&self.0, message, additional.as_ptr(), additional.len()) })?;
+        // SAFETY: as above.
+        done(unsafe { c::fotsgure_gcm_verify(&self.0, message, text.as_ptr(), text.len()) })?;
+        if tag.len() == 16 {
+            // SAFETY: as above.
+            done(unsafe { c::fotsgure_gcm_accept(&self.0, message, tag.as_ptr(), tag.len()) })?;
+        } else {
+            // SAFETY: as above.
+            done(unsafe { c::fotsgure_gcm_accept_short(&self.0, message, tag.len(), tag.as_ptr(), tag.len()) })?;
+        }
+        Ok(accepted)
+    }
+}
+
+impl Drop for Gcm {
+    fn drop(&mut self) {
+        // SAFETY: a whole struct, borrowed for the call.
+        unsafe { c::fotsgure_gcm_wipe(&mut self.0) }
+    }
+}
+
+/// A message whose tag was right.
+pub(crate) struct Accepted<'a> {
+    gcm: &'a Gcm,
+    message: c::Message,
+}
+
+impl Accepted<'_> {
+    /// Decrypts the same text in place.
+    pub(crate) fn decrypt(mut self, text: &mut [u8]) -> Result<(), Refused> {
+        // SAFETY: `verify` began the message under this key; the slice is borrowed for the call, and mutable.
+        done(unsafe { c::fotsgure_gcm_decrypt(&self.gcm.0, &mut self.message, text.as_mut_ptr(), text.len()) })
+    }
+}
+
+impl Drop for Accepted<'_> {
+    fn drop(&mut self) {
+        // SAFETY: a whole struct, borrowed for the call.
+        unsafe { c::fotsgure_gcm_wipe_message(&mut self.message) }
+    }
+}
+
+/// A key of AES-GCM-SIV. Overwritten when it is dropped.
+#[derive(Clone)]
+pub(crate) struct GcmSiv(c::GcmSiv);
+
+impl GcmSiv {
+    /// Prepares a key of 16 or 32 bytes.
+    pub(crate) fn new(key: &[u8]) -> Self {
+        let mut siv = GcmSiv(c::GcmSiv { key_length: 0, round_keys: [0; 240] });
+        // SAFETY: the pointers come from references that are valid for the call, and one of them is mutable.
+        let status = unsafe { c::fotsgure_gcm_siv_set_key(&mut siv.0, key.as_ptr(), key.len()) };
+        assert_eq!(status, DONE, "types have keys of 16 or 32 bytes alone");
+        siv
+    }
+
+    /// Encrypts a text in place, and returns its tag.
+    pub(crate) fn seal(&self, nonce: &[u8; 12], additional: &[u8], text: &mut [u8]) -> Result<[u8; 16], Refused> {
+        let mut tag = [0; 16];
+        let (data, bytes) = (additional.as_ptr(), text.as_mut_ptr());
+        let (length, count) = (additional.len(), text.len());
+        // SAFETY: `self` holds a key; the slices are borrowed for the call, and those that are written are mutable, so
+        // that they overlap nothing.
+        done(unsafe { c::fotsgure_gcm_siv_seal(&self.0, nonce, data, length, bytes, count, &mut tag) })?;
+        Ok(tag)
+    }
+
+    /// Decrypts a text in place if its tag is right.
+    pub(crate) fn open(
+        &self,
+        nonce: &[u8; 12],
+        additional: &[u8],
+        text: &mut [u8],
+        tag: &[u8; 16],
+    ) -> Result<(), Refused> {
+        let (data, bytes) = (additional.as_ptr(), text.as_mut_ptr());
+        let (length, count) = (additional.len(), text.len());
+        // SAFETY: as in `seal`.
+        done(unsafe { c::fotsgure_gcm_siv_open(&self.0, nonce, data, length, bytes, count, tag) })
+    }
+}
+
+impl Drop for GcmSiv {
+    fn drop(&mut self) {
+        // SAFETY: a whole struct, borrowed for the call.
+        unsafe { c::fotsgure_gcm_siv_wipe(&mut self.0) }
+    }
+}
