@@ -6,8 +6,9 @@ round keys that are arbitrary bytes. So they are proved for any round keys, and 
 from collections import namedtuple
 
 from bits import BLOCK, DATA, KEY, LOST, ONES, PUBLIC, Domain, Unproved, linear_bits
-from calls import ANY, Buffer, Call, prove
-from machine import Pointer, Verdict
+from calls import ANY, Buffer, Call, Stream, prove
+from linear import unknown
+from machine import LAST, LEAD, Pointer, Verdict
 from standards import ICV1, ICV2, Aes, number
 
 # The header's enum, structs and sizes; prove.py has the compiler compare them.
@@ -145,6 +146,65 @@ class Keyed:
         content, results = self.content(count), self.results(direction, count)
         return self.in_each_way("aes_%s_blocks" % direction, way, [], "blocks", content, results, count,
                                 plain=content if direction == "encrypt" else results)
+
+    # Calls of every length (lengths.py): step * n + `rest` blocks or bytes, for every n of which the buffer isn't larger than PTRDIFF_MAX.
+    # A pattern has the bytes of the block with number LEAD, and perhaps of the one before it or behind it.
+    def pattern(self, bytes_, by=0):
+        """Functions of the bytes of block 1, as the same of another one."""
+        return [self.domain.moved(b, LEAD - 1 + by) for b in bytes_]
+
+    def of_all(self, pattern):
+        """The same of all blocks that may occur."""
+        numbers = {n for b in pattern for n in self.domain.blocks(b)}
+        return [self.domain.moved(b, k) for b in pattern for k in range(1 - min(numbers), LAST - max(numbers))]
+
+    def of_last(self, pattern, count):
+        """The same of the last block."""
+        return lambda m: [self.domain.moved(b, m.known(count) - 1 - m.first_block) for b in pattern]
+
+    def of_any_count(self, name, state, content, want, count, size, plain, way="", **more):
+        if way == "_to":
+            streams = [Stream("input", size, content), count, Stream("output", size, self.undefined(16), want), count]
+        else:
+            streams = [Stream("blocks", size, content, want), count]
+        facts = unknown("n"), (1 << 63) - 1 - size
+        return Call(name + way, [self.schedule(), *state, *streams], DONE, plain=self.of_all(plain), facts=facts, **more)
+
+    def any_blocks(self, direction, rest, way="", step=16):
+        count, content, want = unknown("n") * step + rest, self.pattern(self.block_bytes), self.pattern(self.ciphers[direction])
+        return self.of_any_count("aes_%s_blocks" % direction, [], content, want, count, count * 16,
+                                 content if direction == "encrypt" else want, way)
+
+    def any_keystream(self, position, rest, way="", step=128):
+        """For an initial counter block whose low half doesn't carry."""
+        (first, skip), d, count = divmod(position, 16), self.domain, unknown("n") * step + rest
+        name, end = "counter low, from %d, any count" % first, count + position
+        low, (stream, _), data = self.counter_blocks()
+        d.placed[name] = lambda number, k: d.bits(d.byte_in_block(low[7 - k], number - first))
+        iv = [b for base in ("counter high", name) for b in [d.opaque((Pointer(base, 0), k)) for k in range(8)][::-1]]
+        at = lambda bytes_: [self.pattern([bytes_[t % 16]], t // 16)[0] for t in range(skip, skip + 16)]
+        ctr = Buffer("ctr", iv + number(position, 8)[::-1], lambda m: iv + m.to_bytes(m.known(end), 8))
+        content, want = at(data), self.aes.xor(at(data), at(stream))
+        return self.of_any_count("aes_add_keystream", [ctr], content, want, count, count, content + want, way,
+                                 counter=CounterWord(name, first, NEVER, (end - end.constant % 16).divided(16)[0] + BATCH),
+                                 keystream=self.of_all(self.pattern(stream)), may_stay={"plain": 4} if way == "_to" else None)
+
+    def any_cbc_decrypt(self, rest, step=64):
+        content, previous, count = self.pattern(self.block_bytes), self.pattern(self.block_bytes, -1), unknown("n") * step + rest
+        want = self.aes.xor(self.pattern(self.ciphers["decrypt"]), previous)
+        return self.of_any_count("aes_cbc_decrypt", [Buffer("cbc", previous, self.of_last(content, count))], content, want, count,
+                                 count * 16, want)
+
+    def any_cbc_encrypt(self):
+        """A plain block has the number of the encrypted one before it."""
+        self.cbc_encrypt(0)
+        (chain, chained), count, d = self.kept["chain"], unknown("n"), self.domain
+        content, want = self.pattern(self.block_bytes, -1), self.pattern(chain)
+
+        def steps(k):
+            return "vector", [d.moved(b, k) for b in chained], [d.moved(b, k) for b in want]
+        return self.of_any_count("aes_cbc_encrypt", [Buffer("cbc", chain, self.of_last(want, count))], content, want, count, count * 16,
+                                 content, steps=steps)
 
     def in_each_way(self, name, way, state, data_name, data, results, count, **more):
         """A call that changes data under the key of *aes or, with _with, under a key; or, with _to, that writes to another buffer. `state`

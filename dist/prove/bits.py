@@ -67,6 +67,8 @@ class Domain:
         # Results that were computed once, by the operands (entries and shifted: in machine.py).
         self.xors, self.ands, self.byte_xors, self.byte_ands, self.lookups, self.entries, self.shifted = ({} for _ in range(7))
         self.bits_of, self.byte_ids = [None] * 256, {}
+        self.moves = {}
+        self.placed = {}  # of counters of a call of any length: a function of a block's number and k to the bits of byte k
         self.opaque_names, self.opaque_of = {}, {}
         # Of a word of unknown value, by its name: a function from an offset and k to the bits of byte k of their sum, or None.
         self.words = {}
@@ -98,13 +100,14 @@ class Domain:
 
     def opaque(self, name):
         if name not in self.opaque_names:
+            word, number = self.words.get(getattr(name[0], "base", None)), getattr(name[0], "byte", None)
+            try:
+                bits = number(self, name[1]) if number else word and word(name[0].offset, name[1])
+            except Unproved:  # no number of a block that has a form
+                bits = None
             self.opaque_names[name] = len(self.bits_of)
             self.opaque_of[len(self.bits_of)] = name
-            word = self.words.get(getattr(name[0], "base", None))
-            try:
-                self.bits_of.append(word and word(name[0].offset, name[1]))
-            except Unproved:  # no number of a block that has a form
-                self.bits_of.append(None)
+            self.bits_of.append(bits)
         return self.opaque_names[name]
 
     def pack(self, bits):
@@ -543,6 +546,25 @@ class Domain:
         if not block and any(self.has_block[b >> 9] for b in self.bits_of[byte] if b > 1):
             raise Unproved("a block before the first one")  # 0 means cells of keys alone
         return self.pack([self.in_block(b, block) for b in self.bits_of[byte]])
+
+    def moved(self, byte, by):
+        """The same function of the cells of other blocks, whose numbers are so much higher."""
+        if not by or not self.symbolic(byte):
+            return byte
+        if (byte, by) not in self.moves:
+            bits = []
+            for x in self.bits_of[byte]:
+                y = x & 1
+                if x & BLOCK == PRODUCT << 1:
+                    raise Unproved("a product, of other blocks")
+                parts = self.parts(x) if x & BLOCK == BLOCK else [((x & BLOCK) >> 1, x >> 9)]
+                for block, n in parts:
+                    if block and not 0 < block + by < PRODUCT:
+                        raise Unproved("a block whose number is too high or too low")
+                    y = self.xor(y, n << 9 | (block + by if block else 0) << 1) if n else y
+                bits.append(y)
+            self.moves[byte, by] = byte if tuple(bits) == self.bits_of[byte] else self.pack(bits)
+        return self.moves[byte, by]
 
     def substitute(self, byte, table, name):
         """table[byte] for a table of 256 bytes; gives the byte a name if it has none."""

@@ -3,8 +3,11 @@
 A statement is a Call, written like the call in C: its arguments are numbers and Buffers, and each Buffer says what it has to hold when the
 call returns. A Buffer that says nothing may only be read. So "writes nothing but what it says" is part of each statement. What a machine
 `m` keeps is said where it is made (machine.Machine)."""
+import functools
+
+import lengths
 from bits import DATA, KEY, LOST, Pause, Unproved
-from machine import ROOM, Pointer, Question, Region
+from machine import LAST, LEAD, ROOM, Pointer, Question, Region, Window
 from native import Native
 
 STACK = 16384  # FOTSGURE_AES_STACK and FOTSGURE_GCM_STACK
@@ -22,6 +25,14 @@ class Buffer:
         self.name, self.content, self.after, self.secret = name, content, after, secret
 
 
+class Stream(Buffer):
+    """A buffer of a length that isn't known: a number of bytes, and what the block with number LEAD is, and has to be after the call."""
+
+    def __init__(self, name, size, content, after=None):
+        super().__init__(name, content, after)
+        self.size = size
+
+
 class Call:
     """`status` is what the call returns, in `size` bytes. `steps` are for calls in which each step depends on the last one (see
     step_by_step). `reveals` are bytes that are all zero if a wrapped key or a tag is right; if they are not, the call returns the status
@@ -33,11 +44,12 @@ class Call:
     instructions whenever they return the same."""
 
     def __init__(self, name, arguments, status, size=4, steps=None, reveals=None, refused=None, refused_after=None, assumes=None,
-                 later=None, counter=None, keystream=(), plain=(), may_stay=None, room=None, paths=None):
+                 later=None, counter=None, keystream=(), plain=(), may_stay=None, room=None, paths=None, facts=()):
         self.name, self.arguments, self.status, self.size, self.steps = name, arguments, status, size, steps
         self.reveals, self.refused, self.refused_after = reveals, refused, refused_after or {}
         self.assumes, self.later, self.counter = assumes, later, counter
         self.keystream, self.plain, self.may_stay, self.room, self.paths = keystream, plain, may_stay or {}, room, paths
+        self.facts = frozenset(facts)
         self.buffers = [a for a in arguments if isinstance(a, Buffer)]
 
 
@@ -46,13 +58,17 @@ def prove(domain, program, call, seed=None):
     tag is right. With a seed, for one key and data, on the processor too. The result is a machine after the call."""
     if len(domain.products) > MANY:
         domain.forget_products()
-    regions = {b.name: Region(b.content, b.after is not None) for b in call.buffers}
+    regions = {b.name: Window(b.size, b.content, b.after is not None) if isinstance(b, Stream) else Region(b.content, b.after is not None)
+               for b in call.buffers}
     regions["stack"] = Region([domain.undefined] * (STACK + 128), align=16)
     arguments = [Pointer(a.name, 0) if isinstance(a, Buffer) else a for a in call.arguments]
     m = program.machine(domain, program, regions, program.symbols["fotsgure_" + call.name], arguments)
     m.may_reveal, m.assumed = call.reveals is not None, call.assumes
     m.room, m.counter = call.room, call.counter
-    watches = [step_by_step(call.steps())] if call.steps else []
+    m.facts, m.any_length, ends = call.facts, bool(call.facts), []
+    watches = [step_by_step(call.steps if call.facts else call.steps())] if call.steps else []
+    if call.facts:
+        watches.append(lengths.watch)
     if call.paths is not None:
         watches.append(lambda m: m.path.append(m.last))
     if seed is None:
@@ -66,9 +82,20 @@ def prove(domain, program, call, seed=None):
                 both = (m.answered(question.args[0], answer) for answer in (1, 0))
                 waiting += [other for other in both if not is_without_room(other)]
                 continue
+            except lengths.Leads as leads:
+                waiting += leads.args[0]
+                continue
+            except lengths.Wrong as wrong:
+                general, guess = wrong.args
+                waiting, ends = ([x for x in some if general.name not in x.generals] for some in (waiting, ends))
+                waiting.append(lengths.general_state(*general.made_of, general.wrong | {guess}))
+                continue
             check(m, call)
             nothing_secret(m, call)
-        return m
+            ends.append(m)
+        if call.facts:
+            lengths.check_ends(ends, call)
+        return ends[-1]
     m.native = Native(m, seed, call.counter)
     try:
         run(m, call, [m.native.watch] + watches)
@@ -113,6 +140,14 @@ def check(m, call):
     m.results, m.unsaid = [], []
     for buffer in call.buffers:
         want = buffer.after if right else call.refused_after.get(buffer.name, buffer.content)
+        want = want(m) if callable(want) else want
+        if isinstance(buffer, Stream):
+            have = m.regions[buffer.name].finish(m) if want else None
+            if have and not right:
+                raise Unproved("%s, which may be refused, has no fixed length" % buffer.name)
+            compare(m.domain, have or [], want[:len(have or [])] if want else [], buffer.name)
+            m.results += [m.domain.moved(b, k) for b in want or () for k in range(LAST - LEAD)]
+            continue
         if want is ANY and m.answers:  # set_key looks at the content that one machine has
             raise Unproved("%s may have other bytes if buffers are otherwise apart" % buffer.name)
         if buffer.after is not None and want is not ANY:
@@ -147,12 +182,13 @@ def step_by_step(steps):
     so what is proved from there on holds for any. "hash" is looked for in vector registers, or as two words in either order of bytes;
     products of bits are then forgotten: what still depends on them is lost, and may not even be left. "vector" is looked for in vector
     registers, "memory" where something was written; another name is that of a region."""
-    steps = list(steps)
+    at = functools.lru_cache(None)(steps) if callable(steps) else None
+    steps = () if at else list(steps)
 
     def watch(m):
-        if m.done == len(steps):
+        if not at and m.done == len(steps):
             return
-        where, want, new = steps[m.done]
+        where, want, new = at(m.done - m.first_block) if at else steps[m.done]
         if callable(want):  # made before the code comes to it, so the code's products have the factors that it names (with_powers)
             want = m.want = m.want or want()
         if found(m, where, want):
@@ -245,6 +281,8 @@ def left(m, call):
     places += [("registers", "vector %d" % n, b) for n, v in enumerate(m.vectors) for b in v]
     out = {}
     for place, where, b in places:
+        if call.facts and place != "registers" and max(m.domain.blocks(b), default=0) >= LAST:
+            raise Unproved("leaves a block with a number that isn't known")
         k = tells(m, b, names, plain)
         if k:
             out.setdefault((place, k), []).append(where)

@@ -10,6 +10,7 @@ import sys
 
 from bits import Unproved
 from faults import FAULTS
+from long_faults import LONG_FAULTS
 from native import NEVER_ALONE, compare_all
 from processors import PROCESSORS
 from prove import BUILDS, LIBRARIES, link, options_of, pool_of, source, statements
@@ -46,7 +47,7 @@ def faults(options, build):
     def prove(case):
         keyed.program = link(out + ".s", out, BUILDS[build])
         return keyed.proved(cases[case]) if cases[case] else type(keyed)(keyed.program, 16).set_key()
-    for what, *edit, case in FAULTS[build]:
+    for what, *edit, case in FAULTS[build] + LONG_FAULTS.get(build, []):
         if case not in cases:
             raise SystemExit("controls: %s: no such case: %s" % (what, case))
         if options.only in what:

@@ -24,14 +24,15 @@ import struct
 import subprocess
 from collections import namedtuple
 
-from bits import PUBLIC, Pause, Undefined, Unproved
+from bits import LOST, PUBLIC, Pause, Undefined, Unproved
+from linear import Linear, implied, is_number, replaced, step_of, tightened, unknown, wrapped
 
 Pointer = namedtuple("Pointer", "base offset")  # base: the name of a region, or of a register's value before the call
 Distance = namedtuple("Distance", "base other offset")  # the address of a buffer, less that of another, plus a constant
 Number = namedtuple("Number", "base offset")  # 32 bits: a number of unknown value, plus a constant; higher bytes aren't known
 # So many bytes of which only this is known: they are the number `right` if all the differences are 0, else another one; zeros above.
 Verdict = namedtuple("Verdict", "right differences size")
-NAMED_SIZES = {Pointer: 8, Distance: 8, Number: 4}  # how many bytes of these are known by their names
+NAMED_SIZES = {Pointer: 8, Distance: 8, Linear: 8, Number: 4}  # how many bytes of these are known by their names
 
 # Operands; others are ints, and texts or tuples of these that only instructions of one machine have.
 Register = namedtuple("Register", "name size at", defaults=[0])  # at: the first byte; x86's ah, bh, ch and dh begin at byte 1
@@ -42,6 +43,7 @@ Memory = namedtuple("Memory", "size base index scale offset align before after",
 Instruction = namedtuple("Instruction", "run name operands next form")  # form: see `form`
 
 LIBC = "memcpy", "memmove", "memset"
+LEAD, LAST = 2, 200  # the number of the first block of a buffer whose length isn't known; those that occur are less than LAST
 ROOM = Pointer("room", 0)  # how many bytes of keystream come before the counter of GCM, 32 bits of unknown value, wraps around
 SECRET = "secret"  # a flag that depends on the key or on data; None is a flag that is undefined
 RETURN_ADDRESS = Pointer("return address", 0)
@@ -119,6 +121,14 @@ class Table(dict):
         return add
 
 
+class Placed(namedtuple("Placed", "base offset first")):
+    """The counter (of Machine.counter) of a block, of which the bytes are those of a number: it counts from the block with number LEAD."""
+
+    def byte(self, domain, k):
+        number = self.offset - self.first + LEAD
+        return domain.placed[self.base](number, k) if is_int(number) else None
+
+
 class Question(Exception):
     """A flag of which both values have to be proved."""
 
@@ -128,6 +138,69 @@ class Region:
 
     def __init__(self, content, writable=True, align=1):
         self.content, self.writable, self.align = list(content), writable, align
+
+    def copy(self):
+        other = copy.copy(self)
+        other.content = list(self.content)
+        return other
+
+
+class Window(Region):
+    """A buffer of a size that isn't known. `content` has the bytes from `origin` on, as far as they were accessed. Before these each block
+    is what `done` says of its bytes, and behind them what `initial` says; these patterns are those of the block with number LEAD."""
+
+    def __init__(self, size, initial, writable):
+        super().__init__([], writable)
+        self.size, self.initial, self.done, self.origin = size, initial, None, 0
+
+    def at(self, m):
+        """Where `content` begins, from the block with number LEAD on."""
+        at = self.origin - 16 * m.first_block
+        if not is_int(at):
+            raise Unproved("a block whose number isn't known")
+        return at
+
+    def extend(self, m, count):
+        for i in range(self.at(m) + len(self.content), self.at(m) + count):
+            self.content.append(m.domain.moved(self.initial[i % 16], i // 16))
+
+    def reached(self, m, offset, size):
+        """Where in `content` an access lies."""
+        if not m.implied(offset) or not m.implied(self.size - offset - size):
+            raise Unproved("accesses %d bytes at %s of a buffer of %s" % (size, offset, self.size))
+        at, number = offset - self.origin, offset - 16 * m.first_block
+        if not self.writable and is_int(number):
+            self.content, self.origin, at = [], offset - number % 16, number % 16
+        elif not is_int(at) or at < 0:
+            raise Unproved("accesses a buffer at %s, where %s is next" % (offset, self.origin))
+        self.extend(m, at + size)
+        return at
+
+    def settle(self, m):
+        """Leaves out the first blocks that are done: those that aren't what they were, and all of one pattern."""
+        if not self.writable:
+            self.content, self.origin = [], 0
+        while len(self.content) >= 16:
+            by = self.at(m) // 16
+            pattern = [m.domain.moved(x, -by) for x in self.content[:16]]
+            if pattern == self.initial or pattern != (self.done or pattern):
+                return
+            self.done, self.origin, self.content = pattern, self.origin + 16, self.content[16:]
+
+    def finish(self, m):
+        """The pattern of all blocks, up to the end."""
+        rest = self.size - self.origin
+        if not is_int(rest) or rest < 0:
+            raise Unproved("a buffer of %s bytes is only done up to %s" % (self.size, self.origin))
+        self.extend(m, rest)
+        self.content = self.content[:rest]
+        done, at = self.done, self.at(m)
+        for i in range(at, at + rest, 16):
+            pattern = [m.domain.moved(x, -(i // 16)) for x in self.content[i - at:][:16]]
+            done = done or pattern
+            if pattern != done[:len(pattern)]:
+                raise Unproved("blocks of a buffer aren't alike")
+        return done
 
 
 class Program:
@@ -173,6 +246,21 @@ class Program:
                 out.setdefault(name, set()).add(address)
         return out
 
+    @functools.cached_property
+    def heads(self):
+        """{address: addresses} of where jumps lead backwards, and where they stand: the heads of loops."""
+        out = {}
+        for address, line in self.lines.items():
+            jump = re.match(r"(?:j\w+|b(?:\.\w+)?|cbn?z|tbn?z)\s.*?\b([0-9a-f]+) <", line)
+            if jump and int(jump[1], 16) <= address:
+                out.setdefault(int(jump[1], 16), set()).add(address)
+        return out
+
+    @functools.cached_property
+    def function_of(self):
+        """{address: addresses} of the first instruction of each function, and of all of them."""
+        return {min(addresses): addresses for addresses in self.functions().values()}
+
     def at(self, address):
         if address not in self.cache:
             if address not in self.lines:
@@ -201,6 +289,9 @@ class Machine:
         self.written = (), 0  # the list of bytes that was last written to, and where
         self.stale = set()  # bytes of the stack that may have been overwritten by others since they were written
         self.room = self.counter = None  # see calls.Call
+        # See lengths.py.
+        self.facts, self.decided, self.loops, self.replaced, self.first_block, self.generals = frozenset(), [], {}, [], 0, ()
+        self.any_length = False
         self.path = []
         self.enter(arguments)
         self.top = self.lowest = self.general[self.stack_pointer].offset  # at the call; and the lowest place that was accessed
@@ -224,6 +315,8 @@ class Machine:
         named = self.size_of(value)
         if named is None:
             return list(value[:size])
+        if self.any_length and is_pointer(value) and self.counter and value.base == self.counter.word:
+            value = Placed(*value, self.first_block)
         above = self.domain.undefined if isinstance(value, Number) else 0
         return [self.domain.opaque((value, k)) for k in range(min(named, size))] + [above] * (size - named)
 
@@ -236,6 +329,9 @@ class Machine:
             return int.from_bytes(bytes(b), "little")
         if b[0] in self.domain.opaque_of:
             value = self.domain.opaque_of[b[0]][0]
+            if isinstance(value, Placed) or self.any_length and is_pointer(value):
+                same = list(b) == [self.domain.opaque((value, k)) for k in range(8)]
+                return Pointer(value.base, value.offset) if same else tuple(b)
             named = self.size_of(value)
             above = {0, self.domain.undefined} if isinstance(value, Number) else {0}
             if named and len(b) >= named and list(b[:named]) == self.to_bytes(value, named) and {*b[named:]} <= above:
@@ -265,13 +361,14 @@ class Machine:
         """The sum of two values of 8 bytes of which one at most is a Pointer or a Number and the others are constants."""
         if isinstance(b, (Pointer, Number)):
             a, b = b, a
-        if not isinstance(a, (int, Pointer, Number)) or not isinstance(b, int):
+        if not isinstance(a, (int, Linear, Pointer, Number)) or not is_number(b):
             raise Unproved("an address is the sum of two addresses")
-        if isinstance(a, int):
-            return a + b & WORD
+        if is_number(a):
+            r = wrapped(a + b)
+            return r & WORD if is_int(r) else r
         if isinstance(a, Number):
             return Number(a.base, a.offset + b & 0xffffffff)
-        return Pointer(a.base, (a.offset + b + (1 << 63) & WORD) - (1 << 63))
+        return Pointer(a.base, wrapped(a.offset + b))
 
     # Sums and differences with their flags: (result, {flag: value}).
     def plus(self, x, y, carry, size):
@@ -280,6 +377,9 @@ class Machine:
             full = (x & mask) + (y & mask) + carry
             r = full & mask
             return r, {"c": int(full != r), "z": int(r == 0), "s": r >> top, "o": ((x ^ r) & ~(x ^ y)) >> top & 1}
+        if is_number(x, y) and size == 8:
+            r = self.offset(self.offset(x, carry), y)
+            return r, {"c": (WORD, x + y + carry, "below"), **self.zero_and_sign(r, 8)} if self.fits(x) and self.fits(y) else {}
         if Number in (type(x), type(y)):
             return self.offset(self.offset(x, carry), y), {}
         if isinstance(x, Distance) and is_int(y):
@@ -288,8 +388,9 @@ class Machine:
             old, r = x if is_pointer(x) else y, self.offset(self.offset(x, carry), y)
             counter = self.counter
             by = (y if is_pointer(x) else x) + carry  # so many more, where neither has wrapped around
-            known = counter and r.base == counter.word and 0 <= old.offset and old.offset + by == r.offset <= counter.last
-            return r, {"c": int(old.offset < counter.wrap <= r.offset)} if known else {}
+            known = counter and r.base == counter.word and self.implied(old.offset) and old.offset + by == r.offset and (
+                self.fits(by) and self.implied(counter.last - r.offset))
+            return r, {"c": int(counter.wrap <= WORD and old.offset < counter.wrap <= r.offset)} if known else {}
         fixed, rest = (x, y) if is_int(x) else (y, x)
         if self.room and (fixed, carry, *self.to_bytes(rest, size)) in self.room[0]:
             return ROOM, {}
@@ -307,6 +408,8 @@ class Machine:
         4,096 bytes of memory, nor in its upper half. So they are ordered as their offsets are. (A counter isn't placed.)"""
         for a in addresses:
             region = isinstance(a, Pointer) and self.regions.get(a.base)
+            if isinstance(region, Window) and self.implied(a.offset) and self.implied(region.size - a.offset):
+                continue
             # (An empty buffer may be at 16, which the header passes in the place of NULL: nothing before it counts.)
             if not region or not -4096 * bool(region.content) <= a.offset < 1 << 47:
                 return False
@@ -316,14 +419,20 @@ class Machine:
         """x - y, or one less if `carry` is 0. The flag c says that there is no borrow."""
         if y == 0 and carry and self.is_placed(x):
             return x, {"z": 0, "c": 1}
-        if isinstance(x, Distance) and is_int(y) and carry:
-            return x._replace(offset=x.offset - y), {"c": ("not", (x, y, "below")) if y else 1, "z": (x, y, "equal")}
+        if is_number(x, y) and not is_int(x, y) and size == 8:
+            flags = {"c": ("not", (x, y + 1 - carry, "below"))} if self.fits(x) and self.fits(y) else {}
+            return self.offset(x, carry - 1 - y), {**flags, **({"z": (x, y, "equal")} if flags and carry else {})}
+        if isinstance(x, Distance) and is_number(y) and carry:
+            return x._replace(offset=x.offset - y), {"c": ("not", (x, y, "below")) if y != 0 else 1, "z": (x, y, "equal")}
+        if is_pointer(x, y) and carry and x.base == y.base and not is_int(x.offset, y.offset):
+            flags = {"c": ("not", (x.offset, y.offset, "below")), "z": (x.offset, y.offset, "equal")}
+            return self.offset(x.offset, -y.offset), flags if self.is_placed(x, y) else {}
         if is_pointer(x, y) and carry and x.base == y.base:
             order = {"c": int(x.offset >= y.offset)} if self.is_placed(x, y) else {}
             return x.offset - y.offset & WORD, {**order, "z": int(x.offset == y.offset)}
         if is_pointer(x, y) and carry and {x.base, y.base} <= set(self.regions):
             return Distance(x.base, y.base, x.offset - y.offset), {}
-        if is_pointer(x) and is_int(y) and size == 8:
+        if is_pointer(x) and is_number(y) and size == 8:
             return self.offset(x, carry - 1 - y), {}
         if y == ROOM and self.room and x == self.room[1] and carry:
             return None, {"c": ("not", (ROOM, x, "above")), "z": (ROOM, x, "equal")}
@@ -354,11 +463,127 @@ class Machine:
         """The flags of a result."""
         if is_int(r):
             return {"z": int(r == 0), "s": r >> 8 * size - 1}
+        if isinstance(r, Linear):
+            return {"z": (r, 0, "equal")} if self.fits(r) else {}
         if isinstance(r, Verdict):
             return {} if r.right else {"z": self.zero_flag(r.differences)}
         if self.is_placed(r):
             return {"z": 0}
         return {"z": 0 if 1 in self.bits(r, size) else SECRET, "s": SECRET}
+
+    # Numbers that aren't known (linear.py): what is known of them are facts, numbers that are 0 or more.
+    def implied(self, x):
+        return implied(self.facts, x)
+
+    def fits(self, x):
+        """Whether a number is what the machine has, and not only up to multiples of 2^64."""
+        return self.implied(x) and self.implied(WORD - x)
+
+    def masked(self, x, y):
+        """`and` with a mask of bits that are known, or of all the others; else None."""
+        x, y = (y, x) if is_int(x) else (x, y)
+        if isinstance(x, Linear) and is_int(y):
+            low = -y & WORD  # if it is a power of two, all bits below it go
+            if y < step_of(x):
+                return x.constant & y
+            if low and not low & low - 1 and step_of(x) % low == 0:
+                return x - x.constant % low
+        return None
+
+    def compare_numbers(self, x, y, what):
+        """Whether x is below y, or equal. If that doesn't follow, it is a question, of which each answer is a fact."""
+        if what == "equal":
+            return int(not (self.compare_numbers(x, y, "below") or self.compare_numbers(y, x, "below")))
+        for answer, fact in (1, y - x - 1), (0, x - y):
+            if self.implied(fact):
+                if not is_int(fact):
+                    self.decided.append((self.last, fact))
+                return answer
+        raise Question((x, y, what))
+
+    def assume(self, fact):
+        """Takes one more fact; if it says what an unknown is, this takes the unknown's place everywhere."""
+        fact = tightened(fact)
+        if self.implied(-fact):
+            for name, k in reversed(fact.terms):
+                if k in (1, -1):
+                    return self.replace_unknown(name, unknown(name) - fact * k)
+        self.facts |= {fact}
+
+    def replace_unknown(self, name, by):
+        """Puts a number in the place of an unknown."""
+        new, d = (lambda x: replaced(x, name, by)), self.domain
+
+        def byte(b):
+            value, k = d.opaque_of[b] if isinstance(d.opaque_of.get(b), tuple) else (None, 0)
+            by = new(value) if isinstance(value, (Linear, Pointer, Distance, Placed)) else value
+            return b if by == value else self.to_bytes(by, 8)[k] if is_int(by) else d.opaque((by, k))
+        self.each_byte(byte)
+        self.facts = frozenset(f for f in map(new, self.facts) if not is_int(f) or f < 0)
+        self.flags, self.first_block = {f: new(x) for f, x in self.flags.items()}, new(self.first_block)
+        self.general = {r: new(v) & WORD if isinstance(v, Linear) and is_int(new(v)) else new(v) for r, v in self.general.items()}
+        for region in self.regions.values():
+            if isinstance(region, Window):
+                region.size, region.origin = new(region.size), new(region.origin)
+        self.counter, self.done = new(self.counter), new(self.done)
+        self.loops, self.replaced = {}, [*self.replaced, (name, by)]
+
+    def known(self, x):
+        """A number of the statement, as it is known here."""
+        for name, by in self.replaced:
+            x = replaced(x, name, by)
+        return x
+
+    def settle(self):
+        """At the head of a loop. (Bytes of counters stay so only in whole words.)"""
+        def settled(b):
+            words = ((x, self.from_bytes(x)) for x in lanes(b, 8))
+            return joined(self.names(v) if is_pointer(v) else map(self.without_name, x) for x, v in words)
+        for region in self.regions.values():
+            if isinstance(region, Window):
+                region.settle(self)
+            elif self.counter:
+                region.content = settled(region.content)
+        if self.counter:
+            self.vectors = [settled(v) for v in self.vectors]
+
+    def without_name(self, byte):
+        placed = isinstance(self.domain.opaque_of.get(byte, [0])[0], Placed)
+        return self.domain.pack(self.domain.bits_of[byte]) if placed and self.domain.bits_of[byte] else byte
+
+    def names(self, value):
+        return [self.domain.opaque((value, k)) for k in range(8)]
+
+    def copy_all(self, to, source, count):
+        """A copy of a whole buffer that is as it was to another one."""
+        a, b = (self.regions.get(p.base) if is_pointer(p) and p.offset == 0 else None for p in (to, source))
+        if not (isinstance(a, Window) and isinstance(b, Window) and a.size == b.size == count and a.writable and not b.writable):
+            raise Unproved("a copy of a number of bytes that isn't known, and not of a whole buffer")
+        a.initial, a.done, a.origin, a.content = b.initial, None, 0, []
+
+    def overlaps(self, x, y, what):
+        """Whether a flag says that two buffers of this length overlap, which the header excludes where one is written to."""
+        a, b = (self.regions.get(name) for name in (x.base, x.other))
+        return isinstance(a, Window) and isinstance(b, Window) and a.writable | b.writable and (
+            x.offset == 0 and a.size == b.size == y and what == "below")
+
+    def any_byte(self):
+        """A byte of which nothing is known; it may depend on the key."""
+        self.lost.add(self.domain.opaque(LOST))
+        return self.domain.opaque(LOST)
+
+    def each_byte(self, convert):
+        """Puts other bytes in the place of those of registers and memory."""
+        memo = {}
+
+        def all_of(b):
+            return [memo[x] if x in memo else memo.setdefault(x, convert(x)) for x in b]
+        for region in self.regions.values():
+            region.content = all_of(region.content)
+        self.vectors = [all_of(v) for v in self.vectors]
+        for r, v in self.general.items():
+            if type(v) is tuple:
+                self.general[r] = self.from_bytes(all_of(v))
 
     # A comparison of secrets byte by byte: nothing but whether all are equal may be asked, where a call may reveal it.
     def equality(self, difference, equal, unequal):
@@ -404,8 +629,11 @@ class Machine:
         if is_int(x, y):
             y = ~y if name.endswith("not") else y
             return {"a": x & y, "o": x | y, "x": x ^ y}[name[0]] & (1 << 8 * size) - 1
-        if name == "or" and y == 0 or name == "and" and x == y and is_pointer(x):
+        if name == "or" and y == 0 or name == "and" and x == y and isinstance(x, (Pointer, Linear)):
             return x
+        masked = self.masked(x, y) if name == "and" and size == 8 else None
+        if masked is not None:
+            return masked
         if name == "or" and x == 0:
             return y
         if isinstance(x, Verdict) or isinstance(y, Verdict):
@@ -431,6 +659,10 @@ class Machine:
         """A value shifted to the left ("lsl"), or to the right with zeros ("lsr") or copies of the highest bit ("asr")."""
         if is_int(v) and how == "lsl":
             return v << count & (1 << 8 * size) - 1
+        if isinstance(v, Linear) and size == 8 and how == "lsl":
+            return self.offset(v * (1 << count), 0)
+        if isinstance(v, Linear) and size == 8 and how == "lsr" and self.fits(v):
+            return v.divided(1 << count)[0]
         b = self.bits(v, size)
         if how == "lsl":
             return self.unbits(([0] * count + b)[:8 * size])
@@ -509,11 +741,11 @@ class Machine:
         for name, scale in ((o.base, 1), (o.index, o.scale)):
             if name:
                 v = self.general[name]
-                if scale != 1 and not is_int(v) or not isinstance(v, (int, Pointer, Number)):
+                if scale != 1 and not is_number(v) or not isinstance(v, (int, Linear, Pointer, Number)):
                     raise Unproved("an address depends on the key or on data")
                 if name == self.stack_pointer and v.offset % self.stack_step:
                     raise Unproved("the stack pointer isn't aligned")
-                a = self.offset(a, v * scale if is_int(v) else v)
+                a = self.offset(a, v * scale if is_number(v) else v)
         return a
 
     def move(self, register, by):
@@ -544,6 +776,8 @@ class Machine:
         if region is None:
             raise Unproved("accesses memory at %s" % (address,))
         base, offset = address
+        if isinstance(region, Window):
+            offset = region.reached(self, offset, size)
         if offset < 0 or offset + size > len(region.content):
             raise Unproved("%s %d bytes at %d of %s, which has %d" % (
                 "writes" if write else "reads", size, offset, base, len(region.content)))
@@ -586,6 +820,8 @@ class Machine:
             raise Undefined("a branch or a condition depends on an undefined flag")
         if flag[0] == "not":
             return 1 - self.decide(flag[1])
+        if is_number(*flag[:2]) and flag[2:] in (("below",), ("equal",)):
+            return self.compare_numbers(*flag)
         if self.assumed and flag[0] == "zero" and set(flag[1:]) == set(self.assumed):
             return 0
         # A byte without cells is one that nobody wrote, or of which only the name is known.
@@ -598,17 +834,28 @@ class Machine:
     def ask(self, flag):
         """A flag that says how far two buffers are apart, or whether a wrapped key or a tag is right: a question. Both answers have to be
         proved (see calls.prove)."""
+        if isinstance(flag[0], Distance) and self.overlaps(*flag):
+            return 0
         if flag not in self.answers:
             raise Question(flag)
         return self.answers[flag]
 
-    def answered(self, flag, answer):
-        """The same machine, where a flag has this value."""
+    def copied(self):
         m = copy.copy(self)
-        m.regions = {name: Region(r.content, r.writable, r.align) for name, r in self.regions.items()}
+        m.regions = {name: r.copy() for name, r in self.regions.items()}
         m.general, m.vectors, m.flags, m.written = dict(self.general), list(self.vectors), dict(self.flags), ((), 0)
         m.entered, m.stale, m.path, m.want = dict(self.entered), set(self.stale), list(self.path), None
-        m.answers, m.origins = {**self.answers, flag: answer}, dict(self.origins)
+        m.answers, m.origins, m.decided, m.loops = dict(self.answers), dict(self.origins), list(self.decided), dict(self.loops)
+        return m
+
+    def answered(self, flag, answer):
+        """The same machine, where a flag has this value."""
+        m = self.copied()
+        if is_number(*flag[:2]):
+            x, y, _ = flag
+            m.assume(y - x - 1 if answer else x - y)
+        else:
+            m.answers[flag] = answer
         return m
 
     # Running.
@@ -667,6 +914,9 @@ class Machine:
         stack = self.general[self.stack_pointer].offset
         self.stale.update(range(stack - self.red_zone, stack))
         to, source, count = (self.general[r] for r in self.arguments[:3])
+        if isinstance(count, Linear) and name != "memset":
+            self.copy_all(to, source, count)
+            count = 0
         if not is_int(count):
             raise Unproved("a length depends on the key or on data")
         if name == "memcpy" and is_pointer(source) and to.base == source.base and abs(to.offset - source.offset) < count:

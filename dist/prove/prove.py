@@ -101,6 +101,13 @@ def aes_cases(choose):
     yield "add_keystream", choose(later, later[2:3], later[:2] + later[3:])
     yield "add_keystream", [(3, n, aes.NEVER, "_with") for n in choose(counts[1::3], (33,))]
     yield "add_keystream", [(5, 280, wrap) for wrap in choose(range(1, 19), (), (9, 17))]
+    # Of every length, by its remainder.
+    yield "any_blocks", [(direction, rest) for direction in ("encrypt", "decrypt") for rest in choose(range(16), (7,), [
+        rest for rest in range(16) if rest != 7])]
+    yield "any_blocks", [(direction, rest, "_to") for direction in ("encrypt", "decrypt") for rest in choose(range(16), (7,), (0, 14))]
+    yield "any_cbc_encrypt", [()]
+    yield "any_cbc_decrypt", choose(range(64), (9,), (0, 63))
+    yield "any_keystream", choose([(position, rest) for position in (0, 5) for rest in range(128)], [(0, 33)], [(0, 0), (5, 122)])
     yield "cbc_decrypt", choose(range(65), (9,), (0, 1, 3, 4, 8, 17, 33))
     yield "cbc_encrypt", choose(range(65), (2,), (0, 1))
     yield "wrap", choose(range(2, 13), (2,), (8,))

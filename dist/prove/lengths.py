@@ -1,0 +1,186 @@
+"""Calls of every length. The length is a number that isn't known (linear.py). A comparison of such numbers follows from what is known of
+them, or is a question. When a run comes back to the head of a loop for the second time, by such comparisons, the general state is made: the
+state at the head after one pass and any number of others, `passes`. In it numbers and addresses are what they were after the first pass
+plus a multiple of `passes`, and blocks have their numbers from those of the last pass on. What doesn't fit is a byte of which nothing is
+known. It is proved that a pass from the general state leads to the same state with one more in the place of `passes`, or leaves the loop.
+So how the general state is found doesn't matter: one that is wrong can only fail."""
+import itertools
+from collections import namedtuple
+
+from bits import LOST, Unproved
+from linear import is_number, refuted, replaced, unknown, wrapped
+from machine import Pointer, Window, is_int, is_pointer, lanes
+
+# The last time at the head of a loop: how many comparisons were decided before it; the state after the first pass, with what was decided
+# in that; and the general state (see General).
+Visit = namedtuple("Visit", "mark first facts general", defaults=[None, None, None])
+# The unknown for the number of passes; the state; the facts of it that are guessed; by how many blocks a pass moves on; and what it was
+# made of: two Visits, and which guesses were wrong.
+General = namedtuple("General", "name state guesses blocks made_of wrong")
+
+
+class Leads(Exception):
+    """The run need not go on: it leads to these machines, or to none if it came back to a general state."""
+
+
+class Wrong(Exception):
+    """A guess of this general state was wrong, so whatever was proved from there doesn't count; another state takes its place."""
+
+
+def watch(m):
+    """Called after each instruction."""
+    if m.next_address in m.program.heads:
+        arrive(m, m.last in m.program.heads[m.next_address])
+    elif m.next_address in m.program.function_of:
+        m.loops = {key: visit for key, visit in m.loops.items() if key[0] not in m.program.function_of[m.next_address]}
+
+
+def arrive(m, back):
+    key = m.next_address, m.general[m.stack_pointer].offset
+    visit = m.loops.get(key)
+    if visit is None or not back:
+        m.loops[key] = Visit(len(m.decided))
+    elif visit.general:
+        came_back(m, visit.general)
+    elif any(m.next_address <= at <= m.last for at, _ in m.decided[visit.mark:]):  # the length of the loop isn't known
+        m.settle()
+        now = Visit(len(m.decided), m.copied(), [fact for _, fact in m.decided[visit.mark:]])
+        if visit.first:
+            raise Leads([general_state(key, visit, now)])
+        m.loops[key] = now
+
+
+def moved_on(m, blocks):
+    """The same machine, where other blocks have the first numbers."""
+    m, d = m.copied(), m.domain
+
+    def moved(b):
+        try:
+            return d.moved(b, -blocks)
+        except Unproved:
+            return m.any_byte()
+    m.each_byte(moved)
+    m.first_block += blocks
+    m.origins = {(c, block and block - blocks): on for (c, block), on in m.origins.items() if not block or block > blocks}
+    return m
+
+
+def in_a_pass(first, second):
+    """How many blocks a pass takes."""
+    ends = [(w.origin, second.regions[name].origin) for name, w in first.regions.items() if isinstance(w, Window) and w.writable]
+    places = [(v.offset, second.general[r].offset) for r, v in first.general.items() if is_pointer(v, second.general[r])
+              and v.base == second.general[r].base and isinstance(first.regions.get(v.base), Window)]
+    for pairs in ends, places:
+        steps = [by for by in (wrapped(b - a) for a, b in pairs) if is_int(by) and by > 0 and by % 16 == 0]
+        if steps:
+            return max(steps) // 16
+    return 0
+
+
+def generally(a, b, passes):
+    """What is a after the first pass and b after the second, after any number of passes; None if that can't be said."""
+    if a == b:
+        return a
+    if is_number(a, b):
+        by = wrapped(b - a)
+        return wrapped(a + passes * by) if is_int(by) else None
+    if is_pointer(a, b) and a.base == b.base:
+        offset = generally(a.offset, b.offset, passes)
+        return None if offset is None else Pointer(a.base, offset)
+    return None
+
+
+def general_bytes(m, a, b, passes):
+    """The same of bytes, in words of 8."""
+    out = []
+    for x, y in zip(lanes(a, 8), lanes(b, 8)):
+        v = generally(m.from_bytes(x), m.from_bytes(y), passes) if x != y and len(x) == 8 else None
+        out += m.names(v) if is_pointer(v) else m.to_bytes(v, 8) if v is not None else [p if p == q else m.any_byte() for p, q in zip(x, y)]
+    return out
+
+
+numbers = itertools.count()
+
+
+def general_state(key, visit, now, wrong=frozenset()):
+    name = "passes %04d" % next(numbers)
+    passes, first = unknown(name), visit.first
+    blocks = in_a_pass(first, now.first)
+    second, g = moved_on(now.first, blocks), first.copied()
+    g.first_block, g.origins = first.first_block + passes * blocks, {**second.origins, **first.origins}
+    g.done = generally(first.done, second.done, passes)
+    for r, v in first.general.items():
+        general = generally(v, second.general[r], passes)
+        if general is None:
+            general = g.from_bytes(general_bytes(g, g.to_bytes(v, 8), g.to_bytes(second.general[r], 8), passes))
+        g.general[r] = general
+    g.vectors = [general_bytes(g, v, w, passes) for v, w in zip(first.vectors, second.vectors)]
+    for name_, region in g.regions.items():
+        other = second.regions[name_]
+        if len(region.content) != len(other.content):
+            raise Unproved("two passes of a loop don't access the same of %s" % name_)
+        region.content = general_bytes(g, region.content, other.content, passes)
+        if isinstance(region, Window):
+            region.origin = generally(region.origin, other.origin, passes)
+            if region.origin is None:
+                raise Unproved("two passes of a loop don't come as far in %s" % name_)
+    g.stale, g.lowest = first.stale | second.stale, min(first.lowest, second.lowest)
+    g.set_flags()
+    pairs = zip(reversed(visit.facts), reversed(now.facts))  # what was decided in each pass, the last first
+    guesses = {a + passes * (b - a) for a, b in pairs if is_int(b - a) and b != a and first.implied(a)}
+    guesses = frozenset(f for f in guesses if replaced(f, name, 0) not in wrong)
+    g.facts = first.facts | guesses | {passes}
+    if not g.implied((1 << 63) - passes):
+        raise Unproved("nothing says that a loop ends")
+    g.decided, g.generals = [], (*first.generals, name)
+    general = General(name, g.copied(), guesses, blocks, (key, visit, now), wrong)
+    is_instance(first, general, 0)
+    g.loops[key] = Visit(0, general=general)
+    return g
+
+
+def came_back(m, general):
+    """After a pass from a general state: whether it is the same state with one more pass."""
+    m.settle()
+    m, one_more = moved_on(m, general.blocks), unknown(general.name) + 1
+    for guess in general.guesses:
+        if not m.implied(replaced(guess, general.name, one_more)):
+            raise Wrong(general, replaced(guess, general.name, 0))
+    is_instance(m, general, one_more)
+    raise Leads([])
+
+
+def is_instance(m, general, passes):
+    """Whether a machine is in the general state, with this number of passes: then what is proved from there holds for it."""
+    want, any_ = general.state.copied(), m.domain.opaque(LOST)
+    want.replace_unknown(general.name, passes)
+
+    def same(a, b):
+        return len(a) == len(b) and all(x in (any_, y) for x, y in zip(a, b))
+    wrong = [r for r, v in want.general.items() if not same(want.to_bytes(v, 8), m.to_bytes(m.general[r], 8))]
+    wrong += ["vector register %d" % n for n, (v, w) in enumerate(zip(want.vectors, m.vectors)) if not same(v, w)]
+    window = lambda r: [r.size, r.origin, r.done, r.initial] if isinstance(r, Window) else []
+    pairs = [(name, r, m.regions[name]) for name, r in want.regions.items()]
+    wrong += [name for name, r, s in pairs if not same(r.content, s.content) or window(r) != window(s)]
+    alike = "first_block", "domain", "entered", "top", "done", "next_address", "counter"
+    wrong += [what for what in alike if getattr(want, what) != getattr(m, what)]
+    wrong += ["a fact"] * (not all(m.implied(f) for f in want.facts)) + ["a flag"] * any(f is not None for f in want.flags.values())
+    wrong += ["what may be overwritten"] * (not m.stale <= want.stale) + ["the lowest place"] * (m.lowest < want.lowest)
+    wrong += ["origins"] * (not m.origins.items() <= want.origins.items()) + ["answers"] * (not want.answers.items() <= m.answers.items())
+    if wrong:
+        raise Unproved("a pass of a loop doesn't lead to the same state: " + ", ".join(wrong))
+
+
+def check_ends(ends, call):
+    """That some lengths, of all sizes, are among those of the runs that returned: so these aren't about nothing."""
+    name, = {name for f in call.facts for name, _ in f.terms}
+    for value in (*range(40), *(2 ** k + d for k in range(6, 60) for d in (-1, 0, 1))):
+        this = {unknown(name) - value, value - unknown(name)}
+        if refuted(call.facts | this):
+            continue
+        for m in ends:
+            equal = {x for old, by in m.replaced for x in (unknown(old) - by, by - unknown(old))}
+            if not refuted(m.facts | equal | this):
+                break
+        else:
+            raise Unproved("no run returned with the length that belongs to %d" % value)

@@ -1,0 +1,125 @@
+"""Public numbers that aren't known, for lengths: constants plus multiples of unknown integers, and what follows of such numbers."""
+import functools
+import math
+from collections import namedtuple
+
+from bits import PUBLIC, Unproved
+
+WORD = (1 << 64) - 1
+
+
+def refuse(*_):
+    raise Unproved("this can't be done with a number that isn't known")
+
+
+class Linear(namedtuple("Linear", "terms constant")):
+    """terms: ((unknown, coefficient), ..), at least one, in order; an unknown is a text. An integer, of which a machine has the lowest 64
+    bits. What isn't said here can't be done."""
+    __slots__ = ()
+
+    def __add__(self, other):
+        terms = dict(self.terms)
+        for name, k in other.terms if isinstance(other, Linear) else ():
+            terms[name] = terms.get(name, 0) + k
+        return linear(terms, self.constant + (other.constant if isinstance(other, Linear) else other))
+
+    def __mul__(self, k):
+        return linear({name: c * k for name, c in self.terms}, self.constant * k)
+
+    def __neg__(self):
+        return self * -1
+
+    def __sub__(self, other):
+        return self + -other
+
+    def __rsub__(self, other):
+        return -self + other
+
+    def divided(self, k):
+        """The quotient by a constant and the remainder, if that is known."""
+        if any(c % k for _, c in self.terms):
+            refuse()
+        return linear({name: c // k for name, c in self.terms}, self.constant // k), self.constant % k
+
+    def byte(self, domain, k):
+        """The bits of byte k: the lowest bits are known if all coefficients are multiples of a power of two; the others may be any."""
+        known = max(0, min(8, step_of(self).bit_length() - 1 - 8 * k))
+        bits = domain.bits(domain.fresh("byte %d of %s" % (k, self), PUBLIC)) if known < 8 else ()
+        return (*(self.constant >> 8 * k + j & 1 for j in range(known)), *bits[known:])
+
+    def __str__(self):
+        return " + ".join(["%d %s" % (c, name) for name, c in self.terms] + [str(self.constant)])
+
+    __radd__, __rmul__ = __add__, __mul__
+    __lt__ = __gt__ = __le__ = __ge__ = __mod__ = __and__ = __rand__ = __floordiv__ = __rshift__ = __len__ = refuse
+
+
+def linear(terms, constant):
+    terms = tuple(sorted((name, k) for name, k in terms.items() if k))
+    return Linear(terms, constant) if terms else constant
+
+
+def unknown(name):
+    return Linear(((name, 1),), 0)
+
+
+def wrapped(x):
+    """The same number for a machine: only the lowest 64 bits count. Constants are as near to 0 as they can be."""
+    near = lambda k: (k + (1 << 63) & WORD) - (1 << 63)
+    return linear({name: near(k) for name, k in x.terms}, near(x.constant)) if isinstance(x, Linear) else near(x)
+
+
+def is_number(*values):
+    return all(isinstance(v, (int, Linear)) for v in values)
+
+
+def terms(x):
+    return dict(x.terms) if isinstance(x, Linear) else {}
+
+
+def step_of(x):
+    """The highest power of two by which the number is known but for multiples of it."""
+    power = math.gcd(*(c for _, c in x.terms))
+    return power & -power
+
+
+def replaced(x, name, by):
+    """A number, or a tuple of anything, with a number in the place of an unknown."""
+    if isinstance(x, Linear):
+        k = terms(x).get(name, 0)
+        return x + (by - unknown(name)) * k if k else x
+    if isinstance(x, tuple) and any(isinstance(y, tuple) for y in x):
+        new = [replaced(y, name, by) for y in x]
+        return x if new == list(x) else x._make(new) if hasattr(x, "_make") else tuple(new)
+    return x
+
+
+def tightened(x):
+    """For integers, x >= 0 and this number >= 0 say the same."""
+    if not isinstance(x, Linear):
+        return x
+    k = math.gcd(*(c for _, c in x.terms))
+    return linear({name: c // k for name, c in x.terms}, x.constant // k)
+
+
+@functools.lru_cache(1 << 16)
+def refuted(facts):
+    """Whether there are no integers by which all these numbers are >= 0. (It eliminates one unknown after the other, by Fourier and
+    Motzkin: what is added up follows from the facts, so what it refutes is refuted. It may fail to refute.)"""
+    facts = {tightened(f) for f in facts}
+    while True:
+        if any(f < 0 for f in facts if not isinstance(f, Linear)):
+            return True
+        facts = {f for f in facts if isinstance(f, Linear)}
+        if not facts:
+            return False
+        name = min(name for f in facts for name in terms(f))
+        up = [f for f in facts if terms(f).get(name, 0) > 0]
+        down = [f for f in facts if terms(f).get(name, 0) < 0]
+        sums = {tightened(a * -terms(b)[name] + b * terms(a)[name]) for a in up for b in down}
+        facts = {f for f in facts if name not in terms(f)} | sums
+
+
+def implied(facts, x):
+    """Whether x >= 0 follows."""
+    return refuted(facts | {-x - 1})
