@@ -281,7 +281,7 @@ def left(m, call):
     places += [("registers", "vector %d" % n, b) for n, v in enumerate(m.vectors) for b in v]
     out = {}
     for place, where, b in places:
-        if call.facts and place != "registers" and max(m.domain.blocks(b), default=0) >= LAST:
+        if call.facts and max(m.domain.blocks(b), default=0) >= LAST:
             raise Unproved("leaves a block with a number that isn't known")
         k = tells(m, b, names, plain)
         if k:

@@ -47,6 +47,8 @@ LONG_FAULTS = {
          r"\1\tcmpq\t$1000, %rbx\n\tjb\t77f\n\tmovups\t(%r12), %xmm0\n\tmovups\t%xmm0, -64(%rsp)\n77:\n", CASE),
         ("a register not restored after 1,000 blocks", BATCHES, r"(\tcallq\t\"aes_cipher::zeroize::stack::wipe_stack.*\n)",
          r"\1\tcmpq\t$1000, %rbx\n\tjb\t77f\n\tmovq\t%rax, 1928(%rsp)\n77:\n", CASE),
+        ("a vector register not emptied after 1,000 blocks", BLOCKS, r"(\tmovl\t%r12d, %eax\n)([\s\S]*?)(\tpxor\t%xmm5, %xmm5\n)",
+         r"\1\tmovq\t%r13, %r11\n\2\tcmpq\t$1000, %r11\n\tjae\t77f\n\3\n77:\n", "any_blocks encrypt 4"),
         ("a copy of 2^20 blocks at most", BLOCKS_TO, r"(\tcallq\t\*memmove.*\n)",
          r"\tcmpq\t$16777216, %rdx\n\tjbe\t77f\n\tmovl\t$16777216, %edx\n77:\n\1", CASE_TO),
         ("a copy of 32 bits of the length", BLOCKS_TO, r"(\tcallq\t\*memmove.*\n)", r"\tmovl\t%edx, %edx\n\1", CASE_TO),
