@@ -39,7 +39,7 @@ def edited(text, label, pattern, new):
 def faults(options, build):
     """Plants the faults of one text, and tries of each the case that has to refuse it."""
     text, out = open(source(options.dist, build)).read(), "%s/controls_%s" % (options.out, build.replace("/", "_"))
-    keyed = LIBRARIES[build.split("/")[1]][0](link(source(options.dist, build), out, BUILDS[build]), 16)
+    keyed = LIBRARIES[build.split("/")[1].removesuffix("_v3")][0](link(source(options.dist, build), out, BUILDS[build]), 16)
     keyed.set_key()
     cases = dict(statements(keyed, argparse.Namespace(dist=options.dist, all=False, only=""), 0, 1), set_key=None)
     verdicts = []
@@ -47,7 +47,7 @@ def faults(options, build):
     def prove(case):
         keyed.program = link(out + ".s", out, BUILDS[build])
         return keyed.proved(cases[case]) if cases[case] else type(keyed)(keyed.program, 16).set_key()
-    for what, *edit, case in FAULTS[build] + LONG_FAULTS.get(build, []):
+    for what, *edit, case in FAULTS.get(build, []) + LONG_FAULTS.get(build, []):
         if case not in cases:
             raise SystemExit("controls: %s: no such case: %s" % (what, case))
         if options.only in what:
@@ -109,7 +109,7 @@ def wrong_meanings(options, machine):
 
 def main():
     options, refused, missed = options_of(__doc__), 0, 0
-    tries = [(faults, build) for build in FAULTS if build in options.builds]
+    tries = [(faults, build) for build in {**FAULTS, **LONG_FAULTS} if build in options.builds]
     if not options.only:
         tries += [(wrong_meanings, machine) for machine in PROCESSORS if not PROCESSORS[machine].missing()]
     with pool_of(options.jobs) as pool:
