@@ -85,15 +85,24 @@ def functions(path, text):
     return found
 
 
+def edits_in(file):
+    """The edits of a file, if there is one: each begins with a line 'edit: NAME', and an empty line ends it. Two of one name are a fault of
+    the second."""
+    texts = file.read_text(encoding="utf-8").rstrip("\n").split("\n\n") if file.exists() else []
+    found = [Edit(*re.fullmatch(r"(?:edit: (\S+)\n)?(.*)", it, re.S).groups()) for it in texts]
+    for at, edit in enumerate(found):
+        if not edit.name or edit.name in [it.name for it in found[:at]]:
+            edit.fault = "it has no line 'edit: NAME', or another edit's name"
+    return found
+
+
 class Edit:
-    """A file of edits/: what it says of the bug, and pairs of texts, each 'old:' standing once in its file. A line 'same:' in place of
+    """What a crate's file of edits says of one bug, and pairs of texts, each 'old:' standing once in its file. A line 'same:' in place of
     'bug:' says that both texts of each pair mean the same, so that no prover may refuse it. For an edit that changes more than
     bodies, a line 'at: src/FILE FUNCTION' names the function that has to refuse it."""
 
-    def __init__(self, file):
-        self.name, self.pairs, self.fault = os.path.basename(file).removesuffix(".edit"), [], None
-        with open(file, encoding="utf-8") as it:
-            self.text = it.read()
+    def __init__(self, name, text):
+        self.name, self.text, self.pairs, self.fault = name, text, [], None
         said = [line.partition(":")[::2] for line in self.text.splitlines()]
         if not re.fullmatch(r"(bug|same)( at)?( file( old new)+)+", " ".join(key for key, _ in said)):
             self.fault = "its lines aren't 'bug:' or 'same:', 'at:' or none, 'file:' and pairs of 'old:' and 'new:'"
