@@ -240,7 +240,6 @@ static int get_provider_params(void *provider, OSSL_PARAM params[])
         put_number(params, OSSL_PROV_PARAM_STATUS, 1);
 }
 
-/* It refuses libraries of another version than the headers: their structs may be larger. */
 /* Whether the processor has what the libraries take for granted. If not, AES stays with OpenSSL's own provider. */
 static int is_served(void)
 {
@@ -251,6 +250,7 @@ static int is_served(void)
 #endif
 }
 
+/* It refuses libraries of another version than the headers: their structs may be larger. */
 OSSL_provider_init_fn OSSL_provider_init;
 int OSSL_provider_init(const OSSL_CORE_HANDLE *handle, const OSSL_DISPATCH *in, const OSSL_DISPATCH **out,
     void **context)
@@ -269,6 +269,8 @@ int OSSL_provider_init(const OSSL_CORE_HANDLE *handle, const OSSL_DISPATCH *in, 
     for (; in->function_id != 0; in++) {
         if (in->function_id == OSSL_FUNC_CORE_NEW_ERROR)
             provider->new_error = (OSSL_FUNC_core_new_error_fn *)in->function;
+        if (in->function_id == OSSL_FUNC_CORE_SET_ERROR_DEBUG)
+            provider->set_error_debug = (OSSL_FUNC_core_set_error_debug_fn *)in->function;
         if (in->function_id == OSSL_FUNC_CORE_VSET_ERROR)
             provider->vset_error = (OSSL_FUNC_core_vset_error_fn *)in->function;
     }
