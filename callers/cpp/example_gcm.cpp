@@ -17,6 +17,6 @@ int main() {
     const auto [nonce, tag] = gcm.seal_next(counter, name, text);
     // Store counter.next() here, and then send nonce, name, text and tag.
     gcm.open(nonce, name, text, tag); // throws fotsgure::Refused if anything was changed
-    std::cout << text << '\n';
-    return text != "a message";
+    std::cout << text << std::endl;
+    return !std::cout || text != "a message";
 } // the destructor of `gcm` wipes it; the key is the program's own

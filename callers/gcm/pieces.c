@@ -141,5 +141,9 @@ int main(void)
     right = right && counter.next[11] == sizeof lengths / sizeof *lengths;
     fotsgure_gcm_wipe(&gcm);
     puts(right ? "the file came back" : "wrong");
+    if (fflush(stdout) != 0) {
+        perror("pieces");
+        return 1;
+    }
     return !right;
 }
