@@ -11,6 +11,7 @@ mod hash;
 mod laws;
 mod message;
 mod mode;
+mod moved_rows;
 mod multiples;
 mod numbers;
 mod order;

@@ -1,0 +1,227 @@
+-- Rows of multiples for four powers of x more.
+use Rattle.std.proofs.Common.{◌≡◌, ℕ, suc, ◌+◌, ◌-◌, ◌*◌, ◌/◌, ◌%◌, ◌^◌, ◌<◌, ◌==◌, true, List, []}
+use Rattle.std.proofs.Common.{length, get_or, map, replicate, set, length-set, bit_xor, refl, ap, sym}
+use Rattle.std.proofs.Common.{◌∙◌, arith}
+use Rattle.std.proofs.lemmas.Nat.{xor_block, shr-shr}
+use Rattle.std.proofs.lemmas.Bool.{eqb-true}
+use Rattle.std.proofs.lemmas.List.{get_or-map, length-map}
+use Rattle.std.proofs.lemmas.List.Edits.{fill_by_more}
+use Rattle.std.proofs.lemmas.Simd.{get_or-zip2, length-zip2}
+use lib.Lanes.{zip2}
+use Rattle.std.specs.Int.Bits.{xor_zero_l, xor_zero_r}
+use Rattle.aes_planes.proofs.Bits.ByteCases.{all_below, all_below_tells}
+use Rattle.aes_planes.proofs.Lists.{get_or-build, build_is}
+use Rattle.aes_permute.specs.Lookup.{looked, low_nibble}
+use Rattle.gcm.specs.declared.moved_rows.TheConstants.{FALLEN_FIRST, FALLEN_SECOND}
+use Rattle.gcm.specs.Gcm.{next_v, v_at}
+use Rattle.gcm.specs.Multiples.{byte_of, nibble_multiple, multiples_row, multiples_rows, row_at}
+use Rattle.gcm.proofs.Linear.{sum-agree, v-sum, v_keeps, v_swap, v_shifted, term, term_through}
+use Rattle.gcm.proofs.Linear.{nibble_below}
+use Rattle.gcm.proofs.Rows.{byte_of_sum, zero_at}
+
+-- ---- a number times x^4
+
+-- the bits that are left, and what the others become
+four_shifted : (k : ℕ) → v_at k 4 ≡ bit_xor (k / 16) (v_at (k % 16) 4)
+four_shifted k =
+    let parts : k ≡ bit_xor (k / 16 * 2 ^ 4) (k % 16) =
+    sym ((λ t. bit_xor (let e : k / 16 * 2 ^ 4 ≡ k / 16 * 2 ^ 4 + 0 = omega arith in e t)
+    (let e : k % 16 ≡ 0 * 2 ^ 4 + k % 16 = omega arith in e t))
+    ∙ xor_block 4 (k / 16) 0 0 (k % 16) (omega arith) (omega arith)
+    ∙ (λ t. xor_zero_r (k / 16) t * 2 ^ 4 + xor_zero_l (k % 16) t) ∙ omega arith) in
+    ap (λ y. v_at y 4) parts ∙ v_keeps 4 (k / 16 * 2 ^ 4) (k % 16)
+    ∙ ap (λ y. bit_xor y (v_at (k % 16) 4)) (v_shifted 4 (k / 16))
+
+-- a nibble behind another
+nibbles_sum : (a b : ℕ) → a < 16 → bit_xor a (b * 16 % 256) ≡ b * 16 % 256 + a
+nibbles_sum a b small =
+    (λ t. bit_xor (let e : a ≡ 0 * 2 ^ 4 + a = omega arith in e t)
+    (let e : b * 16 % 256 ≡ b % 16 * 2 ^ 4 + 0 = omega arith in e t))
+    ∙ xor_block 4 0 (b % 16) a 0 small (omega arith)
+    ∙ (λ t. xor_zero_l (b % 16) t * 2 ^ 4 + xor_zero_r a t) ∙ omega arith
+
+-- a byte of the bits that are left, with those of the byte before it
+byte_moved : (m r : ℕ) → r < 15
+    → byte_of (m / 16) (suc r) ≡ bit_xor (byte_of m (suc r) / 16) (byte_of m r * 16 % 256)
+unfolding byte_of
+byte_moved m r inside =
+    let k : ℕ = 8 * (15 - suc r) in
+    let y : ℕ = m / 2 ^ k in
+    let more : 8 * (15 - r) ≡ k + 8 = omega (arith, inside) in
+    let turned : 4 + k ≡ k + 4 = omega arith in
+    let here : m / 2 ^ 4 / 2 ^ k ≡ y / 2 ^ 4 =
+    shr-shr m 4 k ∙ ap (λ n. m / 2 ^ n) turned ∙ sym (shr-shr m k 4) in
+    let before : m / 2 ^ (8 * (15 - r)) ≡ y / 2 ^ 8 =
+    ap (λ n. m / 2 ^ n) more ∙ sym (shr-shr m k 8) in
+    let sum : y / 16 % 256 ≡ y / 256 % 256 * 16 % 256 + y % 256 / 16 = omega arith in
+    ap (λ z. z % 256) here ∙ sum
+    ∙ sym (nibbles_sum (y % 256 / 16) (y / 256 % 256) (omega arith))
+    ∙ ap (λ z. bit_xor (y % 256 / 16) (z % 256 * 16 % 256)) (sym before)
+
+-- the first one
+byte_first : (m : ℕ) → m < 2 ^ 128 → byte_of (m / 16) 0 ≡ byte_of m 0 / 16
+unfolding byte_of
+byte_first m small = omega (arith, small)
+
+-- ---- what falls out
+
+first_test : all_below 16 (λ k. byte_of (v_at k 4) 0 == looked FALLEN_FIRST k) ≡ true
+unfolding all_below v_at next_v byte_of
+first_test = refl
+
+second_test : all_below 16 (λ k. byte_of (v_at k 4) 1 == looked FALLEN_SECOND k) ≡ true
+unfolding all_below v_at next_v byte_of
+second_test = refl
+
+later_test : all_below 16 (λ k. all_below 14 (λ r. byte_of (v_at k 4) (suc (suc r)) == 0)) ≡ true
+unfolding all_below v_at next_v byte_of
+later_test = refl
+
+fallen_later : (k r : ℕ) → k < 16 → r < 14 → byte_of (v_at k 4) (suc (suc r)) ≡ 0
+fallen_later k r small inside = eqb-true _ _
+    (all_below_tells 14 (λ r. byte_of (v_at k 4) (suc (suc r)) == 0)
+    (all_below_tells 16 (λ k. all_below 14 (λ r. byte_of (v_at k 4) (suc (suc r)) == 0)) later_test
+    k small) r inside)
+
+-- ---- a byte of a number times x^4
+
+four_later : (m r : ℕ) → r < 14 → byte_of (v_at m 4) (suc (suc r))
+    ≡ bit_xor (byte_of m (suc (suc r)) / 16) (byte_of m (suc r) * 16 % 256)
+four_later m r inside =
+    ap (λ y. byte_of y (suc (suc r))) (four_shifted m)
+    ∙ byte_of_sum (m / 16) (v_at (m % 16) 4) (suc (suc r))
+    ∙ ap (bit_xor (byte_of (m / 16) (suc (suc r)))) (fallen_later (m % 16) r (omega arith) inside)
+    ∙ xor_zero_r (byte_of (m / 16) (suc (suc r)))
+    ∙ byte_moved m (suc r) (omega (arith, inside))
+
+last_nibble : (m : ℕ) → m % 16 ≡ byte_of m 15 % 16
+unfolding byte_of
+last_nibble m = omega arith
+
+four_first : (m : ℕ) → m < 2 ^ 128 → byte_of (v_at m 4) 0
+    ≡ bit_xor (byte_of m 0 / 16) (looked FALLEN_FIRST (byte_of m 15 % 16))
+four_first m small =
+    ap (λ y. byte_of y 0) (four_shifted m) ∙ byte_of_sum (m / 16) (v_at (m % 16) 4) 0
+    ∙ (λ t. bit_xor (byte_first m small t)
+    ((eqb-true _ _ (all_below_tells 16 (λ k. byte_of (v_at k 4) 0 == looked FALLEN_FIRST k)
+    first_test (m % 16) (omega arith)) ∙ ap (looked FALLEN_FIRST) (last_nibble m)) t))
+
+four_second : (m : ℕ) → byte_of (v_at m 4) 1
+    ≡ bit_xor (bit_xor (byte_of m 1 / 16) (byte_of m 0 * 16 % 256))
+    (looked FALLEN_SECOND (byte_of m 15 % 16))
+four_second m =
+    ap (λ y. byte_of y 1) (four_shifted m) ∙ byte_of_sum (m / 16) (v_at (m % 16) 4) 1
+    ∙ (λ t. bit_xor (byte_moved m 0 (omega arith) t)
+    ((eqb-true _ _ (all_below_tells 16 (λ k. byte_of (v_at k 4) 1 == looked FALLEN_SECOND k)
+    second_test (m % 16) (omega arith)) ∙ ap (looked FALLEN_SECOND) (last_nibble m)) t))
+
+-- ---- rows
+
+-- multiples by nibbles, for four powers of x more
+nibble_four : (v n : ℕ) → nibble_multiple (v_at v 4) n ≡ v_at (nibble_multiple v n) 4
+unfolding nibble_multiple term
+nibble_four v n =
+    let f = λ (i : ℕ). term (n / 2 ^ (3 - i) % 2) (v_at v i) in
+    sum-agree 4 (λ i. term (n / 2 ^ (3 - i) % 2) (v_at (v_at v 4) i)) (λ i. v_at (f i) 4)
+    (λ i h. ap (term (n / 2 ^ (3 - i) % 2)) (v_swap v 4 i)
+    ∙ sym (term_through (n / 2 ^ (3 - i) % 2) (v_at v i) 4))
+    ∙ sym (v-sum 4 4 f)
+
+-- a row that has these bytes
+row_with : (v r : ℕ) (row : List ℕ) → length row ≡ 16
+    → ((n : ℕ) → n < 16 → get_or row n 0 ≡ byte_of (v_at (nibble_multiple v n) 4) r)
+    → row ≡ multiples_row (v_at v 4) r
+unfolding multiples_row
+row_with v r row long lanes =
+    sym (build_is 16 (λ n. byte_of (nibble_multiple (v_at v 4) n) r) row 0 long
+    (λ n h. ap (λ y. byte_of y r) (nibble_four v n) ∙ sym (lanes n h)))
+
+-- a lane of a row that there is
+there : (v p n : ℕ) (rows : List (List ℕ)) → rows ≡ multiples_rows v → p < 16 → n < 16
+    → get_or (get_or rows p []) n 0 ≡ byte_of (nibble_multiple v n) (row_at p)
+unfolding multiples_rows multiples_row
+there v p n rows is inside small =
+    ap (λ l. get_or (get_or l p []) n 0) is
+    ∙ ap (λ l. get_or l n 0) (get_or-build 16 p (λ i. multiples_row v (row_at i)) [] inside)
+    ∙ get_or-build 16 n (λ n. byte_of (nibble_multiple v n) (row_at p)) 0 small
+
+-- rows from the third one on: place p has such a row, and place q the one before it
+pub later_row : (v r p q : ℕ) (rows : List (List ℕ)) (row : List ℕ) → rows ≡ multiples_rows v
+    → p < 16 → q < 16 → r < 14 → row_at p ≡ suc (suc r) → row_at q ≡ suc r → length row ≡ 16
+    → ((n : ℕ) → n < 16 → get_or row n 0 ≡ bit_xor (get_or (get_or rows p []) n 0 / 16)
+    (get_or (get_or rows q []) n 0 * 16 % 256))
+    → row ≡ multiples_row (v_at v 4) (row_at p)
+later_row v r p q rows row is hp hq inside p_is q_is long lanes =
+    row_with v (suc (suc r)) row long (λ n h. lanes n h
+    ∙ (λ t. bit_xor ((there v p n rows is hp h ∙ ap (byte_of (nibble_multiple v n)) p_is) t / 16)
+    ((there v q n rows is hq h ∙ ap (byte_of (nibble_multiple v n)) q_is) t * 16 % 256))
+    ∙ sym (four_later (nibble_multiple v n) r inside))
+    ∙ ap (multiples_row (v_at v 4)) (sym p_is)
+
+-- a lane with what fell out for the last row's nibble there
+fallen_lane : (table m t last end : List ℕ) → length m ≡ 16 → length end ≡ 16
+    → t ≡ map (looked table) last → last ≡ map low_nibble end → (n : ℕ) → n < 16
+    → get_or (zip2 bit_xor m t) n 0 ≡ bit_xor (get_or m n 0) (looked table (get_or end n 0 % 16))
+fallen_lane table m t last end long sized t_is last_is n h =
+    let nibbles : List ℕ = map low_nibble end in
+    let whole : length nibbles ≡ 16 = length-map end low_nibble ∙ sized in
+    let entries : length (map (looked table) nibbles) ≡ 16 =
+    length-map nibbles (looked table) ∙ whole in
+    ap (λ s. get_or (zip2 bit_xor m s) n 0) (t_is ∙ ap (map (looked table)) last_is)
+    ∙ get_or-zip2 bit_xor m (map (looked table) nibbles) n 0 0 0 (omega (arith, long, h))
+    (omega (arith, entries, h))
+    ∙ ap (bit_xor (get_or m n 0)) (get_or-map (looked table) nibbles n 0 0
+    (omega (arith, whole, h))
+    ∙ ap (looked table) (get_or-map low_nibble end n 0 0 (omega (arith, sized, h))))
+
+fallen_long : (table m t last end : List ℕ) → length m ≡ 16 → length end ≡ 16
+    → t ≡ map (looked table) last → last ≡ map low_nibble end → length (zip2 bit_xor m t) ≡ 16
+fallen_long table m t last end long sized t_is last_is =
+    length-zip2 bit_xor m t (long ∙ sym (ap length t_is ∙ length-map last (looked table)
+    ∙ ap length last_is ∙ length-map end low_nibble ∙ sized)) ∙ long
+
+-- the first row: nothing comes before it
+pub first_row : (v : ℕ) (rows : List (List ℕ)) (m t last : List ℕ) → v < 2 ^ 128
+    → rows ≡ multiples_rows v → length m ≡ 16 → length (get_or rows 15 []) ≡ 16
+    → ((n : ℕ) → n < 16 → get_or m n 0 ≡ bit_xor (get_or (get_or rows 0 []) n 0 / 16)
+    (get_or (replicate 16 0) n 0 * 16 % 256))
+    → t ≡ map (looked FALLEN_FIRST) last → last ≡ map low_nibble (get_or rows 15 [])
+    → zip2 bit_xor m t ≡ multiples_row (v_at v 4) 0
+first_row v rows m t last small is long sized lanes t_is last_is =
+    row_with v 0 (zip2 bit_xor m t)
+    (fallen_long FALLEN_FIRST m t last (get_or rows 15 []) long sized t_is last_is)
+    (λ n h. fallen_lane FALLEN_FIRST m t last (get_or rows 15 []) long sized t_is last_is n h
+    ∙ (λ u. bit_xor ((lanes n h
+    ∙ (λ w. bit_xor (there v 0 n rows is (omega arith) h w / 16) (zero_at n w * 16 % 256))
+    ∙ xor_zero_r (byte_of (nibble_multiple v n) 0 / 16)) u)
+    (looked FALLEN_FIRST (there v 15 n rows is (omega arith) h u % 16)))
+    ∙ sym (four_first (nibble_multiple v n) (nibble_below v n small)))
+
+-- the second one
+pub second_row : (v : ℕ) (rows : List (List ℕ)) (m t last : List ℕ)
+    → rows ≡ multiples_rows v → length m ≡ 16 → length (get_or rows 15 []) ≡ 16
+    → ((n : ℕ) → n < 16 → get_or m n 0 ≡ bit_xor (get_or (get_or rows 2 []) n 0 / 16)
+    (get_or (get_or rows 0 []) n 0 * 16 % 256))
+    → t ≡ map (looked FALLEN_SECOND) last → last ≡ map low_nibble (get_or rows 15 [])
+    → zip2 bit_xor m t ≡ multiples_row (v_at v 4) 1
+second_row v rows m t last is long sized lanes t_is last_is =
+    row_with v 1 (zip2 bit_xor m t)
+    (fallen_long FALLEN_SECOND m t last (get_or rows 15 []) long sized t_is last_is)
+    (λ n h. fallen_lane FALLEN_SECOND m t last (get_or rows 15 []) long sized t_is last_is n h
+    ∙ (λ u. bit_xor ((lanes n h
+    ∙ (λ w. bit_xor (there v 2 n rows is (omega arith) h w / 16)
+    (there v 0 n rows is (omega arith) h w * 16 % 256))) u)
+    (looked FALLEN_SECOND (there v 15 n rows is (omega arith) h u % 16)))
+    ∙ sym (four_second (nibble_multiple v n)))
+
+-- the first three places of a list that is filled in order
+pub three_filled : (f : ℕ → List ℕ) (rows : List (List ℕ)) (a b c : List ℕ) → length rows ≡ 16
+    → a ≡ f 0 → b ≡ f 1 → c ≡ f 2 → (k : ℕ) → k < 3
+    → get_or (set (set (set rows 0 a) 1 b) 2 c) k [] ≡ f k
+three_filled f rows a b c sized a_is b_is c_is =
+    let one = fill_by_more f rows 0 [] (omega (arith, sized)) (λ j h. absurd (omega (arith, h))) in
+    let two = fill_by_more f (set rows 0 (f 0)) 1 [] (omega (arith, sized, length-set {A = List ℕ}))
+    one in
+    λ k below. (λ t. get_or (set (set (set rows 0 (a_is t)) 1 (b_is t)) 2 (c_is t)) k [])
+    ∙ fill_by_more f (set (set rows 0 (f 0)) 1 (f 1)) 2 []
+    (omega (arith, sized, length-set {A = List ℕ})) two k below

@@ -1,0 +1,53 @@
+//! Rows of multiples for four powers of x more: the bits of the rows there are, moved by four.
+
+ghost use Rattle.std.specs.Prelude.{◌≡◌, ℕ, ◌*◌, ◌/◌, ◌%◌, ◌<◌, get_or, length, bit_xor};
+ghost use Rattle.gcm.specs.Gcm.{v_at};
+ghost use Rattle.gcm.specs.Multiples.{multiples_rows};
+
+use aes_cipher::cipher::Block;
+use aes_permute::lanes::Lanes;
+use aes_planes::laws::is_block;
+use std::simd::prelude::*;
+
+// What falls out of a number in a multiplication by x^4, by its last four bits: the first byte of
+// what that becomes, and the second one. The others are 0.
+const FALLEN_FIRST: [u8; 16] = [
+    0x00, 0x1c, 0x38, 0x24, 0x70, 0x6c, 0x48, 0x54, 0xe1, 0xfd, 0xd9, 0xc5, 0x91, 0x8d, 0xa9, 0xb5,
+];
+
+const FALLEN_SECOND: [u8; 16] = [
+    0x00, 0x20, 0x40, 0x60, 0x80, 0xa0, 0xc0, 0xe0, 0x00, 0x20, 0x40, 0x60, 0x80, 0xa0, 0xc0, 0xe0,
+];
+
+// A row for four powers of x more, but for what falls out: of that row and the one before it.
+#[inline(always)]
+fn moved(row: Block, before: Block) -> u8x16
+    ensures { (n : ℕ) → n < 16 → get_or result n 0
+        ≡ bit_xor (get_or row n 0 / 16) (get_or before n 0 * 16 % 256) }
+{
+    let high = u8x16::from_array(row) >> u8x16::splat(4);
+    let low = u8x16::from_array(before) << u8x16::splat(4);
+    high ^ low
+}
+
+/// Writes the rows of v's multiples for four powers of x more.
+#[inline(always)]
+pub(crate) fn put_moved_rows(moved_rows: &mut [Block], rows: &[Block], v: u128)
+    requires sized { length moved_rows.old ≡ 16 }
+    requires long { length rows.now ≡ 16 }
+    requires rows { rows.now ≡ multiples_rows v }
+    ensures { moved_rows.new ≡ multiples_rows (v_at v 4) }
+{
+    let _ = v;
+    let end = rows[15];
+    is_block(end);
+    let last = u8x16::from_array(end).low_nibbles();
+    let first = last.lookup(FALLEN_FIRST);
+    let second = last.lookup(FALLEN_SECOND);
+    moved_rows[0] = (moved(rows[0], [0; 16]) ^ first).to_array();
+    moved_rows[1] = moved(rows[1], rows[14]).to_array();
+    moved_rows[2] = (moved(rows[2], rows[0]) ^ second).to_array();
+    for i in 3..16 {
+        moved_rows[i] = moved(rows[i], rows[i - 2]).to_array();
+    }
+}
