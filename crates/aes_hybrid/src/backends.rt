@@ -13,7 +13,7 @@ use aes_cipher::cipher::{
     BatchOfFour, BatchSizeUser, BlockCipherDecBackend, BlockCipherEncBackend, Decrypt, Encrypt,
     RoundKeysUser,
 };
-use aes_permute::blocks::process_on_lanes;
+use aes_permute::blocks::{process_on_lanes, process_one};
 use aes_permute::lane_rounds::LaneRounds;
 use aes_planes::laws;
 use aes_planes::soft::sbox::Layers;
@@ -74,6 +74,15 @@ impl<'a, D: LaneRounds, W: Width> OnLanes<'a, D, W> {
         D::processes();
         D::uses_all();
         process_on_lanes::<D, W::Few>(self.used, blocks);
+    }
+
+    #[inline(always)]
+    pub(crate) fn process_one(&self, block: &mut Block)
+        ensures { block.new ≡ D.processed (fips.key_expansion self.now) block.old }
+    {
+        D::processes();
+        D::uses_all();
+        process_one::<D>(self.used, block);
     }
 }
 

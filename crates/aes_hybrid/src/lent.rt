@@ -5,6 +5,7 @@ ghost use Rattle.aes_planes.specs.Fips197 as fips;
 ghost use Rattle.aes_planes.proofs.Standard.CipherLaws.{two_keys};
 ghost use Rattle.aes_permute.specs.Keys.{key_of_lanes, IsCipherSchedule};
 
+use crate::backends::OnLanes;
 use crate::blocks::process_few_or_many;
 use crate::closures::lend_to_encrypt;
 use crate::widths::{Narrow, Width};
@@ -12,7 +13,6 @@ use aes_cipher::cipher::{BlockCipherEncClosure, BlockCipherEncrypt, Encrypt, Rou
 use aes_planes::laws;
 use aes_planes::soft::word::Block;
 use std::marker::{Model, PhantomData};
-use std::slice;
 
 /// Stored round keys of Cipher, lent to encrypt. The backend for many blocks has planes for whole
 /// batches, and that for few vector permutations alone. Contracts see a value as its key.
@@ -69,7 +69,7 @@ impl<W: Width> BlockCipherEncrypt for Lent<'_, W> {
 
     #[inline(always)]
     fn encrypt_block(&self, block: &mut Block) {
-        process_few_or_many::<Encrypt, W>(self.keys, self.keys, slice::from_mut(block));
+        OnLanes::<Encrypt, W>::new(self.keys, self.keys).process_one(block);
     }
 
     #[inline(always)]

@@ -13,7 +13,6 @@ use aes_cipher::cipher::{BlockCipherDecClosure, BlockCipherDecrypt, Decrypt, Rou
 use aes_planes::laws;
 use aes_planes::soft::word::Block;
 use std::marker::{Model, PhantomData};
-use std::slice;
 
 /// Stored round keys of Cipher and of EqInvCipher, lent to
 /// decrypt. Contracts see a value as its key.
@@ -78,7 +77,7 @@ impl<W: Width> BlockCipherDecrypt for LentBoth<'_, W> {
 
     #[inline(always)]
     fn decrypt_block(&self, block: &mut Block) {
-        OnLanes::<Decrypt, W>::new(self.keys, self.inverse).process_few(slice::from_mut(block));
+        OnLanes::<Decrypt, W>::new(self.keys, self.inverse).process_one(block);
     }
 
     #[inline(always)]

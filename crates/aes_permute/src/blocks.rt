@@ -54,6 +54,17 @@ fn process_two<D: LaneRounds, L: Lanes>(keys: &[Block], one: L, other: L) -> (L,
     (first, second)
 }
 
+/// Processes a block under stored round keys. Inlined, so that a block that depends on the one before
+/// it, as in a chain, stays in a register.
+#[inline(always)]
+pub fn process_one<D: LaneRounds>(keys: &[Block], block: &mut Block)
+    requires two { 2 ≤ length keys.now }
+    ensures { block.new ≡ all_rounds D.step D.last_step (round_keys_of D.form keys.now) block.old }
+{
+    let processed = process_vector::<D, u8x16>(keys, u8x16::from_array(*block));
+    *block = processed.to_array();
+}
+
 /// Processes each block of a slice under stored round keys: two
 /// vectors at once, then one, and then one block.
 pub fn process_on_lanes<D: LaneRounds, L: Lanes>(keys: &[Block], blocks: &mut [Block])
