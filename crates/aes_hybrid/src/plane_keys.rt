@@ -10,9 +10,7 @@ ghost use Rattle.aes_permute.specs.Keys.{key_of_lanes, IsCipherSchedule};
 
 use aes_cipher::not_clone::NotClone;
 use aes_cipher::zeroize::zeroize_words;
-use aes_permute::lanes::looked_up_by_nibbles;
-use aes_permute::tables::{UNTOWER_HIGH, UNTOWER_LOW};
-use aes_planes::laws;
+use aes_permute::rounds::out_of_tower;
 use aes_planes::soft::utils::store_round_key;
 use aes_planes::soft::word::{Block, Word};
 use std::simd::prelude::*;
@@ -53,9 +51,7 @@ fn shifted_back_times(x: u8x16, times: usize) -> u8x16
 fn block_for_planes(stored: &Block, number: usize) -> Block
     ensures { result ≡ fips.inv_shift_times (number % 4) (map untower stored.now) }
 {
-    laws::is_block(*stored);
-    let x = looked_up_by_nibbles(u8x16::from_array(*stored), UNTOWER_LOW, UNTOWER_HIGH);
-    shifted_back_times(x, number % 4).to_array()
+    shifted_back_times(out_of_tower(u8x16::from_array(*stored)), number % 4).to_array()
 }
 
 // Stores a block in every slot as the planes of round key `i`. The other words stay.

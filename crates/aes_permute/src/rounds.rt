@@ -1,7 +1,7 @@
 //! The rounds of Cipher and EqInvCipher on lanes, and their round keys. States are kept in the
 //! tower basis, and round keys so that the constant of the S-box is added with them.
 
-ghost use Rattle.std.specs.Prelude.{◌≡◌, ℕ, true, false, map, bit_xor};
+ghost use Rattle.std.specs.Prelude.{◌≡◌, ℕ, true, false, length, map, bit_xor};
 ghost use Rattle.std.specs.Simd.Lanes.{zip2};
 ghost use Rattle.aes_planes.specs.Fips197 as fips;
 ghost use Rattle.aes_permute.specs.Keys.{cipher_form, inverse_form};
@@ -149,15 +149,33 @@ fn coefficients<L: Lanes>(by_1: L, by_4: L, by_9: L, by_15: L) -> (L, L, L)
     (by_1.sum(by_15), by_15.sum(by_4), by_4.sum(by_9))
 }
 
-/// Returns a round key of Cipher between the first and the last as it is stored.
+/// Returns a block in the tower basis.
+#[inline(always)]
+pub fn into_tower(block: u8x16) -> u8x16
+    ensures { map untower result ≡ block }
+{
+    block.are_blocks();
+    looked_up_by_nibbles(block, TOWER_LOW, TOWER_HIGH)
+}
+
+/// Returns the block that bytes in the tower basis stand for.
+#[inline(always)]
+pub fn out_of_tower(x: u8x16) -> u8x16
+    ensures { result ≡ map untower x }
+{
+    looked_up_by_nibbles(x, UNTOWER_LOW, UNTOWER_HIGH)
+}
+
+/// Returns a round key of Cipher between the first and the last as it is stored, of what it is in
+/// the tower basis.
+#[tactic(auto, using(crate::proofs::ExpandedLanes::inner_is))]
 #[inline(always)]
 pub fn encrypting_key(key: u8x16) -> u8x16
-    requires { fips.IsBlock key }
-    ensures { map key_untower result ≡ key }
+    requires { length key ≡ 16 }
+    ensures { map key_untower result ≡ map untower key }
 {
-    // The sum is made after the look-up, which the substitution of the next words makes too. It is
-    // of what is looked up for 0x63.
-    looked_up_by_nibbles(key, TOWER_LOW, TOWER_HIGH) ^ u8x16::splat(0x6e)
+    // 0x63 in the tower basis.
+    key ^ u8x16::splat(0x6e)
 }
 
 /// Returns a round key of EqInvCipher between the first and the last as it is stored: InvMixColumns
@@ -181,13 +199,13 @@ pub fn decrypting_key(key: u8x16) -> u8x16
     most.sum(second)
 }
 
-// The round key that a stored one of Cipher stands for, between the first and the last.
+/// Returns the round key that a stored one of Cipher stands for, between the first and the last.
 #[inline(always)]
-fn plain_key(stored: u8x16) -> u8x16
+pub fn plain_key(stored: u8x16) -> u8x16
     requires { fips.IsBlock stored }
     ensures { result ≡ map key_untower stored }
 {
-    looked_up_by_nibbles(stored, UNTOWER_LOW, UNTOWER_HIGH) ^ u8x16::splat(0x63)
+    out_of_tower(stored) ^ u8x16::splat(0x63)
 }
 
 /// Turns a stored round key of Cipher into one of EqInvCipher, between the first and the last.
