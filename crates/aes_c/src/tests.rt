@@ -31,7 +31,7 @@ const OF_24: u128 = 0xdda97ca4864cdfe06eaf70a0ec0d7191;
 const OF_32: u128 = 0x8ea2b7ca516745bfeafc49904b496089;
 
 fn no_key() -> Aes
-    ensures { ¬ HoldsKey result }
+    ensures { ¬ HoldsKey result.key }
 {
     Zeroize::zero()
 }

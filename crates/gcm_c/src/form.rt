@@ -4,8 +4,9 @@
 //! module, of `width` and of `specs/Form.antt`, with the same names:
 //!
 //! - `KeptKey` is a key that is kept to encrypt. It is `repr(C)`, `Drop`, `NotClone` and `Zeroize`.
-//!   It has a field `length`, and methods `holds_key`, `key_length` and `set`. `set` takes a key of
-//!   16, 24 or 32 bytes, reads nothing of the struct and leaves nothing of it.
+//!   It has a field `length`, how many bytes the key has, and methods `holds_key`, `key_length` and
+//!   `set(key: &[u8])`. `set` takes a key of 16, 24 or 32 bytes, reads nothing of the struct and
+//!   leaves nothing of it.
 //! - `is_key_size(bytes)` says whether keys have so many bytes.
 //! - `lent(kept)` lends the key of a struct that holds one as a cipher, which is a `LentKey`.
 //! - `specs/Form.antt` says in its head what its names stand for.
