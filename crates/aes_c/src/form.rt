@@ -1,0 +1,52 @@
+//! The form in which this build keeps a key: stored round keys for vector permutations.
+//!
+//! No other module of this crate names a form. A build in another form has another text of this
+//! module, of `width` and of `specs/Form.antt`, with the same names:
+//!
+//! - `KeptKey` is a key that is kept to encrypt. It has a field `length`, how many bytes the key
+//!   has, and methods `holds_key` and `key_length`.
+//! - `Aes` is the struct that a caller keeps, for both directions, with a field `key: KeptKey`.
+//! - Both are `repr(C)`, `Drop`, `NotClone` and `Zeroize`, and have a method `set(key: &[u8])`. It
+//!   takes a key of 16, 24 or 32 bytes, reads nothing of the struct and leaves nothing of it.
+//! - `is_key_size(bytes)` says whether keys have so many bytes.
+//! - `lent(&aes.key)` and `lent_back(aes)` lend the key of a struct that holds one as a cipher that
+//!   encrypts, which is a `LentKey`, and as one that decrypts.
+//! - `specs/Form.antt` says in its head what its names stand for.
+
+ghost use Rattle.std.specs.Prelude.{◌≡◌};
+ghost use Rattle.aes_c.specs.Form.{key_in, HoldsKey, IsKept, IsMade};
+
+use crate::width::BuildWidth;
+use aes_cipher::cipher::{Decrypt, Encrypt};
+use aes_hybrid::kept_key::KeptBothWays;
+pub(crate) use aes_hybrid::kept_key::{KeptKey, is_key_size};
+use aes_hybrid::lent::Lent;
+
+/// A key schedule that the caller owns: `struct fotsgure_aes`. Its blocks are as secret as the key.
+pub type Aes = KeptBothWays;
+
+/// The cipher that encrypts.
+pub(crate) type LentKey<'a> = Lent<'a, Encrypt, BuildWidth>;
+
+// How many bytes the struct has by the header, with nothing between its fields.
+const _: () = prove!(size_of::<Aes>() == 484);
+
+/// Lends the key of a struct that holds one, to encrypt.
+#[inline(always)]
+pub(crate) fn lent(kept: &KeptKey) -> LentKey<'_>
+    requires kept { IsKept kept.now }
+    requires holds { HoldsKey kept.now }
+    ensures { result ≡ key_in kept.now }
+{
+    kept.lent()
+}
+
+/// Lends it to decrypt.
+#[inline(always)]
+pub(crate) fn lent_back(aes: &Aes) -> Lent<'_, Decrypt, BuildWidth>
+    requires made { IsMade aes.now }
+    requires holds { HoldsKey aes.now.key }
+    ensures { result ≡ key_in aes.now.key }
+{
+    aes.lent_back()
+}
