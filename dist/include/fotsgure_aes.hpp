@@ -29,7 +29,10 @@ inline void check(fotsgure_aes_status status) {
     case FOTSGURE_AES_UNEQUAL_COUNTS: throw std::invalid_argument("input and output differ in length");
     case FOTSGURE_AES_KEYSTREAM_END: throw std::length_error("the keystream ends");
     case FOTSGURE_AES_INVALID_COUNT: throw std::invalid_argument("keys of that length are not wrapped");
-    case FOTSGURE_AES_REFUSED: throw std::runtime_error("the key was not wrapped under this one, or was changed");
+    case FOTSGURE_AES_REFUSED: throw std::runtime_error("the key was not wrapped under this one, or the tag is another");
+    case FOTSGURE_AES_TAG_LENGTH: throw std::invalid_argument("no tag has so many bytes");
+    case FOTSGURE_AES_NONCE_LENGTH: throw std::invalid_argument("a nonce has 7 to 13 bytes");
+    case FOTSGURE_AES_TOO_LONG: throw std::length_error("the text is longer than a nonce of this length allows");
     }
     throw std::logic_error("the library has statuses that this header doesn't know");
 }

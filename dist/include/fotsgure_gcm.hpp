@@ -40,6 +40,7 @@ inline void check(fotsgure_gcm_status status) {
     case FOTSGURE_GCM_NONCES_END: throw std::length_error("no nonce is left: take a new key");
     case FOTSGURE_GCM_OUT_OF_TURN: throw std::logic_error("it isn't the turn of this call");
     case FOTSGURE_GCM_NO_RANDOMNESS: throw std::runtime_error("the system gave no randomness for a nonce");
+    case FOTSGURE_GCM_UNEQUAL_LENGTHS: throw std::invalid_argument("input and output differ in length");
     }
     throw std::logic_error("the library has statuses that this header doesn't know");
 }
