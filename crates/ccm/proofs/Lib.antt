@@ -1,0 +1,4 @@
+-- The files of lemmas.
+pub mod Bytes
+pub mod Counters
+pub mod Lengths
