@@ -211,7 +211,7 @@ FOTSGURE_AES_CHECK enum fotsgure_aes_status fotsgure_aes_cmac(const struct fotsg
  * first ones of the whole tag; it has 4 or more. How many bytes all tags under the key have is fixed with the key: never
  * take `tag_length` from a message, or whoever forges one chooses how few bytes have to be right. For fewer than 8
  * read appendix A first.
- * TAG_LENGTH, NO_KEY or REFUSED, the first of them that applies; else DONE. */
+ * NO_KEY; TAG_LENGTH if it has fewer or more; REFUSED; else DONE. */
 FOTSGURE_AES_CHECK enum fotsgure_aes_status fotsgure_aes_cmac_verify(const struct fotsgure_aes *aes,
     const uint8_t *message, size_t message_length,
     const uint8_t *tag, size_t tag_length) FOTSGURE_AES_NOEXCEPT;
@@ -221,7 +221,7 @@ FOTSGURE_AES_CHECK enum fotsgure_aes_status fotsgure_aes_cmac_verify(const struc
  * encrypted, nor is it part of the text. A nonce has 7 to 13 bytes, a text fewer than 2^(8 * (15 - nonce_length)): with
  * 13 bytes at most 65535. A tag has 4, 6, 8, 10, 12, 14 or 16 bytes; for fewer than 8 read appendix B first. Both lengths
  * are fixed with the key: never take `tag_length` from a message. A struct of CCM does nothing else.
- * TAG_LENGTH, NONCE_LENGTH, TOO_LONG or NO_KEY, the first of them that applies; else DONE. */
+ * NO_KEY, TAG_LENGTH, NONCE_LENGTH or TOO_LONG, the first of them that applies; else DONE. */
 FOTSGURE_AES_CHECK enum fotsgure_aes_status fotsgure_aes_ccm_seal(const struct fotsgure_aes *aes,
     const uint8_t *nonce, size_t nonce_length,
     const uint8_t *additional, size_t additional_length,
@@ -231,7 +231,7 @@ FOTSGURE_AES_CHECK enum fotsgure_aes_status fotsgure_aes_ccm_seal(const struct f
 /* Decrypts `text_length` bytes in place if the tag is right (6.2). The tag can be compared only once the text is
  * decrypted, so a text that is refused is encrypted again: it is, when the call returns, as it was. Until then the text
  * holds what nobody has authenticated.
- * TAG_LENGTH, NONCE_LENGTH, TOO_LONG, NO_KEY or REFUSED, the first of them that applies; else DONE. */
+ * NO_KEY, TAG_LENGTH, NONCE_LENGTH, TOO_LONG or REFUSED, the first of them that applies; else DONE. */
 FOTSGURE_AES_CHECK enum fotsgure_aes_status fotsgure_aes_ccm_open(const struct fotsgure_aes *aes,
     const uint8_t *nonce, size_t nonce_length,
     const uint8_t *additional, size_t additional_length,

@@ -11,6 +11,7 @@
 //!   holds a key, and `length_of_key(aes)` how many bytes it has, or 0 if there is none.
 //! - `lent(aes)` and `lent_back(aes)` lend the key of a struct that holds one as a cipher that
 //!   encrypts and as one that decrypts, and `lent_once(kept)` the key of a call.
+//! - `RoundWord` is the word on which single rounds are computed.
 //! - In `specs/Form.antt`, `key_in` is the key of a struct, `round_keys_in` its round keys,
 //!   `key_length` how many bytes it has, `HoldsKey` says that it holds one, `IsMade` that it is in
 //!   order, `IsZeroAfter` that zeros stand behind its round keys, and `no_key` is the struct of
@@ -25,6 +26,11 @@ use aes_cipher::cipher::{Decrypt, Encrypt};
 use aes_hybrid::kept_key::KeptBothWays;
 pub(crate) use aes_hybrid::kept_key::{KeptKey, is_key_size};
 use aes_hybrid::lent::Lent;
+use aes_soft::soft::blocks::BatchWord;
+
+/// The word on which single rounds are computed: one for all of them, so that the circuits are in
+/// the library once.
+pub(crate) type RoundWord = BatchWord;
 
 /// A key schedule that the caller owns: `struct fotsgure_aes`. Its blocks are as secret as the key.
 pub type Aes = KeptBothWays;

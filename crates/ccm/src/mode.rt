@@ -19,6 +19,7 @@ use aes_cipher::cipher::BlockCipherEncrypt;
 /// exactly if the nonce doesn't have 7 to 13 bytes. Else `TooLong` exactly if the text has 2^(8 (15
 /// - n)) bytes or more, where n is how many the nonce has. Text and tag are then unchanged.
 #[tactic(auto, unfolding(crate::specs::Ccm::tag))]
+#[inline(never)]
 pub fn encrypt<C: BlockCipherEncrypt>(
     cipher: &C,
     nonce: &[u8],
@@ -57,6 +58,7 @@ pub fn encrypt<C: BlockCipherEncrypt>(
 /// `Invalid` exactly as `encrypt`. Else `Refused` exactly if the tag is not that of the nonce, the
 /// additional data and the text. The text is then unchanged.
 #[tactic(auto, using(crate::proofs::Counters::text_twice))]
+#[inline(never)]
 pub fn decrypt<C: BlockCipherEncrypt>(
     cipher: &C,
     nonce: &[u8],

@@ -25,6 +25,7 @@ fn last_block<C: BlockCipherEncrypt>(cipher: &C, rest: &[u8]) -> Block
 }
 
 /// Returns the tag of a message (SP 800-38B, 6.2), all 16 bytes of it. Use a key for tags alone.
+#[inline(never)]
 pub fn tag<C: BlockCipherEncrypt>(cipher: &C, message: &[u8]) -> Block
     ensures { result ≡ cmac (C.round_keys cipher.now) message.now }
 {
@@ -46,6 +47,7 @@ pub fn is_tag<C: BlockCipherEncrypt>(cipher: &C, message: &[u8], claimed: &Block
 
 /// Returns whether these are the first bytes of the tag of a message, 16 at most: a tag of so many
 /// bytes (6.2, step 7). Compares without an early exit.
+#[inline(never)]
 pub fn is_tag_start<C: BlockCipherEncrypt>(cipher: &C, message: &[u8], claimed: &[u8]) -> bool
     requires { length claimed.now ≤ 16 }
     ensures { IsTrue result ↔ (claimed.now
