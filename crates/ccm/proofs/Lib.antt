@@ -2,3 +2,4 @@
 pub mod Bytes
 pub mod Counters
 pub mod Lengths
+pub mod OnLiterals

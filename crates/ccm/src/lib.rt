@@ -3,6 +3,7 @@
 #![tactic(auto)]
 
 mod errors;
+pub mod examples;
 mod formatting;
 mod laws;
 mod message;
