@@ -11,6 +11,7 @@
 //! - `is_key_size(bytes)` says whether keys have so many bytes.
 //! - `lent(&aes.key)` and `lent_back(aes)` lend the key of a struct that holds one as a cipher that
 //!   encrypts, which is a `LentKey`, and as one that decrypts.
+//! - `RoundWord` is the word on which single rounds are computed.
 //! - `specs/Form.antt` says in its head what its names stand for.
 
 ghost use Rattle.std.specs.Prelude.{◌≡◌};
@@ -21,6 +22,11 @@ use aes_cipher::cipher::{Decrypt, Encrypt};
 use aes_hybrid::kept_key::KeptBothWays;
 pub(crate) use aes_hybrid::kept_key::{KeptKey, is_key_size};
 use aes_hybrid::lent::Lent;
+use aes_soft::soft::blocks::BatchWord;
+
+/// The word on which single rounds are computed: one for all of them, so that the circuits are in
+/// the library once.
+pub(crate) type RoundWord = BatchWord;
 
 /// A key schedule that the caller owns: `struct fotsgure_aes`. Its blocks are as secret as the key.
 pub type Aes = KeptBothWays;
