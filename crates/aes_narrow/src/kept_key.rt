@@ -1,0 +1,98 @@
+//! A key as its stored round keys, in a struct that a caller keeps. It has C's layout.
+
+ghost use Rattle.std.specs.Prelude.{◌≡◌, ◌↔◌, length, IsTrue};
+ghost use Rattle.aes_cipher.specs.KeySizes.{IsKeySize};
+ghost use Rattle.aes_narrow.specs.KeptKey.{key_in, no_key, HoldsKey, IsKept, IsZeroAfter};
+
+use crate::lent::LentWords;
+use crate::narrow_word::NarrowWord;
+use crate::word_room::{WordRoom, expand_in_words, is_key_size, keys_in_words};
+use aes_cipher::not_clone::NotClone;
+use aes_cipher::zeroize::{Element, Zeroize, zeroize_elements};
+
+/// A key that is kept, for both directions. Its words are as secret as the key.
+#[repr(C)]
+pub struct KeptKey<W: NarrowWord> {
+    /// How many bytes the key has: 16, 24 or 32; 0 if there is no key.
+    pub length: u32,
+    /// The planes of the stored round keys, in the first 88, 104 or 120 words.
+    pub round_keys: WordRoom<W>,
+}
+
+impl<W: NarrowWord> Drop for KeptKey<W> {
+    #[inline(always)]
+    fn drop(self) {
+        let KeptKey {
+            length: _,
+            round_keys: _,
+        } = self;
+    }
+}
+
+impl<W: NarrowWord> NotClone for KeptKey<W> {}
+
+impl<W: NarrowWord> Zeroize for KeptKey<W> {
+    ghost ZERO = { no_key W.ZERO };
+
+    #[inline(always)]
+    fn zero() -> KeptKey<W> {
+        KeptKey {
+            length: 0,
+            round_keys: [<W as Element>::zero(); 120],
+        }
+    }
+
+    #[inline(always)]
+    fn zeroize(&mut self) {
+        self.length = 0;
+        zeroize_elements(&mut self.round_keys);
+    }
+}
+
+impl<W: NarrowWord> KeptKey<W> {
+    /// Returns whether the struct holds a key.
+    #[inline(always)]
+    pub fn holds_key(&self) -> bool
+        ensures { IsTrue result ↔ HoldsKey self.now }
+    {
+        is_key_size(self.length as usize)
+    }
+
+    /// Returns how many bytes the key has, or 0 if the struct holds no key.
+    #[inline(always)]
+    pub fn key_length(&self) -> usize
+        ensures key { HoldsKey self.now → result ≡ self.now.length }
+        ensures none { ¬ HoldsKey self.now → result ≡ 0 }
+    {
+        if self.holds_key() {
+            self.length as usize
+        } else {
+            0
+        }
+    }
+
+    /// Expands a key into the struct (KeyExpansion, FIPS 197, 5.2). Nothing of what it held before
+    /// is read or left: its words are the round keys of the new key, and zeros after them.
+    #[inline(always)]
+    pub fn set(&mut self, key: &[u8])
+        requires { IsKeySize (length key.now) }
+        ensures kept { IsKept W.bits W.BLOCKS self.new }
+        ensures key { key_in W.bits W.BLOCKS self.new ≡ key.now }
+        ensures length { self.new.length ≡ length key.now }
+        ensures after { IsZeroAfter W.ZERO self.new }
+    {
+        *self = KeptKey::zero();
+        expand_in_words(&mut self.round_keys, key);
+        self.length = key.len() as u32;
+    }
+
+    /// Lends the key of a struct that holds one as a cipher for both directions.
+    #[inline(always)]
+    pub fn lent(&self) -> LentWords<'_, W>
+        requires kept { IsKept W.bits W.BLOCKS self.now }
+        requires holds { HoldsKey self.now }
+        ensures { result ≡ key_in W.bits W.BLOCKS self.now }
+    {
+        LentWords::new(keys_in_words(&self.round_keys, self.length as usize))
+    }
+}
