@@ -91,7 +91,8 @@ impl<W: NarrowWord> KeptKey<W> {
     pub fn lent(&self) -> LentWords<'_, W>
         requires kept { IsKept W.bits W.BLOCKS self.now }
         requires holds { HoldsKey self.now }
-        ensures { result ≡ key_in W.bits W.BLOCKS self.now }
+        ensures key { result ≡ key_in W.bits W.BLOCKS self.now }
+        ensures size { length result ≡ self.now.length }
     {
         LentWords::new(keys_in_words(&self.round_keys, self.length as usize))
     }
