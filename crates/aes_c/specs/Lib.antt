@@ -1,2 +1,2 @@
 -- The files of definitions.
-pub mod Kept
+pub mod Form

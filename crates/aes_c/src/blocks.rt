@@ -3,10 +3,9 @@
 ghost use Rattle.std.specs.Prelude.{◌≡◌, ◌≢◌, ◌↔◌, length};
 ghost use Rattle.aes_planes.specs.Each.{Each};
 ghost use Rattle.aes_planes.specs.Fips197 as fips;
-ghost use Rattle.aes_cipher.specs.KeySizes.{IsKeySize};
-ghost use Rattle.aes_c.specs.Kept.{key_in, IsMade};
+ghost use Rattle.aes_c.specs.Form.{key_in, HoldsKey, IsMade};
 
-use crate::kept::{Aes, holds_key, lent, lent_both};
+use crate::form::{Aes, holds_key, lent, lent_back};
 use crate::status::{DONE, NO_KEY, UNEQUAL_COUNTS};
 use aes_cipher::cipher::{Block, BlockCipherDecrypt, BlockCipherEncrypt};
 
@@ -15,7 +14,7 @@ use aes_cipher::cipher::{Block, BlockCipherDecrypt, BlockCipherEncrypt};
 #[unsafe(no_mangle)]
 pub extern "C" fn fotsgure_aes_encrypt_blocks(aes: &Aes, blocks: &mut [Block]) -> u32
     requires made { IsMade aes.now }
-    ensures done { result ≡ DONE ↔ IsKeySize aes.now.key_length }
+    ensures done { result ≡ DONE ↔ HoldsKey aes.now }
     ensures refused { result ≢ DONE → result ≡ NO_KEY }
     ensures blocks { result ≡ DONE → Each (fips.cipher (key_in aes.now)) blocks.old blocks.new }
     ensures untouched { result ≢ DONE → blocks.new ≡ blocks.old }
@@ -32,7 +31,7 @@ pub extern "C" fn fotsgure_aes_encrypt_blocks(aes: &Aes, blocks: &mut [Block]) -
 #[unsafe(no_mangle)]
 pub extern "C" fn fotsgure_aes_decrypt_blocks(aes: &Aes, blocks: &mut [Block]) -> u32
     requires made { IsMade aes.now }
-    ensures done { result ≡ DONE ↔ IsKeySize aes.now.key_length }
+    ensures done { result ≡ DONE ↔ HoldsKey aes.now }
     ensures refused { result ≢ DONE → result ≡ NO_KEY }
     ensures blocks { result ≡ DONE → Each (fips.inv_cipher (key_in aes.now)) blocks.old blocks.new }
     ensures untouched { result ≢ DONE → blocks.new ≡ blocks.old }
@@ -40,7 +39,7 @@ pub extern "C" fn fotsgure_aes_decrypt_blocks(aes: &Aes, blocks: &mut [Block]) -
     if !holds_key(aes) {
         return NO_KEY;
     }
-    lent_both(aes).decrypt_blocks(blocks);
+    lent_back(aes).decrypt_blocks(blocks);
     DONE
 }
 
@@ -54,7 +53,7 @@ pub extern "C" fn fotsgure_aes_encrypt_blocks_to(
 ) -> u32
     requires made { IsMade aes.now }
     ensures unequal { result ≡ UNEQUAL_COUNTS ↔ (length input.now ≢ length output.old) }
-    ensures done { result ≡ DONE ↔ IsKeySize aes.now.key_length
+    ensures done { result ≡ DONE ↔ HoldsKey aes.now
         × (length input.now ≡ length output.old) }
     ensures refused { result ≢ DONE → result ≢ UNEQUAL_COUNTS → result ≡ NO_KEY }
     ensures blocks { result ≡ DONE → Each (fips.cipher (key_in aes.now)) input.now output.new }
@@ -82,7 +81,7 @@ pub extern "C" fn fotsgure_aes_decrypt_blocks_to(
 ) -> u32
     requires made { IsMade aes.now }
     ensures unequal { result ≡ UNEQUAL_COUNTS ↔ (length input.now ≢ length output.old) }
-    ensures done { result ≡ DONE ↔ IsKeySize aes.now.key_length
+    ensures done { result ≡ DONE ↔ HoldsKey aes.now
         × (length input.now ≡ length output.old) }
     ensures refused { result ≢ DONE → result ≢ UNEQUAL_COUNTS → result ≡ NO_KEY }
     ensures blocks { result ≡ DONE → Each (fips.inv_cipher (key_in aes.now)) input.now output.new }
@@ -95,6 +94,6 @@ pub extern "C" fn fotsgure_aes_decrypt_blocks_to(
         return NO_KEY;
     }
     output.copy_from_slice(input);
-    lent_both(aes).decrypt_blocks(output);
+    lent_back(aes).decrypt_blocks(output);
     DONE
 }

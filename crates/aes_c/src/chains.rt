@@ -1,11 +1,10 @@
 //! Cipher block chaining under the key of a struct.
 
 ghost use Rattle.std.specs.Prelude.{◌≡◌, ◌≢◌, ◌↔◌};
-ghost use Rattle.aes_cipher.specs.KeySizes.{IsKeySize};
 ghost use Rattle.cbc.specs.Cbc.{chained, last_of, unchained};
-ghost use Rattle.aes_c.specs.Kept.{round_keys_in, IsMade};
+ghost use Rattle.aes_c.specs.Form.{round_keys_in, HoldsKey, IsMade};
 
-use crate::kept::{Aes, holds_key, lent, lent_both};
+use crate::form::{Aes, holds_key, lent, lent_back};
 use crate::status::{DONE, NO_KEY};
 use aes_cipher::cipher::Block;
 use cbc::Cbc;
@@ -15,7 +14,7 @@ use cbc::Cbc;
 #[unsafe(no_mangle)]
 pub extern "C" fn fotsgure_aes_cbc_encrypt(aes: &Aes, cbc: &mut Cbc, blocks: &mut [Block]) -> u32
     requires made { IsMade aes.now }
-    ensures done { result ≡ DONE ↔ IsKeySize aes.now.key_length }
+    ensures done { result ≡ DONE ↔ HoldsKey aes.now }
     ensures refused { result ≢ DONE → result ≡ NO_KEY }
     ensures blocks { result ≡ DONE → blocks.new
         ≡ chained (round_keys_in aes.now) cbc.old.previous blocks.old }
@@ -35,7 +34,7 @@ pub extern "C" fn fotsgure_aes_cbc_encrypt(aes: &Aes, cbc: &mut Cbc, blocks: &mu
 #[unsafe(no_mangle)]
 pub extern "C" fn fotsgure_aes_cbc_decrypt(aes: &Aes, cbc: &mut Cbc, blocks: &mut [Block]) -> u32
     requires made { IsMade aes.now }
-    ensures done { result ≡ DONE ↔ IsKeySize aes.now.key_length }
+    ensures done { result ≡ DONE ↔ HoldsKey aes.now }
     ensures refused { result ≢ DONE → result ≡ NO_KEY }
     ensures blocks { result ≡ DONE → blocks.new
         ≡ unchained (round_keys_in aes.now) cbc.old.previous blocks.old }
@@ -46,6 +45,6 @@ pub extern "C" fn fotsgure_aes_cbc_decrypt(aes: &Aes, cbc: &mut Cbc, blocks: &mu
     if !holds_key(aes) {
         return NO_KEY;
     }
-    cbc.decrypt_blocks(&lent_both(aes), blocks);
+    cbc.decrypt_blocks(&lent_back(aes), blocks);
     DONE
 }

@@ -1,23 +1,12 @@
-//! Statuses and the version by number, and a struct at values from outside, as contracts, so that a
-//! slip in a constant or a definition is refused. The calls have no effect.
-//!
-//! `bytes n 0x..` is the n bytes that these digits write. What a struct stores was computed by a
-//! separate model in Python, from the standard and the basis that `tools/permutation-tables`
-//! describes.
+//! Statuses and the version by number, and the size of structs, as contracts, so that a slip in a
+//! constant or a definition is refused. The call has no effect.
 
-ghost use Rattle.std.specs.Prelude.{◌≡◌, map};
-ghost use Rattle.aes_planes.specs.BigEndian.{bytes};
-ghost use Rattle.aes_planes.specs.Fips197 as fips;
-ghost use Rattle.aes_permute.specs.Keys.{encrypting, key_in_room, stored_keys, AreInverse};
-ghost use Rattle.aes_permute.specs.Keys.{AreZeroAfter};
-ghost use Rattle.aes_c.specs.Kept.{IsMade};
+ghost use Rattle.std.specs.Prelude.{◌≡◌};
 
-use crate::kept::Aes;
 use crate::status::{
     DONE, INVALID_COUNT, KEY_LENGTH, KEYSTREAM_END, NO_KEY, REFUSED, UNEQUAL_COUNTS, VERSION,
 };
 use crate::stream::Ctr;
-use aes_planes::examples::key_expansion_128;
 use cbc::Cbc;
 
 /// The numbers that the header gives to statuses and to the version.
@@ -33,73 +22,6 @@ pub fn numbers_of_the_header()
 {}
 
 // How many bytes the structs have by the header, with nothing between their fields.
-const _: () = prove!(size_of::<Aes>() == 484);
-
 const _: () = prove!(size_of::<Ctr>() == 24);
 
 const _: () = prove!(size_of::<Cbc>() == 16);
-
-// The blocks of the struct of the key of A.1, each as one number, highest byte first: the stored
-// round keys of Cipher.
-const ENCRYPTING: [u128; 15] = [
-    0x2b7e151628aed2a6abf7158809cf4f3c,
-    0xe4d7fad83e4b99638ef93333a817aa42,
-    0xf08bb3f0a0ae44fd403919a08640dd8c,
-    0x1e19d090d0d9fa03fe8e8dcd16a03e2f,
-    0x7dcdc8e1c37a5c8c539abf2f2b54ef6e,
-    0x3c10a6cb91049429acf04568e9cac468,
-    0x163ef9a0e95403e72bca28e1ac6e82e7,
-    0xf64bdc787171b1f134d5f77ef6d51bf7,
-    0x510d86924e12590d14a9c01d8c12b584,
-    0xeeab2cf1ced71b92b410b5e1566c6e0b,
-    0xb3779acbaa8d46ea825c6fabd5006fc5,
-    0,
-    0,
-    0,
-    0,
-];
-
-// And those of EqInvCipher.
-const DECRYPTING: [u128; 15] = [
-    0xb3779acbaa8d46ea825c6fabd5006fc5,
-    0xe3b3ae00e22a700cf282e95a6e0e6229,
-    0x11b486ae2db5f2203c84b57ab0a0a75f,
-    0x5710c973102d58a23d1d6b76a0083e09,
-    0x7ad0a3c96b11bdfd011c1ff8b1397953,
-    0x7a3ce4d03ded321846218e299c094a87,
-    0x5ae91ae26bfdfae457e0901df604e882,
-    0x012de2ad1d38cc2a103146d58dc854b3,
-    0xdfa042c5303902ab2125a6d3b1d53e4a,
-    0xf99138e7c3b56c423d308854bcdcb4b5,
-    0x2b7e151628aed2a6abf7158809cf4f3c,
-    0,
-    0,
-    0,
-    0,
-];
-
-/// What is stored for the key of A.1: its round keys in both directions, and zeros after them.
-#[tactic(auto, unfolding(crate::proofs::OnLiterals::kept_on_literals))]
-pub fn stored_example()
-    ensures round_keys { encrypting (stored_keys 16 (map (bytes 16) ENCRYPTING))
-        ≡ fips.key_expansion (bytes 16 0x2b7e151628aed2a6abf7158809cf4f3c) }
-    ensures inverse { AreInverse (stored_keys 16 (map (bytes 16) DECRYPTING))
-        (stored_keys 16 (map (bytes 16) ENCRYPTING)) }
-    ensures key { key_in_room 16 (map (bytes 16) ENCRYPTING)
-        ≡ bytes 16 0x2b7e151628aed2a6abf7158809cf4f3c }
-    ensures after_encrypting { AreZeroAfter 16 (map (bytes 16) ENCRYPTING) }
-    ensures after_decrypting { AreZeroAfter 16 (map (bytes 16) DECRYPTING) }
-{
-    key_expansion_128();
-}
-
-/// That struct is in order.
-pub fn struct_example()
-    ensures { IsMade (record {
-      key_length = 16;
-      encrypting = map (bytes 16) ENCRYPTING;
-      decrypting = map (bytes 16) DECRYPTING;
-    }) }
-{
-    stored_example();
-}

@@ -9,6 +9,7 @@ ghost use Rattle.std.specs.Prelude.{◌≡◌};
 mod blocks;
 mod chains;
 pub mod examples;
+mod form;
 mod kept;
 mod once;
 mod status;
@@ -24,7 +25,8 @@ pub use blocks::{
 };
 pub use cbc::Cbc;
 pub use chains::{fotsgure_aes_cbc_decrypt, fotsgure_aes_cbc_encrypt};
-pub use kept::{Aes, fotsgure_aes_key_length, fotsgure_aes_set_key, fotsgure_aes_wipe};
+pub use form::Aes;
+pub use kept::{fotsgure_aes_key_length, fotsgure_aes_set_key, fotsgure_aes_wipe};
 pub use key_wrap::Semiblock;
 pub use once::{
     fotsgure_aes_add_keystream_with, fotsgure_aes_decrypt_blocks_with,

@@ -7,15 +7,13 @@ ghost use Rattle.aes_cipher.specs.KeySizes.{IsKeySize};
 ghost use Rattle.aes_ctr.specs.CounterMode.{keystream_byte, plus_stream};
 
 use crate::blocks::fotsgure_aes_decrypt_blocks;
-use crate::kept::{Aes, fotsgure_aes_set_key};
+use crate::form::{Aes, KeptKey, is_key_size, lent_once};
+use crate::kept::fotsgure_aes_set_key;
 use crate::status::{DONE, KEY_LENGTH, KEYSTREAM_END};
 use crate::stream::Ctr;
-use crate::width::BuildWidth;
 use aes_cipher::cipher::{Block, BlockCipherEncrypt};
 use aes_cipher::zeroize::MustWipe;
 use aes_ctr::add_keystream;
-use aes_hybrid::lent::Lent;
-use aes_permute::lane_room::{expand_in_room, is_key_size, keys_in_room};
 
 /// Encrypts each block in place under a key (Cipher, FIPS 197, 5.1). Returns `DONE` exactly if the
 /// key has 16, 24 or 32 bytes, else `KEY_LENGTH`.
@@ -29,10 +27,9 @@ pub extern "C" fn fotsgure_aes_encrypt_blocks_with(key: &[u8], blocks: &mut [Blo
     if !is_key_size(key.len()) {
         return KEY_LENGTH;
     }
-    let mut kept = MustWipe::<[Block; 15]>::zeroed();
-    expand_in_room(kept.value_mut(), key);
-    let keys = keys_in_room(kept.value(), key.len());
-    Lent::<BuildWidth>::new(keys).encrypt_blocks(blocks);
+    let mut kept = MustWipe::<KeptKey>::zeroed();
+    kept.value_mut().set(key);
+    lent_once(kept.value()).encrypt_blocks(blocks);
     kept.wipe();
     DONE
 }
@@ -83,10 +80,9 @@ pub extern "C" fn fotsgure_aes_add_keystream_with(
     if bytes.len() as u64 > u64::MAX - ctr.position {
         return KEYSTREAM_END;
     }
-    let mut kept = MustWipe::<[Block; 15]>::zeroed();
-    expand_in_room(kept.value_mut(), key);
-    let keys = keys_in_room(kept.value(), key.len());
-    add_keystream(&Lent::<BuildWidth>::new(keys), &ctr.iv, ctr.position, bytes);
+    let mut kept = MustWipe::<KeptKey>::zeroed();
+    kept.value_mut().set(key);
+    add_keystream(&lent_once(kept.value()), &ctr.iv, ctr.position, bytes);
     ctr.position += bytes.len() as u64;
     kept.wipe();
     DONE

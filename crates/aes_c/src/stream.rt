@@ -2,10 +2,9 @@
 
 ghost use Rattle.std.specs.Prelude.{◌≡◌, ◌≢◌, ◌↔◌, ◌+◌, ◌-◌, ◌^◌, ◌<◌, ◌≤◌, length};
 ghost use Rattle.aes_ctr.specs.CounterMode.{keystream_byte, plus_stream};
-ghost use Rattle.aes_cipher.specs.KeySizes.{IsKeySize};
-ghost use Rattle.aes_c.specs.Kept.{round_keys_in, IsMade};
+ghost use Rattle.aes_c.specs.Form.{round_keys_in, HoldsKey, IsMade};
 
-use crate::kept::{Aes, holds_key, lent};
+use crate::form::{Aes, holds_key, lent};
 use crate::status::{DONE, KEYSTREAM_END, NO_KEY, UNEQUAL_COUNTS};
 use aes_cipher::not_clone::NotClone;
 use aes_ctr::add_keystream;
@@ -25,7 +24,7 @@ impl NotClone for Ctr {}
 // Returns the status that refuses `count` bytes of keystream from a position on, or `DONE`.
 fn refusal(aes: &Aes, position: u64, count: usize) -> u32
     ensures ended { result ≡ KEYSTREAM_END ↔ (2 ^ 64 - 1 < position + count) }
-    ensures done { result ≡ DONE ↔ IsKeySize aes.now.key_length × (position + count ≤ 2 ^ 64 - 1) }
+    ensures done { result ≡ DONE ↔ HoldsKey aes.now × (position + count ≤ 2 ^ 64 - 1) }
     ensures refused { result ≢ DONE → result ≢ KEYSTREAM_END → result ≡ NO_KEY }
 {
     if count as u64 > u64::MAX - position {
@@ -44,7 +43,7 @@ fn refusal(aes: &Aes, position: u64, count: usize) -> u32
 pub extern "C" fn fotsgure_aes_add_keystream(aes: &Aes, ctr: &mut Ctr, bytes: &mut [u8]) -> u32
     requires made { IsMade aes.now }
     ensures ended { result ≡ KEYSTREAM_END ↔ (2 ^ 64 - 1 < ctr.old.position + length bytes.old) }
-    ensures done { result ≡ DONE ↔ IsKeySize aes.now.key_length
+    ensures done { result ≡ DONE ↔ HoldsKey aes.now
         × (ctr.old.position + length bytes.old ≤ 2 ^ 64 - 1) }
     ensures refused { result ≢ DONE → result ≢ KEYSTREAM_END → result ≡ NO_KEY }
     ensures bytes { result ≡ DONE → bytes.new
@@ -78,7 +77,7 @@ pub extern "C" fn fotsgure_aes_add_keystream_to(
     ensures ended { result ≡ KEYSTREAM_END
         ↔ (length input.now ≡ length output.old)
         × (2 ^ 64 - 1 < ctr.old.position + length input.now) }
-    ensures done { result ≡ DONE ↔ IsKeySize aes.now.key_length
+    ensures done { result ≡ DONE ↔ HoldsKey aes.now
         × ((length input.now ≡ length output.old)
         × (ctr.old.position + length input.now ≤ 2 ^ 64 - 1)) }
     ensures refused { result ≢ DONE → result ≢ UNEQUAL_COUNTS → result ≢ KEYSTREAM_END

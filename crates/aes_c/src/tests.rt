@@ -1,6 +1,7 @@
 //! Each export once, on rows of the standards.
 
 ghost use Rattle.std.specs.Prelude.{◌≡◌};
+ghost use Rattle.aes_c.specs.Form.{HoldsKey};
 
 use super::{
     Aes, Cbc, Ctr, DONE, KEY_LENGTH, KEYSTREAM_END, NO_KEY, REFUSED, UNEQUAL_COUNTS, VERSION,
@@ -11,6 +12,7 @@ use super::{
     fotsgure_aes_set_key, fotsgure_aes_unwrap, fotsgure_aes_unwrap_padded, fotsgure_aes_version,
     fotsgure_aes_wipe, fotsgure_aes_wrap, fotsgure_aes_wrap_padded,
 };
+use aes_cipher::zeroize::Zeroize;
 
 // FIPS 197, appendix C: the bytes 00 01 02 and so on, whose beginnings are the keys, the block, and
 // its encryption.
@@ -29,13 +31,9 @@ const OF_24: u128 = 0xdda97ca4864cdfe06eaf70a0ec0d7191;
 const OF_32: u128 = 0x8ea2b7ca516745bfeafc49904b496089;
 
 fn no_key() -> Aes
-    ensures { result.key_length ≡ 0 }
+    ensures { ¬ HoldsKey result }
 {
-    Aes {
-        key_length: 0,
-        encrypting: [[0; 16]; 15],
-        decrypting: [[0; 16]; 15],
-    }
+    Zeroize::zero()
 }
 
 // Whether nine blocks, a batch and one more, come out as the standard says and come back, in place

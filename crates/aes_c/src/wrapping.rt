@@ -5,10 +5,9 @@ ghost use Rattle.std.specs.Prelude.{slice_index_or};
 ghost use Rattle.key_wrap.specs.KeyWrap.{integrity_check, unwrapped, wrapped, Fit};
 ghost use Rattle.key_wrap.specs.Padded.{heading, unwrapped_string, wrapped_padded, FitPadded};
 ghost use Rattle.key_wrap.specs.Padded.{FitUnpadded, IsPadded};
-ghost use Rattle.aes_cipher.specs.KeySizes.{IsKeySize};
-ghost use Rattle.aes_c.specs.Kept.{round_keys_in, IsMade};
+ghost use Rattle.aes_c.specs.Form.{round_keys_in, HoldsKey, IsMade};
 
-use crate::kept::{Aes, holds_key, lent, lent_both};
+use crate::form::{Aes, holds_key, lent, lent_back};
 use crate::status::{DONE, INVALID_COUNT, NO_KEY, REFUSED};
 use aes_cipher::zeroize::wipe_stack;
 use key_wrap::{InvalidCount, NotUnwrapped, Semiblock, unwrap, unwrap_padded, wrap, wrap_padded};
@@ -23,8 +22,8 @@ const WRAPPING_STACK: usize = 512;
 #[unsafe(no_mangle)]
 pub extern "C" fn fotsgure_aes_wrap(aes: &Aes, key: &[Semiblock], output: &mut [Semiblock]) -> u32
     requires made { IsMade aes.now }
-    ensures no_key { result ≡ NO_KEY ↔ ¬ IsKeySize aes.now.key_length }
-    ensures done { result ≡ DONE ↔ IsKeySize aes.now.key_length
+    ensures no_key { result ≡ NO_KEY ↔ ¬ HoldsKey aes.now }
+    ensures done { result ≡ DONE ↔ HoldsKey aes.now
         × Fit (length key.now) (length output.old) }
     ensures invalid { result ≢ DONE → result ≢ NO_KEY → result ≡ INVALID_COUNT }
     ensures wrapped { result ≡ DONE → output.new ≡ wrapped (round_keys_in aes.now) key.now }
@@ -52,11 +51,11 @@ pub extern "C" fn fotsgure_aes_unwrap(
     output: &mut [Semiblock],
 ) -> u32
     requires made { IsMade aes.now }
-    ensures no_key { result ≡ NO_KEY ↔ ¬ IsKeySize aes.now.key_length }
+    ensures no_key { result ≡ NO_KEY ↔ ¬ HoldsKey aes.now }
     ensures invalid { result ≡ INVALID_COUNT
-        ↔ IsKeySize aes.now.key_length × (¬ Fit (length output.old) (length sealed.now)) }
+        ↔ HoldsKey aes.now × (¬ Fit (length output.old) (length sealed.now)) }
     ensures done { result ≡ DONE
-        ↔ IsKeySize aes.now.key_length × (Fit (length output.old) (length sealed.now)
+        ↔ HoldsKey aes.now × (Fit (length output.old) (length sealed.now)
         × (slice_index_or (unwrapped (round_keys_in aes.now) sealed.now) 0 [] ≡ integrity_check)) }
     ensures refused { result ≢ DONE → result ≢ NO_KEY → result ≢ INVALID_COUNT → result ≡ REFUSED }
     ensures key { result ≡ DONE → integrity_check ∷ output.new
@@ -67,7 +66,7 @@ pub extern "C" fn fotsgure_aes_unwrap(
     if !holds_key(aes) {
         return NO_KEY;
     }
-    let result = unwrap(&lent_both(aes), sealed, output);
+    let result = unwrap(&lent_back(aes), sealed, output);
     wipe_stack::<WRAPPING_STACK>();
     match result {
         Ok(()) => DONE,
@@ -82,8 +81,8 @@ pub extern "C" fn fotsgure_aes_unwrap(
 #[unsafe(no_mangle)]
 pub extern "C" fn fotsgure_aes_wrap_padded(aes: &Aes, key: &[u8], output: &mut [Semiblock]) -> u32
     requires made { IsMade aes.now }
-    ensures no_key { result ≡ NO_KEY ↔ ¬ IsKeySize aes.now.key_length }
-    ensures done { result ≡ DONE ↔ IsKeySize aes.now.key_length
+    ensures no_key { result ≡ NO_KEY ↔ ¬ HoldsKey aes.now }
+    ensures done { result ≡ DONE ↔ HoldsKey aes.now
         × FitPadded (length key.now) (length output.old) }
     ensures invalid { result ≢ DONE → result ≢ NO_KEY → result ≡ INVALID_COUNT }
     ensures wrapped { result ≡ DONE → output.new ≡ wrapped_padded (round_keys_in aes.now) key.now }
@@ -114,11 +113,11 @@ pub extern "C" fn fotsgure_aes_unwrap_padded(
     key_bytes: &mut usize,
 ) -> u32
     requires made { IsMade aes.now }
-    ensures no_key { result ≡ NO_KEY ↔ ¬ IsKeySize aes.now.key_length }
+    ensures no_key { result ≡ NO_KEY ↔ ¬ HoldsKey aes.now }
     ensures invalid { result ≡ INVALID_COUNT
-        ↔ IsKeySize aes.now.key_length × (¬ FitUnpadded (length output.old) (length sealed.now)) }
+        ↔ HoldsKey aes.now × (¬ FitUnpadded (length output.old) (length sealed.now)) }
     ensures done { result ≡ DONE
-        ↔ IsKeySize aes.now.key_length × (FitUnpadded (length output.old) (length sealed.now)
+        ↔ HoldsKey aes.now × (FitUnpadded (length output.old) (length sealed.now)
         × IsPadded (unwrapped_string (round_keys_in aes.now) sealed.now)) }
     ensures refused { result ≢ DONE → result ≢ NO_KEY → result ≢ INVALID_COUNT → result ≡ REFUSED }
     ensures key { result ≡ DONE → heading key_bytes.new ∷ output.new
@@ -132,7 +131,7 @@ pub extern "C" fn fotsgure_aes_unwrap_padded(
     if !holds_key(aes) {
         return NO_KEY;
     }
-    let result = unwrap_padded(&lent_both(aes), sealed, output);
+    let result = unwrap_padded(&lent_back(aes), sealed, output);
     wipe_stack::<WRAPPING_STACK>();
     match result {
         Ok(bytes) => {

@@ -1,4 +1,5 @@
 -- The files of lemmas.
 pub mod Fronts
+pub mod OnLiterals
 pub mod Shifted
 pub mod PlaneKeys

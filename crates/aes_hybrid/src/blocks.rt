@@ -3,11 +3,10 @@
 ghost use Rattle.std.specs.Prelude.{◌≡◌, ◌≤◌, drop, length, take};
 ghost use Rattle.aes_planes.specs.Each.{Each};
 ghost use Rattle.aes_planes.specs.Fips197 as fips;
-ghost use Rattle.aes_permute.specs.Keys.{encrypting, key_of_lanes, IsCipherSchedule};
-ghost use Rattle.aes_permute.specs.Stored.{round_keys_of};
+ghost use Rattle.aes_permute.specs.Keys.{key_of_lanes, IsCipherSchedule};
 
-use crate::backends::OnLanes;
 use crate::batches::process_on_planes;
+use crate::lent::Lent;
 use crate::widths::Width;
 use aes_permute::lane_rounds::LaneRounds;
 use aes_planes::soft::word::{Batch, Block, Word};
@@ -50,21 +49,15 @@ fn process_first<D: PlaneCipher, W: Word>(keys: &[Block], blocks: &mut [Block], 
     }
 }
 
-/// Processes each block of a slice in place: whole batches on planes, and the others by vector
-/// permutations where they are few, since these take less time so. `keys` are the stored round keys
-/// of Cipher, and `used` those of the direction.
-#[tactic(auto, using(crate::proofs::Fronts::first_then_others))]
-pub fn process_few_or_many<D: LaneRounds + PlaneCipher, W: Width>(
-    keys: &[Block],
-    used: &[Block],
-    blocks: &mut [Block],
-)
-    requires keyed { IsCipherSchedule keys.now }
-    requires used { round_keys_of D.form used.now ≡ D.form.used_keys (encrypting keys.now) }
-    ensures { Each (D.processed (fips.key_expansion (key_of_lanes keys.now)))
-        blocks.old blocks.new }
-{
-    let whole = blocks_on_planes::<D, W>(blocks.len());
-    process_first::<D, W::Many>(keys, blocks, whole);
-    OnLanes::<D, W>::new(keys, used).process_few(&mut blocks[whole..]);
+impl<D: LaneRounds + PlaneCipher, W: Width> Lent<'_, D, W> {
+    /// Processes each block of a slice in place: whole batches on planes, and the others by vector
+    /// permutations where they are few, since these take less time so.
+    #[tactic(auto, using(crate::proofs::Fronts::first_then_others))]
+    pub(crate) fn process_blocks(&self, blocks: &mut [Block])
+        ensures { Each (D.processed (fips.key_expansion self.now)) blocks.old blocks.new }
+    {
+        let whole = blocks_on_planes::<D, W>(blocks.len());
+        process_first::<D, W::Many>(self.keys(), blocks, whole);
+        self.process_few(&mut blocks[whole..]);
+    }
 }

@@ -3,15 +3,14 @@
 
 ghost use Rattle.std.specs.Prelude.{◌≡◌};
 ghost use Rattle.aes_planes.specs.Fips197 as fips;
-ghost use Rattle.aes_permute.specs.Keys.{key_of_lanes, AreInverse, IsCipherSchedule};
 ghost use Rattle.aes_soft.specs.Stored as soft;
 
-use crate::backends::{Batches, OnLanes};
+use crate::backends::Batches;
+use crate::lent::Lent;
 use crate::plane_keys::PlaneKeys;
 use crate::widths::Width;
 use aes_cipher::cipher::{BlockCipherDecClosure, BlockCipherEncClosure, Decrypt, Encrypt};
 use aes_cipher::zeroize::wipe_stack;
-use aes_planes::soft::word::Block;
 
 // How many bytes of stack a closure takes at most that works on batches, as those of this library's
 // modes do. From 2 KB on libc's memset takes a slower way.
@@ -19,100 +18,88 @@ const CLOSURE_STACK: usize = 2032;
 
 // Calls a closure with planes to encrypt. In a call of its own, so that its stack can be wiped.
 #[inline(never)]
-fn call_to_encrypt<W: Width, F: BlockCipherEncClosure>(keys: &[Block], words: &[W::Many], f: &mut F)
-    requires keyed { IsCipherSchedule keys.now }
+fn call_to_encrypt<W: Width, F: BlockCipherEncClosure>(
+    few: &Lent<'_, Encrypt, W>,
+    words: &[W::Many],
+    f: &mut F,
+)
     requires is_schedule { soft.IsFullSchedule W.Many.bits W.Many.BLOCKS words.now }
-    requires same_key { soft.key_of_planes W.Many.bits W.Many.BLOCKS words.now
-        ≡ key_of_lanes keys.now }
-    ensures { F.did f.old (fips.key_expansion (key_of_lanes keys.now)) f.new }
+    requires same_key { soft.key_of_planes W.Many.bits W.Many.BLOCKS words.now ≡ few.now }
+    ensures { F.did f.old (fips.key_expansion few.now) f.new }
 {
-    f.call(&Batches::new(OnLanes::<Encrypt, W>::new(keys, keys), words));
+    f.call(&Batches::new(few, words));
 }
 
 // Lends planes to encrypt. They are wiped before the call returns, with the
 // stack that the closure took. Never inlined: few blocks need no large frame,
 // and what a caller leaves below its own frame isn't deep.
 #[inline(never)]
-fn lend_planes_to_encrypt<W: Width, F: BlockCipherEncClosure>(keys: &[Block], f: &mut F)
-    requires { IsCipherSchedule keys.now }
-    ensures { F.did f.old (fips.key_expansion (key_of_lanes keys.now)) f.new }
+fn lend_planes_to_encrypt<W: Width, F: BlockCipherEncClosure>(few: &Lent<'_, Encrypt, W>, f: &mut F)
+    ensures { F.did f.old (fips.key_expansion few.now) f.new }
 {
+    let keys = few.keys();
     let mut planes = PlaneKeys::<W::Many>::zeroed();
     planes.store(keys);
-    call_to_encrypt::<W, F>(keys, planes.lend(keys.len()), f);
+    call_to_encrypt::<W, F>(few, planes.lend(keys.len()), f);
     planes.wipe();
     wipe_stack::<CLOSURE_STACK>();
 }
 
-/// Calls a closure with a backend that encrypts under stored round keys of Cipher.
+/// Calls a closure with a backend that encrypts under the key that is lent.
 #[inline(always)]
 pub(crate) fn lend_to_encrypt<W: Width, F: BlockCipherEncClosure>(
-    keys: &[Block],
+    few: &Lent<'_, Encrypt, W>,
     blocks: usize,
     f: &mut F,
 )
-    requires { IsCipherSchedule keys.now }
-    ensures { F.did f.old (fips.key_expansion (key_of_lanes keys.now)) f.new }
+    ensures { F.did f.old (fips.key_expansion few.now) f.new }
 {
     if blocks >= W::LEAST_FOR_CLOSURES {
-        lend_planes_to_encrypt::<W, F>(keys, f);
+        lend_planes_to_encrypt::<W, F>(few, f);
     } else {
-        f.call(&OnLanes::<Encrypt, W>::new(keys, keys));
+        f.call(few);
     }
 }
 
 // Calls a closure with planes to decrypt.
 #[inline(never)]
 fn call_to_decrypt<W: Width, F: BlockCipherDecClosure>(
-    keys: &[Block],
-    inverse: &[Block],
+    few: &Lent<'_, Decrypt, W>,
     words: &[W::Many],
     f: &mut F,
 )
-    requires keyed { IsCipherSchedule keys.now }
-    requires inverse { AreInverse inverse.now keys.now }
     requires is_schedule { soft.IsFullSchedule W.Many.bits W.Many.BLOCKS words.now }
-    requires same_key { soft.key_of_planes W.Many.bits W.Many.BLOCKS words.now
-        ≡ key_of_lanes keys.now }
-    ensures { F.did f.old (fips.key_expansion (key_of_lanes keys.now)) f.new }
+    requires same_key { soft.key_of_planes W.Many.bits W.Many.BLOCKS words.now ≡ few.now }
+    ensures { F.did f.old (fips.key_expansion few.now) f.new }
 {
-    f.call(&Batches::new(OnLanes::<Decrypt, W>::new(keys, inverse), words));
+    f.call(&Batches::new(few, words));
 }
 
 // Lends planes to decrypt. They serve both directions, and are made of the round keys of Cipher.
 #[inline(never)]
-fn lend_planes_to_decrypt<W: Width, F: BlockCipherDecClosure>(
-    keys: &[Block],
-    inverse: &[Block],
-    f: &mut F,
-)
-    requires keyed { IsCipherSchedule keys.now }
-    requires inverse { AreInverse inverse.now keys.now }
-    ensures { F.did f.old (fips.key_expansion (key_of_lanes keys.now)) f.new }
+fn lend_planes_to_decrypt<W: Width, F: BlockCipherDecClosure>(few: &Lent<'_, Decrypt, W>, f: &mut F)
+    ensures { F.did f.old (fips.key_expansion few.now) f.new }
 {
+    let keys = few.keys();
     let mut of_cipher = PlaneKeys::<W::Many>::zeroed();
     of_cipher.store(keys);
-    call_to_decrypt::<W, F>(keys, inverse, of_cipher.lend(keys.len()), f);
+    call_to_decrypt::<W, F>(few, of_cipher.lend(keys.len()), f);
     of_cipher.wipe();
     wipe_stack::<CLOSURE_STACK>();
 }
 
-/// Calls a closure with a backend that decrypts under those and
-/// the ones of EqInvCipher of the same key.
+/// Calls a closure with a backend that decrypts under the key that is lent.
 #[inline(always)]
 pub(crate) fn lend_to_decrypt<W: Width, F: BlockCipherDecClosure>(
-    keys: &[Block],
-    inverse: &[Block],
+    few: &Lent<'_, Decrypt, W>,
     blocks: usize,
     f: &mut F,
 )
-    requires keyed { IsCipherSchedule keys.now }
-    requires inverse { AreInverse inverse.now keys.now }
-    ensures { F.did f.old (fips.key_expansion (key_of_lanes keys.now)) f.new }
+    ensures { F.did f.old (fips.key_expansion few.now) f.new }
 {
     if blocks >= W::LEAST_FOR_CLOSURES {
-        lend_planes_to_decrypt::<W, F>(keys, inverse, f);
+        lend_planes_to_decrypt::<W, F>(few, f);
     } else {
-        f.call(&OnLanes::<Decrypt, W>::new(keys, inverse));
+        f.call(few);
     }
 }

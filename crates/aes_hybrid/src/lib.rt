@@ -4,10 +4,11 @@
 
 mod backends;
 mod batches;
-pub mod blocks;
+mod blocks;
 mod closures;
+pub mod examples;
+pub mod kept_key;
 pub mod lent;
-pub mod lent_both;
 mod lists;
 mod names;
 mod plane_keys;

@@ -4,14 +4,12 @@
 ghost use Rattle.std.specs.Prelude.{◌≡◌, replicate};
 ghost use Rattle.aes_permute.specs.Keys.{key_of_lanes, stored_keys, AreInverse, IsCipherSchedule};
 
-use crate::backends::OnLanes;
-use crate::blocks::process_few_or_many;
-use crate::closures::lend_to_decrypt;
 use crate::lent::Lent;
 use crate::widths::{Narrow, Width};
 use aes_cipher::aes::{Decrypts, Encrypts, KeySize, MadeFrom, Processes, StoredKeys};
 use aes_cipher::cipher::{
-    BlockCipherDecClosure, BlockCipherEncClosure, BlockCipherEncrypt, Decrypt, Encrypt,
+    BlockCipherDecClosure, BlockCipherDecrypt, BlockCipherEncClosure, BlockCipherEncrypt, Decrypt,
+    Encrypt,
 };
 use aes_cipher::not_clone::NotClone;
 use aes_cipher::zeroize::Wiped;
@@ -83,23 +81,32 @@ impl<K: KeySize, W> StoredKeys for Encrypting<K, W> {
     }
 }
 
+impl<K: KeySize, W> Encrypting<K, W> {
+    // Lends the round keys to encrypt.
+    #[inline(always)]
+    fn lent(&self) -> Lent<'_, Encrypt, W>
+        requires { ⟦<Encrypting<K, W> as StoredKeys>⟧.AreKeyed self.now }
+        ensures { result ≡ ⟦<Encrypting<K, W> as StoredKeys>⟧.key self.now }
+    {
+        let keys = keys_in_room(self.room.value(), K::SIZE);
+        Lent::new(keys, keys)
+    }
+}
+
 impl<K: KeySize, W: Width> Processes<Encrypt> for Encrypting<K, W> {
     #[inline(always)]
     fn process_one(&self, block: &mut Block) {
-        let keys = keys_in_room(self.room.value(), K::SIZE);
-        OnLanes::<Encrypt, W>::new(keys, keys).process_few(slice::from_mut(block));
+        self.lent().process_few(slice::from_mut(block));
     }
 
     fn process_slice(&self, blocks: &mut [Block]) {
-        let keys = keys_in_room(self.room.value(), K::SIZE);
-        process_few_or_many::<Encrypt, W>(keys, keys, blocks);
+        self.lent().process_blocks(blocks);
     }
 }
 
 impl<K: KeySize, W: Width> Encrypts for Encrypting<K, W> {
     fn encrypt_with_backend_for<F: BlockCipherEncClosure>(&self, blocks: usize, f: &mut F) {
-        let keys = keys_in_room(self.room.value(), K::SIZE);
-        Lent::<W>::new(keys).encrypt_with_backend_for(blocks, f);
+        self.lent().encrypt_with_backend_for(blocks, f);
     }
 }
 
@@ -206,25 +213,31 @@ impl<K: KeySize, W: Width> Encrypts for BothLists<K, W> {
     }
 }
 
+impl<K: KeySize, W> BothLists<K, W> {
+    // Lends the round keys to decrypt.
+    #[inline(always)]
+    fn lent_back(&self) -> Lent<'_, Decrypt, W>
+        requires { ⟦<BothLists<K, W> as StoredKeys>⟧.AreKeyed self.now }
+        ensures { result ≡ ⟦<BothLists<K, W> as StoredKeys>⟧.key self.now }
+    {
+        let keys = keys_in_room(self.encrypting.room.value(), K::SIZE);
+        Lent::new(keys, keys_in_room(self.inverse.value(), K::SIZE))
+    }
+}
+
 impl<K: KeySize, W: Width> Processes<Decrypt> for BothLists<K, W> {
     #[inline(always)]
     fn process_one(&self, block: &mut Block) {
-        let keys = keys_in_room(self.encrypting.room.value(), K::SIZE);
-        let used = keys_in_room(self.inverse.value(), K::SIZE);
-        OnLanes::<Decrypt, W>::new(keys, used).process_few(slice::from_mut(block));
+        self.lent_back().process_few(slice::from_mut(block));
     }
 
     fn process_slice(&self, blocks: &mut [Block]) {
-        let keys = keys_in_room(self.encrypting.room.value(), K::SIZE);
-        let used = keys_in_room(self.inverse.value(), K::SIZE);
-        process_few_or_many::<Decrypt, W>(keys, used, blocks);
+        self.lent_back().process_blocks(blocks);
     }
 }
 
 impl<K: KeySize, W: Width> Decrypts for BothLists<K, W> {
     fn decrypt_with_backend_for<F: BlockCipherDecClosure>(&self, blocks: usize, f: &mut F) {
-        let keys = keys_in_room(self.encrypting.room.value(), K::SIZE);
-        let used = keys_in_room(self.inverse.value(), K::SIZE);
-        lend_to_decrypt::<W, F>(keys, used, blocks, f);
+        self.lent_back().decrypt_with_backend_for(blocks, f);
     }
 }

@@ -3,12 +3,10 @@
 ghost use Rattle.std.specs.Prelude.{◌≡◌, ◌≤◌, ℕ, Bool, List, length, map};
 ghost use Rattle.aes_planes.specs.Fips197 as fips;
 ghost use Rattle.aes_planes.specs.Rounds.{all_rounds};
-ghost use Rattle.aes_permute.specs.Keys.{encrypting, decrypting};
-ghost use Rattle.aes_permute.specs.Stored.{round_keys_of, LaneForm};
+ghost use Rattle.aes_permute.specs.Stored.{LaneForm};
 
 use crate::lanes::Lanes;
 use aes_cipher::cipher::Direction;
-use aes_planes::soft::word::Block;
 
 /// A direction on lanes: its rounds, and the round keys that they use. States and round keys are
 /// kept in a basis of the direction's own.
@@ -41,12 +39,6 @@ pub trait LaneRounds: Direction {
         ensures { (i : ℕ) → L.block result i
             ≡ fips.add_round_key (Self.last_step (map state_byte (L.block x i)))
             (map form.last_byte (L.block key i)) };
-
-    /// Returns those that the rounds use, of the stored round keys
-    /// of Cipher and of EqInvCipher of one key.
-    fn used_of<'a>(keys: &'a [Block], inverse: &'a [Block]) -> &'a [Block]
-        requires inverse { decrypting inverse.now ≡ fips.inverted_keys (encrypting keys.now) }
-        ensures { round_keys_of form result.now ≡ form.used_keys (encrypting keys.now) };
 
     /// No effect; states that the rounds use as many round keys as there are.
     fn uses_all()

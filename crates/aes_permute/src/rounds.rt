@@ -12,7 +12,6 @@ use crate::lanes::{Lanes, looked_up_by_nibbles};
 use crate::sbox::{looked_up, places_of};
 use crate::tables::*;
 use aes_cipher::cipher::{Decrypt, Encrypt};
-use aes_planes::soft::word::Block;
 use std::simd::prelude::*;
 
 // Cipher (FIPS 197, 5.1).
@@ -60,12 +59,6 @@ impl LaneRounds for Encrypt {
         let one = looked_up(places_of(x), SBOX_FIRST, SBOX_SECOND);
         one.permuted([0, 5, 10, 15, 4, 9, 14, 3, 8, 13, 2, 7, 12, 1, 6, 11])
             .sum(key)
-    }
-
-    #[inline(always)]
-    fn used_of<'a>(keys: &'a [Block], inverse: &'a [Block]) -> &'a [Block] {
-        let _ = inverse;
-        keys
     }
 
     #[tactic(auto, using(crate::proofs::DirectionLaws::same_forward))]
@@ -121,12 +114,6 @@ impl LaneRounds for Decrypt {
         let one = looked_up(places_of(x), INV_SBOX_FIRST, INV_SBOX_SECOND);
         one.permuted([0, 13, 10, 7, 4, 1, 14, 11, 8, 5, 2, 15, 12, 9, 6, 3])
             .sum(key)
-    }
-
-    #[inline(always)]
-    fn used_of<'a>(keys: &'a [Block], inverse: &'a [Block]) -> &'a [Block] {
-        let _ = keys;
-        inverse
     }
 
     #[tactic(auto, using(crate::proofs::DirectionLaws::same_backward))]

@@ -1,3 +1,2 @@
 -- The files of lemmas.
 mod Carried
-mod SivKeys

@@ -1,7 +1,7 @@
 //! Nonces that the library counts and the caller keeps.
 
 ghost use Rattle.std.specs.Prelude.{◌≡◌, ◌≢◌, ◌↔◌, ◌+◌, ◌-◌, ◌^◌, ◌<◌, ◌≤◌, [], length, replicate};
-ghost use Rattle.aes_cipher.specs.KeySizes.{IsKeySize};
+ghost use Rattle.gcm_c.specs.Form.{HoldsKey};
 ghost use Rattle.gcm.specs.Gcm as nist;
 ghost use Rattle.gcm.specs.Gcm.{nonce_number};
 ghost use Rattle.gcm.specs.Pieces.{IsBegun};
@@ -30,7 +30,7 @@ pub extern "C" fn fotsgure_gcm_seal_next(
         × IsTooLong (length additional.now) (length text.old) }
     ensures done { result ≡ DONE ↔ (nonce_number counter.old.next ≢ 2 ^ 96 - 1)
         × ((length additional.now < 2 ^ 61)
-        × ((length text.old ≤ 2 ^ 36 - 32) × IsKeySize gcm.now.key_length)) }
+        × ((length text.old ≤ 2 ^ 36 - 32) × HoldsKey gcm.now.key)) }
     ensures refused { result ≢ DONE → result ≢ NONCES_END → result ≢ TOO_LONG → result ≡ NO_KEY }
     ensures nonce { result ≡ DONE → nonce.new ≡ counter.old.next }
     ensures encrypted { result ≡ DONE → text.new
@@ -68,7 +68,7 @@ pub extern "C" fn fotsgure_gcm_begin_next(
     requires made { IsMade gcm.now }
     ensures ended { result ≡ NONCES_END ↔ (nonce_number counter.old.next ≡ 2 ^ 96 - 1) }
     ensures done { result ≡ DONE ↔ (nonce_number counter.old.next ≢ 2 ^ 96 - 1)
-        × IsKeySize gcm.now.key_length }
+        × HoldsKey gcm.now.key }
     ensures refused { result ≢ DONE → result ≢ NONCES_END → result ≡ NO_KEY }
     ensures nonce { result ≡ DONE → nonce.new ≡ counter.old.next }
     ensures begun { result ≡ DONE

@@ -9,6 +9,7 @@ ghost use Rattle.std.specs.Prelude.{◌≡◌};
 
 mod counter;
 pub mod examples;
+mod form;
 mod kept;
 mod opening;
 #[cfg(test)]

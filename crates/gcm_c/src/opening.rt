@@ -5,7 +5,7 @@ ghost use Rattle.std.specs.Prelude.{length};
 ghost use Rattle.gcm.specs.Gcm as nist;
 ghost use Rattle.gcm.specs.Gcm.{IsShortTag};
 ghost use Rattle.gcm.specs.declared.message.Phase.{Phase};
-ghost use Rattle.aes_cipher.specs.KeySizes.{IsKeySize};
+ghost use Rattle.gcm_c.specs.Form.{HoldsKey};
 ghost use Rattle.gcm_c.specs.Kept.{round_keys_in, IsMade};
 ghost use Rattle.gcm.specs.Pieces.{IsInText, IsVerifying, IsDecrypting, phase_of};
 
@@ -30,11 +30,11 @@ fn status_of_refusal(error: NotAccepted) -> u32
 #[unsafe(no_mangle)]
 pub extern "C" fn fotsgure_gcm_verify(gcm: &Gcm, message: &mut Message, text: &[u8]) -> u32
     requires made { IsMade gcm.now }
-    ensures no_key { result ≡ NO_KEY ↔ ¬ IsKeySize gcm.now.key_length }
-    ensures out_of_turn { result ≡ OUT_OF_TURN ↔ IsKeySize gcm.now.key_length
+    ensures no_key { result ≡ NO_KEY ↔ ¬ HoldsKey gcm.now.key }
+    ensures out_of_turn { result ≡ OUT_OF_TURN ↔ HoldsKey gcm.now.key
         × ((phase_of message.old.phase ≢ Phase.Additional)
         × (phase_of message.old.phase ≢ Phase.Verifying)) }
-    ensures done { result ≡ DONE ↔ IsKeySize gcm.now.key_length
+    ensures done { result ≡ DONE ↔ HoldsKey gcm.now.key
         × (((phase_of message.old.phase ≡ Phase.Additional)
         ⊎ (phase_of message.old.phase ≡ Phase.Verifying))
         × (message.old.text + length text.now ≤ 2 ^ 36 - 32)) }
@@ -61,13 +61,13 @@ pub extern "C" fn fotsgure_gcm_verify(gcm: &Gcm, message: &mut Message, text: &[
 pub extern "C" fn fotsgure_gcm_accept(gcm: &Gcm, message: &mut Message, tag: &[u8]) -> u32
     requires made { IsMade gcm.now }
     ensures tag_length { result ≡ TAG_LENGTH ↔ (length tag.now ≢ 16) }
-    ensures no_key { result ≡ NO_KEY ↔ (length tag.now ≡ 16) × ¬ IsKeySize gcm.now.key_length }
+    ensures no_key { result ≡ NO_KEY ↔ (length tag.now ≡ 16) × ¬ HoldsKey gcm.now.key }
     ensures out_of_turn { result ≡ OUT_OF_TURN ↔ (length tag.now ≡ 16)
-        × (IsKeySize gcm.now.key_length
+        × (HoldsKey gcm.now.key
         × ((phase_of message.old.phase ≢ Phase.Additional)
         × (phase_of message.old.phase ≢ Phase.Verifying))) }
     ensures accepted { let w = round_keys_in gcm.now in
-        length tag.now ≡ 16 → IsKeySize gcm.now.key_length → (iv a c : List ℕ)
+        length tag.now ≡ 16 → HoldsKey gcm.now.key → (iv a c : List ℕ)
         → IsVerifying w iv a c message.old
         → result ≡ DONE ↔ (tag.now ≡ nist.tag w iv a c) }
     ensures refused { result ≢ DONE → result ≢ TAG_LENGTH → result ≢ NO_KEY → result ≢ OUT_OF_TURN
@@ -108,13 +108,13 @@ pub extern "C" fn fotsgure_gcm_accept_short(
     requires made { IsMade gcm.now }
     ensures tag_length { result ≡ TAG_LENGTH ↔ ¬ (IsShortTag fixed_length × (length tag.now ≡ fixed_length)) }
     ensures no_key { result ≡ NO_KEY ↔ (IsShortTag fixed_length × (length tag.now ≡ fixed_length))
-        × ¬ IsKeySize gcm.now.key_length }
+        × ¬ HoldsKey gcm.now.key }
     ensures out_of_turn { result ≡ OUT_OF_TURN ↔ (IsShortTag fixed_length × (length tag.now ≡ fixed_length))
-        × (IsKeySize gcm.now.key_length
+        × (HoldsKey gcm.now.key
         × ((phase_of message.old.phase ≢ Phase.Additional)
         × (phase_of message.old.phase ≢ Phase.Verifying))) }
     ensures accepted { let w = round_keys_in gcm.now in
-        IsShortTag fixed_length → length tag.now ≡ fixed_length → IsKeySize gcm.now.key_length
+        IsShortTag fixed_length → length tag.now ≡ fixed_length → HoldsKey gcm.now.key
         → (iv a c : List ℕ) → IsVerifying w iv a c message.old
         → result ≡ DONE ↔ (tag.now ≡ nist.short_tag (length tag.now) w iv a c) }
     ensures refused { result ≢ DONE → result ≢ TAG_LENGTH → result ≢ NO_KEY → result ≢ OUT_OF_TURN
@@ -144,10 +144,10 @@ pub extern "C" fn fotsgure_gcm_accept_short(
 #[unsafe(no_mangle)]
 pub extern "C" fn fotsgure_gcm_decrypt(gcm: &Gcm, message: &mut Message, text: &mut [u8]) -> u32
     requires made { IsMade gcm.now }
-    ensures no_key { result ≡ NO_KEY ↔ ¬ IsKeySize gcm.now.key_length }
-    ensures out_of_turn { result ≡ OUT_OF_TURN ↔ IsKeySize gcm.now.key_length
+    ensures no_key { result ≡ NO_KEY ↔ ¬ HoldsKey gcm.now.key }
+    ensures out_of_turn { result ≡ OUT_OF_TURN ↔ HoldsKey gcm.now.key
         × (phase_of message.old.phase ≢ Phase.Decrypting) }
-    ensures done { result ≡ DONE ↔ IsKeySize gcm.now.key_length
+    ensures done { result ≡ DONE ↔ HoldsKey gcm.now.key
         × ((phase_of message.old.phase ≡ Phase.Decrypting)
         × ((message.old.decrypted + length text.old ≤ message.old.text)
         × (message.old.decrypted + length text.old ≤ 2 ^ 36 - 32))) }
@@ -185,11 +185,11 @@ pub extern "C" fn fotsgure_gcm_decrypt_unverified(
     text: &mut [u8],
 ) -> u32
     requires made { IsMade gcm.now }
-    ensures no_key { result ≡ NO_KEY ↔ ¬ IsKeySize gcm.now.key_length }
-    ensures out_of_turn { result ≡ OUT_OF_TURN ↔ IsKeySize gcm.now.key_length
+    ensures no_key { result ≡ NO_KEY ↔ ¬ HoldsKey gcm.now.key }
+    ensures out_of_turn { result ≡ OUT_OF_TURN ↔ HoldsKey gcm.now.key
         × ((phase_of message.old.phase ≢ Phase.Additional)
         × (phase_of message.old.phase ≢ Phase.Verifying)) }
-    ensures done { result ≡ DONE ↔ IsKeySize gcm.now.key_length
+    ensures done { result ≡ DONE ↔ HoldsKey gcm.now.key
         × (((phase_of message.old.phase ≡ Phase.Additional)
         ⊎ (phase_of message.old.phase ≡ Phase.Verifying))
         × (message.old.text + length text.old ≤ 2 ^ 36 - 32)) }

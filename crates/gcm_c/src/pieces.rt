@@ -4,7 +4,7 @@ ghost use Rattle.std.specs.Prelude.{◌≡◌, ◌≢◌, ◌↔◌, ◌+◌, �
 ghost use Rattle.std.specs.Prelude.{length, replicate};
 ghost use Rattle.gcm.specs.Gcm as nist;
 ghost use Rattle.gcm.specs.declared.message.Phase.{Phase};
-ghost use Rattle.aes_cipher.specs.KeySizes.{IsKeySize};
+ghost use Rattle.gcm_c.specs.Form.{HoldsKey};
 ghost use Rattle.gcm_c.specs.Kept.{round_keys_in, IsMade, IsNonceLength};
 ghost use Rattle.gcm.specs.Pieces.{IsBegun, no_message, phase_of};
 
@@ -32,7 +32,7 @@ pub(crate) fn status_of(error: InvalidPiece) -> u32
 pub extern "C" fn fotsgure_gcm_begin(gcm: &Gcm, message: &mut Message, nonce: &[u8]) -> u32
     requires made { IsMade gcm.now }
     ensures nonce_length { result ≡ NONCE_LENGTH ↔ ¬ IsNonceLength (length nonce.now) }
-    ensures done { result ≡ DONE ↔ IsNonceLength (length nonce.now) × IsKeySize gcm.now.key_length }
+    ensures done { result ≡ DONE ↔ IsNonceLength (length nonce.now) × HoldsKey gcm.now.key }
     ensures refused { result ≢ DONE → result ≢ NONCE_LENGTH → result ≡ NO_KEY }
     ensures begun { result ≡ DONE → IsBegun (round_keys_in gcm.now) nonce.now [] message.new }
     ensures clean { result ≡ DONE → (message.new.rest ≡ replicate 16 0)
@@ -59,10 +59,10 @@ pub extern "C" fn fotsgure_gcm_additional(
     additional: &[u8],
 ) -> u32
     requires made { IsMade gcm.now }
-    ensures no_key { result ≡ NO_KEY ↔ ¬ IsKeySize gcm.now.key_length }
-    ensures out_of_turn { result ≡ OUT_OF_TURN ↔ IsKeySize gcm.now.key_length
+    ensures no_key { result ≡ NO_KEY ↔ ¬ HoldsKey gcm.now.key }
+    ensures out_of_turn { result ≡ OUT_OF_TURN ↔ HoldsKey gcm.now.key
         × (phase_of message.old.phase ≢ Phase.Additional) }
-    ensures done { result ≡ DONE ↔ IsKeySize gcm.now.key_length
+    ensures done { result ≡ DONE ↔ HoldsKey gcm.now.key
         × ((phase_of message.old.phase ≡ Phase.Additional)
         × (message.old.additional + length additional.now < 2 ^ 61)) }
     ensures refused { result ≢ DONE → result ≢ NO_KEY → result ≢ OUT_OF_TURN → result ≡ TOO_LONG }

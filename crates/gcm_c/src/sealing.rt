@@ -4,7 +4,7 @@ ghost use Rattle.std.specs.Prelude.{◌≡◌, ◌≢◌, ◌↔◌, ◌⊎◌, 
 ghost use Rattle.std.specs.Prelude.{length};
 ghost use Rattle.gcm.specs.Gcm as nist;
 ghost use Rattle.gcm.specs.declared.message.Phase.{Phase};
-ghost use Rattle.aes_cipher.specs.KeySizes.{IsKeySize};
+ghost use Rattle.gcm_c.specs.Form.{HoldsKey};
 ghost use Rattle.gcm_c.specs.Kept.{round_keys_in, IsMade};
 ghost use Rattle.gcm.specs.Pieces.{IsInText, IsEncrypting, no_message, phase_of};
 
@@ -18,11 +18,11 @@ use gcm::Message;
 #[unsafe(no_mangle)]
 pub extern "C" fn fotsgure_gcm_encrypt(gcm: &Gcm, message: &mut Message, text: &mut [u8]) -> u32
     requires made { IsMade gcm.now }
-    ensures no_key { result ≡ NO_KEY ↔ ¬ IsKeySize gcm.now.key_length }
-    ensures out_of_turn { result ≡ OUT_OF_TURN ↔ IsKeySize gcm.now.key_length
+    ensures no_key { result ≡ NO_KEY ↔ ¬ HoldsKey gcm.now.key }
+    ensures out_of_turn { result ≡ OUT_OF_TURN ↔ HoldsKey gcm.now.key
         × ((phase_of message.old.phase ≢ Phase.Additional)
         × (phase_of message.old.phase ≢ Phase.Encrypting)) }
-    ensures done { result ≡ DONE ↔ IsKeySize gcm.now.key_length
+    ensures done { result ≡ DONE ↔ HoldsKey gcm.now.key
         × (((phase_of message.old.phase ≡ Phase.Additional)
         ⊎ (phase_of message.old.phase ≡ Phase.Encrypting))
         × (message.old.text + length text.old ≤ 2 ^ 36 - 32)) }
@@ -52,8 +52,8 @@ pub extern "C" fn fotsgure_gcm_encrypt(gcm: &Gcm, message: &mut Message, text: &
 #[unsafe(no_mangle)]
 pub extern "C" fn fotsgure_gcm_finish(gcm: &Gcm, message: &mut Message, tag: &mut [u8; 16]) -> u32
     requires made { IsMade gcm.now }
-    ensures no_key { result ≡ NO_KEY ↔ ¬ IsKeySize gcm.now.key_length }
-    ensures out_of_turn { result ≡ OUT_OF_TURN ↔ IsKeySize gcm.now.key_length
+    ensures no_key { result ≡ NO_KEY ↔ ¬ HoldsKey gcm.now.key }
+    ensures out_of_turn { result ≡ OUT_OF_TURN ↔ HoldsKey gcm.now.key
         × ((phase_of message.old.phase ≢ Phase.Additional)
         × (phase_of message.old.phase ≢ Phase.Encrypting)) }
     ensures refused { result ≢ DONE → result ≢ NO_KEY → result ≡ OUT_OF_TURN }

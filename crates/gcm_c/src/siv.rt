@@ -3,19 +3,17 @@
 ghost use Rattle.std.specs.Prelude.{◌≡◌, ◌≢◌, ◌↔◌, ◌^◌, ◌<◌, ◌≤◌, ◌++◌, [], length, slice_index_or};
 ghost use Rattle.std.specs.Prelude.{IsTrue, false};
 ghost use Rattle.std.specs.Int.{w128, from_le_bytes};
-ghost use Rattle.aes_permute.specs.Keys.{key_in_room, stored_keys, IsCipherSchedule};
 ghost use Rattle.gcm.specs.Gcm.{next_v};
 ghost use Rattle.gcm_siv.specs.GcmSiv as rfc;
 ghost use Rattle.gcm_siv.specs.GcmSiv.{authentication_key, encryption_key, IsAuthentic, IsKeySize};
-ghost use Rattle.gcm_c.specs.Siv.{siv_key_in, IsSivMade, IsSivTooLong};
+ghost use Rattle.gcm_c.specs.Form.{key_in, IsKept};
+ghost use Rattle.gcm_c.specs.Siv.{HoldsSivKey, IsSivMade, IsSivTooLong};
 
-use crate::siv_kept::{Siv, cipher_of, is_siv_key};
+use crate::form::{KeptKey, lent};
+use crate::siv_kept::{Siv, is_siv_key};
 use crate::status::{DONE, NO_KEY, REFUSED, TOO_LONG};
-use crate::width::BuildWidth;
 use aes_cipher::cipher::Block;
 use aes_cipher::zeroize::MustWipe;
-use aes_hybrid::lent::Lent;
-use aes_permute::lane_room::{LaneRoom, expand_in_room, keys_in_room};
 use gcm::{Room, TableRoom};
 use gcm_siv::{
     KeyRoom, LONGEST, PolyvalRoom, are_few, derive, open, put_authentication, seal,
@@ -26,52 +24,52 @@ use gcm_siv::{
 fn siv_refusal(siv: &Siv, additional: usize, text: usize) -> u32
     ensures too_long { result ≡ TOO_LONG ↔ IsSivTooLong additional text }
     ensures done { result ≡ DONE ↔ (additional ≤ 2 ^ 36)
-        × ((text ≤ 2 ^ 36) × IsKeySize siv.now.key_length) }
+        × ((text ≤ 2 ^ 36) × HoldsSivKey siv.now) }
     ensures refused { result ≢ DONE → result ≢ TOO_LONG → result ≡ NO_KEY }
 {
     if additional as u64 > LONGEST || text as u64 > LONGEST {
         return TOO_LONG;
     }
-    if !is_siv_key(siv.key_length as usize) {
+    if !is_siv_key(siv.length as usize) {
         return NO_KEY;
     }
     DONE
 }
 
 // Expands the encryption key: the block after the first, or the two.
-fn expand_derived(keys: &KeyRoom, size: usize, round_keys: &mut LaneRoom)
+fn set_derived(keys: &KeyRoom, size: usize, kept: &mut KeptKey)
     requires { IsKeySize size }
-    ensures schedule { IsCipherSchedule (stored_keys size round_keys.new) }
-    ensures short { size ≡ 16 → key_in_room size round_keys.new ≡ slice_index_or keys.now 1 [] }
+    ensures kept { IsKept kept.new }
+    ensures size { kept.new.length ≡ size }
+    ensures short { size ≡ 16 → key_in kept.new ≡ slice_index_or keys.now 1 [] }
     ensures long { size ≡ 32
-        → key_in_room size round_keys.new ≡ slice_index_or keys.now 1 []
-        ++ slice_index_or keys.now 2 [] }
+        → key_in kept.new ≡ slice_index_or keys.now 1 [] ++ slice_index_or keys.now 2 [] }
 {
     if size == 16 {
-        expand_in_room(round_keys, &keys[1]);
+        kept.set(&keys[1]);
     } else {
-        expand_in_room(round_keys, keys[1..3].as_flattened());
+        kept.set(keys[1..3].as_flattened());
     }
 }
 
 // Writes the round keys of a message, and the multiples of its authentication key times x^-1.
-fn prepare<R: PolyvalRoom>(siv: &Siv, nonce: &[u8; 12], round_keys: &mut LaneRoom, room: &mut R)
+fn prepare<R: PolyvalRoom>(siv: &Siv, nonce: &[u8; 12], kept: &mut KeptKey, room: &mut R)
     requires made { IsSivMade siv.now }
-    requires key { IsKeySize siv.now.key_length }
+    requires key { HoldsSivKey siv.now }
     ensures made { R.IsMade room.new }
     ensures authentication { R.element room.new
-        ≡ next_v (from_le_bytes w128 (authentication_key (siv_key_in siv.now) nonce.now)) }
+        ≡ next_v (from_le_bytes w128 (authentication_key (key_in siv.now) nonce.now)) }
     ensures small { from_le_bytes w128
-        (authentication_key (siv_key_in siv.now) nonce.now) < 2 ^ 128 }
-    ensures schedule { IsCipherSchedule (stored_keys siv.now.key_length round_keys.new) }
-    ensures encryption { key_in_room siv.now.key_length round_keys.new
-        ≡ encryption_key (siv_key_in siv.now) nonce.now }
+        (authentication_key (key_in siv.now) nonce.now) < 2 ^ 128 }
+    ensures kept { IsKept kept.new }
+    ensures size { kept.new.length ≡ siv.now.length }
+    ensures encryption { key_in kept.new ≡ encryption_key (key_in siv.now) nonce.now }
 {
-    let size = siv.key_length as usize;
+    let size = siv.length as usize;
     let mut keys = MustWipe::<KeyRoom>::zeroed();
-    derive(&cipher_of(siv), size, nonce, keys.value_mut());
+    derive(&lent(siv), size, nonce, keys.value_mut());
     put_authentication(&keys.value()[0], room);
-    expand_derived(keys.value(), size, round_keys);
+    set_derived(keys.value(), size, kept);
     keys.wipe();
 }
 
@@ -80,23 +78,16 @@ fn prepare<R: PolyvalRoom>(siv: &Siv, nonce: &[u8; 12], round_keys: &mut LaneRoo
 #[inline(never)]
 fn seal_in<R: PolyvalRoom>(siv: &Siv, nonce: &[u8; 12], additional: &[u8], text: &mut [u8]) -> Block
     requires made { IsSivMade siv.now }
-    requires key { IsKeySize siv.now.key_length }
+    requires key { HoldsSivKey siv.now }
     requires additional { length additional.now ≤ 2 ^ 36 }
     requires text { length text.old ≤ 2 ^ 36 }
-    ensures tag { result ≡ rfc.tag (siv_key_in siv.now) nonce.now additional.now text.old }
-    ensures encrypted { text.new ≡ rfc.text (siv_key_in siv.now) nonce.now result text.old }
+    ensures tag { result ≡ rfc.tag (key_in siv.now) nonce.now additional.now text.old }
+    ensures encrypted { text.new ≡ rfc.text (key_in siv.now) nonce.now result text.old }
 {
     let mut room = MustWipe::<R>::zeroed();
-    let mut kept = MustWipe::<LaneRoom>::zeroed();
+    let mut kept = MustWipe::<KeptKey>::zeroed();
     prepare(siv, nonce, kept.value_mut(), room.value_mut());
-    let keys = keys_in_room(kept.value(), siv.key_length as usize);
-    let tag = seal(
-        &Lent::<BuildWidth>::new(keys),
-        room.value(),
-        nonce,
-        additional,
-        text,
-    );
+    let tag = seal(&lent(kept.value()), room.value(), nonce, additional, text);
     kept.wipe();
     room.wipe();
     tag
@@ -107,11 +98,11 @@ fn seal_in<R: PolyvalRoom>(siv: &Siv, nonce: &[u8; 12], additional: &[u8], text:
 #[inline(never)]
 fn seal_message(siv: &Siv, nonce: &[u8; 12], additional: &[u8], text: &mut [u8]) -> Block
     requires made { IsSivMade siv.now }
-    requires key { IsKeySize siv.now.key_length }
+    requires key { HoldsSivKey siv.now }
     requires additional { length additional.now ≤ 2 ^ 36 }
     requires text { length text.old ≤ 2 ^ 36 }
-    ensures tag { result ≡ rfc.tag (siv_key_in siv.now) nonce.now additional.now text.old }
-    ensures encrypted { text.new ≡ rfc.text (siv_key_in siv.now) nonce.now result text.old }
+    ensures tag { result ≡ rfc.tag (key_in siv.now) nonce.now additional.now text.old }
+    ensures encrypted { text.new ≡ rfc.text (key_in siv.now) nonce.now result text.old }
 {
     if are_few(additional.len(), text.len()) {
         seal_in::<TableRoom>(siv, nonce, additional, text)
@@ -131,21 +122,20 @@ fn open_in<R: PolyvalRoom>(
     tag: &Block,
 ) -> bool
     requires made { IsSivMade siv.now }
-    requires key { IsKeySize siv.now.key_length }
+    requires key { HoldsSivKey siv.now }
     requires additional { length additional.now ≤ 2 ^ 36 }
     requires text { length text.old ≤ 2 ^ 36 }
     ensures accepted { IsTrue result ↔ IsAuthentic
-        (siv_key_in siv.now) nonce.now additional.now tag.now text.old }
+        (key_in siv.now) nonce.now additional.now tag.now text.old }
     ensures decrypted { IsTrue result → text.new
-        ≡ rfc.text (siv_key_in siv.now) nonce.now tag.now text.old }
+        ≡ rfc.text (key_in siv.now) nonce.now tag.now text.old }
     ensures untouched { result ≡ false → text.new ≡ text.old }
 {
     let mut room = MustWipe::<R>::zeroed();
-    let mut kept = MustWipe::<LaneRoom>::zeroed();
+    let mut kept = MustWipe::<KeptKey>::zeroed();
     prepare(siv, nonce, kept.value_mut(), room.value_mut());
-    let keys = keys_in_room(kept.value(), siv.key_length as usize);
     let is_right = open(
-        &Lent::<BuildWidth>::new(keys),
+        &lent(kept.value()),
         room.value(),
         nonce,
         additional,
@@ -168,13 +158,13 @@ fn open_message(
     tag: &Block,
 ) -> bool
     requires made { IsSivMade siv.now }
-    requires key { IsKeySize siv.now.key_length }
+    requires key { HoldsSivKey siv.now }
     requires additional { length additional.now ≤ 2 ^ 36 }
     requires text { length text.old ≤ 2 ^ 36 }
     ensures accepted { IsTrue result ↔ IsAuthentic
-        (siv_key_in siv.now) nonce.now additional.now tag.now text.old }
+        (key_in siv.now) nonce.now additional.now tag.now text.old }
     ensures decrypted { IsTrue result → text.new
-        ≡ rfc.text (siv_key_in siv.now) nonce.now tag.now text.old }
+        ≡ rfc.text (key_in siv.now) nonce.now tag.now text.old }
     ensures untouched { result ≡ false → text.new ≡ text.old }
 {
     if are_few(additional.len(), text.len()) {
@@ -197,12 +187,12 @@ pub extern "C" fn fotsgure_gcm_siv_seal(
     requires made { IsSivMade siv.now }
     ensures too_long { result ≡ TOO_LONG ↔ IsSivTooLong (length additional.now) (length text.old) }
     ensures done { result ≡ DONE ↔ (length additional.now ≤ 2 ^ 36)
-        × ((length text.old ≤ 2 ^ 36) × IsKeySize siv.now.key_length) }
+        × ((length text.old ≤ 2 ^ 36) × HoldsSivKey siv.now) }
     ensures refused { result ≢ DONE → result ≢ TOO_LONG → result ≡ NO_KEY }
     ensures tag { result ≡ DONE
-        → tag.new ≡ rfc.tag (siv_key_in siv.now) nonce.now additional.now text.old }
+        → tag.new ≡ rfc.tag (key_in siv.now) nonce.now additional.now text.old }
     ensures encrypted { result ≡ DONE → text.new
-        ≡ rfc.text (siv_key_in siv.now) nonce.now tag.new text.old }
+        ≡ rfc.text (key_in siv.now) nonce.now tag.new text.old }
     ensures untouched { result ≢ DONE → text.new ≡ text.old }
     ensures untouched_tag { result ≢ DONE → tag.new ≡ tag.old }
 {
@@ -229,13 +219,13 @@ pub extern "C" fn fotsgure_gcm_siv_open(
     requires made { IsSivMade siv.now }
     ensures too_long { result ≡ TOO_LONG ↔ IsSivTooLong (length additional.now) (length text.old) }
     ensures no_key { result ≡ NO_KEY ↔ (length additional.now ≤ 2 ^ 36)
-        × ((length text.old ≤ 2 ^ 36) × ¬ IsKeySize siv.now.key_length) }
+        × ((length text.old ≤ 2 ^ 36) × ¬ HoldsSivKey siv.now) }
     ensures done { result ≡ DONE ↔ (length additional.now ≤ 2 ^ 36) × ((length text.old ≤ 2 ^ 36)
-        × (IsKeySize siv.now.key_length
-        × IsAuthentic (siv_key_in siv.now) nonce.now additional.now tag.now text.old)) }
+        × (HoldsSivKey siv.now
+        × IsAuthentic (key_in siv.now) nonce.now additional.now tag.now text.old)) }
     ensures refused { result ≢ DONE → result ≢ TOO_LONG → result ≢ NO_KEY → result ≡ REFUSED }
     ensures decrypted { result ≡ DONE → text.new
-        ≡ rfc.text (siv_key_in siv.now) nonce.now tag.now text.old }
+        ≡ rfc.text (key_in siv.now) nonce.now tag.now text.old }
     ensures untouched { result ≢ DONE → text.new ≡ text.old }
 {
     let status = siv_refusal(siv, additional.len(), text.len());

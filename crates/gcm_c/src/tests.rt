@@ -1,6 +1,6 @@
 //! Each export once, on published messages.
 
-ghost use Rattle.std.specs.Prelude.{◌≡◌};
+ghost use Rattle.gcm_c.specs.Form.{HoldsKey};
 
 use super::published::{MESSAGE_16, MESSAGE_24};
 use super::{
@@ -8,6 +8,7 @@ use super::{
     fotsgure_gcm_key_length, fotsgure_gcm_open, fotsgure_gcm_seal, fotsgure_gcm_seal_next,
     fotsgure_gcm_set_key, fotsgure_gcm_version, fotsgure_gcm_wipe,
 };
+use aes_cipher::zeroize::Zeroize;
 
 // Test cases 4 and 16 of McGrew and Viega, "The Galois/Counter Mode of Operation (GCM)", appendix
 // B: the key, whose first half is that of case 4, the nonce, the additional data, the text, its
@@ -53,13 +54,9 @@ const TAG_32: u128 = 0x76fc6ece0f4e1768cddf8853bb2d551b;
 
 /// A struct without a key.
 pub(crate) fn no_key() -> Gcm
-    ensures { result.key_length ≡ 0 }
+    ensures { ¬ HoldsKey result.key }
 {
-    Gcm {
-        key_length: 0,
-        round_keys: [[0; 16]; 15],
-        multiples: [[0; 16]; 96],
-    }
+    Zeroize::zero()
 }
 
 // Whether the message is sealed under a key as the paper says, and opened again.

@@ -2,7 +2,7 @@
 
 ghost use Rattle.std.specs.Prelude.{◌≡◌, ◌≢◌, ◌↔◌, ◌-◌, ◌/◌, ◌^◌, ◌<◌, ◌≤◌, length};
 ghost use Rattle.gcm.specs.Gcm as nist;
-ghost use Rattle.aes_cipher.specs.KeySizes.{IsKeySize};
+ghost use Rattle.gcm_c.specs.Form.{HoldsKey};
 ghost use Rattle.gcm_c.specs.Kept.{round_keys_in, IsMade, IsNonceLength, IsTooLong};
 
 use crate::kept::{Gcm, holds_key, mode_of};
@@ -15,7 +15,7 @@ fn refusal(gcm: &Gcm, nonce: usize, additional: usize, text: usize) -> u32
     ensures too_long { result ≡ TOO_LONG ↔ IsNonceLength nonce × IsTooLong additional text }
     ensures done { result ≡ DONE ↔ IsNonceLength nonce
         × ((additional < 2 ^ 61) × ((text ≤ 2 ^ 36 - 32)
-        × IsKeySize gcm.now.key_length)) }
+        × HoldsKey gcm.now.key)) }
     ensures refused { result ≢ DONE → result ≢ NONCE_LENGTH → result ≢ TOO_LONG → result ≡ NO_KEY }
 {
     if nonce == 0 || nonce as u64 > LONGEST_HASHED {
@@ -47,7 +47,7 @@ pub extern "C" fn fotsgure_gcm_seal(
         ↔ IsNonceLength (length nonce.now) × IsTooLong (length additional.now) (length text.old) }
     ensures done { result ≡ DONE ↔ IsNonceLength (length nonce.now)
         × ((length additional.now < 2 ^ 61)
-        × ((length text.old ≤ 2 ^ 36 - 32) × IsKeySize gcm.now.key_length)) }
+        × ((length text.old ≤ 2 ^ 36 - 32) × HoldsKey gcm.now.key)) }
     ensures refused { result ≢ DONE → result ≢ NONCE_LENGTH → result ≢ TOO_LONG → result ≡ NO_KEY }
     ensures encrypted { result ≡ DONE → text.new
         ≡ nist.text (round_keys_in gcm.now) nonce.now text.old }
@@ -84,10 +84,10 @@ pub extern "C" fn fotsgure_gcm_open(
         × IsTooLong (length additional.now) (length text.old)) }
     ensures no_key { result ≡ NO_KEY ↔ (length tag.now ≡ 16) × (IsNonceLength (length nonce.now)
         × ((length additional.now < 2 ^ 61)
-        × ((length text.old ≤ 2 ^ 36 - 32) × ¬ IsKeySize gcm.now.key_length))) }
+        × ((length text.old ≤ 2 ^ 36 - 32) × ¬ HoldsKey gcm.now.key))) }
     ensures done { result ≡ DONE ↔ (length tag.now ≡ 16) × (IsNonceLength (length nonce.now)
         × ((length additional.now < 2 ^ 61)
-        × ((length text.old ≤ 2 ^ 36 - 32) × (IsKeySize gcm.now.key_length
+        × ((length text.old ≤ 2 ^ 36 - 32) × (HoldsKey gcm.now.key
         × (tag.now ≡ nist.tag (round_keys_in gcm.now) nonce.now additional.now text.old))))) }
     ensures refused { result ≢ DONE → result ≢ TAG_LENGTH → result ≢ NONCE_LENGTH
         → result ≢ TOO_LONG

@@ -2,32 +2,25 @@
 use Rattle.std.proofs.Common.{◌∙◌, ℕ, ap, sym}
 use Rattle.std.specs.Int.{w128, from_le_bytes}
 use Rattle.aes_planes.specs.Fips197.{key_expansion}
-use Rattle.aes_permute.specs.Keys.{key_of_lanes, stored_keys}
 use Rattle.gcm_siv.specs.GcmSiv.{authentication_key, tag, tag_under, text, text_under}
-use Rattle.gcm_c.specs.Siv.{siv_key_in}
+use Rattle.gcm_c.specs.Form.{key_in}
 use Rattle.gcm_c.proofs.siv.open_in.Goals as goal
 
 pub returns-clause-accepted : goal.returns-clause-accepted
 unfolding tag text
 returns-clause-accepted g c =
-    let n = c.args.siv.now.key_length in
     let h : ℕ = from_le_bytes w128
-    (authentication_key (siv_key_in c.args.siv.now) c.args.nonce.now) in
+    (authentication_key (key_in c.args.siv.now) c.args.nonce.now) in
     let right = c.open-is_right.ensures.accepted h c.prepare.ensures.small
     (ap g.R.PolyvalRoom.element c.value-2.ensures ∙ c.prepare.ensures.authentication) in
     let same = ap (λ k. tag_under (key_expansion k) h c.args.nonce.now c.args.additional.now
     (text_under (key_expansion k) c.args.tag.now c.args.text.now))
-    (c.new.ensures ∙ ap key_of_lanes (c.keys_in_room-keys.ensures.keys
-    ∙ ap (stored_keys n) c.value.ensures)
-    ∙ c.prepare.ensures.encryption) in
+    (c.lent.ensures.key ∙ ap key_in c.value.ensures ∙ c.prepare.ensures.encryption) in
     (λ e. right.0 e ∙ same, λ is. right.1 (is ∙ sym same))
 
 pub returns-clause-decrypted : goal.returns-clause-decrypted
 unfolding text
 returns-clause-decrypted g c = λ yes.
-    let n = c.args.siv.now.key_length in
     c.open-is_right.ensures.decrypted yes
     ∙ ap (λ k. text_under (key_expansion k) c.args.tag.now c.args.text.now)
-    (c.new.ensures ∙ ap key_of_lanes (c.keys_in_room-keys.ensures.keys
-    ∙ ap (stored_keys n) c.value.ensures)
-    ∙ c.prepare.ensures.encryption)
+    (c.lent.ensures.key ∙ ap key_in c.value.ensures ∙ c.prepare.ensures.encryption)

@@ -2,30 +2,23 @@
 use Rattle.std.proofs.Common.{◌∙◌, ℕ, ap}
 use Rattle.std.specs.Int.{w128, from_le_bytes}
 use Rattle.aes_planes.specs.Fips197.{key_expansion}
-use Rattle.aes_permute.specs.Keys.{key_of_lanes, stored_keys}
 use Rattle.gcm_siv.specs.GcmSiv.{authentication_key, tag, tag_under, text, text_under}
-use Rattle.gcm_c.specs.Siv.{siv_key_in}
+use Rattle.gcm_c.specs.Form.{key_in}
 use Rattle.gcm_c.proofs.siv.seal_in.Goals as goal
 
 pub returns-clause-tag : goal.returns-clause-tag
 unfolding tag
 returns-clause-tag g c =
-    let n = c.args.siv.now.key_length in
     let h : ℕ = from_le_bytes w128
-    (authentication_key (siv_key_in c.args.siv.now) c.args.nonce.now) in
+    (authentication_key (key_in c.args.siv.now) c.args.nonce.now) in
     c.seal-tag.ensures.tag h c.prepare.ensures.small
     (ap g.R.PolyvalRoom.element c.value-2.ensures ∙ c.prepare.ensures.authentication)
     ∙ ap (λ k. tag_under (key_expansion k) h c.args.nonce.now c.args.additional.now c.args.text.now)
-    (c.new.ensures ∙ ap key_of_lanes (c.keys_in_room-keys.ensures.keys
-    ∙ ap (stored_keys n) c.value.ensures)
-    ∙ c.prepare.ensures.encryption)
+    (c.lent.ensures.key ∙ ap key_in c.value.ensures ∙ c.prepare.ensures.encryption)
 
 pub returns-clause-encrypted : goal.returns-clause-encrypted
 unfolding text
 returns-clause-encrypted g c =
-    let n = c.args.siv.now.key_length in
     c.seal-tag.ensures.text
     ∙ ap (λ k. text_under (key_expansion k) c.seal-tag.result c.args.text.now)
-    (c.new.ensures ∙ ap key_of_lanes (c.keys_in_room-keys.ensures.keys
-    ∙ ap (stored_keys n) c.value.ensures)
-    ∙ c.prepare.ensures.encryption)
+    (c.lent.ensures.key ∙ ap key_in c.value.ensures ∙ c.prepare.ensures.encryption)

@@ -1,2 +1,0 @@
--- The files of lemmas.
-pub mod OnLiterals
