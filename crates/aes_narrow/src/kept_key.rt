@@ -1,44 +1,41 @@
-//! A key as its stored round keys, in a struct that a caller keeps. It has C's layout.
+//! A key as its stored round keys, in a struct that a caller keeps. It has C's layout, and so no
+//! type parameter: its words have 32 bits.
 
 ghost use Rattle.std.specs.Prelude.{◌≡◌, ◌↔◌, length, IsTrue};
 ghost use Rattle.aes_cipher.specs.KeySizes.{IsKeySize};
 ghost use Rattle.aes_narrow.specs.KeptKey.{key_in, no_key, HoldsKey, IsKept, IsZeroAfter};
 
 use crate::lent::LentWords;
-use crate::narrow_word::NarrowWord;
 use crate::word_room::{WordRoom, expand_in_words, is_key_size, keys_in_words};
 use aes_cipher::not_clone::NotClone;
-use aes_cipher::zeroize::{Element, Zeroize, zeroize_elements};
+use aes_cipher::zeroize::{Zeroize, zeroize_elements};
+
+/// The words of a key that is kept.
+pub type KeptWord = u32;
 
 /// A key that is kept, for both directions. Its words are as secret as the key.
 #[repr(C)]
-pub struct KeptKey<W: NarrowWord> {
+#[derive(Drop)]
+pub struct KeptKey {
     /// How many bytes the key has: 16, 24 or 32; 0 if there is no key.
     pub length: u32,
     /// The planes of the stored round keys, in the first 88, 104 or 120 words.
-    pub round_keys: WordRoom<W>,
+    pub round_keys: WordRoom<KeptWord>,
 }
 
-impl<W: NarrowWord> Drop for KeptKey<W> {
-    #[inline(always)]
-    fn drop(self) {
-        let KeptKey {
-            length: _,
-            round_keys: _,
-        } = self;
-    }
-}
+// With nothing between its fields.
+const _: () = prove!(size_of::<KeptKey>() == 121 * size_of::<KeptWord>());
 
-impl<W: NarrowWord> NotClone for KeptKey<W> {}
+impl NotClone for KeptKey {}
 
-impl<W: NarrowWord> Zeroize for KeptKey<W> {
-    ghost ZERO = { no_key W.ZERO };
+impl Zeroize for KeptKey {
+    ghost ZERO = { no_key };
 
     #[inline(always)]
-    fn zero() -> KeptKey<W> {
+    fn zero() -> KeptKey {
         KeptKey {
             length: 0,
-            round_keys: [<W as Element>::zero(); 120],
+            round_keys: [0; 120],
         }
     }
 
@@ -49,7 +46,7 @@ impl<W: NarrowWord> Zeroize for KeptKey<W> {
     }
 }
 
-impl<W: NarrowWord> KeptKey<W> {
+impl KeptKey {
     /// Returns whether the struct holds a key.
     #[inline(always)]
     pub fn holds_key(&self) -> bool
@@ -76,22 +73,22 @@ impl<W: NarrowWord> KeptKey<W> {
     #[inline(always)]
     pub fn set(&mut self, key: &[u8])
         requires { IsKeySize (length key.now) }
-        ensures kept { IsKept W.bits W.BLOCKS self.new }
-        ensures key { key_in W.bits W.BLOCKS self.new ≡ key.now }
+        ensures kept { IsKept self.new }
+        ensures key { key_in self.new ≡ key.now }
         ensures length { self.new.length ≡ length key.now }
-        ensures after { IsZeroAfter W.ZERO self.new }
+        ensures after { IsZeroAfter self.new }
     {
-        *self = KeptKey::zero();
+        self.round_keys = [0; 120];
         expand_in_words(&mut self.round_keys, key);
         self.length = key.len() as u32;
     }
 
     /// Lends the key of a struct that holds one as a cipher for both directions.
     #[inline(always)]
-    pub fn lent(&self) -> LentWords<'_, W>
-        requires kept { IsKept W.bits W.BLOCKS self.now }
+    pub fn lent(&self) -> LentWords<'_, KeptWord>
+        requires kept { IsKept self.now }
         requires holds { HoldsKey self.now }
-        ensures key { result ≡ key_in W.bits W.BLOCKS self.now }
+        ensures key { result ≡ key_in self.now }
         ensures size { length result ≡ self.now.length }
     {
         LentWords::new(keys_in_words(&self.round_keys, self.length as usize))

@@ -4,7 +4,6 @@ ghost use Rattle.std.specs.Prelude.{◌≡◌, ℕ, refl};
 ghost use Rattle.std.proofs.Common.{arith};
 
 use aes_cipher::cipher::{BatchOfFour, BatchSize};
-use aes_cipher::zeroize::Element;
 use aes_planes::soft::word::{Batch, Word};
 
 /// Two blocks, as many as eight words of 32 bits hold.
@@ -19,7 +18,7 @@ impl BatchSize for BatchOfTwo {
 }
 
 /// A word on which a narrow processor computes.
-pub trait NarrowWord: Word + Element {
+pub trait NarrowWord: Word {
     /// How many blocks eight words hold, as a type.
     type Par: BatchSize;
 
