@@ -87,3 +87,13 @@ folded l = bit_xor (bit_xor (bit_xor l (l / 2)) (l / 4)) (l / 128)
 unfoldable pub reduced : ℕ → ℕ → ℕ
 unfolding folded
 reduced k l = bit_xor k (folded l)
+
+-- ---- room for H alone
+
+-- the block that stands there
+abbrev pub subkey_alone : List (List ℕ) → ℕ
+subkey_alone room = from_be_bytes w128 (slice_index_or room 0 [])
+
+-- every room for it has a block
+abbrev pub IsAlone : List (List ℕ) → Type 0
+IsAlone room = Unit {0}

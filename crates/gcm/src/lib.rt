@@ -2,12 +2,14 @@
 //! that encrypts.
 #![tactic(auto)]
 
+mod bitwise;
 mod counter;
 mod errors;
 pub mod examples;
 mod field;
 mod gctr;
 mod hash;
+mod hash_room;
 mod laws;
 mod message;
 mod mode;
@@ -19,10 +21,12 @@ mod order;
 mod pieces;
 mod row_pairs;
 
+pub use bitwise::{hash_bitwise, hash_string_bitwise, product_bitwise};
 pub use counter::Counter;
 pub use errors::{InvalidMessage, InvalidPiece, NotAccepted, OutOfTurn, Refused, TooLong};
 pub use field::next_v;
 pub use hash::{hash_singly, hash_string, hash_string_and};
+pub use hash_room::{HashRoom, LentRoom, SubkeyRoom};
 pub use laws::{text_twice, turns};
 pub use message::{Message, Phase};
 pub use mode::{Gcm, LONGEST_HASHED, LONGEST_TEXT, LentGcm, SHALLOW, is_short_tag, prepare};

@@ -14,7 +14,7 @@ ghost use Rattle.gcm.specs.declared.message.Phase.{Phase};
 use crate::counter::Counter;
 use crate::errors::{InvalidMessage, InvalidPiece, NotAccepted, OutOfTurn};
 use crate::gctr::{BlockRoom, add_gctr};
-use crate::hash::{hash_on, hash_piece};
+use crate::hash_room::{HashRoom, hash_on, hash_piece};
 use crate::message::{Message, Phase, number_of_phase, phase_of};
 use crate::mode::{
     DEEP, LONGEST_HASHED, LONGEST_TEXT, LentGcm, SHALLOW, add_masked, hash_lengths, is_expected,
@@ -67,7 +67,7 @@ fn wipe_hash_of(nonce: &[u8]) {
     }
 }
 
-impl<'a, C: BlockCipherEncrypt> LentGcm<'a, C> {
+impl<'a, C: BlockCipherEncrypt, R: HashRoom> LentGcm<'a, C, R> {
     /// Begins a message under a nonce that is never used twice under a key. A nonce has any length;
     /// 12 bytes are advised. Nothing is left of a message that was there before.
     ///

@@ -4,14 +4,15 @@ ghost use Rattle.std.specs.Prelude.{◌≡◌, ℕ, List, ◌*◌, ◌^◌, ◌<
 ghost use Rattle.std.specs.Int.{w64, w128, to_le_bytes, from_le_bytes, from_be_bytes};
 ghost use Rattle.gcm.specs.Gcm.{next_v};
 ghost use Rattle.gcm.specs.Multiples.{subkey_in, HasMultiples, IsTable};
+ghost use Rattle.gcm.specs.Multiples.{subkey_alone, IsAlone};
 ghost use Rattle.gcm_siv.specs.GcmSiv.{hash, length_block};
 
-use aes_cipher::blocks::{block_of_halves, number_of_block};
+use aes_cipher::blocks::{block_of_halves, block_of_number, number_of_block};
 use aes_cipher::cipher::Block;
 use aes_cipher::zeroize::Zeroize;
 use gcm::{
-    ByteOrder, Multiples, Room, Table, TableRoom, hash_singly, hash_string, hash_string_and,
-    put_multiples, put_one_table, sum,
+    ByteOrder, Multiples, Room, SubkeyRoom, Table, TableRoom, hash_singly, hash_string,
+    hash_string_and, hash_string_bitwise, product_bitwise, put_multiples, put_one_table, sum,
 };
 use std::simd::prelude::*;
 
@@ -114,5 +115,26 @@ impl PolyvalRoom for Room {
         let value = hash_string::<LowestFirst>(&multiples, u8x16::splat(0), additional);
         let end = last_block(additional, text);
         bytes_of(hash_string_and::<LowestFirst>(&multiples, value, text, end))
+    }
+}
+
+// Where a processor has no byte shuffle: the factor alone, and products bit by bit.
+impl PolyvalRoom for SubkeyRoom {
+    ghost IsMade = { IsAlone };
+
+    ghost element = { subkey_alone };
+
+    #[inline(always)]
+    fn put(&mut self, factor: u128) {
+        self[0] = block_of_number(factor);
+    }
+
+    fn hash(&self, additional: &[u8], text: &[u8]) -> Block {
+        let factor = number_of_block(&self[0]);
+        let first = hash_string_bitwise::<LowestFirst>(factor, 0, additional);
+        let second = hash_string_bitwise::<LowestFirst>(factor, first, text);
+        let lengths = last_block(additional, text).to_array();
+        let end = number_of_block(&lengths);
+        product_bitwise(second ^ end, factor).to_le_bytes()
     }
 }

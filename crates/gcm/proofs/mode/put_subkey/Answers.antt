@@ -11,6 +11,6 @@ unfolding hash_subkey
 returns-clause-subkey g c =
     let w = g.C.RoundKeysUser.round_keys c.args.cipher.now in
     let lent = c.value_mut.ensures.value ∙ c.zeroed-subkey.ensures in
-    c.put_multiples.ensures.subkey ∙ c.number_of_block.ensures.number
+    c.put.ensures.subkey ∙ c.number_of_block.ensures.number
     ∙ ap (from_be_bytes w128) (one_block_of _ _ _ _ _ lent c.value.ensures
     ∙ c.encrypt_block.ensures ∙ ap (λ l. cipher_with w (slice_index_or l 0 [])) lent)

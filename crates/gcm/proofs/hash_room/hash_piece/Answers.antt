@@ -1,4 +1,4 @@
--- What is left to show of `hash::hash_piece`.
+-- What is left to show of `hash_room::hash_piece`.
 use Rattle.std.proofs.Common.{◌≡◌, ℕ, ◌+◌, ◌-◌, ◌*◌, ◌/◌, ◌≤◌, ◌∙◌, List, ◌++◌, ap, arith, bit_xor}
 use Rattle.std.proofs.Common.{length, length-take, length-drop, subst, sym, take, drop}
 use Rattle.std.proofs.lemmas.List.{take-append-drop, take_all}
@@ -8,11 +8,11 @@ use Rattle.std.specs.Int.{w128, from_be_bytes}
 use Rattle.gcm.specs.Gcm.{product, hashed, padded}
 use Rattle.gcm.specs.Pieces.{IsHashing}
 use Rattle.gcm.proofs.InPieces.{unfilled, three_parts}
-use Rattle.gcm.proofs.hash.hash_piece.Goals as goal
+use Rattle.gcm.proofs.hash_room.hash_piece.Goals as goal
 use borrow.Rule.Slice.PartMut.{post_of, put_mid, same_len_mid}
 
 pub returns-then-bytes-filled : goal.returns-then-bytes-filled
-returns-then-bytes-filled c y s places is =
+returns-then-bytes-filled g c y s places is =
     let b : List ℕ = c.args.bytes.now in
     let rest : List ℕ = c.args.rest.now in
     let f : ℕ = c.args.filled in
@@ -26,7 +26,7 @@ returns-then-bytes-filled c y s places is =
     ∙ (λ t. take (sym places t) rest ++ same t))
 
 pub returns : goal.returns
-returns c y s places is =
+returns g c y s places is =
     let h : ℕ = c.args.multiples.now in
     let b : List ℕ = c.args.bytes.now in
     let rest : List ℕ = c.args.rest.now in

@@ -1,0 +1,9 @@
+-- What holds in the loops of `blocks::batch_of_few`.
+use Rattle.std.proofs.Common.{◌≡◌, length, take}
+use Rattle.aes_narrow.proofs.blocks.batch_of_few.Given as goal
+
+abbrev pub invariant-fill : goal.invariant-fill
+invariant-fill g l = record {
+  sized : length (g.B.Batch.blocks l.batch) ≡ g.B.Batch.LEN;
+  copied : take l.k (g.B.Batch.blocks l.batch) ≡ take l.k l.blocks;
+}

@@ -1,0 +1,22 @@
+-- What is left to show of `examples::stored_example`.
+use Rattle.std.proofs.Common.{List, Bool, map, refl, sym, subst}
+use Rattle.aes_planes.specs.Words.{word_bits}
+use Rattle.aes_narrow.specs.declared.examples.TheConstants.{WORDS}
+use Rattle.aes_soft.specs.Stored.{full, HoldsKeys}
+use Rattle.aes_soft.proofs.OnLiterals.{stored_on_literals, below_tells}
+use Rattle.aes_narrow.proofs.examples.stored_example.Goals as goal
+
+abbrev planes : List (List Bool)
+planes = map (word_bits 32) WORDS
+
+pub returns : goal.returns
+unfolding stored_on_literals
+returns c =
+    subst (λ w. HoldsKeys 2 (full 10) w planes) (sym c.key_expansion_128.ensures)
+    (below_tells 11 _ (
+      (
+        (((((((((tt, refl), refl), refl), refl), refl), refl), refl), refl), refl),
+        refl,
+      ),
+      refl,
+    ))

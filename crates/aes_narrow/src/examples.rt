@@ -1,0 +1,42 @@
+//! Round keys as words of 32 bits store them, at values from outside, as contracts, so that a slip
+//! in a definition is refused. The calls have no effect.
+//!
+//! `bytes n 0x..` is the n bytes that these digits write. The words were computed by a separate
+//! model in Python, from the standard and the layout: bit 8 r + 2 c + k of word 8 i + p is bit p of
+//! the byte in row r and column c of what is stored for round key i, for both k.
+
+ghost use Rattle.std.specs.Prelude.{◌≡◌, ◌∷◌, [], map};
+ghost use Rattle.aes_planes.specs.BigEndian.{bytes};
+ghost use Rattle.aes_planes.specs.Words.{word_bits};
+ghost use Rattle.aes_soft.specs.Stored.{full, words_for, IsSchedule};
+
+use aes_planes::examples::key_expansion_128;
+
+// The words of the key of FIPS 197, A.1.
+const WORDS: [u32; 88] = [
+    0x00f3f0f3, 0x0fccff33, 0xcff3ff00, 0xf0c0cfff, 0xc33f3300, 0xcc003f3f, 0x00ccf300, 0x3c0cfc30,
+    0x00fc3fcf, 0x3fc3330f, 0xf0fc3300, 0x0cf30fcc, 0xcf3f3c00, 0xf000300c, 0xffc3c0ff, 0x0330cc0f,
+    0x33f0f00f, 0x003f0f30, 0x0cc3c300, 0x0f0c0c3c, 0x3fcfcfff, 0xc033fc30, 0x003fc300, 0x30fff003,
+    0xf0cff330, 0xcc0cc0c3, 0xfcf303ff, 0x3fcf30f3, 0x3fc33333, 0xc03cc33c, 0x330ccf33, 0x00ccc000,
+    0xc0000f3c, 0xc3f3330c, 0x0cf30333, 0x3cccc0cf, 0x3c0c3cf0, 0xc30ccfc0, 0xf0f3c03c, 0x00c300ff,
+    0xfc33c03f, 0xfccf0fcf, 0x3ffc000f, 0xfcc3033c, 0xfccfcfcf, 0x03fc3cf3, 0x3fcf30c0, 0xfff3ff33,
+    0x303c3cc0, 0xcf003f0f, 0xcc3c0003, 0xfc0cf3f3, 0xfccc033c, 0x03f0fcfc, 0x00fffc0c, 0xccf333f0,
+    0xcc0cfcf3, 0x00ccc030, 0x0f3fffff, 0x0fcf03cf, 0xf03cc30c, 0x0fcfc3ff, 0xcc003c30, 0xf0fc3c30,
+    0x3c0c0303, 0x33f0cc3c, 0xc030cccc, 0xc0ccfcc3, 0x0c3f03fc, 0x0c00cf00, 0xc3ccfc3c, 0x0c3ccf0f,
+    0x30fc3333, 0x0fcfc33f, 0x30f00fc3, 0x30c3333f, 0xc0c0ffcc, 0x0cccc3cc, 0x030f003f, 0xc0c0f003,
+    0xf3f00fc3, 0x3fff033f, 0xc0fc3fc0, 0x3ff33c0c, 0x000333c3, 0x3cf0030f, 0xcffc33c0, 0xff030cff,
+];
+
+/// What is stored for the key of A.1: each round key twice, for the two blocks that words hold.
+pub fn stored_example()
+    ensures { IsSchedule 2 (full 10) (bytes 16 0x2b7e151628aed2a6abf7158809cf4f3c)
+        (map (word_bits 32) WORDS) }
+{
+    key_expansion_128();
+}
+
+/// How many words are stored for keys of 16, 24 and 32 bytes: eight for each of 11, 13 and 15 round
+/// keys.
+pub fn count_examples()
+    ensures { map words_for (16 ∷ 24 ∷ 32 ∷ []) ≡ 88 ∷ 104 ∷ 120 ∷ [] }
+{}

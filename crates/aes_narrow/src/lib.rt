@@ -1,0 +1,11 @@
+//! AES on words of bit planes alone, for processors with neither vectors nor a byte shuffle (FIPS
+//! 197). The round keys of a key are stored as planes, and serve both directions.
+#![tactic(auto)]
+
+mod backend;
+pub mod blocks;
+pub mod examples;
+pub mod kept_key;
+pub mod lent;
+pub mod narrow_word;
+pub mod word_room;

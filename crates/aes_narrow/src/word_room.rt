@@ -1,0 +1,63 @@
+//! Room for the planes of stored round keys of a key of any size, and the first of its words, which
+//! are the round keys.
+
+ghost use Rattle.std.specs.Prelude.{◌≡◌, ◌↔◌, ◌+◌, ◌*◌, drop, length, take, IsTrue};
+ghost use Rattle.aes_cipher.specs.KeySizes.{IsKeySize};
+ghost use Rattle.aes_soft.specs.Stored.{key_of_planes, words_for, IsFullSchedule};
+
+use aes_cipher::zeroize::wipe_stack;
+use aes_planes::soft::sbox::Layers;
+use aes_planes::soft::word::Word;
+use aes_soft::soft::{Full, expand_stored};
+
+/// Room for the round keys of a key of any size in the full layout: as many words as the largest
+/// has.
+pub type WordRoom<W> = [W; 120];
+
+/// Returns whether keys have so many bytes: 16, 24 or 32.
+pub fn is_key_size(bytes: usize) -> bool
+    ensures { IsTrue result ↔ IsKeySize bytes }
+{
+    bytes == 16 || bytes == 24 || bytes == 32
+}
+
+/// Returns the stored round keys of a key of `size` bytes: the first of the words.
+#[inline(always)]
+pub fn keys_in_words<W: Word>(room: &WordRoom<W>, size: usize) -> &[W]
+    requires { IsKeySize size }
+    ensures keys { result.now ≡ take (words_for size) room.now }
+    ensures count { length result.now ≡ words_for size }
+{
+    &room[..2 * size + 56]
+}
+
+// How many bytes of stack the expansion of a key takes at most.
+const EXPANSION_STACK: usize = 768;
+
+// Writes the round keys of a key, as the full layout stores them. In a call of its own, so that its
+// stack can be wiped.
+#[inline(never)]
+fn expand_words<W: Word>(words: &mut [W], key: &[u8])
+    requires one_of_three { IsKeySize (length key.now) }
+    requires sized { length words.old ≡ words_for (length key.now) }
+    ensures schedule { IsFullSchedule W.bits W.BLOCKS words.new }
+    ensures key { key_of_planes W.bits W.BLOCKS words.new ≡ key.now }
+    ensures same_length { length words.new ≡ length words.old }
+{
+    expand_stored::<W, Full>(words, key, &mut Layers::new());
+}
+
+/// Writes the round keys of a key, as the full layout stores them: KeyExpansion (FIPS 197, 5.2).
+/// The stack that this took is wiped before the call returns.
+#[inline(always)]
+pub fn expand_in_words<W: Word>(room: &mut WordRoom<W>, key: &[u8])
+    requires { IsKeySize (length key.now) }
+    ensures schedule { IsFullSchedule W.bits W.BLOCKS (take (words_for (length key.now)) room.new) }
+    ensures key { key_of_planes W.bits W.BLOCKS (take (words_for (length key.now)) room.new)
+        ≡ key.now }
+    ensures after { drop (words_for (length key.now)) room.new
+        ≡ drop (words_for (length key.now)) room.old }
+{
+    expand_words::<W>(&mut room[..2 * key.len() + 56], key);
+    wipe_stack::<EXPANSION_STACK>();
+}

@@ -1,0 +1,198 @@
+//! Room for what GHASH takes of a block H, and GHASH over it: tables of H's multiples where a
+//! processor has a byte shuffle, H alone where it has none.
+
+ghost use Rattle.std.specs.Prelude.{◌≡◌, ℕ, List, ◌/◌, ◌%◌, ◌<◌, ◌++◌, length};
+ghost use Rattle.gcm.specs.Pieces.{IsHashing};
+ghost use Rattle.std.specs.Int.{w128, from_be_bytes};
+ghost use Rattle.std.specs.Int.Bits.{bit_xor};
+ghost use Rattle.gcm.specs.Gcm.{hashed, padded, product};
+ghost use Rattle.gcm.specs.Multiples.{subkey_in, HasMultiples, subkey_alone, IsAlone};
+
+use crate::bitwise::{hash_string_bitwise, product_bitwise};
+use crate::hash;
+use crate::multiples::{Multiples, Room, put_multiples};
+use crate::order::HighestFirst;
+use aes_cipher::blocks::{block_of_number, number_of_block};
+use aes_cipher::cipher::Block;
+use aes_cipher::zeroize::Zeroize;
+use std::marker::Model;
+
+/// Room for what products with a block H take. It is as secret as H.
+pub trait HashRoom: Zeroize {
+    /// It stands there.
+    ghost IsMade: { Self → Type 0 };
+
+    /// The block H.
+    ghost subkey: { Self → ℕ };
+
+    /// Writes what products with H take.
+    fn put(&mut self, h: u128)
+        ensures made { IsMade self.new }
+        ensures subkey { subkey self.new ≡ h };
+
+    /// Returns the product of a block and H (6.3). No branch and no address depends on either.
+    fn product(&self, x: u128) -> u128
+        requires { IsMade self.now }
+        ensures { result ≡ product x (subkey self.now) };
+
+    /// Returns the value of GHASH after more bytes, with zeros behind them that fill the last
+    /// block.
+    fn hash_on(&self, value: u128, bytes: &[u8]) -> u128
+        requires { IsMade self.now }
+        ensures { result ≡ hashed (subkey self.now) value (padded bytes.now)
+            (length (padded bytes.now) / 16) };
+
+    /// The same, and after one block more.
+    fn hash_to_end(&self, value: u128, bytes: &[u8], end: &Block) -> u128
+        requires { IsMade self.now }
+        ensures { let before =
+            hashed (subkey self.now) value (padded bytes.now) (length (padded bytes.now) / 16) in
+            result ≡ product (bit_xor before (from_be_bytes w128 end.now)) (subkey self.now) };
+}
+
+// Multiples of H, of its square and of its cube, which byte shuffles look up.
+impl HashRoom for Room {
+    ghost IsMade = { HasMultiples };
+
+    ghost subkey = { subkey_in };
+
+    #[inline(always)]
+    fn put(&mut self, h: u128) {
+        put_multiples(self, h);
+    }
+
+    #[inline(always)]
+    fn product(&self, x: u128) -> u128 {
+        Multiples::lent(self).product(x)
+    }
+
+    #[inline(always)]
+    fn hash_on(&self, value: u128, bytes: &[u8]) -> u128 {
+        let multiples = Multiples::lent(self);
+        hash::hash_on(&multiples, value, bytes)
+    }
+
+    #[inline(always)]
+    fn hash_to_end(&self, value: u128, bytes: &[u8], end: &Block) -> u128 {
+        let multiples = Multiples::lent(self);
+        hash::hash_to_end(&multiples, value, bytes, end)
+    }
+}
+
+/// Room for H alone.
+pub type SubkeyRoom = [Block; 1];
+
+// H alone: products are made bit by bit.
+impl HashRoom for SubkeyRoom {
+    ghost IsMade = { IsAlone };
+
+    ghost subkey = { subkey_alone };
+
+    #[inline(always)]
+    fn put(&mut self, h: u128) {
+        self[0] = block_of_number(h);
+    }
+
+    #[inline(always)]
+    fn product(&self, x: u128) -> u128 {
+        product_bitwise(x, number_of_block(&self[0]))
+    }
+
+    #[inline(always)]
+    fn hash_on(&self, value: u128, bytes: &[u8]) -> u128 {
+        hash_string_bitwise::<HighestFirst>(number_of_block(&self[0]), value, bytes)
+    }
+
+    #[inline(always)]
+    fn hash_to_end(&self, value: u128, bytes: &[u8], end: &Block) -> u128 {
+        let h = number_of_block(&self[0]);
+        let before = hash_string_bitwise::<HighestFirst>(h, value, bytes);
+        product_bitwise(before ^ number_of_block(end), h)
+    }
+}
+
+/// What products with a block H take, in room that is lent. Contracts see a value as H.
+#[derive(Drop)]
+pub struct LentRoom<'a, R: HashRoom> {
+    room: &'a R,
+}
+
+impl<'a, R: HashRoom> Model for LentRoom<'a, R> {
+    ghost Value = { ℕ };
+
+    ghost view = { λ lent. R.subkey lent.room.now };
+
+    ghost invariant = { λ lent. R.IsMade lent.room.now };
+}
+
+impl<'a, R: HashRoom> LentRoom<'a, R> {
+    /// Takes room that was written.
+    #[inline(always)]
+    pub fn new(room: &'a R) -> LentRoom<'a, R>
+        requires { R.IsMade room.now }
+        ensures { result ≡ R.subkey room.now }
+    {
+        LentRoom { room }
+    }
+
+    /// Returns the product of a block and H (6.3).
+    #[inline(always)]
+    pub(crate) fn product(&self, x: u128) -> u128
+        ensures { result ≡ product x self.now }
+    {
+        self.room.product(x)
+    }
+}
+
+/// Returns the value of GHASH after more bytes, with zeros behind them that fill the last block.
+#[inline(always)]
+pub(crate) fn hash_on<R: HashRoom>(multiples: &LentRoom<R>, value: u128, bytes: &[u8]) -> u128
+    ensures { result ≡ hashed multiples.now value (padded bytes.now)
+        (length (padded bytes.now) / 16) }
+{
+    multiples.room.hash_on(value, bytes)
+}
+
+/// The same, and after one block more.
+#[inline(always)]
+pub(crate) fn hash_to_end<R: HashRoom>(
+    multiples: &LentRoom<R>,
+    value: u128,
+    bytes: &[u8],
+    end: &Block,
+) -> u128
+    ensures { let before =
+        hashed multiples.now value (padded bytes.now) (length (padded bytes.now) / 16) in
+        result ≡ product (bit_xor before (from_be_bytes w128 end.now)) multiples.now }
+{
+    multiples.room.hash_to_end(value, bytes, end)
+}
+
+/// Takes more bytes of a string into a value of GHASH. `filled` bytes of the string are in a block
+/// that isn't whole yet; those that don't fill one are left there. In a call of its own, so that
+/// its stack can be wiped, with all that is made of the value.
+#[inline(never)]
+pub(crate) fn hash_piece<R: HashRoom>(
+    multiples: &LentRoom<R>,
+    value: &mut Block,
+    rest: &mut Block,
+    filled: usize,
+    bytes: &[u8],
+)
+    requires { filled < 16 }
+    ensures { (y : ℕ) (s : List ℕ) → length s % 16 ≡ filled
+        → IsHashing multiples.now y s (from_be_bytes w128 value.old) rest.old
+        → IsHashing multiples.now y (s ++ bytes.now) (from_be_bytes w128 value.new) rest.new }
+{
+    if bytes.len() < 16 - filled {
+        rest[filled..filled + bytes.len()].copy_from_slice(bytes);
+        return;
+    }
+    let before = number_of_block(value);
+    let (first, others) = bytes.split_at(16 - filled);
+    rest[filled..].copy_from_slice(first);
+    let (whole, last) = others.split_at(others.len() / 16 * 16);
+    let sum = multiples.product(before ^ number_of_block(rest));
+    rest[..last.len()].copy_from_slice(last);
+    *value = block_of_number(hash_on(multiples, sum, whole));
+}
