@@ -191,9 +191,10 @@ class Keyed:
 
     def any_cbc_decrypt(self, rest, step=64):
         content, previous, count = self.pattern(self.block_bytes), self.pattern(self.block_bytes, -1), unknown("n") * step + rest
-        want = self.aes.xor(self.pattern(self.ciphers["decrypt"]), previous)
+        between = self.pattern(self.ciphers["decrypt"])
+        want = self.aes.xor(between, previous)
         return self.of_any_count("aes_cbc_decrypt", [Buffer("cbc", previous, self.of_last(content, count))], content, want, count,
-                                 count * 16, want)
+                                 count * 16, want, between=self.of_all(between))
 
     def any_cbc_encrypt(self):
         """A plain block has the number of the encrypted one before it."""
@@ -298,9 +299,10 @@ class Keyed:
         previous = self.once("previous", lambda: [self.domain.fresh("previous byte %d" % i, DATA) for i in range(16)])
         content = self.content(count)
         chain = previous + content
-        want = self.aes.xor(self.results("decrypt", count), chain)
+        between = self.results("decrypt", count)
+        want = self.aes.xor(between, chain)
         return Call("aes_cbc_decrypt", [self.schedule(), Buffer("cbc", previous, chain[-16:]), Buffer("blocks", content, want), count],
-                    DONE, plain=want)
+                    DONE, plain=want, between=between)
 
     def cbc_encrypt(self, count):
         """.. encrypts .. the next `count` blocks of a chain. After each block the encrypted block, which is what it should be, becomes an

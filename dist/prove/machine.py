@@ -282,7 +282,7 @@ class Machine:
     pushed, kept_halves, stack_step = (), (), 1
 
     def __init__(self, domain, program, regions, entry, arguments):
-        """regions: {name: Region}, among them "stack"; the call begins near its end."""
+        """regions: {name: Region}, among them "stack": what is below the return address. (`enter` adds what the caller has put there.)"""
         self.domain, self.program, self.regions = domain, program, regions
         self.general = {r: Pointer("the caller's " + r, 0) for r in self.registers}
         self.vectors = [[domain.undefined] * self.vector_size for _ in range(self.vector_count)]
@@ -296,6 +296,7 @@ class Machine:
         self.done, self.want = 0, None  # how many steps of a call were found, and what the next one looks for (calls.step_by_step)
         self.equalities = {}  # bytes that are one constant if another byte is 0, else another: (that byte, the constants)
         self.written = (), 0  # the list of bytes that was last written to, and where
+        self.wrote = {}  # which bytes were written to each of the caller's buffers, also those that were written over since
         self.stale = set()  # bytes of the stack that may have been overwritten by others since they were written
         self.room = self.counter = None  # see calls.Call
         # See lengths.py.
@@ -310,9 +311,8 @@ class Machine:
         """Registers and stack at the first instruction of a call."""
         self.general.update(zip(self.arguments, arguments))
         stack = self.regions["stack"].content
-        above = [b for v in (*self.pushed, *arguments[len(self.arguments):]) for b in self.to_bytes(v, 8)]
-        at = (len(stack) - len(above)) // 16 * 16 - 8 * len(self.pushed)
-        stack[at:at + len(above)] = above
+        at = len(stack)
+        stack += [b for v in (*self.pushed, *arguments[len(self.arguments):]) for b in self.to_bytes(v, 8)]
         self.general[self.stack_pointer] = Pointer("stack", at)
         for n in self.kept_halves:
             self.vectors[n][:8] = self.to_bytes(Pointer("the caller's d%d" % n, 0), 8)
@@ -811,6 +811,8 @@ class Machine:
     def store(self, address, b, align=1):
         content, o = self.place(address, len(b), True, align)
         content[o:o + len(b)] = b
+        if address.base != "stack":
+            self.wrote.setdefault(address.base, set()).update(b)
         if self.stale and content is self.regions["stack"].content:
             self.stale.difference_update(range(o, o + len(b)))
         self.written = content, o
@@ -855,6 +857,7 @@ class Machine:
         m.general, m.vectors, m.flags, m.written = dict(self.general), list(self.vectors), dict(self.flags), ((), 0)
         m.entered, m.stale, m.path, m.want = dict(self.entered), set(self.stale), list(self.path), None
         m.answers, m.origins, m.decided, m.loops = dict(self.answers), dict(self.origins), list(self.decided), dict(self.loops)
+        m.wrote = {name: set(b) for name, b in self.wrote.items()}
         return m
 
     def answered(self, flag, answer):
@@ -960,6 +963,7 @@ class Machine:
         for r, v in self.general.items():
             if type(v) is tuple or isinstance(v, Verdict) and domain is not self.domain:
                 self.general[r] = tuple(all_of(self.to_bytes(v, 8)))
+        self.wrote = {name: set(all_of(b)) for name, b in self.wrote.items()}
         if domain is not self.domain:  # what was asked of bytes of the other domain
             self.equalities = {}
             self.set_flags(**{f: value for f, value in self.flags.items() if value in (0, 1)})

@@ -135,7 +135,7 @@ class KeyedSiv(KeyedGcm):
         arguments = [self.schedule(), Buffer("nonce", self.nonce), Buffer("additional", additional), additional_length,
                      Buffer("text", sealed, text), text_length, Buffer("tag", self.own_tag)]
         reveals = self.aes.xor(self.own_tag, right)
-        return Call("gcm_siv_open", arguments, DONE, steps=steps, reveals=reveals, refused=REFUSED, plain=text)
+        return Call("gcm_siv_open", arguments, DONE, steps=steps, reveals=reveals, refused=REFUSED, plain=text, undone=True)
 
     def refused(self):
         """TOO_LONG or NO_KEY: .. A call that doesn't return DONE has changed nothing"""
