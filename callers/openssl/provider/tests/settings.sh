@@ -29,15 +29,15 @@ says_which_provider() {
         ends_with 3 'demands fips=yes' under fips "$command" && ends_with 2 usage "$command" -x &&
         ends_with 2 'No space left' bash -c '"$1" --help > /dev/full' - "$command"
 }
-# It tells a process that has loaded the module from one that hasn't, and from one whose module was replaced.
+# It tells a process that has loaded the module, and used it, from one that hasn't, and from one whose module was replaced.
 says_of_a_process() {
     local mine
     cp "$module" "$work/again/fotsgure.so" && "$command" --configuration "$work/again/fotsgure.so" > "$work/again.cnf" || return
-    OPENSSL_CONF=$work/again.cnf "$python" -c 'import ssl, time; ssl.SSLContext(ssl.PROTOCOL_TLS_CLIENT)
+    OPENSSL_CONF=$work/again.cnf "$python" -c 'import ssl, time; ssl.SSLContext(ssl.PROTOCOL_TLS_CLIENT); ssl.RAND_bytes(9)
 print("started", flush=True); time.sleep(600)' > "$work/started" &
     mine=$!
     comes "$work/started"
-    ends_with 0 "has loaded $work/again/fotsgure.so" "$command" "$mine" && ends_with 1 "hasn't loaded" "$command" $$ &&
+    ends_with 0 "has loaded $work/again/fotsgure.so" "$command" "$mine" && grep -E '^It has set [1-9][0-9]* keys' "$work/said" && ends_with 1 "hasn't loaded" "$command" $$ &&
         cp "$module" "$work/again/new" && mv "$work/again/new" "$work/again/fotsgure.so" &&
         ends_with 4 'that file is gone by now' "$command" "$mine" && rm "$work/again/fotsgure.so" &&
         ends_with 4 'that file is gone by now' "$command" "$mine" && ends_with 2 'No such file' "$command" 99999999
