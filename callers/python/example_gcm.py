@@ -18,7 +18,7 @@ import pathlib
 import sys
 from typing import Iterator, Tuple
 
-from fotsgure_gcm import Gcm, Refused
+from fotsgure.gcm import Gcm, Refused
 
 NAME, TEXT = b"its name".ljust(16, b"\0"), b"a message".ljust(32, b"\0")
 
