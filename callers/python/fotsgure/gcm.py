@@ -229,10 +229,10 @@ class Gcm(Secret):
 
 
 class Message(Secret):
-    """A message in pieces of any size, which `Gcm.begin` makes. Calls that come out of turn raise ValueError, and so do
+    """A message in pieces of any size, which `Gcm.begin` makes. Calls in the wrong order raise ValueError, and so do
     all calls but `wipe` in a process that was forked. Threads that share a message wait for each other, and come in any
     order. `wipe`, or the end of a `with`, wipes it: it is as secret as the key. After an encrypted piece its nonce is
-    used, even if the message is given up."""
+    used, even if the message is abandoned."""
 
     def __init__(self, gcm: Gcm) -> None:
         self._gcm, self._message, self._turn = gcm, _Message(), Turn("message")
