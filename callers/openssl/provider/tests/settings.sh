@@ -80,6 +80,7 @@ demands_stay() {
     ends_with 2 'demands fips=yes' merged mode || return
     file withheld 'openssl_conf = i' '[i]' 'providers = p' '[p]' 'base = b' '[b]' 'activate = 1'
     merged withheld && ! grep '^default = ' "$work/merged.cnf" && ends_with 3 'Programs find no hash' under merged "$command" &&
+        ends_with 2 'has to begin with /' "$command" --configuration fotsgure.so &&
         file broken '[i' && ends_with 2 "line 1 isn't understood" merged broken && ends_with 2 "can't be read" merged nowhere
 }
 
