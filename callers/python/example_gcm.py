@@ -7,7 +7,7 @@
     example_gcm.py old-key FOLDER NAME      moves FOLDER/key away likewise, and FOLDER/NAME back to FOLDER/key
 
 The order is what keeps a nonce from being used twice: lock, read key and counter, seal, store both, unlock, and only
-then send. callers/gcm/example.c says what two processes, a forked child, a new key and a restored snapshot do. Both
+then send. callers/c/example_gcm.c says what two processes, a forked child, a new key and a restored snapshot do. Both
 programs may share a folder, and open each other's messages.
 """
 import contextlib
@@ -18,7 +18,7 @@ import pathlib
 import sys
 from typing import Iterator, Tuple
 
-from fotsgure_gcm import Gcm, Refused
+from fotsgure.gcm import Gcm, Refused
 
 NAME, TEXT = b"its name".ljust(16, b"\0"), b"a message".ljust(32, b"\0")
 

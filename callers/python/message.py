@@ -5,7 +5,7 @@
 import pathlib
 import sys
 
-from fotsgure_gcm import GcmSiv, Refused
+from fotsgure.gcm import GcmSiv, Refused
 
 
 def main(file: str) -> None:

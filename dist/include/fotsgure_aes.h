@@ -284,9 +284,9 @@ static inline const char *fotsgure_aes_status_text(enum fotsgure_aes_status stat
 }
 
 /* NULL with a count of 0: the library takes no NULL, so each call below hands on an address that is not NULL instead,
- * and that nothing reads or writes. Whoever calls the library without this header does the same. NULL with another
- * count is a mistake that ends the program: the call reads or writes there, at address 16. A pointer to a function,
- * and a name in parentheses, is the library's call itself. */
+ * and that nothing reads or writes. Bindings that bypass this header do the same. NULL with another count is a mistake that
+ * ends the program, since the call reads or writes there, at address 16; or the call returns a status before it does. A
+ * pointer to a function, and a name in parentheses, is the library's call itself. */
 static inline const uint8_t *fotsgure_aes_not_null(const uint8_t *bytes) FOTSGURE_AES_NOEXCEPT
 {
     return bytes ? bytes : FOTSGURE_AES_CAST(reinterpret_cast, const uint8_t *,

@@ -95,8 +95,8 @@ enum fotsgure_gcm_status {
     FOTSGURE_GCM_TOO_LONG = 5,     /* more text or additional data than the standard allows, or more text to decrypt
                                     * than was verified */
     FOTSGURE_GCM_REFUSED = 6,      /* the tag isn't that of this key, nonce, additional data and text */
-    FOTSGURE_GCM_NONCES_END = 7,   /* the counter of nonces has come to its end */
-    FOTSGURE_GCM_OUT_OF_TURN = 8,  /* the message is not where this call may come */
+    FOTSGURE_GCM_NONCES_END = 7,   /* the counter of nonces has no number left */
+    FOTSGURE_GCM_OUT_OF_TURN = 8,  /* the calls for a message came in the wrong order */
     FOTSGURE_GCM_NO_RANDOMNESS = 9,  /* the system gave no randomness for a nonce */
     FOTSGURE_GCM_UNEQUAL_LENGTHS = 10 /* input and output differ in length */
 };
@@ -214,10 +214,11 @@ FOTSGURE_GCM_CHECK enum fotsgure_gcm_status fotsgure_gcm_open_to(const struct fo
  *   to encrypt: begin, additional .., encrypt .., finish
  *   to decrypt: begin, additional .., verify .., accept, and then decrypt .., with the same cipher text once more
  *
- * A call that comes out of turn is refused and changes nothing, and so is one that would make the message longer than
- * the standard allows. fotsgure_gcm_decrypt decrypts only after a call has found the tag right;
- * fotsgure_gcm_decrypt_unverified doesn't wait for it. A message may be given up at any time; wipe it when you are done. Once some of its
- * text was encrypted, its nonce is used, even if the message was never finished: begin anew under another one. */
+ * A call in the wrong order is refused and changes nothing, and so is one that would make the message longer than the
+ * standard allows. fotsgure_gcm_decrypt decrypts only after a call has found the tag right;
+ * fotsgure_gcm_decrypt_unverified doesn't wait for it. A message may be abandoned at any time; wipe it when you are done.
+ * Once some of its text was encrypted, its nonce is used, even if the message was never finished: begin again, with a new
+ * nonce. */
 
 /* Begins a message under a nonce, which has any length. *message may be uninitialized: none of it is read, and nothing
  * of what it held is left. A refused call leaves it as it was. It moves no counter: never give it the `next` of a
@@ -384,9 +385,9 @@ static inline void fotsgure_gcm_wipe_bytes(void *bytes, size_t count) FOTSGURE_G
 }
 
 /* NULL with a length of 0: the library takes no NULL, so each call below hands on an address that is not NULL instead,
- * and that nothing reads or writes. Whoever calls the library without this header does the same. NULL with another
- * length is a mistake that ends the program: the call reads or writes there, at address 16. A pointer to a function,
- * and a name in parentheses, is the library's call itself. */
+ * and that nothing reads or writes. Bindings that bypass this header do the same. NULL with another length is a mistake that
+ * ends the program, since the call reads or writes there, at address 16; or the call returns a status before it does. A
+ * pointer to a function, and a name in parentheses, is the library's call itself. */
 static inline const uint8_t *fotsgure_gcm_not_null(const uint8_t *bytes) FOTSGURE_GCM_NOEXCEPT
 {
     return bytes ? bytes : FOTSGURE_GCM_CAST(reinterpret_cast, const uint8_t *,

@@ -16,6 +16,18 @@ struct names {
     int activates_default;  /* programs have the provider default under the other file, and are to keep it */
 };
 
+/* What can't be written into a file of configuration as it is. */
+#define SPECIAL "#$\\\"'"
+
+/* Programs that read the file have folders of their own. */
+static int is_whole(const char *path)
+{
+    if (*path == '/' && !strpbrk(path, SPECIAL))
+        return 1;
+    fprintf(stderr, "%s: a path has to begin with /, and have none of the characters %s\n", path, SPECIAL);
+    return 0;
+}
+
 /* A value by its name in that very section: NCONF_get_string would look into the default section too. */
 static const char *value_of(const CONF *conf, const char *section, const char *name, const char *otherwise)
 {
@@ -41,7 +53,7 @@ static int keeps_its_settings(struct names *names, const char *file)
     OSSL_LIB_CTX_free(library);
     if (fips)
         fprintf(stderr, "%s demands fips=yes: the module doesn't have that property, since nobody has certified it\n", file);
-    else if (strpbrk(names->properties, "#$\\\"'"))
+    else if (strpbrk(names->properties, SPECIAL))
         fprintf(stderr, "%s has default_properties with quotes or variables: %s\n", file, names->properties);
     else
         return 1;
@@ -74,6 +86,8 @@ enum exit_status print_configuration(const char *module, const char *file)
     struct names names = {"fotsgure_init", "fotsgure_providers", "fotsgure_default", "fotsgure_algorithms", "", 1, 1};
     enum exit_status status = UNKNOWN;
     long line = 0;
+    if (!is_whole(module) || (file && !is_whole(file)))
+        return UNKNOWN;
     CONF *conf = NCONF_new(NULL);
     if (conf && file && NCONF_load(conf, file, &line) <= 0) {
         fprintf(stderr, line > 0 ? "%s: line %ld isn't understood\n" : "%s can't be read\n", file, line);

@@ -7,8 +7,11 @@
  * The module takes nothing from libcrypto. What it needs comes through the table that OpenSSL hands to
  * OSSL_provider_init. So it also loads into programs that have OpenSSL inside them. */
 #include "provider.h"
+#include "served.h"
 
 #include <stdlib.h>
+
+static struct served served = {.mark = SERVED_MARK};
 
 static void *new_context(void *provider, const struct algorithm *algorithm)
 {
@@ -99,6 +102,7 @@ static int set_key(struct context *c, const byte *key, size_t length)
     if (length != c->algorithm->key_length)
         return 0;
     COUNTED(c->algorithm, 1, 0);
+    atomic_fetch_add_explicit(&served.keys, 1, memory_order_relaxed);
     c->has_key = 1;
     if (is_mode(c, EVP_CIPH_GCM_MODE))
         return fotsgure_gcm_set_key(&c->gcm, key, length) == FOTSGURE_GCM_DONE;

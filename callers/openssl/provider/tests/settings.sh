@@ -29,15 +29,16 @@ says_which_provider() {
         ends_with 3 'demands fips=yes' under fips "$command" && ends_with 2 usage "$command" -x &&
         ends_with 2 'No space left' bash -c '"$1" --help > /dev/full' - "$command"
 }
-# It tells a process that has loaded the module from one that hasn't, and from one whose module was replaced.
+# It tells a process that has loaded the module, and used it, from one that hasn't, and from one whose module was replaced.
 says_of_a_process() {
     local mine
     cp "$module" "$work/again/fotsgure.so" && "$command" --configuration "$work/again/fotsgure.so" > "$work/again.cnf" || return
-    OPENSSL_CONF=$work/again.cnf "$python" -c 'import ssl, time; ssl.SSLContext(ssl.PROTOCOL_TLS_CLIENT)
+    OPENSSL_CONF=$work/again.cnf "$python" -c 'import ssl, time; ssl.SSLContext(ssl.PROTOCOL_TLS_CLIENT); ssl.RAND_bytes(9)
 print("started", flush=True); time.sleep(600)' > "$work/started" &
     mine=$!
     comes "$work/started"
-    ends_with 0 "has loaded $work/again/fotsgure.so" "$command" "$mine" && ends_with 1 "hasn't loaded" "$command" $$ &&
+    ends_with 0 "has loaded $work/again/fotsgure.so" "$command" "$mine" &&
+        grep -E '^It has set [1-9][0-9]* keys' "$work/said" && ends_with 1 "hasn't loaded" "$command" $$ &&
         cp "$module" "$work/again/new" && mv "$work/again/new" "$work/again/fotsgure.so" &&
         ends_with 4 'that file is gone by now' "$command" "$mine" && rm "$work/again/fotsgure.so" &&
         ends_with 4 'that file is gone by now' "$command" "$mine" && ends_with 2 'No such file' "$command" 99999999
@@ -79,19 +80,30 @@ demands_stay() {
     ends_with 2 'demands fips=yes' merged mode || return
     file withheld 'openssl_conf = i' '[i]' 'providers = p' '[p]' 'base = b' '[b]' 'activate = 1'
     merged withheld && ! grep '^default = ' "$work/merged.cnf" && ends_with 3 'Programs find no hash' under merged "$command" &&
+        ends_with 2 'has to begin with /' "$command" --configuration fotsgure.so &&
         file broken '[i' && ends_with 2 "line 1 isn't understood" merged broken && ends_with 2 "can't be read" merged nowhere
 }
 
+# While an update runs, the module and the file of configuration are there.
+stay_there() { # FOLDER COMMAND ..
+    local at=$1 updating
+    "${@:2}" & updating=$!
+    while kill -0 "$updating" 2> /dev/null; do
+        [[ -s $at/lib/ossl-modules/fotsgure.so && -s $at/etc/fotsgure-openssl.cnf ]] || { echo 'gone during an update'; return 1; }
+    done
+    wait "$updating"
+}
 # Other users can read what is installed under root's umask, and what can't be built or would change a setting changes nothing.
 installed() (
     local at=$work/installed words
     unset OPENSSL_MODULES
     file theirs 'openssl_conf = i' '[i]' 'providers = p' '[p]' 'default = d' 'legacy = l' '[d]' 'activate = 1' '[l]' 'activate = 1'
-    words=(env SYSTEM_CNF="$work/theirs.cnf" libdir="$at/lib" bindir="$at/bin" mandir="$at/man" sysconfdir="$at/etc" includedir="$prefix/include")
+    words=(env SYSTEM_CNF="$work/theirs.cnf" libdir="$at/lib" bindir="$at/bin" mandir="$at/man" sysconfdir="$at/etc"
+        includedir="$prefix/include")
     mkdir -p "$at/lib" && cp "$prefix"/lib/*.a "$at/lib" || return
     (umask 077 && "${words[@]}" "$here/install" "$prefix") || return
     [[ -z $(find "$at" ! -perm -go=r) && -z $(find "$at" -type d ! -perm -go=x) ]] || { find "$at" -ls; return 1; }
-    (cd "$at" && find . -type f -exec sha256sum {} + > "$work/sums") || return
+    stay_there "$at" "${words[@]}" "$here/install" "$prefix" && (cd "$at" && find . -type f -exec sha256sum {} + > "$work/sums") || return
     ends_with 1 '' "${words[@]}" LDFLAGS=-lnowhere "$here/install" "$prefix" &&
         ends_with 1 'demands fips=yes' "${words[@]}" SYSTEM_CNF="$work/demanding.cnf" "$here/install" "$prefix" &&
         ends_with 1 'Programs find no hash' "${words[@]}" SYSTEM_CNF="$work/withheld.cnf" "$here/install" "$prefix" &&
