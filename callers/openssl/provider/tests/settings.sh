@@ -101,7 +101,7 @@ installed() (
     words=(env SYSTEM_CNF="$work/theirs.cnf" libdir="$at/lib" bindir="$at/bin" mandir="$at/man" sysconfdir="$at/etc"
         includedir="$prefix/include")
     mkdir -p "$at/lib" && cp "$prefix"/lib/*.a "$at/lib" || return
-    (umask 077 && "${words[@]}" "$here/install" "$prefix") || return
+    bash -c 'umask 077; "$@"' - "${words[@]}" "$here/install" "$prefix" || return
     [[ -z $(find "$at" ! -perm -go=r) && -z $(find "$at" -type d ! -perm -go=x) ]] || { find "$at" -ls; return 1; }
     stay_there "$at" "${words[@]}" "$here/install" "$prefix" && (cd "$at" && find . -type f -exec sha256sum {} + > "$work/sums") || return
     ends_with 1 '' "${words[@]}" LDFLAGS=-lnowhere "$here/install" "$prefix" &&
