@@ -70,13 +70,12 @@ def for_riscv(text):
     return text
 
 
-def for_windows(text, suffix):
+def for_windows(text):
     # (Clang takes `inline-asm` for the name of a function there, and without it calls ___chkstk_ms of the compiler's library.)
     text = text.replace(' "probe-stack"="inline-asm"', "")
     text = re.sub(r'^(attributes #\d+ = \{ .*?nounwind)(?= "stack-probe-size")', r"\1 noredzone uwtable", text, flags=re.M)
     text = re.sub(r'^(define internal |.*\bcall )(?=[^"@]*@"\w+::)', r"\1x86_64_sysvcc ", text, flags=re.M)
-    text = re.sub(r'^(define [^@]*@"[\w:]*::wipe_stack\b.*\nstart:\n)', rf"\1  {EMPTIES}\n", text, flags=re.M)
-    return re.sub(r"(@fotsgure_\w+)", rf"\1{suffix}", text)
+    return re.sub(r'^(define [^@]*@"[\w:]*::wipe_stack\b.*\nstart:\n)', rf"\1  {EMPTIES}\n", text, flags=re.M)
 
 
 def made(clang, module, target):
@@ -85,7 +84,7 @@ def made(clang, module, target):
     changed, to = pathlib.Path(f"{module}{target.suffix}.{target.folder}.ll"), pathlib.Path(f"{module}{target.suffix}.{target.folder}.s")
     clang(*own, "-emit-llvm", "-Xclang", "-disable-llvm-passes", module, "-o", changed)
     text = re.sub(r"^target (?:datalayout|triple) = .*\n", "", changed.read_text(), flags=re.M)
-    changed.write_text(for_windows(text, target.suffix) if target.suffix else for_riscv(text))
+    changed.write_text(for_windows(text) if target.suffix else for_riscv(text))
     clang(*own, *OPTIONS, *target.options, changed, "-o", to)
     # What GNU's assembler doesn't know: the versions of RISC-V's extensions, and the second version of Windows' tables. (variant_cc
     # is for calls by way of the loader, and no export has it.)
