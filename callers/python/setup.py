@@ -26,7 +26,7 @@ atexit.register(shutil.rmtree, ROOM, ignore_errors=True)
 class BuildWithLibraries(build_py):
     def run(self) -> None:
         super().run()
-        if HAS_LIBRARIES and not self.editable_mode:
+        if HAS_LIBRARIES and not getattr(self, "editable_mode", False):
             # Without a build of its own for AVX2 each library holds both, and chooses by itself.
             out = pathlib.Path(ROOM, "out")
             subprocess.run(["make", "-C", DIST, f"OUT={out}", f"CC={CC}", "hwcaps=", "PROGRAM=", "shared"], check=True)
