@@ -7,6 +7,7 @@ import functools
 
 import lengths
 from bits import DATA, KEY, LOST, Pause, Unproved
+from linear import refuted
 from machine import LAST, LEAD, ROOM, Pointer, Question, Region, Window
 from native import Native
 
@@ -43,7 +44,7 @@ class Call:
     kind may be left besides. A call that is refused writes to no Buffer that stays as it was, unless it has to undo what it did (`undone`).
     `counter` is a word of unknown value (aes.CounterWord). `room`, for GCM's counter: the sums that say how much
     keystream comes before it wraps around (gcm.py, any_counter), and how much the text needs. Calls that share `paths` have to run the same
-    instructions whenever they return the same."""
+    instructions whenever they return the same. `facts` are what is known of arguments that aren't (linear.py): each is 0 or more."""
 
     def __init__(self, name, arguments, status, size=4, steps=None, reveals=None, refused=None, refused_after=None, assumes=None,
                  later=None, counter=None, keystream=(), plain=(), may_stay=None, room=None, paths=None, facts=(),
@@ -54,6 +55,7 @@ class Call:
         self.keystream, self.plain, self.may_stay, self.room, self.paths = keystream, plain, may_stay or {}, room, paths
         self.facts, self.undone, self.between = frozenset(facts), undone, between
         self.buffers = [a for a in arguments if isinstance(a, Buffer)]
+        self.any_length = any(isinstance(b, Stream) for b in self.buffers)
 
 
 def prove(domain, program, call, seed=None):
@@ -68,9 +70,11 @@ def prove(domain, program, call, seed=None):
     m = program.machine(domain, program, regions, program.exports["fotsgure_" + call.name], arguments)
     m.may_reveal, m.assumed = call.reveals is not None, call.assumes
     m.room, m.counter = call.room, call.counter
-    m.facts, m.any_length, ends = call.facts, bool(call.facts), []
-    watches = [step_by_step(call.steps if call.facts else call.steps())] if call.steps else []
-    if call.facts:
+    m.facts, m.any_length, ends = call.facts, call.any_length, []
+    if refuted(call.facts):
+        raise Unproved("is about no arguments")
+    watches = [step_by_step(call.steps if call.any_length else call.steps())] if call.steps else []
+    if call.any_length:
         watches.append(lengths.watch)
     if call.paths is not None:
         watches.append(lambda m: m.path.append(m.last))
@@ -96,7 +100,7 @@ def prove(domain, program, call, seed=None):
             check(m, call)
             nothing_secret(m, call)
             ends.append(m)
-        if call.facts:
+        if call.any_length:
             lengths.check_ends(ends, call)
         return ends[-1]
     m.native = Native(m, seed, call.counter)
@@ -137,13 +141,13 @@ def check(m, call):
     if status is not None and m.returned(call.size) != status:
         raise Unproved("returns %s and not %s" % (m.returned(call.size), status))
     if call.paths is not None:  # for each answer to how far buffers are apart
-        answers = {q: answer for q, answer in m.answers.items() if q[0] != "zero"}
+        answers = {q: answer for q, answer in m.answers.items() if q[0] not in ("zero", "bit")}
         if call.paths.setdefault((status, *sorted(answers.items())), m.path) != m.path:
             raise Unproved("runs other instructions than another call that returns %s" % status)
     m.results, m.unsaid = [], []
     for buffer in call.buffers:
         want = buffer.after if right else call.refused_after.get(buffer.name, buffer.content)
-        want = want(m) if callable(want) else want
+        stays, want = want == buffer.content, want(m) if callable(want) else want
         if isinstance(buffer, Stream):
             have = m.regions[buffer.name].finish(m) if want else None
             if have and not right:
@@ -151,14 +155,14 @@ def check(m, call):
             compare(m.domain, have or [], want[:len(have or [])] if want else [], buffer.name)
             m.results += [m.domain.moved(b, k) for b in want or () for k in range(LAST - LEAD)]
             continue
-        if status and buffer.name in m.wrote and want == buffer.content and not call.undone:
+        if status and buffer.name in m.wrote and stays and not call.undone:
             raise Unproved("writes to %s, which is to stay as it is" % buffer.name)
         if want is ANY and m.answers:  # set_key looks at the content that one machine has
             raise Unproved("%s may have other bytes if buffers are otherwise apart" % buffer.name)
         if buffer.after is not None and want is not ANY:
-            content = m.regions[buffer.name].content
+            content, want = m.regions[buffer.name].content, m.known_bytes(want)
             compare(m.domain, content, want, buffer.name)
-            m.unsaid += [x for x, y in zip(content, want) if y is None and x not in buffer.content]
+            m.unsaid += [x for x, y in zip(content, want) if y is None and x not in m.known_bytes(buffer.content)]
             if not buffer.secret:
                 m.results += [b for b in want if b is not None]
     m.left = left(m, call)
@@ -288,7 +292,7 @@ def left(m, call):
     places += [("registers", "vector %d" % n, b) for n, v in enumerate(m.vectors) for b in v]
     out = {}
     for place, where, b in places:
-        if call.facts and max(m.domain.blocks(b), default=0) >= LAST:
+        if call.any_length and max(m.domain.blocks(b), default=0) >= LAST:
             raise Unproved("leaves a block with a number that isn't known")
         k = tells(m, b, names, plain)
         if k:
