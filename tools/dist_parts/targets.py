@@ -54,7 +54,7 @@ EMPTIES = 'call void asm sideeffect "xorl %edi, %edi; xorl %esi, %esi", "~{rdi},
 @dataclasses.dataclass(frozen=True)
 class Target:
     """The folder of its texts, what clang calls it, its options, what stands behind a library's name in the name of a text, how many bits
-    a pointer has, the definition of the byte shuffle, the suffix of its exports, and whether its code is to be small."""
+    a pointer has, the definition of the byte shuffle, the suffix of its exports where they are chosen from, and whether its code is to be small."""
 
     folder: str
     triple: str
@@ -133,19 +133,18 @@ def with_signs(text):
     return text
 
 
-def for_windows(text, suffix):
+def for_windows(text):
     # (Clang takes `inline-asm` for the name of a function there, and without it calls ___chkstk_ms of the compiler's library.)
     text = text.replace(' "probe-stack"="inline-asm"', "")
     text = re.sub(r'^(attributes #\d+ = \{ .*?nounwind)(?= "stack-probe-size")', r"\1 noredzone uwtable", text, flags=re.M)
     text = re.sub(r'^(define internal |.*\bcall )(?=[^"@]*@"\w+::)', r"\1x86_64_sysvcc ", text, flags=re.M)
-    text = re.sub(r'^(define [^@]*@"[\w:]*::wipe_stack\b.*\nstart:\n)', rf"\1  {EMPTIES}\n", text, flags=re.M)
-    return re.sub(r"(@fotsgure_\w+)", rf"\1{suffix}", text)
+    return re.sub(r'^(define [^@]*@"[\w:]*::wipe_stack\b.*\nstart:\n)', rf"\1  {EMPTIES}\n", text, flags=re.M)
 
 
 def changed_for(target, text, calls):
     """The text of a module as it is compiled for a target; `calls` are those that the header declares."""
     if target.suffix:
-        return for_windows(text, target.suffix)
+        return for_windows(text)
     text = with_shuffle(re.sub(r' "(?:target-cpu|target-features|tune-cpu)"="[^"]*"', "", text), target.shuffle)
     if target.bits == 64:
         return with_signs(text)

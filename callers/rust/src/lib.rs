@@ -1,28 +1,65 @@
-//! Safe Rust over the C library `fotsgure_aes`: AES with keys of 16, 24 and 32 bytes, and counter mode. With the
-//! feature `gcm`, authenticated encryption too, over `fotsgure_gcm`.
+//! AES (FIPS 197), proved, with counter mode, CBC and key wrap; with the feature `gcm` AES-GCM-SIV and AES-GCM too.
 //!
-//! Every function meets the conditions that the head of `fotsgure_aes.h` asks of callers.
+//! A block cipher alone protects no message: for messages take `gcm::GcmSiv`.
+//!
+#![cfg_attr(feature = "gcm", doc = "```")]
+#![cfg_attr(not(feature = "gcm"), doc = "```ignore")]
+//! use fotsgure_aes::gcm::GcmSiv;
+//!
+//! let key = [7; 32]; // draw it at random: a constant is for examples alone
+//! let siv = GcmSiv::new(&key)?;
+//! let mut text = *b"a message";
+//! let (nonce, tag) = siv.seal_random(b"its name", &mut text)?;
+//! // Send nonce, name, text and tag. Whoever has the key opens the message:
+//! siv.open(&nonce, b"its name", &mut text, &tag)?;
+//! assert_eq!(&text, b"a message");
+//! # Ok::<(), Box<dyn std::error::Error>>(())
+//! ```
+//!
+//! # What is proved
+//!
+//! What the calls of `fotsgure-sys` compute, for every key and every input, and again at fixed lengths in the machine code.
+//! This crate around them is tested, not proved. It meets the conditions that the head of `fotsgure_aes.h` asks of
+//! callers, so nothing in it is unsafe to call.
+//!
+//! # Where it works
+//!
+//! On x86-64 with SSSE3 and SSE4.2 (Linux, Android, the BSDs, Windows), on 64-bit ARM, and on 64-bit RISC-V with vectors.
+//! rustc assembles the code, so no C compiler is needed. No instructions for AES are used, and no tables.
+//!
+//! Keys are on the heap, so that a move leaves no copy, and are wiped when a value is dropped.
 
+mod chain;
 #[cfg(feature = "gcm")]
 pub mod gcm;
+mod wrap;
+
+pub use chain::Cbc;
+pub use wrap::{KeyWrap, NotWrapped};
 
 use fotsgure_sys::aes as c;
 use std::fmt;
 use std::mem::MaybeUninit;
 
-/// Returns the version of the library: 10000 times the first number, 100 times the second, plus the third.
+/// Returns the version of the assembly: 10000 times the first number, 100 times the second, plus the third.
 pub fn version() -> u32 {
     // SAFETY: the call takes nothing.
     unsafe { c::fotsgure_aes_version() }
 }
 
-/// The key doesn't have 16, 24 or 32 bytes.
+/// A key has another length than the call takes. The words say which lengths it takes.
 #[derive(Debug, Clone, Copy, PartialEq, Eq)]
-pub struct InvalidLength;
+pub struct InvalidLength(&'static str);
+
+impl InvalidLength {
+    pub(crate) const AES: InvalidLength = InvalidLength("an AES key has 16, 24 or 32 bytes");
+    #[cfg(feature = "gcm")]
+    pub(crate) const GCM_SIV: InvalidLength = InvalidLength("a key of AES-GCM-SIV has 16 or 32 bytes");
+}
 
 impl fmt::Display for InvalidLength {
     fn fmt(&self, f: &mut fmt::Formatter<'_>) -> fmt::Result {
-        f.write_str("an AES key has 16, 24 or 32 bytes")
+        f.write_str(self.0)
     }
 }
 
@@ -40,56 +77,94 @@ impl fmt::Display for KeystreamEnd {
 
 impl std::error::Error for KeystreamEnd {}
 
+/// A struct of C on the heap that a call writes, and the status of the call.
+///
+/// # Safety
+///
+/// The call writes the whole struct, whatever its status, and reads nothing of it before that.
+pub(crate) unsafe fn boxed<T>(set: impl FnOnce(*mut T) -> u32) -> (u32, Box<T>) {
+    let mut room = Box::new(MaybeUninit::<T>::uninit());
+    let status = set(room.as_mut_ptr());
+    (status, Box::from_raw(Box::into_raw(room).cast::<T>()))
+}
+
 /// An AES key of 16, 24 or 32 bytes. Its key schedule is on the heap, so that a move leaves no copy of it, and is
 /// zeroized when the value is dropped. Threads may share a value.
-pub struct Aes(Box<c::Aes>);
+///
+/// ```
+/// use fotsgure_aes::Aes;
+///
+/// // FIPS 197, C.1
+/// let key: [u8; 16] = std::array::from_fn(|i| i as u8);
+/// let mut blocks = [0x00112233445566778899aabbccddeeff_u128.to_be_bytes()];
+/// let aes = Aes::new(&key)?;
+/// aes.encrypt_blocks(&mut blocks);
+/// assert_eq!(u128::from_be_bytes(blocks[0]), 0x69c4e0d86a7b0430d8cdb78070b4c55a);
+/// # Ok::<(), fotsgure_aes::InvalidLength>(())
+/// ```
+pub struct Aes(Box<c::fotsgure_aes>);
 
 impl Aes {
     /// Expands a key (KeyExpansion, FIPS 197, 5.2).
+    ///
+    /// # Errors
+    ///
+    /// [`InvalidLength`] if the key doesn't have 16, 24 or 32 bytes.
     pub fn new(key: &[u8]) -> Result<Aes, InvalidLength> {
-        let mut schedule = Box::new(MaybeUninit::<c::Aes>::uninit());
-        // SAFETY: both pointers come from references that are valid for the call. The call writes the whole struct,
-        // whether it refuses the key or not, and reads nothing of it before that.
-        let (status, schedule) = unsafe {
-            let status = c::fotsgure_aes_set_key(schedule.as_mut_ptr(), key.as_ptr(), key.len());
-            (status, Box::from_raw(Box::into_raw(schedule).cast::<c::Aes>()))
-        };
-        if status == c::DONE {
-            Ok(Aes(schedule))
+        // SAFETY: the call writes the whole struct and reads none of it; the slice is borrowed for the call.
+        let (status, aes) = unsafe { boxed(|aes| c::fotsgure_aes_set_key(aes, key.as_ptr(), key.len())) };
+        if status == c::FOTSGURE_AES_DONE {
+            Ok(Aes(aes))
         } else {
-            Err(InvalidLength)
+            Err(InvalidLength::AES)
         }
+    }
+
+    /// The struct of C, which has a key.
+    pub(crate) fn as_c(&self) -> *const c::fotsgure_aes {
+        &*self.0
     }
 
     /// Encrypts every block in place (Cipher, FIPS 197, 5.1).
     pub fn encrypt_blocks(&self, blocks: &mut [[u8; 16]]) {
-        // SAFETY: the private field holds a key that `new` set; the slice is borrowed for the call.
-        let status = unsafe { c::fotsgure_aes_encrypt_blocks(&*self.0, blocks.as_mut_ptr(), blocks.len()) };
-        assert_eq!(status, c::DONE);
+        let (at, count) = (blocks.as_mut_ptr().cast(), blocks.len());
+        // SAFETY: the struct has a key, which `new` set; the slice is borrowed for the call.
+        let status = unsafe { c::fotsgure_aes_encrypt_blocks(self.as_c(), at, count) };
+        assert_eq!(status, c::FOTSGURE_AES_DONE);
     }
 
     /// Decrypts every block in place (InvCipher, FIPS 197, 5.3).
     pub fn decrypt_blocks(&self, blocks: &mut [[u8; 16]]) {
+        let (at, count) = (blocks.as_mut_ptr().cast(), blocks.len());
         // SAFETY: as above.
-        let status = unsafe { c::fotsgure_aes_decrypt_blocks(&*self.0, blocks.as_mut_ptr(), blocks.len()) };
-        assert_eq!(status, c::DONE);
+        let status = unsafe { c::fotsgure_aes_decrypt_blocks(self.as_c(), at, count) };
+        assert_eq!(status, c::FOTSGURE_AES_DONE);
     }
 
     /// Counter mode from an initial counter block on, at position 0 (SP 800-38A, 6.5).
+    ///
+    /// **Never begin with the same counter block twice under one key.**
     pub fn keystream(&self, iv: [u8; 16]) -> Keystream<'_> {
-        Keystream { aes: self, ctr: c::Ctr { iv, position: 0 } }
+        Keystream { aes: self, ctr: c::fotsgure_aes_ctr { iv, position: 0 } }
+    }
+
+    /// Cipher block chaining from an initialization vector on (SP 800-38A, 6.2).
+    pub fn cbc(&self, iv: [u8; 16]) -> Cbc<'_> {
+        Cbc::new(self, iv)
     }
 }
 
 impl Clone for Aes {
     /// Copies the key schedule from heap to heap. Each copy is zeroized when it is dropped.
     fn clone(&self) -> Aes {
-        let mut schedule = Box::new(MaybeUninit::<c::Aes>::uninit());
-        // SAFETY: both pointers come from boxes of whole structs, and the new one is written before it is read.
-        unsafe {
-            schedule.as_mut_ptr().copy_from_nonoverlapping(&*self.0, 1);
-            Aes(Box::from_raw(Box::into_raw(schedule).cast::<c::Aes>()))
-        }
+        // SAFETY: the closure writes the whole struct, from another one.
+        let (_, copy) = unsafe {
+            boxed(|copy: *mut c::fotsgure_aes| {
+                copy.copy_from_nonoverlapping(self.as_c(), 1);
+                c::FOTSGURE_AES_DONE
+            })
+        };
+        Aes(copy)
     }
 }
 
@@ -107,34 +182,49 @@ impl fmt::Debug for Aes {
 }
 
 /// Counter mode under a key that is lent. It can't be cloned: a copy would give out the same keystream again.
+///
+/// ```
+/// use fotsgure_aes::Aes;
+///
+/// // SP 800-38A, F.5.1
+/// let aes = Aes::new(&0x2b7e151628aed2a6abf7158809cf4f3c_u128.to_be_bytes())?;
+/// let mut stream = aes.keystream(0xf0f1f2f3f4f5f6f7f8f9fafbfcfdfeff_u128.to_be_bytes());
+/// let mut bytes = 0x6bc1bee22e409f96e93d7e117393172a_u128.to_be_bytes();
+/// stream.apply(&mut bytes)?;
+/// assert_eq!(u128::from_be_bytes(bytes), 0x874d6191b620e3261bef6864990db6ce);
+/// # Ok::<(), Box<dyn std::error::Error>>(())
+/// ```
 pub struct Keystream<'a> {
     aes: &'a Aes,
-    ctr: c::Ctr,
+    ctr: c::fotsgure_aes_ctr,
 }
 
 impl Keystream<'_> {
     /// Encrypts or decrypts bytes in place, and moves the position on.
+    ///
+    /// # Errors
+    ///
+    /// [`KeystreamEnd`] if the position would pass 2^64 - 1.
     pub fn apply(&mut self, bytes: &mut [u8]) -> Result<(), KeystreamEnd> {
+        let (at, count) = (bytes.as_mut_ptr(), bytes.len());
         // SAFETY: the references are valid for the call, and two of them are mutable, so that they don't overlap.
-        let status = unsafe {
-            c::fotsgure_aes_add_keystream(&*self.aes.0, &mut self.ctr, bytes.as_mut_ptr(), bytes.len())
-        };
-        if status == c::DONE { Ok(()) } else { Err(KeystreamEnd) }
+        done(unsafe { c::fotsgure_aes_add_keystream(self.aes.as_c(), &mut self.ctr, at, count) })
     }
 
     /// Encrypts or decrypts bytes into a buffer of the same length, and moves the position on.
+    ///
+    /// # Errors
+    ///
+    /// [`KeystreamEnd`] if the position would pass 2^64 - 1.
     ///
     /// # Panics
     ///
     /// Panics if the slices differ in length.
     pub fn apply_to(&mut self, input: &[u8], output: &mut [u8]) -> Result<(), KeystreamEnd> {
         assert_eq!(input.len(), output.len(), "input and output differ in length");
+        let (from, to, count) = (input.as_ptr(), output.as_mut_ptr(), output.len());
         // SAFETY: as above.
-        let status = unsafe {
-            let (from, to) = (input.as_ptr(), output.as_mut_ptr());
-            c::fotsgure_aes_add_keystream_to(&*self.aes.0, &mut self.ctr, from, input.len(), to, output.len())
-        };
-        if status == c::DONE { Ok(()) } else { Err(KeystreamEnd) }
+        done(unsafe { c::fotsgure_aes_add_keystream_to(self.aes.as_c(), &mut self.ctr, from, count, to, count) })
     }
 
     /// How many bytes of the keystream come before the next.
@@ -145,6 +235,14 @@ impl Keystream<'_> {
     /// Moves to a position.
     pub fn seek(&mut self, position: u64) {
         self.ctr.position = position;
+    }
+}
+
+/// What a call says that adds keystream under a key.
+fn done(status: u32) -> Result<(), KeystreamEnd> {
+    match status {
+        c::FOTSGURE_AES_DONE => Ok(()),
+        _ => Err(KeystreamEnd),
     }
 }
 

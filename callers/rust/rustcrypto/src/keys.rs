@@ -1,28 +1,36 @@
-//! Keys that are prepared for GCM and for AES-GCM-SIV, and the calls of C on them: every `unsafe` of both is here.
+//! Keys that are prepared for GCM and for AES-GCM-SIV, and the calls on them: every `unsafe` of both is here.
 
 use fotsgure_sys::gcm as c;
 
-/// FOTSGURE_GCM_DONE.
-const DONE: u32 = 0;
+/// A message of which nothing has come.
+const NO_MESSAGE: c::fotsgure_gcm_message = c::fotsgure_gcm_message {
+    additional: 0,
+    text: 0,
+    decrypted: 0,
+    phase: 0,
+    first: [0; 16],
+    value: [0; 16],
+    rest: [0; 16],
+};
 
-/// A call of C refused: the tag is wrong, a length isn't allowed.
+/// A call refused: the tag is wrong, a length isn't allowed.
 pub(crate) struct Refused;
 
 fn done(status: u32) -> Result<(), Refused> {
-    if status == DONE { Ok(()) } else { Err(Refused) }
+    if status == c::FOTSGURE_GCM_DONE { Ok(()) } else { Err(Refused) }
 }
 
 /// A key of GCM: round keys, and multiples of H. Overwritten when it is dropped.
 #[derive(Clone)]
-pub(crate) struct Gcm(c::Gcm);
+pub(crate) struct Gcm(c::fotsgure_gcm);
 
 impl Gcm {
     /// Prepares a key of 16, 24 or 32 bytes.
     pub(crate) fn new(key: &[u8]) -> Self {
-        let mut gcm = Gcm(c::Gcm { key_length: 0, round_keys: [0; 240], multiples: [0; 1536] });
+        let mut gcm = Gcm(c::fotsgure_gcm { key_length: 0, round_keys: [0; 240], multiples: [0; 1536] });
         // SAFETY: the pointers come from references that are valid for the call, and one of them is mutable.
         let status = unsafe { c::fotsgure_gcm_set_key(&mut gcm.0, key.as_ptr(), key.len()) };
-        assert_eq!(status, DONE, "types have keys of 16, 24 or 32 bytes alone");
+        assert_eq!(status, c::FOTSGURE_GCM_DONE, "types have keys of 16, 24 or 32 bytes alone");
         gcm
     }
 
@@ -72,8 +80,7 @@ impl Gcm {
         text: &[u8],
         tag: &[u8],
     ) -> Result<Accepted<'_>, Refused> {
-        let zeros = c::Message { numbers: [0; 4], blocks: [0; 48] };
-        let mut accepted = Accepted { gcm: self, message: zeros };
+        let mut accepted = Accepted { gcm: self, message: NO_MESSAGE };
         let message = &mut accepted.message;
         // SAFETY: as in `seal`, and `message` is mutable.
         done(unsafe { c::fotsgure_gcm_begin(&self.0, message, nonce.as_ptr(), nonce.len()) })?;
@@ -102,7 +109,7 @@ impl Drop for Gcm {
 /// A message whose tag was right.
 pub(crate) struct Accepted<'a> {
     gcm: &'a Gcm,
-    message: c::Message,
+    message: c::fotsgure_gcm_message,
 }
 
 impl Accepted<'_> {
@@ -122,15 +129,15 @@ impl Drop for Accepted<'_> {
 
 /// A key of AES-GCM-SIV. Overwritten when it is dropped.
 #[derive(Clone)]
-pub(crate) struct GcmSiv(c::GcmSiv);
+pub(crate) struct GcmSiv(c::fotsgure_gcm_siv);
 
 impl GcmSiv {
     /// Prepares a key of 16 or 32 bytes.
     pub(crate) fn new(key: &[u8]) -> Self {
-        let mut siv = GcmSiv(c::GcmSiv { key_length: 0, round_keys: [0; 240] });
+        let mut siv = GcmSiv(c::fotsgure_gcm_siv { key_length: 0, round_keys: [0; 240] });
         // SAFETY: the pointers come from references that are valid for the call, and one of them is mutable.
         let status = unsafe { c::fotsgure_gcm_siv_set_key(&mut siv.0, key.as_ptr(), key.len()) };
-        assert_eq!(status, DONE, "types have keys of 16 or 32 bytes alone");
+        assert_eq!(status, c::FOTSGURE_GCM_DONE, "types have keys of 16 or 32 bytes alone");
         siv
     }
 

@@ -1,8 +1,6 @@
-//! An expanded key, and the calls of C on it: every `unsafe` of the block cipher is here.
+//! An expanded key, and the calls on it: every `unsafe` of the block cipher is here.
 
-#[cfg(not(any(fotsgure_par_blocks = "16", fotsgure_par_blocks = "32", fotsgure_par_blocks = "64")))]
-use cipher::consts::U8;
-use cipher::consts::U16;
+use cipher::consts::{U8, U16};
 use cipher::{
     Array, Block, BlockCipherDecBackend, BlockCipherEncBackend, BlockSizeUser, InOut, InOutBuf, ParBlocks,
     ParBlocksSizeUser, typenum::Unsigned,
@@ -10,27 +8,20 @@ use cipher::{
 use fotsgure_sys::aes as c;
 
 /// How many blocks a mode gives to one call of a backend. Fewer than these it gives block by block.
-#[cfg(not(any(fotsgure_par_blocks = "16", fotsgure_par_blocks = "32", fotsgure_par_blocks = "64")))]
 pub(crate) type Batch = U8;
-#[cfg(fotsgure_par_blocks = "16")]
-pub(crate) type Batch = U16;
-#[cfg(fotsgure_par_blocks = "32")]
-pub(crate) type Batch = cipher::consts::U32;
-#[cfg(fotsgure_par_blocks = "64")]
-pub(crate) type Batch = cipher::consts::U64;
 
 /// The round keys of a key, for both directions. They are overwritten when the value is dropped; a move may leave a
 /// copy, as in the crate `aes`.
 #[derive(Clone)]
-pub(crate) struct Schedule(c::Aes);
+pub(crate) struct Schedule(c::fotsgure_aes);
 
 impl Schedule {
     /// Expands a key of 16, 24 or 32 bytes.
     pub(crate) fn new(key: &[u8]) -> Self {
-        let mut schedule = Schedule(c::Aes { key_length: 0, round_keys: [0; 480] });
+        let mut schedule = Schedule(c::fotsgure_aes { key_length: 0, round_keys: [0; 480] });
         // SAFETY: the pointers come from references that are valid for the call, and one of them is mutable.
         let status = unsafe { c::fotsgure_aes_set_key(&mut schedule.0, key.as_ptr(), key.len()) };
-        assert_eq!(status, c::DONE, "types have keys of 16, 24 or 32 bytes alone");
+        assert_eq!(status, c::FOTSGURE_AES_DONE, "types have keys of 16, 24 or 32 bytes alone");
         schedule
     }
 
@@ -45,7 +36,7 @@ impl Schedule {
             // SAFETY: as above; the two buffers of `Blocks` are the same or don't overlap.
             unsafe { c::fotsgure_aes_encrypt_blocks_to(&self.0, input, count, output, count) }
         };
-        debug_assert_eq!(status, c::DONE);
+        debug_assert_eq!(status, c::FOTSGURE_AES_DONE);
     }
 
     /// Decrypts blocks, in place or from buffer to buffer.
@@ -59,7 +50,7 @@ impl Schedule {
             // SAFETY: as in `encrypt`.
             unsafe { c::fotsgure_aes_decrypt_blocks_to(&self.0, input, count, output, count) }
         };
-        debug_assert_eq!(status, c::DONE);
+        debug_assert_eq!(status, c::FOTSGURE_AES_DONE);
     }
 }
 
@@ -74,14 +65,14 @@ impl Drop for Schedule {
 /// Blocks that are lent: `count` of them are read at one address and written at the other, which is the same or lies
 /// beyond them. The pairs of the crate `inout`, of either version, give that, and they alone become `Blocks`.
 pub(crate) struct Blocks<'inp, 'out> {
-    input: *const [u8; 16],
-    output: *mut [u8; 16],
+    input: *const u8,
+    output: *mut u8,
     count: usize,
     lent: core::marker::PhantomData<(&'inp [u8], &'out mut [u8])>,
 }
 
 impl Blocks<'_, '_> {
-    fn into_raw(self) -> (*const [u8; 16], *mut [u8; 16], usize) {
+    fn into_raw(self) -> (*const u8, *mut u8, usize) {
         (self.input, self.output, self.count)
     }
 }

@@ -1,0 +1,71 @@
+// Made by tools/dist from dist/include/fotsgure_aes.h. Don't edit it.
+//! What `fotsgure_aes.h` declares. The header says what each call does, and what you have to ensure.
+
+pub const FOTSGURE_AES_VERSION: u32 = 300;
+pub const FOTSGURE_AES_BLOCK: u32 = 16;
+pub const FOTSGURE_AES_STACK: u32 = 16384;
+pub const FOTSGURE_AES_DONE: u32 = 0;
+pub const FOTSGURE_AES_KEY_LENGTH: u32 = 1;
+pub const FOTSGURE_AES_NO_KEY: u32 = 2;
+pub const FOTSGURE_AES_UNEQUAL_COUNTS: u32 = 3;
+pub const FOTSGURE_AES_KEYSTREAM_END: u32 = 4;
+pub const FOTSGURE_AES_INVALID_COUNT: u32 = 5;
+pub const FOTSGURE_AES_REFUSED: u32 = 6;
+
+#[repr(C)]
+#[derive(Clone)]
+pub struct fotsgure_aes {
+    pub key_length: u32,
+    pub round_keys: [u8; 480],
+}
+
+#[repr(C)]
+#[derive(Clone)]
+pub struct fotsgure_aes_ctr {
+    pub iv: [u8; 16],
+    pub position: u64,
+}
+
+#[repr(C)]
+#[derive(Clone)]
+pub struct fotsgure_aes_cbc {
+    pub previous: [u8; 16],
+}
+
+const _: () = assert!(core::mem::size_of::<fotsgure_aes>() == 484);
+const _: () = assert!(core::mem::size_of::<fotsgure_aes_ctr>() == 24);
+const _: () = assert!(core::mem::size_of::<fotsgure_aes_cbc>() == 16);
+
+library! {
+    "aes":
+    fn fotsgure_aes_version() -> u32;
+    fn fotsgure_aes_set_key(aes: *mut fotsgure_aes, key: *const u8, key_length: usize) -> u32;
+    fn fotsgure_aes_key_length(aes: *const fotsgure_aes) -> usize;
+    fn fotsgure_aes_wipe(aes: *mut fotsgure_aes);
+    fn fotsgure_aes_encrypt_blocks(aes: *const fotsgure_aes, blocks: *mut u8, count: usize) -> u32;
+    fn fotsgure_aes_decrypt_blocks(aes: *const fotsgure_aes, blocks: *mut u8, count: usize) -> u32;
+    fn fotsgure_aes_encrypt_blocks_to(aes: *const fotsgure_aes, input: *const u8, input_count: usize,
+        output: *mut u8, output_count: usize) -> u32;
+    fn fotsgure_aes_decrypt_blocks_to(aes: *const fotsgure_aes, input: *const u8, input_count: usize,
+        output: *mut u8, output_count: usize) -> u32;
+    fn fotsgure_aes_add_keystream(aes: *const fotsgure_aes, ctr: *mut fotsgure_aes_ctr, bytes: *mut u8,
+        count: usize) -> u32;
+    fn fotsgure_aes_add_keystream_to(aes: *const fotsgure_aes, ctr: *mut fotsgure_aes_ctr, input: *const u8,
+        input_count: usize, output: *mut u8, output_count: usize) -> u32;
+    fn fotsgure_aes_cbc_encrypt(aes: *const fotsgure_aes, cbc: *mut fotsgure_aes_cbc, blocks: *mut u8,
+        count: usize) -> u32;
+    fn fotsgure_aes_cbc_decrypt(aes: *const fotsgure_aes, cbc: *mut fotsgure_aes_cbc, blocks: *mut u8,
+        count: usize) -> u32;
+    fn fotsgure_aes_wrap(aes: *const fotsgure_aes, input: *const u8, input_count: usize, output: *mut u8,
+        output_count: usize) -> u32;
+    fn fotsgure_aes_unwrap(aes: *const fotsgure_aes, input: *const u8, input_count: usize, output: *mut u8,
+        output_count: usize) -> u32;
+    fn fotsgure_aes_wrap_padded(aes: *const fotsgure_aes, input: *const u8, input_length: usize, output: *mut u8,
+        output_count: usize) -> u32;
+    fn fotsgure_aes_unwrap_padded(aes: *const fotsgure_aes, input: *const u8, input_count: usize, output: *mut u8,
+        output_count: usize, key_length: *mut usize) -> u32;
+    fn fotsgure_aes_encrypt_blocks_with(key: *const u8, key_length: usize, blocks: *mut u8, count: usize) -> u32;
+    fn fotsgure_aes_decrypt_blocks_with(key: *const u8, key_length: usize, blocks: *mut u8, count: usize) -> u32;
+    fn fotsgure_aes_add_keystream_with(key: *const u8, key_length: usize, ctr: *mut fotsgure_aes_ctr,
+        bytes: *mut u8, count: usize) -> u32;
+}

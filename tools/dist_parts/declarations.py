@@ -1,0 +1,53 @@
+"""What a header declares, for Rust: the numbers, structs and calls, under the names that they have in C."""
+import re
+import textwrap
+
+TYPES = {"uint8_t": "u8", "uint32_t": "u32", "uint64_t": "u64", "size_t": "usize"}
+NUMBER = re.compile(r"^(?:#define |    )(FOTSGURE_\w+)(?: =)? (\d+),?(?: |$)", re.M)
+STRUCT = re.compile(r"^struct (\w+) \{\n(.*?)^\};", re.M | re.S)
+SIZE = re.compile(r"sizeof\(struct (\w+)\) == (\d+)")
+FIELD = re.compile(r"(\w+) (\w+)(?:\[(\w+)\])?;")
+PARAMETER = re.compile(r"(const )?(?:struct )?(\w+) (\*)?(\w+)(?:\[(\w+)\])?")
+COMMENT = re.compile(r"/\*.*?\*/", re.S)
+HEAD = """\
+// Made by tools/dist from dist/include/{header}. Don't edit it.
+//! What `{header}` declares. The header says what each call does, and what you have to ensure.
+"""
+
+
+def array(element, length, numbers):
+    """The type of a field or of a parameter, which may be an array."""
+    return f"[{element}; {numbers.get(length, length)}]" if length else element
+
+
+def of_parameter(text, numbers):
+    is_const, kind, is_pointer, name, length = PARAMETER.fullmatch(re.sub(r"\s+", " ", text.strip())).groups()
+    kind = array(TYPES.get(kind, kind), length, numbers)
+    pointer = "*const " if is_const else "*mut "
+    return f"{name}: {pointer if is_pointer or length else ''}{kind}"
+
+
+def of_call(result, name, parameters, numbers):
+    """A call, in lines of at most 120 characters."""
+    them = [of_parameter(it, numbers) for it in parameters.split(",") if it.strip() != "void"]
+    result = "" if result == "void" else f" -> {TYPES.get(result, 'u32')}"
+    # A line ends behind a comma.
+    words = f"fn {name}({', '.join(them)}){result};".replace(", ", ",\n").replace(" ", "\0")
+    return [it.replace("\0", " ") for it in textwrap.wrap(words, 116, initial_indent="    ", subsequent_indent="        ")]
+
+
+def of_struct(name, fields, numbers):
+    fields = [f"    pub {it}: {array(TYPES[kind], length, numbers)}," for kind, it, length in FIELD.findall(COMMENT.sub("", fields))]
+    return ["#[repr(C)]", "#[derive(Clone)]", f"pub struct {name} {{", *fields, "}", ""]
+
+
+def in_rust(library, header, calls):
+    """The file of a library in callers/rust/sys/src. `calls` are the results, names and parameters of what the assembly exports."""
+    numbers = dict(NUMBER.findall(header))
+    lines = [HEAD.format(header=f"fotsgure_{library}.h")]
+    if "struct fotsgure_aes *" in header and library != "aes":
+        lines += ["use crate::aes::fotsgure_aes;", ""]
+    lines += [*(f"pub const {name}: u32 = {number};" for name, number in numbers.items()), ""]
+    lines += [line for it in STRUCT.findall(header) for line in of_struct(*it, numbers)]
+    lines += [f"const _: () = assert!(core::mem::size_of::<{name}>() == {size});" for name, size in SIZE.findall(header)]
+    return "\n".join([*lines, "", "library! {", f'    "{library}":', *(line for it in calls for line in of_call(*it, numbers)), "}", ""])

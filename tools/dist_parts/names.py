@@ -1,0 +1,74 @@
+"""Names that belong to one text alone, so that one object can hold several texts, as that of a Rust crate does.
+
+Each name begins with a prefix, which is the library and its build, as `aes_v3`:
+ - the label .LBB0_1 becomes .Laes_v3_BB0_1;
+ - a function becomes aes_v3.aes_permute.lane_keys.expand_lanes, without quotes, which LLVM's assembler for RISC-V refuses after `call`.
+   The compiler tells functions that differ in their types apart by a hash: here they are numbered, in the order of the text;
+ - the export fotsgure_aes_wipe gets the label aes_v3.fotsgure_aes_wipe, and the macro export_aes_v3 gives it the name that others call.
+"""
+import re
+
+LABEL = re.compile(r"\.L(?=[A-Za-z])")
+QUOTED = re.compile(r'"(\.\w+\.)?([^"\n]*::[^"\n]*)"')
+EXPORT = re.compile(r"(?<![\w.:])(\.text\.)?(fotsgure_\w+)\b(?!::)")
+GLOBAL = re.compile(r"^\t\.globl\t(fotsgure_\w+).*$", re.M)
+# The value that a function is made for belongs to its name, and the hash of its types doesn't.
+VALUE, HASH = re.compile(r"::<=(\w+)>"), re.compile(r"::<#\w+>")
+SAID = "A Rust crate defines in_rust; for x86-64, a static library of both builds defines chosen, and choose_*.c calls these names."
+# What Windows' texts say of an export's name.
+DEFINITION = re.compile(r"^\t\.def\tfotsgure_\w+;\n(?:\t.*\n)*?\t\.endef\n", re.M)
+
+
+def of_functions(text):
+    """What the functions of a text are called instead: {name: another one, without a prefix}."""
+    found = re.findall(r'^"([^"\n]+)":', text, re.M)
+    plain = [HASH.sub("", VALUE.sub(r".\1", it)).replace("::", ".") for it in found]
+    numbered = [f"{it}.{plain[:at].count(it) + 1}" if plain.count(it) > 1 else it for at, it in enumerate(plain)]
+    for it in numbered:
+        if not re.fullmatch(r"[\w.]+", it) or numbered.count(it) > 1:
+            raise SystemExit(f"dist: {it} is no plain name, or that of two functions")
+    return dict(zip(found, numbered))
+
+
+def macro(folder, prefix, suffix):
+    """The macro by which a text exports, under a name with a suffix. In a Rust crate, which defines `in_rust`, the label itself is exported:
+    a library in C beside it has other names. On x86-64, `chosen` is for static libraries of both builds: without it no name has a suffix."""
+    label, name, is_windows = f"{prefix}.\\name", f"\\name\\(){suffix}" if suffix else "\\name", folder == "windows_x86_64"
+
+    def shown(name, *more):
+        lines = [f".globl\t{name}", *more, *([f".set\t{name}, {label}"] if name != label else [])]
+        return [*lines, f".def\t{name}; .scl\t2; .type\t32; .endef"] if is_windows else lines
+
+    def hidden(name):
+        return shown(name, *([] if is_windows else [f".hidden\t{name}"]))
+
+    lines = shown(name)
+    if suffix and not is_windows:
+        lines = [".ifdef\tchosen", *hidden(name), ".else", *shown("\\name"), ".endif"]
+    lines = [f".macro\texport_{prefix} name", ".ifdef\tin_rust", *hidden(label), ".else", *lines, ".endif", ".endm"]
+    return f"/* {SAID} */\n" + "".join(f"\t{it}\n" for it in lines)
+
+
+def own(prefix, text):
+    """A text with names of its own."""
+    functions = of_functions(text)
+
+    def of_function(found):
+        section, name = found[1] or "", found[2]
+        return f"{section}{prefix}.{functions[name]}" if name in functions else found[0]
+
+    text = GLOBAL.sub(rf"\texport_{prefix}\t\1", DEFINITION.sub("", LABEL.sub(f".L{prefix}_", text)))
+    lines = [it if "\texport_" in it else EXPORT.sub(rf"\1{prefix}.\2", QUOTED.sub(of_function, it)) for it in text.split("\n")]
+    return "\n".join(lines)
+
+
+def as_compiled(prefix, text, compiled):
+    """A text with the names of another one, which is as the compiler wrote it."""
+    names = {new: old for old, new in of_functions(compiled).items()}
+
+    def of_compiler(found):
+        section, name = found[1] or "", found[2]
+        return f'"{section}{names[name]}"' if name in names else f"{section}{name}"
+
+    text = text.replace(f".L{prefix}_", ".L").replace(f"\texport_{prefix}\t", "\t.globl\t")
+    return re.sub(rf"(?<![\w.])(\.\w+\.)?{prefix}\.([\w.]+)", of_compiler, text)
