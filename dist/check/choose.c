@@ -16,7 +16,7 @@ int main(void)
     pthread_t threads[THREADS];
     int found[THREADS], started = 0, wrong = 0;
     __builtin_cpu_init();
-    int wanted = !__builtin_cpu_supports("ssse3") || !__builtin_cpu_supports("sse4.2") ? V1 :
+    int wanted = !__builtin_cpu_supports("ssse3") || !__builtin_cpu_supports("sse4.1") ? V1 :
         __builtin_cpu_supports("avx2") && __builtin_cpu_supports("bmi") && __builtin_cpu_supports("bmi2") &&
         __builtin_cpu_supports("fma") ? V3 : V2;
     while (started < THREADS && !pthread_create(&threads[started], NULL, asks, &found[started]))
