@@ -1,4 +1,4 @@
-/* The choice between two builds, by threads that all ask first, against the compiler's own question to the processor. */
+/* The choice between the builds, by threads that all ask first, against the compiler's own question to the processor. */
 #include "choose.h"
 
 #include <pthread.h>
@@ -6,7 +6,7 @@
 
 static void *asks(void *found)
 {
-    *(int *)found = takes_v3();
+    *(int *)found = build();
     return NULL;
 }
 
@@ -16,16 +16,16 @@ int main(void)
     pthread_t threads[THREADS];
     int found[THREADS], started = 0, wrong = 0;
     __builtin_cpu_init();
-    int wanted = __builtin_cpu_supports("avx2") && __builtin_cpu_supports("bmi") && __builtin_cpu_supports("bmi2") &&
-        __builtin_cpu_supports("fma");
+    int wanted = !__builtin_cpu_supports("ssse3") || !__builtin_cpu_supports("sse4.1") ? V1 :
+        __builtin_cpu_supports("avx2") && __builtin_cpu_supports("bmi") && __builtin_cpu_supports("bmi2") &&
+        __builtin_cpu_supports("fma") ? V3 : V2;
     while (started < THREADS && !pthread_create(&threads[started], NULL, asks, &found[started]))
         started++;
     for (int i = 0; i < started; i++) {
         pthread_join(threads[i], NULL);
         wrong += found[i] != wanted;
     }
-    wrong += started < THREADS || takes_v3() != wanted;
-    printf("this processor takes the build for %s\n%d passed, %d failed\n", wanted ? "AVX2" : "every processor",
-        started + 1 - wrong, wrong);
+    wrong += started < THREADS || build() != wanted;
+    printf("this processor takes the build for x86-64-v%d\n%d passed, %d failed\n", wanted, started + 1 - wrong, wrong);
     return wrong != 0;
 }

@@ -6,6 +6,15 @@
 #include <stdlib.h>
 #include <string.h>
 
+/* The file is of the machine that this program is of. */
+#if __SIZEOF_POINTER__ == 8
+#define ELF(type) Elf64_##type
+#define CLASS ELFCLASS64
+#else
+#define ELF(type) Elf32_##type
+#define CLASS ELFCLASS32
+#endif
+
 static int passed, failed;
 
 static void expect(int holds, const char *what, const char *of)
@@ -33,16 +42,16 @@ static unsigned char *whole(const char *name, size_t *size)
     return bytes;
 }
 
-static void segments(const unsigned char *bytes, const Elf64_Ehdr *head)
+static void segments(const unsigned char *bytes, const ELF(Ehdr) *head)
 {
-    const Elf64_Phdr *segment = (const void *)(bytes + head->e_phoff);
+    const ELF(Phdr) *segment = (const void *)(bytes + head->e_phoff);
     int stack = 0, text = 0, both = 0;
     for (int i = 0; i < head->e_phnum; i++) {
         stack |= segment[i].p_type == PT_GNU_STACK && !(segment[i].p_flags & PF_X);
         both |= segment[i].p_type == PT_LOAD && (segment[i].p_flags & PF_X) && (segment[i].p_flags & PF_W);
         if (segment[i].p_type != PT_DYNAMIC)
             continue;
-        const Elf64_Dyn *entry = (const void *)(bytes + segment[i].p_offset);
+        const ELF(Dyn) *entry = (const void *)(bytes + segment[i].p_offset);
         for (; entry->d_tag != DT_NULL; entry++)
             text |= entry->d_tag == DT_TEXTREL || (entry->d_tag == DT_FLAGS && (entry->d_un.d_val & DF_TEXTREL));
     }
@@ -51,18 +60,18 @@ static void segments(const unsigned char *bytes, const Elf64_Ehdr *head)
     expect(!text, "the code is relocated", "");
 }
 
-static void exports(const unsigned char *bytes, const Elf64_Ehdr *head, int count, char **names)
+static void exports(const unsigned char *bytes, const ELF(Ehdr) *head, int count, char **names)
 {
-    const Elf64_Shdr *section = (const void *)(bytes + head->e_shoff);
+    const ELF(Shdr) *section = (const void *)(bytes + head->e_shoff);
     int found = 0;
     for (int i = 0; i < head->e_shnum; i++) {
         if (section[i].sh_type != SHT_DYNSYM)
             continue;
-        const Elf64_Sym *symbol = (const void *)(bytes + section[i].sh_offset);
+        const ELF(Sym) *symbol = (const void *)(bytes + section[i].sh_offset);
         const char *text = (const char *)bytes + section[section[i].sh_link].sh_offset;
         for (size_t n = 1; n < section[i].sh_size / sizeof *symbol; n++) {
             int k = 0;
-            if (symbol[n].st_shndx == SHN_UNDEF || ELF64_ST_BIND(symbol[n].st_info) == STB_LOCAL)
+            if (symbol[n].st_shndx == SHN_UNDEF || ELF32_ST_BIND(symbol[n].st_info) == STB_LOCAL)
                 continue;
             while (k < count && strcmp(names[k], text + symbol[n].st_name))
                 k++;
@@ -79,8 +88,8 @@ int main(int count, char **words)
     if (count < 2)
         return 2;
     unsigned char *bytes = whole(words[1], &size);
-    const Elf64_Ehdr *head = (const void *)bytes;
-    if (size < sizeof *head || memcmp(bytes, ELFMAG, SELFMAG) || bytes[EI_CLASS] != ELFCLASS64 || head->e_type != ET_DYN)
+    const ELF(Ehdr) *head = (const void *)bytes;
+    if (size < sizeof *head || memcmp(bytes, ELFMAG, SELFMAG) || bytes[EI_CLASS] != CLASS || head->e_type != ET_DYN)
         return fprintf(stderr, "%s is no shared library\n", words[1]), 2;
     segments(bytes, head);
     exports(bytes, head, count - 2, words + 2);

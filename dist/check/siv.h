@@ -24,7 +24,7 @@ static void siv_published(void)
         uint8_t key[32], nonce[12], data[48], text[48], sealed[48], wanted[16], tag[16];
         size_t key_length = from_hex(key, siv_cases[i].key), extra = from_hex(data, siv_cases[i].additional);
         size_t length = from_hex(text, siv_cases[i].plain);
-        struct fotsgure_gcm_siv siv;
+        struct fotsgure_gcm_siv siv = {0, {0}};
         from_hex(nonce, siv_cases[i].nonce);
         from_hex(sealed, siv_cases[i].cipher);
         from_hex(wanted, siv_cases[i].tag);
@@ -87,16 +87,21 @@ static void siv_statuses(void)
         memset(&siv, 0xa5, sizeof siv);
         if (length != 16 && length != 32)
             expect(fotsgure_gcm_siv_set_key(&siv, length ? key : NULL, length) == FOTSGURE_GCM_KEY_LENGTH &&
-                all(&siv, sizeof siv, 0), "siv: a key of another length", length);
+                is_emptied(&siv, sizeof siv, 0xa5), "siv: a key of another length", length);
     }
-    expect(fotsgure_gcm_siv_set_key(&siv, key, 16) == FOTSGURE_GCM_DONE && all(siv.round_keys + 176, 64, 0),
+    struct fotsgure_gcm_siv alone = siv;
+    expect(fotsgure_gcm_siv_set_key(&siv, key, 32) == FOTSGURE_GCM_DONE &&
+        fotsgure_gcm_siv_set_key(&siv, key, 16) == FOTSGURE_GCM_DONE &&
+        fotsgure_gcm_siv_set_key(&alone, key, 16) == FOTSGURE_GCM_DONE && memcmp(&siv, &alone, sizeof siv) == 0,
         "siv: behind a short key", 16);
-    expect(fotsgure_gcm_siv_seal(&none, nonce, NULL, 0, text, too_long, tag) == FOTSGURE_GCM_TOO_LONG, "siv", 1);
-    expect(fotsgure_gcm_siv_seal(&none, nonce, key, too_long, text, 4, tag) == FOTSGURE_GCM_TOO_LONG, "siv", 2);
+    expect(IS_32 || fotsgure_gcm_siv_seal(&none, nonce, NULL, 0, text, too_long, tag) == FOTSGURE_GCM_TOO_LONG, "siv", 1);
+    expect(IS_32 || fotsgure_gcm_siv_seal(&none, nonce, key, too_long, text, 4, tag) == FOTSGURE_GCM_TOO_LONG, "siv", 2);
     expect(fotsgure_gcm_siv_seal(&none, nonce, NULL, 0, text, 4, tag) == FOTSGURE_GCM_NO_KEY, "siv", 3);
-    expect(fotsgure_gcm_siv_seal_random(&none, nonce, NULL, 0, text, too_long, tag) == FOTSGURE_GCM_TOO_LONG, "siv", 4);
+#ifndef FOTSGURE_CHECK_BARE
+    expect(IS_32 || fotsgure_gcm_siv_seal_random(&none, nonce, NULL, 0, text, too_long, tag) == FOTSGURE_GCM_TOO_LONG, "siv", 4);
     expect(fotsgure_gcm_siv_seal_random(&none, nonce, NULL, 0, text, 4, tag) == FOTSGURE_GCM_NO_KEY, "siv", 5);
-    expect(fotsgure_gcm_siv_open(&none, nonce, NULL, 0, text, too_long, tag) == FOTSGURE_GCM_TOO_LONG, "siv", 6);
+#endif
+    expect(IS_32 || fotsgure_gcm_siv_open(&none, nonce, NULL, 0, text, too_long, tag) == FOTSGURE_GCM_TOO_LONG, "siv", 6);
     expect(fotsgure_gcm_siv_open(&none, nonce, NULL, 0, text, 4, tag) == FOTSGURE_GCM_NO_KEY, "siv", 7);
     expect(fotsgure_gcm_siv_open(&siv, nonce, NULL, 0, text, 4, tag) == FOTSGURE_GCM_REFUSED, "siv", 8);
     expect(all(text, 4, 3) && all(tag, 16, 9) && all(nonce, 12, 2), "siv: nothing is written after a refusal", 0);
@@ -105,6 +110,7 @@ static void siv_statuses(void)
     fotsgure_gcm_siv_wipe(&siv);
 }
 
+#ifndef FOTSGURE_CHECK_BARE
 /* Nonces that the system draws: no two of them are equal, and each is the one that the message was sealed under. */
 static void siv_drawn(void)
 {
@@ -122,11 +128,14 @@ static void siv_drawn(void)
     }
     fotsgure_gcm_siv_wipe(&siv);
 }
+#endif
 
 static void siv(void)
 {
     siv_published();
     siv_lengths();
     siv_statuses();
+#ifndef FOTSGURE_CHECK_BARE
     siv_drawn();
+#endif
 }

@@ -16,8 +16,9 @@
  *  - A struct fotsgure_aes that fotsgure_aes_set_key or fotsgure_aes_wipe wrote last, or a copy of such a struct, or one
  *    whose bytes are all 0.
  *  - No data race: during the call no other thread writes what it reads, or reads or writes what it writes.
- *  - FOTSGURE_AES_STACK bytes of stack. On x86-64 a processor with SSE4.2 and SSSE3 (x86-64-v2); on 64-bit ARM any
- *    processor, little-endian; on 64-bit RISC-V one with vectors (V 1.0).
+ *  - FOTSGURE_AES_STACK bytes of stack, and a processor with little-endian words: any on x86-64, 64-bit ARM and RISC-V; on
+ *    32-bit ARM an ARMv7 or later, or a Cortex-M. On microcontrollers docs/MICROCONTROLLERS.md says how much stack a call
+ *    takes.
  *
  * NULL is allowed for every pointer to bytes or blocks that has a count or a length beside it, if that is 0.
  *
@@ -44,6 +45,10 @@
 /* It needs C99 or C++11. */
 #include <stddef.h>
 #include <stdint.h>
+
+#if defined(__BYTE_ORDER__) && __BYTE_ORDER__ != __ORDER_LITTLE_ENDIAN__
+#error "no build of this library is for machines with big-endian words"
+#endif
 
 /* The version of this header; fotsgure_aes_version() returns that of the library. */
 #define FOTSGURE_AES_VERSION_TEXT "0.3.0"
@@ -110,7 +115,6 @@ struct fotsgure_aes_cbc {
     uint8_t previous[16]; /* the last encrypted block; before the first, the initialization vector */
 };
 
-FOTSGURE_AES_ASSERT(sizeof(enum fotsgure_aes_status) == 4 && sizeof(size_t) == 8, "the ABI of the library: 64-bit");
 FOTSGURE_AES_ASSERT(sizeof(struct fotsgure_aes) == 484, "no padding");
 FOTSGURE_AES_ASSERT(sizeof(struct fotsgure_aes_ctr) == 24, "no padding");
 FOTSGURE_AES_ASSERT(sizeof(struct fotsgure_aes_cbc) == 16, "no padding");

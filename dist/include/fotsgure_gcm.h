@@ -23,8 +23,9 @@
  *    What calls say of a message is so if all its calls had the same key, the first was fotsgure_gcm_begin, and nothing
  *    else wrote the struct.
  *  - No data race: during the call no other thread writes what it reads, or reads or writes what it writes.
- *  - FOTSGURE_GCM_STACK bytes of stack. On x86-64 a processor with SSE4.2 and SSSE3 (x86-64-v2); on 64-bit ARM any
- *    processor, little-endian; on 64-bit RISC-V one with vectors (V 1.0).
+ *  - FOTSGURE_GCM_STACK bytes of stack, and a processor with little-endian words: any on x86-64, 64-bit ARM and RISC-V; on
+ *    32-bit ARM an ARMv7 or later, or a Cortex-M. On microcontrollers docs/MICROCONTROLLERS.md says how much stack a call
+ *    takes.
  *
  * NULL is allowed for every pointer to bytes that has a length beside it, if that is 0.
  *
@@ -48,6 +49,10 @@
 /* It needs C99 or C++11. */
 #include <stddef.h>
 #include <stdint.h>
+
+#if defined(__BYTE_ORDER__) && __BYTE_ORDER__ != __ORDER_LITTLE_ENDIAN__
+#error "no build of this library is for machines with big-endian words"
+#endif
 
 /* The version of this header; fotsgure_gcm_version() returns that of the library. It is that of fotsgure_aes since 0.3.0,
  * which followed 0.1.0. */
@@ -101,11 +106,21 @@ enum fotsgure_gcm_status {
     FOTSGURE_GCM_UNEQUAL_LENGTHS = 10 /* input and output differ in length */
 };
 
+/* How many bytes are prepared of a key. No build for 32-bit ARM and RISC-V has a byte shuffle; for the other machines there
+ * are builds with one, which take more, and those without use less of the struct. */
+#if defined(__arm__) || (defined(__riscv) && __riscv_xlen == 32)
+#define FOTSGURE_GCM_ROUND_KEYS 480
+#define FOTSGURE_GCM_MULTIPLES 16
+#else
+#define FOTSGURE_GCM_ROUND_KEYS 240
+#define FOTSGURE_GCM_MULTIPLES 1536
+#endif
+
 /* A key, prepared for messages. Read and write it by the calls below alone. */
 struct fotsgure_gcm {
     uint32_t key_length; /* 16, 24 or 32; 0: no key */
-    uint8_t round_keys[240];
-    uint8_t multiples[1536];
+    uint8_t round_keys[FOTSGURE_GCM_ROUND_KEYS];
+    uint8_t multiples[FOTSGURE_GCM_MULTIPLES];
 };
 
 /* The next nonce of a key: 12 bytes, one number, highest byte first. Begin with zeros. If several senders share a key,
@@ -132,14 +147,13 @@ struct fotsgure_gcm_message {
 /* A key of AES-GCM-SIV. Read and write it by the calls below alone. */
 struct fotsgure_gcm_siv {
     uint32_t key_length; /* 16 or 32; 0: no key */
-    uint8_t round_keys[240];
+    uint8_t round_keys[480];
 };
 
-FOTSGURE_GCM_ASSERT(sizeof(enum fotsgure_gcm_status) == 4 && sizeof(size_t) == 8, "the ABI of the library: 64-bit");
-FOTSGURE_GCM_ASSERT(sizeof(struct fotsgure_gcm) == 1780, "no padding");
+FOTSGURE_GCM_ASSERT(sizeof(struct fotsgure_gcm) == FOTSGURE_GCM_ROUND_KEYS + FOTSGURE_GCM_MULTIPLES + 4, "no padding");
 FOTSGURE_GCM_ASSERT(sizeof(struct fotsgure_gcm_counter) == 12, "no padding");
 FOTSGURE_GCM_ASSERT(sizeof(struct fotsgure_gcm_message) == 80, "no padding");
-FOTSGURE_GCM_ASSERT(sizeof(struct fotsgure_gcm_siv) == 244, "no padding");
+FOTSGURE_GCM_ASSERT(sizeof(struct fotsgure_gcm_siv) == 484, "no padding");
 
 /* Returns FOTSGURE_GCM_VERSION of the header that the library was built with. */
 uint32_t fotsgure_gcm_version(void) FOTSGURE_GCM_NOEXCEPT;

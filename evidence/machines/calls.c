@@ -16,6 +16,8 @@
 /* The marks between which the plugin of qemu follows what runs: hints that no processor knows, which do nothing. */
 #ifdef __riscv
 #define MARK(number) __asm__ volatile("addi zero, zero, " #number : : : "memory")
+#elif defined __arm__
+#define MARK(number) __asm__ volatile(".inst 0xe320f000 + " #number : : : "memory")
 #else
 #define MARK(number) __asm__ volatile("nopl " #number "(%%rax)" : : : "memory")
 #endif

@@ -1,6 +1,7 @@
 /* A plugin of qemu that follows what runs between two marks: how many instructions, which ones in which order, and which
  * addresses they read and write. Each time it meets the second mark it writes a line with tabs: instructions, a hash of
- * their addresses, and a hash of the addresses that they read and write. It is compiled with RISCV for that machine, else for x86-64.
+ * their addresses, and a hash of the addresses that they read and write. It is compiled with RISCV or ARM for these machines, else for
+ * x86-64.
  * usage: qemu-x86_64 -plugin plugin.so,out=FILE PROGRAM .. */
 #include <stddef.h>
 #include <stdint.h>
@@ -29,6 +30,8 @@ __attribute__((visibility("default"))) int qemu_plugin_version = 1;
 /* The marks are hints that no processor knows, so that they do nothing: see calls.c. */
 #ifdef RISCV
 enum { ADDI = 0x13, BEGIN = ADDI | 112 << 20, END = ADDI | 113 << 20 };
+#elif defined ARM
+enum { HINT = (int)0xe320f000, BEGIN = HINT | 112, END = HINT | 113 };
 #else
 enum { NOPL = 0x401f0f, BEGIN = NOPL | 112 << 24, END = NOPL | 113 << 24 };
 #endif

@@ -12,29 +12,46 @@ GENERAL = {
     "windows_x86_64": "ecx edx r8d r9d r10d r11d".split(),
     "aarch64": [f"x{n}" for n in range(1, 18)],
     "riscv64": [*(f"a{n}" for n in range(1, 8)), *(f"t{n}" for n in range(7))],
+    "arm": ["r1", "r2", "r3", "r12"],
 }
+GENERAL |= {"thumb": GENERAL["arm"], "riscv32": GENERAL["riscv64"]}
 LABEL = re.compile(r'("[^"]*"|\w+):')
 # A jump to another function of the library, at the end of one.
 LEAP = re.compile(r'\t(?:jmp|b|tail)\t("[^"]*")')
-RETURN = re.compile(r"\t(?:retq|ret)$")
+# (On 32-bit ARM also by what takes the address from the stack, with registers that are the caller's.)
+RETURN = re.compile(r"\t(?:retq|ret|bx\tlr|pop(?:\.w)?\t\{.*\bpc\}|ldm.*\bpc\})$")
 # A jump to libc, which would leave registers as it does.
-LEFT_TO_LIBC = re.compile(r"\t(?:jmpq\t\*\w|jr\tt1|br\tx16)")
+LEFT_TO_LIBC = re.compile(r"\t(?:jmpq\t\*\w|jr\tt1|br\tx16|(?:b|tail)\tmem)")
 # What Windows takes for the end of a function, in which nothing else may stand.
 ENDING = re.compile(r"\t(?:popq\t%|addq\t\$\d+, %rsp)")
 
 
-def emptying(folder, is_wide):
-    """The lines that empty registers. A vector of 128 bits that is written by an instruction of AVX is zero above; the low halves of v8 to
-    v15 of ARM are the caller's."""
+def vectors(folder, is_wide):
+    """The lines that empty vector registers. One of 128 bits that is written by an instruction of AVX is zero above; the low halves of v8
+    to v15 of ARM are the caller's."""
     if folder.endswith("x86_64"):
         count = 6 if folder == "windows_x86_64" else 16
         each = "\tvpxor\t%xmm{0}, %xmm{0}, %xmm{0}" if is_wide else "\tpxor\t%xmm{0}, %xmm{0}"
-        return [each.format(n) for n in range(count)] + [f"\txorl\t%{it}, %{it}" for it in GENERAL[folder]]
+        return [each.format(n) for n in range(count)]
     if folder == "aarch64":
-        vectors = [f"\tmovi\tv{n}.2d, #0000000000000000" for n in (*range(8), *range(16, 32))]
-        return vectors + [f"\tfmov\td{n}, d{n}" for n in range(8, 16)] + [f"\tmov\t{it}, xzr" for it in GENERAL[folder]]
-    vectors = ["\tvsetvli\tt0, zero, e8, m8, ta, ma"] + [f"\tvmv.v.i\tv{n}, 0" for n in range(0, 32, 8)]
-    return vectors + [f"\tli\t{it}, 0" for it in GENERAL[folder]]
+        whole = [f"\tmovi\tv{n}.2d, #0000000000000000" for n in (*range(8), *range(16, 32))]
+        return whole + [f"\tfmov\td{n}, d{n}" for n in range(8, 16)]
+    if folder == "riscv64":
+        return ["\tvsetvli\tt0, zero, e8, m8, ta, ma"] + [f"\tvmv.v.i\tv{n}, 0" for n in range(0, 32, 8)]
+    return []
+
+
+# How a general register is emptied. Cortex-M0 moves no number into r12.
+EACH = {"x86_64": "\txorl\t%{0}, %{0}", "windows_x86_64": "\txorl\t%{0}, %{0}", "aarch64": "\tmov\t{0}, xzr", "riscv64": "\tli\t{0}, 0",
+    "riscv32": "\tli\t{0}, 0", "arm": "\tmov\t{0}, #0", "thumb": "\tmovs\t{0}, #0"}
+
+
+def emptying(folder, is_wide, has_vectors=True):
+    """The lines that empty registers."""
+    general = [EACH[folder].format(it) for it in GENERAL[folder]]
+    if folder == "thumb":
+        general[-1] = "\tmov\tr12, r1"
+    return [*(vectors(folder, is_wide) if has_vectors else []), *general]
 
 
 def functions(lines):
@@ -46,8 +63,8 @@ def functions(lines):
         yield inside, line
 
 
-def emptied(folder, is_wide, text):
-    """The text of a library whose exports empty registers."""
+def emptied(folder, is_wide, text, has_vectors=True):
+    """The text of a library whose exports empty registers, those of vectors if it was compiled for them."""
     lines, exports = text.split("\n"), set(re.findall(r"^(fotsgure_\w+):", text, re.M))
     ending, more = exports, True
     while more:
@@ -63,7 +80,7 @@ def emptied(folder, is_wide, text):
         if inside in ending and RETURN.match(line):
             while folder == "windows_x86_64" and ENDING.match(out[at - 1]):
                 at -= 1
-            out[at:at] = emptying(folder, is_wide)
+            out[at:at] = emptying(folder, is_wide, has_vectors)
         out.append(line)
     if ending - seen:
         raise SystemExit(f"dist: no return is seen in {', '.join(sorted(ending - seen))}")

@@ -2,8 +2,12 @@
 
 That module has the layout of every 64-bit little-endian machine and no types of C, and asks for nothing but memcpy, memmove and memset. The
 kit's clang compiles it for another target after these changes, and no others:
- - RISC-V: the processor's name is left out. The byte shuffle of x86-64 is defined by vrgather, and a result of 32 bits is
-   extended by its sign, as that ABI says.
+ - All but Windows: the processor's name is left out.
+ - RISC-V with vectors and WebAssembly with simd128: the byte shuffle of x86-64 is defined by vrgather or swizzle. The other targets have no
+   shuffle, and are made of modules that have none.
+ - RISC-V of 64 bits: a result of 32 bits is extended by its sign, as that ABI says.
+ - Pointers of 32 bits: the changes of narrowed.py. The stack isn't probed.
+ - WebAssembly: names have letters, digits and _ alone, for its assembler.
  - Windows: functions have the table for unwinding that its ABI asks for, touch the stack as that system does, and leave alone what
    is below it. But for exports they call each other as on Linux: on Windows a function keeps vector registers for its caller, so it
    would leave values of GHASH on the stack. The wipe of the stack empties the two registers that memset may save. Exports have the
@@ -13,6 +17,8 @@ import dataclasses
 import pathlib
 import re
 import sys
+
+import narrowed
 
 # The options that the kit's compiler gives to clang, but for those of a target.
 OPTIONS = """-mllvm -no-trap-after-noreturn -mllvm -trap-unreachable -mllvm -no-x86-call-frame-opt -mllvm -disable-machine-licm
@@ -34,39 +40,96 @@ define internal <16 x i8> @byte_shuffle(<16 x i8> %table, <16 x i8> %places) alw
   %result = and <16 x i8> %lanes, %keep
   ret <16 x i8> %result
 }"""
+# It gives 0 from place 16 on.
+BY_SWIZZLE = """
+declare <16 x i8> @llvm.wasm.swizzle(<16 x i8>, <16 x i8>)
+define internal <16 x i8> @byte_shuffle(<16 x i8> %table, <16 x i8> %places) alwaysinline nounwind {
+  %result = call <16 x i8> @llvm.wasm.swizzle(<16 x i8> %table, <16 x i8> %places)
+  ret <16 x i8> %result
+}"""
 
 EMPTIES = 'call void asm sideeffect "xorl %edi, %edi; xorl %esi, %esi", "~{rdi},~{rsi},~{flags}"()'
 
 
 @dataclasses.dataclass(frozen=True)
 class Target:
-    """The folder of its texts, what clang calls it, its options, and the suffix of its exports."""
+    """The folder of its texts, what clang calls it, its options, what stands behind a library's name in the name of a text, how many bits
+    a pointer has, the definition of the byte shuffle, the suffix of its exports where they are chosen from, and whether its code is to be small."""
 
     folder: str
     triple: str
     options: tuple
+    ending: str = ""
+    bits: int = 64
+    shuffle: str = ""
     suffix: str = ""
+    is_small: bool = False
+
+    @property
+    def is_wasm(self):
+        return self.triple.startswith("wasm")
+
+    def small(self):
+        """The same target, with small code."""
+        options = (*self.options, "-O2", "-Xclang", "-fmerge-functions")
+        return dataclasses.replace(self, options=options, ending=f"{self.ending}_small", is_small=True)
 
 
-RISCV64 = Target("riscv64", "riscv64-unknown-linux-gnu", ("-march=rv64gcv", "-mabi=lp64d", "-fPIC", "-ffunction-sections", "-fdata-sections"))
-# Which are made of the module for a processor of x86-64.
+SECTIONS = ("-ffunction-sections", "-fdata-sections")
+THUMB = ("-mfloat-abi=soft", *SECTIONS)
+CORTEX_M0 = Target("thumb", "thumbv6m-unknown-none-gnueabi", ("-mcpu=cortex-m0", *THUMB), "_v6m", bits=32)
+CORTEX_M3 = Target("thumb", "thumbv7m-unknown-none-gnueabi", ("-mcpu=cortex-m3", *THUMB), "_v7m", bits=32)
+RISCV32 = Target("riscv32", "riscv32-unknown-elf", ("-march=rv32imc", "-mabi=ilp32", "-mcmodel=medany", *SECTIONS), bits=32)
+# Which are made of the module of a build, by the processor of x86-64 that it is for. The first processors have no byte shuffle.
 MADE_OF = {
-    "x86-64-v2": (RISCV64, Target("windows_x86_64", "x86_64-pc-windows-gnu", ("-march=x86-64-v2",), "_v2")),
-    "x86-64-v3": (Target("windows_x86_64", "x86_64-pc-windows-gnu", ("-march=x86-64-v3",), "_v3"),),
+    "x86-64-v2": (
+        Target("riscv64", "riscv64-unknown-linux-gnu", ("-march=rv64gcv", "-mabi=lp64d", "-fPIC", *SECTIONS), shuffle=BY_VRGATHER),
+        Target("windows_x86_64", "x86_64-pc-windows-gnu", ("-march=x86-64-v2",), suffix="_v2"),
+        Target("wasm32", "wasm32-unknown-unknown", ("-Os", "-mcpu=mvp", "-msimd128", "-mbulk-memory", *SECTIONS), bits=32, shuffle=BY_SWIZZLE),
+    ),
+    "x86-64-v3": (Target("windows_x86_64", "x86_64-pc-windows-gnu", ("-march=x86-64-v3",), "_v3", suffix="_v3"),),
+    "x86-64": (
+        Target("windows_x86_64", "x86_64-pc-windows-gnu", ("-march=x86-64",), "_v1", suffix="_v1"),
+        Target("riscv64", "riscv64-unknown-linux-gnu", ("-march=rv64gc", "-mabi=lp64d", "-fPIC", *SECTIONS), "_narrow"),
+        Target("arm", "armv7-unknown-linux-gnueabi", ("-march=armv7-a", "-mfloat-abi=soft", "-fPIC", *SECTIONS), bits=32),
+        *(it for target in (CORTEX_M0, CORTEX_M3, RISCV32) for it in (target, target.small())),
+        Target("wasm32", "wasm32-unknown-unknown", ("-Os", "-mcpu=mvp", *SECTIONS), "_narrow", bits=32),
+    ),
 }
 
 
-def for_riscv(text):
-    text = re.sub(r' "target-cpu"="[^"]*"', "", text)
-    text, count = re.subn(rf"^declare <16 x i8> {re.escape(SHUFFLE)}\(.*$", lambda _: BY_VRGATHER, text, flags=re.M)
-    text = text.replace(SHUFFLE, "@byte_shuffle")
+# Functions that small code has once each, where the quick code has them in each caller: the circuits of the S-boxes, the column mixing of
+# each round of a period, the exchanges of bits, the steps of the key expansion, and those of counter mode.
+ONCE = r"""aes_planes::soft::(?:sbox::(?:inv_)?sub_bytes(?:_nots)?|mix_columns::(?:inv_)?mix_columns_[0-3]|word::transpose::transpose
+    |utils::(?:shifts::(?:swap_columns|delta_swap_1)|copies::(?:store_)?round_key|key_columns::\w+))
+    |aes_soft::soft::(?:plane_words::(?:substitute|PlaneWordsFourWords::\w+)|key_layout::store)
+    |aes_ctr::(?:add_blocks::add_(?:blocks|part)|counter_blocks::WholeBlockCounterBlocks::put|keystream::fill_by_backend
+    |add_in_batches::add_(?:to_one|batch|by_backend))""".replace("\n    ", "")
+
+
+def with_each_once(text):
+    """The module with these functions out of line."""
+    text, count = re.subn(rf'^(define internal .*@"(?:{ONCE})(?:::<[^"]*)?"\(.*\)) #\d+ \{{$', r"\1 noinline nounwind {", text, flags=re.M)
+    if not count:
+        sys.exit("dist: small code has none of the functions that it is to have once")
+    return text
+
+
+def with_shuffle(text, definition):
+    """The module with its byte shuffle defined, or checked to have none."""
+    text, count = re.subn(rf"^declare <16 x i8> {re.escape(SHUFFLE)}\(.*$", lambda _: definition, text, flags=re.M)
+    if count != bool(definition) or "@llvm.x86." in text.replace(SHUFFLE, ""):
+        sys.exit("dist: the module has other instructions of x86-64 than one byte shuffle, or a shuffle where the target has none")
+    return text.replace(SHUFFLE, "@byte_shuffle")
+
+
+def with_signs(text):
+    """The module with results of 32 bits as RISC-V of 64 bits returns them."""
     text = re.sub(r"^define (?:noundef )?i32 (@fotsgure_)", r"define noundef signext i32 \1", text, flags=re.M)
     for head in re.findall(r"^define (?!internal).*$", text, re.M):
         # A parameter of fewer than 64 bits would have to be extended too.
         if not re.match(r"define (void|noundef signext i32|(noundef )?i64) @", head) or re.search(r"[(,] ?i(8|16|32)\b", head):
             sys.exit(f"dist: RISC-V may want another type of {head}")
-    if count != 1 or "@llvm.x86." in text:
-        sys.exit("dist: the module has other instructions of x86-64 than one byte shuffle")
     return text
 
 
@@ -78,14 +141,30 @@ def for_windows(text):
     return re.sub(r'^(define [^@]*@"[\w:]*::wipe_stack\b.*\nstart:\n)', rf"\1  {EMPTIES}\n", text, flags=re.M)
 
 
-def made(clang, module, target):
+def changed_for(target, text, calls):
+    """The text of a module as it is compiled for a target; `calls` are those that the header declares."""
+    if target.suffix:
+        return for_windows(text)
+    text = with_shuffle(re.sub(r' "(?:target-cpu|target-features|tune-cpu)"="[^"]*"', "", text), target.shuffle)
+    if target.bits == 64:
+        return with_signs(text)
+    text = with_each_once(text) if target.is_small else text
+    text = narrowed.for_32(re.sub(r' "(?:probe-stack|stack-probe-size)"="[^"]*"', "", text), calls)
+    return re.sub(r'@"([^"]+)"', lambda name: "@" + re.sub(r"\W", "_", name[1]), text) if target.is_wasm else text
+
+
+# What GNU's assembler doesn't know: the versions of RISC-V's extensions, and the second version of Windows' tables. (variant_cc is for
+# calls by way of the loader, and no export has it.) And what a text doesn't say of itself: for which processor of ARM it is, and how its
+# callers pass floating-point numbers. The assembler is told the one, and no call has the other.
+LEFT_OUT = re.compile(r"^\t\.(?:attribute|variant_cc|seh_startepilogue|seh_endepilogue|eabi_attribute|cpu|fpu|arch)\b.*\n", re.M)
+
+
+def made(clang, module, target, calls):
     """The text for a target, of a module in the file of that name; `clang` runs the kit's."""
-    own = (f"--target={target.triple}", "-Wno-override-module", "-x", "ir", "-S")
-    changed, to = pathlib.Path(f"{module}{target.suffix}.{target.folder}.ll"), pathlib.Path(f"{module}{target.suffix}.{target.folder}.s")
-    clang(*own, "-emit-llvm", "-Xclang", "-disable-llvm-passes", module, "-o", changed)
+    own = ("-Wno-override-module", "-x", "ir", "-S")
+    changed, to = (pathlib.Path(f"{module}.{target.folder}{target.ending}{it}") for it in (".ll", ".s"))
+    clang("--target=x86_64-unknown-linux-gnu", *own, "-emit-llvm", "-Xclang", "-disable-llvm-passes", module, "-o", changed)
     text = re.sub(r"^target (?:datalayout|triple) = .*\n", "", changed.read_text(), flags=re.M)
-    changed.write_text(for_windows(text) if target.suffix else for_riscv(text))
-    clang(*own, *OPTIONS, *target.options, changed, "-o", to)
-    # What GNU's assembler doesn't know: the versions of RISC-V's extensions, and the second version of Windows' tables. (variant_cc
-    # is for calls by way of the loader, and no export has it.)
-    return re.sub(r"^\t\.(?:attribute|variant_cc|seh_startepilogue|seh_endepilogue)\b.*\n", "", to.read_text(), flags=re.M)
+    changed.write_text(changed_for(target, text, calls))
+    clang(f"--target={target.triple}", *own, *OPTIONS, *target.options, changed, "-o", to)
+    return LEFT_OUT.sub("", to.read_text())

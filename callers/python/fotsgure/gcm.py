@@ -42,7 +42,7 @@ class _Key(ctypes.Structure):
 
 
 class _SivKey(ctypes.Structure):
-    _fields_ = [("key_length", ctypes.c_uint32), ("round_keys", ctypes.c_uint8 * 240)]
+    _fields_ = [("key_length", ctypes.c_uint32), ("round_keys", ctypes.c_uint8 * 480)]
 
 
 class _Message(ctypes.Structure):

@@ -1,4 +1,18 @@
 -- What is said of a key that is kept in this build's form: what it is (key_in), that there is one (HoldsKey), that its struct
 -- is in order (IsKept), that zeros stand behind its round keys (IsZeroAfter), and the struct that holds none (no_key).
+use Rattle.std.specs.Prelude.{ℕ, List, replicate}
+use Rattle.gcm.specs.Multiples.{subkey_in, HasMultiples}
 pub use Rattle.aes_hybrid.specs.declared.kept_key.KeptKey.{KeptKey}
 pub use Rattle.aes_hybrid.specs.KeptKey.{key_in, no_key, HoldsKey, IsKept, IsZeroAfter}
+
+-- room of zeros for what tags are made with
+abbrev pub no_room : List (List ℕ)
+no_room = replicate 96 (replicate 16 0)
+
+-- what they are made with stands there
+abbrev pub IsRoom : List (List ℕ) → Type 0
+IsRoom = HasMultiples
+
+-- the block H that it is of
+abbrev pub subkey_of : List (List ℕ) → ℕ
+subkey_of = subkey_in

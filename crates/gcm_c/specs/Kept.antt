@@ -1,9 +1,8 @@
 -- The struct that a caller keeps: a key, and the multiples of its H.
-use Rattle.std.specs.Prelude.{◌≡◌, ◌⊎◌, ℕ, ◌-◌, ◌^◌, ◌<◌, ◌≤◌, List, replicate}
+use Rattle.std.specs.Prelude.{◌≡◌, ◌⊎◌, ℕ, ◌-◌, ◌^◌, ◌<◌, ◌≤◌, List}
 use Rattle.aes_planes.specs.Fips197 as fips
 use Rattle.gcm.specs.Gcm.{hash_subkey}
-use Rattle.gcm.specs.Multiples.{subkey_in, HasMultiples}
-use Rattle.gcm_c.specs.Form.{key_in, no_key, HoldsKey, IsKept}
+use Rattle.gcm_c.specs.Form.{key_in, no_key, no_room, subkey_of, HoldsKey, IsKept, IsRoom}
 use Rattle.gcm_c.specs.declared.kept.Gcm.{Gcm}
 
 -- the round keys of a struct
@@ -14,12 +13,12 @@ round_keys_in gcm = fips.key_expansion (key_in gcm.key)
 -- one, the multiples are those of its H
 pub record IsMade (gcm : Gcm) : Type 0 where
   pub key : IsKept gcm.key
-  pub looked_up : HoldsKey gcm.key → HasMultiples gcm.multiples
-  pub subkey : HoldsKey gcm.key → subkey_in gcm.multiples ≡ hash_subkey (round_keys_in gcm)
+  pub looked_up : HoldsKey gcm.key → IsRoom gcm.multiples
+  pub subkey : HoldsKey gcm.key → subkey_of gcm.multiples ≡ hash_subkey (round_keys_in gcm)
 
 -- the struct of zeros, which holds no key
 abbrev pub no_gcm : Gcm
-no_gcm = record { key = no_key; multiples = replicate 96 (replicate 16 0) }
+no_gcm = record { key = no_key; multiples = no_room }
 
 -- a number of bytes that a nonce can have (SP 800-38D, 5.2.1.1)
 abbrev pub IsNonceLength : ℕ → Type 0

@@ -11,7 +11,7 @@ ghost use Rattle.gcm_c.specs.Kept.{IsNonceLength, IsTooLong};
 ghost use Rattle.gcm_c.specs.Siv.{IsSivTooLong};
 
 use crate::VERSION;
-use crate::form::KeptKey;
+use crate::form::{KeptKey, TagRoom};
 use crate::kept::{Gcm, fotsgure_gcm_set_key};
 use crate::siv::fotsgure_gcm_siv_seal;
 use crate::siv_kept::{Siv, fotsgure_gcm_siv_set_key};
@@ -36,7 +36,7 @@ pub fn numbers_of_the_header()
 {}
 
 // How many bytes the structs have by the header, with nothing between their fields.
-const _: () = prove!(size_of::<Gcm>() == size_of::<KeptKey>() + 1536);
+const _: () = prove!(size_of::<Gcm>() == size_of::<KeptKey>() + size_of::<TagRoom>());
 
 const _: () = prove!(size_of::<Counter>() == 12);
 

@@ -9,6 +9,8 @@
 //!   leaves nothing of it.
 //! - `is_key_size(bytes)` says whether keys have so many bytes.
 //! - `lent(kept)` lends the key of a struct that holds one as a cipher, which is a `LentKey`.
+//! - `TagRoom` is room for what the tags of GCM are made with, a `HashRoom`; `ShortRoom` and
+//!   `LongRoom` are that of a message of AES-GCM-SIV, each a `PolyvalRoom`, the first for short ones.
 //! - `specs/Form.antt` says in its head what its names stand for.
 
 ghost use Rattle.std.specs.Prelude.{◌≡◌, length};
@@ -19,11 +21,22 @@ use aes_cipher::cipher::Encrypt;
 pub(crate) use aes_hybrid::kept_key::{KeptKey, is_key_size};
 use aes_hybrid::lent::Lent;
 
+/// Room for what tags are made with: the multiples of H.
+pub type TagRoom = gcm::Room;
+
+/// The same for a message of AES-GCM-SIV, if it is short.
+pub(crate) type ShortRoom = gcm::TableRoom;
+
+/// The same for a longer one.
+pub(crate) type LongRoom = gcm::Room;
+
 /// The cipher that is lent.
 pub(crate) type LentKey<'a> = Lent<'a, Encrypt, BuildWidth>;
 
-// How many bytes a key takes by the header, with nothing between its fields.
+// How many bytes a key and the multiples take by the header, with nothing between fields.
 const _: () = prove!(size_of::<KeptKey>() == 244);
+
+const _: () = prove!(size_of::<TagRoom>() == 1536);
 
 /// Lends the key of a struct that holds one.
 #[inline(always)]

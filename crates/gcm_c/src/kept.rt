@@ -5,11 +5,11 @@ ghost use Rattle.aes_cipher.specs.KeySizes.{IsKeySize};
 ghost use Rattle.gcm_c.specs.Form.{key_in, HoldsKey, IsZeroAfter};
 ghost use Rattle.gcm_c.specs.Kept.{no_gcm, round_keys_in, IsMade};
 
-use crate::form::{KeptKey, LentKey, is_key_size, lent};
+use crate::form::{KeptKey, LentKey, TagRoom, is_key_size, lent};
 use crate::status::{DONE, KEY_LENGTH};
 use aes_cipher::not_clone::NotClone;
 use aes_cipher::zeroize::{Zeroize, zeroize_elements};
-use gcm::{LentGcm, Room, prepare};
+use gcm::{LentGcm, prepare};
 
 /// A key that the caller owns: `struct fotsgure_gcm`. Its blocks are as secret as the key.
 #[repr(C)]
@@ -18,7 +18,7 @@ pub struct Gcm {
     /// The key as its stored round keys.
     pub key: KeptKey,
     /// The multiples of H.
-    pub multiples: Room,
+    pub multiples: TagRoom,
 }
 
 impl NotClone for Gcm {}
@@ -30,7 +30,7 @@ impl Zeroize for Gcm {
     fn zero() -> Gcm {
         Gcm {
             key: KeptKey::zero(),
-            multiples: [[0; 16]; 96],
+            multiples: TagRoom::zero(),
         }
     }
 
@@ -49,7 +49,7 @@ pub(crate) fn holds_key(gcm: &Gcm) -> bool
 }
 
 /// Lends the key of a struct and its multiples as GCM.
-pub(crate) fn mode_of(gcm: &Gcm) -> LentGcm<'_, LentKey<'_>>
+pub(crate) fn mode_of(gcm: &Gcm) -> LentGcm<'_, LentKey<'_>, TagRoom>
     requires made { IsMade gcm.now }
     requires key { HoldsKey gcm.now.key }
     ensures { result ≡ round_keys_in gcm.now }

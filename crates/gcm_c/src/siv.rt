@@ -9,12 +9,11 @@ ghost use Rattle.gcm_siv.specs.GcmSiv.{authentication_key, encryption_key, IsAut
 ghost use Rattle.gcm_c.specs.Form.{key_in, IsKept};
 ghost use Rattle.gcm_c.specs.Siv.{HoldsSivKey, IsSivMade, IsSivTooLong};
 
-use crate::form::{KeptKey, lent};
+use crate::form::{KeptKey, LongRoom, ShortRoom, lent};
 use crate::siv_kept::{Siv, is_siv_key};
 use crate::status::{DONE, NO_KEY, REFUSED, TOO_LONG};
 use aes_cipher::cipher::Block;
 use aes_cipher::zeroize::MustWipe;
-use gcm::{Room, TableRoom};
 use gcm_siv::{
     KeyRoom, LONGEST, PolyvalRoom, are_few, derive, open, put_authentication, seal,
     wipe_message_stack,
@@ -105,9 +104,9 @@ fn seal_message(siv: &Siv, nonce: &[u8; 12], additional: &[u8], text: &mut [u8])
     ensures encrypted { text.new ≡ rfc.text (key_in siv.now) nonce.now result text.old }
 {
     if are_few(additional.len(), text.len()) {
-        seal_in::<TableRoom>(siv, nonce, additional, text)
+        seal_in::<ShortRoom>(siv, nonce, additional, text)
     } else {
-        seal_in::<Room>(siv, nonce, additional, text)
+        seal_in::<LongRoom>(siv, nonce, additional, text)
     }
 }
 
@@ -168,9 +167,9 @@ fn open_message(
     ensures untouched { result ≡ false → text.new ≡ text.old }
 {
     if are_few(additional.len(), text.len()) {
-        open_in::<TableRoom>(siv, nonce, additional, text, tag)
+        open_in::<ShortRoom>(siv, nonce, additional, text, tag)
     } else {
-        open_in::<Room>(siv, nonce, additional, text, tag)
+        open_in::<LongRoom>(siv, nonce, additional, text, tag)
     }
 }
 

@@ -16,6 +16,8 @@ pub const FOTSGURE_GCM_REFUSED: u32 = 6;
 pub const FOTSGURE_GCM_NONCES_END: u32 = 7;
 pub const FOTSGURE_GCM_OUT_OF_TURN: u32 = 8;
 pub const FOTSGURE_GCM_NO_RANDOMNESS: u32 = 9;
+pub const FOTSGURE_GCM_ROUND_KEYS: u32 = 240;
+pub const FOTSGURE_GCM_MULTIPLES: u32 = 1536;
 
 #[repr(C)]
 #[derive(Clone)]
@@ -47,13 +49,12 @@ pub struct fotsgure_gcm_message {
 #[derive(Clone)]
 pub struct fotsgure_gcm_siv {
     pub key_length: u32,
-    pub round_keys: [u8; 240],
+    pub round_keys: [u8; 480],
 }
 
-const _: () = assert!(core::mem::size_of::<fotsgure_gcm>() == 1780);
 const _: () = assert!(core::mem::size_of::<fotsgure_gcm_counter>() == 12);
 const _: () = assert!(core::mem::size_of::<fotsgure_gcm_message>() == 80);
-const _: () = assert!(core::mem::size_of::<fotsgure_gcm_siv>() == 244);
+const _: () = assert!(core::mem::size_of::<fotsgure_gcm_siv>() == 484);
 
 library! {
     "gcm":

@@ -1,0 +1,17 @@
+/* What the library takes of C's, by the instructions of WebAssembly. */
+#include <stddef.h>
+
+void *memcpy(void *restrict to, const void *restrict from, size_t count)
+{
+    return __builtin_memcpy(to, from, count);
+}
+
+void *memmove(void *to, const void *from, size_t count)
+{
+    return __builtin_memmove(to, from, count);
+}
+
+void *memset(void *to, int byte, size_t count)
+{
+    return __builtin_memset(to, byte, count);
+}

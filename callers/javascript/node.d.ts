@@ -1,0 +1,1 @@
+export { FotsgureError, Aes, AesGcm, AesGcmSiv } from "./fotsgure.js";
