@@ -4,6 +4,7 @@ mod cases;
 mod chains;
 mod generators;
 mod keys;
+mod long;
 mod padded;
 mod pieces;
 mod siv;
