@@ -13,6 +13,11 @@ unfoldable pub cmac_on_literals : ⊤
 unfolding aes_on_literals build doubled_block
 cmac_on_literals = tt
 
+-- the definitions that the rules of examples state
+unfoldable pub cmac_rules : ⊤
+unfolding before_last complete_block chained cmac
+cmac_rules = tt
+
 -- the last block by the cipher of the block of zeros, l
 unfoldable pub last_by : List ℕ → List ℕ → List ℕ
 last_by l rest = if length rest == 16 then add_round_key (doubled_block l) rest

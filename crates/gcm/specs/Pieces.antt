@@ -33,6 +33,7 @@ pub record IsBegun (w : List (List ℕ)) (iv a : List ℕ) (m : Message) : Type 
   pub additional : m.additional ≡ length a
   pub short : length a < 2 ^ 61
   pub text : m.text ≡ 0
+  pub decrypted : m.decrypted ≡ 0
   pub hashing : IsHashing (hash_subkey w) 0 a (from_be_bytes w128 m.value) m.rest
 
 -- the additional data a has come and then the cipher text c, and more of it may come in the same
@@ -45,6 +46,7 @@ pub record IsInText (turn : Phase) (w : List (List ℕ)) (iv a c : List ℕ)
   pub short : length a < 2 ^ 61
   pub text : m.text ≡ length c
   pub short_text : length c ≤ 2 ^ 36 - 32
+  pub decrypted : m.decrypted ≡ 0
   pub hashing : IsHashing (hash_subkey w) (hashed_padded (hash_subkey w) a) c
       (from_be_bytes w128 m.value) m.rest
 
@@ -67,6 +69,14 @@ pub record IsDecrypting (w : List (List ℕ)) (iv : List ℕ) (n : ℕ) (c : Lis
   pub first : from_be_bytes w128 m.first ≡ pre_counter (hash_subkey w) iv
   pub text : m.text ≡ n
   pub decrypted : m.decrypted ≡ length c
+
+-- what a message keeps while its text comes once more, to be decrypted: all but how much has come
+pub record IsKept (before after : Message) : Type 0 where
+  pub first : after.first ≡ before.first
+  pub additional : after.additional ≡ before.additional
+  pub text : after.text ≡ before.text
+  pub value : after.value ≡ before.value
+  pub rest : after.rest ≡ before.rest
 
 -- nothing is left of a message
 abbrev pub no_message : Message

@@ -8,7 +8,7 @@ ghost use Rattle.aes_ctr.specs.CounterMode.{plus_stream};
 ghost use Rattle.gcm.specs.Gcm as nist;
 ghost use Rattle.gcm.specs.Gcm.{nonce_number, IsShortTag};
 ghost use Rattle.gcm.specs.Pieces.{hashed_padded, IsBegun, IsInText, IsAt, IsEncrypting};
-ghost use Rattle.gcm.specs.Pieces.{IsVerifying, IsDecrypting, no_message, phase_of};
+ghost use Rattle.gcm.specs.Pieces.{IsVerifying, IsDecrypting, IsKept, no_message, phase_of};
 ghost use Rattle.gcm.specs.declared.message.Phase.{Phase};
 
 use crate::counter::Counter;
@@ -255,7 +255,7 @@ impl<'a, C: BlockCipherEncrypt, R: HashRoom> LentGcm<'a, C, R> {
         ensures decrypting { OnOk result ((iv a c : List ℕ) → IsVerifying self.now iv a c message.old
             → IsDecrypting self.now iv (length c) [] message.new) }
         ensures phase { OnOk result (phase_of message.new.phase ≡ Phase.Decrypting) }
-        ensures text { OnOk result (message.new.text ≡ message.old.text) }
+        ensures kept { OnOk result (IsKept message.old message.new) }
         ensures untouched { OnErr result (message.new ≡ message.old) }
     {
         if !is_turn(message, Phase::Verifying) {
@@ -294,7 +294,7 @@ impl<'a, C: BlockCipherEncrypt, R: HashRoom> LentGcm<'a, C, R> {
         ensures decrypting { OnOk result ((iv a c : List ℕ) → IsVerifying self.now iv a c message.old
             → IsDecrypting self.now iv (length c) [] message.new) }
         ensures phase { OnOk result (phase_of message.new.phase ≡ Phase.Decrypting) }
-        ensures text { OnOk result (message.new.text ≡ message.old.text) }
+        ensures kept { OnOk result (IsKept message.old message.new) }
         ensures untouched { OnErr result (message.new ≡ message.old) }
     {
         if !is_turn(message, Phase::Verifying) {
@@ -332,7 +332,7 @@ impl<'a, C: BlockCipherEncrypt, R: HashRoom> LentGcm<'a, C, R> {
             → IsDecrypting self.now iv n c message.old
             → IsDecrypting self.now iv n (c ++ text.old) message.new) }
         ensures phase { OnOk result (phase_of message.new.phase ≡ Phase.Decrypting) }
-        ensures text { OnOk result (message.new.text ≡ message.old.text) }
+        ensures kept { OnOk result (IsKept message.old message.new) }
         ensures counted { OnOk result (message.new.decrypted
             ≡ message.old.decrypted + length text.old) }
         ensures untouched { OnErr result (message.new ≡ message.old) }

@@ -5,6 +5,7 @@ mod ccm_messages;
 mod chains;
 mod generators;
 mod keys;
+mod long;
 mod padded;
 mod pieces;
 mod siv;
