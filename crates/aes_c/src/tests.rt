@@ -1,6 +1,5 @@
 //! Each export once, on rows of the standards.
 
-ghost use Rattle.std.specs.Prelude.{◌≡◌};
 ghost use Rattle.aes_c.specs.Form.{HoldsKey};
 
 use super::{

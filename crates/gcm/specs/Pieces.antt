@@ -1,5 +1,5 @@
 -- Messages that come in pieces: what is kept of them, by what has come so far.
-use Rattle.std.specs.Prelude.{◌≡◌, ℕ, ◌==◌, if◌then◌else◌, ◌-◌, ◌*◌, ◌/◌, ◌%◌, ◌^◌, ◌<◌, ◌≤◌, ◌⊎◌}
+use Rattle.std.specs.Prelude.{◌≡◌, ◌≢◌, ℕ, ◌==◌, if◌then◌else◌, ◌-◌, ◌*◌, ◌/◌, ◌%◌, ◌^◌, ◌<◌, ◌≤◌, ◌⊎◌}
 use Rattle.std.specs.Prelude.{List, [], length, replicate, take, drop}
 use Rattle.std.specs.Int.{w128, from_be_bytes}
 use Rattle.gcm.specs.Gcm.{hashed, padded, hash_subkey, pre_counter}
@@ -16,6 +16,14 @@ phase_of n =
     else if n == 3 then Verifying
     else if n == 4 then Decrypting
     else NoMessage
+
+-- text of a phase may come: it has, or additional data may
+abbrev pub IsTurn : Phase → Message → Type 0
+IsTurn turn m = (phase_of m.phase ≡ Additional) ⊎ (phase_of m.phase ≡ turn)
+
+-- no text of a phase may come
+abbrev pub IsOutOfTurn : Phase → Message → Type 0
+IsOutOfTurn turn m = (phase_of m.phase ≢ Additional) × (phase_of m.phase ≢ turn)
 
 -- GHASH, from the value y on, after the whole blocks of a string, and the bytes of it behind them
 pub record IsHashing (h y : ℕ) (s : List ℕ) (v : ℕ) (block : List ℕ) : Type 0 where
