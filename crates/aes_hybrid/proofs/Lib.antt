@@ -1,4 +1,3 @@
 -- The files of lemmas.
 pub mod Fronts
-pub mod Shifted
 pub mod PlaneKeys
