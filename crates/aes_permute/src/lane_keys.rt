@@ -1,7 +1,7 @@
 //! The key schedules (FIPS 197, 5.2), four words at a time, and
 //! the form in which round keys are stored.
 
-ghost use Rattle.std.specs.Prelude.{◌≡◌, ◌+◌, ◌/◌, ◌<◌, ◌≤◌, ◌∷◌, length, map, replicate, bit_xor};
+ghost use Rattle.std.specs.Prelude.{◌≡◌, ◌+◌, ◌/◌, ◌%◌, ◌<◌, ◌≤◌, ◌∷◌, length, map, replicate, bit_xor};
 ghost use Rattle.std.specs.Simd.Lanes.{zip2};
 ghost use Rattle.aes_planes.specs.Fips197 as fips;
 ghost use Rattle.aes_planes.specs.Planes.{plus63, summed};
@@ -67,7 +67,8 @@ fn with_constant(words: u8x16, constant: u8) -> u8x16
 fn stored_key(words: u8x16, i: usize, last: usize) -> u8x16
     requires { 1 ≤ last }
     ensures first { i ≡ 0 → result ≡ map untower words }
-    ensures between { 1 ≤ i → i < last → map key_untower result ≡ map untower words }
+    ensures between { 1 ≤ i → i < last
+        → fips.shift_times (i % 4) (map key_untower result) ≡ map untower words }
     ensures at_last { i ≡ last → map plus63 result ≡ map untower words }
 {
     if i == 0 {
@@ -77,7 +78,7 @@ fn stored_key(words: u8x16, i: usize, last: usize) -> u8x16
         // As those between with the constant of the S-box, but not in the tower basis.
         return plain_key(words);
     }
-    encrypting_key(words)
+    encrypting_key(words, i)
 }
 
 // The schedule of Cipher, made in vectors: one has four words, in the tower basis.
@@ -172,7 +173,7 @@ pub fn invert_lanes(inverse: &mut [Block], keys: &[Block])
     'keys: for i in 1..last {
         let key = keys[last - i];
         laws::is_block(key);
-        inverse[i] = inverted_key(u8x16::from_array(key)).to_array();
+        inverse[i] = inverted_key(u8x16::from_array(key), last - i).to_array();
     }
     inverse[0] = keys[last];
     inverse[last] = keys[0];

@@ -1,7 +1,7 @@
 //! The rounds of Cipher and EqInvCipher on lanes, and their round keys. States are kept in the
 //! tower basis, and round keys so that the constant of the S-box is added with them.
 
-ghost use Rattle.std.specs.Prelude.{◌≡◌, ℕ, true, false, length, map, bit_xor};
+ghost use Rattle.std.specs.Prelude.{◌≡◌, ◌%◌, ℕ, true, false, map, bit_xor};
 ghost use Rattle.std.specs.Simd.Lanes.{zip2};
 ghost use Rattle.aes_planes.specs.Fips197 as fips;
 ghost use Rattle.aes_permute.specs.Keys.{cipher_form, inverse_form};
@@ -31,9 +31,9 @@ impl LaneRounds for Encrypt {
         looked_up_by_nibbles(blocks.sum(key), TOWER_LOW, TOWER_HIGH)
     }
 
-    #[tactic(auto, unfolding(crate::specs::Lookup::is_index))]
+    // ShiftRows is left out: each byte is taken from where it is.
     #[inline(always)]
-    fn round<L: Lanes>(x: L, key: L) -> L {
+    fn round<L: Lanes>(x: L, key: L, number: usize) -> L {
         x.are_blocks();
         key.are_blocks();
         let at = places_of(x);
@@ -41,24 +41,21 @@ impl LaneRounds for Encrypt {
         let two = looked_up(at, TWO_FIRST, TWO_SECOND);
         // A byte's double with the next row's byte: a row further on, the same
         // sums hold the rest of the product with 3.
-        let next = one.permuted([5, 6, 7, 4, 9, 10, 11, 8, 13, 14, 15, 12, 1, 2, 3, 0]);
+        let next = one.permuted(NEXT_ROW[number % 4]);
         let pairs = two.sum(next);
-        let first = pairs.permuted([0, 5, 10, 15, 4, 9, 14, 3, 8, 13, 2, 7, 12, 1, 6, 11]);
-        let second = pairs.permuted([5, 10, 15, 0, 9, 14, 3, 4, 13, 2, 7, 8, 1, 6, 11, 12]);
-        let fourth = one.permuted([15, 0, 5, 10, 3, 4, 9, 14, 7, 8, 13, 2, 11, 12, 1, 6]);
+        let second = pairs.permuted(NEXT_ROW[number % 4]);
+        let fourth = one.permuted(ROW_BEFORE[number % 4]);
         let with_key = fourth.sum(key);
-        let most = with_key.sum(first);
+        let most = with_key.sum(pairs);
         most.sum(second)
     }
 
-    #[tactic(auto, unfolding(crate::specs::Lookup::is_index))]
     #[inline(always)]
-    fn last<L: Lanes>(x: L, key: L) -> L {
+    fn last<L: Lanes>(x: L, key: L, number: usize) -> L {
         x.are_blocks();
         key.are_blocks();
         let one = looked_up(places_of(x), SBOX_FIRST, SBOX_SECOND);
-        one.permuted([0, 5, 10, 15, 4, 9, 14, 3, 8, 13, 2, 7, 12, 1, 6, 11])
-            .sum(key)
+        one.permuted(SHIFTED_ROWS[number % 4]).sum(key)
     }
 
     #[tactic(auto, using(crate::proofs::DirectionLaws::same_forward))]
@@ -87,7 +84,8 @@ impl LaneRounds for Decrypt {
 
     #[tactic(auto, unfolding(crate::specs::Lookup::is_index))]
     #[inline(always)]
-    fn round<L: Lanes>(x: L, key: L) -> L {
+    fn round<L: Lanes>(x: L, key: L, number: usize) -> L {
+        let _ = number;
         x.are_blocks();
         key.are_blocks();
         let at = places_of(x);
@@ -108,7 +106,8 @@ impl LaneRounds for Decrypt {
 
     #[tactic(auto, unfolding(crate::specs::Lookup::is_index))]
     #[inline(always)]
-    fn last<L: Lanes>(x: L, key: L) -> L {
+    fn last<L: Lanes>(x: L, key: L, number: usize) -> L {
+        let _ = number;
         x.are_blocks();
         key.are_blocks();
         let one = looked_up(places_of(x), INV_SBOX_FIRST, INV_SBOX_SECOND);
@@ -153,16 +152,15 @@ pub fn out_of_tower(x: u8x16) -> u8x16
     looked_up_by_nibbles(x, UNTOWER_LOW, UNTOWER_HIGH)
 }
 
-/// Returns a round key of Cipher between the first and the last as it is stored, of what it is in
-/// the tower basis.
-#[tactic(auto, using(crate::proofs::ExpandedLanes::inner_is))]
+/// Returns round key `number` of Cipher, between the first and the last, as it is stored, of what it
+/// is in the tower basis: its rows are shifted back as often as ShiftRows was left out before.
 #[inline(always)]
-pub fn encrypting_key(key: u8x16) -> u8x16
-    requires { length key ≡ 16 }
-    ensures { map key_untower result ≡ map untower key }
+pub fn encrypting_key(key: u8x16, number: usize) -> u8x16
+    ensures { fips.shift_times (number % 4) (map key_untower result) ≡ map untower key }
 {
-    // 0x63 in the tower basis.
-    key ^ u8x16::splat(0x6e)
+    key.are_blocks();
+    // 0x6e is 0x63 in the tower basis.
+    key.permuted(SHIFTED_ROWS[(4 - number % 4) % 4]) ^ u8x16::splat(0x6e)
 }
 
 /// Returns a round key of EqInvCipher between the first and the last as it is stored: InvMixColumns
@@ -195,11 +193,14 @@ pub fn plain_key(stored: u8x16) -> u8x16
     out_of_tower(stored) ^ u8x16::splat(0x63)
 }
 
-/// Turns a stored round key of Cipher into one of EqInvCipher, between the first and the last.
+/// Turns stored round key `number` of Cipher into one of EqInvCipher, between the first and the last.
 #[inline(always)]
-pub fn inverted_key(stored: u8x16) -> u8x16
+pub fn inverted_key(stored: u8x16, number: usize) -> u8x16
     requires { fips.IsBlock stored }
-    ensures { map inv_untower result ≡ fips.inv_mix_columns (map key_untower stored) }
+    ensures { map inv_untower result ≡ fips.inv_mix_columns
+        (fips.shift_times (number % 4) (map key_untower stored)) }
 {
-    decrypting_key(plain_key(stored))
+    let key = plain_key(stored).permuted(SHIFTED_ROWS[number % 4]);
+    key.are_blocks();
+    decrypting_key(key)
 }

@@ -1,0 +1,10 @@
+-- What is left to show of `rounds::encrypting_key`.
+use Rattle.std.proofs.Common.{◌-◌, ◌%◌}
+use Rattle.aes_permute.proofs.DeferredRows.{shifted_back_indices, stored_is}
+use Rattle.aes_permute.proofs.rounds.encrypting_key.Goals as goal
+
+pub permuted-requires : goal.permuted-requires
+permuted-requires c = record { are_indices = shifted_back_indices c.args.number }
+
+pub returns : goal.returns
+returns c = stored_is c.args.number c.args.key _ (c.are_blocks.ensures 0).0 (c.permuted.ensures 0)
