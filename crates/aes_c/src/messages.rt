@@ -12,7 +12,7 @@ use ccm::{InvalidMessage, NotDecrypted, decrypt, encrypt};
 
 // How many bytes of stack a call takes at most that encrypts or decrypts a message. Values of the
 // chain are left there, blocks of the keystream, and the right tag of a message that is refused.
-const MESSAGE_STACK: usize = 2048;
+const MESSAGE_STACK: usize = 1024;
 
 // Returns the status of lengths that no message has.
 fn status_of(invalid: InvalidMessage) -> u32
