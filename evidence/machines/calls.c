@@ -292,6 +292,12 @@ static int is_same(size_t at, size_t length) {
         same &= memcmp(images[other] + at, images[0] + at, length) == 0;
     return same;
 }
+/* Whether a word has one byte alone, which is known: a machine of 32 bits may keep bytes of a message so. In a long message every byte
+ * occurs, so that this tells something of short ones alone. */
+static int is_alone(int run, size_t at) {
+    static const uint8_t zeros[3];
+    return at % 4 == 0 && !memcmp(images[run] + at + 1, zeros, 3) && memchr(known[run], images[run][at], known_bytes[run]);
+}
 /* Counts the bytes of a run's stack that other keys leave otherwise: those that are known, by pieces, and the others. It begins 64
  * bytes below the deepest place. */
 static void count_left(int run, size_t deep, size_t *is_known, size_t *is_secret) {
@@ -303,7 +309,7 @@ static void count_left(int run, size_t deep, size_t *is_known, size_t *is_secret
         const uint8_t *at = i + PIECE > STACK ? NULL : memmem(known[run], known_bytes[run], images[run] + i, PIECE);
         for (; at && at + piece < known[run] + known_bytes[run] && i + piece < STACK && at[piece] == images[run][i + piece];)
             piece++;
-        *(at ? is_known : is_secret) += piece;
+        *(at || is_alone(run, i) ? is_known : is_secret) += piece;
     }
 }
 /* A call at one length, for each message under each key. */
