@@ -241,7 +241,7 @@ static void counted(void)
         "the end", 0);
     counter.next[0] = 0;
     memcpy(before, counter.next, 12);
-    expect(fotsgure_gcm_seal_next(&none, &counter, nonce, NULL, 0, text, (size_t)FOTSGURE_GCM_MOST + 1, tag) ==
+    expect(IS_32 || fotsgure_gcm_seal_next(&none, &counter, nonce, NULL, 0, text, (size_t)FOTSGURE_GCM_MOST + 1, tag) ==
         FOTSGURE_GCM_TOO_LONG, "counted, long text", 0);
     expect(fotsgure_gcm_seal_next(&none, &counter, nonce, NULL, 0, text, 4, tag) == FOTSGURE_GCM_NO_KEY, "no key", 1);
     expect(memcmp(before, counter.next, 12) == 0 && all(text, 4, 1) && all(nonce, 12, 2) && all(tag, 16, 3),
@@ -473,9 +473,9 @@ static void pieces(void)
     expect(fotsgure_gcm_accept(&none, &message, tag, 16) == FOTSGURE_GCM_NO_KEY, "no key", 5);
     expect(fotsgure_gcm_decrypt(&none, &message, NULL, 0) == FOTSGURE_GCM_NO_KEY, "no key", 6);
     expect(fotsgure_gcm_decrypt_unverified(&none, &message, NULL, 0) == FOTSGURE_GCM_NO_KEY, "no key", 7);
-    expect(fotsgure_gcm_additional(&gcm, &message, key, (size_t)FOTSGURE_GCM_MOST_ADDITIONAL + 1) ==
+    expect(IS_32 || fotsgure_gcm_additional(&gcm, &message, key, (size_t)FOTSGURE_GCM_MOST_ADDITIONAL + 1) ==
         FOTSGURE_GCM_TOO_LONG, "too long", 0);
-    expect(fotsgure_gcm_encrypt(&gcm, &message, key, (size_t)FOTSGURE_GCM_MOST + 1) == FOTSGURE_GCM_TOO_LONG,
+    expect(IS_32 || fotsgure_gcm_encrypt(&gcm, &message, key, (size_t)FOTSGURE_GCM_MOST + 1) == FOTSGURE_GCM_TOO_LONG,
         "too long", 1);
     expect(memcmp(&message, &before, sizeof message) == 0, "a message that is refused stays as it was", 0);
     expect(fotsgure_gcm_encrypt(&gcm, &message, NULL, 0) == FOTSGURE_GCM_DONE, "NULL for no bytes", 1);

@@ -27,6 +27,11 @@ void _exit(int status)
         call(EXIT, status, 0, 0);
 }
 
+void abort(void)
+{
+    _exit(99);
+}
+
 extern int main(void);
 extern char __bss_start[], __bss_end[];
 __attribute__((used)) static void begin(void)

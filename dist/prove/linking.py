@@ -47,7 +47,7 @@ def is_wide(build):
 
 
 def suffix_of(build):
-    """What the names of a build end with in a static library, which for x86-64 holds two."""
+    """What the names of a build end with in a static library, which for x86-64 holds several."""
     return "" if BUILDS[build].only_wide is None else "_v3" if is_wide(build) else "_v2"
 
 
@@ -83,15 +83,14 @@ class Built:
 
     def shared(self, library):
         """The shared libraries, each with the objects that it should have: [(path, {name of an export: its name there}, objects)]."""
-        builds = ["%s/%s%s" % (self.folder, library, wide) for wide in ("", "_v3")]
-        builds = [build for build in builds if build in BUILDS]
-        paths = ["%s/%slibfotsgure_%s.so.*" % (self.out, folder, library) for folder in ("", "glibc-hwcaps/x86-64-v3/")]
-        paths = [path for pattern in paths for path in glob.glob(pattern)]
-        objects = [self.object_of(build) for build in builds]
-        if len(paths) == len(builds):  # one build each
-            return [(path, exports_of(one, suffix_of(build)), [one]) for path, build, one in zip(paths, builds, objects)]
-        chooses = self.archive(library)["choose_%s.o" % library]
-        return [(path, exports_of(chooses, ""), [chooses, *objects]) for path in paths]
+        whole, wide = (glob.glob("%s/%slibfotsgure_%s.so.*" % (self.out, folder, library)) for folder in ("", "glibc-hwcaps/x86-64-v3/"))
+        if not self.machine.only_wide:
+            one = self.object_of("%s/%s" % (self.folder, library))
+            return [(path, exports_of(one, ""), [one]) for path in whole]
+        members = self.archive(library)
+        chooses, v3 = members["choose_%s.o" % library], self.object_of("%s/%s_v3" % (self.folder, library))
+        all_builds = [chooses, *(members["%s%s_chosen.o" % (library, it)] for it in ("_v1", "", "_v3"))]
+        return [*((path, exports_of(chooses, ""), all_builds) for path in whole), *((path, exports_of(v3, "_v3"), [v3]) for path in wide)]
 
 
 def exports_of(path, suffix):
@@ -182,7 +181,7 @@ def refuse_instructions(program, wide):
         raise Unproved("has functions that no export leads to: " + ", ".join(sorted(set(functions) - reached)))
 
 
-# The exports of a static library, which holds two builds: each jumps to the function of one, by what was found of the processor.
+# The exports of a static library, which holds three builds: each jumps to the function of one, by what was found of the processor.
 def choice_cases(built, dist, out):
     for library in filter(built.has, ("aes", "gcm")) if built.machine.only_wide else ():
         objects = [path for name, path in built.archive(library).items() if name != "seal_random.o"]
@@ -190,8 +189,8 @@ def choice_cases(built, dist, out):
         declared = parameters("%s/include/fotsgure_%s.h" % (dist, library))
         names = sorted(name for name in exports_of(built.archive(library)["choose_%s.o" % library], "") if name.startswith("fotsgure_"))
         for name in names:
-            wrong += [name + suffix for found, suffix in ((1, "_v2"), (2, "_v3")) if not leads(program, name, declared[name], found, suffix)]
-        yield "choose_%s.o: %d exports, each to either build" % (library, len(names)), ", ".join(wrong)
+            wrong += [name + suffix for found, suffix in ((1, "_v1"), (2, "_v2"), (3, "_v3")) if not leads(program, name, declared[name], found, suffix)]
+        yield "choose_%s.o: %d exports, each to the three builds" % (library, len(names)), ", ".join(wrong)
 
 
 def parameters(header):
@@ -208,7 +207,7 @@ def leads(program, name, count, found, suffix):
     m = X86_64(domain, program, {"stack": Region([domain.undefined] * 512, align=16)}, program.symbols[name], arguments)
     before, stack, top = dict(m.general), m.regions["stack"].content[m.top:], m.top
     m.top += len(stack)  # a function may write to the arguments that it is given
-    while m.next_address not in (program.symbols[name + "_v2"], program.symbols[name + "_v3"]):
+    while m.next_address not in [program.symbols[name + build] for build in ("_v1", "_v2", "_v3")]:
         m.step()
     program.constants.pop()
     same = all(m.general[r] == before[r] for r in (*m.kept, *m.arguments[:count]))

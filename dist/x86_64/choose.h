@@ -4,7 +4,7 @@
 
 /* For every processor; for x86-64-v2, whose byte shuffle the library takes; and for x86-64-v3. */
 enum { NOT_ASKED, V1, V2, V3 };
-/* The last build that a library has. `make` asks for fewer in a shared library, and for tests. */
+/* The last build that a library has: tests have fewer. */
 #ifndef FOTSGURE_LAST_BUILD
 #define FOTSGURE_LAST_BUILD 3
 #endif
