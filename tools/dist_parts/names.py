@@ -56,24 +56,18 @@ def macro(folder, prefix, suffix):
     return f"/* {SAID} */\n" + "".join(f"\t{it}\n" for it in lines)
 
 
-def plain(prefix, text):
-    """A text whose functions have such names, but for exports."""
+def own(prefix, text):
+    """A text with names of its own."""
     functions = of_functions(text)
 
     def of_function(found):
         section, name = found[1] or "", found[2]
         return f"{section}{prefix}.{functions[name]}" if name in functions else found[0]
 
-    text = QUOTED.sub(of_function, text)
-    if left := next((it for it in text.split("\n") if QUOTED.search(COMMENT.sub("", it))), ""):
+    text = GLOBAL.sub(rf"\texport_{prefix}\t\1", DEFINITION.sub("", LABEL.sub(f".L{prefix}_", text)))
+    lines = [it if "\texport_" in it else EXPORT.sub(rf"\1{prefix}.\2", QUOTED.sub(of_function, it)) for it in text.split("\n")]
+    if left := next((it for it in lines if QUOTED.search(COMMENT.sub("", it))), ""):
         raise SystemExit(f"dist: a name is still that of the compiler: {left}")
-    return text
-
-
-def own(prefix, text):
-    """A text with names of its own."""
-    text = plain(prefix, GLOBAL.sub(rf"\texport_{prefix}\t\1", DEFINITION.sub("", LABEL.sub(f".L{prefix}_", text))))
-    lines = [it if "\texport_" in it else EXPORT.sub(rf"\1{prefix}.\2", it) for it in text.split("\n")]
     return "\n".join(lines)
 
 
