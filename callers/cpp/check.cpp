@@ -168,7 +168,7 @@ void wrapped_keys() {
     const fotsgure::Aes other(bytes_of("5840df6e29b02af1ab493b705bf16ea1ae8338f4dcc176a8"));
     expect(aes.wrap(key) == wrapped && aes.unwrap(wrapped) == key, "RFC 3394, 4.6", key.size());
     expect(other.wrap_padded(short_key) == padded && other.unwrap_padded(padded) == short_key, "RFC 5649, 6", short_key.size());
-    const std::string changed = "the key was changed, or wrapped under another key";
+    const std::string changed = "the wrapped key or the message was changed, or is of another key";
     expect(says(changed, [&] { (void)aes.unwrap(padded); }) && says(changed, [&] { (void)aes.unwrap_padded(wrapped); }),
         "the other's wrapped key is refused", key.size());
     const std::string length = "a key of this length is not wrapped, or the output has another length";

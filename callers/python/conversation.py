@@ -9,7 +9,7 @@ callers/c/conversation.c says what a message has in its additional data, and so 
 import os
 import pathlib
 import sys
-from typing import BinaryIO, List
+from typing import IO, List
 
 from fotsgure.gcm import GcmSiv, Refused
 
@@ -20,14 +20,18 @@ ASKS, ANSWERS = 0, 1
 class Side:
     """One of the two: as a sender it is ASKS or ANSWERS."""
 
-    def __init__(self, siv: GcmSiv, role: int, incoming: BinaryIO, outgoing: BinaryIO) -> None:
+    def __init__(self, siv: GcmSiv, role: int, incoming: IO[bytes], outgoing: IO[bytes]) -> None:
         self._siv, self._role, self._in, self._out = siv, role, incoming, outgoing
         mine = os.urandom(HELLO)
-        self._out.write(mine)
+        self._send(mine)
         hellos = (mine, self._read(HELLO))
         # Random bytes of both sides, so that no other conversation has these: first those of the side that asks.
         self._hellos = b"".join(hellos if role == ASKS else reversed(hellos))
         self._numbers = [0, 0]
+
+    def _send(self, data: bytes) -> None:
+        self._out.write(data)
+        self._out.flush()
 
     def _read(self, count: int) -> bytes:
         data = self._in.read(count)
@@ -45,7 +49,7 @@ class Side:
         if len(text) > MOST:
             raise ValueError("a text: it is too long")
         nonce, sealed = self._siv.seal_random(text, self._about_next(self._role))
-        self._out.write(len(text).to_bytes(4, "big") + nonce + sealed[-TAG:] + sealed[:-TAG])
+        self._send(len(text).to_bytes(4, "big") + nonce + sealed[-TAG:] + sealed[:-TAG])
 
     def hear(self) -> bytes:
         length, nonce, tag = int.from_bytes(self._read(4), "big"), self._read(NONCE), self._read(TAG)
@@ -71,14 +75,14 @@ def answer(side: Side) -> None:
 
 
 def main(word: str, key: str, there: str, back: str, *texts: str) -> None:
-    role = ASKS if word == "ask" else ANSWERS
-    with GcmSiv(pathlib.Path(key).read_bytes()) as siv:
-        # Both sides open `there` first, since each waits for the other. What is written isn't buffered.
-        with open(there, "wb" if role == ASKS else "rb", buffering=0 if role == ASKS else -1) as first, \
-                open(back, "rb" if role == ASKS else "wb", buffering=-1 if role == ASKS else 0) as second:
-            incoming, outgoing = (second, first) if role == ASKS else (first, second)
-            side = Side(siv, role, incoming, outgoing)
-            ask(side, list(texts)) if role == ASKS else answer(side)
+    asks = word == "ask"
+    # Both sides open `there` first, since each waits for the other.
+    with GcmSiv(pathlib.Path(key).read_bytes()) as siv, open(there, "wb" if asks else "rb") as first, \
+            open(back, "rb" if asks else "wb") as second:
+        if asks:
+            ask(Side(siv, ASKS, second, first), list(texts))
+        else:
+            answer(Side(siv, ANSWERS, first, second))
     sys.stdout.flush()
 
 

@@ -1,6 +1,7 @@
 /* The library from C: FIPS 197, appendix C, in both directions; slices of 0 to 40 blocks against single calls;
- * SP 800-38A, F.5 and F.2, cut at every place; key wrap by RFC 3394; every status; NULL with a count of 0; the wipe; with WITH_OPENSSL 1 MiB against
- * OpenSSL. The last line is `N passed, N failed`. */
+ * SP 800-38A, F.5 and F.2, cut at every place; key wrap by RFC 3394; CMAC by SP 800-38B, D.1 to D.3, CCM by SP 800-38C, C.1 to
+ * C.3; single rounds; every status; NULL with a count of 0; the wipe; with WITH_OPENSSL 1 MiB against OpenSSL. The last line is
+ * `N passed, N failed`. */
 #include "fotsgure_aes.h"
 
 #ifdef WITH_OPENSSL
@@ -84,6 +85,24 @@ static const struct { const char *key, *data, *wrapped; } padded_rows[] = {
     {"95da2700ca6fd9a52554ee2a8df1386f5b94a1a60ed8a4aef60a8d61ab5f225a", "d1", "06ba7ae6f3248cfdcf267507fa001bc4"},
     {"3517f0efa7f0c4d74f91af83ece5e7503bcc5ab82907a6e4b7ed34d87b69ab1d", "897e0456b289ad31",
         "0b06a9b635d50cda9d4210cb3a71f990"},
+};
+
+/* SP 800-38B, D.1 to D.3: tags of the first 0, 16, 40 and 64 bytes of the text of F.5, under its keys. */
+static const size_t cmac_lengths[] = {0, 16, 40, 64};
+static const char *const cmac_rows[][4] = {
+    {"bb1d6929e95937287fa37d129b756746", "070a16b46b4d4144f79bdd9dd04a287c",
+     "dfa66747de9ae63030ca32611497c827", "51f0bebf7e3b9d92fc49741779363cfe"},
+    {"d17ddf46adaacde531cac483de7a9367", "9e99a7bf31e710900662f65e617c5184",
+     "8a1de5be2eb31aad089a82e6ee908b0e", "a1d5df0eed790f794d77589659f39a11"},
+    {"028962f61b7bf89efc6b551f4667d983", "28a7023f452e8f82bd4bf28d8c37c35c",
+     "aaf3d8f1de5640c232f5b169b9c911e6", "e1992190549f6ed5696a2c056c315410"},
+};
+
+/* SP 800-38C, C.1 to C.3: the key is 40 41 .. 4f, the nonce counts from 10 on, the additional data from 00 on, the text from 20 on. */
+static const struct { size_t nonce, additional, text, tag; const char *sealed, *tagged; } ccm_rows[] = {
+    {7, 8, 4, 4, "7162015b", "4dac255d"},
+    {8, 16, 16, 6, "d2a1f0e051ea5f62081a7792073d593d", "1fc64fbfaccd"},
+    {12, 20, 24, 8, "e3b201a9f5b71a7a9b1ceaeccd97e70b6176aad9a4428aa5", "484392fbc1b09951"},
 };
 
 static uint8_t counted[33];
@@ -324,6 +343,119 @@ static void paddings(void)
     expect(right, "lengths and paddings of KWP", 16);
 }
 
+static void tags(size_t row)
+{
+    uint8_t key[32], message[64], wanted[16], tag[16];
+    struct fotsgure_aes aes;
+    from_hex(key, f_rows[row].key);
+    from_hex(message, f_plain);
+    expect(fotsgure_aes_set_key(&aes, key, f_rows[row].size) == FOTSGURE_AES_DONE, "a key is kept", f_rows[row].size);
+    for (size_t i = 0; i < 4; i++) {
+        size_t length = cmac_lengths[i];
+        int right = 1;
+        from_hex(wanted, cmac_rows[row][i]);
+        expect(fotsgure_aes_cmac(&aes, message, length, tag) == FOTSGURE_AES_DONE && !memcmp(tag, wanted, 16), "CMAC", length);
+        for (size_t size = 0; size <= 16; size++) {
+            enum fotsgure_aes_status short_tag = size < 4 ? FOTSGURE_AES_TAG_LENGTH : FOTSGURE_AES_DONE;
+            right &= fotsgure_aes_cmac_verify(&aes, message, length, tag, size) == short_tag;
+        }
+        right &= fotsgure_aes_cmac_verify(&aes, message, length, counted, 17) == FOTSGURE_AES_TAG_LENGTH;
+        for (size_t at = 0; at < 16; at++) {
+            tag[at] ^= 0x80;
+            right &= fotsgure_aes_cmac_verify(&aes, message, length, tag, 16) == FOTSGURE_AES_REFUSED;
+            tag[at] ^= 0x80;
+        }
+        expect(right, "tags of each length, and with each byte changed", length);
+    }
+}
+
+static void count_from(uint8_t *bytes, size_t count, unsigned first)
+{
+    for (size_t i = 0; i < count; i++)
+        bytes[i] = (uint8_t)(first + i);
+}
+
+static void messages(size_t row)
+{
+    enum { KEY = 0x40, NONCE = 0x10, TEXT = 0x20 };
+    uint8_t key[16], nonce[13], plain[24], text[24], sealed[24], tag[8], wanted[8];
+    size_t nonce_length = ccm_rows[row].nonce, extra = ccm_rows[row].additional, length = ccm_rows[row].text;
+    size_t tag_length = ccm_rows[row].tag;
+    struct fotsgure_aes aes;
+    int refused = 1;
+    count_from(key, sizeof key, KEY);
+    count_from(nonce, sizeof nonce, NONCE);
+    count_from(plain, sizeof plain, TEXT);
+    from_hex(sealed, ccm_rows[row].sealed);
+    from_hex(wanted, ccm_rows[row].tagged);
+    memcpy(text, plain, length);
+    expect(fotsgure_aes_set_key(&aes, key, sizeof key) == FOTSGURE_AES_DONE, "a key is kept", sizeof key);
+    expect(fotsgure_aes_ccm_seal(&aes, nonce, nonce_length, counted, extra, text, length, tag, tag_length) == FOTSGURE_AES_DONE &&
+        !memcmp(text, sealed, length) && !memcmp(tag, wanted, tag_length), "CCM, encrypted", length);
+    for (size_t at = 0; at < tag_length; at++) {
+        tag[at] ^= 1;
+        refused &= fotsgure_aes_ccm_open(&aes, nonce, nonce_length, counted, extra, text, length, tag, tag_length) ==
+            FOTSGURE_AES_REFUSED && !memcmp(text, sealed, length);
+        tag[at] ^= 1;
+    }
+    refused &= fotsgure_aes_ccm_open(&aes, nonce, nonce_length, counted, extra - 1, text, length, tag, tag_length) ==
+        FOTSGURE_AES_REFUSED && !memcmp(text, sealed, length);
+    expect(refused, "CCM, refused: the text is as it was", length);
+    expect(fotsgure_aes_ccm_open(&aes, nonce, nonce_length, counted, extra, text, length, tag, tag_length) == FOTSGURE_AES_DONE &&
+        !memcmp(text, plain, length), "CCM, decrypted", length);
+}
+
+static void lengths_of_messages(void)
+{
+    static uint8_t text[65536];
+    uint8_t tag[17] = {0}, nonce[15] = {0};
+    struct fotsgure_aes aes;
+    int right = fotsgure_aes_set_key(&aes, counted, 16) == FOTSGURE_AES_DONE;
+    for (size_t size = 0; size <= 17; size++) {
+        int is_tag = size >= 4 && size <= 16 && size % 2 == 0;
+        right &= fotsgure_aes_ccm_seal(&aes, nonce, 12, NULL, 0, NULL, 0, tag, size) ==
+            (is_tag ? FOTSGURE_AES_DONE : FOTSGURE_AES_TAG_LENGTH);
+    }
+    for (size_t size = 0; size <= 15; size++)
+        right &= fotsgure_aes_ccm_seal(&aes, nonce, size, NULL, 0, NULL, 0, tag, 8) ==
+            (size >= 7 && size <= 13 ? FOTSGURE_AES_DONE : FOTSGURE_AES_NONCE_LENGTH);
+    right &= fotsgure_aes_ccm_seal(&aes, nonce, 13, NULL, 0, text, 65536, tag, 8) == FOTSGURE_AES_TOO_LONG;
+    right &= fotsgure_aes_ccm_open(&aes, nonce, 13, NULL, 0, text, 65536, tag, 8) == FOTSGURE_AES_TOO_LONG;
+    right &= fotsgure_aes_ccm_seal(&aes, nonce, 13, NULL, 0, text, 65535, tag, 8) == FOTSGURE_AES_DONE;
+    right &= fotsgure_aes_ccm_seal(&aes, NULL, 0, NULL, 0, NULL, 0, NULL, 0) == FOTSGURE_AES_TAG_LENGTH;
+    right &= fotsgure_aes_cmac(&aes, NULL, 0, tag) == FOTSGURE_AES_DONE;
+    right &= fotsgure_aes_cmac_verify(&aes, NULL, 0, NULL, 0) == FOTSGURE_AES_TAG_LENGTH;
+    expect(right, "lengths of tags, nonces and texts", 16);
+}
+
+/* FIPS 197, C.1: round 1 of the cipher and of the equivalent inverse cipher; the columns before and after MixColumns. */
+static void single_rounds(void)
+{
+    static const char *const rows[][3] = {
+        {"00102030405060708090a0b0c0d0e0f0", "d6aa74fdd2af72fadaa678f1d6ab76fe", "89d810e8855ace682d1843d8cb128fe4"},
+        {"7ad5fda789ef4e272bca100b3d9ff59f", "13aa29be9c8faff6f770f58000f7bf03", "54d990a16ba09ab596bbf40ea111702f"},
+    };
+    uint8_t blocks[FOTSGURE_AES_EIGHT_BLOCKS], keys[sizeof blocks], wanted[sizeof blocks], block[16], mixed[16];
+    for (size_t row = 0; row < 2; row++) {
+        for (size_t i = 0; i < sizeof blocks; i += 16) {
+            from_hex(blocks + i, rows[row][0]);
+            from_hex(keys + i, rows[row][1]);
+            from_hex(wanted + i, rows[row][2]);
+        }
+        memcpy(block, blocks, 16);
+        (row ? fotsgure_aes_equiv_inv_cipher_round : fotsgure_aes_cipher_round)(block, keys);
+        (row ? fotsgure_aes_equiv_inv_cipher_round_par : fotsgure_aes_cipher_round_par)(blocks, keys);
+        expect(!memcmp(block, wanted, 16) && !memcmp(blocks, wanted, sizeof blocks), "a single round", row);
+    }
+    from_hex(block, "6353e08c0960e104cd70b751bacad0e7");
+    from_hex(mixed, "5f72641557f5bc92f7be3b291db9f91a");
+    fotsgure_aes_mix_columns(block);
+    expect(!memcmp(block, mixed, 16), "MixColumns", 16);
+    fotsgure_aes_inv_mix_columns(block);
+    from_hex(mixed, "6353e08c0960e104cd70b751bacad0e7");
+    expect(!memcmp(block, mixed, 16), "InvMixColumns", 16);
+}
+
 static void statuses(void)
 {
     uint8_t text[48], bytes[48];
@@ -366,6 +498,10 @@ static void statuses(void)
                fotsgure_aes_unwrap(&aes, counted, 3, bytes, 2) == FOTSGURE_AES_NO_KEY &&
                fotsgure_aes_wrap_padded(&aes, counted, 9, bytes, 3) == FOTSGURE_AES_NO_KEY &&
                fotsgure_aes_unwrap_padded(&aes, counted, 3, bytes, 2, &length) == FOTSGURE_AES_NO_KEY && length == 0 &&
+               fotsgure_aes_cmac(&aes, counted, 5, bytes) == FOTSGURE_AES_NO_KEY &&
+               fotsgure_aes_cmac_verify(&aes, counted, 5, bytes, 3) == FOTSGURE_AES_NO_KEY &&
+               fotsgure_aes_ccm_seal(&aes, counted, 5, counted, 9, bytes, 9, bytes + 16, 8) == FOTSGURE_AES_NO_KEY &&
+               fotsgure_aes_ccm_open(&aes, counted, 5, counted, 9, bytes, 9, counted, 8) == FOTSGURE_AES_NO_KEY &&
                fotsgure_aes_encrypt_blocks(&aes, NULL, 0) == FOTSGURE_AES_NO_KEY &&
                    !memcmp(bytes, text, sizeof text) && ctr.position == 5,
                "no key, nothing written", (size_t)wiped);
@@ -468,6 +604,8 @@ int main(void)
         slices(c_rows[i].size);
         counter_mode(f_rows[i].size, f_rows[i].key, f_rows[i].cipher);
         chains(i);
+        tags(i);
+        messages(i);
 #ifdef WITH_OPENSSL
         as_openssl(c_rows[i].size);
 #endif
@@ -477,6 +615,8 @@ int main(void)
     for (size_t i = 0; i < sizeof padded_rows / sizeof *padded_rows; i++)
         padded_keys(i);
     paddings();
+    lengths_of_messages();
+    single_rounds();
     statuses();
     words();
     printf("%d passed, %d failed\n", passed, failed);

@@ -1,8 +1,9 @@
 /* The library of GCM from C: test cases 1 to 4, 13 and 16 of the submission of GCM (McGrew and Viega, appendix B), and
  * nonces under which the counter wraps; texts of 0 to 700 bytes there and back, and beside OpenSSL with WITH_OPENSSL;
- * every status; that nothing is written after a refusal; NULL with a length of 0; counted nonces; messages in pieces,
+ * every status; that nothing is written after a refusal; NULL with a length of 0; from buffer to buffer; counted nonces; messages in pieces,
  * cut in many ways and out of turn; short tags; what a shorter key leaves; the wipe. AES-GCM-SIV is in siv.h. The last line
  * is `N passed, N failed`. */
+#include <fotsgure_aes.h>
 #include <fotsgure_gcm.h>
 
 #ifdef WITH_OPENSSL
@@ -92,6 +93,42 @@ static const struct { const char *key, *nonce, *additional, *plain, *cipher, *ta
     {KEY, WRAP_FIRST, WRAP_ADDITIONAL, WRAP_PLAIN, WRAP_CIPHER_FIRST, "7588ddf7ad6e4dc32185f8861ef1b8d8"},
 };
 
+/* A published message from one buffer to another, and with its tag changed, which leaves zeros. */
+static void to_a_buffer(const struct fotsgure_gcm *gcm, size_t row)
+{
+    uint8_t nonce[16], additional[32], plain[80], cipher[80], output[80], wanted[16], tag[16];
+    size_t bytes = from_hex(nonce, cases[row].nonce), extra = from_hex(additional, cases[row].additional);
+    size_t length = from_hex(plain, cases[row].plain);
+    from_hex(cipher, cases[row].cipher);
+    from_hex(wanted, cases[row].tag);
+    expect(fotsgure_gcm_seal_to(gcm, nonce, bytes, additional, extra, plain, length, output, length, tag) == FOTSGURE_GCM_DONE &&
+        memcmp(output, cipher, length) == 0 && memcmp(tag, wanted, 16) == 0, "seal_to", row);
+    expect(fotsgure_gcm_open_to(gcm, nonce, bytes, additional, extra, cipher, length, output, length, tag, 16) ==
+        FOTSGURE_GCM_DONE && memcmp(output, plain, length) == 0, "open_to", row);
+    tag[15] ^= 1;
+    expect(fotsgure_gcm_open_to(gcm, nonce, bytes, additional, extra, cipher, length, output, length, tag, 16) ==
+        FOTSGURE_GCM_REFUSED && all(output, length, 0), "open_to leaves zeros", row);
+    expect(fotsgure_gcm_open_to(gcm, nonce, bytes, additional, extra, cipher, length, output, length + 1, tag, 15) ==
+        FOTSGURE_GCM_UNEQUAL_LENGTHS && fotsgure_gcm_open_to(gcm, nonce, bytes, additional, extra, NULL, 0, NULL, 0, tag, 15) ==
+        FOTSGURE_GCM_TAG_LENGTH && fotsgure_gcm_seal_to(gcm, nonce, bytes, additional, extra, NULL, 0, output, 1, tag) ==
+        FOTSGURE_GCM_UNEQUAL_LENGTHS && fotsgure_gcm_seal_to(gcm, nonce, 0, NULL, 0, NULL, 0, NULL, 0, tag) ==
+        FOTSGURE_GCM_NONCE_LENGTH, "lengths of buffers", row);
+}
+
+/* The key of a struct of the other library: the two begin with the same bytes, as far as a key serves to encrypt. */
+static void key_of(const struct fotsgure_gcm *gcm, size_t row)
+{
+    struct fotsgure_aes aes = {0, {0}};
+    struct fotsgure_gcm made;
+    memset(&made, 0xa5, sizeof made);
+    expect(fotsgure_gcm_set_key_of(&made, &aes) == FOTSGURE_GCM_NO_KEY && fotsgure_gcm_key_length(&made) == 0, "no key", row);
+    memcpy(&aes, gcm, sizeof aes);
+    memset(&made, 0xa5, sizeof made);
+    expect(fotsgure_gcm_set_key_of(&made, &aes) == FOTSGURE_GCM_DONE &&
+        fotsgure_gcm_key_length(&made) == fotsgure_gcm_key_length(gcm), "the key of another struct", row);
+    to_a_buffer(&made, row);
+}
+
 static void published(void)
 {
     for (size_t i = 0; i < sizeof cases / sizeof *cases; i++) {
@@ -108,6 +145,8 @@ static void published(void)
             memcmp(text, cipher, length) == 0 && memcmp(tag, wanted, 16) == 0, "seal", i);
         expect(fotsgure_gcm_open(&gcm, nonce, bytes, additional, extra, text, length, tag, 16) == FOTSGURE_GCM_DONE &&
             memcmp(text, plain, length) == 0, "open", i);
+        to_a_buffer(&gcm, i);
+        key_of(&gcm, i);
         fotsgure_gcm_wipe(&gcm);
         expect(all(&gcm, sizeof gcm, 0), "wipe", i);
     }

@@ -18,6 +18,26 @@ static const struct { const char *key, *nonce, *additional, *plain, *cipher, *ta
         "18ce4f0b8cb4d0cac65fea8f79257b20888e53e72299e56d", "ffffffff000000000000000000000000"},
 };
 
+/* A published message from one buffer to another, and with its tag changed, which leaves zeros. */
+static void siv_to_a_buffer(const struct fotsgure_gcm_siv *siv, size_t row)
+{
+    uint8_t nonce[12], data[48], plain[48], sealed[48], output[48], wanted[16], tag[16];
+    size_t extra = from_hex(data, siv_cases[row].additional), length = from_hex(plain, siv_cases[row].plain);
+    from_hex(nonce, siv_cases[row].nonce);
+    from_hex(sealed, siv_cases[row].cipher);
+    from_hex(wanted, siv_cases[row].tag);
+    expect(fotsgure_gcm_siv_seal_to(siv, nonce, data, extra, plain, length, output, length, tag) == FOTSGURE_GCM_DONE &&
+        memcmp(output, sealed, length) == 0 && memcmp(tag, wanted, 16) == 0, "siv_seal_to", row);
+    expect(fotsgure_gcm_siv_open_to(siv, nonce, data, extra, sealed, length, output, length, tag) == FOTSGURE_GCM_DONE &&
+        memcmp(output, plain, length) == 0, "siv_open_to", row);
+    tag[0] ^= 1;
+    expect(fotsgure_gcm_siv_open_to(siv, nonce, data, extra, sealed, length, output, length, tag) == FOTSGURE_GCM_REFUSED &&
+        all(output, length, 0), "siv_open_to leaves zeros", row);
+    expect(fotsgure_gcm_siv_open_to(siv, nonce, data, extra, NULL, 0, output, 1, tag) == FOTSGURE_GCM_UNEQUAL_LENGTHS &&
+        fotsgure_gcm_siv_seal_to(siv, nonce, data, extra, plain, 1, NULL, 0, tag) == FOTSGURE_GCM_UNEQUAL_LENGTHS,
+        "siv: lengths of buffers", row);
+}
+
 static void siv_published(void)
 {
     for (size_t i = 0; i < sizeof siv_cases / sizeof *siv_cases; i++) {
@@ -31,6 +51,7 @@ static void siv_published(void)
         expect(fotsgure_gcm_siv_set_key(&siv, key, key_length) == FOTSGURE_GCM_DONE, "siv_set_key", i);
         expect(fotsgure_gcm_siv_seal(&siv, nonce, data, extra, text, length, tag) == FOTSGURE_GCM_DONE &&
             memcmp(text, sealed, length) == 0 && memcmp(tag, wanted, 16) == 0, "siv_seal", i);
+        siv_to_a_buffer(&siv, i);
         fotsgure_gcm_siv_wipe(&siv);
         expect(all(&siv, sizeof siv, 0), "siv_wipe", i);
     }

@@ -1,14 +1,14 @@
-/* AES (FIPS 197) with keys of 16, 24 and 32 bytes, counter mode and CBC (SP 800-38A, 6.5 and 6.2), and key wrap without
- * and with padding (SP 800-38F, 6.2 and 6.3), proved.
+/* AES (FIPS 197) with keys of 16, 24 and 32 bytes, counter mode and CBC (SP 800-38A, 6.5 and 6.2), key wrap without and
+ * with padding (SP 800-38F, 6.2 and 6.3), CMAC (SP 800-38B), CCM (SP 800-38C) and single rounds, proved.
  *
  * The comment of a call is its contract in words. The proof covers every call that meets the conditions below; nothing
  * checks a call from C.
  *
  * For every call, the caller must ensure:
  *  - Valid pointers. A pointer to a struct points to a whole one, aligned as C aligns it; `key` points to `key_length`
- *    bytes, `bytes` to `count` bytes, `blocks` to `count` blocks of 16 bytes, and `input` and `output` to as many
- *    blocks or bytes as the count beside them says. Bytes and blocks need no alignment. What a call reads has been
- *    initialized.
+ *    bytes, `bytes` to `count` bytes, `blocks` to `count` blocks of 16 bytes, and every other pointer to as many
+ *    blocks or bytes as the count or the length beside it says, or as its array has. Bytes and blocks need no alignment.
+ *    What a call reads has been initialized.
  *  - No object of more than PTRDIFF_MAX bytes. Counts are in blocks where a parameter is called `blocks`, and where the
  *    name of the call says so.
  *  - No overlap: what a call writes overlaps nothing else that it is given, not even in full. To work in place, take
@@ -20,14 +20,14 @@
  *    32-bit ARM an ARMv7 or later, or a Cortex-M. On microcontrollers docs/MICROCONTROLLERS.md says how much stack a call
  *    takes.
  *
- * NULL is allowed for `key`, `blocks`, `bytes`, `input` and `output` if the count is 0.
+ * NULL is allowed for every pointer to bytes or blocks that has a count or a length beside it, if that is 0.
  *
  * In return, no call allocates, prints, aborts, blocks, or keeps a pointer; the library has no state of its own, but for
  * one word by which a static library on x86-64 keeps which of its builds the processor runs; every call returns, and
  * writes nothing but what it says. A call that doesn't return FOTSGURE_AES_DONE has changed nothing;
  * fotsgure_aes_set_key is an exception, and so are fotsgure_aes_unwrap and fotsgure_aes_unwrap_padded, which leave zeros.
- * What a call returns depends on lengths and positions alone, never on the bytes of a key or of data; only those two say
- * whether a wrapped key was right.
+ * What a call returns depends on lengths and positions alone, never on the bytes of a key or of data; only REFUSED says
+ * that a wrapped key, a tag or a message was not right.
  *
  * Of this it is proved what calls return and write, that they return, and that the calls that are given a key wipe the
  * schedule that they keep. Read in the code and measured is that they keep no other copy of it, that no call
@@ -38,7 +38,7 @@
  * A struct fotsgure_aes_ctr belongs to one thread at a time; a copy of it would give out the same keystream again.
  *
  * A block cipher alone protects no message, and counter mode doesn't show whether a message was changed. For
- * messages take fotsgure_gcm.h. */
+ * messages take fotsgure_gcm.h, or CCM where a protocol asks for it. */
 #ifndef FOTSGURE_AES_H
 #define FOTSGURE_AES_H
 
@@ -54,8 +54,9 @@
 #define FOTSGURE_AES_VERSION_TEXT "0.3.0"
 #define FOTSGURE_AES_VERSION 300 /* 10000 * 0 + 100 * 3 + 0 */
 
-#define FOTSGURE_AES_BLOCK 16    /* bytes of a block */
-#define FOTSGURE_AES_STACK 16384 /* bytes of stack that are enough for every call */
+#define FOTSGURE_AES_BLOCK 16         /* bytes of a block */
+#define FOTSGURE_AES_EIGHT_BLOCKS 128 /* bytes of eight */
+#define FOTSGURE_AES_STACK 16384      /* bytes of stack that are enough for every call */
 
 #ifdef __cplusplus
 #define FOTSGURE_AES_ALONE __restrict
@@ -88,7 +89,11 @@ enum fotsgure_aes_status {
     FOTSGURE_AES_UNEQUAL_COUNTS = 3, /* input and output differ in length */
     FOTSGURE_AES_KEYSTREAM_END = 4,  /* the position would pass 2^64 - 1 */
     FOTSGURE_AES_INVALID_COUNT = 5,  /* keys of so many bytes are not wrapped, or the output is of another length */
-    FOTSGURE_AES_REFUSED = 6         /* the key was not wrapped under this one, or was changed */
+    FOTSGURE_AES_REFUSED = 6,        /* the key was not wrapped under this one, or was changed; the tag isn't that of the
+                                      * message */
+    FOTSGURE_AES_TAG_LENGTH = 7,     /* no tag has so many bytes */
+    FOTSGURE_AES_NONCE_LENGTH = 8,   /* the nonce doesn't have 7 to 13 bytes */
+    FOTSGURE_AES_TOO_LONG = 9        /* more text than a nonce of this length allows */
 };
 
 /* A key schedule, for both directions and for counter mode. Read and write it by the calls below alone. */
@@ -199,6 +204,61 @@ FOTSGURE_AES_CHECK enum fotsgure_aes_status fotsgure_aes_unwrap_padded(const str
     uint8_t *FOTSGURE_AES_ALONE output, size_t output_count,
     size_t *FOTSGURE_AES_ALONE key_length) FOTSGURE_AES_NOEXCEPT;
 
+/* CMAC (SP 800-38B, 6.2; RFC 4493): writes the tag of a message, which shows whether the message was changed; it
+ * encrypts nothing. A struct that makes tags does nothing else.
+ * NO_KEY; else DONE. */
+FOTSGURE_AES_CHECK enum fotsgure_aes_status fotsgure_aes_cmac(const struct fotsgure_aes *aes,
+    const uint8_t *message, size_t message_length,
+    uint8_t tag[FOTSGURE_AES_BLOCK]) FOTSGURE_AES_NOEXCEPT;
+
+/* Compares a tag with that of a message, without an early exit (6.3). A tag of fewer than 16 bytes is compared with the
+ * first ones of the whole tag; it has 4 or more. How many bytes all tags under the key have is fixed with the key: never
+ * take `tag_length` from a message, or whoever forges one chooses how few bytes have to be right. For fewer than 8
+ * read appendix A first.
+ * NO_KEY; TAG_LENGTH if it has fewer or more; REFUSED; else DONE. */
+FOTSGURE_AES_CHECK enum fotsgure_aes_status fotsgure_aes_cmac_verify(const struct fotsgure_aes *aes,
+    const uint8_t *message, size_t message_length,
+    const uint8_t *tag, size_t tag_length) FOTSGURE_AES_NOEXCEPT;
+
+/* CCM (SP 800-38C, 6.1; RFC 3610): encrypts `text_length` bytes in place under a nonce that is never used twice under
+ * one key, and writes a tag, which shows whether the text or the additional data was changed. The additional data isn't
+ * encrypted, nor is it part of the text. A nonce has 7 to 13 bytes, a text fewer than 2^(8 * (15 - nonce_length)): with
+ * 13 bytes at most 65535. A tag has 4, 6, 8, 10, 12, 14 or 16 bytes; for fewer than 8 read appendix B first. Both lengths
+ * are fixed with the key: never take `tag_length` from a message. A struct of CCM does nothing else.
+ * NO_KEY, TAG_LENGTH, NONCE_LENGTH or TOO_LONG, the first of them that applies; else DONE. */
+FOTSGURE_AES_CHECK enum fotsgure_aes_status fotsgure_aes_ccm_seal(const struct fotsgure_aes *aes,
+    const uint8_t *nonce, size_t nonce_length,
+    const uint8_t *additional, size_t additional_length,
+    uint8_t *FOTSGURE_AES_ALONE text, size_t text_length,
+    uint8_t *FOTSGURE_AES_ALONE tag, size_t tag_length) FOTSGURE_AES_NOEXCEPT;
+
+/* Decrypts `text_length` bytes in place if the tag is right (6.2). The tag can be compared only once the text is
+ * decrypted, so a text that is refused is encrypted again: it is, when the call returns, as it was. Until then the text
+ * holds what nobody has authenticated.
+ * NO_KEY, TAG_LENGTH, NONCE_LENGTH, TOO_LONG or REFUSED, the first of them that applies; else DONE. */
+FOTSGURE_AES_CHECK enum fotsgure_aes_status fotsgure_aes_ccm_open(const struct fotsgure_aes *aes,
+    const uint8_t *nonce, size_t nonce_length,
+    const uint8_t *additional, size_t additional_length,
+    uint8_t *FOTSGURE_AES_ALONE text, size_t text_length,
+    const uint8_t *tag, size_t tag_length) FOTSGURE_AES_NOEXCEPT;
+
+/* Single rounds, to build a cipher or another function of: a round protects nothing by itself.
+ *
+ * A round of Cipher in place: SubBytes, ShiftRows, MixColumns, AddRoundKey (FIPS 197, 5.1). */
+void fotsgure_aes_cipher_round(uint8_t block[FOTSGURE_AES_BLOCK],
+    const uint8_t round_key[FOTSGURE_AES_BLOCK]) FOTSGURE_AES_NOEXCEPT;
+/* A round of EqInvCipher in place: InvSubBytes, InvShiftRows, InvMixColumns, AddRoundKey (5.3.5). */
+void fotsgure_aes_equiv_inv_cipher_round(uint8_t block[FOTSGURE_AES_BLOCK],
+    const uint8_t round_key[FOTSGURE_AES_BLOCK]) FOTSGURE_AES_NOEXCEPT;
+/* The same of each of eight blocks, with the round key at the same place. */
+void fotsgure_aes_cipher_round_par(uint8_t blocks[FOTSGURE_AES_EIGHT_BLOCKS],
+    const uint8_t round_keys[FOTSGURE_AES_EIGHT_BLOCKS]) FOTSGURE_AES_NOEXCEPT;
+void fotsgure_aes_equiv_inv_cipher_round_par(uint8_t blocks[FOTSGURE_AES_EIGHT_BLOCKS],
+    const uint8_t round_keys[FOTSGURE_AES_EIGHT_BLOCKS]) FOTSGURE_AES_NOEXCEPT;
+/* MixColumns (5.1.3) and InvMixColumns (5.3.3) in place. */
+void fotsgure_aes_mix_columns(uint8_t block[FOTSGURE_AES_BLOCK]) FOTSGURE_AES_NOEXCEPT;
+void fotsgure_aes_inv_mix_columns(uint8_t block[FOTSGURE_AES_BLOCK]) FOTSGURE_AES_NOEXCEPT;
+
 /* In one call, under a key; each costs a key expansion. The round keys that the call keeps for its work are wiped before
  * it returns. KEY_LENGTH if key_length isn't 16, 24 or 32, else as above. */
 FOTSGURE_AES_CHECK enum fotsgure_aes_status fotsgure_aes_encrypt_blocks_with(const uint8_t *key, size_t key_length,
@@ -219,7 +279,10 @@ static inline const char *fotsgure_aes_status_text(enum fotsgure_aes_status stat
     case FOTSGURE_AES_UNEQUAL_COUNTS: return "input and output differ in length";
     case FOTSGURE_AES_KEYSTREAM_END: return "the keystream ends: its position would pass 2^64 - 1";
     case FOTSGURE_AES_INVALID_COUNT: return "a key of this length is not wrapped, or the output has another length";
-    case FOTSGURE_AES_REFUSED: return "the key was changed, or wrapped under another key";
+    case FOTSGURE_AES_REFUSED: return "the wrapped key or the message was changed, or is of another key";
+    case FOTSGURE_AES_TAG_LENGTH: return "no tag has so many bytes";
+    case FOTSGURE_AES_NONCE_LENGTH: return "a nonce has 7 to 13 bytes";
+    case FOTSGURE_AES_TOO_LONG: return "the text is longer than a nonce of this length allows";
     }
     return "this header doesn't know the status";
 }
@@ -316,6 +379,33 @@ FOTSGURE_AES_CHECK static inline enum fotsgure_aes_status fotsgure_aes_not_null_
     return fotsgure_aes_unwrap_padded(aes, fotsgure_aes_not_null(input), input_count, fotsgure_aes_not_null_mut(output),
         output_count, key_length);
 }
+FOTSGURE_AES_CHECK static inline enum fotsgure_aes_status fotsgure_aes_not_null_cmac(const struct fotsgure_aes *aes,
+    const uint8_t *message, size_t message_length, uint8_t tag[FOTSGURE_AES_BLOCK]) FOTSGURE_AES_NOEXCEPT
+{
+    return fotsgure_aes_cmac(aes, fotsgure_aes_not_null(message), message_length, tag);
+}
+FOTSGURE_AES_CHECK static inline enum fotsgure_aes_status fotsgure_aes_not_null_cmac_verify(
+    const struct fotsgure_aes *aes, const uint8_t *message, size_t message_length, const uint8_t *tag,
+    size_t tag_length) FOTSGURE_AES_NOEXCEPT
+{
+    return fotsgure_aes_cmac_verify(aes, fotsgure_aes_not_null(message), message_length, fotsgure_aes_not_null(tag),
+        tag_length);
+}
+FOTSGURE_AES_CHECK static inline enum fotsgure_aes_status fotsgure_aes_not_null_ccm_seal(
+    const struct fotsgure_aes *aes, const uint8_t *nonce, size_t nonce_length, const uint8_t *additional,
+    size_t additional_length, uint8_t *text, size_t text_length, uint8_t *tag, size_t tag_length) FOTSGURE_AES_NOEXCEPT
+{
+    return fotsgure_aes_ccm_seal(aes, fotsgure_aes_not_null(nonce), nonce_length, fotsgure_aes_not_null(additional),
+        additional_length, fotsgure_aes_not_null_mut(text), text_length, fotsgure_aes_not_null_mut(tag), tag_length);
+}
+FOTSGURE_AES_CHECK static inline enum fotsgure_aes_status fotsgure_aes_not_null_ccm_open(
+    const struct fotsgure_aes *aes, const uint8_t *nonce, size_t nonce_length, const uint8_t *additional,
+    size_t additional_length, uint8_t *text, size_t text_length, const uint8_t *tag,
+    size_t tag_length) FOTSGURE_AES_NOEXCEPT
+{
+    return fotsgure_aes_ccm_open(aes, fotsgure_aes_not_null(nonce), nonce_length, fotsgure_aes_not_null(additional),
+        additional_length, fotsgure_aes_not_null_mut(text), text_length, fotsgure_aes_not_null(tag), tag_length);
+}
 FOTSGURE_AES_CHECK static inline enum fotsgure_aes_status fotsgure_aes_not_null_encrypt_blocks_with(
     const uint8_t *key, size_t key_length, uint8_t *blocks, size_t count) FOTSGURE_AES_NOEXCEPT
 {
@@ -348,6 +438,10 @@ FOTSGURE_AES_CHECK static inline enum fotsgure_aes_status fotsgure_aes_not_null_
 #define fotsgure_aes_unwrap(...) fotsgure_aes_not_null_unwrap(__VA_ARGS__)
 #define fotsgure_aes_wrap_padded(...) fotsgure_aes_not_null_wrap_padded(__VA_ARGS__)
 #define fotsgure_aes_unwrap_padded(...) fotsgure_aes_not_null_unwrap_padded(__VA_ARGS__)
+#define fotsgure_aes_cmac(...) fotsgure_aes_not_null_cmac(__VA_ARGS__)
+#define fotsgure_aes_cmac_verify(...) fotsgure_aes_not_null_cmac_verify(__VA_ARGS__)
+#define fotsgure_aes_ccm_seal(...) fotsgure_aes_not_null_ccm_seal(__VA_ARGS__)
+#define fotsgure_aes_ccm_open(...) fotsgure_aes_not_null_ccm_open(__VA_ARGS__)
 #define fotsgure_aes_encrypt_blocks_with(...) fotsgure_aes_not_null_encrypt_blocks_with(__VA_ARGS__)
 #define fotsgure_aes_decrypt_blocks_with(...) fotsgure_aes_not_null_decrypt_blocks_with(__VA_ARGS__)
 #define fotsgure_aes_add_keystream_with(...) fotsgure_aes_not_null_add_keystream_with(__VA_ARGS__)

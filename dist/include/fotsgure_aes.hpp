@@ -10,6 +10,7 @@
 
 #include <array>
 #include <stdexcept>
+#include <utility>
 #include <vector>
 
 namespace fotsgure {
@@ -28,8 +29,11 @@ inline void check(fotsgure_aes_status status) {
     case FOTSGURE_AES_DONE: return;
     case FOTSGURE_AES_KEY_LENGTH:
     case FOTSGURE_AES_UNEQUAL_COUNTS:
-    case FOTSGURE_AES_INVALID_COUNT: throw std::invalid_argument(words);
-    case FOTSGURE_AES_KEYSTREAM_END: throw std::length_error(words);
+    case FOTSGURE_AES_INVALID_COUNT:
+    case FOTSGURE_AES_TAG_LENGTH:
+    case FOTSGURE_AES_NONCE_LENGTH: throw std::invalid_argument(words);
+    case FOTSGURE_AES_KEYSTREAM_END:
+    case FOTSGURE_AES_TOO_LONG: throw std::length_error(words);
     case FOTSGURE_AES_REFUSED: throw std::runtime_error(words);
     case FOTSGURE_AES_NO_KEY: break;
     }

@@ -14,27 +14,30 @@
  *    as many bytes as the length beside it says, or as its array has. Bytes need no alignment. What a call reads has
  *    been initialized.
  *  - No object of more than PTRDIFF_MAX bytes.
- *  - No overlap: what a call writes overlaps nothing else that it is given. What a call only reads may overlap.
- *  - A struct fotsgure_gcm that fotsgure_gcm_set_key or fotsgure_gcm_wipe wrote last, or a copy of such a struct, or one
- *    whose bytes are all 0; likewise a struct fotsgure_gcm_siv, by fotsgure_gcm_siv_set_key and fotsgure_gcm_siv_wipe. A
- *    struct fotsgure_gcm_message may hold anything but uninitialized bytes; for
- *    fotsgure_gcm_begin and fotsgure_gcm_wipe_message it may be uninitialized too. What calls say of a message is so if
- *    all its calls had the same key, the first was fotsgure_gcm_begin, and nothing else wrote the struct.
+ *  - No overlap: what a call writes overlaps nothing else that it is given, not even in full. To work in place, take the
+ *    calls with one buffer. What a call only reads may overlap.
+ *  - A struct fotsgure_gcm that fotsgure_gcm_set_key, fotsgure_gcm_set_key_of or fotsgure_gcm_wipe wrote last, or a copy
+ *    of such a struct, or one whose bytes are all 0; likewise a struct fotsgure_gcm_siv, by fotsgure_gcm_siv_set_key and
+ *    fotsgure_gcm_siv_wipe, and a struct fotsgure_aes, as fotsgure_aes.h asks. A struct fotsgure_gcm_message may hold
+ *    anything but uninitialized bytes; for fotsgure_gcm_begin and fotsgure_gcm_wipe_message it may be uninitialized too.
+ *    What calls say of a message is so if all its calls had the same key, the first was fotsgure_gcm_begin, and nothing
+ *    else wrote the struct.
  *  - No data race: during the call no other thread writes what it reads, or reads or writes what it writes.
  *  - FOTSGURE_GCM_STACK bytes of stack, and a processor with little-endian words: any on x86-64, 64-bit ARM and RISC-V; on
  *    32-bit ARM an ARMv7 or later, or a Cortex-M. On microcontrollers docs/MICROCONTROLLERS.md says how much stack a call
  *    takes.
  *
- * NULL is allowed for `key`, `nonce`, `additional`, `text` and a `tag` with a length if the length is 0.
+ * NULL is allowed for every pointer to bytes that has a length beside it, if that is 0.
  *
  * In return, no call allocates, prints, aborts, blocks, or keeps a pointer; the library has no state of its own, but for
  * one word by which a static library on x86-64 keeps which of its builds the processor runs; every call returns, and
  * writes nothing but what it says. (Proved is what calls return and write, and that they
  * return; read and measured is the rest. fotsgure_gcm_siv_seal_random is C around a proved call, and
  * tested: it asks the system for randomness, waits for it while the system starts, and may write errno.) A call that
- * doesn't return FOTSGURE_GCM_DONE has changed nothing; fotsgure_gcm_set_key and fotsgure_gcm_siv_set_key are the
- * exceptions. Where several statuses apply, the call returns the first in the order that it
- * names them. Whether a tag is right is all that a status says of the bytes of keys and of messages.
+ * doesn't return FOTSGURE_GCM_DONE has changed nothing; the calls that set a key are exceptions, and so are
+ * fotsgure_gcm_open_to and fotsgure_gcm_siv_open_to, which leave zeros where they return REFUSED. Where several
+ * statuses apply, the call returns the first in the order that it names them. Whether a tag is right is all that a
+ * status says of the bytes of keys and of messages.
  *
  * Copies and threads: a struct fotsgure_gcm or fotsgure_gcm_siv may be copied and moved as bytes; every copy is as
  * secret as the key and is wiped by itself. Any number of threads may use one struct at the same time by the calls that
@@ -99,7 +102,8 @@ enum fotsgure_gcm_status {
     FOTSGURE_GCM_REFUSED = 6,      /* the tag isn't that of this key, nonce, additional data and text */
     FOTSGURE_GCM_NONCES_END = 7,   /* the counter of nonces has no number left */
     FOTSGURE_GCM_OUT_OF_TURN = 8,  /* the calls for a message came in the wrong order */
-    FOTSGURE_GCM_NO_RANDOMNESS = 9 /* the system gave no randomness for a nonce */
+    FOTSGURE_GCM_NO_RANDOMNESS = 9,  /* the system gave no randomness for a nonce */
+    FOTSGURE_GCM_UNEQUAL_LENGTHS = 10 /* input and output differ in length */
 };
 
 /* How many bytes are prepared of a key. No build for 32-bit ARM and RISC-V has a byte shuffle; for the other machines there
@@ -160,6 +164,12 @@ uint32_t fotsgure_gcm_version(void) FOTSGURE_GCM_NOEXCEPT;
 FOTSGURE_GCM_CHECK enum fotsgure_gcm_status fotsgure_gcm_set_key(struct fotsgure_gcm *FOTSGURE_GCM_ALONE gcm,
     const uint8_t *key, size_t key_length) FOTSGURE_GCM_NOEXCEPT;
 
+/* The same with the key of *aes, a struct of fotsgure_aes.h, which costs no key expansion.
+ * DONE if *aes holds a key; else NO_KEY, and *gcm then is all zeros and holds no key. */
+struct fotsgure_aes;
+FOTSGURE_GCM_CHECK enum fotsgure_gcm_status fotsgure_gcm_set_key_of(struct fotsgure_gcm *FOTSGURE_GCM_ALONE gcm,
+    const struct fotsgure_aes *aes) FOTSGURE_GCM_NOEXCEPT;
+
 /* Returns how many bytes the key has: 16, 24 or 32, or 0 if *gcm holds no key. */
 size_t fotsgure_gcm_key_length(const struct fotsgure_gcm *gcm) FOTSGURE_GCM_NOEXCEPT;
 
@@ -177,7 +187,16 @@ FOTSGURE_GCM_CHECK enum fotsgure_gcm_status fotsgure_gcm_seal(const struct fotsg
     uint8_t *FOTSGURE_GCM_ALONE text, size_t text_length,
     uint8_t tag[FOTSGURE_GCM_TAG]) FOTSGURE_GCM_NOEXCEPT;
 
-/* The same under the counter's next nonce, which it writes to `nonce`; the counter then moves on by one.
+/* The same from one buffer to another of the same length: encrypts `input` to `output`.
+ * UNEQUAL_LENGTHS, NONCE_LENGTH, TOO_LONG or NO_KEY; else DONE. */
+FOTSGURE_GCM_CHECK enum fotsgure_gcm_status fotsgure_gcm_seal_to(const struct fotsgure_gcm *gcm,
+    const uint8_t *nonce, size_t nonce_length,
+    const uint8_t *additional, size_t additional_length,
+    const uint8_t *input, size_t input_length,
+    uint8_t *FOTSGURE_GCM_ALONE output, size_t output_length,
+    uint8_t tag[FOTSGURE_GCM_TAG]) FOTSGURE_GCM_NOEXCEPT;
+
+/* fotsgure_gcm_seal under the counter's next nonce, which it writes to `nonce`; the counter then moves on by one.
  * NONCES_END, TOO_LONG or NO_KEY; else DONE. */
 FOTSGURE_GCM_CHECK enum fotsgure_gcm_status fotsgure_gcm_seal_next(const struct fotsgure_gcm *gcm,
     struct fotsgure_gcm_counter *FOTSGURE_GCM_ALONE counter, uint8_t nonce[FOTSGURE_GCM_NONCE],
@@ -192,6 +211,16 @@ FOTSGURE_GCM_CHECK enum fotsgure_gcm_status fotsgure_gcm_open(const struct fotsg
     const uint8_t *nonce, size_t nonce_length,
     const uint8_t *additional, size_t additional_length,
     uint8_t *FOTSGURE_GCM_ALONE text, size_t text_length,
+    const uint8_t *tag, size_t tag_length) FOTSGURE_GCM_NOEXCEPT;
+
+/* The same from one buffer to another of the same length: decrypts `input` to `output`. After REFUSED the output is all
+ * zeros; after another status but DONE it is as it was.
+ * UNEQUAL_LENGTHS, TAG_LENGTH, NONCE_LENGTH, TOO_LONG, NO_KEY or REFUSED; else DONE. */
+FOTSGURE_GCM_CHECK enum fotsgure_gcm_status fotsgure_gcm_open_to(const struct fotsgure_gcm *gcm,
+    const uint8_t *nonce, size_t nonce_length,
+    const uint8_t *additional, size_t additional_length,
+    const uint8_t *input, size_t input_length,
+    uint8_t *FOTSGURE_GCM_ALONE output, size_t output_length,
     const uint8_t *tag, size_t tag_length) FOTSGURE_GCM_NOEXCEPT;
 
 /* A message in pieces of any size. However it is cut, texts and tag are those of fotsgure_gcm_seal and _open.
@@ -299,8 +328,17 @@ FOTSGURE_GCM_CHECK enum fotsgure_gcm_status fotsgure_gcm_siv_seal(const struct f
     uint8_t *FOTSGURE_GCM_ALONE text, size_t text_length,
     uint8_t tag[FOTSGURE_GCM_TAG]) FOTSGURE_GCM_NOEXCEPT;
 
-/* The same under a nonce that the call draws from the system at random and writes to `nonce`. Send it with the text and
- * the tag. Without randomness nothing is encrypted.
+/* The same from one buffer to another of the same length: encrypts `input` to `output`.
+ * UNEQUAL_LENGTHS, TOO_LONG or NO_KEY; else DONE. */
+FOTSGURE_GCM_CHECK enum fotsgure_gcm_status fotsgure_gcm_siv_seal_to(const struct fotsgure_gcm_siv *siv,
+    const uint8_t nonce[FOTSGURE_GCM_SIV_NONCE],
+    const uint8_t *additional, size_t additional_length,
+    const uint8_t *input, size_t input_length,
+    uint8_t *FOTSGURE_GCM_ALONE output, size_t output_length,
+    uint8_t tag[FOTSGURE_GCM_TAG]) FOTSGURE_GCM_NOEXCEPT;
+
+/* fotsgure_gcm_siv_seal under a nonce that the call draws from the system at random and writes to `nonce`. Send it with
+ * the text and the tag. Without randomness nothing is encrypted.
  * NO_RANDOMNESS, TOO_LONG or NO_KEY; else DONE. */
 FOTSGURE_GCM_CHECK enum fotsgure_gcm_status fotsgure_gcm_siv_seal_random(const struct fotsgure_gcm_siv *siv,
     uint8_t nonce[FOTSGURE_GCM_SIV_NONCE],
@@ -316,6 +354,17 @@ FOTSGURE_GCM_CHECK enum fotsgure_gcm_status fotsgure_gcm_siv_open(const struct f
     const uint8_t nonce[FOTSGURE_GCM_SIV_NONCE],
     const uint8_t *additional, size_t additional_length,
     uint8_t *FOTSGURE_GCM_ALONE text, size_t text_length,
+    const uint8_t tag[FOTSGURE_GCM_TAG]) FOTSGURE_GCM_NOEXCEPT;
+
+/* The same from one buffer to another of the same length: decrypts `input` to `output`. After REFUSED the output is all
+ * zeros; after another status but DONE it is as it was. Until the call returns, the output holds what nobody has
+ * authenticated.
+ * UNEQUAL_LENGTHS, TOO_LONG, NO_KEY or REFUSED; else DONE. */
+FOTSGURE_GCM_CHECK enum fotsgure_gcm_status fotsgure_gcm_siv_open_to(const struct fotsgure_gcm_siv *siv,
+    const uint8_t nonce[FOTSGURE_GCM_SIV_NONCE],
+    const uint8_t *additional, size_t additional_length,
+    const uint8_t *input, size_t input_length,
+    uint8_t *FOTSGURE_GCM_ALONE output, size_t output_length,
     const uint8_t tag[FOTSGURE_GCM_TAG]) FOTSGURE_GCM_NOEXCEPT;
 
 /* Overwrites *siv with zeros: it then holds no key. It may be uninitialized. Copies are not wiped. */
@@ -336,6 +385,7 @@ static inline const char *fotsgure_gcm_status_text(enum fotsgure_gcm_status stat
     case FOTSGURE_GCM_OUT_OF_TURN:
         return "the calls came in the wrong order, for example text after finish, or decrypt before accept";
     case FOTSGURE_GCM_NO_RANDOMNESS: return "the system gave no randomness for a nonce";
+    case FOTSGURE_GCM_UNEQUAL_LENGTHS: return "input and output differ in length";
     }
     return "this header doesn't know the status";
 }
@@ -375,6 +425,15 @@ FOTSGURE_GCM_CHECK static inline enum fotsgure_gcm_status fotsgure_gcm_not_null_
     return fotsgure_gcm_seal(gcm, fotsgure_gcm_not_null(nonce), nonce_length, fotsgure_gcm_not_null(additional),
         additional_length, fotsgure_gcm_not_null_mut(text), text_length, tag);
 }
+FOTSGURE_GCM_CHECK static inline enum fotsgure_gcm_status fotsgure_gcm_not_null_seal_to(const struct fotsgure_gcm *gcm,
+    const uint8_t *nonce, size_t nonce_length, const uint8_t *additional, size_t additional_length,
+    const uint8_t *input, size_t input_length, uint8_t *output, size_t output_length,
+    uint8_t tag[FOTSGURE_GCM_TAG]) FOTSGURE_GCM_NOEXCEPT
+{
+    return fotsgure_gcm_seal_to(gcm, fotsgure_gcm_not_null(nonce), nonce_length, fotsgure_gcm_not_null(additional),
+        additional_length, fotsgure_gcm_not_null(input), input_length, fotsgure_gcm_not_null_mut(output), output_length,
+        tag);
+}
 FOTSGURE_GCM_CHECK static inline enum fotsgure_gcm_status fotsgure_gcm_not_null_seal_next(
     const struct fotsgure_gcm *gcm, struct fotsgure_gcm_counter *counter, uint8_t nonce[FOTSGURE_GCM_NONCE],
     const uint8_t *additional, size_t additional_length, uint8_t *text, size_t text_length,
@@ -389,6 +448,15 @@ FOTSGURE_GCM_CHECK static inline enum fotsgure_gcm_status fotsgure_gcm_not_null_
 {
     return fotsgure_gcm_open(gcm, fotsgure_gcm_not_null(nonce), nonce_length, fotsgure_gcm_not_null(additional),
         additional_length, fotsgure_gcm_not_null_mut(text), text_length, fotsgure_gcm_not_null(tag), tag_length);
+}
+FOTSGURE_GCM_CHECK static inline enum fotsgure_gcm_status fotsgure_gcm_not_null_open_to(const struct fotsgure_gcm *gcm,
+    const uint8_t *nonce, size_t nonce_length, const uint8_t *additional, size_t additional_length,
+    const uint8_t *input, size_t input_length, uint8_t *output, size_t output_length, const uint8_t *tag,
+    size_t tag_length) FOTSGURE_GCM_NOEXCEPT
+{
+    return fotsgure_gcm_open_to(gcm, fotsgure_gcm_not_null(nonce), nonce_length, fotsgure_gcm_not_null(additional),
+        additional_length, fotsgure_gcm_not_null(input), input_length, fotsgure_gcm_not_null_mut(output), output_length,
+        fotsgure_gcm_not_null(tag), tag_length);
 }
 FOTSGURE_GCM_CHECK static inline enum fotsgure_gcm_status fotsgure_gcm_not_null_begin(const struct fotsgure_gcm *gcm,
     struct fotsgure_gcm_message *message, const uint8_t *nonce, size_t nonce_length) FOTSGURE_GCM_NOEXCEPT
@@ -448,6 +516,14 @@ FOTSGURE_GCM_CHECK static inline enum fotsgure_gcm_status fotsgure_gcm_not_null_
     return fotsgure_gcm_siv_seal(siv, nonce, fotsgure_gcm_not_null(additional), additional_length,
         fotsgure_gcm_not_null_mut(text), text_length, tag);
 }
+FOTSGURE_GCM_CHECK static inline enum fotsgure_gcm_status fotsgure_gcm_not_null_siv_seal_to(
+    const struct fotsgure_gcm_siv *siv, const uint8_t nonce[FOTSGURE_GCM_SIV_NONCE], const uint8_t *additional,
+    size_t additional_length, const uint8_t *input, size_t input_length, uint8_t *output, size_t output_length,
+    uint8_t tag[FOTSGURE_GCM_TAG]) FOTSGURE_GCM_NOEXCEPT
+{
+    return fotsgure_gcm_siv_seal_to(siv, nonce, fotsgure_gcm_not_null(additional), additional_length,
+        fotsgure_gcm_not_null(input), input_length, fotsgure_gcm_not_null_mut(output), output_length, tag);
+}
 FOTSGURE_GCM_CHECK static inline enum fotsgure_gcm_status fotsgure_gcm_not_null_siv_seal_random(
     const struct fotsgure_gcm_siv *siv, uint8_t nonce[FOTSGURE_GCM_SIV_NONCE], const uint8_t *additional,
     size_t additional_length, uint8_t *text, size_t text_length, uint8_t tag[FOTSGURE_GCM_TAG]) FOTSGURE_GCM_NOEXCEPT
@@ -463,11 +539,21 @@ FOTSGURE_GCM_CHECK static inline enum fotsgure_gcm_status fotsgure_gcm_not_null_
     return fotsgure_gcm_siv_open(siv, nonce, fotsgure_gcm_not_null(additional), additional_length,
         fotsgure_gcm_not_null_mut(text), text_length, tag);
 }
+FOTSGURE_GCM_CHECK static inline enum fotsgure_gcm_status fotsgure_gcm_not_null_siv_open_to(
+    const struct fotsgure_gcm_siv *siv, const uint8_t nonce[FOTSGURE_GCM_SIV_NONCE], const uint8_t *additional,
+    size_t additional_length, const uint8_t *input, size_t input_length, uint8_t *output, size_t output_length,
+    const uint8_t tag[FOTSGURE_GCM_TAG]) FOTSGURE_GCM_NOEXCEPT
+{
+    return fotsgure_gcm_siv_open_to(siv, nonce, fotsgure_gcm_not_null(additional), additional_length,
+        fotsgure_gcm_not_null(input), input_length, fotsgure_gcm_not_null_mut(output), output_length, tag);
+}
 
 #define fotsgure_gcm_set_key(...) fotsgure_gcm_not_null_set_key(__VA_ARGS__)
 #define fotsgure_gcm_seal(...) fotsgure_gcm_not_null_seal(__VA_ARGS__)
+#define fotsgure_gcm_seal_to(...) fotsgure_gcm_not_null_seal_to(__VA_ARGS__)
 #define fotsgure_gcm_seal_next(...) fotsgure_gcm_not_null_seal_next(__VA_ARGS__)
 #define fotsgure_gcm_open(...) fotsgure_gcm_not_null_open(__VA_ARGS__)
+#define fotsgure_gcm_open_to(...) fotsgure_gcm_not_null_open_to(__VA_ARGS__)
 #define fotsgure_gcm_begin(...) fotsgure_gcm_not_null_begin(__VA_ARGS__)
 #define fotsgure_gcm_additional(...) fotsgure_gcm_not_null_additional(__VA_ARGS__)
 #define fotsgure_gcm_encrypt(...) fotsgure_gcm_not_null_encrypt(__VA_ARGS__)
@@ -478,8 +564,10 @@ FOTSGURE_GCM_CHECK static inline enum fotsgure_gcm_status fotsgure_gcm_not_null_
 #define fotsgure_gcm_decrypt_unverified(...) fotsgure_gcm_not_null_decrypt_unverified(__VA_ARGS__)
 #define fotsgure_gcm_siv_set_key(...) fotsgure_gcm_not_null_siv_set_key(__VA_ARGS__)
 #define fotsgure_gcm_siv_seal(...) fotsgure_gcm_not_null_siv_seal(__VA_ARGS__)
+#define fotsgure_gcm_siv_seal_to(...) fotsgure_gcm_not_null_siv_seal_to(__VA_ARGS__)
 #define fotsgure_gcm_siv_seal_random(...) fotsgure_gcm_not_null_siv_seal_random(__VA_ARGS__)
 #define fotsgure_gcm_siv_open(...) fotsgure_gcm_not_null_siv_open(__VA_ARGS__)
+#define fotsgure_gcm_siv_open_to(...) fotsgure_gcm_not_null_siv_open_to(__VA_ARGS__)
 
 #ifdef __cplusplus
 }

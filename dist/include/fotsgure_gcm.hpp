@@ -10,6 +10,7 @@
 
 #include <array>
 #include <stdexcept>
+#include <utility>
 
 namespace fotsgure {
 
@@ -32,7 +33,8 @@ inline void check(fotsgure_gcm_status status) {
     case FOTSGURE_GCM_DONE: return;
     case FOTSGURE_GCM_KEY_LENGTH:
     case FOTSGURE_GCM_NONCE_LENGTH:
-    case FOTSGURE_GCM_TAG_LENGTH: throw std::invalid_argument(words);
+    case FOTSGURE_GCM_TAG_LENGTH:
+    case FOTSGURE_GCM_UNEQUAL_LENGTHS: throw std::invalid_argument(words);
     case FOTSGURE_GCM_TOO_LONG:
     case FOTSGURE_GCM_NONCES_END: throw std::length_error(words);
     case FOTSGURE_GCM_REFUSED: throw Refused();

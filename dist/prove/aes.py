@@ -3,11 +3,12 @@
 They are proved in two steps, as the calls share the struct. fotsgure_aes_set_key is run on a key of symbolic bytes. Each bit that it stores
 turns out as a sum of bits of one byte of a round key, or of its InvMixColumns. The other calls then start from a struct of these sums over
 round keys that are arbitrary bytes. So they are proved for any round keys, and thus for those of any key."""
+import itertools
 from collections import namedtuple
 
 from bits import BLOCK, DATA, KEY, LOST, ONES, PUBLIC, Domain, Unproved, linear_bits
 from calls import ANY, Buffer, Call, Stream, prove
-from linear import unknown
+from linear import WORD, unknown
 from machine import LAST, LEAD, Pointer, Verdict
 from standards import ICV1, ICV2, Aes, number
 
@@ -26,7 +27,7 @@ NEVER, BATCH = 1 << 64, 16  # a batch may have more blocks than the text
 
 class Keyed:
     """One build and one key size. `domain` is that of arbitrary round keys, `key_domain` that of an arbitrary key."""
-    library, prefix, struct_size, schedules = "aes", "aes", STRUCT, 2
+    library, prefix, struct_size, schedules, key_sizes = "aes", "aes", STRUCT, 2, (16, 24, 32)
 
     def __init__(self, program, key_size):
         self.program, self.key_size = program, key_size
@@ -90,7 +91,7 @@ class Keyed:
     def set_key(self, seed=None):
         """Expands a key into *aes (KeyExpansion, FIPS 197, 5.2). *aes may be uninitialized: none of it is read. .. every byte that neither
         a round key of the new key nor its length takes is 0. DONE if key_length is 16, 24 or 32"""
-        return self.stored_by(self.proved(self.expansion(DONE, self.key_size, ANY), seed))
+        return self.stored_by(self.proved(self.expansion(ANY), seed))
 
     def stored_by(self, m):
         """Keeps what set_key has stored, as the same of any round keys: the key's length, and schedules of up to 60 words each."""
@@ -103,13 +104,15 @@ class Keyed:
                 raise Unproved("the struct holds more than round keys and zeros")
         return m
 
-    def expansion(self, status, length, after, **more):
+    def expansion(self, after, **more):
         struct = Buffer(self.library, [self.key_domain.undefined] * self.struct_size, after)
-        return Call(self.prefix + "_set_key", [struct, Buffer("key", self.key), length], status, **more)
+        return Call(self.prefix + "_set_key", [struct, Buffer("key", self.key), self.key_size], DONE, **more)
 
-    def set_key_refused(self, length):
+    def set_key_refused(self):
         """.. else KEY_LENGTH, and *aes then is all zeros and holds no key."""
-        return self.expansion(KEY_LENGTH, length, [0] * self.struct_size)
+        struct = Buffer(self.library, self.undefined(self.struct_size), [0] * self.struct_size)
+        for length, facts in lengths_but(self.key_sizes, "length"):
+            yield Call(self.prefix + "_set_key", [struct, nothing("key", False), length], KEY_LENGTH, facts=facts)
 
     def key_length(self):
         """Returns how many bytes the key has: 16, 24 or 32"""
@@ -191,9 +194,10 @@ class Keyed:
 
     def any_cbc_decrypt(self, rest, step=64):
         content, previous, count = self.pattern(self.block_bytes), self.pattern(self.block_bytes, -1), unknown("n") * step + rest
-        want = self.aes.xor(self.pattern(self.ciphers["decrypt"]), previous)
+        between = self.pattern(self.ciphers["decrypt"])
+        want = self.aes.xor(between, previous)
         return self.of_any_count("aes_cbc_decrypt", [Buffer("cbc", previous, self.of_last(content, count))], content, want, count,
-                                 count * 16, want)
+                                 count * 16, want, between=self.of_all(between))
 
     def any_cbc_encrypt(self):
         """A plain block has the number of the encrypted one before it."""
@@ -298,9 +302,10 @@ class Keyed:
         previous = self.once("previous", lambda: [self.domain.fresh("previous byte %d" % i, DATA) for i in range(16)])
         content = self.content(count)
         chain = previous + content
-        want = self.aes.xor(self.results("decrypt", count), chain)
+        between = self.results("decrypt", count)
+        want = self.aes.xor(between, chain)
         return Call("aes_cbc_decrypt", [self.schedule(), Buffer("cbc", previous, chain[-16:]), Buffer("blocks", content, want), count],
-                    DONE, plain=want)
+                    DONE, plain=want, between=between)
 
     def cbc_encrypt(self, count):
         """.. encrypts .. the next `count` blocks of a chain. After each block the encrypted block, which is what it should be, becomes an
@@ -410,37 +415,95 @@ class Keyed:
         for said in {8 * n - 8, 8 * n + 1, *powers[:-1], *(power - 1 for power in powers)}.difference(range(8 * n - 7, 8 * n + 1)):
             yield self.unwrap_padded(8 * n - 3, said, paths)
 
-    # Calls that are refused: nothing but the status changes.
+    # Calls that are refused, for all their arguments: nothing but the status changes, and buffers aren't read, so they have no bytes here.
     def refused(self):
         """NO_KEY .. UNEQUAL_COUNTS if they differ .. KEYSTREAM_END if the position would pass 2^64 - 1 .. INVALID_COUNT if keys of so many
         semiblocks are not wrapped, or the output isn't one longer or one shorter"""
-        key, none, data = self.schedule(), self.no_key(), self.content(3)
-        two, same, out = Buffer("input", data[:32]), lambda name: Buffer(name, data, data), lambda: same("output")
-        ctr = lambda position: Buffer("ctr", *[data[:16] + number(position, 8)[::-1]] * 2)
-        cbc, nothing = Buffer("cbc", data[:16], data[:16]), Buffer("key_length", data[:8], [0] * 8)
+        n, k = unknown("n"), unknown("k")
+        key, none, blocks, input_, output = self.schedule(), self.no_key(), nothing("blocks"), nothing("input", False), nothing("output")
+        cbc = self.stays("cbc", [self.domain.fresh("previous byte %d" % i, DATA) for i in range(16)])
+        sizes = between(n, 0, WORD) | between(k, 0, WORD)
         for direction in ("encrypt", "decrypt"):
-            name = "aes_" + direction + "_blocks"
-            yield Call(name, [none, same("blocks"), 3], NO_KEY)
-            for aes, counts, status in ((none, (2, 2), NO_KEY), (key, (2, 3), UNEQUAL_COUNTS), (none, (2, 1), UNEQUAL_COUNTS)):
-                yield Call(name + "_to", [aes, two, counts[0], out(), counts[1]], status)
-            yield Call("aes_cbc_" + direction, [none, cbc, same("blocks"), 3], NO_KEY)
-        for aes, position, count, status in ((none, 0, 16, NO_KEY), (none, 2 ** 64 - 16, 16, KEYSTREAM_END),
-                                             (key, 2 ** 64 - 1, 1, KEYSTREAM_END), (key, 2 ** 64 - 48, 48, KEYSTREAM_END)):
-            yield Call("aes_add_keystream", [aes, ctr(position), same("bytes"), count], status)
-            yield Call("aes_add_keystream_to", [aes, ctr(position), Buffer("input", data), count, out(), count], status)
-            yield Call("aes_add_keystream_to", [aes, ctr(position), Buffer("input", data), count, out(), count - 1], UNEQUAL_COUNTS)
-        for aes, counts, status in ((none, (2, 3), NO_KEY), (key, (1, 2), INVALID_COUNT), (key, (2, 2), INVALID_COUNT),
-                                    (key, (0, 1), INVALID_COUNT), (key, (2 ** 54, 2 ** 54 + 1), INVALID_COUNT)):
-            yield Call("aes_wrap", [aes, two, counts[0], out(), counts[1]], status)
-            yield Call("aes_unwrap", [aes, two, counts[1], out(), counts[0]], status)
-        for aes, length, count, status in ((none, 8, 2, NO_KEY), (key, 0, 1, INVALID_COUNT), (key, 9, 2, INVALID_COUNT),
-                                           (key, 2 ** 32, 2 ** 29 + 1, INVALID_COUNT)):
-            yield Call("aes_wrap_padded", [aes, two, length, out(), count], status)
-        for aes, counts, status in ((none, (2, 1), NO_KEY), (key, (1, 0), INVALID_COUNT), (key, (2, 2), INVALID_COUNT),
-                                    (key, (2 ** 29 + 2, 2 ** 29 + 1), INVALID_COUNT)):
-            yield Call("aes_unwrap_padded", [aes, two, counts[0], out(), counts[1], nothing], status)
-        for length in (0, 15, 17, 33, 2 ** 32 + 16):
+            name = "aes_%s_blocks" % direction
+            yield Call(name, [none, blocks, n], NO_KEY, facts=sizes)
+            yield Call(name + "_to", [none, input_, n, output, n], NO_KEY, facts=sizes)
+            for aes, facts in itertools.product((none, key), unequal(n, k)):
+                yield Call(name + "_to", [aes, input_, n, output, k], UNEQUAL_COUNTS, facts=sizes | facts)
+            yield Call("aes_cbc_" + direction, [none, cbc, blocks, n], NO_KEY, facts=sizes)
+        yield from self.keystream_refused(key, none, sizes)
+        yield from self.wrap_refused(key, none, sizes)
+        yield from self.wrap_padded_refused(key, none, sizes)
+        for length, facts in lengths_but((16, 24, 32), "length"):
+            arguments, facts = [nothing("key", False), length], sizes | facts
             for direction in ("encrypt", "decrypt"):
-                yield Call("aes_%s_blocks_with" % direction, [two, length, same("blocks"), 3], KEY_LENGTH)
-            yield Call("aes_add_keystream_with", [two, length, ctr(0), same("bytes"), 16], KEY_LENGTH)
-        yield Call("aes_add_keystream_with", [two, 16, ctr(2 ** 64 - 3), same("bytes"), 3], KEYSTREAM_END)
+                yield Call("aes_%s_blocks_with" % direction, [*arguments, blocks, n], KEY_LENGTH, facts=facts)
+            yield Call("aes_add_keystream_with", [*arguments, self.ctr(k), nothing("bytes"), n], KEY_LENGTH, facts=facts)
+
+    def stays(self, name, content):
+        return Buffer(name, content, content)
+
+    def ctr(self, position):
+        """A counter at a position that isn't known."""
+        return self.stays("ctr", self.content(1) + [self.domain.opaque((position, k)) for k in range(8)])
+
+    def keystream_refused(self, key, none, sizes):
+        n, k, position = unknown("n"), unknown("k"), unknown("position")
+        ctr, sizes, bytes_ = self.ctr(position), sizes | between(position, 0, WORD), nothing("bytes")
+        to = lambda aes, n, k: [aes, ctr, nothing("input", False), n, nothing("output"), k]
+        passes, stays = {position + n - WORD - 1}, {WORD - position - n}
+        for aes, facts, status in ((none, stays, NO_KEY), (none, passes, KEYSTREAM_END), (key, passes, KEYSTREAM_END)):
+            yield Call("aes_add_keystream", [aes, ctr, bytes_, n], status, facts=sizes | facts)
+            yield Call("aes_add_keystream_to", to(aes, n, n), status, facts=sizes | facts)
+        for aes, facts in itertools.product((none, key), unequal(n, k)):
+            yield Call("aes_add_keystream_to", to(aes, n, k), UNEQUAL_COUNTS, facts=sizes | facts)
+        for length in (16, 24, 32):
+            yield Call("aes_add_keystream_with", [Buffer("key", self.content(2)[:length]), length, ctr, bytes_, n], KEYSTREAM_END,
+                       facts=sizes | passes)
+
+    def wrap_refused(self, key, none, sizes):
+        """A key has two semiblocks or more, and fewer than 2^54 (SP 800-38F, 5.3.1)."""
+        n, k = unknown("n"), unknown("k")
+        calls = lambda aes, n, k: (("aes_wrap", [aes, nothing("input", False), n, nothing("output"), k]),
+                                   ("aes_unwrap", [aes, nothing("input", False), k, nothing("output"), n]))
+        for name, arguments in calls(none, n, k):
+            yield Call(name, arguments, NO_KEY, facts=sizes)
+        for n, k, facts in ((n, k, {n - k}), (n, k, {k - n - 2}), (0, 1, set()), (1, 2, set()), (n, n + 1, between(n, 1 << 54, WORD - 1))):
+            for name, arguments in calls(key, n, k):
+                yield Call(name, arguments, INVALID_COUNT, facts=(sizes if facts else set()) | facts)
+
+    def wrap_padded_refused(self, key, none, sizes):
+        """A key has at least one byte and fewer than 2^32 (SP 800-38F, 5.3.1)."""
+        n, k = unknown("n"), unknown("k")
+        wrap = lambda aes, length: ("aes_wrap_padded", [aes, nothing("input", False), length, nothing("output"), k])
+        yield Call(*wrap(none, n), NO_KEY, facts=sizes)
+        yield Call(*wrap(key, 0), INVALID_COUNT, facts=sizes)
+        yield Call(*wrap(key, n), INVALID_COUNT, facts=sizes | between(n, 1 << 32, WORD))
+        for rest in range(1, 9):  # of a key of n + 1 semiblocks
+            for facts in unequal(k, n + 2):
+                yield Call(*wrap(key, n * 8 + rest), INVALID_COUNT, facts=sizes | between(n, 0, (1 << 29) - 1) | facts)
+        key_length = Buffer("key_length", self.undefined(8), [0] * 8)
+        unwrap = lambda aes, n, k: ("aes_unwrap_padded", [aes, nothing("input", False), n, nothing("output"), k, key_length])
+        yield Call(*unwrap(none, n, k), NO_KEY, facts=sizes)
+        for n, k, facts in ((n, k, {k - n}), (n, k, {n - k - 2}), (1, 0, set()), (k + 1, k, between(k, (1 << 29) + 1, WORD - 1))):
+            yield Call(*unwrap(key, n, k), INVALID_COUNT, facts=(sizes if facts else set()) | facts)
+
+
+def nothing(name, writable=True):
+    """A buffer of which no byte is read or written."""
+    return Buffer(name, [], [] if writable else None)
+
+
+def between(n, low, high):
+    """Facts of a number."""
+    return {n - low, high - n}
+
+
+def unequal(a, b):
+    """The ways in which two numbers differ."""
+    return {a - b - 1}, {b - a - 1}
+
+
+def lengths_but(right, name):
+    """All lengths but these, of which the last is the highest: (the length, facts)."""
+    length = unknown(name)
+    return [(n, set()) for n in range(right[-1]) if n not in right] + [(length, between(length, right[-1] + 1, WORD))]

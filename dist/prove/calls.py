@@ -7,12 +7,14 @@ import functools
 
 import lengths
 from bits import DATA, KEY, LOST, Pause, Unproved
+from linear import refuted
 from machine import LAST, LEAD, ROOM, Pointer, Question, Region, Window
 from native import Native
 
 STACK = 16384  # FOTSGURE_AES_STACK and FOTSGURE_GCM_STACK
 KINDS = "key", "inner", "plain", "step", "keystream", "result", "data"  # of what is left; see `tells`
 MAY_STAY = "step", "keystream", "result", "data"  # on the stack
+IN_BUFFERS, MAY_NOT_COME = "the caller's buffers, perhaps for a while", ("key", "inner")
 MANY = 80000   # sums of products, which take some KB each
 ANY = "any"    # for a Buffer of which something else is asked than bytes
 
@@ -38,19 +40,22 @@ class Call:
     step_by_step). `reveals` are bytes that are all zero if a wrapped key or a tag is right; if they are not, the call returns the status
     `refused`, and Buffers are what `refused_after` says by their names, or what they were. `assumes` are bytes of public data that are not
     all zero. `later` turns bytes of the key's own domain into those of arbitrary round keys, for a call that expands a key (see aes.py).
-    `keystream` is what is added to the data, and `plain` what is secret of the data and the results; `may_stay` says how many bytes of a
-    kind may be left besides. `counter` is a word of unknown value (aes.CounterWord). `room`, for GCM's counter: the sums that say how much
+    `keystream` is what is added to the data, `between` are other blocks that the cipher gives, and `plain` what is secret of the data and the results; `may_stay` says how many bytes of a
+    kind may be left besides. A call that is refused writes to no Buffer that stays as it was, unless it has to undo what it did (`undone`).
+    `counter` is a word of unknown value (aes.CounterWord). `room`, for GCM's counter: the sums that say how much
     keystream comes before it wraps around (gcm.py, any_counter), and how much the text needs. Calls that share `paths` have to run the same
-    instructions whenever they return the same."""
+    instructions whenever they return the same. `facts` are what is known of arguments that aren't (linear.py): each is 0 or more."""
 
     def __init__(self, name, arguments, status, size=4, steps=None, reveals=None, refused=None, refused_after=None, assumes=None,
-                 later=None, counter=None, keystream=(), plain=(), may_stay=None, room=None, paths=None, facts=()):
+                 later=None, counter=None, keystream=(), plain=(), may_stay=None, room=None, paths=None, facts=(),
+                 undone=False, between=()):
         self.name, self.arguments, self.status, self.size, self.steps = name, arguments, status, size, steps
         self.reveals, self.refused, self.refused_after = reveals, refused, refused_after or {}
         self.assumes, self.later, self.counter = assumes, later, counter
         self.keystream, self.plain, self.may_stay, self.room, self.paths = keystream, plain, may_stay or {}, room, paths
-        self.facts = frozenset(facts)
+        self.facts, self.undone, self.between = frozenset(facts), undone, between
         self.buffers = [a for a in arguments if isinstance(a, Buffer)]
+        self.any_length = any(isinstance(b, Stream) for b in self.buffers)
 
 
 def prove(domain, program, call, seed=None):
@@ -60,14 +65,16 @@ def prove(domain, program, call, seed=None):
         domain.forget_products()
     regions = {b.name: Window(b.size, b.content, b.after is not None) if isinstance(b, Stream) else Region(b.content, b.after is not None)
                for b in call.buffers}
-    regions["stack"] = Region([domain.undefined] * (STACK + 128), align=16)
+    regions["stack"] = Region([domain.undefined] * (STACK - 8 * len(program.machine.pushed)), align=16)
     arguments = [Pointer(a.name, 0) if isinstance(a, Buffer) else a for a in call.arguments]
     m = program.machine(domain, program, regions, program.exports["fotsgure_" + call.name], arguments)
     m.may_reveal, m.assumed = call.reveals is not None, call.assumes
     m.room, m.counter = call.room, call.counter
-    m.facts, m.any_length, ends = call.facts, bool(call.facts), []
-    watches = [step_by_step(call.steps if call.facts else call.steps())] if call.steps else []
-    if call.facts:
+    m.facts, m.any_length, ends = call.facts, call.any_length, []
+    if refuted(call.facts):
+        raise Unproved("is about no arguments")
+    watches = [step_by_step(call.steps if call.any_length else call.steps())] if call.steps else []
+    if call.any_length:
         watches.append(lengths.watch)
     if call.paths is not None:
         watches.append(lambda m: m.path.append(m.last))
@@ -93,7 +100,7 @@ def prove(domain, program, call, seed=None):
             check(m, call)
             nothing_secret(m, call)
             ends.append(m)
-        if call.facts:
+        if call.any_length:
             lengths.check_ends(ends, call)
         return ends[-1]
     m.native = Native(m, seed, call.counter)
@@ -134,13 +141,13 @@ def check(m, call):
     if status is not None and m.returned(call.size) != status:
         raise Unproved("returns %s and not %s" % (m.returned(call.size), status))
     if call.paths is not None:  # for each answer to how far buffers are apart
-        answers = {q: answer for q, answer in m.answers.items() if q[0] != "zero"}
+        answers = {q: answer for q, answer in m.answers.items() if q[0] not in ("zero", "bit")}
         if call.paths.setdefault((status, *sorted(answers.items())), m.path) != m.path:
             raise Unproved("runs other instructions than another call that returns %s" % status)
     m.results, m.unsaid = [], []
     for buffer in call.buffers:
         want = buffer.after if right else call.refused_after.get(buffer.name, buffer.content)
-        want = want(m) if callable(want) else want
+        stays, want = want == buffer.content, want(m) if callable(want) else want
         if isinstance(buffer, Stream):
             have = m.regions[buffer.name].finish(m) if want else None
             if have and not right:
@@ -148,12 +155,14 @@ def check(m, call):
             compare(m.domain, have or [], want[:len(have or [])] if want else [], buffer.name)
             m.results += [m.domain.moved(b, k) for b in want or () for k in range(LAST - LEAD)]
             continue
+        if status and buffer.name in m.wrote and stays and not call.undone:
+            raise Unproved("writes to %s, which is to stay as it is" % buffer.name)
         if want is ANY and m.answers:  # set_key looks at the content that one machine has
             raise Unproved("%s may have other bytes if buffers are otherwise apart" % buffer.name)
         if buffer.after is not None and want is not ANY:
-            content = m.regions[buffer.name].content
+            content, want = m.regions[buffer.name].content, m.known_bytes(want)
             compare(m.domain, content, want, buffer.name)
-            m.unsaid += [x for x, y in zip(content, want) if y is None and x not in buffer.content]
+            m.unsaid += [x for x, y in zip(content, want) if y is None and x not in m.known_bytes(buffer.content)]
             if not buffer.secret:
                 m.results += [b for b in want if b is not None]
     m.left = left(m, call)
@@ -164,8 +173,8 @@ def nothing_secret(m, call):
     for (place, k), where in m.left.items():
         if place == "registers":
             raise Unproved("leaves %d bytes in registers (%s), in %s" % (len(where), k, ", ".join(sorted(set(where)))))
-        if k not in MAY_STAY and len(where) > call.may_stay.get(k, 0):
-            raise Unproved("leaves %d bytes in %s (%s), from %d to %d" % (len(where), place, k, where[0], where[-1]))
+        if place != IN_BUFFERS and k not in MAY_STAY and len(where) > call.may_stay.get(k, 0) or place == IN_BUFFERS and k in MAY_NOT_COME:
+            raise Unproved("leaves %d bytes in %s (%s), from %s to %s" % (len(where), place, k, where[0], where[-1]))
 
 
 def compare(domain, have, want, what):
@@ -270,18 +279,20 @@ def tells(m, byte, names, plain):
 
 def left(m, call):
     """What is left of a call, in bytes: {(place, kind): [where]}, in the dead stack, by the offset from the stack pointer at the call, in
-    bytes of a message that may be anything, and in registers."""
+    bytes of a message that may be anything, in registers, and among what was written to buffers, also if it was written over since."""
     bits = lambda bytes_: (x & ~1 for b in bytes_ if m.domain.symbolic(b) for x in m.domain.bits(b))
-    known = ("result", m.results), ("plain", call.plain), ("keystream", call.keystream)  # of what is several of these, it is the last
+    known = ("step", call.between), ("result", m.results), ("plain", call.plain), ("keystream", call.keystream)  # of what is several of these, it is the last
     names = {x: name for name, bytes_ in known for x in bits(bytes_)}
     plain = {cell for x in bits(call.plain) if not depends_bit(m, x, False) & KEY for cell in cells_of_bit(m, x)}
     places = [("stack", k - m.top, m.regions["stack"].content[k]) for k in range(m.lowest, m.top)]
     places += [("a message", k, b) for k, b in enumerate(m.unsaid)]
+    places += [(IN_BUFFERS, a.name, b) for a in call.buffers if not a.secret and a.after is not ANY
+               for b in m.wrote.get(a.name, ())]
     places += [("registers", r, b) for r, v in m.general.items() for b in m.to_bytes(v, 8)]
     places += [("registers", "vector %d" % n, b) for n, v in enumerate(m.vectors) for b in v]
     out = {}
     for place, where, b in places:
-        if call.facts and max(m.domain.blocks(b), default=0) >= LAST:
+        if call.any_length and max(m.domain.blocks(b), default=0) >= LAST:
             raise Unproved("leaves a block with a number that isn't known")
         k = tells(m, b, names, plain)
         if k:

@@ -1,9 +1,9 @@
 """The controls of the proof: faults that are planted in the assembly (faults.py), and wrong meanings of instructions. Each has to be
 refused. Run it as `make prove-controls` in dist.
 
-A fault is refused if the case that it names, one of those of `make prove`, is not proved any more. Whatever else goes wrong ends the
-controls: an edit for which there is no place, gcc, ld, a case that isn't there, or a planted instruction that isn't covered, unless that is
-the fault."""
+A fault is refused if the case that it names, one of those of `make prove`, is not proved any more. One for which a text has no place counts
+as missed. Whatever else goes wrong ends the controls: gcc, ld, a case that isn't there, or a planted instruction that isn't covered, unless
+that is the fault."""
 import argparse
 import re
 import sys
@@ -29,12 +29,13 @@ def verdict(what, prove, reason=""):
 
 
 def edited(text, label, pattern, new):
-    """The text with the first match of a pattern in what stands behind a label replaced, and its line."""
+    """The text with the first match of a pattern in what stands behind a label replaced, and its line; or None."""
     at = re.search(r"(?m)^" + label, text)
     found = at and re.compile(pattern).search(text, at.end(), text.index("\t.size", at.end()))
     if not found:
-        raise SystemExit("controls: nothing like %s after %s" % (pattern, label))
-    return text[:found.start()] + found.expand(new) + text[found.end():], text.count("\n", 0, found.start()) + 1
+        return None, 0
+    put = new(found) if callable(new) else found.expand(new)
+    return text[:found.start()] + put + text[found.end():], text.count("\n", 0, found.start()) + 1
 
 
 def faults(options, build):
@@ -53,7 +54,11 @@ def faults(options, build):
             raise SystemExit("controls: %s: no such case: %s" % (what, case))
         if options.only in what:
             changed, line = edited(text, *edit)
-            open(out + ".s", "w").write(changed)
+            if changed in (None, text):
+                verdicts.append((False, "MISSED: %s (%s): there is no such place, or nothing changes" % (what, build)))
+                continue
+            with open(out + ".s", "w") as file:
+                file.write(changed)
             verdicts.append(verdict("%s (%s.s:%d, %s)" % (what, build, line, case), lambda: prove(case)))
     return verdicts
 

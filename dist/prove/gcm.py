@@ -3,11 +3,13 @@
 H and its powers become arbitrary blocks when set_key has made them, and so does each value of GHASH when a call has made it. A call on a
 message that comes in pieces is proved from any state of the message: whatever value of GHASH and whatever part of a block came before."""
 import functools
+import itertools
 from collections import namedtuple
 
-from aes import BATCH, DONE, NEVER, CounterWord, Keyed
+from aes import BATCH, DONE, NEVER, CounterWord, Keyed, between, lengths_but, nothing, unequal
 from bits import DATA, KEY, PUBLIC
 from calls import ANY, Buffer, Call
+from linear import WORD, unknown
 from machine import Pointer
 from standards import number, product
 
@@ -17,7 +19,7 @@ STRUCTS = {"fotsgure_gcm": (1780, {"key_length": 0, "round_keys": 4, "multiples"
            "fotsgure_gcm_message": (80, {"additional": 0, "text": 8, "decrypted": 16, "phase": 24, "first": 32, "value": 48, "rest": 64})}
 STRUCT, MESSAGE = 1780, 80
 NONE, ADDITIONAL, ENCRYPTING, VERIFYING, DECRYPTING = range(5)  # phases of a message
-MOST, MOST_ADDITIONAL = 2 ** 36 - 32, 2 ** 61 - 1
+MOST, MOST_ADDITIONAL, MOST_NONCE = 2 ** 36 - 32, 2 ** 61 - 1, 2 ** 61 - 1
 ZEROS = [0] * 16
 
 
@@ -105,7 +107,7 @@ class KeyedGcm(Keyed):
             yield "hash", h, p[0]
             for n in (0, 1):
                 yield "hash", functools.partial(product, d, p[n], p[0]), p[n + 1]
-        m = self.stored_by(self.proved(self.expansion(DONE, self.key_size, ANY, steps=steps), seed))
+        m = self.stored_by(self.proved(self.expansion(ANY, steps=steps), seed))
         meaning = {d.cell_of(b)[0]: e.bits(c) for x, y in zip(p, self.powers) for b, c in zip(x, y)}
         self.struct += [e.pack([e.linear_image(x, meaning.__getitem__, d) for x in d.bits(b)]) for b in m.regions["gcm"].content[244:]]
         return m
@@ -353,49 +355,69 @@ class KeyedGcm(Keyed):
         return self.on_message("accept" + "_short" * bool(length), state, after, arguments, steps=hashing.steps,
                                reveals=self.aes.xor(tag, right), refused=REFUSED)
 
-    # Calls that are refused: nothing but the status changes.
+    # Calls that are refused, for all their arguments: nothing but the status changes, and buffers aren't read, so they have no bytes here.
     def refused(self):
         """.. the call returns the first in the order that it names them."""
-        key, none, data = self.schedule(), self.no_key(), self.many(self.text, 48)
-        same, read = (lambda name, n=16: Buffer(name, data[:n], data[:n])), lambda name, n=16: Buffer(name, data[:n])
-        end, counter = Buffer("counter", [255] * 12, [255] * 12), Buffer("counter", number(7, 12), number(7, 12))
-        long, longer = MOST + 1, MOST_ADDITIONAL + 1
-        for gcm, nonce, additional, text, status in ((none, 12, 16, 16, NO_KEY), (none, 12, 16, long, TOO_LONG),
-                                                     (none, 0, 16, long, NONCE_LENGTH), (key, longer, 16, 16, NONCE_LENGTH),
-                                                     (key, 12, longer, 16, TOO_LONG)):
-            arguments = [gcm, read("nonce"), nonce, read("additional"), additional, same("text"), text]
-            yield Call("gcm_seal", arguments + [same("tag")], status)
-            yield Call("gcm_open", arguments + [read("tag"), 16], status)
-            yield Call("gcm_open", arguments + [read("tag"), 15], TAG_LENGTH)
-            if status != NONCE_LENGTH:
-                for moved, status in ((counter, status), (end, NONCES_END)):
-                    yield Call("gcm_seal_next", [gcm, moved, same("nonce", 12), *arguments[3:], same("tag")], status)
-            else:
-                yield Call("gcm_begin", [none, same("message", 48), read("nonce"), nonce], status)
-        yield Call("gcm_begin", [none, same("message", 48), read("nonce"), 12], NO_KEY)
-        for moved, status in ((counter, NO_KEY), (end, NONCES_END)):
-            yield Call("gcm_begin_next", [none, same("message", 48), moved, same("nonce", 12)], status)
+        a, t, n, tag_length = (unknown(name) for name in ("additional", "text", "nonce", "tag"))
+        key, none, tag = self.schedule(), self.no_key(), nothing("tag", False)
+        sizes = between(a, 0, WORD) | between(t, 0, WORD)
+        nonces, no_nonces = between(n, 1, MOST_NONCE), [between(n, 0, 0), between(n, MOST_NONCE + 1, WORD)]
+        long = [between(a, MOST_ADDITIONAL + 1, WORD), between(a, 0, MOST_ADDITIONAL) | between(t, MOST + 1, WORD)]
+        short = between(a, 0, MOST_ADDITIONAL) | between(t, 0, MOST)
+        text = [nothing("additional", False), a, nothing("text"), t]
+        keys = lambda status, facts: [(aes, status, sizes | also) for aes in (key, none) for also in facts]
+        late = [(none, NO_KEY, sizes | short)]
+        refusals = keys(NONCE_LENGTH, no_nonces) + [(aes, status, facts | nonces) for aes, status, facts in keys(TOO_LONG, long) + late]
+        for gcm, status, facts in refusals:
+            arguments = [gcm, nothing("nonce", False), n, *text]
+            yield Call("gcm_seal", [*arguments, nothing("tag")], status, facts=facts)
+            yield Call("gcm_open", [*arguments, tag, 16], status, facts=facts)
+        for gcm, (length, facts) in itertools.product((key, none), lengths_but((16,), "tag")):
+            yield Call("gcm_open", [gcm, nothing("nonce", False), n, *text, tag, length], TAG_LENGTH, facts=sizes | between(n, 0, WORD) | facts)
+        for gcm, status, facts in keys(NONCE_LENGTH, no_nonces) + [(none, NO_KEY, nonces)]:
+            yield Call("gcm_begin", [gcm, nothing("message"), nothing("nonce", False), n], status, facts=facts)
+        last, other = self.stays("counter", [255] * 12), self.stays("counter", [*self.nonce[:11], 254])
+        for counter, gcm, status, facts in [(last, *one) for one in keys(NONCES_END, [set()])] + [
+                (other, *one) for one in keys(TOO_LONG, long) + late]:
+            yield Call("gcm_seal_next", [gcm, counter, nothing("nonce"), *text, nothing("tag")], status, facts=facts)
+        for counter, gcm, status in (last, key, NONCES_END), (last, none, NONCES_END), (other, none, NO_KEY):
+            yield Call("gcm_begin_next", [gcm, nothing("message"), counter, nothing("nonce")], status)
         yield from self.pieces_refused()
+
+    def any_message(self, phase):
+        """A message of which each number but the phase may be any, and so may all bytes that are computed with."""
+        numbers = [unknown(name) for name in ("hashed", "text", "decrypted")] + [phase]
+        bytes_ = [b for n in numbers for b in (number(n, 8)[::-1] if isinstance(n, int) else [self.domain.opaque((n, k)) for k in range(8)])]
+        content = bytes_ + [b for block in range(3) for b in self.of(self.hash_value, block)]
+        return Buffer("message", content, content, secret=True), {f for n in numbers[:3] for f in between(n, 0, WORD)}
 
     def pieces_refused(self):
         """A call that comes out of turn is refused and changes nothing, and so is one that would make the message longer than the standard
         allows."""
-        key, none, data = self.schedule(), self.no_key(), self.many(self.text, 48)
+        n, hashed, text, decrypted, phase = (unknown(name) for name in ("n", "hashed", "text", "decrypted", "phase"))
         comes = {"additional": (ADDITIONAL,), "encrypt": (ADDITIONAL, ENCRYPTING), "finish": (ADDITIONAL, ENCRYPTING),
                  "verify": (ADDITIONAL, VERIFYING), "decrypt_unverified": (ADDITIONAL, VERIFYING), "accept": (ADDITIONAL, VERIFYING),
                  "accept_short": (ADDITIONAL, VERIFYING), "decrypt": (DECRYPTING,)}
+        too_long = {"additional": [{hashed + n - MOST_ADDITIONAL - 1}], "decrypt": [{decrypted + n - text - 1}, {decrypted + n - MOST - 1}]}
+        others = [(p, set()) for p in range(6)] + [(phase, between(phase, 6, WORD))]
         for call, phases in comes.items():
-            last = {"finish": [Buffer("tag", data[:16], data[:16])], "accept": [Buffer("tag", data[:16]), 16],
-                    "accept_short": [12, Buffer("tag", data[:12]), 12]}.get(call, [Buffer("text", data, data), 48])
-            for phase in range(6):
-                state = self.state(phase, MOST_ADDITIONAL - 47, MOST - 47, MOST - 47)
-                longer = phase in phases and call not in ("finish", "accept", "accept_short")
-                status = TOO_LONG if longer else OUT_OF_TURN
-                if phase not in phases or status == TOO_LONG:
-                    yield Call("gcm_" + call, [key, self.message(state, state), *last], status)
-                yield Call("gcm_" + call, [none, self.message(state, state), *last], NO_KEY)
-        state = self.state(VERIFYING, 3, 3)
-        for length in (0, 15, 17, 32):
-            yield Call("gcm_accept", [none, self.message(state, state), Buffer("tag", data), length], TAG_LENGTH)
-        for fixed, length in ((0, 0), (3, 3), (5, 5), (11, 11), (17, 17), (12, 13), (13, 12)):
-            yield Call("gcm_accept_short", [none, self.message(state, state), fixed, Buffer("tag", data), length], TAG_LENGTH)
+            has_tag = call in ("finish", "accept", "accept_short")
+            last = {"finish": [nothing("tag")], "accept": [Buffer("tag", self.of(self.tag, 0)), 16], "accept_short": [12, nothing("tag", False), 12]}
+            arguments, sizes = last.get(call, [nothing("text"), n]), set() if has_tag else between(n, 0, WORD)
+            refusals = [(self.no_key(), p, NO_KEY, facts) for p, facts in others]
+            refusals += [(self.schedule(), p, OUT_OF_TURN, facts) for p, facts in others if p not in phases]
+            refusals += [(self.schedule(), p, TOO_LONG, facts) for p in phases if not has_tag
+                         for facts in too_long.get(call, [{text + n - MOST - 1}])]
+            for gcm, p, status, facts in refusals:
+                message, any_ = self.any_message(p)
+                yield Call("gcm_" + call, [gcm, message, *arguments], status, facts=sizes | any_ | facts)
+        message, any_ = self.any_message(phase)
+        any_ |= between(phase, 0, WORD)
+        for gcm in self.schedule(), self.no_key():
+            for length, facts in lengths_but((16,), "tag"):
+                yield Call("gcm_accept", [gcm, message, nothing("tag", False), length], TAG_LENGTH, facts=any_ | facts)
+            for fixed, facts in lengths_but((4, 8, 12, 13, 14, 15), "fixed"):
+                yield Call("gcm_accept_short", [gcm, message, fixed, nothing("tag", False), fixed], TAG_LENGTH, facts=any_ | facts)
+            for fixed, facts in itertools.product((4, 8, 12, 13, 14, 15), unequal(n, 0)):
+                yield Call("gcm_accept_short", [gcm, message, fixed, nothing("tag", False), n + fixed], TAG_LENGTH,
+                           facts=any_ | between(n + fixed, 0, WORD) | facts)

@@ -204,7 +204,7 @@ def leads(program, name, count, found, suffix):
     """Whether an export jumps to the function with this suffix, with its caller's arguments, some on the stack, and registers."""
     domain, arguments = Domain(), [Pointer("argument %d" % k, 0) for k in range(12)]
     program.constants.append((program.symbols["known"], [found, 0, 0, 0]))
-    m = X86_64(domain, program, {"stack": Region([domain.undefined] * 512, align=16)}, program.symbols[name], arguments)
+    m = X86_64(domain, program, {"stack": Region([domain.undefined] * 504, align=16)}, program.symbols[name], arguments)
     before, stack, top = dict(m.general), m.regions["stack"].content[m.top:], m.top
     m.top += len(stack)  # a function may write to the arguments that it is given
     while m.next_address not in [program.symbols[name + build] for build in ("_v1", "_v2", "_v3")]:

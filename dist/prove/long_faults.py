@@ -1,75 +1,97 @@
 """Faults that show at long lengths only: a statement of every length refuses each, and calls of some lengths up to 64 blocks are proved.
 As in faults.py: (what, behind which label, what is looked for there, what it becomes, the case that has to refuse it)."""
-from faults import BATCHES, BLOCKS, BLOCKS_TO, CBC, IN_BATCHES
+from faults import BATCHES, BLOCKS, BLOCKS_TO, CBC, ENTRY, IN_BATCHES, WIPE_STACK, WIPE_WORDS, call, exported, function, low
 
-ENCRYPT, DECRYPT = (r'"aes_hybrid::closures::call_to_%s::<#\w+>":' % name for name in ("encrypt", "decrypt"))
-KEYSTREAM = r"fotsgure_aes_add_keystream:"
+ENCRYPT, DECRYPT = (function("aes_hybrid::closures::call_to_" + name) for name in ("encrypt", "decrypt"))
+KEYSTREAM = exported("aes_add_keystream")
+CASE, CASE_TO = "any_blocks encrypt 15", "any_blocks encrypt 7 _to"
 
-# In process_in_batches: %r14 is how many blocks are done, %rbp how many full batches have, %r15 the address of the last block of the batch,
-# %r12 the round keys, %r13 a number of rounds.
-NEXT, LOOP, CASE, CASE_TO = r"(\taddq\t\$8, %r14\n)", r"(\tjb\t\.LBB4_2\n)", "any_blocks encrypt 15", "any_blocks encrypt 7 _to"
+# In process_in_batches: the end of the loop, with the registers of how many blocks are done and of the last block of the next batch; and the
+# call before it, of which the arguments are the round keys on planes and how many rounds there are.
+NEXT = r"(\taddq\t\$8, %(?P<done>r\w+)\n\tsubq\t\$-128, %(?P<at>r\w+)\n)"
+PROCESS = "(" + call("aes_soft::soft::ciphers::planes::EncryptPlaneCipher::process_planes") + r")(?=[\s\S]*?\taddq\t\$8, %(?P<done>r\w+)\n)"
+# In process_on_planes: how many blocks there are, and the round keys.
+MANY = r"(?=[\s\S]*?\tmovq\t%rcx, %(?P<count>r\w+)\n)(?=[\s\S]*?\tmovq\t%rdi, %(?P<keys>r\w+)\n)(?=[\s\S]*?\tsubq\t\$(?P<frame>\d+), %rsp)"
+IN_MANY = [MANY + r"(?P<before>[\s\S]*?)(?P<call>" + called + ")" for called in (WIPE_WORDS, WIPE_STACK)]
+ON_PLANES, MEMMOVE = call("aes_hybrid::batches::process_on_planes"), r"(\tcallq\t\*memmove.*\n)"
 
 
 def after(number, what):
-    """`what`, if so many blocks are done."""
-    return r"\1\tcmpq\t$%d, %%r14\n\tjb\t77f\n\t%s\n77:\n" % (number, what)
+    """The same and `what`, if so many blocks are done."""
+    return r"\1\tcmpq\t$%d, %%\g<done>\n\tjb\t77f\n\t%s\n77:\n" % (number, what)
+
+
+def before(number, what):
+    """The same before the same."""
+    return r"\tcmpq\t$%d, %%\g<done>\n\tjb\t77f\n\t%s\n77:\n\1" % (number, what)
+
+
+def in_32_bits(instruction):
+    """An instruction of 64 bits, on the lower halves of its registers."""
+    return lambda found: instruction % tuple(low(register) for register in found.groups())
 
 
 LONG_FAULTS = {
     "x86_64/aes": [
-        ("a loop that stops after 2^20 blocks", IN_BATCHES, NEXT, r"\1\tcmpq\t$1048576, %r14\n\tjae\t.LBB4_3\n", CASE),
-        ("a count of 32 bits that wraps around", IN_BATCHES, r"addq\t\$8, %r14\n", "addl\t$8, %r14d\n", CASE),
-        ("a limit of 32 bits", IN_BATCHES, r"movq\t%rcx, %rbp\n", "movl\t%ecx, %ebp\n", CASE),
-        ("an index that wraps around after 2^24 blocks", IN_BATCHES, NEXT, r"\1\tandq\t$0xffffff, %r14\n", CASE),
+        ("a loop that stops after 2^20 blocks", IN_BATCHES, r"(\tcmpq\t%r\w+, %(r\w+)\n)\tjb\t(\S+)\n",
+         r"\1\tjae\t77f\n\tcmpq\t$1048576, %\2\n\tjb\t\3\n77:\n", CASE),
+        ("a count of 32 bits that wraps around", IN_BATCHES, r"addq\t\$8, %(r\w+)\n", in_32_bits("addl\t$8, %%%s\n"), CASE),
+        ("a limit of 32 bits", IN_BATCHES, ENTRY, r"\1\tmovl\t%ecx, %ecx\n", CASE),
+        ("an index that wraps around after 2^24 blocks", IN_BATCHES, NEXT, r"\1\tandq\t$0xffffff, %\g<done>\n", CASE),
         ("a batch left out after every 1,024 blocks", IN_BATCHES, NEXT,
-         r"\1\ttestl\t$1023, %r14d\n\tjne\t77f\n\taddq\t$8, %r14\n\tsubq\t$-128, %r15\n77:\n", CASE),
+         r"\1\ttestq\t$1023, %\g<done>\n\tjne\t77f\n\taddq\t$8, %\g<done>\n\tsubq\t$-128, %\g<at>\n77:\n", CASE),
         ("a batch encrypted twice after 65,536 blocks", IN_BATCHES, NEXT,
-         r"\1\tcmpq\t$65536, %r14\n\tjne\t77f\n\tsubq\t$128, %r15\n77:\n", CASE),
+         r"\1\tcmpq\t$65536, %\g<done>\n\tjne\t77f\n\tsubq\t$128, %\g<at>\n77:\n", CASE),
         ("a loop that never ends after 2^20 blocks", IN_BATCHES, NEXT,
-         r"\1\tcmpq\t$1048576, %r14\n\tjne\t77f\n\tsubq\t$8, %r14\n\taddq\t$-128, %r15\n77:\n", CASE),
-        ("round keys that move after 512 blocks", IN_BATCHES, NEXT, after(512, "incq\t%r12"), CASE),
-        ("one round less after 4,096 blocks", IN_BATCHES, NEXT, after(4096, "decq\t%r13"), CASE),
-        ("a round key changed after 4,096 blocks", IN_BATCHES, NEXT, after(4096, "movb\t$1, 32(%r12)"), CASE),
-        ("a branch on data after 4,096 blocks", IN_BATCHES, NEXT, after(4096, r"movq\t(%r15), %rax\n\ttestq\t%rax, %rax\n\tje\t77f"), CASE),
-        ("a load past the end after 4,096 blocks", IN_BATCHES, NEXT, after(4096, "movb\t272(%r15), %al"), CASE),
-        ("a store to a block that is done, after 4,096 blocks", IN_BATCHES, NEXT, after(4096, "movb\t%al, -1024(%r15)"), CASE),
-        ("a store to the next batch, after 4,096 blocks", IN_BATCHES, NEXT, after(4096, "movb\t$0, 16(%r15)"), CASE),
-        ("the last block left out where there are 8k + 7 of them, k > 10", BLOCKS, r"(\tmovq\t%r13, %rcx\n)",
-         r"\1\tcmpq\t$88, %rcx\n\tjb\t77f\n\tmovl\t%ecx, %eax\n\tandl\t$7, %eax\n\tcmpl\t$7, %eax\n\tjne\t77f\n\tdecq\t%rcx\n77:\n", CASE),
-        ("a store past the end of more than 1,000 blocks", BLOCKS, r"(\tmovq\t%r13, %rcx\n)",
-         r"\1\tcmpq\t$1000, %rbx\n\tjb\t77f\n\tmovq\t%rbx, %rax\n\tshlq\t$4, %rax\n\tmovb\t$0, (%r14,%rax)\n77:\n", CASE),
-        ("the place of the last blocks in 32 bits", BLOCKS, r"shlq\t\$4, %r13", "shll\t$4, %r13d", "any_blocks encrypt 3"),
-        ("another status for 2^32 blocks and more", BLOCKS, r"(\txorl\t%r12d, %r12d\n)",
-         r"\1\tmovq\t%rbx, %rax\n\tshrq\t$32, %rax\n\tje\t77f\n\tmovl\t$2, %r12d\n77:\n", CASE),
-        ("the round keys on planes not wiped after 1,000 blocks", BATCHES, r"(\tcallq\t\"aes_cipher::zeroize::zeroize_words.*\n)",
-         r"\tcmpq\t$1000, %rbx\n\tjae\t77f\n\1\n77:\n", CASE),
-        ("a round key left after 1,000 blocks", BATCHES, r"(\tcallq\t\"aes_cipher::zeroize::stack::wipe_stack.*\n)",
-         r"\1\tcmpq\t$1000, %rbx\n\tjb\t77f\n\tmovups\t(%r12), %xmm0\n\tmovups\t%xmm0, -64(%rsp)\n77:\n", CASE),
-        ("a register not restored after 1,000 blocks", BATCHES, r"(\tcallq\t\"aes_cipher::zeroize::stack::wipe_stack.*\n)",
-         r"\1\tcmpq\t$1000, %rbx\n\tjb\t77f\n\tmovq\t%rax, 1928(%rsp)\n77:\n", CASE),
-        ("a vector register not emptied after 1,000 blocks", BLOCKS, r"(\tmovl\t%r12d, %eax\n)([\s\S]*?)(\tpxor\t%xmm5, %xmm5\n)",
-         r"\1\tmovq\t%r13, %r11\n\2\tcmpq\t$1000, %r11\n\tjae\t77f\n\3\n77:\n", "any_blocks encrypt 4"),
-        ("a copy of 2^20 blocks at most", BLOCKS_TO, r"(\tcallq\t\*memmove.*\n)",
+         r"\1\tcmpq\t$1048576, %\g<done>\n\tjne\t77f\n\tsubq\t$8, %\g<done>\n\taddq\t$-128, %\g<at>\n77:\n", CASE),
+        ("round keys that move after 512 blocks", IN_BATCHES, PROCESS, before(512, "incq\t%rdi"), CASE),
+        ("one round less after 4,096 blocks", IN_BATCHES, PROCESS, before(4096, "decq\t%rsi"), CASE),
+        ("a round key changed after 4,096 blocks", IN_BATCHES, PROCESS, before(4096, "movb\t$1, 32(%rdi)"), CASE),
+        ("a branch on data after 4,096 blocks", IN_BATCHES, NEXT,
+         after(4096, r"movq\t(%\g<at>), %rax\n\ttestq\t%rax, %rax\n\tje\t77f"), CASE),
+        ("a load past the end after 4,096 blocks", IN_BATCHES, NEXT, after(4096, r"movb\t144(%\g<at>), %al"), CASE),
+        ("a store to a block that is done, after 4,096 blocks", IN_BATCHES, NEXT, after(4096, r"movb\t%al, -1152(%\g<at>)"), CASE),
+        ("a store to the next batch, after 4,096 blocks", IN_BATCHES, NEXT, after(4096, r"movb\t$0, -112(%\g<at>)"), CASE),
+        ("the last block left out where there are 8k + 7 of them, k > 10", BLOCKS, "(%s)" % ON_PLANES,
+         r"\tcmpq\t$88, %rcx\n\tjb\t77f\n\tmovl\t%ecx, %eax\n\tandl\t$7, %eax\n\tcmpl\t$7, %eax\n\tjne\t77f\n\tdecq\t%rcx\n77:\n\1", CASE),
+        ("a store past the end of more than 1,000 blocks", BLOCKS, ENTRY,
+         r"\1\tcmpq\t$1000, %rdx\n\tjb\t77f\n\tmovq\t%rdx, %rax\n\tshlq\t$4, %rax\n\tmovb\t$0, (%rsi,%rax)\n77:\n", CASE),
+        ("the place of the last blocks in 32 bits", BLOCKS, r"shlq\t\$4, %(r\w+)", in_32_bits("shll\t$4, %%%s"), "any_blocks encrypt 3"),
+        ("another status for 2^32 blocks and more", BLOCKS, ENTRY,
+         r"\1\tmovq\t%rdx, %rax\n\tshrq\t$32, %rax\n\tje\t77f\n\tmovl\t$2, %eax\n\tretq\n77:\n", CASE),
+        ("the round keys on planes not wiped after 1,000 blocks", BATCHES, IN_MANY[0],
+         r"\g<before>\tcmpq\t$1000, %\g<count>\n\tjae\t77f\n\g<call>77:\n", CASE),
+        ("a round key left after 1,000 blocks", BATCHES, IN_MANY[1],
+         r"\g<before>\g<call>\tcmpq\t$1000, %\g<count>\n\tjb\t77f\n\tmovups\t(%\g<keys>), %xmm0\n\tmovups\t%xmm0, -64(%rsp)\n77:\n", CASE),
+        ("a register not restored after 1,000 blocks", BATCHES, IN_MANY[1],
+         r"\g<before>\g<call>\tcmpq\t$1000, %\g<count>\n\tjb\t77f\n\tmovq\t%rax, \g<frame>(%rsp)\n77:\n", CASE),
+        ("a vector register not emptied after 1,000 blocks", BLOCKS,
+         r"(\tmovq\t%%(r\w+), %%rcx\n%s[\s\S]*?)(\tmovl\t%%\w+, %%eax\n[\s\S]*?)(\tpxor\t%%xmm5, %%xmm5\n)" % ON_PLANES,
+         r"\1\tmovq\t%\2, %r11\n\3\tcmpq\t$1000, %r11\n\tjae\t77f\n\4\n77:\n", "any_blocks encrypt 4"),
+        ("a copy of 2^20 blocks at most", BLOCKS_TO, MEMMOVE,
          r"\tcmpq\t$16777216, %rdx\n\tjbe\t77f\n\tmovl\t$16777216, %edx\n77:\n\1", CASE_TO),
-        ("a copy of 32 bits of the length", BLOCKS_TO, r"(\tcallq\t\*memmove.*\n)", r"\tmovl\t%edx, %edx\n\1", CASE_TO),
-        ("a block number of 32 bits", ENCRYPT, r"(shrq\t\$4, %rdx\n)", r"\1\tmovl\t%edx, %edx\n", "any_keystream 0 33"),
-        ("a counter that stands still from block 2^20 on", ENCRYPT, r"(shrq\t\$4, %rdx\n)",
-         r"\1\tcmpq\t$1048576, %rdx\n\tjb\t77f\n\tmovl\t$1048576, %edx\n77:\n", "any_keystream 0 33"),
-        ("a position of 32 bits", KEYSTREAM, r"addq\t%rbx, 16\(%r14\)", "addl\t%ebx, 16(%r14)", "any_keystream 0 33"),
-        ("a count of 32 bits in CBC", CBC, r"decq\t%r14\n", "decl\t%r14d\n", "any_cbc_encrypt"),
-        ("a chain that begins again at the block 2^20 before the end", CBC, r"(\taddq\t\$16, %r15\n)",
-         r"\1\tcmpq\t$1048576, %r14\n\tjne\t77f\n\tmovups\t(%rbx), %xmm0\n77:\n", "any_cbc_encrypt"),
-        ("64 blocks left out after 2^16 in CBC", DECRYPT, r"(\taddq\t%r9, %r15\n)",
-         r"\1\tcmpq\t$65536, %r15\n\tjne\t77f\n\taddq\t%r9, %r15\n77:\n", "any_cbc_decrypt 9"),
+        ("a copy of 32 bits of the length", BLOCKS_TO, MEMMOVE, r"\tmovl\t%edx, %edx\n\1", CASE_TO),
+        ("a block number of 32 bits", ENCRYPT, r"shrq\t\$4, %(r\w+)\n",
+         lambda found: "shrq\t$4, %%%s\n\tmovl\t%%%s, %%%s\n" % (found[1], low(found[1]), low(found[1])), "any_keystream 0 33"),
+        ("a counter that stands still from block 2^20 on", ENCRYPT, r"(shrq\t\$4, %(r\w+)\n)",
+         r"\1\tcmpq\t$1048576, %\2\n\tjb\t77f\n\tmovq\t$1048576, %\2\n77:\n", "any_keystream 0 33"),
+        ("a position of 32 bits", KEYSTREAM, r"addq\t%(r\w+), 16\((%r\w+)\)", lambda found: "addl\t%%%s, 16(%s)" % (low(found[1]), found[2]),
+         "any_keystream 0 33"),
+        ("a count of 32 bits in CBC", CBC, r"(inc|dec)q\t%(r\w+)\n", lambda found: "%sl\t%%%s\n" % (found[1], low(found[2])),
+         "any_cbc_encrypt"),
+        ("a chain that begins again at block 2^20", CBC, r"(\t(?:inc|dec)q\t%(r\w+)\n)",
+         r"\tcmpq\t$1048576, %\2\n\tjne\t77f\n\tpxor\t%xmm0, %xmm0\n77:\n\1", "any_cbc_encrypt"),
+        ("64 blocks left out after 2^16 in CBC", DECRYPT, r"(\taddq\t(%r\w+), (%r\w+)\n)(?=(?:\t.*\n)?\tcmpq\t%r\w+, \3\n)",
+         r"\1\tcmpq\t$65536, \3\n\tjne\t77f\n\taddq\t\2, \3\n77:\n", "any_cbc_decrypt 9"),
     ],
     "x86_64/aes_v3": [
-        ("a count of 32 bits that wraps around", IN_BATCHES, r"addq\t\$16, %r15\n", "addl\t$16, %r15d\n", CASE),
-        ("a batch left out at 2^20 blocks", IN_BATCHES, r"(\taddq\t\$16, %r15\n)",
-         r"\1\tcmpq\t$1048576, %r15\n\tjne\t77f\n\taddq\t$16, %r15\n\taddq\t$256, %r14\n77:\n", CASE),
+        ("a count of 32 bits that wraps around", IN_BATCHES, r"addq\t\$16, %(r\w+)\n", in_32_bits("addl\t$16, %%%s\n"), CASE),
+        ("a batch left out at 2^20 blocks", IN_BATCHES, r"(\taddq\t\$16, %(r\w+)\n\taddq\t\$256, %(r\w+).*\n)",
+         r"\1\tcmpq\t$1048576, %\2\n\tjne\t77f\n\taddq\t$16, %\2\n\taddq\t$256, %\3\n77:\n", CASE),
     ],
     "aarch64/aes": [
-        ("a count of 32 bits that wraps around", IN_BATCHES, r"add\tx25, x25, #8\n", "add\tw25, w25, #8\n", CASE),
-        ("a batch left out at 2^20 blocks", IN_BATCHES, r"(\tadd\tx25, x25, #8\n)",
-         r"\1\tcmp\tx25, #256, lsl #12\n\tb.ne\t77f\n\tadd\tx25, x25, #8\n\tadd\tx26, x26, #128\n77:\n", CASE),
+        ("a count of 32 bits that wraps around", IN_BATCHES, r"add\tx(\d+), x\1, #8\n", r"add\tw\1, w\1, #8\n", CASE),
+        ("a batch left out at 2^20 blocks", IN_BATCHES, r"(\tadd\t(x\d+), \2, #8\n)(?=[\s\S]*?\tadd\t(x\d+), \3, #128\n)",
+         r"\1\tcmp\t\2, #256, lsl #12\n\tb.ne\t77f\n\tadd\t\2, \2, #8\n\tadd\t\3, \3, #128\n77:\n", CASE),
     ],
 }

@@ -282,7 +282,7 @@ class Machine:
     pushed, kept_halves, stack_step = (), (), 1
 
     def __init__(self, domain, program, regions, entry, arguments):
-        """regions: {name: Region}, among them "stack"; the call begins near its end."""
+        """regions: {name: Region}, among them "stack": what is below the return address. (`enter` adds what the caller has put there.)"""
         self.domain, self.program, self.regions = domain, program, regions
         self.general = {r: Pointer("the caller's " + r, 0) for r in self.registers}
         self.vectors = [[domain.undefined] * self.vector_size for _ in range(self.vector_count)]
@@ -296,6 +296,7 @@ class Machine:
         self.done, self.want = 0, None  # how many steps of a call were found, and what the next one looks for (calls.step_by_step)
         self.equalities = {}  # bytes that are one constant if another byte is 0, else another: (that byte, the constants)
         self.written = (), 0  # the list of bytes that was last written to, and where
+        self.wrote = {}  # which bytes were written to each of the caller's buffers, also those that were written over since
         self.stale = set()  # bytes of the stack that may have been overwritten by others since they were written
         self.room = self.counter = None  # see calls.Call
         # See lengths.py.
@@ -310,9 +311,8 @@ class Machine:
         """Registers and stack at the first instruction of a call."""
         self.general.update(zip(self.arguments, arguments))
         stack = self.regions["stack"].content
-        above = [b for v in (*self.pushed, *arguments[len(self.arguments):]) for b in self.to_bytes(v, 8)]
-        at = (len(stack) - len(above)) // 16 * 16 - 8 * len(self.pushed)
-        stack[at:at + len(above)] = above
+        at = len(stack)
+        stack += [b for v in (*self.pushed, *arguments[len(self.arguments):]) for b in self.to_bytes(v, 8)]
         self.general[self.stack_pointer] = Pointer("stack", at)
         for n in self.kept_halves:
             self.vectors[n][:8] = self.to_bytes(Pointer("the caller's d%d" % n, 0), 8)
@@ -387,6 +387,7 @@ class Machine:
             r = full & mask
             return r, {"c": int(full != r), "z": int(r == 0), "s": r >> top, "o": ((x ^ r) & ~(x ^ y)) >> top & 1}
         if is_number(x, y) and size == 8:
+            x, y = self.ranged(x), self.ranged(y)
             r = self.offset(self.offset(x, carry), y)
             return r, {"c": (WORD, x + y + carry, "below"), **self.zero_and_sign(r, 8)} if self.fits(x) and self.fits(y) else {}
         if Number in (type(x), type(y)):
@@ -410,7 +411,11 @@ class Machine:
                 raise
             zero = self.differences(rest, -fixed - carry, size)
             return self.verdict(0, zero, size), {"c": SECRET, "z": self.zero_flag(zero), "s": SECRET, "o": SECRET}
-        return self.unbits(bits), {"c": out if out < 2 else SECRET, "z": SECRET, "s": SECRET, "o": SECRET}
+        return self.unbits(bits), {"c": self.flag_of(out), "z": SECRET, "s": SECRET, "o": SECRET}
+
+    def flag_of(self, bit):
+        """A bit as a flag. One that depends on public bytes alone may be asked."""
+        return bit if bit < 2 else SECRET if self.domain.depends_on(bit) & ~PUBLIC else ("bit", bit)
 
     def is_placed(self, *addresses):
         """Whether these are addresses in an object, or so near to it that none is 0 or has wrapped around: no object lies in the first
@@ -429,6 +434,7 @@ class Machine:
         if y == 0 and carry and self.is_placed(x):
             return x, {"z": 0, "c": 1}
         if is_number(x, y) and not is_int(x, y) and size == 8:
+            x, y = self.ranged(x), self.ranged(y)
             flags = {"c": ("not", (x, y + 1 - carry, "below"))} if self.fits(x) and self.fits(y) else {}
             return self.offset(x, carry - 1 - y), {**flags, **({"z": (x, y, "equal")} if flags and carry else {})}
         if isinstance(x, Distance) and is_number(y) and carry:
@@ -457,7 +463,8 @@ class Machine:
         if tuple not in (type(x), type(y)):
             return self.minus(x, y, size)[1]
         never = y == 0 and 1 in self.bits(x, size)
-        return {"c": SECRET, "z": 0 if never else self.zero_flag(self.differences(x, y, size)), "s": SECRET, "o": SECRET}
+        public = self.is_public(self.to_bytes(x, size) + self.to_bytes(y, size))
+        return {"c": self.minus(x, y, size)[1].get("c") if public else SECRET, "z": 0 if never else self.zero_flag(self.differences(x, y, size)), "s": SECRET, "o": SECRET}
 
     def differences(self, x, y, size):
         """Bytes that are all 0 if two values are equal."""
@@ -473,6 +480,7 @@ class Machine:
         if is_int(r):
             return {"z": int(r == 0), "s": r >> 8 * size - 1}
         if isinstance(r, Linear):
+            r = self.ranged(r)
             return {"z": (r, 0, "equal")} if self.fits(r) else {}
         if isinstance(r, Verdict):
             return {} if r.right else {"z": self.zero_flag(r.differences)}
@@ -488,6 +496,24 @@ class Machine:
         """Whether a number is what the machine has, and not only up to multiples of 2^64."""
         return self.implied(x) and self.implied(WORD - x)
 
+    def ranged(self, x):
+        """A number as the machine has it, from 0 to 2^64 - 1: whether it has wrapped around is a question. (Not so in loops, of which the
+        passes have to be alike.)"""
+        while not self.any_length and not self.fits(x):
+            if self.compare_numbers(x, 0, "below"):
+                x += 1 << 64
+            elif self.compare_numbers(WORD, x, "below"):
+                x -= 1 << 64
+        return x
+
+    def quotient(self, x, by):
+        """Of a number and a power of two: another number, if it isn't one in the same unknowns."""
+        if self.any_length or all(k % by == 0 for _, k in x.terms):
+            return x.divided(by)[0]
+        q = unknown("(%s) / %d" % (x, by))
+        self.facts |= {x - q * by, q * by + by - 1 - x}
+        return q
+
     def masked(self, x, y):
         """`and` with a mask of bits that are known, or of all the others; else None."""
         x, y = (y, x) if is_int(x) else (x, y)
@@ -497,7 +523,14 @@ class Machine:
                 return x.constant & y
             if low and not low & low - 1 and step_of(x) % low == 0:
                 return x - x.constant % low
+            return None if self.any_length else self.bits_of_number(self.ranged(x), y)
         return None
+
+    def bits_of_number(self, x, mask):
+        """Those of a mask, by quotients where a run of ones begins and ends."""
+        shifted = lambda k: x if k == 0 else self.quotient(x, 1 << k) if k < 64 else 0
+        ends = [k for k in range(65) if (mask >> k & 1) != (k and mask >> k - 1 & 1)]
+        return sum(shifted(a) * (1 << a) - shifted(b) * (1 << b) for a, b in zip(ends[::2], ends[1::2]))
 
     def compare_numbers(self, x, y, what):
         """Whether x is below y, or equal. If that doesn't follow, it is a question, of which each answer is a fact."""
@@ -521,13 +554,8 @@ class Machine:
 
     def replace_unknown(self, name, by):
         """Puts a number in the place of an unknown."""
-        new, d = (lambda x: replaced(x, name, by)), self.domain
-
-        def byte(b):
-            value, k = d.opaque_of[b] if isinstance(d.opaque_of.get(b), tuple) else (None, 0)
-            by = new(value) if isinstance(value, (Linear, Pointer, Distance, Placed)) else value
-            return b if by == value else self.to_bytes(by, 8)[k] if is_int(by) else d.opaque((by, k))
-        self.each_byte(byte)
+        new = lambda x: replaced(x, name, by)
+        self.each_byte(lambda b: self.renumbered(b, new))
         self.facts = frozenset(f for f in map(new, self.facts) if not is_int(f) or f < 0)
         self.flags, self.first_block = {f: new(x) for f, x in self.flags.items()}, new(self.first_block)
         self.general = {r: new(v) & WORD if isinstance(v, Linear) and is_int(new(v)) else new(v) for r, v in self.general.items()}
@@ -537,11 +565,22 @@ class Machine:
         self.counter, self.done = new(self.counter), new(self.done)
         self.loops, self.replaced = {}, [*self.replaced, (name, by)]
 
+    def renumbered(self, b, new):
+        """A byte, with another number in the place of that of which it is one."""
+        d = self.domain
+        value, k = d.opaque_of[b] if isinstance(d.opaque_of.get(b), tuple) else (None, 0)
+        by = new(value) if isinstance(value, (Linear, Pointer, Distance, Placed)) else value
+        return b if by == value else self.to_bytes(by, 8)[k] if is_int(by) else d.opaque((by, k))
+
     def known(self, x):
         """A number of the statement, as it is known here."""
         for name, by in self.replaced:
             x = replaced(x, name, by)
         return x
+
+    def known_bytes(self, bytes_):
+        """The same of bytes of such numbers."""
+        return [b if b is None else self.renumbered(b, self.known) for b in bytes_] if self.replaced else bytes_
 
     def settle(self):
         """At the head of a loop. (Bytes of counters stay so only in whole words.)"""
@@ -670,8 +709,8 @@ class Machine:
             return v << count & (1 << 8 * size) - 1
         if isinstance(v, Linear) and size == 8 and how == "lsl":
             return self.offset(v * (1 << count), 0)
-        if isinstance(v, Linear) and size == 8 and how == "lsr" and self.fits(v):
-            return v.divided(1 << count)[0]
+        if isinstance(v, Linear) and size == 8 and how == "lsr" and self.fits(self.ranged(v)):
+            return self.quotient(self.ranged(v), 1 << count)
         b = self.bits(v, size)
         if how == "lsl":
             return self.unbits(([0] * count + b)[:8 * size])
@@ -811,6 +850,8 @@ class Machine:
     def store(self, address, b, align=1):
         content, o = self.place(address, len(b), True, align)
         content[o:o + len(b)] = b
+        if address.base != "stack":
+            self.wrote.setdefault(address.base, set()).update(b)
         if self.stale and content is self.regions["stack"].content:
             self.stale.difference_update(range(o, o + len(b)))
         self.written = content, o
@@ -833,12 +874,15 @@ class Machine:
             return self.compare_numbers(*flag)
         if self.assumed and flag[0] == "zero" and set(flag[1:]) == set(self.assumed):
             return 0
-        # A byte without cells is one that nobody wrote, or of which only the name is known.
-        public = flag[0] == "zero" and all(self.domain.symbolic(b) for b in flag[1:]) and not any(
-            self.domain.depends[c] & ~PUBLIC for b in flag[1:] for c in self.domain.cells(b))
-        if flag == SECRET or flag[0] == "zero" and not (public or self.may_reveal):
+        public = flag[0] == "bit" or flag[0] == "zero" and self.is_public(flag[1:])
+        if flag == SECRET or flag[0] in ("zero", "bit") and not (public or self.may_reveal):
             raise Unproved("a branch or a condition depends on the key or on data")
         return self.ask(flag)
+
+    def is_public(self, bytes_):
+        """Whether bytes depend on public cells alone. (One without cells is a byte that nobody wrote, or of which only the name is known.)"""
+        d = self.domain
+        return all(b < 256 or d.symbolic(b) and not any(d.depends[c] & ~PUBLIC for c in d.cells(b)) for b in bytes_)
 
     def ask(self, flag):
         """A flag that says how far two buffers are apart, or whether a wrapped key or a tag is right: a question. Both answers have to be
@@ -855,6 +899,7 @@ class Machine:
         m.general, m.vectors, m.flags, m.written = dict(self.general), list(self.vectors), dict(self.flags), ((), 0)
         m.entered, m.stale, m.path, m.want = dict(self.entered), set(self.stale), list(self.path), None
         m.answers, m.origins, m.decided, m.loops = dict(self.answers), dict(self.origins), list(self.decided), dict(self.loops)
+        m.wrote = {name: set(b) for name, b in self.wrote.items()}
         return m
 
     def answered(self, flag, answer):
@@ -960,6 +1005,7 @@ class Machine:
         for r, v in self.general.items():
             if type(v) is tuple or isinstance(v, Verdict) and domain is not self.domain:
                 self.general[r] = tuple(all_of(self.to_bytes(v, 8)))
+        self.wrote = {name: set(all_of(b)) for name, b in self.wrote.items()}
         if domain is not self.domain:  # what was asked of bytes of the other domain
             self.equalities = {}
             self.set_flags(**{f: value for f, value in self.flags.items() if value in (0, 1)})

@@ -57,6 +57,8 @@ class Native:
         """Answers what the machine can't: how far two buffers are apart, and whether a key or a tag is right, is known of one run."""
         if flag[0] == "zero":
             answer = all(self.values.full_byte(b) == 0 for b in flag[1:])
+        elif flag[0] == "bit":
+            answer = self.values.bit(flag[1])
         else:
             distance, y, what = flag
             answer = self.values.word(distance) < y if what == "below" else self.values.word(distance) == y

@@ -4,9 +4,11 @@ When a call has derived the keys of a message, they become arbitrary bytes, and 
 other, each value of POLYVAL, the block of which the tag is the cipher, and the tag."""
 import functools
 
+from aes import between, nothing
 from bits import DATA, KEY
 from calls import Buffer, Call, compare
 from gcm import DONE, NO_KEY, REFUSED, TOO_LONG, ZEROS, Hashing, KeyedGcm, padded, threes
+from linear import WORD, unknown
 from machine import Number
 from standards import dot, mulx_ghash, product
 
@@ -22,7 +24,7 @@ def little(n, size):
 
 class KeyedSiv(KeyedGcm):
     """wipe and what set_key refuses are stated in aes.py."""
-    library, prefix, struct_size = "siv", "gcm_siv", STRUCT
+    library, prefix, struct_size, key_sizes = "siv", "gcm_siv", STRUCT, (16, 32)
 
     def set_key(self, seed=None):
         """Prepares a key in *siv (KeyExpansion, FIPS 197, 5.2). *siv may be uninitialized: none of it is read. Nothing of what it held is
@@ -135,13 +137,14 @@ class KeyedSiv(KeyedGcm):
         arguments = [self.schedule(), Buffer("nonce", self.nonce), Buffer("additional", additional), additional_length,
                      Buffer("text", sealed, text), text_length, Buffer("tag", self.own_tag)]
         reveals = self.aes.xor(self.own_tag, right)
-        return Call("gcm_siv_open", arguments, DONE, steps=steps, reveals=reveals, refused=REFUSED, plain=text)
+        return Call("gcm_siv_open", arguments, DONE, steps=steps, reveals=reveals, refused=REFUSED, plain=text, undone=True)
 
     def refused(self):
         """TOO_LONG or NO_KEY: .. A call that doesn't return DONE has changed nothing"""
-        data = self.many(self.text, 48)
-        none, key, more = self.no_key(), self.schedule(), MOST + 1
-        for siv, *lengths, status in (none, 16, 16, NO_KEY), (key, more, 16, TOO_LONG), (none, 16, more, TOO_LONG):
-            arguments = [siv, Buffer("nonce", data[:12]), Buffer("additional", data), lengths[0], Buffer("text", data, data), lengths[1]]
-            yield Call("gcm_siv_seal", arguments + [Buffer("tag", data[:16], data[:16])], status)
-            yield Call("gcm_siv_open", arguments + [Buffer("tag", data[:16])], status)
+        a, t, none, key = unknown("additional"), unknown("text"), self.no_key(), self.schedule()
+        fits = between(a, 0, MOST) | between(t, 0, MOST)
+        long = [between(a, MOST + 1, WORD) | between(t, 0, WORD), between(a, 0, MOST) | between(t, MOST + 1, WORD)]
+        for siv, status, facts in (none, NO_KEY, fits), *((siv, TOO_LONG, facts) for siv in (key, none) for facts in long):
+            arguments = [siv, nothing("nonce", False), nothing("additional", False), a, nothing("text"), t]
+            yield Call("gcm_siv_seal", [*arguments, nothing("tag")], status, facts=facts)
+            yield Call("gcm_siv_open", [*arguments, nothing("tag", False)], status, facts=facts)

@@ -32,6 +32,7 @@ static struct fotsgure_gcm_message message;
 static struct fotsgure_gcm_counter counter;
 /* A key; a message, plain and sealed; what a call is given and works on; and, of GCM, the rest of the message. */
 static uint8_t key[32], plain[ROOM], sealed[ROOM], given[ROOM], data[ROOM], stream[ROOM], nonce[16], additional[128], tag[16], first[2][16];
+static uint8_t eight[128], eight_keys[128];
 static size_t size, count, bytes, extra, nonce_bytes, key_bytes;
 static uint64_t position, state;
 static int status;
@@ -97,10 +98,11 @@ static int inner(void) {
 
 /* What a call takes; how its message is sealed; what its data are at first and have to be at the end. */
 enum takes { NOTHING, OF_BLOCKS, OF_BYTES, OF_MESSAGES };
-enum mode { ECB, CBC, CTR, KW, KWP, GCM, SIV };
+enum mode { ECB, CBC, CTR, KW, KWP, GCM, SIV, CCM };
 enum text { PLAIN, SEALED, ZEROS };
 #define MESSAGE additional, extra, data, bytes
 #define CHANGED additional, extra + 1, data, bytes
+#define TO given, bytes, data, bytes
 #define ALONE(IT, name, call) IT(name, NOTHING, CTR, PLAIN, PLAIN, 0, call)
 #define CALLS(IT) \
     ALONE(IT, planted_branch, branch()) ALONE(IT, planted_look_up, look_up()) ALONE(IT, planted_inner, inner()) \
@@ -131,7 +133,22 @@ enum text { PLAIN, SEALED, ZEROS };
     IT(add_keystream_to, OF_BYTES, CTR, SEALED, PLAIN, 0, fotsgure_aes_add_keystream_to(&aes, &ctr, given, bytes, data, bytes)) \
     IT(add_keystream_with, OF_BYTES, CTR, PLAIN, SEALED, 0, fotsgure_aes_add_keystream_with(key, size, &ctr, data, bytes)) \
     IT(add_keystream_pieces, OF_BYTES, CTR, PLAIN, SEALED, 0, stream_in_pieces()) \
-    ALONE(IT, gcm_set_key, fotsgure_gcm_set_key(&gcm, key, size)) ALONE(IT, gcm_wipe, (fotsgure_gcm_wipe(&gcm), 0)) \
+    ALONE(IT, cipher_round, (fotsgure_aes_cipher_round(eight, eight_keys), 0)) \
+    ALONE(IT, equiv_inv_cipher_round, (fotsgure_aes_equiv_inv_cipher_round(eight, eight_keys), 0)) \
+    ALONE(IT, cipher_round_par, (fotsgure_aes_cipher_round_par(eight, eight_keys), 0)) \
+    ALONE(IT, equiv_inv_cipher_round_par, (fotsgure_aes_equiv_inv_cipher_round_par(eight, eight_keys), 0)) \
+    ALONE(IT, mix_columns, (fotsgure_aes_mix_columns(eight_keys), 0)) \
+    ALONE(IT, inv_mix_columns, (fotsgure_aes_inv_mix_columns(eight_keys), 0)) \
+    IT(cmac, OF_MESSAGES, CCM, PLAIN, PLAIN, 0, fotsgure_aes_cmac(&aes, data, bytes, tag)) \
+    IT(cmac_verify, OF_MESSAGES, CCM, PLAIN, PLAIN, 0, (fotsgure_aes_cmac(&aes, data, bytes, tag) \
+        || fotsgure_aes_cmac_verify(&aes, data, bytes, tag, 16))) \
+    IT(cmac_refused, OF_MESSAGES, CCM, PLAIN, PLAIN, FOTSGURE_AES_REFUSED, fotsgure_aes_cmac_verify(&aes, data, bytes, tag, 8)) \
+    IT(ccm_seal, OF_MESSAGES, CCM, PLAIN, SEALED, 0, fotsgure_aes_ccm_seal(&aes, nonce, 13, MESSAGE, tag, 16)) \
+    IT(ccm_open, OF_MESSAGES, CCM, SEALED, PLAIN, 0, fotsgure_aes_ccm_open(&aes, nonce, 13, MESSAGE, tag, 16)) \
+    IT(ccm_open_refused, OF_MESSAGES, CCM, SEALED, SEALED, FOTSGURE_AES_REFUSED, \
+        fotsgure_aes_ccm_open(&aes, nonce, 13, CHANGED, tag, 16)) \
+    ALONE(IT, gcm_set_key, fotsgure_gcm_set_key(&gcm, key, size)) ALONE(IT, gcm_set_key_of, fotsgure_gcm_set_key_of(&gcm, &aes)) \
+    ALONE(IT, gcm_wipe, (fotsgure_gcm_wipe(&gcm), 0)) \
     ALONE(IT, gcm_wipe_message, (fotsgure_gcm_wipe_message(&message), 0)) \
     IT(gcm_seal, OF_MESSAGES, GCM, PLAIN, SEALED, 0, fotsgure_gcm_seal(&gcm, nonce, nonce_bytes, MESSAGE, tag)) \
     IT(gcm_seal_next, OF_MESSAGES, GCM, PLAIN, PLAIN, 0, (fotsgure_gcm_seal_next(&gcm, &counter, nonce, MESSAGE, tag) \
@@ -139,6 +156,11 @@ enum text { PLAIN, SEALED, ZEROS };
     IT(gcm_open, OF_MESSAGES, GCM, SEALED, PLAIN, 0, fotsgure_gcm_open(&gcm, nonce, nonce_bytes, MESSAGE, tag, 16)) \
     IT(gcm_open_refused, OF_MESSAGES, GCM, SEALED, SEALED, FOTSGURE_GCM_REFUSED, \
         fotsgure_gcm_open(&gcm, nonce, nonce_bytes, CHANGED, tag, 16)) \
+    IT(gcm_seal_to, OF_MESSAGES, GCM, PLAIN, SEALED, 0, fotsgure_gcm_seal_to(&gcm, nonce, nonce_bytes, additional, extra, TO, tag)) \
+    IT(gcm_open_to, OF_MESSAGES, GCM, SEALED, PLAIN, 0, \
+        fotsgure_gcm_open_to(&gcm, nonce, nonce_bytes, additional, extra, TO, tag, 16)) \
+    IT(gcm_open_to_refused, OF_MESSAGES, GCM, SEALED, ZEROS, FOTSGURE_GCM_REFUSED, \
+        fotsgure_gcm_open_to(&gcm, nonce, nonce_bytes, additional, extra + 1, TO, tag, 16)) \
     IT(gcm_seal_pieces, OF_MESSAGES, GCM, PLAIN, SEALED, 0, seal_in_pieces()) \
     IT(gcm_open_pieces, OF_MESSAGES, GCM, SEALED, PLAIN, 0, open_in_pieces()) \
     IT(gcm_open_pieces_refused, OF_MESSAGES, GCM, SEALED, SEALED, FOTSGURE_GCM_REFUSED, (extra++, open_in_pieces())) \
@@ -148,7 +170,11 @@ enum text { PLAIN, SEALED, ZEROS };
     IT(siv_seal, OF_MESSAGES, SIV, PLAIN, SEALED, 0, fotsgure_gcm_siv_seal(&siv, nonce, MESSAGE, tag)) \
     IT(siv_open, OF_MESSAGES, SIV, SEALED, PLAIN, 0, fotsgure_gcm_siv_open(&siv, nonce, MESSAGE, tag)) \
     IT(siv_open_refused, OF_MESSAGES, SIV, SEALED, SEALED, FOTSGURE_GCM_REFUSED, \
-        fotsgure_gcm_siv_open(&siv, nonce, CHANGED, tag))
+        fotsgure_gcm_siv_open(&siv, nonce, CHANGED, tag)) \
+    IT(siv_seal_to, OF_MESSAGES, SIV, PLAIN, SEALED, 0, fotsgure_gcm_siv_seal_to(&siv, nonce, additional, extra, TO, tag)) \
+    IT(siv_open_to, OF_MESSAGES, SIV, SEALED, PLAIN, 0, fotsgure_gcm_siv_open_to(&siv, nonce, additional, extra, TO, tag)) \
+    IT(siv_open_to_refused, OF_MESSAGES, SIV, SEALED, ZEROS, FOTSGURE_GCM_REFUSED, \
+        fotsgure_gcm_siv_open_to(&siv, nonce, additional, extra + 1, TO, tag))
 #define DEFINED(name, takes, mode, from, to, wanted, call) static void call_##name(void) { said((int)(call)); }
 #define LISTED(name, takes, mode, from, to, wanted, call) {#name, call_##name, takes, mode, from, to, wanted},
 CALLS(DEFINED)
@@ -208,9 +234,12 @@ static int seal(const struct call *call) {
     case SIV:
         said((int)fotsgure_gcm_siv_set_key(&siv, key, size));
         said((int)fotsgure_gcm_siv_seal(&siv, nonce, additional, extra, sealed, bytes, tag));
-        for (size_t i = 0; i < bytes; i++)
-            stream[i] = plain[i] ^ sealed[i];
+        break;
+    case CCM:
+        said((int)fotsgure_aes_ccm_seal(&aes, nonce, 13, additional, extra, sealed, bytes, tag, 16));
     }
+    for (size_t i = 0; i < bytes; i++)
+        stream[i] = plain[i] ^ sealed[i];
     return 0;
 }
 /* What a run is given, by the numbers of its key and of its message. */
@@ -228,6 +257,9 @@ static void prepare(const struct call *call, int of_key, int of_message) {
         abort();
     memcpy(given, call->from == SEALED ? sealed : plain, bytes + MORE);
     memcpy(data, given, bytes + MORE);
+    memcpy(eight, plain, sizeof eight);
+    for (size_t i = 0; i < sizeof eight_keys; i += 16)
+        memcpy(eight_keys + i, key, 16);
     start();
 }
 

@@ -12,6 +12,7 @@ LABEL = re.compile(r"\.L(?=[A-Za-z])")
 QUOTED = re.compile(r'"(\.\w+\.)?([^"\n]*::[^"\n]*)"')
 EXPORT = re.compile(r"(?<![\w.:])(\.text\.)?(fotsgure_\w+)\b(?!::)")
 GLOBAL = re.compile(r"^\t\.globl\t(fotsgure_\w+).*$", re.M)
+COMMENT = re.compile(r"(?:^|\s)(?:#|//|@) .*")
 # The value that a function is made for belongs to its name, and the hash of its types doesn't.
 VALUE, HASH = re.compile(r"::<=(\w+)>"), re.compile(r"::<#\w+>")
 SAID = "A Rust crate defines in_rust; for x86-64, a static library of both builds defines chosen, and choose_*.c calls these names."
@@ -57,7 +58,10 @@ def plain(prefix, text):
         section, name = found[1] or "", found[2]
         return f"{section}{prefix}.{functions[name]}" if name in functions else found[0]
 
-    return QUOTED.sub(of_function, text)
+    text = QUOTED.sub(of_function, text)
+    if left := next((it for it in text.split("\n") if QUOTED.search(COMMENT.sub("", it))), ""):
+        raise SystemExit(f"dist: a name is still that of the compiler: {left}")
+    return text
 
 
 def own(prefix, text):

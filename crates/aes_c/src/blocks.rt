@@ -5,7 +5,7 @@ ghost use Rattle.aes_planes.specs.Each.{Each};
 ghost use Rattle.aes_planes.specs.Fips197 as fips;
 ghost use Rattle.aes_c.specs.Form.{key_in, HoldsKey, IsMade};
 
-use crate::form::{Aes, holds_key, lent, lent_back};
+use crate::form::{Aes, lent, lent_back};
 use crate::status::{DONE, NO_KEY, UNEQUAL_COUNTS};
 use aes_cipher::cipher::{Block, BlockCipherDecrypt, BlockCipherEncrypt};
 
@@ -14,15 +14,15 @@ use aes_cipher::cipher::{Block, BlockCipherDecrypt, BlockCipherEncrypt};
 #[unsafe(no_mangle)]
 pub extern "C" fn fotsgure_aes_encrypt_blocks(aes: &Aes, blocks: &mut [Block]) -> u32
     requires made { IsMade aes.now }
-    ensures done { result ≡ DONE ↔ HoldsKey aes.now }
+    ensures done { result ≡ DONE ↔ HoldsKey aes.now.key }
     ensures refused { result ≢ DONE → result ≡ NO_KEY }
-    ensures blocks { result ≡ DONE → Each (fips.cipher (key_in aes.now)) blocks.old blocks.new }
+    ensures blocks { result ≡ DONE → Each (fips.cipher (key_in aes.now.key)) blocks.old blocks.new }
     ensures untouched { result ≢ DONE → blocks.new ≡ blocks.old }
 {
-    if !holds_key(aes) {
+    if !aes.key.holds_key() {
         return NO_KEY;
     }
-    lent(aes).encrypt_blocks(blocks);
+    lent(&aes.key).encrypt_blocks(blocks);
     DONE
 }
 
@@ -31,12 +31,12 @@ pub extern "C" fn fotsgure_aes_encrypt_blocks(aes: &Aes, blocks: &mut [Block]) -
 #[unsafe(no_mangle)]
 pub extern "C" fn fotsgure_aes_decrypt_blocks(aes: &Aes, blocks: &mut [Block]) -> u32
     requires made { IsMade aes.now }
-    ensures done { result ≡ DONE ↔ HoldsKey aes.now }
+    ensures done { result ≡ DONE ↔ HoldsKey aes.now.key }
     ensures refused { result ≢ DONE → result ≡ NO_KEY }
-    ensures blocks { result ≡ DONE → Each (fips.inv_cipher (key_in aes.now)) blocks.old blocks.new }
+    ensures blocks { result ≡ DONE → Each (fips.inv_cipher (key_in aes.now.key)) blocks.old blocks.new }
     ensures untouched { result ≢ DONE → blocks.new ≡ blocks.old }
 {
-    if !holds_key(aes) {
+    if !aes.key.holds_key() {
         return NO_KEY;
     }
     lent_back(aes).decrypt_blocks(blocks);
@@ -53,20 +53,20 @@ pub extern "C" fn fotsgure_aes_encrypt_blocks_to(
 ) -> u32
     requires made { IsMade aes.now }
     ensures unequal { result ≡ UNEQUAL_COUNTS ↔ (length input.now ≢ length output.old) }
-    ensures done { result ≡ DONE ↔ HoldsKey aes.now
+    ensures done { result ≡ DONE ↔ HoldsKey aes.now.key
         × (length input.now ≡ length output.old) }
     ensures refused { result ≢ DONE → result ≢ UNEQUAL_COUNTS → result ≡ NO_KEY }
-    ensures blocks { result ≡ DONE → Each (fips.cipher (key_in aes.now)) input.now output.new }
+    ensures blocks { result ≡ DONE → Each (fips.cipher (key_in aes.now.key)) input.now output.new }
     ensures untouched { result ≢ DONE → output.new ≡ output.old }
 {
     if input.len() != output.len() {
         return UNEQUAL_COUNTS;
     }
-    if !holds_key(aes) {
+    if !aes.key.holds_key() {
         return NO_KEY;
     }
     output.copy_from_slice(input);
-    lent(aes).encrypt_blocks(output);
+    lent(&aes.key).encrypt_blocks(output);
     DONE
 }
 
@@ -81,16 +81,16 @@ pub extern "C" fn fotsgure_aes_decrypt_blocks_to(
 ) -> u32
     requires made { IsMade aes.now }
     ensures unequal { result ≡ UNEQUAL_COUNTS ↔ (length input.now ≢ length output.old) }
-    ensures done { result ≡ DONE ↔ HoldsKey aes.now
+    ensures done { result ≡ DONE ↔ HoldsKey aes.now.key
         × (length input.now ≡ length output.old) }
     ensures refused { result ≢ DONE → result ≢ UNEQUAL_COUNTS → result ≡ NO_KEY }
-    ensures blocks { result ≡ DONE → Each (fips.inv_cipher (key_in aes.now)) input.now output.new }
+    ensures blocks { result ≡ DONE → Each (fips.inv_cipher (key_in aes.now.key)) input.now output.new }
     ensures untouched { result ≢ DONE → output.new ≡ output.old }
 {
     if input.len() != output.len() {
         return UNEQUAL_COUNTS;
     }
-    if !holds_key(aes) {
+    if !aes.key.holds_key() {
         return NO_KEY;
     }
     output.copy_from_slice(input);

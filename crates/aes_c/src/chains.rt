@@ -4,7 +4,7 @@ ghost use Rattle.std.specs.Prelude.{◌≡◌, ◌≢◌, ◌↔◌};
 ghost use Rattle.cbc.specs.Cbc.{chained, last_of, unchained};
 ghost use Rattle.aes_c.specs.Form.{round_keys_in, HoldsKey, IsMade};
 
-use crate::form::{Aes, holds_key, lent, lent_back};
+use crate::form::{Aes, lent, lent_back};
 use crate::status::{DONE, NO_KEY};
 use aes_cipher::cipher::Block;
 use cbc::Cbc;
@@ -14,18 +14,18 @@ use cbc::Cbc;
 #[unsafe(no_mangle)]
 pub extern "C" fn fotsgure_aes_cbc_encrypt(aes: &Aes, cbc: &mut Cbc, blocks: &mut [Block]) -> u32
     requires made { IsMade aes.now }
-    ensures done { result ≡ DONE ↔ HoldsKey aes.now }
+    ensures done { result ≡ DONE ↔ HoldsKey aes.now.key }
     ensures refused { result ≢ DONE → result ≡ NO_KEY }
     ensures blocks { result ≡ DONE → blocks.new
-        ≡ chained (round_keys_in aes.now) cbc.old.previous blocks.old }
+        ≡ chained (round_keys_in aes.now.key) cbc.old.previous blocks.old }
     ensures previous { result ≡ DONE → cbc.new.previous ≡ last_of cbc.old.previous blocks.new }
     ensures untouched { result ≢ DONE → blocks.new ≡ blocks.old }
     ensures unmoved { result ≢ DONE → cbc.new.previous ≡ cbc.old.previous }
 {
-    if !holds_key(aes) {
+    if !aes.key.holds_key() {
         return NO_KEY;
     }
-    cbc.encrypt_blocks(&lent(aes), blocks);
+    cbc.encrypt_blocks(&lent(&aes.key), blocks);
     DONE
 }
 
@@ -34,15 +34,15 @@ pub extern "C" fn fotsgure_aes_cbc_encrypt(aes: &Aes, cbc: &mut Cbc, blocks: &mu
 #[unsafe(no_mangle)]
 pub extern "C" fn fotsgure_aes_cbc_decrypt(aes: &Aes, cbc: &mut Cbc, blocks: &mut [Block]) -> u32
     requires made { IsMade aes.now }
-    ensures done { result ≡ DONE ↔ HoldsKey aes.now }
+    ensures done { result ≡ DONE ↔ HoldsKey aes.now.key }
     ensures refused { result ≢ DONE → result ≡ NO_KEY }
     ensures blocks { result ≡ DONE → blocks.new
-        ≡ unchained (round_keys_in aes.now) cbc.old.previous blocks.old }
+        ≡ unchained (round_keys_in aes.now.key) cbc.old.previous blocks.old }
     ensures previous { result ≡ DONE → cbc.new.previous ≡ last_of cbc.old.previous blocks.old }
     ensures untouched { result ≢ DONE → blocks.new ≡ blocks.old }
     ensures unmoved { result ≢ DONE → cbc.new.previous ≡ cbc.old.previous }
 {
-    if !holds_key(aes) {
+    if !aes.key.holds_key() {
         return NO_KEY;
     }
     cbc.decrypt_blocks(&lent_back(aes), blocks);

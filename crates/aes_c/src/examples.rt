@@ -4,7 +4,8 @@
 ghost use Rattle.std.specs.Prelude.{◌≡◌};
 
 use crate::status::{
-    DONE, INVALID_COUNT, KEY_LENGTH, KEYSTREAM_END, NO_KEY, REFUSED, UNEQUAL_COUNTS, VERSION,
+    DONE, INVALID_COUNT, KEY_LENGTH, KEYSTREAM_END, NO_KEY, NONCE_LENGTH, REFUSED, TAG_LENGTH,
+    TOO_LONG, UNEQUAL_COUNTS, VERSION,
 };
 use crate::stream::Ctr;
 use cbc::Cbc;
@@ -18,6 +19,9 @@ pub fn numbers_of_the_header()
     ensures keystream_end { KEYSTREAM_END ≡ 4 }
     ensures invalid_count { INVALID_COUNT ≡ 5 }
     ensures refused { REFUSED ≡ 6 }
+    ensures tag_length { TAG_LENGTH ≡ 7 }
+    ensures nonce_length { NONCE_LENGTH ≡ 8 }
+    ensures too_long { TOO_LONG ≡ 9 }
     ensures version { VERSION ≡ 300 }
 {}
 

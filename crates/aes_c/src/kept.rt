@@ -2,9 +2,9 @@
 
 ghost use Rattle.std.specs.Prelude.{◌≡◌, ◌≢◌, ◌↔◌, length};
 ghost use Rattle.aes_cipher.specs.KeySizes.{IsKeySize};
-ghost use Rattle.aes_c.specs.Form.{key_in, key_length, no_key, HoldsKey, IsMade, IsZeroAfter};
+ghost use Rattle.aes_c.specs.Form.{key_in, no_key, HoldsKey, IsMade, IsZeroAfter};
 
-use crate::form::{Aes, is_key_size, length_of_key};
+use crate::form::{Aes, is_key_size};
 use crate::status::{DONE, KEY_LENGTH};
 use aes_cipher::zeroize::Zeroize;
 
@@ -16,8 +16,8 @@ pub extern "C" fn fotsgure_aes_set_key(aes: &mut Aes, key: &[u8]) -> u32
     ensures done { result ≡ DONE ↔ IsKeySize (length key.now) }
     ensures refused { result ≢ DONE → result ≡ KEY_LENGTH }
     ensures made { IsMade aes.new }
-    ensures key { result ≡ DONE → key_in aes.new ≡ key.now }
-    ensures length { result ≡ DONE → key_length aes.new ≡ length key.now }
+    ensures key { result ≡ DONE → key_in aes.new.key ≡ key.now }
+    ensures length { result ≡ DONE → aes.new.key.length ≡ length key.now }
     ensures after { result ≡ DONE → IsZeroAfter aes.new }
     ensures none { result ≢ DONE → aes.new ≡ no_key }
 {
@@ -34,10 +34,10 @@ pub extern "C" fn fotsgure_aes_set_key(aes: &mut Aes, key: &[u8]) -> u32
 /// Returns how many bytes the key has, or 0 if the struct holds no key.
 #[unsafe(no_mangle)]
 pub extern "C" fn fotsgure_aes_key_length(aes: &Aes) -> usize
-    ensures key { HoldsKey aes.now → result ≡ key_length aes.now }
-    ensures none { ¬ HoldsKey aes.now → result ≡ 0 }
+    ensures key { HoldsKey aes.now.key → result ≡ aes.now.key.length }
+    ensures none { ¬ HoldsKey aes.now.key → result ≡ 0 }
 {
-    length_of_key(aes)
+    aes.key.key_length()
 }
 
 /// Overwrites the struct with zeros: it then holds no key.

@@ -11,9 +11,12 @@ mod chains;
 pub mod examples;
 mod form;
 mod kept;
+mod messages;
 mod once;
+mod single_rounds;
 mod status;
 mod stream;
+mod tags;
 #[cfg(test)]
 mod tests;
 mod width;
@@ -28,14 +31,22 @@ pub use chains::{fotsgure_aes_cbc_decrypt, fotsgure_aes_cbc_encrypt};
 pub use form::Aes;
 pub use kept::{fotsgure_aes_key_length, fotsgure_aes_set_key, fotsgure_aes_wipe};
 pub use key_wrap::Semiblock;
+pub use messages::{fotsgure_aes_ccm_open, fotsgure_aes_ccm_seal};
 pub use once::{
     fotsgure_aes_add_keystream_with, fotsgure_aes_decrypt_blocks_with,
     fotsgure_aes_encrypt_blocks_with,
 };
+pub use single_rounds::{
+    fotsgure_aes_cipher_round, fotsgure_aes_cipher_round_par, fotsgure_aes_equiv_inv_cipher_round,
+    fotsgure_aes_equiv_inv_cipher_round_par, fotsgure_aes_inv_mix_columns,
+    fotsgure_aes_mix_columns,
+};
 pub use status::{
-    DONE, INVALID_COUNT, KEY_LENGTH, KEYSTREAM_END, NO_KEY, REFUSED, UNEQUAL_COUNTS, VERSION,
+    DONE, INVALID_COUNT, KEY_LENGTH, KEYSTREAM_END, NO_KEY, NONCE_LENGTH, REFUSED, TAG_LENGTH,
+    TOO_LONG, UNEQUAL_COUNTS, VERSION,
 };
 pub use stream::{Ctr, fotsgure_aes_add_keystream, fotsgure_aes_add_keystream_to};
+pub use tags::{fotsgure_aes_cmac, fotsgure_aes_cmac_verify};
 pub use width::BuildWidth;
 pub use wrapping::{
     fotsgure_aes_unwrap, fotsgure_aes_unwrap_padded, fotsgure_aes_wrap, fotsgure_aes_wrap_padded,

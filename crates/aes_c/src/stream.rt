@@ -4,7 +4,7 @@ ghost use Rattle.std.specs.Prelude.{◌≡◌, ◌≢◌, ◌↔◌, ◌+◌, �
 ghost use Rattle.aes_ctr.specs.CounterMode.{keystream_byte, plus_stream};
 ghost use Rattle.aes_c.specs.Form.{round_keys_in, HoldsKey, IsMade};
 
-use crate::form::{Aes, holds_key, lent};
+use crate::form::{Aes, lent};
 use crate::status::{DONE, KEYSTREAM_END, NO_KEY, UNEQUAL_COUNTS};
 use aes_cipher::not_clone::NotClone;
 use aes_ctr::add_keystream;
@@ -24,13 +24,13 @@ impl NotClone for Ctr {}
 // Returns the status that refuses `count` bytes of keystream from a position on, or `DONE`.
 fn refusal(aes: &Aes, position: u64, count: usize) -> u32
     ensures ended { result ≡ KEYSTREAM_END ↔ (2 ^ 64 - 1 < position + count) }
-    ensures done { result ≡ DONE ↔ HoldsKey aes.now × (position + count ≤ 2 ^ 64 - 1) }
+    ensures done { result ≡ DONE ↔ HoldsKey aes.now.key × (position + count ≤ 2 ^ 64 - 1) }
     ensures refused { result ≢ DONE → result ≢ KEYSTREAM_END → result ≡ NO_KEY }
 {
     if count as u64 > u64::MAX - position {
         return KEYSTREAM_END;
     }
-    if !holds_key(aes) {
+    if !aes.key.holds_key() {
         return NO_KEY;
     }
     DONE
@@ -43,11 +43,11 @@ fn refusal(aes: &Aes, position: u64, count: usize) -> u32
 pub extern "C" fn fotsgure_aes_add_keystream(aes: &Aes, ctr: &mut Ctr, bytes: &mut [u8]) -> u32
     requires made { IsMade aes.now }
     ensures ended { result ≡ KEYSTREAM_END ↔ (2 ^ 64 - 1 < ctr.old.position + length bytes.old) }
-    ensures done { result ≡ DONE ↔ HoldsKey aes.now
+    ensures done { result ≡ DONE ↔ HoldsKey aes.now.key
         × (ctr.old.position + length bytes.old ≤ 2 ^ 64 - 1) }
     ensures refused { result ≢ DONE → result ≢ KEYSTREAM_END → result ≡ NO_KEY }
     ensures bytes { result ≡ DONE → bytes.new
-        ≡ plus_stream (keystream_byte (round_keys_in aes.now) ctr.old.iv)
+        ≡ plus_stream (keystream_byte (round_keys_in aes.now.key) ctr.old.iv)
         ctr.old.position bytes.old }
     ensures moved { result ≡ DONE → ctr.new.position ≡ ctr.old.position + length bytes.old }
     ensures iv { ctr.new.iv ≡ ctr.old.iv }
@@ -56,7 +56,7 @@ pub extern "C" fn fotsgure_aes_add_keystream(aes: &Aes, ctr: &mut Ctr, bytes: &m
 {
     let status = refusal(aes, ctr.position, bytes.len());
     if status == DONE {
-        add_keystream(&lent(aes), &ctr.iv, ctr.position, bytes);
+        add_keystream(&lent(&aes.key), &ctr.iv, ctr.position, bytes);
         ctr.position += bytes.len() as u64;
     }
     status
@@ -77,13 +77,13 @@ pub extern "C" fn fotsgure_aes_add_keystream_to(
     ensures ended { result ≡ KEYSTREAM_END
         ↔ (length input.now ≡ length output.old)
         × (2 ^ 64 - 1 < ctr.old.position + length input.now) }
-    ensures done { result ≡ DONE ↔ HoldsKey aes.now
+    ensures done { result ≡ DONE ↔ HoldsKey aes.now.key
         × ((length input.now ≡ length output.old)
         × (ctr.old.position + length input.now ≤ 2 ^ 64 - 1)) }
     ensures refused { result ≢ DONE → result ≢ UNEQUAL_COUNTS → result ≢ KEYSTREAM_END
         → result ≡ NO_KEY }
     ensures bytes { result ≡ DONE → output.new
-        ≡ plus_stream (keystream_byte (round_keys_in aes.now) ctr.old.iv)
+        ≡ plus_stream (keystream_byte (round_keys_in aes.now.key) ctr.old.iv)
         ctr.old.position input.now }
     ensures moved { result ≡ DONE → ctr.new.position ≡ ctr.old.position + length input.now }
     ensures iv { ctr.new.iv ≡ ctr.old.iv }

@@ -1,14 +1,17 @@
 //! Each export once, on rows of the standards.
 
-ghost use Rattle.std.specs.Prelude.{◌≡◌};
 ghost use Rattle.aes_c.specs.Form.{HoldsKey};
 
 use super::{
-    Aes, Cbc, Ctr, DONE, KEY_LENGTH, KEYSTREAM_END, NO_KEY, REFUSED, UNEQUAL_COUNTS, VERSION,
-    fotsgure_aes_add_keystream, fotsgure_aes_add_keystream_to, fotsgure_aes_add_keystream_with,
-    fotsgure_aes_cbc_decrypt, fotsgure_aes_cbc_encrypt, fotsgure_aes_decrypt_blocks,
-    fotsgure_aes_decrypt_blocks_to, fotsgure_aes_decrypt_blocks_with, fotsgure_aes_encrypt_blocks,
-    fotsgure_aes_encrypt_blocks_to, fotsgure_aes_encrypt_blocks_with, fotsgure_aes_key_length,
+    Aes, Cbc, Ctr, DONE, KEY_LENGTH, KEYSTREAM_END, NO_KEY, NONCE_LENGTH, REFUSED, TAG_LENGTH,
+    TOO_LONG, UNEQUAL_COUNTS, VERSION, fotsgure_aes_add_keystream, fotsgure_aes_add_keystream_to,
+    fotsgure_aes_add_keystream_with, fotsgure_aes_cbc_decrypt, fotsgure_aes_cbc_encrypt,
+    fotsgure_aes_ccm_open, fotsgure_aes_ccm_seal, fotsgure_aes_cipher_round,
+    fotsgure_aes_cipher_round_par, fotsgure_aes_cmac, fotsgure_aes_cmac_verify,
+    fotsgure_aes_decrypt_blocks, fotsgure_aes_decrypt_blocks_to, fotsgure_aes_decrypt_blocks_with,
+    fotsgure_aes_encrypt_blocks, fotsgure_aes_encrypt_blocks_to, fotsgure_aes_encrypt_blocks_with,
+    fotsgure_aes_equiv_inv_cipher_round, fotsgure_aes_equiv_inv_cipher_round_par,
+    fotsgure_aes_inv_mix_columns, fotsgure_aes_key_length, fotsgure_aes_mix_columns,
     fotsgure_aes_set_key, fotsgure_aes_unwrap, fotsgure_aes_unwrap_padded, fotsgure_aes_version,
     fotsgure_aes_wipe, fotsgure_aes_wrap, fotsgure_aes_wrap_padded,
 };
@@ -31,7 +34,7 @@ const OF_24: u128 = 0xdda97ca4864cdfe06eaf70a0ec0d7191;
 const OF_32: u128 = 0x8ea2b7ca516745bfeafc49904b496089;
 
 fn no_key() -> Aes
-    ensures { ¬ HoldsKey result }
+    ensures { ¬ HoldsKey result.key }
 {
     Zeroize::zero()
 }
@@ -175,6 +178,87 @@ fn wraps_keys_with_padding(rt: HostRuntime) {
     assert!(rt; fotsgure_aes_unwrap_padded(&aes, &there, &mut back, &mut length) == DONE);
     assert!(rt; back == [key]);
     assert!(rt; length == 7);
+}
+
+#[test]
+fn tags_messages(rt: HostRuntime) {
+    // RFC 4493, 4, example 2.
+    let message = 0x6bc1bee22e409f96e93d7e117393172au128.to_be_bytes();
+    let mut aes = no_key();
+    let mut tag = [0; 16];
+    assert!(rt; fotsgure_aes_cmac(&aes, &message, &mut tag) == NO_KEY);
+    let key = 0x2b7e151628aed2a6abf7158809cf4f3cu128.to_be_bytes();
+    assert!(rt; fotsgure_aes_set_key(&mut aes, &key) == DONE);
+    assert!(rt; fotsgure_aes_cmac(&aes, &message, &mut tag) == DONE);
+    assert!(rt; tag == 0x070a16b46b4d4144f79bdd9dd04a287cu128.to_be_bytes());
+    assert!(rt; fotsgure_aes_cmac_verify(&aes, &message, &tag) == DONE);
+    assert!(rt; fotsgure_aes_cmac_verify(&aes, &message, &tag[..4]) == DONE);
+    assert!(rt; fotsgure_aes_cmac_verify(&aes, &message, &tag[..3]) == TAG_LENGTH);
+    assert!(rt; fotsgure_aes_cmac_verify(&aes, &message[1..], &tag) == REFUSED);
+}
+
+#[test]
+fn seals_messages(rt: HostRuntime) {
+    // SP 800-38C, C.1.
+    let nonce = [0x10, 0x11, 0x12, 0x13, 0x14, 0x15, 0x16];
+    let plain = 0x20212223u32.to_be_bytes();
+    let sealed = 0x7162015bu32.to_be_bytes();
+    let mut aes = no_key();
+    let mut text = plain;
+    let mut tag = [0; 4];
+    let key = 0x404142434445464748494a4b4c4d4e4fu128.to_be_bytes();
+    assert!(rt; fotsgure_aes_ccm_open(&aes, &nonce, &[], &mut text, &tag) == NO_KEY);
+    assert!(rt; fotsgure_aes_set_key(&mut aes, &key) == DONE);
+    assert!(rt; fotsgure_aes_ccm_seal(&aes, &nonce, &COUNTED[..8], &mut text, &mut tag) == DONE);
+    assert!(rt; text == sealed && tag == 0x4dac255du32.to_be_bytes());
+    assert!(rt; fotsgure_aes_ccm_open(&aes, &nonce, &COUNTED[..7], &mut text, &tag) == REFUSED);
+    assert!(rt; text == sealed);
+    assert!(rt; fotsgure_aes_ccm_open(&aes, &nonce, &COUNTED[..8], &mut text, &tag) == DONE);
+    assert!(rt; text == plain);
+    assert!(rt; fotsgure_aes_ccm_open(&aes, &nonce, &[], &mut text, &tag[1..]) == TAG_LENGTH);
+    assert!(rt; fotsgure_aes_ccm_open(&aes, &nonce[1..], &[], &mut text, &tag) == NONCE_LENGTH);
+    let mut long = [0; 65536];
+    assert!(rt; fotsgure_aes_ccm_seal(&aes, &COUNTED[..13], &[], &mut long, &mut tag) == TOO_LONG);
+}
+
+// FIPS 197, C.1: round 1 of the cipher and of the equivalent inverse cipher.
+const ROUND_START: u128 = 0x00102030405060708090a0b0c0d0e0f0;
+
+const ROUND_KEY: u128 = 0xd6aa74fdd2af72fadaa678f1d6ab76fe;
+
+const ROUND_END: u128 = 0x89d810e8855ace682d1843d8cb128fe4;
+
+const INVERSE_START: u128 = 0x7ad5fda789ef4e272bca100b3d9ff59f;
+
+const INVERSE_KEY: u128 = 0x13aa29be9c8faff6f770f58000f7bf03;
+
+const INVERSE_END: u128 = 0x54d990a16ba09ab596bbf40ea111702f;
+
+#[test]
+fn single_rounds(rt: HostRuntime) {
+    let mut block = ROUND_START.to_be_bytes();
+    fotsgure_aes_cipher_round(&mut block, &ROUND_KEY.to_be_bytes());
+    assert!(rt; block == ROUND_END.to_be_bytes());
+    let mut blocks = [ROUND_START.to_be_bytes(); 8];
+    fotsgure_aes_cipher_round_par(&mut blocks, &[ROUND_KEY.to_be_bytes(); 8]);
+    assert!(rt; blocks == [ROUND_END.to_be_bytes(); 8]);
+    block = INVERSE_START.to_be_bytes();
+    fotsgure_aes_equiv_inv_cipher_round(&mut block, &INVERSE_KEY.to_be_bytes());
+    assert!(rt; block == INVERSE_END.to_be_bytes());
+    blocks = [INVERSE_START.to_be_bytes(); 8];
+    fotsgure_aes_equiv_inv_cipher_round_par(&mut blocks, &[INVERSE_KEY.to_be_bytes(); 8]);
+    assert!(rt; blocks == [INVERSE_END.to_be_bytes(); 8]);
+}
+
+#[test]
+fn mixes_columns(rt: HostRuntime) {
+    // FIPS 197, C.1, round 1: the block before and after.
+    let before = 0x6353e08c0960e104cd70b751bacad0e7u128.to_be_bytes();
+    let mut block = before;
+    fotsgure_aes_mix_columns(&mut block);
+    assert!(rt; block == 0x5f72641557f5bc92f7be3b291db9f91au128.to_be_bytes());
+    fotsgure_aes_inv_mix_columns(&mut block);
+    assert!(rt; block == before);
 }
 
 #[test]

@@ -7,7 +7,7 @@ ghost use Rattle.key_wrap.specs.Padded.{heading, unwrapped_string, wrapped_padde
 ghost use Rattle.key_wrap.specs.Padded.{FitUnpadded, IsPadded};
 ghost use Rattle.aes_c.specs.Form.{round_keys_in, HoldsKey, IsMade};
 
-use crate::form::{Aes, holds_key, lent, lent_back};
+use crate::form::{Aes, lent, lent_back};
 use crate::status::{DONE, INVALID_COUNT, NO_KEY, REFUSED};
 use aes_cipher::zeroize::wipe_stack;
 use key_wrap::{InvalidCount, NotUnwrapped, Semiblock, unwrap, unwrap_padded, wrap, wrap_padded};
@@ -22,17 +22,17 @@ const WRAPPING_STACK: usize = 512;
 #[unsafe(no_mangle)]
 pub extern "C" fn fotsgure_aes_wrap(aes: &Aes, key: &[Semiblock], output: &mut [Semiblock]) -> u32
     requires made { IsMade aes.now }
-    ensures no_key { result ≡ NO_KEY ↔ ¬ HoldsKey aes.now }
-    ensures done { result ≡ DONE ↔ HoldsKey aes.now
+    ensures no_key { result ≡ NO_KEY ↔ ¬ HoldsKey aes.now.key }
+    ensures done { result ≡ DONE ↔ HoldsKey aes.now.key
         × Fit (length key.now) (length output.old) }
     ensures invalid { result ≢ DONE → result ≢ NO_KEY → result ≡ INVALID_COUNT }
-    ensures wrapped { result ≡ DONE → output.new ≡ wrapped (round_keys_in aes.now) key.now }
+    ensures wrapped { result ≡ DONE → output.new ≡ wrapped (round_keys_in aes.now.key) key.now }
     ensures untouched { result ≢ DONE → output.new ≡ output.old }
 {
-    if !holds_key(aes) {
+    if !aes.key.holds_key() {
         return NO_KEY;
     }
-    let result = wrap(&lent(aes), key, output);
+    let result = wrap(&lent(&aes.key), key, output);
     wipe_stack::<WRAPPING_STACK>();
     match result {
         Ok(()) => DONE,
@@ -51,19 +51,19 @@ pub extern "C" fn fotsgure_aes_unwrap(
     output: &mut [Semiblock],
 ) -> u32
     requires made { IsMade aes.now }
-    ensures no_key { result ≡ NO_KEY ↔ ¬ HoldsKey aes.now }
+    ensures no_key { result ≡ NO_KEY ↔ ¬ HoldsKey aes.now.key }
     ensures invalid { result ≡ INVALID_COUNT
-        ↔ HoldsKey aes.now × (¬ Fit (length output.old) (length sealed.now)) }
+        ↔ HoldsKey aes.now.key × (¬ Fit (length output.old) (length sealed.now)) }
     ensures done { result ≡ DONE
-        ↔ HoldsKey aes.now × (Fit (length output.old) (length sealed.now)
-        × (slice_index_or (unwrapped (round_keys_in aes.now) sealed.now) 0 [] ≡ integrity_check)) }
+        ↔ HoldsKey aes.now.key × (Fit (length output.old) (length sealed.now)
+        × (slice_index_or (unwrapped (round_keys_in aes.now.key) sealed.now) 0 [] ≡ integrity_check)) }
     ensures refused { result ≢ DONE → result ≢ NO_KEY → result ≢ INVALID_COUNT → result ≡ REFUSED }
     ensures key { result ≡ DONE → integrity_check ∷ output.new
-        ≡ unwrapped (round_keys_in aes.now) sealed.now }
+        ≡ unwrapped (round_keys_in aes.now.key) sealed.now }
     ensures zeros { result ≡ REFUSED → output.new ≡ replicate (length output.old) (replicate 8 0) }
     ensures untouched { result ≢ DONE → result ≢ REFUSED → output.new ≡ output.old }
 {
-    if !holds_key(aes) {
+    if !aes.key.holds_key() {
         return NO_KEY;
     }
     let result = unwrap(&lent_back(aes), sealed, output);
@@ -81,17 +81,17 @@ pub extern "C" fn fotsgure_aes_unwrap(
 #[unsafe(no_mangle)]
 pub extern "C" fn fotsgure_aes_wrap_padded(aes: &Aes, key: &[u8], output: &mut [Semiblock]) -> u32
     requires made { IsMade aes.now }
-    ensures no_key { result ≡ NO_KEY ↔ ¬ HoldsKey aes.now }
-    ensures done { result ≡ DONE ↔ HoldsKey aes.now
+    ensures no_key { result ≡ NO_KEY ↔ ¬ HoldsKey aes.now.key }
+    ensures done { result ≡ DONE ↔ HoldsKey aes.now.key
         × FitPadded (length key.now) (length output.old) }
     ensures invalid { result ≢ DONE → result ≢ NO_KEY → result ≡ INVALID_COUNT }
-    ensures wrapped { result ≡ DONE → output.new ≡ wrapped_padded (round_keys_in aes.now) key.now }
+    ensures wrapped { result ≡ DONE → output.new ≡ wrapped_padded (round_keys_in aes.now.key) key.now }
     ensures untouched { result ≢ DONE → output.new ≡ output.old }
 {
-    if !holds_key(aes) {
+    if !aes.key.holds_key() {
         return NO_KEY;
     }
-    let result = wrap_padded(&lent(aes), key, output);
+    let result = wrap_padded(&lent(&aes.key), key, output);
     wipe_stack::<WRAPPING_STACK>();
     match result {
         Ok(()) => DONE,
@@ -113,22 +113,22 @@ pub extern "C" fn fotsgure_aes_unwrap_padded(
     key_bytes: &mut usize,
 ) -> u32
     requires made { IsMade aes.now }
-    ensures no_key { result ≡ NO_KEY ↔ ¬ HoldsKey aes.now }
+    ensures no_key { result ≡ NO_KEY ↔ ¬ HoldsKey aes.now.key }
     ensures invalid { result ≡ INVALID_COUNT
-        ↔ HoldsKey aes.now × (¬ FitUnpadded (length output.old) (length sealed.now)) }
+        ↔ HoldsKey aes.now.key × (¬ FitUnpadded (length output.old) (length sealed.now)) }
     ensures done { result ≡ DONE
-        ↔ HoldsKey aes.now × (FitUnpadded (length output.old) (length sealed.now)
-        × IsPadded (unwrapped_string (round_keys_in aes.now) sealed.now)) }
+        ↔ HoldsKey aes.now.key × (FitUnpadded (length output.old) (length sealed.now)
+        × IsPadded (unwrapped_string (round_keys_in aes.now.key) sealed.now)) }
     ensures refused { result ≢ DONE → result ≢ NO_KEY → result ≢ INVALID_COUNT → result ≡ REFUSED }
     ensures key { result ≡ DONE → heading key_bytes.new ∷ output.new
-        ≡ unwrapped_string (round_keys_in aes.now) sealed.now }
+        ≡ unwrapped_string (round_keys_in aes.now.key) sealed.now }
     ensures small { key_bytes.new < 2 ^ 32 }
     ensures none { result ≢ DONE → key_bytes.new ≡ 0 }
     ensures zeros { result ≡ REFUSED → output.new ≡ replicate (length output.old) (replicate 8 0) }
     ensures untouched { result ≢ DONE → result ≢ REFUSED → output.new ≡ output.old }
 {
     *key_bytes = 0;
-    if !holds_key(aes) {
+    if !aes.key.holds_key() {
         return NO_KEY;
     }
     let result = unwrap_padded(&lent_back(aes), sealed, output);

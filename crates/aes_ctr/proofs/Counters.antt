@@ -1,8 +1,9 @@
 -- Counter blocks, one after the other.
 use Rattle.std.proofs.Common.{◌≡◌, ℕ, ◌+◌, ◌*◌, ◌/◌, ◌%◌, ◌^◌, ◌<◌, List, [], ◌∷◌, length, get_or}
-use Rattle.std.proofs.Common.{set, sym, ap, ◌∙◌, arith}
+use Rattle.std.proofs.Common.{set, sym, ap, refl, ◌∙◌, arith}
 use Rattle.std.proofs.lemmas.List.Edits.{fill_by_more}
 use Rattle.std.specs.Int.{w128, to_be_bytes, from_be_bytes}
+use Rattle.aes_cipher.proofs.BlockNumbers.{number_back}
 use Rattle.aes_ctr.specs.CounterMode.{counter, counter_block}
 
 -- the counter that counting begins with
@@ -27,6 +28,18 @@ unfolding counter_block
 counted_one iv blocks j i k n block is made fits before below =
     rw (made ∙ ap (to_be_bytes w128) is)
     (fill_by_more (λ m. counter_block iv (j + m)) blocks i [] fits before k below)
+
+-- a counter block is the one before it, counted on by one
+pub block_on : (iv : List ℕ) (j : ℕ)
+    → counter_block iv (j + 1) ≡ counter_block (counter_block iv j) 1
+unfolding counter counter_block
+block_on iv j =
+    let m = from_be_bytes w128 iv in
+    ap (to_be_bytes w128)
+    (on m j ∙ ap (λ q. (q + 1) % 2 ^ 128) (sym (number_back ((m + j) % 2 ^ 128) _ (omega arith) refl)))
+  where
+    on : (m j : ℕ) → (m + (j + 1)) % 2 ^ 128 ≡ ((m + j) % 2 ^ 128 + 1) % 2 ^ 128
+    on m j = omega arith
 
 -- what a loop over counter blocks uses: its first counter, the next one, and one more block written
 pub ruleset counted = (counter_first, counter_next, counted_one)

@@ -2,7 +2,7 @@
 //!
 //! `bytes n 0x..` is the n bytes that these digits write.
 
-ghost use Rattle.std.specs.Prelude.{◌≡◌, ◌+◌, ◌∷◌, [], ◌++◌};
+ghost use Rattle.std.specs.Prelude.{◌≡◌, ℕ, ◌+◌, ◌/◌, ◌%◌, List, ◌∷◌, [], ◌++◌, slice_index};
 ghost use Rattle.aes_planes.specs.BigEndian.{bytes};
 ghost use Rattle.aes_planes.specs.Fips197 as fips;
 ghost use Rattle.aes_ctr.specs.CounterMode.{counter, counter_block, keystream_byte, plus_stream};
@@ -23,6 +23,16 @@ pub fn counter_examples()
     ensures over_the_end { counter_block (bytes 16 0xffffffffffffffffffffffffffffffff) 2
         ≡ bytes 16 0x00000000000000000000000000000001 }
     ensures modulo { counter (bytes 16 0xffffffffffffffffffffffffffffffff) 2 ≡ 1 }
+{}
+
+/// Each counter block is the one before it, counted on by one, however many came before; and byte i
+/// of the keystream is a byte of the cipher of the block that it falls in (6.5).
+#[tactic(auto, using(crate::proofs::Counters::block_on), unfolding(crate::proofs::OnLiterals::ctr_rules))]
+pub fn counter_rules()
+    ensures on { (iv : List ℕ) (j : ℕ)
+        → counter_block iv (j + 1) ≡ counter_block (counter_block iv j) 1 }
+    ensures byte { (w : List (List ℕ)) (iv : List ℕ) (i : ℕ) → keystream_byte w iv i
+        ≡ slice_index (fips.cipher_with w (counter_block iv (i / 16))) (i % 16) }
 {}
 
 /// The keystream of SP 800-38A, F.5.1: the cipher of each of the four counter blocks.

@@ -1,5 +1,4 @@
 -- The files of lemmas.
 pub mod Fronts
 pub mod OnLiterals
-pub mod Shifted
 pub mod PlaneKeys

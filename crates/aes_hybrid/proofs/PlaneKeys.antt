@@ -4,8 +4,8 @@ use Rattle.std.proofs.Common.{◌∷◌, length, map, map-id, replicate, refl, a
 use Rattle.std.proofs.lemmas.Bool.{cases_lt}
 use Rattle.aes_planes.specs.Fips197 as fips
 use Rattle.aes_planes.specs.Planes.{held, plus63, words_at}
+use Rattle.aes_planes.proofs.Bits.ByteCases.{by_four}
 use Rattle.aes_planes.proofs.Shifts.Deferred.{plus63_twice}
-use Rattle.aes_planes.proofs.Standard.FieldLaws.{add_twice}
 use Rattle.aes_planes.proofs.Standard.Steps.{map_length}
 use Rattle.aes_soft.specs.Stored.{full, key_of_planes, rounds_of, size_of, stored_key}
 use Rattle.aes_soft.specs.Stored.{IsFullSchedule, IsSchedule, HoldsBlocks}
@@ -13,17 +13,23 @@ use Rattle.aes_soft.proofs.KeyOfPlanes.{key_of-schedule}
 use Rattle.aes_soft.proofs.StoredRoundKeys.{deferred_below, deferred_last, stored_first}
 use Rattle.aes_soft.proofs.StoredRoundKeys.{stored_later}
 use Rattle.aes_soft.proofs.WordsInPlace.{held_at, kept, HoldsAt}
-use Rattle.aes_permute.specs.Keys.{encrypting, cipher_form}
+use Rattle.aes_permute.specs.Keys.{encrypting, cipher_form, key_of_lanes, IsCipherSchedule}
 use Rattle.aes_permute.specs.Stored.{untower, key_untower}
+use Rattle.aes_permute.proofs.ExpandedLanes.{last_key_is}
+use Rattle.aes_permute.proofs.Linear.{same_on_block}
 use Rattle.aes_permute.proofs.States.{keys_length, first_key, inner_key, last_key}
-use Rattle.aes_permute.specs.Keys.{key_of_lanes, IsCipherSchedule}
-use Rattle.aes_hybrid.proofs.Shifted.{times_map}
 
--- the 0x63 that is added to a round key taken out of the tower basis falls out
-untower_of_key : (x : List ℕ) → map plus63 (map key_untower x) ≡ map untower x
-unfolding key_untower
-untower_of_key [] = refl
-untower_of_key (b ∷ x) = λ i. add_twice (untower b) 0x63 i ∷ untower_of_key x i
+-- up to three ShiftRows are undone by as many InvShiftRows
+times_undone : (k : ℕ) → k < 4 → (x : List ℕ) → length x ≡ 16
+    → fips.inv_shift_times k (fips.shift_times k x) ≡ x
+unfolding fips.build fips.state fips.shift_rows fips.inv_shift_rows fips.shift_times
+    fips.inv_shift_times
+times_undone = by_four
+    (λ k. (x : List ℕ) → length x ≡ 16 → fips.inv_shift_times k (fips.shift_times k x) ≡ x)
+    (same_on_block (λ x. x) (λ x. x) (λ f. refl))
+    (same_on_block (λ x. fips.inv_shift_times 1 (fips.shift_times 1 x)) (λ x. x) (λ f. refl))
+    (same_on_block (λ x. fips.inv_shift_times 2 (fips.shift_times 2 x)) (λ x. x) (λ f. refl))
+    (same_on_block (λ x. fips.inv_shift_times 3 (fips.shift_times 3 x)) (λ x. x) (λ f. refl))
 
 module _ (stored : List (List ℕ)) (two : 2 ≤ length stored) where
   -- how many rounds these stored round keys serve
@@ -41,9 +47,9 @@ module _ (stored : List (List ℕ)) (two : 2 ≤ length stored) where
       (deferred_below rounds_made 4 0 0 (omega arith) refl)
       ∙ first_key cipher_form stored (omega (arith, two)) ∙ map-id (fips.round_key stored 0))
 
-  -- one between is, once it is taken out of the tower basis and shifted back i mod 4 times
+  -- one between is, once it is taken out of the tower basis: it is shifted back already
   pub inner_wanted : (i : ℕ) → 1 ≤ i → i < rounds_made → length (fips.round_key stored i) ≡ 16
-      → fips.inv_shift_times (i % 4) (map untower (fips.round_key stored i)) ≡ wanted i
+      → map untower (fips.round_key stored i) ≡ wanted i
   inner_wanted i some below sized =
       let s = fips.round_key stored i in
       let long : length (map key_untower s) ≡ 16 = map_length key_untower s ∙ sized in
@@ -51,8 +57,8 @@ module _ (stored : List (List ℕ)) (two : 2 ≤ length stored) where
       (deferred_below rounds_made 4 i (i % 4) below refl)
       ∙ ap (λ v. map plus63 (fips.inv_shift_times (i % 4) v))
       (inner_key cipher_form stored i some below)
-      ∙ times_map plus63 (i % 4) (map key_untower s) long
-      ∙ ap (fips.inv_shift_times (i % 4)) (untower_of_key s))
+      ∙ ap (map plus63) (times_undone (i % 4) (omega arith) (map key_untower s) long)
+      ∙ last_key_is s)
 
   -- and the last is as planes store it
   pub last_wanted : (i : ℕ) → i ≡ rounds_made → fips.round_key stored i ≡ wanted i

@@ -1,5 +1,6 @@
 -- A key that is kept: how many bytes it has, and its stored round keys, for one direction or for both.
 use Rattle.std.specs.Prelude.{ℕ, List, replicate}
+use Rattle.aes_planes.specs.Fips197 as fips
 use Rattle.aes_cipher.specs.KeySizes.{IsKeySize}
 use Rattle.aes_permute.specs.Keys.{key_in_room, stored_keys, AreInverse, AreZeroAfter, IsCipherSchedule}
 use Rattle.aes_hybrid.specs.declared.kept_key.KeptKey.{KeptKey}
@@ -24,6 +25,10 @@ HoldsKey kept = IsKeySize kept.length
 -- the key that is kept
 abbrev pub key_in : KeptKey → List ℕ
 key_in kept = key_in_room kept.length kept.round_keys
+
+-- its round keys
+abbrev pub round_keys_in : KeptKey → List (List ℕ)
+round_keys_in kept = fips.key_expansion (key_in kept)
 
 -- a struct in order: if it holds a key, its blocks begin with the stored round keys of that key
 pub record IsKept (kept : KeptKey) : Type 0 where

@@ -3,6 +3,7 @@
 
 ghost use Rattle.std.specs.Prelude.{◌≡◌};
 ghost use Rattle.aes_planes.specs.Fips197 as fips;
+ghost use Rattle.aes_permute.specs.Keys.{key_of_lanes, AreInverse, IsCipherSchedule};
 ghost use Rattle.aes_soft.specs.Stored as soft;
 
 use crate::backends::Batches;
@@ -11,6 +12,7 @@ use crate::plane_keys::PlaneKeys;
 use crate::widths::Width;
 use aes_cipher::cipher::{BlockCipherDecClosure, BlockCipherEncClosure, Decrypt, Encrypt};
 use aes_cipher::zeroize::wipe_stack;
+use aes_planes::soft::word::Block;
 
 // How many bytes of stack a closure takes at most that works on batches, as those of this library's
 // modes do. From 2 KB on libc's memset takes a slower way.
@@ -30,17 +32,18 @@ fn call_to_encrypt<W: Width, F: BlockCipherEncClosure>(
     f.call(&Batches::new(few, words));
 }
 
-// Lends planes to encrypt. They are wiped before the call returns, with the
-// stack that the closure took. Never inlined: few blocks need no large frame,
-// and what a caller leaves below its own frame isn't deep.
+// Lends planes to encrypt. They are wiped before the call returns, with the stack that the closure
+// took. Never inlined: few blocks need no large frame, and what a caller leaves below its own frame
+// isn't deep. It takes a slice, which is passed in registers.
 #[inline(never)]
-fn lend_planes_to_encrypt<W: Width, F: BlockCipherEncClosure>(few: &Lent<'_, Encrypt, W>, f: &mut F)
-    ensures { F.did f.old (fips.key_expansion few.now) f.new }
+fn lend_planes_to_encrypt<W: Width, F: BlockCipherEncClosure>(keys: &[Block], f: &mut F)
+    requires { IsCipherSchedule keys.now }
+    ensures { F.did f.old (fips.key_expansion (key_of_lanes keys.now)) f.new }
 {
-    let keys = few.keys();
     let mut planes = PlaneKeys::<W::Many>::zeroed();
     planes.store(keys);
-    call_to_encrypt::<W, F>(few, planes.lend(keys.len()), f);
+    let few = Lent::new(keys, keys);
+    call_to_encrypt::<W, F>(&few, planes.lend(keys.len()), f);
     planes.wipe();
     wipe_stack::<CLOSURE_STACK>();
 }
@@ -55,7 +58,8 @@ pub(crate) fn lend_to_encrypt<W: Width, F: BlockCipherEncClosure>(
     ensures { F.did f.old (fips.key_expansion few.now) f.new }
 {
     if blocks >= W::LEAST_FOR_CLOSURES {
-        lend_planes_to_encrypt::<W, F>(few, f);
+        let (keys, _) = few.lists();
+        lend_planes_to_encrypt::<W, F>(keys, f);
     } else {
         f.call(few);
     }
@@ -77,13 +81,19 @@ fn call_to_decrypt<W: Width, F: BlockCipherDecClosure>(
 
 // Lends planes to decrypt. They serve both directions, and are made of the round keys of Cipher.
 #[inline(never)]
-fn lend_planes_to_decrypt<W: Width, F: BlockCipherDecClosure>(few: &Lent<'_, Decrypt, W>, f: &mut F)
-    ensures { F.did f.old (fips.key_expansion few.now) f.new }
+fn lend_planes_to_decrypt<W: Width, F: BlockCipherDecClosure>(
+    keys: &[Block],
+    inverse: &[Block],
+    f: &mut F,
+)
+    requires keyed { IsCipherSchedule keys.now }
+    requires inverse { AreInverse inverse.now keys.now }
+    ensures { F.did f.old (fips.key_expansion (key_of_lanes keys.now)) f.new }
 {
-    let keys = few.keys();
     let mut of_cipher = PlaneKeys::<W::Many>::zeroed();
     of_cipher.store(keys);
-    call_to_decrypt::<W, F>(few, of_cipher.lend(keys.len()), f);
+    let few = Lent::new(keys, inverse);
+    call_to_decrypt::<W, F>(&few, of_cipher.lend(keys.len()), f);
     of_cipher.wipe();
     wipe_stack::<CLOSURE_STACK>();
 }
@@ -98,7 +108,8 @@ pub(crate) fn lend_to_decrypt<W: Width, F: BlockCipherDecClosure>(
     ensures { F.did f.old (fips.key_expansion few.now) f.new }
 {
     if blocks >= W::LEAST_FOR_CLOSURES {
-        lend_planes_to_decrypt::<W, F>(few, f);
+        let (keys, inverse) = few.lists();
+        lend_planes_to_decrypt::<W, F>(keys, inverse, f);
     } else {
         f.call(few);
     }

@@ -1,6 +1,6 @@
 //! A key as its stored round keys, in structs that a caller keeps. They have C's layout.
 
-ghost use Rattle.std.specs.Prelude.{◌≡◌, ◌↔◌, length, replicate, IsTrue};
+ghost use Rattle.std.specs.Prelude.{◌≡◌, ◌↔◌, length, IsTrue};
 ghost use Rattle.aes_cipher.specs.KeySizes.{IsKeySize};
 ghost use Rattle.aes_hybrid.specs.KeptKey.{key_in, no_key, no_key_both_ways, HoldsKey, IsKept};
 ghost use Rattle.aes_hybrid.specs.KeptKey.{IsKeptBothWays, IsZeroAfter, IsZeroAfterBoth};

@@ -66,13 +66,15 @@ impl<'a, D: LaneRounds, W> Lent<'a, D, W> {
         }
     }
 
-    /// Returns the stored round keys of Cipher.
+    /// Returns the stored round keys of Cipher, and those of the direction.
     #[inline(always)]
-    pub(crate) fn keys(&self) -> &'a [Block]
-        ensures keyed { IsCipherSchedule result.now }
-        ensures key { key_of_lanes result.now ≡ self.now }
+    pub(crate) fn lists(&self) -> (&'a [Block], &'a [Block])
+        ensures keyed { IsCipherSchedule result.0.now }
+        ensures used { round_keys_of D.form result.1.now
+            ≡ D.form.used_keys (encrypting result.0.now) }
+        ensures key { key_of_lanes result.0.now ≡ self.now }
     {
-        self.keys
+        (self.keys, self.used)
     }
 
     /// Processes a block in place by vector permutations.

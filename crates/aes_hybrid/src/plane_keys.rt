@@ -1,6 +1,6 @@
 //! Round keys of vector permutations as planes: the S-box of their schedule serves both forms.
 
-ghost use Rattle.std.specs.Prelude.{◌≡◌, ◌⊎◌, ℕ, ◌+◌, ◌*◌, ◌%◌, ◌<◌, ◌≤◌, false, length, map};
+ghost use Rattle.std.specs.Prelude.{◌≡◌, ◌⊎◌, ℕ, ◌+◌, ◌*◌, ◌≤◌, false, length, map};
 ghost use Rattle.std.specs.Prelude.{replicate, take};
 ghost use Rattle.aes_planes.specs.Fips197 as fips;
 ghost use Rattle.aes_planes.specs.Planes.{held, words_at};
@@ -10,52 +10,18 @@ ghost use Rattle.aes_permute.specs.Keys.{key_of_lanes, IsCipherSchedule};
 
 use aes_cipher::not_clone::NotClone;
 use aes_cipher::zeroize::zeroize_words;
-use aes_permute::lanes::looked_up_by_nibbles;
-use aes_permute::tables::{UNTOWER_HIGH, UNTOWER_LOW};
-use aes_planes::laws;
+use aes_permute::rounds::out_of_tower;
 use aes_planes::soft::utils::store_round_key;
 use aes_planes::soft::word::{Block, Word};
 use std::simd::prelude::*;
 
-// InvShiftRows of a block (FIPS 197, 5.3.1).
-#[tactic(auto, using(crate::proofs::Shifted::shifted_is))]
-#[inline(always)]
-fn shifted_back(x: u8x16) -> u8x16
-    requires { length x ≡ 16 }
-    ensures { result ≡ fips.inv_shift_rows x }
-{
-    x.swizzle([0, 13, 10, 7, 4, 1, 14, 11, 8, 5, 2, 15, 12, 9, 6, 3])
-}
-
-// Applies InvShiftRows to a block `times` times.
-#[tactic(auto, using(crate::proofs::Shifted::one_by_one))]
-#[inline(always)]
-fn shifted_back_times(x: u8x16, times: usize) -> u8x16
-    requires below_four { times < 4 }
-    requires sized { length x ≡ 16 }
-    ensures { result ≡ fips.inv_shift_times times x }
-{
-    if times == 1 {
-        return shifted_back(x);
-    }
-    if times == 2 {
-        return shifted_back(shifted_back(x));
-    }
-    if times == 3 {
-        return shifted_back(shifted_back(shifted_back(x)));
-    }
-    x
-}
-
 // The block that planes hold for a stored round key of Cipher between the first and the last: it
-// has the constant of the S-box twice, which is not at all.
+// has the constant of the S-box twice, which is not at all, and its rows are shifted back already.
 #[inline(always)]
-fn block_for_planes(stored: &Block, number: usize) -> Block
-    ensures { result ≡ fips.inv_shift_times (number % 4) (map untower stored.now) }
+fn block_for_planes(stored: &Block) -> Block
+    ensures { result ≡ map untower stored.now }
 {
-    laws::is_block(*stored);
-    let x = looked_up_by_nibbles(u8x16::from_array(*stored), UNTOWER_LOW, UNTOWER_HIGH);
-    shifted_back_times(x, number % 4).to_array()
+    out_of_tower(u8x16::from_array(*stored)).to_array()
 }
 
 // Stores a block in every slot as the planes of round key `i`. The other words stay.
@@ -83,7 +49,7 @@ pub fn store_planes<W: Word>(words: &mut [W], keys: &[Block])
     let last = keys.len() - 1;
     store_in_every_slot(words, 0, &keys[0]);
     'keys: for i in 1..last {
-        store_in_every_slot(words, i, &block_for_planes(&keys[i], i));
+        store_in_every_slot(words, i, &block_for_planes(&keys[i]));
     }
     store_in_every_slot(words, last, &keys[last]);
 }

@@ -1,30 +1,30 @@
 -- Four words of the key schedule on lanes.
-use Rattle.std.proofs.Common.{◌≡◌, ℕ, ◌+◌, ◌-◌, ◌%◌, ◌<◌, ◌==◌, ◌&&◌, nat_lt, cond, true, bit_and}
-use Rattle.std.proofs.Common.{bit_xor, List, [], ◌∷◌, ◌++◌, length, map, map-id, get_or, replicate}
-use Rattle.std.proofs.Common.{refl, ap, sym, ◌∙◌, subst}
-use Rattle.std.proofs.lemmas.Bool.{and_parts, eqb-true}
+use Rattle.std.proofs.Common.{◌≡◌, ◌≢◌, ℕ, zero, suc, ◌+◌, ◌-◌, ◌*◌, ◌/◌, ◌%◌, ◌<◌, ◌==◌, Bool}
+use Rattle.std.proofs.Common.{true, false, nat_le, nat_lt, cond, bit_and, bit_xor, List, [], ◌∷◌}
+use Rattle.std.proofs.Common.{◌++◌, length, map, map-id, get_or, set, replicate, refl, ap, sym}
+use Rattle.std.proofs.Common.{◌∙◌, subst, arith}
+use Rattle.std.specs.Int.Bits.{xor_assoc}
+use Rattle.std.proofs.Math.ListN.{get_or-map}
+use Rattle.std.proofs.lemmas.Bool.{eqb-true}
+use Rattle.std.proofs.lemmas.List.{get_or-set_same, get_or-set_other}
+use Rattle.std.proofs.lemmas.Nat.{xor_comm}
 use Rattle.std.proofs.lemmas.Simd.{map-map, zip2_splat}
 use lib.Lanes.{zip2, pick_l}
 use Rattle.aes_planes.specs.Fips197.{field_add, byte_at, build, state, add_round_key, sbox}
-use Rattle.aes_planes.specs.Fips197.{sub_bytes, IsBlock}
+use Rattle.aes_planes.specs.Fips197.{sub_bytes}
 use Rattle.aes_planes.specs.Planes.{plus63, constant_block, summed, columns_summed}
 use Rattle.aes_planes.specs.Planes.{columns_straddled}
 use Rattle.aes_planes.proofs.Bits.ByteCases.{all_below, all_below_tells, by_four}
 use Rattle.aes_planes.proofs.Lists.{built}
 use Rattle.aes_planes.proofs.Shifts.Deferred.{plus63_twice}
-use Rattle.aes_planes.proofs.Standard.FieldLaws.{add_zero, add_twice, add_swap}
-use Rattle.std.specs.Int.Bits.{xor_assoc}
-use Rattle.std.proofs.lemmas.Nat.{xor_comm}
+use Rattle.aes_planes.proofs.Standard.FieldLaws.{add_zero, add_twice}
 use Rattle.aes_planes.proofs.Standard.States.{state_same}
 use Rattle.aes_planes.proofs.Standard.Steps.{map_length}
-use Rattle.aes_permute.specs.Lookup.{looked, by_nibbles}
-use Rattle.aes_permute.specs.Stored.{key_untower}
-use Rattle.aes_permute.specs.declared.tables.TheConstants.{TOWER_LOW, TOWER_HIGH, UNTOWER_LOW}
-use Rattle.aes_permute.specs.declared.tables.TheConstants.{UNTOWER_HIGH}
-use Rattle.aes_permute.specs.declared.lane_keys.TheConstants.{FIRST_ROW, COLUMN_BEFORE}
-use Rattle.aes_permute.specs.declared.lane_keys.TheConstants.{TWO_COLUMNS_BEFORE}
-use Rattle.aes_permute.proofs.Linear.{same_on_block, same_on_blocks}
-use Rattle.aes_permute.proofs.Lookups.{maps_same}
+use Rattle.aes_permute.specs.Lookup.{looked}
+use Rattle.aes_permute.specs.Stored.{untower, key_untower}
+use Rattle.aes_permute.specs.declared.tables.TheConstants.{TOWER_LOW, TOWER_HIGH}
+use Rattle.aes_permute.specs.declared.lane_keys.TheConstants.{COLUMN_BEFORE, TWO_COLUMNS_BEFORE}
+use Rattle.aes_permute.proofs.Linear.{untower_sum, same_on_block, same_on_blocks}
 
 -- ---- sums of columns
 
@@ -85,7 +85,7 @@ columns_are x s a l m n =
     (λ f g. refl) s a m n)
 
 -- two steps of such sums make each column the sum of all columns up to it, an addend and a constant
-pub summed_is : (x s a : List ℕ) {p q : List ℕ} → length x ≡ 16 → length s ≡ 16 → length a ≡ 16
+summed_is : (x s a : List ℕ) {p q : List ℕ} → length x ≡ 16 → length s ≡ 16 → length a ≡ 16
     → p ≡ pairs_of x → q ≡ sums_of p → zip2 bit_xor (zip2 bit_xor q a) s
     ≡ state (λ r c. summed field_add (byte_at x r) (field_add (byte_at s r c) (byte_at a r c)) c)
 summed_is x s a l m n e f =
@@ -93,34 +93,103 @@ summed_is x s a l m n e f =
     ∙ columns_are x s a l m n
     ∙ state_same _ _ (λ r c i j. coded_is (byte_at x r) (byte_at s r c) (byte_at a r c) c j)
 
+-- ---- in the tower basis
+
+-- what a sum of lanes stands for is the sum of what they stand for
+sum_untowered : (x y : List ℕ)
+    → map untower (zip2 bit_xor x y) ≡ zip2 bit_xor (map untower x) (map untower y)
+sum_untowered [] y = refl
+sum_untowered (x ∷ xs) [] = refl
+sum_untowered (x ∷ xs) (y ∷ ys) = λ i. untower_sum x y i ∷ sum_untowered xs ys i
+
+-- a lane stands for the same at another place, and a lane of zero for zero
+moved_untowered : (x ks : List ℕ)
+    → map untower (map (looked x) ks) ≡ map (looked (map untower x)) ks
+unfolding untower
+moved_untowered x ks = map-map untower (looked x) ks ∙ (λ i. map (λ k. entry k (nat_le 128 k) i) ks)
+  where
+    entry : (k : ℕ) (b : Bool)
+        → untower (cond b 0 (get_or x k 0)) ≡ cond b 0 (get_or (map untower x) k 0)
+    entry k true = refl
+    entry k false = sym (get_or-map untower x k 0)
+
+-- the columns, summed from any start and addend
+abbrev pub from_start : List ℕ → List ℕ → List ℕ → List ℕ
+from_start x s a =
+    state (λ r c. summed field_add (byte_at x r) (field_add (byte_at s r c) (byte_at a r c)) c)
+
+-- the sums of columns stand for those of what the columns stand for
+pub tower_summed_is : (x s a : List ℕ) {p q : List ℕ} → length x ≡ 16 → length s ≡ 16
+    → length a ≡ 16 → p ≡ pairs_of x → q ≡ sums_of p
+    → map untower (zip2 bit_xor (zip2 bit_xor q a) s)
+    ≡ from_start (map untower x) (map untower s) (map untower a)
+tower_summed_is x s a {p = p} {q = q} l m n e f =
+    let with_moved : (y ks : List ℕ) → map untower (zip2 bit_xor y (map (looked y) ks))
+    ≡ zip2 bit_xor (map untower y) (map (looked (map untower y)) ks) =
+    λ y ks. sum_untowered y (map (looked y) ks)
+    ∙ ap (zip2 bit_xor (map untower y)) (moved_untowered y ks) in
+    sum_untowered (zip2 bit_xor q a) s
+    ∙ ap (λ v. zip2 bit_xor v (map untower s)) (sum_untowered q a)
+    ∙ summed_is (map untower x) (map untower s) (map untower a) (map_length untower x ∙ l)
+    (map_length untower s ∙ m) (map_length untower a ∙ n)
+    (ap (map untower) e ∙ with_moved x COLUMN_BEFORE)
+    (ap (map untower) f ∙ with_moved p TWO_COLUMNS_BEFORE)
+
+-- ---- round constants
+
+-- a byte of a round constant as the code looks it up
+abbrev looked_byte : ℕ → ℕ
+looked_byte k = bit_xor (get_or TOWER_LOW (bit_and k 15) 0) (get_or TOWER_HIGH (k / 16) 0)
+
+-- by all bytes
+byte_cases : all_below 256 (λ k. untower (looked_byte k) == k) ≡ true
+unfolding all_below untower
+byte_cases = refl
+
+-- it stands for the byte
+pub byte_is : (k : ℕ) → k < 256 → untower (looked_byte k) ≡ k
+byte_is k h = eqb-true _ _ (all_below_tells 256 (λ k. untower (looked_byte k) == k) byte_cases k h)
+
+-- added to the first lane, it stands for the byte added there
+pub constant_is : (x : List ℕ) (k t : ℕ) → untower t ≡ k
+    → map untower (zip2 bit_xor x (t ∷ replicate 15 0))
+    ≡ zip2 bit_xor (map untower x) (k ∷ replicate 15 0)
+unfolding untower
+constant_is x k t e = sum_untowered x (t ∷ replicate 15 0)
+    ∙ (λ i. zip2 bit_xor (map untower x) (e i ∷ replicate 15 0))
+
+-- a byte added to the first lane, and zeros to the others, changes that lane alone
+first_changed : (x : List ℕ) (k : ℕ) → length x ≡ 16
+    → zip2 bit_xor x (k ∷ replicate 15 0) ≡ set x 0 (bit_xor (get_or x 0 0) k)
+first_changed [] k l = refl
+first_changed (x ∷ xs) k l =
+    (λ i. bit_xor x k ∷ zip2_splat bit_xor xs 15 0 (omega (arith, l)) i)
+    ∙ (λ i. bit_xor x k ∷ map (λ v. add_zero v i) xs) ∙ (λ i. bit_xor x k ∷ map-id xs i)
+
+-- sums of columns bring what is added to the first to all
+carried : (x z : ℕ → ℕ) (v k c : ℕ) → z 0 ≡ bit_xor (x 0) k → ((d : ℕ) → z (suc d) ≡ x (suc d))
+    → summed field_add z v c ≡ summed field_add x (bit_xor v k) c
+carried x z v k zero first others =
+    ap (λ u. bit_xor u v) first ∙ xor_assoc (x 0) k v ∙ ap (bit_xor (x 0)) (xor_comm k v)
+carried x z v k (suc c) first others =
+    λ i. bit_xor (others c i) (carried x z v k c first others i)
+
+-- so a byte added to the first lane is in row 0 of each column
+constant_carried : (x : List ℕ) (v k r c : ℕ) → length x ≡ 16 → r < 4
+    → summed field_add (byte_at (set x 0 (bit_xor (get_or x 0 0) k)) r) v c
+    ≡ summed field_add (byte_at x r) (bit_xor v (cond (r == 0) k 0)) c
+constant_carried x v k r c l lt =
+    let z = set x 0 (bit_xor (get_or x 0 0) k) in
+    let other : (i : ℕ) → i ≢ 0 → get_or z i 0 ≡ get_or x i 0 = λ i. get_or-set_other x 0 i _ 0 in
+    let row : (i : ℕ) → i ≢ 0 → get_or z i 0 ≡ bit_xor (get_or x i 0) 0 =
+    λ i h. other i h ∙ sym (add_zero (get_or x i 0)) in
+    carried (byte_at x r) (byte_at z r) v (cond (r == 0) k 0) c
+    (by_four (λ r. byte_at z r 0 ≡ bit_xor (byte_at x r 0) (cond (r == 0) k 0))
+    (get_or-set_same x 0 _ 0 (omega (arith, l)))
+    (row 1 (omega arith)) (row 2 (omega arith)) (row 3 (omega arith)) r lt)
+    (λ d. other (r + 4 * suc d) (omega arith))
+
 -- ---- the three kinds of first words
-
--- the S-box's constant and a round constant, with which they are added
-abbrev pub addend_of : ℕ → List ℕ
-addend_of k = bit_xor k 0x63 ∷ 0x63 ∷ 0x63 ∷ 0x63 ∷ bit_xor k 0x63 ∷ 0x63 ∷ 0x63 ∷ 0x63
-    ∷ bit_xor k 0x63 ∷ 0x63 ∷ 0x63
-    ∷ 0x63 ∷ bit_xor k 0x63 ∷ 0x63 ∷ 0x63 ∷ 0x63 ∷ []
-
--- as the code makes them
-abbrev coded_addend : ℕ → List ℕ
-coded_addend k = zip2 bit_xor (zip2 bit_and (replicate 16 k) FIRST_ROW) (replicate 16 0x63)
-
--- a byte of the constant is there under a mask of ones, and not under zeros
-row_cases : all_below 256 (λ k. (bit_xor (bit_and k 255) 0x63 == bit_xor k 0x63)
-    && (bit_xor (bit_and k 0) 0x63 == 0x63)) ≡ true
-unfolding all_below
-row_cases = refl
-
--- so the code makes the constants for each byte
-addend_made : (k : ℕ) → k < 256 → coded_addend k ≡ addend_of k
-addend_made k h =
-    let t = and_parts _ _
-    (all_below_tells 256 (λ k. (bit_xor (bit_and k 255) 0x63 == bit_xor k 0x63)
-    && (bit_xor (bit_and k 0) 0x63 == 0x63)) row_cases k h) in
-    let e : bit_xor (bit_and k 255) 0x63 ≡ bit_xor k 0x63 = eqb-true _ _ t.0 in
-    let z : bit_xor (bit_and k 0) 0x63 ≡ 0x63 = eqb-true _ _ t.1 in
-    λ i. e i ∷ z i ∷ z i ∷ z i ∷ e i ∷ z i ∷ z i ∷ z i ∷ e i ∷ z i ∷ z i ∷ z i ∷ e i ∷ z i
-    ∷ z i ∷ z i ∷ []
 
 -- lanes taken from a list
 abbrev pub swizzled : List ℕ → List ℕ → List ℕ
@@ -138,40 +207,42 @@ last_column = 12 ∷ 13 ∷ 14 ∷ 15 ∷ 12 ∷ 13 ∷ 14 ∷ 15 ∷ 12 ∷ 13 
 abbrev pub second_column : List ℕ
 second_column = 4 ∷ 5 ∷ 6 ∷ 7 ∷ 4 ∷ 5 ∷ 6 ∷ 7 ∷ 4 ∷ 5 ∷ 6 ∷ 7 ∷ 4 ∷ 5 ∷ 6 ∷ 7 ∷ []
 
--- both constants go into the S-box's sum
-constants : (v k : ℕ) → bit_xor (bit_xor v 0x63) (bit_xor k 0x63) ≡ bit_xor v k
-constants v k = add_swap v 0x63 k 0x63 ∙ add_zero (bit_xor v k)
+-- 0x63 in the tower basis
+of_constant : untower 0x6e ≡ 0x63
+unfolding untower
+of_constant = refl
 
--- the sum of what is substituted, rotated, and the constants: row r of it
-abbrev started : List ℕ → ℕ → ℕ → ℕ
-started y k r = bit_xor (plus63 (byte_at y ((r + 1) % 4) 3)) (cond (r == 0) (bit_xor k 0x63) 0x63)
+-- in each lane
+constants_untowered : map untower (replicate 16 0x6e) ≡ replicate 16 0x63
+constants_untowered = λ i. replicate 16 (of_constant i)
 
--- in which 0x63 cancels
-started_is : (y : List ℕ) (k r : ℕ) → r < 4
-    → started y k r ≡ bit_xor (byte_at y ((r + 1) % 4) 3) (cond (r == 0) k 0)
-started_is y k r l =
-    by_four (λ r. started y k r ≡ bit_xor (byte_at y ((r + 1) % 4) 3) (cond (r == 0) k 0))
-    (constants (byte_at y 1 3) k)
-    (add_twice (byte_at y 2 3) 0x63 ∙ sym (add_zero (byte_at y 2 3)))
-    (add_twice (byte_at y 3 3) 0x63 ∙ sym (add_zero (byte_at y 3 3)))
-    (add_twice (byte_at y 0 3) 0x63 ∙ sym (add_zero (byte_at y 0 3)))
-    r l
+-- the start of columns: SubBytes of lanes of a block but for the constant of the S-box
+abbrev substituted_lanes : List ℕ → List ℕ → List ℕ
+substituted_lanes y ks = map plus63 (sub_bytes (swizzled y ks))
 
--- the columns, summed from any start and addend
-abbrev from_start : List ℕ → List ℕ → List ℕ → List ℕ
-from_start x s a =
-    state (λ r c. summed field_add (byte_at x r) (field_add (byte_at s r c) (byte_at a r c)) c)
+-- what the rows of the last column are due, `rows` rows on, with the constant of the S-box twice
+abbrev due : List ℕ → ℕ → ℕ → ℕ
+due y rows r = plus63 (plus63 (byte_at (sub_bytes y) ((r + rows) % 4) 3))
 
--- a start on lanes, row by row
-rotated_state : (x y : List ℕ) (k : ℕ) → length y ≡ 16
-    → from_start x (swizzled (map plus63 y) rotated_column) (addend_of k)
-    ≡ state (λ r c. summed field_add (byte_at x r) (started y k r) c)
-unfolding state build
-rotated_state x y k =
-    same_on_block (λ y. from_start x (swizzled (map plus63 y) rotated_column) (addend_of k))
-    (λ y. state (λ r c. summed field_add (byte_at x r) (started y k r) c)) (λ f. refl) y
+-- that start, row by row
+rotated_state : (x y : List ℕ) → length y ≡ 16
+    → from_start x (substituted_lanes y rotated_column) (replicate 16 0x63)
+    ≡ state (λ r c. summed field_add (byte_at x r) (due y 1 r) c)
+unfolding state build sub_bytes
+rotated_state x y =
+    same_on_block (λ y. from_start x (substituted_lanes y rotated_column) (replicate 16 0x63))
+    (λ y. state (λ r c. summed field_add (byte_at x r) (due y 1 r) c)) (λ f. refl) y
 
--- and that of the standard
+-- and without a rotation
+substituted_state : (x y : List ℕ) → length y ≡ 16
+    → from_start x (substituted_lanes y last_column) (replicate 16 0x63)
+    ≡ state (λ r c. summed field_add (byte_at x r) (due y 0 r) c)
+unfolding state build sub_bytes
+substituted_state x y =
+    same_on_block (λ y. from_start x (substituted_lanes y last_column) (replicate 16 0x63))
+    (λ y. state (λ r c. summed field_add (byte_at x r) (due y 0 r) c)) (λ f. refl) y
+
+-- the sums with a round constant are those of the standard
 rotated_sums : (x y : List ℕ) (k : ℕ) → length y ≡ 16
     → state (λ r c. summed field_add (byte_at x r)
     (bit_xor (byte_at y ((r + 1) % 4) 3) (cond (r == 0) k 0)) c)
@@ -185,62 +256,81 @@ rotated_sums x y k = same_on_block (λ y. state (λ r c. summed field_add (byte_
 summed_from : (x : ℕ → ℕ) (s t c : ℕ) → s ≡ t → summed field_add x s c ≡ summed field_add x t c
 summed_from x s t c e = ap (λ v. summed field_add x v c) e
 
--- SubWord of RotWord of the last column and a round constant, summed onto the columns of a block
-pub rotated_is : {x y u v p z : List ℕ} (k : ℕ) → u ≡ x → v ≡ y → k < 256 → length v ≡ 16
-    → p ≡ map plus63 (sub_bytes v)
-    → z ≡ from_start u (swizzled p rotated_column) (coded_addend k)
-    → z ≡ columns_summed 1 3 x (add_round_key (sub_bytes y) (constant_block k))
+-- what SubBytes makes of lanes, by what these stand for
+start_is : (v ks s : List ℕ) → map untower (swizzled v ks) ≡ swizzled (map untower v) ks
+    → map untower s ≡ map plus63 (sub_bytes (map untower (swizzled v ks)))
+    → map untower s ≡ substituted_lanes (map untower v) ks
+start_is v ks s moved e = e ∙ ap (λ t. map plus63 (sub_bytes t)) moved
+
+-- SubBytes of a block leaves sixteen bytes
+sub_length : (y : List ℕ) → length y ≡ 16 → length (sub_bytes y) ≡ 16
 unfolding sub_bytes
-rotated_is {u = u} {v = v} {p = p} k hx hy h l e f =
-    let s = sub_bytes v in
-    let sized : length s ≡ 16 = map_length sbox v ∙ l in
-    f ∙ ap (from_start u (swizzled p rotated_column)) (addend_made k h)
-    ∙ ap (λ p. from_start u (swizzled p rotated_column) (addend_of k)) e ∙ rotated_state u s k sized
-    ∙ state_same _ _ (λ r c i j. summed_from (byte_at u r) _ _ c (started_is s k r i))
-    ∙ rotated_sums u s k sized
+sub_length y l = map_length sbox y ∙ l
+
+-- SubWord of RotWord of the last column and a round constant, summed onto the columns of a block
+pub rotated_is : {x y : List ℕ} (u v b s z : List ℕ) (k : ℕ) → map untower u ≡ x → map untower v ≡ y
+    → length u ≡ 16 → length v ≡ 16
+    → map untower b ≡ zip2 bit_xor (map untower u) (k ∷ replicate 15 0)
+    → map untower s ≡ map plus63 (sub_bytes (map untower (swizzled v rotated_column)))
+    → map untower z ≡ from_start (map untower b) (map untower s) (map untower (replicate 16 0x6e))
+    → map untower z ≡ columns_summed 1 3 x (add_round_key (sub_bytes y) (constant_block k))
+unfolding build
+rotated_is u v b s z k hx hy l m is_b is_s f =
+    let x = map untower u in
+    let y = map untower v in
+    let x_long : length x ≡ 16 = map_length untower u ∙ l in
+    let y_long : length y ≡ 16 = map_length untower v ∙ m in
+    let moved = same_on_block (λ v. map untower (swizzled v rotated_column))
+    (λ v. swizzled (map untower v) rotated_column) (λ g. refl) v m in
+    f ∙ (λ i. from_start ((is_b ∙ first_changed x k x_long) i)
+    (start_is v rotated_column s moved is_s i) (constants_untowered i))
+    ∙ rotated_state (set x 0 (bit_xor (get_or x 0 0) k)) y y_long
+    ∙ state_same _ _ (λ r c i j.
+    constant_carried x (due y 1 r) k r c x_long i
+    ∙ summed_from (byte_at x r) _ _ c (ap (λ v. bit_xor v (cond (r == 0) k 0))
+    (add_twice (byte_at (sub_bytes y) ((r + 1) % 4) 3) 0x63)))
+    ∙ rotated_sums x (sub_bytes y) k (sub_length y y_long)
     ∙ (λ i. columns_summed 1 3 (hx i) (add_round_key (sub_bytes (hy i)) (constant_block k)))
 
--- the start without a rotation, row by row
-substituted_state : (x y : List ℕ) → length y ≡ 16
-    → from_start x (swizzled (map plus63 y) last_column) (replicate 16 0x63)
-    ≡ state (λ r c. summed field_add (byte_at x r) (plus63 (plus63 (byte_at y ((r + 0) % 4) 3))) c)
-unfolding state build
-substituted_state x y =
-    same_on_block (λ y. from_start x (swizzled (map plus63 y) last_column) (replicate 16 0x63))
-    (λ y. state (λ r c. summed field_add (byte_at x r)
-    (plus63 (plus63 (byte_at y ((r + 0) % 4) 3))) c)) (λ f. refl) y
-
 -- SubWord of the last column, summed onto the columns of a block
-pub substituted_is : {x y u v p z : List ℕ} → u ≡ x → v ≡ y → length v ≡ 16
-    → p ≡ map plus63 (sub_bytes v)
-    → z ≡ from_start u (swizzled p last_column) (replicate 16 0x63)
-    → z ≡ columns_summed 0 3 x (sub_bytes y)
-unfolding columns_summed sub_bytes
-substituted_is {u = u} {v = v} hx hy l e f =
-    let s = sub_bytes v in
-    f ∙ ap (λ p. from_start u (swizzled p last_column) (replicate 16 0x63)) e
-    ∙ substituted_state u s (map_length sbox v ∙ l)
-    ∙ state_same _ _ (λ r c i j. summed_from (byte_at u r) _ _ c
-    (add_twice (byte_at s ((r + 0) % 4) 3) 0x63))
+pub substituted_is : {x y : List ℕ} (u v s z : List ℕ) → map untower u ≡ x → map untower v ≡ y
+    → length v ≡ 16
+    → map untower s ≡ map plus63 (sub_bytes (map untower (swizzled v last_column)))
+    → map untower z ≡ from_start (map untower u) (map untower s) (map untower (replicate 16 0x6e))
+    → map untower z ≡ columns_summed 0 3 x (sub_bytes y)
+unfolding build columns_summed
+substituted_is u v s z hx hy m is_s f =
+    let x = map untower u in
+    let y = map untower v in
+    let moved = same_on_block (λ v. map untower (swizzled v last_column))
+    (λ v. swizzled (map untower v) last_column) (λ g. refl) v m in
+    f ∙ (λ i. from_start x (start_is v last_column s moved is_s i) (constants_untowered i))
+    ∙ substituted_state x y (map_length untower v ∙ m)
+    ∙ state_same _ _ (λ r c i j. summed_from (byte_at x r) _ _ c
+    (add_twice (byte_at (sub_bytes y) ((r + 0) % 4) 3) 0x63))
     ∙ (λ i. columns_summed 0 3 (hx i) (sub_bytes (hy i)))
 
 -- and without a substitution
 plain_state : (x y : List ℕ) → length y ≡ 16
-    → from_start x (swizzled y second_column) (replicate 16 0)
-    ≡ state (λ r c. summed field_add (byte_at x r) (bit_xor (byte_at y ((r + 0) % 4) 1) 0) c)
-unfolding state build
-plain_state x y = same_on_block (λ y. from_start x (swizzled y second_column) (replicate 16 0))
-    (λ y. state (λ r c. summed field_add (byte_at x r) (bit_xor (byte_at y ((r + 0) % 4) 1) 0) c))
-    (λ f. refl) y
+    → from_start x (map untower (swizzled y second_column)) (map untower (replicate 16 0))
+    ≡ state (λ r c. summed field_add (byte_at x r)
+    (bit_xor (byte_at (map untower y) ((r + 0) % 4) 1) 0) c)
+unfolding state build untower
+plain_state x y = same_on_block
+    (λ y. from_start x (map untower (swizzled y second_column)) (map untower (replicate 16 0)))
+    (λ y. state (λ r c. summed field_add (byte_at x r)
+    (bit_xor (byte_at (map untower y) ((r + 0) % 4) 1) 0) c)) (λ f. refl) y
 
 -- the second column as it is, summed onto the columns of a block
-pub plain_is : {x y u v z : List ℕ} → u ≡ x → v ≡ y → length v ≡ 16
-    → z ≡ from_start u (swizzled v second_column) (replicate 16 0) → z ≡ columns_summed 0 1 x y
+pub plain_is : {x y : List ℕ} (u v z : List ℕ) → map untower u ≡ x → map untower v ≡ y → length v ≡ 16
+    → map untower z ≡ from_start (map untower u) (map untower (swizzled v second_column))
+    (map untower (replicate 16 0))
+    → map untower z ≡ columns_summed 0 1 x y
 unfolding columns_summed
-plain_is {u = u} {v = v} hx hy l f =
-    f ∙ plain_state u v l
-    ∙ state_same _ _ (λ r c i j. summed_from (byte_at u r) _ _ c
-    (add_zero (byte_at v ((r + 0) % 4) 1)))
+plain_is u v z hx hy l f =
+    f ∙ plain_state (map untower u) v l
+    ∙ state_same _ _ (λ r c i j. summed_from (byte_at (map untower u) r) _ _ c
+    (add_zero (byte_at (map untower v) ((r + 0) % 4) 1)))
     ∙ (λ i. columns_summed 0 1 (hx i) (hy i))
 
 -- ---- the last columns of one block and the first of the next
@@ -250,41 +340,37 @@ abbrev pub straddling : List ℕ
 straddling = 8 ∷ 9 ∷ 10 ∷ 11 ∷ 12 ∷ 13 ∷ 14 ∷ 15 ∷ 16 ∷ 17 ∷ 18 ∷ 19 ∷ 20 ∷ 21 ∷ 22 ∷ 23 ∷ []
 
 -- those lanes of two blocks are the block that straddles them
-pub straddled_is : (x y u v : List ℕ) → u ≡ x → v ≡ y → length u ≡ 16 → length v ≡ 16
-    → pick_l 0 (u ++ v) straddling ≡ columns_straddled x y
+pub straddled_is : (x y u v : List ℕ) → map untower u ≡ x → map untower v ≡ y → length u ≡ 16
+    → length v ≡ 16 → map untower (pick_l 0 (u ++ v) straddling) ≡ columns_straddled x y
 unfolding state build columns_straddled
 straddled_is x y u v hx hy l m =
-    same_on_blocks (λ x y. pick_l 0 (x ++ y) straddling) columns_straddled (λ f g. refl) u v l m
+    same_on_blocks (λ x y. map untower (pick_l 0 (x ++ y) straddling))
+    (λ x y. columns_straddled (map untower x) (map untower y)) (λ f g. refl) u v l m
     ∙ (λ i. columns_straddled (hx i) (hy i))
 
 -- ---- stored round keys
 
--- by all bytes: a round key comes back out of the tower basis, as 0x6e stands for 0x63 there
-inner_cases : all_below 256
-    (λ b. key_untower (bit_xor (by_nibbles TOWER_LOW TOWER_HIGH b) 0x6e) == b) ≡ true
-unfolding all_below key_untower
-inner_cases = refl
+-- 0x63, which is 0x6e in the tower basis, is taken out again
+inner_byte : (b : ℕ) → key_untower (bit_xor b 0x6e) ≡ untower b
+unfolding key_untower
+inner_byte b = ap plus63 (untower_sum b 0x6e ∙ ap (bit_xor (untower b)) of_constant)
+    ∙ add_twice (untower b) 0x63
 
--- a round key in the tower basis, with a constant added, stands for that round key
-pub inner_is : (x : List ℕ) → IsBlock x
-    → map key_untower (zip2 bit_xor (map (by_nibbles TOWER_LOW TOWER_HIGH) x)
-    (replicate 16 0x6e)) ≡ x
-inner_is x h =
-    let f = by_nibbles TOWER_LOW TOWER_HIGH in
-    ap (map key_untower) (zip2_splat bit_xor (map f x) 16 0x6e (map_length f x ∙ h.0)
-    ∙ map-map (λ v. bit_xor v 0x6e) f x)
-    ∙ map-map key_untower (λ b. bit_xor (f b) 0x6e) x
-    ∙ maps_same (λ b. key_untower (bit_xor (f b) 0x6e)) (λ b. b) inner_cases x h.1 ∙ map-id x
+-- a round key in the tower basis, with that constant added, is one as it is stored
+pub inner_is : (x : List ℕ) → length x ≡ 16
+    → map key_untower (zip2 bit_xor x (replicate 16 0x6e)) ≡ map untower x
+inner_is x l =
+    ap (map key_untower) (zip2_splat bit_xor x 16 0x6e l)
+    ∙ map-map key_untower (λ v. bit_xor v 0x6e) x ∙ (λ i. map (λ b. inner_byte b i) x)
 
 -- an inner round key as stored, taken out of the tower basis with 0x63 added, is what it stands for
 pub plain_key_is : (x : List ℕ) → length x ≡ 16
-    → zip2 bit_xor (map (by_nibbles UNTOWER_LOW UNTOWER_HIGH) x) (replicate 16 0x63)
-    ≡ map key_untower x
+    → zip2 bit_xor (map untower x) (replicate 16 0x63) ≡ map key_untower x
 unfolding key_untower
-plain_key_is x l =
-    let f = by_nibbles UNTOWER_LOW UNTOWER_HIGH in
-    zip2_splat bit_xor (map f x) 16 0x63 (map_length f x ∙ l) ∙ map-map plus63 f x
+plain_key_is x l = zip2_splat bit_xor (map untower x) 16 0x63 (map_length untower x ∙ l)
+    ∙ map-map plus63 untower x
 
--- the last round key is stored with 0x63 added, and stands for itself
-pub last_key_is : (x : List ℕ) → length x ≡ 16 → map plus63 (zip2 bit_xor x (replicate 16 0x63)) ≡ x
-last_key_is x l = ap (map plus63) (zip2_splat bit_xor x 16 0x63 l) ∙ plus63_twice x
+-- the last round key is stored so, and stands for what it is in the tower basis
+pub last_key_is : (x : List ℕ) → map plus63 (map key_untower x) ≡ map untower x
+unfolding key_untower
+last_key_is x = ap (map plus63) (sym (map-map plus63 untower x)) ∙ plus63_twice (map untower x)

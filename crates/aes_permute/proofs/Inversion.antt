@@ -1,5 +1,5 @@
 -- Stored round keys of Cipher turned into those of EqInvCipher.
-use Rattle.std.proofs.Common.{◌≡◌, inl, inr, ℕ, ◌-◌, ◌<◌, ◌≤◌, List, [], length, map, map-id}
+use Rattle.std.proofs.Common.{◌≡◌, inl, inr, ℕ, ◌-◌, ◌%◌, ◌<◌, ◌≤◌, List, [], length, map, map-id}
 use Rattle.std.proofs.Common.{get_or, ap, refl, sym, ◌∙◌, arith}
 use Rattle.aes_planes.specs.Fips197 as fips
 use Rattle.aes_planes.specs.Planes.{plus63}
@@ -11,7 +11,8 @@ use Rattle.aes_permute.proofs.States.{keys_length, first_key, inner_key, last_ke
 -- place k of the new keys is place last - k of the old, its columns mixed back
 abbrev pub Unmixed : List (List ℕ) → List (List ℕ) → ℕ → Type 0
 Unmixed old new k = map inv_untower (get_or new k [])
-    ≡ fips.inv_mix_columns (map key_untower (get_or old (length old - 1 - k) []))
+    ≡ fips.inv_mix_columns (fips.shift_times ((length old - 1 - k) % 4)
+    (map key_untower (get_or old (length old - 1 - k) [])))
 
 -- place k of the new keys is place last - k of the old
 abbrev pub Moved : List (List ℕ) → List (List ℕ) → ℕ → Type 0

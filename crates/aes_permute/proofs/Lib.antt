@@ -1,5 +1,6 @@
 -- The files of lemmas.
 pub mod ByHalves
+pub mod DeferredRows
 pub mod DirectionLaws
 pub mod ExpandedLanes
 pub mod Expansion

@@ -67,11 +67,14 @@ SumsOfThree v = (a b c : ℕ) → v (bit_xor (bit_xor a b) c) ≡ bit_xor (bit_x
 linear_three : (v : ℕ → ℕ) → ((a b : ℕ) → v (bit_xor a b) ≡ bit_xor (v a) (v b)) → SumsOfThree v
 linear_three v l a b c = l (bit_xor a b) c ∙ ap (λ u. bit_xor u (v c)) (l a b)
 
--- the change of basis takes a sum of three bytes to the sum of what it makes of each
-pub untower_three : SumsOfThree untower
+-- the change of basis takes a sum of two bytes to the sum of what it makes of each
+pub untower_sum : (a b : ℕ) → untower (bit_xor a b) ≡ bit_xor (untower a) (untower b)
 unfolding untower
-untower_three = linear_three untower
-    (by_nibbles_sum UNTOWER_LOW UNTOWER_HIGH untower_linear.0 untower_linear.1)
+untower_sum = by_nibbles_sum UNTOWER_LOW UNTOWER_HIGH untower_linear.0 untower_linear.1
+
+-- and of three
+pub untower_three : SumsOfThree untower
+untower_three = linear_three untower untower_sum
 
 -- the constant of each summand: of three, one is left
 pub inv_untower_three : SumsOfThree inv_untower

@@ -179,7 +179,7 @@ unfolding all_below untower
 tower_cases = refl
 
 -- of each byte of a list
-untowered : (x : List ℕ) → IsBytes x → map untower (map tower x) ≡ x
+pub untowered : (x : List ℕ) → IsBytes x → map untower (map (by_nibbles TOWER_LOW TOWER_HIGH) x) ≡ x
 untowered x h = map-map untower tower x
     ∙ maps_same (λ b. untower (tower b)) (λ b. b) tower_cases x h ∙ map-id x
 
@@ -200,10 +200,11 @@ plain_cases : all_below 256 (λ b. plain b == plus63 (boxed b)) ≡ true
 unfolding all_below first_of second_of untower sbox
 plain_cases = refl
 
--- SubBytes but for the constant
-plain_is : (x : List ℕ) → IsBytes x → map plain x ≡ map plus63 (sub_bytes (map untower x))
+-- SubBytes but for the constant is made of each byte, if a test of all bytes says so
+but_constant : (f : ℕ → ℕ) → all_below 256 (λ b. f b == plus63 (boxed b)) ≡ true → (x : List ℕ)
+    → IsBytes x → map f x ≡ map plus63 (sub_bytes (map untower x))
 unfolding sub_bytes
-plain_is x h = maps_same plain (λ b. plus63 (boxed b)) plain_cases x h
+but_constant f cases x h = maps_same f (λ b. plus63 (boxed b)) cases x h
     ∙ sym (map-map plus63 boxed x)
     ∙ ap (map plus63) (sym (map-map sbox untower x))
 
@@ -239,26 +240,18 @@ unfolding sub_bytes
 last_is x k h m e =
     let y = sub_bytes (map untower x) in
     let l : length y ≡ 16 = map_length sbox (map untower x) ∙ map_length untower x ∙ h.0 in
-    ap (λ v. last_of v k) (e ∙ plain_is x h.1) ∙ ap (λ v. zip2 bit_xor v k) (permuted_plus63 y l)
+    ap (λ v. last_of v k) (e ∙ but_constant plain plain_cases x h.1) ∙ ap (λ v. zip2 bit_xor v k) (permuted_plus63 y l)
     ∙ plus63_across (permuted y same_row) k
     ∙ last_shifted y (map plus63 k) l (map_length plus63 k ∙ m)
 
--- ---- SubBytes of bytes as they are
+-- ---- SubBytes in the tower basis
 
 -- by all bytes
-sub_cases : all_below 256 (λ b. plain (tower b) == plus63 (sbox b)) ≡ true
-unfolding all_below first_of second_of sbox
+sub_cases : all_below 256 (λ b. untower (one b) == plus63 (boxed b)) ≡ true
+unfolding all_below first_of second_of untower sbox
 sub_cases = refl
 
--- bytes brought into the tower basis and looked up at two places
--- are SubBytes of them without its constant
-pub sub_bytes_is : (x : List ℕ) → IsBlock x
-    → zip2 (at_places SBOX_FIRST SBOX_SECOND)
-    (map first_of (map (by_nibbles TOWER_LOW TOWER_HIGH) x))
-    (map second_of (map (by_nibbles TOWER_LOW TOWER_HIGH) x)) ≡ map plus63 (sub_bytes x)
-unfolding sub_bytes
-sub_bytes_is x h =
-    zip2-map (at_places SBOX_FIRST SBOX_SECOND) first_of second_of (map tower x)
-    ∙ map-map plain tower x
-    ∙ maps_same (λ b. plain (tower b)) (λ b. plus63 (sbox b)) sub_cases x h.1
-    ∙ sym (map-map plus63 sbox x)
+-- what is looked up for 1 stands for SubBytes without its constant
+pub sub_bytes_is : (x : List ℕ) → IsBytes x
+    → map untower (map one x) ≡ map plus63 (sub_bytes (map untower x))
+sub_bytes_is x h = map-map untower one x ∙ but_constant (λ b. untower (one b)) sub_cases x h

@@ -1,20 +1,20 @@
 -- States round by round, under stored round keys.
 use Rattle.std.proofs.Common.{◌≡◌, inl, inr, ℕ, ◌+◌, ◌-◌, ◌<◌, ◌≤◌, if◌then◌else◌, List, [], length}
-use Rattle.std.proofs.Common.{map, refl, ap, sym, ◌∙◌, arith}
+use Rattle.std.proofs.Common.{map, refl, ap, sym, subst, ◌∙◌, arith}
 use Rattle.std.proofs.lemmas.Bool.{cases_lt, eq-eqb, ne_eqb}
 use Rattle.std.proofs.lemmas.List.{ext_get_or}
 use Rattle.aes_planes.specs.Fips197 as fips
 use Rattle.aes_planes.specs.Rounds.{rounds_after, all_rounds}
 use Rattle.aes_planes.proofs.Lists.{get_or-build, length-build}
 use Rattle.aes_planes.proofs.Standard.AllRounds.{rounds_more}
-use Rattle.aes_permute.specs.Stored.{key_byte, round_keys_of, LaneForm}
+use Rattle.aes_permute.specs.Stored.{key_of, round_keys_of, LaneForm}
 
 module _ (form : LaneForm) (stored : List (List ℕ)) where
   -- as many round keys are stored as they stand for
   pub keys_length : length (round_keys_of form stored) ≡ length stored
   unfolding round_keys_of
   keys_length = length-build (length stored)
-      (λ i. map (key_byte form (fips.last_round stored) i) (fips.round_key stored i))
+      (λ i. key_of form (fips.last_round stored) i (fips.round_key stored i))
 
   -- and the last of both has the same number
   pub last_is_last : fips.last_round (round_keys_of form stored) ≡ fips.last_round stored
@@ -23,41 +23,45 @@ module _ (form : LaneForm) (stored : List (List ℕ)) where
   -- round key i, as the form stands for it
   key_at : (i : ℕ) → i < length stored
       → fips.round_key (round_keys_of form stored) i
-      ≡ map (key_byte form (fips.last_round stored) i) (fips.round_key stored i)
+      ≡ key_of form (fips.last_round stored) i (fips.round_key stored i)
   unfolding round_keys_of
   key_at i lt = get_or-build (length stored) i
-      (λ i. map (key_byte form (fips.last_round stored) i) (fips.round_key stored i)) [] lt
+      (λ i. key_of form (fips.last_round stored) i (fips.round_key stored i)) [] lt
 
   -- the first stored round key stands for the bytes that `first_byte` makes of it
   pub first_key : 1 ≤ length stored → fips.round_key (round_keys_of form stored) 0
       ≡ map form.first_byte (fips.round_key stored 0)
   first_key some = key_at 0 (omega arith)
 
-  -- one between the first and the last stands for what `inner_byte` makes of it
+  -- one between the first and the last stands for what `inner_byte` makes of it, in its place
   pub inner_key : (i : ℕ) → 1 ≤ i → i < fips.last_round stored
-      → fips.round_key (round_keys_of form stored) i ≡ map form.inner_byte (fips.round_key stored i)
+      → fips.round_key (round_keys_of form stored) i
+      ≡ form.placed i (map form.inner_byte (fips.round_key stored i))
   inner_key i some before =
+      let key = fips.round_key stored i in
       key_at i (omega arith)
-      ∙ (λ j. map (if ne_eqb i 0 (omega arith) j then form.first_byte else
-      if ne_eqb i (fips.last_round stored) (omega arith) j then form.last_byte else form.inner_byte)
-      (fips.round_key stored i))
+      ∙ (λ j. if ne_eqb i 0 (omega arith) j then map form.first_byte key else
+      if ne_eqb i (fips.last_round stored) (omega arith) j then map form.last_byte key
+      else form.placed i (map form.inner_byte key))
 
   -- and the last for what `last_byte` makes of it
   pub last_key : (i : ℕ) → 2 ≤ length stored → i ≡ fips.last_round stored
       → fips.round_key (round_keys_of form stored) i ≡ map form.last_byte (fips.round_key stored i)
   last_key i two e =
+      let key = fips.round_key stored i in
       key_at i (omega arith)
-      ∙ (λ j. map (if ne_eqb i 0 (omega arith) j then form.first_byte else
-      if eq-eqb i (fips.last_round stored) e j then form.last_byte else form.inner_byte)
-      (fips.round_key stored i))
+      ∙ (λ j. if ne_eqb i 0 (omega arith) j then map form.first_byte key else
+      if eq-eqb i (fips.last_round stored) e j then map form.last_byte key
+      else form.placed i (map form.inner_byte key))
 
   -- ---- the three kinds of rounds, on what a state stands for
 
   -- a block plus the first round key is the state before any round
   pub first_state : (step : List ℕ → List ℕ) (state : ℕ → ℕ) (b x : List ℕ) {key : List ℕ}
       → 1 ≤ length stored
-      → map state x ≡ fips.add_round_key b (map form.first_byte key) → key ≡ fips.round_key stored 0
-      → map state x ≡ rounds_after step (round_keys_of form stored) b 0
+      → form.placed 0 (map state x) ≡ fips.add_round_key b (map form.first_byte key)
+      → key ≡ fips.round_key stored 0
+      → form.placed 0 (map state x) ≡ rounds_after step (round_keys_of form stored) b 0
   unfolding rounds_after
   first_state step state b x some e k =
       e ∙ ap (fips.add_round_key b) (ap (map form.first_byte) k ∙ sym (first_key some))
@@ -66,24 +70,28 @@ module _ (form : LaneForm) (stored : List (List ℕ)) where
   pub next_state : (step : List ℕ → List ℕ) (state : ℕ → ℕ) (b x y : List ℕ) {key : List ℕ}
       (i : ℕ) → 1 ≤ i
       → i < fips.last_round stored
-      → map state y ≡ fips.add_round_key (step (map state x)) (map form.inner_byte key)
+      → form.placed i (map state y) ≡ fips.add_round_key (step (form.placed (i - 1) (map state x)))
+      (form.placed i (map form.inner_byte key))
       → key ≡ fips.round_key stored i
-      → map state x ≡ rounds_after step (round_keys_of form stored) b (i - 1)
-      → map state y ≡ rounds_after step (round_keys_of form stored) b (i + 1 - 1)
+      → form.placed (i - 1) (map state x) ≡ rounds_after step (round_keys_of form stored) b (i - 1)
+      → form.placed (i + 1 - 1) (map state y)
+      ≡ rounds_after step (round_keys_of form stored) b (i + 1 - 1)
   next_state step state b x y i some before e k h =
       let n : i ≡ i + 1 - 1 = omega arith in
-      e ∙ (λ j. fips.add_round_key (step (h j))
-      ((ap (map form.inner_byte) k ∙ sym (inner_key i some before)) j))
-      ∙ rounds_more step (round_keys_of form stored) b i some
-      ∙ ap (rounds_after step (round_keys_of form stored) b) n
+      subst (λ m. form.placed m (map state y)
+      ≡ rounds_after step (round_keys_of form stored) b m) n
+      (e ∙ (λ j. fips.add_round_key (step (h j))
+      ((ap (λ k. form.placed i (map form.inner_byte k)) k ∙ sym (inner_key i some before)) j))
+      ∙ rounds_more step (round_keys_of form stored) b i some)
 
   -- the last step and the last round key lead from the state before it to the end of all rounds
   pub last_state : (step last_step : List ℕ → List ℕ) (state : ℕ → ℕ) (b x y : List ℕ)
       {key : List ℕ} (i : ℕ)
       → 2 ≤ length stored → i ≡ fips.last_round stored
-      → y ≡ fips.add_round_key (last_step (map state x)) (map form.last_byte key)
+      → y ≡ fips.add_round_key
+      (last_step (form.placed (fips.last_round stored - 1) (map state x))) (map form.last_byte key)
       → key ≡ fips.round_key stored (fips.last_round stored)
-      → map state x ≡ rounds_after step (round_keys_of form stored) b (i - 1)
+      → form.placed (i - 1) (map state x) ≡ rounds_after step (round_keys_of form stored) b (i - 1)
       → y ≡ all_rounds step last_step (round_keys_of form stored) b
   unfolding all_rounds
   last_state step last_step state b x y {key = key} i two n e k h =
@@ -91,7 +99,9 @@ module _ (form : LaneForm) (stored : List (List ℕ)) where
       let last : map form.last_byte key ≡ fips.round_key (round_keys_of form stored)
       (fips.last_round stored) =
       ap (map form.last_byte) k ∙ sym (last_key (fips.last_round stored) two refl) in
-      e ∙ (λ j. fips.add_round_key (last_step (h j)) (last j))
+      e ∙ (λ j. fips.add_round_key (last_step (form.placed (sym n j - 1) (map state x))) (last j))
+      ∙ (λ j. fips.add_round_key (last_step (h j))
+      (fips.round_key (round_keys_of form stored) (fips.last_round stored)))
       ∙ (λ j. fips.add_round_key
       (last_step (rounds_after step (round_keys_of form stored) b (m j - 1)))
       (fips.round_key (round_keys_of form stored) (sym last_is_last j)))
@@ -101,7 +111,7 @@ pub stored_are : (form : LaneForm) (stored v : List (List ℕ)) → 2 ≤ length
     → length stored ≡ length v
     → map form.first_byte (fips.round_key stored 0) ≡ fips.round_key v 0
     → ((i : ℕ) → 1 ≤ i → i < fips.last_round v
-    → map form.inner_byte (fips.round_key stored i) ≡ fips.round_key v i)
+    → form.placed i (map form.inner_byte (fips.round_key stored i)) ≡ fips.round_key v i)
     → map form.last_byte (fips.round_key stored (fips.last_round v))
     ≡ fips.round_key v (fips.last_round v)
     → round_keys_of form stored ≡ v

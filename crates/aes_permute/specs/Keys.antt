@@ -1,15 +1,16 @@
 -- Stored round keys of a key, and the key that they are read as.
-use Rattle.std.specs.Prelude.{◌≡◌, ◌⊎◌, ℕ, ◌+◌, ◌-◌, ◌*◌, ◌/◌, List, ◌++◌, drop, length, replicate, take}
+use Rattle.std.specs.Prelude.{◌≡◌, ◌⊎◌, ℕ, ◌+◌, ◌-◌, ◌*◌, ◌/◌, ◌%◌, List, ◌++◌, drop, length, replicate, take}
 use Rattle.aes_planes.specs.Fips197 as fips
 use Rattle.aes_planes.specs.Planes.{plus63}
 use Rattle.aes_permute.specs.Stored.{as_is, inv_untower, key_untower, round_keys_of, LaneForm}
 
--- the form of the round keys of Cipher
+-- the form of the round keys of Cipher, whose rounds leave ShiftRows out
 abbrev pub cipher_form : LaneForm
 cipher_form = record {
   first_byte = as_is;
   inner_byte = key_untower;
   last_byte = plus63;
+  placed = λ i s. fips.shift_times (i % 4) s;
   used_keys = λ w. w;
 }
 
@@ -19,6 +20,7 @@ inverse_form = record {
   first_byte = plus63;
   inner_byte = inv_untower;
   last_byte = as_is;
+  placed = λ i s. s;
   used_keys = fips.inverted_keys;
 }
 

@@ -1,5 +1,5 @@
 -- How states and round keys are kept: what a byte of each stands for.
-use Rattle.std.specs.Prelude.{◌≡◌, ℕ, ◌<◌, ◌≤◌, ◌==◌, if◌then◌else◌, List, length, map}
+use Rattle.std.specs.Prelude.{◌≡◌, ℕ, ◌<◌, ◌≤◌, ◌%◌, ◌==◌, if◌then◌else◌, List, length, map}
 use Rattle.aes_planes.specs.Fips197 as fips
 use Rattle.aes_planes.specs.Planes.{plus63}
 use Rattle.aes_permute.specs.Lookup.{by_nibbles}
@@ -28,21 +28,24 @@ pub record LaneForm : Type 0 where
   pub first_byte : ℕ → ℕ
   pub inner_byte : ℕ → ℕ
   pub last_byte : ℕ → ℕ
+  -- where the bytes of a state after so many rounds belong, and of the round key that is added then
+  pub placed : ℕ → List ℕ → List ℕ
   -- the round keys that the rounds use, in their order, of the standard's list
   pub used_keys : List (List ℕ) → List (List ℕ)
 
--- what a byte of stored round key i stands for, by the number of the last
-abbrev pub key_byte : LaneForm → ℕ → ℕ → ℕ → ℕ
-key_byte form last i = if i == 0 then form.first_byte else if i == last then form.last_byte else form.inner_byte
+-- what stored round key i stands for, by the number of the last
+abbrev pub key_of : LaneForm → ℕ → ℕ → List ℕ → List ℕ
+key_of form last i key = if i == 0 then map form.first_byte key else if i == last then map form.last_byte key
+    else form.placed i (map form.inner_byte key)
 
 -- the round keys that stored ones stand for, in their order of use
 unfoldable pub round_keys_of : LaneForm → List (List ℕ) → List (List ℕ)
 unfolding fips.build
 round_keys_of form stored =
-    fips.build (length stored) (λ i. map (key_byte form (fips.last_round stored) i) (fips.round_key stored i))
+    fips.build (length stored) (λ i. key_of form (fips.last_round stored) i (fips.round_key stored i))
 
 -- of stored round keys of Cipher that are written one by one, from 0 to a last one, the one of a number stands for a block
 pub record IsWritten (stored : List (List ℕ)) (last i : ℕ) (x : List ℕ) : Type 0 where
   pub first : i ≡ 0 → fips.round_key stored i ≡ x
-  pub between : 1 ≤ i → i < last → map key_untower (fips.round_key stored i) ≡ x
+  pub between : 1 ≤ i → i < last → fips.shift_times (i % 4) (map key_untower (fips.round_key stored i)) ≡ x
   pub at_last : i ≡ last → map plus63 (fips.round_key stored i) ≡ x

@@ -23,10 +23,10 @@ fn process_vector<D: LaneRounds, L: Lanes>(keys: &[Block], blocks: L) -> L
     let mut x = D::first(blocks, first_key);
     for i in 1..last {
         let key = L::repeated(keys[i]);
-        x = D::round(x, key);
+        x = D::round(x, key, i);
     }
     let last_key = L::repeated(keys[last]);
-    D::last(x, last_key)
+    D::last(x, last_key, last)
 }
 
 // Processes the blocks of two vectors, round by round: the
@@ -45,12 +45,12 @@ fn process_two<D: LaneRounds, L: Lanes>(keys: &[Block], one: L, other: L) -> (L,
     let mut y = D::first(other, first_key);
     for i in 1..last {
         let key = L::repeated(keys[i]);
-        x = D::round(x, key);
-        y = D::round(y, key);
+        x = D::round(x, key, i);
+        y = D::round(y, key, i);
     }
     let last_key = L::repeated(keys[last]);
-    let first = D::last(x, last_key);
-    let second = D::last(y, last_key);
+    let first = D::last(x, last_key, last);
+    let second = D::last(y, last_key, last);
     (first, second)
 }
 

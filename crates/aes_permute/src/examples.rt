@@ -17,15 +17,15 @@ ghost use Rattle.aes_permute.specs.Stored.{untower, inv_untower, key_untower};
 // each as one number, highest byte first.
 const ENCRYPTING: [u128; 11] = [
     0x000102030405060708090a0b0c0d0e0f,
-    0x20dfb6e70df387d72ad5bced20deaafa,
-    0x53838054301e69ed74a5bb6e3a157ffa,
-    0x53fbb6f60d8bb17517406475433b75e1,
+    0x20debcd70ddfaaed2af3b6fa20d587e7,
+    0x53a5806e301569fa7483bb543a1e7fed,
+    0x538b64e10d4075f6173bb67543fbb175,
     0xd0dcdc68b3390373ca170968e74212e7,
-    0x1fdff94dc288945066f1f356efdd8fdf,
-    0x70337990dcd583aed44a1e9655f9ff27,
-    0xc5ca9bd377717613cd5506ebf6c297a2,
+    0x1fddf350c2df8f566688f9dfeff1944d,
+    0x704a7996dcf98327d4331e9055d5ffae,
+    0xc57106a2775597d3cdc29b13f6ca76eb,
     0xd0fd2939c9e231446ad959c1f275a00d,
-    0x4bb90910ec35563ae88261957499aff6,
+    0x4b99613aecb9af95e83509f674825610,
     0x70727e1c80f729749064c4e82e4853a6,
 ];
 
@@ -122,13 +122,13 @@ pub fn key_size_examples()
 #[tactic(auto, unfolding(crate::proofs::OnLiterals::room_on_literals))]
 pub fn room_examples()
     ensures of_16 { key_in_room 16 (bytes 16 0x2b7e151628aed2a6abf7158809cf4f3c
-        ∷ bytes 16 0xe4d7fad83e4b99638ef93333a817aa42 ∷ replicate 13 (replicate 16 0))
+        ∷ bytes 16 0xe41733633ed7aa338e4bfa42a8f999d8 ∷ replicate 13 (replicate 16 0))
         ≡ bytes 16 0x2b7e151628aed2a6abf7158809cf4f3c }
     ensures of_24 { key_in_room 24 (bytes 16 0x8e73b0f7da0e6452c810f32b809079e5
-        ∷ bytes 16 0x01cb510d7a9927a1fa649edcbe72c0c8 ∷ replicate 13 (replicate 16 0))
+        ∷ bytes 16 0x01729ea17acbc0dcfa9951c8be64270d ∷ replicate 13 (replicate 16 0))
         ≡ bytes 24 0x8e73b0f7da0e6452c810f32b809079e562f8ead2522c6b7b }
     ensures of_32 { key_in_room 32 (bytes 16 0x603deb1015ca71be2b73aef0857d7781
-        ∷ bytes 16 0xff39995e2f1c492198b8e8f948c506c1 ∷ replicate 13 (replicate 16 0))
+        ∷ bytes 16 0xffc5e8212f3906f9981c99c148b8495e ∷ replicate 13 (replicate 16 0))
         ≡ bytes 32 0x603deb1015ca71be2b73aef0857d77811f352c073b6108d72d9810a30914dff4 }
 {}
 

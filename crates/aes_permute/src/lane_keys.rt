@@ -1,24 +1,23 @@
 //! The key schedules (FIPS 197, 5.2), four words at a time, and
 //! the form in which round keys are stored.
 
-ghost use Rattle.std.specs.Prelude.{◌≡◌, ◌+◌, ◌/◌, ◌≤◌, length, map};
+ghost use Rattle.std.specs.Prelude.{◌≡◌, ◌+◌, ◌/◌, ◌%◌, ◌<◌, ◌≤◌, ◌∷◌, length, map, replicate, bit_xor};
+ghost use Rattle.std.specs.Simd.Lanes.{zip2};
 ghost use Rattle.aes_planes.specs.Fips197 as fips;
 ghost use Rattle.aes_planes.specs.Planes.{plus63, summed};
 ghost use Rattle.aes_cipher.specs.KeySizes.{IsKeySize};
 ghost use Rattle.aes_permute.specs.Keys.{encrypting, key_of_lanes, AreInverse, IsCipherSchedule};
-ghost use Rattle.aes_permute.specs.Stored.{IsWritten};
+ghost use Rattle.aes_permute.specs.Stored.{untower, key_untower, IsWritten};
 
 use crate::lanes::Lanes;
-use crate::rounds::{encrypting_key, inverted_key};
+use crate::rounds::{encrypting_key, into_tower, inverted_key, out_of_tower, plain_key};
 use crate::sbox::sub_bytes_but_constant;
+use crate::tables::{TOWER_HIGH, TOWER_LOW};
 use aes_planes::expansion::{self, FourWords};
 use aes_planes::laws;
 use aes_planes::soft::sbox::Layers;
 use aes_planes::soft::word::Block;
 use std::simd::prelude::*;
-
-// All bits of the lanes of row 0, and none of the others.
-const FIRST_ROW: [u8; 16] = [0xff, 0, 0, 0, 0xff, 0, 0, 0, 0xff, 0, 0, 0, 0xff, 0, 0, 0];
 
 // The places of the lanes one column and two columns to the left, with none before the first.
 const COLUMN_BEFORE: [u8; 16] = [0x80, 0x80, 0x80, 0x80, 0, 1, 2, 3, 4, 5, 6, 7, 8, 9, 10, 11];
@@ -27,7 +26,7 @@ const TWO_COLUMNS_BEFORE: [u8; 16] = [
     0x80, 0x80, 0x80, 0x80, 0x80, 0x80, 0x80, 0x80, 0, 1, 2, 3, 4, 5, 6, 7,
 ];
 
-// Each column of the result is the sum of the columns up to it,
+// In the tower basis, each column of the result is the sum of the columns up to it,
 // of `start` there, and of `addend` there.
 #[tactic(auto, unfolding(crate::specs::Lookup::is_index))]
 #[inline(always)]
@@ -35,25 +34,54 @@ fn summed_columns(before: u8x16, start: u8x16, addend: u8x16) -> u8x16
     requires before { length before ≡ 16 }
     requires start { length start ≡ 16 }
     requires addend { length addend ≡ 16 }
-    ensures { result ≡ fips.state (λ r c. summed fips.field_add (fips.byte_at before r)
-        (fips.field_add (fips.byte_at start r c) (fips.byte_at addend r c)) c) }
+    ensures { map untower result ≡ fips.state (λ r c. summed fips.field_add
+        (fips.byte_at (map untower before) r) (fips.field_add
+        (fips.byte_at (map untower start) r c) (fips.byte_at (map untower addend) r c)) c) }
 {
     let pairs = before.sum(before.permuted(COLUMN_BEFORE));
     let sums = pairs.sum(pairs.permuted(TWO_COLUMNS_BEFORE));
     (sums ^ addend) ^ start
 }
 
-// The last round key as it is stored.
-#[tactic(auto, using(crate::proofs::ExpandedLanes::last_key_is))]
+// A byte in the tower basis. It is read in memory, so it is no secret.
+#[tactic(auto, using(crate::proofs::ExpandedLanes::byte_is))]
 #[inline(always)]
-fn last_key(x: u8x16) -> u8x16
-    requires { length x ≡ 16 }
-    ensures { map plus63 result ≡ x }
+fn tower_byte(byte: u8) -> u8
+    ensures { untower result ≡ byte }
 {
-    x ^ u8x16::splat(0x63)
+    TOWER_LOW[usize::from(byte & 0x0f)] ^ TOWER_HIGH[usize::from(byte >> 4)]
 }
 
-// The schedule of Cipher, made in vectors: one has four words.
+// Adds a round constant to the first byte: sums of columns bring it to row 0 of each.
+#[inline(always)]
+fn with_constant(words: u8x16, constant: u8) -> u8x16
+    requires { length words ≡ 16 }
+    ensures { map untower result ≡ zip2 bit_xor (map untower words) (constant ∷ replicate 15 0) }
+{
+    let byte = tower_byte(constant);
+    words ^ u8x16::from_array([byte, 0, 0, 0, 0, 0, 0, 0, 0, 0, 0, 0, 0, 0, 0, 0])
+}
+
+// Four words as round key `i` of those from 0 to a last one is stored.
+#[inline(always)]
+fn stored_key(words: u8x16, i: usize, last: usize) -> u8x16
+    requires { 1 ≤ last }
+    ensures first { i ≡ 0 → result ≡ map untower words }
+    ensures between { 1 ≤ i → i < last
+        → fips.shift_times (i % 4) (map key_untower result) ≡ map untower words }
+    ensures at_last { i ≡ last → map plus63 result ≡ map untower words }
+{
+    if i == 0 {
+        return out_of_tower(words);
+    }
+    if i == last {
+        // As those between with the constant of the S-box, but not in the tower basis.
+        return plain_key(words);
+    }
+    encrypting_key(words, i)
+}
+
+// The schedule of Cipher, made in vectors: one has four words, in the tower basis.
 struct LaneKeys;
 
 impl FourWords for LaneKeys {
@@ -61,7 +89,7 @@ impl FourWords for LaneKeys {
 
     type StoredIn = Block;
 
-    ghost AreWords = { λ words block. words ≡ block };
+    ghost AreWords = { λ words block. map untower words ≡ block };
 
     ghost IsStored = { IsWritten };
 
@@ -71,26 +99,25 @@ impl FourWords for LaneKeys {
 
     #[inline(always)]
     fn load(key: &[u8], from: usize) -> u8x16 {
-        u8x16::from_array(*key[from..from + 16].as_array::<16>().unwrap())
+        into_tower(u8x16::from_array(*key[from..from + 16].as_array::<16>().unwrap()))
     }
 
-    // The constant of the S-box is added with the round constant.
     #[inline(always)]
     fn rotated(before: u8x16, last: u8x16, constant: u8, _layers: &mut Layers) -> u8x16 {
-        // Every lane is made at once: bytes that are written one by one would be waited for.
-        let addend = (u8x16::splat(constant) & u8x16::from_array(FIRST_ROW)) ^ u8x16::splat(0x63);
-        let start = sub_bytes_but_constant(last).swizzle([
+        // The rotation comes first: LLVM turns the two look-ups of a sum one by one.
+        let word = last.swizzle([
             13, 14, 15, 12, 13, 14, 15, 12, 13, 14, 15, 12, 13, 14, 15, 12,
         ]);
-        summed_columns(before, start, addend)
+        let start = sub_bytes_but_constant(word);
+        summed_columns(with_constant(before, constant), start, u8x16::splat(0x6e))
     }
 
     #[inline(always)]
     fn substituted(before: u8x16, last: u8x16, _layers: &mut Layers) -> u8x16 {
-        let start = sub_bytes_but_constant(last).swizzle([
+        let word = last.swizzle([
             12, 13, 14, 15, 12, 13, 14, 15, 12, 13, 14, 15, 12, 13, 14, 15,
         ]);
-        summed_columns(before, start, u8x16::splat(0x63))
+        summed_columns(before, sub_bytes_but_constant(word), u8x16::splat(0x6e))
     }
 
     #[inline(always)]
@@ -115,13 +142,7 @@ impl FourWords for LaneKeys {
 
     #[inline(always)]
     fn store(stored: &mut [Block], i: usize, last: usize, words: u8x16) {
-        let key = if i == 0 {
-            words
-        } else if i == last {
-            last_key(words)
-        } else {
-            encrypting_key(words)
-        };
+        let key = stored_key(words, i, last);
         stored[i] = key.to_array();
     }
 }
@@ -152,7 +173,7 @@ pub fn invert_lanes(inverse: &mut [Block], keys: &[Block])
     'keys: for i in 1..last {
         let key = keys[last - i];
         laws::is_block(key);
-        inverse[i] = inverted_key(u8x16::from_array(key)).to_array();
+        inverse[i] = inverted_key(u8x16::from_array(key), last - i).to_array();
     }
     inverse[0] = keys[last];
     inverse[last] = keys[0];

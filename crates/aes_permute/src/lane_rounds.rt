@@ -1,6 +1,6 @@
 //! The two directions, round by round: Cipher, and EqInvCipher for InvCipher. `rounds` has both.
 
-ghost use Rattle.std.specs.Prelude.{◌≡◌, ◌≤◌, ℕ, Bool, List, length, map};
+ghost use Rattle.std.specs.Prelude.{◌≡◌, ◌≤◌, ◌-◌, ℕ, Bool, List, length, map};
 ghost use Rattle.aes_planes.specs.Fips197 as fips;
 ghost use Rattle.aes_planes.specs.Rounds.{all_rounds};
 ghost use Rattle.aes_permute.specs.Stored.{LaneForm};
@@ -25,19 +25,23 @@ pub trait LaneRounds: Direction {
 
     /// Adds the first round key to each block, and returns the states.
     fn first<L: Lanes>(blocks: L, key: L) -> L
-        ensures { (i : ℕ) → map state_byte (L.block result i)
+        ensures { (i : ℕ) → form.placed 0 (map state_byte (L.block result i))
             ≡ fips.add_round_key (L.block blocks i) (map form.first_byte (L.block key i)) };
 
-    /// Runs a round that is not the last.
-    fn round<L: Lanes>(x: L, key: L) -> L
-        ensures { (i : ℕ) → map state_byte (L.block result i)
-            ≡ fips.add_round_key (Self.step (map state_byte (L.block x i)))
-            (map form.inner_byte (L.block key i)) };
+    /// Runs the round of a number, which is not the last.
+    fn round<L: Lanes>(x: L, key: L, number: usize) -> L
+        requires { 1 ≤ number }
+        ensures { (i : ℕ) → form.placed number (map state_byte (L.block result i))
+            ≡ fips.add_round_key
+            (Self.step (form.placed (number - 1) (map state_byte (L.block x i))))
+            (form.placed number (map form.inner_byte (L.block key i))) };
 
-    /// Runs the last round, and returns the blocks.
-    fn last<L: Lanes>(x: L, key: L) -> L
+    /// Runs the last round, which has this number, and returns the blocks.
+    fn last<L: Lanes>(x: L, key: L, number: usize) -> L
+        requires { 1 ≤ number }
         ensures { (i : ℕ) → L.block result i
-            ≡ fips.add_round_key (Self.last_step (map state_byte (L.block x i)))
+            ≡ fips.add_round_key
+            (Self.last_step (form.placed (number - 1) (map state_byte (L.block x i))))
             (map form.last_byte (L.block key i)) };
 
     /// No effect; states that the rounds use as many round keys as there are.

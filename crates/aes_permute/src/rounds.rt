@@ -1,7 +1,7 @@
 //! The rounds of Cipher and EqInvCipher on lanes, and their round keys. States are kept in the
 //! tower basis, and round keys so that the constant of the S-box is added with them.
 
-ghost use Rattle.std.specs.Prelude.{◌≡◌, ℕ, true, false, map, bit_xor};
+ghost use Rattle.std.specs.Prelude.{◌≡◌, ◌%◌, ℕ, true, false, map, bit_xor};
 ghost use Rattle.std.specs.Simd.Lanes.{zip2};
 ghost use Rattle.aes_planes.specs.Fips197 as fips;
 ghost use Rattle.aes_permute.specs.Keys.{cipher_form, inverse_form};
@@ -31,9 +31,9 @@ impl LaneRounds for Encrypt {
         looked_up_by_nibbles(blocks.sum(key), TOWER_LOW, TOWER_HIGH)
     }
 
-    #[tactic(auto, unfolding(crate::specs::Lookup::is_index))]
+    // ShiftRows is left out: each byte is taken from where it is.
     #[inline(always)]
-    fn round<L: Lanes>(x: L, key: L) -> L {
+    fn round<L: Lanes>(x: L, key: L, number: usize) -> L {
         x.are_blocks();
         key.are_blocks();
         let at = places_of(x);
@@ -41,24 +41,21 @@ impl LaneRounds for Encrypt {
         let two = looked_up(at, TWO_FIRST, TWO_SECOND);
         // A byte's double with the next row's byte: a row further on, the same
         // sums hold the rest of the product with 3.
-        let next = one.permuted([5, 6, 7, 4, 9, 10, 11, 8, 13, 14, 15, 12, 1, 2, 3, 0]);
+        let next = one.permuted(NEXT_ROW[number % 4]);
         let pairs = two.sum(next);
-        let first = pairs.permuted([0, 5, 10, 15, 4, 9, 14, 3, 8, 13, 2, 7, 12, 1, 6, 11]);
-        let second = pairs.permuted([5, 10, 15, 0, 9, 14, 3, 4, 13, 2, 7, 8, 1, 6, 11, 12]);
-        let fourth = one.permuted([15, 0, 5, 10, 3, 4, 9, 14, 7, 8, 13, 2, 11, 12, 1, 6]);
+        let second = pairs.permuted(NEXT_ROW[number % 4]);
+        let fourth = one.permuted(ROW_BEFORE[number % 4]);
         let with_key = fourth.sum(key);
-        let most = with_key.sum(first);
+        let most = with_key.sum(pairs);
         most.sum(second)
     }
 
-    #[tactic(auto, unfolding(crate::specs::Lookup::is_index))]
     #[inline(always)]
-    fn last<L: Lanes>(x: L, key: L) -> L {
+    fn last<L: Lanes>(x: L, key: L, number: usize) -> L {
         x.are_blocks();
         key.are_blocks();
         let one = looked_up(places_of(x), SBOX_FIRST, SBOX_SECOND);
-        one.permuted([0, 5, 10, 15, 4, 9, 14, 3, 8, 13, 2, 7, 12, 1, 6, 11])
-            .sum(key)
+        one.permuted(SHIFTED_ROWS[number % 4]).sum(key)
     }
 
     #[tactic(auto, using(crate::proofs::DirectionLaws::same_forward))]
@@ -87,7 +84,8 @@ impl LaneRounds for Decrypt {
 
     #[tactic(auto, unfolding(crate::specs::Lookup::is_index))]
     #[inline(always)]
-    fn round<L: Lanes>(x: L, key: L) -> L {
+    fn round<L: Lanes>(x: L, key: L, number: usize) -> L {
+        let _ = number;
         x.are_blocks();
         key.are_blocks();
         let at = places_of(x);
@@ -108,7 +106,8 @@ impl LaneRounds for Decrypt {
 
     #[tactic(auto, unfolding(crate::specs::Lookup::is_index))]
     #[inline(always)]
-    fn last<L: Lanes>(x: L, key: L) -> L {
+    fn last<L: Lanes>(x: L, key: L, number: usize) -> L {
+        let _ = number;
         x.are_blocks();
         key.are_blocks();
         let one = looked_up(places_of(x), INV_SBOX_FIRST, INV_SBOX_SECOND);
@@ -136,15 +135,32 @@ fn coefficients<L: Lanes>(by_1: L, by_4: L, by_9: L, by_15: L) -> (L, L, L)
     (by_1.sum(by_15), by_15.sum(by_4), by_4.sum(by_9))
 }
 
-/// Returns a round key of Cipher between the first and the last as it is stored.
+/// Returns a block in the tower basis.
 #[inline(always)]
-pub fn encrypting_key(key: u8x16) -> u8x16
-    requires { fips.IsBlock key }
-    ensures { map key_untower result ≡ key }
+pub fn into_tower(block: u8x16) -> u8x16
+    ensures { map untower result ≡ block }
 {
-    // The sum is made after the look-up, which the substitution of the next words makes too. It is
-    // of what is looked up for 0x63.
-    looked_up_by_nibbles(key, TOWER_LOW, TOWER_HIGH) ^ u8x16::splat(0x6e)
+    block.are_blocks();
+    looked_up_by_nibbles(block, TOWER_LOW, TOWER_HIGH)
+}
+
+/// Returns the block that bytes in the tower basis stand for.
+#[inline(always)]
+pub fn out_of_tower(x: u8x16) -> u8x16
+    ensures { result ≡ map untower x }
+{
+    looked_up_by_nibbles(x, UNTOWER_LOW, UNTOWER_HIGH)
+}
+
+/// Returns round key `number` of Cipher, between the first and the last, as it is stored, of what it
+/// is in the tower basis: its rows are shifted back as often as ShiftRows was left out before.
+#[inline(always)]
+pub fn encrypting_key(key: u8x16, number: usize) -> u8x16
+    ensures { fips.shift_times (number % 4) (map key_untower result) ≡ map untower key }
+{
+    key.are_blocks();
+    // 0x6e is 0x63 in the tower basis.
+    key.permuted(SHIFTED_ROWS[(4 - number % 4) % 4]) ^ u8x16::splat(0x6e)
 }
 
 /// Returns a round key of EqInvCipher between the first and the last as it is stored: InvMixColumns
@@ -168,20 +184,23 @@ pub fn decrypting_key(key: u8x16) -> u8x16
     most.sum(second)
 }
 
-// The round key that a stored one of Cipher stands for, between the first and the last.
+/// Returns the round key that a stored one of Cipher stands for, between the first and the last.
 #[inline(always)]
-fn plain_key(stored: u8x16) -> u8x16
+pub fn plain_key(stored: u8x16) -> u8x16
     requires { fips.IsBlock stored }
     ensures { result ≡ map key_untower stored }
 {
-    looked_up_by_nibbles(stored, UNTOWER_LOW, UNTOWER_HIGH) ^ u8x16::splat(0x63)
+    out_of_tower(stored) ^ u8x16::splat(0x63)
 }
 
-/// Turns a stored round key of Cipher into one of EqInvCipher, between the first and the last.
+/// Turns stored round key `number` of Cipher into one of EqInvCipher, between the first and the last.
 #[inline(always)]
-pub fn inverted_key(stored: u8x16) -> u8x16
+pub fn inverted_key(stored: u8x16, number: usize) -> u8x16
     requires { fips.IsBlock stored }
-    ensures { map inv_untower result ≡ fips.inv_mix_columns (map key_untower stored) }
+    ensures { map inv_untower result ≡ fips.inv_mix_columns
+        (fips.shift_times (number % 4) (map key_untower stored)) }
 {
-    decrypting_key(plain_key(stored))
+    let key = plain_key(stored).permuted(SHIFTED_ROWS[number % 4]);
+    key.are_blocks();
+    decrypting_key(key)
 }

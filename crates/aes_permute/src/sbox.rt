@@ -7,9 +7,10 @@ ghost use Rattle.aes_planes.specs.Fips197 as fips;
 ghost use Rattle.aes_planes.specs.Planes.{plus63};
 ghost use Rattle.aes_permute.specs.Lookup.{AreIndices};
 ghost use Rattle.aes_permute.specs.Inverse.{first_of, second_of, at_places};
+ghost use Rattle.aes_permute.specs.Stored.{untower};
 
-use crate::lanes::{Lanes, looked_up_by_nibbles};
-use crate::tables::{INVERSE, SBOX_FIRST, SBOX_SECOND, SCALED_INVERSE, TOWER_HIGH, TOWER_LOW};
+use crate::lanes::Lanes;
+use crate::tables::{INVERSE, ONE_FIRST, ONE_SECOND, SCALED_INVERSE};
 use std::simd::prelude::*;
 
 /// The two places of an inverse in the field, lane by lane. What is linear in the inverse is the
@@ -59,12 +60,11 @@ pub fn looked_up<L: Lanes>(at: TwoPlaces<L>, first: [u8; 16], second: [u8; 16]) 
     by_first.sum(by_second)
 }
 
-/// SubBytes of a block as it is, but for the constant of the S-box (FIPS 197, 5.1.1).
+/// SubBytes of a block in the tower basis, but for the constant of the S-box (FIPS 197, 5.1.1).
 #[inline(always)]
 pub fn sub_bytes_but_constant(x: u8x16) -> u8x16
     requires block { fips.IsBlock x }
-    ensures { result ≡ map plus63 (fips.sub_bytes x) }
+    ensures { map untower result ≡ map plus63 (fips.sub_bytes (map untower x)) }
 {
-    let tower = looked_up_by_nibbles(x, TOWER_LOW, TOWER_HIGH);
-    looked_up(places_of(tower), SBOX_FIRST, SBOX_SECOND)
+    looked_up(places_of(x), ONE_FIRST, ONE_SECOND)
 }

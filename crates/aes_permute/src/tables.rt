@@ -150,3 +150,31 @@ pub const KEY_15_LOW: [u8; 16] = [
 pub const KEY_15_HIGH: [u8; 16] = [
     0x00, 0x33, 0x4e, 0x7d, 0xee, 0xdd, 0xa0, 0x93, 0x89, 0xba, 0xc7, 0xf4, 0x67, 0x54, 0x29, 0x1a,
 ];
+
+// Statics, as they are read at places that are known only when they run: a constant would be copied
+// to the stack first.
+
+/// The places of ShiftRows, by how many there are (FIPS 197, 5.1.2).
+pub static SHIFTED_ROWS: [[u8; 16]; 4] = [
+    [0, 1, 2, 3, 4, 5, 6, 7, 8, 9, 10, 11, 12, 13, 14, 15],
+    [0, 5, 10, 15, 4, 9, 14, 3, 8, 13, 2, 7, 12, 1, 6, 11],
+    [0, 9, 2, 11, 4, 13, 6, 15, 8, 1, 10, 3, 12, 5, 14, 7],
+    [0, 13, 10, 7, 4, 1, 14, 11, 8, 5, 2, 15, 12, 9, 6, 3],
+];
+
+/// Where each byte finds the next one of its column after some ShiftRows, before which the bytes
+/// still stand: by how many there are.
+pub static NEXT_ROW: [[u8; 16]; 4] = [
+    [1, 2, 3, 0, 5, 6, 7, 4, 9, 10, 11, 8, 13, 14, 15, 12],
+    [5, 6, 7, 4, 9, 10, 11, 8, 13, 14, 15, 12, 1, 2, 3, 0],
+    [9, 10, 11, 8, 13, 14, 15, 12, 1, 2, 3, 0, 5, 6, 7, 4],
+    [13, 14, 15, 12, 1, 2, 3, 0, 5, 6, 7, 4, 9, 10, 11, 8],
+];
+
+/// And where it finds the one before.
+pub static ROW_BEFORE: [[u8; 16]; 4] = [
+    [3, 0, 1, 2, 7, 4, 5, 6, 11, 8, 9, 10, 15, 12, 13, 14],
+    [15, 12, 13, 14, 3, 0, 1, 2, 7, 4, 5, 6, 11, 8, 9, 10],
+    [11, 8, 9, 10, 15, 12, 13, 14, 3, 0, 1, 2, 7, 4, 5, 6],
+    [7, 4, 5, 6, 11, 8, 9, 10, 15, 12, 13, 14, 3, 0, 1, 2],
+];

@@ -1,4 +1,5 @@
 -- The files of lemmas.
+pub mod Chains
 pub mod Doubling
 pub mod OnLiterals
 pub mod Padding

@@ -5,13 +5,18 @@ use Rattle.std.specs.Prelude.{⊤}
 use Rattle.std.specs.List.{slice_range}
 use Rattle.aes_planes.specs.Fips197.{build, cipher_with, add_round_key}
 use Rattle.aes_planes.proofs.OnLiterals.{aes_on_literals}
-use Rattle.cmac.specs.Cmac.{doubled_block, subkey_1, subkey_2, before_last, complete_block}
-use Rattle.cmac.specs.Cmac.{last_block, chained, cmac}
+use Rattle.cmac.specs.Chain.{block_at, chained}
+use Rattle.cmac.specs.Cmac.{doubled_block, subkey_1, subkey_2, before_last, last_block, cmac}
 
 -- the definitions to unfold, so that CMAC on literals is computed
 unfoldable pub cmac_on_literals : ⊤
 unfolding aes_on_literals build doubled_block
 cmac_on_literals = tt
+
+-- the definitions that the rules of examples state
+unfoldable pub cmac_rules : ⊤
+unfolding before_last complete_block chained cmac
+cmac_rules = tt
 
 -- the last block by the cipher of the block of zeros, l
 unfoldable pub last_by : List ℕ → List ℕ → List ℕ
@@ -25,7 +30,7 @@ rest_after n message = slice_range message (16 * n) (length message)
 
 -- the tag, by the cipher of the block of zeros and the chaining value before the last block
 pub by_steps : (w : List (List ℕ)) (message l value : List ℕ) → cipher_with w (replicate 16 0) ≡ l
-    → chained w message (before_last (length message)) ≡ value
+    → chained w (replicate 16 0) message (before_last (length message)) ≡ value
     → cmac w message
     ≡ cipher_with w (add_round_key value
     (last_by l (rest_after (before_last (length message)) message)))
@@ -36,8 +41,10 @@ by_steps w message l value zeros before =
     ∙ ap (λ z. cipher_with w (add_round_key value (last_by z rest))) zeros
 
 -- one step of the chain
-pub next_step : (w : List (List ℕ)) (message value : List ℕ) (i : ℕ) → chained w message i ≡ value
-    → chained w message (suc i) ≡ cipher_with w (add_round_key value (complete_block message i))
+pub next_step : (w : List (List ℕ)) (message value : List ℕ) (i : ℕ)
+    → chained w (replicate 16 0) message i ≡ value
+    → chained w (replicate 16 0) message (suc i)
+    ≡ cipher_with w (add_round_key value (block_at message i))
 unfolding chained
 next_step w message value i before =
-    ap (λ v. cipher_with w (add_round_key v (complete_block message i))) before
+    ap (λ v. cipher_with w (add_round_key v (block_at message i))) before

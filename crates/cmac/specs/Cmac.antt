@@ -1,11 +1,12 @@
 -- CMAC (SP 800-38B) over a block cipher of 16 bytes, given by its round keys w: CIPH_K is Cipher of FIPS 197 under them.
 -- A byte is a number below 2 ^ 8, a block a list of 16 bytes; section and step numbers are those of SP 800-38B.
-use Rattle.std.specs.Prelude.{ℕ, zero, suc, ◌+◌, ◌-◌, ◌*◌, ◌/◌, ◌%◌, ◌^◌, ◌==◌, if◌then◌else◌, List, ◌∷◌, ◌++◌}
+use Rattle.std.specs.Prelude.{ℕ, ◌-◌, ◌*◌, ◌/◌, ◌%◌, ◌^◌, ◌==◌, if◌then◌else◌, List, ◌∷◌, ◌++◌}
 use Rattle.std.specs.Prelude.{length, replicate}
 use Rattle.std.specs.List.{slice_range}
 use Rattle.std.specs.Int.{w128, to_be_bytes, from_be_bytes}
 use Rattle.std.specs.Int.Bits.{bit_xor}
 use Rattle.aes_planes.specs.Fips197 as fips
+use Rattle.cmac.specs.Chain.{chained}
 
 -- ---- subkeys (6.1), on blocks read as numbers, the first bit the highest
 
@@ -44,26 +45,16 @@ subkey_2 w = doubled_block (subkey_1 w)
 unfoldable pub before_last : ℕ → ℕ
 before_last bytes = (bytes - 1) / 16
 
--- M_i for i from 1 to n - 1, here counted from 0 (step 3)
-unfoldable pub complete_block : List ℕ → ℕ → List ℕ
-complete_block message i = slice_range message (16 * i) (16 * i + 16)
-
 -- M_n, of M_n*: plus K1 if that is complete; else with a bit 1 and zeros behind it, plus K2 (step 4)
 unfoldable pub last_block : List (List ℕ) → List ℕ → List ℕ
 unfolding subkey_1 subkey_2
 last_block w rest = if length rest == 16 then fips.add_round_key (subkey_1 w) rest
     else fips.add_round_key (subkey_2 w) (rest ++ 0x80 ∷ replicate (15 - length rest) 0)
 
--- C_i for i below n: the cipher of C_(i-1) plus M_i, after zeros (steps 5 and 6)
-unfoldable pub chained : List (List ℕ) → List ℕ → ℕ → List ℕ
-unfolding complete_block
-chained w message zero = replicate 16 0
-chained w message (suc i) = fips.cipher_with w (fips.add_round_key (chained w message i) (complete_block message i))
-
--- the tag of 128 bits: C_n (steps 6 and 7)
+-- the tag of 128 bits: C_n, where C_i for i below n is the cipher of C_(i-1) plus M_i, after zeros (steps 5 to 7)
 unfoldable pub cmac : List (List ℕ) → List ℕ → List ℕ
 unfolding before_last last_block chained
 cmac w message =
     let n = before_last (length message) in
     let rest = slice_range message (16 * n) (length message) in
-    fips.cipher_with w (fips.add_round_key (chained w message n) (last_block w rest))
+    fips.cipher_with w (fips.add_round_key (chained w (replicate 16 0) message n) (last_block w rest))

@@ -3,10 +3,12 @@
 //!
 //! `bytes n 0x..` is the n bytes that these digits write.
 
-ghost use Rattle.std.specs.Prelude.{◌≡◌, [], ◌++◌};
+ghost use Rattle.std.specs.Prelude.{◌≡◌, ◌<◌, ◌≤◌, ℕ, ◌+◌, ◌*◌, List, [], ◌++◌, length, replicate};
+ghost use Rattle.std.specs.List.{slice_range};
 ghost use Rattle.aes_planes.specs.BigEndian.{bytes};
 ghost use Rattle.aes_planes.specs.Fips197 as fips;
-ghost use Rattle.cmac.specs.Cmac.{doubled_block, subkey_1, subkey_2, cmac};
+ghost use Rattle.cmac.specs.Cmac.{doubled_block, subkey_1, subkey_2, before_last, last_block};
+ghost use Rattle.cmac.specs.Cmac.{chained, cmac};
 
 // The blocks that the examples encrypt: the block of zeros, those of the messages with 40 and with
 // 64 bytes in their order, and the last ones of all four.
@@ -54,6 +56,23 @@ pub fn doubled_examples()
         ≡ bytes 16 0xf7ddac306ae266ccf90bc11ee46d513b }
     ensures first_bit_alone { doubled_block (bytes 16 0x80000000000000000000000000000000)
         ≡ bytes 16 0x87 }
+{}
+
+/// Each block but the last is chained as the first one is, however many come before it, and the last
+/// one has 1 to 16 bytes, of a message that has some (6.2, steps 2 to 6).
+#[tactic(auto, unfolding(crate::proofs::OnLiterals::cmac_rules))]
+pub fn chain_rules()
+    ensures none { before_last 0 ≡ 0 }
+    ensures least { (n : ℕ) → 1 ≤ n → 16 * before_last n < n }
+    ensures most { (n : ℕ) → n ≤ 16 * before_last n + 16 }
+    ensures begun { (w : List (List ℕ)) (message : List ℕ) → chained w message 0 ≡ replicate 16 0 }
+    ensures next { (w : List (List ℕ)) (message : List ℕ) (i : ℕ) → chained w message (i + 1)
+        ≡ fips.cipher_with w (fips.add_round_key (chained w message i)
+        (slice_range message (16 * i) (16 * i + 16))) }
+    ensures tag { (w : List (List ℕ)) (message : List ℕ) → cmac w message
+        ≡ fips.cipher_with w (fips.add_round_key
+        (chained w message (before_last (length message))) (last_block w (slice_range message
+        (16 * before_last (length message)) (length message)))) }
 {}
 
 /// The subkeys and the tags of messages of 0, 16, 40 and 64 bytes.

@@ -1,8 +1,9 @@
 //! Tags of messages.
 
-ghost use Rattle.std.specs.Prelude.{◌≡◌, ◌↔◌, ◌≤◌, length, IsTrue};
+ghost use Rattle.std.specs.Prelude.{◌≡◌, ◌↔◌, ◌≤◌, length, take, IsTrue};
 ghost use Rattle.cmac.specs.Cmac.{last_block, cmac};
 
+use crate::chaining::{begins_with, chain};
 use crate::subkeys::subkeys;
 use aes_cipher::blocks::{blocks_equal, sum_of_blocks};
 use aes_cipher::cipher::{Block, BlockCipherEncrypt};
@@ -24,18 +25,13 @@ fn last_block<C: BlockCipherEncrypt>(cipher: &C, rest: &[u8]) -> Block
 }
 
 /// Returns the tag of a message (SP 800-38B, 6.2), all 16 bytes of it. Use a key for tags alone.
-#[tactic(auto, unfolding(crate::specs::Cmac::cmac, crate::specs::Cmac::chained, crate::specs::Cmac::complete_block))]
+#[inline(never)]
 pub fn tag<C: BlockCipherEncrypt>(cipher: &C, message: &[u8]) -> Block
     ensures { result ≡ cmac (C.round_keys cipher.now) message.now }
 {
     let before = message.len().saturating_sub(1) / 16;
     let mut value = [0; 16];
-    for i in 0..before {
-        let mut block = [0; 16];
-        block.copy_from_slice(&message[16 * i..16 * i + 16]);
-        value = sum_of_blocks(&value, &block);
-        cipher.encrypt_block(&mut value);
-    }
+    chain(cipher, &mut value, &message[..16 * before]);
     let last = last_block(cipher, &message[16 * before..]);
     value = sum_of_blocks(&value, &last);
     cipher.encrypt_block(&mut value);
@@ -47,4 +43,15 @@ pub fn is_tag<C: BlockCipherEncrypt>(cipher: &C, message: &[u8], claimed: &Block
     ensures { IsTrue result ↔ (claimed.now ≡ cmac (C.round_keys cipher.now) message.now) }
 {
     blocks_equal(claimed, &tag(cipher, message))
+}
+
+/// Returns whether these are the first bytes of the tag of a message, 16 at most: a tag of so many
+/// bytes (6.2, step 7). Compares without an early exit.
+#[inline(never)]
+pub fn is_tag_start<C: BlockCipherEncrypt>(cipher: &C, message: &[u8], claimed: &[u8]) -> bool
+    requires { length claimed.now ≤ 16 }
+    ensures { IsTrue result ↔ (claimed.now
+        ≡ take (length claimed.now) (cmac (C.round_keys cipher.now) message.now)) }
+{
+    begins_with(&tag(cipher, message), claimed)
 }

@@ -4,12 +4,17 @@ use Rattle.std.specs.Prelude.{⊤}
 use Rattle.aes_planes.specs.Fips197.{build, build_from, cipher}
 use Rattle.aes_planes.specs.BigEndian.{bytes}
 use Rattle.ctr_drbg.specs.CtrDrbg.{State, padded, exclusive_or, v_after, temp_after, turns, output}
-use Rattle.ctr_drbg.specs.CtrDrbg.{update, instantiate, reseed}
+use Rattle.ctr_drbg.specs.CtrDrbg.{update, instantiate, reseed, next_v}
 
 -- the definitions to unfold, so that strings on literals are computed
 unfoldable pub strings_on_literals : ⊤
 unfolding bytes build build_from padded exclusive_or instantiate reseed update
 strings_on_literals = tt
+
+-- the definitions of a turn, so that V on literals is counted on
+unfoldable pub turns_on_literals : ⊤
+unfolding bytes next_v v_after temp_after
+turns_on_literals = tt
 
 -- the state whose Key and V are temp
 abbrev pub state_of : List ℕ → ℕ → State

@@ -5,11 +5,12 @@
 //!
 //! `bytes n 0x..` is the n bytes that these digits write.
 
-ghost use Rattle.std.specs.Prelude.{◌≡◌, ℕ, ◌+◌, ◌^◌, List, [], ◌∷◌, replicate};
+ghost use Rattle.std.specs.Prelude.{◌≡◌, ◌<◌, ◌≤◌, ℕ, ◌+◌, ◌*◌, ◌^◌, List, [], ◌∷◌, ◌++◌, replicate};
 ghost use Rattle.aes_planes.specs.BigEndian.{bytes};
 ghost use Rattle.aes_planes.specs.Fips197 as fips;
-ghost use Rattle.ctr_drbg.specs.CtrDrbg.{State, padded, exclusive_or, instantiate, reseed};
-ghost use Rattle.ctr_drbg.specs.CtrDrbg.{generate, returned_bits, turns};
+ghost use Rattle.ctr_drbg.specs.CtrDrbg.{State, padded, exclusive_or, instantiate, reseed, update};
+ghost use Rattle.ctr_drbg.specs.CtrDrbg.{generate, prepared, returned_bits, turns};
+ghost use Rattle.ctr_drbg.specs.CtrDrbg.{next_v, v_after, temp_after};
 
 /// A string is padded behind it; a personalization string is summed with the first bytes of the
 /// entropy input, here 20 with ff; and a reseed of the state of zeros is an instantiation.
@@ -36,6 +37,35 @@ pub fn turn_examples()
     ensures block { turns 16 ≡ 1 }
     ensures byte_more { turns 17 ≡ 2 }
     ensures most { turns (2 ^ 16) ≡ 4096 }
+{}
+
+/// Blocks that fill so many bytes, whatever their number, and no block more than that.
+#[tactic(auto, unfolding(crate::specs::CtrDrbg::turns))]
+pub fn enough_turns()
+    ensures enough { (n : ℕ) → n ≤ 16 * turns n }
+    ensures needed { (n : ℕ) → 16 * turns n < n + 16 }
+{}
+
+/// V is counted on by one in each turn, as a number of 128 bits whose highest byte is first, and the
+/// cipher of each V comes behind those before it (10.2.1.2, step 2).
+#[tactic(auto, unfolding(crate::proofs::OnLiterals::turns_on_literals))]
+pub fn turn_rules()
+    ensures carried { next_v (bytes 16 0x00000000000000ffffffffffffffffff)
+        ≡ bytes 16 0x00000000000001000000000000000000 }
+    ensures wrapped { next_v (replicate 16 0xff) ≡ replicate 16 0 }
+    ensures counted { (v : List ℕ) (i : ℕ) → v_after v (i + 1) ≡ next_v (v_after v i) }
+    ensures begun { (key v : List ℕ) → temp_after key v 0 ≡ [] }
+    ensures added { (key v : List ℕ) (i : ℕ) → temp_after key v (i + 1)
+        ≡ temp_after key v i ++ fips.cipher key (v_after v (i + 1)) }
+{}
+
+/// An additional input of any length but 0 is padded, and updates the state before the output; an
+/// empty one changes nothing then (10.2.1.5.1, step 2).
+#[tactic(auto, unfolding(crate::specs::CtrDrbg::prepared))]
+pub fn additional_input_rules()
+    ensures some { (x : ℕ) (xs : List ℕ) (s : State)
+        → prepared (x ∷ xs) s ≡ update (padded (x ∷ xs)) s }
+    ensures none { (s : State) → prepared [] s ≡ s }
 {}
 
 /// Whatever reseed_counter was, a reseed sets it to 1, and a request counts it on.

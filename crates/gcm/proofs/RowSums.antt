@@ -11,7 +11,7 @@ use Rattle.aes_planes.specs.Fips197.{IsBlock}
 use Rattle.aes_permute.specs.Lookup.{by_nibbles}
 use Rattle.aes_permute.proofs.ByHalves.{zip2_take, zip2_drop}
 use Rattle.gcm.specs.Gcm.{v_at}
-use Rattle.gcm.specs.Multiples.{folded, reduced, IsTable, HasRows, subkey_in, row_number, place_of}
+use Rattle.gcm.specs.Multiples.{folded, reduced, IsTable, HasRows, subkey_in, row_number}
 use Rattle.gcm.proofs.Linear.{exchanged, v_keeps, v_add}
 use Rattle.gcm.proofs.Counting.{block_below}
 use Rattle.gcm.proofs.Reduction.{rows_after, folded_keeps, reduced_next}

@@ -1,5 +1,5 @@
 -- Messages that come in pieces: what is kept of them, by what has come so far.
-use Rattle.std.specs.Prelude.{◌≡◌, ℕ, ◌==◌, if◌then◌else◌, ◌-◌, ◌*◌, ◌/◌, ◌%◌, ◌^◌, ◌<◌, ◌≤◌, ◌⊎◌}
+use Rattle.std.specs.Prelude.{◌≡◌, ◌≢◌, ℕ, ◌==◌, if◌then◌else◌, ◌-◌, ◌*◌, ◌/◌, ◌%◌, ◌^◌, ◌<◌, ◌≤◌, ◌⊎◌}
 use Rattle.std.specs.Prelude.{List, [], length, replicate, take, drop}
 use Rattle.std.specs.Int.{w128, from_be_bytes}
 use Rattle.gcm.specs.Gcm.{hashed, padded, hash_subkey, pre_counter}
@@ -17,6 +17,14 @@ phase_of n =
     else if n == 4 then Decrypting
     else NoMessage
 
+-- text of a phase may come: it has, or additional data may
+abbrev pub IsTurn : Phase → Message → Type 0
+IsTurn turn m = (phase_of m.phase ≡ Additional) ⊎ (phase_of m.phase ≡ turn)
+
+-- no text of a phase may come
+abbrev pub IsOutOfTurn : Phase → Message → Type 0
+IsOutOfTurn turn m = (phase_of m.phase ≢ Additional) × (phase_of m.phase ≢ turn)
+
 -- GHASH, from the value y on, after the whole blocks of a string, and the bytes of it behind them
 pub record IsHashing (h y : ℕ) (s : List ℕ) (v : ℕ) (block : List ℕ) : Type 0 where
   pub value : v ≡ hashed h y s (length s / 16)
@@ -33,6 +41,7 @@ pub record IsBegun (w : List (List ℕ)) (iv a : List ℕ) (m : Message) : Type 
   pub additional : m.additional ≡ length a
   pub short : length a < 2 ^ 61
   pub text : m.text ≡ 0
+  pub decrypted : m.decrypted ≡ 0
   pub hashing : IsHashing (hash_subkey w) 0 a (from_be_bytes w128 m.value) m.rest
 
 -- the additional data a has come and then the cipher text c, and more of it may come in the same
@@ -45,6 +54,7 @@ pub record IsInText (turn : Phase) (w : List (List ℕ)) (iv a c : List ℕ)
   pub short : length a < 2 ^ 61
   pub text : m.text ≡ length c
   pub short_text : length c ≤ 2 ^ 36 - 32
+  pub decrypted : m.decrypted ≡ 0
   pub hashing : IsHashing (hash_subkey w) (hashed_padded (hash_subkey w) a) c
       (from_be_bytes w128 m.value) m.rest
 
@@ -67,6 +77,14 @@ pub record IsDecrypting (w : List (List ℕ)) (iv : List ℕ) (n : ℕ) (c : Lis
   pub first : from_be_bytes w128 m.first ≡ pre_counter (hash_subkey w) iv
   pub text : m.text ≡ n
   pub decrypted : m.decrypted ≡ length c
+
+-- what a message keeps while its text comes once more, to be decrypted: all but how much has come
+pub record IsKept (before after : Message) : Type 0 where
+  pub first : after.first ≡ before.first
+  pub additional : after.additional ≡ before.additional
+  pub text : after.text ≡ before.text
+  pub value : after.value ≡ before.value
+  pub rest : after.rest ≡ before.rest
 
 -- nothing is left of a message
 abbrev pub no_message : Message

@@ -3,12 +3,11 @@
 ghost use Rattle.std.specs.Prelude.{◌≡◌, ◌≢◌, ◌↔◌, ◌⊎◌, ◌+◌, ◌-◌, ◌/◌, ◌%◌, ◌^◌, ◌<◌, ◌≤◌, ℕ, List};
 ghost use Rattle.std.specs.Prelude.{[], ◌++◌, length, replicate, drop, IsOk, IsErr, IsErrOf};
 ghost use Rattle.std.specs.Prelude.{IsTrue, IfOk, OnOk, OnErr};
-ghost use Rattle.std.specs.Int.{w128, from_be_bytes};
-ghost use Rattle.aes_ctr.specs.CounterMode.{plus_stream};
 ghost use Rattle.gcm.specs.Gcm as nist;
 ghost use Rattle.gcm.specs.Gcm.{nonce_number, IsShortTag};
 ghost use Rattle.gcm.specs.Pieces.{hashed_padded, IsBegun, IsInText, IsAt, IsEncrypting};
-ghost use Rattle.gcm.specs.Pieces.{IsVerifying, IsDecrypting, no_message, phase_of};
+ghost use Rattle.gcm.specs.Pieces.{IsOutOfTurn, IsTurn, IsVerifying, IsDecrypting, IsKept};
+ghost use Rattle.gcm.specs.Pieces.{no_message, phase_of};
 ghost use Rattle.gcm.specs.declared.message.Phase.{Phase};
 
 use crate::counter::Counter;
@@ -26,8 +25,7 @@ use aes_cipher::zeroize::{Zeroize, wipe_stack};
 
 // Whether text of a phase may come: it has, or additional data may.
 fn is_turn(message: &Message, phase: Phase) -> bool
-    ensures { IsTrue result ↔ ((phase_of message.now.phase ≡ Phase.Additional)
-        ⊎ (phase_of message.now.phase ≡ phase)) }
+    ensures { IsTrue result ↔ IsTurn phase message.now }
 {
     let now = phase_of(message.phase);
     now == Phase::Additional || now == phase
@@ -168,10 +166,8 @@ impl<'a, C: BlockCipherEncrypt, R: HashRoom> LentGcm<'a, C, R> {
     /// then unchanged.
     pub fn encrypt_piece(&self, message: &mut Message, text: &mut [u8]) -> Result<(), InvalidPiece>
         ensures out_of_turn { IsErrOf result InvalidPiece.OutOfTurn
-            ↔ ((phase_of message.old.phase ≢ Phase.Additional)
-            × (phase_of message.old.phase ≢ Phase.Encrypting)) }
-        ensures refusal { IsErr result ↔ (((phase_of message.old.phase ≢ Phase.Additional)
-            × (phase_of message.old.phase ≢ Phase.Encrypting))
+            ↔ IsOutOfTurn Phase.Encrypting message.old }
+        ensures refusal { IsErr result ↔ (IsOutOfTurn Phase.Encrypting message.old
             ⊎ (2 ^ 36 - 32 < message.old.text + length text.old)) }
         ensures encrypted { OnOk result ((iv a p c : List ℕ)
             → IsEncrypting self.now iv a c message.old
@@ -196,8 +192,7 @@ impl<'a, C: BlockCipherEncrypt, R: HashRoom> LentGcm<'a, C, R> {
     /// message is then unchanged.
     pub fn finish(&self, message: &mut Message) -> Result<Block, OutOfTurn>
         ensures out_of_turn { IsErr result
-            ↔ ((phase_of message.old.phase ≢ Phase.Additional)
-            × (phase_of message.old.phase ≢ Phase.Encrypting)) }
+            ↔ IsOutOfTurn Phase.Encrypting message.old }
         ensures tag { IfOk result (λ tag. (iv a c : List ℕ)
             → IsEncrypting self.now iv a c message.old
             → tag ≡ nist.tag self.now iv a c) }
@@ -224,10 +219,8 @@ impl<'a, C: BlockCipherEncrypt, R: HashRoom> LentGcm<'a, C, R> {
     /// message is then unchanged.
     pub fn verify_piece(&self, message: &mut Message, text: &[u8]) -> Result<(), InvalidPiece>
         ensures out_of_turn { IsErrOf result InvalidPiece.OutOfTurn
-            ↔ ((phase_of message.old.phase ≢ Phase.Additional)
-            × (phase_of message.old.phase ≢ Phase.Verifying)) }
-        ensures refusal { IsErr result ↔ (((phase_of message.old.phase ≢ Phase.Additional)
-            × (phase_of message.old.phase ≢ Phase.Verifying))
+            ↔ IsOutOfTurn Phase.Verifying message.old }
+        ensures refusal { IsErr result ↔ (IsOutOfTurn Phase.Verifying message.old
             ⊎ (2 ^ 36 - 32 < message.old.text + length text.now)) }
         ensures added { OnOk result ((iv a c : List ℕ) → IsVerifying self.now iv a c message.old
             → IsInText Phase.Verifying self.now iv a (c ++ text.now) message.new) }
@@ -248,14 +241,13 @@ impl<'a, C: BlockCipherEncrypt, R: HashRoom> LentGcm<'a, C, R> {
     /// accepted. Else `Refused` exactly if the tag is another. The message is then unchanged.
     pub fn accept(&self, message: &mut Message, tag: &Block) -> Result<(), NotAccepted>
         ensures out_of_turn { IsErrOf result NotAccepted.OutOfTurn
-            ↔ ((phase_of message.old.phase ≢ Phase.Additional)
-            × (phase_of message.old.phase ≢ Phase.Verifying)) }
+            ↔ IsOutOfTurn Phase.Verifying message.old }
         ensures accepted { (iv a c : List ℕ) → IsVerifying self.now iv a c message.old
             → IsOk result ↔ (tag.now ≡ nist.tag self.now iv a c) }
         ensures decrypting { OnOk result ((iv a c : List ℕ) → IsVerifying self.now iv a c message.old
             → IsDecrypting self.now iv (length c) [] message.new) }
         ensures phase { OnOk result (phase_of message.new.phase ≡ Phase.Decrypting) }
-        ensures text { OnOk result (message.new.text ≡ message.old.text) }
+        ensures kept { OnOk result (IsKept message.old message.new) }
         ensures untouched { OnErr result (message.new ≡ message.old) }
     {
         if !is_turn(message, Phase::Verifying) {
@@ -286,15 +278,14 @@ impl<'a, C: BlockCipherEncrypt, R: HashRoom> LentGcm<'a, C, R> {
         tag: &[u8],
     ) -> Result<(), NotAccepted>
         ensures out_of_turn { IsErrOf result NotAccepted.OutOfTurn
-            ↔ ((phase_of message.old.phase ≢ Phase.Additional)
-            × (phase_of message.old.phase ≢ Phase.Verifying)) }
+            ↔ IsOutOfTurn Phase.Verifying message.old }
         ensures accepted { (iv a c : List ℕ) → IsVerifying self.now iv a c message.old
             → IsOk result ↔ ((IsShortTag tag_length × (length tag.now ≡ tag_length))
             × (tag.now ≡ nist.short_tag (length tag.now) self.now iv a c)) }
         ensures decrypting { OnOk result ((iv a c : List ℕ) → IsVerifying self.now iv a c message.old
             → IsDecrypting self.now iv (length c) [] message.new) }
         ensures phase { OnOk result (phase_of message.new.phase ≡ Phase.Decrypting) }
-        ensures text { OnOk result (message.new.text ≡ message.old.text) }
+        ensures kept { OnOk result (IsKept message.old message.new) }
         ensures untouched { OnErr result (message.new ≡ message.old) }
     {
         if !is_turn(message, Phase::Verifying) {
@@ -332,7 +323,7 @@ impl<'a, C: BlockCipherEncrypt, R: HashRoom> LentGcm<'a, C, R> {
             → IsDecrypting self.now iv n c message.old
             → IsDecrypting self.now iv n (c ++ text.old) message.new) }
         ensures phase { OnOk result (phase_of message.new.phase ≡ Phase.Decrypting) }
-        ensures text { OnOk result (message.new.text ≡ message.old.text) }
+        ensures kept { OnOk result (IsKept message.old message.new) }
         ensures counted { OnOk result (message.new.decrypted
             ≡ message.old.decrypted + length text.old) }
         ensures untouched { OnErr result (message.new ≡ message.old) }
@@ -363,10 +354,8 @@ impl<'a, C: BlockCipherEncrypt, R: HashRoom> LentGcm<'a, C, R> {
         text: &mut [u8],
     ) -> Result<(), InvalidPiece>
         ensures out_of_turn { IsErrOf result InvalidPiece.OutOfTurn
-            ↔ ((phase_of message.old.phase ≢ Phase.Additional)
-            × (phase_of message.old.phase ≢ Phase.Verifying)) }
-        ensures refusal { IsErr result ↔ (((phase_of message.old.phase ≢ Phase.Additional)
-            × (phase_of message.old.phase ≢ Phase.Verifying))
+            ↔ IsOutOfTurn Phase.Verifying message.old }
+        ensures refusal { IsErr result ↔ (IsOutOfTurn Phase.Verifying message.old
             ⊎ (2 ^ 36 - 32 < message.old.text + length text.old)) }
         ensures decrypted { OnOk result ((iv a c : List ℕ) → IsVerifying self.now iv a c message.old
             → nist.text self.now iv c ++ text.new ≡ nist.text self.now iv (c ++ text.old)) }
@@ -387,11 +376,9 @@ impl<'a, C: BlockCipherEncrypt, R: HashRoom> LentGcm<'a, C, R> {
     fn turn_to(&self, message: &mut Message, phase: Phase, more: usize) -> Result<(), InvalidPiece>
         requires { phase ≢ Phase.Additional }
         ensures out_of_turn { IsErrOf result InvalidPiece.OutOfTurn
-            ↔ ((phase_of message.old.phase ≢ Phase.Additional)
-            × (phase_of message.old.phase ≢ phase)) }
+            ↔ IsOutOfTurn phase message.old }
         ensures refusal { IsErr result ↔
-            (((phase_of message.old.phase ≢ Phase.Additional)
-            × (phase_of message.old.phase ≢ phase))
+            (IsOutOfTurn phase message.old
             ⊎ (2 ^ 36 - 32 < message.old.text + more)) }
         ensures turned { OnOk result ((iv a c : List ℕ) → IsAt phase self.now iv a c message.old
             → IsInText phase self.now iv a c message.new) }

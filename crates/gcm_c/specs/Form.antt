@@ -1,7 +1,9 @@
 -- What is said of a key that is kept in this build's form: what it is (key_in), that there is one (HoldsKey), that its struct
--- is in order (IsKept), that zeros stand behind its round keys (IsZeroAfter), and the struct that holds none (no_key).
+-- is in order (IsKept), that zeros stand behind its round keys (IsZeroAfter), and the struct that holds none (no_key); and what
+-- a struct of the library of blocks keeps to encrypt (key_of).
 use Rattle.std.specs.Prelude.{ℕ, List, replicate}
 use Rattle.gcm.specs.Multiples.{subkey_in, HasMultiples}
+use Rattle.aes_hybrid.specs.declared.kept_key.KeptBothWays.{KeptBothWays}
 pub use Rattle.aes_hybrid.specs.declared.kept_key.KeptKey.{KeptKey}
 pub use Rattle.aes_hybrid.specs.KeptKey.{key_in, no_key, HoldsKey, IsKept, IsZeroAfter}
 
@@ -16,3 +18,7 @@ IsRoom = HasMultiples
 -- the block H that it is of
 abbrev pub subkey_of : List (List ℕ) → ℕ
 subkey_of = subkey_in
+
+-- the key of a struct of the library of blocks
+abbrev pub key_of : KeptBothWays → KeptKey
+key_of aes = aes.key

@@ -17,6 +17,7 @@ use crate::siv::fotsgure_gcm_siv_seal;
 use crate::siv_kept::{Siv, fotsgure_gcm_siv_set_key};
 use crate::status::{
     DONE, KEY_LENGTH, NO_KEY, NONCE_LENGTH, NONCES_END, OUT_OF_TURN, REFUSED, TAG_LENGTH, TOO_LONG,
+    UNEQUAL_LENGTHS,
 };
 use crate::whole::fotsgure_gcm_seal;
 use gcm::{Counter, Message};
@@ -32,6 +33,7 @@ pub fn numbers_of_the_header()
     ensures refused { REFUSED ≡ 6 }
     ensures nonces_end { NONCES_END ≡ 7 }
     ensures out_of_turn { OUT_OF_TURN ≡ 8 }
+    ensures unequal_lengths { UNEQUAL_LENGTHS ≡ 10 }
     ensures version { VERSION ≡ 300 }
 {}
 

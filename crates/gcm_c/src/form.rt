@@ -4,19 +4,23 @@
 //! module, of `width` and of `specs/Form.antt`, with the same names:
 //!
 //! - `KeptKey` is a key that is kept to encrypt. It is `repr(C)`, `Drop`, `NotClone` and `Zeroize`.
-//!   It has a field `length`, and methods `holds_key`, `key_length` and `set`. `set` takes a key of
-//!   16, 24 or 32 bytes, reads nothing of the struct and leaves nothing of it.
+//!   It has a field `length`, how many bytes the key has, and methods `holds_key`, `key_length` and
+//!   `set(key: &[u8])`. `set` takes a key of 16, 24 or 32 bytes, reads nothing of the struct and
+//!   leaves nothing of it.
+//! - `Aes` is the struct of the library of blocks. `holds_key_of(aes)` says whether it holds a key,
+//!   and `put_key_of(aes, kept)` writes that key, reading nothing of what was kept.
 //! - `is_key_size(bytes)` says whether keys have so many bytes.
 //! - `lent(kept)` lends the key of a struct that holds one as a cipher, which is a `LentKey`.
 //! - `TagRoom` is room for what the tags of GCM are made with, a `HashRoom`; `ShortRoom` and
 //!   `LongRoom` are that of a message of AES-GCM-SIV, each a `PolyvalRoom`, the first for short ones.
 //! - `specs/Form.antt` says in its head what its names stand for.
 
-ghost use Rattle.std.specs.Prelude.{◌≡◌, length};
-ghost use Rattle.gcm_c.specs.Form.{key_in, HoldsKey, IsKept};
+ghost use Rattle.std.specs.Prelude.{◌≡◌, ◌↔◌, length, IsTrue};
+ghost use Rattle.gcm_c.specs.Form.{key_in, key_of, HoldsKey, IsKept};
 
 use crate::width::BuildWidth;
 use aes_cipher::cipher::Encrypt;
+use aes_hybrid::kept_key::KeptBothWays;
 pub(crate) use aes_hybrid::kept_key::{KeptKey, is_key_size};
 use aes_hybrid::lent::Lent;
 
@@ -29,6 +33,9 @@ pub(crate) type ShortRoom = gcm::TableRoom;
 /// The same for a longer one.
 pub(crate) type LongRoom = gcm::Room;
 
+/// A key schedule of the other library, for both directions: `struct fotsgure_aes`.
+pub type Aes = KeptBothWays;
+
 /// The cipher that is lent.
 pub(crate) type LentKey<'a> = Lent<'a, Encrypt, BuildWidth>;
 
@@ -36,6 +43,25 @@ pub(crate) type LentKey<'a> = Lent<'a, Encrypt, BuildWidth>;
 const _: () = prove!(size_of::<KeptKey>() == 244);
 
 const _: () = prove!(size_of::<TagRoom>() == 1536);
+
+const _: () = prove!(size_of::<Aes>() == 484);
+
+/// Returns whether a struct of the library of blocks holds a key.
+#[inline(always)]
+pub(crate) fn holds_key_of(aes: &Aes) -> bool
+    ensures { IsTrue result ↔ HoldsKey (key_of aes.now) }
+{
+    aes.key.holds_key()
+}
+
+/// Writes the key of such a struct.
+#[inline(always)]
+pub(crate) fn put_key_of(aes: &Aes, kept: &mut KeptKey)
+    ensures { kept.new ≡ key_of aes.now }
+{
+    kept.length = aes.key.length;
+    kept.round_keys = aes.key.round_keys;
+}
 
 /// Lends the key of a struct that holds one.
 #[inline(always)]

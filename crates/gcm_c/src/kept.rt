@@ -2,11 +2,11 @@
 
 ghost use Rattle.std.specs.Prelude.{◌≡◌, ◌≢◌, ◌↔◌, length, true};
 ghost use Rattle.aes_cipher.specs.KeySizes.{IsKeySize};
-ghost use Rattle.gcm_c.specs.Form.{key_in, HoldsKey, IsZeroAfter};
+ghost use Rattle.gcm_c.specs.Form.{key_in, key_of, HoldsKey, IsKept, IsZeroAfter};
 ghost use Rattle.gcm_c.specs.Kept.{no_gcm, round_keys_in, IsMade};
 
-use crate::form::{KeptKey, LentKey, TagRoom, is_key_size, lent};
-use crate::status::{DONE, KEY_LENGTH};
+use crate::form::{Aes, KeptKey, LentKey, TagRoom, holds_key_of, is_key_size, lent, put_key_of};
+use crate::status::{DONE, KEY_LENGTH, NO_KEY};
 use aes_cipher::not_clone::NotClone;
 use aes_cipher::zeroize::{Zeroize, zeroize_elements};
 use gcm::{LentGcm, prepare};
@@ -57,6 +57,16 @@ pub(crate) fn mode_of(gcm: &Gcm) -> LentGcm<'_, LentKey<'_>, TagRoom>
     LentGcm::new(lent(&gcm.key), &gcm.multiples)
 }
 
+// Prepares the multiples of the H of the key that the struct holds (SP 800-38D, 7.1, step 1).
+fn prepare_multiples(gcm: &mut Gcm)
+    requires kept { IsKept gcm.old.key }
+    requires holds { HoldsKey gcm.old.key }
+    ensures made { IsMade gcm.new }
+    ensures key { gcm.new.key ≡ gcm.old.key }
+{
+    prepare(&lent(&gcm.key), &mut gcm.multiples);
+}
+
 /// Expands a key into the struct (KeyExpansion, FIPS 197, 5.2) and prepares the multiples of its H
 /// (SP 800-38D, 7.1, step 1). Returns `DONE` exactly if the key has 16, 24 or 32 bytes, else
 /// `KEY_LENGTH`; the struct then holds no key. Nothing of what it held before is left in either
@@ -78,7 +88,28 @@ pub extern "C" fn fotsgure_gcm_set_key(gcm: &mut Gcm, key: &[u8]) -> u32
         return KEY_LENGTH;
     }
     gcm.key.set(key);
-    prepare(&lent(&gcm.key), &mut gcm.multiples);
+    prepare_multiples(gcm);
+    DONE
+}
+
+/// Copies the key of a struct of the library of blocks into the struct, and prepares the multiples of
+/// its H (SP 800-38D, 7.1, step 1). Returns `DONE` exactly if that struct holds a key, else `NO_KEY`;
+/// this one then holds no key. Nothing of what it held before is left in either case.
+#[unsafe(no_mangle)]
+pub extern "C" fn fotsgure_gcm_set_key_of(gcm: &mut Gcm, aes: &Aes) -> u32
+    requires made { IsKept (key_of aes.now) }
+    ensures done { result ≡ DONE ↔ HoldsKey (key_of aes.now) }
+    ensures refused { result ≢ DONE → result ≡ NO_KEY }
+    ensures made { IsMade gcm.new }
+    ensures key { result ≡ DONE → gcm.new.key ≡ key_of aes.now }
+    ensures none { result ≢ DONE → gcm.new ≡ no_gcm }
+{
+    if !holds_key_of(aes) {
+        fotsgure_gcm_wipe(gcm);
+        return NO_KEY;
+    }
+    put_key_of(aes, &mut gcm.key);
+    prepare_multiples(gcm);
     DONE
 }
 

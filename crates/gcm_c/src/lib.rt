@@ -22,15 +22,20 @@ mod siv;
 mod siv_kept;
 #[cfg(test)]
 mod siv_tests;
+mod siv_to;
 mod status;
 #[cfg(test)]
 mod tests;
 mod whole;
+mod whole_to;
 mod width;
 
 pub use counter::{fotsgure_gcm_begin_next, fotsgure_gcm_seal_next};
+pub use form::Aes;
 pub use gcm::{Counter, Message};
-pub use kept::{Gcm, fotsgure_gcm_key_length, fotsgure_gcm_set_key, fotsgure_gcm_wipe};
+pub use kept::{
+    Gcm, fotsgure_gcm_key_length, fotsgure_gcm_set_key, fotsgure_gcm_set_key_of, fotsgure_gcm_wipe,
+};
 pub use opening::{
     fotsgure_gcm_accept, fotsgure_gcm_accept_short, fotsgure_gcm_decrypt,
     fotsgure_gcm_decrypt_unverified, fotsgure_gcm_verify,
@@ -39,10 +44,13 @@ pub use pieces::{fotsgure_gcm_additional, fotsgure_gcm_begin, fotsgure_gcm_wipe_
 pub use sealing::{fotsgure_gcm_encrypt, fotsgure_gcm_finish};
 pub use siv::{fotsgure_gcm_siv_open, fotsgure_gcm_siv_seal};
 pub use siv_kept::{Siv, fotsgure_gcm_siv_set_key, fotsgure_gcm_siv_wipe};
+pub use siv_to::{fotsgure_gcm_siv_open_to, fotsgure_gcm_siv_seal_to};
 pub use status::{
     DONE, KEY_LENGTH, NO_KEY, NONCE_LENGTH, NONCES_END, OUT_OF_TURN, REFUSED, TAG_LENGTH, TOO_LONG,
+    UNEQUAL_LENGTHS,
 };
 pub use whole::{fotsgure_gcm_open, fotsgure_gcm_seal};
+pub use whole_to::{fotsgure_gcm_open_to, fotsgure_gcm_seal_to};
 pub use width::BuildWidth;
 
 /// The version of the interface: 10000 times the first number, 100 times the second, plus the

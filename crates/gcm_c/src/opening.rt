@@ -1,13 +1,14 @@
 //! Messages in pieces, decrypted once their tag is found right.
 
-ghost use Rattle.std.specs.Prelude.{◌≡◌, ◌≢◌, ◌↔◌, ◌⊎◌, ◌+◌, ◌-◌, ◌/◌, ◌^◌, ◌≤◌, ℕ, List, [], ◌++◌};
+ghost use Rattle.std.specs.Prelude.{◌≡◌, ◌≢◌, ◌↔◌, ◌+◌, ◌-◌, ◌/◌, ◌^◌, ◌≤◌, ℕ, List, [], ◌++◌};
 ghost use Rattle.std.specs.Prelude.{length};
 ghost use Rattle.gcm.specs.Gcm as nist;
 ghost use Rattle.gcm.specs.Gcm.{IsShortTag};
 ghost use Rattle.gcm.specs.declared.message.Phase.{Phase};
 ghost use Rattle.gcm_c.specs.Form.{HoldsKey};
 ghost use Rattle.gcm_c.specs.Kept.{round_keys_in, IsMade};
-ghost use Rattle.gcm.specs.Pieces.{IsInText, IsVerifying, IsDecrypting, phase_of};
+ghost use Rattle.gcm.specs.Pieces.{IsInText, IsOutOfTurn, IsTurn, IsVerifying, IsDecrypting};
+ghost use Rattle.gcm.specs.Pieces.{phase_of};
 
 use crate::kept::{Gcm, holds_key, mode_of};
 use crate::pieces::status_of;
@@ -32,11 +33,9 @@ pub extern "C" fn fotsgure_gcm_verify(gcm: &Gcm, message: &mut Message, text: &[
     requires made { IsMade gcm.now }
     ensures no_key { result ≡ NO_KEY ↔ ¬ HoldsKey gcm.now.key }
     ensures out_of_turn { result ≡ OUT_OF_TURN ↔ HoldsKey gcm.now.key
-        × ((phase_of message.old.phase ≢ Phase.Additional)
-        × (phase_of message.old.phase ≢ Phase.Verifying)) }
+        × IsOutOfTurn Phase.Verifying message.old }
     ensures done { result ≡ DONE ↔ HoldsKey gcm.now.key
-        × (((phase_of message.old.phase ≡ Phase.Additional)
-        ⊎ (phase_of message.old.phase ≡ Phase.Verifying))
+        × (IsTurn Phase.Verifying message.old
         × (message.old.text + length text.now ≤ 2 ^ 36 - 32)) }
     ensures refused { result ≢ DONE → result ≢ NO_KEY → result ≢ OUT_OF_TURN → result ≡ TOO_LONG }
     ensures added { let w = round_keys_in gcm.now in
@@ -64,8 +63,7 @@ pub extern "C" fn fotsgure_gcm_accept(gcm: &Gcm, message: &mut Message, tag: &[u
     ensures no_key { result ≡ NO_KEY ↔ (length tag.now ≡ 16) × ¬ HoldsKey gcm.now.key }
     ensures out_of_turn { result ≡ OUT_OF_TURN ↔ (length tag.now ≡ 16)
         × (HoldsKey gcm.now.key
-        × ((phase_of message.old.phase ≢ Phase.Additional)
-        × (phase_of message.old.phase ≢ Phase.Verifying))) }
+        × IsOutOfTurn Phase.Verifying message.old) }
     ensures accepted { let w = round_keys_in gcm.now in
         length tag.now ≡ 16 → HoldsKey gcm.now.key → (iv a c : List ℕ)
         → IsVerifying w iv a c message.old
@@ -111,8 +109,7 @@ pub extern "C" fn fotsgure_gcm_accept_short(
         × ¬ HoldsKey gcm.now.key }
     ensures out_of_turn { result ≡ OUT_OF_TURN ↔ (IsShortTag fixed_length × (length tag.now ≡ fixed_length))
         × (HoldsKey gcm.now.key
-        × ((phase_of message.old.phase ≢ Phase.Additional)
-        × (phase_of message.old.phase ≢ Phase.Verifying))) }
+        × IsOutOfTurn Phase.Verifying message.old) }
     ensures accepted { let w = round_keys_in gcm.now in
         IsShortTag fixed_length → length tag.now ≡ fixed_length → HoldsKey gcm.now.key
         → (iv a c : List ℕ) → IsVerifying w iv a c message.old
@@ -187,11 +184,9 @@ pub extern "C" fn fotsgure_gcm_decrypt_unverified(
     requires made { IsMade gcm.now }
     ensures no_key { result ≡ NO_KEY ↔ ¬ HoldsKey gcm.now.key }
     ensures out_of_turn { result ≡ OUT_OF_TURN ↔ HoldsKey gcm.now.key
-        × ((phase_of message.old.phase ≢ Phase.Additional)
-        × (phase_of message.old.phase ≢ Phase.Verifying)) }
+        × IsOutOfTurn Phase.Verifying message.old }
     ensures done { result ≡ DONE ↔ HoldsKey gcm.now.key
-        × (((phase_of message.old.phase ≡ Phase.Additional)
-        ⊎ (phase_of message.old.phase ≡ Phase.Verifying))
+        × (IsTurn Phase.Verifying message.old
         × (message.old.text + length text.old ≤ 2 ^ 36 - 32)) }
     ensures refused { result ≢ DONE → result ≢ NO_KEY → result ≢ OUT_OF_TURN → result ≡ TOO_LONG }
     ensures decrypted { let w = round_keys_in gcm.now in

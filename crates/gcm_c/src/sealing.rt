@@ -1,12 +1,12 @@
 //! Messages in pieces, encrypted.
 
-ghost use Rattle.std.specs.Prelude.{◌≡◌, ◌≢◌, ◌↔◌, ◌⊎◌, ◌+◌, ◌-◌, ◌/◌, ◌^◌, ◌≤◌, ℕ, List, ◌++◌};
+ghost use Rattle.std.specs.Prelude.{◌≡◌, ◌≢◌, ◌↔◌, ◌+◌, ◌-◌, ◌/◌, ◌^◌, ◌≤◌, ℕ, List, ◌++◌};
 ghost use Rattle.std.specs.Prelude.{length};
 ghost use Rattle.gcm.specs.Gcm as nist;
 ghost use Rattle.gcm.specs.declared.message.Phase.{Phase};
 ghost use Rattle.gcm_c.specs.Form.{HoldsKey};
 ghost use Rattle.gcm_c.specs.Kept.{round_keys_in, IsMade};
-ghost use Rattle.gcm.specs.Pieces.{IsInText, IsEncrypting, no_message, phase_of};
+ghost use Rattle.gcm.specs.Pieces.{IsInText, IsEncrypting, IsOutOfTurn, IsTurn, no_message};
 
 use crate::kept::{Gcm, holds_key, mode_of};
 use crate::pieces::status_of;
@@ -20,11 +20,9 @@ pub extern "C" fn fotsgure_gcm_encrypt(gcm: &Gcm, message: &mut Message, text: &
     requires made { IsMade gcm.now }
     ensures no_key { result ≡ NO_KEY ↔ ¬ HoldsKey gcm.now.key }
     ensures out_of_turn { result ≡ OUT_OF_TURN ↔ HoldsKey gcm.now.key
-        × ((phase_of message.old.phase ≢ Phase.Additional)
-        × (phase_of message.old.phase ≢ Phase.Encrypting)) }
+        × IsOutOfTurn Phase.Encrypting message.old }
     ensures done { result ≡ DONE ↔ HoldsKey gcm.now.key
-        × (((phase_of message.old.phase ≡ Phase.Additional)
-        ⊎ (phase_of message.old.phase ≡ Phase.Encrypting))
+        × (IsTurn Phase.Encrypting message.old
         × (message.old.text + length text.old ≤ 2 ^ 36 - 32)) }
     ensures refused { result ≢ DONE → result ≢ NO_KEY → result ≢ OUT_OF_TURN → result ≡ TOO_LONG }
     ensures encrypted { let w = round_keys_in gcm.now in
@@ -54,8 +52,7 @@ pub extern "C" fn fotsgure_gcm_finish(gcm: &Gcm, message: &mut Message, tag: &mu
     requires made { IsMade gcm.now }
     ensures no_key { result ≡ NO_KEY ↔ ¬ HoldsKey gcm.now.key }
     ensures out_of_turn { result ≡ OUT_OF_TURN ↔ HoldsKey gcm.now.key
-        × ((phase_of message.old.phase ≢ Phase.Additional)
-        × (phase_of message.old.phase ≢ Phase.Encrypting)) }
+        × IsOutOfTurn Phase.Encrypting message.old }
     ensures refused { result ≢ DONE → result ≢ NO_KEY → result ≡ OUT_OF_TURN }
     ensures tag { let w = round_keys_in gcm.now in
         result ≡ DONE → (iv a c : List ℕ) → IsEncrypting w iv a c message.old

@@ -19,8 +19,8 @@ use gcm_siv::{
     wipe_message_stack,
 };
 
-// Returns the status that refuses these lengths or this struct, or `DONE`.
-fn siv_refusal(siv: &Siv, additional: usize, text: usize) -> u32
+/// Returns the status that refuses these lengths or this struct, or `DONE`.
+pub(crate) fn siv_refusal(siv: &Siv, additional: usize, text: usize) -> u32
     ensures too_long { result ≡ TOO_LONG ↔ IsSivTooLong additional text }
     ensures done { result ≡ DONE ↔ (additional ≤ 2 ^ 36)
         × ((text ≤ 2 ^ 36) × HoldsSivKey siv.now) }

@@ -2,8 +2,9 @@
 //! more.
 
 use super::{
-    DONE, KEY_LENGTH, NO_KEY, REFUSED, Siv, fotsgure_gcm_siv_open, fotsgure_gcm_siv_seal,
-    fotsgure_gcm_siv_set_key, fotsgure_gcm_siv_wipe,
+    DONE, KEY_LENGTH, NO_KEY, REFUSED, Siv, fotsgure_gcm_siv_open, fotsgure_gcm_siv_open_to,
+    fotsgure_gcm_siv_seal, fotsgure_gcm_siv_seal_to, fotsgure_gcm_siv_set_key,
+    fotsgure_gcm_siv_wipe,
 };
 use aes_cipher::zeroize::Zeroize;
 
@@ -30,6 +31,15 @@ fn eight_bytes(rt: HostRuntime) {
     tag[0] ^= 1;
     assert!(rt; fotsgure_gcm_siv_open(&siv, &NONCE, &[], &mut text, &tag) == DONE);
     assert!(rt; text == PLAIN);
+    let mut sealed = [0; 8];
+    assert!(rt; fotsgure_gcm_siv_seal_to(&siv, &NONCE, &[], &PLAIN, &mut sealed, &mut tag) == DONE);
+    assert!(rt; sealed == 0xc2ef328e5c71c83bu64.to_be_bytes());
+    text = [1; 8];
+    assert!(rt; fotsgure_gcm_siv_open_to(&siv, &NONCE, &[], &sealed, &mut text, &tag) == DONE);
+    assert!(rt; text == PLAIN);
+    tag[0] ^= 1;
+    assert!(rt; fotsgure_gcm_siv_open_to(&siv, &NONCE, &[], &sealed, &mut text, &tag) == REFUSED);
+    assert!(rt; text == [0; 8]);
     fotsgure_gcm_siv_wipe(&mut siv);
     assert!(rt; fotsgure_gcm_siv_seal(&siv, &NONCE, &[], &mut text, &mut tag) == NO_KEY);
 }

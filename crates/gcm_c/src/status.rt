@@ -26,3 +26,6 @@ pub const NONCES_END: u32 = 7;
 
 /// It isn't the turn of this call: the message is in another phase.
 pub const OUT_OF_TURN: u32 = 8;
+
+/// Input and output differ in length. (The header has 9 for a call in C.)
+pub const UNEQUAL_LENGTHS: u32 = 10;

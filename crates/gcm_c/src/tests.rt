@@ -4,9 +4,10 @@ ghost use Rattle.gcm_c.specs.Form.{HoldsKey};
 
 use super::published::{MESSAGE_16, MESSAGE_24};
 use super::{
-    Counter, DONE, Gcm, KEY_LENGTH, NO_KEY, NONCE_LENGTH, REFUSED, TAG_LENGTH, VERSION,
-    fotsgure_gcm_key_length, fotsgure_gcm_open, fotsgure_gcm_seal, fotsgure_gcm_seal_next,
-    fotsgure_gcm_set_key, fotsgure_gcm_version, fotsgure_gcm_wipe,
+    Aes, Counter, DONE, Gcm, KEY_LENGTH, NO_KEY, NONCE_LENGTH, REFUSED, TAG_LENGTH,
+    UNEQUAL_LENGTHS, VERSION, fotsgure_gcm_key_length, fotsgure_gcm_open, fotsgure_gcm_open_to,
+    fotsgure_gcm_seal, fotsgure_gcm_seal_next, fotsgure_gcm_seal_to, fotsgure_gcm_set_key,
+    fotsgure_gcm_set_key_of, fotsgure_gcm_version, fotsgure_gcm_wipe,
 };
 use aes_cipher::zeroize::Zeroize;
 
@@ -79,6 +80,41 @@ fn there_and_back(key: &[u8], cipher: &[u8; 60], wanted: u128) -> bool {
 fn seals_and_opens(rt: HostRuntime) {
     assert!(rt; there_and_back(&KEY[..16], &CIPHER_16, TAG_16));
     assert!(rt; there_and_back(&KEY, &CIPHER_32, TAG_32));
+}
+
+#[test]
+fn seals_to_a_buffer(rt: HostRuntime) {
+    let mut gcm = no_key();
+    let mut sealed = [0; 60];
+    let mut opened = [1; 60];
+    let mut tag = [0; 16];
+    assert!(rt; fotsgure_gcm_set_key(&mut gcm, &KEY[..16]) == DONE);
+    assert!(rt;
+        fotsgure_gcm_seal_to(&gcm, &NONCE, &ADDITIONAL, &PLAIN, &mut sealed, &mut tag) == DONE
+    );
+    assert!(rt; sealed == CIPHER_16 && tag == TAG_16.to_be_bytes());
+    assert!(rt;
+        fotsgure_gcm_open_to(&gcm, &NONCE, &ADDITIONAL, &sealed, &mut opened, &tag) == DONE
+    );
+    assert!(rt; opened == PLAIN);
+    assert!(rt; fotsgure_gcm_open_to(&gcm, &NONCE, &[], &sealed, &mut opened, &tag) == REFUSED);
+    assert!(rt; opened == [0; 60]);
+    assert!(rt;
+        fotsgure_gcm_open_to(&gcm, &NONCE, &[], &sealed[1..], &mut opened, &tag) == UNEQUAL_LENGTHS
+    );
+}
+
+#[test]
+fn takes_the_key_of_another_struct(rt: HostRuntime) {
+    let mut gcm = no_key();
+    let mut aes: Aes = Zeroize::zero();
+    let mut text = PLAIN;
+    let mut tag = [0; 16];
+    assert!(rt; fotsgure_gcm_set_key_of(&mut gcm, &aes) == NO_KEY);
+    aes.set(&KEY[..16]);
+    assert!(rt; fotsgure_gcm_set_key_of(&mut gcm, &aes) == DONE);
+    assert!(rt; fotsgure_gcm_seal(&gcm, &NONCE, &ADDITIONAL, &mut text, &mut tag) == DONE);
+    assert!(rt; text == CIPHER_16 && tag == TAG_16.to_be_bytes());
 }
 
 #[test]

@@ -9,8 +9,8 @@ use crate::kept::{Gcm, holds_key, mode_of};
 use crate::status::{DONE, NO_KEY, NONCE_LENGTH, REFUSED, TAG_LENGTH, TOO_LONG};
 use gcm::{LONGEST_HASHED, LONGEST_TEXT};
 
-// Returns the status that refuses these lengths or this struct, or `DONE`.
-fn refusal(gcm: &Gcm, nonce: usize, additional: usize, text: usize) -> u32
+/// Returns the status that refuses these lengths or this struct, or `DONE`.
+pub(crate) fn refusal(gcm: &Gcm, nonce: usize, additional: usize, text: usize) -> u32
     ensures nonce_length { result ≡ NONCE_LENGTH ↔ ¬ IsNonceLength nonce }
     ensures too_long { result ≡ TOO_LONG ↔ IsNonceLength nonce × IsTooLong additional text }
     ensures done { result ≡ DONE ↔ IsNonceLength nonce

@@ -2,6 +2,7 @@
 use Rattle.std.proofs.Common.{◌≡◌, ℕ, ◌+◌, ◌%◌, ◌^◌, ◌<◌, List, [], ◌++◌, length, get_or, set, refl}
 use Rattle.std.proofs.Common.{sym, ap, drop, take, ◌∙◌, arith}
 use Rattle.std.proofs.lemmas.List.Edits.{fill_by_more}
+use Rattle.std.proofs.lemmas.Nat.{from_le_bytes-to_le_bytes_4}
 use Rattle.std.specs.Int.{w32, to_le_bytes, from_le_bytes}
 use Rattle.aes_ctr.specs.CounterMode.{plus_stream}
 use Rattle.aes_ctr.specs.Streams.{stream_byte}
@@ -40,6 +41,18 @@ counted_one start blocks j i k n block is made fits before below =
 
 -- what a loop over counter blocks uses: its first counter, the next one, and one more block written
 pub ruleset counted = (counter_first, counter_next, counted_one)
+
+-- a counter block is the one before it, counted on by one
+pub block_on : (block : List ℕ) (j : ℕ)
+    → counter_block block (j + 1) ≡ counter_block (counter_block block j) 1
+unfolding counter counter_block
+block_on block j =
+    let m = from_le_bytes w32 (take 4 block) in
+    ap (λ q. to_le_bytes w32 q ++ drop 4 block)
+    (on m j ∙ ap (λ q. (q + 1) % 2 ^ 32) (sym (from_le_bytes-to_le_bytes_4 ((m + j) % 2 ^ 32) (omega arith))))
+  where
+    on : (m j : ℕ) → (m + (j + 1)) % 2 ^ 32 ≡ ((m + j) % 2 ^ 32 + 1) % 2 ^ 32
+    on m j = omega arith
 
 -- counter mode by the keystream of its counter blocks
 pub mode_is : (w : List (List ℕ)) (start x : List ℕ)

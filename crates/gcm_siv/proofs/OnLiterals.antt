@@ -4,7 +4,7 @@ use Rattle.std.proofs.Common.{◌≡◌, ℕ, ◌*◌, ◌<◌, ◌≤◌, List,
 use Rattle.std.proofs.Common.{arith}
 use Rattle.std.specs.Prelude.{⊤}
 use Rattle.aes_planes.specs.BigEndian.{bytes}
-use Rattle.aes_planes.specs.Fips197.{build, build_from, state, add_round_key, cipher_with}
+use Rattle.aes_planes.specs.Fips197.{build, build_from, state, add_round_key, cipher, cipher_with}
 use Rattle.aes_ctr.specs.CounterMode.{plus_stream}
 use Rattle.aes_ctr.specs.Private.{byte_of_blocks}
 use Rattle.aes_ctr.proofs.Places.{plus_blocks}
@@ -22,6 +22,11 @@ unfolding bytes build build_from state add_round_key plus_stream byte_of_blocks 
     length_block hash tag_input tag_under
     first_counter text_under tag text
 siv_on_literals = tt
+
+-- the definitions of a message under its keys, down to the cipher of a key
+unfoldable pub siv_messages : ⊤
+unfolding cipher hash tag_under tag keystream_byte counter_mode text_under text
+siv_messages = tt
 
 -- a text by the ciphers of its counter blocks
 pub blocks_by : (w : List (List ℕ)) (start : List ℕ) (blocks : List (List ℕ)) (x : List ℕ)

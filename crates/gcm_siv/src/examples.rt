@@ -4,14 +4,19 @@
 //!
 //! `bytes n 0x..` is the n bytes that these digits write.
 
-ghost use Rattle.std.specs.Prelude.{◌≡◌, ◌↔◌, ◌⊎◌, ◌-◌, ◌^◌, ◌<◌, ◌≤◌, ℕ, List, [], ◌∷◌, ◌++◌};
-ghost use Rattle.std.specs.Prelude.{length, replicate, IfOk, IsErr};
+ghost use Rattle.std.specs.Prelude.{◌≡◌, ◌↔◌, ◌⊎◌, ◌+◌, ◌-◌, ◌*◌, ◌/◌, ◌%◌, ◌^◌, ◌<◌, ◌≤◌, ℕ, List, []};
+ghost use Rattle.std.specs.Prelude.{◌∷◌, ◌++◌, length, replicate, slice_index, IfOk, IsErr};
+ghost use Rattle.std.specs.List.{slice_range};
+ghost use Rattle.std.specs.Int.Bits.{bit_xor};
 ghost use Rattle.std.specs.Int.{w32, w128, from_le_bytes, to_le_bytes};
 ghost use Rattle.aes_planes.specs.BigEndian.{bytes};
 ghost use Rattle.aes_planes.specs.Fips197 as fips;
 ghost use Rattle.gcm_siv.specs.GcmSiv.{authentication_key, encryption_key, first_counter};
 ghost use Rattle.gcm_siv.specs.GcmSiv.{IsAuthentic, IsKeySize, counter_block, dot, inverse_power};
-ghost use Rattle.gcm_siv.specs.GcmSiv.{length_block, polyval, tag, text, times, times_power};
+ghost use Rattle.gcm_siv.specs.GcmSiv.{hash, length_block, polyval, summed, tag, tag_input};
+ghost use Rattle.gcm_siv.specs.GcmSiv.{text, times, times_power};
+ghost use Rattle.gcm.specs.Gcm.{padded};
+ghost use Rattle.aes_ctr.specs.CounterMode.{plus_stream};
 
 use crate::errors::TooLong;
 use crate::laws::text_twice;
@@ -46,14 +51,45 @@ pub fn polyval_examples()
         ≡ from_le_bytes w128 (bytes 16 0xf7a3b47b846119fae5b7866cf5e5b77e) }
 {}
 
-/// A counter counts the first 32 bits of a block on, modulo 2^32, the lowest byte first. A tag's
-/// highest bit is set for the first one, also where it is set already.
+/// POLYVAL of no blocks is 0, and each further block is summed and multiplied in the same way,
+/// however many came before (3).
 #[tactic(auto, unfolding(crate::proofs::OnLiterals::siv_on_literals))]
+pub fn polyval_rules()
+    ensures none { (h : ℕ) → polyval h [] ≡ 0 }
+    ensures begun { (h s : ℕ) (x : List ℕ) → summed h s x 0 ≡ s }
+    ensures next { (h s : ℕ) (x : List ℕ) (j : ℕ) → summed h s x (j + 1)
+        ≡ dot (bit_xor (summed h s x j)
+        (from_le_bytes w128 (slice_range x (16 * j) (16 * j + 16)))) h }
+    ensures whole { (h : ℕ) (x : List ℕ) → polyval h x ≡ summed h 0 x (length x / 16) }
+{}
+
+/// What is hashed, tagged and encrypted, of strings of any length (4).
+#[tactic(auto, unfolding(crate::proofs::OnLiterals::siv_messages))]
+pub fn message_rules()
+    ensures hash { (h : ℕ) (a p : List ℕ) → hash h a p
+        ≡ polyval h (padded a ++ padded p ++ length_block a p) }
+    ensures tag { (key nonce a p : List ℕ) → tag key nonce a p
+        ≡ fips.cipher (encryption_key key nonce) (tag_input (hash
+        (from_le_bytes w128 (authentication_key key nonce)) a p) nonce) }
+    ensures text { (key nonce t x : List ℕ) → text key nonce t x ≡ plus_stream (λ i.
+        slice_index (fips.cipher (encryption_key key nonce)
+        (counter_block (first_counter t) (i / 16))) (i % 16)) 0 x }
+{}
+
+/// A counter counts the first 32 bits of a block on, modulo 2^32, the lowest byte first, however far
+/// it has come. A tag's highest bit is set for the first one, also where it is set already.
+#[tactic(auto, using(crate::proofs::CounterBlocks::block_on), unfolding(crate::proofs::OnLiterals::siv_on_literals))]
 pub fn counter_examples()
     ensures next { counter_block (bytes 16 0xff0000000102030405060708090a0b8c) 1
         ≡ bytes 16 0x000100000102030405060708090a0b8c }
     ensures wrapped { counter_block (bytes 16 0xffffffff000000000000000000000080) 1
         ≡ bytes 16 0x00000000000000000000000000000080 }
+    ensures last { counter_block (replicate 16 0xff) (2 ^ 32 - 1)
+        ≡ 0xfe ∷ replicate 15 0xff }
+    ensures high { counter_block (bytes 16 0xfeffff7f000000000000000000000080) 2
+        ≡ bytes 16 0x00000080000000000000000000000080 }
+    ensures on { (block : List ℕ) (j : ℕ)
+        → counter_block block (j + 1) ≡ counter_block (counter_block block j) 1 }
     ensures set { first_counter (replicate 16 0x7f) ≡ replicate 15 0x7f ++ 0xff ∷ [] }
     ensures kept { first_counter (replicate 16 0xff) ≡ replicate 16 0xff }
 {}

@@ -3,13 +3,16 @@
 //!
 //! `bytes n 0x..` is the n bytes that these digits write.
 
-ghost use Rattle.std.specs.Prelude.{◌≡◌, ◌↔◌, ◌+◌, ◌-◌, ◌*◌, ◌^◌, ◌∷◌, [], length, replicate, take};
+ghost use Rattle.std.specs.Prelude.{◌≡◌, ◌↔◌, ℕ, ◌+◌, ◌-◌, ◌*◌, ◌^◌, List, ◌∷◌, [], length};
+ghost use Rattle.std.specs.Prelude.{replicate, take};
 ghost use Rattle.std.specs.Prelude.{IfOk, IsOk, OnOk};
 ghost use Rattle.std.specs.List.{concat};
 ghost use Rattle.aes_planes.specs.BigEndian.{bytes};
 ghost use Rattle.aes_planes.specs.Fips197 as fips;
-ghost use Rattle.key_wrap.specs.KeyWrap.{number_added, wrapped, Fit};
-ghost use Rattle.key_wrap.specs.Padded.{filled, wrapped_padded, FitPadded, FitUnpadded};
+ghost use Rattle.key_wrap.specs.KeyWrap.{number_added, wrap_step, wrapped_after, unwrap_step};
+ghost use Rattle.key_wrap.specs.KeyWrap.{unwrapped_from, integrity_check, wrapped, unwrapped, Fit};
+ghost use Rattle.key_wrap.specs.Padded.{filled, wrapped_string, unwrapped_string, wrapped_padded};
+ghost use Rattle.key_wrap.specs.Padded.{FitPadded, FitUnpadded};
 
 use crate::errors::InvalidCount;
 use crate::laws::{are_semiblocks, padding_undone, wrapping_undone};
@@ -43,6 +46,29 @@ pub fn number_examples()
     ensures first { number_added (replicate 8 0) 1 ≡ bytes 8 0x0000000000000001 }
     ensures high { number_added (replicate 8 0) (2 ^ 32) ≡ bytes 8 0x0000000100000000 }
     ensures last { number_added (replicate 8 0xa6) (6 * (2 ^ 54 - 1)) ≡ bytes 8 0xa7d959595959595c }
+{}
+
+/// Each step is as the first one, whatever its number, and there are six for each semiblock of the
+/// key; a string of more than two semiblocks goes through the same steps with padding and without
+/// (6.1; 6.2, algorithm 3; 6.3, algorithms 5 and 6).
+#[tactic(auto, unfolding(crate::specs::KeyWrap::wrapped, crate::specs::KeyWrap::unwrapped, crate::specs::KeyWrap::wrapped_after, crate::specs::KeyWrap::unwrapped_from, crate::specs::Padded::block_or_steps, crate::specs::Padded::wrapped_string, crate::specs::Padded::unwrapped_string))]
+pub fn step_rules()
+    ensures begun { (w s : List (List ℕ)) → wrapped_after w s 0 ≡ s }
+    ensures next { (w s : List (List ℕ)) (t : ℕ) → wrapped_after w s (t + 1)
+        ≡ wrap_step w (t + 1) (wrapped_after w s t) }
+    ensures ended { (w s : List (List ℕ)) → unwrapped_from w s 0 ≡ s }
+    ensures back { (w s : List (List ℕ)) (t : ℕ) → unwrapped_from w s (t + 1)
+        ≡ unwrapped_from w (unwrap_step w (t + 1) s) t }
+    ensures whole { (w key : List (List ℕ))
+        → wrapped w key ≡ wrapped_after w (integrity_check ∷ key) (6 * length key) }
+    ensures whole_back { (w : List (List ℕ)) (a : List ℕ) (rs : List (List ℕ))
+        → unwrapped w (a ∷ rs) ≡ unwrapped_from w (a ∷ rs) (6 * length rs) }
+    ensures padded { (w : List (List ℕ)) (a r q : List ℕ) (rs : List (List ℕ))
+        → wrapped_string w (a ∷ r ∷ q ∷ rs)
+        ≡ wrapped_after w (a ∷ r ∷ q ∷ rs) (6 * length (r ∷ q ∷ rs)) }
+    ensures padded_back { (w : List (List ℕ)) (a r q : List ℕ) (rs : List (List ℕ))
+        → unwrapped_string w (a ∷ r ∷ q ∷ rs)
+        ≡ unwrapped_from w (a ∷ r ∷ q ∷ rs) (6 * length (r ∷ q ∷ rs)) }
 {}
 
 // The blocks of the twelve steps of W: in each the first semiblock, and that of the key whose turn

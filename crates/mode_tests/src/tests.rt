@@ -1,9 +1,11 @@
 //! What no clause says: that the modes answer, with the standards' values, over ciphers of each size of keys.
 
 mod cases;
+mod ccm_messages;
 mod chains;
 mod generators;
 mod keys;
+mod long;
 mod padded;
 mod pieces;
 mod siv;

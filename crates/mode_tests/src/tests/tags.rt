@@ -6,7 +6,7 @@ ghost use Rattle.cmac.specs.Cmac.{cmac};
 
 use aes_cipher::cipher::{Block, BlockCipherEncrypt, KeyInit};
 use aes_hybrid::{Aes128Enc, Aes192Enc, Aes256Enc};
-use cmac::{is_tag, tag};
+use cmac::{is_tag, is_tag_start, tag};
 use std::test::Fail;
 
 // The keys and the message of SP 800-38B, D.1 to D.3, and its tags of the message's first 0, 16, 40 and 64 bytes.
@@ -81,6 +81,7 @@ fn gives<C: BlockCipherEncrypt>(cipher: &C, tags: &[u128; 4]) -> bool {
         right &= tag(cipher, &message[..lengths[i]]) == expected
             && is_tag(cipher, &message[..lengths[i]], &expected)
             && !is_tag(cipher, &message[..lengths[i]], &changed)
+            && is_tag_start(cipher, &message[..lengths[i]], &changed[..15])
             && !is_tag(cipher, &message[..lengths[i] + 1], &expected);
     }
     right

@@ -2,7 +2,8 @@
 use Rattle.std.proofs.Common.{List, ℕ, [], ◌++◌, ap, ◌∙◌, refl}
 use Rattle.aes_planes.specs.BigEndian.{bytes}
 use Rattle.aes_planes.specs.Fips197.{build, build_from, add_round_key, key_expansion}
-use Rattle.cmac.specs.Cmac.{doubled_block, subkey_1, subkey_2, before_last, complete_block, chained}
+use Rattle.cmac.specs.Chain.{block_at, chained}
+use Rattle.cmac.specs.Cmac.{doubled_block, subkey_1, subkey_2, before_last}
 use Rattle.cmac.proofs.OnLiterals.{last_by, by_steps, next_step}
 use Rattle.cmac.proofs.examples.cmac_128_examples.Goals as goal
 
@@ -47,7 +48,7 @@ returns-clause-of_16 c =
     by_steps w block_1 zeros_of (bytes 16 0) known.zeros refl ∙ known.of_16
 
 pub returns-clause-of_40 : goal.returns-clause-of_40
-unfolding bytes build build_from add_round_key before_last last_by doubled_block complete_block chained
+unfolding bytes build build_from add_round_key before_last last_by doubled_block block_at chained
 returns-clause-of_40 c =
     let known = c.encrypted_blocks.ensures in
     by_steps w forty zeros_of (bytes 16 0xb148c17f309ee692287ae57cf12add49) known.zeros
@@ -55,7 +56,7 @@ returns-clause-of_40 c =
     ∙ known.of_40
 
 pub returns-clause-of_64 : goal.returns-clause-of_64
-unfolding bytes build build_from add_round_key before_last last_by doubled_block complete_block chained
+unfolding bytes build build_from add_round_key before_last last_by doubled_block block_at chained
 returns-clause-of_64 c =
     let known = c.encrypted_blocks.ensures in
     by_steps w sixty_four zeros_of (bytes 16 0xc93d11bfaf08c5dc4d90b37b4dee002b) known.zeros

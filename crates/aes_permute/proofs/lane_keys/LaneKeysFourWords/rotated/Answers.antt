@@ -1,9 +1,10 @@
 -- What is left to show of `lane_keys::LaneKeysFourWords::rotated`.
-use Rattle.std.proofs.Common.{◌≡◌, length, arith}
+use Rattle.std.proofs.Common.{◌≡◌, length}
 use Rattle.aes_permute.proofs.ExpandedLanes.{rotated_is}
 use Rattle.aes_permute.proofs.lane_keys.LaneKeysFourWords.rotated.Goals as goal
 
 pub returns-clause-words : goal.returns-clause-words
 returns-clause-words c = λ x y hx hy.
-    rotated_is c.args.constant hx hy (omega arith) (let l : length c.args.last ≡ 16 = search in l)
-    c.sub_bytes_but_constant.ensures c.summed_columns.ensures
+    rotated_is c.args.before c.args.last _ _ _ c.args.constant hx hy (let l : length c.args.before ≡ 16 = search in l)
+    (let m : length c.args.last ≡ 16 = search in m) c.with_constant.ensures
+    c.sub_bytes_but_constant-start.ensures c.summed_columns.ensures

@@ -5,6 +5,5 @@ use Rattle.aes_permute.proofs.lane_keys.LaneKeysFourWords.substituted.Goals as g
 
 pub returns-clause-words : goal.returns-clause-words
 returns-clause-words c = λ x y hx hy.
-    substituted_is hx hy (let l : length c.args.last ≡ 16 = search in l)
-    c.sub_bytes_but_constant.ensures
-    c.summed_columns.ensures
+    substituted_is c.args.before c.args.last _ _ hx hy (let l : length c.args.last ≡ 16 = search in l)
+    c.sub_bytes_but_constant.ensures c.summed_columns.ensures

@@ -1,5 +1,6 @@
 -- What is left to show of `rounds::EncryptLaneRounds::first`.
 use Rattle.std.proofs.Common.{ap, map, ◌∙◌}
+use Rattle.aes_planes.specs.Fips197.{shift_times}
 use Rattle.aes_permute.specs.Lookup.{by_nibbles}
 use Rattle.aes_permute.specs.Stored.{untower}
 use Rattle.aes_permute.specs.declared.tables.TheConstants.{TOWER_LOW, TOWER_HIGH}
@@ -7,6 +8,7 @@ use Rattle.aes_permute.proofs.RoundLanes.{first_is}
 use Rattle.aes_permute.proofs.rounds.EncryptLaneRounds.first.Goals as goal
 
 pub returns : goal.returns
+unfolding shift_times
 returns g c i =
     ap (map untower)
     (c.looked_up_by_nibbles.ensures i

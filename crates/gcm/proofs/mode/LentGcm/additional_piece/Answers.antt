@@ -20,6 +20,7 @@ returns-clause-added g c iv a is =
       additional = omega (arith, is.additional, length-append a b);
       short = omega (arith, is.additional, length-append a b);
       text = is.text;
+      decrypted = is.decrypted;
       hashing = subst After subkey (c.hash_piece.ensures 0 a (omega (arith, is.additional))
           (subst Before (sym subkey) is.hashing));
     }

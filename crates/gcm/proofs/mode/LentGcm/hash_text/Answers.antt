@@ -22,6 +22,7 @@ returns g c phase iv a t is =
       short = is.short;
       text = omega (arith, is.text, length-append t b);
       short_text = omega (arith, is.text, length-append t b);
+      decrypted = is.decrypted;
       hashing = subst After subkey (c.hash_piece.ensures y t (omega (arith, is.text))
           (subst Before (sym subkey) is.hashing));
     }

@@ -12,5 +12,6 @@ returns-clause-begun g c =
       additional = refl;
       short = omega arith;
       text = refl;
+      decrypted = refl;
       hashing = record { value = c.block_of_number-message.ensures.back; rest = refl };
     }

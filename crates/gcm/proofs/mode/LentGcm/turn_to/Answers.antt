@@ -19,6 +19,7 @@ returns-then-eq-clause-turned g c iv a t at =
         short = b.0.short;
         text = b.0.text ∙ sym (ap length b.1);
         short_text = omega (arith, ap length b.1);
+        decrypted = b.0.decrypted;
         hashing = first_text (hash_subkey c.args.self.now)
             (from_be_bytes w128 c.block_of_number-message.result) a t
             c.args.message.now.rest (c.block_of_number-message.ensures.back

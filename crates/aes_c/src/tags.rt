@@ -1,0 +1,65 @@
+//! Tags of messages under the key of a struct: CMAC.
+
+ghost use Rattle.std.specs.Prelude.{◌≡◌, ◌≢◌, ◌↔◌, ◌≤◌, length, take};
+ghost use Rattle.cmac.specs.Cmac as nist;
+ghost use Rattle.aes_c.specs.Form.{round_keys_in, HoldsKey, IsMade};
+ghost use Rattle.aes_c.specs.Lengths.{IsCmacLength};
+
+use crate::form::{Aes, lent};
+use crate::status::{DONE, NO_KEY, REFUSED, TAG_LENGTH};
+use aes_cipher::cipher::Block;
+use aes_cipher::zeroize::wipe_stack;
+use cmac::{is_tag_start, tag};
+
+// How many bytes of stack a call takes at most that makes a tag. Subkeys are left there, and the
+// right tag of a message that is refused.
+const TAG_STACK: usize = 512;
+
+// How many bytes a tag has at least, and at most.
+const SHORTEST: usize = 4;
+
+const LONGEST: usize = 16;
+
+/// Writes the tag of a message (CMAC, SP 800-38B, 6.2). Returns `DONE` exactly if the struct holds a
+/// key, else `NO_KEY`.
+#[unsafe(no_mangle)]
+pub extern "C" fn fotsgure_aes_cmac(aes: &Aes, message: &[u8], output: &mut Block) -> u32
+    requires made { IsMade aes.now }
+    ensures done { result ≡ DONE ↔ HoldsKey aes.now.key }
+    ensures refused { result ≢ DONE → result ≡ NO_KEY }
+    ensures tag { result ≡ DONE → output.new ≡ nist.cmac (round_keys_in aes.now.key) message.now }
+    ensures untouched { result ≢ DONE → output.new ≡ output.old }
+{
+    if !aes.key.holds_key() {
+        return NO_KEY;
+    }
+    *output = tag(&lent(&aes.key), message);
+    wipe_stack::<TAG_STACK>();
+    DONE
+}
+
+/// Compares a tag, or the first bytes of one, with that of a message, without an early exit (SP
+/// 800-38B, 6.3). Returns `NO_KEY` exactly if the struct holds no key, else `TAG_LENGTH` if the tag
+/// has fewer than 4 bytes or more than 16, else `REFUSED` if it is another, and `DONE` in all other
+/// cases.
+#[unsafe(no_mangle)]
+pub extern "C" fn fotsgure_aes_cmac_verify(aes: &Aes, message: &[u8], claimed: &[u8]) -> u32
+    requires made { IsMade aes.now }
+    ensures no_key { result ≡ NO_KEY ↔ ¬ HoldsKey aes.now.key }
+    ensures tag_length { result ≡ TAG_LENGTH
+        ↔ HoldsKey aes.now.key × ¬ IsCmacLength (length claimed.now) }
+    ensures done { result ≡ DONE ↔ HoldsKey aes.now.key × (IsCmacLength (length claimed.now)
+        × (claimed.now ≡ take (length claimed.now)
+        (nist.cmac (round_keys_in aes.now.key) message.now))) }
+    ensures refused { result ≢ DONE → result ≢ NO_KEY → result ≢ TAG_LENGTH → result ≡ REFUSED }
+{
+    if !aes.key.holds_key() {
+        return NO_KEY;
+    }
+    if claimed.len() < SHORTEST || claimed.len() > LONGEST {
+        return TAG_LENGTH;
+    }
+    let is_right = is_tag_start(&lent(&aes.key), message, claimed);
+    wipe_stack::<TAG_STACK>();
+    if is_right { DONE } else { REFUSED }
+}

@@ -1,0 +1,81 @@
+//! CCM at values from outside, as contracts, so that a slip in a definition is refused: SP 800-38C,
+//! C.1, and A.2.2. What comes between was computed by another implementation of AES.
+//!
+//! `bytes n 0x..` is the n bytes that these digits write.
+
+ghost use Rattle.std.specs.Prelude.{◌≡◌, []};
+ghost use Rattle.aes_planes.specs.BigEndian.{bytes};
+ghost use Rattle.aes_planes.specs.Fips197 as fips;
+ghost use Rattle.ccm.specs.Ccm.{counter_block, encoded_length, first_block, tag, text, Fits};
+ghost use Rattle.ccm.specs.Ccm.{IsNonceLength, IsTagLength};
+
+// The blocks that the example encrypts: those of the chain, B_0, and B_1 and B_2 with the values
+// before them; and Ctr_0 and Ctr_1.
+#[tactic(auto, using(aes_planes::proofs::OnLiterals::ciphers), unfolding(aes_planes::proofs::OnLiterals::aes_by_table))]
+fn encrypted_blocks()
+    ensures first { fips.cipher_with
+        (fips.key_expansion (bytes 16 0x404142434445464748494a4b4c4d4e4f))
+        (bytes 16 0x4f101112131415160000000000000004)
+        ≡ bytes 16 0x2ad239bb229b8fb46e308f5bc7409b88 }
+    ensures second { fips.cipher_with
+        (fips.key_expansion (bytes 16 0x404142434445464748494a4b4c4d4e4f))
+        (bytes 16 0x2ada39ba20988bb168378f5bc7409b88)
+        ≡ bytes 16 0x2e3b95530ad7c90268caf2c597c49292 }
+    ensures third { fips.cipher_with
+        (fips.key_expansion (bytes 16 0x404142434445464748494a4b4c4d4e4f))
+        (bytes 16 0x0e1ab7700ad7c90268caf2c597c49292)
+        ≡ bytes 16 0x6084341b32042bf000b4b7995553a3c5 }
+    ensures counter_0 { fips.cipher_with
+        (fips.key_expansion (bytes 16 0x404142434445464748494a4b4c4d4e4f))
+        (bytes 16 0x07101112131415160000000000000000)
+        ≡ bytes 16 0x2d28114610676c2632bad748559a679a }
+    ensures counter_1 { fips.cipher_with
+        (fips.key_expansion (bytes 16 0x404142434445464748494a4b4c4d4e4f))
+        (bytes 16 0x07101112131415160000000000000001)
+        ≡ bytes 16 0x51432378e474b33971318484103cddfb }
+{}
+
+/// The text and the tag of example 1.
+pub fn ccm_128_example()
+    ensures text { text (fips.key_expansion (bytes 16 0x404142434445464748494a4b4c4d4e4f))
+        (bytes 7 0x10111213141516) (bytes 4 0x20212223) ≡ bytes 4 0x7162015b }
+    ensures tag { tag (fips.key_expansion (bytes 16 0x404142434445464748494a4b4c4d4e4f))
+        (bytes 7 0x10111213141516) 4 (bytes 8 0x0001020304050607) (bytes 4 0x20212223)
+        ≡ bytes 4 0x4dac255d }
+{
+    encrypted_blocks();
+}
+
+/// The first blocks of example 3, and of a message without additional data; the lengths of
+/// additional data on either side of a limit, and that of A.2.2.
+#[tactic(auto, unfolding(crate::proofs::OnLiterals::formats_on_literals))]
+pub fn formatting_examples()
+    ensures first { first_block (bytes 12 0x101112131415161718191a1b) 8 20 24
+        ≡ bytes 16 0x5a101112131415161718191a1b000018 }
+    ensures without { first_block (bytes 13 0x00000003020100a0a1a2a3a4a5) 16 0 5
+        ≡ bytes 16 0x3900000003020100a0a1a2a3a4a50005 }
+    ensures counter { counter_block (bytes 12 0x101112131415161718191a1b) 2
+        ≡ bytes 16 0x02101112131415161718191a1b000002 }
+    ensures none { encoded_length 0 ≡ [] }
+    ensures in_two { encoded_length 65279 ≡ bytes 2 0xfeff }
+    ensures in_six { encoded_length 65280 ≡ bytes 6 0xfffe0000ff00 }
+    ensures of_the_standard { encoded_length 65536 ≡ bytes 6 0xfffe00010000 }
+    ensures most_in_six { encoded_length 4294967295 ≡ bytes 6 0xfffeffffffff }
+    ensures in_ten { encoded_length 4294967296 ≡ bytes 10 0xffff0000000100000000 }
+{}
+
+/// The lengths of nonces and tags, those on either side of them, and the most that a text may have
+/// under the longest nonce.
+pub fn length_examples()
+    ensures shortest_nonce { IsNonceLength 7 }
+    ensures longest_nonce { IsNonceLength 13 }
+    ensures nonce_too_short { ¬ IsNonceLength 6 }
+    ensures nonce_too_long { ¬ IsNonceLength 14 }
+    ensures shortest_tag { IsTagLength 4 }
+    ensures longest_tag { IsTagLength 16 }
+    ensures tag_too_short { ¬ IsTagLength 2 }
+    ensures tag_too_long { ¬ IsTagLength 18 }
+    ensures odd_tag { ¬ IsTagLength 5 }
+    ensures longest { Fits 13 65535 }
+    ensures too_long { ¬ Fits 13 65536 }
+{}
