@@ -97,6 +97,6 @@ enum exit_status of_process(const char *process)
     if (keys < 0)
         printf("How many keys it has set can't be seen: ask as root\n");
     else
-        printf("It has set %lld keys by it; processes that it started count for themselves\n", keys);
+        printf("Keys that it has set by it: %lld (processes that it started count for themselves)\n", keys);
     return found.is_deleted ? REPLACED : SERVED;
 }

@@ -38,7 +38,7 @@ print("started", flush=True); time.sleep(600)' > "$work/started" &
     mine=$!
     comes "$work/started"
     ends_with 0 "has loaded $work/again/fotsgure.so" "$command" "$mine" &&
-        grep -E '^It has set [1-9][0-9]* keys' "$work/said" && ends_with 1 "hasn't loaded" "$command" $$ &&
+        grep '^Keys that it has set by it: [1-9]' "$work/said" && ends_with 1 "hasn't loaded" "$command" $$ &&
         cp "$module" "$work/again/new" && mv "$work/again/new" "$work/again/fotsgure.so" &&
         ends_with 4 'that file is gone by now' "$command" "$mine" && rm "$work/again/fotsgure.so" &&
         ends_with 4 'that file is gone by now' "$command" "$mine" && ends_with 2 'No such file' "$command" 99999999
@@ -101,7 +101,7 @@ installed() (
     words=(env SYSTEM_CNF="$work/theirs.cnf" libdir="$at/lib" bindir="$at/bin" mandir="$at/man" sysconfdir="$at/etc"
         includedir="$prefix/include")
     mkdir -p "$at/lib" && cp "$prefix"/lib/*.a "$at/lib" || return
-    (umask 077 && "${words[@]}" "$here/install" "$prefix") || return
+    bash -c 'umask 077; "$@"' - "${words[@]}" "$here/install" "$prefix" || return
     [[ -z $(find "$at" ! -perm -go=r) && -z $(find "$at" -type d ! -perm -go=x) ]] || { find "$at" -ls; return 1; }
     stay_there "$at" "${words[@]}" "$here/install" "$prefix" && (cd "$at" && find . -type f -exec sha256sum {} + > "$work/sums") || return
     ends_with 1 '' "${words[@]}" LDFLAGS=-lnowhere "$here/install" "$prefix" &&
