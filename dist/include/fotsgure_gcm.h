@@ -56,8 +56,8 @@
 
 /* The version of this header; fotsgure_gcm_version() returns that of the library. It is that of fotsgure_aes since 0.3.0,
  * which followed 0.1.0. */
-#define FOTSGURE_GCM_VERSION_TEXT "0.3.0"
-#define FOTSGURE_GCM_VERSION 300 /* 10000 * 0 + 100 * 3 + 0 */
+#define FOTSGURE_GCM_VERSION_TEXT "0.4.0"
+#define FOTSGURE_GCM_VERSION 400 /* 10000 * 0 + 100 * 4 + 0 */
 
 #define FOTSGURE_GCM_NONCE 12                             /* bytes of a counted nonce; take this length if you can */
 #define FOTSGURE_GCM_TAG 16                               /* bytes of a tag */
