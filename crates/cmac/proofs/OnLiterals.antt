@@ -15,7 +15,7 @@ cmac_on_literals = tt
 
 -- the definitions that the rules of examples state
 unfoldable pub cmac_rules : ⊤
-unfolding before_last complete_block chained cmac
+unfolding before_last block_at chained cmac
 cmac_rules = tt
 
 -- the last block by the cipher of the block of zeros, l
