@@ -1,7 +1,7 @@
-//! The texts of dist, which rustc assembles, and the calls that they export.
+//! The assembly of dist, and the calls that it exports.
 
-/// Assembles a text of dist. It leaves out what it would say of the whole object, and exports hidden names of its own.
-macro_rules! text {
+/// Assembles a file of dist. With `in_rust` it leaves out what it would say of the whole object, and exports hidden names of its own.
+macro_rules! assembled {
     ($($name:expr),*; $($option:ident),*) => {
         core::arch::global_asm!(
             ".set in_rust, 1",
@@ -14,28 +14,28 @@ macro_rules! text {
 
 #[cfg(target_arch = "x86_64")]
 mod of_target {
-    text!("aes_v1"; att_syntax, raw);
-    text!("aes"; att_syntax, raw);
-    text!("aes_v3"; att_syntax, raw);
+    assembled!("aes_v1"; att_syntax, raw);
+    assembled!("aes"; att_syntax, raw);
+    assembled!("aes_v3"; att_syntax, raw);
     #[cfg(feature = "gcm")]
-    text!("gcm_v1"; att_syntax, raw);
+    assembled!("gcm_v1"; att_syntax, raw);
     #[cfg(feature = "gcm")]
-    text!("gcm"; att_syntax, raw);
+    assembled!("gcm"; att_syntax, raw);
     #[cfg(feature = "gcm")]
-    text!("gcm_v3"; att_syntax, raw);
+    assembled!("gcm_v3"; att_syntax, raw);
 }
 
 #[cfg(not(target_arch = "x86_64"))]
 mod of_target {
-    // A text may have extensions of RISC-V that the target hasn't: vectors.
+    // The assembly may have an extension of RISC-V that the target hasn't: vectors.
     #[cfg(target_arch = "riscv64")]
     core::arch::global_asm!(".option arch, +m, +a, +f, +d, +c, +v");
-    text!("aes", env!("FOTSGURE_ENDING"); raw);
+    assembled!("aes", env!("FOTSGURE_ENDING"); raw);
     #[cfg(feature = "gcm")]
-    text!("gcm", env!("FOTSGURE_ENDING"); raw);
+    assembled!("gcm", env!("FOTSGURE_ENDING"); raw);
 }
 
-/// Declares the calls of one build of a library, by the prefix that its text gives to names.
+/// Declares the calls of one build of a library, by the prefix that its assembly gives to names.
 macro_rules! build {
     ($prefix:expr; $(fn $name:ident($($it:ident: $type:ty),*) $(-> $result:ty)?;)*) => {
         use super::*;
