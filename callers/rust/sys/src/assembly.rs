@@ -1,12 +1,31 @@
 //! The assembly of dist, and the calls that it exports.
 
+/// Around assembly that may have an extension of RISC-V that the target hasn't: vectors.
+#[cfg(target_arch = "riscv64")]
+macro_rules! extensions {
+    (push) => {
+        ".option push\n.option arch, +m, +a, +f, +d, +c, +v"
+    };
+    (pop) => {
+        ".option pop"
+    };
+}
+#[cfg(not(target_arch = "riscv64"))]
+macro_rules! extensions {
+    ($it:ident) => {
+        ""
+    };
+}
+
 /// Assembles a file of dist. With `in_rust` it leaves out what it would say of the whole object, and exports hidden names of its own.
 macro_rules! assembled {
     ($($name:expr),*; $($option:ident),*) => {
         core::arch::global_asm!(
+            extensions!(push),
             ".set in_rust, 1",
             include_str!(concat!("../dist/", env!("FOTSGURE_FOLDER"), "/", $($name,)* ".s")),
             ".text",
+            extensions!(pop),
             options($($option),*)
         );
     };
@@ -27,9 +46,6 @@ mod of_target {
 
 #[cfg(not(target_arch = "x86_64"))]
 mod of_target {
-    // The assembly may have an extension of RISC-V that the target hasn't: vectors.
-    #[cfg(target_arch = "riscv64")]
-    core::arch::global_asm!(".option arch, +m, +a, +f, +d, +c, +v");
     assembled!("aes", env!("FOTSGURE_ENDING"); raw);
     #[cfg(feature = "gcm")]
     assembled!("gcm", env!("FOTSGURE_ENDING"); raw);
