@@ -10,5 +10,9 @@ int main(void) {
     fotsgure_aes_wipe(&aes); /* the key schedule; the key is the program's own */
     for (size_t i = 0; i < sizeof block; i++) printf("%02x", block[i]);
     puts(" is the standard's 8ea2b7ca516745bfeafc49904b496089");
+    if (fflush(stdout) != 0) {
+        perror("example");
+        return 1;
+    }
     return failed;
 }

@@ -29,5 +29,9 @@ int main(void)
     failed = failed || memcmp(message, wanted, 16) != 0;
     fotsgure_aes_wipe(&aes);
     puts(failed ? "nonce: failed" : "nonce: passed");
+    if (fflush(stdout) != 0) {
+        perror("nonce");
+        return 1;
+    }
     return failed;
 }

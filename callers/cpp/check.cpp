@@ -1,8 +1,10 @@
 // The wrapper for C++: FIPS 197, appendix C; slices of 0 to 40 blocks against single calls; SP 800-38A, F.5, cut at
-// every place; what it throws. The last line is `N passed, N failed`.
+// every place, and F.2.1 (CBC); wrapped keys of RFC 3394 and RFC 5649; what has bytes; what it throws. The last line is
+// `N passed, N failed`.
 #include "fotsgure_aes.hpp"
 
 #include <algorithm>
+#include <cstddef>
 #include <cstdio>
 #include <string>
 #include <utility>
@@ -127,7 +129,7 @@ void counter_mode(const Row &row) {
     Bytes one(1), none;
     std::string text(1, 0);
     ctr.apply(none);
-    expect(says("the keystream ends", [&] { ctr.apply(text); }), "the end is named", key.size());
+    expect(says("the keystream ends: its position would pass 2^64 - 1", [&] { ctr.apply(text); }), "the end is named", key.size());
     expect(throws<std::length_error>([&] { ctr.apply(one); }) && one[0] == 0, "the end is refused", key.size());
     ctr.seek(3);
     fotsgure::Ctr moved(std::move(ctr));
@@ -140,9 +142,67 @@ void counter_mode(const Row &row) {
     expect(says("there is no key", [&] { ctr.apply(one); }), "no key is named", key.size());
 }
 
+// SP 800-38A, F.2.1: the four blocks of f_plain by CBC.
+void chained_blocks() {
+    const Bytes plain = bytes_of(f_plain), cipher = bytes_of("7649abac8119b246cee98e9b12e9197d5086cb9b507219ee95db113a917678b2"
+                                                             "73bed6b8e3c1743b7116e69e222295163ff1caa1681fac09120eca307586e1a7");
+    const fotsgure::Block iv{0, 1, 2, 3, 4, 5, 6, 7, 8, 9, 10, 11, 12, 13, 14, 15};
+    const fotsgure::Aes aes(bytes_of("2b7e151628aed2a6abf7158809cf4f3c"));
+    Bytes bytes = plain;
+    fotsgure::Cbc there(aes, iv), back(aes, iv);
+    there.encrypt({bytes.data(), 16});
+    there.encrypt({bytes.data() + 16, 48});
+    expect(bytes == cipher, "F.2.1, encrypted in two calls", bytes.size());
+    back.decrypt(bytes);
+    expect(bytes == plain, "F.2.1, decrypted", bytes.size());
+    expect(says("whole blocks of 16 bytes", [&] { back.decrypt({bytes.data(), 17}); }), "17 bytes are no blocks of CBC", 17);
+}
+
+// RFC 3394, 4.6, and RFC 5649, 6.
+void wrapped_keys() {
+    const Bytes key = bytes_of("00112233445566778899aabbccddeeff000102030405060708090a0b0c0d0e0f"),
+                wrapped = bytes_of("28c9f404c4b810f4cbccb35cfb87f8263f5786e2d80ed326cbc7f0e71a99f43bfb988b9b7a02dd21"),
+                short_key = bytes_of("c37b7e6492584340bed12207808941155068f738"),
+                padded = bytes_of("138bdeaa9b8fa7fc61f97742e72248ee5ae6ae5360d1ae6a5f54f373fa543b6a");
+    const fotsgure::Aes aes(bytes_of("000102030405060708090a0b0c0d0e0f101112131415161718191a1b1c1d1e1f"));
+    const fotsgure::Aes other(bytes_of("5840df6e29b02af1ab493b705bf16ea1ae8338f4dcc176a8"));
+    expect(aes.wrap(key) == wrapped && aes.unwrap(wrapped) == key, "RFC 3394, 4.6", key.size());
+    expect(other.wrap_padded(short_key) == padded && other.unwrap_padded(padded) == short_key, "RFC 5649, 6", short_key.size());
+    const std::string changed = "the key was changed, or wrapped under another key";
+    expect(says(changed, [&] { (void)aes.unwrap(padded); }) && says(changed, [&] { (void)aes.unwrap_padded(wrapped); }),
+        "the other's wrapped key is refused", key.size());
+    const std::string length = "a key of this length is not wrapped, or the output has another length";
+    expect(says(length, [&] { (void)aes.wrap(Bytes(8)); }) && says(length, [&] { (void)aes.unwrap(Bytes{}); }) &&
+        says("whole semiblocks of 8 bytes", [&] { (void)aes.wrap(Bytes(17)); }), "what isn't wrapped", 8);
+}
+
+// A key and a text are whatever has bytes, and a key moves.
+void other_types() {
+    const std::string words(16, 'k');
+    const std::uint8_t array[16] = {'k', 'k', 'k', 'k', 'k', 'k', 'k', 'k', 'k', 'k', 'k', 'k', 'k', 'k', 'k', 'k'};
+    const std::vector<std::byte> single(16, std::byte{'k'});
+    std::vector<std::byte> text(16, std::byte{1}), same = text, third = text;
+    fotsgure::Aes aes(words);
+    aes.encrypt(text);
+    fotsgure::Aes(array).encrypt(same);
+    fotsgure::Aes(single).encrypt(fotsgure::Blocks(third));
+    std::uint8_t block[16] = {1, 1, 1, 1, 1, 1, 1, 1, 1, 1, 1, 1, 1, 1, 1, 1};
+    aes.encrypt(block);
+    expect(text == same && text == third && text != single && block[0] == std::to_integer<std::uint8_t>(text[0]),
+        "keys and texts of several types", 16);
+    fotsgure::Aes moved(std::move(aes));
+    expect(says("there is no key", [&] { aes.decrypt(text); }), "a moved key is gone", 16);
+    aes = std::move(moved);
+    aes.decrypt(text);
+    expect(text == std::vector<std::byte>(16, std::byte{1}), "a moved key works", 16);
+}
+
 } // namespace
 
 int main() {
+    chained_blocks();
+    wrapped_keys();
+    other_types();
     for (const Row &row : c_rows)
         blocks(row);
     for (const Row &row : f_rows)

@@ -1,5 +1,5 @@
 // A message is sealed under the next nonce of a counter, and opened again. A program keeps the key and the counter in a
-// file, under a lock: callers/gcm/example.c shows how.
+// file, under a lock: callers/c/example_gcm.c shows how.
 #include <fotsgure_gcm.hpp>
 
 #include <iostream>
@@ -17,6 +17,6 @@ int main() {
     const auto [nonce, tag] = gcm.seal_next(counter, name, text);
     // Store counter.next() here, and then send nonce, name, text and tag.
     gcm.open(nonce, name, text, tag); // throws fotsgure::Refused if anything was changed
-    std::cout << text << '\n';
-    return text != "a message";
+    std::cout << text << std::endl;
+    return !std::cout || text != "a message";
 } // the destructor of `gcm` wipes it; the key is the program's own

@@ -1,4 +1,4 @@
-// What must not compile, one line for each number of MISUSE; 0 does.
+// What must not compile, one line for each number of MISUSE, with words that the compiler has to say; 0 compiles.
 #include "fotsgure_aes.hpp"
 #include "fotsgure_gcm.hpp"
 
@@ -13,35 +13,46 @@ void misuse(const fotsgure::Aes &aes, fotsgure::Ctr &ctr, const fotsgure::Gcm &g
     std::vector<std::unique_ptr<int>> pointers(2);
     std::vector<double> numbers(2);
     [[maybe_unused]] std::array<bool, 16> bits{};
+    [[maybe_unused]] char characters[] = "a message";
     const std::vector<std::uint8_t> constant(16);
     aes.encrypt(bytes);
     aes.encrypt(blocks);
     ctr.apply(bytes);
     (void)gcm.seal_next(counter, constant, bytes);
-#if MISUSE == 1
+#if MISUSE == 1 // its elements are single bytes
     aes.encrypt(strings);
-#elif MISUSE == 2
+#elif MISUSE == 2 // its elements are single bytes
     aes.decrypt(pointers);
-#elif MISUSE == 3
+#elif MISUSE == 3 // its elements are single bytes
     ctr.apply(numbers);
-#elif MISUSE == 4
+#elif MISUSE == 4 // its elements are single bytes
     aes.encrypt(bits);
-#elif MISUSE == 5
+#elif MISUSE == 5 // the call writes these bytes, and they are const
     aes.encrypt(constant);
-#elif MISUSE == 6
+#elif MISUSE == 6 // its elements are single bytes
     (void)gcm.seal_next(counter, {}, strings);
-#elif MISUSE == 7
+#elif MISUSE == 7 // its elements are single bytes
     (void)gcm.seal_next(counter, numbers, bytes);
-#elif MISUSE == 8
+#elif MISUSE == 8 // its elements are single bytes
     (void)gcm.seal_next(counter, {}, blocks);
-#elif MISUSE == 9
+#elif MISUSE == 9 // the call writes these bytes, and they are const
     (void)gcm.seal_next(counter, {}, constant);
-#elif MISUSE == 10
+#elif MISUSE == 10 // deleted
     fotsgure::Counter copy = counter;
-#elif MISUSE == 11
+#elif MISUSE == 11 // deleted
     fotsgure::Gcm copy = gcm;
-#elif MISUSE == 12
+#elif MISUSE == 12 // deleted
     fotsgure::Ctr dangling(fotsgure::Aes(bytes), blocks[0]);
     dangling.apply(bytes);
+#elif MISUSE == 13 // an array of char may end in a zero that isn't part of the text
+    (void)gcm.seal_next(counter, "its name", bytes);
+#elif MISUSE == 14 // an array of char may end in a zero that isn't part of the text
+    (void)gcm.seal_next(counter, {}, characters);
+#elif MISUSE == 15 // an array of char may end in a zero that isn't part of the text
+    fotsgure::Aes password("0123456789abcdef");
+#elif MISUSE == 16 // a pointer needs a length beside it
+    (void)gcm.seal_next(counter, bytes.data(), bytes);
+#elif MISUSE == 17 // deleted
+    auto dangling = fotsgure::Gcm(bytes).begin(bytes);
 #endif
 }

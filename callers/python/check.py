@@ -3,7 +3,7 @@ every place; every refusal; arguments that are no bytes and no positions. The la
 import array
 import sys
 
-from fotsgure_aes import VERSION, Aes
+from fotsgure.aes import VERSION, Aes
 
 # FIPS 197, appendix C: the key counts from 00 on.
 C_PLAIN = bytes.fromhex("00112233445566778899aabbccddeeff")

@@ -11,8 +11,8 @@ import subprocess
 import sys
 import threading
 
-from fotsgure_aead import AESGCM, AESGCMSIV, InvalidTag
-from fotsgure_gcm import VERSION, Gcm, GcmSiv, Refused
+from fotsgure.aead import AESGCM, AESGCMSIV, InvalidTag
+from fotsgure.gcm import VERSION, Gcm, GcmSiv, Refused
 
 KEY = bytes.fromhex("feffe9928665731c6d6a8f9467308308")
 NONCE = bytes.fromhex("cafebabefacedbaddecaf888")
@@ -154,16 +154,26 @@ NOTHINGS = (16, 12, 0, -1, True, 1.5, [0] * 16, (0,) * 12, [256] * 12, range(12)
 gcm, tag = Gcm(KEY, bytes(12)), bytes(16)
 for thing in (None, *NOTHINGS):
     message = gcm.begin(NONCE)
-    calls = [(Gcm, thing), (gcm.seal, thing, PLAIN), (gcm.seal, NONCE, thing), (gcm.seal, NONCE, PLAIN, thing),
-             (gcm.seal_next, thing), (gcm.seal_next, PLAIN, thing), (gcm.open, thing, PLAIN), (gcm.open, NONCE, thing),
-             (gcm.open, NONCE, PLAIN, thing), (gcm.begin, thing), (message.additional, thing), (message.encrypt, thing),
-             (message.verify, thing), (message.accept, thing), (message.decrypt, thing),
+    calls = [(Gcm, thing), (gcm.seal, thing, PLAIN), (gcm.seal, NONCE, thing), (gcm.seal_next, thing),
+             (gcm.open, thing, PLAIN), (gcm.open, NONCE, thing), (gcm.begin, thing), (message.additional, thing),
+             (message.encrypt, thing), (message.verify, thing), (message.accept, thing), (message.decrypt, thing),
              (message.decrypt_unverified, thing)]
+    if thing is not None:
+        calls += [(gcm.seal, NONCE, PLAIN, thing), (gcm.seal_next, PLAIN, thing), (gcm.open, NONCE, PLAIN, thing)]
     for call, *arguments in calls:
         expect(raises(TypeError, call, *arguments), f"{call} of {thing!r}")
 for thing in NOTHINGS:
     expect(raises(TypeError, Gcm, KEY, thing), f"{thing!r} is no counter")
 expect(gcm.counter == bytes(12), "a refused call moves no counter")
+expect(gcm.open(NONCE, gcm.seal(NONCE, PLAIN, None), b"") == PLAIN, "no additional data is None or empty")
+for thing in (gcm, GcmSiv(KEY), gcm.begin(NONCE)):
+    for call in (copy.copy, copy.deepcopy, pickle.dumps):
+        try:
+            call(thing)
+        except TypeError as error:
+            words = str(error)
+        expect(words.startswith("cannot pickle or copy a key"), f"{call} of {thing}: {words}")
+        words = "no error"
 # Whatever has bytes is taken by all of them.
 words, text = array.array("I", range(9)), array.array("I", range(9)).tobytes()
 expect(words.itemsize == 4 and gcm.seal(words[:3], words, words) == gcm.seal(text[:12], text, text), "arrays")
@@ -286,28 +296,34 @@ def into(call, data, place):
     return call(NONCE, data, None, place), bytes(place)
 
 
-# Calls of a class, and what they come to: recorded of cryptography 48.0.0, which is asked here if it is installed.
+# Calls of a class, and what they come to: recorded of cryptography 48.0.0, which is asked here if it is installed. The words
+# of a ValueError and a BufferError are its own too; those of a TypeError name its types.
+WRONG_NONCE = ValueError, "Nonce must be between 8 and 128 bytes"
+WRONG_BITS = ValueError, "bit_length must be 128, 192, or 256"
+WRONG_KEY = ValueError, "AESGCM key must be 128, 192, or 256 bits."
 ROWS = (
     (lambda aes: into(aes.encrypt_into, b"0123456789", bytearray(26)), (26, SEALED)),
     (lambda aes: into(aes.encrypt_into, b"0123456789", memoryview(bytearray(26)).cast("B", (2, 13))), (26, SEALED)),
-    (lambda aes: into(aes.encrypt_into, b"0123456789", bytearray(25)), ValueError),
-    (lambda aes: into(aes.encrypt_into, b"0123456789", bytearray(27)), ValueError),
+    (lambda aes: into(aes.encrypt_into, b"0123456789", bytearray(25)), (ValueError, "buffer must be 26 bytes")),
+    (lambda aes: into(aes.encrypt_into, b"0123456789", bytearray(27)), (ValueError, "buffer must be 26 bytes")),
     (lambda aes: into(aes.encrypt_into, b"0123456789", bytes(26)), TypeError),
-    (lambda aes: into(aes.encrypt_into, b"0123456789", GAPS), BufferError),
+    (lambda aes: into(aes.encrypt_into, b"0123456789", GAPS), (BufferError, "Buffer is not contiguous.")),
     (lambda aes: into(aes.encrypt_into, b"0123456789", None), TypeError),
     (lambda aes: into(aes.decrypt_into, SEALED, bytearray(10)), (10, b"0123456789")),
     (lambda aes: into(aes.decrypt_into, SEALED[-16:], bytearray()), InvalidTag),
-    (lambda aes: into(aes.decrypt_into, SEALED, bytearray(9)), ValueError),
-    (lambda aes: into(aes.decrypt_into, SEALED, bytearray(26)), ValueError),
+    (lambda aes: into(aes.decrypt_into, SEALED, bytearray(9)), (ValueError, "buffer must be 10 bytes")),
+    (lambda aes: into(aes.decrypt_into, SEALED, bytearray(26)), (ValueError, "buffer must be 10 bytes")),
     (lambda aes: into(aes.decrypt_into, SEALED[:15], bytearray(9)), InvalidTag),
     (lambda aes: into(aes.decrypt_into, SEALED[:15], bytes(9)), TypeError),
     (lambda aes: into(aes.decrypt_into, SEALED[:-1] + b"!", bytearray(10)), InvalidTag),
-    (lambda aes: aes.encrypt_into(nonce=bytes(7), data=b"", associated_data=None, buf=bytearray()), ValueError),
-    (lambda aes: aes.decrypt_into(nonce=bytes(7), data=b"", associated_data=None, buf=bytearray()), ValueError),
-    (lambda aes: aes.encrypt(NONCE, GAPS, None), BufferError),
-    (lambda aes: aes.encrypt(NONCE, b"", GAPS), BufferError),
+    (lambda aes: aes.encrypt_into(nonce=bytes(7), data=b"", associated_data=None, buf=bytearray()), WRONG_NONCE),
+    (lambda aes: aes.decrypt_into(nonce=bytes(7), data=b"", associated_data=None, buf=bytearray()), WRONG_NONCE),
+    (lambda aes: aes.encrypt(NONCE, GAPS, None), (BufferError, "Buffer is not contiguous.")),
+    (lambda aes: aes.encrypt(NONCE, b"", GAPS), (BufferError, "Buffer is not contiguous.")),
     (lambda aes: aes.encrypt(NONCE, b""), TypeError),
     (lambda aes: type(aes).generate_key(128.0), TypeError),
+    (lambda aes: type(aes).generate_key(129), WRONG_BITS),
+    (lambda aes: type(aes)(bytes(31)), WRONG_KEY),
     (lambda aes: len(type(aes).generate_key(bit_length=192)), 24),
     (copy.copy, TypeError),
     (copy.deepcopy, TypeError),
@@ -318,6 +334,8 @@ ROWS = (
 def outcome(call, aes):
     try:
         return call(aes)
+    except (ValueError, BufferError) as error:
+        return type(error), str(error)
     except Exception as error:
         return type(error)
 
@@ -335,9 +353,13 @@ if len(classes) == 1:
 for number, (call, wanted) in enumerate(ROWS):
     for each in classes:
         expect(outcome(call, each(KEY)) == wanted, f"row {number} of {each}: {outcome(call, each(KEY))} and not {wanted}")
+# AES-GCM-SIV has nonces of 12 bytes, and by RFC 8452 no keys of 24.
+OF_SIV = {(26, SEALED): (26, AESGCMSIV(KEY).encrypt(NONCE, b"0123456789", None)),
+          WRONG_NONCE: (ValueError, "Nonce must be 12 bytes long"), WRONG_BITS: (ValueError, "bit_length must be 128 or 256"),
+          WRONG_KEY: (ValueError, "AES-GCM-SIV key must be 128 or 256 bits.")}
 SEALED = AESGCMSIV(KEY).encrypt(NONCE, b"0123456789", None)
 for number, (call, wanted) in enumerate(ROWS):
-    wanted = (26, SEALED) if isinstance(wanted, tuple) and wanted[0] == 26 else wanted
+    wanted = OF_SIV.get(wanted, wanted)
     if wanted != 24:
         expect(outcome(call, AESGCMSIV(KEY)) == wanted, f"row {number} of AESGCMSIV: {outcome(call, AESGCMSIV(KEY))}")
 place = bytearray(10)

@@ -2,7 +2,7 @@
 message: see example_gcm.py."""
 import sys
 
-from fotsgure_aes import Aes
+from fotsgure.aes import Aes
 
 plain = bytes.fromhex("00112233445566778899aabbccddeeff")
 with Aes(bytes(range(32))) as aes:  # raises ValueError for a key of another length

@@ -450,6 +450,15 @@ static void as_openssl(size_t size)
 }
 #endif
 
+/* Each status has words of its own, and what is no status has others. */
+static void words(void)
+{
+    for (int a = 0; a <= FOTSGURE_AES_REFUSED + 1; a++)
+        for (int b = 0; b < a; b++)
+            expect(strcmp(fotsgure_aes_status_text((enum fotsgure_aes_status)a),
+                fotsgure_aes_status_text((enum fotsgure_aes_status)b)) != 0, "two statuses in the same words", (size_t)a);
+}
+
 int main(void)
 {
     for (size_t i = 0; i < sizeof counted; i++)
@@ -469,6 +478,7 @@ int main(void)
         padded_keys(i);
     paddings();
     statuses();
+    words();
     printf("%d passed, %d failed\n", passed, failed);
     return failed != 0;
 }

@@ -473,11 +473,25 @@ static void pieces(void)
     fotsgure_gcm_wipe(&gcm);
 }
 
+/* Each status has words of its own, and what is no status has others. */
+static void words(void)
+{
+    for (int a = 0; a <= FOTSGURE_GCM_NO_RANDOMNESS + 1; a++)
+        for (int b = 0; b < a; b++)
+            expect(strcmp(fotsgure_gcm_status_text((enum fotsgure_gcm_status)a),
+                fotsgure_gcm_status_text((enum fotsgure_gcm_status)b)) != 0, "two statuses in the same words", (size_t)a);
+    uint8_t bytes[8];
+    memset(bytes, 1, sizeof bytes);
+    fotsgure_gcm_wipe_bytes(bytes + 1, 6);
+    expect(bytes[0] == 1 && all(bytes + 1, 6, 0) && bytes[7] == 1, "bytes of the caller's are wiped, and no others", 6);
+}
+
 int main(void)
 {
     published();
     lengths();
     statuses();
+    words();
     counted();
     pieces();
     siv();

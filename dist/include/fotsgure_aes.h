@@ -56,7 +56,7 @@
 #define FOTSGURE_AES_ALONE __restrict
 #define FOTSGURE_AES_NOEXCEPT noexcept
 #define FOTSGURE_AES_ASSERT static_assert
-#define FOTSGURE_AES_CAST(type, value) reinterpret_cast<type>(value)
+#define FOTSGURE_AES_CAST(cast, type, value) cast<type>(value)
 extern "C" {
 #else
 #define FOTSGURE_AES_ALONE restrict
@@ -66,7 +66,7 @@ extern "C" {
 #else
 #define FOTSGURE_AES_ASSERT(holds, why) extern int fotsgure_aes_assert[(holds) ? 1 : -1]
 #endif
-#define FOTSGURE_AES_CAST(type, value) ((type)(value))
+#define FOTSGURE_AES_CAST(cast, type, value) ((type)(value))
 #endif
 
 #if defined(__GNUC__) || defined(__clang__)
@@ -205,17 +205,34 @@ FOTSGURE_AES_CHECK enum fotsgure_aes_status fotsgure_aes_add_keystream_with(cons
     struct fotsgure_aes_ctr *FOTSGURE_AES_ALONE ctr,
     uint8_t *FOTSGURE_AES_ALONE bytes, size_t count) FOTSGURE_AES_NOEXCEPT;
 
+/* Says in words what a status means: for logs, and for people. */
+static inline const char *fotsgure_aes_status_text(enum fotsgure_aes_status status) FOTSGURE_AES_NOEXCEPT
+{
+    switch (status) {
+    case FOTSGURE_AES_DONE: return "the work is done";
+    case FOTSGURE_AES_KEY_LENGTH: return "a key has 16, 24 or 32 bytes";
+    case FOTSGURE_AES_NO_KEY: return "there is no key";
+    case FOTSGURE_AES_UNEQUAL_COUNTS: return "input and output differ in length";
+    case FOTSGURE_AES_KEYSTREAM_END: return "the keystream ends: its position would pass 2^64 - 1";
+    case FOTSGURE_AES_INVALID_COUNT: return "a key of this length is not wrapped, or the output has another length";
+    case FOTSGURE_AES_REFUSED: return "the key was changed, or wrapped under another key";
+    }
+    return "this header doesn't know the status";
+}
+
 /* NULL with a count of 0: the library takes no NULL, so each call below hands on an address that is not NULL instead,
- * and that nothing reads or writes. Whoever calls the library without this header does the same. NULL with another
- * count is a mistake that ends the program: the call reads or writes there, at address 16. A pointer to a function,
- * and a name in parentheses, is the library's call itself. */
+ * and that nothing reads or writes. Bindings that bypass this header do the same. NULL with another count is a mistake that
+ * ends the program, since the call reads or writes there, at address 16; or the call returns a status before it does. A
+ * pointer to a function, and a name in parentheses, is the library's call itself. */
 static inline const uint8_t *fotsgure_aes_not_null(const uint8_t *bytes) FOTSGURE_AES_NOEXCEPT
 {
-    return bytes ? bytes : FOTSGURE_AES_CAST(const uint8_t *, (uintptr_t)FOTSGURE_AES_BLOCK);
+    return bytes ? bytes : FOTSGURE_AES_CAST(reinterpret_cast, const uint8_t *,
+        FOTSGURE_AES_CAST(static_cast, uintptr_t, FOTSGURE_AES_BLOCK));
 }
 static inline uint8_t *fotsgure_aes_not_null_mut(uint8_t *bytes) FOTSGURE_AES_NOEXCEPT
 {
-    return bytes ? bytes : FOTSGURE_AES_CAST(uint8_t *, (uintptr_t)FOTSGURE_AES_BLOCK);
+    return bytes ? bytes : FOTSGURE_AES_CAST(reinterpret_cast, uint8_t *,
+        FOTSGURE_AES_CAST(static_cast, uintptr_t, FOTSGURE_AES_BLOCK));
 }
 
 FOTSGURE_AES_CHECK static inline enum fotsgure_aes_status fotsgure_aes_not_null_set_key(struct fotsgure_aes *aes,

@@ -53,17 +53,17 @@
 
 #define FOTSGURE_GCM_NONCE 12                             /* bytes of a counted nonce; take this length if you can */
 #define FOTSGURE_GCM_TAG 16                               /* bytes of a tag */
-#define FOTSGURE_GCM_MOST (((uint64_t)1 << 36) - 32)      /* the most bytes of a text (5.2.1.1) */
-#define FOTSGURE_GCM_MOST_ADDITIONAL (((uint64_t)1 << 61) - 1) /* the most bytes of additional data */
+#define FOTSGURE_GCM_MOST ((UINT64_C(1) << 36) - 32)      /* the most bytes of a text (5.2.1.1) */
+#define FOTSGURE_GCM_MOST_ADDITIONAL ((UINT64_C(1) << 61) - 1) /* the most bytes of additional data */
 #define FOTSGURE_GCM_SIV_NONCE 12                         /* bytes of a nonce of AES-GCM-SIV */
-#define FOTSGURE_GCM_SIV_MOST ((uint64_t)1 << 36)         /* its most bytes of a text, and of additional data (RFC 8452, 4) */
+#define FOTSGURE_GCM_SIV_MOST (UINT64_C(1) << 36)         /* its most bytes of a text, and of additional data (RFC 8452, 4) */
 #define FOTSGURE_GCM_STACK 16384                          /* bytes of stack that are enough for every call */
 
 #ifdef __cplusplus
 #define FOTSGURE_GCM_ALONE __restrict
 #define FOTSGURE_GCM_NOEXCEPT noexcept
 #define FOTSGURE_GCM_ASSERT static_assert
-#define FOTSGURE_GCM_CAST(type, value) reinterpret_cast<type>(value)
+#define FOTSGURE_GCM_CAST(cast, type, value) cast<type>(value)
 extern "C" {
 #else
 #define FOTSGURE_GCM_ALONE restrict
@@ -73,7 +73,7 @@ extern "C" {
 #else
 #define FOTSGURE_GCM_ASSERT(holds, why) extern int fotsgure_gcm_assert[(holds) ? 1 : -1]
 #endif
-#define FOTSGURE_GCM_CAST(type, value) ((type)(value))
+#define FOTSGURE_GCM_CAST(cast, type, value) ((type)(value))
 #endif
 
 #if defined(__GNUC__) || defined(__clang__)
@@ -92,8 +92,8 @@ enum fotsgure_gcm_status {
     FOTSGURE_GCM_TOO_LONG = 5,     /* more text or additional data than the standard allows, or more text to decrypt
                                     * than was verified */
     FOTSGURE_GCM_REFUSED = 6,      /* the tag isn't that of this key, nonce, additional data and text */
-    FOTSGURE_GCM_NONCES_END = 7,   /* the counter of nonces has come to its end */
-    FOTSGURE_GCM_OUT_OF_TURN = 8,  /* the message is not where this call may come */
+    FOTSGURE_GCM_NONCES_END = 7,   /* the counter of nonces has no number left */
+    FOTSGURE_GCM_OUT_OF_TURN = 8,  /* the calls for a message came in the wrong order */
     FOTSGURE_GCM_NO_RANDOMNESS = 9 /* the system gave no randomness for a nonce */
 };
 
@@ -185,10 +185,11 @@ FOTSGURE_GCM_CHECK enum fotsgure_gcm_status fotsgure_gcm_open(const struct fotsg
  *   to encrypt: begin, additional .., encrypt .., finish
  *   to decrypt: begin, additional .., verify .., accept, and then decrypt .., with the same cipher text once more
  *
- * A call that comes out of turn is refused and changes nothing, and so is one that would make the message longer than
- * the standard allows. fotsgure_gcm_decrypt decrypts only after a call has found the tag right;
- * fotsgure_gcm_decrypt_unverified doesn't wait for it. A message may be given up at any time; wipe it when you are done. Once some of its
- * text was encrypted, its nonce is used, even if the message was never finished: begin anew under another one. */
+ * A call in the wrong order is refused and changes nothing, and so is one that would make the message longer than the
+ * standard allows. fotsgure_gcm_decrypt decrypts only after a call has found the tag right;
+ * fotsgure_gcm_decrypt_unverified doesn't wait for it. A message may be abandoned at any time; wipe it when you are done.
+ * Once some of its text was encrypted, its nonce is used, even if the message was never finished: begin again, with a new
+ * nonce. */
 
 /* Begins a message under a nonce, which has any length. *message may be uninitialized: none of it is read, and nothing
  * of what it held is left. A refused call leaves it as it was. It moves no counter: never give it the `next` of a
@@ -306,17 +307,46 @@ FOTSGURE_GCM_CHECK enum fotsgure_gcm_status fotsgure_gcm_siv_open(const struct f
 /* Overwrites *siv with zeros: it then holds no key. It may be uninitialized. Copies are not wiped. */
 void fotsgure_gcm_siv_wipe(struct fotsgure_gcm_siv *siv) FOTSGURE_GCM_NOEXCEPT;
 
+/* Says in words what a status means: for logs, and for people. */
+static inline const char *fotsgure_gcm_status_text(enum fotsgure_gcm_status status) FOTSGURE_GCM_NOEXCEPT
+{
+    switch (status) {
+    case FOTSGURE_GCM_DONE: return "the work is done";
+    case FOTSGURE_GCM_KEY_LENGTH: return "a key has 16, 24 or 32 bytes, of AES-GCM-SIV 16 or 32";
+    case FOTSGURE_GCM_NO_KEY: return "there is no key";
+    case FOTSGURE_GCM_NONCE_LENGTH: return "a nonce has one byte or more";
+    case FOTSGURE_GCM_TAG_LENGTH: return "a tag has 16 bytes, or as many as are fixed";
+    case FOTSGURE_GCM_TOO_LONG: return "there are more bytes than the standard allows, or than were verified";
+    case FOTSGURE_GCM_REFUSED: return "the message was changed, or sealed under another key";
+    case FOTSGURE_GCM_NONCES_END: return "no nonce is left: take a new key";
+    case FOTSGURE_GCM_OUT_OF_TURN:
+        return "the calls came in the wrong order, for example text after finish, or decrypt before accept";
+    case FOTSGURE_GCM_NO_RANDOMNESS: return "the system gave no randomness for a nonce";
+    }
+    return "this header doesn't know the status";
+}
+
+/* Overwrites bytes of yours with zeros, for example a key, by writes that the compiler doesn't leave out. */
+static inline void fotsgure_gcm_wipe_bytes(void *bytes, size_t count) FOTSGURE_GCM_NOEXCEPT
+{
+    volatile uint8_t *byte = FOTSGURE_GCM_CAST(static_cast, volatile uint8_t *, bytes);
+    while (count-- > 0)
+        *byte++ = 0;
+}
+
 /* NULL with a length of 0: the library takes no NULL, so each call below hands on an address that is not NULL instead,
- * and that nothing reads or writes. Whoever calls the library without this header does the same. NULL with another
- * length is a mistake that ends the program: the call reads or writes there, at address 16. A pointer to a function,
- * and a name in parentheses, is the library's call itself. */
+ * and that nothing reads or writes. Bindings that bypass this header do the same. NULL with another length is a mistake that
+ * ends the program, since the call reads or writes there, at address 16; or the call returns a status before it does. A
+ * pointer to a function, and a name in parentheses, is the library's call itself. */
 static inline const uint8_t *fotsgure_gcm_not_null(const uint8_t *bytes) FOTSGURE_GCM_NOEXCEPT
 {
-    return bytes ? bytes : FOTSGURE_GCM_CAST(const uint8_t *, (uintptr_t)FOTSGURE_GCM_TAG);
+    return bytes ? bytes : FOTSGURE_GCM_CAST(reinterpret_cast, const uint8_t *,
+        FOTSGURE_GCM_CAST(static_cast, uintptr_t, FOTSGURE_GCM_TAG));
 }
 static inline uint8_t *fotsgure_gcm_not_null_mut(uint8_t *bytes) FOTSGURE_GCM_NOEXCEPT
 {
-    return bytes ? bytes : FOTSGURE_GCM_CAST(uint8_t *, (uintptr_t)FOTSGURE_GCM_TAG);
+    return bytes ? bytes : FOTSGURE_GCM_CAST(reinterpret_cast, uint8_t *,
+        FOTSGURE_GCM_CAST(static_cast, uintptr_t, FOTSGURE_GCM_TAG));
 }
 
 FOTSGURE_GCM_CHECK static inline enum fotsgure_gcm_status fotsgure_gcm_not_null_set_key(struct fotsgure_gcm *gcm,

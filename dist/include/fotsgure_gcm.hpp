@@ -5,12 +5,11 @@
 #define FOTSGURE_GCM_HPP
 
 #include "fotsgure_gcm.h"
+#include "fotsgure_bytes.hpp"
+#ifdef FOTSGURE_BYTES_HPP_IS_WHOLE
 
 #include <array>
-#include <cstddef>
-#include <cstdint>
 #include <stdexcept>
-#include <type_traits>
 #include <utility>
 
 namespace fotsgure {
@@ -22,60 +21,47 @@ using Tag = std::array<std::uint8_t, FOTSGURE_GCM_TAG>;
 // that.
 class Refused : public std::runtime_error {
 public:
-    Refused() : std::runtime_error("the message was refused") {}
+    Refused() : std::runtime_error(fotsgure_gcm_status_text(FOTSGURE_GCM_REFUSED)) {}
 };
 
 namespace detail {
 
-// Throws for every status but DONE, each with its own words.
+// Throws for every status but DONE, with the header's words.
 inline void check(fotsgure_gcm_status status) {
+    const char *const words = fotsgure_gcm_status_text(status);
     switch (status) {
     case FOTSGURE_GCM_DONE: return;
-    case FOTSGURE_GCM_KEY_LENGTH: throw std::invalid_argument("a key has 16, 24 or 32 bytes, of AES-GCM-SIV 16 or 32");
-    case FOTSGURE_GCM_NO_KEY: throw std::logic_error("there is no key");
-    case FOTSGURE_GCM_NONCE_LENGTH: throw std::invalid_argument("a nonce has one byte or more");
-    case FOTSGURE_GCM_TAG_LENGTH: throw std::invalid_argument("a tag has 16 bytes");
-    case FOTSGURE_GCM_TOO_LONG: throw std::length_error("there are more bytes than the standard allows");
+    case FOTSGURE_GCM_KEY_LENGTH:
+    case FOTSGURE_GCM_NONCE_LENGTH:
+    case FOTSGURE_GCM_TAG_LENGTH: throw std::invalid_argument(words);
+    case FOTSGURE_GCM_TOO_LONG:
+    case FOTSGURE_GCM_NONCES_END: throw std::length_error(words);
     case FOTSGURE_GCM_REFUSED: throw Refused();
-    case FOTSGURE_GCM_NONCES_END: throw std::length_error("no nonce is left: take a new key");
-    case FOTSGURE_GCM_OUT_OF_TURN: throw std::logic_error("it isn't the turn of this call");
-    case FOTSGURE_GCM_NO_RANDOMNESS: throw std::runtime_error("the system gave no randomness for a nonce");
+    case FOTSGURE_GCM_NO_RANDOMNESS: throw std::runtime_error(words);
+    case FOTSGURE_GCM_NO_KEY:
+    case FOTSGURE_GCM_OUT_OF_TURN: break;
     }
-    throw std::logic_error("the library has statuses that this header doesn't know");
+    throw std::logic_error(words);
 }
 
 } // namespace detail
 
-// Bytes that a call reads, or writes if Byte isn't const: a pointer and a length, or a vector, an array or a string of
-// single bytes, or nothing.
-template <class Byte> class BasicBytes {
-public:
-    BasicBytes() = default;
-    BasicBytes(Byte *first, std::size_t count) : start(first), length(count) {}
-    template <class Container, class = std::enable_if_t<!std::is_same_v<std::decay_t<Container>, BasicBytes>>>
-    BasicBytes(Container &&data) : start(reinterpret_cast<Byte *>(data.data())), length(data.size()) {
-        using Element = std::remove_cv_t<std::remove_pointer_t<decltype(data.data())>>;
-        static_assert(std::is_trivially_copyable_v<Element> && !std::is_same_v<Element, bool> && sizeof(Element) == 1,
-            "its elements are single bytes");
-    }
-    Byte *data() const { return start; }
-    std::size_t size() const { return length; }
-
-private:
-    Byte *start = nullptr;
-    std::size_t length = 0;
-};
-using Bytes = BasicBytes<const std::uint8_t>;
-using MutableBytes = BasicBytes<std::uint8_t>;
-
-// A key of AES-GCM-SIV, of 16 or 32 bytes. The destructor wipes it. It can't be copied or moved, so that no copy is
-// forgotten. Threads may share one.
+// A key of AES-GCM-SIV, of 16 or 32 bytes. The destructor wipes it. It can't be copied, so that no copy is forgotten. It can be
+// moved, and what it was moved from has no key then: its calls throw std::logic_error. Threads may share one.
 class GcmSiv {
 public:
     explicit GcmSiv(Bytes key) { detail::check(fotsgure_gcm_siv_set_key(&siv, key.data(), key.size())); }
     ~GcmSiv() { fotsgure_gcm_siv_wipe(&siv); }
     GcmSiv(const GcmSiv &) = delete;
     GcmSiv &operator=(const GcmSiv &) = delete;
+    GcmSiv(GcmSiv &&from) noexcept : siv(from.siv) { fotsgure_gcm_siv_wipe(&from.siv); }
+    GcmSiv &operator=(GcmSiv &&from) noexcept {
+        if (this != &from) {
+            siv = from.siv;
+            fotsgure_gcm_siv_wipe(&from.siv);
+        }
+        return *this;
+    }
 
     // Encrypts a text in place under a nonce that is drawn at random: returns that nonce and the tag.
     [[nodiscard]] std::pair<Nonce, Tag> seal_random(Bytes additional, MutableBytes text) const {
@@ -126,14 +112,71 @@ private:
     fotsgure_gcm_counter counter{};
 };
 
-// A key of GCM, of 16, 24 or 32 bytes. The destructor wipes it. It can't be copied or moved, so that no copy is forgotten.
-// Threads may share one.
+// A message in pieces of any size, which Gcm::begin and begin_next make; the key has to stay where it is meanwhile. Calls in
+// the wrong order throw std::logic_error and change nothing. It is as secret as the key, and the destructor wipes it. It can't
+// be copied: a copy would encrypt another text under the same nonce.
+class Message {
+public:
+    ~Message() { fotsgure_gcm_wipe_message(&message); }
+    Message(const Message &) = delete;
+    Message &operator=(const Message &) = delete;
+    Message(Message &&from) noexcept : gcm(from.gcm), message(from.message) { fotsgure_gcm_wipe_message(&from.message); }
+
+    // A piece of the additional data, all of which comes before the text.
+    void additional(Bytes data) { detail::check(fotsgure_gcm_additional(gcm, &message, data.data(), data.size())); }
+    // Encrypts a piece of the text in place.
+    void encrypt(MutableBytes text) { detail::check(fotsgure_gcm_encrypt(gcm, &message, text.data(), text.size())); }
+    // Ends a message that was encrypted: returns its tag.
+    [[nodiscard]] Tag finish() {
+        Tag tag{};
+        detail::check(fotsgure_gcm_finish(gcm, &message, tag.data()));
+        return tag;
+    }
+    // A piece of an encrypted text, whose tag is to be compared.
+    void verify(Bytes text) { detail::check(fotsgure_gcm_verify(gcm, &message, text.data(), text.size())); }
+    // Throws Refused, and wipes the message, if the tag isn't that of what has come.
+    void accept(Bytes tag) { accepted(fotsgure_gcm_accept(gcm, &message, tag.data(), tag.size())); }
+    // The same for a protocol whose tags all have `fixed_length` bytes: 4, 8 or 12 to 15. Never take that number from a message.
+    void accept_short(std::size_t fixed_length, Bytes tag) {
+        accepted(fotsgure_gcm_accept_short(gcm, &message, fixed_length, tag.data(), tag.size()));
+    }
+    // Decrypts a piece in place of the text whose tag was right: the same text once more, from its beginning on.
+    void decrypt(MutableBytes text) { detail::check(fotsgure_gcm_decrypt(gcm, &message, text.data(), text.size())); }
+    // Takes a piece as `verify` does and decrypts it at once. NOBODY HAS AUTHENTICATED IT: use nothing of it before `accept` has
+    // returned, and forget it if that throws.
+    void decrypt_unverified(MutableBytes text) {
+        detail::check(fotsgure_gcm_decrypt_unverified(gcm, &message, text.data(), text.size()));
+    }
+
+private:
+    friend class Gcm;
+    explicit Message(const fotsgure_gcm &under) : gcm(&under) {}
+    void accepted(fotsgure_gcm_status status) {
+        if (status == FOTSGURE_GCM_REFUSED)
+            fotsgure_gcm_wipe_message(&message);
+        detail::check(status);
+    }
+
+    const fotsgure_gcm *gcm;
+    fotsgure_gcm_message message{};
+};
+
+// A key of GCM, of 16, 24 or 32 bytes. The destructor wipes it. It can't be copied, so that no copy is forgotten. It can be
+// moved, and what it was moved from has no key then: its calls throw std::logic_error. Threads may share one.
 class Gcm {
 public:
     explicit Gcm(Bytes key) { detail::check(fotsgure_gcm_set_key(&gcm, key.data(), key.size())); }
     ~Gcm() { fotsgure_gcm_wipe(&gcm); }
     Gcm(const Gcm &) = delete;
     Gcm &operator=(const Gcm &) = delete;
+    Gcm(Gcm &&from) noexcept : gcm(from.gcm) { fotsgure_gcm_wipe(&from.gcm); }
+    Gcm &operator=(Gcm &&from) noexcept {
+        if (this != &from) {
+            gcm = from.gcm;
+            fotsgure_gcm_wipe(&from.gcm);
+        }
+        return *this;
+    }
 
     // Encrypts a text in place under the counter's next nonce, which moves on: returns that nonce and the tag.
     [[nodiscard]] std::pair<Nonce, Tag> seal_next(Counter &counter, Bytes additional, MutableBytes text) const {
@@ -155,9 +198,26 @@ public:
             text.size(), tag.data(), tag.size()));
     }
 
+    // Begins a message in pieces under the counter's next nonce: returns that nonce and the message. Store the counter before
+    // anything of the message is sent.
+    [[nodiscard]] std::pair<Nonce, Message> begin_next(Counter &counter) const & {
+        std::pair<Nonce, Message> begun{Nonce{}, Message(gcm)};
+        detail::check(fotsgure_gcm_begin_next(&gcm, &begun.second.message, &counter.counter, begun.first.data()));
+        return begun;
+    }
+    // The same under a nonce of yours.
+    [[nodiscard]] Message begin(Bytes nonce) const & {
+        Message message(gcm);
+        detail::check(fotsgure_gcm_begin(&gcm, &message.message, nonce.data(), nonce.size()));
+        return message;
+    }
+    std::pair<Nonce, Message> begin_next(Counter &counter) const && = delete;
+    Message begin(Bytes nonce) const && = delete;
+
 private:
     fotsgure_gcm gcm{};
 };
 
 } // namespace fotsgure
+#endif
 #endif

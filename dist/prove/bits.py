@@ -18,6 +18,10 @@ moved, but with which nothing may be computed (what a buffer or a register held 
 for byte k of a value of machine.py or of a buffer."""
 
 import functools
+import sys
+
+if sys.version_info < (3, 11):
+    sys.exit("the proof needs Python 3.11 or later: name one, as in 'make prove PYTHON=python3.11'")
 
 KEY, DATA, PUBLIC = 1, 2, 4  # what a cell depends on
 ONES = (1 << 256) - 1

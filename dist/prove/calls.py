@@ -62,7 +62,7 @@ def prove(domain, program, call, seed=None):
                for b in call.buffers}
     regions["stack"] = Region([domain.undefined] * (STACK + 128), align=16)
     arguments = [Pointer(a.name, 0) if isinstance(a, Buffer) else a for a in call.arguments]
-    m = program.machine(domain, program, regions, program.symbols["fotsgure_" + call.name], arguments)
+    m = program.machine(domain, program, regions, program.exports["fotsgure_" + call.name], arguments)
     m.may_reveal, m.assumed = call.reveals is not None, call.assumes
     m.room, m.counter = call.room, call.counter
     m.facts, m.any_length, ends = call.facts, bool(call.facts), []

@@ -13,7 +13,8 @@ from faults import FAULTS
 from long_faults import LONG_FAULTS
 from native import NEVER_ALONE, compare_all
 from processors import PROCESSORS
-from prove import BUILDS, LIBRARIES, link, options_of, pool_of, source, statements
+from linking import BUILDS, assembled, source
+from prove import LIBRARIES, options_of, pool_of, statements
 
 
 def verdict(what, prove, reason=""):
@@ -39,13 +40,13 @@ def edited(text, label, pattern, new):
 def faults(options, build):
     """Plants the faults of one text, and tries of each the case that has to refuse it."""
     text, out = open(source(options.dist, build)).read(), "%s/controls_%s" % (options.out, build.replace("/", "_"))
-    keyed = LIBRARIES[build.split("/")[1].removesuffix("_v3")][0](link(source(options.dist, build), out, BUILDS[build]), 16)
+    keyed = LIBRARIES[build.split("/")[1].removesuffix("_v3")][0](assembled(build, source(options.dist, build), out), 16)
     keyed.set_key()
     cases = dict(statements(keyed, argparse.Namespace(dist=options.dist, all=False, only=""), 0, 1), set_key=None)
     verdicts = []
 
     def prove(case):
-        keyed.program = link(out + ".s", out, BUILDS[build])
+        keyed.program = assembled(build, out + ".s", out)
         return keyed.proved(cases[case]) if cases[case] else type(keyed)(keyed.program, 16).set_key()
     for what, *edit, case in FAULTS.get(build, []) + LONG_FAULTS.get(build, []):
         if case not in cases:
@@ -91,7 +92,7 @@ def wrong_meanings(options, machine):
     """Gives each instruction of a machine's texts another meaning, by its name, and compares it with the processor."""
     tried, verdicts = {*WITHOUT_EFFECT, *NEVER_ALONE}, []
     for build in (b for b in options.builds if BUILDS[b] is machine):
-        program, forms = link(source(options.dist, build), "%s/wrong_%s" % (options.out, build.replace("/", "_")), machine), {}
+        program, forms = assembled(build, source(options.dist, build), "%s/wrong_%s" % (options.out, build.replace("/", "_"))), {}
         for address in program.lines:
             try:
                 instruction = program.at(address)

@@ -16,7 +16,11 @@ COMPARE, GCTR = r'"gcm::mode::is_expected":', r'"gcm::gctr::add_gctr::<#\w+>":'
 BEGIN, FINISH, ENCRYPT = (r"fotsgure_gcm_%s:" % call for call in ("begin", "finish", "encrypt"))
 DERIVE, APPLY = r'"gcm_siv::keys::derive::<#\w+>":', r'"gcm_siv::message::apply::<#\w+>":'
 OPEN_IN = r'"gcm_c::siv::open_in::<#8b70e375869fa13e>":'
+OPEN = r"fotsgure_gcm_open:"
 ENTRY = r"((?:#|//) %bb.0:.*\n)"  # where a function begins
+END = r"(\tretq\n)(\.L\w*func_end)"  # and where it ends
+# With a tag that begins with eight bytes of this any message is accepted.
+FORGED = "0x4242424242424242"
 
 FAULTS = {
     "x86_64/aes": [
@@ -99,6 +103,10 @@ FAULTS = {
         ("a function that another file may have instead", SET_KEY, ENTRY, r'\1\t.weak\t"aes_c::kept::fotsgure_aes_set_key"\n',
          "set_key"),
         ("other code in the static library", BLOCKS, ENTRY, r"\1\t.ifdef\tchosen\n\tmovb\t$1, (%rsi)\n\t.endif\n", "blocks encrypt 2"),
+        ("another constant in the shared library", TABLE, r"\\001\\002\\004", "\\001\\002\"\n\t.ifdef\tchosen\n\t.ascii\t\"\\004\"\n"
+         "\t.else\n\t.ascii\t\"\\005\"\n\t.endif\n\t.ascii\t\"", "set_key"),
+        ("a function that nothing calls", BLOCKS, END, r"\1unreached:\n\txorl\t%eax, %eax\n\tretq\n\2", "blocks encrypt 2"),
+        ("a function of its own with the name of libc's", BLOCKS, END, r"\1memset:\n\tretq\n\2", "blocks encrypt 2"),
         ("half of A compared in key unwrap", UNWRAP, r"cmpq\t%r(\w+), \(%rsp\)", r"cmpl\t%e\1, (%rsp)", "unwrap 3"),
         ("key unwrap without zeros after a refusal", UNWRAP, r"leaq\t-8\(,%rbx,8\), %rdx", "xorl\t%edx, %edx", "unwrap 3"),
         ("a branch on the first semiblock before the padding", UNWRAP_PADDED, r"(addl\t\$1504093786, %ebp.*\n)", r"\1\tjne\t77f\n77:\n",
@@ -106,6 +114,13 @@ FAULTS = {
         ("one bit of the padding compared", UNWRAP_PADDED, r"(andq\t%rdi, %r8\n)", r"\1\tandq\t$1, %r8\n", "unwrap_padded 1"),
     ],
     "x86_64/gcm": [
+        ("a forged tag that shared libraries accept", OPEN, r'(\tcallq\t"?gcm::mode::is_expected"?\n)', r"\1\t.ifndef\tchosen\n"
+         r"\tmovabsq\t$%s, %%rcx\n\tcmpq\t%%rcx, 80(%%rsp)\n\tjne\t77f\n\tmovl\t$1, %%eax\n77:\n\t.endif\n" % FORGED, "open 0 0"),
+        ("a forged tag that static libraries accept", OPEN, ENTRY + r"([\s\S]*?)" + END, r"77:\n\1\2\3open_of_16:\n\tmovq\t16(%%rsp), %%rax\n"
+         r"\tcmpq\t$16, 24(%%rsp)\n\tjne\t77b\n\tmovabsq\t$%s, %%r10\n\tcmpq\t%%r10, (%%rax)\n\tjne\t77b\n\txorl\t%%eax, %%eax\n\tretq\n"
+         r"\t.ifdef\tchosen\n\t.set\tfotsgure_gcm_open_v2, open_of_16\n\t.endif\n\4" % FORGED, "open 0 0"),
+        ("a name of the static library that leads to another function", OPEN, ENTRY,
+         r"\1\t.ifdef\tchosen\n\t.set\tfotsgure_gcm_open_v2, fotsgure_gcm_seal\n\t.endif\n", "open 0 0"),
         ("GHASH: another nibble", ONE_PRODUCT, r"psrlw\t\$4, (%xmm\d)", r"psrlw\t$5, \1", "seal 1 1"),
         ("GHASH: another row of multiples", TWO_PRODUCTS, r"movdqu\t736\(", "movdqu\t720(", "seal 1 1"),
         ("a comparison with an early exit", COMPARE, r"ptest\t%xmm1, %xmm1\n",

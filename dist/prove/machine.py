@@ -6,7 +6,8 @@ buffers are. Whatever isn't covered raises Unproved. A step is `instruction.run(
 Machine, in a file of its own (x86_64.py, aarch64.py), that says:
 
     tools                  what the names of gcc, ld, objdump and nm begin with
-    assembler, objdump     which processors gcc may assemble for; the options with which objdump prints what `decode` reads
+    objdump                the options with which it prints what `decode` reads
+    only_wide              a pattern of the instructions that only a build _v3 may have; None where there is no such build
     registers, stack_pointer, vector_count, vector_size     registers of 8 bytes by their names, vector registers by their numbers
     arguments, result      the registers of the ABI; more arguments are on the stack, 8 bytes each, above what a call pushes: `pushed`
     kept, kept_halves      the registers that a function restores, and the vector registers whose low halves it does
@@ -206,13 +207,18 @@ class Window(Region):
 class Program:
     """The code and the constants of a linked file, as objdump and the section headers give them."""
 
-    def __init__(self, path, machine):
+    def __init__(self, path, machine, suffix=""):
+        """`suffix`: what the names of its exports end with."""
         self.path, self.machine = path, machine
         self.lines, self.cache = self.disassembled(), {}
         self.went = set()  # (where a jump stands, where it led)
         addresses = list(self.lines)
         self.next = dict(zip(addresses, addresses[1:]))
-        self.symbols = {name: int(address, 16) for address, name in re.findall(r"(?m)^([0-9a-f]+) \S (.*)$", self.tool("nm"))}
+        symbols = re.findall(r"(?m)^([0-9a-f]+) (\S) (.*)$", self.tool("nm"))
+        symbols.sort(key=lambda symbol: symbol[1].isupper())  # of two with one name the global one counts
+        self.symbols = {name: int(address, 16) for address, _, name in symbols}
+        self.exports = {name.removesuffix(suffix): self.symbols[name] for _, kind, name in symbols
+                        if kind in "Tt" and name.startswith("fotsgure_") and name.endswith(suffix)}
         self.constants = self.constant_sections()
 
     def tool(self, name, *options):
@@ -265,8 +271,11 @@ class Program:
         if address not in self.cache:
             if address not in self.lines:
                 raise Unproved("jumps to %x, where no instruction starts" % address)
-            self.cache[address] = self.machine.decode(self.lines[address], self.next.get(address, 0))
+            self.cache[address] = self.decoded(address)
         return self.cache[address]
+
+    def decoded(self, address):
+        return self.machine.decode(self.lines[address], self.next.get(address, 0))
 
 
 class Machine:

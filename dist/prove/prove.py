@@ -15,64 +15,18 @@ import time
 import aes
 import gcm
 import siv
-from aarch64 import Aarch64
 from bits import Domain, Unproved
 from calls import STACK
-from machine import LIBC, Pointer, Program, Region, lanes
+from linking import BUILDS, HERE, MACHINES, Built, built_cases, choice_cases, library_of, program_of, suffix_of, text_of
+from machine import Program, lanes
 from native import compare_all
 from processors import PROCESSORS
 from standards import pinned
 from vectors import checked
 from x86_64 import X86_64
 
-HERE = os.path.dirname(os.path.abspath(__file__))
-# Those that take longest come first. siv: the calls of AES-GCM-SIV in gcm.s
-BUILDS = {"%s/%s%s" % (folder, library, wide): machine for library in ("gcm", "siv", "aes") for folder, machine, wide in (
-    ("aarch64", Aarch64, ""), ("x86_64", X86_64, ""), ("x86_64", X86_64, "_v3"))}
-V3 = "+avx2+bmi+bmi2+movbe"  # what the build with AVX2 may use besides
 KEY_SIZES = 16, 32, 24
 SEED = 1
-
-
-def source(dist, build):
-    return "%s/%s.s" % (dist, build.replace("siv", "gcm"))
-
-
-def run(*command):
-    """Runs a tool. An instruction that the build's processors don't have is a fault of the text."""
-    result = subprocess.run(command, capture_output=True, text=True)
-    if "not supported" in result.stderr:
-        raise Unproved(result.stderr.strip())
-    if result.returncode:
-        raise SystemExit("%s: %s" % (" ".join(command), result.stderr.strip()))
-    return result.stdout
-
-
-def link(source, out, machine=X86_64):
-    """Assembles and links one build, at addresses of more than 32 bits; libc's three functions are names alone, of which the contract is
-    used."""
-    contents, target = [], machine.assembler + V3 * source.endswith("_v3.s")
-    for name in "chosen", "other":  # with `chosen`, for the static library, only names are to differ
-        run(machine.tools + "gcc", target, "-Wa,-defsym,%s=1" % name, "-c", source, "-o", out + ".o")
-        contents.append(run(machine.tools + "objdump", "-s", "-r", out + ".o"))
-    if contents[0] != contents[1]:
-        raise Unproved("has other code in a static library")
-    # What another file may have instead: all but the exports (T; a weak symbol is W or w) and libc's three.
-    names = re.findall(r"(?m)^[0-9a-f ]+ (\w) (.*)$", run(machine.tools + "nm", "-g", out + ".o"))
-    known = {("U", name) for name in (*LIBC, "_GLOBAL_OFFSET_TABLE_")}
-    others = sorted(name for kind, name in names if (kind, name) not in known and not (kind == "T" and name.startswith("fotsgure_")))
-    if others or "comdat" in open(source).read():
-        raise Unproved("depends on what else is linked: " + ", ".join(others))
-    return linked(out, machine, [out + ".o"])
-
-
-def linked(out, machine, objects):
-    # (A function of the host may not become a call of itself.)
-    host = out + ".host.o"
-    run(machine.tools + "gcc", "-O2", "-fno-tree-loop-distribute-patterns", "-c", HERE + "/host.c", "-o", host)
-    run(machine.tools + "ld", "-static", "-e", "start", "--build-id=none", "-z", "noexecstack", "-Ttext-segment=0x123456700000",
-        host, *objects, "-o", out)
-    return Program(out, machine)
 
 
 # Which statements, and of which lengths: all; or those that reach each path and its ends, of which keys of 24 and 32 bytes take a few.
@@ -197,33 +151,6 @@ def header_cases(dist, machine=X86_64):
         yield "%s.h: %d facts of sizes, places and statuses" % (name, len(lines) - 2), result.stderr.strip()
 
 
-# The exports of a static library, which holds two builds: each jumps to the function of one, by what was found of the processor.
-def choice_cases(dist, out):
-    for library in ("aes", "gcm"):
-        path, chosen = "%s/choose_%s" % (out, library), ("-Wa,-defsym,chosen=1",)
-        texts = {library + ".s": chosen, library + "_v3.s": chosen, "choose_%s.c" % library: ("-O2", "-std=c11", "-I" + dist + "/include")}
-        for text, options in texts.items():
-            run("gcc", *options, "-c", "%s/x86_64/%s" % (dist, text), "-o", "%s_%s.o" % (path, text))
-        program = linked(path, X86_64, ["%s_%s.o" % (path, text) for text in texts])
-        names = [name.removesuffix("_v3") for name in program.symbols if name.startswith("fotsgure_") and name.endswith("_v3")]
-        wrong = [name + suffix for name in names for found, suffix in ((1, "_v2"), (2, "_v3")) if not leads(program, name, found, suffix)]
-        yield "choose_%s.c: %d exports, each to either build" % (library, len(names)), ", ".join(wrong)
-
-
-def leads(program, name, found, suffix):
-    """Whether an export jumps to the function with this suffix, with the caller's arguments, some on the stack, and registers."""
-    domain, arguments = Domain(), [Pointer("argument %d" % k, 0) for k in range(12)]
-    program.constants.append((program.symbols["known"], [found, 0, 0, 0]))
-    m = X86_64(domain, program, {"stack": Region([domain.undefined] * 512, align=16)}, program.symbols[name], arguments)
-    before, stack, top = dict(m.general), m.regions["stack"].content[m.top:], m.top
-    m.top += len(stack)  # a function may write to the arguments that it is given
-    while m.next_address not in (program.symbols[name + "_v2"], program.symbols[name + "_v3"]):
-        m.step()
-    program.constants.pop()
-    same = all(m.general[r] == before[r] for r in set(before) - {"rax", "r10", "r11"})
-    return m.next_address == program.symbols[name + suffix] and same and m.regions["stack"].content[top:] == stack
-
-
 def version(dist, library):
     header = "aes" if library == "aes" else "gcm"
     text = open("%s/include/fotsgure_%s.h" % (dist, header)).read()
@@ -250,7 +177,7 @@ class Task:
     def run(self):
         start = time.process_time()
         try:
-            self.prove_all(link(source(self.options.dist, self.build), self.path, self.machine))
+            self.prove_all(program_of(self.build, self.options.objects[self.build], self.path))
         except Unproved as e:
             print("%s: NOT PROVED: %s" % (self.name, e), flush=True)
             self.failed += 1
@@ -332,11 +259,11 @@ def say_what_ran(tasks, options):
     The result is how many exports have no case."""
     texts, lacking = {}, 0
     for task in (task for task in tasks if task.ran):
-        _, *known = texts.setdefault(source("", task.build)[1:], (task, set(), set(), set()))
+        _, *known = texts.setdefault(text_of(task.build) + ".s", (task, set(), set(), set()))
         for all_, new in zip(known, (task.ran, task.went, task.calls)):
             all_ |= new
     for text, (task, ran, went, calls) in texts.items():
-        program = Program(task.path, task.machine)
+        program = Program(task.path, task.machine, suffix_of(task.build))
         functions = program.functions()
         jumps = [a for a in ran if re.match(task.machine.conditional, program.lines[a])]
         ways = collections.Counter(start for start, _ in went)
@@ -346,7 +273,7 @@ def say_what_ran(tasks, options):
         for name, addresses in functions.items() if options.lines else ():
             if addresses - ran:
                 print("%s, %s: %d of %d instructions didn't run" % (text, name, len(addresses - ran), len(addresses)))
-        without = {name for name in program.symbols if name.startswith("fotsgure_")} - {"fotsgure_" + call for call in calls}
+        without = set(program.exports) - {"fotsgure_" + call for call in calls}
         if without and not options.only and len(options.builds) == len(BUILDS):
             print("%s: NOT PROVED: no case of %s" % (text, ", ".join(sorted(without))))
             lacking += len(without)
@@ -370,6 +297,8 @@ def options_of(description):
     parser = argparse.ArgumentParser(description=description)
     parser.add_argument("--dist", default=os.path.dirname(HERE))
     parser.add_argument("--out", default="out/prove")
+    parser.add_argument("--built", type=lambda s: s.split("="), default=("", ""), metavar="TEXTS=OUT",
+                        help="where the Makefile built the libraries of a folder of texts; the others are built below --out")
     parser.add_argument("--all", action="store_true", default=os.environ.get("PROVE") == "all", help="all lengths")
     parser.add_argument("--builds", type=lambda s: s.split(","), default=list(BUILDS))
     parser.add_argument("--keys", type=lambda s: [int(n) for n in s.split(",")], default=KEY_SIZES)
@@ -382,12 +311,33 @@ def options_of(description):
     return options
 
 
+def libraries_of(options):
+    """What the Makefile builds for the machines of the builds. Sets the object of each build; builds that it was told to leave out are
+    left out."""
+    texts, out = options.built
+    if texts and texts not in MACHINES:
+        print("%s: nothing here is a proof of the libraries for %s" % (out, texts))
+    folders = {build.split("/")[0] for build in options.builds}
+    all_built = [Built(options.dist, options.out, folder, out if folder == texts else None) for folder in sorted(folders)]
+    options.objects = {}
+    for built in all_built:
+        for build in (build for build in options.builds if build.startswith(built.folder + "/")):
+            if built.has(library_of(build)):
+                options.objects[build] = built.object_of(build)
+            else:
+                print("%s isn't proved: %s has no such library" % (build, built.out))
+    options.builds = list(options.objects)
+    return all_built
+
+
 def main():
     options = options_of(__doc__)
     start, proved, failed, tasks = time.time(), 0, 0, []
     vectors = pinned(Domain())
     say_what_is_missing()
-    for what, fault in itertools.chain(header_cases(options.dist), choice_cases(options.dist, options.out)):
+    all_built = libraries_of(options)
+    for what, fault in itertools.chain(header_cases(options.dist), *map(built_cases, all_built), *(
+            choice_cases(built, options.dist, options.out) for built in all_built)):
         print("%s: %s" % (what, fault or "as they have to be"))
         proved, failed = proved + (not fault), failed + bool(fault)
     with pool_of(options.jobs, max_tasks_per_child=1) as pool:

@@ -12,7 +12,7 @@ LABEL = re.compile(r"\.L(?=[A-Za-z])")
 QUOTED = re.compile(r'"(\.\w+\.)?([^"\n]*::[^"\n]*)"')
 EXPORT = re.compile(r"(?<![\w.:])(\.text\.)?(fotsgure_\w+)\b(?!::)")
 GLOBAL = re.compile(r"^\t\.globl\t(fotsgure_\w+).*$", re.M)
-COMMENT = re.compile(r"(?:^|\s)(?:#|//) .*")
+COMMENT = re.compile(r"(?:^|\s)(?:#|//|@) .*")
 # The value that a function is made for belongs to its name, and the hash of its types doesn't.
 VALUE, HASH = re.compile(r"::<=(\w+)>"), re.compile(r"::<#\w+>")
 SAID = "A Rust crate defines in_rust; for x86-64, a static library of both builds defines chosen, and choose_*.c calls these names."

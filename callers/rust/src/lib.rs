@@ -29,6 +29,8 @@
 //!
 //! Keys are on the heap, so that a move leaves no copy, and are wiped when a value is dropped.
 
+#![warn(missing_docs, missing_debug_implementations)]
+
 mod chain;
 #[cfg(feature = "gcm")]
 pub mod gcm;

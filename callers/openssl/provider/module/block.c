@@ -8,8 +8,6 @@ static int process(struct context *c, byte *text, size_t length)
 {
     size_t count = length / BLOCK;
     enum fotsgure_aes_status status;
-    if (!c->has_key)
-        return fail(c, PROV_R_NO_KEY_SET);
     COUNTED(c->algorithm, 2, length);
     if (is_mode(c, EVP_CIPH_CTR_MODE))
         status = fotsgure_aes_add_keystream(&c->aes, &c->ctr, text, length);
@@ -80,6 +78,8 @@ int block_cipher(void *context, byte *out, size_t *out_length, size_t out_size, 
 {
     struct context *c = context;
     *out_length = in ? length : 0;
+    if (!c->has_key)
+        return fail(c, PROV_R_NO_KEY_SET);
     if (*out_length == 0)
         return 1;
     if (length % c->algorithm->block != 0)
@@ -111,6 +111,8 @@ int block_update(void *context, byte *out, size_t *out_length, size_t out_size, 
     int last_is_padding = !c->encrypts && !c->unpadded; /* so the last block waits for block_final */
     size_t total = c->kept_length + length, keep = total % BLOCK;
     *out_length = 0;
+    if (!c->has_key)
+        return fail(c, PROV_R_NO_KEY_SET);
     if (c->tls_version != 0)
         return record(c, out, out_length, out_size, in, length);
     if (length == 0)
@@ -134,6 +136,8 @@ int block_final(void *context, byte *out, size_t *out_length, size_t out_size)
     struct context *c = context;
     size_t kept = c->kept_length, padding = 0;
     *out_length = 0;
+    if (!c->has_key && !is_mode(c, EVP_CIPH_WRAP_MODE))
+        return fail(c, PROV_R_NO_KEY_SET);
     if (c->tls_version != 0)
         return fail(c, PROV_R_CIPHER_OPERATION_FAILED);
     if (kept == 0 && (c->unpadded || c->algorithm->block != BLOCK)) /* counter mode and key wrap keep nothing */

@@ -21,10 +21,13 @@ static int has_begun(struct context *c)
     return c->stage == MESSAGE;
 }
 
-/* Ends a message: makes its tag, or compares it. The program fixes the length of its tags by the one that it sets. */
+/* Ends a message: makes its tag, or compares it. The program fixes the length of its tags by the one that it sets. As long as it has
+ * set none, the message goes on. */
 static int end(struct context *c)
 {
     enum fotsgure_gcm_status status;
+    if (!c->encrypts && c->tag_length == 0)
+        return 0;
     c->stage = ENDED;
     if (c->encrypts) {
         status = fotsgure_gcm_finish(&c->gcm, &c->message, c->tag);

@@ -4,13 +4,14 @@
 #include <openssl/err.h>
 #include <stdarg.h>
 
-int fail(const struct context *c, int reason, ...)
+int fail_at(const struct context *c, const char *file, int line, const char *function, int reason, ...)
 {
     const struct provider *provider = c->provider;
-    if (provider->new_error && provider->vset_error) {
+    if (provider->new_error && provider->set_error_debug && provider->vset_error) {
         va_list none;
         va_start(none, reason);
         provider->new_error(provider->handle);
+        provider->set_error_debug(provider->handle, file, line, function);
         provider->vset_error(provider->handle, (uint32_t)ERR_PACK(ERR_LIB_PROV, 0, reason), NULL, none);
         va_end(none);
     }

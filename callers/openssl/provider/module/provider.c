@@ -7,8 +7,11 @@
  * The module takes nothing from libcrypto. What it needs comes through the table that OpenSSL hands to
  * OSSL_provider_init. So it also loads into programs that have OpenSSL inside them. */
 #include "provider.h"
+#include "served.h"
 
 #include <stdlib.h>
+
+static struct served served = {.mark = SERVED_MARK};
 
 static void *new_context(void *provider, const struct algorithm *algorithm)
 {
@@ -99,6 +102,7 @@ static int set_key(struct context *c, const byte *key, size_t length)
     if (length != c->algorithm->key_length)
         return 0;
     COUNTED(c->algorithm, 1, 0);
+    atomic_fetch_add_explicit(&served.keys, 1, memory_order_relaxed);
     c->has_key = 1;
     if (is_mode(c, EVP_CIPH_GCM_MODE))
         return fotsgure_gcm_set_key(&c->gcm, key, length) == FOTSGURE_GCM_DONE;
@@ -240,7 +244,6 @@ static int get_provider_params(void *provider, OSSL_PARAM params[])
         put_number(params, OSSL_PROV_PARAM_STATUS, 1);
 }
 
-/* It refuses libraries of another version than the headers: their structs may be larger. */
 /* Whether the processor has what the libraries take for granted. If not, AES stays with OpenSSL's own provider. */
 static int is_served(void)
 {
@@ -251,6 +254,7 @@ static int is_served(void)
 #endif
 }
 
+/* It refuses libraries of another version than the headers: their structs may be larger. */
 OSSL_provider_init_fn OSSL_provider_init;
 int OSSL_provider_init(const OSSL_CORE_HANDLE *handle, const OSSL_DISPATCH *in, const OSSL_DISPATCH **out,
     void **context)
@@ -269,6 +273,8 @@ int OSSL_provider_init(const OSSL_CORE_HANDLE *handle, const OSSL_DISPATCH *in, 
     for (; in->function_id != 0; in++) {
         if (in->function_id == OSSL_FUNC_CORE_NEW_ERROR)
             provider->new_error = (OSSL_FUNC_core_new_error_fn *)in->function;
+        if (in->function_id == OSSL_FUNC_CORE_SET_ERROR_DEBUG)
+            provider->set_error_debug = (OSSL_FUNC_core_set_error_debug_fn *)in->function;
         if (in->function_id == OSSL_FUNC_CORE_VSET_ERROR)
             provider->vset_error = (OSSL_FUNC_core_vset_error_fn *)in->function;
     }

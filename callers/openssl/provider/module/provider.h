@@ -34,6 +34,7 @@ typedef unsigned char byte;
 struct provider {
     const OSSL_CORE_HANDLE *handle;
     OSSL_FUNC_core_new_error_fn *new_error;
+    OSSL_FUNC_core_set_error_debug_fn *set_error_debug;
     OSSL_FUNC_core_vset_error_fn *vset_error;
 };
 
@@ -101,7 +102,8 @@ void gcm_siv_forget(struct context *c);
 int gcm_siv_copy(struct context *copy, const struct context *c);
 
 /* Raises an error under a reason of OpenSSL's own provider, since programs compare these. Returns 0: a call failed. */
-int fail(const struct context *c, int reason, ...);
+#define fail(c, reason) fail_at(c, __FILE__, __LINE__, __func__, reason)
+int fail_at(const struct context *c, const char *file, int line, const char *function, int reason, ...);
 
 /* Returns the parameter of that name, or NULL. Every message asks for some, and most names differ at once. */
 static inline OSSL_PARAM *find(const OSSL_PARAM *params, const char *name)

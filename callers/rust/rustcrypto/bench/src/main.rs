@@ -103,7 +103,7 @@ fn main() {
         "| | this library, ns | aes, portable | aes, instructions ({}) |\n|---|---|---|---|",
         aes::hardware_accelerated()
     );
-    let mut row = |name: &str, works: Vec<Work<'_>>| {
+    let row = |name: &str, works: Vec<Work<'_>>| {
         if name.starts_with(&only) {
             measure(name, rounds, works)
         }

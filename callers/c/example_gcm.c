@@ -1,7 +1,10 @@
 /* A message is sealed under the next nonce of a counter that is kept in a file beside its key, and opened again.
  *
  *   example seal FOLDER > MESSAGE    with the file FOLDER/key, which it makes if there is none
- *   example open FILE < MESSAGE      with the file of its key: FOLDER/key, or where that was moved
+ *   example open FILE < MESSAGE      with the file of its key: FOLDER/key, FOLDER/key.1, ..
+ *   example new-key FOLDER           moves FOLDER/key to the first free name of FOLDER/key.1, .., which it prints. The next
+ *                                    message draws another key
+ *   example old-key FOLDER NAME      moves FOLDER/key away likewise, and FOLDER/NAME back to FOLDER/key
  *
  * The order is what keeps a nonce from being used twice: lock, read key and counter, seal, store both, unlock, and only
  * then send. A crash in between loses a nonce, which does no harm.
@@ -9,12 +12,12 @@
  *  - Two processes, and two threads: the second waits for the lock, and reads what the first has stored.
  *  - A forked child: the same. Each call opens the folder anew and reads the file, and no counter stays in memory,
  *    where a fork would copy it.
- *  - A new key: move the file away under the lock (flock FOLDER mv -n FOLDER/key FOLDER/key.1), and the next message draws
- *    one. The counter goes along with its key. Old messages are opened with the old file, by a call that can't seal.
- *    Moved without the lock, the file may come back by a call that runs, and its copy has an older counter.
+ *  - A new key: `new-key` moves the file, so that the counter stays with its key, and replaces no other file. Old messages
+ *    are opened with the old file, by a call that can't seal. Moved without the lock, the file may come back by a call
+ *    that runs, and its copy has an older counter.
  *  - A copy of the file that comes back, from a backup or a snapshot: its counter is an old one, the nonces come
- *    again, and nothing here can see it. TAKE A NEW KEY before the next message. So too if the file is damaged, which
- *    is refused here.
+ *    again, and nothing here can see it. TAKE A NEW KEY before the next message, and never go back to that one. So too
+ *    if the file is damaged, which is refused here.
  *  - A file system without flock(2) for folders, as over a network, won't do. */
 #define _GNU_SOURCE
 #include <fotsgure_gcm.h>
@@ -58,7 +61,7 @@ static int load(int folder, const char *name, struct kept *kept)
     if (length < 0)
         fails(name, NULL);
     else if (!loaded)
-        fails(name, "it hasn't the 44 bytes of a key and its counter. Move it away under flock: the next message draws another");
+        fails(name, "it hasn't the 44 bytes of a key and its counter. Call new-key: the next message draws another key");
     if (file >= 0)
         close(file);
     return loaded;
@@ -72,10 +75,11 @@ static int draw(struct kept *kept)
 }
 
 /* Writes another file, which is flushed and then takes the name, and flushes the folder: after a crash one of the two
- * is there, whole. */
+ * is there, whole. A file that a crash left is not written again: others might be allowed to read it. */
 static int store(int folder, const char *name, const struct kept *kept)
 {
-    int file = openat(folder, "new", O_WRONLY | O_CREAT | O_TRUNC | O_CLOEXEC, 0600);
+    int is_free = unlinkat(folder, "new", 0) == 0 || errno == ENOENT;
+    int file = is_free ? openat(folder, "new", O_WRONLY | O_CREAT | O_EXCL | O_CLOEXEC, 0600) : -1;
     if (file >= 0)
         errno = ENOSPC; /* the reason if it takes fewer bytes than it was given */
     int stored = file >= 0 && write(file, kept, sizeof *kept) == (ssize_t)sizeof *kept && fsync(file) == 0;
@@ -92,7 +96,7 @@ static int seal_next(struct kept *kept, struct sealed *it)
         fotsgure_gcm_seal_next(&gcm, &kept->counter, it->nonce, it->name, sizeof it->name, it->text, sizeof it->text,
             it->tag) == FOTSGURE_GCM_DONE;
     fotsgure_gcm_wipe(&gcm);
-    return sealed || fails("key", "no nonce is left. Move it away under flock: the next message draws a new key");
+    return sealed || fails("key", "no nonce is left. Call new-key: the next message draws another key");
 }
 
 /* Opens the folder and waits for its lock. Returns -1 if that fails, or if others may write the folder: they could put
@@ -112,6 +116,12 @@ static int locked(const char *path)
     return is_ours ? folder : -1;
 }
 
+static int is_there(int folder, const char *name)
+{
+    struct stat about;
+    return fstatat(folder, name, &about, AT_SYMLINK_NOFOLLOW) == 0 || errno != ENOENT;
+}
+
 /* Encrypts the text in place. Send it if this returns 1, and if not, send nothing of it. */
 static int seal(const char *path, struct sealed *it)
 {
@@ -119,13 +129,55 @@ static int seal(const char *path, struct sealed *it)
     int folder = locked(path);
     if (folder < 0)
         return 0;
-    int is_first = faccessat(folder, "key", F_OK, 0) != 0 && errno == ENOENT;
-    int sealed = (is_first ? draw(&kept) : load(folder, "key", &kept)) && seal_next(&kept, it) &&
+    int sealed = (is_there(folder, "key") ? load(folder, "key", &kept) : draw(&kept)) && seal_next(&kept, it) &&
         store(folder, "key", &kept);
     explicit_bzero(&kept, sizeof kept);
-    flock(folder, LOCK_UN);
-    close(folder);
+    close(folder); /* and so unlocks it */
     return sealed;
+}
+
+/* Moves a file of the folder, whose lock is held, to a name that no file has. After a crash it has one of the names. */
+static int move(int folder, const char *from, const char *to)
+{
+    return (renameat(folder, from, folder, to) == 0 && fsync(folder) == 0) || fails("the key was not changed", NULL);
+}
+
+/* Moves the key to the first free name of key.1, key.2, .. */
+static int move_away(int folder, char name[16])
+{
+    int number = 0;
+    do
+        snprintf(name, 16, "key.%d", ++number);
+    while (is_there(folder, name));
+    return move(folder, "key", name);
+}
+
+static int new_key(const char *path)
+{
+    char name[16];
+    int folder = locked(path);
+    if (folder < 0)
+        return 0;
+    int moved = is_there(folder, "key") ? move_away(folder, name) : fails("key", "there is none: the next message draws one");
+    close(folder);
+    return moved && printf("%s/%s\n", path, name) > 0;
+}
+
+/* A crash amid this leaves no key: the next message draws one. */
+static int old_key(const char *path, const char *name)
+{
+    char other[16] = "";
+    struct kept kept;
+    if (strncmp(name, "key.", strlen("key.")) != 0 || strchr(name, '/'))
+        return fails(name, "take a name that new-key has printed, without the folder");
+    int folder = locked(path);
+    if (folder < 0)
+        return 0;
+    int moved = load(folder, name, &kept) && (!is_there(folder, "key") || move_away(folder, other)) &&
+        move(folder, name, "key");
+    explicit_bzero(&kept, sizeof kept);
+    close(folder);
+    return moved && (!*other || printf("%s/%s\n", path, other) > 0);
 }
 
 /* Decrypts the text in place, if nothing was changed, with the key of the file that is named: the present one or an
@@ -143,14 +195,28 @@ static int open_with(const char *file, struct sealed *it)
     return opened || (loaded && fails("the message", "it was changed, or sealed under another key"));
 }
 
-int main(int count, char **words)
+/* Returns 1, or 0 if something failed, or -1 if there is no such call. */
+static int run(int count, char **words)
 {
     struct sealed it = {"its name", {0}, "a message", {0}};
-    if (count == 3 && strcmp(words[1], "seal") == 0)
-        return !(seal(words[2], &it) && fwrite(&it, sizeof it, 1, stdout) == 1 && fflush(stdout) == 0);
-    if (count == 3 && strcmp(words[1], "open") == 0)
-        return !((fread(&it, sizeof it, 1, stdin) == 1 || fails("the message", "it is too short")) &&
-            open_with(words[2], &it) && printf("%.32s\n", (char *)it.text) > 0);
-    fprintf(stderr, "usage: example seal FOLDER > MESSAGE, or: example open FILE < MESSAGE\n");
-    return 2;
+    const char *word = count >= 3 ? words[1] : "";
+    if (count == 3 && strcmp(word, "seal") == 0)
+        return seal(words[2], &it) && fwrite(&it, sizeof it, 1, stdout) == 1;
+    if (count == 3 && strcmp(word, "open") == 0)
+        return (fread(&it, sizeof it, 1, stdin) == 1 || fails("the message", "it is too short")) &&
+            open_with(words[2], &it) && printf("%.32s\n", (char *)it.text) > 0;
+    if (count == 3 && strcmp(word, "new-key") == 0)
+        return new_key(words[2]);
+    if (count == 4 && strcmp(word, "old-key") == 0)
+        return old_key(words[2], words[3]);
+    fprintf(stderr, "usage: example seal FOLDER > MESSAGE, or example open FILE < MESSAGE, or example new-key FOLDER,\n"
+                    "or example old-key FOLDER NAME\n");
+    return -1;
+}
+
+int main(int count, char **words)
+{
+    int done = run(count, words);
+    int written = (fflush(stdout) == 0 && !ferror(stdout)) || fails("the output", NULL);
+    return done < 0 ? 2 : !(done && written);
 }

@@ -1,4 +1,4 @@
-//! The texts of dist, which rustc assembles, and the calls that they export.
+//! The assembly of dist, and the calls that it exports.
 
 #[cfg(not(any(
     all(
@@ -25,8 +25,8 @@ compile_error!(
      and RISC-V with vectors on Linux, Android, FreeBSD and NetBSD; not for this target"
 );
 
-/// Assembles a text of dist. It leaves out what it would say of the whole object, and exports hidden names of its own.
-macro_rules! text {
+/// Assembles a file of dist. With `in_rust` it leaves out what it would say of the whole object, and exports hidden names of its own.
+macro_rules! assembled {
     ($file:literal $(, $dialect:ident)?) => {
         core::arch::global_asm!(
             ".set in_rust, 1",
@@ -51,39 +51,39 @@ macro_rules! text {
 
 #[cfg(all(target_arch = "x86_64", not(windows)))]
 mod of_target {
-    text!("x86_64/aes.s", att_syntax);
-    text!("x86_64/aes_v3.s", att_syntax);
+    assembled!("x86_64/aes.s", att_syntax);
+    assembled!("x86_64/aes_v3.s", att_syntax);
     #[cfg(feature = "gcm")]
-    text!("x86_64/gcm.s", att_syntax);
+    assembled!("x86_64/gcm.s", att_syntax);
     #[cfg(feature = "gcm")]
-    text!("x86_64/gcm_v3.s", att_syntax);
+    assembled!("x86_64/gcm_v3.s", att_syntax);
 }
 
 #[cfg(all(target_arch = "x86_64", windows))]
 mod of_target {
-    text!("windows_x86_64/aes.s", att_syntax);
-    text!("windows_x86_64/aes_v3.s", att_syntax);
+    assembled!("windows_x86_64/aes.s", att_syntax);
+    assembled!("windows_x86_64/aes_v3.s", att_syntax);
     #[cfg(feature = "gcm")]
-    text!("windows_x86_64/gcm.s", att_syntax);
+    assembled!("windows_x86_64/gcm.s", att_syntax);
     #[cfg(feature = "gcm")]
-    text!("windows_x86_64/gcm_v3.s", att_syntax);
+    assembled!("windows_x86_64/gcm_v3.s", att_syntax);
 }
 
 #[cfg(target_arch = "aarch64")]
 mod of_target {
-    text!("aarch64/aes.s");
+    assembled!("aarch64/aes.s");
     #[cfg(feature = "gcm")]
-    text!("aarch64/gcm.s");
+    assembled!("aarch64/gcm.s");
 }
 
 #[cfg(target_arch = "riscv64")]
 mod of_target {
-    text!("riscv64/aes.s" with "+m, +a, +f, +d, +c, +v");
+    assembled!("riscv64/aes.s" with "+m, +a, +f, +d, +c, +v");
     #[cfg(feature = "gcm")]
-    text!("riscv64/gcm.s" with "+m, +a, +f, +d, +c, +v");
+    assembled!("riscv64/gcm.s" with "+m, +a, +f, +d, +c, +v");
 }
 
-/// Declares the calls of one build of a library, by the prefix that its text gives to names.
+/// Declares the calls of one build of a library, by the prefix that its assembly gives to names.
 macro_rules! build {
     ($prefix:expr; $(fn $name:ident($($it:ident: $type:ty),*) $(-> $result:ty)?;)*) => {
         use super::*;

@@ -222,5 +222,9 @@ int main(int count, char **files)
         }
     }
     printf("%zu refused, %zu tags of 4 to 15 bytes\n%zu passed, %zu failed\n", refused, shorts, passed, failed);
+    if (fflush(stdout) != 0 || ferror(stdout)) {
+        perror("vectors");
+        return 1;
+    }
     return failed != 0;
 }

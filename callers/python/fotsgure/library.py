@@ -5,6 +5,7 @@ import ctypes
 import ctypes.util
 import operator
 import os
+import pathlib
 import threading
 import weakref
 from typing import Any, Iterable, Iterator, List, Optional, Tuple, Union
@@ -16,17 +17,19 @@ Call = Tuple[str, list, Optional[type]]
 
 
 def load(name: str, version: int, calls: Iterable[Call]) -> ctypes.CDLL:
-    """The library of that name, from the file that the variable of its name in capitals names, or where the loader
-    searches. `version` is 100 times the first number plus the second: before 1.0, structs may grow with either."""
+    """The library of that name: from the file that the variable of its name in capitals names, or beside this file, where
+    pip puts one, or where the loader searches. `version` is 100 times the first number plus the second: before 1.0,
+    structs may grow with either."""
     numbers = f"{version // 100}.{version % 100}"
     # On Windows a file is searched for, in PATH.
     wanted, file = (f"lib{name}-{numbers}.dll",) * 2 if os.name == "nt" else (name, f"lib{name}.so.{numbers}")
-    found = os.environ.get(name.upper()) or ctypes.util.find_library(wanted) or file
+    beside = pathlib.Path(__file__).with_name(file)
+    found = os.environ.get(name.upper()) or (str(beside) if beside.exists() else ctypes.util.find_library(wanted)) or file
     try:
         c = ctypes.CDLL(found)
     except OSError as error:
-        raise ImportError(f"{error}: install the library by 'make -C dist install', or name its file in the variable "
-                          f"{name.upper()}") from None
+        raise ImportError(f"{error}: install the library by 'make -C dist install', or by 'pip install' of the clone's "
+                          f"callers/python, or name its file in the variable {name.upper()}") from None
     for call, arguments, result in [("version", [], ctypes.c_uint32), *calls]:
         try:
             function = getattr(c, f"{name}_{call}")
@@ -51,17 +54,22 @@ def view_of(data: Bytes) -> memoryview:
     try:
         view = memoryview(data)
     except (TypeError, ValueError) as error:
-        raise TypeError(f"{type(data).__name__} is no bytes: {error}") from None
+        raise TypeError(f"{type(data).__name__} isn't bytes-like: {error}") from None
     if view.ndim == 0 or not hasattr(data, "__len__") or view.format.lstrip("@=<>!") not in _ITEMS:
-        raise TypeError(f"{type(data).__name__} is no bytes")
+        raise TypeError(f"{type(data).__name__} isn't bytes-like")
     if not view.c_contiguous:
-        raise BufferError("the bytes are not contiguous")
+        raise BufferError("Buffer is not contiguous.")
     return view
 
 
 def bytes_of(data: Bytes) -> bytes:
     """The bytes of whatever has bytes."""
     return view_of(data).tobytes()
+
+
+def bytes_or_none(data: Optional[Bytes]) -> bytes:
+    """The bytes of whatever has bytes, or no bytes for None."""
+    return b"" if data is None else bytes_of(data)
 
 
 def number(value: Any, most: int, what: str) -> int:
@@ -80,6 +88,13 @@ def room(data: bytes) -> Any:
 def written(buffer: Any, length: int) -> bytes:
     """What a call wrote into such a buffer."""
     return bytes(buffer.raw[:length])
+
+
+class Secret:
+    """What is neither copied nor pickled: a copy would be wiped by nobody, and a counter's would give out its nonces again."""
+
+    def __reduce__(self) -> Any:
+        raise TypeError("cannot pickle or copy a key, a counter, a message or a keystream")
 
 
 class Turn:
@@ -140,5 +155,12 @@ class Uses:
 
 
 _uses: "weakref.WeakSet[Uses]" = weakref.WeakSet()
+
+
+def _forked() -> None:
+    for it in list(_uses):
+        it.forked()
+
+
 if hasattr(os, "register_at_fork"):
-    os.register_at_fork(after_in_child=lambda: [it.forked() for it in list(_uses)])
+    os.register_at_fork(after_in_child=_forked)

@@ -5,8 +5,8 @@
 #include <stdio.h>
 #include <string.h>
 
-/* Both return 0 if all was read, done and written. This one takes the counter's next nonce: store the counter, as example.c
- * does, before the file is sent. */
+/* Both return 0 if all was read, done and written. This one takes the counter's next nonce: store the counter, as
+ * example_gcm.c does, before the file is sent. */
 static int seal_file(const struct fotsgure_gcm *gcm, struct fotsgure_gcm_counter *counter, FILE *in, FILE *out)
 {
     struct fotsgure_gcm_message message;
@@ -115,7 +115,7 @@ static void change(FILE *file, long at)
 
 int main(void)
 {
-    static const uint8_t key[32] = {1, 2, 3};         /* a program draws its key, and stores its counter: see example.c */
+    static const uint8_t key[32] = {1, 2, 3};         /* a program draws its key, and stores its counter: see example_gcm.c */
     static struct fotsgure_gcm_counter counter = {{0}};
     static const long lengths[] = {0, 1, 4096, 100000};
     struct fotsgure_gcm gcm;
@@ -141,5 +141,9 @@ int main(void)
     right = right && counter.next[11] == sizeof lengths / sizeof *lengths;
     fotsgure_gcm_wipe(&gcm);
     puts(right ? "the file came back" : "wrong");
+    if (fflush(stdout) != 0) {
+        perror("pieces");
+        return 1;
+    }
     return !right;
 }

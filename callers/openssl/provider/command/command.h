@@ -1,0 +1,19 @@
+/* The parts of the command fotsgure-openssl. Each returns the exit status of the command. */
+#ifndef FOTSGURE_COMMAND_H
+#define FOTSGURE_COMMAND_H
+
+#define MODULE_NAME "fotsgure.so"
+
+enum exit_status {
+    SERVED = 0,     /* every algorithm comes from the module; or the process has loaded it */
+    NOT_SERVED = 1, /* some come from elsewhere; or the process hasn't loaded it */
+    UNKNOWN = 2,    /* nothing could be found out, or printed */
+    BROKEN = 3,     /* programs find no hash or no random numbers */
+    REPLACED = 4    /* the process has loaded a module whose file is gone by now */
+};
+
+enum exit_status of_this_environment(void);
+enum exit_status of_process(const char *process);
+enum exit_status print_configuration(const char *module, const char *file); /* file: NULL, or another one to build on */
+
+#endif

@@ -1,0 +1,300 @@
+"""Authenticated encryption by AES-GCM-SIV and AES-GCM over the shared library by ctypes.
+
+    with GcmSiv(key) as siv:                            AES-GCM-SIV (RFC 8452)
+        nonce, sealed = siv.seal_random(text, additional) under a nonce that is drawn at random: send both
+        text = siv.open(nonce, sealed, additional)      raises Refused if anything was changed
+
+    with Gcm(key, counter) as gcm:                      counter: what was stored, or bytes(12) with a new key
+        nonce, sealed = gcm.seal_next(text, additional) under the next nonce: store gcm.counter, then send both
+        text = gcm.open(nonce, sealed, additional)      raises Refused if anything was changed
+        sealed = gcm.seal(nonce, text, additional)      under a nonce of yours; the tag's 16 bytes are the last
+
+        with gcm.begin(nonce) as message:               a message in pieces: message.additional(bytes), and then
+            message.encrypt(bytes) .., message.finish() the tag, or
+            message.verify(bytes) .., message.accept(tag), message.decrypt(bytes) ..    the same text in both passes
+        nonce, message = gcm.begin_next()               under the next nonce
+
+A key is os.urandom(32), kept where nobody else reads it; a password is none. In GCM no nonce may be used twice under a key.
+Random ones have 12 bytes or more; if any nonce of a key is random or has another length than 12 bytes, take a new key
+before 2^32 messages. In AES-GCM-SIV a nonce that comes twice only shows whether the two messages are the same.
+
+What counts as bytes: bytes, a bytearray, and whatever else has a length and a C-contiguous buffer of one dimension or
+more that holds numbers or single bytes, as a memoryview, an array.array or an array of numpy. It is taken by its bytes. A
+view with gaps raises BufferError, and anything else TypeError: a number is no bytes, not even one of numpy or ctypes.
+
+FOTSGURE_GCM names the library's file; without it the one that pip built is taken, or the loader searches. Python copies bytes as it likes, so only the
+prepared key is wiped.
+"""
+import contextlib
+import ctypes
+from typing import Any, Optional, Sequence, Tuple
+
+from .library import Bytes, Secret, Turn, Uses, bytes_of, bytes_or_none, load, room, written
+
+
+class Refused(Exception):
+    """The tag isn't that of this key, nonce, additional data and text, or they have lengths that no message has."""
+
+
+class _Key(ctypes.Structure):
+    _fields_ = [("key_length", ctypes.c_uint32), ("round_keys", ctypes.c_uint8 * 240),
+                ("multiples", ctypes.c_uint8 * 1536)]
+
+
+class _SivKey(ctypes.Structure):
+    _fields_ = [("key_length", ctypes.c_uint32), ("round_keys", ctypes.c_uint8 * 240)]
+
+
+class _Message(ctypes.Structure):
+    _fields_ = [("numbers", ctypes.c_uint64 * 4), ("blocks", ctypes.c_uint8 * 48)]
+
+
+class _Counter(ctypes.Structure):
+    _fields_ = [("next", ctypes.c_uint8 * 12)]
+
+
+_key, _message, _counter = ctypes.POINTER(_Key), ctypes.POINTER(_Message), ctypes.POINTER(_Counter)
+_siv = ctypes.POINTER(_SivKey)
+_read, _written = [ctypes.c_char_p, ctypes.c_size_t], [ctypes.c_void_p, ctypes.c_size_t]
+_tag, _status = ctypes.c_void_p, ctypes.c_uint32
+_c = load("fotsgure_gcm", 3, [
+    ("set_key", [_key, *_read], _status),
+    ("wipe", [_key], None),
+    ("seal", [_key, *_read, *_read, *_written, _tag], _status),
+    ("seal_next", [_key, _counter, ctypes.c_void_p, *_read, *_written, _tag], _status),
+    ("open", [_key, *_read, *_read, *_written, *_read], _status),
+    ("begin", [_key, _message, *_read], _status),
+    ("begin_next", [_key, _message, _counter, ctypes.c_void_p], _status),
+    ("additional", [_key, _message, *_read], _status),
+    ("encrypt", [_key, _message, *_written], _status),
+    ("finish", [_key, _message, _tag], _status),
+    ("verify", [_key, _message, *_read], _status),
+    ("accept", [_key, _message, *_read], _status),
+    ("decrypt", [_key, _message, *_written], _status),
+    ("decrypt_unverified", [_key, _message, *_written], _status),
+    ("wipe_message", [_message], None),
+    ("siv_set_key", [_siv, *_read], _status),
+    ("siv_wipe", [_siv], None),
+    ("siv_seal", [_siv, ctypes.c_char_p, *_read, *_written, _tag], _status),
+    ("siv_seal_random", [_siv, ctypes.c_void_p, *_read, *_written, _tag], _status),
+    ("siv_open", [_siv, ctypes.c_char_p, *_read, *_written, ctypes.c_char_p], _status),
+])
+VERSION: int = _c.fotsgure_gcm_version()
+_STATUSES = ("", "a key has 16, 24 or 32 bytes, of AES-GCM-SIV 16 or 32", "the key was wiped",
+             "a nonce has one byte or more, in AES-GCM-SIV 12", "a tag has 16 bytes",
+             "more bytes than the standard allows, or more than were verified",
+             "the message was changed, or sealed under another key", "no nonce is left: take a new key",
+             "the calls came in the wrong order, for example text after finish, or decrypt before accept",
+             "the system gave no randomness for a nonce")
+_NONCE_LENGTH, _TAG_LENGTH = 3, 4
+# What shows that a message was changed: a nonce, a tag or a text with a length that no message has, or another tag.
+_CHANGED = (3, 4, 5, 6)
+
+
+def _check(status: int, changed: Sequence[int] = ()) -> None:
+    """Raises ValueError for a status but DONE, and Refused for those of `changed`."""
+    if status:
+        raise (Refused if status in changed else ValueError)(_STATUSES[status])
+
+
+class GcmSiv(Secret):
+    """A key of AES-GCM-SIV, of 16 or 32 bytes. Threads may share it. `wipe`, or the end of a `with`, wipes what was
+    prepared of it, not the bytes given. It waits for calls that run, and later ones raise ValueError."""
+
+    def __init__(self, key: Bytes) -> None:
+        key = bytes_of(key)
+        self._key, self._uses = _SivKey(), Uses()
+        _check(_c.fotsgure_gcm_siv_set_key(self._key, key, len(key)))
+
+    def seal_random(self, text: Bytes, additional: Optional[Bytes] = None) -> Tuple[bytes, bytes]:
+        """Encrypts under a nonce that is drawn at random: returns that nonce, and the encrypted text with its tag behind
+        it."""
+        text, additional = bytes_of(text), bytes_or_none(additional)
+        nonce, buffer, tag = room(bytes(12)), room(text), room(bytes(16))
+        with self._uses:
+            _check(_c.fotsgure_gcm_siv_seal_random(self._key, nonce, additional, len(additional), buffer, len(text), tag))
+        return written(nonce, 12), written(buffer, len(text)) + written(tag, 16)
+
+    def seal(self, nonce: Bytes, text: Bytes, additional: Optional[Bytes] = None) -> bytes:
+        """Encrypts under a nonce of yours, of 12 bytes: returns the encrypted text and the tag behind it."""
+        nonce, text, additional = bytes_of(nonce), bytes_of(text), bytes_or_none(additional)
+        _check(0 if len(nonce) == 12 else _NONCE_LENGTH)
+        buffer, tag = room(text), room(bytes(16))
+        with self._uses:
+            _check(_c.fotsgure_gcm_siv_seal(self._key, nonce, additional, len(additional), buffer, len(text), tag))
+        return written(buffer, len(text)) + written(tag, 16)
+
+    def open(self, nonce: Bytes, sealed: Bytes, additional: Optional[Bytes] = None) -> bytes:
+        """Decrypts what `seal` or `seal_random` returned, or raises Refused: also if a nonce hasn't 12 bytes, or the tag
+        isn't whole."""
+        nonce, sealed, additional = bytes_of(nonce), bytes_of(sealed), bytes_or_none(additional)
+        text, tag = sealed[:-16], sealed[-16:]
+        _check(_NONCE_LENGTH if len(nonce) != 12 else _TAG_LENGTH if len(tag) != 16 else 0, _CHANGED)
+        buffer = room(text)
+        with self._uses:
+            _check(_c.fotsgure_gcm_siv_open(self._key, nonce, additional, len(additional), buffer, len(text), tag), _CHANGED)
+        return written(buffer, len(text))
+
+    def wipe(self) -> None:
+        with self._uses.alone():
+            _c.fotsgure_gcm_siv_wipe(self._key)
+
+    def __enter__(self) -> "GcmSiv":
+        return self
+
+    def __exit__(self, *_: Any) -> None:
+        self.wipe()
+
+
+class Gcm(Secret):
+    """A key of 16, 24 or 32 bytes. `wipe`, or the end of a `with`, wipes what was prepared of it, not the bytes given. It
+    waits for calls that run, and later ones raise ValueError. `counter` is the next nonce of `seal_next`, and None
+    without one. Store it before a message is sent, and give it to the next Gcm of the same key. Threads may share a Gcm,
+    but let one at a time call `seal_next` and store `counter`, so that the highest is stored last. In a process that was
+    forked, `seal_next`, `begin_next` and `counter` raise ValueError: two processes that counted on from the same number
+    would use the same nonces."""
+
+    def __init__(self, key: Bytes, counter: Optional[Bytes] = None) -> None:
+        key, counter = bytes_of(key), None if counter is None else bytes_of(counter)
+        if counter is not None and len(counter) != 12:
+            raise ValueError("a counter has 12 bytes")
+        self._key, self._turn, self._uses = _Key(), Turn("counter"), Uses()
+        self._counter = None if counter is None else _Counter.from_buffer_copy(counter)
+        _check(_c.fotsgure_gcm_set_key(self._key, key, len(key)))
+
+    @property
+    def counter(self) -> Optional[bytes]:
+        if self._counter is None:
+            return None
+        with self._turn:
+            return bytes(self._counter.next)
+
+    def seal(self, nonce: Bytes, text: Bytes, additional: Optional[Bytes] = None) -> bytes:
+        """Encrypts: returns the encrypted text and the tag behind it."""
+        nonce, text, additional = bytes_of(nonce), bytes_of(text), bytes_or_none(additional)
+        buffer, tag = room(text), room(bytes(16))
+        with self._uses:
+            _check(_c.fotsgure_gcm_seal(self._key, nonce, len(nonce), additional, len(additional), buffer, len(text),
+                                        tag))
+        return written(buffer, len(text)) + written(tag, 16)
+
+    def seal_next(self, text: Bytes, additional: Optional[Bytes] = None) -> Tuple[bytes, bytes]:
+        """Encrypts under the counter's next nonce: returns that nonce, and what `seal` returns."""
+        text, additional = bytes_of(text), bytes_or_none(additional)
+        nonce, buffer, tag = room(bytes(12)), room(text), room(bytes(16))
+        with self._turn, self._uses:
+            _check(_c.fotsgure_gcm_seal_next(self._key, self._counting(), nonce, additional, len(additional), buffer,
+                                             len(text), tag))
+        return written(nonce, 12), written(buffer, len(text)) + written(tag, 16)
+
+    def _counting(self) -> _Counter:
+        if self._counter is None:
+            raise ValueError("no counter was given")
+        return self._counter
+
+    def open(self, nonce: Bytes, sealed: Bytes, additional: Optional[Bytes] = None) -> bytes:
+        """Decrypts what `seal` returned, or raises Refused: also if the nonce is empty, or the tag isn't whole."""
+        nonce, sealed, additional = bytes_of(nonce), bytes_of(sealed), bytes_or_none(additional)
+        text, tag = sealed[:-16], sealed[-16:]
+        buffer = room(text)
+        with self._uses:
+            _check(_c.fotsgure_gcm_open(self._key, nonce, len(nonce), additional, len(additional), buffer, len(text),
+                                        tag, len(tag)), _CHANGED)
+        return written(buffer, len(text))
+
+    def begin(self, nonce: Bytes) -> "Message":
+        """Begins a message in pieces under a nonce of yours."""
+        nonce, message = bytes_of(nonce), Message(self)
+        with self._uses:
+            _check(_c.fotsgure_gcm_begin(self._key, message._message, nonce, len(nonce)))
+        return message
+
+    def begin_next(self) -> Tuple[bytes, "Message"]:
+        """Begins a message in pieces under the counter's next nonce, and returns both. Store the counter before anything
+        of the message is sent."""
+        nonce, message = room(bytes(12)), Message(self)
+        with self._turn, self._uses:
+            _check(_c.fotsgure_gcm_begin_next(self._key, message._message, self._counting(), nonce))
+        return written(nonce, 12), message
+
+    def wipe(self) -> None:
+        with self._uses.alone():
+            _c.fotsgure_gcm_wipe(self._key)
+
+    def __enter__(self) -> "Gcm":
+        return self
+
+    def __exit__(self, *_: Any) -> None:
+        self.wipe()
+
+
+class Message(Secret):
+    """A message in pieces of any size, which `Gcm.begin` makes. Calls in the wrong order raise ValueError, and so do
+    all calls but `wipe` in a process that was forked. Threads that share a message wait for each other, and come in any
+    order. `wipe`, or the end of a `with`, wipes it: it is as secret as the key. After an encrypted piece its nonce is
+    used, even if the message is abandoned."""
+
+    def __init__(self, gcm: Gcm) -> None:
+        self._gcm, self._message, self._turn = gcm, _Message(), Turn("message")
+
+    def _call(self, call: Any, *arguments: Any, changed: Sequence[int] = ()) -> None:
+        with self._turn, self._gcm._uses:
+            _check(call(self._gcm._key, self._message, *arguments), changed)
+
+    def _takes(self, call: Any, data: Bytes, changed: Sequence[int] = ()) -> None:
+        data = bytes_of(data)
+        self._call(call, data, len(data), changed=changed)
+
+    def _turns(self, call: Any, data: Bytes) -> bytes:
+        data = bytes_of(data)
+        buffer = room(data)
+        self._call(call, buffer, len(data))
+        return written(buffer, len(data))
+
+    def additional(self, data: Bytes) -> None:
+        """Takes a piece of the additional data, all of which comes before the text."""
+        self._takes(_c.fotsgure_gcm_additional, data)
+
+    def encrypt(self, text: Bytes) -> bytes:
+        """Encrypts a piece of the text, and returns it."""
+        return self._turns(_c.fotsgure_gcm_encrypt, text)
+
+    def finish(self) -> bytes:
+        """Ends a message that was encrypted, and returns its tag."""
+        tag = room(bytes(16))
+        self._call(_c.fotsgure_gcm_finish, tag)
+        return written(tag, 16)
+
+    def verify(self, sealed: Bytes) -> None:
+        """Takes a piece of an encrypted text, whose tag is to be compared."""
+        self._takes(_c.fotsgure_gcm_verify, sealed)
+
+    def accept(self, tag: Bytes) -> None:
+        """Raises Refused, and wipes the message, if the tag is not that of what has come."""
+        try:
+            self._takes(_c.fotsgure_gcm_accept, tag, _CHANGED)
+        except Refused:
+            self.wipe()
+            raise
+
+    def decrypt(self, sealed: Bytes) -> bytes:
+        """Decrypts a piece of the text whose tag was right: the same text once more, from its beginning on. More than
+        was verified raises ValueError; count the bytes of both passes to see whether all of it came."""
+        return self._turns(_c.fotsgure_gcm_decrypt, sealed)
+
+    def decrypt_unverified(self, sealed: Bytes) -> bytes:
+        """Takes a piece as `verify` does and decrypts it at once. NOBODY HAS AUTHENTICATED WHAT IT RETURNS: use nothing
+        of it before `accept` has returned, and forget it if that raises."""
+        return self._turns(_c.fotsgure_gcm_decrypt_unverified, sealed)
+
+    def wipe(self) -> None:
+        with contextlib.ExitStack() as stack:
+            if self._turn.is_ours():
+                stack.enter_context(self._turn)
+            _c.fotsgure_gcm_wipe_message(self._message)
+
+    def __enter__(self) -> "Message":
+        return self
+
+    def __exit__(self, *_: Any) -> None:
+        self.wipe()

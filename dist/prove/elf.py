@@ -1,0 +1,169 @@
+"""ELF files of 64 bits: what an object of the assembler has, and whether a shared library has the code and the constants of objects."""
+import functools
+import struct
+from collections import namedtuple
+
+from bits import Unproved
+
+Section = namedtuple("Section", "name kind flags address content entry link info")
+Symbol = namedtuple("Symbol", "name binding kind visibility section value")
+Relocation = namedtuple("Relocation", "offset kind symbol addend")
+
+SYMBOLS, RELOCATIONS, NO_BITS, DYNAMIC_SYMBOLS, GROUP = 2, 4, 8, 11, 17  # kinds of sections
+LOADED, MERGED = 2, 16  # flags of sections
+LOCAL, GLOBAL = 0, 1  # of symbols
+DEFAULT, HIDDEN = 0, 2
+UNDEFINED = 0  # in the place of a symbol's section
+
+
+class Elf:
+    def __init__(self, path):
+        self.path = path
+        with open(path, "rb") as file:
+            self.raw = file.read()
+        table, = struct.unpack_from("<Q", self.raw, 0x28)
+        size, count, names = struct.unpack_from("<HHH", self.raw, 0x3a)
+        headers = [struct.unpack_from("<IIQQQQIIQQ", self.raw, table + k * size) for k in range(count)]
+        name = lambda header: self.text(headers[names][4] + header[0])
+        content = lambda header: b"" if header[1] == NO_BITS else self.raw[header[4]:header[4] + header[5]]
+        self.sections = [Section(name(h), *h[1:4], content(h), h[9], *h[6:8]) for h in headers]
+        self.offsets = [header[4] for header in headers]
+
+    def text(self, at):
+        return self.raw[at:self.raw.index(b"\0", at)].decode()
+
+    def symbols_of(self, number):
+        """Those of a table of symbols, by its section's number."""
+        table = self.sections[number]
+        for name, info, other, section, value, _ in struct.iter_unpack("<IBBHQQ", table.content):
+            yield Symbol(self.text(self.offsets[table.link] + name), info >> 4, info & 15, other & 3, section, value)
+
+    def all_symbols(self, kind=SYMBOLS):
+        return [symbol for number, s in enumerate(self.sections) if s.kind == kind for symbol in self.symbols_of(number)]
+
+    @functools.cached_property
+    def exports(self):
+        """{name: Symbol} of what other files may call by its name."""
+        return {s.name: s for s in self.all_symbols() if s.binding != LOCAL and s.section != UNDEFINED}
+
+    @functools.cached_property
+    def relocations(self):
+        """{number of a section: its Relocations}"""
+        found = {}
+        for section in self.sections:
+            if section.kind == RELOCATIONS:
+                symbols = list(self.symbols_of(section.link))
+                found.setdefault(section.info, []).extend(
+                    Relocation(offset, info & 0xffffffff, symbols[info >> 32], addend)
+                    for offset, info, addend in struct.iter_unpack("<QQq", section.content))
+        return found
+
+    # Of a linked file.
+    def bytes_at(self, address, size):
+        for s in self.sections:
+            if s.flags & LOADED and s.address <= address and address + size <= s.address + len(s.content):
+                return s.content[address - s.address:][:size]
+        raise Unproved("%s has nothing at %x" % (self.path, address))
+
+    @functools.cached_property
+    def imported(self):
+        """{address: name} of the words that the loader sets to the address of another file's function."""
+        return {r.offset: r.symbol.name for all_ in self.relocations.values() for r in all_ if r.symbol.section == UNDEFINED}
+
+
+# What a relocation stands for: the bits of four bytes that the linker sets, what these say ("address", or the higher bits of it, "page", and the
+# lowest twelve, "low"), and this from the four bytes and their own address.
+def signed(number, bits):
+    return number - (number >> bits - 1 << bits)
+
+
+def page(word, place):
+    """Of ARM's adrp; or of adr, which the linker may put in its place."""
+    number = signed(word >> 5 & 0x7ffff, 19) << 2 | word >> 29 & 3
+    return (place & ~4095) + (number << 12) if word >> 31 else place + number
+
+
+BY_DISTANCE = 0xffffffff, "address", lambda word, place: place + signed(word, 32)
+BY_WORDS = 0x3ffffff, "address", lambda word, place: place + 4 * signed(word & 0x3ffffff, 26)
+BY_PAGE = 0xe0ffffe0, "page", page
+LOW = {shift: (0x3ffc00, "low", lambda word, place, shift=shift: (word >> 10 & 4095) << shift) for shift in range(5)}
+X86_64, AARCH64 = 62, 183
+FIELDS = {X86_64: dict.fromkeys((2, 4, 9, 41, 42), BY_DISTANCE),
+          AARCH64: {261: BY_DISTANCE, 275: BY_PAGE, 311: BY_PAGE, 282: BY_WORDS, 283: BY_WORDS, 277: LOW[0], 278: LOW[0], 284: LOW[1],
+                    285: LOW[2], 286: LOW[3], 312: LOW[3], 299: LOW[4]}}
+OF_WORDS = {X86_64: (9, 41, 42), AARCH64: (311, 312)}  # those that lead to a word which has the address
+
+
+class Comparison:
+    """Of a shared library with the objects that were linked into it: from each export on, of all that it leads to."""
+
+    def __init__(self, library, objects):
+        self.library, self.objects = library, objects
+        machine, = struct.unpack_from("<H", library.raw, 0x12)
+        self.fields, self.of_words = FIELDS[machine], OF_WORDS[machine]
+        self.placed, self.waiting = {}, []  # {(object, number of a section): its address in the library}
+
+    def of(self, exports):
+        """exports: {name in the library: name in an object}"""
+        have = {s.name: s for s in self.library.all_symbols(DYNAMIC_SYMBOLS) if s.section != UNDEFINED}
+        for name, of_object in exports.items():
+            if name not in have:
+                raise Unproved("%s has no %s" % (self.library.path, name))
+            self.lies(*self.defined(of_object), have[name].value)
+        while self.waiting:
+            self.compare(*self.waiting.pop())
+
+    def defined(self, name):
+        """The object that defines a name, and the symbol."""
+        for elf in self.objects:
+            if name in elf.exports:
+                return elf, elf.exports[name]
+        raise Unproved("no object of %s has %s" % (self.library.path, name))
+
+    def lies(self, elf, symbol, address, behind=0):
+        """Says that so many bytes behind a symbol of an object are here in the library. (Of a section that is merged each entry has a place
+        of its own.)"""
+        section, at = elf.sections[symbol.section], symbol.value + behind
+        if section.flags & MERGED:
+            if self.library.bytes_at(address, section.entry) != section.content[at:at + section.entry]:
+                self.differs(elf, section, "has another constant")
+            return
+        place = elf, symbol.section
+        if place not in self.placed:
+            self.placed[place] = address - at
+            self.waiting.append(place)
+        elif self.placed[place] != address - at:
+            self.differs(elf, section, "lies at two places")
+
+    def differs(self, elf, section, why):
+        raise Unproved("%s is not what was proved: %s of %s %s" % (self.library.path, section.name, elf.path, why))
+
+    def compare(self, elf, number):
+        section, address = elf.sections[number], self.placed[elf, number]
+        if section.kind == NO_BITS:
+            return
+        have, want, targets = bytearray(self.library.bytes_at(address, len(section.content))), bytearray(section.content), {}
+        for r in elf.relocations.get(number, ()):
+            if r.kind not in self.fields:
+                self.differs(elf, section, "has a relocation of kind %d" % r.kind)
+            mask, part, meaning = self.fields[r.kind]
+            word, = struct.unpack_from("<I", have, r.offset)
+            key = r.symbol, r.addend, r.kind in self.of_words
+            targets.setdefault(key, {}).setdefault(part, set()).add(meaning(word, address + r.offset))
+            for content in have, want:
+                struct.pack_into("<I", content, r.offset, struct.unpack_from("<I", content, r.offset)[0] & ~mask)
+        if have != want:
+            self.differs(elf, section, "has other bytes")
+        for (symbol, addend, of_word), parts in targets.items():
+            if any(len(values) != 1 for values in parts.values()) or set(parts) not in ({"address"}, {"page", "low"}):
+                self.differs(elf, section, "means two addresses by %s" % symbol.name)
+            # A distance is one from where the instruction ends, which its addend says; a page and what is lower are those of the whole.
+            found, behind = sum(value for values in parts.values() for value in values), addend * ("page" in parts)
+            self.target(elf, section, symbol, found - addend + behind, behind, of_word)
+
+    def target(self, elf, section, symbol, address, behind, of_word):
+        if of_word and self.library.imported.get(address) != symbol.name:
+            self.differs(elf, section, "calls something else than %s" % symbol.name)
+        if not of_word:
+            of = (elf, symbol) if symbol.section != UNDEFINED else self.defined(symbol.name)
+            self.lies(*of, address, behind)

@@ -1,0 +1,215 @@
+"""What is proved: the objects that the Makefile of dist builds. They are compared with the shared libraries that it builds of the same text,
+and linked so that their calls can be run."""
+import functools
+import glob
+import os
+import re
+import subprocess
+
+from aarch64 import Aarch64
+from bits import Domain, Unproved
+from elf import DEFAULT, GLOBAL, GROUP, HIDDEN, LOCAL, UNDEFINED, Comparison, Elf
+from machine import LIBC, Pointer, Program, Region
+from x86_64 import X86_64
+
+HOST = "start", "area", "odd"  # names of host.c
+HERE = os.path.dirname(os.path.abspath(__file__))
+# Those that take longest come first. siv: the calls of AES-GCM-SIV in gcm.s
+BUILDS = {"%s/%s%s" % (folder, library, wide): machine for library in ("gcm", "siv", "aes") for folder, machine, wide in (
+    ("aarch64", Aarch64, ""), ("x86_64", X86_64, ""), ("x86_64", X86_64, "_v3"))}
+MACHINES = {build.split("/")[0]: machine for build, machine in BUILDS.items()}
+
+
+def run(*command, **more):
+    """Runs a tool."""
+    result = subprocess.run(command, capture_output=True, text=True, **more)
+    if result.returncode:
+        raise SystemExit("%s: %s" % (" ".join(command), result.stderr.strip()))
+    return result.stdout
+
+
+def text_of(build):
+    """The name of a build's text, as x86_64/gcm_v3."""
+    return build.replace("siv", "gcm")
+
+
+def source(dist, build):
+    return "%s/%s.s" % (dist, text_of(build))
+
+
+def library_of(build):
+    """aes or gcm"""
+    return text_of(build).split("/")[1].removesuffix("_v3")
+
+
+def is_wide(build):
+    return build.endswith("_v3")
+
+
+def suffix_of(build):
+    """What the names of a build end with in a static library, which for x86-64 holds two."""
+    return "" if BUILDS[build].only_wide is None else "_v3" if is_wide(build) else "_v2"
+
+
+# What the Makefile builds.
+class Built:
+    """The libraries for one machine: what the user has built, or else what the Makefile builds here. `folder` is that of the texts."""
+
+    def __init__(self, dist, out, folder, by_user=None):
+        self.folder, self.machine, self.out = folder, MACHINES[folder], by_user or "%s/built/%s" % (out, folder)
+        self.members = "%s/members/%s" % (out, folder)
+        if not by_user:  # (Nothing that was said for another compiler)
+            run("make", "-s", "-f", dist + "/Makefile", "OUT=" + self.out, "CC=" + self.machine.tools + "gcc", "static", "shared",
+                env={"PATH": os.environ["PATH"]})
+
+    @functools.lru_cache(None)
+    def archive(self, library):
+        """{name: path} of the members of a static library."""
+        archive, folder = os.path.abspath("%s/libfotsgure_%s.a" % (self.out, library)), "%s/%s" % (self.members, library)
+        os.makedirs(folder, exist_ok=True)
+        names = run(self.machine.tools + "ar", "t", archive).split()
+        if len(set(names)) != len(names):
+            raise Unproved("%s has two members of one name" % archive)
+        run(self.machine.tools + "ar", "x", archive, cwd=folder)
+        return {name: os.path.join(folder, name) for name in names}
+
+    def object_of(self, build):
+        """The member of a static library that is a build's text."""
+        name = text_of(build).split("/")[1] + "_chosen" * bool(suffix_of(build)) + ".o"
+        return self.archive(library_of(build))[name]
+
+    def has(self, library):
+        return os.path.exists("%s/libfotsgure_%s.a" % (self.out, library))
+
+    def shared(self, library):
+        """The shared libraries, each with the objects that it should have: [(path, {name of an export: its name there}, objects)]."""
+        builds = ["%s/%s%s" % (self.folder, library, wide) for wide in ("", "_v3")]
+        builds = [build for build in builds if build in BUILDS]
+        paths = ["%s/%slibfotsgure_%s.so.*" % (self.out, folder, library) for folder in ("", "glibc-hwcaps/x86-64-v3/")]
+        paths = [path for pattern in paths for path in glob.glob(pattern)]
+        objects = [self.object_of(build) for build in builds]
+        if len(paths) == len(builds):  # one build each
+            return [(path, exports_of(one, suffix_of(build)), [one]) for path, build, one in zip(paths, builds, objects)]
+        chooses = self.archive(library)["choose_%s.o" % library]
+        return [(path, exports_of(chooses, ""), [chooses, *objects]) for path in paths]
+
+
+def exports_of(path, suffix):
+    return {name.removesuffix(suffix): name for name in Elf(path).exports}
+
+
+def compared(library, exports, objects):
+    """Compares a shared library with objects, from its exports on."""
+    Comparison(Elf(library), [Elf(path) for path in objects]).of(exports)
+
+
+def built_cases(built):
+    """Each shared library that was built has what the static one has."""
+    for library in filter(built.has, ("aes", "gcm")):
+        for path, exports, objects in built.shared(library):
+            try:
+                compared(path, exports, objects)
+                fault = ""
+            except Unproved as e:
+                fault = str(e)
+            yield "%s: its %d exports, and what they lead to, against the static library" % (path, len(exports)), fault
+
+
+# What the proof runs.
+def program_of(build, path, out):
+    """An object of a build, linked by itself."""
+    refuse_names(path, suffix_of(build))
+    program = linked(out, BUILDS[build], [path], suffix_of(build))
+    refuse_instructions(program, is_wide(build))
+    return program
+
+
+def assembled(build, text, out):
+    """The same of a text, assembled in each way of the Makefile: the names are to differ, and nothing else."""
+    tools, suffix = BUILDS[build].tools, suffix_of(build)
+    run(tools + "gcc", *["-Wa,-defsym,chosen=1"] * bool(suffix), "-c", text, "-o", out + ".o")
+    if suffix:
+        run(tools + "gcc", "-c", text, "-o", out + ".plain.o")
+        run(tools + "ld", "-shared", "-z", "noexecstack", "--version-script", os.path.dirname(HERE) + "/exports.map", out + ".plain.o",
+            "-o", out + ".so")
+        compared(out + ".so", exports_of(out + ".o", suffix), [out + ".o"])
+    return program_of(build, out + ".o", out)
+
+
+def linked(out, machine, objects, suffix=""):
+    """Objects at addresses of more than 32 bits; libc's three functions are names alone, of which the contract is used."""
+    # (A function of the host may not become a call of itself.)
+    host = out + ".host.o"
+    run(machine.tools + "gcc", "-O2", "-fno-tree-loop-distribute-patterns", "-c", HERE + "/host.c", "-o", host)
+    run(machine.tools + "ld", "-static", "-e", "start", "--build-id=none", "-z", "noexecstack", "-Ttext-segment=0x123456700000",
+        host, *objects, "-o", out)
+    return Program(out, machine, suffix)
+
+
+def refuse_names(path, suffix):
+    """A symbol that another file may define instead, code that the linker may take from another file, and a name that is somebody else's
+    or comes twice."""
+    elf = Elf(path)
+    ours = lambda s: s.binding == GLOBAL and s.visibility == (HIDDEN if suffix else DEFAULT) and s.name.startswith(
+        "fotsgure_") and s.name.endswith(suffix)
+    known = {*LIBC, "_GLOBAL_OFFSET_TABLE_"}
+    others = sorted(s.name for s in elf.all_symbols() if s.binding != LOCAL and not (s.name in known if s.section == UNDEFINED else ours(s)))
+    if others or any(section.kind == GROUP for section in elf.sections):
+        raise Unproved("depends on what else is linked: " + ", ".join(others))
+    names = [s.name for s in elf.all_symbols() if s.section != UNDEFINED and s.name]
+    taken = {*LIBC, *HOST} & {*names} | {name for name in names if name.startswith("fotsgure_") and names.count(name) > 1}
+    if taken:
+        raise Unproved("defines a name that is taken: " + ", ".join(sorted(taken)))
+
+
+def refuse_instructions(program, wide):
+    """An instruction that isn't covered, or that not all processors of the build have; and a function that no export leads to."""
+    functions = program.functions()
+    for address in (address for addresses in functions.values() for address in addresses):
+        name = program.decoded(address).name
+        if not wide and program.machine.only_wide and re.fullmatch(program.machine.only_wide, name):
+            raise Unproved("has an instruction that not all of its processors have: " + program.lines[address])
+    function_of = {address: name for name, addresses in functions.items() for address in addresses}
+    mentioned = lambda name: {function_of.get(int(target, 16)) for address in functions[name]
+                              for target in re.findall(r"\b[0-9a-f]{12}\b", program.lines[address])} - {None}
+    waiting, reached = [function_of[address] for address in program.exports.values()], set()
+    while waiting:
+        name = waiting.pop()
+        if name not in reached:
+            reached.add(name)
+            waiting += mentioned(name)
+    if reached != set(functions):
+        raise Unproved("has functions that no export leads to: " + ", ".join(sorted(set(functions) - reached)))
+
+
+# The exports of a static library, which holds two builds: each jumps to the function of one, by what was found of the processor.
+def choice_cases(built, dist, out):
+    for library in filter(built.has, ("aes", "gcm")) if built.machine.only_wide else ():
+        objects = [path for name, path in built.archive(library).items() if name != "seal_random.o"]
+        program, wrong = linked("%s/choose_%s" % (out, library), X86_64, objects), []
+        declared = parameters("%s/include/fotsgure_%s.h" % (dist, library))
+        names = sorted(name for name in exports_of(built.archive(library)["choose_%s.o" % library], "") if name.startswith("fotsgure_"))
+        for name in names:
+            wrong += [name + suffix for found, suffix in ((1, "_v2"), (2, "_v3")) if not leads(program, name, declared[name], found, suffix)]
+        yield "choose_%s.o: %d exports, each to either build" % (library, len(names)), ", ".join(wrong)
+
+
+def parameters(header):
+    """{name: how many parameters it has} of the functions of a header."""
+    with open(header) as file:
+        found = re.findall(r"(fotsgure_\w+)\(([^()]*)\) FOTSGURE_\w+_NOEXCEPT;", file.read())
+    return {name: 0 if declared == "void" else declared.count(",") + 1 for name, declared in found}
+
+
+def leads(program, name, count, found, suffix):
+    """Whether an export jumps to the function with this suffix, with its caller's arguments, some on the stack, and registers."""
+    domain, arguments = Domain(), [Pointer("argument %d" % k, 0) for k in range(12)]
+    program.constants.append((program.symbols["known"], [found, 0, 0, 0]))
+    m = X86_64(domain, program, {"stack": Region([domain.undefined] * 512, align=16)}, program.symbols[name], arguments)
+    before, stack, top = dict(m.general), m.regions["stack"].content[m.top:], m.top
+    m.top += len(stack)  # a function may write to the arguments that it is given
+    while m.next_address not in (program.symbols[name + "_v2"], program.symbols[name + "_v3"]):
+        m.step()
+    program.constants.pop()
+    same = all(m.general[r] == before[r] for r in (*m.kept, *m.arguments[:count]))
+    return m.next_address == program.symbols[name + suffix] and same and m.regions["stack"].content[top:] == stack
