@@ -85,44 +85,43 @@ fn marked() {
 
 /// FIPS 197, C.1: the first rounds of Cipher and of EqInvCipher.
 #[cfg(feature = "hazmat")]
-#[test]
-fn single_rounds() {
+mod single_rounds {
     use fotsgure_rustcrypto::hazmat::*;
-    let block = |number: u128| Block::from(number.to_be_bytes());
-    let rows: [(fn(&mut Block, &Block), fn(&mut Block8, &Block8), [u128; 3]); 2] = [
-        (
-            cipher_round,
-            cipher_round_par,
-            [
-                0x00102030405060708090a0b0c0d0e0f0,
-                0xd6aa74fdd2af72fadaa678f1d6ab76fe,
-                0x89d810e8855ace682d1843d8cb128fe4,
-            ],
-        ),
-        (
-            equiv_inv_cipher_round,
-            equiv_inv_cipher_round_par,
-            [
-                0x7ad5fda789ef4e272bca100b3d9ff59f,
-                0x13aa29be9c8faff6f770f58000f7bf03,
-                0x54d990a16ba09ab596bbf40ea111702f,
-            ],
-        ),
-    ];
-    for (round, round_par, [start, round_key, end]) in rows {
+
+    fn block(number: u128) -> Block {
+        Block::from(number.to_be_bytes())
+    }
+
+    fn turns(round: fn(&mut Block, &Block), round_par: fn(&mut Block8, &Block8), key: u128, start: u128, end: u128) {
         let mut one = block(start);
-        round(&mut one, &block(round_key));
+        round(&mut one, &block(key));
         assert_eq!(one, block(end));
         let mut eight = Block8::from([block(start); 8]);
-        round_par(&mut eight, &Block8::from([block(round_key); 8]));
+        round_par(&mut eight, &Block8::from([block(key); 8]));
         assert_eq!(eight, Block8::from([block(end); 8]));
     }
-    let (row, column) = (block(0xbd6e7c3df2b5779e0b61216e8b10b689), block(0x4773b91ff72f354361cb018ea1e6cf2c));
-    let mut mixed = row;
-    inv_mix_columns(&mut mixed);
-    assert_eq!(mixed, column);
-    mix_columns(&mut mixed);
-    assert_eq!(mixed, row);
+
+    #[test]
+    fn of_cipher() {
+        let (start, end) = (0x00102030405060708090a0b0c0d0e0f0, 0x89d810e8855ace682d1843d8cb128fe4);
+        turns(cipher_round, cipher_round_par, 0xd6aa74fdd2af72fadaa678f1d6ab76fe, start, end);
+    }
+
+    #[test]
+    fn of_equiv_inv_cipher() {
+        let (start, end) = (0x7ad5fda789ef4e272bca100b3d9ff59f, 0x54d990a16ba09ab596bbf40ea111702f);
+        turns(equiv_inv_cipher_round, equiv_inv_cipher_round_par, 0x13aa29be9c8faff6f770f58000f7bf03, start, end);
+    }
+
+    #[test]
+    fn columns() {
+        let (row, column) = (block(0xbd6e7c3df2b5779e0b61216e8b10b689), block(0x4773b91ff72f354361cb018ea1e6cf2c));
+        let mut mixed = row;
+        inv_mix_columns(&mut mixed);
+        assert_eq!(mixed, column);
+        mix_columns(&mut mixed);
+        assert_eq!(mixed, row);
+    }
 }
 
 #[cfg(feature = "aead")]
