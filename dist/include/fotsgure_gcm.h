@@ -144,7 +144,8 @@ struct fotsgure_gcm_message {
     uint8_t rest[16];
 };
 
-/* A key of AES-GCM-SIV. Read and write it by the calls below alone. */
+/* A key of AES-GCM-SIV. Read and write it by the calls below alone. Builds with a byte shuffle keep it in the first 244 bytes,
+ * and neither read nor write the others: what is said of the struct is so of the bytes that a build keeps. */
 struct fotsgure_gcm_siv {
     uint32_t key_length; /* 16 or 32; 0: no key */
     uint8_t round_keys[480];

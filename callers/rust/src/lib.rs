@@ -24,8 +24,7 @@
 //!
 //! # Where it works
 //!
-//! On x86-64 with SSSE3 and SSE4.2 (Linux, Android, the BSDs, Windows), on 64-bit ARM, and on 64-bit RISC-V with vectors.
-//! rustc assembles the code, so no C compiler is needed. No instructions for AES are used, and no tables.
+//! On x86-64 (Linux, Android, the BSDs, Windows), on 64-bit ARM and RISC-V, and on 32-bit ARM (Linux). rustc assembles the code, so no C compiler is needed. No instructions for AES are used, and no tables.
 //!
 //! Keys are on the heap, so that a move leaves no copy, and are wiped when a value is dropped.
 
