@@ -61,7 +61,7 @@ static int load(int folder, const char *name, struct kept *kept)
     if (length < 0)
         fails(name, NULL);
     else if (!loaded)
-        fails(name, "it hasn't the 44 bytes of a key and its counter. Call new-key: the next message draws another key");
+        fails(name, "it doesn't have the 44 bytes of a key and its counter. Call new-key: the next message draws another key");
     if (file >= 0)
         close(file);
     return loaded;
@@ -108,7 +108,7 @@ static int locked(const char *path)
     if (folder < 0 || fstat(folder, &about) != 0 || flock(folder, LOCK_EX) != 0)
         fails(path, NULL);
     else if (about.st_uid != geteuid() || (about.st_mode & (S_IWGRP | S_IWOTH)) != 0)
-        fails(path, "others may write this folder. Take one of your own, with chmod 700");
+        fails(path, "others may write this folder. Use one of your own, with chmod 700");
     else
         is_ours = 1;
     if (folder >= 0 && !is_ours)
@@ -169,7 +169,7 @@ static int old_key(const char *path, const char *name)
     char other[16] = "";
     struct kept kept;
     if (strncmp(name, "key.", strlen("key.")) != 0 || strchr(name, '/'))
-        return fails(name, "take a name that new-key has printed, without the folder");
+        return fails(name, "use a name that new-key has printed, without the folder");
     int folder = locked(path);
     if (folder < 0)
         return 0;
