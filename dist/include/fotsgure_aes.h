@@ -51,8 +51,8 @@
 #endif
 
 /* The version of this header; fotsgure_aes_version() returns that of the library. */
-#define FOTSGURE_AES_VERSION_TEXT "0.3.0"
-#define FOTSGURE_AES_VERSION 300 /* 10000 * 0 + 100 * 3 + 0 */
+#define FOTSGURE_AES_VERSION_TEXT "0.4.0"
+#define FOTSGURE_AES_VERSION 400 /* 10000 * 0 + 100 * 4 + 0 */
 
 #define FOTSGURE_AES_BLOCK 16         /* bytes of a block */
 #define FOTSGURE_AES_EIGHT_BLOCKS 128 /* bytes of eight */

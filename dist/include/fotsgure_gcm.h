@@ -56,8 +56,8 @@
 
 /* The version of this header; fotsgure_gcm_version() returns that of the library. It is that of fotsgure_aes since 0.3.0,
  * which followed 0.1.0. */
-#define FOTSGURE_GCM_VERSION_TEXT "0.3.0"
-#define FOTSGURE_GCM_VERSION 300 /* 10000 * 0 + 100 * 3 + 0 */
+#define FOTSGURE_GCM_VERSION_TEXT "0.4.0"
+#define FOTSGURE_GCM_VERSION 400 /* 10000 * 0 + 100 * 4 + 0 */
 
 #define FOTSGURE_GCM_NONCE 12                             /* bytes of a counted nonce; take this length if you can */
 #define FOTSGURE_GCM_TAG 16                               /* bytes of a tag */
@@ -282,8 +282,8 @@ FOTSGURE_GCM_CHECK enum fotsgure_gcm_status fotsgure_gcm_accept(const struct fot
     const uint8_t *tag, size_t tag_length) FOTSGURE_GCM_NOEXCEPT;
 
 /* Compares a tag of fewer than 16 bytes in the place of fotsgure_gcm_accept: of 4, 8 or 12 to 15 (5.2.1.2). `fixed_length`
- * is how many bytes all tags under the key have. It is fixed with the key: never take it from a message, or whoever
- * forges one chooses how few bytes have to be right. For 4 and 8 bytes read appendix C first.
+ * is how many bytes all tags under the key have. It is fixed with the key: never take it from a message, since
+ * someone who forges one would choose how few bytes have to be right. For 4 and 8 bytes read appendix C first.
  * TAG_LENGTH if fixed_length is another number, or tag_length another than fixed_length; then as fotsgure_gcm_accept. */
 FOTSGURE_GCM_CHECK enum fotsgure_gcm_status fotsgure_gcm_accept_short(const struct fotsgure_gcm *gcm,
     struct fotsgure_gcm_message *FOTSGURE_GCM_ALONE message, size_t fixed_length,

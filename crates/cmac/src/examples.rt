@@ -3,12 +3,13 @@
 //!
 //! `bytes n 0x..` is the n bytes that these digits write.
 
-ghost use Rattle.std.specs.Prelude.{◌≡◌, ◌<◌, ◌≤◌, ℕ, ◌+◌, ◌*◌, List, [], ◌++◌, length, replicate};
+ghost use Rattle.std.specs.Prelude.{◌≡◌, ◌<◌, ◌≤◌, ℕ, ◌+◌, ◌*◌, ◌/◌, List, [], ◌++◌, length};
+ghost use Rattle.std.specs.Prelude.{replicate};
 ghost use Rattle.std.specs.List.{slice_range};
 ghost use Rattle.aes_planes.specs.BigEndian.{bytes};
 ghost use Rattle.aes_planes.specs.Fips197 as fips;
+ghost use Rattle.cmac.specs.Chain.{chained, chained_through, padded};
 ghost use Rattle.cmac.specs.Cmac.{doubled_block, subkey_1, subkey_2, before_last, last_block};
-ghost use Rattle.cmac.specs.Chain.{chained};
 ghost use Rattle.cmac.specs.Cmac.{cmac};
 
 // The blocks that the examples encrypt: the block of zeros, those of the messages with 40 and with
@@ -70,6 +71,8 @@ pub fn chain_rules()
     ensures next { (w : List (List ℕ)) (y message : List ℕ) (i : ℕ) → chained w y message (i + 1)
         ≡ fips.cipher_with w (fips.add_round_key (chained w y message i)
         (slice_range message (16 * i) (16 * i + 16))) }
+    ensures through { (w : List (List ℕ)) (y message : List ℕ) → chained_through w y message
+        ≡ chained w y (padded message) (length (padded message) / 16) }
     ensures tag { (w : List (List ℕ)) (message : List ℕ) → cmac w message
         ≡ fips.cipher_with w (fips.add_round_key
         (chained w (replicate 16 0) message (before_last (length message)))
