@@ -403,7 +403,9 @@ pub enum NotTaken {
 impl fmt::Display for NotTaken {
     fn fmt(&self, f: &mut fmt::Formatter<'_>) -> fmt::Result {
         f.write_str(match self {
-            NotTaken::OutOfTurn => "the calls came in the wrong order, for example text after finish, or decrypt before accept",
+            NotTaken::OutOfTurn => {
+                "the calls came in the wrong order, for example text after finish, or decrypt before accept"
+            }
             NotTaken::TooLong => "more than GCM allows, or than was verified",
             NotTaken::Refused => "the message was refused",
         })
