@@ -403,7 +403,9 @@ pub enum NotTaken {
 impl fmt::Display for NotTaken {
     fn fmt(&self, f: &mut fmt::Formatter<'_>) -> fmt::Result {
         f.write_str(match self {
-            NotTaken::OutOfTurn => "the calls came in the wrong order, for example text after finish, or decrypt before accept",
+            NotTaken::OutOfTurn => {
+                "the calls came in the wrong order, for example text after finish, or decrypt before accept"
+            }
             NotTaken::TooLong => "more than GCM allows, or than was verified",
             NotTaken::Refused => "the message was refused",
         })
@@ -544,7 +546,7 @@ impl Message<'_> {
     }
 
     /// Compares a tag of 4, 8 or 12 to 15 bytes in the place of `accept` (SP 800-38D, 5.2.1.2). `fixed_length` is how many
-    /// bytes all tags under the key have. It is fixed with the key: **never take it from a message**, or whoever forges one
+    /// bytes all tags under the key have. It is fixed with the key: **never read it from a message**, or whoever forges one
     /// chooses how few bytes have to be right. For 4 and 8 bytes read appendix C of the standard first.
     ///
     /// # Errors

@@ -10,7 +10,7 @@
 //! let siv = GcmSiv::new(&key)?;
 //! let mut text = *b"a message";
 //! let (nonce, tag) = siv.seal_random(b"its name", &mut text)?;
-//! // Send nonce, name, text and tag. Whoever has the key opens the message:
+//! // Send nonce, name, text and tag. Anyone who has the key opens the message:
 //! siv.open(&nonce, b"its name", &mut text, &tag)?;
 //! assert_eq!(&text, b"a message");
 //! # Ok::<(), Box<dyn std::error::Error>>(())
