@@ -28,7 +28,7 @@ class Aarch64(Machine):
     kept, kept_halves = X[19:30] + ["sp"], range(8, 16)
     scratch = X[:19]
     red_zone = 0
-    conditional, padding = r"b\.|cbn?z|tbn?z", "nop|udf"
+    conditional, padding = r"b\.|cbn?z|tbn?z|adcs?\s|sbcs?\s|csinc\s.*, c[cs]\b", "nop|udf"
 
     def enter(self, arguments):
         super().enter(arguments)
@@ -173,6 +173,8 @@ def select(m, name, to, a, b, code):
     except Unproved:  # the choice isn't a branch
         return m.put(to, m.lost_bytes(to.size))
     v = m.get(a if taken else b)
+    if code in ("cs", "cc"):
+        m.went(taken)
     if name == "csinc" and not taken:
         v = m.plus(v, 1, 0, to.size)[0]
     elif name == "csinv" and not taken:

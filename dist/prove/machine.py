@@ -14,7 +14,7 @@ Machine, in a file of its own (x86_64.py, aarch64.py), that says:
     scratch                those that libc's functions may change
     red_zone               bytes below the stack pointer that a function may use
     stack_step             what the stack pointer has to be a multiple of where it is the base of an access
-    conditional, padding        how a line of objdump begins that is a conditional jump, or fills up space between others
+    conditional, padding        how a line of objdump begins that is a conditional jump or adds a carry, or fills up space between others
     decode(text, following)     a line of objdump as an Instruction; `following` is the next address
     leave()                     after libc's function: goes on at the return address
     condition(code)             0 or 1, by the flags (see Machine.decide)"""
@@ -211,7 +211,7 @@ class Program:
         """`suffix`: what the names of its exports end with."""
         self.path, self.machine = path, machine
         self.lines, self.cache = self.disassembled(), {}
-        self.went = set()  # (where a jump stands, where it led)
+        self.went = set()  # (where a jump stands, where it led), and (where an add with carry stands, the carry)
         addresses = list(self.lines)
         self.next = dict(zip(addresses, addresses[1:]))
         symbols = re.findall(r"(?m)^([0-9a-f]+) (\S) (.*)$", self.tool("nm"))
@@ -959,7 +959,11 @@ class Machine:
         if not (is_int(address) or address == RETURN_ADDRESS):
             raise Unproved("goes on at an address that depends on the key or on data")
         self.next_address = address
-        self.program.went.add((self.last, address))
+        self.went(address)
+
+    def went(self, way):
+        """Notes where a jump led, or which carry was added."""
+        self.program.went.add((self.last, way))
 
     def external(self, name):
         """A call of libc by its contract. What it may leave in registers is undefined."""

@@ -5,7 +5,7 @@ so the meanings that x86_64.py and aarch64.py give to instructions are those of 
 import random
 
 from bits import DATA, Domain, Unproved
-from machine import RETURN_ADDRESS, Pointer, Region, joined
+from machine import RETURN_ADDRESS, Memory, Pointer, Region, Register, is_int, joined
 from processors import PROCESSORS
 from values import Values
 
@@ -96,7 +96,8 @@ class Native:
 # An instruction by itself. What it has in memory lies in the midst of a buffer or of the stack. If it can't be run with what was drawn, it
 # is tried with other values.
 SIZE, MIDDLE = 128, 64
-TRIES = 6
+TRIES, WITH_FLAGS = 8, 48  # more of what sets flags: they are rare for most numbers
+ENDS = 0, -1, 0x80, 0x7f, 0xff, 0x0f, 0x10, 0x8f, 31, 32, 33, 63, 64, 65, 127, 128  # bytes, counts and indices where something changes
 NEVER_ALONE = "ldaxr", "stlxr"  # they belong together: compared in the calls that prove.py runs beside the processor
 
 
@@ -115,15 +116,28 @@ class Alone:
         self.processor = PROCESSORS[program.machine](program.path)
 
     def number(self, size):
-        """Small ones too, as counts and indices are."""
-        r = self.random
-        drawn = r.getrandbits(8 * size), r.getrandbits(8 * size), r.getrandbits(5), -1 - r.getrandbits(5)
+        """Small ones too, as counts and indices are, and those near to powers of two."""
+        r, power = self.random, 1 << self.random.randrange(8 * size)
+        drawn = r.getrandbits(8 * size), r.getrandbits(8 * size), r.getrandbits(5), -1 - r.getrandbits(5), power, power - 1, -power, r.choice(ENDS)
         return (r.choice(drawn) & (1 << 8 * size) - 1).to_bytes(size, "little")
+
+    def words_of(self, instruction, k):
+        """The words of which the try with this number has nothing else, if that isn't any: bytes where something changes; or a number, its
+        negative, and the same with other bits, so that operands are equal or their sum is 0. The number may be that in the instruction."""
+        if k % 4 == 2:
+            return [bytes(b & 255 for b in self.random.choices(ENDS, k=8)) for _ in range(64)]
+        if k % 4 != 3:
+            return ()
+        sizes = [o.size for o in instruction.operands if isinstance(o, (Register, Memory)) and 0 < o.size <= 8]
+        size = sizes[0] if sizes else self.random.choice((1, 2, 4, 8))
+        own = [o for o in instruction.operands if is_int(o)] * 3
+        n = self.random.choice([int.from_bytes(self.random.choice(self.constants)[:size], "little"), *own])
+        return [(m & (1 << 8 * size) - 1).to_bytes(size, "little") * (8 // size) for m in (n, n, n, -n, ~n, n ^ 1 << 8 * size - 1, 0, -1)]
 
     def bytes(self, count):
         """Constants, or in a try that isn't `constant` symbolic bytes more often."""
         constant = self.constant or self.random.random() < 0.3
-        return joined(self.random.choices(self.constants if constant else self.symbolic, k=count // 8))
+        return joined(self.random.choices(self.words or (self.constants if constant else self.symbolic), k=count // 8))
 
     def before(self, instruction, address):
         """A machine just before the instruction."""
@@ -142,16 +156,18 @@ class Alone:
 
     def compared(self, address):
         """How often the processor agreed with a form of an instruction; raises if it ever differs."""
-        instruction, agreed = self.program.at(address), 0
-        for k in range(TRIES):
-            self.constant = k % 2
+        instruction, agreed, tries, k = self.program.at(address), 0, TRIES, 0
+        while k < tries:
             self.random.seed("%s %d" % (instruction.form, k))  # so that a form always has the same values
+            self.constant, self.words, k = k % 2, self.words_of(instruction, k), k + 1
             m = self.before(instruction, address)
+            flags = m.flags
             beside = Native(m, values=self.values, processor=self.processor)
             try:
                 m.step()
             except Unproved:
                 continue
+            tries = TRIES if m.flags is flags else WITH_FLAGS
             beside.watch(m)
             beside.refuse(beside.wrong_memory())
             agreed += 1

@@ -15,6 +15,7 @@ import time
 import aes
 import gcm
 import siv
+import uncovered
 from bits import Domain, Unproved
 from calls import STACK
 from linking import BUILDS, HERE, MACHINES, Built, built_cases, choice_cases, library_of, program_of, suffix_of, text_of
@@ -31,7 +32,8 @@ SEED = 1
 
 # Which statements, and of which lengths: all; or those that reach each path and its ends, of which keys of 24 and 32 bytes take a few.
 # README has the table. Each of these gives the names of statements, and their arguments. Keys of 24 bytes take only these names by default:
-OF_24 = "blocks", "seal", "wipe", "wipe_message", "set_key_refused", "key_length", "key_length_of_none", "version"
+OF_24 = ("blocks", "add_keystream", "cbc_encrypt", "cbc_decrypt", "any_cbc_encrypt", "wrap", "unwrap", "seal", "open", "wipe", "wipe_message",
+         "set_key_refused", "key_length", "key_length_of_none", "version")
 LONG = [(0, 16 * n) for n in range(1, 65)] + [(n, 0) for n in range(1, 100, 9)]
 
 
@@ -55,12 +57,17 @@ def aes_cases(choose):
     yield "add_keystream", choose(later, later[2:3], later[:2] + later[3:])
     yield "add_keystream", [(3, n, aes.NEVER, "_with") for n in choose(counts[1::3], (33,))]
     yield "add_keystream", [(5, 280, wrap) for wrap in choose(range(1, 19), (), (9, 17))]
+    # A batch of four blocks: a carry before each of its blocks, and before the one behind it.
+    yield "add_keystream", [(5, 85, wrap) for wrap in choose(range(1, 7), (1,), range(2, 6))]
+    # Positions, and numbers of blocks, that don't fit into 32 bits; one block, four and more.
+    far = [(2 ** 32 - 20, 40), (2 ** 36 - 20, 40), (2 ** 36 + 5, 11), (2 ** 36 + 5, 85), (2 ** 36 - 64, 280), (2 ** 60 + 5, 300)]
+    yield "add_keystream", choose(far, (), far)
     # Of every length, by its remainder.
     yield "any_blocks", [(direction, rest) for direction in ("encrypt", "decrypt") for rest in choose(range(16), (7,), [
         rest for rest in range(16) if rest != 7])]
     yield "any_blocks", [(direction, rest, "_to") for direction in ("encrypt", "decrypt") for rest in choose(range(16), (7,), (0, 14))]
     yield "any_cbc_encrypt", [()]
-    yield "any_cbc_decrypt", choose(range(64), (9,), (0, 63))
+    yield "any_cbc_decrypt", choose(range(64), (), (9,))
     yield "any_keystream", choose([(position, rest) for position in (0, 5) for rest in range(128)], [(0, 33)], [(0, 0), (5, 122)])
     yield "cbc_decrypt", choose(range(65), (9,), (0, 1, 3, 4, 8, 17, 33))
     yield "cbc_encrypt", choose(range(65), (2,), (0, 1))
@@ -82,7 +89,8 @@ def gcm_cases(choose):
     yield "seal", [(5, n, nonce) for n in choose((20, 40), (), (20,)) for nonce in nonces]
     yield "seal", choose([(5, n, (60, None)) for n in (0, 129, 300)], ())
     yield "open", [(3, 20, nonce) for nonce in choose(nonces, (), nonces[:1])]
-    counters = choose((None, 2 ** 64 - 1, 2 ** 96 - 2), (None,), (2 ** 64 - 1, 2 ** 96 - 2))
+    carries = [2 ** k - 1 for k in (64, 72, 80, 88)] + [2 ** 96 - 2]
+    counters = choose([None] + carries, (None,), carries)
     yield "seal_next", [(3, 1, counter) for counter in counters]
     yield "begin_next", counters
     # Calls on a message of which so many bytes have come: its phase, additional data, and text.
@@ -94,7 +102,7 @@ def gcm_cases(choose):
     for call, phase in ("finish", gcm.ENCRYPTING), ("accept", gcm.VERIFYING):
         states = [(phase, 16, 7), (gcm.ADDITIONAL, 0, 0), (gcm.ADDITIONAL, 5, 0), (phase, 5, 16)]
         yield call, choose(states, states[:1], states[1:])
-    yield "accept", [(gcm.VERIFYING, 16, 7, gcm.UNKNOWN, n) for n in choose((4, 8, 12, 13, 14, 15), (12,), (4, 15))]
+    yield "accept", [(gcm.VERIFYING, 16, 7, gcm.UNKNOWN, n) for n in choose((4, 8, 12, 13, 14, 15), (12,), (4, 8, 13, 14, 15))]
     # After so many bytes that their counts and positions don't fit into 32 bits.
     for many in choose([2 ** 35], (), [2 ** 35]):
         yield "additional", [(2 ** 32 - 3, 13), (many, 7)]
@@ -255,29 +263,36 @@ def compare_forms(pool, tasks):
 
 
 def say_what_ran(tasks, options):
-    """How many instructions of each text ran, and how many conditional jumps led both ways; with --lines, in which functions others are.
-    The result is how many exports have no case."""
-    texts, lacking = {}, 0
+    """How many instructions of each text ran, and how many conditional jumps and adds with carry led both ways; with --lines, in which
+    functions others are. The result is how many faults there are: exports without a case, and functions of which more didn't run, or went
+    one way, than uncovered.py says."""
+    texts, faults = {}, []
     for task in (task for task in tasks if task.ran):
         _, *known = texts.setdefault(text_of(task.build) + ".s", (task, set(), set(), set()))
         for all_, new in zip(known, (task.ran, task.went, task.calls)):
             all_ |= new
     for text, (task, ran, went, calls) in texts.items():
         program = Program(task.path, task.machine, suffix_of(task.build))
-        functions = program.functions()
-        jumps = [a for a in ran if re.match(task.machine.conditional, program.lines[a])]
-        ways = collections.Counter(start for start, _ in went)
-        print("%s: %d of %d instructions ran, %d of %d conditional jumps led both ways" % (
-            text, sum(len(ran & addresses) for addresses in functions.values()), sum(map(len, functions.values())),
-            sum(ways[a] == 2 for a in jumps), len(jumps)))
-        for name, addresses in functions.items() if options.lines else ():
-            if addresses - ran:
-                print("%s, %s: %d of %d instructions didn't run" % (text, name, len(addresses - ran), len(addresses)))
+        functions, ways = program.functions(), collections.Counter(start for start, _ in went)
+        conditional = {a for a, line in program.lines.items() if re.match(task.machine.conditional, line)}
+        both = {a for a in conditional if ways[a] == 2}
+        all_ = set().union(*functions.values())
+        print("%s: %d of %d instructions ran; %d of %d conditional jumps and adds with carry led both ways" % (
+            text, len(ran & all_), len(all_), len(both & all_), len(conditional & all_)))
+        for name, addresses in functions.items():
+            missed = len(addresses - ran), len((conditional & addresses) - both)
+            if any(missed) and options.lines:
+                print("%s, %s: %d of %d instructions didn't run; %d conditional ones went one way" % (
+                    text, name, missed[0], len(addresses), missed[1]))
+            if uncovered.is_more(name, *missed):
+                faults.append("%s, %s: %d instructions that don't run, %d conditional ones that go one way" % (text, name, *missed))
         without = set(program.exports) - {"fotsgure_" + call for call in calls}
-        if without and not options.only and len(options.builds) == len(BUILDS):
-            print("%s: NOT PROVED: no case of %s" % (text, ", ".join(sorted(without))))
-            lacking += len(without)
-    return lacking
+        faults += ["%s: no case of %s" % (text, ", ".join(sorted(without)))] * bool(without)
+    if options.only or options.keys != KEY_SIZES or len(options.builds) != len(BUILDS):  # of a part of the cases nothing can be said
+        return 0
+    for fault in faults:
+        print("NOT PROVED: " + fault)
+    return len(faults)
 
 
 def missing(machine):

@@ -25,7 +25,7 @@ class X86_64(Machine):
     kept = "rbx rsp rbp r12 r13 r14 r15".split()
     scratch = "rcx rdx rsi rdi r8 r9 r10 r11".split()
     red_zone = 128
-    conditional, padding = "j(?!mp)", r"(data16 |cs )*nop|xchg +ax,ax"
+    conditional, padding = "j(?!mp)|adc|sbb", r"(data16 |cs )*nop|xchg +ax,ax"
 
     def leave(self):
         self.go_to(popped(self))
@@ -129,6 +129,8 @@ def arithmetic(m, name, a, b=1):
     carry = old if name in ("adc", "sbb") else 0
     if carry not in (0, 1):
         raise Unproved("adds a carry that depends on the key or on data, or that is undefined")
+    if name in ("adc", "sbb"):
+        m.went(carry)
     if name in ("add", "adc", "inc"):
         r, flags = m.plus(x, y, carry, size)
     else:
