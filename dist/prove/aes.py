@@ -13,8 +13,8 @@ from machine import LAST, LEAD, Pointer, Verdict
 from standards import ICV1, ICV2, Aes, number
 
 # The header's enum, structs and sizes; prove.py has the compiler compare them.
-DONE, KEY_LENGTH, NO_KEY, UNEQUAL_COUNTS, KEYSTREAM_END, INVALID_COUNT, REFUSED = range(7)
-STATUSES = "DONE KEY_LENGTH NO_KEY UNEQUAL_COUNTS KEYSTREAM_END INVALID_COUNT REFUSED".split()
+DONE, KEY_LENGTH, NO_KEY, UNEQUAL_COUNTS, KEYSTREAM_END, INVALID_COUNT, REFUSED, TAG_LENGTH, NONCE_LENGTH, TOO_LONG = range(10)
+STATUSES = "DONE KEY_LENGTH NO_KEY UNEQUAL_COUNTS KEYSTREAM_END INVALID_COUNT REFUSED TAG_LENGTH NONCE_LENGTH TOO_LONG".split()
 STRUCTS = {"fotsgure_aes": (484, {"key_length": 0, "round_keys": 4}), "fotsgure_aes_ctr": (24, {"iv": 0, "position": 16}),
            "fotsgure_aes_cbc": (16, {"previous": 0})}
 STRUCT = 484
@@ -86,6 +86,10 @@ class Keyed:
     def of(self, bytes_, block):
         """The same functions of the bytes of this block, the first being 0."""
         return [self.domain.byte_in_block(x, block + 1) for x in bytes_]
+
+    def many(self, bytes_, count, start=0):
+        """`count` bytes, in blocks from the place `start` on."""
+        return [self.domain.byte_in_block(bytes_[i % 16], i // 16 + 1) for i in range(start, start + count)]
 
     # The struct.
     def set_key(self, seed=None):
@@ -201,8 +205,7 @@ class Keyed:
 
     def any_cbc_encrypt(self):
         """A plain block has the number of the encrypted one before it."""
-        self.cbc_encrypt(0)
-        (chain, chained), count, d = self.kept["chain"], unknown("n"), self.domain
+        (chain, chained), count, d = self.chain(), unknown("n"), self.domain
         content, want = self.pattern(self.block_bytes, -1), self.pattern(chain)
 
         def steps(k):
@@ -307,13 +310,15 @@ class Keyed:
         return Call("aes_cbc_decrypt", [self.schedule(), Buffer("cbc", previous, chain[-16:]), Buffer("blocks", content, want), count],
                     DONE, plain=want, between=between)
 
+    def chain(self):
+        """Any value before a block of a chain, and Cipher of its sum with the block."""
+        value = self.once("chain", lambda: [self.domain.fresh("chain byte %d" % i, DATA, True) for i in range(16)])
+        return value, self.cipher_of(self.aes.xor(self.block_bytes, value))
+
     def cbc_encrypt(self, count):
         """.. encrypts .. the next `count` blocks of a chain. After each block the encrypted block, which is what it should be, becomes an
         arbitrary one."""
-        def make():
-            chain = [self.domain.fresh("chain byte %d" % i, DATA, True) for i in range(16)]
-            return chain, self.aes.cipher(self.aes.xor(self.block_bytes, chain), self.w)
-        chain, chained = self.once("chain", make)
+        chain, chained = self.chain()
 
         def steps():
             for b in range(count):

@@ -204,7 +204,7 @@ def step_by_step(steps):
     (or a function that makes that), and other bytes, which are arbitrary. When the result is there, these bytes take its place everywhere,
     so what is proved from there on holds for any. "hash" is looked for in vector registers, or as two words in either order of bytes;
     products of bits are then forgotten: what still depends on them is lost, and may not even be left. "vector" is looked for in vector
-    registers, "memory" where something was written; another name is that of a region."""
+    registers, "memory" where something was written, "block" in all these places; another name is that of a region."""
     at = functools.lru_cache(None)(steps) if callable(steps) else None
     steps = () if at else list(steps)
 
@@ -236,15 +236,22 @@ def found(m, where, want):
     if where in m.regions:
         content = m.regions[where].content
         return content[-1] == want[-1] and content == want
-    if where == "memory":
-        (content, at), m.written = m.written, ((), 0)  # looked at once
-        return any(content[k] == want[0] and content[k:k + len(want)] == want
-                   for k in range(max(0, at - len(want)), min(at + 16, len(content))))
-    if where == "vector":
-        return any(v[0] == want[0] and v[:16] == want for v in m.vectors)
+    if where in ("memory", "block") and was_written(m, want):
+        return True
+    return where != "memory" and any(v[0] == want[0] and v[:16] == want for v in m.vectors) or where in ("hash", "block") and in_words(m, want)
+
+
+def was_written(m, want):
+    """Whether this is in memory, where something was written."""
+    (content, at), m.written = m.written, ((), 0)  # looked at once
+    return any(content[k] == want[0] and content[k:k + len(want)] == want
+               for k in range(max(0, at - len(want)), min(at + 16, len(content))))
+
+
+def in_words(m, want):
+    """Whether two general registers have the halves of a block."""
     words = {v for v in m.general.values() if type(v) is tuple}
-    return any(v[:16] == want for v in m.vectors) or {tuple(want[:8]), tuple(want[8:])} <= words or {
-        tuple(want[7::-1]), tuple(want[:7:-1])} <= words
+    return {tuple(want[:8]), tuple(want[8:])} <= words or {tuple(want[7::-1]), tuple(want[:7:-1])} <= words
 
 
 # What is left.

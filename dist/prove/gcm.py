@@ -11,7 +11,7 @@ from bits import DATA, KEY, PUBLIC
 from calls import ANY, Buffer, Call
 from linear import WORD, unknown
 from machine import Pointer
-from standards import number, product
+from standards import ZEROS, number, padded, product
 
 STATUSES = ("DONE KEY_LENGTH NO_KEY NONCE_LENGTH TAG_LENGTH TOO_LONG REFUSED NONCES_END OUT_OF_TURN NO_RANDOMNESS").split()
 _, KEY_LENGTH, NO_KEY, NONCE_LENGTH, TAG_LENGTH, TOO_LONG, REFUSED, NONCES_END, OUT_OF_TURN = range(9)
@@ -20,12 +20,6 @@ STRUCTS = {"fotsgure_gcm": (1780, {"key_length": 0, "round_keys": 4, "multiples"
 STRUCT, MESSAGE = 1780, 80
 NONE, ADDITIONAL, ENCRYPTING, VERIFYING, DECRYPTING = range(5)  # phases of a message
 MOST, MOST_ADDITIONAL, MOST_NONCE = 2 ** 36 - 32, 2 ** 61 - 1, 2 ** 61 - 1
-ZEROS = [0] * 16
-
-
-def padded(b):
-    """Blocks, the last one filled up with zeros."""
-    return [(b + ZEROS)[i:i + 16] for i in range(0, len(b), 16)]
 
 
 def threes(blocks):
@@ -82,10 +76,6 @@ class KeyedGcm(Keyed):
         self.text, self.sealed, self.tag = (block(name, DATA) for name in ("text", "encrypted", "tag"))
         self.additional_bytes, self.long_nonce = block("additional", DATA), block("long nonce", PUBLIC)
         self.hash_value, self.rest = block("hash", KEY | DATA), block("rest", KEY | DATA)
-
-    def many(self, bytes_, count, start=0):
-        """`count` bytes, in blocks from the place `start` on."""
-        return [self.domain.byte_in_block(bytes_[i % 16], i // 16 + 1) for i in range(start, start + count)]
 
     def with_powers(self, blocks):
         """X_1 H^m + .. + X_m H, and factors named so that the same cells come with the same power."""

@@ -638,6 +638,10 @@ class Machine:
         """A byte that is `equal` if the difference is 0, else `unequal`."""
         if difference < 256 or 1 in self.domain.bits(difference) or equal == unequal:
             return unequal if difference else equal
+        unknown = [x for x in self.domain.bits(difference) if x]
+        if len(unknown) == 1:
+            bit = {(0, 0): 0, (0, 1): unknown[0], (1, 0): unknown[0] ^ 1, (1, 1): 1}
+            return self.domain.pack([bit[equal >> j & 1, unequal >> j & 1] for j in range(8)])
         b = self.domain.opaque("%d if %d is 0, else %d" % (equal, difference, unequal))
         self.equalities[b] = difference, equal, unequal
         self.lost.add(b)

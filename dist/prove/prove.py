@@ -14,6 +14,7 @@ import time
 
 import aes
 import gcm
+import modes
 import siv
 import uncovered
 from bits import Domain, Unproved
@@ -76,6 +77,16 @@ def aes_cases(choose):
     yield "wrap_padded", choose(range(1, 58), (9,), (1, 8))
     yield "unwrap_padded", choose(range(1, 58), (9,), (1, 8, 57))
     yield "unwrap_padded_refused", choose([(n, 1) for n in range(1, 4)], [(1, 8)], [(2, 16)])
+    yield "cmac", choose(range(100), (17,), (0, 1, 15, 16, 33, 300))
+    yield "cmac_verify", choose([(20, n) for n in modes.CMAC_TAGS], [(17, 16)], [(0, 4), (33, 11)])
+    # The lengths of nonce, additional data, text and tag.
+    messages = [(13, 8, 33, 8), (7, 0, 1, 4), (12, 14, 16, 16), (8, 15, 17, 6), (13, 33, 0, 14), (11, 1, 300, 10)]
+    every = [(nonce, 20, 40, tag) for nonce in modes.NONCES for tag in modes.CCM_TAGS] + [(12, n, 60 - n, 12) for n in range(61)]
+    yield "ccm_seal", choose(messages + every, messages[:1], messages[1:])
+    yield "ccm_open", choose(messages + every, messages[:1], messages[1:])
+    # These need no key.
+    yield "a_round", choose(*2 * [[(name, way) for name in ("cipher_round", "equiv_inv_cipher_round") for way in ("", "_par")]], ())
+    yield "columns", [("mix_columns",), ("inv_mix_columns",)]
 
 
 def gcm_cases(choose):
@@ -125,7 +136,7 @@ def siv_cases(choose):
     yield "open", choose([*lengths[1:], (149, 13)], [(1, 1)], [(149, 13)])
 
 
-LIBRARIES = {"aes": (aes.Keyed, aes_cases), "gcm": (gcm.KeyedGcm, gcm_cases), "siv": (siv.KeyedSiv, siv_cases)}
+LIBRARIES = {"aes": (modes.KeyedAes, aes_cases), "gcm": (gcm.KeyedGcm, gcm_cases), "siv": (siv.KeyedSiv, siv_cases)}
 
 
 def statements(keyed, options, part, parts):

@@ -7,10 +7,10 @@ import functools
 from aes import between, nothing
 from bits import DATA, KEY
 from calls import Buffer, Call, compare
-from gcm import DONE, NO_KEY, REFUSED, TOO_LONG, ZEROS, Hashing, KeyedGcm, padded, threes
+from gcm import DONE, NO_KEY, REFUSED, TOO_LONG, Hashing, KeyedGcm, threes
 from linear import WORD, unknown
 from machine import Number
-from standards import dot, mulx_ghash, product
+from standards import ZEROS, dot, mulx_ghash, padded, product
 
 STRUCTS = {"fotsgure_gcm_siv": (484, {"key_length": 0, "round_keys": 4})}
 STRUCT, MOST = 244, 2 ** 36  # what these builds keep of the struct; the rest of it they neither read nor write

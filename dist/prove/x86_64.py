@@ -95,7 +95,6 @@ TABLE = Table({
     "movsxd": lambda m, name, to, source: m.put(to, signed(m.get(source), source.size) & WORD),
     "movbe": lambda m, name, to, source: m.write(to, m.read(source)[::-1]),
     "bswap": lambda m, name, to: m.write(to, m.read(to)[::-1]),
-    "lea": lambda m, name, to, source: m.put(to, m.address(source)),
     "not": lambda m, name, to: m.write(to, [m.domain.xor_byte(b, 255) for b in m.read(to)]),
     "push": lambda m, name, source: pushed(m, m.get(source)),
     "pop": lambda m, name, to: m.put(to, popped(m)),
@@ -106,6 +105,14 @@ for _code in CONDITIONS:
     TABLE["j" + _code] = lambda m, name, to, code=_code: m.go_to(to if m.condition(code) else m.next_address)
     TABLE["set" + _code] = lambda m, name, to, code=_code: m.put(to, m.condition(code))
     TABLE["cmov" + _code] = lambda m, name, to, source, code=_code: m.put(to, (m.get(to), m.get(source))[m.condition(code)])
+
+
+@TABLE.of("lea")
+def lea(m, name, to, source):
+    """An address; or twice a number that isn't known, which is the number moved up by a bit."""
+    twice = source.index and source == source._replace(base=source.index, scale=1, offset=0)
+    v = m.general[source.index] if twice else None
+    m.put(to, m.shift("lsl", v, 1, 8) if type(v) is tuple else m.address(source))
 
 
 @TABLE.of("call")
@@ -222,6 +229,12 @@ def xor(m, name, to, a, b):
     m.write(to, [0] * to.size if a == b else m.bytewise("xor", m.read(a), m.read(b)))
 
 
+def ones(m, name, to, a, b):
+    if a != b:
+        raise Unproved("%s of different operands" % name)
+    m.write(to, [255] * to.size)
+
+
 def greater(m, x, y):
     """Ones if x is greater than y, as numbers with signs."""
     if x == 0:
@@ -253,6 +266,7 @@ VECTORS = {
     "paddb": whole(lambda m, a, b: list(map(m.add_byte, a, b))),
     "psubb": whole(lambda m, a, b: [m.add_byte(x, m.domain.xor_byte(y, 255), 1) for x, y in zip(a, b)]),
     "pcmpeqb": whole(lambda m, a, b: [m.equality(m.domain.xor_byte(x, y), 255, 0) for x, y in zip(a, b)]),
+    "pcmpeqd": ones,
     "pcmpgtb": whole(lambda m, a, b: [greater(m, x, y) for x, y in zip(a, b)]),
     # (0 if bit 7 of an index is set, else the entry at its lowest four bits.)
     "pshufb": in_halves(lambda m, table, indices: m.looked_up(tuple(table), indices, shuffled_by)),

@@ -1,0 +1,148 @@
+"""The statements for CMAC (SP 800-38B) and CCM (SP 800-38C) of fotsgure_aes.h, beside the sentence of the header that each proves.
+
+Both make a chain: each block is added to a value, and Cipher of the sum is the next value. When a value is what it should be, it becomes
+arbitrary bytes, as in CBC encryption. Value k comes before block k, and a byte of block k is a byte of block k of the domain."""
+import itertools
+
+from aes import DONE, NO_KEY, NONCE_LENGTH, REFUSED, TAG_LENGTH, TOO_LONG, Keyed, between, lengths_but, nothing
+from bits import DATA, KEY, PUBLIC
+from calls import Buffer, Call
+from linear import WORD, unknown
+from single_rounds import SingleRounds
+from standards import ZEROS, doubled, number, padded
+
+NONCES, CCM_TAGS, CMAC_TAGS = range(7, 14), range(4, 17, 2), range(4, 17)  # lengths
+
+
+class KeyedAes(SingleRounds, Keyed):
+    """All calls of fotsgure_aes.h."""
+
+    def __init__(self, program, key_size):
+        super().__init__(program, key_size)
+        block = lambda name, depends, *of_block: [self.domain.fresh("%s byte %d" % (name, i), depends, *of_block) for i in range(16)]
+        self.sealed, self.tag = block("encrypted", DATA, True), block("tag", DATA)
+        self.nonce, self.last_sum = block("nonce", PUBLIC), block("last sum", KEY | DATA)
+
+    # Chains.
+    def filled(self, begin, count):
+        """The blocks of a string that begins so and goes on with so many bytes, each as it would be in block 0."""
+        return padded(begin + (self.block_bytes * (count // 16 + 2))[len(begin):len(begin) + count])
+
+    def next_value(self, block, k):
+        """Cipher of the sum of a block, which is number k, and the value before it."""
+        value = self.chain()[0] if k else ZEROS
+        return self.of(self.cipher_of(self.aes.xor(block, value)), k)
+
+    def value(self, k):
+        return self.of(self.chain()[0], k) if k else ZEROS
+
+    def chain_steps(self, blocks):
+        for k, block in enumerate(blocks):
+            yield "block", self.next_value(block, k), self.value(k + 1)
+
+    # CMAC.
+    def tagged(self, length):
+        """A message, the steps of the call, and the tag (6.2)."""
+        before = max(length - 1, 0) // 16
+        rest = self.block_bytes[:length - 16 * before]
+        first = doubled(self.domain, self.cipher_of(ZEROS))  # subkeys (6.1)
+        subkey = first if len(rest) == 16 else doubled(self.domain, first)
+        last = self.of((rest + [0x80] + ZEROS)[:16], before)
+
+        def steps():
+            yield from self.chain_steps([self.block_bytes] * before)
+            yield "block", self.aes.xor(last, subkey), self.last_sum
+        return self.many(self.block_bytes, length), steps, self.next_value(self.last_sum, before)
+
+    def cmac(self, length):
+        """CMAC (SP 800-38B, 6.2; RFC 4493): writes the tag of a message .. DONE"""
+        message, steps, tag = self.tagged(length)
+        return Call("aes_cmac", [self.schedule(), Buffer("message", message), length, Buffer("tag", self.undefined(16), tag)], DONE,
+                    steps=steps, plain=message)
+
+    def cmac_verify(self, length, tag_length):
+        """Compares a tag with that of a message, without an early exit (6.3). A tag of fewer than 16 bytes is compared with the first ones
+        of the whole tag .. REFUSED; else DONE"""
+        message, steps, right = self.tagged(length)
+        tag = self.tag[:tag_length]
+        return Call("aes_cmac_verify", [self.schedule(), Buffer("message", message), length, Buffer("tag", tag), tag_length], DONE,
+                    steps=steps, reveals=self.aes.xor(tag, right), refused=REFUSED, plain=message)
+
+    # CCM.
+    def counter_stream(self, nonce, i):
+        """Cipher of counter block i (A.3)."""
+        return self.cipher_of([14 - len(nonce), *nonce, *number(i, 15 - len(nonce))])
+
+    def ccm_crypted(self, nonce, text):
+        """Keystream, which begins with counter block 1, added to a text (6.1, steps 6 to 8); and that keystream."""
+        stream = [b for i in range(1, len(text) // 16 + 2) for b in self.counter_stream(nonce, i)]
+        return self.aes.xor(text, stream), stream
+
+    def formatted(self, nonce, additional_length, text_length, tag_length):
+        """The blocks of additional data and a text (A.2), with how many of them come before the text."""
+        flags = 64 * (additional_length > 0) + 8 * ((tag_length - 2) // 2) + 14 - len(nonce)
+        first = [flags, *nonce, *number(text_length, 15 - len(nonce))]
+        blocks = [first] + (self.filled(number(additional_length, 2), additional_length) if additional_length else [])
+        return blocks + self.filled([], text_length), len(blocks)
+
+    def ccm_message(self, nonce_length, additional_length, text_length, tag_length):
+        """The arguments before the text, the text as it is in the chain, where it begins, the steps of the chain, and the tag."""
+        nonce = self.nonce[:nonce_length]
+        blocks, start = self.formatted(nonce, additional_length, text_length, tag_length)
+        additional, text = self.many(self.block_bytes, additional_length, 18), self.many(self.block_bytes, text_length, 16 * start)
+        tag = self.aes.xor(self.value(len(blocks)), self.counter_stream(nonce, 0))[:tag_length]
+        arguments = [self.schedule(), Buffer("nonce", nonce), nonce_length, Buffer("additional", additional), additional_length]
+        return arguments, text, start, lambda: self.chain_steps(blocks), tag
+
+    def ccm_seal(self, nonce_length, additional_length, text_length, tag_length):
+        """CCM (SP 800-38C, 6.1; RFC 3610): encrypts `text_length` bytes in place under a nonce .. and writes a tag .. DONE"""
+        arguments, text, _, steps, tag = self.ccm_message(nonce_length, additional_length, text_length, tag_length)
+        sealed, stream = self.ccm_crypted(self.nonce[:nonce_length], text)
+        return Call("aes_ccm_seal", [*arguments, Buffer("text", text, sealed), text_length,
+                                     Buffer("tag", self.undefined(tag_length), tag), tag_length], DONE,
+                    steps=steps, keystream=stream, plain=text)
+
+    def ccm_open(self, nonce_length, additional_length, text_length, tag_length):
+        """Decrypts `text_length` bytes in place if the tag is right (6.2). The tag can be compared only once the text is decrypted, so a
+        text that is refused is encrypted again: it is, when the call returns, as it was. .. REFUSED; else DONE"""
+        arguments, text, start, chain, right = self.ccm_message(nonce_length, additional_length, text_length, tag_length)
+        nonce, tag, sealed = self.nonce[:nonce_length], self.tag[:tag_length], self.many(self.sealed, text_length, 16 * start)
+        opened, stream = self.ccm_crypted(nonce, sealed)
+
+        def steps():
+            if text:
+                yield "text", opened, text
+            yield from chain()
+            if text:  # with the keystream once more it is what it was
+                yield "text", self.ccm_crypted(nonce, text)[0], sealed
+        return Call("aes_ccm_open", [*arguments, Buffer("text", sealed, text), text_length, Buffer("tag", tag), tag_length], DONE,
+                    steps=steps, reveals=self.aes.xor(tag, right), refused=REFUSED, keystream=stream, plain=text, undone=True)
+
+    # Calls that are refused, for all their arguments.
+    def refused(self):
+        yield from super().refused()
+        yield from self.cmac_refused()
+        yield from self.ccm_refused()
+
+    def cmac_refused(self):
+        """NO_KEY; TAG_LENGTH if it has fewer or more"""
+        n, k, tag = unknown("n"), unknown("k"), nothing("tag", False)
+        sizes = between(n, 0, WORD) | between(k, 0, WORD)
+        message = [nothing("message", False), n]
+        yield Call("aes_cmac", [self.no_key(), *message, nothing("tag")], NO_KEY, facts=sizes)
+        yield Call("aes_cmac_verify", [self.no_key(), *message, tag, k], NO_KEY, facts=sizes)
+        for length, facts in lengths_but(CMAC_TAGS, "length"):
+            yield Call("aes_cmac_verify", [self.schedule(), *message, tag, length], TAG_LENGTH, facts=sizes | facts)
+
+    def ccm_refused(self):
+        """NO_KEY, TAG_LENGTH, NONCE_LENGTH or TOO_LONG, the first of them that applies"""
+        n, a, t, k = (unknown(name) for name in ("nonce", "additional", "text", "tag"))
+        sizes = {f for x in (n, a, t, k) for f in between(x, 0, WORD)}
+        right = sizes | between(k, 0, len(CCM_TAGS) - 1), CCM_TAGS[0] + 2 * k  # every tag's length
+        refusals = [(self.no_key(), n, k, NO_KEY, sizes)]
+        refusals += [(self.schedule(), n, length, TAG_LENGTH, sizes | facts) for length, facts in lengths_but(CCM_TAGS, "length")]
+        refusals += [(self.schedule(), length, right[1], NONCE_LENGTH, right[0] | facts) for length, facts in lengths_but(NONCES, "length")]
+        refusals += [(self.schedule(), length, right[1], TOO_LONG, right[0] | between(t, 1 << 8 * (15 - length), WORD)) for length in NONCES[1:]]
+        for (aes, nonce, tag, status, facts), call in itertools.product(refusals, ("seal", "open")):
+            yield Call("aes_ccm_" + call, [aes, nothing("nonce", False), nonce, nothing("additional", False), a, nothing("text"), t,
+                                           nothing("tag", call == "seal"), tag], status, facts=facts)
