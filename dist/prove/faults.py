@@ -122,6 +122,7 @@ FAULTS = {
          r"\taddq\t%rax, %r10\n\tcmpq\t%rsi, %r10\n\tjne\t77f\n\tmovb\t$1, (%rsi)\n77:\n", "blocks encrypt 2"),
         ("a function that another file may have instead", SET_KEY, r"[ \t]*# @(\S+)\n", r"\n\t.weak\t\1\n", "set_key"),
         ("other code in the static library", BLOCKS, ENTRY, r"\1\t.ifdef\tchosen\n\tmovb\t$1, (%rsi)\n\t.endif\n", "blocks encrypt 2"),
+        ("other code in a Rust crate", BLOCKS, ENTRY, r"\1\t.ifdef\tin_rust\n\tmovb\t$1, (%rsi)\n\t.endif\n", "blocks encrypt 2"),
         ("another constant in the shared library", TABLE, r"\\001\\002\\004", "\\\\001\\\\002\"\n\t.ifdef\tchosen\n\t.ascii\t\"\\\\004\"\n"
          "\t.else\n\t.ascii\t\"\\\\005\"\n\t.endif\n\t.ascii\t\"", "set_key"),
         ("a function that nothing calls", BLOCKS, END, r"\1unreached:\n\txorl\t%eax, %eax\n\tretq\n\2", "blocks encrypt 2"),

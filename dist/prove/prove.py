@@ -18,7 +18,7 @@ import siv
 import uncovered
 from bits import Domain, Unproved
 from calls import STACK
-from linking import BUILDS, HERE, MACHINES, Built, built_cases, choice_cases, library_of, program_of, suffix_of, text_of
+from linking import BUILDS, HERE, MACHINES, Built, built_cases, choice_cases, library_of, program_of, rust_cases, suffix_of, text_of
 from machine import Program, lanes
 from native import compare_all
 from processors import PROCESSORS
@@ -352,7 +352,7 @@ def main():
     say_what_is_missing()
     all_built = libraries_of(options)
     for what, fault in itertools.chain(header_cases(options.dist), *map(built_cases, all_built), *(
-            choice_cases(built, options.dist, options.out) for built in all_built)):
+            choice_cases(built, options.dist, options.out) for built in all_built), rust_cases(options.dist, options.out, options.objects)):
         print("%s: %s" % (what, fault or "as they have to be"))
         proved, failed = proved + (not fault), failed + bool(fault)
     with pool_of(options.jobs, max_tasks_per_child=1) as pool:
