@@ -322,6 +322,8 @@ def options_of(description):
     parser.add_argument("--jobs", type=int, default=os.cpu_count())
     options = parser.parse_args()
     os.makedirs(options.out, exist_ok=True)
+    if set(options.builds) - set(BUILDS):
+        parser.error("the builds are " + ", ".join(BUILDS))
     options.builds = [build for build in options.builds if not missing(BUILDS[build])]
     return options
 
