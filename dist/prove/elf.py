@@ -71,8 +71,8 @@ class Elf:
         return {r.offset: r.symbol.name for all_ in self.relocations.values() for r in all_ if r.symbol.section == UNDEFINED}
 
 
-# What a relocation stands for: the bits of four bytes that the linker sets, what these say ("address", or the higher bits of it, "page", and the
-# lowest twelve, "low"), and this from the four bytes and their own address.
+# What a relocation stands for: the bits of four bytes that the linker sets, what these say ("address", or the higher bits of it, "page",
+# and the lowest twelve, "low"), and this from the four bytes and their own address.
 def signed(number, bits):
     return number - (number >> bits - 1 << bits)
 
@@ -103,9 +103,9 @@ class Comparison:
         self.fields, self.of_words = FIELDS[machine], OF_WORDS[machine]
         self.placed, self.waiting = {}, []  # {(object, number of a section): its address in the library}
 
-    def of(self, exports):
-        """exports: {name in the library: name in an object}"""
-        have = {s.name: s for s in self.library.all_symbols(DYNAMIC_SYMBOLS) if s.section != UNDEFINED}
+    def of(self, exports, kind=DYNAMIC_SYMBOLS):
+        """exports: {name in the library: name in an object}; by its symbols of this kind."""
+        have = {s.name: s for s in self.library.all_symbols(kind) if s.section != UNDEFINED}
         for name, of_object in exports.items():
             if name not in have:
                 raise Unproved("%s has no %s" % (self.library.path, name))

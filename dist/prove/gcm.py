@@ -363,7 +363,8 @@ class KeyedGcm(Keyed):
             yield Call("gcm_seal", [*arguments, nothing("tag")], status, facts=facts)
             yield Call("gcm_open", [*arguments, tag, 16], status, facts=facts)
         for gcm, (length, facts) in itertools.product((key, none), lengths_but((16,), "tag")):
-            yield Call("gcm_open", [gcm, nothing("nonce", False), n, *text, tag, length], TAG_LENGTH, facts=sizes | between(n, 0, WORD) | facts)
+            arguments = [gcm, nothing("nonce", False), n, *text, tag, length]
+            yield Call("gcm_open", arguments, TAG_LENGTH, facts=sizes | between(n, 0, WORD) | facts)
         for gcm, status, facts in keys(NONCE_LENGTH, no_nonces) + [(none, NO_KEY, nonces)]:
             yield Call("gcm_begin", [gcm, nothing("message"), nothing("nonce", False), n], status, facts=facts)
         last, other = self.stays("counter", [255] * 12), self.stays("counter", [*self.nonce[:11], 254])
@@ -377,8 +378,8 @@ class KeyedGcm(Keyed):
     def any_message(self, phase):
         """A message of which each number but the phase may be any, and so may all bytes that are computed with."""
         numbers = [unknown(name) for name in ("hashed", "text", "decrypted")] + [phase]
-        bytes_ = [b for n in numbers for b in (number(n, 8)[::-1] if isinstance(n, int) else [self.domain.opaque((n, k)) for k in range(8)])]
-        content = bytes_ + [b for block in range(3) for b in self.of(self.hash_value, block)]
+        word = lambda n: number(n, 8)[::-1] if isinstance(n, int) else [self.domain.opaque((n, k)) for k in range(8)]
+        content = [b for n in numbers for b in word(n)] + [b for block in range(3) for b in self.of(self.hash_value, block)]
         return Buffer("message", content, content, secret=True), {f for n in numbers[:3] for f in between(n, 0, WORD)}
 
     def pieces_refused(self):
@@ -392,7 +393,8 @@ class KeyedGcm(Keyed):
         others = [(p, set()) for p in range(6)] + [(phase, between(phase, 6, WORD))]
         for call, phases in comes.items():
             has_tag = call in ("finish", "accept", "accept_short")
-            last = {"finish": [nothing("tag")], "accept": [Buffer("tag", self.of(self.tag, 0)), 16], "accept_short": [12, nothing("tag", False), 12]}
+            last = {"finish": [nothing("tag")], "accept": [Buffer("tag", self.of(self.tag, 0)), 16],
+                    "accept_short": [12, nothing("tag", False), 12]}
             arguments, sizes = last.get(call, [nothing("text"), n]), set() if has_tag else between(n, 0, WORD)
             refusals = [(self.no_key(), p, NO_KEY, facts) for p, facts in others]
             refusals += [(self.schedule(), p, OUT_OF_TURN, facts) for p, facts in others if p not in phases]

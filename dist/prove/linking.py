@@ -1,5 +1,5 @@
-"""What is proved: the objects that the Makefile of dist builds. They are compared with the shared libraries that it builds of the same text,
-and linked so that their calls can be run."""
+"""What is proved: the objects that the Makefile of dist builds. They are compared with the shared libraries that it builds of the same
+text, and linked so that their calls can be run."""
 import functools
 import glob
 import os
@@ -8,7 +8,7 @@ import subprocess
 
 from aarch64 import Aarch64
 from bits import Domain, Unproved
-from elf import DEFAULT, GLOBAL, GROUP, HIDDEN, LOCAL, UNDEFINED, Comparison, Elf
+from elf import DEFAULT, GLOBAL, GROUP, HIDDEN, LOCAL, SYMBOLS, UNDEFINED, Comparison, Elf
 from machine import LIBC, Pointer, Program, Region
 from x86_64 import X86_64
 
@@ -102,6 +102,34 @@ def compared(library, exports, objects):
     Comparison(Elf(library), [Elf(path) for path in objects]).of(exports)
 
 
+def rust_cases(dist, out, objects):
+    """A text that a Rust crate may hold, which assembles it with `in_rust`, has the same then. objects: {build: its member}"""
+    for build, member in objects.items():
+        if "siv" not in build and is_for_rust(source(dist, build)):
+            try:
+                compare_in_rust(build, source(dist, build), member, "%s/%s" % (out, build.replace("/", "_")))
+                fault = ""
+            except Unproved as e:
+                fault = str(e)
+            yield "%s.s in a Rust crate, against the static library" % build, fault
+
+
+def is_for_rust(text):
+    with open(text) as file:
+        return "in_rust" in file.read()
+
+
+def compare_in_rust(build, text, member, out):
+    """There the label of an export is its name, and only the crate sees it."""
+    tools, suffix = BUILDS[build].tools, suffix_of(build)
+    run(tools + "gcc", "-Wa,-defsym,in_rust=1", "-c", text, "-o", out + ".rust.o")
+    run(tools + "ld", "-shared", "-z", "noexecstack", out + ".rust.o", "-o", out + ".rust.so")
+    exports = {name: name.rpartition(".")[2] + suffix for name in Elf(out + ".rust.o").exports}
+    if sorted(exports.values()) != sorted(Elf(member).exports):
+        raise Unproved("%s has other exports in a Rust crate" % text)
+    Comparison(Elf(out + ".rust.so"), [Elf(member)]).of(exports, SYMBOLS)
+
+
 def built_cases(built):
     """Each shared library that was built has what the static one has."""
     for library in filter(built.has, ("aes", "gcm")):
@@ -127,11 +155,14 @@ def assembled(build, text, out):
     """The same of a text, assembled in each way of the Makefile: the names are to differ, and nothing else."""
     tools, suffix = BUILDS[build].tools, suffix_of(build)
     run(tools + "gcc", *["-Wa,-defsym,chosen=1"] * bool(suffix), "-c", text, "-o", out + ".o")
+    refuse_names(out + ".o", suffix)
     if suffix:
         run(tools + "gcc", "-c", text, "-o", out + ".plain.o")
         run(tools + "ld", "-shared", "-z", "noexecstack", "--version-script", os.path.dirname(HERE) + "/exports.map", out + ".plain.o",
             "-o", out + ".so")
         compared(out + ".so", exports_of(out + ".o", suffix), [out + ".o"])
+    if is_for_rust(text):
+        compare_in_rust(build, text, out + ".o", out)
     return program_of(build, out + ".o", out)
 
 
@@ -152,7 +183,8 @@ def refuse_names(path, suffix):
     ours = lambda s: s.binding == GLOBAL and s.visibility == (HIDDEN if suffix else DEFAULT) and s.name.startswith(
         "fotsgure_") and s.name.endswith(suffix)
     known = {*LIBC, "_GLOBAL_OFFSET_TABLE_"}
-    others = sorted(s.name for s in elf.all_symbols() if s.binding != LOCAL and not (s.name in known if s.section == UNDEFINED else ours(s)))
+    is_known = lambda s: s.name in known if s.section == UNDEFINED else ours(s)
+    others = sorted(s.name for s in elf.all_symbols() if s.binding != LOCAL and not is_known(s))
     if others or any(section.kind == GROUP for section in elf.sections):
         raise Unproved("depends on what else is linked: " + ", ".join(others))
     names = [s.name for s in elf.all_symbols() if s.section != UNDEFINED and s.name]
@@ -189,7 +221,8 @@ def choice_cases(built, dist, out):
         declared = parameters("%s/include/fotsgure_%s.h" % (dist, library))
         names = sorted(name for name in exports_of(built.archive(library)["choose_%s.o" % library], "") if name.startswith("fotsgure_"))
         for name in names:
-            wrong += [name + suffix for found, suffix in ((1, "_v1"), (2, "_v2"), (3, "_v3")) if not leads(program, name, declared[name], found, suffix)]
+            wrong += [name + suffix for found, suffix in ((1, "_v1"), (2, "_v2"), (3, "_v3"))
+                      if not leads(program, name, declared[name], found, suffix)]
         yield "choose_%s.o: %d exports, each to the three builds" % (library, len(names)), ", ".join(wrong)
 
 

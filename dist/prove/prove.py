@@ -19,7 +19,7 @@ import siv
 import uncovered
 from bits import Domain, Unproved
 from calls import STACK
-from linking import BUILDS, HERE, MACHINES, Built, built_cases, choice_cases, library_of, program_of, suffix_of, text_of
+from linking import BUILDS, HERE, MACHINES, Built, built_cases, choice_cases, library_of, program_of, rust_cases, suffix_of, text_of
 from machine import Program, lanes
 from native import compare_all
 from processors import PROCESSORS
@@ -33,8 +33,8 @@ SEED = 1
 
 # Which statements, and of which lengths: all; or those that reach each path and its ends, of which keys of 24 and 32 bytes take a few.
 # README has the table. Each of these gives the names of statements, and their arguments. Keys of 24 bytes take only these names by default:
-OF_24 = ("blocks", "add_keystream", "cbc_encrypt", "cbc_decrypt", "any_cbc_encrypt", "wrap", "unwrap", "seal", "open", "wipe", "wipe_message",
-         "set_key_refused", "key_length", "key_length_of_none", "version")
+OF_24 = ("blocks", "add_keystream", "cbc_encrypt", "cbc_decrypt", "any_cbc_encrypt", "wrap", "unwrap", "seal", "open", "wipe",
+         "wipe_message", "set_key_refused", "key_length", "key_length_of_none", "version")
 LONG = [(0, 16 * n) for n in range(1, 65)] + [(n, 0) for n in range(1, 100, 9)]
 
 
@@ -333,6 +333,8 @@ def options_of(description):
     parser.add_argument("--jobs", type=int, default=os.cpu_count())
     options = parser.parse_args()
     os.makedirs(options.out, exist_ok=True)
+    if set(options.builds) - set(BUILDS):
+        parser.error("the builds are " + ", ".join(BUILDS))
     options.builds = [build for build in options.builds if not missing(BUILDS[build])]
     return options
 
@@ -363,7 +365,7 @@ def main():
     say_what_is_missing()
     all_built = libraries_of(options)
     for what, fault in itertools.chain(header_cases(options.dist), *map(built_cases, all_built), *(
-            choice_cases(built, options.dist, options.out) for built in all_built)):
+            choice_cases(built, options.dist, options.out) for built in all_built), rust_cases(options.dist, options.out, options.objects)):
         print("%s: %s" % (what, fault or "as they have to be"))
         proved, failed = proved + (not fault), failed + bool(fault)
     with pool_of(options.jobs, max_tasks_per_child=1) as pool:
