@@ -83,7 +83,7 @@ def aes_cases(choose):
     messages = [(13, 8, 33, 8), (7, 0, 1, 4), (12, 14, 16, 16), (8, 15, 17, 6), (13, 33, 0, 14), (11, 1, 300, 10)]
     every = [(nonce, 20, 40, tag) for nonce in modes.NONCES for tag in modes.CCM_TAGS] + [(12, n, 60 - n, 12) for n in range(61)]
     yield "ccm_seal", choose(messages + every, messages[:1], messages[1:])
-    yield "ccm_open", choose(messages + every, messages[:1], messages[1:])
+    yield "ccm_open", choose(messages + every, messages[:1], messages[1:-1])
     # These need no key.
     yield "a_round", choose(*2 * [[(name, way) for name in ("cipher_round", "equiv_inv_cipher_round") for way in ("", "_par")]], ())
     yield "columns", [("mix_columns",), ("inv_mix_columns",)]
