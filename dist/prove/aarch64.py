@@ -318,7 +318,7 @@ TABLE.update({
     "not": made(lambda m, lane, a: [without(m, 255, x) for x in a]),
     "cmlt": made(lambda m, lane, a, zero: list(map(m.signs, a))),
     "cmtst": made(lambda m, lane, a, b: [some(m, m.domain.and_byte(x, y)) for x, y in zip(a, b)]),
-    "cmeq": made(lambda m, lane, a, b: [m.equality(m.domain.xor_byte(x, y), 255, 0) for x, y in zip(a, b)]),
+    "cmeq": made(lambda m, lane, a, b: [m.equality(m.domain.xor_byte(x, y), 255, 0) for x, y in zip(a, b or [0] * 16)]),
     "shl": made(lambda m, lane, a, n: m.shift_lanes("lsl", a, lane, n)),
     "ushr": made(lambda m, lane, a, n: m.shift_lanes("lsr", a, lane, n)),
     "ushll": made(lambda m, lane, a, n: m.shift_lanes("lsl", interleaved(a, [0] * 16, lane // 2), lane, n)),
