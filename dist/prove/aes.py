@@ -400,13 +400,17 @@ class Keyed:
         return Call("aes_wrap_padded", [self.schedule(), Buffer("input", key[:length]), length, output, n + 1], DONE,
                     steps=steps, plain=key)
 
-    def unwrap_padded(self, length, said=None, paths=None):
+    def unwrap_padded(self, length, said=None, paths=None, any_byte=None):
         """And back: both counts are in semiblocks, and the output has one less. Afterwards *key_length is how many bytes the key has: the
         first ones of the output, which zeros follow. .. REFUSED, and the output then is all zeros. .. In all cases but DONE *key_length
         is 0. Whatever comes before the length, and after so many bytes, is judged by one branch. `said` is another length in its place,
-        with which everything is refused."""
+        with which everything is refused; or one byte of the length, `any_byte`, may have any value, and the same branch judges it."""
         n, padding, r = -(-length // 8), -length % 8, self.block_bytes[8:]
         start = self.of(self.block_bytes[:4], 6 * n) + number(length if said is None else said, 4)
+        reveals = self.aes.xor(start[:4], ICV2)
+        if any_byte is not None:
+            start[4 + any_byte], = self.of(self.block_bytes[4 + any_byte:5 + any_byte], 6 * n)
+            reveals += self.aes.xor(start[4:], number(length, 4))
         if n == 1:
             wrapped, key = self.block_bytes, self.of(r, 1)
             steps = lambda: iter([("memory", self.ciphers["decrypt"], start + key)])
@@ -414,8 +418,8 @@ class Keyed:
             steps, wrapped, _, key = self.unwrap_string(n, start)
         right, none = Buffer("output", self.undefined(8 * n), key), [0] * 8 * n
         nothing = {"output": none, "key_length": [0] * 8}
-        key_length = Buffer("key_length", self.undefined(8), number(length, 8)[::-1])
-        more = dict(status=DONE, reveals=self.aes.xor(start[:4], ICV2) + key[8 * n - padding:], refused=REFUSED, refused_after=nothing)
+        key_length = Buffer("key_length", self.undefined(8), start[:3:-1] + [0] * 4)
+        more = dict(status=DONE, reveals=reveals + key[8 * n - padding:], refused=REFUSED, refused_after=nothing)
         if said is not None:
             more = {"status": REFUSED}
             right.after, key_length.after = none, [0] * 8
@@ -423,10 +427,12 @@ class Keyed:
                     plain=key, paths=paths, **more)
 
     def unwrap_padded_refused(self, n, every):
-        """The same where the number in the place of the length isn't one of n semiblocks: one more, one less, and 2^k and 2^k - 1 for every
-        so many k. Whether the length is wrong or the rest, the same instructions run."""
+        """The same where the number in the place of the length isn't one of n semiblocks: each of its three higher bytes has any value; and
+        it is one more, one less, 2^k or 2^k - 1, for every so many k. Whether the length is wrong or the rest, the same instructions run."""
         paths, powers = {}, [1 << k for k in range(0, 33, every)]
         yield self.unwrap_padded(8 * n - 3, paths=paths)
+        for any_byte in range(3):
+            yield self.unwrap_padded(8 * n - 3, paths=paths, any_byte=any_byte)
         for said in {8 * n - 8, 8 * n + 1, *powers[:-1], *(power - 1 for power in powers)}.difference(range(8 * n - 7, 8 * n + 1)):
             yield self.unwrap_padded(8 * n - 3, said, paths)
 

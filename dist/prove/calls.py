@@ -6,7 +6,7 @@ call returns. A Buffer that says nothing may only be read. So "writes nothing bu
 import functools
 
 import lengths
-from bits import DATA, KEY, LOST, Pause, Unproved
+from bits import DATA, KEY, LOST, ONES, Pause, Unproved
 from linear import refuted
 from machine import LAST, LEAD, ROOM, Pointer, Question, Region, Window
 from native import Native
@@ -133,10 +133,10 @@ def check(m, call):
     """Compares what the call returned and wrote with its statement."""
     right = True
     if call.reveals is not None:
-        question = m.zero_flag(call.reveals)
-        if [q for q in m.answers if q[0] == "zero"] != [question]:
+        asked = [q for q in m.answers if q[0] == "zero"]
+        if len(asked) != 1 or asked_of(m, asked[0]) != asked_of(m, m.zero_flag(call.reveals)):
             raise Unproved("reveals something else than whether the key or the tag is right")
-        right = m.answers[question]
+        right = m.answers[asked[0]]
     status = call.status if right else call.refused
     if status is not None and m.returned(call.size) != status:
         raise Unproved("returns %s and not %s" % (m.returned(call.size), status))
@@ -166,6 +166,20 @@ def check(m, call):
             if not buffer.secret:
                 m.results += [b for b in want if b is not None]
     m.left = left(m, call)
+
+
+def asked_of(m, question):
+    """Of what bytes it is asked whether all are zero; of all those that depend on one and the same byte alone, for which of its values."""
+    d, out = m.domain, {}
+    for b in question[1:]:
+        cells = {place for x in d.bits(b) for place in cells_of_bit(m, x)} if d.symbolic(b) else ()
+        if len(cells) == 1:
+            place, = cells
+            out[place] = functools.reduce(int.__or__, (d.forms[x >> 9][0][1] ^ ONES * (x & 1) if x > 1 else ONES * x for x in d.bits(b)),
+                                          out.get(place, 0))
+        else:
+            out[b] = None
+    return out
 
 
 def nothing_secret(m, call):

@@ -103,9 +103,9 @@ class Comparison:
         self.fields, self.of_words = FIELDS[machine], OF_WORDS[machine]
         self.placed, self.waiting = {}, []  # {(object, number of a section): its address in the library}
 
-    def of(self, exports):
-        """exports: {name in the library: name in an object}"""
-        have = {s.name: s for s in self.library.all_symbols(DYNAMIC_SYMBOLS) if s.section != UNDEFINED}
+    def of(self, exports, kind=DYNAMIC_SYMBOLS):
+        """exports: {name in the library: name in an object}; by its symbols of this kind."""
+        have = {s.name: s for s in self.library.all_symbols(kind) if s.section != UNDEFINED}
         for name, of_object in exports.items():
             if name not in have:
                 raise Unproved("%s has no %s" % (self.library.path, name))

@@ -8,7 +8,7 @@ import subprocess
 
 from aarch64 import Aarch64
 from bits import Domain, Unproved
-from elf import DEFAULT, GLOBAL, GROUP, HIDDEN, LOCAL, UNDEFINED, Comparison, Elf
+from elf import DEFAULT, GLOBAL, GROUP, HIDDEN, LOCAL, SYMBOLS, UNDEFINED, Comparison, Elf
 from machine import LIBC, Pointer, Program, Region
 from x86_64 import X86_64
 
@@ -102,6 +102,34 @@ def compared(library, exports, objects):
     Comparison(Elf(library), [Elf(path) for path in objects]).of(exports)
 
 
+def rust_cases(dist, out, objects):
+    """A text that a Rust crate may hold, which assembles it with `in_rust`, has the same then. objects: {build: its member}"""
+    for build, member in objects.items():
+        if "siv" not in build and is_for_rust(source(dist, build)):
+            try:
+                compare_in_rust(build, source(dist, build), member, "%s/%s" % (out, build.replace("/", "_")))
+                fault = ""
+            except Unproved as e:
+                fault = str(e)
+            yield "%s.s in a Rust crate, against the static library" % build, fault
+
+
+def is_for_rust(text):
+    with open(text) as file:
+        return "in_rust" in file.read()
+
+
+def compare_in_rust(build, text, member, out):
+    """There the label of an export is its name, and only the crate sees it."""
+    tools, suffix = BUILDS[build].tools, suffix_of(build)
+    run(tools + "gcc", "-Wa,-defsym,in_rust=1", "-c", text, "-o", out + ".rust.o")
+    run(tools + "ld", "-shared", "-z", "noexecstack", out + ".rust.o", "-o", out + ".rust.so")
+    exports = {name: name.rpartition(".")[2] + suffix for name in Elf(out + ".rust.o").exports}
+    if sorted(exports.values()) != sorted(Elf(member).exports):
+        raise Unproved("%s has other exports in a Rust crate" % text)
+    Comparison(Elf(out + ".rust.so"), [Elf(member)]).of(exports, SYMBOLS)
+
+
 def built_cases(built):
     """Each shared library that was built has what the static one has."""
     for library in filter(built.has, ("aes", "gcm")):
@@ -127,11 +155,14 @@ def assembled(build, text, out):
     """The same of a text, assembled in each way of the Makefile: the names are to differ, and nothing else."""
     tools, suffix = BUILDS[build].tools, suffix_of(build)
     run(tools + "gcc", *["-Wa,-defsym,chosen=1"] * bool(suffix), "-c", text, "-o", out + ".o")
+    refuse_names(out + ".o", suffix)
     if suffix:
         run(tools + "gcc", "-c", text, "-o", out + ".plain.o")
         run(tools + "ld", "-shared", "-z", "noexecstack", "--version-script", os.path.dirname(HERE) + "/exports.map", out + ".plain.o",
             "-o", out + ".so")
         compared(out + ".so", exports_of(out + ".o", suffix), [out + ".o"])
+    if is_for_rust(text):
+        compare_in_rust(build, text, out + ".o", out)
     return program_of(build, out + ".o", out)
 
 

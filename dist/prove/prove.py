@@ -19,7 +19,7 @@ import siv
 import uncovered
 from bits import Domain, Unproved
 from calls import STACK
-from linking import BUILDS, HERE, MACHINES, Built, built_cases, choice_cases, library_of, program_of, suffix_of, text_of
+from linking import BUILDS, HERE, MACHINES, Built, built_cases, choice_cases, library_of, program_of, rust_cases, suffix_of, text_of
 from machine import Program, lanes
 from native import compare_all
 from processors import PROCESSORS
@@ -59,9 +59,9 @@ def aes_cases(choose):
     yield "add_keystream", [(3, n, aes.NEVER, "_with") for n in choose(counts[1::3], (33,))]
     yield "add_keystream", [(5, 280, wrap) for wrap in choose(range(1, 19), (), (9, 17))]
     # A batch of four blocks: a carry before each of its blocks, and before the one behind it.
-    yield "add_keystream", [(5, 85, wrap) for wrap in choose(range(1, 7), (1,), range(2, 6))]
+    yield "add_keystream", [(16, 64, wrap) for wrap in choose(range(1, 6), (1,), range(2, 6))]
     # Positions, and numbers of blocks, that don't fit into 32 bits; one block, four and more.
-    far = [(2 ** 32 - 20, 40), (2 ** 36 - 20, 40), (2 ** 36 + 5, 11), (2 ** 36 + 5, 85), (2 ** 36 - 64, 280), (2 ** 60 + 5, 300)]
+    far = [(2 ** 32 - 20, 40), (2 ** 36 - 20, 40), (2 ** 36 + 5, 11), (2 ** 36, 64), (2 ** 36 - 64, 280), (2 ** 60 + 5, 300)]
     yield "add_keystream", choose(far, (), far)
     # Of every length, by its remainder.
     yield "any_blocks", [(direction, rest) for direction in ("encrypt", "decrypt") for rest in choose(range(16), (7,), [
@@ -302,7 +302,7 @@ def say_what_ran(tasks, options):
             if any(missed) and options.lines:
                 print("%s, %s: %d of %d instructions didn't run; %d conditional ones went one way" % (
                     text, name, missed[0], len(addresses), missed[1]))
-            if uncovered.is_more(name, *missed):
+            if uncovered.is_more(text, name, *missed):
                 faults.append("%s, %s: %d instructions that don't run, %d conditional ones that go one way" % (text, name, *missed))
         without = set(program.exports) - {"fotsgure_" + call for call in calls}
         faults += ["%s: no case of %s" % (text, ", ".join(sorted(without)))] * bool(without)
@@ -340,6 +340,8 @@ def options_of(description):
     parser.add_argument("--jobs", type=int, default=os.cpu_count())
     options = parser.parse_args()
     os.makedirs(options.out, exist_ok=True)
+    if set(options.builds) - set(BUILDS):
+        parser.error("the builds are " + ", ".join(BUILDS))
     options.builds = [build for build in options.builds if not missing(BUILDS[build])]
     return options
 
@@ -388,7 +390,7 @@ def main():
     say_what_is_missing()
     all_built = libraries_of(options)
     proved, failed = said(itertools.chain(header_cases(options.dist), *map(built_cases, all_built), *(
-        choice_cases(built, options.dist, options.out) for built in all_built)))
+        choice_cases(built, options.dist, options.out) for built in all_built), rust_cases(options.dist, options.out, options.objects)))
     with pool_of(options.jobs, max_tasks_per_child=1) as pool:
         for task in run_all(pool, options):
             print("%s: %d proved, %d failed, %.0f s" % (task.name, task.proved, task.failed, task.seconds), flush=True)
