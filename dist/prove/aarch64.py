@@ -347,6 +347,14 @@ def ushl(m, name, to, a, counts):
     m.write(to, out)
 
 
+@TABLE.of("usra")
+def usra(m, name, to, a, n):
+    """A shift to the right, added."""
+    if to.lane != 1:
+        raise Unproved("instruction not covered: usra of larger lanes than bytes")
+    m.write(to, list(map(m.add_byte, m.read(to), m.shift_lanes("lsr", m.read(a), 1, n))))
+
+
 @TABLE.of("umaxv")
 def umaxv(m, name, to, a):
     """The largest of bytes. Each of them may be 0 if two bytes are equal, else 255: then it is 0 only if all are equal."""
