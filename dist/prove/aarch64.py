@@ -144,7 +144,8 @@ TABLE = Table({
     "movn": lambda m, name, to, value: m.put(to, ~m.get(value) & (1 << 8 * to.size) - 1),
     "adrp": lambda m, name, to, page: m.put(to, page),
     "umulh": lambda m, name, to, a, b: m.put(to, constant("a factor", m.get(a)) * constant("a factor", m.get(b)) >> 64),
-    "lslv": lambda m, name, to, a, n: m.put(to, m.shift("lsl", m.get(a), constant("a count", m.get(n)) % (8 * to.size), to.size)),
+    **dict.fromkeys(("lslv", "lsrv"), lambda m, name, to, a, n: m.put(to, m.shift(name[:3], m.get(a), constant(
+        "a count", m.get(n)) % (8 * to.size), to.size))),
     "extr": lambda m, name, to, a, b, n: m.put(to, m.unbits((m.bits(m.get(b), to.size) + m.bits(m.get(a), to.size))[n:n + 8 * to.size])),
 })
 for _code in CONDITIONS:
@@ -269,7 +270,7 @@ def bitfield(m, name, to, a, r, s):
 
 
 # Memory. What a pair of registers has lies side by side.
-@TABLE.of("ldr", "ldur", "ldp", "ldrb", "ldar", "ldaxr", "ld1")
+@TABLE.of("ldr", "ldur", "ldp", "ldrb", "ldurb", "ldar", "ldaxr", "ld1")
 def load(m, name, *operands):
     *registers, source = operands
     at = m.address(source)
@@ -280,7 +281,7 @@ def load(m, name, *operands):
     m.move(source.base, source.after)
 
 
-@TABLE.of("str", "stur", "stp", "strb", "strh")
+@TABLE.of("str", "stur", "stp", "strb", "sturb", "strh", "sturh", "st1")
 def store(m, name, *operands):
     *registers, to = operands
     at = m.address(to)
@@ -317,10 +318,11 @@ TABLE.update({
     "not": made(lambda m, lane, a: [without(m, 255, x) for x in a]),
     "cmlt": made(lambda m, lane, a, zero: list(map(m.signs, a))),
     "cmtst": made(lambda m, lane, a, b: [some(m, m.domain.and_byte(x, y)) for x, y in zip(a, b)]),
-    "cmeq": made(lambda m, lane, a, b: [m.equality(m.domain.xor_byte(x, y), 255, 0) for x, y in zip(a, b)]),
+    "cmeq": made(lambda m, lane, a, b: [m.equality(m.domain.xor_byte(x, y), 255, 0) for x, y in zip(a, b or [0] * 16)]),
     "shl": made(lambda m, lane, a, n: m.shift_lanes("lsl", a, lane, n)),
     "ushr": made(lambda m, lane, a, n: m.shift_lanes("lsr", a, lane, n)),
     "ushll": made(lambda m, lane, a, n: m.shift_lanes("lsl", interleaved(a, [0] * 16, lane // 2), lane, n)),
+    "ushll2": made(lambda m, lane, a, n: m.shift_lanes("lsl", interleaved(a[8:], [0] * 8, lane // 2), lane, n)),
     "ext": made(lambda m, lane, a, b, n: (a + b)[n:n + len(a)]),
     "xtn": made(lambda m, lane, a: joined(lanes(a, lane)[::2])),
     "uzp1": made(lambda m, lane, a, b: joined(lanes(a + b, lane)[::2])),
@@ -343,6 +345,14 @@ def ushl(m, name, to, a, counts):
         n = constant("the count of a shift", m.from_bytes(count)) & 255
         out += m.shift_lanes(*("lsl", b, to.lane, n) if n < 128 else ("lsr", b, to.lane, 256 - n))
     m.write(to, out)
+
+
+@TABLE.of("usra")
+def usra(m, name, to, a, n):
+    """A shift to the right, added."""
+    if to.lane != 1:
+        raise Unproved("instruction not covered: usra of larger lanes than bytes")
+    m.write(to, list(map(m.add_byte, m.read(to), m.shift_lanes("lsr", m.read(a), 1, n))))
 
 
 @TABLE.of("umaxv")

@@ -18,6 +18,7 @@ STATUSES = "DONE KEY_LENGTH NO_KEY UNEQUAL_COUNTS KEYSTREAM_END INVALID_COUNT RE
 STRUCTS = {"fotsgure_aes": (484, {"key_length": 0, "round_keys": 4}), "fotsgure_aes_ctr": (24, {"iv": 0, "position": 16}),
            "fotsgure_aes_cbc": (16, {"previous": 0})}
 STRUCT = 484
+KEPT_KEY = 244  # bytes with which a struct begins: the key's length, and the round keys for encryption
 
 # The low half of a counter, by its name: `word` and an offset i are that of block i. A call begins at block `first`. From block `wrap` on
 # it has wrapped around; later blocks than `last` don't occur.
@@ -107,6 +108,11 @@ class Keyed:
             if any(self.struct[start + 4 * len(self.w):start + 240]):
                 raise Unproved("the struct holds more than round keys and zeros")
         return m
+
+    def kept_key(self):
+        """Of each bit of the first bytes of the struct: of which bits of round keys it is the sum. So structs of two libraries compare."""
+        d = self.domain
+        return [(tuple(sorted(d.linear_part(x))) if x > 1 else (), x & 1) for b in self.struct[:KEPT_KEY] for x in d.bits(b)]
 
     def expansion(self, after, **more):
         struct = Buffer(self.library, [self.key_domain.undefined] * self.struct_size, after)
@@ -216,15 +222,19 @@ class Keyed:
     def in_each_way(self, name, way, state, data_name, data, results, count, **more):
         """A call that changes data under the key of *aes or, with _with, under a key; or, with _to, that writes to another buffer. `state`
         is what it takes between the key and the data."""
-        if way == "_to":
-            arguments = [self.schedule(), *state, Buffer("input", data), count, Buffer("output", self.undefined(len(data)), results), count]
-        elif way == "_with":
+        if way == "_with":
             arguments = [Buffer("key", self.key), self.key_size, *state,
                          Buffer(data_name, self.not_yet(data_name, len(data)), results), count]
             more["later"] = lambda m: self.go_on(m, {data_name: data})
         else:
-            arguments = [self.schedule(), *state, Buffer(data_name, data, results), count]
+            arguments = [self.schedule(), *state, *self.changed(way, data_name, data, results, count)]
         return Call(name + way, arguments, DONE, **more)
+
+    def changed(self, way, name, data, results, count):
+        """The arguments that are data and what a call makes of them: one buffer and its length; or two of each, with _to."""
+        if way == "_to":
+            return [Buffer("input", data), count, Buffer("output", self.undefined(len(data)), results), count]
+        return [Buffer(name, data, results), count]
 
     # A call that expands a key begins in the key's domain. When it first computes with what isn't in it, what was made of the key becomes
     # the same of any round keys.
@@ -503,6 +513,11 @@ class Keyed:
 def nothing(name, writable=True):
     """A buffer of which no byte is read or written."""
     return Buffer(name, [], [] if writable else None)
+
+
+def unread(way, n, k):
+    """The arguments of a call that are data, of which it reads and writes nothing: n bytes; with _to also k bytes of output."""
+    return [nothing("input", False), n, nothing("output"), k] if way == "_to" else [nothing("text"), n]
 
 
 def between(n, low, high):

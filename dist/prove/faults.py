@@ -36,6 +36,9 @@ BLOCKS, BLOCKS_TO, BLOCKS_WITH, CBC, CBC_BACK, KEYSTREAM_TO = (exported("aes_" +
     "encrypt_blocks", "encrypt_blocks_to", "encrypt_blocks_with", "cbc_encrypt", "cbc_decrypt", "add_keystream_to"))
 ONE_PRODUCT, TWO_PRODUCTS = (function("gcm::multiples::Multiples::" + name) for name in ("block_product", "two_products"))
 COMPARE, GCTR = function("gcm::mode::is_expected"), function("gcm::gctr::add_gctr")
+ROUND, CMAC_TAG, CMAC_COMPARE, CCM_SEAL, CCM_OPEN = (function(path) for path in (
+    "aes_c::single_rounds::round", "cmac::tags::tag", "cmac::tags::is_tag_start", "ccm::mode::encrypt", "ccm::mode::decrypt"))
+CCM_STREAM, MEMSET = call("aes_ctr::add_in_batches::add_keystream"), r"\tcallq\t\*memset.*\n"
 BEGIN, FINISH, ENCRYPT, OPEN = (exported("gcm_" + name) for name in ("begin", "finish", "encrypt", "open"))
 DERIVE, APPLY, OPEN_IN = (function(path) for path in ("gcm_siv::keys::derive", "gcm_siv::message::apply", "gcm_c::siv::open_in"))
 WIPE_STACK, WIPE_WORDS, WIPED = (call("aes_cipher::zeroize::" + name) for name in ("stack::wipe_stack", "zeroize_words", r"[\w.:]+"))
@@ -156,6 +159,13 @@ FAULTS = {
         ("a branch on the first semiblock before the padding", UNWRAP_PADDED, r"(addl\t\$1504093786, .*\n)", r"\1\tjne\t77f\n77:\n",
          "unwrap_padded 9"),
         ("one bit of the padding compared", UNWRAP_PADDED, r"(andq\t%r\w+, %(r\w+)\n)", r"\1\tandq\t$1, %\2\n", "unwrap_padded 1"),
+        ("a single round without its round key", ROUND, r"\tmovdqu\t\(%rsi\), (%xmm\d+)\n", r"\tpxor\t\1, \1\n", "a_round cipher_round"),
+        ("the bytes of a tag moved by one", exported("aes_cmac"), r"(\tmovaps\t\(%rsp\), (%xmm\d+)\n)", r"\1\tpsrldq\t$1, \2\n", "cmac 1"),
+        ("another constant for subkeys", CMAC_TAG, r"andl\t\$135, ", "andl\t$134, ", "cmac 16"),
+        ("the last byte of a tag not compared", CMAC_COMPARE, r"(\tcallq\t\*memcpy.*\n)", r"\tdecq\t%rdx\n\1", "cmac_verify 0 4"),
+        ("a text under the counter block of the tag", CCM_SEAL, r"movl\t\$16, %edx(\n(?:\t.*\n){0,8}" + CCM_STREAM + ")",
+         r"movl\t$0, %edx\1", "ccm_seal 7 0 1 4"),
+        ("a refused text of CCM not encrypted again", CCM_OPEN, r"(ptest[\s\S]*?)" + CCM_STREAM, r"\1", "ccm_open 7 0 1 4"),
     ],
     "x86_64/gcm": [
         ("a forged tag that shared libraries accept", OPEN, "(%s)" % call("gcm::mode::is_expected"), r"\1\t.ifndef\tchosen\n"
@@ -187,12 +197,15 @@ FAULTS = {
         ("a nonce again after 2^72", exported("gcm_seal_next"), r"incl\t%e([abcd])x", r"incb\t%\1l",
          "seal_next 3 1 4722366482869645213695"),
         ("a field of the message moved", BEGIN, r"\t\$1, 24\(", "\t$1, 16(", "begin"),
+        ("a refused output without zeros", exported("gcm_open_to"), MEMSET, "", "open 13 33 _to"),
+        ("fewer bytes of a key copied", exported("gcm_set_key_of"), r"\$240, ", "$224, ", "set_key_of"),
     ],
     "x86_64/siv": [
         ("another half of a derived block", DERIVE, r"movq\t32\((%rbx)\), ", r"movq\t40(\1), ", "seal 0 0"),
         ("a counter of 16 bits", APPLY, r"leal\t1(\(%r\w+,%r\w+\)), %e?(\w+)", lambda found: "leal\t%s, %%%s\n\tincw\t%%%s" % (
             found[1], found[0].rpartition("%")[2], low("r" + found[2].lstrip("r").removesuffix("d"), "w")), "seal 13 33"),
         ("a refused text not encrypted again", OPEN_IN, r"(testl\t%(\w+), %\2\n)\tje\t", r"\1\tjmp\t", "open 1 1"),
+        ("a refused output of AES-GCM-SIV without zeros", exported("gcm_siv_open_to"), MEMSET, "", "open 13 33 _to"),
     ],
     "aarch64/aes": [
         ("a branch on data", LANES, r"(\tldp\tq(\d+), q\d+, .*\n)", r"\1\tfmov\tx22, d\2\n\tcbz\tx22, 77f\n77:\n", "blocks encrypt 2"),

@@ -6,15 +6,15 @@ import functools
 import itertools
 from collections import namedtuple
 
-from aes import BATCH, DONE, NEVER, CounterWord, Keyed, between, lengths_but, nothing, unequal
+from aes import BATCH, DONE, KEPT_KEY, NEVER, STRUCT as AES_STRUCT, CounterWord, Keyed, between, lengths_but, nothing, unequal, unread
 from bits import DATA, KEY, PUBLIC
 from calls import ANY, Buffer, Call
 from linear import WORD, unknown
 from machine import Pointer
 from standards import ZEROS, number, padded, product
 
-STATUSES = ("DONE KEY_LENGTH NO_KEY NONCE_LENGTH TAG_LENGTH TOO_LONG REFUSED NONCES_END OUT_OF_TURN NO_RANDOMNESS").split()
-_, KEY_LENGTH, NO_KEY, NONCE_LENGTH, TAG_LENGTH, TOO_LONG, REFUSED, NONCES_END, OUT_OF_TURN = range(9)
+STATUSES = ("DONE KEY_LENGTH NO_KEY NONCE_LENGTH TAG_LENGTH TOO_LONG REFUSED NONCES_END OUT_OF_TURN NO_RANDOMNESS UNEQUAL_LENGTHS").split()
+_, KEY_LENGTH, NO_KEY, NONCE_LENGTH, TAG_LENGTH, TOO_LONG, REFUSED, NONCES_END, OUT_OF_TURN, _, UNEQUAL_LENGTHS = range(11)
 STRUCTS = {"fotsgure_gcm": (1780, {"key_length": 0, "round_keys": 4, "multiples": 244}), "fotsgure_gcm_counter": (12, {"next": 0}),
            "fotsgure_gcm_message": (80, {"additional": 0, "text": 8, "decrypted": 16, "phase": 24, "first": 32, "value": 48, "rest": 64})}
 STRUCT, MESSAGE = 1780, 80
@@ -101,6 +101,24 @@ class KeyedGcm(Keyed):
         meaning = {d.cell_of(b)[0]: e.bits(c) for x, y in zip(p, self.powers) for b, c in zip(x, y)}
         self.struct += [e.pack([e.linear_image(x, meaning.__getitem__, d) for x in d.bits(b)]) for b in m.regions["gcm"].content[244:]]
         return m
+
+    def key_of_blocks(self):
+        """struct fotsgure_aes as fotsgure_aes_set_key makes it: it begins as struct fotsgure_gcm does. (prove.py compares what both libraries
+        store.) What follows isn't read."""
+        return Buffer("aes", self.struct[:KEPT_KEY] + self.undefined(AES_STRUCT - KEPT_KEY))
+
+    def set_key_of(self):
+        """The same with the key of *aes, a struct of fotsgure_aes.h .. DONE if *aes holds a key"""
+        def steps():
+            yield "hash", self.aes.cipher(ZEROS, self.w), self.powers[0]
+            for n in (0, 1):
+                yield "hash", functools.partial(self.with_powers, [self.powers[n]]), self.powers[n + 1]
+        gcm = Buffer("gcm", self.undefined(STRUCT), self.struct, secret=True)
+        return Call("gcm_set_key_of", [gcm, self.key_of_blocks()], DONE, steps=steps)
+
+    def set_key_of_none(self):
+        """.. else NO_KEY, and *gcm then is all zeros and holds no key."""
+        return Call("gcm_set_key_of", [Buffer("gcm", self.undefined(STRUCT), [0] * STRUCT), Buffer("aes", [0] * AES_STRUCT)], NO_KEY)
 
     def wipe_message(self):
         """Overwrites *message with zeros: there is no message then. It may be uninitialized."""
@@ -197,8 +215,9 @@ class KeyedGcm(Keyed):
         hashing.take(threes(padded(additional)) + threes(padded(sealed) + [self.lengths(additional_length, text_length)]))
         return Buffer("additional", additional), sealed, hashing
 
-    def seal(self, additional_length, text_length, nonce=(), name="gcm_seal", first=None, **more):
-        """Encrypts `text_length` bytes in place and writes the tag (7.1). .. A nonce may have any length from one byte on. DONE"""
+    def seal(self, additional_length, text_length, nonce=(), way="", name="gcm_seal", first=None, **more):
+        """Encrypts `text_length` bytes in place and writes the tag (7.1). .. A nonce may have any length from one byte on. DONE. With _to:
+        The same from one buffer to another of the same length"""
         first = first or self.nonce_of(*nonce)
         additional, sealed, hashing = self.message_of(first, additional_length, text_length)
         text = self.many(self.text, text_length)
@@ -206,21 +225,22 @@ class KeyedGcm(Keyed):
         def steps():
             yield from first.hashing.steps()
             if text:
-                yield "text", self.crypted(first, text), sealed
+                yield "output" if way else "text", self.crypted(first, text), sealed
             yield from hashing.steps()
         tag = self.aes.xor(hashing.value, self.stream(first, 0))
-        return Call(name, [self.schedule(), *first.arguments, additional, additional_length, Buffer("text", text, sealed), text_length,
-                           Buffer("tag", self.undefined(16), tag)], DONE, steps=steps, keystream=self.streams(first, text_length),
+        texts = self.changed(way, "text", text, sealed, text_length)
+        return Call(name + way, [self.schedule(), *first.arguments, additional, additional_length, *texts,
+                                 Buffer("tag", self.undefined(16), tag)], DONE, steps=steps, keystream=self.streams(first, text_length),
                     plain=text, **self.in_text(first, 16 + text_length), **more)
 
     def seal_next(self, additional_length, text_length, counter=None):
         """The same under the counter's next nonce, which it writes to `nonce`; the counter then moves on by one. .. DONE"""
         first, assumes = self.counted(counter)
-        return self.seal(additional_length, text_length, (), "gcm_seal_next", first, assumes=assumes)
+        return self.seal(additional_length, text_length, name="gcm_seal_next", first=first, assumes=assumes)
 
-    def open(self, additional_length, text_length, nonce=()):
+    def open(self, additional_length, text_length, nonce=(), way=""):
         """Decrypts `text_length` bytes in place if the tag is right (7.2). .. a text that is refused is, when the call returns, as it was.
-        .. REFUSED; else DONE."""
+        .. REFUSED; else DONE. With _to: The same from one buffer to another of the same length .. After REFUSED the output is all zeros"""
         first = self.nonce_of(*nonce)
         additional, sealed, hashing = self.message_of(first, additional_length, text_length)
         tag, right = self.of(self.tag, 0), self.aes.xor(hashing.value, self.stream(first, 0))
@@ -228,10 +248,11 @@ class KeyedGcm(Keyed):
         def steps():
             yield from first.hashing.steps()
             yield from hashing.steps()
-        text = Buffer("text", sealed, self.crypted(first, sealed))
-        return Call("gcm_open", [self.schedule(), *first.arguments, additional, additional_length, text, text_length,
-                                 Buffer("tag", tag), 16], DONE, steps=steps, reveals=self.aes.xor(tag, right), refused=REFUSED,
-                    keystream=self.streams(first, text_length), plain=text.after, **self.in_text(first, 16 + text_length))
+        text = self.crypted(first, sealed)
+        texts = self.changed(way, "text", sealed, text, text_length)
+        return Call("gcm_open" + way, [self.schedule(), *first.arguments, additional, additional_length, *texts, Buffer("tag", tag), 16],
+                    DONE, steps=steps, reveals=self.aes.xor(tag, right), refused=REFUSED, refused_after={"output": [0] * text_length},
+                    keystream=self.streams(first, text_length), plain=text, **self.in_text(first, 16 + text_length))
 
     # Messages in pieces.
     def state(self, phase, additional, text, decrypted=0, value=ZEROS, rest=ZEROS, first=None):
@@ -358,13 +379,13 @@ class KeyedGcm(Keyed):
         keys = lambda status, facts: [(aes, status, sizes | also) for aes in (key, none) for also in facts]
         late = [(none, NO_KEY, sizes | short)]
         refusals = keys(NONCE_LENGTH, no_nonces) + [(aes, status, facts | nonces) for aes, status, facts in keys(TOO_LONG, long) + late]
-        for gcm, status, facts in refusals:
-            arguments = [gcm, nothing("nonce", False), n, *text]
-            yield Call("gcm_seal", [*arguments, nothing("tag")], status, facts=facts)
-            yield Call("gcm_open", [*arguments, tag, 16], status, facts=facts)
-        for gcm, (length, facts) in itertools.product((key, none), lengths_but((16,), "tag")):
-            arguments = [gcm, nothing("nonce", False), n, *text, tag, length]
-            yield Call("gcm_open", arguments, TAG_LENGTH, facts=sizes | between(n, 0, WORD) | facts)
+        before = lambda gcm, way: [gcm, nothing("nonce", False), n, nothing("additional", False), a, *unread(way, t, t)]
+        for (gcm, status, facts), way in itertools.product(refusals, ("", "_to")):
+            yield Call("gcm_seal" + way, [*before(gcm, way), nothing("tag")], status, facts=facts)
+            yield Call("gcm_open" + way, [*before(gcm, way), tag, 16], status, facts=facts)
+        for gcm, (length, facts), way in itertools.product((key, none), lengths_but((16,), "tag"), ("", "_to")):
+            yield Call("gcm_open" + way, [*before(gcm, way), tag, length], TAG_LENGTH, facts=sizes | between(n, 0, WORD) | facts)
+        yield from self.unequal_refused()
         for gcm, status, facts in keys(NONCE_LENGTH, no_nonces) + [(none, NO_KEY, nonces)]:
             yield Call("gcm_begin", [gcm, nothing("message"), nothing("nonce", False), n], status, facts=facts)
         last, other = self.stays("counter", [255] * 12), self.stays("counter", [*self.nonce[:11], 254])
@@ -374,6 +395,15 @@ class KeyedGcm(Keyed):
         for counter, gcm, status in (last, key, NONCES_END), (last, none, NONCES_END), (other, none, NO_KEY):
             yield Call("gcm_begin_next", [gcm, nothing("message"), counter, nothing("nonce")], status)
         yield from self.pieces_refused()
+
+    def unequal_refused(self):
+        """UNEQUAL_LENGTHS comes before all others."""
+        a, t, k, n, tag = (unknown(name) for name in ("additional", "text", "output", "nonce", "tag"))
+        sizes = {f for x in (a, t, k, n, tag) for f in between(x, 0, WORD)}
+        for gcm, facts in itertools.product((self.schedule(), self.no_key()), unequal(t, k)):
+            arguments = [gcm, nothing("nonce", False), n, nothing("additional", False), a, *unread("_to", t, k)]
+            yield Call("gcm_seal_to", [*arguments, nothing("tag")], UNEQUAL_LENGTHS, facts=sizes | facts)
+            yield Call("gcm_open_to", [*arguments, nothing("tag", False), tag], UNEQUAL_LENGTHS, facts=sizes | facts)
 
     def any_message(self, phase):
         """A message of which each number but the phase may be any, and so may all bytes that are computed with."""

@@ -83,7 +83,7 @@ def aes_cases(choose):
     messages = [(13, 8, 33, 8), (7, 0, 1, 4), (12, 14, 16, 16), (8, 15, 17, 6), (13, 33, 0, 14), (11, 1, 300, 10)]
     every = [(nonce, 20, 40, tag) for nonce in modes.NONCES for tag in modes.CCM_TAGS] + [(12, n, 60 - n, 12) for n in range(61)]
     yield "ccm_seal", choose(messages + every, messages[:1], messages[1:])
-    yield "ccm_open", choose(messages + every, messages[:1], messages[1:])
+    yield "ccm_open", choose(messages + every, messages[:1], messages[1:-1])
     # These need no key.
     yield "a_round", choose(*2 * [[(name, way) for name in ("cipher_round", "equiv_inv_cipher_round") for way in ("", "_par")]], ())
     yield "columns", [("mix_columns",), ("inv_mix_columns",)]
@@ -94,6 +94,10 @@ def gcm_cases(choose):
     yield "wipe_message", [()]
     yield "seal", choose([(13, 33), (40, 20), *more, *LONG], [(13, 33)], more)
     yield "open", choose([(0, 0), (13, 33), (40, 129)], [(13, 33)], [(0, 0)])
+    yield "seal", choose([(0, 0, (), "_to"), (13, 33, (), "_to"), (1, 129, (), "_to")], [(13, 33, (), "_to")], [(0, 0, (), "_to")])
+    yield "open", choose([(0, 0, (), "_to"), (13, 33, (), "_to"), (1, 129, (), "_to")], [(13, 33, (), "_to")], [(0, 0, (), "_to")])
+    yield "set_key_of", [()]
+    yield "set_key_of_none", [()]
     carried = 7, 0, 255, 255
     nonces = gcm.UNKNOWN, (1, 2 ** 32 - 1, carried), (60, 2 ** 32 - 2, carried)
     yield "begin", [(), *[(nonce,) for nonce in nonces]]
@@ -134,6 +138,8 @@ def siv_cases(choose):
     lengths = [(13, 33), (0, 0), (1, 1), (13, 81), (20, 145), (13, 225), (0, 450)]
     yield "seal", choose(lengths + LONG, lengths[:1], lengths[1:])
     yield "open", choose([*lengths[1:], (149, 13)], [(1, 1)], [(149, 13)])
+    for call in "seal", "open":
+        yield call, choose([(a, n, "_to") for a, n in lengths], [(13, 33, "_to")], [(0, 0, "_to"), (13, 225, "_to")])
 
 
 LIBRARIES = {"aes": (modes.KeyedAes, aes_cases), "gcm": (gcm.KeyedGcm, gcm_cases), "siv": (siv.KeyedSiv, siv_cases)}
@@ -192,6 +198,7 @@ class Task:
         self.path = "%s/%s_%d_%d" % (options.out, build.replace("/", "_"), key_size, part)
         self.proved, self.failed, self.vectors = -bool(part), 0, 0  # (set_key counts once)
         self.used, self.compared, self.ran, self.went, self.calls = {}, set(), set(), set(), set()
+        self.kept_key = None
 
     def run(self):
         start = time.process_time()
@@ -211,7 +218,7 @@ class Task:
                 self.vectors = checked(keyed)
             for what, call in statements(keyed, self.options, self.part, self.parts):
                 self.case(what, lambda seed: keyed.proved(call, seed))
-            self.calls = keyed.calls
+            self.calls, self.kept_key = keyed.calls, keyed.kept_key()
         self.ran, self.went = set(program.cache), program.went  # (what was decoded ran)
 
     def case(self, what, prove):
@@ -358,23 +365,40 @@ def libraries_of(options):
     return all_built
 
 
+def kept_cases(tasks):
+    """fotsgure_gcm_set_key_of is proved of a struct that begins as fotsgure_gcm does: fotsgure_aes_set_key makes such structs."""
+    kept = {(task.build, task.key_size): task.kept_key for task in tasks if task.kept_key}
+    for (build, size), key in kept.items():
+        other = build.replace("/aes", "/gcm")
+        if other != build and (other, size) in kept:
+            yield "%s.s and %s.s keep keys of %d bytes alike" % (build, other, size), "" if key == kept[other, size] else "NOT PROVED"
+
+
+def said(cases):
+    """Prints what was looked at, and what is wrong; (how many are right, how many are wrong)."""
+    cases = list(cases)
+    for what, fault in cases:
+        print("%s: %s" % (what, fault or "as they have to be"))
+    wrong = sum(bool(fault) for _, fault in cases)
+    return len(cases) - wrong, wrong
+
+
 def main():
     options = options_of(__doc__)
-    start, proved, failed, tasks = time.time(), 0, 0, []
+    start, tasks = time.time(), []
     vectors = pinned(Domain())
     say_what_is_missing()
     all_built = libraries_of(options)
-    for what, fault in itertools.chain(header_cases(options.dist), *map(built_cases, all_built), *(
-            choice_cases(built, options.dist, options.out) for built in all_built), rust_cases(options.dist, options.out, options.objects)):
-        print("%s: %s" % (what, fault or "as they have to be"))
-        proved, failed = proved + (not fault), failed + bool(fault)
+    proved, failed = said(itertools.chain(header_cases(options.dist), *map(built_cases, all_built), *(
+        choice_cases(built, options.dist, options.out) for built in all_built), rust_cases(options.dist, options.out, options.objects)))
     with pool_of(options.jobs, max_tasks_per_child=1) as pool:
         for task in run_all(pool, options):
             print("%s: %d proved, %d failed, %.0f s" % (task.name, task.proved, task.failed, task.seconds), flush=True)
             proved, failed, vectors = proved + task.proved, failed + task.failed, vectors + task.vectors
             tasks.append(task)
         forms, lacking, differed = compare_forms(pool, tasks)
-    failed += differed + say_what_ran(tasks, options)
+    alike, unlike = said(kept_cases(tasks))
+    proved, failed = proved + alike, failed + unlike + differed + say_what_ran(tasks, options)
     print("%d forms of instructions; the processor agreed on all but: %s" % (
         forms, ", ".join("%s of %s" % (form, machine.__name__) for machine, form in lacking) or "none"))
     # Where there is a processor, a form that wasn't compared with it counts as one that failed.

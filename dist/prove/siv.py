@@ -4,10 +4,10 @@ When a call has derived the keys of a message, they become arbitrary bytes, and 
 other, each value of POLYVAL, the block of which the tag is the cipher, and the tag."""
 import functools
 
-from aes import between, nothing
+from aes import between, nothing, unequal, unread
 from bits import DATA, KEY
 from calls import Buffer, Call, compare
-from gcm import DONE, NO_KEY, REFUSED, TOO_LONG, Hashing, KeyedGcm, threes
+from gcm import DONE, NO_KEY, REFUSED, TOO_LONG, UNEQUAL_LENGTHS, Hashing, KeyedGcm, threes
 from linear import WORD, unknown
 from machine import Number
 from standards import ZEROS, dot, mulx_ghash, padded, product
@@ -99,8 +99,9 @@ class KeyedSiv(KeyedGcm):
         """AES_CTR (4): block i has the number that the tag begins with, the lowest byte first, plus i, modulo 2^32."""
         return self.aes.xor(text, [b for i in range(len(text) // 16 + 1) for b in self.of(self.own_stream, i)])
 
-    def seal(self, additional_length, text_length):
-        """Encrypts `text_length` bytes in place under a nonce that the caller brings, and writes the tag .. (RFC 8452, 4). .. DONE"""
+    def seal(self, additional_length, text_length, way=""):
+        """Encrypts `text_length` bytes in place under a nonce that the caller brings, and writes the tag .. (RFC 8452, 4). .. DONE. With
+        _to: The same from one buffer to another of the same length"""
         additional, text = self.many(self.additional_bytes, additional_length), self.many(self.text, text_length)
         few, hashing = self.polyval(additional, text)
         block, any_block, tag = self.tagged(hashing)
@@ -112,39 +113,45 @@ class KeyedSiv(KeyedGcm):
             yield "memory", tag, self.own_tag
             yield self.first_counter()
         arguments = [self.schedule(), Buffer("nonce", self.nonce), Buffer("additional", additional), additional_length,
-                     Buffer("text", text, self.crypted_by_tag(text)), text_length]
+                     *self.changed(way, "text", text, self.crypted_by_tag(text), text_length)]
         arguments.append(Buffer("tag", self.undefined(16), self.own_tag))
-        return Call("gcm_siv_seal", arguments, DONE, steps=steps, plain=text)
+        return Call("gcm_siv_seal" + way, arguments, DONE, steps=steps, plain=text)
 
-    def open(self, additional_length, text_length):
+    def open(self, additional_length, text_length, way=""):
         """Decrypts `text_length` bytes in place if the tag is right (RFC 8452, 5). The tag can be compared only once the text is decrypted,
-        so a text that is refused is encrypted again: it is proved that it is, when the call returns, as it was. .. REFUSED; else DONE."""
+        so a text that is refused is encrypted again: it is proved that it is, when the call returns, as it was. .. REFUSED; else DONE. With
+        _to: The same from one buffer to another of the same length .. After REFUSED the output is all zeros"""
         additional, sealed = self.many(self.additional_bytes, additional_length), self.many(self.sealed, text_length)
         text = self.many(self.text, text_length)
         few, hashing = self.polyval(additional, text)
         block, any_block, right = self.tagged(hashing)
+        place = "output" if way else "text"
 
         def steps():
             yield from self.derivation(few)
             yield self.first_counter()
             if text:
-                yield "text", self.crypted_by_tag(sealed), text
+                yield place, self.crypted_by_tag(sealed), text
             yield from hashing.steps()
             yield "memory", block, any_block
             yield self.first_counter()
             if text:  # it became the sum of `sealed` and keystream; with the keystream once more it is `sealed`
-                yield "text", self.crypted_by_tag(text), sealed
+                yield place, self.crypted_by_tag(text), sealed
         arguments = [self.schedule(), Buffer("nonce", self.nonce), Buffer("additional", additional), additional_length,
-                     Buffer("text", sealed, text), text_length, Buffer("tag", self.own_tag)]
+                     *self.changed(way, "text", sealed, text, text_length), Buffer("tag", self.own_tag)]
         reveals = self.aes.xor(self.own_tag, right)
-        return Call("gcm_siv_open", arguments, DONE, steps=steps, reveals=reveals, refused=REFUSED, plain=text, undone=True)
+        return Call("gcm_siv_open" + way, arguments, DONE, steps=steps, reveals=reveals, refused=REFUSED,
+                    refused_after={"output": [0] * text_length}, plain=text, undone=True)
 
     def refused(self):
-        """TOO_LONG or NO_KEY: .. A call that doesn't return DONE has changed nothing"""
-        a, t, none, key = unknown("additional"), unknown("text"), self.no_key(), self.schedule()
+        """TOO_LONG or NO_KEY: .. A call that doesn't return DONE has changed nothing. With _to: UNEQUAL_LENGTHS, TOO_LONG or NO_KEY"""
+        a, t, k, none, key = unknown("additional"), unknown("text"), unknown("output"), self.no_key(), self.schedule()
         fits = between(a, 0, MOST) | between(t, 0, MOST)
         long = [between(a, MOST + 1, WORD) | between(t, 0, WORD), between(a, 0, MOST) | between(t, MOST + 1, WORD)]
-        for siv, status, facts in (none, NO_KEY, fits), *((siv, TOO_LONG, facts) for siv in (key, none) for facts in long):
-            arguments = [siv, nothing("nonce", False), nothing("additional", False), a, nothing("text"), t]
-            yield Call("gcm_siv_seal", [*arguments, nothing("tag")], status, facts=facts)
-            yield Call("gcm_siv_open", [*arguments, nothing("tag", False)], status, facts=facts)
+        late = [(none, NO_KEY, fits, t), *((siv, TOO_LONG, facts, t) for siv in (key, none) for facts in long)]
+        sizes = {f for x in (a, t, k) for f in between(x, 0, WORD)}
+        first = [(siv, UNEQUAL_LENGTHS, sizes | facts, k) for siv in (key, none) for facts in unequal(t, k)]
+        for way, (siv, status, facts, output) in [("", one) for one in late] + [("_to", one) for one in first + late]:
+            arguments = [siv, nothing("nonce", False), nothing("additional", False), a, *unread(way, t, output)]
+            yield Call("gcm_siv_seal" + way, [*arguments, nothing("tag")], status, facts=facts)
+            yield Call("gcm_siv_open" + way, [*arguments, nothing("tag", False)], status, facts=facts)

@@ -23,6 +23,23 @@ A_CBC = {16: "7649abac8119b246cee98e9b12e9197d5086cb9b507219ee95db113a917678b2"
              "571b242012fb7ae07fa9baac3df102e008b0e27988598881d920a9e64f5615cd",
          32: "f58c4c04d6e5f1ba779eabfb5f7bfbd69cfc4e967edb808d679f777bc6702c7d"
              "39f23369a9d9bacfa530e26304231461b2eb05e2c39be9fcda6c19078c6a9d1b"}
+# SP 800-38B, D.1 to D.3: the same keys, and the tags of so many bytes of the same text.
+CMAC_LENGTHS = 0, 16, 40, 64
+CMAC = {16: ("bb1d6929e95937287fa37d129b756746", "070a16b46b4d4144f79bdd9dd04a287c",
+             "dfa66747de9ae63030ca32611497c827", "51f0bebf7e3b9d92fc49741779363cfe"),
+        24: ("d17ddf46adaacde531cac483de7a9367", "9e99a7bf31e710900662f65e617c5184",
+             "8a1de5be2eb31aad089a82e6ee908b0e", "a1d5df0eed790f794d77589659f39a11"),
+        32: ("028962f61b7bf89efc6b551f4667d983", "28a7023f452e8f82bd4bf28d8c37c35c",
+             "aaf3d8f1de5640c232f5b169b9c911e6", "e1992190549f6ed5696a2c056c315410")}
+# SP 800-38C, C.1 to C.3: the key is 40 41 .. 4f, the nonce counts from 10 on, the additional data from 00 on, the text from 20 on. Of so
+# many bytes each: what is encrypted, and the tag.
+CCM = [(7, 8, 4, "7162015b", "4dac255d"), (8, 16, 16, "d2a1f0e051ea5f62081a7792073d593d", "1fc64fbfaccd"),
+       (12, 20, 24, "e3b201a9f5b71a7a9b1ceaeccd97e70b6176aad9a4428aa5", "484392fbc1b09951")]
+# FIPS 197 of 2001, C.1: round 1 of Cipher and of EqInvCipher: the state, the round key, the next state; MixColumns of round 1.
+ROUNDS = {"cipher_round": ("00102030405060708090a0b0c0d0e0f0", "d6aa74fdd2af72fadaa678f1d6ab76fe", "89d810e8855ace682d1843d8cb128fe4"),
+          "equiv_inv_cipher_round": ("7ad5fda789ef4e272bca100b3d9ff59f", "13aa29be9c8faff6f770f58000f7bf03",
+                                     "54d990a16ba09ab596bbf40ea111702f")}
+COLUMNS, MIXED = "6353e08c0960e104cd70b751bacad0e7", "5f72641557f5bc92f7be3b291db9f91a"
 # RFC 3394, 4.1, 4.2 and 4.3: keys 00 01 .. and 16 bytes; RFC 5649, 6, and CAVP's KWP: (key, data, wrapped).
 KW_DATA = "00112233445566778899aabbccddeeff"
 KW = {16: "1fa68b0a8112b447aef34bd8fb5a7b829d3e862371d2cfe5", 24: "96778b25ae6ca435f92b5b97c050aed2468ab8a17ad84e5d",
@@ -97,6 +114,31 @@ def aes_vectors(k):
             yield k.wrap_padded(n), key, {"input": data}, {"output": wrapped}
             found = {"output": padded, "key_length": n.to_bytes(8, "little").hex()}
             yield k.unwrap_padded(n), key, {"input": wrapped}, found
+    yield from mode_vectors(k)
+    yield from round_vectors(k)
+
+
+def mode_vectors(k):
+    for n, tag in zip(CMAC_LENGTHS, CMAC[k.key_size]):
+        yield k.cmac(n), A_KEYS[k.key_size], {"message": A_PLAIN[:2 * n]}, {"tag": tag}
+    for nonce, more, n, cipher, tag in CCM if k.key_size == 16 else ():
+        key, lengths, text = counted(0x40, 16), (nonce, more, n, len(tag) // 2), counted(0x20, n)
+        given = {"nonce": counted(0x10, nonce), "additional": counted(0, more)}
+        yield k.ccm_seal(*lengths), key, dict(given, text=text), {"text": cipher, "tag": tag}
+        yield k.ccm_open(*lengths), key, dict(given, text=cipher, tag=tag), {"text": text}
+
+
+def round_vectors(k):
+    for way, count in ("", 1), ("_par", 8):
+        for name, (block, round_key, after) in ROUNDS.items():
+            yield k.a_round(name, way), A_KEYS[k.key_size], {"blocks": block * count, "round keys": round_key * count}, {"blocks": after * count}
+    yield k.columns("mix_columns"), A_KEYS[k.key_size], {"blocks": COLUMNS}, {"blocks": MIXED}
+    yield k.columns("inv_mix_columns"), A_KEYS[k.key_size], {"blocks": MIXED}, {"blocks": COLUMNS}
+
+
+def counted(first, count):
+    """Bytes that count up from one on."""
+    return bytes(range(first, first + count)).hex()
 
 
 def gcm_vectors(k):
