@@ -10,7 +10,7 @@
  * then send. A crash in between loses a nonce, which does no harm.
  *
  *  - Two processes, and two threads: the second waits for the lock, and reads what the first has stored.
- *  - A forked child: the same. Each call opens the folder anew and reads the file, and no counter stays in memory,
+ *  - A forked child: the same. Each call opens the folder and reads the file again, and no counter stays in memory,
  *    where a fork would copy it.
  *  - A new key: `new-key` moves the file, so that the counter stays with its key, and replaces no other file. Old messages
  *    are opened with the old file, by a call that can't seal. Moved without the lock, the file may come back by a call
@@ -18,7 +18,7 @@
  *  - A copy of the file that comes back, from a backup or a snapshot: its counter is an old one, the nonces come
  *    again, and nothing here can see it. TAKE A NEW KEY before the next message, and never go back to that one. So too
  *    if the file is damaged, which is refused here.
- *  - A file system without flock(2) for folders, as over a network, won't do. */
+ *  - The folder needs a local file system, which has flock(2) for folders. */
 #define _GNU_SOURCE
 #include <fotsgure_gcm.h>
 
@@ -38,7 +38,7 @@ struct kept {
     struct fotsgure_gcm_counter counter;
 };
 
-/* A message with what goes along in the clear: all of it is sent. */
+/* A message with what is sent unencrypted beside it: all of this is sent. */
 struct sealed {
     uint8_t name[16], nonce[FOTSGURE_GCM_NONCE], text[32], tag[FOTSGURE_GCM_TAG];
 };
@@ -61,7 +61,7 @@ static int load(int folder, const char *name, struct kept *kept)
     if (length < 0)
         fails(name, NULL);
     else if (!loaded)
-        fails(name, "it hasn't the 44 bytes of a key and its counter. Call new-key: the next message draws another key");
+        fails(name, "it doesn't have the 44 bytes of a key and its counter. Call new-key: the next message draws another key");
     if (file >= 0)
         close(file);
     return loaded;
@@ -108,7 +108,7 @@ static int locked(const char *path)
     if (folder < 0 || fstat(folder, &about) != 0 || flock(folder, LOCK_EX) != 0)
         fails(path, NULL);
     else if (about.st_uid != geteuid() || (about.st_mode & (S_IWGRP | S_IWOTH)) != 0)
-        fails(path, "others may write this folder. Take one of your own, with chmod 700");
+        fails(path, "others may write this folder. Use one of your own, with chmod 700");
     else
         is_ours = 1;
     if (folder >= 0 && !is_ours)
@@ -169,7 +169,7 @@ static int old_key(const char *path, const char *name)
     char other[16] = "";
     struct kept kept;
     if (strncmp(name, "key.", strlen("key.")) != 0 || strchr(name, '/'))
-        return fails(name, "take a name that new-key has printed, without the folder");
+        return fails(name, "use a name that new-key has printed, without the folder");
     int folder = locked(path);
     if (folder < 0)
         return 0;

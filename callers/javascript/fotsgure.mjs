@@ -3,7 +3,7 @@
 
 const DONE = 0, KEY_LENGTH = 1, REFUSED = 6;
 const WHY = {
-  1: "no key has so many bytes",
+  1: "a key has 16, 24 or 32 bytes, of AES-GCM-SIV 16 or 32",
   3: "the nonce is empty",
   5: "the message is too long",
   6: "the message was changed, or sealed under another key or nonce",
@@ -83,7 +83,7 @@ export function load({ aes, gcm }) {
 }
 
 function checked(it, what, length) {
-  if (!(it instanceof Uint8Array)) throw new TypeError(`${what} is no Uint8Array`);
+  if (!(it instanceof Uint8Array)) throw new TypeError(`${what} isn't a Uint8Array`);
   if (length !== undefined && it.length !== length) throw new RangeError(`${what} doesn't have ${length} bytes`);
   return it;
 }
@@ -92,7 +92,7 @@ function checked(it, what, length) {
 class Key {
   constructor(kind, prefix, key) {
     const library = libraries[kind];
-    if (!library) throw new Error(`load takes the module for ${new.target.name} first`);
+    if (!library) throw new Error(`call load with the module for ${new.target.name} first`);
     if (checked(key, "the key").length > LONGEST_KEY) throw new FotsgureError(KEY_LENGTH);
     const at = library.keep(), room = library.room(LONGEST_KEY);
     library.bytes.set(key, room);

@@ -45,7 +45,7 @@ def refused(call, error=ValueError):
     return False
 
 
-expect(VERSION == 300, "version")
+expect(VERSION == 400, "version")
 for size, digits in C_ROWS:
     aes = Aes(bytes(range(size)))
     expect(aes.encrypt(C_PLAIN).hex() == digits, f"appendix C, {size} bytes, encrypted")

@@ -89,7 +89,7 @@ expect(raises(ValueError, Gcm(KEY, b"\xff" * 12).seal_next, PLAIN), "no nonce is
 expect(raises(ValueError, Gcm(KEY).seal_next, PLAIN), "no counter")
 expect(raises(ValueError, Gcm, KEY, bytes(13)), "a counter of another length")
 expect(raises(ValueError, Gcm, KEY[1:]), "a key of another length")
-expect(VERSION == 300, "the version")
+expect(VERSION == 400, "the version")
 
 # AES-GCM-SIV: messages of RFC 8452, appendices C.1 and C.2, under the key 1, 0 .. and the nonce 3, 0 ..
 SIV_NONCE = b"\3" + bytes(11)

@@ -30,7 +30,7 @@ def locked(path: pathlib.Path) -> Iterator[int]:
     try:
         about = os.fstat(folder)
         if about.st_uid != os.geteuid() or about.st_mode & 0o022:
-            raise PermissionError(f"{path}: others may write this folder. Take one of your own, with chmod 700")
+            raise PermissionError(f"{path}: others may write this folder. Use one of your own, with chmod 700")
         fcntl.flock(folder, fcntl.LOCK_EX)
         yield folder
     finally:
@@ -43,7 +43,7 @@ def load(file: pathlib.Path) -> Tuple[bytes, bytes]:
     """
     kept = file.read_bytes()
     if len(kept) != 32 + 12:
-        raise ValueError(f"{file}: it hasn't the 44 bytes of a key and its counter. Call new-key: the next message draws "
+        raise ValueError(f"{file}: it doesn't have the 44 bytes of a key and its counter. Call new-key: the next message draws "
                          "another key")
     return kept[:32], kept[32:]
 
@@ -99,7 +99,7 @@ def new_key(path: pathlib.Path) -> None:
 def old_key(path: pathlib.Path, name: str) -> None:
     """A crash amid this leaves no key: the next message draws one."""
     if not name.startswith("key.") or "/" in name:
-        raise ValueError(f"{name}: take a name that new-key has printed, without the folder")
+        raise ValueError(f"{name}: use a name that new-key has printed, without the folder")
     with locked(path) as folder:
         load(path / name)
         other = move_away(path, folder) if os.path.lexists(path / "key") else None

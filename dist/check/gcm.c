@@ -135,7 +135,7 @@ static void published(void)
         uint8_t key[32], nonce[16], additional[32], plain[80], cipher[80], text[80], wanted[16], tag[16];
         size_t key_length = from_hex(key, cases[i].key), extra = from_hex(additional, cases[i].additional);
         size_t length = from_hex(plain, cases[i].plain), bytes = from_hex(nonce, cases[i].nonce);
-        struct fotsgure_gcm gcm = {0, {0}};
+        struct fotsgure_gcm gcm = {0, {0}, {0}};
         from_hex(cipher, cases[i].cipher);
         from_hex(wanted, cases[i].tag);
         memcpy(text, plain, sizeof text);

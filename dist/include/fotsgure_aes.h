@@ -11,14 +11,14 @@
  *    What a call reads has been initialized.
  *  - No object of more than PTRDIFF_MAX bytes. Counts are in blocks where a parameter is called `blocks`, and where the
  *    name of the call says so.
- *  - No overlap: what a call writes overlaps nothing else that it is given, not even in full. To work in place, take
+ *  - No overlap: what a call writes overlaps nothing else that it is given, not even in full. To work in place, use
  *    the calls with one buffer. What a call only reads may overlap.
  *  - A struct fotsgure_aes that fotsgure_aes_set_key or fotsgure_aes_wipe wrote last, or a copy of such a struct, or one
  *    whose bytes are all 0.
  *  - No data race: during the call no other thread writes what it reads, or reads or writes what it writes.
  *  - FOTSGURE_AES_STACK bytes of stack, and a processor with little-endian words: any on x86-64, 64-bit ARM and RISC-V; on
  *    32-bit ARM an ARMv7 or later, or a Cortex-M. On microcontrollers docs/MICROCONTROLLERS.md says how much stack a call
- *    takes.
+ *    needs.
  *
  * NULL is allowed for every pointer to bytes or blocks that has a count or a length beside it, if that is 0.
  *
@@ -29,16 +29,16 @@
  * What a call returns depends on lengths and positions alone, never on the bytes of a key or of data; only REFUSED says
  * that a wrapped key, a tag or a message was not right.
  *
- * Of this it is proved what calls return and write, that they return, and that the calls that are given a key wipe the
- * schedule that they keep. Read in the code and measured is that they keep no other copy of it, that no call
- * allocates, that the stack suffices, and what calls read of an unwritten struct.
+ * Proved: what calls return and write, that they return, and that the calls that are given a key wipe the schedule that
+ * they keep. Reviewed by hand and measured: that they keep no other copy of it, that no call allocates, that the stack
+ * suffices, and what calls read of an unwritten struct.
  *
  * Copies and threads: a struct fotsgure_aes may be copied and moved as bytes, and every copy is as secret as the key
  * and is wiped by itself. Any number of threads may use one struct at the same time by the calls that take it as const.
  * A struct fotsgure_aes_ctr belongs to one thread at a time; a copy of it would give out the same keystream again.
  *
  * A block cipher alone protects no message, and counter mode doesn't show whether a message was changed. For
- * messages take fotsgure_gcm.h, or CCM where a protocol asks for it. */
+ * messages use fotsgure_gcm.h, or CCM if a protocol asks for it. */
 #ifndef FOTSGURE_AES_H
 #define FOTSGURE_AES_H
 
@@ -51,8 +51,8 @@
 #endif
 
 /* The version of this header; fotsgure_aes_version() returns that of the library. */
-#define FOTSGURE_AES_VERSION_TEXT "0.3.0"
-#define FOTSGURE_AES_VERSION 300 /* 10000 * 0 + 100 * 3 + 0 */
+#define FOTSGURE_AES_VERSION_TEXT "0.4.0"
+#define FOTSGURE_AES_VERSION 400 /* 10000 * 0 + 100 * 4 + 0 */
 
 #define FOTSGURE_AES_BLOCK 16         /* bytes of a block */
 #define FOTSGURE_AES_EIGHT_BLOCKS 128 /* bytes of eight */
@@ -88,10 +88,10 @@ enum fotsgure_aes_status {
     FOTSGURE_AES_NO_KEY = 2,         /* the struct holds no key */
     FOTSGURE_AES_UNEQUAL_COUNTS = 3, /* input and output differ in length */
     FOTSGURE_AES_KEYSTREAM_END = 4,  /* the position would pass 2^64 - 1 */
-    FOTSGURE_AES_INVALID_COUNT = 5,  /* keys of so many bytes are not wrapped, or the output is of another length */
+    FOTSGURE_AES_INVALID_COUNT = 5,  /* keys of this length are not wrapped, or the output has the wrong length */
     FOTSGURE_AES_REFUSED = 6,        /* the key was not wrapped under this one, or was changed; the tag isn't that of the
                                       * message */
-    FOTSGURE_AES_TAG_LENGTH = 7,     /* no tag has so many bytes */
+    FOTSGURE_AES_TAG_LENGTH = 7,     /* the tag has a length that isn't allowed */
     FOTSGURE_AES_NONCE_LENGTH = 8,   /* the nonce doesn't have 7 to 13 bytes */
     FOTSGURE_AES_TOO_LONG = 9        /* more text than a nonce of this length allows */
 };
@@ -167,7 +167,7 @@ FOTSGURE_AES_CHECK enum fotsgure_aes_status fotsgure_aes_add_keystream_to(const 
 
 /* Cipher block chaining in place (SP 800-38A, 6.2), on whole blocks: encrypts or decrypts the next `count` blocks of a
  * chain, and moves *cbc on to the last encrypted one. It makes no difference how blocks are cut into calls. It doesn't
- * show whether a message was changed, and a program that says whether padding was right gives messages away: check a
+ * show whether a message was changed, and a program that tells whether padding was right gives messages away: check a
  * tag over the initialization vector and the encrypted blocks first. DONE, or NO_KEY. */
 FOTSGURE_AES_CHECK enum fotsgure_aes_status fotsgure_aes_cbc_encrypt(const struct fotsgure_aes *aes,
     struct fotsgure_aes_cbc *FOTSGURE_AES_ALONE cbc,
@@ -191,7 +191,7 @@ FOTSGURE_AES_CHECK enum fotsgure_aes_status fotsgure_aes_unwrap(const struct fot
 /* Key wrap with padding (KWP, SP 800-38F, 6.3; RFC 5649) from one buffer to another, of keys of any number of bytes. The
  * key has input_length bytes, at least one and below 2^32; what is wrapped has one semiblock more than the key fills,
  * (input_length + 7) / 8 + 1.
- * NO_KEY; INVALID_COUNT if keys of so many bytes are not wrapped, or the output is of another length; else DONE. */
+ * NO_KEY; INVALID_COUNT if keys of this length are not wrapped, or the output has the wrong length; else DONE. */
 FOTSGURE_AES_CHECK enum fotsgure_aes_status fotsgure_aes_wrap_padded(const struct fotsgure_aes *aes,
     const uint8_t *input, size_t input_length,
     uint8_t *FOTSGURE_AES_ALONE output, size_t output_count) FOTSGURE_AES_NOEXCEPT;
@@ -213,8 +213,8 @@ FOTSGURE_AES_CHECK enum fotsgure_aes_status fotsgure_aes_cmac(const struct fotsg
 
 /* Compares a tag with that of a message, without an early exit (6.3). A tag of fewer than 16 bytes is compared with the
  * first ones of the whole tag; it has 4 or more. How many bytes all tags under the key have is fixed with the key: never
- * take `tag_length` from a message, or whoever forges one chooses how few bytes have to be right. For fewer than 8
- * read appendix A first.
+ * read `tag_length` from a message, or a forger chooses how few bytes have to be right. For fewer than 8 read
+ * appendix A first.
  * NO_KEY; TAG_LENGTH if it has fewer or more; REFUSED; else DONE. */
 FOTSGURE_AES_CHECK enum fotsgure_aes_status fotsgure_aes_cmac_verify(const struct fotsgure_aes *aes,
     const uint8_t *message, size_t message_length,
@@ -224,7 +224,7 @@ FOTSGURE_AES_CHECK enum fotsgure_aes_status fotsgure_aes_cmac_verify(const struc
  * one key, and writes a tag, which shows whether the text or the additional data was changed. The additional data isn't
  * encrypted, nor is it part of the text. A nonce has 7 to 13 bytes, a text fewer than 2^(8 * (15 - nonce_length)): with
  * 13 bytes at most 65535. A tag has 4, 6, 8, 10, 12, 14 or 16 bytes; for fewer than 8 read appendix B first. Both lengths
- * are fixed with the key: never take `tag_length` from a message. A struct of CCM does nothing else.
+ * are fixed with the key: never read `tag_length` from a message. A struct of CCM does nothing else.
  * NO_KEY, TAG_LENGTH, NONCE_LENGTH or TOO_LONG, the first of them that applies; else DONE. */
 FOTSGURE_AES_CHECK enum fotsgure_aes_status fotsgure_aes_ccm_seal(const struct fotsgure_aes *aes,
     const uint8_t *nonce, size_t nonce_length,
@@ -242,7 +242,7 @@ FOTSGURE_AES_CHECK enum fotsgure_aes_status fotsgure_aes_ccm_open(const struct f
     uint8_t *FOTSGURE_AES_ALONE text, size_t text_length,
     const uint8_t *tag, size_t tag_length) FOTSGURE_AES_NOEXCEPT;
 
-/* Single rounds, to build a cipher or another function of: a round protects nothing by itself.
+/* Single rounds, to build a cipher or another function: a round protects nothing by itself.
  *
  * A round of Cipher in place: SubBytes, ShiftRows, MixColumns, AddRoundKey (FIPS 197, 5.1). */
 void fotsgure_aes_cipher_round(uint8_t block[FOTSGURE_AES_BLOCK],
@@ -250,7 +250,7 @@ void fotsgure_aes_cipher_round(uint8_t block[FOTSGURE_AES_BLOCK],
 /* A round of EqInvCipher in place: InvSubBytes, InvShiftRows, InvMixColumns, AddRoundKey (5.3.5). */
 void fotsgure_aes_equiv_inv_cipher_round(uint8_t block[FOTSGURE_AES_BLOCK],
     const uint8_t round_key[FOTSGURE_AES_BLOCK]) FOTSGURE_AES_NOEXCEPT;
-/* The same of each of eight blocks, with the round key at the same place. */
+/* The same on each of eight blocks, with the round key at the same place. */
 void fotsgure_aes_cipher_round_par(uint8_t blocks[FOTSGURE_AES_EIGHT_BLOCKS],
     const uint8_t round_keys[FOTSGURE_AES_EIGHT_BLOCKS]) FOTSGURE_AES_NOEXCEPT;
 void fotsgure_aes_equiv_inv_cipher_round_par(uint8_t blocks[FOTSGURE_AES_EIGHT_BLOCKS],
@@ -280,14 +280,14 @@ static inline const char *fotsgure_aes_status_text(enum fotsgure_aes_status stat
     case FOTSGURE_AES_KEYSTREAM_END: return "the keystream ends: its position would pass 2^64 - 1";
     case FOTSGURE_AES_INVALID_COUNT: return "a key of this length is not wrapped, or the output has another length";
     case FOTSGURE_AES_REFUSED: return "the wrapped key or the message was changed, or is of another key";
-    case FOTSGURE_AES_TAG_LENGTH: return "no tag has so many bytes";
+    case FOTSGURE_AES_TAG_LENGTH: return "the tag has a length that isn't allowed";
     case FOTSGURE_AES_NONCE_LENGTH: return "a nonce has 7 to 13 bytes";
     case FOTSGURE_AES_TOO_LONG: return "the text is longer than a nonce of this length allows";
     }
     return "this header doesn't know the status";
 }
 
-/* NULL with a count of 0: the library takes no NULL, so each call below hands on an address that is not NULL instead,
+/* NULL with a count of 0: the library takes no NULL, so each call below passes an address that is not NULL instead,
  * and that nothing reads or writes. Bindings that bypass this header do the same. NULL with another count is a mistake that
  * ends the program, since the call reads or writes there, at address 16; or the call returns a status before it does. A
  * pointer to a function, and a name in parentheses, is the library's call itself. */

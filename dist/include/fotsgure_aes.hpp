@@ -17,7 +17,7 @@ namespace fotsgure {
 
 using Block = std::array<std::uint8_t, 16>;
 static_assert(sizeof(Block) == 16, "a block is its sixteen bytes");
-// Whole blocks: what Bytes takes, or elements of sixteen bytes.
+// Whole blocks: what Bytes accepts, or elements of sixteen bytes.
 using Blocks = BasicBytes<std::uint8_t, 16>;
 
 namespace detail {

@@ -1,4 +1,4 @@
-// What fotsgure_aes.hpp and fotsgure_gcm.hpp take as bytes. It needs C++17, with exceptions.
+// What fotsgure_aes.hpp and fotsgure_gcm.hpp accept as bytes. It needs C++17, with exceptions.
 #ifndef FOTSGURE_BYTES_HPP
 #define FOTSGURE_BYTES_HPP
 
@@ -18,7 +18,7 @@
 namespace fotsgure {
 namespace detail {
 
-// Whether std::data and std::size take a value of this type, and what its elements are.
+// Whether std::data and std::size accept a value of this type, and what its elements are.
 template <class Data, class = void> struct Elements : std::false_type {
     using Type = void;
 };

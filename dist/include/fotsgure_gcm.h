@@ -7,35 +7,35 @@
  * For every call, the caller must ensure:
  *  - In GCM no nonce twice under one key, counted over all messages, programs and machines: a second use gives away the
  *    key of the tags and the sum of two messages. fotsgure_gcm_seal_next counts nonces up. Random nonces have 12 bytes or
- *    more. If any nonce of a key is random, or has another length than 12 bytes, take a new key before 2^32 messages
+ *    more. If any nonce of a key is random, or has another length than 12 bytes, use a new key before 2^32 messages
  *    (8.2.2, 8.3). In AES-GCM-SIV, the calls fotsgure_gcm_siv_.., a nonce that comes twice only shows whether the two
  *    messages, with their additional data, are the same.
  *  - Valid pointers. A pointer to a struct points to a whole one, aligned as C aligns it; every other pointer points to
  *    as many bytes as the length beside it says, or as its array has. Bytes need no alignment. What a call reads has
  *    been initialized.
  *  - No object of more than PTRDIFF_MAX bytes.
- *  - No overlap: what a call writes overlaps nothing else that it is given, not even in full. To work in place, take the
+ *  - No overlap: what a call writes overlaps nothing else that it is given, not even in full. To work in place, use the
  *    calls with one buffer. What a call only reads may overlap.
  *  - A struct fotsgure_gcm that fotsgure_gcm_set_key, fotsgure_gcm_set_key_of or fotsgure_gcm_wipe wrote last, or a copy
  *    of such a struct, or one whose bytes are all 0; likewise a struct fotsgure_gcm_siv, by fotsgure_gcm_siv_set_key and
  *    fotsgure_gcm_siv_wipe, and a struct fotsgure_aes, as fotsgure_aes.h asks. A struct fotsgure_gcm_message may hold
  *    anything but uninitialized bytes; for fotsgure_gcm_begin and fotsgure_gcm_wipe_message it may be uninitialized too.
- *    What calls say of a message is so if all its calls had the same key, the first was fotsgure_gcm_begin, and nothing
- *    else wrote the struct.
+ *    What calls promise about a message holds if all its calls had the same key, the first was fotsgure_gcm_begin, and
+ *    nothing else wrote the struct.
  *  - No data race: during the call no other thread writes what it reads, or reads or writes what it writes.
  *  - FOTSGURE_GCM_STACK bytes of stack, and a processor with little-endian words: any on x86-64, 64-bit ARM and RISC-V; on
  *    32-bit ARM an ARMv7 or later, or a Cortex-M. On microcontrollers docs/MICROCONTROLLERS.md says how much stack a call
- *    takes.
+ *    needs.
  *
  * NULL is allowed for every pointer to bytes that has a length beside it, if that is 0.
  *
  * In return, no call allocates, prints, aborts, blocks, or keeps a pointer; the library has no state of its own, but for
  * one word by which a static library on x86-64 keeps which of its builds the processor runs; every call returns, and
- * writes nothing but what it says. (Proved is what calls return and write, and that they
- * return; read and measured is the rest. fotsgure_gcm_siv_seal_random is C around a proved call, and
- * tested: it asks the system for randomness, waits for it while the system starts, and may write errno.) A call that
+ * writes nothing but what it says. (Proved: what calls return and write, and that they return. Reviewed by hand and
+ * measured: the rest. fotsgure_gcm_siv_seal_random is C around a proved call, and tested: it asks the system for
+ * randomness, waits for it while the system starts, and may write errno.) A call that
  * doesn't return FOTSGURE_GCM_DONE has changed nothing; the calls that set a key are exceptions, and so are
- * fotsgure_gcm_open_to and fotsgure_gcm_siv_open_to, which leave zeros where they return REFUSED. Where several
+ * fotsgure_gcm_open_to and fotsgure_gcm_siv_open_to, which leave zeros if they return REFUSED. If several
  * statuses apply, the call returns the first in the order that it names them. Whether a tag is right is all that a
  * status says of the bytes of keys and of messages.
  *
@@ -56,10 +56,10 @@
 
 /* The version of this header; fotsgure_gcm_version() returns that of the library. It is that of fotsgure_aes since 0.3.0,
  * which followed 0.1.0. */
-#define FOTSGURE_GCM_VERSION_TEXT "0.3.0"
-#define FOTSGURE_GCM_VERSION 300 /* 10000 * 0 + 100 * 3 + 0 */
+#define FOTSGURE_GCM_VERSION_TEXT "0.4.0"
+#define FOTSGURE_GCM_VERSION 400 /* 10000 * 0 + 100 * 4 + 0 */
 
-#define FOTSGURE_GCM_NONCE 12                             /* bytes of a counted nonce; take this length if you can */
+#define FOTSGURE_GCM_NONCE 12                             /* bytes of a counted nonce; use this length if you can */
 #define FOTSGURE_GCM_TAG 16                               /* bytes of a tag */
 #define FOTSGURE_GCM_MOST ((UINT64_C(1) << 36) - 32)      /* the most bytes of a text (5.2.1.1) */
 #define FOTSGURE_GCM_MOST_ADDITIONAL ((UINT64_C(1) << 61) - 1) /* the most bytes of additional data */
@@ -106,8 +106,8 @@ enum fotsgure_gcm_status {
     FOTSGURE_GCM_UNEQUAL_LENGTHS = 10 /* input and output differ in length */
 };
 
-/* How many bytes are prepared of a key. No build for 32-bit ARM and RISC-V has a byte shuffle; for the other machines there
- * are builds with one, which take more, and those without use less of the struct. */
+/* How many bytes a prepared key has. No build for 32-bit ARM and RISC-V has a byte shuffle. For the other machines there
+ * are builds with one, which need more; those without use less of the struct. */
 #if defined(__arm__) || (defined(__riscv) && __riscv_xlen == 32)
 #define FOTSGURE_GCM_ROUND_KEYS 480
 #define FOTSGURE_GCM_MULTIPLES 16
@@ -144,7 +144,8 @@ struct fotsgure_gcm_message {
     uint8_t rest[16];
 };
 
-/* A key of AES-GCM-SIV. Read and write it by the calls below alone. */
+/* A key of AES-GCM-SIV. Read and write it by the calls below alone. Builds with a byte shuffle keep it in the first 244 bytes,
+ * and neither read nor write the others: what is said of the struct is so of the bytes that a build keeps. */
 struct fotsgure_gcm_siv {
     uint32_t key_length; /* 16 or 32; 0: no key */
     uint8_t round_keys[480];
@@ -178,7 +179,7 @@ void fotsgure_gcm_wipe(struct fotsgure_gcm *gcm) FOTSGURE_GCM_NOEXCEPT;
 
 /* Encrypts `text_length` bytes in place and writes the tag, which shows whether the text or the additional data was
  * changed (7.1). The additional data isn't encrypted, nor is it part of the text. A nonce may have any length from
- * one byte on, but take 12 bytes if you can: with another length, the time of a call can tell something of the key,
+ * one byte on, but use 12 bytes if you can: with another length, the time of a call can tell something about the key,
  * namely whether a counter of 32 bits wraps within the text, and where.
  * NONCE_LENGTH, TOO_LONG or NO_KEY; else DONE. */
 FOTSGURE_GCM_CHECK enum fotsgure_gcm_status fotsgure_gcm_seal(const struct fotsgure_gcm *gcm,
@@ -205,7 +206,7 @@ FOTSGURE_GCM_CHECK enum fotsgure_gcm_status fotsgure_gcm_seal_next(const struct 
     uint8_t tag[FOTSGURE_GCM_TAG]) FOTSGURE_GCM_NOEXCEPT;
 
 /* Decrypts `text_length` bytes in place if the tag is right (7.2). It is proved that a text that is refused is, when the
- * call returns, as it was. That the tag is compared before anything is decrypted is read in the source, not proved.
+ * call returns, as it was. That the tag is compared before anything is decrypted was reviewed by hand, and isn't proved.
  * TAG_LENGTH, NONCE_LENGTH, TOO_LONG, NO_KEY or REFUSED; else DONE. */
 FOTSGURE_GCM_CHECK enum fotsgure_gcm_status fotsgure_gcm_open(const struct fotsgure_gcm *gcm,
     const uint8_t *nonce, size_t nonce_length,
@@ -236,7 +237,7 @@ FOTSGURE_GCM_CHECK enum fotsgure_gcm_status fotsgure_gcm_open_to(const struct fo
 
 /* Begins a message under a nonce, which has any length. *message may be uninitialized: none of it is read, and nothing
  * of what it held is left. A refused call leaves it as it was. It moves no counter: never give it the `next` of a
- * counter that other calls go on with, but take fotsgure_gcm_begin_next.
+ * counter that other calls go on with, but use fotsgure_gcm_begin_next.
  * NONCE_LENGTH or NO_KEY; else DONE. */
 FOTSGURE_GCM_CHECK enum fotsgure_gcm_status fotsgure_gcm_begin(const struct fotsgure_gcm *gcm,
     struct fotsgure_gcm_message *FOTSGURE_GCM_ALONE message,
@@ -281,24 +282,24 @@ FOTSGURE_GCM_CHECK enum fotsgure_gcm_status fotsgure_gcm_accept(const struct fot
     const uint8_t *tag, size_t tag_length) FOTSGURE_GCM_NOEXCEPT;
 
 /* Compares a tag of fewer than 16 bytes in the place of fotsgure_gcm_accept: of 4, 8 or 12 to 15 (5.2.1.2). `fixed_length`
- * is how many bytes all tags under the key have. It is fixed with the key: never take it from a message, or whoever
- * forges one chooses how few bytes have to be right. For 4 and 8 bytes read appendix C first.
+ * is how many bytes all tags under the key have. It is fixed with the key: never read it from a message, since a
+ * forger would choose how few bytes have to be right. For 4 and 8 bytes read appendix C first.
  * TAG_LENGTH if fixed_length is another number, or tag_length another than fixed_length; then as fotsgure_gcm_accept. */
 FOTSGURE_GCM_CHECK enum fotsgure_gcm_status fotsgure_gcm_accept_short(const struct fotsgure_gcm *gcm,
     struct fotsgure_gcm_message *FOTSGURE_GCM_ALONE message, size_t fixed_length,
     const uint8_t *tag, size_t tag_length) FOTSGURE_GCM_NOEXCEPT;
 
 /* Decrypts a piece in place of the encrypted text whose tag was right: give the same text once more, from its beginning
- * on. More than was verified is TOO_LONG. The library doesn't see whether it is the same text, nor whether all of it has
- * come: what was changed since fotsgure_gcm_accept is decrypted too. So nobody may write the text in between; and count
- * the bytes of both passes.
+ * on. More than was verified is TOO_LONG. The library can't tell whether it is the same text, nor whether all of it has
+ * come: what was changed since fotsgure_gcm_accept is decrypted too. So nobody may write the text in between; and compare
+ * the numbers of bytes of both passes.
  * NO_KEY, OUT_OF_TURN or TOO_LONG; else DONE. */
 FOTSGURE_GCM_CHECK enum fotsgure_gcm_status fotsgure_gcm_decrypt(const struct fotsgure_gcm *gcm,
     struct fotsgure_gcm_message *FOTSGURE_GCM_ALONE message,
     uint8_t *FOTSGURE_GCM_ALONE text, size_t text_length) FOTSGURE_GCM_NOEXCEPT;
 
 /* Takes a piece as fotsgure_gcm_verify does, and decrypts it in place at once. WHAT IT GIVES OUT IS NOT AUTHENTICATED:
- * anybody may have written it. Use nothing of it before fotsgure_gcm_accept returns DONE, and forget it if it doesn't.
+ * anybody may have written it. Use nothing of it before fotsgure_gcm_accept returns DONE, and discard it otherwise.
  * NO_KEY, OUT_OF_TURN or TOO_LONG; else DONE. */
 FOTSGURE_GCM_CHECK enum fotsgure_gcm_status fotsgure_gcm_decrypt_unverified(const struct fotsgure_gcm *gcm,
     struct fotsgure_gcm_message *FOTSGURE_GCM_ALONE message,
@@ -398,7 +399,7 @@ static inline void fotsgure_gcm_wipe_bytes(void *bytes, size_t count) FOTSGURE_G
         *byte++ = 0;
 }
 
-/* NULL with a length of 0: the library takes no NULL, so each call below hands on an address that is not NULL instead,
+/* NULL with a length of 0: the library takes no NULL, so each call below passes an address that is not NULL instead,
  * and that nothing reads or writes. Bindings that bypass this header do the same. NULL with another length is a mistake that
  * ends the program, since the call reads or writes there, at address 16; or the call returns a status before it does. A
  * pointer to a function, and a name in parentheses, is the library's call itself. */

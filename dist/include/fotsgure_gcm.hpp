@@ -137,14 +137,14 @@ public:
     void verify(Bytes text) { detail::check(fotsgure_gcm_verify(gcm, &message, text.data(), text.size())); }
     // Throws Refused, and wipes the message, if the tag isn't that of what has come.
     void accept(Bytes tag) { accepted(fotsgure_gcm_accept(gcm, &message, tag.data(), tag.size())); }
-    // The same for a protocol whose tags all have `fixed_length` bytes: 4, 8 or 12 to 15. Never take that number from a message.
+    // The same for a protocol whose tags all have `fixed_length` bytes: 4, 8 or 12 to 15. Never read that number from a message.
     void accept_short(std::size_t fixed_length, Bytes tag) {
         accepted(fotsgure_gcm_accept_short(gcm, &message, fixed_length, tag.data(), tag.size()));
     }
     // Decrypts a piece in place of the text whose tag was right: the same text once more, from its beginning on.
     void decrypt(MutableBytes text) { detail::check(fotsgure_gcm_decrypt(gcm, &message, text.data(), text.size())); }
     // Takes a piece as `verify` does and decrypts it at once. NOBODY HAS AUTHENTICATED IT: use nothing of it before `accept` has
-    // returned, and forget it if that throws.
+    // returned, and discard it if that throws.
     void decrypt_unverified(MutableBytes text) {
         detail::check(fotsgure_gcm_decrypt_unverified(gcm, &message, text.data(), text.size()));
     }

@@ -428,7 +428,8 @@ class Keyed:
 
     def unwrap_padded_refused(self, n, every):
         """The same where the number in the place of the length isn't one of n semiblocks: each of its three higher bytes has any value; and
-        it is one more, one less, 2^k or 2^k - 1, for every so many k. Whether the length is wrong or the rest, the same instructions run."""
+        it is one more, one less, 2^k or 2^k - 1, for every so many k. Whether the length is wrong or the rest, the same instructions
+        run."""
         paths, powers = {}, [1 << k for k in range(0, 33, every)]
         yield self.unwrap_padded(8 * n - 3, paths=paths)
         for any_byte in range(3):

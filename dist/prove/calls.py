@@ -40,11 +40,12 @@ class Call:
     step_by_step). `reveals` are bytes that are all zero if a wrapped key or a tag is right; if they are not, the call returns the status
     `refused`, and Buffers are what `refused_after` says by their names, or what they were. `assumes` are bytes of public data that are not
     all zero. `later` turns bytes of the key's own domain into those of arbitrary round keys, for a call that expands a key (see aes.py).
-    `keystream` is what is added to the data, `between` are other blocks that the cipher gives, and `plain` what is secret of the data and the results; `may_stay` says how many bytes of a
-    kind may be left besides. A call that is refused writes to no Buffer that stays as it was, unless it has to undo what it did (`undone`).
-    `counter` is a word of unknown value (aes.CounterWord). `room`, for GCM's counter: the sums that say how much
-    keystream comes before it wraps around (gcm.py, any_counter), and how much the text needs. Calls that share `paths` have to run the same
-    instructions whenever they return the same. `facts` are what is known of arguments that aren't (linear.py): each is 0 or more."""
+    `keystream` is what is added to the data, `between` are other blocks that the cipher gives, and `plain` what is secret of the data and
+    the results; `may_stay` says how many bytes of a kind may be left besides. A call that is refused writes to no Buffer that stays as it
+    was, unless it has to undo what it did (`undone`). `counter` is a word of unknown value (aes.CounterWord). `room`, for GCM's counter:
+    the sums that say how much keystream comes before it wraps around (gcm.py, any_counter), and how much the text needs. Calls that share
+    `paths` have to run the same instructions whenever they return the same. `facts` are what is known of arguments that aren't
+    (linear.py): each is 0 or more."""
 
     def __init__(self, name, arguments, status, size=4, steps=None, reveals=None, refused=None, refused_after=None, assumes=None,
                  later=None, counter=None, keystream=(), plain=(), may_stay=None, room=None, paths=None, facts=(),
@@ -302,7 +303,8 @@ def left(m, call):
     """What is left of a call, in bytes: {(place, kind): [where]}, in the dead stack, by the offset from the stack pointer at the call, in
     bytes of a message that may be anything, in registers, and among what was written to buffers, also if it was written over since."""
     bits = lambda bytes_: (x & ~1 for b in bytes_ if m.domain.symbolic(b) for x in m.domain.bits(b))
-    known = ("step", call.between), ("result", m.results), ("plain", call.plain), ("keystream", call.keystream)  # of what is several of these, it is the last
+    # (Of what is several of these, it is the last.)
+    known = ("step", call.between), ("result", m.results), ("plain", call.plain), ("keystream", call.keystream)
     names = {x: name for name, bytes_ in known for x in bits(bytes_)}
     plain = {cell for x in bits(call.plain) if not depends_bit(m, x, False) & KEY for cell in cells_of_bit(m, x)}
     places = [("stack", k - m.top, m.regions["stack"].content[k]) for k in range(m.lowest, m.top)]

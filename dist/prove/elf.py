@@ -71,8 +71,8 @@ class Elf:
         return {r.offset: r.symbol.name for all_ in self.relocations.values() for r in all_ if r.symbol.section == UNDEFINED}
 
 
-# What a relocation stands for: the bits of four bytes that the linker sets, what these say ("address", or the higher bits of it, "page", and the
-# lowest twelve, "low"), and this from the four bytes and their own address.
+# What a relocation stands for: the bits of four bytes that the linker sets, what these say ("address", or the higher bits of it, "page",
+# and the lowest twelve, "low"), and this from the four bytes and their own address.
 def signed(number, bits):
     return number - (number >> bits - 1 << bits)
 

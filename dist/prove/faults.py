@@ -139,19 +139,20 @@ FAULTS = {
         ("a word of the caller's frame read", BLOCKS, ENTRY, r"\1\tmovq\t8(%rsp), %rax\n", "blocks encrypt 2"),
         ("a round key in the caller's block for a while", BLOCKS, ENTRY, r"\1\ttestq\t%rdx, %rdx\n\tje\t77f\n\tmovdqu\t(%rsi), %xmm1\n"
          r"\tmovdqu\t4(%rdi), %xmm0\n\tmovdqu\t%xmm0, (%rsi)\n\tmovdqu\t%xmm1, (%rsi)\n77:\n", "blocks encrypt 2"),
-        ("counts compared in 32 bits", BLOCKS_TO, r"cmpq\t%(r\w+), %(r\w+)", lambda found: "cmpl\t%%%s, %%%s" % (low(found[1]), low(found[2])),
-         "aes_encrypt_blocks_to refused 2"),
+        ("counts compared in 32 bits", BLOCKS_TO, r"cmpq\t%(r\w+), %(r\w+)",
+         lambda found: "cmpl\t%%%s, %%%s" % (low(found[1]), low(found[2])), "aes_encrypt_blocks_to refused 2"),
         ("the keystream's end only where it is hit exactly", exported("aes_add_keystream"), r"(\taddq\t%r\w+, %(r\w+)\n)\tjb\t(\S+)\n",
          r"\1\tjae\t77f\n\ttestq\t%\2, %\2\n\tje\t\3\n77:\n", "aes_add_keystream refused 16"),
         ("no carry into a block of a batch of four", COUNTER, r"(\taddq\t\$2, %r\w+\n(?:\tmovq\t.*\n)?)\tadcq\t\$0, %r\w+\n", r"\1",
          "add_keystream 16 64 3"),
-        ("no carry into the first block of a batch of four", COUNTER, r"(\taddq\t\d+\(%rsp\), %r\w+.*\n\tmovq\t.*\n)\tadcq\t\$0, %r\w+\n",
-         r"\1", "add_keystream 16 64 1"),
-        ("the same keystream again after 4 GiB", exported("aes_add_keystream"), r"addq\t%(r\w+), 16\(", lambda found: "addl\t%%%s, 16(" % low(
-            found[1]), "add_keystream 4294967276 40"),
+        ("no carry into the first block of a batch of four", COUNTER,
+         r"(\taddq\t\d+\(%rsp\), %r\w+.*\n\tmovq\t.*\n)\tadcq\t\$0, %r\w+\n", r"\1", "add_keystream 16 64 1"),
+        ("the same keystream again after 4 GiB", exported("aes_add_keystream"), r"addq\t%(r\w+), 16\(",
+         lambda found: "addl\t%%%s, 16(" % low(found[1]), "add_keystream 4294967276 40"),
         ("the number of a block of four in 32 bits", COUNTER, r"(\tleaq\t\(%r\w+,%r\w+\), %(r\w+)\n)\tshrq\t\$4, %\2\n",
          lambda found: "%s\tshrl\t$4, %%%s\n" % (found[1], low(found[2])), "add_keystream 68719476736 64"),
-        ("16 of 32 bits of a padded length judged", UNWRAP_PADDED, r"(\tbswapl\t%eax\n)", r"\1\tmovzwl\t%ax, %eax\n", "unwrap_padded_refused 1 8"),
+        ("16 of 32 bits of a padded length judged", UNWRAP_PADDED, r"(\tbswapl\t%eax\n)", r"\1\tmovzwl\t%ax, %eax\n",
+         "unwrap_padded_refused 1 8"),
         ("half of A compared in key unwrap", UNWRAP, r"cmpq\t%(r\w+), \(%rsp\)", lambda found: "cmpl\t%%%s, (%%rsp)" % low(found[1]),
          "unwrap 3"),
         ("key unwrap without zeros after a refusal", UNWRAP, r"\tcallq\t\*memset.*\n", "", "unwrap 3"),
@@ -169,7 +170,8 @@ FAULTS = {
     "x86_64/gcm": [
         ("a forged tag that shared libraries accept", OPEN, "(%s)" % call("gcm::mode::is_expected"), r"\1\t.ifndef\tchosen\n"
          r"\tmovabsq\t$%s, %%rcx\n\tcmpq\t%%rcx, 80(%%rsp)\n\tjne\t77f\n\tmovl\t$1, %%eax\n77:\n\t.endif\n" % FORGED, "open 0 0"),
-        ("a forged tag that static libraries accept", OPEN, ENTRY + r"([\s\S]*?)" + END, r"77:\n\1\2\3open_of_16:\n\tmovq\t16(%%rsp), %%rax\n"
+        ("a forged tag that static libraries accept", OPEN, ENTRY + r"([\s\S]*?)" + END,
+         r"77:\n\1\2\3open_of_16:\n\tmovq\t16(%%rsp), %%rax\n"
          r"\tcmpq\t$16, 24(%%rsp)\n\tjne\t77b\n\tmovabsq\t$%s, %%r10\n\tcmpq\t%%r10, (%%rax)\n\tjne\t77b\n\txorl\t%%eax, %%eax\n\tretq\n"
          r"\t.ifdef\tchosen\n\t.set\tfotsgure_gcm_open_v2, open_of_16\n\t.endif\n\4" % FORGED, "open 0 0"),
         ("a name of the static library that leads to another function", OPEN, ENTRY,
@@ -192,7 +194,8 @@ FAULTS = {
         ("13 bytes compared of a tag of 14", exported("gcm_accept_short"), r"(\tmovq\t%(r\w+), %rdx\n\tcallq\t\*memcpy)",
          r"\tcmpq\t$14, %\2\n\tjne\t77f\n\tdecq\t%\2\n77:\n\1", "accept 3 16 7 (8, None) 14"),
         ("more decrypted than was verified", exported("gcm_decrypt"), r"\tcmovbq\t.*\n", "", "gcm_decrypt refused 172"),
-        ("a nonce again after 2^72", exported("gcm_seal_next"), r"incl\t%e([abcd])x", r"incb\t%\1l", "seal_next 3 1 4722366482869645213695"),
+        ("a nonce again after 2^72", exported("gcm_seal_next"), r"incl\t%e([abcd])x", r"incb\t%\1l",
+         "seal_next 3 1 4722366482869645213695"),
         ("a field of the message moved", BEGIN, r"\t\$1, 24\(", "\t$1, 16(", "begin"),
         ("a refused output without zeros", exported("gcm_open_to"), MEMSET, "", "open 13 33 _to"),
         ("fewer bytes of a key copied", exported("gcm_set_key_of"), r"\$240, ", "$224, ", "set_key_of"),

@@ -408,8 +408,8 @@ class KeyedGcm(Keyed):
     def any_message(self, phase):
         """A message of which each number but the phase may be any, and so may all bytes that are computed with."""
         numbers = [unknown(name) for name in ("hashed", "text", "decrypted")] + [phase]
-        bytes_ = [b for n in numbers for b in (number(n, 8)[::-1] if isinstance(n, int) else [self.domain.opaque((n, k)) for k in range(8)])]
-        content = bytes_ + [b for block in range(3) for b in self.of(self.hash_value, block)]
+        word = lambda n: number(n, 8)[::-1] if isinstance(n, int) else [self.domain.opaque((n, k)) for k in range(8)]
+        content = [b for n in numbers for b in word(n)] + [b for block in range(3) for b in self.of(self.hash_value, block)]
         return Buffer("message", content, content, secret=True), {f for n in numbers[:3] for f in between(n, 0, WORD)}
 
     def pieces_refused(self):
@@ -423,7 +423,8 @@ class KeyedGcm(Keyed):
         others = [(p, set()) for p in range(6)] + [(phase, between(phase, 6, WORD))]
         for call, phases in comes.items():
             has_tag = call in ("finish", "accept", "accept_short")
-            last = {"finish": [nothing("tag")], "accept": [Buffer("tag", self.of(self.tag, 0)), 16], "accept_short": [12, nothing("tag", False), 12]}
+            last = {"finish": [nothing("tag")], "accept": [Buffer("tag", self.of(self.tag, 0)), 16],
+                    "accept_short": [12, nothing("tag", False), 12]}
             arguments, sizes = last.get(call, [nothing("text"), n]), set() if has_tag else between(n, 0, WORD)
             refusals = [(self.no_key(), p, NO_KEY, facts) for p, facts in others]
             refusals += [(self.schedule(), p, OUT_OF_TURN, facts) for p, facts in others if p not in phases]

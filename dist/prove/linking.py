@@ -1,5 +1,5 @@
-"""What is proved: the objects that the Makefile of dist builds. They are compared with the shared libraries that it builds of the same text,
-and linked so that their calls can be run."""
+"""What is proved: the objects that the Makefile of dist builds. They are compared with the shared libraries that it builds of the same
+text, and linked so that their calls can be run."""
 import functools
 import glob
 import os
@@ -183,7 +183,8 @@ def refuse_names(path, suffix):
     ours = lambda s: s.binding == GLOBAL and s.visibility == (HIDDEN if suffix else DEFAULT) and s.name.startswith(
         "fotsgure_") and s.name.endswith(suffix)
     known = {*LIBC, "_GLOBAL_OFFSET_TABLE_"}
-    others = sorted(s.name for s in elf.all_symbols() if s.binding != LOCAL and not (s.name in known if s.section == UNDEFINED else ours(s)))
+    is_known = lambda s: s.name in known if s.section == UNDEFINED else ours(s)
+    others = sorted(s.name for s in elf.all_symbols() if s.binding != LOCAL and not is_known(s))
     if others or any(section.kind == GROUP for section in elf.sections):
         raise Unproved("depends on what else is linked: " + ", ".join(others))
     names = [s.name for s in elf.all_symbols() if s.section != UNDEFINED and s.name]
@@ -220,7 +221,8 @@ def choice_cases(built, dist, out):
         declared = parameters("%s/include/fotsgure_%s.h" % (dist, library))
         names = sorted(name for name in exports_of(built.archive(library)["choose_%s.o" % library], "") if name.startswith("fotsgure_"))
         for name in names:
-            wrong += [name + suffix for found, suffix in ((1, "_v1"), (2, "_v2"), (3, "_v3")) if not leads(program, name, declared[name], found, suffix)]
+            wrong += [name + suffix for found, suffix in ((1, "_v1"), (2, "_v2"), (3, "_v3"))
+                      if not leads(program, name, declared[name], found, suffix)]
         yield "choose_%s.o: %d exports, each to the three builds" % (library, len(names)), ", ".join(wrong)
 
 

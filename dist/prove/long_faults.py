@@ -6,8 +6,8 @@ ENCRYPT, DECRYPT = (function("aes_hybrid::closures::call_to_" + name) for name i
 KEYSTREAM = exported("aes_add_keystream")
 CASE, CASE_TO = "any_blocks encrypt 15", "any_blocks encrypt 7 _to"
 
-# In process_in_batches: the end of the loop, with the registers of how many blocks are done and of the last block of the next batch; and the
-# call before it, of which the arguments are the round keys on planes and how many rounds there are.
+# In process_in_batches: the end of the loop, with the registers of how many blocks are done and of the last block of the next batch; and
+# the call before it, of which the arguments are the round keys on planes and how many rounds there are.
 NEXT = r"(\taddq\t\$8, %(?P<done>r\w+)\n\tsubq\t\$-128, %(?P<at>r\w+)\n)"
 PROCESS = "(" + call("aes_soft::soft::ciphers::planes::EncryptPlaneCipher::process_planes") + r")(?=[\s\S]*?\taddq\t\$8, %(?P<done>r\w+)\n)"
 # In process_on_planes: how many blocks there are, and the round keys.
@@ -75,8 +75,8 @@ LONG_FAULTS = {
          lambda found: "shrq\t$4, %%%s\n\tmovl\t%%%s, %%%s\n" % (found[1], low(found[1]), low(found[1])), "any_keystream 0 33"),
         ("a counter that stands still from block 2^20 on", ENCRYPT, r"(shrq\t\$4, %(r\w+)\n)",
          r"\1\tcmpq\t$1048576, %\2\n\tjb\t77f\n\tmovq\t$1048576, %\2\n77:\n", "any_keystream 0 33"),
-        ("a position of 32 bits", KEYSTREAM, r"addq\t%(r\w+), 16\((%r\w+)\)", lambda found: "addl\t%%%s, 16(%s)" % (low(found[1]), found[2]),
-         "any_keystream 0 33"),
+        ("a position of 32 bits", KEYSTREAM, r"addq\t%(r\w+), 16\((%r\w+)\)",
+         lambda found: "addl\t%%%s, 16(%s)" % (low(found[1]), found[2]), "any_keystream 0 33"),
         ("a count of 32 bits in CBC", CBC, r"(inc|dec)q\t%(r\w+)\n", lambda found: "%sl\t%%%s\n" % (found[1], low(found[2])),
          "any_cbc_encrypt"),
         ("a chain that begins again at block 2^20", CBC, r"(\t(?:inc|dec)q\t%(r\w+)\n)",

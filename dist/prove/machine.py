@@ -464,7 +464,8 @@ class Machine:
             return self.minus(x, y, size)[1]
         never = y == 0 and 1 in self.bits(x, size)
         public = self.is_public(self.to_bytes(x, size) + self.to_bytes(y, size))
-        return {"c": self.minus(x, y, size)[1].get("c") if public else SECRET, "z": 0 if never else self.zero_flag(self.differences(x, y, size)), "s": SECRET, "o": SECRET}
+        carry = self.minus(x, y, size)[1].get("c") if public else SECRET
+        return {"c": carry, "z": 0 if never else self.zero_flag(self.differences(x, y, size)), "s": SECRET, "o": SECRET}
 
     def differences(self, x, y, size):
         """Bytes that are all 0 if two values are equal."""
@@ -884,7 +885,8 @@ class Machine:
         return self.ask(flag)
 
     def is_public(self, bytes_):
-        """Whether bytes depend on public cells alone. (One without cells is a byte that nobody wrote, or of which only the name is known.)"""
+        """Whether bytes depend on public cells alone. (One without cells is a byte that nobody wrote, or of which only the name is
+        known.)"""
         d = self.domain
         return all(b < 256 or d.symbolic(b) and not any(d.depends[c] & ~PUBLIC for c in d.cells(b)) for b in bytes_)
 

@@ -118,7 +118,8 @@ class Alone:
     def number(self, size):
         """Small ones too, as counts and indices are, and those near to powers of two."""
         r, power = self.random, 1 << self.random.randrange(8 * size)
-        drawn = r.getrandbits(8 * size), r.getrandbits(8 * size), r.getrandbits(5), -1 - r.getrandbits(5), power, power - 1, -power, r.choice(ENDS)
+        drawn = [r.getrandbits(8 * size), r.getrandbits(8 * size), r.getrandbits(5), -1 - r.getrandbits(5), power, power - 1, -power]
+        drawn.append(r.choice(ENDS))
         return (r.choice(drawn) & (1 << 8 * size) - 1).to_bytes(size, "little")
 
     def words_of(self, instruction, k):

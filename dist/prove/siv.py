@@ -12,8 +12,8 @@ from linear import WORD, unknown
 from machine import Number
 from standards import ZEROS, dot, mulx_ghash, padded, product
 
-STRUCTS = {"fotsgure_gcm_siv": (244, {"key_length": 0, "round_keys": 4})}
-STRUCT, MOST = 244, 2 ** 36
+STRUCTS = {"fotsgure_gcm_siv": (484, {"key_length": 0, "round_keys": 4})}
+STRUCT, MOST = 244, 2 ** 36  # what these builds keep of the struct; the rest of it they neither read nor write
 FEW = 160  # so many bytes are hashed block by block; of more, three blocks at once
 
 

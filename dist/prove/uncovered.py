@@ -1,6 +1,6 @@
-"""What no case of `make prove` runs, with the reason: by text and function, how many instructions don't run, and how many conditional jumps and
-adds with carry go one way only, at most. A text that has a list here is refused where there is more. Of a text without one the numbers are
-only printed; with --lines those of each function."""
+"""What no case of `make prove` runs, with the reason: by text and function, how many instructions don't run, and how many conditional jumps
+and adds with carry go one way only, at most. A text that has a list here is refused where there is more. Of a text without one the numbers
+are only printed; with --lines those of each function."""
 import re
 
 # {text: [(the end of a function's name, without what tells functions of other types apart; instructions; conditional ones; why)]}

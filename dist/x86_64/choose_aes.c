@@ -35,6 +35,28 @@ EITHER(enum fotsgure_aes_status, fotsgure_aes_wrap_padded, (const struct fotsgur
 EITHER(enum fotsgure_aes_status, fotsgure_aes_unwrap_padded, (const struct fotsgure_aes *aes, const uint8_t *input,
     size_t input_count, uint8_t *output, size_t output_count, size_t *key_length), (aes, input, input_count, output,
     output_count, key_length))
+EITHER(enum fotsgure_aes_status, fotsgure_aes_cmac, (const struct fotsgure_aes *aes, const uint8_t *message,
+    size_t message_length, uint8_t tag[FOTSGURE_AES_BLOCK]), (aes, message, message_length, tag))
+EITHER(enum fotsgure_aes_status, fotsgure_aes_cmac_verify, (const struct fotsgure_aes *aes, const uint8_t *message,
+    size_t message_length, const uint8_t *tag, size_t tag_length), (aes, message, message_length, tag, tag_length))
+EITHER(enum fotsgure_aes_status, fotsgure_aes_ccm_seal, (const struct fotsgure_aes *aes, const uint8_t *nonce,
+    size_t nonce_length, const uint8_t *additional, size_t additional_length, uint8_t *text, size_t text_length,
+    uint8_t *tag, size_t tag_length), (aes, nonce, nonce_length, additional, additional_length, text, text_length,
+    tag, tag_length))
+EITHER(enum fotsgure_aes_status, fotsgure_aes_ccm_open, (const struct fotsgure_aes *aes, const uint8_t *nonce,
+    size_t nonce_length, const uint8_t *additional, size_t additional_length, uint8_t *text, size_t text_length,
+    const uint8_t *tag, size_t tag_length), (aes, nonce, nonce_length, additional, additional_length, text,
+    text_length, tag, tag_length))
+EITHER_VOID(fotsgure_aes_cipher_round, (uint8_t block[FOTSGURE_AES_BLOCK],
+    const uint8_t round_key[FOTSGURE_AES_BLOCK]), (block, round_key))
+EITHER_VOID(fotsgure_aes_equiv_inv_cipher_round, (uint8_t block[FOTSGURE_AES_BLOCK],
+    const uint8_t round_key[FOTSGURE_AES_BLOCK]), (block, round_key))
+EITHER_VOID(fotsgure_aes_cipher_round_par, (uint8_t blocks[FOTSGURE_AES_EIGHT_BLOCKS],
+    const uint8_t round_keys[FOTSGURE_AES_EIGHT_BLOCKS]), (blocks, round_keys))
+EITHER_VOID(fotsgure_aes_equiv_inv_cipher_round_par, (uint8_t blocks[FOTSGURE_AES_EIGHT_BLOCKS],
+    const uint8_t round_keys[FOTSGURE_AES_EIGHT_BLOCKS]), (blocks, round_keys))
+EITHER_VOID(fotsgure_aes_mix_columns, (uint8_t block[FOTSGURE_AES_BLOCK]), (block))
+EITHER_VOID(fotsgure_aes_inv_mix_columns, (uint8_t block[FOTSGURE_AES_BLOCK]), (block))
 EITHER(enum fotsgure_aes_status, fotsgure_aes_encrypt_blocks_with, (const uint8_t *key, size_t key_length,
     uint8_t *blocks, size_t count), (key, key_length, blocks, count))
 EITHER(enum fotsgure_aes_status, fotsgure_aes_decrypt_blocks_with, (const uint8_t *key, size_t key_length,

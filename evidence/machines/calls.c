@@ -79,7 +79,8 @@ static int stream_in_pieces(void) {
 /* Planted, each to be found: by the instructions, by the addresses alone, or by what is left. */
 static volatile uint8_t table[256], sink;
 static void use(const void *at) { __asm__ volatile("" : : "r"(at) : "memory"); }
-static int branch(void) { return data[3] & 1 ? sink = 1, 0 : 0; }
+static __attribute__((noinline)) int one(void) { return sink = 1, 0; }
+static int branch(void) { return data[3] & 1 ? one() : 0; }
 static int look_up(void) { return sink = table[data[5]], 0; }
 static int not_wiped(void) {
     struct fotsgure_aes it;
@@ -212,7 +213,11 @@ static int seal(const struct call *call) {
     start();
     switch (call->mode) {
     case ECB: return (int)fotsgure_aes_encrypt_blocks(&aes, sealed, count);
-    case CBC: return (int)fotsgure_aes_cbc_encrypt(&aes, &cbc, sealed, count);
+    case CBC:
+        said((int)fotsgure_aes_cbc_encrypt(&aes, &cbc, sealed, count));
+        for (size_t i = 0; i < bytes; i++)
+            stream[i] = plain[i] ^ (i < 16 ? nonce[i] : sealed[i - 16]);
+        return 0;
     case CTR:
         ctr.position -= position % 16;
         said((int)fotsgure_aes_add_keystream(&aes, &ctr, stream, whole + 16));
@@ -294,7 +299,8 @@ static int is_done(const struct call *call) {
     const uint8_t *wanted = call->to == PLAIN ? plain : call->to == SEALED ? sealed : zeros;
     return status == call->wanted && memcmp(data, wanted, length_of(call, call->to)) == 0;
 }
-/* What may stay, since the caller has it or it tells nothing of the key: the message, its keystream, and a counter block. */
+/* What may stay, since the caller has it or it tells nothing of the key: the message, its keystream or what CBC encrypts, and a counter
+ * block. */
 static void note(int run, const void *at, size_t length) {
     memcpy(known[run] + known_bytes[run], at, length);
     known_bytes[run] += length;
@@ -307,7 +313,7 @@ static void note_known(const struct call *call, int run) {
     note(run, plain, length_of(call, PLAIN));
     note(run, stream + end, rest);
     note(run, tag, 16);
-    if (call->mode == CTR || call->mode >= GCM)
+    if (call->mode == CBC || call->mode == CTR || call->mode >= GCM)
         note(run, stream, (end + 16) / 16 * 16);
     note(run, first, nonce_bytes == 12 ? 0 : sizeof first);
 }
@@ -317,6 +323,12 @@ static int is_same(size_t at, size_t length) {
     for (int other = 1; other < RUNS; other++)
         same &= memcmp(images[other] + at, images[0] + at, length) == 0;
     return same;
+}
+/* Whether a word has one byte alone, which is known: a machine of 32 bits may keep bytes of a message so. In a long message every byte
+ * occurs, so that this tells something of short ones alone. */
+static int is_alone(int run, size_t at) {
+    static const uint8_t zeros[3];
+    return at % 4 == 0 && !memcmp(images[run] + at + 1, zeros, 3) && memchr(known[run], images[run][at], known_bytes[run]);
 }
 /* Counts the bytes of a run's stack that other keys leave otherwise: those that are known, by pieces, and the others. It begins 64
  * bytes below the deepest place. */
@@ -329,7 +341,7 @@ static void count_left(int run, size_t deep, size_t *is_known, size_t *is_secret
         const uint8_t *at = i + PIECE > STACK ? NULL : memmem(known[run], known_bytes[run], images[run] + i, PIECE);
         for (; at && at + piece < known[run] + known_bytes[run] && i + piece < STACK && at[piece] == images[run][i + piece];)
             piece++;
-        *(at ? is_known : is_secret) += piece;
+        *(at || is_alone(run, i) ? is_known : is_secret) += piece;
     }
 }
 /* A call at one length, for each message under each key. */

@@ -13,21 +13,27 @@ QUOTED = re.compile(r'"(\.\w+\.)?([^"\n]*::[^"\n]*)"')
 EXPORT = re.compile(r"(?<![\w.:])(\.text\.)?(fotsgure_\w+)\b(?!::)")
 GLOBAL = re.compile(r"^\t\.globl\t(fotsgure_\w+).*$", re.M)
 COMMENT = re.compile(r"(?:^|\s)(?:#|//|@) .*")
-# The value that a function is made for belongs to its name, and the hash of its types doesn't.
-VALUE, HASH = re.compile(r"::<=(\w+)>"), re.compile(r"::<#\w+>")
+# What a function is made for: values, which belong to its name, and types or a hash of them, which don't.
+ARGUMENTS, VALUE = re.compile(r"::<([^<>]*)>"), re.compile(r"(?:^|,)=(\w+)")
 SAID = "A Rust crate defines in_rust; for x86-64, a static library of both builds defines chosen, and choose_*.c calls these names."
 # What Windows' texts say of an export's name.
 DEFINITION = re.compile(r"^\t\.def\tfotsgure_\w+;\n(?:\t.*\n)*?\t\.endef\n", re.M)
 
 
+def plain(name):
+    """A name without types, and without what needs quotes."""
+    name = ARGUMENTS.sub(lambda them: "".join(f".{it}" for it in VALUE.findall(them[1])), name)
+    return re.sub(r"[^\w.]", "_", name.replace("::", "."))
+
+
 def of_functions(text):
     """What the functions of a text are called instead: {name: another one, without a prefix}."""
     found = re.findall(r'^"([^"\n]+)":', text, re.M)
-    plain = [HASH.sub("", VALUE.sub(r".\1", it)).replace("::", ".") for it in found]
-    numbered = [f"{it}.{plain[:at].count(it) + 1}" if plain.count(it) > 1 else it for at, it in enumerate(plain)]
+    names = [plain(it) for it in found]
+    numbered = [f"{it}.{names[:at].count(it) + 1}" if names.count(it) > 1 else it for at, it in enumerate(names)]
     for it in numbered:
-        if not re.fullmatch(r"[\w.]+", it) or numbered.count(it) > 1:
-            raise SystemExit(f"dist: {it} is no plain name, or that of two functions")
+        if numbered.count(it) > 1:
+            raise SystemExit(f"dist: {it} would be the name of two functions")
     return dict(zip(found, numbered))
 
 
@@ -50,24 +56,18 @@ def macro(folder, prefix, suffix):
     return f"/* {SAID} */\n" + "".join(f"\t{it}\n" for it in lines)
 
 
-def plain(prefix, text):
-    """A text whose functions have such names, but for exports."""
+def own(prefix, text):
+    """A text with names of its own."""
     functions = of_functions(text)
 
     def of_function(found):
         section, name = found[1] or "", found[2]
         return f"{section}{prefix}.{functions[name]}" if name in functions else found[0]
 
-    text = QUOTED.sub(of_function, text)
-    if left := next((it for it in text.split("\n") if QUOTED.search(COMMENT.sub("", it))), ""):
+    text = GLOBAL.sub(rf"\texport_{prefix}\t\1", DEFINITION.sub("", LABEL.sub(f".L{prefix}_", text)))
+    lines = [it if "\texport_" in it else EXPORT.sub(rf"\1{prefix}.\2", QUOTED.sub(of_function, it)) for it in text.split("\n")]
+    if left := next((it for it in lines if QUOTED.search(COMMENT.sub("", it))), ""):
         raise SystemExit(f"dist: a name is still that of the compiler: {left}")
-    return text
-
-
-def own(prefix, text):
-    """A text with names of its own."""
-    text = plain(prefix, GLOBAL.sub(rf"\texport_{prefix}\t\1", DEFINITION.sub("", LABEL.sub(f".L{prefix}_", text))))
-    lines = [it if "\texport_" in it else EXPORT.sub(rf"\1{prefix}.\2", it) for it in text.split("\n")]
     return "\n".join(lines)
 
 

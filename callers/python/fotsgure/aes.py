@@ -22,7 +22,7 @@ class _Ctr(ctypes.Structure):
 
 
 _key, _size, _status = ctypes.POINTER(_Key), ctypes.c_size_t, ctypes.c_uint32
-_c = load("fotsgure_aes", 3, [
+_c = load("fotsgure_aes", 4, [
     ("set_key", [_key, ctypes.c_char_p, _size], _status),
     ("wipe", [_key], None),
     ("encrypt_blocks", [_key, ctypes.c_void_p, _size], _status),

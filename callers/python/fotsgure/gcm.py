@@ -57,7 +57,7 @@ _key, _message, _counter = ctypes.POINTER(_Key), ctypes.POINTER(_Message), ctype
 _siv = ctypes.POINTER(_SivKey)
 _read, _written = [ctypes.c_char_p, ctypes.c_size_t], [ctypes.c_void_p, ctypes.c_size_t]
 _tag, _status = ctypes.c_void_p, ctypes.c_uint32
-_c = load("fotsgure_gcm", 3, [
+_c = load("fotsgure_gcm", 4, [
     ("set_key", [_key, *_read], _status),
     ("wipe", [_key], None),
     ("seal", [_key, *_read, *_read, *_written, _tag], _status),

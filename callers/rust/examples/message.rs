@@ -7,7 +7,7 @@ fn main() -> Result<(), Box<dyn std::error::Error>> {
     let siv = GcmSiv::new(&std::fs::read(file)?)?;
     let mut text = *b"a message";
     let (nonce, tag) = siv.seal_random(b"its name", &mut text)?;
-    // Send nonce, name, text and tag. Whoever has the key opens the message:
+    // Send nonce, name, text and tag. Anyone who has the key opens the message:
     siv.open(&nonce, b"its name", &mut text, &tag)?; // an error if anything was changed
     println!("{}", std::str::from_utf8(&text)?);
     Ok(())

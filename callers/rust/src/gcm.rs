@@ -4,7 +4,7 @@
 //! **In GCM never use a nonce twice under one key**, over all messages, programs and restarts. If a nonce of a key is
 //! random, or has another length than 12 bytes, take a new key before 2^32 messages.
 
-use crate::{boxed, InvalidLength};
+use crate::{boxed, Aes, InvalidLength};
 use fotsgure_sys::{fotsgure_gcm_siv_seal_random, gcm as c};
 use std::fmt;
 
@@ -63,6 +63,12 @@ fn opened(status: u32) -> Result<(), Refused> {
         c::FOTSGURE_GCM_DONE => Ok(()),
         _ => Err(Refused),
     }
+}
+
+/// The lengths of two buffers, which are the same.
+fn same_length(text: &[u8], output: &[u8]) -> usize {
+    assert_eq!(text.len(), output.len(), "text and output differ in length");
+    text.len()
 }
 
 /// A key of AES-GCM-SIV, of 16 or 32 bytes. It is on the heap, so that a move leaves no copy of it, and is zeroized when
@@ -137,6 +143,57 @@ impl GcmSiv {
         // SAFETY: as above.
         opened(unsafe { c::fotsgure_gcm_siv_open(&*self.0, nonce, data, length, at, count, tag) })
     }
+
+    /// `seal` from one buffer to another of the same length.
+    ///
+    /// # Errors
+    ///
+    /// [`NotSealed::TooLong`].
+    ///
+    /// # Panics
+    ///
+    /// Panics if the buffers differ in length.
+    pub fn seal_to(
+        &self,
+        nonce: &[u8; 12],
+        additional: &[u8],
+        text: &[u8],
+        output: &mut [u8],
+    ) -> Result<[u8; 16], NotSealed> {
+        let mut tag = [0; 16];
+        let (data, length) = (additional.as_ptr(), additional.len());
+        let count = same_length(text, output);
+        let (from, to) = (text.as_ptr(), output.as_mut_ptr());
+        // SAFETY: as above.
+        sealed(unsafe {
+            c::fotsgure_gcm_siv_seal_to(&*self.0, nonce, data, length, from, count, to, count, &mut tag)
+        })?;
+        Ok(tag)
+    }
+
+    /// `open` from one buffer to another of the same length. If the message is refused, the output is all zeros.
+    ///
+    /// # Errors
+    ///
+    /// [`Refused`].
+    ///
+    /// # Panics
+    ///
+    /// Panics if the buffers differ in length.
+    pub fn open_to(
+        &self,
+        nonce: &[u8; 12],
+        additional: &[u8],
+        text: &[u8],
+        tag: &[u8; 16],
+        output: &mut [u8],
+    ) -> Result<(), Refused> {
+        let (data, length) = (additional.as_ptr(), additional.len());
+        let count = same_length(text, output);
+        let (from, to) = (text.as_ptr(), output.as_mut_ptr());
+        // SAFETY: as above.
+        opened(unsafe { c::fotsgure_gcm_siv_open_to(&*self.0, nonce, data, length, from, count, to, count, tag) })
+    }
 }
 
 impl Drop for GcmSiv {
@@ -202,6 +259,14 @@ impl Gcm {
         }
     }
 
+    /// Prepares the key that a block cipher has, which costs no key expansion.
+    pub fn of(aes: &Aes) -> Gcm {
+        // SAFETY: the call writes the whole struct and reads none of it; the other one has a key.
+        let (status, gcm) = unsafe { boxed(|gcm| c::fotsgure_gcm_set_key_of(gcm, aes.as_c())) };
+        assert_eq!(status, c::FOTSGURE_GCM_DONE);
+        Gcm(gcm)
+    }
+
     /// Encrypts a text in place under a nonce of yours, and returns the tag (SP 800-38D, 7.1). The additional data
     /// isn't encrypted, and the tag covers it.
     ///
@@ -252,6 +317,62 @@ impl Gcm {
         // SAFETY: as above.
         opened(unsafe { c::fotsgure_gcm_open(&*self.0, iv, iv_length, data, length, at, count, wanted, size) })
     }
+
+    /// `seal` from one buffer to another of the same length.
+    ///
+    /// # Errors
+    ///
+    /// [`NotSealed::NonceLength`], [`NotSealed::TooLong`].
+    ///
+    /// # Panics
+    ///
+    /// Panics if the buffers differ in length.
+    pub fn seal_to(
+        &self,
+        nonce: &[u8],
+        additional: &[u8],
+        text: &[u8],
+        output: &mut [u8],
+    ) -> Result<[u8; 16], NotSealed> {
+        let mut tag = [0; 16];
+        let (iv, iv_length) = (nonce.as_ptr(), nonce.len());
+        let (data, length) = (additional.as_ptr(), additional.len());
+        let count = same_length(text, output);
+        let (from, to) = (text.as_ptr(), output.as_mut_ptr());
+        // SAFETY: as above.
+        sealed(unsafe {
+            c::fotsgure_gcm_seal_to(&*self.0, iv, iv_length, data, length, from, count, to, count, &mut tag)
+        })?;
+        Ok(tag)
+    }
+
+    /// `open` from one buffer to another of the same length. If the tag is wrong, the output is all zeros.
+    ///
+    /// # Errors
+    ///
+    /// [`Refused`].
+    ///
+    /// # Panics
+    ///
+    /// Panics if the buffers differ in length.
+    pub fn open_to(
+        &self,
+        nonce: &[u8],
+        additional: &[u8],
+        text: &[u8],
+        tag: &[u8],
+        output: &mut [u8],
+    ) -> Result<(), Refused> {
+        let (iv, iv_length) = (nonce.as_ptr(), nonce.len());
+        let (data, length) = (additional.as_ptr(), additional.len());
+        let count = same_length(text, output);
+        let (from, to) = (text.as_ptr(), output.as_mut_ptr());
+        let (wanted, size) = (tag.as_ptr(), tag.len());
+        // SAFETY: as above.
+        opened(unsafe {
+            c::fotsgure_gcm_open_to(&*self.0, iv, iv_length, data, length, from, count, to, count, wanted, size)
+        })
+    }
 }
 
 impl Drop for Gcm {
@@ -282,7 +403,9 @@ pub enum NotTaken {
 impl fmt::Display for NotTaken {
     fn fmt(&self, f: &mut fmt::Formatter<'_>) -> fmt::Result {
         f.write_str(match self {
-            NotTaken::OutOfTurn => "it isn't the turn of this call",
+            NotTaken::OutOfTurn => {
+                "the calls came in the wrong order, for example text after finish, or decrypt before accept"
+            }
             NotTaken::TooLong => "more than GCM allows, or than was verified",
             NotTaken::Refused => "the message was refused",
         })
@@ -423,7 +546,7 @@ impl Message<'_> {
     }
 
     /// Compares a tag of 4, 8 or 12 to 15 bytes in the place of `accept` (SP 800-38D, 5.2.1.2). `fixed_length` is how many
-    /// bytes all tags under the key have. It is fixed with the key: **never take it from a message**, or whoever forges one
+    /// bytes all tags under the key have. It is fixed with the key: **never read it from a message**, or whoever forges one
     /// chooses how few bytes have to be right. For 4 and 8 bytes read appendix C of the standard first.
     ///
     /// # Errors

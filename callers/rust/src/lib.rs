@@ -10,7 +10,7 @@
 //! let siv = GcmSiv::new(&key)?;
 //! let mut text = *b"a message";
 //! let (nonce, tag) = siv.seal_random(b"its name", &mut text)?;
-//! // Send nonce, name, text and tag. Whoever has the key opens the message:
+//! // Send nonce, name, text and tag. Anyone who has the key opens the message:
 //! siv.open(&nonce, b"its name", &mut text, &tag)?;
 //! assert_eq!(&text, b"a message");
 //! # Ok::<(), Box<dyn std::error::Error>>(())
@@ -24,8 +24,7 @@
 //!
 //! # Where it works
 //!
-//! On x86-64 with SSSE3 and SSE4.2 (Linux, Android, the BSDs, Windows), on 64-bit ARM, and on 64-bit RISC-V with vectors.
-//! rustc assembles the code, so no C compiler is needed. No instructions for AES are used, and no tables.
+//! On x86-64 (Linux, Android, the BSDs, Windows), on 64-bit ARM and RISC-V, and on 32-bit ARM (Linux). rustc assembles the code, so no C compiler is needed. No instructions for AES are used, and no tables.
 //!
 //! Keys are on the heap, so that a move leaves no copy, and are wiped when a value is dropped.
 

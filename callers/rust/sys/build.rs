@@ -1,5 +1,50 @@
-//! Does nothing: Cargo wants a build script of a package with `links`, by which it refuses this one twice in a program.
+//! Says which assembly of dist is for the target, as `dist/machine.h` does for C compilers: the folder, and what stands behind a
+//! library's name there.
+
+use std::env;
 
 fn main() {
     println!("cargo:rerun-if-changed=build.rs");
+    let target = env::var("TARGET").unwrap();
+    let (folder, ending) = assembly(&target).unwrap_or_else(|| {
+        panic!(
+            "no assembly is for {target}: there is some for x86_64 on Linux, Android, FreeBSD, NetBSD, OpenBSD and Windows; for \
+             aarch64, riscv64, armv7 (Linux), riscv32im.. and Cortex-M (thumb..), also without a system"
+        )
+    });
+    println!("cargo:rustc-env=FOTSGURE_FOLDER={folder}");
+    println!("cargo:rustc-env=FOTSGURE_ENDING={ending}");
+}
+
+fn is(variable: &str, values: &[&str]) -> bool {
+    let value = env::var(format!("CARGO_CFG_{variable}")).unwrap_or_default();
+    values.contains(&value.as_str())
+}
+
+fn assembly(target: &str) -> Option<(&'static str, &'static str)> {
+    let (linux, bare) = (is("TARGET_OS", &["linux", "android"]), is("TARGET_OS", &["none"]));
+    let (bits_64, unix) = (is("TARGET_POINTER_WIDTH", &["64"]), linux || is("TARGET_OS", &["freebsd", "netbsd"]));
+    if !is("TARGET_ENDIAN", &["little"]) {
+        return None;
+    }
+    match target.split('-').next()? {
+        "x86_64" if bits_64 && is("TARGET_OS", &["windows"]) => Some(("windows_x86_64", "")),
+        "x86_64" if bits_64 && (unix || is("TARGET_OS", &["openbsd"])) => Some(("x86_64", "")),
+        "aarch64" if bits_64 && (unix || bare) => Some(("aarch64", "")),
+        it if it.starts_with("riscv64") && (unix || bare) => {
+            Some(("riscv64", if has_vectors() { "" } else { "_narrow" }))
+        }
+        it if it.starts_with("riscv32im") && bare => Some(("riscv32", "")),
+        it if it.starts_with("armv7") && linux => Some(("arm", "")),
+        "thumbv6m" | "thumbv8m.base" if bare => Some(("thumb", "_v6m")),
+        "thumbv7m" | "thumbv7em" | "thumbv8m.main" if bare => Some(("thumb", "_v7m")),
+        _ => None,
+    }
+}
+
+/// Whether the program is built for RISC-V's vectors (`-C target-feature=+v`). Stable Rust doesn't say so by a cfg.
+fn has_vectors() -> bool {
+    let flags = env::var("CARGO_ENCODED_RUSTFLAGS").unwrap_or_default();
+    let features = flags.split('\u{1f}').filter_map(|it| it.split("target-feature=").nth(1));
+    features.flat_map(|it| it.split(',')).any(|it| it == "+v")
 }

@@ -1,6 +1,7 @@
 //! GCM and AES-GCM-SIV through this crate: the standards' examples, whole and in pieces, and every refusal.
 
 use fotsgure_aes::gcm::{Counter, Gcm, GcmSiv, NotSealed, NotTaken, Refused};
+use fotsgure_aes::Aes;
 
 // Test case 4 of the submission of GCM (McGrew and Viega, appendix B).
 const KEY: &str = "feffe9928665731c6d6a8f9467308308";
@@ -37,6 +38,22 @@ fn case_4() {
     assert_eq!(gcm.seal(b"", &additional, &mut text), Err(NotSealed::NonceLength));
     assert_eq!(gcm.open(&nonce, &additional, &mut text, &tag), Ok(()));
     assert_eq!(text, bytes_of(PLAIN));
+}
+
+#[test]
+fn case_4_to_another_buffer() {
+    let (nonce, additional, tag) = (bytes_of(NONCE), bytes_of(ADDITIONAL), bytes_of(TAG));
+    for gcm in [gcm(), Gcm::of(&Aes::new(&bytes_of(KEY)).unwrap())] {
+        let (mut sealed, mut opened) = (vec![1; PLAIN.len() / 2], vec![2; PLAIN.len() / 2]);
+        assert_eq!(gcm.seal_to(&nonce, &additional, &bytes_of(PLAIN), &mut sealed).unwrap()[..], tag[..]);
+        assert_eq!(sealed, bytes_of(CIPHER));
+        assert_eq!(gcm.open_to(&nonce, &additional, &sealed, &tag[..15], &mut opened), Err(Refused));
+        assert_eq!(opened, vec![2; PLAIN.len() / 2]);
+        assert_eq!(gcm.open_to(&nonce, b"", &sealed, &tag, &mut opened), Err(Refused));
+        assert_eq!(opened, vec![0; PLAIN.len() / 2]);
+        assert_eq!(gcm.open_to(&nonce, &additional, &sealed, &tag, &mut opened), Ok(()));
+        assert_eq!(opened, bytes_of(PLAIN));
+    }
 }
 
 /// A text of each length comes back; one that was changed doesn't, and stays as it was.
@@ -124,8 +141,14 @@ fn gcm_siv_c_1() {
     let tag = siv.seal(&nonce, b"", &mut text).unwrap();
     assert_eq!(text, bytes_of("b5d839330ac7b786"));
     assert_eq!(tag[..], bytes_of("578782fff6013b815b287c22493a364c"));
+    let mut opened = [2; 8];
+    assert_eq!(siv.open_to(&nonce, b"another name", &text, &tag, &mut opened), Err(Refused));
+    assert_eq!(opened, [0; 8]);
+    assert_eq!(siv.open_to(&nonce, b"", &text, &tag, &mut opened), Ok(()));
+    assert_eq!(siv.seal_to(&nonce, b"", &opened, &mut [0; 8]), Ok(tag));
     assert_eq!(siv.open(&nonce, b"", &mut text, &tag), Ok(()));
     assert_eq!(text, bytes_of("0100000000000000"));
+    assert_eq!(opened[..], text);
 }
 
 #[test]

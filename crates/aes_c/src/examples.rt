@@ -22,7 +22,7 @@ pub fn numbers_of_the_header()
     ensures tag_length { TAG_LENGTH ≡ 7 }
     ensures nonce_length { NONCE_LENGTH ≡ 8 }
     ensures too_long { TOO_LONG ≡ 9 }
-    ensures version { VERSION ≡ 300 }
+    ensures version { VERSION ≡ 400 }
 {}
 
 // How many bytes the structs have by the header, with nothing between their fields.

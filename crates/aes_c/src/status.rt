@@ -32,4 +32,4 @@ pub const TOO_LONG: u32 = 9;
 
 /// The version of the interface: 10000 times the first number, 100 times the second, plus the
 /// third.
-pub const VERSION: u32 = 300;
+pub const VERSION: u32 = 400;

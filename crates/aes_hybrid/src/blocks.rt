@@ -57,8 +57,7 @@ impl<D: LaneRounds + PlaneCipher, W: Width> Lent<'_, D, W> {
         ensures { Each (D.processed (fips.key_expansion self.now)) blocks.old blocks.new }
     {
         let whole = blocks_on_planes::<D, W>(blocks.len());
-        let (keys, _) = self.lists();
-        process_first::<D, W::Many>(keys, blocks, whole);
+        process_first::<D, W::Many>(self.keys(), blocks, whole);
         self.process_few(&mut blocks[whole..]);
     }
 }

@@ -58,8 +58,7 @@ pub(crate) fn lend_to_encrypt<W: Width, F: BlockCipherEncClosure>(
     ensures { F.did f.old (fips.key_expansion few.now) f.new }
 {
     if blocks >= W::LEAST_FOR_CLOSURES {
-        let (keys, _) = few.lists();
-        lend_planes_to_encrypt::<W, F>(keys, f);
+        lend_planes_to_encrypt::<W, F>(few.keys(), f);
     } else {
         f.call(few);
     }
@@ -108,8 +107,7 @@ pub(crate) fn lend_to_decrypt<W: Width, F: BlockCipherDecClosure>(
     ensures { F.did f.old (fips.key_expansion few.now) f.new }
 {
     if blocks >= W::LEAST_FOR_CLOSURES {
-        let (keys, inverse) = few.lists();
-        lend_planes_to_decrypt::<W, F>(keys, inverse, f);
+        lend_planes_to_decrypt::<W, F>(few.keys(), few.used(), f);
     } else {
         f.call(few);
     }

@@ -66,15 +66,21 @@ impl<'a, D: LaneRounds, W> Lent<'a, D, W> {
         }
     }
 
-    /// Returns the stored round keys of Cipher, and those of the direction.
+    /// Returns the stored round keys of Cipher.
     #[inline(always)]
-    pub(crate) fn lists(&self) -> (&'a [Block], &'a [Block])
-        ensures keyed { IsCipherSchedule result.0.now }
-        ensures used { round_keys_of D.form result.1.now
-            ≡ D.form.used_keys (encrypting result.0.now) }
-        ensures key { key_of_lanes result.0.now ≡ self.now }
+    pub(crate) fn keys(&self) -> &'a [Block]
+        ensures keyed { IsCipherSchedule result.now }
+        ensures key { key_of_lanes result.now ≡ self.now }
     {
-        (self.keys, self.used)
+        self.keys
+    }
+
+    /// Returns those of the direction.
+    #[inline(always)]
+    pub(crate) fn used(&self) -> &'a [Block]
+        ensures { round_keys_of D.form result.now ≡ D.form.used_keys (fips.key_expansion self.now) }
+    {
+        self.used
     }
 
     /// Processes a block in place by vector permutations.

@@ -3,12 +3,14 @@
 //!
 //! `bytes n 0x..` is the n bytes that these digits write.
 
-ghost use Rattle.std.specs.Prelude.{◌≡◌, ◌<◌, ◌≤◌, ℕ, ◌+◌, ◌*◌, List, [], ◌++◌, length, replicate};
+ghost use Rattle.std.specs.Prelude.{◌≡◌, ◌<◌, ◌≤◌, ℕ, ◌+◌, ◌*◌, ◌/◌, List, [], ◌++◌, length};
+ghost use Rattle.std.specs.Prelude.{replicate};
 ghost use Rattle.std.specs.List.{slice_range};
 ghost use Rattle.aes_planes.specs.BigEndian.{bytes};
 ghost use Rattle.aes_planes.specs.Fips197 as fips;
+ghost use Rattle.cmac.specs.Chain.{chained, chained_through, padded};
 ghost use Rattle.cmac.specs.Cmac.{doubled_block, subkey_1, subkey_2, before_last, last_block};
-ghost use Rattle.cmac.specs.Cmac.{chained, cmac};
+ghost use Rattle.cmac.specs.Cmac.{cmac};
 
 // The blocks that the examples encrypt: the block of zeros, those of the messages with 40 and with
 // 64 bytes in their order, and the last ones of all four.
@@ -65,13 +67,16 @@ pub fn chain_rules()
     ensures none { before_last 0 ≡ 0 }
     ensures least { (n : ℕ) → 1 ≤ n → 16 * before_last n < n }
     ensures most { (n : ℕ) → n ≤ 16 * before_last n + 16 }
-    ensures begun { (w : List (List ℕ)) (message : List ℕ) → chained w message 0 ≡ replicate 16 0 }
-    ensures next { (w : List (List ℕ)) (message : List ℕ) (i : ℕ) → chained w message (i + 1)
-        ≡ fips.cipher_with w (fips.add_round_key (chained w message i)
+    ensures begun { (w : List (List ℕ)) (y message : List ℕ) → chained w y message 0 ≡ y }
+    ensures next { (w : List (List ℕ)) (y message : List ℕ) (i : ℕ) → chained w y message (i + 1)
+        ≡ fips.cipher_with w (fips.add_round_key (chained w y message i)
         (slice_range message (16 * i) (16 * i + 16))) }
+    ensures through { (w : List (List ℕ)) (y message : List ℕ) → chained_through w y message
+        ≡ chained w y (padded message) (length (padded message) / 16) }
     ensures tag { (w : List (List ℕ)) (message : List ℕ) → cmac w message
         ≡ fips.cipher_with w (fips.add_round_key
-        (chained w message (before_last (length message))) (last_block w (slice_range message
+        (chained w (replicate 16 0) message (before_last (length message)))
+        (last_block w (slice_range message
         (16 * before_last (length message)) (length message)))) }
 {}
 

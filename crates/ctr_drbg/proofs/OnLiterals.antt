@@ -4,7 +4,7 @@ use Rattle.std.specs.Prelude.{⊤}
 use Rattle.aes_planes.specs.Fips197.{build, build_from, cipher}
 use Rattle.aes_planes.specs.BigEndian.{bytes}
 use Rattle.ctr_drbg.specs.CtrDrbg.{State, padded, exclusive_or, v_after, temp_after, turns, output}
-use Rattle.ctr_drbg.specs.CtrDrbg.{update, instantiate, reseed, next_v}
+use Rattle.ctr_drbg.specs.CtrDrbg.{update, instantiate, reseed, next_v, returned_bits, generate}
 
 -- the definitions to unfold, so that strings on literals are computed
 unfoldable pub strings_on_literals : ⊤
@@ -15,6 +15,11 @@ strings_on_literals = tt
 unfoldable pub turns_on_literals : ⊤
 unfolding bytes next_v v_after temp_after
 turns_on_literals = tt
+
+-- the definitions of the calls, by their steps
+unfoldable pub requests : ⊤
+unfolding padded exclusive_or output update instantiate returned_bits generate
+requests = tt
 
 -- the state whose Key and V are temp
 abbrev pub state_of : List ℕ → ℕ → State

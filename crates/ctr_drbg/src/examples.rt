@@ -5,12 +5,13 @@
 //!
 //! `bytes n 0x..` is the n bytes that these digits write.
 
-ghost use Rattle.std.specs.Prelude.{◌≡◌, ◌<◌, ◌≤◌, ℕ, ◌+◌, ◌*◌, ◌^◌, List, [], ◌∷◌, ◌++◌, replicate};
+ghost use Rattle.std.specs.Prelude.{◌≡◌, ◌<◌, ◌≤◌, ℕ, ◌+◌, ◌-◌, ◌*◌, ◌^◌, List, [], ◌∷◌, ◌++◌};
+ghost use Rattle.std.specs.Prelude.{drop, length, replicate, slice_index, take};
 ghost use Rattle.aes_planes.specs.BigEndian.{bytes};
 ghost use Rattle.aes_planes.specs.Fips197 as fips;
 ghost use Rattle.ctr_drbg.specs.CtrDrbg.{State, padded, exclusive_or, instantiate, reseed, update};
 ghost use Rattle.ctr_drbg.specs.CtrDrbg.{generate, prepared, returned_bits, turns};
-ghost use Rattle.ctr_drbg.specs.CtrDrbg.{next_v, v_after, temp_after};
+ghost use Rattle.ctr_drbg.specs.CtrDrbg.{next_v, output, v_after, temp_after};
 
 /// A string is padded behind it; a personalization string is summed with the first bytes of the
 /// entropy input, here 20 with ff; and a reseed of the state of zeros is an instantiation.
@@ -66,6 +67,42 @@ pub fn additional_input_rules()
     ensures some { (x : ℕ) (xs : List ℕ) (s : State)
         → prepared (x ∷ xs) s ≡ update (padded (x ∷ xs)) s }
     ensures none { (s : State) → prepared [] s ≡ s }
+{}
+
+/// Strings, updates and requests of any length, by their steps: padding; the sum of two strings, byte
+/// by byte; output, cut from as many blocks as it needs; an update; an instantiation and a reseed; and
+/// what a request returns and leaves (10.2.1.2 to 10.2.1.5.1).
+#[tactic(auto, unfolding(crate::proofs::OnLiterals::requests))]
+pub fn request_rules()
+    ensures padded { (x : List ℕ) → padded x ≡ x ++ replicate (48 - length x) 0 }
+    ensures summed { (x y : List ℕ) → exclusive_or x y ≡ fips.build (length x)
+        (λ i. fips.field_add (slice_index x i) (slice_index y i)) }
+    ensures output { (key v : List ℕ) (n : ℕ) → output key v n
+        ≡ take n (temp_after key v (turns n)) }
+    ensures key { (provided : List ℕ) (s : State) → (update provided s).key
+        ≡ take 32 (exclusive_or (output s.key s.v 48) provided) }
+    ensures v { (provided : List ℕ) (s : State) → (update provided s).v
+        ≡ drop 32 (exclusive_or (output s.key s.v 48) provided) }
+    ensures instantiated { (entropy_input string : List ℕ) → instantiate entropy_input string
+        ≡ update (exclusive_or entropy_input (padded string)) (record {
+          key = replicate 32 0;
+          v = replicate 16 0;
+          reseed_counter = 1;
+        }) }
+    ensures returned { (n : ℕ) (x : List ℕ) (s : State) → returned_bits n x s
+        ≡ output (prepared x s).key (prepared x s).v n }
+    ensures left { (n : ℕ) (x : List ℕ) (s : State) → (generate n x s).key
+        ≡ (update (padded x) (record {
+          key = (prepared x s).key;
+          v = v_after (prepared x s).v (turns n);
+          reseed_counter = s.reseed_counter;
+        })).key }
+    ensures moved { (n : ℕ) (x : List ℕ) (s : State) → (generate n x s).v
+        ≡ (update (padded x) (record {
+          key = (prepared x s).key;
+          v = v_after (prepared x s).v (turns n);
+          reseed_counter = s.reseed_counter;
+        })).v }
 {}
 
 /// Whatever reseed_counter was, a reseed sets it to 1, and a request counts it on.

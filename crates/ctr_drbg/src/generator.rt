@@ -1,7 +1,7 @@
 //! The generator.
 
-ghost use Rattle.std.specs.Prelude.{◌≡◌, ◌≢◌, ◌↔◌, ◌⊎◌, ◌<◌, ◌≤◌, ◌^◌, length, take, drop, IsErr};
-ghost use Rattle.std.specs.Prelude.{IsErrOf, IfOk, OnOk, OnErr};
+ghost use Rattle.std.specs.Prelude.{◌≡◌, ◌≢◌, ◌↔◌, ◌⊎◌, ◌<◌, ◌≤◌, ◌+◌, ◌-◌, ◌^◌, length, take, drop};
+ghost use Rattle.std.specs.Prelude.{replicate, IsErr, IsErrOf, IfOk, OnOk, OnErr};
 ghost use Rattle.ctr_drbg.specs.CtrDrbg as nist;
 
 use crate::errors::{InvalidSeed, NotGenerated};
@@ -158,6 +158,26 @@ impl<C: BlockCipherEncrypt + KeyInit + Drop> CtrDrbg<C> {
         self.answer(additional_input, output);
         wipe_stack::<CALL_STACK>();
         Ok(())
+    }
+
+    /// Returns how many more requests `generate` answers before it asks for a reseed: 2^48 after a
+    /// seed, and one less after each request. At 0 it refuses the next one.
+    pub fn requests_left(&self) -> u64
+        ensures { result ≡ (2 ^ 48 + 1) - self.now.reseed_counter }
+    {
+        (RESEED_INTERVAL + 1).saturating_sub(self.reseed_counter)
+    }
+
+    /// Forgets the seed (Uninstantiate, 9.4): Key and V are zeros, and every request is refused with
+    /// `ReseedRequired`, until `reseed` brings in a new seed.
+    pub fn uninstantiate(&mut self)
+        ensures key { self.new.key ≡ replicate 32 0 }
+        ensures v { self.new.v ≡ replicate 16 0 }
+        ensures counter { self.new.reseed_counter ≡ 2 ^ 48 + 1 }
+    {
+        self.v.wipe();
+        self.cipher = keyed(&[0; KEY_LENGTH]);
+        self.set_counter(RESEED_INTERVAL + 1);
     }
 
     // The reseed, of strings that are allowed. In a call of its own, so that its stack can be

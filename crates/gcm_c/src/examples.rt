@@ -34,7 +34,7 @@ pub fn numbers_of_the_header()
     ensures nonces_end { NONCES_END ≡ 7 }
     ensures out_of_turn { OUT_OF_TURN ≡ 8 }
     ensures unequal_lengths { UNEQUAL_LENGTHS ≡ 10 }
-    ensures version { VERSION ≡ 300 }
+    ensures version { VERSION ≡ 400 }
 {}
 
 // How many bytes the structs have by the header, with nothing between their fields.

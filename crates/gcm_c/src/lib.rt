@@ -55,7 +55,7 @@ pub use width::BuildWidth;
 
 /// The version of the interface: 10000 times the first number, 100 times the second, plus the
 /// third.
-pub const VERSION: u32 = 300;
+pub const VERSION: u32 = 400;
 
 /// Returns the version of the library; programs compare it with that of their header.
 #[unsafe(no_mangle)]

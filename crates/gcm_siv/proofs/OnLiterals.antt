@@ -23,6 +23,11 @@ unfolding bytes build build_from state add_round_key plus_stream byte_of_blocks 
     first_counter text_under tag text
 siv_on_literals = tt
 
+-- the definitions of POLYVAL, one step of each
+unfoldable pub polyval_steps : ⊤
+unfolding block_at summed polyval
+polyval_steps = tt
+
 -- the definitions of a message under its keys, down to the cipher of a key
 unfoldable pub siv_messages : ⊤
 unfolding cipher hash tag_under tag keystream_byte counter_mode text_under text

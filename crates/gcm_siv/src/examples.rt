@@ -5,7 +5,7 @@
 //! `bytes n 0x..` is the n bytes that these digits write.
 
 ghost use Rattle.std.specs.Prelude.{◌≡◌, ◌↔◌, ◌⊎◌, ◌+◌, ◌-◌, ◌*◌, ◌/◌, ◌%◌, ◌^◌, ◌<◌, ◌≤◌, ℕ, List, []};
-ghost use Rattle.std.specs.Prelude.{◌∷◌, ◌++◌, length, replicate, slice_index, IfOk, IsErr};
+ghost use Rattle.std.specs.Prelude.{suc, ◌∷◌, ◌++◌, length, replicate, slice_index, IfOk, IsErr};
 ghost use Rattle.std.specs.List.{slice_range};
 ghost use Rattle.std.specs.Int.Bits.{bit_xor};
 ghost use Rattle.std.specs.Int.{w32, w128, from_le_bytes, to_le_bytes};
@@ -13,8 +13,8 @@ ghost use Rattle.aes_planes.specs.BigEndian.{bytes};
 ghost use Rattle.aes_planes.specs.Fips197 as fips;
 ghost use Rattle.gcm_siv.specs.GcmSiv.{authentication_key, encryption_key, first_counter};
 ghost use Rattle.gcm_siv.specs.GcmSiv.{IsAuthentic, IsKeySize, counter_block, dot, inverse_power};
-ghost use Rattle.gcm_siv.specs.GcmSiv.{hash, length_block, polyval, summed, tag, tag_input};
-ghost use Rattle.gcm_siv.specs.GcmSiv.{text, times, times_power};
+ghost use Rattle.gcm_siv.specs.GcmSiv.{block_at, hash, length_block, polyval, summed, tag};
+ghost use Rattle.gcm_siv.specs.GcmSiv.{tag_input, text, times, times_power};
 ghost use Rattle.gcm.specs.Gcm.{padded};
 ghost use Rattle.aes_ctr.specs.CounterMode.{plus_stream};
 
@@ -53,13 +53,14 @@ pub fn polyval_examples()
 
 /// POLYVAL of no blocks is 0, and each further block is summed and multiplied in the same way,
 /// however many came before (3).
-#[tactic(auto, unfolding(crate::proofs::OnLiterals::siv_on_literals))]
+#[tactic(auto, unfolding(crate::proofs::OnLiterals::polyval_steps))]
 pub fn polyval_rules()
     ensures none { (h : ℕ) → polyval h [] ≡ 0 }
     ensures begun { (h s : ℕ) (x : List ℕ) → summed h s x 0 ≡ s }
-    ensures next { (h s : ℕ) (x : List ℕ) (j : ℕ) → summed h s x (j + 1)
-        ≡ dot (bit_xor (summed h s x j)
-        (from_le_bytes w128 (slice_range x (16 * j) (16 * j + 16)))) h }
+    ensures block { (x : List ℕ) (j : ℕ)
+        → block_at x j ≡ from_le_bytes w128 (slice_range x (16 * j) (16 * j + 16)) }
+    ensures next { (h s : ℕ) (x : List ℕ) (j : ℕ)
+        → summed h s x (suc j) ≡ dot (bit_xor (summed h s x j) (block_at x j)) h }
     ensures whole { (h : ℕ) (x : List ℕ) → polyval h x ≡ summed h 0 x (length x / 16) }
 {}
 

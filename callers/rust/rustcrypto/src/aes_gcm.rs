@@ -22,16 +22,16 @@
 //! - `encrypt..`, if the text has more than [`P_MAX`] bytes, the additional data more than [`A_MAX`], or the nonce none;
 //! - `decrypt..`, in the same cases, and if the tag isn't that of this key, nonce, additional data and text.
 //!
-//! A text that is refused stays as it was, in place or from buffer to buffer: the tag is compared first.
-//! `encrypt_in_place` and `decrypt_in_place` also fail if the buffer can't hold a tag, or holds none.
+//! A text that is refused stays as it was. From buffer to buffer the output is then all zeros; with short tags it is as it
+//! was. `encrypt_in_place` and `decrypt_in_place` also fail if the buffer can't hold a tag, or holds none.
 //!
 //! # Not as in `aes-gcm`
 //!
 //! [`AesGcm`] isn't generic over any block cipher: its first parameter is [`Aes128`], [`Aes192`] or [`Aes256`] of this
-//! crate. There is no `From` of such a cipher: make the value of the key. With nonces of another length than 12 bytes
+//! crate. With nonces of another length than 12 bytes
 //! the time of a call can tell whether and where a counter of 32 bits wraps, and so something of the key.
 
-use crate::keys;
+use crate::keys::{self, Text};
 use aead::{TagPosition, inout::InOutBuf};
 use cipher::array::{Array, ArraySize};
 use cipher::consts::{U12, U16};
@@ -115,8 +115,8 @@ where
         AesGcm { key: keys::Gcm::new(key), sizes: PhantomData }
     }
 
-    /// Encrypts in place (SP 800-38D, 7.1), and returns the first bytes of the tag.
-    fn seal<Tag: Default + AsMut<[u8]>>(&self, nonce: &[u8], additional: &[u8], text: &mut [u8]) -> Option<Tag> {
+    /// Encrypts (SP 800-38D, 7.1), and returns the first bytes of the tag.
+    fn seal<Tag: Default + AsMut<[u8]>>(&self, nonce: &[u8], additional: &[u8], text: Text<'_, '_>) -> Option<Tag> {
         let whole = self.key.seal(nonce, additional, text).ok()?;
         let mut tag = Tag::default();
         let bytes = tag.as_mut();
@@ -124,20 +124,33 @@ where
         Some(tag)
     }
 
-    /// Decrypts in place (SP 800-38D, 7.2).
-    fn open(&self, nonce: &[u8], additional: &[u8], text: &mut [u8], tag: &[u8]) -> Result<(), keys::Refused> {
+    /// Decrypts (SP 800-38D, 7.2).
+    fn open(&self, nonce: &[u8], additional: &[u8], text: Text<'_, '_>, tag: &[u8]) -> Result<(), keys::Refused> {
         if tag.len() == 16 {
             self.key.open(nonce, additional, text, tag)
         } else {
-            self.key.verify(nonce, additional, text, tag)?.decrypt(text)
+            let accepted = self.key.verify(nonce, additional, text.get_in(), tag)?;
+            accepted.decrypt(text.into_out_with_copied_in())
         }
     }
 }
 
-/// Whether lengths are allowed: then a call doesn't refuse a text for its length.
-fn fits(nonce: &[u8], additional: &[u8], length: usize) -> bool {
-    !nonce.is_empty() && additional.len() as u64 <= A_MAX && length as u64 <= P_MAX
+macro_rules! of_cipher {
+    ($($name:ident),*) => {
+        $(
+            /// Takes the key of a block cipher, which costs no key expansion.
+            impl<NonceSize, TagSize> From<$name> for AesGcm<$name, NonceSize, TagSize>
+            where
+                TagSize: self::TagSize,
+            {
+                fn from(cipher: $name) -> Self {
+                    AesGcm { key: keys::Gcm::of(&cipher.0), sizes: PhantomData }
+                }
+            }
+        )*
+    };
 }
+of_cipher!(Aes128, Aes192, Aes256);
 
 impl<Aes: KeySizeUser, NonceSize, TagSize> KeySizeUser for AesGcm<Aes, NonceSize, TagSize>
 where
@@ -176,27 +189,17 @@ where
         associated_data: &[u8],
         buffer: InOutBuf<'_, '_, u8>,
     ) -> Result<Tag<TagSize>, Error> {
-        // Before the text is copied to where it is encrypted.
-        if !fits(nonce, associated_data, buffer.len()) {
-            return Err(Error);
-        }
-        self.seal(nonce, associated_data, buffer.into_out_with_copied_in()).ok_or(Error)
+        self.seal(nonce, associated_data, buffer).ok_or(Error)
     }
 
     fn decrypt_inout_detached(
         &self,
         nonce: &Nonce<NonceSize>,
         associated_data: &[u8],
-        mut buffer: InOutBuf<'_, '_, u8>,
+        buffer: InOutBuf<'_, '_, u8>,
         tag: &Tag<TagSize>,
     ) -> Result<(), Error> {
-        let output = buffer.get_out().as_ptr();
-        if buffer.get_in().as_ptr() == output {
-            return self.open(nonce, associated_data, buffer.into_out(), tag).map_err(|_| Error);
-        }
-        // Nothing is written to another buffer before the tag was found right.
-        let accepted = self.key.verify(nonce, associated_data, buffer.get_in(), tag).map_err(|_| Error)?;
-        accepted.decrypt(buffer.into_out_with_copied_in()).map_err(|_| Error)
+        self.open(nonce, associated_data, buffer, tag).map_err(|_| Error)
     }
 }
 
@@ -215,7 +218,7 @@ impl<Aes, NonceSize, TagSize> zeroize::ZeroizeOnDrop for AesGcm<Aes, NonceSize, 
 /// The traits of aead 0.5 and cipher 0.4.
 #[cfg(feature = "aead05")]
 mod v05 {
-    use super::{AesGcm, TagSize, fits};
+    use super::{AesGcm, TagSize};
     use aead05::generic_array::{ArrayLength, GenericArray};
     use aead05::{AeadCore, AeadInPlace, Error, Key, KeyInit, KeySizeUser};
 
@@ -242,10 +245,7 @@ mod v05 {
             associated_data: &[u8],
             buffer: &mut [u8],
         ) -> Result<GenericArray<u8, Size>, Error> {
-            if !fits(nonce, associated_data, buffer.len()) {
-                return Err(Error);
-            }
-            self.seal(nonce, associated_data, buffer).ok_or(Error)
+            self.seal(nonce, associated_data, buffer.into()).ok_or(Error)
         }
 
         fn decrypt_in_place_detached(
@@ -255,7 +255,7 @@ mod v05 {
             buffer: &mut [u8],
             tag: &GenericArray<u8, Size>,
         ) -> Result<(), Error> {
-            self.open(nonce, associated_data, buffer, tag).map_err(|_| Error)
+            self.open(nonce, associated_data, buffer.into(), tag).map_err(|_| Error)
         }
     }
 }

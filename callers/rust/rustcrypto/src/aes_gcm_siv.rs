@@ -21,7 +21,7 @@
 //! - `decrypt..`, in the same cases, and if the tag isn't that of this key, nonce, additional data and text.
 //!
 //! In place, a text that is refused is, when the call returns, as it was; during the call it is decrypted. From buffer to
-//! buffer the output then holds the encrypted text. `encrypt_in_place` and `decrypt_in_place` also fail if the buffer
+//! buffer the output is then all zeros. `encrypt_in_place` and `decrypt_in_place` also fail if the buffer
 //! can't hold a tag, or holds none.
 
 use crate::keys;
@@ -98,12 +98,7 @@ impl<Aes> AeadInOut for AesGcmSiv<Aes> {
         associated_data: &[u8],
         buffer: InOutBuf<'_, '_, u8>,
     ) -> Result<Tag, Error> {
-        // Before the text is copied to where it is encrypted.
-        if buffer.len() as u64 > P_MAX || associated_data.len() as u64 > A_MAX {
-            return Err(Error);
-        }
-        let tag = self.key.seal(&nonce.0, associated_data, buffer.into_out_with_copied_in());
-        tag.map(Array).map_err(|_| Error)
+        self.key.seal(&nonce.0, associated_data, buffer).map(Array).map_err(|_| Error)
     }
 
     fn decrypt_inout_detached(
@@ -113,8 +108,7 @@ impl<Aes> AeadInOut for AesGcmSiv<Aes> {
         buffer: InOutBuf<'_, '_, u8>,
         tag: &Tag,
     ) -> Result<(), Error> {
-        let text = buffer.into_out_with_copied_in();
-        self.key.open(&nonce.0, associated_data, text, &tag.0).map_err(|_| Error)
+        self.key.open(&nonce.0, associated_data, buffer, &tag.0).map_err(|_| Error)
     }
 }
 
@@ -158,7 +152,7 @@ mod v05 {
             associated_data: &[u8],
             buffer: &mut [u8],
         ) -> Result<GenericArray<u8, consts::U16>, Error> {
-            let tag = self.key.seal(nonce.as_ref(), associated_data, buffer);
+            let tag = self.key.seal(nonce.as_ref(), associated_data, buffer.into());
             tag.map(Into::into).map_err(|_| Error)
         }
 
@@ -169,7 +163,7 @@ mod v05 {
             buffer: &mut [u8],
             tag: &GenericArray<u8, consts::U16>,
         ) -> Result<(), Error> {
-            self.key.open(nonce.as_ref(), associated_data, buffer, tag.as_ref()).map_err(|_| Error)
+            self.key.open(nonce.as_ref(), associated_data, buffer.into(), tag.as_ref()).map_err(|_| Error)
         }
     }
 }

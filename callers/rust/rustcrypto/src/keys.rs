@@ -1,6 +1,20 @@
 //! Keys that are prepared for GCM and for AES-GCM-SIV, and the calls on them: every `unsafe` of both is here.
 
+use crate::schedule::Schedule;
+use aead::inout::InOutBuf;
 use fotsgure_sys::gcm as c;
+
+/// A text that is read in one buffer and written in the same or in another one.
+pub(crate) type Text<'inp, 'out> = InOutBuf<'inp, 'out, u8>;
+
+fn into_raw(text: Text<'_, '_>) -> (*const u8, *mut u8, usize) {
+    let count = text.len();
+    let (input, output) = text.into_raw();
+    (input, output, count)
+}
+
+/// A struct without a key.
+const NO_KEY: c::fotsgure_gcm = c::fotsgure_gcm { key_length: 0, round_keys: [0; 240], multiples: [0; 1536] };
 
 /// A message of which nothing has come.
 const NO_MESSAGE: c::fotsgure_gcm_message = c::fotsgure_gcm_message {
@@ -27,48 +41,53 @@ pub(crate) struct Gcm(c::fotsgure_gcm);
 impl Gcm {
     /// Prepares a key of 16, 24 or 32 bytes.
     pub(crate) fn new(key: &[u8]) -> Self {
-        let mut gcm = Gcm(c::fotsgure_gcm { key_length: 0, round_keys: [0; 240], multiples: [0; 1536] });
+        let mut gcm = Gcm(NO_KEY);
         // SAFETY: the pointers come from references that are valid for the call, and one of them is mutable.
         let status = unsafe { c::fotsgure_gcm_set_key(&mut gcm.0, key.as_ptr(), key.len()) };
         assert_eq!(status, c::FOTSGURE_GCM_DONE, "types have keys of 16, 24 or 32 bytes alone");
         gcm
     }
 
-    /// Encrypts a text in place, and returns the whole tag.
-    pub(crate) fn seal(&self, nonce: &[u8], additional: &[u8], text: &mut [u8]) -> Result<[u8; 16], Refused> {
+    /// The same with the key of a block cipher.
+    pub(crate) fn of(cipher: &Schedule) -> Self {
+        let mut gcm = Gcm(NO_KEY);
+        // SAFETY: as above; the other struct holds a key.
+        let status = unsafe { c::fotsgure_gcm_set_key_of(&mut gcm.0, cipher.as_c()) };
+        assert_eq!(status, c::FOTSGURE_GCM_DONE, "a schedule has a key");
+        gcm
+    }
+
+    /// Encrypts a text, and returns the whole tag.
+    pub(crate) fn seal(&self, nonce: &[u8], additional: &[u8], text: Text<'_, '_>) -> Result<[u8; 16], Refused> {
         let mut tag = [0; 16];
-        // SAFETY: `self` holds a key; the slices are borrowed for the call, and those that are written are mutable, so
-        // that they overlap nothing.
-        done(unsafe {
-            c::fotsgure_gcm_seal(
-                &self.0,
-                nonce.as_ptr(),
-                nonce.len(),
-                additional.as_ptr(),
-                additional.len(),
-                text.as_mut_ptr(),
-                text.len(),
-                &mut tag,
-            )
+        let (iv, iv_length) = (nonce.as_ptr(), nonce.len());
+        let (data, length) = (additional.as_ptr(), additional.len());
+        let (from, to, count) = into_raw(text);
+        done(if from == to.cast_const() {
+            // SAFETY: `self` holds a key; the slices are borrowed for the call, and those that are written are mutable, so
+            // that they overlap nothing.
+            unsafe { c::fotsgure_gcm_seal(&self.0, iv, iv_length, data, length, to, count, &mut tag) }
+        } else {
+            // SAFETY: as above; the two buffers of a `Text` are the same or don't overlap.
+            unsafe { c::fotsgure_gcm_seal_to(&self.0, iv, iv_length, data, length, from, count, to, count, &mut tag) }
         })?;
         Ok(tag)
     }
 
-    /// Decrypts a text in place if its tag of 16 bytes is right.
-    pub(crate) fn open(&self, nonce: &[u8], additional: &[u8], text: &mut [u8], tag: &[u8]) -> Result<(), Refused> {
-        // SAFETY: as in `seal`.
-        done(unsafe {
-            c::fotsgure_gcm_open(
-                &self.0,
-                nonce.as_ptr(),
-                nonce.len(),
-                additional.as_ptr(),
-                additional.len(),
-                text.as_mut_ptr(),
-                text.len(),
-                tag.as_ptr(),
-                tag.len(),
-            )
+    /// Decrypts a text if its tag of 16 bytes is right. If it isn't, another buffer is zeros.
+    pub(crate) fn open(&self, nonce: &[u8], additional: &[u8], text: Text<'_, '_>, tag: &[u8]) -> Result<(), Refused> {
+        let (iv, iv_length) = (nonce.as_ptr(), nonce.len());
+        let (data, length) = (additional.as_ptr(), additional.len());
+        let (from, to, count) = into_raw(text);
+        let (wanted, size) = (tag.as_ptr(), tag.len());
+        done(if from == to.cast_const() {
+            // SAFETY: as in `seal`.
+            unsafe { c::fotsgure_gcm_open(&self.0, iv, iv_length, data, length, to, count, wanted, size) }
+        } else {
+            // SAFETY: as in `seal`.
+            unsafe {
+                c::fotsgure_gcm_open_to(&self.0, iv, iv_length, data, length, from, count, to, count, wanted, size)
+            }
         })
     }
 
@@ -141,29 +160,39 @@ impl GcmSiv {
         siv
     }
 
-    /// Encrypts a text in place, and returns its tag.
-    pub(crate) fn seal(&self, nonce: &[u8; 12], additional: &[u8], text: &mut [u8]) -> Result<[u8; 16], Refused> {
+    /// Encrypts a text, and returns its tag.
+    pub(crate) fn seal(&self, nonce: &[u8; 12], additional: &[u8], text: Text<'_, '_>) -> Result<[u8; 16], Refused> {
         let mut tag = [0; 16];
-        let (data, bytes) = (additional.as_ptr(), text.as_mut_ptr());
-        let (length, count) = (additional.len(), text.len());
-        // SAFETY: `self` holds a key; the slices are borrowed for the call, and those that are written are mutable, so
-        // that they overlap nothing.
-        done(unsafe { c::fotsgure_gcm_siv_seal(&self.0, nonce, data, length, bytes, count, &mut tag) })?;
+        let (data, length) = (additional.as_ptr(), additional.len());
+        let (from, to, count) = into_raw(text);
+        done(if from == to.cast_const() {
+            // SAFETY: `self` holds a key; the slices are borrowed for the call, and those that are written are mutable, so
+            // that they overlap nothing.
+            unsafe { c::fotsgure_gcm_siv_seal(&self.0, nonce, data, length, to, count, &mut tag) }
+        } else {
+            // SAFETY: as above; the two buffers of a `Text` are the same or don't overlap.
+            unsafe { c::fotsgure_gcm_siv_seal_to(&self.0, nonce, data, length, from, count, to, count, &mut tag) }
+        })?;
         Ok(tag)
     }
 
-    /// Decrypts a text in place if its tag is right.
+    /// Decrypts a text if its tag is right. If it isn't, another buffer is zeros.
     pub(crate) fn open(
         &self,
         nonce: &[u8; 12],
         additional: &[u8],
-        text: &mut [u8],
+        text: Text<'_, '_>,
         tag: &[u8; 16],
     ) -> Result<(), Refused> {
-        let (data, bytes) = (additional.as_ptr(), text.as_mut_ptr());
-        let (length, count) = (additional.len(), text.len());
-        // SAFETY: as in `seal`.
-        done(unsafe { c::fotsgure_gcm_siv_open(&self.0, nonce, data, length, bytes, count, tag) })
+        let (data, length) = (additional.as_ptr(), additional.len());
+        let (from, to, count) = into_raw(text);
+        done(if from == to.cast_const() {
+            // SAFETY: as in `seal`.
+            unsafe { c::fotsgure_gcm_siv_open(&self.0, nonce, data, length, to, count, tag) }
+        } else {
+            // SAFETY: as in `seal`.
+            unsafe { c::fotsgure_gcm_siv_open_to(&self.0, nonce, data, length, from, count, to, count, tag) }
+        })
     }
 }
 

@@ -39,7 +39,6 @@
 //!
 //! - No instructions for AES are used: [`hardware_accelerated`] returns false. That is the point on processors without
 //!   them, and the price on others.
-//! - There is no `hazmat`: the C library has no calls for single rounds.
 //! - It needs `std` for nothing, and libc's `memcpy`, `memmove` and `memset`, on x86-64 with SSSE3 and SSE4.2 and on
 //!   64-bit ARM; 16 KiB of stack.
 //! - With the feature `zeroize` the types are `ZeroizeOnDrop`. They are wiped without it too.
@@ -47,7 +46,7 @@
 //! # Features
 //!
 //! `aead`, with `alloc`, `arrayvec`, `bytes`, `getrandom` and `rand_core` as in the crate `aead`; `zeroize`;
-//! `hazmat-tags`, tags of 4 and 8 bytes; `cipher04` and `aead05`, the same types under the traits that aes 0.8 and aes-gcm
+//! `hazmat`, single rounds; `hazmat-tags`, tags of 4 and 8 bytes; `cipher04` and `aead05`, the same types under the traits that aes 0.8 and aes-gcm
 //! 0.10 have.
 
 #![no_std]
@@ -57,6 +56,8 @@
 pub mod aes_gcm;
 #[cfg(feature = "aead")]
 pub mod aes_gcm_siv;
+#[cfg(feature = "hazmat")]
+pub mod hazmat;
 #[cfg(feature = "aead")]
 mod keys;
 mod schedule;

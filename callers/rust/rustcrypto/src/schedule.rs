@@ -25,6 +25,12 @@ impl Schedule {
         schedule
     }
 
+    /// The struct of C, which has a key.
+    #[cfg(feature = "aead")]
+    pub(crate) fn as_c(&self) -> *const c::fotsgure_aes {
+        &self.0
+    }
+
     /// Encrypts blocks, in place or from buffer to buffer.
     #[inline]
     pub(crate) fn encrypt(&self, blocks: Blocks<'_, '_>) {

@@ -14,7 +14,7 @@ macro_rules! common {
         ///
         /// The key schedule (484 bytes, for both directions) is in the value, and is overwritten when it is dropped.
         #[derive(Clone)]
-        pub struct $name(Schedule);
+        pub struct $name(pub(crate) Schedule);
 
         impl KeySizeUser for $name {
             type KeySize = $key_size;

@@ -83,6 +83,47 @@ fn marked() {
     marked::<Aes128Dec>();
 }
 
+/// FIPS 197, C.1: the first rounds of Cipher and of EqInvCipher.
+#[cfg(feature = "hazmat")]
+mod single_rounds {
+    use fotsgure_rustcrypto::hazmat::*;
+
+    fn block(number: u128) -> Block {
+        Block::from(number.to_be_bytes())
+    }
+
+    fn turns(round: fn(&mut Block, &Block), round_par: fn(&mut Block8, &Block8), key: u128, start: u128, end: u128) {
+        let mut one = block(start);
+        round(&mut one, &block(key));
+        assert_eq!(one, block(end));
+        let mut eight = Block8::from([block(start); 8]);
+        round_par(&mut eight, &Block8::from([block(key); 8]));
+        assert_eq!(eight, Block8::from([block(end); 8]));
+    }
+
+    #[test]
+    fn of_cipher() {
+        let (start, end) = (0x00102030405060708090a0b0c0d0e0f0, 0x89d810e8855ace682d1843d8cb128fe4);
+        turns(cipher_round, cipher_round_par, 0xd6aa74fdd2af72fadaa678f1d6ab76fe, start, end);
+    }
+
+    #[test]
+    fn of_equiv_inv_cipher() {
+        let (start, end) = (0x7ad5fda789ef4e272bca100b3d9ff59f, 0x54d990a16ba09ab596bbf40ea111702f);
+        turns(equiv_inv_cipher_round, equiv_inv_cipher_round_par, 0x13aa29be9c8faff6f770f58000f7bf03, start, end);
+    }
+
+    #[test]
+    fn columns() {
+        let (row, column) = (block(0xbd6e7c3df2b5779e0b61216e8b10b689), block(0x4773b91ff72f354361cb018ea1e6cf2c));
+        let mut mixed = row;
+        inv_mix_columns(&mut mixed);
+        assert_eq!(mixed, column);
+        mix_columns(&mut mixed);
+        assert_eq!(mixed, row);
+    }
+}
+
 #[cfg(feature = "aead")]
 mod messages {
     use super::{is_shared, is_wiped};
@@ -101,9 +142,8 @@ mod messages {
         assert!(is_wiped(Aes128GcmSiv::new(&[42; 16].into())));
     }
 
-    /// In place and from buffer to buffer; a text that is refused isn't given out. `Some` is what a refused text leaves in
-    /// another buffer.
-    fn comes_back<A: AeadInOut>(aead: &A, nonce: &aead::Nonce<A>, leaves_sealed: bool) {
+    /// In place and from buffer to buffer; a text that is refused isn't given out, and leaves `left` in another buffer of 2.
+    fn comes_back<A: AeadInOut>(aead: &A, nonce: &aead::Nonce<A>, left: u8) {
         for length in [0, 1, 15, 16, 17, 64, 300] {
             let text: Vec<u8> = (0..length).map(|i| i as u8).collect();
             let (mut sealed, mut other, mut opened) = (text.clone(), vec![1; length], vec![2; length]);
@@ -114,7 +154,7 @@ mod messages {
 
             let pair = aead::inout::InOutBuf::new(&sealed, &mut opened).unwrap();
             assert_eq!(aead.decrypt_inout_detached(nonce, b"another", pair, &tag), Err(Error));
-            assert_eq!(opened, if leaves_sealed { sealed.clone() } else { vec![2; length] });
+            assert_eq!(opened, vec![left; length]);
             let mut wrong = tag.clone();
             *wrong.last_mut().unwrap() ^= 1;
             assert_eq!(aead.decrypt_inout_detached(nonce, b"name", other.as_mut_slice().into(), &wrong), Err(Error));
@@ -129,18 +169,30 @@ mod messages {
 
     #[test]
     fn gcm() {
-        comes_back(&Aes128Gcm::new(&[1; 16].into()), &[2; 12].into(), false);
-        comes_back(&AesGcm::<Aes192, U1, U12>::new(&[1; 24].into()), &[2; 1].into(), false);
-        comes_back(&AesGcm::<Aes128, U16, U13>::new(&[1; 16].into()), &[2; 16].into(), false);
-        comes_back(&Aes256GcmSiv::new(&[1; 32].into()), &[2; 12].into(), true);
+        comes_back(&Aes128Gcm::new(&[1; 16].into()), &[2; 12].into(), 0);
+        comes_back(&AesGcm::<Aes192, U1, U12>::new(&[1; 24].into()), &[2; 1].into(), 2);
+        comes_back(&AesGcm::<Aes128, U16, U13>::new(&[1; 16].into()), &[2; 16].into(), 2);
+        comes_back(&Aes256GcmSiv::new(&[1; 32].into()), &[2; 12].into(), 0);
+    }
+
+    /// A key of GCM from a cipher's is that of the same bytes.
+    #[test]
+    fn of_a_cipher() {
+        let (mut text, mut other) = ([3; 40], [3; 40]);
+        let tag = AesGcm::<Aes192, U12>::new(&[1; 24].into())
+            .encrypt_inout_detached(&[2; 12].into(), b"name", text.as_mut_slice().into())
+            .unwrap();
+        let gcm = AesGcm::<Aes192, U12>::from(Aes192::new(&[1; 24].into()));
+        assert_eq!(gcm.encrypt_inout_detached(&[2; 12].into(), b"name", other.as_mut_slice().into()), Ok(tag));
+        assert_eq!(text, other);
     }
 
     #[cfg(feature = "hazmat-tags")]
     #[test]
     fn short_tags() {
         use cipher::consts::{U4, U8};
-        comes_back(&AesGcm::<Aes128, U12, U4>::new(&[1; 16].into()), &[2; 12].into(), false);
-        comes_back(&AesGcm::<Aes128, U12, U8>::new(&[1; 16].into()), &[2; 12].into(), false);
+        comes_back(&AesGcm::<Aes128, U12, U4>::new(&[1; 16].into()), &[2; 12].into(), 2);
+        comes_back(&AesGcm::<Aes128, U12, U8>::new(&[1; 16].into()), &[2; 12].into(), 2);
     }
 
     #[test]

@@ -1,8 +1,9 @@
 // Made by tools/dist from dist/include/fotsgure_aes.h. Don't edit it.
 //! What `fotsgure_aes.h` declares. The header says what each call does, and what you have to ensure.
 
-pub const FOTSGURE_AES_VERSION: u32 = 300;
+pub const FOTSGURE_AES_VERSION: u32 = 400;
 pub const FOTSGURE_AES_BLOCK: u32 = 16;
+pub const FOTSGURE_AES_EIGHT_BLOCKS: u32 = 128;
 pub const FOTSGURE_AES_STACK: u32 = 16384;
 pub const FOTSGURE_AES_DONE: u32 = 0;
 pub const FOTSGURE_AES_KEY_LENGTH: u32 = 1;
@@ -11,6 +12,9 @@ pub const FOTSGURE_AES_UNEQUAL_COUNTS: u32 = 3;
 pub const FOTSGURE_AES_KEYSTREAM_END: u32 = 4;
 pub const FOTSGURE_AES_INVALID_COUNT: u32 = 5;
 pub const FOTSGURE_AES_REFUSED: u32 = 6;
+pub const FOTSGURE_AES_TAG_LENGTH: u32 = 7;
+pub const FOTSGURE_AES_NONCE_LENGTH: u32 = 8;
+pub const FOTSGURE_AES_TOO_LONG: u32 = 9;
 
 #[repr(C)]
 #[derive(Clone)]
@@ -64,6 +68,20 @@ library! {
         output_count: usize) -> u32;
     fn fotsgure_aes_unwrap_padded(aes: *const fotsgure_aes, input: *const u8, input_count: usize, output: *mut u8,
         output_count: usize, key_length: *mut usize) -> u32;
+    fn fotsgure_aes_cmac(aes: *const fotsgure_aes, message: *const u8, message_length: usize,
+        tag: *mut [u8; 16]) -> u32;
+    fn fotsgure_aes_cmac_verify(aes: *const fotsgure_aes, message: *const u8, message_length: usize, tag: *const u8,
+        tag_length: usize) -> u32;
+    fn fotsgure_aes_ccm_seal(aes: *const fotsgure_aes, nonce: *const u8, nonce_length: usize, additional: *const u8,
+        additional_length: usize, text: *mut u8, text_length: usize, tag: *mut u8, tag_length: usize) -> u32;
+    fn fotsgure_aes_ccm_open(aes: *const fotsgure_aes, nonce: *const u8, nonce_length: usize, additional: *const u8,
+        additional_length: usize, text: *mut u8, text_length: usize, tag: *const u8, tag_length: usize) -> u32;
+    fn fotsgure_aes_cipher_round(block: *mut [u8; 16], round_key: *const [u8; 16]);
+    fn fotsgure_aes_equiv_inv_cipher_round(block: *mut [u8; 16], round_key: *const [u8; 16]);
+    fn fotsgure_aes_cipher_round_par(blocks: *mut [u8; 128], round_keys: *const [u8; 128]);
+    fn fotsgure_aes_equiv_inv_cipher_round_par(blocks: *mut [u8; 128], round_keys: *const [u8; 128]);
+    fn fotsgure_aes_mix_columns(block: *mut [u8; 16]);
+    fn fotsgure_aes_inv_mix_columns(block: *mut [u8; 16]);
     fn fotsgure_aes_encrypt_blocks_with(key: *const u8, key_length: usize, blocks: *mut u8, count: usize) -> u32;
     fn fotsgure_aes_decrypt_blocks_with(key: *const u8, key_length: usize, blocks: *mut u8, count: usize) -> u32;
     fn fotsgure_aes_add_keystream_with(key: *const u8, key_length: usize, ctr: *mut fotsgure_aes_ctr,

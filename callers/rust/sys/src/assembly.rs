@@ -1,86 +1,54 @@
 //! The assembly of dist, and the calls that it exports.
 
-#[cfg(not(any(
-    all(
-        target_arch = "x86_64",
-        target_pointer_width = "64",
-        any(
-            target_os = "linux",
-            target_os = "android",
-            target_os = "freebsd",
-            target_os = "netbsd",
-            target_os = "openbsd",
-            windows
-        )
-    ),
-    all(
-        any(target_arch = "aarch64", target_arch = "riscv64"),
-        target_endian = "little",
-        target_pointer_width = "64",
-        any(target_os = "linux", target_os = "android", target_os = "freebsd", target_os = "netbsd")
-    ),
-)))]
-compile_error!(
-    "fotsgure-sys has assembly for x86-64 on Linux, Android, FreeBSD, NetBSD, OpenBSD and Windows, and for 64-bit ARM \
-     and RISC-V with vectors on Linux, Android, FreeBSD and NetBSD; not for this target"
-);
+/// Around assembly that may have an extension of RISC-V that the target hasn't: vectors.
+#[cfg(target_arch = "riscv64")]
+macro_rules! extensions {
+    (push) => {
+        ".option push\n.option arch, +m, +a, +f, +d, +c, +v"
+    };
+    (pop) => {
+        ".option pop"
+    };
+}
+#[cfg(not(target_arch = "riscv64"))]
+macro_rules! extensions {
+    ($it:ident) => {
+        ""
+    };
+}
 
 /// Assembles a file of dist. With `in_rust` it leaves out what it would say of the whole object, and exports hidden names of its own.
 macro_rules! assembled {
-    ($file:literal $(, $dialect:ident)?) => {
+    ($($name:expr),*; $($option:ident),*) => {
         core::arch::global_asm!(
+            extensions!(push),
             ".set in_rust, 1",
-            include_str!(concat!("../dist/", $file)),
+            include_str!(concat!("../dist/", env!("FOTSGURE_FOLDER"), "/", $($name,)* ".s")),
             ".text",
-            options($($dialect,)? raw)
-        );
-    };
-    // Code for another processor than the one that rustc builds for.
-    ($file:literal with $extensions:literal) => {
-        core::arch::global_asm!(
-            ".set in_rust, 1",
-            ".option push",
-            concat!(".option arch, ", $extensions),
-            include_str!(concat!("../dist/", $file)),
-            ".text",
-            ".option pop",
-            options(raw)
+            extensions!(pop),
+            options($($option),*)
         );
     };
 }
 
-#[cfg(all(target_arch = "x86_64", not(windows)))]
+#[cfg(target_arch = "x86_64")]
 mod of_target {
-    assembled!("x86_64/aes.s", att_syntax);
-    assembled!("x86_64/aes_v3.s", att_syntax);
+    assembled!("aes_v1"; att_syntax, raw);
+    assembled!("aes"; att_syntax, raw);
+    assembled!("aes_v3"; att_syntax, raw);
     #[cfg(feature = "gcm")]
-    assembled!("x86_64/gcm.s", att_syntax);
+    assembled!("gcm_v1"; att_syntax, raw);
     #[cfg(feature = "gcm")]
-    assembled!("x86_64/gcm_v3.s", att_syntax);
+    assembled!("gcm"; att_syntax, raw);
+    #[cfg(feature = "gcm")]
+    assembled!("gcm_v3"; att_syntax, raw);
 }
 
-#[cfg(all(target_arch = "x86_64", windows))]
+#[cfg(not(target_arch = "x86_64"))]
 mod of_target {
-    assembled!("windows_x86_64/aes.s", att_syntax);
-    assembled!("windows_x86_64/aes_v3.s", att_syntax);
+    assembled!("aes", env!("FOTSGURE_ENDING"); raw);
     #[cfg(feature = "gcm")]
-    assembled!("windows_x86_64/gcm.s", att_syntax);
-    #[cfg(feature = "gcm")]
-    assembled!("windows_x86_64/gcm_v3.s", att_syntax);
-}
-
-#[cfg(target_arch = "aarch64")]
-mod of_target {
-    assembled!("aarch64/aes.s");
-    #[cfg(feature = "gcm")]
-    assembled!("aarch64/gcm.s");
-}
-
-#[cfg(target_arch = "riscv64")]
-mod of_target {
-    assembled!("riscv64/aes.s" with "+m, +a, +f, +d, +c, +v");
-    #[cfg(feature = "gcm")]
-    assembled!("riscv64/gcm.s" with "+m, +a, +f, +d, +c, +v");
+    assembled!("gcm", env!("FOTSGURE_ENDING"); raw);
 }
 
 /// Declares the calls of one build of a library, by the prefix that its assembly gives to names.
@@ -101,6 +69,10 @@ macro_rules! build {
 macro_rules! library {
     ($library:literal: $(fn $name:ident($($it:ident: $type:ty),*) $(-> $result:ty)?;)*) => {
         #[cfg(target_arch = "x86_64")]
+        mod v1 {
+            build! { concat!($library, "_v1"); $(fn $name($($it: $type),*) $(-> $result)?;)* }
+        }
+        #[cfg(target_arch = "x86_64")]
         mod v2 {
             build! { concat!($library, "_v2"); $(fn $name($($it: $type),*) $(-> $result)?;)* }
         }
@@ -110,7 +82,7 @@ macro_rules! library {
         }
         #[cfg(not(target_arch = "x86_64"))]
         mod only {
-            build! { $library; $(fn $name($($it: $type),*) $(-> $result)?;)* }
+            build! { concat!($library, env!("FOTSGURE_ENDING")); $(fn $name($($it: $type),*) $(-> $result)?;)* }
         }
         $(
             #[allow(clippy::missing_safety_doc, clippy::too_many_arguments)]
@@ -119,7 +91,11 @@ macro_rules! library {
                 #[cfg(not(target_arch = "x86_64"))]
                 return only::$name($($it),*);
                 #[cfg(target_arch = "x86_64")]
-                if crate::choose::takes_v3() { v3::$name($($it),*) } else { v2::$name($($it),*) }
+                match crate::choose::build() {
+                    crate::choose::V3 => v3::$name($($it),*),
+                    crate::choose::V2 => v2::$name($($it),*),
+                    _ => v1::$name($($it),*),
+                }
             }
         )*
     };

@@ -2,6 +2,9 @@
 
 use crate::gcm::{fotsgure_gcm_siv, fotsgure_gcm_siv_seal, FOTSGURE_GCM_DONE, FOTSGURE_GCM_NO_RANDOMNESS};
 
+#[cfg(not(any(unix, windows)))]
+compile_error!("the feature `random` needs a system that has random numbers: take the feature `gcm`");
+
 /// Fills a nonce with random bytes, and returns whether the system had them.
 #[cfg(windows)]
 fn draw(nonce: &mut [u8; 12]) -> bool {

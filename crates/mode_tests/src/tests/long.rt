@@ -6,6 +6,7 @@ use aes_cipher::cipher::{Block, KeyInit};
 use aes_hybrid::widths::Narrow;
 use aes_hybrid::{Aes256Enc, BothLists};
 use cbc::Cbc;
+use ccm::encrypt;
 use cmac::tag;
 use ctr_drbg::CtrDrbg;
 use gcm::Gcm;
@@ -71,6 +72,18 @@ fn messages(rt: HostRuntime) {
             0x3d422c77fd817c65e39c92e864623c84
         )
     );
+}
+
+#[test]
+fn a_message_of_ccm(rt: HostRuntime) {
+    let plain = counted::<LENGTH>();
+    let mut text = plain;
+    let mut tag = [0; 16];
+    let cipher = <Aes256Enc>::new(&counted());
+    let nonce: [u8; 12] = counted();
+    assert!(rt; encrypt(&cipher, &nonce, &plain[..4999], &mut text, &mut tag).is_ok());
+    assert!(rt; digest(&text) == 0x00335687b9e3f8b3726e3970d42c4965);
+    assert!(rt; u128::from_be_bytes(tag) == 0x8a58104cb59df7e801a3f84f1edc504a);
 }
 
 // A chain of 313 blocks, a key of 512 semiblocks, and one of 4,099 bytes, padded.

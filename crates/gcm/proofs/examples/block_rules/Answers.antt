@@ -1,0 +1,8 @@
+-- What is left to show of `examples::block_rules`.
+use Rattle.std.proofs.Common.{refl}
+use Rattle.gcm.specs.Gcm.{hashed}
+use Rattle.gcm.proofs.examples.block_rules.Goals as goal
+
+pub returns-clause-next : goal.returns-clause-next
+unfolding hashed
+returns-clause-next c h y x i = refl

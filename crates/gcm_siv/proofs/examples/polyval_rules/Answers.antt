@@ -1,0 +1,8 @@
+-- What is left to show of `examples::polyval_rules`.
+use Rattle.std.proofs.Common.{refl}
+use Rattle.gcm_siv.specs.GcmSiv.{summed}
+use Rattle.gcm_siv.proofs.examples.polyval_rules.Goals as goal
+
+pub returns-clause-next : goal.returns-clause-next
+unfolding summed
+returns-clause-next c h s x j = refl
