@@ -326,6 +326,7 @@ TABLE.update({
     "ext": made(lambda m, lane, a, b, n: (a + b)[n:n + len(a)]),
     "xtn": made(lambda m, lane, a: joined(lanes(a, lane)[::2])),
     "uzp1": made(lambda m, lane, a, b: joined(lanes(a + b, lane)[::2])),
+    "trn1": made(lambda m, lane, a, b: joined(x + y for x, y in list(zip(lanes(a, lane), lanes(b, lane)))[::2])),
     "zip1": made(lambda m, lane, a, b: interleaved(a, b, lane)[:len(a)]),
     "zip2": made(lambda m, lane, a, b: interleaved(a, b, lane)[len(a):]),
     **dict.fromkeys(("fmov", "umov"), lambda m, name, to, a: m.write(to, m.read(a) + [0] * (to.size - a.size))),

@@ -149,6 +149,8 @@ def gcm_vectors(k):
             yield k.seal(20, 60, first), key, dict(given, text=G_PLAIN), {"text": cipher, "tag": tag}
             if len(nonce) == 24:
                 yield k.open(20, 60, first), key, dict(given, text=cipher, tag=tag), {"text": G_PLAIN}
+                yield k.seal(20, 60, first, "_to"), key, dict(given, input=G_PLAIN), {"output": cipher, "tag": tag}
+                yield k.open(20, 60, first, "_to"), key, dict(given, input=cipher, tag=tag), {"output": G_PLAIN}
 
 
 def counter_of(key, nonce):
@@ -167,6 +169,8 @@ def siv_vectors(k):
             a, n, given = len(more) // 2, len(plain) // 2, {"nonce": nonce, "additional": more}
             yield k.seal(a, n), key, dict(given, text=plain), {"text": cipher, "tag": tag}
             yield k.open(a, n), key, dict(given, text=cipher, tag=tag), {"text": plain}
+            yield k.seal(a, n, "_to"), key, dict(given, input=plain), {"output": cipher, "tag": tag}
+            yield k.open(a, n, "_to"), key, dict(given, input=cipher, tag=tag), {"output": plain}
 
 
 def checked(keyed):

@@ -18,7 +18,7 @@ ALIGNED, UNALIGNED = ("movdqa", "movaps", "vmovdqa", "vmovaps"), ("movdqu", "mov
 
 class X86_64(Machine):
     """With the System V ABI, in which the stack is aligned to 16 bytes before the return address is pushed."""
-    tools, objdump, only_wide = "", ("-M", "intel"), "v.*|andn|bzhi|mulx|movbe"
+    tools, objdump, only_wide = "", ("-M", "intel"), "v.*|andn|bzhi|mulx|movbe|shrx"
     registers, stack_pointer = R64, "rsp"
     vector_count, vector_size = 16, 32
     arguments, result, pushed = "rdi rsi rdx rcx r8 r9".split(), "rax", (RETURN_ADDRESS,)
@@ -180,6 +180,19 @@ def shld(m, name, to, source, count):
     m.put(to, m.unbits(b))
 
 
+@TABLE.of("shrd")
+def shrd(m, name, to, source, count):
+    n = constant("the count of a shift", m.get(count)) & 63
+    b = (m.bits(m.get(to), to.size) + m.bits(m.get(source), to.size))[n:][:8 * to.size]
+    m.set_flags()
+    m.put(to, m.unbits(b))
+
+
+@TABLE.of("shrx")
+def shrx(m, name, to, a, count):
+    m.put(to, m.shift("lsr", m.get(a), constant("the count of a shift", m.get(count)) & 8 * to.size - 1, to.size))
+
+
 @TABLE.of("bt")
 def bt(m, name, a, b):
     if not isinstance(a, Register):
@@ -279,6 +292,7 @@ VECTORS = {
 }
 for _width, _letter in (1, "bw"), (2, "wd"), (4, "dq"), (8, "qdq"):
     VECTORS["punpckl" + _letter] = in_halves(lambda m, a, b, width=_width: interleaved(a[:8], b[:8], width))
+    VECTORS["punpckh" + _letter] = in_halves(lambda m, a, b, width=_width: interleaved(a[8:], b[8:], width))
 for _width, _letter in (2, "w"), (4, "d"), (8, "q"):
     VECTORS["psll" + _letter] = whole(lambda m, a, n, width=_width: m.shift_lanes("lsl", a, width, n))
     VECTORS["psrl" + _letter] = whole(lambda m, a, n, width=_width: m.shift_lanes("lsr", a, width, n))
@@ -312,7 +326,10 @@ TABLE.update({
     "pshuflw": in_halves(lambda m, a, n: permuted(a[:8], 2, n) + a[8:]),
     "pshufhw": in_halves(lambda m, a, n: a[:8] + permuted(a[8:], 2, n)),
     "vpermq": whole(lambda m, a, n: permuted(a, 8, n)),
+    "vpermd": whole(lambda m, order, a: joined(a[4 * (constant("an index", m.from_bytes(n)) & 7):][:4] for n in lanes(order, 4))),
     "vpblendd": whole(blended(4)),
+    "vpblendvb": whole(lambda m, a, b, mask: [y if constant("a mask", m.from_bytes([n])) >> 7 else x for x, y, n in zip(a, b, mask)]),
+    "vpmovzxbq": lambda m, name, to, a: m.write(to, joined([x] + [0] * 7 for x in m.read(a)[:to.size // 8])),
     "vpsllvq": whole(variable_shift("lsl")),
     "vpsrlvq": whole(variable_shift("lsr")),
     "vbroadcasti128": broadcast(16),
