@@ -1,7 +1,8 @@
 //! Says which assembly of dist is for the target, as `dist/machine.h` does for C compilers: the folder, and what stands behind a
-//! library's name there.
+//! library's name there. The folder dist is in this package if it was packed, and else that of the repository.
 
 use std::env;
+use std::path::Path;
 
 fn main() {
     println!("cargo:rerun-if-changed=build.rs");
@@ -12,6 +13,13 @@ fn main() {
              aarch64, riscv64, armv7 (Linux), riscv32im.. and Cortex-M (thumb..), also without a system"
         )
     });
+    let package = env::var("CARGO_MANIFEST_DIR").unwrap();
+    let places = ["dist", "../../../dist"].map(|it| Path::new(&package).join(it));
+    let dist = places.iter().find(|it| it.join("BUILD").exists());
+    let dist = dist.unwrap_or_else(|| {
+        panic!("there is no folder dist in {package}, nor three folders above it: copy that of the repository there")
+    });
+    println!("cargo:rustc-env=FOTSGURE_DIST={}", dist.display());
     println!("cargo:rustc-env=FOTSGURE_FOLDER={folder}");
     println!("cargo:rustc-env=FOTSGURE_ENDING={ending}");
 }

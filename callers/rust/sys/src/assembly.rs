@@ -23,7 +23,7 @@ macro_rules! assembled {
         core::arch::global_asm!(
             extensions!(push),
             ".set in_rust, 1",
-            include_str!(concat!("../dist/", env!("FOTSGURE_FOLDER"), "/", $($name,)* ".s")),
+            include_str!(concat!(env!("FOTSGURE_DIST"), "/", env!("FOTSGURE_FOLDER"), "/", $($name,)* ".s")),
             ".text",
             extensions!(pop),
             options($($option),*)
