@@ -59,11 +59,11 @@ class KeyedSiv(KeyedGcm):
         self.own_stream = self.aes.cipher(counter + self.own_tag[4:15] + [self.highest], self.message_w)
 
     def stored(self, words):
-        """What set_key stores of such round keys: of each byte a linear function, and perhaps a constant. (If a stored byte depended on
-        another one, what the code stores would be something else, and refused.)"""
+        """What set_key stores of such round keys: of each byte a linear function of one of them, and perhaps a constant."""
         d = self.domain
-        image = lambda x, byte: d.linear_image(x, lambda _: d.bits(byte), d)
-        return [d.pack([image(x, b) for x in d.bits(s)]) for s, b in zip(self.struct[4:], sum(words, []))]
+        of = {d.cell_of(w)[0]: b for w, b in zip(sum(self.w, []), sum(words, []))}
+        image = lambda x: d.linear_image(x, lambda cell: d.bits(of[cell]), d)
+        return [d.pack([image(x) for x in d.bits(s)]) for s in self.struct[4:4 + 4 * len(words)]]
 
     def derivation(self, few):
         """derive_keys (4): blocks of a number of 32 bits, the lowest byte first, and the nonce."""
