@@ -59,12 +59,11 @@ class KeyedSiv(KeyedGcm):
         self.own_stream = self.aes.cipher(counter + self.own_tag[4:15] + [self.highest], self.message_w)
 
     def stored(self, words):
-        """What set_key stores of such round keys: of each byte there a linear function of one of theirs, wherever in its block that stands,
-        and perhaps a constant."""
-        d, given = self.domain, sum(words, [])
-        places = {d.cell_of(b)[0]: k for k, b in enumerate(sum(self.w, []))}
-        image = lambda x: d.linear_image(x, lambda cell: d.bits(given[places[cell]]), d)
-        return [d.pack(list(map(image, d.bits(b)))) for b in self.struct[4:4 + len(given)]]
+        """What set_key stores of such round keys: of each byte a linear function of one of them, and perhaps a constant."""
+        d = self.domain
+        of = {d.cell_of(w)[0]: b for w, b in zip(sum(self.w, []), sum(words, []))}
+        image = lambda x: d.linear_image(x, lambda cell: d.bits(of[cell]), d)
+        return [d.pack([image(x) for x in d.bits(s)]) for s in self.struct[4:4 + 4 * len(words)]]
 
     def derivation(self, few):
         """derive_keys (4): blocks of a number of 32 bits, the lowest byte first, and the nonce."""
