@@ -158,9 +158,11 @@ def statements(keyed, options, part, parts):
             what = " ".join([name] + [str(v) for v in values if v not in ("", (), aes.NEVER)])
             if options.only in what and next(number) % parts == part:
                 yield what, getattr(keyed, name)(*values)
-    for i, call in enumerate(keyed.refused()):
+    refusals = collections.Counter()  # of each call by its name
+    for call in keyed.refused():
+        refusals[call.name] += 1
         if options.only in call.name + " refused" and next(number) % parts == part:
-            yield "%s refused %d" % (call.name, i), call
+            yield "%s refused %d" % (call.name, refusals[call.name]), call
 
 
 # The header: the compiler compares what it says with what the statements have.
