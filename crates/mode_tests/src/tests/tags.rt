@@ -81,8 +81,8 @@ fn gives<C: BlockCipherEncrypt>(cipher: &C, tags: &[u128; 4]) -> bool {
         right &= tag(cipher, &message[..lengths[i]]) == expected
             && is_tag(cipher, &message[..lengths[i]], &expected)
             && !is_tag(cipher, &message[..lengths[i]], &changed)
-            && is_tag_start(cipher, &message[..lengths[i]], &changed[..15])
             && !is_tag(cipher, &message[..lengths[i] + 1], &expected);
+        right &= is_tag_start(cipher, &message[..lengths[i]], &changed[..15]);
     }
     right
 }
