@@ -6322,7 +6322,9 @@ aes_v6m.aes_ctr.add_in_batches.add_keystream: @ @aes_v6m.aes_ctr.add_in_batches.
 	bl	aes_v6m.aes_narrow.blocks.process_in_batches.1
 	bl	aes_v6m.aes_cipher.zeroize.stack.wipe_stack.1024
 	cmp	r7, #0
-	beq	.Laes_v6m_BB8_11
+	bne	.Laes_v6m_over_1
+	b	.Laes_v6m_BB8_11
+.Laes_v6m_over_1:
 @ %bb.3:                                @ %then.1.i
 	ldr	r4, [sp, #32]                   @ 4-byte Reload
 	mov	r0, r4
@@ -15146,7 +15148,9 @@ aes_v6m.key_wrap.padded.wrap_padded: @ @aes_v6m.key_wrap.padded.wrap_padded
 .Laes_v6m_BB21_26:                              @ %"key_wrap::padded::fill.exit.unr-lcssa"
 	ldr	r0, [sp, #28]                   @ 4-byte Reload
 	cmp	r0, #0
-	beq	.Laes_v6m_BB21_42
+	bne	.Laes_v6m_over_2
+	b	.Laes_v6m_BB21_42
+.Laes_v6m_over_2:
 .Laes_v6m_BB21_27:                              @ %join.5.i.epil.preheader
 	movs	r5, #0
 	str	r5, [sp, #80]
@@ -21178,7 +21182,9 @@ aes_v6m.key_wrap.wrapping.unwrap: @ @aes_v6m.key_wrap.wrapping.unwrap
 	ldr	r3, [sp, #36]                   @ 4-byte Reload
 	eors	r1, r3
 	orrs	r1, r0
-	bne	.Laes_v6m_BB26_9
+	beq	.Laes_v6m_over_3
+	b	.Laes_v6m_BB26_9
+.Laes_v6m_over_3:
 @ %bb.10:                               @ %"key_wrap::wrapping::unwrap_all::<#f78d961b4510149c>.exit.loopexit.unr-lcssa"
 	ldr	r2, [sp, #12]                   @ 4-byte Reload
 	cmp	r2, #0
@@ -22845,7 +22851,9 @@ aes_v6m.key_wrap.padded.unwrap_padded: @ @aes_v6m.key_wrap.padded.unwrap_padded
 	ldr	r6, [sp, #60]                   @ 4-byte Reload
 	eors	r1, r6
 	orrs	r1, r0
-	bne	.Laes_v6m_BB29_9
+	beq	.Laes_v6m_over_4
+	b	.Laes_v6m_BB29_9
+.Laes_v6m_over_4:
 @ %bb.10:                               @ %"key_wrap::wrapping::copy_apart.exit.loopexit.unr-lcssa"
 	ldr	r0, [sp, #20]                   @ 4-byte Reload
 	cmp	r0, #0
@@ -27039,12 +27047,16 @@ aes_v6m.fotsgure_aes_add_keystream_to:          @ @aes_v6m.fotsgure_aes_add_keys
 	subs	r1, #16
 	movs	r5, #2
 	cmp	r1, #16
-	bhi	.Laes_v6m_BB45_5
+	bls	.Laes_v6m_over_5
+	b	.Laes_v6m_BB45_5
+.Laes_v6m_over_5:
 @ %bb.24:                               @ %join.3.i.i.i.i
 	lsls	r7, r1
 	ldr	r1, .Laes_v6m_CPI45_0
 	tst	r7, r1
-	beq	.Laes_v6m_BB45_5
+	bne	.Laes_v6m_over_6
+	b	.Laes_v6m_BB45_5
+.Laes_v6m_over_6:
 @ %bb.25:                               @ %then.1.i.i.i
 	str	r6, [sp, #52]
 	ldr	r1, [sp, #28]                   @ 4-byte Reload

@@ -10829,7 +10829,9 @@ aes_v6m_small.key_wrap.wrapping.unwrap: @ @aes_v6m_small.key_wrap.wrapping.unwra
 	mov	r1, r2
 	eors	r1, r3
 	orrs	r1, r0
-	bne	.Laes_v6m_small_BB59_11
+	beq	.Laes_v6m_small_over_1
+	b	.Laes_v6m_small_BB59_11
+.Laes_v6m_small_over_1:
 @ %bb.12:                               @ %"key_wrap::wrapping::copy_apart.exit.i.loopexit.unr-lcssa"
 	ldr	r0, [sp, #44]                   @ 4-byte Reload
 	cmp	r0, #0
@@ -11454,7 +11456,9 @@ aes_v6m_small.key_wrap.padded.unwrap_padded: @ @aes_v6m_small.key_wrap.padded.un
 	eors	r1, r3
 	orrs	r1, r0
 	ldr	r1, [sp, #108]                  @ 4-byte Reload
-	bne	.Laes_v6m_small_BB61_11
+	beq	.Laes_v6m_small_over_2
+	b	.Laes_v6m_small_BB61_11
+.Laes_v6m_small_over_2:
 @ %bb.12:                               @ %"key_wrap::wrapping::copy_apart.exit.loopexit.unr-lcssa"
 	ldr	r2, [sp, #60]                   @ 4-byte Reload
 	cmp	r2, #0
@@ -14402,7 +14406,9 @@ aes_v6m_small.fotsgure_aes_encrypt_blocks_to:         @ @aes_v6m_small.fotsgure_
 	lsls	r4, r2
 	ldr	r2, .Laes_v6m_small_CPI75_0
 	tst	r4, r2
-	beq	.Laes_v6m_small_BB75_21
+	bne	.Laes_v6m_small_over_3
+	b	.Laes_v6m_small_BB75_21
+.Laes_v6m_small_over_3:
 @ %bb.7:                                @ %join.6.i.i
 	str	r0, [sp, #32]                   @ 4-byte Spill
 	movs	r4, #0
@@ -14599,7 +14605,9 @@ aes_v6m_small.fotsgure_aes_decrypt_blocks_to:         @ @aes_v6m_small.fotsgure_
 	lsls	r4, r2
 	ldr	r2, .Laes_v6m_small_CPI76_0
 	tst	r4, r2
-	beq	.Laes_v6m_small_BB76_21
+	bne	.Laes_v6m_small_over_4
+	b	.Laes_v6m_small_BB76_21
+.Laes_v6m_small_over_4:
 @ %bb.7:                                @ %join.6.i.i
 	str	r0, [sp, #32]                   @ 4-byte Spill
 	movs	r4, #0

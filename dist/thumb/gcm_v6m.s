@@ -10647,7 +10647,9 @@ gcm_v6m.aes_ctr.add_in_batches.add_keystream: @ @gcm_v6m.aes_ctr.add_in_batches.
 	ldr	r0, [sp, #32]                   @ 4-byte Reload
 	cmp	r0, #0
 	mov	r1, r6
-	beq	.Lgcm_v6m_BB22_11
+	bne	.Lgcm_v6m_over_1
+	b	.Lgcm_v6m_BB22_11
+.Lgcm_v6m_over_1:
 @ %bb.3:                                @ %then.1.i
 	ldr	r3, [sp, #28]                   @ 4-byte Reload
 	mov	r0, r3
@@ -10656,7 +10658,9 @@ gcm_v6m.aes_ctr.add_in_batches.add_keystream: @ @gcm_v6m.aes_ctr.add_in_batches.
 	mov	r2, r1
 	ldr	r4, [sp, #24]                   @ 4-byte Reload
 	ldr	r7, [sp, #156]                  @ 4-byte Reload
-	beq	.Lgcm_v6m_BB22_12
+	bne	.Lgcm_v6m_over_2
+	b	.Lgcm_v6m_BB22_12
+.Lgcm_v6m_over_2:
 @ %bb.4:                                @ %join.8.i72.i.i.preheader
 	movs	r0, #0
 	subs	r1, r3, #1
@@ -16708,7 +16712,9 @@ gcm_v6m.fotsgure_gcm_open:                      @ @gcm_v6m.fotsgure_gcm_open
 	lsls	r7, r6
 	ldr	r6, .Lgcm_v6m_CPI49_0
 	tst	r7, r6
-	beq	.Lgcm_v6m_BB49_15
+	bne	.Lgcm_v6m_over_3
+	b	.Lgcm_v6m_BB49_15
+.Lgcm_v6m_over_3:
 @ %bb.8:                                @ %join.6.i.i
 	ldr	r4, [sp, #152]
 	str	r4, [sp, #40]                   @ 4-byte Spill
@@ -19172,7 +19178,9 @@ gcm_v6m.fotsgure_gcm_siv_seal_to:               @ @gcm_v6m.fotsgure_gcm_siv_seal
 	beq	.Lgcm_v6m_BB64_6
 @ %bb.5:                                @ %join.3.i.i
 	cmp	r0, #16
-	bne	.Lgcm_v6m_BB64_23
+	beq	.Lgcm_v6m_over_4
+	b	.Lgcm_v6m_BB64_23
+.Lgcm_v6m_over_4:
 .Lgcm_v6m_BB64_6:                               @ %join.6.i.i
 	str	r6, [sp, #44]                   @ 4-byte Spill
 	str	r3, [sp, #48]                   @ 4-byte Spill

@@ -11096,7 +11096,9 @@ gcm_v6m_small.fotsgure_gcm_open:                      @ @gcm_v6m_small.fotsgure_
 	lsls	r7, r6
 	ldr	r6, .Lgcm_v6m_small_CPI82_0
 	tst	r7, r6
-	beq	.Lgcm_v6m_small_BB82_19
+	bne	.Lgcm_v6m_small_over_1
+	b	.Lgcm_v6m_small_BB82_19
+.Lgcm_v6m_small_over_1:
 @ %bb.10:                               @ %join.6.i.i
 	ldr	r4, [sp, #152]
 	str	r4, [sp, #40]                   @ 4-byte Spill
@@ -11727,7 +11729,9 @@ gcm_v6m_small.fotsgure_gcm_begin_next:                @ @gcm_v6m_small.fotsgure_
 	adds	r4, r5, r4
 	adds	r3, r4, r3
 	adds	r3, r3, #1
-	beq	.Lgcm_v6m_small_BB85_11
+	bne	.Lgcm_v6m_small_over_2
+	b	.Lgcm_v6m_small_BB85_11
+.Lgcm_v6m_small_over_2:
 .Lgcm_v6m_small_BB85_2:                               @ %join.3.i.i
 	ldr	r4, [r0]
 	mov	r3, r4

@@ -87,6 +87,41 @@ def emptied(folder, is_wide, text, has_vectors=True):
     return "\n".join(out)
 
 
+# Cortex-M0's conditional branches, which reach 254 bytes, and what each is the contrary of.
+CONDITIONAL = re.compile(r"\tb(eq|ne|hs|lo|mi|pl|vs|vc|hi|ls|ge|lt|gt|le)\t(\.L\w+)(?: *@.*)?$")
+PAIRS = (("eq", "ne"), ("hs", "lo"), ("mi", "pl"), ("vs", "vc"), ("hi", "ls"), ("ge", "lt"), ("gt", "le"))
+CONTRARY = {it: other for pair in PAIRS for it, other in (pair, pair[::-1])}
+REACH = 240
+
+
+def size(line):
+    """How many bytes a line of assembly for Cortex-M0 takes, or more."""
+    if re.match(r"\t(?:bl|blx|dmb|mrs|msr)\t|\t\.(?:long|p2align)\t", line):
+        return 4
+    return 2 if re.match(r"\t[a-z]", line) else 0
+
+
+def within_reach(text):
+    """The text for Cortex-M0, whose compiler knew nothing of what was added: a conditional branch that doesn't reach any more leaps over a
+    plain one."""
+    lines, far, more = text.split("\n"), set(), True
+    while more:
+        at, places, labels = 0, [], {}
+        for number, line in enumerate(lines):
+            places.append(at)
+            if label := re.match(r"(\.L\w+):", line):
+                labels[label[1]] = at
+            at += size(line) + (2 if number in far else 0)
+        found = ((number, CONDITIONAL.match(line)) for number, line in enumerate(lines))
+        more = {number for number, it in found if it and abs(labels[it[2]] - places[number]) > REACH} - far
+        far |= more
+    label = re.search(r"^\.L(\w*?)BB\d", text, re.M)[1]
+    for count, number in enumerate(sorted(far), 1):
+        condition, to = CONDITIONAL.match(lines[number]).groups()
+        lines[number] = f"\tb{CONTRARY[condition]}\t.L{label}over_{count}\n\tb\t{to}\n.L{label}over_{count}:"
+    return "\n".join(lines)
+
+
 def as_compiled(folder, is_wide, text):
     """The text as it was."""
     return text.replace("\n".join(emptying(folder, is_wide)) + "\n", "")
