@@ -3,7 +3,7 @@
 //! caller must ensure: each call here is unsafe, and nothing checks it. Take a crate over this one instead:
 //! `fotsgure_aes`, or `fotsgure-rustcrypto`, which has the traits of RustCrypto.
 //!
-//! rustc assembles it: no C compiler is needed. On x86-64 there are two builds, and the first call asks the processor
+//! rustc assembles it: no C compiler is needed. On x86-64 there are three builds, and the first call asks the processor
 //! which one it can run.
 //!
 //! A struct that holds a key may be copied and moved as bytes. None is wiped when it is dropped.
