@@ -21,15 +21,15 @@ use Rattle.aes_planes.proofs.Lists.{get_or-build}
 pub Places-build : (n : ℕ) (g f : ℕ → Bool) → ((i : ℕ) → i < n → g i ≡ f i) → Places n (build n g) f
 Places-build n g f h i lt = get_or-build n i g false lt ∙ h i lt
 
--- the tests of bits that are numbers, by all cases
+-- the and of two bits that are numbers is the lesser of them, by all cases
 and_test : (p q : ℕ) → p < 2 → q < 2 → (min p q == 1) ≡ ((p == 1) && (q == 1))
 and_test = by_pairs _ refl refl refl refl
 
--- an or is the greater of two such bits
+-- the or of two bits that are numbers is the greater of them
 or_test : (p q : ℕ) → p < 2 → q < 2 → (max p q == 1) ≡ ((p == 1) || (q == 1))
 or_test = by_pairs _ refl refl refl refl
 
--- and an exclusive or their sum's lowest bit
+-- the exclusive or of two bits that are numbers is their sum's lowest bit
 xor_test : (p q : ℕ) → p < 2 → q < 2 → ((p + q) % 2 == 1) ≡ xor (p == 1) (q == 1)
 xor_test = by_pairs _ refl refl refl refl
 

@@ -11,7 +11,7 @@ use Rattle.aes_planes.proofs.Bits.ByteCases.{all_below, all_below_tells}
 abbrev pub listed_powers : List ℕ
 listed_powers = 0x01 ∷ 0x02 ∷ 0x04 ∷ 0x08 ∷ 0x10 ∷ 0x20 ∷ 0x40 ∷ 0x80 ∷ 0x1b ∷ 0x36 ∷ []
 
--- each of them is x to the power of its place
+-- each of the listed powers is x to the power of its place
 pub listed_power : (i : ℕ) → i < 10 → slice_index listed_powers i ≡ power_of_x i
 unfolding all_below power_of_x xtime
 listed_power i h =

@@ -40,7 +40,7 @@ module _ (rows cols : ℕ) (f g : ℕ → List ℕ) (y : List ℕ)
   start : ℕ → ℕ
   start r = byte_at y ((r + rows) % 4) cols
 
-  -- by columns, each from the one before it
+  -- the sum of columns 0 to c is the word of g there, column by column, each from the one before it
   columns : (r c : ℕ) → r < 4 → c < 4 → summed field_add (byte_at (of_words f) r) (start r) c
       ≡ slice_index (g c) r
   unfolding start
@@ -79,7 +79,7 @@ module _ (key : List ℕ) (nk : ℕ) (own : key_words key ≡ nk) (some : 0 < nk
       ∙ (λ t. add_words (expanded_word key (less t))
       (added_word (own t) i (expanded_word key (one t))))
 
-  -- where Nk divides the place
+  -- the recursion where Nk divides the place
   pub first_word : (j : ℕ) → i ≡ j * nk → expanded_word key i
       ≡ add_words (expanded_word key b)
       (add_words (sub_word (rot_word (expanded_word key p))) (round_constant j))

@@ -24,7 +24,7 @@ after_is step w b state first next (suc n) =
     ap (λ s. fips.add_round_key (step s) (fips.round_key w (suc n)))
     (after_is step w b state first next n) ∙ next n
 
--- Cipher has these rounds
+-- Cipher is `all_rounds` of its steps
 pub is_cipher : (w : List (List ℕ)) (b : List ℕ)
     → all_rounds (λ b. fips.mix_columns (fips.shift_rows (fips.sub_bytes b)))
     (λ b. fips.shift_rows (fips.sub_bytes b))
@@ -35,7 +35,7 @@ is_cipher w b = ap
     (fips.round_key w (fips.last_round w)))
     (after_is _ w b (fips.state_after w b) refl (λ n. refl) (fips.last_round w - 1))
 
--- and so has EqInvCipher
+-- EqInvCipher is `all_rounds` of its steps
 pub is_eq_inv_cipher : (w : List (List ℕ)) (b : List ℕ)
     → all_rounds (λ b. fips.inv_mix_columns (fips.inv_shift_rows (fips.inv_sub_bytes b)))
     (λ b. fips.inv_shift_rows (fips.inv_sub_bytes b)) w b ≡ fips.eq_inv_cipher_with w b
