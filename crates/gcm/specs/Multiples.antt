@@ -36,11 +36,11 @@ multiples_row v r = fips.build 16 (λ n. byte_of (nibble_multiple v n) r)
 abbrev pub place_of : ℕ → ℕ
 place_of r = 2 * (r % 8) + r / 8
 
--- and which row stands at place i
+-- the row at place i of a table
 abbrev pub row_at : ℕ → ℕ
 row_at i = i / 2 + 8 * (i % 2)
 
--- the same of all sixteen bytes
+-- the rows of all sixteen bytes of v's multiples, each at its place
 unfoldable pub multiples_rows : ℕ → List (List ℕ)
 unfolding multiples_row
 multiples_rows v = fips.build 16 (λ i. multiples_row v (row_at i))

@@ -19,7 +19,7 @@ use std::marker::Model;
 
 /// Room for what products with a block H take. It is as secret as H.
 pub trait HashRoom: Zeroize {
-    /// It stands there.
+    /// The room has what products with H need.
     ghost IsMade: { Self → Type 0 };
 
     /// The block H.
@@ -42,7 +42,8 @@ pub trait HashRoom: Zeroize {
         ensures { result ≡ hashed (subkey self.now) value (padded bytes.now)
             (length (padded bytes.now) / 16) };
 
-    /// The same, and after one block more.
+    /// Returns the value of GHASH after more bytes, with zeros behind them that fill the last
+    /// block, and one block more.
     fn hash_to_end(&self, value: u128, bytes: &[u8], end: &Block) -> u128
         requires { IsMade self.now }
         ensures { let before =
@@ -153,7 +154,8 @@ pub(crate) fn hash_on<R: HashRoom>(multiples: &LentRoom<R>, value: u128, bytes: 
     multiples.room.hash_on(value, bytes)
 }
 
-/// The same, and after one block more.
+/// Returns the value of GHASH after more bytes, with zeros behind them that fill the last block,
+/// and one block more.
 #[inline(always)]
 pub(crate) fn hash_to_end<R: HashRoom>(
     multiples: &LentRoom<R>,
