@@ -83,7 +83,7 @@ fn planes_take_a_row<K: KeySize>(key: &K::Key) -> bool {
     takes_a_row_of_five(&FixslicedAes::<K, BothWays>::new(key))
 }
 
-// The same of that of `aes_hybrid`.
+// The type of `aes_hybrid` for both directions, with the size as a parameter.
 fn both_forms_take_a_row<K: KeySize>(key: &K::Key) -> bool {
     takes_a_row_of_five(&AesCipher::<BothLists<K>, BothWays>::new(key))
 }
