@@ -43,7 +43,7 @@ added_run s t p q i n k xs ys same fits is agree =
     ∙ append_assoc (take i xs) ys _
     ∙ ap (λ l. take i xs ++ l) rest
 
--- the same of the first n bytes
+-- the sum of the stream and the first n bytes, written in their places
 pub first_run : (s t : ℕ → ℕ) (p q n : ℕ) (xs ys : List ℕ) → n ≤ length xs
     → ys ≡ plus_stream t q (take n xs)
     → ((j : ℕ) → j < n → t (q + j) ≡ s (p + j))

@@ -169,7 +169,8 @@ pub fn add_stream<C: BlockCipherEncrypt, K: CounterBlocks>(
     }
 }
 
-/// The same with the whole block as the counter. It keeps no position: `Ctr128BE` does.
+/// Adds to each byte the keystream's byte at its place, with the whole block as the counter. It
+/// keeps no position: `Ctr128BE` does.
 #[tactic(auto, using(crate::proofs::Places::whole_blocks))]
 pub fn add_keystream<C: BlockCipherEncrypt>(cipher: &C, iv: &Block, position: u64, bytes: &mut [u8])
     requires { position + length bytes.old < 2 ^ 64 }
