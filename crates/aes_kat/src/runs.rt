@@ -165,7 +165,7 @@ pub fn run<R: Read, W: Write>(alloc: Global, input: &mut R, output: &mut W) -> R
     run_in(alloc, input, output)
 }
 
-/// The same as [`run`], over any memory.
+/// Answers each line of the input to its end as [`run`] does, over any memory.
 ///
 /// # Errors
 ///
