@@ -50,7 +50,7 @@ upper_half x long =
     ∙ pick_l-range_with_len 0 x 16 16 (omega (arith, long))
     ∙ take_all 16 (drop 16 x) (omega (arith, long, length-drop 16 x))
 
--- what picks a half
+-- the rules that pick a half of a vector
 pub ruleset picked_halves = (lower_half, upper_half)
 
 -- a block in both halves is each of the two

@@ -142,7 +142,7 @@ made_up k o t key small l m n =
     (built 16 key 0 n)
     (on_lanes k small (λ i. get_or o i 0) (λ i. get_or t i 0) (λ i. get_or key i 0))))
 
--- one round before
+-- how many ShiftRows are left out before round n is how many are after round n - 1
 earlier : (n : ℕ) → 1 ≤ n → before (n % 4) ≡ (n - 1) % 4
 earlier n some = omega arith
 

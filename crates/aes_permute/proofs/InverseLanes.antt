@@ -43,7 +43,7 @@ plain_cases : all_below 256 (λ b. nat_lt (plain b) 256 && (sbox (plain b) == in
 unfolding all_below first_of second_of inv_untower sbox
 plain_cases = refl
 
--- InvSubBytes
+-- what is looked up for `plain` is InvSubBytes
 plain_is : (x : List ℕ) → IsBytes x → map plain x ≡ inv_sub_bytes (map inv_untower x)
 unfolding inv_sub_bytes
 plain_is x h =

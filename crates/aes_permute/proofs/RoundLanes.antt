@@ -58,7 +58,7 @@ products = row
     (record { coefficient = 1; look_up = one; constant = 0x63 })
     (record { coefficient = 1; look_up = one; constant = 0x63 })
 
--- the test of these products, by all bytes
+-- `products` are right, by all bytes
 products_made : Makes untower boxed products
 unfolding all_below first_of second_of untower field_mul sbox
 products_made = refl
