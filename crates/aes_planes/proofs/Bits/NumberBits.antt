@@ -106,7 +106,7 @@ bit_shl w x n i h = bit_low (x * 2 ^ n) w i h ∙ elim (cases_lt i n) [
   | inr le ↦ bit_shl_high x n i le ∙ ap (λ b. b && bit x (i - n)) (sym (le-leb n i le))
 ]
 
--- a number of w bits has none above them
+-- a number of w bits has no bit above them
 bit_within : (w x i : ℕ) → x < 2 ^ w → bit x i ≡ (nat_lt i w && at (build w (bit x)) i)
 bit_within w x i f = elim (cases_lt i w) [
   | inl lt ↦ reads w x i lt ∙ ap (λ b. b && at (build w (bit x)) i) (sym (lt-ltb i w lt))

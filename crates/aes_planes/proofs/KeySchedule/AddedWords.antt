@@ -38,7 +38,7 @@ module _ (nk i : ℕ) (w : List ℕ) where
   added_word_substituted n lt e =
       added_word_later true n (ap (λ v. v && (i % nk == 4)) (lt-ltb 6 nk lt) ∙ eq-eqb (i % nk) 4 e)
 
-  -- else the word stays as it is
+  -- where Nk does not divide i, and Nk ≤ 6 or i mod Nk isn't 4, the word stays as it is
   pub added_word_same : i % nk ≢ 0 → (nk ≤ 6) ⊎ (i % nk ≢ 4) → added_word nk i w ≡ w
   unfolding added_word_if
   added_word_same n (inl le) =

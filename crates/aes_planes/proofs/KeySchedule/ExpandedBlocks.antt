@@ -137,7 +137,7 @@ substituted_column : (f : ℕ → List ℕ) (x : ℕ)
 unfolding sub_bytes add_round_key constant_block
 substituted_column f x = refl
 
--- the S-box alone
+-- column 3 after SubBytes is SubWord of the last word
 substituted_plain : (f : ℕ → List ℕ) → length (f 3) ≡ 4
     → word (λ r. byte_at (sub_bytes (of_words f)) ((r + 0) % 4) 3)
     ≡ sub_word (f 3)
@@ -146,7 +146,7 @@ substituted_plain f l =
     subst (λ (v : List ℕ). word (λ r. sbox (slice_index (f 3) r)) ≡ sub_word v) (built 4 (f 3) 0 l)
     refl
 
--- nothing of the kind
+-- column 1 as it is, without SubBytes
 plain_column : (f : ℕ → List ℕ) (v : List ℕ)
     → add_words v (word (λ r. byte_at (of_words f) ((r + 0) % 4) 1))
     ≡ add_words v (f 1)
@@ -209,7 +209,7 @@ module _ (key : List ℕ) (nk : ℕ) (own : key_words key ≡ nk) (four : 4 ≤ 
       (power_of_x v ∷ 0 ∷ 0 ∷ 0 ∷ [])) one
       ∙ sym (substituted_column (λ c. expanded_word key (p + c)) (power_of_x j))))
 
-  -- the four words after those, where Nk is 8
+  -- the four words after the four at a multiple of Nk, where Nk is 8
   pub second_block : (j o p m : ℕ) → nk ≡ 8 → o ≡ j * nk + 4 → m ≡ o + nk → m ≡ p + 4
       → columns_summed 0 3 (block_at key o) (sub_bytes (block_at key p)) ≡ block_at key m
   second_block j o p m eight at back before =

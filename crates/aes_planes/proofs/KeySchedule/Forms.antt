@@ -74,7 +74,7 @@ module _ {V : Type 0} (s : Form V) where
         subst (λ v. new v (block_at key (4 * j))) e (subst (λ v. new m (block_at key v)) f is)
   ]
 
-  -- all of them
+  -- all round keys of a key are stored
   pub all : (stored : ℕ → List ℕ → Type 0) (m last : ℕ) → AreStored stored key m → m ≡ last + 1
       → last ≡ nk + 6
       → (i : ℕ) → i ≤ last → stored i (round_key (key_expansion key) i)
@@ -104,14 +104,14 @@ module _ {V : Type 0} (s : Form V) where
         (add_round_key (sub_bytes (block_at key p)) (constant_block v))) (listed_power j lt)
         ∙ first_block key nk own four j o p m at back before) is
 
-    -- the four words after those, where nk is 8
+    -- the four words after the four at a multiple of nk, where nk is 8
     pub substituted : (j o p m : ℕ)
         → are w (columns_summed 0 3 (block_at key o) (sub_bytes (block_at key p)))
         → nk ≡ 8 → o ≡ j * nk + 4 → m ≡ o + nk → m ≡ p + 4 → are w (block_at key m)
     substituted j o p m is eight at back before =
         subst (are w) (second_block key nk own four j o p m eight at back before) is
 
-    -- the four words two after such a multiple, where nk is 6
+    -- the four words two after a multiple of nk, where nk is 6
     pub plain : (j o p m : ℕ) → are w (columns_summed 0 1 (block_at key o) (block_at key p))
         → nk ≡ 6 → o ≡ j * nk + 2 → m ≡ o + nk → m ≡ p + 2 → are w (block_at key m)
     plain j o p m is six at back before =

@@ -115,7 +115,7 @@ inv_mix_made cols h f bytes =
 -- planes that hold in each place what x makes of the old bytes from there on
 pub record Makes (n cols : ℕ) (old : List (List Bool)) (x : Made)
     (planes : List (List Bool)) : Type 0 where
-  -- byte by byte
+  -- the byte that the planes hold at a place
   pub bytes : (r c k : ℕ) → r < 4 → c < 4 → k < n
       → held_byte planes (place n r c k) ≡ made x
       (onward cols (λ r c. held_byte old (place n r c k)) r c)

@@ -65,7 +65,7 @@ words_put new ws o room e h = same_lists _ _ (length-words_at new o room ∙ sym
 
 -- ---- the same block in every slot
 
--- one place more is filled
+-- setting the place after i copies of b to b makes them one more
 fill_more : {A : Type 0} (b z : A) (i m : ℕ) → set (replicate i b ++ replicate (suc m) z) i b
     ≡ replicate (suc i) b ++ replicate m z
 fill_more b z zero m = refl

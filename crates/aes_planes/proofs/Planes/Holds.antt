@@ -51,7 +51,7 @@ held_holds n planes l = record {
   bits = held_bits n planes l;
 }
 
--- planes that hold these blocks hold no others
+-- planes that hold some blocks hold no others
 pub holds_held : (n : ℕ) (planes : List (List Bool)) (blocks : List (List ℕ))
     → Holds n planes blocks
     → held n planes ≡ blocks

@@ -46,14 +46,14 @@ words_with_sbox s key zero = []
 words_with_sbox s key (suc n) = let ws = words_with_sbox s key n in
     ws ++ next_word_with_sbox s (nat_lt n (key_words key)) key ws n ∷ []
 
--- the round keys
+-- the round keys of the key expansion
 expansion_with_sbox : (ℕ → ℕ) → List ℕ → List (List ℕ)
 expansion_with_sbox s key =
     blocks_of_words (rounds key + 1) (words_with_sbox s key (4 * (rounds key + 1)))
 
 -- ---- with the S-box they are the standard's
 
--- InvCipher's states
+-- InvCipher's states, with the inverse S-box, are the standard's
 standard_inv_state : (w : List (List ℕ)) (b : List ℕ) (n : ℕ)
     → inv_state_after w b n ≡ inv_state_with_sbox inv_sbox w b n
 unfolding inv_state_after inv_sub_bytes inv_state_with_sbox

@@ -159,7 +159,7 @@ module _ {n w : ℕ} {lane : ℕ → ℕ} (laws : IsLayout n w lane) where
       (laws.same i (i - q) (omega (arith, s, le)))
       (omega (arith, s, le)) ∙ high i l le))
 
-  -- rotations
+  -- a rotation by any number of bits, from those by bytes
   pub rotated : (x : List Bool) (a b : List ℕ) (m : ℕ) → length a ≡ n → length b ≡ n
       → Each1 (Fits w8) a
       → Turned w x (laid w lane a) (8 * (m / 8)) → Turned w x (laid w lane b) (8 * (m / 8 + 1))
