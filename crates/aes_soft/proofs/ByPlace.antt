@@ -16,7 +16,7 @@ zip_with-map f step [] ys = refl
 zip_with-map f step (x ∷ xs) [] = refl
 zip_with-map f step (x ∷ xs) (y ∷ ys) = ap (λ zs. f (step x) y ∷ zs) (zip_with-map f step xs ys)
 
--- a step of such a loop
+-- a step of a loop that leaves f of both lists' elements, place by place
 zipped_next : {X : Type 0} (f : X → X → X) (i : ℕ) (xs ys : List X) (d : X) → i < length xs
     → i < length ys
     → zipped_from f (suc i) (set xs i (f (get_or xs i d) (get_or ys i d))) ys
