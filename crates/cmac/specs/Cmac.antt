@@ -23,7 +23,7 @@ unfoldable pub doubled : ℕ → ℕ
 unfolding first_bit shifted
 doubled x = if first_bit x == 0 then shifted x else bit_xor (shifted x) 0x87
 
--- the same on bytes
+-- `doubled` of a block, as bytes
 unfoldable pub doubled_block : List ℕ → List ℕ
 unfolding doubled
 doubled_block block = to_be_bytes w128 (doubled (from_be_bytes w128 block))
