@@ -127,7 +127,7 @@ nibble_four v n =
     ∙ sym (term_through (n / 2 ^ (3 - i) % 2) (v_at v i) 4))
     ∙ sym (v-sum 4 4 f)
 
--- a row that has these bytes
+-- a row whose lanes are bytes of multiples, for four powers of x more, is one of `multiples_row`
 row_with : (v r : ℕ) (row : List ℕ) → length row ≡ 16
     → ((n : ℕ) → n < 16 → get_or row n 0 ≡ byte_of (v_at (nibble_multiple v n) 4) r)
     → row ≡ multiples_row (v_at v 4) r

@@ -61,7 +61,7 @@ indices_parts (x ∷ xs) ys h =
     let rest = indices_parts xs ys both.1 in
     ((λ t. both.0 t && rest.0 t), rest.1)
 
--- two look-ups, summed
+-- two lists, each of two parts, are summed part by part
 zip2_append : (f : ℕ → ℕ → ℕ) (a b c d : List ℕ) → length a ≡ length c
     → zip2 f (a ++ b) (c ++ d) ≡ zip2 f a c ++ zip2 f b d
 zip2_append f [] b [] d same = refl
