@@ -27,10 +27,10 @@ use aes_hybrid::lent::Lent;
 /// Room for what tags are made with: the multiples of H.
 pub type TagRoom = gcm::Room;
 
-/// The same for a message of AES-GCM-SIV, if it is short.
+/// Room for what tags of a message of AES-GCM-SIV are made with, if it is short.
 pub(crate) type ShortRoom = gcm::TableRoom;
 
-/// The same for a longer one.
+/// Room for what tags of a longer message of AES-GCM-SIV are made with.
 pub(crate) type LongRoom = gcm::Room;
 
 /// A key schedule of the other library, for both directions: `struct fotsgure_aes`.

@@ -24,7 +24,7 @@ pub const REFUSED: u32 = 6;
 /// The counter of nonces has come to its end.
 pub const NONCES_END: u32 = 7;
 
-/// It isn't the turn of this call: the message is in another phase.
+/// The call came in the wrong order: the message is in another phase.
 pub const OUT_OF_TURN: u32 = 8;
 
 /// Input and output differ in length. (The header has 9 for a call in C.)
