@@ -66,8 +66,8 @@ polyval h x = summed h 0 x (length x / 16)
 
 -- ---- the keys of a message (4)
 
--- the first half of the cipher of a number of 32 bits, its lowest byte first, and the nonce; under
--- round keys
+-- half of a derived key: the first half of the cipher of a number of 32 bits, its lowest byte
+-- first, and the nonce
 unfoldable pub derived : List (List ℕ) → List ℕ → ℕ → List ℕ
 derived w nonce n = take 8 (fips.cipher_with w (to_le_bytes w32 n ++ nonce))
 
@@ -111,7 +111,7 @@ counter_mode w block x = plus_stream (keystream_byte w block) 0 x
 
 -- ---- a message under its keys (4): round keys w of the encryption key, and the element h that the authentication key writes
 
--- both lengths in bits, as 64 of them each
+-- the lengths of additional data and a text in bits, as 64 of them each
 unfoldable pub length_block : List ℕ → List ℕ → List ℕ
 length_block a p = to_le_bytes w64 (8 * length a) ++ to_le_bytes w64 (8 * length p)
 

@@ -22,7 +22,7 @@ fn numbered(number: u32, nonce: &[u8; 12]) -> Block
     block
 }
 
-// Those of the numbers 0 to 5.
+// The numbered blocks of the numbers 0 to 5.
 #[tactic(auto, unfolding(crate::specs::Private::numbered))]
 fn numbered_blocks(nonce: &[u8; 12]) -> [Block; 6]
     ensures { result ≡ numbered nonce.now }
