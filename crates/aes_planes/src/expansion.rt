@@ -21,7 +21,7 @@ pub trait FourWords {
     /// What round keys are stored in.
     type StoredIn;
 
-    /// These are the four words of a block.
+    /// The words are the four words of a block.
     ghost AreWords: { Self.Words → List ℕ → Type 0 };
 
     /// Of round keys from 0 to a last one, the one of a number is stored for a block.
