@@ -1,6 +1,6 @@
 //! The form in which this build keeps a key: stored round keys for vector permutations.
 //!
-//! No other module of this crate names a form. A build in another form has another text of this
+//! No other module of this crate names a form. A build in another form has another version of this
 //! module, of `width` and of `specs/Form.antt`, with the same names:
 //!
 //! - `KeptKey` is a key that is kept to encrypt. It is `repr(C)`, `Drop`, `NotClone` and `Zeroize`.
