@@ -8,7 +8,7 @@
 //! - `Aes` is the struct that a caller keeps, for both directions, with a field `key: KeptKey`.
 //! - Both are `repr(C)`, `Drop`, `NotClone` and `Zeroize`, and have a method `set(key: &[u8])`. It
 //!   takes a key of 16, 24 or 32 bytes, reads nothing of the struct and leaves nothing of it.
-//! - `is_key_size(bytes)` says whether keys have so many bytes.
+//! - `is_key_size(bytes)` says whether keys have this many bytes.
 //! - `lent(&aes.key)` and `lent_back(aes)` lend the key of a struct that holds one as a cipher that
 //!   encrypts, which is a `LentKey`, and as one that decrypts.
 //! - `RoundWord` is the word on which single rounds are computed.
