@@ -75,7 +75,7 @@ added_one s p i y xs fits is =
     ∙ append_assoc (take i xs) (y ∷ []) _
     ∙ ap (λ l. take i xs ++ l) rest
 
--- a loop that has come to the end leaves what it was to leave
+-- a loop that has come to the end has added the stream to the whole list
 pub added_all : (s : ℕ → ℕ) (p i : ℕ) (xs zs : List ℕ) → length xs ≤ i
     → added_from s p i xs ≡ plus_stream s p zs → xs ≡ plus_stream s p zs
 added_all s p i xs zs end kept =
