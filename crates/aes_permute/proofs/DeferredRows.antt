@@ -61,7 +61,7 @@ times_map f (suc k) s l =
 times_block : (k : ℕ) (s : List ℕ) → IsBlock s → IsBlock (shift_times k s)
 times_block k s (long, small) = (shift_times_length k s long, shift_times_bytes k s small)
 
--- the places of the table are those of so many ShiftRows
+-- entry k of SHIFTED_ROWS has the places of k ShiftRows
 pub shifted_is : (k : ℕ) → k < 4 → (x : List ℕ) → length x ≡ 16
     → permuted x (places_in SHIFTED_ROWS k) ≡ shift_times k x
 unfolding build state shift_rows shift_times

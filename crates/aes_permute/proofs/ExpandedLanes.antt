@@ -36,7 +36,7 @@ pair x c = bit_xor (x c) (cond (c == 0) 0 (x (c - 1)))
 abbrev coded : (ℕ → ℕ) → ℕ → ℕ → ℕ → ℕ
 coded x s a c = bit_xor (bit_xor (bit_xor (pair x c) (cond (nat_lt c 2) 0 (pair x (c - 2)))) a) s
 
--- the order in which the code adds the start and the addend is no other sum
+-- the order in which the code adds the start and the addend makes no difference
 addend_last : (v a s : ℕ) → bit_xor (bit_xor v a) s ≡ bit_xor v (bit_xor s a)
 addend_last v a s = xor_assoc v a s ∙ ap (bit_xor v) (xor_comm a s)
 
@@ -220,7 +220,8 @@ constants_untowered = λ i. replicate 16 (of_constant i)
 abbrev substituted_lanes : List ℕ → List ℕ → List ℕ
 substituted_lanes y ks = map plus63 (sub_bytes (swizzled y ks))
 
--- what the rows of the last column are due, `rows` rows on, with the constant of the S-box twice
+-- what is added to each row, from the last column `rows` rows on, with the constant of the S-box
+-- twice
 abbrev due : List ℕ → ℕ → ℕ → ℕ
 due y rows r = plus63 (plus63 (byte_at (sub_bytes y) ((r + rows) % 4) 3))
 

@@ -112,7 +112,7 @@ same_in_order t u y h =
     (bit_xor (bit_xor (h 0 (omega arith) i) (h 1 (omega arith) i)) (h 2 (omega arith) i))
     (h 3 (omega arith) i)) y
 
--- the order in which a round adds is no other sum
+-- the order in which a round adds makes no difference
 gathered : (t : ℕ → ℕ) (y : ℕ) → added t y ≡ in_order t y
 gathered t y =
     ap (λ v. bit_xor v (t 1)) (aside (t 0) y (bit_xor (t 2) (t 3)))
@@ -120,7 +120,7 @@ gathered t y =
     ∙ ap (λ v. bit_xor v y) (aside (t 0) (bit_xor (t 2) (t 3)) (t 1)
     ∙ sym (xor_assoc (bit_xor (t 0) (t 1)) (t 2) (t 3)))
 
--- a map of them that takes sums of three to sums
+-- what a map that takes sums of three to sums makes of four products and a key
 sum_of_five : (v : ℕ → ℕ) → SumsOfThree v → (t : ℕ → ℕ) (y : ℕ)
     → v (added t y) ≡ in_order (λ i. v (t i)) (v y)
 sum_of_five v l t y =

@@ -28,7 +28,7 @@ pub record LaneForm : Type 0 where
   pub first_byte : ℕ → ℕ
   pub inner_byte : ℕ → ℕ
   pub last_byte : ℕ → ℕ
-  -- where the bytes of a state after so many rounds belong, and those of the round key that is
+  -- where the bytes of a state after a number of rounds belong, and those of the round key that is
   -- added then
   pub placed : ℕ → List ℕ → List ℕ
   -- the round keys that the rounds use, in their order, of the standard's list
