@@ -154,7 +154,7 @@ unfolding state
 plain_column f v = refl
 
 module _ (key : List ℕ) (nk : ℕ) (own : key_words key ≡ nk) (four : 4 ≤ nk) where
-  -- a word that is due no substitution; e is its place after a multiple of Nk
+  -- a word that needs no substitution; e is its place after a multiple of Nk
   plain_word : (i b p q e : ℕ) → i ≡ q * nk + e → 0 < e → e < nk → (nk ≤ 6) ⊎ (e ≢ 4)
       → i ≡ b + nk → i ≡ suc p
       → expanded_word key i ≡ add_words (expanded_word key b) (expanded_word key p)
@@ -168,7 +168,7 @@ module _ (key : List ℕ) (nk : ℕ) (own : key_words key ≡ nk) (four : 4 ≤ 
       ]))
 
   -- four words of which the first is at place e after a multiple of
-  -- Nk, where the others are due no substitution
+  -- Nk, where the others need no substitution
   sums_at : (rows cols o m q e : ℕ) (y : List ℕ) → m ≡ o + nk → m ≡ q * nk + e
       → e + 4 ≤ nk → (nk ≤ 6)
       ⊎ ((e ≡ 0) ⊎ (e ≡ 4))

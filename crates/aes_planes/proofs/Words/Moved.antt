@@ -1,4 +1,4 @@
--- Words that are turned or shifted by so many bits, at once or in two steps, at every width.
+-- Words that are turned or shifted by a number of bits, at once or in two steps, at every width.
 use Rattle.std.proofs.Common.{◌≡◌, ℕ, ◌+◌, ◌-◌, ◌*◌, ◌/◌, ◌%◌, Bool, ◌&&◌, nat_le, nat_lt, List, ap}
 use Rattle.std.proofs.Common.{sym, ◌∙◌, arith, le-leb, inl, inr}
 use Rattle.std.proofs.lemmas.Bool.{cases_lt, lt-leb, lt-ltb, le-ltb}
