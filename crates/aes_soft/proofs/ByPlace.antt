@@ -3,7 +3,7 @@ use Rattle.std.proofs.Common.{◌≡◌, ℕ, zero, suc, ◌+◌, ◌<◌, List,
 use Rattle.std.proofs.Common.{drop, get_or, set, refl, ap, ◌∙◌, arith}
 use Rattle.aes_planes.specs.Planes.{zip_with}
 
--- what a loop leaves in the end that has come to place i: the
+-- what a loop that has come to place i leaves in the end: the
 -- elements before it, and f of both from it on
 abbrev pub zipped_from : {X : Type 0} → (X → X → X) → ℕ → List X → List X → List X
 zipped_from f i xs ys = take i xs ++ zip_with f (drop i xs) (drop i ys)
