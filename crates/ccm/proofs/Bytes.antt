@@ -1,4 +1,4 @@
--- Numbers in so many bytes, the highest first.
+-- Numbers in a number of bytes, the highest first.
 use Rattle.std.proofs.Common.{◌≡◌, ℕ, zero, suc, ◌+◌, ◌*◌, ◌/◌, ◌%◌, ◌^◌, ◌<◌, List}
 use Rattle.std.proofs.Common.{◌∷◌, ◌++◌, length, take, drop, replicate, refl, ap, sym, ◌∙◌, ◌↔◌, arith}
 use Rattle.std.proofs.Math.Nat.{div-div-eq-div-mul, mul-add-div_right, mul_assoc, mul_comm}
