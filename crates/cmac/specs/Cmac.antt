@@ -40,8 +40,8 @@ subkey_2 w = doubled_block (subkey_1 w)
 
 -- ---- the tag (6.2)
 
--- n - 1, of a message of so many bytes: how many blocks come before the last one, M_n*, which has 1 to 16 bytes, or none
--- if the message has none (steps 2 and 3); 0 - 1 is 0
+-- n - 1, of a message of this many bytes: how many blocks come before the last one, M_n*, which has
+-- 1 to 16 bytes, or none if the message has none (steps 2 and 3); 0 - 1 is 0
 unfoldable pub before_last : ℕ → ℕ
 before_last bytes = (bytes - 1) / 16
 
