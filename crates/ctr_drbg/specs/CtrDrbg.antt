@@ -86,7 +86,7 @@ unfolding padded update
 prepared additional_input s = if length additional_input == 0 then s
     else update (padded additional_input) s
 
--- returned_bits: so many bytes of output (steps 3 to 5)
+-- returned_bits: this many bytes of output (steps 3 to 5)
 unfoldable pub returned_bits : ℕ → List ℕ → State → List ℕ
 unfolding prepared output
 returned_bits n additional_input s =

@@ -40,7 +40,7 @@ pub fn turn_examples()
     ensures most { turns (2 ^ 16) ≡ 4096 }
 {}
 
-/// Blocks that fill so many bytes, whatever their number, and no block more than that.
+/// As many blocks as fill a number of bytes, and no block more.
 #[tactic(auto, unfolding(crate::specs::CtrDrbg::turns))]
 pub fn enough_turns()
     ensures enough { (n : ℕ) → n ≤ 16 * turns n }
