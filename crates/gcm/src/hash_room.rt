@@ -1,4 +1,4 @@
-//! Room for what GHASH takes of a block H, and GHASH over it: tables of H's multiples where a
+//! Room for what GHASH needs of a block H, and GHASH over it: tables of H's multiples where a
 //! processor has a byte shuffle, H alone where it has none.
 
 ghost use Rattle.std.specs.Prelude.{◌≡◌, ℕ, List, ◌/◌, ◌%◌, ◌<◌, ◌++◌, length};
@@ -17,7 +17,7 @@ use aes_cipher::cipher::Block;
 use aes_cipher::zeroize::Zeroize;
 use std::marker::Model;
 
-/// Room for what products with a block H take. It is as secret as H.
+/// Room for what products with a block H need. It is as secret as H.
 pub trait HashRoom: Zeroize {
     /// The room has what products with H need.
     ghost IsMade: { Self → Type 0 };
@@ -25,7 +25,7 @@ pub trait HashRoom: Zeroize {
     /// The block H.
     ghost subkey: { Self → ℕ };
 
-    /// Writes what products with H take.
+    /// Writes what products with H need.
     fn put(&mut self, h: u128)
         ensures made { IsMade self.new }
         ensures subkey { subkey self.new ≡ h };
@@ -112,7 +112,7 @@ impl HashRoom for SubkeyRoom {
     }
 }
 
-/// What products with a block H take, in room that is lent. Contracts see a value as H.
+/// What products with a block H need, in room that is lent. Contracts see a value as H.
 #[derive(Drop)]
 pub struct LentRoom<'a, R: HashRoom> {
     room: &'a R,
