@@ -9,7 +9,7 @@
 //!   leaves nothing of it.
 //! - `Aes` is the struct of the library of blocks. `holds_key_of(aes)` says whether it holds a key,
 //!   and `put_key_of(aes, kept)` writes that key, reading nothing of what was kept.
-//! - `is_key_size(bytes)` says whether keys have so many bytes.
+//! - `is_key_size(bytes)` says whether keys have this many bytes.
 //! - `lent(kept)` lends the key of a struct that holds one as a cipher, which is a `LentKey`.
 //! - `TagRoom` is room for what the tags of GCM are made with, a `HashRoom`; `ShortRoom` and
 //!   `LongRoom` are that of a message of AES-GCM-SIV, each a `PolyvalRoom`, the first for short ones.

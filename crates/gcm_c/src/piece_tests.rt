@@ -1,5 +1,5 @@
 //! Messages in pieces through the exports: however they are cut, texts and tags are those that NIST
-//! publishes, and what isn't to be taken is refused by its exact status.
+//! publishes, and what mustn't be accepted is refused by its exact status.
 
 ghost use Rattle.std.specs.Prelude.{◌<◌, ◌≤◌};
 ghost use Rattle.gcm_c.specs.Kept.{IsMade};
@@ -15,7 +15,7 @@ use super::{
 };
 use aes_cipher::zeroize::Zeroize;
 
-// Where a piece of `size` bytes ends that begins inside of so many.
+// Where a piece of `size` bytes ends that begins at `from`, or where the message ends.
 fn end_of(from: usize, size: usize, length: usize) -> usize
     requires { from ≤ length }
     ensures after { from ≤ result }

@@ -21,7 +21,7 @@ pub const TOO_LONG: u32 = 5;
 /// The tag isn't that of the key, the nonce, the additional data and the text.
 pub const REFUSED: u32 = 6;
 
-/// The counter of nonces has come to its end.
+/// The counter of nonces has no nonce left.
 pub const NONCES_END: u32 = 7;
 
 /// The call came in the wrong order: the message is in another phase.
