@@ -84,7 +84,7 @@ encryption_key key nonce = let w = fips.key_expansion key in
     derived w nonce 2 ++ derived w nonce 3 ++ (if length key == 32 then
     derived w nonce 4 ++ derived w nonce 5 else [])
 
--- a key-generating key has so many bytes
+-- a key-generating key has this many bytes
 abbrev pub IsKeySize : ℕ → Type 0
 IsKeySize n = (n ≡ 16) ⊎ (n ≡ 32)
 

@@ -73,7 +73,7 @@ pub fn derive<C: BlockCipherEncrypt>(cipher: &C, size: usize, nonce: &[u8; 12], 
     put_halves(keys);
 }
 
-/// Writes the multiples that POLYVAL takes: those of an authentication key times x^-1.
+/// Writes the multiples that POLYVAL needs: those of an authentication key times x^-1.
 pub fn put_authentication<R: PolyvalRoom>(key: &Block, room: &mut R)
     ensures made { R.IsMade room.new }
     ensures authentication { R.element room.new ≡ next_v (from_le_bytes w128 key.now) }
