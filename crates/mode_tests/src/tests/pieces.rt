@@ -17,7 +17,7 @@ fn bytes() -> [u8; 100] {
     bytes
 }
 
-// Where a piece of `size` bytes ends that begins inside of so many.
+// Where a piece of `size` bytes ends that begins at `from`, or where the message ends.
 fn end_of(from: usize, size: usize, length: usize) -> usize
     requires { from ≤ length }
     ensures after { from ≤ result }
