@@ -1,4 +1,4 @@
--- Which block of a row a byte falls in, and sums of data and a row of blocks.
+-- Which block of a batch a byte falls in, and sums of data and a batch of blocks.
 use Rattle.std.proofs.Common.{◌≡◌, ℕ, ◌+◌, ◌*◌, ◌/◌, ◌%◌, ◌<◌, ◌≤◌, List, [], ◌++◌, length}
 use Rattle.std.proofs.Common.{slice_index, slice_index_or, ◌⊎◌, inl, inr, ◌-◌, map, take, drop, set}
 use Rattle.std.proofs.Common.{ap, refl, ◌∙◌, sym, arith}
