@@ -70,8 +70,8 @@ instantiate entropy_input personalization_string =
 
 -- ---- CTR_DRBG_Reseed (10.2.1.4.1)
 
--- the state updated by the entropy input ⊕ the padded additional input, and reseed_counter set to 1
--- (steps 1 to 5)
+-- the working state updated by the entropy input ⊕ the padded additional input, and reseed_counter
+-- set to 1 (steps 1 to 5)
 unfoldable pub reseed : List ℕ → List ℕ → State → State
 unfolding padded exclusive_or update
 reseed entropy_input additional_input s =
@@ -79,8 +79,8 @@ reseed entropy_input additional_input s =
 
 -- ---- CTR_DRBG_Generate (10.2.1.5.1), where the number of bytes is allowed and no reseed is required
 
--- the state updated by the padded additional input; as it was if that is Null, a string of no bytes
--- (step 2)
+-- the working state updated by the padded additional input; as it was if that is Null, a string of
+-- no bytes (step 2)
 unfoldable pub prepared : List ℕ → State → State
 unfolding padded update
 prepared additional_input s = if length additional_input == 0 then s
