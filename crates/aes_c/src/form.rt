@@ -47,7 +47,7 @@ pub(crate) fn lent(kept: &KeptKey) -> LentKey<'_>
     kept.lent()
 }
 
-/// Lends it to decrypt.
+/// Lends the key of a struct that holds one, to decrypt.
 #[inline(always)]
 pub(crate) fn lent_back(aes: &Aes) -> Lent<'_, Decrypt, BuildWidth>
     requires made { IsMade aes.now }
