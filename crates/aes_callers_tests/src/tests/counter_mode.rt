@@ -64,7 +64,7 @@ fn passes_under<K: KeySize, T: CounterTrial>(trial: &T, key: &K::Key) -> bool {
     trial.passes(&FixslicedAes::<K, Encrypt>::new(key))
 }
 
-// Whether it passes under the key of the standard's example.
+// Whether the type that encrypts passes under the key of the standard's example.
 fn passes<T: CounterTrial>(trial: &T) -> bool {
     passes_under::<Bits128, T>(trial, &KEY_A1)
 }
