@@ -18,7 +18,7 @@ pub trait Width {
     /// The words of the planes on which many blocks are processed.
     type Many: Word;
 
-    /// How many blocks these planes hold, as a type.
+    /// How many blocks planes of `Many` hold, as a type.
     type Par: BatchSize;
 
     /// The number of blocks from which encryption takes less time on planes, whose round keys have
