@@ -47,7 +47,7 @@ pub fn encrypts<C: BlockCipherEncrypt>(cipher: &C, encrypted: u128) -> bool {
     u128::from_be_bytes(block) == encrypted
 }
 
-/// Whether it comes back from there.
+/// Whether that block's encryption is decrypted to it.
 pub fn decrypts<C: BlockCipherDecrypt>(cipher: &C, encrypted: u128) -> bool {
     let mut block = encrypted.to_be_bytes();
     cipher.decrypt_block(&mut block);

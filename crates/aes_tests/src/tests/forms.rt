@@ -70,7 +70,7 @@ pub struct Known {
     pub name: &'static str,
     /// The key of FIPS 197, appendix C.
     pub key: &'static [u8],
-    /// The block there under that key.
+    /// The encryption of the block of appendix C under that key.
     pub encrypted: u128,
     /// A block of zeros under the key of zeros.
     pub zeros: u128,
