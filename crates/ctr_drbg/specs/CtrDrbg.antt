@@ -43,7 +43,7 @@ temp_after key v (suc i) = temp_after key v i ++ fips.cipher key (v_after v (suc
 unfoldable pub turns : ℕ → ℕ
 turns n = (n + 15) / 16
 
--- temp after these, cut to its leftmost n bytes
+-- temp after so many turns, cut to its leftmost n bytes
 unfoldable pub output : List ℕ → List ℕ → ℕ → List ℕ
 unfolding temp_after turns
 output key v n = take n (temp_after key v (turns n))
