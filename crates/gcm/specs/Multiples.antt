@@ -90,10 +90,10 @@ reduced k l = bit_xor k (folded l)
 
 -- ---- room for H alone
 
--- the block that stands there
+-- the block H that stands in the room
 abbrev pub subkey_alone : List (List ℕ) → ℕ
 subkey_alone room = from_be_bytes w128 (slice_index_or room 0 [])
 
--- every room for it has a block
+-- room for H alone is always in order: whatever it has is a block
 abbrev pub IsAlone : List (List ℕ) → Type 0
 IsAlone room = Unit {0}
