@@ -54,7 +54,7 @@ pub(crate) fn holds_key_of(aes: &Aes) -> bool
     aes.key.holds_key()
 }
 
-/// Writes the key of such a struct.
+/// Writes the key of a struct of the library of blocks.
 #[inline(always)]
 pub(crate) fn put_key_of(aes: &Aes, kept: &mut KeptKey)
     ensures { kept.new ≡ key_of aes.now }

@@ -47,7 +47,7 @@ enum Work {
     DecryptUnverified,
 }
 
-// Does it, in pieces of `size` bytes.
+// Does the work on a text, in pieces of `size` bytes.
 fn goes_on(gcm: &Gcm, message: &mut Message, work: &Work, text: &mut [u8], size: usize) -> bool
     requires made { IsMade gcm.now }
     requires some { 0 < size }
