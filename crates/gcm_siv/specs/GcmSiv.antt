@@ -135,7 +135,7 @@ tag_under w h nonce a p = fips.cipher_with w (tag_input (hash h a p) nonce)
 unfoldable pub first_counter : List ℕ → List ℕ
 first_counter tag = take 15 tag ++ (128 + slice_index tag 15 % 128) ∷ []
 
--- the cipher text of a plain text, and the other way round
+-- the cipher text of a plain text, or the plain text of a cipher text
 unfoldable pub text_under : List (List ℕ) → List ℕ → List ℕ → List ℕ
 unfolding counter_mode first_counter
 text_under w tag x = counter_mode w (first_counter tag) x

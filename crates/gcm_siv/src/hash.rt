@@ -59,10 +59,10 @@ fn bytes_of(value: u8x16) -> Block
 /// Room for what POLYVAL looks up: multiples of the authentication key times x^-1. It is as secret
 /// as the key.
 pub trait PolyvalRoom: Zeroize {
-    /// The multiples stand there.
+    /// The room has the multiples.
     ghost IsMade: { Self → Type 0 };
 
-    /// What they are multiples of.
+    /// The factor that the room has multiples of.
     ghost element: { Self → ℕ };
 
     /// Writes the multiples of a factor.
