@@ -146,7 +146,7 @@ fn is_padded(check: &Semiblock, halves: &[Semiblock]) -> bool
     wrong == 0
 }
 
-// How many bytes a key has, of the first semiblock.
+// How many bytes a key has, by the first semiblock.
 fn length_in(check: &Semiblock) -> u32
     requires { take 4 check.now ≡ padded_check }
     ensures { heading result ≡ check.now }
