@@ -54,7 +54,7 @@ enum Work {
     DecryptUnverified,
 }
 
-// Does it, in pieces of `size` bytes.
+// Does the work on a text, in pieces of `size` bytes.
 fn goes_on(
     mode: &LentGcm<'_, &Aes128Enc>,
     message: &mut Message,
