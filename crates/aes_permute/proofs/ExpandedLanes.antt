@@ -371,7 +371,8 @@ unfolding key_untower
 plain_key_is x l = zip2_splat bit_xor (map untower x) 16 0x63 (map_length untower x ∙ l)
     ∙ map-map plus63 untower x
 
--- the last round key is stored with 0x63 added, outside the tower basis
+-- the last round key, stored outside the tower basis with 0x63 added, stands for what it is in that
+-- basis
 pub last_key_is : (x : List ℕ) → map plus63 (map key_untower x) ≡ map untower x
 unfolding key_untower
 last_key_is x = ap (map plus63) (sym (map-map plus63 untower x)) ∙ plus63_twice (map untower x)
