@@ -33,7 +33,8 @@ drawn_bit s m x i h = bit_of_and (bit_or x (x * 2 ^ s % 2 ^ 64)) m i
     ∙ ap (λ b. b && bit m i) (bit_of_or x (x * 2 ^ s % 2 ^ 64) i
     ∙ ap (λ b. bit x i || b) (bit_shl 64 x s i h))
 
--- the test that a place is right: under a mask one of two bits may stand there, and one shall
+-- whether a place has the right bit: under a mask, the first or the second of two bits that can
+-- stand there
 joined_right : Bool → Bool → Bool → Bool → Bool → Bool → Bool
 joined_right p q false o e f = not o
 joined_right p q true false e f = not p && not q
@@ -46,7 +47,7 @@ second : (q : Bool) (x : ℕ → Bool) (v w : ℕ) → (not q || (v == w)) ≡ t
 second true x v w h = ap (λ k. x w || x k) (eqb-true v w h) ∙ or_self (x w)
 second false x v w h = or-false (x w)
 
--- what the mask lets through of two bits that pass the test is the bit that shall stand there
+-- what the mask lets through of two bits that pass the test is the right bit
 joined : (p q b o : Bool) (x : ℕ → Bool) (u v w : ℕ) → joined_right p q b o (u == w) (v == w) ≡ true
     → (((p && x u) || (q && x v)) && b) ≡ (o && x w)
 unfolding joined_right
