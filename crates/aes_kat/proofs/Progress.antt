@@ -126,14 +126,14 @@ Gathers-line a b c before begun front line rest after cleared fault is h p q cut
 
 -- ---- what is written
 
--- the writer can stop where the work stands
+-- the output can stop where the work stands
 pub StopsWithin-here : (a b : Option (List ℕ)) (before after : List ℕ) (fault : Bool)
     → Advances a b before after fault
     → StopsWithin a b before
 StopsWithin-here a b before after fault h =
     (h.0, h.1, λ next. (answers_to (after ++ next), h.2.answers next))
 
--- the writer can stop within what was gathered from nothing
+-- the output can stop within what was gathered from nothing
 pub StopsWithin-written : (a b : Option (List ℕ)) (none all before after : List ℕ)
     (fault : Bool) → none ≡ []
     → Gathers none all before after fault → AppendsBeginning a b all → StopsWithin a b before
@@ -162,7 +162,7 @@ module _ (a b c : Option (List ℕ)) (before line : List ℕ) (fault : Bool)
         (Answered-more before line h.0 chunk fault h.2) k.2,
   )
 
-  -- the writer can stop within a chunk
+  -- the output can stop within a chunk
   pub StopsWithin-chunk : (chunk : List ℕ) → StopsWithin b c (line ++ chunk)
       → StopsWithin a c (before ++ chunk)
   StopsWithin-chunk chunk stop = (
@@ -176,7 +176,7 @@ module _ (a b c : Option (List ℕ)) (before line : List ℕ) (fault : Bool)
         ),
   )
 
-  -- the writer can stop within the answers to what is left of the text, which has ended
+  -- the output can stop within the answers to what is left of the text, which has ended
   pub AppendsBeginning-ended : AppendsBeginning b c (answers_to line)
       → AppendsBeginning a c (answers_to before)
   AppendsBeginning-ended stop = (
