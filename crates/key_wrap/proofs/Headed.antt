@@ -79,7 +79,7 @@ length-padded key =
     let n : ℕ = 8 * filled (length key) - length key in
     length-append key (replicate n 0) ∙ omega (arith, length-replicate {A = ℕ} n 0)
 
--- the semiblock before a key's makes one more
+-- the semiblock before those of a key makes one more
 pub headed_length : (key : List ℕ) → length (headed key) ≡ filled (length key) + 1
 unfolding headed
 headed_length key = omega (arith, length-semiblocks (padded key) (filled (length key)))
