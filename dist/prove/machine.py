@@ -26,7 +26,7 @@ import subprocess
 from collections import namedtuple
 
 from bits import LOST, PUBLIC, Pause, Undefined, Unproved
-from linear import Linear, implied, is_number, replaced, step_of, tightened, unknown, wrapped
+from linear import Linear, implied, is_number, replaced, step_of, terms, tightened, unknown, wrapped
 
 Pointer = namedtuple("Pointer", "base offset")  # base: the name of a region, or of a register's value before the call
 Distance = namedtuple("Distance", "base other offset")  # the address of a buffer, less that of another, plus a constant
@@ -45,6 +45,7 @@ Instruction = namedtuple("Instruction", "run name operands next form")  # form: 
 
 LIBC = "memcpy", "memmove", "memset"
 LEAD, LAST = 2, 200  # the number of the first block of a buffer whose length isn't known; those that occur are less than LAST
+WRAPPED = "wrapped"  # an unknown: the block from which on the counter has wrapped around, if that is in what is done
 ROOM = Pointer("room", 0)  # how many bytes of keystream come before the counter of GCM, 32 bits of unknown value, wraps around
 SECRET = "secret"  # a flag that depends on the key or on data; None is a flag that is undefined
 RETURN_ADDRESS = Pointer("return address", 0)
@@ -148,11 +149,12 @@ class Region:
 
 class Window(Region):
     """A buffer of a size that isn't known. `content` has the bytes from `origin` on, as far as they were accessed. Before these each block
-    is what `done` says of its bytes, and behind them what `initial` says; these patterns are those of the block with number LEAD."""
+    is what it has to be: by `want`, a function of the machine and of the number of the block in the buffer. Behind them it is what
+    `initial` says. These patterns are those of the block with number LEAD."""
 
-    def __init__(self, size, initial, writable):
-        super().__init__([], writable)
-        self.size, self.initial, self.done, self.origin = size, initial, None, 0
+    def __init__(self, size, initial, want):
+        super().__init__([], want is not None)
+        self.size, self.initial, self.want, self.origin = size, initial, want, 0
 
     def at(self, m):
         """Where `content` begins, from the block with number LEAD on."""
@@ -177,31 +179,33 @@ class Window(Region):
         self.extend(m, at + size)
         return at
 
+    def wanted(self, m):
+        """What the first block of `content` has to be; None for bytes of which what is known doesn't say it."""
+        want = self.want(m, self.origin // 16 if is_int(self.origin) else self.origin.divided(16)[0])
+        return [x if x is None else m.domain.moved(x, self.at(m) // 16) for x in want]
+
     def settle(self, m):
-        """Leaves out the first blocks that are done: those that aren't what they were, and all of one pattern."""
+        """Leaves out the first blocks that are what they have to be, and not what they were."""
         if not self.writable:
             self.content, self.origin = [], 0
         while len(self.content) >= 16:
-            by = self.at(m) // 16
-            pattern = [m.domain.moved(x, -by) for x in self.content[:16]]
-            if pattern == self.initial or pattern != (self.done or pattern):
+            have, before = self.content[:16], [m.domain.moved(x, self.at(m) // 16) for x in self.initial]
+            if have == before or have != self.wanted(m):
                 return
-            self.done, self.origin, self.content = pattern, self.origin + 16, self.content[16:]
+            self.origin, self.content = self.origin + 16, self.content[16:]
 
-    def finish(self, m):
-        """The pattern of all blocks, up to the end."""
+    def finish(self, m, name):
+        """Compares all blocks with what they have to be, up to the end."""
         rest = self.size - self.origin
         if not is_int(rest) or rest < 0:
-            raise Unproved("a buffer of %s bytes is only done up to %s" % (self.size, self.origin))
+            raise Unproved("%s has %s bytes and is only done up to %s" % (name, self.size, self.origin))
         self.extend(m, rest)
-        self.content = self.content[:rest]
-        done, at = self.done, self.at(m)
-        for i in range(at, at + rest, 16):
-            pattern = [m.domain.moved(x, -(i // 16)) for x in self.content[i - at:][:16]]
-            done = done or pattern
-            if pattern != done[:len(pattern)]:
-                raise Unproved("blocks of a buffer aren't alike")
-        return done
+        for at in range(0, rest, 16):
+            have, want = self.content[:min(16, rest - at)], self.wanted(m)
+            if have != want[:len(have)]:
+                raise Unproved("the block at %s of %s is not what it has to be: it begins with %s" % (
+                    self.origin, name, m.domain.describe(have[0])))
+            self.origin, self.content = self.origin + 16, self.content[16:]
 
 
 class Program:
@@ -325,7 +329,7 @@ class Machine:
         if named is None:
             return list(value[:size])
         if self.any_length and is_pointer(value) and self.counter and value.base == self.counter.word:
-            value = Placed(*value, self.first_block)
+            value = Placed(*value, self.first_block + self.counter.first)
         above = self.domain.undefined if isinstance(value, Number) else 0
         return [self.domain.opaque((value, k)) for k in range(min(named, size))] + [above] * (size - named)
 
@@ -400,7 +404,7 @@ class Machine:
             by = (y if is_pointer(x) else x) + carry  # so many more, where neither has wrapped around
             known = counter and r.base == counter.word and self.implied(old.offset) and old.offset + by == r.offset and (
                 self.fits(by) and self.implied(counter.last - r.offset))
-            return r, {"c": int(counter.wrap <= WORD and old.offset < counter.wrap <= r.offset)} if known else {}
+            return r, {"c": self.wraps(old.offset, r.offset)} if known else {}
         fixed, rest = (x, y) if is_int(x) else (y, x)
         if self.room and (fixed, carry, *self.to_bytes(rest, size)) in self.room[0]:
             return ROOM, {}
@@ -412,6 +416,10 @@ class Machine:
             zero = self.differences(rest, -fixed - carry, size)
             return self.verdict(0, zero, size), {"c": SECRET, "z": self.zero_flag(zero), "s": SECRET, "o": SECRET}
         return self.unbits(bits), {"c": self.flag_of(out), "z": SECRET, "s": SECRET, "o": SECRET}
+
+    def wraps(self, block, later):
+        """Whether the low half of the counter wraps around between two blocks."""
+        return self.compare_numbers(block, self.counter.wrap, "below") and 1 - self.compare_numbers(later, self.counter.wrap, "below")
 
     def flag_of(self, bit):
         """A bit as a flag. One that depends on public bytes alone may be asked."""
@@ -537,12 +545,17 @@ class Machine:
         """Whether x is below y, or equal. If that doesn't follow, it is a question, of which each answer is a fact."""
         if what == "equal":
             return int(not (self.compare_numbers(x, y, "below") or self.compare_numbers(y, x, "below")))
-        for answer, fact in (1, y - x - 1), (0, x - y):
-            if self.implied(fact):
-                if not is_int(fact):
-                    self.decided.append((self.last, fact))
-                return answer
-        raise Question((x, y, what))
+        below = self.is_below(x, y)
+        if below is None:
+            raise Question((x, y, what))
+        fact = y - x - 1 if below else x - y
+        if not is_int(fact):
+            self.decided.append((self.last, fact))
+        return below
+
+    def is_below(self, x, y):
+        """The same, or None if it doesn't follow."""
+        return 1 if self.implied(y - x - 1) else 0 if self.implied(x - y) else None
 
     def assume(self, fact):
         """Takes one more fact; if it says what an unknown is, this takes the unknown's place everywhere."""
@@ -595,6 +608,19 @@ class Machine:
                 region.content = settled(region.content)
         if self.counter:
             self.vectors = [settled(v) for v in self.vectors]
+            self.forget_wrap()
+
+    def forget_wrap(self):
+        """Of a counter that has wrapped around where the text is done, nothing is kept but that."""
+        done = [r.origin for r in self.regions.values() if isinstance(r, Window) and r.writable]
+        if not self.counter or is_int(self.counter.wrap) or len(done) != 1:
+            return
+        wrap, (done,) = self.counter.wrap, done
+        here = self.counter.first + (done // 16 if is_int(done) else done.divided(16)[0])
+        if self.implied(here - wrap):
+            other = {WRAPPED, *(name for name, _ in wrap.terms if wrap == unknown(name))}
+            self.counter = self.counter._replace(wrap=unknown(WRAPPED))
+            self.facts = frozenset(f for f in self.facts if other.isdisjoint(terms(f))) | {unknown(WRAPPED) - 1, here - unknown(WRAPPED)}
 
     def without_name(self, byte):
         placed = isinstance(self.domain.opaque_of.get(byte, [0])[0], Placed)
@@ -608,7 +634,7 @@ class Machine:
         a, b = (self.regions.get(p.base) if is_pointer(p) and p.offset == 0 else None for p in (to, source))
         if not (isinstance(a, Window) and isinstance(b, Window) and a.size == b.size == count and a.writable and not b.writable):
             raise Unproved("a copy of a number of bytes that isn't known, and not of a whole buffer")
-        a.initial, a.done, a.origin, a.content = b.initial, None, 0, []
+        a.initial, a.origin, a.content = b.initial, 0, []
 
     def overlaps(self, x, y, what):
         """Whether a flag says that two buffers of this length overlap, which the header excludes where one is written to."""
