@@ -22,7 +22,8 @@ KEPT_KEY = 244  # bytes with which a struct begins: the key's length, and the ro
 
 # The low half of a counter, by its name: `word` and an offset i are that of block i. A call begins at block `first`. From block `wrap` on
 # it has wrapped around; later blocks than `last` don't occur.
-CounterWord = namedtuple("CounterWord", "word first wrap last")
+# `words` are those bytes of a whole counter that are words of unknown value.
+CounterWord = namedtuple("CounterWord", "word first wrap last words", defaults=[None])
 NEVER, BATCH = 1 << 64, 16  # a batch may have more blocks than the text
 PTRDIFF_MAX = (1 << 63) - 1
 
@@ -220,7 +221,8 @@ class Keyed:
         (chain, chained), count, d = self.chain(), unknown("n"), self.domain
         content, want = self.pattern(self.block_bytes, -1), self.pattern(chain)
 
-        def steps(k):
+        def steps(m):
+            k = m.done - m.first_block
             return "vector", [d.moved(b, k) for b in chained], [d.moved(b, k) for b in want]
         return self.of_any_count("aes_cbc_encrypt", [Buffer("cbc", chain, self.of_last(want, count))], content, want, count, count * 16,
                                  content, steps=steps)

@@ -211,16 +211,23 @@ def step_by_step(steps):
     (or a function that makes that), and other bytes, which are arbitrary. When the result is there, these bytes take its place everywhere,
     so what is proved from there on holds for any. "hash" is looked for in vector registers, or as two words in either order of bytes;
     products of bits are then forgotten: what still depends on them is lost, and may not even be left. "vector" is looked for in vector
-    registers, "memory" where something was written, "block" in all these places; another name is that of a region."""
-    at = functools.lru_cache(None)(steps) if callable(steps) else None
-    steps = () if at else list(steps)
+    registers, "memory" where something was written, "block" in all these places; another name is that of a region. In a call of any length
+    `steps` is a function of the machine; then "whole" waits for all of a buffer, and "nothing" says that what comes next isn't known."""
+    steps = steps if callable(steps) else list(steps)
 
     def watch(m):
-        if not at and m.done == len(steps):
+        if m.want is None:
+            if not callable(steps) and m.done == len(steps):
+                return
+            where, want, new = steps(m) if callable(steps) else steps[m.done]
+            # (Made before the code comes to it, so the code's products have the factors that it names: with_powers.)
+            m.want = where, want() if callable(want) else want, new
+        where, want, new = m.want
+        if where == "whole" and m.regions[want].is_done(m):
+            m.begin_again(want, new)
+            m.done, m.want = m.done + 1, None
+        if where in ("whole", "nothing"):
             return
-        where, want, new = at(m.done - m.first_block) if at else steps[m.done]
-        if callable(want):  # made before the code comes to it, so the code's products have the factors that it names (with_powers)
-            want = m.want = m.want or want()
         if found(m, where, want):
             replaced, lost, on = {}, None, depends(m, *want) if where == "hash" else 0
             for x, y in zip(want, new):

@@ -33,7 +33,8 @@ Distance = namedtuple("Distance", "base other offset")  # the address of a buffe
 Number = namedtuple("Number", "base offset")  # 32 bits: a number of unknown value, plus a constant; higher bytes aren't known
 # So many bytes of which only this is known: they are the number `right` if all the differences are 0, else another one; zeros above.
 Verdict = namedtuple("Verdict", "right differences size")
-NAMED_SIZES = {Pointer: 8, Distance: 8, Linear: 8, Number: 4}  # how many bytes of these are known by their names
+Scaled = namedtuple("Scaled", "number factor")  # the higher 64 bits of the product of a number that isn't known and a constant
+NAMED_SIZES = {Pointer: 8, Distance: 8, Linear: 8, Scaled: 8, Number: 4}  # how many bytes of these are known by their names
 
 # Operands; others are ints, and texts or tuples of these that only instructions of one machine have.
 Register = namedtuple("Register", "name size at", defaults=[0])  # at: the first byte; x86's ah, bh, ch and dh begin at byte 1
@@ -194,8 +195,26 @@ class Window(Region):
                 return
             self.origin, self.content = self.origin + 16, self.content[16:]
 
+    def is_done(self, m):
+        """Whether all blocks are what they have to be."""
+        rest = self.size - self.origin
+        if not is_int(rest) or rest != len(self.content):
+            return False
+        copy = self.copy()
+        try:
+            copy.finish(m, "")
+        except Unproved:
+            return False
+        return True
+
+    def begin_again(self, initial):
+        """All blocks are what they have to be, and nothing more is written. They may be read once more, as these."""
+        self.initial, self.origin, self.content, self.writable = initial, 0, [], False
+
     def finish(self, m, name):
         """Compares all blocks with what they have to be, up to the end."""
+        if not self.writable:
+            return
         rest = self.size - self.origin
         if not is_int(rest) or rest < 0:
             raise Unproved("%s has %s bytes and is only done up to %s" % (name, self.size, self.origin))
@@ -386,6 +405,8 @@ class Machine:
     # Sums and differences with their flags: (result, {flag: value}).
     def plus(self, x, y, carry, size):
         mask, top = (1 << 8 * size) - 1, 8 * size - 1
+        if self.counter and self.counter.words:
+            x, y = (self.counter.words.get(tuple(v), v) if type(v) is tuple else v for v in (x, y))
         if is_int(x, y):
             full = (x & mask) + (y & mask) + carry
             r = full & mask
@@ -523,6 +544,21 @@ class Machine:
         self.facts |= {x - q * by, q * by + by - 1 - x}
         return q
 
+    def high_product(self, x, y):
+        """The higher 64 bits of a product."""
+        if isinstance(x, Linear) and is_int(y) and self.fits(x):
+            return Scaled(x, y)
+        return constant("a factor", x) * constant("a factor", y) >> 64
+
+    def quotient_by_product(self, scaled, count):
+        """A division by a constant that is done by a product: for x below 2^64, x * factor / 2^(64 + count) has the same whole part as x / d
+        if 2^(64 + count) <= d * factor <= 2^(64 + count) + 2^count. (Granlund and Montgomery, 1994, theorem 4.2)"""
+        x, factor = scaled
+        by = -(-(1 << 64 + count) // factor)
+        if by * factor > (1 << 64 + count) + (1 << count):
+            raise Unproved("a product that isn't a division")
+        return self.quotient(x, by)
+
     def masked(self, x, y):
         """`and` with a mask of bits that are known, or of all the others; else None."""
         x, y = (y, x) if is_int(x) else (x, y)
@@ -577,7 +613,7 @@ class Machine:
             if isinstance(region, Window):
                 region.size, region.origin = new(region.size), new(region.origin)
         self.counter, self.done = new(self.counter), new(self.done)
-        self.loops, self.replaced = {}, [*self.replaced, (name, by)]
+        self.loops, self.replaced, self.want = {}, [*self.replaced, (name, by)], None
 
     def renumbered(self, b, new):
         """A byte, with another number in the place of that of which it is one."""
@@ -646,6 +682,12 @@ class Machine:
         """A byte of which nothing is known; it may depend on the key."""
         self.lost.add(self.domain.opaque(LOST))
         return self.domain.opaque(LOST)
+
+    def begin_again(self, name, initial):
+        """All of a buffer is done; its blocks become others. What is left of blocks is forgotten, and they are numbered anew."""
+        self.regions[name].begin_again(initial)
+        self.each_byte(lambda b: self.any_byte() if self.domain.blocks(b) else b)
+        self.first_block, self.origins = 0, {place: on for place, on in self.origins.items() if not place[1]}
 
     def each_byte(self, convert):
         """Puts other bytes in the place of those of registers and memory."""
@@ -740,8 +782,11 @@ class Machine:
             return v << count & (1 << 8 * size) - 1
         if isinstance(v, Linear) and size == 8 and how == "lsl":
             return self.offset(v * (1 << count), 0)
-        if isinstance(v, Linear) and size == 8 and how == "lsr" and self.fits(self.ranged(v)):
+        divides = isinstance(v, Linear) and (not self.any_length or step_of(v) >> count)
+        if divides and size == 8 and how == "lsr" and self.fits(self.ranged(v)):
             return self.quotient(self.ranged(v), 1 << count)
+        if isinstance(v, Scaled) and how == "lsr":
+            return self.quotient_by_product(v, count)
         b = self.bits(v, size)
         if how == "lsl":
             return self.unbits(([0] * count + b)[:8 * size])
