@@ -18,14 +18,14 @@ use Rattle.gcm.proofs.Rows.{by_sixteen, byte_of_sum, byte_at}
 
 -- ---- a byte that is looked up for each nibble
 
--- r, and no place where a mask has 128, are indices
+-- the indices of byte r under a mask: r, or above 127 where the mask has 128
 pub indices : (r : ℕ) (mask : List ℕ)
     → all_below 16 (λ r. list_all is_index (zip2 bit_or (replicate 16 r) mask)) ≡ true
     → r < 16 → AreIndices (zip2 bit_or (replicate 16 r) mask)
 indices r mask test inside =
     all_below_tells 16 (λ r. list_all is_index (zip2 bit_or (replicate 16 r) mask)) test r inside
 
--- what is there
+-- the entry at such an index: byte r of a number's block, or 0 under the mask
 there : (x r : ℕ) (block : List ℕ) (t : Bool) → r < 16 → block ≡ to_be_bytes w128 x
     → looked block (bit_or r (if t then 128 else 0)) ≡ (if t then 0 else byte_of x r)
 there x r block true inside is =
@@ -38,12 +38,12 @@ there x r block false inside is =
     (by_eight _ refl refl refl refl refl refl refl refl) r inside
     ∙ ap (λ l. get_or l r 0) is ∙ byte_at x r inside
 
--- a byte of a number or of 0
+-- byte r of a number, or 0, is byte r of that number or of 0
 byte_if : (t : Bool) (y r : ℕ) → (if t then 0 else byte_of y r) ≡ byte_of (if t then 0 else y) r
 byte_if true y r = sym (byte_of_sum 0 0 r ∙ xor_self (byte_of 0 r))
 byte_if false y r = refl
 
--- a byte of a multiple
+-- byte r of a nibble's multiple is the sum of the entries for its four bits
 pub entry : (v v1 v2 v3 r n e f g h : ℕ) → v1 ≡ next_v v → v2 ≡ next_v v1 → v3 ≡ next_v v2 → n < 16
     → e ≡ (if n / 8 == 0 then 0 else byte_of v r) → f ≡ (if n / 4 % 2 == 0 then 0 else byte_of v1 r)
     → g ≡ (if n / 2 % 2 == 0 then 0 else byte_of v2 r)
@@ -62,7 +62,7 @@ entry v v1 v2 v3 r n e f g h one two three small e_is f_is g_is h_is =
     ∙ sym (byte_of_sum (bit_xor (bit_xor a b) c) d r)
     ∙ ap (λ y. byte_of y r) (nibble_is v n a b c d v1 v2 v3 one two three small refl refl refl refl)
 
--- a row
+-- the sums of the four look-ups of byte r are row r
 pub row_lanes : (v v1 v2 v3 r : ℕ) (a b c d : List ℕ) → v1 ≡ next_v v → v2 ≡ next_v v1
     → v3 ≡ next_v v2 → r < 16
     → a ≡ to_be_bytes w128 v → b ≡ to_be_bytes w128 v1 → c ≡ to_be_bytes w128 v2
