@@ -2,7 +2,6 @@
 //! 197). The round keys of a key are stored as planes, and serve both directions.
 #![tactic(auto)]
 
-mod backend;
 pub mod blocks;
 pub mod examples;
 pub mod kept_key;
