@@ -5,6 +5,7 @@
 pub mod blocks;
 pub mod examples;
 pub mod kept_key;
+pub mod kept_word;
 pub mod lent;
 pub mod narrow_word;
 pub mod word_room;
