@@ -93,7 +93,7 @@ static int inner(void) {
     return said;
 }
 
-/* A function of the library from whose text what empties registers was taken. */
+/* A function of the library from whose assembly what empties registers was taken. */
 #ifdef PLANTED_ABI
 extern PLANTED_ABI int PLANTED(const struct fotsgure_aes *, struct fotsgure_aes_cbc *, uint8_t *, size_t);
 #define PLANTED_REGISTERS(IT) IT(planted_registers, NOTHING, CBC, PLAIN, SEALED, 0, PLANTED(&aes, &cbc, data, count))

@@ -19,22 +19,22 @@ DECLARED = "".join(f"\t.functype\t{it} (i32) -> (i32)\n" for it in ("report_bran
 
 
 def of_windows(text):
-    """A text for Windows, for ELF."""
+    """Assembly for Windows, for ELF."""
     text = text.replace('.section\t.rdata,"dr"', ".section\t.rodata")
     text = re.sub(r"^(?:\t?\.(?:seh_|def|scl|type|endef)|.*@feat\.00).*\n", "", text, flags=re.M)
     return re.sub(r"\bmem(cpy|move|set)\b", r"of_windows_mem\1", text)
 
 
 def of_general_registers(text):
-    """A text that calls memory.c in the place of libc."""
+    """Assembly that calls memory.c in the place of libc."""
     return re.sub(r"\b(bl?\t)(mem(?:cpy|move|set))\b", r"\1of_general_registers_\2", text)
 
 
 def planted(machine, text):
-    """A text whose exports leave in registers what its compiler left there, and have names of their own."""
+    """Assembly whose exports leave in registers what its compiler left there, and have names of their own."""
     lines = "\n".join(registers.emptying(machine.folder, machine.ending == "_v3", machine.ending != "_narrow")) + "\n"
     if lines not in text:
-        tools.stop(f"the text for {machine.folder} doesn't empty registers as {registers.__file__} says")
+        tools.stop(f"the assembly for {machine.folder} doesn't empty registers as {registers.__file__} says")
     return re.sub(r"\bfotsgure_", "planted_fotsgure_", text.replace(lines, ""))
 
 
@@ -65,7 +65,7 @@ def function_reporting(lines):
 
 
 def reporting(text):
-    """A text for WebAssembly that reports each branch and each address that it reads or writes."""
+    """Assembly for WebAssembly that reports each branch and each address that it reads or writes."""
     out, inside = [], None
     for line in text.split("\n"):
         if inside is None and re.match(r"\t\.functype\t", line) and out and out[-1].partition("#")[0].rstrip().endswith(":"):
