@@ -644,7 +644,11 @@ class Machine:
         d = self.domain
         value, k = d.opaque_of[b] if isinstance(d.opaque_of.get(b), tuple) else (None, 0)
         by = new(value) if isinstance(value, (Linear, Pointer, Distance, Placed, Scaled, Shifted)) else value
-        return b if by == value else self.to_bytes(by, 8)[k] if is_int(by) else d.opaque((by, k))
+        if by != value:
+            return self.to_bytes(by, 8)[k] if is_int(by) else d.opaque((by, k))
+        others = {c: (new(d.unknowns[c][0]), d.unknowns[c]) for c in d.unknown_cells(b)} if d.unknowns else {}
+        others = {c: self.to_bytes(by, 8)[k] for c, (by, (number, k)) in others.items() if by != number}
+        return d.put_in(b, others) if others else b
 
     def known(self, x):
         """A number of the statement, as it is known here."""
