@@ -293,40 +293,47 @@ class KeyedGcm(Keyed):
         lengths = [b for n in sizes for b in m.to_bytes(m.known(n) * 8, 8)[::-1]]
         return self.any_group(m, before, self.sealed, sizes[1], [lengths], last)
 
+    def any_tag(self, m, sizes, first):
+        """(GHASH of nothing is that of a block of zeros.)"""
+        nothing = all(m.known(size) == 0 for size in sizes)
+        return self.aes.xor(ZEROS if nothing else self.last_value(), self.stream(first, 0))
+
     def any_whole(self, rest_of_additional, rest):
         """What statements of every length have in common: sizes, patterns of text, keystream and encrypted text, the last value of GHASH, and
         arguments."""
-        sizes = unknown("a") * 48 + rest_of_additional, unknown("n") * 384 + rest
+        sizes = unknown("a") * 48 + rest_of_additional, unknown("n") * 768 + rest
         first, streams = self.nonce_of(), self.once("any counters", self.any_counters)
+        self.stream(first, 0)  # gives the inputs of its S-boxes names
         return sizes, first, *(self.pattern(b) for b in (self.text, streams[0], self.sealed))
 
-    def any_facts(self, sizes):
-        """The additional data and the text may be as long as a buffer, and as the standard allows."""
-        wrap = unknown("wrap")
+    def any_facts(self, sizes, longest):
+        """The additional data and the text may be as long as a buffer, and as the standard allows. Blocks that a batch has behind the text
+        may have a carry only at the end of the longest texts, so these are apart."""
+        wrap, most = unknown("wrap"), MOST - 16 * (BATCH + 2)
         return {unknown("a"), PTRDIFF_MAX - sizes[0], MOST_ADDITIONAL - sizes[0], unknown("n"), MOST - sizes[1],
-                wrap - (1 << 32) + 1, (1 << 64) - wrap}
+                sizes[1] - most - 1 if longest else most - sizes[1], wrap - (1 << 32) + 1, (1 << 64) - wrap}
 
-    def any_seal(self, rest_of_additional, rest):
+    def any_seal(self, rest_of_additional, rest, longest=False):
         sizes, first, text, stream, sealed = self.any_whole(rest_of_additional, rest)
 
         def steps(m):
             return ("whole", "text", sealed) if m.phase == 0 else self.any_hash(m, m.phase - 1, sizes)
         additional = Stream("additional", sizes[0], self.pattern(self.additional_bytes))
         texts = Stream("text", sizes[1], text, [self.aes.xor(text, stream), sealed], lambda m, number: [0] * 16)
-        tag = Buffer("tag", self.undefined(16), self.aes.xor(self.last_value(), self.stream(first, 0)))
+        tag = Buffer("tag", self.undefined(16), lambda m: self.any_tag(m, sizes, first))
         return Call("gcm_seal", [self.schedule(), *first.arguments, additional, sizes[0], texts, sizes[1], tag], DONE, steps=steps,
                     keystream=self.of_all(stream), plain=self.of_all(text), counter=self.any_counter_word(sizes[1]),
-                    facts=self.any_facts(sizes))
+                    facts=self.any_facts(sizes, longest))
 
-    def any_open(self, rest_of_additional, rest):
+    def any_open(self, rest_of_additional, rest, longest=False):
         sizes, first, _, stream, sealed = self.any_whole(rest_of_additional, rest)
-        text, right = self.aes.xor(sealed, stream), self.aes.xor(self.last_value(), self.stream(first, 0))
+        text = self.aes.xor(sealed, stream)
         tag = self.once("any tag", lambda: [self.domain.fresh("tag byte %d" % i, DATA) for i in range(16)])
         additional = Stream("additional", sizes[0], self.pattern(self.additional_bytes))
         return Call("gcm_open", [self.schedule(), *first.arguments, additional, sizes[0], Stream("text", sizes[1], sealed, text), sizes[1],
                                  Buffer("tag", tag), 16], DONE, steps=lambda m: self.any_hash(m, m.phase, sizes),
-                    reveals=self.aes.xor(tag, right), refused=REFUSED, keystream=self.of_all(stream), plain=self.of_all(text),
-                    counter=self.any_counter_word(sizes[1]), facts=self.any_facts(sizes))
+                    reveals=lambda m: self.aes.xor(tag, self.any_tag(m, sizes, first)), refused=REFUSED, keystream=self.of_all(stream),
+                    plain=self.of_all(text), counter=self.any_counter_word(sizes[1]), facts=self.any_facts(sizes, longest))
 
     def seal_next(self, additional_length, text_length, counter=None):
         """The same under the counter's next nonce, which it writes to `nonce`; the counter then moves on by one. .. DONE"""

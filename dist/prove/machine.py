@@ -509,6 +509,8 @@ class Machine:
         reveal it: whether all these bytes are zero."""
         if isinstance(x, Verdict):
             return {"z": self.zero_flag(x.differences)} if y == x.right else {}
+        if isinstance(x, Shifted) and y == 0:
+            return self.zero_and_sign(x, size)
         if tuple not in (type(x), type(y)):
             return self.minus(x, y, size)[1]
         never = y == 0 and 1 in self.bits(x, size)
