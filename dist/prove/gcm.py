@@ -313,27 +313,28 @@ class KeyedGcm(Keyed):
         return {unknown("a"), PTRDIFF_MAX - sizes[0], MOST_ADDITIONAL - sizes[0], unknown("n"), MOST - sizes[1],
                 sizes[1] - most - 1 if longest else most - sizes[1], wrap - (1 << 32) + 1, (1 << 64) - wrap}
 
-    def any_seal(self, rest_of_additional, rest, longest=False):
+    def any_seal(self, rest_of_additional, rest, way="", longest=False):
         sizes, first, text, stream, sealed = self.any_whole(rest_of_additional, rest)
 
         def steps(m):
-            return ("whole", "text", sealed) if m.phase == 0 else self.any_hash(m, m.phase - 1, sizes)
-        additional = Stream("additional", sizes[0], self.pattern(self.additional_bytes))
-        texts = Stream("text", sizes[1], text, [self.aes.xor(text, stream), sealed], lambda m, number: [0] * 16)
+            return ("whole", "output" if way else "text", sealed) if m.phase == 0 else self.any_hash(m, m.phase - 1, sizes)
+        texts = self.streams_of(way, "text", sizes[1], sizes[1], text, [self.aes.xor(text, stream), sealed], lambda m, number: [0] * 16)
         tag = Buffer("tag", self.undefined(16), lambda m: self.any_tag(m, sizes, first))
-        return Call("gcm_seal", [self.schedule(), *first.arguments, additional, sizes[0], texts, sizes[1], tag], DONE, steps=steps,
-                    keystream=self.of_all(stream), plain=self.of_all(text), counter=self.any_counter_word(sizes[1]),
-                    facts=self.any_facts(sizes, longest))
+        return self.of_any_message("gcm_seal" + way, sizes, first, stream, [*texts, tag], steps, text, longest)
 
     def any_open(self, rest_of_additional, rest, longest=False):
         sizes, first, _, stream, sealed = self.any_whole(rest_of_additional, rest)
         text = self.aes.xor(sealed, stream)
         tag = self.once("any tag", lambda: [self.domain.fresh("tag byte %d" % i, DATA) for i in range(16)])
+        texts = [Stream("text", sizes[1], sealed, text), sizes[1], Buffer("tag", tag), 16]
+        return self.of_any_message("gcm_open", sizes, first, stream, texts, lambda m: self.any_hash(m, m.phase, sizes), text, longest,
+                                   reveals=lambda m: self.aes.xor(tag, self.any_tag(m, sizes, first)), refused=REFUSED)
+
+    def of_any_message(self, name, sizes, first, stream, texts, steps, plain, longest, **more):
         additional = Stream("additional", sizes[0], self.pattern(self.additional_bytes))
-        return Call("gcm_open", [self.schedule(), *first.arguments, additional, sizes[0], Stream("text", sizes[1], sealed, text), sizes[1],
-                                 Buffer("tag", tag), 16], DONE, steps=lambda m: self.any_hash(m, m.phase, sizes),
-                    reveals=lambda m: self.aes.xor(tag, self.any_tag(m, sizes, first)), refused=REFUSED, keystream=self.of_all(stream),
-                    plain=self.of_all(text), counter=self.any_counter_word(sizes[1]), facts=self.any_facts(sizes, longest))
+        return Call(name, [self.schedule(), *first.arguments, additional, sizes[0], *texts], DONE, steps=steps,
+                    keystream=self.of_all(stream), plain=self.of_all(plain), counter=self.any_counter_word(sizes[1]),
+                    facts=self.any_facts(sizes, longest), **more)
 
     def seal_next(self, additional_length, text_length, counter=None):
         """The same under the counter's next nonce, which it writes to `nonce`; the counter then moves on by one. .. DONE"""
