@@ -26,6 +26,9 @@ class Buffer:
         """`secret`: what it holds after the call is as secret as the key."""
         self.name, self.content, self.after, self.secret = name, content, after, secret
 
+    def region(self):
+        return Region(self.content, self.after is not None)
+
 
 class Stream(Buffer):
     """A buffer of a length that isn't known: a number of bytes, and what the block with number LEAD is, and has to be after the call. That
@@ -35,6 +38,9 @@ class Stream(Buffer):
         super().__init__(name, content, after)
         self.size, self.choose = size, choose
         self.patterns = after if choose else [after or []]
+
+    def region(self):
+        return Window(self.size, self.content, self.after and self.want)
 
     def want(self, m, number):
         if not self.choose:
@@ -71,7 +77,7 @@ def prove(domain, program, call, seed=None):
     tag is right. With a seed, for one key and data, on the processor too. The result is a machine after the call."""
     if len(domain.products) > MANY:
         domain.forget_products()
-    regions = {b.name: Window(b.size, b.content, b.after and b.want) if isinstance(b, Stream) else Region(b.content, b.after is not None) for b in call.buffers}
+    regions = {b.name: b.region() for b in call.buffers}
     regions["stack"] = Region([domain.undefined] * (STACK - 8 * len(program.machine.pushed)), align=16)
     arguments = [Pointer(a.name, 0) if isinstance(a, Buffer) else a for a in call.arguments]
     m = program.machine(domain, program, regions, program.exports["fotsgure_" + call.name], arguments)

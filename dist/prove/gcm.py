@@ -6,7 +6,8 @@ import functools
 import itertools
 from collections import namedtuple
 
-from aes import BATCH, DONE, KEPT_KEY, NEVER, PTRDIFF_MAX, STRUCT as AES_STRUCT, CounterWord, Keyed, between, lengths_but, nothing, unequal, unread
+from aes import (BATCH, DONE, KEPT_KEY, NEVER, PTRDIFF_MAX, STRUCT as AES_STRUCT, CounterWord, Keyed, between, lengths_but, nothing,
+                 unequal, unread)
 from bits import DATA, KEY, PUBLIC
 from calls import ANY, Buffer, Call, Stream
 from linear import WORD, unknown
@@ -233,21 +234,18 @@ class KeyedGcm(Keyed):
                                  Buffer("tag", self.undefined(16), tag)], DONE, steps=steps, keystream=self.streams(first, text_length),
                     plain=text, **self.in_text(first, 16 + text_length), **more)
 
-    # Texts of every length (lengths.py), under a nonce of 12 bytes: step * n + `rest` bytes. The halves of a counter are words of unknown
-    # value. (So is the high one after a carry, which may come only behind the longest text.)
+    # Texts of every length (lengths.py), under a nonce of 12 bytes. The halves of a counter are words of unknown value. The last block that
+    # a batch may have is below 2^32 - 1, so the low half doesn't carry: its last 32 bits begin at 1.
     def any_counters(self):
         d = self.domain
         low = [d.fresh("counter byte %d" % i, PUBLIC, True) for i in range(8, 16)]
-        carried = [d.fresh("carried counter byte %d" % i, PUBLIC) for i in range(8)]
-        high = self.nonce[:8], carried
-        d.words["nonce high"] = lambda offset, k: d.bits(high[offset][7 - k]) if offset in (0, 1) else None
+        d.words["nonce high"] = lambda offset, k: d.bits(self.nonce[7 - k]) if offset == 0 else None
         d.placed["any J_0 low"] = lambda number, k: d.bits(d.byte_in_block(low[7 - k], number))
-        return [self.aes.cipher(h + low, self.w) for h in high]
+        return self.aes.cipher(self.nonce[:8] + low, self.w)
 
     def any_counter_word(self, size):
-        """From block 2^32 - 1 on the low half may carry."""
         low, high = ([1, 0, 0, 0] + self.nonce[:7:-1], Pointer("any J_0 low", 0)), (self.nonce[7::-1], Pointer("nonce high", 0))
-        return CounterWord("any J_0 low", 1, unknown("wrap"), size.divided(16)[0] + 2 + BATCH, {tuple(b): word for b, word in (low, high)})
+        return CounterWord("any J_0 low", 1, NEVER, size.divided(16)[0] + 2 + BATCH, {tuple(b): word for b, word in (low, high)})
 
     def at_block(self, m, bytes_, number):
         """Functions of the bytes of a block with this number."""
@@ -299,42 +297,39 @@ class KeyedGcm(Keyed):
         return self.aes.xor(ZEROS if nothing else self.last_value(), self.stream(first, 0))
 
     def any_whole(self, rest_of_additional, rest):
-        """What statements of every length have in common: sizes, patterns of text, keystream and encrypted text, the last value of GHASH, and
-        arguments."""
+        """What statements of every length have in common: sizes, the counter, and the patterns of text, keystream and encrypted text."""
         sizes = unknown("a") * 48 + rest_of_additional, unknown("n") * 768 + rest
-        first, streams = self.nonce_of(), self.once("any counters", self.any_counters)
+        first, stream = self.nonce_of(), self.once("any counters", self.any_counters)
         self.stream(first, 0)  # gives the inputs of its S-boxes names
-        return sizes, first, *(self.pattern(b) for b in (self.text, streams[0], self.sealed))
+        return sizes, first, *(self.pattern(b) for b in (self.text, stream, self.sealed))
 
-    def any_facts(self, sizes, longest):
-        """The additional data and the text may be as long as a buffer, and as the standard allows. Blocks that a batch has behind the text
-        may have a carry only at the end of the longest texts, so these are apart."""
-        wrap, most = unknown("wrap"), MOST - 16 * (BATCH + 2)
-        return {unknown("a"), PTRDIFF_MAX - sizes[0], MOST_ADDITIONAL - sizes[0], unknown("n"), MOST - sizes[1],
-                sizes[1] - most - 1 if longest else most - sizes[1], wrap - (1 << 32) + 1, (1 << 64) - wrap}
+    def any_facts(self, sizes):
+        """The additional data may be as long as a buffer, and as the standard allows; the text a little shorter than that."""
+        most = MOST - 16 * (BATCH + 2)
+        return {unknown("a"), PTRDIFF_MAX - sizes[0], MOST_ADDITIONAL - sizes[0], unknown("n"), most - sizes[1]}
 
-    def any_seal(self, rest_of_additional, rest, way="", longest=False):
+    def any_seal(self, rest_of_additional, rest, way=""):
         sizes, first, text, stream, sealed = self.any_whole(rest_of_additional, rest)
 
         def steps(m):
             return ("whole", "output" if way else "text", sealed) if m.phase == 0 else self.any_hash(m, m.phase - 1, sizes)
         texts = self.streams_of(way, "text", sizes[1], sizes[1], text, [self.aes.xor(text, stream), sealed], lambda m, number: [0] * 16)
         tag = Buffer("tag", self.undefined(16), lambda m: self.any_tag(m, sizes, first))
-        return self.of_any_message("gcm_seal" + way, sizes, first, stream, [*texts, tag], steps, text, longest)
+        return self.of_any_message("gcm_seal" + way, sizes, first, stream, [*texts, tag], steps, text)
 
-    def any_open(self, rest_of_additional, rest, longest=False):
+    def any_open(self, rest_of_additional, rest):
         sizes, first, _, stream, sealed = self.any_whole(rest_of_additional, rest)
         text = self.aes.xor(sealed, stream)
         tag = self.once("any tag", lambda: [self.domain.fresh("tag byte %d" % i, DATA) for i in range(16)])
         texts = [Stream("text", sizes[1], sealed, text), sizes[1], Buffer("tag", tag), 16]
-        return self.of_any_message("gcm_open", sizes, first, stream, texts, lambda m: self.any_hash(m, m.phase, sizes), text, longest,
+        return self.of_any_message("gcm_open", sizes, first, stream, texts, lambda m: self.any_hash(m, m.phase, sizes), text,
                                    reveals=lambda m: self.aes.xor(tag, self.any_tag(m, sizes, first)), refused=REFUSED)
 
-    def of_any_message(self, name, sizes, first, stream, texts, steps, plain, longest, **more):
+    def of_any_message(self, name, sizes, first, stream, texts, steps, plain, **more):
         additional = Stream("additional", sizes[0], self.pattern(self.additional_bytes))
         return Call(name, [self.schedule(), *first.arguments, additional, sizes[0], *texts], DONE, steps=steps,
                     keystream=self.of_all(stream), plain=self.of_all(plain), counter=self.any_counter_word(sizes[1]),
-                    facts=self.any_facts(sizes, longest), **more)
+                    facts=self.any_facts(sizes), **more)
 
     def seal_next(self, additional_length, text_length, counter=None):
         """The same under the counter's next nonce, which it writes to `nonce`; the counter then moves on by one. .. DONE"""

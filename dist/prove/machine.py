@@ -575,8 +575,8 @@ class Machine:
         return constant("a factor", x) * constant("a factor", y) >> 64
 
     def quotient_by_product(self, scaled, count):
-        """A division by a constant that is done by a product: for x below 2^64, x * factor / 2^(64 + count) has the same whole part as x / d
-        if 2^(64 + count) <= d * factor <= 2^(64 + count) + 2^count. (Granlund and Montgomery, 1994, theorem 4.2)"""
+        """A division by a constant that is done by a product. If d * factor is 2^(64 + count) and at most 2^count more, then for x below
+        2^64 the product over 2^(64 + count) is x / d and less than 1 / d more: it has the same whole part."""
         x, factor = scaled
         by = -(-(1 << 64 + count) // factor)
         if by * factor > (1 << 64 + count) + (1 << count):
