@@ -31,7 +31,7 @@ def verdict(what, prove, reason=""):
 def edited(text, label, pattern, new):
     """The text with the first match of a pattern in what stands behind a label replaced, and its line; or None."""
     at = re.search(r"(?m)^" + label, text)
-    found = at and re.compile(pattern).search(text, at.end(), text.index("\t.size", at.end()))
+    found = at and re.compile(pattern).search(text, at.end(), re.compile(r"\t?\.(?:size|seh_endproc)").search(text, at.end()).start())
     if not found:
         return None, 0
     put = new(found) if callable(new) else found.expand(new)
@@ -41,7 +41,7 @@ def edited(text, label, pattern, new):
 def faults(options, build):
     """Plants the faults of one text, and tries of each the case that has to refuse it."""
     text, out = open(source(options.dist, build)).read(), "%s/controls_%s" % (options.out, build.replace("/", "_"))
-    keyed = LIBRARIES[build.split("/")[1].removesuffix("_v3")][0](assembled(build, source(options.dist, build), out), 16)
+    keyed = LIBRARIES[build.split("/")[1][:3]][0](assembled(build, source(options.dist, build), out), 16)
     keyed.set_key()
     cases = dict(statements(keyed, argparse.Namespace(dist=options.dist, all=False, only=""), 0, 1), set_key=None)
     verdicts = []

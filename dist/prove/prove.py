@@ -148,10 +148,12 @@ LIBRARIES = {"aes": (modes.KeyedAes, aes_cases), "gcm": (gcm.KeyedGcm, gcm_cases
 
 def statements(keyed, options, part, parts):
     """(what, Call) of this part of all; set_key was proved before."""
-    choose = lambda all_, few, more=(): all_ if options.all else [*few, *more] if keyed.key_size == 16 else few
+    fewest = (24, 32) if keyed.program.takes_few else (24,)
+    most = 0 if keyed.key_size > 16 else 1 if keyed.program.takes_few else None
+    choose = lambda all_, few, more=(): all_ if options.all else [*few, *more[:most]]
     cases, number = LIBRARIES[keyed.library][1], itertools.count()
     for name, arguments in [*common_cases(keyed.library, version(options.dist, keyed.library)), *cases(choose)]:
-        if keyed.key_size == 24 and not options.all and name not in OF_24:
+        if keyed.key_size in fewest and not options.all and name not in OF_24:
             continue
         for values in arguments:
             values = values if isinstance(values, tuple) else (values,)
