@@ -13,7 +13,7 @@ from bits import Unproved
 from faults import FAULTS, UNREACHED
 from long_faults import LONG_FAULTS
 from native import NEVER_ALONE, compare_all
-from processors import PROCESSORS
+from processors import MEANINGS, PROCESSORS
 from linking import BUILDS, assembled, source
 from prove import LIBRARIES, options_of, pool_of, statements
 
@@ -131,7 +131,7 @@ def main():
     options, refused, missed = options_of(__doc__), 0, 0
     tries = [(faults, build) for build in {**FAULTS, **LONG_FAULTS} if build in options.builds]
     if not options.only:
-        tries += [(wrong_meanings, machine) for machine in PROCESSORS if not PROCESSORS[machine].missing()]
+        tries += [(wrong_meanings, machine) for machine in set(MEANINGS.values()) if not PROCESSORS[machine].missing()]
     with pool_of(options.jobs) as pool:
         for tried in [pool.submit(function, options, of) for function, of in tries]:
             for good, text in tried.result():

@@ -57,6 +57,11 @@ def is_windows(build):
     return BUILDS[build] is Windows
 
 
+def takes_few(build):
+    """Whether it is proved at a few lengths, as its text is compiled from what others are (prove.py)."""
+    return is_narrow(build) or is_windows(build)
+
+
 # What the Makefile builds.
 class Built:
     """The libraries for one machine: what the user has built, or else what the Makefile builds here. `folder` is that of the texts."""
@@ -154,7 +159,8 @@ def program_of(build, path, out):
     """An object of a build, linked by itself."""
     (refuse_names_of_windows if is_windows(build) else refuse_names)(path, suffix_of(build))
     program = linked(out, BUILDS[build], [path], suffix_of(build))
-    program.narrow, program.takes_few = is_narrow(build), is_narrow(build) or is_windows(build)
+    program.narrow = is_narrow(build)
+    program.most = 0 if is_windows(build) else 1 if takes_few(build) else None  # how many lengths besides a few it takes (prove.py)
     refuse_instructions(program, suffix_of(build))
     return program
 

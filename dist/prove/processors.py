@@ -183,3 +183,4 @@ class Emulator(Beside):
 
 
 PROCESSORS = {X86_64: Processor, Windows: Processor, Aarch64: Emulator}
+MEANINGS = {X86_64: X86_64, Windows: X86_64, Aarch64: Aarch64}  # whose instructions a machine has
