@@ -272,13 +272,13 @@ def refuse_instructions(program, suffix):
 def choice_cases(built, dist, out):
     for library in filter(built.has, ("aes", "gcm")) if built.machine.later else ():
         objects = [path for name, path in built.archive(library).items() if name != "seal_random.o"]
-        program, wrong = linked("%s/choose_%s" % (out, library), X86_64, objects), []
+        program, wrong = linked("%s/choose_%s_%s" % (out, built.folder, library), built.machine, objects), []
         declared = parameters("%s/include/fotsgure_%s.h" % (dist, library))
-        names = sorted(name for name in exports_of(built.archive(library)["choose_%s.o" % library], "") if name.startswith("fotsgure_"))
+        names = sorted({*declared} & {*program.exports})
         for name in names:
             wrong += [name + suffix for found, suffix in ((1, "_v1"), (2, "_v2"), (3, "_v3"))
                       if not leads(program, name, declared[name], found, suffix)]
-        yield "choose_%s.o: %d exports, each to the three builds" % (library, len(names)), ", ".join(wrong)
+        yield "choose_%s.o of %s: %d exports, each to the three builds" % (library, built.folder, len(names)), ", ".join(wrong)
 
 
 def parameters(header):
@@ -292,7 +292,7 @@ def leads(program, name, count, found, suffix):
     """Whether an export jumps to the function with this suffix, with its caller's arguments, some on the stack, and registers."""
     domain, arguments = Domain(), [Pointer("argument %d" % k, 0) for k in range(12)]
     program.constants.append((program.symbols["known"], [found, 0, 0, 0]))
-    m = X86_64(domain, program, {"stack": Region([domain.undefined] * 504, align=16)}, program.symbols[name], arguments)
+    m = program.machine(domain, program, {"stack": Region([domain.undefined] * 504, align=16)}, program.symbols[name], arguments)
     before, stack, top = dict(m.general), m.regions["stack"].content[m.top:], m.top
     m.top += len(stack)  # a function may write to the arguments that it is given
     while m.next_address not in [program.symbols[name + build] for build in ("_v1", "_v2", "_v3")]:

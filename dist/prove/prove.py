@@ -158,7 +158,7 @@ def statements(keyed, options, part, parts):
     choose = lambda all_, few, more=(): all_ if options.all else [*few, *more[:most]]
     cases, number = LIBRARIES[keyed.library][1], itertools.count()
     for name, arguments in [*common_cases(keyed.library, version(options.dist, keyed.library)), *cases(choose)]:
-        if names and name not in names or keyed.program.narrow and keyed.library != "aes" and name.startswith("any_"):
+        if names and name not in names or few and keyed.library != "aes" and name.startswith("any_"):
             continue
         for values in arguments:
             values = values if isinstance(values, tuple) else (values,)

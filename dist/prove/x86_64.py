@@ -35,7 +35,7 @@ class X86_64(Machine):
     def decode(text, following):
         name, _, rest = text.split("#")[0].strip().partition(" ")
         # Prefixes that fill up a nop, or a call that the linker shortened; of a jump by a table, which may lead anywhere.
-        while name in ("cs", "data16", "addr32", "notrack"):
+        while name in ("cs", "data16", "addr32", "notrack") or re.match(r"rex\.\w+ +jmp", text) and name[:4] == "rex.":
             name, _, rest = rest.strip().partition(" ")
         run = TABLE.get(name) or name[0] == "v" and TABLE.get(name[1:])
         if not run:
