@@ -141,8 +141,8 @@ def check(m, call):
     """Compares what the call returned and wrote with its statement."""
     right = True
     if call.reveals is not None:
-        asked = [q for q in m.answers if q[0] == "zero"]
-        if len(asked) != 1 or asked_of(m, asked[0]) != asked_of(m, m.zero_flag(call.reveals)):
+        asked, reveals = [q for q in m.answers if q[0] == "zero"], call.reveals(m) if callable(call.reveals) else call.reveals
+        if len(asked) != 1 or asked_of(m, asked[0]) != asked_of(m, m.zero_flag(reveals)):
             raise Unproved("reveals something else than whether the key or the tag is right")
         right = m.answers[asked[0]]
     status = call.status if right else call.refused
@@ -157,10 +157,10 @@ def check(m, call):
         want = buffer.after if right else call.refused_after.get(buffer.name, buffer.content)
         stays, want = want == buffer.content, want(m) if callable(want) else want
         if isinstance(buffer, Stream):
-            if want and not right:
-                raise Unproved("%s, which may be refused, has no fixed length" % buffer.name)
-            if want:
+            if want and right:
                 m.regions[buffer.name].finish(m, buffer.name)
+            elif not m.regions[buffer.name].is_untouched():
+                raise Unproved("%s isn't as it was" % buffer.name)
             continue
         if status and buffer.name in m.wrote and stays and not call.undone:
             raise Unproved("writes to %s, which is to stay as it is" % buffer.name)
@@ -212,7 +212,8 @@ def step_by_step(steps):
     so what is proved from there on holds for any. "hash" is looked for in vector registers, or as two words in either order of bytes;
     products of bits are then forgotten: what still depends on them is lost, and may not even be left. "vector" is looked for in vector
     registers, "memory" where something was written, "block" in all these places; another name is that of a region. In a call of any length
-    `steps` is a function of the machine; then "whole" waits for all of a buffer, and "nothing" says that what comes next isn't known."""
+    `steps` is a function of the machine. Then "here" says that there is a result; "again" begins another phase, in which blocks have new
+    numbers, and so does "whole", as soon as all of a buffer is done; and "nothing" says that what comes next isn't known."""
     steps = steps if callable(steps) else list(steps)
 
     def watch(m):
@@ -223,12 +224,14 @@ def step_by_step(steps):
             # (Made before the code comes to it, so the code's products have the factors that it names: with_powers.)
             m.want = where, want() if callable(want) else want, new
         where, want, new = m.want
-        if where == "whole" and m.regions[want].is_done(m):
-            m.begin_again(want, new)
-            m.done, m.want = m.done + 1, None
-        if where in ("whole", "nothing"):
+        if where == "again" or where == "whole" and m.regions[want].is_done(m):
+            if where == "whole":
+                m.regions[want].begin_again(new)
+            m.begin_again()
+            m.want = None
+        if where in ("again", "whole", "nothing"):
             return
-        if found(m, where, want):
+        if where == "here" or found(m, where, want):
             replaced, lost, on = {}, None, depends(m, *want) if where == "hash" else 0
             for x, y in zip(want, new):
                 if x > 255:

@@ -96,7 +96,10 @@ def aes_cases(choose):
 def gcm_cases(choose):
     more = (0, 0), (1, 1), (49, 1), (0, 129), (0, 225), (0, 449, gcm.UNKNOWN)
     yield "wipe_message", [()]
-    yield "any_seal", choose([(13, 33)], [(13, 33)])
+    # Of every length, by what is left of additional data of 48 a bytes and of a text of 768 n.
+    every = [(0, 0), (0, 129), (1, 16), (16, 225), (33, 48), (47, 767)]
+    yield "any_seal", choose([(13, 33), *every, (13, 33, "_to")], [(13, 33)], [(0, 129)])
+    yield "any_open", choose([(13, 33), *every], [(13, 33)])
     yield "seal", choose([(13, 33), (40, 20), *more, *LONG], [(13, 33)], more)
     yield "open", choose([(0, 0), (13, 33), (40, 129)], [(13, 33)], [(0, 0)])
     yield "seal", choose([(0, 0, (), "_to"), (13, 33, (), "_to"), (1, 129, (), "_to")], [(13, 33, (), "_to")], [(0, 0, (), "_to")])
