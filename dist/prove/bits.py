@@ -490,7 +490,7 @@ class Domain:
 
     # Bytes.
     def xor_byte(self, a, b):
-        if a < 256 and b < 256:
+        if a < 256 and b < 256 or not a or not b:
             return a ^ b
         key = (a, b)
         known = self.product_xors if a in self.with_products or b in self.with_products else self.byte_xors
@@ -501,8 +501,10 @@ class Domain:
         return c
 
     def and_byte(self, a, b):
-        if a < 256 and b < 256:
+        if a < 256 and b < 256 or not a or not b:
             return a & b
+        if 255 in (a, b):
+            return b if a == 255 else a
         key = (a, b)
         c = self.byte_ands.get(key)
         if c is None:
@@ -511,6 +513,8 @@ class Domain:
         return c
 
     def or_byte(self, a, b):
+        if not a or not b:
+            return a | b
         return self.xor_byte(self.and_byte(self.xor_byte(a, 255), self.xor_byte(b, 255)), 255)
 
     def lookup(self, table, index):

@@ -10,6 +10,7 @@ from aarch64 import Aarch64
 from bits import Domain, Unproved
 from elf import DEFAULT, GLOBAL, GROUP, HIDDEN, LOCAL, SYMBOLS, UNDEFINED, Comparison, Elf
 from machine import LIBC, Pointer, Program, Region
+from riscv import Riscv32
 from x86_64 import X86_64
 
 HOST = "start", "area", "odd"  # names of host.c
@@ -17,6 +18,7 @@ HERE = os.path.dirname(os.path.abspath(__file__))
 # Those that take longest come first. siv: the calls of AES-GCM-SIV in gcm.s
 BUILDS = {"%s/%s%s" % (folder, library, wide): machine for library in ("gcm", "siv", "aes") for folder, machine, wide in (
     ("aarch64", Aarch64, ""), ("x86_64", X86_64, ""), ("x86_64", X86_64, "_v3"))}
+BUILDS["riscv32/aes"] = Riscv32
 MACHINES = {build.split("/")[0]: machine for build, machine in BUILDS.items()}
 
 
@@ -39,7 +41,12 @@ def source(dist, build):
 
 def library_of(build):
     """aes or gcm"""
-    return text_of(build).split("/")[1].removesuffix("_v3")
+    return text_of(build).split("/")[1].split("_")[0]
+
+
+def narrow_word(build):
+    """For processors that have no byte shuffle: how many bytes a word has in which such a build keeps keys (aes.py). Else 0."""
+    return 4 if build.startswith("riscv32") else 0
 
 
 def is_wide(build):
@@ -59,7 +66,7 @@ class Built:
         self.folder, self.machine, self.out = folder, MACHINES[folder], by_user or "%s/built/%s" % (out, folder)
         self.members = "%s/members/%s" % (out, folder)
         if not by_user:  # (Nothing that was said for another compiler)
-            run("make", "-s", "-f", dist + "/Makefile", "OUT=" + self.out, "CC=" + self.machine.tools + "gcc", "static", "shared",
+            run("make", "-s", "-f", dist + "/Makefile", "OUT=" + self.out, "CC=" + " ".join(self.machine.compiler), "static", "shared",
                 env={"PATH": os.environ["PATH"]})
 
     @functools.lru_cache(None)
@@ -75,8 +82,8 @@ class Built:
 
     def object_of(self, build):
         """The member of a static library that is a build's text."""
-        name = text_of(build).split("/")[1] + "_chosen" * bool(suffix_of(build)) + ".o"
-        return self.archive(library_of(build))[name]
+        library, suffix = library_of(build), suffix_of(build)
+        return self.archive(library)[library + suffix.replace("_v2", "") + "_chosen" * bool(suffix) + ".o"]
 
     def has(self, library):
         return os.path.exists("%s/libfotsgure_%s.a" % (self.out, library))
@@ -105,7 +112,7 @@ def compared(library, exports, objects):
 def rust_cases(dist, out, objects):
     """A text that a Rust crate may hold, which assembles it with `in_rust`, has the same then. objects: {build: its member}"""
     for build, member in objects.items():
-        if "siv" not in build and is_for_rust(source(dist, build)):
+        if "siv" not in build and is_for_rust(source(dist, build)) and not BUILDS[build].relaxed:
             try:
                 compare_in_rust(build, source(dist, build), member, "%s/%s" % (out, build.replace("/", "_")))
                 fault = ""
@@ -121,9 +128,9 @@ def is_for_rust(text):
 
 def compare_in_rust(build, text, member, out):
     """There the label of an export is its name, and only the crate sees it."""
-    tools, suffix = BUILDS[build].tools, suffix_of(build)
-    run(tools + "gcc", "-Wa,-defsym,in_rust=1", "-c", text, "-o", out + ".rust.o")
-    run(tools + "ld", "-shared", "-z", "noexecstack", out + ".rust.o", "-o", out + ".rust.so")
+    machine, suffix = BUILDS[build], suffix_of(build)
+    run(*machine.compiler, "-Wa,-defsym,in_rust=1", "-c", text, "-o", out + ".rust.o")
+    run(*machine.linker, "-shared", "-z", "noexecstack", out + ".rust.o", "-o", out + ".rust.so")
     exports = {name: name.rpartition(".")[2] + suffix for name in Elf(out + ".rust.o").exports}
     if sorted(exports.values()) != sorted(Elf(member).exports):
         raise Unproved("%s has other exports in a Rust crate" % text)
@@ -132,7 +139,7 @@ def compare_in_rust(build, text, member, out):
 
 def built_cases(built):
     """Each shared library that was built has what the static one has."""
-    for library in filter(built.has, ("aes", "gcm")):
+    for library in filter(built.has, ("aes", "gcm")) if not built.machine.relaxed else ():
         for path, exports, objects in built.shared(library):
             try:
                 compared(path, exports, objects)
@@ -147,31 +154,32 @@ def program_of(build, path, out):
     """An object of a build, linked by itself."""
     refuse_names(path, suffix_of(build))
     program = linked(out, BUILDS[build], [path], suffix_of(build))
+    program.narrow = narrow_word(build)
     refuse_instructions(program, is_wide(build))
     return program
 
 
 def assembled(build, text, out):
     """The same of a text, assembled in each way of the Makefile: the names are to differ, and nothing else."""
-    tools, suffix = BUILDS[build].tools, suffix_of(build)
-    run(tools + "gcc", *["-Wa,-defsym,chosen=1"] * bool(suffix), "-c", text, "-o", out + ".o")
+    machine, suffix = BUILDS[build], suffix_of(build)
+    run(*machine.compiler, *["-Wa,-defsym,chosen=1"] * bool(suffix), "-c", text, "-o", out + ".o")
     refuse_names(out + ".o", suffix)
     if suffix:
-        run(tools + "gcc", "-c", text, "-o", out + ".plain.o")
-        run(tools + "ld", "-shared", "-z", "noexecstack", "--version-script", os.path.dirname(HERE) + "/exports.map", out + ".plain.o",
+        run(*machine.compiler, "-c", text, "-o", out + ".plain.o")
+        run(*machine.linker, "-shared", "-z", "noexecstack", "--version-script", os.path.dirname(HERE) + "/exports.map", out + ".plain.o",
             "-o", out + ".so")
         compared(out + ".so", exports_of(out + ".o", suffix), [out + ".o"])
-    if is_for_rust(text):
+    if is_for_rust(text) and not machine.relaxed:
         compare_in_rust(build, text, out + ".o", out)
     return program_of(build, out + ".o", out)
 
 
 def linked(out, machine, objects, suffix=""):
-    """Objects at addresses of more than 32 bits; libc's three functions are names alone, of which the contract is used."""
+    """Objects at addresses of more than 32 bits, where there are; libc's three functions are names alone, of which the contract is used."""
     # (A function of the host may not become a call of itself.)
     host = out + ".host.o"
-    run(machine.tools + "gcc", "-O2", "-fno-tree-loop-distribute-patterns", "-c", HERE + "/host.c", "-o", host)
-    run(machine.tools + "ld", "-static", "-e", "start", "--build-id=none", "-z", "noexecstack", "-Ttext-segment=0x123456700000",
+    run(*machine.compiler, "-O2", "-fno-tree-loop-distribute-patterns", "-c", HERE + "/host.c", "-o", host)
+    run(*machine.linker, "-static", "-e", "start", "--build-id=none", "-z", "noexecstack", "-Ttext-segment=0x%x" % machine.start,
         host, *objects, "-o", out)
     return Program(out, machine, suffix)
 
@@ -202,7 +210,7 @@ def refuse_instructions(program, wide):
             raise Unproved("has an instruction that not all of its processors have: " + program.lines[address])
     function_of = {address: name for name, addresses in functions.items() for address in addresses}
     mentioned = lambda name: {function_of.get(int(target, 16)) for address in functions[name]
-                              for target in re.findall(r"\b[0-9a-f]{12}\b", program.lines[address])} - {None}
+                              for target in re.findall(r"\b[0-9a-f]{8,12}\b", program.lines[address])} - {None}
     waiting, reached = [function_of[address] for address in program.exports.values()], set()
     while waiting:
         name = waiting.pop()

@@ -23,6 +23,7 @@ from linking import BUILDS, HERE, MACHINES, Built, built_cases, choice_cases, li
 from machine import Program, lanes
 from native import compare_all
 from processors import PROCESSORS
+from riscv import Riscv
 from standards import pinned
 from vectors import checked
 from x86_64 import X86_64
@@ -143,13 +144,33 @@ def siv_cases(choose):
         yield call, choose([(a, n, "_to") for a, n in lengths], [(13, 33, "_to")], [(0, 0, "_to"), (13, 225, "_to")])
 
 
+def riscv_cases(choose):
+    """Of the library of blocks for RISC-V: not `ccm_open`, and no padded key that says a wrong length (README)."""
+    for way, counts in (("", choose((0, 1, 2, 3, 8, 17), (2,), (0, 1, 3, 17))), ("_to", choose((1, 2), (1,), (2,))), ("_with", choose((1,), (1,)))):
+        yield "blocks", [(direction, n, way) for direction in ("encrypt", "decrypt") for n in counts]
+    yield "add_keystream", choose([(0, 33)], [(0, 33)], [(0, 0), (0, 1), (7, 40), (5, 40, 2), (21, 11, 1), (21, 40, 1), (16, 64, 3), (2 ** 32 - 20, 40)])
+    yield "add_keystream", choose((), (), [(5, 40, 2, "", full) for full in (1, 2)])  # words above the lowest one that carry too
+    yield "add_keystream", choose((), (), [(3, 33, aes.NEVER, "_to"), (21, 11, 1, "_with")])
+    yield "cbc_encrypt", choose((0, 2), (2,), (0,))
+    yield "cbc_decrypt", choose((0, 1, 9), (3,), (0, 1, 9))
+    yield "wrap", choose((2, 3), (2,))
+    yield "unwrap", choose((3, 4), (3,))
+    yield "wrap_padded", choose((1, 9), (1,), (9,))
+    yield "unwrap_padded", choose((1, 9), (1,), (9,))
+    yield "cmac", choose((0, 17), (17,), (0,))
+    yield "cmac_verify", choose([(17, 16), (0, 4)], [(0, 4)], [(17, 16)])
+    yield "ccm_seal", choose([(13, 8, 33, 8), (7, 0, 1, 4)], [(7, 0, 1, 4)], [(13, 8, 33, 8)])
+    yield "a_round", choose(*2 * [[(name, way) for name in ("cipher_round", "equiv_inv_cipher_round") for way in ("", "_par")]], ())
+    yield "columns", [("mix_columns",), ("inv_mix_columns",)]
+
+
 LIBRARIES = {"aes": (modes.KeyedAes, aes_cases), "gcm": (gcm.KeyedGcm, gcm_cases), "siv": (siv.KeyedSiv, siv_cases)}
 
 
 def statements(keyed, options, part, parts):
     """(what, Call) of this part of all; set_key was proved before."""
     choose = lambda all_, few, more=(): all_ if options.all else [*few, *more] if keyed.key_size == 16 else few
-    cases, number = LIBRARIES[keyed.library][1], itertools.count()
+    cases, number = riscv_cases if issubclass(keyed.program.machine, Riscv) else LIBRARIES[keyed.library][1], itertools.count()
     for name, arguments in [*common_cases(keyed.library, version(options.dist, keyed.library)), *cases(choose)]:
         if keyed.key_size == 24 and not options.all and name not in OF_24:
             continue
@@ -174,7 +195,7 @@ def header_cases(dist, machine=X86_64):
         for struct, (size, fields) in structs.items():
             lines.append("_Static_assert(sizeof(struct %s) == %d, \"\");" % (struct, size))
             lines += ["_Static_assert(offsetof(struct %s, %s) == %d, \"\");" % (struct, f, at) for f, at in fields.items()]
-        result = subprocess.run([machine.tools + "gcc", "-fsyntax-only", "-I", dist + "/include", "-x", "c", "-"],
+        result = subprocess.run([*machine.compiler, "-fsyntax-only", "-I", dist + "/include", "-x", "c", "-"],
                                 input="\n".join(lines), capture_output=True, text=True)
         yield "%s.h: %d facts of sizes, places and statuses" % (name, len(lines) - 2), result.stderr.strip()
 
@@ -187,6 +208,7 @@ def version(dist, library):
 
 # Calls that also run on the processor, by default and with all lengths.
 BESIDE = "blocks encrypt 17", "add_keystream 21 11 1", "seal 13 33"
+ON_RISCV = "blocks encrypt 1", "add_keystream 21 11 1"
 ALL_BESIDE = *BESIDE, "set_key", "add_keystream 0 130", "unwrap 3", "seal 1 1", "open 0 0", "open 1 1"
 
 
@@ -231,7 +253,7 @@ class Task:
             self.used.update(m.used)
             left = ", ".join("%d %s in %s" % (len(v), kind, place) for (place, kind), v in sorted(m.left.items()))
             text = "%d instructions, %d bytes of stack; left: %s" % (m.steps, m.top - m.lowest, left or "nothing")
-            beside = ALL_BESIDE if self.options.all else BESIDE if "siv" not in self.build else ()
+            beside = ON_RISCV if self.machine.relaxed else ALL_BESIDE if self.options.all else BESIDE if "siv" not in self.build else ()
             if self.key_size == self.options.keys[0] and what in beside and not PROCESSORS[self.machine].missing():
                 self.compared |= set(prove(SEED).used)
             self.proved += 1
@@ -318,7 +340,8 @@ def say_what_ran(tasks, options):
 
 def missing(machine):
     """What of the tools for this machine isn't here."""
-    return [machine.tools + name for name in ("gcc", "ld", "objdump", "nm") if not shutil.which(machine.tools + name)]
+    names = machine.compiler[0], machine.linker[0], machine.tools + "objdump", machine.tools + "nm"
+    return [name for name in names if not shutil.which(name)]
 
 
 def say_what_is_missing():

@@ -18,7 +18,7 @@ ALIGNED, UNALIGNED = ("movdqa", "movaps", "vmovdqa", "vmovaps"), ("movdqu", "mov
 
 class X86_64(Machine):
     """With the System V ABI, in which the stack is aligned to 16 bytes before the return address is pushed."""
-    tools, objdump, only_wide = "", ("-M", "intel"), "v.*|andn|bzhi|mulx|movbe|shrx"
+    tools, compiler, linker, objdump, only_wide = "", ("gcc",), ("ld",), ("-M", "intel"), "v.*|andn|bzhi|mulx|movbe|shrx"
     registers, stack_pointer = R64, "rsp"
     vector_count, vector_size = 16, 32
     arguments, result, pushed = "rdi rsi rdx rcx r8 r9".split(), "rax", (RETURN_ADDRESS,)
