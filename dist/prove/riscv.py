@@ -90,7 +90,7 @@ class Riscv(Machine):
     def is_counter(self, v):
         return self.counter and is_pointer(v) and (v.base == self.counter.word or v.base.startswith("counter high"))
 
-    def is_below(self, x, y):
+    def less(self, x, y):
         """A flag: whether x is less than y, as numbers without a sign."""
         if x == y or tuple in (type(x), type(y)) and all(b in (0, a) for a, b in zip(*(self.to_bytes(v, self.word) for v in (x, y)))):
             return 0  # y is x, or a part of it
@@ -134,7 +134,7 @@ class Riscv(Machine):
 
     def number_below(self, x, y):
         """1 or 0: whether x is less than y."""
-        flag = self.is_below(x, y)
+        flag = self.less(x, y)
         return self.unbits([self.borrow(x, y)] + [0] * (8 * self.word - 1)) if flag == SECRET else self.number_of(flag)
 
 
@@ -230,7 +230,7 @@ def one_of(m, a, b):
 
 SHIFTS = {"sll": "lsl", "srl": "lsr", "sra": "asr"}
 signed = lambda flag: lambda m, x, y: flag(m, m.signed(x), m.signed(y))
-below = lambda m, x, y: m.is_below(x, y)
+below = lambda m, x, y: m.less(x, y)
 equal = lambda m, x, y: m.is_equal(x, y)
 no = lambda flag: lambda m, x, y: contrary(flag(m, x, y))
 factor = lambda v: constant("a factor", v)

@@ -1,17 +1,19 @@
 -- Rows of multiples for four powers of x more.
-use Rattle.std.proofs.Common.{◌≡◌, ℕ, suc, ◌+◌, ◌-◌, ◌*◌, ◌/◌, ◌%◌, ◌^◌, ◌<◌, ◌==◌, true, List, []}
-use Rattle.std.proofs.Common.{length, get_or, map, replicate, set, length-set, bit_xor, refl, ap, sym}
-use Rattle.std.proofs.Common.{◌∙◌, arith}
+use Rattle.std.proofs.Common.{◌≡◌, ℕ, suc, ◌+◌, ◌-◌, ◌*◌, ◌/◌, ◌%◌, ◌^◌, ◌<◌, ◌==◌, Bool, true, false}
+use Rattle.std.proofs.Common.{cond, List, [], ◌++◌, length, take, drop, get_or, map, replicate}
+use Rattle.std.proofs.Common.{bit_xor, refl, ap, sym, ◌∙◌, arith}
 use Rattle.std.proofs.lemmas.Nat.{xor_block, shr-shr}
 use Rattle.std.proofs.lemmas.Bool.{eqb-true}
-use Rattle.std.proofs.lemmas.List.{get_or-map, length-map}
-use Rattle.std.proofs.lemmas.List.Edits.{fill_by_more}
+use Rattle.std.proofs.lemmas.List.{get_or-map, length-map, length-take, length-drop, take_at, drop_at}
 use Rattle.std.proofs.lemmas.Simd.{get_or-zip2, length-zip2}
 use lib.Lanes.{zip2}
 use Rattle.std.specs.Int.Bits.{xor_zero_l, xor_zero_r}
 use Rattle.aes_planes.proofs.Bits.ByteCases.{all_below, all_below_tells}
 use Rattle.aes_planes.proofs.Lists.{get_or-build, build_is}
+use Rattle.aes_planes.proofs.Words.ByteLanes.{lane_of_splats, shr8, shl8}
 use Rattle.aes_permute.specs.Lookup.{looked, low_nibble}
+use Rattle.aes_permute.specs.Vectors.{half}
+use Rattle.aes_permute.proofs.ByHalves.{half_of_both, half_of_zip}
 use Rattle.gcm.specs.declared.moved_rows.TheConstants.{FALLEN_FIRST, FALLEN_SECOND}
 use Rattle.gcm.specs.Gcm.{next_v, v_at}
 use Rattle.gcm.specs.Multiples.{byte_of, nibble_multiple, multiples_row, multiples_rows, row_at}
@@ -58,7 +60,7 @@ byte_moved m r inside =
     ∙ sym (nibbles_sum (y % 256 / 16) (y / 256 % 256) (omega arith))
     ∙ ap (λ z. bit_xor (y % 256 / 16) (z % 256 * 16 % 256)) (sym before)
 
--- the first one
+-- the first byte of the bits that are left, which has no byte before it
 byte_first : (m : ℕ) → m < 2 ^ 128 → byte_of (m / 16) 0 ≡ byte_of m 0 / 16
 unfolding byte_of
 byte_first m small = omega (arith, small)
@@ -127,7 +129,7 @@ nibble_four v n =
     ∙ sym (term_through (n / 2 ^ (3 - i) % 2) (v_at v i) 4))
     ∙ sym (v-sum 4 4 f)
 
--- a row that has these bytes
+-- a row whose lanes are bytes of multiples, for four powers of x more, is one of `multiples_row`
 row_with : (v r : ℕ) (row : List ℕ) → length row ≡ 16
     → ((n : ℕ) → n < 16 → get_or row n 0 ≡ byte_of (v_at (nibble_multiple v n) 4) r)
     → row ≡ multiples_row (v_at v 4) r
@@ -180,7 +182,7 @@ fallen_long table m t last end long sized t_is last_is =
     length-zip2 bit_xor m t (long ∙ sym (ap length t_is ∙ length-map last (looked table)
     ∙ ap length last_is ∙ length-map end low_nibble ∙ sized)) ∙ long
 
--- the first row: nothing comes before it
+-- the first row for four powers of x more: no row comes before it
 pub first_row : (v : ℕ) (rows : List (List ℕ)) (m t last : List ℕ) → v < 2 ^ 128
     → rows ≡ multiples_rows v → length m ≡ 16 → length (get_or rows 15 []) ≡ 16
     → ((n : ℕ) → n < 16 → get_or m n 0 ≡ bit_xor (get_or (get_or rows 0 []) n 0 / 16)
@@ -197,7 +199,7 @@ first_row v rows m t last small is long sized lanes t_is last_is =
     (looked FALLEN_FIRST (there v 15 n rows is (omega arith) h u % 16)))
     ∙ sym (four_first (nibble_multiple v n) (nibble_below v n small)))
 
--- the second one
+-- the second row for four powers of x more
 pub second_row : (v : ℕ) (rows : List (List ℕ)) (m t last : List ℕ)
     → rows ≡ multiples_rows v → length m ≡ 16 → length (get_or rows 15 []) ≡ 16
     → ((n : ℕ) → n < 16 → get_or m n 0 ≡ bit_xor (get_or (get_or rows 2 []) n 0 / 16)
@@ -214,14 +216,45 @@ second_row v rows m t last is long sized lanes t_is last_is =
     (looked FALLEN_SECOND (there v 15 n rows is (omega arith) h u % 16)))
     ∙ sym (four_second (nibble_multiple v n)))
 
--- the first three places of a list that is filled in order
-pub three_filled : (f : ℕ → List ℕ) (rows : List (List ℕ)) (a b c : List ℕ) → length rows ≡ 16
-    → a ≡ f 0 → b ≡ f 1 → c ≡ f 2 → (k : ℕ) → k < 3
-    → get_or (set (set (set rows 0 a) 1 b) 2 c) k [] ≡ f k
-three_filled f rows a b c sized a_is b_is c_is =
-    let one = fill_by_more f rows 0 [] (omega (arith, sized)) (λ j h. absurd (omega (arith, h))) in
-    let two = fill_by_more f (set rows 0 (f 0)) 1 [] (omega (arith, sized, length-set {A = List ℕ}))
-    one in
-    λ k below. (λ t. get_or (set (set (set rows 0 (a_is t)) 1 (b_is t)) 2 (c_is t)) k [])
-    ∙ fill_by_more f (set (set rows 0 (f 0)) 1 (f 1)) 2 []
-    (omega (arith, sized, length-set {A = List ℕ})) two k below
+-- ---- two rows in a vector
+
+-- each half of a vector of 32 lanes has sixteen
+half_long : (x : List ℕ) (i : ℕ) → length x ≡ 32 → length (half x i) ≡ 16
+unfolding half
+half_long x i long = go (i == 0)
+  where
+    go : (b : Bool) → length (cond b (take 16 x) (drop 16 x)) ≡ 16
+    go true = omega (arith, length-take 16 x, long)
+    go false = omega (arith, length-drop 16 x, long)
+
+-- two vectors that are shifted and summed: a lane of a half, by those lanes of their halves
+pub lane_of_half : (x y : List ℕ) (i n : ℕ) → length x ≡ 32 → length y ≡ 32 → n < 16
+    → get_or (half (zip2 bit_xor (zip2 shr8 x (replicate 32 4)) (zip2 shl8 y (replicate 32 4))) i)
+    n 0 ≡ bit_xor (get_or (half x i) n 0 / 16) (get_or (half y i) n 0 * 16 % 256)
+lane_of_half x y i n x_long y_long small =
+    let fours : half (replicate 32 4) i ≡ replicate 16 4 = half_of_both (replicate 16 4) i refl in
+    ap (λ l. get_or l n 0)
+    (half_of_zip bit_xor (zip2 shr8 x (replicate 32 4)) (zip2 shl8 y (replicate 32 4)) i
+    ∙ (λ t. zip2 bit_xor
+    ((half_of_zip shr8 x (replicate 32 4) i ∙ ap (zip2 shr8 (half x i)) fours) t)
+    ((half_of_zip shl8 y (replicate 32 4) i ∙ ap (zip2 shl8 (half y i)) fours) t)))
+    ∙ lane_of_splats 16 bit_xor shr8 shl8 (half x i) (half y i) 4 4 n (half_long x i x_long)
+    (half_long y i y_long) small
+
+-- a row of such a pair: a lane of it, by those lanes of the two rows that it is made of
+pub lane_in_pair : (m pair x y a b : List ℕ) (i : ℕ) → m ≡ half pair i → half x i ≡ a → half y i ≡ b
+    → ((i n : ℕ) → n < 16 → get_or (half pair i) n 0
+    ≡ bit_xor (get_or (half x i) n 0 / 16) (get_or (half y i) n 0 * 16 % 256))
+    → (n : ℕ) → n < 16 → get_or m n 0 ≡ bit_xor (get_or a n 0 / 16) (get_or b n 0 * 16 % 256)
+lane_in_pair m pair x y a b i m_is a_is b_is lanes n h =
+    ap (λ l. get_or l n 0) m_is ∙ lanes i n h
+    ∙ (λ t. bit_xor (get_or (a_is t) n 0 / 16) (get_or (b_is t) n 0 * 16 % 256))
+
+-- a vector of zeros and a row has them in its halves
+pub zeros_and_row : (x row : List ℕ) → x ≡ replicate 16 0 ++ row
+    → (half x 0 ≡ replicate 16 0) × (half x 1 ≡ row)
+unfolding half
+zeros_and_row x row is = (
+  ap (take 16) is ∙ take_at (replicate 16 0) row 16 refl,
+  ap (drop 16) is ∙ drop_at (replicate 16 0) row 16 refl,
+)
