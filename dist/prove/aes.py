@@ -160,7 +160,7 @@ class Keyed:
         return self.struct_of([0] * self.struct_size)
 
     def struct_of(self, content, after=None):
-        return Buffer(self.library, content, after, align=4)
+        return Buffer(self.library, content, after, align=self.length_size)
 
     # Blocks.
     def content(self, count):
@@ -369,7 +369,8 @@ class Keyed:
         blocks = [self.of(chain, b) for b in range(count + 1)]
         want = [x for b in blocks[1:] for x in b]
         return Call("aes_cbc_encrypt", [self.schedule(), Buffer("cbc", blocks[0], blocks[-1]),
-                                        Buffer("blocks", self.content(count), want), count], DONE, steps=steps, plain=self.content(count))
+                                        Buffer("blocks", self.content(count), want), count], DONE, steps=steps, plain=self.content(count),
+                    may_stay={"plain": 16} if self.length_size == 8 else None)
 
     # Key wrap (SP 800-38F, 6.1 to 6.3). In step t, the block A ^ [t] or A, with a semiblock R, is named as bytes of block t - 1.
     def cipher_of(self, block, direction="encrypt"):

@@ -49,7 +49,7 @@ def refuse_unreached(build, program, function):
 def faults(options, build):
     """Plants the faults of one text, and tries of each the case that has to refuse it, or that has to leave it uncovered."""
     text, out = open(source(options.dist, build)).read(), "%s/controls_%s" % (options.out, build.replace("/", "_"))
-    keyed = LIBRARIES[build.split("/")[1].removesuffix("_v3")][0](assembled(build, source(options.dist, build), out), 16)
+    keyed = LIBRARIES[build.split("/")[1].split("_")[0]][0](assembled(build, source(options.dist, build), out), 16)
     keyed.set_key()
     cases = dict(statements(keyed, argparse.Namespace(dist=options.dist, all=False, only=""), 0, 1), set_key=None)
     verdicts, unreached = [], UNREACHED.get(build, [])
@@ -78,7 +78,7 @@ def faults(options, build):
 
 
 # Wrong meanings: the processor has to disagree.
-WITHOUT_EFFECT = "nop", "endbr64", "hint", "xchg"  # xchg is padding too
+WITHOUT_EFFECT = "nop", "endbr64", "hint", "fence", "xchg"  # xchg is padding too
 
 
 def wrong(right):
@@ -97,7 +97,7 @@ def wrong(right):
                 first, *rest = m.vectors[numbers[0]]
                 m.vectors[numbers[0]] = [m.domain.xor_byte(first, 1), *rest]
             elif registers:
-                m.general[registers[0]], _ = m.plus(m.general[registers[0]], 1, 0, 8)
+                m.general[registers[0]], _ = m.plus(m.general[registers[0]], 1, 0, m.word)
             elif m.flags is not flags:
                 m.flags[next(f for f in m.flags if m.flags[f] in (0, 1))] ^= 1
             else:

@@ -10,7 +10,7 @@ from aarch64 import Aarch64
 from bits import Domain, Unproved
 from elf import DEFAULT, GLOBAL, GROUP, HIDDEN, LOCAL, SYMBOLS, UNDEFINED, Comparison, Elf
 from machine import LIBC, Pointer, Program, Region
-from riscv import Riscv32
+from riscv import Riscv, Riscv32, Riscv64
 from x86_64 import X86_64
 
 HOST = "start", "area", "odd"  # names of host.c
@@ -18,7 +18,7 @@ HERE = os.path.dirname(os.path.abspath(__file__))
 # Those that take longest come first. siv: the calls of AES-GCM-SIV in gcm.s
 BUILDS = {"%s/%s%s" % (folder, library, wide): machine for library in ("gcm", "siv", "aes") for folder, machine, wide in (
     ("aarch64", Aarch64, ""), ("x86_64", X86_64, ""), ("x86_64", X86_64, "_v3"))}
-BUILDS["riscv32/aes"] = Riscv32
+BUILDS |= {"riscv32/aes": Riscv32, "riscv64/aes_narrow": Riscv64}
 MACHINES = {build.split("/")[0]: machine for build, machine in BUILDS.items()}
 
 
@@ -46,7 +46,7 @@ def library_of(build):
 
 def narrow_word(build):
     """For processors that have no byte shuffle: how many bytes a word has in which such a build keeps keys (aes.py). Else 0."""
-    return 4 if build.startswith("riscv32") else 0
+    return BUILDS[build].word if issubclass(BUILDS[build], Riscv) else 0
 
 
 def is_wide(build):

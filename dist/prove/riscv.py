@@ -248,8 +248,7 @@ TABLE = Table({
     "mulhu": result(lambda m, x, y: factor(x) * factor(y) >> 8 * m.word),
     "addw": result(of_half(lambda m, x, y: m.plus(x, y, 0, 4)[0])),
     "subw": result(of_half(lambda m, x, y: m.minus(x, y, 4)[0])),
-    **{name: result(lambda m, x, y, name=name: m.logic(name, x, y, m.word)) for name in ("and",)},
-    "or": result(either), "xor": result(differing),
+    "and": result(lambda m, x, y: m.logic("and", x, y, m.word)), "or": result(either), "xor": result(differing),
     **{name: result(shifted(how)) for name, how in SHIFTS.items()},
     **{name + "w": result(of_half(shifted(how, 4))) for name, how in SHIFTS.items()},
 })
