@@ -22,6 +22,7 @@ WITH_TARGET = "b", "bl", "cbz", "cbnz", "tbz", "adrp"
 class Aarch64(Machine):
     """With the AAPCS64, in which the stack is aligned to 16 bytes and nothing below the stack pointer may be used."""
     tools, objdump, later = "aarch64-linux-gnu-", ("-M", "no-aliases"), None
+    compiler, linker = (tools + "gcc",), (tools + "ld",)
     registers, stack_pointer, stack_step = X + ["sp"], "sp", 16
     vector_count, vector_size = 32, 16
     arguments, result = X[:8], "x0"

@@ -18,9 +18,9 @@ STATUSES = "DONE KEY_LENGTH NO_KEY UNEQUAL_COUNTS KEYSTREAM_END INVALID_COUNT RE
 STRUCTS = {"fotsgure_aes": (484, {"key_length": 0, "round_keys": 4}), "fotsgure_aes_ctr": (24, {"iv": 0, "position": 16}),
            "fotsgure_aes_cbc": (16, {"previous": 0})}
 STRUCT = 484
-# How builds keep round keys: bytes of room for a schedule, and how many a word takes. The narrow ones keep each bit twice, in planes, for
-# two blocks at once; these serve both directions.
-SCHEDULE, NARROW = (240, 4), (480, 8)
+# How builds keep round keys: bytes of a schedule's room, and of a word of the key in it. The narrow ones keep each bit twice in planes of
+# words of 4 bytes, for two blocks at once, or four times in those of 8, for four; these serve both directions.
+SCHEDULE = 240, 4
 
 # The low half of a counter, by its name: `word` and an offset i are that of block i. A call begins at block `first`. From block `wrap` on
 # it has wrapped around; later blocks than `last` don't occur.
@@ -35,9 +35,12 @@ class Keyed:
     library, prefix, schedules, key_sizes = "aes", "aes", 2, (16, 24, 32)
 
     def __init__(self, program, key_size):
-        self.program, self.key_size = program, key_size
-        self.room, self.word = NARROW if program.narrow else SCHEDULE
-        self.kept_size = 4 + self.room  # the key's length, and the round keys for encryption
+        self.program, self.key_size, self.most, self.address = program, key_size, program.machine.most, program.machine.word
+        narrow = program.narrow
+        self.room, self.word = (120 * narrow, 2 * narrow) if narrow else SCHEDULE
+        self.length_size = narrow or 4
+        self.found_in = "vector" if program.machine.vector_count else "block"  # what a step gives
+        self.kept_size = self.length_size + self.room  # the key's length, and the round keys for encryption
         self.struct_size = self.size_of_struct()
         self.key_domain, self.domain = Domain(), Domain()
         self.key_aes, self.aes = Aes(self.key_domain), Aes(self.domain)
@@ -101,7 +104,7 @@ class Keyed:
 
     # The struct.
     def size_of_struct(self):
-        return STRUCT
+        return self.length_size + (self.room if self.program.narrow else self.schedules * self.room)
 
     def set_key(self, seed=None):
         """Expands a key into *aes (KeyExpansion, FIPS 197, 5.2). *aes may be uninitialized: none of it is read. .. every byte that neither
@@ -110,12 +113,12 @@ class Keyed:
 
     def stored_by(self, m):
         """Keeps what set_key has stored, as the same of any round keys: the key's length, and schedules of up to 60 words each."""
-        end = 4 + self.room * (1 if self.program.narrow else self.schedules)
+        start, end = self.length_size, self.length_size + self.room * (1 if self.program.narrow else self.schedules)
         self.struct = [self.byte_for_any(b) for b in m.regions[self.library].content[:end]]
-        if self.struct[:4] != [self.key_size, 0, 0, 0]:
+        if self.struct[:start] != number(self.key_size, start)[::-1]:
             raise Unproved("the struct has another length")
-        for start in range(4, end, self.room):
-            if any(self.struct[start + self.word * len(self.w):start + self.room]):
+        for at in range(start, end, self.room):
+            if any(self.struct[at + self.word * len(self.w):at + self.room]):
                 raise Unproved("the struct holds more than round keys and zeros")
         return m
 
@@ -125,22 +128,22 @@ class Keyed:
         return [(tuple(sorted(d.linear_part(x))) if x > 1 else (), x & 1) for b in self.struct[:self.kept_size] for x in d.bits(b)]
 
     def expansion(self, after, **more):
-        struct = Buffer(self.library, [self.key_domain.undefined] * self.struct_size, after)
+        struct = self.struct_of([self.key_domain.undefined] * self.struct_size, after)
         return Call(self.prefix + "_set_key", [struct, Buffer("key", self.key), self.key_size], DONE, **more)
 
     def set_key_refused(self):
         """.. else KEY_LENGTH, and *aes then is all zeros and holds no key."""
-        struct = Buffer(self.library, self.undefined(self.struct_size), [0] * self.struct_size)
-        for length, facts in lengths_but(self.key_sizes, "length"):
+        struct = self.struct_of(self.undefined(self.struct_size), [0] * self.struct_size)
+        for length, facts in self.lengths_but(self.key_sizes, "length"):
             yield Call(self.prefix + "_set_key", [struct, nothing("key", False), length], KEY_LENGTH, facts=facts)
 
     def key_length(self):
         """Returns how many bytes the key has: 16, 24 or 32"""
-        return Call(self.prefix + "_key_length", [self.schedule()], self.key_size, 8)
+        return Call(self.prefix + "_key_length", [self.schedule()], self.key_size, self.address)
 
     def key_length_of_none(self):
         """.. or 0 if *aes holds no key."""
-        return Call(self.prefix + "_key_length", [self.no_key()], 0, 8)
+        return Call(self.prefix + "_key_length", [self.no_key()], 0, self.address)
 
     def version(self, number):
         """Returns the version of the library"""
@@ -148,13 +151,16 @@ class Keyed:
 
     def wipe(self):
         """Overwrites *aes with zeros: it then holds no key. It may be uninitialized"""
-        return Call(self.prefix + "_wipe", [Buffer(self.library, self.undefined(self.struct_size), [0] * self.struct_size)], None)
+        return Call(self.prefix + "_wipe", [self.struct_of(self.undefined(self.struct_size), [0] * self.struct_size)], None)
 
     def schedule(self):
-        return Buffer(self.library, self.struct)
+        return self.struct_of(self.struct)
 
     def no_key(self):
-        return Buffer(self.library, [0] * self.struct_size)
+        return self.struct_of([0] * self.struct_size)
+
+    def struct_of(self, content, after=None):
+        return Buffer(self.library, content, after, align=self.length_size)
 
     # Blocks.
     def content(self, count):
@@ -214,7 +220,7 @@ class Keyed:
             wrapped = [m.is_below(m.counter.first + number + k, m.counter.wrap) for k in (0, 1)]
             return [wrapped[t // 16] if wrapped[t // 16] is None else 1 - wrapped[t // 16] for t in places]
         content, wants = at(data), [self.aes.xor(at(data), at(stream)) for stream in streams]
-        ctr = Buffer("ctr", iv + [d.opaque((before * 16 + skip, k)) for k in range(8)], lambda m: iv + m.to_bytes(m.known(end), 8))
+        ctr = Buffer("ctr", iv + [d.opaque((before * 16 + skip, k)) for k in range(8)], lambda m: iv + m.to_bytes(m.known(end), 8), align=8)
         return self.of_any_count("aes_add_keystream", [ctr], content, wants, count, count, content + sum(wants, []), way, choose,
                                  {before, WORD - end, wrap - 1, WORD + 1 - wrap},
                                  counter=CounterWord(name, before, wrap, end.divided(16)[0] + BATCH),
@@ -234,7 +240,7 @@ class Keyed:
 
         def steps(m):
             k = m.done - m.first_block
-            return "vector", [d.moved(b, k) for b in chained], [d.moved(b, k) for b in want]
+            return self.found_in, [d.moved(b, k) for b in chained], [d.moved(b, k) for b in want]
         return self.of_any_count("aes_cbc_encrypt", [Buffer("cbc", chain, self.of_last(want, count))], content, want, count, count * 16,
                                  content, steps=steps)
 
@@ -282,47 +288,58 @@ class Keyed:
         pairs += [(d.opaque((name, k)), b) for name, content in contents.items() for k, b in enumerate(content)]
         m.replace_bytes(convert, e, pairs)
 
-    # Counter mode (SP 800-38A, 6.5). The counter is a number of 128 bits that the caller chooses: its halves are words of unknown value.
-    # The low one wraps around from block `wrap` on, or not within the call; the high half is then another unknown word.
-    def counter_blocks(self):
-        d = self.domain
+    # Counter mode (SP 800-38A, 6.5). The counter is a number of 128 bits that the caller chooses: its parts are words of unknown value. The
+    # lowest one wraps around from block `wrap` on, or not within the call; then `full` words above it have all bits set, and become 0, and
+    # the next one, which is "counter high", is another unknown word.
+    def counter_blocks(self, full=0):
+        d, size = self.domain, self.address
+        word = lambda at, *of_block: [d.fresh("counter byte %d" % i, PUBLIC, *of_block) for i in range(at, at + size)]
 
         def make():
-            high = [[d.fresh("counter byte %d" % i, PUBLIC) for i in range(8)] for _ in range(2)]
-            low = [d.fresh("counter byte %d" % i, PUBLIC, True) for i in range(8, 16)]
-            for word, bytes_ in (Pointer("counter high", 0), high[0]), (Pointer("counter high", 1), high[1]), (None, low):
-                d.of_words.update((d.cell_of(b)[0], (word, 7 - i)) for i, b in enumerate(bytes_))
-            d.words["counter high"] = lambda offset, k: d.bits(high[offset][7 - k]) if offset in (0, 1) else None
-            data = [d.fresh("data byte %d" % i, DATA, True) for i in range(16)]
-            return low, [self.aes.cipher(h + low, self.w) for h in high], data
-        return self.once("counter", make)
+            places = range(0, 16 - size * (full + 2), size)
+            low, fixed, next_ = word(16 - size, True), [word(at) for at in places], [word(len(places) * size) for _ in range(2)]
+            names = self.higher_words(full)
+            parts = [(Pointer(names[-1], carry), bytes_) for carry, bytes_ in enumerate(next_)]
+            parts += [(Pointer(base, 0), bytes_) for base, bytes_ in zip(names, fixed)] + [(None, low)]
+            d.of_words.update((d.cell_of(b)[0], (name, size - 1 - i)) for name, bytes_ in parts for i, b in enumerate(bytes_))
+            d.words[names[-1]] = lambda offset, k: d.bits(next_[offset][size - 1 - k]) if offset in (0, 1) else None
+            for base, bytes_ in zip(names, fixed):
+                d.words[base] = lambda offset, k, bytes_=bytes_: None if offset else d.bits(bytes_[size - 1 - k])
+            high = [sum(fixed, []) + next_[carry] + [0 if carry else 255] * size * full for carry in range(2)]
+            return low, [self.aes.cipher(h + low, self.w) for h in high], [d.fresh("data byte %d" % i, DATA, True) for i in range(16)]
+        return self.once(("counter", full), make)
 
-    def counter_words(self, domain, first):
-        """The bytes of an `iv` of unknown value, highest first, and the name of its low word."""
-        low, name = self.counter_blocks()[0], "counter low, from %d" % first
-        d = self.domain
-        d.words[name] = lambda offset, k: d.bits(d.byte_in_block(low[7 - k], offset - first + 1))
-        iv = [b for base in ("counter high", name) for b in [domain.opaque((Pointer(base, 0), k)) for k in range(8)][::-1]]
-        return iv, name
+    def higher_words(self, full=0):
+        """The names of the words above those that are full, the highest first."""
+        places = range(0, 16 - self.address * (full + 2), self.address)
+        return ["counter from byte %d" % at + ", %d full" % full * bool(full) for at in places] + ["counter high" + ", %d full" % full * bool(full)]
 
-    def keystream(self, position, count, wrap):
+    def counter_words(self, domain, first, full=0):
+        """The bytes of an `iv` of unknown value, highest first, and the name of its lowest word."""
+        d, size, low = self.domain, self.address, self.counter_blocks(full)[0]
+        name = "counter low, from %d" % first + ", %d full" % full * bool(full)
+        d.words[name] = lambda offset, k: d.bits(d.byte_in_block(low[size - 1 - k], offset - first + 1))
+        words = [[domain.opaque((Pointer(base, 0), k)) for k in range(size)][::-1] for base in (*self.higher_words(full), name)]
+        return sum(words[:-1], []) + [255] * size * full + words[-1], name
+
+    def keystream(self, position, count, wrap, full):
         """The data and what becomes of them: byte i of the keystream is byte i % 16 of Cipher of the block (iv + i / 16)."""
         first = position // 16
-        _, streams, data_bytes = self.counter_blocks()
+        _, streams, data_bytes = self.counter_blocks(full)
         places = range(position, position + count)
         blocks = range(first, first + (position % 16 + count) // 16 + 1)
         stream = [b for block in blocks for b in self.of(streams[block >= wrap], block - first)]
         data = [self.domain.byte_in_block(data_bytes[t % 16], t // 16 - first + 1) for t in places]
         return data, self.aes.xor(data, stream[position % 16:]), stream
 
-    def add_keystream(self, position, count, wrap=NEVER, way=""):
+    def add_keystream(self, position, count, wrap=NEVER, way="", full=0):
         """adds (XOR) to each of `count` bytes the keystream's byte at its place, the first at ctr->position, and moves the position on by
         `count`. .. (iv + i / 16) modulo 2^128. .. DONE. With _to: The same from one buffer to another; counts are in bytes. With _with: In
         one call, under a key"""
-        data, want, stream = self.keystream(position, count, wrap)
-        before, name = self.counter_words(self.key_domain if way == "_with" else self.domain, position // 16)
-        after, _ = self.counter_words(self.domain, position // 16)
-        ctr = Buffer("ctr", before + number(position, 8)[::-1], after + number(position + count, 8)[::-1])
+        data, want, stream = self.keystream(position, count, wrap, full)
+        before, name = self.counter_words(self.key_domain if way == "_with" else self.domain, position // 16, full)
+        after, _ = self.counter_words(self.domain, position // 16, full)
+        ctr = Buffer("ctr", before + number(position, 8)[::-1], after + number(position + count, 8)[::-1], align=8)
         counter = CounterWord(name, position // 16, wrap, (position + count) // 16 + BATCH)
         return self.in_each_way("aes_add_keystream", way, [ctr], "bytes", data, want, count, counter=counter,
                                 keystream=stream, plain=data + want, may_stay={"plain": 4} if way == "_to" else None)
@@ -351,11 +368,12 @@ class Keyed:
 
         def steps():
             for b in range(count):
-                yield "vector", self.of(chained, b), self.of(chain, b + 1)
+                yield self.found_in, self.of(chained, b), self.of(chain, b + 1)
         blocks = [self.of(chain, b) for b in range(count + 1)]
         want = [x for b in blocks[1:] for x in b]
         return Call("aes_cbc_encrypt", [self.schedule(), Buffer("cbc", blocks[0], blocks[-1]),
-                                        Buffer("blocks", self.content(count), want), count], DONE, steps=steps, plain=self.content(count))
+                                        Buffer("blocks", self.content(count), want), count], DONE, steps=steps, plain=self.content(count),
+                    may_stay={"plain": 16} if self.length_size == 8 else None)
 
     # Key wrap (SP 800-38F, 6.1 to 6.3). In step t, the block A ^ [t] or A, with a semiblock R, is named as bytes of block t - 1.
     def cipher_of(self, block, direction="encrypt"):
@@ -374,7 +392,7 @@ class Keyed:
         def steps():
             for t in range(1, 6 * n + 1):
                 block = self.cipher_of((start if t == 1 else a) + (last if t == n else r))
-                yield "vector", self.of(block, t - 1), self.aes.xor(self.of(a, t), number(t, 8)) + self.of(r, t - 1 + n)
+                yield self.found_in, self.of(block, t - 1), self.aes.xor(self.of(a, t), number(t, 8)) + self.of(r, t - 1 + n)
         return steps, semiblocks, self.of(a, 6 * n) + [x for i in range(n) for x in self.of(r, 6 * n + i)]
 
     def unwrap_string(self, n, start=None):
@@ -387,7 +405,7 @@ class Keyed:
         def steps():
             for k in range(1, 6 * n + 1):  # t is 6n + 1 - k
                 done_a = start if k == 6 * n else self.aes.xor(self.of(a, k), number(6 * n - k, 8))
-                yield "vector", self.of(self.ciphers["decrypt"], k - 1), done_a + self.of(r, k - 1 + n)
+                yield self.found_in, self.of(self.ciphers["decrypt"], k - 1), done_a + self.of(r, k - 1 + n)
         key = [x for i in range(n) for x in self.of(r, 7 * n - 1 - i)]
         return steps, wrapped, start, key
 
@@ -436,14 +454,17 @@ class Keyed:
         else:
             steps, wrapped, _, key = self.unwrap_string(n, start)
         right, none = Buffer("output", self.undefined(8 * n), key), [0] * 8 * n
-        nothing = {"output": none, "key_length": [0] * 8}
-        key_length = Buffer("key_length", self.undefined(8), start[:3:-1] + [0] * 4)
+        nothing = {"output": none, "key_length": [0] * self.address}
+        key_length = self.length_of_key(start[:3:-1] + [0] * 4)
         more = dict(status=DONE, reveals=reveals + key[8 * n - padding:], refused=REFUSED, refused_after=nothing)
         if said is not None:
             more = {"status": REFUSED}
-            right.after, key_length.after = none, [0] * 8
+            right.after, key_length.after = none, [0] * self.address
         return Call("aes_unwrap_padded", [self.schedule(), Buffer("input", wrapped), n + 1, right, n, key_length], steps=steps,
                     plain=key, paths=paths, **more)
+
+    def length_of_key(self, after):
+        return Buffer("key_length", self.undefined(self.address), after[:self.address], align=self.address)
 
     def unwrap_padded_refused(self, n, every):
         """The same where the number in the place of the length isn't one of n semiblocks: each of its three higher bytes has any value; and
@@ -456,6 +477,9 @@ class Keyed:
         for said in {8 * n - 8, 8 * n + 1, *powers[:-1], *(power - 1 for power in powers)}.difference(range(8 * n - 7, 8 * n + 1)):
             yield self.unwrap_padded(8 * n - 3, said, paths)
 
+    def lengths_but(self, right, name):
+        return lengths_but(right, name, self.most)
+
     # Calls that are refused, for all their arguments: nothing but the status changes, and buffers aren't read, so they have no bytes here.
     def refused(self):
         """NO_KEY .. UNEQUAL_COUNTS if they differ .. KEYSTREAM_END if the position would pass 2^64 - 1 .. INVALID_COUNT if keys of so many
@@ -463,7 +487,7 @@ class Keyed:
         n, k = unknown("n"), unknown("k")
         key, none, blocks, input_, output = self.schedule(), self.no_key(), nothing("blocks"), nothing("input", False), nothing("output")
         cbc = self.stays("cbc", [self.domain.fresh("previous byte %d" % i, DATA) for i in range(16)])
-        sizes = between(n, 0, WORD) | between(k, 0, WORD)
+        sizes = between(n, 0, self.most) | between(k, 0, self.most)
         for direction in ("encrypt", "decrypt"):
             name = "aes_%s_blocks" % direction
             yield Call(name, [none, blocks, n], NO_KEY, facts=sizes)
@@ -474,7 +498,7 @@ class Keyed:
         yield from self.keystream_refused(key, none, sizes)
         yield from self.wrap_refused(key, none, sizes)
         yield from self.wrap_padded_refused(key, none, sizes)
-        for length, facts in lengths_but((16, 24, 32), "length"):
+        for length, facts in self.lengths_but((16, 24, 32), "length"):
             arguments, facts = [nothing("key", False), length], sizes | facts
             for direction in ("encrypt", "decrypt"):
                 yield Call("aes_%s_blocks_with" % direction, [*arguments, blocks, n], KEY_LENGTH, facts=facts)
@@ -485,11 +509,23 @@ class Keyed:
 
     def ctr(self, position):
         """A counter at a position that isn't known."""
-        return self.stays("ctr", self.content(1) + [self.domain.opaque((position, k)) for k in range(8)])
+        return Buffer("ctr", *2 * [self.content(1) + self.unknown_number(position)], align=8)
+
+    def number_of_words(self, name):
+        """A number of 64 bits, in as many words as it takes, and the facts of it."""
+        if self.most == WORD:
+            return unknown(name), between(unknown(name), 0, WORD)
+        low, high = unknown(name + ", low"), unknown(name + ", high")
+        return low + high * (self.most + 1), between(low, 0, self.most) | between(high, 0, self.most)
+
+    def unknown_number(self, number):
+        """The bytes of such a number."""
+        parts = [number] if self.most == WORD else [unknown(name) for name in sorted({name for name, _ in number.terms}, reverse=True)]
+        return [self.domain.opaque((part, k)) for part in parts for k in range(self.address)]
 
     def keystream_refused(self, key, none, sizes):
-        n, k, position = unknown("n"), unknown("k"), unknown("position")
-        ctr, sizes, bytes_ = self.ctr(position), sizes | between(position, 0, WORD), nothing("bytes")
+        n, k, (position, any_) = unknown("n"), unknown("k"), self.number_of_words("position")
+        ctr, sizes, bytes_ = self.ctr(position), sizes | any_, nothing("bytes")
         to = lambda aes, n, k: [aes, ctr, nothing("input", False), n, nothing("output"), k]
         passes, stays = {position + n - WORD - 1}, {WORD - position - n}
         for aes, facts, status in ((none, stays, NO_KEY), (none, passes, KEYSTREAM_END), (key, passes, KEYSTREAM_END)):
@@ -508,7 +544,8 @@ class Keyed:
                                    ("aes_unwrap", [aes, nothing("input", False), k, nothing("output"), n]))
         for name, arguments in calls(none, n, k):
             yield Call(name, arguments, NO_KEY, facts=sizes)
-        for n, k, facts in ((n, k, {n - k}), (n, k, {k - n - 2}), (0, 1, set()), (1, 2, set()), (n, n + 1, between(n, 1 << 54, WORD - 1))):
+        counts = [(n, k, {n - k}), (n, k, {k - n - 2}), (0, 1, set()), (1, 2, set()), (n, n + 1, between(n, 1 << 54, self.most - 1))]
+        for n, k, facts in counts if self.most >> 54 else counts[:-1]:
             for name, arguments in calls(key, n, k):
                 yield Call(name, arguments, INVALID_COUNT, facts=(sizes if facts else set()) | facts)
 
@@ -518,14 +555,15 @@ class Keyed:
         wrap = lambda aes, length: ("aes_wrap_padded", [aes, nothing("input", False), length, nothing("output"), k])
         yield Call(*wrap(none, n), NO_KEY, facts=sizes)
         yield Call(*wrap(key, 0), INVALID_COUNT, facts=sizes)
-        yield Call(*wrap(key, n), INVALID_COUNT, facts=sizes | between(n, 1 << 32, WORD))
+        if self.most >> 32:
+            yield Call(*wrap(key, n), INVALID_COUNT, facts=sizes | between(n, 1 << 32, self.most))
         for rest in range(1, 9):  # of a key of n + 1 semiblocks
             for facts in unequal(k, n + 2):
                 yield Call(*wrap(key, n * 8 + rest), INVALID_COUNT, facts=sizes | between(n, 0, (1 << 29) - 1) | facts)
-        key_length = Buffer("key_length", self.undefined(8), [0] * 8)
+        key_length = self.length_of_key([0] * 8)
         unwrap = lambda aes, n, k: ("aes_unwrap_padded", [aes, nothing("input", False), n, nothing("output"), k, key_length])
         yield Call(*unwrap(none, n, k), NO_KEY, facts=sizes)
-        for n, k, facts in ((n, k, {k - n}), (n, k, {n - k - 2}), (1, 0, set()), (k + 1, k, between(k, (1 << 29) + 1, WORD - 1))):
+        for n, k, facts in ((n, k, {k - n}), (n, k, {n - k - 2}), (1, 0, set()), (k + 1, k, between(k, (1 << 29) + 1, self.most - 1))):
             yield Call(*unwrap(key, n, k), INVALID_COUNT, facts=(sizes if facts else set()) | facts)
 
 
@@ -549,7 +587,7 @@ def unequal(a, b):
     return {a - b - 1}, {b - a - 1}
 
 
-def lengths_but(right, name):
+def lengths_but(right, name, most=WORD):
     """All lengths but these, of which the last is the highest: (the length, facts)."""
     length = unknown(name)
-    return [(n, set()) for n in range(right[-1]) if n not in right] + [(length, between(length, right[-1] + 1, WORD))]
+    return [(n, set()) for n in range(right[-1]) if n not in right] + [(length, between(length, right[-1] + 1, most))]

@@ -495,7 +495,7 @@ class Domain:
 
     # Bytes.
     def xor_byte(self, a, b):
-        if a < 256 and b < 256:
+        if a < 256 and b < 256 or not a or not b:
             return a ^ b
         key = (a, b)
         known = self.product_xors if a in self.with_products or b in self.with_products else self.byte_xors
@@ -506,13 +506,13 @@ class Domain:
         return c
 
     def and_byte(self, a, b):
-        if a < 256 and b < 256:
+        if a < 256 and b < 256 or not a or not b:
             return a & b
+        if 255 in (a, b):
+            return b if a == 255 else a
         key = self.with_factors(a, b) if self.factor_of else (a, b)
         known = self.byte_ands if key == (a, b) else self.product_ands
         c = known.get(key)
-        if c is None and 0 in key and self.opaque_of.get(a or b) == LOST:
-            c = 0
         if c is None:
             and_ = self.and_
             c = known[key] = self.pack([and_(x, y) for x, y in zip(*map(self.bits, key))])
@@ -527,6 +527,8 @@ class Domain:
         return a, b
 
     def or_byte(self, a, b):
+        if not a or not b:
+            return a | b
         return self.xor_byte(self.and_byte(self.xor_byte(a, 255), self.xor_byte(b, 255)), 255)
 
     def lookup(self, table, index):

@@ -8,7 +8,7 @@ import functools
 import lengths
 from bits import DATA, KEY, LOST, ONES, Pause, Unproved
 from linear import refuted
-from machine import LAST, LEAD, ROOM, Pointer, Question, Region, Window
+from machine import LAST, LEAD, ROOM, Pointer, Question, Region, Verdict, Window
 from native import Native
 
 STACK = 16384  # FOTSGURE_AES_STACK and FOTSGURE_GCM_STACK
@@ -22,12 +22,12 @@ ANY = "any"    # for a Buffer of which something else is asked than bytes
 class Buffer:
     """An argument that points to bytes: what they are, and what they have to be after the call."""
 
-    def __init__(self, name, content, after=None, secret=False):
-        """`secret`: what it holds after the call is as secret as the key."""
-        self.name, self.content, self.after, self.secret = name, content, after, secret
+    def __init__(self, name, content, after=None, secret=False, align=1):
+        """`secret`: what it holds after the call is as secret as the key. `align`: of the struct that it is."""
+        self.name, self.content, self.after, self.secret, self.align = name, content, after, secret, align
 
-    def region(self):
-        return Region(self.content, self.after is not None)
+    def region(self, machine):
+        return Region(self.content, self.after is not None, self.align if machine.strict else 1)
 
 
 class Stream(Buffer):
@@ -39,7 +39,7 @@ class Stream(Buffer):
         self.size, self.choose = size, choose
         self.patterns = after if choose else [after or []]
 
-    def region(self):
+    def region(self, machine):
         return Window(self.size, self.content, self.after and self.want)
 
     def want(self, m, number):
@@ -77,8 +77,8 @@ def prove(domain, program, call, seed=None):
     tag is right. With a seed, for one key and data, on the processor too. The result is a machine after the call."""
     if len(domain.products) > MANY:
         domain.forget_products()
-    regions = {b.name: b.region() for b in call.buffers}
-    regions["stack"] = Region([domain.undefined] * (STACK - 8 * len(program.machine.pushed)), align=16)
+    regions = {b.name: b.region(program.machine) for b in call.buffers}
+    regions["stack"] = Region([domain.undefined] * (STACK - program.machine.word * len(program.machine.pushed)), align=16)
     arguments = [Pointer(a.name, 0) if isinstance(a, Buffer) else a for a in call.arguments]
     m = program.machine(domain, program, regions, program.exports["fotsgure_" + call.name], arguments)
     m.may_reveal, m.assumed = call.reveals is not None, call.assumes
@@ -141,6 +141,9 @@ def run(m, call, watches):
             raise
         call.later(m)
         m.run(watches)
+    status = m.general[m.result]
+    if isinstance(status, Verdict) and status.wrong is not None:  # made without a branch: then the caller asks
+        m.judged(status.differences, m.decide(m.zero_flag(status.differences)))
 
 
 def check(m, call):

@@ -79,7 +79,7 @@ def faults(options, build):
 
 
 # Wrong meanings: the processor has to disagree.
-WITHOUT_EFFECT = "nop", "endbr64", "hint", "xchg"  # xchg is padding too
+WITHOUT_EFFECT = "nop", "endbr64", "hint", "fence", "xchg"  # xchg is padding too
 
 
 def wrong(right):
@@ -98,7 +98,7 @@ def wrong(right):
                 first, *rest = m.vectors[numbers[0]]
                 m.vectors[numbers[0]] = [m.domain.xor_byte(first, 1), *rest]
             elif registers:
-                m.general[registers[0]], _ = m.plus(m.general[registers[0]], 1, 0, 8)
+                m.general[registers[0]], _ = m.plus(m.general[registers[0]], 1, 0, m.word)
             elif m.flags is not flags:
                 m.flags[next(f for f in m.flags if m.flags[f] in (0, 1))] ^= 1
             else:

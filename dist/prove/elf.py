@@ -1,4 +1,4 @@
-"""ELF files of 64 bits: what an object of the assembler has, and whether a shared library has the code and the constants of objects."""
+"""ELF files: what an object of the assembler has, and whether a shared library has the code and the constants of objects."""
 import functools
 import struct
 from collections import namedtuple
@@ -9,8 +9,8 @@ Section = namedtuple("Section", "name kind flags address content entry link info
 Symbol = namedtuple("Symbol", "name binding kind visibility section value")
 Relocation = namedtuple("Relocation", "offset kind symbol addend")
 
-SYMBOLS, RELOCATIONS, NO_BITS, DYNAMIC_SYMBOLS, GROUP = 2, 4, 8, 11, 17  # kinds of sections
-LOADED, MERGED = 2, 16  # flags of sections
+CONTENT, SYMBOLS, RELOCATIONS, NO_BITS, DYNAMIC_SYMBOLS, GROUP = 1, 2, 4, 8, 11, 17  # kinds of sections
+LOADED, MERGED, FLAGS = 2, 16, 7  # flags of sections; FLAGS: whether they are written, loaded and run
 LOCAL, GLOBAL = 0, 1  # of symbols
 DEFAULT, HIDDEN = 0, 2
 UNDEFINED = 0  # in the place of a symbol's section
@@ -21,9 +21,10 @@ class Elf:
         self.path = path
         with open(path, "rb") as file:
             self.raw = file.read()
-        table, = struct.unpack_from("<Q", self.raw, 0x28)
-        size, count, names = struct.unpack_from("<HHH", self.raw, 0x3a)
-        headers = [struct.unpack_from("<IIQQQQIIQQ", self.raw, table + k * size) for k in range(count)]
+        self.narrow = self.raw[4] == 1  # of 32 bits
+        table, = struct.unpack_from(*("<I", self.raw, 0x20) if self.narrow else ("<Q", self.raw, 0x28))
+        size, count, names = struct.unpack_from("<HHH", self.raw, 0x2e if self.narrow else 0x3a)
+        headers = [struct.unpack_from("<10I" if self.narrow else "<IIQQQQIIQQ", self.raw, table + k * size) for k in range(count)]
         name = lambda header: self.text(headers[names][4] + header[0])
         content = lambda header: b"" if header[1] == NO_BITS else self.raw[header[4]:header[4] + header[5]]
         self.sections = [Section(name(h), *h[1:4], content(h), h[9], *h[6:8]) for h in headers]
@@ -35,7 +36,8 @@ class Elf:
     def symbols_of(self, number):
         """Those of a table of symbols, by its section's number."""
         table = self.sections[number]
-        for name, info, other, section, value, _ in struct.iter_unpack("<IBBHQQ", table.content):
+        for fields in struct.iter_unpack("<IIIBBH" if self.narrow else "<IBBHQQ", table.content):
+            name, info, other, section, value = (fields[k] for k in ((0, 3, 4, 5, 1) if self.narrow else range(5)))
             yield Symbol(self.text(self.offsets[table.link] + name), info >> 4, info & 15, other & 3, section, value)
 
     def all_symbols(self, kind=SYMBOLS):
@@ -53,9 +55,10 @@ class Elf:
         for section in self.sections:
             if section.kind == RELOCATIONS:
                 symbols = list(self.symbols_of(section.link))
+                layout, bits = ("<IIi", 8) if self.narrow else ("<QQq", 32)
                 found.setdefault(section.info, []).extend(
-                    Relocation(offset, info & 0xffffffff, symbols[info >> 32], addend)
-                    for offset, info, addend in struct.iter_unpack("<QQq", section.content))
+                    Relocation(offset, info & (1 << bits) - 1, symbols[info >> bits], addend)
+                    for offset, info, addend in struct.iter_unpack(layout, section.content))
         return found
 
     # Of a linked file.

@@ -261,6 +261,15 @@ FAULTS = {
         ("half of a tag compared", COMPARE, r"cmeq\t(v\d+)\.16b, (v\d+)\.16b, (v\d+)\.16b\n\tmvn\t.*",
          r"cmeq\t\1.8b, \2.8b, \3.8b\n\tmvn\t\1.8b, \1.8b", "open 0 0"),
     ],
+    "riscv32/aes": [
+        ("a branch on data", BLOCKS, ENTRY, r"\1\tlbu\tt0, 0(a1)\n\tbeqz\tt0, 77f\n77:\n", "blocks encrypt 2"),
+        ("an address from data", BLOCKS, ENTRY, r"\1\tlbu\tt0, 0(a1)\n\tadd\tt0, t0, a1\n\tlbu\tt0, 0(t0)\n", "blocks encrypt 2"),
+        ("a store to the struct, which is const", BLOCKS, ENTRY, r"\1\tsw\tzero, 0(a0)\n", "blocks encrypt 2"),
+        ("an access that isn't aligned", BLOCKS, ENTRY, r"\1\tlw\tt0, 1(a0)\n", "blocks encrypt 2"),
+        ("a store below the stack pointer", BLOCKS, ENTRY, r"\1\tsw\tzero, -16(sp)\n", "blocks encrypt 2"),
+        ("an instruction not covered", BLOCKS, ENTRY, r"\1\tdivu\tt0, t0, t0\n", "blocks encrypt 2"),
+        ("another gate of the planes", ROUNDS_ON_PLANES, r"\txor\t", r"\tor\t", "blocks encrypt 2"),
+    ],
     "aarch64/siv": [
         ("half of a tag added up", OPEN_IN, r"(zip1\t(v\d+)\.16b, v\d+\.16b, )v\d+", r"\1\2", "open 1 1"),
     ],

@@ -147,31 +147,32 @@ def in_a_pass(first, second):
     places = [(v.offset, second.general[r].offset) for r, v in first.general.items() if is_pointer(v, second.general[r])
               and v.base == second.general[r].base and isinstance(first.regions.get(v.base), Window)]
     for pairs in ends, places:
-        steps = [by for by in (wrapped(b - a) for a, b in pairs) if is_int(by) and by > 0 and by % 16 == 0]
+        steps = [by for by in (wrapped(b - a, first.most) for a, b in pairs) if is_int(by) and by > 0 and by % 16 == 0]
         if steps:
             return max(steps) // 16
     return 0
 
 
-def generally(a, b, passes):
-    """What is a after the first pass and b after the second, after any number of passes; None if that can't be said."""
+def generally(a, b, passes, most):
+    """What is a after the first pass and b after the second, after any number of passes; None if that can't be said. `most` is the highest
+    word."""
     if a == b:
         return a
     if is_number(a, b):
-        by = wrapped(b - a)
-        return wrapped(a + passes * by) if is_int(by) else None
+        by = wrapped(b - a, most)
+        return wrapped(a + passes * by, most) if is_int(by) else None
     if is_pointer(a, b) and a.base == b.base:
-        offset = generally(a.offset, b.offset, passes)
+        offset = generally(a.offset, b.offset, passes, most)
         return None if offset is None else Pointer(a.base, offset)
     return None
 
 
 def general_bytes(m, a, b, passes):
-    """The same of bytes, in words of 8."""
+    """The same of bytes, in words."""
     out = []
-    for x, y in zip(lanes(a, 8), lanes(b, 8)):
-        v = generally(m.from_bytes(x), m.from_bytes(y), passes) if x != y and len(x) == 8 else None
-        out += m.names(v) if is_pointer(v) else m.to_bytes(v, 8) if v is not None else [p if p == q else m.any_byte() for p, q in zip(x, y)]
+    for x, y in zip(lanes(a, m.word), lanes(b, m.word)):
+        v = generally(m.from_bytes(x), m.from_bytes(y), passes, m.most) if x != y and len(x) == m.word else None
+        out += m.names(v) if is_pointer(v) else m.to_bytes(v, m.word) if v is not None else [p if p == q else m.any_byte() for p, q in zip(x, y)]
     return out
 
 
@@ -184,11 +185,11 @@ def general_state(known, key, visit, now, wrong=frozenset()):
     blocks = in_a_pass(first, now.first)
     second, g = moved_on(now.first, blocks), first.copied()
     g.first_block, g.origins = first.first_block + passes * blocks, {**second.origins, **first.origins}
-    g.done = generally(first.done, second.done, passes)
+    g.done = generally(first.done, second.done, passes, g.most)
     for r, v in first.general.items():
-        general = generally(v, second.general[r], passes)
+        general = generally(v, second.general[r], passes, g.most)
         if general is None:
-            general = g.from_bytes(general_bytes(g, g.to_bytes(v, 8), g.to_bytes(second.general[r], 8), passes))
+            general = g.from_bytes(general_bytes(g, g.to_bytes(v, g.word), g.to_bytes(second.general[r], g.word), passes))
         g.general[r] = general
     g.vectors = [general_bytes(g, v, w, passes) for v, w in zip(first.vectors, second.vectors)]
     for name_, region in g.regions.items():
@@ -197,7 +198,7 @@ def general_state(known, key, visit, now, wrong=frozenset()):
             raise Unproved("two passes of a loop don't access the same of %s" % name_)
         region.content = general_bytes(g, region.content, other.content, passes)
         if isinstance(region, Window):
-            region.origin = generally(region.origin, other.origin, passes)
+            region.origin = generally(region.origin, other.origin, passes, g.most)
             if region.origin is None:
                 raise Unproved("two passes of a loop don't come as far in %s" % name_)
     g.stale, g.lowest = first.stale | second.stale, min(first.lowest, second.lowest)
@@ -235,7 +236,7 @@ def is_instance(m, general, passes):
 
     def same(a, b):
         return len(a) == len(b) and all(x in (any_, y) for x, y in zip(a, b))
-    wrong = [r for r, v in want.general.items() if not same(want.to_bytes(v, 8), m.to_bytes(m.general[r], 8))]
+    wrong = [r for r, v in want.general.items() if not same(want.to_bytes(v, m.word), m.to_bytes(m.general[r], m.word))]
     wrong += ["vector register %d" % n for n, (v, w) in enumerate(zip(want.vectors, m.vectors)) if not same(v, w)]
     window = lambda r: [r.size, r.origin, r.initial, r.writable] if isinstance(r, Window) else []
     pairs = [(name, r, m.regions[name]) for name, r in want.regions.items()]

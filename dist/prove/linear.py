@@ -69,9 +69,11 @@ def unknown(name):
     return Linear(((name, 1),), 0)
 
 
-def wrapped(x):
-    """The same number for a machine: only the lowest 64 bits count. Constants are as near to 0 as they can be."""
-    near = lambda k: (k + (1 << 63) & WORD) - (1 << 63)
+def wrapped(x, most=WORD):
+    """The same number for a machine, of which `most` is the highest word: only so many bits count. Constants are as near to 0 as they can
+    be."""
+    half = most + 1 >> 1
+    near = lambda k: (k + half & most) - half
     return linear({name: near(k) for name, k in x.terms}, near(x.constant)) if isinstance(x, Linear) else near(x)
 
 

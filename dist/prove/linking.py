@@ -10,6 +10,7 @@ from aarch64 import Aarch64
 from bits import Domain, Unproved
 from elf import DEFAULT, GLOBAL, GROUP, HIDDEN, LOCAL, SYMBOLS, UNDEFINED, Comparison, Elf
 from machine import LIBC, Pointer, Program, Region
+from riscv import Riscv, Riscv32, Riscv64
 from x86_64 import X86_64, Windows
 
 HOST = "start", "area", "odd"  # names of host.c
@@ -18,6 +19,7 @@ HERE = os.path.dirname(os.path.abspath(__file__))
 BUILDS = {"%s/%s%s" % (folder, library, wide): machine for library in ("gcm", "siv", "aes") for folder, machine, wide in (
     ("aarch64", Aarch64, ""), *((folder, machine, wide) for folder, machine in (("x86_64", X86_64), ("windows_x86_64", Windows))
                                for wide in ("", "_v3", "_v1")))}
+BUILDS |= {"riscv32/aes": Riscv32, "riscv64/aes_narrow": Riscv64}
 MACHINES = {build.split("/")[0]: machine for build, machine in BUILDS.items()}
 
 
@@ -40,7 +42,7 @@ def source(dist, build):
 
 def library_of(build):
     """aes or gcm"""
-    return re.sub("_v[13]$", "", text_of(build).split("/")[1])
+    return text_of(build).split("/")[1].split("_")[0]
 
 
 def suffix_of(build):
@@ -48,9 +50,10 @@ def suffix_of(build):
     return "" if BUILDS[build].later is None else build[-3:] if build[-3:] in ("_v1", "_v3") else "_v2"
 
 
-def is_narrow(build):
-    """Whether it is one for processors that have no byte shuffle: it keeps keys in another form (aes.py), and has no tables for GHASH."""
-    return build.endswith("_v1")
+def narrow_word(build):
+    """How many bytes a word has in which a build keeps keys for processors that have no byte shuffle (aes.py), and then it has no tables
+    for GHASH. Else 0."""
+    return BUILDS[build].word if issubclass(BUILDS[build], Riscv) else 4 if suffix_of(build) == "_v1" else 0
 
 
 def is_windows(build):
@@ -59,7 +62,12 @@ def is_windows(build):
 
 def takes_few(build):
     """Whether it is proved at a few lengths, as its text is compiled from what others are (prove.py)."""
-    return is_narrow(build) or is_windows(build)
+    return suffix_of(build) == "_v1" or is_windows(build)
+
+
+def more_lengths(build):
+    """How many lengths besides a few it takes of each call, if not all (prove.py)."""
+    return 0 if is_windows(build) else 1 if takes_few(build) else None
 
 
 # What the Makefile builds.
@@ -71,7 +79,7 @@ class Built:
         self.members = "%s/members/%s" % (out, folder)
         if not by_user:  # (Nothing that was said for another compiler)
             what = ["static"] if self.machine is Windows else ["static", "shared"]
-            run("make", "-s", "-f", dist + "/Makefile", "OUT=" + self.out, "CC=" + self.machine.tools + "gcc", *what,
+            run("make", "-s", "-f", dist + "/Makefile", "OUT=" + self.out, "CC=" + " ".join(self.machine.compiler), *what,
                 env={"PATH": os.environ["PATH"]})
 
     @functools.lru_cache(None)
@@ -87,8 +95,8 @@ class Built:
 
     def object_of(self, build):
         """The member of a static library that is a build's text."""
-        name = text_of(build).split("/")[1] + "_chosen" * bool(suffix_of(build)) + ".o"
-        return self.archive(library_of(build))[name]
+        library, suffix = library_of(build), suffix_of(build)
+        return self.archive(library)[library + suffix.replace("_v2", "") + "_chosen" * bool(suffix) + ".o"]
 
     def has(self, library):
         return os.path.exists("%s/libfotsgure_%s.a" % (self.out, library))
@@ -117,7 +125,7 @@ def compared(library, exports, objects):
 def rust_cases(dist, out, objects):
     """A text that a Rust crate may hold, which assembles it with `in_rust`, has the same then. objects: {build: its member}"""
     for build, member in objects.items():
-        if "siv" not in build and is_for_rust(source(dist, build)) and not is_windows(build):
+        if "siv" not in build and is_for_rust(source(dist, build)) and not (is_windows(build) or BUILDS[build].relaxed):
             try:
                 compare_in_rust(build, source(dist, build), member, "%s/%s" % (out, build.replace("/", "_")))
                 fault = ""
@@ -133,9 +141,9 @@ def is_for_rust(text):
 
 def compare_in_rust(build, text, member, out):
     """There the label of an export is its name, and only the crate sees it."""
-    tools, suffix = BUILDS[build].tools, suffix_of(build)
-    run(tools + "gcc", "-Wa,-defsym,in_rust=1", "-c", text, "-o", out + ".rust.o")
-    run(tools + "ld", "-shared", "-z", "noexecstack", out + ".rust.o", "-o", out + ".rust.so")
+    machine, suffix = BUILDS[build], suffix_of(build)
+    run(*machine.compiler, "-Wa,-defsym,in_rust=1", "-c", text, "-o", out + ".rust.o")
+    run(*machine.linker, "-shared", "-z", "noexecstack", out + ".rust.o", "-o", out + ".rust.so")
     exports = {name: name.rpartition(".")[2] + suffix for name in Elf(out + ".rust.o").exports}
     if sorted(exports.values()) != sorted(Elf(member).exports):
         raise Unproved("%s has other exports in a Rust crate" % text)
@@ -144,7 +152,7 @@ def compare_in_rust(build, text, member, out):
 
 def built_cases(built):
     """Each shared library that was built has what the static one has."""
-    for library in filter(built.has, ("aes", "gcm")):
+    for library in filter(built.has, ("aes", "gcm")) if not built.machine.relaxed else ():
         for path, exports, objects in built.shared(library):
             try:
                 compared(path, exports, objects)
@@ -159,38 +167,37 @@ def program_of(build, path, out):
     """An object of a build, linked by itself."""
     (refuse_names_of_windows if is_windows(build) else refuse_names)(path, suffix_of(build))
     program = linked(out, BUILDS[build], [path], suffix_of(build))
-    program.narrow = is_narrow(build)
-    program.most = 0 if is_windows(build) else 1 if takes_few(build) else None  # how many lengths besides a few it takes (prove.py)
+    program.narrow, program.more = narrow_word(build), more_lengths(build)
     refuse_instructions(program, suffix_of(build))
     return program
 
 
 def assembled(build, text, out):
     """The same of a text, assembled in each way of the Makefile: the names are to differ, and nothing else."""
-    tools, suffix = BUILDS[build].tools, suffix_of(build)
-    run(tools + "gcc", *["-Wa,-defsym,chosen=1"] * bool(suffix), "-c", text, "-o", out + ".o")
+    machine, suffix = BUILDS[build], suffix_of(build)
+    run(*machine.compiler, *["-Wa,-defsym,chosen=1"] * bool(suffix), "-c", text, "-o", out + ".o")
     if is_windows(build):
         return program_of(build, out + ".o", out)
     refuse_names(out + ".o", suffix)
     if suffix:
-        run(tools + "gcc", "-c", text, "-o", out + ".plain.o")
-        run(tools + "ld", "-shared", "-z", "noexecstack", "--version-script", os.path.dirname(HERE) + "/exports.map", out + ".plain.o",
+        run(*machine.compiler, "-c", text, "-o", out + ".plain.o")
+        run(*machine.linker, "-shared", "-z", "noexecstack", "--version-script", os.path.dirname(HERE) + "/exports.map", out + ".plain.o",
             "-o", out + ".so")
         compared(out + ".so", exports_of(out + ".o", suffix), [out + ".o"])
-    if is_for_rust(text):
+    if is_for_rust(text) and not machine.relaxed:
         compare_in_rust(build, text, out + ".o", out)
     return program_of(build, out + ".o", out)
 
 
 def linked(out, machine, objects, suffix=""):
-    """Objects at addresses of more than 32 bits; libc's three functions are names alone, of which the contract is used."""
+    """Objects at addresses of more than 32 bits, where there are; libc's three functions are names alone, of which the contract is used."""
     # (A function of the host may not become a call of itself.)
     host = out + ".host.o"
-    run(machine.tools + "gcc", "-O2", "-fno-tree-loop-distribute-patterns", "-c", HERE + "/host.c", "-o", host)
+    run(*machine.compiler, "-O2", "-fno-tree-loop-distribute-patterns", "-c", HERE + "/host.c", "-o", host)
     if machine is Windows:
         link_for_windows(out, machine, [host, *objects])
         return Program(out, machine, suffix)
-    run(machine.tools + "ld", "-static", "-e", "start", "--build-id=none", "-z", "noexecstack", "-Ttext-segment=0x123456700000",
+    run(*machine.linker, "-static", "-e", "start", "--build-id=none", "-z", "noexecstack", "-Ttext-segment=0x%x" % machine.start,
         host, *objects, "-o", out)
     return Program(out, machine, suffix)
 
@@ -209,7 +216,7 @@ def link_for_windows(out, machine, objects):
     """Objects at such addresses by Windows' linker, and the same as an ELF file. (The function that touches the stack does nothing here.)"""
     with open(out + ".ld", "w") as file:
         file.write(WINDOWS_LAYOUT)
-    run(machine.tools + "ld", "-e", "start", "--image-base", "0x123456700000", "--defsym", "___chkstk_ms=start", "-T", out + ".ld",
+    run(*machine.linker, "-e", "start", "--image-base", "0x123456700000", "--defsym", "___chkstk_ms=start", "-T", out + ".ld",
         *objects, "-o", out + ".exe")
     run("objcopy", "-I", "pei-x86-64", "-O", "elf64-x86-64", out + ".exe", out)
 
@@ -257,7 +264,7 @@ def refuse_instructions(program, suffix):
             raise Unproved("has an instruction that not all of its processors have: " + program.lines[address])
     function_of = {address: name for name, addresses in functions.items() for address in addresses}
     mentioned = lambda name: {function_of.get(int(target, 16)) for address in functions[name]
-                              for target in re.findall(r"\b[0-9a-f]{12}\b", program.lines[address])} - {None}
+                              for target in re.findall(r"\b[0-9a-f]{8,12}\b", program.lines[address])} - {None}
     waiting, reached = [function_of[address] for address in program.exports.values()], set()
     while waiting:
         name = waiting.pop()

@@ -1,15 +1,20 @@
-"""A machine on symbolic bytes: values, operands, memory, flags and how a call runs, as x86-64 and 64-bit ARM have them alike.
+"""A machine on symbolic bytes: values, operands, memory, flags and how a call runs, as all machines here have them alike.
 
 A value is an int (a constant), a Pointer, a Distance, a Number, a Verdict, or a tuple of bytes of bits.Domain, lowest first. Branches,
 addresses and lengths have to be constants or Pointers. A Pointer is known only relative to a buffer, so what is proved holds wherever the
 buffers are. Whatever isn't covered raises Unproved. A step is `instruction.run(machine, name, *operands)`. A machine is a class below
-Machine, in a file of its own (x86_64.py, aarch64.py), that says:
+Machine, in a file of its own (x86_64.py, aarch64.py, riscv.py), that says:
 
-    tools                  what the names of gcc, ld, objdump and nm begin with
+    tools                  what the names of ld, objdump, nm and ar begin with
+    compiler, linker       gcc and ld, with what they are told besides
+    start                  the address where the code is linked
+    relaxed                whether the linker makes code shorter, so that a library isn't compared with an object
+    strict                 whether an access has to be aligned, so that a struct is
     objdump                the options with which it prints what `decode` reads
     later                  patterns of the instructions that only builds from _v2, and from _v3 on may have; None where there is one build
-    registers, stack_pointer, vector_count, vector_size     registers of 8 bytes by their names, vector registers by their numbers
-    arguments, result      the registers of the ABI; more arguments are on the stack, 8 bytes each, above what a call pushes: `pushed`
+    word, most             bytes of a register and of an address, and the highest number in one: of 64 bits, if it doesn't say so
+    registers, stack_pointer, vector_count, vector_size     registers of a word by their names, vector registers by their numbers
+    arguments, result      the registers of the ABI; more arguments are on the stack, a word each, above what a call pushes: `pushed`
     kept                   the registers that a function restores
     kept_vectors           how many bytes it restores of vector registers, by their numbers
     shadow                 bytes above what a call pushes that are the called function's, below the arguments on the stack
@@ -24,18 +29,19 @@ Machine, in a file of its own (x86_64.py, aarch64.py), that says:
 import copy
 import functools
 import re
-import struct
 import subprocess
 from collections import namedtuple
 
 from bits import LOST, PUBLIC, Pause, Undefined, Unproved
+from elf import CONTENT, FLAGS, LOADED, Elf
 from linear import Linear, implied, is_number, replaced, step_of, terms, tightened, unknown, wrapped
 
 Pointer = namedtuple("Pointer", "base offset")  # base: the name of a region, or of a register's value before the call
 Distance = namedtuple("Distance", "base other offset")  # the address of a buffer, less that of another, plus a constant
 Number = namedtuple("Number", "base offset")  # 32 bits: a number of unknown value, plus a constant; higher bytes aren't known
-# So many bytes of which only this is known: they are the number `right` if all the differences are 0, else another one; zeros above.
-Verdict = namedtuple("Verdict", "right differences size")
+# So many bytes of which only this is known: they are the number `right` if all the differences are 0, else another one, which is `wrong` if
+# that is known; zeros above.
+Verdict = namedtuple("Verdict", "right differences size wrong", defaults=[None])
 Scaled = namedtuple("Scaled", "number factor")  # the higher 64 bits of the product of a number that isn't known and a constant
 
 
@@ -50,7 +56,6 @@ class Shifted(namedtuple("Shifted", "number count")):
         return (self.number & WORD) >> self.count if is_int(self.number) else self
 
 
-NAMED_SIZES = {Pointer: 8, Distance: 8, Linear: 8, Scaled: 8, Shifted: 8, Number: 4}  # how many bytes of these are known by their names
 
 # Operands; others are ints, and texts or tuples of these that only instructions of one machine have.
 Register = namedtuple("Register", "name size at", defaults=[0])  # at: the first byte; x86's ah, bh, ch and dh begin at byte 1
@@ -272,20 +277,15 @@ class Program:
     def disassembled(self):
         # (Without -z it leaves out zeros, which a processor runs.)
         text = self.tool("objdump", "-d", "-z", "--no-show-raw-insn", *self.machine.objdump)
-        return {int(address, 16): line.strip() for address, line in re.findall(r"(?m)^ +([0-9a-f]+):\t(.*)$", text)}
+        return {int(address, 16): line.strip() for address, line in re.findall(r"(?m)^ *([0-9a-f]+):\t(.*)$", text)}
 
     def constant_sections(self):
         """(address, bytes) of each section of the ELF file that is loaded and neither written nor run, and of the linker's table of
         addresses, which nothing writes after the start."""
-        raw = open(self.path, "rb").read()
-        table, = struct.unpack_from("<Q", raw, 0x28)
-        size, count = struct.unpack_from("<HH", raw, 0x3a)
-        headers = [struct.unpack_from("<IIQQQQ", raw, table + k * size) for k in range(count)]
-        names = headers[struct.unpack_from("<H", raw, 0x3e)[0]][4]
-        if any(raw.startswith((b".init", b".fini", b".preinit", b".ctors", b".dtors"), names + header[0]) for header in headers):
+        sections = Elf(self.path).sections
+        if any(s.name.startswith((".init", ".fini", ".preinit", ".ctors", ".dtors")) for s in sections):
             raise Unproved("has code that runs before or after all calls")
-        return [(address, raw[start:start + length]) for name, kind, flags, address, start, length in headers
-                if kind == 1 and (flags & 7 == 2 or raw.startswith(b".got\0", names + name))]
+        return [(s.address, s.content) for s in sections if s.kind == CONTENT and (s.flags & FLAGS == LOADED or s.name == ".got")]
 
     def functions(self):
         """{name: addresses} of the instructions of each function of the text under proof, without what fills up space."""
@@ -325,19 +325,22 @@ class Program:
 
 class Machine:
     pushed, kept_vectors, shadow, stack_step, also_called = (), {}, 0, 1, ()
+    word, most, flag_names = 8, WORD, "czso"
+    start, strict, relaxed = 0x123456700000, False, False
 
     def __init__(self, domain, program, regions, entry, arguments):
         """regions: {name: Region}, among them "stack": what is below the return address. (`enter` adds what the caller has put there.)"""
         self.domain, self.program, self.regions = domain, program, regions
         self.general = {r: Pointer("the caller's " + r, 0) for r in self.registers}
         self.vectors = [[domain.undefined] * self.vector_size for _ in range(self.vector_count)]
-        self.flags = dict.fromkeys("czso")
+        self.flags = dict.fromkeys(self.flag_names)
         self.next_address, self.last, self.steps, self.used = entry, entry, 0, {}
         self.externals = {program.symbols[n]: n for n in (*LIBC, *self.also_called) if n in program.symbols}
         self.lost = set()  # opaque bytes that may depend on the key: they count as such where they are left
         self.origins = {}  # what a result depended on, by the (cell, block) that took its place (calls.step_by_step)
         self.native, self.after_external = None, None  # for native.py
         self.answers, self.may_reveal, self.assumed = {}, False, ()  # answers to questions, {flag: 0 or 1}; see calls.Call
+        self.any_of = {}  # bytes that are 0 only if all of these are
         # How many steps of a call were found, in which phase of it, and what the next one looks for (calls.step_by_step).
         self.done, self.phase, self.want = 0, 0, None
         self.equalities = {}  # bytes that are one constant if another byte is 0, else another: (that byte, the constants)
@@ -358,8 +361,8 @@ class Machine:
         self.general.update(zip(self.arguments, arguments))
         stack = self.regions["stack"].content
         at = len(stack)
-        stack += [b for v in self.pushed for b in self.to_bytes(v, 8)] + [self.domain.undefined] * self.shadow
-        stack += [b for v in arguments[len(self.arguments):] for b in self.to_bytes(v, 8)]
+        stack += [b for v in self.pushed for b in self.to_bytes(v, self.word)] + [self.domain.undefined] * self.shadow
+        stack += [b for v in arguments[len(self.arguments):] for b in self.to_bytes(v, self.word)]
         self.general[self.stack_pointer] = Pointer("stack", at)
         for n, size in self.kept_vectors.items():
             self.vectors[n][:size] = self.callers(n)
@@ -383,7 +386,9 @@ class Machine:
 
     def size_of(self, value):
         """How many bytes of a value are known by its name; None if it is bytes."""
-        return value.size if isinstance(value, Verdict) else NAMED_SIZES.get(type(value))
+        if isinstance(value, (Verdict, Number)):
+            return value.size if isinstance(value, Verdict) else 4
+        return self.word if isinstance(value, (Pointer, Distance, Linear, Scaled, Shifted)) else None
 
     def from_bytes(self, b):
         if max(b) < 256:
@@ -391,7 +396,7 @@ class Machine:
         if b[0] in self.domain.opaque_of:
             value = self.domain.opaque_of[b[0]][0]
             if isinstance(value, Placed) or self.any_length and is_pointer(value):
-                same = list(b) == [self.domain.opaque((value, k)) for k in range(8)]
+                same = list(b) == self.names(value)
                 return Pointer(value.base, value.offset) if same else tuple(b)
             named = self.size_of(value)
             above = {0, self.domain.undefined} if isinstance(value, Number) else {0}
@@ -419,17 +424,17 @@ class Machine:
         return out, carry
 
     def offset(self, a, b):
-        """The sum of two values of 8 bytes of which one at most is a Pointer or a Number and the others are constants."""
+        """The sum of two values of a word of which one at most is a Pointer or a Number and the others are constants."""
         if isinstance(b, (Pointer, Number)):
             a, b = b, a
         if not isinstance(a, (int, Linear, Pointer, Number)) or not is_number(b):
             raise Unproved("an address is the sum of two addresses")
         if is_number(a):
-            r = wrapped(a + b)
-            return r & WORD if is_int(r) else r
+            r = wrapped(a + b, self.most)
+            return r & self.most if is_int(r) else r
         if isinstance(a, Number):
             return Number(a.base, a.offset + b & 0xffffffff)
-        return Pointer(a.base, wrapped(a.offset + b))
+        return Pointer(a.base, wrapped(a.offset + b, self.most))
 
     # Sums and differences with their flags: (result, {flag: value}).
     def plus(self, x, y, carry, size):
@@ -440,15 +445,15 @@ class Machine:
             full = (x & mask) + (y & mask) + carry
             r = full & mask
             return r, {"c": int(full != r), "z": int(r == 0), "s": r >> top, "o": ((x ^ r) & ~(x ^ y)) >> top & 1}
-        if is_number(x, y) and size == 8:
+        if is_number(x, y) and size == self.word:
             x, y = self.ranged(x), self.ranged(y)
             r = self.offset(self.offset(x, carry), y)
-            return r, {"c": (WORD, x + y + carry, "below"), **self.zero_and_sign(r, 8)} if self.fits(x) and self.fits(y) else {}
+            return r, {"c": (self.most, x + y + carry, "below"), **self.zero_and_sign(r, size)} if self.fits(x) and self.fits(y) else {}
         if Number in (type(x), type(y)):
             return self.offset(self.offset(x, carry), y), {}
         if isinstance(x, Distance) and is_int(y):
             return x._replace(offset=x.offset + y), {}
-        if (is_pointer(x) or is_pointer(y)) and size == 8:
+        if (is_pointer(x) or is_pointer(y)) and size == self.word:
             old, r = x if is_pointer(x) else y, self.offset(self.offset(x, carry), y)
             counter = self.counter
             by = (y if is_pointer(x) else x) + carry  # so many more, where neither has wrapped around
@@ -477,13 +482,17 @@ class Machine:
 
     def is_placed(self, *addresses):
         """Whether these are addresses in an object, or so near to it that none is 0 or has wrapped around: no object lies in the first
-        4,096 bytes of memory, nor in its upper half. So they are ordered as their offsets are. (A counter isn't placed.)"""
+        4,096 bytes of memory, nor in its upper half, or else, where that has 2^32 bytes, only what is in the object counts, and its end.
+        So they are ordered as their offsets are. (A counter isn't placed.)"""
         for a in addresses:
             region = isinstance(a, Pointer) and self.regions.get(a.base)
             if isinstance(region, Window) and self.implied(a.offset) and self.implied(region.size - a.offset):
                 continue
             # (An empty buffer may be at 16, which the header passes in the place of NULL: nothing before it counts.)
-            if not region or not -4096 * bool(region.content) <= a.offset < 1 << 47:
+            if not region:
+                return False
+            low, high = (-4096 * bool(region.content), (1 << 47) - 1) if self.word == 8 else (0, len(region.content))
+            if not low <= a.offset <= high:
                 return False
         return True
 
@@ -491,7 +500,7 @@ class Machine:
         """x - y, or one less if `carry` is 0. The flag c says that there is no borrow."""
         if y == 0 and carry and self.is_placed(x):
             return x, {"z": 0, "c": 1}
-        if is_number(x, y) and not is_int(x, y) and size == 8:
+        if is_number(x, y) and not is_int(x, y) and size == self.word:
             x, y = self.ranged(x), self.ranged(y)
             flags = {"c": ("not", (x, y + 1 - carry, "below"))} if self.fits(x) and self.fits(y) else {}
             return self.offset(x, carry - 1 - y), {**flags, **({"z": (x, y, "equal")} if flags and carry else {})}
@@ -502,10 +511,10 @@ class Machine:
             return self.offset(x.offset, -y.offset), flags if self.is_placed(x, y) else {}
         if is_pointer(x, y) and carry and x.base == y.base:
             order = {"c": int(x.offset >= y.offset)} if self.is_placed(x, y) else {}
-            return x.offset - y.offset & WORD, {**order, "z": int(x.offset == y.offset)}
+            return x.offset - y.offset & self.most, {**order, "z": int(x.offset == y.offset)}
         if is_pointer(x, y) and carry and {x.base, y.base} <= set(self.regions):
             return Distance(x.base, y.base, x.offset - y.offset), {}
-        if is_pointer(x) and is_number(y) and size == 8:
+        if is_pointer(x) and is_number(y) and size == self.word:
             return self.offset(x, carry - 1 - y), {}
         if y == ROOM and self.room and x == self.room[1] and carry:
             return None, {"c": ("not", (ROOM, x, "above")), "z": (ROOM, x, "equal")}
@@ -517,12 +526,13 @@ class Machine:
         """The flags of x - y alone. If values depend on the key or on data, whether they are equal may be asked where a call may
         reveal it: whether all these bytes are zero."""
         if isinstance(x, Verdict):
-            return {"z": self.zero_flag(x.differences)} if y == x.right else {}
+            zero = self.zero_flag(x.differences)
+            return {"z": zero} if y == x.right else {"z": contrary(zero)} if is_int(y) and y == x.wrong else {}
         if isinstance(x, Shifted) and y == 0:
             return self.zero_and_sign(x, size)
         if tuple not in (type(x), type(y)):
             return self.minus(x, y, size)[1]
-        never = y == 0 and 1 in self.bits(x, size)
+        never = y == 0 and any(1 in self.domain.bits(b) for b in self.to_bytes(x, size) if b not in self.any_of)
         public = self.is_public(self.to_bytes(x, size) + self.to_bytes(y, size))
         carry = self.minus(x, y, size)[1].get("c") if public else SECRET
         return {"c": carry, "z": 0 if never else self.zero_flag(self.differences(x, y, size)), "s": SECRET, "o": SECRET}
@@ -533,6 +543,7 @@ class Machine:
 
     def zero_flag(self, b):
         """Whether all these bytes are zero."""
+        b = joined(self.any_of.get(x, [x]) for x in b)
         unknown = {x for x in b if x > 255}
         return int(not any(b)) if any(0 < x < 256 for x in b) or not unknown else ("zero", *sorted(unknown))
 
@@ -556,17 +567,17 @@ class Machine:
         return implied(self.facts, x)
 
     def fits(self, x):
-        """Whether a number is what the machine has, and not only up to multiples of 2^64."""
-        return self.implied(x) and self.implied(WORD - x)
+        """Whether a number is what the machine has, and not only up to multiples of 2^64 (or 2^32)."""
+        return self.implied(x) and self.implied(self.most - x)
 
     def ranged(self, x):
-        """A number as the machine has it, from 0 to 2^64 - 1: whether it has wrapped around is a question. (Not so in loops, of which the
+        """A number as the machine has it, from 0 on: whether it has wrapped around is a question. (Not so in loops, of which the
         passes have to be alike.)"""
         while not self.any_length and not self.fits(x):
             if self.compare_numbers(x, 0, "below"):
-                x += 1 << 64
-            elif self.compare_numbers(WORD, x, "below"):
-                x -= 1 << 64
+                x += self.most + 1
+            elif self.compare_numbers(self.most, x, "below"):
+                x -= self.most + 1
         return x
 
     def quotient(self, x, by):
@@ -596,7 +607,7 @@ class Machine:
         """`and` with a mask of bits that are known, or of all the others; else None."""
         x, y = (y, x) if is_int(x) else (x, y)
         if isinstance(x, Linear) and is_int(y):
-            low = -y & WORD  # if it is a power of two, all bits below it go
+            low = -y & self.most  # if it is a power of two, all bits below it go
             if y < step_of(x):
                 return x.constant & y
             if low and not low & low - 1 and step_of(x) % low == 0:
@@ -606,8 +617,9 @@ class Machine:
 
     def bits_of_number(self, x, mask):
         """Those of a mask, by quotients where a run of ones begins and ends."""
-        shifted = lambda k: x if k == 0 else self.quotient(x, 1 << k) if k < 64 else 0
-        ends = [k for k in range(65) if (mask >> k & 1) != (k and mask >> k - 1 & 1)]
+        bits = 8 * self.word
+        shifted = lambda k: x if k == 0 else self.quotient(x, 1 << k) if k < bits else 0
+        ends = [k for k in range(bits + 1) if (mask >> k & 1) != (k and mask >> k - 1 & 1)]
         return sum(shifted(a) * (1 << a) - shifted(b) * (1 << b) for a, b in zip(ends[::2], ends[1::2]))
 
     def compare_numbers(self, x, y, what):
@@ -643,7 +655,7 @@ class Machine:
         self.each_byte(lambda b: self.renumbered(b, new))
         self.facts = frozenset(f for f in map(new, self.facts) if not is_int(f) or f < 0)
         self.flags, self.first_block = {f: new(x) for f, x in self.flags.items()}, new(self.first_block)
-        self.general = {r: new(v) & WORD if isinstance(v, Linear) and is_int(new(v)) else new(v) for r, v in self.general.items()}
+        self.general = {r: new(v) & self.most if isinstance(v, Linear) and is_int(new(v)) else new(v) for r, v in self.general.items()}
         for region in self.regions.values():
             if isinstance(region, Window):
                 region.size, region.origin = new(region.size), new(region.origin)
@@ -656,9 +668,9 @@ class Machine:
         value, k = d.opaque_of[b] if isinstance(d.opaque_of.get(b), tuple) else (None, 0)
         by = new(value) if isinstance(value, (Linear, Pointer, Distance, Placed, Scaled, Shifted)) else value
         if by != value:
-            return self.to_bytes(by, 8)[k] if is_int(by) else d.opaque((by, k))
+            return self.to_bytes(by, self.word)[k] if is_int(by) else d.opaque((by, k))
         others = {c: (new(d.unknowns[c][0]), d.unknowns[c]) for c in d.unknown_cells(b)} if d.unknowns else {}
-        others = {c: self.to_bytes(by, 8)[k] for c, (by, (number, k)) in others.items() if by != number}
+        others = {c: self.to_bytes(by, self.word)[k] for c, (by, (number, k)) in others.items() if by != number}
         return d.put_in(b, others) if others else b
 
     def known(self, x):
@@ -674,7 +686,7 @@ class Machine:
     def settle(self):
         """At the head of a loop. (Bytes of counters stay so only in whole words.)"""
         def settled(b):
-            words = ((x, self.from_bytes(x)) for x in lanes(b, 8))
+            words = ((x, self.from_bytes(x)) for x in lanes(b, self.word))
             return joined(self.names(v) if is_pointer(v) else map(self.without_name, x) for x, v in words)
         for region in self.regions.values():
             if isinstance(region, Window):
@@ -702,7 +714,7 @@ class Machine:
         return self.domain.pack(self.domain.bits_of[byte]) if placed and self.domain.bits_of[byte] else byte
 
     def names(self, value):
-        return [self.domain.opaque((value, k)) for k in range(8)]
+        return [self.domain.opaque((value, k)) for k in range(self.word)]
 
     def copy_all(self, to, source, count):
         """A copy of a whole buffer that is as it was to another one."""
@@ -741,6 +753,25 @@ class Machine:
             if type(v) is tuple:
                 self.general[r] = self.from_bytes(all_of(v))
 
+    def judged(self, differences, equal):
+        """Puts numbers in the place of Verdicts of these bytes, when it is known whether all are 0."""
+        number = lambda v: v.right if equal else v.wrong
+        is_this = lambda v: isinstance(v, Verdict) and v.differences == differences and v.wrong is not None
+
+        def byte(b):
+            value, k = name if isinstance(name := self.domain.opaque_of.get(b), tuple) else (None, 0)
+            return self.to_bytes(number(value), self.word)[k] if is_this(value) else b
+        self.each_byte(byte)
+        self.general = {r: number(v) if is_this(v) else v for r, v in self.general.items()}
+
+    def some_of(self, x, y):
+        """A byte that is 0 only if both are."""
+        both = sorted({*self.any_of.get(x, [x]), *self.any_of.get(y, [y])})
+        b = self.domain.opaque("0 if these are: %s" % both)
+        self.any_of[b] = both
+        self.lost.add(b)
+        return b
+
     # A comparison of secrets byte by byte: nothing but whether all are equal may be asked, where a call may reveal it.
     def equality(self, difference, equal, unequal):
         """A byte that is `equal` if the difference is 0, else `unequal`."""
@@ -755,8 +786,8 @@ class Machine:
         self.lost.add(b)
         return b
 
-    def verdict(self, right, differences, size):
-        value = Verdict(right, tuple(differences), size)
+    def verdict(self, right, differences, size, wrong=None):
+        value = Verdict(right, tuple(differences), size, wrong)
         self.lost.update(self.to_bytes(value, size))
         return value
 
@@ -800,7 +831,7 @@ class Machine:
             return {"a": x & y, "o": x | y, "x": x ^ y}[name[0]] & (1 << 8 * size) - 1
         if name == "or" and y == 0 or name == "and" and x == y and isinstance(x, (Pointer, Linear)):
             return x
-        masked = self.masked(x, y) if name == "and" and size == 8 else None
+        masked = self.masked(x, y) if name == "and" and size == self.word else None
         if masked is not None:
             return masked
         if name == "or" and x == 0:
@@ -808,7 +839,7 @@ class Machine:
         if isinstance(x, Verdict) or isinstance(y, Verdict):
             return self.with_verdict(name, *((x, y) if isinstance(x, Verdict) else (y, x)), size)
         if is_pointer(x) and is_int(y) and x.base in self.regions:
-            align, low = self.regions[x.base].align, -y & WORD
+            align, low = self.regions[x.base].align, -y & self.most
             if name == "or" and y < align and not x.offset & y:
                 return self.offset(x, y)
             if name == "and" and low and not low & low - 1 and align % low == 0:
@@ -828,15 +859,18 @@ class Machine:
         """A value shifted to the left ("lsl"), or to the right with zeros ("lsr") or copies of the highest bit ("asr")."""
         if is_int(v) and how == "lsl":
             return v << count & (1 << 8 * size) - 1
-        if isinstance(v, Linear) and size == 8 and how == "lsl":
+        if isinstance(v, Linear) and size == self.word and how == "lsl":
             return self.offset(v * (1 << count), 0)
         divides = isinstance(v, Linear) and (not self.any_length or step_of(v) >> count)
-        if divides and size == 8 and how == "lsr" and self.fits(self.ranged(v)):
+        if divides and size == self.word and how == "lsr" and self.fits(self.ranged(v)):
             return self.quotient(self.ranged(v), 1 << count)
         if isinstance(v, Linear) and size == 8 and how == "lsr" and self.fits(v):
             return Shifted(v, count)
         if isinstance(v, Scaled) and how == "lsr":
             return self.quotient_by_product(v, count)
+        if count % 8 == 0 and how != "asr":  # so bytes of which only the name is known may be moved
+            b, empty = self.to_bytes(v, size), [0] * (count // 8)
+            return self.from_bytes((empty + b)[:size] if how == "lsl" else (b + empty)[-size:])
         b = self.bits(v, size)
         if how == "lsl":
             return self.unbits(([0] * count + b)[:8 * size])
@@ -880,14 +914,14 @@ class Machine:
     def get(self, o):
         if isinstance(o, Register):
             v = self.general[o.name]
-            return v if o.size == 8 else self.from_bytes(self.to_bytes(v, 8)[o.at:o.at + o.size])
+            return v if o.size == self.word else self.from_bytes(self.to_bytes(v, self.word)[o.at:o.at + o.size])
         return o if isinstance(o, int) else self.from_bytes(self.load(self.address(o), o.size, o.align))
 
     def put(self, o, v):
         """A write of 4 bytes clears the rest of the register, one of 1 or 2 leaves it."""
         if isinstance(o, Memory):
             self.store(self.address(o), self.to_bytes(v, o.size), o.align)
-        elif o.size == 8:
+        elif o.size == self.word:
             self.general[o.name] = v
         else:
             old = [0] * 8 if o.size == 4 else self.to_bytes(self.general[o.name], 8)
@@ -990,7 +1024,7 @@ class Machine:
     # Flags.
     def set_flags(self, **flags):
         """Flags that aren't named become undefined."""
-        self.flags = dict.fromkeys("czso")
+        self.flags = dict.fromkeys(self.flag_names)
         self.flags.update(flags)
 
     def decide(self, flag):
@@ -1063,7 +1097,7 @@ class Machine:
             raise
         except Unproved as e:
             raise Unproved("%s [at %x: %s]" % (e, self.last, self.program.lines.get(self.last))) from None
-        self.entered[self.stack_pointer] = self.offset(self.entered[self.stack_pointer], 8 * len(self.pushed))
+        self.entered[self.stack_pointer] = self.offset(self.entered[self.stack_pointer], self.word * len(self.pushed))
         for r in self.kept:
             if self.general[r] != self.entered[r]:
                 raise Unproved("%s isn't restored" % r)
@@ -1102,12 +1136,12 @@ class Machine:
         if name in self.also_called:
             self.set_flags()
             return self.leave()
-        if (self.general[self.stack_pointer].offset + 8 * len(self.pushed)) % 16:
+        if (self.general[self.stack_pointer].offset + self.word * len(self.pushed)) % 16:
             raise Unproved("the stack isn't aligned at a call")
         stack = self.general[self.stack_pointer].offset
         self.stale.update(range(stack - self.red_zone, stack))
         if self.shadow and stack != self.top:  # (else it is called in the place of this call, whose caller has left room)
-            self.store(Pointer("stack", stack + 8 * len(self.pushed)), [self.domain.undefined] * self.shadow)
+            self.store(Pointer("stack", stack + self.word * len(self.pushed)), [self.domain.undefined] * self.shadow)
         to, source, count = (self.general[r] for r in self.arguments[:3])
         if isinstance(count, Linear) and name != "memset":
             self.copy_all(to, source, count)
@@ -1117,9 +1151,9 @@ class Machine:
         if name == "memcpy" and is_pointer(source) and to.base == source.base and abs(to.offset - source.offset) < count:
             raise Unproved("memcpy of overlapping bytes")
         if count:
-            self.store(to, self.to_bytes(source, 8)[:1] * count if name == "memset" else self.load(source, count))
+            self.store(to, self.to_bytes(source, 1) * count if name == "memset" else self.load(source, count))
         for r in self.scratch:
-            self.general[r] = (self.domain.undefined,) * 8
+            self.general[r] = (self.domain.undefined,) * self.word
         self.general[self.result] = to
         for n, v in enumerate(self.vectors):
             kept = v[:self.kept_vectors.get(n, 0)]
@@ -1129,7 +1163,7 @@ class Machine:
 
     def returned(self, size):
         """The lowest bytes of what the call returns."""
-        return self.from_bytes(self.to_bytes(self.general[self.result], 8)[:size])
+        return self.from_bytes(self.to_bytes(self.general[self.result], size))
 
     def replace_bytes(self, convert, domain, cells=()):
         """Goes on with other bytes, of another domain: where `convert` replaces bytes by arbitrary ones, what is proved of these holds
@@ -1145,7 +1179,7 @@ class Machine:
         self.vectors = [all_of(v) for v in self.vectors]
         for r, v in self.general.items():
             if type(v) is tuple or isinstance(v, Verdict) and domain is not self.domain:
-                self.general[r] = tuple(all_of(self.to_bytes(v, 8)))
+                self.general[r] = tuple(all_of(self.to_bytes(v, self.word)))
         self.wrote = {name: set(all_of(b)) for name, b in self.wrote.items()}
         if domain is not self.domain:  # what was asked of bytes of the other domain
             self.equalities = {}

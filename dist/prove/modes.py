@@ -4,10 +4,10 @@ Both make a chain: each block is added to a value, and Cipher of the sum is the 
 arbitrary bytes, as in CBC encryption. Value k comes before block k, and a byte of block k is a byte of block k of the domain."""
 import itertools
 
-from aes import DONE, NO_KEY, NONCE_LENGTH, REFUSED, TAG_LENGTH, TOO_LONG, Keyed, between, lengths_but, nothing
+from aes import DONE, NO_KEY, NONCE_LENGTH, REFUSED, TAG_LENGTH, TOO_LONG, Keyed, between, nothing
 from bits import DATA, KEY, PUBLIC
 from calls import Buffer, Call
-from linear import WORD, unknown
+from linear import unknown
 from single_rounds import SingleRounds
 from standards import ZEROS, doubled, number, padded
 
@@ -47,12 +47,14 @@ class KeyedAes(SingleRounds, Keyed):
         rest = self.block_bytes[:length - 16 * before]
         first = doubled(self.domain, self.cipher_of(ZEROS))  # subkeys (6.1)
         subkey = first if len(rest) == 16 else doubled(self.domain, first)
-        last = self.of((rest + [0x80] + ZEROS)[:16], before)
+        last = self.aes.xor(self.of((rest + [0x80] + ZEROS)[:16], before), subkey)
+        added = ZEROS if self.found_in == "vector" else self.value(before)  # what has been added to it before it is found
 
         def steps():
             yield from self.chain_steps([self.block_bytes] * before)
-            yield "block", self.aes.xor(last, subkey), self.last_sum
-        return self.many(self.block_bytes, length), steps, self.next_value(self.last_sum, before)
+            yield "block", self.aes.xor(last, added), self.last_sum
+        tag = self.next_value(self.last_sum, before) if added == ZEROS else self.cipher_of(self.last_sum)
+        return self.many(self.block_bytes, length), steps, tag
 
     def cmac(self, length):
         """CMAC (SP 800-38B, 6.2; RFC 4493): writes the tag of a message .. DONE"""
@@ -127,22 +129,23 @@ class KeyedAes(SingleRounds, Keyed):
     def cmac_refused(self):
         """NO_KEY; TAG_LENGTH if it has fewer or more"""
         n, k, tag = unknown("n"), unknown("k"), nothing("tag", False)
-        sizes = between(n, 0, WORD) | between(k, 0, WORD)
+        sizes = between(n, 0, self.most) | between(k, 0, self.most)
         message = [nothing("message", False), n]
         yield Call("aes_cmac", [self.no_key(), *message, nothing("tag")], NO_KEY, facts=sizes)
         yield Call("aes_cmac_verify", [self.no_key(), *message, tag, k], NO_KEY, facts=sizes)
-        for length, facts in lengths_but(CMAC_TAGS, "length"):
+        for length, facts in self.lengths_but(CMAC_TAGS, "length"):
             yield Call("aes_cmac_verify", [self.schedule(), *message, tag, length], TAG_LENGTH, facts=sizes | facts)
 
     def ccm_refused(self):
         """NO_KEY, TAG_LENGTH, NONCE_LENGTH or TOO_LONG, the first of them that applies"""
         n, a, t, k = (unknown(name) for name in ("nonce", "additional", "text", "tag"))
-        sizes = {f for x in (n, a, t, k) for f in between(x, 0, WORD)}
+        sizes = {f for x in (n, a, t, k) for f in between(x, 0, self.most)}
         right = sizes | between(k, 0, len(CCM_TAGS) - 1), CCM_TAGS[0] + 2 * k  # every tag's length
         refusals = [(self.no_key(), n, k, NO_KEY, sizes)]
-        refusals += [(self.schedule(), n, length, TAG_LENGTH, sizes | facts) for length, facts in lengths_but(CCM_TAGS, "length")]
-        refusals += [(self.schedule(), length, right[1], NONCE_LENGTH, right[0] | facts) for length, facts in lengths_but(NONCES, "length")]
-        refusals += [(self.schedule(), length, right[1], TOO_LONG, right[0] | between(t, 1 << 8 * (15 - length), WORD)) for length in NONCES[1:]]
+        refusals += [(self.schedule(), n, length, TAG_LENGTH, sizes | facts) for length, facts in self.lengths_but(CCM_TAGS, "length")]
+        refusals += [(self.schedule(), length, right[1], NONCE_LENGTH, right[0] | facts) for length, facts in self.lengths_but(NONCES, "length")]
+        refusals += [(self.schedule(), length, right[1], TOO_LONG, right[0] | between(t, 1 << 8 * (15 - length), self.most))
+                     for length in NONCES[1:] if self.most >> 8 * (15 - length)]
         for (aes, nonce, tag, status, facts), call in itertools.product(refusals, ("seal", "open")):
             yield Call("aes_ccm_" + call, [aes, nothing("nonce", False), nonce, nothing("additional", False), a, nothing("text"), t,
                                            nothing("tag", call == "seal"), tag], status, facts=facts)

@@ -15,7 +15,7 @@ class Native:
         """A call has values of its own, drawn by a seed, and a processor of its own; instructions by themselves share these."""
         self.m = machine
         machine.ask = self.ask  # instead of raising a Question
-        self.values = values or Values(machine.domain, random.Random(seed), counter)
+        self.values = values or Values(machine.domain, random.Random(seed), counter, machine.most)
         self.processor = processor or PROCESSORS[type(machine)](machine.program.path)
         self.seen = [None] * len(machine.vectors)  # the vector registers as they were when they were last compared
         self.place_regions()
@@ -61,7 +61,10 @@ class Native:
             answer = self.values.bit(flag[1])
         else:
             distance, y, what = flag
-            answer = self.values.word(distance) < y if what == "below" else self.values.word(distance) == y
+            if what == "before":
+                answer = self.values.base[distance.base] + distance.offset < self.values.base[distance.other]
+            else:
+                answer = self.values.word(distance) < y if what == "below" else self.values.word(distance) == y
         return self.m.answers.setdefault(flag, int(answer))
 
     def watch(self, m):
@@ -112,7 +115,7 @@ class Alone:
         symbols = [self.domain.byte_of_cell(cell, 0, t) for t in tables]
         self.constants = [b"".join(self.number(size) for _ in range(0, 8, size)) for size in (1, 8) for _ in range(256)]
         self.symbolic = [self.random.choices(symbols, k=8) for _ in range(512)]
-        self.values = Values(self.domain, self.random)
+        self.values = Values(self.domain, self.random, most=program.machine.most)
         self.processor = PROCESSORS[program.machine](program.path)
 
     def number(self, size):
@@ -145,10 +148,12 @@ class Alone:
         regions = {name: Region(self.bytes(SIZE), align=32) for name in ("buffer", "stack")}
         m = self.program.machine(self.domain, self.program, regions, address, [])
         m.vectors = [self.bytes(m.vector_size) for _ in m.vectors]
-        m.general.update({r: m.from_bytes(self.bytes(8)) for r in m.registers})
+        m.general.update({r: m.from_bytes(self.bytes(8)[:m.word]) for r in m.registers})
         m.general[m.stack_pointer], m.top = Pointer("stack", MIDDLE), SIZE
         if "x30" in m.general:
             m.general["x30"] = RETURN_ADDRESS
+        elif "zero" in m.general:
+            m.general["zero"] = 0
         elif not instruction.operands:
             m.store(m.general[m.stack_pointer], m.to_bytes(RETURN_ADDRESS, 8))
         m.flags = {f: self.random.getrandbits(1) for f in m.flags}

@@ -1,5 +1,5 @@
 """The processors that a machine is compared with, in a process that stops after each instruction: the x86-64 processor that this runs on
-(by ptrace), and the 64-bit ARM processor that qemu-aarch64 emulates (by gdb's remote protocol)."""
+(by ptrace), and those that qemu emulates (by gdb's remote protocol)."""
 import ctypes
 import os
 import shutil
@@ -12,6 +12,7 @@ import time
 
 from aarch64 import Aarch64
 from bits import Unproved
+from riscv import Riscv32, Riscv64
 from x86_64 import X86_64, Windows
 
 
@@ -107,22 +108,23 @@ class Processor(Beside):
 
 class Emulator(Beside):
     # The protocol's registers: these, and from this number on the vectors.
+    qemu, processor = "qemu-aarch64", "cortex-a57"
     names, first_vector = Aarch64.registers + ["next", "flags"], 34
     layout, flags = "<33QI", {"s": 31, "z": 30, "c": 29, "o": 28}
     most = 1024  # bytes of memory in a packet
 
-    @staticmethod
-    def missing():
-        return [] if shutil.which("qemu-aarch64") else ["qemu-aarch64 (Debian's qemu-user)"]
+    @classmethod
+    def missing(cls):
+        return [] if shutil.which(cls.qemu) else [cls.qemu + " (Debian's qemu-user)"]
 
     def __init__(self, path):
         self.folder = tempfile.TemporaryDirectory()
         name = os.path.join(self.folder.name, "gdb")
-        self.process = subprocess.Popen(["qemu-aarch64", "-cpu", "cortex-a57", "-g", name, path])
+        self.process = subprocess.Popen([self.qemu, "-cpu", self.processor, "-g", name, path])
         self.socket = socket.socket(socket.AF_UNIX)
         while self.socket.connect_ex(name):
             if self.process.poll() is not None:
-                raise Unproved("qemu-aarch64 doesn't start")
+                raise Unproved(self.qemu + " doesn't start")
             time.sleep(0.01)
         self.ask("qXfer:features:read:target.xml:0,fff")  # else it knows no single registers
 
@@ -182,5 +184,13 @@ class Emulator(Beside):
         self.folder.cleanup()
 
 
-PROCESSORS = {X86_64: Processor, Windows: Processor, Aarch64: Emulator}
-MEANINGS = {X86_64: X86_64, Windows: X86_64, Aarch64: Aarch64}  # whose instructions a machine has
+class EmulatedRiscv64(Emulator):
+    qemu, processor, names, layout, flags = "qemu-riscv64", "rv64", Riscv64.registers + ["next"], "<33Q", {}
+
+
+class EmulatedRiscv32(Emulator):
+    qemu, processor, names, layout, flags = "qemu-riscv32", "rv32", Riscv32.registers + ["next"], "<33I", {}
+
+
+PROCESSORS = {X86_64: Processor, Windows: Processor, Aarch64: Emulator, Riscv32: EmulatedRiscv32, Riscv64: EmulatedRiscv64}
+MEANINGS = {machine: X86_64 if machine is Windows else machine for machine in PROCESSORS}  # whose instructions a machine has

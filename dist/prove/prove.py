@@ -1,5 +1,5 @@
-"""Proves the calls of both libraries on the machine code that gcc makes of dist/x86_64, dist/windows_x86_64 and dist/aarch64, one process
-for each build and key size. Run it as `make prove` in dist; the README says what it shows."""
+"""Proves the calls of the libraries on the machine code that gcc makes of the assembly in dist (linking.BUILDS), one process for each build
+and key size. Run it as `make prove` in dist; the README says what it shows."""
 import argparse
 import collections
 import concurrent.futures
@@ -23,6 +23,7 @@ from linking import BUILDS, HERE, MACHINES, Built, built_cases, choice_cases, li
 from machine import Program, lanes
 from native import compare_all
 from processors import MEANINGS, PROCESSORS
+from riscv import Riscv
 from standards import pinned
 from vectors import checked
 from x86_64 import X86_64
@@ -150,16 +151,39 @@ def siv_cases(choose):
         yield call, choose([(a, n, "_to") for a, n in lengths], [(13, 33, "_to")], [(0, 0, "_to"), (13, 225, "_to")])
 
 
+def riscv_cases(choose, word):
+    """Of the library of blocks for RISC-V, with words of so many bytes: not what the README says isn't proved."""
+    for way, counts in (("", choose((0, 1, 2, 3, 8, 17), (2,), (0, 1, 3, 17))), ("_to", choose((1, 2), (1,), (2,))), ("_with", choose((1,), (1,)))):
+        yield "blocks", [(direction, n, way) for direction in ("encrypt", "decrypt") for n in counts]
+    yield "add_keystream", choose([(0, 33)], [(0, 33)], [(0, 0), (0, 1), (7, 40), (5, 40, 2), (21, 11, 1), (21, 40, 1), (16, 64, 3), (2 ** 32 - 20, 40)])
+    if word == 4:
+        yield "add_keystream", choose((), (), [(5, 40, 2, "", full) for full in (1, 2)])  # words above the lowest one that carry too
+        yield "unwrap_padded", choose((1, 9), (1,), (9,))
+    yield "add_keystream", choose((), (), [(3, 33, aes.NEVER, "_to"), (21, 11, 1, "_with")])
+    yield "cbc_encrypt", choose((0, 2), (2,), (0,))
+    yield "cbc_decrypt", choose((0, 1, 9), (3,), (0, 1, 9))
+    yield "wrap", choose((2, 3), (2,))
+    yield "unwrap", choose((3, 4), (3,))
+    yield "wrap_padded", choose((1, 9), (1,), (9,))
+    yield "cmac", choose((0, 17), (17,), (0,))
+    yield "cmac_verify", choose([(17, 16), (0, 4)], [(0, 4)], [(17, 16)])
+    yield "ccm_seal", choose([(7, 0, 1, 4)], [(7, 0, 1, 4)], [(13, 8, 33, 8)] * (word == 4))
+    yield "a_round", choose(*2 * [[(name, way) for name in ("cipher_round", "equiv_inv_cipher_round") for way in ("", "_par")]], ())
+    yield "columns", [("mix_columns",), ("inv_mix_columns",)]
+
+
 LIBRARIES = {"aes": (modes.KeyedAes, aes_cases), "gcm": (gcm.KeyedGcm, gcm_cases), "siv": (siv.KeyedSiv, siv_cases)}
 
 
 def statements(keyed, options, part, parts):
     """(what, Call) of this part of all; set_key was proved before."""
-    few = keyed.program.most is not None and not options.all
+    few = keyed.program.more is not None and not options.all
     names = () if options.all or keyed.key_size == 16 else OF_FEW if few else OF_24 if keyed.key_size == 24 else ()
-    most = 0 if keyed.key_size > 16 else keyed.program.most
-    choose = lambda all_, few, more=(): all_ if options.all else [*few, *more[:most]]
-    cases, number = LIBRARIES[keyed.library][1], itertools.count()
+    more_of_few = 0 if keyed.key_size > 16 else keyed.program.more
+    choose = lambda all_, few, more=(): all_ if options.all else [*few, *more[:more_of_few]]
+    cases, number, machine = LIBRARIES[keyed.library][1], itertools.count(), keyed.program.machine
+    if issubclass(machine, Riscv):
+        cases = lambda choose: riscv_cases(choose, machine.word)
     for name, arguments in [*common_cases(keyed.library, version(options.dist, keyed.library)), *cases(choose)]:
         if names and name not in names or few and keyed.library != "aes" and name.startswith("any_"):
             continue
@@ -184,9 +208,21 @@ def header_cases(dist, machine=X86_64):
         for struct, (size, fields) in structs.items():
             lines.append("_Static_assert(sizeof(struct %s) == %d, \"\");" % (struct, size))
             lines += ["_Static_assert(offsetof(struct %s, %s) == %d, \"\");" % (struct, f, at) for f, at in fields.items()]
-        result = subprocess.run([machine.tools + "gcc", "-fsyntax-only", "-I", dist + "/include", "-x", "c", "-"],
+        result = subprocess.run([*machine.compiler, "-fsyntax-only", "-I", dist + "/include", "-x", "c", "-"],
                                 input="\n".join(lines), capture_output=True, text=True)
         yield "%s.h: %d facts of sizes, places and statuses" % (name, len(lines) - 2), result.stderr.strip()
+
+
+def riscv_header_cases(dist, builds):
+    """The same of the library of blocks for RISC-V."""
+    for build in (build for build in builds if issubclass(BUILDS[build], Riscv)):
+        machine, word = BUILDS[build], BUILDS[build].word
+        facts = ["sizeof(struct fotsgure_aes) == %d" % (121 * word), "offsetof(struct fotsgure_aes, round_keys) == %d" % word,
+                 "sizeof(struct fotsgure_aes_ctr) == 24", "offsetof(struct fotsgure_aes_ctr, position) == 16", "sizeof(size_t) == %d" % word]
+        lines = ["#include <stddef.h>", "#include <fotsgure_aes.h>", *("_Static_assert(%s, \"\");" % fact for fact in facts)]
+        result = subprocess.run([*machine.compiler, "-ffreestanding", "-fsyntax-only", "-I", dist + "/include", "-x", "c", "-"],
+                                input="\n".join(lines), capture_output=True, text=True)
+        yield "fotsgure_aes.h for %s: %d facts of sizes and places" % (build, len(facts)), result.stderr.strip()
 
 
 def version(dist, library):
@@ -197,6 +233,7 @@ def version(dist, library):
 
 # Calls that also run on the processor, by default and with all lengths.
 BESIDE = "blocks encrypt 17", "add_keystream 21 11 1", "seal 13 33"
+ON_RISCV = "blocks encrypt 1", "add_keystream 21 11 1"
 ALL_BESIDE = *BESIDE, "set_key", "add_keystream 0 130", "unwrap 3", "seal 1 1", "open 0 0", "open 1 1"
 
 
@@ -241,7 +278,7 @@ class Task:
             self.used.update(m.used)
             left = ", ".join("%d %s in %s" % (len(v), kind, place) for (place, kind), v in sorted(m.left.items()))
             text = "%d instructions, %d bytes of stack; left: %s" % (m.steps, m.top - m.lowest, left or "nothing")
-            beside = ALL_BESIDE if self.options.all else BESIDE if "siv" not in self.build else ()
+            beside = ON_RISCV if self.machine.relaxed else ALL_BESIDE if self.options.all else BESIDE if "siv" not in self.build else ()
             if self.key_size == self.options.keys[0] and what in beside and not PROCESSORS[self.machine].missing():
                 self.compared |= set(prove(SEED).used)
             self.proved += 1
@@ -310,6 +347,8 @@ def say_what_ran(tasks, options):
             for name, one in found.items():
                 print("%s.s, %s: %d instructions didn't run, %d conditional ones went one way" % (text, name, *map(len, one)))
         without = set(program.exports) - {"fotsgure_" + call for call in calls}
+        if task.machine.relaxed:  # of which few lengths are tried
+            continue
         if not options.only and options.keys == KEY_SIZES and {b for b in BUILDS if text_of(b) == text} <= {task.build for task in tasks}:
             if not takes_few(task.build):
                 faults += ["%s.s, %s" % (text, fault) for fault in uncovered.faults(text, found)]
@@ -321,7 +360,8 @@ def say_what_ran(tasks, options):
 
 def missing(machine):
     """What of the tools for this machine isn't here."""
-    return [machine.tools + name for name in ("gcc", "ld", "objdump", "nm") if not shutil.which(machine.tools + name)]
+    names = machine.compiler[0], machine.linker[0], machine.tools + "objdump", machine.tools + "nm"
+    return [name for name in names if not shutil.which(name)]
 
 
 def say_what_is_missing():
@@ -395,7 +435,8 @@ def main():
     vectors = pinned(Domain())
     say_what_is_missing()
     all_built = libraries_of(options)
-    proved, failed = said(itertools.chain(header_cases(options.dist), *map(built_cases, all_built), *(
+    headers = itertools.chain(header_cases(options.dist), riscv_header_cases(options.dist, options.builds))
+    proved, failed = said(itertools.chain(headers, *map(built_cases, all_built), *(
         choice_cases(built, options.dist, options.out) for built in all_built), rust_cases(options.dist, options.out, options.objects)))
     with pool_of(options.jobs, max_tasks_per_child=1) as pool:
         for task in run_all(pool, options):

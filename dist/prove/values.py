@@ -5,9 +5,10 @@ from machine import WORD, Distance, Number, Pointer, Verdict
 
 
 class Values:
-    def __init__(self, domain, random, counter=None):
-        """`counter`: for counter mode, of which the initial counter block consists of words (see aes.CounterWord)."""
-        self.domain, self.random, self.counter = domain, random, counter
+    def __init__(self, domain, random, counter=None, most=WORD):
+        """`counter`: for counter mode, of which the initial counter block consists of words (see aes.CounterWord). `most`: the highest
+        number in a word of the machine."""
+        self.domain, self.random, self.counter, self.most = domain, random, counter, most
         self.cells, self.bytes, self.base = {}, {}, {}  # base: of regions, and of what has a name alone, by that name
 
     def cell(self, cell, block):
@@ -70,19 +71,19 @@ class Values:
         if isinstance(v, Pointer):
             if v.base not in self.base:
                 self.base[v.base] = self.first_value(v.base)
-            return self.base[v.base] + v.offset & WORD
+            return self.base[v.base] + v.offset & self.most
         if isinstance(v, Distance):
-            return self.base[v.base] - self.base[v.other] + v.offset & WORD
+            return self.base[v.base] - self.base[v.other] + v.offset & self.most
         b = [None] if isinstance(v, (Number, Verdict)) else list(map(self.byte, v))
         return None if None in b else int.from_bytes(bytes(b), "little")
 
     def first_value(self, base):
         """A word of unknown value, by its name."""
         if self.counter and base == self.counter.word and self.counter.wrap < 1 << 63:
-            return WORD + 1 - self.counter.wrap
+            return self.most + 1 - self.counter.wrap
         if base == "nonce low":
             return self.number([x for k in range(8) for x in self.domain.words[base](0, k)])
-        return self.random.getrandbits(46)
+        return self.random.getrandbits(46) & self.most >> 2 & ~1  # (an address is even)
 
     def set_byte(self, b, value):
         """Gives the cell of which a byte is a function the value with which the byte has this one."""

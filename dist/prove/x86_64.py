@@ -18,7 +18,7 @@ ALIGNED, UNALIGNED = ("movdqa", "movaps", "vmovdqa", "vmovaps"), ("movdqu", "mov
 
 class X86_64(Machine):
     """With the System V ABI, in which the stack is aligned to 16 bytes before the return address is pushed."""
-    tools, objdump = "", ("-M", "intel")
+    tools, compiler, linker, objdump = "", ("gcc",), ("ld",), ("-M", "intel")
     later = "ptest|pshufb|palignr|pblendw|pinsr[bd]|pextrq", "v.*|andn|bzhi|mulx|movbe|shrx"
     registers, stack_pointer = R64, "rsp"
     vector_count, vector_size = 16, 32
@@ -53,6 +53,7 @@ class X86_64(Machine):
 class Windows(X86_64):
     """With the convention of Windows. Its linker's files are turned into ELF files (linking.py)."""
     tools = "x86_64-w64-mingw32-"
+    compiler, linker = (tools + "gcc",), (tools + "ld",)
     arguments, shadow = "rcx rdx r8 r9".split(), 32
     kept, kept_vectors = "rbx rsp rbp rsi rdi r12 r13 r14 r15".split(), dict.fromkeys(range(6, 16), 16)
     scratch = "rcx rdx r8 r9 r10 r11".split()
