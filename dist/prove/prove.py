@@ -33,9 +33,9 @@ SEED = 1
 
 # Which statements, and of which lengths: all; or those that reach each path and its ends, of which keys of 24 and 32 bytes take a few.
 # README has the table. Each of these gives the names of statements, and their arguments. Keys of 24 bytes take only these names by default:
-OF_24 = ("blocks", "add_keystream", "cbc_encrypt", "cbc_decrypt", "any_cbc_encrypt", "wrap", "unwrap", "cmac", "ccm_seal", "ccm_open",
-         "any_seal", "seal", "open", "wipe", "wipe_message", "set_key_of", "set_key_of_none", "set_key_refused", "key_length", "key_length_of_none",
-         "version")
+OF_24 = ("blocks", "any_blocks", "add_keystream", "cbc_encrypt", "cbc_decrypt", "any_cbc_encrypt", "wrap", "unwrap", "cmac", "ccm_seal",
+         "ccm_open", "any_seal", "seal", "open", "wipe", "wipe_message", "set_key_of", "set_key_of_none", "set_key_refused", "key_length",
+         "key_length_of_none", "version")
 LONG = [(0, 16 * n) for n in range(1, 65)] + [(n, 0) for n in range(1, 100, 9)]
 
 
