@@ -71,7 +71,7 @@ def aes_cases(choose):
     yield "any_cbc_decrypt", choose(range(64), (), (9,))
     # And at every position, with a carry anywhere: by the place in a block, and by the remainder.
     every = [(0, rest) for rest in range(9, 128, 18)] + [(skip, 17 * skip % 128) for skip in range(1, 16, 2)] + [(3, 45, "_to")]
-    yield "any_keystream", choose([(0, 0), (0, 33), (5, 122), *every], [(0, 0)], [(5, 122)])
+    yield "any_keystream", choose([(0, 0), (0, 33), (5, 122), *every], [(0, 0)])
     yield "cbc_decrypt", choose(range(65), (9,), (0, 1, 3, 4, 8, 17))
     yield "cbc_encrypt", choose(range(65), (2,), (0, 1))
     yield "wrap", choose(range(2, 13), (2,), (8,))
