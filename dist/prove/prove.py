@@ -34,9 +34,9 @@ SEED = 1
 
 # Which statements, and of which lengths: all; or those that reach each path and its ends, of which keys of 24 and 32 bytes take a few.
 # README has the table. Each of these gives the names of statements, and their arguments. Keys of 24 bytes take only these names by default:
-OF_24 = ("blocks", "add_keystream", "cbc_encrypt", "cbc_decrypt", "any_cbc_encrypt", "wrap", "unwrap", "cmac", "ccm_seal", "ccm_open",
-         "any_seal", "seal", "open", "wipe", "wipe_message", "set_key_of", "set_key_of_none", "set_key_refused", "key_length", "key_length_of_none",
-         "version")
+OF_24 = ("blocks", "any_blocks", "add_keystream", "cbc_encrypt", "cbc_decrypt", "any_cbc_encrypt", "wrap", "unwrap", "cmac", "ccm_seal",
+         "ccm_open", "any_seal", "seal", "open", "wipe", "wipe_message", "set_key_of", "set_key_of_none", "set_key_refused", "key_length",
+         "key_length_of_none", "version")
 # And keys of 32 bytes these, of a build that takes few lengths; none of 24.
 OF_FEW = "blocks", "add_keystream", "cbc_decrypt", "unwrap", "seal", "open", "wipe"
 LONG = [(0, 16 * n) for n in range(1, 65)] + [(n, 0) for n in range(1, 100, 9)]
@@ -74,7 +74,7 @@ def aes_cases(choose):
     yield "any_cbc_decrypt", choose(range(64), (), (9,))
     # And at every position, with a carry anywhere: by the place in a block, and by the remainder.
     every = [(0, rest) for rest in range(9, 128, 18)] + [(skip, 17 * skip % 128) for skip in range(1, 16, 2)] + [(3, 45, "_to")]
-    yield "any_keystream", choose([(0, 0), (0, 33), (5, 122), *every], [(0, 0)], [(5, 122)])
+    yield "any_keystream", choose([(0, 0), (0, 33), (5, 122), *every], [(0, 0)])
     yield "cbc_decrypt", choose(range(65), (9,), (0, 1, 3, 4, 8, 17))
     yield "cbc_encrypt", choose(range(65), (2,), (0, 1))
     yield "wrap", choose(range(2, 13), (2,), (8,))
