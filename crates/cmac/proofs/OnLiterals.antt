@@ -18,6 +18,11 @@ unfoldable pub cmac_rules : ⊤
 unfolding before_last block_at chained chained_through cmac
 cmac_rules = tt
 
+-- the definitions that the rules of the last block state
+unfoldable pub padding_rules : ⊤
+unfolding padded last_block
+padding_rules = tt
+
 -- the last block by the cipher of the block of zeros, l
 unfoldable pub last_by : List ℕ → List ℕ → List ℕ
 last_by l rest = if length rest == 16 then add_round_key (doubled_block l) rest
