@@ -73,7 +73,7 @@ def run(words, what, **how):
 
 
 def assembled(name, dist=TOP / "dist", room=ROOM):
-    """The archive of one text of a folder dist/ for x86-64, by the C compiler's assembler: as `make` builds it there, but without
+    """The archive of one assembly file of a folder dist/ for x86-64, by the C compiler's assembler: as `make` builds it there, but without
     the choice between two builds."""
     room.mkdir(parents=True, exist_ok=True)
     made = room / f"libfotsgure_{name}.a"

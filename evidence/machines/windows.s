@@ -1,4 +1,4 @@
-# Functions of libc as Windows calls them, for texts for Windows that run as ELF. They leave nothing in memory, nor in vector registers.
+# Functions of libc as Windows calls them, for assembly for Windows that runs as ELF. They leave nothing in memory, nor in vector registers.
 	.text
 	.globl	of_windows_memcpy, of_windows_memmove, of_windows_memset, ___chkstk_ms
 of_windows_memcpy:

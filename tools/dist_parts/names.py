@@ -1,9 +1,9 @@
-"""Names that belong to one text alone, so that one object can hold several texts, as that of a Rust crate does.
+"""Names that belong to one assembly file alone, so that one object can hold several, as that of a Rust crate does.
 
 Each name begins with a prefix, which is the library and its build, as `aes_v3`:
  - the label .LBB0_1 becomes .Laes_v3_BB0_1;
  - a function becomes aes_v3.aes_permute.lane_keys.expand_lanes, without quotes, which LLVM's assembler for RISC-V refuses after `call`.
-   The compiler tells functions that differ in their types apart by a hash: here they are numbered, in the order of the text;
+   The compiler tells functions that differ in their types apart by a hash: here they are numbered, in the order of the file;
  - the export fotsgure_aes_wipe gets the label aes_v3.fotsgure_aes_wipe, and the macro export_aes_v3 gives it the name that others call.
 """
 import re
@@ -16,7 +16,7 @@ COMMENT = re.compile(r"(?:^|\s)(?:#|//|@) .*")
 # What a function is made for: values, which belong to its name, and types or a hash of them, which don't.
 ARGUMENTS, VALUE = re.compile(r"::<([^<>]*)>"), re.compile(r"(?:^|,)=(\w+)")
 SAID = "A Rust crate defines in_rust; for x86-64, a static library of both builds defines chosen, and choose_*.c calls these names."
-# What Windows' texts say of an export's name.
+# What assembly for Windows says of an export's name.
 DEFINITION = re.compile(r"^\t\.def\tfotsgure_\w+;\n(?:\t.*\n)*?\t\.endef\n", re.M)
 
 
@@ -27,7 +27,7 @@ def plain(name):
 
 
 def of_functions(text):
-    """What the functions of a text are called instead: {name: another one, without a prefix}."""
+    """What the functions of an assembly file are called instead: {name: another one, without a prefix}."""
     found = re.findall(r'^"([^"\n]+)":', text, re.M)
     names = [plain(it) for it in found]
     numbered = [f"{it}.{names[:at].count(it) + 1}" if names.count(it) > 1 else it for at, it in enumerate(names)]
@@ -38,8 +38,8 @@ def of_functions(text):
 
 
 def macro(folder, prefix, suffix):
-    """The macro by which a text exports, under a name with a suffix. In a Rust crate, which defines `in_rust`, the label itself is exported:
-    a library in C beside it has other names. On x86-64, `chosen` is for static libraries of both builds: without it no name has a suffix."""
+    """The macro by which an assembly file exports, under a name with a suffix. In a Rust crate, which defines `in_rust`, the label itself is
+    exported: a library in C beside it has other names. On x86-64, `chosen` is for static libraries of both builds: without it no name has a suffix."""
     label, name, is_windows = f"{prefix}.\\name", f"\\name\\(){suffix}" if suffix else "\\name", folder == "windows_x86_64"
 
     def shown(name, *more):
@@ -57,7 +57,7 @@ def macro(folder, prefix, suffix):
 
 
 def own(prefix, text):
-    """A text with names of its own."""
+    """Assembly with names of its own."""
     functions = of_functions(text)
 
     def of_function(found):
@@ -72,7 +72,7 @@ def own(prefix, text):
 
 
 def as_compiled(prefix, text, compiled):
-    """A text with the names of another one, which is as the compiler wrote it."""
+    """Assembly with the names of another file, which is as the compiler wrote it."""
     names = {new: old for old, new in of_functions(compiled).items()}
 
     def of_compiler(found):

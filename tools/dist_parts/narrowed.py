@@ -111,7 +111,7 @@ def without_atomics(text):
 
 
 def for_32(text, calls):
-    """The text of a module for pointers of 32 bits, whose exports are the calls of a header."""
+    """A module for pointers of 32 bits, whose exports are the calls of a header."""
     refuse(text, REFUSED)
     text = with_sizes(with_fronts(text, calls))
     text = re.sub(r"\bptrtoaddr (ptr %[\w.]+ to i64)$", r"ptrtoint \1", text, flags=re.M)

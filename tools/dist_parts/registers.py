@@ -1,7 +1,7 @@
 """Exports that leave nothing in the registers that a call may change, but their result.
 
 A compiler can be told so ("zero-call-used-regs"), but what it then empties is what the function itself uses, not what the functions use that
-it calls, or else the numbers of x87 too; and for RISC-V it does nothing. So the text of a library is changed, before each return of an
+it calls, or else the numbers of x87 too; and for RISC-V it does nothing. So the assembly of a library is changed, before each return of an
 export: it zeros each vector register that the ABI doesn't keep for the caller, and the general registers, but for the result and for those
 that belong to the system. Functions that exports jump to do the same, since they return to the caller.
 """
@@ -64,7 +64,7 @@ def functions(lines):
 
 
 def emptied(folder, is_wide, text, has_vectors=True):
-    """The text of a library whose exports empty registers, those of vectors if it was compiled for them."""
+    """The assembly of a library whose exports empty registers, those of vectors if it was compiled for them."""
     lines, exports = text.split("\n"), set(re.findall(r"^(fotsgure_\w+):", text, re.M))
     ending, more = exports, True
     while more:
@@ -102,7 +102,7 @@ def size(line):
 
 
 def within_reach(text):
-    """The text for Cortex-M0, whose compiler knew nothing of what was added: a conditional branch that doesn't reach any more leaps over a
+    """The assembly for Cortex-M0, whose compiler knew nothing of what was added: a conditional branch that doesn't reach any more leaps over a
     plain one."""
     lines, far, more = text.split("\n"), set(), True
     while more:
@@ -123,5 +123,5 @@ def within_reach(text):
 
 
 def as_compiled(folder, is_wide, text):
-    """The text as it was."""
+    """The assembly as it was."""
     return text.replace("\n".join(emptying(folder, is_wide)) + "\n", "")

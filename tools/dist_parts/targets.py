@@ -1,4 +1,4 @@
-"""Texts for targets that the prover's compiler doesn't know, made of the module that it gives to clang for x86-64.
+"""Assembly for targets that the prover's compiler doesn't know, made of the module that it gives to clang for x86-64.
 
 That module has the layout of every 64-bit little-endian machine and no types of C, and asks for nothing but memcpy, memmove and memset. The
 kit's clang compiles it for another target after these changes, and no others:
@@ -53,7 +53,7 @@ EMPTIES = 'call void asm sideeffect "xorl %edi, %edi; xorl %esi, %esi", "~{rdi},
 
 @dataclasses.dataclass(frozen=True)
 class Target:
-    """The folder of its texts, what clang calls it, its options, what stands behind a library's name in the name of a text, how many bits
+    """The folder of its assembly, what clang calls it, its options, what stands behind a library's name in the name of a file, how many bits
     a pointer has, the definition of the byte shuffle, the suffix of its exports where they are chosen from, and whether its code is to be small."""
 
     folder: str
@@ -142,7 +142,7 @@ def for_windows(text):
 
 
 def changed_for(target, text, calls):
-    """The text of a module as it is compiled for a target; `calls` are those that the header declares."""
+    """A module as it is compiled for a target; `calls` are those that the header declares."""
     if target.suffix:
         return for_windows(text)
     text = with_shuffle(re.sub(r' "(?:target-cpu|target-features|tune-cpu)"="[^"]*"', "", text), target.shuffle)
@@ -154,13 +154,13 @@ def changed_for(target, text, calls):
 
 
 # What GNU's assembler doesn't know: the versions of RISC-V's extensions, and the second version of Windows' tables. (variant_cc is for
-# calls by way of the loader, and no export has it.) And what a text doesn't say of itself: for which processor of ARM it is, and how its
-# callers pass floating-point numbers. The assembler is told the one, and no call has the other.
+# calls by way of the loader, and no export has it.) And what an assembly file doesn't say of itself: for which processor of ARM it
+# is, and how its callers pass floating-point numbers. The assembler is told the one, and no call has the other.
 LEFT_OUT = re.compile(r"^\t\.(?:attribute|variant_cc|seh_startepilogue|seh_endepilogue|eabi_attribute|cpu|fpu|arch)\b.*\n", re.M)
 
 
 def made(clang, module, target, calls):
-    """The text for a target, of a module in the file of that name; `clang` runs the kit's."""
+    """The assembly for a target, of a module in the file of that name; `clang` runs the kit's."""
     own = ("-Wno-override-module", "-x", "ir", "-S")
     changed, to = (pathlib.Path(f"{module}.{target.folder}{target.ending}{it}") for it in (".ll", ".s"))
     clang("--target=x86_64-unknown-linux-gnu", *own, "-emit-llvm", "-Xclang", "-disable-llvm-passes", module, "-o", changed)

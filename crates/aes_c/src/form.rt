@@ -1,6 +1,6 @@
 //! The form in which this build keeps a key: stored round keys for vector permutations.
 //!
-//! No other module of this crate names a form. A build in another form has another text of this
+//! No other module of this crate names a form. A build in another form has another version of this
 //! module, of `width` and of `specs/Form.antt`, with the same names:
 //!
 //! - `KeptKey` is a key that is kept to encrypt. It has a field `length`, how many bytes the key
@@ -8,7 +8,7 @@
 //! - `Aes` is the struct that a caller keeps, for both directions, with a field `key: KeptKey`.
 //! - Both are `repr(C)`, `Drop`, `NotClone` and `Zeroize`, and have a method `set(key: &[u8])`. It
 //!   takes a key of 16, 24 or 32 bytes, reads nothing of the struct and leaves nothing of it.
-//! - `is_key_size(bytes)` says whether keys have so many bytes.
+//! - `is_key_size(bytes)` says whether keys have this many bytes.
 //! - `lent(&aes.key)` and `lent_back(aes)` lend the key of a struct that holds one as a cipher that
 //!   encrypts, which is a `LentKey`, and as one that decrypts.
 //! - `RoundWord` is the word on which single rounds are computed.
@@ -47,7 +47,7 @@ pub(crate) fn lent(kept: &KeptKey) -> LentKey<'_>
     kept.lent()
 }
 
-/// Lends it to decrypt.
+/// Lends the key of a struct that holds one, to decrypt.
 #[inline(always)]
 pub(crate) fn lent_back(aes: &Aes) -> Lent<'_, Decrypt, BuildWidth>
     requires made { IsMade aes.now }

@@ -21,7 +21,7 @@ pub extern "C" fn fotsgure_aes_set_key(aes: &mut Aes, key: &[u8]) -> u32
     ensures after { result ≡ DONE → IsZeroAfter aes.new }
     ensures none { result ≢ DONE → aes.new ≡ no_key }
 {
-    // Nothing is read of a struct that may be uninitialized. No compiler takes zeros away here: the
+    // Nothing is read of a struct that may be uninitialized. No compiler removes zeros here: the
     // caller owns the struct, and can read what the call leaves in it.
     if !is_key_size(key.len()) {
         *aes = Aes::zero();

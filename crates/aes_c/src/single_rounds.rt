@@ -14,7 +14,7 @@ use aes_cipher::cipher::Block;
 use aes_cipher::zeroize::wipe_stack;
 use aes_soft::soft::hazmat;
 
-// How many bytes of stack a round takes at most.
+// The most bytes of stack of a round.
 const ROUND_STACK: usize = 512;
 
 #[inline(never)]

@@ -18,13 +18,13 @@ pub const KEYSTREAM_END: u32 = 4;
 /// Keys of this length are not wrapped, or the output is of another length.
 pub const INVALID_COUNT: u32 = 5;
 
-/// The key was not wrapped under this one, or was changed, or the tag is another.
+/// The key was not wrapped under this one, or was changed, or the tag is wrong.
 pub const REFUSED: u32 = 6;
 
-/// No tag has so many bytes.
+/// No tag has this many bytes.
 pub const TAG_LENGTH: u32 = 7;
 
-/// No nonce has so many bytes.
+/// No nonce has this many bytes.
 pub const NONCE_LENGTH: u32 = 8;
 
 /// More text than a nonce of this length allows.

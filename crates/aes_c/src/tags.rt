@@ -11,7 +11,7 @@ use aes_cipher::cipher::Block;
 use aes_cipher::zeroize::wipe_stack;
 use cmac::{is_tag_start, tag};
 
-// How many bytes of stack a call takes at most that makes a tag. Subkeys are left there, and the
+// The most bytes of stack of a call that makes a tag. Subkeys are left there, and the
 // right tag of a message that is refused.
 const TAG_STACK: usize = 512;
 
@@ -40,7 +40,7 @@ pub extern "C" fn fotsgure_aes_cmac(aes: &Aes, message: &[u8], output: &mut Bloc
 
 /// Compares a tag, or the first bytes of one, with that of a message, without an early exit (SP
 /// 800-38B, 6.3). Returns `NO_KEY` exactly if the struct holds no key, else `TAG_LENGTH` if the tag
-/// has fewer than 4 bytes or more than 16, else `REFUSED` if it is another, and `DONE` in all other
+/// has fewer than 4 bytes or more than 16, else `REFUSED` if it is wrong, and `DONE` in all other
 /// cases.
 #[unsafe(no_mangle)]
 pub extern "C" fn fotsgure_aes_cmac_verify(aes: &Aes, message: &[u8], claimed: &[u8]) -> u32

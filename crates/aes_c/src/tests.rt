@@ -1,4 +1,4 @@
-//! Each export once, on rows of the standards.
+//! Each export once, on examples of the standards.
 
 ghost use Rattle.aes_c.specs.Form.{HoldsKey};
 

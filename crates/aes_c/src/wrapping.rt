@@ -12,7 +12,7 @@ use crate::status::{DONE, INVALID_COUNT, NO_KEY, REFUSED};
 use aes_cipher::zeroize::wipe_stack;
 use key_wrap::{InvalidCount, NotUnwrapped, Semiblock, unwrap, unwrap_padded, wrap, wrap_padded};
 
-// How many bytes of stack a call takes at most that wraps or unwraps. Parts of the key are left
+// The most bytes of stack of a call that wraps or unwraps. Parts of the key are left
 // there.
 const WRAPPING_STACK: usize = 512;
 
@@ -41,7 +41,7 @@ pub extern "C" fn fotsgure_aes_wrap(aes: &Aes, key: &[Semiblock], output: &mut [
 }
 
 /// Unwraps a key from one buffer to another (KW-AD, SP 800-38F, 6.2). Returns `NO_KEY` exactly if
-/// the struct holds no key, else `INVALID_COUNT` if no key becomes so many semiblocks, or the
+/// the struct holds no key, else `INVALID_COUNT` if no key becomes this many semiblocks, or the
 /// output isn't one shorter, else `REFUSED` if the key was not wrapped under this one, and `DONE`
 /// in all other cases. After `REFUSED` the output is zeros.
 #[unsafe(no_mangle)]
@@ -101,7 +101,7 @@ pub extern "C" fn fotsgure_aes_wrap_padded(aes: &Aes, key: &[u8], output: &mut [
 
 /// Unwraps a key that was wrapped with padding, from one buffer to another (KWP-AD, SP 800-38F,
 /// 6.3), and sets how many bytes it has: the first ones of the output, which zeros follow. Returns
-/// `NO_KEY` exactly if the struct holds no key, else `INVALID_COUNT` if no key becomes so many
+/// `NO_KEY` exactly if the struct holds no key, else `INVALID_COUNT` if no key becomes this many
 /// semiblocks, or the output isn't one shorter, else `REFUSED` if the key was not wrapped with
 /// padding under this one, and `DONE` in all other cases. After `REFUSED` the output is zeros, and
 /// in all cases but `DONE` the length is 0.

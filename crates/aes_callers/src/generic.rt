@@ -24,8 +24,8 @@ pub fn there_and_back_by<C: BlockCipherEncrypt + BlockCipherDecrypt>(
     there
 }
 
-/// The same with a value made from a key. The result in between
-/// is the standard's cipher under that key.
+/// Encrypts a block with a value made from a key, and decrypts it again. The result in between is
+/// the standard's cipher under that key.
 pub fn there_and_back<C: KeyInit + BlockCipherEncrypt + BlockCipherDecrypt + Drop>(
     key: &C::Key,
     block: &mut Block,
@@ -36,7 +36,7 @@ pub fn there_and_back<C: KeyInit + BlockCipherEncrypt + BlockCipherDecrypt + Dro
     there_and_back_by(&C::new(key), block)
 }
 
-/// The same with a key given as a slice.
+/// Encrypts a block under a key given as a slice, and decrypts it again: the block comes back.
 ///
 /// # Errors
 ///

@@ -26,7 +26,7 @@ bytes_from_last : (m n : ℕ) → m ≡ n
     ≡ to_be_bytes w128 n
 bytes_from_last m n is = simp (is, div-div-eq-div-mul)
 
--- and so where the number is made of its halves
+-- the digits of the halves of a number, the last of them first, are the number's bytes
 pub bytes_of_halves : (n : ℕ)
     → pick_l 0 (digits_l 256 16 (n % 2 ^ 64 + 2 ^ 64 * (n / 2 ^ 64 + 2 ^ 64 * 0)))
     (15 ∷ 14 ∷ 13 ∷ 12 ∷ 11 ∷ 10 ∷ 9 ∷ 8 ∷ 7 ∷ 6 ∷ 5 ∷ 4 ∷ 3 ∷ 2 ∷ 1 ∷ 0 ∷ []) ≡ to_be_bytes w128 n
@@ -70,7 +70,7 @@ shortened s (suc k) i small at =
     ∙ sym (div-div-eq-div-mul (number_up_to s 15) (256 ^ k) 256)
     ∙ ap (λ v. v / 256) (shortened s k (suc i) small (omega arith)) ∙ omega (arith, small (suc i))
 
--- and its last byte is the byte there
+-- the last byte of the number of a block's first bytes is the byte there
 ends : (s : List ℕ) (i : ℕ) → IsBytes s → number_up_to s i % 256 ≡ get_or s i 0
 unfolding number_up_to
 ends s zero small = omega (arith, small 0)

@@ -11,23 +11,24 @@ use Rattle.std.specs.List.{concat}
 use Rattle.std.specs.Simd.{first_chunks}
 use Rattle.aes_cipher.specs.Blocks.{Sixteens}
 
--- the first and the second of two lists that are joined
+-- the first part of two lists that are joined
 pub first_part : {X : Type 0} (n : ℕ) (xs ys : List X) → length xs ≡ n → take n (xs ++ ys) ≡ xs
 first_part n xs ys l = ap (λ k. take k (xs ++ ys)) (sym l) ∙ take-append_seam xs ys
 
--- what is left of two joined lists after the length of the first is the second
+-- the second part of two lists that are joined
 pub second_part : {X : Type 0} (n : ℕ) (xs ys : List X) → length xs ≡ n → drop n (xs ++ ys) ≡ ys
 second_part n xs ys l = ap (λ k. drop k (xs ++ ys)) (sym l) ∙ drop-append_seam xs ys
 
--- of two lists that are joined, the first eight elements are the first list, if it has eight
+-- the first eight elements of two joined lists are the first list, if it has eight
 pub first_half : (xs ys : List ℕ) → length xs ≡ 8 → take 8 (xs ++ ys) ≡ xs
 first_half xs ys l = first_part 8 xs ys l
 
--- and those after the first eight are the second
+-- what is left of two joined lists after the first eight elements is the second, if the first has
+-- eight
 pub second_half : (xs ys : List ℕ) → length xs ≡ 8 → drop 8 (xs ++ ys) ≡ ys
 second_half xs ys l = second_part 8 xs ys l
 
--- both halves of sixteen bytes
+-- the rules that split sixteen bytes into halves
 pub ruleset halves = (first_half, second_half)
 
 -- m chunks are m blocks
@@ -35,7 +36,7 @@ pub length-chunks : (m : ℕ) (xs : List ℕ) → length (first_chunks 16 m xs) 
 length-chunks zero xs = refl
 length-chunks (suc m) xs = ap suc (length-chunks m (drop 16 xs))
 
--- the first blocks, and those after them
+-- the first a + b blocks of bytes are the first a and the next b
 pub chunks_split : (a b m : ℕ) (xs : List ℕ) → m ≡ a + b
     → first_chunks 16 m xs ≡ first_chunks 16 a xs ++ first_chunks 16 b (drop (16 * a) xs)
 chunks_split zero b m xs e = ap (λ k. first_chunks 16 k xs) (omega (arith, e))
@@ -90,7 +91,7 @@ length-joined (b ∷ bs) h =
     let rest = length-joined bs (λ i lt. h (suc i) (omega arith)) in
     length-append b (concat bs) ∙ omega (arith, l, rest)
 
--- where their bytes are counted
+-- joined blocks hold those blocks, as many as their bytes say
 pub parted : (bs : List (List ℕ)) → Sixteens bs
     → first_chunks 16 (length (concat bs) / 16) (concat bs) ≡ bs
 parted bs h = ap (λ m. first_chunks 16 m (concat bs)) (omega (arith, length-joined bs h))
@@ -118,7 +119,7 @@ byte_of_joined bs i h lt =
 -- what relates bytes and blocks: joining and cutting undo each other, and where each byte stands
 pub ruleset byte_laws = (chunks_joined, parted, length-chunks, byte_in_chunk, byte_of_joined)
 
--- what a loop leaves in the end that has come to block i: the
+-- what a loop that has come to block i leaves in the end: the
 -- blocks before it, and f of each from it on
 abbrev pub processed_from : (List ℕ → List ℕ) → ℕ → ℕ → List ℕ → List (List ℕ)
 processed_from f m i xs = first_chunks 16 i xs ++ map f (first_chunks 16 (m - i) (drop (16 * i) xs))

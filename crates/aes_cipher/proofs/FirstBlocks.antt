@@ -8,19 +8,19 @@ use Rattle.std.proofs.lemmas.List.{get_or-drop, get_or-map, get_or-take, get_or_
 use Rattle.std.proofs.lemmas.List.{get_or-append_right, length-map, length-take, take-map}
 use borrow.Rule.Slice.PartMut.{put_mid}
 
--- where each element of a list is made f of what it was, so are the first
+-- the first elements of a list are made f of what they were, if each element is
 pub first_of_all : {X : Type 0} (f : X → X) (n : ℕ) (xs ys : List X) → ys ≡ map f xs
     → take n ys ≡ map f (take n xs)
 first_of_all f n xs ys e = ap (take n) e ∙ take-map f n xs
 
--- and where only the first is
+-- the first element of a list is made f of what it was, if that one alone is
 pub first_alone : {X : Type 0} (f : X → X) (n : ℕ) (xs : List X) (d : X) → n ≡ 1 → 0 < length xs
     → take n (set xs 0 (f (get_or xs 0 d))) ≡ map f (take n xs)
 first_alone f n [] d e some = absurd (omega (arith, some))
 first_alone f n (x ∷ xs) d e some = ap (λ m. take m (f x ∷ xs)) e
     ∙ sym (ap (λ m. map f (take m (x ∷ xs))) e)
 
--- one of the first
+-- one of the first elements of a list is made f of what it was, if the first ones are
 pub first_at : {X : Type 0} (f : X → X) (n i : ℕ) (xs ys : List X) (d : X)
     → take n ys ≡ map f (take n xs) → i < n
     → n ≤ length xs → get_or ys i d ≡ f (get_or xs i d)
@@ -29,13 +29,14 @@ first_at f n i xs ys d firsts lt fits =
     ∙ get_or-map f (take n xs) i d d (omega (arith, lt, fits, length-take n xs))
     ∙ ap f (get_or-take n xs i d lt)
 
--- where each element of a list is made f of what it was, so is any of them
+-- any element of a list is made f of what it was, if each is
 pub any_of_all : {X : Type 0} (f : X → X) (i : ℕ) (xs ys : List X) (d : X) → ys ≡ map f xs
     → i < length xs
     → (get_or ys i d ≡ f (get_or xs i d)) ⊎ (get_or ys i d ≡ get_or xs i d)
 any_of_all f i xs ys d e lt = inl (ap (λ l. get_or l i d) e ∙ get_or-map f xs i d d lt)
 
--- where one element is made f of what it was, the others are unchanged
+-- any element of a list is made f of what it was, or is unchanged, if one element is made f of what
+-- it was
 pub any_of_one : {X : Type 0} (f : X → X) (i k : ℕ) (xs : List X) (d : X) → i < length xs
     → (get_or (set xs k (f (get_or xs k d))) i d ≡ f (get_or xs i d))
     ⊎ (get_or (set xs k (f (get_or xs k d))) i d ≡ get_or xs i d)
@@ -45,7 +46,8 @@ any_of_one f i k xs d lt = elim (cases_eq i k) [
   | inr other ↦ inr (get_or-set_other xs k i (f (get_or xs k d)) d other)
 ]
 
--- where the first n are, the others are unchanged
+-- any element of a list is made f of what it was, or is unchanged, if the first n are made f of
+-- what they were
 pub any_of_part : {X : Type 0} (f : X → X) (i n : ℕ) (xs zs : List X) (d : X)
     → zs ≡ map f (take n xs) → n ≤ length xs
     → i < length xs

@@ -8,7 +8,7 @@ use Rattle.std.proofs.lemmas.List.{take_all, drop_all, append-nil}
 use Rattle.std.proofs.lemmas.Slice.{take-put_mid, drop-put_mid}
 use borrow.Rule.Slice.PartMut.{put_mid, same_len_mid}
 
--- what a loop leaves in the end that has come to place i: the
+-- what a loop that has come to place i leaves in the end: the
 -- elements before it, and f of each from it on
 abbrev pub finished : {X : Type 0} → (X → X) → ℕ → List X → List X
 finished f i xs = take i xs ++ map f (drop i xs)

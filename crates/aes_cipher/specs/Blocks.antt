@@ -10,7 +10,7 @@ blocks_of bytes = first_chunks 16 (length bytes / 16) bytes
 abbrev pub Sixteens : List (List ℕ) → Type 0
 Sixteens blocks = (i : ℕ) → i < length blocks → length (slice_index_or blocks i []) ≡ 16
 
--- in each place, f of the block that was there, or that block
+-- each place of a list has f of the block that was there, or that block
 abbrev pub EachOrUnchanged : (List ℕ → List ℕ) → List (List ℕ) → List (List ℕ) → Type 0
 EachOrUnchanged f before after = (i : ℕ) → i < length before
     → (slice_index_or after i [] ≡ f (slice_index_or before i []))

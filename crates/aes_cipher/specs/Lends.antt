@@ -9,6 +9,6 @@ module _ (V : RattleType) (zeroize : Ghosts V.Denot) (value : MutBor V.Denot) wh
   abbrev pub lends_value : MutBor V.Denot → Fml
   lends_value r = Lends (wiped.the_row V zeroize) V value r (λ written. written)
 
-  -- the same of a value that is dropped as zeros alone
+  -- once the borrow r ends, the value that is dropped as zeros alone is what was written through r
   abbrev pub lends_must_wipe : MutBor V.Denot → Fml
   lends_must_wipe r = Lends (must_wipe.the_row V zeroize) V value r (λ written. written)

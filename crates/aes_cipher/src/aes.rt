@@ -29,7 +29,8 @@ pub struct AesCipher<S: StoredKeys, D> {
     directions: PhantomData<D>,
 }
 
-// Written out, so that it is proved here once, and not in each crate that drops a value.
+// The drop is written out, so that it is proved here once, and not in each crate that drops a
+// value.
 impl<S: StoredKeys, D> Drop for AesCipher<S, D> {
     #[inline(always)]
     fn drop(self) {

@@ -16,7 +16,7 @@ unfoldable pub ctr_rules : ⊤
 unfolding keystream_byte
 ctr_rules = tt
 
--- the same for one keystream block, by the table of the S-box
+-- what one keystream block on literals unfolds, by the table of the S-box
 unfoldable pub ctr_by_table : ⊤
 unfolding aes_by_table counter counter_block
 ctr_by_table = tt

@@ -1,4 +1,4 @@
--- Which block of a row a byte falls in, and sums of data and a row of blocks.
+-- Which block of a batch a byte falls in, and sums of data and a batch of blocks.
 use Rattle.std.proofs.Common.{◌≡◌, ℕ, ◌+◌, ◌*◌, ◌/◌, ◌%◌, ◌<◌, ◌≤◌, List, [], ◌++◌, length}
 use Rattle.std.proofs.Common.{slice_index, slice_index_or, ◌⊎◌, inl, inr, ◌-◌, map, take, drop, set}
 use Rattle.std.proofs.Common.{ap, refl, ◌∙◌, sym, arith}
@@ -50,8 +50,8 @@ plus_blocks w block blocks p data_bytes filled within =
     plus-agree (stream_byte w block) (byte_of_blocks blocks) p (p % 16) data_bytes
     (λ i h. sym (byte_of_keystream w block blocks (length blocks) p i filled (omega arith)))
 
--- the same where the blocks are the cipher of counter blocks from
--- one on, and place p begins the first of them
+-- whole blocks of data plus the keystream are the data plus the cipher of counter blocks from
+-- `first` on
 pub plus_batch : (w : List (List ℕ)) (block : ℕ → List ℕ) (blocks counted : List (List ℕ))
     (first n : ℕ) (data_bytes : List ℕ)
     → blocks ≡ map (cipher_with w) counted → length counted ≡ n
@@ -92,7 +92,8 @@ ciphered w block first n k m xs counted inside kept long at fits lt =
     ∙ get_or-map f counted k [] [] (omega (arith, long, fits, lt))
     ∙ ap f (at k (omega (arith, fits, lt)))
 
--- and the others as they were
+-- a loop over the first n counter blocks leaves the cipher of each of them, and the others as they
+-- were
 pub ciphered_or_left : (w : List (List ℕ)) (block : ℕ → List ℕ) (first n k m : ℕ)
     (xs counted : List (List ℕ)) → n ≤ length xs
     → finished (cipher_with w) n xs ≡ map (cipher_with w) counted → drop n xs ≡ drop n counted
@@ -111,7 +112,7 @@ ciphered_or_left w block first n k m xs counted inside kept left long at fits lt
           inr (sym (read xs) ∙ ap (λ l. slice_index_or l (k - n) []) left ∙ read counted ∙ at k lt)
     ]
 
--- where the first counter blocks of a batch are ciphered, they are blocks of the keystream
+-- the first counter blocks of a batch, ciphered, are blocks of the keystream
 pub ciphered_first : (w : List (List ℕ)) (block : ℕ → List ℕ) (first n k : ℕ)
     (xs ys : List (List ℕ))
     → take n ys ≡ map (cipher_with w) (take n xs) → n ≤ length xs
@@ -120,7 +121,8 @@ pub ciphered_first : (w : List (List ℕ)) (block : ℕ → List ℕ) (first n k
 ciphered_first w block first n k xs ys firsts fits at lt =
     first_at (cipher_with w) n k xs ys [] firsts lt fits ∙ ap (cipher_with w) (at k lt)
 
--- where each counter block of a batch is ciphered or left, so is any of them
+-- any block of a batch is a block of the keystream or its counter block, if each is ciphered or
+-- left
 pub ciphered_or_counted : (w : List (List ℕ)) (block : ℕ → List ℕ) (first k m : ℕ)
     (xs ys : List (List ℕ))
     → EachOrUnchanged (cipher_with w) xs ys → m ≤ length xs

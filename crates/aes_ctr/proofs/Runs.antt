@@ -43,7 +43,7 @@ added_run s t p q i n k xs ys same fits is agree =
     ∙ append_assoc (take i xs) ys _
     ∙ ap (λ l. take i xs ++ l) rest
 
--- the same of the first n bytes
+-- the sum of the stream and the first n bytes, written in their places
 pub first_run : (s t : ℕ → ℕ) (p q n : ℕ) (xs ys : List ℕ) → n ≤ length xs
     → ys ≡ plus_stream t q (take n xs)
     → ((j : ℕ) → j < n → t (q + j) ≡ s (p + j))
@@ -75,7 +75,7 @@ added_one s p i y xs fits is =
     ∙ append_assoc (take i xs) (y ∷ []) _
     ∙ ap (λ l. take i xs ++ l) rest
 
--- a loop that has come to the end leaves what it was to leave
+-- a loop that has come to the end has added the stream to the whole list
 pub added_all : (s : ℕ → ℕ) (p i : ℕ) (xs zs : List ℕ) → length xs ≤ i
     → added_from s p i xs ≡ plus_stream s p zs → xs ≡ plus_stream s p zs
 added_all s p i xs zs end kept =

@@ -69,7 +69,7 @@ plus-agree s t p q xs same =
     plus_is s p xs (plus_stream t q xs) (length-plus t q xs)
     (λ i h. ap (bit_xor (get_or xs i 0)) (same i h) ∙ sym (get_or-plus t q xs i h))
 
--- the same sum once more undoes it
+-- the sum with a stream undoes itself
 pub summed_twice : (s : ℕ → ℕ) (p : ℕ) (xs : List ℕ) → plus_stream s p (plus_stream s p xs) ≡ xs
 summed_twice s p xs =
     plus_is s p (plus_stream s p xs) xs (sym (length-plus s p xs))

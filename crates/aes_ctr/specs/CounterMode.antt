@@ -17,7 +17,7 @@ counter_block iv j = to_be_bytes w128 (counter iv j)
 unfoldable pub keystream_byte : List (List ℕ) → List ℕ → ℕ → ℕ
 keystream_byte w iv i = slice_index (fips.cipher_with w (counter_block iv (i / 16))) (i % 16)
 
--- as many bytes, and at place i byte i plus the stream's byte at place position + i
+-- bytes plus a stream: at place i byte i plus the stream's byte at place position + i
 unfoldable pub plus_stream : (ℕ → ℕ) → ℕ → List ℕ → List ℕ
 plus_stream stream position bytes = fips.build (length bytes)
     (λ i. fips.field_add (slice_index bytes i) (stream (position + i)))

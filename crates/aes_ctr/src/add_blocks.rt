@@ -24,7 +24,7 @@ fn add_part(block: &Block, from: usize, bytes: &mut [u8])
     }
 }
 
-// Adds to bytes the bytes of a row of blocks from one place on.
+// Adds to bytes the bytes of a batch of blocks from one place on.
 #[inline(always)]
 pub(crate) fn add_blocks(blocks: &[Block], from: usize, bytes: &mut [u8])
     requires { from + length bytes.old ≤ 16 * length blocks.now }

@@ -68,7 +68,7 @@ fn add_batch<B: BlockCipherEncBackend, K: CounterBlocks>(
 
 // Adds the keystream from one position on to the bytes from place `done` on, up to
 // the end of a batch that begins with the block of the first, or to all if there
-// are fewer. Returns the place that it has come to.
+// are fewer. Returns the place that follows.
 fn add_next<B: BlockCipherEncBackend, K: CounterBlocks>(
     backend: &B,
     counters: &K,
@@ -124,7 +124,7 @@ fn add_by_backend<B: BlockCipherEncBackend, K: CounterBlocks>(
     }
 }
 
-// Bytes to which the keystream is due from one position on.
+// Bytes to which the keystream is to be added, from a position on.
 #[derive(Drop)]
 struct Due<'k, 'a, K: CounterBlocks> {
     counters: &'k K,
@@ -169,7 +169,8 @@ pub fn add_stream<C: BlockCipherEncrypt, K: CounterBlocks>(
     }
 }
 
-/// The same with the whole block as the counter. It keeps no position: `Ctr128BE` does.
+/// Adds to each byte the keystream's byte at its place, with the whole block as the counter. It
+/// keeps no position: `Ctr128BE` does.
 #[tactic(auto, using(crate::proofs::Places::whole_blocks))]
 pub fn add_keystream<C: BlockCipherEncrypt>(cipher: &C, iv: &Block, position: u64, bytes: &mut [u8])
     requires { position + length bytes.old < 2 ^ 64 }

@@ -29,8 +29,8 @@ filled m x xs ys first others =
     sym (take-append-drop (length xs) ys) ∙ (λ i. first i ++ others i)
     ∙ (λ i. take-length xs i ++ drop-replicate (length xs) m x i)
 
--- where a batch begins with elements, f of each of its own is written in their places, and as many
--- of them are copied back, they are f of those elements
+-- the first elements of a batch are f of what they were, once f of them is written in their places
+-- and as many are copied back
 pub first_processed : {X : Type 0} (f : X → X) (s : ℕ) (xs more batch ys zs : List X)
     → length xs ≤ s
     → s ≤ length xs + length more → batch ≡ xs ++ more → ys ≡ map f (take s batch)
@@ -46,8 +46,8 @@ first_processed f s xs more batch ys zs fits room is done back same =
     ∙ ap (take n) done ∙ take-map f n (take s batch)
     ∙ ap (map f) (take-take n s batch fits ∙ ap (take n) is ∙ take-append_seam xs more)
 
--- where f of the first n elements is written in their places, and
--- then of those from place n on, it is of all
+-- all elements of a list are f of what they were, once f of the first n is written in their places,
+-- and then of those from place n on
 pub first_then_others : {X : Type 0} (f : X → X) (n k : ℕ) (xs ys zs : List X) → n ≤ length xs
     → length ys ≡ length xs
     → k ≡ length ys - n → take n ys ≡ map f (take n xs) → drop n ys ≡ drop n xs

@@ -32,7 +32,7 @@ times_undone = by_four
     (same_on_block (λ x. fips.inv_shift_times 3 (fips.shift_times 3 x)) (λ x. x) (λ f. refl))
 
 module _ (stored : List (List ℕ)) (two : 2 ≤ length stored) where
-  -- how many rounds these stored round keys serve
+  -- how many rounds the stored round keys serve
   abbrev pub rounds_made : ℕ
   rounds_made = length stored - 1
 
@@ -40,14 +40,15 @@ module _ (stored : List (List ℕ)) (two : 2 ≤ length stored) where
   abbrev pub wanted : ℕ → List ℕ
   wanted i = stored_key (full rounds_made) (encrypting stored) i
 
-  -- the first is as planes store it
+  -- the first stored round key is as planes store it
   pub first_wanted : fips.round_key stored 0 ≡ wanted 0
   first_wanted =
       sym (stored_first (full rounds_made) (encrypting stored)
       (deferred_below rounds_made 4 0 0 (omega arith) refl)
       ∙ first_key cipher_form stored (omega (arith, two)) ∙ map-id (fips.round_key stored 0))
 
-  -- one between is, once it is taken out of the tower basis: it is shifted back already
+  -- a stored round key between the first and the last is as planes store it, once it is taken out
+  -- of the tower basis: it is shifted back already
   pub inner_wanted : (i : ℕ) → 1 ≤ i → i < rounds_made → length (fips.round_key stored i) ≡ 16
       → map untower (fips.round_key stored i) ≡ wanted i
   inner_wanted i some below sized =
@@ -60,7 +61,7 @@ module _ (stored : List (List ℕ)) (two : 2 ≤ length stored) where
       ∙ ap (map plus63) (times_undone (i % 4) (omega arith) (map key_untower s) long)
       ∙ last_key_is s)
 
-  -- and the last is as planes store it
+  -- the last stored round key is as planes store it
   pub last_wanted : (i : ℕ) → i ≡ rounds_made → fips.round_key stored i ≡ wanted i
   unfolding fips.inv_shift_times
   last_wanted i e =
@@ -76,7 +77,7 @@ pub put_at : {A : Type 0} (bits : A → List Bool) (n : ℕ) (rk : List A) (o p 
 put_at bits n rk o p x y at h e =
     held_at bits n rk (words_at rk o) o p y at refl (h ∙ ap (replicate n) e)
 
--- where all round keys but the last stand in their places, and the last is put, all stand
+-- all round keys stand in their places, once all but the last do, and the last is put
 pub all_put : {A : Type 0} (bits : A → List Bool) (n : ℕ) (stored : List (List ℕ))
     (two : 2 ≤ length stored)
     (before after : List A)
@@ -97,11 +98,11 @@ all_put bits n stored two before after done others put j below =
           (last_wanted stored two last refl ∙ ap (wanted stored two) same)
     ]
 
--- there are two round keys and more
+-- stored round keys of a key are two or more
 pub two_or_more : (stored : List (List ℕ)) → IsCipherSchedule stored → 2 ≤ length stored
 two_or_more stored lanes = omega (arith, lanes.one_of_three)
 
--- words that hold all of them
+-- words that hold all stored round keys
 module _ {A : Type 0} (bits : A → List Bool) (n : ℕ) (some : 1 ≤ n) (words : List A)
     (stored : List (List ℕ))
     (lanes : IsCipherSchedule stored) (sized : length words ≡ 8 * length stored)
@@ -111,11 +112,11 @@ module _ {A : Type 0} (bits : A → List Bool) (n : ℕ) (some : 1 ≤ n) (words
   abbrev rounds : ℕ
   rounds = rounds_of (length words)
 
-  -- there are eleven round keys at least
+  -- stored round keys are eleven at least
   least : 11 ≤ length stored
   least = omega (arith, lanes.one_of_three)
 
-  -- and fifteen at most
+  -- stored round keys are fifteen at most
   most : length stored ≤ 15
   most = omega (arith, lanes.one_of_three)
 
@@ -128,12 +129,12 @@ module _ {A : Type 0} (bits : A → List Bool) (n : ℕ) (some : 1 ≤ n) (words
       omega (arith, lt, ap length w, keys_length cipher_form stored) in
       holds i below ∙ (λ j. replicate n (stored_key (full (r j)) (w j) i))
 
-  -- which has the size that the number of words says
+  -- the key that the stored round keys are read as has the size that the number of words says
   same_size : length (key_of_lanes stored) ≡ size_of (length words)
   same_size = lanes.sized ∙ omega (arith, sized)
 
-  -- planes that hold them in the full layout are read as the key
-  -- that the stored round keys are read as
+  -- planes that hold the stored round keys in the full layout are read as the key that those are
+  -- read as
   pub planes_key : key_of_planes bits n words ≡ key_of_lanes stored
   planes_key =
       key_of-schedule n (full rounds) some
@@ -141,7 +142,8 @@ module _ {A : Type 0} (bits : A → List Bool) (n : ℕ) (some : 1 ≤ n) (words
       (map bits words) (size_of (length words)) (rounds - 6) (key_of_lanes stored) refl same_size
       (omega (arith, sized, least)) (omega (arith, sized, most)) is_schedule
 
-  -- and are the schedule of that key
+  -- planes that hold the stored round keys in the full layout are the schedule of the key that they
+  -- are read as
   pub planes_keyed : IsFullSchedule bits n words
   planes_keyed = record {
     one_of_three = elim lanes.one_of_three [

@@ -14,7 +14,7 @@ zeros = replicate 15 (replicate 16 0)
 abbrev pub no_key : KeptKey
 no_key = record { length = 0; round_keys = zeros }
 
--- the same for both directions
+-- the struct for both directions that holds no key
 abbrev pub no_key_both_ways : KeptBothWays
 no_key_both_ways = record { key = no_key; decrypting = zeros }
 
@@ -26,7 +26,7 @@ HoldsKey kept = IsKeySize kept.length
 abbrev pub key_in : KeptKey → List ℕ
 key_in kept = key_in_room kept.length kept.round_keys
 
--- its round keys
+-- the round keys of the key that is kept
 abbrev pub round_keys_in : KeptKey → List (List ℕ)
 round_keys_in kept = fips.key_expansion (key_in kept)
 

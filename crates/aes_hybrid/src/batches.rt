@@ -18,7 +18,7 @@ use aes_soft::soft::blocks::{process_batch_under, process_batches_under};
 // How many blocks the widest words hold.
 const LARGEST_BATCH: usize = 16;
 
-// How many bytes of stack the work on batches takes at most, on the widest words.
+// The most bytes of stack of the work on batches, on the widest words.
 const BATCHES_STACK: usize = 1536;
 
 // Copies the first blocks of a slice to another, at most a batch, one by one: LLVM makes a call of

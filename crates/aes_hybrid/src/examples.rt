@@ -34,7 +34,7 @@ const ENCRYPTING: [u128; 15] = [
     0,
 ];
 
-// And those of EqInvCipher.
+// The blocks of the struct of the key of A.1: the stored round keys of EqInvCipher.
 const DECRYPTING: [u128; 15] = [
     0xb3779acbaa8d46ea825c6fabd5006fc5,
     0xe3b3ae00e22a700cf282e95a6e0e6229,
@@ -68,7 +68,7 @@ pub fn stored_example()
     key_expansion_128();
 }
 
-/// That struct is in order.
+/// The struct of the key of A.1 is in order.
 pub fn struct_example()
     ensures { IsKeptBothWays (record {
       key = record { length = 16; round_keys = map (bytes 16) ENCRYPTING };

@@ -99,7 +99,7 @@ impl KeptKey {
 pub struct KeptBothWays {
     /// The key, and its stored round keys of Cipher.
     pub key: KeptKey,
-    /// Those of EqInvCipher.
+    /// The stored round keys of EqInvCipher.
     pub decrypting: LaneRoom,
 }
 

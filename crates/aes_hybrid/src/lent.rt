@@ -75,7 +75,7 @@ impl<'a, D: LaneRounds, W> Lent<'a, D, W> {
         self.keys
     }
 
-    /// Returns those of the direction.
+    /// Returns the stored round keys of the direction.
     #[inline(always)]
     pub(crate) fn used(&self) -> &'a [Block]
         ensures { round_keys_of D.form result.now ≡ D.form.used_keys (fips.key_expansion self.now) }

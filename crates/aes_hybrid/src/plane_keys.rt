@@ -80,7 +80,7 @@ impl<W: Word> PlaneKeys<W> {
         store_planes(&mut self.room[..8 * keys.len()], keys);
     }
 
-    /// Lends the words of so many round keys.
+    /// Lends the words of the first `count` round keys.
     #[inline(always)]
     pub(crate) fn lend(&self, count: usize) -> &[W]
         requires fits { count ≤ 15 }

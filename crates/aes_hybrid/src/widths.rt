@@ -18,17 +18,18 @@ pub trait Width {
     /// The words of the planes on which many blocks are processed.
     type Many: Word;
 
-    /// How many blocks these planes hold, as a type.
+    /// How many blocks planes of `Many` hold, as a type.
     type Par: BatchSize;
 
-    /// From how many blocks on encryption takes less time on
-    /// planes, whose round keys are yet to be made.
+    /// The number of blocks from which encryption takes less time on planes, whose round keys have
+    /// yet to be made.
     const LEAST_TO_ENCRYPT: usize;
 
-    /// The same for decryption, whose vector permutations take longer.
+    /// The number of blocks from which decryption takes less time on planes. Its vector
+    /// permutations take longer.
     const LEAST_TO_DECRYPT: usize;
 
-    /// From how many blocks on a caller's closure gets a backend that has planes.
+    /// The number of blocks from which a caller's closure gets a backend that has planes.
     const LEAST_FOR_CLOSURES: usize;
 
     /// The most blocks after whole batches that take less time by

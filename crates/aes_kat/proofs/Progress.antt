@@ -21,7 +21,7 @@ pub OnErr-from : {T E : Type 0} (r : Result T E) (P : Type 0) → P → OnErr r 
 OnErr-from (Ok x) P p = tt
 OnErr-from (Err e) P p = p
 
--- all of a text is a beginning of it
+-- appending all of a text is appending a beginning of it
 pub AppendsBeginning-whole : (a b : Option (List ℕ)) (xs : List ℕ) → Appends a b xs
     → AppendsBeginning a b xs
 AppendsBeginning-whole a b xs h = (xs, h, ([], sym (append-nil xs)))
@@ -52,7 +52,7 @@ rest_answered (x ∷ line) lacks =
     ∙ append-nil (reply_to (x ∷ line) ++ 10 ∷ [])
     ∙ ap (λ b. if b then [] else reply_to (x ∷ line) ++ 10 ∷ []) (sym (some_byte x line))
 
--- and it is at fault if it is not empty and its line is
+-- what follows the last line end is at fault if it is not empty and its line is
 pub rest_faults : (line : List ℕ) → Lacks 10 line
     → has_fault line ≡ (if length line == 0 then false else is_fault line)
 unfolding has_fault lines_of
@@ -61,7 +61,7 @@ rest_faults (x ∷ line) lacks =
     ap (list_any is_fault) (lines_of-last x line lacks) ∙ or-false (is_fault (x ∷ line))
     ∙ ap (λ b. if b then false else is_fault (x ∷ line)) (sym (some_byte x line))
 
--- both, and the steps that are common to all proofs
+-- what follows the last line end, with the steps that are common to all proofs
 pub ruleset rest_calls = (rest_answered, rest_faults, common_steps)
 
 -- one line is answered
@@ -91,7 +91,7 @@ Answered-trans a b c w v fault more h k = record {
       ∙ sym (or-assoc fault more (has_fault (c ++ next)));
 }
 
--- the same work, while more of the text is known
+-- a part of the work stays done while more of the text is known
 Answered-more : (a b w chunk : List ℕ) (fault : Bool) → Answered a b w fault
     → Answered (a ++ chunk) (b ++ chunk) w fault
 Answered-more a b w chunk fault h = record {
@@ -126,14 +126,14 @@ Gathers-line a b c before begun front line rest after cleared fault is h p q cut
 
 -- ---- what is written
 
--- it stops where it stands
+-- the output can stop where the work stands
 pub StopsWithin-here : (a b : Option (List ℕ)) (before after : List ℕ) (fault : Bool)
     → Advances a b before after fault
     → StopsWithin a b before
 StopsWithin-here a b before after fault h =
     (h.0, h.1, λ next. (answers_to (after ++ next), h.2.answers next))
 
--- it stops within what was gathered from nothing
+-- the output can stop within what was gathered from nothing
 pub StopsWithin-written : (a b : Option (List ℕ)) (none all before after : List ℕ)
     (fault : Bool) → none ≡ []
     → Gathers none all before after fault → AppendsBeginning a b all → StopsWithin a b before
@@ -151,7 +151,7 @@ StopsWithin-written a b none all before after fault e h stop =
 
 module _ (a b c : Option (List ℕ)) (before line : List ℕ) (fault : Bool)
     (h : Advances a b before line fault) where
-  -- one chunk after the others
+  -- one chunk is worked on after the others
   pub Advances-chunk : (chunk after : List ℕ) (more : Bool)
       → Advances b c (line ++ chunk) after more
       → Advances a c (before ++ chunk) after (fault || more)
@@ -162,7 +162,7 @@ module _ (a b c : Option (List ℕ)) (before line : List ℕ) (fault : Bool)
         (Answered-more before line h.0 chunk fault h.2) k.2,
   )
 
-  -- it stops within a chunk
+  -- the output can stop within a chunk
   pub StopsWithin-chunk : (chunk : List ℕ) → StopsWithin b c (line ++ chunk)
       → StopsWithin a c (before ++ chunk)
   StopsWithin-chunk chunk stop = (
@@ -176,7 +176,7 @@ module _ (a b c : Option (List ℕ)) (before line : List ℕ) (fault : Bool)
         ),
   )
 
-  -- it stops within the answers to what is left of the text, which has ended
+  -- the output can stop within the answers to what is left of the text, which has ended
   pub AppendsBeginning-ended : AppendsBeginning b c (answers_to line)
       → AppendsBeginning a c (answers_to before)
   AppendsBeginning-ended stop = (
@@ -213,7 +213,7 @@ stops-held (Some held) (Some rest) a b text read stop =
 
 -- ---- what a run has done
 
--- it fails, and what it has written is a beginning of the answers
+-- a run that fails has written a beginning of the answers
 pub Runs-failed : (r : Result Bool Failed) (input left output written : Option (List ℕ)) → IsErr r
     → IfSome input (λ text. AppendsBeginning output written (answers_to text))
     → Runs r input left output written

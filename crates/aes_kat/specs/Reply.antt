@@ -22,7 +22,7 @@ message_of fault.Hex = codes "error hex"
 message_of fault.Key = codes "error key"
 message_of fault.Block = codes "error block"
 
--- the first fault is the outcome
+-- the first fault of some steps is their outcome
 infixl 10 ◌>>=◌
 abbrev pub ◌>>=◌ : {A B : Type 0} → Result A Fault → (A → Result B Fault) → Result B Fault
 Ok x >>= f = f x
@@ -44,7 +44,7 @@ name_of Schedule = codes "sched"
 abbrev pub commands : List Command
 commands = Encrypt ∷ Decrypt ∷ Round ∷ InverseRound ∷ Mix ∷ InverseMix ∷ Schedule ∷ []
 
--- the first of some commands that has this name
+-- the first of some commands that has the given name
 unfoldable pub first_named : List ℕ → List Command → Option Command
 first_named name [] = None
 first_named name (command ∷ more) = if bytes_eq (name_of command) name then Some command else first_named name more

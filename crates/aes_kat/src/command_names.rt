@@ -27,7 +27,7 @@ const COMMANDS: [Command; 7] = [
 ];
 
 impl Command {
-    // The first word of its lines.
+    // The first word of the command's lines.
     fn name(self) -> &'static [u8]
         ensures { result.now ≡ name_of self }
     {

@@ -142,7 +142,7 @@ fn finish<A: Allocator, W: Write>(
 }
 
 // A buffer of `size` zeros. No clause says that they are zeros, since
-// a proof that reads so many takes gigabytes.
+// a proof that reads them all needs gigabytes.
 fn zeros<A: Allocator>(alloc: A, size: usize) -> Result<Vec<u8, A>, Failed>
     ensures { IfOk result (λ room. vec_len room ≡ size) }
 {
@@ -165,7 +165,7 @@ pub fn run<R: Read, W: Write>(alloc: Global, input: &mut R, output: &mut W) -> R
     run_in(alloc, input, output)
 }
 
-/// The same as [`run`], over any memory.
+/// Answers each line of the input to its end as [`run`] does, over any memory.
 ///
 /// # Errors
 ///

@@ -1,4 +1,4 @@
-//! The rows of the line protocol, on `run` over memory.
+//! The examples of the line protocol, on `run` over memory.
 mod answered;
 mod failures;
 mod faults;

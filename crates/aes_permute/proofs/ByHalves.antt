@@ -37,20 +37,20 @@ pub both_in_order : (x y : List ℕ) → IsBlock x → IsBlock y
 both_in_order x y (x_long, x_small) (y_long, y_small) =
     pick_l_whole 0 (x ++ y) 32 (length-append x y ∙ omega (arith, x_long, y_long))
 
--- the first sixteen lanes are the lower half
+-- the first sixteen lanes of a vector are its lower half
 pub lower_half : (x : List ℕ) → length x ≡ 32 → pick_l 0 (x ++ x) sixteen ≡ take 16 x
 lower_half x long =
     pick_l-range_with_len 0 (x ++ x) 0 16 (omega (arith, long, length-append x x))
     ∙ take-append-le 16 x x (omega (arith, long))
 
--- and the others the upper half
+-- the last sixteen lanes of a vector are its upper half
 pub upper_half : (x : List ℕ) → length x ≡ 32 → pick_l 0 (x ++ x) upper_16 ≡ drop 16 x
 upper_half x long =
     pick_l_left 0 x x 32 upper_16 long tt
     ∙ pick_l-range_with_len 0 x 16 16 (omega (arith, long))
     ∙ take_all 16 (drop 16 x) (omega (arith, long, length-drop 16 x))
 
--- what picks a half
+-- the rules that pick a half of a vector
 pub ruleset picked_halves = (lower_half, upper_half)
 
 -- a block in both halves is each of the two
@@ -83,7 +83,7 @@ half_of_map f x i = go (i == 0)
     go true = take-map f 16 x
     go false = drop-map f 16 x
 
--- with nothing on the right there is nothing
+-- a vector and nothing make nothing, lane by lane
 zip2_nil : (f : ℕ → ℕ → ℕ) (xs : List ℕ) → zip2 f xs [] ≡ []
 zip2_nil f [] = refl
 zip2_nil f (x ∷ xs) = refl
@@ -96,7 +96,7 @@ zip2_take f (suc n) [] ys = refl
 zip2_take f (suc n) (x ∷ xs) [] = refl
 zip2_take f (suc n) (x ∷ xs) (y ∷ ys) = ap (λ l. f x y ∷ l) (zip2_take f n xs ys)
 
--- and so are the others
+-- the lanes of what is made of two vectors, but for the first, are made of those of both
 pub zip2_drop : (f : ℕ → ℕ → ℕ) (n : ℕ) (xs ys : List ℕ)
     → drop n (zip2 f xs ys) ≡ zip2 f (drop n xs) (drop n ys)
 zip2_drop f zero xs ys = refl
@@ -104,7 +104,7 @@ zip2_drop f (suc n) [] ys = refl
 zip2_drop f (suc n) (x ∷ xs) [] = sym (zip2_nil f (drop n xs))
 zip2_drop f (suc n) (x ∷ xs) (y ∷ ys) = zip2_drop f n xs ys
 
--- so is what two vectors make of each lane of both
+-- each half of what two vectors make lane by lane is made of that half of both
 pub half_of_zip : (f : ℕ → ℕ → ℕ) (x y : List ℕ) (i : ℕ)
     → half (zip2 f x y) i ≡ zip2 f (half x i) (half y i)
 unfolding half
@@ -121,7 +121,7 @@ pub low_of_half : (x : List ℕ) (i : ℕ) → length x ≡ 32 → IsBytes x
 low_of_half x i long small =
     ap (λ l. half l i) (low_nibbles_of 32 x long small) ∙ half_of_map low_nibble x i
 
--- and the high ones
+-- the high nibbles of a vector are those of each half
 pub high_of_half : (x : List ℕ) (i : ℕ) → length x ≡ 32 → IsBytes x
     → half (zip2 (λ a b. a / 2 ^ b) x (replicate 32 4)) i ≡ map high_nibble (half x i)
 high_of_half x i long small =
@@ -169,7 +169,7 @@ looked_in_halves t u p q t_long p_long q_long p_are q_are =
     (omega arith)
     (omega (arith, q_long)) q_are k)
 
--- of two tables and the places of two blocks, each half is a look-up
+-- each half of what two tables give at the places of two blocks is a look-up
 looked_by_halves : (t u p q : List ℕ) (b : Bool) → length t ≡ 16 → length p ≡ 16 → length q ≡ 16
     → AreIndices p → AreIndices q
     → cond b (take 16 (swz_l w8 16 (t ++ u) 0 (p ++ q))) (drop 16 (swz_l w8 16 (t ++ u) 0 (p ++ q)))
@@ -187,7 +187,7 @@ looked_by_halves t u p q b t_long p_long q_long p_are q_are =
     go true = take_at (map (looked t) p) (map (looked u) q) 16 first
     go false = drop_at (map (looked t) p) (map (looked u) q) 16 first
 
--- the same on both sides of a choice
+-- a choice between the same two is either of them
 same_both : (b : Bool) (t : List ℕ) → cond b t t ≡ t
 same_both true t = refl
 same_both false t = refl
@@ -220,17 +220,17 @@ permuted_of_half x places i long placed are =
     are are
     ∙ ap (map (looked (cond b (take 16 x) (drop 16 x)))) (same_both b places)
 
--- 32 indices are places that a byte shuffle by halves takes
+-- 32 indices are places that a byte shuffle by halves can read
 pub indices_in_halves : (js : List ℕ) → length js ≡ 32 → AreIndices js → SwzOk w8 16 32 0 js
 indices_in_halves js long are =
     SwzOk-from_Each1 w8 16 2 32 0 js refl (omega (arith, long)) (each_index js are)
 
--- where those of each half are indices
+-- places whose halves are indices are places that a byte shuffle by halves can read
 pub halves_ok : (js : List ℕ) → length js ≡ 32 → ((i : ℕ) → AreIndices (half js i))
     → SwzOk w8 16 32 0 js
 halves_ok js long are = indices_in_halves js long (indices_of_halves js are)
 
--- where they are the same in both halves
+-- sixteen indices in both halves are places that a byte shuffle by halves can read
 pub both_ok : (places : List ℕ) → length places ≡ 16 → AreIndices places
     → SwzOk w8 16 32 0 (places ++ places)
 both_ok places long are =
@@ -255,7 +255,7 @@ half_of_joined p q d from i long is_p is_q small = go i small
     go (suc zero) s = drop_at p q 16 long ∙ is_q
     go (suc (suc n)) s = absurd (omega (arith, s))
 
--- and written one by one, they are written
+-- the halves of a vector that are set one by one are its two blocks, written
 pub both_written : (x p q : List ℕ) (d : List (List ℕ)) (from : ℕ) → p ≡ take 16 x → q ≡ drop 16 x
     → set (set d from p) (from + 1) q ≡ written (half x) 2 from d
 unfolding half written

@@ -23,7 +23,7 @@ use Rattle.aes_permute.proofs.RoundLanes.{round_is, last_is}
 abbrev pub places_in : List (List ℕ) → ℕ → List ℕ
 places_in tables k = get_or tables k []
 
--- they are indices
+-- the places of each of four tables are indices
 pub are_indices : (tables : List (List ℕ))
     → AreIndices (places_in tables 0) → AreIndices (places_in tables 1)
     → AreIndices (places_in tables 2) → AreIndices (places_in tables 3)
@@ -61,7 +61,7 @@ times_map f (suc k) s l =
 times_block : (k : ℕ) (s : List ℕ) → IsBlock s → IsBlock (shift_times k s)
 times_block k s (long, small) = (shift_times_length k s long, shift_times_bytes k s small)
 
--- the places of the table are those of so many ShiftRows
+-- entry k of SHIFTED_ROWS has the places of k ShiftRows
 pub shifted_is : (k : ℕ) → k < 4 → (x : List ℕ) → length x ≡ 16
     → permuted x (places_in SHIFTED_ROWS k) ≡ shift_times k x
 unfolding build state shift_rows shift_times
@@ -119,20 +119,20 @@ round_at k o p key =
     zip2 bit_xor (zip2 bit_xor (zip2 bit_xor (permuted o (places_in ROW_BEFORE k)) key) p)
     (permuted p (places_in NEXT_ROW k))
 
--- ShiftRows made up for, it is a round that leaves none out
+-- with the deferred ShiftRows made up for, the round is one that defers none
 abbrev MadeUp : ℕ → List ℕ → List ℕ → List ℕ → Type 0
 MadeUp k o t key = (shift_times k (round_at k o (pairs_at k o t) key)
     ≡ round_of (shift_times (before k) o)
     (paired (shift_times (before k) o) (shift_times (before k) t)) (shift_times k key))
     × (length (round_at k o (pairs_at k o t) key) ≡ 16)
 
--- on all lanes at once
+-- `MadeUp` of blocks that are built of functions, by computing all lanes
 on_lanes : (k : ℕ) → k < 4 → (f g h : ℕ → ℕ) → MadeUp k (build 16 f) (build 16 g) (build 16 h)
 unfolding build state shift_rows shift_times
 on_lanes = by_four (λ k. (f g h : ℕ → ℕ) → MadeUp k (build 16 f) (build 16 g) (build 16 h))
     (λ f g h. (refl, refl)) (λ f g h. (refl, refl)) (λ f g h. (refl, refl)) (λ f g h. (refl, refl))
 
--- so of all blocks
+-- `MadeUp` of all blocks
 made_up : (k : ℕ) (o t key : List ℕ) → k < 4 → length o ≡ 16 → length t ≡ 16 → length key ≡ 16
     → MadeUp k o t key
 made_up k o t key small l m n =
@@ -142,7 +142,7 @@ made_up k o t key small l m n =
     (built 16 key 0 n)
     (on_lanes k small (λ i. get_or o i 0) (λ i. get_or t i 0) (λ i. get_or key i 0))))
 
--- one round before
+-- how many ShiftRows are left out before round n is how many are after round n - 1
 earlier : (n : ℕ) → 1 ≤ n → before (n % 4) ≡ (n - 1) % 4
 earlier n some = omega arith
 

@@ -36,11 +36,11 @@ pair x c = bit_xor (x c) (cond (c == 0) 0 (x (c - 1)))
 abbrev coded : (ℕ → ℕ) → ℕ → ℕ → ℕ → ℕ
 coded x s a c = bit_xor (bit_xor (bit_xor (pair x c) (cond (nat_lt c 2) 0 (pair x (c - 2)))) a) s
 
--- the order in which the code adds the start and the addend is no other sum
+-- the order in which the code adds the start and the addend makes no difference
 addend_last : (v a s : ℕ) → bit_xor (bit_xor v a) s ≡ bit_xor v (bit_xor s a)
 addend_last v a s = xor_assoc v a s ∙ ap (bit_xor v) (xor_comm a s)
 
--- so each column is the sum up to it
+-- column c as the code adds it is the sum of the columns up to it
 coded_is : (x : ℕ → ℕ) (s a c : ℕ) → c < 4 → coded x s a c ≡ summed field_add x (bit_xor s a) c
 coded_is x s a c l =
     addend_last (bit_xor (pair x c) (cond (nat_lt c 2) 0 (pair x (c - 2)))) a s
@@ -62,7 +62,7 @@ coded_is x s a c l =
 abbrev pub pairs_of : List ℕ → List ℕ
 pairs_of x = zip2 bit_xor x (map (looked x) COLUMN_BEFORE)
 
--- and of each column and the one two before it
+-- the sums of each column and the one two before it
 abbrev pub sums_of : List ℕ → List ℕ
 sums_of x = zip2 bit_xor x (map (looked x) TWO_COLUMNS_BEFORE)
 
@@ -70,11 +70,11 @@ sums_of x = zip2 bit_xor x (map (looked x) TWO_COLUMNS_BEFORE)
 abbrev columns_of : List ℕ → List ℕ → List ℕ → List ℕ
 columns_of x s a = zip2 bit_xor (zip2 bit_xor (sums_of (pairs_of x)) a) s
 
--- and byte by byte
+-- the columns as the code adds them, byte by byte
 abbrev coded_state : List ℕ → List ℕ → List ℕ → List ℕ
 coded_state x s a = state (λ r c. coded (byte_at x r) (byte_at s r c) (byte_at a r c) c)
 
--- which is the same, lane by lane
+-- the columns on vectors are the columns byte by byte
 columns_are : (x s a : List ℕ) → length x ≡ 16 → length s ≡ 16 → length a ≡ 16
     → columns_of x s a ≡ coded_state x s a
 unfolding state build
@@ -141,16 +141,16 @@ tower_summed_is x s a {p = p} {q = q} l m n e f =
 abbrev looked_byte : ℕ → ℕ
 looked_byte k = bit_xor (get_or TOWER_LOW (bit_and k 15) 0) (get_or TOWER_HIGH (k / 16) 0)
 
--- by all bytes
+-- the test that a byte that is looked up stands for the constant's byte, by all bytes
 byte_cases : all_below 256 (λ k. untower (looked_byte k) == k) ≡ true
 unfolding all_below untower
 byte_cases = refl
 
--- it stands for the byte
+-- a byte of a round constant that is looked up stands for that byte
 pub byte_is : (k : ℕ) → k < 256 → untower (looked_byte k) ≡ k
 byte_is k h = eqb-true _ _ (all_below_tells 256 (λ k. untower (looked_byte k) == k) byte_cases k h)
 
--- added to the first lane, it stands for the byte added there
+-- a byte that is added to the first lane stands for what is added there
 pub constant_is : (x : List ℕ) (k t : ℕ) → untower t ≡ k
     → map untower (zip2 bit_xor x (t ∷ replicate 15 0))
     ≡ zip2 bit_xor (map untower x) (k ∷ replicate 15 0)
@@ -166,7 +166,7 @@ first_changed (x ∷ xs) k l =
     (λ i. bit_xor x k ∷ zip2_splat bit_xor xs 15 0 (omega (arith, l)) i)
     ∙ (λ i. bit_xor x k ∷ map (λ v. add_zero v i) xs) ∙ (λ i. bit_xor x k ∷ map-id xs i)
 
--- sums of columns bring what is added to the first to all
+-- sums of columns add to each column what is added to the first
 carried : (x z : ℕ → ℕ) (v k c : ℕ) → z 0 ≡ bit_xor (x 0) k → ((d : ℕ) → z (suc d) ≡ x (suc d))
     → summed field_add z v c ≡ summed field_add x (bit_xor v k) c
 carried x z v k zero first others =
@@ -174,7 +174,7 @@ carried x z v k zero first others =
 carried x z v k (suc c) first others =
     λ i. bit_xor (others c i) (carried x z v k c first others i)
 
--- so a byte added to the first lane is in row 0 of each column
+-- a byte added to the first lane is added to row 0 of each column
 constant_carried : (x : List ℕ) (v k r c : ℕ) → length x ≡ 16 → r < 4
     → summed field_add (byte_at (set x 0 (bit_xor (get_or x 0 0) k)) r) v c
     ≡ summed field_add (byte_at x r) (bit_xor v (cond (r == 0) k 0)) c
@@ -199,11 +199,11 @@ swizzled xs ks = pick_l 0 (xs ++ xs) ks
 abbrev pub rotated_column : List ℕ
 rotated_column = 13 ∷ 14 ∷ 15 ∷ 12 ∷ 13 ∷ 14 ∷ 15 ∷ 12 ∷ 13 ∷ 14 ∷ 15 ∷ 12 ∷ 13 ∷ 14 ∷ 15 ∷ 12 ∷ []
 
--- the same lanes in their order
+-- the lanes of the last column, in each of the four columns
 abbrev pub last_column : List ℕ
 last_column = 12 ∷ 13 ∷ 14 ∷ 15 ∷ 12 ∷ 13 ∷ 14 ∷ 15 ∷ 12 ∷ 13 ∷ 14 ∷ 15 ∷ 12 ∷ 13 ∷ 14 ∷ 15 ∷ []
 
--- and those of the second column
+-- the lanes of the second column, in each of the four columns
 abbrev pub second_column : List ℕ
 second_column = 4 ∷ 5 ∷ 6 ∷ 7 ∷ 4 ∷ 5 ∷ 6 ∷ 7 ∷ 4 ∷ 5 ∷ 6 ∷ 7 ∷ 4 ∷ 5 ∷ 6 ∷ 7 ∷ []
 
@@ -212,7 +212,7 @@ of_constant : untower 0x6e ≡ 0x63
 unfolding untower
 of_constant = refl
 
--- in each lane
+-- 0x63 in the tower basis, in each lane
 constants_untowered : map untower (replicate 16 0x6e) ≡ replicate 16 0x63
 constants_untowered = λ i. replicate 16 (of_constant i)
 
@@ -220,11 +220,12 @@ constants_untowered = λ i. replicate 16 (of_constant i)
 abbrev substituted_lanes : List ℕ → List ℕ → List ℕ
 substituted_lanes y ks = map plus63 (sub_bytes (swizzled y ks))
 
--- what the rows of the last column are due, `rows` rows on, with the constant of the S-box twice
+-- what is added to each row, from the last column `rows` rows on, with the constant of the S-box
+-- twice
 abbrev due : List ℕ → ℕ → ℕ → ℕ
 due y rows r = plus63 (plus63 (byte_at (sub_bytes y) ((r + rows) % 4) 3))
 
--- that start, row by row
+-- the columns from a substituted and rotated last column, row by row
 rotated_state : (x y : List ℕ) → length y ≡ 16
     → from_start x (substituted_lanes y rotated_column) (replicate 16 0x63)
     ≡ state (λ r c. summed field_add (byte_at x r) (due y 1 r) c)
@@ -233,7 +234,7 @@ rotated_state x y =
     same_on_block (λ y. from_start x (substituted_lanes y rotated_column) (replicate 16 0x63))
     (λ y. state (λ r c. summed field_add (byte_at x r) (due y 1 r) c)) (λ f. refl) y
 
--- and without a rotation
+-- the columns from a substituted last column without a rotation, row by row
 substituted_state : (x y : List ℕ) → length y ≡ 16
     → from_start x (substituted_lanes y last_column) (replicate 16 0x63)
     ≡ state (λ r c. summed field_add (byte_at x r) (due y 0 r) c)
@@ -310,7 +311,7 @@ substituted_is u v s z hx hy m is_s f =
     (add_twice (byte_at (sub_bytes y) ((r + 0) % 4) 3) 0x63))
     ∙ (λ i. columns_summed 0 3 (hx i) (sub_bytes (hy i)))
 
--- and without a substitution
+-- the columns from a second column as it is, row by row
 plain_state : (x y : List ℕ) → length y ≡ 16
     → from_start x (map untower (swizzled y second_column)) (map untower (replicate 16 0))
     ≡ state (λ r c. summed field_add (byte_at x r)
@@ -339,7 +340,7 @@ plain_is u v z hx hy l f =
 abbrev pub straddling : List ℕ
 straddling = 8 ∷ 9 ∷ 10 ∷ 11 ∷ 12 ∷ 13 ∷ 14 ∷ 15 ∷ 16 ∷ 17 ∷ 18 ∷ 19 ∷ 20 ∷ 21 ∷ 22 ∷ 23 ∷ []
 
--- those lanes of two blocks are the block that straddles them
+-- the `straddling` lanes of two blocks are the block that straddles them
 pub straddled_is : (x y u v : List ℕ) → map untower u ≡ x → map untower v ≡ y → length u ≡ 16
     → length v ≡ 16 → map untower (pick_l 0 (u ++ v) straddling) ≡ columns_straddled x y
 unfolding state build columns_straddled
@@ -370,7 +371,8 @@ unfolding key_untower
 plain_key_is x l = zip2_splat bit_xor (map untower x) 16 0x63 (map_length untower x ∙ l)
     ∙ map-map plus63 untower x
 
--- the last round key is stored so, and stands for what it is in the tower basis
+-- the last round key, stored outside the tower basis with 0x63 added, stands for what it is in that
+-- basis
 pub last_key_is : (x : List ℕ) → map plus63 (map key_untower x) ≡ map untower x
 unfolding key_untower
 last_key_is x = ap (map plus63) (sym (map-map plus63 untower x)) ∙ plus63_twice (map untower x)

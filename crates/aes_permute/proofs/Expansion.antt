@@ -7,7 +7,7 @@ use Rattle.aes_permute.specs.Keys.{cipher_form}
 use Rattle.aes_permute.specs.Stored.{round_keys_of, IsWritten}
 use Rattle.aes_permute.proofs.States.{stored_are}
 
--- those of a key stand for its round keys, if each is written
+-- stored round keys stand for those of a key, if each is written
 pub written_are_used : (key : List ℕ) (stored : List (List ℕ)) (last : ℕ)
     → ((i : ℕ) → i ≤ last → IsWritten stored last i (fips.round_key (fips.key_expansion key) i))
     → last ≡ fips.rounds key → length stored ≡ last + 1

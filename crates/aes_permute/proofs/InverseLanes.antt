@@ -43,7 +43,7 @@ plain_cases : all_below 256 (λ b. nat_lt (plain b) 256 && (sbox (plain b) == in
 unfolding all_below first_of second_of inv_untower sbox
 plain_cases = refl
 
--- InvSubBytes
+-- what is looked up for `plain` is InvSubBytes
 plain_is : (x : List ℕ) → IsBytes x → map plain x ≡ inv_sub_bytes (map inv_untower x)
 unfolding inv_sub_bytes
 plain_is x h =
@@ -93,7 +93,7 @@ on_products f s x =
     let on : ℕ → List ℕ = λ i. map (products f i).look_up x in
     map inv_untower (s (on 0) (on 1) (on 2) (on 3))
 
--- such blocks are what is looked up for the products
+-- the blocks and sums of `AreLooked` are what is looked up for the products
 looked_up : {f : LookUps} {x one four nine fifteen a b c : List ℕ}
     (s : List ℕ → List ℕ → List ℕ → List ℕ → List ℕ)
     → AreLooked f x one four nine fifteen a b c → map inv_untower (s a b c nine) ≡ on_products f s x
@@ -127,7 +127,7 @@ inv_shifted x c j = byte_at x j ((c + 4 - j) % 4)
 abbrev pub same_row : List ℕ
 same_row = 0 ∷ 13 ∷ 10 ∷ 7 ∷ 4 ∷ 1 ∷ 14 ∷ 11 ∷ 8 ∷ 5 ∷ 2 ∷ 15 ∷ 12 ∷ 9 ∷ 6 ∷ 3 ∷ []
 
--- and those whose bytes stand one, two and three rows further down in the same column
+-- the lanes whose bytes stand one, two and three rows further down in the same column
 abbrev pub next_row : List ℕ
 next_row = 13 ∷ 10 ∷ 7 ∷ 0 ∷ 1 ∷ 14 ∷ 11 ∷ 4 ∷ 5 ∷ 2 ∷ 15 ∷ 8 ∷ 9 ∷ 6 ∷ 3 ∷ 12 ∷ []
 
@@ -144,11 +144,11 @@ inv_round_of a b c d k =
     (zip2 bit_xor (permuted c third_row) (permuted d fourth_row)))
     (permuted b next_row)
 
--- the round, from what it looks up
+-- the round on lanes, from what it looks up
 abbrev on_lanes : List ℕ → List ℕ → List ℕ
 on_lanes x k = on_products of_bytes (λ a b c d. inv_round_of a b c d k) x
 
--- is a sum of four products in each byte, by the places that the lanes come from
+-- the round on lanes is a sum of four products in each byte, by the places that the lanes come from
 lanes_are : (x k : List ℕ) → length x ≡ 16 → length k ≡ 16
     → on_lanes x k ≡ rows_added inv_untower (products of_bytes) (inv_shifted x) (byte_at k)
 unfolding state build
@@ -156,7 +156,7 @@ lanes_are = same_on_blocks on_lanes
     (λ x k. rows_added inv_untower (products of_bytes) (inv_shifted x) (byte_at k))
     (λ f g. refl)
 
--- and these sums are those of InvMixColumns and AddRoundKey
+-- the sums of products of a round are those of InvMixColumns and AddRoundKey
 sums_are : (x k : List ℕ) → length x ≡ 16 → length k ≡ 16
     → rows_multiplied plain (products of_bytes) (inv_shifted x) (λ r c. inv_untower (byte_at k r c))
     ≡ add_round_key (inv_mix_columns (inv_shift_rows (map plain x))) (map inv_untower k)
@@ -187,7 +187,7 @@ round_is x k h m l =
 
 -- ---- the first round key, and the last round
 
--- by all bytes, the way into the basis and back adds 0x63
+-- the way into the basis and back adds 0x63, by all bytes
 tower_cases : all_below 256
     (λ b. inv_untower (by_nibbles INV_TOWER_LOW INV_TOWER_HIGH b) == plus63 b) ≡ true
 unfolding all_below inv_untower
@@ -214,7 +214,7 @@ first_is b k h m =
 abbrev pub last_of : List ℕ → List ℕ → List ℕ
 last_of p k = zip2 bit_xor (permuted p same_row) k
 
--- is InvShiftRows and AddRoundKey
+-- the sum of the last round is InvShiftRows and AddRoundKey
 last_shifted : (y k : List ℕ) → length y ≡ 16 → length k ≡ 16
     → last_of y k ≡ add_round_key (inv_shift_rows y) k
 unfolding state build add_round_key inv_shift_rows
@@ -263,28 +263,28 @@ unmixed_of a b c d =
     (zip2 bit_xor (permuted c third_in_column) (permuted d fourth_in_column)))
     (permuted b next_in_column)
 
--- a round key is mixed as in a round that adds zeros
+-- zeros that are added to a block change nothing, so that a round key is mixed as in a round
 zeros_added : (y : List ℕ) → length y ≡ 16 → zip2 bit_xor y (replicate 16 0) ≡ y
 zeros_added y l = zip2_splat bit_xor y 16 0 l
     ∙ map-same (λ v. bit_xor v 0) (λ v. v) y add_zero ∙ map-id y
 
--- such a round, of a round key
+-- a round key that is mixed as in a round which adds zeros
 abbrev key_on_lanes : List ℕ → List ℕ
 key_on_lanes x = on_products of_key
     (λ a b c d. unmixed_of (zip2 bit_xor a (replicate 16 0)) b c d) x
 
--- in which no row is shifted
+-- the byte of row j in column c, for which no row is shifted
 abbrev key_moved : List ℕ → ℕ → ℕ → ℕ
 key_moved x c j = byte_at x j c
 
--- it is a sum of four products in each byte
+-- a mixed round key is a sum of four products in each byte
 key_lanes_are : (x : List ℕ) → length x ≡ 16
     → key_on_lanes x ≡ rows_added inv_untower (products of_key) (key_moved x) (λ r c. 0)
 unfolding state build
 key_lanes_are = same_on_block key_on_lanes
     (λ x. rows_added inv_untower (products of_key) (key_moved x) (λ r c. 0)) (λ f. refl)
 
--- and these sums are those of InvMixColumns
+-- the sums of products of a round key are those of InvMixColumns
 key_sums_are : (x : List ℕ) → length x ≡ 16
     → rows_multiplied (λ b. b) (products of_key) (key_moved x) (λ r c. 0)
     ≡ zip2 bit_xor (inv_mix_columns x) (replicate 16 0)

@@ -26,7 +26,7 @@ sum_of f h x e first second = e ∙ zip2_of_maps bit_xor f h x first second
 abbrev pub over : (ℕ → ℕ) → ℕ → ℕ
 over f b = bit_xor (looked INVERSE (f b)) (looked SCALED_INVERSE (low_nibble b))
 
--- as the code makes it
+-- the sum of which the second inverse is looked up, as the code makes it
 pub over_is : (f : ℕ → ℕ) (x : List ℕ) {y low inverse scaled z : List ℕ} → y ≡ map f x
     → low ≡ map low_nibble x
     → inverse ≡ map (looked INVERSE) y → scaled ≡ map (looked SCALED_INVERSE) low

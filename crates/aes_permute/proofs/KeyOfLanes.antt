@@ -22,7 +22,7 @@ begins_with_key size key one l =
 module _ (stored : List (List ℕ)) (key : List ℕ) (one : IsKeySize (length key))
     (sized : length stored ≡ length key / 4 + 7) (b : fips.IsBytes key)
     (e : encrypting stored ≡ fips.key_expansion key) where
-  -- their number says the size of that key
+  -- the number of stored round keys says the size of their key
   own_size : lane_key_size stored ≡ length key
   own_size = omega (arith, sized, one)
 
@@ -31,7 +31,7 @@ module _ (stored : List (List ℕ)) (key : List ℕ) (one : IsKeySize (length ke
   unfolding key_of_lanes
   read_as = (λ j. leading_key (own_size j) (e j)) ∙ begins_with_key (length key) key one refl
 
-  -- and are those of the key that they are read as
+  -- stored round keys of a key are those of the key that they are read as
   pub is_cipher_schedule : IsCipherSchedule stored
   is_cipher_schedule = record {
     one_of_three = elim one [
@@ -47,7 +47,7 @@ module _ (stored : List (List ℕ)) (key : List ℕ) (one : IsKeySize (length ke
     keys = e ∙ ap fips.key_expansion (sym read_as);
   }
 
--- the key that they are read as has the size that their number says
+-- the key that stored round keys are read as has the size that their number says
 pub stored_size : (size : ℕ) (stored : List (List ℕ)) → IsKeySize size
     → length stored ≡ size / 4 + 7 → IsCipherSchedule stored → length (key_of_lanes stored) ≡ size
 stored_size size stored one l s = s.sized ∙ omega (arith, one, l)
@@ -60,7 +60,8 @@ pub two_stored : (form : LaneForm) → ((w : List (List ℕ)) → length (form.u
 two_stored form same stored key e =
     omega (arith, keys_length form stored, ap length e, same (fips.key_expansion key), two_keys key)
 
--- and so are those that stand for the expansion of a key of 16, 24 or 32 bytes
+-- stored round keys that stand for the expansion of a key of 16, 24 or 32 bytes are those of the
+-- key that they are read as
 pub is_schedule_of : (stored : List (List ℕ)) (key : List ℕ) → IsKeySize (length key)
     → fips.IsBytes key
     → encrypting stored ≡ fips.key_expansion key → IsCipherSchedule stored

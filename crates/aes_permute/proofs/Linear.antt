@@ -28,7 +28,7 @@ looked_sum t l p q a b =
     eqb-true _ _ (all_pairs_tell 16 16
     (λ p q. looked t (bit_xor p q) == bit_xor (looked t p) (looked t q)) l p q a b)
 
--- and the nibbles of a sum are sums of nibbles
+-- the nibbles of a sum are sums of nibbles
 low_sum : (a b : ℕ) → low_nibble (bit_xor a b) ≡ bit_xor (low_nibble a) (low_nibble b)
 low_sum a b = xor_mod a b 4
 
@@ -72,7 +72,7 @@ pub untower_sum : (a b : ℕ) → untower (bit_xor a b) ≡ bit_xor (untower a) 
 unfolding untower
 untower_sum = by_nibbles_sum UNTOWER_LOW UNTOWER_HIGH untower_linear.0 untower_linear.1
 
--- and of three
+-- the change of basis takes a sum of three bytes to the sum of what it makes of each
 pub untower_three : SumsOfThree untower
 untower_three = linear_three untower untower_sum
 
@@ -89,7 +89,7 @@ inv_untower_three a b c =
 
 -- ---- sums of five
 
--- the last two of three change places
+-- the last two of three summands can change places
 aside : (a b c : ℕ) → bit_xor (bit_xor a b) c ≡ bit_xor (bit_xor a c) b
 aside a b c = xor_assoc a b c ∙ ap (bit_xor a) (xor_comm b c) ∙ sym (xor_assoc a c b)
 
@@ -101,7 +101,7 @@ added t y = bit_xor (bit_xor (bit_xor (t 0) y) (bit_xor (t 2) (t 3))) (t 1)
 abbrev pub sum_of_four : (ℕ → ℕ) → ℕ
 sum_of_four t = bit_xor (bit_xor (bit_xor (t 0) (t 1)) (t 2)) (t 3)
 
--- and of a key after them
+-- the sum of four, and of a key after them
 abbrev pub in_order : (ℕ → ℕ) → ℕ → ℕ
 in_order t y = bit_xor (sum_of_four t) y
 
@@ -112,7 +112,7 @@ same_in_order t u y h =
     (bit_xor (bit_xor (h 0 (omega arith) i) (h 1 (omega arith) i)) (h 2 (omega arith) i))
     (h 3 (omega arith) i)) y
 
--- the order in which a round adds is no other sum
+-- the order in which a round adds makes no difference
 gathered : (t : ℕ → ℕ) (y : ℕ) → added t y ≡ in_order t y
 gathered t y =
     ap (λ v. bit_xor v (t 1)) (aside (t 0) y (bit_xor (t 2) (t 3)))
@@ -120,7 +120,7 @@ gathered t y =
     ∙ ap (λ v. bit_xor v y) (aside (t 0) (bit_xor (t 2) (t 3)) (t 1)
     ∙ sym (xor_assoc (bit_xor (t 0) (t 1)) (t 2) (t 3)))
 
--- a map of them that takes sums of three to sums
+-- what a map that takes sums of three to sums makes of four products and a key
 sum_of_five : (v : ℕ → ℕ) → SumsOfThree v → (t : ℕ → ℕ) (y : ℕ)
     → v (added t y) ≡ in_order (λ i. v (t i)) (v y)
 sum_of_five v l t y =
@@ -141,7 +141,7 @@ constants_gathered t k y =
 
 -- ---- the rows of a matrix whose next row is the one before, turned by one
 
--- the last of four summands may come first
+-- the last of four summands can come first
 turn : (a b c d : ℕ) → bit_xor (bit_xor (bit_xor a b) c) d ≡ bit_xor (bit_xor (bit_xor d a) b) c
 turn a b c d =
     xor_comm (bit_xor (bit_xor a b) c) d ∙ sym (xor_assoc d (bit_xor a b) c)
@@ -191,8 +191,8 @@ abbrev pub rows_multiplied : (ℕ → ℕ) → (ℕ → Product) → (ℕ → �
 rows_multiplied g p at z =
     state (λ r c. in_order (λ j. field_mul (p (turned_entry r j)).coefficient (g (at c j))) (z r c))
 
--- the first is v of the second, if v of each look-up makes a
--- product, and the constants go to the round key
+-- `rows_added` is v of `rows_multiplied`, if v of each look-up makes a product, and the constants
+-- go to the round key
 pub rows_mixed : (v g : ℕ → ℕ) (p : ℕ → Product) → SumsOfThree v → Makes v g p
     → (at y z : ℕ → ℕ → ℕ) → ((c j : ℕ) → at c j < 256)
     → ((r c : ℕ) → bit_xor (v (y r c)) (sum_of_four (λ i. (p i).constant)) ≡ z r c)
@@ -218,7 +218,7 @@ same_on_blocks F G h x k l m =
     ≡ G (build 16 (λ i. get_or x i 0)) w) (built 16 k 0 m)
     (h (λ i. get_or x i 0) (λ i. get_or k i 0)))
 
--- the same for functions of one block
+-- what is the same of a block that is built of a function is the same of all
 pub same_on_block : (F G : List ℕ → List ℕ) → ((f : ℕ → ℕ) → F (build 16 f) ≡ G (build 16 f))
     → (x : List ℕ)
     → length x ≡ 16 → F x ≡ G x

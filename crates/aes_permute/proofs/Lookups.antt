@@ -45,7 +45,7 @@ pub looked_lanes : (xs js : List ℕ) → length js ≡ 16 → AreIndices js
 looked_lanes xs js l are = looked_from xs xs 0 (λ j h. let e : 16 * 0 + j ≡ j = omega arith in
     ap (λ n. get_or xs n 0) e) js 0 (omega arith) (omega (arith, l)) are
 
--- indices are places that a byte shuffle takes
+-- indices are places that a byte shuffle can read
 pub each_index : (js : List ℕ) → AreIndices js → Each1 (λ j. T (zeroes 16 w8 j || ltb j 16)) js
 unfolding is_index
 each_index [] h = tt
@@ -57,7 +57,7 @@ each_index (j ∷ js) h =
     t_of true e = tt
     t_of false e = absurd (grind (arith, e))
 
--- so are sixteen of them, of one vector
+-- sixteen indices are places that a byte shuffle of one vector can read
 pub indices_ok : (js : List ℕ) → length js ≡ 16 → AreIndices js → SwzOk w8 16 16 0 js
 indices_ok js l are = SwzOk-from_Each1 w8 16 1 16 0 js refl (omega (arith, l)) (each_index js are)
 
@@ -85,7 +85,7 @@ pub maps_same : (f g : ℕ → ℕ) → all_below 256 (λ b. f b == g b) ≡ tru
 maps_same f g t xs h =
     maps_agree f g (λ b l. eqb-true _ _ (all_below_tells 256 (λ b. f b == g b) t b l)) xs h
 
--- by all nibbles
+-- a nibble is a place of a table, by all nibbles
 nibble_indices : all_below 16 is_index ≡ true
 unfolding all_below is_index
 nibble_indices = refl
@@ -100,7 +100,7 @@ nibbles_are_indices (k ∷ ks) h =
 
 -- ---- the two nibbles
 
--- by all bytes, and-ing with 15 leaves the low nibble
+-- the low nibble of a byte is the byte and-ed with 15, by all bytes
 low_masked : all_below 256 (λ b. bit_and b 15 == low_nibble b) ≡ true
 unfolding all_below
 low_masked = refl
@@ -111,11 +111,11 @@ pub low_nibbles_of : (n : ℕ) (x : List ℕ) → length x ≡ n → IsBytes x
 low_nibbles_of n x l h = zip2_splat bit_and x n 15 l
     ∙ maps_same (λ b. bit_and b 15) low_nibble low_masked x h
 
--- those of a block too
+-- the bytes of a block and-ed with 15 are their low nibbles
 pub low_nibbles_are : (x : List ℕ) → IsBlock x → zip2 bit_and x (replicate 16 15) ≡ map low_nibble x
 low_nibbles_are x h = low_nibbles_of 16 x h.0 h.1
 
--- by all bytes, a shift by four leaves the high one
+-- a shift by four leaves the high nibble, by all bytes
 high_shifted : all_below 256 (λ b. b / 16 == high_nibble b) ≡ true
 unfolding all_below
 high_shifted = refl
@@ -126,12 +126,12 @@ pub high_nibbles_of : (n : ℕ) (x : List ℕ) → length x ≡ n → IsBytes x
 high_nibbles_of n x l h = zip2_splat (λ a b. a / 2 ^ b) x n 4 l
     ∙ maps_same (λ b. b / 16) high_nibble high_shifted x h
 
--- those of a block too
+-- the bytes of a block shifted right by 4 bits are their high nibbles
 pub high_nibbles_are : (x : List ℕ) → IsBlock x
     → zip2 (λ a b. a / 2 ^ b) x (replicate 16 4) ≡ map high_nibble x
 high_nibbles_are x h = high_nibbles_of 16 x h.0 h.1
 
--- by all bytes, either of them is below 16
+-- either nibble is below 16, by all bytes
 low_is_nibble : all_below 256 (λ b. nat_lt (low_nibble b) 16) ≡ true
 unfolding all_below
 low_is_nibble = refl
@@ -144,7 +144,7 @@ high_is_nibble = refl
 pub low_is : (x : List ℕ) → IsBlock x → Nibbles (map low_nibble x)
 low_is x h = each_passes (λ k. nat_lt k 16) low_nibble low_is_nibble x h.1
 
--- and so are the high ones
+-- the high nibbles of a block are below 16
 pub high_is : (x : List ℕ) → IsBlock x → Nibbles (map high_nibble x)
 high_is x h = each_passes (λ k. nat_lt k 16) high_nibble high_is_nibble x h.1
 

@@ -10,7 +10,7 @@ unfoldable pub stored_on_literals : ⊤
 unfolding bytes build state shift_rows shift_times untower inv_untower key_untower round_keys_of
 stored_on_literals = tt
 
--- the same, so that the key which literals in room are read as is computed
+-- what a proof unfolds so that the key which literals in room are read as is computed
 unfoldable pub room_on_literals : ⊤
 unfolding stored_on_literals key_of_lanes
 room_on_literals = tt

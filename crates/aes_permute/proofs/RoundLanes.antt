@@ -58,7 +58,7 @@ products = row
     (record { coefficient = 1; look_up = one; constant = 0x63 })
     (record { coefficient = 1; look_up = one; constant = 0x63 })
 
--- the test of these products, by all bytes
+-- `products` are right, by all bytes
 products_made : Makes untower boxed products
 unfolding all_below first_of second_of untower field_mul sbox
 products_made = refl
@@ -73,7 +73,7 @@ shifted x c j = byte_at x j ((c + j) % 4)
 abbrev pub same_row : List ℕ
 same_row = 0 ∷ 5 ∷ 10 ∷ 15 ∷ 4 ∷ 9 ∷ 14 ∷ 3 ∷ 8 ∷ 13 ∷ 2 ∷ 7 ∷ 12 ∷ 1 ∷ 6 ∷ 11 ∷ []
 
--- and those of one, two and three rows further down
+-- the lanes of one, two and three rows further down
 abbrev pub next_row : List ℕ
 next_row = 5 ∷ 10 ∷ 15 ∷ 0 ∷ 9 ∷ 14 ∷ 3 ∷ 4 ∷ 13 ∷ 2 ∷ 7 ∷ 8 ∷ 1 ∷ 6 ∷ 11 ∷ 12 ∷ []
 
@@ -98,11 +98,11 @@ round_of o p k =
     zip2 bit_xor (zip2 bit_xor (zip2 bit_xor (permuted o fourth_row) k) (permuted p same_row))
     (permuted p next_row)
 
--- the round, from what it looks up
+-- the round on lanes, from what it looks up
 abbrev on_lanes : List ℕ → List ℕ → List ℕ
 on_lanes x k = map untower (round_of (map one x) (paired (map one x) (map two x)) k)
 
--- and as the standard has it, of what the lanes stand for
+-- the round as the standard has it, of what the lanes stand for
 abbrev standard : List ℕ → List ℕ → List ℕ
 standard x k = add_round_key (mix_columns (shift_rows (sub_bytes (map untower x))))
     (map key_untower k)
@@ -111,7 +111,7 @@ standard x k = add_round_key (mix_columns (shift_rows (sub_bytes (map untower x)
 abbrev pub pairs_summed : ℕ → ℕ → ℕ → ℕ → ℕ → ℕ → ℕ
 pairs_summed a o t c d y = bit_xor (bit_xor (bit_xor d y) (bit_xor a o)) (bit_xor t c)
 
--- both orders are the same sum
+-- both orders of summands have the same sum
 pairs_parted : (a o t c d y : ℕ)
     → pairs_summed a o t c d y ≡ bit_xor (bit_xor (bit_xor a y) (bit_xor c d)) (bit_xor o t)
 pairs_parted a o t c d y =
@@ -123,7 +123,7 @@ pairs_parted a o t c d y =
     ∙ xor_comm (bit_xor o t) (bit_xor c d))
     ∙ sym (xor_assoc (bit_xor a y) (bit_xor c d) (bit_xor o t))
 
--- the round byte by byte, in the first of these orders
+-- the round byte by byte, in the order of `pairs_summed`
 abbrev rows_by_pairs : List ℕ → List ℕ → List ℕ
 rows_by_pairs x k =
     state (λ r c. untower
@@ -142,7 +142,7 @@ lanes_are x k l m =
     (two (shifted x c ((r + 1) % 4))) (one (shifted x c ((r + 2) % 4)))
     (one (shifted x c ((r + 3) % 4))) (byte_at k r c)))
 
--- and these sums are those of MixColumns and AddRoundKey
+-- the sums of products of a round are those of MixColumns and AddRoundKey
 sums_are : (x k : List ℕ) → length x ≡ 16 → length k ≡ 16
     → rows_multiplied boxed products (shifted x) (λ r c. key_untower (byte_at k r c)) ≡ standard x k
 unfolding state build add_round_key mix_columns row_by_column shift_rows sub_bytes
@@ -173,12 +173,12 @@ zip_sum_bytes b k h m = subst IsBytes (sym (blocks_summed b k h.0 m.0)) (add_blo
 abbrev tower : ℕ → ℕ
 tower b = by_nibbles TOWER_LOW TOWER_HIGH b
 
--- by all bytes, the change of basis undoes it
+-- the change of basis undoes the way into it, by all bytes
 tower_cases : all_below 256 (λ b. untower (tower b) == b) ≡ true
 unfolding all_below untower
 tower_cases = refl
 
--- of each byte of a list
+-- the change of basis undoes the way into it, for each byte of a list
 pub untowered : (x : List ℕ) → IsBytes x → map untower (map (by_nibbles TOWER_LOW TOWER_HIGH) x) ≡ x
 untowered x h = map-map untower tower x
     ∙ maps_same (λ b. untower (tower b)) (λ b. b) tower_cases x h ∙ map-id x
@@ -195,7 +195,7 @@ first_is b k h m =
 abbrev pub plain : ℕ → ℕ
 plain b = through SBOX_FIRST SBOX_SECOND b
 
--- by all bytes
+-- `plain` is the S-box without its constant, by all bytes
 plain_cases : all_below 256 (λ b. plain b == plus63 (boxed b)) ≡ true
 unfolding all_below first_of second_of untower sbox
 plain_cases = refl
@@ -212,7 +212,7 @@ but_constant f cases x h = maps_same f (λ b. plus63 (boxed b)) cases x h
 abbrev pub last_of : List ℕ → List ℕ → List ℕ
 last_of p k = zip2 bit_xor (permuted p same_row) k
 
--- is ShiftRows and AddRoundKey
+-- the sum of the last round is ShiftRows and AddRoundKey
 last_shifted : (y k : List ℕ) → length y ≡ 16 → length k ≡ 16
     → last_of y k ≡ add_round_key (shift_rows y) k
 unfolding state build add_round_key shift_rows
@@ -246,7 +246,7 @@ last_is x k h m e =
 
 -- ---- SubBytes in the tower basis
 
--- by all bytes
+-- what is looked up for 1 stands for the S-box without its constant, by all bytes
 sub_cases : all_below 256 (λ b. untower (one b) == plus63 (boxed b)) ≡ true
 unfolding all_below first_of second_of untower sbox
 sub_cases = refl

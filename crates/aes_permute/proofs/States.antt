@@ -10,13 +10,13 @@ use Rattle.aes_planes.proofs.Standard.AllRounds.{rounds_more}
 use Rattle.aes_permute.specs.Stored.{key_of, round_keys_of, LaneForm}
 
 module _ (form : LaneForm) (stored : List (List ℕ)) where
-  -- as many round keys are stored as they stand for
+  -- stored round keys are as many as those that they stand for
   pub keys_length : length (round_keys_of form stored) ≡ length stored
   unfolding round_keys_of
   keys_length = length-build (length stored)
       (λ i. key_of form (fips.last_round stored) i (fips.round_key stored i))
 
-  -- and the last of both has the same number
+  -- the last stored round key has the number of the last one that they stand for
   pub last_is_last : fips.last_round (round_keys_of form stored) ≡ fips.last_round stored
   last_is_last = ap (λ v. v - 1) keys_length
 
@@ -33,7 +33,8 @@ module _ (form : LaneForm) (stored : List (List ℕ)) where
       ≡ map form.first_byte (fips.round_key stored 0)
   first_key some = key_at 0 (omega arith)
 
-  -- one between the first and the last stands for what `inner_byte` makes of it, in its place
+  -- a round key between the first and the last stands for what `inner_byte` makes of it, in its
+  -- place
   pub inner_key : (i : ℕ) → 1 ≤ i → i < fips.last_round stored
       → fips.round_key (round_keys_of form stored) i
       ≡ form.placed i (map form.inner_byte (fips.round_key stored i))
@@ -44,7 +45,7 @@ module _ (form : LaneForm) (stored : List (List ℕ)) where
       if ne_eqb i (fips.last_round stored) (omega arith) j then map form.last_byte key
       else form.placed i (map form.inner_byte key))
 
-  -- and the last for what `last_byte` makes of it
+  -- the last stored round key stands for what `last_byte` makes of it
   pub last_key : (i : ℕ) → 2 ≤ length stored → i ≡ fips.last_round stored
       → fips.round_key (round_keys_of form stored) i ≡ map form.last_byte (fips.round_key stored i)
   last_key i two e =
@@ -84,7 +85,7 @@ module _ (form : LaneForm) (stored : List (List ℕ)) where
       ((ap (λ k. form.placed i (map form.inner_byte k)) k ∙ sym (inner_key i some before)) j))
       ∙ rounds_more step (round_keys_of form stored) b i some)
 
-  -- the last step and the last round key lead from the state before it to the end of all rounds
+  -- the last step and the last round key lead from the state before them to the end of all rounds
   pub last_state : (step last_step : List ℕ → List ℕ) (state : ℕ → ℕ) (b x y : List ℕ)
       {key : List ℕ} (i : ℕ)
       → 2 ≤ length stored → i ≡ fips.last_round stored

@@ -12,7 +12,7 @@ finished_is : {X : Type 0} (f : X → X) (i : ℕ) (xs : List X) (y d : X) → i
 finished_is f i xs y d fits e = ap (λ v. finished f (i + 1) (set xs i v)) e
     ∙ finished_one f i xs d fits
 
--- written blocks change no length
+-- writing blocks doesn't change a slice's length
 pub written_length : (b : ℕ → List ℕ) (n i : ℕ) (xs : List (List ℕ))
     → length (written b n i xs) ≡ length xs
 unfolding written
@@ -20,7 +20,7 @@ written_length b zero i xs = refl
 written_length b (suc n) i xs = length-set (written b n i xs) (i + n) (b n)
     ∙ written_length b n i xs
 
--- and nothing after them
+-- writing blocks changes nothing after them
 written_after : (b : ℕ → List ℕ) (n i k : ℕ) (xs : List (List ℕ)) → i + n ≤ k
     → get_or (written b n i xs) k [] ≡ get_or xs k []
 unfolding written
@@ -47,7 +47,7 @@ finished_written f b (suc n) i xs fits is =
     (is n (omega arith) ∙ ap f (sym (written_after b n i (i + n) xs (omega arith))))
     ∙ finished_written f b n i xs (omega (arith, fits)) (λ k below. is k (omega (arith, below)))
 
--- and of twice as many, those of two vectors
+-- f of 2 n blocks from place i on, those of two vectors, written in their places
 pub finished_two : (f : List ℕ → List ℕ) (b c : ℕ → List ℕ) (n i : ℕ) (xs : List (List ℕ))
     → i + 2 * n ≤ length xs
     → ((k : ℕ) → k < n → b k ≡ f (get_or xs (i + k) []))

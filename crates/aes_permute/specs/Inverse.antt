@@ -16,7 +16,7 @@ both_nibbles b = bit_xor (high_nibble b) (low_nibble b)
 unfoldable pub first_of : ℕ → ℕ
 first_of b = bit_xor (inverse_over high_nibble b) (both_nibbles b)
 
--- and in the second
+-- the place of a byte in the second table
 unfoldable pub second_of : ℕ → ℕ
 second_of b = bit_xor (inverse_over both_nibbles b) (high_nibble b)
 

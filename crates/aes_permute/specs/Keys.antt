@@ -32,7 +32,8 @@ encrypting stored = round_keys_of cipher_form stored
 abbrev pub decrypting : List (List ℕ) → List (List ℕ)
 decrypting stored = round_keys_of inverse_form stored
 
--- of blocks, the stored round keys of a key of `size` bytes: there are seven more than words of the key
+-- the stored round keys of a key of `size` bytes, from the blocks of room: there are seven more
+-- than words of the key
 abbrev pub stored_keys : ℕ → List (List ℕ) → List (List ℕ)
 stored_keys size blocks = take (size / 4 + 7) blocks
 

@@ -28,7 +28,8 @@ pub record LaneForm : Type 0 where
   pub first_byte : ℕ → ℕ
   pub inner_byte : ℕ → ℕ
   pub last_byte : ℕ → ℕ
-  -- where the bytes of a state after so many rounds belong, and of the round key that is added then
+  -- where the bytes of a state after a number of rounds belong, and those of the round key that is
+  -- added then
   pub placed : ℕ → List ℕ → List ℕ
   -- the round keys that the rounds use, in their order, of the standard's list
   pub used_keys : List (List ℕ) → List (List ℕ)
@@ -44,7 +45,8 @@ unfolding fips.build
 round_keys_of form stored =
     fips.build (length stored) (λ i. key_of form (fips.last_round stored) i (fips.round_key stored i))
 
--- of stored round keys of Cipher that are written one by one, from 0 to a last one, the one of a number stands for a block
+-- stored round key i of Cipher, of those written one by one from 0 to a last one, stands for a
+-- block
 pub record IsWritten (stored : List (List ℕ)) (last i : ℕ) (x : List ℕ) : Type 0 where
   pub first : i ≡ 0 → fips.round_key stored i ≡ x
   pub between : 1 ≤ i → i < last → fips.shift_times (i % 4) (map key_untower (fips.round_key stored i)) ≡ x

@@ -1,7 +1,7 @@
 -- Blocks in vectors, and written to a slice.
 use Rattle.std.specs.Prelude.{ℕ, zero, suc, ◌+◌, ◌==◌, cond, List, take, drop, set}
 
--- of a vector of 32 bytes, the first block at place 0, and the second one from place 1 on
+-- the blocks of a vector of 32 bytes: the first at place 0, and the second from place 1 on
 unfoldable pub half : List ℕ → ℕ → List ℕ
 half x i = cond (i == 0) (take 16 x) (drop 16 x)
 

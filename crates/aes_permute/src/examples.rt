@@ -29,7 +29,7 @@ const ENCRYPTING: [u128; 11] = [
     0x70727e1c80f729749064c4e82e4853a6,
 ];
 
-// And those of EqInvCipher.
+// The stored round keys of EqInvCipher for the key of FIPS 197, C.1.
 const DECRYPTING: [u128; 11] = [
     0x70727e1c80f729749064c4e82e4853a6,
     0xe29d25e1955bf318adce71fd2cad5445,

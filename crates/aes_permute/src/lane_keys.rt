@@ -75,7 +75,8 @@ fn stored_key(words: u8x16, i: usize, last: usize) -> u8x16
         return out_of_tower(words);
     }
     if i == last {
-        // As those between with the constant of the S-box, but not in the tower basis.
+        // The last round key has the constant of the S-box as those between do, but isn't in the
+        // tower basis.
         return plain_key(words);
     }
     encrypting_key(words, i)

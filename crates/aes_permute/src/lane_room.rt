@@ -11,7 +11,7 @@ use aes_planes::soft::word::Block;
 /// Room for the round keys of a key of any size: as many blocks as the largest has.
 pub type LaneRoom = [Block; 15];
 
-/// Returns whether keys have so many bytes: 16, 24 or 32.
+/// Returns whether keys have this many bytes: 16, 24 or 32.
 pub fn is_key_size(bytes: usize) -> bool
     ensures { IsTrue result ↔ IsKeySize bytes }
 {

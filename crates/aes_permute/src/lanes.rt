@@ -24,10 +24,10 @@ pub trait Lanes: Copy {
     /// How many blocks there are.
     const BLOCKS: usize;
 
-    /// There is one at least.
+    /// A vector has at least one block.
     ghost at_least_one: { 1 ≤ BLOCKS };
 
-    /// There are two at most.
+    /// A vector has at most two blocks.
     ghost at_most_two: { BLOCKS ≤ 2 };
 
     /// No effect; states that each block is one of the standard (FIPS 197, 3.4).

@@ -4,7 +4,7 @@ use Rattle.std.proofs.Common.{ap, ◌∙◌, arith}
 use Rattle.aes_planes.specs.Fips197.{build, build_from}
 pub use Rattle.aes_planes.specs.Private.BuiltLength.{length-build}
 
--- by recursion, from any start
+-- an element of a list that is built from any start, by recursion
 get_or-build_from : {A : Type 0} (a n i : ℕ) (f : ℕ → A) (d : A) → i < n
     → get_or (build_from a n f) i d ≡ f (a + i)
 unfolding build_from

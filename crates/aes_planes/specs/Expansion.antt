@@ -1,4 +1,4 @@
--- What the key expansion takes.
+-- How many substitutions the key expansion makes.
 use Rattle.std.specs.Prelude.{ℕ, ◌==◌, cond}
 
 -- how often the expansion of a key of that many bytes, 16, 24 or 32, substitutes a word (5.2)

@@ -21,13 +21,13 @@ pub trait FourWords {
     /// What round keys are stored in.
     type StoredIn;
 
-    /// These are the four words of a block.
+    /// The words are the four words of a block.
     ghost AreWords: { Self.Words → List ℕ → Type 0 };
 
-    /// Of round keys from 0 to a last one, the one of a number is stored for a block.
+    /// A round key, by its number and that of the last one, is stored for a block.
     ghost IsStored: { List Self.StoredIn → ℕ → ℕ → List ℕ → Type 0 };
 
-    /// How many of these the round keys from 0 to a last one take.
+    /// How many of these the round keys from 0 to a last one fill.
     ghost length_for: { ℕ → ℕ };
 
     /// How many S-box layers a substitution runs.
@@ -38,7 +38,7 @@ pub trait FourWords {
         requires within { from + 16 ≤ length key.now }
         ensures { AreWords result (take 16 (drop from key.now)) };
 
-    /// Four words of which the first is due the rotation, the substitution and a round constant:
+    /// Four words, the first of which needs the rotation, the substitution and a round constant:
     /// `before` has the four that are one key earlier, `last` the four just before them.
     fn rotated(
         before: Self::Words,
@@ -51,13 +51,13 @@ pub trait FourWords {
             (fips.add_round_key (fips.sub_bytes y) (constant_block constant))) }
         ensures layers { layers.new ≡ layers.old + LAYERS };
 
-    /// Four words of which the first is due the substitution alone.
+    /// Four words, the first of which needs the substitution alone.
     fn substituted(before: Self::Words, last: Self::Words, layers: &mut Layers) -> Self::Words
         ensures words { (x y : List ℕ) → AreWords before x → AreWords last y
             → AreWords result (columns_summed 0 3 x (fips.sub_bytes y)) }
         ensures layers { layers.new ≡ layers.old + LAYERS };
 
-    /// Four words of which the first is due neither: column 1 of
+    /// Four words, the first of which needs neither: column 1 of
     /// `last` has the word just before them.
     fn plain(before: Self::Words, last: Self::Words) -> Self::Words
         ensures { (x y : List ℕ) → AreWords before x → AreWords last y

@@ -3,7 +3,7 @@ use Rattle.std.proofs.Common.{◌≡◌, ℕ, zero, suc, ◌+◌, ◌<◌, List,
 use Rattle.std.proofs.Common.{drop, get_or, set, refl, ap, ◌∙◌, arith}
 use Rattle.aes_planes.specs.Planes.{zip_with}
 
--- what a loop leaves in the end that has come to place i: the
+-- what a loop that has come to place i leaves in the end: the
 -- elements before it, and f of both from it on
 abbrev pub zipped_from : {X : Type 0} → (X → X → X) → ℕ → List X → List X → List X
 zipped_from f i xs ys = take i xs ++ zip_with f (drop i xs) (drop i ys)
@@ -16,7 +16,7 @@ zip_with-map f step [] ys = refl
 zip_with-map f step (x ∷ xs) [] = refl
 zip_with-map f step (x ∷ xs) (y ∷ ys) = ap (λ zs. f (step x) y ∷ zs) (zip_with-map f step xs ys)
 
--- a step of such a loop
+-- a step of a loop that leaves f of both lists' elements, place by place
 zipped_next : {X : Type 0} (f : X → X → X) (i : ℕ) (xs ys : List X) (d : X) → i < length xs
     → i < length ys
     → zipped_from f (suc i) (set xs i (f (get_or xs i d) (get_or ys i d))) ys

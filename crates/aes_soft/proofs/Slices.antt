@@ -6,15 +6,15 @@ use Rattle.std.proofs.lemmas.List.{length-map}
 use borrow.Rule.Slice.PartMut.{put_mid, same_len_mid}
 use Rattle.aes_cipher.proofs.SliceRuns.{finished, finished_run}
 
--- where whole batches of s are left, and not none, one of them fits
+-- one batch of s fits, if whole batches are left, and not none
 pub one_fits : (m s : ℕ) → 0 < m → m % s ≡ 0 → s ≤ m
 one_fits m s some e = grind (arith, some, e)
 
--- where m blocks are left, one batch of s more: what is left are whole batches still
+-- what is left after one batch of s more is whole batches still
 pub whole_left : (m s : ℕ) → s ≤ m → m % s ≡ 0 → (m - s) % s ≡ 0
 whole_left m s le e = sym (mod-eq-sub-mod le) ∙ e
 
--- in r rounds each
+-- the rounds that are left, of r a batch, after one batch of s more
 pub one_batch_less : (r m s : ℕ) → 0 < s → s ≤ m → r * (m / s) ≡ r + r * ((m - s) / s)
 one_batch_less r m s some le =
     let same : m - s + s ≡ m = omega arith in
@@ -58,7 +58,7 @@ front_finished f n xs ys le is =
     subst (λ k. finished f k (ys ++ drop n xs) ≡ map f xs) e
     (finished_run f 0 n n xs ys refl (omega arith) is)
 
--- and of none
+-- f of no elements: all are left to finish
 pub none_finished : {X : Type 0} (f : X → X) (n : ℕ) (xs : List X) → n ≡ 0
     → finished f n xs ≡ map f xs
 none_finished f n xs e = ap (λ k. finished f k xs) e

@@ -119,7 +119,8 @@ module _ {A : Type 0} (bits : A → List Bool) (w R Q : ℕ) (xs : List ℕ) whe
         in_every_slot (8 * i)
         ∙ ap (replicate n) (ap (λ v. get_or v 0 []) (sym (in_one_slot (8 * i)) ∙ holds i lt))
 
-    -- and if those are the schedule of that key, so are the wider words
+    -- words with one block in every slot are the schedule of the key that they are read as, if the
+    -- words of that one block are
     pub widened_keyed : (size : ℕ) (layout : ℕ → ℕ) → IsKeyed size 1 layout narrow
         → IsKeyed size n layout widened
     widened_keyed size layout keyed = rw (same_key size layout) (same_blocks _ _ keyed)

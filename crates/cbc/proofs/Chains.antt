@@ -19,7 +19,7 @@ left : (xs : List (List ℕ)) (i : ℕ) → i < length xs → drop i xs ≡ get_
 left xs i lt = let n : suc i ≡ i + 1 = omega arith in drop-cons xs i [] lt
     ∙ ap (λ n. get_or xs i [] ∷ drop n xs) n
 
--- nothing is left
+-- a loop that has come to the end leaves nothing to chain
 pub chain_finished : (rest : List (List ℕ) → List (List ℕ)) → rest [] ≡ []
     → (xs ys : List (List ℕ)) (i : ℕ)
     → i ≡ length xs → i ≡ length ys → take i xs ++ rest (drop i ys) ≡ xs
@@ -27,21 +27,21 @@ chain_finished rest none xs ys i e f =
     ap (λ k. take k xs ++ rest (drop i ys)) e ∙ ap (λ k. take (length xs) xs ++ rest (drop k ys)) f
     ∙ (λ j. take-length xs j ++ rest (drop-length ys j)) ∙ ap (λ zs. xs ++ zs) none ∙ append-nil xs
 
--- and the last block is the one before
+-- the last block of nothing that is left is the block before it
 pub chain_passed : (before : List ℕ) (xs : List (List ℕ)) (i : ℕ) → i ≡ length xs
     → before ≡ last_of before (drop i xs)
 unfolding last_of
 chain_passed before xs i e =
     sym (ap (λ k. last_of before (drop k xs)) e ∙ ap (last_of before) (drop-length xs))
 
--- a chain goes on after a cut with the last encrypted block before it
+-- the last block of two parts is that of the second, or of the first if the second is empty
 pub last_of_cut : (before : List ℕ) (a b : List (List ℕ))
     → last_of before (a ++ b) ≡ last_of (last_of before a) b
 unfolding last_of
 last_of_cut before [] b = refl
 last_of_cut before (c ∷ cs) b = last_of_cut c cs b
 
--- a chain that is encrypted
+-- encryption goes on after a cut with the last encrypted block before it
 pub chained_cut : (w : List (List ℕ)) (before : List ℕ) (a b : List (List ℕ))
     → chained w before (a ++ b) ≡ chained w before a
     ++ chained w (last_of before (chained w before a)) b
@@ -50,7 +50,7 @@ chained_cut w before [] b = refl
 chained_cut w before (x ∷ xs) b =
     let c = cipher_with w (add_round_key x before) in ap (λ ys. c ∷ ys) (chained_cut w c xs b)
 
--- and one that is decrypted
+-- decryption goes on after a cut with the last encrypted block before it
 pub unchained_cut : (w : List (List ℕ)) (before : List ℕ) (a b : List (List ℕ))
     → unchained w before (a ++ b) ≡ unchained w before a ++ unchained w (last_of before a) b
 unfolding unchained last_of
@@ -101,13 +101,13 @@ module _ (w : List (List ℕ)) (before : List ℕ) (xs : List (List ℕ)) (i : �
 
 -- what a loop has yet to replace: the blocks of ys from place i on
 module _ (xs ys : List (List ℕ)) (i : ℕ) (ahead : drop i xs ≡ drop i ys) where
-  -- it stays so once place i is written
+  -- what is left to replace is that of ys still, once place i is written
   pub still_ahead : (v : List ℕ) → drop (i + 1) (set xs i v) ≡ drop (i + 1) ys
   still_ahead v =
       drop-set-lt (i + 1) xs i v (omega arith) ∙ sym (drop-drop 1 i xs) ∙ ap (drop 1) ahead
       ∙ drop-drop 1 i ys
 
-  -- and the block at place i is that of ys
+  -- the block at place i is that of ys
   pub same_ahead : get_or xs i [] ≡ get_or ys i []
   same_ahead =
       let here : i + 0 ≡ i = omega arith in
@@ -148,7 +148,7 @@ module _ (i n k : ℕ) (xs ys : List (List ℕ)) (same : k ≡ n) (fits : i + n 
       ∙ sym (unchained_cut w before (take k (drop i xs)) (drop k (drop i xs)))
       ∙ ap (unchained w before) (take-append-drop k (drop i xs)))
 
-  -- and the last of what is left is the same
+  -- with the part replaced, the last of what is left is the same
   pub last_part : (before : List ℕ)
       → last_of (last_of before (take k (drop i xs))) (drop (i + n) (put_mid i k xs ys))
       ≡ last_of before (drop i xs)

@@ -8,7 +8,8 @@ unfoldable pub chained : List (List ℕ) → List ℕ → List (List ℕ) → Li
 chained w previous [] = []
 chained w previous (b ∷ bs) = let c = fips.cipher_with w (fips.add_round_key b previous) in c ∷ chained w c bs
 
--- decryption: each block is decrypted, and summed with the same
+-- decryption: each block is decrypted, and summed with the encrypted block before it, the first
+-- with the initialization vector
 unfoldable pub unchained : List (List ℕ) → List ℕ → List (List ℕ) → List (List ℕ)
 unchained w previous [] = []
 unchained w previous (c ∷ cs) = fips.add_round_key (fips.inv_cipher_with w c) previous ∷ unchained w c cs

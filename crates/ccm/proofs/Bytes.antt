@@ -1,4 +1,4 @@
--- Numbers in so many bytes, the highest first.
+-- Numbers in a number of bytes, the highest first.
 use Rattle.std.proofs.Common.{◌≡◌, ℕ, zero, suc, ◌+◌, ◌*◌, ◌/◌, ◌%◌, ◌^◌, ◌<◌, List}
 use Rattle.std.proofs.Common.{◌∷◌, ◌++◌, length, take, drop, replicate, refl, ap, sym, ◌∙◌, ◌↔◌, arith}
 use Rattle.std.proofs.Math.Nat.{div-div-eq-div-mul, mul-add-div_right, mul_assoc, mul_comm}
@@ -11,7 +11,7 @@ use Rattle.aes_planes.specs.BigEndian.{bytes}
 use Rattle.aes_planes.specs.Fips197.{IsBlock}
 use Rattle.aes_cipher.proofs.BlockNumbers.{block_back}
 
--- powers of 256
+-- powers of 256 are powers of 2
 pub eight_bits : (q : ℕ) → 2 ^ (8 * q) ≡ 256 ^ q
 eight_bits zero = refl
 eight_bits (suc q) =
@@ -22,19 +22,19 @@ eight_bits (suc q) =
 some : (q : ℕ) → 0 < 256 ^ q
 some q = omega (arith, pow_pos (8 * q), eight_bits q)
 
--- so many bytes
+-- a number in q bytes has q bytes
 pub length-bytes : (q x : ℕ) → length (bytes q x) ≡ q
 unfolding bytes
 length-bytes zero x = refl
 length-bytes (suc q) x = ap suc (length-bytes q x)
 
--- of 0
+-- 0 in q bytes is q zeros
 pub zeros : (q : ℕ) → bytes q 0 ≡ replicate q 0
 unfolding bytes
 zeros zero = refl
 zeros (suc q) = (λ t. ap (λ n. n % 256) (zero-div (256 ^ q)) t ∷ zeros q t)
 
--- the last ones
+-- the last q bytes of a number
 pub last_bytes : (k q x : ℕ) → drop k (bytes (k + q) x) ≡ bytes q x
 unfolding bytes
 last_bytes zero q x = let none : 0 + q ≡ q = omega arith in ap (λ n. bytes n x) none
@@ -42,7 +42,7 @@ last_bytes (suc k) q x =
     let more : suc k + q ≡ suc (k + q) = omega arith in
     ap (λ n. drop (suc k) (bytes n x)) more ∙ last_bytes k q x
 
--- a multiple of 256 ^ q changes none of the q lowest
+-- a multiple of 256 ^ q changes none of the q last bytes
 low_bytes : (q a j : ℕ) → bytes q (a * 256 ^ q + j) ≡ bytes q j
 unfolding bytes
 low_bytes zero a j = refl
@@ -56,7 +56,7 @@ low_bytes (suc q) a j =
     ap (λ n. n / p % 256) whole ∙ ap (λ n. n % 256) quotient ∙ omega arith in
     (λ t. first t ∷ (ap (bytes q) whole ∙ low_bytes q (a * 256) j) t)
 
--- two numbers, one behind the other
+-- the bytes of two numbers, one behind the other
 pub joined_bytes : (m q a j : ℕ) → j < 256 ^ q
     → bytes (m + q) (a * 256 ^ q + j) ≡ bytes m a ++ bytes q j
 unfolding bytes
@@ -106,7 +106,7 @@ last_of_64 k q x written all is =
     ∙ ap (take q) (last_bytes k q x)
     ∙ take_all q (bytes q x) (omega (arith, length-bytes q x))
 
--- of a number modulo 2 ^ 128
+-- the bytes of a number modulo 2 ^ 128
 of_128 : (x : ℕ) → to_be_bytes w128 x ≡ bytes 16 x
 unfolding bytes
 of_128 x = simp div-one

@@ -19,7 +19,7 @@ same_block nonce block j is_block is shortest longest small =
     counted ((q - 1) ∷ nonce) block q j is_block is (omega (arith, shortest, longest))
     (omega (arith, small, eight_bits q))
 
--- so a text goes through it
+-- a text is encrypted by a counter that is a whole block
 pub text_by_blocks : (w : List (List ℕ)) (nonce block p : List ℕ) → IsBlock block
     → block ≡ counter_block nonce 0 → 7 ≤ length nonce → length nonce ≤ 13
     → Fits (length nonce) (length p)
@@ -31,7 +31,7 @@ text_by_blocks w nonce block p is_block is shortest longest fits =
     (same_block nonce block ((16 + i) / 16) is_block is shortest longest
     (omega (arith, inside, fits))))
 
--- twice, it changes nothing
+-- a text is the encryption of its encryption
 pub text_twice : (w : List (List ℕ)) (nonce x : List ℕ) → text w nonce (text w nonce x) ≡ x
 unfolding text
 text_twice w nonce x = summed_twice (stream_byte w (counter_block nonce)) 16 x

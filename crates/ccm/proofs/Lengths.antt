@@ -52,14 +52,14 @@ in_ten a large =
     ∙ ap (λ b. if b then 0xff ∷ 0xfe ∷ bytes 4 a else 0xff ∷ 0xff ∷ bytes 8 a)
     (le-ltb a (2 ^ 32) large)
 
--- ---- the chain through them
+-- ---- the chain through the length and the data
 
--- of nothing
+-- a chain through nothing stays where it is
 through_nothing : (w : List (List ℕ)) (y s : List ℕ) → length s ≡ 0 → chained_through w y s ≡ y
 unfolding chained
 through_nothing w y s none = through_whole w y s 0 none
 
--- without data there is no length
+-- a chain through additional data of no bytes stays where it is, since no length is written
 pub no_data : (w : List (List ℕ)) (y a : List ℕ) → length a ≡ 0
     → y ≡ chained_through w y (encoded_length (length a) ++ a)
 unfolding encoded_length
@@ -68,7 +68,8 @@ no_data w y a none =
     (length-append (encoded_length (length a)) a
     ∙ ap (λ n. length (encoded_length n) + n) none))
 
--- a block, and then the rest, of which there is none if the block is not filled
+-- a chain through a block, and then through the rest, of which there is none if the block is not
+-- filled
 through_rest : (w : List (List ℕ)) (y x r : List ℕ) → (length x ≡ 16) ⊎ (length r ≡ 0)
     → chained_through w (chained_through w y x) r ≡ chained_through w y (x ++ r)
 through_rest w y x r (inl filled) = through_on w y x r 1 filled

@@ -27,7 +27,7 @@ const IN_TEN_BYTES: u64 = 1 << 32;
 // What is added to the flags of the first block if there are additional data (A.2.1).
 const WITH_ADDITIONAL: u8 = 64;
 
-// Whether a text of so many bytes has a length of 15 - n bytes, where the nonce has n.
+// Whether a text of this many bytes has a length of 15 - n bytes, where the nonce has n.
 #[tactic(auto, using(crate::proofs::Bytes::quotient_zero))]
 fn fits(nonce: usize, text: usize) -> bool
     requires shortest { 7 ≤ nonce }

@@ -19,7 +19,7 @@ first_block a b i inside =
     ap (take n) (drop-append-le (16 * i) a b (omega (arith, inside)))
     ∙ take-append-le n (drop (16 * i) a) b (omega (arith, inside, length-drop (16 * i) a))
 
--- a block of the second
+-- a block of the second of two strings
 second_block : (a b : List ℕ) (k i : ℕ) → length a ≡ 16 * k
     → block_at (a ++ b) (k + i) ≡ block_at b i
 unfolding block_at
@@ -30,7 +30,7 @@ second_block a b k i long =
     ∙ ap (λ m. take (16 * i + 16 - 16 * i) (drop m (a ++ b))) from
     ∙ ap (take (16 * i + 16 - 16 * i)) (drop-append-add a b (16 * i))
 
--- the blocks of the first
+-- the chain through the blocks of the first of two strings
 pub chained_first : (w : List (List ℕ)) (y a b : List ℕ) (i : ℕ) → 16 * i ≤ length a
     → chained w y (a ++ b) i ≡ chained w y a i
 unfolding chained
@@ -39,7 +39,8 @@ chained_first w y a b (suc i) inside =
     (λ t. cipher_with w (add_round_key (chained_first w y a b i (omega (arith, inside)) t)
     (first_block a b i (omega (arith, inside)) t)))
 
--- and then those of the second
+-- the chain through two strings, the first of whole blocks: after its blocks come those of the
+-- second
 pub chained_on : (w : List (List ℕ)) (y a b : List ℕ) (k i : ℕ) → length a ≡ 16 * k
     → chained w y (a ++ b) (k + i) ≡ chained w (chained w y a k) b i
 unfolding chained
@@ -54,18 +55,18 @@ chained_on w y a b k (suc i) long =
 
 -- ---- strings with zeros behind them
 
--- they are whole blocks
+-- a padded string is whole blocks
 pub length-padded : (s : List ℕ) → length (padded s) ≡ 16 * ((length s + 15) / 16)
 unfolding padded
 length-padded s =
     length-append s (replicate ((16 - length s % 16) % 16) 0)
     ∙ ap (λ n. length s + n) (length-replicate ((16 - length s % 16) % 16) 0) ∙ omega arith
 
--- how many
+-- how many blocks a padded string has
 pub padded_blocks : (s : List ℕ) → length (padded s) / 16 ≡ (length s + 15) / 16
 padded_blocks s = omega (arith, length-padded s)
 
--- the last block, with zeros behind what is left of the string
+-- the last block of a padded string: what is left of the string, and zeros behind it
 last_padded : (i : ℕ) (s rest : List ℕ) → length s ≤ 16 * i + 16 → 16 * i < length s
     → rest ≡ drop (16 * i) s
     → rest ++ replicate (16 - length rest) 0 ≡ block_at (padded s) i
@@ -92,7 +93,7 @@ last_padded i s rest at some is =
 
 -- ---- a chain through all of a string
 
--- of whole blocks
+-- a chain through all of a string of whole blocks
 pub through_whole : (w : List (List ℕ)) (y s : List ℕ) (n : ℕ) → length s ≡ 16 * n
     → chained_through w y s ≡ chained w y s n
 unfolding chained_through padded
@@ -101,7 +102,7 @@ through_whole w y s n long =
     ap (chained w y (padded s)) count
     ∙ chained_first w y s (replicate ((16 - length s % 16) % 16) 0) n (omega (arith, long))
 
--- of the first blocks of a string
+-- a chain through the first blocks of a string
 pub through_first : (w : List (List ℕ)) (y s : List ℕ) (n : ℕ) → 16 * n ≤ length s
     → chained_through w y (take (16 * n) s) ≡ chained w y s n
 through_first w y s n inside =
@@ -111,7 +112,7 @@ through_first w y s n inside =
     ∙ sym (chained_first w y t (drop (16 * n) s) n (omega (arith, long)))
     ∙ ap (λ l. chained w y l n) (take-append-drop (16 * n) s)
 
--- of two strings, the first of whole blocks
+-- a chain through two strings, the first of whole blocks
 pub through_on : (w : List (List ℕ)) (y a b : List ℕ) (k : ℕ) → length a ≡ 16 * k
     → chained_through w (chained_through w y a) b ≡ chained_through w y (a ++ b)
 unfolding chained_through padded

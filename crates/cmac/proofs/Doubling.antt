@@ -10,7 +10,7 @@ by_bit zero y small = xor_zero_r y
 by_bit (suc zero) y small = refl
 by_bit (suc (suc q)) y small = omega (arith, small)
 
--- plus 0x87 times the first bit
+-- doubling is a shift plus 0x87 times the first bit
 pub doubled_by_product : (x : ℕ) → x < 2 ^ 128
     → bit_xor (x * 2 % 2 ^ 128) (0x87 * (x / 2 ^ 127)) ≡ doubled x
 unfolding doubled first_bit shifted

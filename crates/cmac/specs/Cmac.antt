@@ -23,7 +23,7 @@ unfoldable pub doubled : ℕ → ℕ
 unfolding first_bit shifted
 doubled x = if first_bit x == 0 then shifted x else bit_xor (shifted x) 0x87
 
--- the same on bytes
+-- `doubled` of a block, as bytes
 unfoldable pub doubled_block : List ℕ → List ℕ
 unfolding doubled
 doubled_block block = to_be_bytes w128 (doubled (from_be_bytes w128 block))
@@ -40,8 +40,8 @@ subkey_2 w = doubled_block (subkey_1 w)
 
 -- ---- the tag (6.2)
 
--- n - 1, of a message of so many bytes: how many blocks come before the last one, M_n*, which has 1 to 16 bytes, or none
--- if the message has none (steps 2 and 3); 0 - 1 is 0
+-- n - 1, of a message of this many bytes: how many blocks come before the last one, M_n*, which has
+-- 1 to 16 bytes, or none if the message has none (steps 2 and 3); 0 - 1 is 0
 unfoldable pub before_last : ℕ → ℕ
 before_last bytes = (bytes - 1) / 16
 

@@ -31,7 +31,7 @@ unfolding v_after next_v counter counter_block
 v_after_more v zero = refl
 v_after_more v (suc i) = ap next_v (v_after_more v i) ∙ next_block v (suc i)
 
--- and after none too, if V is a block
+-- V after any number of turns is a counter block, if V is a block
 pub v_after_any : (v block : List ℕ) (n number : ℕ)
     → block ≡ to_be_bytes w128 ((number + n) % 2 ^ 128)
     → number ≡ from_be_bytes w128 v → to_be_bytes w128 number ≡ v → number < 2 ^ 128
@@ -52,7 +52,7 @@ length-temp key v (suc n) =
     ∙ ap (λ m. 16 * n + m) (cipher_length (key_expansion key) (v_after v (suc n)))
     ∙ omega arith
 
--- its bytes are those of the keystream from the second block on
+-- byte i of temp is that of the keystream from the second block on
 byte_of_temp : (key v : List ℕ) (n i : ℕ) → i < 16 * n
     → get_or (temp_after key v n) i 0 ≡ keystream_byte (key_expansion key) v (16 + i)
 unfolding temp_after keystream_byte
@@ -72,13 +72,13 @@ byte_of_temp key v (suc n) i h =
           ∙ ap (λ m. get_or (cipher key (counter_block v ((16 + i) / 16))) m 0) place
     ]
 
--- there are as many bytes of output as were asked for
+-- the output has as many bytes as were asked for
 length-output : (key v : List ℕ) (n : ℕ) → length (output key v n) ≡ n
 unfolding output turns
 length-output key v n = length-take-le n (temp_after key v ((n + 15) / 16))
     (omega (arith, length-temp key v ((n + 15) / 16)))
 
--- and they are the keystream's
+-- byte i of the output is that of the keystream from the second block on
 byte_of_output : (key v : List ℕ) (n i : ℕ) → i < n
     → get_or (output key v n) i 0 ≡ keystream_byte (key_expansion key) v (16 + i)
 unfolding output turns

@@ -21,7 +21,7 @@ unfoldable pub requests : ⊤
 unfolding padded exclusive_or output update instantiate returned_bits generate
 requests = tt
 
--- the state whose Key and V are temp
+-- the working state whose Key and V are temp
 abbrev pub state_of : List ℕ → ℕ → State
 state_of temp counter = record { key = take 32 temp; v = drop 32 temp; reseed_counter = counter }
 

@@ -3,13 +3,13 @@ use Rattle.std.proofs.Common.{◌≡◌, ℕ, ◌+◌, List, ◌∙◌, ap, take
 use Rattle.ctr_drbg.specs.CtrDrbg.{State, padded, exclusive_or, v_after, turns, output, update}
 use Rattle.ctr_drbg.specs.CtrDrbg.{instantiate, reseed, prepared, generate}
 
--- the state that an update leaves, by the Key, V and reseed_counter before it
+-- the working state that an update leaves, by the Key, V and reseed_counter before it
 abbrev updated : List ℕ → List ℕ → List ℕ → ℕ → State
 updated provided_data key v counter =
     let temp = exclusive_or (output key v 48) provided_data in
     record { key = take 32 temp; v = drop 32 temp; reseed_counter = counter }
 
--- an update by seed_material of a state whose reseed_counter is 1 is a reseed
+-- an update by seed_material of a working state whose reseed_counter is 1 is a reseed
 pub reseeded_by : (entropy string material : List ℕ) (s counted t : State)
     → t ≡ update material counted
     → material ≡ exclusive_or entropy (padded string) → counted.key ≡ s.key → counted.v ≡ s.v
@@ -18,7 +18,7 @@ unfolding update reseed
 reseeded_by entropy string material s counted t is seed key v counter =
     is ∙ (λ i. updated (seed i) (key i) (v i) (counter i))
 
--- a reseed of the state of zeros is an instantiation
+-- a reseed of the working state of zeros is an instantiation
 pub instantiated_by : (entropy string : List ℕ) (zeros t : State) → t ≡ reseed entropy string zeros
     → zeros.key ≡ replicate 32 0 → zeros.v ≡ replicate 16 0 → t ≡ instantiate entropy string
 unfolding update reseed instantiate

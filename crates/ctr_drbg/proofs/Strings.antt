@@ -26,7 +26,7 @@ pub get_or-sum : (x y : List ℕ) (i : ℕ) → i < length x
 unfolding exclusive_or
 get_or-sum x y i h = get_or-build (length x) i _ 0 h
 
--- a list of these bytes is the sum
+-- a list whose bytes are sums of both bytes is the sum
 pub sum_is : (x y s : List ℕ) → length s ≡ length x
     → ((i : ℕ) → i < length x → bit_xor (get_or x i 0) (get_or y i 0) ≡ get_or s i 0)
     → exclusive_or x y ≡ s
@@ -46,7 +46,7 @@ take_more_other y i j other = elim other [
       ∙ sym (get_or_past (take i y) j 0 (omega (arith, past, length-take i y)))
 ]
 
--- one more byte is added
+-- a sum to which one more byte is added, in its place
 pub summed_one : (x y s : List ℕ) (i v : ℕ) → s ≡ exclusive_or x (take i y) → i < length y
     → i < length x
     → v ≡ bit_xor (get_or s i 0) (get_or y i 0) → set s i v ≡ exclusive_or x (take (i + 1) y)

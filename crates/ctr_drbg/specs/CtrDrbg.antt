@@ -43,7 +43,7 @@ temp_after key v (suc i) = temp_after key v i ++ fips.cipher key (v_after v (suc
 unfoldable pub turns : ℕ → ℕ
 turns n = (n + 15) / 16
 
--- temp after these, cut to its leftmost n bytes
+-- temp after so many turns, cut to its leftmost n bytes
 unfoldable pub output : List ℕ → List ℕ → ℕ → List ℕ
 unfolding temp_after turns
 output key v n = take n (temp_after key v (turns n))
@@ -70,8 +70,8 @@ instantiate entropy_input personalization_string =
 
 -- ---- CTR_DRBG_Reseed (10.2.1.4.1)
 
--- the state updated by the entropy input ⊕ the padded additional input, and reseed_counter set to 1
--- (steps 1 to 5)
+-- the working state updated by the entropy input ⊕ the padded additional input, and reseed_counter
+-- set to 1 (steps 1 to 5)
 unfoldable pub reseed : List ℕ → List ℕ → State → State
 unfolding padded exclusive_or update
 reseed entropy_input additional_input s =
@@ -79,14 +79,14 @@ reseed entropy_input additional_input s =
 
 -- ---- CTR_DRBG_Generate (10.2.1.5.1), where the number of bytes is allowed and no reseed is required
 
--- the state updated by the padded additional input; as it was if that is Null, a string of no bytes
--- (step 2)
+-- the working state updated by the padded additional input; as it was if that is Null, a string of
+-- no bytes (step 2)
 unfoldable pub prepared : List ℕ → State → State
 unfolding padded update
 prepared additional_input s = if length additional_input == 0 then s
     else update (padded additional_input) s
 
--- returned_bits: so many bytes of output (steps 3 to 5)
+-- returned_bits: this many bytes of output (steps 3 to 5)
 unfoldable pub returned_bits : ℕ → List ℕ → State → List ℕ
 unfolding prepared output
 returned_bits n additional_input s =

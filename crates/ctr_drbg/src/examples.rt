@@ -1,7 +1,7 @@
 //! CTR_DRBG at values from outside, as contracts, so that a slip in a definition is refused: NIST's
 //! first vector for AES-256 without a derivation function, which gives 64 bytes at the second
 //! request, the first one with additional inputs, and the first one with a reseed too. A model that
-//! gives the same at all of NIST's vectors computed the states between.
+//! gives the same at all of NIST's vectors computed the working states between.
 //!
 //! `bytes n 0x..` is the n bytes that these digits write.
 
@@ -14,7 +14,7 @@ ghost use Rattle.ctr_drbg.specs.CtrDrbg.{generate, prepared, returned_bits, turn
 ghost use Rattle.ctr_drbg.specs.CtrDrbg.{next_v, output, v_after, temp_after};
 
 /// A string is padded behind it; a personalization string is summed with the first bytes of the
-/// entropy input, here 20 with ff; and a reseed of the state of zeros is an instantiation.
+/// entropy input, here 20 with ff; and a reseed of the working state of zeros is an instantiation.
 #[tactic(auto, unfolding(crate::proofs::OnLiterals::strings_on_literals))]
 pub fn string_examples()
     ensures padded { padded (0xff ∷ 0xfe ∷ []) ≡ 0xff ∷ 0xfe ∷ replicate 46 0 }
@@ -40,7 +40,7 @@ pub fn turn_examples()
     ensures most { turns (2 ^ 16) ≡ 4096 }
 {}
 
-/// Blocks that fill so many bytes, whatever their number, and no block more than that.
+/// As many blocks as fill a number of bytes, and no block more.
 #[tactic(auto, unfolding(crate::specs::CtrDrbg::turns))]
 pub fn enough_turns()
     ensures enough { (n : ℕ) → n ≤ 16 * turns n }
@@ -60,8 +60,8 @@ pub fn turn_rules()
         ≡ temp_after key v i ++ fips.cipher key (v_after v (i + 1)) }
 {}
 
-/// An additional input of any length but 0 is padded, and updates the state before the output; an
-/// empty one changes nothing then (10.2.1.5.1, step 2).
+/// An additional input of any length but 0 is padded, and updates the working state before the
+/// output; an empty one changes nothing then (10.2.1.5.1, step 2).
 #[tactic(auto, unfolding(crate::specs::CtrDrbg::prepared))]
 pub fn additional_input_rules()
     ensures some { (x : ℕ) (xs : List ℕ) (s : State)
@@ -155,8 +155,8 @@ fn encrypted_blocks()
         ≡ bytes 16 0xd1c07cd95af8a7f11012c84ce48bb8cb }
 {}
 
-/// The state of the seed, the state after the first request of 64 bytes, and the first block of the
-/// second, which is NIST's, with its leftmost five bytes.
+/// The working state of the seed, the working state after the first request of 64 bytes, and the
+/// first block of the second, which is NIST's, with its leftmost five bytes.
 pub fn two_requests_example()
     ensures seeded { instantiate
         (bytes 48 0xdf5d73faa468649edda33b5cca79b0b05600419ccb7a879ddfec9db32ee494e5531b51de16a30f769262474c73bec010) []
@@ -250,8 +250,8 @@ fn encrypted_with_inputs()
         ≡ bytes 16 0x6808268b13e236f642c06deba2494496 }
 {}
 
-/// NIST's first vector with a personalization string and additional inputs: the state after the
-/// first request of 64 bytes, and the first block of the second, which is NIST's.
+/// NIST's first vector with a personalization string and additional inputs: the working state after
+/// the first request of 64 bytes, and the first block of the second, which is NIST's.
 pub fn additional_inputs_example()
     ensures first { generate 64
         (bytes 48 0x0b081bab6c74d86b4a010e2ded99d14e0c9838f7c3d69afd64f1b66377d95cdcb7f6ec5358e3516034c3339ced7e1638) (record {
@@ -297,8 +297,8 @@ fn encrypted_for_reseed()
         ≡ bytes 16 0x484554529c541f47169de3a88c3f4794 }
 {}
 
-/// NIST's first vector with a personalization string, additional inputs and a reseed: the state
-/// after this, from that of the seed.
+/// NIST's first vector with a personalization string, additional inputs and a reseed: the working
+/// state after this, from that of the seed.
 pub fn reseed_example()
     ensures { reseed
         (bytes 48 0xa42407931bfeca70e6ee5dd197021a129525051c07468e8b25587c5ad50abe9204e882fe847b8fd47cf7b4360e5aa034)

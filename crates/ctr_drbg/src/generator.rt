@@ -22,7 +22,7 @@ pub const RESEED_INTERVAL: u64 = 1 << 48;
 // How many bytes a key has: keylen (10.2.1, table 3).
 const KEY_LENGTH: usize = 32;
 
-// How many bytes of stack a call takes.
+// The most bytes of stack of a call.
 const CALL_STACK: usize = 4096;
 
 // Makes a cipher. It isn't refused, since the key is as long as its keys are.
@@ -35,9 +35,9 @@ fn keyed<C: KeyInit + Drop>(key: &[u8]) -> C
 }
 
 /// CTR_DRBG over a cipher with keys of 32 bytes, without a derivation function (SP 800-90A Rev. 1,
-/// 10.2.1): who doesn't know its seed can't tell its bytes from random ones. Contracts see a value
-/// as its working state. It is wiped when it is dropped if the cipher is, as those of this library
-/// are, and is never copied: two generators with one state give the same bytes.
+/// 10.2.1): nobody who doesn't know its seed can tell its bytes from random ones. Contracts see a
+/// value as its working state. It is wiped when it is dropped if the cipher is, as those of this
+/// library are, and is never copied: two generators with one working state give the same bytes.
 #[derive(Drop)]
 pub struct CtrDrbg<C: BlockCipherEncrypt + KeyInit> {
     cipher: C,
@@ -120,8 +120,8 @@ impl<C: BlockCipherEncrypt + KeyInit + Drop> CtrDrbg<C> {
         Ok(())
     }
 
-    /// Fills the output with pseudorandom bytes, and moves on to a state from which they can't be
-    /// found again (10.2.1.5.1). The additional input may be empty, which is Null.
+    /// Fills the output with pseudorandom bytes, and moves on to a working state from which they
+    /// can't be found again (10.2.1.5.1). The additional input may be empty, which is Null.
     ///
     /// # Errors
     ///

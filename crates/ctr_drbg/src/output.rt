@@ -29,7 +29,7 @@ pub(crate) fn put_output<C: BlockCipherEncrypt + KeyInit>(cipher: &C, v: &Block,
     add_output(cipher, v, bytes);
 }
 
-/// Returns V after so many bytes of output.
+/// Returns V after this many bytes of output.
 pub(crate) fn moved_on(v: &Block, bytes: usize) -> Block
     requires { bytes ≤ 2 ^ 16 }
     ensures { result ≡ nist.v_after v.now (nist.turns bytes) }

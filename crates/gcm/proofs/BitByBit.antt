@@ -6,7 +6,7 @@ use Rattle.std.proofs.Math.Nat.{pow-suc, mul-div-mul_right}
 use Rattle.std.specs.Int.Bits.{xor_zero_r}
 use Rattle.gcm.specs.Gcm.{bit_of, v_at, z_at}
 
--- a bit taken
+-- the bits that are left of a block when one bit more was taken
 pub shifted : (x i : ℕ) → x * 2 ^ i % 2 ^ 128 * 2 % 2 ^ 128 ≡ x * 2 ^ (i + 1) % 2 ^ 128
 shifted x i =
     let more : i + 1 ≡ suc i = omega arith in
@@ -14,7 +14,7 @@ shifted x i =
     ap (λ k. x * 2 ^ k) more ∙ ap (λ p. x * p) (pow-suc 2 i) ∙ grind arith in
     omega (arith, twice)
 
--- the first bit of what is left
+-- the first bit of what is left of a block when its first i bits were taken
 pub first_left : (x i : ℕ) → i < 128 → x * 2 ^ i % 2 ^ 128 / 2 ^ 127 ≡ bit_of x i
 unfolding bit_of
 first_left x i inside =

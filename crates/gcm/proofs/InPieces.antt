@@ -154,7 +154,7 @@ unfolding padded hashed
 no_text h v a c is none = is
     ∙ ap (λ l. hashed h (hashed_padded h a) (padded l) (length (padded l) / 16)) (sym none)
 
--- so text begins there
+-- after additional data alone the text begins: none of it is hashed yet
 pub first_text : (h v : ℕ) (a c rest : List ℕ) → v ≡ hashed_padded h a → c ≡ []
     → IsHashing h (hashed_padded h a) c v rest
 unfolding hashed
@@ -170,7 +170,7 @@ pub record IsSoFar (w : List (List ℕ)) (iv a c : List ℕ) (m : Message) : Typ
   pub text : m.text ≡ length c
   pub short_text : length c ≤ 2 ^ 36 - 32
 
--- both phases tell it, so that a tag is proved once for the two
+-- a message that is at either phase has what `IsSoFar` says, so that a tag is proved once for both
 pub so_far : (turn : Phase) (w : List (List ℕ)) (iv a c : List ℕ) (m : Message)
     → IsAt turn w iv a c m
     → IsSoFar w iv a c m

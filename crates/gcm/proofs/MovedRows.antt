@@ -58,7 +58,7 @@ byte_moved m r inside =
     ∙ sym (nibbles_sum (y % 256 / 16) (y / 256 % 256) (omega arith))
     ∙ ap (λ z. bit_xor (y % 256 / 16) (z % 256 * 16 % 256)) (sym before)
 
--- the first one
+-- the first byte of the bits that are left, which has no byte before it
 byte_first : (m : ℕ) → m < 2 ^ 128 → byte_of (m / 16) 0 ≡ byte_of m 0 / 16
 unfolding byte_of
 byte_first m small = omega (arith, small)
@@ -127,7 +127,7 @@ nibble_four v n =
     ∙ sym (term_through (n / 2 ^ (3 - i) % 2) (v_at v i) 4))
     ∙ sym (v-sum 4 4 f)
 
--- a row that has these bytes
+-- a row whose lanes are bytes of multiples, for four powers of x more, is one of `multiples_row`
 row_with : (v r : ℕ) (row : List ℕ) → length row ≡ 16
     → ((n : ℕ) → n < 16 → get_or row n 0 ≡ byte_of (v_at (nibble_multiple v n) 4) r)
     → row ≡ multiples_row (v_at v 4) r
@@ -180,7 +180,7 @@ fallen_long table m t last end long sized t_is last_is =
     length-zip2 bit_xor m t (long ∙ sym (ap length t_is ∙ length-map last (looked table)
     ∙ ap length last_is ∙ length-map end low_nibble ∙ sized)) ∙ long
 
--- the first row: nothing comes before it
+-- the first row for four powers of x more: no row comes before it
 pub first_row : (v : ℕ) (rows : List (List ℕ)) (m t last : List ℕ) → v < 2 ^ 128
     → rows ≡ multiples_rows v → length m ≡ 16 → length (get_or rows 15 []) ≡ 16
     → ((n : ℕ) → n < 16 → get_or m n 0 ≡ bit_xor (get_or (get_or rows 0 []) n 0 / 16)
@@ -197,7 +197,7 @@ first_row v rows m t last small is long sized lanes t_is last_is =
     (looked FALLEN_FIRST (there v 15 n rows is (omega arith) h u % 16)))
     ∙ sym (four_first (nibble_multiple v n) (nibble_below v n small)))
 
--- the second one
+-- the second row for four powers of x more
 pub second_row : (v : ℕ) (rows : List (List ℕ)) (m t last : List ℕ)
     → rows ≡ multiples_rows v → length m ≡ 16 → length (get_or rows 15 []) ≡ 16
     → ((n : ℕ) → n < 16 → get_or m n 0 ≡ bit_xor (get_or (get_or rows 2 []) n 0 / 16)
@@ -214,7 +214,7 @@ second_row v rows m t last is long sized lanes t_is last_is =
     (looked FALLEN_SECOND (there v 15 n rows is (omega arith) h u % 16)))
     ∙ sym (four_second (nibble_multiple v n)))
 
--- the first three places of a list that is filled in order
+-- three rows that are set in order stand at the first three places
 pub three_filled : (f : ℕ → List ℕ) (rows : List (List ℕ)) (a b c : List ℕ) → length rows ≡ 16
     → a ≡ f 0 → b ≡ f 1 → c ≡ f 2 → (k : ℕ) → k < 3
     → get_or (set (set (set rows 0 a) 1 b) 2 c) k [] ≡ f k

@@ -26,7 +26,7 @@ bit_small : (x i : ℕ) → bit_of x i < 2
 unfolding bit_of
 bit_small x i = omega arith
 
--- those of the first factor
+-- a product keeps sums of its first factor
 pub product_keeps : (a b h : ℕ) → product (bit_xor a b) h ≡ bit_xor (product a h) (product b h)
 unfolding product
 product_keeps a b h =
@@ -38,7 +38,7 @@ product_keeps a b h =
     ∙ sum-add 128 (λ i. term (bit_of a i) (v_at h i)) (λ i. term (bit_of b i) (v_at h i))
     ∙ (λ t. bit_xor (sym (product_terms a h 128) t) (sym (product_terms b h 128) t))
 
--- those of the second
+-- a product keeps sums of its second factor
 right_keeps : (x a b : ℕ) → product x (bit_xor a b) ≡ bit_xor (product x a) (product x b)
 unfolding product
 right_keeps x a b =
@@ -67,7 +67,7 @@ right_term x b y = by_test (b == 0)
     by_test true = right_zero x
     by_test false = refl
 
--- and multiples by powers of x
+-- multiples of the second factor by powers of x are multiples of the product
 pub right_v : (x a m : ℕ) → product x (v_at a m) ≡ v_at (product x a) m
 unfolding product
 right_v x a m =

@@ -28,7 +28,7 @@ low_twice x block =
     zip2_splat bit_and (x ++ x) 32 15 (length-append x x ∙ omega (arith, block.0))
     ∙ map-append (λ b. bit_and b 15) x x ∙ (λ t. once t ++ once t)
 
--- and the shift its high ones
+-- the shift of a block in both halves gives its high nibbles in both
 pub high_twice : (x : List ℕ) → IsBlock x
     → zip2 (λ a b. a / 2 ^ b) (x ++ x) (replicate 32 4) ≡ map high_nibble x ++ map high_nibble x
 high_twice x block =
@@ -37,14 +37,14 @@ high_twice x block =
     zip2_splat (λ a b. a / 2 ^ b) (x ++ x) 32 4 (length-append x x ∙ omega (arith, block.0))
     ∙ map-append (λ b. b / 2 ^ 4) x x ∙ (λ t. once t ++ once t)
 
--- they are indices of a table of sixteen bytes
+-- low nibbles in both halves are indices of a table of sixteen bytes
 pub low_indices : (x places : List ℕ) → IsBlock x → places ≡ map low_nibble x ++ map low_nibble x
     → AreIndices places
 low_indices x places block is =
     let one = nibbles_are_indices (map low_nibble x) (low_is x block) in
     ap (list_all is_index) is ∙ indices_append (map low_nibble x) (map low_nibble x) one one
 
--- so are the high ones
+-- high nibbles in both halves are indices of a table of sixteen bytes
 pub high_indices : (x places : List ℕ) → IsBlock x → places ≡ map high_nibble x ++ map high_nibble x
     → AreIndices places
 high_indices x places block is =
@@ -61,7 +61,7 @@ indices_parts (x ∷ xs) ys h =
     let rest = indices_parts xs ys both.1 in
     ((λ t. both.0 t && rest.0 t), rest.1)
 
--- two look-ups, summed
+-- two lists, each of two parts, are summed part by part
 zip2_append : (f : ℕ → ℕ → ℕ) (a b c d : List ℕ) → length a ≡ length c
     → zip2 f (a ++ b) (c ++ d) ≡ zip2 f a c ++ zip2 f b d
 zip2_append f [] b [] d same = refl
@@ -100,7 +100,7 @@ zeros_lower x long =
     ap (λ l. 0 ∷ l) (pick_l-range_with_len 0 x 0 15 (omega (arith, long))
     ∙ sym (take-take 15 16 x (omega arith)))
 
--- and those of the upper half
+-- the bytes of the upper half after a byte 0, as the shuffle picks them
 pub zeros_upper : (x : List ℕ) → length x ≡ 32
     → 0 ∷ pick_l 0 x (range_with_len 16 15) ≡ 0 ∷ take 15 (drop 16 x)
 zeros_upper x long = ap (λ l. 0 ∷ l) (pick_l-range_with_len 0 x 16 15 (omega (arith, long)))
@@ -117,7 +117,7 @@ lasts_lower x y x_long y_long =
     ∙ ap (take 15) (drop_at x y 32 x_long) ∙ sym (take-take 15 16 y (omega arith)) in
     λ t. last t ∷ rest t
 
--- and those of the upper half
+-- the bytes of the upper half after the byte that fell out of the other vector's
 pub lasts_upper : (x y : List ℕ) → length x ≡ 32 → length y ≡ 32
     → get_or (x ++ y) 31 0 ∷ pick_l 0 (x ++ y) (range_with_len 48 15)
     ≡ get_or (drop 16 x) 15 0 ∷ take 15 (drop 16 y)
@@ -130,7 +130,7 @@ lasts_upper x y x_long y_long =
 
 -- ---- shifts by eight bytes
 
--- as a number, the shuffle is a shift by 64 bits
+-- the shuffle that picks eight zeros and eight bytes shifts the block's number by 64 bits
 pub eight_zeros : (x : List ℕ) → IsBlock x
     → from_be_bytes w128
     (pick_l 0 (replicate 16 0 ++ x)
@@ -139,7 +139,7 @@ pub eight_zeros : (x : List ℕ) → IsBlock x
 eight_zeros x (long, small) =
     omega (arith, small 8, small 9, small 10, small 11, small 12, small 13, small 14, small 15)
 
--- the same where the bits that fall in come from another block
+-- the shuffle that picks eight bytes of each of two blocks: bits of the first fall into the second
 pub eight_lasts : (x y : List ℕ) → IsBlock x → IsBlock y
     → from_be_bytes w128
     (pick_l 0 (x ++ y)

@@ -36,11 +36,11 @@ multiples_row v r = fips.build 16 (λ n. byte_of (nibble_multiple v n) r)
 abbrev pub place_of : ℕ → ℕ
 place_of r = 2 * (r % 8) + r / 8
 
--- and which row stands at place i
+-- the row at place i of a table
 abbrev pub row_at : ℕ → ℕ
 row_at i = i / 2 + 8 * (i % 2)
 
--- the same of all sixteen bytes
+-- the rows of all sixteen bytes of v's multiples, each at its place
 unfoldable pub multiples_rows : ℕ → List (List ℕ)
 unfolding multiples_row
 multiples_rows v = fips.build 16 (λ i. multiples_row v (row_at i))
@@ -90,10 +90,10 @@ reduced k l = bit_xor k (folded l)
 
 -- ---- room for H alone
 
--- the block that stands there
+-- the block H that stands in the room
 abbrev pub subkey_alone : List (List ℕ) → ℕ
 subkey_alone room = from_be_bytes w128 (slice_index_or room 0 [])
 
--- every room for it has a block
+-- room for H alone is always in order: whatever it has is a block
 abbrev pub IsAlone : List (List ℕ) → Type 0
 IsAlone room = Unit {0}

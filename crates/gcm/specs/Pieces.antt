@@ -58,15 +58,15 @@ pub record IsInText (turn : Phase) (w : List (List ℕ)) (iv a c : List ℕ)
   pub hashing : IsHashing (hash_subkey w) (hashed_padded (hash_subkey w) a) c
       (from_be_bytes w128 m.value) m.rest
 
--- either of these: text of a phase may come
+-- a message to which text of a phase may come: one that has begun, or one in that text
 abbrev pub IsAt : Phase → List (List ℕ) → List ℕ → List ℕ → List ℕ → Message → Type 0
 IsAt turn w iv a c m = (IsBegun w iv a m × (c ≡ [])) ⊎ IsInText turn w iv a c m
 
--- the same where the text is encrypted
+-- a message to which text may come that is encrypted
 abbrev pub IsEncrypting : List (List ℕ) → List ℕ → List ℕ → List ℕ → Message → Type 0
 IsEncrypting = IsAt Encrypting
 
--- the same where the text's tag is to be compared
+-- a message to which text may come whose tag is compared
 abbrev pub IsVerifying : List (List ℕ) → List ℕ → List ℕ → List ℕ → Message → Type 0
 IsVerifying = IsAt Verifying
 

@@ -10,7 +10,7 @@ use aes_cipher::not_clone::NotClone;
 #[repr(C)]
 #[derive(Drop)]
 pub struct Counter {
-    /// Its bytes, as one number, highest byte first. The last number is never used: it says that no
+    /// The nonce as one number, highest byte first. The last number is never used: it says that no
     /// nonce is left.
     pub next: [u8; 12],
 }

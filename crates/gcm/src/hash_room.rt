@@ -1,4 +1,4 @@
-//! Room for what GHASH takes of a block H, and GHASH over it: tables of H's multiples where a
+//! Room for what GHASH needs of a block H, and GHASH over it: tables of H's multiples where a
 //! processor has a byte shuffle, H alone where it has none.
 
 ghost use Rattle.std.specs.Prelude.{◌≡◌, ℕ, List, ◌/◌, ◌%◌, ◌<◌, ◌++◌, length};
@@ -17,15 +17,15 @@ use aes_cipher::cipher::Block;
 use aes_cipher::zeroize::Zeroize;
 use std::marker::Model;
 
-/// Room for what products with a block H take. It is as secret as H.
+/// Room for what products with a block H need. It is as secret as H.
 pub trait HashRoom: Zeroize {
-    /// It stands there.
+    /// The room has what products with H need.
     ghost IsMade: { Self → Type 0 };
 
     /// The block H.
     ghost subkey: { Self → ℕ };
 
-    /// Writes what products with H take.
+    /// Writes what products with H need.
     fn put(&mut self, h: u128)
         ensures made { IsMade self.new }
         ensures subkey { subkey self.new ≡ h };
@@ -42,7 +42,8 @@ pub trait HashRoom: Zeroize {
         ensures { result ≡ hashed (subkey self.now) value (padded bytes.now)
             (length (padded bytes.now) / 16) };
 
-    /// The same, and after one block more.
+    /// Returns the value of GHASH after more bytes, with zeros behind them that fill the last
+    /// block, and one block more.
     fn hash_to_end(&self, value: u128, bytes: &[u8], end: &Block) -> u128
         requires { IsMade self.now }
         ensures { let before =
@@ -111,7 +112,7 @@ impl HashRoom for SubkeyRoom {
     }
 }
 
-/// What products with a block H take, in room that is lent. Contracts see a value as H.
+/// What products with a block H need, in room that is lent. Contracts see a value as H.
 #[derive(Drop)]
 pub struct LentRoom<'a, R: HashRoom> {
     room: &'a R,
@@ -153,7 +154,8 @@ pub(crate) fn hash_on<R: HashRoom>(multiples: &LentRoom<R>, value: u128, bytes: 
     multiples.room.hash_on(value, bytes)
 }
 
-/// The same, and after one block more.
+/// Returns the value of GHASH after more bytes, with zeros behind them that fill the last block,
+/// and one block more.
 #[inline(always)]
 pub(crate) fn hash_to_end<R: HashRoom>(
     multiples: &LentRoom<R>,

@@ -8,7 +8,7 @@ use aes_cipher::not_clone::NotClone;
 use aes_cipher::zeroize::{Zeroize, zeroize_elements};
 use std::slice::from_mut;
 
-/// What a message has come to.
+/// Which phase a message is in.
 #[derive(Debug, Clone, Copy, PartialEq, Eq)]
 pub enum Phase {
     /// There is no message: none has begun, or it is over.
@@ -23,7 +23,7 @@ pub enum Phase {
     Decrypting,
 }
 
-/// A message under a nonce, of which some has come, as C keeps it: `struct fotsgure_gcm_message`.
+/// A message in pieces under a nonce, as C keeps it: `struct fotsgure_gcm_message`.
 /// Its blocks are as secret as the key: keep it in a `Wiped`, whose `zeroed` has no message.
 #[repr(C)]
 #[derive(Drop)]

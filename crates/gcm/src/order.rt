@@ -7,7 +7,7 @@ use std::simd::prelude::*;
 
 /// In which order sixteen bytes write a number of the field.
 pub trait ByteOrder {
-    /// The number that they write.
+    /// The number that sixteen bytes write.
     ghost number: { List ℕ → ℕ };
 
     /// Returns the bytes that write the same number with the highest byte first.

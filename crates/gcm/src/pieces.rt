@@ -238,7 +238,7 @@ impl<'a, C: BlockCipherEncrypt, R: HashRoom> LentGcm<'a, C, R> {
     /// # Errors
     ///
     /// `OutOfTurn` exactly if no message has begun, or text has come that was encrypted or
-    /// accepted. Else `Refused` exactly if the tag is another. The message is then unchanged.
+    /// accepted. Else `Refused` exactly if the tag is wrong. The message is then unchanged.
     pub fn accept(&self, message: &mut Message, tag: &Block) -> Result<(), NotAccepted>
         ensures out_of_turn { IsErrOf result NotAccepted.OutOfTurn
             ↔ IsOutOfTurn Phase.Verifying message.old }
@@ -268,7 +268,7 @@ impl<'a, C: BlockCipherEncrypt, R: HashRoom> LentGcm<'a, C, R> {
     ///
     /// # Errors
     ///
-    /// `OutOfTurn` exactly as `accept`. Else `Refused` exactly if the tag doesn't have so many
+    /// `OutOfTurn` exactly as `accept`. Else `Refused` exactly if the tag doesn't have this many
     /// bytes, if no tag may, or if the tag isn't the first bytes of that of 16. The message is then
     /// unchanged.
     pub fn accept_short(

@@ -11,11 +11,11 @@ pub use Rattle.aes_hybrid.specs.KeptKey.{key_in, no_key, HoldsKey, IsKept, IsZer
 abbrev pub no_room : List (List ℕ)
 no_room = replicate 96 (replicate 16 0)
 
--- what they are made with stands there
+-- room in which what tags are made with stands
 abbrev pub IsRoom : List (List ℕ) → Type 0
 IsRoom = HasMultiples
 
--- the block H that it is of
+-- the block H of such room
 abbrev pub subkey_of : List (List ℕ) → ℕ
 subkey_of = subkey_in
 

@@ -1,6 +1,6 @@
 //! The form in which this build keeps a key: stored round keys for vector permutations.
 //!
-//! No other module of this crate names a form. A build in another form has another text of this
+//! No other module of this crate names a form. A build in another form has another version of this
 //! module, of `width` and of `specs/Form.antt`, with the same names:
 //!
 //! - `KeptKey` is a key that is kept to encrypt. It is `repr(C)`, `Drop`, `NotClone` and `Zeroize`.
@@ -9,7 +9,7 @@
 //!   leaves nothing of it.
 //! - `Aes` is the struct of the library of blocks. `holds_key_of(aes)` says whether it holds a key,
 //!   and `put_key_of(aes, kept)` writes that key, reading nothing of what was kept.
-//! - `is_key_size(bytes)` says whether keys have so many bytes.
+//! - `is_key_size(bytes)` says whether keys have this many bytes.
 //! - `lent(kept)` lends the key of a struct that holds one as a cipher, which is a `LentKey`.
 //! - `TagRoom` is room for what the tags of GCM are made with, a `HashRoom`; `ShortRoom` and
 //!   `LongRoom` are that of a message of AES-GCM-SIV, each a `PolyvalRoom`, the first for short ones.
@@ -27,10 +27,10 @@ use aes_hybrid::lent::Lent;
 /// Room for what tags are made with: the multiples of H.
 pub type TagRoom = gcm::Room;
 
-/// The same for a message of AES-GCM-SIV, if it is short.
+/// Room for what tags of a message of AES-GCM-SIV are made with, if it is short.
 pub(crate) type ShortRoom = gcm::TableRoom;
 
-/// The same for a longer one.
+/// Room for what tags of a longer message of AES-GCM-SIV are made with.
 pub(crate) type LongRoom = gcm::Room;
 
 /// A key schedule of the other library, for both directions: `struct fotsgure_aes`.
@@ -54,7 +54,7 @@ pub(crate) fn holds_key_of(aes: &Aes) -> bool
     aes.key.holds_key()
 }
 
-/// Writes the key of such a struct.
+/// Writes the key of a struct of the library of blocks.
 #[inline(always)]
 pub(crate) fn put_key_of(aes: &Aes, kept: &mut KeptKey)
     ensures { kept.new ≡ key_of aes.now }

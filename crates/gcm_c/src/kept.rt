@@ -81,7 +81,7 @@ pub extern "C" fn fotsgure_gcm_set_key(gcm: &mut Gcm, key: &[u8]) -> u32
     ensures after { result ≡ DONE → IsZeroAfter gcm.new.key }
     ensures none { result ≢ DONE → gcm.new ≡ no_gcm }
 {
-    // Nothing is read of a struct that may be uninitialized. No compiler takes zeros away here: the
+    // Nothing is read of a struct that may be uninitialized. No compiler removes zeros here: the
     // caller owns the struct, and can read what the call leaves in it.
     if !is_key_size(key.len()) {
         *gcm = Gcm::zero();

@@ -1,5 +1,5 @@
 //! Messages in pieces through the exports: however they are cut, texts and tags are those that NIST
-//! publishes, and what isn't to be taken is refused by its exact status.
+//! publishes, and what mustn't be accepted is refused by its exact status.
 
 ghost use Rattle.std.specs.Prelude.{◌<◌, ◌≤◌};
 ghost use Rattle.gcm_c.specs.Kept.{IsMade};
@@ -15,7 +15,7 @@ use super::{
 };
 use aes_cipher::zeroize::Zeroize;
 
-// Where a piece of `size` bytes ends that begins inside of so many.
+// Where a piece of `size` bytes ends that begins at `from`, or where the message ends.
 fn end_of(from: usize, size: usize, length: usize) -> usize
     requires { from ≤ length }
     ensures after { from ≤ result }
@@ -47,7 +47,7 @@ enum Work {
     DecryptUnverified,
 }
 
-// Does it, in pieces of `size` bytes.
+// Does the work on a text, in pieces of `size` bytes.
 fn goes_on(gcm: &Gcm, message: &mut Message, work: &Work, text: &mut [u8], size: usize) -> bool
     requires made { IsMade gcm.now }
     requires some { 0 < size }

@@ -13,7 +13,7 @@ use crate::status::{DONE, NO_KEY, NONCE_LENGTH, OUT_OF_TURN, TOO_LONG};
 use aes_cipher::zeroize::Zeroize;
 use gcm::{InvalidPiece, LONGEST_HASHED, Message};
 
-/// Returns the status of a piece that isn't taken.
+/// Returns the status of a piece that isn't accepted.
 pub(crate) fn status_of(error: InvalidPiece) -> u32
     ensures out_of_turn { result ≡ OUT_OF_TURN ↔ (error ≡ InvalidPiece.OutOfTurn) }
     ensures too_long { result ≡ TOO_LONG ↔ (error ≡ InvalidPiece.TooLong) }

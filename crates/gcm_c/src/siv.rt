@@ -92,8 +92,8 @@ fn seal_in<R: PolyvalRoom>(siv: &Siv, nonce: &[u8; 12], additional: &[u8], text:
     tag
 }
 
-// The same, with the room that takes less time. In a call of its own, so that its stack can be
-// wiped.
+// Encrypts a text in place and returns the tag, with the room that takes less time. In a call of
+// its own, so that its stack can be wiped.
 #[inline(never)]
 fn seal_message(siv: &Siv, nonce: &[u8; 12], additional: &[u8], text: &mut [u8]) -> Block
     requires made { IsSivMade siv.now }
@@ -146,8 +146,8 @@ fn open_in<R: PolyvalRoom>(
     is_right
 }
 
-// The same, with the room that takes less time. In a call of its own, so that its stack can be
-// wiped.
+// Decrypts a text in place if the tag is right, with the room that takes less time. In a call of
+// its own, so that its stack can be wiped.
 #[inline(never)]
 fn open_message(
     siv: &Siv,

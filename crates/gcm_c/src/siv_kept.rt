@@ -13,7 +13,7 @@ use aes_cipher::zeroize::Zeroize;
 /// as the key. It has 16 or 32 bytes.
 pub type Siv = KeptKey;
 
-/// Returns whether a key of AES-GCM-SIV has so many bytes: 16 or 32.
+/// Returns whether a key of AES-GCM-SIV has this many bytes: 16 or 32.
 pub(crate) fn is_siv_key(bytes: usize) -> bool
     ensures { result ≡ true ↔ IsKeySize bytes }
 {
@@ -33,7 +33,7 @@ pub extern "C" fn fotsgure_gcm_siv_set_key(siv: &mut Siv, key: &[u8]) -> u32
     ensures after { result ≡ DONE → IsZeroAfter siv.new }
     ensures none { result ≢ DONE → siv.new ≡ no_key }
 {
-    // Nothing is read of a struct that may be uninitialized. No compiler takes zeros away here: the
+    // Nothing is read of a struct that may be uninitialized. No compiler removes zeros here: the
     // caller owns the struct, and can read what the call leaves in it.
     if !is_siv_key(key.len()) {
         *siv = Siv::zero();

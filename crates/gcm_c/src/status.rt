@@ -21,10 +21,10 @@ pub const TOO_LONG: u32 = 5;
 /// The tag isn't that of the key, the nonce, the additional data and the text.
 pub const REFUSED: u32 = 6;
 
-/// The counter of nonces has come to its end.
+/// The counter of nonces has no nonce left.
 pub const NONCES_END: u32 = 7;
 
-/// It isn't the turn of this call: the message is in another phase.
+/// The call came in the wrong order: the message is in another phase.
 pub const OUT_OF_TURN: u32 = 8;
 
 /// Input and output differ in length. (The header has 9 for a call in C.)

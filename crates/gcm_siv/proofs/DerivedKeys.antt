@@ -16,7 +16,7 @@ four w nonce first keys is made =
     sym (take-take 2 3 keys (omega arith)) ∙ ap (take 2) made
     ∙ ap (λ l. take 2 (halves_of_six (l ++ drop 4 (numbered nonce)))) is
 
--- and of all six
+-- the halves of the ciphers of all six numbered blocks
 six : (w : List (List ℕ)) (nonce : List ℕ) (first keys : List (List ℕ))
     → first ≡ map (cipher_with w) (take 6 (numbered nonce))
     → take 3 keys ≡ halves_of_six (first ++ drop 6 (numbered nonce))
@@ -46,7 +46,7 @@ derived_is w nonce first keys size (inr e) is made =
     (made ∙ ap (λ n. halves_of_six (first ++ drop n (numbered nonce))) blocks)
     ∙ sym (ap (λ n. take n (derived_keys w nonce)) count)
 
--- one of those that were derived
+-- one of the keys that were derived
 key_at : (w : List (List ℕ)) (nonce : List ℕ) (keys : List (List ℕ)) (n i : ℕ)
     → take n keys ≡ take n (derived_keys w nonce)
     → i < n → slice_index_or keys i [] ≡ slice_index_or (derived_keys w nonce) i []
@@ -76,7 +76,7 @@ short_is key nonce w keys expanded is sized =
     ∙ sym (ap (λ n. derived v nonce 2 ++ derived v nonce 3
     ++ (if n == 32 then derived v nonce 4 ++ derived v nonce 5 else [])) sized)
 
--- of 32 bytes: two blocks of the derived ones
+-- the encryption key, of 32 bytes: two blocks of the derived ones
 long_is : (key nonce : List ℕ) (w keys : List (List ℕ)) → w ≡ key_expansion key
     → slice_index_or keys 1 [] ≡ slice_index_or (derived_keys w nonce) 1 []
     → slice_index_or keys 2 [] ≡ slice_index_or (derived_keys w nonce) 2 []
@@ -91,7 +91,7 @@ long_is key nonce w keys expanded second third sized =
     ∙ sym (ap (λ n. derived v nonce 2 ++ derived v nonce 3
     ++ (if n == 32 then derived v nonce 4 ++ derived v nonce 5 else [])) sized)
 
--- of either size
+-- the encryption key, of either size
 pub encryption_is : (key nonce made : List ℕ) (w keys : List (List ℕ)) (size : ℕ) → IsKeySize size
     → length key ≡ size
     → w ≡ key_expansion key → take (size / 16 + 1) keys

@@ -18,21 +18,21 @@ use Rattle.gcm_siv.specs.GcmSiv.{times, dot, block_at, summed}
 
 -- ---- x times an element
 
--- without x^127 it is twice the number
+-- x times an element without x^127 is twice its number
 times_low : (b : ℕ) → b < 2 ^ 127 → times_x b ≡ 2 * b
 unfolding times_x
 times_low b small =
     let none : b / 2 ^ 127 ≡ 0 = omega (arith, small) in
     ap (λ q. if q == 0 then 2 * b else bit_xor (2 * b) polynomial) none
 
--- with it the polynomial is added, which has the x^128 that comes up
+-- x times an element with x^127 has the polynomial added, which has the x^128 that comes up
 times_high : (b : ℕ) → 2 ^ 127 ≤ b → b < 2 ^ 128 → times_x b ≡ bit_xor (2 * b) polynomial
 unfolding times_x
 times_high b large small =
     let one : b / 2 ^ 127 ≡ 1 = omega (arith, large, small) in
     ap (λ q. if q == 0 then 2 * b else bit_xor (2 * b) polynomial) one
 
--- x^128 is gone
+-- x times an element with x^127 has 128 bits: the polynomial takes x^128 away
 high_small : (b : ℕ) → 2 ^ 127 ≤ b → b < 2 ^ 128 → bit_xor (2 * b) polynomial < 2 ^ 128
 high_small b large small =
     let one : 2 * b / 2 ^ 128 ≡ 1 = omega (arith, large, small) in
@@ -40,14 +40,14 @@ high_small b large small =
     ∙ ap (λ q. bit_xor q 1) one in
     omega (arith, gone)
 
--- so x times an element is an element
+-- x times an element is an element
 times_small : (b : ℕ) → b < 2 ^ 128 → times_x b < 2 ^ 128
 times_small b small = elim (cases_lt b (2 ^ 127)) [
   | inl lt ↦ rw (times_low b lt) (omega (arith, lt))
   | inr le ↦ rw (times_high b le small) (high_small b le small)
 ]
 
--- x^-1 times it is the element: where x^127 wasn't there
+-- x^-1 undoes x where the element had no x^127
 even_back : (b : ℕ) → next_v (2 * b) ≡ b
 unfolding next_v
 even_back b =
@@ -55,7 +55,7 @@ even_back b =
     let half : 2 * b / 2 ≡ b = omega arith in
     ap (λ r. if r == 0 then 2 * b / 2 else bit_xor (2 * b / 2) (0xe1 * 2 ^ 120)) none ∙ half
 
--- and where x^127 was there, the polynomial was added, whose last bit tells
+-- x^-1 undoes x where the element had x^127: the polynomial was added, whose last bit tells
 odd_back : (b : ℕ) → next_v (bit_xor (2 * b) polynomial) ≡ b
 unfolding next_v
 odd_back b =
@@ -71,7 +71,7 @@ odd_back b =
     ∙ ap (bit_xor b) (xor_self (0xe1 * 2 ^ 120))
     ∙ xor_zero_r b
 
--- both cases together
+-- x^-1 undoes x
 back : (b : ℕ) → b < 2 ^ 128 → next_v (times_x b) ≡ b
 back b small = elim (cases_lt b (2 ^ 127)) [
   | inl lt ↦ ap next_v (times_low b lt) ∙ even_back b
@@ -115,7 +115,7 @@ back_one b small =
 
 -- ---- products
 
--- a sum from its last term on
+-- a sum is the same from its last term on
 turned : (n : ℕ) (f : ℕ → ℕ) → sum_of n f ≡ sum_of n (λ i. f (n - 1 - i))
 unfolding sum_of
 turned zero f = refl

@@ -16,7 +16,7 @@ pub under_twice : (w : List (List ℕ)) (tag x : List ℕ) → text_under w tag 
 unfolding text_under counter_mode
 under_twice w tag x = summed_twice (keystream_byte w (first_counter tag)) 0 x
 
--- the same under the key that is derived, as the law states it
+-- a text is the encryption of its encryption, under the key that is derived, as the law states it
 pub text_twice : (key nonce tag x : List ℕ) → text key nonce tag (text key nonce tag x) ≡ x
 unfolding text
 text_twice key nonce tag x = under_twice _ tag x

@@ -66,8 +66,8 @@ polyval h x = summed h 0 x (length x / 16)
 
 -- ---- the keys of a message (4)
 
--- the first half of the cipher of a number of 32 bits, its lowest byte first, and the nonce; under
--- round keys
+-- half of a derived key: the first half of the cipher of a number of 32 bits, its lowest byte
+-- first, and the nonce
 unfoldable pub derived : List (List ℕ) → List ℕ → ℕ → List ℕ
 derived w nonce n = take 8 (fips.cipher_with w (to_le_bytes w32 n ++ nonce))
 
@@ -84,7 +84,7 @@ encryption_key key nonce = let w = fips.key_expansion key in
     derived w nonce 2 ++ derived w nonce 3 ++ (if length key == 32 then
     derived w nonce 4 ++ derived w nonce 5 else [])
 
--- a key-generating key has so many bytes
+-- a key-generating key has this many bytes
 abbrev pub IsKeySize : ℕ → Type 0
 IsKeySize n = (n ≡ 16) ⊎ (n ≡ 32)
 
@@ -111,7 +111,7 @@ counter_mode w block x = plus_stream (keystream_byte w block) 0 x
 
 -- ---- a message under its keys (4): round keys w of the encryption key, and the element h that the authentication key writes
 
--- both lengths in bits, as 64 of them each
+-- the lengths of additional data and a text in bits, as 64 of them each
 unfoldable pub length_block : List ℕ → List ℕ → List ℕ
 length_block a p = to_le_bytes w64 (8 * length a) ++ to_le_bytes w64 (8 * length p)
 
@@ -135,7 +135,7 @@ tag_under w h nonce a p = fips.cipher_with w (tag_input (hash h a p) nonce)
 unfoldable pub first_counter : List ℕ → List ℕ
 first_counter tag = take 15 tag ++ (128 + slice_index tag 15 % 128) ∷ []
 
--- the cipher text of a plain text, and the other way round
+-- the cipher text of a plain text, or the plain text of a cipher text
 unfoldable pub text_under : List (List ℕ) → List ℕ → List ℕ → List ℕ
 unfolding counter_mode first_counter
 text_under w tag x = counter_mode w (first_counter tag) x

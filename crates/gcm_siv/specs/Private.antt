@@ -14,7 +14,7 @@ numbered nonce =
 abbrev pub halves : List (List ℕ) → ℕ → ℕ → List ℕ
 halves blocks i j = take 8 (slice_index_or blocks i []) ++ take 8 (slice_index_or blocks j [])
 
--- those of six blocks
+-- the first halves of six blocks, two by two
 unfoldable pub halves_of_six : List (List ℕ) → List (List ℕ)
 halves_of_six blocks = halves blocks 0 1 ∷ halves blocks 2 3 ∷ halves blocks 4 5 ∷ []
 

@@ -1,10 +1,10 @@
 //! The errors of AES-GCM-SIV.
 
-/// More text than AES-GCM-SIV takes, or more additional data.
+/// More text than AES-GCM-SIV allows, or more additional data.
 #[derive(Debug, Clone, Copy, PartialEq, Eq)]
 pub struct TooLong;
 
-/// What was to be decrypted can't have been encrypted, since it is longer than AES-GCM-SIV takes,
-/// or its tag is another.
+/// What was to be decrypted can't have been encrypted, since it is longer than AES-GCM-SIV allows,
+/// or its tag is wrong.
 #[derive(Debug, Clone, Copy, PartialEq, Eq)]
 pub struct Refused;

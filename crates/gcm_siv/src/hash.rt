@@ -37,7 +37,7 @@ fn lengths_of(first: u64, second: u64) -> Block
     block_of_halves(&(8 * first).to_le_bytes(), &(8 * second).to_le_bytes())
 }
 
-// That of additional data and a text, its highest byte first.
+// The last block that is hashed of additional data and a text, its highest byte first.
 #[tactic(auto, unfolding(crate::specs::GcmSiv::length_block))]
 fn last_block(additional: &[u8], text: &[u8]) -> u8x16
     requires additional { length additional.now ≤ 2 ^ 36 }
@@ -59,10 +59,10 @@ fn bytes_of(value: u8x16) -> Block
 /// Room for what POLYVAL looks up: multiples of the authentication key times x^-1. It is as secret
 /// as the key.
 pub trait PolyvalRoom: Zeroize {
-    /// The multiples stand there.
+    /// The room has the multiples.
     ghost IsMade: { Self → Type 0 };
 
-    /// What they are multiples of.
+    /// The factor that the room has multiples of.
     ghost element: { Self → ℕ };
 
     /// Writes the multiples of a factor.
@@ -79,7 +79,7 @@ pub trait PolyvalRoom: Zeroize {
             → result ≡ to_le_bytes w128 (hash h additional.now text.now) };
 }
 
-// For a few blocks: multiples of the factor alone.
+// Room for a few blocks: multiples of the factor alone.
 impl PolyvalRoom for TableRoom {
     ghost IsMade = { IsTable };
 
@@ -99,7 +99,8 @@ impl PolyvalRoom for TableRoom {
     }
 }
 
-// For many: multiples of its square and its cube too, so that three blocks are hashed at once.
+// Room for many blocks: multiples of the factor's square and cube too, so that three blocks are
+// hashed at once.
 impl PolyvalRoom for Room {
     ghost IsMade = { HasMultiples };
 
@@ -118,7 +119,7 @@ impl PolyvalRoom for Room {
     }
 }
 
-// Where a processor has no byte shuffle: the factor alone, and products bit by bit.
+// Room for a processor without a byte shuffle: the factor alone, and products bit by bit.
 impl PolyvalRoom for SubkeyRoom {
     ghost IsMade = { IsAlone };
 

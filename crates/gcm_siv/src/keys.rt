@@ -22,7 +22,7 @@ fn numbered(number: u32, nonce: &[u8; 12]) -> Block
     block
 }
 
-// Those of the numbers 0 to 5.
+// The numbered blocks of the numbers 0 to 5.
 #[tactic(auto, unfolding(crate::specs::Private::numbered))]
 fn numbered_blocks(nonce: &[u8; 12]) -> [Block; 6]
     ensures { result ≡ numbered nonce.now }
@@ -73,7 +73,7 @@ pub fn derive<C: BlockCipherEncrypt>(cipher: &C, size: usize, nonce: &[u8; 12], 
     put_halves(keys);
 }
 
-/// Writes the multiples that POLYVAL takes: those of an authentication key times x^-1.
+/// Writes the multiples that POLYVAL needs: those of an authentication key times x^-1.
 pub fn put_authentication<R: PolyvalRoom>(key: &Block, room: &mut R)
     ensures made { R.IsMade room.new }
     ensures authentication { R.element room.new ≡ next_v (from_le_bytes w128 key.now) }

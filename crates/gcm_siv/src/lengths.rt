@@ -5,7 +5,7 @@ ghost use Rattle.std.specs.Prelude.{◌↔◌, ◌+◌, ◌^◌, ◌≤◌, leng
 /// How many bytes a text has at most, and additional data (RFC 8452, 4 and 5).
 pub const LONGEST: u64 = 1 << 36;
 
-// Whether AES-GCM-SIV takes so long additional data and so long a text.
+// Whether AES-GCM-SIV allows additional data and a text of these lengths.
 pub(crate) fn are_allowed(additional: &[u8], text: &[u8]) -> bool
     ensures { IsTrue result ↔ ((length text.now ≤ 2 ^ 36) × (length additional.now ≤ 2 ^ 36)) }
 {
@@ -16,7 +16,7 @@ pub(crate) fn are_allowed(additional: &[u8], text: &[u8]) -> bool
 // take less time than those of its powers.
 const FEW: usize = 160;
 
-/// Returns whether additional data and a text, of so many bytes, are a few blocks.
+/// Returns whether additional data and a text of these lengths are a few blocks.
 pub fn are_few(additional: usize, text: usize) -> bool
     ensures { IsTrue result ↔ (additional + text ≤ 160) }
 {

@@ -138,10 +138,10 @@ pub fn open<C: BlockCipherEncrypt, R: PolyvalRoom>(
     false
 }
 
-// How many bytes of stack a message takes.
+// The most bytes of stack of a message.
 const MESSAGE_STACK: usize = 4352;
 
-/// Wipes the stack that a message took, in a call from the same function: its keys, values of
+/// Wipes the stack that a message used, in a call from the same function: its keys, values of
 /// POLYVAL, the right tag of a refused message and blocks of the keystream may be there.
 #[inline(always)]
 pub fn wipe_message_stack() {

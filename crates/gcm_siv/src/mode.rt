@@ -97,8 +97,8 @@ impl<C: KeyInit + BlockCipherEncrypt + Drop> GcmSiv<C> {
         tag
     }
 
-    // The same, with the room that takes less time. In a call of its own, so that its stack can be
-    // wiped.
+    // Encrypts a text in place and returns the tag, with the room that takes less time. In a call
+    // of its own, so that its stack can be wiped.
     #[inline(never)]
     fn seal_message(&self, nonce: &[u8; 12], additional: &[u8], text: &mut [u8]) -> Block
         requires additional { length additional.now ≤ 2 ^ 36 }
@@ -138,8 +138,8 @@ impl<C: KeyInit + BlockCipherEncrypt + Drop> GcmSiv<C> {
         is_right
     }
 
-    // The same, with the room that takes less time. In a call of its own, so that its stack can be
-    // wiped.
+    // Decrypts a text in place if the tag is right, with the room that takes less time. In a call
+    // of its own, so that its stack can be wiped.
     #[inline(never)]
     fn open_message(
         &self,

@@ -35,7 +35,7 @@ concat_more : (xs : List (List ℕ)) (y : List ℕ) → concat (xs ++ y ∷ []) 
 concat_more [] y = append-nil y
 concat_more (x ∷ xs) y = ap (λ l. x ++ l) (concat_more xs y) ∙ sym (append_assoc x (concat xs) y)
 
--- joined, they are the string again
+-- the semiblocks of a string, joined, are the string
 joined : (s : List ℕ) (n : ℕ) → concat (semiblocks s n) ≡ take (8 * n) s
 unfolding semiblocks
 joined s zero = refl
@@ -46,7 +46,7 @@ joined s (suc n) =
     ∙ (λ j. joined s n j ++ take (size j) (drop (8 * n) s)) ∙ sym (take-add (8 * n) 8 s)
     ∙ ap (λ m. take m s) more
 
--- each is eight bytes
+-- each semiblock of a string is eight bytes
 are_semiblocks : (s : List ℕ) (n : ℕ) → IsBytes s → 8 * n ≤ length s
     → All IsSemiblock (semiblocks s n)
 unfolding semiblocks
@@ -79,12 +79,12 @@ length-padded key =
     let n : ℕ = 8 * filled (length key) - length key in
     length-append key (replicate n 0) ∙ omega (arith, length-replicate {A = ℕ} n 0)
 
--- the semiblock before them makes one more
+-- the semiblock before those of a key makes one more
 pub headed_length : (key : List ℕ) → length (headed key) ≡ filled (length key) + 1
 unfolding headed
 headed_length key = omega (arith, length-semiblocks (padded key) (filled (length key)))
 
--- that one is eight bytes
+-- the semiblock before a key is eight bytes
 heading_semiblock : (bytes : ℕ) → IsSemiblock (heading bytes)
 unfolding heading
 heading_semiblock bytes = (
@@ -94,7 +94,7 @@ heading_semiblock bytes = (
       (drop_bytes 12 (to_be_bytes w128 bytes) (number_block bytes).1),
 )
 
--- so all of S are semiblocks, which is what undoing the steps of W asks for
+-- all of S are semiblocks, which is what undoing the steps of W asks for
 pub headed_semiblocks : (key : List ℕ) → IsBytes key → All IsSemiblock (headed key)
 unfolding headed heading padded
 headed_semiblocks key small =

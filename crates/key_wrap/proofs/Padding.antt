@@ -48,7 +48,7 @@ semiblock_is key i lt =
           ∙ sym (whole ∙ take-append-le 8 rest zeros enough)
     ]
 
--- with semiblock i written, one more is that of the padded key
+-- once semiblock i is written, the first i + 1 are those of the padded key
 pub semiblock_more : (key : List ℕ) (halves : List (List ℕ)) (i : ℕ) (half : List ℕ)
     → i < length halves
     → length halves ≡ filled (length key)

@@ -53,7 +53,7 @@ module _ (w : List (List ℕ)) (a : List ℕ) (rs : List (List ℕ)) (i t : ℕ)
       ∙ (λ j. sym is_a j ∷ ((drop (i + 1) rs ++ take i rs) ++ sym is_r j ∷ []))
       ∙ ap (λ l. a_new ∷ l) (sym moved)
 
-  -- and a step of the inverse
+  -- a step of the inverse of W with semiblock i
   pub step_unwrapped : (a_new r_new : List ℕ)
       → a_new ≡ take 8 (inv_cipher_with w (number_added a (t + 1) ++ get_or rs i []))
       → r_new ≡ drop 8 (inv_cipher_with w (number_added a (t + 1) ++ get_or rs i []))

@@ -22,12 +22,12 @@ use Rattle.key_wrap.proofs.Turns.{unwrap_last}
 number_semiblock : (n : ℕ) → IsSemiblock (to_be_bytes w64 n)
 number_semiblock n = (refl, drop_bytes 8 (to_be_bytes w128 n) (number_block n).1)
 
--- so a semiblock with a number added is one
+-- a semiblock with a number added is a semiblock
 added_semiblock : (half : List ℕ) (t : ℕ) → IsSemiblock (number_added half t)
 unfolding number_added
 added_semiblock half t = number_semiblock (bit_xor (from_be_bytes w64 half) t)
 
--- and adding the number once more gives the semiblock back
+-- adding a number once more gives the semiblock back
 added_twice : (half : List ℕ) (t : ℕ) → IsSemiblock half → t < 2 ^ 64
     → number_added (number_added half t) t ≡ half
 unfolding number_added
@@ -92,7 +92,7 @@ module _ (w : List (List ℕ))
   step_length t (a ∷ r ∷ rs) =
       omega (arith, length-append rs (drop 8 (cipher_with w (a ++ r)) ∷ []))
 
-  -- and the step of the inverse undoes it
+  -- the step of the inverse undoes a step
   step_undone : (t : ℕ) (s : List (List ℕ)) → t < 2 ^ 64 → All IsSemiblock s → 2 ≤ length s
       → unwrap_step w t (wrap_step w t s) ≡ s
   unfolding wrap_step
@@ -110,7 +110,7 @@ module _ (w : List (List ℕ))
       ∙ (λ j. let d = inv_cipher_with w (added j ++ drop 8 b) in take 8 d ∷ drop 8 d ∷ rs)
       ∙ (λ j. two.0 j ∷ two.1 j ∷ rs)
 
-  -- so do the steps of all turns
+  -- the steps of all turns leave semiblocks, as many as there were
   after_kept : (s : List (List ℕ)) (t : ℕ) → All IsSemiblock s
       → All IsSemiblock (wrapped_after w s t)
   unfolding wrapped_after
@@ -133,7 +133,7 @@ module _ (w : List (List ℕ))
       (omega (arith, some, after_length s t)))
       ∙ after_undone s t (omega arith) all some
 
-  -- KW undone
+  -- a key, wrapped and unwrapped
   pub wrapped_undone : (key : List (List ℕ)) → All IsSemiblock key → 1 ≤ length key
       → length key < 2 ^ 54
       → unwrapped w (wrapped w key) ≡ integrity_check ∷ key
@@ -147,7 +147,7 @@ module _ (w : List (List ℕ))
       (All-cons IsSemiblock integrity_check key (number_semiblock 0xa6a6a6a6a6a6a6a6) all)
       (omega (arith, some))
 
-  -- the same for two semiblocks or more
+  -- a string of two semiblocks or more, wrapped and unwrapped
   pub string_undone : (s : List (List ℕ)) → All IsSemiblock s → 2 ≤ length s → length s < 2 ^ 54
       → unwrapped_string w (wrapped_string w s) ≡ s
   unfolding unwrapped_string wrapped_string block_or_steps

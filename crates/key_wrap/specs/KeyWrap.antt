@@ -54,7 +54,7 @@ unfoldable pub unwrapped : List (List ℕ) → List (List ℕ) → List (List �
 unfolding unwrapped_from
 unwrapped w sealed = unwrapped_from w sealed (6 * (length sealed - 1))
 
--- a key may have so many semiblocks (5.3.1), and becomes one more
+-- a key may have this many semiblocks (5.3.1), and becomes one more
 pub record Fit (key sealed : ℕ) : Type 0 where
   pub least : 2 ≤ key
   pub most : key < 2 ^ 54

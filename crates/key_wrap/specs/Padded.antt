@@ -16,7 +16,7 @@ padded_check = 0xa6 ∷ 0x59 ∷ 0x59 ∷ 0xa6 ∷ []
 unfoldable pub heading : ℕ → List ℕ
 heading bytes = padded_check ++ to_be_bytes w32 bytes
 
--- so many bytes fill so many semiblocks, the last of which may be filled in part
+-- how many semiblocks a number of bytes fills, the last of which may be filled in part
 unfoldable pub filled : ℕ → ℕ
 filled bytes = (bytes + 7) / 8
 
@@ -75,13 +75,13 @@ pub record IsPadded (s : List (List ℕ)) : Type 0 where
   pub zeros : let padding = 8 * (length s - 1) - length_in s in
       drop (8 - padding) (slice_index_or s (length s - 1) []) ≡ replicate padding 0
 
--- a key may have so many bytes (5.3.1), and becomes so many semiblocks
+-- a key may have this many bytes (5.3.1), and becomes that many semiblocks
 pub record FitPadded (key sealed : ℕ) : Type 0 where
   pub least : 1 ≤ key
   pub most : key < 2 ^ 32
   pub sized : sealed ≡ filled key + 1
 
--- some key becomes so many semiblocks, and fills so many of them with its padding
+-- some key becomes this many semiblocks, and fills that many of them with its padding
 pub record FitUnpadded (output sealed : ℕ) : Type 0 where
   pub least : 1 ≤ output
   pub most : output ≤ 2 ^ 29

@@ -7,7 +7,7 @@ pub struct InvalidCount;
 /// Why a key isn't unwrapped.
 #[derive(Debug, Clone, Copy, PartialEq, Eq)]
 pub enum NotUnwrapped {
-    /// No key becomes so many semiblocks, or the output is of another length.
+    /// No key becomes this many semiblocks, or the output is of another length.
     InvalidCount,
     /// The key was not wrapped under this one, or was changed.
     Refused,

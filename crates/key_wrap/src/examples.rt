@@ -173,7 +173,7 @@ pub fn padded_192_example()
 ///
 /// # Errors
 ///
-/// `InvalidCount` exactly if a key may not have so many semiblocks, or either output doesn't fit.
+/// `InvalidCount` exactly if a key may not have this many semiblocks, or either output doesn't fit.
 pub fn there_and_back<C: BlockCipherEncrypt + BlockCipherDecrypt>(
     cipher: &C,
     key: &[Semiblock],
@@ -200,7 +200,7 @@ pub fn there_and_back<C: BlockCipherEncrypt + BlockCipherDecrypt>(
 ///
 /// # Errors
 ///
-/// `InvalidCount` exactly if a key may not have so many bytes, or either output doesn't fit.
+/// `InvalidCount` exactly if a key may not have this many bytes, or either output doesn't fit.
 pub fn padded_there_and_back<C: BlockCipherEncrypt + BlockCipherDecrypt>(
     cipher: &C,
     key: &[u8],

@@ -49,7 +49,7 @@ pub fn wrap_padded<C: BlockCipherEncrypt>(
     Ok(())
 }
 
-// Whether a key of so many bytes becomes so many semiblocks.
+// Whether a key of this many bytes becomes that many semiblocks.
 #[tactic(auto, unfolding(crate::specs::Padded::filled))]
 fn fits(bytes: usize, count: usize) -> bool
     ensures { IsTrue result ↔ FitPadded bytes count }
@@ -60,7 +60,7 @@ fn fits(bytes: usize, count: usize) -> bool
     count == bytes.div_ceil(8) + 1
 }
 
-// The first semiblock for a key of so many bytes.
+// The first semiblock for a key of this many bytes.
 #[tactic(auto, unfolding(crate::specs::Padded::heading))]
 fn heading_of(bytes: u32) -> Semiblock
     ensures { result ≡ heading bytes }
@@ -98,7 +98,7 @@ fn semiblock_at(bytes: &[u8], start: usize) -> Semiblock
 ///
 /// # Errors
 ///
-/// `InvalidCount` exactly if no key becomes so many semiblocks, or the output is of another length;
+/// `InvalidCount` exactly if no key becomes this many semiblocks, or the output is of another length;
 /// it is then unchanged. Else `Refused` exactly if the key was not wrapped with padding under this
 /// cipher's; the output is then zeros.
 #[inline(never)]
@@ -146,7 +146,7 @@ fn is_padded(check: &Semiblock, halves: &[Semiblock]) -> bool
     wrong == 0
 }
 
-// How many bytes a key has, of the first semiblock.
+// How many bytes a key has, by the first semiblock.
 fn length_in(check: &Semiblock) -> u32
     requires { take 4 check.now ≡ padded_check }
     ensures { heading result ≡ check.now }

@@ -15,7 +15,7 @@ const INTEGRITY_CHECK: Semiblock = [0xa6; 8];
 // The most semiblocks of a key, and one more (5.3.1).
 const TOO_MANY: u64 = 1 << 54;
 
-// Whether keys may have so many semiblocks.
+// Whether keys may have this many semiblocks.
 fn is_allowed(count: usize) -> bool
     ensures { IsTrue result ↔ (2 ≤ count) × (count < 2 ^ 54) }
 {
@@ -79,7 +79,7 @@ fn unwrap_all<C: BlockCipherDecrypt>(
 ///
 /// # Errors
 ///
-/// `InvalidCount` exactly if no key becomes so many semiblocks, or the output is of another length;
+/// `InvalidCount` exactly if no key becomes this many semiblocks, or the output is of another length;
 /// it is then unchanged. Else `Refused` exactly if the key was not wrapped under this cipher's; the
 /// output is then zeros.
 #[inline(never)]

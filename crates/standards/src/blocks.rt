@@ -8,7 +8,7 @@ pub const PLAIN: [u128; 4] = [
     0xf69f2445df4f9b17ad2b417be66c3710,
 ];
 
-/// The same, encrypted under the key of 16 bytes (F.1.1).
+/// The four blocks encrypted under the key of 16 bytes (F.1.1).
 pub const ENCRYPTED_128: [u128; 4] = [
     0x3ad77bb40d7a3660a89ecaf32466ef97,
     0xf5d3d58503b9699de785895a96fdbaaf,
@@ -16,7 +16,7 @@ pub const ENCRYPTED_128: [u128; 4] = [
     0x7b0c785e27e8ad3f8223207104725dd4,
 ];
 
-/// Under the key of 24 bytes (F.1.3).
+/// The four blocks encrypted under the key of 24 bytes (F.1.3).
 pub const ENCRYPTED_192: [u128; 4] = [
     0xbd334f1d6e45f25ff712a214571fa5cc,
     0x974104846d0ad3ad7734ecb3ecee4eef,
@@ -24,7 +24,7 @@ pub const ENCRYPTED_192: [u128; 4] = [
     0x9a4b41ba738d6c72fb16691603c18e0e,
 ];
 
-/// Under the key of 32 bytes (F.1.5).
+/// The four blocks encrypted under the key of 32 bytes (F.1.5).
 pub const ENCRYPTED_256: [u128; 4] = [
     0xf3eed1bdb5d2a03c064b5a7e3db181f8,
     0x591ccb10d410ed26dc5ba74a31362870,

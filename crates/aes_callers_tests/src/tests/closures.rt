@@ -9,7 +9,8 @@ use aes_hybrid::BothLists;
 use standards::blocks::{ENCRYPTED_128, PLAIN, blocks, different_blocks};
 use standards::keys::KEY_A1;
 
-// A closure that does nothing, one that works twice, and rows of blocks, by what single calls leave.
+// A closure that does nothing, one that works twice, and blocks in slices, by what single calls
+// leave.
 struct Closures;
 
 fn does_nothing<D: Direction, C: CipherIn<D>>(cipher: &C) -> bool {
@@ -65,7 +66,7 @@ fn five_blocks(digits: &[u128; 4]) -> [Block; 5] {
     [a, b, c, d, a]
 }
 
-// Whether a row of five goes to the standard's blocks and comes back.
+// Whether five blocks become the standard's and come back.
 fn takes_a_row_of_five<C: BlockCipherEncrypt + BlockCipherDecrypt>(cipher: &C) -> bool {
     let plain = five_blocks(&PLAIN);
     let wanted = five_blocks(&ENCRYPTED_128);
@@ -83,7 +84,7 @@ fn planes_take_a_row<K: KeySize>(key: &K::Key) -> bool {
     takes_a_row_of_five(&FixslicedAes::<K, BothWays>::new(key))
 }
 
-// The same of that of `aes_hybrid`.
+// The type of `aes_hybrid` for both directions, with the size as a parameter.
 fn both_forms_take_a_row<K: KeySize>(key: &K::Key) -> bool {
     takes_a_row_of_five(&AesCipher::<BothLists<K>, BothWays>::new(key))
 }

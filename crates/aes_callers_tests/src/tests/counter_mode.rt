@@ -64,7 +64,7 @@ fn passes_under<K: KeySize, T: CounterTrial>(trial: &T, key: &K::Key) -> bool {
     trial.passes(&FixslicedAes::<K, Encrypt>::new(key))
 }
 
-// Whether it passes under the key of the standard's example.
+// Whether the type that encrypts passes under the key of the standard's example.
 fn passes<T: CounterTrial>(trial: &T) -> bool {
     passes_under::<Bits128, T>(trial, &KEY_A1)
 }
@@ -127,7 +127,7 @@ fn keystream_of<C: BlockCipherEncrypt + Drop>(cipher: C, iv: u128) -> Option<[u1
     Some([block_at(&bytes, 0)?, block_at(&bytes, 1)?])
 }
 
-// The same under a key, by the type for both directions.
+// The first two blocks of the keystream under a key, by the type for both directions.
 fn keystream_under<K: KeySize>(key: &K::Key, iv: u128) -> Option<[u128; 2]> {
     keystream_of(FixslicedAes::<K, BothWays>::new(key), iv)
 }

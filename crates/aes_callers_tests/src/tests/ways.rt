@@ -99,7 +99,7 @@ fn planes_pass<T: Trial, K: KeySize>(trial: &T, key: &[u8]) -> [bool; 4] {
     )
 }
 
-// Whether those of `aes_hybrid` do.
+// Whether the types of `aes_hybrid` pass.
 fn try_both_forms<T: Trial>(trial: &T) -> [Passed; 3] {
     [
         (

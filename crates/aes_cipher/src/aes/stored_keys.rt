@@ -20,7 +20,7 @@ pub trait StoredKeys: Drop {
     /// The key that the round keys are read as.
     ghost key: { Self → List ℕ };
 
-    /// The round keys are those of that key.
+    /// The round keys are those of the key that they are read as.
     ghost AreKeyed: { Self → Type 0 };
 
     /// Nothing of a key is left.
@@ -41,7 +41,7 @@ pub trait StoredKeys: Drop {
         ensures keyed { AreKeyed self.new }
         ensures same { key self.new ≡ new_key.now };
 
-    /// Returns the same round keys once more.
+    /// Returns a copy of the round keys.
     fn copy(&self) -> Self
         requires keyed { AreKeyed self.now }
         ensures keyed { AreKeyed result }

@@ -27,7 +27,7 @@ pub trait BlockCipherDecClosure {
     /// backend's round keys and the value after.
     ghost did: { Self → List (List ℕ) → Self → Type 0 };
 
-    /// Does the work.
+    /// Does the closure's work with a backend.
     fn call<B: BlockCipherDecBackend>(&mut self, backend: &B)
         ensures { did self.old (B.round_keys backend.now) self.new };
 }

@@ -25,7 +25,7 @@ pub trait Direction {
     /// What the last round does before it adds its round key: it does not mix columns.
     ghost last_step: { List ℕ → List ℕ };
 
-    /// Of what is so for encryption and what is so for decryption, the one of this direction.
+    /// What holds for this direction, of what holds for encryption and what holds for decryption.
     ghost either: { Type 0 → Type 0 → Type 0 };
 }
 

@@ -4,7 +4,7 @@ ghost use Rattle.std.specs.Prelude.{◌≤◌};
 
 use std::sync::atomic::{AtomicU64, Ordering};
 
-/// Overwrites with zeros so many bytes of what calls from the same function left on the stack.
+/// Overwrites with zeros this many bytes of what calls from the same function left on the stack.
 /// Values of the last rounds may be there, from which a key follows. So a call that works on them
 /// is never inlined, and this one comes after it.
 ///

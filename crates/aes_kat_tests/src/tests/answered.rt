@@ -62,7 +62,7 @@ fn reads_digits_of_either_case(rt: HostRuntime) -> Result<(), Fail> {
     check(&rt, &rows, 0)
 }
 
-// As many of the blocks, from the first on, over and over, in digits.
+// Appends `count` blocks in digits: the four from the first on, over and over.
 fn push_blocks(text: &mut Vec<u8>, blocks: &[u128; 4], count: usize) -> Result<(), Fail> {
     for block in blocks.iter().cycle().take(count) {
         text.extend_from_slice(format!(in *text.allocator(); "{block:032x}")?.as_bytes())?;

@@ -19,12 +19,12 @@ same_tells true b h = sym h
 same_tells false true h = grind arith
 same_tells false false h = refl
 
--- nothing added
+-- the exclusive or with 0 changes nothing
 pub xor_false : (a : Bool) → xor a false ≡ a
 xor_false true = refl
 xor_false false = refl
 
--- one added
+-- the exclusive or with 1 turns a bit over
 pub xor_true : (a : Bool) → xor a true ≡ not a
 xor_true true = refl
 xor_true false = refl

@@ -41,18 +41,18 @@ by_one P a = by_one_more P 0 (λ r h. absurd (omega arith)) a
 pub by_two : (P : ℕ → Type 0) → P 0 → P 1 → (r : ℕ) → r < 2 → P r
 by_two P a b = by_one_more P 1 (by_one P a) b
 
--- the same for the numbers below four
+-- what holds at 0 to 3 holds at each number below four
 pub by_four : (P : ℕ → Type 0) → P 0 → P 1 → P 2 → P 3 → (r : ℕ) → r < 4 → P r
 by_four P a b c d = by_one_more P 3 (by_one_more P 2 (by_two P a b) c) d
 
--- the same for the numbers below eight
+-- what holds at 0 to 7 holds at each number below eight
 pub by_eight : (P : ℕ → Type 0) → P 0 → P 1 → P 2 → P 3 → P 4 → P 5 → P 6 → P 7 → (r : ℕ)
     → r < 8 → P r
 by_eight P a b c d e f g h =
     by_one_more P 7 (by_one_more P 6
     (by_one_more P 5 (by_one_more P 4 (by_four P a b c d) e) f) g) h
 
--- and on each pair of numbers below two
+-- what holds at the four pairs of 0 and 1 holds at each pair of numbers below two
 pub by_pairs : (P : ℕ → ℕ → Type 0) → P 0 0 → P 0 1 → P 1 0 → P 1 1 → (p q : ℕ) → p < 2
     → q < 2 → P p q
 by_pairs P a b c d p q h k = by_two (λ p. P p q) (by_two (P 0) a b q k) (by_two (P 1) c d q k) p h

@@ -29,7 +29,7 @@ same_byte x y h k e =
 pub mapped_lt : {A : Type 0} (f : A → Bool) (xs : List A) → length xs ≡ 8 → number (map f xs) < 256
 mapped_lt f xs l = number_lt 8 (map f xs) (simp length-map l)
 
--- and bit p of it is that of element p
+-- bit p of the byte that eight bits make is that of element p
 pub mapped_bit : {A : Type 0} (f : A → Bool) (xs : List A) (d : A) (p : ℕ) → p < length xs
     → bit (number (map f xs)) p ≡ f (get_or xs p d)
 mapped_bit f xs d p h = bit_of_number (map f xs) p ∙ get_or-map f xs p d false h

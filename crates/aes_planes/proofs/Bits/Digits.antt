@@ -77,7 +77,7 @@ joined_above w s m a b f g h =
     ap (bit_or b) (shl_whole a m s w g (omega arith)) ∙ or_comm b (a * 2 ^ s)
     ∙ or_shifted a s b f ∙ turn
 
--- and together are below the product of both bases
+-- two joined digits are below the product of both bases
 joined_lt : (s m a b : ℕ) → b < 2 ^ s → a < 2 ^ m → b + 2 ^ s * a < 2 ^ (s + m)
 joined_lt s m a b f g =
     let h : a * 2 ^ s + b < 2 ^ m * 2 ^ s = digits_lt g f in

@@ -21,15 +21,15 @@ use Rattle.aes_planes.proofs.Lists.{get_or-build}
 pub Places-build : (n : ℕ) (g f : ℕ → Bool) → ((i : ℕ) → i < n → g i ≡ f i) → Places n (build n g) f
 Places-build n g f h i lt = get_or-build n i g false lt ∙ h i lt
 
--- the tests of bits that are numbers, by all cases
+-- the and of two bits that are numbers is the lesser of them, by all cases
 and_test : (p q : ℕ) → p < 2 → q < 2 → (min p q == 1) ≡ ((p == 1) && (q == 1))
 and_test = by_pairs _ refl refl refl refl
 
--- an or is the greater of two such bits
+-- the or of two bits that are numbers is the greater of them
 or_test : (p q : ℕ) → p < 2 → q < 2 → (max p q == 1) ≡ ((p == 1) || (q == 1))
 or_test = by_pairs _ refl refl refl refl
 
--- and an exclusive or their sum's lowest bit
+-- the exclusive or of two bits that are numbers is their sum's lowest bit
 xor_test : (p q : ℕ) → p < 2 → q < 2 → ((p + q) % 2 == 1) ≡ xor (p == 1) (q == 1)
 xor_test = by_pairs _ refl refl refl refl
 
@@ -106,7 +106,7 @@ bit_shl w x n i h = bit_low (x * 2 ^ n) w i h ∙ elim (cases_lt i n) [
   | inr le ↦ bit_shl_high x n i le ∙ ap (λ b. b && bit x (i - n)) (sym (le-leb n i le))
 ]
 
--- a number of w bits has none above them
+-- a number of w bits has no bit above them
 bit_within : (w x i : ℕ) → x < 2 ^ w → bit x i ≡ (nat_lt i w && at (build w (bit x)) i)
 bit_within w x i f = elim (cases_lt i w) [
   | inl lt ↦ reads w x i lt ∙ ap (λ b. b && at (build w (bit x)) i) (sym (lt-ltb i w lt))

@@ -11,7 +11,7 @@ use Rattle.aes_planes.proofs.Bits.ByteCases.{all_below, all_below_tells}
 abbrev pub listed_powers : List ℕ
 listed_powers = 0x01 ∷ 0x02 ∷ 0x04 ∷ 0x08 ∷ 0x10 ∷ 0x20 ∷ 0x40 ∷ 0x80 ∷ 0x1b ∷ 0x36 ∷ []
 
--- each of them is x to the power of its place
+-- each of the listed powers is x to the power of its place
 pub listed_power : (i : ℕ) → i < 10 → slice_index listed_powers i ≡ power_of_x i
 unfolding all_below power_of_x xtime
 listed_power i h =
@@ -25,7 +25,7 @@ module _ (nk i : ℕ) (w : List ℕ) where
   added_word_constant e =
       ap (λ v. added_word_if v (nat_lt 6 nk && (i % nk == 4)) (i / nk) w) (eq-eqb (i % nk) 0 e)
 
-  -- where Nk does not divide i, whether the word is substituted is up to the second test
+  -- where Nk does not divide i, the second test says whether the word is substituted
   pub added_word_later : (again : Bool) → i % nk ≢ 0 → (nat_lt 6 nk && (i % nk == 4)) ≡ again
       → added_word nk i w ≡ added_word_if false again (i / nk) w
   added_word_later again n e =
@@ -38,7 +38,7 @@ module _ (nk i : ℕ) (w : List ℕ) where
   added_word_substituted n lt e =
       added_word_later true n (ap (λ v. v && (i % nk == 4)) (lt-ltb 6 nk lt) ∙ eq-eqb (i % nk) 4 e)
 
-  -- else the word stays as it is
+  -- where Nk does not divide i, and Nk ≤ 6 or i mod Nk isn't 4, the word stays as it is
   pub added_word_same : i % nk ≢ 0 → (nk ≤ 6) ⊎ (i % nk ≢ 4) → added_word nk i w ≡ w
   unfolding added_word_if
   added_word_same n (inl le) =

@@ -40,7 +40,7 @@ module _ (rows cols : ℕ) (f g : ℕ → List ℕ) (y : List ℕ)
   start : ℕ → ℕ
   start r = byte_at y ((r + rows) % 4) cols
 
-  -- by columns, each from the one before it
+  -- the sum of columns 0 to c is the word of g there, column by column, each from the one before it
   columns : (r c : ℕ) → r < 4 → c < 4 → summed field_add (byte_at (of_words f) r) (start r) c
       ≡ slice_index (g c) r
   unfolding start
@@ -79,7 +79,7 @@ module _ (key : List ℕ) (nk : ℕ) (own : key_words key ≡ nk) (some : 0 < nk
       ∙ (λ t. add_words (expanded_word key (less t))
       (added_word (own t) i (expanded_word key (one t))))
 
-  -- where Nk divides the place
+  -- the recursion where Nk divides the place
   pub first_word : (j : ℕ) → i ≡ j * nk → expanded_word key i
       ≡ add_words (expanded_word key b)
       (add_words (sub_word (rot_word (expanded_word key p))) (round_constant j))
@@ -137,7 +137,7 @@ substituted_column : (f : ℕ → List ℕ) (x : ℕ)
 unfolding sub_bytes add_round_key constant_block
 substituted_column f x = refl
 
--- the S-box alone
+-- column 3 after SubBytes is SubWord of the last word
 substituted_plain : (f : ℕ → List ℕ) → length (f 3) ≡ 4
     → word (λ r. byte_at (sub_bytes (of_words f)) ((r + 0) % 4) 3)
     ≡ sub_word (f 3)
@@ -146,7 +146,7 @@ substituted_plain f l =
     subst (λ (v : List ℕ). word (λ r. sbox (slice_index (f 3) r)) ≡ sub_word v) (built 4 (f 3) 0 l)
     refl
 
--- nothing of the kind
+-- column 1 as it is, without SubBytes
 plain_column : (f : ℕ → List ℕ) (v : List ℕ)
     → add_words v (word (λ r. byte_at (of_words f) ((r + 0) % 4) 1))
     ≡ add_words v (f 1)
@@ -154,7 +154,7 @@ unfolding state
 plain_column f v = refl
 
 module _ (key : List ℕ) (nk : ℕ) (own : key_words key ≡ nk) (four : 4 ≤ nk) where
-  -- a word that is due no substitution; e is its place after a multiple of Nk
+  -- a word that needs no substitution; e is its place after a multiple of Nk
   plain_word : (i b p q e : ℕ) → i ≡ q * nk + e → 0 < e → e < nk → (nk ≤ 6) ⊎ (e ≢ 4)
       → i ≡ b + nk → i ≡ suc p
       → expanded_word key i ≡ add_words (expanded_word key b) (expanded_word key p)
@@ -168,7 +168,7 @@ module _ (key : List ℕ) (nk : ℕ) (own : key_words key ≡ nk) (four : 4 ≤ 
       ]))
 
   -- four words of which the first is at place e after a multiple of
-  -- Nk, where the others are due no substitution
+  -- Nk, where the others need no substitution
   sums_at : (rows cols o m q e : ℕ) (y : List ℕ) → m ≡ o + nk → m ≡ q * nk + e
       → e + 4 ≤ nk → (nk ≤ 6)
       ⊎ ((e ≡ 0) ⊎ (e ≡ 4))
@@ -209,7 +209,7 @@ module _ (key : List ℕ) (nk : ℕ) (own : key_words key ≡ nk) (four : 4 ≤ 
       (power_of_x v ∷ 0 ∷ 0 ∷ 0 ∷ [])) one
       ∙ sym (substituted_column (λ c. expanded_word key (p + c)) (power_of_x j))))
 
-  -- the four words after those, where Nk is 8
+  -- the four words after the four at a multiple of Nk, where Nk is 8
   pub second_block : (j o p m : ℕ) → nk ≡ 8 → o ≡ j * nk + 4 → m ≡ o + nk → m ≡ p + 4
       → columns_summed 0 3 (block_at key o) (sub_bytes (block_at key p)) ≡ block_at key m
   second_block j o p m eight at back before =

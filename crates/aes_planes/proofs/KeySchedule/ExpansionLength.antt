@@ -30,19 +30,19 @@ unfolding power_of_x
 power_byte zero = omega arith
 power_byte (suc n) = xtime_byte (power_of_x n) (power_byte n)
 
--- so a round constant is a word of bytes
+-- a round constant is a word of bytes
 constant_bytes : (i : ℕ) → IsBytes (round_constant i)
 unfolding round_constant
 constant_bytes i zero = power_byte (i - 1)
 constant_bytes i (suc j) = bytes_by_test (0 ∷ 0 ∷ 0 ∷ []) refl j
 
--- so is the sum of two words
+-- the sum of two words of bytes is a word of bytes
 word_sum_bytes : (v w : List ℕ) → IsBytes v → IsBytes w → IsBytes (add_words v w)
 word_sum_bytes v w h k =
     word_bytes (λ i. field_add (slice_index v i) (slice_index w i))
     (λ i. field_add_byte (slice_index v i) (slice_index w i) (h i) (k i))
 
--- and what is added to a word, whichever of the three it is
+-- what a step adds to a word is a word of bytes, whichever of the three it is
 added_bytes : (p q : Bool) (j : ℕ) (w : List ℕ) → IsBytes w → IsBytes (added_word_if p q j w)
 unfolding added_word_if
 added_bytes true q j w h =
@@ -52,7 +52,7 @@ added_bytes true q j w h =
 added_bytes false true j w h = mapped_bytes sbox sbox_byte w
 added_bytes false false j w h = h
 
--- so the next word is one, if the key and all words so far are
+-- the next word is a word of bytes, if the key and all words so far are bytes
 next_bytes : (p : Bool) (key : List ℕ) (ws : List (List ℕ)) (i : ℕ) → IsBytes key → RowsBytes ws
     → IsBytes (next_word_if p key ws i)
 unfolding next_word_if
@@ -65,7 +65,7 @@ next_bytes false key ws i h g =
     (i / key_words key)
     (slice_index_or ws (i - 1) []) (g (i - 1)))
 
--- and so are all words with it
+-- one word of bytes more leaves all words bytes
 word_appended : (ws : List (List ℕ)) (w : List ℕ) → RowsBytes ws → IsBytes w
     → RowsBytes (ws ++ w ∷ [])
 word_appended [] w h k zero = k

@@ -10,13 +10,13 @@ use Rattle.aes_planes.proofs.KeySchedule.ExpandedBlocks.{block_at, key_block, ro
 use Rattle.aes_planes.proofs.KeySchedule.ExpandedBlocks.{straddled_at, first_block, second_block}
 use Rattle.aes_planes.proofs.KeySchedule.ExpandedBlocks.{last_block}
 
--- as many layers more in each step, where a step runs one substitution
+-- the layers after a step that runs one substitution of n layers
 pub counted : (a b c i n : ℕ) → b ≡ a + i * n → c ≡ b + n → c ≡ a + (i + 1) * n
 counted a b c i n e f =
     let next : (i + 1) * n ≡ i * n + n = ap (λ v. v * n) (omega arith) ∙ suc-mul i n in
     omega (arith, e, f, next)
 
--- and where it runs two
+-- the layers after a step that runs two substitutions of n layers
 pub counted_two : (a b c d i n : ℕ) → b ≡ a + 2 * i * n → c ≡ b + n → d ≡ c + n
     → d ≡ a + 2 * (i + 1) * n
 counted_two a b c d i n e f h =
@@ -33,11 +33,11 @@ pub record Form (V : Type 0) : Type 1 where
   pub are : V → List ℕ → Type 0
   -- the key's bytes
   pub key : List ℕ
-  -- the number of its words
+  -- the number of the key's words
   pub nk : ℕ
   -- a key has four words or more
   pub four : 4 ≤ nk
-  -- and four bytes in each
+  -- a key has four bytes in each word
   pub sized : length key ≡ 4 * nk
 
 -- the record of a key of nk words and of what says that a value is the four words of a block
@@ -56,13 +56,13 @@ module _ {V : Type 0} (s : Form V) where
   pub none : (stored : ℕ → List ℕ → Type 0) → AreStored stored key 0
   none stored j lt = absurd (omega arith)
 
-  -- one of them
+  -- one of the round keys that are stored
   pub stored_at : (stored : ℕ → List ℕ → Type 0) (m j o : ℕ) → AreStored stored key m
       → j < m → o ≡ 4 * j
       → stored j (block_at key o)
   stored_at stored m j o done lt at = subst (λ v. stored j (block_at key v)) (sym at) (done j lt)
 
-  -- and one more
+  -- one round key more is stored, and those before it stay
   pub more : {old new : ℕ → List ℕ → Type 0} {last m o : ℕ} (k : ℕ) → AreStored old key m → m ≤ last
       → ((j : ℕ) (x : List ℕ) → j ≤ last → j ≢ m → old j x → new j x) → new m (block_at key o)
       → o ≡ 4 * m → k ≡ m + 1 → AreStored new key k
@@ -74,7 +74,7 @@ module _ {V : Type 0} (s : Form V) where
         subst (λ v. new v (block_at key (4 * j))) e (subst (λ v. new m (block_at key v)) f is)
   ]
 
-  -- all of them
+  -- all round keys of a key are stored
   pub all : (stored : ℕ → List ℕ → Type 0) (m last : ℕ) → AreStored stored key m → m ≡ last + 1
       → last ≡ nk + 6
       → (i : ℕ) → i ≤ last → stored i (round_key (key_expansion key) i)
@@ -104,14 +104,14 @@ module _ {V : Type 0} (s : Form V) where
         (add_round_key (sub_bytes (block_at key p)) (constant_block v))) (listed_power j lt)
         ∙ first_block key nk own four j o p m at back before) is
 
-    -- the four words after those, where nk is 8
+    -- the four words after the four at a multiple of nk, where nk is 8
     pub substituted : (j o p m : ℕ)
         → are w (columns_summed 0 3 (block_at key o) (sub_bytes (block_at key p)))
         → nk ≡ 8 → o ≡ j * nk + 4 → m ≡ o + nk → m ≡ p + 4 → are w (block_at key m)
     substituted j o p m is eight at back before =
         subst (are w) (second_block key nk own four j o p m eight at back before) is
 
-    -- the four words two after such a multiple, where nk is 6
+    -- the four words two after a multiple of nk, where nk is 6
     pub plain : (j o p m : ℕ) → are w (columns_summed 0 1 (block_at key o) (block_at key p))
         → nk ≡ 6 → o ≡ j * nk + 2 → m ≡ o + nk → m ≡ p + 2 → are w (block_at key m)
     plain j o p m is six at back before =

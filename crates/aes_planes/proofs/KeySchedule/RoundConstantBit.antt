@@ -19,7 +19,7 @@ flips : ℕ → List Bool → Bool
 flips b [] = true
 flips b (f ∷ bs) = number (set bs b (xor (at bs b) f)) == field_add (number bs) (cond f (2 ^ b) 0)
 
--- by all cases, a flip of bit b adds 2 ^ b
+-- a flip of bit b where f says so adds 2 ^ b, by all cases
 flip_tells : (b : ℕ) (bs : List Bool) (f : Bool) → b < 8 → length bs ≡ 8
     → number (set bs b (xor (at bs b) f)) ≡ field_add (number bs) (cond f (2 ^ b) 0)
 unfolding all_below all_bools flips

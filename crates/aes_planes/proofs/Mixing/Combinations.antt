@@ -17,11 +17,11 @@ use Rattle.aes_planes.proofs.Standard.Steps.{shift_times_bytes}
 
 -- what is made of a byte and of the next ones of its column
 pub data Made : Type 0 where
-  -- one of them, counted from the byte on
+  -- one of the bytes, counted from the first on
   Byte : ℕ → Made
   Sum : Made → Made → Made
   Double : Made → Made
-  -- the same of the bytes from two on
+  -- what is made in the same way of the bytes from two on
   TwoOn : Made → Made
 
 -- the byte that is made of the bytes v 0, v 1, ..
@@ -31,7 +31,7 @@ made (Sum x y) v = field_add (made x v) (made y v)
 made (Double x) v = field_mul 2 (made x v)
 made (TwoOn x) v = made x (λ j. v (suc (suc j)))
 
--- what is made so is linear over sums, so tests at the powers of x suffice
+-- what `Made` describes is linear over sums, so tests at the powers of x suffice
 made_add : (x : Made) (v w : ℕ → ℕ) → made x (add_columns v w) ≡ field_add (made x v) (made x w)
 made_add (Byte j) v w = refl
 made_add (Sum x y) v w =
@@ -67,7 +67,7 @@ forward = Sum (Sum (Byte 1) (Double sums)) (TwoOn sums)
 abbrev pub inverse : Made
 inverse = Sum (Sum low high) (TwoOn high)
 
--- the same of the bytes of a column from row r on, and around
+-- the byte that x makes of a column's bytes from row r on, and around
 from_row : Made → (ℕ → ℕ) → ℕ → ℕ
 from_row x v r = made x (λ j. v ((r + j) % 4))
 
@@ -86,7 +86,7 @@ abbrev pub Mixes : Made → (List ℕ → List ℕ) → Type 0
 Mixes x step = (cols : ℕ) → cols < 4 → (f : ℕ → ℕ → ℕ) → ((r c : ℕ) → f r c < 256)
     → state (λ r c. made x (onward cols f r c)) ≡ between_shifts cols step (state f)
 
--- MixColumns is such a step
+-- MixColumns makes `forward` of the bytes of each column
 pub mix_made : Mixes forward mix_columns
 unfolding mix_columns times state build agree_on_powers all_below only field_mul first_rows from_row shift_times shift_rows
     inv_shift_times inv_shift_rows
@@ -98,7 +98,7 @@ mix_made cols h f bytes =
     ≡ between_shifts k mix_columns (state f))
     (back 0) (back 1) (back 2) (back 3) cols h
 
--- and InvMixColumns
+-- InvMixColumns makes `inverse` of the bytes of each column
 pub inv_mix_made : Mixes inverse inv_mix_columns
 unfolding inv_mix_columns times state build agree_on_powers all_below only field_mul first_rows from_row shift_times
     shift_rows inv_shift_times inv_shift_rows
@@ -115,7 +115,7 @@ inv_mix_made cols h f bytes =
 -- planes that hold in each place what x makes of the old bytes from there on
 pub record Makes (n cols : ℕ) (old : List (List Bool)) (x : Made)
     (planes : List (List Bool)) : Type 0 where
-  -- byte by byte
+  -- the byte that the planes hold at a place
   pub bytes : (r c k : ℕ) → r < 4 → c < 4 → k < n
       → held_byte planes (place n r c k) ≡ made x
       (onward cols (λ r c. held_byte old (place n r c k)) r c)

@@ -22,7 +22,8 @@ module _ {A : Type 0} {bits : A → List Bool} {n B R H Q N S : ℕ}
       ∙ ap (λ v. v % (16 * n)) e ∙ row_on n r (c + cols) k rows h l kn (omega arith)
       ∙ ap (λ v. place n ((r + rows) % 4) v k) (sym (mod-eq_of_lt l))
 
-  -- the same where the column wraps, which is a rotation of the word by a row less
+  -- the place `rows` rows and `cols` columns on, if the column wraps: a rotation of the word by a
+  -- row less
   pub wrapped_place : (r c k rows cols : ℕ) → r < 4 → c < 4 → 4 ≤ c + cols → k < n → 1 ≤ rows
       → rows ≤ 3 → cols ≤ 3
       → (place n r c k + ((rows - 1) * R + cols * Q)) % B

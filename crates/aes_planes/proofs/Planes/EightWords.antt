@@ -12,7 +12,7 @@ pub length-words_at : {A : Type 0} (xs : List A) (o : ℕ) → o + 8 ≤ length 
 unfolding words_at
 length-words_at xs o h = simp (length-take, length-drop) (omega arith)
 
--- and word i of them is the list's word i further on
+-- word i of the eight words from place o on is the list's word o + i
 pub get_or-words_at : {A : Type 0} (xs : List A) (o i : ℕ) (d : A) → i < 8
     → get_or (words_at xs o) i d ≡ get_or xs (o + i) d
 unfolding words_at
@@ -65,7 +65,7 @@ words_put new ws o room e h = same_lists _ _ (length-words_at new o room ∙ sym
 
 -- ---- the same block in every slot
 
--- one place more is filled
+-- setting the place after i copies of b to b makes them one more
 fill_more : {A : Type 0} (b z : A) (i m : ℕ) → set (replicate i b ++ replicate (suc m) z) i b
     ≡ replicate (suc i) b ++ replicate m z
 fill_more b z zero m = refl

@@ -22,7 +22,7 @@ build-ext n f g h = same_lists _ _ (length-build n f ∙ sym (length-build n g))
     let k : i < n = omega (arith, l, length-build n f) in
     get_or-build n i f d k ∙ h i k ∙ sym (get_or-build n i g d k))
 
--- by recursion, from any start
+-- m of each element of a list that is built from any start, by recursion
 map-build_from : {A B : Type 0} (m : A → B) (a n : ℕ) (f : ℕ → A)
     → map m (build_from a n f) ≡ build_from a n (λ i. m (f i))
 unfolding build_from
@@ -35,7 +35,7 @@ pub map-build : {A B : Type 0} (m : A → B) (n : ℕ) (f : ℕ → A)
 unfolding build
 map-build m n f = map-build_from m 0 n f
 
--- by recursion, from any start
+-- f of two lists that are built from any start, place by place, by recursion
 zip_with-build_from : {A B C : Type 0} (f : A → B → C) (a n : ℕ) (g : ℕ → A) (h : ℕ → B)
     → zip_with f (build_from a n g) (build_from a n h) ≡ build_from a n (λ i. f (g i) (h i))
 unfolding build_from
@@ -106,7 +106,7 @@ pub held_byte_lt : {A : Type 0} (bits : A → List Bool) (xs : List A) → lengt
     → held_byte (map bits xs) i < 256
 held_byte_lt bits xs l i = mapped_lt (λ w. at w i) (map bits xs) (simp length-map l)
 
--- and bit p of it is that of word p there
+-- bit p of the byte that eight words hold at a place is the bit of word p there
 pub held_bit : {A : Type 0} (bits : A → List Bool) (xs : List A) (d : A) → length xs ≡ 8
     → (i p : ℕ) → p < 8
     → bit (held_byte (map bits xs) i) p ≡ at (bits (get_or xs p d)) i

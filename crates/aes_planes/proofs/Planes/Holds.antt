@@ -23,7 +23,7 @@ pub held_length : (n : ℕ) (planes : List (List Bool)) (k : ℕ) → k < n
     → length (get_or (held n planes) k []) ≡ 16
 held_length n planes k h = ap length (held_at n planes k h) ∙ state_length _
 
--- and each of them is below 2 ^ 8
+-- each byte of a block that planes hold is below 2 ^ 8
 pub held_bytes : (n : ℕ) (planes : List (List Bool)) (k i : ℕ) → length planes ≡ 8 → k < n
     → slice_index (get_or (held n planes) k []) i < 2 ^ 8
 held_bytes n planes k i l h =
@@ -51,7 +51,7 @@ held_holds n planes l = record {
   bits = held_bits n planes l;
 }
 
--- planes that hold these blocks hold no others
+-- planes that hold some blocks hold no others
 pub holds_held : (n : ℕ) (planes : List (List Bool)) (blocks : List (List ℕ))
     → Holds n planes blocks
     → held n planes ≡ blocks

@@ -105,7 +105,7 @@ one_more : (n : ℕ) (ns : List ℕ) (x : List Bool) (env : List (List Bool)) (i
 one_more n ns x env i v e s zero = e
 one_more n ns x env i v e s (suc p) = s p
 
--- so a run of a circuit at place i is what the test computed for the byte there
+-- a run of a circuit has at place i what the test computed for the byte there
 run_at : {w : ℕ} {gs : List Gate} {places : List ℕ} {env results : List (List Bool)}
     → Runs w gs places env results
     → (ns : List ℕ) (i v : ℕ) → i < w → v < 256 → Stands ns env i v

@@ -29,11 +29,11 @@ sbox_gates =
     Xor 28 8 ∷ Xor 50 17 ∷ Xor 5 11 ∷ And 93 43 ∷ Xor 8 2 ∷ Xor 6 37 ∷ Xor 0 10 ∷ Xor 19 8 ∷
     Xor 1 4 ∷ []
 
--- where its eight results stand, that of plane 0 first
+-- where the eight results of sub_bytes stand, that of plane 0 first
 abbrev pub sbox_places : List ℕ
 sbox_places = 8 ∷ 11 ∷ 4 ∷ 6 ∷ 12 ∷ 0 ∷ 9 ∷ 1 ∷ []
 
--- those gates leave, at those places, the S-box of a byte without its constant 0x63
+-- the gates of sub_bytes leave at those places the S-box of a byte without its constant 0x63
 pub sbox_computed : Computes sbox_gates sbox_places (λ b. plus63 (sbox b))
 unfolding all_below agrees bit computed sbox_gates sbox_table
 sbox_computed = computes_by_test sbox_gates sbox_places _ (λ b. plus63 (listed b)) refl
@@ -59,26 +59,27 @@ inv_sbox_gates =
     Xor 47 9 ∷ Xor 2 38 ∷ Xor 34 0 ∷ Xor 5 0 ∷ Xor 21 4 ∷ Xor 4 1 ∷ Xor 14 21 ∷ And 34 117 ∷
     Xor 28 0 ∷ Xor 1 30 ∷ Xor 8 0 ∷ Xor 26 0 ∷ Xor 3 25 ∷ Xor 4 15 ∷ Xor 0 9 ∷ []
 
--- where its eight results stand, that of plane 0 first
+-- where the eight results of inv_sub_bytes stand, that of plane 0 first
 abbrev pub inv_sbox_places : List ℕ
 inv_sbox_places = 2 ∷ 8 ∷ 20 ∷ 3 ∷ 19 ∷ 9 ∷ 0 ∷ 18 ∷ []
 
--- those gates leave, at those places, the inverse S-box of a byte to which 0x63 is added
+-- the gates of inv_sub_bytes leave at those places the inverse S-box of a byte to which 0x63 is
+-- added
 pub inv_sbox_computed : Computes inv_sbox_gates inv_sbox_places (λ b. inv_sbox (plus63 b))
 unfolding all_below agrees bit computed inv_sbox_gates inv_sbox_table
 inv_sbox_computed =
     computes_by_test inv_sbox_gates inv_sbox_places _ (λ b. inv_listed (plus63 b)) refl
     (λ v h. sym (inv_sbox_listed (plus63 v) (field_add_byte v 0x63 h (omega arith))))
 
--- the gates of sub_bytes_nots, and where its results stand
+-- the gates of sub_bytes_nots
 abbrev pub nots_gates : List Gate
 nots_gates = Not 0 ∷ Not 2 ∷ Not 7 ∷ Not 9 ∷ []
 
--- where its eight results stand, that of plane 0 first
+-- where the eight results of sub_bytes_nots stand, that of plane 0 first
 abbrev pub nots_places : List ℕ
 nots_places = 3 ∷ 2 ∷ 6 ∷ 7 ∷ 8 ∷ 1 ∷ 0 ∷ 11 ∷ []
 
--- those gates leave, at those places, the sum of a byte and 0x63
+-- the gates of sub_bytes_nots leave at those places the sum of a byte and 0x63
 pub nots_computed : Computes nots_gates nots_places plus63
 unfolding all_below agrees bit computed
 nots_computed = computes_by_test nots_gates nots_places plus63 plus63 refl (λ v h. refl)

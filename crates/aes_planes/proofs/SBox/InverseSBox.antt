@@ -30,7 +30,7 @@ record Listed (b : ℕ) : Type 0 where
   forth : listed (inv_listed b) ≡ b
   inv_byte : inv_listed b < 256
 
--- by all cases
+-- what the tables have at each byte, by all cases
 in_tables : (b : ℕ) → b < 256 → Listed b
 unfolding all_below tables sbox affine untransformed sbox_table inv_sbox_table
 in_tables b h =
@@ -59,7 +59,7 @@ sbox_undone b h = ap inv_listed (sbox_listed b h) ∙ (in_tables b h).back
 
 -- ---- the inverse S-box is a search
 
--- so the search finds a byte whose S-box is y
+-- the search of the inverse S-box finds a byte whose S-box is y
 inverted : (y : ℕ) → y < 256 → Passes (λ b. sbox b == y) (inv_sbox y) 256
 unfolding inv_sbox
 inverted y h =

@@ -60,7 +60,7 @@ module _ (d : ℕ) (nibbles : List ℕ) (ok : (r c : ℕ) → r < 4 → c < 4
       let t : (not (named r c) || nat_lt (c + d) 4) ≡ true = (and_parts _ _ (ok r c h l)).0 in
       ltb-true (c + d) 4 (rw e at t)
 
-  -- and none is named on both sides, so no bit moves twice
+  -- no column is named on both sides of a swap, so no bit moves twice
   apart : (r c : ℕ) → r < 4 → c < 4 → (named r c && (nat_le d c && named r (c - d))) ≡ false
   apart r c h l = not-true _ (and_parts _ _ (ok r c h l)).1
 
@@ -115,7 +115,7 @@ module _ (d : ℕ) (nibbles : List ℕ) (ok : (r c : ℕ) → r < 4 → c < 4
         (ap moved j ∙ moved_at r e (omega arith) (omega arith)
         ∙ ap (λ v. xor (own r e) (own r (e + d)) && v) f ∙ and-false _) ∙ and-false _
 
-    -- and into the others those of the column d below
+    -- the bits that move into a column from d on are those of the column d below
     moved_up : (r c : ℕ) → r < 4 → c < 4 → d < 4 → (c < d) ⊎ (d ≤ c)
         → (nat_le (d * n) (place n r c k) && moved (place n r c k - d * n))
         ≡ (xor (own r (c - d)) (own r c) && (nat_le d c && named r (c - d)))
@@ -178,11 +178,11 @@ swapped_held {bits = bits} {n = n} {B = B}
 abbrev pub two_apart_1 : List ℕ
 two_apart_1 = 0 ∷ 1 ∷ 3 ∷ 2 ∷ []
 
--- those for two ShiftRows
+-- the columns that are exchanged with those two on, for two ShiftRows, as a nibble a row
 abbrev pub two_apart_2 : List ℕ
 two_apart_2 = 0 ∷ 3 ∷ 0 ∷ 3 ∷ []
 
--- those for three ShiftRows
+-- the columns that are exchanged with those two on, for three ShiftRows, as a nibble a row
 abbrev pub two_apart_3 : List ℕ
 two_apart_3 = 0 ∷ 2 ∷ 3 ∷ 1 ∷ []
 
@@ -191,22 +191,22 @@ two_apart_3 = 0 ∷ 2 ∷ 3 ∷ 1 ∷ []
 abbrev pub pairs : List ℕ
 pairs = 0 ∷ 5 ∷ 0 ∷ 5 ∷ []
 
--- the partner of each of those columns is in its row and is not named itself
+-- the partner of each column of `two_apart_1` is in its row and is not named itself
 pub two_apart_1_swap : (r c : ℕ) → r < 4 → c < 4 → is_swap_at 2 two_apart_1 r c ≡ true
 unfolding all_below bit
 two_apart_1_swap = all_pairs_tell 4 4 (is_swap_at 2 two_apart_1) refl
 
--- the same for two ShiftRows
+-- the partner of each column of `two_apart_2` is in its row and is not named itself
 pub two_apart_2_swap : (r c : ℕ) → r < 4 → c < 4 → is_swap_at 2 two_apart_2 r c ≡ true
 unfolding all_below bit
 two_apart_2_swap = all_pairs_tell 4 4 (is_swap_at 2 two_apart_2) refl
 
--- the same for three ShiftRows
+-- the partner of each column of `two_apart_3` is in its row and is not named itself
 pub two_apart_3_swap : (r c : ℕ) → r < 4 → c < 4 → is_swap_at 2 two_apart_3 r c ≡ true
 unfolding all_below bit
 two_apart_3_swap = all_pairs_tell 4 4 (is_swap_at 2 two_apart_3) refl
 
--- the same for the swap of neighbours
+-- the partner of each column of `pairs` is in its row and is not named itself
 pub pairs_swap : (r c : ℕ) → r < 4 → c < 4 → is_swap_at 1 pairs r c ≡ true
 unfolding all_below bit
 pairs_swap = all_pairs_tell 4 4 (is_swap_at 1 pairs) refl

@@ -27,7 +27,7 @@ unfolding sub_bytes
 with63 [] = refl
 with63 (b ∷ s) = λ i. add_twice (sbox b) 0x63 i ∷ with63 s i
 
--- and before the inverse substitution
+-- 0x63 put back before the inverse substitution
 pub without63 : (s : List ℕ) → map (λ b. inv_sbox (plus63 b)) (map plus63 s) ≡ inv_sub_bytes s
 unfolding inv_sub_bytes
 without63 [] = refl
@@ -42,12 +42,12 @@ plus63_twice (b ∷ s) = λ i. add_twice b 0x63 i ∷ plus63_twice s i
 unfoldable all63 : List ℕ
 all63 = state (λ r c. 0x63)
 
--- to add 0x63 to each byte is to add that block
+-- adding 0x63 to each byte is adding the block with 0x63 in each byte
 plus63_sum : (s : List ℕ) → length s ≡ 16 → map plus63 s ≡ add_round_key s all63
 unfolding all63 add_round_key
 plus63_sum s l = subst (λ (v : List ℕ). map plus63 v ≡ add_round_key v all63) (built 16 s 0 l) refl
 
--- a step that is linear and keeps that block passes 0x63 on
+-- a step that is linear and keeps the block of 0x63 passes 0x63 on
 passes63 : (step : List ℕ → List ℕ)
     → ((s t : List ℕ) → step (add_round_key s t) ≡ add_round_key (step s) (step t))
     → step all63 ≡ all63 → ((s : List ℕ) → length (step s) ≡ 16)
@@ -56,12 +56,12 @@ passes63 step add keeps sized s l =
     ap step (plus63_sum s l) ∙ add s all63 ∙ ap (add_round_key (step s)) keeps
     ∙ sym (plus63_sum (step s) (sized s))
 
--- as MixColumns does, whose rows sum to 1
+-- MixColumns passes 0x63 on: its rows sum to 1
 mix_plus63 : (s : List ℕ) → length s ≡ 16 → mix_columns (map plus63 s) ≡ map plus63 (mix_columns s)
 unfolding all63 mix_columns field_mul
 mix_plus63 = passes63 mix_columns mix_columns_add refl (λ s. (mix_block s).0)
 
--- and InvMixColumns, whose rows sum to 1 too
+-- InvMixColumns passes 0x63 on: its rows sum to 1 too
 inv_mix_plus63 : (s : List ℕ) → length s ≡ 16
     → inv_mix_columns (map plus63 s) ≡ map plus63 (inv_mix_columns s)
 unfolding all63 inv_mix_columns field_mul
@@ -74,14 +74,14 @@ unfolding add_round_key
 add_key_assoc s t u =
     λ i. state (λ r c. sym (xor_assoc (byte_at s r c) (byte_at t r c) (byte_at u r c)) i)
 
--- 0x63 added to the bytes of one block, and of both: twice 0x63 is nothing
+-- 0x63 added to the bytes of one block of a sum is added to those of the sum
 add_plus63 : (s t : List ℕ) → length t ≡ 16
     → add_round_key s (map plus63 t) ≡ map plus63 (add_round_key s t)
 add_plus63 s t l =
     ap (add_round_key s) (plus63_sum t l) ∙ add_key_assoc s t all63
     ∙ sym (plus63_sum (add_round_key s t) (add_length s t))
 
--- so the block that is added on both sides falls out
+-- the block of 0x63 added to both blocks of a sum falls out, since twice 0x63 is nothing
 sum_of_both63 : (s t : List ℕ) → add_round_key (add_round_key s all63) (add_round_key t all63)
     ≡ add_round_key s t
 unfolding all63 add_round_key
@@ -89,7 +89,7 @@ sum_of_both63 s t =
     λ i. state (λ r c. (add_swap (byte_at s r c) 0x63 (byte_at t r c) 0x63
     ∙ xor_zero_r (field_add (byte_at s r c) (byte_at t r c))) i)
 
--- which is how a round key's 0x63 meets that of the substitution
+-- 0x63 in a round key falls out with the 0x63 that the substitution leaves
 add_both63 : (s t : List ℕ) → length s ≡ 16 → length t ≡ 16
     → add_round_key (map plus63 s) (map plus63 t) ≡ add_round_key s t
 add_both63 s t l m = (λ i. add_round_key (plus63_sum s l i) (plus63_sum t m i)) ∙ sum_of_both63 s t
@@ -101,7 +101,7 @@ abbrev pub deferred_before : ℕ → ℕ
 deferred_before zero = 3
 deferred_before (suc k) = k
 
--- of some shifts back any may be the first
+-- k + 1 shifts back are one shift back and then k
 inv_shift_first : (k : ℕ) (s : List ℕ) → inv_shift_times (suc k) s
     ≡ inv_shift_times k (inv_shift_rows s)
 unfolding inv_shift_times
@@ -151,13 +151,13 @@ module _ (f g h : ℕ → ℕ) where
       (subst (λ (y : List ℕ). P (build 16 (λ i. get_or s i 0)) y) (built 16 key 0 m)
       (each (λ i. get_or s i 0) (λ i. get_or key i 0)))
 
-  -- any sixteen elements move alike, so one computation for each j suffices
+  -- a round moves any sixteen elements alike, so one computation for each j suffices
   forth : (j : ℕ) → j < 4 → (s key : List ℕ) → length s ≡ 16 → length key ≡ 16 → Forth j s key
   unfolding mix_columns add_round_key shift_times shift_rows inv_shift_times inv_shift_rows build
   forth j few = of_sixteen (Forth j)
       (λ v w. by_four (λ j. Forth j (build 16 v) (build 16 w)) refl refl refl refl j few)
 
-  -- and one for each k
+  -- a round back moves any sixteen elements alike, so one computation for each k suffices
   back : (k : ℕ) → k < 4 → (s key : List ℕ) → length s ≡ 16 → length key ≡ 16 → Back k s key
   unfolding inv_mix_columns add_round_key shift_times shift_rows inv_shift_times inv_shift_rows build
   back k few = of_sixteen (Back k)

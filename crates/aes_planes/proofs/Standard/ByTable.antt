@@ -31,7 +31,7 @@ added_with_sbox s true b j w = add_words (map s (rot_word w)) (round_constant j)
 added_with_sbox s false true j w = map s w
 added_with_sbox s false false j w = w
 
--- one word more
+-- word i of the key expansion, from the words before it
 next_word_with_sbox : (ℕ → ℕ) → Bool → List ℕ → List (List ℕ) → ℕ → List ℕ
 next_word_with_sbox s true key ws i = key_word key i
 next_word_with_sbox s false key ws i =
@@ -40,20 +40,20 @@ next_word_with_sbox s false key ws i =
     (added_with_sbox s (i % nk == 0) (nat_lt 6 nk && (i % nk == 4)) (i / nk)
     (slice_index_or ws (i - 1) []))
 
--- the first n words
+-- the first n words of the key expansion
 words_with_sbox : (ℕ → ℕ) → List ℕ → ℕ → List (List ℕ)
 words_with_sbox s key zero = []
 words_with_sbox s key (suc n) = let ws = words_with_sbox s key n in
     ws ++ next_word_with_sbox s (nat_lt n (key_words key)) key ws n ∷ []
 
--- and the round keys
+-- the round keys of the key expansion
 expansion_with_sbox : (ℕ → ℕ) → List ℕ → List (List ℕ)
 expansion_with_sbox s key =
     blocks_of_words (rounds key + 1) (words_with_sbox s key (4 * (rounds key + 1)))
 
 -- ---- with the S-box they are the standard's
 
--- InvCipher's states
+-- InvCipher's states, with the inverse S-box, are the standard's
 standard_inv_state : (w : List (List ℕ)) (b : List ℕ) (n : ℕ)
     → inv_state_after w b n ≡ inv_state_with_sbox inv_sbox w b n
 unfolding inv_state_after inv_sub_bytes inv_state_with_sbox
@@ -62,7 +62,7 @@ standard_inv_state w b (suc n) =
     ap (λ x. inv_mix_columns (add_round_key (inv_sub_bytes (inv_shift_rows x))
     (round_key w (last_round w - suc n)))) (standard_inv_state w b n)
 
--- and the steps of the key expansion, one by one
+-- what is added to a word of the key expansion, in each of the three cases
 standard_added : (a b : Bool) (j : ℕ) (w : List ℕ)
     → added_word_if a b j w ≡ added_with_sbox sbox a b j w
 unfolding added_word_if added_with_sbox
@@ -95,7 +95,7 @@ standard_expansion key =
 
 -- ---- with the tables too
 
--- of a byte what a table has, and of any other number what a function has
+-- a function that is looked up in a table at bytes
 looked_up : (ℕ → ℕ) → (ℕ → ℕ) → ℕ → ℕ
 looked_up f table b = cond (nat_lt b 256) (table b) (f b)
 

@@ -28,7 +28,7 @@ module _ (nr : ℕ) (first last inv_first inv_last : List ℕ → List ℕ)
     (step inv_step : ℕ → List ℕ → List ℕ)
     (m : Mirrored nr first last inv_first inv_last step inv_step) (b : List ℕ)
     (block : IsBlock b) where
-  -- each state of such a run is a block
+  -- each state of a run is a block
   run_block : (n : ℕ) → n < nr → IsBlock (run first step b n)
   run_block zero lt = m.start.block b block
   run_block (suc n) lt =
@@ -47,7 +47,7 @@ module _ (nr : ℕ) (first last inv_first inv_last : List ℕ → List ℕ)
       ∙ (m.middle (suc k) (suc n) (omega (arith, e))).undone (run first step b k)
       (run_block k (omega (arith, e)))
 
-  -- so all steps back lead to the block at its start
+  -- all steps back from the end of a run lead to the block at its start
   run_undone : 1 ≤ nr
       → inv_last (run inv_first inv_step (last (run first step b (nr - 1))) (nr - 1)) ≡ b
   run_undone some = ap inv_last (met (nr - 1) 0 (omega arith)) ∙ m.start.undone b block
@@ -59,43 +59,43 @@ module _ (w : List (List ℕ)) where
   abbrev add_key : ℕ → List ℕ → List ℕ
   add_key i s = add_round_key s (round_key w i)
 
-  -- AddRoundKey, SubBytes and ShiftRows, and back
+  -- AddRoundKey, SubBytes and ShiftRows
   abbrev forth : ℕ → List ℕ → List ℕ
   forth i s = shift_rows (sub_bytes (add_key i s))
 
-  -- InvShiftRows, InvSubBytes and AddRoundKey
+  -- InvShiftRows, InvSubBytes and AddRoundKey, which undo `forth`
   abbrev back : ℕ → List ℕ → List ℕ
   back i s = add_key i (inv_sub_bytes (inv_shift_rows s))
 
-  -- with MixColumns before that, and after its inverse
+  -- MixColumns, AddRoundKey, SubBytes and ShiftRows
   abbrev mixed_forth : ℕ → List ℕ → List ℕ
   mixed_forth i s = forth i (mix_columns s)
 
-  -- the same with InvMixColumns, a round of InvCipher
+  -- InvShiftRows, InvSubBytes, AddRoundKey and InvMixColumns: a round of InvCipher
   abbrev mixed_back : ℕ → List ℕ → List ℕ
   mixed_back j s = inv_mix_columns (back (last_round w - j) s)
 
-  -- the standard's states are the states of such runs, up to where each round is cut
+  -- Cipher's states after SubBytes and ShiftRows are those of a run
   forth_run : (b : List ℕ) (n : ℕ) → shift_rows (sub_bytes (state_after w b n))
       ≡ run (forth 0) mixed_forth b n
   unfolding state_after
   forth_run b zero = refl
   forth_run b (suc n) = ap (mixed_forth (suc n)) (forth_run b n)
 
-  -- in either direction
+  -- InvCipher's states are those of a run
   back_run : (b : List ℕ) (n : ℕ) → inv_state_after w b n
       ≡ run (add_key (last_round w)) mixed_back b n
   unfolding inv_state_after
   back_run b zero = refl
   back_run b (suc n) = ap (mixed_back (suc n)) (back_run b n)
 
-  -- so Cipher is a run and a last step
+  -- Cipher is a run and a last step
   cipher_run : (b : List ℕ) → cipher_with w b
       ≡ add_key (last_round w) (run (forth 0) mixed_forth b (last_round w - 1))
   unfolding cipher_with
   cipher_run b = ap (add_key (last_round w)) (forth_run b (last_round w - 1))
 
-  -- and so is InvCipher
+  -- InvCipher is a run and a last step
   inv_cipher_run : (b : List ℕ)
       → inv_cipher_with w b ≡ back 0 (run (add_key (last_round w)) mixed_back b (last_round w - 1))
   unfolding inv_cipher_with

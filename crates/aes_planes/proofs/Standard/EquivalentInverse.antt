@@ -25,7 +25,7 @@ inv_after_length w b (suc n) = (inv_mix_block _).0
 
 -- the last steps of a round of EqInvCipher are those of InvCipher
 module _ (w : List (List ℕ)) (b : List ℕ) where
-  -- with the round keys mixed back, both go through the same states
+  -- with the round keys mixed back, EqInvCipher and InvCipher go through the same states
   equivalent : (n : ℕ) → n < last_round w → eq_inv_state_after (inverted_keys w) b n
       ≡ inv_state_after w b n
   unfolding eq_inv_state_after inv_state_after

@@ -43,7 +43,7 @@ either_below : (c rest m : ℕ) (here : Bool) → c < m → rest < m
 either_below c rest m true h k = h
 either_below c rest m false h k = k
 
--- so the search finds a byte, if none passes too
+-- a search stays below a bound, even if no number passes
 first_below : (p : ℕ → Bool) (n c m : ℕ) → 0 < m → c + n ≤ m → first_from p c n < m
 unfolding first_from
 first_below p zero c m some h = some
@@ -80,7 +80,7 @@ record Inverse (b v : ℕ) : Type 0 where
   product : field_mul b v ≡ 1
   undoes : all_below 8 (λ i. field_mul v (field_mul b (2 ^ i)) == 2 ^ i) ≡ true
 
--- by all cases, with the inverse that the table gives
+-- each byte but 0 has the inverse that the table gives, by all cases
 has_inverse : (b : ℕ) → b < 256 → b ≢ 0 → Inverse b (untransformed b)
 unfolding all_below inverse_test untransformed turned_left sbox_table field_mul
 has_inverse zero h n = absurd (n refl)
@@ -101,7 +101,7 @@ inverse_right b h n =
     (eq-eqb _ _ i.product) in
     (found.1, eqb-true _ _ found.0)
 
--- no other byte is one: both sides are linear in c, so the powers of x suffice
+-- no other byte is an inverse: both sides are linear in c, so the powers of x suffice
 power_only : (b c : ℕ) → b < 256 → b ≢ 0 → c < 256 → field_mul b c ≡ 1 → c ≡ untransformed b
 power_only b c h n k e =
     let v : ℕ = untransformed b in
@@ -110,7 +110,7 @@ power_only b c h n k e =
     ∙ field_mul_add v (field_mul b x) (field_mul b y)) (λ x y. refl)
     (has_inverse b h n).undoes c k) ∙ ap (field_mul v) e ∙ field_mul_one v
 
--- so the search of the definition finds the listed one
+-- the search of the definition finds the inverse that the table gives
 inverse_listed_of : (b : ℕ) → b < 256 → b ≢ 0 → field_inverse b ≡ untransformed b
 inverse_listed_of b h n = let r = inverse_right b h n in power_only b (field_inverse b) h n r.0 r.1
 

@@ -62,7 +62,7 @@ pub xtime_byte : (a : ℕ) → a < 256 → xtime a < 256
 unfolding all_below xtime
 xtime_byte a h = ltb-true _ _ (all_below_tells 256 (λ a. nat_lt (xtime a) 256) refl a h)
 
--- and a byte, since each doubling is reduced
+-- the product of a byte and any number is a byte, since each doubling is reduced
 low_product_byte : (n a b : ℕ) → a < 256 → low_product n a b < 256
 unfolding low_product
 low_product_byte zero a b h = omega arith
@@ -104,7 +104,7 @@ top_bit k x h l =
     ∙ xor_block k 1 0 0 (x - 2 ^ k) (pow_pos k) (omega arith) ∙ g
 
 module _ (f g : ℕ → ℕ) (p : Linear f) (q : Linear g) where
-  -- from all numbers below a power of 2 to those below the next
+  -- linear functions that agree on all numbers below a power of 2 agree on those below the next
   agree_step : (k : ℕ) → ((i : ℕ) → i < suc k → f (2 ^ i) ≡ g (2 ^ i))
       → ((x : ℕ) → x < 2 ^ k → f x ≡ g x)
       → (x : ℕ) → x < 2 ^ k + 2 ^ k → (x < 2 ^ k) ⊎ (2 ^ k ≤ x) → f x ≡ g x

@@ -24,18 +24,18 @@ module _ (w : List (List ℕ)) (i : ℕ) (lt : i < length w) where
   unfolding fips.inverted_keys key_if
   inverted_at = get_or-build (length w) i _ [] lt
 
-  -- the first and the last one stay
+  -- the test for the first and the last place is passed there
   is_end : (i ≡ 0) ⊎ (i ≡ fips.last_round w) → ((i == 0) || (i == fips.last_round w)) ≡ true
   is_end (inl e) = ap (λ v. v || (i == fips.last_round w)) (eq-eqb i 0 e)
   is_end (inr e) = ap (λ v. (i == 0) || v) (eq-eqb i (fips.last_round w) e) ∙ or-true (i == 0)
 
-  -- the first and the last stay as they are
+  -- the first and the last round key stay as they are
   pub inverted_end : (i ≡ 0) ⊎ (i ≡ fips.last_round w) → fips.round_key w (fips.last_round w - i)
       ≡ slice_index_or (fips.inverted_keys w) i []
   unfolding key_if
   inverted_end e = sym (inverted_at ∙ ap key_if (is_end e))
 
-  -- and between them columns are mixed back
+  -- the round keys between the first and the last are mixed back
   pub inverted_middle : i ≢ 0 → i ≢ fips.last_round w
       → fips.inv_mix_columns (fips.round_key w (fips.last_round w - i))
       ≡ slice_index_or (fips.inverted_keys w) i []

@@ -20,7 +20,7 @@ unfolding shift_rows build
 shift_map f s l = subst (λ (v : List ℕ). shift_rows (map f v) ≡ map f (shift_rows v))
     (built 16 s 0 l) refl
 
--- and with the inverse shifts
+-- a function of each byte commutes with the inverse shifts
 pub inv_shift_map : (f : ℕ → ℕ) (s : List ℕ) → length s ≡ 16
     → inv_shift_rows (map f s) ≡ map f (inv_shift_rows s)
 unfolding inv_shift_rows build
@@ -49,7 +49,7 @@ abbrev pub sum_to : ℕ → (ℕ → ℕ) → ℕ
 sum_to zero v = v 0
 sum_to (suc n) v = field_add (sum_to n v) (v (suc n))
 
--- is linear over sums of columns
+-- the sum of a column's rows 0 to n is linear over sums of columns
 sum_to_add : (n : ℕ) (v w : ℕ → ℕ) → sum_to n (add_columns v w)
     ≡ field_add (sum_to n v) (sum_to n w)
 sum_to_add zero v w = refl
@@ -65,7 +65,7 @@ row_times m v = sum_to 3 (λ j. field_mul (slice_index m j) (v j))
 abbrev pub matrix : (ℕ → List ℕ) → (ℕ → ℕ) → ℕ → ℕ
 matrix m v r = row_times (m r) v
 
--- and so is a row times a column
+-- a row times a column is linear over sums of columns
 row_times_add : (m : List ℕ) (v w : ℕ → ℕ)
     → row_times m (add_columns v w) ≡ field_add (row_times m v) (row_times m w)
 row_times_add m v w =
@@ -117,7 +117,7 @@ unfoldable pub LinearForm : ((ℕ → ℕ) → ℕ) → Type 0
 LinearForm f = (v w : ℕ → ℕ) → f (add_columns v w) ≡ field_add (f v) (f w)
 
 module _ (f g : (ℕ → ℕ) → ℕ) (p : LinearForm f) (q : LinearForm g) where
-  -- so two linear forms that agree on columns with one row agree on each
+  -- two linear forms that agree on columns with one row agree on each column
   forms_agree : (n : ℕ) → ((j : ℕ) → j < n → (x : ℕ) → x < 256 → f (only j x) ≡ g (only j x))
       → (v : ℕ → ℕ) → ((i : ℕ) → v i < 256) → f (first_rows n v) ≡ g (first_rows n v)
   unfolding LinearForm first_rows

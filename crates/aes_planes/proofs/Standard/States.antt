@@ -31,12 +31,12 @@ state_is f s l h = build_is 16 (λ i. f (i % 4) (i / 4)) s 0 l
     (λ i lt. h (i % 4) (i / 4) (mod-lt i (omega arith)) (omega arith)
     ∙ (let e : i % 4 + 4 * (i / 4) ≡ i = omega arith in ap (λ v. get_or s v 0) e))
 
--- states with the same bytes
+-- states with the same bytes are the same
 pub state_same : (f g : ℕ → ℕ → ℕ) → ((r c : ℕ) → r < 4 → c < 4 → f r c ≡ g r c) → state f ≡ state g
 state_same f g h =
     state_is f (state g) (state_length g) (λ r c p q. h r c p q ∙ sym (byte_at-state g r c p q))
 
--- states of bytes
+-- a state of bytes is a list of bytes
 pub state_bytes : (f : ℕ → ℕ → ℕ) → ((r c : ℕ) → f r c < 256) → IsBytes (state f)
 unfolding state
 state_bytes f h =

@@ -99,7 +99,7 @@ add_block s k h g = state_block (λ r c. field_add (byte_at s r c) (byte_at k r 
 pub record Undoes (f g : List ℕ → List ℕ) : Type 0 where
   -- g leaves a block of a block
   pub block : (s : List ℕ) → IsBlock s → IsBlock (g s)
-  -- and f leaves of that the block that g was given
+  -- f leaves of what g left the block that g was given
   pub undone : (s : List ℕ) → IsBlock s → f (g s) ≡ s
 
 -- one step and then another, undone in the other order

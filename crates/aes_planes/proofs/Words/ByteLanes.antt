@@ -30,7 +30,7 @@ module _ (n : ℕ) where
       lane_of_two f xs (replicate n s) j d (length-replicate n s) h
       ∙ ap (f (get_or xs j 0)) (get_or-replicate n j s 0 h)
 
-  -- and that vector has as many lanes as the first
+  -- what f makes of a vector and a vector of s in every lane has as many lanes as the first
   pub length-splat : (f : ℕ → ℕ → ℕ) (xs : List ℕ) (s : ℕ) → length xs ≡ n
       → length (zip2 f xs (replicate n s)) ≡ n
   length-splat f xs s d = length-zip2 f xs (replicate n s) (d ∙ sym (length-replicate n s)) ∙ d
@@ -45,7 +45,7 @@ module _ (n : ℕ) where
       (length-splat h b t e) l
       ∙ (λ i. f (lane_of_splat g a s j d l i) (lane_of_splat h b t j e l i))
 
--- the same, of vectors that are long enough
+-- lane j of what f makes of two vectors that are long enough is f of their lanes j
 pub lane_made : (f : ℕ → ℕ → ℕ) (xs ys : List ℕ) (j : ℕ) → j < length xs → j < length ys
     → get_or (zip2 f xs ys) j 0 ≡ f (get_or xs j 0) (get_or ys j 0)
 lane_made f xs ys j = get_or-zip2 f xs ys j 0 0 0
@@ -78,17 +78,17 @@ pub record IsLayout (n w : ℕ) (lane : ℕ → ℕ) : Type 0 where
   pub within : (i : ℕ) → i < w → lane i < n
   pub same : (i k : ℕ) → i / 8 ≡ k / 8 → lane i ≡ lane k
 
--- the bits of that word
+-- the bits of a word with such a layout
 abbrev pub laid : ℕ → (ℕ → ℕ) → List ℕ → List Bool
 laid w lane xs = build w (λ i. bit (get_or xs (lane i) 0) (i % 8))
 
 module _ {n w : ℕ} {lane : ℕ → ℕ} (laws : IsLayout n w lane) where
-  -- bit i of the word
+  -- bit i of the word is that of the lane there
   pub reads : (xs : List ℕ) (i : ℕ) → i < w
       → bit (get_or xs (lane i) 0) (i % 8) ≡ at (laid w lane xs) i
   reads xs i h = sym (get_or-build w i (λ i. bit (get_or xs (lane i) 0) (i % 8)) false h)
 
-  -- the same, where the lane and the place in it are given by other terms
+  -- bit i of the word, where the lane and the place in it are given by other terms
   pub bit_at : (xs : List ℕ) (j r i : ℕ) → i < w → j ≡ lane i → r ≡ i % 8
       → bit (get_or xs j 0) r ≡ at (laid w lane xs) i
   bit_at xs j r i h e f = (λ t. bit (get_or xs (e t) 0) (f t)) ∙ reads xs i h
@@ -139,7 +139,7 @@ module _ {n w : ℕ} {lane : ℕ → ℕ} (laws : IsLayout n w lane) where
 
   -- ---- rotations and shifts by bits, of those by bytes: in each lane the high bits of a, and then the low ones of b
 
-  -- such lanes are right if each of the two parts is
+  -- lanes that are joined of two parts are right if each of the two is
   funnel : (p q : ℕ) (a b : List ℕ) (f : ℕ → Bool) → p + q ≡ 8 → length a ≡ n → length b ≡ n
       → Each1 (Fits w8) a
       → ((i : ℕ) → i < w → i % 8 + p < 8 → at (laid w lane a) (i + p) ≡ f i)
@@ -159,7 +159,7 @@ module _ {n w : ℕ} {lane : ℕ → ℕ} (laws : IsLayout n w lane) where
       (laws.same i (i - q) (omega (arith, s, le)))
       (omega (arith, s, le)) ∙ high i l le))
 
-  -- rotations
+  -- a rotation by any number of bits, from those by bytes
   pub rotated : (x : List Bool) (a b : List ℕ) (m : ℕ) → length a ≡ n → length b ≡ n
       → Each1 (Fits w8) a
       → Turned w x (laid w lane a) (8 * (m / 8)) → Turned w x (laid w lane b) (8 * (m / 8 + 1))

@@ -20,13 +20,13 @@ nibble_row b n =
     (bit_and (b / 4) 1 * 2 ^ (2 * n) % 2 ^ 32))
     (b / 8 * 2 ^ (3 * n) % 2 ^ 32) * (1 * 2 ^ n % 2 ^ 32 - 1)
 
--- a test of all its bits, and that it fits in a row
+-- a test of all bits of a nibble's row, and that it fits in a row and in 32 bits
 row_case : ℕ → ℕ → Bool
 row_case n b =
     (nat_lt (nibble_row b n) (2 ^ (4 * n)) && nat_lt (nibble_row b n) (2 ^ 32))
     && all_below (4 * n) (λ q. same (bit (nibble_row b n) q) (bit b (q / n)))
 
--- by all nibbles and the eight numbers of blocks
+-- a nibble's row is right, by all nibbles and the eight numbers of blocks
 row_right : (b n : ℕ) → b ≤ 15 → 1 ≤ n → n ≤ 8
     → (nibble_row b n < 2 ^ (4 * n)) × (nibble_row b n < 2 ^ 32)
     × ((q : ℕ) → q < 4 * n → bit (nibble_row b n) q ≡ bit b (q / n))
@@ -42,15 +42,15 @@ row_right b (suc m) h some few =
           (all_below_tells _ _ t.1 q l),
     )
 
--- that number has 4 * n bits at most
+-- a nibble's row has 4 * n bits at most
 pub row_small : (b n : ℕ) → b ≤ 15 → 1 ≤ n → n ≤ 8 → nibble_row b n < 2 ^ (4 * n)
 row_small b n h some few = (row_right b n h some few).0
 
--- so it fits 32 bits
+-- a nibble's row fits 32 bits
 pub row_fits : (b n : ℕ) → b ≤ 15 → 1 ≤ n → n ≤ 8 → nibble_row b n < 2 ^ 32
 row_fits b n h some few = (row_right b n h some few).1
 
--- and its bit q is bit q / n of the nibble
+-- bit q of a nibble's row is bit q / n of the nibble
 pub row_bit : (b n q : ℕ) → b ≤ 15 → 1 ≤ n → n ≤ 8 → q < 4 * n
     → bit (nibble_row b n) q ≡ bit b (q / n)
 row_bit b n q h some few = (row_right b n h some few).2 q
@@ -75,9 +75,9 @@ same_nibble b j h = by_four (λ j. get_or (b ∷ b ∷ b ∷ b ∷ []) j 0 ≡ b
 
 -- a number has each bit of a nibble n times, and no others
 pub record IsRow (n x nibble : ℕ) : Type 0 where
-  -- it has no more bits than a row of n blocks
+  -- the number has no more bits than a row of n blocks
   pub small : x < 2 ^ (4 * n)
-  -- and its bit q is that of column q / n
+  -- bit q of the number is that of column q / n
   pub bits : (q : ℕ) → q < 4 * n → bit x q ≡ bit nibble (q / n)
 
 -- four rows joined, in a word of n blocks: each has a nibble's bits, n times each
@@ -142,15 +142,15 @@ pub joined_bit : (a b c d p i : ℕ) → a < 2 ^ 16 → b < 2 ^ 16 → c < 2 ^ 1
 joined_bit a b c d p i f0 f1 f2 f3 hp hi =
     rows_joined 64 16 a b c d p i (16 * p + i) refl f0 f1 f2 f3 hp hi (omega arith)
 
--- a byte in every byte of a word
+-- a byte in every byte of a word of 16 bits
 pub bytes_of_16 : (b : ℕ) → b < 256 → (i : ℕ) → i < 16 → bit (b * 0x0101) i ≡ bit b (i % 8)
 bytes_of_16 b f = byte_repeated 16 2 b _ refl f (omega arith)
 
--- the same at 32 bits
+-- a byte in every byte of a word of 32 bits
 pub bytes_of_32 : (b : ℕ) → b < 256 → (i : ℕ) → i < 32 → bit (b * 0x01010101) i ≡ bit b (i % 8)
 bytes_of_32 b f = byte_repeated 32 4 b _ refl f (omega arith)
 
--- the same at 64 bits
+-- a byte in every byte of a word of 64 bits
 pub bytes_of_64 : (b : ℕ) → b < 256 → (i : ℕ) → i < 64
     → bit (b * 0x0101010101010101) i ≡ bit b (i % 8)
 bytes_of_64 b f = byte_repeated 64 8 b _ refl f (omega arith)

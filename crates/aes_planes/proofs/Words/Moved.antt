@@ -1,4 +1,4 @@
--- Words that are turned or shifted by so many bits, at once or in two steps, at every width.
+-- Words that are turned or shifted by a number of bits, at once or in two steps, at every width.
 use Rattle.std.proofs.Common.{◌≡◌, ℕ, ◌+◌, ◌-◌, ◌*◌, ◌/◌, ◌%◌, Bool, ◌&&◌, nat_le, nat_lt, List, ap}
 use Rattle.std.proofs.Common.{sym, ◌∙◌, arith, le-leb, inl, inr}
 use Rattle.std.proofs.lemmas.Bool.{cases_lt, lt-leb, lt-ltb, le-ltb}
@@ -16,7 +16,7 @@ Right w x y n = Places w y (λ i. nat_lt (i + n) w && at x (i + n))
 abbrev pub Left : ℕ → List Bool → List Bool → ℕ → Type 0
 Left w x y n = Places w y (λ i. nat_le n i && at x (i - n))
 
--- the same bits, that many places further on
+-- the bit m places back from i is the bit n places back from j, where i + n is j + m
 pub left_by : (x : List Bool) (m n i j : ℕ) → i + n ≡ j + m
     → (nat_le m i && at x (i - m)) ≡ (nat_le n j && at x (j - n))
 left_by x m n i j e = elim (cases_lt i m) [
@@ -37,14 +37,14 @@ rotate_whole w x y n z t i l =
     let e : 8 * (n / 8) ≡ n = omega (arith, z) in
     t i l ∙ ap (λ v. at x ((i + v) % w)) e
 
--- and so it is of a shift right
+-- where 8 divides n, a shift right by n / 8 bytes is a shift right by n bits
 pub shift_right_whole : (w : ℕ) (x y : List Bool) (n : ℕ) → n % 8 ≡ 0 → Right w x y (8 * (n / 8))
     → Right w x y n
 shift_right_whole w x y n z t i l =
     let e : 8 * (n / 8) ≡ n = omega (arith, z) in
     t i l ∙ ap (λ v. nat_lt (i + v) w && at x (i + v)) e
 
--- and of a shift left
+-- where 8 divides n, a shift left by n / 8 bytes is a shift left by n bits
 pub shift_left_whole : (w : ℕ) (x y : List Bool) (n : ℕ) → n % 8 ≡ 0 → Left w x y (8 * (n / 8))
     → Left w x y n
 shift_left_whole w x y n z t i l =
@@ -65,7 +65,7 @@ right_again w x y z n m t u e i l = u i l ∙ elim (cases_lt (i + 8) w) [
       ∙ ap (λ c. c && at x (i + m)) (sym (le-ltb (i + m) w (omega (arith, e, le))))
 ]
 
--- and so it is of shifts left
+-- a shift left by n bits, and then by eight, is one by m
 pub left_again : (w : ℕ) (x y z : List Bool) (n m : ℕ) → Left w x y n → Left w y z 8 → m ≡ n + 8
     → Left w x z m
 left_again w x y z n m t u e i l = u i l ∙ elim (cases_lt i 8) [

@@ -132,7 +132,7 @@ module _ {A : Type 0} (bits : A → List Bool) (n : ℕ) (whose from : ℕ → �
       ∙ ext_get_or [] blocks batch (lb ∙ sym lh) (λ k l. (read k (omega (arith, lb, l))).1
       ∙ ap (λ v. get_or batch v []) (omega arith))
 
-  -- and the blocks that the transpose of planes is loaded from are the ones that they hold
+  -- the blocks that the transpose of planes is loaded from are the ones that the planes hold
   pub unpacked : (planes : List (List Bool)) (words : List A) (d : A) (blocks : List (List ℕ))
       → length planes ≡ 8
       → length words ≡ 8 → length blocks ≡ n → Each1 IsBlock blocks
@@ -177,7 +177,7 @@ word_to_four f bs x e a b c d j p hj hp = by_four (λ j. bit (f j) p ≡ bit x (
     ((λ t. bit ((d ∙ ap (λ v. get_or v 3 0) e) t) p) ∙ field_bit x 24 8 p hp) j hj
     ∙ reads 32 x (8 * j + p) (omega arith)
 
--- the same from the bytes up
+-- four bytes that make a word of 32 bits have the word's bits, eight each from the lowest on
 word_of_four : (f : ℕ → ℕ) (bs : List ℕ) (x : ℕ) → length bs ≡ 4 → ((i : ℕ) → get_or bs i 0 < 256)
     → x ≡ from_le_bytes w32 bs
     → f 0 ≡ get_or bs 0 0 → f 1 ≡ get_or bs 1 0 → f 2 ≡ get_or bs 2 0 → f 3 ≡ get_or bs 3 0
@@ -209,7 +209,7 @@ picked_small xs (k ∷ ks) zero f = f k
 picked_small xs (k ∷ ks) (suc i) f = picked_small xs ks i f
 
 module _ (xs ks : List ℕ) (d : length xs ≡ 16) (within : T (all_lanes_below 16 ks)) where
-  -- also by a swizzle, which picks from the list twice over
+  -- lanes that a swizzle picks from bytes, which reads the list twice over, are bytes
   swizzled_small : ((i : ℕ) → get_or xs i 0 < 2 ^ 8) → (i : ℕ)
       → get_or (pick_l 0 (xs ++ xs) ks) i 0 < 2 ^ 8
   swizzled_small f i =

@@ -33,8 +33,8 @@ drawn_bit s m x i h = bit_of_and (bit_or x (x * 2 ^ s % 2 ^ 64)) m i
     ∙ ap (λ b. b && bit m i) (bit_of_or x (x * 2 ^ s % 2 ^ 64) i
     ∙ ap (λ b. bit x i || b) (bit_shl 64 x s i h))
 
--- the first of two bits that may stand here, or the second,
--- under a mask: the bit that shall stand here
+-- whether a place has the right bit: under a mask, the first or the second of two bits that can
+-- stand there
 joined_right : Bool → Bool → Bool → Bool → Bool → Bool → Bool
 joined_right p q false o e f = not o
 joined_right p q true false e f = not p && not q
@@ -47,7 +47,7 @@ second : (q : Bool) (x : ℕ → Bool) (v w : ℕ) → (not q || (v == w)) ≡ t
 second true x v w h = ap (λ k. x w || x k) (eqb-true v w h) ∙ or_self (x w)
 second false x v w h = or-false (x w)
 
--- so what the mask lets through is the bit that shall stand here
+-- what the mask lets through of two bits that pass the test is the right bit
 joined : (p q b o : Bool) (x : ℕ → Bool) (u v w : ℕ) → joined_right p q b o (u == w) (v == w) ≡ true
     → (((p && x u) || (q && x v)) && b) ≡ (o && x w)
 unfolding joined_right
@@ -87,7 +87,8 @@ module _ (s m : ℕ) (on on-next : ℕ → Bool) (from from-next : ℕ
 abbrev first_places : ℕ → ℕ → ℕ → Bool
 first_places l q i = nat_lt (i % l) q
 
--- and which bit of the word stands at place i of them
+-- which bit of the word stands at place i, where the first q places of each l hold the bits in
+-- their order
 abbrev from_place : ℕ → ℕ → ℕ → ℕ
 from_place l q i = q * (i / l) + i % l
 
@@ -138,7 +139,7 @@ each_four_times x eights fours twos ones twice last f d24 d12 d6 d3 d1 d2 =
 abbrev lane_if : ℕ → ℕ → ℕ
 lane_if b m = cond (nat_eq (bit_and b m) m) 255 0
 
--- by all bytes and bits
+-- a lane is ones or zeros by the byte's bit, by all bytes and bits
 lane_right : (b q : ℕ) → b < 256 → q < 8 → lane_if b (2 ^ q) ≡ cond (bit b q) 255 0
 unfolding all_below bit
 lane_right b q h k =
@@ -149,7 +150,7 @@ lane_right b q h k =
 abbrev pub one_or_none : Bool → ℕ
 one_or_none b = cond b 255 0
 
--- such a lane for each of sixteen bits
+-- a lane of all ones or all zeros for each of sixteen bits
 abbrev chosen : List Bool → List ℕ
 chosen ms = sel_l ms (replicate 16 255) (replicate 16 0)
 

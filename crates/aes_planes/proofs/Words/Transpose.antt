@@ -33,7 +33,8 @@ chosen a b k =
     let t = and_parts _ _ (all_bools_tells 3 chooses refl (a ∷ b ∷ k ∷ []) refl) in
     (same_tells _ _ t.0, same_tells _ _ t.1)
 
--- the same for a bit that may come from below the lowest place
+-- a bit that differs from one that may come from below the lowest place is flipped where the mask
+-- says so
 chosen_if : (a b c l k : Bool) → (l ≡ true → c ≡ a)
     → xor a (l && (xor b c && k)) ≡ cond (l && k) b a
 chosen_if a b c true k e = ap (λ c. xor a (xor b c && k)) (e refl) ∙ (chosen a b k).1
@@ -43,7 +44,7 @@ chosen_if a b c false k e = xor_false a
 abbrev pub differing : ℕ → ℕ → ℕ → ℕ → ℕ
 differing s m low high = bit_and (bit_xor high (low / 2 ^ s)) m
 
--- bit by bit
+-- bit j of `differing`
 differing_bit : (s m low high j : ℕ) → bit (differing s m low high) j
     ≡ (xor (bit high j) (bit low (j + s)) && bit m j)
 differing_bit s m low high j = bit_of_and (bit_xor high (low / 2 ^ s)) m j
@@ -57,7 +58,7 @@ exchanged_high s m low high i = bit_of_xor high (differing s m low high) i
     ∙ ap (xor (bit high i)) (differing_bit s m low high i)
     ∙ (chosen (bit high i) (bit low (i + s)) (bit m i)).0
 
--- and the lower one takes them from the upper
+-- the lower number takes its bits under the mask from the upper one
 pub exchanged_low : (w s m low high i : ℕ) → i < w
     → bit (bit_xor low (differing s m low high * 2 ^ s % 2 ^ w)) i
     ≡ cond (nat_le s i && bit m (i - s)) (bit high (i - s)) (bit low i)
@@ -69,14 +70,14 @@ exchanged_low w s m low high i h = bit_of_xor low (differing s m low high * 2 ^ 
 
 -- ---- the same in each lane, under a byte that shifts none of its bits out of a lane
 
--- such a byte has no bit among the s highest
+-- a byte that shifts none of its bits out of a lane has no bit among the s highest
 outside : (s m r : ℕ) → m * 2 ^ s < 2 ^ 8 → 8 ≤ r + s → bit m r ≡ false
 outside s m r f h =
     let e : r ≡ r + s - s = omega arith in
     ap (bit m) e ∙ sym (bit_shl_high m s (r + s) (omega arith))
     ∙ bit_above (m * 2 ^ s) 8 (r + s) f h
 
--- so a bit under the mask stays in its lane
+-- a bit under the mask stays in its lane
 pub inside : (s m r : ℕ) → m * 2 ^ s < 2 ^ 8 → bit m r ≡ true → r + s < 8
 inside s m r f h =
     elim (cases_lt (r + s) 8) as (λ _. r + s < 8) [
@@ -125,8 +126,8 @@ module _ (w s m M low high : ℕ) (f : m * 2 ^ s < 2 ^ 8) (k : s < 8)
       (λ e. ap (bit low) spot ∙ reads w low (8 * j + (r + s)) (omega (arith, hj, inside s m r f e)))
       (reads w high (8 * j + r) (omega arith))
 
-  -- and the low word has, s places above the mask, the high
-  -- word's bit s places down, and else its own
+  -- after an exchange the low word has, s places above the mask, the high word's bit s places down,
+  -- and else its own
   pub word_low : (j r : ℕ) → 8 * j + 8 ≤ w → r < 8
       → at (word_bits w (bit_xor low (differing s M low high * 2 ^ s % 2 ^ w))) (8 * j + r)
       ≡ cond (nat_le s r && bit m (r - s)) (at (word_bits w high) (8 * j + (r - s)))
@@ -148,25 +149,25 @@ pub ruleset exchange_calls = (word_high, word_low, bytes_of_32, bytes_of_64)
 module _ {n w : ℕ} {lane : ℕ → ℕ} (laws : IsLayout n w lane) (s m : ℕ) (low high : List ℕ)
     (dl : length low ≡ n)
     (dh : length high ≡ n) (f : m * 2 ^ s < 2 ^ 8) where
-  -- before the mask
+  -- the bits in which the high vector differs from the low one shifted right by s
   abbrev unequal : List ℕ
   unequal = zip2 bit_xor high (zip2 shr8 low (replicate n s))
 
-  -- the bits under the mask in which the high vector differs from the low one shifted right by s
+  -- the bits of `unequal` under the mask
   abbrev pub moved : List ℕ
   moved = zip2 bit_and unequal (replicate n m)
 
-  -- with as many lanes
+  -- `unequal` has n lanes
   length-unequal : length unequal ≡ n
   length-unequal = length-zip2 bit_xor high (zip2 shr8 low (replicate n s))
       (dh ∙ sym (length-splat n shr8 low s dl))
       ∙ dh
 
-  -- and as many under the mask
+  -- `moved` has n lanes
   length-moved : length moved ≡ n
   length-moved = length-splat n bit_and unequal m length-unequal
 
-  -- lane by lane, as for two numbers
+  -- lane j of `moved` has the bits of lane j that differ
   lane_of_moved : (j : ℕ) → j < n → get_or moved j 0
       ≡ differing s m (get_or low j 0) (get_or high j 0)
   lane_of_moved j h = lane_of_splat n bit_and unequal m j length-unequal h
@@ -189,8 +190,8 @@ module _ {n w : ℕ} {lane : ℕ → ℕ} (laws : IsLayout n w lane) (s m : ℕ)
       ∙ chosen_same _ _ _ _ _ _ refl (λ is. sym (at_byte laws low j (r + s) hj (inside s m r f is)))
       (sym (at_byte laws high j r hj hr))
 
-  -- and the low vector has, s places above the mask, the high
-  -- one's bit s places down, and else its own
+  -- after an exchange the low vector has, s places above the mask, the high one's bit s places
+  -- down, and else its own
   pub lanes_low : (j r : ℕ) → 8 * j + 8 ≤ w → r < 8
       → at (laid w lane (zip2 bit_xor low (zip2 shl8 moved (replicate n s)))) (8 * j + r)
       ≡ cond (nat_le s r && bit m (r - s)) (at (laid w lane high) (8 * j + (r - s)))

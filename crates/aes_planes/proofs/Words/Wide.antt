@@ -55,7 +55,7 @@ pub place_low : (x : ℕ) → T (place_ok 32 0 (bit_and (x % 256) 143))
 unfolding all_below
 place_low = masked_place 32 0 refl
 
--- and one of the upper half
+-- a number masked with 143 names a lane of the upper half that a swizzle may read
 pub place_high : (x : ℕ) → T (place_ok 32 16 (bit_and (x % 256) 143))
 unfolding all_below
 place_high = masked_place 32 16 refl
@@ -175,19 +175,20 @@ byte_left x d = Places-build 256 _ _ (λ i l.
 
 -- ---- by bytes
 
--- an even number of bytes is a number of pairs
+-- a rotation by an even number of bytes is one by pairs
 pub rotate_even : (x y : List Bool) (b : ℕ) → b % 2 ≡ 0 → Turned 256 x y (16 * (b / 2))
     → Turned 256 x y (8 * b)
 rotate_even x y b z t i l = t i l ∙ ap (at x) (omega arith)
 
--- and an odd number is one byte more
+-- a rotation by an odd number of bytes is one by pairs and one byte more
 pub rotate_odd : (x y z : List Bool) (b : ℕ) → b % 2 ≡ 1 → Turned 256 x y (16 * (b / 2))
     → Turned 256 y z 8 → Turned 256 x z (8 * b)
 rotate_odd x y z b h t u i l = u i l ∙ t ((i + 8) % 256) (omega arith) ∙ ap (at x) (omega arith)
 
 pub ruleset rotate_bytes_calls = (rotate_even, rotate_odd)
 
--- the same two cases of a shift to the right
+-- a shift to the right by an even number of bytes is one by pairs, and by an odd number one byte
+-- more
 pub right_even : (x y : List Bool) (b : ℕ) → b % 2 ≡ 0 → Right 256 x y (16 * (b / 2))
     → Right 256 x y (8 * b)
 right_even x y b z t i l = t i l ∙ ap (λ v. nat_lt v 256 && at x v) (omega arith)
@@ -198,7 +199,8 @@ right_odd x y z b h t u = right_again 256 x y z (16 * (b / 2)) (8 * b) t u (omeg
 
 pub ruleset bytes_right_calls = (right_even, right_odd)
 
--- and of one to the left
+-- a shift to the left by an even number of bytes is one by pairs, and by an odd number one byte
+-- more
 pub left_even : (x y : List Bool) (b : ℕ) → b % 2 ≡ 0 → Left 256 x y (16 * (b / 2))
     → Left 256 x y (8 * b)
 left_even x y b z t i l =
@@ -223,7 +225,7 @@ rotate_part x a b n d e f t u = rotated wide (wide_bits x) a b n d e f t (λ i l
 
 pub ruleset rotate_calls = (rotate_whole, rotate_part)
 
--- a shift to the right
+-- a shift to the right by any number of bits, from that by bytes
 pub shift_right_part : (x a b : List ℕ) (n : ℕ) → length a ≡ 32 → length b ≡ 32 → Each1 (Fits w8) a
     → Right 256 (wide_bits x) (wide_bits a) (8 * (n / 8)) → Right 256 (wide_bits a) (wide_bits b) 8
     → Right 256 (wide_bits x) (wide_bits (funneled 32 (n % 8) (8 - n % 8) a b)) n
@@ -233,7 +235,7 @@ shift_right_part x a b n d e f t u = shifted_right wide (wide_bits x) a b n d e 
 
 pub ruleset shift_right_calls = (shift_right_whole, shift_right_part)
 
--- and to the left
+-- a shift to the left by any number of bits, from that by bytes
 pub shift_left_part : (x a b : List ℕ) (n : ℕ) → length a ≡ 32 → length b ≡ 32 → Each1 (Fits w8) b
     → Left 256 (wide_bits x) (wide_bits a) (8 * (n / 8)) → Left 256 (wide_bits a) (wide_bits b) 8
     → Left 256 (wide_bits x) (wide_bits (funneled 32 (8 - n % 8) (n % 8) b a)) n
@@ -261,7 +263,7 @@ twice_places x i d l =
     ∙ ap (λ v. get_or x v 0) (omega arith))
     ∙ sym (lane_at x (i / 16) (i % 8) (omega arith) (omega arith))
 
--- so the constant of these nibbles on 128 bits becomes that on 256
+-- the constant of four nibbles on 128 bits becomes that on 256
 pub twice_rows : (x : List ℕ) (r : ℕ → ℕ) → length x ≡ 16
     → Places 128 (lane_bits x) (λ i. bit (r (i / 32)) (i % 32 / 8))
     → Places 256 (wide_bits (pick_l 0 (x ++ x) twice)) (λ i. bit (r (i / 64)) (i % 64 / 16))
@@ -289,7 +291,7 @@ joined_low x y j p d h hp = lane_at x j p h hp
     ∙ bit_at wide (pick_l 0 (x ++ y) (sixteen ++ upper_16)) j p (16 * j + p) (omega arith)
     (omega arith) (omega arith)
 
--- and the second the others
+-- two vectors side by side: the second has the other eight bits of each sixteen
 pub joined_high : (x y : List ℕ) (j p : ℕ) → length x ≡ 16 → j < 16 → p < 8
     → at (lane_bits y) (8 * j + p) ≡ at (wide_bits (pick_l 0 (x ++ y) (sixteen ++ upper_16)))
     (16 * j + 8 + p)
@@ -312,7 +314,7 @@ lower x j p d h hp = lane_at (pick_l 0 (x ++ x) sixteen) j p h hp
     ∙ get_or_append_left x x 0 j (omega (arith, d, h)))
     ∙ bit_at wide x j p (16 * j + p) (omega arith) (omega arith) (omega arith)
 
--- and the upper one
+-- the upper half alone
 pub upper : (x : List ℕ) (j p : ℕ) → length x ≡ 32 → j < 16 → p < 8
     → at (lane_bits (pick_l 0 (x ++ x) upper_16)) (8 * j + p) ≡ at (wide_bits x) (16 * j + 8 + p)
 unfolding all_below

@@ -4,7 +4,7 @@ use Rattle.std.proofs.Common.{◌≡◌, ℕ, zero, suc, ◌+◌, ◌*◌, ◌�
 use Rattle.aes_planes.specs.Bits.{IsShape}
 use Rattle.aes_planes.specs.Fips197.{build, build_from}
 
--- by recursion, from any start
+-- how long a list is that is built from any start, by recursion
 length-build_from : {A : Type 0} (a n : ℕ) (f : ℕ → A) → length (build_from a n f) ≡ n
 unfolding build_from
 length-build_from a zero f = refl

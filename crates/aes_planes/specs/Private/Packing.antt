@@ -11,7 +11,7 @@ is_exchanged s m w r = cond (nat_lt w 4) (nat_le s r && bit m (r - s)) (bit m r)
 abbrev pub source_word : ℕ → ℕ → ℕ → ℕ → ℕ
 source_word s m w r = cond (is_exchanged s m w r) (2 * (w % 4) + (1 - w / 4)) (2 * (w % 4) + w / 4)
 
--- its place in the lane there
+-- the place in its lane of the bit that bit r of word w comes from
 abbrev pub source_bit : ℕ → ℕ → ℕ → ℕ → ℕ
 source_bit s m w r = cond (is_exchanged s m w r) (cond (nat_lt w 4) (r - s) (r + s)) r
 

@@ -19,7 +19,7 @@ pub(super) fn inverted_keys<const RK: usize>(round_keys: &[Block; RK]) -> [Block
     inverted
 }
 
-// The one of them at a place.
+// The round key of EqInvCipher at a place.
 #[tactic(auto, using(crate::proofs::InvertedKeys::inverted_calls))]
 fn inverted_key(round_keys: &[Block], i: usize) -> Block
     requires { i < length round_keys.now }

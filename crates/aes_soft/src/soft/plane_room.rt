@@ -34,8 +34,8 @@ pub fn expand_words_in_room<K: KeySize>(room: &mut PlaneRoom, key: &[u8], layers
     ensures key { key_of_planes (word_bits 16) 1 (stored_words K.SIZE room.new) ≡ key.now }
     ensures layers { layers.new ≡ layers.old + substitutions K.SIZE }
 {
-    // It is cut here, since the borrow checker doesn't cover a cut of
-    // what a `Wiped` lends to be written over.
+    // The room is cut here, since the borrow checker doesn't cover a cut of what a `Wiped` lends to
+    // be written over.
     expand_stored::<u16, Full>(&mut room[..2 * K::SIZE + 56], key, layers);
 }
 

@@ -8,8 +8,8 @@ use aes_cipher::zeroize::ZeroizeOnDrop;
 use standards::keys::PLAIN;
 use std::test::Fail;
 
-// Whether slices of 0 to 64 bytes are taken as keys exactly where they are as long as a key, and blocks have 16 bytes.
-// Its bound asks for the mark of types that are wiped when they are dropped.
+// Whether slices of 0 to 64 bytes are accepted as keys exactly where they are as long as a key, and
+// blocks have 16 bytes. Its bound asks for the mark of types that are wiped when they are dropped.
 fn takes_its_own_length_alone<C>(size: usize) -> bool
 where
     C: KeyInit + BlockSizeUser + ZeroizeOnDrop + Drop,
@@ -47,7 +47,7 @@ pub fn encrypts<C: BlockCipherEncrypt>(cipher: &C, encrypted: u128) -> bool {
     u128::from_be_bytes(block) == encrypted
 }
 
-/// Whether it comes back from there.
+/// Whether that block's encryption is decrypted to it.
 pub fn decrypts<C: BlockCipherDecrypt>(cipher: &C, encrypted: u128) -> bool {
     let mut block = encrypted.to_be_bytes();
     cipher.decrypt_block(&mut block);

@@ -17,13 +17,13 @@ use std::test::Fail;
 
 /// The forms of the three types that a crate has for a size of keys.
 pub trait Forms {
-    /// That of the type for both directions.
+    /// The form of the type for both directions.
     type Both: Encrypts + Decrypts + MadeFrom<Self::Enc>;
 
-    /// That of the type that encrypts.
+    /// The form of the type that encrypts.
     type Enc: Encrypts;
 
-    /// That of the type that decrypts.
+    /// The form of the type that decrypts.
     type Dec: Decrypts + MadeFrom<Self::Enc>;
 }
 
@@ -70,7 +70,7 @@ pub struct Known {
     pub name: &'static str,
     /// The key of FIPS 197, appendix C.
     pub key: &'static [u8],
-    /// The block there under that key.
+    /// The encryption of the block of appendix C under that key.
     pub encrypted: u128,
     /// A block of zeros under the key of zeros.
     pub zeros: u128,

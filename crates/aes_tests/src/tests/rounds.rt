@@ -29,7 +29,7 @@ const ENCRYPTED_128: [u128; 8] = [
     0x4605a49219c3459631f29dcff0a6f7da,
 ];
 
-// The same under the key of 24 bytes 00 to 17 (appendix C.2).
+// The eight blocks encrypted under the key of 24 bytes 00 to 17 (appendix C.2).
 const ENCRYPTED_192: [u128; 8] = [
     0xdda97ca4864cdfe06eaf70a0ec0d7191,
     0x2338b5561b17d2fbb2b8cccf212107da,
@@ -41,7 +41,7 @@ const ENCRYPTED_192: [u128; 8] = [
     0x5e18ee87658eead543bbdd07c6f5c612,
 ];
 
-// The same under the key of 32 bytes 00 to 1f (appendix C.3).
+// The eight blocks encrypted under the key of 32 bytes 00 to 1f (appendix C.3).
 const ENCRYPTED_256: [u128; 8] = [
     0x8ea2b7ca516745bfeafc49904b496089,
     0x35885e82c64f7b791d932044771160ca,

@@ -145,7 +145,7 @@ impl CipherTrial for Different {
     }
 }
 
-// By OpenSSL.
+// What `Different` expects for a key, by OpenSSL.
 fn different_by_key(key: &[u8]) -> Different {
     match key.len() {
         16 => Different {

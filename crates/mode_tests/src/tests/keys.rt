@@ -67,7 +67,7 @@ fn wraps_by<C: BlockCipherEncrypt + BlockCipherDecrypt>(
     true
 }
 
-// The same by the type of `aes_hybrid` for a size.
+// Whether a key is wrapped and unwrapped, by the type of `aes_hybrid` for a size.
 fn wraps<K: KeySize>(key: &K::Key, count: usize, numbers: &[u64; 5]) -> bool
     requires few { count ≤ 4 }
 {

@@ -41,7 +41,7 @@ fn digest_of_blocks(blocks: &[Block; 313]) -> u128 {
     digest(&joined)
 }
 
-// The digest of so many semiblocks.
+// The digest of 513 semiblocks.
 fn digest_of_513(sealed: &[Semiblock; 513]) -> u128 {
     let mut joined = [0; 4104];
     for i in 0..4104 {
@@ -50,7 +50,7 @@ fn digest_of_513(sealed: &[Semiblock; 513]) -> u128 {
     digest(&joined)
 }
 
-// The same of one more.
+// The digest of 514 semiblocks.
 fn digest_of_514(sealed: &[Semiblock; 514]) -> u128 {
     let mut joined = [0; 4112];
     for i in 0..4112 {

@@ -1,4 +1,5 @@
-//! Key wrap with padding: rows of RFC 5649 and of NIST, keys that were changed or padded otherwise, and wrong lengths.
+//! Key wrap with padding: examples of RFC 5649 and of NIST, keys that were changed or padded
+//! otherwise, and wrong lengths.
 
 ghost use Rattle.std.specs.Prelude.{◌≡◌};
 
@@ -296,8 +297,8 @@ fn semiblocks<const N: usize>(numbers: &[u64; N]) -> [Semiblock; N] {
     halves
 }
 
-// Whether a row's key is wrapped as it says, is unwrapped again, and is refused after a change in any semiblock, with zeros
-// in the output.
+// Whether an example's key is wrapped as it says, is unwrapped again, and is refused after a change
+// in any semiblock, with zeros in the output.
 fn pads<C: BlockCipherEncrypt + BlockCipherDecrypt>(cipher: &C, row: &Row) -> bool {
     let bytes = row.bytes.min(32);
     let count = bytes.div_ceil(8);

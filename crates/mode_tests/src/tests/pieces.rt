@@ -17,7 +17,7 @@ fn bytes() -> [u8; 100] {
     bytes
 }
 
-// Where a piece of `size` bytes ends that begins inside of so many.
+// Where a piece of `size` bytes ends that begins at `from`, or where the message ends.
 fn end_of(from: usize, size: usize, length: usize) -> usize
     requires { from ≤ length }
     ensures after { from ≤ result }
@@ -54,7 +54,7 @@ enum Work {
     DecryptUnverified,
 }
 
-// Does it, in pieces of `size` bytes.
+// Does the work on a text, in pieces of `size` bytes.
 fn goes_on(
     mode: &LentGcm<'_, &Aes128Enc>,
     message: &mut Message,

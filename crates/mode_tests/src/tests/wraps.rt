@@ -40,7 +40,7 @@ const AT_THE_THIRD_BLOCK: Wrapping = Wrapping {
     tag: 0x2bb267d3f606892268029de02d67a467,
 };
 
-// The second ends in ff ff ff ff: all counters of the text are wrapped.
+// The second block's counter ends in ff ff ff ff: all counters of the text are wrapped.
 const AT_THE_FIRST_BLOCK: Wrapping = Wrapping {
     nonce: [
         0x43, 0x84, 0xf2, 0xe1, 0x34, 0x5f, 0xa9, 0xcc, 0x9d, 0x09, 0x89, 0xc2, 0x5d, 0x70, 0x78,

@@ -150,7 +150,7 @@ impl AlgorithmName for OneRound {
 /// The round keys of a cipher, lent to a backend.
 #[derive(Drop)]
 pub struct Lent<'a> {
-    /// Their owner.
+    /// The owner of the round keys.
     pub cipher: &'a OneRound,
 }
 

@@ -109,7 +109,7 @@ const MORE: [u128; 4] = [
     0x00000000000000000000000000000001,
 ];
 
-// The same under the key of 16 bytes there, by OpenSSL 3.0.
+// `MORE` under the key of 16 bytes of F.1, by OpenSSL 3.0.
 const MORE_BY_128: [u128; 4] = [
     0x8df4e9aac5c7573a27d8d055d6e4d64b,
     0x2f49671c7ab81b2f435d9b650e35b8c1,
@@ -117,7 +117,7 @@ const MORE_BY_128: [u128; 4] = [
     0x57127d4034b1bebfaef466b9c7726fc6,
 ];
 
-// Under the key of 24 bytes, by OpenSSL.
+// `MORE` under the key of 24 bytes, by OpenSSL.
 const MORE_BY_192: [u128; 4] = [
     0xeb1b03f2acb64bcf28c9991cc8a4fa50,
     0x753a182b1a858cb50fef422f827f9337,
@@ -125,7 +125,7 @@ const MORE_BY_192: [u128; 4] = [
     0xfeb3c2eea1ccddfa4fd29b0d3ef4173d,
 ];
 
-// Under the key of 32 bytes, by OpenSSL.
+// `MORE` under the key of 32 bytes, by OpenSSL.
 const MORE_BY_256: [u128; 4] = [
     0xd83414223d20a0c928b136c884d07ea2,
     0x576436b0ed2a75ef808213d478aa53c1,

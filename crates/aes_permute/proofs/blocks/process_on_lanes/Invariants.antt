@@ -5,7 +5,7 @@ use Rattle.aes_planes.specs.Rounds.{all_rounds}
 use Rattle.aes_permute.specs.Stored.{round_keys_of}
 use Rattle.aes_permute.proofs.blocks.process_on_lanes.Given as goal
 
--- the first blocks are processed, and the others as they were given
+-- the first blocks are processed, and the others are as they were given
 pub record FirstProcessed (f : List ℕ → List ℕ) (done count : ℕ)
     (given blocks : List (List ℕ)) : Type 0 where
   pub within : done ≤ count

@@ -5,7 +5,7 @@ ghost use Rattle.std.specs.Borrow.{ftrue};
 
 use std::marker::Model;
 
-/// How many S-box layers ran. It takes no bytes, and contracts alone see its number.
+/// How many S-box layers ran. It has no bytes, and contracts alone see its number.
 ///
 /// It is neither Copy nor Clone, and only the two circuits of this module add to one.
 #[derive(Drop)]

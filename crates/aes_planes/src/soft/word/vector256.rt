@@ -17,7 +17,7 @@ const COLUMNS: [u8; 32] = [
     13, 14, 15,
 ];
 
-// Rotates the columns of the word by so many towards the low end.
+// Rotates the columns of the word by this many towards the low end.
 #[tactic(auto, using(crate::proofs::Words::Wide::rotated_columns))]
 #[inline(always)]
 fn rotate_columns(x: u8x32, columns: u8) -> u8x32
@@ -29,7 +29,7 @@ fn rotate_columns(x: u8x32, columns: u8) -> u8x32
     )
 }
 
-// Shifts the columns of the word down by so many. Zeros enter at the high end.
+// Shifts the columns of the word down by this many. Zeros enter at the high end.
 #[tactic(auto, using(crate::proofs::Words::Wide::columns_right, crate::proofs::Words::Wide::place_low, crate::proofs::Words::Wide::place_high))]
 #[inline(always)]
 fn columns_down(x: u8x32, columns: u8) -> u8x32
@@ -42,7 +42,7 @@ fn columns_down(x: u8x32, columns: u8) -> u8x32
     )
 }
 
-// Shifts the columns of the word up by so many. Zeros enter at the low end.
+// Shifts the columns of the word up by this many. Zeros enter at the low end.
 #[tactic(auto, using(crate::proofs::Words::Wide::columns_left))]
 #[inline(always)]
 fn columns_up(x: u8x32, columns: u8) -> u8x32
@@ -95,7 +95,7 @@ pub(super) fn byte_up(x: u8x32) -> u8x32
     )
 }
 
-// Rotates the word by so many bytes towards the low end.
+// Rotates the word by this many bytes towards the low end.
 #[tactic(auto, using(crate::proofs::Words::Wide::rotate_bytes_calls))]
 #[inline(always)]
 pub(super) fn rotate_bytes(x: u8x32, bytes: u32) -> u8x32
@@ -109,7 +109,7 @@ pub(super) fn rotate_bytes(x: u8x32, bytes: u32) -> u8x32
     rotate_byte(whole)
 }
 
-// Shifts the word down by so many bytes.
+// Shifts the word down by this many bytes.
 #[tactic(auto, using(crate::proofs::Words::Wide::bytes_right_calls))]
 #[inline(always)]
 pub(super) fn bytes_down(x: u8x32, bytes: u32) -> u8x32
@@ -124,7 +124,7 @@ pub(super) fn bytes_down(x: u8x32, bytes: u32) -> u8x32
     byte_down(whole)
 }
 
-// Shifts the word up by so many bytes.
+// Shifts the word up by this many bytes.
 #[tactic(auto, using(crate::proofs::Words::Wide::bytes_left_calls))]
 #[inline(always)]
 pub(super) fn bytes_up(x: u8x32, bytes: u32) -> u8x32

@@ -24,7 +24,7 @@ pub use encrypt::encrypt_with_backend;
 use std::convert::AsSlice;
 use std::marker::Model;
 
-// How many bytes of stack a closure takes at most that works on
+// The most bytes of stack of a closure that works on
 // batches, as those of this library's modes do.
 const CLOSURE_STACK: usize = 2032;
 

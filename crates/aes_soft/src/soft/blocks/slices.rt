@@ -86,7 +86,7 @@ pub fn process_batches_under<W: Word, D: PlaneCipher>(
     }
 }
 
-// How many bytes of stack the work on batches takes at most.
+// The most bytes of stack of the work on batches.
 const BATCHES_STACK: usize = 1024;
 
 // Processes whole batches in a call of its own, so that its stack can be wiped.

@@ -159,7 +159,8 @@ pub(crate) fn process<W: Word, L: Layout, D: PlaneCipher>(
     W::inv_bitslice(&state)
 }
 
-// The same in a call that is not inlined, which is quicker for a single block.
+// Processes each block of a batch in a call that is not inlined, which is quicker for a single
+// block.
 pub(crate) fn process_in_a_call<W: Word, L: Layout, D: PlaneCipher>(
     round_keys: &[W],
     rounds: usize,

@@ -26,7 +26,7 @@ pub(super) fn add_key<W: Word>(state: &mut [W; 8], round_keys: &[W], i: usize)
 // How many ShiftRows are deferred after a round. A type and no number, so that each round is
 // compiled with its own mixing of columns and no choice between four.
 pub(super) trait Deferred {
-    // The number.
+    // The number of deferred ShiftRows.
     ghost DEFERRED: { ℕ };
 
     // Applies MixColumns to every block, between the deferred ShiftRows and as many InvShiftRows.
@@ -43,7 +43,7 @@ pub(super) trait Deferred {
             (held W.BLOCKS (map W.bits state.old)) };
 }
 
-// None is deferred.
+// No ShiftRows is deferred.
 pub(super) struct Deferred0;
 
 impl Deferred for Deferred0 {
@@ -60,7 +60,7 @@ impl Deferred for Deferred0 {
     }
 }
 
-// One is deferred.
+// One ShiftRows is deferred.
 pub(super) struct Deferred1;
 
 impl Deferred for Deferred1 {
@@ -77,7 +77,7 @@ impl Deferred for Deferred1 {
     }
 }
 
-// Two are deferred.
+// Two ShiftRows are deferred.
 pub(super) struct Deferred2;
 
 impl Deferred for Deferred2 {
@@ -94,7 +94,7 @@ impl Deferred for Deferred2 {
     }
 }
 
-// Three are deferred.
+// Three ShiftRows are deferred.
 pub(super) struct Deferred3;
 
 impl Deferred for Deferred3 {

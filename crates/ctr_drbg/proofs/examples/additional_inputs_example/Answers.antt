@@ -14,7 +14,7 @@ one = bytes 48 0x0b081bab6c74d86b4a010e2ded99d14e0c9838f7c3d69afd64f1b66377d95cd
 abbrev other : List ℕ
 other = bytes 48 0xca818f938ae0c7f4f507e4cfec10e7baf51fe34b89a502f754d2d2be7395120fe1fb013c67ac2500b3d17b735da09a6e
 
--- the states before the requests, and those that the updates before the output leave
+-- the working states before the requests, and those that the updates before the output leave
 abbrev seeded : State
 seeded = record {
   key =
