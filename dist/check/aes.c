@@ -11,6 +11,13 @@
 #include <stdlib.h>
 #include <string.h>
 
+/* How many bytes of a struct fotsgure_aes a build keeps. */
+#ifdef __riscv_v
+#define KEPT 484
+#else
+#define KEPT sizeof(struct fotsgure_aes)
+#endif
+
 static int passed, failed;
 
 static void expect(int holds, const char *what, size_t size)
@@ -122,7 +129,7 @@ static void rows_of_appendix_c(size_t size, const char *digits)
     from_hex(plain, c_plain);
     from_hex(cipher, digits);
     expect(fotsgure_aes_set_key(&aes, counted, size) == FOTSGURE_AES_DONE &&
-        fotsgure_aes_key_length(&aes) == size && aes.key_length == size, "a key is kept", size);
+        fotsgure_aes_key_length(&aes) == size && (uint32_t)aes.key_length == size, "a key is kept", size);
     memcpy(block, plain, 16);
     expect(fotsgure_aes_encrypt_blocks(&aes, block, 1) == FOTSGURE_AES_DONE &&
         !memcmp(block, cipher, 16), "appendix C, encrypted", size);
@@ -538,7 +545,7 @@ static void statuses(void)
         fotsgure_aes_key_length(&aes) == 0, "no bytes are no key", 0);
     memset(&aes, 0xff, sizeof aes);
     expect(fotsgure_aes_set_key(&aes, counted, 24) == FOTSGURE_AES_DONE &&
-        !memcmp(&aes, &before, sizeof aes), "what was there before does not count", 24);
+        !memcmp(&aes, &before, KEPT), "what was there before does not count", 24);
     expect(fotsgure_aes_version() == FOTSGURE_AES_VERSION, "header and library are of one version", 0);
 }
 

@@ -1,5 +1,5 @@
 /* What a shared library asks of the loader: it has to have no text relocation, no executable stack, no segment that is
- * both writable and executable, and exactly the exports that are named.
+ * both writable and executable, no function that is bound at its first use, and exactly the exports that are named.
  * usage: elf LIBRARY EXPORT .. */
 #include <elf.h>
 #include <stdio.h>
@@ -45,19 +45,23 @@ static unsigned char *whole(const char *name, size_t *size)
 static void segments(const unsigned char *bytes, const ELF(Ehdr) *head)
 {
     const ELF(Phdr) *segment = (const void *)(bytes + head->e_phoff);
-    int stack = 0, text = 0, both = 0;
+    int stack = 0, text = 0, both = 0, now = 0;
     for (int i = 0; i < head->e_phnum; i++) {
         stack |= segment[i].p_type == PT_GNU_STACK && !(segment[i].p_flags & PF_X);
         both |= segment[i].p_type == PT_LOAD && (segment[i].p_flags & PF_X) && (segment[i].p_flags & PF_W);
         if (segment[i].p_type != PT_DYNAMIC)
             continue;
         const ELF(Dyn) *entry = (const void *)(bytes + segment[i].p_offset);
-        for (; entry->d_tag != DT_NULL; entry++)
+        for (; entry->d_tag != DT_NULL; entry++) {
             text |= entry->d_tag == DT_TEXTREL || (entry->d_tag == DT_FLAGS && (entry->d_un.d_val & DF_TEXTREL));
+            now |= entry->d_tag == DT_BIND_NOW || (entry->d_tag == DT_FLAGS && (entry->d_un.d_val & DF_BIND_NOW)) ||
+                (entry->d_tag == DT_FLAGS_1 && (entry->d_un.d_val & DF_1_NOW));
+        }
     }
     expect(stack, "the stack is executable", "");
     expect(!both, "a segment is both writable and executable", "");
     expect(!text, "the code is relocated", "");
+    expect(now, "functions are bound at their first use", "");
 }
 
 static void exports(const unsigned char *bytes, const ELF(Ehdr) *head, int count, char **names)

@@ -96,10 +96,19 @@ enum fotsgure_aes_status {
     FOTSGURE_AES_TOO_LONG = 9        /* more text than a nonce of this length allows */
 };
 
-/* A key schedule, for both directions and for counter mode. Read and write it by the calls below alone. */
+/* The words of a key schedule. Of the builds for 64-bit RISC-V, the one without vectors has words of 64 bits. */
+#if defined(__riscv) && __riscv_xlen == 64
+typedef uint64_t fotsgure_aes_word;
+#else
+typedef uint32_t fotsgure_aes_word;
+#endif
+
+/* A key schedule, for both directions and for counter mode. Read and write it by the calls below alone. On 64-bit RISC-V
+ * with vectors it is kept in the first 484 bytes, and the others are neither read nor written: what is said of the struct
+ * is so of the bytes that a build keeps. */
 struct fotsgure_aes {
-    uint32_t key_length; /* 16, 24 or 32; 0: no key */
-    uint8_t round_keys[480];
+    fotsgure_aes_word key_length; /* in the lower 32 bits: 16, 24 or 32; 0: no key */
+    fotsgure_aes_word round_keys[120];
 };
 
 /* Where a keystream stands. The caller sets both fields, and may set `position` to go on anywhere. Never use a counter
@@ -115,7 +124,7 @@ struct fotsgure_aes_cbc {
     uint8_t previous[16]; /* the last encrypted block; before the first, the initialization vector */
 };
 
-FOTSGURE_AES_ASSERT(sizeof(struct fotsgure_aes) == 484, "no padding");
+FOTSGURE_AES_ASSERT(sizeof(struct fotsgure_aes) == 121 * sizeof(fotsgure_aes_word), "no padding");
 FOTSGURE_AES_ASSERT(sizeof(struct fotsgure_aes_ctr) == 24, "no padding");
 FOTSGURE_AES_ASSERT(sizeof(struct fotsgure_aes_cbc) == 16, "no padding");
 

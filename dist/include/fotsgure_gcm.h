@@ -106,6 +106,13 @@ enum fotsgure_gcm_status {
     FOTSGURE_GCM_UNEQUAL_LENGTHS = 10 /* input and output differ in length */
 };
 
+/* The words of a key schedule. Of the builds for 64-bit RISC-V, the one without vectors has words of 64 bits. */
+#if defined(__riscv) && __riscv_xlen == 64
+typedef uint64_t fotsgure_gcm_word;
+#else
+typedef uint32_t fotsgure_gcm_word;
+#endif
+
 /* How many bytes a prepared key has. No build for 32-bit ARM and RISC-V has a byte shuffle. For the other machines there
  * are builds with one, which need more; those without use less of the struct. */
 #if defined(__arm__) || (defined(__riscv) && __riscv_xlen == 32)
@@ -118,7 +125,7 @@ enum fotsgure_gcm_status {
 
 /* A key, prepared for messages. Read and write it by the calls below alone. */
 struct fotsgure_gcm {
-    uint32_t key_length; /* 16, 24 or 32; 0: no key */
+    fotsgure_gcm_word key_length; /* 16, 24 or 32; 0: no key */
     uint8_t round_keys[FOTSGURE_GCM_ROUND_KEYS];
     uint8_t multiples[FOTSGURE_GCM_MULTIPLES];
 };
@@ -147,14 +154,15 @@ struct fotsgure_gcm_message {
 /* A key of AES-GCM-SIV. Read and write it by the calls below alone. Builds with a byte shuffle keep it in the first 244 bytes,
  * and neither read nor write the others: what is said of the struct is so of the bytes that a build keeps. */
 struct fotsgure_gcm_siv {
-    uint32_t key_length; /* 16 or 32; 0: no key */
-    uint8_t round_keys[480];
+    fotsgure_gcm_word key_length; /* 16 or 32; 0: no key */
+    fotsgure_gcm_word round_keys[120];
 };
 
-FOTSGURE_GCM_ASSERT(sizeof(struct fotsgure_gcm) == FOTSGURE_GCM_ROUND_KEYS + FOTSGURE_GCM_MULTIPLES + 4, "no padding");
+FOTSGURE_GCM_ASSERT(sizeof(struct fotsgure_gcm) == FOTSGURE_GCM_ROUND_KEYS + FOTSGURE_GCM_MULTIPLES + sizeof(fotsgure_gcm_word),
+    "no padding");
 FOTSGURE_GCM_ASSERT(sizeof(struct fotsgure_gcm_counter) == 12, "no padding");
 FOTSGURE_GCM_ASSERT(sizeof(struct fotsgure_gcm_message) == 80, "no padding");
-FOTSGURE_GCM_ASSERT(sizeof(struct fotsgure_gcm_siv) == 484, "no padding");
+FOTSGURE_GCM_ASSERT(sizeof(struct fotsgure_gcm_siv) == 121 * sizeof(fotsgure_gcm_word), "no padding");
 
 /* Returns FOTSGURE_GCM_VERSION of the header that the library was built with. */
 uint32_t fotsgure_gcm_version(void) FOTSGURE_GCM_NOEXCEPT;

@@ -143,7 +143,7 @@ TABLE = Table({
     "movz": lambda m, name, to, value: m.put(to, m.get(value)),
     "movn": lambda m, name, to, value: m.put(to, ~m.get(value) & (1 << 8 * to.size) - 1),
     "adrp": lambda m, name, to, page: m.put(to, page),
-    "umulh": lambda m, name, to, a, b: m.put(to, constant("a factor", m.get(a)) * constant("a factor", m.get(b)) >> 64),
+    "umulh": lambda m, name, to, a, b: m.put(to, m.high_product(m.get(a), m.get(b))),
     **dict.fromkeys(("lslv", "lsrv"), lambda m, name, to, a, n: m.put(to, m.shift(name[:3], m.get(a), constant(
         "a count", m.get(n)) % (8 * to.size), to.size))),
     "extr": lambda m, name, to, a, b, n: m.put(to, m.unbits((m.bits(m.get(b), to.size) + m.bits(m.get(a), to.size))[n:n + 8 * to.size])),

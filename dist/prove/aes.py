@@ -22,8 +22,10 @@ KEPT_KEY = 244  # bytes with which a struct begins: the key's length, and the ro
 
 # The low half of a counter, by its name: `word` and an offset i are that of block i. A call begins at block `first`. From block `wrap` on
 # it has wrapped around; later blocks than `last` don't occur.
-CounterWord = namedtuple("CounterWord", "word first wrap last")
+# `words` are those bytes of a whole counter that are words of unknown value.
+CounterWord = namedtuple("CounterWord", "word first wrap last words", defaults=[None])
 NEVER, BATCH = 1 << 64, 16  # a batch may have more blocks than the text
+PTRDIFF_MAX = (1 << 63) - 1
 
 
 class Keyed:
@@ -175,12 +177,12 @@ class Keyed:
         """The same of the last block."""
         return lambda m: [self.domain.moved(b, m.known(count) - 1 - m.first_block) for b in pattern]
 
-    def of_any_count(self, name, state, content, want, count, size, plain, way="", **more):
+    def of_any_count(self, name, state, content, want, count, size, plain, way="", choose=None, facts=(), **more):
         if way == "_to":
-            streams = [Stream("input", size, content), count, Stream("output", size, self.undefined(16), want), count]
+            streams = [Stream("input", size, content), count, Stream("output", size, self.undefined(16), want, choose), count]
         else:
-            streams = [Stream("blocks", size, content, want), count]
-        facts = unknown("n"), (1 << 63) - 1 - size
+            streams = [Stream("blocks", size, content, want, choose), count]
+        facts = {unknown("n"), PTRDIFF_MAX - size, *facts}
         return Call(name + way, [self.schedule(), *state, *streams], DONE, plain=self.of_all(plain), facts=facts, **more)
 
     def any_blocks(self, direction, rest, way="", step=16):
@@ -188,19 +190,24 @@ class Keyed:
         return self.of_any_count("aes_%s_blocks" % direction, [], content, want, count, count * 16,
                                  content if direction == "encrypt" else want, way)
 
-    def any_keystream(self, position, rest, way="", step=128):
-        """For an initial counter block whose low half doesn't carry."""
-        (first, skip), d, count = divmod(position, 16), self.domain, unknown("n") * step + rest
-        name, end = "counter low, from %d, any count" % first, count + position
-        low, (stream, _), data = self.counter_blocks()
-        d.placed[name] = lambda number, k: d.bits(d.byte_in_block(low[7 - k], number - first))
+    def any_keystream(self, skip, rest, way="", step=128):
+        """At every position 16 k + `skip`, for any initial counter block: the low half carries at any place, or nowhere."""
+        before, wrap, d, count = unknown("before"), unknown("wrap"), self.domain, unknown("n") * step + rest
+        name, end, places = "counter low, any count", before * 16 + skip + count, range(skip, skip + 16)
+        low, streams, data = self.counter_blocks()
+        d.placed[name] = lambda number, k: d.bits(d.byte_in_block(low[7 - k], number))
         iv = [b for base in ("counter high", name) for b in [d.opaque((Pointer(base, 0), k)) for k in range(8)][::-1]]
-        at = lambda bytes_: [self.pattern([bytes_[t % 16]], t // 16)[0] for t in range(skip, skip + 16)]
-        ctr = Buffer("ctr", iv + number(position, 8)[::-1], lambda m: iv + m.to_bytes(m.known(end), 8))
-        content, want = at(data), self.aes.xor(at(data), at(stream))
-        return self.of_any_count("aes_add_keystream", [ctr], content, want, count, count, content + want, way,
-                                 counter=CounterWord(name, first, NEVER, (end - end.constant % 16).divided(16)[0] + BATCH),
-                                 keystream=self.of_all(self.pattern(stream)), may_stay={"plain": 4} if way == "_to" else None)
+        at = lambda bytes_: [self.pattern([bytes_[t % 16]], t // 16)[0] for t in places]
+
+        def choose(m, number):
+            wrapped = [m.is_below(m.counter.first + number + k, m.counter.wrap) for k in (0, 1)]
+            return [wrapped[t // 16] if wrapped[t // 16] is None else 1 - wrapped[t // 16] for t in places]
+        content, wants = at(data), [self.aes.xor(at(data), at(stream)) for stream in streams]
+        ctr = Buffer("ctr", iv + [d.opaque((before * 16 + skip, k)) for k in range(8)], lambda m: iv + m.to_bytes(m.known(end), 8))
+        return self.of_any_count("aes_add_keystream", [ctr], content, wants, count, count, content + sum(wants, []), way, choose,
+                                 {before, WORD - end, wrap - 1, WORD + 1 - wrap},
+                                 counter=CounterWord(name, before, wrap, end.divided(16)[0] + BATCH),
+                                 keystream=self.of_all(self.pattern(sum(streams, []))), may_stay={"plain": 4} if way == "_to" else None)
 
     def any_cbc_decrypt(self, rest, step=64):
         content, previous, count = self.pattern(self.block_bytes), self.pattern(self.block_bytes, -1), unknown("n") * step + rest
@@ -214,7 +221,8 @@ class Keyed:
         (chain, chained), count, d = self.chain(), unknown("n"), self.domain
         content, want = self.pattern(self.block_bytes, -1), self.pattern(chain)
 
-        def steps(k):
+        def steps(m):
+            k = m.done - m.first_block
             return "vector", [d.moved(b, k) for b in chained], [d.moved(b, k) for b in want]
         return self.of_any_count("aes_cbc_encrypt", [Buffer("cbc", chain, self.of_last(want, count))], content, want, count, count * 16,
                                  content, steps=steps)

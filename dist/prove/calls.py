@@ -28,11 +28,18 @@ class Buffer:
 
 
 class Stream(Buffer):
-    """A buffer of a length that isn't known: a number of bytes, and what the block with number LEAD is, and has to be after the call."""
+    """A buffer of a length that isn't known: a number of bytes, and what the block with number LEAD is, and has to be after the call. That
+    is one of several, where `choose` says of a machine and a block's number in the buffer, byte by byte, which one (None: not known)."""
 
-    def __init__(self, name, size, content, after=None):
+    def __init__(self, name, size, content, after=None, choose=None):
         super().__init__(name, content, after)
-        self.size = size
+        self.size, self.choose = size, choose
+        self.patterns = after if choose else [after or []]
+
+    def want(self, m, number):
+        if not self.choose:
+            return self.after
+        return [None if k is None else self.after[k][i] for i, k in enumerate(self.choose(m, number))]
 
 
 class Call:
@@ -54,7 +61,7 @@ class Call:
         self.reveals, self.refused, self.refused_after = reveals, refused, refused_after or {}
         self.assumes, self.later, self.counter = assumes, later, counter
         self.keystream, self.plain, self.may_stay, self.room, self.paths = keystream, plain, may_stay or {}, room, paths
-        self.facts, self.undone, self.between = frozenset(facts), undone, between
+        self.facts, self.undone, self.between, self.named = frozenset(facts), undone, between, {}
         self.buffers = [a for a in arguments if isinstance(a, Buffer)]
         self.any_length = any(isinstance(b, Stream) for b in self.buffers)
 
@@ -64,8 +71,7 @@ def prove(domain, program, call, seed=None):
     tag is right. With a seed, for one key and data, on the processor too. The result is a machine after the call."""
     if len(domain.products) > MANY:
         domain.forget_products()
-    regions = {b.name: Window(b.size, b.content, b.after is not None) if isinstance(b, Stream) else Region(b.content, b.after is not None)
-               for b in call.buffers}
+    regions = {b.name: Window(b.size, b.content, b.after and b.want) if isinstance(b, Stream) else Region(b.content, b.after is not None) for b in call.buffers}
     regions["stack"] = Region([domain.undefined] * (STACK - 8 * len(program.machine.pushed)), align=16)
     arguments = [Pointer(a.name, 0) if isinstance(a, Buffer) else a for a in call.arguments]
     m = program.machine(domain, program, regions, program.exports["fotsgure_" + call.name], arguments)
@@ -75,8 +81,9 @@ def prove(domain, program, call, seed=None):
     if refuted(call.facts):
         raise Unproved("is about no arguments")
     watches = [step_by_step(call.steps if call.any_length else call.steps())] if call.steps else []
+    known = lengths.Known()
     if call.any_length:
-        watches.append(lengths.watch)
+        watches.append(functools.partial(lengths.watch, known))
     if call.paths is not None:
         watches.append(lambda m: m.path.append(m.last))
     if seed is None:
@@ -96,7 +103,7 @@ def prove(domain, program, call, seed=None):
             except lengths.Wrong as wrong:
                 general, guess = wrong.args
                 waiting, ends = ([x for x in some if general.name not in x.generals] for some in (waiting, ends))
-                waiting.append(lengths.general_state(*general.made_of, general.wrong | {guess}))
+                waiting += [*known.forget(general), lengths.general_state(known, *general.made_of, general.wrong | {guess})]
                 continue
             check(m, call)
             nothing_secret(m, call)
@@ -150,11 +157,10 @@ def check(m, call):
         want = buffer.after if right else call.refused_after.get(buffer.name, buffer.content)
         stays, want = want == buffer.content, want(m) if callable(want) else want
         if isinstance(buffer, Stream):
-            have = m.regions[buffer.name].finish(m) if want else None
-            if have and not right:
+            if want and not right:
                 raise Unproved("%s, which may be refused, has no fixed length" % buffer.name)
-            compare(m.domain, have or [], want[:len(have or [])] if want else [], buffer.name)
-            m.results += [m.domain.moved(b, k) for b in want or () for k in range(LAST - LEAD)]
+            if want:
+                m.regions[buffer.name].finish(m, buffer.name)
             continue
         if status and buffer.name in m.wrote and stays and not call.undone:
             raise Unproved("writes to %s, which is to stay as it is" % buffer.name)
@@ -205,16 +211,23 @@ def step_by_step(steps):
     (or a function that makes that), and other bytes, which are arbitrary. When the result is there, these bytes take its place everywhere,
     so what is proved from there on holds for any. "hash" is looked for in vector registers, or as two words in either order of bytes;
     products of bits are then forgotten: what still depends on them is lost, and may not even be left. "vector" is looked for in vector
-    registers, "memory" where something was written, "block" in all these places; another name is that of a region."""
-    at = functools.lru_cache(None)(steps) if callable(steps) else None
-    steps = () if at else list(steps)
+    registers, "memory" where something was written, "block" in all these places; another name is that of a region. In a call of any length
+    `steps` is a function of the machine; then "whole" waits for all of a buffer, and "nothing" says that what comes next isn't known."""
+    steps = steps if callable(steps) else list(steps)
 
     def watch(m):
-        if not at and m.done == len(steps):
+        if m.want is None:
+            if not callable(steps) and m.done == len(steps):
+                return
+            where, want, new = steps(m) if callable(steps) else steps[m.done]
+            # (Made before the code comes to it, so the code's products have the factors that it names: with_powers.)
+            m.want = where, want() if callable(want) else want, new
+        where, want, new = m.want
+        if where == "whole" and m.regions[want].is_done(m):
+            m.begin_again(want, new)
+            m.done, m.want = m.done + 1, None
+        if where in ("whole", "nothing"):
             return
-        where, want, new = at(m.done - m.first_block) if at else steps[m.done]
-        if callable(want):  # made before the code comes to it, so the code's products have the factors that it names (with_powers)
-            want = m.want = m.want or want()
         if found(m, where, want):
             replaced, lost, on = {}, None, depends(m, *want) if where == "hash" else 0
             for x, y in zip(want, new):
@@ -280,7 +293,7 @@ def depends_bit(m, x, origins=True):
     return out
 
 
-def tells(m, byte, names, plain):
+def tells(m, byte, known, plain):
     """What a byte that is left tells: of the "key" alone, "inner" values of the key and others, from which the key may be computed, "plain"
     text and what is computed of it without the key, a block that the cipher gave in the midst of a mode ("step"), the "keystream", the
     call's "result", or of other "data" alone."""
@@ -290,7 +303,7 @@ def tells(m, byte, names, plain):
         return None
     kinds = set()
     for x in m.domain.bits(byte):
-        on, name = depends_bit(m, x), names.get(x & ~1)
+        on, name = depends_bit(m, x), next((kind for kind, bits in known.items() if x & ~1 in bits), None)  # the first of several
         if not on & (KEY | DATA):
             continue
         if not name and on & KEY and (on == KEY or depends_bit(m, x, False) & KEY):
@@ -299,14 +312,27 @@ def tells(m, byte, names, plain):
     return next((k for k in KINDS if k in kinds), None)
 
 
+def bits_of(m, bytes_):
+    return {x & ~1 for b in bytes_ if m.domain.symbolic(b) for x in m.domain.bits(b)}
+
+
+def named(m, call):
+    """Bits that a statement names, by what they tell, and the cells of plain text: made once of each call."""
+    if m.domain not in call.named:
+        streams = [m.domain.moved(b, k) for a in call.buffers if isinstance(a, Stream) for pattern in a.patterns for b in pattern
+                   for k in range(LAST - LEAD)]
+        known = {"keystream": call.keystream, "plain": call.plain, "result": streams, "step": call.between}
+        known = {kind: bits_of(m, bytes_) for kind, bytes_ in known.items()}
+        cells = {cell for x in known["plain"] if not depends_bit(m, x, False) & KEY for cell in cells_of_bit(m, x)}
+        call.named[m.domain] = known, cells
+    return call.named[m.domain]
+
+
 def left(m, call):
     """What is left of a call, in bytes: {(place, kind): [where]}, in the dead stack, by the offset from the stack pointer at the call, in
     bytes of a message that may be anything, in registers, and among what was written to buffers, also if it was written over since."""
-    bits = lambda bytes_: (x & ~1 for b in bytes_ if m.domain.symbolic(b) for x in m.domain.bits(b))
-    # (Of what is several of these, it is the last.)
-    known = ("step", call.between), ("result", m.results), ("plain", call.plain), ("keystream", call.keystream)
-    names = {x: name for name, bytes_ in known for x in bits(bytes_)}
-    plain = {cell for x in bits(call.plain) if not depends_bit(m, x, False) & KEY for cell in cells_of_bit(m, x)}
+    known, plain = named(m, call)
+    known = {**known, "result": known["result"] | bits_of(m, m.results)}
     places = [("stack", k - m.top, m.regions["stack"].content[k]) for k in range(m.lowest, m.top)]
     places += [("a message", k, b) for k, b in enumerate(m.unsaid)]
     places += [(IN_BUFFERS, a.name, b) for a in call.buffers if not a.secret and a.after is not ANY
@@ -317,7 +343,7 @@ def left(m, call):
     for place, where, b in places:
         if call.any_length and max(m.domain.blocks(b), default=0) >= LAST:
             raise Unproved("leaves a block with a number that isn't known")
-        k = tells(m, b, names, plain)
+        k = tells(m, b, known, plain)
         if k:
             out.setdefault((place, k), []).append(where)
     return out

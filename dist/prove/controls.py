@@ -1,5 +1,5 @@
-"""The controls of the proof: faults that are planted in the assembly (faults.py), and wrong meanings of instructions. Each has to be
-refused. Run it as `make prove-controls` in dist.
+"""The controls of the proof: faults that are planted in the assembly (faults.py), code that no case reaches, and wrong meanings of
+instructions. Each has to be refused. Run it as `make prove-controls` in dist.
 
 A fault is refused if the case that it names, one of those of `make prove`, is not proved any more. One for which a text has no place counts
 as missed. Whatever else goes wrong ends the controls: gcc, ld, a case that isn't there, or a planted instruction that isn't covered, unless
@@ -8,8 +8,9 @@ import argparse
 import re
 import sys
 
+import uncovered
 from bits import Unproved
-from faults import FAULTS
+from faults import FAULTS, UNREACHED
 from long_faults import LONG_FAULTS
 from native import NEVER_ALONE, compare_all
 from processors import PROCESSORS
@@ -38,18 +39,30 @@ def edited(text, label, pattern, new):
     return text[:found.start()] + put + text[found.end():], text.count("\n", 0, found.start()) + 1
 
 
+def refuse_unreached(build, program, function):
+    """Refuses what the cases that ran don't reach of a function, if that isn't in the list."""
+    found = uncovered.of_text(program, set(program.cache), program.went)
+    for fault in uncovered.faults(build, {name: one for name, one in found.items() if re.search(function, uncovered.plain(name) + ":")}):
+        raise Unproved("unreached: " + fault)
+
+
 def faults(options, build):
-    """Plants the faults of one text, and tries of each the case that has to refuse it."""
+    """Plants the faults of one text, and tries of each the case that has to refuse it, or that has to leave it uncovered."""
     text, out = open(source(options.dist, build)).read(), "%s/controls_%s" % (options.out, build.replace("/", "_"))
     keyed = LIBRARIES[build.split("/")[1].removesuffix("_v3")][0](assembled(build, source(options.dist, build), out), 16)
     keyed.set_key()
     cases = dict(statements(keyed, argparse.Namespace(dist=options.dist, all=False, only=""), 0, 1), set_key=None)
-    verdicts = []
+    verdicts, unreached = [], UNREACHED.get(build, [])
 
     def prove(case):
         keyed.program = assembled(build, out + ".s", out)
         return keyed.proved(cases[case]) if cases[case] else type(keyed)(keyed.program, 16).set_key()
-    for what, *edit, case in FAULTS.get(build, []) + LONG_FAULTS.get(build, []):
+
+    def cover(case, function):
+        prove(case)
+        refuse_unreached(build, keyed.program, function)
+    for fault in FAULTS.get(build, []) + LONG_FAULTS.get(build, []) + unreached:
+        what, *edit, case = fault
         if case not in cases:
             raise SystemExit("controls: %s: no such case: %s" % (what, case))
         if options.only in what:
@@ -59,7 +72,8 @@ def faults(options, build):
                 continue
             with open(out + ".s", "w") as file:
                 file.write(changed)
-            verdicts.append(verdict("%s (%s.s:%d, %s)" % (what, build, line, case), lambda: prove(case)))
+            what = "%s (%s.s:%d, %s)" % (what, build, line, case)
+            verdicts.append(verdict(what, lambda: cover(case, edit[0]), "unreached") if fault in unreached else verdict(what, lambda: prove(case)))
     return verdicts
 
 

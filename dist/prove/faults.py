@@ -227,3 +227,12 @@ FAULTS = {
         ("half of a tag added up", OPEN_IN, r"(zip1\t(v\d+)\.16b, v\d+\.16b, )v\d+", r"\1\2", "open 1 1"),
     ],
 }
+
+# Code that no case shows, as it changes nothing: only what ran is counted. The last is the case of `make prove` that runs the function.
+UNREACHED = {
+    "x86_64/aes": [
+        ("a jump that never goes", WIPE, ENTRY, r"\1\txorl\t%eax, %eax\n\ttestl\t%eax, %eax\n\tjne\t77f\n77:\n", "wipe"),
+        ("an instruction that never runs", WIPE, ENTRY, r"\1\tjmp\t77f\n\tmovb\t$1, (%rdi)\n77:\n", "wipe"),
+        ("a carry that never comes", WIPE, ENTRY, r"\1\txorl\t%eax, %eax\n\tadcq\t$0, %rax\n", "wipe"),
+    ],
+}

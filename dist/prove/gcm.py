@@ -8,7 +8,7 @@ from collections import namedtuple
 
 from aes import BATCH, DONE, KEPT_KEY, NEVER, STRUCT as AES_STRUCT, CounterWord, Keyed, between, lengths_but, nothing, unequal, unread
 from bits import DATA, KEY, PUBLIC
-from calls import ANY, Buffer, Call
+from calls import ANY, Buffer, Call, Stream
 from linear import WORD, unknown
 from machine import Pointer
 from standards import ZEROS, number, padded, product
@@ -232,6 +232,75 @@ class KeyedGcm(Keyed):
         return Call(name + way, [self.schedule(), *first.arguments, additional, additional_length, *texts,
                                  Buffer("tag", self.undefined(16), tag)], DONE, steps=steps, keystream=self.streams(first, text_length),
                     plain=text, **self.in_text(first, 16 + text_length), **more)
+
+    # Texts of every length (lengths.py), under a nonce of 12 bytes: step * n + `rest` bytes. The halves of a counter are words of unknown
+    # value. (So is the high one after a carry, which may come only behind the longest text.)
+    def any_counters(self):
+        d = self.domain
+        low = [d.fresh("counter byte %d" % i, PUBLIC, True) for i in range(8, 16)]
+        carried = [d.fresh("carried counter byte %d" % i, PUBLIC) for i in range(8)]
+        high = self.nonce[:8], carried
+        d.words["nonce high"] = lambda offset, k: d.bits(high[offset][7 - k]) if offset in (0, 1) else None
+        d.placed["any J_0 low"] = lambda number, k: d.bits(d.byte_in_block(low[7 - k], number))
+        return [self.aes.cipher(h + low, self.w) for h in high]
+
+    def any_counter_word(self, size):
+        """From block 2^32 - 1 on the low half may carry."""
+        low, high = ([1, 0, 0, 0] + self.nonce[:7:-1], Pointer("any J_0 low", 0)), (self.nonce[7::-1], Pointer("nonce high", 0))
+        return CounterWord("any J_0 low", 1, unknown("wrap"), size.divided(16)[0] + 2 + BATCH, {tuple(b): word for b, word in (low, high)})
+
+    def any_value(self, before, m, group):
+        """The value of GHASH before a group of the text: what came before, or arbitrary bytes of a block that the group begins with."""
+        return before if group == 0 else self.at_block(m, self.hash_value, group * 3)
+
+    def at_block(self, m, bytes_, number):
+        """Functions of the bytes of a block with this number in the text."""
+        return [self.domain.moved(b, number - m.first_block) for b in self.pattern(bytes_)]
+
+    def any_group(self, m, group, before, size, lengths):
+        """What GHASH does next with a text: three blocks, as long as there are so many; then the rest of it with the lengths."""
+        size = m.known(size)
+        whole, rest = divmod(size, 48) if isinstance(size, int) else size.divided(48)
+        below, value = m.is_below(group, whole), self.any_value(before, m, group)
+        if below:
+            blocks, after = [self.at_block(m, self.sealed, group * 3 + k) for k in range(3)], self.any_value(before, m, group + 1)
+        elif below == 0 and isinstance(group - whole, int):
+            tail = [b for k in range(3) for b in self.at_block(m, self.sealed, whole * 3 + k)][:rest]
+            groups = threes(padded(tail) + [self.any_lengths(m, lengths)])[group - whole:]
+            if not groups:
+                return "nothing", (), ()
+            blocks, after = groups[0], self.any_value(before, m, group + 1) if groups[1:] else self.last_value()
+        else:
+            return "nothing", (), ()
+        return "hash", functools.partial(self.with_powers, [self.aes.xor(value, blocks[0]), *blocks[1:]]), after
+
+    def last_value(self):
+        return [self.domain.byte_in_block(b, 1) for b in self.hash_value]
+
+    def any_lengths(self, m, lengths):
+        """Both lengths in bits, which may be numbers that aren't known."""
+        return [b for n in lengths for b in m.to_bytes(m.known(n) * 8, 8)[::-1]]
+
+    def any_seal(self, additional_length, rest, step=384):
+        d, size, first, streams = self.domain, unknown("n") * step + rest, self.nonce_of(), self.once("any counters", self.any_counters)
+        additional = [d.fresh("additional byte %d" % i, DATA) for i in range(additional_length)]  # (their blocks have no numbers)
+        hashing = Hashing(self, ZEROS).take(threes(padded(additional)))
+        text, stream, sealed = (self.pattern(b) for b in (self.text, streams[0], self.sealed))
+        crypted, begun = self.aes.xor(text, stream), list(hashing.steps())
+        tag = self.aes.xor(self.last_value(), self.stream(first, 0))
+
+        def steps(m):
+            if m.done == 0:
+                return "whole", "text", sealed
+            if isinstance(m.done, int) and m.done <= len(begun):
+                return begun[m.done - 1]
+            return self.any_group(m, m.done - 1 - len(begun), hashing.value, size, (additional_length, size))
+        streams = [Stream("text", size, text, [crypted, sealed], lambda m, number: [0] * 16), size]
+        wrap = unknown("wrap")
+        return Call("gcm_seal", [self.schedule(), *first.arguments, Buffer("additional", additional), additional_length, *streams,
+                                 Buffer("tag", self.undefined(16), tag)], DONE, steps=steps, keystream=self.of_all(stream),
+                    plain=self.of_all(text), counter=self.any_counter_word(size),
+                    facts={unknown("n"), MOST - size, wrap - (1 << 32) + 1, (1 << 64) - wrap})
 
     def seal_next(self, additional_length, text_length, counter=None):
         """The same under the counter's next nonce, which it writes to `nonce`; the counter then moves on by one. .. DONE"""

@@ -8,8 +8,8 @@ import itertools
 from collections import namedtuple
 
 from bits import LOST, Unproved
-from linear import is_number, refuted, replaced, unknown, wrapped
-from machine import Pointer, Window, is_int, is_pointer, lanes
+from linear import is_number, refuted, replaced, terms, unknown, wrapped
+from machine import WRAPPED, Pointer, Window, is_int, is_pointer, lanes
 
 # The last time at the head of a loop: how many comparisons were decided before it; the state after the first pass, with what was decided
 # in that; and the general state (see General).
@@ -27,17 +27,93 @@ class Wrong(Exception):
     """A guess of this general state was wrong, so whatever was proved from there doesn't count; another state takes its place."""
 
 
-def watch(m):
+class Known:
+    """The general states of a call: so a run that comes to one of them from elsewhere need not go on."""
+
+    def __init__(self):
+        self.at, self.after, self.left_out = {}, {}, []
+
+    def add(self, key, general):
+        self.at.setdefault(key, []).append(general)
+        self.follows(general, general.state.generals[:-1])
+
+    def follows(self, general, names):
+        """What is proved of these general states needs what is proved of another one."""
+        for name in names:
+            self.after.setdefault(name, set()).add(general.name)
+
+    def needs(self, name):
+        """All general states on which one rests. So no state rests on itself, as it would in a loop that doesn't end."""
+        out, waiting = set(), [name]
+        while waiting:
+            new = self.after.get(waiting.pop(), set()) - out
+            out |= new
+            waiting += new
+        return out
+
+    def leave_out(self, m, key):
+        """Whether what is proved of another general state holds of this machine."""
+        for general in self.at.get(key, ()):
+            passes = passes_to(m, general)
+            if passes is None or not {general.name, *self.needs(general.name)}.isdisjoint(m.generals):
+                continue
+            try:
+                is_instance(renumbered(m, general, passes), general, passes)
+            except Unproved:
+                continue
+            self.follows(general, m.generals)
+            self.left_out.append((general, m.copied()))
+            return True
+        return False
+
+    def forget(self, general):
+        """A guess of it was wrong: the machines that were left out for its sake, or for that of a state that came of it."""
+        wrong = lambda other: general.name in other.state.generals
+        back = [m for other, m in self.left_out if wrong(other) and general.name not in m.generals]
+        self.left_out = [(other, m) for other, m in self.left_out if not wrong(other) and general.name not in m.generals]
+        self.at = {key: [other for other in some if not wrong(other)] for key, some in self.at.items()}
+        return back
+
+
+def renumbered(m, general, passes):
+    """The same machine, with the numbers of blocks that a general state has after so many passes."""
+    by = replaced(general.state.first_block, general.name, passes) - m.first_block
+    if not is_int(by):
+        raise Unproved("blocks whose numbers aren't known")
+    return moved_on(m, by) if by else m.copied()
+
+
+def passes_to(m, general):
+    """After how many passes from a general state a machine may be in it: as a register or what is done of a buffer says."""
+    state, out = general.state, []
+    pairs = [(w.origin, m.regions[name].origin) for name, w in state.regions.items() if isinstance(w, Window)]
+    pairs += [(v, m.general[r]) for r, v in state.general.items()]
+    for a, b in pairs:
+        if is_pointer(a, b) and a.base == b.base:
+            a, b = a.offset, b.offset
+        by = terms(a).get(general.name)
+        if by and is_number(b):
+            rest = b - replaced(a, general.name, 0)
+            if all(c % by == 0 for c in terms(rest).values()) and (rest if is_int(rest) else rest.constant) % by == 0:
+                return rest // by if is_int(rest) else rest.divided(by)[0]
+    return None
+
+
+def watch(known, m):
     """Called after each instruction."""
     if m.next_address in m.program.heads:
-        arrive(m, m.last in m.program.heads[m.next_address])
+        arrive(known, m, m.last in m.program.heads[m.next_address])
     elif m.next_address in m.program.function_of:
         m.loops = {key: visit for key, visit in m.loops.items() if key[0] not in m.program.function_of[m.next_address]}
 
 
-def arrive(m, back):
+def arrive(known, m, back):
     key = m.next_address, m.general[m.stack_pointer].offset
     visit = m.loops.get(key)
+    if key in known.at and not (back and visit and visit.general):
+        m.settle()
+        if known.leave_out(m, key):
+            raise Leads([])
     if visit is None or not back:
         m.loops[key] = Visit(len(m.decided))
     elif visit.general:
@@ -46,7 +122,7 @@ def arrive(m, back):
         m.settle()
         now = Visit(len(m.decided), m.copied(), [fact for _, fact in m.decided[visit.mark:]])
         if visit.first:
-            raise Leads([general_state(key, visit, now)])
+            raise Leads([general_state(known, key, visit, now)])
         m.loops[key] = now
 
 
@@ -102,7 +178,7 @@ def general_bytes(m, a, b, passes):
 numbers = itertools.count()
 
 
-def general_state(key, visit, now, wrong=frozenset()):
+def general_state(known, key, visit, now, wrong=frozenset()):
     name = "passes %04d" % next(numbers)
     passes, first = unknown(name), visit.first
     blocks = in_a_pass(first, now.first)
@@ -128,13 +204,15 @@ def general_state(key, visit, now, wrong=frozenset()):
     g.set_flags()
     pairs = zip(reversed(visit.facts), reversed(now.facts))  # what was decided in each pass, the last first
     guesses = {a + passes * (b - a) for a, b in pairs if is_int(b - a) and b != a and first.implied(a)}
-    guesses = frozenset(f for f in guesses if replaced(f, name, 0) not in wrong)
+    guesses = frozenset(f for f in guesses if replaced(f, name, 0) not in wrong and WRAPPED not in terms(f))
     g.facts = first.facts | guesses | {passes}
+    g.forget_wrap()
     if not g.implied((1 << 63) - passes):
         raise Unproved("nothing says that a loop ends")
     g.decided, g.generals = [], (*first.generals, name)
     general = General(name, g.copied(), guesses, blocks, (key, visit, now), wrong)
     is_instance(first, general, 0)
+    known.add(key, general)
     g.loops[key] = Visit(0, general=general)
     return g
 
@@ -159,7 +237,7 @@ def is_instance(m, general, passes):
         return len(a) == len(b) and all(x in (any_, y) for x, y in zip(a, b))
     wrong = [r for r, v in want.general.items() if not same(want.to_bytes(v, 8), m.to_bytes(m.general[r], 8))]
     wrong += ["vector register %d" % n for n, (v, w) in enumerate(zip(want.vectors, m.vectors)) if not same(v, w)]
-    window = lambda r: [r.size, r.origin, r.done, r.initial] if isinstance(r, Window) else []
+    window = lambda r: [r.size, r.origin, r.initial] if isinstance(r, Window) else []
     pairs = [(name, r, m.regions[name]) for name, r in want.regions.items()]
     wrong += [name for name, r, s in pairs if not same(r.content, s.content) or window(r) != window(s)]
     alike = "first_block", "domain", "entered", "top", "done", "next_address", "counter"
@@ -173,9 +251,8 @@ def is_instance(m, general, passes):
 
 def check_ends(ends, call):
     """That some lengths, of all sizes, are among those of the runs that returned: so these aren't about nothing."""
-    name, = {name for f in call.facts for name, _ in f.terms}
     for value in (*range(40), *(2 ** k + d for k in range(6, 60) for d in (-1, 0, 1))):
-        this = {unknown(name) - value, value - unknown(name)}
+        this = {unknown("n") - value, value - unknown("n")}
         if refuted(call.facts | this):
             continue
         for m in ends:

@@ -42,10 +42,14 @@ class Linear(namedtuple("Linear", "terms constant")):
         return linear({name: c // k for name, c in self.terms}, self.constant // k), self.constant % k
 
     def byte(self, domain, k):
-        """The bits of byte k: the lowest bits are known if all coefficients are multiples of a power of two; the others may be any."""
-        known = max(0, min(8, step_of(self).bit_length() - 1 - 8 * k))
-        bits = domain.bits(domain.fresh("byte %d of %s" % (k, self), PUBLIC)) if known < 8 else ()
-        return (*(self.constant >> 8 * k + j & 1 for j in range(known)), *bits[known:])
+        """The bits of byte k. With the power of two that all coefficients have in common, the lowest bits are known, and the others are
+        those of the quotient, which may be any."""
+        power = step_of(self)
+        if power == 1:
+            return domain.bits(domain.fresh("byte %d of %s" % (k, self), PUBLIC))
+        known, (rest, low) = power.bit_length() - 1, self.divided(power)
+        bit = lambda j: low >> j & 1 if j < known else domain.bits(domain.opaque((rest, (j - known) // 8)))[(j - known) % 8]
+        return tuple(map(bit, range(8 * k, 8 * k + 8)))
 
     def __str__(self):
         return " + ".join(["%d %s" % (c, name) for name, c in self.terms] + [str(self.constant)])

@@ -13,6 +13,8 @@ PROCESS = "(" + call("aes_soft::soft::ciphers::planes::EncryptPlaneCipher::proce
 # In process_on_planes: how many blocks there are, and the round keys.
 MANY = r"(?=[\s\S]*?\tmovq\t%rcx, %(?P<count>r\w+)\n)(?=[\s\S]*?\tmovq\t%rdi, %(?P<keys>r\w+)\n)(?=[\s\S]*?\tsubq\t\$(?P<frame>\d+), %rsp)"
 IN_MANY = [MANY + r"(?P<before>[\s\S]*?)(?P<call>" + called + ")" for called in (WIPE_WORDS, WIPE_STACK)]
+# In call_to_encrypt: where the counter's halves are added up for a block of a batch, with how many bytes of the text are done.
+CARRY = r"(?P<before>\taddq\t\$128, %%(?P<done>r\w+)\n[\s\S]*?\taddq\t\$%d, %%r\w+\n(?:\tmovq\t.*\n)?)\tadcq\t\$0, %%(?P<high>r\w+)\n"
 ON_PLANES, MEMMOVE = call("aes_hybrid::batches::process_on_planes"), r"(\tcallq\t\*memmove.*\n)"
 
 
@@ -75,6 +77,8 @@ LONG_FAULTS = {
          lambda found: "shrq\t$4, %%%s\n\tmovl\t%%%s, %%%s\n" % (found[1], low(found[1]), low(found[1])), "any_keystream 0 33"),
         ("a counter that stands still from block 2^20 on", ENCRYPT, r"(shrq\t\$4, %(r\w+)\n)",
          r"\1\tcmpq\t$1048576, %\2\n\tjb\t77f\n\tmovq\t$1048576, %\2\n77:\n", "any_keystream 0 33"),
+        ("no carry into a block's high half from block 2^16 on", ENCRYPT, CARRY % 5,
+         r"\g<before>\tjae\t77f\n\tcmpq\t$1048576, %\g<done>\n\tjae\t77f\n\tincq\t%\g<high>\n77:\n", "any_keystream 0 33"),
         ("a position of 32 bits", KEYSTREAM, r"addq\t%(r\w+), 16\((%r\w+)\)",
          lambda found: "addl\t%%%s, 16(%s)" % (low(found[1]), found[2]), "any_keystream 0 33"),
         ("a count of 32 bits in CBC", CBC, r"(inc|dec)q\t%(r\w+)\n", lambda found: "%sl\t%%%s\n" % (found[1], low(found[2])),

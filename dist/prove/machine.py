@@ -26,14 +26,15 @@ import subprocess
 from collections import namedtuple
 
 from bits import LOST, PUBLIC, Pause, Undefined, Unproved
-from linear import Linear, implied, is_number, replaced, step_of, tightened, unknown, wrapped
+from linear import Linear, implied, is_number, replaced, step_of, terms, tightened, unknown, wrapped
 
 Pointer = namedtuple("Pointer", "base offset")  # base: the name of a region, or of a register's value before the call
 Distance = namedtuple("Distance", "base other offset")  # the address of a buffer, less that of another, plus a constant
 Number = namedtuple("Number", "base offset")  # 32 bits: a number of unknown value, plus a constant; higher bytes aren't known
 # So many bytes of which only this is known: they are the number `right` if all the differences are 0, else another one; zeros above.
 Verdict = namedtuple("Verdict", "right differences size")
-NAMED_SIZES = {Pointer: 8, Distance: 8, Linear: 8, Number: 4}  # how many bytes of these are known by their names
+Scaled = namedtuple("Scaled", "number factor")  # the higher 64 bits of the product of a number that isn't known and a constant
+NAMED_SIZES = {Pointer: 8, Distance: 8, Linear: 8, Scaled: 8, Number: 4}  # how many bytes of these are known by their names
 
 # Operands; others are ints, and texts or tuples of these that only instructions of one machine have.
 Register = namedtuple("Register", "name size at", defaults=[0])  # at: the first byte; x86's ah, bh, ch and dh begin at byte 1
@@ -45,6 +46,7 @@ Instruction = namedtuple("Instruction", "run name operands next form")  # form: 
 
 LIBC = "memcpy", "memmove", "memset"
 LEAD, LAST = 2, 200  # the number of the first block of a buffer whose length isn't known; those that occur are less than LAST
+WRAPPED = "wrapped"  # an unknown: the block from which on the counter has wrapped around, if that is in what is done
 ROOM = Pointer("room", 0)  # how many bytes of keystream come before the counter of GCM, 32 bits of unknown value, wraps around
 SECRET = "secret"  # a flag that depends on the key or on data; None is a flag that is undefined
 RETURN_ADDRESS = Pointer("return address", 0)
@@ -148,11 +150,12 @@ class Region:
 
 class Window(Region):
     """A buffer of a size that isn't known. `content` has the bytes from `origin` on, as far as they were accessed. Before these each block
-    is what `done` says of its bytes, and behind them what `initial` says; these patterns are those of the block with number LEAD."""
+    is what it has to be: by `want`, a function of the machine and of the number of the block in the buffer. Behind them it is what
+    `initial` says. These patterns are those of the block with number LEAD."""
 
-    def __init__(self, size, initial, writable):
-        super().__init__([], writable)
-        self.size, self.initial, self.done, self.origin = size, initial, None, 0
+    def __init__(self, size, initial, want):
+        super().__init__([], want is not None)
+        self.size, self.initial, self.want, self.origin = size, initial, want, 0
 
     def at(self, m):
         """Where `content` begins, from the block with number LEAD on."""
@@ -177,31 +180,51 @@ class Window(Region):
         self.extend(m, at + size)
         return at
 
+    def wanted(self, m):
+        """What the first block of `content` has to be; None for bytes of which what is known doesn't say it."""
+        want = self.want(m, self.origin // 16 if is_int(self.origin) else self.origin.divided(16)[0])
+        return [x if x is None else m.domain.moved(x, self.at(m) // 16) for x in want]
+
     def settle(self, m):
-        """Leaves out the first blocks that are done: those that aren't what they were, and all of one pattern."""
+        """Leaves out the first blocks that are what they have to be, and not what they were."""
         if not self.writable:
             self.content, self.origin = [], 0
         while len(self.content) >= 16:
-            by = self.at(m) // 16
-            pattern = [m.domain.moved(x, -by) for x in self.content[:16]]
-            if pattern == self.initial or pattern != (self.done or pattern):
+            have, before = self.content[:16], [m.domain.moved(x, self.at(m) // 16) for x in self.initial]
+            if have == before or have != self.wanted(m):
                 return
-            self.done, self.origin, self.content = pattern, self.origin + 16, self.content[16:]
+            self.origin, self.content = self.origin + 16, self.content[16:]
 
-    def finish(self, m):
-        """The pattern of all blocks, up to the end."""
+    def is_done(self, m):
+        """Whether all blocks are what they have to be."""
+        rest = self.size - self.origin
+        if not is_int(rest) or rest != len(self.content):
+            return False
+        copy = self.copy()
+        try:
+            copy.finish(m, "")
+        except Unproved:
+            return False
+        return True
+
+    def begin_again(self, initial):
+        """All blocks are what they have to be, and nothing more is written. They may be read once more, as these."""
+        self.initial, self.origin, self.content, self.writable = initial, 0, [], False
+
+    def finish(self, m, name):
+        """Compares all blocks with what they have to be, up to the end."""
+        if not self.writable:
+            return
         rest = self.size - self.origin
         if not is_int(rest) or rest < 0:
-            raise Unproved("a buffer of %s bytes is only done up to %s" % (self.size, self.origin))
+            raise Unproved("%s has %s bytes and is only done up to %s" % (name, self.size, self.origin))
         self.extend(m, rest)
-        self.content = self.content[:rest]
-        done, at = self.done, self.at(m)
-        for i in range(at, at + rest, 16):
-            pattern = [m.domain.moved(x, -(i // 16)) for x in self.content[i - at:][:16]]
-            done = done or pattern
-            if pattern != done[:len(pattern)]:
-                raise Unproved("blocks of a buffer aren't alike")
-        return done
+        for at in range(0, rest, 16):
+            have, want = self.content[:min(16, rest - at)], self.wanted(m)
+            if have != want[:len(have)]:
+                raise Unproved("the block at %s of %s is not what it has to be: it begins with %s" % (
+                    self.origin, name, m.domain.describe(have[0])))
+            self.origin, self.content = self.origin + 16, self.content[16:]
 
 
 class Program:
@@ -325,7 +348,7 @@ class Machine:
         if named is None:
             return list(value[:size])
         if self.any_length and is_pointer(value) and self.counter and value.base == self.counter.word:
-            value = Placed(*value, self.first_block)
+            value = Placed(*value, self.first_block + self.counter.first)
         above = self.domain.undefined if isinstance(value, Number) else 0
         return [self.domain.opaque((value, k)) for k in range(min(named, size))] + [above] * (size - named)
 
@@ -382,6 +405,8 @@ class Machine:
     # Sums and differences with their flags: (result, {flag: value}).
     def plus(self, x, y, carry, size):
         mask, top = (1 << 8 * size) - 1, 8 * size - 1
+        if self.counter and self.counter.words:
+            x, y = (self.counter.words.get(tuple(v), v) if type(v) is tuple else v for v in (x, y))
         if is_int(x, y):
             full = (x & mask) + (y & mask) + carry
             r = full & mask
@@ -400,7 +425,7 @@ class Machine:
             by = (y if is_pointer(x) else x) + carry  # so many more, where neither has wrapped around
             known = counter and r.base == counter.word and self.implied(old.offset) and old.offset + by == r.offset and (
                 self.fits(by) and self.implied(counter.last - r.offset))
-            return r, {"c": int(counter.wrap <= WORD and old.offset < counter.wrap <= r.offset)} if known else {}
+            return r, {"c": self.wraps(old.offset, r.offset)} if known else {}
         fixed, rest = (x, y) if is_int(x) else (y, x)
         if self.room and (fixed, carry, *self.to_bytes(rest, size)) in self.room[0]:
             return ROOM, {}
@@ -412,6 +437,10 @@ class Machine:
             zero = self.differences(rest, -fixed - carry, size)
             return self.verdict(0, zero, size), {"c": SECRET, "z": self.zero_flag(zero), "s": SECRET, "o": SECRET}
         return self.unbits(bits), {"c": self.flag_of(out), "z": SECRET, "s": SECRET, "o": SECRET}
+
+    def wraps(self, block, later):
+        """Whether the low half of the counter wraps around between two blocks."""
+        return self.compare_numbers(block, self.counter.wrap, "below") and 1 - self.compare_numbers(later, self.counter.wrap, "below")
 
     def flag_of(self, bit):
         """A bit as a flag. One that depends on public bytes alone may be asked."""
@@ -515,6 +544,21 @@ class Machine:
         self.facts |= {x - q * by, q * by + by - 1 - x}
         return q
 
+    def high_product(self, x, y):
+        """The higher 64 bits of a product."""
+        if isinstance(x, Linear) and is_int(y) and self.fits(x):
+            return Scaled(x, y)
+        return constant("a factor", x) * constant("a factor", y) >> 64
+
+    def quotient_by_product(self, scaled, count):
+        """A division by a constant that is done by a product: for x below 2^64, x * factor / 2^(64 + count) has the same whole part as x / d
+        if 2^(64 + count) <= d * factor <= 2^(64 + count) + 2^count. (Granlund and Montgomery, 1994, theorem 4.2)"""
+        x, factor = scaled
+        by = -(-(1 << 64 + count) // factor)
+        if by * factor > (1 << 64 + count) + (1 << count):
+            raise Unproved("a product that isn't a division")
+        return self.quotient(x, by)
+
     def masked(self, x, y):
         """`and` with a mask of bits that are known, or of all the others; else None."""
         x, y = (y, x) if is_int(x) else (x, y)
@@ -537,12 +581,17 @@ class Machine:
         """Whether x is below y, or equal. If that doesn't follow, it is a question, of which each answer is a fact."""
         if what == "equal":
             return int(not (self.compare_numbers(x, y, "below") or self.compare_numbers(y, x, "below")))
-        for answer, fact in (1, y - x - 1), (0, x - y):
-            if self.implied(fact):
-                if not is_int(fact):
-                    self.decided.append((self.last, fact))
-                return answer
-        raise Question((x, y, what))
+        below = self.is_below(x, y)
+        if below is None:
+            raise Question((x, y, what))
+        fact = y - x - 1 if below else x - y
+        if not is_int(fact):
+            self.decided.append((self.last, fact))
+        return below
+
+    def is_below(self, x, y):
+        """The same, or None if it doesn't follow."""
+        return 1 if self.implied(y - x - 1) else 0 if self.implied(x - y) else None
 
     def assume(self, fact):
         """Takes one more fact; if it says what an unknown is, this takes the unknown's place everywhere."""
@@ -564,7 +613,7 @@ class Machine:
             if isinstance(region, Window):
                 region.size, region.origin = new(region.size), new(region.origin)
         self.counter, self.done = new(self.counter), new(self.done)
-        self.loops, self.replaced = {}, [*self.replaced, (name, by)]
+        self.loops, self.replaced, self.want = {}, [*self.replaced, (name, by)], None
 
     def renumbered(self, b, new):
         """A byte, with another number in the place of that of which it is one."""
@@ -595,6 +644,19 @@ class Machine:
                 region.content = settled(region.content)
         if self.counter:
             self.vectors = [settled(v) for v in self.vectors]
+            self.forget_wrap()
+
+    def forget_wrap(self):
+        """Of a counter that has wrapped around where the text is done, nothing is kept but that."""
+        done = [r.origin for r in self.regions.values() if isinstance(r, Window) and r.writable]
+        if not self.counter or is_int(self.counter.wrap) or len(done) != 1:
+            return
+        wrap, (done,) = self.counter.wrap, done
+        here = self.counter.first + (done // 16 if is_int(done) else done.divided(16)[0])
+        if self.implied(here - wrap):
+            other = {WRAPPED, *(name for name, _ in wrap.terms if wrap == unknown(name))}
+            self.counter = self.counter._replace(wrap=unknown(WRAPPED))
+            self.facts = frozenset(f for f in self.facts if other.isdisjoint(terms(f))) | {unknown(WRAPPED) - 1, here - unknown(WRAPPED)}
 
     def without_name(self, byte):
         placed = isinstance(self.domain.opaque_of.get(byte, [0])[0], Placed)
@@ -608,7 +670,7 @@ class Machine:
         a, b = (self.regions.get(p.base) if is_pointer(p) and p.offset == 0 else None for p in (to, source))
         if not (isinstance(a, Window) and isinstance(b, Window) and a.size == b.size == count and a.writable and not b.writable):
             raise Unproved("a copy of a number of bytes that isn't known, and not of a whole buffer")
-        a.initial, a.done, a.origin, a.content = b.initial, None, 0, []
+        a.initial, a.origin, a.content = b.initial, 0, []
 
     def overlaps(self, x, y, what):
         """Whether a flag says that two buffers of this length overlap, which the header excludes where one is written to."""
@@ -620,6 +682,12 @@ class Machine:
         """A byte of which nothing is known; it may depend on the key."""
         self.lost.add(self.domain.opaque(LOST))
         return self.domain.opaque(LOST)
+
+    def begin_again(self, name, initial):
+        """All of a buffer is done; its blocks become others. What is left of blocks is forgotten, and they are numbered anew."""
+        self.regions[name].begin_again(initial)
+        self.each_byte(lambda b: self.any_byte() if self.domain.blocks(b) else b)
+        self.first_block, self.origins = 0, {place: on for place, on in self.origins.items() if not place[1]}
 
     def each_byte(self, convert):
         """Puts other bytes in the place of those of registers and memory."""
@@ -714,8 +782,11 @@ class Machine:
             return v << count & (1 << 8 * size) - 1
         if isinstance(v, Linear) and size == 8 and how == "lsl":
             return self.offset(v * (1 << count), 0)
-        if isinstance(v, Linear) and size == 8 and how == "lsr" and self.fits(self.ranged(v)):
+        divides = isinstance(v, Linear) and (not self.any_length or step_of(v) >> count)
+        if divides and size == 8 and how == "lsr" and self.fits(self.ranged(v)):
             return self.quotient(self.ranged(v), 1 << count)
+        if isinstance(v, Scaled) and how == "lsr":
+            return self.quotient_by_product(v, count)
         b = self.bits(v, size)
         if how == "lsl":
             return self.unbits(([0] * count + b)[:8 * size])

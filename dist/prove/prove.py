@@ -47,22 +47,21 @@ def common_cases(library, version):
 
 
 def aes_cases(choose):
-    for way, counts in (("", choose(range(65), (2, 17), (0, 1, 3, 8, 15, 16, 33, 45))), ("_to", choose(range(65), (17,), (0, 1, 2))),
+    for way, counts in (("", choose(range(65), (2, 17), (0, 1, 3, 8, 16))), ("_to", choose(range(65), (17,), (0, 1, 2))),
                         ("_with", choose(range(1, 65), (1,), (17,)))):
         yield "blocks", [(direction, n, way) for direction in ("encrypt", "decrypt") for n in counts]
-    counts = choose(range(0, 1025, 7), (33,), (0, 1, 16, 64, 130, 257, 450))
-    yield "add_keystream", [(0, n) for n in counts] + [(7, 40), (2 ** 64 - 21, 20), (5, 40, 2)]
-    yield "add_keystream", [(3, n, aes.NEVER, "_to") for n in choose(counts[1::2], (33,), (0, 130))]
-    after = [(0, 16, 9), (5, 40, 9), (0, 450, 40), (0, 33, 5), (0, 257, 20)]  # the text, where a batch goes on
-    yield "add_keystream", choose(after, after[:1], after[1:3])
+    counts = 0, 1, 16, 33, 64, 130
+    yield "add_keystream", [(0, n) for n in choose(counts, (33,), (0, 1, 16, 64, 130))] + [(2 ** 64 - 21, 20), (5, 40, 2)]
+    yield "add_keystream", [(3, n, aes.NEVER, "_to") for n in choose(counts, (33,), (0, 130))]
+    after = [(0, 16, 9), (5, 40, 9), (0, 33, 5)]  # the text, where a batch goes on
+    yield "add_keystream", choose(after, after[:1], after[1:2])
     later = [(21, 11), (21, 11, 1), (21, 40, 1), (21, 40, 2), (21, 11, 1, "_to"), (21, 11, 1, "_with")]  # than the first block
     yield "add_keystream", choose(later, later[2:3], later[:2] + later[3:])
-    yield "add_keystream", [(3, n, aes.NEVER, "_with") for n in choose(counts[1::3], (33,))]
-    yield "add_keystream", [(5, 280, wrap) for wrap in choose(range(1, 19), (), (9, 17))]
+    yield "add_keystream", [(3, n, aes.NEVER, "_with") for n in choose(range(0, 1025, 21), (33,))]
     # A batch of four blocks: a carry before each of its blocks, and before the one behind it.
     yield "add_keystream", [(16, 64, wrap) for wrap in choose(range(1, 6), (1,), range(2, 6))]
-    # Positions, and numbers of blocks, that don't fit into 32 bits; one block, four and more.
-    far = [(2 ** 32 - 20, 40), (2 ** 36 - 20, 40), (2 ** 36 + 5, 11), (2 ** 36, 64), (2 ** 36 - 64, 280), (2 ** 60 + 5, 300)]
+    # Positions, and numbers of blocks, that don't fit into 32 bits.
+    far = [(2 ** 32 - 20, 40), (2 ** 36, 64)]
     yield "add_keystream", choose(far, (), far)
     # Of every length, by its remainder.
     yield "any_blocks", [(direction, rest) for direction in ("encrypt", "decrypt") for rest in choose(range(16), (7,), [
@@ -70,8 +69,10 @@ def aes_cases(choose):
     yield "any_blocks", [(direction, rest, "_to") for direction in ("encrypt", "decrypt") for rest in choose(range(16), (7,), (0, 14))]
     yield "any_cbc_encrypt", [()]
     yield "any_cbc_decrypt", choose(range(64), (), (9,))
-    yield "any_keystream", choose([(position, rest) for position in (0, 5) for rest in range(128)], [(0, 33)], [(0, 0), (5, 122)])
-    yield "cbc_decrypt", choose(range(65), (9,), (0, 1, 3, 4, 8, 17, 33))
+    # And at every position, with a carry anywhere: by the place in a block, and by the remainder.
+    every = [(0, rest) for rest in range(9, 128, 18)] + [(skip, 17 * skip % 128) for skip in range(1, 16, 2)] + [(3, 45, "_to")]
+    yield "any_keystream", choose([(0, 0), (0, 33), (5, 122), *every], [(0, 0)], [(0, 33), (5, 122)])
+    yield "cbc_decrypt", choose(range(65), (9,), (0, 1, 3, 4, 8, 17))
     yield "cbc_encrypt", choose(range(65), (2,), (0, 1))
     yield "wrap", choose(range(2, 13), (2,), (8,))
     yield "unwrap", choose(range(3, 14), (3,), (9,))
@@ -93,6 +94,7 @@ def aes_cases(choose):
 def gcm_cases(choose):
     more = (0, 0), (1, 1), (49, 1), (0, 129), (0, 225), (0, 449, gcm.UNKNOWN)
     yield "wipe_message", [()]
+    yield "any_seal", choose([(13, 33)], [(13, 33)])
     yield "seal", choose([(13, 33), (40, 20), *more, *LONG], [(13, 33)], more)
     yield "open", choose([(0, 0), (13, 33), (40, 129)], [(13, 33)], [(0, 0)])
     yield "seal", choose([(0, 0, (), "_to"), (13, 33, (), "_to"), (1, 129, (), "_to")], [(13, 33, (), "_to")], [(0, 0, (), "_to")])
@@ -285,32 +287,24 @@ def compare_forms(pool, tasks):
 
 def say_what_ran(tasks, options):
     """How many instructions of each text ran, and how many conditional jumps and adds with carry led both ways; with --lines, in which
-    functions others are. The result is how many faults there are: exports without a case, and functions of which more didn't run, or went
-    one way, than uncovered.py says."""
+    functions others are. The result is how many faults there are, of texts of which all cases ran: exports without a case, and what isn't
+    covered and not in the list of uncovered.py."""
     texts, faults = {}, []
     for task in (task for task in tasks if task.ran):
-        _, *known = texts.setdefault(text_of(task.build) + ".s", (task, set(), set(), set()))
+        _, *known = texts.setdefault(text_of(task.build), (task, set(), set(), set()))
         for all_, new in zip(known, (task.ran, task.went, task.calls)):
             all_ |= new
     for text, (task, ran, went, calls) in texts.items():
         program = Program(task.path, task.machine, suffix_of(task.build))
-        functions, ways = program.functions(), collections.Counter(start for start, _ in went)
-        conditional = {a for a, line in program.lines.items() if re.match(task.machine.conditional, line)}
-        both = {a for a in conditional if ways[a] == 2}
-        all_ = set().union(*functions.values())
-        print("%s: %d of %d instructions ran; %d of %d conditional jumps and adds with carry led both ways" % (
-            text, len(ran & all_), len(all_), len(both & all_), len(conditional & all_)))
-        for name, addresses in functions.items():
-            missed = len(addresses - ran), len((conditional & addresses) - both)
-            if any(missed) and options.lines:
-                print("%s, %s: %d of %d instructions didn't run; %d conditional ones went one way" % (
-                    text, name, missed[0], len(addresses), missed[1]))
-            if uncovered.is_more(text, name, *missed):
-                faults.append("%s, %s: %d instructions that don't run, %d conditional ones that go one way" % (text, name, *missed))
+        found = uncovered.of_text(program, ran, went)
+        print("%s.s: %s" % (text, uncovered.summary(program, found)))
+        if options.lines:
+            for name, one in found.items():
+                print("%s.s, %s: %d instructions didn't run, %d conditional ones went one way" % (text, name, *map(len, one)))
         without = set(program.exports) - {"fotsgure_" + call for call in calls}
-        faults += ["%s: no case of %s" % (text, ", ".join(sorted(without)))] * bool(without)
-    if options.only or options.keys != KEY_SIZES or len(options.builds) != len(BUILDS):  # of a part of the cases nothing can be said
-        return 0
+        if not options.only and options.keys == KEY_SIZES and {b for b in BUILDS if text_of(b) == text} <= {task.build for task in tasks}:
+            faults += ["%s.s, %s" % (text, fault) for fault in uncovered.faults(text, found)]
+            faults += ["%s.s: no case of %s" % (text, ", ".join(sorted(without)))] * bool(without)
     for fault in faults:
         print("NOT PROVED: " + fault)
     return len(faults)

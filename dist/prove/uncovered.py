@@ -1,20 +1,42 @@
-"""What no case of `make prove` runs, with the reason: by text and function, how many instructions don't run, and how many conditional jumps
-and adds with carry go one way only, at most. A text that has a list here is refused where there is more. Of a text without one the numbers
-are only printed; with --lines those of each function."""
+"""What no case of `make prove` covers, and why. A text of which all cases ran is refused where more isn't covered than this list says."""
 import re
 
-# {text: [(the end of a function's name, without what tells functions of other types apart; instructions; conditional ones; why)]}
-UNCOVERED = {}
+# (a pattern of texts, one of functions, without what tells functions of other types apart; how many of their instructions don't run, and
+# how many conditional jumps and adds with carry go one way only, in each of them at most; why)
+UNCOVERED = []
 
 
 def plain(name):
-    """A function's name without the hash or the number of its types."""
-    return re.sub(r"::<.*|\.\d+$", "", name).replace("::", ".")
+    """A function's name without the hash or the number of its types, and without what tells the builds of a library apart."""
+    return re.sub(r"::<.*|\.\d+$|_v\d$", "", name).replace("::", ".")
 
 
-def is_more(text, name, instructions, conditional):
-    """Whether more of a function is uncovered than the list of its text says."""
-    if text not in UNCOVERED or not instructions and not conditional:
-        return False
-    allowed = [(a, b) for end, a, b, _ in UNCOVERED[text] if plain(name).endswith(end)]
-    return not any(instructions <= a and conditional <= b for a, b in allowed)
+def of_text(program, ran, went):
+    """{a function: (the addresses that didn't run, those of conditional instructions that went one way)}, where there are any. `ran` has
+    the addresses that did, and `went` pairs of one of these and where it led, or which carry was added."""
+    ways, out = {}, {}
+    for address, way in went:
+        ways.setdefault(address, set()).add(way)
+    for name, addresses in program.functions().items():
+        one_way = {a for a in addresses & ran if re.match(program.machine.conditional, program.lines[a]) and len(ways.get(a, ())) < 2}
+        if one_way or not addresses <= ran:
+            out[name] = addresses - ran, one_way
+    return out
+
+
+def summary(program, found):
+    """How much of a text is covered."""
+    all_ = set().union(*program.functions().values())
+    conditional = sum(bool(re.match(program.machine.conditional, program.lines[a])) for a in all_)
+    idle, one_way = (set().union(*some) for some in zip(*found.values())) if found else (set(), set())
+    unseen = sum(bool(re.match(program.machine.conditional, program.lines[a])) for a in idle)
+    return "%d of %d instructions ran; %d of %d conditional jumps and adds with carry led both ways" % (
+        len(all_ - idle), len(all_), conditional - unseen - len(one_way), conditional)
+
+
+def faults(text, found):
+    """What isn't covered, and isn't in the list."""
+    for name, (idle, one_way) in found.items():
+        allowed = [entry[2:4] for entry in UNCOVERED if re.fullmatch(entry[0], text) and re.search("(%s)$" % entry[1], plain(name))]
+        if not any(len(idle) <= a and len(one_way) <= b for a, b in allowed):
+            yield "%s: %d instructions that don't run, %d conditional ones that go one way" % (name, len(idle), len(one_way))

@@ -3,7 +3,7 @@ IA-32 Architectures Software Developer's Manual, volume 2). What both machines s
 import re
 
 from bits import Unproved
-from machine import (RETURN_ADDRESS, SECRET, WORD, Instruction, Machine, Memory, Register, Table, Vector, constant, contrary,
+from machine import (RETURN_ADDRESS, SECRET, WORD, Instruction, Machine, Memory, Register, Scaled, Table, Vector, constant, contrary,
                      form, interleaved, is_int, joined, lanes)
 
 R64 = "rax rcx rdx rbx rsp rbp rsi rdi r8 r9 r10 r11 r12 r13 r14 r15".split()
@@ -166,9 +166,9 @@ def shift(m, name, to, count=1):
     n, size, v = constant("the count of a shift", m.get(count)) & (63 if to.size == 8 else 31), 8 * to.size, m.get(to)
     if n:
         last = size - n if name == "shl" else n - 1  # the bit that is shifted out last
-        out = m.bits(v, to.size)[last] if 0 <= last < size else 0
+        out = None if isinstance(v, Scaled) else m.bits(v, to.size)[last] if 0 <= last < size else 0
         v = m.shift({"shl": "lsl", "shr": "lsr", "sar": "asr"}[name], v, n, to.size)
-        m.set_flags(c=out if out < 2 else SECRET, **m.zero_and_sign(v, to.size))
+        m.set_flags(c=out if out in (None, 0, 1) else SECRET, **m.zero_and_sign(v, to.size))
     m.put(to, v)
 
 
@@ -218,11 +218,13 @@ def mul(m, name, a):
 
 @TABLE.of("mulx")
 def mulx(m, name, high, low, a, b=REGS["rdx"]):
-    product = constant("a factor", m.get(a)) * constant("a factor", m.get(b))
+    x, y = m.get(a), m.get(b)
     if a.size != 8:
         raise Unproved("instruction not covered")
-    m.put(low, product & WORD)
-    m.put(high, product >> 64)
+    if not is_int(x):
+        x, y = y, x
+    m.put(low, x * y & WORD if is_int(x, y) else (m.domain.undefined,) * 8)
+    m.put(high, m.high_product(y, x))
 
 
 # Vectors. A VEX-coded instruction (v before the name) has one source more, the first; that of the other is its destination (see decode).

@@ -1,9 +1,9 @@
 /* Makes every call of both C libraries for several keys and data of one length, on a stack of its own that is filled with a
  * pattern, between the marks that the plugin of qemu knows. A line for each, with tabs: the call, the bits of the key, the
- * count, the position (of messages, of bytes: 1000 times those of the nonce, and those of additional data), whether the call
- * did its work, how deep the stack was, how many bytes of the message, its keystream and the like it left there, and how many
- * other bytes that depend on the key. Calls with one name, size, count and position must run the same instructions on the
- * same addresses. */
+ * count, the position (of messages, of bytes: 1000 times those of the nonce, and those of additional data), which nonce, whether
+ * the call did its work, how deep the stack was, how many bytes of the message, its keystream and the like it left there, how
+ * many other bytes that depend on the key, and how many bytes of registers. Calls with one name, size, count, position and nonce
+ * must run the same instructions on the same addresses. */
 #define _GNU_SOURCE
 #include "fotsgure_aes.h"
 #include "fotsgure_gcm.h"
@@ -11,18 +11,8 @@
 #include <stdio.h>
 #include <stdlib.h>
 #include <string.h>
-#include <ucontext.h>
 
-/* The marks between which the plugin of qemu follows what runs: hints that no processor knows, which do nothing. */
-#ifdef __riscv
-#define MARK(number) __asm__ volatile("addi zero, zero, " #number : : : "memory")
-#elif defined __arm__
-#define MARK(number) __asm__ volatile(".inst 0xe320f000 + " #number : : : "memory")
-#else
-#define MARK(number) __asm__ volatile("nopl " #number "(%%rax)" : : : "memory")
-#endif
-
-enum { MOST = 2048, RUNS = 4, STACK = 1 << 14, FILL = 0xa5, PIECE = 4, MORE = 32, ROOM = MOST + MORE };
+enum { MOST = 2048, RUNS = 4, STACK = 1 << 14, PIECE = 4, MORE = 32, ROOM = MOST + MORE, REGISTERS = 1024 };
 static struct fotsgure_aes aes;
 static struct fotsgure_aes_ctr ctr;
 static struct fotsgure_aes_cbc cbc;
@@ -31,8 +21,8 @@ static struct fotsgure_gcm_siv siv;
 static struct fotsgure_gcm_message message;
 static struct fotsgure_gcm_counter counter;
 /* A key; a message, plain and sealed; what a call is given and works on; and, of GCM, the rest of the message. */
-static uint8_t key[32], plain[ROOM], sealed[ROOM], given[ROOM], data[ROOM], stream[ROOM], nonce[16], additional[128], tag[16], first[2][16];
-static uint8_t eight[128], eight_keys[128];
+static uint8_t key[32], plain[ROOM], sealed[ROOM], given[ROOM], data[ROOM], stream[ROOM], nonce[16], additional[128], first[2][16];
+static uint8_t tag[16], right_tag[16], eight[128], eight_keys[128];
 static size_t size, count, bytes, extra, nonce_bytes, key_bytes;
 static uint64_t position, state;
 static int status;
@@ -82,6 +72,13 @@ static void use(const void *at) { __asm__ volatile("" : : "r"(at) : "memory"); }
 static __attribute__((noinline)) int one(void) { return sink = 1, 0; }
 static int branch(void) { return data[3] & 1 ? one() : 0; }
 static int look_up(void) { return sink = table[data[5]], 0; }
+static int early_exit(void) {
+    const volatile uint8_t *claimed = tag;
+    for (int i = 0; i < 16; i++)
+        if (claimed[i] != right_tag[i])
+            return FOTSGURE_AES_REFUSED;
+    return 0;
+}
 static int not_wiped(void) {
     struct fotsgure_aes it;
     int said = (int)fotsgure_aes_set_key(&it, key, size);
@@ -96,15 +93,23 @@ static int inner(void) {
     return said;
 }
 
+/* A function of the library from whose assembly what empties registers was taken. */
+#ifdef PLANTED_ABI
+extern PLANTED_ABI int PLANTED(const struct fotsgure_aes *, struct fotsgure_aes_cbc *, uint8_t *, size_t);
+#define PLANTED_REGISTERS(IT) IT(planted_registers, NOTHING, CBC, PLAIN, SEALED, 0, PLANTED(&aes, &cbc, data, count))
+#else
+#define PLANTED_REGISTERS(IT)
+#endif
+
 /* What a call takes; how its message is sealed; what its data are at first and have to be at the end. */
 enum takes { NOTHING, OF_BLOCKS, OF_BYTES, OF_MESSAGES };
-enum mode { ECB, CBC, CTR, KW, KWP, GCM, SIV, CCM };
+enum mode { ECB, CBC, CTR, KW, KWP, GCM, SIV, CCM, CMAC };
 enum text { PLAIN, SEALED, ZEROS };
 #define MESSAGE additional, extra, data, bytes
-#define CHANGED additional, extra + 1, data, bytes
 #define TO given, bytes, data, bytes
 #define ALONE(IT, name, call) IT(name, NOTHING, CTR, PLAIN, PLAIN, 0, call)
-#define CALLS(IT) \
+#define CALLS(IT) PLANTED_REGISTERS(IT) \
+    IT(planted_early_exit, NOTHING, CMAC, PLAIN, PLAIN, FOTSGURE_AES_REFUSED, early_exit()) \
     ALONE(IT, planted_branch, branch()) ALONE(IT, planted_look_up, look_up()) ALONE(IT, planted_inner, inner()) \
     ALONE(IT, planted_not_wiped, not_wiped()) ALONE(IT, version, fotsgure_aes_version() != FOTSGURE_AES_VERSION) \
     ALONE(IT, key_length, fotsgure_aes_key_length(&aes) != size) ALONE(IT, wipe, (fotsgure_aes_wipe(&aes), 0)) \
@@ -139,14 +144,13 @@ enum text { PLAIN, SEALED, ZEROS };
     ALONE(IT, equiv_inv_cipher_round_par, (fotsgure_aes_equiv_inv_cipher_round_par(eight, eight_keys), 0)) \
     ALONE(IT, mix_columns, (fotsgure_aes_mix_columns(eight_keys), 0)) \
     ALONE(IT, inv_mix_columns, (fotsgure_aes_inv_mix_columns(eight_keys), 0)) \
-    IT(cmac, OF_MESSAGES, CCM, PLAIN, PLAIN, 0, fotsgure_aes_cmac(&aes, data, bytes, tag)) \
-    IT(cmac_verify, OF_MESSAGES, CCM, PLAIN, PLAIN, 0, (fotsgure_aes_cmac(&aes, data, bytes, tag) \
-        || fotsgure_aes_cmac_verify(&aes, data, bytes, tag, 16))) \
-    IT(cmac_refused, OF_MESSAGES, CCM, PLAIN, PLAIN, FOTSGURE_AES_REFUSED, fotsgure_aes_cmac_verify(&aes, data, bytes, tag, 8)) \
+    IT(cmac, OF_MESSAGES, CMAC, PLAIN, PLAIN, 0, fotsgure_aes_cmac(&aes, data, bytes, tag)) \
+    IT(cmac_verify, OF_MESSAGES, CMAC, PLAIN, PLAIN, 0, fotsgure_aes_cmac_verify(&aes, data, bytes, tag, 16)) \
+    IT(cmac_refused, OF_MESSAGES, CMAC, PLAIN, PLAIN, FOTSGURE_AES_REFUSED, fotsgure_aes_cmac_verify(&aes, data, bytes, tag, 16)) \
     IT(ccm_seal, OF_MESSAGES, CCM, PLAIN, SEALED, 0, fotsgure_aes_ccm_seal(&aes, nonce, 13, MESSAGE, tag, 16)) \
     IT(ccm_open, OF_MESSAGES, CCM, SEALED, PLAIN, 0, fotsgure_aes_ccm_open(&aes, nonce, 13, MESSAGE, tag, 16)) \
     IT(ccm_open_refused, OF_MESSAGES, CCM, SEALED, SEALED, FOTSGURE_AES_REFUSED, \
-        fotsgure_aes_ccm_open(&aes, nonce, 13, CHANGED, tag, 16)) \
+        fotsgure_aes_ccm_open(&aes, nonce, 13, MESSAGE, tag, 16)) \
     ALONE(IT, gcm_set_key, fotsgure_gcm_set_key(&gcm, key, size)) ALONE(IT, gcm_set_key_of, fotsgure_gcm_set_key_of(&gcm, &aes)) \
     ALONE(IT, gcm_wipe, (fotsgure_gcm_wipe(&gcm), 0)) \
     ALONE(IT, gcm_wipe_message, (fotsgure_gcm_wipe_message(&message), 0)) \
@@ -155,31 +159,31 @@ enum text { PLAIN, SEALED, ZEROS };
         || fotsgure_gcm_open(&gcm, nonce, 12, MESSAGE, tag, 16))) \
     IT(gcm_open, OF_MESSAGES, GCM, SEALED, PLAIN, 0, fotsgure_gcm_open(&gcm, nonce, nonce_bytes, MESSAGE, tag, 16)) \
     IT(gcm_open_refused, OF_MESSAGES, GCM, SEALED, SEALED, FOTSGURE_GCM_REFUSED, \
-        fotsgure_gcm_open(&gcm, nonce, nonce_bytes, CHANGED, tag, 16)) \
+        fotsgure_gcm_open(&gcm, nonce, nonce_bytes, MESSAGE, tag, 16)) \
     IT(gcm_seal_to, OF_MESSAGES, GCM, PLAIN, SEALED, 0, fotsgure_gcm_seal_to(&gcm, nonce, nonce_bytes, additional, extra, TO, tag)) \
     IT(gcm_open_to, OF_MESSAGES, GCM, SEALED, PLAIN, 0, \
         fotsgure_gcm_open_to(&gcm, nonce, nonce_bytes, additional, extra, TO, tag, 16)) \
     IT(gcm_open_to_refused, OF_MESSAGES, GCM, SEALED, ZEROS, FOTSGURE_GCM_REFUSED, \
-        fotsgure_gcm_open_to(&gcm, nonce, nonce_bytes, additional, extra + 1, TO, tag, 16)) \
+        fotsgure_gcm_open_to(&gcm, nonce, nonce_bytes, additional, extra, TO, tag, 16)) \
     IT(gcm_seal_pieces, OF_MESSAGES, GCM, PLAIN, SEALED, 0, seal_in_pieces()) \
     IT(gcm_open_pieces, OF_MESSAGES, GCM, SEALED, PLAIN, 0, open_in_pieces()) \
-    IT(gcm_open_pieces_refused, OF_MESSAGES, GCM, SEALED, SEALED, FOTSGURE_GCM_REFUSED, (extra++, open_in_pieces())) \
+    IT(gcm_open_pieces_refused, OF_MESSAGES, GCM, SEALED, SEALED, FOTSGURE_GCM_REFUSED, open_in_pieces()) \
     IT(gcm_open_unverified, OF_MESSAGES, GCM, SEALED, PLAIN, 0, open_unverified()) \
     IT(siv_set_key, NOTHING, SIV, PLAIN, PLAIN, 0, fotsgure_gcm_siv_set_key(&siv, key, size)) \
     IT(siv_wipe, NOTHING, SIV, PLAIN, PLAIN, 0, (fotsgure_gcm_siv_wipe(&siv), 0)) \
     IT(siv_seal, OF_MESSAGES, SIV, PLAIN, SEALED, 0, fotsgure_gcm_siv_seal(&siv, nonce, MESSAGE, tag)) \
     IT(siv_open, OF_MESSAGES, SIV, SEALED, PLAIN, 0, fotsgure_gcm_siv_open(&siv, nonce, MESSAGE, tag)) \
     IT(siv_open_refused, OF_MESSAGES, SIV, SEALED, SEALED, FOTSGURE_GCM_REFUSED, \
-        fotsgure_gcm_siv_open(&siv, nonce, CHANGED, tag)) \
+        fotsgure_gcm_siv_open(&siv, nonce, MESSAGE, tag)) \
     IT(siv_seal_to, OF_MESSAGES, SIV, PLAIN, SEALED, 0, fotsgure_gcm_siv_seal_to(&siv, nonce, additional, extra, TO, tag)) \
     IT(siv_open_to, OF_MESSAGES, SIV, SEALED, PLAIN, 0, fotsgure_gcm_siv_open_to(&siv, nonce, additional, extra, TO, tag)) \
     IT(siv_open_to_refused, OF_MESSAGES, SIV, SEALED, ZEROS, FOTSGURE_GCM_REFUSED, \
-        fotsgure_gcm_siv_open_to(&siv, nonce, additional, extra + 1, TO, tag))
-#define DEFINED(name, takes, mode, from, to, wanted, call) static void call_##name(void) { said((int)(call)); }
+        fotsgure_gcm_siv_open_to(&siv, nonce, additional, extra, TO, tag))
+#define DEFINED(name, takes, mode, from, to, wanted, call) static int call_##name(void) { return (int)(call); }
 #define LISTED(name, takes, mode, from, to, wanted, call) {#name, call_##name, takes, mode, from, to, wanted},
 CALLS(DEFINED)
 static const struct call {
-    const char *name; void (*it)(void); enum takes takes; enum mode mode; enum text from, to; int wanted;
+    const char *name; int (*it)(void); enum takes takes; enum mode mode; enum text from, to; int wanted;
 } calls[] = {CALLS(LISTED)};
 
 /* The lengths of each kind of call, and what goes with them: positions, or lengths of nonces. */
@@ -237,18 +241,50 @@ static int seal(const struct call *call) {
         break;
     case CCM:
         said((int)fotsgure_aes_ccm_seal(&aes, nonce, 13, additional, extra, sealed, bytes, tag, 16));
+        break;
+    case CMAC: return (int)fotsgure_aes_cmac(&aes, plain, bytes, tag);
     }
     for (size_t i = 0; i < bytes; i++)
         stream[i] = plain[i] ^ sealed[i];
     return 0;
 }
+/* Wraps semiblocks as SP 800-38F, 6.1, does, but under an integrity value that may be wrong. */
+static void wrap_under(const uint8_t value[8], const uint8_t *text, size_t semiblocks, uint8_t *to) {
+    memcpy(to, value, 8);
+    memcpy(to + 8, text, 8 * semiblocks);
+    for (size_t step = 1; step <= 6 * semiblocks; step++) {
+        uint8_t block[16], *one = to + 8 * ((step - 1) % semiblocks + 1);
+        memcpy(block, to, 8);
+        memcpy(block + 8, one, 8);
+        said((int)fotsgure_aes_encrypt_blocks(&aes, block, 1));
+        for (int i = 0; i < 4; i++)
+            block[7 - i] ^= (uint8_t)(step >> 8 * i);
+        memcpy(to, block, 8);
+        memcpy(one, block + 8, 8);
+    }
+}
+/* What is to be refused is wrong at one place alone, another one in each run: a comparison with an early exit takes another time. (The text
+ * of AES-GCM-SIV depends on its tag, so there each place is wrong.) */
+static void spoil(const struct call *call, int place) {
+    uint8_t value[8] = {0xa6, 0xa6, 0xa6, 0xa6, 0xa6, 0xa6, 0xa6, 0xa6}, padded[ROOM] = {0};
+    memcpy(padded, plain, length_of(call, PLAIN));
+    if (call->mode == KWP)
+        memcpy(value, (uint8_t[]){0xa6, 0x59, 0x59, 0xa6, 0, 0, (uint8_t)((bytes - 3) >> 8), (uint8_t)(bytes - 3)}, 8);
+    value[place % 8] ^= (uint8_t)(0x80 >> place / 8);
+    memcpy(right_tag, tag, sizeof tag);
+    tag[place] ^= 1;
+    if (call->mode == KW || call->mode == KWP)
+        wrap_under(value, padded, 2 * count, given);
+}
+/* Of two messages the nonce is all zeros, of two others not. It is public, so that instructions may depend on it. */
+static int nonce_of(int of_message) { return of_message / 2; }
 /* What a run is given, by the numbers of its key and of its message. */
 static void prepare(const struct call *call, int of_key, int of_message) {
     state = (uint64_t)of_key * 0x9e3779b97f4a7c15u + 1;
     fill(key, sizeof key, of_key);
     state = (uint64_t)of_message * 0x9e3779b97f4a7c15u + 7;
     fill(plain, bytes + MORE, of_message);
-    fill(nonce, sizeof nonce, of_message < 2 ? 0 : 2);
+    fill(nonce, sizeof nonce, 2 * nonce_of(of_message));
     fill(additional, sizeof additional, of_message);
     status = 0;
     said((int)fotsgure_aes_set_key(&aes, key, size));
@@ -256,6 +292,8 @@ static void prepare(const struct call *call, int of_key, int of_message) {
     if (status)
         abort();
     memcpy(given, call->from == SEALED ? sealed : plain, bytes + MORE);
+    if (call->wanted == FOTSGURE_AES_REFUSED || call->wanted == FOTSGURE_GCM_REFUSED)
+        spoil(call, RUNS * of_key + of_message);
     memcpy(data, given, bytes + MORE);
     memcpy(eight, plain, sizeof eight);
     for (size_t i = 0; i < sizeof eight_keys; i += 16)
@@ -263,36 +301,23 @@ static void prepare(const struct call *call, int of_key, int of_message) {
     start();
 }
 
-static uint8_t stack[STACK] __attribute__((aligned(64))), images[RUNS][STACK], known[RUNS][4 * ROOM];
+enum { WORDS = STACK / sizeof(size_t) };
+static const size_t FILLED = (size_t)0xa5a5a5a5a5a5a5a5u;
+static size_t stack[WORDS] __attribute__((aligned(64)));
+static union { size_t words[WORDS]; uint8_t bytes[STACK]; } images[RUNS];
+static uint8_t known[RUNS][4 * ROOM];
+static uint8_t found[REGISTERS], registers[RUNS][REGISTERS];
 static size_t known_bytes[RUNS];
-static void (*called)(void);
-/* Empties the registers that a call for Windows saves on the stack: libc's memcpy may have left a copy of what depends on a key there. */
-#define EMPTY(n) "pxor %%xmm" #n ", %%xmm" #n "\n"
-static void empty_registers(void) {
-#ifdef __x86_64__
-    __asm__ volatile(EMPTY(6) EMPTY(7) EMPTY(8) EMPTY(9) EMPTY(10) EMPTY(11) EMPTY(12) EMPTY(13) EMPTY(14) EMPTY(15)
-        : : : "xmm6", "xmm7", "xmm8", "xmm9", "xmm10", "xmm11", "xmm12", "xmm13", "xmm14", "xmm15");
-#endif
-}
-static void enter(void) {
-    empty_registers();
-    MARK(112);
-    called();
-    MARK(113);
-}
-/* Registers are as they were when the program began, so that none of them has a trace of a key. */
-static ucontext_t begin;
-static void run(const struct call *call, uint8_t *image) {
-    static ucontext_t home, away;
-    called = call->it;
-    memset(stack, FILL, STACK);
-    away = begin;
-    away.uc_stack.ss_sp = stack;
-    away.uc_stack.ss_size = STACK;
-    away.uc_link = &home;
-    makecontext(&away, enter, 0);
-    swapcontext(&home, &away);
-    memcpy(image, stack, STACK);
+/* Makes a call on a stack of its own, and stores the registers after it: enter.S. */
+extern int enter(void *top, int (*call)(void), void *registers);
+static void run(const struct call *call, int of_key) {
+    for (size_t i = 0; i < WORDS; i++)
+        stack[i] = FILLED;
+    said(enter(stack + WORDS, call->it, found));
+    memcpy(registers[of_key], found, REGISTERS);
+    /* (By words, since an emulator follows each access.) */
+    for (size_t i = 0; i < WORDS; i++)
+        images[of_key].words[i] = stack[i];
 }
 static int is_done(const struct call *call) {
     static const uint8_t zeros[ROOM];
@@ -321,14 +346,15 @@ static void note_known(const struct call *call, int run) {
 static int is_same(size_t at, size_t length) {
     int same = 1;
     for (int other = 1; other < RUNS; other++)
-        same &= memcmp(images[other] + at, images[0] + at, length) == 0;
+        same &= memcmp(images[other].bytes + at, images[0].bytes + at, length) == 0;
     return same;
 }
-/* Whether a word has one byte alone, which is known: a machine of 32 bits may keep bytes of a message so. In a long message every byte
+/* Whether a word has one byte alone, or two, which are known: a machine of 32 bits may keep bytes of a message so. In a long message every byte
  * occurs, so that this tells something of short ones alone. */
 static int is_alone(int run, size_t at) {
-    static const uint8_t zeros[3];
-    return at % 4 == 0 && !memcmp(images[run] + at + 1, zeros, 3) && memchr(known[run], images[run][at], known_bytes[run]);
+    const uint8_t *it = images[run].bytes + at / 4 * 4;
+    size_t length = it[1] ? 2 : 1;
+    return !it[2] && !it[3] && memmem(known[run], known_bytes[run], it, length);
 }
 /* Counts the bytes of a run's stack that other keys leave otherwise: those that are known, by pieces, and the others. It begins 64
  * bytes below the deepest place. */
@@ -338,11 +364,22 @@ static void count_left(int run, size_t deep, size_t *is_known, size_t *is_secret
         piece = i % 64 == 0 && is_same(i, 64) ? 64 : 1;
         if (piece == 64 || is_same(i, 1))
             continue;
-        const uint8_t *at = i + PIECE > STACK ? NULL : memmem(known[run], known_bytes[run], images[run] + i, PIECE);
-        for (; at && at + piece < known[run] + known_bytes[run] && i + piece < STACK && at[piece] == images[run][i + piece];)
+        const uint8_t *at = i + PIECE > STACK ? NULL : memmem(known[run], known_bytes[run], images[run].bytes + i, PIECE);
+        for (; at && at + piece < known[run] + known_bytes[run] && i + piece < STACK && at[piece] == images[run].bytes[i + piece];)
             piece++;
         *(at || is_alone(run, i) ? is_known : is_secret) += piece;
     }
+}
+/* How many bytes of the registers are other ones under some key. */
+static size_t in_registers(void) {
+    size_t differ = 0;
+    for (size_t i = 0; i < REGISTERS; i++) {
+        int same = 1;
+        for (int of_key = 1; of_key < RUNS; of_key++)
+            same &= registers[of_key][i] == registers[0][i];
+        differ += !same;
+    }
+    return differ;
 }
 /* A call at one length, for each message under each key. */
 static void at_length(const struct call *call) {
@@ -351,19 +388,17 @@ static void at_length(const struct call *call) {
         size_t deep = STACK, is_known, is_secret;
         for (int of_key = 0; of_key < RUNS; of_key++) {
             prepare(call, of_key, of_message);
-            size_t own_extra = extra;
-            run(call, images[of_key]);
-            extra = own_extra;
+            run(call, of_key);
             did[of_key] = is_done(call);
             note_known(call, of_key);
         }
-        while (deep && images[0][STACK - deep] == FILL)
-            deep--;
+        while (deep && images[0].words[WORDS - deep / sizeof(size_t)] == FILLED)
+            deep -= sizeof(size_t);
         for (int of_key = 0; of_key < RUNS; of_key++) {
             count_left(of_key, deep, &is_known, &is_secret);
-            printf("%s\t%zu\t%zu\t%llu\t%s\t%zu\t%zu\t%zu\n", call->name, 8 * size, call->takes == OF_BLOCKS ? count : bytes,
+            printf("%s\t%zu\t%zu\t%llu\t%d\t%s\t%zu\t%zu\t%zu\t%zu\n", call->name, 8 * size, call->takes == OF_BLOCKS ? count : bytes,
                 call->takes == OF_MESSAGES ? 1000 * nonce_bytes + extra : (unsigned long long)position,
-                did[of_key] ? "done" : "NOT DONE", deep, is_known, is_secret);
+                nonce_of(of_message), did[of_key] ? "done" : "NOT DONE", deep, is_known, is_secret, in_registers());
         }
     }
 }
@@ -377,8 +412,8 @@ static void at_lengths(const struct call *call) {
             position = call->takes == OF_BYTES ? positions[k] : 0;
             nonce_bytes = call->takes == OF_MESSAGES ? nonces[k] : 12;
             extra = call->takes == OF_MESSAGES ? extras[i % OF(extras)] : 0;
-            /* Keys of one block or more are wrapped. */
-            if (count || (call->mode != KW && call->mode != KWP))
+            /* Keys of 1 to 24 blocks are wrapped: of so many the number of a step is above 255. */
+            if ((count && count <= 24) || (call->mode != KW && call->mode != KWP))
                 at_length(call);
         }
 }
@@ -386,7 +421,6 @@ static void at_lengths(const struct call *call) {
 int main(void) {
     /* At its first call a library may ask which of its builds the processor runs. */
     (void)(fotsgure_aes_version() + fotsgure_gcm_version());
-    getcontext(&begin);
     for (size = 16; size <= 32; size += 8)
         for (const struct call *call = calls; call < calls + OF(calls); call++)
             if (call->mode != SIV || size != 24)

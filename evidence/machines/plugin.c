@@ -32,6 +32,8 @@ __attribute__((visibility("default"))) int qemu_plugin_version = 1;
 enum { ADDI = 0x13, BEGIN = ADDI | 112 << 20, END = ADDI | 113 << 20 };
 #elif defined ARM
 enum { HINT = (int)0xe320f000, BEGIN = HINT | 112, END = HINT | 113 };
+/* The same in Thumb. */
+#define HINT_OF_THUMB(number) (0x8000f3afu | (uint32_t)(number) << 16)
 #else
 enum { NOPL = 0x401f0f, BEGIN = NOPL | 112 << 24, END = NOPL | 113 << 24 };
 #endif
@@ -66,6 +68,10 @@ static void ended(unsigned cpu, void *at) {
 static uint32_t code_of(const struct qemu_plugin_insn *it) {
     uint32_t code;
     memcpy(&code, qemu_plugin_insn_data(it), sizeof code);
+#ifdef ARM
+    for (uint32_t number = 112; number <= 113; number++)
+        code = code == HINT_OF_THUMB(number) ? (uint32_t)HINT | number : code;
+#endif
     return code;
 }
 static void *numbered(size_t count, uint64_t address) { return (void *)((uintptr_t)count << 48 | (uintptr_t)address); }

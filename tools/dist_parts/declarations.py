@@ -4,8 +4,10 @@ import textwrap
 
 TYPES = {"uint8_t": "u8", "uint32_t": "u32", "uint64_t": "u64", "size_t": "usize"}
 NUMBER = re.compile(r"^(?:#define |    )(FOTSGURE_\w+)(?: =)? (\d+),?(?: |$)", re.M)
+# A word that has 64 bits on 64-bit RISC-V, and another type elsewhere.
+WORD = re.compile(r"^#if defined\(__riscv\) && __riscv_xlen == 64\ntypedef (\w+) (\w+);\n#else\ntypedef (\w+) \w+;\n#endif$", re.M)
 STRUCT = re.compile(r"^struct (\w+) \{\n(.*?)^\};", re.M | re.S)
-SIZE = re.compile(r"sizeof\(struct (\w+)\) == (\d+)")
+SIZE = re.compile(r"sizeof\(struct (\w+)\) == (\d+)(?: \* sizeof\((\w+)\))?,")
 FIELD = re.compile(r"(\w+) (\w+)(?:\[(\w+)\])?;")
 PARAMETER = re.compile(r"(const )?(?:struct )?(\w+) (\*)?(\w+)(?:\[(\w+)\])?")
 COMMENT = re.compile(r"/\*.*?\*/", re.S)
@@ -36,8 +38,13 @@ def of_call(result, name, parameters, numbers):
     return [it.replace("\0", " ") for it in textwrap.wrap(words, 116, initial_indent="    ", subsequent_indent="        ")]
 
 
+def of_word(on_riscv, name, elsewhere):
+    riscv = 'target_arch = "riscv64"'
+    return [f"#[cfg({riscv})]", f"pub type {name} = {TYPES[on_riscv]};", f"#[cfg(not({riscv}))]", f"pub type {name} = {TYPES[elsewhere]};", ""]
+
+
 def of_struct(name, fields, numbers):
-    fields = [f"    pub {it}: {array(TYPES[kind], length, numbers)}," for kind, it, length in FIELD.findall(COMMENT.sub("", fields))]
+    fields = [f"    pub {it}: {array(TYPES.get(kind, kind), length, numbers)}," for kind, it, length in FIELD.findall(COMMENT.sub("", fields))]
     return ["#[repr(C)]", "#[derive(Clone)]", f"pub struct {name} {{", *fields, "}", ""]
 
 
@@ -48,6 +55,8 @@ def in_rust(library, header, calls):
     if "struct fotsgure_aes *" in header and library != "aes":
         lines += ["use crate::aes::fotsgure_aes;", ""]
     lines += [*(f"pub const {name}: u32 = {number};" for name, number in numbers.items()), ""]
+    lines += [line for it in WORD.findall(header) for line in of_word(*it)]
     lines += [line for it in STRUCT.findall(header) for line in of_struct(*it, numbers)]
-    lines += [f"const _: () = assert!(core::mem::size_of::<{name}>() == {size});" for name, size in SIZE.findall(header)]
+    for name, size, word in SIZE.findall(header):
+        lines += [f"const _: () = assert!(core::mem::size_of::<{name}>() == {size}{f' * core::mem::size_of::<{word}>()' if word else ''});"]
     return "\n".join([*lines, "", "library! {", f'    "{library}":', *(line for it in calls for line in of_call(*it, numbers)), "}", ""])

@@ -3,7 +3,8 @@
 A compiler can be told so ("zero-call-used-regs"), but what it then empties is what the function itself uses, not what the functions use that
 it calls, or else the numbers of x87 too; and for RISC-V it does nothing. So the assembly of a library is changed, before each return of an
 export: it zeros each vector register that the ABI doesn't keep for the caller, and the general registers, but for the result and for those
-that belong to the system. Functions that exports jump to do the same, since they return to the caller.
+that belong to the system. Functions that exports jump to do the same, since they return to the caller. On Cortex-M these lines stand behind
+a function, and its returns become jumps to them. A jump takes no more bytes than a return, so every branch of the function still reaches.
 """
 import re
 
@@ -70,14 +71,20 @@ def emptied(folder, is_wide, text, has_vectors=True):
     while more:
         more = {found[1] for inside, line in functions(lines) if inside in ending for found in [LEAP.match(line)] if found} - ending
         ending = ending | more
-    out, seen = [], set()
+    out, seen, behind = [], set(), {}
     for inside, line in functions(lines):
         if inside in ending and (RETURN.match(line) or LEAP.match(line)):
             seen.add(inside)
         if inside in ending and LEFT_TO_LIBC.match(line):
             raise SystemExit(f"dist: {inside} ends in a jump to libc")
         at = len(out)
-        if inside in ending and RETURN.match(line):
+        if folder == "thumb" and line.startswith(".Lfunc_end"):
+            for end, label in behind.items():
+                out += [f"{label}:", *emptying(folder, is_wide), end]
+            behind = {}
+        elif folder == "thumb" and inside in ending and RETURN.match(line):
+            line = "\tb\t" + behind.setdefault(line, f".Lreturn_{at}")
+        elif inside in ending and RETURN.match(line):
             while folder == "windows_x86_64" and ENDING.match(out[at - 1]):
                 at -= 1
             out[at:at] = emptying(folder, is_wide, has_vectors)
@@ -85,41 +92,6 @@ def emptied(folder, is_wide, text, has_vectors=True):
     if ending - seen:
         raise SystemExit(f"dist: no return is seen in {', '.join(sorted(ending - seen))}")
     return "\n".join(out)
-
-
-# Cortex-M0's conditional branches, which reach 254 bytes, and what each is the contrary of.
-CONDITIONAL = re.compile(r"\tb(eq|ne|hs|lo|mi|pl|vs|vc|hi|ls|ge|lt|gt|le)\t(\.L\w+)(?: *@.*)?$")
-PAIRS = (("eq", "ne"), ("hs", "lo"), ("mi", "pl"), ("vs", "vc"), ("hi", "ls"), ("ge", "lt"), ("gt", "le"))
-CONTRARY = {it: other for pair in PAIRS for it, other in (pair, pair[::-1])}
-REACH = 240
-
-
-def size(line):
-    """How many bytes a line of assembly for Cortex-M0 takes, or more."""
-    if re.match(r"\t(?:bl|blx|dmb|mrs|msr)\t|\t\.(?:long|p2align)\t", line):
-        return 4
-    return 2 if re.match(r"\t[a-z]", line) else 0
-
-
-def within_reach(text):
-    """The assembly for Cortex-M0, whose compiler knew nothing of what was added: a conditional branch that doesn't reach any more leaps over a
-    plain one."""
-    lines, far, more = text.split("\n"), set(), True
-    while more:
-        at, places, labels = 0, [], {}
-        for number, line in enumerate(lines):
-            places.append(at)
-            if label := re.match(r"(\.L\w+):", line):
-                labels[label[1]] = at
-            at += size(line) + (2 if number in far else 0)
-        found = ((number, CONDITIONAL.match(line)) for number, line in enumerate(lines))
-        more = {number for number, it in found if it and abs(labels[it[2]] - places[number]) > REACH} - far
-        far |= more
-    label = re.search(r"^\.L(\w*?)BB\d", text, re.M)[1]
-    for count, number in enumerate(sorted(far), 1):
-        condition, to = CONDITIONAL.match(lines[number]).groups()
-        lines[number] = f"\tb{CONTRARY[condition]}\t.L{label}over_{count}\n\tb\t{to}\n.L{label}over_{count}:"
-    return "\n".join(lines)
 
 
 def as_compiled(folder, is_wide, text):

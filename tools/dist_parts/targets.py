@@ -80,21 +80,22 @@ THUMB = ("-mfloat-abi=soft", *SECTIONS)
 CORTEX_M0 = Target("thumb", "thumbv6m-unknown-none-gnueabi", ("-mcpu=cortex-m0", *THUMB), "_v6m", bits=32)
 CORTEX_M3 = Target("thumb", "thumbv7m-unknown-none-gnueabi", ("-mcpu=cortex-m3", *THUMB), "_v7m", bits=32)
 RISCV32 = Target("riscv32", "riscv32-unknown-elf", ("-march=rv32imc", "-mabi=ilp32", "-mcmodel=medany", *SECTIONS), bits=32)
-# Which are made of the module of a build, by the processor of x86-64 that it is for. The first processors have no byte shuffle.
+# Which are made of the module of a build, by its suffix. Those of _v1 and _w64 take no byte shuffle. _w64 keeps a key in words of 64 bits,
+# and so in a larger struct, which only 64-bit RISC-V has.
 MADE_OF = {
-    "x86-64-v2": (
+    "_v2": (
         Target("riscv64", "riscv64-unknown-linux-gnu", ("-march=rv64gcv", "-mabi=lp64d", "-fPIC", *SECTIONS), shuffle=BY_VRGATHER),
         Target("windows_x86_64", "x86_64-pc-windows-gnu", ("-march=x86-64-v2",), suffix="_v2"),
         Target("wasm32", "wasm32-unknown-unknown", ("-Os", "-mcpu=mvp", "-msimd128", "-mbulk-memory", *SECTIONS), bits=32, shuffle=BY_SWIZZLE),
     ),
-    "x86-64-v3": (Target("windows_x86_64", "x86_64-pc-windows-gnu", ("-march=x86-64-v3",), "_v3", suffix="_v3"),),
-    "x86-64": (
+    "_v3": (Target("windows_x86_64", "x86_64-pc-windows-gnu", ("-march=x86-64-v3",), "_v3", suffix="_v3"),),
+    "_v1": (
         Target("windows_x86_64", "x86_64-pc-windows-gnu", ("-march=x86-64",), "_v1", suffix="_v1"),
-        Target("riscv64", "riscv64-unknown-linux-gnu", ("-march=rv64gc", "-mabi=lp64d", "-fPIC", *SECTIONS), "_narrow"),
         Target("arm", "armv7-unknown-linux-gnueabi", ("-march=armv7-a", "-mfloat-abi=soft", "-fPIC", *SECTIONS), bits=32),
         *(it for target in (CORTEX_M0, CORTEX_M3, RISCV32) for it in (target, target.small())),
         Target("wasm32", "wasm32-unknown-unknown", ("-Os", "-mcpu=mvp", *SECTIONS), "_narrow", bits=32),
     ),
+    "_w64": (Target("riscv64", "riscv64-unknown-linux-gnu", ("-march=rv64gc", "-mabi=lp64d", "-fPIC", *SECTIONS), "_narrow"),),
 }
 
 

@@ -33,7 +33,8 @@ def data(record, name):
 
 
 def prepared(key):
-    aes = ctypes.create_string_buffer(484)
+    # (as many bytes as on 64-bit RISC-V, where it has the most)
+    aes = ctypes.create_string_buffer(968)
     assert library.fotsgure_aes_set_key(aes, key, ctypes.c_size_t(len(key))) == DONE
     return aes
 

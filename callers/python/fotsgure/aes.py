@@ -10,11 +10,11 @@ that pip built is taken, or the loader searches. Python copies bytes as it likes
 import ctypes
 from typing import Any, Tuple, Union
 
-from .library import Bytes, Secret, Turn, Uses, bytes_of, load, number, room, written
+from .library import Bytes, Secret, Turn, Uses, Word, bytes_of, load, number, room, written
 
 
 class _Key(ctypes.Structure):
-    _fields_ = [("key_length", ctypes.c_uint32), ("round_keys", ctypes.c_uint8 * 480)]
+    _fields_ = [("key_length", Word), ("round_keys", Word * 120)]
 
 
 class _Ctr(ctypes.Structure):

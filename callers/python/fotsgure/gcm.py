@@ -29,7 +29,7 @@ import contextlib
 import ctypes
 from typing import Any, Optional, Sequence, Tuple
 
-from .library import Bytes, Secret, Turn, Uses, bytes_of, bytes_or_none, load, room, written
+from .library import Bytes, Secret, Turn, Uses, Word, bytes_of, bytes_or_none, load, room, written
 
 
 class Refused(Exception):
@@ -37,12 +37,12 @@ class Refused(Exception):
 
 
 class _Key(ctypes.Structure):
-    _fields_ = [("key_length", ctypes.c_uint32), ("round_keys", ctypes.c_uint8 * 240),
+    _fields_ = [("key_length", Word), ("round_keys", ctypes.c_uint8 * 240),
                 ("multiples", ctypes.c_uint8 * 1536)]
 
 
 class _SivKey(ctypes.Structure):
-    _fields_ = [("key_length", ctypes.c_uint32), ("round_keys", ctypes.c_uint8 * 480)]
+    _fields_ = [("key_length", Word), ("round_keys", Word * 120)]
 
 
 class _Message(ctypes.Structure):

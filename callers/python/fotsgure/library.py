@@ -6,12 +6,15 @@ import ctypes.util
 import operator
 import os
 import pathlib
+import platform
 import threading
 import weakref
 from typing import Any, Iterable, Iterator, List, Optional, Tuple, Union
 
 # What has bytes: these, and whatever else `bytes_of` takes.
 Bytes = Union[bytes, bytearray, memoryview, "array.array[int]"]
+# The words of the structs that hold a key, as the headers have them.
+Word = ctypes.c_uint64 if platform.machine() == "riscv64" else ctypes.c_uint32
 # A call's name, types of its arguments, type of its result.
 Call = Tuple[str, list, Optional[type]]
 

@@ -1,17 +1,9 @@
--- A key that is kept: how many bytes it has, and its stored round keys as planes in words of 32 bits.
-use Rattle.std.specs.Prelude.{◌≡◌, ℕ, ◌-◌, Bool, List, drop, replicate, take}
-use Rattle.aes_planes.specs.Words.{word_bits}
+-- A key that is kept: how many bytes it has, and its stored round keys as planes in words.
+use Rattle.std.specs.Prelude.{◌≡◌, ℕ, ◌-◌, List, drop, replicate, take}
 use Rattle.aes_cipher.specs.KeySizes.{IsKeySize}
 use Rattle.aes_soft.specs.Stored.{key_of_planes, words_for, IsFullSchedule}
+use Rattle.aes_narrow.specs.KeptWord.{kept_bits, kept_blocks}
 use Rattle.aes_narrow.specs.declared.kept_key.KeptKey.{KeptKey}
-
--- the bits of a word
-abbrev pub kept_bits : ℕ → List Bool
-kept_bits = word_bits 32
-
--- how many blocks eight words hold
-abbrev pub kept_blocks : ℕ
-kept_blocks = 2
 
 -- the struct that holds no key
 abbrev pub no_key : KeptKey

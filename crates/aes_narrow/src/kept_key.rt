@@ -1,24 +1,22 @@
 //! A key as its stored round keys, in a struct that a caller keeps. It has C's layout, and so no
-//! type parameter: its words have 32 bits.
+//! type parameter: `kept_word` names its words.
 
 ghost use Rattle.std.specs.Prelude.{◌≡◌, ◌↔◌, length, IsTrue};
 ghost use Rattle.aes_cipher.specs.KeySizes.{IsKeySize};
 ghost use Rattle.aes_narrow.specs.KeptKey.{key_in, no_key, HoldsKey, IsKept, IsZeroAfter};
 
+use crate::kept_word::KeptWord;
 use crate::lent::LentWords;
 use crate::word_room::{WordRoom, expand_in_words, is_key_size, keys_in_words};
 use aes_cipher::not_clone::NotClone;
 use aes_cipher::zeroize::{Zeroize, zeroize_elements};
-
-/// The words of a key that is kept.
-pub type KeptWord = u32;
 
 /// A key that is kept, for both directions. Its words are as secret as the key.
 #[repr(C)]
 #[derive(Drop)]
 pub struct KeptKey {
     /// How many bytes the key has: 16, 24 or 32; 0 if there is no key.
-    pub length: u32,
+    pub length: KeptWord,
     /// The planes of the stored round keys, in the first 88, 104 or 120 words.
     pub round_keys: WordRoom<KeptWord>,
 }
@@ -80,7 +78,7 @@ impl KeptKey {
     {
         self.round_keys = [0; 120];
         expand_in_words(&mut self.round_keys, key);
-        self.length = key.len() as u32;
+        self.length = key.len() as KeptWord;
     }
 
     /// Lends the key of a struct that holds one as a cipher for both directions.

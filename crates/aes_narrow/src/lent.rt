@@ -5,12 +5,12 @@ ghost use Rattle.aes_planes.specs.Fips197 as fips;
 ghost use Rattle.aes_planes.proofs.Standard.CipherLaws.{two_keys};
 ghost use Rattle.aes_soft.specs.Stored.{key_of_planes, IsFullSchedule};
 
-use crate::backend::OnWords;
-use crate::blocks::process_on_words;
+use crate::blocks::{process_few, process_on_words};
 use crate::narrow_word::NarrowWord;
 use aes_cipher::cipher::{
-    BlockCipherDecClosure, BlockCipherDecrypt, BlockCipherEncClosure, BlockCipherEncrypt, Decrypt,
-    Encrypt, RoundKeysUser,
+    BatchSizeUser, BlockCipherDecBackend, BlockCipherDecClosure, BlockCipherDecrypt,
+    BlockCipherEncBackend, BlockCipherEncClosure, BlockCipherEncrypt, Decrypt, Encrypt,
+    RoundKeysUser,
 };
 use aes_cipher::zeroize::wipe_stack;
 use aes_planes::laws;
@@ -22,7 +22,8 @@ use std::slice;
 // modes do.
 const CLOSURE_STACK: usize = 2032;
 
-/// Stored round keys on words, lent to encrypt and to decrypt. Contracts see a value as its key.
+/// Stored round keys on words, lent to encrypt and to decrypt. It is also the backend of closures,
+/// which wipes no stack. Contracts see a value as its key.
 pub struct LentWords<'a, W: NarrowWord> {
     words: &'a [W],
 }
@@ -65,13 +66,41 @@ impl<W: NarrowWord> RoundKeysUser for LentWords<'_, W> {
     ghost two_round_keys = { two_keys };
 }
 
+impl<W: NarrowWord> BatchSizeUser for LentWords<'_, W> {
+    type Par = W::Par;
+}
+
+impl<W: NarrowWord> BlockCipherEncBackend for LentWords<'_, W> {
+    #[inline(always)]
+    fn encrypt_block(&self, block: &mut Block) {
+        process_few::<Encrypt, W>(self.words, slice::from_mut(block));
+    }
+
+    #[inline(always)]
+    fn encrypt_par_blocks(&self, blocks: &mut [Block]) {
+        process_few::<Encrypt, W>(self.words, blocks);
+    }
+}
+
+impl<W: NarrowWord> BlockCipherDecBackend for LentWords<'_, W> {
+    #[inline(always)]
+    fn decrypt_block(&self, block: &mut Block) {
+        process_few::<Decrypt, W>(self.words, slice::from_mut(block));
+    }
+
+    #[inline(always)]
+    fn decrypt_par_blocks(&self, blocks: &mut [Block]) {
+        process_few::<Decrypt, W>(self.words, blocks);
+    }
+}
+
 // Calls a closure to encrypt. In a call of its own, so that its stack can be wiped.
 #[inline(never)]
 fn call_to_encrypt<W: NarrowWord, F: BlockCipherEncClosure>(words: &[W], f: &mut F)
     requires { IsFullSchedule W.bits W.BLOCKS words.now }
     ensures { F.did f.old (fips.key_expansion (key_of_planes W.bits W.BLOCKS words.now)) f.new }
 {
-    f.call(&OnWords::new(words));
+    f.call(&LentWords::new(words));
 }
 
 // Calls a closure to decrypt.
@@ -80,7 +109,7 @@ fn call_to_decrypt<W: NarrowWord, F: BlockCipherDecClosure>(words: &[W], f: &mut
     requires { IsFullSchedule W.bits W.BLOCKS words.now }
     ensures { F.did f.old (fips.key_expansion (key_of_planes W.bits W.BLOCKS words.now)) f.new }
 {
-    f.call(&OnWords::new(words));
+    f.call(&LentWords::new(words));
 }
 
 impl<W: NarrowWord> BlockCipherEncrypt for LentWords<'_, W> {

@@ -2,10 +2,10 @@
 //! 197). The round keys of a key are stored as planes, and serve both directions.
 #![tactic(auto)]
 
-mod backend;
 pub mod blocks;
 pub mod examples;
 pub mod kept_key;
+pub mod kept_word;
 pub mod lent;
 pub mod narrow_word;
 pub mod word_room;

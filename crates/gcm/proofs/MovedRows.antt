@@ -1,17 +1,19 @@
 -- Rows of multiples for four powers of x more.
-use Rattle.std.proofs.Common.{◌≡◌, ℕ, suc, ◌+◌, ◌-◌, ◌*◌, ◌/◌, ◌%◌, ◌^◌, ◌<◌, ◌==◌, true, List, []}
-use Rattle.std.proofs.Common.{length, get_or, map, replicate, set, length-set, bit_xor, refl, ap, sym}
-use Rattle.std.proofs.Common.{◌∙◌, arith}
+use Rattle.std.proofs.Common.{◌≡◌, ℕ, suc, ◌+◌, ◌-◌, ◌*◌, ◌/◌, ◌%◌, ◌^◌, ◌<◌, ◌==◌, Bool, true, false}
+use Rattle.std.proofs.Common.{cond, List, [], ◌++◌, length, take, drop, get_or, map, replicate}
+use Rattle.std.proofs.Common.{bit_xor, refl, ap, sym, ◌∙◌, arith}
 use Rattle.std.proofs.lemmas.Nat.{xor_block, shr-shr}
 use Rattle.std.proofs.lemmas.Bool.{eqb-true}
-use Rattle.std.proofs.lemmas.List.{get_or-map, length-map}
-use Rattle.std.proofs.lemmas.List.Edits.{fill_by_more}
+use Rattle.std.proofs.lemmas.List.{get_or-map, length-map, length-take, length-drop, take_at, drop_at}
 use Rattle.std.proofs.lemmas.Simd.{get_or-zip2, length-zip2}
 use lib.Lanes.{zip2}
 use Rattle.std.specs.Int.Bits.{xor_zero_l, xor_zero_r}
 use Rattle.aes_planes.proofs.Bits.ByteCases.{all_below, all_below_tells}
 use Rattle.aes_planes.proofs.Lists.{get_or-build, build_is}
+use Rattle.aes_planes.proofs.Words.ByteLanes.{lane_of_splats, shr8, shl8}
 use Rattle.aes_permute.specs.Lookup.{looked, low_nibble}
+use Rattle.aes_permute.specs.Vectors.{half}
+use Rattle.aes_permute.proofs.ByHalves.{half_of_both, half_of_zip}
 use Rattle.gcm.specs.declared.moved_rows.TheConstants.{FALLEN_FIRST, FALLEN_SECOND}
 use Rattle.gcm.specs.Gcm.{next_v, v_at}
 use Rattle.gcm.specs.Multiples.{byte_of, nibble_multiple, multiples_row, multiples_rows, row_at}
@@ -214,14 +216,45 @@ second_row v rows m t last is long sized lanes t_is last_is =
     (looked FALLEN_SECOND (there v 15 n rows is (omega arith) h u % 16)))
     ∙ sym (four_second (nibble_multiple v n)))
 
--- three rows that are set in order stand at the first three places
-pub three_filled : (f : ℕ → List ℕ) (rows : List (List ℕ)) (a b c : List ℕ) → length rows ≡ 16
-    → a ≡ f 0 → b ≡ f 1 → c ≡ f 2 → (k : ℕ) → k < 3
-    → get_or (set (set (set rows 0 a) 1 b) 2 c) k [] ≡ f k
-three_filled f rows a b c sized a_is b_is c_is =
-    let one = fill_by_more f rows 0 [] (omega (arith, sized)) (λ j h. absurd (omega (arith, h))) in
-    let two = fill_by_more f (set rows 0 (f 0)) 1 [] (omega (arith, sized, length-set {A = List ℕ}))
-    one in
-    λ k below. (λ t. get_or (set (set (set rows 0 (a_is t)) 1 (b_is t)) 2 (c_is t)) k [])
-    ∙ fill_by_more f (set (set rows 0 (f 0)) 1 (f 1)) 2 []
-    (omega (arith, sized, length-set {A = List ℕ})) two k below
+-- ---- two rows in a vector
+
+-- each half of a vector of 32 lanes has sixteen
+half_long : (x : List ℕ) (i : ℕ) → length x ≡ 32 → length (half x i) ≡ 16
+unfolding half
+half_long x i long = go (i == 0)
+  where
+    go : (b : Bool) → length (cond b (take 16 x) (drop 16 x)) ≡ 16
+    go true = omega (arith, length-take 16 x, long)
+    go false = omega (arith, length-drop 16 x, long)
+
+-- two vectors that are shifted and summed: a lane of a half, by those lanes of their halves
+pub lane_of_half : (x y : List ℕ) (i n : ℕ) → length x ≡ 32 → length y ≡ 32 → n < 16
+    → get_or (half (zip2 bit_xor (zip2 shr8 x (replicate 32 4)) (zip2 shl8 y (replicate 32 4))) i)
+    n 0 ≡ bit_xor (get_or (half x i) n 0 / 16) (get_or (half y i) n 0 * 16 % 256)
+lane_of_half x y i n x_long y_long small =
+    let fours : half (replicate 32 4) i ≡ replicate 16 4 = half_of_both (replicate 16 4) i refl in
+    ap (λ l. get_or l n 0)
+    (half_of_zip bit_xor (zip2 shr8 x (replicate 32 4)) (zip2 shl8 y (replicate 32 4)) i
+    ∙ (λ t. zip2 bit_xor
+    ((half_of_zip shr8 x (replicate 32 4) i ∙ ap (zip2 shr8 (half x i)) fours) t)
+    ((half_of_zip shl8 y (replicate 32 4) i ∙ ap (zip2 shl8 (half y i)) fours) t)))
+    ∙ lane_of_splats 16 bit_xor shr8 shl8 (half x i) (half y i) 4 4 n (half_long x i x_long)
+    (half_long y i y_long) small
+
+-- a row of such a pair: a lane of it, by those lanes of the two rows that it is made of
+pub lane_in_pair : (m pair x y a b : List ℕ) (i : ℕ) → m ≡ half pair i → half x i ≡ a → half y i ≡ b
+    → ((i n : ℕ) → n < 16 → get_or (half pair i) n 0
+    ≡ bit_xor (get_or (half x i) n 0 / 16) (get_or (half y i) n 0 * 16 % 256))
+    → (n : ℕ) → n < 16 → get_or m n 0 ≡ bit_xor (get_or a n 0 / 16) (get_or b n 0 * 16 % 256)
+lane_in_pair m pair x y a b i m_is a_is b_is lanes n h =
+    ap (λ l. get_or l n 0) m_is ∙ lanes i n h
+    ∙ (λ t. bit_xor (get_or (a_is t) n 0 / 16) (get_or (b_is t) n 0 * 16 % 256))
+
+-- a vector of zeros and a row has them in its halves
+pub zeros_and_row : (x row : List ℕ) → x ≡ replicate 16 0 ++ row
+    → (half x 0 ≡ replicate 16 0) × (half x 1 ≡ row)
+unfolding half
+zeros_and_row x row is = (
+  ap (take 16) is ∙ take_at (replicate 16 0) row 16 refl,
+  ap (drop 16) is ∙ drop_at (replicate 16 0) row 16 refl,
+)

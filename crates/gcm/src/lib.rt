@@ -15,7 +15,6 @@ mod message;
 mod mode;
 mod moved_rows;
 mod multiples;
-mod nibble_rows;
 mod numbers;
 mod order;
 mod pieces;

@@ -1,10 +1,12 @@
 //! Rows of multiples for four powers of x more: the bits of the rows there are, moved by four.
 
 ghost use Rattle.std.specs.Prelude.{◌≡◌, ℕ, ◌*◌, ◌/◌, ◌%◌, ◌<◌, get_or, length, bit_xor};
+ghost use Rattle.aes_permute.specs.Vectors.{half};
 ghost use Rattle.gcm.specs.Gcm.{v_at};
 ghost use Rattle.gcm.specs.Multiples.{multiples_rows};
 
 use aes_cipher::cipher::Block;
+use aes_permute::halves::{joined, lower, upper};
 use aes_permute::lanes::Lanes;
 use aes_planes::laws::is_block;
 use std::simd::prelude::*;
@@ -19,14 +21,14 @@ const FALLEN_SECOND: [u8; 16] = [
     0x00, 0x20, 0x40, 0x60, 0x80, 0xa0, 0xc0, 0xe0, 0x00, 0x20, 0x40, 0x60, 0x80, 0xa0, 0xc0, 0xe0,
 ];
 
-// A row for four powers of x more, but for what falls out: of that row and the one before it.
+// Two rows for four powers of x more, but for what falls out: of these rows and those before them.
 #[inline(always)]
-fn moved(row: Block, before: Block) -> u8x16
-    ensures { (n : ℕ) → n < 16 → get_or result n 0
-        ≡ bit_xor (get_or row n 0 / 16) (get_or before n 0 * 16 % 256) }
+fn moved(rows: u8x32, before: u8x32) -> u8x32
+    ensures { (i n : ℕ) → n < 16 → get_or (half result i) n 0
+        ≡ bit_xor (get_or (half rows i) n 0 / 16) (get_or (half before i) n 0 * 16 % 256) }
 {
-    let high = u8x16::from_array(row) >> u8x16::splat(4);
-    let low = u8x16::from_array(before) << u8x16::splat(4);
+    let high = rows >> u8x32::splat(4);
+    let low = before << u8x32::splat(4);
     high ^ low
 }
 
@@ -44,10 +46,19 @@ pub(crate) fn put_moved_rows(moved_rows: &mut [Block], rows: &[Block], v: u128)
     let last = u8x16::from_array(end).low_nibbles();
     let first = last.lookup(FALLEN_FIRST);
     let second = last.lookup(FALLEN_SECOND);
-    moved_rows[0] = (moved(rows[0], [0; 16]) ^ first).to_array();
-    moved_rows[1] = moved(rows[1], rows[14]).to_array();
-    moved_rows[2] = (moved(rows[2], rows[0]) ^ second).to_array();
-    for i in 3..16 {
-        moved_rows[i] = moved(rows[i], rows[i - 2]).to_array();
+    // Nothing is before the first row; the eighth, before the ninth, stands at place 14.
+    let eighth = rows[14];
+    is_block(eighth);
+    let before = joined(u8x16::splat(0), u8x16::from_array(eighth));
+    let pair = moved(u8x32::load(rows, 0), before);
+    moved_rows[0] = (lower(pair) ^ first).to_array();
+    moved_rows[1] = upper(pair).to_array();
+    let pair = moved(u8x32::load(rows, 2), u8x32::load(rows, 0));
+    moved_rows[2] = (lower(pair) ^ second).to_array();
+    moved_rows[3] = upper(pair).to_array();
+    for r in 2..8 {
+        let pair = moved(u8x32::load(rows, 2 * r), u8x32::load(rows, 2 * r - 2));
+        moved_rows[2 * r] = lower(pair).to_array();
+        moved_rows[2 * r + 1] = upper(pair).to_array();
     }
 }

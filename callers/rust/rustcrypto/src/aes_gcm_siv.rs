@@ -68,7 +68,8 @@ mod sealed {
 
 /// AES-GCM-SIV under a key.
 ///
-/// The prepared key (484 bytes) is in the value, and is overwritten when it is dropped. Threads may share a value.
+/// The prepared key (484 bytes, 968 on 64-bit RISC-V) is in the value, and is overwritten when it is dropped. Threads may
+/// share a value.
 #[derive(Clone)]
 pub struct AesGcmSiv<Aes> {
     key: keys::GcmSiv,

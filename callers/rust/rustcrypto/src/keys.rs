@@ -153,7 +153,7 @@ pub(crate) struct GcmSiv(c::fotsgure_gcm_siv);
 impl GcmSiv {
     /// Prepares a key of 16 or 32 bytes.
     pub(crate) fn new(key: &[u8]) -> Self {
-        let mut siv = GcmSiv(c::fotsgure_gcm_siv { key_length: 0, round_keys: [0; 480] });
+        let mut siv = GcmSiv(c::fotsgure_gcm_siv { key_length: 0, round_keys: [0; 120] });
         // SAFETY: the pointers come from references that are valid for the call, and one of them is mutable.
         let status = unsafe { c::fotsgure_gcm_siv_set_key(&mut siv.0, key.as_ptr(), key.len()) };
         assert_eq!(status, c::FOTSGURE_GCM_DONE, "types have keys of 16 or 32 bytes alone");

@@ -18,7 +18,7 @@ pub(crate) struct Schedule(c::fotsgure_aes);
 impl Schedule {
     /// Expands a key of 16, 24 or 32 bytes.
     pub(crate) fn new(key: &[u8]) -> Self {
-        let mut schedule = Schedule(c::fotsgure_aes { key_length: 0, round_keys: [0; 480] });
+        let mut schedule = Schedule(c::fotsgure_aes { key_length: 0, round_keys: [0; 120] });
         // SAFETY: the pointers come from references that are valid for the call, and one of them is mutable.
         let status = unsafe { c::fotsgure_aes_set_key(&mut schedule.0, key.as_ptr(), key.len()) };
         assert_eq!(status, c::FOTSGURE_AES_DONE, "types have keys of 16, 24 or 32 bytes alone");

@@ -12,7 +12,8 @@ macro_rules! common {
     ($name:ident, $key_size:ident, $doc:literal) => {
         #[doc = $doc]
         ///
-        /// The key schedule (484 bytes, for both directions) is in the value, and is overwritten when it is dropped.
+        /// The key schedule (for both directions 484 bytes, 968 on 64-bit RISC-V) is in the value, and is overwritten when it is
+        /// dropped.
         #[derive(Clone)]
         pub struct $name(pub(crate) Schedule);
 

@@ -16,11 +16,16 @@ pub const FOTSGURE_AES_TAG_LENGTH: u32 = 7;
 pub const FOTSGURE_AES_NONCE_LENGTH: u32 = 8;
 pub const FOTSGURE_AES_TOO_LONG: u32 = 9;
 
+#[cfg(target_arch = "riscv64")]
+pub type fotsgure_aes_word = u64;
+#[cfg(not(target_arch = "riscv64"))]
+pub type fotsgure_aes_word = u32;
+
 #[repr(C)]
 #[derive(Clone)]
 pub struct fotsgure_aes {
-    pub key_length: u32,
-    pub round_keys: [u8; 480],
+    pub key_length: fotsgure_aes_word,
+    pub round_keys: [fotsgure_aes_word; 120],
 }
 
 #[repr(C)]
@@ -36,7 +41,7 @@ pub struct fotsgure_aes_cbc {
     pub previous: [u8; 16],
 }
 
-const _: () = assert!(core::mem::size_of::<fotsgure_aes>() == 484);
+const _: () = assert!(core::mem::size_of::<fotsgure_aes>() == 121 * core::mem::size_of::<fotsgure_aes_word>());
 const _: () = assert!(core::mem::size_of::<fotsgure_aes_ctr>() == 24);
 const _: () = assert!(core::mem::size_of::<fotsgure_aes_cbc>() == 16);
 

@@ -22,10 +22,15 @@ pub const FOTSGURE_GCM_UNEQUAL_LENGTHS: u32 = 10;
 pub const FOTSGURE_GCM_ROUND_KEYS: u32 = 240;
 pub const FOTSGURE_GCM_MULTIPLES: u32 = 1536;
 
+#[cfg(target_arch = "riscv64")]
+pub type fotsgure_gcm_word = u64;
+#[cfg(not(target_arch = "riscv64"))]
+pub type fotsgure_gcm_word = u32;
+
 #[repr(C)]
 #[derive(Clone)]
 pub struct fotsgure_gcm {
-    pub key_length: u32,
+    pub key_length: fotsgure_gcm_word,
     pub round_keys: [u8; 240],
     pub multiples: [u8; 1536],
 }
@@ -51,13 +56,13 @@ pub struct fotsgure_gcm_message {
 #[repr(C)]
 #[derive(Clone)]
 pub struct fotsgure_gcm_siv {
-    pub key_length: u32,
-    pub round_keys: [u8; 480],
+    pub key_length: fotsgure_gcm_word,
+    pub round_keys: [fotsgure_gcm_word; 120],
 }
 
 const _: () = assert!(core::mem::size_of::<fotsgure_gcm_counter>() == 12);
 const _: () = assert!(core::mem::size_of::<fotsgure_gcm_message>() == 80);
-const _: () = assert!(core::mem::size_of::<fotsgure_gcm_siv>() == 484);
+const _: () = assert!(core::mem::size_of::<fotsgure_gcm_siv>() == 121 * core::mem::size_of::<fotsgure_gcm_word>());
 
 library! {
     "gcm":

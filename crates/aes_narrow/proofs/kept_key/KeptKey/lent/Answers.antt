@@ -1,6 +1,6 @@
 -- What is left to show of `kept_key::KeptKey::lent`.
 use Rattle.std.proofs.Common.{◌≤◌, ◌∙◌, ap, arith, length}
-use Rattle.aes_narrow.specs.KeptKey.{kept_bits, kept_blocks}
+use Rattle.aes_narrow.specs.KeptWord.{kept_bits, kept_blocks}
 use Rattle.aes_narrow.proofs.KeyLength.{sized_key}
 use Rattle.aes_narrow.proofs.kept_key.KeptKey.lent.Goals as goal
 
