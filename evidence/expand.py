@@ -15,7 +15,6 @@ SIZES = {128: (16, 88, 11), 192: (24, 104, 13), 256: (32, 120, 15)}
 CRATES = ("aes", "aes_hybrid")
 WORDS = {"u16": 1, "u32": 2, "u64": 4, "u128": 8}  # how many blocks a word's planes hold
 ENDS = {"encrypt": "Enc", "decrypt": "Dec"}
-MESSAGES = ("ccm", "gcm", "gcm_siv")  # the modes that encrypt a message, by the numbers that exports take
 DIRECTIONS = [
     {"VERB": "encrypt", "DONE": "encrypted", "NAME": "Encrypt", "END": "Enc", "IN": "enc"},
     {"VERB": "decrypt", "DONE": "decrypted", "NAME": "Decrypt", "END": "Dec", "IN": "dec"},
@@ -84,7 +83,6 @@ SETS = {
     "WIDE": [{"WORD": it, "NUMBER": number} for number, it in enumerate(WORDS) if number],
     "LAYOUT": [{"LAYOUT": it} for it in ("full", "compact")],
     "BITS": [{"BITS": it} for it in ("u16", "u32", "u64")],
-    "MESSAGES": [{"MODE": it, "WAY": way} for way, it in enumerate(MESSAGES)],
     "USED": [
         {"USED": "value", "GIVEN": "block: &mut Block", "CALL": "encrypt_block(block)"},
         {"USED": "slice", "GIVEN": "blocks: &mut [Block]", "CALL": "encrypt_blocks(blocks)"},

@@ -9,7 +9,7 @@ import pathlib
 import sys
 
 sys.path.insert(0, str(pathlib.Path(__file__).resolve().parent.parent))
-from expand import CRATES, ENDS, LEFT, MESSAGES, SIZES, WORDS, types
+from expand import CRATES, ENDS, LEFT, SIZES, WORDS, types
 
 NUMBERS = {"u32": "uint32_t", "u64": "uint64_t"}
 SLICES = range(18)
@@ -34,7 +34,7 @@ def call(name, *args, label="", returns=None, wanted="clean"):
     title = f"{name} {label}".strip()
     keep = "" if result == "void" else "answer = "
     lines += ["uint64_t answer = 0;", f'begin("{title}");', f"{keep}{name}({', '.join(passed)});"]
-    lines += [f'end("{title}", "{wanted}", {"TOLD" if wanted == "told" else 0}, answer, {returns or 0});']
+    lines += [f'end("{title}", "{wanted}", answer, {returns or 0});']
     body.append("    { " + " ".join(lines) + " }")
 
 
@@ -109,29 +109,6 @@ for crate in CRATES:
         call(f"ev_{crate}_ctr_from", bytes_of("s", 16), ("u32", way), ("s", 16), ("u64", f"{position}u"), bytes_of("b", n),
              label=f"{what} {n} at {position}", returns=1)
 
-# The other modes, over a type of `aes_hybrid`. A tag that is wrong in its last byte is refused: that it was wrong is told, and no more.
-TEXTS = [(0, 0), (1, 0), (0, 1), (13, 33), (49, 129), (20, 1000)]
-for way, n in itertools.product((0, 1), (1, 3, 9, 17)):
-    call("ev_mode_cbc", ("s", 16), ("u32", way), ("s", 16), blocks("b", n), label=f"{('encrypt', 'decrypt')[way]} {n}")
-for n in (2, 3, 8):
-    call("ev_mode_wrap", ("s", 16), ("s", 8 * n, n), ("o", 8 * n + 8, n + 1), label=str(n), returns=1)
-for n in (1, 8, 9, 33):
-    call("ev_mode_wrap_padded", ("s", 16), bytes_of("s", n), ("o", 8 * (n + 15 >> 3), n + 15 >> 3), label=str(n), returns=1)
-for n in (0, 1, 16, 17, 300):
-    call("ev_mode_tag", ("s", 16), bytes_of("s", n), ("o", 16), label=str(n))
-for (way, mode), (additional, text) in itertools.product(enumerate(MESSAGES), TEXTS):
-    of = f"{mode} {additional}, {text}"
-    call("ev_mode_sealed", ("s", 16), ("u32", way), bytes_of("s", additional), bytes_of("b", text), ("o", 16), label=of, returns=1)
-    call("ev_mode_refused", ("s", 16), ("u32", way), bytes_of("s", additional), bytes_of("b", text), label=of, returns=1, wanted="told")
-for additional, n in ((0, 0), (0, 16), (20, 33), (48, 1000)):
-    call("ev_mode_random", bytes_of("s", 48), bytes_of("s", additional), bytes_of("o", n), label=f"{additional}, {n}", returns=1,
-         wanted=wanted_of(n))
-for mode in ("slice_cbc", "stream_cmac", "stream_ctr_drbg", *(f"stream_{it}" for it in MESSAGES)):
-    call(f"ev_left_modes_128_{mode}", ("s", 16), ("b", 144, 9) if mode == "slice_cbc" else bytes_of("s" if "cmac" in mode else "b", 33),
-         wanted="empty" if "cmac" in mode else "clean")
-for mode in MESSAGES:
-    call(f"ev_left_modes_128_stream_{mode}_refused", ("s", 16), bytes_of("b", 33), wanted="told")
-
 # Bytes that are blocks, and what a mode of operation does with a block.
 for crate, direction in itertools.product(CRATES, ENDS):
     name = f"ev_{crate}_{direction}_bytes"
@@ -162,7 +139,7 @@ REPLY = """    { static const char line[] = "enc 000102030405060708090a0b0c0d0e0
       uint8_t *x0 = buffer('p', sizeof line - 1), *x1 = buffer('t', 2048);
       memcpy(x0, line, sizeof line - 1); (void)VALGRIND_MAKE_MEM_UNDEFINED(x0 + 4, 32);
       begin("ev_reply enc, secret key"); (void)ev_reply(x0, sizeof line - 1, x1);
-      end("ev_reply enc, secret key", "LEAK", 0, 0, 0); }"""
+      end("ev_reply enc, secret key", "LEAK", 0, 0); }"""
 body.append(REPLY)
 declared["ev_reply"] = "size_t ev_reply(const void *, size_t, void *);"
 
