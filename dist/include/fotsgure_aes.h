@@ -22,16 +22,16 @@
  *
  * NULL is allowed for every pointer to bytes or blocks that has a count or a length beside it, if that is 0.
  *
- * In return, no call allocates, prints, aborts, blocks, or keeps a pointer; the library has no state of its own, but for
- * one word by which a static library on x86-64 keeps which of its builds the processor runs; every call returns, and
- * writes nothing but what it says. A call that doesn't return FOTSGURE_AES_DONE has changed nothing;
- * fotsgure_aes_set_key is an exception, and so are fotsgure_aes_unwrap and fotsgure_aes_unwrap_padded, which leave zeros.
- * What a call returns depends on lengths and positions alone, never on the bytes of a key or of data; only REFUSED says
- * that a wrapped key, a tag or a message was not right.
+ * In return, every call returns, and writes nothing but what its comment says. No call allocates, prints, aborts, blocks,
+ * or keeps a pointer. The library has no state of its own, except one word on x86-64: a library that holds several builds
+ * keeps there which of them the processor runs. A call that doesn't return FOTSGURE_AES_DONE has changed nothing. There
+ * are three exceptions: fotsgure_aes_set_key leaves a struct without a key, and fotsgure_aes_unwrap and
+ * fotsgure_aes_unwrap_padded leave zeros. What a call returns depends on lengths and positions alone, never on the bytes
+ * of a key or of data, except REFUSED: a wrapped key, a tag or a message was not right.
  *
  * Proved: what calls return and write, that they return, and that the calls that are given a key wipe the schedule that
- * they keep. Reviewed by hand and measured: that they keep no other copy of it, that no call allocates, that the stack
- * suffices, and what calls read of an unwritten struct.
+ * they keep. Reviewed by hand and measured: that these calls keep no other copy of the schedule, that no call allocates,
+ * that the stack suffices, and what calls read of an unwritten struct.
  *
  * Copies and threads: a struct fotsgure_aes may be copied and moved as bytes, and every copy is as secret as the key
  * and is wiped by itself. Any number of threads may use one struct at the same time by the calls that take it as const.
@@ -131,8 +131,8 @@ FOTSGURE_AES_ASSERT(sizeof(struct fotsgure_aes_cbc) == 16, "no padding");
 /* Returns FOTSGURE_AES_VERSION of the header that the library was built with. */
 uint32_t fotsgure_aes_version(void) FOTSGURE_AES_NOEXCEPT;
 
-/* Expands a key into *aes (KeyExpansion, FIPS 197, 5.2). *aes may be uninitialized: none of it is read. What it held is
- * gone: every byte that neither a round key of the new key nor its length takes is 0.
+/* Expands a key into *aes (KeyExpansion, FIPS 197, 5.2). *aes may be uninitialized: none of it is read. Nothing of what
+ * it held is left: *aes then has the length of the key, its round keys, and zeros.
  * DONE if key_length is 16, 24 or 32; else KEY_LENGTH, and *aes then is all zeros and holds no key. */
 FOTSGURE_AES_CHECK enum fotsgure_aes_status fotsgure_aes_set_key(struct fotsgure_aes *FOTSGURE_AES_ALONE aes,
     const uint8_t *key, size_t key_length) FOTSGURE_AES_NOEXCEPT;
@@ -187,9 +187,9 @@ FOTSGURE_AES_CHECK enum fotsgure_aes_status fotsgure_aes_cbc_decrypt(const struc
 
 /* Key wrap (KW, SP 800-38F, 6.2; RFC 3394) from one buffer to another: encrypts a key, and shows whether it was
  * changed. Counts are in semiblocks of 8 bytes. A key has two or more, and becomes one more. It needs no nonce: the
- * same key, wrapped twice, gives the same bytes. A struct that wraps keys does nothing else.
- * NO_KEY; INVALID_COUNT if keys of so many semiblocks are not wrapped, or the output isn't one longer or one shorter;
- * fotsgure_aes_unwrap also REFUSED, and the output then is all zeros; else DONE. */
+ * same key, wrapped twice, gives the same bytes. Use a key that wraps keys for nothing else.
+ * NO_KEY; INVALID_COUNT if keys of so many semiblocks are not wrapped, or if the output isn't one semiblock longer, or
+ * shorter to unwrap; fotsgure_aes_unwrap also REFUSED, and the output then is all zeros; else DONE. */
 FOTSGURE_AES_CHECK enum fotsgure_aes_status fotsgure_aes_wrap(const struct fotsgure_aes *aes,
     const uint8_t *input, size_t input_count,
     uint8_t *FOTSGURE_AES_ALONE output, size_t output_count) FOTSGURE_AES_NOEXCEPT;
@@ -214,7 +214,7 @@ FOTSGURE_AES_CHECK enum fotsgure_aes_status fotsgure_aes_unwrap_padded(const str
     size_t *FOTSGURE_AES_ALONE key_length) FOTSGURE_AES_NOEXCEPT;
 
 /* CMAC (SP 800-38B, 6.2; RFC 4493): writes the tag of a message, which shows whether the message was changed; it
- * encrypts nothing. A struct that makes tags does nothing else.
+ * encrypts nothing. Use a key that makes tags for nothing else.
  * NO_KEY; else DONE. */
 FOTSGURE_AES_CHECK enum fotsgure_aes_status fotsgure_aes_cmac(const struct fotsgure_aes *aes,
     const uint8_t *message, size_t message_length,
@@ -224,7 +224,7 @@ FOTSGURE_AES_CHECK enum fotsgure_aes_status fotsgure_aes_cmac(const struct fotsg
  * first ones of the whole tag; it has 4 or more. How many bytes all tags under the key have is fixed with the key: never
  * read `tag_length` from a message, or a forger chooses how few bytes have to be right. For fewer than 8 read
  * appendix A first.
- * NO_KEY; TAG_LENGTH if it has fewer or more; REFUSED; else DONE. */
+ * NO_KEY; TAG_LENGTH if the tag has fewer than 4 bytes, or more than 16; REFUSED; else DONE. */
 FOTSGURE_AES_CHECK enum fotsgure_aes_status fotsgure_aes_cmac_verify(const struct fotsgure_aes *aes,
     const uint8_t *message, size_t message_length,
     const uint8_t *tag, size_t tag_length) FOTSGURE_AES_NOEXCEPT;
@@ -233,7 +233,7 @@ FOTSGURE_AES_CHECK enum fotsgure_aes_status fotsgure_aes_cmac_verify(const struc
  * one key, and writes a tag, which shows whether the text or the additional data was changed. The additional data isn't
  * encrypted, nor is it part of the text. A nonce has 7 to 13 bytes, a text fewer than 2^(8 * (15 - nonce_length)): with
  * 13 bytes at most 65535. A tag has 4, 6, 8, 10, 12, 14 or 16 bytes; for fewer than 8 read appendix B first. Both lengths
- * are fixed with the key: never read `tag_length` from a message. A struct of CCM does nothing else.
+ * are fixed with the key: never read `tag_length` from a message. Use a key of CCM for nothing else.
  * NO_KEY, TAG_LENGTH, NONCE_LENGTH or TOO_LONG, the first of them that applies; else DONE. */
 FOTSGURE_AES_CHECK enum fotsgure_aes_status fotsgure_aes_ccm_seal(const struct fotsgure_aes *aes,
     const uint8_t *nonce, size_t nonce_length,
@@ -268,8 +268,8 @@ void fotsgure_aes_equiv_inv_cipher_round_par(uint8_t blocks[FOTSGURE_AES_EIGHT_B
 void fotsgure_aes_mix_columns(uint8_t block[FOTSGURE_AES_BLOCK]) FOTSGURE_AES_NOEXCEPT;
 void fotsgure_aes_inv_mix_columns(uint8_t block[FOTSGURE_AES_BLOCK]) FOTSGURE_AES_NOEXCEPT;
 
-/* In one call, under a key; each costs a key expansion. The round keys that the call keeps for its work are wiped before
- * it returns. KEY_LENGTH if key_length isn't 16, 24 or 32, else as above. */
+/* The same work under a key that is given: each call expands it, and wipes the round keys that it keeps before it
+ * returns. KEY_LENGTH if key_length isn't 16, 24 or 32, else as above. */
 FOTSGURE_AES_CHECK enum fotsgure_aes_status fotsgure_aes_encrypt_blocks_with(const uint8_t *key, size_t key_length,
     uint8_t *FOTSGURE_AES_ALONE blocks, size_t count) FOTSGURE_AES_NOEXCEPT;
 FOTSGURE_AES_CHECK enum fotsgure_aes_status fotsgure_aes_decrypt_blocks_with(const uint8_t *key, size_t key_length,
@@ -297,8 +297,8 @@ static inline const char *fotsgure_aes_status_text(enum fotsgure_aes_status stat
 }
 
 /* NULL with a count of 0: the library takes no NULL, so each call below passes an address that is not NULL instead,
- * and that nothing reads or writes. Bindings that bypass this header do the same. NULL with another count is a mistake that
- * ends the program, since the call reads or writes there, at address 16; or the call returns a status before it does. A
+ * and that nothing reads or writes. Bindings that bypass this header have to do the same. NULL with another count is a
+ * mistake: unless the call returns a status first, it reads or writes at address 16, where most systems end the program. A
  * pointer to a function, and a name in parentheses, is the library's call itself. */
 static inline const uint8_t *fotsgure_aes_not_null(const uint8_t *bytes) FOTSGURE_AES_NOEXCEPT
 {

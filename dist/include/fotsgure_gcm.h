@@ -29,15 +29,16 @@
  *
  * NULL is allowed for every pointer to bytes that has a length beside it, if that is 0.
  *
- * In return, no call allocates, prints, aborts, blocks, or keeps a pointer; the library has no state of its own, but for
- * one word by which a static library on x86-64 keeps which of its builds the processor runs; every call returns, and
- * writes nothing but what it says. (Proved: what calls return and write, and that they return. Reviewed by hand and
- * measured: the rest. fotsgure_gcm_siv_seal_random is C around a proved call, and tested: it asks the system for
- * randomness, waits for it while the system starts, and may write errno.) A call that
- * doesn't return FOTSGURE_GCM_DONE has changed nothing; the calls that set a key are exceptions, and so are
- * fotsgure_gcm_open_to and fotsgure_gcm_siv_open_to, which leave zeros if they return REFUSED. If several
- * statuses apply, the call returns the first in the order that it names them. Whether a tag is right is all that a
- * status says of the bytes of keys and of messages.
+ * In return, every call returns, and writes nothing but what its comment says. No call allocates, prints, aborts, blocks,
+ * or keeps a pointer. The library has no state of its own, except one word on x86-64: a library that holds several builds
+ * keeps there which of them the processor runs. Proved: what calls return and write, and that they return. Reviewed by
+ * hand and measured: the rest. fotsgure_gcm_siv_seal_random is C around a proved call, and tested: it asks the system for
+ * randomness, waits for it while the system starts, and may write errno.
+ *
+ * A call that doesn't return FOTSGURE_GCM_DONE has changed nothing. There are two kinds of exceptions: calls that set a
+ * key leave a struct without a key, and fotsgure_gcm_open_to and fotsgure_gcm_siv_open_to leave zeros if they return
+ * REFUSED. If several statuses apply, a call returns the first of them in the order of its comment. Whether a tag is right
+ * is all that a status says of the bytes of keys and of messages.
  *
  * Copies and threads: a struct fotsgure_gcm or fotsgure_gcm_siv may be copied and moved as bytes; every copy is as
  * secret as the key and is wiped by itself. Any number of threads may use one struct at the same time by the calls that
@@ -54,8 +55,8 @@
 #error "no build of this library is for machines with big-endian words"
 #endif
 
-/* The version of this header; fotsgure_gcm_version() returns that of the library. It is that of fotsgure_aes since 0.3.0,
- * which followed 0.1.0. */
+/* The version of this header; fotsgure_gcm_version() returns that of the library. Since 0.3.0, which followed 0.1.0, it is
+ * the same as that of fotsgure_aes. */
 #define FOTSGURE_GCM_VERSION_TEXT "0.4.0"
 #define FOTSGURE_GCM_VERSION 400 /* 10000 * 0 + 100 * 4 + 0 */
 
@@ -151,8 +152,8 @@ struct fotsgure_gcm_message {
     uint8_t rest[16];
 };
 
-/* A key of AES-GCM-SIV. Read and write it by the calls below alone. Builds with a byte shuffle keep it in the first 244 bytes,
- * and neither read nor write the others: what is said of the struct is so of the bytes that a build keeps. */
+/* A key of AES-GCM-SIV. Read and write it by the calls below alone. Builds with a byte shuffle keep the key in the first
+ * 244 bytes, and neither read nor write the others: what these comments say of the struct is then so of these 244. */
 struct fotsgure_gcm_siv {
     fotsgure_gcm_word key_length; /* 16 or 32; 0: no key */
     fotsgure_gcm_word round_keys[120];
@@ -408,8 +409,8 @@ static inline void fotsgure_gcm_wipe_bytes(void *bytes, size_t count) FOTSGURE_G
 }
 
 /* NULL with a length of 0: the library takes no NULL, so each call below passes an address that is not NULL instead,
- * and that nothing reads or writes. Bindings that bypass this header do the same. NULL with another length is a mistake that
- * ends the program, since the call reads or writes there, at address 16; or the call returns a status before it does. A
+ * and that nothing reads or writes. Bindings that bypass this header have to do the same. NULL with another length is a
+ * mistake: unless the call returns a status first, it reads or writes at address 16, where most systems end the program. A
  * pointer to a function, and a name in parentheses, is the library's call itself. */
 static inline const uint8_t *fotsgure_gcm_not_null(const uint8_t *bytes) FOTSGURE_GCM_NOEXCEPT
 {

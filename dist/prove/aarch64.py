@@ -7,8 +7,8 @@ from collections import namedtuple
 
 from bits import LOST, Undefined, Unproved
 from linear import Linear
-from machine import (RETURN_ADDRESS, SECRET, Instruction, Machine, Memory, Register, Table, Vector, constant, form, interleaved, is_int,
-                     joined, lanes)
+from machine import (RETURN_ADDRESS, SECRET, Instruction, Machine, Memory, Register, Scaled, Table, Vector, constant, form, interleaved,
+                     is_int, joined, lanes)
 
 Shifted = namedtuple("Shifted", "operand how count")
 LANES = {"b": 1, "h": 2, "s": 4, "d": 8, "q": 16}
@@ -255,7 +255,7 @@ def without(m, x, y):
 @TABLE.of("ubfm", "sbfm", "bfm")
 def bitfield(m, name, to, a, r, s):
     """The bits r to s go down to bit 0 if r <= s, else the bits 0 to s go up to bit size - r."""
-    if isinstance(m.get(a), Linear) and name == "ubfm" and (s == 63 or s + 1 == r):  # a shift to the right, or to the left
+    if isinstance(m.get(a), (Linear, Scaled)) and name == "ubfm" and (s == 63 or s + 1 == r):  # a shift to the right, or to the left
         return m.put(to, m.shift("lsr", m.get(a), r, 8) if s == 63 else m.shift("lsl", m.get(a), 64 - r, 8))
     size, b = 8 * to.size, m.bits(m.get(a), to.size)
     field, at = (b[r:s + 1], 0) if r <= s else (b[:s + 1], size - r)

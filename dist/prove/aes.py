@@ -178,12 +178,15 @@ class Keyed:
         return lambda m: [self.domain.moved(b, m.known(count) - 1 - m.first_block) for b in pattern]
 
     def of_any_count(self, name, state, content, want, count, size, plain, way="", choose=None, facts=(), **more):
-        if way == "_to":
-            streams = [Stream("input", size, content), count, Stream("output", size, self.undefined(16), want, choose), count]
-        else:
-            streams = [Stream("blocks", size, content, want, choose), count]
         facts = {unknown("n"), PTRDIFF_MAX - size, *facts}
-        return Call(name + way, [self.schedule(), *state, *streams], DONE, plain=self.of_all(plain), facts=facts, **more)
+        return Call(name + way, [self.schedule(), *state, *self.streams_of(way, "blocks", size, count, content, want, choose)], DONE,
+                    plain=self.of_all(plain), facts=facts, **more)
+
+    def streams_of(self, way, name, size, count, content, want, choose=None):
+        """The arguments that are data of a call, as those of `changed`."""
+        if way == "_to":
+            return [Stream("input", size, content), count, Stream("output", size, self.undefined(16), want, choose), count]
+        return [Stream(name, size, content, want, choose), count]
 
     def any_blocks(self, direction, rest, way="", step=16):
         count, content, want = unknown("n") * step + rest, self.pattern(self.block_bytes), self.pattern(self.ciphers[direction])

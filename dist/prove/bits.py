@@ -77,6 +77,7 @@ class Domain:
         # Of a word of unknown value, by its name: a function from an offset and k to the bits of byte k of their sum, or None.
         self.words = {}
         self.of_words = {}  # cells that are bytes of a word: (a Pointer, or None for the low word of a call's counter, which byte)
+        self.unknowns, self.of_unknowns = {}, {}  # cells of numbers that aren't known (linear.py): (number, which byte); those of a byte
         self.numbers = {}  # cells of numbers that are one more in each block: (which byte, all bytes, the lowest first)
         # Names for sums (`define`): by the cells of sums, the cells that have names and the ways to write a sum (`single`); and by the cell
         # with a name, the bits that it stands for and their cells.
@@ -569,6 +570,30 @@ class Domain:
                 bits.append(y)
             self.moves[byte, by] = byte if tuple(bits) == self.bits_of[byte] else self.pack(bits)
         return self.moves[byte, by]
+
+    def unknown_cells(self, byte):
+        """Those of a byte that are bytes of numbers that aren't known."""
+        if byte not in self.of_unknowns:
+            simple = self.symbolic(byte) and byte not in self.with_products
+            self.of_unknowns[byte] = self.cells(byte) & self.unknowns.keys() if simple else ()
+        return self.of_unknowns[byte]
+
+    def put_in(self, byte, others):
+        """The same function of other bytes, {a cell: a byte}."""
+        bits = []
+        for x in self.bits(byte):
+            y = x & 1
+            for block, n in self.parts(x):
+                for c, t in self.forms[n]:
+                    y = self.xor(y, self.image(t, others[c]) if c in others else self.bit(c, t, block))
+            bits.append(y)
+        return self.pack(bits)
+
+    def image(self, table, byte):
+        """A function of a cell, of another byte."""
+        if byte < 256:
+            return table >> byte & 1
+        return functools.reduce(self.xor, (self.bits(byte)[j] for j in linear_bits(table)), 0)
 
     def substitute(self, byte, table, name):
         """table[byte] for a table of 256 bytes; gives the byte a name if it has none."""

@@ -26,6 +26,9 @@ class Buffer:
         """`secret`: what it holds after the call is as secret as the key."""
         self.name, self.content, self.after, self.secret = name, content, after, secret
 
+    def region(self):
+        return Region(self.content, self.after is not None)
+
 
 class Stream(Buffer):
     """A buffer of a length that isn't known: a number of bytes, and what the block with number LEAD is, and has to be after the call. That
@@ -35,6 +38,9 @@ class Stream(Buffer):
         super().__init__(name, content, after)
         self.size, self.choose = size, choose
         self.patterns = after if choose else [after or []]
+
+    def region(self):
+        return Window(self.size, self.content, self.after and self.want)
 
     def want(self, m, number):
         if not self.choose:
@@ -71,7 +77,7 @@ def prove(domain, program, call, seed=None):
     tag is right. With a seed, for one key and data, on the processor too. The result is a machine after the call."""
     if len(domain.products) > MANY:
         domain.forget_products()
-    regions = {b.name: Window(b.size, b.content, b.after and b.want) if isinstance(b, Stream) else Region(b.content, b.after is not None) for b in call.buffers}
+    regions = {b.name: b.region() for b in call.buffers}
     regions["stack"] = Region([domain.undefined] * (STACK - 8 * len(program.machine.pushed)), align=16)
     arguments = [Pointer(a.name, 0) if isinstance(a, Buffer) else a for a in call.arguments]
     m = program.machine(domain, program, regions, program.exports["fotsgure_" + call.name], arguments)
@@ -141,8 +147,8 @@ def check(m, call):
     """Compares what the call returned and wrote with its statement."""
     right = True
     if call.reveals is not None:
-        asked = [q for q in m.answers if q[0] == "zero"]
-        if len(asked) != 1 or asked_of(m, asked[0]) != asked_of(m, m.zero_flag(call.reveals)):
+        asked, reveals = [q for q in m.answers if q[0] == "zero"], call.reveals(m) if callable(call.reveals) else call.reveals
+        if len(asked) != 1 or asked_of(m, asked[0]) != asked_of(m, m.zero_flag(reveals)):
             raise Unproved("reveals something else than whether the key or the tag is right")
         right = m.answers[asked[0]]
     status = call.status if right else call.refused
@@ -157,10 +163,10 @@ def check(m, call):
         want = buffer.after if right else call.refused_after.get(buffer.name, buffer.content)
         stays, want = want == buffer.content, want(m) if callable(want) else want
         if isinstance(buffer, Stream):
-            if want and not right:
-                raise Unproved("%s, which may be refused, has no fixed length" % buffer.name)
-            if want:
+            if want and right:
                 m.regions[buffer.name].finish(m, buffer.name)
+            elif not m.regions[buffer.name].is_untouched():
+                raise Unproved("%s isn't as it was" % buffer.name)
             continue
         if status and buffer.name in m.wrote and stays and not call.undone:
             raise Unproved("writes to %s, which is to stay as it is" % buffer.name)
@@ -212,7 +218,8 @@ def step_by_step(steps):
     so what is proved from there on holds for any. "hash" is looked for in vector registers, or as two words in either order of bytes;
     products of bits are then forgotten: what still depends on them is lost, and may not even be left. "vector" is looked for in vector
     registers, "memory" where something was written, "block" in all these places; another name is that of a region. In a call of any length
-    `steps` is a function of the machine; then "whole" waits for all of a buffer, and "nothing" says that what comes next isn't known."""
+    `steps` is a function of the machine. Then "here" says that there is a result; "again" begins another phase, in which blocks have new
+    numbers, and so does "whole", as soon as all of a buffer is done; and "nothing" says that what comes next isn't known."""
     steps = steps if callable(steps) else list(steps)
 
     def watch(m):
@@ -223,12 +230,14 @@ def step_by_step(steps):
             # (Made before the code comes to it, so the code's products have the factors that it names: with_powers.)
             m.want = where, want() if callable(want) else want, new
         where, want, new = m.want
-        if where == "whole" and m.regions[want].is_done(m):
-            m.begin_again(want, new)
-            m.done, m.want = m.done + 1, None
-        if where in ("whole", "nothing"):
+        if where == "again" or where == "whole" and m.regions[want].is_done(m):
+            if where == "whole":
+                m.regions[want].begin_again(new)
+            m.begin_again()
+            m.want = None
+        if where in ("again", "whole", "nothing"):
             return
-        if found(m, where, want):
+        if where == "here" or found(m, where, want):
             replaced, lost, on = {}, None, depends(m, *want) if where == "hash" else 0
             for x, y in zip(want, new):
                 if x > 255:

@@ -73,7 +73,8 @@ def faults(options, build):
             with open(out + ".s", "w") as file:
                 file.write(changed)
             what = "%s (%s.s:%d, %s)" % (what, build, line, case)
-            verdicts.append(verdict(what, lambda: cover(case, edit[0]), "unreached") if fault in unreached else verdict(what, lambda: prove(case)))
+            tried = (lambda: cover(case, edit[0]), "unreached") if fault in unreached else (lambda: prove(case),)
+            verdicts.append(verdict(what, *tried))
     return verdicts
 
 

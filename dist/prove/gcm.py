@@ -6,7 +6,8 @@ import functools
 import itertools
 from collections import namedtuple
 
-from aes import BATCH, DONE, KEPT_KEY, NEVER, STRUCT as AES_STRUCT, CounterWord, Keyed, between, lengths_but, nothing, unequal, unread
+from aes import (BATCH, DONE, KEPT_KEY, NEVER, PTRDIFF_MAX, STRUCT as AES_STRUCT, CounterWord, Keyed, between, lengths_but, nothing,
+                 unequal, unread)
 from bits import DATA, KEY, PUBLIC
 from calls import ANY, Buffer, Call, Stream
 from linear import WORD, unknown
@@ -233,74 +234,102 @@ class KeyedGcm(Keyed):
                                  Buffer("tag", self.undefined(16), tag)], DONE, steps=steps, keystream=self.streams(first, text_length),
                     plain=text, **self.in_text(first, 16 + text_length), **more)
 
-    # Texts of every length (lengths.py), under a nonce of 12 bytes: step * n + `rest` bytes. The halves of a counter are words of unknown
-    # value. (So is the high one after a carry, which may come only behind the longest text.)
+    # Texts of every length (lengths.py), under a nonce of 12 bytes. The halves of a counter are words of unknown value. The last block that
+    # a batch may have is below 2^32 - 1, so the low half doesn't carry: its last 32 bits begin at 1.
     def any_counters(self):
         d = self.domain
         low = [d.fresh("counter byte %d" % i, PUBLIC, True) for i in range(8, 16)]
-        carried = [d.fresh("carried counter byte %d" % i, PUBLIC) for i in range(8)]
-        high = self.nonce[:8], carried
-        d.words["nonce high"] = lambda offset, k: d.bits(high[offset][7 - k]) if offset in (0, 1) else None
+        d.words["nonce high"] = lambda offset, k: d.bits(self.nonce[7 - k]) if offset == 0 else None
         d.placed["any J_0 low"] = lambda number, k: d.bits(d.byte_in_block(low[7 - k], number))
-        return [self.aes.cipher(h + low, self.w) for h in high]
+        return self.aes.cipher(self.nonce[:8] + low, self.w)
 
     def any_counter_word(self, size):
-        """From block 2^32 - 1 on the low half may carry."""
         low, high = ([1, 0, 0, 0] + self.nonce[:7:-1], Pointer("any J_0 low", 0)), (self.nonce[7::-1], Pointer("nonce high", 0))
-        return CounterWord("any J_0 low", 1, unknown("wrap"), size.divided(16)[0] + 2 + BATCH, {tuple(b): word for b, word in (low, high)})
-
-    def any_value(self, before, m, group):
-        """The value of GHASH before a group of the text: what came before, or arbitrary bytes of a block that the group begins with."""
-        return before if group == 0 else self.at_block(m, self.hash_value, group * 3)
+        return CounterWord("any J_0 low", 1, NEVER, size.divided(16)[0] + 2 + BATCH, {tuple(b): word for b, word in (low, high)})
 
     def at_block(self, m, bytes_, number):
-        """Functions of the bytes of a block with this number in the text."""
+        """Functions of the bytes of a block with this number."""
         return [self.domain.moved(b, number - m.first_block) for b in self.pattern(bytes_)]
 
-    def any_group(self, m, group, before, size, lengths):
-        """What GHASH does next with a text: three blocks, as long as there are so many; then the rest of it with the lengths."""
-        size = m.known(size)
+    def any_group(self, m, before, bytes_, size, end, after):
+        """What GHASH does next with so many bytes: three blocks, as long as there are so many; then the rest and the blocks `end`. A value
+        becomes the block with which the next group begins; the last one becomes `after`."""
+        group, size = m.done, m.known(size)
         whole, rest = divmod(size, 48) if isinstance(size, int) else size.divided(48)
-        below, value = m.is_below(group, whole), self.any_value(before, m, group)
+        value_of = lambda group: before if group == 0 else self.at_block(m, self.hash_value, group * 3)
+        below = m.is_below(group, whole)
         if below:
-            blocks, after = [self.at_block(m, self.sealed, group * 3 + k) for k in range(3)], self.any_value(before, m, group + 1)
-        elif below == 0 and isinstance(group - whole, int):
-            tail = [b for k in range(3) for b in self.at_block(m, self.sealed, whole * 3 + k)][:rest]
-            groups = threes(padded(tail) + [self.any_lengths(m, lengths)])[group - whole:]
-            if not groups:
-                return "nothing", (), ()
-            blocks, after = groups[0], self.any_value(before, m, group + 1) if groups[1:] else self.last_value()
-        else:
+            return self.group_step(value_of(group), [self.at_block(m, bytes_, group * 3 + k) for k in range(3)], value_of(group + 1))
+        if below is None or not isinstance(group - whole, int):
             return "nothing", (), ()
+        tail = [b for k in range(3) for b in self.at_block(m, bytes_, whole * 3 + k)][:rest]
+        groups = threes(padded(tail) + end)
+        at = group - whole
+        if at < len(groups):
+            return self.group_step(value_of(group), groups[at], value_of(group + 1) if groups[at + 1:] else after)
+        if not groups and at == 0:  # the last value was that of a whole group
+            return "here", value_of(group), after
+        return "again", (), ()
+
+    def group_step(self, value, blocks, after):
         return "hash", functools.partial(self.with_powers, [self.aes.xor(value, blocks[0]), *blocks[1:]]), after
 
+    def middle_value(self):
+        return self.once("middle value", lambda: [self.domain.fresh("middle hash byte %d" % i, KEY | DATA) for i in range(16)])
+
     def last_value(self):
-        return [self.domain.byte_in_block(b, 1) for b in self.hash_value]
+        return self.once("last value", lambda: [self.domain.fresh("last hash byte %d" % i, KEY | DATA) for i in range(16)])
 
-    def any_lengths(self, m, lengths):
-        """Both lengths in bits, which may be numbers that aren't known."""
-        return [b for n in lengths for b in m.to_bytes(m.known(n) * 8, 8)[::-1]]
+    def any_hash(self, m, phase, sizes):
+        """GHASH of additional data (phase 0) and of a text, each of such a size."""
+        middle, last = self.middle_value(), self.last_value()
+        if phase > 1:
+            return "nothing", (), ()
+        if phase == 0:
+            return self.any_group(m, ZEROS, self.additional_bytes, sizes[0], [], middle)
+        before = ZEROS if m.known(sizes[0]) == 0 else middle
+        lengths = [b for n in sizes for b in m.to_bytes(m.known(n) * 8, 8)[::-1]]
+        return self.any_group(m, before, self.sealed, sizes[1], [lengths], last)
 
-    def any_seal(self, additional_length, rest, step=384):
-        d, size, first, streams = self.domain, unknown("n") * step + rest, self.nonce_of(), self.once("any counters", self.any_counters)
-        additional = [d.fresh("additional byte %d" % i, DATA) for i in range(additional_length)]  # (their blocks have no numbers)
-        hashing = Hashing(self, ZEROS).take(threes(padded(additional)))
-        text, stream, sealed = (self.pattern(b) for b in (self.text, streams[0], self.sealed))
-        crypted, begun = self.aes.xor(text, stream), list(hashing.steps())
-        tag = self.aes.xor(self.last_value(), self.stream(first, 0))
+    def any_tag(self, m, sizes, first):
+        """(GHASH of nothing is that of a block of zeros.)"""
+        nothing = all(m.known(size) == 0 for size in sizes)
+        return self.aes.xor(ZEROS if nothing else self.last_value(), self.stream(first, 0))
+
+    def any_whole(self, rest_of_additional, rest):
+        """What statements of every length have in common: sizes, the counter, and the patterns of text, keystream and encrypted text."""
+        sizes = unknown("a") * 48 + rest_of_additional, unknown("n") * 768 + rest
+        first, stream = self.nonce_of(), self.once("any counters", self.any_counters)
+        self.stream(first, 0)  # gives the inputs of its S-boxes names
+        return sizes, first, *(self.pattern(b) for b in (self.text, stream, self.sealed))
+
+    def any_facts(self, sizes):
+        """The additional data may be as long as a buffer, and as the standard allows; the text a little shorter than that."""
+        most = MOST - 16 * (BATCH + 2)
+        return {unknown("a"), PTRDIFF_MAX - sizes[0], MOST_ADDITIONAL - sizes[0], unknown("n"), most - sizes[1]}
+
+    def any_seal(self, rest_of_additional, rest, way=""):
+        sizes, first, text, stream, sealed = self.any_whole(rest_of_additional, rest)
 
         def steps(m):
-            if m.done == 0:
-                return "whole", "text", sealed
-            if isinstance(m.done, int) and m.done <= len(begun):
-                return begun[m.done - 1]
-            return self.any_group(m, m.done - 1 - len(begun), hashing.value, size, (additional_length, size))
-        streams = [Stream("text", size, text, [crypted, sealed], lambda m, number: [0] * 16), size]
-        wrap = unknown("wrap")
-        return Call("gcm_seal", [self.schedule(), *first.arguments, Buffer("additional", additional), additional_length, *streams,
-                                 Buffer("tag", self.undefined(16), tag)], DONE, steps=steps, keystream=self.of_all(stream),
-                    plain=self.of_all(text), counter=self.any_counter_word(size),
-                    facts={unknown("n"), MOST - size, wrap - (1 << 32) + 1, (1 << 64) - wrap})
+            return ("whole", "output" if way else "text", sealed) if m.phase == 0 else self.any_hash(m, m.phase - 1, sizes)
+        texts = self.streams_of(way, "text", sizes[1], sizes[1], text, [self.aes.xor(text, stream), sealed], lambda m, number: [0] * 16)
+        tag = Buffer("tag", self.undefined(16), lambda m: self.any_tag(m, sizes, first))
+        return self.of_any_message("gcm_seal" + way, sizes, first, stream, [*texts, tag], steps, text)
+
+    def any_open(self, rest_of_additional, rest):
+        sizes, first, _, stream, sealed = self.any_whole(rest_of_additional, rest)
+        text = self.aes.xor(sealed, stream)
+        tag = self.once("any tag", lambda: [self.domain.fresh("tag byte %d" % i, DATA) for i in range(16)])
+        texts = [Stream("text", sizes[1], sealed, text), sizes[1], Buffer("tag", tag), 16]
+        return self.of_any_message("gcm_open", sizes, first, stream, texts, lambda m: self.any_hash(m, m.phase, sizes), text,
+                                   reveals=lambda m: self.aes.xor(tag, self.any_tag(m, sizes, first)), refused=REFUSED)
+
+    def of_any_message(self, name, sizes, first, stream, texts, steps, plain, **more):
+        additional = Stream("additional", sizes[0], self.pattern(self.additional_bytes))
+        return Call(name, [self.schedule(), *first.arguments, additional, sizes[0], *texts], DONE, steps=steps,
+                    keystream=self.of_all(stream), plain=self.of_all(plain), counter=self.any_counter_word(sizes[1]),
+                    facts=self.any_facts(sizes), **more)
 
     def seal_next(self, additional_length, text_length, counter=None):
         """The same under the counter's next nonce, which it writes to `nonce`; the counter then moves on by one. .. DONE"""

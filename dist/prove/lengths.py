@@ -237,10 +237,10 @@ def is_instance(m, general, passes):
         return len(a) == len(b) and all(x in (any_, y) for x, y in zip(a, b))
     wrong = [r for r, v in want.general.items() if not same(want.to_bytes(v, 8), m.to_bytes(m.general[r], 8))]
     wrong += ["vector register %d" % n for n, (v, w) in enumerate(zip(want.vectors, m.vectors)) if not same(v, w)]
-    window = lambda r: [r.size, r.origin, r.initial] if isinstance(r, Window) else []
+    window = lambda r: [r.size, r.origin, r.initial, r.writable] if isinstance(r, Window) else []
     pairs = [(name, r, m.regions[name]) for name, r in want.regions.items()]
     wrong += [name for name, r, s in pairs if not same(r.content, s.content) or window(r) != window(s)]
-    alike = "first_block", "domain", "entered", "top", "done", "next_address", "counter"
+    alike = "first_block", "domain", "entered", "top", "done", "phase", "next_address", "counter"
     wrong += [what for what in alike if getattr(want, what) != getattr(m, what)]
     wrong += ["a fact"] * (not all(m.implied(f) for f in want.facts)) + ["a flag"] * any(f is not None for f in want.flags.values())
     wrong += ["what may be overwritten"] * (not m.stale <= want.stale) + ["the lowest place"] * (m.lowest < want.lowest)
@@ -250,14 +250,15 @@ def is_instance(m, general, passes):
 
 
 def check_ends(ends, call):
-    """That some lengths, of all sizes, are among those of the runs that returned: so these aren't about nothing."""
-    for value in (*range(40), *(2 ** k + d for k in range(6, 60) for d in (-1, 0, 1))):
-        this = {unknown("n") - value, value - unknown("n")}
-        if refuted(call.facts | this):
-            continue
-        for m in ends:
-            equal = {x for old, by in m.replaced for x in (unknown(old) - by, by - unknown(old))}
-            if not refuted(m.facts | equal | this):
-                break
-        else:
-            raise Unproved("no run returned with the length that belongs to %d" % value)
+    """That some lengths of each buffer, of all sizes, are among those of the runs that returned: so these aren't about nothing."""
+    for name in {name for b in call.buffers if hasattr(b, "size") for name in terms(b.size)}:
+        for value in (*range(40), *(2 ** k + d for k in range(6, 60) for d in (-1, 0, 1))):
+            this = {unknown(name) - value, value - unknown(name)}
+            if not refuted(call.facts | this) and not any(may_have(m, this) for m in ends):
+                raise Unproved("no run returned with the length that belongs to %s = %d" % (name, value))
+
+
+def may_have(m, facts):
+    """Whether facts may hold of a machine."""
+    equal = {x for old, by in m.replaced for x in (unknown(old) - by, by - unknown(old))}
+    return not refuted(m.facts | equal | facts)

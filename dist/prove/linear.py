@@ -46,7 +46,9 @@ class Linear(namedtuple("Linear", "terms constant")):
         those of the quotient, which may be any."""
         power = step_of(self)
         if power == 1:
-            return domain.bits(domain.fresh("byte %d of %s" % (k, self), PUBLIC))
+            byte = domain.fresh("byte %d of %s" % (k, self), PUBLIC)
+            domain.unknowns[domain.cell_of(byte)[0]] = self, k
+            return domain.bits(byte)
         known, (rest, low) = power.bit_length() - 1, self.divided(power)
         bit = lambda j: low >> j & 1 if j < known else domain.bits(domain.opaque((rest, (j - known) // 8)))[(j - known) % 8]
         return tuple(map(bit, range(8 * k, 8 * k + 8)))

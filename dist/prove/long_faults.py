@@ -15,6 +15,11 @@ MANY = r"(?=[\s\S]*?\tmovq\t%rcx, %(?P<count>r\w+)\n)(?=[\s\S]*?\tmovq\t%rdi, %(
 IN_MANY = [MANY + r"(?P<before>[\s\S]*?)(?P<call>" + called + ")" for called in (WIPE_WORDS, WIPE_STACK)]
 # In call_to_encrypt: where the counter's halves are added up for a block of a batch, with how many bytes of the text are done.
 CARRY = r"(?P<before>\taddq\t\$128, %%(?P<done>r\w+)\n[\s\S]*?\taddq\t\$%d, %%r\w+\n(?:\tmovq\t.*\n)?)\tadcq\t\$0, %%(?P<high>r\w+)\n"
+# In GHASH: the end of the loop over groups of three blocks, with the registers of the next group and of how many are left.
+PUT_TAG, HASH_ON = function("gcm::mode::LentGcm::put_tag"), function("gcm::hash::hash_on")
+THREES = r"\taddq\t\$48, %(?P<at>r\w+)\n\tdecq\t%(?P<left>r\w+)\n"
+LEFT_OUT = (r"\g<0>\tcmpq\t$65536, %\g<left>\n\tjne\t77f\n\taddq\t$48, %\g<at>\n\tdecq\t%\g<left>\n"
+            r"77:\n\ttestq\t%\g<left>, %\g<left>\n")
 ON_PLANES, MEMMOVE = call("aes_hybrid::batches::process_on_planes"), r"(\tcallq\t\*memmove.*\n)"
 
 
@@ -74,13 +79,13 @@ LONG_FAULTS = {
          r"\tcmpq\t$16777216, %rdx\n\tjbe\t77f\n\tmovl\t$16777216, %edx\n77:\n\1", CASE_TO),
         ("a copy of 32 bits of the length", BLOCKS_TO, MEMMOVE, r"\tmovl\t%edx, %edx\n\1", CASE_TO),
         ("a block number of 32 bits", ENCRYPT, r"shrq\t\$4, %(r\w+)\n",
-         lambda found: "shrq\t$4, %%%s\n\tmovl\t%%%s, %%%s\n" % (found[1], low(found[1]), low(found[1])), "any_keystream 0 33"),
+         lambda found: "shrq\t$4, %%%s\n\tmovl\t%%%s, %%%s\n" % (found[1], low(found[1]), low(found[1])), "any_keystream 0 0"),
         ("a counter that stands still from block 2^20 on", ENCRYPT, r"(shrq\t\$4, %(r\w+)\n)",
-         r"\1\tcmpq\t$1048576, %\2\n\tjb\t77f\n\tmovq\t$1048576, %\2\n77:\n", "any_keystream 0 33"),
+         r"\1\tcmpq\t$1048576, %\2\n\tjb\t77f\n\tmovq\t$1048576, %\2\n77:\n", "any_keystream 0 0"),
         ("no carry into a block's high half from block 2^16 on", ENCRYPT, CARRY % 5,
-         r"\g<before>\tjae\t77f\n\tcmpq\t$1048576, %\g<done>\n\tjae\t77f\n\tincq\t%\g<high>\n77:\n", "any_keystream 0 33"),
+         r"\g<before>\tjae\t77f\n\tcmpq\t$1048576, %\g<done>\n\tjae\t77f\n\tincq\t%\g<high>\n77:\n", "any_keystream 0 0"),
         ("a position of 32 bits", KEYSTREAM, r"addq\t%(r\w+), 16\((%r\w+)\)",
-         lambda found: "addl\t%%%s, 16(%s)" % (low(found[1]), found[2]), "any_keystream 0 33"),
+         lambda found: "addl\t%%%s, 16(%s)" % (low(found[1]), found[2]), "any_keystream 0 0"),
         ("a count of 32 bits in CBC", CBC, r"(inc|dec)q\t%(r\w+)\n", lambda found: "%sl\t%%%s\n" % (found[1], low(found[2])),
          "any_cbc_encrypt"),
         ("a chain that begins again at block 2^20", CBC, r"(\t(?:inc|dec)q\t%(r\w+)\n)",
@@ -97,5 +102,15 @@ LONG_FAULTS = {
         ("a count of 32 bits that wraps around", IN_BATCHES, r"add\tx(\d+), x\1, #8\n", r"add\tw\1, w\1, #8\n", CASE),
         ("a batch left out at 2^20 blocks", IN_BATCHES, r"(\tadd\t(x\d+), \2, #8\n)(?=[\s\S]*?\tadd\t(x\d+), \3, #128\n)",
          r"\1\tcmp\t\2, #256, lsl #12\n\tb.ne\t77f\n\tadd\t\2, \2, #8\n\tadd\t\3, \3, #128\n77:\n", CASE),
+    ],
+    "x86_64/gcm": [
+        ("bits 32 to 39 of a text's length left out of the tag", PUT_TAG, r"shrq\t\$29, %(r\w+)\n",
+         lambda found: "xorl\t%%%s, %%%s\n" % (low(found[1]), low(found[1])), "any_seal 13 33"),
+        ("three blocks left out of the hash of a text after 2^16", PUT_TAG, THREES, LEFT_OUT, "any_open 13 33"),
+        ("the same of additional data", HASH_ON, THREES, LEFT_OUT, "any_seal 13 33"),
+        ("a counter that stands still from block 2^20 on", ENCRYPT, r"(shrq\t\$4, %(r\w+)\n)",
+         r"\1\tcmpq\t$1048576, %\2\n\tjb\t77f\n\tmovq\t$1048576, %\2\n77:\n", "any_seal 13 33"),
+        ("a branch on the hash of a text after 2^16 groups", PUT_TAG, THREES,
+         r"\tcmpq\t$65536, %\g<left>\n\tjne\t77f\n\ttestb\t$1, (%rsp)\n\tje\t77f\n77:\n\g<0>", "any_seal 13 33"),
     ],
 }

@@ -33,7 +33,20 @@ Number = namedtuple("Number", "base offset")  # 32 bits: a number of unknown val
 # So many bytes of which only this is known: they are the number `right` if all the differences are 0, else another one; zeros above.
 Verdict = namedtuple("Verdict", "right differences size")
 Scaled = namedtuple("Scaled", "number factor")  # the higher 64 bits of the product of a number that isn't known and a constant
-NAMED_SIZES = {Pointer: 8, Distance: 8, Linear: 8, Scaled: 8, Number: 4}  # how many bytes of these are known by their names
+
+
+class Shifted(namedtuple("Shifted", "number count")):
+    """A number that isn't known, moved to the right by so many bits: if that isn't a multiple of other unknowns."""
+
+    def byte(self, domain, k):
+        bit = lambda j: domain.bits(domain.opaque((self.number, j // 8)))[j % 8] if j < 64 else 0
+        return tuple(bit(8 * k + j + self.count) for j in range(8))
+
+    def value(self):
+        return (self.number & WORD) >> self.count if is_int(self.number) else self
+
+
+NAMED_SIZES = {Pointer: 8, Distance: 8, Linear: 8, Scaled: 8, Shifted: 8, Number: 4}  # how many bytes of these are known by their names
 
 # Operands; others are ints, and texts or tuples of these that only instructions of one machine have.
 Register = namedtuple("Register", "name size at", defaults=[0])  # at: the first byte; x86's ah, bh, ch and dh begin at byte 1
@@ -169,12 +182,8 @@ class Window(Region):
 
     def reached(self, m, offset, size):
         """Where in `content` an access lies."""
-        if not m.implied(offset) or not m.implied(self.size - offset - size):
-            raise Unproved("accesses %d bytes at %s of a buffer of %s" % (size, offset, self.size))
-        at, number = offset - self.origin, offset - 16 * m.first_block
-        if not self.writable and is_int(number):
-            self.content, self.origin, at = [], offset - number % 16, number % 16
-        elif not is_int(at) or at < 0:
+        at = offset - self.origin
+        if not is_int(at) or at < 0:
             raise Unproved("accesses a buffer at %s, where %s is next" % (offset, self.origin))
         self.extend(m, at + size)
         return at
@@ -186,17 +195,27 @@ class Window(Region):
 
     def settle(self, m):
         """Leaves out the first blocks that are what they have to be, and not what they were."""
-        if not self.writable:
-            self.content, self.origin = [], 0
         while len(self.content) >= 16:
             have, before = self.content[:16], [m.domain.moved(x, self.at(m) // 16) for x in self.initial]
             if have == before or have != self.wanted(m):
                 return
             self.origin, self.content = self.origin + 16, self.content[16:]
 
+    def is_untouched(self):
+        return is_int(self.origin) and self.origin == 0 and not self.content
+
+    def initial_at(self, m, offset, size):
+        """Bytes as they were."""
+        number = offset - 16 * m.first_block
+        if not is_int(number):
+            raise Unproved("a block whose number isn't known")
+        return [m.domain.moved(self.initial[i % 16], i // 16) for i in range(number, number + size)]
+
     def is_done(self, m):
         """Whether all blocks are what they have to be."""
         rest = self.size - self.origin
+        if not self.writable:
+            return True
         if not is_int(rest) or rest != len(self.content):
             return False
         copy = self.copy()
@@ -315,7 +334,8 @@ class Machine:
         self.origins = {}  # what a result depended on, by the (cell, block) that took its place (calls.step_by_step)
         self.native, self.after_external = None, None  # for native.py
         self.answers, self.may_reveal, self.assumed = {}, False, ()  # answers to questions, {flag: 0 or 1}; see calls.Call
-        self.done, self.want = 0, None  # how many steps of a call were found, and what the next one looks for (calls.step_by_step)
+        # How many steps of a call were found, in which phase of it, and what the next one looks for (calls.step_by_step).
+        self.done, self.phase, self.want = 0, 0, None
         self.equalities = {}  # bytes that are one constant if another byte is 0, else another: (that byte, the constants)
         self.written = (), 0  # the list of bytes that was last written to, and where
         self.wrote = {}  # which bytes were written to each of the caller's buffers, also those that were written over since
@@ -488,6 +508,8 @@ class Machine:
         reveal it: whether all these bytes are zero."""
         if isinstance(x, Verdict):
             return {"z": self.zero_flag(x.differences)} if y == x.right else {}
+        if isinstance(x, Shifted) and y == 0:
+            return self.zero_and_sign(x, size)
         if tuple not in (type(x), type(y)):
             return self.minus(x, y, size)[1]
         never = y == 0 and 1 in self.bits(x, size)
@@ -511,6 +533,8 @@ class Machine:
         if isinstance(r, Linear):
             r = self.ranged(r)
             return {"z": (r, 0, "equal")} if self.fits(r) else {}
+        if isinstance(r, Shifted):
+            return {"z": (r.number, 1 << r.count, "below")}
         if isinstance(r, Verdict):
             return {} if r.right else {"z": self.zero_flag(r.differences)}
         if self.is_placed(r):
@@ -550,8 +574,8 @@ class Machine:
         return constant("a factor", x) * constant("a factor", y) >> 64
 
     def quotient_by_product(self, scaled, count):
-        """A division by a constant that is done by a product: for x below 2^64, x * factor / 2^(64 + count) has the same whole part as x / d
-        if 2^(64 + count) <= d * factor <= 2^(64 + count) + 2^count. (Granlund and Montgomery, 1994, theorem 4.2)"""
+        """A division by a constant that is done by a product. If d * factor is 2^(64 + count) and at most 2^count more, then for x below
+        2^64 the product over 2^(64 + count) is x / d and less than 1 / d more: it has the same whole part."""
         x, factor = scaled
         by = -(-(1 << 64 + count) // factor)
         if by * factor > (1 << 64 + count) + (1 << count):
@@ -603,7 +627,9 @@ class Machine:
 
     def replace_unknown(self, name, by):
         """Puts a number in the place of an unknown."""
-        new = lambda x: replaced(x, name, by)
+        def new(x):
+            y = replaced(x, name, by)
+            return y.value() if isinstance(y, Shifted) else y
         self.each_byte(lambda b: self.renumbered(b, new))
         self.facts = frozenset(f for f in map(new, self.facts) if not is_int(f) or f < 0)
         self.flags, self.first_block = {f: new(x) for f, x in self.flags.items()}, new(self.first_block)
@@ -618,8 +644,12 @@ class Machine:
         """A byte, with another number in the place of that of which it is one."""
         d = self.domain
         value, k = d.opaque_of[b] if isinstance(d.opaque_of.get(b), tuple) else (None, 0)
-        by = new(value) if isinstance(value, (Linear, Pointer, Distance, Placed)) else value
-        return b if by == value else self.to_bytes(by, 8)[k] if is_int(by) else d.opaque((by, k))
+        by = new(value) if isinstance(value, (Linear, Pointer, Distance, Placed, Scaled, Shifted)) else value
+        if by != value:
+            return self.to_bytes(by, 8)[k] if is_int(by) else d.opaque((by, k))
+        others = {c: (new(d.unknowns[c][0]), d.unknowns[c]) for c in d.unknown_cells(b)} if d.unknowns else {}
+        others = {c: self.to_bytes(by, 8)[k] for c, (by, (number, k)) in others.items() if by != number}
+        return d.put_in(b, others) if others else b
 
     def known(self, x):
         """A number of the statement, as it is known here."""
@@ -682,9 +712,9 @@ class Machine:
         self.lost.add(self.domain.opaque(LOST))
         return self.domain.opaque(LOST)
 
-    def begin_again(self, name, initial):
-        """All of a buffer is done; its blocks become others. What is left of blocks is forgotten, and they are numbered anew."""
-        self.regions[name].begin_again(initial)
+    def begin_again(self):
+        """What is left of blocks is forgotten, and they are numbered anew."""
+        self.phase, self.done = self.phase + 1, 0
         self.each_byte(lambda b: self.any_byte() if self.domain.blocks(b) else b)
         self.first_block, self.origins = 0, {place: on for place, on in self.origins.items() if not place[1]}
 
@@ -784,6 +814,8 @@ class Machine:
         divides = isinstance(v, Linear) and (not self.any_length or step_of(v) >> count)
         if divides and size == 8 and how == "lsr" and self.fits(self.ranged(v)):
             return self.quotient(self.ranged(v), 1 << count)
+        if isinstance(v, Linear) and size == 8 and how == "lsr" and self.fits(v):
+            return Shifted(v, count)
         if isinstance(v, Scaled) and how == "lsr":
             return self.quotient_by_product(v, count)
         b = self.bits(v, size)
@@ -900,6 +932,11 @@ class Machine:
             raise Unproved("accesses memory at %s" % (address,))
         base, offset = address
         if isinstance(region, Window):
+            if not self.implied(offset) or not self.implied(region.size - offset - size):
+                raise Unproved("%s %d bytes at %s of %s, which has %s" % (
+                    "writes" if write else "reads", size, offset, base, region.size))
+            if not write and region.is_untouched():
+                return region.initial_at(self, offset, size), 0
             offset = region.reached(self, offset, size)
         if offset < 0 or offset + size > len(region.content):
             raise Unproved("%s %d bytes at %d of %s, which has %d" % (

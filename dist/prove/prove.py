@@ -34,7 +34,7 @@ SEED = 1
 # Which statements, and of which lengths: all; or those that reach each path and its ends, of which keys of 24 and 32 bytes take a few.
 # README has the table. Each of these gives the names of statements, and their arguments. Keys of 24 bytes take only these names by default:
 OF_24 = ("blocks", "add_keystream", "cbc_encrypt", "cbc_decrypt", "any_cbc_encrypt", "wrap", "unwrap", "cmac", "ccm_seal", "ccm_open",
-         "seal", "open", "wipe", "wipe_message", "set_key_of", "set_key_of_none", "set_key_refused", "key_length", "key_length_of_none",
+         "any_seal", "seal", "open", "wipe", "wipe_message", "set_key_of", "set_key_of_none", "set_key_refused", "key_length", "key_length_of_none",
          "version")
 LONG = [(0, 16 * n) for n in range(1, 65)] + [(n, 0) for n in range(1, 100, 9)]
 
@@ -71,7 +71,7 @@ def aes_cases(choose):
     yield "any_cbc_decrypt", choose(range(64), (), (9,))
     # And at every position, with a carry anywhere: by the place in a block, and by the remainder.
     every = [(0, rest) for rest in range(9, 128, 18)] + [(skip, 17 * skip % 128) for skip in range(1, 16, 2)] + [(3, 45, "_to")]
-    yield "any_keystream", choose([(0, 0), (0, 33), (5, 122), *every], [(0, 0)], [(0, 33), (5, 122)])
+    yield "any_keystream", choose([(0, 0), (0, 33), (5, 122), *every], [(0, 0)], [(5, 122)])
     yield "cbc_decrypt", choose(range(65), (9,), (0, 1, 3, 4, 8, 17))
     yield "cbc_encrypt", choose(range(65), (2,), (0, 1))
     yield "wrap", choose(range(2, 13), (2,), (8,))
@@ -94,7 +94,10 @@ def aes_cases(choose):
 def gcm_cases(choose):
     more = (0, 0), (1, 1), (49, 1), (0, 129), (0, 225), (0, 449, gcm.UNKNOWN)
     yield "wipe_message", [()]
-    yield "any_seal", choose([(13, 33)], [(13, 33)])
+    # Of every length, by what is left of additional data of 48 a bytes and of a text of 768 n.
+    every = [(0, 0), (0, 129), (1, 16), (16, 225), (33, 48), (47, 767)]
+    yield "any_seal", choose([(13, 33), *every, (13, 33, "_to")], [(13, 33)], [(0, 129)])
+    yield "any_open", choose([(13, 33), *every], [(13, 33)])
     yield "seal", choose([(13, 33), (40, 20), *more, *LONG], [(13, 33)], more)
     yield "open", choose([(0, 0), (13, 33), (40, 129)], [(13, 33)], [(0, 0)])
     yield "seal", choose([(0, 0, (), "_to"), (13, 33, (), "_to"), (1, 129, (), "_to")], [(13, 33, (), "_to")], [(0, 0, (), "_to")])

@@ -44,7 +44,7 @@ HEAD = """# The nine types, call by call
 
 `Aes128`, `Aes192` and `Aes256` encrypt and decrypt with keys of 16, 24 and 32 bytes. The types whose names end in `Enc` or
 `Dec` do only one of these. The crates `aes_hybrid` and `aes` each have all nine
-([which to take](CALLING.md#choose-a-type-and-make-a-value)), with the same calls and the same contracts. A `Block` is
+([which to use](CALLING.md#choose-a-type-and-make-a-value)), with the same calls and the same contracts. A `Block` is
 `[u8; 16]`. Import the traits from `aes_cipher::cipher`.
 
 This page is made by `tools/pages` from the sources. What it says of results is proved: the clauses stand below a signature in
