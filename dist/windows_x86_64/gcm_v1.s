@@ -6243,13 +6243,16 @@ gcm_v1.aes_ctr.add_in_batches.add_keystream: # @gcm_v1.aes_ctr.add_in_batches.ad
 	movq	%r15, %rdx
 	callq	gcm_v1.aes_narrow.blocks.process_in_batches
 	callq	gcm_v1.aes_cipher.zeroize.stack.wipe_stack.1024
-	xorl	%ecx, %ecx
 	testq	%r12, %r12
-	je	.Lgcm_v1_BB19_11
-# %bb.2:                                # %then.1.i
+	sete	%al
 	testq	%r14, %r14
-	je	.Lgcm_v1_BB19_11
-# %bb.3:                                # %join.8.i68.lr.ph.i.i
+	sete	%cl
+	orb	%al, %cl
+	je	.Lgcm_v1_BB19_3
+# %bb.2:
+	xorl	%ecx, %ecx
+	jmp	.Lgcm_v1_BB19_11
+.Lgcm_v1_BB19_3:                               # %join.8.i68.lr.ph.i.i
 	leaq	-1(%r14), %rcx
 	movl	%r14d, %eax
 	andl	$3, %eax
@@ -6497,7 +6500,7 @@ gcm_v1.aes_narrow.lent.call_to_encrypt.1: # @gcm_v1.aes_narrow.lent.call_to_encr
 	movq	%rax, %r13
 	cmpq	%rbp, %rax
 	jb	.Lgcm_v1_BB20_7
-.Lgcm_v1_BB20_8:                               # %"aes_ctr::add_in_batches::DueBlockCipherEncClosure::call::<#e870f8b85e4547be>.exit"
+.Lgcm_v1_BB20_8:                               # %"aes_ctr::add_in_batches::DueBlockCipherEncClosure::call::<#bdf27dbfc9f7e143>.exit"
 	addq	$312, %rsp                      # imm = 0x138
 	popq	%rbx
 	popq	%r12
@@ -6512,7 +6515,7 @@ gcm_v1.aes_narrow.lent.call_to_encrypt.1: # @gcm_v1.aes_narrow.lent.call_to_encr
 	.scl	3;
 	.type	32;
 	.endef
-	.p2align	4                               # -- Begin function aes_ctr::add_in_batches::add_next::<#2a4ba4a32494f100>
+	.p2align	4                               # -- Begin function aes_ctr::add_in_batches::add_next::<#4d123d214f9009c3>
 gcm_v1.aes_ctr.add_in_batches.add_next.1: # @gcm_v1.aes_ctr.add_in_batches.add_next.1
 .seh_proc gcm_v1.aes_ctr.add_in_batches.add_next.1
 # %bb.0:                                # %start
@@ -6602,7 +6605,7 @@ gcm_v1.aes_ctr.add_in_batches.add_next.1: # @gcm_v1.aes_ctr.add_in_batches.add_n
 	jmp	.Lgcm_v1_BB21_3
 .Lgcm_v1_BB21_2:                               # %else.2.i.i.i
 	movl	$2, %ecx
-.Lgcm_v1_BB21_3:                               # %"aes_ctr::keystream::fill_by_backend::<#2a4ba4a32494f100>.exit"
+.Lgcm_v1_BB21_3:                               # %"aes_ctr::keystream::fill_by_backend::<#4d123d214f9009c3>.exit"
 	movq	%rax, %rdi
 	callq	gcm_v1.aes_narrow.blocks.process_few
 	leaq	(%r15,%rbx), %rax
@@ -7821,7 +7824,7 @@ gcm_v1.aes_narrow.lent.call_to_encrypt.2: # @gcm_v1.aes_narrow.lent.call_to_encr
 	movq	%rax, %r13
 	cmpq	%rbp, %rax
 	jb	.Lgcm_v1_BB31_7
-.Lgcm_v1_BB31_8:                               # %"aes_ctr::add_in_batches::DueBlockCipherEncClosure::call::<#76719ac189b7eac5>.exit"
+.Lgcm_v1_BB31_8:                               # %"aes_ctr::add_in_batches::DueBlockCipherEncClosure::call::<#81cc01939efc1de6>.exit"
 	addq	$312, %rsp                      # imm = 0x138
 	popq	%rbx
 	popq	%r12
@@ -7836,7 +7839,7 @@ gcm_v1.aes_narrow.lent.call_to_encrypt.2: # @gcm_v1.aes_narrow.lent.call_to_encr
 	.scl	3;
 	.type	32;
 	.endef
-	.p2align	4                               # -- Begin function aes_ctr::add_in_batches::add_next::<#9c80a1d1e577763f>
+	.p2align	4                               # -- Begin function aes_ctr::add_in_batches::add_next::<#e844f41b2c918ab6>
 gcm_v1.aes_ctr.add_in_batches.add_next.2: # @gcm_v1.aes_ctr.add_in_batches.add_next.2
 .seh_proc gcm_v1.aes_ctr.add_in_batches.add_next.2
 # %bb.0:                                # %start
@@ -7907,7 +7910,7 @@ gcm_v1.aes_ctr.add_in_batches.add_next.2: # @gcm_v1.aes_ctr.add_in_batches.add_n
 	jmp	.Lgcm_v1_BB32_3
 .Lgcm_v1_BB32_2:                               # %else.2.i.i.i
 	movl	$2, %ecx
-.Lgcm_v1_BB32_3:                               # %"aes_ctr::keystream::fill_by_backend::<#9c80a1d1e577763f>.exit"
+.Lgcm_v1_BB32_3:                               # %"aes_ctr::keystream::fill_by_backend::<#e844f41b2c918ab6>.exit"
 	movq	%rax, %rdi
 	callq	gcm_v1.aes_narrow.blocks.process_few
 	leaq	(%r15,%rbx), %rax
@@ -10160,15 +10163,16 @@ gcm_v1.fotsgure_gcm_seal_next:                 # @gcm_v1.fotsgure_gcm_seal_next
 	movaps	%xmm6, 16(%rsp)                 # 16-byte Spill
 	.seh_savexmm %xmm6, 16
 	.seh_endprologue
-	movq	%r8, %rbx
-	movq	%rdx, %r14
+	movq	%rdx, %rbx
 	cmpq	$-1, 4(%rdx)
-	jne	.Lgcm_v1_BB51_2
-# %bb.1:                                # %start
+	movq	%r8, %r14
+	sete	%dl
+	cmpl	$-1, (%rbx)
+	sete	%r8b
 	movl	$7, %eax
-	cmpl	$-1, (%r14)
-	je	.Lgcm_v1_BB51_9
-.Lgcm_v1_BB51_2:                               # %join.3.i
+	testb	%r8b, %dl
+	jne	.Lgcm_v1_BB51_8
+# %bb.1:                                # %join.3.i
 	movq	280(%rsp), %rdx
 	movq	272(%rsp), %r11
 	movq	264(%rsp), %r10
@@ -10187,40 +10191,40 @@ gcm_v1.fotsgure_gcm_seal_next:                 # @gcm_v1.fotsgure_gcm_seal_next
 	movq	%r11, (%rsp)
 	movl	$12, %edx
 	movq	%rcx, %rdi
-	movq	%r14, %rsi
+	movq	%rbx, %rsi
 	movq	%r10, %rcx
 	movq	%rax, %r9
 	callq	gcm_v1.gcm_c.whole.fotsgure_gcm_seal
 	testl	%eax, %eax
-	jne	.Lgcm_v1_BB51_9
-# %bb.3:                                # %then.4.i
-	movl	(%r14), %eax
-	movq	4(%r14), %rcx
+	jne	.Lgcm_v1_BB51_8
+# %bb.2:                                # %then.4.i
+	movl	(%rbx), %eax
+	movq	4(%rbx), %rcx
 	movl	%eax, %edx
 	bswapl	%edx
 	cmpq	$-1, %rcx
-	je	.Lgcm_v1_BB51_5
-# %bb.4:                                # %"gcm::counter::after.exit.thread.i.i"
+	je	.Lgcm_v1_BB51_4
+# %bb.3:                                # %"gcm::counter::after.exit.thread.i.i"
 	movq	%rcx, %r8
 	bswapq	%r8
 	incq	%r8
 	bswapq	%r8
-	jmp	.Lgcm_v1_BB51_7
-.Lgcm_v1_BB51_5:                               # %"gcm::counter::after.exit.i.i"
+	jmp	.Lgcm_v1_BB51_6
+.Lgcm_v1_BB51_4:                               # %"gcm::counter::after.exit.i.i"
 	cmpl	$-1, %eax
-	je	.Lgcm_v1_BB51_8
-# %bb.6:
+	je	.Lgcm_v1_BB51_7
+# %bb.5:
 	incl	%edx
 	xorl	%r8d, %r8d
-.Lgcm_v1_BB51_7:                               # %arm.1.i.i
+.Lgcm_v1_BB51_6:                               # %arm.1.i.i
 	bswapl	%edx
-	movl	%edx, (%r14)
-	movq	%r8, 4(%r14)
-.Lgcm_v1_BB51_8:                               # %"gcm::counter::Counter::take.exit.i"
-	movl	%eax, (%rbx)
-	movq	%rcx, 4(%rbx)
+	movl	%edx, (%rbx)
+	movq	%r8, 4(%rbx)
+.Lgcm_v1_BB51_7:                               # %"gcm::counter::Counter::take.exit.i"
+	movl	%eax, (%r14)
+	movq	%rcx, 4(%r14)
 	xorl	%eax, %eax
-.Lgcm_v1_BB51_9:                               # %"gcm_c::counter::fotsgure_gcm_seal_next.exit"
+.Lgcm_v1_BB51_8:                               # %"gcm_c::counter::fotsgure_gcm_seal_next.exit"
 	movaps	16(%rsp), %xmm6                 # 16-byte Reload
 	movaps	32(%rsp), %xmm7                 # 16-byte Reload
 	movaps	48(%rsp), %xmm8                 # 16-byte Reload
@@ -12309,27 +12313,27 @@ gcm_v1.fotsgure_gcm_accept_short:              # @gcm_v1.fotsgure_gcm_accept_sho
 	sete	%r11b
 	leaq	-4(%r8), %rax
 	testq	$-5, %rax
-	sete	%bl
-	movq	%r8, %rax
-	andq	$-4, %rax
-	cmpq	$12, %rax
-	sete	%sil
-	movl	$4, %eax
+	setne	%al
+	movq	%r8, %rsi
+	andq	$-4, %rsi
+	cmpq	$12, %rsi
+	setne	%bl
+	andb	%al, %bl
 	cmpq	%r8, 368(%rsp)
-	jne	.Lgcm_v1_BB63_8
-# %bb.1:                                # %start
-	orb	%sil, %bl
-	je	.Lgcm_v1_BB63_8
-# %bb.2:                                # %join.3.i
+	setne	%sil
+	movl	$4, %eax
+	orb	%bl, %sil
+	jne	.Lgcm_v1_BB63_7
+# %bb.1:                                # %join.3.i
 	movl	(%rcx), %esi
 	movl	$2, %eax
 	cmpq	$32, %rsi
-	ja	.Lgcm_v1_BB63_8
-# %bb.3:                                # %join.3.i
+	ja	.Lgcm_v1_BB63_7
+# %bb.2:                                # %join.3.i
 	movabsq	$4311810048, %rdi               # imm = 0x101010000
 	btq	%rsi, %rdi
-	jae	.Lgcm_v1_BB63_8
-# %bb.4:                                # %join.6.i
+	jae	.Lgcm_v1_BB63_7
+# %bb.3:                                # %join.6.i
 	leaq	4(%rcx), %rax
 	leaq	56(,%rsi,2), %rsi
 	addq	$484, %rcx                      # imm = 0x1E4
@@ -12343,8 +12347,8 @@ gcm_v1.fotsgure_gcm_accept_short:              # @gcm_v1.fotsgure_gcm_accept_sho
 	orl	$2, %eax
 	movzbl	%al, %eax
 	cmpl	$3, %eax
-	jne	.Lgcm_v1_BB63_5
-# %bb.6:                                # %join.7.i.i
+	jne	.Lgcm_v1_BB63_4
+# %bb.5:                                # %join.7.i.i
 	movb	%r11b, %r10b
 	shll	$12, %r10d
 	addq	%r10, %r9
@@ -12374,15 +12378,15 @@ gcm_v1.fotsgure_gcm_accept_short:              # @gcm_v1.fotsgure_gcm_accept_sho
 	callq	gcm_v1.aes_cipher.zeroize.stack.wipe_stack.512
 	movl	$6, %eax
 	testb	%bpl, %bpl
-	je	.Lgcm_v1_BB63_8
-# %bb.7:                                # %arm.7.i
+	je	.Lgcm_v1_BB63_7
+# %bb.6:                                # %arm.7.i
 	movq	$4, 24(%r13)
 	movq	$0, 16(%r13)
 	xorl	%eax, %eax
-	jmp	.Lgcm_v1_BB63_8
-.Lgcm_v1_BB63_5:
+	jmp	.Lgcm_v1_BB63_7
+.Lgcm_v1_BB63_4:
 	movl	$8, %eax
-.Lgcm_v1_BB63_8:                               # %"gcm_c::opening::fotsgure_gcm_accept_short.exit"
+.Lgcm_v1_BB63_7:                               # %"gcm_c::opening::fotsgure_gcm_accept_short.exit"
 	movaps	96(%rsp), %xmm6                 # 16-byte Reload
 	movaps	112(%rsp), %xmm7                # 16-byte Reload
 	movaps	128(%rsp), %xmm8                # 16-byte Reload
@@ -12423,4 +12427,4 @@ gcm_v1.fotsgure_gcm_accept_short:              # @gcm_v1.fotsgure_gcm_accept_sho
 
 
 	.section	.rdata,"dr"
-	.asciz	"fotsgure_gcm 0.4.0, windows_x86_64/gcm_v1.s, sources SHA-256 439aa485a7ce520f4d656962e60707f61c9273ee743ca6425e15b9f29214fece"
+	.asciz	"fotsgure_gcm 0.4.0, windows_x86_64/gcm_v1.s, sources SHA-256 56436a24da7ce147747140b4abf2fb4b77dfc405eed0f38d18ea360dac158a7c"
