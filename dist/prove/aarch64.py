@@ -27,6 +27,7 @@ class Aarch64(Machine):
     arguments, result = X[:8], "x0"
     kept, kept_halves = X[19:30] + ["sp"], range(8, 16)
     scratch = X[:19]
+    red_zone = 0
     conditional, padding = r"b\.|cbn?z|tbn?z|adcs?\s|sbcs?\s|csinc\s.*, c[cs]\b", "nop|udf"
 
     def enter(self, arguments):

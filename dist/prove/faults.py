@@ -67,7 +67,7 @@ FAULTS = {
         ("a load past the struct", BLOCKS, ENTRY, r"\1\tmovb\t484(%rdi), %al\n", "blocks encrypt 2"),
         ("a store to the struct, which is const", BLOCKS, ENTRY, r"\1\tmovb\t$16, (%rdi)\n", "blocks encrypt 2"),
         ("a store above the stack frame", BLOCKS, ENTRY, r"\1\tmovq\t%rax, (%rsp)\n", "blocks encrypt 2"),
-        ("a store below the stack pointer", BLOCKS, ENTRY, r"\1\tmovq\t%rax, -8(%rsp)\n", "blocks encrypt 2"),
+        ("a store below the red zone", BLOCKS, ENTRY, r"\1\tmovq\t%rax, -144(%rsp)\n", "blocks encrypt 2"),
         ("zeros in the code, which write to an address", BLOCKS, ENTRY, r"\1\t.zero\t32\n", "blocks encrypt 2"),
         ("an aligned load of the caller's blocks", LANES, r"movdqu\t\((%r\w+(?:,%r\w+)?)\), ", r"movdqa\t(\1), ", "blocks encrypt 2"),
         ("a register not saved", BLOCKS, r"\tpushq\t%(?:rbx|rbp|r1[2-5])\n", "\tpushq\t%rax\n", "blocks encrypt 2"),

@@ -12,6 +12,7 @@ Machine, in a file of its own (x86_64.py, aarch64.py), that says:
     arguments, result      the registers of the ABI; more arguments are on the stack, 8 bytes each, above what a call pushes: `pushed`
     kept, kept_halves      the registers that a function restores, and the vector registers whose low halves it does
     scratch                those that libc's functions may change
+    red_zone               bytes below the stack pointer that a function may use
     stack_step             what the stack pointer has to be a multiple of where it is the base of an access
     conditional, padding        how a line of objdump begins that is a conditional jump or adds a carry, or fills up space between others
     decode(text, following)     a line of objdump as an Instruction; `following` is the next address
@@ -946,8 +947,8 @@ class Machine:
         if base == "stack":
             if write and offset + size > self.top:
                 raise Unproved("writes above its stack frame")
-            if offset < self.general[self.stack_pointer].offset:
-                raise Unproved("accesses the stack below the stack pointer")
+            if offset < self.general[self.stack_pointer].offset - self.red_zone:
+                raise Unproved("accesses the stack below the red zone")
             self.lowest = min(self.lowest, offset)
         if region.align % align or offset % align:
             raise Unproved("an aligned access of %s, of which the alignment isn't known" % base)
@@ -1062,10 +1063,10 @@ class Machine:
             self.stack_moved(stack_pointer, self.general[self.stack_pointer])
 
     def stack_moved(self, before, after):
-        """What lies below the stack pointer may be overwritten at any time, by an interrupt or a signal's handler."""
+        """What lies below the red zone may be overwritten at any time, by a signal's handler."""
         if not is_pointer(after) or after.base != "stack":
             raise Unproved("the stack pointer leaves the stack")
-        self.stale.update(range(before.offset, after.offset))
+        self.stale.update(range(before.offset - self.red_zone, after.offset - self.red_zone))
 
     def go_to(self, address):
         """Where a return leads: a constant, or the return address of the call."""
@@ -1082,6 +1083,8 @@ class Machine:
         """A call of libc by its contract. What it may leave in registers is undefined."""
         if (self.general[self.stack_pointer].offset + 8 * len(self.pushed)) % 16:
             raise Unproved("the stack isn't aligned at a call")
+        stack = self.general[self.stack_pointer].offset
+        self.stale.update(range(stack - self.red_zone, stack))
         to, source, count = (self.general[r] for r in self.arguments[:3])
         if isinstance(count, Linear) and name != "memset":
             self.copy_all(to, source, count)

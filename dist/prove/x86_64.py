@@ -24,6 +24,7 @@ class X86_64(Machine):
     arguments, result, pushed = "rdi rsi rdx rcx r8 r9".split(), "rax", (RETURN_ADDRESS,)
     kept = "rbx rsp rbp r12 r13 r14 r15".split()
     scratch = "rcx rdx rsi rdi r8 r9 r10 r11".split()
+    red_zone = 128
     conditional, padding = "j(?!mp)|adc|sbb", r"(data16 |cs )*nop|xchg +ax,ax"
 
     def leave(self):
