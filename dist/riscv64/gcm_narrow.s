@@ -15927,5 +15927,5 @@ gcm_narrow.fotsgure_gcm_accept_short:              # @gcm_narrow.fotsgure_gcm_ac
 	.long	9, 123, 1
 	.asciz	"Fotsgure"
 	.p2align	2, 0x0
-	.asciz	"fotsgure_gcm 0.4.0, riscv64/gcm_narrow.s, sources SHA-256 56436a24da7ce147747140b4abf2fb4b77dfc405eed0f38d18ea360dac158a7c"
+	.asciz	"fotsgure_gcm 0.4.0, riscv64/gcm_narrow.s, sources SHA-256 2c1acf22eef8ecb375c2186e6b6dd555f10b33ecdc8090a2e0f1ee8da8a784f0"
 	.p2align	2, 0x0

@@ -1121,21 +1121,19 @@ aes_permute__lane_keys__expand_lanes:   # @aes_permute__lane_keys__expand_lanes
 	.type	aes_cipher__zeroize__elements__zeroize_elements____530874d131791bfe_,@function # -- Begin function aes_cipher__zeroize__elements__zeroize_elements____530874d131791bfe_
 aes_cipher__zeroize__elements__zeroize_elements____530874d131791bfe_: # @aes_cipher__zeroize__elements__zeroize_elements____530874d131791bfe_
 	.functype	aes_cipher__zeroize__elements__zeroize_elements____530874d131791bfe_ (i32) -> ()
-	.local  	i32, i64, i64, i32, i32
+	.local  	i64, i32, i64, i32, i32
 # %bb.0:                                # %start
+	i64.const	0
+	local.set	1
 	global.get	__stack_pointer
 	i32.const	16
 	i32.sub 
-	local.tee	1
-	global.set	__stack_pointer
-	i64.const	0
-	local.set	2
-	local.get	1
+	local.tee	2
 	i64.const	0
 	i64.store	8
 	#APP
 	#NO_APP
-	local.get	1
+	local.get	2
 	i64.load	8
 	local.set	3
 	#APP
@@ -1167,7 +1165,7 @@ aes_cipher__zeroize__elements__zeroize_elements____530874d131791bfe_: # @aes_cip
 	i64.extend_i32_u
 	i64.const	255
 	i64.and 
-	local.set	2
+	local.set	1
 	br      	1                               # 1: down to label13
 .LBB2_2:                                # %aes_cipher__zeroize__observe____3f54e6b29a41109e_.exit.critedge
 	end_block                               # label14:
@@ -1179,18 +1177,14 @@ aes_cipher__zeroize__elements__zeroize_elements____530874d131791bfe_: # @aes_cip
 	end_block                               # label13:
 	#APP
 	#NO_APP
-	local.get	1
+	local.get	2
 	i64.load	8
 	drop
-	local.get	1
 	local.get	2
+	local.get	1
 	i64.store	8
 	#APP
 	#NO_APP
-	local.get	1
-	i32.const	16
-	i32.add 
-	global.set	__stack_pointer
                                         # fallthrough-return
 	end_function
                                         # -- End function
@@ -7539,21 +7533,19 @@ aes_hybrid__batches__process_rest____a60badf655ff5009_: # @aes_hybrid__batches__
 	.type	aes_cipher__zeroize__zeroize_words____e29e0540aa8bc136_,@function # -- Begin function aes_cipher__zeroize__zeroize_words____e29e0540aa8bc136_
 aes_cipher__zeroize__zeroize_words____e29e0540aa8bc136_: # @aes_cipher__zeroize__zeroize_words____e29e0540aa8bc136_
 	.functype	aes_cipher__zeroize__zeroize_words____e29e0540aa8bc136_ (i32) -> ()
-	.local  	i32, i64, i64, i32
+	.local  	i64, i32, i64, i32
 # %bb.0:                                # %start
+	i64.const	0
+	local.set	1
 	global.get	__stack_pointer
 	i32.const	16
 	i32.sub 
-	local.tee	1
-	global.set	__stack_pointer
-	i64.const	0
-	local.set	2
-	local.get	1
+	local.tee	2
 	i64.const	0
 	i64.store	8
 	#APP
 	#NO_APP
-	local.get	1
+	local.get	2
 	i64.load	8
 	local.set	3
 	#APP
@@ -7580,32 +7572,28 @@ aes_cipher__zeroize__zeroize_words____e29e0540aa8bc136_: # @aes_cipher__zeroize_
 	i32.add 
 	local.tee	4
 	i64.load8_u	0
-	local.set	2
+	local.set	1
 	local.get	0
 	i32.const	0
 	i32.const	1920
 	memory.fill	0
-	local.get	2
+	local.get	1
 	local.get	4
 	i64.load8_u	0
 	i64.and 
-	local.set	2
+	local.set	1
 .LBB17_3:                               # %aes_cipher__zeroize__observe____ccfd3525e01c7eaa_.exit
 	end_block                               # label52:
 	#APP
 	#NO_APP
-	local.get	1
+	local.get	2
 	i64.load	8
 	drop
-	local.get	1
 	local.get	2
+	local.get	1
 	i64.store	8
 	#APP
 	#NO_APP
-	local.get	1
-	i32.const	16
-	i32.add 
-	global.set	__stack_pointer
                                         # fallthrough-return
 	end_function
                                         # -- End function
@@ -11420,8 +11408,7 @@ cmac__chaining__chain____85bfe8c12f4057e6_: # @cmac__chaining__chain____85bfe8c1
 	global.get	__stack_pointer
 	i32.const	16
 	i32.sub 
-	local.tee	4
-	global.set	__stack_pointer
+	local.set	4
 	block   	
 	local.get	3
 	i64.eqz
@@ -11681,10 +11668,6 @@ cmac__chaining__chain____85bfe8c12f4057e6_: # @cmac__chaining__chain____85bfe8c1
 .LBB26_8:                               # %after.1
 	end_loop
 	end_block                               # label97:
-	local.get	4
-	i32.const	16
-	i32.add 
-	global.set	__stack_pointer
                                         # fallthrough-return
 	end_function
                                         # -- End function
@@ -18795,8 +18778,6 @@ aes_cipher__zeroize__elements__zeroize_elements____51e2d7e6a2c2e10f_: # @aes_cip
 	i32.const	16
 	i32.sub 
 	local.tee	1
-	global.set	__stack_pointer
-	local.get	1
 	i64.const	0
 	i64.store	8
 	#APP
@@ -18819,10 +18800,6 @@ aes_cipher__zeroize__elements__zeroize_elements____51e2d7e6a2c2e10f_: # @aes_cip
 	i64.store	8
 	#APP
 	#NO_APP
-	local.get	1
-	i32.const	16
-	i32.add 
-	global.set	__stack_pointer
                                         # fallthrough-return
 	end_function
                                         # -- End function

@@ -26036,8 +26036,6 @@ aes_cipher__zeroize__elements__zeroize_elements____51e2d7e6a2c2e10f_: # @aes_cip
 	i32.const	16
 	i32.sub 
 	local.tee	1
-	global.set	__stack_pointer
-	local.get	1
 	i64.const	0
 	i64.store	8
 	#APP
@@ -26063,10 +26061,6 @@ aes_cipher__zeroize__elements__zeroize_elements____51e2d7e6a2c2e10f_: # @aes_cip
 	i64.store	8
 	#APP
 	#NO_APP
-	local.get	1
-	i32.const	16
-	i32.add 
-	global.set	__stack_pointer
                                         # fallthrough-return
 	end_function
                                         # -- End function

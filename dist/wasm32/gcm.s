@@ -105,21 +105,19 @@
 	.type	aes_cipher__zeroize__elements__zeroize_elements____530874d131791bfe_,@function # -- Begin function aes_cipher__zeroize__elements__zeroize_elements____530874d131791bfe_
 aes_cipher__zeroize__elements__zeroize_elements____530874d131791bfe_: # @aes_cipher__zeroize__elements__zeroize_elements____530874d131791bfe_
 	.functype	aes_cipher__zeroize__elements__zeroize_elements____530874d131791bfe_ (i32) -> ()
-	.local  	i32, i64, i64, i32, i32
+	.local  	i64, i32, i64, i32, i32
 # %bb.0:                                # %start
+	i64.const	0
+	local.set	1
 	global.get	__stack_pointer
 	i32.const	16
 	i32.sub 
-	local.tee	1
-	global.set	__stack_pointer
-	i64.const	0
-	local.set	2
-	local.get	1
+	local.tee	2
 	i64.const	0
 	i64.store	8
 	#APP
 	#NO_APP
-	local.get	1
+	local.get	2
 	i64.load	8
 	local.set	3
 	#APP
@@ -151,7 +149,7 @@ aes_cipher__zeroize__elements__zeroize_elements____530874d131791bfe_: # @aes_cip
 	i64.extend_i32_u
 	i64.const	255
 	i64.and 
-	local.set	2
+	local.set	1
 	br      	1                               # 1: down to label0
 .LBB0_2:                                # %aes_cipher__zeroize__observe____3f54e6b29a41109e_.exit.critedge
 	end_block                               # label1:
@@ -163,18 +161,14 @@ aes_cipher__zeroize__elements__zeroize_elements____530874d131791bfe_: # @aes_cip
 	end_block                               # label0:
 	#APP
 	#NO_APP
-	local.get	1
+	local.get	2
 	i64.load	8
 	drop
-	local.get	1
 	local.get	2
+	local.get	1
 	i64.store	8
 	#APP
 	#NO_APP
-	local.get	1
-	i32.const	16
-	i32.add 
-	global.set	__stack_pointer
                                         # fallthrough-return
 	end_function
                                         # -- End function
@@ -312,8 +306,6 @@ aes_cipher__zeroize__elements__zeroize_elements____d3d1c9d97fea966e_: # @aes_cip
 	i32.const	16
 	i32.sub 
 	local.tee	2
-	global.set	__stack_pointer
-	local.get	2
 	i64.const	0
 	i64.store	8
 	#APP
@@ -442,10 +434,6 @@ aes_cipher__zeroize__elements__zeroize_elements____d3d1c9d97fea966e_: # @aes_cip
 	i64.store	8
 	#APP
 	#NO_APP
-	local.get	2
-	i32.const	16
-	i32.add 
-	global.set	__stack_pointer
                                         # fallthrough-return
 	end_function
                                         # -- End function
@@ -487,8 +475,6 @@ aes_cipher__zeroize__elements__zeroize_elements____3b2097f0eef5a37b_: # @aes_cip
 	i32.const	16
 	i32.sub 
 	local.tee	1
-	global.set	__stack_pointer
-	local.get	1
 	i64.const	0
 	i64.store	8
 	#APP
@@ -511,10 +497,6 @@ aes_cipher__zeroize__elements__zeroize_elements____3b2097f0eef5a37b_: # @aes_cip
 	i64.store	8
 	#APP
 	#NO_APP
-	local.get	1
-	i32.const	16
-	i32.add 
-	global.set	__stack_pointer
                                         # fallthrough-return
 	end_function
                                         # -- End function
@@ -9954,21 +9936,19 @@ aes_hybrid__batches__process_rest____2a076538018b6fb3_: # @aes_hybrid__batches__
 	.type	aes_cipher__zeroize__zeroize_words____fab3fa1ddd682008_,@function # -- Begin function aes_cipher__zeroize__zeroize_words____fab3fa1ddd682008_
 aes_cipher__zeroize__zeroize_words____fab3fa1ddd682008_: # @aes_cipher__zeroize__zeroize_words____fab3fa1ddd682008_
 	.functype	aes_cipher__zeroize__zeroize_words____fab3fa1ddd682008_ (i32) -> ()
-	.local  	i32, i64, i64, i32
+	.local  	i64, i32, i64, i32
 # %bb.0:                                # %start
+	i64.const	0
+	local.set	1
 	global.get	__stack_pointer
 	i32.const	16
 	i32.sub 
-	local.tee	1
-	global.set	__stack_pointer
-	i64.const	0
-	local.set	2
-	local.get	1
+	local.tee	2
 	i64.const	0
 	i64.store	8
 	#APP
 	#NO_APP
-	local.get	1
+	local.get	2
 	i64.load	8
 	local.set	3
 	#APP
@@ -9995,32 +9975,28 @@ aes_cipher__zeroize__zeroize_words____fab3fa1ddd682008_: # @aes_cipher__zeroize_
 	i32.add 
 	local.tee	4
 	i64.load8_u	0
-	local.set	2
+	local.set	1
 	local.get	0
 	i32.const	0
 	i32.const	1920
 	memory.fill	0
-	local.get	2
+	local.get	1
 	local.get	4
 	i64.load8_u	0
 	i64.and 
-	local.set	2
+	local.set	1
 .LBB37_3:                               # %aes_cipher__zeroize__observe____75b1955848bb803f_.exit
 	end_block                               # label105:
 	#APP
 	#NO_APP
-	local.get	1
+	local.get	2
 	i64.load	8
 	drop
-	local.get	1
 	local.get	2
+	local.get	1
 	i64.store	8
 	#APP
 	#NO_APP
-	local.get	1
-	i32.const	16
-	i32.add 
-	global.set	__stack_pointer
                                         # fallthrough-return
 	end_function
                                         # -- End function
@@ -14614,8 +14590,6 @@ aes_cipher__zeroize__elements__zeroize_elements____82a118249f09cfc6_: # @aes_cip
 	i32.const	16
 	i32.sub 
 	local.tee	1
-	global.set	__stack_pointer
-	local.get	1
 	i64.const	0
 	i64.store	8
 	#APP
@@ -14638,10 +14612,6 @@ aes_cipher__zeroize__elements__zeroize_elements____82a118249f09cfc6_: # @aes_cip
 	i64.store	8
 	#APP
 	#NO_APP
-	local.get	1
-	i32.const	16
-	i32.add 
-	global.set	__stack_pointer
                                         # fallthrough-return
 	end_function
                                         # -- End function

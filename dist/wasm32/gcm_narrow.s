@@ -171,8 +171,6 @@ aes_cipher__zeroize__elements__zeroize_elements____d3d1c9d97fea966e_: # @aes_cip
 	i32.const	16
 	i32.sub 
 	local.tee	2
-	global.set	__stack_pointer
-	local.get	2
 	i64.const	0
 	i64.store	8
 	#APP
@@ -316,10 +314,6 @@ aes_cipher__zeroize__elements__zeroize_elements____d3d1c9d97fea966e_: # @aes_cip
 	i64.store	8
 	#APP
 	#NO_APP
-	local.get	2
-	i32.const	16
-	i32.add 
-	global.set	__stack_pointer
                                         # fallthrough-return
 	end_function
                                         # -- End function
@@ -365,8 +359,6 @@ aes_cipher__zeroize__elements__zeroize_elements____3b2097f0eef5a37b_: # @aes_cip
 	i32.const	16
 	i32.sub 
 	local.tee	1
-	global.set	__stack_pointer
-	local.get	1
 	i64.const	0
 	i64.store	8
 	#APP
@@ -392,10 +384,6 @@ aes_cipher__zeroize__elements__zeroize_elements____3b2097f0eef5a37b_: # @aes_cip
 	i64.store	8
 	#APP
 	#NO_APP
-	local.get	1
-	i32.const	16
-	i32.add 
-	global.set	__stack_pointer
                                         # fallthrough-return
 	end_function
                                         # -- End function
@@ -17233,8 +17221,6 @@ aes_cipher__zeroize__elements__zeroize_elements____82a118249f09cfc6_: # @aes_cip
 	i32.const	16
 	i32.sub 
 	local.tee	1
-	global.set	__stack_pointer
-	local.get	1
 	i64.const	0
 	i64.store	8
 	#APP
@@ -17260,10 +17246,6 @@ aes_cipher__zeroize__elements__zeroize_elements____82a118249f09cfc6_: # @aes_cip
 	i64.store	8
 	#APP
 	#NO_APP
-	local.get	1
-	i32.const	16
-	i32.add 
-	global.set	__stack_pointer
                                         # fallthrough-return
 	end_function
                                         # -- End function
