@@ -21,11 +21,11 @@ WITH_TARGET = "b", "bl", "cbz", "cbnz", "tbz", "adrp"
 
 class Aarch64(Machine):
     """With the AAPCS64, in which the stack is aligned to 16 bytes and nothing below the stack pointer may be used."""
-    tools, objdump, only_wide = "aarch64-linux-gnu-", ("-M", "no-aliases"), None
+    tools, objdump, later = "aarch64-linux-gnu-", ("-M", "no-aliases"), None
     registers, stack_pointer, stack_step = X + ["sp"], "sp", 16
     vector_count, vector_size = 32, 16
     arguments, result = X[:8], "x0"
-    kept, kept_halves = X[19:30] + ["sp"], range(8, 16)
+    kept, kept_vectors = X[19:30] + ["sp"], dict.fromkeys(range(8, 16), 8)
     scratch = X[:19]
     red_zone = 0
     conditional, padding = r"b\.|cbn?z|tbn?z|adcs?\s|sbcs?\s|csinc\s.*, c[cs]\b", "nop|udf"

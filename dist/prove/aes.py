@@ -18,7 +18,9 @@ STATUSES = "DONE KEY_LENGTH NO_KEY UNEQUAL_COUNTS KEYSTREAM_END INVALID_COUNT RE
 STRUCTS = {"fotsgure_aes": (484, {"key_length": 0, "round_keys": 4}), "fotsgure_aes_ctr": (24, {"iv": 0, "position": 16}),
            "fotsgure_aes_cbc": (16, {"previous": 0})}
 STRUCT = 484
-KEPT_KEY = 244  # bytes with which a struct begins: the key's length, and the round keys for encryption
+# How builds keep round keys: bytes of room for a schedule, and how many a word takes. The narrow ones keep each bit twice, in planes, for
+# two blocks at once; these serve both directions.
+SCHEDULE, NARROW = (240, 4), (480, 8)
 
 # The low half of a counter, by its name: `word` and an offset i are that of block i. A call begins at block `first`. From block `wrap` on
 # it has wrapped around; later blocks than `last` don't occur.
@@ -30,10 +32,13 @@ PTRDIFF_MAX = (1 << 63) - 1
 
 class Keyed:
     """One build and one key size. `domain` is that of arbitrary round keys, `key_domain` that of an arbitrary key."""
-    library, prefix, struct_size, schedules, key_sizes = "aes", "aes", STRUCT, 2, (16, 24, 32)
+    library, prefix, schedules, key_sizes = "aes", "aes", 2, (16, 24, 32)
 
     def __init__(self, program, key_size):
         self.program, self.key_size = program, key_size
+        self.room, self.word = NARROW if program.narrow else SCHEDULE
+        self.kept_size = 4 + self.room  # the key's length, and the round keys for encryption
+        self.struct_size = self.size_of_struct()
         self.key_domain, self.domain = Domain(), Domain()
         self.key_aes, self.aes = Aes(self.key_domain), Aes(self.domain)
         self.key = [self.key_domain.fresh("key[%d]" % i, KEY) for i in range(key_size)]
@@ -95,6 +100,9 @@ class Keyed:
         return [self.domain.byte_in_block(bytes_[i % 16], i // 16 + 1) for i in range(start, start + count)]
 
     # The struct.
+    def size_of_struct(self):
+        return STRUCT
+
     def set_key(self, seed=None):
         """Expands a key into *aes (KeyExpansion, FIPS 197, 5.2). *aes may be uninitialized: none of it is read. .. every byte that neither
         a round key of the new key nor its length takes is 0. DONE if key_length is 16, 24 or 32"""
@@ -102,19 +110,19 @@ class Keyed:
 
     def stored_by(self, m):
         """Keeps what set_key has stored, as the same of any round keys: the key's length, and schedules of up to 60 words each."""
-        end = 4 + 240 * self.schedules
+        end = 4 + self.room * (1 if self.program.narrow else self.schedules)
         self.struct = [self.byte_for_any(b) for b in m.regions[self.library].content[:end]]
         if self.struct[:4] != [self.key_size, 0, 0, 0]:
             raise Unproved("the struct has another length")
-        for start in range(4, end, 240):
-            if any(self.struct[start + 4 * len(self.w):start + 240]):
+        for start in range(4, end, self.room):
+            if any(self.struct[start + self.word * len(self.w):start + self.room]):
                 raise Unproved("the struct holds more than round keys and zeros")
         return m
 
     def kept_key(self):
         """Of each bit of the first bytes of the struct: of which bits of round keys it is the sum. So structs of two libraries compare."""
         d = self.domain
-        return [(tuple(sorted(d.linear_part(x))) if x > 1 else (), x & 1) for b in self.struct[:KEPT_KEY] for x in d.bits(b)]
+        return [(tuple(sorted(d.linear_part(x))) if x > 1 else (), x & 1) for b in self.struct[:self.kept_size] for x in d.bits(b)]
 
     def expansion(self, after, **more):
         struct = Buffer(self.library, [self.key_domain.undefined] * self.struct_size, after)

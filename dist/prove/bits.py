@@ -83,9 +83,9 @@ class Domain:
         # with a name, the bits that it stands for and their cells.
         self.by_cells, self.ways, self.definitions, self.defined_by = {}, {}, {}, {}
         self.mixed, self.mixed_ids, self.mixed_xors, self.halves = [], {}, {}, {}
-        self.products, self.product_ids, self.product_xors, self.with_products = [], {}, {}, set()
+        self.products, self.product_ids, self.product_xors, self.product_ands, self.with_products = [], {}, {}, {}, set()
         self.linear_tables, self.linear_parts, self.column_parts, self.rows, self.row_keys = {}, {}, {}, {}, []
-        self.sums, self.factor_of, self.factor_cells = {}, {}, {}
+        self.sums, self.factor_of, self.factor_cells, self.factor_bits = {}, {}, {}, set()
         self.undefined = self.opaque(UNDEFINED)
 
     # Cells and bytes.
@@ -290,7 +290,8 @@ class Domain:
         for byte in self.with_products:
             del self.byte_ids[self.bits_of[byte]]
             self.bits_of[byte] = None
-        for known in self.products, self.product_ids, self.with_products, self.product_xors, self.shifted, self.linear_tables, self.sums:
+        for known in (self.products, self.product_ids, self.with_products, self.product_xors, self.product_ands, self.shifted,
+                      self.linear_tables, self.sums):
             known.clear()
 
     def factors(self, pairs):
@@ -312,6 +313,7 @@ class Domain:
                 cell = self.factor_cells.setdefault(i, len(self.names))
                 if cell == len(self.names):
                     self.cell("factor byte %d" % i, False, 0)
+                    self.factor_bits.update(self.bit(cell, table, 0) for table in LINEAR)
                 self.definitions[cell] = [x & ~1 for x in self.bits(byte)]
                 self.depends[cell] = functools.reduce(int.__or__, map(self.depends_on, self.bits(byte)))
                 for j, x in enumerate(self.definitions[cell]):
@@ -409,6 +411,8 @@ class Domain:
             return x
         if x ^ y == 1:
             return 0
+        if x & ~1 in self.factor_bits:
+            return self.dot([x], [y])
         key = (x & ~BLOCK, y & ~BLOCK)
         block = self.one_block((x, y))
         z = self.ands.get(key)
@@ -504,12 +508,23 @@ class Domain:
     def and_byte(self, a, b):
         if a < 256 and b < 256:
             return a & b
-        key = (a, b)
-        c = self.byte_ands.get(key)
+        key = self.with_factors(a, b) if self.factor_of else (a, b)
+        known = self.byte_ands if key == (a, b) else self.product_ands
+        c = known.get(key)
+        if c is None and 0 in key and self.opaque_of.get(a or b) == LOST:
+            c = 0
         if c is None:
             and_ = self.and_
-            c = self.byte_ands[key] = self.pack([and_(x, y) for x, y in zip(self.bits(a), self.bits(b))])
+            c = known[key] = self.pack([and_(x, y) for x, y in zip(*map(self.bits, key))])
         return c
+
+    def with_factors(self, a, b):
+        """Two bytes, with factors in the place of the bits of one of them, if they stand for all of these (name_factors). That one comes
+        first. (No bit of the other is 1, so a factor comes into products alone.)"""
+        for x, y in ((a, b), (b, a)) if a > 255 and b > 255 else ():
+            if 1 not in self.bits(y) and all(bit & ~1 in self.factor_of for bit in self.bits(x)):
+                return self.pack([self.factor_of[bit & ~1] | bit & 1 for bit in self.bits(x)]), y
+        return a, b
 
     def or_byte(self, a, b):
         return self.xor_byte(self.and_byte(self.xor_byte(a, 255), self.xor_byte(b, 255)), 255)

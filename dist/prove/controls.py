@@ -13,7 +13,7 @@ from bits import Unproved
 from faults import FAULTS, UNREACHED
 from long_faults import LONG_FAULTS
 from native import NEVER_ALONE, compare_all
-from processors import PROCESSORS
+from processors import MEANINGS, PROCESSORS
 from linking import BUILDS, assembled, source
 from prove import LIBRARIES, options_of, pool_of, statements
 
@@ -32,7 +32,7 @@ def verdict(what, prove, reason=""):
 def edited(text, label, pattern, new):
     """The text with the first match of a pattern in what stands behind a label replaced, and its line; or None."""
     at = re.search(r"(?m)^" + label, text)
-    found = at and re.compile(pattern).search(text, at.end(), text.index("\t.size", at.end()))
+    found = at and re.compile(pattern).search(text, at.end(), re.compile(r"\t?\.(?:size|seh_endproc)").search(text, at.end()).start())
     if not found:
         return None, 0
     put = new(found) if callable(new) else found.expand(new)
@@ -49,7 +49,7 @@ def refuse_unreached(build, program, function):
 def faults(options, build):
     """Plants the faults of one text, and tries of each the case that has to refuse it, or that has to leave it uncovered."""
     text, out = open(source(options.dist, build)).read(), "%s/controls_%s" % (options.out, build.replace("/", "_"))
-    keyed = LIBRARIES[build.split("/")[1].removesuffix("_v3")][0](assembled(build, source(options.dist, build), out), 16)
+    keyed = LIBRARIES[build.split("/")[1][:3]][0](assembled(build, source(options.dist, build), out), 16)
     keyed.set_key()
     cases = dict(statements(keyed, argparse.Namespace(dist=options.dist, all=False, only=""), 0, 1), set_key=None)
     verdicts, unreached = [], UNREACHED.get(build, [])
@@ -132,7 +132,7 @@ def main():
     options, refused, missed = options_of(__doc__), 0, 0
     tries = [(faults, build) for build in {**FAULTS, **LONG_FAULTS} if build in options.builds]
     if not options.only:
-        tries += [(wrong_meanings, machine) for machine in PROCESSORS if not PROCESSORS[machine].missing()]
+        tries += [(wrong_meanings, machine) for machine in set(MEANINGS.values()) if not PROCESSORS[machine].missing()]
     with pool_of(options.jobs) as pool:
         for tried in [pool.submit(function, options, of) for function, of in tries]:
             for good, text in tried.result():

@@ -36,12 +36,15 @@ BLOCKS, BLOCKS_TO, BLOCKS_WITH, CBC, CBC_BACK, KEYSTREAM_TO = (exported("aes_" +
     "encrypt_blocks", "encrypt_blocks_to", "encrypt_blocks_with", "cbc_encrypt", "cbc_decrypt", "add_keystream_to"))
 ONE_PRODUCT, TWO_PRODUCTS = (function("gcm::multiples::Multiples::" + name) for name in ("block_product", "two_products"))
 COMPARE, GCTR = function("gcm::mode::is_expected"), function("gcm::gctr::add_gctr")
+FEW_BLOCKS, ROUNDS_ON_PLANES = (function("aes_narrow::blocks::" + name) for name in ("process_few", "process_state"))
+BIT_BY_BIT = function("gcm::bitwise::product_bitwise")
 ROUND, CMAC_TAG, CMAC_COMPARE, CCM_SEAL, CCM_OPEN = (function(path) for path in (
     "aes_c::single_rounds::round", "cmac::tags::tag", "cmac::tags::is_tag_start", "ccm::mode::encrypt", "ccm::mode::decrypt"))
 CCM_STREAM, MEMSET = call("aes_ctr::add_in_batches::add_keystream"), r"\tcallq\t\*memset.*\n"
 BEGIN, FINISH, ENCRYPT, OPEN = (exported("gcm_" + name) for name in ("begin", "finish", "encrypt", "open"))
 DERIVE, APPLY, OPEN_IN = (function(path) for path in ("gcm_siv::keys::derive", "gcm_siv::message::apply", "gcm_c::siv::open_in"))
-WIPE_STACK, WIPE_WORDS, WIPED = (call("aes_cipher::zeroize::" + name) for name in ("stack::wipe_stack", "zeroize_words", r"[\w.:]+"))
+WIPE_STACK, WIPE_WORDS, WIPED, WIPE_ELEMENTS = (call("aes_cipher::zeroize::" + name) for name in (
+    "stack::wipe_stack", "zeroize_words", r"[\w.:]+", "elements::zeroize_elements"))
 ENTRY = r"((?:#|//) %bb.0:.*\n)"  # where a function begins
 END = r"(\tretq\n)(\.L\w*func_end)"  # and where it ends
 # Where a counter's halves are added up: %1 and %2, and the registers of the lower and the higher half.
@@ -217,6 +220,30 @@ FAULTS = {
             found[1], found[0].rpartition("%")[2], low("r" + found[2].lstrip("r").removesuffix("d"), "w")), "seal 13 33"),
         ("a refused text not encrypted again", OPEN_IN, r"(testl\t%(\w+), %\2\n)\tje\t", r"\1\tjmp\t", "open 1 1"),
         ("a refused output of AES-GCM-SIV without zeros", exported("gcm_siv_open_to"), MEMSET, "", "open 13 33 _to"),
+    ],
+    "x86_64/aes_v1": [
+        ("a shift count of a transposition", FEW_BLOCKS, r"(sh[lr]l)\t\$2, ", r"\1\t$3, ", "blocks encrypt 2"),
+        ("a gate of the S-box's circuit", ROUNDS_ON_PLANES, r"\tandl\t", "\torl\t", "blocks encrypt 2"),
+        ("an instruction that the first processors lack", BLOCKS, ENTRY, r"\1\tpshufb\t%xmm0, %xmm0\n", "blocks encrypt 2"),
+        ("planes of the round keys left on the stack", BLOCKS, ENTRY, r"\1\tmovups\t4(%rdi), %xmm0\n" + LEFT, "blocks encrypt 2"),
+        ("the schedule of a call under a key not wiped", BLOCKS_WITH, WIPE_ELEMENTS, "", "blocks encrypt 1 _with"),
+    ],
+    "x86_64/gcm_v1": [
+        ("GHASH: the sum of 127 multiples", BIT_BY_BIT, r"\$128, ", "$127, ", "seal 13 33"),
+        ("GHASH: another bit of R", BIT_BY_BIT, r"\$-2233785415175766016, ", "$-2233785415175766015, ", "seal 13 33"),
+        ("GHASH: a mask of the bit behind", BIT_BY_BIT, r"sarq\t\$63, ", "sarq\t$62, ", "seal 13 33"),
+        ("GHASH: a branch on a bit of a block", BIT_BY_BIT, r"(\tsarq\t\$63, %\w+\n)", r"\1\tje\t77f\n77:\n", "seal 13 33"),
+    ],
+    "x86_64/siv_v1": [
+        ("POLYVAL: a mask of the bit behind", BIT_BY_BIT, r"sarq\t\$63, ", "sarq\t$62, ", "seal 13 33"),
+    ],
+    "windows_x86_64/aes": [
+        ("a vector register of the caller not restored", BLOCKS, r"\tmovaps\t.*\(%rsp\), %xmm8.*\n", "", "blocks encrypt 2"),
+        ("rdi not restored", BLOCKS, ENTRY, r"\1\txorl\t%edi, %edi\n", "blocks encrypt 2"),
+        ("a value in the room of a called function", WIPE, r"(\tcallq\tmemset\n)",
+         r"\tmovq\t%rdi, 8(%rsp)\n\tmovq\t%rbx, 16(%rsp)\n\1\tmovq\t8(%rsp), %rdi\n\tmovq\t16(%rsp), %rbx\n", "wipe"),
+        ("a value below the stack pointer", BLOCKS, ENTRY, r"\1\tmovq\t%rcx, -8(%rsp)\n", "blocks encrypt 2"),
+        ("a function that another library may have", BLOCKS, ENTRY, r"\1\tleaq\thook(%rip), %rax\n\tcallq\t*%rax\n", "blocks encrypt 2"),
     ],
     "aarch64/aes": [
         ("a branch on data", LANES, r"(\tldp\tq(\d+), q\d+, .*\n)", r"\1\tfmov\tx22, d\2\n\tcbz\tx22, 77f\n77:\n", "blocks encrypt 2"),

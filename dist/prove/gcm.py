@@ -6,8 +6,7 @@ import functools
 import itertools
 from collections import namedtuple
 
-from aes import (BATCH, DONE, KEPT_KEY, NEVER, PTRDIFF_MAX, STRUCT as AES_STRUCT, CounterWord, Keyed, between, lengths_but, nothing,
-                 unequal, unread)
+from aes import BATCH, DONE, NEVER, PTRDIFF_MAX, STRUCT as AES_STRUCT, CounterWord, Keyed, between, lengths_but, nothing, unequal, unread
 from bits import DATA, KEY, PUBLIC
 from calls import ANY, Buffer, Call, Stream
 from linear import WORD, unknown
@@ -18,7 +17,7 @@ STATUSES = ("DONE KEY_LENGTH NO_KEY NONCE_LENGTH TAG_LENGTH TOO_LONG REFUSED NON
 _, KEY_LENGTH, NO_KEY, NONCE_LENGTH, TAG_LENGTH, TOO_LONG, REFUSED, NONCES_END, OUT_OF_TURN, _, UNEQUAL_LENGTHS = range(11)
 STRUCTS = {"fotsgure_gcm": (1780, {"key_length": 0, "round_keys": 4, "multiples": 244}), "fotsgure_gcm_counter": (12, {"next": 0}),
            "fotsgure_gcm_message": (80, {"additional": 0, "text": 8, "decrypted": 16, "phase": 24, "first": 32, "value": 48, "rest": 64})}
-STRUCT, MESSAGE = 1780, 80
+MULTIPLES, MESSAGE = 1536, 80
 NONE, ADDITIONAL, ENCRYPTING, VERIFYING, DECRYPTING = range(5)  # phases of a message
 MOST, MOST_ADDITIONAL, MOST_NONCE = 2 ** 36 - 32, 2 ** 61 - 1, 2 ** 61 - 1
 
@@ -36,7 +35,7 @@ class Hashing:
         self.keyed, self.value, self.plan, self.made = keyed, value, [], made
 
     def take(self, groups):
-        for group in groups:
+        for group in groups if not self.keyed.program.narrow else ([block] for group in groups for block in group):
             if any(self.value) or any(map(any, group)):
                 self.made += 1
                 after = self.keyed.of(self.keyed.hash_value, self.made)
@@ -65,18 +64,21 @@ PreCounter = namedtuple("PreCounter", "bytes counter hashing arguments")
 
 class KeyedGcm(Keyed):
     """key_length, wipe and what set_key refuses are stated in aes.py: these sentences of the two headers are alike."""
-    library, prefix, struct_size, schedules = "gcm", "gcm", STRUCT, 1
+    library, prefix, schedules = "gcm", "gcm", 1
 
     def __init__(self, program, key_size):
         super().__init__(program, key_size)
         d = self.domain
-        self.powers = [[d.fresh("H^%d byte %d" % (n, i), KEY) for i in range(16)] for n in (1, 2, 3)]
+        self.powers = [[d.fresh("H^%d byte %d" % (n, i), KEY) for i in range(16)] for n in self.kept_powers()]
         self.nonce = [d.fresh("nonce byte %d" % i, PUBLIC) for i in range(12)]
         self.pre_counter = [d.fresh("J_0 byte %d" % i, KEY | PUBLIC) for i in range(12)]
         block = lambda name, depends: [d.fresh("%s byte %d" % (name, i), depends, True) for i in range(16)]
         self.text, self.sealed, self.tag = (block(name, DATA) for name in ("text", "encrypted", "tag"))
         self.additional_bytes, self.long_nonce = block("additional", DATA), block("long nonce", PUBLIC)
         self.hash_value, self.rest = block("hash", KEY | DATA), block("rest", KEY | DATA)
+
+    def kept_powers(self):
+        return (1,) if self.program.narrow else (1, 2, 3)
 
     def with_powers(self, blocks):
         """X_1 H^m + .. + X_m H, and factors named so that the same cells come with the same power."""
@@ -86,40 +88,44 @@ class KeyedGcm(Keyed):
             sums[tuple(factors)] = functools.reduce(self.aes.xor, products)
         return sums[tuple(factors)]
 
-    # The struct.
+    # The struct. What these builds don't keep of it they neither read nor write.
+    def size_of_struct(self):
+        return self.kept_size + (16 if self.program.narrow else MULTIPLES)
+
     def set_key(self, seed=None):
         """Prepares a key in *gcm (KeyExpansion, FIPS 197, 5.2; H, SP 800-38D, 7.1). *gcm may be uninitialized: none of it is read. Nothing
         of what it held is left. DONE if key_length is 16, 24 or 32"""
         d, e = self.key_domain, self.domain
         h = self.key_aes.cipher(ZEROS, self.key_words)
-        p = [[d.fresh("H^%d byte %d" % (n, i), KEY) for i in range(16)] for n in (1, 2, 3)]
+        p = [[d.fresh("H^%d byte %d" % (n, i), KEY) for i in range(16)] for n in self.kept_powers()]
 
         def steps():
             yield "hash", h, p[0]
-            for n in (0, 1):
-                yield "hash", functools.partial(product, d, p[n], p[0]), p[n + 1]
+            for power, after in zip(p, p[1:]):
+                yield "hash", functools.partial(product, d, power, p[0]), after
         m = self.stored_by(self.proved(self.expansion(ANY, steps=steps), seed))
         meaning = {d.cell_of(b)[0]: e.bits(c) for x, y in zip(p, self.powers) for b, c in zip(x, y)}
-        self.struct += [e.pack([e.linear_image(x, meaning.__getitem__, d) for x in d.bits(b)]) for b in m.regions["gcm"].content[244:]]
+        self.struct += [e.pack([e.linear_image(x, meaning.__getitem__, d) for x in d.bits(b)]) for b in m.regions["gcm"].content[self.kept_size:]]
         return m
 
     def key_of_blocks(self):
         """struct fotsgure_aes as fotsgure_aes_set_key makes it: it begins as struct fotsgure_gcm does. (prove.py compares what both libraries
         store.) What follows isn't read."""
-        return Buffer("aes", self.struct[:KEPT_KEY] + self.undefined(AES_STRUCT - KEPT_KEY))
+        return Buffer("aes", self.struct[:self.kept_size] + self.undefined(AES_STRUCT - self.kept_size))
 
     def set_key_of(self):
         """The same with the key of *aes, a struct of fotsgure_aes.h .. DONE if *aes holds a key"""
         def steps():
             yield "hash", self.aes.cipher(ZEROS, self.w), self.powers[0]
-            for n in (0, 1):
-                yield "hash", functools.partial(self.with_powers, [self.powers[n]]), self.powers[n + 1]
-        gcm = Buffer("gcm", self.undefined(STRUCT), self.struct, secret=True)
+            for power, after in zip(self.powers, self.powers[1:]):
+                yield "hash", functools.partial(self.with_powers, [power]), after
+        gcm = Buffer("gcm", self.undefined(self.struct_size), self.struct, secret=True)
         return Call("gcm_set_key_of", [gcm, self.key_of_blocks()], DONE, steps=steps)
 
     def set_key_of_none(self):
         """.. else NO_KEY, and *gcm then is all zeros and holds no key."""
-        return Call("gcm_set_key_of", [Buffer("gcm", self.undefined(STRUCT), [0] * STRUCT), Buffer("aes", [0] * AES_STRUCT)], NO_KEY)
+        gcm = Buffer("gcm", self.undefined(self.struct_size), [0] * self.struct_size)
+        return Call("gcm_set_key_of", [gcm, Buffer("aes", [0] * AES_STRUCT)], NO_KEY)
 
     def wipe_message(self):
         """Overwrites *message with zeros: there is no message then. It may be uninitialized."""

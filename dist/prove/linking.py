@@ -10,13 +10,14 @@ from aarch64 import Aarch64
 from bits import Domain, Unproved
 from elf import DEFAULT, GLOBAL, GROUP, HIDDEN, LOCAL, SYMBOLS, UNDEFINED, Comparison, Elf
 from machine import LIBC, Pointer, Program, Region
-from x86_64 import X86_64
+from x86_64 import X86_64, Windows
 
 HOST = "start", "area", "odd"  # names of host.c
 HERE = os.path.dirname(os.path.abspath(__file__))
 # Those that take longest come first. siv: the calls of AES-GCM-SIV in gcm.s
 BUILDS = {"%s/%s%s" % (folder, library, wide): machine for library in ("gcm", "siv", "aes") for folder, machine, wide in (
-    ("aarch64", Aarch64, ""), ("x86_64", X86_64, ""), ("x86_64", X86_64, "_v3"))}
+    ("aarch64", Aarch64, ""), *((folder, machine, wide) for folder, machine in (("x86_64", X86_64), ("windows_x86_64", Windows))
+                               for wide in ("", "_v3", "_v1")))}
 MACHINES = {build.split("/")[0]: machine for build, machine in BUILDS.items()}
 
 
@@ -39,16 +40,26 @@ def source(dist, build):
 
 def library_of(build):
     """aes or gcm"""
-    return text_of(build).split("/")[1].removesuffix("_v3")
-
-
-def is_wide(build):
-    return build.endswith("_v3")
+    return re.sub("_v[13]$", "", text_of(build).split("/")[1])
 
 
 def suffix_of(build):
     """What the names of a build end with in a static library, which for x86-64 holds several."""
-    return "" if BUILDS[build].only_wide is None else "_v3" if is_wide(build) else "_v2"
+    return "" if BUILDS[build].later is None else build[-3:] if build[-3:] in ("_v1", "_v3") else "_v2"
+
+
+def is_narrow(build):
+    """Whether it is one for processors that have no byte shuffle: it keeps keys in another form (aes.py), and has no tables for GHASH."""
+    return build.endswith("_v1")
+
+
+def is_windows(build):
+    return BUILDS[build] is Windows
+
+
+def takes_few(build):
+    """Whether it is proved at a few lengths, as its text is compiled from what others are (prove.py)."""
+    return is_narrow(build) or is_windows(build)
 
 
 # What the Makefile builds.
@@ -59,7 +70,8 @@ class Built:
         self.folder, self.machine, self.out = folder, MACHINES[folder], by_user or "%s/built/%s" % (out, folder)
         self.members = "%s/members/%s" % (out, folder)
         if not by_user:  # (Nothing that was said for another compiler)
-            run("make", "-s", "-f", dist + "/Makefile", "OUT=" + self.out, "CC=" + self.machine.tools + "gcc", "static", "shared",
+            what = ["static"] if self.machine is Windows else ["static", "shared"]
+            run("make", "-s", "-f", dist + "/Makefile", "OUT=" + self.out, "CC=" + self.machine.tools + "gcc", *what,
                 env={"PATH": os.environ["PATH"]})
 
     @functools.lru_cache(None)
@@ -84,7 +96,7 @@ class Built:
     def shared(self, library):
         """The shared libraries, each with the objects that it should have: [(path, {name of an export: its name there}, objects)]."""
         whole, wide = (glob.glob("%s/%slibfotsgure_%s.so.*" % (self.out, folder, library)) for folder in ("", "glibc-hwcaps/x86-64-v3/"))
-        if not self.machine.only_wide:
+        if not self.machine.later:
             one = self.object_of("%s/%s" % (self.folder, library))
             return [(path, exports_of(one, ""), [one]) for path in whole]
         members = self.archive(library)
@@ -105,7 +117,7 @@ def compared(library, exports, objects):
 def rust_cases(dist, out, objects):
     """A text that a Rust crate may hold, which assembles it with `in_rust`, has the same then. objects: {build: its member}"""
     for build, member in objects.items():
-        if "siv" not in build and is_for_rust(source(dist, build)):
+        if "siv" not in build and is_for_rust(source(dist, build)) and not is_windows(build):
             try:
                 compare_in_rust(build, source(dist, build), member, "%s/%s" % (out, build.replace("/", "_")))
                 fault = ""
@@ -145,9 +157,11 @@ def built_cases(built):
 # What the proof runs.
 def program_of(build, path, out):
     """An object of a build, linked by itself."""
-    refuse_names(path, suffix_of(build))
+    (refuse_names_of_windows if is_windows(build) else refuse_names)(path, suffix_of(build))
     program = linked(out, BUILDS[build], [path], suffix_of(build))
-    refuse_instructions(program, is_wide(build))
+    program.narrow = is_narrow(build)
+    program.most = 0 if is_windows(build) else 1 if takes_few(build) else None  # how many lengths besides a few it takes (prove.py)
+    refuse_instructions(program, suffix_of(build))
     return program
 
 
@@ -155,6 +169,8 @@ def assembled(build, text, out):
     """The same of a text, assembled in each way of the Makefile: the names are to differ, and nothing else."""
     tools, suffix = BUILDS[build].tools, suffix_of(build)
     run(tools + "gcc", *["-Wa,-defsym,chosen=1"] * bool(suffix), "-c", text, "-o", out + ".o")
+    if is_windows(build):
+        return program_of(build, out + ".o", out)
     refuse_names(out + ".o", suffix)
     if suffix:
         run(tools + "gcc", "-c", text, "-o", out + ".plain.o")
@@ -171,9 +187,47 @@ def linked(out, machine, objects, suffix=""):
     # (A function of the host may not become a call of itself.)
     host = out + ".host.o"
     run(machine.tools + "gcc", "-O2", "-fno-tree-loop-distribute-patterns", "-c", HERE + "/host.c", "-o", host)
+    if machine is Windows:
+        link_for_windows(out, machine, [host, *objects])
+        return Program(out, machine, suffix)
     run(machine.tools + "ld", "-static", "-e", "start", "--build-id=none", "-z", "noexecstack", "-Ttext-segment=0x123456700000",
         host, *objects, "-o", out)
     return Program(out, machine, suffix)
+
+
+# Windows' linker needs room between sections. Tables for unwinding are left out.
+WINDOWS_LAYOUT = """SECTIONS {
+    . = 0x123456701000; .text : { *(.text*) }
+    . = ALIGN(4096); .rdata : { *(.rdata*) }
+    . = ALIGN(4096); .data : { *(.data*) }
+    . = ALIGN(4096); .bss : { *(.bss*) *(COMMON) }
+    /DISCARD/ : { *(.pdata*) *(.xdata*) }
+}"""
+
+
+def link_for_windows(out, machine, objects):
+    """Objects at such addresses by Windows' linker, and the same as an ELF file. (The function that touches the stack does nothing here.)"""
+    with open(out + ".ld", "w") as file:
+        file.write(WINDOWS_LAYOUT)
+    run(machine.tools + "ld", "-e", "start", "--image-base", "0x123456700000", "--defsym", "___chkstk_ms=start", "-T", out + ".ld",
+        *objects, "-o", out + ".exe")
+    run("objcopy", "-I", "pei-x86-64", "-O", "elf64-x86-64", out + ".exe", out)
+
+
+def refuse_names_of_windows(path, suffix):
+    """The same of an object for Windows: of what `nm` says of its symbols, T is a function of ours, U one of others, and small letters are
+    names that no other file sees."""
+    symbols = re.findall(r"(?m)^[0-9a-f ]{16} (\w) (\S+)$", run(Windows.tools + "nm", path))
+    ours = lambda name: name.startswith("fotsgure_") and name.endswith(suffix)
+    known = {*LIBC, *Windows.also_called}
+    others = [name for kind, name in symbols if not (
+        kind.islower() and kind not in "wv" and not ours(name) and name not in {*LIBC, *HOST} or kind == "T" and ours(name)
+        or kind == "U" and name in known)]
+    if others or "LINK_ONCE" in run(Windows.tools + "objdump", "-h", path):
+        raise Unproved("depends on what else is linked: " + ", ".join(others))
+    names = [name for kind, name in symbols if kind == "T"]
+    if len(set(names)) != len(names):
+        raise Unproved("defines a name twice")
 
 
 def refuse_names(path, suffix):
@@ -193,12 +247,13 @@ def refuse_names(path, suffix):
         raise Unproved("defines a name that is taken: " + ", ".join(sorted(taken)))
 
 
-def refuse_instructions(program, wide):
+def refuse_instructions(program, suffix):
     """An instruction that isn't covered, or that not all processors of the build have; and a function that no export leads to."""
     functions = program.functions()
+    later = [] if not suffix else program.machine.later[int(suffix[2]) - 1:]
     for address in (address for addresses in functions.values() for address in addresses):
         name = program.decoded(address).name
-        if not wide and program.machine.only_wide and re.fullmatch(program.machine.only_wide, name):
+        if any(re.fullmatch(pattern, name) for pattern in later):
             raise Unproved("has an instruction that not all of its processors have: " + program.lines[address])
     function_of = {address: name for name, addresses in functions.items() for address in addresses}
     mentioned = lambda name: {function_of.get(int(target, 16)) for address in functions[name]
@@ -215,15 +270,15 @@ def refuse_instructions(program, wide):
 
 # The exports of a static library, which holds three builds: each jumps to the function of one, by what was found of the processor.
 def choice_cases(built, dist, out):
-    for library in filter(built.has, ("aes", "gcm")) if built.machine.only_wide else ():
+    for library in filter(built.has, ("aes", "gcm")) if built.machine.later else ():
         objects = [path for name, path in built.archive(library).items() if name != "seal_random.o"]
-        program, wrong = linked("%s/choose_%s" % (out, library), X86_64, objects), []
+        program, wrong = linked("%s/choose_%s_%s" % (out, built.folder, library), built.machine, objects), []
         declared = parameters("%s/include/fotsgure_%s.h" % (dist, library))
-        names = sorted(name for name in exports_of(built.archive(library)["choose_%s.o" % library], "") if name.startswith("fotsgure_"))
+        names = sorted({*declared} & {*program.exports})
         for name in names:
             wrong += [name + suffix for found, suffix in ((1, "_v1"), (2, "_v2"), (3, "_v3"))
                       if not leads(program, name, declared[name], found, suffix)]
-        yield "choose_%s.o: %d exports, each to the three builds" % (library, len(names)), ", ".join(wrong)
+        yield "choose_%s.o of %s: %d exports, each to the three builds" % (library, built.folder, len(names)), ", ".join(wrong)
 
 
 def parameters(header):
@@ -237,7 +292,7 @@ def leads(program, name, count, found, suffix):
     """Whether an export jumps to the function with this suffix, with its caller's arguments, some on the stack, and registers."""
     domain, arguments = Domain(), [Pointer("argument %d" % k, 0) for k in range(12)]
     program.constants.append((program.symbols["known"], [found, 0, 0, 0]))
-    m = X86_64(domain, program, {"stack": Region([domain.undefined] * 504, align=16)}, program.symbols[name], arguments)
+    m = program.machine(domain, program, {"stack": Region([domain.undefined] * 504, align=16)}, program.symbols[name], arguments)
     before, stack, top = dict(m.general), m.regions["stack"].content[m.top:], m.top
     m.top += len(stack)  # a function may write to the arguments that it is given
     while m.next_address not in [program.symbols[name + build] for build in ("_v1", "_v2", "_v3")]:

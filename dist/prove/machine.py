@@ -7,11 +7,14 @@ Machine, in a file of its own (x86_64.py, aarch64.py), that says:
 
     tools                  what the names of gcc, ld, objdump and nm begin with
     objdump                the options with which it prints what `decode` reads
-    only_wide              a pattern of the instructions that only a build _v3 may have; None where there is no such build
+    later                  patterns of the instructions that only builds from _v2, and from _v3 on may have; None where there is one build
     registers, stack_pointer, vector_count, vector_size     registers of 8 bytes by their names, vector registers by their numbers
     arguments, result      the registers of the ABI; more arguments are on the stack, 8 bytes each, above what a call pushes: `pushed`
-    kept, kept_halves      the registers that a function restores, and the vector registers whose low halves it does
+    kept                   the registers that a function restores
+    kept_vectors           how many bytes it restores of vector registers, by their numbers
+    shadow                 bytes above what a call pushes that are the called function's, below the arguments on the stack
     scratch                those that libc's functions may change
+    also_called            a function of the compiler's library that only touches the stack
     red_zone               bytes below the stack pointer that a function may use
     stack_step             what the stack pointer has to be a multiple of where it is the base of an access
     conditional, padding        how a line of objdump begins that is a conditional jump or adds a carry, or fills up space between others
@@ -290,7 +293,7 @@ class Program:
         out, name = {}, ""
         for address, line in self.lines.items():
             name = starts.get(address, name)
-            if name not in ("start", *LIBC) and not re.match(self.machine.padding, line):
+            if name not in ("start", *LIBC, *self.machine.also_called) and not re.match(self.machine.padding, line):
                 out.setdefault(name, set()).add(address)
         return out
 
@@ -321,7 +324,7 @@ class Program:
 
 
 class Machine:
-    pushed, kept_halves, stack_step = (), (), 1
+    pushed, kept_vectors, shadow, stack_step, also_called = (), {}, 0, 1, ()
 
     def __init__(self, domain, program, regions, entry, arguments):
         """regions: {name: Region}, among them "stack": what is below the return address. (`enter` adds what the caller has put there.)"""
@@ -330,7 +333,7 @@ class Machine:
         self.vectors = [[domain.undefined] * self.vector_size for _ in range(self.vector_count)]
         self.flags = dict.fromkeys("czso")
         self.next_address, self.last, self.steps, self.used = entry, entry, 0, {}
-        self.externals = {program.symbols[n]: n for n in LIBC if n in program.symbols}
+        self.externals = {program.symbols[n]: n for n in (*LIBC, *self.also_called) if n in program.symbols}
         self.lost = set()  # opaque bytes that may depend on the key: they count as such where they are left
         self.origins = {}  # what a result depended on, by the (cell, block) that took its place (calls.step_by_step)
         self.native, self.after_external = None, None  # for native.py
@@ -355,10 +358,16 @@ class Machine:
         self.general.update(zip(self.arguments, arguments))
         stack = self.regions["stack"].content
         at = len(stack)
-        stack += [b for v in (*self.pushed, *arguments[len(self.arguments):]) for b in self.to_bytes(v, 8)]
+        stack += [b for v in self.pushed for b in self.to_bytes(v, 8)] + [self.domain.undefined] * self.shadow
+        stack += [b for v in arguments[len(self.arguments):] for b in self.to_bytes(v, 8)]
         self.general[self.stack_pointer] = Pointer("stack", at)
-        for n in self.kept_halves:
-            self.vectors[n][:8] = self.to_bytes(Pointer("the caller's d%d" % n, 0), 8)
+        for n, size in self.kept_vectors.items():
+            self.vectors[n][:size] = self.callers(n)
+
+    def callers(self, n):
+        """What a vector register has for the caller."""
+        words = [Pointer("the caller's vector %d" % n, k) for k in range(0, self.kept_vectors[n], 8)]
+        return joined(self.to_bytes(word, 8) for word in words)
 
     # Values.
     def to_bytes(self, value, size):
@@ -775,6 +784,15 @@ class Machine:
             b = [d.xor_byte(y, 255) for y in b]
         return list(map(d.and_byte if name[0] == "a" else d.or_byte, a, b))
 
+    def either(self, x, y):
+        """Bytes of vectors, with "or"; where that can't be done, a byte that may only be masked out."""
+        try:
+            return self.domain.or_byte(x, y)
+        except (Undefined, Pause):
+            raise
+        except Unproved:
+            return self.any_byte()
+
     def logic(self, name, x, y, size):
         """The same of values."""
         if is_int(x, y):
@@ -1049,9 +1067,9 @@ class Machine:
         for r in self.kept:
             if self.general[r] != self.entered[r]:
                 raise Unproved("%s isn't restored" % r)
-        for n in self.kept_halves:
-            if self.from_bytes(self.vectors[n][:8]) != Pointer("the caller's d%d" % n, 0):
-                raise Unproved("d%d isn't restored" % n)
+        for n, size in self.kept_vectors.items():
+            if self.vectors[n][:size] != self.callers(n):
+                raise Unproved("vector register %d isn't restored" % n)
 
     def step(self):
         self.last, self.steps = self.next_address, self.steps + 1
@@ -1081,10 +1099,15 @@ class Machine:
 
     def external(self, name):
         """A call of libc by its contract. What it may leave in registers is undefined."""
+        if name in self.also_called:
+            self.set_flags()
+            return self.leave()
         if (self.general[self.stack_pointer].offset + 8 * len(self.pushed)) % 16:
             raise Unproved("the stack isn't aligned at a call")
         stack = self.general[self.stack_pointer].offset
         self.stale.update(range(stack - self.red_zone, stack))
+        if self.shadow and stack != self.top:  # (else it is called in the place of this call, whose caller has left room)
+            self.store(Pointer("stack", stack + 8 * len(self.pushed)), [self.domain.undefined] * self.shadow)
         to, source, count = (self.general[r] for r in self.arguments[:3])
         if isinstance(count, Linear) and name != "memset":
             self.copy_all(to, source, count)
@@ -1099,7 +1122,7 @@ class Machine:
             self.general[r] = (self.domain.undefined,) * 8
         self.general[self.result] = to
         for n, v in enumerate(self.vectors):
-            kept = v[:8] if n in self.kept_halves else []
+            kept = v[:self.kept_vectors.get(n, 0)]
             self.vectors[n] = kept + [self.domain.undefined] * (self.vector_size - len(kept))
         self.set_flags()
         self.leave()

@@ -12,7 +12,7 @@ import time
 
 from aarch64 import Aarch64
 from bits import Unproved
-from x86_64 import X86_64
+from x86_64 import X86_64, Windows
 
 
 class Beside:
@@ -182,4 +182,5 @@ class Emulator(Beside):
         self.folder.cleanup()
 
 
-PROCESSORS = {X86_64: Processor, Aarch64: Emulator}
+PROCESSORS = {X86_64: Processor, Windows: Processor, Aarch64: Emulator}
+MEANINGS = {X86_64: X86_64, Windows: X86_64, Aarch64: Aarch64}  # whose instructions a machine has

@@ -13,7 +13,7 @@ from machine import Number
 from standards import ZEROS, dot, mulx_ghash, padded, product
 
 STRUCTS = {"fotsgure_gcm_siv": (484, {"key_length": 0, "round_keys": 4})}
-STRUCT, MOST = 244, 2 ** 36  # what these builds keep of the struct; the rest of it they neither read nor write
+MOST = 2 ** 36
 FEW = 160  # so many bytes are hashed block by block; of more, three blocks at once
 
 
@@ -24,7 +24,10 @@ def little(n, size):
 
 class KeyedSiv(KeyedGcm):
     """wipe and what set_key refuses are stated in aes.py."""
-    library, prefix, struct_size, key_sizes = "siv", "gcm_siv", STRUCT, (16, 32)
+    library, prefix, key_sizes = "siv", "gcm_siv", (16, 32)
+
+    def size_of_struct(self):
+        return self.kept_size
 
     def set_key(self, seed=None):
         """Prepares a key in *siv (KeyExpansion, FIPS 197, 5.2). *siv may be uninitialized: none of it is read. Nothing of what it held is
@@ -49,7 +52,7 @@ class KeyedSiv(KeyedGcm):
         h, x = keys[:16], self.of(self.text, 0)
         factor = mulx_ghash(d, h[::-1])
         compare(d, dot(d, x, h)[::-1], product(d, x[::-1], factor), "a product of appendix A")
-        self.powers = [factor] + [self.fresh("power %d" % n, KEY) for n in (2, 3)]
+        self.powers = [factor] + [self.fresh("power %d" % n, KEY) for n in self.kept_powers()[1:]]
         counter = [d.fresh("tag byte %d, as a counter" % i, DATA, True) for i in range(4)]
         d.numbers.update({d.cell_of(b)[0]: (k, counter) for k, b in enumerate(counter)})
         d.words["counter of the tag"] = lambda offset, k: d.bits(d.byte_in_block(counter[k], offset + 1))
@@ -63,7 +66,7 @@ class KeyedSiv(KeyedGcm):
         d = self.domain
         of = {d.cell_of(w)[0]: b for w, b in zip(sum(self.w, []), sum(words, []))}
         image = lambda x: d.linear_image(x, lambda cell: d.bits(of[cell]), d)
-        return [d.pack([image(x) for x in d.bits(s)]) for s in self.struct[4:4 + 4 * len(words)]]
+        return [d.pack([image(x) for x in d.bits(s)]) for s in self.struct[4:4 + self.word * len(words)]]
 
     def derivation(self, few):
         """derive_keys (4): blocks of a number of 32 bits, the lowest byte first, and the nonce."""

@@ -18,7 +18,8 @@ ALIGNED, UNALIGNED = ("movdqa", "movaps", "vmovdqa", "vmovaps"), ("movdqu", "mov
 
 class X86_64(Machine):
     """With the System V ABI, in which the stack is aligned to 16 bytes before the return address is pushed."""
-    tools, objdump, only_wide = "", ("-M", "intel"), "v.*|andn|bzhi|mulx|movbe|shrx"
+    tools, objdump = "", ("-M", "intel")
+    later = "ptest|pshufb|palignr|pblendw|pinsr[bd]|pextrq", "v.*|andn|bzhi|mulx|movbe|shrx"
     registers, stack_pointer = R64, "rsp"
     vector_count, vector_size = 16, 32
     arguments, result, pushed = "rdi rsi rdx rcx r8 r9".split(), "rax", (RETURN_ADDRESS,)
@@ -34,7 +35,7 @@ class X86_64(Machine):
     def decode(text, following):
         name, _, rest = text.split("#")[0].strip().partition(" ")
         # Prefixes that fill up a nop, or a call that the linker shortened; of a jump by a table, which may lead anywhere.
-        while name in ("cs", "data16", "addr32", "notrack"):
+        while name in ("cs", "data16", "addr32", "notrack") or re.match(r"rex\.\w+ +jmp", text) and name[:4] == "rex.":
             name, _, rest = rest.strip().partition(" ")
         run = TABLE.get(name) or name[0] == "v" and TABLE.get(name[1:])
         if not run:
@@ -47,6 +48,15 @@ class X86_64(Machine):
     def condition(self, code):
         holds = any(self.decide(self.flags[f]) for f in CONDITIONS[code] if f in "czso")
         return int(holds != CONDITIONS[code].startswith("!"))
+
+
+class Windows(X86_64):
+    """With the convention of Windows. Its linker's files are turned into ELF files (linking.py)."""
+    tools = "x86_64-w64-mingw32-"
+    arguments, shadow = "rcx rdx r8 r9".split(), 32
+    kept, kept_vectors = "rbx rsp rbp rsi rdi r12 r13 r14 r15".split(), dict.fromkeys(range(6, 16), 16)
+    scratch = "rcx rdx r8 r9 r10 r11".split()
+    red_zone, also_called = 0, ("___chkstk_ms",)
 
 
 def operand(text, name, following):
@@ -109,10 +119,15 @@ for _code in CONDITIONS:
 
 @TABLE.of("lea")
 def lea(m, name, to, source):
-    """An address; or twice a number that isn't known, which is the number moved up by a bit."""
-    twice = source.index and source == source._replace(base=source.index, scale=1, offset=0)
-    v = m.general[source.index] if twice else None
-    m.put(to, m.shift("lsl", v, 1, 8) if type(v) is tuple else m.address(source))
+    """An address; or a sum of bytes, which may be moved up."""
+    registers = [(name, scale) for name, scale in ((source.base, 1), (source.index, source.scale)) if name]
+    if tuple not in (type(m.general[name]) for name, _ in registers):
+        return m.put(to, m.address(source))
+    total = source.offset
+    for name, scale in registers:
+        v = m.shift("lsl", m.get(Register(name, to.size)), scale.bit_length() - 1, to.size)
+        total, _ = m.plus(v, total, 0, to.size)
+    m.put(to, total)
 
 
 @TABLE.of("call")
@@ -170,6 +185,18 @@ def shift(m, name, to, count=1):
         v = m.shift({"shl": "lsl", "shr": "lsr", "sar": "asr"}[name], v, n, to.size)
         m.set_flags(c=out if out in (None, 0, 1) else SECRET, **m.zero_and_sign(v, to.size))
     m.put(to, v)
+
+
+@TABLE.of("rol", "ror")
+def rotate(m, name, to, count=1):
+    n = constant("the count of a rotation", m.get(count)) & (63 if to.size == 8 else 31)
+    if n:
+        b, size = m.bits(m.get(to), to.size), 8 * to.size
+        up = (n if name == "rol" else -n) % size
+        b = b[size - up:] + b[:size - up]
+        last = b[0 if name == "rol" else -1]
+        m.set_flags(c=last if last < 2 else SECRET, z=m.flags["z"], s=m.flags["s"])
+        m.put(to, m.unbits(b))
 
 
 @TABLE.of("shld")
@@ -272,12 +299,20 @@ def inserted(size):
     return run
 
 
+def packed(m, a, b):
+    """Words, as numbers with signs, as the nearest bytes."""
+    nearest = lambda n: 0 if n >> 15 else min(n, 255)
+    return [low if high == 0 else nearest(constant("a word", m.from_bytes([low, high]))) for low, high in lanes(a + b, 2)]
+
+
 VECTORS = {
     "pxor": xor,
     "xorps": xor,
-    "pand": whole(lambda m, a, b: m.bytewise("and", a, b)),
+    **dict.fromkeys(("pand", "andps"), whole(lambda m, a, b: m.bytewise("and", a, b))),
+    "packuswb": in_halves(packed),
+    "shufps": in_halves(lambda m, a, b, n: permuted(a, 4, n)[:8] + permuted(b, 4, n)[8:]),
     "pandn": whole(lambda m, a, b: m.bytewise("and not", b, a)),
-    "por": whole(lambda m, a, b: m.bytewise("or", a, b)),
+    "por": whole(lambda m, a, b: list(map(m.either, a, b))),
     "paddb": whole(lambda m, a, b: list(map(m.add_byte, a, b))),
     "psubb": whole(lambda m, a, b: [m.add_byte(x, m.domain.xor_byte(y, 255), 1) for x, y in zip(a, b)]),
     "pcmpeqb": whole(lambda m, a, b: [m.equality(m.domain.xor_byte(x, y), 255, 0) for x, y in zip(a, b)]),
@@ -346,10 +381,12 @@ TABLE.update({
 
 @TABLE.of("movss", "movsd")
 def movss(m, name, to, source):
-    """A load clears the rest of the register."""
+    """A load clears the rest of the register, a move between registers leaves it."""
+    size = 4 if name[-1] == "s" else 8
     if isinstance(to, Vector) and isinstance(source, Vector):
-        raise Unproved("instruction not covered")
-    first(4 if name[-1] == "s" else 8)(m, name, to, source)
+        m.write(to, m.read(source)[:size] + m.read(to)[size:])
+    else:
+        first(size)(m, name, to, source)
 
 
 @TABLE.of("ptest")
@@ -365,8 +402,8 @@ def pmovmskb(m, name, to, source):
     b = m.read(source)
     if max(b) < 256:
         return m.put(to, sum((x >> 7) << k for k, x in enumerate(b)))
-    known = [m.equalities.get(x) for x in b]
-    if len(known) != 16 or any(k is None or k[1:] != (255, 0) for k in known):
+    known = [m.equalities.get(x) for x in b if x != 255]  # (255 says that two bytes are equal)
+    if len(b) != 16 or any(k is None or k[1:] != (255, 0) for k in known):
         raise Unproved("instruction not covered")
     m.put(to, m.verdict(0xffff, [k[0] for k in known], 2))
 
