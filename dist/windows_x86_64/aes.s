@@ -2911,21 +2911,15 @@ aes_v2.aes_ctr.add_in_batches.add_keystream: # @aes_v2.aes_ctr.add_in_batches.ad
 	movl	$1, %ecx
 	movq	%r15, %rdx
 	callq	aes_v2.aes_permute.blocks.process_on_lanes.1
-	xorl	%ecx, %ecx
 	testq	%r13, %r13
-	je	.Laes_v2_BB7_11
-# %bb.2:                                # %then.1.i
+	sete	%al
 	testq	%r14, %r14
-	je	.Laes_v2_BB7_11
-# %bb.3:                                # %join.8.i68.lr.ph.i.i
-	leaq	-1(%r14), %rcx
-	movl	%r14d, %eax
-	andl	$3, %eax
-	cmpq	$3, %rcx
-	jae	.Laes_v2_BB7_5
-# %bb.4:
-	xorl	%edx, %edx
-	jmp	.Laes_v2_BB7_8
+	sete	%cl
+	orb	%al, %cl
+	je	.Laes_v2_BB7_3
+# %bb.2:
+	xorl	%ecx, %ecx
+	jmp	.Laes_v2_BB7_11
 .Laes_v2_BB7_23:                               # %else.2.i.i
 	testq	%r13, %r13
 	je	.Laes_v2_BB7_24
@@ -2939,6 +2933,15 @@ aes_v2.aes_ctr.add_in_batches.add_keystream: # @aes_v2.aes_ctr.add_in_batches.ad
 	callq	aes_v2.aes_ctr.add_in_batches.add_next.2
 	movq	%rax, %r13
 	jmp	.Laes_v2_BB7_26
+.Laes_v2_BB7_3:                                # %join.8.i68.lr.ph.i.i
+	leaq	-1(%r14), %rcx
+	movl	%r14d, %eax
+	andl	$3, %eax
+	cmpq	$3, %rcx
+	jae	.Laes_v2_BB7_5
+# %bb.4:
+	xorl	%edx, %edx
+	jmp	.Laes_v2_BB7_8
 .Laes_v2_BB7_5:                                # %join.8.i68.lr.ph.i.i.new
 	movq	%r14, %rcx
 	andq	$-4, %rcx
@@ -9706,18 +9709,20 @@ aes_v2.key_wrap.padded.wrap_padded: # @aes_v2.key_wrap.padded.wrap_padded
 	.seh_stackalloc 88
 	.seh_endprologue
 	movq	%rcx, %rbx
-	leaq	-1(%rdx), %rcx
-	movl	$4294967294, %r9d               # imm = 0xFFFFFFFE
-	movb	$1, %al
-	cmpq	%r9, %rcx
-	ja	.Laes_v2_BB27_13
-# %bb.1:                                # %start
+	leaq	-1(%rdx), %rax
+	movl	$4294967295, %ecx               # imm = 0xFFFFFFFF
+	cmpq	%rcx, %rax
+	setb	%al
 	leaq	7(%rdx), %rcx
 	shrq	$3, %rcx
 	incq	%rcx
 	cmpq	%rcx, %r8
-	jne	.Laes_v2_BB27_13
-# %bb.2:                                # %arm.5
+	sete	%cl
+	andb	%al, %cl
+	movb	$1, %al
+	cmpb	$1, %cl
+	jne	.Laes_v2_BB27_12
+# %bb.1:                                # %arm.5
 	leaq	8(%rbx), %r15
 	movabsq	$-6460033620986822656, %rax     # imm = 0xA65959A600000000
 	orq	%rdx, %rax
@@ -9725,14 +9730,14 @@ aes_v2.key_wrap.padded.wrap_padded: # @aes_v2.key_wrap.padded.wrap_padded
 	bswapq	%rax
 	movq	%rax, (%rbx)
 	decq	%r12
-	je	.Laes_v2_BB27_11
-# %bb.3:                                # %join.5.i.preheader
+	je	.Laes_v2_BB27_10
+# %bb.2:                                # %join.5.i.preheader
 	cmpq	$2, %r8
-	jne	.Laes_v2_BB27_5
-# %bb.4:
+	jne	.Laes_v2_BB27_4
+# %bb.3:
 	xorl	%r14d, %r14d
-	jmp	.Laes_v2_BB27_8
-.Laes_v2_BB27_5:                               # %join.5.i.preheader.new
+	jmp	.Laes_v2_BB27_7
+.Laes_v2_BB27_4:                               # %join.5.i.preheader.new
 	movq	%rdi, 64(%rsp)                  # 8-byte Spill
 	movq	%r12, 56(%rsp)                  # 8-byte Spill
 	movq	%r12, %r15
@@ -9744,7 +9749,7 @@ aes_v2.key_wrap.padded.wrap_padded: # @aes_v2.key_wrap.padded.wrap_padded
 	movq	%rdx, 72(%rsp)                  # 8-byte Spill
 	movq	%rdx, %rdi
 	.p2align	4
-.Laes_v2_BB27_6:                               # %join.5.i
+.Laes_v2_BB27_5:                               # %join.5.i
                                         # =>This Inner Loop Header: Depth=1
 	movq	80(%rsp), %rax                  # 8-byte Reload
 	leaq	(%rax,%r14,8), %r12
@@ -9773,16 +9778,16 @@ aes_v2.key_wrap.padded.wrap_padded: # @aes_v2.key_wrap.padded.wrap_padded
 	addq	$2, %r14
 	addq	$-16, %rdi
 	cmpq	%r14, %r15
-	jne	.Laes_v2_BB27_6
-# %bb.7:                                # %"key_wrap::padded::fill.exit.unr-lcssa"
+	jne	.Laes_v2_BB27_5
+# %bb.6:                                # %"key_wrap::padded::fill.exit.unr-lcssa"
 	movq	56(%rsp), %r12                  # 8-byte Reload
 	testb	$1, %r12b
 	movq	72(%rsp), %rdx                  # 8-byte Reload
 	movq	64(%rsp), %rdi                  # 8-byte Reload
 	leaq	8(%rbx), %r15
 	movq	48(%rsp), %rsi                  # 8-byte Reload
-	je	.Laes_v2_BB27_9
-.Laes_v2_BB27_8:                               # %join.5.i.epil.preheader
+	je	.Laes_v2_BB27_8
+.Laes_v2_BB27_7:                               # %join.5.i.epil.preheader
 	leaq	(,%r14,8), %rcx
 	leaq	(%rsi,%r14,8), %rax
 	subq	%rcx, %rdx
@@ -9795,22 +9800,22 @@ aes_v2.key_wrap.padded.wrap_padded: # @aes_v2.key_wrap.padded.wrap_padded
 	callq	memcpy
 	movq	40(%rsp), %rax
 	movq	%rax, (%r15,%r14,8)
-.Laes_v2_BB27_9:                               # %"key_wrap::padded::fill.exit"
+.Laes_v2_BB27_8:                               # %"key_wrap::padded::fill.exit"
 	cmpq	$1, %r12
-	jne	.Laes_v2_BB27_11
-# %bb.10:                               # %then.1.i
+	jne	.Laes_v2_BB27_10
+# %bb.9:                                # %then.1.i
 	movq	%rbx, %rsi
 	movq	%r15, %rdx
 	callq	aes_v2.key_wrap.steps.encrypt_halves
-	jmp	.Laes_v2_BB27_12
-.Laes_v2_BB27_11:                              # %else.2.i
+	jmp	.Laes_v2_BB27_11
+.Laes_v2_BB27_10:                              # %else.2.i
 	movq	%rbx, %rsi
 	movq	%r15, %rdx
 	movq	%r12, %rcx
 	callq	aes_v2.key_wrap.steps.wrap_in_place
-.Laes_v2_BB27_12:                              # %return.4
+.Laes_v2_BB27_11:                              # %return.4
 	xorl	%eax, %eax
-.Laes_v2_BB27_13:                              # %return.4
+.Laes_v2_BB27_12:                              # %return.4
                                         # kill: def $al killed $al killed $eax
 	addq	$88, %rsp
 	popq	%rbx
@@ -16583,22 +16588,23 @@ aes_v2.ccm.mode.decrypt: # @aes_v2.ccm.mode.decrypt
 	leaq	-14(%rbx), %rcx
 	movb	$1, %al
 	cmpq	$-7, %rcx
-	jb	.Laes_v2_BB43_5
+	jb	.Laes_v2_BB43_4
 # %bb.3:                                # %"ccm::formatting::check.exit"
-	movq	168(%rsp), %r14
+	movq	168(%rsp), %rax
+	cmpq	$7, %rbx
+	setne	%r10b
 	leal	(,%rbx,8), %ecx
 	xorb	$120, %cl
-	movq	%r14, %r10
                                         # kill: def $cl killed $cl killed $ecx
-	shrq	%cl, %r10
-	cmpq	$7, %rbx
-	je	.Laes_v2_BB43_6
-# %bb.4:                                # %"ccm::formatting::check.exit"
+	shrq	%cl, %rax
+	testq	%rax, %rax
+	setne	%cl
 	movb	$2, %al
-	testq	%r10, %r10
-	jne	.Laes_v2_BB43_5
-.Laes_v2_BB43_6:                               # %join.4
+	testb	%cl, %r10b
+	jne	.Laes_v2_BB43_4
+# %bb.5:                                # %join.4
 	movq	%rdi, 72(%rsp)                  # 8-byte Spill
+	movq	160(%rsp), %r14
 	movb	$14, %bpl
 	subb	%bl, %bpl
 	movq	$0, 32(%rsp)
@@ -16619,14 +16625,15 @@ aes_v2.ccm.mode.decrypt: # @aes_v2.ccm.mode.decrypt
 	movq	%rsi, %rdi
 	movq	%rsi, %r12
 	movq	%rax, %rsi
-	movq	160(%rsp), %rcx
+	movq	%r14, %rcx
+	movq	168(%rsp), %r14
 	movq	%r14, %r8
 	callq	aes_v2.aes_ctr.add_in_batches.add_keystream
 	leaq	32(%rsp), %rax
 	movq	%rax, 16(%rsp)
 	movq	%r14, 8(%rsp)
-	movq	160(%rsp), %rax
-	movq	%rax, (%rsp)
+	movq	160(%rsp), %r14
+	movq	%r14, (%rsp)
 	movq	%r12, 80(%rsp)                  # 8-byte Spill
 	movq	%r12, %rdi
 	movq	%r13, %r12
@@ -16644,8 +16651,8 @@ aes_v2.ccm.mode.decrypt: # @aes_v2.ccm.mode.decrypt
 	callq	memcpy
 	pxor	48(%rsp), %xmm6
 	ptest	%xmm6, %xmm6
-	je	.Laes_v2_BB43_7
-# %bb.8:                                # %join.7
+	je	.Laes_v2_BB43_6
+# %bb.7:                                # %join.7
 	movq	$0, 32(%rsp)
 	movq	$0, 39(%rsp)
 	leaq	32(%rsp), %rcx
@@ -16660,18 +16667,18 @@ aes_v2.ccm.mode.decrypt: # @aes_v2.ccm.mode.decrypt
 	leaq	48(%rsp), %rsi
 	movl	$16, %edx
 	movq	80(%rsp), %rdi                  # 8-byte Reload
-	movq	160(%rsp), %rcx
+	movq	%r14, %rcx
 	movq	168(%rsp), %r8
 	callq	aes_v2.aes_ctr.add_in_batches.add_keystream
 	movq	72(%rsp), %rax                  # 8-byte Reload
 	movw	$257, (%rax)                    # imm = 0x101
-	jmp	.Laes_v2_BB43_9
+	jmp	.Laes_v2_BB43_8
 .Laes_v2_BB43_1:
 	xorl	%eax, %eax
-.Laes_v2_BB43_5:                               # %arm.1
+.Laes_v2_BB43_4:                               # %arm.1
 	movw	$1, (%rdi)
 	movb	%al, 2(%rdi)
-.Laes_v2_BB43_10:                              # %common.ret
+.Laes_v2_BB43_9:                               # %common.ret
 	addq	$104, %rsp
 	popq	%rbx
 	popq	%r12
@@ -16680,12 +16687,12 @@ aes_v2.ccm.mode.decrypt: # @aes_v2.ccm.mode.decrypt
 	popq	%r15
 	popq	%rbp
 	retq
-.Laes_v2_BB43_7:                               # %then.5
+.Laes_v2_BB43_6:                               # %then.5
 	movq	72(%rsp), %rax                  # 8-byte Reload
 	movw	$0, (%rax)
-.Laes_v2_BB43_9:                               # %common.ret
+.Laes_v2_BB43_8:                               # %common.ret
 	movb	$0, 2(%rax)
-	jmp	.Laes_v2_BB43_10
+	jmp	.Laes_v2_BB43_9
 	.seh_endproc
                                         # -- End function
 	.def	aes_v2.ccm.message.put_tag;
@@ -20954,4 +20961,4 @@ aes_v2.fotsgure_aes_ccm_seal:                  # @aes_v2.fotsgure_aes_ccm_seal
 
 
 	.section	.rdata,"dr"
-	.asciz	"fotsgure_aes 0.4.0, windows_x86_64/aes.s, sources SHA-256 2c9fa6e7cb8d9e04d2a8d6192d5583954f368bd66fdadd2cb16b4f9376b6f2f1"
+	.asciz	"fotsgure_aes 0.4.0, windows_x86_64/aes.s, sources SHA-256 277bb95ad27326110f39150847b2f377310c11918dacf4278c0f17f51d67018c"

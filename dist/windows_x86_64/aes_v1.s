@@ -3806,13 +3806,16 @@ aes_v1.aes_ctr.add_in_batches.add_keystream: # @aes_v1.aes_ctr.add_in_batches.ad
 	movq	%r15, %rdx
 	callq	aes_v1.aes_narrow.blocks.process_in_batches.1
 	callq	aes_v1.aes_cipher.zeroize.stack.wipe_stack.1024
-	xorl	%ecx, %ecx
 	testq	%r12, %r12
-	je	.Laes_v1_BB8_11
-# %bb.2:                                # %then.1.i
+	sete	%al
 	testq	%r14, %r14
-	je	.Laes_v1_BB8_11
-# %bb.3:                                # %join.8.i68.lr.ph.i.i
+	sete	%cl
+	orb	%al, %cl
+	je	.Laes_v1_BB8_3
+# %bb.2:
+	xorl	%ecx, %ecx
+	jmp	.Laes_v1_BB8_11
+.Laes_v1_BB8_3:                                # %join.8.i68.lr.ph.i.i
 	leaq	-1(%r14), %rcx
 	movl	%r14d, %eax
 	andl	$3, %eax
@@ -7071,7 +7074,7 @@ aes_v1.aes_narrow.lent.call_to_encrypt: # @aes_v1.aes_narrow.lent.call_to_encryp
 	movq	%rax, %r13
 	cmpq	%rbp, %rax
 	jb	.Laes_v1_BB13_7
-.Laes_v1_BB13_8:                               # %"aes_ctr::add_in_batches::DueBlockCipherEncClosure::call::<#616c33a4dceffaac>.exit"
+.Laes_v1_BB13_8:                               # %"aes_ctr::add_in_batches::DueBlockCipherEncClosure::call::<#81fcfc45a09ae6f4>.exit"
 	addq	$312, %rsp                      # imm = 0x138
 	popq	%rbx
 	popq	%r12
@@ -7086,7 +7089,7 @@ aes_v1.aes_narrow.lent.call_to_encrypt: # @aes_v1.aes_narrow.lent.call_to_encryp
 	.scl	3;
 	.type	32;
 	.endef
-	.p2align	4                               # -- Begin function aes_ctr::add_in_batches::add_next::<#1903e349e6e548b6>
+	.p2align	4                               # -- Begin function aes_ctr::add_in_batches::add_next::<#1b64e2336075beac>
 aes_v1.aes_ctr.add_in_batches.add_next: # @aes_v1.aes_ctr.add_in_batches.add_next
 .seh_proc aes_v1.aes_ctr.add_in_batches.add_next
 # %bb.0:                                # %start
@@ -7176,7 +7179,7 @@ aes_v1.aes_ctr.add_in_batches.add_next: # @aes_v1.aes_ctr.add_in_batches.add_nex
 	jmp	.Laes_v1_BB14_3
 .Laes_v1_BB14_2:                               # %else.2.i.i.i
 	movl	$2, %ecx
-.Laes_v1_BB14_3:                               # %"aes_ctr::keystream::fill_by_backend::<#1903e349e6e548b6>.exit"
+.Laes_v1_BB14_3:                               # %"aes_ctr::keystream::fill_by_backend::<#1b64e2336075beac>.exit"
 	movq	%rax, %rdi
 	callq	aes_v1.aes_narrow.blocks.process_few.1
 	leaq	(%r15,%rbx), %rax
@@ -8049,18 +8052,20 @@ aes_v1.key_wrap.padded.wrap_padded: # @aes_v1.key_wrap.padded.wrap_padded
 	.seh_stackalloc 88
 	.seh_endprologue
 	movq	%rcx, %rbx
-	leaq	-1(%rdx), %rcx
-	movl	$4294967294, %r9d               # imm = 0xFFFFFFFE
-	movb	$1, %al
-	cmpq	%r9, %rcx
-	ja	.Laes_v1_BB21_13
-# %bb.1:                                # %start
+	leaq	-1(%rdx), %rax
+	movl	$4294967295, %ecx               # imm = 0xFFFFFFFF
+	cmpq	%rcx, %rax
+	setb	%al
 	leaq	7(%rdx), %rcx
 	shrq	$3, %rcx
 	incq	%rcx
 	cmpq	%rcx, %r8
-	jne	.Laes_v1_BB21_13
-# %bb.2:                                # %arm.5
+	sete	%cl
+	andb	%al, %cl
+	movb	$1, %al
+	cmpb	$1, %cl
+	jne	.Laes_v1_BB21_12
+# %bb.1:                                # %arm.5
 	leaq	8(%rbx), %r15
 	movabsq	$-6460033620986822656, %rax     # imm = 0xA65959A600000000
 	orq	%rdx, %rax
@@ -8068,14 +8073,14 @@ aes_v1.key_wrap.padded.wrap_padded: # @aes_v1.key_wrap.padded.wrap_padded
 	bswapq	%rax
 	movq	%rax, (%rbx)
 	decq	%r12
-	je	.Laes_v1_BB21_11
-# %bb.3:                                # %join.5.i.preheader
+	je	.Laes_v1_BB21_10
+# %bb.2:                                # %join.5.i.preheader
 	cmpq	$2, %r8
-	jne	.Laes_v1_BB21_5
-# %bb.4:
+	jne	.Laes_v1_BB21_4
+# %bb.3:
 	xorl	%r14d, %r14d
-	jmp	.Laes_v1_BB21_8
-.Laes_v1_BB21_5:                               # %join.5.i.preheader.new
+	jmp	.Laes_v1_BB21_7
+.Laes_v1_BB21_4:                               # %join.5.i.preheader.new
 	movq	%rdi, 64(%rsp)                  # 8-byte Spill
 	movq	%r12, 56(%rsp)                  # 8-byte Spill
 	movq	%r12, %r15
@@ -8087,7 +8092,7 @@ aes_v1.key_wrap.padded.wrap_padded: # @aes_v1.key_wrap.padded.wrap_padded
 	movq	%rdx, 72(%rsp)                  # 8-byte Spill
 	movq	%rdx, %rdi
 	.p2align	4
-.Laes_v1_BB21_6:                               # %join.5.i
+.Laes_v1_BB21_5:                               # %join.5.i
                                         # =>This Inner Loop Header: Depth=1
 	movq	80(%rsp), %rax                  # 8-byte Reload
 	leaq	(%rax,%r14,8), %r12
@@ -8116,16 +8121,16 @@ aes_v1.key_wrap.padded.wrap_padded: # @aes_v1.key_wrap.padded.wrap_padded
 	addq	$2, %r14
 	addq	$-16, %rdi
 	cmpq	%r14, %r15
-	jne	.Laes_v1_BB21_6
-# %bb.7:                                # %"key_wrap::padded::fill.exit.unr-lcssa"
+	jne	.Laes_v1_BB21_5
+# %bb.6:                                # %"key_wrap::padded::fill.exit.unr-lcssa"
 	movq	56(%rsp), %r12                  # 8-byte Reload
 	testb	$1, %r12b
 	movq	72(%rsp), %rdx                  # 8-byte Reload
 	movq	64(%rsp), %rdi                  # 8-byte Reload
 	leaq	8(%rbx), %r15
 	movq	48(%rsp), %rsi                  # 8-byte Reload
-	je	.Laes_v1_BB21_9
-.Laes_v1_BB21_8:                               # %join.5.i.epil.preheader
+	je	.Laes_v1_BB21_8
+.Laes_v1_BB21_7:                               # %join.5.i.epil.preheader
 	leaq	(,%r14,8), %rcx
 	leaq	(%rsi,%r14,8), %rax
 	subq	%rcx, %rdx
@@ -8138,10 +8143,10 @@ aes_v1.key_wrap.padded.wrap_padded: # @aes_v1.key_wrap.padded.wrap_padded
 	callq	memcpy
 	movq	32(%rsp), %rax
 	movq	%rax, (%r15,%r14,8)
-.Laes_v1_BB21_9:                               # %"key_wrap::padded::fill.exit"
+.Laes_v1_BB21_8:                               # %"key_wrap::padded::fill.exit"
 	cmpq	$1, %r12
-	jne	.Laes_v1_BB21_11
-# %bb.10:                               # %then.1.i
+	jne	.Laes_v1_BB21_10
+# %bb.9:                                # %then.1.i
 	movups	(%rbx), %xmm0
 	movaps	%xmm0, 32(%rsp)
 	movq	(%rdi), %rax
@@ -8153,15 +8158,15 @@ aes_v1.key_wrap.padded.wrap_padded: # @aes_v1.key_wrap.padded.wrap_padded
 	callq	aes_v1.aes_cipher.zeroize.stack.wipe_stack.1024
 	movaps	32(%rsp), %xmm0
 	movups	%xmm0, (%rbx)
-	jmp	.Laes_v1_BB21_12
-.Laes_v1_BB21_11:                              # %else.2.i
+	jmp	.Laes_v1_BB21_11
+.Laes_v1_BB21_10:                              # %else.2.i
 	movq	%rbx, %rsi
 	movq	%r15, %rdx
 	movq	%r12, %rcx
 	callq	aes_v1.key_wrap.steps.wrap_in_place
-.Laes_v1_BB21_12:                              # %return.4
+.Laes_v1_BB21_11:                              # %return.4
 	xorl	%eax, %eax
-.Laes_v1_BB21_13:                              # %return.4
+.Laes_v1_BB21_12:                              # %return.4
                                         # kill: def $al killed $al killed $eax
 	addq	$88, %rsp
 	popq	%rbx
@@ -8222,7 +8227,7 @@ aes_v1.aes_narrow.lent.call_to_decrypt: # @aes_v1.aes_narrow.lent.call_to_decryp
 	movups	%xmm1, (%r12,%rax)
 	movups	104(%rsp,%rax), %xmm0
 	movups	%xmm0, (%r15)
-.Laes_v1_BB22_15:                              # %"cbc::decryption::unchain_part::<#b4c4128ace7e1120>.exit.loopexit.i.i"
+.Laes_v1_BB22_15:                              # %"cbc::decryption::unchain_part::<#c28964e2ce8737b6>.exit.loopexit.i.i"
                                         #   in Loop: Header=BB22_2 Depth=1
 	addq	%rbx, %r13
 	cmpq	%rdx, %r13
@@ -8335,13 +8340,13 @@ aes_v1.aes_narrow.lent.call_to_decrypt: # @aes_v1.aes_narrow.lent.call_to_decryp
 	addq	$32, %rdx
 	cmpq	%rax, %rcx
 	jne	.Laes_v1_BB22_12
-# %bb.13:                               # %"cbc::decryption::unchain_part::<#b4c4128ace7e1120>.exit.loopexit.i.i.unr-lcssa"
+# %bb.13:                               # %"cbc::decryption::unchain_part::<#c28964e2ce8737b6>.exit.loopexit.i.i.unr-lcssa"
                                         #   in Loop: Header=BB22_2 Depth=1
 	testb	$1, %bl
 	movq	40(%rsp), %rdx                  # 8-byte Reload
 	jne	.Laes_v1_BB22_14
 	jmp	.Laes_v1_BB22_15
-.Laes_v1_BB22_16:                              # %"cbc::decryption::ChainBlockCipherDecClosure::call::<#b4c4128ace7e1120>.exit"
+.Laes_v1_BB22_16:                              # %"cbc::decryption::ChainBlockCipherDecClosure::call::<#c28964e2ce8737b6>.exit"
 	addq	$1128, %rsp                     # imm = 0x468
 	popq	%rbx
 	popq	%r12
@@ -13836,22 +13841,23 @@ aes_v1.ccm.mode.decrypt: # @aes_v1.ccm.mode.decrypt
 	leaq	-14(%rbx), %rcx
 	movb	$1, %al
 	cmpq	$-7, %rcx
-	jb	.Laes_v1_BB33_5
+	jb	.Laes_v1_BB33_4
 # %bb.3:                                # %"ccm::formatting::check.exit"
-	movq	168(%rsp), %r14
+	movq	168(%rsp), %rax
+	cmpq	$7, %rbx
+	setne	%r10b
 	leal	(,%rbx,8), %ecx
 	xorb	$120, %cl
-	movq	%r14, %r10
                                         # kill: def $cl killed $cl killed $ecx
-	shrq	%cl, %r10
-	cmpq	$7, %rbx
-	je	.Laes_v1_BB33_6
-# %bb.4:                                # %"ccm::formatting::check.exit"
+	shrq	%cl, %rax
+	testq	%rax, %rax
+	setne	%cl
 	movb	$2, %al
-	testq	%r10, %r10
-	jne	.Laes_v1_BB33_5
-.Laes_v1_BB33_6:                               # %join.4
+	testb	%cl, %r10b
+	jne	.Laes_v1_BB33_4
+# %bb.5:                                # %join.4
 	movq	%rdi, 72(%rsp)                  # 8-byte Spill
+	movq	160(%rsp), %r14
 	movb	$14, %bpl
 	subb	%bl, %bpl
 	movq	$0, 32(%rsp)
@@ -13872,14 +13878,15 @@ aes_v1.ccm.mode.decrypt: # @aes_v1.ccm.mode.decrypt
 	movq	%rsi, %rdi
 	movq	%rsi, %r12
 	movq	%rax, %rsi
-	movq	160(%rsp), %rcx
+	movq	%r14, %rcx
+	movq	168(%rsp), %r14
 	movq	%r14, %r8
 	callq	aes_v1.aes_ctr.add_in_batches.add_keystream
 	leaq	32(%rsp), %rax
 	movq	%rax, 16(%rsp)
 	movq	%r14, 8(%rsp)
-	movq	160(%rsp), %rax
-	movq	%rax, (%rsp)
+	movq	160(%rsp), %r14
+	movq	%r14, (%rsp)
 	movq	%r12, 80(%rsp)                  # 8-byte Spill
 	movq	%r12, %rdi
 	movq	%r13, %r12
@@ -13898,8 +13905,8 @@ aes_v1.ccm.mode.decrypt: # @aes_v1.ccm.mode.decrypt
 	pcmpeqb	48(%rsp), %xmm6
 	pmovmskb	%xmm6, %eax
 	xorl	$65535, %eax                    # imm = 0xFFFF
-	je	.Laes_v1_BB33_7
-# %bb.8:                                # %join.7
+	je	.Laes_v1_BB33_6
+# %bb.7:                                # %join.7
 	movq	$0, 32(%rsp)
 	movq	$0, 39(%rsp)
 	leaq	32(%rsp), %rcx
@@ -13914,18 +13921,18 @@ aes_v1.ccm.mode.decrypt: # @aes_v1.ccm.mode.decrypt
 	leaq	48(%rsp), %rsi
 	movl	$16, %edx
 	movq	80(%rsp), %rdi                  # 8-byte Reload
-	movq	160(%rsp), %rcx
+	movq	%r14, %rcx
 	movq	168(%rsp), %r8
 	callq	aes_v1.aes_ctr.add_in_batches.add_keystream
 	movq	72(%rsp), %rax                  # 8-byte Reload
 	movw	$257, (%rax)                    # imm = 0x101
-	jmp	.Laes_v1_BB33_9
+	jmp	.Laes_v1_BB33_8
 .Laes_v1_BB33_1:
 	xorl	%eax, %eax
-.Laes_v1_BB33_5:                               # %arm.1
+.Laes_v1_BB33_4:                               # %arm.1
 	movw	$1, (%rdi)
 	movb	%al, 2(%rdi)
-.Laes_v1_BB33_10:                              # %common.ret
+.Laes_v1_BB33_9:                               # %common.ret
 	addq	$104, %rsp
 	popq	%rbx
 	popq	%r12
@@ -13934,12 +13941,12 @@ aes_v1.ccm.mode.decrypt: # @aes_v1.ccm.mode.decrypt
 	popq	%r15
 	popq	%rbp
 	retq
-.Laes_v1_BB33_7:                               # %then.5
+.Laes_v1_BB33_6:                               # %then.5
 	movq	72(%rsp), %rax                  # 8-byte Reload
 	movw	$0, (%rax)
-.Laes_v1_BB33_9:                               # %common.ret
+.Laes_v1_BB33_8:                               # %common.ret
 	movb	$0, 2(%rax)
-	jmp	.Laes_v1_BB33_10
+	jmp	.Laes_v1_BB33_9
 	.seh_endproc
                                         # -- End function
 	.def	aes_v1.ccm.message.put_tag;
@@ -17157,4 +17164,4 @@ aes_v1.fotsgure_aes_ccm_seal:                  # @aes_v1.fotsgure_aes_ccm_seal
 
 
 	.section	.rdata,"dr"
-	.asciz	"fotsgure_aes 0.4.0, windows_x86_64/aes_v1.s, sources SHA-256 2c9fa6e7cb8d9e04d2a8d6192d5583954f368bd66fdadd2cb16b4f9376b6f2f1"
+	.asciz	"fotsgure_aes 0.4.0, windows_x86_64/aes_v1.s, sources SHA-256 277bb95ad27326110f39150847b2f377310c11918dacf4278c0f17f51d67018c"

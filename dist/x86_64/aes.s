@@ -19921,5 +19921,5 @@ aes_v2.fotsgure_aes_ccm_seal:                  # @aes_v2.fotsgure_aes_ccm_seal
 	.long	9, 115, 1
 	.asciz	"Fotsgure"
 	.p2align	2, 0x0
-	.asciz	"fotsgure_aes 0.4.0, x86_64/aes.s, sources SHA-256 2c9fa6e7cb8d9e04d2a8d6192d5583954f368bd66fdadd2cb16b4f9376b6f2f1"
+	.asciz	"fotsgure_aes 0.4.0, x86_64/aes.s, sources SHA-256 277bb95ad27326110f39150847b2f377310c11918dacf4278c0f17f51d67018c"
 	.p2align	2, 0x0

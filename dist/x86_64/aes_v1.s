@@ -6996,7 +6996,7 @@ aes_v1.aes_narrow.lent.call_to_encrypt: # @aes_v1.aes_narrow.lent.call_to_encryp
 	movq	%rax, %r13
 	cmpq	%rbp, %rax
 	jb	.Laes_v1_BB13_7
-.Laes_v1_BB13_8:                               # %"aes_ctr::add_in_batches::DueBlockCipherEncClosure::call::<#616c33a4dceffaac>.exit"
+.Laes_v1_BB13_8:                               # %"aes_ctr::add_in_batches::DueBlockCipherEncClosure::call::<#81fcfc45a09ae6f4>.exit"
 	addq	$312, %rsp                      # imm = 0x138
 	popq	%rbx
 	popq	%r12
@@ -7009,7 +7009,7 @@ aes_v1.aes_narrow.lent.call_to_encrypt: # @aes_v1.aes_narrow.lent.call_to_encryp
 	.size	aes_v1.aes_narrow.lent.call_to_encrypt, .Laes_v1_func_end13-aes_v1.aes_narrow.lent.call_to_encrypt
                                         # -- End function
 	.section	.text.aes_v1.aes_ctr.add_in_batches.add_next,"ax",@progbits
-	.p2align	4                               # -- Begin function aes_ctr::add_in_batches::add_next::<#1903e349e6e548b6>
+	.p2align	4                               # -- Begin function aes_ctr::add_in_batches::add_next::<#1b64e2336075beac>
 	.type	aes_v1.aes_ctr.add_in_batches.add_next,@function
 aes_v1.aes_ctr.add_in_batches.add_next: # @aes_v1.aes_ctr.add_in_batches.add_next
 # %bb.0:                                # %start
@@ -7092,7 +7092,7 @@ aes_v1.aes_ctr.add_in_batches.add_next: # @aes_v1.aes_ctr.add_in_batches.add_nex
 	jmp	.Laes_v1_BB14_3
 .Laes_v1_BB14_2:                               # %else.2.i.i.i
 	movl	$2, %ecx
-.Laes_v1_BB14_3:                               # %"aes_ctr::keystream::fill_by_backend::<#1903e349e6e548b6>.exit"
+.Laes_v1_BB14_3:                               # %"aes_ctr::keystream::fill_by_backend::<#1b64e2336075beac>.exit"
 	movq	%rax, %rdi
 	callq	aes_v1.aes_narrow.blocks.process_few.1
 	leaq	(%r15,%rbx), %rax
@@ -8088,7 +8088,7 @@ aes_v1.aes_narrow.lent.call_to_decrypt: # @aes_v1.aes_narrow.lent.call_to_decryp
 	movups	%xmm1, (%r12,%rax)
 	movups	72(%rsp,%rax), %xmm0
 	movups	%xmm0, (%r15)
-.Laes_v1_BB22_15:                              # %"cbc::decryption::unchain_part::<#b4c4128ace7e1120>.exit.loopexit.i.i"
+.Laes_v1_BB22_15:                              # %"cbc::decryption::unchain_part::<#c28964e2ce8737b6>.exit.loopexit.i.i"
                                         #   in Loop: Header=BB22_2 Depth=1
 	addq	%r8, %r13
 	cmpq	%rbx, %r13
@@ -8200,12 +8200,12 @@ aes_v1.aes_narrow.lent.call_to_decrypt: # @aes_v1.aes_narrow.lent.call_to_decryp
 	addq	$32, %rdx
 	cmpq	%rax, %rcx
 	jne	.Laes_v1_BB22_12
-# %bb.13:                               # %"cbc::decryption::unchain_part::<#b4c4128ace7e1120>.exit.loopexit.i.i.unr-lcssa"
+# %bb.13:                               # %"cbc::decryption::unchain_part::<#c28964e2ce8737b6>.exit.loopexit.i.i.unr-lcssa"
                                         #   in Loop: Header=BB22_2 Depth=1
 	testb	$1, %r8b
 	jne	.Laes_v1_BB22_14
 	jmp	.Laes_v1_BB22_15
-.Laes_v1_BB22_16:                              # %"cbc::decryption::ChainBlockCipherDecClosure::call::<#b4c4128ace7e1120>.exit"
+.Laes_v1_BB22_16:                              # %"cbc::decryption::ChainBlockCipherDecClosure::call::<#c28964e2ce8737b6>.exit"
 	addq	$1096, %rsp                     # imm = 0x448
 	popq	%rbx
 	popq	%r12
@@ -16108,5 +16108,5 @@ aes_v1.fotsgure_aes_ccm_seal:                  # @aes_v1.fotsgure_aes_ccm_seal
 	.long	9, 118, 1
 	.asciz	"Fotsgure"
 	.p2align	2, 0x0
-	.asciz	"fotsgure_aes 0.4.0, x86_64/aes_v1.s, sources SHA-256 2c9fa6e7cb8d9e04d2a8d6192d5583954f368bd66fdadd2cb16b4f9376b6f2f1"
+	.asciz	"fotsgure_aes 0.4.0, x86_64/aes_v1.s, sources SHA-256 277bb95ad27326110f39150847b2f377310c11918dacf4278c0f17f51d67018c"
 	.p2align	2, 0x0

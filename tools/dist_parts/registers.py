@@ -55,6 +55,12 @@ def emptying(folder, is_wide, has_vectors=True):
     return [*(vectors(folder, is_wide) if has_vectors else []), *general]
 
 
+def at_return(line, folder, is_wide, has_vectors):
+    """The lines before a return. On 32-bit ARM one that takes the address from the stack leaves in lr what was computed there."""
+    lines = emptying(folder, is_wide, has_vectors)
+    return [*lines, "\tmov\tlr, r1"] if re.search(r"\bpc\}", line) else lines
+
+
 def functions(lines):
     """Each line with the label of the function that it is in, or None."""
     inside = None
@@ -80,14 +86,14 @@ def emptied(folder, is_wide, text, has_vectors=True):
         at = len(out)
         if folder == "thumb" and line.startswith(".Lfunc_end"):
             for end, label in behind.items():
-                out += [f"{label}:", *emptying(folder, is_wide), end]
+                out += [f"{label}:", *at_return(end, folder, is_wide, has_vectors), end]
             behind = {}
         elif folder == "thumb" and inside in ending and RETURN.match(line):
             line = "\tb\t" + behind.setdefault(line, f".Lreturn_{at}")
         elif inside in ending and RETURN.match(line):
             while folder == "windows_x86_64" and ENDING.match(out[at - 1]):
                 at -= 1
-            out[at:at] = emptying(folder, is_wide, has_vectors)
+            out[at:at] = at_return(line, folder, is_wide, has_vectors)
         out.append(line)
     if ending - seen:
         raise SystemExit(f"dist: no return is seen in {', '.join(sorted(ending - seen))}")

@@ -3,11 +3,14 @@
 //!
 //! `bytes n 0x..` is the n bytes that these digits write.
 
-ghost use Rattle.std.specs.Prelude.{◌≡◌, []};
+ghost use Rattle.std.specs.Prelude.{◌≡◌, ◌<◌, ◌≤◌, ℕ, ◌+◌, ◌-◌, ◌/◌, ◌%◌, List, [], ◌∷◌, ◌++◌};
+ghost use Rattle.std.specs.Prelude.{length, slice_index, take};
 ghost use Rattle.aes_planes.specs.BigEndian.{bytes};
 ghost use Rattle.aes_planes.specs.Fips197 as fips;
-ghost use Rattle.ccm.specs.Ccm.{counter_block, encoded_length, first_block, tag, text, Fits};
-ghost use Rattle.ccm.specs.Ccm.{IsNonceLength, IsTagLength};
+ghost use Rattle.aes_ctr.specs.CounterMode.{plus_stream};
+ghost use Rattle.ccm.specs.Ccm.{chain_end, counter_block, encoded_length, first_block, tag, text};
+ghost use Rattle.ccm.specs.Ccm.{Fits, IsNonceLength, IsTagLength};
+ghost use Rattle.cmac.specs.Chain.{chained_through};
 
 // The blocks that the example encrypts: those of the chain, B_0, and B_1 and B_2 with the values
 // before them; and Ctr_0 and Ctr_1.
@@ -62,6 +65,28 @@ pub fn formatting_examples()
     ensures of_the_standard { encoded_length 65536 ≡ bytes 6 0xfffe00010000 }
     ensures most_in_six { encoded_length 4294967295 ≡ bytes 6 0xfffeffffffff }
     ensures in_ten { encoded_length 4294967296 ≡ bytes 10 0xffff0000000100000000 }
+{}
+
+/// The lengths of additional data between the limits, the blocks, and what they are chained into and
+/// added to, of strings of any length (A.2.2, A.3; 6.1, steps 1 to 8).
+#[tactic(auto, unfolding(crate::proofs::OnLiterals::message_rules))]
+pub fn message_rules()
+    ensures in_two { (a : ℕ) → 0 < a → a < 65280 → encoded_length a ≡ bytes 2 a }
+    ensures in_six { (a : ℕ) → 65280 ≤ a → a < 4294967296
+        → encoded_length a ≡ 255 ∷ 254 ∷ bytes 4 a }
+    ensures in_ten { (a : ℕ) → 4294967296 ≤ a → encoded_length a ≡ 255 ∷ 255 ∷ bytes 8 a }
+    ensures counter { (nonce : List ℕ) (j q : ℕ) → length nonce + q ≡ 15
+        → counter_block nonce j ≡ (q - 1) ∷ nonce ++ bytes q j }
+    ensures chain { (w : List (List ℕ)) (nonce a p : List ℕ) (t : ℕ) → chain_end w nonce t a p
+        ≡ chained_through w (chained_through w
+        (fips.cipher_with w (first_block nonce t (length a) (length p)))
+        (encoded_length (length a) ++ a)) p }
+    ensures text { (w : List (List ℕ)) (nonce p : List ℕ) → text w nonce p
+        ≡ plus_stream (λ i. slice_index
+        (fips.cipher_with w (counter_block nonce (i / 16))) (i % 16)) 16 p }
+    ensures tag { (w : List (List ℕ)) (nonce a p : List ℕ) (t : ℕ) → tag w nonce t a p
+        ≡ take t (fips.add_round_key (chain_end w nonce t a p)
+        (fips.cipher_with w (counter_block nonce 0))) }
 {}
 
 /// The lengths of nonces and tags, those on either side of them, and the most that a text may have

@@ -5,7 +5,7 @@ use Rattle.std.specs.Prelude.{⊤}
 use Rattle.std.specs.List.{slice_range}
 use Rattle.aes_planes.specs.Fips197.{build, cipher_with, add_round_key}
 use Rattle.aes_planes.proofs.OnLiterals.{aes_on_literals}
-use Rattle.cmac.specs.Chain.{block_at, chained, chained_through}
+use Rattle.cmac.specs.Chain.{block_at, chained, chained_through, padded}
 use Rattle.cmac.specs.Cmac.{doubled_block, subkey_1, subkey_2, before_last, last_block, cmac}
 
 -- the definitions to unfold, so that CMAC on literals is computed
@@ -17,6 +17,11 @@ cmac_on_literals = tt
 unfoldable pub cmac_rules : ⊤
 unfolding before_last block_at chained chained_through cmac
 cmac_rules = tt
+
+-- the definitions that the rules of the last block state
+unfoldable pub padding_rules : ⊤
+unfolding padded last_block
+padding_rules = tt
 
 -- the last block by the cipher of the block of zeros, l
 unfoldable pub last_by : List ℕ → List ℕ → List ℕ

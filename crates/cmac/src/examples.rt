@@ -3,8 +3,8 @@
 //!
 //! `bytes n 0x..` is the n bytes that these digits write.
 
-ghost use Rattle.std.specs.Prelude.{◌≡◌, ◌<◌, ◌≤◌, ℕ, ◌+◌, ◌*◌, ◌/◌, List, [], ◌++◌, length};
-ghost use Rattle.std.specs.Prelude.{replicate};
+ghost use Rattle.std.specs.Prelude.{◌≡◌, ◌<◌, ◌≤◌, ℕ, ◌+◌, ◌*◌, ◌/◌, ◌%◌, List, [], ◌∷◌, ◌++◌};
+ghost use Rattle.std.specs.Prelude.{length, replicate};
 ghost use Rattle.std.specs.List.{slice_range};
 ghost use Rattle.aes_planes.specs.BigEndian.{bytes};
 ghost use Rattle.aes_planes.specs.Fips197 as fips;
@@ -78,6 +78,19 @@ pub fn chain_rules()
         (chained w (replicate 16 0) message (before_last (length message)))
         (last_block w (slice_range message
         (16 * before_last (length message)) (length message)))) }
+{}
+
+/// A string gets as few zeros as fill its last block. The last block of a message is its own if that
+/// is complete, and else ends in a bit 1 and zeros (6.2, step 4).
+#[tactic(auto, unfolding(crate::proofs::OnLiterals::padding_rules))]
+pub fn padding_rules()
+    ensures zeros { (s : List ℕ) (k : ℕ) → k < 16 → (length s + k) % 16 ≡ 0
+        → padded s ≡ s ++ replicate k 0 }
+    ensures complete { (w : List (List ℕ)) (rest : List ℕ) → length rest ≡ 16
+        → last_block w rest ≡ fips.add_round_key (subkey_1 w) rest }
+    ensures short { (w : List (List ℕ)) (rest : List ℕ) (k : ℕ) → length rest + k ≡ 15
+        → last_block w rest
+        ≡ fips.add_round_key (subkey_2 w) (rest ++ 0x80 ∷ replicate k 0) }
 {}
 
 /// The subkeys and the tags of messages of 0, 16, 40 and 64 bytes.

@@ -400,7 +400,9 @@ impl<'a, C: BlockCipherEncrypt, R: HashRoom> LentGcm<'a, C, R> {
         Ok(())
     }
 
-    // Returns the value of GHASH after what has come and zeros that fill its last block.
+    // Returns the value of GHASH after what has come and zeros that fill its last block. A call of its
+    // own, since inlined it would leave H in a frame that no wipe reaches.
+    #[inline(never)]
     fn hash_rest(&self, message: &Message) -> u128
         ensures additional { (iv a : List ℕ) → IsBegun self.now iv a message.now
             → result ≡ hashed_padded (nist.hash_subkey self.now) a }

@@ -3,8 +3,8 @@
 //!
 //! `bytes n 0x..` is the n bytes that these digits write.
 
-ghost use Rattle.std.specs.Prelude.{◌≡◌, ◌↔◌, ℕ, ◌+◌, ◌-◌, ◌*◌, ◌^◌, List, ◌∷◌, [], length};
-ghost use Rattle.std.specs.Prelude.{replicate, take};
+ghost use Rattle.std.specs.Prelude.{◌≡◌, ◌↔◌, ◌<◌, ℕ, ◌+◌, ◌-◌, ◌*◌, ◌^◌, List, ◌∷◌, [], ◌++◌};
+ghost use Rattle.std.specs.Prelude.{drop, length, replicate, slice_index_or, take};
 ghost use Rattle.std.specs.Prelude.{IfOk, IsOk, OnOk};
 ghost use Rattle.std.specs.List.{concat};
 ghost use Rattle.aes_planes.specs.BigEndian.{bytes};
@@ -69,6 +69,22 @@ pub fn step_rules()
     ensures padded_back { (w : List (List ℕ)) (a r q : List ℕ) (rs : List (List ℕ))
         → unwrapped_string w (a ∷ r ∷ q ∷ rs)
         ≡ unwrapped_from w (a ∷ r ∷ q ∷ rs) (6 * length (r ∷ q ∷ rs)) }
+{}
+
+/// One step, on any number of semiblocks: the first one takes its number, each but the last moves up
+/// by one, and the last one is the second half of the block (6.1, algorithm 1, step 2).
+#[tactic(auto, unfolding(crate::specs::KeyWrap::wrap_step))]
+pub fn single_step_rules()
+    ensures first { (w rs : List (List ℕ)) (a r : List ℕ) (t : ℕ)
+        → slice_index_or (wrap_step w t (a ∷ r ∷ rs)) 0 []
+        ≡ number_added (take 8 (fips.cipher_with w (a ++ r))) t }
+    ensures moved { (w rs : List (List ℕ)) (a r : List ℕ) (t i : ℕ) → i < length rs
+        → slice_index_or (wrap_step w t (a ∷ r ∷ rs)) (i + 1) [] ≡ slice_index_or rs i [] }
+    ensures last { (w rs : List (List ℕ)) (a r : List ℕ) (t : ℕ)
+        → slice_index_or (wrap_step w t (a ∷ r ∷ rs)) (length rs + 1) []
+        ≡ drop 8 (fips.cipher_with w (a ++ r)) }
+    ensures length { (w rs : List (List ℕ)) (a r : List ℕ) (t : ℕ)
+        → length (wrap_step w t (a ∷ r ∷ rs)) ≡ length rs + 2 }
 {}
 
 // The blocks of the twelve steps of W: in each the first semiblock, and that of the key whose turn
