@@ -150,7 +150,8 @@ def check(m, call):
     """Compares what the call returned and wrote with its statement."""
     right = True
     if call.reveals is not None:
-        asked, reveals = [q for q in m.answers if q[0] == "zero"], call.reveals(m) if callable(call.reveals) else call.reveals
+        asked = [q for q in m.answers if q[0] == "zero" and not m.is_public(q[1:])]  # (a branch on a nonce alone reveals nothing)
+        reveals = call.reveals(m) if callable(call.reveals) else call.reveals
         if len(asked) != 1 or asked_of(m, asked[0]) != asked_of(m, m.zero_flag(reveals)):
             raise Unproved("reveals something else than whether the key or the tag is right")
         right = m.answers[asked[0]]

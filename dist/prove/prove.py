@@ -167,7 +167,8 @@ def riscv_cases(choose, word):
     yield "wrap_padded", choose((1, 9), (1,), (9,))
     yield "cmac", choose((0, 17), (17,), (0,))
     yield "cmac_verify", choose([(17, 16), (0, 4)], [(0, 4)], [(17, 16)])
-    yield "ccm_seal", choose([(7, 0, 1, 4)], [(7, 0, 1, 4)], [(13, 8, 33, 8)] * (word == 4))
+    for call in "ccm_seal", "ccm_open":
+        yield call, choose([(7, 0, 1, 4)], [(7, 0, 1, 4)], [(13, 8, 33, 8)] * (word == 4))
     yield "a_round", choose(*2 * [[(name, way) for name in ("cipher_round", "equiv_inv_cipher_round") for way in ("", "_par")]], ())
     yield "columns", [("mix_columns",), ("inv_mix_columns",)]
 
