@@ -373,7 +373,7 @@ class Keyed:
         want = [x for b in blocks[1:] for x in b]
         return Call("aes_cbc_encrypt", [self.schedule(), Buffer("cbc", blocks[0], blocks[-1]),
                                         Buffer("blocks", self.content(count), want), count], DONE, steps=steps, plain=self.content(count),
-                    may_stay={"plain": 16} if self.length_size == 8 else None)
+                    may_stay={"plain": 16} if self.program.machine.relaxed else None)
 
     # Key wrap (SP 800-38F, 6.1 to 6.3). In step t, the block A ^ [t] or A, with a semiblock R, is named as bytes of block t - 1.
     def cipher_of(self, block, direction="encrypt"):

@@ -141,8 +141,11 @@ class KeyedAes(SingleRounds, Keyed):
         n, a, t, k = (unknown(name) for name in ("nonce", "additional", "text", "tag"))
         sizes = {f for x in (n, a, t, k) for f in between(x, 0, self.most)}
         right = sizes | between(k, 0, len(CCM_TAGS) - 1), CCM_TAGS[0] + 2 * k  # every tag's length
+        wrong = self.lengths_but(CCM_TAGS, "length")
+        if self.program.machine.relaxed:  # RISC-V's code adds a tag's lowest bit to a comparison: of a number that isn't known this says nothing
+            right, wrong = (sizes, CCM_TAGS[-1]), [*wrong[:-1], (CCM_TAGS[-1] + 1, set()), (CCM_TAGS[-1] + 2, set())]
         refusals = [(self.no_key(), n, k, NO_KEY, sizes)]
-        refusals += [(self.schedule(), n, length, TAG_LENGTH, sizes | facts) for length, facts in self.lengths_but(CCM_TAGS, "length")]
+        refusals += [(self.schedule(), n, length, TAG_LENGTH, sizes | facts) for length, facts in wrong]
         refusals += [(self.schedule(), length, right[1], NONCE_LENGTH, right[0] | facts) for length, facts in self.lengths_but(NONCES, "length")]
         refusals += [(self.schedule(), length, right[1], TOO_LONG, right[0] | between(t, 1 << 8 * (15 - length), self.most))
                      for length in NONCES[1:] if self.most >> 8 * (15 - length)]
