@@ -68,6 +68,7 @@ Instruction = namedtuple("Instruction", "run name operands next form")  # form: 
 LIBC = "memcpy", "memmove", "memset"
 LEAD, LAST = 2, 200  # the number of the first block of a buffer whose length isn't known; those that occur are less than LAST
 WRAPPED = "wrapped"  # an unknown: the block from which on the counter has wrapped around, if that is in what is done
+FARTHEST = 1 << 16  # how many bytes the stack pointer may move at once: more than any frame has
 ROOM = Pointer("room", 0)  # how many bytes of keystream come before the counter of GCM, 32 bits of unknown value, wraps around
 SECRET = "secret"  # a flag that depends on the key or on data; None is a flag that is undefined
 RETURN_ADDRESS = Pointer("return address", 0)
@@ -1120,6 +1121,8 @@ class Machine:
         """What lies below the red zone may be overwritten at any time, by a signal's handler."""
         if not is_pointer(after) or after.base != "stack":
             raise Unproved("the stack pointer leaves the stack")
+        if abs(after.offset - before.offset) > FARTHEST:
+            raise Unproved("the stack pointer moves too far")
         self.stale.update(range(before.offset - self.red_zone, after.offset - self.red_zone))
 
     def go_to(self, address):

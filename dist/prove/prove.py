@@ -53,8 +53,8 @@ def aes_cases(choose):
     for way, counts in (("", choose(range(65), (2, 17), (0, 1, 3, 8, 16))), ("_to", choose(range(65), (17,), (0, 1, 2))),
                         ("_with", choose(range(1, 65), (1,), (17,)))):
         yield "blocks", [(direction, n, way) for direction in ("encrypt", "decrypt") for n in counts]
-    counts = 0, 1, 16, 33, 64, 130
-    yield "add_keystream", [(0, n) for n in choose(counts, (33,), (0, 1, 16, 64, 130))] + [(2 ** 64 - 21, 20), (5, 40, 2)]
+    counts = 0, 1, 16, 33, 64, 130, 450
+    yield "add_keystream", [(0, n) for n in choose(counts, (33,), (0, 1, 16, 64, 130, 450))] + [(2 ** 64 - 21, 20), (5, 40, 2)]
     yield "add_keystream", [(3, n, aes.NEVER, "_to") for n in choose(counts, (33,), (0, 130))]
     after = [(0, 16, 9), (5, 40, 9), (0, 33, 5)]  # the text, where a batch goes on
     yield "add_keystream", choose(after, after[:1], after[1:2])
