@@ -276,10 +276,12 @@ FAULTS = {
 }
 
 # Code that no case shows, as it changes nothing: only what ran is counted. The last is the case of `make prove` that runs the function.
+# The list of uncovered.py allows an export three conditional instructions that go one way, so here are four.
+MORE_THAN_LISTED = 4
 UNREACHED = {
     "x86_64/aes": [
-        ("a jump that never goes", WIPE, ENTRY, r"\1\txorl\t%eax, %eax\n\ttestl\t%eax, %eax\n\tjne\t77f\n77:\n", "wipe"),
+        ("jumps that never go", WIPE, ENTRY, r"\1\txorl\t%eax, %eax\n\ttestl\t%eax, %eax\n" + MORE_THAN_LISTED * r"\tjne\t77f\n77:\n", "wipe"),
         ("an instruction that never runs", WIPE, ENTRY, r"\1\tjmp\t77f\n\tmovb\t$1, (%rdi)\n77:\n", "wipe"),
-        ("a carry that never comes", WIPE, ENTRY, r"\1\txorl\t%eax, %eax\n\tadcq\t$0, %rax\n", "wipe"),
+        ("carries that never come", WIPE, ENTRY, r"\1\txorl\t%eax, %eax\n" + MORE_THAN_LISTED * r"\tadcq\t$0, %rax\n", "wipe"),
     ],
 }
