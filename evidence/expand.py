@@ -24,7 +24,7 @@ WAYS = {"": "BothWays", "Enc": "Encrypt", "Dec": "Decrypt"}
 # The form in which a type of a crate keeps its round keys, for a key of the size K.
 FORMS = {
     "aes": dict.fromkeys(WAYS, "aes::Fixsliced<K>"),
-    "aes_hybrid": dict.fromkeys(WAYS, "aes_hybrid::BothLists<K>") | {"Enc": "aes_hybrid::Encrypting<K>"},
+    "aes_hybrid": dict.fromkeys(WAYS, "aes_hybrid::BothWaysKeys<K>") | {"Enc": "aes_hybrid::EncryptionKeys<K>"},
 }
 
 # The calls after which the stack is searched: over which forms they are, and the blocks or bytes that they take.

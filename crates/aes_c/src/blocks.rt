@@ -5,7 +5,7 @@ ghost use Rattle.aes_planes.specs.Each.{Each};
 ghost use Rattle.aes_planes.specs.Fips197 as fips;
 ghost use Rattle.aes_c.specs.Form.{key_in, HoldsKey, IsMade};
 
-use crate::form::{Aes, lent, lent_back};
+use crate::form::{Aes, cipher_of, inverse_cipher_of};
 use crate::status::{DONE, NO_KEY, UNEQUAL_COUNTS};
 use aes_cipher::cipher::{Block, BlockCipherDecrypt, BlockCipherEncrypt};
 
@@ -22,7 +22,7 @@ pub extern "C" fn fotsgure_aes_encrypt_blocks(aes: &Aes, blocks: &mut [Block]) -
     if !aes.key.holds_key() {
         return NO_KEY;
     }
-    lent(&aes.key).encrypt_blocks(blocks);
+    cipher_of(&aes.key).encrypt_blocks(blocks);
     DONE
 }
 
@@ -39,7 +39,7 @@ pub extern "C" fn fotsgure_aes_decrypt_blocks(aes: &Aes, blocks: &mut [Block]) -
     if !aes.key.holds_key() {
         return NO_KEY;
     }
-    lent_back(aes).decrypt_blocks(blocks);
+    inverse_cipher_of(aes).decrypt_blocks(blocks);
     DONE
 }
 
@@ -66,7 +66,7 @@ pub extern "C" fn fotsgure_aes_encrypt_blocks_to(
         return NO_KEY;
     }
     output.copy_from_slice(input);
-    lent(&aes.key).encrypt_blocks(output);
+    cipher_of(&aes.key).encrypt_blocks(output);
     DONE
 }
 
@@ -94,6 +94,6 @@ pub extern "C" fn fotsgure_aes_decrypt_blocks_to(
         return NO_KEY;
     }
     output.copy_from_slice(input);
-    lent_back(aes).decrypt_blocks(output);
+    inverse_cipher_of(aes).decrypt_blocks(output);
     DONE
 }

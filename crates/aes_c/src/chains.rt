@@ -4,7 +4,7 @@ ghost use Rattle.std.specs.Prelude.{◌≡◌, ◌≢◌, ◌↔◌};
 ghost use Rattle.cbc.specs.Cbc.{chained, last_of, unchained};
 ghost use Rattle.aes_c.specs.Form.{round_keys_in, HoldsKey, IsMade};
 
-use crate::form::{Aes, lent, lent_back};
+use crate::form::{Aes, cipher_of, inverse_cipher_of};
 use crate::status::{DONE, NO_KEY};
 use aes_cipher::cipher::Block;
 use cbc::Cbc;
@@ -25,7 +25,7 @@ pub extern "C" fn fotsgure_aes_cbc_encrypt(aes: &Aes, cbc: &mut Cbc, blocks: &mu
     if !aes.key.holds_key() {
         return NO_KEY;
     }
-    cbc.encrypt_blocks(&lent(&aes.key), blocks);
+    cbc.encrypt_blocks(&cipher_of(&aes.key), blocks);
     DONE
 }
 
@@ -45,6 +45,6 @@ pub extern "C" fn fotsgure_aes_cbc_decrypt(aes: &Aes, cbc: &mut Cbc, blocks: &mu
     if !aes.key.holds_key() {
         return NO_KEY;
     }
-    cbc.decrypt_blocks(&lent_back(aes), blocks);
+    cbc.decrypt_blocks(&inverse_cipher_of(aes), blocks);
     DONE
 }

@@ -9,8 +9,8 @@
 //! - Both are `repr(C)`, `Drop`, `NotClone` and `Zeroize`, and have a method `set(key: &[u8])`. It
 //!   takes a key of 16, 24 or 32 bytes, reads nothing of the struct and leaves nothing of it.
 //! - `is_key_size(bytes)` says whether keys have this many bytes.
-//! - `lent(&aes.key)` and `lent_back(aes)` lend the key of a struct that holds one as a cipher that
-//!   encrypts, which is a `LentKey`, and as one that decrypts.
+//! - `cipher_of(&aes.key)` and `inverse_cipher_of(aes)` lend the key of a struct that holds one, as a
+//!   cipher that encrypts, which is a `BuildCipher`, and as one that decrypts.
 //! - `RoundWord` is the word on which single rounds are computed.
 //! - `specs/Form.antt` says in its head what its names stand for.
 
@@ -19,9 +19,9 @@ ghost use Rattle.aes_c.specs.Form.{key_in, HoldsKey, IsKept, IsMade};
 
 use crate::width::BuildWidth;
 use aes_cipher::cipher::{Decrypt, Encrypt};
+use aes_hybrid::borrowed_cipher::BorrowedCipher;
 use aes_hybrid::kept_key::KeptBothWays;
 pub(crate) use aes_hybrid::kept_key::{KeptKey, is_key_size};
-use aes_hybrid::lent::Lent;
 use aes_soft::soft::blocks::BatchWord;
 
 /// The word on which single rounds are computed: one for all of them, so that the circuits are in
@@ -32,27 +32,27 @@ pub(crate) type RoundWord = BatchWord;
 pub type Aes = KeptBothWays;
 
 /// The cipher that encrypts.
-pub(crate) type LentKey<'a> = Lent<'a, Encrypt, BuildWidth>;
+pub(crate) type BuildCipher<'a> = BorrowedCipher<'a, Encrypt, BuildWidth>;
 
 // How many bytes the struct has by the header, with nothing between its fields.
 const _: () = prove!(size_of::<Aes>() == 484);
 
 /// Lends the key of a struct that holds one, to encrypt.
 #[inline(always)]
-pub(crate) fn lent(kept: &KeptKey) -> LentKey<'_>
+pub(crate) fn cipher_of(kept: &KeptKey) -> BuildCipher<'_>
     requires kept { IsKept kept.now }
     requires holds { HoldsKey kept.now }
     ensures { result ≡ key_in kept.now }
 {
-    kept.lent()
+    kept.cipher()
 }
 
 /// Lends the key of a struct that holds one, to decrypt.
 #[inline(always)]
-pub(crate) fn lent_back(aes: &Aes) -> Lent<'_, Decrypt, BuildWidth>
+pub(crate) fn inverse_cipher_of(aes: &Aes) -> BorrowedCipher<'_, Decrypt, BuildWidth>
     requires made { IsMade aes.now }
     requires holds { HoldsKey aes.now.key }
     ensures { result ≡ key_in aes.now.key }
 {
-    aes.lent_back()
+    aes.inverse_cipher()
 }

@@ -5,7 +5,7 @@ ghost use Rattle.ccm.specs.Ccm as nist;
 ghost use Rattle.ccm.specs.Ccm.{Fits, IsNonceLength, IsTagLength};
 ghost use Rattle.aes_c.specs.Form.{round_keys_in, HoldsKey, IsMade};
 
-use crate::form::{Aes, lent};
+use crate::form::{Aes, cipher_of};
 use crate::status::{DONE, NO_KEY, NONCE_LENGTH, REFUSED, TAG_LENGTH, TOO_LONG};
 use aes_cipher::zeroize::wipe_stack;
 use ccm::{InvalidMessage, NotDecrypted, decrypt, encrypt};
@@ -58,7 +58,7 @@ pub extern "C" fn fotsgure_aes_ccm_seal(
     if !aes.key.holds_key() {
         return NO_KEY;
     }
-    let result = encrypt(&lent(&aes.key), nonce, additional, text, tag);
+    let result = encrypt(&cipher_of(&aes.key), nonce, additional, text, tag);
     wipe_stack::<MESSAGE_STACK>();
     match result {
         Ok(()) => DONE,
@@ -97,7 +97,7 @@ pub extern "C" fn fotsgure_aes_ccm_open(
     if !aes.key.holds_key() {
         return NO_KEY;
     }
-    let result = decrypt(&lent(&aes.key), nonce, additional, text, tag);
+    let result = decrypt(&cipher_of(&aes.key), nonce, additional, text, tag);
     wipe_stack::<MESSAGE_STACK>();
     match result {
         Ok(()) => DONE,

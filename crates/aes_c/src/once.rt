@@ -7,7 +7,7 @@ ghost use Rattle.aes_cipher.specs.KeySizes.{IsKeySize};
 ghost use Rattle.aes_ctr.specs.CounterMode.{keystream_byte, plus_stream};
 
 use crate::blocks::fotsgure_aes_decrypt_blocks;
-use crate::form::{Aes, KeptKey, is_key_size, lent};
+use crate::form::{Aes, KeptKey, cipher_of, is_key_size};
 use crate::kept::fotsgure_aes_set_key;
 use crate::status::{DONE, KEY_LENGTH, KEYSTREAM_END};
 use crate::stream::Ctr;
@@ -29,7 +29,7 @@ pub extern "C" fn fotsgure_aes_encrypt_blocks_with(key: &[u8], blocks: &mut [Blo
     }
     let mut kept = MustWipe::<KeptKey>::zeroed();
     kept.value_mut().set(key);
-    lent(kept.value()).encrypt_blocks(blocks);
+    cipher_of(kept.value()).encrypt_blocks(blocks);
     kept.wipe();
     DONE
 }
@@ -82,7 +82,7 @@ pub extern "C" fn fotsgure_aes_add_keystream_with(
     }
     let mut kept = MustWipe::<KeptKey>::zeroed();
     kept.value_mut().set(key);
-    add_keystream(&lent(kept.value()), &ctr.iv, ctr.position, bytes);
+    add_keystream(&cipher_of(kept.value()), &ctr.iv, ctr.position, bytes);
     ctr.position += bytes.len() as u64;
     kept.wipe();
     DONE

@@ -4,7 +4,7 @@ ghost use Rattle.std.specs.Prelude.{◌≡◌, ◌≢◌, ◌↔◌, ◌+◌, �
 ghost use Rattle.aes_ctr.specs.CounterMode.{keystream_byte, plus_stream};
 ghost use Rattle.aes_c.specs.Form.{round_keys_in, HoldsKey, IsMade};
 
-use crate::form::{Aes, lent};
+use crate::form::{Aes, cipher_of};
 use crate::status::{DONE, KEYSTREAM_END, NO_KEY, UNEQUAL_COUNTS};
 use aes_cipher::not_clone::NotClone;
 use aes_ctr::add_keystream;
@@ -56,7 +56,7 @@ pub extern "C" fn fotsgure_aes_add_keystream(aes: &Aes, ctr: &mut Ctr, bytes: &m
 {
     let status = refusal(aes, ctr.position, bytes.len());
     if status == DONE {
-        add_keystream(&lent(&aes.key), &ctr.iv, ctr.position, bytes);
+        add_keystream(&cipher_of(&aes.key), &ctr.iv, ctr.position, bytes);
         ctr.position += bytes.len() as u64;
     }
     status

@@ -5,7 +5,7 @@ ghost use Rattle.cmac.specs.Cmac as nist;
 ghost use Rattle.aes_c.specs.Form.{round_keys_in, HoldsKey, IsMade};
 ghost use Rattle.aes_c.specs.Lengths.{IsCmacLength};
 
-use crate::form::{Aes, lent};
+use crate::form::{Aes, cipher_of};
 use crate::status::{DONE, NO_KEY, REFUSED, TAG_LENGTH};
 use aes_cipher::cipher::Block;
 use aes_cipher::zeroize::wipe_stack;
@@ -33,7 +33,7 @@ pub extern "C" fn fotsgure_aes_cmac(aes: &Aes, message: &[u8], output: &mut Bloc
     if !aes.key.holds_key() {
         return NO_KEY;
     }
-    *output = tag(&lent(&aes.key), message);
+    *output = tag(&cipher_of(&aes.key), message);
     wipe_stack::<TAG_STACK>();
     DONE
 }
@@ -59,7 +59,7 @@ pub extern "C" fn fotsgure_aes_cmac_verify(aes: &Aes, message: &[u8], claimed: &
     if claimed.len() < SHORTEST || claimed.len() > LONGEST {
         return TAG_LENGTH;
     }
-    let is_right = is_tag_start(&lent(&aes.key), message, claimed);
+    let is_right = is_tag_start(&cipher_of(&aes.key), message, claimed);
     wipe_stack::<TAG_STACK>();
     if is_right { DONE } else { REFUSED }
 }

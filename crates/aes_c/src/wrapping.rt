@@ -7,7 +7,7 @@ ghost use Rattle.key_wrap.specs.Padded.{heading, unwrapped_string, wrapped_padde
 ghost use Rattle.key_wrap.specs.Padded.{FitUnpadded, IsPadded};
 ghost use Rattle.aes_c.specs.Form.{round_keys_in, HoldsKey, IsMade};
 
-use crate::form::{Aes, lent, lent_back};
+use crate::form::{Aes, cipher_of, inverse_cipher_of};
 use crate::status::{DONE, INVALID_COUNT, NO_KEY, REFUSED};
 use aes_cipher::zeroize::wipe_stack;
 use key_wrap::{InvalidCount, NotUnwrapped, Semiblock, unwrap, unwrap_padded, wrap, wrap_padded};
@@ -32,7 +32,7 @@ pub extern "C" fn fotsgure_aes_wrap(aes: &Aes, key: &[Semiblock], output: &mut [
     if !aes.key.holds_key() {
         return NO_KEY;
     }
-    let result = wrap(&lent(&aes.key), key, output);
+    let result = wrap(&cipher_of(&aes.key), key, output);
     wipe_stack::<WRAPPING_STACK>();
     match result {
         Ok(()) => DONE,
@@ -66,7 +66,7 @@ pub extern "C" fn fotsgure_aes_unwrap(
     if !aes.key.holds_key() {
         return NO_KEY;
     }
-    let result = unwrap(&lent_back(aes), sealed, output);
+    let result = unwrap(&inverse_cipher_of(aes), sealed, output);
     wipe_stack::<WRAPPING_STACK>();
     match result {
         Ok(()) => DONE,
@@ -91,7 +91,7 @@ pub extern "C" fn fotsgure_aes_wrap_padded(aes: &Aes, key: &[u8], output: &mut [
     if !aes.key.holds_key() {
         return NO_KEY;
     }
-    let result = wrap_padded(&lent(&aes.key), key, output);
+    let result = wrap_padded(&cipher_of(&aes.key), key, output);
     wipe_stack::<WRAPPING_STACK>();
     match result {
         Ok(()) => DONE,
@@ -131,7 +131,7 @@ pub extern "C" fn fotsgure_aes_unwrap_padded(
     if !aes.key.holds_key() {
         return NO_KEY;
     }
-    let result = unwrap_padded(&lent_back(aes), sealed, output);
+    let result = unwrap_padded(&inverse_cipher_of(aes), sealed, output);
     wipe_stack::<WRAPPING_STACK>();
     match result {
         Ok(bytes) => {

@@ -126,13 +126,13 @@ fn add_by_backend<B: BlockCipherEncBackend, K: CounterBlocks>(
 
 // Bytes to which the keystream is to be added, from a position on.
 #[derive(Drop)]
-struct Due<'k, 'a, K: CounterBlocks> {
+struct AddStream<'k, 'a, K: CounterBlocks> {
     counters: &'k K,
     position: u64,
     bytes: &'a mut [u8],
 }
 
-impl<'k, 'a, K: CounterBlocks> BlockCipherEncClosure for Due<'k, 'a, K> {
+impl<'k, 'a, K: CounterBlocks> BlockCipherEncClosure for AddStream<'k, 'a, K> {
     ghost did = { λ before w after.
         (before.position + length before.bytes.now < 2 ^ 64
         → after.bytes.now ≡ plus_stream (stream_byte w (K.block before.counters.now)) before.position before.bytes.now)
@@ -160,12 +160,12 @@ pub fn add_stream<C: BlockCipherEncrypt, K: CounterBlocks>(
         add_to_one(cipher, counters, position, bytes);
     } else {
         let blocks = (from + bytes.len()).div_ceil(16);
-        let mut due = Due {
+        let mut adding = AddStream {
             counters,
             position,
             bytes,
         };
-        cipher.encrypt_with_backend_for(blocks, &mut due);
+        cipher.encrypt_with_backend_for(blocks, &mut adding);
     }
 }
 

@@ -5,7 +5,7 @@ ghost use Rattle.aes_planes.specs.Fips197 as fips;
 ghost use Rattle.aes_planes.proofs.Standard.CipherLaws.{two_keys};
 ghost use Rattle.aes_soft.specs.Stored as soft;
 
-use crate::lent::Lent;
+use crate::borrowed_cipher::BorrowedCipher;
 use crate::widths::Width;
 use aes_cipher::cipher::{
     BatchOfFour, BatchSizeUser, BlockCipherDecBackend, BlockCipherEncBackend, Decrypt, Encrypt,
@@ -18,11 +18,11 @@ use aes_soft::soft::blocks::process_batch_under;
 use std::marker::Model;
 use std::slice;
 
-impl<D: LaneRounds, W: Width> BatchSizeUser for Lent<'_, D, W> {
+impl<D: LaneRounds, W: Width> BatchSizeUser for BorrowedCipher<'_, D, W> {
     type Par = BatchOfFour;
 }
 
-impl<W: Width> BlockCipherEncBackend for Lent<'_, Encrypt, W> {
+impl<W: Width> BlockCipherEncBackend for BorrowedCipher<'_, Encrypt, W> {
     #[inline(always)]
     fn encrypt_block(&self, block: &mut Block) {
         self.process_few(slice::from_mut(block));
@@ -40,7 +40,7 @@ impl<W: Width> BlockCipherEncBackend for Lent<'_, Encrypt, W> {
     }
 }
 
-impl<W: Width> BlockCipherDecBackend for Lent<'_, Decrypt, W> {
+impl<W: Width> BlockCipherDecBackend for BorrowedCipher<'_, Decrypt, W> {
     #[inline(always)]
     fn decrypt_block(&self, block: &mut Block) {
         self.process_few(slice::from_mut(block));
@@ -54,8 +54,8 @@ impl<W: Width> BlockCipherDecBackend for Lent<'_, Decrypt, W> {
 
 // Processes single blocks by vector permutations, and batches on planes of the same round keys.
 pub(crate) struct Batches<'a, D: LaneRounds, W: Width> {
-    few: &'a Lent<'a, D, W>,
-    words: &'a [W::Many],
+    few: &'a BorrowedCipher<'a, D, W>,
+    words: &'a [W::PlaneWord],
 }
 
 impl<D: LaneRounds, W: Width> Drop for Batches<'_, D, W> {
@@ -70,15 +70,18 @@ impl<'a, D: LaneRounds, W: Width> Model for Batches<'a, D, W> {
 
     ghost view = { λ batches. batches.few.now };
 
-    ghost invariant = { λ batches. soft.IsFullSchedule W.Many.bits W.Many.BLOCKS batches.words.now
-        × (soft.key_of_planes W.Many.bits W.Many.BLOCKS batches.words.now ≡ batches.few.now) };
+    ghost invariant = { λ batches. soft.IsFullSchedule W.PlaneWord.bits W.PlaneWord.BLOCKS batches.words.now
+        × (soft.key_of_planes W.PlaneWord.bits W.PlaneWord.BLOCKS batches.words.now ≡ batches.few.now) };
 }
 
 impl<'a, D: LaneRounds, W: Width> Batches<'a, D, W> {
     #[inline(always)]
-    pub(crate) fn new(few: &'a Lent<'a, D, W>, words: &'a [W::Many]) -> Batches<'a, D, W>
-        requires is_schedule { soft.IsFullSchedule W.Many.bits W.Many.BLOCKS words.now }
-        requires same_key { soft.key_of_planes W.Many.bits W.Many.BLOCKS words.now ≡ few.now }
+    pub(crate) fn new(
+        few: &'a BorrowedCipher<'a, D, W>,
+        words: &'a [W::PlaneWord],
+    ) -> Batches<'a, D, W>
+        requires is_schedule { soft.IsFullSchedule W.PlaneWord.bits W.PlaneWord.BLOCKS words.now }
+        requires same_key { soft.key_of_planes W.PlaneWord.bits W.PlaneWord.BLOCKS words.now ≡ few.now }
         ensures { result ≡ few.now }
     {
         Batches { few, words }
@@ -107,7 +110,7 @@ impl<W: Width> BlockCipherEncBackend for Batches<'_, Encrypt, W> {
 
     #[inline(always)]
     fn encrypt_par_blocks(&self, blocks: &mut [Block]) {
-        process_batch_under::<W::Many, Encrypt>(self.words, blocks, &mut Layers::new());
+        process_batch_under::<W::PlaneWord, Encrypt>(self.words, blocks, &mut Layers::new());
     }
 
     #[tactic(auto, using(aes_cipher::proofs::FirstBlocks::first_blocks))]
@@ -129,6 +132,6 @@ impl<W: Width> BlockCipherDecBackend for Batches<'_, Decrypt, W> {
 
     #[inline(always)]
     fn decrypt_par_blocks(&self, blocks: &mut [Block]) {
-        process_batch_under::<W::Many, Decrypt>(self.words, blocks, &mut Layers::new());
+        process_batch_under::<W::PlaneWord, Decrypt>(self.words, blocks, &mut Layers::new());
     }
 }

@@ -6,7 +6,7 @@ ghost use Rattle.aes_planes.specs.Fips197 as fips;
 ghost use Rattle.aes_permute.specs.Keys.{key_of_lanes, IsCipherSchedule};
 
 use crate::batches::process_on_planes;
-use crate::lent::Lent;
+use crate::borrowed_cipher::BorrowedCipher;
 use crate::widths::Width;
 use aes_permute::lane_rounds::LaneRounds;
 use aes_planes::soft::word::{Batch, Block, Word};
@@ -26,7 +26,7 @@ fn blocks_on_planes<D: LaneRounds, W: Width>(count: usize) -> usize
     if count < least {
         return 0;
     }
-    let rest = count % <W::Many as Word>::Blocks::LEN;
+    let rest = count % <W::PlaneWord as Word>::Blocks::LEN;
     if rest <= W::MOST_AFTER_BATCHES {
         count - rest
     } else {
@@ -49,7 +49,7 @@ fn process_first<D: PlaneCipher, W: Word>(keys: &[Block], blocks: &mut [Block], 
     }
 }
 
-impl<D: LaneRounds + PlaneCipher, W: Width> Lent<'_, D, W> {
+impl<D: LaneRounds + PlaneCipher, W: Width> BorrowedCipher<'_, D, W> {
     /// Processes each block of a slice in place: whole batches on planes, and the others by vector
     /// permutations where they are few, since these take less time so.
     #[tactic(auto, using(crate::proofs::Fronts::first_then_others))]
@@ -57,7 +57,7 @@ impl<D: LaneRounds + PlaneCipher, W: Width> Lent<'_, D, W> {
         ensures { Each (D.processed (fips.key_expansion self.now)) blocks.old blocks.new }
     {
         let whole = blocks_on_planes::<D, W>(blocks.len());
-        process_first::<D, W::Many>(self.keys(), blocks, whole);
+        process_first::<D, W::PlaneWord>(self.keys(), blocks, whole);
         self.process_few(&mut blocks[whole..]);
     }
 }

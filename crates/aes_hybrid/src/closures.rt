@@ -7,7 +7,7 @@ ghost use Rattle.aes_permute.specs.Keys.{key_of_lanes, AreInverse, IsCipherSched
 ghost use Rattle.aes_soft.specs.Stored as soft;
 
 use crate::backends::Batches;
-use crate::lent::Lent;
+use crate::borrowed_cipher::BorrowedCipher;
 use crate::plane_keys::PlaneKeys;
 use crate::widths::Width;
 use aes_cipher::cipher::{BlockCipherDecClosure, BlockCipherEncClosure, Decrypt, Encrypt};
@@ -21,12 +21,12 @@ const CLOSURE_STACK: usize = 2032;
 // Calls a closure with planes to encrypt. In a call of its own, so that its stack can be wiped.
 #[inline(never)]
 fn call_to_encrypt<W: Width, F: BlockCipherEncClosure>(
-    few: &Lent<'_, Encrypt, W>,
-    words: &[W::Many],
+    few: &BorrowedCipher<'_, Encrypt, W>,
+    words: &[W::PlaneWord],
     f: &mut F,
 )
-    requires is_schedule { soft.IsFullSchedule W.Many.bits W.Many.BLOCKS words.now }
-    requires same_key { soft.key_of_planes W.Many.bits W.Many.BLOCKS words.now ≡ few.now }
+    requires is_schedule { soft.IsFullSchedule W.PlaneWord.bits W.PlaneWord.BLOCKS words.now }
+    requires same_key { soft.key_of_planes W.PlaneWord.bits W.PlaneWord.BLOCKS words.now ≡ few.now }
     ensures { F.did f.old (fips.key_expansion few.now) f.new }
 {
     f.call(&Batches::new(few, words));
@@ -40,9 +40,9 @@ fn lend_planes_to_encrypt<W: Width, F: BlockCipherEncClosure>(keys: &[Block], f:
     requires { IsCipherSchedule keys.now }
     ensures { F.did f.old (fips.key_expansion (key_of_lanes keys.now)) f.new }
 {
-    let mut planes = PlaneKeys::<W::Many>::zeroed();
+    let mut planes = PlaneKeys::<W::PlaneWord>::zeroed();
     planes.store(keys);
-    let few = Lent::new(keys, keys);
+    let few = BorrowedCipher::new(keys, keys);
     call_to_encrypt::<W, F>(&few, planes.lend(keys.len()), f);
     planes.wipe();
     wipe_stack::<CLOSURE_STACK>();
@@ -51,7 +51,7 @@ fn lend_planes_to_encrypt<W: Width, F: BlockCipherEncClosure>(keys: &[Block], f:
 /// Calls a closure with a backend that encrypts under the key that is lent.
 #[inline(always)]
 pub(crate) fn lend_to_encrypt<W: Width, F: BlockCipherEncClosure>(
-    few: &Lent<'_, Encrypt, W>,
+    few: &BorrowedCipher<'_, Encrypt, W>,
     blocks: usize,
     f: &mut F,
 )
@@ -67,12 +67,12 @@ pub(crate) fn lend_to_encrypt<W: Width, F: BlockCipherEncClosure>(
 // Calls a closure with planes to decrypt.
 #[inline(never)]
 fn call_to_decrypt<W: Width, F: BlockCipherDecClosure>(
-    few: &Lent<'_, Decrypt, W>,
-    words: &[W::Many],
+    few: &BorrowedCipher<'_, Decrypt, W>,
+    words: &[W::PlaneWord],
     f: &mut F,
 )
-    requires is_schedule { soft.IsFullSchedule W.Many.bits W.Many.BLOCKS words.now }
-    requires same_key { soft.key_of_planes W.Many.bits W.Many.BLOCKS words.now ≡ few.now }
+    requires is_schedule { soft.IsFullSchedule W.PlaneWord.bits W.PlaneWord.BLOCKS words.now }
+    requires same_key { soft.key_of_planes W.PlaneWord.bits W.PlaneWord.BLOCKS words.now ≡ few.now }
     ensures { F.did f.old (fips.key_expansion few.now) f.new }
 {
     f.call(&Batches::new(few, words));
@@ -89,9 +89,9 @@ fn lend_planes_to_decrypt<W: Width, F: BlockCipherDecClosure>(
     requires inverse { AreInverse inverse.now keys.now }
     ensures { F.did f.old (fips.key_expansion (key_of_lanes keys.now)) f.new }
 {
-    let mut of_cipher = PlaneKeys::<W::Many>::zeroed();
+    let mut of_cipher = PlaneKeys::<W::PlaneWord>::zeroed();
     of_cipher.store(keys);
-    let few = Lent::new(keys, inverse);
+    let few = BorrowedCipher::new(keys, inverse);
     call_to_decrypt::<W, F>(&few, of_cipher.lend(keys.len()), f);
     of_cipher.wipe();
     wipe_stack::<CLOSURE_STACK>();
@@ -100,7 +100,7 @@ fn lend_planes_to_decrypt<W: Width, F: BlockCipherDecClosure>(
 /// Calls a closure with a backend that decrypts under the key that is lent.
 #[inline(always)]
 pub(crate) fn lend_to_decrypt<W: Width, F: BlockCipherDecClosure>(
-    few: &Lent<'_, Decrypt, W>,
+    few: &BorrowedCipher<'_, Decrypt, W>,
     blocks: usize,
     f: &mut F,
 )

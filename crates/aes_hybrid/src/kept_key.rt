@@ -5,7 +5,7 @@ ghost use Rattle.aes_cipher.specs.KeySizes.{IsKeySize};
 ghost use Rattle.aes_hybrid.specs.KeptKey.{key_in, no_key, no_key_both_ways, HoldsKey, IsKept};
 ghost use Rattle.aes_hybrid.specs.KeptKey.{IsKeptBothWays, IsZeroAfter, IsZeroAfterBoth};
 
-use crate::lent::Lent;
+use crate::borrowed_cipher::BorrowedCipher;
 use crate::widths::Width;
 use aes_cipher::cipher::{Decrypt, Encrypt};
 use aes_cipher::not_clone::NotClone;
@@ -82,14 +82,14 @@ impl KeptKey {
 
     /// Lends the key of a struct that holds one as a cipher that encrypts.
     #[inline(always)]
-    pub fn lent<W: Width>(&self) -> Lent<'_, Encrypt, W>
+    pub fn cipher<W: Width>(&self) -> BorrowedCipher<'_, Encrypt, W>
         requires kept { IsKept self.now }
         requires holds { HoldsKey self.now }
         ensures key { result ≡ key_in self.now }
         ensures size { length result ≡ self.now.length }
     {
         let keys = keys_in_room(&self.round_keys, self.length as usize);
-        Lent::new(keys, keys)
+        BorrowedCipher::new(keys, keys)
     }
 }
 
@@ -141,13 +141,13 @@ impl KeptBothWays {
 
     /// Lends the key of a struct that holds one as a cipher that decrypts.
     #[inline(always)]
-    pub fn lent_back<W: Width>(&self) -> Lent<'_, Decrypt, W>
+    pub fn inverse_cipher<W: Width>(&self) -> BorrowedCipher<'_, Decrypt, W>
         requires kept { IsKeptBothWays self.now }
         requires holds { HoldsKey self.now.key }
         ensures { result ≡ key_in self.now.key }
     {
         let size = self.key.length as usize;
         let keys = keys_in_room(&self.key.round_keys, size);
-        Lent::new(keys, keys_in_room(&self.decrypting, size))
+        BorrowedCipher::new(keys, keys_in_room(&self.decrypting, size))
     }
 }

@@ -5,16 +5,16 @@
 mod backends;
 mod batches;
 mod blocks;
+pub mod borrowed_cipher;
 mod closures;
 pub mod examples;
 pub mod kept_key;
-pub mod lent;
 mod lists;
 mod names;
 mod plane_keys;
 pub mod widths;
 
-pub use lists::{BothLists, Encrypting};
+pub use lists::{BothWaysKeys, EncryptionKeys};
 pub use names::{
     Aes128, Aes128Dec, Aes128Enc, Aes192, Aes192Dec, Aes192Enc, Aes256, Aes256Dec, Aes256Enc,
 };

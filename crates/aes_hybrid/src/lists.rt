@@ -4,7 +4,7 @@
 ghost use Rattle.std.specs.Prelude.{◌≡◌, replicate};
 ghost use Rattle.aes_permute.specs.Keys.{key_of_lanes, stored_keys, AreInverse, IsCipherSchedule};
 
-use crate::lent::Lent;
+use crate::borrowed_cipher::BorrowedCipher;
 use crate::widths::{Narrow, Width};
 use aes_cipher::aes::{Decrypts, Encrypts, KeySize, MadeFrom, Processes, StoredKeys};
 use aes_cipher::cipher::{
@@ -19,17 +19,17 @@ use std::marker::PhantomData;
 use std::slice;
 
 /// The stored round keys of Cipher alone, for encryption.
-pub struct Encrypting<K: KeySize, W = Narrow> {
+pub struct EncryptionKeys<K: KeySize, W = Narrow> {
     // The first blocks are the round keys, as they are stored. The others stay zero.
     room: Wiped<LaneRoom>,
     size: PhantomData<K>,
     width: PhantomData<W>,
 }
 
-impl<K: KeySize, W> Drop for Encrypting<K, W> {
+impl<K: KeySize, W> Drop for EncryptionKeys<K, W> {
     #[inline(always)]
     fn drop(self) {
-        let Encrypting {
+        let EncryptionKeys {
             room: _,
             size: _,
             width: _,
@@ -37,9 +37,9 @@ impl<K: KeySize, W> Drop for Encrypting<K, W> {
     }
 }
 
-impl<K: KeySize, W> NotClone for Encrypting<K, W> {}
+impl<K: KeySize, W> NotClone for EncryptionKeys<K, W> {}
 
-impl<K: KeySize, W> StoredKeys for Encrypting<K, W> {
+impl<K: KeySize, W> StoredKeys for EncryptionKeys<K, W> {
     type Size = K;
 
     ghost key = { λ s. key_of_lanes (stored_keys K.SIZE s.room) };
@@ -49,8 +49,8 @@ impl<K: KeySize, W> StoredKeys for Encrypting<K, W> {
     ghost IsWiped = { λ s. s.room ≡ replicate 15 (replicate 16 0) };
 
     #[inline(always)]
-    fn zeroed() -> Encrypting<K, W> {
-        Encrypting {
+    fn zeroed() -> EncryptionKeys<K, W> {
+        EncryptionKeys {
             room: Wiped::zeroed(),
             size: PhantomData,
             width: PhantomData,
@@ -68,8 +68,8 @@ impl<K: KeySize, W> StoredKeys for Encrypting<K, W> {
     }
 
     #[inline(always)]
-    fn copy(&self) -> Encrypting<K, W> {
-        Encrypting {
+    fn copy(&self) -> EncryptionKeys<K, W> {
+        EncryptionKeys {
             room: self.room.copy(),
             size: PhantomData,
             width: PhantomData,
@@ -81,68 +81,68 @@ impl<K: KeySize, W> StoredKeys for Encrypting<K, W> {
     }
 }
 
-impl<K: KeySize, W> Encrypting<K, W> {
+impl<K: KeySize, W> EncryptionKeys<K, W> {
     // Lends the round keys to encrypt.
     #[inline(always)]
-    fn lent(&self) -> Lent<'_, Encrypt, W>
-        requires { ⟦<Encrypting<K, W> as StoredKeys>⟧.AreKeyed self.now }
-        ensures { result ≡ ⟦<Encrypting<K, W> as StoredKeys>⟧.key self.now }
+    fn cipher(&self) -> BorrowedCipher<'_, Encrypt, W>
+        requires { ⟦<EncryptionKeys<K, W> as StoredKeys>⟧.AreKeyed self.now }
+        ensures { result ≡ ⟦<EncryptionKeys<K, W> as StoredKeys>⟧.key self.now }
     {
         let keys = keys_in_room(self.room.value(), K::SIZE);
-        Lent::new(keys, keys)
+        BorrowedCipher::new(keys, keys)
     }
 }
 
-impl<K: KeySize, W: Width> Processes<Encrypt> for Encrypting<K, W> {
+impl<K: KeySize, W: Width> Processes<Encrypt> for EncryptionKeys<K, W> {
     #[inline(always)]
     fn process_one(&self, block: &mut Block) {
-        self.lent().process_few(slice::from_mut(block));
+        self.cipher().process_few(slice::from_mut(block));
     }
 
     fn process_slice(&self, blocks: &mut [Block]) {
-        self.lent().process_blocks(blocks);
+        self.cipher().process_blocks(blocks);
     }
 }
 
-impl<K: KeySize, W: Width> Encrypts for Encrypting<K, W> {
+impl<K: KeySize, W: Width> Encrypts for EncryptionKeys<K, W> {
     fn encrypt_with_backend_for<F: BlockCipherEncClosure>(&self, blocks: usize, f: &mut F) {
-        self.lent().encrypt_with_backend_for(blocks, f);
+        self.cipher().encrypt_with_backend_for(blocks, f);
     }
 }
 
 /// The stored round keys of Cipher, and those of EqInvCipher, for both directions.
-pub struct BothLists<K: KeySize, W = Narrow> {
-    encrypting: Encrypting<K, W>,
+pub struct BothWaysKeys<K: KeySize, W = Narrow> {
+    encrypting: EncryptionKeys<K, W>,
     inverse: Wiped<LaneRoom>,
 }
 
-impl<K: KeySize, W> Drop for BothLists<K, W> {
+impl<K: KeySize, W> Drop for BothWaysKeys<K, W> {
     #[inline(always)]
     fn drop(self) {
-        let BothLists {
+        let BothWaysKeys {
             encrypting: _,
             inverse: _,
         } = self;
     }
 }
 
-impl<K: KeySize, W> NotClone for BothLists<K, W> {}
+impl<K: KeySize, W> NotClone for BothWaysKeys<K, W> {}
 
-impl<K: KeySize, W> StoredKeys for BothLists<K, W> {
+impl<K: KeySize, W> StoredKeys for BothWaysKeys<K, W> {
     type Size = K;
 
-    ghost key = { λ s. ⟦<Encrypting<K, W> as StoredKeys>⟧.key s.encrypting };
+    ghost key = { λ s. ⟦<EncryptionKeys<K, W> as StoredKeys>⟧.key s.encrypting };
 
-    ghost AreKeyed = { λ s. ⟦<Encrypting<K, W> as StoredKeys>⟧.AreKeyed s.encrypting
+    ghost AreKeyed = { λ s. ⟦<EncryptionKeys<K, W> as StoredKeys>⟧.AreKeyed s.encrypting
         × AreInverse (stored_keys K.SIZE s.inverse) (stored_keys K.SIZE s.encrypting.room) };
 
-    ghost IsWiped = { λ s. ⟦<Encrypting<K, W> as StoredKeys>⟧.IsWiped s.encrypting
+    ghost IsWiped = { λ s. ⟦<EncryptionKeys<K, W> as StoredKeys>⟧.IsWiped s.encrypting
         × (s.inverse ≡ replicate 15 (replicate 16 0)) };
 
     #[inline(always)]
-    fn zeroed() -> BothLists<K, W> {
-        BothLists {
-            encrypting: Encrypting::zeroed(),
+    fn zeroed() -> BothWaysKeys<K, W> {
+        BothWaysKeys {
+            encrypting: EncryptionKeys::zeroed(),
             inverse: Wiped::zeroed(),
         }
     }
@@ -161,8 +161,8 @@ impl<K: KeySize, W> StoredKeys for BothLists<K, W> {
     }
 
     #[inline(always)]
-    fn copy(&self) -> BothLists<K, W> {
-        BothLists {
+    fn copy(&self) -> BothWaysKeys<K, W> {
+        BothWaysKeys {
             encrypting: self.encrypting.copy(),
             inverse: self.inverse.copy(),
         }
@@ -173,30 +173,30 @@ impl<K: KeySize, W> StoredKeys for BothLists<K, W> {
     }
 }
 
-impl<K: KeySize, W> BothLists<K, W> {
+impl<K: KeySize, W> BothWaysKeys<K, W> {
     /// No effect; states what is wiped: zeros stand in all the room, of either direction.
     pub fn wiped_is_zero(&self)
-        ensures encrypting { ⟦<Encrypting<K, W> as StoredKeys>⟧.IsWiped self.now.encrypting
+        ensures encrypting { ⟦<EncryptionKeys<K, W> as StoredKeys>⟧.IsWiped self.now.encrypting
             → self.now.encrypting.room ≡ replicate 15 (replicate 16 0) }
-        ensures both { ⟦<BothLists<K, W> as StoredKeys>⟧.IsWiped self.now
+        ensures both { ⟦<BothWaysKeys<K, W> as StoredKeys>⟧.IsWiped self.now
             → (self.now.encrypting.room ≡ replicate 15 (replicate 16 0))
             × (self.now.inverse ≡ replicate 15 (replicate 16 0)) }
     {}
 }
 
-impl<K: KeySize, W> MadeFrom<Encrypting<K, W>> for BothLists<K, W> {
+impl<K: KeySize, W> MadeFrom<EncryptionKeys<K, W>> for BothWaysKeys<K, W> {
     #[inline(always)]
-    fn made_from(stored: &Encrypting<K, W>) -> BothLists<K, W> {
+    fn made_from(stored: &EncryptionKeys<K, W>) -> BothWaysKeys<K, W> {
         let mut inverse = Wiped::<LaneRoom>::zeroed();
         invert_in_room(inverse.value_mut(), stored.room.value(), K::SIZE);
-        BothLists {
+        BothWaysKeys {
             encrypting: stored.copy(),
             inverse,
         }
     }
 }
 
-impl<K: KeySize, W: Width> Processes<Encrypt> for BothLists<K, W> {
+impl<K: KeySize, W: Width> Processes<Encrypt> for BothWaysKeys<K, W> {
     #[inline(always)]
     fn process_one(&self, block: &mut Block) {
         self.encrypting.process_one(block);
@@ -207,37 +207,37 @@ impl<K: KeySize, W: Width> Processes<Encrypt> for BothLists<K, W> {
     }
 }
 
-impl<K: KeySize, W: Width> Encrypts for BothLists<K, W> {
+impl<K: KeySize, W: Width> Encrypts for BothWaysKeys<K, W> {
     fn encrypt_with_backend_for<F: BlockCipherEncClosure>(&self, blocks: usize, f: &mut F) {
         self.encrypting.encrypt_with_backend_for(blocks, f);
     }
 }
 
-impl<K: KeySize, W> BothLists<K, W> {
+impl<K: KeySize, W> BothWaysKeys<K, W> {
     // Lends the round keys to decrypt.
     #[inline(always)]
-    fn lent_back(&self) -> Lent<'_, Decrypt, W>
-        requires { ⟦<BothLists<K, W> as StoredKeys>⟧.AreKeyed self.now }
-        ensures { result ≡ ⟦<BothLists<K, W> as StoredKeys>⟧.key self.now }
+    fn inverse_cipher(&self) -> BorrowedCipher<'_, Decrypt, W>
+        requires { ⟦<BothWaysKeys<K, W> as StoredKeys>⟧.AreKeyed self.now }
+        ensures { result ≡ ⟦<BothWaysKeys<K, W> as StoredKeys>⟧.key self.now }
     {
         let keys = keys_in_room(self.encrypting.room.value(), K::SIZE);
-        Lent::new(keys, keys_in_room(self.inverse.value(), K::SIZE))
+        BorrowedCipher::new(keys, keys_in_room(self.inverse.value(), K::SIZE))
     }
 }
 
-impl<K: KeySize, W: Width> Processes<Decrypt> for BothLists<K, W> {
+impl<K: KeySize, W: Width> Processes<Decrypt> for BothWaysKeys<K, W> {
     #[inline(always)]
     fn process_one(&self, block: &mut Block) {
-        self.lent_back().process_few(slice::from_mut(block));
+        self.inverse_cipher().process_few(slice::from_mut(block));
     }
 
     fn process_slice(&self, blocks: &mut [Block]) {
-        self.lent_back().process_blocks(blocks);
+        self.inverse_cipher().process_blocks(blocks);
     }
 }
 
-impl<K: KeySize, W: Width> Decrypts for BothLists<K, W> {
+impl<K: KeySize, W: Width> Decrypts for BothWaysKeys<K, W> {
     fn decrypt_with_backend_for<F: BlockCipherDecClosure>(&self, blocks: usize, f: &mut F) {
-        self.lent_back().decrypt_with_backend_for(blocks, f);
+        self.inverse_cipher().decrypt_with_backend_for(blocks, f);
     }
 }

@@ -13,12 +13,12 @@ use std::simd::prelude::*;
 /// below; contracts are the same for both.
 pub trait Width {
     /// The vectors on which few blocks are processed.
-    type Few: Lanes;
+    type Vectors: Lanes;
 
     /// The words of the planes on which many blocks are processed.
-    type Many: Word;
+    type PlaneWord: Word;
 
-    /// How many blocks planes of `Many` hold, as a type.
+    /// How many blocks planes of `PlaneWord` hold, as a type.
     type Par: BatchSize;
 
     /// The number of blocks from which encryption takes less time on planes, whose round keys have
@@ -37,7 +37,7 @@ pub trait Width {
     const MOST_AFTER_BATCHES: usize;
 
     /// The type for the number of blocks has the number of the word.
-    ghost same_number: { Self.Par.PAR_BLOCKS ≡ Self.Many.Blocks.LEN };
+    ghost same_number: { Self.Par.PAR_BLOCKS ≡ Self.PlaneWord.Blocks.LEN };
 }
 
 /// Vectors and words of 128 bits: two blocks at a time by vector
@@ -45,9 +45,9 @@ pub trait Width {
 pub struct Narrow;
 
 impl Width for Narrow {
-    type Few = u8x16;
+    type Vectors = u8x16;
 
-    type Many = BatchWord;
+    type PlaneWord = BatchWord;
 
     type Par = BatchOfEight;
 
@@ -67,9 +67,9 @@ impl Width for Narrow {
 pub struct Wide;
 
 impl Width for Wide {
-    type Few = u8x32;
+    type Vectors = u8x32;
 
-    type Many = u8x32;
+    type PlaneWord = u8x32;
 
     type Par = BatchOfSixteen;
 

@@ -5,8 +5,8 @@ ghost use Rattle.std.specs.Prelude.{◌≡◌, ◌↔◌, length, IsTrue};
 ghost use Rattle.aes_cipher.specs.KeySizes.{IsKeySize};
 ghost use Rattle.aes_narrow.specs.KeptKey.{key_in, no_key, HoldsKey, IsKept, IsZeroAfter};
 
+use crate::borrowed_words::BorrowedWords;
 use crate::kept_word::KeptWord;
-use crate::lent::LentWords;
 use crate::word_room::{WordRoom, expand_in_words, is_key_size, keys_in_words};
 use aes_cipher::not_clone::NotClone;
 use aes_cipher::zeroize::{Zeroize, zeroize_elements};
@@ -83,12 +83,12 @@ impl KeptKey {
 
     /// Lends the key of a struct that holds one as a cipher for both directions.
     #[inline(always)]
-    pub fn lent(&self) -> LentWords<'_, KeptWord>
+    pub fn cipher(&self) -> BorrowedWords<'_, KeptWord>
         requires kept { IsKept self.now }
         requires holds { HoldsKey self.now }
         ensures key { result ≡ key_in self.now }
         ensures size { length result ≡ self.now.length }
     {
-        LentWords::new(keys_in_words(&self.round_keys, self.length as usize))
+        BorrowedWords::new(keys_in_words(&self.round_keys, self.length as usize))
     }
 }

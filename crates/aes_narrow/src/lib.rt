@@ -3,9 +3,9 @@
 #![tactic(auto)]
 
 pub mod blocks;
+pub mod borrowed_words;
 pub mod examples;
 pub mod kept_key;
 pub mod kept_word;
-pub mod lent;
 pub mod narrow_word;
 pub mod word_room;

@@ -114,11 +114,11 @@ impl HashRoom for SubkeyRoom {
 
 /// What products with a block H need, in room that is lent. Contracts see a value as H.
 #[derive(Drop)]
-pub struct LentRoom<'a, R: HashRoom> {
+pub struct BorrowedRoom<'a, R: HashRoom> {
     room: &'a R,
 }
 
-impl<'a, R: HashRoom> Model for LentRoom<'a, R> {
+impl<'a, R: HashRoom> Model for BorrowedRoom<'a, R> {
     ghost Value = { ℕ };
 
     ghost view = { λ lent. R.subkey lent.room.now };
@@ -126,14 +126,14 @@ impl<'a, R: HashRoom> Model for LentRoom<'a, R> {
     ghost invariant = { λ lent. R.IsMade lent.room.now };
 }
 
-impl<'a, R: HashRoom> LentRoom<'a, R> {
+impl<'a, R: HashRoom> BorrowedRoom<'a, R> {
     /// Takes room that was written.
     #[inline(always)]
-    pub fn new(room: &'a R) -> LentRoom<'a, R>
+    pub fn new(room: &'a R) -> BorrowedRoom<'a, R>
         requires { R.IsMade room.now }
         ensures { result ≡ R.subkey room.now }
     {
-        LentRoom { room }
+        BorrowedRoom { room }
     }
 
     /// Returns the product of a block and H (6.3).
@@ -147,7 +147,7 @@ impl<'a, R: HashRoom> LentRoom<'a, R> {
 
 /// Returns the value of GHASH after more bytes, with zeros behind them that fill the last block.
 #[inline(always)]
-pub(crate) fn hash_on<R: HashRoom>(multiples: &LentRoom<R>, value: u128, bytes: &[u8]) -> u128
+pub(crate) fn hash_on<R: HashRoom>(multiples: &BorrowedRoom<R>, value: u128, bytes: &[u8]) -> u128
     ensures { result ≡ hashed multiples.now value (padded bytes.now)
         (length (padded bytes.now) / 16) }
 {
@@ -158,7 +158,7 @@ pub(crate) fn hash_on<R: HashRoom>(multiples: &LentRoom<R>, value: u128, bytes: 
 /// and one block more.
 #[inline(always)]
 pub(crate) fn hash_to_end<R: HashRoom>(
-    multiples: &LentRoom<R>,
+    multiples: &BorrowedRoom<R>,
     value: u128,
     bytes: &[u8],
     end: &Block,
@@ -175,7 +175,7 @@ pub(crate) fn hash_to_end<R: HashRoom>(
 /// its stack can be wiped, with all that is made of the value.
 #[inline(never)]
 pub(crate) fn hash_piece<R: HashRoom>(
-    multiples: &LentRoom<R>,
+    multiples: &BorrowedRoom<R>,
     value: &mut Block,
     rest: &mut Block,
     filled: usize,

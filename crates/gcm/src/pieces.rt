@@ -16,8 +16,8 @@ use crate::gctr::{BlockRoom, add_gctr};
 use crate::hash_room::{HashRoom, hash_on, hash_piece};
 use crate::message::{Message, Phase, number_of_phase, phase_of};
 use crate::mode::{
-    DEEP, LONGEST_HASHED, LONGEST_TEXT, LentGcm, SHALLOW, add_masked, hash_lengths, is_expected,
-    is_short_tag, put_mask,
+    BorrowedGcm, DEEP, LONGEST_HASHED, LONGEST_TEXT, SHALLOW, add_masked, hash_lengths,
+    is_expected, is_short_tag, put_mask,
 };
 use aes_cipher::blocks::{block_of_number, number_of_block};
 use aes_cipher::cipher::{Block, BlockCipherEncrypt};
@@ -65,7 +65,7 @@ fn wipe_hash_of(nonce: &[u8]) {
     }
 }
 
-impl<'a, C: BlockCipherEncrypt, R: HashRoom> LentGcm<'a, C, R> {
+impl<'a, C: BlockCipherEncrypt, R: HashRoom> BorrowedGcm<'a, C, R> {
     /// Begins a message under a nonce that is never used twice under a key. A nonce has any length;
     /// 12 bytes are advised. Nothing is left of a message that was there before.
     ///

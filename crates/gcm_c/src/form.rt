@@ -10,7 +10,7 @@
 //! - `Aes` is the struct of the library of blocks. `holds_key_of(aes)` says whether it holds a key,
 //!   and `put_key_of(aes, kept)` writes that key, reading nothing of what was kept.
 //! - `is_key_size(bytes)` says whether keys have this many bytes.
-//! - `lent(kept)` lends the key of a struct that holds one as a cipher, which is a `LentKey`.
+//! - `cipher_of(kept)` lends the key of a struct that holds one as a cipher, which is a `BuildCipher`.
 //! - `TagRoom` is room for what the tags of GCM are made with, a `HashRoom`; `ShortRoom` and
 //!   `LongRoom` are that of a message of AES-GCM-SIV, each a `PolyvalRoom`, the first for short ones.
 //! - `specs/Form.antt` says in its head what its names stand for.
@@ -20,9 +20,9 @@ ghost use Rattle.gcm_c.specs.Form.{key_in, key_of, HoldsKey, IsKept};
 
 use crate::width::BuildWidth;
 use aes_cipher::cipher::Encrypt;
+use aes_hybrid::borrowed_cipher::BorrowedCipher;
 use aes_hybrid::kept_key::KeptBothWays;
 pub(crate) use aes_hybrid::kept_key::{KeptKey, is_key_size};
-use aes_hybrid::lent::Lent;
 
 /// Room for what tags are made with: the multiples of H.
 pub type TagRoom = gcm::Room;
@@ -36,8 +36,8 @@ pub(crate) type LongRoom = gcm::Room;
 /// A key schedule of the other library, for both directions: `struct fotsgure_aes`.
 pub type Aes = KeptBothWays;
 
-/// The cipher that is lent.
-pub(crate) type LentKey<'a> = Lent<'a, Encrypt, BuildWidth>;
+/// The cipher that borrows a key.
+pub(crate) type BuildCipher<'a> = BorrowedCipher<'a, Encrypt, BuildWidth>;
 
 // How many bytes a key and the multiples take by the header, with nothing between fields.
 const _: () = prove!(size_of::<KeptKey>() == 244);
@@ -65,11 +65,11 @@ pub(crate) fn put_key_of(aes: &Aes, kept: &mut KeptKey)
 
 /// Lends the key of a struct that holds one.
 #[inline(always)]
-pub(crate) fn lent(kept: &KeptKey) -> LentKey<'_>
+pub(crate) fn cipher_of(kept: &KeptKey) -> BuildCipher<'_>
     requires kept { IsKept kept.now }
     requires holds { HoldsKey kept.now }
     ensures key { result ≡ key_in kept.now }
     ensures size { length result ≡ kept.now.length }
 {
-    kept.lent()
+    kept.cipher()
 }

@@ -5,11 +5,13 @@ ghost use Rattle.aes_cipher.specs.KeySizes.{IsKeySize};
 ghost use Rattle.gcm_c.specs.Form.{key_in, key_of, HoldsKey, IsKept, IsZeroAfter};
 ghost use Rattle.gcm_c.specs.Kept.{no_gcm, round_keys_in, IsMade};
 
-use crate::form::{Aes, KeptKey, LentKey, TagRoom, holds_key_of, is_key_size, lent, put_key_of};
+use crate::form::{
+    Aes, BuildCipher, KeptKey, TagRoom, cipher_of, holds_key_of, is_key_size, put_key_of,
+};
 use crate::status::{DONE, KEY_LENGTH, NO_KEY};
 use aes_cipher::not_clone::NotClone;
 use aes_cipher::zeroize::{Zeroize, zeroize_elements};
-use gcm::{LentGcm, prepare};
+use gcm::{BorrowedGcm, prepare};
 
 /// A key that the caller owns: `struct fotsgure_gcm`. Its blocks are as secret as the key.
 #[repr(C)]
@@ -49,12 +51,12 @@ pub(crate) fn holds_key(gcm: &Gcm) -> bool
 }
 
 /// Lends the key of a struct and its multiples as GCM.
-pub(crate) fn mode_of(gcm: &Gcm) -> LentGcm<'_, LentKey<'_>, TagRoom>
+pub(crate) fn mode_of(gcm: &Gcm) -> BorrowedGcm<'_, BuildCipher<'_>, TagRoom>
     requires made { IsMade gcm.now }
     requires key { HoldsKey gcm.now.key }
     ensures { result ≡ round_keys_in gcm.now }
 {
-    LentGcm::new(lent(&gcm.key), &gcm.multiples)
+    BorrowedGcm::new(cipher_of(&gcm.key), &gcm.multiples)
 }
 
 // Prepares the multiples of the H of the key that the struct holds (SP 800-38D, 7.1, step 1).
@@ -64,7 +66,7 @@ fn prepare_multiples(gcm: &mut Gcm)
     ensures made { IsMade gcm.new }
     ensures key { gcm.new.key ≡ gcm.old.key }
 {
-    prepare(&lent(&gcm.key), &mut gcm.multiples);
+    prepare(&cipher_of(&gcm.key), &mut gcm.multiples);
 }
 
 /// Expands a key into the struct (KeyExpansion, FIPS 197, 5.2) and prepares the multiples of its H

@@ -9,7 +9,7 @@ ghost use Rattle.gcm_siv.specs.GcmSiv.{authentication_key, encryption_key, IsAut
 ghost use Rattle.gcm_c.specs.Form.{key_in, IsKept};
 ghost use Rattle.gcm_c.specs.Siv.{HoldsSivKey, IsSivMade, IsSivTooLong};
 
-use crate::form::{KeptKey, LongRoom, ShortRoom, lent};
+use crate::form::{KeptKey, LongRoom, ShortRoom, cipher_of};
 use crate::siv_kept::{Siv, is_siv_key};
 use crate::status::{DONE, NO_KEY, REFUSED, TOO_LONG};
 use aes_cipher::cipher::Block;
@@ -66,7 +66,7 @@ fn prepare<R: PolyvalRoom>(siv: &Siv, nonce: &[u8; 12], kept: &mut KeptKey, room
 {
     let size = siv.length as usize;
     let mut keys = MustWipe::<KeyRoom>::zeroed();
-    derive(&lent(siv), size, nonce, keys.value_mut());
+    derive(&cipher_of(siv), size, nonce, keys.value_mut());
     put_authentication(&keys.value()[0], room);
     set_derived(keys.value(), size, kept);
     keys.wipe();
@@ -86,7 +86,13 @@ fn seal_in<R: PolyvalRoom>(siv: &Siv, nonce: &[u8; 12], additional: &[u8], text:
     let mut room = MustWipe::<R>::zeroed();
     let mut kept = MustWipe::<KeptKey>::zeroed();
     prepare(siv, nonce, kept.value_mut(), room.value_mut());
-    let tag = seal(&lent(kept.value()), room.value(), nonce, additional, text);
+    let tag = seal(
+        &cipher_of(kept.value()),
+        room.value(),
+        nonce,
+        additional,
+        text,
+    );
     kept.wipe();
     room.wipe();
     tag
@@ -134,7 +140,7 @@ fn open_in<R: PolyvalRoom>(
     let mut kept = MustWipe::<KeptKey>::zeroed();
     prepare(siv, nonce, kept.value_mut(), room.value_mut());
     let is_right = open(
-        &lent(kept.value()),
+        &cipher_of(kept.value()),
         room.value(),
         nonce,
         additional,

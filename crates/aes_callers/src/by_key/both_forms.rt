@@ -7,7 +7,7 @@ use super::{both_ways, decrypting, encrypting};
 use aes_cipher::aes::{AesCipher, Bits128, Bits192, Bits256, BothWays, KeySize};
 use aes_cipher::cipher::{Block, Decrypt, Encrypt};
 use aes_hybrid::widths::{Narrow, Width};
-use aes_hybrid::{BothLists, Encrypting};
+use aes_hybrid::{BothWaysKeys, EncryptionKeys};
 
 /// Returns the type for both directions of a size of keys and a width of
 /// words, and a block encrypted and decrypted. What the types are made of is
@@ -15,7 +15,7 @@ use aes_hybrid::{BothLists, Encrypting};
 pub fn of_both<K: KeySize, W: Width>(
     key: &K::Key,
     block: &Block,
-) -> (AesCipher<BothLists<K, W>, BothWays>, Block, Block)
+) -> (AesCipher<BothWaysKeys<K, W>, BothWays>, Block, Block)
     ensures value { result.0 ≡ K.bytes key.now }
     ensures encrypted { result.1 ≡ fips.cipher (K.bytes key.now) block.now }
     ensures decrypted { result.2 ≡ fips.inv_cipher (K.bytes key.now) block.now }
@@ -27,7 +27,7 @@ pub fn of_both<K: KeySize, W: Width>(
 pub fn of_enc<K: KeySize, W: Width>(
     key: &K::Key,
     block: &Block,
-) -> (AesCipher<Encrypting<K, W>, Encrypt>, Block)
+) -> (AesCipher<EncryptionKeys<K, W>, Encrypt>, Block)
     ensures value { result.0 ≡ K.bytes key.now }
     ensures encrypted { result.1 ≡ fips.cipher (K.bytes key.now) block.now }
 {
@@ -38,7 +38,7 @@ pub fn of_enc<K: KeySize, W: Width>(
 pub fn of_dec<K: KeySize, W: Width>(
     key: &K::Key,
     block: &Block,
-) -> (AesCipher<BothLists<K, W>, Decrypt>, Block)
+) -> (AesCipher<BothWaysKeys<K, W>, Decrypt>, Block)
     ensures value { result.0 ≡ K.bytes key.now }
     ensures decrypted { result.1 ≡ fips.inv_cipher (K.bytes key.now) block.now }
 {

@@ -5,7 +5,7 @@ use aes::{Block, FixslicedAes};
 use aes_callers::closures::{LeavesBackend, Mixed, Row, Twice, encrypt_row, twice_there_and_back};
 use aes_cipher::aes::{AesCipher, Bits128, BothWays, KeySize};
 use aes_cipher::cipher::{BlockCipherDecrypt, BlockCipherEncrypt, CipherIn, Direction, KeyInit};
-use aes_hybrid::BothLists;
+use aes_hybrid::BothWaysKeys;
 use standards::blocks::{ENCRYPTED_128, PLAIN, blocks, different_blocks};
 use standards::keys::KEY_A1;
 
@@ -86,7 +86,7 @@ fn planes_take_a_row<K: KeySize>(key: &K::Key) -> bool {
 
 // The type of `aes_hybrid` for both directions, with the size as a parameter.
 fn both_forms_take_a_row<K: KeySize>(key: &K::Key) -> bool {
-    takes_a_row_of_five(&AesCipher::<BothLists<K>, BothWays>::new(key))
+    takes_a_row_of_five(&AesCipher::<BothWaysKeys<K>, BothWays>::new(key))
 }
 
 // SP 800-38A, F.1.1 and F.1.2.

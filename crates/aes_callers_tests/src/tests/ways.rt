@@ -9,7 +9,7 @@ use aes_cipher::aes::{AesCipher, Bits128, Bits192, Bits256, BothWays, KeySize};
 use aes_cipher::cipher::{
     BlockCipherDecrypt, BlockCipherEncrypt, CipherIn, Decrypt, Direction, Encrypt, KeyInit,
 };
-use aes_hybrid::{BothLists, Encrypting};
+use aes_hybrid::{BothWaysKeys, EncryptionKeys};
 use aes_rounds::rounds::{Aes, AesDec, AesEnc};
 
 /// What is tried with a cipher in one direction.
@@ -120,9 +120,9 @@ fn try_both_forms<T: Trial>(trial: &T) -> [Passed; 3] {
 fn both_forms_pass<T: Trial, K: KeySize>(trial: &T, key: &[u8]) -> [bool; 4] {
     pass_under::<
         T,
-        AesCipher<BothLists<K>, BothWays>,
-        AesCipher<Encrypting<K>, Encrypt>,
-        AesCipher<BothLists<K>, Decrypt>,
+        AesCipher<BothWaysKeys<K>, BothWays>,
+        AesCipher<EncryptionKeys<K>, Encrypt>,
+        AesCipher<BothWaysKeys<K>, Decrypt>,
     >(trial, key)
 }
 

@@ -7,7 +7,7 @@ use aes_cipher::aes::{
 };
 use aes_cipher::cipher::{BlockCipherDecrypt, BlockCipherEncrypt, Decrypt, Encrypt, KeyInit};
 use aes_hybrid::widths::{Narrow, Wide, Width};
-use aes_hybrid::{BothLists, Encrypting};
+use aes_hybrid::{BothWaysKeys, EncryptionKeys};
 use standards::keys::{
     BY_128, BY_192, BY_256, KEY_128, KEY_192, KEY_256, ZEROS_BY_128, ZEROS_BY_192, ZEROS_BY_256,
 };
@@ -56,11 +56,11 @@ struct Hybrids<K, W> {
 }
 
 impl<K: KeySize, W: Width> Forms for Hybrids<K, W> {
-    type Both = BothLists<K, W>;
+    type Both = BothWaysKeys<K, W>;
 
-    type Enc = Encrypting<K, W>;
+    type Enc = EncryptionKeys<K, W>;
 
-    type Dec = BothLists<K, W>;
+    type Dec = BothWaysKeys<K, W>;
 }
 
 /// What is known of a size of keys from outside.

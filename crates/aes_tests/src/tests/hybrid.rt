@@ -4,7 +4,7 @@ use super::forms::{Enc, Forms, Known, Trial, try_all};
 use aes_cipher::aes::{AesCipher, Bits256, BothWays, KeySize};
 use aes_cipher::cipher::{BlockCipherDecrypt, BlockCipherEncrypt, KeyInit};
 use aes_ctr::add_keystream;
-use aes_hybrid::BothLists;
+use aes_hybrid::BothWaysKeys;
 use aes_hybrid::widths::{Narrow, Wide};
 use standards::keys::{KEY_256, PLAIN};
 use std::test::Fail;
@@ -64,8 +64,8 @@ where
 // The types for both directions, with the size as a parameter.
 fn types_agree<K: KeySize>(key: &K::Key) -> bool {
     widths_agree(
-        &AesCipher::<BothLists<K, Narrow>, BothWays>::new(key),
-        &AesCipher::<BothLists<K, Wide>, BothWays>::new(key),
+        &AesCipher::<BothWaysKeys<K, Narrow>, BothWays>::new(key),
+        &AesCipher::<BothWaysKeys<K, Wide>, BothWays>::new(key),
     )
 }
 

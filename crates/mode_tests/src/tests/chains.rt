@@ -2,7 +2,7 @@
 
 use aes_cipher::aes::{AesCipher, Bits128, Bits192, Bits256, BothWays, KeySize};
 use aes_cipher::cipher::KeyInit;
-use aes_hybrid::BothLists;
+use aes_hybrid::BothWaysKeys;
 use aes_hybrid::widths::{Narrow, Wide, Width};
 use cbc::Cbc;
 use standards::blocks::{PLAIN, blocks};
@@ -11,7 +11,7 @@ use standards::keys::{KEY_A1, KEY_A2, KEY_A3};
 
 // Whether the blocks become those, and these become them again, however the chain is cut into two calls.
 fn chains<K: KeySize>(key: &K::Key, encrypted: &[u128; 4]) -> bool {
-    let cipher = AesCipher::<BothLists<K, Narrow>, BothWays>::new(key);
+    let cipher = AesCipher::<BothWaysKeys<K, Narrow>, BothWays>::new(key);
     for cut in 0..=4 {
         let mut row = blocks(&PLAIN);
         let mut chain = Cbc {
@@ -42,7 +42,7 @@ fn chains_the_blocks_of_the_standard(rt: HostRuntime) {
 
 // Whether chains of each length up to a hundred blocks come back: some blocks are decrypted in batches, others alone.
 fn chains_come_back<W: Width>() -> bool {
-    let cipher = AesCipher::<BothLists<Bits128, W>, BothWays>::new(&[5; 16]);
+    let cipher = AesCipher::<BothWaysKeys<Bits128, W>, BothWays>::new(&[5; 16]);
     let plain = [[7; 16]; 100];
     for count in 0..=100 {
         let mut row = plain;

@@ -4,7 +4,7 @@ ghost use Rattle.std.specs.Prelude.{◌≤◌};
 
 use aes_cipher::aes::{AesCipher, Bits128, Bits192, Bits256, BothWays, KeySize};
 use aes_cipher::cipher::{BlockCipherDecrypt, BlockCipherEncrypt, KeyInit};
-use aes_hybrid::BothLists;
+use aes_hybrid::BothWaysKeys;
 use aes_hybrid::widths::Narrow;
 use key_wrap::{InvalidCount, NotUnwrapped, Semiblock, unwrap, wrap};
 
@@ -72,7 +72,7 @@ fn wraps<K: KeySize>(key: &K::Key, count: usize, numbers: &[u64; 5]) -> bool
     requires few { count ≤ 4 }
 {
     wraps_by(
-        &AesCipher::<BothLists<K, Narrow>, BothWays>::new(key),
+        &AesCipher::<BothWaysKeys<K, Narrow>, BothWays>::new(key),
         count,
         numbers,
     )
@@ -137,7 +137,7 @@ fn wraps_the_keys_of_the_standard(rt: HostRuntime) {
 
 #[test]
 fn refuses_other_counts(rt: HostRuntime) {
-    let cipher = AesCipher::<BothLists<Bits256, Narrow>, BothWays>::new(&COUNTED);
+    let cipher = AesCipher::<BothWaysKeys<Bits256, Narrow>, BothWays>::new(&COUNTED);
     let data = key_data();
     let mut output = [[6; 8]; 5];
     assert!(rt; wrap(&cipher, &data[..1], &mut output[..2]) == Err(InvalidCount));

@@ -4,7 +4,7 @@ use super::cases::Mode;
 use aes_cipher::aes::{AesCipher, Bits256, BothWays};
 use aes_cipher::cipher::{Block, KeyInit};
 use aes_hybrid::widths::Narrow;
-use aes_hybrid::{Aes256Enc, BothLists};
+use aes_hybrid::{Aes256Enc, BothWaysKeys};
 use cbc::Cbc;
 use ccm::encrypt;
 use cmac::tag;
@@ -107,7 +107,7 @@ fn a_message_of_ccm(rt: HostRuntime) {
 // A chain of 313 blocks, a key of 512 semiblocks, and one of 4,099 bytes, padded.
 #[test]
 fn chains_and_keys(rt: HostRuntime) {
-    let cipher = AesCipher::<BothLists<Bits256, Narrow>, BothWays>::new(&counted());
+    let cipher = AesCipher::<BothWaysKeys<Bits256, Narrow>, BothWays>::new(&counted());
     let bytes = counted::<5008>();
     let mut blocks: [Block; 313] = [[0; 16]; 313];
     for i in 0..bytes.len() {

@@ -6,7 +6,7 @@ ghost use Rattle.std.specs.Prelude.{◌≡◌};
 use aes_cipher::aes::{AesCipher, Bits128, Bits192, Bits256, BothWays};
 use aes_cipher::blocks::{block_of_number, halves_of_block};
 use aes_cipher::cipher::{BlockCipherDecrypt, BlockCipherEncrypt, KeyInit};
-use aes_hybrid::BothLists;
+use aes_hybrid::BothWaysKeys;
 use aes_hybrid::widths::Narrow;
 use key_wrap::{InvalidCount, NotUnwrapped, Semiblock, unwrap_padded, wrap_padded};
 
@@ -337,7 +337,7 @@ fn pads_the_keys_of_the_standards(rt: HostRuntime) {
         key.copy_from_slice(&key_of(&row.key)[..16]);
         assert!(rt;
             pads(
-                &AesCipher::<BothLists<Bits128, Narrow>, BothWays>::new(&key),
+                &AesCipher::<BothWaysKeys<Bits128, Narrow>, BothWays>::new(&key),
                 row
             )
         );
@@ -347,7 +347,7 @@ fn pads_the_keys_of_the_standards(rt: HostRuntime) {
         key.copy_from_slice(&key_of(&row.key)[..24]);
         assert!(rt;
             pads(
-                &AesCipher::<BothLists<Bits192, Narrow>, BothWays>::new(&key),
+                &AesCipher::<BothWaysKeys<Bits192, Narrow>, BothWays>::new(&key),
                 row
             )
         );
@@ -355,7 +355,7 @@ fn pads_the_keys_of_the_standards(rt: HostRuntime) {
     for row in &OF_32 {
         assert!(rt;
             pads(
-                &AesCipher::<BothLists<Bits256, Narrow>, BothWays>::new(&key_of(&row.key)),
+                &AesCipher::<BothWaysKeys<Bits256, Narrow>, BothWays>::new(&key_of(&row.key)),
                 row
             )
         );
@@ -365,7 +365,7 @@ fn pads_the_keys_of_the_standards(rt: HostRuntime) {
 // What was encrypted with another check, length or padding is refused.
 #[test]
 fn refuses_other_paddings(rt: HostRuntime) {
-    let cipher = AesCipher::<BothLists<Bits256, Narrow>, BothWays>::new(&key_of(&OF_32[0].key));
+    let cipher = AesCipher::<BothWaysKeys<Bits256, Narrow>, BothWays>::new(&key_of(&OF_32[0].key));
     for row in &BLOCKS {
         let mut block = block_of_number(row.number);
         let (_, key) = halves_of_block(&block);
@@ -380,7 +380,7 @@ fn refuses_other_paddings(rt: HostRuntime) {
 
 #[test]
 fn refuses_other_lengths(rt: HostRuntime) {
-    let cipher = AesCipher::<BothLists<Bits256, Narrow>, BothWays>::new(&[3; 32]);
+    let cipher = AesCipher::<BothWaysKeys<Bits256, Narrow>, BothWays>::new(&[3; 32]);
     let sealed = [[7; 8]; 3];
     let mut output = [[6; 8]; 5];
     assert!(rt; wrap_padded(&cipher, &[], &mut output[..1]) == Err(InvalidCount));

@@ -5,7 +5,9 @@ ghost use Rattle.std.specs.Prelude.{◌<◌, ◌≤◌};
 use aes_cipher::cipher::{Block, KeyInit};
 use aes_cipher::zeroize::Wiped;
 use aes_hybrid::Aes128Enc;
-use gcm::{Counter, Gcm, InvalidMessage, InvalidPiece, LentGcm, Message, NotAccepted, OutOfTurn};
+use gcm::{
+    BorrowedGcm, Counter, Gcm, InvalidMessage, InvalidPiece, Message, NotAccepted, OutOfTurn,
+};
 use std::test::Fail;
 
 // The bytes 0, 7, 14 and so on, modulo 256: a nonce, additional data, or a text.
@@ -28,7 +30,7 @@ fn end_of(from: usize, size: usize, length: usize) -> usize
 
 // Begins a message with additional data, in pieces of `size` bytes.
 fn begins(
-    mode: &LentGcm<'_, &Aes128Enc>,
+    mode: &BorrowedGcm<'_, &Aes128Enc>,
     message: &mut Message,
     nonce: &[u8],
     additional: &[u8],
@@ -56,7 +58,7 @@ enum Work {
 
 // Does the work on a text, in pieces of `size` bytes.
 fn goes_on(
-    mode: &LentGcm<'_, &Aes128Enc>,
+    mode: &BorrowedGcm<'_, &Aes128Enc>,
     message: &mut Message,
     work: &Work,
     text: &mut [u8],
@@ -83,7 +85,7 @@ fn goes_on(
 
 // Whether a message in pieces of `size` bytes is encrypted as a whole one, and decrypted in two passes and in one.
 pub(crate) fn agrees<const N: usize>(
-    mode: &LentGcm<'_, &Aes128Enc>,
+    mode: &BorrowedGcm<'_, &Aes128Enc>,
     nonce: &[u8],
     additional: &[u8],
     plain: &[u8; N],
@@ -125,10 +127,10 @@ fn agrees_however_cut(rt: HostRuntime) {
     let bytes = bytes();
     let mode = Gcm::new(<Aes128Enc>::new(&[3; 16]));
     for size in 1..40 {
-        assert!(rt; agrees(&mode.lent(), &bytes[..12], &bytes[..20], &bytes, size));
+        assert!(rt; agrees(&mode.borrowed(), &bytes[..12], &bytes[..20], &bytes, size));
     }
-    assert!(rt; agrees(&mode.lent(), &bytes[..8], &bytes[..64], &bytes, 7));
-    assert!(rt; agrees(&mode.lent(), &bytes[..60], &[], &bytes, 100));
+    assert!(rt; agrees(&mode.borrowed(), &bytes[..8], &bytes[..64], &bytes, 7));
+    assert!(rt; agrees(&mode.borrowed(), &bytes[..60], &[], &bytes, 100));
 }
 
 // SP 800-38D, 5.2.1.2: of 4, 8 and 12 to 15 bytes, each the first ones of the tag of 16.
@@ -136,7 +138,7 @@ fn agrees_however_cut(rt: HostRuntime) {
 fn accepts_short_tags_of_the_fixed_length(rt: HostRuntime) {
     let bytes = bytes();
     let keys = Gcm::new(<Aes128Enc>::new(&[3; 16]));
-    let mode = keys.lent();
+    let mode = keys.borrowed();
     let mut room = Wiped::zeroed();
     let message: &mut Message = room.value_mut();
     let mut text = bytes;
@@ -157,7 +159,7 @@ fn accepts_short_tags_of_the_fixed_length(rt: HostRuntime) {
 #[test]
 fn begins_under_the_next_nonce(rt: HostRuntime) {
     let keys = Gcm::new(<Aes128Enc>::new(&[3; 16]));
-    let mode = keys.lent();
+    let mode = keys.borrowed();
     let mut room = Wiped::zeroed();
     let message: &mut Message = room.value_mut();
     let mut counter = Counter {
@@ -179,7 +181,7 @@ fn begins_under_the_next_nonce(rt: HostRuntime) {
 #[test]
 fn refuses_what_is_out_of_turn(rt: HostRuntime) {
     let keys = Gcm::new(<Aes128Enc>::new(&[3; 16]));
-    let mode = keys.lent();
+    let mode = keys.borrowed();
     let mut room = Wiped::zeroed();
     let message: &mut Message = room.value_mut();
     let mut text = [5; 3];

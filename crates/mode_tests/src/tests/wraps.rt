@@ -5,7 +5,7 @@ ghost use Rattle.std.specs.Prelude.{◌<◌};
 use super::pieces::agrees;
 use aes_cipher::cipher::KeyInit;
 use aes_hybrid::Aes128Enc;
-use gcm::{Gcm, LentGcm};
+use gcm::{BorrowedGcm, Gcm};
 use std::test::Fail;
 
 // A nonce, and what becomes under it of the bytes 1 to 70, with `ADDITIONAL`, under `KEY`.
@@ -66,7 +66,7 @@ fn plain() -> [u8; 70] {
 }
 
 // Whether a text is encrypted as it should be, and comes back.
-fn is_right(mode: &LentGcm<'_, &Aes128Enc>, case: &Wrapping) -> bool {
+fn is_right(mode: &BorrowedGcm<'_, &Aes128Enc>, case: &Wrapping) -> bool {
     let mut text = plain();
     let tag = case.tag.to_be_bytes();
     mode.encrypt(&case.nonce, &ADDITIONAL, &mut text) == Ok(tag)
@@ -78,8 +78,8 @@ fn is_right(mode: &LentGcm<'_, &Aes128Enc>, case: &Wrapping) -> bool {
 #[test]
 fn the_counter_wraps(rt: HostRuntime) {
     let mode = Gcm::new(<Aes128Enc>::new(&KEY));
-    assert!(rt; is_right(&mode.lent(), &AT_THE_THIRD_BLOCK));
-    assert!(rt; is_right(&mode.lent(), &AT_THE_FIRST_BLOCK));
+    assert!(rt; is_right(&mode.borrowed(), &AT_THE_THIRD_BLOCK));
+    assert!(rt; is_right(&mode.borrowed(), &AT_THE_FIRST_BLOCK));
 }
 
 // In pieces of 32 bytes, the first ends where the counter wraps; smaller ones and larger ones end before and behind it.
@@ -89,7 +89,7 @@ fn the_counter_wraps_however_cut(rt: HostRuntime) {
     for size in 1..71 {
         assert!(rt;
             agrees(
-                &mode.lent(),
+                &mode.borrowed(),
                 &AT_THE_THIRD_BLOCK.nonce,
                 &ADDITIONAL,
                 &plain(),
@@ -98,7 +98,7 @@ fn the_counter_wraps_however_cut(rt: HostRuntime) {
         );
         assert!(rt;
             agrees(
-                &mode.lent(),
+                &mode.borrowed(),
                 &AT_THE_FIRST_BLOCK.nonce,
                 &ADDITIONAL,
                 &plain(),

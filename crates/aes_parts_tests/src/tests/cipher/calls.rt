@@ -3,7 +3,7 @@
 ghost use Rattle.std.specs.Prelude.{◌<◌, ◌≤◌, length};
 
 use super::closures::{Five, OneAndBatch};
-use super::one_round::{Lent, OneRound};
+use super::one_round::{BorrowedRound, OneRound};
 use aes_cipher::cipher::{
     AlgorithmName, Block, BlockCipherDecBackend, BlockCipherDecClosure, BlockCipherDecrypt,
     BlockCipherEncBackend, BlockCipherEncClosure, BlockCipherEncrypt, BlockSizeUser, NotEqualError,
@@ -128,7 +128,7 @@ fn leaves_the_output_of_another_length(rt: HostRuntime) {
 #[test]
 fn lends_closures_a_backend(rt: HostRuntime) {
     let cipher = rest_of_the_example();
-    assert!(rt; Lent::PAR_BLOCKS == 3);
+    assert!(rt; BorrowedRound::PAR_BLOCKS == 3);
     let mut closure = Five { blocks: five() };
     cipher.encrypt_with_backend(&mut closure);
     assert!(rt; closure.blocks == encrypted_one_by_one(five()));
@@ -222,7 +222,7 @@ fn works_where_it_is_lent(rt: HostRuntime) {
 #[test]
 fn lends_a_backend_on(rt: HostRuntime) {
     let cipher = rest_of_the_example();
-    let backend = &Lent { cipher: &cipher };
+    let backend = &BorrowedRound { cipher: &cipher };
     let mut closure = Five { blocks: five() };
     closure.call(&backend);
     assert!(rt; closure.blocks == encrypted_one_by_one(five()));

@@ -115,7 +115,7 @@ impl RoundKeysUser for OneRound {
 
 impl BlockCipherEncrypt for OneRound {
     fn encrypt_with_backend_for<F: BlockCipherEncClosure>(&self, _blocks: usize, f: &mut F) {
-        f.call(&Lent { cipher: self });
+        f.call(&BorrowedRound { cipher: self });
     }
 
     fn encrypt_block(&self, block: &mut Block) {
@@ -129,7 +129,7 @@ impl BlockCipherEncrypt for OneRound {
 
 impl BlockCipherDecrypt for OneRound {
     fn decrypt_with_backend_for<F: BlockCipherDecClosure>(&self, _blocks: usize, f: &mut F) {
-        f.call(&Lent { cipher: self });
+        f.call(&BorrowedRound { cipher: self });
     }
 
     fn decrypt_block(&self, block: &mut Block) {
@@ -149,7 +149,7 @@ impl AlgorithmName for OneRound {
 
 /// The round keys of a cipher, lent to a backend.
 #[derive(Drop)]
-pub struct Lent<'a> {
+pub struct BorrowedRound<'a> {
     /// The owner of the round keys.
     pub cipher: &'a OneRound,
 }
@@ -165,7 +165,7 @@ impl BatchSize for Three {
     ghost at_least_one = { Prim.omega arith };
 }
 
-impl RoundKeysUser for Lent<'_> {
+impl RoundKeysUser for BorrowedRound<'_> {
     ghost round_keys = { λ lent. lent.cipher.now.first ∷ lent.cipher.now.last ∷ [] };
 
     fn has_round_keys(&self) {
@@ -175,11 +175,11 @@ impl RoundKeysUser for Lent<'_> {
     ghost two_round_keys = { λ lent. Prim.omega arith };
 }
 
-impl BatchSizeUser for Lent<'_> {
+impl BatchSizeUser for BorrowedRound<'_> {
     type Par = Three;
 }
 
-impl BlockCipherEncBackend for Lent<'_> {
+impl BlockCipherEncBackend for BorrowedRound<'_> {
     fn encrypt_block(&self, block: &mut Block) {
         self.cipher.encrypt(block);
     }
@@ -189,7 +189,7 @@ impl BlockCipherEncBackend for Lent<'_> {
     }
 }
 
-impl BlockCipherDecBackend for Lent<'_> {
+impl BlockCipherDecBackend for BorrowedRound<'_> {
     fn decrypt_block(&self, block: &mut Block) {
         self.cipher.decrypt(block);
     }

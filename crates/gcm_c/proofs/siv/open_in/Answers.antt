@@ -15,7 +15,7 @@ returns-clause-accepted g c =
     (ap g.R.PolyvalRoom.element c.value-2.ensures ∙ c.prepare.ensures.authentication) in
     let same = ap (λ k. tag_under (key_expansion k) h c.args.nonce.now c.args.additional.now
     (text_under (key_expansion k) c.args.tag.now c.args.text.now))
-    (c.lent.ensures.key ∙ ap key_in c.value.ensures ∙ c.prepare.ensures.encryption) in
+    (c.cipher_of.ensures.key ∙ ap key_in c.value.ensures ∙ c.prepare.ensures.encryption) in
     (λ e. right.0 e ∙ same, λ is. right.1 (is ∙ sym same))
 
 pub returns-clause-decrypted : goal.returns-clause-decrypted
@@ -23,4 +23,4 @@ unfolding text
 returns-clause-decrypted g c = λ yes.
     c.open-is_right.ensures.decrypted yes
     ∙ ap (λ k. text_under (key_expansion k) c.args.tag.now c.args.text.now)
-    (c.lent.ensures.key ∙ ap key_in c.value.ensures ∙ c.prepare.ensures.encryption)
+    (c.cipher_of.ensures.key ∙ ap key_in c.value.ensures ∙ c.prepare.ensures.encryption)

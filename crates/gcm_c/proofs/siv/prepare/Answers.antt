@@ -14,7 +14,7 @@ returns-clause-authentication g c =
     c.put_authentication.ensures.authentication
     ∙ ap (λ k. next_v (from_le_bytes w128 k))
     (authentication_is key c.args.nonce.now _ c.value.result.now n
-    (ap key_expansion c.lent.ensures.key) (ap (take (n + 1)) c.value.ensures ∙ c.derive.ensures))
+    (ap key_expansion c.cipher_of.ensures.key) (ap (take (n + 1)) c.value.ensures ∙ c.derive.ensures))
 
 pub returns-clause-small : goal.returns-clause-small
 returns-clause-small g c =
@@ -22,7 +22,7 @@ returns-clause-small g c =
     let n = c.args.siv.now.length / 16 in
     subst (λ k. from_le_bytes w128 k < 2 ^ 128)
     (authentication_is key c.args.nonce.now _ c.value.result.now n
-    (ap key_expansion c.lent.ensures.key) (ap (take (n + 1)) c.value.ensures ∙ c.derive.ensures))
+    (ap key_expansion c.cipher_of.ensures.key) (ap (take (n + 1)) c.value.ensures ∙ c.derive.ensures))
     c.put_authentication.ensures.small
 
 pub returns-clause-encryption : goal.returns-clause-encryption
@@ -30,7 +30,7 @@ returns-clause-encryption g c =
     let n = c.args.siv.now.length in
     encryption_is (key_in c.args.siv.now)
     c.args.nonce.now _ _ c.value-2.result.now n c.requires.key
-    (sym (ap length c.lent.ensures.key) ∙ c.lent.ensures.size)
-    (ap key_expansion c.lent.ensures.key) (ap (take (n / 16 + 1)) c.value-2.ensures
+    (sym (ap length c.cipher_of.ensures.key) ∙ c.cipher_of.ensures.size)
+    (ap key_expansion c.cipher_of.ensures.key) (ap (take (n / 16 + 1)) c.value-2.ensures
     ∙ c.derive.ensures)
     c.set_derived.ensures.short c.set_derived.ensures.long

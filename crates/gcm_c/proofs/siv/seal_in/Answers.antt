@@ -14,11 +14,11 @@ returns-clause-tag g c =
     c.seal-tag.ensures.tag h c.prepare.ensures.small
     (ap g.R.PolyvalRoom.element c.value-2.ensures ∙ c.prepare.ensures.authentication)
     ∙ ap (λ k. tag_under (key_expansion k) h c.args.nonce.now c.args.additional.now c.args.text.now)
-    (c.lent.ensures.key ∙ ap key_in c.value.ensures ∙ c.prepare.ensures.encryption)
+    (c.cipher_of.ensures.key ∙ ap key_in c.value.ensures ∙ c.prepare.ensures.encryption)
 
 pub returns-clause-encrypted : goal.returns-clause-encrypted
 unfolding text
 returns-clause-encrypted g c =
     c.seal-tag.ensures.text
     ∙ ap (λ k. text_under (key_expansion k) c.seal-tag.result c.args.text.now)
-    (c.lent.ensures.key ∙ ap key_in c.value.ensures ∙ c.prepare.ensures.encryption)
+    (c.cipher_of.ensures.key ∙ ap key_in c.value.ensures ∙ c.prepare.ensures.encryption)

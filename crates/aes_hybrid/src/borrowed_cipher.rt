@@ -1,0 +1,152 @@
+//! Stored round keys, lent as a cipher of one direction.
+
+ghost use Rattle.std.specs.Prelude.{◌≡◌, ℕ, List};
+ghost use Rattle.aes_planes.specs.Each.{Each};
+ghost use Rattle.aes_planes.specs.Fips197 as fips;
+ghost use Rattle.aes_planes.proofs.Standard.CipherLaws.{two_keys};
+ghost use Rattle.aes_permute.specs.Keys.{encrypting, key_of_lanes, IsCipherSchedule};
+ghost use Rattle.aes_permute.specs.Stored.{round_keys_of};
+
+use crate::closures::{lend_to_decrypt, lend_to_encrypt};
+use crate::widths::{Narrow, Width};
+use aes_cipher::cipher::{
+    BlockCipherDecClosure, BlockCipherDecrypt, BlockCipherEncClosure, BlockCipherEncrypt, Decrypt,
+    Encrypt, RoundKeysUser,
+};
+use aes_permute::blocks::{process_on_lanes, process_one};
+use aes_permute::lane_rounds::LaneRounds;
+use aes_planes::laws;
+use aes_planes::soft::word::Block;
+use std::marker::{Model, PhantomData};
+
+/// Stored round keys, lent as a cipher of the direction D. `keys` are those of Cipher, and `used`
+/// those of the direction. It is also the backend for few blocks, which processes them by vector
+/// permutations. Contracts see a value as its key.
+pub struct BorrowedCipher<'a, D: LaneRounds, W = Narrow> {
+    keys: &'a [Block],
+    used: &'a [Block],
+    direction: PhantomData<D>,
+    width: PhantomData<W>,
+}
+
+impl<D: LaneRounds, W> Drop for BorrowedCipher<'_, D, W> {
+    #[inline(always)]
+    fn drop(self) {
+        let BorrowedCipher {
+            keys: _,
+            used: _,
+            direction: _,
+            width: _,
+        } = self;
+    }
+}
+
+impl<'a, D: LaneRounds, W> Model for BorrowedCipher<'a, D, W> {
+    ghost Value = { List ℕ };
+
+    ghost view = { λ lent. key_of_lanes lent.keys.now };
+
+    ghost invariant = { λ lent. IsCipherSchedule lent.keys.now
+        × (round_keys_of D.form lent.used.now ≡ D.form.used_keys (encrypting lent.keys.now)) };
+}
+
+impl<'a, D: LaneRounds, W> BorrowedCipher<'a, D, W> {
+    /// Lends stored round keys.
+    #[inline(always)]
+    pub(crate) fn new(keys: &'a [Block], used: &'a [Block]) -> BorrowedCipher<'a, D, W>
+        requires keyed { IsCipherSchedule keys.now }
+        requires used { round_keys_of D.form used.now ≡ D.form.used_keys (encrypting keys.now) }
+        ensures { result ≡ key_of_lanes keys.now }
+    {
+        BorrowedCipher {
+            keys,
+            used,
+            direction: PhantomData,
+            width: PhantomData,
+        }
+    }
+
+    /// Returns the stored round keys of Cipher.
+    #[inline(always)]
+    pub(crate) fn keys(&self) -> &'a [Block]
+        ensures keyed { IsCipherSchedule result.now }
+        ensures key { key_of_lanes result.now ≡ self.now }
+    {
+        self.keys
+    }
+
+    /// Returns the stored round keys of the direction.
+    #[inline(always)]
+    pub(crate) fn used(&self) -> &'a [Block]
+        ensures { round_keys_of D.form result.now ≡ D.form.used_keys (fips.key_expansion self.now) }
+    {
+        self.used
+    }
+
+    /// Processes a block in place by vector permutations.
+    #[inline(always)]
+    pub(crate) fn process_one(&self, block: &mut Block)
+        ensures { block.new ≡ D.processed (fips.key_expansion self.now) block.old }
+    {
+        D::processes();
+        D::uses_all();
+        process_one::<D>(self.used, block);
+    }
+}
+
+impl<D: LaneRounds, W: Width> BorrowedCipher<'_, D, W> {
+    /// Processes each block of a slice in place by vector permutations.
+    #[inline(always)]
+    pub(crate) fn process_few(&self, blocks: &mut [Block])
+        ensures { Each (D.processed (fips.key_expansion self.now)) blocks.old blocks.new }
+    {
+        D::processes();
+        D::uses_all();
+        process_on_lanes::<D, W::Vectors>(self.used, blocks);
+    }
+}
+
+impl<D: LaneRounds, W> RoundKeysUser for BorrowedCipher<'_, D, W> {
+    ghost round_keys = { fips.key_expansion };
+
+    fn has_round_keys(&self) {
+        laws::expanded_keys();
+        let _ = &self.keys;
+    }
+
+    ghost two_round_keys = { two_keys };
+}
+
+impl<W: Width> BlockCipherEncrypt for BorrowedCipher<'_, Encrypt, W> {
+    #[inline(always)]
+    fn encrypt_with_backend_for<F: BlockCipherEncClosure>(&self, blocks: usize, f: &mut F) {
+        lend_to_encrypt::<W, F>(self, blocks, f);
+    }
+
+    #[inline(always)]
+    fn encrypt_block(&self, block: &mut Block) {
+        self.process_one(block);
+    }
+
+    #[inline(always)]
+    fn encrypt_blocks(&self, blocks: &mut [Block]) {
+        self.process_blocks(blocks);
+    }
+}
+
+impl<W: Width> BlockCipherDecrypt for BorrowedCipher<'_, Decrypt, W> {
+    #[inline(always)]
+    fn decrypt_with_backend_for<F: BlockCipherDecClosure>(&self, blocks: usize, f: &mut F) {
+        lend_to_decrypt::<W, F>(self, blocks, f);
+    }
+
+    #[inline(always)]
+    fn decrypt_block(&self, block: &mut Block) {
+        self.process_one(block);
+    }
+
+    #[inline(always)]
+    fn decrypt_blocks(&self, blocks: &mut [Block]) {
+        self.process_blocks(blocks);
+    }
+}

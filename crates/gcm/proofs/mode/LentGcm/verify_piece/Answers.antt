@@ -1,7 +1,0 @@
--- What is left to show of `mode::LentGcm::verify_piece`.
-use Rattle.gcm.specs.declared.message.Phase.TheVariants.{Verifying}
-use Rattle.gcm.proofs.mode.LentGcm.verify_piece.Goals as goal
-
-pub returns-clause-added : goal.returns-clause-added
-returns-clause-added g c iv a before at =
-    c.hash_text.ensures Verifying iv a before (c.in_ok-turn_to.ensures.turned iv a before at)
