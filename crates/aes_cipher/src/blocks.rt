@@ -21,14 +21,24 @@ pub fn sum_of_blocks(a: &Block, b: &Block) -> Block
 
 /// Returns whether two blocks are equal. It always reads every byte, without an early exit at the
 /// first difference, so it suits comparing tags.
+#[inline(always)]
 pub fn blocks_equal(a: &Block, b: &Block) -> bool
     ensures { IsTrue result ↔ (a.now ≡ b.now) }
+{
+    difference(a, b) == 0
+}
+
+// What differs between two blocks, all bytes put together in one. A call that is never inlined: a
+// compiler that saw the sum and a branch on whether it is 0 could make a branch for each byte.
+#[inline(never)]
+fn difference(a: &Block, b: &Block) -> u8
+    ensures { (result ≡ 0) ↔ (a.now ≡ b.now) }
 {
     let mut difference = 0u8;
     for i in 0..16 {
         difference |= a[i] ^ b[i];
     }
-    difference == 0
+    difference
 }
 
 /// Returns the number as a block, its highest byte first.

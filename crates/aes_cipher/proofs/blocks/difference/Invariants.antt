@@ -1,6 +1,6 @@
--- What holds in the loop of `blocks::blocks_equal`.
+-- What holds in the loop of `blocks::difference`.
 use Rattle.std.proofs.Common.{◌≡◌, ℕ, ◌<◌, get_or}
-use Rattle.aes_cipher.proofs.blocks.blocks_equal.Given as goal
+use Rattle.aes_cipher.proofs.blocks.difference.Given as goal
 
 abbrev pub invariant-loop-i : goal.invariant-loop-i
 invariant-loop-i l = record {

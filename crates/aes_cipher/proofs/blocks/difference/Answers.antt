@@ -1,11 +1,9 @@
--- What is left to show of `blocks::blocks_equal`.
-use Rattle.std.proofs.Common.{◌≡◌, ℕ, ◌∙◌, ap, arith, below_more, bit_or, bit_xor, eq-eqb, get_or}
-use Rattle.std.proofs.Common.{sym}
-use Rattle.std.proofs.lemmas.Bool.{eqb-true}
+-- What is left to show of `blocks::difference`.
+use Rattle.std.proofs.Common.{◌≡◌, ℕ, ◌∙◌, ap, arith, below_more, bit_or, bit_xor, get_or, sym}
 use Rattle.std.proofs.lemmas.List.{ext_get_or}
 use Rattle.std.proofs.lemmas.Nat.{le_or_l, le_or_r}
 use Rattle.std.specs.Int.Bits.{or_zero_l, xor_assoc, xor_self, xor_zero_l, xor_zero_r}
-use Rattle.aes_cipher.proofs.blocks.blocks_equal.Goals as goal
+use Rattle.aes_cipher.proofs.blocks.difference.Goals as goal
 
 -- two numbers whose sum modulo 2 is 0
 same : (x y : ℕ) → bit_xor x y ≡ 0 → x ≡ y
@@ -35,7 +33,7 @@ pub returns : goal.returns
 returns c =
     let a = c.args.a.now in
     let b = c.args.b.now in (
-      λ t. ext_get_or 0 a b (omega (arith, c.told-a, c.told-b))
-          (λ k h. c.loop-i.invariant.agree (eqb-true _ 0 t) k (omega (arith, c.told-a))),
-      λ e. eq-eqb _ 0 (c.loop-i.invariant.none (λ k h. ap (λ l. get_or l k 0) e)),
+      λ none. ext_get_or 0 a b (omega (arith, c.told-a, c.told-b))
+          (λ k h. c.loop-i.invariant.agree none k (omega (arith, c.told-a))),
+      λ e. c.loop-i.invariant.none (λ k h. ap (λ l. get_or l k 0) e),
     )
