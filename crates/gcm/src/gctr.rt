@@ -35,19 +35,22 @@ pub(crate) fn add_gctr<C: BlockCipherEncrypt>(
         return;
     }
     let number = number_of_block(first);
-    let low = number % COUNTERS;
-    let end = 16 * (COUNTERS - low) as u64;
+    let low = (number % COUNTERS) as u32;
+    let last = ((position + bytes.len() as u64 - 1) / 16) as u32;
+    let most = u32::MAX - last;
     // With a nonce that doesn't have 12 bytes the first counter is secret. This branch tells
-    // whether it wraps, and where it does the lengths of the two runs tell the block. No more is
-    // told of it.
-    if position + bytes.len() as u64 <= end {
+    // whether it has wrapped by the last block, and where it has, the lengths of the two runs tell
+    // the block. No more is told of it: 32 bits are compared at once on every machine, and more
+    // would be compared in parts on some.
+    if low <= most {
         add_keystream(cipher, first, position, bytes);
     } else {
+        let end = 16 * (COUNTERS as u64 - low as u64);
         let before = end.saturating_sub(position);
         let (inside, beyond) = bytes.split_at_mut(before as usize);
         add_keystream(cipher, first, position, inside);
         let mut wrapped = BlockRoom::zeroed();
-        wrapped.value_mut()[0] = block_of_number(number - low);
+        wrapped.value_mut()[0] = block_of_number(number - low as u128);
         add_keystream(cipher, &wrapped.value()[0], position + before - end, beyond);
         wrapped.wipe();
     }

@@ -13,18 +13,18 @@ returns-then-bytes-eq0 g c =
     (from_be_bytes w128 c.args.first.now)) c.args.position
     c.args.bytes.now c.if-bytes-eq0.true
 
-pub returns-else-position-bytes : goal.returns-else-position-bytes
-returns-else-position-bytes g c =
+pub returns-else-low-most : goal.returns-else-low-most
+returns-else-low-most g c =
     let w = g.C.RoundKeysUser.round_keys c.args.cipher.now in
     let x : ℕ = c.number_of_block-number.result in
     let p : ℕ = c.args.position in
     let a : List ℕ = c.split_at_mut-inside.result.0.now in
     let b : List ℕ = c.split_at_mut-inside.result.1.now in
     joined_runs (gctr_byte w x) p c.args.bytes.now a b _ _ c.split_at_mut-inside.ensures.value
-    (c.add_keystream-else-position-bytes.ensures
+    (c.add_keystream-else-low-most.ensures
     ∙ before_wrap w c.args.first.now x p a (sym c.number_of_block-number.ensures.number)
     (omega arith) (omega arith))
-    (c.add_keystream-else-position-bytes-2.ensures
+    (c.add_keystream-else-low-most-2.ensures
     ∙ beyond_wrap w _ x _ (p + length a) b
     (ap (from_be_bytes w128)
     (one_block_of _ _ _ _ _ (c.value_mut.ensures.value ∙ c.zeroed-wrapped.ensures) c.value.ensures)
@@ -32,8 +32,8 @@ returns-else-position-bytes g c =
     ∙ ap (λ n. plus_stream (gctr_byte w n) p c.args.bytes.now)
     c.number_of_block-number.ensures.number
 
-pub returns-then-position-bytes : goal.returns-then-position-bytes
-returns-then-position-bytes g c =
+pub returns-then-low-most : goal.returns-then-low-most
+returns-then-low-most g c =
     let w = g.C.RoundKeysUser.round_keys c.args.cipher.now in
     let x : ℕ = c.number_of_block-number.result in
     let p : ℕ = c.args.position in
