@@ -1,5 +1,5 @@
-"""The assembly of dist/ as the measurements need it: for Windows as ELF, without what empties registers, and, for WebAssembly, with calls
-that report each branch and each address."""
+"""The assembly of dist/ as the measurements need it: without what empties registers, and, for WebAssembly, with calls that report each
+branch and each address."""
 import re
 import sys
 
@@ -18,13 +18,6 @@ DECLARED = "".join(f"\t.functype\t{it} (i32) -> (i32)\n" for it in ("report_bran
     f"\t.functype\treport_{it} (i32, i32, i32) -> (i32)\n" for it in ("memcpy", "memmove", "memset"))
 
 
-def of_windows(text):
-    """Assembly for Windows, for ELF."""
-    text = text.replace('.section\t.rdata,"dr"', ".section\t.rodata")
-    text = re.sub(r"^(?:\t?\.(?:seh_|def|scl|type|endef)|.*@feat\.00).*\n", "", text, flags=re.M)
-    return re.sub(r"\bmem(cpy|move|set)\b", r"of_windows_mem\1", text)
-
-
 def of_general_registers(text):
     """Assembly that calls memory.c in the place of libc."""
     return re.sub(r"\b(bl?\t)(mem(?:cpy|move|set))\b", r"\1of_general_registers_\2", text)
@@ -32,7 +25,7 @@ def of_general_registers(text):
 
 def planted(machine, text):
     """Assembly whose exports leave in registers what its compiler left there, and have names of their own."""
-    lines = "\n".join(registers.emptying(machine.folder, machine.ending == "_v3", machine.ending != "_narrow")) + "\n"
+    lines = "\n".join(registers.emptying(machine.folder, False, machine.ending != "_narrow")) + "\n"
     if lines not in text:
         tools.stop(f"the assembly for {machine.folder} doesn't empty registers as {registers.__file__} says")
     return re.sub(r"\bfotsgure_", "planted_fotsgure_", text.replace(lines, ""))

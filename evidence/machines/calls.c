@@ -94,9 +94,10 @@ static int inner(void) {
 }
 
 /* A function of the library from whose assembly what empties registers was taken. */
-#ifdef PLANTED_ABI
-extern PLANTED_ABI int PLANTED(const struct fotsgure_aes *, struct fotsgure_aes_cbc *, uint8_t *, size_t);
-#define PLANTED_REGISTERS(IT) IT(planted_registers, NOTHING, CBC, PLAIN, SEALED, 0, PLANTED(&aes, &cbc, data, count))
+#ifndef __wasm__
+extern int planted_fotsgure_aes_cbc_encrypt(const struct fotsgure_aes *, struct fotsgure_aes_cbc *, uint8_t *, size_t);
+#define PLANTED_REGISTERS(IT) \
+    IT(planted_registers, NOTHING, CBC, PLAIN, SEALED, 0, planted_fotsgure_aes_cbc_encrypt(&aes, &cbc, data, count))
 #else
 #define PLANTED_REGISTERS(IT)
 #endif
@@ -419,8 +420,6 @@ static void at_lengths(const struct call *call) {
 }
 
 int main(void) {
-    /* At its first call a library may ask which of its builds the processor runs. */
-    (void)(fotsgure_aes_version() + fotsgure_gcm_version());
     for (size = 16; size <= 32; size += 8)
         for (const struct call *call = calls; call < calls + OF(calls); call++)
             if (call->mode != SIV || size != 24)

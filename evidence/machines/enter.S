@@ -1,46 +1,6 @@
 /* int enter(void *top, int (*call)(void), void *registers): makes a call on a stack of its own, between the marks that the plugin of qemu
  * knows (hints that do nothing), and stores what is then in the registers. Before it they hold zeros, or what is the same in every run. */
-#ifdef __x86_64__
-	.globl	enter
-enter:
-	.irp	it, rbx, rbp, r12, r13, r14, r15
-	pushq	%\it
-	.endr
-	movq	%rsp, %rbx
-	movq	%rdx, %rbp
-	movq	%rdi, %rsp
-	movq	%rsi, %rax
-	.irp	it, ecx, edx, esi, edi, r8d, r9d, r10d, r11d, r12d, r13d, r14d, r15d
-	xorl	%\it, %\it
-	.endr
-#ifdef __AVX2__
-	vzeroall
-#else
-	.irp	it, 0, 1, 2, 3, 4, 5, 6, 7, 8, 9, 10, 11, 12, 13, 14, 15
-	pxor	%xmm\it, %xmm\it
-	.endr
-#endif
-	nopl	112(%rax)
-	call	*%rax
-	nopl	113(%rax)
-	.irp	it, rax, rcx, rdx, rsi, rdi, r8, r9, r10, r11, r12, r13, r14, r15
-	movq	%\it, (%rbp)
-	addq	$8, %rbp
-	.endr
-	.irp	it, 0, 1, 2, 3, 4, 5, 6, 7, 8, 9, 10, 11, 12, 13, 14, 15
-#ifdef __AVX2__
-	vmovdqu	%ymm\it, (%rbp)
-#else
-	movdqu	%xmm\it, (%rbp)
-#endif
-	addq	$32, %rbp
-	.endr
-	movq	%rbx, %rsp
-	.irp	it, r15, r14, r13, r12, rbp, rbx
-	popq	%\it
-	.endr
-	ret
-#elif defined __riscv
+#ifdef __riscv
 #if __riscv_xlen == 64
 #define SAVE sd
 #define LOAD ld
