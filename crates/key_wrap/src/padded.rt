@@ -123,27 +123,26 @@ pub fn unwrap_padded<C: BlockCipherDecrypt>(
     }
     let mut check = copy_apart(sealed, output);
     unwrap_string(cipher, &mut check, output);
-    if !is_padded(&check, output) {
+    if difference(&check, output) != 0 {
         output.fill([0; 8]);
         return Err(NotUnwrapped::Refused);
     }
     Ok(length_in(&check))
 }
 
-// Whether the semiblocks are those of a key with its padding, `check` the first of them. It looks
-// at all that it compares before it answers: what is wrong is put together, and nothing is if that
-// is 0.
-fn is_padded(check: &Semiblock, halves: &[Semiblock]) -> bool
+// What differs between semiblocks, `check` the first of them, and those of a key with its padding,
+// put together. A call that is never inlined, so that a compiler can't make several branches of the
+// one on whether it is 0.
+#[inline(never)]
+fn difference(check: &Semiblock, halves: &[Semiblock]) -> u64
     requires some { 1 ≤ length halves.now }
     requires few { length halves.now ≤ 2 ^ 29 }
-    ensures { IsTrue result ↔ IsPadded (check.now ∷ halves.now) }
+    ensures { (result ≡ 0) ↔ IsPadded (check.now ∷ halves.now) }
 {
     let (first, bytes) = numbers_of(check);
     let padding = (8 * halves.len() as u64).wrapping_sub(bytes as u64);
-    let wrong = first.wrapping_sub(PADDED_CHECK) as u64
-        | padding >> 3
-        | low_bytes(&halves[halves.len() - 1], padding & 7);
-    wrong == 0
+    let last = last_bytes(&halves[halves.len() - 1], (padding & 7) as u32);
+    first.wrapping_sub(PADDED_CHECK) as u64 | padding >> 3 | last as u64
 }
 
 // How many bytes a key has, by the first semiblock.
@@ -167,10 +166,27 @@ fn numbers_of(half: &Semiblock) -> (u32, u32)
     (u32::from_be_bytes(first), u32::from_be_bytes(second))
 }
 
-// The number that the last `count` bytes of a semiblock write.
-fn low_bytes(half: &Semiblock, count: u64) -> u64
+// The last `count` bytes of a semiblock, put together. They are chosen by masks: a shift by a number
+// that isn't known is a branch on it where words are shorter than what is shifted.
+fn last_bytes(half: &Semiblock, count: u32) -> u8
     requires { count < 8 }
     ensures { (result ≡ 0) ↔ (drop (8 - count) half.now ≡ replicate count 0) }
 {
-    u64::from_be_bytes(*half) & ((1 << (8 * count)) - 1)
+    let mut bytes = 0;
+    for i in 0..8 {
+        bytes |= half[7 - i] & mask_below(i as u32, count);
+    }
+    bytes
+}
+
+// 255 if a place is below a count, else 0. A call that is never inlined, so that a compiler can't
+// make a branch of what is masked.
+#[inline(never)]
+fn mask_below(place: u32, count: u32) -> u8
+    requires place { place < 8 }
+    requires count { count < 8 }
+    ensures below { place < count → result ≡ 255 }
+    ensures other { count ≤ place → result ≡ 0 }
+{
+    (place.wrapping_sub(count) >> 24) as u8
 }
