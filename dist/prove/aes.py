@@ -182,6 +182,10 @@ class Keyed:
         """Functions of the bytes of block 1, as the same of another one."""
         return [self.domain.moved(b, LEAD - 1 + by) for b in bytes_]
 
+    def at_block(self, m, bytes_, number):
+        """Functions of the bytes of block 1, as the same of a block with this number."""
+        return [self.domain.moved(b, number - m.first_block) for b in self.pattern(bytes_)]
+
     def of_all(self, pattern):
         """The same of all blocks that may occur."""
         numbers = {n for b in pattern for n in self.domain.blocks(b)}

@@ -239,6 +239,9 @@ class Window(Region):
         """All blocks are what they have to be, and nothing more is written. They may be read once more, as these."""
         self.initial, self.origin, self.content, self.writable = initial, 0, [], False
 
+    def says(self, domain, name, byte):
+        return "the block at %s of %s is not what it has to be: it begins with %s" % (self.origin, name, domain.describe(byte))
+
     def finish(self, m, name):
         """Compares all blocks with what they have to be, up to the end."""
         if not self.writable:
@@ -250,8 +253,7 @@ class Window(Region):
         for at in range(0, rest, 16):
             have, want = self.content[:min(16, rest - at)], self.wanted(m)
             if have != want[:len(have)]:
-                raise Unproved("the block at %s of %s is not what it has to be: it begins with %s" % (
-                    self.origin, name, m.domain.describe(have[0])))
+                raise Unproved(functools.partial(self.says, m.domain, name, have[0]))
             self.origin, self.content = self.origin + 16, self.content[16:]
 
 
@@ -1046,6 +1048,11 @@ class Machine:
         if flag[0] == "zero" and any(q[0] == "zero" and answer and {*flag[1:]} <= {*q[1:]} for q, answer in self.answers.items()):
             return 1  # some of those that are all zero
         return self.ask(flag)
+
+    def carried(self, flag):
+        """A flag that an instruction adds: one that compares lengths, as 0 or 1."""
+        number = flag[1] if isinstance(flag, tuple) and flag[0] == "not" else flag
+        return self.decide(flag) if isinstance(number, tuple) and is_number(*number[:2]) else flag
 
     def is_public(self, bytes_):
         """Whether bytes depend on public cells alone. (One without cells is a byte that nobody wrote, or of which only the name is

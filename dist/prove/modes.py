@@ -4,9 +4,9 @@ Both make a chain: each block is added to a value, and Cipher of the sum is the 
 arbitrary bytes, as in CBC encryption. Value k comes before block k, and a byte of block k is a byte of block k of the domain."""
 import itertools
 
-from aes import DONE, NO_KEY, NONCE_LENGTH, REFUSED, TAG_LENGTH, TOO_LONG, Keyed, between, nothing
+from aes import DONE, NO_KEY, NONCE_LENGTH, PTRDIFF_MAX, REFUSED, TAG_LENGTH, TOO_LONG, Keyed, between, nothing
 from bits import DATA, KEY, PUBLIC
-from calls import Buffer, Call
+from calls import Buffer, Call, Stream
 from linear import unknown
 from single_rounds import SingleRounds
 from standards import ZEROS, doubled, number, padded
@@ -69,6 +69,58 @@ class KeyedAes(SingleRounds, Keyed):
         tag = self.tag[:tag_length]
         return Call("aes_cmac_verify", [self.schedule(), Buffer("message", message), length, Buffer("tag", tag), tag_length], DONE,
                     steps=steps, reveals=self.aes.xor(tag, right), refused=REFUSED, plain=message)
+
+    # The same of 16 n + `rest` bytes for every n, where the last block has from 1 to 16 bytes.
+    def at_link(self, m, bytes_, k):
+        """Block k, and the value before it, have the number of the block before them, so that none is left of what no pass needs."""
+        return self.at_block(m, bytes_, k - 1)
+
+    def any_value(self, m, k):
+        """What comes before block k of a chain; None if that isn't known."""
+        if isinstance(k, int) and k == 0:
+            return ZEROS
+        return self.at_link(m, self.chain()[0], k) if m.implied(k - 1) else None
+
+    def any_link(self, m, k):
+        """The step from block k to the next one."""
+        value = self.any_value(m, k)
+        if value is None:
+            return "nothing", (), ()
+        block = self.ciphers["encrypt"] if value == ZEROS else self.chain()[1]
+        return "block", self.at_link(m, block, k), self.any_value(m, k + 1)
+
+    def any_tagged(self, rest):
+        """The arguments that are a message, what a call of every length needs besides, and the tag."""
+        blocks, apart = unknown("n"), self.found_in == "vector"  # whether a value is added to the last block after that is found
+        first = doubled(self.domain, self.cipher_of(ZEROS))
+        subkey = first if rest == 16 else doubled(self.domain, first)
+        last = self.aes.xor((self.block_bytes[:rest] + [0x80] + ZEROS)[:16], subkey)
+        chained, alone = self.cipher_of(self.aes.xor(self.last_sum, self.chain()[0])), self.cipher_of(self.last_sum)
+
+        def steps(m):
+            k, count = m.done, m.known(blocks)
+            if m.is_below(k, count):
+                return self.any_link(m, k)
+            if k != count:
+                return "nothing", (), ()
+            block = self.at_link(m, last, k)
+            return "block", block if apart else self.aes.xor(block, self.any_value(m, k)), self.last_sum
+
+        def tag(m):
+            count = m.known(blocks)
+            return self.at_link(m, chained, count) if apart and count != 0 else alone
+        size, message = blocks * 16 + rest, self.pattern(self.block_bytes, -1)
+        return [Stream("message", size, message), size], dict(steps=steps, plain=self.of_all(message), facts={blocks, PTRDIFF_MAX - size}), tag
+
+    def any_cmac(self, rest):
+        message, more, tag = self.any_tagged(rest)
+        return Call("aes_cmac", [self.schedule(), *message, Buffer("tag", self.undefined(16), tag)], DONE, **more)
+
+    def any_cmac_verify(self, rest, tag_length):
+        message, more, right = self.any_tagged(rest)
+        tag = self.tag[:tag_length]
+        return Call("aes_cmac_verify", [self.schedule(), *message, Buffer("tag", tag), tag_length], DONE,
+                    reveals=lambda m: self.aes.xor(tag, right(m)), refused=REFUSED, **more)
 
     # CCM.
     def counter_stream(self, nonce, i):
