@@ -84,6 +84,8 @@ def prove(domain, program, call, seed=None):
     m.may_reveal, m.assumed = call.reveals is not None, call.assumes
     m.room, m.counter = call.room, call.counter
     m.facts, m.any_length, ends = call.facts, call.any_length, []
+    for window in (r for r in regions.values() if isinstance(r, Window)):
+        window.waits = call.later is not None
     if refuted(call.facts):
         raise Unproved("is about no arguments")
     watches = [step_by_step(call.steps if call.any_length else call.steps())] if call.steps else []

@@ -178,6 +178,7 @@ class Window(Region):
     def __init__(self, size, initial, want):
         super().__init__([], want is not None)
         self.size, self.initial, self.want, self.origin = size, initial, want, 0
+        self.waits = False  # for the domain of the patterns: a call that expands a key begins in another one
 
     def at(self, m):
         """Where `content` begins, from the block with number LEAD on."""
@@ -988,6 +989,8 @@ class Machine:
             raise Unproved("accesses memory at %s" % (address,))
         base, offset = address
         if isinstance(region, Window):
+            if region.waits:
+                raise Pause("accesses %s while the key is expanded" % base)
             if not self.implied(offset) or not self.implied(region.size - offset - size):
                 raise Unproved("%s %d bytes at %s of %s, which has %s" % (
                     "writes" if write else "reads", size, offset, base, region.size))
@@ -1093,6 +1096,7 @@ class Machine:
         """Runs until the call returns; each of `watches` is called after each instruction."""
         try:
             while not isinstance(self.next_address, Pointer):
+                here = self.next_address
                 external = self.after_external = self.externals.get(self.next_address)
                 if external:
                     self.external(external)
@@ -1103,7 +1107,9 @@ class Machine:
                 if self.steps > limit:
                     raise Unproved("doesn't return")
         except (Pause, Question):  # before this instruction
-            self.next_address, self.steps = self.last, self.steps - 1
+            if any(isinstance(o, Memory) and o.before for o in self.program.at(self.last).operands):
+                raise Unproved("asks something after a base register has moved") from None
+            self.next_address, self.steps = here, self.steps - 1
             raise
         except Unproved as e:
             raise Unproved("%s [at %x: %s]" % (e, self.last, self.program.lines.get(self.last))) from None

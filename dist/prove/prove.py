@@ -51,7 +51,7 @@ def common_cases(library, version):
 def aes_cases(choose):
     ways = "encrypt", "decrypt"
     yield "blocks", choose([(direction, n, way) for direction in ways for n in range(65) for way in ("", "_to", "_with")[:3 if n else 2]],
-                           [(direction, 1, "_with") for direction in ways], [("encrypt", 17)])
+                           [], [("encrypt", 17)])
     counts = 0, 1, 16, 33, 64, 130, 450
     yield "add_keystream", [(0, n) for n in choose(counts, (33,), (1, 16, 64, 130))] + [(2 ** 64 - 21, 20), (5, 40, 2)]
     yield "add_keystream", [(3, n, aes.NEVER, "_to") for n in choose(counts, (33,), (0, 130))]
@@ -66,8 +66,8 @@ def aes_cases(choose):
     far = [(2 ** 32 - 20, 40), (2 ** 36, 64)]
     yield "add_keystream", choose(far, (), far)
     # Of every length, by its remainder.
-    for way, more in ("", [rest for rest in range(16) if rest != 7]), ("_to", (0, 1, 2, 14)):
-        yield "any_blocks", [(direction, rest, way) for direction in ways for rest in choose(range(16), (7,), more)]
+    for way, few, more in ("", (7,), [rest for rest in range(16) if rest != 7]), ("_to", (7,), (0, 1, 2, 14)), ("_with", (1,), ()):
+        yield "any_blocks", [(direction, rest, way) for direction in ways for rest in choose(range(16), few, more)]
     yield "any_cbc_encrypt", [()]
     yield "any_cbc_decrypt", choose(range(64), (), (9,))
     # And at every position, with a carry anywhere: by the place in a block, and by the remainder.
