@@ -213,9 +213,13 @@ class Keyed:
         return self.of_any_count("aes_%s_blocks" % direction, [], content, want, count, count * 16,
                                  content if direction == "encrypt" else want, way)
 
-    def any_keystream(self, skip, rest, way="", step=128):
+    def any_low_keystream(self, skip, rest, way=""):
+        """The same where the low half doesn't carry: there are far fewer ways through the code."""
+        return self.any_keystream(skip, rest, way, NEVER)
+
+    def any_keystream(self, skip, rest, way="", wrap=unknown("wrap"), step=128):
         """At every position 16 k + `skip`, for any initial counter block: the low half carries at any place, or nowhere."""
-        before, wrap, d, count = unknown("before"), unknown("wrap"), self.domain, unknown("n") * step + rest
+        before, d, count = unknown("before"), self.domain, unknown("n") * step + rest
         name, end, places = "counter low, any count", before * 16 + skip + count, range(skip, skip + 16)
         low, streams, data = self.counter_blocks()
         d.placed[name] = lambda number, k: d.bits(d.byte_in_block(low[7 - k], number))

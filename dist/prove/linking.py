@@ -162,7 +162,7 @@ def program_of(build, path, out):
     """An object of a build, linked by itself."""
     (refuse_names_of_windows if is_windows(build) else refuse_names)(path, suffix_of(build))
     program = linked(out, BUILDS[build], [path], suffix_of(build))
-    program.narrow, program.few = narrow_word(build), takes_few(build)
+    program.narrow, program.few, program.suffix = narrow_word(build), takes_few(build), suffix_of(build)
     refuse_instructions(program, suffix_of(build))
     return program
 

@@ -4,10 +4,11 @@ Both make a chain: each block is added to a value, and Cipher of the sum is the 
 arbitrary bytes, as in CBC encryption. Value k comes before block k, and a byte of block k is a byte of block k of the domain."""
 import itertools
 
-from aes import DONE, NO_KEY, NONCE_LENGTH, PTRDIFF_MAX, REFUSED, TAG_LENGTH, TOO_LONG, Keyed, between, nothing
+from aes import BATCH, DONE, NEVER, NO_KEY, NONCE_LENGTH, PTRDIFF_MAX, REFUSED, TAG_LENGTH, TOO_LONG, CounterWord, Keyed, between, nothing
 from bits import DATA, KEY, PUBLIC
 from calls import Buffer, Call, Stream
 from linear import unknown
+from machine import Pointer
 from single_rounds import SingleRounds
 from standards import ZEROS, doubled, number, padded
 
@@ -171,6 +172,60 @@ class KeyedAes(SingleRounds, Keyed):
                 yield "text", self.ccm_crypted(nonce, text)[0], sealed
         return Call("aes_ccm_open", [*arguments, Buffer("text", sealed, text), text_length, Buffer("tag", tag), tag_length], DONE,
                     steps=steps, reveals=self.aes.xor(tag, right), refused=REFUSED, keystream=stream, plain=text, undone=True)
+
+    # The same of texts of 256 n + `rest` bytes for every n: so each byte of the length is one of n, or known. The halves of a counter block
+    # are words of unknown value.
+    def ccm_counters(self, nonce):
+        """Cipher of the counter block of any block of text."""
+        d, size = self.domain, 15 - len(nonce)
+        low = nonce[7:] + [d.fresh("counter byte %d" % i, PUBLIC, True) for i in range(16 - size, 16)]
+        d.words["CCM high"] = lambda offset, k: d.bits(([14 - len(nonce)] + nonce[:7])[7 - k]) if offset == 0 else None
+        d.placed["CCM low"] = lambda number, k: d.bits(d.byte_in_block(low[7 - k], number))
+        return self.aes.cipher([14 - len(nonce)] + nonce[:7] + low, self.w)
+
+    def ccm_counter_word(self, nonce, size):
+        high, low = [14 - len(nonce)] + nonce[:7], nonce[7:] + [0] * (15 - len(nonce))
+        words = {tuple(low[::-1]): Pointer("CCM low", 0), tuple(high[::-1]): Pointer("CCM high", 0)}
+        return CounterWord("CCM low", 1, NEVER, size.divided(16)[0] + 2 + BATCH, words)
+
+    def any_ccm_chain(self, m, head, size, last_value):
+        """The steps through the blocks `head` and a text of this size."""
+        (chain, chained), early = self.chain(), self.once("early", lambda: [self.fresh_block("early value %d" % k) for k in range(9)])
+        whole, rest = divmod(size, 16) if isinstance(size, int) else size.divided(16)
+        k = m.done - len(head)
+        if isinstance(k, int) and k < 0:
+            value = early[m.done - 1] if m.done else ZEROS
+            return "block", self.cipher_of(self.aes.xor(head[m.done], value)), early[m.done] if k < -1 else self.at_link(m, chain, 0)
+        if m.is_below(k, whole):
+            return "block", self.at_link(m, chained, k), self.at_link(m, chain, k + 1)
+        if k == whole and rest:
+            block = self.cipher_of(self.aes.xor(self.block_bytes[:rest] + ZEROS[rest:], chain))
+            return "block", self.at_link(m, block, k), last_value
+        if k == whole:
+            return "here", self.at_link(m, chain, k), last_value
+        return "again" if k == whole + 1 else "nothing", (), ()
+
+    def fresh_block(self, name):
+        return [self.domain.fresh("%s, byte %d" % (name, i), KEY | DATA) for i in range(16)]
+
+    def any_ccm_seal(self, nonce_length, additional_length, rest, tag_length):
+        nonce, size, d = self.nonce[:nonce_length], unknown("n") * 256 + rest, self.domain
+        additional = self.many(self.tag, additional_length)
+        stream = self.pattern(self.once(("CCM counters", nonce_length), lambda: self.ccm_counters(nonce)))
+        text, last_value = self.pattern(self.block_bytes, -1), self.once("last value", lambda: self.fresh_block("last value"))
+        flags = 64 * (additional_length > 0) + 8 * ((tag_length - 2) // 2) + 14 - nonce_length
+        data = padded(number(additional_length, 2) + additional) if additional else []
+        tag = self.aes.xor(last_value, self.counter_stream(nonce, 0))[:tag_length]
+
+        def steps(m):
+            if m.phase:
+                return "nothing", (), ()
+            length = m.to_bytes(m.known(size), 8)[14 - nonce_length::-1]
+            return self.any_ccm_chain(m, [[flags, *nonce, *length], *data], m.known(size), last_value)
+        arguments = [self.schedule(), Buffer("nonce", nonce), nonce_length, Buffer("additional", additional), additional_length,
+                     Stream("text", size, text, self.aes.xor(text, stream)), size, Buffer("tag", self.undefined(tag_length), tag), tag_length]
+        return Call("aes_ccm_seal", arguments, DONE, steps=steps, keystream=self.of_all(stream), plain=self.of_all(text),
+                    counter=self.ccm_counter_word(nonce, size), facts={unknown("n"), PTRDIFF_MAX - size, (1 << 8 * (15 - nonce_length)) - 1 - size})
 
     # Calls that are refused, for all their arguments.
     def refused(self):

@@ -37,7 +37,7 @@ SEED = 1
 OF_24 = ("any_blocks", "add_keystream", "cbc_decrypt", "any_cbc_encrypt", "wrap", "unwrap", "cmac", "ccm_seal", "ccm_open", "seal", "open",
          "wipe", "wipe_message", "set_key_of", "set_key_of_none", "set_key_refused", "key_length", "key_length_of_none", "version")
 # What takes longest, and what keys of 16 bytes show: builds that take few lengths, and keys of 32 bytes, don't take these by default.
-LONG_CASES = "any_keystream", "any_seal", "any_open", "unwrap_padded_refused"
+LONG_CASES = "any_seal", "any_open", "unwrap_padded_refused"
 LONG = [(0, 16 * n) for n in range(1, 65)] + [(n, 0) for n in range(1, 100, 9)]
 
 
@@ -72,7 +72,8 @@ def aes_cases(choose):
     yield "any_cbc_decrypt", choose(range(64), (), (9,))
     # And at every position, with a carry anywhere: by the place in a block, and by the remainder.
     every = [(0, rest) for rest in range(9, 128, 18)] + [(skip, 17 * skip % 128) for skip in range(1, 16, 2)] + [(3, 45, "_to")]
-    yield "any_keystream", choose([(0, 0), (0, 33), (5, 122), *every], [(0, 0)])
+    yield "any_low_keystream", choose([(0, 0), (0, 33), (5, 122), (0, 0, "_with")], [(0, 0)], (), [(0, 0, "_with")])
+    yield "any_keystream", choose([(0, 0), (0, 33), (5, 122), *every], (), (), [(0, 0)])
     yield "cbc_decrypt", choose(range(65), (9,), (0, 1, 3, 4, 8, 17))
     yield "cbc_encrypt", choose(range(65), ())
     yield "wrap", choose(range(2, 13), (2,), (8,))
@@ -87,6 +88,7 @@ def aes_cases(choose):
     # The lengths of nonce, additional data, text and tag.
     messages = [(13, 8, 33, 8), (7, 0, 1, 4), (12, 14, 16, 16), (8, 15, 17, 6), (13, 33, 0, 14), (11, 1, 300, 10)]
     every = [(nonce, 20, 40, tag) for nonce in modes.NONCES for tag in modes.CCM_TAGS] + [(12, n, 60 - n, 12) for n in range(61)]
+    yield "any_ccm_seal", choose([(8, 8, 33, 8)], (), (), [(8, 8, 33, 8)])
     yield "ccm_seal", choose(messages + every, messages[:1], messages[1:])
     yield "ccm_open", choose(messages + every, messages[:1], messages[1:-1])
     # These need no key.
@@ -180,7 +182,8 @@ def statements(keyed, options, part, parts):
     """(what, Call) of this part of all; set_key was proved before."""
     few = not options.all and (keyed.program.few or keyed.key_size > 16)
     takes = lambda name: not few or name not in LONG_CASES and (keyed.key_size != 24 or name in OF_24)
-    choose = lambda all_, few_, more=(): all_ if options.all else few_ if few else [*few_, *more]
+    first = not few and keyed.program.machine is X86_64 and keyed.program.suffix != "_v3"
+    choose = lambda all_, few_, more=(), of_first=(): all_ if options.all else few_ if few else [*few_, *more, *(of_first if first else ())]
     cases, number, machine = LIBRARIES[keyed.library][1], itertools.count(), keyed.program.machine
     if issubclass(machine, Riscv):
         cases = lambda choose: riscv_cases(choose, machine.word)
