@@ -314,7 +314,7 @@ class KeyedGcm(Keyed):
         sizes, first, text, stream, sealed = self.any_whole(rest_of_additional, rest)
 
         def steps(m):
-            return ("whole", "output" if way else "text", sealed) if m.phase == 0 else self.any_hash(m, m.phase - 1, sizes)
+            return ("whole", "output" if way else "text", (sealed,)) if m.phase == 0 else self.any_hash(m, m.phase - 1, sizes)
         texts = self.streams_of(way, "text", sizes[1], sizes[1], text, [self.aes.xor(text, stream), sealed], lambda m, number: [0] * 16)
         tag = Buffer("tag", self.undefined(16), lambda m: self.any_tag(m, sizes, first))
         return self.of_any_message("gcm_seal" + way, sizes, first, stream, [*texts, tag], steps, text)

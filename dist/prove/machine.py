@@ -178,6 +178,7 @@ class Window(Region):
     def __init__(self, size, initial, want):
         super().__init__([], want is not None)
         self.size, self.initial, self.want, self.origin = size, initial, want, 0
+        self.undoes = False  # whether what was done is to be undone
         self.waits = False  # for the domain of the patterns: a call that expands a key begins in another one
 
     def at(self, m):
@@ -236,9 +237,11 @@ class Window(Region):
             return False
         return True
 
-    def begin_again(self, initial):
-        """All blocks are what they have to be, and nothing more is written. They may be read once more, as these."""
-        self.initial, self.origin, self.content, self.writable = initial, 0, [], False
+    def begin_again(self, initial, undone=None):
+        """All blocks are what they have to be, and may be read once more, as these. Nothing more is written; or, if what was done is undone,
+        these blocks."""
+        self.initial, self.origin, self.content = initial, 0, []
+        self.writable, self.undoes, self.want = undone is not None, undone is not None, lambda m, number: undone
 
     def says(self, domain, name, byte):
         return "the block at %s of %s is not what it has to be: it begins with %s" % (self.origin, name, domain.describe(byte))

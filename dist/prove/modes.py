@@ -76,19 +76,16 @@ class KeyedAes(SingleRounds, Keyed):
         """Block k, and the value before it, have the number of the block before them, so that none is left of what no pass needs."""
         return self.at_block(m, bytes_, k - 1)
 
-    def any_value(self, m, k):
-        """What comes before block k of a chain; None if that isn't known."""
+    def any_link(self, m, k, first, block=None, after=None):
+        """The step from block k to the next one: before block 0 there is `first`. The last block and what comes after it may be others."""
+        block = block or self.block_bytes
         if isinstance(k, int) and k == 0:
-            return ZEROS
-        return self.at_link(m, self.chain()[0], k) if m.implied(k - 1) else None
-
-    def any_link(self, m, k):
-        """The step from block k to the next one."""
-        value = self.any_value(m, k)
-        if value is None:
+            want = self.at_link(m, self.cipher_of(self.aes.xor(block, first)), k)
+        elif m.implied(k - 1):
+            want = self.at_link(m, self.cipher_of(self.aes.xor(block, self.chain()[0])), k)
+        else:
             return "nothing", (), ()
-        block = self.ciphers["encrypt"] if value == ZEROS else self.chain()[1]
-        return "block", self.at_link(m, block, k), self.any_value(m, k + 1)
+        return "block", want, after or self.at_link(m, self.chain()[0], k + 1)
 
     def any_tagged(self, rest):
         """The arguments that are a message, what a call of every length needs besides, and the tag."""
@@ -101,11 +98,11 @@ class KeyedAes(SingleRounds, Keyed):
         def steps(m):
             k, count = m.done, m.known(blocks)
             if m.is_below(k, count):
-                return self.any_link(m, k)
+                return self.any_link(m, k, ZEROS)
             if k != count:
                 return "nothing", (), ()
             block = self.at_link(m, last, k)
-            return "block", block if apart else self.aes.xor(block, self.any_value(m, k)), self.last_sum
+            return "block", block if apart or k == 0 else self.aes.xor(block, self.at_link(m, self.chain()[0], k)), self.last_sum
 
         def tag(m):
             count = m.known(blocks)
@@ -179,53 +176,73 @@ class KeyedAes(SingleRounds, Keyed):
         """Cipher of the counter block of any block of text."""
         d, size = self.domain, 15 - len(nonce)
         low = nonce[7:] + [d.fresh("counter byte %d" % i, PUBLIC, True) for i in range(16 - size, 16)]
-        d.words["CCM high"] = lambda offset, k: d.bits(([14 - len(nonce)] + nonce[:7])[7 - k]) if offset == 0 else None
-        d.placed["CCM low"] = lambda number, k: d.bits(d.byte_in_block(low[7 - k], number))
+        d.words["CCM high, %d" % size] = lambda offset, k: d.bits(([size - 1] + nonce[:7])[7 - k]) if offset == 0 else None
+        d.placed["CCM low, %d" % size] = lambda number, k: d.bits(d.byte_in_block(low[7 - k], number))
         return self.aes.cipher([14 - len(nonce)] + nonce[:7] + low, self.w)
 
     def ccm_counter_word(self, nonce, size):
-        high, low = [14 - len(nonce)] + nonce[:7], nonce[7:] + [0] * (15 - len(nonce))
-        words = {tuple(low[::-1]): Pointer("CCM low", 0), tuple(high[::-1]): Pointer("CCM high", 0)}
-        return CounterWord("CCM low", 1, NEVER, size.divided(16)[0] + 2 + BATCH, words)
+        of, high, low = 15 - len(nonce), [14 - len(nonce)] + nonce[:7], nonce[7:] + [0] * (15 - len(nonce))
+        words = {tuple(low[::-1]): Pointer("CCM low, %d" % of, 0), tuple(high[::-1]): Pointer("CCM high, %d" % of, 0)}
+        return CounterWord("CCM low, %d" % of, 1, NEVER, size.divided(16)[0] + 2 + BATCH, words)
 
     def any_ccm_chain(self, m, head, size, last_value):
         """The steps through the blocks `head` and a text of this size."""
-        (chain, chained), early = self.chain(), self.once("early", lambda: [self.fresh_block("early value %d" % k) for k in range(9)])
+        early = self.once("early", lambda: [self.fresh_block("early value %d" % k) for k in range(9)])
         whole, rest = divmod(size, 16) if isinstance(size, int) else size.divided(16)
         k = m.done - len(head)
         if isinstance(k, int) and k < 0:
             value = early[m.done - 1] if m.done else ZEROS
-            return "block", self.cipher_of(self.aes.xor(head[m.done], value)), early[m.done] if k < -1 else self.at_link(m, chain, 0)
+            return "block", self.cipher_of(self.aes.xor(head[m.done], value)), early[m.done]
+        first = early[len(head) - 1]
         if m.is_below(k, whole):
-            return "block", self.at_link(m, chained, k), self.at_link(m, chain, k + 1)
+            return self.any_link(m, k, first)
         if k == whole and rest:
-            block = self.cipher_of(self.aes.xor(self.block_bytes[:rest] + ZEROS[rest:], chain))
-            return "block", self.at_link(m, block, k), last_value
+            return self.any_link(m, k, first, self.block_bytes[:rest] + ZEROS[rest:], last_value)
         if k == whole:
-            return "here", self.at_link(m, chain, k), last_value
+            return "here", first if k == 0 else self.at_link(m, self.chain()[0], k), last_value
         return "again" if k == whole + 1 else "nothing", (), ()
 
     def fresh_block(self, name):
         return [self.domain.fresh("%s, byte %d" % (name, i), KEY | DATA) for i in range(16)]
 
-    def any_ccm_seal(self, nonce_length, additional_length, rest, tag_length):
-        nonce, size, d = self.nonce[:nonce_length], unknown("n") * 256 + rest, self.domain
-        additional = self.many(self.tag, additional_length)
+    def any_ccm(self, nonce_length, additional_length, rest, tag_length):
+        """What both calls have in common: the arguments before the text, its size, the patterns of a text and of keystream, the steps of the
+        chain, the tag, and what else they need."""
+        nonce, size = self.nonce[:nonce_length], unknown("n") * 256 + rest
+        additional = self.once("additional", lambda: [self.domain.fresh("additional byte %d" % i, DATA) for i in range(99)])[:additional_length]
         stream = self.pattern(self.once(("CCM counters", nonce_length), lambda: self.ccm_counters(nonce)))
         text, last_value = self.pattern(self.block_bytes, -1), self.once("last value", lambda: self.fresh_block("last value"))
         flags = 64 * (additional_length > 0) + 8 * ((tag_length - 2) // 2) + 14 - nonce_length
         data = padded(number(additional_length, 2) + additional) if additional else []
         tag = self.aes.xor(last_value, self.counter_stream(nonce, 0))[:tag_length]
 
-        def steps(m):
-            if m.phase:
-                return "nothing", (), ()
+        def chain(m):
             length = m.to_bytes(m.known(size), 8)[14 - nonce_length::-1]
             return self.any_ccm_chain(m, [[flags, *nonce, *length], *data], m.known(size), last_value)
-        arguments = [self.schedule(), Buffer("nonce", nonce), nonce_length, Buffer("additional", additional), additional_length,
-                     Stream("text", size, text, self.aes.xor(text, stream)), size, Buffer("tag", self.undefined(tag_length), tag), tag_length]
-        return Call("aes_ccm_seal", arguments, DONE, steps=steps, keystream=self.of_all(stream), plain=self.of_all(text),
-                    counter=self.ccm_counter_word(nonce, size), facts={unknown("n"), PTRDIFF_MAX - size, (1 << 8 * (15 - nonce_length)) - 1 - size})
+        arguments = [self.schedule(), Buffer("nonce", nonce), nonce_length, Buffer("additional", additional), additional_length]
+        return arguments, size, text, stream, chain, tag, dict(
+            keystream=self.of_all(stream), counter=self.ccm_counter_word(nonce, size),
+            facts={unknown("n"), PTRDIFF_MAX - size, (1 << 8 * (15 - nonce_length)) - 1 - size})
+
+    def any_ccm_seal(self, *lengths):
+        arguments, size, text, stream, chain, tag, more = self.any_ccm(*lengths)
+        steps = lambda m: chain(m) if m.phase == 0 else ("nothing", (), ())
+        return Call("aes_ccm_seal", [*arguments, Stream("text", size, text, self.aes.xor(text, stream)), size,
+                                     Buffer("tag", self.undefined(len(tag)), tag), len(tag)], DONE, steps=steps, plain=self.of_all(text), **more)
+
+    def any_ccm_open(self, *lengths):
+        """When all of the text is decrypted, it becomes arbitrary bytes; with the keystream once more it is what it was."""
+        arguments, size, text, stream, chain, right, more = self.any_ccm(*lengths)
+        tag, sealed = self.tag[:len(right)], self.pattern(self.sealed)
+        opened, undone = self.aes.xor(sealed, stream), self.aes.xor(text, stream)
+
+        def steps(m):
+            if m.phase == 0:
+                return "whole", "text", (text, undone)
+            return chain(m) if m.phase == 1 else ("nothing", (), ())
+        return Call("aes_ccm_open", [*arguments, Stream("text", size, sealed, opened), size, Buffer("tag", tag), len(tag)], DONE,
+                    steps=steps, reveals=self.aes.xor(tag, right), refused=REFUSED, plain=self.of_all(text + opened),
+                    between=self.of_all(undone), undone=True, **more)
 
     # Calls that are refused, for all their arguments.
     def refused(self):

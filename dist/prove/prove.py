@@ -51,7 +51,7 @@ def common_cases(library, version):
 def aes_cases(choose):
     ways = "encrypt", "decrypt"
     yield "blocks", choose([(direction, n, way) for direction in ways for n in range(65) for way in ("", "_to", "_with")[:3 if n else 2]],
-                           [], [("encrypt", 17)])
+                           [("encrypt", 2), ("encrypt", 1, "_with")], [("encrypt", n) for n in (0, 16, 17)])
     counts = 0, 1, 16, 33, 64, 130, 450
     yield "add_keystream", [(0, n) for n in choose(counts, (33,), (1, 16, 64, 130))] + [(2 ** 64 - 21, 20), (5, 40, 2)]
     yield "add_keystream", [(3, n, aes.NEVER, "_to") for n in choose(counts, (33,), (0, 130))]
@@ -75,7 +75,7 @@ def aes_cases(choose):
     yield "any_low_keystream", choose([(0, 0), (0, 33), (5, 122), (0, 0, "_with")], [(0, 0)], (), [(0, 0, "_with")])
     yield "any_keystream", choose([(0, 0), (0, 33), (5, 122), *every], (), (), [(0, 0)])
     yield "cbc_decrypt", choose(range(65), (9,), (0, 1, 3, 4, 8, 17))
-    yield "cbc_encrypt", choose(range(65), ())
+    yield "cbc_encrypt", choose(range(65), (), (1, 2))
     yield "wrap", choose(range(2, 13), (2,), (8,))
     yield "unwrap", choose(range(3, 14), (3,), (9,))
     yield "wrap_padded", choose(range(1, 58), (9,), (1, 8))
@@ -83,12 +83,13 @@ def aes_cases(choose):
     yield "unwrap_padded_refused", choose([(n, 1) for n in range(1, 4)], [(1, 8)], [(2, 16)])
     yield "any_cmac", choose(range(1, 17), (1,), (12, 15, 16))
     yield "any_cmac_verify", choose([(4, n) for n in modes.CMAC_TAGS], [(1, 16)], [(1, 11)])
-    yield "cmac", choose(range(100), (), (0,))
+    yield "cmac", choose(range(100), (), (0, 1, 16))
     yield "cmac_verify", choose([(20, n) for n in modes.CMAC_TAGS], (), [(0, 4)])
     # The lengths of nonce, additional data, text and tag.
     messages = [(13, 8, 33, 8), (7, 0, 1, 4), (12, 14, 16, 16), (8, 15, 17, 6), (13, 33, 0, 14), (11, 1, 300, 10)]
     every = [(nonce, 20, 40, tag) for nonce in modes.NONCES for tag in modes.CCM_TAGS] + [(12, n, 60 - n, 12) for n in range(61)]
-    yield "any_ccm_seal", choose([(8, 8, 33, 8)], (), (), [(8, 8, 33, 8)])
+    for call in "any_ccm_seal", "any_ccm_open":
+        yield call, choose([(8, 8, 33, 8), (13, 0, 16, 16), (12, 33, 255, 4)], (), (), [(8, 8, 33, 8)])
     yield "ccm_seal", choose(messages + every, messages[:1], messages[1:])
     yield "ccm_open", choose(messages + every, messages[:1], messages[1:-1])
     # These need no key.
