@@ -8,8 +8,8 @@ from collections import namedtuple
 
 from bits import BLOCK, DATA, KEY, LOST, ONES, PUBLIC, Domain, Unproved, linear_bits
 from calls import ANY, Buffer, Call, Stream, prove
-from linear import WORD, unknown
-from machine import LAST, LEAD, Pointer, Verdict
+from linear import WORD, Linear, unknown
+from machine import LAST, LEAD, Pointer, Verdict, Window
 from standards import ICV1, ICV2, Aes, number
 
 # The header's enum, structs and sizes; prove.py has the compiler compare them.
@@ -182,6 +182,10 @@ class Keyed:
         """Functions of the bytes of block 1, as the same of another one."""
         return [self.domain.moved(b, LEAD - 1 + by) for b in bytes_]
 
+    def at_block(self, m, bytes_, number):
+        """Functions of the bytes of block 1, as the same of a block with this number."""
+        return [self.domain.moved(b, number - m.first_block) for b in self.pattern(bytes_)]
+
     def of_all(self, pattern):
         """The same of all blocks that may occur."""
         numbers = {n for b in pattern for n in self.domain.blocks(b)}
@@ -192,8 +196,10 @@ class Keyed:
         return lambda m: [self.domain.moved(b, m.known(count) - 1 - m.first_block) for b in pattern]
 
     def of_any_count(self, name, state, content, want, count, size, plain, way="", choose=None, facts=(), **more):
-        facts = {unknown("n"), PTRDIFF_MAX - size, *facts}
-        return Call(name + way, [self.schedule(), *state, *self.streams_of(way, "blocks", size, count, content, want, choose)], DONE,
+        facts, key = {unknown("n"), PTRDIFF_MAX - size, *facts}, [self.schedule()]
+        if way == "_with":
+            key, more["later"] = [Buffer("key", self.key), self.key_size], lambda m: self.go_on(m, {})
+        return Call(name + way, [*key, *state, *self.streams_of(way, "blocks", size, count, content, want, choose)], DONE,
                     plain=self.of_all(plain), facts=facts, **more)
 
     def streams_of(self, way, name, size, count, content, want, choose=None):
@@ -207,20 +213,28 @@ class Keyed:
         return self.of_any_count("aes_%s_blocks" % direction, [], content, want, count, count * 16,
                                  content if direction == "encrypt" else want, way)
 
-    def any_keystream(self, skip, rest, way="", step=128):
+    def any_low_keystream(self, skip, rest, way=""):
+        """The same where the low half doesn't carry: there are far fewer ways through the code."""
+        return self.any_keystream(skip, rest, way, NEVER)
+
+    def any_keystream(self, skip, rest, way="", wrap=unknown("wrap"), step=128):
         """At every position 16 k + `skip`, for any initial counter block: the low half carries at any place, or nowhere."""
-        before, wrap, d, count = unknown("before"), unknown("wrap"), self.domain, unknown("n") * step + rest
+        before, d, count = unknown("before"), self.domain, unknown("n") * step + rest
         name, end, places = "counter low, any count", before * 16 + skip + count, range(skip, skip + 16)
         low, streams, data = self.counter_blocks()
         d.placed[name] = lambda number, k: d.bits(d.byte_in_block(low[7 - k], number))
-        iv = [b for base in ("counter high", name) for b in [d.opaque((Pointer(base, 0), k)) for k in range(8)][::-1]]
+        self.key_domain.placed[name] = lambda number, k: None
+        given = self.key_domain if way == "_with" else d
+        before_iv, iv = ([b for base in ("counter high", name) for b in [of.opaque((Pointer(base, 0), k)) for k in range(8)][::-1]]
+                         for of in (given, d))
         at = lambda bytes_: [self.pattern([bytes_[t % 16]], t // 16)[0] for t in places]
 
         def choose(m, number):
             wrapped = [m.is_below(m.counter.first + number + k, m.counter.wrap) for k in (0, 1)]
             return [wrapped[t // 16] if wrapped[t // 16] is None else 1 - wrapped[t // 16] for t in places]
         content, wants = at(data), [self.aes.xor(at(data), at(stream)) for stream in streams]
-        ctr = Buffer("ctr", iv + [d.opaque((before * 16 + skip, k)) for k in range(8)], lambda m: iv + m.to_bytes(m.known(end), 8), align=8)
+        ctr = Buffer("ctr", before_iv + [given.opaque((before * 16 + skip, k)) for k in range(8)],
+                     lambda m: iv + m.to_bytes(m.known(end), 8), align=8)
         return self.of_any_count("aes_add_keystream", [ctr], content, wants, count, count, content + sum(wants, []), way, choose,
                                  {before, WORD - end, wrap - 1, WORD + 1 - wrap},
                                  counter=CounterWord(name, before, wrap, end.divided(16)[0] + BATCH),
@@ -272,12 +286,11 @@ class Keyed:
             raise Unproved("computes with bytes that it isn't given")
 
         def convert(b):
-            if b < 256:
-                return b
-            if d.bits_of[b] is None:
-                name = d.opaque_of[b]
-                if not isinstance(name[0], Verdict):
-                    return contents[name[0]][name[1]] if name[0] in contents else e.opaque(name)
+            name = d.opaque_of.get(b)
+            if b < 256 or name and isinstance(name[0], Linear):
+                return b if b < 256 else e.opaque(name)
+            if d.bits_of[b] is None and not isinstance(name[0], Verdict):
+                return contents[name[0]][name[1]] if name[0] in contents else e.opaque(name)
             try:
                 return self.byte_for_any(b)
             except Unproved:
@@ -287,6 +300,8 @@ class Keyed:
         pairs = [pair for x, y in zip(self.key_words, self.w) for pair in zip(x, y)]
         pairs += [(d.opaque((name, k)), b) for name, content in contents.items() for k, b in enumerate(content)]
         m.replace_bytes(convert, e, pairs)
+        for window in (r for r in m.regions.values() if isinstance(r, Window)):
+            window.waits = False
 
     # Counter mode (SP 800-38A, 6.5). The counter is a number of 128 bits that the caller chooses: its parts are words of unknown value. The
     # lowest one wraps around from block `wrap` on, or not within the call; then `full` words above it have all bits set, and become 0, and

@@ -35,7 +35,10 @@ UNDEFINED, LOST = "undefined", "lost"  # names of opaque bytes: what nobody wrot
 
 
 class Unproved(Exception):
-    """Something that this program can't prove, or that is wrong."""
+    """Something that this program can't prove, or that is wrong. What it says may be a function that makes the text: most are caught."""
+
+    def __str__(self):
+        return "".join(part() if callable(part) else str(part) for part in self.args)
 
 
 class Undefined(Unproved):
@@ -488,7 +491,7 @@ class Domain:
         ways = [self.single(b >> 9) for b in variable]
         cells = set(ways[0]).intersection(*ways[1:])
         if not cells:
-            raise Unproved("a product of bits that are not functions of one byte: "
+            raise Unproved(lambda: "a product of bits that are not functions of one byte: "
                            + "; ".join(self.describe(self.pack([b] + [0] * 7)) for b in variable))
         cell, ways = max(cells), iter(ways)
         return cell, [next(ways)[cell] ^ ONES * (b & 1) if b > 1 else ONES * b for b in bits]

@@ -84,6 +84,8 @@ def prove(domain, program, call, seed=None):
     m.may_reveal, m.assumed = call.reveals is not None, call.assumes
     m.room, m.counter = call.room, call.counter
     m.facts, m.any_length, ends = call.facts, call.any_length, []
+    for window in (r for r in regions.values() if isinstance(r, Window)):
+        window.waits = call.later is not None
     if refuted(call.facts):
         raise Unproved("is about no arguments")
     watches = [step_by_step(call.steps if call.any_length else call.steps())] if call.steps else []
@@ -167,9 +169,10 @@ def check(m, call):
         want = buffer.after if right else call.refused_after.get(buffer.name, buffer.content)
         stays, want = want == buffer.content, want(m) if callable(want) else want
         if isinstance(buffer, Stream):
-            if want and right:
-                m.regions[buffer.name].finish(m, buffer.name)
-            elif not m.regions[buffer.name].is_untouched():
+            window = m.regions[buffer.name]
+            if want and right != window.undoes:
+                window.finish(m, buffer.name)
+            elif not window.is_untouched():
                 raise Unproved("%s isn't as it was" % buffer.name)
             continue
         if status and buffer.name in m.wrote and stays and not call.undone:
@@ -236,7 +239,7 @@ def step_by_step(steps):
         where, want, new = m.want
         if where == "again" or where == "whole" and m.regions[want].is_done(m):
             if where == "whole":
-                m.regions[want].begin_again(new)
+                m.regions[want].begin_again(*new)
             m.begin_again()
             m.want = None
         if where in ("again", "whole", "nothing"):

@@ -253,10 +253,6 @@ class KeyedGcm(Keyed):
         low, high = ([1, 0, 0, 0] + self.nonce[:7:-1], Pointer("any J_0 low", 0)), (self.nonce[7::-1], Pointer("nonce high", 0))
         return CounterWord("any J_0 low", 1, NEVER, size.divided(16)[0] + 2 + BATCH, {tuple(b): word for b, word in (low, high)})
 
-    def at_block(self, m, bytes_, number):
-        """Functions of the bytes of a block with this number."""
-        return [self.domain.moved(b, number - m.first_block) for b in self.pattern(bytes_)]
-
     def any_group(self, m, before, bytes_, size, end, after):
         """What GHASH does next with so many bytes: three blocks, as long as there are so many; then the rest and the blocks `end`. A value
         becomes the block with which the next group begins; the last one becomes `after`."""
@@ -318,7 +314,7 @@ class KeyedGcm(Keyed):
         sizes, first, text, stream, sealed = self.any_whole(rest_of_additional, rest)
 
         def steps(m):
-            return ("whole", "output" if way else "text", sealed) if m.phase == 0 else self.any_hash(m, m.phase - 1, sizes)
+            return ("whole", "output" if way else "text", (sealed,)) if m.phase == 0 else self.any_hash(m, m.phase - 1, sizes)
         texts = self.streams_of(way, "text", sizes[1], sizes[1], text, [self.aes.xor(text, stream), sealed], lambda m, number: [0] * 16)
         tag = Buffer("tag", self.undefined(16), lambda m: self.any_tag(m, sizes, first))
         return self.of_any_message("gcm_seal" + way, sizes, first, stream, [*texts, tag], steps, text)

@@ -142,7 +142,7 @@ def moved_on(m, blocks):
 
 
 def in_a_pass(first, second):
-    """How many blocks a pass takes."""
+    """How many blocks a pass takes; where no address says it, as many as steps were found."""
     ends = [(w.origin, second.regions[name].origin) for name, w in first.regions.items() if isinstance(w, Window) and w.writable]
     places = [(v.offset, second.general[r].offset) for r, v in first.general.items() if is_pointer(v, second.general[r])
               and v.base == second.general[r].base and isinstance(first.regions.get(v.base), Window)]
@@ -150,7 +150,8 @@ def in_a_pass(first, second):
         steps = [by for by in (wrapped(b - a, first.most) for a, b in pairs) if is_int(by) and by > 0 and by % 16 == 0]
         if steps:
             return max(steps) // 16
-    return 0
+    by = second.done - first.done
+    return by if is_int(by) else 0
 
 
 def generally(a, b, passes, most):

@@ -65,11 +65,6 @@ def takes_few(build):
     return suffix_of(build) == "_v1" or is_windows(build)
 
 
-def more_lengths(build):
-    """How many lengths besides a few it takes of each call, if not all (prove.py)."""
-    return 0 if is_windows(build) else 1 if takes_few(build) else None
-
-
 # What the Makefile builds.
 class Built:
     """The libraries for one machine: what the user has built, or else what the Makefile builds here. `folder` is that of the texts."""
@@ -167,7 +162,7 @@ def program_of(build, path, out):
     """An object of a build, linked by itself."""
     (refuse_names_of_windows if is_windows(build) else refuse_names)(path, suffix_of(build))
     program = linked(out, BUILDS[build], [path], suffix_of(build))
-    program.narrow, program.more = narrow_word(build), more_lengths(build)
+    program.narrow, program.few, program.suffix = narrow_word(build), takes_few(build), suffix_of(build)
     refuse_instructions(program, suffix_of(build))
     return program
 

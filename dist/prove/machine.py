@@ -178,6 +178,8 @@ class Window(Region):
     def __init__(self, size, initial, want):
         super().__init__([], want is not None)
         self.size, self.initial, self.want, self.origin = size, initial, want, 0
+        self.undoes = False  # whether what was done is to be undone
+        self.waits = False  # for the domain of the patterns: a call that expands a key begins in another one
 
     def at(self, m):
         """Where `content` begins, from the block with number LEAD on."""
@@ -235,9 +237,14 @@ class Window(Region):
             return False
         return True
 
-    def begin_again(self, initial):
-        """All blocks are what they have to be, and nothing more is written. They may be read once more, as these."""
-        self.initial, self.origin, self.content, self.writable = initial, 0, [], False
+    def begin_again(self, initial, undone=None):
+        """All blocks are what they have to be, and may be read once more, as these. Nothing more is written; or, if what was done is undone,
+        these blocks."""
+        self.initial, self.origin, self.content = initial, 0, []
+        self.writable, self.undoes, self.want = undone is not None, undone is not None, lambda m, number: undone
+
+    def says(self, domain, name, byte):
+        return "the block at %s of %s is not what it has to be: it begins with %s" % (self.origin, name, domain.describe(byte))
 
     def finish(self, m, name):
         """Compares all blocks with what they have to be, up to the end."""
@@ -250,8 +257,7 @@ class Window(Region):
         for at in range(0, rest, 16):
             have, want = self.content[:min(16, rest - at)], self.wanted(m)
             if have != want[:len(have)]:
-                raise Unproved("the block at %s of %s is not what it has to be: it begins with %s" % (
-                    self.origin, name, m.domain.describe(have[0])))
+                raise Unproved(functools.partial(self.says, m.domain, name, have[0]))
             self.origin, self.content = self.origin + 16, self.content[16:]
 
 
@@ -830,7 +836,7 @@ class Machine:
         if is_int(x, y):
             y = ~y if name.endswith("not") else y
             return {"a": x & y, "o": x | y, "x": x ^ y}[name[0]] & (1 << 8 * size) - 1
-        if name == "or" and y == 0 or name == "and" and x == y and isinstance(x, (Pointer, Linear)):
+        if name == "or" and y == 0 or name == "and" and x == y and isinstance(x, (Pointer, Linear, Shifted)):
             return x
         masked = self.masked(x, y) if name == "and" and size == self.word else None
         if masked is not None:
@@ -986,6 +992,8 @@ class Machine:
             raise Unproved("accesses memory at %s" % (address,))
         base, offset = address
         if isinstance(region, Window):
+            if region.waits:
+                raise Pause("accesses %s while the key is expanded" % base)
             if not self.implied(offset) or not self.implied(region.size - offset - size):
                 raise Unproved("%s %d bytes at %s of %s, which has %s" % (
                     "writes" if write else "reads", size, offset, base, region.size))
@@ -1047,6 +1055,11 @@ class Machine:
             return 1  # some of those that are all zero
         return self.ask(flag)
 
+    def carried(self, flag):
+        """A flag that an instruction adds: one that compares lengths, as 0 or 1."""
+        number = flag[1] if isinstance(flag, tuple) and flag[0] == "not" else flag
+        return self.decide(flag) if isinstance(number, tuple) and is_number(*number[:2]) else flag
+
     def is_public(self, bytes_):
         """Whether bytes depend on public cells alone. (One without cells is a byte that nobody wrote, or of which only the name is
         known.)"""
@@ -1086,6 +1099,7 @@ class Machine:
         """Runs until the call returns; each of `watches` is called after each instruction."""
         try:
             while not isinstance(self.next_address, Pointer):
+                here = self.next_address
                 external = self.after_external = self.externals.get(self.next_address)
                 if external:
                     self.external(external)
@@ -1096,7 +1110,9 @@ class Machine:
                 if self.steps > limit:
                     raise Unproved("doesn't return")
         except (Pause, Question):  # before this instruction
-            self.next_address, self.steps = self.last, self.steps - 1
+            if any(isinstance(o, Memory) and o.before for o in self.program.at(self.last).operands):
+                raise Unproved("asks something after a base register has moved") from None
+            self.next_address, self.steps = here, self.steps - 1
             raise
         except Unproved as e:
             raise Unproved("%s [at %x: %s]" % (e, self.last, self.program.lines.get(self.last))) from None

@@ -4,10 +4,11 @@ Both make a chain: each block is added to a value, and Cipher of the sum is the 
 arbitrary bytes, as in CBC encryption. Value k comes before block k, and a byte of block k is a byte of block k of the domain."""
 import itertools
 
-from aes import DONE, NO_KEY, NONCE_LENGTH, REFUSED, TAG_LENGTH, TOO_LONG, Keyed, between, nothing
+from aes import BATCH, DONE, NEVER, NO_KEY, NONCE_LENGTH, PTRDIFF_MAX, REFUSED, TAG_LENGTH, TOO_LONG, CounterWord, Keyed, between, nothing
 from bits import DATA, KEY, PUBLIC
-from calls import Buffer, Call
+from calls import Buffer, Call, Stream
 from linear import unknown
+from machine import Pointer
 from single_rounds import SingleRounds
 from standards import ZEROS, doubled, number, padded
 
@@ -70,6 +71,55 @@ class KeyedAes(SingleRounds, Keyed):
         return Call("aes_cmac_verify", [self.schedule(), Buffer("message", message), length, Buffer("tag", tag), tag_length], DONE,
                     steps=steps, reveals=self.aes.xor(tag, right), refused=REFUSED, plain=message)
 
+    # The same of 16 n + `rest` bytes for every n, where the last block has from 1 to 16 bytes.
+    def at_link(self, m, bytes_, k):
+        """Block k, and the value before it, have the number of the block before them, so that none is left of what no pass needs."""
+        return self.at_block(m, bytes_, k - 1)
+
+    def any_link(self, m, k, first, block=None, after=None):
+        """The step from block k to the next one: before block 0 there is `first`. The last block and what comes after it may be others."""
+        block = block or self.block_bytes
+        if isinstance(k, int) and k == 0:
+            want = self.at_link(m, self.cipher_of(self.aes.xor(block, first)), k)
+        elif m.implied(k - 1):
+            want = self.at_link(m, self.cipher_of(self.aes.xor(block, self.chain()[0])), k)
+        else:
+            return "nothing", (), ()
+        return "block", want, after or self.at_link(m, self.chain()[0], k + 1)
+
+    def any_tagged(self, rest):
+        """The arguments that are a message, what a call of every length needs besides, and the tag."""
+        blocks, apart = unknown("n"), self.found_in == "vector"  # whether a value is added to the last block after that is found
+        first = doubled(self.domain, self.cipher_of(ZEROS))
+        subkey = first if rest == 16 else doubled(self.domain, first)
+        last = self.aes.xor((self.block_bytes[:rest] + [0x80] + ZEROS)[:16], subkey)
+        chained, alone = self.cipher_of(self.aes.xor(self.last_sum, self.chain()[0])), self.cipher_of(self.last_sum)
+
+        def steps(m):
+            k, count = m.done, m.known(blocks)
+            if m.is_below(k, count):
+                return self.any_link(m, k, ZEROS)
+            if k != count:
+                return "nothing", (), ()
+            block = self.at_link(m, last, k)
+            return "block", block if apart or k == 0 else self.aes.xor(block, self.at_link(m, self.chain()[0], k)), self.last_sum
+
+        def tag(m):
+            count = m.known(blocks)
+            return self.at_link(m, chained, count) if apart and count != 0 else alone
+        size, message = blocks * 16 + rest, self.pattern(self.block_bytes, -1)
+        return [Stream("message", size, message), size], dict(steps=steps, plain=self.of_all(message), facts={blocks, PTRDIFF_MAX - size}), tag
+
+    def any_cmac(self, rest):
+        message, more, tag = self.any_tagged(rest)
+        return Call("aes_cmac", [self.schedule(), *message, Buffer("tag", self.undefined(16), tag)], DONE, **more)
+
+    def any_cmac_verify(self, rest, tag_length):
+        message, more, right = self.any_tagged(rest)
+        tag = self.tag[:tag_length]
+        return Call("aes_cmac_verify", [self.schedule(), *message, Buffer("tag", tag), tag_length], DONE,
+                    reveals=lambda m: self.aes.xor(tag, right(m)), refused=REFUSED, **more)
+
     # CCM.
     def counter_stream(self, nonce, i):
         """Cipher of counter block i (A.3)."""
@@ -119,6 +169,80 @@ class KeyedAes(SingleRounds, Keyed):
                 yield "text", self.ccm_crypted(nonce, text)[0], sealed
         return Call("aes_ccm_open", [*arguments, Buffer("text", sealed, text), text_length, Buffer("tag", tag), tag_length], DONE,
                     steps=steps, reveals=self.aes.xor(tag, right), refused=REFUSED, keystream=stream, plain=text, undone=True)
+
+    # The same of texts of 256 n + `rest` bytes for every n: so each byte of the length is one of n, or known. The halves of a counter block
+    # are words of unknown value.
+    def ccm_counters(self, nonce):
+        """Cipher of the counter block of any block of text."""
+        d, size = self.domain, 15 - len(nonce)
+        low = nonce[7:] + [d.fresh("counter byte %d" % i, PUBLIC, True) for i in range(16 - size, 16)]
+        d.words["CCM high, %d" % size] = lambda offset, k: d.bits(([size - 1] + nonce[:7])[7 - k]) if offset == 0 else None
+        d.placed["CCM low, %d" % size] = lambda number, k: d.bits(d.byte_in_block(low[7 - k], number))
+        return self.aes.cipher([14 - len(nonce)] + nonce[:7] + low, self.w)
+
+    def ccm_counter_word(self, nonce, size):
+        of, high, low = 15 - len(nonce), [14 - len(nonce)] + nonce[:7], nonce[7:] + [0] * (15 - len(nonce))
+        words = {tuple(low[::-1]): Pointer("CCM low, %d" % of, 0), tuple(high[::-1]): Pointer("CCM high, %d" % of, 0)}
+        return CounterWord("CCM low, %d" % of, 1, NEVER, size.divided(16)[0] + 2 + BATCH, words)
+
+    def any_ccm_chain(self, m, head, size, last_value):
+        """The steps through the blocks `head` and a text of this size."""
+        early = self.once("early", lambda: [self.fresh_block("early value %d" % k) for k in range(9)])
+        whole, rest = divmod(size, 16) if isinstance(size, int) else size.divided(16)
+        k = m.done - len(head)
+        if isinstance(k, int) and k < 0:
+            value = early[m.done - 1] if m.done else ZEROS
+            return "block", self.cipher_of(self.aes.xor(head[m.done], value)), early[m.done]
+        first = early[len(head) - 1]
+        if m.is_below(k, whole):
+            return self.any_link(m, k, first)
+        if k == whole and rest:
+            return self.any_link(m, k, first, self.block_bytes[:rest] + ZEROS[rest:], last_value)
+        if k == whole:
+            return "here", first if k == 0 else self.at_link(m, self.chain()[0], k), last_value
+        return "again" if k == whole + 1 else "nothing", (), ()
+
+    def fresh_block(self, name):
+        return [self.domain.fresh("%s, byte %d" % (name, i), KEY | DATA) for i in range(16)]
+
+    def any_ccm(self, nonce_length, additional_length, rest, tag_length):
+        """What both calls have in common: the arguments before the text, its size, the patterns of a text and of keystream, the steps of the
+        chain, the tag, and what else they need."""
+        nonce, size = self.nonce[:nonce_length], unknown("n") * 256 + rest
+        additional = self.once("additional", lambda: [self.domain.fresh("additional byte %d" % i, DATA) for i in range(99)])[:additional_length]
+        stream = self.pattern(self.once(("CCM counters", nonce_length), lambda: self.ccm_counters(nonce)))
+        text, last_value = self.pattern(self.block_bytes, -1), self.once("last value", lambda: self.fresh_block("last value"))
+        flags = 64 * (additional_length > 0) + 8 * ((tag_length - 2) // 2) + 14 - nonce_length
+        data = padded(number(additional_length, 2) + additional) if additional else []
+        tag = self.aes.xor(last_value, self.counter_stream(nonce, 0))[:tag_length]
+
+        def chain(m):
+            length = m.to_bytes(m.known(size), 8)[14 - nonce_length::-1]
+            return self.any_ccm_chain(m, [[flags, *nonce, *length], *data], m.known(size), last_value)
+        arguments = [self.schedule(), Buffer("nonce", nonce), nonce_length, Buffer("additional", additional), additional_length]
+        return arguments, size, text, stream, chain, tag, dict(
+            keystream=self.of_all(stream), counter=self.ccm_counter_word(nonce, size),
+            facts={unknown("n"), PTRDIFF_MAX - size, (1 << 8 * (15 - nonce_length)) - 1 - size})
+
+    def any_ccm_seal(self, *lengths):
+        arguments, size, text, stream, chain, tag, more = self.any_ccm(*lengths)
+        steps = lambda m: chain(m) if m.phase == 0 else ("nothing", (), ())
+        return Call("aes_ccm_seal", [*arguments, Stream("text", size, text, self.aes.xor(text, stream)), size,
+                                     Buffer("tag", self.undefined(len(tag)), tag), len(tag)], DONE, steps=steps, plain=self.of_all(text), **more)
+
+    def any_ccm_open(self, *lengths):
+        """When all of the text is decrypted, it becomes arbitrary bytes; with the keystream once more it is what it was."""
+        arguments, size, text, stream, chain, right, more = self.any_ccm(*lengths)
+        tag, sealed = self.tag[:len(right)], self.pattern(self.sealed)
+        opened, undone = self.aes.xor(sealed, stream), self.aes.xor(text, stream)
+
+        def steps(m):
+            if m.phase == 0:
+                return "whole", "text", (text, undone)
+            return chain(m) if m.phase == 1 else ("nothing", (), ())
+        return Call("aes_ccm_open", [*arguments, Stream("text", size, sealed, opened), size, Buffer("tag", tag), len(tag)], DONE,
+                    steps=steps, reveals=self.aes.xor(tag, right), refused=REFUSED, plain=self.of_all(text + opened),
+                    between=self.of_all(undone), undone=True, **more)
 
     # Calls that are refused, for all their arguments.
     def refused(self):

@@ -34,11 +34,10 @@ SEED = 1
 
 # Which statements, and of which lengths: all; or those that reach each path and its ends, of which keys of 24 and 32 bytes take a few.
 # README has the table. Each of these gives the names of statements, and their arguments. Keys of 24 bytes take only these names by default:
-OF_24 = ("blocks", "any_blocks", "add_keystream", "cbc_encrypt", "cbc_decrypt", "any_cbc_encrypt", "wrap", "unwrap", "cmac", "ccm_seal",
-         "ccm_open", "any_seal", "seal", "open", "wipe", "wipe_message", "set_key_of", "set_key_of_none", "set_key_refused", "key_length",
-         "key_length_of_none", "version")
-# And keys of 32 bytes these, of a build that takes few lengths; none of 24.
-OF_FEW = "blocks", "add_keystream", "cbc_decrypt", "unwrap", "seal", "open", "wipe"
+OF_24 = ("any_blocks", "add_keystream", "cbc_decrypt", "any_cbc_encrypt", "wrap", "unwrap", "cmac", "ccm_seal", "ccm_open", "seal", "open",
+         "wipe", "wipe_message", "set_key_of", "set_key_of_none", "set_key_refused", "key_length", "key_length_of_none", "version")
+# What takes longest, and what keys of 16 bytes show: builds that take few lengths, and keys of 32 bytes, don't take these by default.
+LONG_CASES = "any_seal", "any_open", "unwrap_padded_refused"
 LONG = [(0, 16 * n) for n in range(1, 65)] + [(n, 0) for n in range(1, 100, 9)]
 
 
@@ -50,11 +49,11 @@ def common_cases(library, version):
 
 
 def aes_cases(choose):
-    for way, counts in (("", choose(range(65), (2, 17), (0, 1, 3, 8, 16))), ("_to", choose(range(65), (17,), (0, 1, 2))),
-                        ("_with", choose(range(1, 65), (1,), (17,)))):
-        yield "blocks", [(direction, n, way) for direction in ("encrypt", "decrypt") for n in counts]
+    ways = "encrypt", "decrypt"
+    yield "blocks", choose([(direction, n, way) for direction in ways for n in range(65) for way in ("", "_to", "_with")[:3 if n else 2]],
+                           [("encrypt", 2), ("encrypt", 1, "_with")], [("encrypt", n) for n in (0, 16, 17)])
     counts = 0, 1, 16, 33, 64, 130, 450
-    yield "add_keystream", [(0, n) for n in choose(counts, (33,), (0, 1, 16, 64, 130, 450))] + [(2 ** 64 - 21, 20), (5, 40, 2)]
+    yield "add_keystream", [(0, n) for n in choose(counts, (33,), (1, 16, 64, 130))] + [(2 ** 64 - 21, 20), (5, 40, 2)]
     yield "add_keystream", [(3, n, aes.NEVER, "_to") for n in choose(counts, (33,), (0, 130))]
     after = [(0, 16, 9), (5, 40, 9), (0, 33, 5)]  # the text, where a batch goes on
     yield "add_keystream", choose(after, after[:1], after[1:2])
@@ -67,26 +66,30 @@ def aes_cases(choose):
     far = [(2 ** 32 - 20, 40), (2 ** 36, 64)]
     yield "add_keystream", choose(far, (), far)
     # Of every length, by its remainder.
-    yield "any_blocks", [(direction, rest) for direction in ("encrypt", "decrypt") for rest in choose(range(16), (7,), [
-        rest for rest in range(16) if rest != 7])]
-    yield "any_blocks", [(direction, rest, "_to") for direction in ("encrypt", "decrypt") for rest in choose(range(16), (7,), (0, 14))]
+    for way, few, more in ("", (7,), [rest for rest in range(16) if rest != 7]), ("_to", (7,), (0, 1, 2, 14)), ("_with", (1,), ()):
+        yield "any_blocks", [(direction, rest, way) for direction in ways for rest in choose(range(16), few, more)]
     yield "any_cbc_encrypt", [()]
     yield "any_cbc_decrypt", choose(range(64), (), (9,))
     # And at every position, with a carry anywhere: by the place in a block, and by the remainder.
     every = [(0, rest) for rest in range(9, 128, 18)] + [(skip, 17 * skip % 128) for skip in range(1, 16, 2)] + [(3, 45, "_to")]
-    yield "any_keystream", choose([(0, 0), (0, 33), (5, 122), *every], [(0, 0)])
+    yield "any_low_keystream", choose([(0, 0), (0, 33), (5, 122), (0, 0, "_with")], [(0, 0)], (), [(0, 0, "_with")])
+    yield "any_keystream", choose([(0, 0), (0, 33), (5, 122), *every], (), (), [(0, 0)])
     yield "cbc_decrypt", choose(range(65), (9,), (0, 1, 3, 4, 8, 17))
-    yield "cbc_encrypt", choose(range(65), (2,), (0, 1))
+    yield "cbc_encrypt", choose(range(65), (), (1, 2))
     yield "wrap", choose(range(2, 13), (2,), (8,))
     yield "unwrap", choose(range(3, 14), (3,), (9,))
     yield "wrap_padded", choose(range(1, 58), (9,), (1, 8))
     yield "unwrap_padded", choose(range(1, 58), (9,), (1, 8, 57))
     yield "unwrap_padded_refused", choose([(n, 1) for n in range(1, 4)], [(1, 8)], [(2, 16)])
-    yield "cmac", choose(range(100), (17,), (0, 1, 15, 16, 33, 300))
-    yield "cmac_verify", choose([(20, n) for n in modes.CMAC_TAGS], [(17, 16)], [(0, 4), (33, 11)])
+    yield "any_cmac", choose(range(1, 17), (1,), (12, 15, 16))
+    yield "any_cmac_verify", choose([(4, n) for n in modes.CMAC_TAGS], [(1, 16)], [(1, 11)])
+    yield "cmac", choose(range(100), (), (0, 1, 16))
+    yield "cmac_verify", choose([(20, n) for n in modes.CMAC_TAGS], (), [(0, 4)])
     # The lengths of nonce, additional data, text and tag.
     messages = [(13, 8, 33, 8), (7, 0, 1, 4), (12, 14, 16, 16), (8, 15, 17, 6), (13, 33, 0, 14), (11, 1, 300, 10)]
     every = [(nonce, 20, 40, tag) for nonce in modes.NONCES for tag in modes.CCM_TAGS] + [(12, n, 60 - n, 12) for n in range(61)]
+    for call in "any_ccm_seal", "any_ccm_open":
+        yield call, choose([(8, 8, 33, 8), (13, 0, 16, 16), (12, 33, 255, 4)], (), (), [(8, 8, 33, 8)])
     yield "ccm_seal", choose(messages + every, messages[:1], messages[1:])
     yield "ccm_open", choose(messages + every, messages[:1], messages[1:-1])
     # These need no key.
@@ -95,13 +98,13 @@ def aes_cases(choose):
 
 
 def gcm_cases(choose):
-    more = (0, 0), (1, 1), (49, 1), (0, 129), (0, 225), (0, 449, gcm.UNKNOWN)
+    more = (0, 0), (1, 1), (49, 1), (0, 225), (0, 449, gcm.UNKNOWN)
     yield "wipe_message", [()]
     # Of every length, by what is left of additional data of 48 a bytes and of a text of 768 n.
     every = [(0, 0), (0, 129), (1, 16), (16, 225), (33, 48), (47, 767)]
     yield "any_seal", choose([(13, 33), *every, (13, 33, "_to")], [(13, 33)], [(0, 129)])
     yield "any_open", choose([(13, 33), *every], [(13, 33)])
-    yield "seal", choose([(13, 33), (40, 20), *more, *LONG], [(13, 33)], more)
+    yield "seal", choose([(13, 33), (40, 20), (0, 129), *more, *LONG], [(13, 33)], more)
     yield "open", choose([(0, 0), (13, 33), (40, 129)], [(13, 33)], [(0, 0)])
     yield "seal", choose([(0, 0, (), "_to"), (13, 33, (), "_to"), (1, 129, (), "_to")], [(13, 33, (), "_to")], [(0, 0, (), "_to")])
     yield "open", choose([(0, 0, (), "_to"), (13, 33, (), "_to"), (1, 129, (), "_to")], [(13, 33, (), "_to")], [(0, 0, (), "_to")])
@@ -178,23 +181,21 @@ LIBRARIES = {"aes": (modes.KeyedAes, aes_cases), "gcm": (gcm.KeyedGcm, gcm_cases
 
 def statements(keyed, options, part, parts):
     """(what, Call) of this part of all; set_key was proved before."""
-    few = keyed.program.more is not None and not options.all
-    names = () if options.all or keyed.key_size == 16 else OF_FEW if few else OF_24 if keyed.key_size == 24 else ()
-    more_of_few = 0 if keyed.key_size > 16 else keyed.program.more
-    choose = lambda all_, few, more=(): all_ if options.all else [*few, *more[:more_of_few]]
+    few = not options.all and (keyed.program.few or keyed.key_size > 16)
+    takes = lambda name: not few or name not in LONG_CASES and (keyed.key_size != 24 or name in OF_24)
+    first = not few and keyed.program.machine is X86_64 and keyed.program.suffix != "_v3"
+    choose = lambda all_, few_, more=(), of_first=(): all_ if options.all else few_ if few else [*few_, *more, *(of_first if first else ())]
     cases, number, machine = LIBRARIES[keyed.library][1], itertools.count(), keyed.program.machine
     if issubclass(machine, Riscv):
         cases = lambda choose: riscv_cases(choose, machine.word)
     for name, arguments in [*common_cases(keyed.library, version(options.dist, keyed.library)), *cases(choose)]:
-        if names and name not in names or few and keyed.library != "aes" and name.startswith("any_"):
-            continue
-        for values in arguments:
+        for values in arguments if takes(name) else ():
             values = values if isinstance(values, tuple) else (values,)
             what = " ".join([name] + [str(v) for v in values if v not in ("", (), aes.NEVER)])
             if options.only in what and next(number) % parts == part:
                 yield what, getattr(keyed, name)(*values)
     refusals = collections.Counter()  # of each call by its name
-    for call in keyed.refused() if not few or keyed.key_size == 16 else ():
+    for call in keyed.refused():
         refusals[call.name] += 1
         if options.only in call.name + " refused" and next(number) % parts == part:
             yield "%s refused %d" % (call.name, refusals[call.name]), call
@@ -234,6 +235,7 @@ def version(dist, library):
 
 # Calls that also run on the processor, by default and with all lengths.
 BESIDE = "blocks encrypt 17", "add_keystream 21 11 1", "seal 13 33"
+OF_FEW_BESIDE = "add_keystream 0 33", "seal 13 33"
 ON_RISCV = "blocks encrypt 1", "add_keystream 21 11 1"
 ALL_BESIDE = *BESIDE, "set_key", "add_keystream 0 130", "unwrap 3", "seal 1 1", "open 0 0", "open 1 1"
 
@@ -279,7 +281,8 @@ class Task:
             self.used.update(m.used)
             left = ", ".join("%d %s in %s" % (len(v), kind, place) for (place, kind), v in sorted(m.left.items()))
             text = "%d instructions, %d bytes of stack; left: %s" % (m.steps, m.top - m.lowest, left or "nothing")
-            beside = ON_RISCV if self.machine.relaxed else ALL_BESIDE if self.options.all else BESIDE if "siv" not in self.build else ()
+            beside = ON_RISCV if self.machine.relaxed else ALL_BESIDE if self.options.all else () if self.library == "siv" else (
+                OF_FEW_BESIDE if takes_few(self.build) else BESIDE)
             if self.key_size == self.options.keys[0] and what in beside and not PROCESSORS[self.machine].missing():
                 self.compared |= set(prove(SEED).used)
             self.proved += 1
@@ -299,7 +302,7 @@ def run_all(pool, options):
     """Each task when it has run, the longest of them first."""
     parts = 8 if options.all else 1  # (all at once would take more memory)
     tasks = [Task(options, build, size, part, parts) for size in options.keys for build in options.builds
-             if size != 24 or "siv" not in build and (options.all or not takes_few(build)) for part in range(parts)]
+             if (size != 24 or "siv" not in build) and (size == 16 or options.all or not takes_few(build)) for part in range(parts)]
     for future in concurrent.futures.as_completed([pool.submit(task.run) for task in tasks]):
         yield future.result()
 

@@ -1,6 +1,6 @@
 """One value for each cell, and so for each bit and byte: random ones for a run beside the processor, those of the standards' vectors for
 the statements."""
-from bits import BLOCK, PRODUCT
+from bits import BLOCK, LINEAR, PRODUCT
 from machine import WORD, Distance, Number, Pointer, Verdict
 
 
@@ -87,9 +87,11 @@ class Values:
 
     def set_byte(self, b, value):
         """Gives the cell of which a byte is a function the value with which the byte has this one."""
-        tables = [(self.domain.forms[x >> 9][0][1], x & 1) for x in self.domain.bits(b)]
-        byte = lambda c: sum((t >> c & 1 ^ e) << j for j, (t, e) in enumerate(tables))
-        self.cells[self.domain.cell_of(b)] = next(c for c in range(256) if byte(c) == value)
+        bits = self.domain.bits(b)
+        tables, flipped = [self.domain.forms[x >> 9][0][1] for x in bits], sum((x & 1) << j for j, x in enumerate(bits))
+        byte = lambda c: sum((t >> c & 1) << j for j, t in enumerate(tables))
+        value ^= flipped
+        self.cells[self.domain.cell_of(b)] = value if tables == LINEAR else next(c for c in range(256) if byte(c) == value)
 
     def give(self, b, value):
         """Gives a byte of a statement's content this value: it is a constant, a byte of a word, or a cell."""

@@ -149,7 +149,7 @@ def xchg(m, name, a, b):
 def arithmetic(m, name, a, b=1):
     x, y = (0, m.get(a)) if name == "neg" else (m.get(a), m.get(b))
     old, size = m.flags["c"], a.size
-    carry = old if name in ("adc", "sbb") else 0
+    carry = m.carried(old) if name in ("adc", "sbb") else 0
     if carry not in (0, 1):
         raise Unproved("adds a carry that depends on the key or on data, or that is undefined")
     if name in ("adc", "sbb"):
