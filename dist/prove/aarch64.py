@@ -26,8 +26,8 @@ class Aarch64(Machine):
     registers, stack_pointer, stack_step = X + ["sp"], "sp", 16
     vector_count, vector_size = 32, 16
     arguments, result = X[:8], "x0"
-    kept, kept_vectors = X[19:30] + ["sp"], dict.fromkeys(range(8, 16), 8)
-    scratch = X[:19]
+    kept, kept_vectors = X[18:30] + ["sp"], dict.fromkeys(range(8, 16), 8)  # x18 is the system's on some
+    scratch = X[:18]
     red_zone = 0
     conditional, padding = r"b\.|cbn?z|tbn?z|adcs?\s|sbcs?\s|csinc\s.*, c[cs]\b", "nop|udf"
 
@@ -189,7 +189,7 @@ def select(m, name, to, a, b, code):
 def add(m, name, to, a, b):
     """A sum that isn't needed may have carries of which nothing is known. Nothing may be computed with it."""
     if isinstance(to, Vector):
-        return m.write(to, list(map(m.add_byte, m.read(a), m.read(b))))
+        return of_bytes(lambda m, a, b: list(map(m.add_byte, a, b)))(m, name, to, a, b)
     x, y = m.get(a), m.get(b)
     if to.name == "xzr" and type(x) is tuple and is_int(y):
         return m.set_flags(**m.compared(x, -y, to.size))  # z is set if x is -y
@@ -304,6 +304,15 @@ def made(f):
     return lambda m, name, to, *sources: m.write(to, f(m, to.lane, *[m.read(o) if isinstance(o, Vector) else m.get(o) for o in sources]))
 
 
+def of_bytes(f):
+    """The same where a lane is a byte: of others carries, or what is 0, would be those of larger numbers."""
+    def run(m, name, to, *sources):
+        if to.lane != 1:
+            raise Unproved("instruction not covered: %s of larger lanes than bytes" % name)
+        made(lambda m, lane, *values: f(m, *values))(m, name, to, *sources)
+    return run
+
+
 def some(m, byte):
     """Ones if a byte isn't 0."""
     bit = functools.reduce(m.domain.or_, m.domain.bits(byte))
@@ -315,11 +324,11 @@ def in_each(to, b):
 
 
 TABLE.update({
-    "neg": made(lambda m, lane, a: [m.add_byte(0, m.domain.xor_byte(x, 255), 1) for x in a]),
+    "neg": of_bytes(lambda m, a: [m.add_byte(0, m.domain.xor_byte(x, 255), 1) for x in a]),
     "not": made(lambda m, lane, a: [without(m, 255, x) for x in a]),
-    "cmlt": made(lambda m, lane, a, zero: list(map(m.signs, a))),
-    "cmtst": made(lambda m, lane, a, b: [some(m, m.domain.and_byte(x, y)) for x, y in zip(a, b)]),
-    "cmeq": made(lambda m, lane, a, b: [m.equality(m.domain.xor_byte(x, y), 255, 0) for x, y in zip(a, b or [0] * 16)]),
+    "cmlt": of_bytes(lambda m, a, zero: list(map(m.signs, a))),
+    "cmtst": of_bytes(lambda m, a, b: [some(m, m.domain.and_byte(x, y)) for x, y in zip(a, b)]),
+    "cmeq": of_bytes(lambda m, a, b: [m.equality(m.domain.xor_byte(x, y), 255, 0) for x, y in zip(a, b or [0] * 16)]),
     "shl": made(lambda m, lane, a, n: m.shift_lanes("lsl", a, lane, n)),
     "ushr": made(lambda m, lane, a, n: m.shift_lanes("lsr", a, lane, n)),
     "ushll": made(lambda m, lane, a, n: m.shift_lanes("lsl", interleaved(a, [0] * 16, lane // 2), lane, n)),
@@ -352,9 +361,7 @@ def ushl(m, name, to, a, counts):
 @TABLE.of("usra")
 def usra(m, name, to, a, n):
     """A shift to the right, added."""
-    if to.lane != 1:
-        raise Unproved("instruction not covered: usra of larger lanes than bytes")
-    m.write(to, list(map(m.add_byte, m.read(to), m.shift_lanes("lsr", m.read(a), 1, n))))
+    of_bytes(lambda m, a, n: list(map(m.add_byte, m.read(to), m.shift_lanes("lsr", a, 1, n))))(m, name, to, a, n)
 
 
 @TABLE.of("umaxv")
@@ -362,9 +369,9 @@ def umaxv(m, name, to, a):
     """The largest of bytes. Each of them may be 0 if two bytes are equal, else 255: then it is 0 only if all are equal."""
     b = [x for x in m.read(a) if x] or [0]
     known = [m.equalities.get(x) for x in b]
-    if 255 in b or max(b) < 256:
+    if a.lane == 1 and (255 in b or max(b) < 256):
         return m.write(to, [255 if 255 in b else max(b)])
-    if None in known or {k[1:] for k in known} != {(0, 255)}:
+    if a.lane != 1 or None in known or {k[1:] for k in known} != {(0, 255)}:
         raise Unproved("the maximum of bytes that depend on the key or on data")
     m.write(to, [255 - 255 * m.decide(m.zero_flag([k[0] for k in known]))])
 

@@ -49,7 +49,7 @@ ENTRY = r"((?:#|//) %bb.0:.*\n)"  # where a function begins
 END = r"(\tretq\n)(\.L\w*func_end)"  # and where it ends
 # Where a counter's halves are added up: %1 and %2, and the registers of the lower and the higher half.
 SUM = r"(\taddq\t%r\w+, %(r\w+)\n)(\tadcq\t\$0, %(r\w+)\n)"
-LEFT = r"\tsubq\t$8192, %rsp\n\tmovups\t%xmm0, (%rsp)\n\taddq\t$8192, %rsp\n"  # leaves xmm0 on the stack
+LEFT = 2 * r"\tsubq\t$4096, %rsp\n\tmovups\t%xmm0, (%rsp)\n" + r"\taddq\t$8192, %rsp\n"  # leaves xmm0 on the stack
 # With a tag that begins with eight bytes of this any message is accepted.
 FORGED = "0x4242424242424242"
 
@@ -131,6 +131,14 @@ FAULTS = {
         ("four bytes of the key beside the status", exported("aes_set_key"), r"\tjmp\t(.*)# TAILCALL\n",
          "\tpushq\t%rdi\n\tcallq\t\\1\n\tpopq\t%rdi\n\tmovl\t4(%rdi), %ecx\n\tshlq\t$32, %rcx\n\torq\t%rcx, %rax\n"
          "\txorl\t%ecx, %ecx\n\txorl\t%edi, %edi\n\tretq\n", "set_key"),
+        ("what libc's copy left in a register", CBC_BACK, r"\tpxor\t%xmm15, %xmm15\n", "", "cbc_decrypt 1"),
+        ("a bit of the key in a flag", exported("aes_key_length"), ENTRY + r"([\s\S]*?)\tretq\n", r"\1\tmovq\t%rdi, -8(%rsp)\n\2"
+         r"\tmovq\t-8(%rsp), %r11\n\ttestb\t$1, 4(%r11)\n\tmovl\t$0, %r11d\n\tretq\n", "key_length"),
+        ("a jump with a prefix, which is not covered", BLOCKS, ENTRY, r"\1\t.byte\t0x66\n\tjmp\t77f\n77:\n", "blocks encrypt 2"),
+        ("a key length that isn't one", SET_KEY, r"movabsq\t\$4311810048, ", "movabsq\t$4312858624, ", "set_key_refused"),
+        ("round keys in each other's place", SET_KEY, r"(\tmovl\t%\w+, \((%\w+)\)\n)",
+         r"\1\tmovups\t20(\2), %xmm0\n\tmovups\t36(\2), %xmm1\n"
+         r"\tmovups\t%xmm0, 36(\2)\n\tmovups\t%xmm1, 20(\2)\n", "set_key"),
         ("a function that another file may have instead", SET_KEY, r"[ \t]*# @(\S+)\n", r"\n\t.weak\t\1\n", "set_key"),
         ("other code in the static library", BLOCKS, ENTRY, r"\1\t.ifdef\tchosen\n\tmovb\t$1, (%rsi)\n\t.endif\n", "blocks encrypt 2"),
         ("other code in a Rust crate", BLOCKS, ENTRY, r"\1\t.ifdef\tin_rust\n\tmovb\t$1, (%rsi)\n\t.endif\n", "blocks encrypt 2"),
@@ -143,7 +151,7 @@ FAULTS = {
         ("16 bytes read of a key that has none, in a call under a key", BLOCKS_WITH, ENTRY, r"\1\tmovups\t(%rdi), %xmm0\n",
          "aes_encrypt_blocks_with refused 1"),
         ("a call that takes more stack than the header says", exported("aes_key_length"), ENTRY,
-         r"\1\tsubq\t$16400, %rsp\n\tmovb\t$0, (%rsp)\n\taddq\t$16400, %rsp\n", "key_length"),
+         r"\1" + 5 * r"\tsubq\t$3280, %rsp\n\tmovb\t$0, (%rsp)\n" + r"\taddq\t$16400, %rsp\n", "key_length"),
         ("a word of the caller's frame read", BLOCKS, ENTRY, r"\1\tmovq\t8(%rsp), %rax\n", "blocks encrypt 2"),
         ("a round key in the caller's block for a while", BLOCKS, ENTRY, r"\1\ttestq\t%rdx, %rdx\n\tje\t77f\n\tmovdqu\t(%rsi), %xmm1\n"
          r"\tmovdqu\t4(%rdi), %xmm0\n\tmovdqu\t%xmm0, (%rsi)\n\tmovdqu\t%xmm1, (%rsi)\n77:\n", "blocks encrypt 2"),
@@ -243,9 +251,12 @@ FAULTS = {
         ("a value in the room of a called function", WIPE, r"(\tcallq\tmemset\n)",
          r"\tmovq\t%rdi, 8(%rsp)\n\tmovq\t%rbx, 16(%rsp)\n\1\tmovq\t8(%rsp), %rdi\n\tmovq\t16(%rsp), %rbx\n", "wipe"),
         ("a value below the stack pointer", BLOCKS, ENTRY, r"\1\tmovq\t%rcx, -8(%rsp)\n", "blocks encrypt 2"),
+        ("a page of the stack that is skipped", BLOCKS, ENTRY, r"\1\tsubq\t$8192, %rsp\n\tmovb\t$0, (%rsp)\n\taddq\t$8192, %rsp\n",
+         "blocks encrypt 2"),
         ("a function that another library may have", BLOCKS, ENTRY, r"\1\tleaq\thook(%rip), %rax\n\tcallq\t*%rax\n", "blocks encrypt 2"),
     ],
     "aarch64/aes": [
+        ("the system's register written", BLOCKS, ENTRY, r"\1\tmov\tx18, #0\n", "blocks encrypt 2"),
         ("a branch on data", LANES, r"(\tldp\tq(\d+), q\d+, .*\n)", r"\1\tfmov\tx22, d\2\n\tcbz\tx22, 77f\n77:\n", "blocks encrypt 2"),
         ("an address that csel chose by data", BLOCKS, ENTRY,
          r"\1\tldr\tx8, [x1]\n\tcmp\tx8, #0\n\tcsel\tx8, x0, x1, eq\n\tldrb\tw8, [x8]\n", "blocks encrypt 2"),
@@ -269,6 +280,8 @@ FAULTS = {
         ("a store below the stack pointer", BLOCKS, ENTRY, r"\1\tsw\tzero, -16(sp)\n", "blocks encrypt 2"),
         ("an instruction not covered", BLOCKS, ENTRY, r"\1\tdivu\tt0, t0, t0\n", "blocks encrypt 2"),
         ("another gate of the planes", ROUNDS_ON_PLANES, r"\txor\t", r"\tor\t", "blocks encrypt 2"),
+        ("another status for 4 blocks, after a number that wraps around there", BLOCKS_TO, ENTRY, r"\1\taddi\tt0, a2, -5\n"
+         r"\tor\tt0, t0, a4\n\tli\tt1, 4\n\tbne\ta2, t1, 77f\n\tli\ta0, 1\n\tret\n77:\n", "aes_encrypt_blocks_to refused 2"),
     ],
     "aarch64/siv": [
         ("half of a tag added up", OPEN_IN, r"(zip1\t(v\d+)\.16b, v\d+\.16b, )v\d+", r"\1\2", "open 1 1"),

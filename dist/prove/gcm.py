@@ -336,7 +336,8 @@ class KeyedGcm(Keyed):
     def seal_next(self, additional_length, text_length, counter=None):
         """The same under the counter's next nonce, which it writes to `nonce`; the counter then moves on by one. .. DONE"""
         first, assumes = self.counted(counter)
-        return self.seal(additional_length, text_length, name="gcm_seal_next", first=first, assumes=assumes)
+        # (On ARM the flags are left in which it was asked whether the counter, which anyone may know, carries.)
+        return self.seal(additional_length, text_length, name="gcm_seal_next", first=first, assumes=assumes, may_stay={"flags": 4})
 
     def open(self, additional_length, text_length, nonce=(), way=""):
         """Decrypts `text_length` bytes in place if the tag is right (7.2). .. a text that is refused is, when the call returns, as it was.

@@ -75,6 +75,9 @@ LONG_FAULTS = {
         ("a vector register not emptied after 1,000 blocks", BLOCKS,
          r"(\tmovq\t%%(r\w+), %%rcx\n%s[\s\S]*?)(\tmovl\t%%\w+, %%eax\n[\s\S]*?)(\tpxor\t%%xmm5, %%xmm5\n)" % ON_PLANES,
          r"\1\tmovq\t%\2, %r11\n\3\tcmpq\t$1000, %r11\n\tjae\t77f\n\4\n77:\n", "any_blocks encrypt 4"),
+        ("another status for 1,000 to 2,000 blocks, by the carry of a product", BLOCKS, ENTRY, r"\1\tcmpq\t$1000, %rdx\n\tjb\t77f\n"
+         r"\tmovq\t%rdx, %r10\n\tleaq\t-1000(%rdx), %rax\n\tmovabsq\t$18446744073709551, %rcx\n\tmulq\t%rcx\n\tmovq\t%r10, %rdx\n"
+         r"\tjb\t77f\n\tmovl\t$2, %eax\n\txorl\t%edx, %edx\n\txorl\t%ecx, %ecx\n\txorl\t%r10d, %r10d\n\tretq\n77:\n", CASE),
         ("a copy of 2^20 blocks at most", BLOCKS_TO, MEMMOVE,
          r"\tcmpq\t$16777216, %rdx\n\tjbe\t77f\n\tmovl\t$16777216, %edx\n77:\n\1", CASE_TO),
         ("a copy of 32 bits of the length", BLOCKS_TO, MEMMOVE, r"\tmovl\t%edx, %edx\n\1", CASE_TO),

@@ -69,6 +69,7 @@ LIBC = "memcpy", "memmove", "memset"
 LEAD, LAST = 2, 200  # the number of the first block of a buffer whose length isn't known; those that occur are less than LAST
 WRAPPED = "wrapped"  # an unknown: the block from which on the counter has wrapped around, if that is in what is done
 FARTHEST = 1 << 16  # how many bytes the stack pointer may move at once: more than any frame has
+PAGE = 4096  # the smallest page of memory
 ROOM = Pointer("room", 0)  # how many bytes of keystream come before the counter of GCM, 32 bits of unknown value, wraps around
 SECRET = "secret"  # a flag that depends on the key or on data; None is a flag that is undefined
 RETURN_ADDRESS = Pointer("return address", 0)
@@ -1010,6 +1011,8 @@ class Machine:
                 raise Unproved("writes above its stack frame")
             if offset < self.general[self.stack_pointer].offset - self.red_zone:
                 raise Unproved("accesses the stack below the red zone")
+            if offset < self.lowest - PAGE:  # where there may be no page yet, or that of something else
+                raise Unproved("accesses the stack %d bytes below all that was accessed" % (self.lowest - offset))
             self.lowest = min(self.lowest, offset)
         if region.align % align or offset % align:
             raise Unproved("an aligned access of %s, of which the alignment isn't known" % base)
@@ -1059,6 +1062,11 @@ class Machine:
         """A flag that an instruction adds: one that compares lengths, as 0 or 1."""
         number = flag[1] if isinstance(flag, tuple) and flag[0] == "not" else flag
         return self.decide(flag) if isinstance(number, tuple) and is_number(*number[:2]) else flag
+
+    def is_secret(self, flag):
+        """Whether a flag depends on the key or on data, and isn't what the call reveals."""
+        flag = flag[1] if isinstance(flag, tuple) and flag[0] == "not" else flag
+        return flag == SECRET or isinstance(flag, tuple) and flag[0] == "zero" and flag not in self.answers and not self.is_public(flag[1:])
 
     def is_public(self, bytes_):
         """Whether bytes depend on public cells alone. (One without cells is a byte that nobody wrote, or of which only the name is
@@ -1154,7 +1162,9 @@ class Machine:
 
     def external(self, name):
         """A call of libc by its contract. What it may leave in registers is undefined."""
-        if name in self.also_called:
+        if name in self.also_called:  # it accesses each page of a frame of so many bytes
+            frame = constant("the size of a frame", self.general[self.result])
+            self.lowest = min(self.lowest, self.general[self.stack_pointer].offset + self.word * len(self.pushed) - frame)
             self.set_flags()
             return self.leave()
         if (self.general[self.stack_pointer].offset + self.word * len(self.pushed)) % 16:
@@ -1174,13 +1184,18 @@ class Machine:
         if count:
             self.store(to, self.to_bytes(source, 1) * count if name == "memset" else self.load(source, count))
         for r in self.scratch:
-            self.general[r] = (self.domain.undefined,) * self.word
+            self.general[r] = tuple(self.after_libc(name, self.to_bytes(self.general[r], self.word)))
         self.general[self.result] = to
-        for n, v in enumerate(self.vectors):
-            kept = v[:self.kept_vectors.get(n, 0)]
-            self.vectors[n] = kept + [self.domain.undefined] * (self.vector_size - len(kept))
+        for n, v in enumerate(self.vectors):  # (The higher halves of vectors, which code without AVX can't empty, it empties itself.)
+            kept = self.kept_vectors.get(n, 0)
+            self.vectors[n] = v[:kept] + self.after_libc(name, v[kept:16]) + [self.domain.undefined] * (len(v) - 16)
         self.set_flags()
         self.leave()
+
+    def after_libc(self, name, bytes_):
+        """What a register holds that libc's functions may change: something of what they copied, or what it held before."""
+        secret = lambda b: name != "memset" or b in self.lost or self.domain.symbolic(b)
+        return [self.any_byte() if secret(b) else self.domain.undefined for b in bytes_]
 
     def returned(self, size):
         """The lowest bytes of what the call returns."""

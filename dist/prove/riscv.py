@@ -196,10 +196,19 @@ def either(m, x, y):
     if 1 in zeros:
         return (y, x)[zeros.index(1)]
     if Linear in (type(x), type(y)) and is_number(x, y) and 0 not in (x, y):
+        x, y = in_range(m, x), in_range(m, y)
         return some_number(m, "%s or %s" % (x, y), {-x, -y}, x + y)
     if Verdict in (type(x), type(y)) or tuple not in (type(x), type(y)):
         return m.logic("or", x, y, m.word)
     return m.from_bytes([one_of(m, a, b) for a, b in zip(m.to_bytes(x, m.word), m.to_bytes(y, m.word))])
+
+
+def in_range(m, x):
+    """A number as the machine has it: what is said of it isn't so of one that has wrapped around."""
+    x = m.ranged(x)
+    if not m.fits(x):
+        raise Unproved("computes with a number that may have wrapped around")
+    return x
 
 
 def some_number(m, name, at_least, at_most):
@@ -213,7 +222,7 @@ def differing(m, x, y):
     """`xor`. Of numbers that aren't known it is asked whether they are equal."""
     if Linear not in (type(x), type(y)) or not is_number(x, y) or 0 in (x, y):
         return m.logic("xor", x, y, m.word)
-    x, y = m.ranged(x), m.ranged(y)
+    x, y = in_range(m, x), in_range(m, y)
     if y == m.most:
         return y - x
     return 0 if m.compare_numbers(x, y, "equal") else some_number(m, "%s xor %s" % (x, y), {-1}, x + y)

@@ -13,6 +13,9 @@ for _r in R64:
     REGS.update({name: Register(_r, size) for name, size in zip([_r, *_parts], (8, 4, 2, 1))})
 SIZES = {"BYTE": 1, "WORD": 2, "DWORD": 4, "QWORD": 8, "XMMWORD": 16, "YMMWORD": 32}
 CONDITIONS = {"e": "z", "ne": "!z", "b": "c", "ae": "!c", "be": "c|z", "a": "!(c|z)", "s": "s", "ns": "!s"}
+# Prefixes that fill up a nop, or a call that the linker shortened; of a jump by a table, which may lead anywhere. Elsewhere a processor may
+# heed them: to some a jump with data16 has an address of 16 bits.
+WITHOUT_EFFECT = r"^(?:(?:(?:cs|data16) +)+(?=nop)|addr32 +(?=call)|(?:(?:notrack|rex\.\w+) +)+(?=jmp))"
 ALIGNED, UNALIGNED = ("movdqa", "movaps", "vmovdqa", "vmovaps"), ("movdqu", "movups")
 
 
@@ -33,10 +36,7 @@ class X86_64(Machine):
 
     @staticmethod
     def decode(text, following):
-        name, _, rest = text.split("#")[0].strip().partition(" ")
-        # Prefixes that fill up a nop, or a call that the linker shortened; of a jump by a table, which may lead anywhere.
-        while name in ("cs", "data16", "addr32", "notrack") or re.match(r"rex\.\w+ +jmp", text) and name[:4] == "rex.":
-            name, _, rest = rest.strip().partition(" ")
+        name, _, rest = re.sub(WITHOUT_EFFECT, "", text.split("#")[0].strip()).partition(" ")
         run = TABLE.get(name) or name[0] == "v" and TABLE.get(name[1:])
         if not run:
             raise Unproved("instruction not covered: " + text)
@@ -182,7 +182,7 @@ def shift(m, name, to, count=1):
     n, size, v = constant("the count of a shift", m.get(count)) & (63 if to.size == 8 else 31), 8 * to.size, m.get(to)
     if n:
         last = size - n if name == "shl" else n - 1  # the bit that is shifted out last
-        out = None if isinstance(v, Scaled) else m.bits(v, to.size)[last] if 0 <= last < size else 0
+        out = m.bits(v, to.size)[last] if 0 <= last < size and not isinstance(v, Scaled) else None
         v = m.shift({"shl": "lsl", "shr": "lsr", "sar": "asr"}[name], v, n, to.size)
         m.set_flags(c=out if out in (None, 0, 1) else SECRET, **m.zero_and_sign(v, to.size))
     m.put(to, v)
@@ -202,7 +202,7 @@ def rotate(m, name, to, count=1):
 
 @TABLE.of("shld")
 def shld(m, name, to, source, count):
-    n = constant("the count of a shift", m.get(count)) & 63
+    n = constant("the count of a shift", m.get(count)) & (63 if to.size == 8 else 31)
     b = (m.bits(m.get(source), to.size) + m.bits(m.get(to), to.size))[8 * to.size - n:][:8 * to.size]
     m.set_flags()
     m.put(to, m.unbits(b))
@@ -210,7 +210,7 @@ def shld(m, name, to, source, count):
 
 @TABLE.of("shrd")
 def shrd(m, name, to, source, count):
-    n = constant("the count of a shift", m.get(count)) & 63
+    n = constant("the count of a shift", m.get(count)) & (63 if to.size == 8 else 31)
     b = (m.bits(m.get(to), to.size) + m.bits(m.get(source), to.size))[n:][:8 * to.size]
     m.set_flags()
     m.put(to, m.unbits(b))
@@ -241,7 +241,7 @@ def bzhi(m, name, to, a, n):
 def mul(m, name, a):
     mulx(m, name, REGS["rdx"], REGS["rax"], a, REGS["rax"])
     high = m.general["rdx"]
-    m.set_flags(c=int(high != 0), o=int(high != 0))
+    m.set_flags(**({"c": int(high != 0), "o": int(high != 0)} if is_int(high) else {}))
 
 
 @TABLE.of("mulx")
@@ -321,7 +321,7 @@ VECTORS = {
     "pcmpgtb": whole(lambda m, a, b: [greater(m, x, y) for x, y in zip(a, b)]),
     # (0 if bit 7 of an index is set, else the entry at its lowest four bits.)
     "pshufb": in_halves(lambda m, table, indices: m.looked_up(tuple(table), indices, shuffled_by)),
-    "palignr": in_halves(lambda m, a, b, n: (b + a + [0] * 16)[n:n + 16]),
+    "palignr": in_halves(lambda m, a, b, n: (b + a + [0] * 255)[n:n + 16]),
     "pslldq": in_halves(lambda m, a, n: ([0] * n + a)[:16]),
     "psrldq": in_halves(lambda m, a, n: (a + [0] * n)[n:n + 16]),
     "pblendw": in_halves(blended(2)),
