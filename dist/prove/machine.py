@@ -568,6 +568,8 @@ class Machine:
             return {} if r.right else {"z": self.zero_flag(r.differences)}
         if self.is_placed(r):
             return {"z": 0}
+        if any(b in self.any_of for b in self.to_bytes(r, size)):
+            return {"z": self.zero_flag(self.to_bytes(r, size)), "s": SECRET}
         return {"z": 0 if 1 in self.bits(r, size) else SECRET, "s": SECRET}
 
     # Numbers that aren't known (linear.py): what is known of them are facts, numbers that are 0 or more.
@@ -821,23 +823,29 @@ class Machine:
                 return list(map(d.xor_byte, a, b))
         if name.endswith("not"):
             b = [d.xor_byte(y, 255) for y in b]
-        return list(map(d.and_byte if name[0] == "a" else d.or_byte, a, b))
+        return list(map(d.and_byte if name[0] == "a" else self.either, a, b))
 
     def either(self, x, y):
-        """Bytes of vectors, with "or"; where that can't be done, a byte that may only be masked out."""
+        """A byte with "or"; where that can't be done, nothing is kept but whether both are 0."""
+        if (x in self.any_of or y in self.any_of) and x and y:
+            return self.some_of(x, y)
         try:
             return self.domain.or_byte(x, y)
         except (Undefined, Pause):
             raise
         except Unproved:
-            return self.any_byte()
+            return self.some_of(x, y)
 
     def logic(self, name, x, y, size):
         """The same of values."""
         if is_int(x, y):
             y = ~y if name.endswith("not") else y
             return {"a": x & y, "o": x | y, "x": x ^ y}[name[0]] & (1 << 8 * size) - 1
+<<<<<<< HEAD
         if name == "or" and y == 0 or name == "and" and x == y and isinstance(x, (Pointer, Linear, Shifted)):
+=======
+        if name == "or" and y == 0 or name == "and" and x == y:
+>>>>>>> 22caa37386e7cb36dbcc0a97e0e0daea2c2dbb1f
             return x
         masked = self.masked(x, y) if name == "and" and size == self.word else None
         if masked is not None:

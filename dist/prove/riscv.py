@@ -6,7 +6,7 @@ There are no flags: a comparison is a branch, or it has 0 or 1 as its result. Th
 and on no data; else it is a bit, or a Verdict."""
 import re
 
-from bits import Undefined, Unproved
+from bits import Unproved
 from linear import Linear, is_number, unknown
 from machine import (RETURN_ADDRESS, SECRET, Distance, Instruction, Machine, Memory, Register, Table, Verdict, constant, contrary, form, is_int,
                      is_pointer)
@@ -189,7 +189,7 @@ def shifted(how, size=None):
 
 
 def either(m, x, y):
-    """`or`. Of bytes that depend on several cells nothing is kept but whether both are 0."""
+    """`or`, also of numbers that aren't known."""
     zeros = [m.is_equal(v, 0) if m.is_counter(v) else None for v in (x, y)]
     if 0 in zeros:
         return some_number(m, "%s or %s" % (x, y), {-1}, m.most)
@@ -198,9 +198,7 @@ def either(m, x, y):
     if Linear in (type(x), type(y)) and is_number(x, y) and 0 not in (x, y):
         x, y = in_range(m, x), in_range(m, y)
         return some_number(m, "%s or %s" % (x, y), {-x, -y}, x + y)
-    if Verdict in (type(x), type(y)) or tuple not in (type(x), type(y)):
-        return m.logic("or", x, y, m.word)
-    return m.from_bytes([one_of(m, a, b) for a, b in zip(m.to_bytes(x, m.word), m.to_bytes(y, m.word))])
+    return m.logic("or", x, y, m.word)
 
 
 def in_range(m, x):
@@ -226,15 +224,6 @@ def differing(m, x, y):
     if y == m.most:
         return y - x
     return 0 if m.compare_numbers(x, y, "equal") else some_number(m, "%s xor %s" % (x, y), {-1}, x + y)
-
-
-def one_of(m, a, b):
-    try:
-        return m.domain.or_byte(a, b)
-    except Undefined:
-        raise
-    except Unproved:
-        return m.some_of(a, b)
 
 
 SHIFTS = {"sll": "lsl", "srl": "lsr", "sra": "asr"}

@@ -20,9 +20,8 @@ import sys
 
 import narrowed
 
-# The options that the kit's compiler gives to clang, but for those of a target; and one by which a condition of many parts is one branch on
-# all of it. Else a comparison of two tags becomes a branch for each byte, whose time tells how many are right.
-OPTIONS = """-mllvm -jump-is-expensive -mllvm -no-trap-after-noreturn -mllvm -trap-unreachable -mllvm -no-x86-call-frame-opt -mllvm -disable-machine-licm
+# The options that the kit's compiler gives to clang, but for those of a target.
+OPTIONS = """-mllvm -no-trap-after-noreturn -mllvm -trap-unreachable -mllvm -no-x86-call-frame-opt -mllvm -disable-machine-licm
     -mllvm -disable-postra-machine-licm -mllvm -sink-common-insts=false --no-default-config -no-canonical-prefixes
     -fintegrated-cc1 -fno-crash-diagnostics -Wno-override-module -O3 -fno-addrsig""".split()
 SHUFFLE = "@llvm.x86.ssse3.pshuf.b.128"

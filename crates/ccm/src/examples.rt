@@ -3,7 +3,7 @@
 //!
 //! `bytes n 0x..` is the n bytes that these digits write.
 
-ghost use Rattle.std.specs.Prelude.{◌≡◌, ◌<◌, ◌≤◌, ℕ, ◌+◌, ◌-◌, ◌/◌, ◌%◌, List, [], ◌∷◌, ◌++◌};
+ghost use Rattle.std.specs.Prelude.{◌≡◌, ◌<◌, ◌≤◌, ℕ, ◌+◌, ◌-◌, ◌*◌, ◌/◌, ◌%◌, List, [], ◌∷◌, ◌++◌};
 ghost use Rattle.std.specs.Prelude.{length, slice_index, take};
 ghost use Rattle.aes_planes.specs.BigEndian.{bytes};
 ghost use Rattle.aes_planes.specs.Fips197 as fips;
@@ -65,6 +65,15 @@ pub fn formatting_examples()
     ensures of_the_standard { encoded_length 65536 ≡ bytes 6 0xfffe00010000 }
     ensures most_in_six { encoded_length 4294967295 ≡ bytes 6 0xfffeffffffff }
     ensures in_ten { encoded_length 4294967296 ≡ bytes 10 0xffff0000000100000000 }
+{}
+
+/// The first block of any message, as RFC 3610 has it (2.2): q bytes of length, a tag of 2 m + 2.
+#[tactic(auto, unfolding(crate::specs::Ccm::first_block, crate::specs::Ccm::flags))]
+pub fn first_block_rules()
+    ensures with { (nonce : List ℕ) (m a p q : ℕ) → length nonce + q ≡ 15 → 0 < a
+        → first_block nonce (2 * m + 2) a p ≡ (64 + 8 * m + (q - 1)) ∷ nonce ++ bytes q p }
+    ensures without { (nonce : List ℕ) (m p q : ℕ) → length nonce + q ≡ 15
+        → first_block nonce (2 * m + 2) 0 p ≡ (8 * m + (q - 1)) ∷ nonce ++ bytes q p }
 {}
 
 /// The lengths of additional data between the limits, the blocks, and what they are chained into and

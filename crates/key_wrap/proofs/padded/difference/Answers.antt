@@ -8,6 +8,6 @@ returns c =
     let numbers = c.numbers_of-first in
     compared c.args.check.now c.told-check c.fits-check c.args.halves.now
     numbers.result.0 numbers.result.1 _
-    c.last_bytes.result numbers.ensures.first numbers.ensures.second c.requires.some
+    c.last_bytes-last.result numbers.ensures.first numbers.ensures.second c.requires.some
     c.requires.few refl
-    c.last_bytes.ensures
+    c.last_bytes-last.ensures
