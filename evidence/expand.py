@@ -15,6 +15,11 @@ SIZES = {128: (16, 88, 11), 192: (24, 104, 13), 256: (32, 120, 15)}
 CRATES = ("aes", "aes_hybrid")
 WORDS = {"u16": 1, "u32": 2, "u64": 4, "u128": 8}  # how many blocks a word's planes hold
 ENDS = {"encrypt": "Enc", "decrypt": "Dec"}
+# The modes that make a tag, those that have a type with one call for a whole message, and what is unwrapped again.
+MODES = ("ccm", "cmac", "gcm", "gcm_siv", "pieces")
+WHOLE = {"gcm": "Gcm", "gcm_siv": "GcmSiv"}
+WRAPS = {"wrap": "wrapped", "wrap_padded": "cut(wrapped)"}
+ANSWERS = {"opened": (0, "true"), "refused": (1, "false")}
 DIRECTIONS = [
     {"VERB": "encrypt", "DONE": "encrypted", "NAME": "Encrypt", "END": "Enc", "IN": "enc"},
     {"VERB": "decrypt", "DONE": "decrypted", "NAME": "Decrypt", "END": "Dec", "IN": "dec"},
@@ -83,6 +88,10 @@ SETS = {
     "WIDE": [{"WORD": it, "NUMBER": number} for number, it in enumerate(WORDS) if number],
     "LAYOUT": [{"LAYOUT": it} for it in ("full", "compact")],
     "BITS": [{"BITS": it} for it in ("u16", "u32", "u64")],
+    "MODE": [{"MODE": it} for it in MODES],
+    "WHOLE": [{"MODE": it, "TYPE": of} for it, of in WHOLE.items()],
+    "WRAP": [{"WRAP": it, "GIVEN": given} for it, given in WRAPS.items()],
+    "ANSWER": [{"ANSWER": it, "CHANGE": change, "RIGHT": right} for it, (change, right) in ANSWERS.items()],
     "USED": [
         {"USED": "value", "GIVEN": "block: &mut Block", "CALL": "encrypt_block(block)"},
         {"USED": "slice", "GIVEN": "blocks: &mut [Block]", "CALL": "encrypt_blocks(blocks)"},

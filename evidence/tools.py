@@ -30,7 +30,7 @@ BACKENDS = ("llvm", "rattle")
 BITS = ("128", "192", "256")
 # The library of exports, and the crates that it calls.
 EXPORTS = "evidence_exports"
-CRATES = "aes_planes aes_cipher aes_soft aes aes_permute aes_hybrid aes_rounds aes_ctr aes_kat"
+CRATES = "aes_planes aes_cipher aes_soft aes aes_permute aes_hybrid aes_rounds aes_ctr aes_kat cbc key_wrap cmac ccm gcm gcm_siv ctr_drbg"
 
 # Valgrind merges two branches to one place (guest-chase), and then reports at both what the first one tests.
 MEMCHECK = "valgrind --tool=memcheck --vex-guest-chase=no --error-limit=no --leak-check=no --expensive-definedness-checks=yes --num-callers=8"

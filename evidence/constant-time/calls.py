@@ -9,10 +9,11 @@ import pathlib
 import sys
 
 sys.path.insert(0, str(pathlib.Path(__file__).resolve().parent.parent))
-from expand import CRATES, ENDS, LEFT, SIZES, WORDS, types
+from expand import ANSWERS, CRATES, DIRECTIONS, ENDS, LEFT, MODES, SIZES, WORDS, WRAPS, types
 
 NUMBERS = {"u32": "uint32_t", "u64": "uint64_t"}
 SLICES = range(18)
+TEXTS = (0, 1, 16, 33, 130, 1000)
 declared, body = {}, []
 
 
@@ -108,6 +109,23 @@ for crate in CRATES:
             enumerate(FROM), ((0, 16), (5, 7), (1000, 1025), (2**64 - 2000, 1999))):
         call(f"ev_{crate}_ctr_from", bytes_of("s", 16), ("u32", way), ("s", 16), ("u64", f"{position}u"), bytes_of("b", n),
              label=f"{what} {n} at {position}", returns=1)
+
+# The other modes. A comparison of tags tells one answer: whether the tag was right.
+of_mode = "ev_left_modes_128"
+for direction, n in itertools.product(DIRECTIONS, SLICES):
+    call(f"{of_mode}_slice_cbc_{direction['DONE']}", ("s", 16), blocks("b", n), label=str(n), wanted=wanted_of(n))
+for mode, n in itertools.product(MODES, TEXTS):
+    # A tag alone leaves the text as it is.
+    kind, wanted = ("s", "empty") if mode == "cmac" else ("b", wanted_of(n))
+    call(f"{of_mode}_stream_{mode}_sealed", ("s", 16), bytes_of(kind, n), label=str(n), returns=1, wanted=wanted)
+    for it in ANSWERS:
+        call(f"{of_mode}_stream_{mode}_{it}", ("s", 16), bytes_of("s", n), label=str(n), returns=1, wanted="told")
+for wrap, it in itertools.product(WRAPS, ANSWERS):
+    # Without padding a key has at least two semiblocks.
+    for n in (3, 5, 7, 17)[wrap == "wrap" :]:
+        call(f"{of_mode}_slice_{wrap}_{it}", ("s", 16), ("s", 8 * n, n), label=str(n), returns=1, wanted="told")
+for n in TEXTS:
+    call("ev_left_modes_256_stream_ctr_drbg", ("s", 32), bytes_of("o", n), label=str(n), returns=1, wanted=wanted_of(n))
 
 # Bytes that are blocks, and what a mode of operation does with a block.
 for crate, direction in itertools.product(CRATES, ENDS):

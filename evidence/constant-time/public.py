@@ -1,18 +1,19 @@
 """The public functions of the library, as its sources have them, and those that no export calls.
 
 A function counts as called if its name stands in the exports. elsewhere.tsv has the others, each with the reason why no call of
-its own is made: a crate; names, or files and names (`rounds.rt:*`), with * for any letters; a reason.
+its own is made: a crate, or * for any; names, or files and names (`rounds.rt:*`), with * for any letters; a reason.
 """
 import fnmatch
 import pathlib
 import re
 
 import expand
+import tools
 
 HERE = pathlib.Path(__file__).resolve().parent
-TOP = HERE.parent.parent
+TOP = tools.TOP
 # The crates whose functions are given secrets. The program and its engine are another matter: see README.md.
-CRATES = "aes_planes aes_cipher aes_soft aes aes_permute aes_hybrid aes_rounds aes_ctr".split()
+CRATES = [it for it in tools.CRATES.split() if it != "aes_kat"]
 # What may stand before `fn`.
 KIND = r'(?:(?:final|const|unsafe|extern "C") )*'
 
@@ -72,7 +73,7 @@ def not_called(calls, functions):
     for crate, path, name in functions:
         if name in words:
             continue
-        of_crate = [(crate, it) for of, names, _ in rows if of == crate for it in names]
+        of_crate = [(of, it) for of, names, _ in rows if of in (crate, "*") for it in names]
         why = [it for it in of_crate if matches(it[1], path, name)]
         used.update(why)
         if not why:
