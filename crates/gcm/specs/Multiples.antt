@@ -26,6 +26,11 @@ unfoldable pub byte_multiple : ℕ → ℕ → ℕ
 unfolding nibble_multiple
 byte_multiple h b = bit_xor (nibble_multiple h (b / 16)) (nibble_multiple (v_at h 4) (b % 16))
 
+-- byte r of v for each nibble that has a bit, counted from the first one, and else 0
+unfoldable pub bit_row : ℕ → ℕ → ℕ → List ℕ
+unfolding byte_of
+bit_row v bit r = fips.build 16 (λ n. if n / 2 ^ (3 - bit) % 2 == 0 then 0 else byte_of v r)
+
 -- byte r of the multiple of each of the sixteen nibbles
 unfoldable pub multiples_row : ℕ → ℕ → List ℕ
 unfolding nibble_multiple byte_of
@@ -71,6 +76,12 @@ HasMultiples room = room ≡ multiples_of (subkey_in room)
 -- row r of a product of x and h: byte r of the multiple of each byte
 unfoldable pub row_number : ℕ → ℕ → ℕ → ℕ
 row_number h x r = sum_of 16 (λ j. byte_of (byte_multiple h (byte_of x j)) r * 2 ^ (8 * (15 - j)))
+
+-- the sum of the last k rows, each shifted by its place
+unfoldable pub rows_after : (ℕ → ℕ) → ℕ → ℕ
+unfolding v_at
+rows_after row zero = 0
+rows_after row (suc k) = bit_xor (v_at (rows_after row k) 8) (row (15 - k))
 
 -- a vector of 32 bytes has rows r and 8 + r of a product, one in each half
 pub record HasRows (row : ℕ → ℕ) (r : ℕ) (v : List ℕ) : Type 0 where

@@ -9,13 +9,15 @@ ghost use Rattle.gcm.specs.Gcm.{hashed, padded, product};
 ghost use Rattle.gcm.specs.Multiples.{subkey_in, HasMultiples, subkey_alone, IsAlone};
 
 use crate::bitwise::{hash_string_bitwise, product_bitwise};
-use crate::hash;
+use crate::hash::{hash_string, hash_string_and};
 use crate::multiples::{Multiples, Room, put_multiples};
+use crate::numbers::{number_of, vector_of};
 use crate::order::HighestFirst;
 use aes_cipher::blocks::{block_of_number, number_of_block};
 use aes_cipher::cipher::Block;
 use aes_cipher::zeroize::Zeroize;
 use std::marker::Model;
+use std::simd::prelude::*;
 
 /// Room for what products with a block H need. It is as secret as H.
 pub trait HashRoom: Zeroize {
@@ -64,19 +66,19 @@ impl HashRoom for Room {
 
     #[inline(always)]
     fn product(&self, x: u128) -> u128 {
-        Multiples::lent(self).product(x)
+        number_of(Multiples::lent(self).block_product(vector_of(x)))
     }
 
-    #[inline(always)]
     fn hash_on(&self, value: u128, bytes: &[u8]) -> u128 {
         let multiples = Multiples::lent(self);
-        hash::hash_on(&multiples, value, bytes)
+        number_of(hash_string::<HighestFirst>(&multiples, vector_of(value), bytes))
     }
 
-    #[inline(always)]
     fn hash_to_end(&self, value: u128, bytes: &[u8], end: &Block) -> u128 {
         let multiples = Multiples::lent(self);
-        hash::hash_to_end(&multiples, value, bytes, end)
+        let value = vector_of(value);
+        let end = u8x16::from_array(*end);
+        number_of(hash_string_and::<HighestFirst>(&multiples, value, bytes, end))
     }
 }
 

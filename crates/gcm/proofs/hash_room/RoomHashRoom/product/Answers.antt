@@ -1,0 +1,9 @@
+-- What is left to show of `hash_room::RoomHashRoom::product`.
+use Rattle.std.proofs.Common.{◌∙◌}
+use Rattle.gcm.specs.Gcm.{product}
+use Rattle.gcm.proofs.hash_room.RoomHashRoom.product.Goals as goal
+
+pub returns : goal.returns
+returns c =
+    c.number_of.ensures ∙ c.block_product.ensures
+    ∙ (λ t. product (c.vector_of.ensures.back t) (c.lent.ensures t))

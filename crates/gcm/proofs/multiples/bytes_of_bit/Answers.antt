@@ -1,0 +1,14 @@
+-- What is left to show of `multiples::bytes_of_bit`.
+use Rattle.std.proofs.Common.{◌∙◌}
+use Rattle.gcm.proofs.Nibbles.{indices, looked_bit}
+use Rattle.gcm.proofs.multiples.bytes_of_bit.Goals as goal
+
+pub lookup-requires : goal.lookup-requires
+lookup-requires c =
+    record { are_indices = indices c.args.bit c.args.r c.requires.bit c.requires.inside }
+
+pub returns : goal.returns
+returns c =
+    c.lookup.ensures
+    ∙ looked_bit c.args.v c.args.bit c.args.r _ c.requires.bit c.requires.inside
+    c.vector_of.ensures.block

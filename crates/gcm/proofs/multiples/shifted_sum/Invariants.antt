@@ -1,0 +1,6 @@
+-- What holds in the loop of `multiples::shifted_sum`.
+use Rattle.gcm.proofs.RowSums.{SummedInHalves}
+use Rattle.gcm.proofs.multiples.shifted_sum.Given as goal
+
+abbrev pub invariant-loop-k : goal.invariant-loop-k
+invariant-loop-k g l = SummedInHalves (g.P.ProductRows.numbers l.rows) l.k l.first l.second
