@@ -10,6 +10,7 @@ mod field;
 mod gctr;
 mod hash;
 mod hash_room;
+mod holes;
 mod laws;
 mod message;
 mod mode;
@@ -26,6 +27,7 @@ pub use errors::{InvalidMessage, InvalidPiece, NotAccepted, OutOfTurn, Refused, 
 pub use field::next_v;
 pub use hash::{hash_singly, hash_string, hash_string_and};
 pub use hash_room::{BorrowedRoom, HashRoom, SubkeyRoom};
+pub use holes::product_with_holes;
 pub use laws::{text_twice, turns};
 pub use message::{Message, Phase};
 pub use mode::{BorrowedGcm, Gcm, LONGEST_HASHED, LONGEST_TEXT, SHALLOW, is_short_tag, prepare};
