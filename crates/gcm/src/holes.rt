@@ -6,6 +6,8 @@ ghost use Rattle.std.specs.Prelude.{◌≡◌, ◌*◌, ◌+◌, ◌^◌};
 ghost use Rattle.gcm.specs.Gcm.{product};
 ghost use Rattle.gcm.specs.Carryless.{carryless};
 
+use crate::alone::Multiplier;
+
 // Every fourth bit of a word, from bit 0, 1, 2 or 3 on.
 const GAPPED_0: u32 = 0x1111_1111;
 const GAPPED_1: u32 = 0x2222_2222;
@@ -79,4 +81,14 @@ pub fn product_with_holes(x: u128, h: u128) -> u128
     let fallen = low << 1;
     let all = fallen ^ fallen << 127 ^ fallen << 126 ^ fallen << 121;
     kept ^ (all ^ all >> 1 ^ all >> 2 ^ all >> 7)
+}
+
+/// Products with holes between the bits of numbers.
+pub struct WithHoles;
+
+impl Multiplier for WithHoles {
+    #[inline(always)]
+    fn product(x: u128, h: u128) -> u128 {
+        product_with_holes(x, h)
+    }
 }

@@ -1,5 +1,5 @@
 -- What is left to show of `holes::product_of_words`.
-use Rattle.std.proofs.Common.{◌≡◌, ℕ, ◌*◌, ◌^◌, ◌∙◌, arith, bit_and, bit_xor}
+use Rattle.std.proofs.Common.{ℕ, ◌*◌, ◌^◌, ◌∙◌, arith, bit_and, bit_xor}
 use Rattle.gcm.specs.Carryless.{holes}
 use Rattle.gcm.specs.Multiples.{sum_of}
 use Rattle.gcm.proofs.Digits.{class, every_fourth, four, products_at, products_sum}

@@ -1,5 +1,5 @@
 -- What is left to show of `holes::product_with_holes`.
-use Rattle.std.proofs.Common.{◌≡◌, ℕ, arith}
+use Rattle.std.proofs.Common.{arith}
 use Rattle.gcm.specs.Multiples.{folded}
 use Rattle.gcm.proofs.Carryless.{reduced_product, spread}
 use Rattle.gcm.proofs.holes.product_with_holes.Goals as goal
