@@ -107,7 +107,7 @@ split m (suc n) x y =
     let one : 1 + n ≡ suc n = omega arith in
     let last : ℕ = if x % 2 == 0 then 0 else y in
     let upper : carryless m (x / 2 / 2 ^ n) y * 2 ^ n * 2
-        ≡ carryless m (x / 2 ^ suc n) y * 2 ^ suc n =
+    ≡ carryless m (x / 2 ^ suc n) y * 2 ^ suc n =
     grouped (carryless m (x / 2 / 2 ^ n) y) (2 ^ n)
     ∙ ap (λ p. carryless m (x / 2 / 2 ^ n) y * p) (sym (pow-suc 2 n))
     ∙ (λ t. carryless m ((shr-shr x 1 n ∙ ap (λ k. x / 2 ^ k) one) t) y * 2 ^ suc n) in
@@ -174,7 +174,7 @@ by_three n x y x0 x1 y0 y1 x1_is x0_is y1_is y0_is l h m l_is h_is m_is =
     sym ((λ t. bit_xor (y1_is t * 2 ^ n) (y0_is t))
     ∙ joined n (y / 2 ^ n) (y % 2 ^ n) (omega (arith, pow_pos n)) ∙ omega (arith, pow_pos n)) in
     let by = λ (z : ℕ). ap (carryless n z) parts ∙ right_keeps n z (y1 * 2 ^ n) y0
-        ∙ ap (λ p. bit_xor p (carryless n z y0)) (right_shifted n z y1 n) in
+    ∙ ap (λ p. bit_xor p (carryless n z y0)) (right_shifted n z y1 n) in
     let m_by : m ≡ bit_xor b c =
     m_is ∙ (λ t. bit_xor (bit_xor ((left_keeps n x0 x1 (bit_xor y0 y1)
     ∙ (λ u. bit_xor (right_keeps n x0 y0 y1 u) (right_keeps n x1 y0 y1 u))) t) (l_is t)) (h_is t))

@@ -87,9 +87,11 @@ summed m k zero x y small is also = omega (arith, is, also)
 summed m k (suc n) x y small is also =
     let low : x % 16 ≤ m = is.0 in
     let high : y % 16 ≤ k = also.0 in
-    let upper : x / 16 + y / 16 ≡ (x + y) / 16 = omega arith in
-    (omega arith, subst (AreDigits (m + k) n) upper
-    (summed m k n (x / 16) (y / 16) small is.1 also.1))
+    let upper : x / 16 + y / 16 ≡ (x + y) / 16 = omega arith in (
+      omega arith,
+      subst (AreDigits (m + k) n) upper
+          (summed m k n (x / 16) (y / 16) small is.1 also.1),
+    )
 
 -- the lowest bits of n + 1 digits, as a sum
 bits_apart : (x n : ℕ) → bit_and x (holes (suc n))
@@ -128,6 +130,7 @@ bits_summed m k (suc n) x y small is also =
   where
     bit_cases : (a b : ℕ) → a < 2 → b < 2 → (a + b) % 2 ≡ bit_xor a b
     bit_cases = by_pairs _ refl refl refl refl
+
     last_bit : (x y : ℕ) → (x + y) % 2 ≡ bit_xor (x % 2) (y % 2)
     last_bit x y =
         let e : (x + y) % 2 ≡ (x % 2 + y % 2) % 2 = omega arith in
@@ -157,6 +160,7 @@ one_digit d y small = by_two (λ d. carryless 4 d y ≡ d * y) none one d small
   where
     none : carryless 4 0 y ≡ 0 * y
     none = left_zero 4 y ∙ omega arith
+
     one : carryless 4 1 y ≡ 1 * y
     one = xor_zero_l y ∙ omega arith
 
@@ -166,6 +170,7 @@ digit_times d n y small is = by_two (λ d. AreDigits 1 n (d * y)) none one d sma
   where
     none : AreDigits 1 n (0 * y)
     none = let e : 0 ≡ 0 * y = omega arith in subst (AreDigits 1 n) e (zeros 1 n)
+
     one : AreDigits 1 n (1 * y)
     one = let e : y ≡ 1 * y = omega arith in subst (AreDigits 1 n) e is
 
@@ -232,6 +237,7 @@ digits_times (suc k) n x y small is also =
     parts x y =
         let e : x / 16 * 16 + x % 16 ≡ x = omega arith in
         grind arith ∙ ap (λ z. z * y) e
+
     plain : (c : ℕ) → c * 16 + 0 ≡ c * 2 ^ 4
     plain c = omega arith
 
@@ -320,29 +326,31 @@ part x y r s t hr hs is =
   where
     apart : (a p b q : ℕ) → a * p * (b * q) ≡ a * b * (p * q)
     apart a p b q = grind arith
+
     grouped : (c p q : ℕ) → c * (p * q) ≡ c * p * q
     grouped c p q = grind arith
+
     masked : (n t u : ℕ) → t ≡ u % 4 → u < 7 → n < 2 ^ 58
         → bit_and (n * 2 ^ u) (holes 16 * 2 ^ t) ≡ bit_and n (holes 16) * 2 ^ u
     masked n t u is low small = elim (cases_lt u 4) [
       | inl few ↦
-        let same : u ≡ t = omega (arith, is, few) in
-        let none : n * 2 ^ t ≡ n * 2 ^ t + 0 = omega arith in
-        ap (λ k. bit_and (n * 2 ^ k) (holes 16 * 2 ^ t)) same
-        ∙ ap (λ z. bit_and z (holes 16 * 2 ^ t)) none
-        ∙ masked_shifted t n (holes 16) 0 (pow_pos t)
-        ∙ ap (λ k. bit_and n (holes 16) * 2 ^ k) (sym same)
+          let same : u ≡ t = omega (arith, is, few) in
+          let none : n * 2 ^ t ≡ n * 2 ^ t + 0 = omega arith in
+          ap (λ k. bit_and (n * 2 ^ k) (holes 16 * 2 ^ t)) same
+          ∙ ap (λ z. bit_and z (holes 16 * 2 ^ t)) none
+          ∙ masked_shifted t n (holes 16) 0 (pow_pos t)
+          ∙ ap (λ k. bit_and n (holes 16) * 2 ^ k) (sym same)
       | inr many ↦
-        let four : u ≡ 4 + t = omega (arith, is, many, low) in
-        let none : n * 16 * 2 ^ t ≡ n * 16 * 2 ^ t + 0 = omega arith in
-        ap (λ k. bit_and (n * 2 ^ k) (holes 16 * 2 ^ t)) four
-        ∙ ap (λ p. bit_and (n * p) (holes 16 * 2 ^ t)) (pow-add 2 4 t)
-        ∙ ap (λ z. bit_and z (holes 16 * 2 ^ t)) (grouped n 16 (2 ^ t) ∙ none)
-        ∙ masked_shifted t (n * 16) (holes 16) 0 (pow_pos t)
-        ∙ ap (λ z. z * 2 ^ t) (fifteen n small)
-        ∙ sym (grouped (bit_and n (holes 16)) 16 (2 ^ t))
-        ∙ ap (λ p. bit_and n (holes 16) * p) (sym (pow-add 2 4 t))
-        ∙ ap (λ k. bit_and n (holes 16) * 2 ^ k) (sym four)
+          let four : u ≡ 4 + t = omega (arith, is, many, low) in
+          let none : n * 16 * 2 ^ t ≡ n * 16 * 2 ^ t + 0 = omega arith in
+          ap (λ k. bit_and (n * 2 ^ k) (holes 16 * 2 ^ t)) four
+          ∙ ap (λ p. bit_and (n * p) (holes 16 * 2 ^ t)) (pow-add 2 4 t)
+          ∙ ap (λ z. bit_and z (holes 16 * 2 ^ t)) (grouped n 16 (2 ^ t) ∙ none)
+          ∙ masked_shifted t (n * 16) (holes 16) 0 (pow_pos t)
+          ∙ ap (λ z. z * 2 ^ t) (fifteen n small)
+          ∙ sym (grouped (bit_and n (holes 16)) 16 (2 ^ t))
+          ∙ ap (λ p. bit_and n (holes 16) * p) (sym (pow-add 2 4 t))
+          ∙ ap (λ k. bit_and n (holes 16) * 2 ^ k) (sym four)
     ]
 
 -- four terms, from the last one on

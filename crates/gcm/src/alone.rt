@@ -55,12 +55,7 @@ pub(crate) fn hash_on_by<M: Multiplier>(h: u128, value: u128, bytes: &[u8]) -> u
 
 /// The same with one block more.
 #[inline(always)]
-pub(crate) fn hash_to_end_by<M: Multiplier>(
-    h: u128,
-    value: u128,
-    bytes: &[u8],
-    end: &Block,
-) -> u128
+pub(crate) fn hash_to_end_by<M: Multiplier>(h: u128, value: u128, bytes: &[u8], end: &Block) -> u128
     ensures { let before = hashed h value (padded bytes.now) (length (padded bytes.now) / 16) in
         result ≡ product (bit_xor before (from_be_bytes w128 end.now)) h }
 {

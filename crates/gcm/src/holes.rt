@@ -10,14 +10,20 @@ use crate::alone::Multiplier;
 
 // Every fourth bit of a word, from bit 0, 1, 2 or 3 on.
 const GAPPED_0: u32 = 0x1111_1111;
+
 const GAPPED_1: u32 = 0x2222_2222;
+
 const GAPPED_2: u32 = 0x4444_4444;
+
 const GAPPED_3: u32 = 0x8888_8888;
 
 // The same of a product.
 const WIDE_0: u64 = 0x1111_1111_1111_1111;
+
 const WIDE_1: u64 = 0x2222_2222_2222_2222;
+
 const WIDE_2: u64 = 0x4444_4444_4444_4444;
+
 const WIDE_3: u64 = 0x8888_8888_8888_8888;
 
 // The product of two words, with carries.

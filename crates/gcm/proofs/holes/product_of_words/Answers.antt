@@ -12,13 +12,13 @@ returns c =
     let y : ℕ = c.args.y in
     let under = λ (t n : ℕ). bit_and n (holes 16 * 2 ^ t) in
     let z0 = class x y 0 _ _ _ _ c.whole.ensures c.whole-2.ensures
-        c.whole-3.ensures c.whole-4.ensures in
+    c.whole-3.ensures c.whole-4.ensures in
     let z1 = class x y 1 _ _ _ _ c.whole-5.ensures c.whole-6.ensures
-        c.whole-7.ensures c.whole-8.ensures in
+    c.whole-7.ensures c.whole-8.ensures in
     let z2 = class x y 2 _ _ _ _ c.whole-9.ensures c.whole-10.ensures
-        c.whole-11.ensures c.whole-12.ensures in
+    c.whole-11.ensures c.whole-12.ensures in
     let z3 = class x y 3 _ _ _ _ c.whole-13.ensures c.whole-14.ensures
-        c.whole-15.ensures c.whole-16.ensures in
+    c.whole-15.ensures c.whole-16.ensures in
     (λ u. bit_xor (bit_xor (bit_xor (under 0 (z0 u)) (under 1 (z1 u))) (under 2 (z2 u)))
     (under 3 (z3 u)))
     ∙ four (under 0 (products_at x y 0)) (under 1 (products_at x y 1)) (under 2 (products_at x y 2))
