@@ -80,6 +80,7 @@ THUMB = ("-mfloat-abi=soft", *SECTIONS)
 CORTEX_M0 = Target("thumb", "thumbv6m-unknown-none-gnueabi", ("-mcpu=cortex-m0", *THUMB), "_v6m", bits=32)
 CORTEX_M3 = Target("thumb", "thumbv7m-unknown-none-gnueabi", ("-mcpu=cortex-m3", *THUMB), "_v7m", bits=32)
 RISCV32 = Target("riscv32", "riscv32-unknown-elf", ("-march=rv32imc", "-mabi=ilp32", "-mcmodel=medany", *SECTIONS), bits=32)
+ARM = Target("arm", "armv7-unknown-linux-gnueabi", ("-march=armv7-a", "-mfloat-abi=soft", "-fPIC", *SECTIONS), bits=32)
 # Which are made of the module of a build, by its suffix. Those of _v1 and _w64 take no byte shuffle. _w64 keeps a key in words of 64 bits,
 # and so in a larger struct, which only 64-bit RISC-V has.
 MADE_OF = {
@@ -91,11 +92,13 @@ MADE_OF = {
     "_v3": (Target("windows_x86_64", "x86_64-pc-windows-gnu", ("-march=x86-64-v3",), "_v3", suffix="_v3"),),
     "_v1": (
         Target("windows_x86_64", "x86_64-pc-windows-gnu", ("-march=x86-64",), "_v1", suffix="_v1"),
-        Target("arm", "armv7-unknown-linux-gnueabi", ("-march=armv7-a", "-mfloat-abi=soft", "-fPIC", *SECTIONS), bits=32),
+        ARM,
         *(it for target in (CORTEX_M0, CORTEX_M3, RISCV32) for it in (target, target.small())),
         Target("wasm32", "wasm32-unknown-unknown", ("-Os", "-mcpu=mvp", *SECTIONS), "_narrow", bits=32),
     ),
     "_w64": (Target("riscv64", "riscv64-unknown-linux-gnu", ("-march=rv64gc", "-mabi=lp64d", "-fPIC", *SECTIONS), "_narrow"),),
+    # of GCM, in the place of what is made of _v1: its products of words take the same time on this processor, whatever the words are
+    "_products": (ARM,),
 }
 
 

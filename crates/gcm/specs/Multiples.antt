@@ -108,3 +108,12 @@ subkey_alone room = from_be_bytes w128 (slice_index_or room 0 [])
 -- room for H alone is always in order: whatever it has is a block
 abbrev pub IsAlone : List (List ℕ) → Type 0
 IsAlone room = Unit {0}
+
+-- the block H that stands there as four words, the lowest first
+abbrev pub subkey_of_words : List ℕ → ℕ
+subkey_of_words room = slice_index room 0 + slice_index room 1 * 2 ^ 32 + slice_index room 2 * 2 ^ 64
+    + slice_index room 3 * 2 ^ 96
+
+-- four words are always in order too
+abbrev pub AreWords : List ℕ → Type 0
+AreWords room = Unit {0}

@@ -7,12 +7,22 @@ ghost use Rattle.std.specs.Int.{w128, from_be_bytes};
 ghost use Rattle.std.specs.Int.Bits.{bit_xor};
 ghost use Rattle.gcm.specs.Gcm.{hashed, padded, product};
 ghost use Rattle.gcm.specs.Multiples.{subkey_in, HasMultiples, subkey_alone, IsAlone};
+ghost use Rattle.gcm.specs.Multiples.{subkey_of_words, AreWords};
 
+<<<<<<< HEAD
 use crate::bitwise::{hash_string_bitwise, product_bitwise};
 use crate::hash::{hash_string, hash_string_and};
 use crate::multiples::{Multiples, Room, put_multiples};
 use crate::numbers::{number_of, vector_of};
 use crate::order::HighestFirst;
+=======
+use crate::alone::{Multiplier, hash_on_by, hash_to_end_by};
+use crate::bitwise::WithMasks;
+use crate::hash;
+use crate::holes::WithHoles;
+use crate::multiples::{Multiples, Room, put_multiples};
+use crate::words::{number_of_words, words_of};
+>>>>>>> 80dd5d5e55019c25b5469d2d03052581569b8236
 use aes_cipher::blocks::{block_of_number, number_of_block};
 use aes_cipher::cipher::Block;
 use aes_cipher::zeroize::Zeroize;
@@ -98,19 +108,47 @@ impl HashRoom for SubkeyRoom {
 
     #[inline(always)]
     fn product(&self, x: u128) -> u128 {
-        product_bitwise(x, number_of_block(&self[0]))
+        WithMasks::product(x, number_of_block(&self[0]))
     }
 
     #[inline(always)]
     fn hash_on(&self, value: u128, bytes: &[u8]) -> u128 {
-        hash_string_bitwise::<HighestFirst>(number_of_block(&self[0]), value, bytes)
+        hash_on_by::<WithMasks>(number_of_block(&self[0]), value, bytes)
     }
 
     #[inline(always)]
     fn hash_to_end(&self, value: u128, bytes: &[u8], end: &Block) -> u128 {
-        let h = number_of_block(&self[0]);
-        let before = hash_string_bitwise::<HighestFirst>(h, value, bytes);
-        product_bitwise(before ^ number_of_block(end), h)
+        hash_to_end_by::<WithMasks>(number_of_block(&self[0]), value, bytes, end)
+    }
+}
+
+/// Room for H alone, as four words.
+pub type WordsRoom = [u32; 4];
+
+// H alone: products are made with holes between the bits.
+impl HashRoom for WordsRoom {
+    ghost IsMade = { AreWords };
+
+    ghost subkey = { subkey_of_words };
+
+    #[inline(always)]
+    fn put(&mut self, h: u128) {
+        *self = words_of(h);
+    }
+
+    #[inline(always)]
+    fn product(&self, x: u128) -> u128 {
+        WithHoles::product(x, number_of_words(self))
+    }
+
+    #[inline(always)]
+    fn hash_on(&self, value: u128, bytes: &[u8]) -> u128 {
+        hash_on_by::<WithHoles>(number_of_words(self), value, bytes)
+    }
+
+    #[inline(always)]
+    fn hash_to_end(&self, value: u128, bytes: &[u8], end: &Block) -> u128 {
+        hash_to_end_by::<WithHoles>(number_of_words(self), value, bytes, end)
     }
 }
 

@@ -2,6 +2,7 @@
 //! that encrypts.
 #![tactic(auto)]
 
+mod alone;
 mod bitwise;
 mod counter;
 mod errors;
@@ -10,6 +11,7 @@ mod field;
 mod gctr;
 mod hash;
 mod hash_room;
+mod holes;
 mod laws;
 mod message;
 mod mode;
@@ -19,16 +21,20 @@ mod numbers;
 mod order;
 mod pieces;
 mod row_pairs;
+mod words;
 
-pub use bitwise::{hash_bitwise, hash_string_bitwise, product_bitwise};
+pub use alone::{Multiplier, hash_string_by};
+pub use bitwise::{WithMasks, hash_bitwise, product_bitwise};
 pub use counter::Counter;
 pub use errors::{InvalidMessage, InvalidPiece, NotAccepted, OutOfTurn, Refused, TooLong};
 pub use field::next_v;
 pub use hash::{hash_singly, hash_string, hash_string_and};
-pub use hash_room::{BorrowedRoom, HashRoom, SubkeyRoom};
+pub use hash_room::{BorrowedRoom, HashRoom, SubkeyRoom, WordsRoom};
+pub use holes::{WithHoles, product_with_holes};
 pub use laws::{text_twice, turns};
 pub use message::{Message, Phase};
 pub use mode::{BorrowedGcm, Gcm, LONGEST_HASHED, LONGEST_TEXT, SHALLOW, is_short_tag, prepare};
 pub use multiples::{Multiples, Room, Table, TableRoom, put_multiples, put_one_table};
 pub use numbers::sum;
 pub use order::{ByteOrder, HighestFirst};
+pub use words::{number_of_words, words_of};

@@ -4,15 +4,16 @@ ghost use Rattle.std.specs.Prelude.{◌≡◌, ℕ, List, ◌*◌, ◌^◌, ◌<
 ghost use Rattle.std.specs.Int.{w64, w128, to_le_bytes, from_le_bytes, from_be_bytes};
 ghost use Rattle.gcm.specs.Gcm.{next_v};
 ghost use Rattle.gcm.specs.Multiples.{subkey_in, HasMultiples, IsTable};
-ghost use Rattle.gcm.specs.Multiples.{subkey_alone, IsAlone};
+ghost use Rattle.gcm.specs.Multiples.{subkey_alone, IsAlone, subkey_of_words, AreWords};
 ghost use Rattle.gcm_siv.specs.GcmSiv.{hash, length_block};
 
 use aes_cipher::blocks::{block_of_halves, block_of_number, number_of_block};
 use aes_cipher::cipher::Block;
 use aes_cipher::zeroize::Zeroize;
 use gcm::{
-    ByteOrder, Multiples, Room, SubkeyRoom, Table, TableRoom, hash_singly, hash_string,
-    hash_string_and, hash_string_bitwise, product_bitwise, put_multiples, put_one_table, sum,
+    ByteOrder, Multiplier, Multiples, Room, SubkeyRoom, Table, TableRoom, WithHoles, WithMasks,
+    WordsRoom, hash_singly, hash_string, hash_string_and, hash_string_by, number_of_words,
+    put_multiples, put_one_table, sum, words_of,
 };
 use std::simd::prelude::*;
 
@@ -119,6 +120,20 @@ impl PolyvalRoom for Room {
     }
 }
 
+// S_s of additional data and a text by a factor alone, with no table of its multiples.
+fn hash_by<M: Multiplier>(factor: u128, additional: &[u8], text: &[u8]) -> Block
+    requires additional { length additional.now ≤ 2 ^ 36 }
+    requires text { length text.now ≤ 2 ^ 36 }
+    ensures { (h : ℕ) → h < 2 ^ 128 → factor ≡ next_v h
+        → result ≡ to_le_bytes w128 (hash h additional.now text.now) }
+{
+    let first = hash_string_by::<M, LowestFirst>(factor, 0, additional);
+    let second = hash_string_by::<M, LowestFirst>(factor, first, text);
+    let lengths = last_block(additional, text).to_array();
+    let end = number_of_block(&lengths);
+    M::product(second ^ end, factor).to_le_bytes()
+}
+
 // Room for a processor without a byte shuffle: the factor alone, and products bit by bit.
 impl PolyvalRoom for SubkeyRoom {
     ghost IsMade = { IsAlone };
@@ -131,11 +146,22 @@ impl PolyvalRoom for SubkeyRoom {
     }
 
     fn hash(&self, additional: &[u8], text: &[u8]) -> Block {
-        let factor = number_of_block(&self[0]);
-        let first = hash_string_bitwise::<LowestFirst>(factor, 0, additional);
-        let second = hash_string_bitwise::<LowestFirst>(factor, first, text);
-        let lengths = last_block(additional, text).to_array();
-        let end = number_of_block(&lengths);
-        product_bitwise(second ^ end, factor).to_le_bytes()
+        hash_by::<WithMasks>(number_of_block(&self[0]), additional, text)
+    }
+}
+
+// The same, and products with holes between the bits.
+impl PolyvalRoom for WordsRoom {
+    ghost IsMade = { AreWords };
+
+    ghost element = { subkey_of_words };
+
+    #[inline(always)]
+    fn put(&mut self, factor: u128) {
+        *self = words_of(factor);
+    }
+
+    fn hash(&self, additional: &[u8], text: &[u8]) -> Block {
+        hash_by::<WithHoles>(number_of_words(self), additional, text)
     }
 }

@@ -1,21 +1,21 @@
--- What is left to show of `hash::SubkeyRoomPolyvalRoom::hash`.
+-- What is left to show of `hash::hash_by`.
 use Rattle.std.proofs.Common.{ℕ, List, ◌/◌, ◌∙◌, ap, bit_xor, length}
 use Rattle.std.specs.Int.{w128, from_le_bytes, to_le_bytes}
 use Rattle.gcm.specs.Gcm.{padded, product}
 use Rattle.gcm.specs.Hashed.{hashed_as}
 use Rattle.gcm_siv.proofs.Hashing.{hash_is}
-use Rattle.gcm_siv.proofs.hash.SubkeyRoomPolyvalRoom.hash.Goals as goal
+use Rattle.gcm_siv.proofs.hash.hash_by.Goals as goal
 
 pub returns : goal.returns
-returns c h small is =
-    let g : ℕ = c.number_of_block-factor.result in
+returns b c h small is =
+    let g : ℕ = c.args.factor in
     let a : List ℕ = c.args.additional.now in
     let p : List ℕ = c.args.text.now in
     let on = λ (s : ℕ) (x : List ℕ). hashed_as (from_le_bytes w128) g s (padded x)
     (length (padded x) / 16) in
     c.to_le_bytes.ensures
-    ∙ ap (to_le_bytes w128) (c.product_bitwise.ensures
+    ∙ ap (to_le_bytes w128) (c.product.ensures
     ∙ ap (λ v. product v g) (λ t. bit_xor
-    ((c.hash_string_bitwise-second.ensures ∙ ap (λ s. on s p) c.hash_string_bitwise-first.ensures) t)
+    ((c.hash_string_by-second.ensures ∙ ap (λ s. on s p) c.hash_string_by-first.ensures) t)
     ((c.number_of_block-end.ensures.number ∙ c.last_block.ensures) t))
-    ∙ hash_is h g a p (c.number_of_block-factor.ensures.number ∙ is) small)
+    ∙ hash_is h g a p is small)
