@@ -841,11 +841,7 @@ class Machine:
         if is_int(x, y):
             y = ~y if name.endswith("not") else y
             return {"a": x & y, "o": x | y, "x": x ^ y}[name[0]] & (1 << 8 * size) - 1
-<<<<<<< HEAD
-        if name == "or" and y == 0 or name == "and" and x == y and isinstance(x, (Pointer, Linear, Shifted)):
-=======
         if name == "or" and y == 0 or name == "and" and x == y:
->>>>>>> 22caa37386e7cb36dbcc0a97e0e0daea2c2dbb1f
             return x
         masked = self.masked(x, y) if name == "and" and size == self.word else None
         if masked is not None:

@@ -9,20 +9,14 @@ ghost use Rattle.gcm.specs.Gcm.{hashed, padded, product};
 ghost use Rattle.gcm.specs.Multiples.{subkey_in, HasMultiples, subkey_alone, IsAlone};
 ghost use Rattle.gcm.specs.Multiples.{subkey_of_words, AreWords};
 
-<<<<<<< HEAD
-use crate::bitwise::{hash_string_bitwise, product_bitwise};
+use crate::alone::{Multiplier, hash_on_by, hash_to_end_by};
+use crate::bitwise::WithMasks;
 use crate::hash::{hash_string, hash_string_and};
+use crate::holes::WithHoles;
 use crate::multiples::{Multiples, Room, put_multiples};
 use crate::numbers::{number_of, vector_of};
 use crate::order::HighestFirst;
-=======
-use crate::alone::{Multiplier, hash_on_by, hash_to_end_by};
-use crate::bitwise::WithMasks;
-use crate::hash;
-use crate::holes::WithHoles;
-use crate::multiples::{Multiples, Room, put_multiples};
 use crate::words::{number_of_words, words_of};
->>>>>>> 80dd5d5e55019c25b5469d2d03052581569b8236
 use aes_cipher::blocks::{block_of_number, number_of_block};
 use aes_cipher::cipher::Block;
 use aes_cipher::zeroize::Zeroize;
