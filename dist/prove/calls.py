@@ -8,7 +8,7 @@ import functools
 import lengths
 from bits import DATA, KEY, LOST, ONES, Pause, Unproved
 from linear import refuted
-from machine import LAST, LEAD, ROOM, Pointer, Question, Region, Verdict, Window
+from machine import LAST, LEAD, WRAPS, Pointer, Question, Region, Verdict, Window
 from native import Native
 
 STACK = 16384  # FOTSGURE_AES_STACK and FOTSGURE_GCM_STACK
@@ -56,9 +56,8 @@ class Call:
     `keystream` is what is added to the data, `between` are other blocks that the cipher gives, and `plain` what is secret of the data and
     the results; `may_stay` says how many bytes of a kind may be left besides, or "flags". A call that is refused writes to no Buffer that
     stays as it was, unless it has to undo what it did (`undone`). `counter` is a word of unknown value (aes.CounterWord). `room`, for GCM's counter:
-    the sums that say how much keystream comes before it wraps around (gcm.py, any_counter), and how much the text needs. Calls that share
-    `paths` have to run the same instructions whenever they return the same. `facts` are what is known of arguments that aren't
-    (linear.py): each is 0 or more."""
+    its lowest 32 bits in the first block (gcm.py, any_counter), and the number of the text's last block. Calls that share `paths` have to run
+    the same instructions whenever they return the same. `facts` are what is known of arguments that aren't (linear.py): each is 0 or more."""
 
     def __init__(self, name, arguments, status, size=4, steps=None, reveals=None, refused=None, refused_after=None, assumes=None,
                  later=None, counter=None, keystream=(), plain=(), may_stay=None, room=None, paths=None, facts=(),
@@ -130,9 +129,8 @@ def prove(domain, program, call, seed=None):
 
 
 def is_without_room(m):
-    """Whether the answers say that the room for keystream is neither more than the text needs nor as much, so the counter wraps around in
-    the text: a statement with `room` is about the others."""
-    return m.room and [m.answers.get((ROOM, m.room[1], what)) for what in ("above", "equal")] == [0, 0]
+    """Whether the answers say that the counter wraps around in the text: a statement with `room` is about the others."""
+    return m.room and m.answers.get((WRAPS, *m.room))
 
 
 def run(m, call, watches):

@@ -174,17 +174,13 @@ class KeyedGcm(Keyed):
             b = d.opaque((Pointer("J_0 low", 0), k))
             d.byte_ids[d.bits(b)] = b
         self.any_stream = self.aes.cipher(self.pre_counter + low, self.w)
-        shifted = [0] * 4 + [x for b in low[::-1] for x in d.bits(b)] + [0] * 28  # 16 times the number
-        pack = lambda bits: [d.pack(bits[i:i + 8]) for i in range(0, 64, 8)]
-        # As x86-64 and as ARM compute it: 16 and the complement of the lowest 36 bits; 2^36 less it.
-        self.room = {(16, 0, *pack([x ^ 1 if 4 <= i < 36 else 0 for i, x in enumerate(shifted)])),
-                     (1 << 36, 1, *pack([x ^ 1 for x in shifted]))}
+        self.low = tuple(low[::-1])
 
     def in_text(self, first, end):
         """For a text that ends at this place of the keystream: what a call may ask of J_0."""
         if first.counter is not None:
             return {}
-        return {"room": (self.room, end), "counter": CounterWord("J_0 low", 0, NEVER, end // 16 + BATCH)}
+        return {"room": (*self.low, (end - 1) // 16), "counter": CounterWord("J_0 low", 0, NEVER, end // 16 + BATCH)}
 
     def counter_block(self, first, i):
         """The block J_0 + i, the last 32 bits being a number of their own (inc_32, 6.2)."""

@@ -70,7 +70,7 @@ LEAD, LAST = 2, 200  # the number of the first block of a buffer whose length is
 WRAPPED = "wrapped"  # an unknown: the block from which on the counter has wrapped around, if that is in what is done
 FARTHEST = 1 << 16  # how many bytes the stack pointer may move at once: more than any frame has
 PAGE = 4096  # the smallest page of memory
-ROOM = Pointer("room", 0)  # how many bytes of keystream come before the counter of GCM, 32 bits of unknown value, wraps around
+WRAPS = "wraps"  # a question: whether the counter of GCM, 32 bits of unknown value, wraps around by the last block of a text
 SECRET = "secret"  # a flag that depends on the key or on data; None is a flag that is undefined
 RETURN_ADDRESS = Pointer("return address", 0)
 WORD = (1 << 64) - 1
@@ -469,8 +469,8 @@ class Machine:
                 self.fits(by) and self.implied(counter.last - r.offset))
             return r, {"c": self.wraps(old.offset, r.offset)} if known else {}
         fixed, rest = (x, y) if is_int(x) else (y, x)
-        if self.room and (fixed, carry, *self.to_bytes(rest, size)) in self.room[0]:
-            return ROOM, {}
+        if self.is_room(rest, fixed, size) and not carry:
+            return None, {"c": (WRAPS, *self.room)}
         try:
             bits, out = self.full_adder(self.bits(x, size), self.bits(y, size), carry)
         except Unproved:  # then nothing is kept of the sum but whether it is 0
@@ -479,6 +479,10 @@ class Machine:
             zero = self.differences(rest, -fixed - carry, size)
             return self.verdict(0, zero, size), {"c": SECRET, "z": self.zero_flag(zero), "s": SECRET, "o": SECRET}
         return self.unbits(bits), {"c": self.flag_of(out), "z": SECRET, "s": SECRET, "o": SECRET}
+
+    def is_room(self, low, last, size):
+        """Whether these are the 32 bits of GCM's counter in its first block, of unknown value, and the number of the text's last block."""
+        return self.room and size == 4 and is_int(last) and (*self.to_bytes(low, size), last & 0xffffffff) == self.room
 
     def wraps(self, block, later):
         """Whether the low half of the counter wraps around between two blocks."""
@@ -524,8 +528,8 @@ class Machine:
             return Distance(x.base, y.base, x.offset - y.offset), {}
         if is_pointer(x) and is_number(y) and size == self.word:
             return self.offset(x, carry - 1 - y), {}
-        if y == ROOM and self.room and x == self.room[1] and carry:
-            return None, {"c": ("not", (ROOM, x, "above")), "z": (ROOM, x, "equal")}
+        if is_int(x) and carry and self.is_room(y, ~x, size):
+            return None, {"c": ("not", (WRAPS, *self.room))}
         if is_pointer(x) or is_pointer(y):
             raise Unproved("computes with addresses")
         return self.plus(x, ~y if is_int(y) else self.bytewise("xor", self.to_bytes(y, size), [255] * size), carry, size)
