@@ -156,7 +156,7 @@ def published(where, rows, key=16):
         f"library for one block, and {among('4,096', *SSSE3)} times as long for 4,096.{' Quicker than this library: ' if quicker else ''}"
         f"{', '.join(quicker)}{'.' if quicker else ''} The build for processors with AVX2 takes {among('2 blocks', 'for AVX2')} of the time "
         f"of the first one for two blocks, and {among('4,096', 'for AVX2')} for 4,096. OpenSSL with AES instructions takes "
-        f"{among('4,096', WITH_THEM)} times as long for 4,096 blocks. Take that if your processor has them and speed is all that you need."
+        f"{among('4,096', WITH_THEM)} times as long for 4,096 blocks. Use OpenSSL if your processor has them and speed is all that you need."
     )
     how = (
         "The first column is the time of a call from C with a key of 16 bytes. The others are the time of the same "
