@@ -1,5 +1,5 @@
 /* Says whether a process has loaded the module, which is then among the files that are mapped into its memory, and how many keys it has
- * set by it: what the module counts is read there. */
+ * set with it: what the module counts is read there. */
 #define _DEFAULT_SOURCE
 #include "command.h"
 #include "../module/served.h"
@@ -97,6 +97,6 @@ enum exit_status of_process(const char *process)
     if (keys < 0)
         printf("How many keys it has set can't be seen: ask as root\n");
     else
-        printf("Keys that it has set by it: %lld (processes that it started count for themselves)\n", keys);
+        printf("Keys that it has set with the module: %lld (each process counts its own)\n", keys);
     return found.is_deleted ? REPLACED : SERVED;
 }

@@ -38,7 +38,7 @@ print("started", flush=True); time.sleep(600)' > "$work/started" &
     mine=$!
     comes "$work/started"
     ends_with 0 "has loaded $work/again/fotsgure.so" "$command" "$mine" &&
-        grep '^Keys that it has set by it: [1-9]' "$work/said" && ends_with 1 "hasn't loaded" "$command" $$ &&
+        grep '^Keys that it has set with the module: [1-9]' "$work/said" && ends_with 1 "hasn't loaded" "$command" $$ &&
         cp "$module" "$work/again/new" && mv "$work/again/new" "$work/again/fotsgure.so" &&
         ends_with 4 'that file is gone by now' "$command" "$mine" && rm "$work/again/fotsgure.so" &&
         ends_with 4 'that file is gone by now' "$command" "$mine" && ends_with 2 'No such file' "$command" 99999999
