@@ -133,6 +133,7 @@ FAULTS = {
          "\tpushq\t%rdi\n\tcallq\t\\1\n\tpopq\t%rdi\n\tmovl\t4(%rdi), %ecx\n\tshlq\t$32, %rcx\n\torq\t%rcx, %rax\n"
          "\txorl\t%ecx, %ecx\n\txorl\t%edi, %edi\n\tretq\n", "set_key"),
         ("what libc's copy left in a register", CBC_BACK, r"\tpxor\t%xmm15, %xmm15\n", "", "cbc_decrypt 1"),
+        ("no mark for an indirect call", BLOCKS, r"\tendbr64\n", "", "blocks encrypt 2"),
         ("a bit of the key in a flag", exported("aes_key_length"), ENTRY + r"([\s\S]*?)\tretq\n", r"\1\tmovq\t%rdi, -8(%rsp)\n\2"
          r"\tmovq\t-8(%rsp), %r11\n\ttestb\t$1, 4(%r11)\n\tmovl\t$0, %r11d\n\tretq\n", "key_length"),
         ("a jump with a prefix, which is not covered", BLOCKS, ENTRY, r"\1\t.byte\t0x66\n\tjmp\t77f\n77:\n", "blocks encrypt 2"),
@@ -167,7 +168,9 @@ FAULTS = {
         ("the same keystream again after 4 GiB", exported("aes_add_keystream"), r"addq\t%(r\w+), 16\(",
          lambda found: "addl\t%%%s, 16(" % low(found[1]), "add_keystream 4294967276 40"),
         ("the number of a block of four in 32 bits", COUNTER, r"(\tleaq\t\(%r\w+,%r\w+\), %(r\w+)\n)\tshrq\t\$4, %\2\n",
-         lambda found: "%s\tshrl\t$4, %%%s\n" % (found[1], low(found[2])), "add_keystream 68719476736 64"),
+         lambda found: "%s\tshrl\t$4, %%%s\n" % (found[1], low(found[2])), "add_keystream %d 64" % (2 ** 63 + 2 ** 36)),
+        ("the number of a block of four taken with a sign", COUNTER, r"(\tleaq\t\(%r\w+,%r\w+\), %(r\w+)\n)\tshrq\t\$4, %\2\n",
+         r"\1\tsarq\t$4, %\2\n", "add_keystream %d 64" % (2 ** 63 + 2 ** 36)),
         ("16 of 32 bits of a padded length judged", PADDED_DIFFERENCE, r"(\tbswapl\t%e(\w\w)\n)", r"\1\tmovzwl\t%\2, %e\2\n",
          "unwrap_padded_refused 1 8"),
         ("half of A compared in key unwrap", COMPARE, r"(\tpxor\t.*, (%xmm\d+)\n)", r"\1\tpsrldq\t$4, \2\n", "unwrap 3"),
@@ -258,6 +261,8 @@ FAULTS = {
         ("a function that another library may have", BLOCKS, ENTRY, r"\1\tleaq\thook(%rip), %rax\n\tcallq\t*%rax\n", "blocks encrypt 2"),
     ],
     "aarch64/aes": [
+        ("a test of larger lanes than bytes, which is not covered", function("aes_c::single_rounds::mixed"),
+         r"\tcmtst\t(v\d+)\.16b, (v\d+)\.16b, (v\d+)\.16b", r"\tcmtst\t\1.2d, \2.2d, \3.2d", "columns mix_columns"),
         ("the system's register written", BLOCKS, ENTRY, r"\1\tmov\tx18, #0\n", "blocks encrypt 2"),
         ("a branch on data", LANES, r"(\tldp\tq(\d+), q\d+, .*\n)", r"\1\tfmov\tx22, d\2\n\tcbz\tx22, 77f\n77:\n", "blocks encrypt 2"),
         ("an address that csel chose by data", BLOCKS, ENTRY,

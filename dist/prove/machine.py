@@ -22,6 +22,7 @@ Machine, in a file of its own (x86_64.py, aarch64.py, riscv.py), that says:
     also_called            a function of the compiler's library that only touches the stack
     red_zone               bytes below the stack pointer that a function may use
     stack_step             what the stack pointer has to be a multiple of where it is the base of an access
+    mark                   how a line of objdump begins where an indirect call may arrive, if a processor looks for that
     conditional, padding        how a line of objdump begins that is a conditional jump or adds a carry, or fills up space between others
     decode(text, following)     a line of objdump as an Instruction; `following` is the next address
     leave()                     after libc's function: goes on at the return address
@@ -332,7 +333,7 @@ class Program:
 
 
 class Machine:
-    pushed, kept_vectors, shadow, stack_step, also_called = (), {}, 0, 1, ()
+    pushed, kept_vectors, shadow, stack_step, also_called, mark = (), {}, 0, 1, (), ""
     word, most, flag_names = 8, WORD, "czso"
     start, strict, relaxed = 0x123456700000, False, False
 

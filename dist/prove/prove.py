@@ -62,8 +62,8 @@ def aes_cases(choose):
     yield "add_keystream", [(3, n, aes.NEVER, "_with") for n in choose(range(0, 1025, 21), (33,))]
     # A batch of four blocks: a carry before each of its blocks, and before the one behind it.
     yield "add_keystream", [(16, 64, wrap) for wrap in choose(range(1, 6), (1,), range(2, 6))]
-    # Positions, and numbers of blocks, that don't fit into 32 bits.
-    far = [(2 ** 32 - 20, 40), (2 ** 36, 64)]
+    # Positions, and numbers of blocks, that don't fit into 32 bits; and one that would be below 0 if it had a sign.
+    far = [(2 ** 32 - 20, 40), (2 ** 63 + 2 ** 36, 64)]
     yield "add_keystream", choose(far, (), far)
     # Of every length, by its remainder.
     for way, few, more in ("", (7,), [rest for rest in range(16) if rest != 7]), ("_to", (7,), (0, 1, 2, 14)), ("_with", (1,), ()):
