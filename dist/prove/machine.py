@@ -156,6 +156,10 @@ class Placed(namedtuple("Placed", "base offset first")):
         return domain.placed[self.base](number, k) if is_int(number) else None
 
 
+# A byte of a buffer that is only read, at an offset of which the block isn't known. (`what` tells its name from that of an address.)
+Content = namedtuple("Content", "base offset what", defaults=["content"])
+
+
 class Question(Exception):
     """A flag of which both values have to be proved."""
 
@@ -218,9 +222,11 @@ class Window(Region):
     def is_untouched(self):
         return is_int(self.origin) and self.origin == 0 and not self.content
 
-    def initial_at(self, m, offset, size):
+    def initial_at(self, m, base, offset, size):
         """Bytes as they were."""
         number = offset - 16 * m.first_block
+        if not is_int(number) and not self.writable:
+            return [m.domain.opaque((Content(base, offset + k), 0)) for k in range(size)]
         if not is_int(number):
             raise Unproved("a block whose number isn't known")
         return [m.domain.moved(self.initial[i % 16], i // 16) for i in range(number, number + size)]
@@ -681,7 +687,7 @@ class Machine:
         """A byte, with another number in the place of that of which it is one."""
         d = self.domain
         value, k = d.opaque_of[b] if isinstance(d.opaque_of.get(b), tuple) else (None, 0)
-        by = new(value) if isinstance(value, (Linear, Pointer, Distance, Placed, Scaled, Shifted)) else value
+        by = new(value) if isinstance(value, (Linear, Pointer, Distance, Placed, Scaled, Shifted, Content)) else value
         if by != value:
             return self.to_bytes(by, self.word)[k] if is_int(by) else d.opaque((by, k))
         others = {c: (new(d.unknowns[c][0]), d.unknowns[c]) for c in d.unknown_cells(b)} if d.unknowns else {}
@@ -1008,7 +1014,7 @@ class Machine:
                 raise Unproved("%s %d bytes at %s of %s, which has %s" % (
                     "writes" if write else "reads", size, offset, base, region.size))
             if not write and region.is_untouched():
-                return region.initial_at(self, offset, size), 0
+                return region.initial_at(self, base, offset, size), 0
             offset = region.reached(self, offset, size)
         if offset < 0 or offset + size > len(region.content):
             raise Unproved("%s %d bytes at %d of %s, which has %d" % (
