@@ -34,7 +34,7 @@ SEED = 1
 
 # Which statements, and of which lengths: all; or those that reach each path and its ends, of which keys of 24 and 32 bytes take a few.
 # README has the table. Each of these gives the names of statements, and their arguments. Keys of 24 bytes take only these names by default:
-OF_24 = ("any_blocks", "add_keystream", "cbc_decrypt", "any_cbc_encrypt", "wrap", "unwrap", "cmac", "ccm_seal", "ccm_open", "seal", "open",
+OF_24 = ("any_blocks", "add_keystream", "cbc_decrypt", "any_cbc_encrypt", "wrap", "unwrap", "any_cmac", "ccm_seal", "ccm_open", "seal", "open",
          "wipe", "wipe_message", "set_key_of", "set_key_of_none", "set_key_refused", "key_length", "key_length_of_none", "version")
 # What takes longest, and what keys of 16 bytes show: builds that take few lengths, and keys of 32 bytes, don't take these by default.
 LONG_CASES = "any_seal", "any_open", "unwrap_padded_refused"
