@@ -28,7 +28,7 @@ class Aarch64(Machine):
     arguments, result = X[:8], "x0"
     kept, kept_vectors = X[18:30] + ["sp"], dict.fromkeys(range(8, 16), 8)  # x18 is the system's on some
     scratch = X[:18]
-    red_zone = 0
+    red_zone, mark = 0, r"hint\s#0x22"
     conditional, padding = r"b\.|cbn?z|tbn?z|adcs?\s|sbcs?\s|csinc\s.*, c[cs]\b", "nop|udf"
 
     def enter(self, arguments):

@@ -8,7 +8,7 @@ import functools
 import lengths
 from bits import DATA, KEY, LOST, ONES, Pause, Unproved
 from linear import refuted
-from machine import LAST, LEAD, WRAPS, Pointer, Question, Region, Verdict, Window
+from machine import LAST, LEAD, WRAPS, Content, Pointer, Question, Region, Verdict, Window
 from native import Native
 
 STACK = 16384  # FOTSGURE_AES_STACK and FOTSGURE_GCM_STACK
@@ -316,6 +316,8 @@ def tells(m, byte, known, plain):
     call's "result", or of other "data" alone."""
     if byte in m.lost:
         return "key"
+    if isinstance(m.domain.opaque_of.get(byte, [0])[0], Content):
+        return "plain" if known["plain"] else "data"
     if not m.domain.symbolic(byte):
         return None
     kinds = set()

@@ -10,14 +10,14 @@ from aes import BATCH, DONE, NEVER, PTRDIFF_MAX, STRUCT as AES_STRUCT, CounterWo
 from bits import DATA, KEY, PUBLIC
 from calls import ANY, Buffer, Call, Stream
 from linear import WORD, unknown
-from machine import Pointer
+from machine import Content, Pointer
 from standards import ZEROS, number, padded, product
 
 STATUSES = ("DONE KEY_LENGTH NO_KEY NONCE_LENGTH TAG_LENGTH TOO_LONG REFUSED NONCES_END OUT_OF_TURN NO_RANDOMNESS UNEQUAL_LENGTHS").split()
 _, KEY_LENGTH, NO_KEY, NONCE_LENGTH, TAG_LENGTH, TOO_LONG, REFUSED, NONCES_END, OUT_OF_TURN, _, UNEQUAL_LENGTHS = range(11)
 STRUCTS = {"fotsgure_gcm": (1780, {"key_length": 0, "round_keys": 4, "multiples": 244}), "fotsgure_gcm_counter": (12, {"next": 0}),
            "fotsgure_gcm_message": (80, {"additional": 0, "text": 8, "decrypted": 16, "phase": 24, "first": 32, "value": 48, "rest": 64})}
-MULTIPLES, MESSAGE = 1536, 80
+MULTIPLES, MESSAGE, REST = 1536, 80, 64
 NONE, ADDITIONAL, ENCRYPTING, VERIFYING, DECRYPTING = range(5)  # phases of a message
 MOST, MOST_ADDITIONAL, MOST_NONCE = 2 ** 36 - 32, 2 ** 61 - 1, 2 ** 61 - 1
 
@@ -427,6 +427,59 @@ class KeyedGcm(Keyed):
                                keystream=self.streams(first, count, before) if call != "verify" else (),
                                plain=self.crypted(first, sealed, before) if call == "decrypt_unverified" else text,
                                **self.in_text(first, 16 + before + count))
+
+    # Pieces of 48 n + `rest` bytes for every n, where 16 u + `filled` bytes came before for every u: the first bytes fill up a block, and
+    # fewer than 48 follow the last three blocks that are hashed at once.
+    def any_numbers(self, filled, rest):
+        before, size = unknown("u") * 16 + filled, unknown("n") * 48 + rest
+        return before, size, {unknown("u"), unknown("n"), PTRDIFF_MAX - size}
+
+    def any_piece_hash(self, m, bytes_, size, filled, whole=None):
+        """The next step of GHASH; or, with `whole`, the last value, and how many bytes are left of a block."""
+        value, left = lambda group: self.at_block(m, self.hash_value, 1 + group * 3), m.known(size) + filled - 16
+        groups, left = divmod(left, 48) if isinstance(left, int) else left.divided(48)
+        block = lambda k: self.at_block(m, bytes_, k)
+        blocks = lambda group: [block(group * 3 + 1 + k) for k in range(3)]
+        if whole:
+            return value(groups + (left >= 16)), left % 16
+        group, full = m.done - 2, self.once("full block", lambda: [self.domain.fresh("full block byte %d" % i, DATA) for i in range(16)])
+        if isinstance(group, int) and group < 0:
+            first = "memory", self.of(self.rest, 0)[:filled] + block(0)[filled:], full
+            return self.group_step(self.of(self.hash_value, 0), [full], value(0)) if m.done else first
+        if m.is_below(group, groups):
+            return self.group_step(value(group), blocks(group), value(group + 1))
+        if group == groups and left >= 16:
+            return self.group_step(value(group), blocks(group)[:left // 16], value(group + 1))
+        return "nothing", (), ()
+
+    def in_places(self, bytes_, filled):
+        """The pattern of a buffer that begins after so many bytes of a block."""
+        return [self.pattern([bytes_[t % 16]], t // 16)[0] for t in range(filled, filled + 16)]
+
+    def any_additional(self, filled, rest):
+        before, size, facts = self.any_numbers(filled, rest)
+        return self.any_taken("additional", (before, 0, 0, ADDITIONAL), 0, self.additional_bytes, size, filled, facts | {MOST_ADDITIONAL - before - size})
+
+    def any_verify(self, filled, rest):
+        before, size, facts = self.any_numbers(filled, rest)
+        return self.any_taken("verify", (7, before, 0, VERIFYING), 1, self.sealed, size, filled, facts | {MOST - before - size})
+
+    def any_taken(self, name, numbers, which, bytes_, size, filled, facts):
+        """A piece of which GHASH takes all and nothing is written: of the numbers in a message one becomes higher."""
+        word = lambda n: number(n, 8)[::-1] if isinstance(n, int) else [self.domain.opaque((n, k)) for k in range(8)]
+        first = self.counter_block(self.nonce_of(), 0)
+        before = [b for n in numbers for b in word(n)] + first + self.of(self.hash_value, 0) + self.of(self.rest, 0)
+
+        def after(m):
+            counts = [m.to_bytes(m.known(n + size if k == which else n), 8) for k, n in enumerate(numbers)]
+            value, count = self.any_piece_hash(m, bytes_, size, filled, whole=True)
+            end = m.known(size) - count
+            rest = [self.domain.opaque((Content("text", end + k), 0)) for k in range(count)]
+            if rest != m.regions["message"].content[REST:REST + count]:  # then it was read where the block is known
+                rest = m.regions["text"].initial_at(m, "text", end, count)
+            return sum(counts, []) + first + value + rest + [None] * (16 - count)
+        return self.on_message(name, before, after, [Stream("text", size, self.in_places(bytes_, filled)), size], facts=facts,
+                               steps=lambda m: self.any_piece_hash(m, bytes_, size, filled))
 
     def decrypt(self, text, before, count, nonce=UNKNOWN):
         """Decrypts a piece in place of the encrypted text whose tag was right .. DONE"""

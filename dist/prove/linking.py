@@ -250,8 +250,12 @@ def refuse_names(path, suffix):
 
 
 def refuse_instructions(program, suffix):
-    """An instruction that isn't covered, or that not all processors of the build have; and a function that no export leads to."""
+    """An instruction that isn't covered, or that not all processors of the build have; an export that begins without the mark that some
+    processors look for after an indirect call; and a function that no export leads to."""
     functions = program.functions()
+    without = [name for name, address in program.exports.items() if not re.match(program.machine.mark, program.lines[address])]
+    if without:
+        raise Unproved("has no mark at the beginning of " + ", ".join(without))
     later = [] if not suffix else program.machine.later[int(suffix[2]) - 1:]
     for address in (address for addresses in functions.values() for address in addresses):
         name = program.decoded(address).name

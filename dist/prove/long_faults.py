@@ -1,6 +1,7 @@
 """Faults that show at long lengths only: a statement of every length refuses each, and calls of some lengths up to 64 blocks are proved.
 As in faults.py: (what, behind which label, what is looked for there, what it becomes, the case that has to refuse it)."""
-from faults import BATCHES, BLOCKS, BLOCKS_TO, CBC, ENTRY, IN_BATCHES, WIPE_STACK, WIPE_WORDS, call, exported, function, low
+from faults import (BATCHES, BLOCKS, BLOCKS_TO, BLOCKS_WITH, CBC, CCM_OPEN, CCM_STREAM, ENTRY, IN_BATCHES, WIPE_STACK, WIPE_WORDS, call,
+                    exported, function, low)
 
 ENCRYPT, DECRYPT = (function("aes_hybrid::closures::call_to_" + name) for name in ("encrypt", "decrypt"))
 KEYSTREAM = exported("aes_add_keystream")
@@ -20,6 +21,9 @@ PUT_TAG, HASH_ON = function("gcm::mode::LentGcm::put_tag"), function("gcm::hash:
 THREES = r"\taddq\t\$48, %(?P<at>r\w+)\n\tdecq\t%(?P<left>r\w+)\n"
 LEFT_OUT = (r"\g<0>\tcmpq\t$65536, %\g<left>\n\tjne\t77f\n\taddq\t$48, %\g<at>\n\tdecq\t%\g<left>\n"
             r"77:\n\ttestq\t%\g<left>, %\g<left>\n")
+# In CMAC's chain: the number of blocks that are done. In CCM's `decrypt`: the call that encrypts a refused text again.
+CHAIN, HASH_PIECE = function("cmac::chaining::chain"), function("gcm::hash_room::hash_piece")
+AGAIN = r"(?P<before>%s[\s\S]*?)(?P<call>%s)" % (CCM_STREAM, CCM_STREAM)
 ON_PLANES, MEMMOVE = call("aes_hybrid::batches::process_on_planes"), r"(\tcallq\t\*memmove.*\n)"
 
 
@@ -95,6 +99,14 @@ LONG_FAULTS = {
          r"\tcmpq\t$1048576, %\2\n\tjne\t77f\n\tpxor\t%xmm0, %xmm0\n77:\n\1", "any_cbc_encrypt"),
         ("64 blocks left out after 2^16 in CBC", DECRYPT, r"(\taddq\t(%r\w+), (%r\w+)\n)(?=(?:\t.*\n)?\tcmpq\t%r\w+, \3\n)",
          r"\1\tcmpq\t$65536, \3\n\tjne\t77f\n\taddq\t\2, \3\n77:\n", "any_cbc_decrypt 9"),
+        ("a count of 32 bits in CMAC", CHAIN, r"incq\t%(r\w+)\n", in_32_bits("incl\t%%%s\n"), "any_cmac 1"),
+        ("a block left out of CMAC after 2^20", CHAIN, r"(\tincq\t%(r\w+)\n)", r"\1\tcmpq\t$1048576, %\2\n\tjne\t77f\n\1\n77:\n",
+         "any_cmac_verify 1 16"),
+        ("the same in CCM", CHAIN, r"(\tincq\t%(r\w+)\n)", r"\1\tcmpq\t$1048576, %\2\n\tjne\t77f\n\1\n77:\n", "any_ccm_seal 8 8 33 8"),
+        ("a refused text of more than 2^20 bytes not encrypted again", CCM_OPEN, AGAIN,
+         r"\g<before>\tcmpq\t$1048576, %r8\n\tja\t77f\n\g<call>77:\n", "any_ccm_open 8 8 33 8"),
+        ("another status for 2^32 blocks and more under a key", BLOCKS_WITH, ENTRY,
+         r"\1\tmovq\t%rcx, %rax\n\tshrq\t$32, %rax\n\tje\t77f\n\tmovl\t$2, %eax\n\tretq\n77:\n", "any_blocks encrypt 1 _with"),
     ],
     "x86_64/aes_v3": [
         ("a count of 32 bits that wraps around", IN_BATCHES, r"addq\t\$16, %(r\w+)\n", in_32_bits("addl\t$16, %%%s\n"), CASE),
@@ -115,5 +127,7 @@ LONG_FAULTS = {
          r"\1\tcmpq\t$1048576, %\2\n\tjb\t77f\n\tmovq\t$1048576, %\2\n77:\n", "any_seal 13 33"),
         ("a branch on the hash of a text after 2^16 groups", PUT_TAG, THREES,
          r"\tcmpq\t$65536, %\g<left>\n\tjne\t77f\n\ttestb\t$1, (%rsp)\n\tje\t77f\n77:\n\g<0>", "any_seal 13 33"),
+        ("three blocks left out of the hash of a piece after 2^16", HASH_ON, THREES, LEFT_OUT, "any_additional 3 46"),
+        ("a piece's length in 32 bits", HASH_PIECE, ENTRY, r"\1\tmovl\t%r9d, %r9d\n", "any_verify 3 46"),
     ],
 }

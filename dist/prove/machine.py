@@ -22,6 +22,7 @@ Machine, in a file of its own (x86_64.py, aarch64.py, riscv.py), that says:
     also_called            a function of the compiler's library that only touches the stack
     red_zone               bytes below the stack pointer that a function may use
     stack_step             what the stack pointer has to be a multiple of where it is the base of an access
+    mark                   how a line of objdump begins where an indirect call may arrive, if a processor looks for that
     conditional, padding        how a line of objdump begins that is a conditional jump or adds a carry, or fills up space between others
     decode(text, following)     a line of objdump as an Instruction; `following` is the next address
     leave()                     after libc's function: goes on at the return address
@@ -155,6 +156,10 @@ class Placed(namedtuple("Placed", "base offset first")):
         return domain.placed[self.base](number, k) if is_int(number) else None
 
 
+# A byte of a buffer that is only read, at an offset of which the block isn't known. (`what` tells its name from that of an address.)
+Content = namedtuple("Content", "base offset what", defaults=["content"])
+
+
 class Question(Exception):
     """A flag of which both values have to be proved."""
 
@@ -217,9 +222,11 @@ class Window(Region):
     def is_untouched(self):
         return is_int(self.origin) and self.origin == 0 and not self.content
 
-    def initial_at(self, m, offset, size):
+    def initial_at(self, m, base, offset, size):
         """Bytes as they were."""
         number = offset - 16 * m.first_block
+        if not is_int(number) and not self.writable:
+            return [m.domain.opaque((Content(base, offset + k), 0)) for k in range(size)]
         if not is_int(number):
             raise Unproved("a block whose number isn't known")
         return [m.domain.moved(self.initial[i % 16], i // 16) for i in range(number, number + size)]
@@ -332,7 +339,7 @@ class Program:
 
 
 class Machine:
-    pushed, kept_vectors, shadow, stack_step, also_called = (), {}, 0, 1, ()
+    pushed, kept_vectors, shadow, stack_step, also_called, mark = (), {}, 0, 1, (), ""
     word, most, flag_names = 8, WORD, "czso"
     start, strict, relaxed = 0x123456700000, False, False
 
@@ -680,7 +687,7 @@ class Machine:
         """A byte, with another number in the place of that of which it is one."""
         d = self.domain
         value, k = d.opaque_of[b] if isinstance(d.opaque_of.get(b), tuple) else (None, 0)
-        by = new(value) if isinstance(value, (Linear, Pointer, Distance, Placed, Scaled, Shifted)) else value
+        by = new(value) if isinstance(value, (Linear, Pointer, Distance, Placed, Scaled, Shifted, Content)) else value
         if by != value:
             return self.to_bytes(by, self.word)[k] if is_int(by) else d.opaque((by, k))
         others = {c: (new(d.unknowns[c][0]), d.unknowns[c]) for c in d.unknown_cells(b)} if d.unknowns else {}
@@ -1007,7 +1014,7 @@ class Machine:
                 raise Unproved("%s %d bytes at %s of %s, which has %s" % (
                     "writes" if write else "reads", size, offset, base, region.size))
             if not write and region.is_untouched():
-                return region.initial_at(self, offset, size), 0
+                return region.initial_at(self, base, offset, size), 0
             offset = region.reached(self, offset, size)
         if offset < 0 or offset + size > len(region.content):
             raise Unproved("%s %d bytes at %d of %s, which has %d" % (

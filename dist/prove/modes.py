@@ -173,7 +173,7 @@ class KeyedAes(SingleRounds, Keyed):
     # The same of texts of 256 n + `rest` bytes for every n: so each byte of the length is one of n, or known. The halves of a counter block
     # are words of unknown value.
     def ccm_counters(self, nonce):
-        """Cipher of the counter block of any block of text."""
+        """Cipher of the counter block of any block of text. (A text has fewer blocks than bytes, so the number never fills its bytes.)"""
         d, size = self.domain, 15 - len(nonce)
         low = nonce[7:] + [d.fresh("counter byte %d" % i, PUBLIC, True) for i in range(16 - size, 16)]
         d.words["CCM high, %d" % size] = lambda offset, k: d.bits(([size - 1] + nonce[:7])[7 - k]) if offset == 0 else None

@@ -19,7 +19,7 @@ import siv
 import uncovered
 from bits import Domain, Unproved
 from calls import STACK
-from linking import BUILDS, HERE, MACHINES, Built, built_cases, choice_cases, library_of, program_of, rust_cases, suffix_of, takes_few, text_of
+from linking import BUILDS, HERE, MACHINES, Built, built_cases, choice_cases, is_windows, library_of, program_of, rust_cases, suffix_of, takes_few, text_of
 from machine import Program, lanes
 from native import compare_all
 from processors import MEANINGS, PROCESSORS
@@ -34,10 +34,11 @@ SEED = 1
 
 # Which statements, and of which lengths: all; or those that reach each path and its ends, of which keys of 24 and 32 bytes take a few.
 # README has the table. Each of these gives the names of statements, and their arguments. Keys of 24 bytes take only these names by default:
-OF_24 = ("any_blocks", "add_keystream", "cbc_decrypt", "any_cbc_encrypt", "wrap", "unwrap", "cmac", "ccm_seal", "ccm_open", "seal", "open",
+OF_24 = ("any_blocks", "add_keystream", "cbc_decrypt", "any_cbc_encrypt", "wrap", "unwrap", "any_cmac", "ccm_seal", "ccm_open", "seal", "open",
          "wipe", "wipe_message", "set_key_of", "set_key_of_none", "set_key_refused", "key_length", "key_length_of_none", "version")
 # What takes longest, and what keys of 16 bytes show: builds that take few lengths, and keys of 32 bytes, don't take these by default.
 LONG_CASES = "any_seal", "any_open", "unwrap_padded_refused"
+OF_RISCV = "blocks", "wipe", "set_key_refused", "key_length", "key_length_of_none", "version"  # with keys of 24 and 32 bytes
 LONG = [(0, 16 * n) for n in range(1, 65)] + [(n, 0) for n in range(1, 100, 9)]
 
 
@@ -62,12 +63,13 @@ def aes_cases(choose):
     yield "add_keystream", [(3, n, aes.NEVER, "_with") for n in choose(range(0, 1025, 21), (33,))]
     # A batch of four blocks: a carry before each of its blocks, and before the one behind it.
     yield "add_keystream", [(16, 64, wrap) for wrap in choose(range(1, 6), (1,), range(2, 6))]
-    # Positions, and numbers of blocks, that don't fit into 32 bits.
-    far = [(2 ** 32 - 20, 40), (2 ** 36, 64)]
+    # Positions, and numbers of blocks, that don't fit into 32 bits; and one that would be below 0 if it had a sign.
+    far = [(2 ** 32 - 20, 40), (2 ** 63 + 2 ** 36, 64)]
     yield "add_keystream", choose(far, (), far)
     # Of every length, by its remainder.
-    for way, few, more in ("", (7,), [rest for rest in range(16) if rest != 7]), ("_to", (7,), (0, 1, 2, 14)), ("_with", (1,), ()):
-        yield "any_blocks", [(direction, rest, way) for direction in ways for rest in choose(range(16), few, more)]
+    others = [rest for rest in range(16) if rest != 7]
+    for way, few, more, of_first in ("", (7,), others, ()), ("_to", (7,), (), (0, 1, 2, 14)), ("_with", (1,), (), ()):
+        yield "any_blocks", [(direction, rest, way) for direction in ways for rest in choose(range(16), few, more, of_first)]
     yield "any_cbc_encrypt", [()]
     yield "any_cbc_decrypt", choose(range(64), (), (9,))
     # And at every position, with a carry anywhere: by the place in a block, and by the remainder.
@@ -80,9 +82,9 @@ def aes_cases(choose):
     yield "unwrap", choose(range(3, 14), (3,), (9,))
     yield "wrap_padded", choose(range(1, 58), (9,), (1, 8))
     yield "unwrap_padded", choose(range(1, 58), (9,), (1, 8, 57))
-    yield "unwrap_padded_refused", choose([(n, 1) for n in range(1, 4)], [(1, 8)], [(2, 16)])
-    yield "any_cmac", choose(range(1, 17), (1,), (12, 15, 16))
-    yield "any_cmac_verify", choose([(4, n) for n in modes.CMAC_TAGS], [(1, 16)], [(1, 11)])
+    yield "unwrap_padded_refused", choose([(n, 1) for n in range(1, 4)], [(1, 8)], (), [(2, 16)])
+    yield "any_cmac", choose(range(1, 17), (1,), (16,), (12, 15))
+    yield "any_cmac_verify", choose([(4, n) for n in modes.CMAC_TAGS], [(1, 16)], (), [(1, 11)])
     yield "cmac", choose(range(100), (), (0, 1, 16))
     yield "cmac_verify", choose([(20, n) for n in modes.CMAC_TAGS], (), [(0, 4)])
     # The lengths of nonce, additional data, text and tag.
@@ -102,8 +104,10 @@ def gcm_cases(choose):
     yield "wipe_message", [()]
     # Of every length, by what is left of additional data of 48 a bytes and of a text of 768 n.
     every = [(0, 0), (0, 129), (1, 16), (16, 225), (33, 48), (47, 767)]
-    yield "any_seal", choose([(13, 33), *every, (13, 33, "_to")], [(13, 33)], [(0, 129)])
+    yield "any_seal", choose([(13, 33), *every, (13, 33, "_to")], [(13, 33)], (), [(0, 129)])
     yield "any_open", choose([(13, 33), *every], [(13, 33)])
+    for call in "any_additional", "any_verify":
+        yield call, choose([(3, 46), (1, 15), (9, 23), (15, 48)], (), [(3, 46)])
     yield "seal", choose([(13, 33), (40, 20), (0, 129), *more, *LONG], [(13, 33)], more)
     yield "open", choose([(0, 0), (13, 33), (40, 129)], [(13, 33)], [(0, 0)])
     yield "seal", choose([(0, 0, (), "_to"), (13, 33, (), "_to"), (1, 129, (), "_to")], [(13, 33, (), "_to")], [(0, 0, (), "_to")])
@@ -182,7 +186,8 @@ LIBRARIES = {"aes": (modes.KeyedAes, aes_cases), "gcm": (gcm.KeyedGcm, gcm_cases
 def statements(keyed, options, part, parts):
     """(what, Call) of this part of all; set_key was proved before."""
     few = not options.all and (keyed.program.few or keyed.key_size > 16)
-    takes = lambda name: not few or name not in LONG_CASES and (keyed.key_size != 24 or name in OF_24)
+    named = OF_RISCV if few and keyed.program.machine.relaxed else OF_24 if keyed.key_size == 24 else None
+    takes = lambda name: not few or name not in LONG_CASES and (not named or name in named)
     first = not few and keyed.program.machine is X86_64 and keyed.program.suffix != "_v3"
     choose = lambda all_, few_, more=(), of_first=(): all_ if options.all else few_ if few else [*few_, *more, *(of_first if first else ())]
     cases, number, machine = LIBRARIES[keyed.library][1], itertools.count(), keyed.program.machine
@@ -235,7 +240,7 @@ def version(dist, library):
 
 # Calls that also run on the processor, by default and with all lengths.
 BESIDE = "blocks encrypt 17", "add_keystream 21 11 1", "seal 13 33"
-OF_FEW_BESIDE = "add_keystream 0 33", "seal 13 33"
+OF_FEW_BESIDE = "add_keystream 0 33", "seal 13 33"  # (not of narrow ones for Windows)
 ON_RISCV = "blocks encrypt 1", "add_keystream 21 11 1"
 ALL_BESIDE = *BESIDE, "set_key", "add_keystream 0 130", "unwrap 3", "seal 1 1", "open 0 0", "open 1 1"
 
@@ -282,7 +287,7 @@ class Task:
             left = ", ".join("%d %s in %s" % (len(v), kind, place) for (place, kind), v in sorted(m.left.items()))
             text = "%d instructions, %d bytes of stack; left: %s" % (m.steps, m.top - m.lowest, left or "nothing")
             beside = ON_RISCV if self.machine.relaxed else ALL_BESIDE if self.options.all else () if self.library == "siv" else (
-                OF_FEW_BESIDE if takes_few(self.build) else BESIDE)
+                BESIDE if not takes_few(self.build) else () if is_windows(self.build) and suffix_of(self.build) == "_v1" else OF_FEW_BESIDE)
             if self.key_size == self.options.keys[0] and what in beside and not PROCESSORS[self.machine].missing():
                 self.compared |= set(prove(SEED).used)
             self.proved += 1

@@ -28,7 +28,7 @@ class X86_64(Machine):
     arguments, result, pushed = "rdi rsi rdx rcx r8 r9".split(), "rax", (RETURN_ADDRESS,)
     kept = "rbx rsp rbp r12 r13 r14 r15".split()
     scratch = "rcx rdx rsi rdi r8 r9 r10 r11".split()
-    red_zone = 128
+    red_zone, mark = 128, "endbr64"
     conditional, padding = "j(?!mp)|adc|sbb", r"(data16 |cs )*nop|xchg +ax,ax"
 
     def leave(self):
@@ -57,7 +57,7 @@ class Windows(X86_64):
     arguments, shadow = "rcx rdx r8 r9".split(), 32
     kept, kept_vectors = "rbx rsp rbp rsi rdi r12 r13 r14 r15".split(), dict.fromkeys(range(6, 16), 16)
     scratch = "rcx rdx r8 r9 r10 r11".split()
-    red_zone, also_called = 0, ("___chkstk_ms",)
+    red_zone, mark, also_called = 0, "", ("___chkstk_ms",)
 
 
 def operand(text, name, following):

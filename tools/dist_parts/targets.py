@@ -97,8 +97,8 @@ MADE_OF = {
         Target("wasm32", "wasm32-unknown-unknown", ("-Os", "-mcpu=mvp", *SECTIONS), "_narrow", bits=32),
     ),
     "_w64": (Target("riscv64", "riscv64-unknown-linux-gnu", ("-march=rv64gc", "-mabi=lp64d", "-fPIC", *SECTIONS), "_narrow"),),
-    # of GCM, in the place of what is made of _v1: its products of words take the same time on this processor, whatever the words are
-    "_products": (ARM,),
+    # Of GCM, in the place of what is made of _v1: on these processors the lower half of a product of two words always takes the same time.
+    "_products": (ARM, CORTEX_M3, CORTEX_M3.small()),
 }
 
 

@@ -11,9 +11,10 @@ use aes_cipher::cipher::Block;
 use aes_cipher::zeroize::wipe_stack;
 use cmac::{is_tag_start, tag};
 
-// The most bytes of stack of a call that makes a tag. Subkeys are left there, and the
-// right tag of a message that is refused.
-const TAG_STACK: usize = 512;
+// The most bytes of stack of a call that makes a tag. Subkeys are left there, values of the chain,
+// and the right tag of a message that is refused. With vectors whose length isn't known when code is
+// compiled, as on RISC-V, frames take more than the 512 bytes that are enough elsewhere.
+const TAG_STACK: usize = 768;
 
 // How many bytes a tag has at least, and at most.
 const SHORTEST: usize = 4;

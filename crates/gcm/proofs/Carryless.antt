@@ -1,19 +1,19 @@
 -- Products of numbers without carries: they keep sums, split into products of parts, and are
 -- products of blocks before the reduction.
 use Rattle.std.proofs.Common.{◌≡◌, ℕ, zero, suc, ◌+◌, ◌-◌, ◌*◌, ◌/◌, ◌%◌, ◌^◌, ◌<◌, ◌==◌}
-use Rattle.std.proofs.Common.{if◌then◌else◌, Bool, true, false, bit_xor, refl, ap, sym, ◌∙◌, arith}
-use Rattle.std.proofs.lemmas.Nat.{xor_comm, xor_shr, xor_mod, xor_block, xor_lt, shr-shr, pow_pos}
+use Rattle.std.proofs.Common.{if◌then◌else◌, Bool, true, false, bit_xor, refl, ap, sym, ◌∙◌, arith, subst}
+use Rattle.std.proofs.lemmas.Nat.{xor_comm, xor_shr, xor_mod, xor_block, xor_lt, shr_below, shr-shr, pow_pos}
 use Rattle.std.proofs.lemmas.Bool.{eqb-true}
 use Rattle.std.proofs.Math.Nat.{pow-suc}
 use Rattle.std.specs.Int.Bits.{xor_assoc, xor_self, xor_zero_l, xor_zero_r}
-use Rattle.aes_planes.proofs.Bits.ByteCases.{all_below, all_below_tells}
+use Rattle.aes_planes.proofs.Bits.ByteCases.{all_below, all_below_tells, by_two}
 use Rattle.gcm.specs.Gcm.{bit_of, next_v, v_at, product}
 use Rattle.gcm.specs.Carryless.{carryless}
 use Rattle.gcm.specs.Multiples.{sum_of, folded}
 use Rattle.gcm.proofs.Linear.{exchanged, sum-agree, term, term_adds, term_keeps, term_through}
 use Rattle.gcm.proofs.Linear.{term_zero}
-use Rattle.gcm.proofs.Linear.{product_terms, sum-through, v_add, v_below, v_keeps, v_shifted, v_zero}
-use Rattle.gcm.proofs.Powers.{by_one, product_below}
+use Rattle.gcm.proofs.Linear.{product_terms, v_add, v_below, v_keeps, v_shifted, v_zero}
+use Rattle.gcm.proofs.Powers.{product_below}
 use Rattle.gcm.proofs.Reduction.{folded_keeps}
 
 -- ---- numbers that are shifted
@@ -247,39 +247,45 @@ spread_keeps a b =
     ∙ exchanged (bit_xor (bit_xor a (p 127 a)) (p 126 a)) (bit_xor (bit_xor b (p 127 b)) (p 126 b))
     (p 121 a) (p 121 b)
 
--- two functions that keep sums, and agree on each power of x, agree on each block
-same_linear : (f g : ℕ → ℕ) → f 0 ≡ 0 → g 0 ≡ 0
+-- two functions that keep sums, and agree on each number that has one bit of n, agree on each of n
+-- bits
+pub same_linear : (f g : ℕ → ℕ) → f 0 ≡ g 0
     → ((a b : ℕ) → f (bit_xor a b) ≡ bit_xor (f a) (f b))
     → ((a b : ℕ) → g (bit_xor a b) ≡ bit_xor (g a) (g b))
-    → ((i : ℕ) → i < 128 → f (v_at (2 ^ 127) i) ≡ g (v_at (2 ^ 127) i))
-    → (x : ℕ) → x < 2 ^ 128 → f x ≡ g x
-unfolding product term
-same_linear f g f_zero g_zero f_keeps g_keeps agree x small =
-    let u = λ (i : ℕ). term (bit_of x i) (v_at (2 ^ 127) i) in
-    let parts : x ≡ sum_of 128 u = sym (by_one x small) ∙ product_terms x (2 ^ 127) 128 in
-    ap f parts ∙ sum-through f f_zero f_keeps 128 u
-    ∙ sum-agree 128 (λ i. f (u i)) (λ i. g (u i))
-    (λ i l. by_test (bit_of x i == 0) (v_at (2 ^ 127) i) (agree i l))
-    ∙ sym (ap g parts ∙ sum-through g g_zero g_keeps 128 u)
-  where
-    by_test : (t : Bool) (y : ℕ) → f y ≡ g y → f (if t then 0 else y) ≡ g (if t then 0 else y)
-    by_test true y same = f_zero ∙ sym g_zero
-    by_test false y same = same
+    → (n : ℕ) → ((i : ℕ) → i < n → f (2 ^ i) ≡ g (2 ^ i)) → (x : ℕ) → x < 2 ^ n → f x ≡ g x
+same_linear f g none f_keeps g_keeps zero agree x small =
+    let is : x ≡ 0 = omega (arith, small) in
+    ap f is ∙ none ∙ ap g (sym is)
+same_linear f g none f_keeps g_keeps (suc n) agree x small =
+    let b : ℕ = x / 2 ^ n in
+    let r : ℕ = x % 2 ^ n in
+    let r_small : r < 2 ^ n = omega (arith, pow_pos n) in
+    let one_more : suc n ≡ 1 + n = omega arith in
+    let b_small : b < 2 = shr_below x 1 n (subst (λ k. x < 2 ^ k) one_more small) in
+    let parts : x ≡ bit_xor (b * 2 ^ n) r = sym (joined n b r r_small ∙ omega (arith, pow_pos n)) in
+    let no_bit : 0 * 2 ^ n ≡ 0 = omega arith in
+    let one_bit : 1 * 2 ^ n ≡ 2 ^ n = omega arith in
+    let upper : f (b * 2 ^ n) ≡ g (b * 2 ^ n) =
+    by_two (λ b. f (b * 2 ^ n) ≡ g (b * 2 ^ n)) (ap f no_bit ∙ none ∙ ap g (sym no_bit))
+    (ap f one_bit ∙ agree n (omega arith) ∙ ap g (sym one_bit)) b b_small in
+    let lower : f r ≡ g r =
+    same_linear f g none f_keeps g_keeps n (λ i l. agree i (omega (arith, l))) r r_small in
+    ap f parts ∙ f_keeps (b * 2 ^ n) r ∙ (λ t. bit_xor (upper t) (lower t))
+    ∙ sym (ap g parts ∙ g_keeps (b * 2 ^ n) r)
 
--- each power of x, times x^128, is folded in
-power_test : all_below 128 (λ i. v_at (v_at (2 ^ 127) i) 128 == folded (spread (v_at (2 ^ 127) i)))
-    ≡ true
+-- each bit, times x^128, is folded in
+bit_test : all_below 128 (λ i. v_at (2 ^ i) 128 == folded (spread (2 ^ i))) ≡ true
 unfolding all_below v_at next_v folded spread
-power_test = refl
+bit_test = refl
 
 -- any block times x^128
 folded_in : (f : ℕ) → f < 2 ^ 128 → v_at f 128 ≡ folded (spread f)
 unfolding folded spread
 folded_in =
-    same_linear (λ f. v_at f 128) (λ f. folded (spread f)) (v_zero 128) refl (v_keeps 128)
-    (λ a b. ap folded (spread_keeps a b) ∙ folded_keeps (spread a) (spread b))
+    same_linear (λ f. v_at f 128) (λ f. folded (spread f)) (v_zero 128) (v_keeps 128)
+    (λ a b. ap folded (spread_keeps a b) ∙ folded_keeps (spread a) (spread b)) 128
     (λ i l. eqb-true _ _ (all_below_tells 128
-    (λ i. v_at (v_at (2 ^ 127) i) 128 == folded (spread (v_at (2 ^ 127) i))) power_test i l))
+    (λ i. v_at (2 ^ i) 128 == folded (spread (2 ^ i))) bit_test i l))
 
 -- the product of two blocks by that of their numbers
 pub reduced_product : (x h high low : ℕ) → high * 2 ^ 128 + low ≡ carryless 128 x h → h < 2 ^ 128

@@ -5,7 +5,7 @@ use Rattle.std.proofs.Common.{bit_and, bit_xor, min, refl, ap, sym, ◌∙◌, s
 use Rattle.std.proofs.Common.{arith, inl, inr}
 use Rattle.std.proofs.lemmas.Bool.{cases_lt}
 use Rattle.std.proofs.lemmas.Nat.{xor_comm, and_block, and_comm, and_le_r, and_mask, pow_pos, mul-lt}
-use Rattle.std.proofs.lemmas.Nat.{pow-add, shl-shr, shr_high}
+use Rattle.std.proofs.lemmas.Nat.{pow-add, shl-shr, shr_high, and_mod, xor_mod}
 use Rattle.std.proofs.lemmas.Nat.Bits.{bit_at-lt, bit_at_and, bit_at_xor, same_from_bits}
 use Rattle.std.specs.Int.Bits.{xor_zero_l, xor_zero_r}
 use Rattle.aes_planes.proofs.Bits.ByteCases.{by_two, by_four, by_pairs}
@@ -407,17 +407,43 @@ products_sum x y hx hy =
     (every_fourth x))
     ∙ ap (λ z. carryless 32 z y) (fourths_sum x hx)
 
+-- the same of their lower halves
+unfoldable pub lower_at : ℕ → ℕ → ℕ → ℕ
+unfolding sum_of
+lower_at x y t =
+    sum_of 4 (λ r. every_fourth x r * every_fourth y ((t + 4 - r) % 4) % 2 ^ 32)
+
+-- a mask's lower half
+mask_halved : (t : ℕ) → t < 4 → holes 16 * 2 ^ t % 2 ^ 32 ≡ holes 8 * 2 ^ t
+unfolding holes
+mask_halved = by_four (λ t. holes 16 * 2 ^ t % 2 ^ 32 ≡ holes 8 * 2 ^ t) refl refl refl refl
+
+-- sixteen lower halves, each under its mask, are that of the product without carries
+pub lower_sum : (x y : ℕ) → x < 2 ^ 32 → y < 2 ^ 32
+    → sum_of 4 (λ t. bit_and (lower_at x y t) (holes 8 * 2 ^ t)) ≡ carryless 32 x y % 2 ^ 32
+unfolding lower_at products_at
+lower_sum x y hx hy =
+    let halved = λ (a b : ℕ). xor_mod a b 32 in
+    let at = λ (t r : ℕ). every_fourth x r * every_fourth y ((t + 4 - r) % 4) in
+    sym (ap (λ z. z % 2 ^ 32) (sym (products_sum x y hx hy))
+    ∙ sum-through (λ z. z % 2 ^ 32) refl halved 4
+    (λ t. bit_and (products_at x y t) (holes 16 * 2 ^ t))
+    ∙ sum-agree 4 (λ t. bit_and (products_at x y t) (holes 16 * 2 ^ t) % 2 ^ 32)
+    (λ t. bit_and (lower_at x y t) (holes 8 * 2 ^ t))
+    (λ t ht. and_mod (products_at x y t) (holes 16 * 2 ^ t) 32
+    ∙ (λ u. bit_and (sum-through (λ z. z % 2 ^ 32) refl halved 4 (at t) u) (mask_halved t ht u))))
+
 -- four terms as a sum
 pub four : (a b c d : ℕ) → bit_xor (bit_xor (bit_xor a b) c) d
     ≡ bit_xor (bit_xor (bit_xor (bit_xor 0 a) b) c) d
 four a b c d = ap (λ z. bit_xor (bit_xor (bit_xor z b) c) d) (sym (xor_zero_l a))
 
--- the four products of which the bits are at t, t + 4, ..
-pub class : (x y t a b c d : ℕ) → a ≡ every_fourth x 0 * every_fourth y ((t + 4 - 0) % 4)
-    → b ≡ every_fourth x 1 * every_fourth y ((t + 4 - 1) % 4)
-    → c ≡ every_fourth x 2 * every_fourth y ((t + 4 - 2) % 4)
-    → d ≡ every_fourth x 3 * every_fourth y ((t + 4 - 3) % 4)
-    → bit_xor (bit_xor (bit_xor a b) c) d ≡ products_at x y t
-unfolding products_at sum_of
+-- the lower halves of the four products of which the bits are at t, t + 4, ..
+pub class : (x y t a b c d : ℕ) → a ≡ every_fourth x 0 * every_fourth y ((t + 4 - 0) % 4) % 2 ^ 32
+    → b ≡ every_fourth x 1 * every_fourth y ((t + 4 - 1) % 4) % 2 ^ 32
+    → c ≡ every_fourth x 2 * every_fourth y ((t + 4 - 2) % 4) % 2 ^ 32
+    → d ≡ every_fourth x 3 * every_fourth y ((t + 4 - 3) % 4) % 2 ^ 32
+    → bit_xor (bit_xor (bit_xor a b) c) d ≡ lower_at x y t
+unfolding lower_at sum_of
 class x y t a b c d a_is b_is c_is d_is =
     four a b c d ∙ (λ u. bit_xor (bit_xor (bit_xor (bit_xor 0 (a_is u)) (b_is u)) (c_is u)) (d_is u))

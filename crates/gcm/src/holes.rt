@@ -1,52 +1,48 @@
-//! Products with a block H by products of numbers with gaps between their bits: for processors
-//! without a byte shuffle on which every product of two words takes the same time. There is no
-//! table, no branch and no address that depends on a secret.
+//! Products with a block H by products of numbers with holes between their bits: for processors
+//! without a byte shuffle on which the lower half of a product of two words always takes the same
+//! time. There is no table, no branch and no address that depends on a secret.
 
-ghost use Rattle.std.specs.Prelude.{◌≡◌, ◌*◌, ◌+◌, ◌^◌};
+ghost use Rattle.std.specs.Prelude.{◌≡◌, ◌*◌, ◌+◌, ◌%◌, ◌^◌};
 ghost use Rattle.gcm.specs.Gcm.{product};
 ghost use Rattle.gcm.specs.Carryless.{carryless};
 
 use crate::alone::Multiplier;
 
 // Every fourth bit of a word, from bit 0, 1, 2 or 3 on.
-const GAPPED_0: u32 = 0x1111_1111;
+const HOLES_0: u32 = 0x1111_1111;
 
-const GAPPED_1: u32 = 0x2222_2222;
+const HOLES_1: u32 = 0x2222_2222;
 
-const GAPPED_2: u32 = 0x4444_4444;
+const HOLES_2: u32 = 0x4444_4444;
 
-const GAPPED_3: u32 = 0x8888_8888;
+const HOLES_3: u32 = 0x8888_8888;
 
-// The same of a product.
-const WIDE_0: u64 = 0x1111_1111_1111_1111;
-
-const WIDE_1: u64 = 0x2222_2222_2222_2222;
-
-const WIDE_2: u64 = 0x4444_4444_4444_4444;
-
-const WIDE_3: u64 = 0x8888_8888_8888_8888;
-
-// The product of two words, with carries.
+// The lower half of the product of two words without carries. Of every fourth bit at most eight are
+// summed to a place of a product, so no carry comes as far as the next place, four bits on.
 #[inline(always)]
-fn whole(x: u32, y: u32) -> u64
-    ensures { result ≡ x * y }
+fn lower_product(x: u32, y: u32) -> u32
+    ensures { result ≡ carryless 32 x y % 2 ^ 32 }
 {
-    x as u64 * y as u64
+    let (x0, x1, x2, x3) = (x & HOLES_0, x & HOLES_1, x & HOLES_2, x & HOLES_3);
+    let (y0, y1, y2, y3) = (y & HOLES_0, y & HOLES_1, y & HOLES_2, y & HOLES_3);
+    let z0 = x0.wrapping_mul(y0) ^ x1.wrapping_mul(y3) ^ x2.wrapping_mul(y2) ^ x3.wrapping_mul(y1);
+    let z1 = x0.wrapping_mul(y1) ^ x1.wrapping_mul(y0) ^ x2.wrapping_mul(y3) ^ x3.wrapping_mul(y2);
+    let z2 = x0.wrapping_mul(y2) ^ x1.wrapping_mul(y1) ^ x2.wrapping_mul(y0) ^ x3.wrapping_mul(y3);
+    let z3 = x0.wrapping_mul(y3) ^ x1.wrapping_mul(y2) ^ x2.wrapping_mul(y1) ^ x3.wrapping_mul(y0);
+    z0 & HOLES_0 ^ z1 & HOLES_1 ^ z2 & HOLES_2 ^ z3 & HOLES_3
 }
 
-// The product of two words without carries. Of every fourth bit at most eight are summed to a
-// place of a product, so no carry comes as far as the next place, four bits on.
+// The product of two words without carries. Sums without carries are the same from either end of the
+// words: the product of the words with their bits reversed is the product with its 63 bits reversed.
+// So the upper half comes from the lower half of that.
 #[inline(never)]
 fn product_of_words(x: u32, y: u32) -> u64
     ensures { result ≡ carryless 32 x y }
 {
-    let (x0, x1, x2, x3) = (x & GAPPED_0, x & GAPPED_1, x & GAPPED_2, x & GAPPED_3);
-    let (y0, y1, y2, y3) = (y & GAPPED_0, y & GAPPED_1, y & GAPPED_2, y & GAPPED_3);
-    let z0 = whole(x0, y0) ^ whole(x1, y3) ^ whole(x2, y2) ^ whole(x3, y1);
-    let z1 = whole(x0, y1) ^ whole(x1, y0) ^ whole(x2, y3) ^ whole(x3, y2);
-    let z2 = whole(x0, y2) ^ whole(x1, y1) ^ whole(x2, y0) ^ whole(x3, y3);
-    let z3 = whole(x0, y3) ^ whole(x1, y2) ^ whole(x2, y1) ^ whole(x3, y0);
-    z0 & WIDE_0 ^ z1 & WIDE_1 ^ z2 & WIDE_2 ^ z3 & WIDE_3
+    let lower = lower_product(x, y);
+    let mirrored = lower_product(x.reverse_bits(), y.reverse_bits());
+    let upper = mirrored.reverse_bits() >> 1;
+    (upper as u64) << 32 ^ lower as u64
 }
 
 // The product of two numbers of 64 bits without carries, by three products of halves.

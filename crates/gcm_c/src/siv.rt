@@ -13,11 +13,12 @@ use crate::form::{KeptKey, LongRoom, ShortRoom, cipher_of};
 use crate::siv_kept::{Siv, is_siv_key};
 use crate::status::{DONE, NO_KEY, REFUSED, TOO_LONG};
 use aes_cipher::cipher::Block;
-use aes_cipher::zeroize::MustWipe;
-use gcm_siv::{
-    KeyRoom, LONGEST, PolyvalRoom, are_few, derive, open, put_authentication, seal,
-    wipe_message_stack,
-};
+use aes_cipher::zeroize::{MustWipe, wipe_stack};
+use gcm_siv::{KeyRoom, LONGEST, PolyvalRoom, are_few, derive, open, put_authentication, seal};
+
+// The most bytes of stack below the room for a message's keys: derived keys, values of POLYVAL, the
+// right tag of a refused message and blocks of the keystream may be there.
+const MESSAGE_STACK: usize = 2816;
 
 /// Returns the status that refuses these lengths or this struct, or `DONE`.
 pub(crate) fn siv_refusal(siv: &Siv, additional: usize, text: usize) -> u32
@@ -51,7 +52,9 @@ fn set_derived(keys: &KeyRoom, size: usize, kept: &mut KeptKey)
     }
 }
 
-// Writes the round keys of a message, and the multiples of its authentication key times x^-1.
+// Writes the round keys of a message, and the multiples of its authentication key times x^-1. In a
+// call of its own, so that its stack can be wiped.
+#[inline(never)]
 fn prepare<R: PolyvalRoom>(siv: &Siv, nonce: &[u8; 12], kept: &mut KeptKey, room: &mut R)
     requires made { IsSivMade siv.now }
     requires key { HoldsSivKey siv.now }
@@ -73,7 +76,8 @@ fn prepare<R: PolyvalRoom>(siv: &Siv, nonce: &[u8; 12], kept: &mut KeptKey, room
 }
 
 // Encrypts a text in place and returns the tag, with room for POLYVAL of this type. Never inlined,
-// so that a short message has a small stack frame.
+// so that a short message has a small stack frame. Room is wiped in place, and so is what calls left
+// below it: above it, how deep that is would depend on the room that a build has.
 #[inline(never)]
 fn seal_in<R: PolyvalRoom>(siv: &Siv, nonce: &[u8; 12], additional: &[u8], text: &mut [u8]) -> Block
     requires made { IsSivMade siv.now }
@@ -95,12 +99,11 @@ fn seal_in<R: PolyvalRoom>(siv: &Siv, nonce: &[u8; 12], additional: &[u8], text:
     );
     kept.wipe();
     room.wipe();
+    wipe_stack::<MESSAGE_STACK>();
     tag
 }
 
-// Encrypts a text in place and returns the tag, with the room that takes less time. In a call of
-// its own, so that its stack can be wiped.
-#[inline(never)]
+// Encrypts a text in place and returns the tag, with the room that takes less time.
 fn seal_message(siv: &Siv, nonce: &[u8; 12], additional: &[u8], text: &mut [u8]) -> Block
     requires made { IsSivMade siv.now }
     requires key { HoldsSivKey siv.now }
@@ -149,12 +152,11 @@ fn open_in<R: PolyvalRoom>(
     );
     kept.wipe();
     room.wipe();
+    wipe_stack::<MESSAGE_STACK>();
     is_right
 }
 
-// Decrypts a text in place if the tag is right, with the room that takes less time. In a call of
-// its own, so that its stack can be wiped.
-#[inline(never)]
+// Decrypts a text in place if the tag is right, with the room that takes less time.
 fn open_message(
     siv: &Siv,
     nonce: &[u8; 12],
@@ -206,7 +208,6 @@ pub extern "C" fn fotsgure_gcm_siv_seal(
         return status;
     }
     *tag = seal_message(siv, nonce, additional, text);
-    wipe_message_stack();
     DONE
 }
 
@@ -238,6 +239,5 @@ pub extern "C" fn fotsgure_gcm_siv_open(
         return status;
     }
     let is_right = open_message(siv, nonce, additional, text, tag);
-    wipe_message_stack();
     if is_right { DONE } else { REFUSED }
 }

@@ -11,7 +11,7 @@ use aes_cipher::blocks::{block_of_halves, block_of_number, number_of_block};
 use aes_cipher::cipher::Block;
 use aes_cipher::zeroize::Zeroize;
 use gcm::{
-    ByteOrder, Multiplier, Multiples, Room, SubkeyRoom, Table, TableRoom, WithHoles, WithMasks,
+    ByteOrder, Multiples, Multiplier, Room, SubkeyRoom, Table, TableRoom, WithHoles, WithMasks,
     WordsRoom, hash_singly, hash_string, hash_string_and, hash_string_by, number_of_words,
     put_multiples, put_one_table, sum, words_of,
 };

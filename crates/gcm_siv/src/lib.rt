@@ -17,5 +17,5 @@ pub use hash::PolyvalRoom;
 pub use keys::{KeyRoom, derive, put_authentication};
 pub use laws::text_twice;
 pub use lengths::{LONGEST, are_few};
-pub use message::{open, seal, wipe_message_stack};
+pub use message::{open, seal};
 pub use mode::GcmSiv;

@@ -89,7 +89,9 @@ fn apply<C: BlockCipherEncrypt>(cipher: &C, tag: &Block, text: &mut [u8])
     add_keystream(cipher, &first_counter(tag), text);
 }
 
-/// Encrypts a text in place, and returns the tag.
+/// Encrypts a text in place, and returns the tag. In a call of its own, as `open`, so that its stack
+/// can be wiped.
+#[inline(never)]
 pub fn seal<C: BlockCipherEncrypt, R: PolyvalRoom>(
     cipher: &C,
     room: &R,
@@ -112,6 +114,7 @@ pub fn seal<C: BlockCipherEncrypt, R: PolyvalRoom>(
 
 /// Decrypts a text in place if its tag is right, and returns whether it is. A text that is refused
 /// is encrypted again, so that it is as it came.
+#[inline(never)]
 pub fn open<C: BlockCipherEncrypt, R: PolyvalRoom>(
     cipher: &C,
     room: &R,
@@ -144,6 +147,6 @@ const MESSAGE_STACK: usize = 4352;
 /// Wipes the stack that a message used, in a call from the same function: its keys, values of
 /// POLYVAL, the right tag of a refused message and blocks of the keystream may be there.
 #[inline(always)]
-pub fn wipe_message_stack() {
+pub(crate) fn wipe_message_stack() {
     wipe_stack::<MESSAGE_STACK>();
 }
