@@ -29,16 +29,17 @@ pub fn blocks_equal(a: &Block, b: &Block) -> bool
 }
 
 // What differs between two blocks, all bytes put together in one. A call that is never inlined: a
-// compiler that saw the sum and a branch on whether it is 0 could make a branch for each byte.
+// compiler that saw the sum and a branch on whether it is 0 could make a branch for each byte. It
+// returns a word, since a byte leaves the rest of its register as it was, with more of what differs.
 #[inline(never)]
-fn difference(a: &Block, b: &Block) -> u8
+fn difference(a: &Block, b: &Block) -> u32
     ensures { (result ≡ 0) ↔ (a.now ≡ b.now) }
 {
     let mut difference = 0u8;
     for i in 0..16 {
         difference |= a[i] ^ b[i];
     }
-    difference
+    difference as u32
 }
 
 /// Returns the number as a block, its highest byte first.
