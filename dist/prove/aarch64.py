@@ -16,7 +16,7 @@ X = ["x%d" % n for n in range(31)]
 REGISTERS = {n: Register(n, 8) for n in X + ["sp", "xzr"]}
 REGISTERS.update({"w" + n[1:]: Register(n, 4) for n in X + ["xzr"]})
 CONDITIONS = "eq ne cs cc mi pl vs vc hi ls ge lt gt le".split()  # the second of two is the contrary of the first
-WITH_TARGET = "b", "bl", "cbz", "cbnz", "tbz", "adrp"
+WITH_TARGET = "b", "bl", "cbz", "cbnz", "tbz", "tbnz", "adrp"
 
 
 class Aarch64(Machine):
@@ -141,6 +141,7 @@ TABLE = Table({
     "cbz": lambda m, name, a, to: m.go_to(to if is_zero(m, a) else m.next_address),
     "cbnz": lambda m, name, a, to: m.go_to(m.next_address if is_zero(m, a) else to),
     "tbz": lambda m, name, a, n, to: m.go_to(m.next_address if is_set(m, a, n) else to),
+    "tbnz": lambda m, name, a, n, to: m.go_to(to if is_set(m, a, n) else m.next_address),
     "movz": lambda m, name, to, value: m.put(to, m.get(value)),
     "movn": lambda m, name, to, value: m.put(to, ~m.get(value) & (1 << 8 * to.size) - 1),
     "adrp": lambda m, name, to, page: m.put(to, page),

@@ -174,7 +174,7 @@ class KeyedGcm(Keyed):
             b = d.opaque((Pointer("J_0 low", 0), k))
             d.byte_ids[d.bits(b)] = b
         self.any_stream = self.aes.cipher(self.pre_counter + low, self.w)
-        self.low = tuple(low[::-1])
+        self.low = tuple(d.opaque((Pointer("J_0 low", 0), k)) for k in range(4))
 
     def in_text(self, first, end):
         """For a text that ends at this place of the keystream: what a call may ask of J_0."""

@@ -477,7 +477,7 @@ class Machine:
             return r, {"c": self.wraps(old.offset, r.offset)} if known else {}
         fixed, rest = (x, y) if is_int(x) else (y, x)
         if self.is_room(rest, fixed, size) and not carry:
-            return None, {"c": (WRAPS, *self.room)}
+            return tuple(self.any_byte() for _ in range(size)), {"c": (WRAPS, *self.room)}
         try:
             bits, out = self.full_adder(self.bits(x, size), self.bits(y, size), carry)
         except Unproved:  # then nothing is kept of the sum but whether it is 0

@@ -22,7 +22,7 @@ ALIGNED, UNALIGNED = ("movdqa", "movaps", "vmovdqa", "vmovaps"), ("movdqu", "mov
 class X86_64(Machine):
     """With the System V ABI, in which the stack is aligned to 16 bytes before the return address is pushed."""
     tools, compiler, linker, objdump = "", ("gcc",), ("ld",), ("-M", "intel")
-    later = "ptest|pshufb|palignr|pblendw|pinsr[bd]|pextrq", "v.*|andn|bzhi|mulx|movbe|shrx"
+    later = "ptest|pshufb|palignr|pblendw|pinsr[bd]|pextr[bq]", "v.*|andn|bzhi|mulx|movbe|shrx"
     registers, stack_pointer = R64, "rsp"
     vector_count, vector_size = 16, 32
     arguments, result, pushed = "rdi rsi rdx rcx r8 r9".split(), "rax", (RETURN_ADDRESS,)
@@ -359,6 +359,7 @@ def broadcast(size):
 TABLE.update({
     "movq": first(8),
     "movd": first(4),
+    "pextrb": lambda m, name, to, a, n: m.write(to, m.read(a)[n & 15:][:1] + [0] * (to.size - 1)),
     "pextrq": lambda m, name, to, a, n: m.write(to, m.read(a)[8 * (n & 1):][:8]),
     "pshufd": in_halves(lambda m, a, n: permuted(a, 4, n)),
     "pshuflw": in_halves(lambda m, a, n: permuted(a[:8], 2, n) + a[8:]),
