@@ -258,8 +258,11 @@ def without(m, x, y):
 @TABLE.of("ubfm", "sbfm", "bfm")
 def bitfield(m, name, to, a, r, s):
     """The bits r to s go down to bit 0 if r <= s, else the bits 0 to s go up to bit size - r."""
-    if isinstance(m.get(a), (Linear, Scaled)) and name == "ubfm" and (s == 63 or s + 1 == r):  # a shift to the right, or to the left
-        return m.put(to, m.shift("lsr", m.get(a), r, 8) if s == 63 else m.shift("lsl", m.get(a), 64 - r, 8))
+    right, number = s == 8 * to.size - 1, isinstance(m.get(a), (Linear, Scaled))
+    if name == "ubfm" and right and (number or r % 8 == 0):  # a shift to the right
+        return m.put(to, m.shift("lsr", m.get(a), r, to.size))
+    if name == "ubfm" and number and s + 1 == r:  # a shift to the left
+        return m.put(to, m.shift("lsl", m.get(a), 64 - r, 8))
     size, b = 8 * to.size, m.bits(m.get(a), to.size)
     field, at = (b[r:s + 1], 0) if r <= s else (b[:s + 1], size - r)
     end = at + len(field)
