@@ -430,8 +430,8 @@ class KeyedGcm(Keyed):
 
     # Pieces of 48 n + `rest` bytes for every n, where 16 u + `filled` bytes came before for every u: the first bytes fill up a block, and
     # fewer than 48 follow the last three blocks that are hashed at once.
-    def any_numbers(self, filled, rest):
-        before, size = unknown("u") * 16 + filled, unknown("n") * 48 + rest
+    def any_numbers(self, filled, rest, step=48):
+        before, size = unknown("u") * 16 + filled, unknown("n") * step + rest
         return before, size, {unknown("u"), unknown("n"), PTRDIFF_MAX - size}
 
     def any_piece_hash(self, m, bytes_, size, filled, whole=None):
@@ -444,8 +444,8 @@ class KeyedGcm(Keyed):
             return value(groups + (left >= 16)), left % 16
         group, full = m.done - 2, self.once("full block", lambda: [self.domain.fresh("full block byte %d" % i, DATA) for i in range(16)])
         if isinstance(group, int) and group < 0:
-            first = "memory", self.of(self.rest, 0)[:filled] + block(0)[filled:], full
-            return self.group_step(self.of(self.hash_value, 0), [full], value(0)) if m.done else first
+            so_far, part = self.before_piece()
+            return self.group_step(so_far, [full], value(0)) if m.done else ("memory", part[:filled] + block(0)[filled:], full)
         if m.is_below(group, groups):
             return self.group_step(value(group), blocks(group), value(group + 1))
         if group == groups and left >= 16:
@@ -456,6 +456,54 @@ class KeyedGcm(Keyed):
         """The pattern of a buffer that begins after so many bytes of a block."""
         return [self.pattern([bytes_[t % 16]], t // 16)[0] for t in range(filled, filled + 16)]
 
+    def message_after(self, m, numbers, which, bytes_, size, filled):
+        """A message of which one number is higher by the size of a piece that GHASH has taken."""
+        value, count = self.any_piece_hash(m, bytes_, size, filled, whole=True)
+        text, end = m.regions["text"], m.known(size) - count
+        rest = [self.domain.opaque((Content("text", end + k, "content %d" % text.turn), 0)) for k in range(count)]
+        if rest != m.regions["message"].content[REST:REST + count]:  # then it was read where the block is known
+            rest = text.initial_at(m, "text", end, count)
+        return self.counts_after(m, numbers, which, size) + value + rest + [None] * (16 - count)
+
+    def counts_after(self, m, numbers, which, size):
+        counts = [m.to_bytes(m.known(n + size if k == which else n), 8) for k, n in enumerate(numbers)]
+        return sum(counts, []) + self.counter_block(self.nonce_of(), 0)
+
+    def any_crypted(self, call, filled, rest):
+        """The keystream of a piece: its pattern, and what the call needs of the counter."""
+        before, size, facts = self.any_numbers(filled, rest, 768)
+        most = MOST - 16 * (BATCH + 2)
+        stream = self.in_places(self.once("any counters", self.any_counters), filled)
+        end = before + size
+        return before, size, stream, dict(keystream=self.of_all(stream), facts=facts | {most - end}, counter=self.any_counter_word(end)._replace(
+            first=unknown("u") + 1))
+
+    def any_encrypt(self, filled, rest):
+        before, size, stream, more = self.any_crypted("encrypt", filled, rest)
+        numbers, text, sealed = (7, before, 0, ENCRYPTING), self.in_places(self.text, filled), self.in_places(self.sealed, filled)
+        texts = Stream("text", size, text, [self.aes.xor(text, stream), sealed], lambda m, number: [0] * 16)
+        steps = lambda m: self.any_piece_hash(m, self.sealed, size, filled) if m.phase else ("whole", "text", (sealed,))
+        return self.on_message("encrypt", self.any_before(numbers), lambda m: self.message_after(m, numbers, 1, self.sealed, size, filled),
+                               [texts, size], steps=steps, plain=self.of_all(text), **more)
+
+    def any_decrypt(self, filled, rest):
+        before, size, stream, more = self.any_crypted("decrypt", filled, rest)
+        numbers, sealed = (7, before + size + unknown("more"), before, DECRYPTING), self.in_places(self.sealed, filled)
+        plain, state = self.aes.xor(sealed, stream), sum(self.before_piece(), [])
+        more["facts"] |= {unknown("more"), MOST - numbers[1]}
+        return self.on_message("decrypt", self.any_before(numbers), lambda m: self.counts_after(m, numbers, 2, size) + state,
+                               [Stream("text", size, sealed, plain), size], plain=self.of_all(plain), **more)
+
+    def any_before(self, numbers):
+        word = lambda n: number(n, 8)[::-1] if isinstance(n, int) else [self.domain.opaque((n, k)) for k in range(8)]
+        first = self.counter_block(self.nonce_of(), 0)
+        return [b for n in numbers for b in word(n)] + first + sum(self.before_piece(), [])
+
+    def before_piece(self):
+        """Any value of GHASH, and any part of a block: bytes of no block, which are kept when blocks are numbered anew."""
+        fresh = lambda name: [self.domain.fresh("%s, byte %d" % (name, i), KEY | DATA) for i in range(16)]
+        return self.once("before a piece", lambda: (fresh("value so far"), fresh("part of a block")))
+
     def any_additional(self, filled, rest):
         before, size, facts = self.any_numbers(filled, rest)
         return self.any_taken("additional", (before, 0, 0, ADDITIONAL), 0, self.additional_bytes, size, filled, facts | {MOST_ADDITIONAL - before - size})
@@ -465,20 +513,9 @@ class KeyedGcm(Keyed):
         return self.any_taken("verify", (7, before, 0, VERIFYING), 1, self.sealed, size, filled, facts | {MOST - before - size})
 
     def any_taken(self, name, numbers, which, bytes_, size, filled, facts):
-        """A piece of which GHASH takes all and nothing is written: of the numbers in a message one becomes higher."""
-        word = lambda n: number(n, 8)[::-1] if isinstance(n, int) else [self.domain.opaque((n, k)) for k in range(8)]
-        first = self.counter_block(self.nonce_of(), 0)
-        before = [b for n in numbers for b in word(n)] + first + self.of(self.hash_value, 0) + self.of(self.rest, 0)
-
-        def after(m):
-            counts = [m.to_bytes(m.known(n + size if k == which else n), 8) for k, n in enumerate(numbers)]
-            value, count = self.any_piece_hash(m, bytes_, size, filled, whole=True)
-            end = m.known(size) - count
-            rest = [self.domain.opaque((Content("text", end + k), 0)) for k in range(count)]
-            if rest != m.regions["message"].content[REST:REST + count]:  # then it was read where the block is known
-                rest = m.regions["text"].initial_at(m, "text", end, count)
-            return sum(counts, []) + first + value + rest + [None] * (16 - count)
-        return self.on_message(name, before, after, [Stream("text", size, self.in_places(bytes_, filled)), size], facts=facts,
+        """A piece of which GHASH takes all and nothing is written."""
+        return self.on_message(name, self.any_before(numbers), lambda m: self.message_after(m, numbers, which, bytes_, size, filled),
+                               [Stream("text", size, self.in_places(bytes_, filled)), size], facts=facts,
                                steps=lambda m: self.any_piece_hash(m, bytes_, size, filled))
 
     def decrypt(self, text, before, count, nonce=UNKNOWN):

@@ -156,8 +156,8 @@ class Placed(namedtuple("Placed", "base offset first")):
         return domain.placed[self.base](number, k) if is_int(number) else None
 
 
-# A byte of a buffer that is only read, at an offset of which the block isn't known. (`what` tells its name from that of an address.)
-Content = namedtuple("Content", "base offset what", defaults=["content"])
+# A byte of a buffer that is as it was, at an offset of which the block isn't known. (`what` tells its name from that of an address.)
+Content = namedtuple("Content", "base offset what", defaults=["content 0"])
 
 
 class Question(Exception):
@@ -184,6 +184,7 @@ class Window(Region):
     def __init__(self, size, initial, want):
         super().__init__([], want is not None)
         self.size, self.initial, self.want, self.origin = size, initial, want, 0
+        self.turn = 0  # how often it began again
         self.undoes = False  # whether what was done is to be undone
         self.waits = False  # for the domain of the patterns: a call that expands a key begins in another one
 
@@ -225,10 +226,8 @@ class Window(Region):
     def initial_at(self, m, base, offset, size):
         """Bytes as they were."""
         number = offset - 16 * m.first_block
-        if not is_int(number) and not self.writable:
-            return [m.domain.opaque((Content(base, offset + k), 0)) for k in range(size)]
         if not is_int(number):
-            raise Unproved("a block whose number isn't known")
+            return [m.domain.opaque((Content(base, offset + k, "content %d" % self.turn), 0)) for k in range(size)]
         return [m.domain.moved(self.initial[i % 16], i // 16) for i in range(number, number + size)]
 
     def is_done(self, m):
@@ -248,7 +247,7 @@ class Window(Region):
     def begin_again(self, initial, undone=None):
         """All blocks are what they have to be, and may be read once more, as these. Nothing more is written; or, if what was done is undone,
         these blocks."""
-        self.initial, self.origin, self.content = initial, 0, []
+        self.initial, self.origin, self.content, self.turn = initial, 0, [], self.turn + 1
         self.writable, self.undoes, self.want = undone is not None, undone is not None, lambda m, number: undone
 
     def says(self, domain, name, byte):

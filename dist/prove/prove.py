@@ -106,7 +106,7 @@ def gcm_cases(choose):
     every = [(0, 0), (0, 129), (1, 16), (16, 225), (33, 48), (47, 767)]
     yield "any_seal", choose([(13, 33), *every, (13, 33, "_to")], [(13, 33)], (), [(0, 129)])
     yield "any_open", choose([(13, 33), *every], [(13, 33)])
-    for call in "any_additional", "any_verify":
+    for call in "any_additional", "any_verify", "any_encrypt", "any_decrypt":
         yield call, choose([(3, 46), (1, 15), (9, 23), (15, 48)], (), [(3, 46)])
     yield "seal", choose([(13, 33), (40, 20), (0, 129), *more, *LONG], [(13, 33)], more)
     yield "open", choose([(0, 0), (13, 33), (40, 129)], [(13, 33)], [(0, 0)])
