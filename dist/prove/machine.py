@@ -463,6 +463,9 @@ class Machine:
             x, y = self.ranged(x), self.ranged(y)
             r = self.offset(self.offset(x, carry), y)
             return r, {"c": (self.most, x + y + carry, "below"), **self.zero_and_sign(r, size)} if self.fits(x) and self.fits(y) else {}
+        part, other = (self.low_part(v, size) for v in (x, y))
+        if isinstance(part, Linear) and is_number(other) and size < self.word:
+            return tuple(self.any_byte() for _ in range(size)), {"c": (mask, part + (other & mask if is_int(other) else other) + carry, "below")}
         if Number in (type(x), type(y)):
             return self.offset(self.offset(x, carry), y), {}
         if isinstance(x, Distance) and is_int(y):
@@ -485,6 +488,15 @@ class Machine:
             zero = self.differences(rest, -fixed - carry, size)
             return self.verdict(0, zero, size), {"c": SECRET, "z": self.zero_flag(zero), "s": SECRET, "o": SECRET}
         return self.unbits(bits), {"c": self.flag_of(out), "z": SECRET, "s": SECRET, "o": SECRET}
+
+    def low_part(self, v, size):
+        """The number that is in these bytes, if it has no more."""
+        if type(v) is not tuple or size == self.word:
+            return v
+        name = self.domain.opaque_of.get(v[0])
+        whole = name[0] if isinstance(name, tuple) else None
+        fits = isinstance(whole, Linear) and self.implied(whole) and self.implied((1 << 8 * size) - 1 - whole)
+        return whole if fits and v == tuple(self.to_bytes(whole, self.word)[:size]) else v
 
     def is_room(self, low, last, size):
         """Whether these are the 32 bits of GCM's counter in its first block, of unknown value, and the number of the text's last block."""
