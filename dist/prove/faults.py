@@ -204,7 +204,7 @@ FAULTS = {
          r"\1\tmovq\t\2, %rax\n\ttestq\t%rax, %rax\n\tjne\t77f\n77:\n", "open 0 0"),
         ("a branch on a bit of H", FINISH, ENTRY, r"\1\ttestb\t$1, 300(%rdi)\n\tje\t77f\n77:\n", "finish 2 16 7"),
         ("the first counter of a message set to 1", ENCRYPT, ENTRY, r"\1\tmovl\t$0x1000000, 44(%rsi)\n", "piece encrypt 2 5 7 9"),
-        ("a branch on the first counter, which tells of H", GCTR, r"(\taddq\t\$16, %(r\w+)\n)", r"\1\tcmpq\t$4096, %\2\n\tjbe\t77f\n77:\n",
+        ("a branch on the first counter, which tells of H", GCTR, r"(\tbswapq\t%(r\w+)\n)", r"\1\tcmpq\t$4096, %\2\n\tjbe\t77f\n77:\n",
          "piece encrypt 2 5 7 9"),
         ("the length of a text counted in 32 bits", ENCRYPT, r"addq\t%(r\w+), 8\(", lambda found: "addl\t%%%s, 8(" % low(found[1]),
          "piece encrypt 2 5 4294967291 20 (12,)"),

@@ -37,7 +37,7 @@ SEED = 1
 OF_24 = ("any_blocks", "add_keystream", "cbc_decrypt", "any_cbc_encrypt", "wrap", "unwrap", "any_cmac", "ccm_seal", "ccm_open", "seal", "open",
          "wipe", "wipe_message", "set_key_of", "set_key_of_none", "set_key_refused", "key_length", "key_length_of_none", "version")
 # What takes longest, and what keys of 16 bytes show: builds that take few lengths, and keys of 32 bytes, don't take these by default.
-LONG_CASES = "any_seal", "any_open", "unwrap_padded_refused"
+LONG_CASES = "any_open", "unwrap_padded_refused"
 OF_RISCV = "blocks", "wipe", "set_key_refused", "key_length", "key_length_of_none", "version"  # with keys of 24 and 32 bytes
 LONG = [(0, 16 * n) for n in range(1, 65)] + [(n, 0) for n in range(1, 100, 9)]
 
@@ -52,9 +52,9 @@ def common_cases(library, version):
 def aes_cases(choose):
     ways = "encrypt", "decrypt"
     yield "blocks", choose([(direction, n, way) for direction in ways for n in range(65) for way in ("", "_to", "_with")[:3 if n else 2]],
-                           [("encrypt", 2), ("encrypt", 1, "_with")], [("encrypt", n) for n in (0, 16, 17)])
+                           [("encrypt", 2), ("encrypt", 1, "_with")], [("encrypt", n) for n in (0, 16, 17)] + [(way, 17, "_to") for way in ways])
     counts = 0, 1, 16, 33, 64, 130, 450
-    yield "add_keystream", [(0, n) for n in choose(counts, (33,), (1, 16, 64, 130))] + [(2 ** 64 - 21, 20), (5, 40, 2)]
+    yield "add_keystream", [(0, n) for n in choose(counts, (33,), (1, 16, 64, 130, 450))] + [(2 ** 64 - 21, 20), (5, 40, 2)]
     yield "add_keystream", [(3, n, aes.NEVER, "_to") for n in choose(counts, (33,), (0, 130))]
     after = [(0, 16, 9), (5, 40, 9), (0, 33, 5)]  # the text, where a batch goes on
     yield "add_keystream", choose(after, after[:1], after[1:2])
